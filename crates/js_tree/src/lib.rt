@@ -1,0 +1,9 @@
+//! The parse tree: an arena of expressions, statements and functions.
+#![tactic(auto)]
+
+mod nodes;
+
+pub use nodes::{
+    AssignOp, BinOp, Clause, Decl, Expr, ExprId, ForInit, Fun, FunId, StepOp, Stmt, StmtId, UnOp,
+    Word,
+};
