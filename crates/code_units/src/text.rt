@@ -3,7 +3,8 @@ ghost use Rattle.std.specs.Prelude.{◌≡◌, IfOk};
 ghost use Rattle.std.specs.List.{fold};
 ghost use Rattle.code_units.specs.Mix.{mix, hash_of};
 
-use std::alloc::{AllocError, Global};
+use crate::memory::Memory;
+use std::alloc::Global;
 use std::cmp::{Eq, PartialEq};
 use std::hash::{Hash, Hasher};
 use std::marker::Model;
@@ -51,7 +52,7 @@ fn hash_units(units: &[u16]) -> u64
 
 impl Text {
     /// A text of these units.
-    pub fn from_units(alloc: Global, units: Vec<u16>) -> Result<Text, AllocError>
+    pub fn from_units(alloc: Global, units: Vec<u16>) -> Result<Text, Memory>
         ensures { IfOk result (λ t. t ≡ units.items) }
     {
         let hash = hash_units(&units);
@@ -61,7 +62,7 @@ impl Text {
     }
 
     /// The same list for a second holder.
-    pub fn share(&self) -> Result<Text, AllocError>
+    pub fn share(&self) -> Result<Text, Memory>
         ensures { IfOk result (λ t. t ≡ self.now) }
     {
         Ok(Text {
