@@ -1,2 +1,3 @@
 pub mod PlacesMore
+pub mod Utf8Laws
 pub mod Words
