@@ -1,3 +1,4 @@
+pub mod LossyChars
 pub mod PlacesMore
 pub mod Utf8Laws
 pub mod Words

@@ -11,4 +11,4 @@ pub use memory::Memory;
 pub use permission::{is_banned, is_barred, permitted};
 pub use place::{Place, place_of};
 pub use text::Text;
-pub use utf8::{TextFault, from_utf8_bytes, utf8_fault};
+pub use utf8::{TextFault, from_utf8_bytes, push_utf8, utf8_fault};
