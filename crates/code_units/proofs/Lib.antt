@@ -1,3 +1,4 @@
+pub mod Interning
 pub mod LossyChars
 pub mod PlacesMore
 pub mod Utf8Laws

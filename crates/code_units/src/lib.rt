@@ -2,12 +2,16 @@
 #![tactic(auto)]
 
 mod memory;
+mod names;
+mod owner;
 mod permission;
 mod place;
 mod text;
 mod utf8;
 
 pub use memory::Memory;
+pub use names::Names;
+pub use owner::Owner;
 pub use permission::{is_banned, is_barred, permitted};
 pub use place::{Place, place_of};
 pub use text::Text;
