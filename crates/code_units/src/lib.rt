@@ -8,6 +8,7 @@ mod permission;
 mod place;
 mod text;
 mod utf8;
+mod whole;
 
 pub use memory::Memory;
 pub use names::Names;
@@ -16,3 +17,4 @@ pub use permission::{is_banned, is_barred, permitted};
 pub use place::{Place, place_of};
 pub use text::Text;
 pub use utf8::{TextFault, from_utf8_bytes, push_utf8, utf8_fault};
+pub use whole::whole_text;
