@@ -1,3 +1,4 @@
+pub mod Interned
 pub mod Mix
 pub mod Permitted
 pub mod Places

@@ -88,7 +88,7 @@ impl PartialEq for Text {
     ghost laws = { partial_equiv_from_equiv nat_list_eq_equiv };
 
     fn eq(&self, other: &Text) -> bool {
-        self.units() == other.units()
+        self.body.hash == other.body.hash && self.units() == other.units()
     }
 }
 

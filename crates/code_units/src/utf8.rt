@@ -1,7 +1,11 @@
 //! Texts from UTF-8 and back.
-ghost use Rattle.std.specs.Prelude.{◌≡◌, MatchOption, IfOk, IfErr, OnOk, OnErr, ◌++◌, IsUtf8};
+ghost use Rattle.std.specs.Prelude.{◌≡◌, ◌+◌, MatchOption, IfSome, unwrap_or, slice_index, IfOk, IfErr, OnOk, OnErr, ◌∷◌, ◌++◌, ◌<◌, ◌≤◌, length, take, drop, IsUtf8, encode_utf8};
+ghost use Rattle.std.specs.Vec.{vec_len};
+ghost use Rattle.std.specs.Char.Utf16.{utf16_lossy_chars, lone_unit_char, surrogate_pair_char};
 ghost use Rattle.std.specs.Str.{IsValidUpTo};
-ghost use Rattle.code_units.specs.Utf8.{units_of, utf8_of, IsTextFault};
+ghost use Rattle.std.specs.Char.Escape.{encode_utf16};
+ghost use Rattle.code_units.specs.declared.utf8.TextFault.TheVariants.{Memory as out_of_memory};
+ghost use Rattle.code_units.specs.Utf8.{units_of, utf8_of, IsSurrogatePair, IsTextFault};
 
 use crate::memory::Memory;
 use crate::text::Text;
@@ -18,13 +22,9 @@ pub enum TextFault {
     Memory,
 }
 
-impl From<AllocError> for TextFault {
-    fn from(_: AllocError) -> TextFault {
-        TextFault::Memory
-    }
-}
-
 impl From<Memory> for TextFault {
+    ghost from_gives = { λ _ e. e ≡ out_of_memory };
+
     fn from(_: Memory) -> TextFault {
         TextFault::Memory
     }
@@ -38,4 +38,127 @@ pub fn utf8_fault(bytes: &[u8]) -> Option<usize>
         Ok(_) => None,
         Err(fault) => Some(fault.valid_up_to()),
     }
+}
+
+// Appends the units of a text.
+fn push_units(units: &mut Vec<u16>, text: &str) -> Result<(), AllocError>
+    ensures { OnOk result (units.new.items ≡ units.old.items ++ units_of text.now) }
+{
+    for c in text.chars() {
+        push_char(units, c)?;
+    }
+    Ok(())
+}
+
+// Appends the units of a code point.
+fn push_char(units: &mut Vec<u16>, c: char) -> Result<(), AllocError>
+    ensures { OnOk result (units.new.items ≡ units.old.items ++ encode_utf16 c) }
+{
+    let code = c as u32;
+    if code < 0x1_0000 {
+        units.push(code as u16)?;
+    } else {
+        let over = code - 0x1_0000;
+        units.push((0xD800 + over / 0x400) as u16)?;
+        units.push((0xDC00 + over % 0x400) as u16)?;
+    }
+    Ok(())
+}
+
+/// The text that UTF-8 bytes spell (docs/.., ECMA-262 3rd edition, 6).
+pub fn from_utf8_bytes(alloc: Global, bytes: &[u8]) -> Result<Text, TextFault>
+    ensures ok { IfOk result (λ t. IsUtf8 bytes.now × (t ≡ units_of bytes.now)) }
+    ensures err { IfErr result (IsTextFault bytes.now) }
+{
+    match str::from_utf8(bytes) {
+        Ok(text) => Ok(from_text(alloc, text)?),
+        Err(fault) => Err(TextFault::NotUtf8 {
+            at: fault.valid_up_to(),
+        }),
+    }
+}
+
+// The units of a text. A byte gives no more than one unit.
+fn from_text(alloc: Global, text: &str) -> Result<Text, Memory>
+    ensures { IfOk result (λ t. t ≡ units_of text.now) }
+{
+    let mut units = Vec::with_capacity(alloc, text.len())?;
+    push_units(&mut units, text)?;
+    Text::from_units(alloc, units)
+}
+
+/// Appends the text in UTF-8, each lone surrogate as U+FFFD. A refusal leaves `out` as it was.
+pub fn push_utf8(text: &Text, out: &mut Vec<u8>) -> Result<(), Memory>
+    ensures ok { OnOk result (out.new.items ≡ out.old.items ++ utf8_of text.now) }
+    ensures err { OnErr result (out.new.items ≡ out.old.items) }
+{
+    let before = out.len();
+    match push_bytes(text.units(), out) {
+        Ok(()) => Ok(()),
+        Err(_) => {
+            out.truncate(before);
+            Err(Memory)
+        }
+    }
+}
+
+// Appends units in UTF-8. Where memory runs out, some of the bytes may have been appended.
+fn push_bytes(units: &[u16], out: &mut Vec<u8>) -> Result<(), AllocError>
+    ensures ok { OnOk result (out.new.items ≡ out.old.items ++ utf8_of units.now) }
+    ensures err { OnErr result (take (vec_len out.old) out.new.items ≡ out.old.items) }
+{
+    let mut at = 0;
+    while at < units.len() {
+        let (c, next) = char_at(units, at);
+        push_encoded(out, c)?;
+        at = next;
+    }
+    Ok(())
+}
+
+// Appends a code point in UTF-8.
+fn push_encoded(out: &mut Vec<u8>, c: char) -> Result<(), AllocError>
+    ensures ok { OnOk result (out.new.items ≡ out.old.items ++ encode_utf8 c) }
+    ensures err { OnErr result (out.new.items ≡ out.old.items) }
+{
+    if c.is_ascii() {
+        out.push(c as u8)?;
+        return Ok(());
+    }
+    out.extend_from_slice(c.encode_utf8(&mut [0; 4]).as_bytes())
+}
+
+// The code point whose units begin at the place, U+FFFD for a lone surrogate, and where the next begins.
+fn char_at(units: &[u16], at: usize) -> (char, usize)
+    requires { at < length units.now }
+    ensures next { (at < result.1) × (result.1 ≤ length units.now) }
+    ensures first { utf16_lossy_chars (drop at units.now) ≡ result.0 ∷ utf16_lossy_chars (drop result.1 units.now) }
+{
+    match pair_at(units, at) {
+        Some(code) => (char_or_replacement(code), at + 2),
+        None => (char_or_replacement(u32::from(units[at])), at + 1),
+    }
+}
+
+// The code point of the two surrogates at the place, if two stand there.
+fn pair_at(units: &[u16], at: usize) -> Option<u32>
+    requires { at < length units.now }
+    ensures within { IfSome result (λ code. at + 1 < length units.now) }
+    ensures pair { let u = slice_index units.now at in let v = slice_index units.now (at + 1) in
+        MatchOption result (¬ (IsSurrogatePair u v)) (λ code. IsSurrogatePair u v × (code ≡ surrogate_pair_char u v)) }
+{
+    let high = u32::from(units[at]);
+    let low = u32::from(*units.get(at + 1)?);
+    if high < 0xD800 || 0xDC00 <= high || low < 0xDC00 || 0xE000 <= low {
+        return None;
+    }
+    Some(0x1_0000 + (high - 0xD800) * 0x400 + (low - 0xDC00))
+}
+
+// The code point, or U+FFFD for a surrogate.
+fn char_or_replacement(code: u32) -> char
+    requires { code < 0x11_0000 }
+    ensures { result ≡ unwrap_or (lone_unit_char code) 0xFFFD }
+{
+    char::from_u32(code).unwrap_or(char::REPLACEMENT_CHARACTER)
 }
