@@ -4,6 +4,6 @@
 mod nodes;
 
 pub use nodes::{
-    AssignOp, BinOp, Clause, Decl, Expr, ExprId, ForInit, Fun, FunId, StepOp, Stmt, StmtId, UnOp,
-    Word,
+    AssignOp, BinOp, Clause, Decl, Expr, ExprId, ForInit, Fun, FunId, Part, StepOp, Stmt, StmtId,
+    UnOp, Word,
 };
