@@ -1,0 +1,5 @@
+pub mod Grown
+pub mod Kept
+pub mod PartsIn
+pub mod Births
+pub mod Arenas
