@@ -3,3 +3,4 @@ pub mod Kept
 pub mod PartsIn
 pub mod Births
 pub mod Arenas
+pub mod PartLaws

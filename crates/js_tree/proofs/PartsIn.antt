@@ -35,6 +35,10 @@ each_at f (p ∷ ps) h (suc k) d lt = each_at f ps h.1 k d (omega arith)
 pub all_each : (f : Forest) (ps : List Part) → EachIn f ps → All (IsIn f) ps
 all_each f ps h = λ k d lt. each_at f ps h k d lt
 
+pub each_all : (f : Forest) (ps : List Part) → All (IsIn f) ps → EachIn f ps
+each_all f [] h = tt
+each_all f (p ∷ ps) h = (h 0 p (omega arith), each_all f ps (λ k d lt. h (suc k) d (omega arith)))
+
 -- the test
 pub both : (a b : Bool) → (a && b) ≡ true → (a ≡ true) × (b ≡ true)
 both true b h = (refl, h)
