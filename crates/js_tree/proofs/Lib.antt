@@ -1,0 +1,6 @@
+pub mod Grown
+pub mod Kept
+pub mod PartsIn
+pub mod Births
+pub mod Arenas
+pub mod PartLaws

@@ -1,1 +1,5 @@
 pub mod Plain
+pub mod Forest
+pub mod Parts
+pub mod Arena
+pub mod Trees

@@ -106,3 +106,17 @@ expr_place (ExprAt at names form) = at
 -- the place of a statement
 abbrev pub stmt_place : Stmt → ℕ
 stmt_place (StmtAt at names form) = at
+
+-- the place of a function
+abbrev pub fun_place : Fun → ℕ
+fun_place (FunAt at names name params body funs) = at
+
+-- the places of a node's own names
+abbrev pub expr_names : Expr → List ℕ
+expr_names (ExprAt at names form) = names
+
+abbrev pub stmt_names : Stmt → List ℕ
+stmt_names (StmtAt at names form) = names
+
+abbrev pub fun_names : Fun → List ℕ
+fun_names (FunAt at names name params body funs) = names

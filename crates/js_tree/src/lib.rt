@@ -1,9 +1,13 @@
 //! The parse tree: an arena of expressions, statements and functions.
 #![tactic(auto)]
 
+mod laws;
 mod nodes;
+mod tree;
 
+pub use laws::{parts_agree, parts_are_in, sizes_fall};
 pub use nodes::{
-    AssignOp, BinOp, Clause, Decl, Expr, ExprId, ForInit, Fun, FunId, StepOp, Stmt, StmtId, UnOp,
-    Word,
+    AssignOp, BinOp, Clause, Decl, Expr, ExprId, ForInit, Fun, FunId, Part, StepOp, Stmt, StmtId,
+    UnOp, Word,
 };
+pub use tree::Tree;

@@ -161,3 +161,11 @@ pub struct Fun {
     pub funs: Vec<FunId>,
     pub at: usize,
 }
+
+/// A node of any kind, by its number.
+#[derive(Clone, Copy, PartialEq, Eq, Debug, Drop)]
+pub enum Part {
+    Expr(ExprId),
+    Stmt(StmtId),
+    Fun(FunId),
+}
