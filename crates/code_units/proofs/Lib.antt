@@ -1,5 +1,9 @@
+pub mod Cuts
+pub mod Fractions
 pub mod Interning
 pub mod LossyChars
+pub mod Numerals
 pub mod PlacesMore
+pub mod Trims
 pub mod Utf8Laws
 pub mod Words

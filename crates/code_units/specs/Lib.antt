@@ -3,3 +3,4 @@ pub mod Mix
 pub mod Permitted
 pub mod Places
 pub mod Utf8
+pub mod Whole

@@ -17,4 +17,4 @@ pub use permission::{is_banned, is_barred, permitted};
 pub use place::{Place, place_of};
 pub use text::Text;
 pub use utf8::{TextFault, from_utf8_bytes, push_utf8, utf8_fault};
-pub use whole::whole_text;
+pub use whole::{WholeRead, read_whole, whole_text};
