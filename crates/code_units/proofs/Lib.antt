@@ -4,6 +4,7 @@ pub mod Interning
 pub mod LossyChars
 pub mod Numerals
 pub mod PlacesMore
+pub mod RoundTrip
 pub mod Trims
 pub mod Utf8Laws
 pub mod Words

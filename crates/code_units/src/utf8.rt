@@ -68,6 +68,7 @@ fn push_char(units: &mut Vec<u16>, c: char) -> Result<(), AllocError>
 /// The text that UTF-8 bytes spell (docs/.., ECMA-262 3rd edition, 6).
 pub fn from_utf8_bytes(alloc: Global, bytes: &[u8]) -> Result<Text, TextFault>
     ensures ok { IfOk result (λ t. IsUtf8 bytes.now × (t ≡ units_of bytes.now)) }
+    ensures back { IfOk result (λ t. utf8_of t ≡ bytes.now) }
     ensures err { IfErr result (IsTextFault bytes.now) }
 {
     match str::from_utf8(bytes) {
