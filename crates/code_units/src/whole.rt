@@ -5,6 +5,7 @@ ghost use Rattle.std.specs.Char.{digit_value, is_digit};
 ghost use Rattle.std.specs.Fmt.{signed_decimal};
 ghost use Rattle.std.specs.Str.Parse.{digits_value, without_leading_sign};
 ghost use Rattle.code_units.specs.Whole.{is_blank, trimmed, bounded, is_numeral, is_hexadecimal, is_point, is_e, is_mantissa, is_fraction, number_of, number_in};
+ghost use Rattle.code_units.specs.Readings.{Gives};
 
 use crate::memory::Memory;
 use crate::permission::is_word;
@@ -38,7 +39,8 @@ const LIMIT: u64 = 1 << 53;
 /// The number that a text spells, blanks at its ends aside.
 #[tactic(auto, unfolding(crate::specs::Whole::number_in))]
 pub fn read_whole(text: &Text) -> WholeRead
-    ensures { result ≡ number_in text.now }
+    ensures value { result ≡ number_in text.now }
+    ensures form { Gives (trimmed text.now) result }
 {
     read_trimmed(trimmed(text.units()))
 }
