@@ -19,7 +19,7 @@ trimmed_start us = drop (prefix_len is_blank us) us
 abbrev pub trimmed_end : List ℕ → List ℕ
 trimmed_end us = take (length us - suffix_len is_blank us) us
 
-abbrev pub trimmed : List ℕ → List ℕ
+unfoldable pub trimmed : List ℕ → List ℕ
 trimmed us = trimmed_start (trimmed_end us)
 
 -- a whole number within the numbers, -(2^53-1) to 2^53-1, or none

@@ -13,7 +13,7 @@ use std::alloc::{AllocError, Global};
 use thiserror::Error;
 
 /// Why bytes gave no text.
-#[derive(Debug, Drop, Error)]
+#[derive(Clone, Copy, PartialEq, Eq, Debug, Drop, Error)]
 pub enum TextFault {
     /// The bytes are no UTF-8: the first byte of the first ill-formed sequence.
     #[error("no UTF-8 at byte {at}")]
