@@ -1,5 +1,12 @@
+pub mod Cuts
+pub mod Forms
+pub mod Fractions
 pub mod Interning
 pub mod LossyChars
+pub mod Numerals
 pub mod PlacesMore
+pub mod RoundTrip
+pub mod Signs
+pub mod Trims
 pub mod Utf8Laws
 pub mod Words

@@ -6,6 +6,8 @@ mod names;
 mod owner;
 mod permission;
 mod place;
+#[cfg(test)]
+mod tests;
 mod text;
 mod utf8;
 mod whole;
@@ -17,4 +19,4 @@ pub use permission::{is_banned, is_barred, permitted};
 pub use place::{Place, place_of};
 pub use text::Text;
 pub use utf8::{TextFault, from_utf8_bytes, push_utf8, utf8_fault};
-pub use whole::whole_text;
+pub use whole::{WholeRead, read_whole, whole_text};

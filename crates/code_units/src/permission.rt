@@ -8,7 +8,7 @@ use crate::text::Text;
 const LOW_LINE: u16 = 0x5F;
 
 // Whether the units are those of an ASCII word.
-fn is_word(units: &[u16], word: &[u8]) -> bool
+pub(crate) fn is_word(units: &[u16], word: &[u8]) -> bool
     ensures { result ≡ bytes_eq units.now word.now }
 {
     if units.len() != word.len() {

@@ -13,7 +13,7 @@ use std::alloc::{AllocError, Global};
 use thiserror::Error;
 
 /// Why bytes gave no text.
-#[derive(Debug, Drop, Error)]
+#[derive(Clone, Copy, PartialEq, Eq, Debug, Drop, Error)]
 pub enum TextFault {
     /// The bytes are no UTF-8: the first byte of the first ill-formed sequence.
     #[error("no UTF-8 at byte {at}")]
@@ -68,6 +68,7 @@ fn push_char(units: &mut Vec<u16>, c: char) -> Result<(), AllocError>
 /// The text that UTF-8 bytes spell (docs/.., ECMA-262 3rd edition, 6).
 pub fn from_utf8_bytes(alloc: Global, bytes: &[u8]) -> Result<Text, TextFault>
     ensures ok { IfOk result (λ t. IsUtf8 bytes.now × (t ≡ units_of bytes.now)) }
+    ensures back { IfOk result (λ t. utf8_of t ≡ bytes.now) }
     ensures err { IfErr result (IsTextFault bytes.now) }
 {
     match str::from_utf8(bytes) {
