@@ -1,0 +1,7 @@
+pub mod Runs
+pub mod Numbers
+pub mod Marks
+pub mod Strings
+pub mod Tokens
+pub mod Readings
+pub mod Fronts

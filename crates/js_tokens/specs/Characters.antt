@@ -1,5 +1,6 @@
 -- What a character is. A character is a code point.
-use Rattle.std.specs.Prelude.{ℕ, Bool, true, false, List, [], ◌∷◌, nat_le, nat_eq, ◌&&◌, ◌||◌, not, if◌then◌else◌}
+use Rattle.std.specs.Prelude.{ℕ, Bool, true, false, List, [], ◌∷◌, nat_le, nat_eq, ◌&&◌, ◌||◌, not, codes, if◌then◌else◌}
+use Rattle.std.specs.List.{list_any}
 use Rattle.js_tokens.specs.declared.class.Class.{Class}
 use Rattle.js_tokens.specs.declared.class.Class.TheVariants as class
 
@@ -31,9 +32,7 @@ is_blank c = (nat_le 9 c && nat_le c 13) || nat_eq c 32
 
 -- what begins a mark, besides `.` and `/`
 abbrev pub begins_mark : ℕ → Bool
-begins_mark c =
-    nat_eq c 33 || nat_eq c 37 || nat_eq c 38 || (nat_le 40 c && nat_le c 45) || (nat_le 58 c && nat_le c 63)
-    || nat_eq c 91 || nat_eq c 93 || nat_eq c 94 || (nat_le 123 c && nat_le c 126)
+begins_mark c = list_any (nat_eq c) (codes "{}()[];,<>=!+-*%&|^~?:")
 
 -- what a character begins, outside of strings and comments
 abbrev pub class_of : ℕ → Class

@@ -101,8 +101,8 @@ pub data Inside (quote : ℕ) : List ℕ → List ℕ → Type 0 where
 
 -- the same with any escapes, good or bad: a backslash stands before any character but a line end
 pub data Closed (quote : ℕ) : List ℕ → List ℕ → Type 0 where
-  close : {c : ℕ} {rest : List ℕ} → part_of quote c ≡ Close → Closed quote (c ∷ rest) rest
-  plain : {c : ℕ} {cs rest : List ℕ} → part_of quote c ≡ Plain → Closed quote cs rest → Closed quote (c ∷ cs) rest
+  last : {c : ℕ} {rest : List ℕ} → part_of quote c ≡ Close → Closed quote (c ∷ rest) rest
+  single : {c : ℕ} {cs rest : List ℕ} → part_of quote c ≡ Plain → Closed quote cs rest → Closed quote (c ∷ cs) rest
   pair : {c d : ℕ} {cs rest : List ℕ} → part_of quote c ≡ Backslash → is_line_end d ≡ false → Closed quote cs rest → Closed quote (c ∷ d ∷ cs) rest
 
 -- the first bad escape of a string: `place` is from its backslash on

@@ -2,3 +2,4 @@ pub mod Characters
 pub mod Words
 pub mod Lexes
 pub mod Value
+pub mod Scan
