@@ -5,3 +5,4 @@ pub mod Strings
 pub mod Tokens
 pub mod Readings
 pub mod Fronts
+pub mod Cursors

@@ -3,3 +3,5 @@ pub mod Words
 pub mod Lexes
 pub mod Value
 pub mod Scan
+pub mod Cursor
+pub mod Runs

@@ -2,6 +2,7 @@
 #![tactic(auto)]
 
 mod class;
+mod cursor;
 mod token;
 
 pub use token::{Token, TokenFault, TokenKind};
