@@ -6,3 +6,5 @@ pub mod Tokens
 pub mod Readings
 pub mod Fronts
 pub mod Cursors
+pub mod Loops
+pub mod WordLemmas

@@ -15,12 +15,12 @@ use Rattle.js_tokens.specs.Lexes.Spelled.{mark}
 use Rattle.js_tokens.specs.Scan.{tail, after_assign, after_mark}
 use Rattle.js_tokens.proofs.Runs.{Suffix, whole, next, suffix_length, suffix_more, tail_suffix}
 
-abbrev Each : {A : Type 0} → (A → Type 0) → List A → Type 0
+abbrev pub Each : {A : Type 0} → (A → Type 0) → List A → Type 0
 Each P [] = Unit {0}
 Each P (x ∷ xs) = P x × Each P xs
 
 -- what holds of each word of a list holds of each that is found there
-any_of : (P : List ℕ → Type 0) (ws : List (List ℕ)) → Each P ws → (m : List ℕ) → list_any (bytes_eq m) ws ≡ true → P m
+pub any_of : (P : List ℕ → Type 0) (ws : List (List ℕ)) → Each P ws → (m : List ℕ) → list_any (bytes_eq m) ws ≡ true → P m
 any_of P [] all m e = absurd (false≢true e)
 any_of P (w ∷ ws) all m e =
     elim (or_cases (bytes_eq m w) (list_any (bytes_eq m) ws) e) [
@@ -36,7 +36,7 @@ any_number P (n ∷ ns) all c e =
       | inr later ↦ any_number P ns (all.1) c later
     ]
 
-all_pass : (p : List ℕ → Bool) (ws : List (List ℕ)) → list_all p ws ≡ true → Each (λ w. p w ≡ true) ws
+pub all_pass : (p : List ℕ → Bool) (ws : List (List ℕ)) → list_all p ws ≡ true → Each (λ w. p w ≡ true) ws
 all_pass p [] e = tt
 all_pass p (w ∷ ws) e = let h = and_parts (p w) (list_all p ws) e in (h.0, all_pass p ws (h.1))
 

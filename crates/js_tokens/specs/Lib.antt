@@ -5,3 +5,4 @@ pub mod Value
 pub mod Scan
 pub mod Cursor
 pub mod Runs
+pub mod Pieces

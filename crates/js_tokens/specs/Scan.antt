@@ -44,14 +44,30 @@ after_number c cs = if is_hexadecimal c cs then after_run is_hex_digit (tail cs)
 abbrev pub after_assign : List ℕ → List ℕ
 after_assign cs = if Starts 61 cs then tail cs else cs
 
+-- behind `=` or `!`; `+`, `-`, `&` or `|`; `<`; `>>`; `>`
+abbrev pub after_equals : List ℕ → List ℕ
+after_equals cs = if Starts 61 cs then after_assign (tail cs) else cs
+
+abbrev pub after_double : ℕ → List ℕ → List ℕ
+after_double c cs = if Starts c cs then tail cs else after_assign cs
+
+abbrev pub after_less : List ℕ → List ℕ
+after_less cs = if Starts 60 cs then after_assign (tail cs) else after_assign cs
+
+abbrev pub after_shift : List ℕ → List ℕ
+after_shift cs = if Starts 62 cs then after_assign (tail cs) else after_assign cs
+
+abbrev pub after_greater : List ℕ → List ℕ
+after_greater cs = if Starts 62 cs then after_shift (tail cs) else after_assign cs
+
 -- behind the longest mark that begins with this character
 abbrev pub after_mark : ℕ → List ℕ → List ℕ
 after_mark c cs =
-    if nat_eq c 61 || nat_eq c 33 then (if Starts 61 cs then after_assign (tail cs) else cs)
-    else (if nat_eq c 43 || nat_eq c 45 || nat_eq c 38 || nat_eq c 124 then (if Starts c cs then tail cs else after_assign cs)
+    if nat_eq c 61 || nat_eq c 33 then after_equals cs
+    else (if nat_eq c 43 || nat_eq c 45 || nat_eq c 38 || nat_eq c 124 then after_double c cs
     else (if nat_eq c 42 || nat_eq c 47 || nat_eq c 37 || nat_eq c 94 then after_assign cs
-    else (if nat_eq c 60 then (if Starts 60 cs then after_assign (tail cs) else after_assign cs)
-    else (if nat_eq c 62 then (if Starts 62 cs then (if Starts 62 (tail cs) then after_assign (tail (tail cs)) else after_assign (tail cs)) else after_assign cs)
+    else (if nat_eq c 60 then after_less cs
+    else (if nat_eq c 62 then after_greater cs
     else cs))))
 
 abbrev pub is_backslash : Part → Bool
@@ -80,6 +96,12 @@ abbrev pub first_bad : ℕ → Bool → List ℕ → Option (List ℕ)
 first_bad quote escaped [] = None
 first_bad quote true (c ∷ cs) = first_bad quote false cs
 first_bad quote false (c ∷ cs) = bad_step (part_of quote c) (is_escape cs) (c ∷ cs) (first_bad quote (is_backslash (part_of quote c)) cs)
+
+-- the first bad escape: the one that was there before, or this one at `place`
+abbrev pub noted : Option ℕ → Bool → ℕ → Option ℕ
+noted (Some before) good place = Some before
+noted None true place = None
+noted None false place = Some place
 
 -- behind the first `*/`
 abbrev pub after_comment : List ℕ → Option (List ℕ)

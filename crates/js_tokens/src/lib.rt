@@ -2,7 +2,13 @@
 #![tactic(auto)]
 
 mod class;
+mod comment;
 mod cursor;
+mod mark;
+mod number;
+mod piece;
+mod string;
 mod token;
+mod word;
 
 pub use token::{Token, TokenFault, TokenKind};
