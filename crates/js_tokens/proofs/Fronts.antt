@@ -16,7 +16,7 @@ use Rattle.js_tokens.specs.Scan as scan
 use Rattle.js_tokens.specs.Scan.{tail, after_run, after_exponent, after_assign, after_string, first_bad, after_comment, word_kind, Found, found_number, found_string, found_comment, found_point, found_slash, found_at, found}
 use Rattle.js_tokens.proofs.Runs.{run_sound, run_stops}
 use Rattle.js_tokens.proofs.Strings.{closed_sound, closed_none, bad_sound, comment_sound, comment_none}
-use Rattle.js_tokens.proofs.Tokens.{ClassIs, class_means, at_class, scan_of, scan_at, scan_string, scan_point, scan_slash, at_scan, scanned_spelled, scanned_longest}
+use Rattle.js_tokens.proofs.Longest.{ClassIs, class_means, at_class, scan_of, scan_at, scan_string, scan_point, scan_slash, at_scan, scanned_spelled, scanned_longest}
 
 -- what is read, or bad, behind a gap is so before it
 pub record IsGap (cs rest : List ℕ) : Type 0 where
@@ -61,9 +61,9 @@ point_means c cs false q e = token_means kind.Mark (c ∷ cs) cs (scanned c cs c
 
 line_means : (a b : ℕ) (cs : List ℕ) → class_of a ≡ class.Slash → b ≡ 47 → IsGap (a ∷ b ∷ cs) (after_run is_in_line cs)
 line_means a b cs q e = record {
-      reads = λ n ts. line_comment q e (run_sound is_in_line cs) (run_stops is_in_line cs);
-      fails = λ place. past_line_comment q e (run_sound is_in_line cs) (run_stops is_in_line cs);
-    }
+  reads = λ n ts. line_comment q e (run_sound is_in_line cs) (run_stops is_in_line cs);
+  fails = λ place. past_line_comment q e (run_sound is_in_line cs) (run_stops is_in_line cs);
+}
 
 comment_means : (a b : ℕ) (cs : List ℕ) (r : Option (List ℕ)) → class_of a ≡ class.Slash → b ≡ 42 → after_comment cs ≡ r → Means (a ∷ b ∷ cs) (found_comment (a ∷ b ∷ cs) r)
 comment_means a b cs None q e f = open_comment q e (λ rest. comment_none cs rest f)
@@ -78,9 +78,9 @@ slash_means c (d ∷ cs) q s =
     cond_both (nat_eq d 47) (scan.Gap (after_run is_in_line cs)) _ (λ f. Means (c ∷ d ∷ cs) f)
     (λ e. line_means c d cs q (eqb-true d 47 e))
     (λ e.
-      cond_both (nat_eq d 42) (found_comment (c ∷ d ∷ cs) (after_comment cs)) (scan.Token kind.Mark (after_assign (d ∷ cs))) (λ f. Means (c ∷ d ∷ cs) f)
-      (λ g. comment_means c d cs (after_comment cs) q (eqb-true d 42 g) refl)
-      (λ g. slash_token c (d ∷ cs) q (rw (s, e, g) refl)))
+    cond_both (nat_eq d 42) (found_comment (c ∷ d ∷ cs) (after_comment cs)) (scan.Token kind.Mark (after_assign (d ∷ cs))) (λ f. Means (c ∷ d ∷ cs) f)
+    (λ g. comment_means c d cs (after_comment cs) q (eqb-true d 42 g) refl)
+    (λ g. slash_token c (d ∷ cs) q (rw (s, e, g) refl)))
 
 means_at : (c : ℕ) (cs : List ℕ) (x : Class) → class_of c ≡ x → ClassIs x c → Means (c ∷ cs) (found_at x c cs)
 means_at c cs class.Letter e h = word_means _ (c ∷ cs) (after_run is_part cs) (scanned c cs class.Letter e)

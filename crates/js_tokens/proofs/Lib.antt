@@ -2,9 +2,13 @@ pub mod Runs
 pub mod Numbers
 pub mod Marks
 pub mod Strings
-pub mod Tokens
+pub mod Longest
 pub mod Readings
 pub mod Fronts
 pub mod Cursors
 pub mod Loops
 pub mod WordLemmas
+pub mod Slices
+pub mod Names
+pub mod Turns
+pub mod Answer

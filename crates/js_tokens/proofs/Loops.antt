@@ -30,9 +30,11 @@ bad_more text at q c place next after (Some b) good e p g here h so = so
 bad_more text at q c place next after None true e p g here h so =
     so ∙ ap (first_bad q false) e ∙ ap (λ x. bad_step x (is_escape (from text next)) (c ∷ from text next) (first_bad q (is_backslash x) (from text next))) p
     ∙ ap (λ x. bad_step Backslash x (c ∷ from text next) (first_bad q true (from text next))) g ∙ h
-bad_more text at q c place next after None false e p g here h so =
-    (so ∙ ap (first_bad q false) e ∙ ap (λ x. bad_step x (is_escape (from text next)) (c ∷ from text next) (first_bad q (is_backslash x) (from text next))) p
-      ∙ ap (λ x. bad_step Backslash x (c ∷ from text next) (first_bad q true (from text next))) g ∙ ap Some (sym e), here)
+bad_more text at q c place next after None false e p g here h so = (
+  so ∙ ap (first_bad q false) e ∙ ap (λ x. bad_step x (is_escape (from text next)) (c ∷ from text next) (first_bad q (is_backslash x) (from text next))) p
+      ∙ ap (λ x. bad_step Backslash x (c ∷ from text next) (first_bad q true (from text next))) g ∙ ap Some (sym e),
+  here,
+)
 
 pub string_more : (text : List ℕ) (at q c place next after : ℕ) (bad : Option ℕ) → from text place ≡ c ∷ from text next → place < next → nat_eq c q ≡ false → is_line_end c ≡ false → c ≡ 92 → IsPairEnd text next (Some after) → StringSoFar text at q place bad → StringSoFar text at q after (noted bad (is_escape (from text next)) place)
 string_more text at q c place next after bad e lt a b is pair so =

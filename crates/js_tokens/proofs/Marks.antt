@@ -24,7 +24,7 @@ pub any_of : (P : List ℕ → Type 0) (ws : List (List ℕ)) → Each P ws → 
 any_of P [] all m e = absurd (false≢true e)
 any_of P (w ∷ ws) all m e =
     elim (or_cases (bytes_eq m w) (list_any (bytes_eq m) ws) e) [
-      inl here ↦ subst P (sym ((bytes_eq-Decides m w).0 here)) (all.0)
+      | inl here ↦ subst P (sym ((bytes_eq-Decides m w).0 here)) (all.0)
       | inr later ↦ any_of P ws (all.1) m later
     ]
 
@@ -32,7 +32,7 @@ any_number : (P : ℕ → Type 0) (ns : List ℕ) → Each P ns → (c : ℕ) �
 any_number P [] all c e = absurd (false≢true e)
 any_number P (n ∷ ns) all c e =
     elim (or_cases (nat_eq c n) (list_any (nat_eq c) ns) e) [
-      inl here ↦ subst P (sym (eqb-true c n here)) (all.0)
+      | inl here ↦ subst P (sym (eqb-true c n here)) (all.0)
       | inr later ↦ any_number P ns (all.1) c later
     ]
 

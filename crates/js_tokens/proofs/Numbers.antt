@@ -120,7 +120,7 @@ no_point (c ∷ cs) e = rw e refl
 run_exponent : {cs es other : List ℕ} → Run is_digit cs es → Exponent es other → length (after_exponent (after_run is_digit cs)) ≤ length other
 run_exponent {cs} {es} {other} none x =
     elim (exponent_stops x) [
-      inl e ↦ subst (λ y. length (after_exponent (after_run is_digit cs)) ≤ length y) e (suffix_length (suffix_more (after_run_suffix is_digit cs) (after_exponent_suffix (after_run is_digit cs))))
+      | inl e ↦ subst (λ y. length (after_exponent (after_run is_digit cs)) ≤ length y) e (suffix_length (suffix_more (after_run_suffix is_digit cs) (after_exponent_suffix (after_run is_digit cs))))
       | inr h ↦ subst (λ y. length (after_exponent y) ≤ length other) (sym (stopped is_digit cs (h.0))) (exponent_longest x)
     ]
 run_exponent (more e r) x = rw e (run_exponent r x)
@@ -128,7 +128,7 @@ run_exponent (more e r) x = rw e (run_exponent r x)
 fraction_exponent : {cs es other : List ℕ} → Fraction cs es → Exponent es other → length (after_exponent (after_fraction cs)) ≤ length other
 fraction_exponent {cs} {es} {other} no_fraction x =
     elim (exponent_stops x) [
-      inl e ↦ subst (λ y. length (after_exponent (after_fraction cs)) ≤ length y) e (suffix_length (suffix_more (after_fraction_suffix cs) (after_exponent_suffix (after_fraction cs))))
+      | inl e ↦ subst (λ y. length (after_exponent (after_fraction cs)) ≤ length y) e (suffix_length (suffix_more (after_fraction_suffix cs) (after_exponent_suffix (after_fraction cs))))
       | inr h ↦ subst (λ y. length (after_exponent y) ≤ length other) (sym (no_point cs (h.1))) (exponent_longest x)
     ]
 fraction_exponent (fraction {c} e r) x = let here : nat_eq c 46 ≡ true = ap (λ y. nat_eq y 46) e in rw here (run_exponent r x)
@@ -147,11 +147,11 @@ stopped_decimal {cs} {es} {other} stop f x = subst (λ y. length (after_exponent
 run_fraction : {cs ds es other : List ℕ} → Run is_digit cs ds → Fraction ds es → Exponent es other → length (after_decimal cs) ≤ length other
 run_fraction {cs} {ds} {es} {other} none f x =
     elim (fraction_stops f) [
-      inl e ↦
-        elim (exponent_stops x) [
-          inl g ↦ subst (λ y. length (after_decimal cs) ≤ length y) (e ∙ g) (suffix_length (decimal_suffix cs))
-          | inr h ↦ stopped_decimal (ap (Begins is_digit) e ∙ h.0) f x
-        ]
+      | inl e ↦
+          elim (exponent_stops x) [
+            | inl g ↦ subst (λ y. length (after_decimal cs) ≤ length y) (e ∙ g) (suffix_length (decimal_suffix cs))
+            | inr h ↦ stopped_decimal (ap (Begins is_digit) e ∙ h.0) f x
+          ]
       | inr stop ↦ stopped_decimal stop f x
     ]
 run_fraction (more e r) f x = rw e (run_fraction r f x)

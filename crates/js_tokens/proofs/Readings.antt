@@ -17,7 +17,7 @@ use Rattle.js_tokens.specs.Scan as scan
 use Rattle.js_tokens.specs.Scan.{tail, after_run, after_number, after_exponent, after_assign, after_mark, after_string, first_bad, after_comment, Found, found_number, found_string, found_comment, found_point, found_slash, found_at, found}
 use Rattle.js_tokens.proofs.Runs.{run_sound, run_stops, run_once}
 use Rattle.js_tokens.proofs.Strings.{closed_sound, closed_none, closed_found, bad_sound, bad_found, comment_sound, comment_none, comment_found}
-use Rattle.js_tokens.proofs.Tokens.{ClassIs, class_means, at_class, scan_of, token_scanned, scanned_spelled, scanned_longest, found_scanned, token_found}
+use Rattle.js_tokens.proofs.Longest.{ClassIs, class_means, at_class, scan_of, token_scanned, scanned_spelled, scanned_longest, found_scanned, token_found}
 
 -- gaps and bad places are what is found
 

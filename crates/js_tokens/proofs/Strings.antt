@@ -28,11 +28,11 @@ closed_suffix (pair e f i) = next (next (closed_suffix i))
 line_or : (P : ℕ → Type 0) → P 10 → P 13 → P 0x2028 → P 0x2029 → (c : ℕ) → is_line_end c ≡ true → P c
 line_or P a b d e c h =
     elim (or_cases (nat_eq c 10 || nat_eq c 13 || nat_eq c 0x2028) (nat_eq c 0x2029) h) [
-      inl f ↦
-        elim (or_cases (nat_eq c 10 || nat_eq c 13) (nat_eq c 0x2028) f) [
-          inl g ↦ elim (or_cases (nat_eq c 10) (nat_eq c 13) g) [ inl i ↦ subst P (sym (eqb-true c 10 i)) a | inr i ↦ subst P (sym (eqb-true c 13 i)) b ]
-          | inr i ↦ subst P (sym (eqb-true c 0x2028 i)) d
-        ]
+      | inl f ↦
+          elim (or_cases (nat_eq c 10 || nat_eq c 13) (nat_eq c 0x2028) f) [
+            | inl g ↦ elim (or_cases (nat_eq c 10) (nat_eq c 13) g) [ inl i ↦ subst P (sym (eqb-true c 10 i)) a | inr i ↦ subst P (sym (eqb-true c 13 i)) b ]
+            | inr i ↦ subst P (sym (eqb-true c 0x2028 i)) d
+          ]
       | inr i ↦ subst P (sym (eqb-true c 0x2029 i)) e
     ]
 

@@ -5,6 +5,8 @@ use Rattle.std.specs.Str.{IsUtf8, IsValidUpTo, chars}
 use Rattle.js_tokens.specs.declared.token.Token.{Token}
 use Rattle.js_tokens.specs.declared.token.TokenKind.{TokenKind}
 use Rattle.js_tokens.specs.declared.token.TokenKind.TheVariants as kind
+use Rattle.js_tokens.specs.declared.token.TokenFault.{TokenFault}
+use Rattle.js_tokens.specs.declared.token.TokenFault.TheVariants as fault
 use Rattle.js_tokens.specs.declared.class.Class.TheVariants as class
 use Rattle.js_tokens.specs.Characters.{class_of, is_line_end, is_in_line, is_digit, is_hex_digit, is_part, Begins, Starts}
 use Rattle.js_tokens.specs.Words.{is_reserved, is_mark}
@@ -185,3 +187,8 @@ pub data FirstBad : List ℕ → List ℕ → Type 0 where
 pub data BadPlace (bytes : List ℕ) (at : ℕ) : Type 0 where
   ill_formed : IsValidUpTo bytes at → BadPlace bytes at
   bad_token : (place : List ℕ) → IsUtf8 bytes → FirstBad (chars bytes) place → at ≡ length bytes - size place → BadPlace bytes at
+
+-- what an error says
+abbrev pub IsFault : List ℕ → TokenFault → Type 0
+IsFault bytes (fault.BadToken at) = BadPlace bytes at
+IsFault bytes fault.Memory = Unit {0}

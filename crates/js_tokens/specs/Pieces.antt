@@ -4,7 +4,10 @@ use Rattle.js_tokens.specs.declared.string.StringEnd.{StringEnd}
 use Rattle.js_tokens.specs.declared.string.StringEnd.TheVariants as ending
 use Rattle.js_tokens.specs.declared.piece.Piece.{Piece}
 use Rattle.js_tokens.specs.declared.piece.Piece.TheVariants as piece
+use Rattle.js_tokens.specs.declared.token.TokenFault.{TokenFault}
+use Rattle.js_tokens.specs.declared.token.TokenFault.TheVariants as fault
 use Rattle.js_tokens.specs.Cursor.{from, IsPlace}
+use Rattle.js_tokens.specs.Lexes.{FirstBad}
 use Rattle.js_tokens.specs.Scan as scan
 use Rattle.js_tokens.specs.Scan.{after_string, first_bad, Found}
 
@@ -27,3 +30,8 @@ IsPiece text at f piece.End = f ≡ scan.End
 IsPiece text at f (piece.Gap next) = (f ≡ scan.Gap (from text next)) × (at < next) × IsPlace text next
 IsPiece text at f (piece.Token k next) = (f ≡ scan.Token k (from text next)) × (at < next) × IsPlace text next
 IsPiece text at f (piece.Bad place) = (f ≡ scan.Bad (from text place)) × IsPlace text place
+
+-- what an error of the scanner says, in a text that is UTF-8
+abbrev pub IsScanFault : List ℕ → TokenFault → Type 0
+IsScanFault text (fault.BadToken at) = IsPlace text at × FirstBad (from text 0) (from text at)
+IsScanFault text fault.Memory = Unit {0}

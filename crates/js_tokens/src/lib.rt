@@ -7,8 +7,10 @@ mod cursor;
 mod mark;
 mod number;
 mod piece;
+mod scanner;
 mod string;
 mod token;
 mod word;
 
+pub use scanner::tokens;
 pub use token::{Token, TokenFault, TokenKind};

@@ -1,9 +1,8 @@
 //! What stands at a place.
-ghost use Rattle.std.specs.Prelude.{◌≡◌, ◌<◌, false, length, ◌∷◌};
-ghost use Rattle.js_tokens.specs.Lexes.{front, Run};
-ghost use Rattle.js_tokens.specs.Characters.{is_part};
+ghost use Rattle.std.specs.Prelude.{◌≡◌, ◌<◌, false};
+ghost use Rattle.js_tokens.specs.Characters.{class_of};
 ghost use Rattle.js_tokens.specs.Cursor.{from, IsPlace, IsNext};
-ghost use Rattle.js_tokens.specs.Scan.{found_number, found_string, found_point, found_slash, found, after_string, first_bad};
+ghost use Rattle.js_tokens.specs.Scan.{found_number, found_string, found_point, found_slash, found_at, found, after_string, first_bad};
 ghost use Rattle.js_tokens.specs.Pieces.{IsPiece, IsStringEnd};
 
 use crate::class::{Class, Run, class_of};
@@ -13,6 +12,7 @@ use crate::mark::{assign_end, mark_end};
 use crate::number::{exponent_end, number_end};
 use crate::string::{StringEnd, string_end};
 use crate::token::TokenKind;
+use crate::word::is_reserved;
 
 /// What stands at a place.
 #[derive(Clone, Copy)]
@@ -83,5 +83,40 @@ fn slash_piece(text: &str, at: usize, next: usize) -> Piece
             None => Piece::Bad(at),
         },
         _ => Piece::Token(TokenKind::Mark, assign_end(text, next)),
+    }
+}
+
+// A name or a reserved word, whose first letter stands before `next`.
+fn word_piece(text: &str, at: usize, next: usize, first: char) -> Piece
+    requires place { IsPlace text.now at }
+    requires first { IsNext text.now at first next }
+    requires letter { class_of first ≡ Class.Letter }
+    ensures { IsPiece text.now at (found (from text.now at)) result }
+{
+    let end = run_end(text, next, Run::Name);
+    if is_reserved(&text.as_bytes()[at..end]) {
+        Piece::Token(TokenKind::Reserved, end)
+    } else {
+        Piece::Token(TokenKind::Name, end)
+    }
+}
+
+/// What stands at a place.
+pub fn piece_at(text: &str, at: usize) -> Piece
+    requires { IsPlace text.now at }
+    ensures { IsPiece text.now at (found (from text.now at)) result }
+{
+    let Some((c, next)) = char_at(text, at) else {
+        return Piece::End;
+    };
+    match class_of(c) {
+        Class::Letter => word_piece(text, at, next, c),
+        Class::Digit => number_piece(text, at, number_end(text, next, c)),
+        Class::Blank => Piece::Gap(next),
+        Class::Quote => string_piece(text, at, next, c),
+        Class::Point => point_piece(text, at, next),
+        Class::Slash => slash_piece(text, at, next),
+        Class::Mark => Piece::Token(TokenKind::Mark, mark_end(text, next, c)),
+        Class::Other => Piece::Bad(at),
     }
 }

@@ -22,11 +22,48 @@ pub fn is_reserved(word: &[u8]) -> bool
     match word.len() {
         2 => is_one_of(word, &[*b"do", *b"if", *b"in"]),
         3 => is_one_of(word, &[*b"for", *b"new", *b"try", *b"var", *b"int"]),
-        4 => is_one_of(word, &[*b"case", *b"else", *b"this", *b"void", *b"with", *b"null", *b"true", *b"byte", *b"char", *b"enum", *b"goto", *b"long"]),
-        5 => is_one_of(word, &[*b"break", *b"catch", *b"throw", *b"while", *b"false", *b"class", *b"const", *b"final", *b"float", *b"short", *b"super"]),
-        6 => is_one_of(word, &[*b"delete", *b"return", *b"switch", *b"typeof", *b"double", *b"export", *b"import", *b"native", *b"public", *b"static", *b"throws"]),
-        7 => is_one_of(word, &[*b"default", *b"finally", *b"boolean", *b"extends", *b"package", *b"private"]),
-        8 => is_one_of(word, &[*b"continue", *b"function", *b"abstract", *b"debugger", *b"volatile"]),
+        4 => is_one_of(
+            word,
+            &[
+                *b"case", *b"else", *b"this", *b"void", *b"with", *b"null", *b"true", *b"byte",
+                *b"char", *b"enum", *b"goto", *b"long",
+            ],
+        ),
+        5 => is_one_of(
+            word,
+            &[
+                *b"break", *b"catch", *b"throw", *b"while", *b"false", *b"class", *b"const",
+                *b"final", *b"float", *b"short", *b"super",
+            ],
+        ),
+        6 => is_one_of(
+            word,
+            &[
+                *b"delete", *b"return", *b"switch", *b"typeof", *b"double", *b"export", *b"import",
+                *b"native", *b"public", *b"static", *b"throws",
+            ],
+        ),
+        7 => is_one_of(
+            word,
+            &[
+                *b"default",
+                *b"finally",
+                *b"boolean",
+                *b"extends",
+                *b"package",
+                *b"private",
+            ],
+        ),
+        8 => is_one_of(
+            word,
+            &[
+                *b"continue",
+                *b"function",
+                *b"abstract",
+                *b"debugger",
+                *b"volatile",
+            ],
+        ),
         9 => is_one_of(word, &[*b"interface", *b"protected", *b"transient"]),
         10 => is_one_of(word, &[*b"instanceof", *b"implements"]),
         12 => is_one_of(word, &[*b"synchronized"]),

@@ -123,9 +123,9 @@ complete c cs k other (name e r n) = at_scan c cs class.Letter (λ f. Best f kin
 complete c cs k other (reserved e r n) = at_scan c cs class.Letter (λ f. Best f kind.Reserved other) e (best_word c cs other true r n)
 complete c cs k other (number n) =
     elim (number_first c cs other n) [
-      inl d ↦ at_scan c cs class.Digit (λ f. Best f kind.Number other) (class_digit c d) (number_longest c cs other d n, λ _. refl)
+      | inl d ↦ at_scan c cs class.Digit (λ f. Best f kind.Number other) (class_digit c d) (number_longest c cs other d n, λ _. refl)
       | inr p ↦
-        at_scan c cs class.Point (λ f. Best f kind.Number other) (ap class_of p)
+          at_scan c cs class.Point (λ f. Best f kind.Number other) (ap class_of p)
           (let h : Begins is_digit cs ≡ true = point_digit c cs other p n in let le = point_longest c cs other p n in rw h (le, λ _. refl))
     ]
 complete c cs k other (text q i) =
