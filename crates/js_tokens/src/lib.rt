@@ -10,6 +10,7 @@ mod piece;
 mod scanner;
 mod string;
 mod token;
+mod value;
 mod word;
 
 pub use scanner::tokens;
