@@ -12,3 +12,5 @@ pub mod Slices
 pub mod Names
 pub mod Turns
 pub mod Answer
+pub mod Values
+pub mod Lies

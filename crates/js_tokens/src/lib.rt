@@ -15,3 +15,4 @@ mod word;
 
 pub use scanner::tokens;
 pub use token::{Token, TokenFault, TokenKind};
+pub use value::token_text;

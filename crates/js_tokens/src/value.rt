@@ -1,11 +1,11 @@
 //! What tokens say.
-ghost use Rattle.std.specs.Prelude.{◌≡◌, ◌<◌, ◌≤◌, ◌*◌, ◌^◌, ◌++◌, IfOk, OnOk, IsUtf8, chars};
+ghost use Rattle.std.specs.Prelude.{◌≡◌, ◌<◌, ◌≤◌, ◌++◌, length, slice_range, IfOk, OnOk, IsUtf8, chars};
 ghost use Rattle.std.specs.Char.Escape.{encode_utf16};
 ghost use Rattle.js_tokens.specs.Lexes.{IsTokenOf};
 ghost use Rattle.js_tokens.specs.Value.{hex_value, escaped, mode_after, units_at, string_value, text_of};
 ghost use Rattle.js_tokens.specs.Modes.{IsFit};
 
-use crate::class::is_digit;
+use crate::cursor::char_at;
 use crate::token::{Token, TokenKind};
 use code_units::{Memory, Text};
 use std::alloc::{AllocError, Global};
@@ -53,13 +53,7 @@ fn mode_after(mode: Mode, c: char) -> Mode
     ensures fit { IsFit result }
 {
     match mode {
-        Mode::Plain => {
-            if c == '\\' {
-                Mode::Escape
-            } else {
-                Mode::Plain
-            }
-        }
+        Mode::Plain => { if c == '\\' { Mode::Escape } else { Mode::Plain } }
         Mode::Escape => match c {
             'x' => Mode::Digits(1, 0),
             'u' => Mode::Digits(3, 0),
@@ -90,5 +84,61 @@ fn push_units(units: &mut Vec<u16>, mode: Mode, c: char) -> Result<(), AllocErro
             Ok(())
         }
         Mode::Digits(_, _) => Ok(()),
+    }
+}
+
+// The units of what stands between the quotes of a string.
+fn string_units(alloc: Global, text: &str) -> Result<Vec<u16>, AllocError>
+    ensures { IfOk result (λ v. v.items ≡ string_value Mode.Plain (chars text.now)) }
+{
+    let mut units = Vec::new(alloc);
+    let mut mode = Mode::Plain;
+    let mut place = 0;
+    'units: while let Some((c, next)) = char_at(text, place) {
+        push_units(&mut units, mode, c)?;
+        mode = mode_after(mode, c);
+        place = next;
+    }
+    Ok(units)
+}
+
+fn byte_units(alloc: Global, bytes: &[u8]) -> Result<Vec<u16>, AllocError>
+    ensures { IfOk result (λ v. v.items ≡ bytes.now) }
+{
+    bytes.iter().map(|b| u16::from(*b)).collect(alloc)
+}
+
+fn between(bytes: &[u8], from: usize, to: usize) -> &[u8]
+    requires ordered { from ≤ to }
+    requires within { to ≤ length bytes.now }
+    ensures { result.now ≡ slice_range bytes.now from to }
+{
+    &bytes[from..to]
+}
+
+fn string_text(alloc: Global, bytes: &[u8]) -> Result<Vec<u16>, AllocError>
+    requires { IsUtf8 bytes.now }
+    ensures { IfOk result (λ v. v.items ≡ string_value Mode.Plain (chars bytes.now)) }
+{
+    match str::from_utf8(bytes) {
+        Ok(text) => string_units(alloc, text),
+        Err(_) => unreachable!(),
+    }
+}
+
+/// What a token of these bytes says, as units: the name, the reserved word, the number or the mark, and the value of a string (ECMA-262 3rd edition, 7.8.4).
+pub fn token_text(alloc: Global, bytes: &[u8], token: &Token) -> Result<Text, Memory>
+    requires { IsTokenOf bytes.now token.now }
+    ensures { IfOk result (λ t. t ≡ text_of bytes.now token.now) }
+{
+    match token.kind {
+        TokenKind::Str => {
+            let inner = between(bytes, token.from + 1, token.to - 1);
+            Text::from_units(alloc, string_text(alloc, inner)?)
+        }
+        _ => {
+            let text = between(bytes, token.from, token.to);
+            Text::from_units(alloc, byte_units(alloc, text)?)
+        }
     }
 }
