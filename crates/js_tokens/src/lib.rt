@@ -4,6 +4,7 @@
 mod class;
 mod comment;
 mod cursor;
+mod laws;
 mod mark;
 mod number;
 mod piece;
@@ -13,6 +14,7 @@ mod token;
 mod value;
 mod word;
 
+pub use laws::{one_bad_place, one_reading};
 pub use scanner::tokens;
 pub use token::{Token, TokenFault, TokenKind};
 pub use value::token_text;
