@@ -1,0 +1,26 @@
+-- Texts of which a part was appended.
+use Rattle.std.proofs.Common.{◌≡◌, ℕ, ◌+◌, ◌<◌, List, [], ◌++◌, length, take, drop, get_or, refl, sym, ap, ◌∙◌, append_assoc, append-nil, arith}
+use Rattle.std.proofs.lemmas.List.{drop_more, take-append-drop}
+use Rattle.std.proofs.lemmas.Grind.{flat_map-append}
+use Rattle.std.specs.List.{flat_map}
+use Rattle.trace_text.specs.Report.{AppendsPart}
+
+-- nothing is a part
+pub no_part : (old new text : List ℕ) → new ≡ old → AppendsPart old new text
+no_part old new text same = record { part = []; rest = text; whole = refl; appended = same ∙ sym (append-nil old) }
+
+-- the texts of some items are those before one, its own, and those after it
+split_at : {X : Type 0} (f : X → List ℕ) (xs : List X) (i : ℕ) (d : X) → i < length xs → flat_map f xs ≡ flat_map f (take i xs) ++ (f (get_or xs i d) ++ flat_map f (drop (i + 1) xs))
+split_at f xs i d within =
+    ap (flat_map f) (sym (take-append-drop i xs)) ∙ flat_map-append f (take i xs) (drop i xs)
+    ∙ ap (λ rest. flat_map f (take i xs) ++ flat_map f rest) (drop_more xs i d within)
+
+-- a part of the text of one item, after those before it, is a part of the texts of all
+pub part_so_far : {X : Type 0} (f : X → List ℕ) (xs : List X) (i : ℕ) (d : X) (old mid new : List ℕ) → i < length xs → mid ≡ old ++ flat_map f (take i xs) → AppendsPart mid new (f (get_or xs i d)) → AppendsPart old new (flat_map f xs)
+part_so_far f xs i d old mid new within before part =
+    record {
+      part = flat_map f (take i xs) ++ part.part;
+      rest = part.rest ++ flat_map f (drop (i + 1) xs);
+      whole = split_at f xs i d within ∙ grind (arith, append_assoc, part.whole);
+      appended = part.appended ∙ ap (λ held. held ++ part.part) before ∙ append_assoc old (flat_map f (take i xs)) part.part;
+    }

@@ -1,0 +1,11 @@
+//! The texts of a run: the lines of its report.
+#![tactic(auto)]
+
+mod line;
+mod pieces;
+mod report;
+#[cfg(test)]
+mod tests;
+
+pub use line::{Line, Rule};
+pub use report::report_line;
