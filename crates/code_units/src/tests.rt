@@ -7,78 +7,81 @@ fn text(alloc: Global, words: &str) -> Result<Text, Fail> {
 }
 
 // By ECMA-262 3rd edition, 9.3.1, with the numbers of this product.
+const WHOLE: [(&str, i64); 13] = [
+    ("", 0),
+    (" \t\n\u{b}\u{c}\r ", 0),
+    (" 7 ", 7),
+    ("+7", 7),
+    ("-7", -7),
+    ("-0", 0),
+    ("007", 7),
+    (" 0x1F ", 31),
+    ("0XfF", 255),
+    ("0x1e5", 485),
+    ("9007199254740991", 9007199254740991),
+    ("-9007199254740991", -9007199254740991),
+    ("0000000000000000000000000000000000012", 12),
+];
+
 #[test]
 fn reads_whole_numbers(rt: HostRuntime) -> Result<(), Fail> {
-    let whole = [
-        ("", 0),
-        (" \t\n\u{b}\u{c}\r ", 0),
-        (" 7 ", 7),
-        ("+7", 7),
-        ("-7", -7),
-        ("-0", 0),
-        ("007", 7),
-        (" 0x1F ", 31),
-        ("0XfF", 255),
-        ("0x1e5", 485),
-        ("9007199254740991", 9007199254740991),
-        ("-9007199254740991", -9007199254740991),
-        ("0000000000000000000000000000000000012", 12),
-    ];
-    for (words, want) in whole {
+    for (words, want) in WHOLE {
         let read = read_whole(&text(rt.alloc(), words)?);
         assert_eq!(rt; read, WholeRead::Whole(want), "at {words}");
     }
     Ok(())
 }
 
+const LEFT: [&str; 14] = [
+    "1.5",
+    "1.",
+    ".5",
+    "1.0",
+    "1e3",
+    "1E+3",
+    "-.5e-7",
+    "Infinity",
+    " +Infinity",
+    "-Infinity",
+    "9007199254740992",
+    "-9007199254740992",
+    "0x20000000000000",
+    "99999999999999999999999999999999999999999",
+];
+
+const NOT_NUMBERS: [&str; 23] = [
+    "1x",
+    "-0x1F",
+    "0x",
+    "0xG",
+    "x",
+    ".",
+    "e5",
+    "1e",
+    "1e+",
+    "1e5.5",
+    "1..2",
+    "1.2.3",
+    "+",
+    "-",
+    "+-1",
+    "+ 1",
+    "1 2",
+    "\u{a0}1",
+    "infinity",
+    "Infinity1",
+    "1e5e5",
+    "0x1.5",
+    "NaN",
+];
+
 #[test]
 fn reads_no_whole_numbers(rt: HostRuntime) -> Result<(), Fail> {
-    let left = [
-        "1.5",
-        "1.",
-        ".5",
-        "1.0",
-        "1e3",
-        "1E+3",
-        "-.5e-7",
-        "Infinity",
-        " +Infinity",
-        "-Infinity",
-        "9007199254740992",
-        "-9007199254740992",
-        "0x20000000000000",
-        "99999999999999999999999999999999999999999",
-    ];
-    for words in left {
+    for words in LEFT {
         let read = read_whole(&text(rt.alloc(), words)?);
         assert_eq!(rt; read, WholeRead::Left, "at {words}");
     }
-    let not = [
-        "1x",
-        "-0x1F",
-        "0x",
-        "0xG",
-        "x",
-        ".",
-        "e5",
-        "1e",
-        "1e+",
-        "1e5.5",
-        "1..2",
-        "1.2.3",
-        "+",
-        "-",
-        "+-1",
-        "+ 1",
-        "1 2",
-        "\u{a0}1",
-        "infinity",
-        "Infinity1",
-        "1e5e5",
-        "0x1.5",
-        "NaN",
-    ];
-    for words in not {
+    for words in NOT_NUMBERS {
         let read = read_whole(&text(rt.alloc(), words)?);
         assert_eq!(rt; read, WholeRead::NotNumber, "at {words}");
     }
@@ -210,23 +213,33 @@ fn permits_names(rt: HostRuntime) -> Result<(), Fail> {
     Ok(())
 }
 
+fn intern(alloc: Global, names: &mut Names, word: &str) -> Result<u32, Fail> {
+    if names.len() > 9 {
+        Err("many names")?;
+    }
+    Ok(names.intern(&text(alloc, word)?)?)
+}
+
+fn number(alloc: Global, names: &Names, word: &str) -> Result<Option<u32>, Fail> {
+    Ok(names.number(&text(alloc, word)?))
+}
+
 #[test]
 fn interns_names(rt: HostRuntime) -> Result<(), Fail> {
     let mut names = Names::new(rt.alloc())?;
     assert!(rt; names.is_empty());
-    let (a, b, c) = (
-        text(rt.alloc(), "a")?,
-        text(rt.alloc(), "b")?,
-        text(rt.alloc(), "c")?,
-    );
-    for (name, want) in [(&a, 0), (&b, 1), (&text(rt.alloc(), "a")?, 0)] {
-        assert!(rt; names.len() < 9);
-        assert_eq!(rt; names.intern(name)?, want);
+    for (word, want) in [("a", 0), ("b", 1), ("a", 0)] {
+        assert_eq!(rt; intern(rt.alloc(), &mut names, word)?, want);
     }
-    assert_eq!(rt; names.number(&b), Some(1));
-    assert_eq!(rt; names.number(&c), None);
-    assert!(rt; names.text(1) == Some(&b));
-    assert!(rt; names.text(2) == None);
+    for (word, want) in [("a", Some(0)), ("b", Some(1)), ("c", None)] {
+        assert_eq!(rt; number(rt.alloc(), &names, word)?, want);
+    }
+    assert!(rt;
+        names
+            .text(1)
+            .is_some_and(|name| name.units() == [0x62].as_slice())
+    );
+    assert!(rt; names.text(2).is_none());
     assert_eq!(rt; names.len(), 2);
     Ok(())
 }
