@@ -1,0 +1,16 @@
+pub mod Runs
+pub mod Numbers
+pub mod Marks
+pub mod Strings
+pub mod Longest
+pub mod Readings
+pub mod Fronts
+pub mod Cursors
+pub mod Loops
+pub mod WordLemmas
+pub mod Slices
+pub mod Names
+pub mod Turns
+pub mod Answer
+pub mod Values
+pub mod Lies
