@@ -2,10 +2,10 @@
 use Rattle.std.proofs.Common.{◌≡◌, ℕ, suc, List, [], ◌∷◌, ◌++◌, false, Option, Some, None, refl, ap, sym, subst}
 use Rattle.js_grammar.specs.declared.Sign.{Sign}
 use Rattle.js_grammar.specs.declared.Sign.TheVariants as sign
-use Rattle.js_tree.specs.Plain.{Expr, Exprs, Stmt, Stmts, Fun, Funs, ExprAt, Name, Function, Dot, Call, NoExprs, AndExpr, NoExpr, SomeExpr, StmtAt, Only, Return, NoStmts, AndStmt, NoFuns, AndFun, expr_place}
+use Rattle.js_tree.specs.Plain.{Expr, Exprs, Stmt, Stmts, Fun, Funs, ExprAt, Name, Function, Dot, Call, NoExprs, AndExpr, NoExpr, SomeExpr, StmtAt, Only, Return, NoStmts, AndStmt, NoFuns, AndFun, expr_place, fun_place}
 use Rattle.exact_refusals.specs.Judge as machine
 use Rattle.js_grammar.specs.Machine.{Frame, State, Wants, Gives, Did, Done, Step, step, wants, after, after_statement, primary, first_argument, return_first, statement, block, body as body_step, has_function, ends, finishes, tails, begin, finished, Primary, DotName, FirstArg, FunName, DeclName, FunOpen, FunFirst, FunMore, FunNext, FunBody, Statement, ReturnFirst, InBlock, InBody, Rest, Paren, MoreArgs, Semi, ReturnSemi, FunEnd, FunExpr, Declare}
-use Rattle.js_grammar.specs.Grammar.{Lexeme, Token, Deep, Level, Tight, Whole, An, Args, Names, Code, A, Block, Body, Spells, opens_other, fun_of, fun_place, IsProgram}
+use Rattle.js_grammar.specs.Grammar.{Lexeme, Token, Deep, Level, Tight, Whole, An, Args, Names, Code, A, Block, Body, Spells, opens_other, fun_of, IsProgram}
 use Rattle.js_grammar.specs.Grammar.Spells.{name, string, this, null, true_word, false_word, paren, unnamed, named, dot, call, whole, no_args, first_arg, next_arg, no_names, first_name, next_name, code, only, return_nothing, return_value, no_statement, next_statement, empty_body, body_statement, body_function}
 use Rattle.js_grammar.proofs.Takes.{Takes, Quiet, close_tight, did_block, did_body}
 

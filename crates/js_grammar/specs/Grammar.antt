@@ -3,7 +3,7 @@ use Rattle.std.specs.Prelude.{◌≡◌, ℕ, suc, List, [], ◌∷◌, ◌++◌
 use Rattle.js_grammar.specs.declared.Sign.{Sign}
 use Rattle.js_grammar.specs.declared.Sign.TheVariants as sign
 use Rattle.js_tree.specs.declared.nodes.Word.TheVariants as word
-use Rattle.js_tree.specs.Plain.{Expr, Exprs, Stmt, Stmts, Fun, Funs, ExprAt, Str, Name, Constant, Function, Dot, Call, NoExprs, AndExpr, NoExpr, SomeExpr, StmtAt, Only, Return, NoStmts, AndStmt, FunAt, NoFuns, AndFun, expr_place}
+use Rattle.js_tree.specs.Plain.{Expr, Exprs, Stmt, Stmts, Fun, Funs, ExprAt, Str, Name, Constant, Function, Dot, Call, NoExprs, AndExpr, NoExpr, SomeExpr, StmtAt, Only, Return, NoStmts, AndStmt, FunAt, NoFuns, AndFun, expr_place, fun_place}
 
 -- the units and the place of a token
 pub record Lexeme : Type 0 where
@@ -37,10 +37,6 @@ pub data Thing : Type 0 where
   Block : Stmts → Thing
   -- statements and function declarations
   Body : Stmts → Funs → Thing
-
--- the place of a function: its word
-abbrev pub fun_place : Fun → ℕ
-fun_place (FunAt at names own params body funs) = at
 
 -- the units of the names
 abbrev pub texts : List Lexeme → List (List ℕ)

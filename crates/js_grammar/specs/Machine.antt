@@ -2,8 +2,8 @@
 use Rattle.std.specs.Prelude.{ℕ, suc, List, [], ◌∷◌, ◌++◌, Option, Some, None}
 use Rattle.js_grammar.specs.declared.Sign.TheVariants as sign
 use Rattle.js_tree.specs.declared.nodes.Word.TheVariants as word
-use Rattle.js_tree.specs.Plain.{Expr, Exprs, Stmt, Stmts, Fun, Funs, ExprAt, Str, Name, Constant, Function, Dot, Call, NoExprs, AndExpr, NoExpr, SomeExpr, StmtAt, Only, Return, NoStmts, AndStmt, NoFuns, AndFun, expr_place}
-use Rattle.js_grammar.specs.Grammar.{Lexeme, Token, Level, Tight, Whole, fun_of, fun_place}
+use Rattle.js_tree.specs.Plain.{Expr, Exprs, Stmt, Stmts, Fun, Funs, ExprAt, Str, Name, Constant, Function, Dot, Call, NoExprs, AndExpr, NoExpr, SomeExpr, StmtAt, Only, Return, NoStmts, AndStmt, NoFuns, AndFun, expr_place, fun_place}
+use Rattle.js_grammar.specs.Grammar.{Lexeme, Token, Level, Tight, Whole, fun_of}
 
 -- A frame says what is still to come. The number is the depth.
 pub data Frame : Type 0 where
