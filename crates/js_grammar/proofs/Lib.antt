@@ -1,0 +1,4 @@
+pub mod Takes
+pub mod Sound
+pub mod Links
+pub mod Laws

@@ -1,0 +1,100 @@
+//! The grammar of scripts (ECMA-262 3rd edition, sections 11 to 14): which tokens spell which tree.
+#![tactic(auto)]
+
+ghost use Rattle.std.specs.Prelude.{◌≡◌, List};
+ghost use Rattle.exact_refusals.specs.Places.{signs};
+ghost use Rattle.js_tree.specs.Plain.{Stmts};
+ghost use Rattle.js_grammar.specs.Grammar.{Deep, IsProgram};
+
+/// What the grammar sees of a token, beside its text and its place.
+#[derive(Clone, Copy, PartialEq, Eq, Debug, Drop)]
+pub enum Sign {
+    Name,
+    Number,
+    Str,
+    Break,
+    Case,
+    Catch,
+    Continue,
+    Default,
+    Delete,
+    Do,
+    Else,
+    Finally,
+    For,
+    Function,
+    If,
+    In,
+    InstanceOf,
+    New,
+    Return,
+    Switch,
+    This,
+    Throw,
+    Try,
+    TypeOf,
+    Var,
+    Void,
+    While,
+    With,
+    Null,
+    True,
+    False,
+    /// A reserved word that no row of the grammar has.
+    Unused,
+    OpenBrace,
+    CloseBrace,
+    Open,
+    Close,
+    OpenSquare,
+    CloseSquare,
+    Point,
+    Semicolon,
+    Comma,
+    Less,
+    Greater,
+    LessEqual,
+    GreaterEqual,
+    Equal,
+    NotEqual,
+    Same,
+    NotSame,
+    Plus,
+    Minus,
+    Star,
+    Slash,
+    Percent,
+    PlusPlus,
+    MinusMinus,
+    ShiftLeft,
+    ShiftRight,
+    ShiftRightZero,
+    BitAnd,
+    BitOr,
+    BitXor,
+    Not,
+    BitNot,
+    AndAnd,
+    OrOr,
+    Question,
+    Colon,
+    Assign,
+    PlusAssign,
+    MinusAssign,
+    StarAssign,
+    SlashAssign,
+    PercentAssign,
+    ShiftLeftAssign,
+    ShiftRightAssign,
+    ShiftRightZeroAssign,
+    BitAndAssign,
+    BitOrAssign,
+    BitXorAssign,
+    /// The end of the text.
+    End,
+}
+
+/// The same tokens spell one program, with the same depths.
+pub fn one_tree()
+    ensures { (ts us : List Deep) (p q : Stmts) → IsProgram ts p → IsProgram us q → signs ts ≡ signs us → (ts ≡ us) × (p ≡ q) }
+{}

@@ -1,0 +1,27 @@
+//! The parser: from the tokens of a text to its tree.
+#![tactic(auto)]
+
+mod descent;
+mod refusal;
+mod script;
+mod signs;
+mod text;
+
+use thiserror::Error;
+
+/// Why tokens gave no tree. `at` is the byte at which the refused token begins, or the length of
+/// the text where it ends too early.
+#[derive(Debug, Drop, Error)]
+pub enum ParseFault {
+    /// No program begins with the tokens up to and with this one.
+    #[error("unexpected token at byte {at}")]
+    Syntax { at: usize },
+    /// This token stands in more than 200 brackets and operands.
+    #[error("nested too deeply at byte {at}")]
+    TooDeep { at: usize },
+    /// There was no memory for the tree.
+    #[error("out of memory")]
+    Memory,
+}
+
+pub use text::parse;

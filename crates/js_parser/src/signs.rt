@@ -1,0 +1,140 @@
+//! What the grammar sees of a token.
+ghost use Rattle.std.specs.Prelude.{◌≡◌, ◌≤◌, length, map, slice_range};
+ghost use Rattle.js_tokens.specs.Lexes.{IsTokenOf};
+ghost use Rattle.js_parser.specs.Signs.{look_up, words, marks, sign_of};
+
+use js_grammar::Sign;
+use js_tokens::{Token, TokenKind};
+
+static WORDS: [(&[u8], Sign); 28] = [
+    (b"break", Sign::Break),
+    (b"case", Sign::Case),
+    (b"catch", Sign::Catch),
+    (b"continue", Sign::Continue),
+    (b"default", Sign::Default),
+    (b"delete", Sign::Delete),
+    (b"do", Sign::Do),
+    (b"else", Sign::Else),
+    (b"finally", Sign::Finally),
+    (b"for", Sign::For),
+    (b"function", Sign::Function),
+    (b"if", Sign::If),
+    (b"in", Sign::In),
+    (b"instanceof", Sign::InstanceOf),
+    (b"new", Sign::New),
+    (b"return", Sign::Return),
+    (b"switch", Sign::Switch),
+    (b"this", Sign::This),
+    (b"throw", Sign::Throw),
+    (b"try", Sign::Try),
+    (b"typeof", Sign::TypeOf),
+    (b"var", Sign::Var),
+    (b"void", Sign::Void),
+    (b"while", Sign::While),
+    (b"with", Sign::With),
+    (b"null", Sign::Null),
+    (b"true", Sign::True),
+    (b"false", Sign::False),
+];
+
+static MARKS: [(&[u8], Sign); 48] = [
+    (b"(", Sign::Open),
+    (b")", Sign::Close),
+    (b"{", Sign::OpenBrace),
+    (b"}", Sign::CloseBrace),
+    (b"[", Sign::OpenSquare),
+    (b"]", Sign::CloseSquare),
+    (b".", Sign::Point),
+    (b";", Sign::Semicolon),
+    (b",", Sign::Comma),
+    (b"<", Sign::Less),
+    (b">", Sign::Greater),
+    (b"<=", Sign::LessEqual),
+    (b">=", Sign::GreaterEqual),
+    (b"==", Sign::Equal),
+    (b"!=", Sign::NotEqual),
+    (b"===", Sign::Same),
+    (b"!==", Sign::NotSame),
+    (b"+", Sign::Plus),
+    (b"-", Sign::Minus),
+    (b"*", Sign::Star),
+    (b"/", Sign::Slash),
+    (b"%", Sign::Percent),
+    (b"++", Sign::PlusPlus),
+    (b"--", Sign::MinusMinus),
+    (b"<<", Sign::ShiftLeft),
+    (b">>", Sign::ShiftRight),
+    (b">>>", Sign::ShiftRightZero),
+    (b"&", Sign::BitAnd),
+    (b"|", Sign::BitOr),
+    (b"^", Sign::BitXor),
+    (b"!", Sign::Not),
+    (b"~", Sign::BitNot),
+    (b"&&", Sign::AndAnd),
+    (b"||", Sign::OrOr),
+    (b"?", Sign::Question),
+    (b":", Sign::Colon),
+    (b"=", Sign::Assign),
+    (b"+=", Sign::PlusAssign),
+    (b"-=", Sign::MinusAssign),
+    (b"*=", Sign::StarAssign),
+    (b"/=", Sign::SlashAssign),
+    (b"%=", Sign::PercentAssign),
+    (b"<<=", Sign::ShiftLeftAssign),
+    (b">>=", Sign::ShiftRightAssign),
+    (b">>>=", Sign::ShiftRightZeroAssign),
+    (b"&=", Sign::BitAndAssign),
+    (b"|=", Sign::BitOrAssign),
+    (b"^=", Sign::BitXorAssign),
+];
+
+// The sign of a spelling in a table.
+fn sign_in(table: &[(&[u8], Sign)], spelling: &[u8]) -> Sign
+    ensures { result ≡ look_up (map (λ row. (row.0.now, row.1)) table.now) spelling.now }
+{
+    for (word, sign) in table {
+        if spelling == *word {
+            return *sign;
+        }
+    }
+    Sign::Unused
+}
+
+// The sign of a reserved word.
+#[tactic(auto, unfolding(crate::specs::Signs::words))]
+fn word_sign(spelling: &[u8]) -> Sign
+    ensures { result ≡ look_up words spelling.now }
+{
+    sign_in(&WORDS, spelling)
+}
+
+#[tactic(auto, unfolding(crate::specs::Signs::marks))]
+fn mark_sign(spelling: &[u8]) -> Sign
+    ensures { result ≡ look_up marks spelling.now }
+{
+    sign_in(&MARKS, spelling)
+}
+
+// The bytes of a token.
+fn between(bytes: &[u8], from: usize, to: usize) -> &[u8]
+    requires ordered { from ≤ to }
+    requires within { to ≤ length bytes.now }
+    ensures { result.now ≡ slice_range bytes.now from to }
+{
+    &bytes[from..to]
+}
+
+// What the grammar sees of a token of these bytes.
+pub fn sign_of(bytes: &[u8], token: &Token) -> Sign
+    requires { IsTokenOf bytes.now token.now }
+    ensures { result ≡ sign_of bytes.now token.now }
+{
+    let spelling = between(bytes, token.from, token.to);
+    match token.kind {
+        TokenKind::Name => Sign::Name,
+        TokenKind::Number => Sign::Number,
+        TokenKind::Str => Sign::Str,
+        TokenKind::Reserved => word_sign(spelling),
+        TokenKind::Mark => mark_sign(spelling),
+    }
+}

@@ -1,0 +1,62 @@
+//! The whole text.
+ghost use Rattle.std.specs.Prelude.{◌≡◌, ◌<◌, ◌^◌, length, MatchResult, IfOk, IfErr};
+ghost use Rattle.exact_refusals.specs.Places.{HasTree};
+ghost use Rattle.js_tokens.specs.Lexes.{Lexes};
+ghost use Rattle.js_tree.specs.Plain.{Stmts};
+ghost use Rattle.js_tree.specs.Trees.{program_of};
+ghost use Rattle.js_grammar.specs.Grammar.{IsProgram};
+ghost use Rattle.js_parser.specs.declared.refusal.Refusal.TheVariants as refusal;
+ghost use Rattle.js_parser.specs.declared.ParseFault.TheVariants as fault;
+ghost use Rattle.js_parser.specs.Signs.{input};
+ghost use Rattle.js_parser.specs.Reads.{lexeme_at};
+ghost use Rattle.js_parser.specs.Parse.{IsRefusal, IsSaid, IsPlaced};
+
+use super::ParseFault;
+use crate::descent::program;
+use crate::refusal::Refusal;
+use crate::script::Script;
+use js_tokens::Token;
+use js_tree::Tree;
+use std::alloc::Global;
+
+// The fault of a refusal, with its place in the bytes.
+fn fault_of(script: &Script, refusal: Refusal) -> ParseFault
+    requires { IsPlaced script.now refusal }
+    ensures { IsSaid script.now refusal result }
+{
+    match refusal {
+        Refusal::Syntax(token) => ParseFault::Syntax {
+            at: script.place(token),
+        },
+        Refusal::TooDeep(token) => ParseFault::TooDeep {
+            at: script.place(token),
+        },
+        Refusal::Memory => ParseFault::Memory,
+    }
+}
+
+/// The tree of the tokens of these bytes.
+///
+/// The tokens are those of the bytes, and fewer than 2^31.
+pub fn parse(alloc: Global, bytes: &[u8], tokens: &[Token]) -> Result<Tree, ParseFault>
+    requires tokens { Lexes bytes.now tokens.now }
+    requires short { length tokens.now < 2 ^ 31 }
+    // The tree is one that the tokens spell, with none of them too deep.
+    ensures tree { IfOk result (λ tree. HasTree IsProgram 200 (input bytes.now tokens.now) (program_of tree)) }
+    // Where they spell one, it is read, unless memory runs out.
+    ensures only { (program : Stmts) → HasTree IsProgram 200 (input bytes.now tokens.now) program → MatchResult result (λ tree. program_of tree ≡ program) (λ e. e ≡ fault.Memory) }
+    // The place of a refusal is exact.
+    ensures place { IfErr result (λ e. IsRefusal (input bytes.now tokens.now) e) }
+{
+    let Ok(script) = Script::new(alloc, bytes, tokens) else {
+        return Err(ParseFault::Memory);
+    };
+    let mut tree = Tree::new(alloc);
+    match program(&script, &mut tree) {
+        Ok(list) => {
+            tree.set_program(list);
+            Ok(tree)
+        }
+        Err(refusal) => Err(fault_of(&script, refusal)),
+    }
+}
