@@ -1,5 +1,5 @@
 -- The answer of the scanner.
-use Rattle.std.proofs.Common.{◌≡◌, ℕ, ◌-◌, ◌+◌, List, [], ◌∷◌, length, take, drop, inl, inr, Result, Ok, Err, IfOk, IfErr, MatchResult, refl, ap, ◌∙◌, subst, sym, arith}
+use Rattle.std.proofs.Common.{◌≡◌, ℕ, ◌-◌, List, [], ◌∷◌, length, take, inl, inr, Result, Ok, Err, IfOk, IfErr, MatchResult, refl, ap, ◌∙◌, subst, sym}
 use Rattle.std.specs.Str.{IsUtf8, IsValidUpTo, chars}
 use Rattle.std.proofs.lemmas.Bool.{cases_order}
 use Rattle.js_tokens.specs.declared.token.Token.{Token}
@@ -7,7 +7,7 @@ use Rattle.js_tokens.specs.declared.token.TokenFault.{TokenFault}
 use Rattle.js_tokens.specs.declared.token.TokenFault.TheVariants as fault
 use Rattle.js_tokens.specs.Lexes.{Lexes, Reads, FirstBad, BadPlace, IsFault, size}
 use Rattle.js_tokens.specs.Lexes.BadPlace.{ill_formed, bad_token}
-use Rattle.js_tokens.specs.Cursor.{from, IsPlace}
+use Rattle.js_tokens.specs.Cursor.{from}
 use Rattle.js_tokens.specs.Pieces.{IsScanFault}
 use Rattle.js_tokens.proofs.Readings.{reads_once, bad_not, first_once}
 use Rattle.js_tokens.proofs.Slices.{place_from}

@@ -1,5 +1,5 @@
 -- A step over one character.
-use Rattle.std.proofs.Common.{◌≡◌, ℕ, suc, ◌+◌, ◌<◌, ◌≤◌, List, [], ◌∷◌, ◌++◌, length, drop, get_or, refl, ap, ◌∙◌, arith, subst, sym, drop-cons, add-one, encode_utf8}
+use Rattle.std.proofs.Common.{◌≡◌, ℕ, suc, ◌+◌, ◌<◌, List, [], ◌∷◌, ◌++◌, length, drop, get_or, refl, ap, ◌∙◌, arith, subst, sym, drop-cons, encode_utf8}
 use Rattle.std.specs.Str.{IsUtf8, chars, IsCharBoundary}
 use Rattle.std.specs.Char.{len_utf8}
 use Rattle.std.proofs.lemmas.Str.{drop_past_char, IsUtf8-past_char, chars_past_char, IsCharBoundary-past_char, IsCharBoundary-from_drop, chars-nil, encode_ascii, len_utf8_ascii, len_utf8_bounds}

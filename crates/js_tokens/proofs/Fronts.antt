@@ -1,14 +1,14 @@
 -- What is found means what the relations say.
-use Rattle.std.proofs.Common.{◌≡◌, ℕ, suc, ◌-◌, ◌≤◌, ◌⊎◌, List, [], ◌∷◌, length, Bool, true, false, Option, Some, None, refl, ap, ◌∙◌, arith, inl, inr, subst, sym}
-use Rattle.std.specs.Prelude.{nat_eq, ◌&&◌, ◌||◌, if◌then◌else◌}
-use Rattle.std.proofs.lemmas.Bool.{cond_both, eqb-true, and_parts, both_ways, false≢true, cases_Bool}
+use Rattle.std.proofs.Common.{◌≡◌, ℕ, List, [], ◌∷◌, Bool, true, false, Option, Some, None, refl, ap, ◌∙◌}
+use Rattle.std.specs.Prelude.{nat_eq, if◌then◌else◌}
+use Rattle.std.proofs.lemmas.Bool.{cond_both, eqb-true}
 use Rattle.js_tokens.specs.declared.token.Token.{Token}
 use Rattle.js_tokens.specs.declared.token.TokenKind.{TokenKind}
 use Rattle.js_tokens.specs.declared.token.TokenKind.TheVariants as kind
 use Rattle.js_tokens.specs.declared.class.Class.{Class}
 use Rattle.js_tokens.specs.declared.class.Class.TheVariants as class
-use Rattle.js_tokens.specs.Characters.{class_of, is_digit, is_in_line, is_part, Begins, Starts}
-use Rattle.js_tokens.specs.Lexes.{begins_comment, Spelled, IsLongest, IsApart, size, Reads, Bad, FirstBad}
+use Rattle.js_tokens.specs.Characters.{class_of, is_digit, is_in_line, is_part, Begins}
+use Rattle.js_tokens.specs.Lexes.{begins_comment, Spelled, IsLongest, IsApart, Reads, Bad, FirstBad}
 use Rattle.js_tokens.specs.Lexes.Reads.{blank, line_comment, comment}
 use Rattle.js_tokens.specs.Lexes.Bad.{glued, unclosed, bad_escape, open_comment, other}
 use Rattle.js_tokens.specs.Lexes.FirstBad.{past_blank, past_line_comment, past_comment}
@@ -16,7 +16,7 @@ use Rattle.js_tokens.specs.Scan as scan
 use Rattle.js_tokens.specs.Scan.{tail, after_run, after_exponent, after_assign, after_string, first_bad, after_comment, word_kind, Found, found_number, found_string, found_comment, found_point, found_slash, found_at, found}
 use Rattle.js_tokens.proofs.Runs.{run_sound, run_stops}
 use Rattle.js_tokens.proofs.Strings.{closed_sound, closed_none, bad_sound, comment_sound, comment_none}
-use Rattle.js_tokens.proofs.Longest.{ClassIs, class_means, at_class, scan_of, scan_at, scan_string, scan_point, scan_slash, at_scan, scanned_spelled, scanned_longest}
+use Rattle.js_tokens.proofs.Longest.{ClassIs, class_means, scan_of, scan_at, scan_string, scan_point, scan_slash, scanned_spelled, scanned_longest}
 
 -- what is read, or bad, behind a gap is so before it
 pub record IsGap (cs rest : List ℕ) : Type 0 where

@@ -1,12 +1,12 @@
 -- Where the tokens of a text lie.
-use Rattle.std.proofs.Common.{◌≡◌, ℕ, zero, suc, ◌-◌, ◌+◌, ◌<◌, ◌≤◌, List, [], ◌∷◌, ◌++◌, length, take, drop, Bool, true, false, refl, ap, ◌∙◌, subst, sym, arith, append_assoc, append-nil, length-append, Contains, slice_index_or, encode_utf8, encode_utf8_all}
+use Rattle.std.proofs.Common.{◌≡◌, ℕ, zero, suc, ◌-◌, ◌+◌, ◌<◌, ◌≤◌, List, [], ◌∷◌, ◌++◌, length, take, drop, Bool, true, false, refl, ap, ◌∙◌, subst, sym, arith, length-append, slice_index_or, encode_utf8, encode_utf8_all}
 use Rattle.std.specs.Str.{IsUtf8, chars, all_scalars}
 use Rattle.std.specs.Char.{len_utf8}
 use Rattle.std.proofs.Math.Utf8.{scalar}
 use Rattle.std.specs.Prelude.{nat_eq, ◌||◌, slice_range, if◌then◌else◌}
 use Rattle.std.proofs.lemmas.Bool.{and_parts, and_from, eqb-true}
 use Rattle.std.proofs.lemmas.Bool.Decides.{nat_tests}
-use Rattle.std.proofs.lemmas.Str.{encodes-chars, scalars-chars, encodes-append, encode_ascii, length-encode, len_utf8_ascii}
+use Rattle.std.proofs.lemmas.Str.{encodes-chars, scalars-chars, encodes-append, length-encode, len_utf8_ascii}
 use Rattle.js_tokens.specs.declared.token.Token.{Token}
 use Rattle.js_tokens.specs.declared.token.TokenKind.{TokenKind}
 use Rattle.js_tokens.specs.declared.token.TokenKind.TheVariants as kind
@@ -14,7 +14,7 @@ use Rattle.js_tokens.specs.declared.class.Class.TheVariants as class
 use Rattle.js_tokens.specs.Characters.{class_of, is_line_end}
 use Rattle.js_tokens.specs.declared.value.Mode.TheVariants as mode
 use Rattle.js_tokens.specs.Value.{string_value, text_between, text_of}
-use Rattle.js_tokens.specs.Lexes.{size, Spelled, Inside, Reads, Lexes, IsTokenOf, Close, LineEnd, Backslash, Plain, part_of}
+use Rattle.js_tokens.specs.Lexes.{size, Spelled, Inside, Reads, IsTokenOf, Close, LineEnd, Backslash, Plain, part_of}
 use Rattle.js_tokens.specs.Lexes.Spelled.{name, reserved, number, text, mark}
 use Rattle.js_tokens.specs.Lexes.Inside.{close, plain, escape}
 use Rattle.js_tokens.specs.Lexes.Reads.{done, blank, line_comment, comment, token}

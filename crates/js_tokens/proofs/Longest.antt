@@ -1,22 +1,21 @@
 -- What is found at the front is the longest token, a gap, or the bad place.
-use Rattle.std.proofs.Common.{◌≡◌, ℕ, suc, ◌≤◌, ◌<◌, ◌⊎◌, List, [], ◌∷◌, ◌++◌, length, Bool, true, false, Option, Some, None, refl, ap, ◌∙◌, arith, inl, inr, subst, sym}
-use Rattle.std.specs.Prelude.{nat_eq, ◌&&◌, ◌||◌, if◌then◌else◌}
-use Rattle.std.proofs.lemmas.Bool.{cond_both, eqb-true, or_cases, and_parts, both_ways, false_from_ne_true, false≢true, and_from, or_parts, or_from, and_right}
+use Rattle.std.proofs.Common.{◌≡◌, ℕ, ◌≤◌, ◌<◌, List, [], ◌∷◌, ◌++◌, length, Bool, true, false, Option, Some, None, refl, ap, ◌∙◌, arith, inl, inr, subst, sym}
+use Rattle.std.specs.Prelude.{nat_eq, ◌||◌, if◌then◌else◌}
+use Rattle.std.proofs.lemmas.Bool.{cond_both, eqb-true, both_ways, false≢true}
 use Rattle.std.proofs.lemmas.Bool.Decides.{nat_tests}
-use Rattle.js_tokens.specs.declared.token.Token.{Token}
 use Rattle.js_tokens.specs.declared.token.TokenKind.{TokenKind}
 use Rattle.js_tokens.specs.declared.token.TokenKind.TheVariants as kind
 use Rattle.js_tokens.specs.declared.class.Class.{Class}
 use Rattle.js_tokens.specs.declared.class.Class.TheVariants as class
-use Rattle.js_tokens.specs.Characters.{class_of, is_letter, is_digit, is_blank, begins_mark, is_in_line, is_part, Begins, Starts}
+use Rattle.js_tokens.specs.Characters.{class_of, is_letter, is_digit, is_blank, begins_mark, is_part, Begins, Starts}
 use Rattle.js_tokens.specs.Words.{is_reserved, is_mark}
-use Rattle.js_tokens.specs.Lexes.{front, Run, Number, Inside, Closed, BadEscape, Comment, begins_comment, Spelled, IsLongest, IsApart}
+use Rattle.js_tokens.specs.Lexes.{front, Run, begins_comment, Spelled, IsLongest, IsApart}
 use Rattle.js_tokens.specs.Lexes.Spelled.{name, reserved, number, text, mark}
 use Rattle.js_tokens.specs.Scan as scan
 use Rattle.js_tokens.specs.Scan.{tail, after_run, after_number, after_exponent, after_assign, after_mark, after_string, first_bad, after_comment, Found, word_kind, found_number, found_string, found_slash, found_at, found}
-use Rattle.js_tokens.proofs.Runs.{Suffix, whole, next, suffix_length, suffix_once, suffix_more, run_suffix, run_sound, run_stops, run_longest, run_once, after_run_suffix}
+use Rattle.js_tokens.proofs.Runs.{Suffix, whole, next, suffix_length, suffix_once, suffix_more, run_suffix, run_sound, run_longest, after_run_suffix}
 use Rattle.js_tokens.proofs.Numbers.{number_sound, point_sound, number_suffix, after_exponent_suffix, number_longest, point_longest, point_digit, number_first}
-use Rattle.js_tokens.proofs.Marks.{assign_suffix, mark_longest, mark_first, has_mark_class, begins_as_mark, mark_sound, point_mark, slash_mark}
+use Rattle.js_tokens.proofs.Marks.{mark_longest, mark_first, has_mark_class, mark_sound, point_mark, slash_mark}
 use Rattle.js_tokens.proofs.Strings.{inside_suffix, inside_sound, inside_found}
 
 -- classes

@@ -1,8 +1,8 @@
 -- One more turn of the loops.
-use Rattle.std.proofs.Common.{◌≡◌, ℕ, ◌<◌, ◌≤◌, List, [], ◌∷◌, Bool, true, false, Option, Some, None, MatchOption, refl, ap, ◌∙◌, subst, sym, arith}
+use Rattle.std.proofs.Common.{◌≡◌, ℕ, ◌<◌, ◌≤◌, List, ◌∷◌, Bool, true, false, Option, Some, None, MatchOption, refl, ap, ◌∙◌, sym, arith}
 use Rattle.std.specs.Prelude.{nat_eq}
 use Rattle.js_tokens.specs.Characters.{is_line_end}
-use Rattle.js_tokens.specs.Lexes.{Part, Backslash, part_of, is_escape}
+use Rattle.js_tokens.specs.Lexes.{Backslash, part_of, is_escape}
 use Rattle.js_tokens.specs.Cursor.{from, IsPlace}
 use Rattle.js_tokens.specs.Scan.{after_string, first_bad, string_step, bad_step, is_backslash, noted}
 use Rattle.js_tokens.specs.Pieces.{IsPairEnd}

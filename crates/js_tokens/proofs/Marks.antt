@@ -1,6 +1,6 @@
 -- The longest mark.
-use Rattle.std.proofs.Common.{◌≡◌, ℕ, suc, ◌≤◌, ◌⊎◌, List, [], ◌∷◌, ◌++◌, length, Bool, true, false, refl, ap, ◌∙◌, arith, inl, inr, subst, sym, append_assoc}
-use Rattle.std.specs.Prelude.{nat_eq, ◌&&◌, ◌||◌, codes, if◌then◌else◌}
+use Rattle.std.proofs.Common.{◌≡◌, ℕ, ◌≤◌, List, [], ◌∷◌, ◌++◌, length, Bool, true, false, refl, ap, ◌∙◌, arith, inl, inr, subst, sym, append_assoc}
+use Rattle.std.specs.Prelude.{nat_eq, codes, if◌then◌else◌}
 use Rattle.std.specs.List.{list_any, list_all}
 use Rattle.std.specs.Str.{bytes_eq}
 use Rattle.std.proofs.lemmas.Bool.{cond_both, eqb-true, or_cases, and_parts, and_left, false≢true}
@@ -13,7 +13,7 @@ use Rattle.js_tokens.specs.Words.{marks, is_mark}
 use Rattle.js_tokens.specs.Lexes.{Spelled, begins_comment}
 use Rattle.js_tokens.specs.Lexes.Spelled.{mark}
 use Rattle.js_tokens.specs.Scan.{tail, after_assign, after_mark}
-use Rattle.js_tokens.proofs.Runs.{Suffix, whole, next, suffix_length, suffix_more, tail_suffix}
+use Rattle.js_tokens.proofs.Runs.{Suffix, whole, suffix_length, suffix_more, tail_suffix}
 
 abbrev pub Each : {A : Type 0} → (A → Type 0) → List A → Type 0
 Each P [] = Unit {0}

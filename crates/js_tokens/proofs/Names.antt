@@ -1,8 +1,7 @@
 -- A name is found by its bytes.
-use Rattle.std.proofs.Common.{◌≡◌, ℕ, ◌+◌, ◌-◌, ◌<◌, ◌≤◌, List, [], ◌∷◌, take, drop, Bool, true, refl, ap, ◌∙◌, subst, sym}
+use Rattle.std.proofs.Common.{◌≡◌, ℕ, ◌-◌, List, ◌∷◌, take, drop, Bool, true, ap, ◌∙◌, subst, sym}
 use Rattle.std.proofs.lemmas.Bool.{or_left}
 use Rattle.js_tokens.specs.declared.class.Class.TheVariants as class
-use Rattle.js_tokens.specs.declared.token.TokenKind.{TokenKind}
 use Rattle.js_tokens.specs.Characters.{class_of, is_letter, is_digit, is_part}
 use Rattle.js_tokens.specs.Words.{is_reserved}
 use Rattle.js_tokens.specs.Lexes.{Run, front}

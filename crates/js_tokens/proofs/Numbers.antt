@@ -1,5 +1,5 @@
 -- The longest number.
-use Rattle.std.proofs.Common.{◌≡◌, ℕ, suc, ◌≤◌, ◌⊎◌, List, [], ◌∷◌, length, Bool, true, false, refl, ap, ◌∙◌, arith, inl, inr, subst, sym}
+use Rattle.std.proofs.Common.{◌≡◌, ℕ, ◌≤◌, ◌⊎◌, List, [], ◌∷◌, length, Bool, true, false, refl, ap, ◌∙◌, arith, inl, inr, subst, sym}
 use Rattle.std.specs.Prelude.{nat_eq, ◌&&◌, ◌||◌}
 use Rattle.std.proofs.lemmas.Bool.{cond_both, eqb-true, or_cases, and_parts, false≢true, both_ways}
 use Rattle.std.proofs.lemmas.Bool.Decides.{nat_tests}

@@ -1,23 +1,20 @@
 -- A text has one reading or one bad place.
-use Rattle.std.proofs.Common.{◌≡◌, ℕ, suc, ◌-◌, ◌≤◌, ◌⊎◌, List, [], ◌∷◌, length, Bool, true, false, Option, Some, None, refl, ap, ◌∙◌, arith, inl, inr, subst, sym}
-use Rattle.std.specs.Prelude.{nat_eq, ◌&&◌, ◌||◌, if◌then◌else◌}
-use Rattle.std.proofs.lemmas.Bool.{cond_both, eqb-true, and_parts, both_ways, false≢true}
-use Rattle.std.proofs.lemmas.Bool.Decides.{nat_tests}
+use Rattle.std.proofs.Common.{◌≡◌, ℕ, ◌-◌, List, [], ◌∷◌, true, false, Option, Some, None, refl, ap, ◌∙◌, subst, sym}
+use Rattle.std.specs.Prelude.{nat_eq}
 use Rattle.js_tokens.specs.declared.token.Token.{Token}
-use Rattle.js_tokens.specs.declared.token.TokenKind.{TokenKind}
 use Rattle.js_tokens.specs.declared.token.TokenKind.TheVariants as kind
 use Rattle.js_tokens.specs.declared.class.Class.{Class}
 use Rattle.js_tokens.specs.declared.class.Class.TheVariants as class
-use Rattle.js_tokens.specs.Characters.{class_of, is_digit, is_in_line, is_part, Begins, Starts}
-use Rattle.js_tokens.specs.Lexes.{Run, Closed, BadEscape, Comment, begins_comment, Spelled, IsLongest, IsApart, size, Reads, Bad, FirstBad}
+use Rattle.js_tokens.specs.Characters.{class_of, is_in_line, Begins}
+use Rattle.js_tokens.specs.Lexes.{Run, Closed, Comment, size, Reads, Bad, FirstBad}
 use Rattle.js_tokens.specs.Lexes.Reads.{done, blank, line_comment, comment, token}
 use Rattle.js_tokens.specs.Lexes.Bad.{glued, unclosed, bad_escape, open_comment, other}
 use Rattle.js_tokens.specs.Lexes.FirstBad.{bad, past_blank, past_line_comment, past_comment, past_token}
 use Rattle.js_tokens.specs.Scan as scan
 use Rattle.js_tokens.specs.Scan.{tail, after_run, after_number, after_exponent, after_assign, after_mark, after_string, first_bad, after_comment, Found, found_number, found_string, found_comment, found_point, found_slash, found_at, found}
-use Rattle.js_tokens.proofs.Runs.{run_sound, run_stops, run_once}
-use Rattle.js_tokens.proofs.Strings.{closed_sound, closed_none, closed_found, bad_sound, bad_found, comment_sound, comment_none, comment_found}
-use Rattle.js_tokens.proofs.Longest.{ClassIs, class_means, at_class, scan_of, token_scanned, scanned_spelled, scanned_longest, found_scanned, token_found}
+use Rattle.js_tokens.proofs.Runs.{run_once}
+use Rattle.js_tokens.proofs.Strings.{closed_sound, closed_found, bad_found, comment_sound, comment_found}
+use Rattle.js_tokens.proofs.Longest.{token_scanned, found_scanned, token_found}
 
 -- gaps and bad places are what is found
 

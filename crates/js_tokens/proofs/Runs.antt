@@ -1,5 +1,5 @@
 -- Runs of characters, and the ends of a list.
-use Rattle.std.proofs.Common.{◌≡◌, ℕ, suc, ◌≤◌, List, [], ◌∷◌, length, Bool, true, false, refl, arith}
+use Rattle.std.proofs.Common.{◌≡◌, ℕ, ◌≤◌, List, [], ◌∷◌, length, Bool, false, refl, arith}
 use Rattle.std.proofs.lemmas.Bool.{cond_both}
 use Rattle.js_tokens.specs.Characters.{Begins}
 use Rattle.js_tokens.specs.Lexes.{Run}

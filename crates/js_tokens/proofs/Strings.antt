@@ -1,10 +1,9 @@
 -- Strings and comments: what is found is what the relations say.
-use Rattle.std.proofs.Common.{◌≡◌, ℕ, suc, ◌≤◌, ◌⊎◌, List, [], ◌∷◌, length, Bool, true, false, Option, Some, None, refl, ap, ◌∙◌, arith, inl, inr, subst, sym}
+use Rattle.std.proofs.Common.{◌≡◌, ℕ, List, [], ◌∷◌, Bool, true, false, Option, Some, None, refl, ap, inl, inr, subst, sym}
 use Rattle.std.specs.Prelude.{nat_eq, ◌&&◌, ◌||◌, if◌then◌else◌}
-use Rattle.std.proofs.lemmas.Bool.{cond_both, eqb-true, or_cases, and_parts, both_ways, false_from_ne_true, false≢true}
-use Rattle.std.proofs.lemmas.Bool.Decides.{nat_tests}
-use Rattle.js_tokens.specs.Characters.{is_line_end, is_digit, is_hex_digit, Begins, Starts}
-use Rattle.js_tokens.specs.Lexes.{Part, Close, LineEnd, Backslash, Plain, part_of, Escape, Zero, Digit, TwoDigits, FourDigits, NoEscape, Itself, escape_of, is_escape, Inside, Closed, BadEscape, Comment}
+use Rattle.std.proofs.lemmas.Bool.{eqb-true, or_cases, and_parts, both_ways, false_from_ne_true, false≢true}
+use Rattle.js_tokens.specs.Characters.{is_line_end, Starts}
+use Rattle.js_tokens.specs.Lexes.{Part, Close, LineEnd, Backslash, Plain, part_of, is_escape, Inside, Closed, BadEscape, Comment}
 use Rattle.js_tokens.specs.Lexes.Inside.{close, plain, escape}
 use Rattle.js_tokens.specs.Lexes.Closed.{last, single, pair}
 use Rattle.js_tokens.specs.Lexes.BadEscape.{here, past_plain, past_escape}

@@ -1,15 +1,15 @@
 -- One more turn of the scanner.
-use Rattle.std.proofs.Common.{◌≡◌, ℕ, ◌-◌, ◌<◌, ◌≤◌, List, [], ◌∷◌, ◌++◌, length, refl, ap, ◌∙◌, subst, sym, append_assoc, append-nil}
+use Rattle.std.proofs.Common.{◌≡◌, ℕ, List, [], ◌∷◌, ◌++◌, length, subst, sym, append_assoc, append-nil}
 use Rattle.js_tokens.specs.declared.token.Token.{Token}
 use Rattle.js_tokens.specs.declared.token.TokenKind.{TokenKind}
-use Rattle.js_tokens.specs.Lexes.{size, Reads, FirstBad}
+use Rattle.js_tokens.specs.Lexes.{Reads, FirstBad}
 use Rattle.js_tokens.specs.Lexes.Reads.{done, token}
 use Rattle.js_tokens.specs.Lexes.FirstBad.{bad, past_token}
 use Rattle.js_tokens.specs.Cursor.{from, IsPlace}
 use Rattle.js_tokens.specs.Scan as scan
 use Rattle.js_tokens.specs.Scan.{Found, found}
 use Rattle.js_tokens.proofs.Slices.{place_from}
-use Rattle.js_tokens.proofs.Fronts.{IsGap, IsToken, Means, found_means}
+use Rattle.js_tokens.proofs.Fronts.{IsToken, Means, found_means}
 
 -- the tokens up to a place
 pub record SoFar (text : List ℕ) (place : ℕ) (list : List Token) : Type 0 where

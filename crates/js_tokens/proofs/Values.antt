@@ -1,11 +1,6 @@
 -- The value of a string, up to a place; where the tokens of a text lie.
-use Rattle.std.proofs.Common.{◌≡◌, ℕ, zero, suc, ◌-◌, ◌+◌, ◌<◌, ◌≤◌, List, [], ◌∷◌, ◌++◌, length, take, drop, Bool, true, false, refl, ap, ◌∙◌, subst, sym, arith, append_assoc, append-nil, length-append, Contains, slice_index_or, encode_utf8, encode_utf8_all}
-use Rattle.std.specs.Str.{IsUtf8, chars, all_scalars}
-use Rattle.std.proofs.lemmas.Bool.{and_parts}
-use Rattle.std.proofs.lemmas.Str.{encodes-chars, scalars-chars, encodes-append, encode_ascii}
-use Rattle.js_tokens.specs.declared.token.Token.{Token}
-use Rattle.js_tokens.specs.declared.token.TokenKind.{TokenKind}
-use Rattle.js_tokens.specs.declared.token.TokenKind.TheVariants as kind
+use Rattle.std.proofs.Common.{◌≡◌, ℕ, List, [], ◌++◌, ap, ◌∙◌, sym, append_assoc, append-nil}
+use Rattle.std.specs.Str.{chars}
 use Rattle.js_tokens.specs.declared.value.Mode.{Mode}
 use Rattle.js_tokens.specs.declared.value.Mode.TheVariants as mode
 use Rattle.js_tokens.specs.Cursor.{from, IsPlace, IsNext}

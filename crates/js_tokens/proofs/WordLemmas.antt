@@ -1,12 +1,12 @@
 -- Reserved words by their lengths.
-use Rattle.std.proofs.Common.{◌≡◌, ◌≢◌, ℕ, suc, List, [], ◌∷◌, Bool, true, false, length, refl, ap, ◌∙◌, sym, subst}
+use Rattle.std.proofs.Common.{◌≡◌, ℕ, List, [], ◌∷◌, Bool, true, false, length, refl, ap, ◌∙◌, sym}
 use Rattle.std.specs.Prelude.{nat_eq, ◌||◌, if◌then◌else◌}
 use Rattle.std.specs.List.{list_any, list_all}
 use Rattle.std.specs.Str.{bytes_eq}
 use Rattle.std.proofs.lemmas.Bool.{cond_both, eq-eqb, false_from_ne_true, both_ways}
 use Rattle.std.proofs.lemmas.Slice.Eq.{bytes_eq-Decides}
 use Rattle.js_tokens.specs.Words.{reserved_words, is_reserved}
-use Rattle.js_tokens.proofs.Marks.{Each, any_of, all_pass}
+use Rattle.js_tokens.proofs.Marks.{any_of, all_pass}
 
 -- the words of this length
 abbrev pub of_length : ℕ → List (List ℕ) → List (List ℕ)

@@ -1,5 +1,5 @@
 -- What a character is. A character is a code point.
-use Rattle.std.specs.Prelude.{ℕ, Bool, true, false, List, [], ◌∷◌, nat_le, nat_eq, ◌&&◌, ◌||◌, not, codes, if◌then◌else◌}
+use Rattle.std.specs.Prelude.{ℕ, Bool, false, List, [], ◌∷◌, nat_le, nat_eq, ◌&&◌, ◌||◌, not, codes, if◌then◌else◌}
 use Rattle.std.specs.List.{list_any}
 use Rattle.js_tokens.specs.declared.class.Class.{Class}
 use Rattle.js_tokens.specs.declared.class.Class.TheVariants as class

@@ -1,5 +1,5 @@
 -- Places between the characters of a text.
-use Rattle.std.specs.Prelude.{◌≡◌, ℕ, ◌<◌, ◌≤◌, List, [], ◌∷◌, length, drop}
+use Rattle.std.specs.Prelude.{◌≡◌, ℕ, ◌<◌, ◌≤◌, List, ◌∷◌, length, drop}
 use Rattle.std.specs.Str.{IsUtf8, chars}
 
 -- the characters from a byte on

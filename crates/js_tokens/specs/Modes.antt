@@ -1,5 +1,5 @@
 -- The digits before leave room for those to come.
-use Rattle.std.specs.Prelude.{◌≡◌, ℕ, ◌<◌, nat_eq, if◌then◌else◌}
+use Rattle.std.specs.Prelude.{ℕ, ◌<◌, nat_eq, if◌then◌else◌}
 use Rattle.js_tokens.specs.declared.value.Mode.{Mode}
 use Rattle.js_tokens.specs.declared.value.Mode.TheVariants as mode
 

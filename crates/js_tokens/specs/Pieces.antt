@@ -1,5 +1,5 @@
 -- What the parts of the scanner answer.
-use Rattle.std.specs.Prelude.{◌≡◌, ℕ, ◌<◌, ◌≤◌, List, Bool, true, false, Option, Some, None, MatchOption}
+use Rattle.std.specs.Prelude.{◌≡◌, ℕ, ◌<◌, List, true, false, Option, Some, None}
 use Rattle.js_tokens.specs.declared.string.StringEnd.{StringEnd}
 use Rattle.js_tokens.specs.declared.string.StringEnd.TheVariants as ending
 use Rattle.js_tokens.specs.declared.piece.Piece.{Piece}

@@ -6,12 +6,10 @@ ghost use Rattle.js_tokens.specs.declared.token.Token.{Token};
 /// A text has at most one reading.
 pub fn one_reading()
     ensures { (bytes : List ℕ) (ts us : List Token) → Lexes bytes ts → Lexes bytes us → ts ≡ us }
-{
-}
+{}
 
 /// A text has at most one bad place, and has then no reading.
 pub fn one_bad_place()
     ensures one { (bytes : List ℕ) (at other : ℕ) → BadPlace bytes at → BadPlace bytes other → at ≡ other }
     ensures no_reading { (bytes : List ℕ) (at : ℕ) (ts : List Token) → BadPlace bytes at → Lexes bytes ts → ⊥ }
-{
-}
+{}

@@ -1,4 +1,4 @@
-use Rattle.std.proofs.Common.{◌≡◌, ℕ, ◌≤◌, ◌+◌, ◌-◌, length}
+use Rattle.std.proofs.Common.{◌≡◌, ◌≤◌, ◌+◌, ◌-◌, length}
 use Rattle.js_tokens.specs.Cursor.{from, IsPlace}
 use Rattle.js_tokens.specs.Scan.{after_comment}
 use Rattle.js_tokens.proofs.comment.comment_end.Given as goal

@@ -1,4 +1,4 @@
-use Rattle.std.proofs.Common.{◌≡◌, ℕ, ◌+◌, ◌<◌, List, get_or, length, ap, subst, sym, ◌∙◌}
+use Rattle.std.proofs.Common.{ℕ, ◌+◌, ◌<◌, List, get_or, length, subst, sym}
 use Rattle.js_tokens.specs.Cursor.{IsNext}
 use Rattle.js_tokens.proofs.Cursors.{past_ascii}
 use Rattle.js_tokens.proofs.cursor.char_at.Goals as goal

@@ -1,4 +1,4 @@
-use Rattle.std.proofs.Common.{◌∙◌, ◌≡◌, ℕ, List, drop, ap, length, sym}
+use Rattle.std.proofs.Common.{◌∙◌, ap, length, sym}
 use Rattle.js_tokens.proofs.Cursors.{boundary, past, none_left}
 use Rattle.js_tokens.proofs.cursor.wide_char.Goals as goal
 

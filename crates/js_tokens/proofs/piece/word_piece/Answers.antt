@@ -1,4 +1,4 @@
-use Rattle.std.proofs.Common.{true, false, arith, ◌∙◌, sym}
+use Rattle.std.proofs.Common.{true, false, arith}
 use Rattle.js_tokens.proofs.Names.{word_found}
 use Rattle.js_tokens.proofs.piece.word_piece.Goals as goal
 

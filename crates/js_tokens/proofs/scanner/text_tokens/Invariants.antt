@@ -1,4 +1,4 @@
-use Rattle.std.proofs.Common.{ℕ, ◌-◌, ◌+◌, length}
+use Rattle.std.proofs.Common.{◌-◌, ◌+◌, length}
 use Rattle.js_tokens.proofs.Turns.{SoFar}
 use Rattle.js_tokens.proofs.scanner.text_tokens.Given as goal
 

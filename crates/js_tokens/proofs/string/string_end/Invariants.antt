@@ -1,4 +1,4 @@
-use Rattle.std.proofs.Common.{ℕ, ◌+◌, ◌-◌, length}
+use Rattle.std.proofs.Common.{◌+◌, ◌-◌, length}
 use Rattle.js_tokens.proofs.Loops.{StringSoFar}
 use Rattle.js_tokens.proofs.string.string_end.Given as goal
 

@@ -1,4 +1,4 @@
-use Rattle.std.proofs.Common.{ℕ, ◌-◌, ◌+◌, length}
+use Rattle.std.proofs.Common.{◌-◌, ◌+◌, length}
 use Rattle.js_tokens.proofs.Values.{UnitsSoFar}
 use Rattle.js_tokens.proofs.value.string_units.Given as goal
 

@@ -1,4 +1,4 @@
-use Rattle.std.proofs.Common.{◌≡◌, ℕ, ◌≤◌, ◌+◌, length, List, IfOk, rules, arith, subst, sym, ◌∙◌}
+use Rattle.std.proofs.Common.{◌≡◌, ℕ, List, IfOk, rules, arith, subst, sym}
 use Rattle.std.specs.Str.{IsUtf8}
 use Rattle.js_tokens.proofs.Lies.{string_lies, token_range, says_string, says_bytes}
 use Rattle.js_tokens.proofs.value.token_text.Goals as goal
