@@ -25,3 +25,6 @@ pub enum ParseFault {
 }
 
 pub use text::parse;
+
+#[cfg(test)]
+mod tests;
