@@ -1,1 +1,3 @@
 pub mod Mix
+pub mod Permitted
+pub mod Places

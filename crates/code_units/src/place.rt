@@ -1,0 +1,31 @@
+//! Places in a text of bytes, as reports give them.
+ghost use Rattle.std.specs.Prelude.{◌≡◌, ◌<◌, ◌≤◌, length};
+ghost use Rattle.code_units.specs.Places.{line_of, column_of};
+
+/// A line and a column, both counted from 1; the column counts bytes.
+#[derive(Clone, Copy, PartialEq, Eq, Debug)]
+pub struct Place {
+    pub line: u32,
+    pub column: u32,
+}
+
+/// The place of a byte offset: the line is 1 plus the line feeds before it, the column 1 plus
+/// the bytes since the last line feed.
+pub fn place_of(bytes: &[u8], offset: usize) -> Place
+    requires within { offset ≤ length bytes.now }
+    requires small { offset < 4294967295 }
+    ensures line { result.line ≡ line_of bytes.now offset }
+    ensures column { result.column ≡ column_of bytes.now offset }
+{
+    let mut line = 1;
+    let mut column = 1;
+    for byte in &bytes[..offset] {
+        if *byte == b'\n' {
+            line += 1;
+            column = 1;
+        } else {
+            column += 1;
+        }
+    }
+    Place { line, column }
+}
