@@ -1,3 +1,4 @@
 pub mod Mix
 pub mod Permitted
 pub mod Places
+pub mod Utf8
