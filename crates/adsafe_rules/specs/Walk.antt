@@ -1,0 +1,119 @@
+-- What is still to be found, and where the walk goes.
+use Rattle.std.specs.Prelude.{◌≡◌, ℕ, suc, ◌+◌, ◌<◌, ◌≤◌, List, [], ◌∷◌, ◌++◌, map, length, take, Option, Some, None, option_to_list, if◌then◌else◌}
+use Rattle.std.specs.List.{flat_map}
+use Rattle.std.specs.declared.vec.Vec.{Vec}
+use Rattle.std.specs.declared.alloc.Global.{Global}
+use Rattle.js_tree.specs.declared.nodes.StmtId.{StmtId}
+use Rattle.js_tree.specs.declared.nodes.Decl.{Decl}
+use Rattle.js_tree.specs.declared.nodes.ForInit.{ForInit as InitNode}
+use Rattle.js_tree.specs.declared.nodes.ForInit.TheVariants as init
+use Rattle.js_tree.specs.declared.nodes.Clause.{Clause}
+use Rattle.js_tree.specs.declared.nodes.Expr.{Expr as ExprNode}
+use Rattle.js_tree.specs.declared.nodes.Expr.TheVariants as expr
+use Rattle.js_tree.specs.declared.nodes.Stmt.{Stmt as StmtNode}
+use Rattle.js_tree.specs.declared.nodes.Stmt.TheVariants as stmt
+use Rattle.js_tree.specs.declared.nodes.Fun.{Fun as FunNode}
+use Rattle.js_tree.specs.declared.nodes.Part.{Part}
+use Rattle.js_tree.specs.declared.nodes.Part.TheVariants as part
+use Rattle.js_tree.specs.Forest.{Forest, expr_at, stmt_at}
+use Rattle.js_tree.specs.Parts.{Spot, spot_at, IsIn, spots_size, expr_parts, stmt_parts, init_parts, block_parts, catch_parts}
+use Rattle.first_breach.specs.Lists.{In}
+use Rattle.adsafe_rules.specs.declared.walk.Work.{Work}
+use Rattle.adsafe_rules.specs.declared.enclosing.Enclosing.{Enclosing}
+use Rattle.adsafe_rules.specs.Forms.{is_allowed_callee, is_directive}
+use Rattle.adsafe_rules.specs.Parts.{Stands, outer, inner}
+use Rattle.adsafe_rules.specs.Rows.{Broken}
+use Rattle.adsafe_rules.specs.Enclosing.{IsEnclosing, env_of}
+
+-- in the node
+pub record Found (env : List Spot) (n : Spot) (rule place : ℕ) : Type 0 where
+  pub around : List Spot
+  pub node : Spot
+  pub stands : Stands env n around node
+  pub broken : Broken around node rule place
+
+-- in what lies on the stack, where the nodes of env are open
+pub record Left (f : Forest) (env : List Spot) (ws : List Work) (rule place : ℕ) : Type 0 where
+  pub work : Work
+  pub is_in : In work ws
+  pub inside : Found (take work.depth env) (spot_at f work.part) rule place
+
+-- the depths do not fall towards the top of the stack
+abbrev pub Rises : List Work → Type 0
+Rises [] = Unit {0}
+Rises (w ∷ ws) = ((v : Work) → In v ws → w.depth ≤ v.depth) × Rises ws
+
+abbrev pub at_depth : ℕ → Part → Work
+at_depth d p = record { part = p; depth = d }
+
+-- all are in the tree
+abbrev pub AreIn : Forest → List Part → Type 0
+AreIn f [] = Unit {0}
+AreIn f (p ∷ ps) = IsIn f p × AreIn f ps
+
+-- what holds of the stack and the open nodes
+pub record IsGoing (f : Forest) (e : Enclosing) (ws : List Work) : Type 0 where
+  pub parts : (w : Work) → In w ws → IsIn f w.part
+  pub rises : Rises ws
+  pub deep : (w : Work) → In w ws → w.depth ≤ length e.stack.items
+  pub enclosing : IsEnclosing f e
+
+abbrev pub tree_of : Forest → Work → Spot
+tree_of f w = spot_at f w.part
+
+-- the number of nodes on a stack
+abbrev pub load : Forest → List Work → ℕ
+load f ws = spots_size (map (tree_of f) ws)
+
+-- the stack has these trees more, at a depth
+pub record Pushes (f : Forest) (d : ℕ) (spots : List Spot) (before after : List Work) : Type 0 where
+  pub parts : List Part
+  pub same : spots ≡ map (spot_at f) parts
+  pub are_in : AreIn f parts
+  pub pushed : after ≡ before ++ map (at_depth d) parts
+
+-- a stack, and what is open, after one more step
+pub record Opens (f : Forest) (d : ℕ) (n : Spot) (old new : Enclosing) (before after : List Work) : Type 0 where
+  pub pushes : Pushes f (suc d) (inner n) before after
+  pub same : take d (env_of f new.stack.items) ≡ env_of f old.stack.items
+  pub around : (p : Spot) → In p (inner n) → take (suc d) (env_of f new.stack.items) ≡ env_of f old.stack.items ++ n ∷ []
+  pub deep : (p : Spot) → In p (inner n) → suc d ≤ length new.stack.items
+  pub longer : length old.stack.items ≤ length new.stack.items
+  pub enclosing : IsEnclosing f new
+
+-- the parts of a node outside its scope and inside it, in the order in which they are put on the stack
+abbrev pub tests_parts : List Clause → List Part
+tests_parts cs = flat_map (λ c. map part.Expr (option_to_list c.test)) cs
+
+abbrev pub bodies_parts : List Clause → List Part
+bodies_parts cs = flat_map (λ c. map part.Stmt c.body.items) cs
+
+abbrev pub expr_work : Forest → ExprNode → List Part
+expr_work f (expr.Call e ids) = (if is_allowed_callee (expr_at f e) then [] else part.Expr e ∷ []) ++ map part.Expr ids.items
+expr_work f node = expr_parts node
+
+abbrev pub outer_work : StmtNode → List Part
+outer_work (stmt.While e body) = part.Expr e ∷ []
+outer_work (stmt.DoWhile e body) = part.Expr e ∷ []
+outer_work (stmt.For first test next body) = init_parts first ++ (map part.Expr (option_to_list test) ++ map part.Expr next.items)
+outer_work (stmt.ForIn declared name e body) = part.Expr e ∷ []
+outer_work (stmt.Switch e clauses) = part.Expr e ∷ tests_parts clauses.items
+outer_work (stmt.Try body caught last) = map part.Stmt body.items ++ block_parts last
+outer_work node = stmt_parts node
+
+abbrev pub inner_work : StmtNode → List Part
+inner_work (stmt.While e body) = map part.Stmt body.items
+inner_work (stmt.DoWhile e body) = map part.Stmt body.items
+inner_work (stmt.For first test next body) = map part.Stmt body.items
+inner_work (stmt.ForIn declared name e body) = map part.Stmt body.items
+inner_work (stmt.Switch e clauses) = bodies_parts clauses.items
+inner_work (stmt.Try body caught last) = catch_parts caught
+inner_work _ = []
+
+-- the statements of a function without its directive
+abbrev pub body_work : Forest → List StmtId → List StmtId
+body_work f [] = []
+body_work f (id ∷ ids) = if is_directive (stmt_at f id) then ids else id ∷ ids
+
+abbrev pub fun_work : Forest → FunNode → List Part
+fun_work f node = map part.Fun node.funs.items ++ map part.Stmt (body_work f node.body.items)

@@ -1,0 +1,11 @@
+//! The rules that an accepted script keeps.
+#![tactic(auto)]
+
+mod enclosing;
+mod forms;
+mod numbers;
+mod scope;
+mod walk;
+mod words;
+
+pub use scope::Scope;
