@@ -1,1 +1,4 @@
 pub mod Opening
+pub mod Placing
+pub mod Lists
+pub mod Rules

@@ -174,7 +174,7 @@ is_property _ = false
 abbrev pub wrong_targets : ExprForm → List ℕ
 wrong_targets (Assign op a b) = if is_target a then [] else expr_place a ∷ []
 wrong_targets (Step op a) = if is_target a then [] else expr_place a ∷ []
-wrong_targets (Unary op a) = if is_delete op && not (is_property a) then expr_place a ∷ [] else []
+wrong_targets (Unary op a) = if is_delete op then (if is_property a then [] else expr_place a ∷ []) else []
 wrong_targets _ = []
 
 -- the string "use strict" as a statement

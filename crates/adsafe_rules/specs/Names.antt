@@ -1,7 +1,8 @@
 -- The names that stand in a node, each with its place.
-use Rattle.std.specs.Prelude.{ℕ, List, [], ◌∷◌, ◌++◌, Option, Some, None, true, false, option_to_list}
-use Rattle.js_tree.specs.Plain.{Expr, ExprAt, ExprForm, Str, Name, Object, Dot, Sub, Step, Assign, Properties, NoProperties, AndProperty, Decls, NoDecls, AndDecl, DeclsFirst, Stmt, StmtAt, StmtForm, Var, For, ForIn, Try, CatchAs, Fun, FunAt}
+use Rattle.std.specs.Prelude.{ℕ, List, [], ◌∷◌, ◌++◌, Option, option_to_list, if◌then◌else◌}
+use Rattle.js_tree.specs.Plain.{Expr, ExprAt, ExprForm, Str, Name, Object, Dot, Sub, Step, Assign, Properties, NoProperties, AndProperty, Decls, NoDecls, AndDecl, ForInit, DeclsFirst, ExprsFirst, Stmt, StmtAt, StmtForm, Var, For, ForIn, Try, CatchAs, Fun, FunAt}
 use Rattle.js_tree.specs.Parts.{Spot, AnExpr, AStmt, AFun}
+use Rattle.js_tree.specs.declared.nodes.Decl.{Decl}
 
 -- a name or a string, and where it stands
 pub record Named : Type 0 where
@@ -37,17 +38,21 @@ abbrev pub declared_names : Decls → List Named
 declared_names NoDecls = []
 declared_names (AndDecl ds x at e) = declared_names ds ++ named x at ∷ []
 
+abbrev pub first_names : ForInit → List Named
+first_names (DeclsFirst ds) = declared_names ds
+first_names (ExprsFirst xs) = []
+
 -- the variables that a statement declares by `var` itself
 abbrev pub variables : ℕ → List ℕ → StmtForm → List Named
 variables at names (Var ds) = declared_names ds
-variables at names (For (DeclsFirst ds) test next body) = declared_names ds
-variables at names (ForIn true x e body) = placed at names (x ∷ [])
+variables at names (For first test next body) = first_names first
+variables at names (ForIn declared x e body) = if declared then placed at names (x ∷ []) else []
 variables at names _ = []
 
 -- names that are used: a name as an expression, and the variable of a `for-in` without `var`
 abbrev pub uses : Spot → List Named
 uses (AnExpr e) = variable e
-uses (AStmt (StmtAt at names (ForIn false x e body))) = placed at names (x ∷ [])
+uses (AStmt (StmtAt at names (ForIn declared x e body))) = if declared then [] else placed at names (x ∷ [])
 uses _ = []
 
 -- names that are bound: declared variables, the name of a catch, a function's own name and its parameters
@@ -68,5 +73,9 @@ properties _ = []
 abbrev pub targets : Spot → List Named
 targets (AnExpr (ExprAt at names (Assign op a b))) = variable a
 targets (AnExpr (ExprAt at names (Step op a))) = variable a
-targets (AStmt (StmtAt at names (ForIn false x e body))) = placed at names (x ∷ [])
+targets (AStmt (StmtAt at names (ForIn declared x e body))) = if declared then [] else placed at names (x ∷ [])
 targets _ = []
+
+-- the name of a declaration in the tree
+abbrev pub decl_name : Decl → Named
+decl_name d = named d.name d.at

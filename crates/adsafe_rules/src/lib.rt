@@ -4,6 +4,7 @@
 mod enclosing;
 mod forms;
 mod numbers;
+mod rows;
 mod scope;
 mod walk;
 mod words;
