@@ -2,3 +2,8 @@ pub mod Opening
 pub mod Placing
 pub mod Lists
 pub mod Rules
+pub mod Sizes
+pub mod Hoisting
+pub mod Parting
+pub mod Stacking
+pub mod Visiting

@@ -178,6 +178,10 @@ wrong_targets (Unary op a) = if is_delete op then (if is_property a then [] else
 wrong_targets _ = []
 
 -- the string "use strict" as a statement
+abbrev pub is_text : List ℕ → Expr → Bool
+is_text text (ExprAt at names (Str x)) = bytes_eq x text
+is_text text _ = false
+
 abbrev pub is_directive : Stmt → Bool
-is_directive (StmtAt at names (Only (ExprAt q ns (Str x)))) = bytes_eq x (codes "use strict")
+is_directive (StmtAt at names (Only e)) = is_text (codes "use strict") e
 is_directive _ = false

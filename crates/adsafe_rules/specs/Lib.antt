@@ -7,5 +7,6 @@ pub mod Binding
 pub mod Rows
 pub mod Program
 pub mod Sets
+pub mod Hoisting
 pub mod Enclosing
 pub mod Walk

@@ -3,7 +3,9 @@ use Rattle.std.specs.Prelude.{◌≡◌, ℕ, suc, ◌+◌, ◌<◌, ◌≤◌, 
 use Rattle.std.specs.List.{flat_map}
 use Rattle.std.specs.declared.vec.Vec.{Vec}
 use Rattle.std.specs.declared.alloc.Global.{Global}
+use Rattle.js_tree.specs.declared.nodes.ExprId.{ExprId}
 use Rattle.js_tree.specs.declared.nodes.StmtId.{StmtId}
+use Rattle.js_tree.specs.declared.nodes.FunId.{FunId}
 use Rattle.js_tree.specs.declared.nodes.Decl.{Decl}
 use Rattle.js_tree.specs.declared.nodes.ForInit.{ForInit as InitNode}
 use Rattle.js_tree.specs.declared.nodes.ForInit.TheVariants as init
@@ -16,7 +18,7 @@ use Rattle.js_tree.specs.declared.nodes.Fun.{Fun as FunNode}
 use Rattle.js_tree.specs.declared.nodes.Part.{Part}
 use Rattle.js_tree.specs.declared.nodes.Part.TheVariants as part
 use Rattle.js_tree.specs.Forest.{Forest, expr_at, stmt_at}
-use Rattle.js_tree.specs.Parts.{Spot, spot_at, IsIn, spots_size, expr_parts, stmt_parts, init_parts, block_parts, catch_parts}
+use Rattle.js_tree.specs.Parts.{Spot, spot_at, IsIn, spots_size, decl_parts, expr_parts, stmt_parts, init_parts, block_parts, catch_parts}
 use Rattle.first_breach.specs.Lists.{In}
 use Rattle.adsafe_rules.specs.declared.walk.Work.{Work}
 use Rattle.adsafe_rules.specs.declared.enclosing.Enclosing.{Enclosing}
@@ -81,32 +83,51 @@ pub record Opens (f : Forest) (d : ℕ) (n : Spot) (old new : Enclosing) (before
   pub longer : length old.stack.items ≤ length new.stack.items
   pub enclosing : IsEnclosing f new
 
+-- numbers as parts
+abbrev pub expr_ids : List ExprId → List Part
+expr_ids ids = map part.Expr ids
+
+abbrev pub stmt_ids : List StmtId → List Part
+stmt_ids ids = map part.Stmt ids
+
+abbrev pub fun_ids : List FunId → List Part
+fun_ids ids = map part.Fun ids
+
+abbrev pub value_ids : List (List ℕ × ExprId) → List Part
+value_ids ps = map (λ p. part.Expr p.1) ps
+
+abbrev pub option_ids : Option ExprId → List Part
+option_ids e = map part.Expr (option_to_list e)
+
+abbrev pub decl_ids : List Decl → List Part
+decl_ids ds = flat_map decl_parts ds
+
+abbrev pub test_ids : List Clause → List Part
+test_ids cs = flat_map (λ c. map part.Expr (option_to_list c.test)) cs
+
+abbrev pub body_ids : List Clause → List Part
+body_ids cs = flat_map (λ c. map part.Stmt c.body.items) cs
+
 -- the parts of a node outside its scope and inside it, in the order in which they are put on the stack
-abbrev pub tests_parts : List Clause → List Part
-tests_parts cs = flat_map (λ c. map part.Expr (option_to_list c.test)) cs
-
-abbrev pub bodies_parts : List Clause → List Part
-bodies_parts cs = flat_map (λ c. map part.Stmt c.body.items) cs
-
 abbrev pub expr_work : Forest → ExprNode → List Part
-expr_work f (expr.Call e ids) = (if is_allowed_callee (expr_at f e) then [] else part.Expr e ∷ []) ++ map part.Expr ids.items
+expr_work f (expr.Call e ids) = (if is_allowed_callee (expr_at f e) then [] else part.Expr e ∷ []) ++ expr_ids ids.items
 expr_work f node = expr_parts node
 
 abbrev pub outer_work : StmtNode → List Part
 outer_work (stmt.While e body) = part.Expr e ∷ []
 outer_work (stmt.DoWhile e body) = part.Expr e ∷ []
-outer_work (stmt.For first test next body) = init_parts first ++ (map part.Expr (option_to_list test) ++ map part.Expr next.items)
+outer_work (stmt.For first test next body) = init_parts first ++ (option_ids test ++ expr_ids next.items)
 outer_work (stmt.ForIn declared name e body) = part.Expr e ∷ []
-outer_work (stmt.Switch e clauses) = part.Expr e ∷ tests_parts clauses.items
-outer_work (stmt.Try body caught last) = map part.Stmt body.items ++ block_parts last
+outer_work (stmt.Switch e clauses) = part.Expr e ∷ test_ids clauses.items
+outer_work (stmt.Try body caught last) = stmt_ids body.items ++ block_parts last
 outer_work node = stmt_parts node
 
 abbrev pub inner_work : StmtNode → List Part
-inner_work (stmt.While e body) = map part.Stmt body.items
-inner_work (stmt.DoWhile e body) = map part.Stmt body.items
-inner_work (stmt.For first test next body) = map part.Stmt body.items
-inner_work (stmt.ForIn declared name e body) = map part.Stmt body.items
-inner_work (stmt.Switch e clauses) = bodies_parts clauses.items
+inner_work (stmt.While e body) = stmt_ids body.items
+inner_work (stmt.DoWhile e body) = stmt_ids body.items
+inner_work (stmt.For first test next body) = stmt_ids body.items
+inner_work (stmt.ForIn declared name e body) = stmt_ids body.items
+inner_work (stmt.Switch e clauses) = body_ids clauses.items
 inner_work (stmt.Try body caught last) = catch_parts caught
 inner_work _ = []
 
@@ -116,4 +137,10 @@ body_work f [] = []
 body_work f (id ∷ ids) = if is_directive (stmt_at f id) then ids else id ∷ ids
 
 abbrev pub fun_work : Forest → FunNode → List Part
-fun_work f node = map part.Fun node.funs.items ++ map part.Stmt (body_work f node.body.items)
+fun_work f node = fun_ids node.funs.items ++ stmt_ids (body_work f node.body.items)
+
+-- in one of the trees
+pub record AnyFound (env : List Spot) (spots : List Spot) (rule place : ℕ) : Type 0 where
+  pub top : Spot
+  pub is_in : In top spots
+  pub found : Found env top rule place

@@ -1,9 +1,11 @@
 //! The rules that an accepted script keeps.
 #![tactic(auto)]
 
+mod binding;
 mod enclosing;
 mod forms;
 mod numbers;
+mod pushes;
 mod rows;
 mod scope;
 mod walk;
