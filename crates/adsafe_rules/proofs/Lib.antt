@@ -1,4 +1,4 @@
-pub mod Opening
+pub mod Open
 pub mod Placing
 pub mod Lists
 pub mod Rules
@@ -7,3 +7,5 @@ pub mod Hoisting
 pub mod Parting
 pub mod Stacking
 pub mod Visiting
+pub mod Openings
+pub mod Starting

@@ -20,7 +20,7 @@ use Rattle.adsafe_rules.specs.Rows.{Broken}
 use Rattle.adsafe_rules.specs.Enclosing.{IsCounted, IsKnown, AreKnown, AreJumps, IsEnclosing, env_of, jumps_of}
 use Rattle.adsafe_rules.specs.Walk.{Found, AnyFound, Left, Rises, at_depth, AreIn, IsGoing, load, Pushes, Opens}
 use Rattle.adsafe_rules.proofs.Lists.{append_nothing}
-use Rattle.adsafe_rules.proofs.Opening.{known_more, known_take, env_take, env_length, jumps_more, jumps_take}
+use Rattle.adsafe_rules.proofs.Open.{known_more, known_take, env_take, env_length, jumps_more, jumps_take}
 use Rattle.adsafe_rules.proofs.Sizes.{parts_less}
 use Rattle.adsafe_rules.proofs.Stacking.{all_in, take_less, length_take, take_front, rises_front, rises_last, level, rises_level, rises_both, trees_at, load_append}
 

@@ -6,6 +6,7 @@ pub mod Parts
 pub mod Binding
 pub mod Rows
 pub mod Program
+pub mod Openings
 pub mod Sets
 pub mod Hoisting
 pub mod Enclosing

@@ -46,24 +46,56 @@ abbrev pub is_adsafe_dot : List ℕ → Expr → Bool
 is_adsafe_dot word (ExprAt at names (Dot e x)) = is_name (codes "ADSAFE") e && bytes_eq x word
 is_adsafe_dot word _ = false
 
--- callee and arguments of a statement that is a call
-abbrev pub call_parts : Spot → List Spot
-call_parts (AStmt (StmtAt at names (Only (ExprAt q ns (Call e args))))) = AnExpr e ∷ exprs_spots args
-call_parts _ = []
+-- the call that the position of the text asks for, as an expression and as a statement
+abbrev pub is_opening_call : Scope → Expr → Bool
+is_opening_call scope (ExprAt at names (Call e args)) = is_adsafe_dot (opening_word scope) e && are_arguments scope (exprs_spots args)
+is_opening_call scope _ = false
 
--- they have the form that the position of the text asks for
-abbrev pub is_opening : Scope → List Spot → Bool
-is_opening scope (AnExpr e ∷ args) = is_adsafe_dot (opening_word scope) e && are_arguments scope args
+abbrev pub is_opening : Scope → Spot → Bool
+is_opening scope (AStmt (StmtAt at names (Only e))) = is_opening_call scope e
 is_opening scope _ = false
 
--- the name that is handed over, and the function
-abbrev pub opening_names : List Spot → List Named
-opening_names (e ∷ AnExpr a ∷ rest) = literal a
-opening_names _ = []
+-- the arguments of a statement that is a call
+abbrev pub call_arguments : Expr → List Spot
+call_arguments (ExprAt at names (Call e args)) = exprs_spots args
+call_arguments _ = []
 
-abbrev pub opening_functions : List Spot → List Spot
-opening_functions (e ∷ a ∷ AnExpr (ExprAt at names (Function g)) ∷ []) = AFun g ∷ []
-opening_functions _ = []
+abbrev pub arguments_of : Spot → List Spot
+arguments_of (AStmt (StmtAt at names (Only e))) = call_arguments e
+arguments_of _ = []
+
+-- the name that it hands over, and the function
+abbrev pub first_string : List Spot → List Named
+first_string (AnExpr a ∷ rest) = literal a
+first_string _ = []
+
+abbrev pub function_of : Expr → List Spot
+function_of (ExprAt at names (Function g)) = AFun g ∷ []
+function_of _ = []
+
+abbrev pub second_function : List Spot → List Spot
+second_function (a ∷ AnExpr e ∷ rest) = function_of e
+second_function _ = []
+
+abbrev pub opening_names : Spot → List Named
+opening_names s = first_string (arguments_of s)
+
+abbrev pub opening_functions : Spot → List Spot
+opening_functions s = second_function (arguments_of s)
+
+-- those of the first statement
+abbrev pub opened_names : List Spot → List Named
+opened_names [] = []
+opened_names (s ∷ rest) = opening_names s
+
+abbrev pub opened_functions : List Spot → List Spot
+opened_functions [] = []
+opened_functions (s ∷ rest) = opening_functions s
+
+-- the name that a library declares
+abbrev pub lib_names : Scope → List Spot → List Named
+lib_names scope.Lib spots = opened_names spots
+lib_names scope spots = []
 
 abbrev pub spot_place : Spot → ℕ
 spot_place (AStmt s) = stmt_place s
@@ -72,14 +104,14 @@ spot_place _ = 0
 -- A02 of the statements of a text: there is none; the first is not the call; there is a second; the call has a wrong name
 pub data Misopened (scope : Scope) : List Spot → ℕ → Type 0 where
   nothing : Misopened scope [] 0
-  first : {s : Spot} {rest : List Spot} → is_opening scope (call_parts s) ≡ false → Misopened scope (s ∷ rest) (spot_place s)
+  first : {s : Spot} {rest : List Spot} → is_opening scope s ≡ false → Misopened scope (s ∷ rest) (spot_place s)
   second : {s t : Spot} {rest : List Spot} → Misopened scope (s ∷ t ∷ rest) (spot_place t)
-  name : {s : Spot} {rest : List Spot} {x : Named} → is_opening scope (call_parts s) ≡ true → In x (opening_names (call_parts s)) → is_opening_name scope x.text ≡ false → Misopened scope (s ∷ rest) x.at
+  name : {s : Spot} {rest : List Spot} {x : Named} → is_opening scope s ≡ true → In x (opening_names s) → is_opening_name scope x.text ≡ false → Misopened scope (s ∷ rest) x.at
 
 -- Where the other rules begin: at the function of the call, and at each statement that is not the call. No rule but A02 speaks of the call itself: `ADSAFE` is a listed global, and A09 exempts it here.
 abbrev pub tops : Scope → List Spot → List Spot
 tops scope [] = []
-tops scope (s ∷ rest) = (if is_opening scope (call_parts s) then opening_functions (call_parts s) else s ∷ []) ++ rest
+tops scope (s ∷ rest) = (if is_opening scope s then opening_functions s else s ∷ []) ++ rest
 
 -- the text, at its position, breaks the rule at the place
 pub data Breaks (program : Stmts) (scope : Scope) : ℕ → ℕ → Type 0 where

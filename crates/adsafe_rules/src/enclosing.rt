@@ -78,7 +78,7 @@ impl Enclosing {
     }
 
     /// Opens a node.
-    #[tactic(auto, using(crate::proofs::Opening::occurs_more))]
+    #[tactic(auto, using(crate::proofs::Open::occurs_more))]
     pub fn enter(&mut self, opener: Part, names: Vec<Text>, jumps: Jumps) -> Result<(), Memory>
         requires { IsCounted self.old }
         ensures opened { OnOk result (self.new.stack.items ≡ self.old.stack.items ++ record { opener = opener; names = names; jumps = jumps } ∷ []) }
@@ -105,7 +105,7 @@ impl Enclosing {
     }
 
     /// Leaves the innermost node.
-    #[tactic(auto, using(crate::proofs::Opening::occurs_more))]
+    #[tactic(auto, using(crate::proofs::Open::occurs_more))]
     fn leave(&mut self)
         requires { IsCounted self.old }
         ensures left { self.new.stack.items ≡ take (vec_len self.old.stack - 1) self.old.stack.items }

@@ -125,7 +125,7 @@ fn key_names(list: &[(Text, ExprId)], places: &[usize], at: usize, best: Option<
 }
 
 /// A string literal.
-fn literal(tree: &Tree, id: ExprId) -> Option<&Text>
+pub fn literal(tree: &Tree, id: ExprId) -> Option<&Text>
     requires { IsExpr (trees tree.now) id }
     ensures { let e = expr_at (trees tree.now) id in MatchOption result (literal e ≡ []) (λ t. literal e ≡ named t.now (expr_place e) ∷ []) }
 {

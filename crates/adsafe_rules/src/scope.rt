@@ -1,5 +1,6 @@
-//! The position of a text.
-use code_units::Text;
+//! Where a text stands, and what a check answers.
+use code_units::{Memory, Text};
+use js_tree::{FunId, Tree};
 
 /// Where a text stands: the first script of a slot, a library, or the last script of a slot, with the slot's name.
 #[derive(Drop)]
@@ -7,4 +8,19 @@ pub enum Scope {
     Id(Text),
     Lib,
     Go(Text),
+}
+
+/// Why a tree is not accepted.
+#[derive(Clone, Copy, PartialEq, Eq, Debug, Drop)]
+pub enum CheckFault {
+    /// The first broken rule, from 2 to 19, and its place.
+    Broken { rule: u8, at: usize },
+    /// There was no memory to judge it.
+    Memory,
+}
+
+impl From<Memory> for CheckFault {
+    fn from(_: Memory) -> CheckFault {
+        CheckFault::Memory
+    }
 }

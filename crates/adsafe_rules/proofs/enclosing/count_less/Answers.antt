@@ -2,7 +2,7 @@ use Rattle.std.proofs.Common.{◌≡◌, ◌<◌, ◌+◌, ℕ, List, length, ar
 use Rattle.std.specs.Str.{bytes_eq}
 use Rattle.std.specs.HashMap.{get}
 use Rattle.std.proofs.lemmas.List.{take_all}
-use Rattle.adsafe_rules.proofs.Opening.{less_room, less_step}
+use Rattle.adsafe_rules.proofs.Open.{less_room, less_step}
 use Rattle.adsafe_rules.proofs.enclosing.count_less.Goals as goal
 
 pub uncount-requires : goal.uncount-requires

@@ -1,5 +1,5 @@
 use Rattle.std.proofs.Common.{◌↔◌, IsTrue}
-use Rattle.adsafe_rules.proofs.Opening.{bound_iff}
+use Rattle.adsafe_rules.proofs.Open.{bound_iff}
 use Rattle.adsafe_rules.proofs.enclosing.Enclosing.binds.Goals as goal
 
 pub returns : goal.returns

@@ -1,6 +1,6 @@
 use Rattle.std.proofs.Common.{◌≡◌, suc, ◌-◌, length, arith}
 use Rattle.adsafe_rules.specs.Binding.{no_jumps}
-use Rattle.adsafe_rules.proofs.Opening.{jumps_last}
+use Rattle.adsafe_rules.proofs.Open.{jumps_last}
 use Rattle.adsafe_rules.proofs.enclosing.Enclosing.jumps.Goals as goal
 
 pub returns : goal.returns

@@ -1,6 +1,6 @@
 use Rattle.std.proofs.Common.{◌≡◌, ◌+◌, ap, ◌∙◌, arith, sym}
 use Rattle.adsafe_rules.specs.Enclosing.{occurs}
-use Rattle.adsafe_rules.proofs.Opening.{occurs_more}
+use Rattle.adsafe_rules.proofs.Open.{occurs_more}
 use Rattle.adsafe_rules.proofs.enclosing.Enclosing.leave.Goals as goal
 
 pub count_less-requires : goal.count_less-requires
