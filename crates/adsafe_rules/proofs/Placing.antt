@@ -55,8 +55,8 @@ pub placed_first : (Row : Named → ℕ → ℕ → Type 0) (a b c : Option Brea
 placed_first Row a b c at places rest xs x place e d s t =
     subst (λ l. Narrows (Each Row l) a Nothing c) (sym (first_placed at places x xs))
     (each_both Row (named x (slice_index_or places 0 at) ∷ []) (placed at (drop 1 places) xs) a b c
-      (each_one Row (named x (slice_index_or places 0 at)) a b (subst (λ p. Narrows (Row (named x p)) a Nothing b) e s))
-      (subst (λ l. Narrows (Each Row (placed at l xs)) b Nothing c) d t))
+    (each_one Row (named x (slice_index_or places 0 at)) a b (subst (λ p. Narrows (Row (named x p)) a Nothing b) e s))
+    (subst (λ l. Narrows (Each Row (placed at l xs)) b Nothing c) d t))
 
 pub placed_one : (Row : Named → ℕ → ℕ → Type 0) (a b : Option Breach) (at : ℕ) (places x : List ℕ) (place : ℕ) → place ≡ slice_index_or places 0 at → Narrows (Row (named x place)) a Nothing b → Narrows (Each Row (placed at places (x ∷ []))) a Nothing b
 placed_one Row a b at places x place e s = placed_first Row a b b at places (drop 1 places) [] x place e refl s (each_none Row b)

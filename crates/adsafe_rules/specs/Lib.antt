@@ -11,3 +11,4 @@ pub mod Sets
 pub mod Hoisting
 pub mod Enclosing
 pub mod Walk
+pub mod Accepting

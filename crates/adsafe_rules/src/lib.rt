@@ -1,10 +1,11 @@
 //! The rules that an accepted script keeps.
 #![tactic(auto)]
 
+mod accepted;
 mod binding;
-mod check;
 mod enclosing;
 mod forms;
+mod judge;
 mod numbers;
 mod opening;
 mod pushes;
@@ -13,4 +14,6 @@ mod scope;
 mod walk;
 mod words;
 
+pub use accepted::Accepted;
+pub use judge::check;
 pub use scope::{CheckFault, Scope};

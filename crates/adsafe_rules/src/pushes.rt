@@ -139,7 +139,12 @@ fn is_directive(tree: &Tree, id: StmtId) -> bool
 }
 
 /// Puts the parts of an expression on the stack.
-pub fn push_expr_parts(work: &mut Vec<Work>, tree: &Tree, node: &Expr, depth: usize) -> Result<(), Memory>
+pub fn push_expr_parts(
+    work: &mut Vec<Work>,
+    tree: &Tree,
+    node: &Expr,
+    depth: usize,
+) -> Result<(), Memory>
     requires { AreExprParts (trees tree.now) node.now }
     ensures { OnOk result (work.new.items ≡ work.old.items ++ map (at_depth depth) (expr_work (trees tree.now) node.now)) }
 {
@@ -243,7 +248,12 @@ fn body_work<'a>(tree: &Tree, body: &'a [StmtId]) -> &'a [StmtId]
 }
 
 /// Puts the parts of a function on the stack.
-pub fn push_fun_parts(work: &mut Vec<Work>, tree: &Tree, node: &Fun, depth: usize) -> Result<(), Memory>
+pub fn push_fun_parts(
+    work: &mut Vec<Work>,
+    tree: &Tree,
+    node: &Fun,
+    depth: usize,
+) -> Result<(), Memory>
     requires { AreFunParts (trees tree.now) node.now }
     ensures { OnOk result (work.new.items ≡ work.old.items ++ map (at_depth depth) (fun_work (trees tree.now) node.now)) }
 {

@@ -114,7 +114,12 @@ fn bound_decls(list: &[Decl], best: Option<Breach>) -> Option<Breach>
 }
 
 /// The keys of an object literal.
-fn key_names(list: &[(Text, ExprId)], places: &[usize], at: usize, best: Option<Breach>) -> Option<Breach>
+fn key_names(
+    list: &[(Text, ExprId)],
+    places: &[usize],
+    at: usize,
+    best: Option<Breach>,
+) -> Option<Breach>
     ensures { Narrows (Each PropertyRow (placed at places.now (map (λ p. p.0) list.now))) best Nothing result }
 {
     let mut least = best;
@@ -228,7 +233,13 @@ fn used_name(node: &Expr, at: usize, enclosing: &Enclosing, best: Option<Breach>
 
 // The names of properties in an expression: A03 and A05.
 #[tactic(auto, using(first_breach::proofs::Narrowing::each_none, first_breach::proofs::Narrowing::each_one))]
-fn property_rules(tree: &Tree, node: &Expr, at: usize, places: &[usize], best: Option<Breach>) -> Option<Breach>
+fn property_rules(
+    tree: &Tree,
+    node: &Expr,
+    at: usize,
+    places: &[usize],
+    best: Option<Breach>,
+) -> Option<Breach>
     requires { AreExprParts (trees tree.now) node.now }
     ensures { Narrows (Each PropertyRow (properties (AnExpr (ExprAt at places.now (plain_form (trees tree.now) node.now))))) best Nothing result }
 {
@@ -252,7 +263,13 @@ fn random(name: &Text, at: usize, best: Option<Breach>) -> Option<Breach>
 
 // A10.
 #[tactic(auto, using(first_breach::proofs::Narrowing::each_none, first_breach::proofs::Narrowing::each_one, first_breach::proofs::Narrowing::narrows_if, first_breach::proofs::Narrowing::narrows_if_not))]
-fn random_rule(tree: &Tree, node: &Expr, at: usize, places: &[usize], best: Option<Breach>) -> Option<Breach>
+fn random_rule(
+    tree: &Tree,
+    node: &Expr,
+    at: usize,
+    places: &[usize],
+    best: Option<Breach>,
+) -> Option<Breach>
     requires { AreExprParts (trees tree.now) node.now }
     ensures { Narrows (If (is_of_math (plain_form (trees tree.now) node.now)) (Each RandomRow (properties (AnExpr (ExprAt at places.now (plain_form (trees tree.now) node.now)))))) best Nothing result }
 {
@@ -368,7 +385,13 @@ fn deleted(tree: &Tree, id: ExprId, best: Option<Breach>) -> Option<Breach>
 
 // The variable of a `for-in` without `var`: A03, A05 and A06.
 #[tactic(auto, using(first_breach::proofs::Narrowing::each_none, first_breach::proofs::Narrowing::each_one))]
-fn used_variable(node: &Stmt, at: usize, places: &[usize], enclosing: &Enclosing, best: Option<Breach>) -> Option<Breach>
+fn used_variable(
+    node: &Stmt,
+    at: usize,
+    places: &[usize],
+    enclosing: &Enclosing,
+    best: Option<Breach>,
+) -> Option<Breach>
     requires { IsCounted enclosing.now }
     ensures { (f : Forest) → AreKnown f enclosing.now.stack.items → Narrows (Each (UseRow (env_of f enclosing.now.stack.items)) (uses (AStmt (StmtAt at places.now (plain_stmt_form f node.now))))) best Nothing result }
 {
@@ -417,7 +440,12 @@ fn bound_variables(node: &Stmt, at: usize, places: &[usize], best: Option<Breach
 
 // The variable of a `for-in` without `var`: A08.
 #[tactic(auto, using(first_breach::proofs::Narrowing::each_none, first_breach::proofs::Narrowing::each_one))]
-fn written_loop_variable(node: &Stmt, at: usize, places: &[usize], best: Option<Breach>) -> Option<Breach>
+fn written_loop_variable(
+    node: &Stmt,
+    at: usize,
+    places: &[usize],
+    best: Option<Breach>,
+) -> Option<Breach>
     ensures { (f : Forest) → Narrows (Each TargetRow (targets (AStmt (StmtAt at places.now (plain_stmt_form f node.now))))) best Nothing result }
 {
     match node {
@@ -433,7 +461,12 @@ fn written_loop_variable(node: &Stmt, at: usize, places: &[usize], best: Option<
 }
 
 /// What an expression itself breaks.
-pub fn expr_rules(tree: &Tree, id: ExprId, enclosing: &Enclosing, best: Option<Breach>) -> Option<Breach>
+pub fn expr_rules(
+    tree: &Tree,
+    id: ExprId,
+    enclosing: &Enclosing,
+    best: Option<Breach>,
+) -> Option<Breach>
     requires inside { IsExpr (trees tree.now) id }
     requires enclosing { IsEnclosing (trees tree.now) enclosing.now }
     ensures { Narrows (Broken (env_of (trees tree.now) enclosing.now.stack.items) (AnExpr (expr_at (trees tree.now) id))) best Nothing result }
@@ -451,7 +484,12 @@ pub fn expr_rules(tree: &Tree, id: ExprId, enclosing: &Enclosing, best: Option<B
 }
 
 /// What a statement itself breaks.
-pub fn stmt_rules(tree: &Tree, id: StmtId, enclosing: &Enclosing, best: Option<Breach>) -> Option<Breach>
+pub fn stmt_rules(
+    tree: &Tree,
+    id: StmtId,
+    enclosing: &Enclosing,
+    best: Option<Breach>,
+) -> Option<Breach>
     requires inside { IsStmt (trees tree.now) id }
     requires enclosing { IsEnclosing (trees tree.now) enclosing.now }
     ensures { Narrows (Broken (env_of (trees tree.now) enclosing.now.stack.items) (AStmt (stmt_at (trees tree.now) id))) best Nothing result }

@@ -1,6 +1,5 @@
 //! Where a text stands, and what a check answers.
-use code_units::{Memory, Text};
-use js_tree::{FunId, Tree};
+use code_units::Text;
 
 /// Where a text stands: the first script of a slot, a library, or the last script of a slot, with the slot's name.
 #[derive(Drop)]
@@ -17,10 +16,4 @@ pub enum CheckFault {
     Broken { rule: u8, at: usize },
     /// There was no memory to judge it.
     Memory,
-}
-
-impl From<Memory> for CheckFault {
-    fn from(_: Memory) -> CheckFault {
-        CheckFault::Memory
-    }
 }

@@ -17,4 +17,4 @@ returns c = λ q.
     let e : c.add_funs.new.names.items ≡ option_to_list node.name ++ (node.params.items ++ fun_texts f node.funs.items) = three_added _ _ _ _ _ c.new-names.ensures.items c.in_ok-add_option.ensures c.in_ok-add_all.ensures c.in_ok-add_funs.ensures c.deref.ensures.value (ap (fun_texts f) c.deref-2.ensures.value) in
     subst (λ g. In q c.hoist.new.names.items ↔ Binds (AFun g) q) c.fun-node.ensures.same
     (fun_binds f node (fun_names (fun_at f c.args.id)) q c.add_funs.new.names.items c.hoist.new.names.items e
-      (subst (λ l. In q c.hoist.new.names.items ↔ (In q c.add_funs.new.names.items ⊎ AnyDeclares f l q)) c.deref-3.ensures.value (c.in_ok-hoist.ensures q)))
+    (subst (λ l. In q c.hoist.new.names.items ↔ (In q c.add_funs.new.names.items ⊎ AnyDeclares f l q)) c.deref-3.ensures.value (c.in_ok-hoist.ensures q)))

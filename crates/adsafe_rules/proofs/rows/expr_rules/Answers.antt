@@ -21,6 +21,6 @@ returns c =
     let same : ExprAt at names form ≡ expr_at f c.args.id = ap (λ p. ExprAt p names form) c.expr_at-at.ensures ∙ ap (λ l. ExprAt (expr_place (expr_at f c.args.id)) l form) c.expr_names-places.ensures ∙ c.expr-node.ensures.same in
     subst (λ e. Narrows (Broken env (AnExpr e)) c.args.best Nothing c.wrong_target_rule.result) same
     (expr_rows env at names form _ _
-      (narrows_both (c.form_rules-best.ensures f) (narrows_both (c.used_name-best.ensures f names c.requires.enclosing.known)
-      (narrows_both c.property_rules-best.ensures (narrows_both c.random_rule-best.ensures
-      (narrows_both (c.target_rule-best.ensures at names) (narrows_both c.subscript_rule-best.ensures c.wrong_target_rule.ensures)))))))
+    (narrows_both (c.form_rules-best.ensures f) (narrows_both (c.used_name-best.ensures f names c.requires.enclosing.known)
+    (narrows_both c.property_rules-best.ensures (narrows_both c.random_rule-best.ensures
+    (narrows_both (c.target_rule-best.ensures at names) (narrows_both c.subscript_rule-best.ensures c.wrong_target_rule.ensures)))))))

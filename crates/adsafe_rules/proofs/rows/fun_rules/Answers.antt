@@ -23,7 +23,7 @@ returns-in-Some c = λ env.
     let same : g ≡ fun_at f c.args.id = ap (λ o. FunAt node.at names o params (stmts_at f node.body.items) (funs_at f node.funs.items)) (sym c.in-Some.is) ∙ ap (plain_fun f node) c.fun_names-places.ensures ∙ c.fun-node.ensures.same in
     subst (λ h. Narrows (Broken env (AFun h)) c.args.best Nothing c.bound_names.result) same
     (fun_rows env g _ _ (placed_first BinderRow _ _ _ node.at names c.after_first.result.now params c.in-Some.name c.place_at.result c.place_at.ensures c.after_first.ensures c.bound-best.ensures
-      (subst (λ l. Narrows (Each BinderRow (placed node.at c.after_first.result.now l)) c.bound-best.result Nothing c.bound_names.result) c.deref.ensures.value c.bound_names.ensures)))
+    (subst (λ l. Narrows (Each BinderRow (placed node.at c.after_first.result.now l)) c.bound-best.result Nothing c.bound_names.result) c.deref.ensures.value c.bound_names.ensures)))
 
 pub returns-in-None : goal.returns-in-None
 returns-in-None c = λ env.

@@ -25,6 +25,6 @@ returns c =
     let stray : c.is_stray.result ≡ is_stray (jumps_from no_jumps env) form = c.is_stray.ensures f ∙ ap (λ j. is_stray j form) (c.jumps.ensures ∙ jumps_are f no_jumps os c.requires.enclosing.jumps) in
     subst (λ s. Narrows (Broken env (AStmt s)) c.args.best Nothing c.written_loop_variable.result) same
     (stmt_rows env at names form _ _
-      (narrows_both (narrows_along (c.is_with.ensures f) c.offer-best.ensures) (narrows_both (narrows_along stray c.offer-best-2.ensures)
-      (narrows_both (narrows_along c.is_idle.ensures c.offer-best-3.ensures) (narrows_both (c.used_variable-best.ensures f c.requires.enclosing.known)
-      (narrows_both (c.bound_variables-best.ensures f) (c.written_loop_variable.ensures f)))))))
+    (narrows_both (narrows_along (c.is_with.ensures f) c.offer-best.ensures) (narrows_both (narrows_along stray c.offer-best-2.ensures)
+    (narrows_both (narrows_along c.is_idle.ensures c.offer-best-3.ensures) (narrows_both (c.used_variable-best.ensures f c.requires.enclosing.known)
+    (narrows_both (c.bound_variables-best.ensures f) (c.written_loop_variable.ensures f)))))))

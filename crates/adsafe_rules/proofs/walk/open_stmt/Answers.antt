@@ -31,9 +31,9 @@ returns c =
     let same : plain_stmt f node (stmt_place s) (stmt_names s) ≡ s = c.stmt-node.ensures.same in
     let e : inner (AStmt s) ≡ map (spot_at f) (inner_work node) = ap (λ x. inner (AStmt x)) (sym same) ∙ inner_plain f node in
     let jumps : c.stmt_jumps-jumps.result ≡ jumps_in (jumps_of no_jumps c.args.enclosing.now.stack.items) (AStmt s) =
-        c.stmt_jumps-jumps.ensures f ∙ ap (λ j. jumps_in j (AStmt (plain_stmt f node (stmt_place s) (stmt_names s)))) c.jumps.ensures ∙ ap (λ x. jumps_in (jumps_of no_jumps c.args.enclosing.now.stack.items) (AStmt x)) same in
+    c.stmt_jumps-jumps.ensures f ∙ ap (λ j. jumps_in j (AStmt (plain_stmt f node (stmt_place s) (stmt_names s)))) c.jumps.ensures ∙ ap (λ x. jumps_in (jumps_of no_jumps c.args.enclosing.now.stack.items) (AStmt x)) same in
     opens_some f c.args.depth (AStmt s) (record { opener = part.Stmt c.args.id; names = c.in_ok-names.names; jumps = c.stmt_jumps-jumps.result }) (inner_work node) c.args.enclosing.now c.enter.new.self _ _
     e (inner_in f node c.stmt-node.ensures.parts) c.in_ok-enter.ensures.opened refl
     (λ q. subst (λ x. In q c.in_ok-names.names.items ↔ Binds (AStmt x) q) same
-      (subst (λ l. In q l ↔ Binds (AStmt (plain_stmt f node (stmt_place s) (stmt_names s))) q) (sym c.in_ok-names.ensures) (stmt_binds f node (stmt_place s) (stmt_names s) q)))
+    (subst (λ l. In q l ↔ Binds (AStmt (plain_stmt f node (stmt_place s) (stmt_names s))) q) (sym c.in_ok-names.ensures) (stmt_binds f node (stmt_place s) (stmt_names s) q)))
     c.requires.depth c.requires.enclosing jumps c.in_ok-enter.ensures.counted c.in_ok-push_inner.ensures

@@ -4,7 +4,7 @@ use Rattle.first_breach.specs.Narrowing.{Narrows}
 use Rattle.adsafe_rules.specs.Program.{Breaks}
 use Rattle.adsafe_rules.specs.Enclosing.{env_of}
 use Rattle.adsafe_rules.specs.Walk.{IsGoing, Left, load}
-use Rattle.adsafe_rules.proofs.check.search.Given as goal
+use Rattle.adsafe_rules.proofs.judge.search.Given as goal
 
 abbrev pub invariant-walk : goal.invariant-walk
 invariant-walk l = record {

@@ -7,7 +7,7 @@ use Rattle.js_tree.specs.Trees.{trees}
 use Rattle.adsafe_rules.specs.Hoisting.{stmt_spot}
 use Rattle.adsafe_rules.specs.Openings.{SecondRow}
 use Rattle.adsafe_rules.proofs.Starting.{no_rest, rest_at, hit_narrows}
-use Rattle.adsafe_rules.proofs.check.second_rule.Goals as goal
+use Rattle.adsafe_rules.proofs.judge.second_rule.Goals as goal
 
 pub returns-then-list-lt2 : goal.returns-then-list-lt2
 returns-then-list-lt2 c =

@@ -6,7 +6,7 @@ use Rattle.adsafe_rules.specs.Hoisting.{stmt_spot}
 use Rattle.adsafe_rules.specs.Program.{tops}
 use Rattle.adsafe_rules.specs.Walk.{Pushes, at_depth, stmt_ids}
 use Rattle.adsafe_rules.proofs.Starting.{none_of, cut_is, all_rest, pushes_none, pushes_stmts, tops_open, tops_all}
-use Rattle.adsafe_rules.proofs.check.push_tops.Goals as goal
+use Rattle.adsafe_rules.proofs.judge.push_tops.Goals as goal
 
 pub returns-then-list-eq0 : goal.returns-then-list-eq0
 returns-then-list-eq0 c =
@@ -20,7 +20,7 @@ returns-in_ok-push_stmts c =
     let lt : 0 < length ids = omega (arith, c.if-list-eq0.false) in
     tops_open f c.args.scope.now ids _ lt _ _ _ (sym c.is_opening.ensures ∙ c.if-is_opening.true) c.in_ok-push_opening.ensures
     (pushes_stmts f _ _ _ (all_rest (IsStmt f) ids c.requires)
-      (c.in_ok-push_stmts.ensures ∙ ap (λ l. c.push_opening.new.work.items ++ map (at_depth 0) (stmt_ids l)) (cut_is ids)))
+    (c.in_ok-push_stmts.ensures ∙ ap (λ l. c.push_opening.new.work.items ++ map (at_depth 0) (stmt_ids l)) (cut_is ids)))
 
 pub returns-in_ok-push_stmts-2 : goal.returns-in_ok-push_stmts-2
 returns-in_ok-push_stmts-2 c =

@@ -8,15 +8,17 @@ ghost use Rattle.js_tree.specs.Forest.{IsExpr, IsStmt, IsFun, expr_at, stmt_at, 
 ghost use Rattle.js_tree.specs.Parts.{AStmt, AFun, stmts_spots};
 ghost use Rattle.adsafe_rules.specs.Names.{literal};
 ghost use Rattle.adsafe_rules.specs.Hoisting.{stmt_spot};
-ghost use Rattle.adsafe_rules.specs.Program.{is_opening, opening_names, opening_functions, opened_names, opened_functions, lib_names, tops, Breaks};
+ghost use Rattle.adsafe_rules.specs.Program.{is_opening, opening_names, opening_functions, opened_names, opened_functions, lib_names, tops, Breaks, IsClean};
 ghost use Rattle.adsafe_rules.specs.Openings.{NameRow, OpeningRows, SecondRow, ProgramRows};
 ghost use Rattle.adsafe_rules.specs.Walk.{Pushes};
+ghost use Rattle.adsafe_rules.specs.Accepting.{Accepts, IsFault};
 
+use crate::accepted::Accepted;
 use crate::enclosing::Enclosing;
 use crate::opening::{is_opening, is_opening_name, opening_function, opening_string};
 use crate::pushes::push_stmts;
 use crate::rows::literal;
-use crate::scope::Scope;
+use crate::scope::{CheckFault, Scope};
 use crate::walk::{Work, visit};
 use code_units::{Memory, Text};
 use first_breach::{Breach, offer};
@@ -86,7 +88,12 @@ fn program_rule(tree: &Tree, scope: &Scope, list: &[StmtId]) -> Option<Breach>
 }
 
 /// Puts what the other rules judge on the stack.
-fn push_tops(work: &mut Vec<Work>, tree: &Tree, scope: &Scope, list: &[StmtId]) -> Result<(), Memory>
+fn push_tops(
+    work: &mut Vec<Work>,
+    tree: &Tree,
+    scope: &Scope,
+    list: &[StmtId],
+) -> Result<(), Memory>
     requires { All (IsStmt (trees tree.now)) list.now }
     ensures { OnOk result (Pushes (trees tree.now) 0 (tops scope.now (map (stmt_spot (trees tree.now)) list.now)) work.old.items work.new.items) }
 {
@@ -181,4 +188,39 @@ fn first_function(tree: &Tree, list: &[StmtId]) -> Option<FunId>
         return None;
     }
     opening_function(tree, list[0])
+}
+
+/// What an accepted text holds.
+fn accept(tree: Tree, scope: &Scope) -> Result<Accepted, Memory>
+    requires { IsClean (program_of tree) scope.now }
+    ensures { IfOk result (Accepts tree scope.now) }
+{
+    let fun = first_function(&tree, tree.program());
+    let lib_name = lib_name_in(&tree, scope, tree.program())?;
+    Ok(Accepted {
+        tree,
+        fun,
+        lib_name,
+    })
+}
+
+/// Judges a tree at its position by the rules A02 to A19. A refused tree is dropped.
+///
+/// # Errors
+/// `Broken` exactly where the tree has a first broken rule, with its number and place.
+pub fn check(alloc: Global, tree: Tree, scope: &Scope) -> Result<Accepted, CheckFault>
+    ensures accepts { IfOk result (Accepts tree scope.now) }
+    ensures refuses { IfErr result (IsFault (program_of tree) scope.now) }
+{
+    match search(alloc, &tree, scope) {
+        Ok(None) => match accept(tree, scope) {
+            Ok(accepted) => Ok(accepted),
+            Err(_) => Err(CheckFault::Memory),
+        },
+        Ok(Some(b)) => Err(CheckFault::Broken {
+            rule: b.rule,
+            at: b.at,
+        }),
+        Err(_) => Err(CheckFault::Memory),
+    }
 }

@@ -12,7 +12,7 @@ use Rattle.adsafe_rules.specs.Walk.{Left, Pushes}
 use Rattle.adsafe_rules.proofs.Hoisting.{stmts_spots_at}
 use Rattle.adsafe_rules.proofs.Starting.{start_narrows}
 use Rattle.adsafe_rules.proofs.Visiting.{walk_going, walk_to, walk_from, walk_ends}
-use Rattle.adsafe_rules.proofs.check.search.Goals as goal
+use Rattle.adsafe_rules.proofs.judge.search.Goals as goal
 
 pub walk-init : goal.walk-init
 walk-init c =
@@ -23,12 +23,12 @@ walk-init c =
     let e = c.new-enclosing.result in
     let ws = c.push_tops.new.work.items in
     let pushes : Pushes f 0 (tops scope (stmts_spots program)) [] ws =
-        subst (λ l. Pushes f 0 l [] ws) (ap (tops scope) spots) (subst (λ l. Pushes f 0 (tops scope (map (stmt_spot f) c.program-list.result.now)) l ws) c.new-work.ensures.items c.in_ok-push_tops.ensures) in
+    subst (λ l. Pushes f 0 l [] ws) (ap (tops scope) spots) (subst (λ l. Pushes f 0 (tops scope (map (stmt_spot f) c.program-list.result.now)) l ws) c.new-work.ensures.items c.in_ok-push_tops.ensures) in
     record {
       going = walk_going f _ e ws pushes c.new-enclosing.ensures.none c.new-enclosing.ensures.counted;
       narrows = start_narrows program scope (Left f (env_of f e.stack.items) ws) c.program_rule-best.result
-        (walk_to f _ e ws pushes c.new-enclosing.ensures.none) (walk_from f _ e ws pushes c.new-enclosing.ensures.none)
-        (subst (λ l. Narrows (ProgramRows scope l) None Nothing c.program_rule-best.result) spots c.program_rule-best.ensures);
+          (walk_to f _ e ws pushes c.new-enclosing.ensures.none) (walk_from f _ e ws pushes c.new-enclosing.ensures.none)
+          (subst (λ l. Narrows (ProgramRows scope l) None Nothing c.program_rule-best.result) spots c.program_rule-best.ensures);
     }
 
 pub returns : goal.returns

@@ -1,7 +1,7 @@
 use Rattle.js_tree.specs.declared.nodes.Part.TheVariants as part
 use Rattle.std.proofs.Common.{◌∷◌, []}
 use Rattle.js_tree.specs.Trees.{trees}
-use Rattle.adsafe_rules.proofs.check.push_opening.Goals as goal
+use Rattle.adsafe_rules.proofs.judge.push_opening.Goals as goal
 
 pub returns-in_ok-push-in-Some : goal.returns-in_ok-push-in-Some
 returns-in_ok-push-in-Some c = record {

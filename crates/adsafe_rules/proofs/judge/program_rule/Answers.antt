@@ -7,7 +7,7 @@ use Rattle.js_tree.specs.Trees.{trees}
 use Rattle.adsafe_rules.specs.Hoisting.{stmt_spot}
 use Rattle.adsafe_rules.specs.Openings.{ProgramRows}
 use Rattle.adsafe_rules.proofs.Starting.{none_of, first_at, hit_narrows}
-use Rattle.adsafe_rules.proofs.check.program_rule.Goals as goal
+use Rattle.adsafe_rules.proofs.judge.program_rule.Goals as goal
 
 pub returns-then-list-eq0 : goal.returns-then-list-eq0
 returns-then-list-eq0 c =
