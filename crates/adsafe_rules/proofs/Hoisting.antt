@@ -1,7 +1,6 @@
 -- The names that statements declare.
-use Rattle.std.proofs.Common.{◌≡◌, ℕ, suc, ◌+◌, ◌<◌, ◌↔◌, List, [], ◌∷◌, ◌++◌, refl, sym, ap, ◌∙◌, subst, inl, inr, ◌⊎◌, arith, length, Bool, true, false, append_assoc, get_or}
+use Rattle.std.proofs.Common.{◌≡◌, ℕ, suc, ◌+◌, ◌<◌, ◌↔◌, List, [], ◌∷◌, ◌++◌, refl, sym, ap, ◌∙◌, subst, inl, inr, ◌⊎◌, arith, length, Bool, true, false, append_assoc}
 use Rattle.std.specs.Prelude.{map, All, Option, Some, None, option_to_list, if◌then◌else◌}
-use Rattle.std.specs.List.{flat_map}
 use Rattle.std.specs.declared.vec.Vec.{Vec}
 use Rattle.std.specs.declared.alloc.Global.{Global}
 use Rattle.js_tree.specs.declared.nodes.StmtId.{StmtId}
@@ -13,15 +12,15 @@ use Rattle.js_tree.specs.declared.nodes.Clause.{Clause}
 use Rattle.js_tree.specs.declared.nodes.Stmt.{Stmt as StmtNode}
 use Rattle.js_tree.specs.declared.nodes.Stmt.TheVariants as stmt
 use Rattle.js_tree.specs.declared.nodes.Fun.{Fun as FunNode}
-use Rattle.js_tree.specs.Plain.{Stmt, StmtAt, StmtForm, Stmts, NoStmts, AndStmt, Clauses, NoClauses, AndClause, Catch, CatchAs, Try, OptionalBlock, Fun, FunAt, Funs, NoFuns, AndFun, stmt_place, stmt_names, fun_names}
-use Rattle.js_tree.specs.Forest.{Forest, IsStmt, IsFun, stmt_at, fun_at, stmts_more, stmts_at, funs_more, funs_at, optional_at, init_at, clauses_more, clauses_at, catch_at, block_at, decls_at, plain_stmt_form, plain_stmt, plain_fun, AreStmtParts, AreClauseParts, AreCatch, AreBlock}
-use Rattle.js_tree.specs.Parts.{Spot, AnExpr, AStmt, AFun, stmts_spots, catch_spots, block_spots, spots_size, stmt_size}
-use Rattle.first_breach.specs.Lists.{In, here, later}
+use Rattle.js_tree.specs.Plain.{StmtAt, StmtForm, Stmts, NoStmts, AndStmt, Clauses, NoClauses, AndClause, CatchAs, Try, OptionalBlock, Funs, NoFuns, AndFun}
+use Rattle.js_tree.specs.Forest.{Forest, IsStmt, stmt_at, fun_at, stmts_more, stmts_at, funs_more, funs_at, optional_at, init_at, clauses_more, clauses_at, catch_at, block_at, decls_at, plain_stmt_form, plain_fun, AreStmtParts, AreClauseParts, AreCatch, AreBlock}
+use Rattle.js_tree.specs.Parts.{Spot, AStmt, AFun, stmts_spots, catch_spots, block_spots, spots_size, stmt_size}
+use Rattle.first_breach.specs.Lists.{In, here}
 use Rattle.first_breach.proofs.Members.{in_front, in_back, in_split, in_none, in_one, in_map, in_unmap, map_append}
-use Rattle.adsafe_rules.specs.Names.{Named, named, placed, declared_names, decl_name, first_names, variables}
+use Rattle.adsafe_rules.specs.Names.{Named, placed, declared_names, decl_name, first_names, variables}
 use Rattle.adsafe_rules.specs.Parts.{bodies}
 use Rattle.adsafe_rules.specs.Binding.{blocks, Declares, itself, block, own_name, function_names, Binds, own, parameter, hoisted, function, caught}
-use Rattle.adsafe_rules.specs.Hoisting.{stmt_spot, AnyDeclares, stmts_load, clause_bodies, catch_ids, last_ids, block_ids, decl_texts, init_texts, own_texts, fun_texts, caught_texts, bound_texts}
+use Rattle.adsafe_rules.specs.Hoisting.{stmt_spot, AnyDeclares, stmts_load, clause_bodies, catch_ids, last_ids, block_ids, decl_texts, init_texts, own_texts, fun_texts, bound_texts}
 use Rattle.adsafe_rules.proofs.Lists.{append_nothing, names_at}
 use Rattle.adsafe_rules.proofs.Sizes.{spots_append, blocks_less}
 

@@ -5,7 +5,7 @@ use Rattle.js_tree.specs.declared.nodes.ExprId.{ExprId}
 use Rattle.js_tree.specs.declared.nodes.Decl.{Decl}
 use Rattle.js_tree.specs.Plain.{Properties, NoProperties, AndProperty, Decls, NoDecls, AndDecl}
 use Rattle.js_tree.specs.Forest.{Forest, expr_at, optional_at, properties_more, properties_at, decls_more, decls_at}
-use Rattle.adsafe_rules.specs.Names.{named, keys, declared_names, decl_name}
+use Rattle.adsafe_rules.specs.Names.{keys, declared_names, decl_name}
 
 pub append_nothing : {A : Type 0} (xs : List A) → xs ++ [] ≡ xs
 append_nothing [] = refl

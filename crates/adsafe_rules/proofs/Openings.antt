@@ -1,6 +1,6 @@
 -- Lists of arguments by their length.
-use Rattle.std.proofs.Common.{◌≡◌, ℕ, suc, ◌<◌, ◌≤◌, List, [], ◌∷◌, refl, sym, ap, ◌∙◌, arith, length, get_or}
-use Rattle.std.proofs.Common.{false, subst}
+use Rattle.std.proofs.Common.{◌≡◌, ◌<◌, List, [], ◌∷◌, refl, sym, ap, ◌∙◌, arith, length, get_or}
+use Rattle.std.proofs.Common.{false}
 use Rattle.std.specs.Prelude.{slice_index_or, drop}
 use Rattle.js_tree.specs.declared.nodes.ExprId.{ExprId}
 use Rattle.js_tree.specs.Forest.{Forest, expr_at, exprs_at}

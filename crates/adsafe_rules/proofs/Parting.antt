@@ -1,7 +1,6 @@
 -- The parts of a node in the tree are those of its plain tree.
-use Rattle.std.proofs.Common.{◌≡◌, ℕ, zero, suc, ◌+◌, ◌<◌, List, [], ◌∷◌, ◌++◌, refl, sym, ap, ◌∙◌, subst, Bool, true, false, arith, append_assoc, append-nil}
-use Rattle.std.specs.Prelude.{map, All, Option, Some, None, option_to_list, if◌then◌else◌}
-use Rattle.std.specs.List.{flat_map}
+use Rattle.std.proofs.Common.{◌≡◌, ℕ, suc, List, [], ◌∷◌, ◌++◌, refl, sym, ap, ◌∙◌, Bool, true, false, arith, append_assoc}
+use Rattle.std.specs.Prelude.{map, All, Option, Some, None, if◌then◌else◌}
 use Rattle.std.specs.declared.vec.Vec.{Vec}
 use Rattle.std.specs.declared.alloc.Global.{Global}
 use Rattle.js_tree.specs.declared.nodes.ExprId.{ExprId}
@@ -18,16 +17,16 @@ use Rattle.js_tree.specs.declared.nodes.Stmt.TheVariants as stmt
 use Rattle.js_tree.specs.declared.nodes.Fun.{Fun as FunNode}
 use Rattle.js_tree.specs.declared.nodes.Part.{Part}
 use Rattle.js_tree.specs.declared.nodes.Part.TheVariants as part
-use Rattle.js_tree.specs.Plain.{Exprs, NoExprs, AndExpr, Properties, NoProperties, AndProperty, Decls, NoDecls, AndDecl, Clauses, NoClauses, AndClause, Stmts, Funs, NoFuns, AndFun, StmtAt}
-use Rattle.js_tree.specs.Forest.{Forest, IsExpr, IsStmt, IsFun, IsOptional, AreDecls, AreInit, AreClauseParts, AreCatch, AreBlock, AreExprParts, AreStmtParts, AreFunParts, expr_at, stmt_at, fun_at, exprs_more, exprs_at, stmts_at, funs_more, funs_at, optional_at, properties_more, properties_at, decls_more, decls_at, init_at, clauses_more, clauses_at, catch_at, block_at, plain_form, plain_stmt_form, plain_fun}
-use Rattle.js_tree.specs.Parts.{Spot, AnExpr, AStmt, AFun, spot_at, IsIn, decl_parts, init_parts, catch_parts, block_parts, expr_parts, stmt_parts, exprs_spots, stmts_spots, funs_spots, optional_spots, properties_spots, decls_spots, init_spots, catch_spots, block_spots}
+use Rattle.js_tree.specs.Plain.{Exprs, NoExprs, AndExpr, Properties, NoProperties, AndProperty, Decls, NoDecls, AndDecl, Clauses, NoClauses, AndClause, Funs, NoFuns, AndFun}
+use Rattle.js_tree.specs.Forest.{Forest, IsExpr, IsStmt, IsFun, IsOptional, AreDecls, AreInit, AreClauseParts, AreCatch, AreBlock, AreExprParts, AreStmtParts, AreFunParts, expr_at, stmt_at, fun_at, exprs_more, exprs_at, stmts_at, funs_more, funs_at, optional_at, properties_more, decls_more, decls_at, init_at, clauses_more, catch_at, block_at, plain_form, plain_stmt_form, plain_fun}
+use Rattle.js_tree.specs.Parts.{Spot, AnExpr, AFun, spot_at, init_parts, catch_parts, block_parts, exprs_spots, stmts_spots, funs_spots, optional_spots, properties_spots, decls_spots, init_spots, catch_spots, block_spots}
 use Rattle.first_breach.proofs.Members.{map_append}
 use Rattle.adsafe_rules.specs.Forms.{is_allowed_callee, is_directive}
 use Rattle.adsafe_rules.specs.Parts.{tests, bodies, after_directive, expr_parts_of, stmt_parts_outside, stmt_parts_inside, inner}
-use Rattle.adsafe_rules.specs.Hoisting.{stmt_spot, clause_bodies}
+use Rattle.adsafe_rules.specs.Hoisting.{stmt_spot}
 use Rattle.adsafe_rules.specs.Walk.{AreIn, expr_ids, stmt_ids, fun_ids, value_ids, option_ids, decl_ids, test_ids, body_ids, expr_work, outer_work, inner_work, body_work, fun_work}
 use Rattle.adsafe_rules.proofs.Lists.{append_nothing}
-use Rattle.adsafe_rules.proofs.Hoisting.{stmts_spots_at, bodies_at}
+use Rattle.adsafe_rules.proofs.Hoisting.{stmts_spots_at}
 
 -- lists of parts as lists of plain trees
 module _ (f : Forest) where

@@ -1,11 +1,11 @@
 -- The order and the weight of the stack, and what is open above it.
-use Rattle.std.proofs.Common.{◌≡◌, ℕ, zero, suc, ◌+◌, ◌<◌, ◌≤◌, List, [], ◌∷◌, ◌++◌, refl, sym, ap, ◌∙◌, subst, inl, inr, ◌⊎◌, arith, length, take, length-append}
+use Rattle.std.proofs.Common.{◌≡◌, ℕ, zero, suc, ◌+◌, ◌≤◌, List, [], ◌∷◌, ◌++◌, refl, ap, ◌∙◌, inl, inr, arith, length, take}
 use Rattle.std.specs.Prelude.{map}
 use Rattle.js_tree.specs.declared.nodes.Part.{Part}
 use Rattle.js_tree.specs.Forest.{Forest}
-use Rattle.js_tree.specs.Parts.{Spot, spot_at, IsIn, spots_size}
+use Rattle.js_tree.specs.Parts.{spot_at, IsIn, spots_size}
 use Rattle.first_breach.specs.Lists.{In, here, later}
-use Rattle.first_breach.proofs.Members.{in_front, in_back, in_split, in_none, in_one, in_map, in_unmap, map_append}
+use Rattle.first_breach.proofs.Members.{in_front, in_back, in_split, in_none, in_unmap, map_append}
 use Rattle.adsafe_rules.specs.declared.walk.Work.{Work}
 use Rattle.adsafe_rules.specs.Walk.{Rises, at_depth, AreIn, tree_of, load}
 use Rattle.adsafe_rules.proofs.Sizes.{spots_append}

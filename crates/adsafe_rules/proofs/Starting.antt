@@ -1,29 +1,22 @@
 -- What a text breaks: A02, and what is found where the other rules begin.
-use Rattle.std.proofs.Common.{◌≡◌, ℕ, zero, suc, ◌+◌, ◌-◌, ◌<◌, ◌≤◌, List, [], ◌∷◌, ◌++◌, refl, sym, ap, ◌∙◌, subst, inl, inr, ◌⊎◌, arith, append_assoc, length, get_or, take, drop, Option, Some, None, Bool, true, false}
+use Rattle.std.proofs.Common.{◌≡◌, ℕ, suc, ◌-◌, ◌<◌, List, [], ◌∷◌, ◌++◌, refl, sym, ap, ◌∙◌, subst, inl, inr, ◌⊎◌, arith, append_assoc, length, get_or, take, drop, Option, None, Bool, true, false}
 use Rattle.std.specs.Prelude.{map, All, not, if◌then◌else◌}
 use Rattle.std.proofs.lemmas.List.{take_all}
 use Rattle.js_tree.specs.declared.nodes.StmtId.{StmtId}
-use Rattle.js_tree.specs.declared.nodes.FunId.{FunId}
-use Rattle.js_tree.specs.declared.nodes.Part.{Part}
-use Rattle.js_tree.specs.declared.nodes.Part.TheVariants as part
 use Rattle.js_tree.specs.Plain.{Stmts}
-use Rattle.js_tree.specs.Forest.{Forest, IsStmt, IsFun, stmts_at, fun_at}
-use Rattle.js_tree.specs.Parts.{Spot, AFun, stmts_spots, spot_at}
+use Rattle.js_tree.specs.Forest.{Forest, IsStmt}
+use Rattle.js_tree.specs.Parts.{Spot, stmts_spots, spot_at}
 use Rattle.first_breach.specs.declared.Breach.{Breach}
-use Rattle.first_breach.specs.Lists.{In, here, later}
-use Rattle.first_breach.specs.Breaches.{Nothing, Either, One, If, Each}
+use Rattle.first_breach.specs.Breaches.{Nothing, One, If}
 use Rattle.first_breach.specs.Narrowing.{Narrows}
-use Rattle.first_breach.proofs.Members.{in_none, in_one, map_append}
-use Rattle.first_breach.proofs.Narrowing.{narrows_none, narrows_both, narrows_beside, narrows_as}
+use Rattle.first_breach.proofs.Members.{map_append}
+use Rattle.first_breach.proofs.Narrowing.{narrows_beside, narrows_as}
 use Rattle.adsafe_rules.specs.declared.scope.Scope.{Scope}
 use Rattle.adsafe_rules.specs.declared.walk.Work.{Work}
-use Rattle.adsafe_rules.specs.Names.{Named}
-use Rattle.adsafe_rules.specs.Parts.{Stands}
-use Rattle.adsafe_rules.specs.Rows.{Broken}
 use Rattle.adsafe_rules.specs.Hoisting.{stmt_spot}
-use Rattle.adsafe_rules.specs.Program.{is_opening, is_opening_name, opening_names, opening_functions, spot_place, Misopened, nothing, first, second, name, tops, Breaks, A02, within}
-use Rattle.adsafe_rules.specs.Openings.{NameRow, OpeningRows, SecondRow, ProgramRows}
-use Rattle.adsafe_rules.specs.Walk.{Found, AnyFound, AreIn, at_depth, Pushes, stmt_ids}
+use Rattle.adsafe_rules.specs.Program.{is_opening, is_opening_name, opening_functions, Misopened, nothing, first, second, name, tops, Breaks, A02, within}
+use Rattle.adsafe_rules.specs.Openings.{OpeningRows, SecondRow, ProgramRows}
+use Rattle.adsafe_rules.specs.Walk.{AnyFound, at_depth, Pushes, stmt_ids}
 use Rattle.adsafe_rules.proofs.Parting.{in_both, in_stmts}
 use Rattle.adsafe_rules.proofs.Lists.{append_nothing}
 

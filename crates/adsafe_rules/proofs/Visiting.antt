@@ -1,12 +1,12 @@
 -- One visit: what was to be found in the node is in what it breaks itself and in its parts.
-use Rattle.std.proofs.Common.{◌≡◌, ℕ, zero, suc, ◌+◌, ◌<◌, ◌≤◌, List, [], ◌∷◌, ◌++◌, refl, sym, ap, ◌∙◌, subst, inl, inr, ◌⊎◌, arith, length, take, Option, Some, None, Bool, true, false, length-append}
+use Rattle.std.proofs.Common.{◌≡◌, ℕ, suc, ◌+◌, ◌<◌, ◌≤◌, List, [], ◌∷◌, ◌++◌, refl, sym, ap, ◌∙◌, subst, inl, inr, ◌⊎◌, arith, length, take, Option, None, length-append}
 use Rattle.std.specs.Prelude.{map}
 use Rattle.std.proofs.lemmas.List.{take_all}
 use Rattle.js_tree.specs.declared.nodes.Part.{Part}
 use Rattle.js_tree.specs.Forest.{Forest}
 use Rattle.js_tree.specs.Parts.{Spot, spot_at, IsIn, spot_size, spots_size}
 use Rattle.first_breach.specs.declared.Breach.{Breach}
-use Rattle.first_breach.specs.Lists.{In, here, later}
+use Rattle.first_breach.specs.Lists.{In, here}
 use Rattle.first_breach.specs.Breaches.{Nothing}
 use Rattle.first_breach.specs.Narrowing.{Narrows}
 use Rattle.first_breach.proofs.Members.{in_front, in_back, in_split, in_none, in_one, in_map, in_unmap, map_append}

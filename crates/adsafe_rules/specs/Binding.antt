@@ -1,6 +1,6 @@
 -- What an enclosing node means for what stands in it: the names that it binds, and the jumps that it allows.
 use Rattle.std.specs.Prelude.{ℕ, Bool, true, false, List, [], ◌∷◌, ◌++◌, Option, Some, None, option_to_list, not}
-use Rattle.js_tree.specs.Plain.{ExprAt, Stmt, StmtAt, StmtForm, If, While, DoWhile, For, ForIn, Continue, Break, With, Switch, Try, Label, CatchAs, Catch, Clauses, OptionalBlock, Stmts, Fun, FunAt, Funs, NoFuns, AndFun}
+use Rattle.js_tree.specs.Plain.{StmtAt, StmtForm, If, While, DoWhile, For, ForIn, Continue, Break, With, Switch, Try, Label, CatchAs, OptionalBlock, Stmts, Fun, FunAt, Funs, NoFuns, AndFun}
 use Rattle.js_tree.specs.Parts.{Spot, AnExpr, AStmt, AFun, stmts_spots, catch_spots, block_spots}
 use Rattle.first_breach.specs.Lists.{In}
 use Rattle.adsafe_rules.specs.declared.enclosing.Jumps.{Jumps}

@@ -1,5 +1,5 @@
 -- What the code knows of the nodes that enclose.
-use Rattle.std.specs.Prelude.{Bool, ◌≡◌, ℕ, ◌+◌, ◌↔◌, List, [], ◌∷◌, ◌++◌, map, count_by, unwrap_or}
+use Rattle.std.specs.Prelude.{◌≡◌, ℕ, ◌+◌, ◌↔◌, List, [], ◌∷◌, map, count_by, unwrap_or}
 use Rattle.std.specs.Str.{bytes_eq}
 use Rattle.std.specs.HashMap as hash
 use Rattle.js_tree.specs.Forest.{Forest}

@@ -1,5 +1,5 @@
 -- What the rules ask of the form of one node and of its direct parts.
-use Rattle.std.specs.Prelude.{◌≡◌, ℕ, Bool, true, false, List, [], ◌∷◌, ◌&&◌, Option, Some, None, not, if◌then◌else◌, codes}
+use Rattle.std.specs.Prelude.{ℕ, Bool, true, false, List, [], ◌∷◌, ◌&&◌, not, if◌then◌else◌, codes}
 use Rattle.std.specs.Str.{bytes_eq}
 use Rattle.js_tree.specs.declared.nodes.Word.{Word}
 use Rattle.js_tree.specs.declared.nodes.Word.TheVariants as word

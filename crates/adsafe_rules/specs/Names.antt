@@ -1,6 +1,6 @@
 -- The names that stand in a node, each with its place.
-use Rattle.std.specs.Prelude.{ℕ, List, [], ◌∷◌, ◌++◌, Option, option_to_list, if◌then◌else◌}
-use Rattle.js_tree.specs.Plain.{Expr, ExprAt, ExprForm, Str, Name, Object, Dot, Sub, Step, Assign, Properties, NoProperties, AndProperty, Decls, NoDecls, AndDecl, ForInit, DeclsFirst, ExprsFirst, Stmt, StmtAt, StmtForm, Var, For, ForIn, Try, CatchAs, Fun, FunAt}
+use Rattle.std.specs.Prelude.{ℕ, List, [], ◌∷◌, ◌++◌, option_to_list, if◌then◌else◌}
+use Rattle.js_tree.specs.Plain.{Expr, ExprAt, Str, Name, Object, Dot, Sub, Step, Assign, Properties, NoProperties, AndProperty, Decls, NoDecls, AndDecl, ForInit, DeclsFirst, ExprsFirst, StmtAt, StmtForm, Var, For, ForIn, Try, CatchAs, FunAt}
 use Rattle.js_tree.specs.Parts.{Spot, AnExpr, AStmt, AFun}
 use Rattle.js_tree.specs.declared.nodes.Decl.{Decl}
 

@@ -1,6 +1,6 @@
 -- Where nodes stand: which parts a node encloses, and which nodes enclose one.
 use Rattle.std.specs.Prelude.{List, [], ◌∷◌, ◌++◌, if◌then◌else◌}
-use Rattle.js_tree.specs.Plain.{Expr, ExprAt, ExprForm, Call, Stmt, StmtAt, StmtForm, If, While, DoWhile, For, ForIn, Switch, Try, Fun, FunAt, OptionalExpr, Clauses, NoClauses, AndClause}
+use Rattle.js_tree.specs.Plain.{ExprAt, ExprForm, Call, StmtAt, StmtForm, While, DoWhile, For, ForIn, Switch, Try, FunAt, Clauses, NoClauses, AndClause}
 use Rattle.js_tree.specs.Parts.{Spot, AnExpr, AStmt, AFun, exprs_spots, stmts_spots, funs_spots, optional_spots, init_spots, catch_spots, block_spots, form_spots, stmt_form_spots}
 use Rattle.first_breach.specs.Lists.{In}
 use Rattle.adsafe_rules.specs.Forms.{is_allowed_callee, is_directive}

@@ -1,7 +1,7 @@
 -- What a whole text breaks: A02, which asks for the one call, and the rows in the rest.
-use Rattle.std.specs.Prelude.{◌≡◌, ℕ, Bool, true, false, List, [], ◌∷◌, ◌++◌, length, Option, None, ◌&&◌, nat_le, if◌then◌else◌, codes}
+use Rattle.std.specs.Prelude.{◌≡◌, ℕ, Bool, true, false, List, [], ◌∷◌, ◌++◌, length, None, ◌&&◌, nat_le, if◌then◌else◌, codes}
 use Rattle.std.specs.Str.{bytes_eq}
-use Rattle.js_tree.specs.Plain.{Expr, ExprAt, Function, Dot, Call, Stmt, StmtAt, Only, Stmts, Fun, FunAt, stmt_place}
+use Rattle.js_tree.specs.Plain.{Expr, ExprAt, Function, Dot, Call, StmtAt, Only, Stmts, Fun, FunAt, stmt_place}
 use Rattle.js_tree.specs.Parts.{Spot, AnExpr, AStmt, AFun, exprs_spots, stmts_spots}
 use Rattle.first_breach.specs.Lists.{In}
 use Rattle.first_breach.specs.Breaches as breaches

@@ -1,9 +1,9 @@
 -- The rules A03 to A19, a row for each: what a node breaks, and where.
-use Rattle.std.specs.Prelude.{◌≡◌, ℕ, Bool, true, false, List, ◌++◌, codes}
+use Rattle.std.specs.Prelude.{◌≡◌, ℕ, true, false, List, ◌++◌, codes}
 use Rattle.std.specs.Str.{bytes_eq}
 use Rattle.code_units.specs.Permitted.{is_banned, is_barred}
 use Rattle.js_tree.specs.Plain.{ExprAt, ExprForm, StmtAt, StmtForm}
-use Rattle.js_tree.specs.Parts.{Spot, AnExpr, AStmt, AFun}
+use Rattle.js_tree.specs.Parts.{Spot, AnExpr, AStmt}
 use Rattle.first_breach.specs.Lists.{In}
 use Rattle.adsafe_rules.specs.Words.{is_global, is_reaching}
 use Rattle.adsafe_rules.specs.Names.{Named, uses, binders, properties, targets}

@@ -1,5 +1,5 @@
 -- The rows of a node as sets of breaches, one after the other, as the code meets them.
-use Rattle.std.specs.Prelude.{◌≡◌, ℕ, Bool, true, false, List, codes}
+use Rattle.std.specs.Prelude.{◌≡◌, ℕ, false, List, codes}
 use Rattle.std.specs.Str.{bytes_eq}
 use Rattle.code_units.specs.Permitted.{is_banned, is_barred}
 use Rattle.js_tree.specs.Plain.{ExprAt, ExprForm, StmtAt, StmtForm, Fun}

@@ -1,14 +1,10 @@
 -- What is still to be found, and where the walk goes.
-use Rattle.std.specs.Prelude.{◌≡◌, ℕ, suc, ◌+◌, ◌<◌, ◌≤◌, List, [], ◌∷◌, ◌++◌, map, length, take, Option, Some, None, option_to_list, if◌then◌else◌}
+use Rattle.std.specs.Prelude.{◌≡◌, ℕ, suc, ◌≤◌, List, [], ◌∷◌, ◌++◌, map, length, take, Option, option_to_list, if◌then◌else◌}
 use Rattle.std.specs.List.{flat_map}
-use Rattle.std.specs.declared.vec.Vec.{Vec}
-use Rattle.std.specs.declared.alloc.Global.{Global}
 use Rattle.js_tree.specs.declared.nodes.ExprId.{ExprId}
 use Rattle.js_tree.specs.declared.nodes.StmtId.{StmtId}
 use Rattle.js_tree.specs.declared.nodes.FunId.{FunId}
 use Rattle.js_tree.specs.declared.nodes.Decl.{Decl}
-use Rattle.js_tree.specs.declared.nodes.ForInit.{ForInit as InitNode}
-use Rattle.js_tree.specs.declared.nodes.ForInit.TheVariants as init
 use Rattle.js_tree.specs.declared.nodes.Clause.{Clause}
 use Rattle.js_tree.specs.declared.nodes.Expr.{Expr as ExprNode}
 use Rattle.js_tree.specs.declared.nodes.Expr.TheVariants as expr
@@ -23,7 +19,7 @@ use Rattle.first_breach.specs.Lists.{In}
 use Rattle.adsafe_rules.specs.declared.walk.Work.{Work}
 use Rattle.adsafe_rules.specs.declared.enclosing.Enclosing.{Enclosing}
 use Rattle.adsafe_rules.specs.Forms.{is_allowed_callee, is_directive}
-use Rattle.adsafe_rules.specs.Parts.{Stands, outer, inner}
+use Rattle.adsafe_rules.specs.Parts.{Stands, inner}
 use Rattle.adsafe_rules.specs.Rows.{Broken}
 use Rattle.adsafe_rules.specs.Enclosing.{IsEnclosing, env_of}
 

@@ -1,4 +1,4 @@
-use Rattle.std.proofs.Common.{◌≡◌, ◌↔◌, ◌++◌, ◌⊎◌, List, ℕ, arith, sym, subst, ap, ◌∙◌}
+use Rattle.std.proofs.Common.{◌≡◌, ◌↔◌, ◌++◌, ◌⊎◌, subst, ap}
 use Rattle.std.specs.Prelude.{option_to_list}
 use Rattle.js_tree.specs.Trees.{trees}
 use Rattle.js_tree.specs.Plain.{fun_names}

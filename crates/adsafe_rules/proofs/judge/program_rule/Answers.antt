@@ -1,4 +1,4 @@
-use Rattle.std.proofs.Common.{◌≡◌, ◌<◌, true, length, arith, None, refl, sym, subst, ap, ◌∙◌}
+use Rattle.std.proofs.Common.{◌<◌, length, arith, None, refl, sym, subst}
 use Rattle.std.specs.Prelude.{map}
 use Rattle.first_breach.specs.Breaches.{Nothing}
 use Rattle.first_breach.specs.Narrowing.{Narrows}

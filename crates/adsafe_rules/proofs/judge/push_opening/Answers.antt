@@ -1,6 +1,5 @@
 use Rattle.js_tree.specs.declared.nodes.Part.TheVariants as part
 use Rattle.std.proofs.Common.{◌∷◌, []}
-use Rattle.js_tree.specs.Trees.{trees}
 use Rattle.adsafe_rules.proofs.judge.push_opening.Goals as goal
 
 pub returns-in_ok-push-in-Some : goal.returns-in_ok-push-in-Some

@@ -1,8 +1,8 @@
-use Rattle.std.proofs.Common.{◌≡◌, ◌<◌, true, length, arith, sym, subst, ap, ◌∙◌}
+use Rattle.std.proofs.Common.{◌<◌, length, arith, sym, subst}
 use Rattle.std.specs.Prelude.{map}
-use Rattle.first_breach.specs.Breaches.{Nothing, One, If}
+use Rattle.first_breach.specs.Breaches.{Nothing}
 use Rattle.first_breach.specs.Narrowing.{Narrows}
-use Rattle.first_breach.proofs.Narrowing.{narrows_none, narrows_as}
+use Rattle.first_breach.proofs.Narrowing.{narrows_none}
 use Rattle.js_tree.specs.Trees.{trees}
 use Rattle.adsafe_rules.specs.Hoisting.{stmt_spot}
 use Rattle.adsafe_rules.specs.Openings.{SecondRow}

@@ -2,9 +2,8 @@ use Rattle.std.proofs.Common.{◌≡◌, ◌∙◌, sym, ap, arith, subst}
 use Rattle.std.specs.Prelude.{All}
 use Rattle.js_tree.specs.declared.nodes.Expr.TheVariants as expr
 use Rattle.js_tree.specs.Trees.{trees}
-use Rattle.js_tree.specs.Plain.{ExprAt, expr_place, expr_names}
-use Rattle.js_tree.specs.Forest.{IsExpr, AreExprParts, expr_at, plain_form, plain_expr}
-use Rattle.adsafe_rules.specs.Names.{literal}
+use Rattle.js_tree.specs.Plain.{expr_place, expr_names}
+use Rattle.js_tree.specs.Forest.{IsExpr, AreExprParts, expr_at, plain_expr}
 use Rattle.adsafe_rules.specs.Program.{first_string, call_arguments}
 use Rattle.adsafe_rules.proofs.Openings.{more_first}
 use Rattle.adsafe_rules.proofs.opening.first_argument.Goals as goal

@@ -2,8 +2,8 @@ use Rattle.std.proofs.Common.{◌≡◌, ◌∙◌, sym, ap, arith, subst}
 use Rattle.std.specs.Prelude.{All}
 use Rattle.js_tree.specs.declared.nodes.Expr.TheVariants as expr
 use Rattle.js_tree.specs.Trees.{trees}
-use Rattle.js_tree.specs.Plain.{ExprAt, expr_place, expr_names}
-use Rattle.js_tree.specs.Forest.{IsExpr, AreExprParts, expr_at, plain_form, plain_expr}
+use Rattle.js_tree.specs.Plain.{expr_place, expr_names}
+use Rattle.js_tree.specs.Forest.{IsExpr, AreExprParts, expr_at, plain_expr}
 use Rattle.adsafe_rules.specs.Program.{second_function, call_arguments}
 use Rattle.adsafe_rules.proofs.Openings.{more_second}
 use Rattle.adsafe_rules.proofs.opening.second_argument.Goals as goal

@@ -1,12 +1,10 @@
-use Rattle.std.proofs.Common.{◌≡◌, List, sym, subst, ◌∙◌, ap}
+use Rattle.std.proofs.Common.{◌≡◌, sym, subst, ◌∙◌, ap}
 use Rattle.std.specs.Prelude.{map}
 use Rattle.first_breach.specs.Breaches.{Nothing, Each}
 use Rattle.first_breach.specs.Narrowing.{Narrows}
-use Rattle.js_tree.specs.declared.nodes.Stmt.{Stmt}
 use Rattle.js_tree.specs.Plain.{StmtAt}
 use Rattle.js_tree.specs.Parts.{AStmt}
-use Rattle.js_tree.specs.Forest.{plain_stmt_form, decls_at, init_at}
-use Rattle.js_tree.specs.declared.nodes.Stmt.TheVariants as stmt
+use Rattle.js_tree.specs.Forest.{plain_stmt_form, decls_at}
 use Rattle.adsafe_rules.specs.Names.{binders, decl_name, declared_names}
 use Rattle.adsafe_rules.specs.Sets.{BinderRow}
 use Rattle.adsafe_rules.proofs.Lists.{names_at}

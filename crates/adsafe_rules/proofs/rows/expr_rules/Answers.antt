@@ -3,7 +3,7 @@ use Rattle.first_breach.specs.Breaches.{Nothing}
 use Rattle.first_breach.specs.Narrowing.{Narrows}
 use Rattle.first_breach.proofs.Narrowing.{narrows_both}
 use Rattle.js_tree.specs.Trees.{trees}
-use Rattle.js_tree.specs.Plain.{ExprAt, expr_place, expr_names}
+use Rattle.js_tree.specs.Plain.{ExprAt, expr_place}
 use Rattle.js_tree.specs.Parts.{AnExpr}
 use Rattle.js_tree.specs.Forest.{plain_form, expr_at}
 use Rattle.adsafe_rules.specs.Rows.{Broken}

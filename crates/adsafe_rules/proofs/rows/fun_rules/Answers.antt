@@ -1,12 +1,11 @@
-use Rattle.std.proofs.Common.{◌≡◌, ◌∷◌, [], subst, sym, ◌∙◌, ap, Some, None}
-use Rattle.std.specs.Prelude.{option_to_list}
+use Rattle.std.proofs.Common.{◌≡◌, subst, sym, ◌∙◌, ap, Some, None}
 use Rattle.first_breach.specs.Breaches.{Nothing, Each}
 use Rattle.first_breach.specs.Narrowing.{Narrows}
 use Rattle.js_tree.specs.Trees.{trees}
-use Rattle.js_tree.specs.Plain.{FunAt, fun_names}
+use Rattle.js_tree.specs.Plain.{FunAt}
 use Rattle.js_tree.specs.Parts.{AFun}
 use Rattle.js_tree.specs.Forest.{plain_fun, fun_at, stmts_at, funs_at}
-use Rattle.adsafe_rules.specs.Names.{binders, placed}
+use Rattle.adsafe_rules.specs.Names.{placed}
 use Rattle.adsafe_rules.specs.Rows.{Broken}
 use Rattle.adsafe_rules.specs.Sets.{BinderRow}
 use Rattle.adsafe_rules.proofs.Placing.{placed_first}

@@ -1,4 +1,4 @@
-use Rattle.std.proofs.Common.{◌<◌, length, arith, ◌∙◌}
+use Rattle.std.proofs.Common.{◌<◌, length, arith}
 use Rattle.std.specs.Prelude.{map}
 use Rattle.first_breach.specs.Breaches.{Nothing, Each}
 use Rattle.first_breach.specs.Narrowing.{Narrows}

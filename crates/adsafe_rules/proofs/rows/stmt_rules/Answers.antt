@@ -3,7 +3,7 @@ use Rattle.first_breach.specs.Breaches.{Nothing}
 use Rattle.first_breach.specs.Narrowing.{Narrows}
 use Rattle.first_breach.proofs.Narrowing.{narrows_both, narrows_along}
 use Rattle.js_tree.specs.Trees.{trees}
-use Rattle.js_tree.specs.Plain.{StmtAt, stmt_place, stmt_names}
+use Rattle.js_tree.specs.Plain.{StmtAt, stmt_place}
 use Rattle.js_tree.specs.Parts.{AStmt}
 use Rattle.js_tree.specs.Forest.{plain_stmt_form, stmt_at}
 use Rattle.adsafe_rules.specs.Binding.{is_stray, no_jumps, jumps_from}

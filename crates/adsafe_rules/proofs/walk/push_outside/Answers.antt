@@ -1,8 +1,8 @@
-use Rattle.std.proofs.Common.{◌≡◌, List, sym, subst, ap, ◌∙◌}
+use Rattle.std.proofs.Common.{◌≡◌, sym, subst, ap, ◌∙◌}
 use Rattle.std.specs.Prelude.{map}
 use Rattle.js_tree.specs.Trees.{trees}
 use Rattle.js_tree.specs.Forest.{expr_at, stmt_at}
-use Rattle.js_tree.specs.Parts.{Spot, AnExpr, AStmt, spot_at}
+use Rattle.js_tree.specs.Parts.{AnExpr, AStmt, spot_at}
 use Rattle.adsafe_rules.specs.Parts.{outer}
 use Rattle.adsafe_rules.specs.Walk.{Pushes, expr_work, outer_work}
 use Rattle.adsafe_rules.proofs.Parting.{expr_plain, outer_plain, expr_in, outer_in}

@@ -1,4 +1,4 @@
-use Rattle.std.proofs.Common.{◌≡◌, arith, true, subst, length}
+use Rattle.std.proofs.Common.{◌≡◌, arith, true, subst}
 use Rattle.std.specs.Str.{bytes_eq}
 use Rattle.code_units.proofs.Words.{same_units}
 use Rattle.adsafe_rules.proofs.words.is_word.Goals as goal

@@ -1,4 +1,3 @@
-use Rattle.std.proofs.Common.{◌↔◌, IsTrue}
 use Rattle.adsafe_rules.proofs.Open.{bound_iff}
 use Rattle.adsafe_rules.proofs.enclosing.Enclosing.binds.Goals as goal
 

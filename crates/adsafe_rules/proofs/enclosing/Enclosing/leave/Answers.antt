@@ -1,4 +1,4 @@
-use Rattle.std.proofs.Common.{◌≡◌, ◌+◌, ap, ◌∙◌, arith, sym}
+use Rattle.std.proofs.Common.{ap, arith}
 use Rattle.adsafe_rules.specs.Enclosing.{occurs}
 use Rattle.adsafe_rules.proofs.Open.{occurs_more}
 use Rattle.adsafe_rules.proofs.enclosing.Enclosing.leave.Goals as goal
