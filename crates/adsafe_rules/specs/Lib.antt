@@ -1,0 +1,14 @@
+pub mod Words
+pub mod Names
+pub mod Numbers
+pub mod Forms
+pub mod Parts
+pub mod Binding
+pub mod Rows
+pub mod Program
+pub mod Openings
+pub mod Sets
+pub mod Hoisting
+pub mod Enclosing
+pub mod Walk
+pub mod Accepting

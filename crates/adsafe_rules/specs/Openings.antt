@@ -1,0 +1,31 @@
+-- The arguments of a call, as the code lists them.
+use Rattle.std.specs.Prelude.{◌≡◌, ℕ, not, List, [], ◌∷◌, slice_index_or, drop}
+use Rattle.first_breach.specs.Breaches.{Nothing, Either, One, If, Each}
+use Rattle.js_tree.specs.Parts.{Spot}
+use Rattle.adsafe_rules.specs.declared.scope.Scope.{Scope}
+use Rattle.adsafe_rules.specs.Names.{Named}
+use Rattle.adsafe_rules.specs.Program.{is_opening_name, is_opening, opening_names, spot_place}
+use Rattle.js_tree.specs.declared.nodes.ExprId.{ExprId}
+use Rattle.adsafe_rules.specs.declared.opening.Arguments.{Arguments}
+use Rattle.adsafe_rules.specs.declared.opening.Arguments.TheVariants as arguments
+
+abbrev pub AreListed : Arguments → List ExprId → Type 0
+AreListed arguments.None ids = ids ≡ []
+AreListed (arguments.One a) ids = ids ≡ a ∷ []
+AreListed (arguments.Two a b) ids = ids ≡ a ∷ b ∷ []
+AreListed (arguments.More a b) ids = ids ≡ a ∷ b ∷ slice_index_or ids 2 a ∷ drop 3 ids
+
+-- A02 as sets of breaches
+abbrev pub NameRow : Scope → Named → ℕ → ℕ → Type 0
+NameRow scope x = If (not (is_opening_name scope x.text)) (One 2 x.at)
+
+abbrev pub OpeningRows : Scope → Spot → ℕ → ℕ → Type 0
+OpeningRows scope s = Either (If (not (is_opening scope s)) (One 2 (spot_place s))) (If (is_opening scope s) (Each (NameRow scope) (opening_names s)))
+
+abbrev pub SecondRow : List Spot → ℕ → ℕ → Type 0
+SecondRow [] = Nothing
+SecondRow (t ∷ rest) = One 2 (spot_place t)
+
+abbrev pub ProgramRows : Scope → List Spot → ℕ → ℕ → Type 0
+ProgramRows scope [] = One 2 0
+ProgramRows scope (s ∷ rest) = Either (OpeningRows scope s) (SecondRow rest)

@@ -1,0 +1,39 @@
+//! A tree that breaks no rule.
+ghost use Rattle.std.specs.Prelude.{◌≡◌, option_copied, IfSome};
+ghost use Rattle.js_tree.specs.Trees.{trees};
+ghost use Rattle.js_tree.specs.Forest.{IsFun};
+ghost use Rattle.adsafe_rules.specs.Accepting.{tree_of, fun_of, lib_name_of};
+
+use code_units::Text;
+use js_tree::{FunId, Tree};
+
+/// A tree that breaks no rule at its position. `check` alone makes one.
+#[derive(Drop)]
+pub struct Accepted {
+    pub(crate) tree: Tree,
+    pub(crate) fun: Option<FunId>,
+    pub(crate) lib_name: Option<Text>,
+}
+
+impl Accepted {
+    /// The tree.
+    pub fn tree(&self) -> &Tree
+        ensures { result.now ≡ tree_of self.now }
+    {
+        &self.tree
+    }
+
+    /// The function that the text hands over; none for an `id` script.
+    pub fn fun(&self) -> Option<FunId>
+        ensures { result ≡ fun_of self.now }
+    {
+        self.fun
+    }
+
+    /// The name of a library; none for a script.
+    pub fn lib_name(&self) -> Option<&Text>
+        ensures { option_copied result ≡ lib_name_of self.now }
+    {
+        self.lib_name.as_ref()
+    }
+}
