@@ -1,4 +1,3 @@
-<<<<<<< HEAD
 pub mod Cuts
 pub mod Forms
 pub mod Fractions
@@ -10,7 +9,4 @@ pub mod RoundTrip
 pub mod Signs
 pub mod Trims
 pub mod Utf8Laws
-=======
-pub mod PlacesMore
->>>>>>> 82df4801dd07febc32e25c2b9fb11469ca63e2ce
 pub mod Words

@@ -1,20 +1,12 @@
 -- The place after one more byte.
-<<<<<<< HEAD
 use Rattle.std.proofs.Common.{◌≡◌, ℕ, zero, suc, subst, inl, inr, ◌+◌, ◌-◌, ◌<◌, ◌≤◌, Bool, true, false, List, length, take, get_or, arith, ap, ◌∙◌, refl, sym}
-=======
-use Rattle.std.proofs.Common.{◌≡◌, ℕ, ◌+◌, ◌-◌, ◌<◌, Bool, true, false, List, length, take, get_or, arith, ap, ◌∙◌, refl}
->>>>>>> 82df4801dd07febc32e25c2b9fb11469ca63e2ce
 use Rattle.std.specs.Prelude.{not}
 use Rattle.std.specs.List.{suffix_len}
 use Rattle.std.proofs.lemmas.List.{length-drop}
 use Rattle.std.proofs.lemmas.List.Sums.{count_by_more_yes, count_by_more_no, suffix_len-le-length, suffix_len-take_yes, suffix_len-take_no}
-<<<<<<< HEAD
 use Rattle.std.proofs.lemmas.Bool.{cases_lt}
 use Rattle.code_units.specs.declared.place.Place.{Place}
 use Rattle.code_units.specs.Places.{is_line_feed, line_of, column_of, place_at, Precedes}
-=======
-use Rattle.code_units.specs.Places.{is_line_feed, line_of, column_of}
->>>>>>> 82df4801dd07febc32e25c2b9fb11469ca63e2ce
 
 abbrev pub no_line_feed : ℕ → Bool
 no_line_feed b = not (is_line_feed b)
@@ -54,7 +46,6 @@ pub column_more_no : (bytes : List ℕ) (i : ℕ) → i < length bytes → is_li
 column_more_no bytes i h e =
     let yes : no_line_feed (get_or bytes (i + 1 - 1) 0) ≡ true = ap no_line_feed (last bytes i) ∙ ap not e in
     omega (arith, column-suffix bytes i, column-suffix bytes (i + 1), before bytes i, suffix_len-take_yes no_line_feed bytes (i + 1) 0 (omega arith) (omega arith) yes)
-<<<<<<< HEAD
 
 after : (p q r : Place) → Precedes p q → Precedes q r → Precedes p r
 after p q r a b = elim a [
@@ -87,5 +78,3 @@ pub later_than : (bytes : List ℕ) (k n i line column : ℕ) → k < n → n �
 later_than bytes k n i line column less within end lines columns =
     let is : place_at bytes n ≡ record { line = line; column = column } = λ j. record { line = (ap (line_of bytes) (sym end) ∙ sym lines) j; column = (ap (column_of bytes) (sym end) ∙ sym columns) j } in
     subst (λ p. Precedes (place_at bytes k) p) is (later bytes k n less within)
-=======
->>>>>>> 82df4801dd07febc32e25c2b9fb11469ca63e2ce

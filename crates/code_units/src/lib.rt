@@ -2,7 +2,6 @@
 #![tactic(auto)]
 
 mod memory;
-<<<<<<< HEAD
 mod names;
 mod owner;
 mod permission;
@@ -21,15 +20,3 @@ pub use place::{Place, place_of};
 pub use text::Text;
 pub use utf8::{TextFault, from_utf8_bytes, push_utf8, utf8_fault};
 pub use whole::{WholeRead, read_whole, whole_text};
-=======
-mod permission;
-mod place;
-mod text;
-mod utf8;
-
-pub use memory::Memory;
-pub use permission::{is_banned, is_barred, permitted};
-pub use place::{Place, place_of};
-pub use text::Text;
-pub use utf8::{TextFault, utf8_fault};
->>>>>>> 82df4801dd07febc32e25c2b9fb11469ca63e2ce

@@ -8,11 +8,7 @@ use crate::text::Text;
 const LOW_LINE: u16 = 0x5F;
 
 // Whether the units are those of an ASCII word.
-<<<<<<< HEAD
 pub(crate) fn is_word(units: &[u16], word: &[u8]) -> bool
-=======
-fn is_word(units: &[u16], word: &[u8]) -> bool
->>>>>>> 82df4801dd07febc32e25c2b9fb11469ca63e2ce
     ensures { result ≡ bytes_eq units.now word.now }
 {
     if units.len() != word.len() {

@@ -1,11 +1,6 @@
 //! Places in a text of bytes, as reports give them.
-<<<<<<< HEAD
 ghost use Rattle.std.specs.Prelude.{◌≡◌, ℕ, ◌<◌, ◌≤◌, length};
 ghost use Rattle.code_units.specs.Places.{line_of, column_of, place_at, Precedes};
-=======
-ghost use Rattle.std.specs.Prelude.{◌≡◌, ◌<◌, ◌≤◌, length};
-ghost use Rattle.code_units.specs.Places.{line_of, column_of};
->>>>>>> 82df4801dd07febc32e25c2b9fb11469ca63e2ce
 
 /// A line and a column, both counted from 1; the column counts bytes.
 #[derive(Clone, Copy, PartialEq, Eq, Debug)]
@@ -21,10 +16,7 @@ pub fn place_of(bytes: &[u8], offset: usize) -> Place
     requires small { offset < 4294967295 }
     ensures line { result.line ≡ line_of bytes.now offset }
     ensures column { result.column ≡ column_of bytes.now offset }
-<<<<<<< HEAD
     ensures order { (k : ℕ) → k < offset → Precedes (place_at bytes.now k) result }
-=======
->>>>>>> 82df4801dd07febc32e25c2b9fb11469ca63e2ce
 {
     let mut line = 1;
     let mut column = 1;

@@ -1,5 +1,4 @@
 //! Texts from UTF-8 and back.
-<<<<<<< HEAD
 ghost use Rattle.std.specs.Prelude.{◌≡◌, ◌+◌, MatchOption, IfSome, unwrap_or, slice_index, IfOk, IfErr, OnOk, OnErr, ◌∷◌, ◌++◌, ◌<◌, ◌≤◌, length, take, drop, IsUtf8, encode_utf8};
 ghost use Rattle.std.specs.Vec.{vec_len};
 ghost use Rattle.std.specs.Char.Utf16.{utf16_lossy_chars, lone_unit_char, surrogate_pair_char};
@@ -7,11 +6,6 @@ ghost use Rattle.std.specs.Str.{IsValidUpTo};
 ghost use Rattle.std.specs.Char.Escape.{encode_utf16};
 ghost use Rattle.code_units.specs.declared.utf8.TextFault.TheVariants.{Memory as out_of_memory};
 ghost use Rattle.code_units.specs.Utf8.{units_of, utf8_of, IsSurrogatePair, IsTextFault};
-=======
-ghost use Rattle.std.specs.Prelude.{◌≡◌, MatchOption, IfOk, IfErr, OnOk, OnErr, ◌++◌, IsUtf8};
-ghost use Rattle.std.specs.Str.{IsValidUpTo};
-ghost use Rattle.code_units.specs.Utf8.{units_of, utf8_of, IsTextFault};
->>>>>>> 82df4801dd07febc32e25c2b9fb11469ca63e2ce
 
 use crate::memory::Memory;
 use crate::text::Text;
@@ -19,11 +13,7 @@ use std::alloc::{AllocError, Global};
 use thiserror::Error;
 
 /// Why bytes gave no text.
-<<<<<<< HEAD
 #[derive(Clone, Copy, PartialEq, Eq, Debug, Drop, Error)]
-=======
-#[derive(Debug, Drop, Error)]
->>>>>>> 82df4801dd07febc32e25c2b9fb11469ca63e2ce
 pub enum TextFault {
     /// The bytes are no UTF-8: the first byte of the first ill-formed sequence.
     #[error("no UTF-8 at byte {at}")]
@@ -32,19 +22,9 @@ pub enum TextFault {
     Memory,
 }
 
-<<<<<<< HEAD
 impl From<Memory> for TextFault {
     ghost from_gives = { λ _ e. e ≡ out_of_memory };
 
-=======
-impl From<AllocError> for TextFault {
-    fn from(_: AllocError) -> TextFault {
-        TextFault::Memory
-    }
-}
-
-impl From<Memory> for TextFault {
->>>>>>> 82df4801dd07febc32e25c2b9fb11469ca63e2ce
     fn from(_: Memory) -> TextFault {
         TextFault::Memory
     }
@@ -59,7 +39,6 @@ pub fn utf8_fault(bytes: &[u8]) -> Option<usize>
         Err(fault) => Some(fault.valid_up_to()),
     }
 }
-<<<<<<< HEAD
 
 // Appends the units of a text.
 fn push_units(units: &mut Vec<u16>, text: &str) -> Result<(), AllocError>
@@ -184,5 +163,3 @@ fn char_or_replacement(code: u32) -> char
 {
     char::from_u32(code).unwrap_or(char::REPLACEMENT_CHARACTER)
 }
-=======
->>>>>>> 82df4801dd07febc32e25c2b9fb11469ca63e2ce

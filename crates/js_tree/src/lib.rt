@@ -11,3 +11,6 @@ pub use nodes::{
     UnOp, Word,
 };
 pub use tree::Tree;
+
+#[cfg(test)]
+mod tests;

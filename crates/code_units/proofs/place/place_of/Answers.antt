@@ -1,10 +1,6 @@
 use Rattle.std.proofs.Common.{arith, ◌∙◌, sym, ◌<◌, length, eq-eqb, ne_eqb, length-take}
 use Rattle.std.proofs.lemmas.List.{get_or-take}
-<<<<<<< HEAD
 use Rattle.code_units.proofs.PlacesMore.{later_than, line_none, column_none, line_more_yes, line_more_no, column_more_yes, column_more_no}
-=======
-use Rattle.code_units.proofs.PlacesMore.{line_none, column_none, line_more_yes, line_more_no, column_more_yes, column_more_no}
->>>>>>> 82df4801dd07febc32e25c2b9fb11469ca63e2ce
 use Rattle.code_units.proofs.place.place_of.Goals as goal
 use Rattle.code_units.proofs.place.place_of.Goals.{then-byte-eq10, else-byte-eq10}
 
@@ -40,9 +36,6 @@ loop-byte-preserved c =
             column_small = omega arith;
           })
     ]
-<<<<<<< HEAD
 
 pub returns-clause-order : goal.returns-clause-order
 returns-clause-order c = λ k before. later_than c.args.bytes.now k c.args.offset c.loop-byte.byte-index _ _ before c.requires.within (omega (arith, length-take c.args.offset c.args.bytes.now)) c.loop-byte.invariant.line c.loop-byte.invariant.column
-=======
->>>>>>> 82df4801dd07febc32e25c2b9fb11469ca63e2ce
