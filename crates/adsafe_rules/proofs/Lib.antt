@@ -9,3 +9,5 @@ pub mod Stacking
 pub mod Visiting
 pub mod Openings
 pub mod Starting
+pub mod Judging
+pub mod Passing

@@ -16,7 +16,8 @@ use Rattle.adsafe_rules.specs.declared.walk.Work.{Work}
 use Rattle.adsafe_rules.specs.Hoisting.{stmt_spot}
 use Rattle.adsafe_rules.specs.Program.{is_opening, is_opening_name, opening_functions, Misopened, nothing, first, second, name, tops, Breaks, A02, within}
 use Rattle.adsafe_rules.specs.Openings.{OpeningRows, SecondRow, ProgramRows}
-use Rattle.adsafe_rules.specs.Walk.{AnyFound, at_depth, Pushes, stmt_ids}
+use Rattle.adsafe_rules.specs.Rows.{AnyFound}
+use Rattle.adsafe_rules.specs.Walk.{at_depth, Pushes, stmt_ids}
 use Rattle.adsafe_rules.proofs.Parting.{in_both, in_stmts}
 use Rattle.adsafe_rules.proofs.Lists.{append_nothing}
 
@@ -88,14 +89,14 @@ program_from scope spots r p h = subst (λ x. ProgramRows scope spots x p) (sym 
 -- the whole text
 breaks_split : {program : Stmts} {scope : Scope} {r p : ℕ} → Breaks program scope r p → ProgramRows scope (stmts_spots program) r p ⊎ AnyFound [] (tops scope (stmts_spots program)) r p
 breaks_split (A02 m) = inl (from_misopened m)
-breaks_split (within {top = top} {node = node} {around = around} i s b) = inr (record { top = top; is_in = i; found = record { around = around; node = node; stands = s; broken = b } })
+breaks_split (within h) = inr h
 
 module _ (program : Stmts) (scope : Scope) where
   opened_breaks : (r p : ℕ) → ProgramRows scope (stmts_spots program) r p → Breaks program scope r p
   opened_breaks r p h = let o = program_to scope (stmts_spots program) r p h in subst (λ x. Breaks program scope x p) (sym o.0) (A02 o.1)
 
   found_breaks : (r p : ℕ) → AnyFound [] (tops scope (stmts_spots program)) r p → Breaks program scope r p
-  found_breaks r p h = let g = h.found in within h.is_in g.stands g.broken
+  found_breaks r p h = within h
 
   pub start_narrows : (B : ℕ → ℕ → Type 0) (b : Option Breach) → ((r p : ℕ) → AnyFound [] (tops scope (stmts_spots program)) r p → B r p) → ((r p : ℕ) → B r p → AnyFound [] (tops scope (stmts_spots program)) r p) → Narrows (ProgramRows scope (stmts_spots program)) None Nothing b → Narrows (Breaks program scope) None B b
   start_narrows B b to back s = narrows_beside s

@@ -16,9 +16,9 @@ use Rattle.adsafe_rules.specs.declared.enclosing.Opened.{Opened}
 use Rattle.adsafe_rules.specs.declared.enclosing.Enclosing.{Enclosing}
 use Rattle.adsafe_rules.specs.Parts.{Stands, itself, outside, inside, outer, inner}
 use Rattle.adsafe_rules.specs.Binding.{no_jumps, jumps_in}
-use Rattle.adsafe_rules.specs.Rows.{Broken}
+use Rattle.adsafe_rules.specs.Rows.{Broken, Found, AnyFound}
 use Rattle.adsafe_rules.specs.Enclosing.{IsCounted, IsKnown, AreKnown, AreJumps, IsEnclosing, env_of, jumps_of}
-use Rattle.adsafe_rules.specs.Walk.{Found, AnyFound, Left, Rises, at_depth, AreIn, IsGoing, load, Pushes, Opens}
+use Rattle.adsafe_rules.specs.Walk.{Left, Rises, at_depth, AreIn, IsGoing, load, Pushes, Opens}
 use Rattle.adsafe_rules.proofs.Lists.{append_nothing}
 use Rattle.adsafe_rules.proofs.Open.{known_more, known_take, env_take, env_length, jumps_more, jumps_take}
 use Rattle.adsafe_rules.proofs.Sizes.{parts_less}

@@ -12,3 +12,4 @@ pub mod Hoisting
 pub mod Enclosing
 pub mod Walk
 pub mod Accepting
+pub mod Accepts

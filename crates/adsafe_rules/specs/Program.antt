@@ -10,8 +10,7 @@ use Rattle.adsafe_rules.specs.declared.scope.Scope.TheVariants as scope
 use Rattle.adsafe_rules.specs.Words.{is_library_name}
 use Rattle.adsafe_rules.specs.Names.{Named, literal}
 use Rattle.adsafe_rules.specs.Forms.{is_name, is_string}
-use Rattle.adsafe_rules.specs.Parts.{Stands}
-use Rattle.adsafe_rules.specs.Rows.{Broken}
+use Rattle.adsafe_rules.specs.Rows.{AnyFound}
 
 -- the property of `ADSAFE` that the text calls
 abbrev pub opening_word : Scope → List ℕ
@@ -116,7 +115,7 @@ tops scope (s ∷ rest) = (if is_opening scope s then opening_functions s else s
 -- the text, at its position, breaks the rule at the place
 pub data Breaks (program : Stmts) (scope : Scope) : ℕ → ℕ → Type 0 where
   A02 : {place : ℕ} → Misopened scope (stmts_spots program) place → Breaks program scope 2 place
-  within : {top node : Spot} {around : List Spot} {rule place : ℕ} → In top (tops scope (stmts_spots program)) → Stands [] top around node → Broken around node rule place → Breaks program scope rule place
+  within : {rule place : ℕ} → AnyFound [] (tops scope (stmts_spots program)) rule place → Breaks program scope rule place
 
 -- its first broken rule: the least place, and there the least number
 abbrev pub First : Stmts → Scope → ℕ → ℕ → Type 0

@@ -8,6 +8,7 @@ use Rattle.first_breach.specs.Lists.{In}
 use Rattle.adsafe_rules.specs.Words.{is_global, is_reaching}
 use Rattle.adsafe_rules.specs.Names.{Named, uses, binders, properties, targets}
 use Rattle.adsafe_rules.specs.Forms.{is_this, wrong_subscripts, is_adsafe, is_of_math, is_with, is_loose_equality, is_bitwise, is_typed, is_dropping, is_wrong_number, is_idle, wrong_targets}
+use Rattle.adsafe_rules.specs.Parts.{Stands}
 use Rattle.adsafe_rules.specs.Binding.{IsBound, no_jumps, jumps_from, is_stray}
 
 -- `Broken env n rule place`: the node n, which those of env enclose, breaks the rule at the place
@@ -48,3 +49,16 @@ pub data Broken : List Spot → Spot → ℕ → ℕ → Type 0 where
   A18 : {env : List Spot} {at : ℕ} {names : List ℕ} {form : StmtForm} → is_idle form ≡ true → Broken env (AStmt (StmtAt at names form)) 18 at
   -- the target of an assignment or step is no name, dot or subscript, or what is deleted no dot or subscript
   A19 : {env : List Spot} {at : ℕ} {names : List ℕ} {form : ExprForm} {p : ℕ} → In p (wrong_targets form) → Broken env (AnExpr (ExprAt at names form)) 19 p
+
+-- in the node n, which the nodes of env enclose, the rule is broken at the place
+pub record Found (env : List Spot) (n : Spot) (rule place : ℕ) : Type 0 where
+  pub around : List Spot
+  pub node : Spot
+  pub stands : Stands env n around node
+  pub broken : Broken around node rule place
+
+-- in one of the nodes
+pub record AnyFound (env : List Spot) (nodes : List Spot) (rule place : ℕ) : Type 0 where
+  pub top : Spot
+  pub is_in : In top nodes
+  pub found : Found env top rule place

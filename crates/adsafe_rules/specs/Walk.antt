@@ -19,16 +19,9 @@ use Rattle.first_breach.specs.Lists.{In}
 use Rattle.adsafe_rules.specs.declared.walk.Work.{Work}
 use Rattle.adsafe_rules.specs.declared.enclosing.Enclosing.{Enclosing}
 use Rattle.adsafe_rules.specs.Forms.{is_allowed_callee, is_directive}
-use Rattle.adsafe_rules.specs.Parts.{Stands, inner}
-use Rattle.adsafe_rules.specs.Rows.{Broken}
+use Rattle.adsafe_rules.specs.Parts.{inner}
+use Rattle.adsafe_rules.specs.Rows.{Found}
 use Rattle.adsafe_rules.specs.Enclosing.{IsEnclosing, env_of}
-
--- in the node
-pub record Found (env : List Spot) (n : Spot) (rule place : ℕ) : Type 0 where
-  pub around : List Spot
-  pub node : Spot
-  pub stands : Stands env n around node
-  pub broken : Broken around node rule place
 
 -- in what lies on the stack, where the nodes of env are open
 pub record Left (f : Forest) (env : List Spot) (ws : List Work) (rule place : ℕ) : Type 0 where
@@ -134,9 +127,3 @@ body_work f (id ∷ ids) = if is_directive (stmt_at f id) then ids else id ∷ i
 
 abbrev pub fun_work : Forest → FunNode → List Part
 fun_work f node = fun_ids node.funs.items ++ stmt_ids (body_work f node.body.items)
-
--- in one of the trees
-pub record AnyFound (env : List Spot) (spots : List Spot) (rule place : ℕ) : Type 0 where
-  pub top : Spot
-  pub is_in : In top spots
-  pub found : Found env top rule place

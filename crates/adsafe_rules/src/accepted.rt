@@ -1,8 +1,6 @@
 //! A tree that breaks no rule.
-ghost use Rattle.std.specs.Prelude.{◌≡◌, option_copied, IfSome};
-ghost use Rattle.js_tree.specs.Trees.{trees};
-ghost use Rattle.js_tree.specs.Forest.{IsFun};
-ghost use Rattle.adsafe_rules.specs.Accepting.{tree_of, fun_of, lib_name_of};
+ghost use Rattle.adsafe_rules.specs.declared.scope.Scope.{Scope};
+ghost use Rattle.adsafe_rules.specs.Accepting.{IsJudged};
 
 use code_units::Text;
 use js_tree::{FunId, Tree};
@@ -13,9 +11,15 @@ pub struct Accepted {
     pub(crate) tree: Tree,
     pub(crate) fun: Option<FunId>,
     pub(crate) lib_name: Option<Text>,
+    ghost judged: { ∥ ((scope : Scope) × IsJudged tree scope fun lib_name) ∥₁ },
 }
 
 impl Accepted {
+    ghost use Rattle.std.specs.Prelude.{◌≡◌, option_copied, IfSome};
+    ghost use Rattle.js_tree.specs.Trees.{trees};
+    ghost use Rattle.js_tree.specs.Forest.{IsFun};
+    ghost use Rattle.adsafe_rules.specs.Accepts.{tree_of, fun_of, lib_name_of};
+
     /// The tree.
     pub fn tree(&self) -> &Tree
         ensures { result.now ≡ tree_of self.now }
@@ -25,7 +29,8 @@ impl Accepted {
 
     /// The function that the text hands over; none for an `id` script.
     pub fn fun(&self) -> Option<FunId>
-        ensures { result ≡ fun_of self.now }
+        ensures same { result ≡ fun_of self.now }
+        ensures inside { IfSome result (IsFun (trees (tree_of self.now))) }
     {
         self.fun
     }

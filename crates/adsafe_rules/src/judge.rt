@@ -11,7 +11,8 @@ ghost use Rattle.adsafe_rules.specs.Hoisting.{stmt_spot};
 ghost use Rattle.adsafe_rules.specs.Program.{is_opening, opening_names, opening_functions, opened_names, opened_functions, lib_names, tops, Breaks, IsClean};
 ghost use Rattle.adsafe_rules.specs.Openings.{NameRow, OpeningRows, SecondRow, ProgramRows};
 ghost use Rattle.adsafe_rules.specs.Walk.{Pushes};
-ghost use Rattle.adsafe_rules.specs.Accepting.{Accepts, IsFault};
+ghost use Rattle.adsafe_rules.specs.Accepting.{IsFault};
+ghost use Rattle.adsafe_rules.specs.Accepts.{Accepts};
 
 use crate::accepted::Accepted;
 use crate::enclosing::Enclosing;

@@ -14,3 +14,4 @@ pub mod Turns
 pub mod Answer
 pub mod Values
 pub mod Lies
+pub mod Order

@@ -45,10 +45,10 @@ lies n cs ts t (suc k) (token {k = kd} {rest = rest} {ts = us} s long apart h) l
 
 -- the bytes of an end of the characters
 
-size_cons : (c : ℕ) (cs : List ℕ) → size (c ∷ cs) ≡ len_utf8 c + size cs
+pub size_cons : (c : ℕ) (cs : List ℕ) → size (c ∷ cs) ≡ len_utf8 c + size cs
 size_cons c cs = length-append (encode_utf8 c) (encode_utf8_all cs) ∙ ap (λ k. k + size cs) (length-encode c)
 
-suffix_size : {cs rest : List ℕ} → Suffix cs rest → size rest ≤ size cs
+pub suffix_size : {cs rest : List ℕ} → Suffix cs rest → size rest ≤ size cs
 suffix_size whole = omega arith
 suffix_size (next {c} {cs} {rest} s) = omega (arith, size_cons c cs, suffix_size s)
 

@@ -178,7 +178,7 @@ sound (c ∷ cs) = sound_at c cs (class_of c) refl (class_means c)
 
 -- ends
 
-append_suffix : (m rest cs : List ℕ) → cs ≡ m ++ rest → Suffix cs rest
+pub append_suffix : (m rest cs : List ℕ) → cs ≡ m ++ rest → Suffix cs rest
 append_suffix [] rest cs e = subst (λ l. Suffix l rest) (sym e) whole
 append_suffix (c ∷ m) rest cs e = subst (λ l. Suffix l rest) (sym e) (next (append_suffix m rest (m ++ rest) refl))
 

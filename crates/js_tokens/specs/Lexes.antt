@@ -1,6 +1,6 @@
 -- Which tokens stand in a text, and where a text is bad.
 -- A relation `R cs rest` says that something stands in the characters cs, before rest.
-use Rattle.std.specs.Prelude.{◌≡◌, ℕ, ◌-◌, ◌≤◌, List, [], ◌∷◌, ◌++◌, length, take, Bool, true, false, nat_eq, ◌&&◌, ◌||◌, not, if◌then◌else◌, Contains, encode_utf8_all}
+use Rattle.std.specs.Prelude.{◌≡◌, ℕ, ◌-◌, ◌<◌, ◌≤◌, List, [], ◌∷◌, ◌++◌, length, take, Bool, true, false, nat_eq, ◌&&◌, ◌||◌, not, if◌then◌else◌, Contains, encode_utf8_all}
 use Rattle.std.specs.Str.{IsUtf8, IsValidUpTo, chars}
 use Rattle.js_tokens.specs.declared.token.Token.{Token}
 use Rattle.js_tokens.specs.declared.token.TokenKind.{TokenKind}
@@ -160,6 +160,11 @@ pub data Reads (n : ℕ) : List ℕ → List Token → Type 0 where
 -- the bytes are UTF-8, and are these tokens with gaps between
 abbrev pub Lexes : List ℕ → List Token → Type 0
 Lexes bytes ts = IsUtf8 bytes × Reads (length bytes) (chars bytes) ts
+
+-- the tokens stand one after the other from `at` on, none is empty, and the last ends by n
+abbrev pub InOrder : ℕ → ℕ → List Token → Type 0
+InOrder n at [] = at ≤ n
+InOrder n at (t ∷ ts) = (at ≤ t.from) × (t.from < t.to) × InOrder n t.to ts
 
 -- the bytes have this token
 pub record IsTokenOf (bytes : List ℕ) (token : Token) : Type 0 where

@@ -4,7 +4,7 @@ ghost use Rattle.js_tokens.specs.Characters.{is_line_end, is_in_line, is_letter,
 ghost use Rattle.js_tokens.specs.Runs.{passes};
 
 /// What a character begins, outside of strings and comments.
-#[derive(Clone, Copy, PartialEq, Eq, Debug)]
+#[derive(Clone, Copy)]
 pub enum Class {
     Letter,
     Digit,
@@ -17,7 +17,7 @@ pub enum Class {
 }
 
 /// The characters of which runs are made.
-#[derive(Clone, Copy, PartialEq, Eq, Debug)]
+#[derive(Clone, Copy)]
 pub enum Run {
     /// What goes on in a name.
     Name,

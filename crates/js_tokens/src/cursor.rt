@@ -1,6 +1,6 @@
 //! Reading the characters of a text at byte offsets.
 ghost use Rattle.std.specs.Prelude.{◌≡◌, ◌+◌, [], length, MatchOption};
-ghost use Rattle.js_tokens.specs.Characters.{Starts, Begins};
+ghost use Rattle.js_tokens.specs.Characters.{Begins};
 ghost use Rattle.js_tokens.specs.Cursor.{from, IsPlace, IsNext, IsEnd};
 ghost use Rattle.js_tokens.specs.Runs.{passes};
 ghost use Rattle.js_tokens.specs.Scan.{after_run};
@@ -29,18 +29,6 @@ pub fn char_at(text: &str, at: usize) -> Option<(char, usize)>
         return Some((char::from(bytes[at]), at + 1));
     }
     wide_char(text, at)
-}
-
-/// Whether this character stands at a place.
-#[inline(always)]
-pub fn starts(text: &str, at: usize, wanted: char) -> bool
-    requires { IsPlace text.now at }
-    ensures { result ≡ Starts wanted (from text.now at) }
-{
-    match char_at(text, at) {
-        Some((c, _)) => c == wanted,
-        None => false,
-    }
 }
 
 /// Whether a character of the run stands at a place.

@@ -1,6 +1,6 @@
 //! What the definitions mean: the functions do nothing, and their contracts are the laws.
-ghost use Rattle.std.specs.Prelude.{◌≡◌, ℕ, List};
-ghost use Rattle.js_tokens.specs.Lexes.{Lexes, BadPlace};
+ghost use Rattle.std.specs.Prelude.{◌≡◌, ℕ, List, length};
+ghost use Rattle.js_tokens.specs.Lexes.{Lexes, BadPlace, InOrder};
 ghost use Rattle.js_tokens.specs.declared.token.Token.{Token};
 
 /// A text has at most one reading.
@@ -12,4 +12,9 @@ pub fn one_reading()
 pub fn one_bad_place()
     ensures one { (bytes : List ℕ) (at other : ℕ) → BadPlace bytes at → BadPlace bytes other → at ≡ other }
     ensures no_reading { (bytes : List ℕ) (at : ℕ) (ts : List Token) → BadPlace bytes at → Lexes bytes ts → ⊥ }
+{}
+
+/// The tokens of a text stand in order within it, and none is empty.
+pub fn in_order()
+    ensures { (bytes : List ℕ) (ts : List Token) → Lexes bytes ts → InOrder (length bytes) 0 ts }
 {}

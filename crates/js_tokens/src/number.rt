@@ -4,7 +4,7 @@ ghost use Rattle.js_tokens.specs.Cursor.{from, IsPlace, IsEnd};
 ghost use Rattle.js_tokens.specs.Scan.{after_sign, after_exponent, after_fraction, after_decimal, after_number};
 
 use crate::class::Run;
-use crate::cursor::{begins, char_at, run_end, starts};
+use crate::cursor::{begins, char_at, run_end};
 
 fn sign_end(text: &str, at: usize) -> usize
     requires { IsPlace text.now at }

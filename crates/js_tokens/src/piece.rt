@@ -3,11 +3,11 @@ ghost use Rattle.std.specs.Prelude.{◌≡◌, ◌<◌, false};
 ghost use Rattle.js_tokens.specs.Characters.{class_of};
 ghost use Rattle.js_tokens.specs.Cursor.{from, IsPlace, IsNext};
 ghost use Rattle.js_tokens.specs.Scan.{found_number, found_string, found_point, found_slash, found_at, found, after_string, first_bad};
-ghost use Rattle.js_tokens.specs.Pieces.{IsPiece, IsStringEnd};
+ghost use Rattle.js_tokens.specs.Pieces.{IsPiece};
 
 use crate::class::{Class, Run, class_of};
 use crate::comment::comment_end;
-use crate::cursor::{begins, char_at, run_end, starts};
+use crate::cursor::{begins, char_at, run_end};
 use crate::mark::{assign_end, mark_end};
 use crate::number::{exponent_end, number_end};
 use crate::string::{StringEnd, string_end};

@@ -1,0 +1,21 @@
+-- What callers see of an accepted text.
+use Rattle.std.specs.Prelude.{◌≡◌, ℕ, List, Option}
+use Rattle.js_tree.specs.declared.nodes.FunId.{FunId}
+use Rattle.js_tree.specs.declared.tree.Tree.{Tree}
+use Rattle.adsafe_rules.specs.declared.accepted.Accepted.{Accepted}
+use Rattle.adsafe_rules.specs.declared.scope.Scope.{Scope}
+use Rattle.adsafe_rules.specs.Accepting.{IsJudged}
+
+abbrev pub tree_of : Accepted → Tree
+tree_of a = a.tree
+
+abbrev pub fun_of : Accepted → Option FunId
+fun_of a = a.fun
+
+abbrev pub lib_name_of : Accepted → Option (List ℕ)
+lib_name_of a = a.lib_name
+
+-- what was accepted holds the tree, and what the position asks for
+pub record Accepts (tree : Tree) (scope : Scope) (a : Accepted) : Type 0 where
+  pub holds : tree_of a ≡ tree
+  pub judged : IsJudged tree scope (fun_of a) (lib_name_of a)
