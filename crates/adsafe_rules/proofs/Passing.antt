@@ -1,18 +1,18 @@
 -- What the walk passes over breaks nothing but the rule that exempts it.
-use Rattle.std.proofs.Common.{◌≡◌, ℕ, List, [], ◌∷◌, ◌++◌, refl, sym, ap, ◌∙◌, subst, inl, inr, ◌⊎◌, Bool, true, false, ◌&&◌}
+use Rattle.std.proofs.Common.{◌≡◌, ℕ, List, [], ◌∷◌, refl, sym, ap, ◌∙◌, subst, inl, inr, ◌⊎◌, Bool, true, false, ◌&&◌}
 use Rattle.std.specs.Prelude.{codes, not, ◌||◌, if◌then◌else◌}
 use Rattle.std.specs.List.{list_any}
 use Rattle.std.specs.Str.{bytes_eq}
 use Rattle.std.proofs.lemmas.Slice.Eq.{bytes_eq-Decides}
 use Rattle.code_units.specs.Permitted.{is_banned, is_barred}
-use Rattle.js_tree.specs.Plain.{Expr, ExprAt, ExprForm, Num, Str, Name, Constant, Array, Object, Function, Dot, Sub, Call, New, Step, Unary, Binary, And, Or, Cond, Assign, Comma, Exprs, Stmt, StmtAt, StmtForm, Only, Fun}
-use Rattle.js_tree.specs.Parts.{Spot, AnExpr, AStmt, AFun, exprs_spots}
+use Rattle.js_tree.specs.Plain.{Expr, ExprAt, Str, Name, Function, Dot, Call, Exprs, Stmt, StmtAt, Only, Fun}
+use Rattle.js_tree.specs.Parts.{Spot, AnExpr, AStmt, exprs_spots}
 use Rattle.first_breach.specs.Lists.{In}
 use Rattle.first_breach.proofs.Members.{in_none, in_one, in_split}
 use Rattle.adsafe_rules.specs.Words.{is_global, is_callable, is_reaching}
 use Rattle.adsafe_rules.specs.Names.{Named, placed}
-use Rattle.adsafe_rules.specs.Forms.{is_name, is_string, is_adsafe, is_allowed_callee, is_text, is_directive, is_act}
-use Rattle.adsafe_rules.specs.Parts.{Stands, itself, outside, inside, outer, inner}
+use Rattle.adsafe_rules.specs.Forms.{is_name, is_string, is_allowed_callee, is_text, is_directive, is_act}
+use Rattle.adsafe_rules.specs.Parts.{Stands, itself, outside, inside}
 use Rattle.adsafe_rules.specs.Rows.{Broken, A03, A04, A05, A05_name, A06, A07, A08, A09, A10, A11, A12, A13, A14, A15, A16, A17, A18, A19, AnyFound}
 use Rattle.adsafe_rules.specs.declared.scope.Scope.{Scope}
 use Rattle.adsafe_rules.specs.declared.scope.Scope.TheVariants as scope

@@ -8,5 +8,7 @@ pub mod PlacesMore
 pub mod RoundTrip
 pub mod Signs
 pub mod Trims
+pub mod UnitsBack
 pub mod Utf8Laws
+pub mod WholeBack
 pub mod Words

@@ -1,5 +1,6 @@
 -- The forms of a text that spells a number, and what each gives: a law above `number_of`.
 use Rattle.std.specs.Prelude.{◌≡◌, ℕ, ◌^◌, ◌<◌, ◌≤◌, ◌⊎◌, Bool, true, false, ℤ, pos, neg_ℤ, unsigned_abs, List, [], ◌∷◌, ◌++◌, if◌then◌else◌, codes}
+use Rattle.std.specs.Str.{byte}
 use Rattle.std.specs.Str.Parse.{IsNumeral, digits_value}
 use Rattle.code_units.specs.declared.whole.WholeRead.{WholeRead}
 use Rattle.code_units.specs.declared.whole.WholeRead.TheVariants.{Whole, NotNumber, Left}
@@ -18,7 +19,7 @@ signed negative n = if negative then neg_ℤ (pos n) else pos n
 pub data SpellsWhole (us : List ℕ) : ℤ → Type 0 where
   nothing : us ≡ [] → SpellsWhole us (pos 0)
   decimal : (negative : Bool) (ds : List ℕ) → IsSigned us ds negative → IsNumeral 10 ds → SpellsWhole us (signed negative (digits_value 10 ds))
-  hexadecimal : (x : ℕ) (ds : List ℕ) → is_x x ≡ true → us ≡ 48 ∷ x ∷ ds → IsNumeral 16 ds → SpellsWhole us (pos (digits_value 16 ds))
+  hexadecimal : (x : ℕ) (ds : List ℕ) → is_x x ≡ true → us ≡ byte "0" ∷ x ∷ ds → IsNumeral 16 ds → SpellsWhole us (pos (digits_value 16 ds))
 
 -- `e` or `E`, an optional sign and digits
 pub data IsExponent (us : List ℕ) : Type 0 where
@@ -26,8 +27,8 @@ pub data IsExponent (us : List ℕ) : Type 0 where
 
 -- a decimal literal that has a point or an exponent
 pub data IsDecimalFraction (us : List ℕ) : Type 0 where
-  point : (whole part : List ℕ) → us ≡ whole ++ (46 ∷ part) → IsNumeral 10 (whole ++ part) → IsDecimalFraction us
-  point_power : (whole part rest : List ℕ) → us ≡ (whole ++ (46 ∷ part)) ++ rest → IsNumeral 10 (whole ++ part) → IsExponent rest → IsDecimalFraction us
+  point : (whole part : List ℕ) → us ≡ whole ++ (byte "." ∷ part) → IsNumeral 10 (whole ++ part) → IsDecimalFraction us
+  point_power : (whole part rest : List ℕ) → us ≡ (whole ++ (byte "." ∷ part)) ++ rest → IsNumeral 10 (whole ++ part) → IsExponent rest → IsDecimalFraction us
   power : (whole rest : List ℕ) → us ≡ whole ++ rest → IsNumeral 10 whole → IsExponent rest → IsDecimalFraction us
 
 -- an optional sign with `Infinity` or with such a literal

@@ -3,7 +3,7 @@ use Rattle.std.specs.Prelude.{ℕ, ◌-◌, ◌^◌, ℤ, pos, unsigned_abs, Boo
 use Rattle.std.specs.List.{list_all, list_any, prefix_len, suffix_len, before_first, after_first}
 use Rattle.std.specs.Char.{is_digit}
 use Rattle.std.specs.Int.{is_in_range}
-use Rattle.std.specs.Str.{bytes_eq}
+use Rattle.std.specs.Str.{bytes_eq, byte}
 use Rattle.std.specs.Str.Parse.{digits_value, without_leading_sign, signed_digits_value}
 use Rattle.code_units.specs.declared.whole.WholeRead.{WholeRead}
 use Rattle.code_units.specs.declared.whole.WholeRead.TheVariants.{Whole, NotNumber, Left}
@@ -32,13 +32,13 @@ is_numeral radix us = nat_lt 0 (length us) && list_all (λ u. is_digit u radix) 
 
 -- `.`; `e` or `E`; `x` or `X`
 abbrev pub is_point : ℕ → Bool
-is_point u = u == 46
+is_point u = u == byte "."
 
 abbrev pub is_e : ℕ → Bool
-is_e u = u == 101 || u == 69
+is_e u = u == byte "e" || u == byte "E"
 
 abbrev pub is_x : ℕ → Bool
-is_x u = u == 120 || u == 88
+is_x u = u == byte "x" || u == byte "X"
 
 -- digits, among which one point may stand
 abbrev pub is_mantissa : List ℕ → Bool
@@ -51,7 +51,7 @@ is_fraction us = is_mantissa (before_first is_e us)
 
 -- `0x` or `0X` and hexadecimal digits
 abbrev pub is_hexadecimal : List ℕ → Bool
-is_hexadecimal us = slice_index us 0 == 48 && is_x (slice_index us 1) && is_numeral 16 (drop 2 us)
+is_hexadecimal us = slice_index us 0 == byte "0" && is_x (slice_index us 1) && is_numeral 16 (drop 2 us)
 
 -- the number of a text without blanks at its ends
 abbrev pub number_of : List ℕ → WholeRead

@@ -11,6 +11,7 @@ mod tests;
 mod text;
 mod utf8;
 mod whole;
+mod word;
 
 pub use memory::Memory;
 pub use names::Names;
@@ -20,3 +21,4 @@ pub use place::{Place, place_of};
 pub use text::Text;
 pub use utf8::{TextFault, from_utf8_bytes, push_utf8, utf8_fault};
 pub use whole::{WholeRead, read_whole, whole_text};
+pub use word::is_word;

@@ -10,6 +10,9 @@ use indexmap::IndexSet;
 use std::alloc::Global;
 use std::marker::Model;
 
+// Room for the names that a page has at first.
+const FIRST_NAMES: usize = 256;
+
 /// A table of interned names: a name's number is its place, and equal texts have one number.
 #[derive(Drop)]
 pub struct Names {
@@ -87,6 +90,3 @@ impl Names {
         self.set.is_empty()
     }
 }
-
-// Room for the names that every page has.
-const FIRST_NAMES: usize = 256;

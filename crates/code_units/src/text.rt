@@ -33,17 +33,19 @@ impl Model for Text {
     ghost invariant = { λ t. t.body.value.hash ≡ hash_of t.body.value.units.items };
 }
 
+const SEED: u64 = 0x9E37_79B9_7F4A_7C15;
+
 fn mix_one(h: u64, u: u16) -> u64
     ensures { result ≡ mix h u }
 {
-    (h ^ u64::from(u)).wrapping_mul(0x9E37_79B9_7F4A_7C15)
+    (h ^ u64::from(u)).wrapping_mul(SEED)
 }
 
 #[tactic(auto, unfolding(crate::specs::Mix::hash_of))]
 fn hash_units(units: &[u16]) -> u64
     ensures { result ≡ hash_of units.now }
 {
-    let mut h = 0;
+    let mut h = SEED;
     for u in units {
         h = mix_one(h, *u);
     }

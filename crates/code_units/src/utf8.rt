@@ -1,7 +1,7 @@
 //! Texts from UTF-8 and back.
-ghost use Rattle.std.specs.Prelude.{◌≡◌, ◌+◌, MatchOption, IfSome, unwrap_or, slice_index, IfOk, IfErr, OnOk, OnErr, ◌∷◌, ◌++◌, ◌<◌, ◌≤◌, length, take, drop, IsUtf8, encode_utf8};
+ghost use Rattle.std.specs.Prelude.{◌≡◌, false, ◌+◌, MatchOption, IfSome, unwrap_or, slice_index, IfOk, IfErr, OnOk, OnErr, ◌∷◌, ◌++◌, ◌<◌, ◌≤◌, length, take, drop, IsUtf8, encode_utf8};
 ghost use Rattle.std.specs.Vec.{vec_len};
-ghost use Rattle.std.specs.Char.Utf16.{utf16_lossy_chars, lone_unit_char, surrogate_pair_char};
+ghost use Rattle.std.specs.Char.Utf16.{has_unpaired_surrogate, utf16_lossy_chars, lone_unit_char, surrogate_pair_char};
 ghost use Rattle.std.specs.Str.{IsValidUpTo};
 ghost use Rattle.std.specs.Char.Escape.{encode_utf16};
 ghost use Rattle.code_units.specs.declared.utf8.TextFault.TheVariants.{Memory as out_of_memory};
@@ -15,9 +15,10 @@ use thiserror::Error;
 /// Why bytes gave no text.
 #[derive(Clone, Copy, PartialEq, Eq, Debug, Drop, Error)]
 pub enum TextFault {
-    /// The bytes are no UTF-8: the first byte of the first ill-formed sequence.
+    /// The bytes are no UTF-8. `at` is the first byte of the first ill-formed sequence.
     #[error("no UTF-8 at byte {at}")]
     NotUtf8 { at: usize },
+    /// There was no memory for the text.
     #[error("out of memory")]
     Memory,
 }
@@ -38,6 +39,30 @@ pub fn utf8_fault(bytes: &[u8]) -> Option<usize>
         Ok(_) => None,
         Err(fault) => Some(fault.valid_up_to()),
     }
+}
+
+/// The text of UTF-8 bytes: one unit for each code point below 65536 and two surrogates for each
+/// above (ECMA-262 3rd edition, 8.4). `NotUtf8` comes exactly where the bytes are no UTF-8.
+pub fn from_utf8_bytes(alloc: Global, bytes: &[u8]) -> Result<Text, TextFault>
+    ensures ok { IfOk result (λ t. IsUtf8 bytes.now × (t ≡ units_of bytes.now)) }
+    ensures back { IfOk result (λ t. utf8_of t ≡ bytes.now) }
+    ensures err { IfErr result (IsTextFault bytes.now) }
+{
+    match str::from_utf8(bytes) {
+        Ok(text) => Ok(from_text(alloc, text)?),
+        Err(fault) => Err(TextFault::NotUtf8 {
+            at: fault.valid_up_to(),
+        }),
+    }
+}
+
+// The units of a text. A byte gives no more than one unit.
+fn from_text(alloc: Global, text: &str) -> Result<Text, Memory>
+    ensures { IfOk result (λ t. t ≡ units_of text.now) }
+{
+    let mut units = Vec::with_capacity(alloc, text.len())?;
+    push_units(&mut units, text)?;
+    Text::from_units(alloc, units)
 }
 
 // Appends the units of a text.
@@ -65,33 +90,14 @@ fn push_char(units: &mut Vec<u16>, c: char) -> Result<(), AllocError>
     Ok(())
 }
 
-/// The text that UTF-8 bytes spell (docs/.., ECMA-262 3rd edition, 6).
-pub fn from_utf8_bytes(alloc: Global, bytes: &[u8]) -> Result<Text, TextFault>
-    ensures ok { IfOk result (λ t. IsUtf8 bytes.now × (t ≡ units_of bytes.now)) }
-    ensures back { IfOk result (λ t. utf8_of t ≡ bytes.now) }
-    ensures err { IfErr result (IsTextFault bytes.now) }
-{
-    match str::from_utf8(bytes) {
-        Ok(text) => Ok(from_text(alloc, text)?),
-        Err(fault) => Err(TextFault::NotUtf8 {
-            at: fault.valid_up_to(),
-        }),
-    }
-}
-
-// The units of a text. A byte gives no more than one unit.
-fn from_text(alloc: Global, text: &str) -> Result<Text, Memory>
-    ensures { IfOk result (λ t. t ≡ units_of text.now) }
-{
-    let mut units = Vec::with_capacity(alloc, text.len())?;
-    push_units(&mut units, text)?;
-    Text::from_units(alloc, units)
-}
-
 /// Appends the text in UTF-8, each lone surrogate as U+FFFD. A refusal leaves `out` as it was.
 pub fn push_utf8(text: &Text, out: &mut Vec<u8>) -> Result<(), Memory>
     ensures ok { OnOk result (out.new.items ≡ out.old.items ++ utf8_of text.now) }
     ensures err { OnErr result (out.new.items ≡ out.old.items) }
+
+    // What was appended is UTF-8, and reads as the text where no surrogate in it is lone.
+    ensures valid { IsUtf8 (utf8_of text.now) }
+    ensures back { has_unpaired_surrogate text.now ≡ false → units_of (utf8_of text.now) ≡ text.now }
 {
     let before = out.len();
     match push_bytes(text.units(), out) {
@@ -107,6 +113,8 @@ pub fn push_utf8(text: &Text, out: &mut Vec<u8>) -> Result<(), Memory>
 fn push_bytes(units: &[u16], out: &mut Vec<u8>) -> Result<(), AllocError>
     ensures ok { OnOk result (out.new.items ≡ out.old.items ++ utf8_of units.now) }
     ensures err { OnErr result (take (vec_len out.old) out.new.items ≡ out.old.items) }
+    ensures valid { IsUtf8 (utf8_of units.now) }
+    ensures back { has_unpaired_surrogate units.now ≡ false → units_of (utf8_of units.now) ≡ units.now }
 {
     let mut at = 0;
     while at < units.len() {

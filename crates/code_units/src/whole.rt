@@ -1,5 +1,5 @@
 //! Whole numbers as texts, and texts as whole numbers.
-ghost use Rattle.std.specs.Prelude.{◌≡◌, ◌^◌, ◌≤◌, pos, neg_ℤ, true, false, if◌then◌else◌, min, drop, IfOk, MatchOption};
+ghost use Rattle.std.specs.Prelude.{◌≡◌, ◌^◌, ◌<◌, ◌≤◌, unsigned_abs, pos, neg_ℤ, true, false, if◌then◌else◌, min, drop, IfOk, MatchOption};
 ghost use Rattle.std.specs.List.{list_all, position};
 ghost use Rattle.std.specs.Char.{digit_value, is_digit};
 ghost use Rattle.std.specs.Fmt.{signed_decimal};
@@ -8,21 +8,47 @@ ghost use Rattle.code_units.specs.Whole.{is_blank, trimmed, bounded, is_numeral,
 ghost use Rattle.code_units.specs.Readings.{Gives};
 
 use crate::memory::Memory;
-use crate::permission::is_word;
 use crate::text::Text;
+use crate::word::spells;
 use itoa::Buffer;
-use std::alloc::Global;
+use std::alloc::{AllocError, Global};
+
+const PLUS: u16 = b'+' as u16;
+
+const MINUS: u16 = b'-' as u16;
+
+const POINT: u16 = b'.' as u16;
+
+const ZERO: u16 = b'0' as u16;
+
+const SMALL_E: u16 = b'e' as u16;
+
+const CAPITAL_E: u16 = b'E' as u16;
+
+const SMALL_X: u16 = b'x' as u16;
+
+const CAPITAL_X: u16 = b'X' as u16;
+
+// The first number past the numbers.
+const LIMIT: u64 = 1 << 53;
 
 /// The decimal digits of a number, after `-` where it is negative.
 pub fn whole_text(alloc: Global, n: i64) -> Result<Text, Memory>
-    ensures { IfOk result (λ t. t ≡ signed_decimal n) }
+    ensures digits { IfOk result (λ t. t ≡ signed_decimal n) }
+    ensures back { IfOk result (λ t. unsigned_abs n < 2 ^ 53 → number_in t ≡ WholeRead.Whole n) }
 {
-    let mut buffer = Buffer::new();
-    let units = buffer.format(n).bytes().map(u16::from).collect(alloc)?;
+    let units = decimal_units(alloc, n)?;
     Text::from_units(alloc, units)
 }
 
-/// What a text gives as a whole number.
+fn decimal_units(alloc: Global, n: i64) -> Result<Vec<u16>, AllocError>
+    ensures { IfOk result (λ units. units.items ≡ signed_decimal n) }
+{
+    let mut buffer = Buffer::new();
+    buffer.format(n).bytes().map(u16::from).collect(alloc)
+}
+
+/// What a text gives as a number.
 #[derive(Clone, Copy, PartialEq, Eq, Debug)]
 pub enum WholeRead {
     /// A number from -(2^53-1) to 2^53-1.
@@ -33,10 +59,9 @@ pub enum WholeRead {
     Left,
 }
 
-/// The first number past the numbers.
-const LIMIT: u64 = 1 << 53;
-
-/// The number that a text spells, blanks at its ends aside.
+/// The number that a text spells, blanks at its two ends aside (ECMA-262 3rd edition, 9.3.1): the
+/// blanks are space, tab, line feed, carriage return, vertical tab and form feed, and each decimal
+/// literal with a point or an exponent is `Left`.
 #[tactic(auto, unfolding(crate::specs::Whole::number_in))]
 pub fn read_whole(text: &Text) -> WholeRead
     ensures value { result ≡ number_in text.now }
@@ -55,7 +80,7 @@ fn read_trimmed(units: &[u16]) -> WholeRead
     if let Some(n) = numeral(digits, 10) {
         return bounded(units[0] == MINUS, n);
     }
-    if is_word(digits, b"Infinity") || is_fraction(digits) {
+    if spells(digits, b"Infinity") || is_fraction(digits) {
         return WholeRead::Left;
     }
     match hexadecimal(units) {
@@ -63,10 +88,6 @@ fn read_trimmed(units: &[u16]) -> WholeRead
         None => WholeRead::NotNumber,
     }
 }
-
-const MINUS: u16 = 45;
-
-const PLUS: u16 = 43;
 
 // The units without the blanks at the two ends.
 fn trimmed(units: &[u16]) -> &[u16]
@@ -99,7 +120,7 @@ fn without_sign(units: &[u16]) -> &[u16]
     }
 }
 
-// The number within the numbers, or none.
+// The number, where it is within the numbers.
 fn bounded(negative: bool, n: u64) -> WholeRead
     requires { n ≤ 2 ^ 53 }
     ensures { result ≡ bounded (if negative then neg_ℤ (pos n) else pos n) }
@@ -123,7 +144,7 @@ fn digit_value(unit: u16) -> u16
     }
 }
 
-// The number of a numeral, no more than the limit. None where another unit than a digit stands, or none.
+// The number of a numeral, or the limit where it is larger. None where the units are no numeral.
 fn numeral(units: &[u16], radix: u16) -> Option<u64>
     requires { (1 ≤ radix) × (radix ≤ 36) }
     ensures { MatchOption result (is_numeral radix units.now ≡ false)
@@ -143,13 +164,13 @@ fn numeral(units: &[u16], radix: u16) -> Option<u64>
     Some(n)
 }
 
-// The number after `0x` or `0X`, no more than the limit.
+// The number after `0x` or `0X`, or the limit where it is larger.
 fn hexadecimal(units: &[u16]) -> Option<u64>
     ensures { MatchOption result (is_hexadecimal units.now ≡ false)
         (λ n. (is_hexadecimal units.now ≡ true) × (n ≡ min (digits_value 16 (drop 2 units.now)) (2 ^ 53))) }
 {
     match units {
-        [48, 120 | 88, digits @ ..] => numeral(digits, 16),
+        [ZERO, SMALL_X | CAPITAL_X, digits @ ..] => numeral(digits, 16),
         _ => None,
     }
 }
@@ -157,13 +178,13 @@ fn hexadecimal(units: &[u16]) -> Option<u64>
 fn is_point(unit: &u16) -> bool
     ensures { result ≡ is_point unit.now }
 {
-    *unit == 46
+    *unit == POINT
 }
 
 fn is_e(unit: &u16) -> bool
     ensures { result ≡ is_e unit.now }
 {
-    *unit == 101 || *unit == 69
+    *unit == SMALL_E || *unit == CAPITAL_E
 }
 
 fn first_point(units: &[u16]) -> Option<usize>

@@ -8,4 +8,4 @@ returns-in-Some c =
 
 pub returns-in-Some-hexadecimal : goal.returns-in-Some-hexadecimal
 returns-in-Some-hexadecimal c =
-    number_hexadecimal c.args.units.now c.without_sign-digits.result.now c.in-Some-hexadecimal.n c.bounded-in-Some-hexadecimal.result (sym c.is_empty.ensures ∙ c.if-is_empty.false) c.without_sign-digits.ensures c.in_default.ensures (sym c.is_word.ensures ∙ c.if-is_word.false) (sym c.is_fraction.ensures ∙ c.if-is_fraction.false) c.in-Some-hexadecimal.ensures.0 c.in-Some-hexadecimal.ensures.1 c.bounded-in-Some-hexadecimal.ensures
+    number_hexadecimal c.args.units.now c.without_sign-digits.result.now c.in-Some-hexadecimal.n c.bounded-in-Some-hexadecimal.result (sym c.is_empty.ensures ∙ c.if-is_empty.false) c.without_sign-digits.ensures c.in_default.ensures (sym c.spells.ensures ∙ c.if-spells.false) (sym c.is_fraction.ensures ∙ c.if-is_fraction.false) c.in-Some-hexadecimal.ensures.0 c.in-Some-hexadecimal.ensures.1 c.bounded-in-Some-hexadecimal.ensures

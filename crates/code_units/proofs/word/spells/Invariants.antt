@@ -1,5 +1,5 @@
 use Rattle.std.proofs.Common.{◌≡◌, ℕ, ◌<◌, get_or}
-use Rattle.code_units.proofs.permission.is_word.Given as goal
+use Rattle.code_units.proofs.word.spells.Given as goal
 
 abbrev pub invariant-loop-i : goal.invariant-loop-i
 invariant-loop-i l = (k : ℕ) → k < l.i → get_or l.units k 0 ≡ get_or l.word k 0
