@@ -1,0 +1,197 @@
+//! Runs over files and a sink in memory.
+use crate::{Status, run};
+use host_io::{MemFiles, MemSink};
+use std::alloc::Global;
+use std::test::Fail;
+
+const USES_THIS: &str =
+    "ADSAFE.lib(\"m\", function (lib) {\n  return function () { return this; };\n});\n";
+
+const GIVES_LIB_BACK: &str = "ADSAFE.lib(\"m\", function (lib) { return lib; });";
+
+const ACCEPTED: &str = "{\"file\":\"m.js\",\"accepted\":true}\n";
+
+const REFUSED: &str = "{\"file\":\"m.js\",\"refused\":\"A04\",\"at\":[2,31]}\n";
+
+// The bytes that a library may have.
+const LIMIT: usize = 262_144;
+
+// Some words over the file `m.js`, and a sink whose writes take `per_call` bytes and of which those
+// listed fail.
+fn ran(
+    alloc: Global,
+    words: &[&str],
+    library: &[u8],
+    per_call: usize,
+    fail: &[u32],
+) -> Result<(Status, Vec<u8>), Fail> {
+    let mut all = Vec::new(alloc);
+    for word in words {
+        all.push(String::from_str(alloc, word)?)?;
+    }
+    let mut entries = Vec::new(alloc);
+    entries.push((String::from_str(alloc, "m.js")?, library.to_vec(alloc)?))?;
+    let mut files = MemFiles {
+        entries,
+        fail: Vec::new(alloc),
+        calls: 0,
+        faults: 0,
+    };
+    let mut sink = MemSink::new(alloc, 100, per_call, fail.to_vec(alloc)?)?;
+    let status = run(alloc, &all, &mut files, &mut sink);
+    Ok((status, sink.held().to_vec(alloc)?))
+}
+
+// The check of a library.
+fn checked(alloc: Global, library: &str) -> Result<(Status, Vec<u8>), Fail> {
+    ran(alloc, &["check-lib", "m.js"], library.as_bytes(), 100, &[])
+}
+
+// Cases of the plain form, with the place of `this` where it stands.
+const PLAIN: [(&str, Option<&str>); 13] = [
+    (USES_THIS, Some("[2,31]")),
+    (GIVES_LIB_BACK, None),
+    (
+        "ADSAFE.lib(\"m\", function (lib) {\n\r\n\r\n  return this;\n});\n",
+        Some("[4,10]"),
+    ),
+    (
+        "ADSAFE.lib(\"m\", function (lib) {\n\treturn\tthis;\n});\n",
+        Some("[2,9]"),
+    ),
+    ("ADSAFE.lib(\"m\", function () { });", None),
+    ("(ADSAFE.lib)((\"m\"), (function (lib) { }));", None),
+    (
+        "ADSAFE.lib(\"m\", function (others) { return others; });",
+        None,
+    ),
+    ("ADSAFE.lib(\"m\", function (lib) {\n});", None),
+    (
+        "ADSAFE.lib(\"m\", function (lib) {\n  return \"_a_\";\n});\n",
+        None,
+    ),
+    (
+        "ADSAFE.lib('m', function (lib) { lib.a(lib, 'x').b(\"/\"); });",
+        None,
+    ),
+    (
+        "ADSAFE.lib(\"m\", function (lib) { return lib.a(function (x) { x(lib)(this); }, this); });",
+        Some("[1,69]"),
+    ),
+    (
+        "ADSAFE.lib(\"m\", function (a) { return function (b, c) { return a(b, c); }; });",
+        None,
+    ),
+    (
+        "ADSAFE.lib(\"m\", function (lib) { return lib.a.b; });",
+        None,
+    ),
+];
+
+#[test]
+fn judges_plain_libraries(rt: HostRuntime) -> Result<(), Fail> {
+    let alloc = rt.alloc();
+    for (library, place) in &PLAIN {
+        let (status, held) = checked(alloc, library)?;
+        match place {
+            Some(place) => {
+                assert_eq!(rt; status, Status::Refused, "{library}");
+                let want = format!(in alloc;
+                    "{{\"file\":\"m.js\",\"refused\":\"A04\",\"at\":{place}}}\n"
+                )?;
+                assert_eq!(rt; held.as_slice(), want.as_bytes(), "{library}");
+            }
+            None => {
+                assert_eq!(rt; status, Status::Ok, "{library}");
+                assert_eq!(rt; held.as_slice(), ACCEPTED.as_bytes(), "{library}");
+            }
+        }
+    }
+    Ok(())
+}
+
+// Cases of other forms: tokens, statements, expressions and names that the form does not have.
+const OTHER: [&str; 24] = [
+    "",
+    "ADSAFE.id(\"A_\");",
+    "ADSAFE.lib;",
+    "ADSAFE.lib(\"m\", lib);",
+    "ADSAFE.lib(\"a-b\", function (lib) { });",
+    "ADSAFE.lib(\"stack\", function (lib) { });",
+    "ADSAFE.lib(\"m\", function (lib, x) { });",
+    "ADSAFE.lib(\"m\", function f(lib) { });",
+    "ADSAFE.lib(\"m\", function (lib) { }); ADSAFE.lib(\"n\", function (lib) { });",
+    "ADSAFE.lib(\"m\", function (lib) { })",
+    "ADSAFE.lib(\"m\", function (lib) { // none\n});",
+    "ADSAFE.lib(\"m\", function (lib) { return \"\\n\"; });",
+    "ADSAFE.lib(\"m\", function (lib) { return \"\u{e9}\"; });",
+    "ADSAFE.lib(\"m\", function (lib) { return 1; });",
+    "ADSAFE.lib(\"m\", function (lib) { return null; });",
+    "ADSAFE.lib(\"m\", function (lib) { return; });",
+    "ADSAFE.lib(\"m\", function (lib) { lib; });",
+    "ADSAFE.lib(\"m\", function (lib) { function f() { } });",
+    "ADSAFE.lib(\"m\", function (a_) { return this; });",
+    "ADSAFE.lib(\"m\", function (Math) { });",
+    "ADSAFE.lib(\"m\", function (lib) { return function (eval) { }; });",
+    "ADSAFE.lib(\"m\", function (lib) { return window; });",
+    "ADSAFE.lib(\"m\", function (lib) { return lib.constructor; });",
+    "ADSAFE.lib(\"m\", function (lib) { return lib.a_; });",
+];
+
+#[test]
+fn leaves_other_forms(rt: HostRuntime) -> Result<(), Fail> {
+    let alloc = rt.alloc();
+    for library in &OTHER {
+        let (status, held) = checked(alloc, library)?;
+        assert_eq!(rt; status, Status::Unbuilt, "{library}");
+        assert!(rt; held.is_empty());
+    }
+    let words: [&[&str]; 4] = [
+        &[],
+        &["check-lib"],
+        &["check", "m.js"],
+        &["check-lib", "m.js", "m.js"],
+    ];
+    for words in &words {
+        let (status, held) = ran(alloc, words, GIVES_LIB_BACK.as_bytes(), 100, &[])?;
+        assert_eq!(rt; status, Status::Unbuilt);
+        assert!(rt; held.is_empty());
+    }
+    Ok(())
+}
+
+// The library, and blanks up to a length.
+fn padded(alloc: Global, library: &str, len: usize) -> Result<Vec<u8>, Fail> {
+    let mut bytes = library.as_bytes().to_vec(alloc)?;
+    for _ in library.len()..len {
+        bytes.push(b' ')?;
+    }
+    Ok(bytes)
+}
+
+#[test]
+fn meets_limits_and_faults(rt: HostRuntime) -> Result<(), Fail> {
+    let alloc = rt.alloc();
+    let form = ["check-lib", "m.js"];
+    let (status, held) = ran(alloc, &form, USES_THIS.as_bytes(), 20, &[])?;
+    assert_eq!(rt; status, Status::Refused);
+    assert_eq!(rt; held.as_slice(), REFUSED.as_bytes());
+    let (status, held) = ran(alloc, &form, USES_THIS.as_bytes(), 20, &[2])?;
+    assert_eq!(rt; status, Status::WriteFault);
+    assert_eq!(rt; held.as_slice(), &REFUSED.as_bytes()[..20]);
+    let (status, held) = ran(alloc, &form, GIVES_LIB_BACK.as_bytes(), 100, &[1])?;
+    assert_eq!(rt; status, Status::WriteFault);
+    assert!(rt; held.is_empty());
+    let (status, held) = ran(alloc, &["check-lib", "n.js"], b"", 100, &[])?;
+    assert_eq!(rt; status, Status::ReadFault);
+    assert!(rt; held.is_empty());
+    let whole = padded(alloc, GIVES_LIB_BACK, LIMIT)?;
+    let (status, held) = ran(alloc, &form, &whole, 100, &[])?;
+    assert_eq!(rt; status, Status::Ok);
+    assert_eq!(rt; held.as_slice(), ACCEPTED.as_bytes());
+    let over = padded(alloc, GIVES_LIB_BACK, LIMIT + 1)?;
+    let (status, held) = ran(alloc, &form, &over, 100, &[])?;
+    assert_eq!(rt; status, Status::TooLarge);
+    assert!(rt; held.is_empty());
+    Ok(())
+}
