@@ -6,7 +6,7 @@ ghost use Rattle.adsafe_rules.specs.Binding.{stmt_jumps, is_stray};
 
 use crate::enclosing::Jumps;
 use crate::numbers::is_refused_number;
-use code_units::is_word;
+use crate::words::is_word;
 use js_tree::{AssignOp, BinOp, Expr, Stmt, UnOp, Word};
 
 /// `this`.

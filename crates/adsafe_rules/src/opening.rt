@@ -14,8 +14,8 @@ ghost use Rattle.adsafe_rules.specs.Program.{opening_word, is_opening_name, is_p
 
 use crate::rows::{is_name, literal};
 use crate::scope::Scope;
-use crate::words::is_library_name;
-use code_units::{Text, is_word};
+use crate::words::{is_library_name, is_word};
+use code_units::Text;
 use js_tree::{Expr, ExprId, FunId, Stmt, StmtId, Tree};
 use std::cmp::PartialEq;
 

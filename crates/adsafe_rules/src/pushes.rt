@@ -1,15 +1,15 @@
 //! The parts of nodes, as they are put on the stack of the walk.
 ghost use Rattle.std.specs.Prelude.{◌≡◌, ◌++◌, List, [], ◌∷◌, map, All, OnOk};
 ghost use Rattle.js_tree.specs.Forest.{IsExpr, IsStmt, expr_at, stmt_at, AreExprParts, AreFunParts};
-ghost use Rattle.js_tree.specs.Parts.{init_parts, block_parts};
+ghost use Rattle.js_tree.specs.Parts.{init_parts};
 ghost use Rattle.js_tree.specs.Trees.{trees};
 ghost use Rattle.adsafe_rules.specs.Forms.{is_allowed_callee, is_text, is_directive};
 ghost use Rattle.adsafe_rules.specs.Walk.{at_depth, expr_ids, stmt_ids, fun_ids, value_ids, option_ids, decl_ids, test_ids, body_ids, expr_work, outer_work, inner_work, body_work, fun_work};
 
 use crate::rows::is_name;
 use crate::walk::Work;
-use crate::words::is_callable;
-use code_units::{Memory, Text, is_word};
+use crate::words::{is_callable, is_word};
+use code_units::{Memory, Text};
 use js_tree::{Clause, Decl, Expr, ExprId, ForInit, Fun, FunId, Part, Stmt, StmtId, Tree};
 
 fn push_exprs(work: &mut Vec<Work>, ids: &[ExprId], depth: usize) -> Result<(), Memory>
@@ -102,15 +102,6 @@ fn push_first(work: &mut Vec<Work>, first: &ForInit, depth: usize) -> Result<(),
     match first {
         ForInit::Var(decls) => push_decls(work, decls, depth),
         ForInit::List(ids) => push_exprs(work, ids, depth),
-    }
-}
-
-fn push_block(work: &mut Vec<Work>, block: &Option<Vec<StmtId>>, depth: usize) -> Result<(), Memory>
-    ensures { OnOk result (work.new.items ≡ work.old.items ++ map (at_depth depth) (block_parts block.now)) }
-{
-    match block {
-        Some(ids) => push_stmts(work, ids, depth),
-        None => Ok(()),
     }
 }
 
@@ -214,7 +205,10 @@ pub fn push_outer(work: &mut Vec<Work>, node: &Stmt, depth: usize) -> Result<(),
         }
         Stmt::Try(body, _, last) => {
             push_stmts(work, body, depth)?;
-            push_block(work, last, depth)
+            match last {
+                Some(block) => push_stmts(work, block, depth),
+                None => Ok(()),
+            }
         }
         Stmt::Label(_, s) => push_stmts(work, &[*s], depth),
         _ => Ok(()),

@@ -18,8 +18,8 @@ use crate::forms::{
     is_adsafe, is_bitwise, is_dropping, is_loose_equality, is_stray, is_this, is_typed, is_with,
     is_wrong_number,
 };
-use crate::words::{is_global, is_reaching};
-use code_units::{Text, is_banned, is_barred, is_word};
+use crate::words::{is_global, is_reaching, is_word};
+use code_units::{Text, is_banned, is_barred};
 use first_breach::{Breach, offer};
 use js_tree::{BinOp, Decl, Expr, ExprId, ForInit, Fun, FunId, Stmt, StmtId, Tree, UnOp};
 
