@@ -7,7 +7,7 @@ use Rattle.adhost.specs.Library.{IsPlainLibrary}
 use Rattle.adhost.specs.Answer.{IsLibrary, IsReport, accepted, refused, Answer, report, too_large, other_words, other_form}
 use Rattle.adhost.specs.Ends.{Ends, HasReport, Fits}
 
-some_is : {A : Type 0} (x y : A) → Some x ≡ Some y → x ≡ y
+pub some_is : {A : Type 0} (x y : A) → Some x ≡ Some y → x ≡ y
 some_is x y e = cc
 
 -- the words name one library

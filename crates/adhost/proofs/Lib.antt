@@ -6,3 +6,4 @@ pub mod PlainNodes
 pub mod PlainTokens
 pub mod Counts
 pub mod Judged
+pub mod OneAnswer

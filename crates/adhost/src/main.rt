@@ -5,6 +5,7 @@ mod bound;
 mod ending;
 mod forms;
 mod judging;
+mod laws;
 mod plain_names;
 mod plain_text;
 mod plain_tree;
@@ -17,6 +18,7 @@ mod writing;
 
 pub use ending::Status;
 use host_io::{RealFiles, RealSink};
+pub use laws::one_answer;
 pub use running::run;
 use std::env;
 use std::io::ErrorKind;

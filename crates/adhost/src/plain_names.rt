@@ -1,27 +1,10 @@
 //! Names of a plain library.
 ghost use Rattle.std.specs.Prelude.{◌≡◌, ◌||◌};
 ghost use Rattle.std.specs.List.{list_all};
-ghost use Rattle.std.specs.Str.{bytes_eq};
 ghost use Rattle.adsafe_rules.specs.Words.{is_global, is_reaching, is_letter, is_digit, is_library_name};
 ghost use Rattle.adhost.specs.Plain.{is_plain_parameter, is_plain_property};
 
-use code_units::{Text, is_banned, is_barred};
-
-/// Whether the text is an ASCII word.
-pub fn is_word(text: &Text, word: &[u8]) -> bool
-    ensures { result ≡ bytes_eq text.now word.now }
-{
-    let units = text.units();
-    if units.len() != word.len() {
-        return false;
-    }
-    for (i, byte) in word.iter().enumerate() {
-        if units[i] != u16::from(*byte) {
-            return false;
-        }
-    }
-    true
-}
+use code_units::{Text, is_banned, is_barred, is_word};
 
 /// Whether a property after a dot may have this name.
 pub fn is_plain_property(name: &Text) -> bool

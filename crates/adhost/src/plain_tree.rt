@@ -6,7 +6,8 @@ ghost use Rattle.adhost.specs.Bound.{names_in};
 ghost use Rattle.adhost.specs.Plain.{is_plain_expr, are_plain_exprs, is_plain_fun, are_plain_stmts, is_plain_stmt, is_call, has_one_parameter, is_library_function, is_name_string, is_adsafe, is_adsafe_lib, are_plain_arguments, is_plain_call, is_plain_opening, is_plain_program};
 
 use crate::bound::{Bound, is_bound};
-use crate::plain_names::{are_plain_parameters, is_library_name, is_plain_property, is_word};
+use crate::plain_names::{are_plain_parameters, is_library_name, is_plain_property};
+use code_units::is_word;
 use js_tree::{Expr, ExprId, FunId, Stmt, StmtId, Tree, Word};
 
 /// Whether the program is one plain call `ADSAFE.lib("name", function (p) {..});`.

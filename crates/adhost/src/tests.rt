@@ -48,7 +48,7 @@ fn checked(alloc: Global, library: &str) -> Result<(Status, Vec<u8>), Fail> {
 }
 
 // Cases of the plain form, with the place of `this` where it stands.
-const PLAIN: [(&str, Option<&str>); 13] = [
+const PLAIN: [(&str, Option<&str>); 15] = [
     (USES_THIS, Some("[2,31]")),
     (GIVES_LIB_BACK, None),
     (
@@ -59,6 +59,11 @@ const PLAIN: [(&str, Option<&str>); 13] = [
         "ADSAFE.lib(\"m\", function (lib) {\n\treturn\tthis;\n});\n",
         Some("[2,9]"),
     ),
+    (
+        "ADSAFE.lib(\"nnnnnnnnnnnnnnnnnnnnnnnnnnnnnnnnnnnnnnnnnnnnnnnnnnnnnnnnnnnnnnnn\", function (lib) { });",
+        None,
+    ),
+    ("ADSAFE.lib(\"aB3\", function (lib) { });", None),
     ("ADSAFE.lib(\"m\", function () { });", None),
     ("(ADSAFE.lib)((\"m\"), (function (lib) { }));", None),
     (
