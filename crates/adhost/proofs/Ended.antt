@@ -1,10 +1,9 @@
 -- Where there is a report, the answer is one.
-use Rattle.std.proofs.Common.{◌≡◌, ℕ, List, length, Option, Some, None, IfSome, sym, ap, ◌∙◌, subst, arith}
+use Rattle.std.proofs.Common.{◌≡◌, ℕ, List, length, Option, Some, None, IfSome, sym, ap, ◌∙◌, arith, Bool, true, false}
 use Rattle.host_io.specs.Files.{FileMap}
 use Rattle.adhost.specs.declared.ending.Status.{Status}
 use Rattle.adhost.specs.declared.ending.Status.TheVariants as status
-use Rattle.adhost.specs.Library.{IsPlainLibrary}
-use Rattle.adhost.specs.Answer.{IsLibrary, IsReport, accepted, refused, Answer, report, too_large, other_words, other_form}
+use Rattle.adhost.specs.Answer.{IsLibrary, ending, Answer, report, too_large, other_words}
 use Rattle.adhost.specs.Ends.{Ends, HasReport, Fits}
 
 pub some_is : {A : Type 0} (x y : A) → Some x ≡ Some y → x ≡ y
@@ -17,18 +16,16 @@ same_library words m name file other text a b =
     some_is file text (sym a.there ∙ ap m named ∙ b.there)
 
 -- a report comes with Ok or Refused
-report_ends : (name file bytes : List ℕ) (s : Status) → IsReport name file s bytes → Ends ⊥ ⊥ s
-report_ends name file bytes s (accepted plain clean) = tt
-report_ends name file bytes s (refused plain first) = tt
+report_ends : (refused : Bool) → Ends ⊥ ⊥ (ending refused)
+report_ends true = tt
+report_ends false = tt
 
 ends_of : (words : List (List ℕ)) (m : FileMap) (bytes : List ℕ) (s : Status) → HasReport words m → Answer words m s bytes → Ends ⊥ ⊥ s
-ends_of words m bytes s has (report library within written) = report_ends _ _ _ _ written
+ends_of words m bytes s has (report {refused = refused} library within written) = report_ends refused
 ends_of words m bytes s has (too_large {name = name} {file = file} library long) =
     let same = same_library words m has.name has.file name file has.library library in
     omega (arith, has.within, ap length same, long)
 ends_of words m bytes s has (other_words other) = let e = sym other ∙ has.library.named in cc
-ends_of words m bytes s has (other_form {name = name} {file = file} library within other) =
-    other (subst IsPlainLibrary (same_library words m has.name has.file name file has.library library) has.plain)
 
 -- so it does of files that are told
 pub ends_calm : (told : Option FileMap) (words : List (List ℕ)) (bytes : List ℕ) (s : Status) (calm : Type 0) (room : ℕ) → IfSome told (λ m. Answer words m s bytes) → IfSome told (λ m. calm → HasReport words m → Fits words m room → Ends ⊥ ⊥ s)

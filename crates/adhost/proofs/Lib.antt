@@ -1,9 +1,4 @@
 pub mod Pieces
-pub mod Within
 pub mod Reported
 pub mod Ended
-pub mod PlainNodes
-pub mod PlainTokens
-pub mod Counts
-pub mod Judged
-pub mod OneAnswer
+mod OneAnswer

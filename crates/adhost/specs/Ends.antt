@@ -4,7 +4,6 @@ use Rattle.host_io.specs.Files.{FileMap}
 use Rattle.adhost.specs.declared.ending.Status.{Status}
 use Rattle.adhost.specs.declared.ending.Status.TheVariants as status
 use Rattle.adhost.specs.Answer.{IsLibrary, library_limit, Answer}
-use Rattle.adhost.specs.Library.{IsPlainLibrary}
 
 abbrev pub number_of : Status → ℕ
 number_of status.Ok = 0
@@ -39,13 +38,12 @@ Ends read write status.ReadFault = read
 Ends read write status.WriteFault = write
 Ends read write _ = ⊥
 
--- the words name a library within the limit, of the form that is judged for now
+-- the words name a library within the limit
 pub record HasReport (words : List (List ℕ)) (files : FileMap) : Type 0 where
   pub name : List ℕ
   pub file : List ℕ
   pub library : IsLibrary words files name file
   pub within : length file ≤ library_limit
-  pub plain : IsPlainLibrary file
 
 -- there is room for what may be written
 abbrev pub Fits : List (List ℕ) → FileMap → ℕ → Type 0

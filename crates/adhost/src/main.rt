@@ -1,14 +1,9 @@
 //! Checks a library by the rules of docs/, and writes one line on it.
 #![tactic(auto)]
 
-mod bound;
 mod ending;
 mod forms;
-mod judging;
 mod laws;
-mod plain_names;
-mod plain_text;
-mod plain_tree;
 mod reading;
 mod reports;
 mod running;

@@ -1,4 +1,10 @@
 pub mod Takes
+pub mod Complete
+pub mod Waits
+pub mod Keeps
 pub mod Sound
+pub mod Close
 pub mod Links
 pub mod Laws
+pub mod Fronts
+mod Examples

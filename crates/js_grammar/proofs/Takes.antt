@@ -1,150 +1,346 @@
 -- What spells a program is taken by the machine, token by token, and gives that tree.
-use Rattle.std.proofs.Common.{◌≡◌, ℕ, suc, List, [], ◌∷◌, Bool, true, false, Option, Some, None, refl}
+use Rattle.std.proofs.Common.{◌≡◌, ℕ, suc, ◌≤◌, List, [], ◌∷◌, Bool, true, false, Option, Some, None, refl, ap, sym, subst, ◌∙◌, nat_lt, arith}
+use Rattle.std.proofs.lemmas.Bool.Decides.{nat_tests}
 use Rattle.js_grammar.specs.declared.Sign.{Sign}
 use Rattle.js_grammar.specs.declared.Sign.TheVariants as sign
-use Rattle.js_tree.specs.Plain.{Expr, Exprs, Stmt, Stmts, Funs, ExprAt, Call, NoExprs, AndExpr, NoStmts, AndStmt, NoFuns, expr_place}
-use Rattle.exact_refusals.specs.Judge as machine
-use Rattle.js_grammar.specs.Machine.{Frame, State, Wants, Gives, Did, Step, step, expr, begin, finished, has_function, FirstArg, FunName, FunOpen, FunFirst, FunMore, FunBody, Statement, ReturnFirst, InBlock, InBody, Rest, Paren, MoreArgs, Semi, ReturnSemi, FunEnd, FunExpr, Declare}
-use Rattle.js_grammar.specs.Grammar.{Lexeme, Deep, Level, Tight, Whole, Thing, An, Args, Names, Code, A, Block, Body, Spells, opens_other, IsProgram}
-use Rattle.js_grammar.specs.Grammar.Spells.{name, string, this, null, true_word, false_word, paren, unnamed, named, dot, call, whole, no_args, first_arg, next_arg, no_names, first_name, next_name, code, only, return_nothing, return_value, no_statement, next_statement, empty_body, body_statement, body_function}
+use Rattle.js_grammar.specs.declared.Infix.{Infix}
+use Rattle.js_grammar.specs.Tables.{infix_of, level_of, step_of, assign_of, is_tail, opens_other}
+use Rattle.js_grammar.specs.Grammar.{Lexeme, Token, Deep, Level, Primary, Operand, LeftHand, Unary, Operators, Assignment, Whole, Thing, An, Items, Keys, Maybe, Names, Code, Init, Vars, A, Statements, Block, Cases, Body, goes_on}
+use Rattle.js_grammar.specs.Machine as machine
+use Rattle.js_grammar.specs.Machine.{Frame, State, Wants, Gives, Did, Done, Step, step, begin, finished}
+use Rattle.js_grammar.specs.Machine.{PrimaryAt, UnaryAt, DotName, ItemsAt, FirstKey, NextKey, KeyColon, FunName, FunOpen, FirstName, MoreNames, NextName, FunBody, DeclName, Statement, MaybeLabel, BlockAt, Test, Ended, VarName, VarTail, AfterIf, AfterElse, AfterDo, ForOpen, ForFirst, ForVar, ForVarName, ForName, ForTest, AfterContinue, AfterBreak, AfterReturn, SwitchOpen, FirstCase, DefaultColon, AfterTry, CatchOpen, CatchName, CatchClose, AfterCatch, Paren, Tail, NewTail, Index, Target, Prefixed, Rest, Right, Choice, Second, Third, Assigned, Commas, CommaRight, MoreItems, Value, Semi, ReturnSemi, ThrowSemi, VarInit, IfTest, WhileTest, DoTest, WithTest, SwitchTest, ForOver, ForTestEnd, CaseTest, ArrayEnd, CallEnd, NewEnd, ForItemsEnd, ForEnd, ObjectEnd, NamesEnd, VarEnd, ForVarEnd, SwitchEnd, InBlock, InBody, Labelled, ElseIf, IfBlock, ElseBlock, WhileBlock, DoBlock, WithBlock, ForBlock, ForInBlock, TryBlock, CatchBlock, FinallyBlock, InCase, FunEnd, FunExpr, Declare}
+use Rattle.js_tree.specs.declared.nodes.StepOp.{StepOp}
+use Rattle.js_tree.specs.declared.nodes.AssignOp.{AssignOp}
+use Rattle.js_tree.specs.Plain.{Expr, ExprAt, Name, New, NoExprs, AndExpr, NoExpr, SomeExpr, NoProperties, AndProperty, Decls, NoDecls, AndDecl, ForInit, Stmt, StmtAt, If, Try, Label, Stmts, NoStmts, AndStmt, NoBlock, CatchAs, NoClauses, AndClause, Funs, NoFuns}
+use Rattle.exact_refusals.specs.Judge as judge
 
 -- the machine takes all these tokens, at these depths, and then has the program
 abbrev pub Takes : State → List Deep → Stmts → Type 0
-Takes st ts p = machine.Takes step finished st ts p
+Takes st ts p = judge.Takes step finished st ts p
 
--- a tail of an expression goes on with the sign
+-- a sign goes on with a left-hand form
 abbrev pub binds : Sign → Bool
 binds sign.Point = true
+binds sign.OpenSquare = true
 binds sign.Open = true
+binds sign.PlusPlus = true
+binds sign.MinusMinus = true
+binds sign.Assign = true
+binds sign.PlusAssign = true
+binds sign.MinusAssign = true
+binds sign.StarAssign = true
+binds sign.SlashAssign = true
+binds sign.PercentAssign = true
+binds sign.ShiftLeftAssign = true
+binds sign.ShiftRightAssign = true
+binds sign.ShiftRightZeroAssign = true
+binds sign.BitAndAssign = true
+binds sign.BitOrAssign = true
+binds sign.BitXorAssign = true
 binds _ = false
 
-abbrev pub Quiet : List Deep → Type 0
-Quiet [] = Unit {0}
-Quiet (t ∷ ts) = binds t.0.0 ≡ false
+abbrev pub asks : Sign → Bool
+asks sign.Question = true
+asks _ = false
 
 -- what may not follow, so that an expression of the level is all there
 abbrev pub Calm : Level → List Deep → Type 0
-Calm Tight ts = Unit {0}
-Calm Whole ts = Quiet ts
+Calm Unary (t ∷ ts) = binds t.0.0 ≡ false
+Calm (Operators b n) (t ∷ ts) = (binds t.0.0 ≡ false) × ((o : Infix) → infix_of t.0.0 b ≡ Some o → n ≤ suc (level_of o))
+Calm (Assignment b) (t ∷ ts) = (binds t.0.0 ≡ false) × (infix_of t.0.0 b ≡ None) × (asks t.0.0 ≡ false)
+Calm _ _ = Unit {0}
 
--- what waits for an expression of the level
-abbrev pub given : Level → Expr → ℕ → List Frame → State
-given Tight e d k = Gives e (Rest Tight d ∷ k)
-given Whole e d k = Gives e k
+-- ## Frames that a token passes by
 
--- the step of a tail that the token does not go on
-past_tight : (e : Expr) (d : ℕ) (k : List Frame) (s : Sign) (x : Lexeme) → binds s ≡ false → step (Gives e (Rest Tight d ∷ k)) (s, x) ≡ step (Gives e k) (s, x)
-past_tight e d k sign.Point x h = cc
-past_tight e d k sign.Open x h = cc
-past_tight e d k _ x h = refl
+pub past_tail : (d : ℕ) (e : Expr) (k : List Frame) (other : Step) (t : Token) → is_tail t.0 ≡ false → machine.tail d e k other t ≡ other
+past_tail d e k other (sign.Point, x) h = cc
+past_tail d e k other (sign.OpenSquare, x) h = cc
+past_tail d e k other (sign.Open, x) h = cc
+past_tail d e k other (_, x) h = refl
 
-pub close_tight : (e : Expr) (d : ℕ) (k : List Frame) (p : Stmts) (ts : List Deep) → Quiet ts → Takes (Gives e k) ts p → Takes (Gives e (Rest Tight d ∷ k)) ts p
-close_tight e d k p [] q h = cc
-close_tight e d k p (t ∷ ts) q h = (h.0, rw (past_tight e d k t.0.0 t.0.1 q) (h.1), h.2)
+pub past_new_tail : (d : ℕ) (w : Lexeme) (e : Expr) (k : List Frame) (other : Step) (t : Token) → is_tail t.0 ≡ false → machine.new_tail d w e k other t ≡ other
+past_new_tail d w e k other (sign.Point, x) h = cc
+past_new_tail d w e k other (sign.OpenSquare, x) h = cc
+past_new_tail d w e k other (sign.Open, x) h = cc
+past_new_tail d w e k other (_, x) h = refl
 
--- a first argument begins as an expression does
-pub begins_arg : (d : ℕ) (f : Expr) (k : List Frame) (ts : List Deep) (p : Stmts) → Takes (Wants (expr Whole d (MoreArgs d f NoExprs ∷ k))) ts p → Takes (Wants (FirstArg d f ∷ k)) ts p
-begins_arg d f k [] p h = cc
-begins_arg d f k (((sign.Close, x), m) ∷ ts) p h = cc
-begins_arg d f k (((s, x), m) ∷ ts) p h = h
+pub unbound_tail : (s : Sign) → binds s ≡ false → is_tail s ≡ false
+unbound_tail sign.Point h = h
+unbound_tail sign.OpenSquare h = h
+unbound_tail sign.Open h = h
+unbound_tail _ h = refl
 
--- the value of a `return` begins as an expression does
-pub begins_value : (d : ℕ) (w : Lexeme) (k : List Frame) (ts : List Deep) (p : Stmts) → Takes (Wants (expr Whole d (ReturnSemi d w ∷ k))) ts p → Takes (Wants (ReturnFirst d w ∷ k)) ts p
-begins_value d w k [] p h = cc
-begins_value d w k (((sign.Semicolon, x), m) ∷ ts) p h = cc
-begins_value d w k (((s, x), m) ∷ ts) p h = h
+pub step_tail : (s : Sign) (o : StepOp) → step_of s ≡ Some o → is_tail s ≡ false
+step_tail sign.Point o h = cc
+step_tail sign.OpenSquare o h = cc
+step_tail sign.Open o h = cc
+step_tail _ o h = refl
 
--- an expression statement begins as an expression does
-pub begins_only : (d : ℕ) (k : List Frame) (s : Sign) (x : Lexeme) (m : ℕ) (ts : List Deep) (p : Stmts) → opens_other s ≡ false → Takes (Wants (expr Whole d (Semi d x ∷ k))) (((s, x), m) ∷ ts) p → Takes (Wants (Statement d ∷ k)) (((s, x), m) ∷ ts) p
-begins_only d k sign.Function x m ts p n h = cc
-begins_only d k sign.OpenBrace x m ts p n h = cc
-begins_only d k sign.Return x m ts p n h = cc
-begins_only d k s x m ts p n h = h
+pub assign_tail : (s : Sign) (o : AssignOp) → assign_of s ≡ Some o → is_tail s ≡ false
+assign_tail sign.Point o h = cc
+assign_tail sign.OpenSquare o h = cc
+assign_tail sign.Open o h = cc
+assign_tail _ o h = refl
 
--- a list of statements goes on as a statement begins
-pub begins_block : (d : ℕ) (ss : Stmts) (k : List Frame) (ts : List Deep) (p : Stmts) → Takes (Wants (Statement d ∷ InBlock d ss ∷ k)) ts p → Takes (Wants (InBlock d ss ∷ k)) ts p
-begins_block d ss k [] p h = cc
-begins_block d ss k (((sign.End, x), m) ∷ ts) p h = cc
-begins_block d ss k (((s, x), m) ∷ ts) p h = h
+pub assign_step : (s : Sign) (o : AssignOp) → assign_of s ≡ Some o → step_of s ≡ None
+assign_step sign.PlusPlus o h = cc
+assign_step sign.MinusMinus o h = cc
+assign_step _ o h = refl
 
-pub begins_body : (d : ℕ) (ss : Stmts) (fs : Funs) (k : List Frame) (ts : List Deep) (p : Stmts) → Takes (Wants (Statement d ∷ InBody d ss fs ∷ k)) ts p → Takes (Wants (InBody d ss fs ∷ k)) ts p
-begins_body d ss fs k [] p h = cc
-begins_body d ss fs k (((sign.CloseBrace, x), m) ∷ ts) p h = cc
-begins_body d ss fs k (((sign.Function, x), m) ∷ ts) p h = cc
-begins_body d ss fs k (((s, x), m) ∷ ts) p h = h
+pub past_target : (d : ℕ) (e : Expr) (k : List Frame) (other : Step) (s : Sign) → binds s ≡ false → machine.step_or (step_of s) d e k (machine.assign_or (assign_of s) d e k other) ≡ other
+past_target d e k other sign.PlusPlus h = cc
+past_target d e k other sign.MinusMinus h = cc
+past_target d e k other sign.Assign h = cc
+past_target d e k other sign.PlusAssign h = cc
+past_target d e k other sign.MinusAssign h = cc
+past_target d e k other sign.StarAssign h = cc
+past_target d e k other sign.SlashAssign h = cc
+past_target d e k other sign.PercentAssign h = cc
+past_target d e k other sign.ShiftLeftAssign h = cc
+past_target d e k other sign.ShiftRightAssign h = cc
+past_target d e k other sign.ShiftRightZeroAssign h = cc
+past_target d e k other sign.BitAndAssign h = cc
+past_target d e k other sign.BitOrAssign h = cc
+past_target d e k other sign.BitXorAssign h = cc
+past_target d e k other _ h = refl
 
--- a statement is put into its list
-pub did_block : (d : ℕ) (ss : Stmts) (s : Stmt) (k : List Frame) (ts : List Deep) (p : Stmts) → Takes (Wants (InBlock d (AndStmt ss s) ∷ k)) ts p → Takes (Did s (InBlock d ss ∷ k)) ts p
-did_block d ss s k [] p h = cc
-did_block d ss s k (t ∷ ts) p h = h
+pub infix_unbound : (s : Sign) (b : Bool) (o : Infix) → infix_of s b ≡ Some o → binds s ≡ false
+infix_unbound sign.Point b o h = cc
+infix_unbound sign.OpenSquare b o h = cc
+infix_unbound sign.Open b o h = cc
+infix_unbound sign.PlusPlus b o h = cc
+infix_unbound sign.MinusMinus b o h = cc
+infix_unbound sign.Assign b o h = cc
+infix_unbound sign.PlusAssign b o h = cc
+infix_unbound sign.MinusAssign b o h = cc
+infix_unbound sign.StarAssign b o h = cc
+infix_unbound sign.SlashAssign b o h = cc
+infix_unbound sign.PercentAssign b o h = cc
+infix_unbound sign.ShiftLeftAssign b o h = cc
+infix_unbound sign.ShiftRightAssign b o h = cc
+infix_unbound sign.ShiftRightZeroAssign b o h = cc
+infix_unbound sign.BitAndAssign b o h = cc
+infix_unbound sign.BitOrAssign b o h = cc
+infix_unbound sign.BitXorAssign b o h = cc
+infix_unbound _ b o h = refl
 
-pub did_body : (d : ℕ) (ss : Stmts) (fs : Funs) (s : Stmt) (k : List Frame) (ts : List Deep) (p : Stmts) → Takes (Wants (InBody d (AndStmt ss s) fs ∷ k)) ts p → Takes (Did s (InBody d ss fs ∷ k)) ts p
-did_body d ss fs s k [] p h = cc
-did_body d ss fs s k (t ∷ ts) p h = h
+pub past_infix : (r : Option Infix) (b : Bool) (n d : ℕ) (e : Expr) (k : List Frame) (other : Step) → ((o : Infix) → r ≡ Some o → n ≤ level_of o) → machine.infix_or r b n d e k other ≡ other
+past_infix None b n d e k other h = refl
+past_infix (Some o) b n d e k other h =
+    let le : n ≤ level_of o = h o refl in
+    let no : nat_lt (level_of o) n ≡ false = grind (arith, nat_tests) in
+    rw no refl
 
--- before the `(` of a function
-abbrev pub code_start : ℕ → Lexeme → Option Lexeme → List Frame → State
-code_start d w None k = Wants (FunName d w ∷ k)
-code_start d w (Some x) k = Wants (FunOpen d w x ∷ k)
+pub past_choice : (b : Bool) (d : ℕ) (e : Expr) (k : List Frame) (other : Step) (s : Sign) → asks s ≡ false → machine.choice b d e k other s ≡ other
+past_choice b d e k other sign.Question h = cc
+past_choice b d e k other _ h = refl
 
-opens_code : (d : ℕ) (w : Lexeme) (own : Option Lexeme) (k : List Frame) (o : Lexeme) (ts : List Deep) (p : Stmts) → Takes (Wants (FunFirst (suc d) w own ∷ k)) ts p → Takes (code_start d w own k) (((sign.Open, o), suc d) ∷ ts) p
-opens_code d w None k o ts p h = (_, refl, h)
-opens_code d w (Some x) k o ts p h = (_, refl, h)
+module _ (p : Stmts) where
+  -- an expression that is all there
+  pub close_left : (ts : List Deep) (e : Expr) (d : ℕ) (k : List Frame) → Calm Unary ts → Takes (Gives e k) ts p → Takes (Gives e (Tail d ∷ Target d ∷ k)) ts p
+  close_left [] e d k q h = cc
+  close_left (t ∷ ts) e d k q h = (h.0, past_tail d e (Target d ∷ k) _ t.0 (unbound_tail t.0.0 q) ∙ past_target d e k _ t.0.0 q ∙ h.1, h.2)
+
+  pub close_rest : (ts : List Deep) (e : Expr) (b : Bool) (n d : ℕ) (k : List Frame) → Calm (Operators b (suc n)) ts → Takes (Gives e k) ts p → Takes (Gives e (Rest b n d ∷ k)) ts p
+  close_rest [] e b n d k q h = cc
+  close_rest (t ∷ ts) e b n d k q h = (h.0, past_infix (infix_of t.0.0 b) b n d e k _ (λ o is. let le : suc n ≤ suc (level_of o) = q.1 o is in omega arith) ∙ h.1, h.2)
+
+  pub close_operators : (ts : List Deep) (e : Expr) (b : Bool) (d : ℕ) (k : List Frame) → Calm (Assignment b) ts → Takes (Gives e k) ts p → Takes (Gives e (Rest b 10 d ∷ Choice b d ∷ k)) ts p
+  close_operators [] e b d k q h = cc
+  close_operators (t ∷ ts) e b d k q h = (h.0, past_infix (infix_of t.0.0 b) b 10 d e (Choice b d ∷ k) _ (λ o is. let none : None ≡ Some o = sym (q.1) ∙ is in cc) ∙ past_choice b d e k _ t.0.0 (q.2) ∙ h.1, h.2)
+
+  pub close_new : (ts : List Deep) (e : Expr) (d : ℕ) (w : Lexeme) (k : List Frame) → goes_on ts ≡ false → Takes (Gives (ExprAt w.at [] (New e NoExprs)) k) ts p → Takes (Gives e (NewTail d w ∷ k)) ts p
+  close_new [] e d w k q h = cc
+  close_new (t ∷ ts) e d w k q h = (h.0, past_new_tail d w e k _ t.0 q ∙ h.1, h.2)
+
+  -- a frame that passes on, whatever comes
+  pub passes : (ts : List Deep) (f : Frame) (e made : Expr) (k : List Frame) → ((t : Token) → step (Gives e (f ∷ k)) t ≡ step (Gives made k) t) → Takes (Gives made k) ts p → Takes (Gives e (f ∷ k)) ts p
+  passes [] f e made k same h = cc
+  passes (t ∷ ts) f e made k same h = (h.0, same t.0 ∙ h.1, h.2)
+
+  -- ## What begins as something else does
+
+  pub begins_left : (d : ℕ) (k : List Frame) (ts : List Deep) → Takes (Wants (PrimaryAt d ∷ Tail d ∷ Target d ∷ k)) ts p → Takes (Wants (UnaryAt d ∷ k)) ts p
+  begins_left d k [] h = cc
+  begins_left d k (((sign.Delete, x), n) ∷ ts) h = cc
+  begins_left d k (((sign.Void, x), n) ∷ ts) h = cc
+  begins_left d k (((sign.TypeOf, x), n) ∷ ts) h = cc
+  begins_left d k (((sign.Plus, x), n) ∷ ts) h = cc
+  begins_left d k (((sign.Minus, x), n) ∷ ts) h = cc
+  begins_left d k (((sign.BitNot, x), n) ∷ ts) h = cc
+  begins_left d k (((sign.Not, x), n) ∷ ts) h = cc
+  begins_left d k (((sign.PlusPlus, x), n) ∷ ts) h = cc
+  begins_left d k (((sign.MinusMinus, x), n) ∷ ts) h = cc
+  begins_left d k (((sign.New, x), n) ∷ ts) h = cc
+  begins_left d k (t ∷ ts) h = h
+
+  pub begins_items : (b : Bool) (d : ℕ) (k : List Frame) (ts : List Deep) → Takes (Wants (machine.expr b d (MoreItems b d NoExprs ∷ k))) ts p → Takes (Wants (ItemsAt b d ∷ k)) ts p
+  begins_items b d k [] h = cc
+  begins_items b d k (((sign.Close, x), n) ∷ ts) h = cc
+  begins_items b d k (((sign.CloseSquare, x), n) ∷ ts) h = cc
+  begins_items b d k (((sign.Semicolon, x), n) ∷ ts) h = cc
+  begins_items b d k (t ∷ ts) h = h
+
+  pub begins_unnamed : (d : ℕ) (w : Lexeme) (k : List Frame) (ts : List Deep) → Takes (Wants (FunOpen d w None ∷ FunExpr w ∷ k)) ts p → Takes (Wants (FunName d w ∷ k)) ts p
+  begins_unnamed d w k [] h = cc
+  begins_unnamed d w k (((sign.Name, x), n) ∷ ts) h = cc
+  begins_unnamed d w k (t ∷ ts) h = h
+
+  pub begins_in_block : (d : ℕ) (ss : Stmts) (k : List Frame) (ts : List Deep) → Takes (Wants (Statement d ∷ InBlock d ss ∷ k)) ts p → Takes (Wants (InBlock d ss ∷ k)) ts p
+  begins_in_block d ss k [] h = cc
+  begins_in_block d ss k (((sign.End, x), n) ∷ ts) h = cc
+  begins_in_block d ss k (((sign.CloseBrace, x), n) ∷ ts) h = cc
+  begins_in_block d ss k (((sign.Case, x), n) ∷ ts) h = cc
+  begins_in_block d ss k (((sign.Default, x), n) ∷ ts) h = cc
+  begins_in_block d ss k (t ∷ ts) h = h
+
+  pub begins_in_body : (d : ℕ) (ss : Stmts) (fs : Funs) (k : List Frame) (ts : List Deep) → Takes (Wants (Statement d ∷ InBody d ss fs ∷ k)) ts p → Takes (Wants (InBody d ss fs ∷ k)) ts p
+  begins_in_body d ss fs k [] h = cc
+  begins_in_body d ss fs k (((sign.CloseBrace, x), n) ∷ ts) h = cc
+  begins_in_body d ss fs k (((sign.Function, x), n) ∷ ts) h = cc
+  begins_in_body d ss fs k (t ∷ ts) h = h
+
+  pub did_in_block : (d : ℕ) (ss : Stmts) (s : Stmt) (k : List Frame) (ts : List Deep) → Takes (Wants (InBlock d (AndStmt ss s) ∷ k)) ts p → Takes (Did s (InBlock d ss ∷ k)) ts p
+  did_in_block d ss s k [] h = cc
+  did_in_block d ss s k (t ∷ ts) h = h
+
+  pub did_in_body : (d : ℕ) (ss : Stmts) (fs : Funs) (s : Stmt) (k : List Frame) (ts : List Deep) → Takes (Wants (InBody d (AndStmt ss s) fs ∷ k)) ts p → Takes (Did s (InBody d ss fs ∷ k)) ts p
+  did_in_body d ss fs s k [] h = cc
+  did_in_body d ss fs s k (t ∷ ts) h = h
+
+  pub begins_name : (d : ℕ) (x : Lexeme) (k : List Frame) (ts : List Deep) → Takes (Gives (ExprAt x.at [] (Name x.text)) (machine.tails false d (Commas d ∷ Semi d x ∷ k))) ts p → Takes (Wants (MaybeLabel d x ∷ k)) ts p
+  begins_name d x k [] h = cc
+  begins_name d x k (((sign.Colon, q), n) ∷ ts) h = cc
+  begins_name d x k (t ∷ ts) h = h
+
+  pub begins_for_name : (d : ℕ) (w x : Lexeme) (k : List Frame) (ts : List Deep) → Takes (Gives (ExprAt x.at [] (Name x.text)) (machine.tails true (suc d) (MoreItems true (suc d) NoExprs ∷ ForItemsEnd d w ∷ k))) ts p → Takes (Wants (ForName d w x ∷ k)) ts p
+  begins_for_name d w x k [] h = cc
+  begins_for_name d w x k (((sign.In, q), n) ∷ ts) h = cc
+  begins_for_name d w x k (t ∷ ts) h = h
+
+  pub begins_for_var : (d : ℕ) (w x : Lexeme) (k : List Frame) (ts : List Deep) → Takes (Wants (VarTail true (suc d) NoDecls x ∷ ForVarEnd d w ∷ k)) ts p → Takes (Wants (ForVarName d w x ∷ k)) ts p
+  begins_for_var d w x k [] h = cc
+  begins_for_var d w x k (((sign.In, q), n) ∷ ts) h = cc
+  begins_for_var d w x k (t ∷ ts) h = h
+
+  -- the same token at the same depth, and what comes of it
+  pub one_step : {a b : ℕ} {x y : State} → ◌≡◌ {A = Step} (Some (a, x)) (Some (b, y)) → (a ≡ b) × (x ≡ y)
+  one_step {a} {b} {x} {y} e = let pair : ◌≡◌ {A = ℕ × State} (a, x) (b, y) = cc in (ap (λ z. z.0) pair, ap (λ z. z.1) pair)
+
+  pub never : {a : ℕ} {x : State} → ◌≡◌ {A = Step} None (Some (a, x)) → ⊥
+  never h = cc
+
+  -- a name that leads to one state leads to the other
+  pub turn_name : (st other : State) (d n : ℕ) (a b : State) (x : Lexeme) (ts : List Deep) → step st (sign.Name, x) ≡ Some (d, a) → step other (sign.Name, x) ≡ Some (d, b) → (Takes a ts p → Takes b ts p) → Takes st (((sign.Name, x), n) ∷ ts) p → Takes other (((sign.Name, x), n) ∷ ts) p
+  turn_name st other d n a b x ts first second turn h =
+      let same = one_step (sym first ∙ h.1) in
+      let depth : d ≡ n = same.0 in
+      let next : a ≡ h.0 = same.1 in
+      (b, subst (λ y. step other (sign.Name, x) ≡ Some (y, b)) depth second, turn (subst (λ y. Takes y ts p) (sym next) (h.2)))
+
+  pub begins_only : (d n : ℕ) (s : Sign) (x : Lexeme) (k : List Frame) (ts : List Deep) → opens_other s ≡ false → Takes (Wants (machine.whole d (Semi d x ∷ k))) (((s, x), n) ∷ ts) p → Takes (Wants (Statement d ∷ k)) (((s, x), n) ∷ ts) p
+  begins_only d n sign.Name x k ts fit h = turn_name (Wants (machine.whole d (Semi d x ∷ k))) (Wants (Statement d ∷ k)) d n (Gives (ExprAt x.at [] (Name x.text)) (machine.tails false d (Commas d ∷ Semi d x ∷ k))) (Wants (MaybeLabel d x ∷ k)) x ts refl refl (begins_name d x k ts) h
+  begins_only d n sign.OpenBrace x k ts fit h = cc
+  begins_only d n sign.Function x k ts fit h = cc
+  begins_only d n sign.Var x k ts fit h = cc
+  begins_only d n sign.If x k ts fit h = cc
+  begins_only d n sign.While x k ts fit h = cc
+  begins_only d n sign.Do x k ts fit h = cc
+  begins_only d n sign.For x k ts fit h = cc
+  begins_only d n sign.Continue x k ts fit h = cc
+  begins_only d n sign.Break x k ts fit h = cc
+  begins_only d n sign.Return x k ts fit h = cc
+  begins_only d n sign.Throw x k ts fit h = cc
+  begins_only d n sign.With x k ts fit h = cc
+  begins_only d n sign.Switch x k ts fit h = cc
+  begins_only d n sign.Try x k ts fit h = cc
+  begins_only d n s x k ts fit h = h
+
+  pub begins_for_items : (d : ℕ) (w : Lexeme) (k : List Frame) (ts : List Deep) → Takes (Wants (ItemsAt true (suc d) ∷ ForItemsEnd d w ∷ k)) ts p → Takes (Wants (ForFirst d w ∷ k)) ts p
+  begins_for_items d w k [] h = cc
+  begins_for_items d w k (((sign.Name, x), n) ∷ ts) h = turn_name (Wants (ItemsAt true (suc d) ∷ ForItemsEnd d w ∷ k)) (Wants (ForFirst d w ∷ k)) (suc d) n (Gives (ExprAt x.at [] (Name x.text)) (machine.tails true (suc d) (MoreItems true (suc d) NoExprs ∷ ForItemsEnd d w ∷ k))) (Wants (ForName d w x ∷ k)) x ts refl refl (begins_for_name d w x k ts) h
+  begins_for_items d w k (((sign.Var, x), n) ∷ ts) h = cc
+  begins_for_items d w k (t ∷ ts) h = h
+
+  pub begins_for_vars : (d : ℕ) (w : Lexeme) (k : List Frame) (ts : List Deep) → Takes (Wants (VarName true (suc d) NoDecls ∷ ForVarEnd d w ∷ k)) ts p → Takes (Wants (ForVar d w ∷ k)) ts p
+  begins_for_vars d w k [] h = cc
+  begins_for_vars d w k (((sign.Name, x), n) ∷ ts) h = turn_name (Wants (VarName true (suc d) NoDecls ∷ ForVarEnd d w ∷ k)) (Wants (ForVar d w ∷ k)) (suc d) n (Wants (VarTail true (suc d) NoDecls x ∷ ForVarEnd d w ∷ k)) (Wants (ForVarName d w x ∷ k)) x ts refl refl (begins_for_var d w x k ts) h
+  begins_for_vars d w k (((_, x), n) ∷ ts) h = cc
+
+  pub begins_for_test : (d : ℕ) (w : Lexeme) (i : ForInit) (k : List Frame) (ts : List Deep) → Takes (Wants (machine.whole (suc d) (ForTestEnd d w i ∷ k))) ts p → Takes (Wants (ForTest d w i ∷ k)) ts p
+  begins_for_test d w i k [] h = cc
+  begins_for_test d w i k (((sign.Semicolon, x), n) ∷ ts) h = cc
+  begins_for_test d w i k (t ∷ ts) h = h
+
+  pub begins_return : (d : ℕ) (w : Lexeme) (k : List Frame) (ts : List Deep) → Takes (Wants (machine.whole d (ReturnSemi d w ∷ k))) ts p → Takes (Wants (AfterReturn d w ∷ k)) ts p
+  begins_return d w k [] h = cc
+  begins_return d w k (((sign.Semicolon, x), n) ∷ ts) h = cc
+  begins_return d w k (t ∷ ts) h = h
+
+  -- no statement goes on with `else` or `finally`, once it is all there
+  pub no_else : (k : List Frame) (s : Stmt) (x : Lexeme) → machine.after_statement s k (sign.Else, x) ≡ None
+  no_else [] s x = refl
+  no_else (InBlock d ss ∷ k) s x = refl
+  no_else (InBody d ss fs ∷ k) s x = refl
+  no_else (Labelled y ∷ k) s x = no_else k _ x
+  no_else (ElseIf w e ss ∷ k) s x = no_else k _ x
+  no_else (_ ∷ k) s x = refl
+
+  pub no_finally : (k : List Frame) (s : Stmt) (x : Lexeme) → machine.after_statement s k (sign.Finally, x) ≡ None
+  no_finally [] s x = refl
+  no_finally (InBlock d ss ∷ k) s x = refl
+  no_finally (InBody d ss fs ∷ k) s x = refl
+  no_finally (Labelled y ∷ k) s x = no_finally k _ x
+  no_finally (ElseIf w e ss ∷ k) s x = no_finally k _ x
+  no_finally (_ ∷ k) s x = refl
+
+  pub ends_if : (d : ℕ) (w : Lexeme) (e : Expr) (ss : Stmts) (k : List Frame) (ts : List Deep) → Takes (Did (StmtAt w.at [] (If e ss NoStmts)) k) ts p → Takes (Wants (AfterIf d w e ss ∷ k)) ts p
+  ends_if d w e ss k [] h = cc
+  ends_if d w e ss k (((sign.Else, x), n) ∷ ts) h = absurd (never (sym (no_else k _ x) ∙ h.1))
+  ends_if d w e ss k (t ∷ ts) h = h
+
+  pub ends_catch : (d : ℕ) (w : Lexeme) (ss : Stmts) (x : Lexeme) (cs : Stmts) (k : List Frame) (ts : List Deep) → Takes (Did (StmtAt w.at (x.at ∷ []) (Try ss (CatchAs x.text cs) NoBlock)) k) ts p → Takes (Wants (AfterCatch d w ss x cs ∷ k)) ts p
+  ends_catch d w ss x cs k [] h = cc
+  ends_catch d w ss x cs k (((sign.Finally, y), n) ∷ ts) h = absurd (never (sym (no_finally k _ y) ∙ h.1))
+  ends_catch d w ss x cs k (t ∷ ts) h = h
+
+  pub ends_label : (x : Lexeme) (s : Stmt) (k : List Frame) (ts : List Deep) → Takes (Did (StmtAt x.at (x.at ∷ []) (Label x.text s)) k) ts p → Takes (Did s (Labelled x ∷ k)) ts p
+  ends_label x s k [] h = cc
+  ends_label x s k (t ∷ ts) h = h
+
+  pub ends_else_if : (w : Lexeme) (e : Expr) (ss : Stmts) (s : Stmt) (k : List Frame) (ts : List Deep) → Takes (Did (StmtAt w.at [] (If e ss (AndStmt NoStmts s))) k) ts p → Takes (Did s (ElseIf w e ss ∷ k)) ts p
+  ends_else_if w e ss s k [] h = cc
+  ends_else_if w e ss s k (t ∷ ts) h = h
+
+-- ## What the rows lead to
 
 -- From before the thing, the machine takes what it takes from after it.
 abbrev pub Leads : Thing → ℕ → List Deep → List Deep → Type 0
-Leads (An l e) d ts rest = (k : List Frame) (p : Stmts) → Calm l rest → Takes (given l e d k) rest p → Takes (Wants (expr l d k)) ts p
-Leads (Args NoExprs) d ts rest = (f : Expr) (k : List Frame) (p : Stmts) → Takes (Wants (FirstArg d f ∷ k)) rest p → Takes (Wants (FirstArg d f ∷ k)) ts p
-Leads (Args (AndExpr xs e)) d ts rest = (f : Expr) (k : List Frame) (p : Stmts) → Quiet rest → Takes (Gives e (MoreArgs d f xs ∷ k)) rest p → Takes (Wants (FirstArg d f ∷ k)) ts p
-Leads (Names []) d ts rest = (w : Lexeme) (own : Option Lexeme) (k : List Frame) (p : Stmts) → Takes (Wants (FunFirst d w own ∷ k)) rest p → Takes (Wants (FunFirst d w own ∷ k)) ts p
-Leads (Names (x ∷ xs)) d ts rest = (w : Lexeme) (own : Option Lexeme) (k : List Frame) (p : Stmts) → Takes (Wants (FunMore d w own (x ∷ xs) ∷ k)) rest p → Takes (Wants (FunFirst d w own ∷ k)) ts p
-Leads (Code w own f) d ts rest = (k : List Frame) (p : Stmts) (next : State) → ◌≡◌ {A = Step} (has_function (suc d) f k) (Some (suc d, next)) → Takes next rest p → Takes (code_start d w own k) ts p
+Leads (An Primary e) d ts rest = (k : List Frame) (p : Stmts) → Takes (Gives e k) rest p → Takes (Wants (PrimaryAt d ∷ k)) ts p
+Leads (An Operand e) d ts rest = (w : Lexeme) (k : List Frame) (p : Stmts) → Takes (Gives e (NewTail d w ∷ k)) rest p → Takes (Wants (PrimaryAt d ∷ NewTail d w ∷ k)) ts p
+Leads (An LeftHand e) d ts rest = (k : List Frame) (p : Stmts) → Takes (Gives e (Tail d ∷ Target d ∷ k)) rest p → Takes (Wants (UnaryAt d ∷ k)) ts p
+Leads (An Unary e) d ts rest = (k : List Frame) (p : Stmts) → Calm Unary rest → Takes (Gives e k) rest p → Takes (Wants (UnaryAt d ∷ k)) ts p
+Leads (An (Operators b n) e) d ts rest = (m : ℕ) (k : List Frame) (p : Stmts) → n ≤ m → Calm (Operators b n) rest → Takes (Gives e (Rest b m d ∷ k)) rest p → Takes (Wants (UnaryAt d ∷ Rest b m d ∷ k)) ts p
+Leads (An (Assignment b) e) d ts rest = (k : List Frame) (p : Stmts) → Calm (Assignment b) rest → Takes (Gives e k) rest p → Takes (Wants (machine.expr b d k)) ts p
+Leads (An Whole e) d ts rest = (k : List Frame) (p : Stmts) → Calm (Assignment false) rest → Takes (Gives e (Commas d ∷ k)) rest p → Takes (Wants (machine.whole d k)) ts p
+Leads (Items b NoExprs) d ts rest = (k : List Frame) (p : Stmts) → Takes (Wants (ItemsAt b d ∷ k)) rest p → Takes (Wants (ItemsAt b d ∷ k)) ts p
+Leads (Items b (AndExpr xs e)) d ts rest = (k : List Frame) (p : Stmts) → Calm (Assignment b) rest → Takes (Gives e (MoreItems b d xs ∷ k)) rest p → Takes (Wants (ItemsAt b d ∷ k)) ts p
+Leads (Keys NoProperties []) d ts rest = (k : List Frame) (p : Stmts) → Takes (Wants (FirstKey d ∷ k)) rest p → Takes (Wants (FirstKey d ∷ k)) ts p
+Leads (Keys NoProperties (a ∷ at)) d ts rest = ⊥
+Leads (Keys (AndProperty ps n v) at) d ts rest = (k : List Frame) (p : Stmts) → Calm (Assignment false) rest → Takes (Gives v (Value d ps n at ∷ k)) rest p → Takes (Wants (FirstKey d ∷ k)) ts p
+Leads (Maybe NoExpr) d ts rest = rest ≡ ts
+Leads (Maybe (SomeExpr e)) d ts rest = (k : List Frame) (p : Stmts) → Calm (Assignment false) rest → Takes (Gives e (Commas d ∷ k)) rest p → Takes (Wants (machine.whole d k)) ts p
+Leads (Names []) d ts rest = (k : List Frame) (p : Stmts) → Takes (Wants (FirstName d ∷ k)) rest p → Takes (Wants (FirstName d ∷ k)) ts p
+Leads (Names (x ∷ xs)) d ts rest = (k : List Frame) (p : Stmts) → Takes (Wants (MoreNames d (x ∷ xs) ∷ k)) rest p → Takes (Wants (FirstName d ∷ k)) ts p
+Leads (Code w own f) d ts rest = (k : List Frame) (p : Stmts) (next : State) → machine.has_function (suc d) f k ≡ Some (suc d, next) → Takes next rest p → Takes (Wants (FunOpen d w own ∷ k)) ts p
+Leads (Init b NoExpr) d ts rest = (ds : Decls) (x : Lexeme) (k : List Frame) (p : Stmts) → Takes (Wants (VarTail b d ds x ∷ k)) rest p → Takes (Wants (VarTail b d ds x ∷ k)) ts p
+Leads (Init b (SomeExpr e)) d ts rest = (ds : Decls) (x : Lexeme) (k : List Frame) (p : Stmts) → Calm (Assignment b) rest → Takes (Gives e (VarInit b d ds x ∷ k)) rest p → Takes (Wants (VarTail b d ds x ∷ k)) ts p
+Leads (Vars b NoDecls) d ts rest = ⊥
+Leads (Vars b (AndDecl ds n at NoExpr)) d ts rest = (k : List Frame) (p : Stmts) → Takes (Wants (VarTail b d ds (record { text = n; at = at }) ∷ k)) rest p → Takes (Wants (VarName b d NoDecls ∷ k)) ts p
+Leads (Vars b (AndDecl ds n at (SomeExpr e))) d ts rest = (k : List Frame) (p : Stmts) → Calm (Assignment b) rest → Takes (Gives e (VarInit b d ds (record { text = n; at = at }) ∷ k)) rest p → Takes (Wants (VarName b d NoDecls ∷ k)) ts p
 Leads (A s) d ts rest = (k : List Frame) (p : Stmts) → Takes (Did s k) rest p → Takes (Wants (Statement d ∷ k)) ts p
-Leads (Block ss) d ts rest = (k : List Frame) (p : Stmts) → Takes (Wants (InBlock d ss ∷ k)) rest p → Takes (Wants (InBlock d NoStmts ∷ k)) ts p
+Leads (Statements ss) d ts rest = (k : List Frame) (p : Stmts) → Takes (Wants (InBlock d ss ∷ k)) rest p → Takes (Wants (InBlock d NoStmts ∷ k)) ts p
+Leads (Block ss) d ts rest = (k : List Frame) (p : Stmts) (next : State) → machine.case_ends ss k sign.CloseBrace (machine.ends (suc d) ss k) ≡ Some (suc d, next) → Takes next rest p → Takes (Wants (BlockAt d ∷ k)) ts p
+Leads (Cases NoClauses) d ts rest = (k : List Frame) (p : Stmts) → Takes (Wants (FirstCase d ∷ k)) rest p → Takes (Wants (FirstCase d ∷ k)) ts p
+Leads (Cases (AndClause cs test ss)) d ts rest = (k : List Frame) (p : Stmts) → Takes (Wants (InBlock d ss ∷ InCase d cs test ∷ k)) rest p → Takes (Wants (FirstCase d ∷ k)) ts p
 Leads (Body ss fs) d ts rest = (k : List Frame) (p : Stmts) → Takes (Wants (InBody d ss fs ∷ k)) rest p → Takes (Wants (InBody d NoStmts NoFuns ∷ k)) ts p
-
--- after the opening bracket of a call, up to the call
-args_end : (xs : Exprs) (d : ℕ) (q : Lexeme) (ts rest : List Deep) → Leads (Args xs) d ts (((sign.Close, q), d) ∷ rest) → (f : Expr) (k : List Frame) (p : Stmts) → Takes (Gives (ExprAt (expr_place f) [] (Call f xs)) k) rest p → Takes (Wants (FirstArg d f ∷ k)) ts p
-args_end NoExprs d q ts rest h f k p then = h f k p (_, refl, then)
-args_end (AndExpr xs e) d q ts rest h f k p then = h f k p refl (_, refl, then)
-
-names_end : (xs : List Lexeme) (d : ℕ) (c : Lexeme) (ts rest : List Deep) → Leads (Names xs) d ts (((sign.Close, c), d) ∷ rest) → (w : Lexeme) (own : Option Lexeme) (k : List Frame) (p : Stmts) → Takes (Wants (FunBody d w own xs ∷ k)) rest p → Takes (Wants (FunFirst d w own ∷ k)) ts p
-names_end [] d c ts rest h w own k p then = h w own k p (_, refl, then)
-names_end (x ∷ xs) d c ts rest h w own k p then = h w own k p (_, refl, then)
-
-pub leads : {x : Thing} {d : ℕ} {ts rest : List Deep} → Spells x d ts rest → Leads x d ts rest
-leads name = λ k p calm h. (_, refl, h)
-leads string = λ k p calm h. (_, refl, h)
-leads this = λ k p calm h. (_, refl, h)
-leads null = λ k p calm h. (_, refl, h)
-leads true_word = λ k p calm h. (_, refl, h)
-leads false_word = λ k p calm h. (_, refl, h)
-leads (paren {p = o} {q} {e} {d} s) = λ k p calm h. (_, refl, leads s (Paren (suc d) ∷ Rest Tight d ∷ k) p refl (_, refl, h))
-leads (unnamed {w} {f} {d} s) = λ k p calm h. (_, refl, leads s (FunExpr ∷ Rest Tight d ∷ k) p _ refl h)
-leads (named {w} {x} {f} {d} s) = λ k p calm h. (_, refl, (_, refl, leads s (FunExpr ∷ Rest Tight d ∷ k) p _ refl h))
-leads (dot s) = λ k p calm h. leads s k p tt (_, refl, (_, refl, h))
-leads (call {f} {xs} {p = o} {q} {d} {ts} {us} {rest} s args) = λ k p calm h. leads s k p tt (_, refl, args_end xs (suc d) q us rest (leads args) f (Rest Tight d ∷ k) p h)
-leads (whole {e} {d} {ts} {rest} s) = λ k p calm h. leads s k p tt (close_tight e d k p rest calm h)
-leads no_args = λ f k p h. h
-leads (first_arg {e} {d} {ts} {rest} s) = λ f k p q h. begins_arg d f k ts p (leads s (MoreArgs d f NoExprs ∷ k) p q h)
-leads (next_arg {x} {e} {xs} {c} {d} s t) = λ f k p q h. leads s f k p refl (_, refl, leads t (MoreArgs d f (AndExpr xs x) ∷ k) p q h)
-leads no_names = λ w own k p h. h
-leads first_name = λ w own k p h. (_, refl, h)
-leads (next_name s) = λ w own k p h. leads s w own k p (_, refl, (_, refl, h))
-leads (code {w} {own} {params} {body} {funs} {o} {c} {b} {e} {d} {ts} {us} {rest} names inside) = λ k p next is h.
-    opens_code d w own k o ts p (names_end params (suc d) c ts (((sign.OpenBrace, b), suc d) ∷ us) (leads names) w own k p (_, refl, leads inside (FunEnd w own params ∷ k) p (next, is, h)))
-leads (only {e} {s} {x} {m} {d} {n} {ts} other sp) = λ k p h. begins_only d k s x n ts p other (leads sp (Semi d x ∷ k) p refl (_, refl, h))
-leads return_nothing = λ k p h. (_, refl, (_, refl, h))
-leads (return_value {e} {w} {m} {d} {ts} s) = λ k p h. (_, refl, begins_value d w k ts p (leads s (ReturnSemi d w ∷ k) p refl (_, refl, h)))
-leads no_statement = λ k p h. h
-leads (next_statement {ss} {s} {d} {ts} {us} {rest} before one) = λ k p h.
-    leads before k p (begins_block d ss k us p (leads one (InBlock d ss ∷ k) p (did_block d ss s k rest p h)))
-leads empty_body = λ k p h. h
-leads (body_statement {ss} {fs} {s} {d} {ts} {us} {rest} before one) = λ k p h.
-    leads before k p (begins_body d ss fs k us p (leads one (InBody d ss fs ∷ k) p (did_body d ss fs s k rest p h)))
-leads (body_function {ss} {fs} {f} {w} {x} {d} before one) = λ k p h.
-    leads before k p (_, refl, (_, refl, leads one (Declare d ss fs ∷ k) p _ refl h))
-
--- what spells a program is taken, and gives it
-pub program_takes : (ts : List Deep) (p : Stmts) → IsProgram ts p → Takes begin ts p
-program_takes ts p s = leads (s.1) [] p (_, refl, refl)

@@ -10,7 +10,7 @@ use Rattle.js_tree.specs.Forest.{Forest, Keeps, IsExpr, IsStmt, IsFun, expr_at, 
 use Rattle.js_grammar.specs.declared.Sign.{Sign}
 use Rattle.js_grammar.specs.declared.Sign.TheVariants as sign
 use Rattle.js_grammar.specs.Grammar.{Token, Lexeme, texts, places}
-use Rattle.js_grammar.specs.Machine.{Frame, State, Step, Wants, Gives, Did, FirstArg, FunName, FunOpen, FunFirst, FunBody, InBody, step, finished, has_function}
+use Rattle.js_grammar.specs.Machine.{Frame, State, Step, Wants, Gives, Did, InBody, step, finished, has_function}
 use Rattle.js_parser.specs.declared.refusal.Refusal.{Refusal}
 use Rattle.js_parser.specs.declared.refusal.Refusal.TheVariants as refusal
 
@@ -66,15 +66,6 @@ MadeExpr old new x next result = MatchResult result (λ y. AddsExpr old new x y.
 abbrev pub MadeStmt : Forest → Forest → Stmt → ℕ → Result (StmtId × ℕ) Refusal → Type 0
 MadeStmt old new x next result = MatchResult result (λ y. AddsStmt old new x y.0 × (y.1 ≡ next)) (λ e. e ≡ refusal.Memory)
 
--- the arguments of a call are read, after its bracket and with its closing one
-pub record ReadsArgs (d : ℕ) (ts : List Token) (at : ℕ) (old new : Forest) (args : List ExprId) (next : ℕ) : Type 0 where
-  pub in_text : next < length ts
-  pub later : at < next
-  pub few : size new + at ≤ size old + next
-  pub kept : Keeps old new
-  pub are_in : All (IsExpr new) args
-  pub leads : (f : Expr) (k : List Frame) → goes ts (Wants (FirstArg d f ∷ k)) at ≡ goes ts (Gives (ExprAt (expr_place f) [] (Call f (exprs_at new args))) k) next
-
 -- the own name of a function, by its place
 abbrev pub own_at : List Token → Option ℕ → Option Lexeme
 own_at ts None = None
@@ -89,29 +80,6 @@ IsHead ts at (Some own) bracket = (own ≡ at) × Next ts at sign.Name × (brack
 abbrev pub IsOwn : List Token → Option ℕ → Type 0
 IsOwn ts None = Unit {0}
 IsOwn ts (Some at) = at + 1 < length ts
-
--- where no own name was read, none stands there
-abbrev pub IsUnnamed : List Token → ℕ → Option ℕ → Type 0
-IsUnnamed ts at None = IsOther ts at sign.Name
-IsUnnamed ts at (Some own) = Unit {0}
-
--- an expression statement may begin here
-abbrev pub BeginsOnly : List Token → ℕ → Type 0
-BeginsOnly ts at = (s : Sign) × Next ts at s × (s ≢ sign.Return) × (s ≢ sign.Function) × (s ≢ sign.OpenBrace)
-
--- before the `(` of a function
-abbrev pub code_start : ℕ → Lexeme → Option Lexeme → List Frame → State
-code_start d w None k = Wants (FunName d w ∷ k)
-code_start d w (Some x) k = Wants (FunOpen d w x ∷ k)
-
--- parameters are read, after their bracket and with the closing one
-pub record ReadsParams (d : ℕ) (ts : List Token) (at : ℕ) (names : List (List ℕ)) (before after : List ℕ) (next : ℕ) : Type 0 where
-  pub in_text : next < length ts
-  pub later : at < next
-  pub params : List Lexeme
-  pub named : names ≡ texts params
-  pub placed : after ≡ before ++ places params
-  pub leads : (w : Lexeme) (own : Option Lexeme) (k : List Frame) → goes ts (Wants (FunFirst d w own ∷ k)) at ≡ goes ts (Wants (FunBody d w own params ∷ k)) next
 
 -- a function with this word is read from its `(` on
 pub record ReadsFun (start : List Frame → State) (word : Lexeme) (d : ℕ) (ts : List Token) (at : ℕ) (old new : Forest) (id : FunId) (next : ℕ) : Type 0 where

@@ -1,10 +1,17 @@
 //! The parser: from the tokens of a text to its tree.
 #![tactic(auto)]
 
+mod branches;
 mod descent;
+mod expressions;
+mod for_loops;
+mod key;
+mod operators;
 mod refusal;
 mod script;
 mod signs;
+mod statements;
+mod switches;
 mod text;
 
 use thiserror::Error;
@@ -25,6 +32,3 @@ pub enum ParseFault {
 }
 
 pub use text::parse;
-
-#[cfg(test)]
-mod tests;

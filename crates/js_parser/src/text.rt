@@ -1,23 +1,43 @@
 //! The whole text.
-ghost use Rattle.std.specs.Prelude.{◌≡◌, ◌<◌, ◌^◌, length, MatchResult, IfOk, IfErr};
+ghost use Rattle.std.specs.Prelude.{◌≡◌, ◌<◌, ◌≤◌, ◌^◌, length, All, MatchResult, IfOk, IfErr};
+ghost use Rattle.exact_refusals.specs.Judge.Outcome.{Read};
 ghost use Rattle.exact_refusals.specs.Places.{HasTree};
 ghost use Rattle.js_tokens.specs.Lexes.{Lexes};
 ghost use Rattle.js_tree.specs.Plain.{Stmts};
-ghost use Rattle.js_tree.specs.Trees.{program_of};
+ghost use Rattle.js_tree.specs.Forest.{IsStmt, no_trees, stmts_at};
+ghost use Rattle.js_tree.specs.Trees.{program_of, trees};
 ghost use Rattle.js_grammar.specs.Grammar.{IsProgram};
+ghost use Rattle.js_grammar.specs.Machine.{begin};
 ghost use Rattle.js_parser.specs.declared.refusal.Refusal.TheVariants as refusal;
 ghost use Rattle.js_parser.specs.declared.ParseFault.TheVariants as fault;
 ghost use Rattle.js_parser.specs.Signs.{input};
-ghost use Rattle.js_parser.specs.Reads.{lexeme_at};
-ghost use Rattle.js_parser.specs.Parse.{IsRefusal, IsSaid, IsPlaced};
+ghost use Rattle.js_parser.specs.Reads.{lexeme_at, goes};
+ghost use Rattle.js_parser.specs.Parse.{IsRefusal, IsSaid, IsPlaced, Stops};
 
 use super::ParseFault;
-use crate::descent::program;
 use crate::refusal::Refusal;
 use crate::script::Script;
+use crate::statements::statements;
+use js_grammar::Sign;
 use js_tokens::Token;
-use js_tree::Tree;
+use js_tree::{StmtId, Tree};
 use std::alloc::Global;
+
+// The statements of the whole text.
+fn program(script: &Script, tree: &mut Tree) -> Result<Vec<StmtId>, Refusal>
+    requires some { 0 < length script.now }
+    requires short { length script.now ≤ 2 ^ 31 }
+    requires none { trees tree.old ≡ no_trees }
+    ensures { MatchResult result
+        (λ list. All (IsStmt (trees tree.new)) list.items × (goes script.now begin 0 ≡ Read (stmts_at (trees tree.new) list.items)))
+        (λ e. Stops script.now e) }
+{
+    let (list, last) = statements(script, tree, 0, 0)?;
+    let Sign::End = script.peek(last) else {
+        return Err(Refusal::Syntax(last));
+    };
+    Ok(list)
+}
 
 // The fault of a refusal, with its place in the bytes.
 fn fault_of(script: &Script, refusal: Refusal) -> ParseFault

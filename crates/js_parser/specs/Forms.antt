@@ -1,0 +1,74 @@
+-- What the functions for expressions answer, over the machine.
+use Rattle.std.specs.Prelude.{◌≡◌, ◌≢◌, ℕ, suc, ◌+◌, ◌≤◌, ◌<◌, List, [], ◌∷◌, ◌++◌, length, Result, MatchResult, All, Bool, true, false, Option, Some, None}
+use Rattle.js_tree.specs.declared.nodes.ExprId.{ExprId}
+use Rattle.js_tree.specs.declared.nodes.AssignOp.{AssignOp}
+use Rattle.js_tree.specs.Plain.{Expr, ExprAt, Object, Exprs, NoExprs, Properties, NoProperties}
+use Rattle.js_tree.specs.Forest.{Forest, Keeps, IsExpr, expr_at, exprs_at, properties_at, size}
+use Rattle.js_grammar.specs.declared.Sign.{Sign}
+use Rattle.js_grammar.specs.declared.Sign.TheVariants as sign
+use Rattle.js_grammar.specs.Tables.{is_key}
+use Rattle.js_grammar.specs.Grammar.{Token, Lexeme}
+use Rattle.js_grammar.specs.Machine.{Frame, State, Step, Wants, Gives, PrimaryAt, UnaryAt, Tail, NewTail, ItemsAt, FirstKey, NextKey, ObjectEnd, Value, assigned_to}
+use Rattle.js_parser.specs.declared.refusal.Refusal.{Refusal}
+use Rattle.js_parser.specs.declared.refusal.Refusal.TheVariants as refusal
+use Rattle.js_parser.specs.Reads.{goes, lexeme_at, Next, IsReady, Refuses, Reads, ReadsExpr}
+
+-- what an expression becomes by the tokens from `at` up to `next`, if by any
+pub record ReadsOn (start : List Frame → State) (left : List Frame → List Frame) (ts : List Token) (at : ℕ) (old new : Forest) (id : ExprId) (next : ℕ) : Type 0 where
+  pub in_text : next < length ts
+  pub later : at ≤ next
+  pub few : size new + at ≤ size old + next
+  pub kept : Keeps old new
+  pub is_in : IsExpr new id
+  pub leads : (k : List Frame) → goes ts (start k) at ≡ goes ts (Gives (expr_at new id) (left k)) next
+
+abbrev pub GoesOn : (List Frame → State) → (List Frame → List Frame) → List Token → ℕ → Forest → Forest → Result (ExprId × ℕ) Refusal → Type 0
+GoesOn start left ts at old new result = MatchResult result (λ x. ReadsOn start left ts at old new x.0 x.1) (λ e. Refuses start ts at e)
+
+-- the next token is one whose sign passes the test
+abbrev pub IsNext : List Token → ℕ → (Sign → Type 0) → Type 0
+IsNext ts at p = (s : Sign) × Next ts at s × p s
+
+-- the frame takes what follows a primary
+abbrev pub IsTail : ℕ → Frame → Type 0
+IsTail d (Tail n) = n ≡ d
+IsTail d (NewTail n w) = n ≡ d
+IsTail d _ = ⊥
+
+-- no assignment may stand behind what these frames wait for
+abbrev pub IsOperand : List Frame → Type 0
+IsOperand k = (o : AssignOp) (d : ℕ) (e : Expr) → ◌≡◌ {A = Step} (assigned_to o d e k) None
+
+-- an operand is read, as a prefix operator or an operator before it wants it
+abbrev pub ReadsOperand : ℕ → List Token → ℕ → Forest → Forest → Result (ExprId × ℕ) Refusal → Type 0
+ReadsOperand d ts at old new result = (g : List Frame → List Frame) → ((k : List Frame) → IsOperand (g k)) → ReadsExpr (λ k. Wants (UnaryAt d ∷ g k)) g ts at old new result
+
+-- the operand of a `new` is read, up to what does not go on with it but a `(`
+pub record ReadsOperandOf (d : ℕ) (w : Lexeme) (ts : List Token) (at : ℕ) (old new : Forest) (id : ExprId) (next : ℕ) : Type 0 where
+  pub read : Reads (λ k. Wants (PrimaryAt d ∷ NewTail d w ∷ k)) (λ k. NewTail d w ∷ k) ts at old new id next
+  pub stops : IsNext ts next (λ s. (s ≢ sign.Point) × (s ≢ sign.OpenSquare))
+
+-- no key stands here
+abbrev pub IsNoKey : List Token → ℕ → Refusal → Type 0
+IsNoKey ts at (refusal.Syntax place) = (place ≡ at) × IsNext ts at (λ s. is_key s (lexeme_at ts at).text ≡ false)
+IsNoKey ts at (refusal.TooDeep place) = ⊥
+IsNoKey ts at refusal.Memory = Unit {0}
+
+-- a key and its value are read, after other keys
+pub record ReadsProperty (d : ℕ) (ts : List Token) (at : ℕ) (old new : Forest) (key : List ℕ) (id : ExprId) (next : ℕ) : Type 0 where
+  pub in_text : next < length ts
+  pub later : at < next
+  pub few : size new + at ≤ size old + next
+  pub kept : Keeps old new
+  pub is_in : IsExpr new id
+  pub named : key ≡ (lexeme_at ts at).text
+  pub leads : (ps : Properties) (names : List ℕ) (k : List Frame) → goes ts (Wants (NextKey d ps names ∷ k)) at ≡ goes ts (Gives (expr_at new id) (Value d ps key (names ++ (lexeme_at ts at).at ∷ []) ∷ k)) next
+
+-- the keys and the values of an object literal are read, with its closing brace
+pub record ReadsKeys (d : ℕ) (ts : List Token) (at : ℕ) (old new : Forest) (list : List (List ℕ × ExprId)) (names : List ℕ) (next : ℕ) : Type 0 where
+  pub in_text : next < length ts
+  pub later : at < next
+  pub few : size new + at ≤ size old + next
+  pub kept : Keeps old new
+  pub are_in : All (λ p. IsExpr new p.1) list
+  pub leads : (o : ℕ) (w : Lexeme) (k : List Frame) → goes ts (Wants (FirstKey d ∷ ObjectEnd o w ∷ k)) at ≡ goes ts (Gives (ExprAt w.at names (Object (properties_at new list))) k) next

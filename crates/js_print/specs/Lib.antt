@@ -1,0 +1,6 @@
+pub mod Spelling
+pub mod Tidy
+pub mod Costs
+pub mod Todo
+pub mod Writing
+pub mod Walk

@@ -1,0 +1,13 @@
+//! The one spelling of a tree.
+#![tactic(auto)]
+
+mod expand;
+mod levels;
+mod print;
+mod work;
+mod write;
+
+pub use print::print_tree;
+
+#[cfg(test)]
+mod tests;

@@ -1,0 +1,5 @@
+pub mod Counts
+pub mod Within
+pub mod Judged
+pub mod Written
+pub mod Verdicts

@@ -1,0 +1,3 @@
+pub mod Library
+pub mod Verdict
+pub mod Line
