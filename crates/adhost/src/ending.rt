@@ -19,7 +19,7 @@ pub enum Status {
     WriteFault,
     /// There was no memory, before anything was written.
     Memory,
-    /// The words or the library are of a form that is not built yet.
+    /// The words are of a form that is not built yet.
     Unbuilt,
 }
 
