@@ -3,6 +3,7 @@ use Rattle.std.specs.Prelude.{ℕ, ◌≤◌, List, length, Bool, true, false}
 use Rattle.host_io.specs.Files.{FileMap}
 use Rattle.adhost.specs.declared.ending.Status.{Status}
 use Rattle.adhost.specs.declared.ending.Status.TheVariants as status
+use Rattle.adhost.specs.declared.forms.Asked.{Asked}
 use Rattle.adhost.specs.Answer.{IsLibrary, library_limit, Answer}
 
 abbrev pub number_of : Status → ℕ
@@ -40,9 +41,10 @@ Ends read write _ = ⊥
 
 -- the words name a library within the limit
 pub record HasReport (words : List (List ℕ)) (files : FileMap) : Type 0 where
+  pub what : Asked
   pub name : List ℕ
   pub file : List ℕ
-  pub library : IsLibrary words files name file
+  pub library : IsLibrary words files what name file
   pub within : length file ≤ library_limit
 
 -- there is room for what may be written

@@ -11,4 +11,5 @@ IsLong (Some file) limit = limit < length file
 -- what reading a file may stop at
 abbrev pub IsReadStop : Stop → Type 0
 IsReadStop stop.Unbuilt = ⊥
+IsReadStop stop.Usage = ⊥
 IsReadStop _ = Unit {0}

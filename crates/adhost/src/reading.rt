@@ -14,6 +14,7 @@ pub enum Stop {
     ReadFault,
     Memory,
     Unbuilt,
+    Usage,
 }
 
 impl From<Memory> for Stop {

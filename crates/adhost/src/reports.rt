@@ -1,39 +1,63 @@
 //! The report, built whole before anything is written.
-ghost use Rattle.std.specs.Prelude.{◌≡◌, ◌≤◌, [], None, Option, IfSome, IfOk, IsErrOf, Ok, Err};
+ghost use Rattle.std.specs.Prelude.{◌≡◌, ◌≤◌, ◌<◌, ◌^◌, length, [], None, Option, IfSome, IfOk, IsErrOf, Ok, Err};
 ghost use Rattle.host_io.specs.Files.{Rose};
-ghost use Rattle.adhost.specs.Answer.{texts, library_named, ending, Answer};
+ghost use Rattle.adhost.specs.Answer.{texts, IsText, ending, Answer};
+ghost use Rattle.adhost.specs.Forms.{IsForm};
 ghost use Rattle.adhost.specs.declared.ending.Status.TheVariants as status;
 ghost use Rattle.adhost.specs.Ends.{HasReport};
 
-use crate::forms::library_named;
+use crate::forms::{Asked, is_form, library_asked};
 use crate::reading::{Stop, read_file};
+use code_units::Memory;
 use host_io::Files;
-use library_check::{LibraryLine, library_line};
+use script_check::{LibraryText, library_line, tidied_library};
 use std::alloc::Global;
 
 /// The bytes that a library may have.
 const LIBRARY_LIMIT: usize = 262_144;
 
 /// The report that the words ask for.
-#[tactic(auto, using(crate::proofs::Reported::report_of, crate::proofs::Reported::long_of, crate::proofs::Reported::words_of))]
+#[tactic(auto, using(crate::proofs::Reported::report_of, crate::proofs::Reported::long_of, crate::proofs::Reported::unbuilt_of, crate::proofs::Reported::usage_of, crate::proofs::Asking::asked_form))]
 pub fn build_report<F: Files>(
     alloc: Global,
     words: &[String],
     files: &mut F,
-) -> Result<LibraryLine, Stop>
+) -> Result<LibraryText, Stop>
     ensures answer { IfOk result (λ r. IfSome (F.told files.old) (λ m. Answer (texts words.now) m (ending r.refused) r.bytes.items)) }
     ensures large { IsErrOf result Stop.TooLarge → IfSome (F.told files.old) (λ m. Answer (texts words.now) m status.TooLarge []) }
     ensures unbuilt { IsErrOf result Stop.Unbuilt → IfSome (F.told files.old) (λ m. Answer (texts words.now) m status.Unbuilt []) }
-    ensures other_words { library_named (texts words.now) ≡ None → result ≡ Err Stop.Unbuilt }
+    ensures usage { IsErrOf result Stop.Usage → IfSome (F.told files.old) (λ m. Answer (texts words.now) m status.Usage []) }
+    ensures no_form { (IsForm (texts words.now) → ⊥) → result ≡ Err Stop.Usage }
+    ensures form { IsErrOf result Stop.Usage → IsForm (texts words.now) → ⊥ }
     ensures count { F.faults files.old ≤ F.faults files.new }
     ensures cause { IsErrOf result Stop.ReadFault → Rose (F.faults files.old) (F.faults files.new) }
     ensures calm_count { IfSome (F.told files.old) (λ m. F.calm files.old → HasReport (texts words.now) m → F.faults files.new ≡ F.faults files.old) }
     ensures calm_reads { IfSome (F.told files.old) (λ m. F.calm files.old → HasReport (texts words.now) m → IsErrOf result Stop.ReadFault → ⊥) }
 {
-    let Some(name) = library_named(words) else {
-        return Err(Stop::Unbuilt);
+    let Some((asked, name)) = library_asked(words) else {
+        return Err(if is_form(words) {
+            Stop::Unbuilt
+        } else {
+            Stop::Usage
+        });
     };
     let bytes = read_file(alloc, name, LIBRARY_LIMIT, files)?;
-    let line = library_line(alloc, name, &bytes)?;
-    Ok(line)
+    let text = library_text(alloc, asked, name, &bytes)?;
+    Ok(text)
+}
+
+// What is written of a library.
+fn library_text(
+    alloc: Global,
+    asked: Asked,
+    name: &str,
+    library: &[u8],
+) -> Result<LibraryText, Memory>
+    requires { length library.now < 2 ^ 31 }
+    ensures { IfOk result (λ text. IsText asked name.now library.now text.refused text.bytes.items) }
+{
+    match asked {
+        Asked::Line => library_line(alloc, name, library),
+        Asked::Tidied => tidied_library(alloc, name, library),
+    }
 }

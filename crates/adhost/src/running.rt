@@ -1,7 +1,8 @@
 //! The top call.
 ghost use Rattle.std.specs.Prelude.{◌≡◌, ◌≤◌, false, None, IfSome, IsTrue};
 ghost use Rattle.host_io.specs.Files.{Rose};
-ghost use Rattle.adhost.specs.Answer.{texts, library_named, Answer, Wrote, WrotePart};
+ghost use Rattle.adhost.specs.Answer.{texts, Answer, Wrote, WrotePart};
+ghost use Rattle.adhost.specs.Forms.{IsForm};
 ghost use Rattle.adhost.specs.Ends.{is_answer, writes, Ends, HasReport, Fits};
 
 use crate::ending::Status;
@@ -22,8 +23,8 @@ pub fn run<F: Files, S: Sink>(
 ) -> Status
     // The answer, and just its bytes.
     ensures answer { IsTrue (is_answer result) → IfSome (F.told files.old) (λ m. Wrote (Answer (texts words.now) m result) (S.held sink.old) (S.held sink.new)) }
-    ensures other_words { library_named (texts words.now) ≡ None → result ≡ Status.Unbuilt }
-    ensures usage { result ≡ Status.Usage → ⊥ }
+    ensures usage { (IsForm (texts words.now) → ⊥) → result ≡ Status.Usage }
+    ensures no_usage { result ≡ Status.Usage → IsForm (texts words.now) → ⊥ }
 
     // A fault has its cause in the files or in the sink.
     ensures read_fault { result ≡ Status.ReadFault → Rose (F.faults files.old) (F.faults files.new) }
@@ -52,5 +53,6 @@ pub fn run<F: Files, S: Sink>(
         Err(Stop::ReadFault) => Status::ReadFault,
         Err(Stop::Memory) => Status::Memory,
         Err(Stop::Unbuilt) => Status::Unbuilt,
+        Err(Stop::Usage) => Status::Usage,
     }
 }

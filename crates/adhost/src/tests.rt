@@ -73,19 +73,62 @@ fn names_the_first_broken_rule(rt: HostRuntime) -> Result<(), Fail> {
     Ok(())
 }
 
+// Words, and whether they are of a form.
+const WORDS: [(&[&str], bool); 14] = [
+    (&[], false),
+    (&["check-lib"], false),
+    (&["check-lib", "m.js", "m.js"], false),
+    (&["CHECK", "m.json"], false),
+    (&["demo", "0"], false),
+    (&["demo", "01"], false),
+    (&["demo", "+1"], false),
+    (&["demo", "4097"], false),
+    (&["replay", "m.json", "t.json", "1000001"], false),
+    (&["replay", "m.json", "t.json"], false),
+    (&["demo", "4096"], true),
+    (&["render", "m.json"], true),
+    (&["audit", "m.json", "t.json", "1000000"], true),
+    (&["check-audit", "c.txt"], true),
+];
+
 #[test]
 fn leaves_other_words(rt: HostRuntime) -> Result<(), Fail> {
     let alloc = rt.alloc();
-    let words: [&[&str]; 4] = [
-        &[],
-        &["check-lib"],
-        &["check", "m.js"],
-        &["check-lib", "m.js", "m.js"],
-    ];
-    for words in &words {
+    for (words, form) in &WORDS {
+        let want = if *form {
+            Status::Unbuilt
+        } else {
+            Status::Usage
+        };
         let (status, held) = ran(alloc, words, GIVES_LIB_BACK.as_bytes(), 100, &[])?;
-        assert_eq!(rt; status, Status::Unbuilt);
+        assert_eq!(rt; status, want);
         assert!(rt; held.is_empty());
+    }
+    Ok(())
+}
+
+// Libraries with their tidied texts. (The table of crate library_table has more.)
+const TIDIED: [(&str, &str, Status); 3] = [
+    (
+        "ADSAFE.lib(\"m\", function (lib) {\n  return (1 + 2) * 3;\n});\n",
+        "ADSAFE . lib ( \"m\" , function ( lib ) { return ( 1 + 2 ) * 3 ; } ) ;\n",
+        Status::Ok,
+    ),
+    (
+        "ADSAFE.lib(\"m\", function (lib) {\n  return ((1)) + (2 * 3);\n});\n",
+        "ADSAFE . lib ( \"m\" , function ( lib ) { return 1 + 2 * 3 ; } ) ;\n",
+        Status::Ok,
+    ),
+    (USES_THIS, REFUSED, Status::Refused),
+];
+
+#[test]
+fn tidies_a_library(rt: HostRuntime) -> Result<(), Fail> {
+    let alloc = rt.alloc();
+    for (library, text, ending) in &TIDIED {
+        let (status, held) = ran(alloc, &["tidy", "m.js"], library.as_bytes(), 100, &[])?;
+        assert_eq!(rt; status, *ending);
+        assert_eq!(rt; held.as_slice(), text.as_bytes());
     }
     Ok(())
 }

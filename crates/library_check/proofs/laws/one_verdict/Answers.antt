@@ -1,5 +1,0 @@
-use Rattle.library_check.proofs.Verdicts.{one_first, not_clean, one_line}
-use Rattle.library_check.proofs.laws.one_verdict.Goals as goal
-
-pub returns : goal.returns
-returns c = record { first = one_first; clean = not_clean; line = one_line }

@@ -1,3 +1,0 @@
-pub mod Library
-pub mod Verdict
-pub mod Line
