@@ -1,5 +1,5 @@
 -- From the machine's outcome to the sentences on the text.
-use Rattle.std.proofs.Common.{◌≡◌, ℕ, ◌+◌, ◌<◌, ◌≤◌, List, [], ◌∷◌, length, true, Some, None, refl, ap, sym, ◌∙◌, subst, arith, length-drop}
+use Rattle.std.proofs.Common.{◌≡◌, ℕ, ◌+◌, ◌<◌, ◌≤◌, List, [], ◌∷◌, length, true, None, refl, ap, sym, ◌∙◌, subst, arith, length-drop}
 use Rattle.exact_refusals.specs.Judge.{judge}
 use Rattle.exact_refusals.specs.Judge.Outcome.{Read}
 use Rattle.exact_refusals.specs.Places.{HasTree}

@@ -1,14 +1,12 @@
 -- `switch` and its clauses.
-use Rattle.std.proofs.Common.{◌≡◌, ℕ, zero, suc, ◌+◌, ◌<◌, ◌≤◌, ◌^◌, List, [], ◌∷◌, ◌++◌, Bool, true, false, Option, Some, None, refl, ap, sym, subst, ◌∙◌, length, arith, ◌⊎◌, inl, inr}
-use Rattle.std.specs.Prelude.{Result, Ok, Err, All, MatchResult, ◌≢◌}
+use Rattle.std.proofs.Common.{◌≡◌, ℕ, suc, ◌+◌, ◌<◌, ◌≤◌, List, [], ◌∷◌, ◌++◌, Bool, true, false, Some, None, refl, ap, sym, subst, ◌∙◌, length, arith, ◌⊎◌, inl, inr}
+use Rattle.std.specs.Prelude.{Result, All, ◌≢◌}
 use Rattle.exact_refusals.specs.Judge as judge
-use Rattle.std.specs.declared.vec.Vec.{Vec}
-use Rattle.std.specs.declared.alloc.Global.{Global}
 use Rattle.js_tree.specs.declared.nodes.ExprId.{ExprId}
 use Rattle.js_tree.specs.declared.nodes.StmtId.{StmtId}
 use Rattle.js_tree.specs.declared.nodes.Clause.{Clause}
-use Rattle.js_tree.specs.Plain.{Expr, Stmt, StmtAt, Switch, Stmts, NoStmts, OptionalExpr, NoExpr, SomeExpr, Clauses, NoClauses, AndClause}
-use Rattle.js_tree.specs.Forest.{Forest, Keeps, IsExpr, IsStmt, IsOptional, AreClauseParts, expr_at, stmts_at, optional_at, clauses_at, size}
+use Rattle.js_tree.specs.Plain.{Expr, Stmt, StmtAt, Switch, NoStmts, OptionalExpr, NoExpr, SomeExpr, Clauses, NoClauses, AndClause}
+use Rattle.js_tree.specs.Forest.{Forest, IsExpr, IsOptional, AreClauseParts, expr_at, stmts_at, optional_at, clauses_at}
 use Rattle.js_grammar.specs.declared.Sign.{Sign}
 use Rattle.js_grammar.specs.declared.Sign.TheVariants as sign
 use Rattle.js_grammar.specs.Grammar.{Token, Lexeme, has_default}
@@ -20,7 +18,7 @@ use Rattle.js_parser.specs.Reads.{goes, from, lexeme_at, Next, IsOther, IsReady,
 use Rattle.js_parser.specs.Walks.{Walks, OnlyAt, ends_list, ReadsMarked, ReadsStatements, ReadsCases, goes_by}
 use Rattle.js_parser.proofs.Reading.{take_one, take_to, refuse_one, deep_one, keeps_then, refuses_before}
 use Rattle.js_parser.proofs.Chain.{walks_same}
-use Rattle.js_parser.proofs.Lists.{clauses_more_kept, clauses_more_push, clauses_in, stmts_kept_all}
+use Rattle.js_parser.proofs.Lists.{clauses_more_kept, clauses_more_push, clauses_in}
 use Rattle.js_parser.proofs.Loops.{CasesSoFar, cases_state}
 use Rattle.js_parser.proofs.Steps.{made_of, by_take, by_none, next_once}
 

@@ -1,21 +1,18 @@
 -- Chains: what the machine has come over, whatever is to come after it.
-use Rattle.std.proofs.Common.{◌≡◌, ℕ, zero, suc, ◌+◌, ◌<◌, ◌≤◌, ◌^◌, List, [], ◌∷◌, true, false, Some, None, refl, ap, sym, subst, ◌∙◌, ltb, length, arith}
-use Rattle.std.specs.Prelude.{Result, Ok, Err, ◌≢◌}
+use Rattle.std.proofs.Common.{◌≡◌, ℕ, suc, ◌+◌, ◌<◌, ◌≤◌, List, Some, None, refl, ap, ◌∙◌, length, arith}
+use Rattle.std.specs.Prelude.{Result, ◌≢◌}
 use Rattle.js_tree.specs.declared.nodes.ExprId.{ExprId}
 use Rattle.js_tree.specs.declared.nodes.StmtId.{StmtId}
-use Rattle.js_tree.specs.Plain.{Expr, Stmt, Stmts, NoStmts}
-use Rattle.js_tree.specs.Forest.{Forest, Keeps, IsExpr, expr_at, stmt_at, stmts_at, size}
+use Rattle.js_tree.specs.Plain.{Stmt}
+use Rattle.js_tree.specs.Forest.{Forest}
 use Rattle.js_grammar.specs.declared.Sign.{Sign}
-use Rattle.js_grammar.specs.declared.Sign.TheVariants as sign
 use Rattle.js_grammar.specs.Grammar.{Token, Lexeme}
-use Rattle.js_grammar.specs.Machine as machine
-use Rattle.js_grammar.specs.Machine.{Frame, State, Step, Wants, Gives, Did, step}
-use Rattle.exact_refusals.specs.Judge.Outcome.{Refused, Deeper}
+use Rattle.js_grammar.specs.Machine.{Frame, State, Step, Did, step}
 use Rattle.js_parser.specs.declared.refusal.Refusal.{Refusal}
 use Rattle.js_parser.specs.declared.refusal.Refusal.TheVariants as refusal
-use Rattle.js_parser.specs.Reads.{goes, from, lexeme_at, Next, IsOther, IsReady, Refuses, Reads, ReadsStmt, ReadsOne, MadeStmt}
-use Rattle.js_parser.specs.Walks.{Walks, OnlyAt, OnlyBlock, ReadsMarked, ReadsBlock, goes_by, ends_list}
-use Rattle.js_parser.proofs.Reading.{take_one, take_to, refuse_one, deep_one, same_one, keeps_same, keeps_then, refuses_before, stmt_made}
+use Rattle.js_parser.specs.Reads.{goes, lexeme_at, Next, IsOther, IsReady, Refuses, ReadsOne, MadeStmt}
+use Rattle.js_parser.specs.Walks.{Walks, ReadsMarked}
+use Rattle.js_parser.proofs.Reading.{take_to, refuse_one, deep_one, same_one, keeps_same, keeps_then, refuses_before, stmt_made}
 
 -- from `start` at `at` the machine comes to `now` at `place`
 pub record Chain (spare : ℕ) (ts : List Token) (start now : List Frame → State) (at place : ℕ) (a b : Forest) : Type 0 where

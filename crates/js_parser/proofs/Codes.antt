@@ -1,12 +1,11 @@
 -- Functions, from their bracket on, and the values of declared variables.
-use Rattle.std.proofs.Common.{◌≡◌, ℕ, zero, suc, ◌+◌, ◌<◌, ◌≤◌, List, [], ◌∷◌, ◌++◌, Bool, true, false, Option, Some, None, refl, ap, sym, subst, ◌∙◌, length, drop, arith}
-use Rattle.std.specs.Prelude.{Result, Ok, Err, All, MatchResult, ◌≢◌, slice_index_or}
-use Rattle.exact_refusals.specs.Judge.Outcome.{Refused}
+use Rattle.std.proofs.Common.{◌≡◌, ℕ, zero, suc, ◌+◌, ◌<◌, ◌≤◌, List, [], ◌∷◌, ◌++◌, Bool, Option, Some, None, refl, ap, sym, subst, ◌∙◌, length, drop, arith}
+use Rattle.std.specs.Prelude.{Result, Ok, Err, MatchResult, ◌≢◌, slice_index_or}
 use Rattle.js_tree.specs.declared.nodes.ExprId.{ExprId}
 use Rattle.js_tree.specs.declared.nodes.StmtId.{StmtId}
 use Rattle.js_tree.specs.declared.nodes.FunId.{FunId}
-use Rattle.js_tree.specs.Plain.{Expr, Stmts, NoStmts, Fun, FunAt, Funs, NoFuns, AndFun, Decls, OptionalExpr, NoExpr, SomeExpr, fun_place}
-use Rattle.js_tree.specs.Forest.{Forest, Keeps, IsExpr, IsFun, IsOptional, expr_at, fun_at, stmts_at, funs_at, optional_at, size, AddsFun}
+use Rattle.js_tree.specs.Plain.{Stmts, NoStmts, FunAt, Funs, NoFuns, AndFun, Decls, NoExpr, SomeExpr, fun_place}
+use Rattle.js_tree.specs.Forest.{Forest, expr_at, fun_at, stmts_at, funs_at, AddsFun}
 use Rattle.js_grammar.specs.declared.Sign.{Sign}
 use Rattle.js_grammar.specs.declared.Sign.TheVariants as sign
 use Rattle.js_grammar.specs.Grammar.{Token, Lexeme, fun_of, own_text, own_places, places}
@@ -14,9 +13,9 @@ use Rattle.js_grammar.specs.Machine as machine
 use Rattle.js_grammar.specs.Machine.{Frame, State, Step, step, has_function, Wants, Gives, FunOpen, FirstName, NamesEnd, FunBody, FunEnd, InBody, DeclName, Declare, VarTail, VarInit, VarName}
 use Rattle.js_parser.specs.declared.refusal.Refusal.{Refusal}
 use Rattle.js_parser.specs.declared.refusal.Refusal.TheVariants as refusal
-use Rattle.js_parser.specs.Reads.{goes, from, lexeme_at, Next, IsOther, IsReady, Refuses, Reads, ReadsExpr, ReadsFun, ReadsDecl, ReadsBody, own_at}
-use Rattle.js_parser.specs.Walks.{Walks, ReadsParams, ReadsInit, goes_by, var_ends}
-use Rattle.js_parser.proofs.Reading.{take_one, take_to, refuse_one, deep_one, same_one, keeps_same, keeps_then, refuses_before}
+use Rattle.js_parser.specs.Reads.{goes, lexeme_at, Next, IsOther, IsReady, Refuses, Reads, ReadsFun, ReadsDecl, ReadsBody, own_at}
+use Rattle.js_parser.specs.Walks.{ReadsParams, ReadsInit, goes_by, var_ends}
+use Rattle.js_parser.proofs.Reading.{take_one, take_to, refuse_one, deep_one, keeps_then, refuses_before}
 use Rattle.js_parser.proofs.Chain.{walks_same}
 
 no_bracket : (d : ℕ) (w : Lexeme) (own : Option Lexeme) (k : List Frame) (s : Sign) (x : Lexeme) → s ≢ sign.Open → ◌≡◌ {A = Step} (step (Wants (FunOpen d w own ∷ k)) (s, x)) None

@@ -1,9 +1,7 @@
 -- What the functions for lists of expressions and for object literals have read, from what their calls read.
-use Rattle.std.proofs.Common.{◌≡◌, ℕ, suc, ◌+◌, ◌<◌, ◌≤◌, List, [], ◌∷◌, ◌++◌, Bool, true, false, Option, Some, None, refl, ap, sym, subst, ◌∙◌, length, get_or, arith, add-one}
-use Rattle.std.specs.Prelude.{Result, Ok, Err, MatchResult, All, ◌≢◌}
+use Rattle.std.proofs.Common.{◌≡◌, ℕ, suc, ◌+◌, ◌<◌, ◌≤◌, List, [], ◌∷◌, ◌++◌, Bool, true, false, Some, None, refl, ap, sym, subst, ◌∙◌, length, get_or, arith}
+use Rattle.std.specs.Prelude.{Result, All, ◌≢◌}
 use Rattle.std.proofs.lemmas.List.Elements.{All-push}
-use Rattle.exact_refusals.specs.Judge.{Outcome, judge, judge_step}
-use Rattle.exact_refusals.specs.Judge.Outcome.{Refused}
 use Rattle.js_tree.specs.declared.nodes.ExprId.{ExprId}
 use Rattle.js_tree.specs.Plain.{Expr, ExprAt, Exprs, Object, NoExprs, AndExpr, Properties, NoProperties, AndProperty}
 use Rattle.js_tree.specs.Forest.{Forest, Keeps, IsExpr, expr_at, exprs_at, exprs_more, properties_at, properties_more, size}
@@ -11,12 +9,12 @@ use Rattle.js_grammar.specs.declared.Sign.{Sign}
 use Rattle.js_grammar.specs.declared.Sign.TheVariants as sign
 use Rattle.js_grammar.specs.Tables.{is_key}
 use Rattle.js_grammar.specs.Grammar.{Token, Lexeme}
-use Rattle.js_grammar.specs.Machine.{Frame, State, Step, step, items, listed, key as key_step, expr, Wants, Gives, PrimaryAt, ItemsAt, FirstKey, NextKey, KeyColon, MoreItems, Value, ObjectEnd}
+use Rattle.js_grammar.specs.Machine.{Frame, Step, step, items, listed, expr, Wants, Gives, PrimaryAt, ItemsAt, FirstKey, NextKey, KeyColon, MoreItems, Value, ObjectEnd}
 use Rattle.js_parser.specs.declared.refusal.Refusal.{Refusal}
 use Rattle.js_parser.specs.declared.refusal.Refusal.TheVariants as refusal
-use Rattle.js_parser.specs.Reads.{from, goes, lexeme_at, Next, IsOther, IsReady, Refuses, Reads, ReadsExpr, MadeExpr}
+use Rattle.js_parser.specs.Reads.{goes, lexeme_at, Next, IsOther, IsReady, Refuses, Reads, ReadsExpr, MadeExpr}
 use Rattle.js_parser.specs.Forms.{IsNext, ReadsProperty, ReadsKeys, IsNoKey}
-use Rattle.js_parser.specs.Walks.{Walks, comes_by, goes_by, ReadsItems}
+use Rattle.js_parser.specs.Walks.{goes_by, ReadsItems}
 use Rattle.js_parser.proofs.Reading.{take_one, take_to, refuse_one, same_one, keeps_same, keeps_then, refuses_before, ends_made}
 use Rattle.js_parser.proofs.Exprs.{as_by, other_refused}
 

@@ -1,28 +1,27 @@
 -- What each function for expressions has read, from what its calls read.
-use Rattle.std.proofs.Common.{◌≡◌, ℕ, suc, ◌+◌, ◌<◌, ◌≤◌, List, [], ◌∷◌, ◌++◌, Bool, true, false, Option, Some, None, refl, ap, sym, subst, ◌∙◌, ltb, length, get_or, arith, add-one}
-use Rattle.std.specs.Prelude.{Result, Ok, Err, MatchResult, All, ◌≢◌}
+use Rattle.std.proofs.Common.{◌≡◌, ℕ, suc, ◌+◌, ◌<◌, ◌≤◌, List, [], ◌∷◌, Bool, true, false, Option, Some, None, refl, ap, sym, subst, ◌∙◌, ltb, length, arith}
+use Rattle.std.specs.Prelude.{Result, Ok, Err, ◌≢◌}
 use Rattle.std.proofs.lemmas.Bool.Decides.{nat_tests}
-use Rattle.std.proofs.lemmas.List.Elements.{All-push}
-use Rattle.exact_refusals.specs.Judge.{Outcome, judge, judge_step}
-use Rattle.exact_refusals.specs.Judge.Outcome.{Read, Refused, Deeper}
+use Rattle.exact_refusals.specs.Judge.{judge}
+use Rattle.exact_refusals.specs.Judge.Outcome.{Refused}
 use Rattle.js_tree.specs.declared.nodes.ExprId.{ExprId}
 use Rattle.js_tree.specs.declared.nodes.FunId.{FunId}
 use Rattle.js_tree.specs.declared.nodes.StepOp.{StepOp}
 use Rattle.js_tree.specs.declared.nodes.AssignOp.{AssignOp}
-use Rattle.js_tree.specs.Plain.{Expr, ExprForm, ExprAt, Exprs, Stmts, Array, Object, Function, Dot, Sub, Call, New, Step as StepOf, Cond, Assign, Comma, NoExprs, AndExpr, Properties, NoProperties, AndProperty, expr_place}
-use Rattle.js_tree.specs.Forest.{Forest, Keeps, IsExpr, expr_at, fun_at, exprs_at, exprs_more, properties_at, properties_more, size, AddsExpr}
+use Rattle.js_tree.specs.Plain.{Expr, ExprForm, ExprAt, Exprs, Array, Function, Dot, Sub, Call, New, Step as StepOf, Cond, Assign, Comma, NoExprs, expr_place}
+use Rattle.js_tree.specs.Forest.{Forest, IsExpr, expr_at, fun_at, exprs_at}
 use Rattle.js_grammar.specs.declared.Sign.{Sign}
 use Rattle.js_grammar.specs.declared.Sign.TheVariants as sign
 use Rattle.js_grammar.specs.declared.Infix.{Infix}
 use Rattle.js_grammar.specs.declared.Prefix.{Prefix}
-use Rattle.js_grammar.specs.Tables.{infix_of, level_of, joined, prefix_of, prefixed, step_of, assign_of, is_key}
+use Rattle.js_grammar.specs.Tables.{infix_of, level_of, joined, prefix_of, prefixed, step_of, assign_of}
 use Rattle.js_grammar.specs.Grammar.{Token, Lexeme}
-use Rattle.js_grammar.specs.Machine.{Frame, State, Step, step, finished, primary, left_hand, unary, items, listed, assigned_to, key as key_step, keyed, expr, whole, Wants, Gives, PrimaryAt, UnaryAt, DotName, ItemsAt, FirstKey, NextKey, KeyColon, FunName, FunOpen, FunExpr, Paren, Tail, NewTail, Index, Target, Prefixed, Rest, Right, Choice, Second, Third, Assigned, Commas, CommaRight, MoreItems, Value, ArrayEnd, CallEnd, NewEnd, ObjectEnd}
+use Rattle.js_grammar.specs.Machine.{Frame, State, Step, step, finished, primary, left_hand, listed, expr, whole, Wants, Gives, PrimaryAt, UnaryAt, DotName, ItemsAt, FunName, FunOpen, FunExpr, Paren, Tail, NewTail, Index, Target, Prefixed, Rest, Right, Choice, Second, Third, Assigned, Commas, CommaRight, ArrayEnd, CallEnd, NewEnd}
 use Rattle.js_parser.specs.declared.refusal.Refusal.{Refusal}
 use Rattle.js_parser.specs.declared.refusal.Refusal.TheVariants as refusal
 use Rattle.js_parser.specs.Reads.{from, goes, lexeme_at, Next, IsOther, IsReady, IsHead, own_at, Refuses, Reads, ReadsExpr, ReadsFun, MadeExpr}
-use Rattle.js_parser.specs.Forms.{ReadsOn, GoesOn, IsNext, IsTail, IsOperand, ReadsOperand, ReadsOperandOf, ReadsProperty, ReadsKeys, IsNoKey}
-use Rattle.js_parser.specs.Walks.{Walks, comes_by, goes_by, ReadsItems}
+use Rattle.js_parser.specs.Forms.{ReadsOn, GoesOn, IsNext, IsTail, IsOperand, ReadsOperand, ReadsOperandOf}
+use Rattle.js_parser.specs.Walks.{goes_by, ReadsItems}
 use Rattle.js_parser.proofs.Reading.{take_one, take_to, refuse_one, deep_one, same_one, keeps_same, keeps_then, refuses_before, reads_then, refuses_then, reads_in, ends_made}
 
 -- ## One token after a list, and other steps

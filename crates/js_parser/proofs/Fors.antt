@@ -1,6 +1,6 @@
 -- `for` in its forms.
-use Rattle.std.proofs.Common.{◌≡◌, ℕ, zero, suc, ◌+◌, ◌<◌, ◌≤◌, List, [], ◌∷◌, ◌++◌, Bool, true, false, Option, Some, None, refl, ap, sym, subst, ◌∙◌, length, arith}
-use Rattle.std.specs.Prelude.{Result, Ok, Err, All, MatchResult, ◌≢◌}
+use Rattle.std.proofs.Common.{◌≡◌, ℕ, suc, ◌+◌, ◌<◌, ◌≤◌, List, [], ◌∷◌, Bool, true, false, Option, Some, None, refl, ap, sym, subst, ◌∙◌, length, arith}
+use Rattle.std.specs.Prelude.{Result, Ok, Err, All, ◌≢◌}
 use Rattle.std.specs.declared.vec.Vec.{Vec}
 use Rattle.std.specs.declared.alloc.Global.{Global}
 use Rattle.js_tree.specs.declared.nodes.ExprId.{ExprId}
@@ -8,8 +8,8 @@ use Rattle.js_tree.specs.declared.nodes.StmtId.{StmtId}
 use Rattle.js_tree.specs.declared.nodes.Decl.{Decl}
 use Rattle.js_tree.specs.declared.nodes.ForInit.{ForInit as InitNode}
 use Rattle.js_tree.specs.declared.nodes.ForInit.TheVariants as node
-use Rattle.js_tree.specs.Plain.{Expr, Exprs, NoExprs, ExprAt, Name, Stmt, StmtAt, For, ForIn, Stmts, NoStmts, Decls, NoDecls, ForInit, DeclsFirst, ExprsFirst, OptionalExpr, NoExpr, SomeExpr}
-use Rattle.js_tree.specs.Forest.{Forest, Keeps, IsExpr, IsStmt, IsOptional, AreInit, expr_at, exprs_at, stmts_at, decls_at, init_at, optional_at, size}
+use Rattle.js_tree.specs.Plain.{Expr, Exprs, NoExprs, ExprAt, Name, Stmt, StmtAt, For, ForIn, Decls, NoDecls, ForInit, DeclsFirst, ExprsFirst, OptionalExpr, NoExpr, SomeExpr}
+use Rattle.js_tree.specs.Forest.{Forest, Keeps, IsExpr, IsStmt, IsOptional, AreInit, expr_at, exprs_at, stmts_at, decls_at, init_at, optional_at}
 use Rattle.js_grammar.specs.declared.Sign.{Sign}
 use Rattle.js_grammar.specs.declared.Sign.TheVariants as sign
 use Rattle.js_grammar.specs.Grammar.{Token, Lexeme}
@@ -17,11 +17,11 @@ use Rattle.js_grammar.specs.Machine as machine
 use Rattle.js_grammar.specs.Machine.{Frame, State, Step, step, Wants, Gives, Did, Statement, InBlock, BlockAt, ForOpen, ForFirst, ForVar, ForVarName, ForName, ForTest, ForTestEnd, ForItemsEnd, ForVarEnd, ForEnd, ForOver, ForBlock, ForInBlock, ItemsAt, VarName, VarTail, MoreItems, whole}
 use Rattle.js_parser.specs.declared.refusal.Refusal.{Refusal}
 use Rattle.js_parser.specs.declared.refusal.Refusal.TheVariants as refusal
-use Rattle.js_parser.specs.Reads.{goes, from, lexeme_at, Next, IsOther, IsReady, Refuses, ReadsStmt, ReadsOne, MadeStmt}
-use Rattle.js_parser.specs.Walks.{Walks, OnlyAt, OnlyBlock, ReadsMarked, ReadsBlock, ReadsDecls, ReadsItems, ReadsFirst, ReadsSecond, ReadsThird, IsForIn, goes_by}
+use Rattle.js_parser.specs.Reads.{goes, lexeme_at, Next, IsOther, IsReady, Refuses, ReadsOne, MadeStmt}
+use Rattle.js_parser.specs.Walks.{OnlyAt, OnlyBlock, ReadsMarked, ReadsBlock, ReadsDecls, ReadsItems, ReadsFirst, ReadsSecond, ReadsThird, IsForIn}
 use Rattle.js_parser.proofs.Reading.{take_one, take_to, refuse_one, deep_one, same_one, keeps_then, refuses_before, stmt_made}
 use Rattle.js_parser.proofs.Chain.{walks_same}
-use Rattle.js_parser.proofs.Lists.{exprs_more_kept, exprs_kept_all, stmts_more_kept, decls_more_kept, decls_kept_all, optional_kept}
+use Rattle.js_parser.proofs.Lists.{exprs_more_kept, exprs_kept_all, decls_more_kept, decls_kept_all, optional_kept}
 use Rattle.js_parser.proofs.Steps.{only_block, by_take, by_none, next_once}
 
 -- one deeper, as code says it

@@ -1,5 +1,5 @@
 -- Numbers that may be keys, digit by digit.
-use Rattle.std.proofs.Common.{◌≡◌, ℕ, zero, suc, ◌+◌, ◌*◌, ◌-◌, ◌<◌, ◌≤◌, List, [], ◌∷◌, length, drop, get_or, Bool, true, false, ◌&&◌, not, refl, ap, sym, ◌∙◌, subst, arith, add-one, drop-cons}
+use Rattle.std.proofs.Common.{◌≡◌, ℕ, ◌+◌, ◌*◌, ◌-◌, ◌<◌, ◌≤◌, List, [], ◌∷◌, length, drop, get_or, Bool, true, false, ◌&&◌, refl, sym, ◌∙◌, arith, add-one, drop-cons}
 use Rattle.std.specs.Prelude.{nat_le, nat_eq, ◌⊎◌}
 use Rattle.std.proofs.Common.{inl, inr}
 use Rattle.std.proofs.lemmas.Bool.Decides.{nat_tests}

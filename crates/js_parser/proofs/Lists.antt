@@ -1,5 +1,5 @@
 -- Lists of parts in a newer tree, and with one part more.
-use Rattle.std.proofs.Common.{◌≡◌, ℕ, suc, ◌+◌, ◌<◌, List, [], ◌∷◌, ◌++◌, Option, Some, None, refl, ap, sym, ◌∙◌, length, get_or, arith}
+use Rattle.std.proofs.Common.{◌≡◌, ℕ, suc, ◌<◌, List, [], ◌∷◌, ◌++◌, Option, Some, None, refl, ap, ◌∙◌, length, get_or, arith}
 use Rattle.std.specs.Prelude.{All}
 use Rattle.std.proofs.lemmas.List.Elements.{All-push}
 use Rattle.js_tree.specs.declared.nodes.ExprId.{ExprId}
@@ -7,7 +7,7 @@ use Rattle.js_tree.specs.declared.nodes.StmtId.{StmtId}
 use Rattle.js_tree.specs.declared.nodes.FunId.{FunId}
 use Rattle.js_tree.specs.declared.nodes.Decl.{Decl}
 use Rattle.js_tree.specs.declared.nodes.Clause.{Clause}
-use Rattle.js_tree.specs.Plain.{Expr, Exprs, Stmts, NoStmts, Funs, Decls, Clauses, AndExpr, AndStmt, AndFun, AndDecl, AndClause, SomeExpr}
+use Rattle.js_tree.specs.Plain.{Exprs, Stmts, NoStmts, Funs, Decls, Clauses, AndExpr, AndStmt, AndFun, AndDecl, AndClause, SomeExpr}
 use Rattle.js_tree.specs.Forest.{Forest, Keeps, IsExpr, IsStmt, IsFun, IsOptional, AreDecls, AreClauseParts, expr_at, stmt_at, fun_at, stmts_at, exprs_more, stmts_more, funs_more, decls_more, clauses_more, optional_at}
 
 -- lists of parts in a newer tree

@@ -1,7 +1,7 @@
 -- The lists of the parser, so far.
 use Rattle.std.proofs.Common.{◌≡◌, ℕ, suc, ◌+◌, ◌<◌, ◌≤◌, ◌^◌, List, [], ◌∷◌, ◌++◌, Bool, true, false, Option, Some, None, refl, ap, sym, subst, ◌∙◌, length, get_or, length-append, arith, nat_lt}
 use Rattle.std.proofs.lemmas.Bool.Decides.{nat_tests}
-use Rattle.std.specs.Prelude.{Result, All, ◌≢◌, ◌⊎◌}
+use Rattle.std.specs.Prelude.{All, ◌≢◌, ◌⊎◌}
 use Rattle.std.proofs.lemmas.List.Elements.{All-pop}
 use Rattle.exact_refusals.specs.Judge as judge
 use Rattle.js_tree.specs.declared.nodes.ExprId.{ExprId}
@@ -9,8 +9,8 @@ use Rattle.js_tree.specs.declared.nodes.StmtId.{StmtId}
 use Rattle.js_tree.specs.declared.nodes.FunId.{FunId}
 use Rattle.js_tree.specs.declared.nodes.Decl.{Decl}
 use Rattle.js_tree.specs.declared.nodes.Clause.{Clause}
-use Rattle.js_tree.specs.Plain.{Expr, Stmt, StmtAt, Label, Stmts, NoStmts, AndStmt, Funs, NoFuns, AndFun, Decls, NoDecls, AndDecl, Clauses, NoClauses, AndClause}
-use Rattle.js_tree.specs.Forest.{Forest, Keeps, IsExpr, IsStmt, IsFun, IsOptional, AreDecls, expr_at, stmt_at, fun_at, stmts_at, funs_at, decls_at, optional_at, clauses_at, AreClauseParts, size, AddsStmt}
+use Rattle.js_tree.specs.Plain.{Stmt, StmtAt, Label, Stmts, NoStmts, AndStmt, Funs, NoFuns, Decls, NoDecls, AndDecl, Clauses, NoClauses, AndClause}
+use Rattle.js_tree.specs.Forest.{Forest, Keeps, IsStmt, IsFun, IsOptional, AreDecls, stmt_at, stmts_at, funs_at, decls_at, optional_at, clauses_at, AreClauseParts, size, AddsStmt}
 use Rattle.js_grammar.specs.declared.Sign.{Sign}
 use Rattle.js_grammar.specs.declared.Sign.TheVariants as sign
 use Rattle.js_grammar.specs.Grammar.{Token, Lexeme, has_default}
@@ -18,11 +18,11 @@ use Rattle.js_grammar.specs.Machine as machine
 use Rattle.js_grammar.specs.Machine.{Frame, State, Step, step, finished, Wants, Gives, Did, Statement, InBlock, InBody, Labelled, VarName, VarTail}
 use Rattle.js_parser.specs.declared.refusal.Refusal.{Refusal}
 use Rattle.js_parser.specs.declared.refusal.Refusal.TheVariants as refusal
-use Rattle.js_parser.specs.Reads.{goes, from, lexeme_at, Next, IsOther, IsReady, Refuses, Reads, ReadsStmt, ReadsOne, ReadsBody, ReadsDecl, MadeStmt}
+use Rattle.js_parser.specs.Reads.{goes, from, lexeme_at, Next, IsOther, IsReady, Refuses, ReadsStmt, ReadsBody, ReadsDecl}
 use Rattle.js_parser.specs.Walks.{Walks, ends_list, ReadsStatements, ReadsDecls, ReadsInit, ReadsLabels, labelled, goes_by, var_ends}
-use Rattle.js_parser.proofs.Reading.{take_one, take_to, refuse_one, same_one, keeps_same, keeps_then, refuses_before}
-use Rattle.js_parser.proofs.Chain.{walks_same, walks_then}
-use Rattle.js_parser.proofs.Lists.{stmts_more_kept, stmts_more_push, funs_more_kept, funs_more_push, stmts_in, funs_in, decls_more_kept, decls_more_push, decls_in, stmts_kept_all}
+use Rattle.js_parser.proofs.Reading.{take_to, refuse_one, same_one, keeps_same, keeps_then, refuses_before}
+use Rattle.js_parser.proofs.Chain.{walks_same}
+use Rattle.js_parser.proofs.Lists.{stmts_more_kept, stmts_more_push, funs_more_kept, funs_more_push, stmts_in, funs_in, decls_more_kept, decls_more_push, decls_in}
 
 -- a statement is put into its list
 did_body : (ts : List Token) (at d : ℕ) (ss : Stmts) (fs : Funs) (s : Stmt) (k : List Frame) → goes ts (Did s (InBody d ss fs ∷ k)) at ≡ goes ts (Wants (InBody d (AndStmt ss s) fs ∷ k)) at

@@ -1,30 +1,19 @@
 -- Jumps, loops with `for`, `switch` and `try`.
-use Rattle.std.proofs.Common.{◌≡◌, ℕ, zero, suc, ◌+◌, ◌<◌, ◌≤◌, List, [], ◌∷◌, ◌++◌, Bool, true, false, Option, Some, None, refl, ap, sym, subst, ◌∙◌, length, arith, ◌⊎◌, inl, inr}
-use Rattle.std.specs.Prelude.{Result, Ok, Err, All, MatchResult, ◌≢◌}
-use Rattle.exact_refusals.specs.Judge.Outcome.{Refused}
-use Rattle.std.specs.declared.vec.Vec.{Vec}
-use Rattle.std.specs.declared.alloc.Global.{Global}
-use Rattle.js_tree.specs.declared.nodes.ExprId.{ExprId}
+use Rattle.std.proofs.Common.{◌≡◌, ℕ, ◌+◌, ◌<◌, List, [], ◌∷◌, Some, None, refl, sym, subst, ◌∙◌, length, arith, inl, inr}
+use Rattle.std.specs.Prelude.{Result, ◌≢◌}
 use Rattle.js_tree.specs.declared.nodes.StmtId.{StmtId}
-use Rattle.js_tree.specs.declared.nodes.Decl.{Decl}
-use Rattle.js_tree.specs.declared.nodes.Clause.{Clause}
-use Rattle.js_tree.specs.declared.nodes.ForInit.{ForInit as InitNode}
-use Rattle.js_tree.specs.declared.nodes.ForInit.TheVariants as init_node
-use Rattle.js_tree.specs.Plain.{Expr, Exprs, NoExprs, Stmt, StmtAt, For, ForIn, Continue, Break, Switch, Try, Stmts, NoStmts, Decls, NoDecls, ForInit, DeclsFirst, ExprsFirst, OptionalExpr, NoExpr, SomeExpr, Clauses, NoClauses, AndClause, Catch, NoCatch, CatchAs, NoBlock, SomeBlock}
-use Rattle.js_tree.specs.Forest.{Forest, Keeps, IsExpr, IsStmt, IsOptional, AreInit, AreDecls, AreClauseParts, expr_at, stmt_at, exprs_at, stmts_at, decls_at, init_at, optional_at, clauses_at, size}
+use Rattle.js_tree.specs.Plain.{Stmt, StmtAt, Continue, Break}
+use Rattle.js_tree.specs.Forest.{Forest}
 use Rattle.js_grammar.specs.declared.Sign.{Sign}
 use Rattle.js_grammar.specs.declared.Sign.TheVariants as sign
-use Rattle.js_grammar.specs.Grammar.{Token, Lexeme, has_default}
-use Rattle.js_grammar.specs.Machine as machine
-use Rattle.js_grammar.specs.Machine.{Frame, State, Step, step, Wants, Gives, Did, Statement, InBlock, BlockAt, Ended, AfterContinue, AfterBreak, ForOpen, ForFirst, ForVar, ForVarName, ForName, ForTest, ForTestEnd, ForItemsEnd, ForVarEnd, ForEnd, ForOver, ForBlock, ForInBlock, ItemsAt, VarName, VarTail, MoreItems, Test, SwitchTest, SwitchOpen, SwitchEnd, FirstCase, DefaultColon, CaseTest, InCase, TryBlock, AfterTry, CatchOpen, CatchName, CatchClose, CatchBlock, AfterCatch, FinallyBlock}
+use Rattle.js_grammar.specs.Grammar.{Token, Lexeme}
+use Rattle.js_grammar.specs.Machine.{Frame, Step, step, Wants, Did, Statement, Ended, AfterContinue, AfterBreak}
 use Rattle.js_parser.specs.declared.refusal.Refusal.{Refusal}
 use Rattle.js_parser.specs.declared.refusal.Refusal.TheVariants as refusal
-use Rattle.js_parser.specs.Reads.{goes, from, lexeme_at, Next, IsOther, IsReady, Refuses, Reads, ReadsExpr, ReadsStmt, ReadsOne, MadeStmt}
-use Rattle.js_parser.specs.Walks.{Walks, OnlyAt, OnlyBlock, ends_list, ReadsMarked, ReadsStatements, ReadsBlock, ReadsDecls, ReadsItems, ReadsFirst, ReadsSecond, ReadsThird, ReadsCases, ReadsCatch, ReadsFinally, HasCatch, HasFinally, IsJump, IsNoJump, IsForIn, goes_by}
-use Rattle.js_parser.proofs.Reading.{take_one, take_to, refuse_one, deep_one, same_one, keeps_same, keeps_then, refuses_before, stmt_made}
-use Rattle.js_parser.proofs.Chain.{walks_same}
-use Rattle.js_parser.proofs.Lists.{exprs_more_kept, exprs_kept_all, stmts_more_kept, stmts_kept_all, decls_more_kept, decls_kept_all, clauses_more_kept, optional_kept}
-use Rattle.js_parser.proofs.Steps.{made_of, only_block, by_take, by_none, next_once}
+use Rattle.js_parser.specs.Reads.{goes, lexeme_at, Next, IsReady, Refuses, ReadsOne, MadeStmt}
+use Rattle.js_parser.specs.Walks.{IsJump, IsNoJump}
+use Rattle.js_parser.proofs.Reading.{take_one, take_to, refuse_one, keeps_same}
+use Rattle.js_parser.proofs.Steps.{made_of}
 
 -- ## Jumps
 

@@ -1,16 +1,15 @@
 -- Names, and labels.
-use Rattle.std.proofs.Common.{◌≡◌, ℕ, suc, ◌+◌, ◌<◌, ◌≤◌, List, [], ◌∷◌, ◌++◌, Option, Some, None, refl, ap, sym, subst, ◌∙◌, length, length-append, arith, append_assoc}
+use Rattle.std.proofs.Common.{◌≡◌, ℕ, suc, ◌+◌, ◌<◌, ◌≤◌, List, [], ◌∷◌, ◌++◌, Option, None, refl, ap, sym, ◌∙◌, length, length-append, arith, append_assoc}
 use Rattle.std.specs.Prelude.{All, ◌≢◌}
 use Rattle.std.proofs.lemmas.List.Elements.{All-push}
 use Rattle.js_grammar.specs.declared.Sign.{Sign}
 use Rattle.js_grammar.specs.declared.Sign.TheVariants as sign
 use Rattle.js_grammar.specs.Grammar.{Token, Lexeme, texts, places}
 use Rattle.js_grammar.specs.Machine.{Frame, State, Step, step, Wants, FirstName, MoreNames, NextName, NamesEnd, FunBody, Statement, MaybeLabel, Labelled}
-use Rattle.js_parser.specs.declared.refusal.Refusal.{Refusal}
 use Rattle.js_parser.specs.declared.refusal.Refusal.TheVariants as refusal
-use Rattle.js_parser.specs.Reads.{goes, lexeme_at, Next, IsOther, IsReady, Refuses}
+use Rattle.js_parser.specs.Reads.{goes, lexeme_at, Next, IsOther, Refuses}
 use Rattle.js_parser.specs.Walks.{ReadsParams, ReadsLabels, IsUnlabelled, labelled}
-use Rattle.js_parser.proofs.Reading.{take_one, take_to, refuse_one, refuses_before}
+use Rattle.js_parser.proofs.Reading.{take_one, take_to, refuse_one}
 
 -- the next token is not the one that the state wants
 pub other_refused : (start : List Frame → State) (ts : List Token) (at place : ℕ) (want : Sign) (mid : List Frame → State) → place < length ts → IsOther ts place want → ((k : List Frame) → goes ts (start k) at ≡ goes ts (mid k) place) → ((k : List Frame) (s : Sign) (x : Lexeme) → s ≢ want → ◌≡◌ {A = Step} (step (mid k) (s, x)) None) → Refuses start ts at (refusal.Syntax place)

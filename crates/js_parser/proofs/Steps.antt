@@ -1,5 +1,5 @@
 -- What each function of the statements has read, from what its calls read.
-use Rattle.std.proofs.Common.{◌≡◌, ℕ, zero, suc, ◌+◌, ◌<◌, ◌≤◌, ◌^◌, List, [], ◌∷◌, ◌++◌, Bool, true, false, Option, Some, None, refl, ap, sym, subst, ◌∙◌, length, arith, nat_lt}
+use Rattle.std.proofs.Common.{◌≡◌, ℕ, suc, ◌+◌, ◌<◌, ◌≤◌, List, [], ◌∷◌, true, false, Some, None, refl, ap, sym, subst, ◌∙◌, length, arith, nat_lt}
 use Rattle.std.specs.Prelude.{Result, Ok, Err, All, MatchResult, ◌≢◌}
 use Rattle.std.proofs.lemmas.Bool.Decides.{nat_tests}
 use Rattle.std.proofs.lemmas.List.Elements.{All-push}
@@ -10,8 +10,8 @@ use Rattle.std.specs.declared.alloc.Global.{Global}
 use Rattle.js_tree.specs.declared.nodes.ExprId.{ExprId}
 use Rattle.js_tree.specs.declared.nodes.StmtId.{StmtId}
 use Rattle.js_tree.specs.declared.nodes.Decl.{Decl}
-use Rattle.js_tree.specs.Plain.{Expr, ExprAt, Name, Stmt, StmtAt, Only, If, While, DoWhile, Return, Throw, With, Var, Stmts, NoStmts, AndStmt, Decls, NoDecls, OptionalExpr, NoExpr, SomeExpr}
-use Rattle.js_tree.specs.Forest.{Forest, Keeps, IsExpr, IsStmt, AreDecls, expr_at, stmt_at, stmts_at, decls_at, size}
+use Rattle.js_tree.specs.Plain.{Expr, ExprAt, Name, Stmt, StmtAt, Only, If, While, DoWhile, Return, Throw, With, Var, Stmts, NoStmts, AndStmt, Decls, NoDecls, NoExpr, SomeExpr}
+use Rattle.js_tree.specs.Forest.{Forest, IsExpr, IsStmt, expr_at, stmt_at, stmts_at, decls_at}
 use Rattle.js_grammar.specs.declared.Sign.{Sign}
 use Rattle.js_grammar.specs.declared.Sign.TheVariants as sign
 use Rattle.js_grammar.specs.Grammar.{Token, Lexeme}
@@ -19,11 +19,11 @@ use Rattle.js_grammar.specs.Machine as machine
 use Rattle.js_grammar.specs.Machine.{Frame, State, Step, step, finished, Wants, Gives, Did, Statement, InBlock, BlockAt, Test, IfTest, WhileTest, WithTest, DoTest, IfBlock, WhileBlock, WithBlock, DoBlock, ElseBlock, ElseIf, AfterIf, AfterElse, AfterDo, AfterReturn, Ended, Semi, ReturnSemi, ThrowSemi, VarName, VarEnd, MaybeLabel}
 use Rattle.js_parser.specs.declared.refusal.Refusal.{Refusal}
 use Rattle.js_parser.specs.declared.refusal.Refusal.TheVariants as refusal
-use Rattle.js_parser.specs.Reads.{goes, from, lexeme_at, Next, IsOther, IsReady, Refuses, Reads, ReadsExpr, ReadsStmt, ReadsOne, MadeStmt}
-use Rattle.js_parser.specs.Walks.{Walks, OnlyAt, OnlyBlock, ends_list, ReadsMarked, ReadsStatements, ReadsBlock, ReadsElse, ReadsDecls, BeginsOnly, begins_only, IsUnlabelled, goes_by}
+use Rattle.js_parser.specs.Reads.{goes, from, lexeme_at, Next, IsOther, IsReady, Refuses, Reads, ReadsStmt, ReadsOne, MadeStmt}
+use Rattle.js_parser.specs.Walks.{Walks, OnlyAt, OnlyBlock, ReadsMarked, ReadsStatements, ReadsBlock, ReadsElse, ReadsDecls, BeginsOnly, begins_only, IsUnlabelled, goes_by}
 use Rattle.js_parser.proofs.Reading.{take_one, take_to, refuse_one, deep_one, same_one, keeps_same, keeps_then, refuses_before, stmt_made}
-use Rattle.js_parser.proofs.Chain.{Chain, walks_same, walks_then, walks_token, walks_less, chain_start, chain_take, chain_same, chain_then, chain_on, chain_refused, chain_syntax, chain_other, chain_deep, chain_ready, chain_made}
-use Rattle.js_parser.proofs.Lists.{stmts_more_kept, stmts_kept_all, decls_more_kept}
+use Rattle.js_parser.proofs.Chain.{walks_same}
+use Rattle.js_parser.proofs.Lists.{stmts_more_kept, stmts_kept_all}
 
 -- one token stands at a place
 abbrev head_of : List Token → Sign

@@ -1,20 +1,19 @@
 -- `try` with what catches.
-use Rattle.std.proofs.Common.{◌≡◌, ℕ, zero, suc, ◌+◌, ◌<◌, ◌≤◌, ◌^◌, List, [], ◌∷◌, ◌++◌, Option, Some, None, refl, ap, sym, subst, ◌∙◌, length, arith}
-use Rattle.std.specs.Prelude.{Result, Ok, Err, All, MatchResult, ◌≢◌}
+use Rattle.std.proofs.Common.{◌≡◌, ℕ, suc, ◌+◌, ◌<◌, ◌≤◌, List, [], ◌∷◌, None, refl, ap, sym, subst, ◌∙◌, length, arith}
+use Rattle.std.specs.Prelude.{Result, All, ◌≢◌}
 use Rattle.js_tree.specs.declared.nodes.StmtId.{StmtId}
-use Rattle.js_tree.specs.Plain.{Stmt, StmtAt, Try, Stmts, NoStmts, Catch, NoCatch, CatchAs, NoBlock, SomeBlock}
-use Rattle.js_tree.specs.Forest.{Forest, Keeps, IsStmt, stmts_at, size}
+use Rattle.js_tree.specs.Plain.{StmtAt, Try, Stmts, NoStmts, Catch, NoCatch, CatchAs, NoBlock, SomeBlock}
+use Rattle.js_tree.specs.Forest.{Forest, Keeps, IsStmt, stmts_at}
 use Rattle.js_grammar.specs.declared.Sign.{Sign}
 use Rattle.js_grammar.specs.declared.Sign.TheVariants as sign
 use Rattle.js_grammar.specs.Grammar.{Token, Lexeme}
-use Rattle.js_grammar.specs.Machine as machine
-use Rattle.js_grammar.specs.Machine.{Frame, State, Step, step, Wants, Did, Statement, InBlock, BlockAt, AfterTry, CatchOpen, CatchName, CatchClose, AfterCatch, TryBlock, CatchBlock, FinallyBlock}
+use Rattle.js_grammar.specs.Machine.{Frame, Step, step, Wants, Did, Statement, InBlock, BlockAt, AfterTry, CatchOpen, CatchName, CatchClose, AfterCatch, TryBlock, CatchBlock, FinallyBlock}
 use Rattle.js_parser.specs.declared.refusal.Refusal.{Refusal}
 use Rattle.js_parser.specs.declared.refusal.Refusal.TheVariants as refusal
-use Rattle.js_parser.specs.Reads.{goes, from, lexeme_at, Next, IsOther, IsReady, Refuses, ReadsStmt, ReadsOne, MadeStmt}
-use Rattle.js_parser.specs.Walks.{Walks, OnlyBlock, ReadsBlock, ReadsCaught}
-use Rattle.js_parser.proofs.Reading.{take_one, take_to, refuse_one, deep_one, same_one, keeps_same, keeps_then, refuses_before}
-use Rattle.js_parser.proofs.Chain.{Chain, walks_same, walks_less, chain_start, chain_take, chain_same, chain_then, chain_on, chain_refused, chain_syntax, chain_other, chain_deep, chain_ready, chain_made}
+use Rattle.js_parser.specs.Reads.{goes, lexeme_at, Next, IsOther, IsReady, Refuses, ReadsOne, MadeStmt}
+use Rattle.js_parser.specs.Walks.{OnlyBlock, ReadsBlock, ReadsCaught}
+use Rattle.js_parser.proofs.Reading.{take_one, take_to, refuse_one, same_one, keeps_then, refuses_before}
+use Rattle.js_parser.proofs.Chain.{Chain, chain_start, chain_take, chain_refused, chain_other, chain_deep}
 use Rattle.js_parser.proofs.Steps.{made_of, only_block}
 use Rattle.js_parser.proofs.Lists.{stmts_more_kept, stmts_kept_all}
 

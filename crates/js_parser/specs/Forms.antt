@@ -1,17 +1,17 @@
 -- What the functions for expressions answer, over the machine.
-use Rattle.std.specs.Prelude.{◌≡◌, ◌≢◌, ℕ, suc, ◌+◌, ◌≤◌, ◌<◌, List, [], ◌∷◌, ◌++◌, length, Result, MatchResult, All, Bool, true, false, Option, Some, None}
+use Rattle.std.specs.Prelude.{◌≡◌, ◌≢◌, ℕ, ◌+◌, ◌≤◌, ◌<◌, List, [], ◌∷◌, ◌++◌, length, Result, MatchResult, All, false, None}
 use Rattle.js_tree.specs.declared.nodes.ExprId.{ExprId}
 use Rattle.js_tree.specs.declared.nodes.AssignOp.{AssignOp}
-use Rattle.js_tree.specs.Plain.{Expr, ExprAt, Object, Exprs, NoExprs, Properties, NoProperties}
-use Rattle.js_tree.specs.Forest.{Forest, Keeps, IsExpr, expr_at, exprs_at, properties_at, size}
+use Rattle.js_tree.specs.Plain.{Expr, ExprAt, Object, Properties}
+use Rattle.js_tree.specs.Forest.{Forest, Keeps, IsExpr, expr_at, properties_at, size}
 use Rattle.js_grammar.specs.declared.Sign.{Sign}
 use Rattle.js_grammar.specs.declared.Sign.TheVariants as sign
 use Rattle.js_grammar.specs.Tables.{is_key}
 use Rattle.js_grammar.specs.Grammar.{Token, Lexeme}
-use Rattle.js_grammar.specs.Machine.{Frame, State, Step, Wants, Gives, PrimaryAt, UnaryAt, Tail, NewTail, ItemsAt, FirstKey, NextKey, ObjectEnd, Value, assigned_to}
+use Rattle.js_grammar.specs.Machine.{Frame, State, Step, Wants, Gives, PrimaryAt, UnaryAt, Tail, NewTail, FirstKey, NextKey, ObjectEnd, Value, assigned_to}
 use Rattle.js_parser.specs.declared.refusal.Refusal.{Refusal}
 use Rattle.js_parser.specs.declared.refusal.Refusal.TheVariants as refusal
-use Rattle.js_parser.specs.Reads.{goes, lexeme_at, Next, IsReady, Refuses, Reads, ReadsExpr}
+use Rattle.js_parser.specs.Reads.{goes, lexeme_at, Next, Refuses, Reads, ReadsExpr}
 
 -- what an expression becomes by the tokens from `at` up to `next`, if by any
 pub record ReadsOn (start : List Frame → State) (left : List Frame → List Frame) (ts : List Token) (at : ℕ) (old new : Forest) (id : ExprId) (next : ℕ) : Type 0 where

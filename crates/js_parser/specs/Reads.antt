@@ -1,15 +1,15 @@
 -- What the functions of the parser answer, over the machine.
-use Rattle.std.specs.Prelude.{◌≡◌, ◌≢◌, ℕ, suc, ◌+◌, ◌≤◌, ◌<◌, ◌^◌, List, [], ◌∷◌, ◌++◌, length, drop, Result, MatchResult, All, Option, Some, None, slice_index_or}
+use Rattle.std.specs.Prelude.{◌≡◌, ◌≢◌, ℕ, suc, ◌+◌, ◌≤◌, ◌<◌, ◌^◌, List, [], ◌∷◌, length, drop, Result, MatchResult, All, Option, Some, None, slice_index_or}
 use Rattle.exact_refusals.specs.Judge.{Outcome, judge}
 use Rattle.exact_refusals.specs.Judge.Outcome.{Refused, Deeper}
 use Rattle.js_tree.specs.declared.nodes.ExprId.{ExprId}
 use Rattle.js_tree.specs.declared.nodes.StmtId.{StmtId}
 use Rattle.js_tree.specs.declared.nodes.FunId.{FunId}
-use Rattle.js_tree.specs.Plain.{Expr, ExprAt, Call, Stmt, Stmts, Funs, NoStmts, NoFuns, AndFun, expr_place, fun_place}
-use Rattle.js_tree.specs.Forest.{Forest, Keeps, IsExpr, IsStmt, IsFun, expr_at, stmt_at, fun_at, exprs_at, stmts_at, funs_at, size, AddsExpr, AddsStmt}
+use Rattle.js_tree.specs.Plain.{Expr, Stmt, Stmts, Funs, NoStmts, NoFuns, AndFun, fun_place}
+use Rattle.js_tree.specs.Forest.{Forest, Keeps, IsExpr, IsStmt, IsFun, expr_at, stmt_at, fun_at, stmts_at, funs_at, size, AddsExpr, AddsStmt}
 use Rattle.js_grammar.specs.declared.Sign.{Sign}
 use Rattle.js_grammar.specs.declared.Sign.TheVariants as sign
-use Rattle.js_grammar.specs.Grammar.{Token, Lexeme, texts, places}
+use Rattle.js_grammar.specs.Grammar.{Token, Lexeme}
 use Rattle.js_grammar.specs.Machine.{Frame, State, Step, Wants, Gives, Did, InBody, step, finished, has_function}
 use Rattle.js_parser.specs.declared.refusal.Refusal.{Refusal}
 use Rattle.js_parser.specs.declared.refusal.Refusal.TheVariants as refusal

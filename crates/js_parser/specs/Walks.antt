@@ -6,19 +6,17 @@ use Rattle.std.specs.declared.vec.Vec.{Vec}
 use Rattle.std.specs.declared.alloc.Global.{Global}
 use Rattle.js_tree.specs.declared.nodes.ExprId.{ExprId}
 use Rattle.js_tree.specs.declared.nodes.StmtId.{StmtId}
-use Rattle.js_tree.specs.declared.nodes.FunId.{FunId}
 use Rattle.js_tree.specs.declared.nodes.Decl.{Decl}
 use Rattle.js_tree.specs.declared.nodes.Clause.{Clause}
 use Rattle.js_tree.specs.declared.nodes.ForInit.{ForInit as InitNode}
-use Rattle.js_tree.specs.Plain.{Expr, Stmt, StmtAt, If, Stmts, NoStmts, Decls, NoDecls, AndDecl, ForInit, OptionalExpr, Clauses, Catch, Try, SomeBlock}
-use Rattle.js_tree.specs.Forest.{Forest, Keeps, IsExpr, IsStmt, IsFun, IsOptional, AreDecls, AreInit, AreClauseParts, expr_at, stmt_at, fun_at, exprs_at, stmts_at, decls_at, init_at, optional_at, clauses_at, size}
+use Rattle.js_tree.specs.Plain.{Expr, StmtAt, If, Stmts, NoStmts, Decls, NoDecls, AndDecl, ForInit, OptionalExpr, Catch, Try, SomeBlock}
+use Rattle.js_tree.specs.Forest.{Forest, Keeps, IsExpr, IsStmt, IsOptional, AreDecls, AreInit, AreClauseParts, expr_at, exprs_at, stmts_at, decls_at, init_at, optional_at, clauses_at, size}
 use Rattle.js_grammar.specs.declared.Sign.{Sign}
 use Rattle.js_grammar.specs.declared.Sign.TheVariants as sign
 use Rattle.js_grammar.specs.Grammar.{Token, Lexeme, texts, places}
 use Rattle.js_grammar.specs.Machine as machine
 use Rattle.js_grammar.specs.Machine.{Frame, State, Step, Wants, Gives, Did, step, finished}
-use Rattle.js_parser.specs.declared.refusal.Refusal.{Refusal}
-use Rattle.js_parser.specs.Reads.{goes, from, lexeme_at, Next, IsOther, Refuses}
+use Rattle.js_parser.specs.Reads.{goes, from, lexeme_at, Next, IsOther}
 
 -- Tokens are taken from `at` up to `next`, and nodes are added; `spare` tokens at least have no node.
 pub record Walks (spare : ℕ) (ts : List Token) (at next : ℕ) (old new : Forest) : Type 0 where

@@ -1,22 +1,21 @@
-use Rattle.std.proofs.Common.{rules, List, [], ◌∷◌, ◌++◌, false, refl, ap, sym, ◌∙◌, arith, ◌≡◌, ◌+◌, ◌≤◌, length, Some}
+use Rattle.std.proofs.Common.{rules, [], ◌∷◌, ◌++◌, false, refl, ap, sym, ◌∙◌, arith}
 use Rattle.std.proofs.lemmas.Result.{err_from_is_err_and}
 use Rattle.js_tree.specs.Forest.{expr_at}
 use Rattle.js_tree.specs.Trees.{trees}
 use Rattle.js_grammar.specs.declared.Sign.TheVariants as sign
-use Rattle.js_grammar.specs.Machine.{Wants, Gives, PrimaryAt, Tail, NewTail, Target, Rest, Choice, Commas, expr, ThrowSemi, ReturnSemi, Semi}
+use Rattle.js_grammar.specs.Machine.{Wants, Gives, PrimaryAt, Tail, NewTail, Target, Rest, Choice, Commas, expr}
 use Rattle.js_parser.specs.Reads.{lexeme_at}
 use Rattle.js_parser.proofs.Reading.{reads_then, reads_in, refuses_then}
-use Rattle.js_parser.proofs.Exprs.{same_sign, ready_next, refuses_in, on_in, on_with, paren_refused, paren_unclosed, paren_ends, array_refused, array_unclosed, array_ends, function_refused, function_ends, point_refused, point_reads, square_deep, square_refused, square_unclosed, square_ends, call_refused, call_unclosed, call_ends, new_refused, new_unclosed, new_ends, new_operand_refused, new_with_ends, new_alone_ends, head_ends, tails_end, prefix_deep, prefix_refused, prefix_ends, operand_prefixed, operand_assigned, operand_ends, operand_refused, operators_refused, operators_ends, joined_refused, joined_ends, chain_begin, chain_ends, chain_more, chain_refused, choice_refused, choice_unmarked, choice_third_refused, choice_ends, no_choice, assign_deep, assign_refused, assign_ends, assignment_prefixed, assignment_assigned, assignment_stepped, assignment_unstepped, assignment_refused, comma_refused, comma_ends, commas_end, prefix_inside, assign_inside, infix_inside}
+use Rattle.js_parser.proofs.Exprs.{same_sign, ready_next, refuses_in, on_in, on_with, paren_refused, paren_unclosed, paren_ends, array_refused, array_unclosed, array_ends, function_refused, function_ends, point_refused, point_reads, square_deep, square_refused, square_unclosed, square_ends, call_refused, call_unclosed, call_ends, new_refused, new_unclosed, new_ends, new_operand_refused, new_with_ends, new_alone_ends, head_ends, tails_end, prefix_deep, prefix_refused, prefix_ends, operand_prefixed, operand_assigned, operand_ends, operand_refused, operators_refused, operators_ends, joined_refused, joined_ends, chain_begin, chain_ends, chain_more, chain_refused, choice_refused, choice_unmarked, choice_third_refused, choice_ends, no_choice, assign_deep, assign_refused, assign_ends, assignment_prefixed, assignment_assigned, assignment_stepped, assignment_unstepped, assignment_refused, comma_refused, comma_ends, commas_end}
 use Rattle.js_parser.proofs.ExprLists.{items_none, items_begin, items_refused, items_end, items_more, property_no_key, property_no_colon, property_refused, property_ends, keys_none, keys_begin, keys_refused, keys_end, keys_more, object_refused, object_ends}
-use Rattle.js_tree.specs.Plain.{StmtAt, Throw, Return, Only, SomeExpr}
-use Rattle.js_parser.proofs.Steps.{marked_refused, marked_unmarked, marked_reads, test_unopened, test_deep, test_result, block_unopened, block_deep, block_refused, block_unclosed, block_reads, while_refused, while_body, while_ends, with_refused, with_body, with_ends, if_refused, if_then, if_other, if_ends, do_refused, do_no_while, do_test, do_unmarked, do_ends, if_parts, else_none, else_block, else_if_deep, else_if_refused, else_if_reads, begins_at, begins_fit, throw_refused, throw_ends, return_refused, return_ends, only_refused, only_ends, var_refused, var_unmarked, var_ends}
+use Rattle.js_parser.proofs.Steps.{marked_refused, marked_unmarked, marked_reads, test_unopened, test_deep, test_result, block_unopened, block_deep, block_refused, block_unclosed, block_reads, while_refused, while_body, while_ends, with_refused, with_body, with_ends, if_refused, if_then, if_other, if_ends, do_refused, do_no_while, do_test, do_unmarked, do_ends, if_parts, else_none, else_block, else_if_deep, else_if_refused, else_if_reads, throw_refused, throw_ends, return_refused, return_ends, only_refused, only_ends, var_refused, var_unmarked, var_ends}
 use Rattle.js_parser.proofs.Loops.{statements_begin, statements_end, statements_more, statements_refused, labels_left, labels_refused, labels_step, labels_all, decls_begin, decls_unnamed, decl_refused, decls_end, decls_more, body_fun, body_fun_refused, body_stmt, body_stmt_refused}
 use Rattle.js_parser.proofs.Codes.{code_unopened, code_deep, code_params, code_unbraced, code_inside, code_ends, decl_unnamed, decl_result, init_none, init_refused, init_value}
-use Rattle.js_parser.proofs.Cases.{cases_begin, cases_end, default_twice, case_refused, case_inside, case_more, default_unmarked, default_inside, default_more, switch_refused, switch_unopened, switch_deep, switch_inside, switch_unclosed, switch_parts, switch_ends}
+use Rattle.js_parser.proofs.Cases.{cases_begin, cases_end, case_refused, case_inside, case_more, default_unmarked, default_inside, default_more, switch_refused, switch_unopened, switch_deep, switch_inside, switch_unclosed, switch_parts, switch_ends}
 use Rattle.js_parser.proofs.Fors.{plus_one, for_unopened, for_deep, for_other, for_over, over_refused, over_body, over_ends, vars_refused, vars_unmarked, vars_reads, list_refused, list_unmarked, list_reads, second_none, second_refused, second_reads, third_refused, third_unmarked, third_reads, loop_second, loop_third, loop_block, loop_parts, loop_ends}
 use Rattle.std.proofs.lemmas.List.{nil_from_length}
 use Rattle.js_parser.proofs.Lists.{stmts_kept_all}
-use Rattle.js_parser.proofs.Tries.{caught_unopened, caught_deep, caught_unnamed, caught_unclosed, caught_refused, caught_reads, try_refused, try_alone, final_refused, final_ends, final_parts, catch_refused, catch_ends, catch_parts, both_refused, both_ends, both_parts}
+use Rattle.js_parser.proofs.Tries.{caught_unopened, caught_deep, caught_unnamed, caught_unclosed, caught_refused, caught_reads, try_refused, final_refused, final_ends, final_parts, catch_refused, catch_ends, catch_parts, both_refused, both_ends, both_parts}
 use Rattle.js_parser.proofs.+parser.Goals as goal
 
 pub expressions::paren-returns-in_err-id : goal.expressions::paren-returns-in_err-id

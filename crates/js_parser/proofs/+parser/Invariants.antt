@@ -1,8 +1,8 @@
-use Rattle.std.proofs.Common.{ℕ, ◌+◌, ◌-◌, ◌*◌, ◌∷◌, length}
+use Rattle.std.proofs.Common.{◌+◌, ◌-◌, ◌*◌, ◌∷◌, length}
 use Rattle.js_tree.specs.Forest.{expr_at}
 use Rattle.js_tree.specs.Trees.{trees}
 use Rattle.js_grammar.specs.Tables.{level_of}
-use Rattle.js_grammar.specs.Machine.{Frame, Wants, Gives, PrimaryAt, UnaryAt, Tail, NewTail, Target, Rest, Commas, whole}
+use Rattle.js_grammar.specs.Machine.{Wants, Gives, PrimaryAt, UnaryAt, Tail, NewTail, Target, Rest, Commas, whole}
 use Rattle.js_parser.specs.Reads.{lexeme_at, Reads, IsReady}
 use Rattle.js_parser.proofs.Exprs.{ChainSoFar}
 use Rattle.js_parser.proofs.ExprLists.{ItemsSoFar, KeysSoFar}

@@ -1,5 +1,4 @@
-use Rattle.std.proofs.Common.{refl, inl, inr}
-use Rattle.std.proofs.lemmas.Result.{err_from_is_err_and}
+use Rattle.std.proofs.Common.{refl, inl}
 use Rattle.js_parser.proofs.branches.jump_label.Goals as goal
 
 pub returns-in_default : goal.returns-in_default

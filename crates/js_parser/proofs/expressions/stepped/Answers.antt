@@ -1,7 +1,4 @@
-use Rattle.std.proofs.Common.{◌≢◌}
-use Rattle.js_grammar.specs.declared.Sign.TheVariants as sign
 use Rattle.js_parser.proofs.Exprs.{step_ends, no_step, step_inside}
-use Rattle.js_parser.proofs.ExprLists.{items_none}
 use Rattle.js_parser.proofs.expressions.stepped.Goals as goal
 
 pub returns-in-Some : goal.returns-in-Some

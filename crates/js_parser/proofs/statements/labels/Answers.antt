@@ -1,4 +1,3 @@
-use Rattle.std.proofs.Common.{◌≡◌, ◌+◌, ◌<◌, ◌≤◌, length, arith}
 use Rattle.js_parser.proofs.Names.{labels_more}
 use Rattle.js_parser.proofs.statements.labels.Goals as goal
 
