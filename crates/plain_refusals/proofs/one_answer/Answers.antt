@@ -1,0 +1,9 @@
+use Rattle.plain_refusals.specs.Machine.{Reads}
+use Rattle.plain_refusals.proofs.Plain.{one_place, no_tree}
+use Rattle.plain_refusals.proofs.one_answer.Goals as goal
+
+pub returns : goal.returns
+returns g c = record {
+  place = λ step done begin. one_place (Reads step done begin);
+  no_tree = λ step done begin. no_tree (Reads step done begin);
+}

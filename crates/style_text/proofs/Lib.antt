@@ -1,0 +1,9 @@
+pub mod Complete
+pub mod Cuts
+pub mod Exact
+pub mod Names
+pub mod Printing
+pub mod Reading
+pub mod Sound
+pub mod Values
+pub mod Words

@@ -1,0 +1,5 @@
+pub mod Machine
+pub mod Reads
+pub mod Separated
+pub mod Styles
+pub mod Values
