@@ -7,4 +7,5 @@ pub mod Close
 pub mod Links
 pub mod Laws
 pub mod Fronts
+pub mod Shapes
 mod Examples

@@ -1,3 +1,4 @@
 pub mod Tables
 pub mod Grammar
 pub mod Machine
+pub mod Unplaced

@@ -9,6 +9,7 @@ ghost use Rattle.std.specs.Prelude.{◌≡◌, ℕ, suc, ◌<◌, ◌⊎◌, ◌
 ghost use Rattle.js_grammar.specs.declared.Sign.TheVariants as sign;
 ghost use Rattle.js_grammar.specs.Grammar.{Lexeme, Token, Deep, IsProgram, Begins};
 ghost use Rattle.js_grammar.specs.Machine.{judged};
+ghost use Rattle.js_grammar.specs.Unplaced.{spellings, unplaced_stmts};
 ghost use Rattle.js_tree.specs.Plain.{Stmts};
 ghost use Rattle.exact_refusals.specs.Places.{signs, Within, HasTree, IsSyntaxAt, IsTooDeepAt};
 ghost use Rattle.exact_refusals.specs.Judge.Outcome.{Read, Refused, Deeper};
@@ -121,6 +122,11 @@ pub enum Prefix {
 /// The same tokens spell one program, with the same depths.
 pub fn one_tree()
     ensures { (ts us : List Deep) (p q : Stmts) → IsProgram ts p → IsProgram us q → signs ts ≡ signs us → (ts ≡ us) × (p ≡ q) }
+{}
+
+/// Tokens with the same signs and texts, wherever they stand, spell the same program, places aside.
+pub fn one_shape()
+    ensures { (ts us : List Deep) (p q : Stmts) → IsProgram ts p → IsProgram us q → spellings ts ≡ spellings us → unplaced_stmts p ≡ unplaced_stmts q }
 {}
 
 /// Each text has one answer: a tree, a token that no program goes on with, or a token that is too deep.

@@ -13,5 +13,6 @@ pub mod Names
 pub mod Turns
 pub mod Answer
 pub mod Values
+pub mod Stands
 pub mod Lies
 pub mod Order

@@ -1,22 +1,23 @@
 -- Where the tokens of a text lie.
-use Rattle.std.proofs.Common.{◌≡◌, ℕ, zero, suc, ◌-◌, ◌+◌, ◌<◌, ◌≤◌, List, [], ◌∷◌, ◌++◌, length, take, drop, Bool, true, false, refl, ap, ◌∙◌, subst, sym, arith, length-append, slice_index_or, encode_utf8, encode_utf8_all}
+use Rattle.std.proofs.Common.{◌≡◌, ℕ, zero, suc, ◌-◌, ◌+◌, ◌<◌, ◌≤◌, List, [], ◌∷◌, ◌++◌, length, take, drop, true, refl, ap, ◌∙◌, subst, sym, arith, length-append, slice_index_or, encode_utf8, encode_utf8_all}
 use Rattle.std.specs.Str.{IsUtf8, chars, all_scalars}
 use Rattle.std.specs.Char.{len_utf8}
 use Rattle.std.proofs.Math.Utf8.{scalar}
-use Rattle.std.specs.Prelude.{nat_eq, ◌||◌, slice_range, if◌then◌else◌}
-use Rattle.std.proofs.lemmas.Bool.{and_parts, and_from, eqb-true}
+use Rattle.std.specs.Prelude.{nat_eq, ◌||◌, slice_range}
+use Rattle.std.proofs.lemmas.Bool.{and_parts, and_from}
 use Rattle.std.proofs.lemmas.Bool.Decides.{nat_tests}
-use Rattle.std.proofs.lemmas.Str.{encodes-chars, scalars-chars, encodes-append, length-encode, len_utf8_ascii}
+use Rattle.std.proofs.lemmas.Str.{encodes-chars, chars-encodes, scalars-chars, encodes-append, length-encode, len_utf8_ascii}
 use Rattle.js_tokens.specs.declared.token.Token.{Token}
 use Rattle.js_tokens.specs.declared.token.TokenKind.{TokenKind}
 use Rattle.js_tokens.specs.declared.token.TokenKind.TheVariants as kind
 use Rattle.js_tokens.specs.declared.class.Class.TheVariants as class
-use Rattle.js_tokens.specs.Characters.{class_of, is_line_end}
+use Rattle.js_tokens.specs.Says.{StandsFor, between_quotes}
+use Rattle.js_tokens.proofs.Stands.{Stands, value_of, string_front}
+use Rattle.js_tokens.specs.Characters.{class_of}
 use Rattle.js_tokens.specs.declared.value.Mode.TheVariants as mode
 use Rattle.js_tokens.specs.Value.{string_value, text_between, text_of}
-use Rattle.js_tokens.specs.Lexes.{size, Spelled, Inside, Reads, IsTokenOf, Close, LineEnd, Backslash, Plain, part_of}
+use Rattle.js_tokens.specs.Lexes.{size, Spelled, Inside, Reads, IsTokenOf}
 use Rattle.js_tokens.specs.Lexes.Spelled.{name, reserved, number, text, mark}
-use Rattle.js_tokens.specs.Lexes.Inside.{close, plain, escape}
 use Rattle.js_tokens.specs.Lexes.Reads.{done, blank, line_comment, comment, token}
 use Rattle.js_tokens.proofs.Runs.{Suffix, whole, next, suffix_more, run_suffix}
 use Rattle.js_tokens.proofs.Strings.{comment_suffix}
@@ -65,21 +66,7 @@ suffix_bytes (next {c} {cs} {rest} s) =
     let l = length-encode c in
     drop_past (encode_utf8 c) (encode_utf8_all cs) (size (c ∷ cs) - size rest) (size cs - size rest) (omega (arith, a, b, l)) ∙ suffix_bytes s
 
--- a string's characters are those between the quotes
-
-close_step : (a b d : Bool) → (if a then Close else (if b then LineEnd else (if d then Backslash else Plain))) ≡ Close → a ≡ true
-close_step true b d e = refl
-close_step false true d e = absurd (cc e)
-close_step false false true e = absurd (cc e)
-close_step false false false e = absurd (cc e)
-
-closes : (q c : ℕ) → part_of q c ≡ Close → c ≡ q
-closes q c e = eqb-true c q (close_step (nat_eq c q) (is_line_end c) (nat_eq c 92) e)
-
-inside_front : {q : ℕ} {cs rest : List ℕ} → Inside q cs rest → (pre : List ℕ) × (cs ≡ pre ++ q ∷ rest)
-inside_front {q} {rest = rest} (close {c} e) = ([], ap (λ x. x ∷ rest) (closes q c e))
-inside_front (plain {c} e i) = let p = inside_front i in (c ∷ p.0, ap (λ l. c ∷ l) (p.1))
-inside_front (escape {c} {d} e f i) = let p = inside_front i in (c ∷ d ∷ p.0, ap (λ l. c ∷ d ∷ l) (p.1))
+-- what stands between the quotes of a string
 
 scalars_front : (xs ys : List ℕ) → all_scalars (xs ++ ys) ≡ true → all_scalars xs ≡ true
 scalars_front [] ys e = refl
@@ -98,33 +85,34 @@ take_past [] ys (suc n) e = absurd (omega (arith, e))
 take_past (x ∷ xs) ys zero e = absurd (omega (arith, e))
 take_past (x ∷ xs) ys (suc n) e = ap (λ l. x ∷ l) (take_past xs ys n (omega (arith, e)))
 
--- what stands between the quotes of a string
 pub record StringLies (bytes : List ℕ) (t : Token) : Type 0 where
   pub ordered : t.from + 2 ≤ t.to
   pub within : t.to ≤ length bytes
   pub inner : IsUtf8 (take (t.to - 1 - (t.from + 1)) (drop (t.from + 1) bytes))
+  pub stands : Stands (chars (take (t.to - 1 - (t.from + 1)) (drop (t.from + 1) bytes)))
 
 string_at : (bytes cs ds rest : List ℕ) (q : ℕ) (t : Token) → encode_utf8_all cs ≡ bytes → all_scalars cs ≡ true → Suffix cs (q ∷ ds) → class_of q ≡ class.Quote → Inside q ds rest → t.from ≡ length bytes - size (q ∷ ds) → t.to ≡ length bytes - size rest → StringLies bytes t
 string_at bytes cs ds rest q t spell scalars suffix quote i from_is to_is =
-    let p = inside_front i in
-    let pre = p.0 in
+    let p = string_front quote i in
+    let pre = p.pre in
     let one : len_utf8 q ≡ 1 = len_utf8_ascii q (quote_ascii q (at_class q class.Quote quote)) in
     let n = ap length spell in
     let at_start = size_cons q ds in
     let at_end = size_cons q rest in
-    let whole_size = ap size (p.1) ∙ ap length (encodes-append pre (q ∷ rest)) ∙ length-append (encode_utf8_all pre) (encode_utf8_all (q ∷ rest)) in
+    let whole_size = ap size p.whole ∙ ap length (encodes-append pre (q ∷ rest)) ∙ length-append (encode_utf8_all pre) (encode_utf8_all (q ∷ rest)) in
     let le = suffix_size suffix in
     let behind : Suffix cs ds = suffix_more suffix (next whole) in
     let start : t.from + 1 ≡ size cs - size ds = omega (arith, n, at_start, one, from_is, le) in
     let len : t.to - 1 - (t.from + 1) ≡ length (encode_utf8_all pre) = omega (arith, n, at_start, at_end, one, whole_size, from_is, to_is, le) in
     let bytes_there : drop (t.from + 1) bytes ≡ encode_utf8_all pre ++ encode_utf8_all (q ∷ rest) =
-    ap (λ l. drop (t.from + 1) l) (sym spell) ∙ ap (λ k. drop k (encode_utf8_all cs)) start ∙ suffix_bytes behind ∙ ap encode_utf8_all (p.1) ∙ encodes-append pre (q ∷ rest) in
+    ap (λ l. drop (t.from + 1) l) (sym spell) ∙ ap (λ k. drop k (encode_utf8_all cs)) start ∙ suffix_bytes behind ∙ ap encode_utf8_all p.whole ∙ encodes-append pre (q ∷ rest) in
     let inner_is : take (t.to - 1 - (t.from + 1)) (drop (t.from + 1) bytes) ≡ encode_utf8_all pre = ap (take (t.to - 1 - (t.from + 1))) bytes_there ∙ take_past (encode_utf8_all pre) (encode_utf8_all (q ∷ rest)) (t.to - 1 - (t.from + 1)) len in
-    let good : all_scalars pre ≡ true = scalars_front pre (q ∷ rest) (subst (λ l. all_scalars l ≡ true) (p.1) (scalars_suffix behind scalars)) in
+    let good : all_scalars pre ≡ true = scalars_front pre (q ∷ rest) (subst (λ l. all_scalars l ≡ true) p.whole (scalars_suffix behind scalars)) in
     record {
       ordered = omega (arith, n, at_start, at_end, one, whole_size, from_is, to_is, le);
       within = omega (arith, to_is);
       inner = (pre, (good, sym inner_is));
+      stands = subst Stands (sym (ap chars inner_is ∙ chars-encodes pre good)) p.stands;
     }
 
 string_spelled : (bytes cs start rest : List ℕ) (k : TokenKind) (t : Token) → k ≡ kind.Str → encode_utf8_all cs ≡ bytes → all_scalars cs ≡ true → Suffix cs start → Spelled k start rest → t.from ≡ length bytes - size start → t.to ≡ length bytes - size rest → StringLies bytes t
@@ -167,3 +155,9 @@ other_kind bytes kind.Str from to is = absurd (is refl)
 pub says_bytes : (bytes units inner : List ℕ) (t : Token) → (t.kind ≡ kind.Str → ⊥) → inner ≡ slice_range bytes t.from t.to → units ≡ inner → units ≡ text_of bytes t
 unfolding text_of
 says_bytes bytes units inner t is e u = u ∙ e ∙ sym (other_kind bytes t.kind t.from t.to is)
+
+pub said_string : (bytes : List ℕ) (t : Token) → IsTokenOf bytes t → t.kind ≡ kind.Str → StandsFor (between_quotes bytes t) (text_of bytes t)
+unfolding text_of
+said_string bytes t h is =
+    let s = string_lies bytes t h is in
+    subst (λ us. StandsFor (between_quotes bytes t) us) (value_of (s.stands.1) ∙ sym (ap (λ k. text_between k bytes t.from t.to) is)) (s.stands.1)

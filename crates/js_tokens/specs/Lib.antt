@@ -2,6 +2,7 @@ pub mod Characters
 pub mod Words
 pub mod Lexes
 pub mod Value
+pub mod Says
 pub mod Modes
 pub mod Scan
 pub mod Cursor

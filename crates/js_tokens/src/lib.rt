@@ -14,7 +14,7 @@ mod token;
 mod value;
 mod word;
 
-pub use laws::{in_order, one_bad_place, one_reading};
+pub use laws::{in_order, one_bad_place, one_reading, one_value};
 pub use scanner::tokens;
 pub use token::{Token, TokenFault, TokenKind};
 pub use value::token_text;

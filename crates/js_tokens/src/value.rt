@@ -4,6 +4,7 @@ ghost use Rattle.std.specs.Char.Escape.{encode_utf16};
 ghost use Rattle.js_tokens.specs.Lexes.{IsTokenOf};
 ghost use Rattle.js_tokens.specs.Value.{hex_value, escaped, mode_after, units_at, string_value, text_of};
 ghost use Rattle.js_tokens.specs.Modes.{IsFit};
+ghost use Rattle.js_tokens.specs.Says.{StandsFor, between_quotes};
 
 use crate::cursor::char_at;
 use crate::token::{Token, TokenKind};
@@ -129,7 +130,8 @@ fn string_text(alloc: Global, bytes: &[u8]) -> Result<Vec<u16>, AllocError>
 /// What a token of these bytes says, as units: the name, the reserved word, the number or the mark, and the value of a string (ECMA-262 3rd edition, 7.8.4).
 pub fn token_text(alloc: Global, bytes: &[u8], token: &Token) -> Result<Text, Memory>
     requires { IsTokenOf bytes.now token.now }
-    ensures { IfOk result (λ t. t ≡ text_of bytes.now token.now) }
+    ensures units { IfOk result (λ t. t ≡ text_of bytes.now token.now) }
+    ensures value { token.now.kind ≡ TokenKind.Str → IfOk result (λ t. StandsFor (between_quotes bytes.now token.now) t) }
 {
     match token.kind {
         TokenKind::Str => {

@@ -1,6 +1,8 @@
-use Rattle.std.proofs.Common.{◌≡◌, ℕ, List, IfOk, rules, arith, subst, sym}
+use Rattle.std.proofs.Common.{◌≡◌, ℕ, List, IfOk, rules, arith, subst, sym, ◌∙◌}
 use Rattle.std.specs.Str.{IsUtf8}
-use Rattle.js_tokens.proofs.Lies.{string_lies, token_range, says_string, says_bytes}
+use Rattle.std.proofs.lemmas.Result.{IfOk-weaker}
+use Rattle.js_tokens.specs.Says.{StandsFor, between_quotes}
+use Rattle.js_tokens.proofs.Lies.{string_lies, token_range, says_string, says_bytes, said_string}
 use Rattle.js_tokens.proofs.value.token_text.Goals as goal
 
 pub overflow_add-token : goal.overflow_add-token
@@ -21,10 +23,18 @@ string_text-requires c = let s = string_lies _ _ c.requires c.in-Str.is in subst
 pub between-text-requires : goal.between-text-requires
 between-text-requires c = let r = token_range _ _ c.requires in record { ordered = r.0; within = r.1 }
 
-pub returns-in_ok-string_text-in-Str : goal.returns-in_ok-string_text-in-Str
-returns-in_ok-string_text-in-Str c =
+pub returns-in_ok-string_text-in-Str-clause-units : goal.returns-in_ok-string_text-in-Str-clause-units
+returns-in_ok-string_text-in-Str-clause-units c =
     subst (λ (u : List ℕ). IfOk c.from_units.result (λ t. t ≡ u)) (says_string _ _ _ _ c.in-Str.is c.between-inner.ensures c.in_ok-string_text-in-Str.ensures) c.from_units.ensures
 
-pub returns-in_ok-byte_units-in_default : goal.returns-in_ok-byte_units-in_default
-returns-in_ok-byte_units-in_default c =
+pub returns-in_ok-string_text-in-Str-clause-value : goal.returns-in_ok-string_text-in-Str-clause-value
+returns-in_ok-string_text-in-Str-clause-value c = λ is.
+    IfOk-weaker c.from_units.result _ _
+    (λ t e. subst (StandsFor (between_quotes c.args.bytes.now c.args.token.now)) (sym (e ∙ says_string _ _ _ _ is c.between-inner.ensures c.in_ok-string_text-in-Str.ensures)) (said_string _ _ c.requires is)) c.from_units.ensures
+
+pub returns-in_ok-byte_units-in_default-clause-units : goal.returns-in_ok-byte_units-in_default-clause-units
+returns-in_ok-byte_units-in_default-clause-units c =
     subst (λ (u : List ℕ). IfOk c.from_units-in_default.result (λ t. t ≡ u)) (says_bytes _ _ _ _ c.in_default.not-Str c.between-text.ensures c.in_ok-byte_units-in_default.ensures) c.from_units-in_default.ensures
+
+pub returns-in_ok-byte_units-in_default-clause-value : goal.returns-in_ok-byte_units-in_default-clause-value
+returns-in_ok-byte_units-in_default-clause-value c = λ is. absurd (c.in_default.not-Str is)
