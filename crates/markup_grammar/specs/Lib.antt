@@ -1,0 +1,5 @@
+pub mod Signs
+pub mod Grammar
+pub mod Markup
+pub mod Machine
+pub mod Judge

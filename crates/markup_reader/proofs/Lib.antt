@@ -1,0 +1,3 @@
+mod Grows
+mod Reading
+mod Exact

@@ -1,0 +1,30 @@
+-- The listed tags, by what they are for, and the units of plain words.
+use Rattle.std.specs.Prelude.{ℕ, Bool, List, [], ◌∷◌, nat_eq, nat_le, ◌&&◌, ◌||◌, codes}
+use Rattle.std.specs.List.{list_any}
+use Rattle.std.specs.Str.{bytes_eq}
+
+-- what stands in a line
+unfoldable pub is_phrase : List ℕ → Bool
+is_phrase tag = list_any (bytes_eq tag)
+    (codes "a" ∷ codes "abbr" ∷ codes "b" ∷ codes "br" ∷ codes "code" ∷ codes "em" ∷ codes "i" ∷ codes "img" ∷ codes "small" ∷ codes "span" ∷ codes "strong" ∷ codes "sub" ∷ codes "sup" ∷ [])
+
+unfoldable pub is_block : List ℕ → Bool
+is_block tag = list_any (bytes_eq tag)
+    (codes "blockquote" ∷ codes "div" ∷ codes "h1" ∷ codes "h2" ∷ codes "h3" ∷ codes "h4" ∷ codes "h5" ∷ codes "h6" ∷ codes "hr" ∷ codes "p" ∷ codes "pre" ∷ [])
+
+unfoldable pub is_list : List ℕ → Bool
+is_list tag = list_any (bytes_eq tag) (codes "dd" ∷ codes "dl" ∷ codes "dt" ∷ codes "li" ∷ codes "ol" ∷ codes "ul" ∷ [])
+
+unfoldable pub is_form : List ℕ → Bool
+is_form tag = list_any (bytes_eq tag) (codes "button" ∷ codes "input" ∷ codes "label" ∷ codes "option" ∷ codes "select" ∷ codes "textarea" ∷ [])
+
+unfoldable pub is_table : List ℕ → Bool
+is_table tag = list_any (bytes_eq tag) (codes "caption" ∷ codes "table" ∷ codes "tbody" ∷ codes "td" ∷ codes "tfoot" ∷ codes "th" ∷ codes "thead" ∷ codes "tr" ∷ [])
+
+-- the tag is listed; `script` is not
+abbrev pub is_listed : List ℕ → Bool
+is_listed tag = is_phrase tag || is_block tag || is_list tag || is_form tag || is_table tag
+
+-- a space, `-`, `/`, a digit, a capital, `_`, a letter
+abbrev pub is_plain_unit : ℕ → Bool
+is_plain_unit u = nat_eq u 32 || nat_eq u 45 || (nat_le 47 u && nat_le u 57) || (nat_le 65 u && nat_le u 90) || nat_eq u 95 || (nat_le 97 u && nat_le u 122)

@@ -1,0 +1,93 @@
+//! The reader: the trees so far, the open elements, and what is being read.
+ghost use Rattle.std.specs.Prelude.{◌≡◌, ◌<◌, ◌+◌, ◌^◌, IfOk};
+ghost use Rattle.markup_grammar.specs.Signs.{sign_of};
+ghost use Rattle.markup_grammar.specs.Machine.{step, begin};
+ghost use Rattle.markup_reader.specs.States.{state_of, spot, Took};
+
+use crate::fault::Stop;
+use crate::mode::{Mode, Run};
+use code_units::{Memory, Text};
+use plain_tree::{Attr, Plain};
+use std::alloc::Global;
+
+// The head of an element: its tag, its attributes so far, and its place.
+#[derive(Drop)]
+pub struct Head {
+    pub tag: Text,
+    pub attrs: Vec<Attr>,
+    pub at: usize,
+}
+
+// An element whose content is read, and the trees that stand before it.
+#[derive(Drop)]
+pub struct Open {
+    pub before: Vec<Plain>,
+    pub head: Head,
+}
+
+#[derive(Drop)]
+pub struct Reader {
+    pub alloc: Global,
+    pub mode: Mode,
+    pub nodes: Vec<Plain>,
+    // the innermost last
+    pub open: Vec<Open>,
+    pub head: Head,
+    // the attribute whose value is read
+    pub name: Text,
+    pub name_at: usize,
+    pub value_at: usize,
+    pub double: bool,
+    // of the text, the value or the name that is read
+    pub units: Vec<u16>,
+    pub text_at: usize,
+}
+
+impl Reader {
+    pub fn new(alloc: Global) -> Result<Reader, Memory>
+        ensures { IfOk result (λ r. state_of r ≡ begin) }
+    {
+        Ok(Reader {
+            alloc,
+            mode: Mode::Between,
+            nodes: Vec::new(alloc),
+            open: Vec::new(alloc),
+            head: Head {
+                tag: Text::from_units(alloc, Vec::new(alloc))?,
+                attrs: Vec::new(alloc),
+                at: 0,
+            },
+            name: Text::from_units(alloc, Vec::new(alloc))?,
+            name_at: 0,
+            value_at: 0,
+            double: false,
+            units: Vec::new(alloc),
+            text_at: 0,
+        })
+    }
+
+    // Takes one character, which stands at `at`.
+    pub fn take(&mut self, c: char, at: usize) -> Result<(), Stop>
+        requires { at + 1 < 2 ^ 64 }
+        ensures { Took (step (state_of self.old) (sign_of c) (spot c at)) result (state_of self.new) }
+    {
+        match self.mode {
+            Mode::Between => self.between(c, at),
+            Mode::In(Run::Text) => self.in_text(c, at),
+            Mode::In(Run::Value) => self.in_value(c, at),
+            Mode::Refers(run, referring) => self.in_reference(run, referring, c, at),
+            Mode::Begun => self.begun(c, at),
+            Mode::TagName => self.tag_name(c, at),
+            Mode::Valued => self.in_head(c, at),
+            Mode::Spaced => self.spaced(c, at),
+            Mode::AttributeName => self.attribute_name(c, at),
+            Mode::Assigned => self.assigned(c, at),
+            Mode::Slashed => self.slashed(c, at),
+            Mode::Ending(read) => self.ending(read, c, at),
+            Mode::Ended => self.ended(c, at),
+            Mode::InRaw => self.in_raw(c, at),
+            Mode::RawBegun => self.raw_begun(c, at),
+            Mode::RawEnding(read) => self.raw_ending(read, c, at),
+        }
+    }
+}
