@@ -1,8 +1,7 @@
 -- Bytes have one answer.
-use Rattle.std.proofs.Common.{◌≡◌, ℕ, suc, [], append-nil, take-append-drop, ◌<◌, ◌≤◌, ◌⊎◌, List, ◌++◌, length, refl, ap, sym, subst, ◌∙◌, arith, take, drop}
+use Rattle.std.proofs.Common.{◌≡◌, ℕ, suc, [], append-nil, take-append-drop, ◌<◌, ◌≤◌, List, ◌++◌, length, sym, subst, ◌∙◌, arith, take, drop}
 use Rattle.std.proofs.Math.Seq.{take-take, take-length}
-use Rattle.std.proofs.lemmas.List.{length-take-le}
-use Rattle.markup_grammar.specs.Judge.{Judged, Read, Bad, judged}
+use Rattle.markup_grammar.specs.Judge.{Read}
 use Rattle.markup_grammar.specs.Markup.{MarkupSpells, Begins, BadMarkupPlace}
 use Rattle.markup_grammar.proofs.Places.{spells_judged}
 use Rattle.markup_grammar.proofs.Broken.{begins_front}
@@ -37,3 +36,11 @@ one_kind bytes ts at m p =
   where
     order : (at ≡ length bytes → ⊥) → (at < length bytes → ⊥) → at ≤ length bytes → ⊥
     order e l i = l (omega (arith, e, i))
+
+pub cut_short : (front more : List ℕ) (ts : Trees Places) → MarkupSpells (front ++ more) ts → ((us : Trees Places) → MarkupSpells front us → ⊥) → BadMarkupPlace front (length front)
+cut_short front more ts m no_text = record {
+  inside = omega arith;
+  begins = subst Begins (sym (take-length front)) (more, ts, m);
+  refused = λ lt. absurd (omega (arith, lt));
+  cut = λ q us n. no_text us n;
+}

@@ -1,19 +1,18 @@
 -- Where bytes are refused that are no UTF-8.
-use Rattle.std.proofs.Common.{◌≡◌, ℕ, zero, suc, ◌+◌, ◌-◌, ◌<◌, ◌≤◌, List, [], ◌∷◌, ◌++◌, Bool, true, false, Option, Some, None, length, refl, ap, sym, subst, ◌∙◌, arith, nat_lt, take, drop, get_or, append_assoc, append-nil, length-append, length-drop, encode_utf8, encode_utf8_all, drop-cons}
+use Rattle.std.proofs.Common.{◌≡◌, ℕ, suc, ◌+◌, ◌<◌, ◌≤◌, List, [], ◌∷◌, ◌++◌, Bool, true, false, Option, Some, None, length, refl, ap, sym, subst, ◌∙◌, arith, nat_lt, take, drop, get_or, append_assoc, append-nil, length-drop, encode_utf8, encode_utf8_all, drop-cons}
 use Rattle.std.specs.Char.{len_utf8}
 use Rattle.std.specs.Str.{IsUtf8, IsValidUpTo, chars}
-use Rattle.std.specs.Str.Lossy.{utf8_valid_len}
 use Rattle.std.proofs.lemmas.Bool.{ltb-true}
 use Rattle.std.proofs.lemmas.Bool.Decides.{nat_tests}
 use Rattle.std.proofs.lemmas.List.{length-take-le}
-use Rattle.std.proofs.lemmas.Str.{IsUtf8-append, chars-append, chars-encodes, length-encode, byte_from_char, encodes-chars, scalars-chars, utf8_valid_len-IsValidUpTo, IsUtf8-encode}
-use Rattle.std.proofs.Math.Seq.{take-add, take_at, take-length}
-use Rattle.std.proofs.Math.Utf8.{scalars, scalar}
+use Rattle.std.proofs.lemmas.Str.{IsUtf8-append, chars-append, chars-encodes, byte_from_char, encodes-chars, scalars-chars, utf8_valid_len-IsValidUpTo, IsUtf8-encode}
+use Rattle.std.proofs.Math.Seq.{take-add, take-length}
+use Rattle.std.proofs.Math.Utf8.{scalar}
 use Rattle.std.proofs.str.Valid.{of_one, longer}
 use Rattle.markup_grammar.specs.declared.Sign.TheVariants as sign
-use Rattle.markup_grammar.specs.Signs.{Spot, sign_of}
+use Rattle.markup_grammar.specs.Signs.{sign_of}
 use Rattle.markup_grammar.specs.Machine.{State, begin, step}
-use Rattle.markup_grammar.specs.Judge.{Outcome, Reached, Stuck, goes_on, reads, Judged, Read, Bad, begun_len, breaks, behind, judged}
+use Rattle.markup_grammar.specs.Judge.{Outcome, Reached, Stuck, goes_on, reads, Judged, begun_len, breaks, behind, judged}
 use Rattle.markup_grammar.specs.Markup.{MarkupSpells, Begins, BadMarkupPlace}
 use Rattle.markup_grammar.proofs.Bytes.{size, size_is, begins, reads_append, next_char}
 use Rattle.markup_grammar.proofs.Runs.{both}

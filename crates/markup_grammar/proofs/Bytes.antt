@@ -1,22 +1,19 @@
 -- The machine over characters, and bytes that it refuses.
-use Rattle.std.proofs.Common.{◌≡◌, ℕ, zero, suc, ◌+◌, ◌-◌, ◌<◌, ◌≤◌, List, [], ◌∷◌, ◌++◌, Bool, true, false, Option, Some, None, length, refl, ap, sym, subst, ◌∙◌, arith, cond, nat_lt, take, drop, get_or, append_assoc, length-append, encode_utf8, encode_utf8_all}
-use Rattle.std.specs.Prelude.{slice_index}
-use Rattle.std.specs.Char.{len_utf8, IsScalar}
+use Rattle.std.proofs.Common.{◌≡◌, ℕ, zero, suc, ◌+◌, List, [], ◌∷◌, ◌++◌, true, Option, Some, None, length, refl, ap, sym, subst, ◌∙◌, arith, nat_lt, append_assoc, length-append, encode_utf8, encode_utf8_all}
+use Rattle.std.specs.Char.{len_utf8}
 use Rattle.std.specs.Str.{IsUtf8, IsAscii, chars}
-use Rattle.std.proofs.lemmas.Bool.{ltb-true, lt-ltb}
-use Rattle.std.proofs.lemmas.Bool.Decides.{nat_tests}
-use Rattle.std.proofs.lemmas.Str.{IsUtf8-append, IsUtf8-from_ascii, chars-IsAscii, chars-append, chars-encodes, cons_from_encodes, length-encode, encodes-append, encode_ascii, char_from_byte, byte_from_char, encodes-chars, scalars-chars}
+use Rattle.std.proofs.lemmas.Bool.{ltb-true}
+use Rattle.std.proofs.lemmas.Str.{IsUtf8-append, IsUtf8-from_ascii, chars-IsAscii, chars-append, chars-encodes, cons_from_encodes, length-encode}
 use Rattle.std.proofs.Math.Utf8.{scalars, scalar}
-use Rattle.markup_grammar.specs.declared.Sign.TheVariants as sign
-use Rattle.markup_grammar.specs.Signs.{Spot, located, sign_of}
+use Rattle.markup_grammar.specs.Signs.{located, sign_of}
 use Rattle.markup_grammar.specs.Grammar.{Content, Spells}
-use Rattle.markup_grammar.specs.Machine.{State, State_at, Between, begin, step, run, finished}
+use Rattle.markup_grammar.specs.Machine.{State, begin, step, run, finished}
 use Rattle.markup_grammar.specs.Judge.{Outcome, Reached, Stuck, goes_on, reads}
-use Rattle.markup_grammar.specs.Markup.{MarkupSpells, Begins, BadMarkupPlace}
+use Rattle.markup_grammar.specs.Markup.{MarkupSpells, Begins}
 use Rattle.markup_grammar.proofs.Complete.{complete}
 use Rattle.markup_grammar.proofs.Sound.{sound}
 use Rattle.markup_grammar.proofs.Close.{Good, GoodO, step_good, is_ascii, parts}
-use Rattle.markup_grammar.proofs.Closing.{Ends, closing, closes, closing_ascii}
+use Rattle.markup_grammar.proofs.Closing.{closing, closes, closing_ascii}
 use Rattle.plain_tree.specs.Trees.{Trees}
 use Rattle.plain_tree.specs.Plains.{Places}
 

@@ -1,20 +1,19 @@
 -- Each state that arises can be led to an end.
-use Rattle.std.proofs.Common.{◌≡◌, ℕ, zero, suc, ◌+◌, ◌-◌, ◌*◌, ◌<◌, ◌≤◌, List, [], ◌∷◌, ◌++◌, Bool, true, false, Option, Some, None, length, refl, ap, sym, subst, ◌∙◌, arith, cond, nat_lt, nat_eq, eq-eqb}
+use Rattle.std.proofs.Common.{◌≡◌, ℕ, zero, suc, ◌+◌, ◌-◌, ◌*◌, ◌<◌, ◌≤◌, List, [], ◌∷◌, ◌++◌, Bool, true, false, Option, Some, None, length, refl, ap, ◌∙◌, arith, cond, nat_lt, nat_eq}
 use Rattle.std.specs.Prelude.{◌&&◌, ◌||◌, codes}
-use Rattle.std.specs.Char.{len_utf8}
 use Rattle.std.specs.Char.Escape.{encode_utf16}
-use Rattle.std.proofs.lemmas.Bool.{lt-ltb, ltb-true, eqb-true}
+use Rattle.std.proofs.lemmas.Bool.{ltb-true, eqb-true}
 use Rattle.std.proofs.lemmas.Bool.Decides.{nat_tests}
 use Rattle.markup_grammar.specs.declared.Sign.{Sign}
 use Rattle.markup_grammar.specs.declared.Sign.TheVariants as sign
-use Rattle.markup_grammar.specs.Signs.{Spot, Char, char_at, located, sign_of, in_tag, in_attribute}
+use Rattle.markup_grammar.specs.Signs.{Spot, sign_of, in_tag}
 use Rattle.markup_grammar.specs.Grammar.{limit, is_referable}
 use Rattle.markup_grammar.specs.Machine as machine
 use Rattle.markup_grammar.specs.Machine.{Opening, Open, Run, InText, InValue, Referring, Ampersand, Named, Number, Mode, State, State_at, Between, In, Refers, Begun, TagName, Valued, Spaced, AttributeName, Assigned, Slashed, Ending, Ended, InRaw, RawBegun, RawEnding, grown, step, run, begin, finished}
-use Rattle.markup_grammar.proofs.Runs.{if_true, if_false, both, going}
+use Rattle.markup_grammar.proofs.Runs.{both}
 use Rattle.plain_tree.specs.Names.{is_void, is_script, is_bare}
-use Rattle.plain_tree.specs.Trees.{Trees, End, beside}
-use Rattle.plain_tree.specs.Plains.{Places, text_node}
+use Rattle.plain_tree.specs.Trees.{Trees}
+use Rattle.plain_tree.specs.Plains.{Places}
 
 -- letters and digits of ASCII
 abbrev pub is_tag : List ℕ → Bool

@@ -1,18 +1,17 @@
 -- The text that leads a state to an end.
-use Rattle.std.proofs.Common.{◌≡◌, ℕ, zero, suc, ◌+◌, ◌*◌, ◌-◌, ◌<◌, ◌≤◌, ◌≢◌, List, [], ◌∷◌, ◌++◌, Bool, true, false, Option, Some, None, length, refl, ap, sym, subst, ◌∙◌, arith, cond, nat_lt, nat_eq, eq-eqb}
+use Rattle.std.proofs.Common.{◌≡◌, ℕ, zero, suc, ◌+◌, ◌*◌, ◌<◌, ◌≤◌, ◌≢◌, List, [], ◌∷◌, ◌++◌, Bool, true, false, Some, None, refl, ap, sym, subst, ◌∙◌, arith, cond, nat_lt, nat_eq, eq-eqb}
 use Rattle.std.specs.Prelude.{◌&&◌, ◌||◌, codes, nat_le}
 use Rattle.std.specs.Char.{len_utf8}
 use Rattle.std.specs.Char.Escape.{encode_utf16}
-use Rattle.std.proofs.lemmas.Bool.{lt-ltb, ltb-true, eqb-true, le-leb}
+use Rattle.std.proofs.lemmas.Bool.{lt-ltb, eqb-true, le-leb}
 use Rattle.std.proofs.lemmas.Bool.Decides.{nat_tests}
 use Rattle.markup_grammar.specs.declared.Sign.{Sign}
-use Rattle.markup_grammar.specs.declared.Sign.TheVariants as sign
-use Rattle.markup_grammar.specs.Signs.{Spot, Char, char_at, located, sign_of, in_tag}
+use Rattle.markup_grammar.specs.Signs.{Spot, located, sign_of, in_tag}
 use Rattle.markup_grammar.specs.Grammar.{limit, is_referable}
 use Rattle.markup_grammar.specs.Machine as machine
 use Rattle.markup_grammar.specs.Machine.{Opening, Open, Run, InText, InValue, Referring, Ampersand, Named, Number, Mode, State, State_at, Between, In, Refers, Begun, TagName, Valued, Spaced, AttributeName, Assigned, Slashed, Ending, Ended, InRaw, RawBegun, RawEnding, grown, step, run, begin, finished}
-use Rattle.markup_grammar.proofs.Runs.{if_true, if_false, both, going, seven}
-use Rattle.markup_grammar.proofs.Close.{is_tag, is_ascii, parts, bound, GoodOpen, GoodRun, GoodReferring, GoodMode, Good}
+use Rattle.markup_grammar.proofs.Runs.{if_true, both, going, seven}
+use Rattle.markup_grammar.proofs.Close.{is_tag, is_ascii, parts, bound, GoodOpen, GoodRun, GoodReferring, Good}
 use Rattle.plain_tree.specs.Names.{is_void, is_script}
 use Rattle.plain_tree.specs.Trees.{Trees, End, beside}
 use Rattle.plain_tree.specs.Plains.{Places, text_node, element_node}

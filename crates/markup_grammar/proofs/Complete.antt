@@ -1,6 +1,5 @@
 -- What is spelled is taken by the machine, and gives the same trees.
-use Rattle.std.proofs.Common.{◌≡◌, ℕ, suc, List, [], ◌∷◌, ◌++◌, Bool, true, false, Option, Some, None, length, refl, ap, sym, ◌∙◌, nat_lt}
-use Rattle.std.specs.Prelude.{codes}
+use Rattle.std.proofs.Common.{◌≡◌, ℕ, suc, List, [], ◌∷◌, ◌++◌, Bool, true, false, Some, length, refl, ap, ◌∙◌, nat_lt}
 use Rattle.markup_grammar.specs.declared.Sign.{Sign}
 use Rattle.markup_grammar.specs.declared.Sign.TheVariants as sign
 use Rattle.markup_grammar.specs.Signs.{Spot, Char, quote}

@@ -1,9 +1,9 @@
 -- Bytes that begin with no character: how many of them begin one.
-use Rattle.std.proofs.Common.{◌≡◌, ℕ, zero, suc, ◌+◌, ◌-◌, ◌*◌, ◌/◌, ◌<◌, ◌≤◌, ◌≢◌, ◌⊎◌, List, [], ◌∷◌, ◌++◌, Bool, true, false, Option, Some, None, length, refl, ap, sym, subst, ◌∙◌, arith, cond, nat_lt, take, drop, get_or, append-nil, encode_utf8}
-use Rattle.std.specs.Prelude.{◌==◌, ◌&&◌, nat_le, unwrap_or}
+use Rattle.std.proofs.Common.{◌≡◌, ℕ, suc, ◌+◌, ◌-◌, ◌*◌, ◌/◌, ◌<◌, ◌≤◌, ◌≢◌, ◌⊎◌, List, [], ◌∷◌, ◌++◌, Bool, true, false, Some, None, length, refl, ap, sym, subst, ◌∙◌, arith, cond, nat_lt, take, get_or, append-nil, encode_utf8}
+use Rattle.std.specs.Prelude.{◌==◌, nat_le, unwrap_or}
 use Rattle.std.specs.Int.{is_in_range}
 use Rattle.std.specs.Str.{IsUtf8, StartsWithNoChar}
-use Rattle.std.specs.Str.Lossy.{second_byte_min, second_byte_max, error_len_after_two, error_len_after_one, error_len_of_some, utf8_error_len}
+use Rattle.std.specs.Str.Lossy.{second_byte_min, second_byte_max, error_len_after_one}
 use Rattle.std.proofs.lemmas.Bool.{ltb-true, eqb-true, leb-true, le-leb, le-ltb}
 use Rattle.std.proofs.lemmas.Bool.Decides.{nat_tests}
 use Rattle.std.proofs.Math.Utf8.{scalar, next, low_scalar}
@@ -11,7 +11,7 @@ use Rattle.std.proofs.str.Laws.{two, three, four, Follows}
 use Rattle.std.proofs.str.Digits.{high_scalar}
 use Rattle.std.proofs.str.Faults.{Ranged, no_char}
 use Rattle.std.proofs.str.Lossy.{utf8_error_len_some}
-use Rattle.std.proofs.str.Valid.{of_two, of_three, of_four}
+use Rattle.std.proofs.str.Valid.{of_two}
 use Rattle.markup_grammar.specs.Judge.{begun_len}
 use Rattle.markup_grammar.proofs.Close.{parts}
 use Rattle.markup_grammar.proofs.Runs.{both}

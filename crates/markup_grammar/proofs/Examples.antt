@@ -1,12 +1,12 @@
 -- What comes of some texts, computed. Each is a case of an outside table.
-use Rattle.std.proofs.Common.{◌≡◌, ℕ, List, [], ◌∷◌, Some, None, refl, Bool, true, false, length}
+use Rattle.std.proofs.Common.{◌≡◌, [], ◌∷◌, Some, None, refl}
 use Rattle.std.specs.Prelude.{codes}
 use Rattle.plain_tree.specs.Names.{is_void, is_script, is_bare}
-use Rattle.plain_tree.specs.Trees.{Trees, End, Node, TextOf, ElementOf}
-use Rattle.plain_tree.specs.Plains.{Places, text_node, element_node}
-use Rattle.markup_grammar.specs.Signs.{located, Char, char_at}
+use Rattle.plain_tree.specs.Trees.{End, Node, TextOf}
+use Rattle.plain_tree.specs.Plains.{text_node, element_node}
+use Rattle.markup_grammar.specs.Signs.{located}
 use Rattle.markup_grammar.specs.Grammar.{limit}
-use Rattle.markup_grammar.specs.Machine.{State, begin, step, run, finished}
+use Rattle.markup_grammar.specs.Machine.{begin, run, finished}
 
 paragraph : finished (run (Some begin) (located 0 (codes "<p id=\"a\">x&lt;</p>"))) ≡ Some (element_node (codes "p") (record { name = codes "id"; value = codes "a"; at = 3; value_at = 7 } ∷ []) (text_node (codes "x<") 10) 0)
 unfolding limit is_void is_script is_bare

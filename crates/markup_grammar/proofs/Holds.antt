@@ -2,7 +2,6 @@
 use Rattle.std.proofs.Common.{◌≡◌, ℕ, suc, ◌≤◌, List, [], ◌∷◌, ◌++◌, Bool, true, false, length, nat_lt}
 use Rattle.std.specs.Prelude.{codes}
 use Rattle.std.specs.Char.Escape.{encode_utf16}
-use Rattle.markup_grammar.specs.declared.Sign.{Sign}
 use Rattle.markup_grammar.specs.declared.Sign.TheVariants as sign
 use Rattle.markup_grammar.specs.Signs.{Spot, Char, in_tag, in_attribute, quote}
 use Rattle.markup_grammar.specs.Grammar.{limit, Blanks, Name, Word, Digits, Reference, Text, Value, Attributes, Head, Raw, Content, Closed, Spells}

@@ -1,19 +1,16 @@
 -- Where bytes are refused: the machine's place is the exact one.
-use Rattle.std.proofs.Common.{◌≡◌, ℕ, zero, suc, ◌+◌, ◌-◌, ◌<◌, ◌≤◌, List, [], ◌∷◌, ◌++◌, Bool, true, false, Option, Some, None, length, refl, ap, sym, subst, ◌∙◌, arith, cond, nat_lt, take, drop, get_or, append_assoc, append-nil, length-append, encode_utf8, encode_utf8_all, drop-cons}
-use Rattle.std.specs.Char.{len_utf8}
-use Rattle.std.specs.Str.{IsUtf8, IsValidUpTo, chars}
-use Rattle.std.specs.Str.Lossy.{utf8_valid_len}
+use Rattle.std.proofs.Common.{◌≡◌, ℕ, suc, ◌<◌, ◌≤◌, List, [], ◌∷◌, ◌++◌, Bool, true, false, Option, Some, None, length, refl, ap, sym, subst, ◌∙◌, arith, cond, nat_lt, take, drop, get_or, append_assoc, append-nil, length-append, encode_utf8, encode_utf8_all}
+use Rattle.std.specs.Str.{IsUtf8, chars}
 use Rattle.std.proofs.lemmas.Bool.{ltb-true}
 use Rattle.std.proofs.lemmas.Bool.Decides.{nat_tests}
 use Rattle.std.proofs.lemmas.List.{length-take-le}
-use Rattle.std.proofs.lemmas.Str.{IsUtf8-append, chars-encodes, length-encode, len_utf8_bounds, encodes-append, encode_ascii, char_from_byte, byte_from_char, encodes-chars, scalars-chars, utf8_valid_len-IsUtf8, utf8_valid_len-IsValidUpTo, IsUtf8-encode}
+use Rattle.std.proofs.lemmas.Str.{chars-encodes, length-encode, len_utf8_bounds, encodes-append, encode_ascii, char_from_byte, byte_from_char, encodes-chars, scalars-chars, utf8_valid_len-IsUtf8}
 use Rattle.std.proofs.Math.Seq.{take-length, drop-length, take-take, take_at}
 use Rattle.std.proofs.Math.Utf8.{scalars, scalar}
 use Rattle.markup_grammar.specs.declared.Sign.TheVariants as sign
-use Rattle.markup_grammar.specs.Signs.{Spot, sign_of, in_tag}
-use Rattle.markup_grammar.specs.Machine as machine
+use Rattle.markup_grammar.specs.Signs.{Spot, sign_of}
 use Rattle.markup_grammar.specs.Machine.{InText, InValue, Ampersand, Named, Number, State, State_at, Between, In, Refers, Begun, TagName, Valued, Spaced, AttributeName, Assigned, Slashed, Ending, Ended, InRaw, RawBegun, RawEnding, begin, step, finished}
-use Rattle.markup_grammar.specs.Judge.{Outcome, Reached, Stuck, reads, Judged, Read, Bad, begun_len, ends, breaks, behind, judged}
+use Rattle.markup_grammar.specs.Judge.{Outcome, Reached, Stuck, reads, Judged, Read, Bad, ends, behind, judged}
 use Rattle.markup_grammar.specs.Markup.{MarkupSpells, Begins, BadMarkupPlace}
 use Rattle.markup_grammar.proofs.Close.{parts}
 use Rattle.markup_grammar.proofs.Runs.{both}

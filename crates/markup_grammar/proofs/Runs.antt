@@ -1,13 +1,13 @@
 -- The machine over what stands in names, references, texts and values.
-use Rattle.std.proofs.Common.{◌≡◌, ℕ, suc, ◌+◌, ◌-◌, ◌*◌, ◌<◌, ◌≤◌, List, [], ◌∷◌, ◌++◌, Bool, true, false, Option, Some, None, length, refl, ap, sym, ◌∙◌, arith, cond, nat_lt, nat_eq, eq-eqb}
+use Rattle.std.proofs.Common.{◌≡◌, ℕ, suc, ◌+◌, ◌-◌, ◌*◌, ◌<◌, ◌≤◌, List, [], ◌∷◌, ◌++◌, Bool, true, false, Option, Some, None, length, refl, ap, ◌∙◌, arith, cond, nat_lt, nat_eq, eq-eqb}
 use Rattle.std.specs.Prelude.{◌&&◌, ◌||◌, codes, nat_le}
 use Rattle.std.specs.Char.Escape.{encode_utf16}
 use Rattle.std.proofs.lemmas.Bool.{lt-ltb, ltb-true}
 use Rattle.std.proofs.lemmas.Bool.Decides.{nat_tests}
 use Rattle.markup_grammar.specs.declared.Sign.{Sign}
 use Rattle.markup_grammar.specs.declared.Sign.TheVariants as sign
-use Rattle.markup_grammar.specs.Signs.{Spot, Char, in_tag, in_attribute, in_text, in_value, quote, is_less, is_slash}
-use Rattle.markup_grammar.specs.Grammar.{limit, Blanks, Name, Word, Digits, is_referable, Reference, Piece, Text, Value, Raw}
+use Rattle.markup_grammar.specs.Signs.{Spot, Char, in_tag, in_attribute, in_text, in_value, is_less, is_slash}
+use Rattle.markup_grammar.specs.Grammar.{limit, Blanks, Name, Word, Digits, is_referable, Reference, Text, Value, Raw}
 use Rattle.markup_grammar.specs.Grammar.Blanks.{no_blank, and_blank}
 use Rattle.markup_grammar.specs.Grammar.Name.{first, next}
 use Rattle.markup_grammar.specs.Grammar.Word.{done, letter}

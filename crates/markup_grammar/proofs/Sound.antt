@@ -1,13 +1,12 @@
 -- What the machine takes is spelled, and has the machine's trees.
-use Rattle.std.proofs.Common.{◌≡◌, ℕ, zero, suc, ◌+◌, ◌-◌, ◌*◌, ◌<◌, ◌≤◌, List, [], ◌∷◌, ◌++◌, Bool, true, false, Option, Some, None, length, refl, ap, sym, subst, ◌∙◌, arith, cond, nat_lt, nat_eq}
+use Rattle.std.proofs.Common.{◌≡◌, ℕ, suc, ◌+◌, ◌-◌, ◌*◌, ◌≤◌, List, [], ◌∷◌, ◌++◌, Bool, true, false, Option, Some, None, length, refl, subst, arith, cond, nat_lt, nat_eq}
 use Rattle.std.specs.Prelude.{◌&&◌, ◌||◌, codes}
 use Rattle.std.specs.Char.Escape.{encode_utf16}
 use Rattle.std.proofs.lemmas.Bool.{ltb-true, eqb-true}
-use Rattle.std.proofs.lemmas.Bool.Decides.{nat_tests}
 use Rattle.markup_grammar.specs.declared.Sign.{Sign}
 use Rattle.markup_grammar.specs.declared.Sign.TheVariants as sign
 use Rattle.markup_grammar.specs.Signs.{Spot, Char, in_tag, in_attribute, quote}
-use Rattle.markup_grammar.specs.Grammar.{limit, Blanks, Name, Word, Digits, is_referable, Reference, Text, Value, Attribute, Attributes, Head, Raw, Content, Closed, Spells}
+use Rattle.markup_grammar.specs.Grammar.{limit, Blanks, Name, Word, is_referable, Reference, Text, Value, Attribute, Attributes, Head, Raw, Content, Closed, Spells}
 use Rattle.markup_grammar.specs.Grammar.Blanks.{no_blank, and_blank}
 use Rattle.markup_grammar.specs.Grammar.Name.{first, next}
 use Rattle.markup_grammar.specs.Grammar.Word.{done, letter}
@@ -26,7 +25,7 @@ use Rattle.markup_grammar.specs.Machine.{Opening, Open, Run, InText, InValue, Re
 use Rattle.markup_grammar.proofs.Holds.{Gap, one_blank, more_blanks, Opened, outermost, inner, Heads, heads, Refer, at_ampersand, in_name, in_number, Holds, between, in_text, text_refers, begun, tag_name, valued, spaced, attribute_name, assigned, in_value, value_refers, slashed, ending, ended, in_raw, raw_begun, raw_ending}
 use Rattle.plain_tree.specs.declared.plain.Attr.{Attr}
 use Rattle.plain_tree.specs.Names.{is_void, is_script, is_bare}
-use Rattle.plain_tree.specs.Trees.{Trees, End, beside}
+use Rattle.plain_tree.specs.Trees.{Trees}
 use Rattle.plain_tree.specs.Plains.{Places}
 
 split : (a b : Bool) → (a && b) ≡ true → (a ≡ true) × (b ≡ true)

@@ -3,7 +3,7 @@ use Rattle.std.specs.Prelude.{ℕ, suc, ◌+◌, ◌-◌, ◌*◌, List, [], ◌
 use Rattle.std.specs.Char.Escape.{encode_utf16}
 use Rattle.markup_grammar.specs.declared.Sign.{Sign}
 use Rattle.markup_grammar.specs.declared.Sign.TheVariants as sign
-use Rattle.markup_grammar.specs.Signs.{Spot, Char, in_tag, in_attribute}
+use Rattle.markup_grammar.specs.Signs.{Spot, Char, in_tag}
 use Rattle.markup_grammar.specs.Grammar.{limit, is_referable}
 use Rattle.plain_tree.specs.declared.plain.Attr.{Attr}
 use Rattle.plain_tree.specs.Names.{is_void, is_script, is_bare}

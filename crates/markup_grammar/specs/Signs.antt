@@ -1,5 +1,5 @@
 -- Characters as the grammar sees them.
-use Rattle.std.specs.Prelude.{ℕ, ◌+◌, List, [], ◌∷◌, Bool, true, false, nat_eq, nat_le, ◌&&◌, ◌||◌, if◌then◌else◌}
+use Rattle.std.specs.Prelude.{ℕ, ◌+◌, List, [], ◌∷◌, Bool, true, false, nat_eq, ◌||◌, if◌then◌else◌}
 use Rattle.std.specs.Char.{len_utf8}
 use Rattle.plain_tree.specs.Names.{is_letter, is_digit}
 use Rattle.markup_grammar.specs.declared.Sign.{Sign}

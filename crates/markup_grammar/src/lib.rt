@@ -5,7 +5,7 @@
 //! The functions that do nothing carry the laws of the two.
 #![tactic(auto)]
 
-ghost use Rattle.std.specs.Prelude.{◌≡◌, ℕ, List};
+ghost use Rattle.std.specs.Prelude.{◌≡◌, ℕ, List, ◌++◌, length};
 ghost use Rattle.std.specs.Str.{IsUtf8, IsValidUpTo};
 ghost use Rattle.markup_grammar.specs.Judge.{judged};
 ghost use Rattle.markup_grammar.specs.Judge.Judged.{Read, Bad};
@@ -51,4 +51,9 @@ pub fn one_answer()
     ensures one_reading { (bytes : List ℕ) (ts us : Trees Places) → MarkupSpells bytes ts → MarkupSpells bytes us → ts ≡ us }
     ensures one_place { (bytes : List ℕ) (at other : ℕ) → BadMarkupPlace bytes at → BadMarkupPlace bytes other → at ≡ other }
     ensures one_kind { (bytes : List ℕ) (ts : Trees Places) (at : ℕ) → MarkupSpells bytes ts → BadMarkupPlace bytes at → ⊥ }
+{}
+
+/// Bytes that begin some content and are none are refused at their end.
+pub fn cut_short()
+    ensures { (front more : List ℕ) (ts : Trees Places) → MarkupSpells (front ++ more) ts → ((us : Trees Places) → MarkupSpells front us → ⊥) → BadMarkupPlace front (length front) }
 {}

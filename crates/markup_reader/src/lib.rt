@@ -1,4 +1,6 @@
-//! Markup: bytes to plain trees.
+//! Markup: from bytes to plain trees, or the exact place of the refusal (`docs/MARKUP.md`).
+//!
+//! The reader takes one character at a time, as the machine of `markup_grammar` does: each of its functions has one step of that machine as its contract.
 #![tactic(auto)]
 
 mod content;
@@ -11,6 +13,8 @@ mod reader;
 mod reference;
 mod script;
 mod sign;
+#[cfg(test)]
+mod tests;
 mod units;
 
 pub use fault::MarkupFault;

@@ -7,6 +7,8 @@ mod laws;
 mod parts;
 mod query;
 mod read;
+#[cfg(test)]
+mod tests;
 
 use code_units::Memory;
 use std::alloc::{AllocError, AllocFailed};
