@@ -1,0 +1,61 @@
+//! Texts with references.
+ghost use Rattle.std.specs.Prelude.{◌≡◌, ◌++◌, IfOk, OnOk};
+ghost use Rattle.std.specs.List.{flat_map};
+ghost use Rattle.plain_tree.specs.Print.{escape, escape_in_value, printed_text, printed_value};
+
+use code_units::{Memory, Text, push_utf8};
+use std::alloc::Global;
+
+// Appends ASCII.
+fn push_ascii(units: &mut Vec<u16>, text: &[u8]) -> Result<(), Memory>
+    ensures { OnOk result (units.new.items ≡ units.old.items ++ text.now) }
+{
+    'each: for byte in text {
+        units.push(u16::from(*byte))?;
+    }
+    Ok(())
+}
+
+// Appends a unit, `&`, `<` and `>` as references.
+fn push_unit(units: &mut Vec<u16>, unit: u16) -> Result<(), Memory>
+    ensures { OnOk result (units.new.items ≡ units.old.items ++ escape unit) }
+{
+    match unit {
+        38 => push_ascii(units, b"&amp;"),
+        60 => push_ascii(units, b"&lt;"),
+        62 => push_ascii(units, b"&gt;"),
+        _ => Ok(units.push(unit)?),
+    }
+}
+
+// Appends a unit of a value, `"` as a reference too.
+fn push_value_unit(units: &mut Vec<u16>, unit: u16) -> Result<(), Memory>
+    ensures { OnOk result (units.new.items ≡ units.old.items ++ escape_in_value unit) }
+{
+    if unit == 34 {
+        return push_ascii(units, b"&quot;");
+    }
+    push_unit(units, unit)
+}
+
+/// Appends the printed form of a text.
+pub fn push_text(alloc: Global, text: &Text, out: &mut Vec<u8>) -> Result<(), Memory>
+    ensures { OnOk result (out.new.items ≡ out.old.items ++ printed_text text.now) }
+{
+    let mut units = Vec::new(alloc);
+    'each: for unit in text.units() {
+        push_unit(&mut units, *unit)?;
+    }
+    push_utf8(&Text::from_units(alloc, units)?, out)
+}
+
+/// Appends the printed form of an attribute's value.
+pub fn push_value(alloc: Global, text: &Text, out: &mut Vec<u8>) -> Result<(), Memory>
+    ensures { OnOk result (out.new.items ≡ out.old.items ++ printed_value text.now) }
+{
+    let mut units = Vec::new(alloc);
+    'each: for unit in text.units() {
+        push_value_unit(&mut units, *unit)?;
+    }
+    push_utf8(&Text::from_units(alloc, units)?, out)
+}

@@ -1,0 +1,17 @@
+use Rattle.std.proofs.Common.{arith, sym, subst, ◌∙◌}
+use Rattle.page_tree.specs.Entries.{IsSound}
+use Rattle.page_tree.specs.Arenas.{nodes_in}
+use Rattle.page_tree.proofs.Lists.{entries_long, match_either}
+use Rattle.page_tree.proofs.Adds.{node_written}
+use Rattle.page_tree.proofs.arena.Arena.new_node.Goals as goal
+
+pub invariant_of-self : goal.invariant_of-self
+invariant_of-self c = record {
+  sound = match_either c.push_node.result _ _ _
+      (λ e. (node_written (nodes_in c.args.self.now) _ c.args.owner _ c.len-id.result c.args.self.now.sound (omega (arith, c.len-id.ensures, c.args.self.now.rows.ok.0, entries_long c.args.self.now.rows.items)) e).0)
+      (λ e. subst IsSound (sym e) c.args.self.now.sound)
+      c.push_node.ensures;
+}
+
+pub returns-in-Ok : goal.returns-in-Ok
+returns-in-Ok c = (node_written (nodes_in c.args.self.now) _ c.args.owner _ c.len-id.result c.args.self.now.sound (omega (arith, c.len-id.ensures, c.args.self.now.rows.ok.0, entries_long c.args.self.now.rows.items)) c.in-Ok.ensures).1

@@ -1,0 +1,13 @@
+//! The one page: an arena of nodes of many owners, seen as plain trees with numbered nodes.
+#![tactic(auto)]
+
+mod arena;
+mod content;
+mod copies;
+mod fault;
+mod links;
+mod page;
+mod rows;
+
+pub use fault::PageFault;
+pub use page::{NodeId, Page};

@@ -1,0 +1,466 @@
+//! The page: the arena with the root of each owner.
+ghost use Rattle.std.specs.Prelude.{◌≡◌, ◌≢◌, ℕ, ◌+◌, ◌<◌, ◌≤◌, Some, None, true, [], ◌∷◌, IfOk, length, slice_get, option_copied, false, slice_index, slice_set, replicate, MatchBool, MatchResult, OnOk, OnErr, IfErr, Result, Ok, Err};
+ghost use Rattle.code_units.specs.declared.owner.Owner.TheVariants as owner;
+ghost use Rattle.page_tree.specs.Owners.{is_owner, same_owner, slot, root_in};
+ghost use Rattle.page_tree.specs.Entries.{at, body, body_entry, tree, label_of};
+ghost use Rattle.page_tree.specs.Trees.{is_number, is_leaf, is_text};
+ghost use Rattle.page_tree.specs.Moves.{Detached, IsDepth, ArePut, IsLinked, IsSwapped, IsRelabelled, AreNodes, OthersStay};
+ghost use Rattle.page_tree.specs.Contents.{tag_of, text_of, attribute_of, with_attribute};
+ghost use Rattle.plain_tree.specs.Trees.{TextOf, unmarked, size};
+ghost use Rattle.plain_tree.specs.Plains.{unplaced};
+ghost use Rattle.page_tree.specs.Counts.{IsCounted, count_of, most_of};
+ghost use Rattle.page_tree.specs.Adds.{IsAdded};
+ghost use Rattle.page_tree.specs.Copies.{copied};
+ghost use Rattle.page_tree.specs.Arenas.{nodes_in};
+ghost use Rattle.page_tree.specs.Roots.{IsRooted};
+ghost use Rattle.std.proofs.Props.{props};
+
+use crate::arena::{Arena, BODY};
+use crate::content;
+use crate::copies::{is_low, room_after};
+use crate::fault::PageFault;
+use crate::links::is_number;
+use crate::rows::Content;
+use code_units::{Memory, Owner, Text};
+use plain_tree::{Plain, is_void};
+use std::alloc::Global;
+
+/// The number of a node.
+pub type NodeId = u32;
+
+// So many nodes may stand one above the other, `body` not counted.
+const LIMIT: u32 = 201;
+
+// The widgets, and the host behind them.
+const OWNERS: usize = 33;
+
+/// The one page.
+#[derive(Drop)]
+pub struct Page {
+    arena: Arena,
+    roots: [Option<u32>; OWNERS],
+    made: [u32; OWNERS],
+    ghost rooted: { IsRooted (nodes_in arena) roots } by { Prim.hlevel props },
+    ghost counted: { IsCounted (nodes_in arena) made } by { Prim.hlevel props },
+}
+
+// The place of an owner in a table.
+fn slot_of(owner: Owner) -> usize
+    requires { is_owner owner ≡ true }
+    ensures value { result ≡ slot owner }
+    ensures bound { result < 33 }
+{
+    match owner {
+        Owner::Host => OWNERS - 1,
+        Owner::Widget(w) => w as usize,
+    }
+}
+
+// No widget has a root, and that of the host is `body`.
+fn first_roots() -> [Option<u32>; OWNERS]
+    ensures { result ≡ slice_set (replicate 33 None) 32 (Some body) }
+{
+    let mut roots = [None; OWNERS];
+    roots[OWNERS - 1] = Some(BODY);
+    roots
+}
+
+// The host has made `body`.
+fn first_counts() -> [u32; OWNERS]
+    ensures { result ≡ slice_set (replicate 33 0) 32 1 }
+{
+    let mut made = [0; OWNERS];
+    made[OWNERS - 1] = 1;
+    made
+}
+
+// The most nodes that an owner may make.
+fn most_of(owner: Owner) -> u32
+    ensures { result ≡ most_of owner }
+{
+    match owner {
+        Owner::Host => 300_000,
+        Owner::Widget(_) => 16_384,
+    }
+}
+
+// Whether two owners are one.
+fn same_owner(one: Owner, other: Owner) -> bool
+    ensures { result ≡ same_owner one other }
+{
+    match (one, other) {
+        (Owner::Host, Owner::Host) => true,
+        (Owner::Widget(v), Owner::Widget(w)) => v == w,
+        _ => false,
+    }
+}
+
+// Whether a node takes no children: a text node or a void element.
+fn is_leaf(content: &Content) -> bool
+    ensures { result ≡ is_leaf (label_of content.now) }
+{
+    match content {
+        Content::Text(_) => true,
+        Content::Element(tag, _) => is_void(tag),
+    }
+}
+
+impl Page {
+    ghost use Rattle.page_tree.specs.Pages.{nodes, root, IsInside, IsNotInside, IsLow, IsTooDeep, SomeNode, MayPutAll, RefusesAll, RefusesPut, MayReplace, RefusesReplaceFirst, RefusesReplace, Replaces, HasNoRoot, root_after, IsReplaced, MayAdd, RefusesAdd, RefusesCopy, HasHostRoom, SameRoots, BecomesRoot};
+
+    /// The page of the host's `body` alone.
+    pub fn new(alloc: Global) -> Result<Page, Memory>
+        ensures nodes { IfOk result (λ page. nodes page ≡ body_entry ∷ []) }
+        ensures roots { IfOk result (λ page. (w : ℕ) → w < 32 → root page (owner.Widget w) ≡ None) }
+        ensures host { IfOk result (λ page. root page owner.Host ≡ Some body) }
+    {
+        let arena = Arena::new(alloc)?;
+        Ok(Page {
+            arena,
+            roots: first_roots(),
+            made: first_counts(),
+        })
+    }
+
+    /// The parent of a node.
+    pub fn parent(&self, node: NodeId) -> Option<NodeId>
+        requires { node < length (nodes self.now) }
+        ensures { result ≡ (at (nodes self.now) node).parent }
+    {
+        self.arena.parent(node)
+    }
+
+    /// The number of a node's children.
+    pub fn width(&self, node: NodeId) -> usize
+        requires { node < length (nodes self.now) }
+        ensures { result ≡ length (at (nodes self.now) node).children }
+    {
+        self.arena.children(node).len()
+    }
+
+    /// The child of a node at a place, from 0.
+    pub fn child(&self, node: NodeId, place: usize) -> Option<NodeId>
+        requires { node < length (nodes self.now) }
+        ensures { result ≡ slice_get (at (nodes self.now) node).children place }
+    {
+        self.arena.children(node).get(place).copied()
+    }
+
+    /// The owner of a node.
+    pub fn owner(&self, node: NodeId) -> Owner
+        requires { node < length (nodes self.now) }
+        ensures { result ≡ (at (nodes self.now) node).owner }
+    {
+        self.arena.owner(node)
+    }
+
+    /// The root of an owner. That of the host is `body`.
+    pub fn root_of(&self, owner: Owner) -> Option<NodeId>
+        requires { is_owner owner ≡ true }
+        ensures { result ≡ root self.now owner }
+    {
+        self.roots[slot_of(owner)]
+    }
+
+    // Whether a node is its owner's root.
+    fn is_root(&self, node: NodeId) -> bool
+        requires { node < length (nodes self.now) }
+        ensures { result ≡ is_number node (root self.now (at (nodes self.now) node).owner) }
+    {
+        is_number(node, self.root_of(self.arena.owner(node)))
+    }
+
+    /// Takes a node that is no root from its parent. It takes no memory, and does nothing where
+    /// there is none.
+    pub fn detach(&mut self, node: NodeId)
+        requires node { node < length (nodes self.old) }
+        requires no_root { root self.old (at (nodes self.old) node).owner ≢ Some node }
+        ensures done { Detached (nodes self.old) (nodes self.new) node }
+        ensures others { OthersStay (nodes self.old) (nodes self.new) node }
+        ensures roots { SameRoots self.old self.new }
+    {
+        self.arena.detach(node);
+    }
+
+    // Whether a node is not the target or above it, has its owner and is no root.
+    fn is_inside(&self, target: NodeId, node: NodeId) -> bool
+        requires target { target < length (nodes self.now) }
+        requires node { node < length (nodes self.now) }
+        ensures { MatchBool result
+            (IsInside (nodes self.now) (root self.now) target node)
+            (IsNotInside (nodes self.now) (root self.now) target node) }
+    {
+        same_owner(self.arena.owner(node), self.arena.owner(target))
+            && !self.is_root(node)
+            && !self.arena.is_within(target, node)
+    }
+
+    // Whether all nodes are inside.
+    fn are_inside(&self, target: NodeId, news: &[NodeId]) -> bool
+        requires target { target < length (nodes self.now) }
+        requires news { AreNodes (nodes self.now) news.now }
+        ensures { MatchBool result
+            ((i : ℕ) → i < length news.now → IsInside (nodes self.now) (root self.now) target (slice_index news.now i))
+            (SomeNode news.now (IsNotInside (nodes self.now) (root self.now) target)) }
+    {
+        'each: for node in news {
+            if !self.is_inside(target, *node) {
+                return false;
+            }
+        }
+        true
+    }
+
+    // Whether no node becomes too deep under a target. None of the nodes is `body`.
+    fn are_low(&self, target: NodeId, news: &[NodeId]) -> bool
+        requires target { target < length (nodes self.now) }
+        requires news { AreNodes (nodes self.now) news.now }
+        requires other { (i : ℕ) → i < length news.now → slice_index news.now i ≢ body }
+        ensures { MatchBool result
+            ((i : ℕ) → i < length news.now → IsLow (nodes self.now) target (slice_index news.now i))
+            (SomeNode news.now (IsTooDeep (nodes self.now) target)) }
+    {
+        let depth = self.arena.depth(target);
+        'each: for node in news {
+            if depth + self.arena.height(*node) > LIMIT {
+                return false;
+            }
+        }
+        true
+    }
+
+    // Whether nodes may be put under a target. What is not inside is told before what is too deep.
+    fn may_put_all(&self, target: NodeId, news: &[NodeId]) -> Result<(), PageFault>
+        requires target { target < length (nodes self.now) }
+        requires news { AreNodes (nodes self.now) news.now }
+        ensures { MatchResult result
+            (λ _. MayPutAll (nodes self.now) (root self.now) target news.now)
+            (RefusesAll (nodes self.now) (root self.now) target news.now) }
+    {
+        if is_leaf(self.arena.content(target)) || !self.are_inside(target, news) {
+            return Err(PageFault::NotInside);
+        }
+        if !self.are_low(target, news) {
+            return Err(PageFault::TooDeep);
+        }
+        Ok(())
+    }
+
+    /// Puts nodes behind the last child of a target, in order, each taken from where it was.
+    /// `NotInside` comes exactly where the target is a text node or a void element, or one of the
+    /// nodes has another owner than the target, is a root or `body`, or is the target or above it;
+    /// else `TooDeep` exactly where a node would have over 200 nodes above it, with the trees of the
+    /// nodes as they were before the call.
+    pub fn append(&mut self, target: NodeId, news: &[NodeId]) -> Result<(), PageFault>
+        requires target { target < length (nodes self.old) }
+        requires news { AreNodes (nodes self.old) news.now }
+        ensures allowed { OnOk result (MayPutAll (nodes self.old) (root self.old) target news.now) }
+        ensures done { OnOk result (ArePut (nodes self.old) (nodes self.new) target None news.now) }
+        ensures refused { IfErr result (RefusesPut (nodes self.old) (root self.old) target news.now) }
+        ensures unchanged { OnErr result (nodes self.new ≡ nodes self.old) }
+        ensures others { OthersStay (nodes self.old) (nodes self.new) target }
+        ensures roots { SameRoots self.old self.new }
+    {
+        self.may_put_all(target, news)?;
+        self.arena.reserve(target, news.len())?;
+        self.arena.put_all(target, None, news);
+        Ok(())
+    }
+
+    // The parent under which nodes may be put in the place of a node.
+    fn may_replace(&self, node: NodeId, news: &[NodeId]) -> Result<NodeId, PageFault>
+        requires node { node < length (nodes self.now) }
+        requires news { AreNodes (nodes self.now) news.now }
+        ensures { MatchResult result
+            (λ t. MayReplace (nodes self.now) (root self.now) t node news.now)
+            (RefusesReplaceFirst (nodes self.now) (root self.now) node news.now) }
+    {
+        if self.is_root(node) || news.contains(&node) {
+            return Err(PageFault::NotInside);
+        }
+        match self.arena.parent(node) {
+            Some(parent) => match self.may_put_all(parent, news) {
+                Ok(()) => Ok(parent),
+                Err(fault) => Err(fault),
+            },
+            None => Err(PageFault::NotInside),
+        }
+    }
+
+    /// Puts nodes in the place of a node, in order, each taken from where it was; the node then has
+    /// no parent. `NotInside` comes exactly where the node is a root, has no parent or is one of the
+    /// nodes, or these may not be appended to its parent; else `TooDeep` as for `append`.
+    pub fn replace(&mut self, node: NodeId, news: &[NodeId]) -> Result<(), PageFault>
+        requires node { node < length (nodes self.old) }
+        requires news { AreNodes (nodes self.old) news.now }
+        ensures done { OnOk result (Replaces (nodes self.old) (nodes self.new) (root self.old) node news.now) }
+        ensures refused { IfErr result (RefusesReplace (nodes self.old) (root self.old) node news.now) }
+        ensures unchanged { OnErr result (nodes self.new ≡ nodes self.old) }
+        ensures others { OthersStay (nodes self.old) (nodes self.new) node }
+        ensures roots { SameRoots self.old self.new }
+    {
+        let target = self.may_replace(node, news)?;
+        self.arena.reserve(target, news.len())?;
+        self.arena.put_all(target, Some(node), news);
+        self.arena.detach(node);
+        Ok(())
+    }
+
+    // Makes a node the root of its owner, where that is a widget.
+    fn set_root(roots: &mut [Option<u32>; OWNERS], owner: Owner, node: NodeId)
+        requires { is_owner owner ≡ true }
+        ensures { (o : Owner) → is_owner o ≡ true → root_in roots.new o ≡ root_after node owner (root_in roots.old) o }
+    {
+        if let Owner::Widget(w) = owner {
+            roots[w as usize] = Some(node);
+        }
+    }
+
+    /// Puts a tree without a parent behind the last child of `body`: one of the host, or of a widget
+    /// that has no root yet, whose root it becomes.
+    pub fn adopt(&mut self, node: NodeId) -> Result<(), Memory>
+        requires node { node < length (nodes self.old) }
+        requires other { node ≢ body }
+        requires top { (at (nodes self.old) node).parent ≡ None }
+        requires free { HasNoRoot self.old (at (nodes self.old) node).owner }
+        ensures done { OnOk result (IsLinked (nodes self.old) (nodes self.new) body None node) }
+        ensures becomes { OnOk result (BecomesRoot self.old self.new node) }
+        ensures unchanged { OnErr result (nodes self.new ≡ nodes self.old) }
+        ensures same_roots { OnErr result (SameRoots self.old self.new) }
+    {
+        self.arena.reserve(BODY, 1)?;
+        self.arena.link(BODY, None, node);
+        Page::set_root(&mut self.roots, self.arena.owner(node), node);
+        Ok(())
+    }
+
+    /// Puts a tree without a parent, of an owner that has no root, in the place of a root under
+    /// `body`, which then has no parent. The tree becomes its owner's root. It takes no memory.
+    pub fn swap_root(&mut self, old: NodeId, new: NodeId)
+        requires old { old < length (nodes self.old) }
+        requires new { new < length (nodes self.old) }
+        requires is_root { root self.old (at (nodes self.old) old).owner ≡ Some old }
+        requires under { (at (nodes self.old) old).parent ≡ Some body }
+        requires top { (at (nodes self.old) new).parent ≡ None }
+        requires free { root self.old (at (nodes self.old) new).owner ≡ None }
+        ensures done { IsSwapped (nodes self.old) (nodes self.new) old new }
+        ensures becomes { BecomesRoot self.old self.new new }
+    {
+        self.arena.swap(old, new);
+        Page::set_root(&mut self.roots, self.arena.owner(new), new);
+    }
+
+    /// The tag of an element, none exactly for a text node.
+    pub fn tag(&self, node: NodeId) -> Option<&Text>
+        requires { node < length (nodes self.now) }
+        ensures { option_copied result ≡ tag_of (at (nodes self.now) node).label }
+    {
+        content::tag_of(self.arena.content(node))
+    }
+
+    /// The text of a text node, none exactly for an element.
+    pub fn text(&self, node: NodeId) -> Option<&Text>
+        requires { node < length (nodes self.now) }
+        ensures { option_copied result ≡ text_of (at (nodes self.now) node).label }
+    {
+        content::text_of(self.arena.content(node))
+    }
+
+    /// The value of an attribute, none exactly where the node has none of that name.
+    pub fn attr(&self, node: NodeId, name: &Text) -> Option<&Text>
+        requires { node < length (nodes self.now) }
+        ensures { option_copied result ≡ attribute_of name.now (at (nodes self.now) node).label }
+    {
+        content::attribute_of(self.arena.content(node), name)
+    }
+
+    /// Gives an element an attribute: in its place, or else last; or takes it out.
+    pub fn set_attr(&mut self, node: NodeId, name: &Text, value: Option<Text>) -> Result<(), Memory>
+        requires node { node < length (nodes self.old) }
+        requires element { is_text (at (nodes self.old) node).label ≡ false }
+        ensures done { OnOk result (IsRelabelled (nodes self.old) (nodes self.new) node
+            (with_attribute name.now value (at (nodes self.old) node).label)) }
+        ensures unchanged { OnErr result (nodes self.new ≡ nodes self.old) }
+        ensures others { OthersStay (nodes self.old) (nodes self.new) node }
+        ensures roots { SameRoots self.old self.new }
+    {
+        self.arena.set_attribute(node, name, value)
+    }
+
+    /// Gives a text node another text. It takes no memory.
+    pub fn set_text(&mut self, node: NodeId, text: Text)
+        requires node { node < length (nodes self.old) }
+        requires is_text { is_text (at (nodes self.old) node).label ≡ true }
+        ensures done { IsRelabelled (nodes self.old) (nodes self.new) node (TextOf text) }
+        ensures others { OthersStay (nodes self.old) (nodes self.new) node }
+        ensures roots { SameRoots self.old self.new }
+    {
+        self.arena.set_text(node, text);
+    }
+
+    /// How many nodes an owner has made.
+    pub fn made(&self, owner: Owner) -> u32
+        requires { is_owner owner ≡ true }
+        ensures { result ≡ count_of owner (nodes self.now) }
+    {
+        self.made[slot_of(owner)]
+    }
+
+    /// The plain tree of a node. Its places are 0.
+    pub fn plain_of(&self, alloc: Global, node: NodeId) -> Result<Plain, Memory>
+        requires { node < length (nodes self.now) }
+        ensures { IfOk result (λ plain. unplaced plain ≡ unmarked (tree (nodes self.now) node)) }
+    {
+        self.arena.plain_of(alloc, node, true)
+    }
+
+    /// Adds a plain tree of an owner as a tree without a parent. `TooDeep` comes exactly where a node
+    /// has over 200 nodes above it; else `Nodes` exactly where the widget's nodes pass 16,384.
+    pub fn add(&mut self, alloc: Global, owner: Owner, plain: &Plain) -> Result<NodeId, PageFault>
+        requires owner { is_owner owner ≡ true }
+        requires host { HasHostRoom (nodes self.old) owner (unplaced plain.now) }
+        ensures allowed { OnOk result (MayAdd (nodes self.old) owner (unplaced plain.now)) }
+        ensures done { IfOk result (λ id. IsAdded (nodes self.old) (nodes self.new) id owner (unplaced plain.now)) }
+        ensures refused { IfErr result (RefusesAdd (nodes self.old) owner (unplaced plain.now)) }
+        ensures unchanged { OnErr result (nodes self.new ≡ nodes self.old) }
+        ensures roots { SameRoots self.old self.new }
+    {
+        if !is_low(plain, LIMIT) {
+            return Err(PageFault::TooDeep);
+        }
+        let kept = self.made[slot_of(owner)];
+        let left = match room_after(plain, most_of(owner) - kept) {
+            Some(left) => left,
+            None => return Err(PageFault::Nodes { kept }),
+        };
+        let len = self.arena.len();
+        match self.arena.add(alloc, owner, plain) {
+            Ok(id) => {
+                self.made[slot_of(owner)] = most_of(owner) - left;
+                Ok(id)
+            }
+            Err(_) => {
+                self.arena.truncate(len);
+                Err(PageFault::Memory)
+            }
+        }
+    }
+
+    /// Adds a copy of a widget's node, with all below it and without ids, as a tree without a parent.
+    /// `Nodes` comes exactly where the widget's nodes pass 16,384.
+    pub fn copy(&mut self, alloc: Global, node: NodeId) -> Result<NodeId, PageFault>
+        requires node { node < length (nodes self.old) }
+        requires widget { same_owner (at (nodes self.old) node).owner owner.Host ≡ false }
+        ensures allowed { OnOk result (MayAdd (nodes self.old) (at (nodes self.old) node).owner (copied false (tree (nodes self.old) node))) }
+        ensures done { IfOk result (λ id. IsAdded (nodes self.old) (nodes self.new) id (at (nodes self.old) node).owner (copied false (tree (nodes self.old) node))) }
+        ensures refused { IfErr result (RefusesCopy (nodes self.old) (at (nodes self.old) node).owner (copied false (tree (nodes self.old) node))) }
+        ensures unchanged { OnErr result (nodes self.new ≡ nodes self.old) }
+        ensures roots { SameRoots self.old self.new }
+    {
+        let owner = self.arena.owner(node);
+        match self.arena.plain_of(alloc, node, false) {
+            Ok(plain) => self.add(alloc, owner, &plain),
+            Err(_) => Err(PageFault::Memory),
+        }
+    }
+}
