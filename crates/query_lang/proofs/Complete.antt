@@ -1,5 +1,5 @@
 -- The machine takes each query.
-use Rattle.std.proofs.Common.{◌≡◌, ℕ, zero, suc, ◌+◌, ◌<◌, ◌≤◌, ◌⊎◌, inl, inr, List, [], ◌∷◌, ◌++◌, Bool, true, false, ◌&&◌, ◌||◌, not, Option, Some, None, refl, ap, sym, ◌∙◌, subst, append_assoc, append-nil, length, length-append, arith}
+use Rattle.std.proofs.Common.{◌≡◌, ℕ, ◌≤◌, List, [], ◌∷◌, ◌++◌, Bool, true, false, ◌||◌, Some, refl, ap, sym, ◌∙◌, subst, append_assoc, append-nil, length, length-append, arith}
 use Rattle.std.specs.Prelude.{◌==◌, nat_lt}
 use Rattle.std.specs.Str.{byte}
 use Rattle.std.proofs.lemmas.Bool.Decides.{nat_tests}
@@ -12,8 +12,8 @@ use Rattle.query_lang.specs.declared.query.Filter.TheVariants as filter
 use Rattle.query_lang.specs.declared.query.StepFilter.{StepFilter}
 use Rattle.query_lang.specs.declared.query.StepFilter.TheVariants as kind
 use Rattle.query_lang.specs.Steps.{Step}
-use Rattle.query_lang.specs.Queries.{is_lower, in_name, in_word, in_value, goes_on, Run, run_ends, run_more, Word, a_word, Name, a_name, Spaces, here, behind, SpellsHunter, by_tag, by_id, by_child, by_next, by_children, by_all, SpellsFilter, by_class, by_name, by_type, by_presence, by_value, by_keyword, SpellsFilters, no_filter, one_filter, SpellsStep, a_step, SpellsSteps, no_step, one_step, QuerySpells}
-use Rattle.query_lang.specs.Machine.{Role, ForTag, ForId, ForChild, ForNext, FilterRole, ForClass, ForName, ForKind, State, Between, Hunt, HuntWord, Inside, Sift, SiftWord, Attribute, AttributeWord, AttributeValue, Keyword, with, found, sifted, begins_word, goes_in, may_wait, keyword_of, keyword_or, fits, hunts, between, inside, step, some_steps, done, begin}
+use Rattle.query_lang.specs.Queries.{is_lower, in_word, in_value, goes_on, Run, run_ends, run_more, Word, a_word, Name, a_name, Spaces, here, behind, SpellsHunter, by_tag, by_id, by_child, by_next, by_children, by_all, SpellsFilter, by_class, by_name, by_type, by_presence, by_value, by_keyword, SpellsFilters, no_filter, one_filter, SpellsStep, a_step, SpellsSteps, no_step, one_step, QuerySpells}
+use Rattle.query_lang.specs.Machine.{Role, ForTag, ForId, ForChild, ForNext, FilterRole, ForClass, ForName, ForKind, State, Between, Hunt, HuntWord, Inside, Sift, SiftWord, Attribute, AttributeWord, AttributeValue, Keyword, with, found, sifted, goes_in, keyword_of, keyword_or, between, inside, step, some_steps, done, begin}
 use Rattle.query_lang.specs.Reads.{is_mark}
 use Rattle.query_lang.proofs.Truths.{same_number, both_ways, none_some}
 use Rattle.query_lang.proofs.Keywords.{keyword_listed, front_fits, front_none, nothing_fits}

@@ -1,10 +1,10 @@
 -- The parts of the reader, and the machine.
-use Rattle.std.proofs.Common.{◌≡◌, ◌≢◌, ℕ, zero, suc, ◌+◌, ◌-◌, ◌<◌, ◌≤◌, ◌⊎◌, inl, inr, List, [], ◌∷◌, ◌++◌, Bool, true, false, ◌&&◌, ◌||◌, not, Option, Some, None, refl, ap, sym, ◌∙◌, subst, append_assoc, append-nil, length, drop, get_or, arith, add-one, length-append}
+use Rattle.std.proofs.Common.{◌≡◌, ◌≢◌, ℕ, ◌+◌, ◌<◌, ◌≤◌, ◌⊎◌, inl, inr, List, [], ◌∷◌, ◌++◌, Bool, true, false, ◌||◌, Some, None, refl, ap, sym, ◌∙◌, subst, length, drop, get_or, arith, length-append}
 use Rattle.std.specs.Prelude.{◌==◌, slice_range, nat_lt, MatchResult, Result, Ok, Err}
 use Rattle.std.specs.Str.{byte}
 use Rattle.std.proofs.lemmas.Bool.{cases_lt}
 use Rattle.std.proofs.lemmas.Bool.Decides.{nat_tests}
-use Rattle.exact_refusals.specs.Judge.{Outcome, Read, Refused, ended}
+use Rattle.exact_refusals.specs.Judge.{Read, Refused, ended}
 use Rattle.plain_refusals.proofs.Plain as plain
 use Rattle.query_lang.specs.declared.QueryFault.{QueryFault}
 use Rattle.query_lang.specs.declared.QueryFault.TheVariants as fault
@@ -14,13 +14,13 @@ use Rattle.query_lang.specs.declared.query.Filter.TheVariants as filter
 use Rattle.query_lang.specs.declared.query.StepFilter.{StepFilter}
 use Rattle.query_lang.specs.declared.query.StepFilter.TheVariants as kind
 use Rattle.query_lang.specs.Steps.{Step}
-use Rattle.query_lang.specs.Queries.{is_lower, in_name, in_word, in_value, goes_on, Run, run_ends, run_more, Word, a_word, Name, a_name, Spaces, here, behind, SpellsHunter, by_tag, by_id, by_child, by_next, by_children, by_all, SpellsFilter, by_class, by_name, by_type, by_presence, by_value, by_keyword, SpellsFilters, no_filter, one_filter, QuerySpells, IsQueryFault}
-use Rattle.query_lang.specs.Machine.{State, Between, Hunt, Inside, Sift, Attribute, AttributeWord, AttributeValue, Keyword, ForTag, ForId, ForChild, ForNext, FilterRole, ForClass, ForName, ForKind, with, sifted, hunts, between, keyword_of, keyword_or, fits, step, some_steps, done, begin, goes}
+use Rattle.query_lang.specs.Queries.{is_lower, in_word, in_value, goes_on, Run, run_ends, run_more, Word, a_word, Spaces, here, behind, SpellsHunter, by_tag, by_id, by_child, by_next, by_children, by_all, SpellsFilter, by_class, by_name, by_type, by_presence, by_value, by_keyword, SpellsFilters, no_filter, one_filter, QuerySpells, IsQueryFault}
+use Rattle.query_lang.specs.Machine.{State, Between, Hunt, Inside, Sift, Attribute, AttributeWord, AttributeValue, Keyword, ForId, ForChild, ForNext, FilterRole, ForClass, ForName, ForKind, with, between, keyword_of, keyword_or, fits, step, some_steps, done, begin, goes}
 use Rattle.query_lang.specs.Runs.{is_space}
 use Rattle.query_lang.specs.Reads.{is_first, is_mark, IsRunAt, IsWordAt, IsNameAt, IsHunterAt, IsFilterBehind, IsFilterAt, AreFiltersAt, HasNone, Refuses, HasRoom}
 use Rattle.query_lang.proofs.Truths.{same_number, other_number, both_ways, not_false, or_split}
-use Rattle.query_lang.proofs.Keywords.{keyword_is, nothing_fits}
-use Rattle.query_lang.proofs.Complete.{go, complete, taken, between_spaces, hunter_goes, filter_goes, filters_go, step_ends, attribute_goes, value_on, child_spaces, next_spaces, id_mark, child_mark, next_mark, run_stops, some_with}
+use Rattle.query_lang.proofs.Keywords.{keyword_is}
+use Rattle.query_lang.proofs.Complete.{go, complete, taken, between_spaces, hunter_goes, filters_go, step_ends, attribute_goes, value_on, child_spaces, next_spaces, id_mark, child_mark, next_mark, run_stops}
 use Rattle.query_lang.proofs.Sound.{sound}
 use Rattle.query_lang.proofs.Exact.{refused_is}
 use Rattle.query_lang.proofs.Cuts.{unit_at, no_unit_at, left_at, first_at, none_at, range_more, range_none, range_behind}

@@ -1,10 +1,10 @@
 -- What the machine takes is a query.
-use Rattle.std.proofs.Common.{◌≡◌, ◌≢◌, ℕ, zero, suc, ◌+◌, ◌<◌, ◌≤◌, ◌⊎◌, inl, inr, List, [], ◌∷◌, ◌++◌, Bool, true, false, ◌&&◌, not, Option, Some, None, refl, ap, sym, ◌∙◌, subst, append_assoc, append-nil, length, length-append, arith, if◌then◌else◌}
+use Rattle.std.proofs.Common.{◌≡◌, ◌≢◌, ℕ, ◌<◌, ◌≤◌, ◌⊎◌, inl, inr, List, [], ◌∷◌, ◌++◌, Bool, true, false, ◌&&◌, Option, Some, None, refl, ap, sym, ◌∙◌, subst, append_assoc, append-nil, length, length-append, arith, if◌then◌else◌}
 use Rattle.std.specs.Prelude.{◌==◌, nat_lt}
 use Rattle.std.specs.Str.{byte}
 use Rattle.std.proofs.lemmas.Bool.Decides.{nat_tests}
-use Rattle.exact_refusals.specs.Judge.{Outcome, Read}
-use Rattle.plain_refusals.specs.Machine.{outcome, Closes, EachCloses}
+use Rattle.exact_refusals.specs.Judge.{Read}
+use Rattle.plain_refusals.specs.Machine.{Closes, EachCloses}
 use Rattle.plain_refusals.proofs.Plain as plain
 use Rattle.query_lang.specs.declared.query.Hunter.{Hunter}
 use Rattle.query_lang.specs.declared.query.Hunter.TheVariants as hunter
@@ -12,10 +12,10 @@ use Rattle.query_lang.specs.declared.query.Filter.TheVariants as filter
 use Rattle.query_lang.specs.declared.query.StepFilter.{StepFilter}
 use Rattle.query_lang.specs.declared.query.StepFilter.TheVariants as kind
 use Rattle.query_lang.specs.Steps.{Step}
-use Rattle.query_lang.specs.Queries.{is_lower, in_name, in_word, in_value, goes_on, Run, run_ends, run_more, Word, a_word, Name, a_name, Spaces, here, behind, SpellsHunter, by_tag, by_id, by_child, by_next, by_children, by_all, SpellsFilter, by_class, by_name, by_type, by_presence, by_value, by_keyword, SpellsFilters, no_filter, one_filter, SpellsStep, a_step, SpellsSteps, no_step, one_step, QuerySpells, IsKeyword}
-use Rattle.query_lang.specs.Machine.{Role, ForTag, ForId, ForChild, ForNext, FilterRole, ForClass, ForName, ForKind, State, Between, Hunt, HuntWord, Inside, Sift, SiftWord, Attribute, AttributeWord, AttributeValue, Keyword, with, found, sifted, begins_word, goes_in, may_wait, keyword_of, keyword_or, fits, hunts, between, inside, step, some_steps, done, begin}
+use Rattle.query_lang.specs.Queries.{is_lower, in_word, in_value, Run, run_ends, run_more, Word, a_word, Name, a_name, Spaces, here, behind, SpellsHunter, by_tag, by_id, by_child, by_next, by_children, by_all, SpellsFilter, by_class, by_name, by_type, by_presence, by_value, by_keyword, SpellsFilters, no_filter, one_filter, a_step, SpellsSteps, no_step, one_step, QuerySpells, IsKeyword}
+use Rattle.query_lang.specs.Machine.{Role, ForTag, ForId, ForChild, ForNext, ForClass, ForName, ForKind, State, Between, Hunt, HuntWord, Inside, Sift, SiftWord, Attribute, AttributeWord, AttributeValue, Keyword, with, found, sifted, begins_word, goes_in, may_wait, keyword_of, keyword_or, fits, hunts, between, inside, step, some_steps, done, begin}
 use Rattle.query_lang.proofs.Truths.{and_parts, same_number, both_ways, branch, none_some, same_some, not_false}
-use Rattle.query_lang.proofs.Keywords.{keyword_is, front_fits, fits_keyword, nothing_fits}
+use Rattle.query_lang.proofs.Keywords.{keyword_is, fits_keyword, nothing_fits}
 use Rattle.query_lang.proofs.Complete.{go, some_with, keyword_goes}
 
 -- ## What a step of the machine was

@@ -7,7 +7,6 @@ use Rattle.query_lang.specs.declared.QueryFault.{QueryFault}
 use Rattle.query_lang.specs.declared.QueryFault.TheVariants as fault
 use Rattle.query_lang.specs.declared.query.Hunter.{Hunter}
 use Rattle.query_lang.specs.declared.query.Hunter.TheVariants as hunter
-use Rattle.query_lang.specs.declared.query.Filter.{Filter}
 use Rattle.query_lang.specs.declared.query.Filter.TheVariants as filter
 use Rattle.query_lang.specs.declared.query.ListFilter.TheVariants as on_list
 use Rattle.query_lang.specs.declared.query.StepFilter.{StepFilter}

@@ -1,5 +1,5 @@
 -- What the parts of the reader do.
-use Rattle.std.specs.Prelude.{◌≡◌, ℕ, ◌+◌, ◌<◌, ◌≤◌, Bool, true, false, ◌||◌, List, [], ◌∷◌, length, drop, slice_range, nat_lt, ◌==◌}
+use Rattle.std.specs.Prelude.{◌≡◌, ℕ, ◌<◌, ◌≤◌, Bool, true, false, ◌||◌, List, ◌∷◌, length, drop, slice_range, nat_lt, ◌==◌}
 use Rattle.std.specs.Str.{byte}
 use Rattle.exact_refusals.specs.Judge.Outcome.{Refused}
 use Rattle.query_lang.specs.declared.QueryFault.{QueryFault}
@@ -7,7 +7,7 @@ use Rattle.query_lang.specs.declared.QueryFault.TheVariants as fault
 use Rattle.query_lang.specs.declared.query.Hunter.{Hunter}
 use Rattle.query_lang.specs.declared.query.StepFilter.{StepFilter}
 use Rattle.query_lang.specs.Steps.{Step}
-use Rattle.query_lang.specs.Queries.{is_lower, in_word, goes_on, Run, Word, Name, SpellsHunter, SpellsFilter, SpellsFilters}
+use Rattle.query_lang.specs.Queries.{goes_on, Run, Word, Name, SpellsHunter, SpellsFilter, SpellsFilters}
 use Rattle.query_lang.specs.Machine.{State, goes}
 
 -- the unit stands first

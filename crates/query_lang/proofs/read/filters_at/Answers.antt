@@ -1,7 +1,5 @@
-use Rattle.std.proofs.Common.{sym, ◌∙◌}
 use Rattle.std.proofs.lemmas.Result.{err_from_is_err_and}
-use Rattle.query_lang.proofs.Cuts.{first_at, none_at}
-use Rattle.query_lang.proofs.Reading.{filters_begin, filters_further, filters_done, filters_refused}
+use Rattle.query_lang.proofs.Reading.{filters_begin, filters_further, filters_refused}
 use Rattle.query_lang.proofs.read.filters_at.Goals as goal
 
 pub filters-init : goal.filters-init

@@ -1,6 +1,5 @@
-use Rattle.std.proofs.Common.{sym, ◌∙◌}
 use Rattle.std.proofs.lemmas.Result.{err_from_is_err_and}
-use Rattle.query_lang.proofs.Reading.{id_is, child_is, next_is, children_is, all_is, tag_is, id_refused, child_refused, next_refused, none_refused}
+use Rattle.query_lang.proofs.Reading.{id_is, child_is, next_is, children_is, all_is, tag_is, child_refused, next_refused}
 use Rattle.query_lang.proofs.read.hunter_at.Goals as goal
 
 pub returns-in_err-name-in-62 : goal.returns-in_err-name-in-62

@@ -1,4 +1,4 @@
-use Rattle.std.proofs.Common.{sym, ◌∙◌}
+use Rattle.std.proofs.Common.{sym}
 use Rattle.std.proofs.lemmas.Result.{err_from_is_err_and}
 use Rattle.query_lang.specs.declared.QueryFault.TheVariants as fault
 use Rattle.query_lang.proofs.Reading.{steps_begin, steps_further, hunter_refused, step_refused, too_many, no_steps, query_is, query_only, query_fault, fault_only}
