@@ -1,0 +1,254 @@
+-- The natives of the page keep an invariant, and so each native.
+
+use Rattle.std.specs.Prelude.{ℕ, List, [], ◌∷◌, Bool, true, false, if◌then◌else◌, codes, Option, Some, None}
+use Rattle.widget_meaning.specs.Values.{Value, Own, Undefined}
+use Rattle.widget_meaning.specs.Trees.{Trees, Label, label_of}
+use Rattle.widget_meaning.specs.OwnState.{State, Kind, Object, Array, Function, Bunch, notes_at, new_bunch, with_new_cell, Notes, with_notes}
+use Rattle.widget_meaning.specs.Plan.{Plan}
+use Rattle.widget_meaning.specs.NativeNames.{ReadNative, Query, GetValue, GetValues, GetStyle, GetClass, GetTitle, GetCheck, Explode, Count, GetParent, GetTagName, GetMark, WriteNative, Append, Remove, Empty, Replace, SetValue, SetStyle, SetClass, SetTitle, SetCheck, SetEnabled, Focus, Blur, On, Off, Fire, Each, SetMark, Protect, Bubble, DomNative, DomQuery, DomAppend, DomTag, DomText, NativeId, OfGlobal, OfMath, OfPrototype, OfText, OfList, OfAdsafe, OfDom, OfRead, OfWrite}
+use Rattle.widget_meaning.specs.PageForms.{want, want_all, is_input, is_text_node, want_one, want_bunch, want_bunch_kind}
+use Rattle.widget_meaning.specs.QueryForms.{QueryStep}
+use Rattle.widget_meaning.specs.BunchReads.{with_bunches, query, read_native, give_page_text, query_steps, get_value, get_values, get_attribute, get_style, explode, get_parent, get_tag_name, read_method, exploded}
+use Rattle.widget_meaning.specs.BunchWrites.{appended, write_native, alter, alter_for, append_trees, append, remove, replace, set_value, set_style, set_attribute, set_flag, focus, blur, listen, hush, fired, fire, each_called, each, bubble, write_method, with_copies, emptied, each_emptied, label_with, relabel, each_relabelled, with_text_node, valued, each_valued, each_noted}
+use Rattle.widget_meaning.specs.DomNatives.{dom_native, give_node, dom_tag, append_to_root, dom_append}
+use Rattle.widget_meaning.specs.Natives.{run_native}
+use Rattle.widget_meaning.specs.Keeps.{Invariant, Keeps}
+use Rattle.widget_meaning.proofs.Keeping.{ended, job, either, value, chain, charged, paid, made_text, faulted, R}
+use Rattle.widget_meaning.proofs.KeepingAdsafe.{adsafe_native_r}
+use Rattle.widget_meaning.proofs.KeepingForms.{dispatch_r}
+use Rattle.widget_meaning.proofs.KeepingNatives.{give_texts_r, global_native_r, make_bunch_r, math_native_r, on_bunch_r, want_function_r, want_primitives_r}
+use Rattle.widget_meaning.proofs.KeepingLists.{list_native_r, prototype_native_r}
+use Rattle.widget_meaning.proofs.KeepingTexts.{text_native_r}
+
+module _ (inv : Invariant) where
+  -- changes of the page and of notes are not looked at
+  bunches_kept : (s : State) (ns : List ℕ) → R inv s → R inv (with_bunches s ns)
+  bunches_kept s [] hr = hr
+  bunches_kept s (n ∷ ns) hr = bunches_kept (with_new_cell s (new_bunch (n ∷ []))) ns hr
+
+  exploded_kept : (ns : List ℕ) (s : State) → R inv s → R inv (exploded ns s)
+  exploded_kept ns s hr = bunches_kept (with_new_cell s _) ns hr
+
+  copies_kept : (t : ℕ) (ms : List ℕ) (s : State) → R inv s → R inv (with_copies t ms s)
+  copies_kept t ms s hr = hr
+
+  appended_kept : (ns ms : List ℕ) (s : State) → R inv s → R inv (appended ns ms s)
+  appended_kept [] ms s hr = hr
+  appended_kept (t ∷ []) ms s hr = hr
+  appended_kept (t ∷ u ∷ ts) ms s hr = appended_kept (u ∷ ts) ms (with_copies t ms s) (copies_kept t ms s hr)
+
+  each_emptied_kept : (ns : List ℕ) (s : State) → R inv s → R inv (each_emptied ns s)
+  each_emptied_kept [] s hr = hr
+  each_emptied_kept (n ∷ ns) s hr = each_emptied_kept ns (emptied s n) hr
+
+  relabel_kept : (l : Option Label) (n : ℕ) (f : Label → Label) (s : State) → R inv s → R inv (relabel l n f s)
+  relabel_kept None n f s hr = hr
+  relabel_kept (Some l) n f s hr = hr
+
+  each_relabelled_kept : (f : Label → Label) (ns : List ℕ) (s : State) → R inv s → R inv (each_relabelled f ns s)
+  each_relabelled_kept f [] s hr = hr
+  each_relabelled_kept f (n ∷ ns) s hr = each_relabelled_kept f ns (relabel (label_of n s.own.forest) n f s) (relabel_kept (label_of n s.own.forest) n f s hr)
+
+  text_node_kept : (n : ℕ) (t : List ℕ) (s : State) → R inv s → R inv (with_text_node n t s)
+  text_node_kept n [] s hr = hr
+  text_node_kept n (u ∷ us) s hr = hr
+
+  either_kept : (b : Bool) (p q : State) → R inv p → R inv q → R inv (if b then p else q)
+  either_kept true p q h k = h
+  either_kept false p q h k = k
+
+  valued_kept : (t : List ℕ) (n : ℕ) (s : State) → R inv s → R inv (valued t n s)
+  valued_kept t n s hr = either_kept (is_input s n) _ _ (relabel_kept (label_of n s.own.forest) n (label_with (codes "value") t) s hr) (either_kept (is_text_node s n) _ _ hr (text_node_kept n t (emptied s n) hr))
+
+  each_valued_kept : (t ns : List ℕ) (s : State) → R inv s → R inv (each_valued t ns s)
+  each_valued_kept t [] s hr = hr
+  each_valued_kept t (n ∷ ns) s hr = each_valued_kept t ns (valued t n s) (valued_kept t n s hr)
+
+  each_noted_kept : (f : Notes → Notes) (ns : List ℕ) (s : State) → R inv s → R inv (each_noted f ns s)
+  each_noted_kept f [] s hr = hr
+  each_noted_kept f (n ∷ ns) s hr = each_noted_kept f ns (with_notes s n (f (notes_at s n))) hr
+
+  pub want_bunch_kind_r : (x0 : Kind) (x1 : State) (x2 : (List ℕ → Plan)) → R inv x1 → ((y0 : List ℕ) → Keeps inv (x2 y0)) → Keeps inv (want_bunch_kind x0 x1 x2)
+  want_bunch_kind_r (Bunch ns) s k hr f0 = search
+  want_bunch_kind_r Object s k hr f0 = search (faulted)
+  want_bunch_kind_r (Array len) s k hr f0 = search (faulted)
+  want_bunch_kind_r (Function f scope) s k hr f0 = search (faulted)
+
+  pub want_bunch_r : (x0 : Value) (x1 : State) (x2 : (List ℕ → Plan)) → R inv x1 → ((y0 : List ℕ) → Keeps inv (x2 y0)) → Keeps inv (want_bunch x0 x1 x2)
+  want_bunch_r (Own n) s k hr f0 = search (want_bunch_kind_r)
+  want_bunch_r v s k hr f0 = search (faulted)
+
+  pub want_all_r : (x0 : (ℕ → Bool)) (x1 : List ℕ) (x2 : State) (x3 : Plan) → R inv x2 → Keeps inv x3 → Keeps inv (want_all x0 x1 x2 x3)
+  want_all_r test ns s p hr f0 = search (either, faulted)
+
+  pub want_one_r : (x0 : List ℕ) (x1 : State) (x2 : (ℕ → Plan)) → R inv x1 → ((y0 : ℕ) → Keeps inv (x2 y0)) → Keeps inv (want_one x0 x1 x2)
+  want_one_r (n ∷ []) s k hr f0 = search
+  want_one_r ns s k hr f0 = search (faulted)
+
+  pub want_r : (x0 : Bool) (x1 : State) (x2 : Plan) → R inv x1 → Keeps inv x2 → Keeps inv (want x0 x1 x2)
+  want_r b s p hr f0 = search (either, faulted)
+
+  pub give_page_text_r : (x0 : ℕ) (x1 : List ℕ) (x2 : State) → R inv x2 → Keeps inv (give_page_text x0 x1 x2)
+  give_page_text_r extra t s hr = search (charged, made_text, ended)
+
+  pub query_steps_r : (x0 : Option (List QueryStep)) (x1 : List ℕ) (x2 : State) → R inv x2 → Keeps inv (query_steps x0 x1 x2)
+  query_steps_r None ns s hr = search (faulted)
+  query_steps_r (Some qs) ns s hr = search (charged, make_bunch_r, ended)
+
+  pub query_r : (x0 : List ℕ) (x1 : Value) (x2 : State) → R inv x2 → Keeps inv (query x0 x1 x2)
+  query_r ns v s hr = search (want_primitives_r, query_steps_r)
+
+  pub get_value_r : (x0 : List ℕ) (x1 : State) → R inv x1 → Keeps inv (get_value x0 x1)
+  get_value_r [] s hr = search (ended)
+  get_value_r (n ∷ ns) s hr = search (give_page_text_r)
+
+  pub get_values_r : (x0 : List ℕ) (x1 : State) → R inv x1 → Keeps inv (get_values x0 x1)
+  get_values_r ns s hr = search (charged, give_texts_r)
+
+  pub get_attribute_r : (x0 : List ℕ) (x1 : List ℕ) (x2 : State) → R inv x2 → Keeps inv (get_attribute x0 x1 x2)
+  get_attribute_r ns x s hr = search (give_page_text_r)
+
+  pub get_style_r : (x0 : List ℕ) (x1 : Value) (x2 : State) → R inv x2 → Keeps inv (get_style x0 x1 x2)
+  get_style_r ns p s hr = search (want_primitives_r, want_r, give_page_text_r)
+
+  pub explode_r : (x0 : List ℕ) (x1 : State) → R inv x1 → Keeps inv (explode x0 x1)
+  explode_r ns s hr = search (charged, paid, ended, exploded_kept)
+
+  pub get_parent_r : (x0 : List ℕ) (x1 : State) → R inv x1 → Keeps inv (get_parent x0 x1)
+  get_parent_r ns s hr = search (want_all_r, charged, make_bunch_r, ended)
+
+  pub get_tag_name_r : (x0 : List ℕ) (x1 : State) → R inv x1 → Keeps inv (get_tag_name x0 x1)
+  get_tag_name_r [] s hr = search (ended)
+  get_tag_name_r (n ∷ ns) s hr = search (give_page_text_r)
+
+  pub read_method_r : (x0 : ReadNative) (x1 : List ℕ) (x2 : List Value) (x3 : State) → R inv x3 → Keeps inv (read_method x0 x1 x2 x3)
+  read_method_r Query ns vs s hr = search (query_r)
+  read_method_r GetValue ns vs s hr = search (get_value_r)
+  read_method_r GetValues ns vs s hr = search (get_values_r)
+  read_method_r GetStyle ns vs s hr = search (get_style_r)
+  read_method_r GetClass ns vs s hr = search (get_attribute_r)
+  read_method_r GetTitle ns vs s hr = search (get_attribute_r)
+  read_method_r GetCheck ns vs s hr = search (charged, ended)
+  read_method_r Explode ns vs s hr = search (explode_r)
+  read_method_r Count ns vs s hr = search (charged, ended)
+  read_method_r GetParent ns vs s hr = search (get_parent_r)
+  read_method_r GetTagName ns vs s hr = search (get_tag_name_r)
+  read_method_r GetMark ns vs s hr = search (give_page_text_r)
+
+  pub read_native_r : (x0 : ReadNative) (x1 : Option Value) (x2 : List Value) (x3 : ℕ) (x4 : State) → R inv x4 → Keeps inv (read_native x0 x1 x2 x3 x4)
+  read_native_r w this vs d s hr = search (on_bunch_r, read_method_r)
+
+  pub alter_r : (x0 : ℕ) (x1 : Value) (x2 : State) (x3 : (State → State)) → R inv x2 → ((y0 : State) → R inv y0 → R inv (x3 y0)) → Keeps inv (alter x0 x1 x2 x3)
+  alter_r extra b s f hr f0 = search (charged, ended)
+
+  pub alter_for_r : (x0 : ℕ) (x1 : ℕ) (x2 : ℕ) (x3 : Value) (x4 : State) (x5 : (State → State)) → R inv x4 → ((y0 : State) → R inv y0 → R inv (x5 y0)) → Keeps inv (alter_for x0 x1 x2 x3 x4 x5)
+  alter_for_r extra units nodes b s f hr f0 = search (charged, paid, ended)
+
+  pub append_trees_r : (x0 : List ℕ) (x1 : List ℕ) (x2 : Trees) (x3 : Value) (x4 : State) → R inv x4 → Keeps inv (append_trees x0 x1 x2 x3 x4)
+  append_trees_r ns ms us b s hr = search (alter_for_r, appended_kept)
+
+  pub append_r : (x0 : List ℕ) (x1 : Value) (x2 : Value) (x3 : State) → R inv x3 → Keeps inv (append x0 x1 x2 x3)
+  append_r ns v b s hr = search (want_bunch_r, want_all_r, either, append_trees_r, faulted)
+
+  pub remove_r : (x0 : List ℕ) (x1 : Value) (x2 : State) → R inv x2 → Keeps inv (remove x0 x1 x2)
+  remove_r ns b s hr = search (want_all_r, alter_r)
+
+  pub replace_r : (x0 : List ℕ) (x1 : Value) (x2 : Value) (x3 : State) → R inv x3 → Keeps inv (replace x0 x1 x2 x3)
+  replace_r ns v b s hr = search (want_one_r, want_bunch_r, either, alter_r, faulted)
+
+  pub set_value_r : (x0 : List ℕ) (x1 : List ℕ) (x2 : Value) (x3 : State) → R inv x3 → Keeps inv (set_value x0 x1 x2 x3)
+  set_value_r ns t b s hr = search (want_all_r, alter_for_r, each_valued_kept)
+
+  pub set_style_r : (x0 : List ℕ) (x1 : List ℕ) (x2 : List ℕ) (x3 : Value) (x4 : State) → R inv x4 → Keeps inv (set_style x0 x1 x2 x3 x4)
+  set_style_r ns p v b s hr = search (want_r, want_all_r, alter_for_r, each_relabelled_kept)
+
+  pub set_attribute_r : (x0 : List ℕ) (x1 : List ℕ) (x2 : List ℕ) (x3 : Value) (x4 : State) → R inv x4 → Keeps inv (set_attribute x0 x1 x2 x3 x4)
+  set_attribute_r ns x v b s hr = search (want_all_r, alter_for_r, each_relabelled_kept)
+
+  pub set_flag_r : (x0 : (ℕ → Bool)) (x1 : List ℕ) (x2 : List ℕ) (x3 : Bool) (x4 : Value) (x5 : State) → R inv x5 → Keeps inv (set_flag x0 x1 x2 x3 x4 x5)
+  set_flag_r test ns x is_set b s hr = search (want_all_r, alter_r, each_relabelled_kept)
+
+  pub focus_r : (x0 : List ℕ) (x1 : Value) (x2 : State) → R inv x2 → Keeps inv (focus x0 x1 x2)
+  focus_r ns b s hr = search (want_one_r, alter_r)
+
+  pub blur_r : (x0 : List ℕ) (x1 : Value) (x2 : State) → R inv x2 → Keeps inv (blur x0 x1 x2)
+  blur_r ns b s hr = search (alter_r)
+
+  pub listen_r : (x0 : List ℕ) (x1 : List ℕ) (x2 : Value) (x3 : Value) (x4 : State) → R inv x4 → Keeps inv (listen x0 x1 x2 x3 x4)
+  listen_r ns t f b s hr = search (want_r, want_function_r, charged, paid, ended, each_noted_kept) depth 8 fits 4000
+
+  pub hush_r : (x0 : List ℕ) (x1 : Value) (x2 : Value) (x3 : State) → R inv x3 → Keeps inv (hush x0 x1 x2 x3)
+  hush_r ns Undefined b s hr = search (alter_r, each_noted_kept)
+  hush_r ns v b s hr = search (want_primitives_r, want_r, alter_r, each_noted_kept)
+
+  pub fired_r : (x0 : List ℕ) (x1 : List ℕ) (x2 : Value) (x3 : ℕ) (x4 : State) → R inv x4 → Keeps inv (fired x0 x1 x2 x3 x4)
+  fired_r t [] b d s hr = ended inv _ s hr
+  fired_r t (n ∷ ns) b d s hr = chain inv _ _ (dispatch_r inv t n Undefined d s hr) (λ o u v. value inv o u _ v (λ w. fired_r t ns b d u v))
+
+  pub fire_r : (x0 : List ℕ) (x1 : List ℕ) (x2 : Value) (x3 : ℕ) (x4 : State) → R inv x4 → Keeps inv (fire x0 x1 x2 x3 x4)
+  fire_r ns t b d s hr = search (want_r, charged, fired_r)
+
+  pub each_called_r : (x0 : Value) (x1 : List Value) (x2 : Value) (x3 : ℕ) (x4 : State) → R inv x4 → Keeps inv (each_called x0 x1 x2 x3 x4)
+  each_called_r f [] b d s hr = ended inv _ s hr
+  each_called_r f (v ∷ vs) b d s hr = job inv _ s _ hr (λ o t u. value inv o t _ u (λ w. each_called_r f vs b d t u))
+
+  pub each_r : (x0 : List ℕ) (x1 : Value) (x2 : Value) (x3 : ℕ) (x4 : State) → R inv x4 → Keeps inv (each x0 x1 x2 x3 x4)
+  each_r ns f b d s hr = search (want_function_r, charged, paid, each_called_r, bunches_kept) depth 8 fits 4000
+
+  pub bubble_r : (x0 : List Bool) (x1 : State) → R inv x1 → Keeps inv (bubble x0 x1)
+  bubble_r [] s hr = search (faulted)
+  bubble_r (b ∷ bs) s hr = search (ended)
+
+  pub write_method_r : (x0 : WriteNative) (x1 : List ℕ) (x2 : Value) (x3 : List Value) (x4 : ℕ) (x5 : State) → R inv x5 → Keeps inv (write_method x0 x1 x2 x3 x4 x5)
+  write_method_r Append ns b vs d s hr = search (append_r)
+  write_method_r Remove ns b vs d s hr = search (remove_r)
+  write_method_r Empty ns b vs d s hr = search (alter_r, each_emptied_kept)
+  write_method_r Replace ns b vs d s hr = search (replace_r)
+  write_method_r SetValue ns b vs d s hr = search (want_primitives_r, set_value_r)
+  write_method_r SetStyle ns b vs d s hr = search (want_primitives_r, set_style_r)
+  write_method_r SetClass ns b vs d s hr = search (want_primitives_r, want_r, set_attribute_r)
+  write_method_r SetTitle ns b vs d s hr = search (want_primitives_r, set_attribute_r)
+  write_method_r SetCheck ns b vs d s hr = search (set_flag_r)
+  write_method_r SetEnabled ns b vs d s hr = search (set_flag_r)
+  write_method_r Focus ns b vs d s hr = search (focus_r)
+  write_method_r Blur ns b vs d s hr = search (blur_r)
+  write_method_r On ns b vs d s hr = search (want_primitives_r, listen_r)
+  write_method_r Off ns b vs d s hr = search (hush_r)
+  write_method_r Fire ns b vs d s hr = search (want_primitives_r, fire_r)
+  write_method_r Each ns b vs d s hr = search (each_r)
+  write_method_r SetMark ns b vs d s hr = search (want_primitives_r, alter_r, each_noted_kept)
+  write_method_r Protect ns b vs d s hr = search (alter_r, each_noted_kept)
+  write_method_r Bubble ns b vs d s hr = search (bubble_r)
+
+  pub write_native_r : (x0 : WriteNative) (x1 : Option Value) (x2 : List Value) (x3 : ℕ) (x4 : State) → R inv x4 → Keeps inv (write_native x0 x1 x2 x3 x4)
+  write_native_r Bubble this vs d s hr = search (bubble_r)
+  write_native_r w this vs d s hr = search (on_bunch_r, write_method_r)
+
+  pub give_node_r : (x0 : Label) (x1 : ℕ) (x2 : State) → R inv x2 → Keeps inv (give_node x0 x1 x2)
+  give_node_r l units s hr = search (paid, ended)
+
+  pub dom_tag_r : (x0 : List ℕ) (x1 : Value) (x2 : State) → R inv x2 → Keeps inv (dom_tag x0 x1 x2)
+  dom_tag_r tag v s hr = search (want_r, give_node_r)
+
+  pub append_to_root_r : (x0 : List ℕ) (x1 : State) → R inv x1 → Keeps inv (append_to_root x0 x1)
+  append_to_root_r ms s hr = search (charged, paid, ended, appended_kept)
+
+  pub dom_append_r : (x0 : Value) (x1 : State) → R inv x1 → Keeps inv (dom_append x0 x1)
+  dom_append_r v s hr = search (want_bunch_r, want_all_r, append_to_root_r)
+
+  pub dom_native_r : (x0 : DomNative) (x1 : Option Value) (x2 : List Value) (x3 : ℕ) (x4 : State) → R inv x4 → Keeps inv (dom_native x0 x1 x2 x3 x4)
+  dom_native_r DomQuery this vs d s hr = search (query_r)
+  dom_native_r DomAppend this vs d s hr = search (dom_append_r)
+  dom_native_r DomTag this vs d s hr = search (want_primitives_r, dom_tag_r)
+  dom_native_r DomText this vs d s hr = search (want_primitives_r, give_node_r)
+
+  pub run_native_r : (x0 : NativeId) (x1 : Option Value) (x2 : List Value) (x3 : ℕ) (x4 : State) → R inv x4 → Keeps inv (run_native x0 x1 x2 x3 x4)
+  run_native_r (OfGlobal w) this vs d s hr = search (global_native_r)
+  run_native_r (OfMath w) this vs d s hr = search (math_native_r)
+  run_native_r (OfPrototype w) this vs d s hr = search (prototype_native_r)
+  run_native_r (OfText w) this vs d s hr = search (text_native_r)
+  run_native_r (OfList w) this vs d s hr = search (list_native_r)
+  run_native_r (OfAdsafe w) this vs d s hr = search (adsafe_native_r)
+  run_native_r (OfDom w) this vs d s hr = search (dom_native_r)
+  run_native_r (OfRead w) this vs d s hr = search (read_native_r)
+  run_native_r (OfWrite w) this vs d s hr = search (write_native_r)

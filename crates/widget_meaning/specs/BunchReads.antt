@@ -1,0 +1,139 @@
+-- The Bunch methods that read. The extra is the number of nodes, unless said.
+use Rattle.std.specs.Prelude.{ℕ, pos, ◌+◌, ◌*◌, List, [], ◌∷◌, length, map, Bool, true, false, not, ◌&&◌, if◌then◌else◌, codes, Option, Some, None, is_some}
+use Rattle.std.specs.List.{filter, flat_map, sum_by}
+use Rattle.widget_meaning.specs.NativeNames.{ReadNative, Query, GetValue, GetValues, GetStyle, GetClass, GetTitle, GetCheck, Explode, Count, GetParent, GetTagName, GetMark}
+use Rattle.widget_meaning.specs.Values.{Value, Undefined, Truth, Num, Text, Own, E9, to_text}
+use Rattle.widget_meaning.specs.Trees.{parent}
+use Rattle.widget_meaning.specs.OwnState.{State, notes_at, new_array, new_bunch, with_new_cell}
+use Rattle.widget_meaning.specs.Plan.{Plan, charge}
+use Rattle.widget_meaning.specs.Costs.{pay, cost, make_text, throw, give}
+use Rattle.widget_meaning.specs.NativeForms.{nth, want_primitives, on_bunch, make_bunch, give_texts, numbered_pairs}
+use Rattle.widget_meaning.specs.Styles.{is_style_property, style_pairs, style_value}
+use Rattle.widget_meaning.specs.PageForms.{want, want_all, attribute, or_empty, texts_of, tag_of, is_input, is_text_node, once, next_node}
+use Rattle.widget_meaning.specs.TreeOps.{subtree}
+use Rattle.widget_meaning.specs.QueryForms.{QueryStep, Hunter, HuntNext, read_query}
+use Rattle.widget_meaning.specs.Queries.{finds}
+
+-- a text that is made and given, with this extra
+abbrev pub give_page_text : ℕ → List ℕ → State → Plan
+give_page_text extra t s = charge extra s (make_text t s (give (Text t)))
+
+-- protected nodes are no starts where the first step's hunter is `+`
+abbrev pub is_next : Hunter → Bool
+is_next (HuntNext tag) = true
+is_next h = false
+
+-- the starts of a query
+abbrev pub starts : State → List QueryStep → List ℕ → List ℕ
+starts s [] ns = ns
+starts s (q ∷ qs) ns = if is_next q.hunter then filter (λ n. not (notes_at s n).is_protected) ns else ns
+
+-- `q(query)`: the Bunch found; the extra is the steps times the nodes that the widget has had
+abbrev pub query_steps : Option (List QueryStep) → List ℕ → State → Plan
+query_steps None ns s = throw E9 s
+query_steps (Some qs) ns s = charge (length qs * next_node s) s (make_bunch (finds s (starts s qs ns) qs) s give)
+
+-- `q` of a Bunch
+abbrev pub query : List ℕ → Value → State → Plan
+query ns v s = want_primitives (v ∷ []) s (query_steps (read_query (to_text v)) ns s)
+
+-- the value of a node: an `input` its attribute or empty, a text node its text, an element its text content
+abbrev pub value_of : State → ℕ → List ℕ
+value_of s n = if is_input s n then or_empty (attribute s n (codes "value")) else texts_of (subtree n s.own.forest)
+
+-- `getValue()` and `getValues()`: the extra is the number of nodes and the units
+abbrev pub get_value : List ℕ → State → Plan
+get_value [] s = give Undefined s
+get_value (n ∷ ns) s = give_page_text (length (n ∷ ns) + length (value_of s n)) (value_of s n) s
+
+-- the values of all nodes
+abbrev pub get_values : List ℕ → State → Plan
+get_values ns s = charge (length ns + sum_by length (map (value_of s) ns)) s (give_texts (map (value_of s) ns) s)
+
+-- an attribute of the first node, or empty
+abbrev pub first_attribute : State → List ℕ → List ℕ → List ℕ
+first_attribute s [] x = []
+first_attribute s (n ∷ ns) x = or_empty (attribute s n x)
+
+-- `getClass()` and `getTitle()`
+abbrev pub get_attribute : List ℕ → List ℕ → State → Plan
+get_attribute ns x s = give_page_text (length ns) (first_attribute s ns x) s
+
+-- `getStyle(p)`: E4 for a property that is not listed
+abbrev pub get_style : List ℕ → Value → State → Plan
+get_style ns p s =
+    want_primitives (p ∷ []) s (want (is_style_property (to_text p)) s
+    (give_page_text (length ns) (style_value (style_pairs (first_attribute s ns (codes "style"))) (to_text p)) s))
+
+-- `getCheck()`: whether the first node has `checked`
+abbrev pub is_checked : State → List ℕ → Bool
+is_checked s [] = false
+is_checked s (n ∷ ns) = is_some (attribute s n (codes "checked"))
+
+-- `explode()`: an array of Bunches of one node; the array is born first
+abbrev pub bunches_from : ℕ → List ℕ → List Value
+bunches_from m [] = []
+bunches_from m (n ∷ ns) = Own m ∷ bunches_from (m + 1) ns
+
+-- new Bunches of one node each
+abbrev pub with_bunches : State → List ℕ → State
+with_bunches s [] = s
+with_bunches s (n ∷ ns) = with_bunches (with_new_cell s (new_bunch (n ∷ []))) ns
+
+-- the array and its Bunches
+abbrev pub exploded : List ℕ → State → State
+exploded ns s = with_bunches (with_new_cell s (new_array (length ns) (numbered_pairs 0 (bunches_from (length s.own.heap + 1) ns)))) ns
+
+-- `explode()`, at one cost
+abbrev pub explode : List ℕ → State → Plan
+explode ns s = charge (length ns) s (pay (cost 0 (length ns + 1) (3 * length ns) 0) s (λ t. give (Own (length t.own.heap)) (exploded ns t)))
+
+-- `getParent()`: the parents, first seen first; E10 where a node is protected or has no parent
+abbrev pub has_open_parent : State → ℕ → Bool
+has_open_parent s n = is_some (parent n s.own.forest) && not (notes_at s n).is_protected
+
+-- a parent, if there is one
+abbrev pub listed_parent : Option ℕ → List ℕ
+listed_parent None = []
+listed_parent (Some p) = p ∷ []
+
+-- the parents of nodes, without repeats
+abbrev pub parents : State → List ℕ → List ℕ
+parents s ns = once [] (flat_map (λ n. listed_parent (parent n s.own.forest)) ns)
+
+-- `getParent()`
+abbrev pub get_parent : List ℕ → State → Plan
+get_parent ns s = want_all (has_open_parent s) ns s (charge (length ns) s (make_bunch (parents s ns) s give))
+
+-- `getTagName()`: the first node's tag, or `#text`
+abbrev pub tag_name : State → ℕ → List ℕ
+tag_name s n = if is_text_node s n then codes "#text" else tag_of s n
+
+-- `getTagName()`
+abbrev pub get_tag_name : List ℕ → State → Plan
+get_tag_name [] s = give Undefined s
+get_tag_name (n ∷ ns) s = give_page_text (length (n ∷ ns)) (tag_name s n) s
+
+-- `getMark()`: the first node's mark, or empty
+abbrev pub first_mark : State → List ℕ → List ℕ
+first_mark s [] = []
+first_mark s (n ∷ ns) = (notes_at s n).mark
+
+-- each method on its nodes
+abbrev pub read_method : ReadNative → List ℕ → List Value → State → Plan
+read_method Query ns vs s = query ns (nth 0 vs) s
+read_method GetValue ns vs s = get_value ns s
+read_method GetValues ns vs s = get_values ns s
+read_method GetStyle ns vs s = get_style ns (nth 0 vs) s
+read_method GetClass ns vs s = get_attribute ns (codes "class") s
+read_method GetTitle ns vs s = get_attribute ns (codes "title") s
+read_method GetCheck ns vs s = charge (length ns) s (give (Truth (is_checked s ns)) s)
+read_method Explode ns vs s = explode ns s
+read_method Count ns vs s = charge (length ns) s (give (Num (pos (length ns))) s)
+read_method GetParent ns vs s = get_parent ns s
+read_method GetTagName ns vs s = get_tag_name ns s
+read_method GetMark ns vs s = give_page_text (length ns) (first_mark s ns) s
+
+-- a method of a Bunch that reads
+abbrev pub read_native : ReadNative → Option Value → List Value → ℕ → State → Plan
+read_native w this vs d s = on_bunch this s (λ ns. read_method w ns vs s)

@@ -1,0 +1,98 @@
+-- Calls, the conversion of objects to primitives, and statements in a row.
+use Rattle.std.specs.Prelude.{ℕ, suc, ◌+◌, List, [], ◌∷◌, ◌++◌, length, nat_lt, if◌then◌else◌, codes, Bool, true, false, Option, Some}
+use Rattle.std.specs.Str.{bytes_eq}
+use Rattle.js_tree.specs.Plain as tree
+use Rattle.js_tree.specs.Plain.{Expr, Stmt, Stmts, Fun, Funs}
+use Rattle.widget_meaning.specs.Limits.{max_depth}
+use Rattle.widget_meaning.specs.NativeNames.{Native}
+use Rattle.widget_meaning.specs.Values.{Value, Undefined, Own, Host, Completion, Normal, Is, Refers, Return, Break, Continue, Throw, Depth, E2, E6, is_object}
+use Rattle.widget_meaning.specs.OwnState.{State, Kind, Object, Array, Function, Bunch, cell_at, scope_at, with_new_scope, with_scope, new_function}
+use Rattle.widget_meaning.specs.Plan.{Place, Plan, Ret, Halt, Do, Exec, Call, RunNative, and_then, on_value, on_normal}
+use Rattle.widget_meaning.specs.Costs.{pay, slots_cost, make, throw, give}
+use Rattle.widget_meaning.specs.Properties.{get, is_function}
+use Rattle.widget_meaning.specs.Scopes.{fun_name, fun_names, funs_list, scope_names, first_pairs, set_pair, stmts_vars}
+
+-- the statements of a block in order
+abbrev pub stmts_onto : Stmts → List Stmt → List Stmt
+stmts_onto tree.NoStmts after = after
+stmts_onto (tree.AndStmt ss s) after = stmts_onto ss (s ∷ after)
+
+-- the statements of a block
+abbrev pub stmt_list : Stmts → List Stmt
+stmt_list ss = stmts_onto ss []
+
+-- statements one after the other, up to the first that does not go on
+abbrev pub statements : List Stmt → Place → State → Plan
+statements [] p s = Ret Normal s
+statements (i ∷ is) p s = Do (Exec i p) s (λ o t. on_normal o t (statements is p t))
+
+-- after the first statement, the others
+abbrev pub next_statements : List Stmt → Place → Completion → State → Plan
+next_statements is p o s = on_normal o s (statements is p s)
+
+-- `"use strict";` as the first statement of a function takes nothing
+abbrev pub without_directive : List Stmt → List Stmt
+without_directive (tree.StmtAt at names (tree.Only (tree.ExprAt place inner (tree.Str t))) ∷ is) =
+    if bytes_eq t (codes "use strict") then is else tree.StmtAt at names (tree.Only (tree.ExprAt place inner (tree.Str t))) ∷ is
+without_directive is = is
+
+-- the declared functions are made in order of the text, each at the cost of a cell
+abbrev pub with_variable : State → ℕ → List (List ℕ) → Value → State
+with_variable s i [] v = s
+with_variable s i (x ∷ xs) v = with_scope s i (set_pair (scope_at s i) x v)
+
+-- declared functions, one after the other, and then what follows
+abbrev pub declare : List Fun → ℕ → State → (State → Plan) → Plan
+declare [] i s k = k s
+declare (f ∷ fs) i s k = make (new_function f (Some i)) 0 s (λ v t. declare fs i (with_variable t i (fun_name f) v) k)
+
+-- how a call ends, by how its body ended
+abbrev pub call_end : Completion → State → Plan
+call_end (Return v) s = give v s
+call_end (Throw v) s = Ret (Throw v) s
+call_end Normal s = give Undefined s
+call_end (Is v) s = give Undefined s
+call_end (Refers r) s = give Undefined s
+call_end Break s = give Undefined s
+call_end Continue s = give Undefined s
+
+-- the body of a function, in its new scope
+abbrev pub call_body : Stmts → Place → State → Plan
+call_body body p s = and_then (statements (without_directive (stmt_list body)) p s) call_end
+
+-- a call's scope costs a slot and one for each name
+abbrev pub enter_scope : Fun → Option ℕ → Value → List Value → ℕ → State → Plan
+enter_scope (tree.FunAt at names name params body funs) outer f vs d s =
+    let fs : List Fun = funs_list funs [] in
+    let own : List (List ℕ) = fun_name (tree.FunAt at names name params body funs) in
+    let others : List (List ℕ) = params ++ (stmts_vars body ++ fun_names fs) in
+    let xs : List (List ℕ) = scope_names params body fs own in
+    pay (slots_cost (1 + length xs)) s (λ t. declare fs (length t.own.scopes)
+    (with_new_scope t (record { outer = outer; pairs = first_pairs params vs others own f xs }))
+    (call_body body (record { scope = Some (length t.own.scopes); depth = d })))
+
+-- a function of the widget at this depth. A stop for depth comes before the scope
+abbrev pub enter : Kind → Value → List Value → ℕ → State → Plan
+enter (Function f outer) v vs d s = if nat_lt max_depth d then Halt Depth s else enter_scope f outer v vs d s
+enter Object v vs d s = throw E2 s
+enter (Array n) v vs d s = throw E2 s
+enter (Bunch ns) v vs d s = throw E2 s
+
+-- a call by a caller at this depth: a function of the widget runs one deeper; a native takes a unit of its own
+abbrev pub invoke : Value → Option Value → List Value → ℕ → State → Plan
+invoke (Own n) this vs d s = enter (cell_at s n).kind (Own n) vs (suc d) s
+invoke (Host (Native w)) this vs d s = Do (RunNative w this vs d) s Ret
+invoke v this vs d s = throw E2 s
+
+-- an object as an operand: its `toString` is read as a property and called with no arguments
+abbrev pub primitive_result : Completion → State → Plan
+primitive_result o s = on_value o s (λ v. if is_object v then throw E6 s else give v s)
+
+-- the call of a `toString`, or E6 where it is no function
+abbrev pub call_to_string : Bool → Value → Value → ℕ → State → Plan
+call_to_string true f v d s = Do (Call f (Some v) [] d) s primitive_result
+call_to_string false f v d s = throw E6 s
+
+-- an operand as a primitive, by a caller at this depth
+abbrev pub to_primitive : Value → ℕ → State → Plan
+to_primitive v d s = if is_object v then call_to_string (is_function s (get s v (codes "toString"))) (get s v (codes "toString")) v d s else give v s

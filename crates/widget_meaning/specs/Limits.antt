@@ -1,0 +1,54 @@
+-- The limits of one widget.
+use Rattle.std.specs.Prelude.{ℕ, ◌^◌}
+
+-- over its life: visible cells, slots, text units, nodes
+abbrev pub max_cells : ℕ
+max_cells = 524288
+
+-- slots over its life
+abbrev pub max_slots : ℕ
+max_slots = 1048576
+
+-- text units over its life
+abbrev pub max_units : ℕ
+max_units = 2097152
+
+-- nodes over its life
+abbrev pub max_nodes : ℕ
+max_nodes = 16384
+
+-- of calls one inside the other
+abbrev pub max_depth : ℕ
+max_depth = 200
+
+-- of units in one text
+abbrev pub max_text : ℕ
+max_text = 65536
+
+-- of prototypes on a chain
+abbrev pub max_chain : ℕ
+max_chain = 100
+
+-- of waiting timers, and of kept posts
+abbrev pub max_timers : ℕ
+max_timers = 64
+
+-- kept posts
+abbrev pub max_posts : ℕ
+max_posts = 256
+
+-- the first whole number past the numbers, which go from -(2^53-1) to 2^53-1
+abbrev pub past_numbers : ℕ
+past_numbers = 2 ^ 53
+
+-- the largest length of an array
+abbrev pub max_length : ℕ
+max_length = 4294967295
+
+-- of units in one post
+abbrev pub max_post : ℕ
+max_post = 1024
+
+-- of arrays and objects one in the other in what is written as JSON
+abbrev pub max_nesting : ℕ
+max_nesting = 100

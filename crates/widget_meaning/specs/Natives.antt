@@ -1,0 +1,35 @@
+-- The natives, each by the file of its family.
+--
+-- How a native is written. It has taken its one unit; what follows is a plan of a few lines, beside its row of the language:
+--   first the receiver, which is none for a plain call (`on_text`, `on_array`, `on_bunch` throw E3 for another);
+--   then the arguments (`want_primitives`, `want_function` throw E4);
+--   then the extra (`charge`), the stops `number` and `longtext` in this order, and the costs (`pay`, `make`, `make_array`, `make_bunch`): one cost for all that one native makes;
+--   then the change of the state, and what it gives (`give`).
+-- A native that calls functions asks for the job `Call f None arguments d`, with its own depth d, and goes on by how that ends; anything but a value passes by `on_value`.
+-- A recursion goes over a list that the native has listed, never over what a call may change. `charAt` and `forEach` are the two patterns.
+use Rattle.std.specs.Prelude.{ℕ, List, Option}
+use Rattle.widget_meaning.specs.NativeNames.{NativeId, OfGlobal, OfMath, OfPrototype, OfText, OfList, OfAdsafe, OfDom, OfRead, OfWrite}
+use Rattle.widget_meaning.specs.Values.{Value}
+use Rattle.widget_meaning.specs.OwnState.{State}
+use Rattle.widget_meaning.specs.Plan.{Plan}
+use Rattle.widget_meaning.specs.GlobalNatives.{global_native}
+use Rattle.widget_meaning.specs.MathNatives.{math_native}
+use Rattle.widget_meaning.specs.PrototypeNatives.{prototype_native}
+use Rattle.widget_meaning.specs.TextNatives.{text_native}
+use Rattle.widget_meaning.specs.ListNatives.{list_native}
+use Rattle.widget_meaning.specs.AdsafeNatives.{adsafe_native}
+use Rattle.widget_meaning.specs.DomNatives.{dom_native}
+use Rattle.widget_meaning.specs.BunchReads.{read_native}
+use Rattle.widget_meaning.specs.BunchWrites.{write_native}
+
+-- a native with its receiver, its arguments and the call depth, after its unit
+abbrev pub run_native : NativeId → Option Value → List Value → ℕ → State → Plan
+run_native (OfGlobal w) this vs d s = global_native w this vs d s
+run_native (OfMath w) this vs d s = math_native w this vs d s
+run_native (OfPrototype w) this vs d s = prototype_native w this vs d s
+run_native (OfText w) this vs d s = text_native w this vs s
+run_native (OfList w) this vs d s = list_native w this vs d s
+run_native (OfAdsafe w) this vs d s = adsafe_native w this vs d s
+run_native (OfDom w) this vs d s = dom_native w this vs d s
+run_native (OfRead w) this vs d s = read_native w this vs d s
+run_native (OfWrite w) this vs d s = write_native w this vs d s

@@ -1,0 +1,164 @@
+-- What the natives of the page have in common: nodes and their labels, what they cost, and new nodes.
+use Rattle.std.specs.Prelude.{ℕ, ◌+◌, List, [], ◌∷◌, ◌++◌, length, Bool, true, false, not, ◌&&◌, ◌||◌, nat_eq, nat_le, nat_lt, ◌==◌, if◌then◌else◌, codes, Option, Some, None, replicate}
+use Rattle.std.specs.List.{list_any, list_all}
+use Rattle.std.specs.Int.{is_in_range}
+use Rattle.std.specs.Str.{bytes_eq, byte}
+use Rattle.widget_meaning.specs.Values.{Value, Own, E4, E10}
+use Rattle.widget_meaning.specs.Trees.{Trees, End, Node, Label, TextNode, Element, Attribute, label_of, relabelled}
+use Rattle.widget_meaning.specs.OwnState.{State, Kind, Object, Array, Function, Bunch, cell_at, no_notes, with_own, with_forest}
+use Rattle.widget_meaning.specs.Plan.{Plan}
+use Rattle.widget_meaning.specs.Costs.{throw}
+use Rattle.widget_meaning.specs.TreeOps.{with_detached}
+
+-- the root has the number 0
+abbrev pub root : ℕ
+root = 0
+
+-- a Bunch of the widget as an argument, by its nodes; all else throws E4
+abbrev pub want_bunch_kind : Kind → State → (List ℕ → Plan) → Plan
+want_bunch_kind (Bunch ns) s k = k ns
+want_bunch_kind Object s k = throw E4 s
+want_bunch_kind (Array len) s k = throw E4 s
+want_bunch_kind (Function f scope) s k = throw E4 s
+
+-- the nodes of an argument that is a Bunch
+abbrev pub want_bunch : Value → State → (List ℕ → Plan) → Plan
+want_bunch (Own n) s k = want_bunch_kind (cell_at s n).kind s k
+want_bunch v s k = throw E4 s
+
+-- a condition on all nodes, before any change
+abbrev pub want_all : (ℕ → Bool) → List ℕ → State → Plan → Plan
+want_all test ns s p = if list_all test ns then p else throw E10 s
+
+-- one node alone
+abbrev pub want_one : List ℕ → State → (ℕ → Plan) → Plan
+want_one (n ∷ []) s k = k n
+want_one ns s k = throw E4 s
+
+-- a condition on arguments
+abbrev pub want : Bool → State → Plan → Plan
+want b s p = if b then p else throw E4 s
+
+-- the tag of an element, empty for a text node
+abbrev pub label_tag : Option Label → List ℕ
+label_tag (Some (Element tag attrs)) = tag
+label_tag (Some (TextNode t)) = []
+label_tag None = []
+
+-- the tag of a node
+abbrev pub tag_of : State → ℕ → List ℕ
+tag_of s n = label_tag (label_of n s.own.forest)
+
+-- a label of a text node
+abbrev pub is_label_text : Option Label → Bool
+is_label_text (Some (TextNode t)) = true
+is_label_text (Some (Element tag attrs)) = false
+is_label_text None = false
+
+-- a text node; a void element; an `input`; one that can be disabled
+abbrev pub is_text_node : State → ℕ → Bool
+is_text_node s n = is_label_text (label_of n s.own.forest)
+
+-- a node with one of these tags
+abbrev pub is_tag : List (List ℕ) → State → ℕ → Bool
+is_tag tags s n = list_any (bytes_eq (tag_of s n)) tags
+
+-- a void element
+abbrev pub is_void : State → ℕ → Bool
+is_void s n = is_tag (codes "br" ∷ codes "hr" ∷ codes "img" ∷ codes "input" ∷ []) s n
+
+-- an `input`
+abbrev pub is_input : State → ℕ → Bool
+is_input s n = is_tag (codes "input" ∷ []) s n
+
+-- an element that can be disabled
+abbrev pub is_field : State → ℕ → Bool
+is_field s n = is_tag (codes "input" ∷ codes "button" ∷ codes "textarea" ∷ codes "select" ∷ codes "option" ∷ []) s n
+
+-- an element
+abbrev pub is_element : State → ℕ → Bool
+is_element s n = not (is_text_node s n)
+
+-- an attribute of a node, if it has it
+abbrev pub attribute_in : List Attribute → List ℕ → Option (List ℕ)
+attribute_in [] x = None
+attribute_in (a ∷ attrs) x = if bytes_eq a.name x then Some a.value else attribute_in attrs x
+
+-- an attribute of a label
+abbrev pub label_attribute : Option Label → List ℕ → Option (List ℕ)
+label_attribute (Some (Element tag attrs)) x = attribute_in attrs x
+label_attribute (Some (TextNode t)) x = None
+label_attribute None x = None
+
+-- an attribute of a node
+abbrev pub attribute : State → ℕ → List ℕ → Option (List ℕ)
+attribute s n x = label_attribute (label_of n s.own.forest) x
+
+-- it, or the empty text
+abbrev pub or_empty : Option (List ℕ) → List ℕ
+or_empty None = []
+or_empty (Some t) = t
+
+-- the text nodes of trees in document order, joined
+abbrev pub texts_of : Trees → List ℕ
+texts_of End = []
+texts_of (Node n (TextNode t) ks ts) = t ++ (texts_of ks ++ texts_of ts)
+texts_of (Node n (Element tag attrs) ks ts) = texts_of ks ++ texts_of ts
+
+-- the units of trees that are copied: of text nodes, and of attribute values without `id`
+abbrev pub attribute_units : List Attribute → ℕ
+attribute_units [] = 0
+attribute_units (a ∷ attrs) = (if bytes_eq a.name (codes "id") then 0 else length a.value) + attribute_units attrs
+
+-- of whole trees
+abbrev pub tree_units : Trees → ℕ
+tree_units End = 0
+tree_units (Node n (TextNode t) ks ts) = length t + (tree_units ks + tree_units ts)
+tree_units (Node n (Element tag attrs) ks ts) = attribute_units attrs + (tree_units ks + tree_units ts)
+
+-- how many nodes the widget has had, which is the number of the next one
+abbrev pub next_node : State → ℕ
+next_node s = length s.own.notes
+
+-- room for new nodes, of which nothing is kept yet
+abbrev pub with_room : ℕ → State → State
+with_room k s = with_own s (record s.own { notes = s.own.notes ++ replicate k no_notes })
+
+-- a new tree of one node, detached
+abbrev pub with_node : Label → State → State
+with_node l s = with_room 1 (with_forest s (with_detached (Node (next_node s) l End End) s.own.forest))
+
+-- one label changed
+abbrev pub with_label : State → ℕ → Label → State
+with_label s n l = with_forest s (relabelled n l s.own.forest)
+
+-- units of `class`, `name` and `type`: ASCII letters, digits, space, `_`, `-`, `/`
+abbrev pub is_plain_unit : ℕ → Bool
+is_plain_unit u =
+    is_in_range 97 122 u || is_in_range 65 90 u || is_in_range 48 57 u || u == 32 || u == byte "_" || u == byte "-" || u == byte "/"
+
+-- whether a text may be a `class` or a `type`
+abbrev pub is_plain_words : List ℕ → Bool
+is_plain_words t = list_all is_plain_unit t
+
+-- a type of events: 1 to 16 letters `a` to `z`
+abbrev pub is_event_type : List ℕ → Bool
+is_event_type t = nat_lt 0 (length t) && nat_le (length t) 16 && list_all (is_in_range 97 122) t
+
+-- no number twice, each at its first place
+abbrev pub has_number : List ℕ → ℕ → Bool
+has_number ns n = list_any (nat_eq n) ns
+
+-- the numbers behind those seen, without repeats
+abbrev pub once : List ℕ → List ℕ → List ℕ
+once seen [] = seen
+once seen (n ∷ ns) = if has_number seen n then once seen ns else once (seen ++ n ∷ []) ns
+
+-- the listed tags, without `script`
+abbrev pub listed_tags : List (List ℕ)
+listed_tags =
+    codes "a" ∷ codes "abbr" ∷ codes "b" ∷ codes "blockquote" ∷ codes "br" ∷ codes "button" ∷ codes "caption" ∷ codes "code" ∷ codes "dd"
+    ∷ codes "div" ∷ codes "dl" ∷ codes "dt" ∷ codes "em" ∷ codes "h1" ∷ codes "h2" ∷ codes "h3" ∷ codes "h4" ∷ codes "h5" ∷ codes "h6"
+    ∷ codes "hr" ∷ codes "i" ∷ codes "img" ∷ codes "input" ∷ codes "label" ∷ codes "li" ∷ codes "ol" ∷ codes "option" ∷ codes "p"
+    ∷ codes "pre" ∷ codes "select" ∷ codes "small" ∷ codes "span" ∷ codes "strong" ∷ codes "sub" ∷ codes "sup" ∷ codes "table"
+    ∷ codes "tbody" ∷ codes "td" ∷ codes "textarea" ∷ codes "tfoot" ∷ codes "th" ∷ codes "thead" ∷ codes "tr" ∷ codes "ul" ∷ []

@@ -1,0 +1,51 @@
+//! Laws of the definitions.
+ghost use Rattle.std.specs.Prelude.{ℕ, List};
+ghost use Rattle.widget_meaning.specs.Compositional.{ExpressionLaws, StatementLaws, CallLaws};
+ghost use Rattle.js_tree.specs.Forest.{Forest};
+ghost use Rattle.widget_meaning.specs.Arena.{ArenaLaws};
+ghost use Rattle.widget_meaning.specs.Counts.{CountLaws};
+ghost use Rattle.widget_meaning.specs.Laws.{FuelLaws, StopLaws, StoppedLaws, AloneLaws};
+
+/// The meaning of each form is made of the meanings of its parts: this is the direct recursive meaning, form by form.
+#[tactic(auto, using(crate::proofs::Parts::expression_laws, crate::proofs::Parts::statement_laws, crate::proofs::Parts::call_laws))]
+pub fn compositional()
+    ensures expressions { (at : ℕ) (names : List ℕ) → ExpressionLaws at names }
+    ensures statements { (at : ℕ) (names : List ℕ) → StatementLaws at names }
+    ensures calls { CallLaws }
+{}
+
+/// The parts that a node of an arena lists by number are the parts of its plain tree, in order.
+#[tactic(auto, using(crate::proofs::ArenaHolds::arena_laws))]
+pub fn arena()
+    ensures { (f : Forest) → ArenaLaws f }
+{}
+
+/// Fuel left never grows, and a turn spends what fell of its grant.
+#[tactic(auto, using(crate::proofs::LawsHold::fuel_laws))]
+pub fn fuel()
+    ensures { FuelLaws }
+{}
+
+/// The four counts only rise, and stay within their limits.
+#[tactic(auto, using(crate::proofs::CountsHold::count_laws))]
+pub fn counts()
+    ensures { CountLaws }
+{}
+
+/// No `catch` and no `finally` sees a stop.
+#[tactic(auto, using(crate::proofs::LawsHold::stop_laws))]
+pub fn stops()
+    ensures { StopLaws }
+{}
+
+/// A stopped widget counts its events as gone, and nothing else of it changes.
+#[tactic(auto, using(crate::proofs::LawsHold::stopped_laws))]
+pub fn stopped()
+    ensures { StoppedLaws }
+{}
+
+/// One widget on a longer list of items goes on from the shorter one, and its grant never changes.
+#[tactic(auto, using(crate::proofs::LawsHold::alone_laws))]
+pub fn alone()
+    ensures { AloneLaws }
+{}

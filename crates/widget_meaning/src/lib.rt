@@ -1,0 +1,11 @@
+//! What a script means, and what one widget does by itself: definitions in `specs/`, in the order of docs/LANGUAGE.md, and their laws.
+//! There is no code here: the functions that do nothing carry the laws of the definitions.
+#![tactic(auto)]
+
+mod laws;
+mod native_laws;
+mod rows;
+
+pub use laws::{alone, arena, compositional, counts, fuel, stopped, stops};
+pub use native_laws::{json, native_rows, sort, split};
+pub use rows::{page_rows, rows_hold};

@@ -1,0 +1,30 @@
+//! Laws of the natives, and rows with them.
+ghost use Rattle.std.specs.Prelude.{List};
+ghost use Rattle.widget_meaning.specs.JsonBack.{ReturnLaws};
+ghost use Rattle.widget_meaning.specs.JsonLaws.{JsonLaws};
+ghost use Rattle.widget_meaning.specs.NativeLaws.{SplitLaws, SortLaws};
+ghost use Rattle.widget_meaning.specs.NativeRows.{NativeRows};
+ghost use Rattle.widget_meaning.specs.Values.{Value};
+
+/// The pieces that `split` gives, joined by what stood between them, are the text.
+#[tactic(auto, using(crate::proofs::NativeLawsHold::split_laws))]
+pub fn split()
+    ensures { SplitLaws }
+{}
+
+/// `sort` moves the elements, puts none before one that it comes before, and keeps the order of those that tie.
+pub fn sort()
+    ensures { (vs : List Value) → SortLaws vs }
+{}
+
+/// What `toJson` writes is the JSON of the value's tree, and is read back as that tree; the objects that `fromJson` makes of it have the same tree.
+#[tactic(auto, using(crate::proofs::JsonHolds::json_laws, crate::proofs::JsonReturns::return_laws))]
+pub fn json()
+    ensures text { JsonLaws }
+    ensures objects { ReturnLaws }
+{}
+
+/// What single widgets with natives do, computed from the definitions.
+pub fn native_rows()
+    ensures { NativeRows }
+{}
