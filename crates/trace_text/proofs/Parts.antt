@@ -1,5 +1,5 @@
 -- Texts of which a part was appended.
-use Rattle.std.proofs.Common.{◌≡◌, ℕ, ◌+◌, ◌<◌, List, [], ◌++◌, length, take, drop, get_or, refl, sym, ap, ◌∙◌, append_assoc, append-nil, arith}
+use Rattle.std.proofs.Common.{◌≡◌, ℕ, ◌+◌, ◌<◌, List, [], ◌++◌, length, take, drop, get_or, refl, sym, ap, subst, ◌∙◌, append_assoc, append-nil, arith}
 use Rattle.std.proofs.lemmas.List.{drop_more, take-append-drop}
 use Rattle.std.proofs.lemmas.Grind.{flat_map-append}
 use Rattle.std.specs.List.{flat_map}
@@ -24,3 +24,27 @@ part_so_far f xs i d old mid new within before part =
       whole = split_at f xs i d within ∙ grind (arith, append_assoc, part.whole);
       appended = part.appended ∙ ap (λ held. held ++ part.part) before ∙ append_assoc old (flat_map f (take i xs)) part.part;
     }
+
+-- a part of what comes first is a part of the whole
+pub first_part : (old new a b : List ℕ) → AppendsPart old new a → AppendsPart old new (a ++ b)
+first_part old new a b part =
+    record {
+      part = part.part;
+      rest = part.rest ++ b;
+      whole = grind (arith, append_assoc, part.whole);
+      appended = part.appended;
+    }
+
+-- what comes first, and a part of what follows, is a part of the whole
+pub later_part : (old mid new a b : List ℕ) → mid ≡ old ++ a → AppendsPart mid new b → AppendsPart old new (a ++ b)
+later_part old mid new a b before part =
+    record {
+      part = a ++ part.part;
+      rest = part.rest;
+      whole = grind (arith, append_assoc, part.whole);
+      appended = part.appended ∙ ap (λ held. held ++ part.part) before ∙ append_assoc old a part.part;
+    }
+
+-- the same where the item is named
+pub part_item : {X : Type 0} (f : X → List ℕ) (xs : List X) (i : ℕ) (x : X) (old mid new : List ℕ) → i < length xs → x ≡ get_or xs i x → mid ≡ old ++ flat_map f (take i xs) → AppendsPart mid new (f x) → AppendsPart old new (flat_map f xs)
+part_item f xs i x old mid new within is before part = part_so_far f xs i x old mid new within before (subst (λ y. AppendsPart mid new (f y)) is part)

@@ -1,12 +1,16 @@
 -- The lines of a report, as UTF-8 bytes.
-use Rattle.std.specs.Prelude.{◌≡◌, ℕ, false, ◌/◌, ◌%◌, List, [], ◌∷◌, ◌++◌, codes, decimal, nat_eq, nat_lt, ◌||◌, if◌then◌else◌, string_bytes}
+use Rattle.std.specs.Prelude.{◌≡◌, ℕ, false, ◌/◌, ◌%◌, List, [], ◌∷◌, ◌++◌, codes, decimal, nat_eq, nat_lt, ◌||◌, if◌then◌else◌, string_bytes, Option, Some, None}
 use Rattle.std.specs.List.{flat_map}
 use Rattle.std.specs.Fmt.{digit_glyph}
 use Rattle.code_units.specs.declared.place.Place.{Place}
+use Rattle.code_units.specs.Utf8.{utf8_of}
 use Rattle.trace_text.specs.declared.line.Line.{Line}
-use Rattle.trace_text.specs.declared.line.Line.TheVariants.{LibAccepted, LibRefused}
+use Rattle.trace_text.specs.declared.line.Line.TheVariants.{Ran, Short, Refused, Accepted, LibAccepted, LibRefused, Page}
 use Rattle.trace_text.specs.declared.line.Rule.{Rule}
 use Rattle.trace_text.specs.declared.line.Rule.TheVariants.{A, M}
+use Rattle.trace_text.specs.declared.line.RunText.{RunText}
+use Rattle.trace_text.specs.declared.line.State.{State}
+use Rattle.trace_text.specs.declared.line.State.TheVariants.{Live, Fuel, Number, Depth, Cells, Slots, Units, LongText, Nodes}
 
 -- how a byte of a text stands between quotes
 abbrev pub escape : ℕ → List ℕ
@@ -33,6 +37,40 @@ abbrev pub rule_number : Rule → ℕ
 rule_number (M n) = n
 rule_number (A n) = n
 
+-- the name of a state
+abbrev pub state_name : State → List ℕ
+state_name Live = codes "live"
+state_name Fuel = codes "fuel"
+state_name Number = codes "number"
+state_name Depth = codes "depth"
+state_name Cells = codes "cells"
+state_name Slots = codes "slots"
+state_name Units = codes "units"
+state_name LongText = codes "longtext"
+state_name Nodes = codes "nodes"
+
+-- a text of units between quotes, without them: UTF-8, U+FFFD for each lone surrogate
+abbrev pub text_inside : List ℕ → List ℕ
+text_inside units = escaped (utf8_of units)
+
+-- a text of units and its quotes
+abbrev pub quoted : List ℕ → List ℕ
+quoted units = codes "\"" ++ (text_inside units ++ codes "\"")
+
+-- a text of a list after its first
+abbrev pub next_quoted : List ℕ → List ℕ
+next_quoted units = codes "," ++ quoted units
+
+-- the texts of a list, with commas between
+abbrev pub quoted_list : List (List ℕ) → List ℕ
+quoted_list [] = []
+quoted_list (first ∷ rest) = quoted first ++ flat_map next_quoted rest
+
+-- the position of the swap that ended a life, where one did
+abbrev pub until_member : Option ℕ → List ℕ
+until_member None = []
+until_member (Some n) = codes ",\"until\":" ++ decimal n
+
 -- the parts of a line, one after the other
 abbrev pub concat : List (List ℕ) → List ℕ
 concat parts = flat_map (λ part. part) parts
@@ -47,9 +85,52 @@ lib_refused file rule at =
     ∷ codes "\",\"refused\":\"" ∷ rule_mark rule ∷ decimal (rule_number rule)
     ∷ codes "\",\"at\":[" ∷ decimal at.line ∷ codes "," ∷ decimal at.column ∷ codes "]}\n" ∷ [])
 
+abbrev pub accepted_slot : List ℕ → List ℕ → List ℕ
+accepted_slot name file =
+    concat (codes "{\"widget\":\"" ∷ text_inside name ∷ codes "\",\"file\":\"" ∷ escaped file ∷ codes "\",\"accepted\":true}\n" ∷ [])
+
+abbrev pub refused_life : List ℕ → Option ℕ → List ℕ → Rule → Place → List ℕ
+refused_life name until file rule at =
+    concat (codes "{\"widget\":\"" ∷ text_inside name ∷ codes "\"" ∷ until_member until
+    ∷ codes ",\"file\":\"" ∷ escaped file
+    ∷ codes "\",\"refused\":\"" ∷ rule_mark rule ∷ decimal (rule_number rule)
+    ∷ codes "\",\"at\":[" ∷ decimal at.line ∷ codes "," ∷ decimal at.column ∷ codes "]}\n" ∷ [])
+
+-- what a life did, up to the events that it no longer took
+unfoldable pub run_members : RunText → List ℕ
+run_members run =
+    concat (codes "{\"widget\":\"" ∷ text_inside run.name ∷ codes "\"" ∷ until_member run.until
+    ∷ codes ",\"state\":\"" ∷ state_name run.state ∷ codes "\",\"turns\":" ∷ decimal run.turns
+    ∷ codes ",\"spent\":" ∷ decimal run.spent ∷ codes ",\"missed\":" ∷ decimal run.missed
+    ∷ codes ",\"gone\":" ∷ decimal run.gone ∷ [])
+
+-- its log and its uncaught notes
+unfoldable pub run_notes : List (List ℕ) → List (List ℕ) → List ℕ
+run_notes log uncaught =
+    concat (codes ",\"log\":[" ∷ quoted_list log ∷ codes "],\"uncaught\":[" ∷ quoted_list uncaught ∷ codes "]" ∷ [])
+
+-- the end of a line
+abbrev pub line_end : List ℕ
+line_end = codes "}\n"
+
+abbrev pub short_life : RunText → List ℕ
+short_life run = run_members run ++ line_end
+
+abbrev pub ran_life : RunText → List ℕ
+ran_life run = run_members run ++ (run_notes run.log.items run.uncaught.items ++ line_end)
+
+-- the text of a page, which stands as UTF-8
+abbrev pub page_line : List ℕ → List ℕ
+page_line text = concat (codes "{\"page\":\"" ∷ escaped text ∷ codes "\"}\n" ∷ [])
+
 abbrev pub line_text : Line → List ℕ
+line_text (Ran run) = ran_life run
+line_text (Short run) = short_life run
+line_text (Refused name until file rule at) = refused_life name until (string_bytes file) rule at
+line_text (Accepted name file) = accepted_slot name (string_bytes file)
 line_text (LibAccepted file) = lib_accepted (string_bytes file)
 line_text (LibRefused file rule at) = lib_refused (string_bytes file) rule at
+line_text (Page text) = page_line text.items
 
 -- a part of a text was appended, and its rest is missing
 pub record AppendsPart (old new text : List ℕ) : Type 0 where

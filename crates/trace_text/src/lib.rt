@@ -7,5 +7,5 @@ mod report;
 #[cfg(test)]
 mod tests;
 
-pub use line::{Line, Rule};
+pub use line::{Line, Rule, RunText, State};
 pub use report::report_line;

@@ -1,11 +1,11 @@
 //! Pieces of a line, appended in order.
-ghost use Rattle.std.specs.Prelude.{◌≡◌, ◌<◌, ◌++◌, OnOk, OnErr, false};
+ghost use Rattle.std.specs.Prelude.{◌≡◌, ◌<◌, ◌++◌, OnOk, OnErr, decimal, false};
 ghost use Rattle.std.specs.List.{flat_map};
 ghost use Rattle.std.specs.Fmt.{digit_glyph};
-ghost use Rattle.trace_text.specs.Report.{escape, escaped, AppendsPart};
+ghost use Rattle.trace_text.specs.Report.{escape, escaped, text_inside, quoted, next_quoted, quoted_list, until_member, AppendsPart};
 ghost use Rattle.trace_text.specs.Pieces.{piece_text};
 
-use code_units::Memory;
+use code_units::{Memory, Text, push_utf8};
 use itoa::Buffer;
 
 /// A piece of a line.
@@ -13,10 +13,16 @@ use itoa::Buffer;
 pub enum Piece<'a> {
     /// Bytes that stand as they are.
     Plain(&'a str),
-    /// A text of which each byte is escaped.
-    Escaped(&'a str),
+    /// UTF-8 bytes of which each is escaped.
+    Escaped(&'a [u8]),
+    /// A text, escaped.
+    Units(&'a Text),
+    /// Texts in quotes, with commas between.
+    Texts(&'a [Text]),
+    /// The position of the swap that ended a life, where one did.
+    Until(Option<u32>),
     /// A number, in decimal digits.
-    Number(u32),
+    Number(u64),
 }
 
 // Appends a byte of a text between quotes.
@@ -54,14 +60,80 @@ fn hex_digit(n: u8) -> u8
     if n < 10 { b'0' + n } else { b'a' + (n - 10) }
 }
 
-fn push_escaped(text: &str, out: &mut Vec<u8>) -> Result<(), Memory>
-    ensures ok { OnOk result (out.new.items ≡ out.old.items ++ escaped text.now) }
-    ensures part { AppendsPart out.old.items out.new.items (escaped text.now) }
+fn push_escaped(bytes: &[u8], out: &mut Vec<u8>) -> Result<(), Memory>
+    ensures ok { OnOk result (out.new.items ≡ out.old.items ++ escaped bytes.now) }
+    ensures part { AppendsPart out.old.items out.new.items (escaped bytes.now) }
 {
-    'bytes: for byte in text.as_bytes() {
+    'bytes: for byte in bytes {
         push_escape(*byte, out)?;
     }
     Ok(())
+}
+
+fn push_units(text: &Text, out: &mut Vec<u8>) -> Result<(), Memory>
+    ensures ok { OnOk result (out.new.items ≡ out.old.items ++ text_inside text.now) }
+    ensures part { AppendsPart out.old.items out.new.items (text_inside text.now) }
+{
+    let mut bytes = Vec::new(*out.allocator());
+    push_utf8(text, &mut bytes)?;
+    push_escaped(&bytes, out)
+}
+
+fn push_quoted(text: &Text, out: &mut Vec<u8>) -> Result<(), Memory>
+    ensures ok { OnOk result (out.new.items ≡ out.old.items ++ quoted text.now) }
+    ensures part { AppendsPart out.old.items out.new.items (quoted text.now) }
+{
+    out.extend_from_slice(b"\"")?;
+    push_units(text, out)?;
+    Ok(out.extend_from_slice(b"\"")?)
+}
+
+fn push_next(text: &Text, out: &mut Vec<u8>) -> Result<(), Memory>
+    ensures ok { OnOk result (out.new.items ≡ out.old.items ++ next_quoted text.now) }
+    ensures part { AppendsPart out.old.items out.new.items (next_quoted text.now) }
+{
+    out.extend_from_slice(b",")?;
+    push_quoted(text, out)
+}
+
+fn push_rest(texts: &[Text], out: &mut Vec<u8>) -> Result<(), Memory>
+    ensures ok { OnOk result (out.new.items ≡ out.old.items ++ flat_map next_quoted texts.now) }
+    ensures part { AppendsPart out.old.items out.new.items (flat_map next_quoted texts.now) }
+{
+    'texts: for text in texts {
+        push_next(text, out)?;
+    }
+    Ok(())
+}
+
+fn push_texts(texts: &[Text], out: &mut Vec<u8>) -> Result<(), Memory>
+    ensures ok { OnOk result (out.new.items ≡ out.old.items ++ quoted_list texts.now) }
+    ensures part { AppendsPart out.old.items out.new.items (quoted_list texts.now) }
+{
+    let Some((first, rest)) = texts.split_first() else {
+        return Ok(());
+    };
+    push_quoted(first, out)?;
+    push_rest(rest, out)
+}
+
+fn push_number(n: u64, out: &mut Vec<u8>) -> Result<(), Memory>
+    ensures ok { OnOk result (out.new.items ≡ out.old.items ++ decimal n) }
+    ensures err { OnErr result (out.new.items ≡ out.old.items) }
+{
+    let mut buffer = Buffer::new();
+    Ok(out.extend_from_slice(buffer.format(n).as_bytes())?)
+}
+
+fn push_until(until: Option<u32>, out: &mut Vec<u8>) -> Result<(), Memory>
+    ensures ok { OnOk result (out.new.items ≡ out.old.items ++ until_member until) }
+    ensures part { AppendsPart out.old.items out.new.items (until_member until) }
+{
+    let Some(n) = until else {
+        return Ok(());
+    };
+    out.extend_from_slice(b",\"until\":")?;
+    push_number(u64::from(n), out)
 }
 
 fn push_piece(piece: &Piece, out: &mut Vec<u8>) -> Result<(), Memory>
@@ -70,11 +142,11 @@ fn push_piece(piece: &Piece, out: &mut Vec<u8>) -> Result<(), Memory>
 {
     match piece {
         Piece::Plain(text) => Ok(out.extend_from_slice(text.as_bytes())?),
-        Piece::Escaped(text) => push_escaped(text, out),
-        Piece::Number(n) => {
-            let mut buffer = Buffer::new();
-            Ok(out.extend_from_slice(buffer.format(*n).as_bytes())?)
-        }
+        Piece::Escaped(bytes) => push_escaped(bytes, out),
+        Piece::Units(text) => push_units(text, out),
+        Piece::Texts(texts) => push_texts(texts, out),
+        Piece::Until(until) => push_until(*until, out),
+        Piece::Number(n) => push_number(*n, out),
     }
 }
 

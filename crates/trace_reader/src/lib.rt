@@ -1,0 +1,21 @@
+//! Reads manifests and traces, which are JSON texts.
+#![tactic(auto)]
+
+mod channels;
+mod fault;
+mod item;
+mod keys;
+mod libs;
+mod look;
+mod manifest;
+mod page;
+mod slot;
+#[cfg(test)]
+mod tests;
+mod trace;
+
+pub use fault::ShapeFault;
+pub use item::{Happening, TraceItem};
+pub use manifest::{ManifestShape, shape_manifest};
+pub use slot::{PageEntry, SlotEntry};
+pub use trace::read_trace;

@@ -1,0 +1,73 @@
+//! What a JSON value has under a key.
+ghost use Rattle.std.specs.Prelude.{◌≡◌, IfOk, is_some, map, option_map, position};
+ghost use Rattle.std.specs.Str.{bytes_eq};
+ghost use Rattle.code_units.specs.Utf8.{units_of};
+ghost use Rattle.serde_json.specs.Find.{get};
+ghost use Rattle.serde_json.specs.View.{view};
+ghost use Rattle.trace_reader.specs.Look.{listed_in, number_at, text_at, list_at, slot_at};
+
+use code_units::{Memory, Text, from_utf8_bytes, is_word};
+use serde_json::Value;
+use std::alloc::Global;
+
+pub fn has_key(value: &Value, key: &str) -> bool
+    ensures { result ≡ is_some (get key.now (view value.now)) }
+{
+    value.get(key).is_some()
+}
+
+pub fn number_at(value: &Value, key: &str) -> Option<u64>
+    ensures { result ≡ number_at key.now (view value.now) }
+{
+    value.get(key).and_then(Value::as_u64)
+}
+
+pub fn text_at<'a>(value: &'a Value, key: &str) -> Option<&'a str>
+    ensures { option_map (λ s. s.now) result ≡ text_at key.now (view value.now) }
+{
+    value.get(key).and_then(Value::as_str)
+}
+
+pub fn list_in(value: &Value) -> Option<&[Value]>
+    ensures { option_map (λ l. map view l.now) result ≡ listed_in (view value.now) }
+{
+    let Some(list) = value.as_array() else {
+        return None;
+    };
+    Some(list.as_slice())
+}
+
+pub fn list_at<'a>(value: &'a Value, key: &str) -> Option<&'a [Value]>
+    ensures { option_map (λ l. map view l.now) result ≡ list_at key.now (view value.now) }
+{
+    let Some(found) = value.get(key) else {
+        return None;
+    };
+    let Some(list) = found.as_array() else {
+        return None;
+    };
+    Some(list.as_slice())
+}
+
+/// The place of a name among some.
+pub fn named(text: &str, names: &[Text]) -> Option<usize>
+    ensures { result ≡ position (λ name. bytes_eq name text.now) names.now }
+{
+    names.iter().position(|name| is_word(name, text.as_bytes()))
+}
+
+pub fn slot_at(value: &Value, key: &str, names: &[Text]) -> Option<usize>
+    ensures { result ≡ slot_at key.now names.now (view value.now) }
+{
+    match text_at(value, key) {
+        Some(text) => named(text, names),
+        None => None,
+    }
+}
+
+/// The units of a text, which is UTF-8.
+pub fn units_in(alloc: Global, text: &str) -> Result<Text, Memory>
+    ensures { IfOk result (λ t. t ≡ units_of text.now) }
+{
+    from_utf8_bytes(alloc, text.as_bytes()).map_err(|_| Memory)
+}

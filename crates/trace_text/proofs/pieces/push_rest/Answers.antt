@@ -1,0 +1,7 @@
+use Rattle.trace_text.specs.Report.{next_quoted}
+use Rattle.trace_text.proofs.Parts.{part_item}
+use Rattle.trace_text.proofs.pieces.push_rest.Goals as goal
+
+pub returns-in_err-push_next-clause-part : goal.returns-in_err-push_next-clause-part
+returns-in_err-push_next-clause-part c =
+    part_item next_quoted c.args.texts.now c.texts.text-index c.text-item.result c.args.out.now.items c.texts.out.items c.push_next.new.out.items c.texts-test.true c.text-item.is c.texts.invariant c.push_next.ensures.part
