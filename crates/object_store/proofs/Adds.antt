@@ -1,0 +1,197 @@
+-- A cell is added.
+use Rattle.std.proofs.Common.{◌≡◌, ℕ, zero, suc, ◌+◌, ◌<◌, ◌≤◌, List, [], ◌∷◌, ◌++◌, length, map, get_or, refl, sym, ap, ◌∙◌, subst, Option, Some, None, arith, Bool, true, false, eqb, cond, if◌then◌else◌, true≢false, slice_get, is_some, length-append}
+use Rattle.std.specs.Prelude.{Result, Ok, Err, IfOk, OnOk, OnErr, IfSome, ◌&&◌, MatchOption}
+use Rattle.std.specs.List.{fold}
+use Rattle.std.specs.Option.{option_map, option_map_or, option_and_then}
+use Rattle.std.specs.Map.{lookup}
+use Rattle.std.specs.Str.{bytes_eq}
+use Rattle.std.proofs.lemmas.Option.{slice_get-map, get_or_from_slice_get}
+use Rattle.std.proofs.lemmas.List.{length-map, map-append}
+use Rattle.std.proofs.lemmas.Bool.Decides.{nat_tests}
+use Rattle.indexmap.specs.IndexMap.{insert_entry}
+use Rattle.code_units.specs.Interned.{IsTable, Interns}
+use Rattle.code_units.specs.declared.owner.Owner.TheVariants as whose
+use Rattle.code_units.proofs.Interning.{same_test, stays, longer}
+use Rattle.object_store.specs.declared.value.Value.{Value}
+use Rattle.object_store.specs.declared.value.Value.TheVariants as value
+use Rattle.object_store.specs.declared.kind.Form.{Form}
+use Rattle.object_store.specs.declared.kind.Form.TheVariants as form
+use Rattle.object_store.specs.declared.cell.Head.{Head}
+use Rattle.object_store.specs.declared.store.Counts.{Counts}
+use Rattle.object_store.specs.Lists.{changed, count_before, count_all}
+use Rattle.object_store.specs.Cells.{PlainCell, Cells, kept_cells, is_scope, is_array, is_own, is_visible_form, is_scope_at, node_in, function_in, widget_of, prototypes, raw_cell}
+use Rattle.object_store.specs.Arrays.{length_name, count_value}
+use Rattle.object_store.specs.Numbered.{Raw, Grown, plain, named, cells_of, heads, own_head, name_at, raw_written, first_raw, node_head}
+use Rattle.object_store.specs.Host.{AreHost}
+use Rattle.object_store.specs.Shape.{Known, AreKnown, AreEntries, IsArrayTable, IsFine, AreFine, AreOrdered, IsOrdered, AreRaws, AreWords, AreWithin, IsBase, IsShape, scope_at, links_at, scope_in, is_raw, raw_from, Added, Grew, Kept, head_on, scope_head, IsNewForm}
+use Rattle.object_store.specs.Calls.{paid, bound, scope_cell, new_cell, first_pairs, made, raw_place, raw_place_from, is_raw_cell}
+use Rattle.object_store.proofs.Lists.{none_some, some_same, by_push, get_older, get_within, count_before-push, count_before-all, count_all-push, length-changed}
+use Rattle.object_store.proofs.Look.{known_entries, known_cells, insert_named}
+use Rattle.object_store.proofs.Entries.{entries_more, entries_insert, node_found, node_other}
+use Rattle.object_store.proofs.Writes.{all_fine_stay, fine_stay, cells_stay, named_stay}
+use Rattle.object_store.proofs.Heads.{head_at, some_at, links_are, scope_same}
+use Rattle.object_store.proofs.Hosts.{host_push}
+use Rattle.object_store.proofs.Interned.{found_stays}
+
+-- lookups do not see a later cell
+scope_older : (hs : List Head) (x : Head) (j : ℕ) → j < length hs → scope_at (hs ++ x ∷ []) j ≡ scope_at hs j
+scope_older hs x j lt = ap (λ (p : Option Head). option_map_or (λ h. is_scope h.form) p false) (get_older hs x j lt)
+
+links_older : (hs : List Head) (x : Head) (j : ℕ) → j < length hs → links_at (hs ++ x ∷ []) j ≡ links_at hs j
+links_older hs x j lt = ap (λ (p : Option Head). option_map_or (λ h. h.links) p 0) (get_older hs x j lt)
+
+module _ (hs : List Head) (x : Head) where
+  ordered_older : (i : ℕ) (h : Head) → i ≤ length hs → IsOrdered hs i h → IsOrdered (hs ++ x ∷ []) i h
+  ordered_older i h le o = record {
+    up = up h.up o.up;
+    scope = scope (scope_in h.form) o.scope;
+    links = o.links ∙ ap (λ n. if is_scope h.form then 0 else n) (sym (links h.up o.up));
+    few = o.few;
+    below = o.below;
+    owned = o.owned;
+    number = λ w g. o.number w g ∙ sym (count_before-push (own_head w) hs x i le);
+  }
+    where
+      up : (p : Option ℕ) → IfSome p (λ j. (j < i) × (scope_at hs j ≡ is_scope h.form)) → IfSome p (λ j. (j < i) × (scope_at (hs ++ x ∷ []) j ≡ is_scope h.form))
+      up None g = tt
+      up (Some j) g = (g.0, scope_older hs x j (omega (arith, g.0, le)) ∙ g.1)
+
+      scope : (p : Option ℕ) → IfSome p (λ j. (j < i) × (scope_at hs j ≡ true)) → IfSome p (λ j. (j < i) × (scope_at (hs ++ x ∷ []) j ≡ true))
+      scope None g = tt
+      scope (Some j) g = (g.0, scope_older hs x j (omega (arith, g.0, le)) ∙ g.1)
+
+      links : (p : Option ℕ) → IfSome p (λ j. (j < i) × (scope_at hs j ≡ is_scope h.form)) → option_map_or (λ j. suc (links_at (hs ++ x ∷ []) j)) p 0 ≡ option_map_or (λ j. suc (links_at hs j)) p 0
+      links None g = refl
+      links (Some j) g = ap suc (links_older hs x j (omega (arith, g.0, le)))
+
+  pub ordered_push : AreOrdered hs → IsOrdered hs (length hs) x → AreOrdered (hs ++ x ∷ [])
+  ordered_push all new = record {
+    each = by_push hs x (λ i h. IsOrdered (hs ++ x ∷ []) i h) (λ i h g. ordered_older i h (omega (arith, get_within hs i h g)) (all.each i h g)) (ordered_older (length hs) x (omega arith) new);
+  }
+
+pub fine_push : (names : List (List ℕ)) (size : ℕ) (cs : List Raw) (c : Raw) → AreFine names size cs → IsFine names size c → AreFine names size (cs ++ c ∷ [])
+fine_push names size [] c h k = (k, tt)
+fine_push names size (x ∷ cs) c h k = (h.0, fine_push names size cs c h.1 k)
+
+pub heads_push : (cs : List Raw) (c : Raw) → heads (cs ++ c ∷ []) ≡ heads cs ++ c.head ∷ []
+heads_push cs c = map-append (λ d. d.head) cs (c ∷ [])
+
+pub base_push : (names : List (List ℕ)) (cs : List Raw) (c : Raw) → IsBase names cs → IsFine names (length cs + 1) c → IsOrdered (heads cs) (length cs) c.head → IsBase names (cs ++ c ∷ [])
+base_push names cs c base fine new = record {
+  table = base.table;
+  words = base.words;
+  fine = subst (λ n. AreFine names n (cs ++ c ∷ [])) (sym (length-append cs (c ∷ []))) (fine_push names (length cs + 1) cs c (all_fine_stay names names (omega arith) (λ k lt. refl) (length cs) (length cs + 1) cs (omega arith) base.fine) fine);
+  ordered = subst AreOrdered (sym (heads_push cs c)) (ordered_push (heads cs) c.head base.ordered (subst (λ n. IsOrdered (heads cs) n c.head) (sym (length-map cs (λ d. d.head))) new));
+}
+
+-- `add`
+pub added_ok : (names : List (List ℕ)) (cs after : List Raw) (c : Raw) {E : Type 0} (r : Result ℕ E) → IsBase names cs → IsFine names (length cs + 1) c → IsOrdered (heads cs) (length cs) c.head → IfOk r (λ id. (id ≡ length cs) × (after ≡ cs ++ c ∷ [])) → IfOk r (λ id. Added names cs names after c id)
+added_ok names cs after c (Ok id) base fine new ok = record {
+  place = ok.0;
+  items = ok.1;
+  base = subst (IsBase names) (sym ok.1) (base_push names cs c base fine new);
+}
+added_ok names cs after c (Err e) base fine new ok = tt
+
+-- the cells of nodes
+raw_from-push : (n k : ℕ) (hs : List Head) (x : Head) → raw_from n k (hs ++ x ∷ []) ≡ option_map_or (λ i. Some i) (raw_from n k hs) (if is_raw n x.form then Some (k + length hs) else None)
+raw_from-push n k [] x = ap (λ m. if is_raw n x.form then Some m else None) (omega arith)
+raw_from-push n k (h ∷ hs) x = by (is_raw n h.form) (raw_from-push n (suc k) hs x)
+  where
+    same : suc k + length hs ≡ k + suc (length hs)
+    same = omega arith
+
+    by : (b : Bool) → raw_from n (suc k) (hs ++ x ∷ []) ≡ option_map_or (λ i. Some i) (raw_from n (suc k) hs) (if is_raw n x.form then Some (suc k + length hs) else None)
+        → (if b then Some k else raw_from n (suc k) (hs ++ x ∷ [])) ≡ option_map_or (λ i. Some i) (if b then Some k else raw_from n (suc k) hs) (if is_raw n x.form then Some (k + suc (length hs)) else None)
+    by true e = refl
+    by false e = e ∙ ap (λ m. option_map_or (λ i. Some i) (raw_from n (suc k) hs) (if is_raw n x.form then Some m else None)) same
+
+some_again : (o : Option ℕ) → option_map_or (λ i. Some i) o None ≡ o
+some_again None = refl
+some_again (Some i) = refl
+
+-- a cell of no node
+pub raws_push : (hs : List Head) (raws : List (ℕ × ℕ)) (x : Head) → AreRaws hs raws → node_in x.form ≡ None → AreRaws (hs ++ x ∷ []) raws
+raws_push hs raws x h none = record {
+  found = λ n. h.found n ∙ sym (stay n);
+  one = λ i n y at node. stay n ∙ by_push hs x (λ i y. node_in y.form ≡ Some n → raw_from n 0 hs ≡ Some i) (λ k z g e. h.one k n z g e) (λ e. absurd (none_some (sym none ∙ e))) i y at node;
+}
+  where
+    stay : (n : ℕ) → raw_from n 0 (hs ++ x ∷ []) ≡ raw_from n 0 hs
+    stay n =
+        let no_node : is_raw n x.form ≡ false = ap (λ (o : Option ℕ). option_map_or (λ m. eqb n m) o false) none in
+        raw_from-push n 0 hs x ∙ ap (λ b. option_map_or (λ i. Some i) (raw_from n 0 hs) (if b then Some (0 + length hs) else None)) no_node ∙ some_again (raw_from n 0 hs)
+
+-- the cell of a node that had none
+pub raws_node : (hs : List Head) (raws : List (ℕ × ℕ)) (node : ℕ) → AreRaws hs raws → lookup (eqb node) raws ≡ None → AreRaws (hs ++ node_head node ∷ []) (insert_entry eqb raws node (length hs))
+raws_node hs raws node h none = record {
+  found = λ n. by n (eqb n node) refl;
+  one = λ i n y at is. by_push hs (node_head node) (λ i y. node_in y.form ≡ Some n → raw_from n 0 (hs ++ node_head node ∷ []) ≡ Some i) (λ k z g e. raw_from-push n 0 hs (node_head node) ∙ ap (λ (o : Option ℕ). option_map_or (λ i. Some i) o (if eqb n node then Some (0 + length hs) else None)) (h.one k n z g e)) (λ e. let same : node ≡ n = some_same node n e in subst (λ m. raw_from m 0 (hs ++ node_head node ∷ []) ≡ Some (length hs)) same here) i y at is;
+}
+  where
+    absent : raw_from node 0 hs ≡ None
+    absent = sym (h.found node) ∙ none
+
+    self : eqb node node ≡ true
+    self = grind (arith, nat_tests)
+
+    here : raw_from node 0 (hs ++ node_head node ∷ []) ≡ Some (length hs)
+    here = raw_from-push node 0 hs (node_head node) ∙ ap (λ (o : Option ℕ). option_map_or (λ i. Some i) o (if eqb node node then Some (0 + length hs) else None)) absent ∙ ap (λ b. if b then Some (0 + length hs) else None) self ∙ ap Some (omega arith)
+
+    equal : (n : ℕ) → eqb n node ≡ true → node ≡ n
+    equal n e = grind (arith, nat_tests, e)
+
+    apart : (n : ℕ) → eqb n node ≡ false → eqb n node ≡ false
+    apart n e = e
+
+    by : (n : ℕ) (b : Bool) → eqb n node ≡ b → lookup (eqb n) (insert_entry eqb raws node (length hs)) ≡ raw_from n 0 (hs ++ node_head node ∷ [])
+    by n true e = subst (λ m. lookup (eqb m) (insert_entry eqb raws node (length hs)) ≡ raw_from m 0 (hs ++ node_head node ∷ [])) (equal n e) (node_found node (length hs) raws ∙ sym here)
+    by n false e = node_other n node (length hs) raws e ∙ h.found n ∙ sym (raw_from-push n 0 hs (node_head node) ∙ ap (λ b. option_map_or (λ i. Some i) (raw_from n 0 hs) (if b then Some (0 + length hs) else None)) e ∙ some_again (raw_from n 0 hs))
+
+-- the same place in plain data
+pub raw_place_is : (names : List (List ℕ)) (n k : ℕ) (cs : List Raw) → raw_from n k (heads cs) ≡ raw_place_from n k (cells_of names cs)
+raw_place_is names n k [] = refl
+raw_place_is names n k (c ∷ cs) = ap (λ (o : Option ℕ). if is_raw n c.head.form then Some k else o) (raw_place_is names n (suc k) cs)
+
+-- counts
+pub cells_paid_own : (ks : List Counts) (w c s u v : ℕ) → w < length ks → kept_cells (changed ks w (paid c s u)) v ≡ kept_cells ks v + (if eqb w v then c else 0)
+cells_paid_own [] w c s u v lt = absurd (omega (arith, lt))
+cells_paid_own (k ∷ ks) zero c s u zero lt = ap (λ b. k.cells + (if b then c else 0)) (sym zero_self)
+  where
+    zero_self : eqb 0 0 ≡ true
+    zero_self = refl
+cells_paid_own (k ∷ ks) zero c s u (suc v) lt = sym (ap (λ b. kept_cells ks v + (if b then c else 0)) (apart v) ∙ add_zero)
+  where
+    apart : (v : ℕ) → eqb 0 (suc v) ≡ false
+    apart v = grind (arith, nat_tests)
+
+    add_zero : kept_cells ks v + 0 ≡ kept_cells ks v
+    add_zero = omega arith
+cells_paid_own (k ∷ ks) (suc w) c s u zero lt = sym (ap (λ b. k.cells + (if b then c else 0)) (apart w) ∙ add_zero)
+  where
+    apart : (w : ℕ) → eqb (suc w) 0 ≡ false
+    apart w = grind (arith, nat_tests)
+
+    add_zero : k.cells + 0 ≡ k.cells
+    add_zero = omega arith
+cells_paid_own (k ∷ ks) (suc w) c s u (suc v) lt = cells_paid_own ks w c s u v (omega (arith, lt)) ∙ ap (λ b. kept_cells ks v + (if b then c else 0)) (sucs w v)
+  where
+    sucs : (w v : ℕ) → eqb w v ≡ eqb (suc w) (suc v)
+    sucs w v = by (eqb w v) refl
+      where
+        by : (b : Bool) → eqb w v ≡ b → b ≡ eqb (suc w) (suc v)
+        by true e = grind (arith, nat_tests, e)
+        by false e = grind (arith, nat_tests, e)
+
+-- a shape with one cell more
+pub shape_added : (names new : List (List ℕ)) (cs after : List Raw) (raws : List (ℕ × ℕ)) (kept counts : List Counts) (h : Head) (w c s : ℕ) → IsShape names cs raws kept → w < 32 → IsBase new after → AreHost (cells_of new after) → heads after ≡ heads cs ++ h ∷ [] → node_in h.form ≡ None → ((v : ℕ) → (if own_head v h then 1 else 0) ≡ (if eqb w v then c else 0)) → AreWithin counts → counts ≡ changed kept w (paid c s 0) → IsShape new after raws counts
+shape_added names new cs after raws kept counts h w c s shape lt base host hs none own within e = record {
+  base = base;
+  host = host;
+  nodes = subst (λ (l : List Head). AreRaws l raws) (sym hs) (raws_push (heads cs) raws h shape.nodes none);
+  counted = ap length e ∙ length-changed kept w (paid c s 0) ∙ shape.counted;
+  within = within;
+  exact = λ v g.
+      ap (λ (ks : List Counts). kept_cells ks v) e ∙ cells_paid_own kept w c s 0 v (omega (arith, lt, shape.counted)) ∙ ap (λ n. n + (if eqb w v then c else 0)) (shape.exact v g) ∙ ap (λ n. count_all (own_head v) (heads cs) + n) (sym (own v))
+      ∙ sym (ap (count_all (own_head v)) hs ∙ count_all-push (own_head v) (heads cs) h);
+}

@@ -1,0 +1,120 @@
+-- The shape of a new store.
+use Rattle.std.proofs.Common.{◌≡◌, ℕ, zero, suc, ◌+◌, ◌<◌, ◌≤◌, List, [], ◌∷◌, ◌++◌, length, map, refl, sym, ap, ◌∙◌, subst, Option, Some, None, arith, Bool, true, false, eqb, if◌then◌else◌, slice_get}
+use Rattle.std.specs.Prelude.{replicate, ◌&&◌}
+use Rattle.std.specs.List.{list_all}
+use Rattle.std.specs.Map.{lookup}
+use Rattle.code_units.specs.Interned.{IsTable}
+use Rattle.object_store.specs.declared.cell.Head.{Head}
+use Rattle.object_store.specs.declared.kind.Form.{Form}
+use Rattle.object_store.specs.declared.kind.Form.TheVariants as form
+use Rattle.object_store.specs.declared.native.NativeId.TheVariants as native
+use Rattle.object_store.specs.declared.store.Counts.{Counts}
+use Rattle.object_store.specs.Lists.{count_all}
+use Rattle.object_store.specs.Numbered.{Raw, cells_of, heads, own_head, node_head}
+use Rattle.object_store.specs.Host.{AreHost, host_cells, host_count, homed, native_gift, nothing_paid}
+use Rattle.object_store.specs.Bare.{host_head, host_raw, bare_raws, is_host_form, no_arrays, with_gifts, reference_gifts, AreFirst}
+use Rattle.object_store.specs.Shape.{AreWords, AreOrdered, AreRaws, AreWithin, IsBase, IsShape}
+use Rattle.object_store.specs.Cells.{PlainCell, kept_cells}
+use Rattle.object_store.proofs.Lists.{none_some}
+use Rattle.object_store.proofs.Adds.{ordered_push, raws_push, raws_node}
+use Rattle.object_store.proofs.Makes.{node_head_ordered}
+use Rattle.object_store.proofs.Bares.{ordered_group, raws_group, is_empty_cell, are_empty, empty_fine, none_paid, within_none}
+
+-- the forms of the natives
+abbrev native_forms : List Form
+native_forms = form.Native native.Bubble ∷ map (λ r. form.Native r.2) homed
+
+abbrev globals : List Head
+globals = host_head None 0 form.Global ∷ []
+
+abbrev upto_object : List Head
+upto_object = (globals ++ node_head 0 ∷ []) ++ map (host_head None 0) (form.Object ∷ [])
+
+abbrev upto_text : List Head
+upto_text = upto_object ++ map (host_head (Some 2) 1) (form.Object ∷ form.Object ∷ form.Object ∷ form.Object ∷ [])
+
+abbrev upto_boolean : List Head
+upto_boolean = upto_text ++ map (host_head None 0) (form.Object ∷ form.Object ∷ [])
+
+abbrev upto_dom : List Head
+upto_dom = upto_boolean ++ map (host_head (Some 2) 1) (form.Object ∷ form.Object ∷ form.Object ∷ [])
+
+none_ordered : AreOrdered []
+none_ordered = record { each = λ i h e. absurd (none_some e) }
+
+none_raws : AreRaws [] []
+none_raws = record {
+  found = λ n. refl;
+  one = λ i n h e g. absurd (none_some e);
+}
+
+pub bare_ordered : AreOrdered (heads bare_raws)
+unfolding bare_raws
+bare_ordered =
+    let a = ordered_group [] None 0 (form.Global ∷ []) none_ordered refl refl in
+    let b = ordered_push globals (node_head 0) a (node_head_ordered globals 0) in
+    let d = ordered_group (globals ++ node_head 0 ∷ []) None 0 (form.Object ∷ []) b refl refl in
+    let e = ordered_group upto_object (Some 2) 1 (form.Object ∷ form.Object ∷ form.Object ∷ form.Object ∷ []) d refl (omega arith, refl, refl, omega arith, omega arith) in
+    let f = ordered_group upto_text None 0 (form.Object ∷ form.Object ∷ []) e refl refl in
+    let g = ordered_group upto_boolean (Some 2) 1 (form.Object ∷ form.Object ∷ form.Object ∷ []) f refl (omega arith, refl, refl, omega arith, omega arith) in
+    ordered_group upto_dom (Some 4) 2 native_forms g refl (omega arith, refl, refl, omega arith, omega arith)
+
+pub bare_nodes : AreRaws (heads bare_raws) ((0, 1) ∷ [])
+unfolding bare_raws
+bare_nodes =
+    let a = raws_group [] [] None 0 (form.Global ∷ []) none_raws refl in
+    let b = raws_node globals [] 0 a refl in
+    let d = raws_group (globals ++ node_head 0 ∷ []) ((0, 1) ∷ []) None 0 (form.Object ∷ []) b refl in
+    let e = raws_group upto_object ((0, 1) ∷ []) (Some 2) 1 (form.Object ∷ form.Object ∷ form.Object ∷ form.Object ∷ []) d refl in
+    let f = raws_group upto_text ((0, 1) ∷ []) None 0 (form.Object ∷ form.Object ∷ []) e refl in
+    let g = raws_group upto_boolean ((0, 1) ∷ []) (Some 2) 1 (form.Object ∷ form.Object ∷ form.Object ∷ []) f refl in
+    raws_group upto_dom ((0, 1) ∷ []) (Some 4) 2 native_forms g refl
+
+all_empty : list_all is_empty_cell bare_raws ≡ true
+unfolding bare_raws
+all_empty = refl
+
+pub bare_base : (names : List (List ℕ)) → IsTable names → AreWords names → IsBase names bare_raws
+bare_base names table words = record {
+  table = table;
+  words = words;
+  fine = empty_fine names (length bare_raws) bare_raws (are_empty bare_raws all_empty);
+  ordered = bare_ordered;
+}
+
+pub bare_plain : no_arrays (heads bare_raws) ≡ true
+unfolding bare_raws
+bare_plain = refl
+
+pub bare_length : length bare_raws ≡ host_count
+unfolding bare_raws
+bare_length = refl
+
+host_length : length host_cells ≡ host_count
+unfolding host_cells
+host_length = refl
+
+pub first_host : (cells : List PlainCell) → cells ≡ host_cells → AreHost cells
+first_host cells e = record {
+  enough = omega (arith, ap length e, host_length);
+  same = λ i lt. ap (λ l. slice_get l i) e;
+}
+
+no_own : (w : ℕ) → count_all (own_head w) (heads bare_raws) ≡ 0
+unfolding bare_raws
+no_own w = refl
+
+pub first_shape : (names : List (List ℕ)) (cs : List Raw) (raws : List (ℕ × ℕ)) (kept : List Counts) → AreFirst names cs → raws ≡ (0, 1) ∷ [] → kept ≡ replicate 32 nothing_paid → IsShape names cs raws kept
+first_shape names cs raws kept first e g = record {
+  base = first.base;
+  host = first_host (cells_of names cs) first.done;
+  nodes = subst (λ (l : List Head). AreRaws l raws) (sym first.heads) (subst (λ (r : List (ℕ × ℕ)). AreRaws (heads bare_raws) r) (sym e) bare_nodes);
+  counted = ap length g;
+  within = subst AreWithin (sym g) (within_none 32);
+  exact = λ w lt. ap (λ (ks : List Counts). kept_cells ks w) g ∙ none_paid 32 w ∙ sym (ap (count_all (own_head w)) first.heads ∙ no_own w);
+}
+
+-- the gifts give the host's cells
+pub first_gifts : (names : List (List ℕ)) → with_gifts (map native_gift homed) reference_gifts (cells_of names bare_raws) ≡ host_cells
+unfolding with_gifts host_cells bare_raws
+first_gifts names = refl

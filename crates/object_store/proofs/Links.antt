@@ -1,0 +1,38 @@
+-- What every cell keeps, in plain data.
+use Rattle.std.proofs.Common.{◌≡◌, ℕ, ◌<◌, List, [], ◌∷◌, length, refl, sym, ap, ◌∙◌, subst, Option, Some, None, arith, Bool, true, slice_get}
+use Rattle.std.specs.Prelude.{IfSome}
+use Rattle.std.specs.Option.{option_map}
+use Rattle.std.proofs.lemmas.Option.{slice_get-map}
+use Rattle.std.proofs.lemmas.List.{length-map}
+use Rattle.object_store.specs.declared.value.Value.{Value}
+use Rattle.object_store.specs.Cells.{PlainCell, is_scope, is_scope_at}
+use Rattle.object_store.specs.Numbered.{Raw, plain, named, cells_of, heads}
+use Rattle.object_store.specs.Shape.{AreEntries, AreRefs, IsBase, IsLinked, scope_at, scope_in}
+use Rattle.object_store.proofs.Lists.{some_same, get_within}
+use Rattle.object_store.proofs.Heads.{head_at, some_at, scope_same}
+use Rattle.object_store.proofs.Writes.{fine_at}
+
+named_refs : (names : List (List ℕ)) (n size : ℕ) (es : List (ℕ × Value)) → AreEntries n size es → AreRefs size (named names es)
+named_refs names n size [] h = tt
+named_refs names n size (e ∷ es) h = (h.1, named_refs names n size es h.2)
+
+module _ (names : List (List ℕ)) (cs : List Raw) (base : IsBase names cs) where
+  up_plain : (i : ℕ) (b : Bool) (o : Option ℕ) → IfSome o (λ j. (j < i) × (scope_at (heads cs) j ≡ b)) → IfSome o (λ j. (j < i) × (is_scope_at (cells_of names cs) j ≡ b))
+  up_plain i b None h = tt
+  up_plain i b (Some j) h = (h.0, scope_same names cs j ∙ h.1)
+
+  linked_raw : (i : ℕ) (c : Raw) → slice_get cs i ≡ Some c → IsLinked (cells_of names cs) i (plain names c)
+  linked_raw i c at =
+      let o = base.ordered.each i c.head (head_at cs i c at) in
+      record {
+        refs = subst (λ n. AreRefs n (named names c.entries)) (sym (length-map cs (plain names))) (named_refs names (length names) (length cs) c.entries (fine_at names (length cs) cs i c base.fine at).entries);
+        up = up_plain i (is_scope c.head.form) c.head.up o.up;
+        scope = up_plain i true (scope_in c.head.form) o.scope;
+      }
+
+  pub linked : (i : ℕ) (c : PlainCell) → slice_get (cells_of names cs) i ≡ Some c → IsLinked (cells_of names cs) i c
+  linked i c at =
+      let lt : i < length cs = omega (arith, get_within (cells_of names cs) i c at, length-map cs (plain names)) in
+      let k = some_at cs i lt in
+      let is : plain names k.0 ≡ c = some_same (plain names k.0) c (sym (slice_get-map (plain names) cs i ∙ ap (option_map (plain names)) k.1) ∙ at) in
+      subst (λ (d : PlainCell). IsLinked (cells_of names cs) i d) is (linked_raw i k.0 k.1)

@@ -1,0 +1,192 @@
+-- A name is taken out; a variable is written.
+use Rattle.std.proofs.Common.{◌≡◌, ℕ, zero, suc, ◌<◌, ◌≤◌, List, [], ◌∷◌, length, refl, sym, ap, ◌∙◌, subst, Option, Some, None, Bool, true, false, eqb, cond, if◌then◌else◌, not, is_some, slice_get}
+use Rattle.std.specs.Prelude.{◌&&◌, IfSome}
+use Rattle.std.specs.Option.{option_map, option_map_or, option_and_then}
+use Rattle.std.specs.List.{list_any}
+use Rattle.std.specs.Map.{lookup, remove_entry}
+use Rattle.std.specs.Str.{bytes_eq}
+use Rattle.std.proofs.lemmas.Option.{slice_get-map, get_or_from_slice_get, slice_get_within}
+use Rattle.code_units.proofs.Interning.{same_test, none_test}
+use Rattle.object_store.specs.declared.value.Value.{Value}
+use Rattle.object_store.specs.declared.cell.Head.{Head}
+use Rattle.object_store.specs.declared.store.Counts.{Counts}
+use Rattle.object_store.specs.declared.store.StoreFault.TheVariants as fault
+use Rattle.object_store.specs.Lists.{changed, climb, count_all}
+use Rattle.object_store.specs.Cells.{PlainCell, Cells, is_array, is_scope, holder, writer_in, widget_of, is_scope_at}
+use Rattle.object_store.specs.Arrays.{length_in, length_name, written}
+use Rattle.object_store.specs.Numbered.{Raw, plain, named, cells_of, heads, own_head, raw_without, raw_held, raw_has, raw_has_at, raw_holder}
+use Rattle.object_store.specs.Host.{AreHost}
+use Rattle.object_store.specs.Shape.{AreKnown, IsBase, IsFine, IsShape, AreRaws, IsRefWithin, Wrote, scope_at}
+use Rattle.object_store.specs.Calls.{without, is_length_of, is_closed, remove_refusal, removed, remove_done, var_done}
+use Rattle.object_store.proofs.Lists.{none_some, some_same, changed_alike}
+use Rattle.object_store.proofs.Look.{known_entries, known_cells, known_at, remove_named, remove_never, insert_named, holder_same, holder_never, climb_has}
+use Rattle.object_store.proofs.Entries.{entries_remove, entries_insert, below_remove, lookup_removed}
+use Rattle.object_store.proofs.Writes.{changed_base, changed_cells, changed_heads, not_length, here}
+use Rattle.object_store.proofs.Heads.{holder_scope, scope_form, scope_no_array, scope_same, head_at}
+use Rattle.object_store.proofs.Hosts.{host_changed}
+use Rattle.object_store.proofs.Puts.{seen}
+
+-- a shape after a call that pays nothing
+pub shape_same : (names : List (List ℕ)) (cs after : List Raw) (raws : List (ℕ × ℕ)) (kept : List Counts) → IsShape names cs raws kept → IsBase names after → AreHost (cells_of names after) → heads after ≡ heads cs → IsShape names after raws kept
+shape_same names cs after raws kept shape base host same = record {
+  base = base;
+  host = host;
+  nodes = subst (λ (hs : List Head). AreRaws hs raws) (sym same) shape.nodes;
+  counted = shape.counted;
+  within = shape.within;
+  exact = λ w lt. shape.exact w lt ∙ ap (count_all (own_head w)) (sym same);
+}
+
+-- both hold, or one fails
+second_false : (a b : Bool) → (a && b) ≡ false → a ≡ true → b ≡ false
+second_false true b h g = h
+second_false false b h g = absurd (false_true g)
+  where
+    false_true : false ≡ true → ⊥
+    false_true g = cc
+
+module _ (names : List (List ℕ)) (cs : List Raw) (base : IsBase names cs) (i : ℕ) (name : List ℕ) (n : ℕ) (at : slice_get names n ≡ Some name) where
+  pub took : ((c : Raw) → slice_get cs i ≡ Some c → (is_array c.head.form && bytes_eq name length_name) ≡ false) → (after : List Raw) → after ≡ changed cs i (raw_without n) → Wrote names cs names after i (without name)
+  took kept after e = record {
+    done = ap (cells_of names) e ∙ changed_cells names cs base i (raw_without n) (λ c. refl) (without name) alike;
+    base = subst (IsBase names) (sym e) (changed_base names cs base i (raw_without n) (λ c. refl) fine);
+    heads = ap heads e ∙ changed_heads names cs base i (raw_without n) (λ c. refl);
+  }
+    where
+      alike : (c : Raw) → slice_get cs i ≡ Some c → IsFine names (length cs) c → plain names (raw_without n c) ≡ without name (plain names c)
+      alike c g fine =
+          let p = remove_named names name n (same_test names name n base.table at) c.entries (known_entries (length names) (length cs) c.entries fine.entries) in
+          (λ j. record { owner = c.head.owner; form = c.head.form; up = c.head.up; pairs = p j })
+          ∙ sym (ap (λ b. let d : PlainCell = if b then plain names c else record { owner = c.head.owner; form = c.head.form; up = c.head.up; pairs = remove_entry (bytes_eq name) (named names c.entries) } in d) (kept c g))
+
+      fine : (c : Raw) → slice_get cs i ≡ Some c → IsFine names (length cs) c → IsFine names (length cs) (raw_without n c)
+      fine c g h = record {
+        entries = entries_remove (length names) (length cs) n c.entries h.entries;
+        array = λ a. record {
+          length = ap (λ (o : Option Value). is_some (option_and_then length_in o)) (lookup_removed 0 n c.entries (not_length names base.table base.words name n at (slice_get_within names n name at) (second_false (is_array c.head.form) (bytes_eq name length_name) (kept c g) a))) ∙ (h.array a).length;
+          below = below_remove names c.top n c.entries (h.array a).below;
+        };
+      }
+
+-- what `remove` answers
+module _ (s : Cells) (names : List (List ℕ)) (cs : List Raw) {raws : List (ℕ × ℕ)} (kept : List Counts) (view : (let c : Cells = record { cells = cells_of names cs; kept = kept } in c ≡ s)) (shape : IsShape names cs raws kept) (i : ℕ) (c : Raw) (at : slice_get cs i ≡ Some c) (w : ℕ) (writer : writer_in c.head.owner c.head.form ≡ Some w) (name : List ℕ) where
+  is_open : remove_refusal s i ≡ None
+  is_open = ap (λ (o : Option PlainCell). option_map_or (λ d. if is_closed d then Some fault.Closed else None) o None) (seen s names cs kept view shape i c at) ∙ ap (λ (o : Option ℕ). if not (is_some o) then Some fault.Closed else None) writer
+
+  removed_is : removed s i name ≡ not (is_length_of name (plain names c))
+  removed_is = ap (λ (o : Option PlainCell). option_map_or (λ d. not (is_length_of name d)) o true) (seen s names cs kept view shape i c at)
+
+  -- nothing to take out
+  unchanged : without name (plain names c) ≡ plain names c → s ≡ remove_done s i name
+  unchanged same =
+      let is : changed s.cells i (without name) ≡ s.cells = changed_alike s.cells i (without name) (λ d. d) (λ d g. let e : d ≡ plain names c = some_same d (plain names c) (sym g ∙ seen s names cs kept view shape i c at) in ap (without name) e ∙ same ∙ sym e) ∙ changed_id s.cells i in
+      λ j. record { cells = sym is j; kept = s.kept }
+    where
+      changed_id : {X : Type 0} (xs : List X) (i : ℕ) → changed xs i (λ x. x) ≡ xs
+      changed_id [] i = refl
+      changed_id (x ∷ xs) zero = refl
+      changed_id (x ∷ xs) (suc i) = ap (λ l. x ∷ l) (changed_id xs i)
+
+  pub remove_length : true ≡ (is_array c.head.form && bytes_eq name length_name) → (remove_refusal s i ≡ None) × (false ≡ removed s i name) × (s ≡ remove_done s i name)
+  remove_length is = (
+    is_open,
+    ap not is ∙ sym removed_is,
+    unchanged (ap (λ b. let d : PlainCell = if b then plain names c else record { owner = c.head.owner; form = c.head.form; up = c.head.up; pairs = remove_entry (bytes_eq name) (named names c.entries) } in d) (sym is)),
+  )
+
+  pub remove_unknown : false ≡ (is_array c.head.form && bytes_eq name length_name) → list_any (bytes_eq name) names ≡ false → (remove_refusal s i ≡ None) × (true ≡ removed s i name) × (s ≡ remove_done s i name)
+  remove_unknown is none =
+      let known = known_at (length names) cs i c (known_cells names (length cs) cs shape.base.fine) at in
+      let p = remove_never names name (none_test names name none) c.entries known in (
+        is_open,
+        ap not is ∙ sym removed_is,
+        unchanged (ap (λ b. let d : PlainCell = if b then plain names c else record { owner = c.head.owner; form = c.head.form; up = c.head.up; pairs = remove_entry (bytes_eq name) (named names c.entries) } in d) (sym is) ∙ (λ j. record { owner = c.head.owner; form = c.head.form; up = c.head.up; pairs = p j })),
+      )
+
+  pub remove_known : false ≡ (is_array c.head.form && bytes_eq name length_name) → (after : List Raw) → Wrote names cs names after i (without name) → (remove_refusal s i ≡ None) × (true ≡ removed s i name) × (let d : Cells = record { cells = cells_of names after; kept = kept } in d ≡ remove_done s i name)
+  remove_known is after wrote = (
+    is_open,
+    ap not is ∙ sym removed_is,
+    (λ j. record { cells = wrote.done j; kept = kept }) ∙ ap (λ (t : Cells). remove_done t i name) view,
+  )
+
+-- a variable is written
+module _ (names : List (List ℕ)) (cs : List Raw) (base : IsBase names cs) (from i : ℕ) (scope : scope_at (heads cs) from ≡ true) (name : List ℕ) (n : ℕ) (at : slice_get names n ≡ Some name) (within : n < length names) (found : raw_holder cs from n ≡ Some i) where
+  pub has_variable : (c : Raw) → slice_get cs i ≡ Some c → is_some (lookup (eqb n) c.entries) ≡ true
+  has_variable c g = sym (ap (λ (o : Option Raw). option_map_or (raw_has n) o false) g) ∙ climb_has n (length cs) cs (Some from) i found
+
+  pub wrote_variable : (v : Value) → IsRefWithin (length cs) v → (after : List Raw) → after ≡ changed cs i (raw_held n v) → Wrote names cs names after i (written name v)
+  wrote_variable v ref after e = record {
+    done = ap (cells_of names) e ∙ changed_cells names cs base i (raw_held n v) (λ c. refl) (written name v) alike;
+    base = subst (IsBase names) (sym e) (changed_base names cs base i (raw_held n v) (λ c. refl) fine);
+    heads = ap heads e ∙ changed_heads names cs base i (raw_held n v) (λ c. refl);
+  }
+    where
+      alike : (c : Raw) → slice_get cs i ≡ Some c → IsFine names (length cs) c → plain names (raw_held n v c) ≡ written name v (plain names c)
+      alike c g fine =
+          let p = insert_named names name n (same_test names name n base.table at) c.entries v (known_entries (length names) (length cs) c.entries fine.entries) (get_or_from_slice_get names n name [] at) in
+          λ j. record { owner = c.head.owner; form = c.head.form; up = c.head.up; pairs = p j }
+
+      fine : (c : Raw) → slice_get cs i ≡ Some c → IsFine names (length cs) c → IsFine names (length cs) (raw_held n v c)
+      fine c g h = record {
+        entries = entries_insert (length names) (length cs) n v c.entries h.entries within ref;
+        array = λ a. absurd (scope_no_array c.head.form (scope_form names cs base.ordered i c g (holder_scope names cs base.ordered n from i scope found)) a);
+      }
+
+-- what `var_set` answers
+module _ (s : Cells) (names : List (List ℕ)) (cs : List Raw) {raws : List (ℕ × ℕ)} (kept : List Counts) (view : (let c : Cells = record { cells = cells_of names cs; kept = kept } in c ≡ s)) (shape : IsShape names cs raws kept) (name : List ℕ) (from : ℕ) where
+  holder_is : holder s.cells from name ≡ holder (cells_of names cs) from name
+  holder_is = ap (λ (t : Cells). holder t.cells from name) (sym view)
+
+  known : AreKnown (length names) cs
+  known = known_cells names (length cs) cs shape.base.fine
+
+  pub held_is : (n : ℕ) → slice_get names n ≡ Some name → raw_holder cs from n ≡ holder s.cells from name
+  held_is n at = holder_same names name n (same_test names name n shape.base.table at) cs known from ∙ sym holder_is
+
+  pub var_found_none : holder s.cells from name ≡ None → false ≡ is_some (holder s.cells from name)
+  var_found_none e = sym (ap is_some e)
+
+  pub var_done_none : (v : Value) → holder s.cells from name ≡ None → s ≡ var_done s from name v
+  var_done_none v e = λ j. record { cells = sym (ap (λ o. option_map_or (λ h. changed s.cells h (written name v)) o s.cells) e) j; kept = s.kept }
+
+  pub unknown : list_any (bytes_eq name) names ≡ false → holder s.cells from name ≡ None
+  unknown none = holder_is ∙ holder_never names name (none_test names name none) cs known from
+
+  pub unheld : (n : ℕ) → slice_get names n ≡ Some name → raw_holder cs from n ≡ None → holder s.cells from name ≡ None
+  unheld n at e = sym (held_is n at) ∙ e
+
+  pub from_scope : is_scope_at s.cells from ≡ true → scope_at (heads cs) from ≡ true
+  from_scope e = sym (scope_same names cs from) ∙ ap (λ (t : Cells). is_scope_at t.cells from) view ∙ e
+
+  pub var_written : (v : Value) (n h : ℕ) (after : List Raw) → slice_get names n ≡ Some name → raw_holder cs from n ≡ Some h → Wrote names cs names after h (written name v) → (let d : Cells = record { cells = cells_of names after; kept = kept } in d ≡ var_done s from name v)
+  var_written v n h after at held wrote =
+      let found : holder (cells_of names cs) from name ≡ Some h = sym holder_is ∙ sym (held_is n at) ∙ held in
+      (λ j. record { cells = (wrote.done ∙ sym (ap (λ o. option_map_or (λ k. changed (cells_of names cs) k (written name v)) o (cells_of names cs)) found)) j; kept = kept }) ∙ ap (λ (t : Cells). var_done t from name v) view
+
+  -- the written scope is a widget's
+  pub host_variable : (n h : ℕ) (f : PlainCell → PlainCell) (after : List Raw) → scope_at (heads cs) from ≡ true → raw_holder cs from n ≡ Some h → Wrote names cs names after h f → AreHost (cells_of names after)
+  host_variable n h f after scope held wrote = subst AreHost (sym wrote.done) (by (slice_get cs h) refl)
+    where
+      is_scope_h : scope_at (heads cs) h ≡ true
+      is_scope_h = holder_scope names cs shape.base.ordered n from h scope held
+
+      widget : (o : Option ℕ) → is_some o ≡ true → (w : ℕ) × (o ≡ Some w)
+      widget None e = absurd (false_true e)
+        where
+          false_true : false ≡ true → ⊥
+          false_true g = cc
+      widget (Some w) e = (w, refl)
+
+      no_cell : slice_get cs h ≡ None → raw_has_at cs h (Some n) ≡ true → ⊥
+      no_cell g e = false_true (sym (ap (λ (o : Option Raw). option_map_or (raw_has n) o false) g) ∙ e)
+        where
+          false_true : false ≡ true → ⊥
+          false_true g = cc
+
+      by : (o : Option Raw) → slice_get cs h ≡ o → AreHost (changed (cells_of names cs) h f)
+      by None g = absurd (no_cell g (climb_has n (length cs) cs (Some from) h held))
+      by (Some c) g =
+          let o = shape.base.ordered.each h c.head (head_at cs h c g) in
+          let k = widget (widget_of c.head.owner) (o.owned (scope_form names cs shape.base.ordered h c g is_scope_h)) in
+          host_changed (cells_of names cs) h (plain names c) k.0 f shape.host (slice_get-map (plain names) cs h ∙ ap (option_map (plain names)) g) k.1

@@ -1,0 +1,24 @@
+use Rattle.std.proofs.Common.{sym}
+use Rattle.object_store.specs.Calls.{units_refusal, slots_refusal}
+use Rattle.object_store.proofs.Charges.{charged_shape, charged_ok, charged_err, charged_same}
+use Rattle.object_store.proofs.store.Store.charge_units.Goals as goal
+
+pub invariant_of-self : goal.invariant_of-self
+invariant_of-self c =
+    let s = c.self in
+    charged_shape c.args.self.now s.inside.names s.inside.cells.items s.inside.kept.items s.view_is s.invariant c.charge_units.new.kept.items c.widget.result _ 0 c.args.n c.widget.ensures (λ ks w. units_refusal ks w c.args.n) c.charge_units.result c.charge_units.ensures.done c.charge_units.ensures.same c.charge_units.ensures.within
+
+pub returns-clause-ok : goal.returns-clause-ok
+returns-clause-ok c =
+    let s = c.self in
+    charged_ok c.args.self.now s.inside.names s.inside.cells.items s.inside.kept.items s.view_is s.invariant c.charge_units.new.kept.items c.widget.result _ 0 c.args.n c.widget.ensures (λ ks w. units_refusal ks w c.args.n) c.charge_units.result c.charge_units.ensures.ok c.charge_units.ensures.done
+
+pub returns-clause-err : goal.returns-clause-err
+returns-clause-err c =
+    let s = c.self in
+    charged_err c.args.self.now s.inside.names s.inside.cells.items s.inside.kept.items s.view_is s.invariant c.charge_units.new.kept.items c.widget.result _ 0 c.args.n c.widget.ensures (λ ks w. units_refusal ks w c.args.n) c.charge_units.result c.charge_units.ensures.err
+
+pub returns-clause-same : goal.returns-clause-same
+returns-clause-same c =
+    let s = c.self in
+    charged_same c.args.self.now s.inside.names s.inside.cells.items s.inside.kept.items s.view_is s.invariant c.charge_units.new.kept.items c.widget.result _ 0 c.args.n c.widget.ensures (λ ks w. units_refusal ks w c.args.n) c.charge_units.result c.charge_units.ensures.same

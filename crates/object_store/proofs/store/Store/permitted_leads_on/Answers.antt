@@ -1,0 +1,10 @@
+use Rattle.std.proofs.Common.{subst}
+use Rattle.object_store.specs.Cells.{Cells}
+use Rattle.object_store.specs.Host.{AreHost}
+use Rattle.object_store.proofs.Protos.{permitted_leads}
+use Rattle.object_store.proofs.store.Store.permitted_leads_on.Goals as goal
+
+pub returns : goal.returns
+returns c =
+    let s = c.self in
+    permitted_leads c.args.self.now.cells (subst (λ (t : Cells). AreHost t.cells) s.view_is s.invariant.host)

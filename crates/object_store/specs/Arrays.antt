@@ -1,0 +1,66 @@
+-- Arrays: one pair under `length`, and names that are indices.
+use Rattle.std.specs.Prelude.{◌≡◌, ◌≤◌, ℕ, ◌+◌, Bool, true, false, List, [], ◌∷◌, Option, None, Some, nat_lt, nat_le, pos, filter, if◌then◌else◌}
+use Rattle.std.specs.Option.{option_map_or, option_and_then}
+use Rattle.std.specs.Str.{bytes_eq}
+use Rattle.indexmap.specs.IndexMap.{insert_entry}
+use Rattle.object_store.specs.Indices.{index_of}
+use Rattle.object_store.specs.declared.value.Value.{Value}
+use Rattle.object_store.specs.declared.value.Value.TheVariants as value
+use Rattle.object_store.specs.declared.value.Number.TheVariants as number
+use Rattle.object_store.specs.Cells.{PlainCell, value_of, is_array}
+
+-- `length`
+abbrev pub length_name : List ℕ
+length_name = 108 ∷ 101 ∷ 110 ∷ 103 ∷ 116 ∷ 104 ∷ []
+
+-- `___nodes___`
+abbrev pub nodes_name : List ℕ
+nodes_name = 95 ∷ 95 ∷ 95 ∷ 110 ∷ 111 ∷ 100 ∷ 101 ∷ 115 ∷ 95 ∷ 95 ∷ 95 ∷ []
+
+-- a count as a value
+abbrev pub count_value : ℕ → Value
+count_value n = value.Num (number.Whole (pos n))
+
+-- the length that a value is: a whole number from 0 to 4294967295
+abbrev pub length_in : Value → Option ℕ
+length_in (value.Num (number.Whole (pos n))) = if nat_le n 4294967295 then Some n else None
+length_in _ = None
+
+-- an Array's length
+abbrev pub length_of : List (List ℕ × Value) → ℕ
+length_of pairs = option_map_or (λ n. n) (option_and_then length_in (value_of pairs length_name)) 0
+
+-- the name is no index from n on
+abbrev pub is_below : ℕ → List ℕ → Bool
+is_below n name = option_map_or (λ i. nat_lt i n) (index_of name) true
+
+-- a name keeps its place, and a new one goes last
+abbrev pub written : List ℕ → Value → PlainCell → PlainCell
+written name v c = record c { pairs = insert_entry bytes_eq c.pairs name v }
+
+-- without the elements from n on
+abbrev pub cut : ℕ → PlainCell → PlainCell
+cut n c = record c { pairs = filter (λ p. is_below n p.0) c.pairs }
+
+-- a write under `length` takes out the elements past it
+abbrev pub resized : Value → PlainCell → PlainCell
+resized v c = option_map_or (λ n. cut n (written length_name v c)) (length_in v) c
+
+-- a write of an element at or past the length raises it
+abbrev pub extended : List ℕ → Value → ℕ → PlainCell → PlainCell
+extended name v i c = written length_name (count_value (i + 1)) (written name v c)
+
+-- a write under the name of an element
+abbrev pub placed : List ℕ → Value → PlainCell → Option ℕ → PlainCell
+placed name v c None = written name v c
+placed name v c (Some i) = if nat_lt i (length_of c.pairs) then written name v c else extended name v i c
+
+-- a write under a name
+abbrev pub stored : List ℕ → Value → PlainCell → PlainCell
+stored name v c =
+    if is_array c.form then (if bytes_eq name length_name then resized v c else placed name v c (index_of name)) else written name v c
+
+-- a length that is none
+abbrev pub is_bad_length : List ℕ → Value → PlainCell → Bool
+is_bad_length name v c =
+    if is_array c.form then (if bytes_eq name length_name then option_map_or (λ n. false) (length_in v) true else false) else false

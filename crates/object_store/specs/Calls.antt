@@ -1,0 +1,181 @@
+-- What each call of the store does, and when it refuses.
+use Rattle.std.specs.Prelude.{◌≡◌, ℕ, zero, suc, ◌+◌, ◌<◌, ◌≤◌, Bool, true, false, List, [], ◌∷◌, ◌++◌, Option, None, Some, is_some, if◌then◌else◌, nat_le, nat_lt, nat_eq, not, ◌&&◌, length, slice_get, map, fold, filter, unwrap_or, IfSome}
+use Rattle.std.specs.List.{IsDistinct}
+use Rattle.std.specs.Option.{option_map_or, option_and_then}
+use Rattle.std.specs.Map.{remove_entry}
+use Rattle.std.specs.Str.{bytes_eq}
+use Rattle.code_units.specs.declared.owner.Owner.{Owner}
+use Rattle.code_units.specs.declared.owner.Owner.TheVariants as whose
+use Rattle.code_units.specs.Permitted.{is_permitted}
+use Rattle.object_store.specs.declared.value.Value.{Value}
+use Rattle.object_store.specs.declared.value.Value.TheVariants as value
+use Rattle.object_store.specs.declared.kind.Form.{Form}
+use Rattle.object_store.specs.declared.kind.Form.TheVariants as form
+use Rattle.object_store.specs.declared.store.Counts.{Counts}
+use Rattle.object_store.specs.declared.store.NewCell.{NewCell}
+use Rattle.object_store.specs.declared.store.NewCell.TheVariants as new
+use Rattle.object_store.specs.declared.store.StoreFault.{StoreFault}
+use Rattle.object_store.specs.declared.store.StoreFault.TheVariants as fault
+use Rattle.object_store.specs.declared.store.TheConstants.{CELL_LIMIT, SLOT_LIMIT, UNIT_LIMIT}
+use Rattle.object_store.specs.Lists.{changed}
+use Rattle.object_store.specs.Cells.{Cells, PlainCell, is_scope_at, prototypes, kept_cells, raw_cell, has_own, own_count, widget_of, is_visible_form, holder, writer_in, is_scope, is_array, node_in}
+use Rattle.object_store.specs.Arrays.{length_name, count_value, written, stored, is_bad_length}
+
+-- Want of memory may come at any time, and each other fault exactly where the call's refusal says so.
+abbrev pub Refuses : StoreFault → Option StoreFault → Type 0
+Refuses fault.Memory r = Unit {0}
+Refuses f r = r ≡ Some f
+
+-- the slots of a widget
+abbrev pub kept_slots : List Counts → ℕ → ℕ
+kept_slots kept w = option_map_or (λ k. k.slots) (slice_get kept w) 0
+
+abbrev pub kept_units : List Counts → ℕ → ℕ
+kept_units kept w = option_map_or (λ k. k.units) (slice_get kept w) 0
+
+-- what is paid
+abbrev pub paid : ℕ → ℕ → ℕ → Counts → Counts
+paid c s u k = record { cells = k.cells + c; slots = k.slots + s; units = k.units + u }
+
+-- `Cells` comes before `Slots`, each exactly where the kept count plus the cost passes the limit
+abbrev pub cost_refusal : List Counts → ℕ → ℕ → ℕ → Option StoreFault
+cost_refusal kept w c s =
+    if nat_lt CELL_LIMIT (kept_cells kept w + c) then Some (fault.Cells (kept_cells kept w))
+    else (if nat_lt SLOT_LIMIT (kept_slots kept w + s) then Some (fault.Slots (kept_slots kept w)) else None)
+
+-- a new name costs a slot
+abbrev pub slots_for : List ℕ → PlainCell → ℕ
+slots_for name c = if has_own name c then 0 else 1
+
+-- `put`: `Closed` before `BadLength` before `Slots`
+abbrev pub put_refusal_of : List Counts → List ℕ → Value → PlainCell → Option StoreFault
+put_refusal_of kept name v c =
+    option_map_or (λ w. if is_bad_length name v c then Some fault.BadLength else cost_refusal kept w 0 (slots_for name c)) (writer_in c.owner c.form) (Some fault.Closed)
+
+abbrev pub put_refusal : Cells → ℕ → List ℕ → Value → Option StoreFault
+put_refusal s i name v = option_map_or (put_refusal_of s.kept name v) (slice_get s.cells i) None
+
+abbrev pub kept_after : List Counts → List ℕ → PlainCell → List Counts
+kept_after kept name c = option_map_or (λ w. changed kept w (paid 0 (slots_for name c) 0)) (writer_in c.owner c.form) kept
+
+abbrev pub put_done : Cells → ℕ → List ℕ → Value → Cells
+put_done s i name v = record {
+  cells = changed s.cells i (stored name v);
+  kept = option_map_or (kept_after s.kept name) (slice_get s.cells i) s.kept;
+}
+
+-- `remove`: false exactly for the `length` of an Array
+abbrev pub is_closed : PlainCell → Bool
+is_closed c = not (is_some (writer_in c.owner c.form))
+
+abbrev pub remove_refusal : Cells → ℕ → Option StoreFault
+remove_refusal s i = option_map_or (λ c. if is_closed c then Some fault.Closed else None) (slice_get s.cells i) None
+
+abbrev pub is_length_of : List ℕ → PlainCell → Bool
+is_length_of name c = is_array c.form && bytes_eq name length_name
+
+abbrev pub without : List ℕ → PlainCell → PlainCell
+without name c = if is_length_of name c then c else record c { pairs = remove_entry (bytes_eq name) c.pairs }
+
+abbrev pub removed : Cells → ℕ → List ℕ → Bool
+removed s i name = option_map_or (λ c. not (is_length_of name c)) (slice_get s.cells i) true
+
+abbrev pub remove_done : Cells → ℕ → List ℕ → Cells
+remove_done s i name = record { cells = changed s.cells i (without name); kept = s.kept }
+
+-- `keys`: the permitted names of a cell in order of insertion, without the `length` of an Array
+abbrev pub is_key : PlainCell → List ℕ → Bool
+is_key c name = is_permitted name && not (is_length_of name c)
+
+abbrev pub keys_of : PlainCell → List (List ℕ)
+keys_of c = filter (is_key c) (map (λ p. p.0) c.pairs)
+
+abbrev pub keys_at : List PlainCell → ℕ → List (List ℕ)
+keys_at cells i = option_map_or keys_of (slice_get cells i) []
+
+-- `var_set`: the value is written where the name is found
+abbrev pub var_done : Cells → ℕ → List ℕ → Value → Cells
+var_done s i name v = record s { cells = option_map_or (λ h. changed s.cells h (written name v)) (holder s.cells i name) s.cells }
+
+-- `charge_units` and `charge_slots`
+abbrev pub unit_cost : Cells → ℕ → ℕ → ℕ → Cells
+unit_cost s w n u = record { cells = s.cells; kept = changed s.kept w (paid 0 n u) }
+
+abbrev pub units_refusal : List Counts → ℕ → ℕ → Option StoreFault
+units_refusal kept w n = if nat_lt UNIT_LIMIT (kept_units kept w + n) then Some (fault.Units (kept_units kept w)) else None
+
+abbrev pub slots_refusal : List Counts → ℕ → ℕ → Option StoreFault
+slots_refusal kept w n = if nat_lt SLOT_LIMIT (kept_slots kept w + n) then Some (fault.Slots (kept_slots kept w)) else None
+
+-- `make`: the new cells go last, and their cost is paid
+abbrev pub made : Cells → ℕ → List PlainCell → ℕ → ℕ → Cells
+made s w born c n = record { cells = s.cells ++ born; kept = changed s.kept w (paid c n 0) }
+
+-- a cell on a prototype; an Array begins with its length
+abbrev pub first_pairs : Form → List (List ℕ × Value)
+first_pairs f = if is_array f then (length_name, count_value 0) ∷ [] else []
+
+abbrev pub new_cell : ℕ → Form → ℕ → PlainCell
+new_cell w f up = record { owner = whose.Widget w; form = f; up = Some up; pairs = first_pairs f }
+
+-- a scope has `undefined` under each of its names, in order
+abbrev pub bound : PlainCell → List ℕ → PlainCell
+bound c name = written name value.Undefined c
+
+abbrev pub scope_cell : ℕ → Option ℕ → List (List ℕ) → PlainCell
+scope_cell w outer names = fold bound (record { owner = whose.Widget w; form = form.Scope; up = outer; pairs = [] }) names
+
+-- a widget
+abbrev pub IsWidget : Owner → Type 0
+IsWidget whose.Host = ⊥
+IsWidget (whose.Widget w) = w < 32
+
+abbrev pub number_in : Owner → ℕ
+number_in o = unwrap_or (widget_of o) 0
+
+-- `own_number`: none exactly for a cell that is no visible cell of a widget
+abbrev pub own_number_of : List PlainCell → ℕ → PlainCell → Option ℕ
+own_number_of cells i c = option_and_then (λ w. if is_visible_form c.form then Some (own_count w cells i) else None) (widget_of c.owner)
+
+-- `add_raw`: the cell of a node
+abbrev pub is_raw_cell : ℕ → PlainCell → Bool
+is_raw_cell n c = option_map_or (λ m. nat_eq n m) (node_in c.form) false
+
+abbrev pub raw_place_from : ℕ → ℕ → List PlainCell → Option ℕ
+raw_place_from n k [] = None
+raw_place_from n k (c ∷ cs) = if is_raw_cell n c then Some k else raw_place_from n (suc k) cs
+
+abbrev pub raw_place : ℕ → List PlainCell → Option ℕ
+raw_place n cells = raw_place_from n 0 cells
+
+-- `make`, by what is made: an Array and a Function stand on their prototypes
+abbrev pub born : ℕ → NewCell → PlainCell
+born w (new.Object proto) = new_cell w form.Object proto
+born w new.Array = new_cell w form.Array 3
+born w (new.Function code fun scope) = new_cell w (form.Function (record { code = code; fun = fun; scope = scope })) 4
+born w (new.Scope outer names) = scope_cell w outer names.items
+
+-- its cost: a scope has no cell, and pays a slot and one for each name
+abbrev pub cells_for : NewCell → ℕ
+cells_for (new.Scope outer names) = 0
+cells_for _ = 1
+
+abbrev pub slots_of : NewCell → ℕ
+slots_of (new.Scope outer names) = length names.items + 1
+slots_of _ = 0
+
+abbrev pub make_refusal : Cells → ℕ → NewCell → Option StoreFault
+make_refusal s w n = cost_refusal s.kept w (cells_for n) (slots_of n)
+
+abbrev pub make_done : Cells → ℕ → NewCell → Cells
+make_done s w n = made s w (born w n ∷ []) (cells_for n) (slots_of n)
+
+-- what `make` asks: its cells exist, the chain of a prototype has room, and a scope's names differ
+abbrev pub IsScopeOf : List PlainCell → Option ℕ → Type 0
+IsScopeOf cells scope = IfSome scope (λ j. (j < length cells) × (is_scope_at cells j ≡ true))
+
+abbrev pub IsMakeable : List PlainCell → NewCell → Type 0
+IsMakeable cells (new.Object proto) = (proto < length cells) × (is_scope_at cells proto ≡ false) × (prototypes cells proto < 100)
+IsMakeable cells new.Array = Unit {0}
+IsMakeable cells (new.Function code fun scope) = IsScopeOf cells scope
+IsMakeable cells (new.Scope outer names) = IsScopeOf cells outer × IsDistinct bytes_eq names.items

@@ -1,0 +1,142 @@
+-- The store as plain data: a list of cells in the order of birth, and what each owner has paid.
+use Rattle.std.specs.Prelude.{◌≡◌, ℕ, zero, suc, ◌-◌, Bool, true, false, List, [], ◌∷◌, Option, None, Some, is_some, nat_eq, not, ◌&&◌, if◌then◌else◌, length, slice_get}
+use Rattle.std.specs.Option.{option_map_or, option_and_then}
+use Rattle.std.specs.Map.{lookup}
+use Rattle.std.specs.Str.{bytes_eq}
+use Rattle.code_units.specs.declared.owner.Owner.{Owner}
+use Rattle.code_units.specs.declared.owner.Owner.TheVariants as whose
+use Rattle.object_store.specs.declared.value.Value.{Value}
+use Rattle.object_store.specs.declared.kind.Form.{Form}
+use Rattle.object_store.specs.declared.kind.Form.TheVariants as form
+use Rattle.object_store.specs.declared.kind.FunParts.{FunParts}
+use Rattle.object_store.specs.declared.kind.CellKind.{CellKind}
+use Rattle.object_store.specs.declared.kind.CellKind.TheVariants as kind
+use Rattle.object_store.specs.declared.native.NativeId.{NativeId}
+use Rattle.object_store.specs.declared.store.Counts.{Counts}
+use Rattle.object_store.specs.Lists.{climb, links, count_before}
+
+-- A cell: whose it is, what it is, its prototype or outer scope, and its pairs of a name and a
+-- value in order of insertion.
+pub record PlainCell : Type 0 where
+  pub owner : Owner
+  pub form : Form
+  pub up : Option ℕ
+  pub pairs : List (List ℕ × Value)
+
+-- The store: its cells by birth, and the counts of each widget.
+pub record Cells : Type 0 where
+  pub cells : List PlainCell
+  pub kept : List Counts
+
+-- the kind of a form
+abbrev pub kind_of : Form → CellKind
+kind_of form.Object = kind.Object
+kind_of form.Array = kind.Array
+kind_of (form.Function p) = kind.Function
+kind_of (form.Native n) = kind.Native
+kind_of form.Scope = kind.Scope
+kind_of form.Bunch = kind.Bunch
+kind_of (form.RawNode n) = kind.RawNode
+kind_of form.Global = kind.Global
+
+abbrev pub is_scope : Form → Bool
+is_scope form.Scope = true
+is_scope _ = false
+
+abbrev pub is_array : Form → Bool
+is_array form.Array = true
+is_array _ = false
+
+abbrev pub is_bunch : Form → Bool
+is_bunch form.Bunch = true
+is_bunch _ = false
+
+-- the kinds that a widget can see: Object, Array, Function and Bunch
+abbrev pub is_visible_form : Form → Bool
+is_visible_form form.Object = true
+is_visible_form form.Array = true
+is_visible_form (form.Function p) = true
+is_visible_form form.Bunch = true
+is_visible_form _ = false
+
+abbrev pub function_in : Form → Option FunParts
+function_in (form.Function p) = Some p
+function_in _ = None
+
+abbrev pub native_in : Form → Option NativeId
+native_in (form.Native n) = Some n
+native_in _ = None
+
+abbrev pub node_in : Form → Option ℕ
+node_in (form.RawNode n) = Some n
+node_in _ = None
+
+-- the widget's number
+abbrev pub widget_of : Owner → Option ℕ
+widget_of whose.Host = None
+widget_of (whose.Widget w) = Some w
+
+-- the widget that may write to a cell: none for a Bunch and for a cell of the host
+abbrev pub writer_in : Owner → Form → Option ℕ
+writer_in o f = if is_bunch f then None else widget_of o
+
+-- an owner's visible cells
+abbrev pub is_own : ℕ → Owner → Form → Bool
+is_own w o f = option_map_or (λ v. nat_eq v w && is_visible_form f) (widget_of o) false
+
+abbrev pub is_visible : ℕ → PlainCell → Bool
+is_visible w c = is_own w c.owner c.form
+
+-- the place of a cell among an owner's visible cells
+abbrev pub own_count : ℕ → List PlainCell → ℕ → ℕ
+own_count w cells i = count_before (is_visible w) cells i
+
+-- the value of a cell's own name
+abbrev pub value_of : List (List ℕ × Value) → List ℕ → Option Value
+value_of pairs name = lookup (bytes_eq name) pairs
+
+abbrev pub has_own : List ℕ → PlainCell → Bool
+has_own name c = is_some (value_of c.pairs name)
+
+-- the first cell with the name, from a cell on along its prototypes or outer scopes
+abbrev pub holder : List PlainCell → ℕ → List ℕ → Option ℕ
+holder cells i name = climb (has_own name) (λ c. c.up) (length cells) cells (Some i)
+
+abbrev pub own_value_at : List PlainCell → List ℕ → ℕ → Option Value
+own_value_at cells name i = option_and_then (λ c. value_of c.pairs name) (slice_get cells i)
+
+-- the value there
+abbrev pub value_along : List PlainCell → ℕ → List ℕ → Option Value
+value_along cells i name = option_and_then (own_value_at cells name) (holder cells i name)
+
+-- a cell and its prototypes, or a scope and its outer scopes
+abbrev pub chain : List PlainCell → ℕ → List PlainCell
+chain cells i = links (λ c. c.up) (length cells) cells (Some i)
+
+-- the first own value under the name
+abbrev pub first_own : List ℕ → List PlainCell → Option Value
+first_own name [] = None
+first_own name (c ∷ cs) = if has_own name c then value_of c.pairs name else first_own name cs
+
+-- what stands at a place
+abbrev pub form_at : List PlainCell → ℕ → Option Form
+form_at cells i = option_and_then (λ c. Some c.form) (slice_get cells i)
+
+abbrev pub is_scope_at : List PlainCell → ℕ → Bool
+is_scope_at cells i = option_map_or (λ c. is_scope c.form) (slice_get cells i) false
+
+-- a cell's prototype: the outer of a scope is none
+abbrev pub proto_in : PlainCell → Option ℕ
+proto_in c = if is_scope c.form then None else c.up
+
+-- the number of prototypes on a cell's chain
+abbrev pub prototypes : List PlainCell → ℕ → ℕ
+prototypes cells i = if is_scope_at cells i then 0 else length (chain cells i) - 1
+
+-- the cells that a widget has paid
+abbrev pub kept_cells : List Counts → ℕ → ℕ
+kept_cells kept w = option_map_or (λ k. k.cells) (slice_get kept w) 0
+
+-- the cell of a page node
+abbrev pub raw_cell : ℕ → PlainCell
+raw_cell n = record { owner = whose.Host; form = form.RawNode n; up = None; pairs = [] }

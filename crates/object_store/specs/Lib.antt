@@ -1,0 +1,9 @@
+pub mod Lists
+pub mod Cells
+pub mod Indices
+pub mod Arrays
+pub mod Numbered
+pub mod Shape
+pub mod Calls
+pub mod Host
+pub mod Bare

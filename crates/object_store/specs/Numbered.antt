@@ -1,0 +1,123 @@
+-- Cells by the numbers of their names, and what they are by name.
+use Rattle.std.specs.Prelude.{◌≡◌, ℕ, zero, suc, ◌+◌, ◌<◌, ◌≤◌, Bool, true, false, List, [], ◌∷◌, Option, None, Some, is_some, max, nat_lt, nat_eq, not, ◌&&◌, if◌then◌else◌, map, length, slice_get, slice_index_or, filter, MatchOption}
+use Rattle.std.specs.Option.{option_map, option_map_or, option_and_then}
+use Rattle.std.specs.Str.{bytes_eq}
+use Rattle.std.specs.List.{list_any}
+use Rattle.std.specs.Map.{lookup, remove_entry}
+use Rattle.indexmap.specs.IndexMap.{insert_entry}
+use Rattle.code_units.specs.declared.owner.Owner.TheVariants as whose
+use Rattle.object_store.specs.declared.kind.Form.TheVariants as form
+use Rattle.object_store.specs.declared.value.Value.{Value}
+use Rattle.object_store.specs.declared.cell.Head.{Head}
+use Rattle.code_units.specs.Permitted.{is_permitted}
+use Rattle.object_store.specs.Lists.{climb, count_before}
+use Rattle.object_store.specs.Cells.{PlainCell, is_scope, is_array, is_own, writer_in}
+use Rattle.object_store.specs.declared.cell.Write.{Write}
+use Rattle.object_store.specs.declared.cell.Write.TheVariants as write
+use Rattle.object_store.specs.Indices.{index_of}
+use Rattle.object_store.specs.Arrays.{is_below, count_value, length_in, length_name, written, cut}
+
+pub record Raw : Type 0 where
+  pub head : Head
+  pub top : ℕ
+  pub entries : List (ℕ × Value)
+
+-- the name with a number
+abbrev pub name_at : List (List ℕ) → ℕ → List ℕ
+name_at names n = slice_index_or names n []
+
+-- the pairs with their names
+abbrev pub named : List (List ℕ) → List (ℕ × Value) → List (List ℕ × Value)
+named names [] = []
+named names (e ∷ es) = (name_at names e.0, e.1) ∷ named names es
+
+abbrev pub plain : List (List ℕ) → Raw → PlainCell
+plain names c = record { owner = c.head.owner; form = c.head.form; up = c.head.up; pairs = named names c.entries }
+
+abbrev pub cells_of : List (List ℕ) → List Raw → List PlainCell
+cells_of names cs = map (plain names) cs
+
+abbrev pub heads : List Raw → List Head
+heads cs = map (λ c. c.head) cs
+
+-- the same questions by number
+abbrev pub raw_has : ℕ → Raw → Bool
+raw_has n c = is_some (lookup (nat_eq n) c.entries)
+
+abbrev pub raw_holder : List Raw → ℕ → ℕ → Option ℕ
+raw_holder cells i n = climb (raw_has n) (λ c. c.head.up) (length cells) cells (Some i)
+
+abbrev pub raw_own : List Raw → ℕ → ℕ → Option Value
+raw_own cells n i = option_and_then (λ c. lookup (nat_eq n) c.entries) (slice_get cells i)
+
+abbrev pub raw_along : List Raw → ℕ → ℕ → Option Value
+raw_along cells i n = option_and_then (raw_own cells n) (raw_holder cells i n)
+
+abbrev pub raw_writer : List Raw → ℕ → Option ℕ
+raw_writer cells i = option_and_then (λ c. writer_in c.head.owner c.head.form) (slice_get cells i)
+
+abbrev pub raw_has_at : List Raw → ℕ → Option ℕ → Bool
+raw_has_at cells i None = false
+raw_has_at cells i (Some n) = option_map_or (raw_has n) (slice_get cells i) false
+
+abbrev pub own_head : ℕ → Head → Bool
+own_head w h = is_own w h.owner h.form
+
+-- the same writes by number
+abbrev pub raw_written : ℕ → Value → ℕ → Raw → Raw
+raw_written n v e c = record { head = c.head; top = max c.top e; entries = insert_entry nat_eq c.entries n v }
+
+abbrev pub raw_two : ℕ → Value → ℕ → Value → ℕ → Raw → Raw
+raw_two n v m u e c = record { head = c.head; top = max c.top e; entries = insert_entry nat_eq (insert_entry nat_eq c.entries n v) m u }
+
+abbrev pub raw_held : ℕ → Value → Raw → Raw
+raw_held n v c = record c { entries = insert_entry nat_eq c.entries n v }
+
+abbrev pub raw_without : ℕ → Raw → Raw
+raw_without n c = record c { entries = remove_entry (nat_eq n) c.entries }
+
+abbrev pub raw_cut : List (List ℕ) → ℕ → Raw → Raw
+raw_cut names n c = record c { entries = filter (λ e. is_below n (name_at names e.0)) c.entries }
+
+-- a later table has the older one's names under their numbers
+pub record Grown (old new : List (List ℕ)) : Type 0 where
+  pub longer : length old ≤ length new
+  pub kept : (k : ℕ) → k < length old → slice_index_or new k [] ≡ slice_index_or old k []
+
+-- an Array's length
+abbrev pub raw_length : List (ℕ × Value) → ℕ
+raw_length es = option_map_or (λ n. n) (option_and_then length_in (lookup (nat_eq 0) es)) 0
+
+-- how a write goes: none where it is a bad length
+abbrev pub element_plan : ℕ → Option ℕ → Write
+element_plan len None = write.Own 0
+element_plan len (Some i) = if nat_lt i len then write.Own (i + 1) else write.Longer (i + 1)
+
+abbrev pub plan_of : List ℕ → Value → Raw → Option Write
+plan_of name v c =
+    if is_array c.head.form then (if bytes_eq name length_name then option_map (λ n. write.Length n) (length_in v) else Some (element_plan (raw_length c.entries) (index_of name))) else Some (write.Own 0)
+
+-- what the plan does
+abbrev pub by_plan : Write → List ℕ → Value → PlainCell → PlainCell
+by_plan (write.Own e) name v c = written name v c
+by_plan (write.Length n) name v c = cut n (written length_name v c)
+by_plan (write.Longer n) name v c = written length_name (count_value n) (written name v c)
+
+-- what a look-up says of a name
+abbrev pub IsNumberOf : List (List ℕ) → List ℕ → Option ℕ → Type 0
+IsNumberOf names name number = MatchOption number (list_any (bytes_eq name) names ≡ false) (λ n. (slice_get names n ≡ Some name) × (n < length names))
+
+-- the name at a place, where it is listed
+abbrev pub listed : Raw → List ℕ → Option (List ℕ)
+listed c name = if is_permitted name && not (is_array c.head.form && bytes_eq name length_name) then Some name else None
+
+abbrev pub raw_key : List (List ℕ) → Raw → ℕ → Option (List ℕ)
+raw_key names c at = option_and_then (λ e. option_and_then (listed c) (slice_get names e.0)) (slice_get c.entries at)
+
+-- the fixed part of the cell of a page node
+abbrev pub node_head : ℕ → Head
+node_head n = record { owner = whose.Host; form = form.RawNode n; up = None; links = 0; number = 0 }
+
+-- a cell as it is made
+abbrev pub first_raw : Head → Raw
+first_raw h = record { head = h; top = 0; entries = if is_array h.form then (0, count_value 0) ∷ [] else [] }

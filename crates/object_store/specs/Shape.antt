@@ -1,0 +1,164 @@
+-- What every store keeps.
+use Rattle.std.specs.Prelude.{◌≡◌, ℕ, zero, suc, ◌<◌, ◌≤◌, Bool, true, false, List, [], ◌∷◌, ◌++◌, Option, None, Some, is_some, nat_eq, if◌then◌else◌, length, slice_get, IfSome}
+use Rattle.std.specs.Option.{option_map_or, option_and_then}
+use Rattle.std.specs.Map.{lookup}
+use Rattle.code_units.specs.declared.owner.Owner.TheVariants as whose
+use Rattle.code_units.specs.Interned.{IsTable}
+use Rattle.object_store.specs.declared.value.Value.{Value}
+use Rattle.object_store.specs.declared.value.Value.TheVariants as value
+use Rattle.object_store.specs.declared.kind.Form.{Form}
+use Rattle.object_store.specs.declared.kind.Form.TheVariants as form
+use Rattle.object_store.specs.declared.cell.Head.{Head}
+use Rattle.object_store.specs.declared.store.Counts.{Counts}
+use Rattle.object_store.specs.declared.store.TheConstants.{CELL_LIMIT, SLOT_LIMIT, UNIT_LIMIT}
+use Rattle.object_store.specs.Lists.{changed, count_before, count_all}
+use Rattle.object_store.specs.Cells.{PlainCell, kept_cells, is_visible_form, is_scope_at, is_scope, is_array, is_own, widget_of, node_in, function_in}
+use Rattle.object_store.specs.Arrays.{is_below, length_in, length_name, nodes_name}
+use Rattle.object_store.specs.Host.{AreHost}
+use Rattle.object_store.specs.Numbered.{Raw, name_at, heads, own_head, cells_of}
+
+-- a reference is to one of so many cells
+abbrev pub IsRefWithin : ℕ → Value → Type 0
+IsRefWithin size (value.Ref i) = i < size
+IsRefWithin size _ = Unit {0}
+
+-- each name is in the table, and each reference exists
+abbrev pub AreEntries : ℕ → ℕ → List (ℕ × Value) → Type 0
+AreEntries n size [] = Unit {0}
+AreEntries n size (e ∷ es) = (e.0 < n) × IsRefWithin size e.1 × AreEntries n size es
+
+-- each name is in the table
+abbrev pub Known : ℕ → List (ℕ × Value) → Type 0
+Known n [] = Unit {0}
+Known n (e ∷ es) = (e.0 < n) × Known n es
+
+abbrev pub AreKnown : ℕ → List Raw → Type 0
+AreKnown n [] = Unit {0}
+AreKnown n (c ∷ cs) = Known n c.entries × AreKnown n cs
+
+-- no name is an index from top on
+abbrev pub AreBelow : List (List ℕ) → ℕ → List (ℕ × Value) → Type 0
+AreBelow names top [] = Unit {0}
+AreBelow names top (e ∷ es) = (is_below top (name_at names e.0) ≡ true) × AreBelow names top es
+
+-- an Array has a length, and its elements stand below its top
+pub record IsArrayTable (names : List (List ℕ)) (top : ℕ) (entries : List (ℕ × Value)) : Type 0 where
+  pub length : is_some (option_and_then length_in (lookup (nat_eq 0) entries)) ≡ true
+  pub below : AreBelow names top entries
+
+pub record IsFine (names : List (List ℕ)) (size : ℕ) (c : Raw) : Type 0 where
+  pub entries : AreEntries (length names) size c.entries
+  pub array : is_array c.head.form ≡ true → IsArrayTable names c.top c.entries
+
+abbrev pub AreFine : List (List ℕ) → ℕ → List Raw → Type 0
+AreFine names size [] = Unit {0}
+AreFine names size (c ∷ cs) = IsFine names size c × AreFine names size cs
+
+-- what stands at a place
+abbrev pub scope_at : List Head → ℕ → Bool
+scope_at hs i = option_map_or (λ h. is_scope h.form) (slice_get hs i) false
+
+abbrev pub links_at : List Head → ℕ → ℕ
+links_at hs i = option_map_or (λ h. h.links) (slice_get hs i) 0
+
+abbrev pub scope_in : Form → Option ℕ
+scope_in f = option_and_then (λ p. p.scope) (function_in f)
+
+-- Prototypes are older and no scopes, and outer scopes are older scopes; so no chain has a cycle.
+-- A chain has at most 100 prototypes, and a cell's number is its place among its owner's.
+pub record IsOrdered (hs : List Head) (i : ℕ) (h : Head) : Type 0 where
+  pub up : IfSome h.up (λ j. (j < i) × (scope_at hs j ≡ is_scope h.form))
+  pub scope : IfSome (scope_in h.form) (λ j. (j < i) × (scope_at hs j ≡ true))
+  pub links : h.links ≡ (if is_scope h.form then 0 else option_map_or (λ j. suc (links_at hs j)) h.up 0)
+  pub few : h.links ≤ 100
+  pub below : h.links ≤ i
+  pub owned : is_scope h.form ≡ true → is_some (widget_of h.owner) ≡ true
+  pub number : (w : ℕ) → own_head w h ≡ true → h.number ≡ count_before (own_head w) hs i
+
+pub record AreOrdered (hs : List Head) : Type 0 where
+  pub each : (i : ℕ) (h : Head) → slice_get hs i ≡ Some h → IsOrdered hs i h
+
+-- the place of a node's cell
+abbrev pub is_raw : ℕ → Form → Bool
+is_raw n f = option_map_or (λ m. nat_eq n m) (node_in f) false
+
+abbrev pub raw_from : ℕ → ℕ → List Head → Option ℕ
+raw_from n k [] = None
+raw_from n k (h ∷ hs) = if is_raw n h.form then Some k else raw_from n (suc k) hs
+
+-- each node has at most one cell, which the index finds
+pub record AreRaws (hs : List Head) (raws : List (ℕ × ℕ)) : Type 0 where
+  pub found : (n : ℕ) → lookup (nat_eq n) raws ≡ raw_from n 0 hs
+  pub one : (i n : ℕ) (h : Head) → slice_get hs i ≡ Some h → node_in h.form ≡ Some n → raw_from n 0 hs ≡ Some i
+
+-- two names have fixed numbers
+pub record AreWords (names : List (List ℕ)) : Type 0 where
+  pub length : slice_get names 0 ≡ Some length_name
+  pub nodes : slice_get names 1 ≡ Some nodes_name
+
+-- what names and cells keep
+pub record IsBase (names : List (List ℕ)) (cs : List Raw) : Type 0 where
+  pub table : IsTable names
+  pub words : AreWords names
+  pub fine : AreFine names (length cs) cs
+  pub ordered : AreOrdered (heads cs)
+
+-- each count is within its limit
+abbrev pub AreWithin : List Counts → Type 0
+AreWithin [] = Unit {0}
+AreWithin (k ∷ ks) = (k.cells ≤ CELL_LIMIT) × (k.slots ≤ SLOT_LIMIT) × (k.units ≤ UNIT_LIMIT) × AreWithin ks
+
+pub record IsShape (names : List (List ℕ)) (cs : List Raw) (raws : List (ℕ × ℕ)) (kept : List Counts) : Type 0 where
+  pub base : IsBase names cs
+  pub host : AreHost (cells_of names cs)
+  pub nodes : AreRaws (heads cs) raws
+  pub counted : length kept ≡ 32
+  pub within : AreWithin kept
+  pub exact : (w : ℕ) → w < 32 → kept_cells kept w ≡ count_all (own_head w) (heads cs)
+
+-- A cell was written: the others, the names of all and what they keep are as before.
+pub record Wrote (old : List (List ℕ)) (cs : List Raw) (new : List (List ℕ)) (after : List Raw) (i : ℕ) (f : PlainCell → PlainCell) : Type 0 where
+  pub done : cells_of new after ≡ changed (cells_of old cs) i f
+  pub base : IsBase new after
+  pub heads : heads after ≡ heads cs
+
+-- No cell was written.
+pub record Kept (old : List (List ℕ)) (cs : List Raw) (new : List (List ℕ)) (after : List Raw) : Type 0 where
+  pub done : cells_of new after ≡ cells_of old cs
+  pub base : IsBase new after
+  pub heads : heads after ≡ heads cs
+
+-- A cell was added.
+pub record Added (old : List (List ℕ)) (cs : List Raw) (new : List (List ℕ)) (after : List Raw) (c : Raw) (id : ℕ) : Type 0 where
+  pub place : id ≡ length cs
+  pub items : after ≡ cs ++ c ∷ []
+  pub base : IsBase new after
+
+pub record Grew (old : List (List ℕ)) (cs : List Raw) (new : List (List ℕ)) (after : List Raw) (p : PlainCell) (h : Head) : Type 0 where
+  pub done : cells_of new after ≡ cells_of old cs ++ p ∷ []
+  pub base : IsBase new after
+  pub heads : heads after ≡ heads cs ++ h ∷ []
+
+-- the fixed parts of new cells
+abbrev pub head_on : List Head → ℕ → Form → ℕ → ℕ → Head
+head_on hs w f up number = record { owner = whose.Widget w; form = f; up = Some up; links = suc (links_at hs up); number = number }
+
+abbrev pub scope_head : ℕ → Option ℕ → Head
+scope_head w outer = record { owner = whose.Widget w; form = form.Scope; up = outer; links = 0; number = 0 }
+
+-- the form of a new visible cell that is no Bunch: the scope of a function exists
+pub record IsNewForm (cells : List PlainCell) (f : Form) : Type 0 where
+  pub visible : is_visible_form f ≡ true
+  pub scope : IfSome (scope_in f) (λ j. (j < length cells) × (is_scope_at cells j ≡ true))
+
+-- each reference in the pairs is to one of so many cells
+abbrev pub AreRefs : ℕ → List (List ℕ × Value) → Type 0
+AreRefs size [] = Unit {0}
+AreRefs size (p ∷ ps) = IsRefWithin size p.1 × AreRefs size ps
+
+-- What a cell of the store keeps: its references exist, its prototype or outer scope is older and
+-- of its sort, and so is the scope of a function.
+pub record IsLinked (cells : List PlainCell) (i : ℕ) (c : PlainCell) : Type 0 where
+  pub refs : AreRefs (length cells) c.pairs
+  pub up : IfSome c.up (λ j. (j < i) × (is_scope_at cells j ≡ is_scope c.form))
+  pub scope : IfSome (scope_in c.form) (λ j. (j < i) × (is_scope_at cells j ≡ true))

@@ -1,0 +1,362 @@
+//! A cell by the numbers of its names.
+ghost use Rattle.std.specs.Prelude.{◌≡◌, ℕ, [], None, Some, true, is_some, nat_eq, max, if◌then◌else◌, is_ok, OnErr, OnOk, option_copied, option_map, slice_get, IfSome, ◌<◌, ◌≤◌, ◌++◌, false, ◌&&◌, not, length, option_to_list, IfOk};
+ghost use Rattle.std.specs.Map.{lookup, remove_entry};
+ghost use Rattle.std.specs.Option.{option_map_or, option_and_then};
+ghost use Rattle.std.specs.Str.{bytes_eq};
+ghost use Rattle.indexmap.specs.IndexMap.{insert_entry};
+ghost use Rattle.object_store.specs.Cells.{writer_in, widget_of, is_array, is_scope, is_visible_form};
+ghost use Rattle.object_store.specs.Numbered.{Raw, first_raw, node_head, plain, raw_key, raw_cut, raw_has, name_at, raw_length, element_plan, plan_of};
+ghost use Rattle.code_units.specs.Permitted.{is_permitted};
+ghost use Rattle.object_store.specs.Shape.{Known};
+ghost use Rattle.object_store.specs.Calls.{keys_of};
+ghost use Rattle.object_store.specs.Arrays.{count_value, is_below, length_in, length_name};
+
+use crate::index::index_of;
+use crate::kind::Form;
+use crate::value::{CellId, Number, Value};
+use code_units::{Memory, Names, Owner, Text, is_word, permitted};
+use indexmap::IndexMap;
+use std::alloc::Global;
+use std::marker::Model;
+
+/// What a cell never changes: whose it is, what it is, its prototype or outer scope, the number of
+/// prototypes on its chain, and its place among its owner's visible cells.
+#[derive(Clone, Copy)]
+pub struct Head {
+    pub owner: Owner,
+    pub form: Form,
+    pub up: Option<CellId>,
+    pub links: u32,
+    pub number: u32,
+}
+
+/// A cell. No element of an Array stands at or past its `top`.
+#[derive(Drop)]
+pub struct Cell {
+    head: Head,
+    top: u32,
+    table: IndexMap<u32, Value>,
+}
+
+impl Model for Cell {
+    ghost use Rattle.object_store.specs.Numbered.{Raw};
+
+    ghost Value = { Raw };
+
+    ghost view = { λ c. record { head = c.head; top = c.top; entries = c.table.entries } };
+}
+
+/// How a write under a name goes.
+#[derive(Clone, Copy, Drop)]
+pub enum Write {
+    /// Under the name alone; `end` is past it where it is an element.
+    Own { end: u32 },
+    /// Under the `length` of an Array.
+    Length { len: u32 },
+    /// Under an element at or past the length of an Array, which is then `len`.
+    Longer { len: u32 },
+}
+
+/// The number of the name `length`.
+pub const LENGTH: u32 = 0;
+
+/// The length that a value is: a whole number from 0 to 4294967295.
+fn length_in(value: &Value) -> Option<u32>
+    ensures { result ≡ length_in value.now }
+{
+    match value {
+        Value::Num(Number::Whole(n)) => u32::try_from(*n).ok(),
+        _ => None,
+    }
+}
+
+/// A count as a value.
+pub fn count_value(len: u32) -> Value
+    ensures { result ≡ count_value len }
+{
+    Value::Num(Number::Whole(i64::from(len)))
+}
+
+// How the write of an element goes.
+fn element_plan(len: u32, index: Option<u32>) -> Write
+    requires { IfSome index (λ i. i < 4294967295) }
+    ensures { result ≡ element_plan len index }
+{
+    match index {
+        None => Write::Own { end: 0 },
+        Some(i) if i < len => Write::Own { end: i + 1 },
+        Some(i) => Write::Longer { len: i + 1 },
+    }
+}
+
+// Whether a name by its number is no index from `n` on.
+fn keeps(names: &Names, k: u32, n: u32) -> bool
+    ensures { result ≡ is_below n (name_at names.now k) }
+{
+    match names.text(k) {
+        None => true,
+        Some(text) => match index_of(text) {
+            None => true,
+            Some(i) => i < n,
+        },
+    }
+}
+
+impl Cell {
+    /// A cell without pairs.
+    pub fn new(alloc: Global, head: Head) -> Cell
+        ensures { result ≡ record { head = head; top = 0; entries = [] } }
+    {
+        Cell {
+            head,
+            top: 0,
+            table: IndexMap::new(alloc),
+        }
+    }
+
+    /// A cell as it is made: an Array with its length, any other without pairs.
+    pub fn first(alloc: Global, head: Head) -> Result<Cell, Memory>
+        ensures { IfOk result (λ c. c ≡ first_raw head) }
+    {
+        let mut cell = Cell::new(alloc, head);
+        if head.form.is_array() {
+            cell.write(LENGTH, count_value(0), 0)?;
+        }
+        Ok(cell)
+    }
+
+    /// The cell of a page node.
+    pub fn of_node(alloc: Global, node: u32) -> Cell
+        ensures { result ≡ record { head = node_head node; top = 0; entries = [] } }
+    {
+        Cell::new(
+            alloc,
+            Head {
+                owner: Owner::Host,
+                form: Form::RawNode(node),
+                up: None,
+                links: 0,
+                number: 0,
+            },
+        )
+    }
+
+    /// What it never changes.
+    pub fn head(&self) -> Head
+        ensures { result ≡ self.now.head }
+    {
+        self.head
+    }
+
+    /// The widget that may write to it.
+    pub fn writer(&self) -> Option<u32>
+        ensures { result ≡ writer_in self.now.head.owner self.now.head.form }
+    {
+        if self.head.form.is_bunch() {
+            return None;
+        }
+        match self.head.owner {
+            Owner::Host => None,
+            Owner::Widget(w) => Some(w),
+        }
+    }
+
+    // The length of an Array.
+    fn length(&self) -> u32
+        ensures { result ≡ raw_length self.now.entries }
+    {
+        match self.own(LENGTH) {
+            None => 0,
+            Some(value) => length_in(value).unwrap_or(0),
+        }
+    }
+
+    /// Whether a name is the `length` of an Array.
+    pub fn is_length(&self, name: &Text) -> bool
+        ensures { result ≡ (is_array self.now.head.form && bytes_eq name.now length_name) }
+    {
+        self.head.form.is_array() && is_word(name, b"length")
+    }
+
+    /// The prototype.
+    pub fn proto(&self) -> Option<CellId>
+        ensures { result ≡ (if is_scope self.now.head.form then None else self.now.head.up) }
+    {
+        if self.head.form.is_scope() {
+            None
+        } else {
+            self.head.up
+        }
+    }
+
+    /// The place among its owner's visible cells.
+    pub fn number(&self) -> Option<u32>
+        ensures { result ≡ option_and_then (λ w. if is_visible_form self.now.head.form then Some self.now.head.number else None) (widget_of self.now.head.owner) }
+    {
+        match self.head.owner {
+            Owner::Widget(_) if self.head.form.is_visible() => Some(self.head.number),
+            _ => None,
+        }
+    }
+
+    /// The value under its own name at a place.
+    pub fn value_at(&self, at: u32) -> Option<&Value>
+        ensures { option_copied result ≡ option_map (λ e. e.1) (slice_get self.now.entries at) }
+    {
+        Some(self.table.get_index(at as usize)?.1)
+    }
+
+    /// How a write under a name goes, none where it would be a bad length.
+    pub fn plan(&self, name: &Text, value: &Value) -> Option<Write>
+        ensures { result ≡ plan_of name.now value.now self.now }
+    {
+        if !self.head.form.is_array() {
+            return Some(Write::Own { end: 0 });
+        }
+        if is_word(name, b"length") {
+            return length_in(value).map(|len| Write::Length { len });
+        }
+        Some(element_plan(self.length(), index_of(name)))
+    }
+
+    /// The slots that a write under a name costs.
+    pub fn slots_for(&self, number: Option<u32>) -> u32
+        ensures { result ≡ (if option_map_or (λ n. raw_has n self.now) number false then 0 else 1) }
+    {
+        match number {
+            Some(n) if self.has(n) => 0,
+            _ => 1,
+        }
+    }
+
+    /// Whether it has a name of its own.
+    pub fn has(&self, n: u32) -> bool
+        ensures { result ≡ is_some (lookup (nat_eq n) self.now.entries) }
+    {
+        self.table.contains_key(&n)
+    }
+
+    /// The value under a name of its own.
+    pub fn own(&self, n: u32) -> Option<&Value>
+        ensures { option_copied result ≡ lookup (nat_eq n) self.now.entries }
+    {
+        self.table.get(&n)
+    }
+
+    // Whether a name is listed: it is permitted, and no `length` of an Array.
+    fn lists(&self, name: &Text) -> bool
+        ensures { result ≡ (is_permitted name.now && not (is_array self.now.head.form && bytes_eq name.now length_name)) }
+    {
+        permitted(name) && !self.is_length(name)
+    }
+
+    // The name at a place, where it is listed.
+    fn key_at<'a>(&self, names: &'a Names, at: usize) -> Option<&'a Text>
+        ensures { option_copied result ≡ raw_key names.now self.now at }
+    {
+        let name = names.text(*self.table.get_index(at)?.0)?;
+        if self.lists(name) { Some(name) } else { None }
+    }
+
+    fn push_key(&self, names: &Names, at: usize, keys: &mut Vec<Text>) -> Result<(), Memory>
+        ensures { OnOk result (keys.new.items ≡ keys.old.items ++ option_to_list (raw_key names.now self.now at)) }
+    {
+        if let Some(name) = self.key_at(names, at) {
+            keys.push(name.share()?)?;
+        }
+        Ok(())
+    }
+
+    /// The listed names in order.
+    pub fn keys(&self, alloc: Global, names: &Names) -> Result<Vec<Text>, Memory>
+        requires { Known (length names.now) self.now.entries }
+        ensures { IfOk result (λ keys. keys.items ≡ keys_of (plain names.now self.now)) }
+    {
+        let mut keys = Vec::new(alloc);
+        for at in 0..self.table.len() {
+            self.push_key(names, at, &mut keys)?;
+        }
+        Ok(keys)
+    }
+
+    fn count_key(&self, names: &Names, at: usize) -> usize
+        ensures count { result ≡ length (option_to_list (raw_key names.now self.now at)) }
+        ensures small { result ≤ 1 }
+    {
+        match self.key_at(names, at) {
+            None => 0,
+            Some(_) => 1,
+        }
+    }
+
+    /// How many names are listed.
+    pub fn keys_len(&self, names: &Names) -> usize
+        requires { Known (length names.now) self.now.entries }
+        ensures { result ≡ length (keys_of (plain names.now self.now)) }
+    {
+        let mut count = 0;
+        for at in 0..self.table.len() {
+            count += self.count_key(names, at);
+        }
+        count
+    }
+
+    /// Writes under a name, a new one last. A name that it has needs no memory. `end` is past the
+    /// name where it is an index.
+    pub fn write(&mut self, n: u32, value: Value, end: u32) -> Result<(), Memory>
+        ensures ok { OnOk result (self.new ≡ record { head = self.old.head; top = max self.old.top end; entries = insert_entry nat_eq self.old.entries n value }) }
+        ensures err { OnErr result (self.new ≡ self.old) }
+    {
+        self.table.insert(n, value)?;
+        self.top = self.top.max(end);
+        Ok(())
+    }
+
+    /// Writes under two names. Either both are written, or none is.
+    pub fn write_two(
+        &mut self,
+        n: u32,
+        value: Value,
+        m: u32,
+        other: Value,
+        end: u32,
+    ) -> Result<(), Memory>
+        ensures ok { OnOk result (self.new ≡ record { head = self.old.head; top = max self.old.top end; entries = insert_entry nat_eq (insert_entry nat_eq self.old.entries n value) m other }) }
+        ensures err { OnErr result (self.new ≡ self.old) }
+    {
+        self.table.reserve(2)?;
+        let Ok(_) = self.table.insert(n, value) else {
+            unreachable!()
+        };
+        let Ok(_) = self.table.insert(m, other) else {
+            unreachable!()
+        };
+        self.top = self.top.max(end);
+        Ok(())
+    }
+
+    /// Writes under a name that it has.
+    pub fn write_held(&mut self, n: u32, value: Value)
+        requires { is_some (lookup (nat_eq n) self.old.entries) ≡ true }
+        ensures { self.new ≡ record self.old { entries = insert_entry nat_eq self.old.entries n value } }
+    {
+        match self.table.insert(n, value) {
+            Ok(_) => {}
+            Err(_) => unreachable!(),
+        }
+    }
+
+    /// Takes a name out.
+    pub fn take(&mut self, n: u32)
+        ensures { self.new ≡ record self.old { entries = remove_entry (nat_eq n) self.old.entries } }
+    {
+        let _ = self.table.shift_remove(&n);
+    }
+
+    /// Removes the elements from `n` on.
+    pub fn cut(&mut self, names: &Names, n: u32)
+        ensures { self.new ≡ raw_cut names.now n self.old }
+    {
+        self.table.retain(|k, _v| keeps(names, *k, n));
+    }
+}

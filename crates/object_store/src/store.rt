@@ -1,0 +1,482 @@
+//! The store.
+ghost use Rattle.std.specs.Prelude.{◌≡◌, ℕ, ◌+◌, ◌<◌, ◌≤◌, [], ◌∷◌, ◌++◌, None, Some, true, false, is_some, nat_eq, length, vec_len, slice_get, option_copied, IfOk, IfErr, IfSome, OnErr, OnOk, MatchOption, MatchResult, replicate};
+ghost use Rattle.std.specs.Option.{option_map};
+ghost use Rattle.object_store.specs.Cells.{PlainCell, chain, first_own, value_along, is_scope_at, kind_of, function_in, native_in, node_in, proto_in, prototypes, holder, raw_cell};
+ghost use Rattle.object_store.specs.declared.store.StoreFault.TheVariants.{Memory as out_of_memory};
+ghost use Rattle.object_store.specs.Shape.{IsRefWithin, IsNewForm, IsLinked};
+ghost use Rattle.object_store.specs.Host.{first_store, nothing_paid, host_cells, is_permitted_cell, leads_on, place_of};
+ghost use Rattle.object_store.specs.Calls.{Refuses, put_refusal, put_done, remove_refusal, removed, remove_done, var_done, own_number_of, IsWidget, number_in, keys_at, units_refusal, slots_refusal, unit_cost, raw_place, cost_refusal, made, new_cell, scope_cell, IsMakeable, make_refusal, make_done};
+
+use crate::cell::Cell;
+use crate::kind::{CellKind, Form, FunParts};
+use crate::native::{HostEntry, NativeId};
+use crate::value::{CellId, Value};
+use crate::{host, table};
+use code_units::{Memory, Names, Owner, Text};
+use indexmap::IndexMap;
+use js_tree::FunId;
+use std::alloc::{AllocError, Global};
+use std::marker::Model;
+
+/// How many visible cells a widget may have over its life.
+pub const CELL_LIMIT: u32 = 524_288;
+
+/// How many slots a widget may have over its life.
+pub const SLOT_LIMIT: u32 = 1_048_576;
+
+/// How many text units a widget may have over its life.
+pub const UNIT_LIMIT: u32 = 2_097_152;
+
+/// What a widget has paid.
+#[derive(Clone, Copy, PartialEq, Eq, Debug, Drop)]
+pub struct Counts {
+    pub cells: u32,
+    pub slots: u32,
+    pub units: u32,
+}
+
+/// What is to be made: an Object on its prototype, an Array, a Function, or a Scope with its names.
+#[derive(Drop)]
+pub enum NewCell {
+    Object(CellId),
+    Array,
+    Function {
+        code: u32,
+        fun: FunId,
+        scope: Option<CellId>,
+    },
+    Scope {
+        outer: Option<CellId>,
+        names: Vec<Text>,
+    },
+}
+
+/// Why a call was refused.
+#[derive(Clone, Copy, PartialEq, Eq, Debug, Drop)]
+pub enum StoreFault {
+    Cells { kept: u32 },
+    Slots { kept: u32 },
+    Units { kept: u32 },
+    Closed,
+    BadLength,
+    Memory,
+}
+
+const NOTHING_PAID: Counts = Counts {
+    cells: 0,
+    slots: 0,
+    units: 0,
+};
+
+fn first_counts(alloc: Global) -> Result<Vec<Counts>, AllocError>
+    ensures { IfOk result (λ kept. kept.items ≡ replicate 32 nothing_paid) }
+{
+    vec![in alloc; NOTHING_PAID; 32]
+}
+
+impl From<Memory> for StoreFault {
+    ghost from_gives = { λ _ e. e ≡ out_of_memory };
+
+    fn from(_: Memory) -> StoreFault {
+        StoreFault::Memory
+    }
+}
+
+/// The store: the cells of all owners, and what each widget has paid.
+#[derive(Drop)]
+pub struct Store {
+    names: Names,
+    cells: Vec<Cell>,
+    raws: IndexMap<u32, u32>,
+    kept: Vec<Counts>,
+}
+
+impl Model for Store {
+    ghost use Rattle.object_store.specs.Cells.{Cells};
+    ghost use Rattle.object_store.specs.Numbered.{cells_of};
+    ghost use Rattle.object_store.specs.Shape.{IsShape};
+
+    ghost Value = { Cells };
+
+    ghost view = { λ s. record { cells = cells_of s.names s.cells.items; kept = s.kept.items } };
+
+    ghost invariant = { λ s. IsShape s.names s.cells.items s.raws.entries s.kept.items };
+}
+
+impl Store {
+    /// A store with the host's cells alone, which are made and never changed.
+    pub fn new(alloc: Global) -> Result<Store, Memory>
+        ensures { IfOk result (λ s. s ≡ first_store) }
+    {
+        let table = host::host_table(alloc)?;
+        let raws = host::first_raws(alloc)?;
+        let kept = first_counts(alloc)?;
+        Ok(Store {
+            names: table.0,
+            cells: table.1,
+            raws,
+            kept,
+        })
+    }
+
+    /// The Global cell.
+    pub fn global(&self) -> CellId
+        ensures cell { IfSome (slice_get self.now.cells result) (λ c. kind_of c.form ≡ CellKind.Global) }
+        ensures within { result < length self.now.cells }
+    {
+        let _cells = &self.cells;
+        host::GLOBAL
+    }
+
+    /// The cell of an entry of the permitted table.
+    pub fn host(&self, entry: HostEntry) -> CellId
+        ensures place { result ≡ place_of entry }
+        ensures within { is_permitted_cell result ≡ true }
+        ensures cell { slice_get self.now.cells result ≡ slice_get host_cells result }
+
+        // It is no scope, and its chain is short.
+        ensures object { is_scope_at self.now.cells result ≡ false }
+        ensures chain { prototypes self.now.cells result ≤ 2 }
+        ensures born { result < length self.now.cells }
+    {
+        let _cells = &self.cells;
+        host::place_of(entry)
+    }
+
+    /// A law: each cell of the permitted table is a frozen cell of the host, and its properties and
+    /// its prototype lead to primitives and to cells of the table alone.
+    pub fn permitted_leads_on(&self)
+        ensures { (i : ℕ) → is_permitted_cell i ≡ true → IfSome (slice_get self.now.cells i) (λ c. leads_on c ≡ true) }
+    {
+        let _cells = &self.cells;
+    }
+
+    /// A law: each reference of a cell exists, and its prototype or outer scope is older, so that no
+    /// chain has a cycle.
+    pub fn links_are_older(&self)
+        ensures { (i : ℕ) (c : PlainCell) → slice_get self.now.cells i ≡ Some c → IsLinked self.now.cells i c }
+    {
+        let _cells = &self.cells;
+    }
+
+    /// How many cells there are.
+    pub fn len(&self) -> usize
+        ensures { result ≡ length self.now.cells }
+    {
+        self.cells.len()
+    }
+
+    /// Whose a cell is.
+    pub fn owner(&self, cell: CellId) -> Owner
+        requires { cell < length self.now.cells }
+        ensures { IfSome (slice_get self.now.cells cell) (λ c. result ≡ c.owner) }
+    {
+        table::cell(&self.cells, cell).head().owner
+    }
+
+    /// The kind of a cell.
+    pub fn kind(&self, cell: CellId) -> CellKind
+        requires { cell < length self.now.cells }
+        ensures { IfSome (slice_get self.now.cells cell) (λ c. result ≡ kind_of c.form) }
+    {
+        table::cell(&self.cells, cell).head().form.kind()
+    }
+
+    /// The parts of a function, none exactly for a cell of another kind.
+    pub fn function_of(&self, cell: CellId) -> Option<FunParts>
+        requires { cell < length self.now.cells }
+        ensures { IfSome (slice_get self.now.cells cell) (λ c. result ≡ function_in c.form) }
+    {
+        table::cell(&self.cells, cell).head().form.function()
+    }
+
+    /// The native, none exactly for a cell of another kind.
+    pub fn native_of(&self, cell: CellId) -> Option<NativeId>
+        requires { cell < length self.now.cells }
+        ensures { IfSome (slice_get self.now.cells cell) (λ c. result ≡ native_in c.form) }
+    {
+        table::cell(&self.cells, cell).head().form.native()
+    }
+
+    /// The page node, none exactly for a cell of another kind.
+    pub fn raw_node(&self, cell: CellId) -> Option<u32>
+        requires { cell < length self.now.cells }
+        ensures { IfSome (slice_get self.now.cells cell) (λ c. result ≡ node_in c.form) }
+    {
+        table::cell(&self.cells, cell).head().form.node()
+    }
+
+    /// The prototype, none exactly where the cell has none.
+    pub fn proto(&self, cell: CellId) -> Option<CellId>
+        requires { cell < length self.now.cells }
+        ensures { IfSome (slice_get self.now.cells cell) (λ c. result ≡ proto_in c) }
+    {
+        table::cell(&self.cells, cell).proto()
+    }
+
+    /// The number of prototypes on a cell's chain.
+    pub fn chain(&self, cell: CellId) -> u32
+        requires { cell < length self.now.cells }
+        ensures count { result ≡ prototypes self.now.cells cell }
+        ensures few { result ≤ 100 }
+    {
+        table::cell(&self.cells, cell).head().links
+    }
+
+    /// The place of a cell among its owner's visible cells by birth, none exactly for a cell that
+    /// is no visible cell of a widget.
+    pub fn own_number(&self, cell: CellId) -> Option<u32>
+        requires { cell < length self.now.cells }
+        ensures { IfSome (slice_get self.now.cells cell) (λ c. result ≡ own_number_of self.now.cells cell c) }
+    {
+        table::cell(&self.cells, cell).number()
+    }
+
+    /// What a widget has paid.
+    pub fn counts(&self, owner: Owner) -> Counts
+        requires { IsWidget owner }
+        ensures { slice_get self.now.kept (number_in owner) ≡ Some result }
+    {
+        self.kept[table::widget(owner) as usize]
+    }
+
+    /// The permitted own names of a cell in order of insertion, the `length` of an Array left out.
+    pub fn keys(&self, alloc: Global, cell: CellId) -> Result<Vec<Text>, Memory>
+        requires { cell < length self.now.cells }
+        ensures { IfOk result (λ keys. keys.items ≡ keys_at self.now.cells cell) }
+    {
+        table::cell(&self.cells, cell).keys(alloc, &self.names)
+    }
+
+    /// How many names `keys` gives.
+    pub fn keys_len(&self, cell: CellId) -> usize
+        requires { cell < length self.now.cells }
+        ensures { result ≡ length (keys_at self.now.cells cell) }
+    {
+        table::cell(&self.cells, cell).keys_len(&self.names)
+    }
+
+    /// The value of a Scope's own name at a place of its list of names, none exactly where it has
+    /// no name there.
+    pub fn var_at(&self, scope: CellId, at: u32) -> Option<&Value>
+        requires { scope < length self.now.cells }
+        ensures { IfSome (slice_get self.now.cells scope) (λ c. option_copied result ≡ option_map (λ p. p.1) (slice_get c.pairs at)) }
+    {
+        table::cell(&self.cells, scope).value_at(at)
+    }
+
+    /// The value of a variable: that of the innermost scope that has the name, none exactly where
+    /// none has it.
+    pub fn var_get(&self, scope: CellId, name: &Text) -> Option<&Value>
+        requires { scope < length self.now.cells }
+        ensures { option_copied result ≡ first_own name.now (chain self.now.cells scope) }
+    {
+        self.get(scope, name)
+    }
+
+    /// The first own value under a name, from the cell on along its prototypes (ECMA-262 3rd
+    /// edition, 8.6.2.1). None exactly where no cell of the chain has the name.
+    pub fn get(&self, cell: CellId, name: &Text) -> Option<&Value>
+        requires { cell < length self.now.cells }
+        ensures { option_copied result ≡ first_own name.now (chain self.now.cells cell) }
+    {
+        self.get_along(cell, name)
+    }
+
+    /// Writes under a name: an own name keeps its place, a new one goes last. Under the `length` of
+    /// an Array it removes the elements past it, and an element at or past the length raises it
+    /// (ECMA-262 3rd edition, 15.4.5.1). `Closed` comes exactly where the cell is a Bunch or the
+    /// host's; `BadLength` where the `length` of an Array is given something else than a whole
+    /// number from 0 to 4294967295; `Slots` for a new name at the limit.
+    pub fn put(&mut self, cell: CellId, name: &Text, value: Value) -> Result<(), StoreFault>
+        requires at { cell < length self.old.cells }
+        requires value { IsRefWithin (length self.old.cells) value }
+        ensures ok { OnOk result ((put_refusal self.old cell name.now value ≡ None) × (self.new ≡ put_done self.old cell name.now value)) }
+        ensures err { IfErr result (λ e. Refuses e (put_refusal self.old cell name.now value)) }
+        ensures same { OnErr result (self.new ≡ self.old) }
+    {
+        let held = table::cell(&self.cells, cell);
+        let Some(w) = held.writer() else {
+            return Err(StoreFault::Closed);
+        };
+        let Some(plan) = held.plan(name, &value) else {
+            return Err(StoreFault::BadLength);
+        };
+        let number = self.names.number(name);
+        let slots = held.slots_for(number);
+        table::afford(&self.kept, w, 0, slots)?;
+        table::write(
+            &mut self.names,
+            &mut self.cells,
+            cell,
+            number,
+            name,
+            value,
+            plan,
+        )?;
+        table::pay(&mut self.kept, w, 0, slots);
+        Ok(())
+    }
+
+    /// A widget pays text units. `Units` comes exactly where the kept count plus `n` passes the
+    /// limit.
+    pub fn charge_units(&mut self, owner: Owner, n: u32) -> Result<(), StoreFault>
+        requires { IsWidget owner }
+        ensures ok { OnOk result ((units_refusal self.old.kept (number_in owner) n ≡ None) × (self.new ≡ unit_cost self.old (number_in owner) 0 n)) }
+        ensures err { IfErr result (λ e. units_refusal self.old.kept (number_in owner) n ≡ Some e) }
+        ensures same { OnErr result (self.new ≡ self.old) }
+    {
+        table::charge_units(&mut self.kept, table::widget(owner), n)
+    }
+
+    /// A widget pays slots. `Slots` comes exactly where the kept count plus `n` passes the limit.
+    pub fn charge_slots(&mut self, owner: Owner, n: u32) -> Result<(), StoreFault>
+        requires { IsWidget owner }
+        ensures ok { OnOk result ((slots_refusal self.old.kept (number_in owner) n ≡ None) × (self.new ≡ unit_cost self.old (number_in owner) n 0)) }
+        ensures err { IfErr result (λ e. slots_refusal self.old.kept (number_in owner) n ≡ Some e) }
+        ensures same { OnErr result (self.new ≡ self.old) }
+    {
+        table::charge_slots(&mut self.kept, table::widget(owner), n)
+    }
+
+    /// The cell of a page node, made where there is none.
+    pub fn add_raw(&mut self, alloc: Global, node: u32) -> Result<CellId, Memory>
+        requires { node < 2097152 }
+        ensures ok { IfOk result (λ id. MatchOption (raw_place node self.old.cells)
+            ((id ≡ length self.old.cells) × (self.new ≡ record { cells = self.old.cells ++ raw_cell node ∷ []; kept = self.old.kept }))
+            (λ i. (id ≡ i) × (self.new ≡ self.old))) }
+        ensures err { OnErr result (self.new ≡ self.old) }
+    {
+        if let Some(id) = table::node_cell(&self.raws, node) {
+            return Ok(id);
+        }
+        self.raws.reserve(1)?;
+        let id = table::add(&self.names, &mut self.cells, Cell::of_node(alloc, node))?;
+        table::index_node(&mut self.raws, node, id);
+        Ok(id)
+    }
+
+    /// Makes a cell for a widget. An Object, an Array and a Function cost one cell, a Scope one slot
+    /// and one more for each name. `Cells` or `Slots` comes exactly where the widget's kept count
+    /// plus the cost passes the limit.
+    pub fn make(&mut self, alloc: Global, owner: Owner, cell: NewCell) -> Result<CellId, StoreFault>
+        requires widget { IsWidget owner }
+        requires fit { IsMakeable self.old.cells cell }
+        ensures ok { IfOk result (λ id. (make_refusal self.old (number_in owner) cell ≡ None) × (id ≡ length self.old.cells) × (self.new ≡ make_done self.old (number_in owner) cell)) }
+        ensures err { IfErr result (λ e. Refuses e (make_refusal self.old (number_in owner) cell)) }
+        ensures same { OnErr result (self.new ≡ self.old) }
+    {
+        let Owner::Widget(w) = owner else {
+            unreachable!()
+        };
+        match cell {
+            NewCell::Object(proto) => self.make_on(alloc, w, Form::Object, proto),
+            NewCell::Array => {
+                let proto = self.host(HostEntry::ArrayPrototype);
+                self.make_on(alloc, w, Form::Array, proto)
+            }
+            NewCell::Function { code, fun, scope } => {
+                let proto = self.host(HostEntry::FunctionPrototype);
+                let form = Form::Function(FunParts { code, fun, scope });
+                self.make_on(alloc, w, form, proto)
+            }
+            NewCell::Scope { outer, names } => self.make_scope(alloc, w, outer, &names),
+        }
+    }
+
+    // Makes a visible cell on a prototype.
+    fn make_on(
+        &mut self,
+        alloc: Global,
+        w: u32,
+        form: Form,
+        up: CellId,
+    ) -> Result<CellId, StoreFault>
+        requires widget { w < 32 }
+        requires up { up < length self.old.cells }
+        requires object { is_scope_at self.old.cells up ≡ false }
+        requires few { prototypes self.old.cells up < 100 }
+        requires form { IsNewForm self.old.cells form }
+        ensures ok { IfOk result (λ id. (cost_refusal self.old.kept w 1 0 ≡ None) × (id ≡ length self.old.cells) × (self.new ≡ made self.old w (new_cell w form up ∷ []) 1 0)) }
+        ensures err { IfErr result (λ e. Refuses e (cost_refusal self.old.kept w 1 0)) }
+        ensures same { OnErr result (self.new ≡ self.old) }
+    {
+        table::afford(&self.kept, w, 1, 0)?;
+        let number = table::counts_of(&self.kept, w).cells;
+        let head = table::head_on(&self.cells, w, form, up, number);
+        let cell = Cell::first(alloc, head)?;
+        let id = table::add(&self.names, &mut self.cells, cell)?;
+        table::pay(&mut self.kept, w, 1, 0);
+        Ok(id)
+    }
+
+    // Makes a scope.
+    fn make_scope(
+        &mut self,
+        alloc: Global,
+        w: u32,
+        outer: Option<CellId>,
+        list: &[Text],
+    ) -> Result<CellId, StoreFault>
+        requires widget { w < 32 }
+        requires outer { IfSome outer (λ i. (i < length self.old.cells) × (is_scope_at self.old.cells i ≡ true)) }
+        ensures ok { IfOk result (λ id. (cost_refusal self.old.kept w 0 (length list.now + 1) ≡ None) × (id ≡ length self.old.cells) × (self.new ≡ made self.old w (scope_cell w outer list.now ∷ []) 0 (length list.now + 1))) }
+        ensures err { IfErr result (λ e. Refuses e (cost_refusal self.old.kept w 0 (length list.now + 1))) }
+        ensures same { OnErr result (self.new ≡ self.old) }
+    {
+        let slots = table::afford_list(&self.kept, w, 0, list.len())?;
+        let id = table::add_scope(alloc, &mut self.names, &mut self.cells, w, outer, list)?;
+        table::pay(&mut self.kept, w, 0, slots);
+        Ok(id)
+    }
+
+    /// Takes a name out. `Closed` comes exactly where the cell is a Bunch or the host's, and false
+    /// exactly for the `length` of an Array.
+    pub fn remove(&mut self, cell: CellId, name: &Text) -> Result<bool, StoreFault>
+        requires { cell < length self.old.cells }
+        ensures ok { IfOk result (λ b. (remove_refusal self.old cell ≡ None) × (b ≡ removed self.old cell name.now) × (self.new ≡ remove_done self.old cell name.now)) }
+        ensures err { IfErr result (λ e. remove_refusal self.old cell ≡ Some e) }
+        ensures same { OnErr result (self.new ≡ self.old) }
+    {
+        let held = table::cell(&self.cells, cell);
+        let Some(_w) = held.writer() else {
+            return Err(StoreFault::Closed);
+        };
+        if held.is_length(name) {
+            return Ok(false);
+        }
+        let Some(n) = self.names.number(name) else {
+            return Ok(true);
+        };
+        table::take(&self.names, &mut self.cells, cell, name, n);
+        Ok(true)
+    }
+
+    /// Writes a variable in the innermost scope that has the name; false exactly where none has it.
+    pub fn var_set(&mut self, scope: CellId, name: &Text, value: Value) -> bool
+        requires at { scope < length self.old.cells }
+        requires scope { is_scope_at self.old.cells scope ≡ true }
+        requires value { IsRefWithin (length self.old.cells) value }
+        ensures found { result ≡ is_some (holder self.old.cells scope name.now) }
+        ensures done { self.new ≡ var_done self.old scope name.now value }
+    {
+        let Some(n) = self.names.number(name) else {
+            return false;
+        };
+        let Some(i) = table::holder(&self.cells, scope, n) else {
+            return false;
+        };
+        table::set_variable(&self.names, &mut self.cells, scope, i, name, n, value);
+        true
+    }
+
+    fn get_along(&self, cell: CellId, name: &Text) -> Option<&Value>
+        requires { cell < length self.now.cells }
+        ensures { option_copied result ≡ value_along self.now.cells cell name.now }
+    {
+        match self.names.number(name) {
+            None => None,
+            Some(n) => table::found(&self.cells, cell, n),
+        }
+    }
+}
