@@ -3,6 +3,7 @@ use Rattle.std.proofs.Common.{◌≡◌, refl}
 use Rattle.std.specs.Prelude.{Some, None, [], ◌∷◌, codes}
 use Rattle.widget_meaning.specs.Values.{Fuel}
 use Rattle.widget_meaning.specs.Trees.{Element, TextNode, label_of}
+use Rattle.widget_meaning.specs.QueryForms.{HuntTag, First, read_query}
 use Rattle.widget_meaning.specs.Rows.{Row, rendered}
 use Rattle.widget_meaning.specs.PageRows.{PageRows, Events, hidden_keys, bad_query, protected_paragraph, second_item, counted, looped}
 use Rattle.widget_meaning.proofs.OnLiterals.{widgets_on_literals}
@@ -18,6 +19,9 @@ bad_query_row_holds = record { stop_is = refl; spent_is = refl; log_is = refl; u
 protected_paragraph_row_holds : Row (rendered protected_paragraph) None 98 (codes "1" ∷ codes "0" ∷ codes "bad place in the page" ∷ []) []
 unfolding widgets_on_literals
 protected_paragraph_row_holds = record { stop_is = refl; spent_is = refl; log_is = refl; uncaught_is = refl }
+
+joined_keyword_holds : read_query (codes "p:firstb") ≡ Some (record { hunter = HuntTag (codes "p"); filters = First ∷ [] } ∷ record { hunter = HuntTag (codes "b"); filters = [] } ∷ [])
+joined_keyword_holds = refl
 
 second_item_row_holds : Row (rendered (second_item (codes "li:rest:first"))) None 48 (codes "b" ∷ codes "1" ∷ []) []
 unfolding widgets_on_literals
@@ -52,4 +56,4 @@ unfolding widgets_on_literals
 bubble_into_loop_events_holds = record { turns_are = refl; missed_are = refl; gone_are = refl }
 
 pub page_rows : PageRows
-page_rows = record { hidden_keys_row = hidden_keys_row_holds; bad_query_row = bad_query_row_holds; protected_paragraph_row = protected_paragraph_row_holds; second_item_row = second_item_row_holds; second_item_again_row = second_item_again_row_holds; counter_row = counter_row_holds; counter_events = counter_events_holds; counter_styled = counter_styled_holds; counter_text = counter_text_holds; bubble_into_loop_row = bubble_into_loop_row_holds; bubble_into_loop_events = bubble_into_loop_events_holds }
+page_rows = record { hidden_keys_row = hidden_keys_row_holds; bad_query_row = bad_query_row_holds; protected_paragraph_row = protected_paragraph_row_holds; joined_keyword = joined_keyword_holds; second_item_row = second_item_row_holds; second_item_again_row = second_item_again_row_holds; counter_row = counter_row_holds; counter_events = counter_events_holds; counter_styled = counter_styled_holds; counter_text = counter_text_holds; bubble_into_loop_row = bubble_into_loop_row_holds; bubble_into_loop_events = bubble_into_loop_events_holds }

@@ -28,12 +28,12 @@ abbrev pub starts : State → List QueryStep → List ℕ → List ℕ
 starts s [] ns = ns
 starts s (q ∷ qs) ns = if is_next q.hunter then filter (λ n. not (notes_at s n).is_protected) ns else ns
 
--- `q(query)`: the Bunch found; the extra is the steps times the nodes that the widget has had
+-- what a query of these steps finds, or E9 where the text is no query
 abbrev pub query_steps : Option (List QueryStep) → List ℕ → State → Plan
 query_steps None ns s = throw E9 s
 query_steps (Some qs) ns s = charge (length qs * next_node s) s (make_bunch (finds s (starts s qs ns) qs) s give)
 
--- `q` of a Bunch
+-- `q(query)`: the Bunch found; the extra is the steps times the nodes that the widget has had
 abbrev pub query : List ℕ → Value → State → Plan
 query ns v s = want_primitives (v ∷ []) s (query_steps (read_query (to_text v)) ns s)
 
@@ -70,7 +70,7 @@ abbrev pub is_checked : State → List ℕ → Bool
 is_checked s [] = false
 is_checked s (n ∷ ns) = is_some (attribute s n (codes "checked"))
 
--- `explode()`: an array of Bunches of one node; the array is born first
+-- the objects with these numbers from one on, one for each node
 abbrev pub bunches_from : ℕ → List ℕ → List Value
 bunches_from m [] = []
 bunches_from m (n ∷ ns) = Own m ∷ bunches_from (m + 1) ns
@@ -84,7 +84,7 @@ with_bunches s (n ∷ ns) = with_bunches (with_new_cell s (new_bunch (n ∷ []))
 abbrev pub exploded : List ℕ → State → State
 exploded ns s = with_bunches (with_new_cell s (new_array (length ns) (numbered_pairs 0 (bunches_from (length s.own.heap + 1) ns)))) ns
 
--- `explode()`, at one cost
+-- `explode()`, at one cost: an array of Bunches of one node; the array is born first
 abbrev pub explode : List ℕ → State → Plan
 explode ns s = charge (length ns) s (pay (cost 0 (length ns + 1) (3 * length ns) 0) s (λ t. give (Own (length t.own.heap)) (exploded ns t)))
 

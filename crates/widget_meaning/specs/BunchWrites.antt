@@ -2,6 +2,7 @@
 use Rattle.std.specs.Prelude.{ℕ, ◌+◌, ◌-◌, ◌*◌, List, [], ◌∷◌, ◌++◌, length, Bool, true, false, not, ◌&&◌, ◌||◌, nat_eq, nat_le, nat_lt, if◌then◌else◌, codes, Option, Some, None}
 use Rattle.std.specs.List.{filter, list_all, count_by}
 use Rattle.std.specs.Str.{bytes_eq}
+use Rattle.widget_meaning.specs.Limits.{max_node_depth}
 use Rattle.widget_meaning.specs.NativeNames.{WriteNative, Append, Remove, Empty, Replace, SetValue, SetStyle, SetClass, SetTitle, SetCheck, SetEnabled, Focus, Blur, On, Off, Fire, Each, SetMark, Protect, Bubble}
 use Rattle.widget_meaning.specs.Values.{Value, Undefined, Own, E3, E10, is_true, to_text}
 use Rattle.widget_meaning.specs.Trees.{Trees, End, Node, Label, TextNode, Element, Attribute, label_of, parent, children, tops, height, tree_size, numbered, grafted, with_attribute}
@@ -14,10 +15,6 @@ use Rattle.widget_meaning.specs.Styles.{is_style_property, is_style_value, style
 use Rattle.widget_meaning.specs.TreeOps.{subtree, subtrees, stands_in, all_detached, all_moved_under, replaced_by, depth_of, copied}
 use Rattle.widget_meaning.specs.PageForms.{root, want, want_all, want_one, want_bunch, is_void, is_input, is_field, is_text_node, is_element, is_tag, tree_units, next_node, with_room, with_label, is_plain_words, is_event_type, has_number}
 use Rattle.widget_meaning.specs.BunchReads.{bunches_from, with_bunches}
-
--- a depth over 200 is refused
-abbrev pub max_node_depth : ℕ
-max_node_depth = 200
 
 -- the extra, and then what a method that costs nothing does; it gives the Bunch
 abbrev pub alter : ℕ → Value → State → (State → State) → Plan
@@ -283,12 +280,12 @@ write_method SetMark ns b vs d s = want_primitives (nth 0 vs ∷ []) s (alter (l
 write_method Protect ns b vs d s = alter (length ns) b s (each_noted protected ns)
 write_method Bubble ns b vs d s = bubble s.dispatches s
 
--- the receiver, which is given back
+-- the receiver, undefined where there is none
 abbrev pub or_this : Option Value → Value
 or_this None = Undefined
 or_this (Some v) = v
 
--- a method of a Bunch that changes, and `bubble`
+-- a method of a Bunch that changes, which gives its receiver back, and `bubble`
 abbrev pub write_native : WriteNative → Option Value → List Value → ℕ → State → Plan
 write_native Bubble this vs d s = bubble s.dispatches s
 write_native w this vs d s = on_bunch this s (λ ns. write_method w ns (or_this this) vs d s)

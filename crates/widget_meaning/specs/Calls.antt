@@ -10,7 +10,7 @@ use Rattle.widget_meaning.specs.OwnState.{State, Kind, Object, Array, Function, 
 use Rattle.widget_meaning.specs.Plan.{Place, Plan, Ret, Halt, Do, Exec, Call, RunNative, and_then, on_value, on_normal}
 use Rattle.widget_meaning.specs.Costs.{pay, slots_cost, make, throw, give}
 use Rattle.widget_meaning.specs.Properties.{get, is_function}
-use Rattle.widget_meaning.specs.Scopes.{fun_name, fun_names, funs_list, scope_names, first_pairs, set_pair, stmts_vars}
+use Rattle.widget_meaning.specs.Scopes.{fun_name, without_name, fun_names, funs_list, scope_names, first_pairs, set_pair, stmts_vars}
 
 -- the statements of a block in order
 abbrev pub stmts_onto : Stmts → List Stmt → List Stmt
@@ -36,15 +36,15 @@ without_directive (tree.StmtAt at names (tree.Only (tree.ExprAt place inner (tre
     if bytes_eq t (codes "use strict") then is else tree.StmtAt at names (tree.Only (tree.ExprAt place inner (tree.Str t))) ∷ is
 without_directive is = is
 
--- the declared functions are made in order of the text, each at the cost of a cell
+-- a value under a function's name, where it has one
 abbrev pub with_variable : State → ℕ → List (List ℕ) → Value → State
 with_variable s i [] v = s
 with_variable s i (x ∷ xs) v = with_scope s i (set_pair (scope_at s i) x v)
 
--- declared functions, one after the other, and then what follows
+-- the declared functions are made in order of the text, each at the cost of a cell, and then what follows
 abbrev pub declare : List Fun → ℕ → State → (State → Plan) → Plan
 declare [] i s k = k s
-declare (f ∷ fs) i s k = make (new_function f (Some i)) 0 s (λ v t. declare fs i (with_variable t i (fun_name f) v) k)
+declare (f ∷ fs) i s k = make (new_function (without_name f) (Some i)) 0 s (λ v t. declare fs i (with_variable t i (fun_name f) v) k)
 
 -- how a call ends, by how its body ended
 abbrev pub call_end : Completion → State → Plan
@@ -84,7 +84,7 @@ invoke (Own n) this vs d s = enter (cell_at s n).kind (Own n) vs (suc d) s
 invoke (Host (Native w)) this vs d s = Do (RunNative w this vs d) s Ret
 invoke v this vs d s = throw E2 s
 
--- an object as an operand: its `toString` is read as a property and called with no arguments
+-- what a `toString` gave, or E6 where that is an object
 abbrev pub primitive_result : Completion → State → Plan
 primitive_result o s = on_value o s (λ v. if is_object v then throw E6 s else give v s)
 
@@ -93,6 +93,6 @@ abbrev pub call_to_string : Bool → Value → Value → ℕ → State → Plan
 call_to_string true f v d s = Do (Call f (Some v) [] d) s primitive_result
 call_to_string false f v d s = throw E6 s
 
--- an operand as a primitive, by a caller at this depth
+-- an operand as a primitive, by a caller at this depth: of an object `toString` is read as a property and called with no arguments
 abbrev pub to_primitive : Value → ℕ → State → Plan
 to_primitive v d s = if is_object v then call_to_string (is_function s (get s v (codes "toString"))) (get s v (codes "toString")) v d s else give v s

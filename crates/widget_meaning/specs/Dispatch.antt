@@ -15,12 +15,12 @@ use Rattle.widget_meaning.specs.Calls.{invoke}
 abbrev pub listening : State → ℕ → List ℕ → List ℕ
 listening s n kind = map (λ h. h.func) (filter (λ h. bytes_eq h.kind kind) (notes_at s n).handlers)
 
--- the nearest node at or above this one that listens, with its functions, at most this many steps up
+-- the functions of this node where it has some, or else what is found further up
 abbrev pub here_or_above : ℕ → List ℕ → (Bool → Option (ℕ × List ℕ)) → Option (ℕ × List ℕ)
 here_or_above n [] k = k true
 here_or_above n (f ∷ fs) k = Some (n, f ∷ fs)
 
--- so many nodes up
+-- the nearest node at or above this one that listens, with its functions, at most this many steps up
 abbrev pub nearest_from : ℕ → State → Option ℕ → List ℕ → Option (ℕ × List ℕ)
 nearest_from m s None kind = None
 nearest_from zero s (Some n) kind = None

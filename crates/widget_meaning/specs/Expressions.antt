@@ -86,7 +86,7 @@ named_read b o s = on_value o s (λ v. read b (to_text v) s)
 abbrev pub subscript_read : Expr → Place → Completion → State → Plan
 subscript_read i p o s = on_value o s (λ b. Do (Eval i p) s (named_read b))
 
--- a target: a variable, a property of a base that has some, or a value
+-- a property as a target: its base is not undefined or null
 abbrev pub refer : Value → List ℕ → State → Plan
 refer b x s = if is_nothing b then throw E1 s else Ret (Refers (Property b x)) s
 
@@ -173,11 +173,11 @@ binary_with op v p o s = on_value o s (λ w. operate op v w p.depth s)
 abbrev pub binary_right : BinOp → Expr → Place → Completion → State → Plan
 binary_right op b p o s = on_value o s (λ v. Do (Eval b p) s (binary_with op v p))
 
--- a prefix operator: `+` and `-` convert an object, `!` and `typeof` do not
+-- a prefix operator, after its operand is converted
 abbrev pub unary_converted : UnOp → Completion → State → Plan
 unary_converted op o s = on_value o s (λ v. result (unary op v) s)
 
--- a prefix operator on a value
+-- a prefix operator on a value: `+` and `-` convert an object, `!` and `typeof` do not
 abbrev pub unary_on : UnOp → Value → Place → State → Plan
 unary_on un.TypeOf v p s = give (Text (type_name (is_function s v) v)) s
 unary_on un.Not v p s = result (unary un.Not v) s
@@ -265,7 +265,7 @@ or_right b p o s = on_value o s (λ v. if is_true v then give v s else Do (Eval 
 abbrev pub choose : Expr → Expr → Place → Completion → State → Plan
 choose b c p o s = on_value o s (λ v. if is_true v then Do (Eval b p) s Ret else Do (Eval c p) s Ret)
 
--- each form
+-- a prefix operator: `delete` takes a target, the others a value
 abbrev pub prefix_form : UnOp → Expr → Place → State → Plan
 prefix_form un.Delete e p s = Do (Target e p) s delete_target
 prefix_form op e p s = Do (Eval e p) s (unary_operand op p)

@@ -84,12 +84,12 @@ abbrev pub unless_stopped : Option Stop → OwnState → (OwnState → OwnState)
 unless_stopped None o f = f o
 unless_stopped (Some c) o f = o
 
--- one due timer after the other, and then the clock is the limit. A stop leaves all as it is
+-- the turn of a due timer, and what follows; where none is due, the clock is the limit
 abbrev pub on_due : Option Timer → ℕ → OwnState → (OwnState → OwnState) → OwnState
 on_due None limit o f = record o { clock = limit }
 on_due (Some t) limit o f = f (timer_turn t o)
 
--- at most so many turns of due timers
+-- at most so many turns of due timers, one after the other, and then the clock is the limit. A stop leaves all as it is
 abbrev pub due_turns : ℕ → ℕ → OwnState → OwnState
 due_turns zero limit o = record o { clock = limit }
 due_turns (suc n) limit o = unless_stopped o.stop o (λ p. on_due (next_due limit p.timers) limit p (due_turns n limit))

@@ -1,7 +1,7 @@
 -- The limits of one widget.
 use Rattle.std.specs.Prelude.{ℕ, ◌^◌}
 
--- over its life: visible cells, slots, text units, nodes
+-- objects over its life
 abbrev pub max_cells : ℕ
 max_cells = 524288
 
@@ -29,7 +29,7 @@ max_text = 65536
 abbrev pub max_chain : ℕ
 max_chain = 100
 
--- of waiting timers, and of kept posts
+-- waiting timers
 abbrev pub max_timers : ℕ
 max_timers = 64
 
@@ -52,3 +52,19 @@ max_post = 1024
 -- of arrays and objects one in the other in what is written as JSON
 abbrev pub max_nesting : ℕ
 max_nesting = 100
+
+-- of nodes one inside the other
+abbrev pub max_node_depth : ℕ
+max_node_depth = 200
+
+-- of steps in one query
+abbrev pub max_query_steps : ℕ
+max_query_steps = 32
+
+-- of units in one value of a style
+abbrev pub max_style_value : ℕ
+max_style_value = 256
+
+-- of letters in one type of events
+abbrev pub max_event_type : ℕ
+max_event_type = 16

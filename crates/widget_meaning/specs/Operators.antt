@@ -52,12 +52,12 @@ quotient x y =
     else if is_zero (int_rem x y) then Gives (Num (int_div x y))
     else Leaves
 
--- the texts are joined where either is a text; else the numbers are added
+-- whether a value is a text
 abbrev pub is_text : Value → Bool
 is_text (Text t) = true
 is_text _ = false
 
--- `+`
+-- `+`: the texts are joined where either is a text; else the numbers are added
 abbrev pub plus : Value → Value → OpOut
 plus a b =
     if is_text a || is_text b then text (to_text a ++ to_text b)
@@ -78,7 +78,7 @@ abbrev pub compare : (List ℕ → List ℕ → Bool) → (ℤ → ℤ → Bool)
 compare texts numbers (Text t) (Text u) = truth (texts t u)
 compare texts numbers a b = of_numbers (to_number a) (to_number b) (truth false) (λ x y. truth (numbers x y))
 
--- type and value, texts by units, objects by identity; NaN equals nothing
+-- whether a decision is yes
 abbrev pub is_yes : {A : Type 0} → Dec A → Bool
 is_yes (yes p) = true
 is_yes (no p) = false
@@ -87,7 +87,7 @@ is_yes (no p) = false
 abbrev pub same_entry : HostEntry → HostEntry → Bool
 same_entry g h = is_yes (same_host g h)
 
--- `===`
+-- `===`: type and value, texts by units, objects by identity; NaN equals nothing
 abbrev pub same : Value → Value → Bool
 same Undefined Undefined = true
 same Null Null = true

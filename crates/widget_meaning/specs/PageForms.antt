@@ -3,6 +3,7 @@ use Rattle.std.specs.Prelude.{ℕ, ◌+◌, List, [], ◌∷◌, ◌++◌, lengt
 use Rattle.std.specs.List.{list_any, list_all}
 use Rattle.std.specs.Int.{is_in_range}
 use Rattle.std.specs.Str.{bytes_eq, byte}
+use Rattle.widget_meaning.specs.Limits.{max_event_type}
 use Rattle.widget_meaning.specs.Values.{Value, Own, E4, E10}
 use Rattle.widget_meaning.specs.Trees.{Trees, End, Node, Label, TextNode, Element, Attribute, label_of, relabelled}
 use Rattle.widget_meaning.specs.OwnState.{State, Kind, Object, Array, Function, Bunch, cell_at, no_notes, with_own, with_forest}
@@ -143,7 +144,7 @@ is_plain_words t = list_all is_plain_unit t
 
 -- a type of events: 1 to 16 letters `a` to `z`
 abbrev pub is_event_type : List ℕ → Bool
-is_event_type t = nat_lt 0 (length t) && nat_le (length t) 16 && list_all (is_in_range 97 122) t
+is_event_type t = nat_lt 0 (length t) && nat_le (length t) max_event_type && list_all (is_in_range 97 122) t
 
 -- no number twice, each at its first place
 abbrev pub has_number : List ℕ → ℕ → Bool

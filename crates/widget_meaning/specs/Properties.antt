@@ -49,7 +49,7 @@ prototype s (Own n) = Some (cell_at s n).prototype
 prototype s (Host h) = host_prototype h
 prototype s v = None
 
--- the first of a chain that has the name
+-- a value that was found, or else what is found further on
 abbrev pub or_else : Option Value → (Bool → Option Value) → Option Value
 or_else (Some v) k = Some v
 or_else None k = k true
@@ -111,12 +111,12 @@ abbrev pub put_index : Option ℕ → Cell → ℕ → ℕ → List ℕ → Valu
 put_index None c len n x v s k = put_pair c n x v s k
 put_index (Some i) c len n x v s k = put_pair (with_length c (max len (i + 1))) n x v s k
 
--- a smaller length removes the elements at or past it
+-- whether a name is no index at or past a length
 abbrev pub is_below : ℕ → Option ℕ → Bool
 is_below len None = true
 is_below len (Some i) = nat_lt i len
 
--- the pairs without elements at or past a length
+-- the pairs without elements at or past a length, as a smaller length leaves them
 abbrev pub kept_below : ℕ → Pairs → Pairs
 kept_below len ps = filter (λ p. is_below len (index_of p.0)) ps
 
@@ -141,11 +141,11 @@ put (Own n) x v s k = put_own (cell_at s n).kind (cell_at s n) n x v s k
 put (Host h) x v s k = throw E5 s
 put o x v s k = k s
 
--- a property is taken out, and what is done with whether it could be; an array keeps its `length`
+-- a pair is taken out, and what is done then
 abbrev pub delete_pair : Cell → ℕ → List ℕ → State → (Bool → State → Plan) → Plan
 delete_pair c n x s k = k true (with_cell s n (with_pairs c (taken_out c.pairs x)))
 
--- a property of an object of the widget is taken out
+-- a property of an object of the widget is taken out, and what is done with whether it could be; an array keeps its `length`
 abbrev pub delete_own : Kind → Cell → ℕ → List ℕ → State → (Bool → State → Plan) → Plan
 delete_own Object c n x s k = delete_pair c n x s k
 delete_own (Function f scope) c n x s k = delete_pair c n x s k
@@ -168,7 +168,7 @@ keys s (Own n) = permitted_names (cell_at s n).pairs
 keys s (Host h) = permitted_names (host_pairs h)
 keys s v = []
 
--- the names of `for-in`: own ones, then those along the prototypes that are not listed yet; host objects give none
+-- whether a name is among those listed
 abbrev pub is_listed : List (List ℕ) → List ℕ → Bool
 is_listed xs x = list_any (bytes_eq x) xs
 
@@ -181,11 +181,11 @@ abbrev pub names_on_chain : ℕ → State → Option Value → List (List ℕ) �
 names_on_chain (suc m) s (Some (Own n)) xs = names_on_chain m s (Some (cell_at s n).prototype) (listed xs (permitted_names (cell_at s n).pairs))
 names_on_chain m s o xs = xs
 
--- the names that `for-in` lists
+-- the names that `for-in` lists: own ones, then those along the prototypes that are not listed yet; host objects give none
 abbrev pub names_of : State → Value → List (List ℕ)
 names_of s v = names_on_chain (suc max_chain) s (Some v) []
 
--- functions of the widget, and what can be called
+-- whether an object is a function
 abbrev pub is_function_kind : Kind → Bool
 is_function_kind (Function f scope) = true
 is_function_kind Object = false

@@ -1,8 +1,9 @@
 -- Queries: their steps, and how a text is read as steps.
 use Rattle.std.specs.Prelude.{ℕ, zero, suc, List, [], ◌∷◌, ◌++◌, length, drop, take, Bool, not, ◌||◌, nat_le, nat_eq, ◌==◌, if◌then◌else◌, codes, Option, Some, None}
-use Rattle.std.specs.List.{prefix_len}
+use Rattle.std.specs.List.{prefix_len, starts_with}
 use Rattle.std.specs.Int.{is_in_range}
-use Rattle.std.specs.Str.{bytes_eq, byte}
+use Rattle.std.specs.Str.{byte}
+use Rattle.widget_meaning.specs.Limits.{max_query_steps}
 
 -- from each start: elements below with a tag, the element below with an `id`, children with a tag, the next sibling with a tag, all children, all below
 pub data Hunter : Type 0 where
@@ -80,28 +81,20 @@ read_hunter (u ∷ us) =
     else if u == byte "*" then Some (HuntAll, us)
     else behind (name_at (u ∷ us)) (u ∷ us) HuntTag
 
--- the filters that are keywords
-abbrev pub keyword_filter : List ℕ → Option Filter
-keyword_filter w =
-    if bytes_eq w (codes "checked") then Some IsChecked
-    else if bytes_eq w (codes "unchecked") then Some IsUnchecked
-    else if bytes_eq w (codes "enabled") then Some IsEnabled
-    else if bytes_eq w (codes "disabled") then Some IsDisabled
-    else if bytes_eq w (codes "focus") then Some IsFocus
-    else if bytes_eq w (codes "first") then Some First
-    else if bytes_eq w (codes "rest") then Some RestOf
-    else if bytes_eq w (codes "even") then Some Even
-    else if bytes_eq w (codes "odd") then Some Odd
-    else None
+-- the filters that are keywords; none of the words begins with another
+abbrev pub keywords : List (List ℕ × Filter)
+keywords =
+    (codes "checked", IsChecked) ∷ (codes "unchecked", IsUnchecked) ∷ (codes "enabled", IsEnabled) ∷ (codes "disabled", IsDisabled)
+    ∷ (codes "focus", IsFocus) ∷ (codes "first", First) ∷ (codes "rest", RestOf) ∷ (codes "even", Even) ∷ (codes "odd", Odd) ∷ []
 
--- a keyword is the run of small letters behind the colon
-abbrev pub with_rest : Option Filter → List ℕ → Reading Filter
-with_rest None us = None
-with_rest (Some f) us = Some (f, us)
+-- the filter of the keyword with which a text begins; nothing need separate it from what follows
+abbrev pub keyword_at : List (List ℕ × Filter) → List ℕ → Reading Filter
+keyword_at [] us = None
+keyword_at (k ∷ ks) us = if starts_with nat_eq us k.0 then Some (k.1, drop (length k.0) us) else keyword_at ks us
 
 -- the filter of a keyword
 abbrev pub read_keyword : List ℕ → Reading Filter
-read_keyword us = with_rest (keyword_filter (take (prefix_len is_lower us) us)) (drop (prefix_len is_lower us) us)
+read_keyword us = keyword_at keywords us
 
 -- `]`, or `=`, units other than `]`, and `]`
 abbrev pub read_value : List ℕ → List ℕ → List ℕ → Reading Filter
@@ -154,12 +147,12 @@ read_steps (suc n) qs [] = Some qs
 read_steps (suc n) qs (u ∷ us) =
     then_read (read_hunter (u ∷ us)) (λ h vs. read_filters (suc (length vs)) [] vs (λ fs ws. read_steps n (qs ++ record { hunter = h; filters = fs } ∷ []) (without_spaces ws)))
 
--- a query: 1 to 32 steps; none for a text that is no query
-abbrev pub up_to_32 : Option (List QueryStep) → Option (List QueryStep)
-up_to_32 None = None
-up_to_32 (Some []) = None
-up_to_32 (Some (q ∷ qs)) = if nat_le (length (q ∷ qs)) 32 then Some (q ∷ qs) else None
+-- steps, where there are some and not too many
+abbrev pub up_to_limit : Option (List QueryStep) → Option (List QueryStep)
+up_to_limit None = None
+up_to_limit (Some []) = None
+up_to_limit (Some (q ∷ qs)) = if nat_le (length (q ∷ qs)) max_query_steps then Some (q ∷ qs) else None
 
--- the steps of a query
+-- the steps of a query, 1 to 32; none for a text that is no query
 abbrev pub read_query : List ℕ → Option (List QueryStep)
-read_query us = up_to_32 (read_steps (suc (length us)) [] (without_spaces us))
+read_query us = up_to_limit (read_steps (suc (length us)) [] (without_spaces us))

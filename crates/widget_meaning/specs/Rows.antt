@@ -1,8 +1,10 @@
 -- Rows computed from the definitions: what widgets with these bodies do, each with the default grant.
 use Rattle.std.specs.Prelude.{◌≡◌, ℕ, List, [], ◌∷◌, codes, Option, Some, None}
+use Rattle.js_tree.specs.declared.nodes.AssignOp.TheVariants as assignment
 use Rattle.js_tree.specs.declared.nodes.UnOp.TheVariants as un
 use Rattle.js_tree.specs.declared.nodes.BinOp.TheVariants as bin
 use Rattle.js_tree.specs.Plain as tree
+use Rattle.js_tree.specs.Plain.{Stmt}
 use Rattle.widget_meaning.specs.Values.{Stop, Due, Depth, Number}
 use Rattle.widget_meaning.specs.OwnState.{OwnState}
 use Rattle.widget_meaning.specs.Alone.{Content, loaded}
@@ -54,11 +56,25 @@ bare_concat = widget
 abbrev pub endless_call : Content
 endless_call = widget (does (apply (name (codes "f")) []) ∷ []) (tree.AndFun tree.NoFuns (fun (Some (codes "f")) [] (does (apply (name (codes "f")) []) ∷ []) tree.NoFuns))
 
+-- f = 1;
+abbrev pub writes_f : List Stmt
+writes_f = does (expr (tree.Assign assignment.Assign (name (codes "f")) (num (codes "1")))) ∷ []
+
+-- function f() { f = 1; } f(); ADSAFE.log(f); the call writes the variable of the scope around it
+abbrev pub declared_name : Content
+declared_name = widget (does (apply (name (codes "f")) []) ∷ logs (name (codes "f")) ∷ []) (tree.AndFun tree.NoFuns (fun (Some (codes "f")) [] writes_f tree.NoFuns))
+
+-- var f = 0, g = function f() { f = 1; }; g(); ADSAFE.log(f); the call writes a variable of its own
+abbrev pub expression_name : Content
+expression_name = widget
+    (stmt (tree.Var (tree.AndDecl (tree.AndDecl tree.NoDecls (codes "f") 0 (tree.SomeExpr (num (codes "0")))) (codes "g") 0 (tree.SomeExpr (expr (tree.Function (fun (Some (codes "f")) [] writes_f tree.NoFuns))))))
+    ∷ does (apply (name (codes "g")) []) ∷ logs (name (codes "f")) ∷ []) tree.NoFuns
+
 -- throw {name: "X", message: "y"};
 abbrev pub uncaught_object : Content
 uncaught_object = widget (stmt (tree.Throw (expr (tree.Object (tree.AndProperty (tree.AndProperty tree.NoProperties (codes "name") (str (codes "X"))) (codes "message") (str (codes "y")))))) ∷ []) tree.NoFuns
 
--- the rows
+-- the rows; the slots of two are those of the scopes: one for each scope and one for each of its names
 pub record Rows : Type 0 where
   pub log_sum_row : Row (rendered log_sum) None 10 (codes "3" ∷ []) []
   pub joined_left_row : Row (rendered joined_left) None 14 (codes "a12" ∷ []) []
@@ -67,4 +83,8 @@ pub record Rows : Type 0 where
   pub nan_as_name_row : Row (rendered nan_as_name) None 25 (codes "NaN" ∷ codes "x" ∷ []) []
   pub bare_concat_row : Row (rendered bare_concat) None 28 (codes "bad receiver" ∷ []) []
   pub endless_call_row : Row (rendered endless_call) (Some (Due Depth)) 601 [] []
+  pub declared_name_row : Row (rendered declared_name) None 15 (codes "1" ∷ []) []
+  pub declared_name_slots : (rendered declared_name).counts.slots ≡ 5
+  pub expression_name_row : Row (rendered expression_name) None 18 (codes "0" ∷ []) []
+  pub expression_name_slots : (rendered expression_name).counts.slots ≡ 7
   pub uncaught_object_row : Row (rendered uncaught_object) None 5 [] (codes "X: y" ∷ [])

@@ -58,16 +58,20 @@ unfoldable mutual
   clauses_vars tree.NoClauses = []
   clauses_vars (tree.AndClause cs test ss) = clauses_vars cs ++ stmts_vars ss
 
--- the name of a function, and of the functions declared in one, in order of the text
+-- the name of a function, if it has one
 abbrev pub fun_name : Fun → List (List ℕ)
 fun_name (tree.FunAt at names name params body funs) = option_to_list name
+
+-- a declared function: its name is a variable of the scope around it, and none of its own calls
+abbrev pub without_name : Fun → Fun
+without_name (tree.FunAt at names name params body funs) = tree.FunAt at names None params body funs
 
 -- declared functions in order of the text
 abbrev pub funs_list : Funs → List Fun → List Fun
 funs_list tree.NoFuns fs = fs
 funs_list (tree.AndFun gs g) fs = funs_list gs (g ∷ fs)
 
--- their names
+-- the names of declared functions, in order of the text
 abbrev pub fun_names : List Fun → List (List ℕ)
 fun_names [] = []
 fun_names (f ∷ fs) = fun_name f ++ fun_names fs
@@ -77,11 +81,11 @@ abbrev pub distinct : List (List ℕ) → List (List ℕ) → List (List ℕ)
 distinct seen [] = seen
 distinct seen (x ∷ xs) = distinct (listed seen (x ∷ [])) xs
 
--- the names of a call's scope: parameters, `var` names, function names, own name
+-- the names of a call's scope: parameters, `var` names, names of declared functions, own name of a function expression
 abbrev pub scope_names : List (List ℕ) → Stmts → List Fun → List (List ℕ) → List (List ℕ)
 scope_names params body funs own = distinct [] (params ++ (stmts_vars body ++ (fun_names funs ++ own)))
 
--- the argument of a parameter: a repeated one has its last
+-- the first argument left, undefined where none is
 abbrev pub first_value : List Value → Value
 first_value [] = Undefined
 first_value (v ∷ vs) = v
@@ -96,7 +100,7 @@ abbrev pub argument : List (List ℕ) → List Value → List ℕ → Option Val
 argument [] vs x = None
 argument (p ∷ ps) vs x = or_first (argument ps (drop 1 vs) x) (bytes_eq p x) (first_value vs)
 
--- the first value of each name: an argument; the function itself under its own name where that is no other name; else undefined
+-- the function itself, or undefined
 abbrev pub if_own : Bool → Value → Value
 if_own true f = f
 if_own false f = Undefined
@@ -110,11 +114,11 @@ abbrev pub or_own : Option Value → Bool → Value → Value
 or_own (Some v) alone f = v
 or_own None alone f = if_own alone f
 
--- the names of a call's scope with their first values
+-- the names of a call's scope with their first values: an argument; the function itself under its own name where that is no other name; else undefined
 abbrev pub first_pairs : List (List ℕ) → List Value → List (List ℕ) → List (List ℕ) → Value → List (List ℕ) → Pairs
 first_pairs params vs others own f xs = map (λ x. (x, or_own (argument params vs x) (is_own_alone others own x) f)) xs
 
--- the innermost scope that has the name
+-- this scope, or else what is found further out
 abbrev pub here_or : Bool → ℕ → (Bool → Option ℕ) → Option ℕ
 here_or true i k = Some i
 here_or false i k = k true
@@ -138,11 +142,11 @@ value_in s (Some i) x = or_undefined (lookup (scope_at s i).pairs x)
 abbrev pub variable : State → Place → List ℕ → Value
 variable s p x = value_in s (scope_of s p x) x
 
--- a write of a variable
+-- a scope with another value of a name that it has
 abbrev pub set_pair : Scope → List ℕ → Value → Scope
 set_pair c x v = record { outer = c.outer; pairs = replaced c.pairs x v }
 
--- a write of a name in the scope that has it
+-- a write of a name in the scope that has it; of no other name
 abbrev pub set_in : State → Option ℕ → List ℕ → Value → State
 set_in s None x v = s
 set_in s (Some i) x v = with_scope s i (set_pair (scope_at s i) x v)

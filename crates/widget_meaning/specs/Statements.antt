@@ -16,7 +16,7 @@ use Rattle.widget_meaning.specs.Expressions.{expr_list}
 abbrev pub discard : Completion → State → Plan
 discard o s = on_value o s (λ v. Ret Normal s)
 
--- declared variables in order: those with a first value get it
+-- the declarations of a list, before those that follow
 abbrev pub decls_onto : Decls → List (List ℕ × OptionalExpr) → List (List ℕ × OptionalExpr)
 decls_onto tree.NoDecls after = after
 decls_onto (tree.AndDecl ds x at e) after = decls_onto ds ((x, e) ∷ after)
@@ -34,7 +34,7 @@ abbrev pub declaration : OptionalExpr → List ℕ → Place → State → (Stat
 declaration tree.NoExpr x p s k = k s
 declaration (tree.SomeExpr e) x p s k = Do (Eval e p) s (declare_as x p k)
 
--- declarations one after the other
+-- declarations one after the other: those with a first value get it
 abbrev pub declarations : List (List ℕ × OptionalExpr) → Place → State → Plan
 declarations [] p s = Ret Normal s
 declarations (d ∷ ds) p s = declaration d.1 d.0 p s (declarations ds p)
@@ -129,11 +129,11 @@ return_form (tree.SomeExpr e) p s = Do (Eval e p) s to_return
 abbrev pub to_throw : Completion → State → Plan
 to_throw o s = on_value o s (λ v. Ret (Throw v) s)
 
--- `switch`: the clauses in order of the text, each with its test, if any, and its statements
+-- a clause of a `switch`: its test, if any, and its statements
 abbrev pub Case : Type 0
 Case = OptionalExpr × List Stmt
 
--- clauses in order, before those that follow
+-- clauses in order of the text, before those that follow
 abbrev pub clauses_onto : Clauses → List Case → List Case
 clauses_onto tree.NoClauses after = after
 clauses_onto (tree.AndClause cs test ss) after = clauses_onto cs ((test, stmt_list ss) ∷ after)

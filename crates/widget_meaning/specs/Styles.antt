@@ -4,6 +4,7 @@ use Rattle.std.specs.List.{list_any, list_all, filter, slice_split, before_first
 use Rattle.std.specs.Int.{is_in_range}
 use Rattle.std.specs.Str.{bytes_eq, byte}
 use Rattle.code_units.specs.Whole.{is_blank, trimmed}
+use Rattle.widget_meaning.specs.Limits.{max_style_value}
 
 -- a property and its value
 abbrev pub StylePair : Type 0
@@ -47,7 +48,7 @@ has_word w (u ∷ us) = begins_with_word w (u ∷ us) || has_word w us
 -- 1 to 256 units, neither the first nor the last a space, without `url` and `expression`
 abbrev pub is_style_value : List ℕ → Bool
 is_style_value v =
-    nat_lt 0 (length v) && nat_le (length v) 256 && list_all is_value_unit v
+    nat_lt 0 (length v) && nat_le (length v) max_style_value && list_all is_value_unit v
     && not (slice_index v 0 == 32) && not (slice_index v (length v - 1) == 32)
     && not (has_word (codes "url") v) && not (has_word (codes "expression") v)
 
@@ -71,15 +72,15 @@ style_pairs t = map style_pair (filter (λ part. not (list_all is_blank part)) (
 abbrev pub print_pairs : List StylePair → List ℕ
 print_pairs ps = join_by (λ p. p.0 ++ (codes ": " ++ p.1)) (codes "; ") ps
 
--- whether a text is a style; another one prints as it stands
+-- whether a property may be set to the value
 abbrev pub is_pair : StylePair → Bool
 is_pair p = is_style_property p.0 && is_style_value p.1
 
--- each part is a pair
+-- each part is a pair: true of a style that M10 accepts, and no test of whether it accepts a text
 abbrev pub is_style : List ℕ → Bool
 is_style t = list_all is_pair (style_pairs t)
 
--- a style as it prints
+-- a style that M10 accepts, as it prints; a text with another part stays as it is
 abbrev pub printed_style : List ℕ → List ℕ
 printed_style t = if is_style t then print_pairs (style_pairs t) else t
 

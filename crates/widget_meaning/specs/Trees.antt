@@ -72,7 +72,7 @@ abbrev pub is_top : ℕ → Trees → Bool
 is_top n End = false
 is_top n (Node m l ks ts) = nat_eq m n || is_top n ts
 
--- its parent
+-- a number that was found, or else another
 abbrev pub or_number : Option ℕ → Option ℕ → Option ℕ
 or_number None m = m
 or_number (Some n) m = Some n
@@ -107,7 +107,7 @@ abbrev pub height : Trees → ℕ
 height End = 0
 height (Node n l ks ts) = max (height ks + 1) (height ts)
 
--- the attributes with one set: a kept name keeps its place, a new one stands last
+-- whether an attribute is there
 abbrev pub has_attribute : List Attribute → List ℕ → Bool
 has_attribute [] x = false
 has_attribute (a ∷ attrs) x = bytes_eq a.name x || has_attribute attrs x
@@ -117,7 +117,7 @@ abbrev pub reset_attribute : List Attribute → List ℕ → List ℕ → List A
 reset_attribute [] x v = []
 reset_attribute (a ∷ attrs) x v = if bytes_eq a.name x then record { name = x; value = v } ∷ attrs else a ∷ reset_attribute attrs x v
 
--- with an attribute set, kept or new
+-- the attributes with one set: a kept name keeps its place, a new one stands last
 abbrev pub with_attribute : List Attribute → List ℕ → List ℕ → List Attribute
 with_attribute attrs x v = if has_attribute attrs x then reset_attribute attrs x v else attrs ++ record { name = x; value = v } ∷ []
 

@@ -63,7 +63,7 @@ pub data Stop : Type 0 where
   Fuel : Stop
   Due : StopCause → Stop
 
--- an object, a primitive, and the two without properties
+-- an object, of the widget or of the host
 abbrev pub is_object : Value → Bool
 is_object (Own n) = true
 is_object (Host h) = true
