@@ -1,4 +1,5 @@
-//! Reads the traces of a table, a line each in hexadecimal, and writes what comes of each.
+//! Reads the traces of a table, a line each, and writes what comes of each. A line has pieces in
+//! hexadecimal; `*` and a number behind a piece say how many times it stands.
 #![tactic(auto)]
 
 use anyhow::{Result, bail};
@@ -16,12 +17,31 @@ fn slots(alloc: Global) -> Result<[Text; 2]> {
     Ok([first, second])
 }
 
+// Appends a piece, as many times as it says.
+fn append_piece(alloc: Global, bytes: &mut Vec<u8>, piece: &str) -> Result<()> {
+    let (digits, times) = piece.split_once('*').unwrap_or((piece, "1"));
+    let part = hex::decode(alloc, digits)?;
+    for _ in 0..times.parse::<u32>()? {
+        bytes.extend_from_slice(&part)?;
+    }
+    Ok(())
+}
+
+// The bytes of a line.
+fn bytes_of(alloc: Global, row: &str) -> Result<Vec<u8>> {
+    let mut bytes = Vec::new(alloc);
+    for piece in row.split(' ') {
+        append_piece(alloc, &mut bytes, piece)?;
+    }
+    Ok(bytes)
+}
+
 fn main(rt: HostRuntime) -> Result<()> {
     let alloc = rt.alloc();
     let names = slots(alloc)?;
     let table = fs::read_to_string(&rt, "traces.txt")?;
     for row in table.lines() {
-        let bytes = hex::decode(alloc, row)?;
+        let bytes = bytes_of(alloc, row)?;
         match read_trace(alloc, &bytes, &names) {
             Ok(_) => println!(rt; "read")?,
             Err(ShapeFault::NotJson) => println!(rt; "NotJson")?,
