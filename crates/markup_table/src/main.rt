@@ -3,81 +3,12 @@
 #![tactic(auto)]
 
 use anyhow::{Result, bail};
-use code_units::{Memory, Text, push_utf8};
+use code_units::Memory;
 use markup_reader::{MarkupFault, read_markup};
-use plain_tree::{Attr, Plain, is_void};
+use page_output::print_plain;
 use std::alloc::Global;
 use std::fmt::Write;
 use std::fs;
-
-type Printed = std::result::Result<(), Memory>;
-
-// The reference that stands for a unit in printed text.
-fn reference(unit: u16, quoted: bool) -> Option<&'static [u8]> {
-    match unit {
-        0x26 => Some(b"&amp;"),
-        0x3C => Some(b"&lt;"),
-        0x3E => Some(b"&gt;"),
-        0x22 if quoted => Some(b"&quot;"),
-        _ => None,
-    }
-}
-
-fn push_escaped(alloc: Global, text: &Text, quoted: bool, out: &mut Vec<u8>) -> Printed {
-    let mut units = Vec::new(alloc);
-    for unit in text.units() {
-        match reference(*unit, quoted) {
-            None => units.push(*unit)?,
-            Some(word) => push_word(word, &mut units)?,
-        }
-    }
-    push_utf8(&Text::from_units(alloc, units)?, out)
-}
-
-fn push_word(word: &[u8], units: &mut Vec<u16>) -> Printed {
-    for byte in word {
-        units.push(u16::from(*byte))?;
-    }
-    Ok(())
-}
-
-fn push_attrs(alloc: Global, attrs: &[Attr], out: &mut Vec<u8>) -> Printed {
-    for attr in attrs {
-        out.push(b' ')?;
-        push_utf8(&attr.name, out)?;
-        out.extend_from_slice(b"=\"")?;
-        push_escaped(alloc, &attr.value, true, out)?;
-        out.push(b'"')?;
-    }
-    Ok(())
-}
-
-fn push_plain(alloc: Global, plain: &Plain, out: &mut Vec<u8>) -> Printed {
-    match plain {
-        Plain::Text { text, .. } => push_escaped(alloc, text, false, out),
-        Plain::Element {
-            tag,
-            attrs,
-            children,
-            ..
-        } => {
-            out.push(b'<')?;
-            push_utf8(tag, out)?;
-            push_attrs(alloc, attrs, out)?;
-            out.push(b'>')?;
-            if is_void(tag) {
-                return Ok(());
-            }
-            for child in children {
-                push_plain(alloc, child, out)?;
-            }
-            out.extend_from_slice(b"</")?;
-            push_utf8(tag, out)?;
-            out.push(b'>')?;
-            Ok(())
-        }
-    }
-}
 
 fn row_of(alloc: Global, bytes: &[u8]) -> std::result::Result<String, Memory> {
     let mut row = String::new(alloc);
@@ -87,7 +18,7 @@ fn row_of(alloc: Global, bytes: &[u8]) -> std::result::Result<String, Memory> {
         Ok(nodes) => {
             let mut printed = Vec::new(alloc);
             for node in &nodes {
-                push_plain(alloc, node, &mut printed)?;
+                print_plain(alloc, node, &mut printed)?;
             }
             row.push_str("printed ")?;
             row.push_str(&hex::encode(alloc, printed)?)?;

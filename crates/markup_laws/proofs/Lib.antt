@@ -1,0 +1,7 @@
+pub mod Signs
+pub mod Texts
+pub mod Chars
+pub mod Parts
+pub mod Law
+pub mod Forms
+mod Examples
