@@ -1,18 +1,150 @@
 -- Each form by the meanings of its parts.
-use Rattle.std.proofs.Common.{ℕ, List, [], refl, sym, ap, ◌∙◌}
+use Rattle.std.proofs.Common.{ℕ, zero, suc, Bool, true, false, List, [], ◌∷◌, ◌≤◌, refl, sym, ap, ◌≡◌, ◌∙◌, arith}
+use Rattle.std.proofs.lemmas.Bool.{false≢true, ltb-false}
+use Rattle.std.specs.Prelude.{Some, is_some, nat_lt, ◌-◌, ◌+◌, ◌++◌, length, Option, None, if◌then◌else◌}
 use Rattle.js_tree.specs.declared.nodes.UnOp.TheVariants as un
+use Rattle.js_tree.specs.declared.nodes.BinOp.{BinOp}
 use Rattle.js_tree.specs.Plain as tree
-use Rattle.js_tree.specs.Plain.{Expr, ExprForm, Exprs, Properties, OptionalExpr, Stmt, StmtForm, Stmts, Decls, ForInit, Catch, OptionalBlock, Clauses, Fun}
-use Rattle.widget_meaning.specs.OwnState.{new_array, plain_object, new_function}
-use Rattle.widget_meaning.specs.Plan.{Eval, Target, Exec, Pass, Call, RunNative, Hear, WhileLoop, DoLoop, ForLoop, and_then}
-use Rattle.widget_meaning.specs.Costs.{make, give}
-use Rattle.widget_meaning.specs.Calls.{statements, next_statements, stmt_list, invoke}
-use Rattle.widget_meaning.specs.Expressions.{expr_list, property_list, array_parts, array_part, object_parts, object_part, dot_read, subscript_read, named_read, dot_target, subscript_target, named_target, value_target, expression, callee, next_argument, binary_right, binary_with, unary_operand, delete_target, step_target, assign_target, assign_with, referred, and_right, or_right, choose}
-use Rattle.widget_meaning.specs.Statements.{discard, decl_list, declarations, declare_as, next_expressions, branch, loop_test, while_next, do_next, for_init, for_again, for_next, for_in_over, to_return, to_throw, clauses_onto, switch_on, caught, finally, case_tested}
+use Rattle.js_tree.specs.Plain.{Expr, ExprForm, Exprs, Properties, OptionalExpr, Stmt, StmtForm, Stmts, Decls, ForInit, Catch, OptionalBlock, Clauses, Fun, Funs}
+use Rattle.widget_meaning.specs.Limits.{max_units, max_cells, max_slots, max_nodes, max_depth}
+use Rattle.widget_meaning.specs.Values.{Value, Text, Own, Completion, Normal, Is, Refers, Return, Break, Continue, Throw, E1, Units, Cells, Slots, Nodes, Depth, is_true, is_nothing}
+use Rattle.widget_meaning.specs.OwnState.{State, Amounts, Function, cell_at, with_new_cell, with_new_scope, new_array, plain_object, new_function}
+use Rattle.widget_meaning.specs.Plan.{Plan, Place, Ret, Halt, Do, Eval, Target, Exec, Pass, Call, RunNative, Hear, Hearing, WhileLoop, DoLoop, ForLoop, ForInLoop, Out, Stopped, OutOfFuel, and_then, charge, ticks}
+use Rattle.widget_meaning.specs.Costs.{make, give, throw, within, sum, object_cost, slots_cost, with_counts}
+use Rattle.widget_meaning.specs.Operators.{binary, same}
+use Rattle.widget_meaning.specs.Properties.{property, names_of}
+use Rattle.widget_meaning.specs.Scopes.{assign, fun_name, fun_names, funs_list, without_name, stmts_vars, scope_names, first_pairs}
+use Rattle.widget_meaning.specs.Calls.{statements, next_statements, stmt_list, without_directive, with_variable, declare, call_end, enter, enter_scope, invoke, to_primitive, primitive_result}
+use Rattle.widget_meaning.specs.Expressions.{expr_list, property_list, array_parts, array_part, object_parts, object_part, dot_read, subscript_read, named_read, dot_target, subscript_target, named_target, value_target, expression, target, callee, next_argument, binary_right, binary_with, unary_operand, delete_target, step_target, step_converted, assign_target, assign_with, compound, assigned, referred, and_right, or_right, choose, converts, converted_left, converted_right, result, unary_converted}
+use Rattle.widget_meaning.specs.Statements.{discard, decl_list, declarations, declare_as, expressions, next_expressions, branch, loop_test, loop_end, while_next, do_next, for_init, for_again, for_next, for_in, for_in_next, for_in_names, for_in_over, to_return, to_throw, clauses_onto, bodies, choose_case, switch_on, switch_end, in_catch, caught, finally, last_end, case_tested}
 use Rattle.widget_meaning.specs.Natives.{run_native}
-use Rattle.widget_meaning.specs.Dispatch.{heard}
-use Rattle.widget_meaning.specs.Compositional.{ExpressionLaws, StatementLaws, CallLaws, then_do}
+use Rattle.widget_meaning.specs.Dispatch.{heard, next_handlers, dispatch_end}
+use Rattle.widget_meaning.specs.Meaning.{run_plan}
+use Rattle.widget_meaning.specs.Compositional.{ExpressionLaws, StatementLaws, CallLaws, then_do, looped, if_thrown, ends, is_value_form, new_scope, declared, body_in, evaluated, targeted}
 use Rattle.widget_meaning.proofs.Runs.{unit, first, part, then_part, run_and_then}
+
+-- a choice is carried out as the plan that is chosen
+chosen : (b : Bool) (g : ℕ) (x y : Plan) → run_plan g (if b then x else y) ≡ (if b then run_plan g x else run_plan g y)
+chosen true g x y = refl
+chosen false g x y = refl
+
+-- a loop after its body
+loop_ended : (o : Completion) (s : State) (g : ℕ) (p : Plan) {r : Out} → run_plan g p ≡ r → run_plan g (loop_end o s p) ≡ looped o s g r
+loop_ended Normal s g p h = h
+loop_ended Continue s g p h = h
+loop_ended Break s g p h = refl
+loop_ended (Is v) s g p h = refl
+loop_ended (Refers r) s g p h = refl
+loop_ended (Return v) s g p h = refl
+loop_ended (Throw v) s g p h = refl
+
+catch_holds : (x : List ℕ) (b : Stmts) (o : Completion) (p : Place) (s : State) (g : ℕ) → run_plan g (caught (tree.CatchAs x b) p o s) ≡ if_thrown o (ends o s g) (λ v. run_plan g (in_catch x (stmt_list b) v p s))
+catch_holds x b Normal p s g = refl
+catch_holds x b Continue p s g = refl
+catch_holds x b Break p s g = refl
+catch_holds x b (Is v) p s g = refl
+catch_holds x b (Refers r) p s g = refl
+catch_holds x b (Return v) p s g = refl
+catch_holds x b (Throw v) p s g = refl
+
+converted_holds : (op : BinOp) (v w : Value) (p : Place) (s : State) (g : ℕ) → converts op ≡ true → run_plan g (binary_with op v p (Is w) s) ≡ then_do (run_plan g (to_primitive v p.depth s)) (converted_left op w p.depth)
+converted_holds op v w p s g h =
+    ap (λ c. run_plan g (if c then and_then (to_primitive v p.depth s) (converted_left op w p.depth) else result (binary op v w) s)) h
+    ∙ run_and_then g (to_primitive v p.depth s) (converted_left op w p.depth)
+
+module _ (at : ℕ) (names : List ℕ) where
+  -- a form that is evaluated where a target is wanted
+  of_value : (form : ExprForm) (p : Place) (s : State) (g : ℕ) → target form p s ≡ and_then (expression form p s) value_target → targeted at names form p s g ≡ then_do (evaluated at names form p s g) value_target
+  of_value form p s g e =
+      then_part g (Target (tree.ExprAt at names form) p) s (expression form p s) value_target e
+      ∙ ap (λ r. then_do r value_target) (sym (unit g (Eval (tree.ExprAt at names form) p) s (expression form p s) refl))
+
+  value_target_holds : (form : ExprForm) (p : Place) (s : State) (g : ℕ) → is_value_form form ≡ true → targeted at names form p s g ≡ then_do (evaluated at names form p s g) value_target
+  value_target_holds (tree.Name x) p s g h = absurd (false≢true h)
+  value_target_holds (tree.Dot e x) p s g h = absurd (false≢true h)
+  value_target_holds (tree.Sub e i) p s g h = absurd (false≢true h)
+  value_target_holds form p s g h = of_value form p s g refl
+
+none_left : (c : ℕ) → suc c ≤ zero → ⊥
+none_left c h = omega arith
+
+one_less : (c f : ℕ) → suc c ≤ suc f → c ≤ f
+one_less c f h = omega arith
+
+less_nothing : (g : ℕ) → g ≡ g - 0
+less_nothing g = omega arith
+
+both_less : (c f : ℕ) → f - c ≡ suc f - suc c
+both_less c f = omega arith
+
+-- ticks that are all there
+ticks_run : (c g : ℕ) (s : State) (p : Plan) → c ≤ g → run_plan g (ticks c s p) ≡ run_plan (g - c) p
+ticks_run zero g s p h = ap (λ f. run_plan f p) (less_nothing g)
+ticks_run (suc c) zero s p h = absurd (none_left c h)
+ticks_run (suc c) (suc f) s p h = ticks_run c f s p (one_less c f h) ∙ ap (λ n. run_plan n p) (both_less c f)
+
+charge_on : (b : Bool) (c g : ℕ) (s : State) (p : Plan) → nat_lt g c ≡ b → (if b then record { how = OutOfFuel; state = s; left = g } else run_plan g (ticks c s p)) ≡ (if b then record { how = OutOfFuel; state = s; left = g } else run_plan (g - c) p)
+charge_on true c g s p h = refl
+charge_on false c g s p h = ticks_run c g s p (ltb-false g c h)
+
+charged_holds : (c : ℕ) (s : State) (p : Plan) (g : ℕ) → run_plan g (charge c s p) ≡ (if nat_lt g c then record { how = OutOfFuel; state = s; left = g } else run_plan (g - c) p)
+charged_holds c s p g = charge_on (nat_lt g c) c g s p refl
+
+-- what is done after a cost that may stop
+if_then : (b : Bool) (x y : Plan) (k : Completion → State → Plan) → and_then (if b then x else y) k ≡ (if b then and_then x k else and_then y k)
+if_then true x y k = refl
+if_then false x y k = refl
+
+within_then : (a : Amounts) (s : State) (p : Plan) (k : Completion → State → Plan) → and_then (within a s p) k ≡ within a s (and_then p k)
+within_then a s p k =
+    if_then (nat_lt max_units a.units) (Halt Units s) (if nat_lt max_cells a.cells then Halt Cells s else if nat_lt max_slots a.slots then Halt Slots s else if nat_lt max_nodes a.nodes then Halt Nodes s else p) k
+    ∙ ap (λ q. if nat_lt max_units a.units then Halt Units s else q)
+    (if_then (nat_lt max_cells a.cells) (Halt Cells s) (if nat_lt max_slots a.slots then Halt Slots s else if nat_lt max_nodes a.nodes then Halt Nodes s else p) k
+    ∙ ap (λ q. if nat_lt max_cells a.cells then Halt Cells s else q)
+    (if_then (nat_lt max_slots a.slots) (Halt Slots s) (if nat_lt max_nodes a.nodes then Halt Nodes s else p) k
+    ∙ ap (λ q. if nat_lt max_slots a.slots then Halt Slots s else q)
+    (if_then (nat_lt max_nodes a.nodes) (Halt Nodes s) p k)))
+
+declare_then : (fs : List Fun) (i : ℕ) (s : State) (k : Completion → State → Plan) → and_then (declare fs i s (Ret Normal)) k ≡ declare fs i s (k Normal)
+declare_then [] i s k = refl
+declare_then (f ∷ fs) i s k =
+    let a : Amounts = sum s.own.counts (object_cost 0) in
+    let t : State = with_counts s a in
+    let u : State = with_variable (with_new_cell t (new_function (without_name f) (Some i))) i (fun_name f) (Own (length t.own.heap)) in
+    within_then a s (declare fs i u (Ret Normal)) k ∙ ap (within a s) (declare_then fs i u k)
+
+-- a call's scope, its declared functions and its body
+entered : (f : Fun) (outer : Option ℕ) (v : Value) (vs : List Value) (d : ℕ) (s : State) → enter_scope f outer v vs d s ≡ and_then (and_then (new_scope f outer v vs s) (declared f (length s.own.scopes))) (body_in f (record { scope = Some (length s.own.scopes); depth = d }))
+entered (tree.FunAt at names name params body funs) outer v vs d s =
+    let f : Fun = tree.FunAt at names name params body funs in
+    let fs : List Fun = funs_list funs [] in
+    let xs : List (List ℕ) = scope_names params body fs (fun_name f) in
+    let a : Amounts = sum s.own.counts (slots_cost (1 + length xs)) in
+    let i : ℕ = length s.own.scopes in
+    let t : State = with_new_scope (with_counts s a) (record { outer = outer; pairs = first_pairs params vs (params ++ (stmts_vars body ++ fun_names fs)) (fun_name f) v xs }) in
+    let b : Completion → State → Plan = body_in f (record { scope = Some i; depth = d }) in
+    sym (ap (λ q. and_then q b) (within_then a s (Ret Normal t) (declared f i))
+    ∙ (within_then a s (declare fs i t (Ret Normal)) b ∙ ap (within a s) (declare_then fs i t b)))
+
+function_holds : (n : ℕ) (f : Fun) (outer : Option ℕ) (this : Option Value) (vs : List Value) (d : ℕ) (s : State) (g : ℕ) → (cell_at s n).kind ≡ Function f outer → nat_lt max_depth (suc d) ≡ false → run_plan g (invoke (Own n) this vs d s) ≡ then_do (then_do (run_plan g (new_scope f outer (Own n) vs s)) (declared f (length s.own.scopes))) (body_in f (record { scope = Some (length s.own.scopes); depth = suc d }))
+function_holds n f outer this vs d s g h k =
+    let i : ℕ = length s.own.scopes in
+    let b : Completion → State → Plan = body_in f (record { scope = Some i; depth = suc d }) in
+    ap (λ c. run_plan g (enter c (Own n) vs (suc d) s)) h
+    ∙ (ap (λ c. run_plan g (if c then Halt Depth s else enter_scope f outer (Own n) vs (suc d) s)) k
+    ∙ (ap (run_plan g) (entered f outer (Own n) vs (suc d) s)
+    ∙ (run_and_then g (and_then (new_scope f outer (Own n) vs s) (declared f i)) b
+    ∙ ap (λ r. then_do r b) (run_and_then g (new_scope f outer (Own n) vs s) (declared f i)))))
+
+too_deep_holds : (n : ℕ) (f : Fun) (outer : Option ℕ) (this : Option Value) (vs : List Value) (d : ℕ) (s : State) (g : ℕ) → (cell_at s n).kind ≡ Function f outer → nat_lt max_depth (suc d) ≡ true → run_plan g (invoke (Own n) this vs d s) ≡ record { how = Stopped Depth; state = s; left = g }
+too_deep_holds n f outer this vs d s g h k =
+    ap (λ c. run_plan g (enter c (Own n) vs (suc d) s)) h
+    ∙ ap (λ c. run_plan g (if c then Halt Depth s else enter_scope f outer (Own n) vs (suc d) s)) k
+
+handler_holds : (h : Hearing) (s : State) (g : ℕ) → run_plan g (heard h s) ≡ then_do (then_do (run_plan g (invoke (Own h.first) None (h.event ∷ []) h.depth s)) (next_handlers h.others h)) (dispatch_end h)
+handler_holds h s g =
+    run_and_then g (and_then (invoke (Own h.first) None (h.event ∷ []) h.depth s) (next_handlers h.others h)) (dispatch_end h)
+    ∙ ap (λ r. then_do r (dispatch_end h)) (run_and_then g (invoke (Own h.first) None (h.event ∷ []) h.depth s) (next_handlers h.others h))
 
 pub expression_laws : (at : ℕ) (names : List ℕ) → ExpressionLaws at names
 expression_laws at names = record {
@@ -34,23 +166,33 @@ expression_laws at names = record {
   dot_targets = λ e x p s g. first g (Target (tree.ExprAt at names (tree.Dot e x)) p) (Eval e p) s (dot_target x) refl;
   subscript_targets = λ e i p s g. first g (Target (tree.ExprAt at names (tree.Sub e i)) p) (Eval e p) s (subscript_target i p) refl;
   subscript_target_name = λ i b p s g. part g (Eval i p) s (named_target b);
-  call_target = λ f es p s g. then_part g (Target (tree.ExprAt at names (tree.Call f es)) p) s (expression (tree.Call f es) p s) value_target refl ∙ ap (λ r. then_do r value_target) (sym (unit g (Eval (tree.ExprAt at names (tree.Call f es)) p) s (expression (tree.Call f es) p s) refl));
-  function_target = λ f p s g. then_part g (Target (tree.ExprAt at names (tree.Function f)) p) s (expression (tree.Function f) p s) value_target refl ∙ ap (λ r. then_do r value_target) (sym (unit g (Eval (tree.ExprAt at names (tree.Function f)) p) s (expression (tree.Function f) p s) refl));
+  value_targets = λ form p s g h. value_target_holds at names form p s g h;
   call = λ f es p s g. first g (Eval (tree.ExprAt at names (tree.Call f es)) p) (Target f p) s (callee (expr_list es) p) refl;
   argument = λ r vs e es p s g. part g (Eval e p) s (next_argument r vs es p);
-  binary = λ op a b p s g. first g (Eval (tree.ExprAt at names (tree.Binary op a b)) p) (Eval a p) s (binary_right op b p) refl;
-  binary_second = λ op b v p s g. part g (Eval b p) s (binary_with op v p);
+  arguments_end = λ r vs p s g. refl;
+  operator = λ op a b p s g. first g (Eval (tree.ExprAt at names (tree.Binary op a b)) p) (Eval a p) s (binary_right op b p) refl;
+  operator_second = λ op b v p s g. part g (Eval b p) s (binary_with op v p);
+  operator_left = λ op v w p s g h. converted_holds op v w p s g h;
+  operator_last = λ op v w d s g. run_and_then g (to_primitive w d s) (converted_right op v);
+  operator_alike = λ op v w p s g h. ap (λ c. run_plan g (if c then and_then (to_primitive v p.depth s) (converted_left op w p.depth) else result (binary op v w) s)) h;
   delete = λ e p s g. first g (Eval (tree.ExprAt at names (tree.Unary un.Delete e)) p) (Target e p) s delete_target refl;
   type_of = λ e p s g. first g (Eval (tree.ExprAt at names (tree.Unary un.TypeOf e)) p) (Eval e p) s (unary_operand un.TypeOf p) refl;
   not = λ e p s g. first g (Eval (tree.ExprAt at names (tree.Unary un.Not e)) p) (Eval e p) s (unary_operand un.Not p) refl;
   plus = λ e p s g. first g (Eval (tree.ExprAt at names (tree.Unary un.Plus e)) p) (Eval e p) s (unary_operand un.Plus p) refl;
   minus = λ e p s g. first g (Eval (tree.ExprAt at names (tree.Unary un.Minus e)) p) (Eval e p) s (unary_operand un.Minus p) refl;
+  plus_operand = λ v p s g. run_and_then g (to_primitive v p.depth s) (unary_converted un.Plus);
+  minus_operand = λ v p s g. run_and_then g (to_primitive v p.depth s) (unary_converted un.Minus);
   step = λ op e p s g. first g (Eval (tree.ExprAt at names (tree.Step op e)) p) (Target e p) s (step_target op p) refl;
+  step_operand = λ op r p s g. run_and_then g (to_primitive (referred r p s) p.depth s) (step_converted op r p);
   assign = λ op e v p s g. first g (Eval (tree.ExprAt at names (tree.Assign op e v)) p) (Target e p) s (assign_target op v p) refl;
   assign_right = λ op v r p s g. part g (Eval v p) s (assign_with op r (referred r p s) p);
+  assign_value = λ op r v w p s g. run_and_then g (compound op v w p.depth s) (assigned r p);
   conjunction = λ a b p s g. first g (Eval (tree.ExprAt at names (tree.And a b)) p) (Eval a p) s (and_right b p) refl;
+  conjunction_right = λ b v p s g. chosen (is_true v) g (Do (Eval b p) s Ret) (give v s);
   disjunction = λ a b p s g. first g (Eval (tree.ExprAt at names (tree.Or a b)) p) (Eval a p) s (or_right b p) refl;
+  disjunction_right = λ b v p s g. chosen (is_true v) g (give v s) (Do (Eval b p) s Ret);
   condition = λ a b c p s g. first g (Eval (tree.ExprAt at names (tree.Cond a b c)) p) (Eval a p) s (choose b c p) refl;
+  condition_branch = λ b c v p s g. chosen (is_true v) g (Do (Eval b p) s Ret) (Do (Eval c p) s Ret);
 }
 
 pub statement_laws : (at : ℕ) (names : List ℕ) → StatementLaws at names
@@ -59,29 +201,63 @@ statement_laws at names = record {
   list_end = λ p s g. refl;
   var = λ ds p s g. unit g (Exec (tree.StmtAt at names (tree.Var ds)) p) s (declarations (decl_list ds) p s) refl;
   var_first = λ x e ds p s g. part g (Eval e p) s (declare_as x p (declarations ds p));
+  var_bare = λ x ds p s g. refl;
+  var_end = λ p s g. refl;
   only = λ e p s g. first g (Exec (tree.StmtAt at names (tree.Only e)) p) (Eval e p) s discard refl;
-  if = λ e a b p s g. first g (Exec (tree.StmtAt at names (tree.If e a b)) p) (Eval e p) s (branch a b p) refl;
+  if_test = λ e a b p s g. first g (Exec (tree.StmtAt at names (tree.If e a b)) p) (Eval e p) s (branch a b p) refl;
+  if_branch = λ a b v p s g. chosen (is_true v) g (statements (stmt_list a) p s) (statements (stmt_list b) p s);
+  loop_again = λ l v p s g. chosen (is_true v) g (Do (Pass l p) s Ret) (Ret Normal s);
   while = λ e b p s g. first g (Exec (tree.StmtAt at names (tree.While e b)) p) (Eval e p) s (loop_test (WhileLoop e (stmt_list b)) p) refl;
   while_pass = λ e b p s g. then_part g (Pass (WhileLoop e b) p) s (statements b p s) (while_next e b p) refl;
+  while_again = λ e b o p s g. loop_ended o s g (Do (Eval e p) s (loop_test (WhileLoop e b) p)) (part g (Eval e p) s (loop_test (WhileLoop e b) p));
   do_while = λ b e p s g. refl;
   do_pass = λ b e p s g. then_part g (Pass (DoLoop b e) p) s (statements b p s) (do_next b e p) refl;
+  do_again = λ b e o p s g. loop_ended o s g (Do (Eval e p) s (loop_test (DoLoop b e) p)) (part g (Eval e p) s (loop_test (DoLoop b e) p));
   for = λ first test next b p s g. then_part g (Exec (tree.StmtAt at names (tree.For first test next b)) p) s (for_init first p s) (for_again test (expr_list next) (stmt_list b) p) refl;
+  for_declarations = λ ds p s g. refl;
+  for_expressions = λ es p s g. refl;
+  for_test = λ e next b p s g. part g (Eval e p) s (loop_test (ForLoop (tree.SomeExpr e) next b) p);
+  for_no_test = λ next b p s g. refl;
   for_pass = λ test next b p s g. then_part g (Pass (ForLoop test next b) p) s (statements b p s) (for_next test next b p) refl;
+  for_round = λ test next b o p s g. loop_ended o s g (and_then (expressions next p s) (for_again test next b p)) (run_and_then g (expressions next p s) (for_again test next b p));
   expressions_first = λ e es p s g. part g (Eval e p) s (next_expressions es p);
-  for_in = λ is_declared x e b p s g. first g (Exec (tree.StmtAt at names (tree.ForIn is_declared x e b)) p) (Eval e p) s (for_in_over x (stmt_list b) p) refl;
+  expressions_end = λ p s g. refl;
+  for_in_object = λ is_declared x e b p s g. first g (Exec (tree.StmtAt at names (tree.ForIn is_declared x e b)) p) (Eval e p) s (for_in_over x (stmt_list b) p) refl;
+  for_in_list = λ v x b p s g. chosen (is_nothing v) g (throw E1 s) (for_in_names v x (names_of s v) b p s);
+  for_in_name = λ v x y ys b p s g. chosen (is_some (property s v y)) g (Do (Pass (ForInLoop v x y ys b) p) s Ret) (for_in v x ys b p s);
+  for_in_end = λ v x b p s g. refl;
+  for_in_pass = λ v x y ys b p s g. then_part g (Pass (ForInLoop v x y ys b) p) s (statements b p (assign s p x (Text y))) (for_in_next v x ys b p) refl;
+  for_in_again = λ v x ys b o p s g. loop_ended o s g (for_in v x ys b p s) refl;
   continue = λ x p s g. refl;
   break = λ x p s g. refl;
+  return_nothing = λ p s g. refl;
   return = λ e p s g. first g (Exec (tree.StmtAt at names (tree.Return (tree.SomeExpr e))) p) (Eval e p) s to_return refl;
   throw = λ e p s g. first g (Exec (tree.StmtAt at names (tree.Throw e)) p) (Eval e p) s to_throw refl;
   switch = λ e cs p s g. first g (Exec (tree.StmtAt at names (tree.Switch e cs)) p) (Eval e p) s (switch_on (clauses_onto cs []) p) refl;
+  switch_cases = λ v cs p s g. run_and_then g (choose_case v cs cs p s) switch_end;
   case = λ v all e b cs p s g. part g (Eval e p) s (case_tested v all b cs p);
+  case_same = λ v w all b cs p s g. chosen (same v w) g (statements (b ++ bodies cs) p s) (choose_case v all cs p s);
+  default_passed = λ v all b cs p s g. refl;
+  default_taken = λ v all p s g. refl;
   try = λ a c b p s g. then_part g (Exec (tree.StmtAt at names (tree.Try a c b)) p) s (and_then (statements (stmt_list a) p s) (caught c p)) (finally b p) refl ∙ ap (λ r. then_do r (finally b p)) (run_and_then g (statements (stmt_list a) p s) (caught c p));
+  catch = λ x b o p s g. catch_holds x b o p s g;
+  no_catch = λ o p s g. refl;
+  finally_block = λ b o p s g. run_and_then g (statements (stmt_list b) p s) (last_end o);
+  no_finally = λ o p s g. refl;
 }
 
 pub call_laws : CallLaws
 call_laws = record {
   call = λ f this vs d s g. unit g (Call f this vs d) s (invoke f this vs d s) refl;
   native = λ w this vs d s g. unit g (RunNative w this vs d) s (run_native w this vs d s) refl;
+  function = λ n f outer this vs d s g h k. function_holds n f outer this vs d s g h k;
+  too_deep = λ n f outer this vs d s g h k. too_deep_holds n f outer this vs d s g h k;
+  body = λ b p s g. run_and_then g (statements (without_directive (stmt_list b)) p s) call_end;
+  native_called = λ w this vs d s g. refl;
+  conversion = λ f v d s g. part g (Call f (Some v) [] d) s primitive_result;
+  charged = λ c s p g. charged_holds c s p g;
   handler = λ h s g. unit g (Hear h) s (heard h s) refl;
+  handler_first = λ h s g. handler_holds h s g;
+  handler_next = λ f fs h s g. part g (Call (Own f) None (h.event ∷ []) h.depth) s (next_handlers fs h);
   no_fuel = λ j s. refl;
 }
