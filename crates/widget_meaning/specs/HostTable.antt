@@ -14,66 +14,70 @@ prototype_pairs ObjectPrototype =
     (codes "hasOwnProperty", native (OfPrototype HasOwnProperty))
     ∷ (codes "toString", native (OfPrototype ObjectToString)) ∷ []
 prototype_pairs FunctionPrototype = (codes "toString", native (OfPrototype FunctionToString)) ∷ []
-prototype_pairs NumberPrototype = (codes "toString", native (OfPrototype NumberToString)) ∷ []
-prototype_pairs BooleanPrototype = (codes "toString", native (OfPrototype BooleanToString)) ∷ []
+prototype_pairs NumberPrototype =
+    (codes "toString", native (OfPrototype NumberToString))
+    ∷ (codes "hasOwnProperty", native (OfPrototype HasOwnProperty)) ∷ []
+prototype_pairs BooleanPrototype =
+    (codes "toString", native (OfPrototype BooleanToString))
+    ∷ (codes "hasOwnProperty", native (OfPrototype HasOwnProperty)) ∷ []
 prototype_pairs TextPrototype =
-    (codes "charAt", native (OfText CharAt))
+    (codes "toString", native (OfPrototype TextToString))
+    ∷ (codes "charAt", native (OfText CharAt))
     ∷ (codes "charCodeAt", native (OfText CharCodeAt))
     ∷ (codes "concat", native (OfText TextConcat))
     ∷ (codes "indexOf", native (OfText IndexOf))
     ∷ (codes "lastIndexOf", native (OfText LastIndexOf))
     ∷ (codes "slice", native (OfText TextSlice))
-    ∷ (codes "split", native (OfText Split))
     ∷ (codes "substring", native (OfText Substring))
+    ∷ (codes "split", native (OfText Split))
     ∷ (codes "toLowerCase", native (OfText ToLowerCase))
-    ∷ (codes "toUpperCase", native (OfText ToUpperCase))
-    ∷ (codes "toString", native (OfPrototype TextToString)) ∷ []
+    ∷ (codes "toUpperCase", native (OfText ToUpperCase)) ∷ []
 prototype_pairs ArrayPrototype =
-    (codes "concat", native (OfList ListConcat))
-    ∷ (codes "filter", native (OfList FilterNative))
-    ∷ (codes "forEach", native (OfList ForEach))
+    (codes "toString", native (OfPrototype ArrayToString))
+    ∷ (codes "concat", native (OfList ListConcat))
     ∷ (codes "join", native (OfList Join))
-    ∷ (codes "map", native (OfList MapNative))
     ∷ (codes "pop", native (OfList Pop))
-    ∷ (codes "push", native (OfList Push))
-    ∷ (codes "reverse", native (OfList Reverse))
     ∷ (codes "shift", native (OfList Shift))
-    ∷ (codes "slice", native (OfList ListSlice))
-    ∷ (codes "sort", native (OfList Sort))
-    ∷ (codes "splice", native (OfList Splice))
+    ∷ (codes "push", native (OfList Push))
     ∷ (codes "unshift", native (OfList Unshift))
-    ∷ (codes "toString", native (OfPrototype ArrayToString)) ∷ []
+    ∷ (codes "reverse", native (OfList Reverse))
+    ∷ (codes "sort", native (OfList Sort))
+    ∷ (codes "slice", native (OfList ListSlice))
+    ∷ (codes "splice", native (OfList Splice))
+    ∷ (codes "forEach", native (OfList ForEach))
+    ∷ (codes "map", native (OfList MapNative))
+    ∷ (codes "filter", native (OfList FilterNative)) ∷ []
 prototype_pairs BunchPrototype =
-    (codes "append", native (OfWrite Append))
-    ∷ (codes "blur", native (OfWrite Blur))
-    ∷ (codes "check", native (OfWrite SetCheck))
-    ∷ (codes "count", native (OfRead Count))
-    ∷ (codes "each", native (OfWrite Each))
+    (codes "q", native (OfRead Query))
+    ∷ (codes "append", native (OfWrite Append))
+    ∷ (codes "remove", native (OfWrite Remove))
     ∷ (codes "empty", native (OfWrite Empty))
-    ∷ (codes "enable", native (OfWrite SetEnabled))
-    ∷ (codes "explode", native (OfRead Explode))
-    ∷ (codes "fire", native (OfWrite Fire))
-    ∷ (codes "focus", native (OfWrite Focus))
-    ∷ (codes "getCheck", native (OfRead GetCheck))
-    ∷ (codes "getClass", native (OfRead GetClass))
-    ∷ (codes "getMark", native (OfRead GetMark))
-    ∷ (codes "getParent", native (OfRead GetParent))
-    ∷ (codes "getStyle", native (OfRead GetStyle))
-    ∷ (codes "getTagName", native (OfRead GetTagName))
-    ∷ (codes "getTitle", native (OfRead GetTitle))
+    ∷ (codes "replace", native (OfWrite Replace))
+    ∷ (codes "value", native (OfWrite SetValue))
     ∷ (codes "getValue", native (OfRead GetValue))
     ∷ (codes "getValues", native (OfRead GetValues))
-    ∷ (codes "klass", native (OfWrite SetClass))
-    ∷ (codes "mark", native (OfWrite SetMark))
-    ∷ (codes "off", native (OfWrite Off))
-    ∷ (codes "on", native (OfWrite On))
-    ∷ (codes "protect", native (OfWrite Protect))
-    ∷ (codes "q", native (OfRead Query))
-    ∷ (codes "remove", native (OfWrite Remove))
-    ∷ (codes "replace", native (OfWrite Replace))
     ∷ (codes "style", native (OfWrite SetStyle))
+    ∷ (codes "getStyle", native (OfRead GetStyle))
+    ∷ (codes "klass", native (OfWrite SetClass))
     ∷ (codes "title", native (OfWrite SetTitle))
-    ∷ (codes "value", native (OfWrite SetValue)) ∷ []
+    ∷ (codes "getClass", native (OfRead GetClass))
+    ∷ (codes "getTitle", native (OfRead GetTitle))
+    ∷ (codes "check", native (OfWrite SetCheck))
+    ∷ (codes "enable", native (OfWrite SetEnabled))
+    ∷ (codes "getCheck", native (OfRead GetCheck))
+    ∷ (codes "focus", native (OfWrite Focus))
+    ∷ (codes "blur", native (OfWrite Blur))
+    ∷ (codes "on", native (OfWrite On))
+    ∷ (codes "off", native (OfWrite Off))
+    ∷ (codes "fire", native (OfWrite Fire))
+    ∷ (codes "each", native (OfWrite Each))
+    ∷ (codes "explode", native (OfRead Explode))
+    ∷ (codes "count", native (OfRead Count))
+    ∷ (codes "getParent", native (OfRead GetParent))
+    ∷ (codes "getTagName", native (OfRead GetTagName))
+    ∷ (codes "mark", native (OfWrite SetMark))
+    ∷ (codes "getMark", native (OfRead GetMark))
+    ∷ (codes "protect", native (OfWrite Protect)) ∷ []
 
 -- `String` alone among the natives has a name
 abbrev pub native_pairs : NativeId → Pairs
@@ -83,17 +87,17 @@ native_pairs _ = []
 -- the names of each entry, in the order that `keys` gives
 abbrev pub host_pairs : HostEntry → Pairs
 host_pairs AdsafeObject =
-    (codes "create", native (OfAdsafe Create))
-    ∷ (codes "fromJson", native (OfAdsafe FromJson))
-    ∷ (codes "get", native (OfAdsafe GetProperty))
+    (codes "get", native (OfAdsafe GetProperty))
+    ∷ (codes "set", native (OfAdsafe SetProperty))
+    ∷ (codes "remove", native (OfAdsafe RemoveProperty))
     ∷ (codes "has", native (OfAdsafe HasProperty))
+    ∷ (codes "create", native (OfAdsafe Create))
     ∷ (codes "isArray", native (OfAdsafe IsArray))
     ∷ (codes "keys", native (OfAdsafe KeysOf))
     ∷ (codes "later", native (OfAdsafe Later))
     ∷ (codes "log", native (OfAdsafe LogValue))
     ∷ (codes "post", native (OfAdsafe Post))
-    ∷ (codes "remove", native (OfAdsafe RemoveProperty))
-    ∷ (codes "set", native (OfAdsafe SetProperty))
+    ∷ (codes "fromJson", native (OfAdsafe FromJson))
     ∷ (codes "toJson", native (OfAdsafe ToJson)) ∷ []
 host_pairs MathObject =
     (codes "abs", native (OfMath Abs))
@@ -111,22 +115,24 @@ host_pairs DomObject =
 host_pairs (PrototypeOf p) = prototype_pairs p
 host_pairs (Native w) = native_pairs w
 
--- the prototype of each entry
+-- the prototype of each entry: those of objects, numbers and truth values stand on nothing, a native on that of functions, all else on that of objects
 abbrev pub host_prototype : HostEntry → Option Value
 host_prototype (PrototypeOf ObjectPrototype) = None
+host_prototype (PrototypeOf NumberPrototype) = None
+host_prototype (PrototypeOf BooleanPrototype) = None
 host_prototype (Native w) = Some (Host (PrototypeOf FunctionPrototype))
 host_prototype _ = Some (Host (PrototypeOf ObjectPrototype))
 
 -- the listed globals, which a name gives that no scope has
 abbrev pub globals : Pairs
 globals =
-    (codes "ADSAFE", Host AdsafeObject)
-    ∷ (codes "Boolean", native (OfGlobal BooleanOf))
-    ∷ (codes "isFinite", native (OfGlobal IsFinite))
-    ∷ (codes "isNaN", native (OfGlobal IsNaN))
-    ∷ (codes "Math", Host MathObject)
+    (codes "Boolean", native (OfGlobal BooleanOf))
     ∷ (codes "Number", native (OfGlobal NumberOf))
-    ∷ (codes "parseInt", native (OfGlobal ParseInt))
     ∷ (codes "String", native (OfGlobal StringOf))
+    ∷ (codes "isNaN", native (OfGlobal IsNaN))
+    ∷ (codes "isFinite", native (OfGlobal IsFinite))
+    ∷ (codes "parseInt", native (OfGlobal ParseInt))
     ∷ (codes "undefined", Undefined)
-    ∷ (codes "NaN", NaN) ∷ []
+    ∷ (codes "NaN", NaN)
+    ∷ (codes "Math", Host MathObject)
+    ∷ (codes "ADSAFE", Host AdsafeObject) ∷ []
