@@ -12,7 +12,7 @@ use Rattle.plain_tree.specs.Normal.{is_normal}
 use Rattle.plain_tree.specs.Plains.{text_node, element_node}
 use Rattle.plain_tree.specs.Print.{printed}
 use Rattle.plain_tree.specs.Trees.{TextOf, ElementOf, End, Node, PlainTrees}
-use Rattle.markup_laws.specs.Reading.{is_read_label, all_labels}
+use Rattle.markup_laws.specs.Reading.{is_readable_label, all_labels}
 
 -- a style that no printed form changes
 same : List ℕ → List ℕ
@@ -25,7 +25,7 @@ paragraph_normal : is_normal paragraph ≡ true
 unfolding is_void
 paragraph_normal = refl
 
-paragraph_labels : all_labels (is_read_label same) paragraph ≡ true
+paragraph_labels : all_labels (is_readable_label same) paragraph ≡ true
 unfolding is_script utf16_chars same
 paragraph_labels = refl
 
@@ -41,7 +41,7 @@ paragraph_read = refl
 abbrev wide : PlainTrees
 wide = Node tt (TextOf (0xE9 ∷ 0xD83D ∷ 0xDE00 ∷ [])) End End
 
-wide_labels : all_labels (is_read_label same) wide ≡ true
+wide_labels : all_labels (is_readable_label same) wide ≡ true
 unfolding is_script utf16_chars same
 wide_labels = refl
 
@@ -54,14 +54,14 @@ unfolding limit is_void is_script is_bare utf8_of utf16_chars same chars lib.Utf
 wide_read = refl
 
 -- a lone surrogate, a script, and an empty style are not read
-lone : all_labels {M = Unit {0}} (is_read_label same) (Node tt (TextOf (0xD83D ∷ [])) End End) ≡ false
+lone : all_labels {M = Unit {0}} (is_readable_label same) (Node tt (TextOf (0xD83D ∷ [])) End End) ≡ false
 unfolding utf16_chars
 lone = refl
 
-script : all_labels {M = Unit {0}} (is_read_label same) (Node tt (ElementOf (codes "script") []) End End) ≡ false
+script : all_labels {M = Unit {0}} (is_readable_label same) (Node tt (ElementOf (codes "script") []) End End) ≡ false
 unfolding is_script
 script = refl
 
-empty_style : all_labels {M = Unit {0}} (is_read_label same) (Node tt (ElementOf (codes "p") ((codes "style", []) ∷ [])) End End) ≡ false
+empty_style : all_labels {M = Unit {0}} (is_readable_label same) (Node tt (ElementOf (codes "p") ((codes "style", []) ∷ [])) End End) ≡ false
 unfolding is_script utf16_chars
 empty_style = refl

@@ -22,7 +22,7 @@ use Rattle.plain_tree.specs.Normal.{is_without_null, is_empty, is_normal_attribu
 use Rattle.plain_tree.specs.Plains.{Places, attribute_of, text_node, element_node}
 use Rattle.plain_tree.specs.Print.{escape, written, written_style, printed_attribute, printed}
 use Rattle.plain_tree.specs.Trees.{Attribute, TextOf, ElementOf, Trees, End, Node, PlainTrees, beside, nesting, unmarked}
-use Rattle.markup_laws.specs.Reading.{is_text, is_read_value, is_read_label, all_labels, IsReadable, ReadsAs}
+use Rattle.markup_laws.specs.Reading.{is_text, is_readable_value, is_readable_label, all_labels, IsReadable, ReadsAs}
 use Rattle.markup_laws.proofs.Signs.{tag_ascii, attribute_ascii, letter_in_tag, letter_in_attribute}
 use Rattle.markup_laws.proofs.Texts.{ascii_from, IsText, text_is, text_back, not_true}
 use Rattle.markup_laws.proofs.Chars.{escaped, attributes_chars, tree_chars, IsWritten, AreWritten, WritesAll, tree_scalars, tree_bytes}
@@ -48,18 +48,18 @@ attribute_stands style a = by (bytes_eq (a.0) (codes "style"))
     by false e = refl
     by true e = let each = and_both (not (is_empty (a.1))) (bytes_eq (style (a.1)) (a.1)) e in style_stands style (a.0) (a.1) (each.0) ((bytes_eq-Decides (style (a.1)) (a.1)).0 (each.1))
 
-attribute_facts : (style : List ℕ → List ℕ) (a : Attribute) → is_normal_attribute a ≡ true → is_read_value style a ≡ true → IsSpelled a × IsWritten style a
+attribute_facts : (style : List ℕ → List ℕ) (a : Attribute) → is_normal_attribute a ≡ true → is_readable_value style a ≡ true → IsSpelled a × IsWritten style a
 attribute_facts style a n v =
     let name = (and_both (is_attribute_name (a.0)) (is_without_null (a.1)) n).0 in
     let value = and_both (is_text (a.1)) (not (bytes_eq (a.0) (codes "style")) || not (is_empty (a.1)) && bytes_eq (style (a.1)) (a.1)) v in
     let text = text_is (a.1) (value.0) in
     (record { name = name; text = text }, record { name = ascii_from is_in_attribute attribute_ascii (a.0) (name_all is_in_attribute letter_in_attribute (a.0) name); text = text; same = attribute_stands style a (value.1) })
 
-attributes_facts : (style : List ℕ → List ℕ) (attrs : List Attribute) → list_all is_normal_attribute attrs ≡ true → list_all (is_read_value style) attrs ≡ true → AreSpelled attrs × AreWritten style attrs
+attributes_facts : (style : List ℕ → List ℕ) (attrs : List Attribute) → list_all is_normal_attribute attrs ≡ true → list_all (is_readable_value style) attrs ≡ true → AreSpelled attrs × AreWritten style attrs
 attributes_facts style [] n v = (tt, tt)
 attributes_facts style (a ∷ others) n v =
     let first = and_both (is_normal_attribute a) (list_all is_normal_attribute others) n in
-    let second = and_both (is_read_value style a) (list_all (is_read_value style) others) v in
+    let second = and_both (is_readable_value style a) (list_all (is_readable_value style) others) v in
     let one = attribute_facts style a (first.0) (second.0) in
     let more = attributes_facts style others (first.1) (second.1) in
     ((one.0, more.0), (one.1, more.1))
@@ -69,15 +69,15 @@ void_facts true true h g = refl
 void_facts true false h g = cc
 void_facts false e h g = cc
 
-tree_facts : (style : List ℕ → List ℕ) (ts : PlainTrees) → is_normal ts ≡ true → all_labels (is_read_label style) ts ≡ true → SpellsAll ts × WritesAll style ts
+tree_facts : (style : List ℕ → List ℕ) (ts : PlainTrees) → is_normal ts ≡ true → all_labels (is_readable_label style) ts ≡ true → SpellsAll ts × WritesAll style ts
 tree_facts style End n v = (tt, tt)
 tree_facts style (Node m (TextOf us) ks ts) n v =
     let n4 = and_both (not (is_empty us) && is_without_null us && is_end ks && begins_no_text ts) (is_normal ts) n in
     let n3 = and_both (not (is_empty us) && is_without_null us && is_end ks) (begins_no_text ts) (n4.0) in
     let n2 = and_both (not (is_empty us) && is_without_null us) (is_end ks) (n3.0) in
     let n1 = and_both (not (is_empty us)) (is_without_null us) (n2.0) in
-    let v2 = and_both (is_text us && all_labels (is_read_label style) ks) (all_labels (is_read_label style) ts) v in
-    let text = text_is us ((and_both (is_text us) (all_labels (is_read_label style) ks) (v2.0)).0) in
+    let v2 = and_both (is_text us && all_labels (is_readable_label style) ks) (all_labels (is_readable_label style) ts) v in
+    let text = text_is us ((and_both (is_text us) (all_labels (is_readable_label style) ks) (v2.0)).0) in
     let more = tree_facts style ts (n4.1) (v2.1) in
     ((text, not_true (is_empty us) (n1.0), n2.1, n3.1, more.0), (text, more.1))
 tree_facts style (Node m (ElementOf tag attrs) ks ts) n v =
@@ -85,9 +85,9 @@ tree_facts style (Node m (ElementOf tag attrs) ks ts) n v =
     let n3 = and_both (is_tag_name tag && list_all is_normal_attribute attrs && not (is_void tag && not (is_end ks))) (is_normal ks) (n4.0) in
     let n2 = and_both (is_tag_name tag && list_all is_normal_attribute attrs) (not (is_void tag && not (is_end ks))) (n3.0) in
     let n1 = and_both (is_tag_name tag) (list_all is_normal_attribute attrs) (n2.0) in
-    let v2 = and_both (is_read_label style (ElementOf tag attrs) && all_labels (is_read_label style) ks) (all_labels (is_read_label style) ts) v in
-    let v1 = and_both (is_read_label style (ElementOf tag attrs)) (all_labels (is_read_label style) ks) (v2.0) in
-    let v0 = and_both (not (is_script tag)) (list_all (is_read_value style) attrs) (v1.0) in
+    let v2 = and_both (is_readable_label style (ElementOf tag attrs) && all_labels (is_readable_label style) ks) (all_labels (is_readable_label style) ts) v in
+    let v1 = and_both (is_readable_label style (ElementOf tag attrs)) (all_labels (is_readable_label style) ks) (v2.0) in
+    let v0 = and_both (not (is_script tag)) (list_all (is_readable_value style) attrs) (v1.0) in
     let values = attributes_facts style attrs (n1.1) (v0.1) in
     let kids = tree_facts style ks (n3.1) (v1.1) in
     let more = tree_facts style ts (n4.1) (v2.1) in

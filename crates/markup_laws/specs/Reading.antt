@@ -13,23 +13,23 @@ use Rattle.markup_grammar.specs.Markup.{MarkupSpells}
 abbrev pub is_text : List ℕ → Bool
 is_text us = list_all (λ u. nat_lt u 65536) us && not (has_unpaired_surrogate us)
 
--- the value is a text; that of a `style` is not empty and is its own printed form
-abbrev pub is_read_value : (List ℕ → List ℕ) → Attribute → Bool
-is_read_value style a = is_text (a.1) && (not (bytes_eq (a.0) (codes "style")) || not (is_empty (a.1)) && bytes_eq (style (a.1)) (a.1))
+-- `style` gives the printed form of styles: the value is a text, and that of a `style` is not empty and is its own printed form
+abbrev pub is_readable_value : (List ℕ → List ℕ) → Attribute → Bool
+is_readable_value style a = is_text (a.1) && (not (bytes_eq (a.0) (codes "style")) || not (is_empty (a.1)) && bytes_eq (style (a.1)) (a.1))
 
--- a text; or no script, and values that are read
-abbrev pub is_read_label : (List ℕ → List ℕ) → Label → Bool
-is_read_label style (TextOf us) = is_text us
-is_read_label style (ElementOf tag attrs) = not (is_script tag) && list_all (is_read_value style) attrs
+-- a text; or an element that is no script, with values as above
+abbrev pub is_readable_label : (List ℕ → List ℕ) → Label → Bool
+is_readable_label style (TextOf us) = is_text us
+is_readable_label style (ElementOf tag attrs) = not (is_script tag) && list_all (is_readable_value style) attrs
 
 abbrev pub all_labels : {M : Type 0} → (Label → Bool) → Trees M → Bool
 all_labels test End = true
 all_labels test (Node m l ks ts) = test l && all_labels test ks && all_labels test ts
 
--- Normal trees, at most 200 elements one above the other, without scripts and lone surrogates, where `style` is the printed form of styles.
+-- Normal trees, without scripts and lone surrogates, with styles in their printed form, and with at most 200 elements one above the other.
 pub record IsReadable (style : List ℕ → List ℕ) (trees : PlainTrees) : Type 0 where
   pub normal : is_normal trees ≡ true
-  pub labels : all_labels (is_read_label style) trees ≡ true
+  pub labels : all_labels (is_readable_label style) trees ≡ true
   pub nested : nesting trees ≤ 200
 
 -- The bytes are markup, and whatever trees they spell are these, places left out.
