@@ -59,7 +59,7 @@ count_grown p o n (x ∷ k) (y ∷ m) e same own =
     let rest = count_grown p o n k m (omega (arith, e)) (λ i lt. same (suc i) (omega (arith, lt))) (λ i le lt. own (suc i) (omega (arith, le)) (omega (arith, lt))) in
     ap (λ (z : Entry). cond {A = ℕ} (same_owner z.owner p) 1 0 + count_of p m) (same 0 (omega arith)) ∙ omega (arith, rest)
 
-slot_is : (o p : Owner) → is_owner o ≡ true → is_owner p ≡ true → slot o ≡ slot p → o ≡ p
+pub slot_is : (o p : Owner) → is_owner o ≡ true → is_owner p ≡ true → slot o ≡ slot p → o ≡ p
 slot_is owner.Host owner.Host i j e = refl
 slot_is owner.Host (owner.Widget w) i j e = absurd (omega (arith, e, ltb-true w 32 j))
 slot_is (owner.Widget v) owner.Host i j e = absurd (omega (arith, e, ltb-true v 32 i))

@@ -1,4 +1,6 @@
 pub mod Lists
+pub mod Rising
+pub mod Tables
 pub mod Owners
 pub mod Shows
 pub mod Cut
@@ -18,3 +20,4 @@ pub mod Plains
 pub mod Adds
 pub mod Counts
 pub mod Takes
+pub mod Indexing

@@ -5,7 +5,7 @@ use Rattle.code_units.specs.declared.owner.Owner.{Owner}
 use Rattle.code_units.specs.declared.owner.Owner.TheVariants as owner
 use Rattle.plain_tree.specs.Trees.{Label, PlainTrees}
 use Rattle.page_tree.specs.Adds.{IsAdded}
-use Rattle.page_tree.proofs.Walk.{child_in}
+use Rattle.page_tree.proofs.Walk.{child_in, without_body}
 use Rattle.std.proofs.lemmas.List.{get_or_past}
 use Rattle.page_tree.specs.Owners.{is_owner, same_owner, root_in}
 use Rattle.page_tree.specs.Roots.{IsRooted}
@@ -13,7 +13,8 @@ use Rattle.page_tree.specs.Entries.{Entry, at, body, listed, tree, IsSound, no_e
 use Rattle.page_tree.specs.Moves.{parents_after, ArePut, Detached, KeepsNodes, OthersStay, IsLinked, IsSwapped, IsRelabelled}
 use Rattle.page_tree.specs.Pages.{MayPutAll, MayReplace, root_after, HasNone}
 use Rattle.page_tree.proofs.Owners.{same_is, is_same}
-use Rattle.page_tree.proofs.Put.{owner_below, others_detached, other_not_in}
+use Rattle.page_tree.specs.Trees.{pruned}
+use Rattle.page_tree.proofs.Put.{owner_below, others_detached, other_not_in, grafted_off, pruned_off}
 use Rattle.page_tree.proofs.Label.{relabelled_off}
 use Rattle.page_tree.proofs.Lists.{cases, listed_place}
 
@@ -235,3 +236,10 @@ rooted_added k m roots id o p sk sm r io g = record {
       (λ le. absurd (omega (arith, added_parent k m id o p sk sm g x body le u, sk.some)))
       (cases_lt x (length k));
 }
+
+-- what is put under `body` changes its tree alone
+pub others_adopted : (k b m : List Entry) (n : ℕ) → b ≡ k → IsSound b → IsLinked b m body None n → OthersStay k m n
+others_adopted k b m n e s h = λ x away ne. h.trees x ∙ grafted_off body None (tree b n) (tree b x) (without_body b s x away) ∙ ap (λ y. tree y x) e
+
+pub others_swapped : (k m : List Entry) (n new : ℕ) → IsSound k → IsSwapped k m n new → OthersStay k m n
+others_swapped k m n new s h = λ x away ne. h.trees x ∙ ap (pruned n) (grafted_off body (Some n) (tree k new) (tree k x) (without_body k s x away)) ∙ pruned_off n (tree k x) (other_not_in k s n x away ne)

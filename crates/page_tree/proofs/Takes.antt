@@ -1,6 +1,7 @@
 -- A tree is added to a page, or refused.
 use Rattle.std.proofs.Common.{◌≡◌, ℕ, ◌+◌, ◌-◌, ◌<◌, ◌≤◌, List, Bool, true, false, refl, sym, ap, ◌∙◌, subst, arith, length, take, get_or, set, Option, Result, Ok, Err, max}
 use Rattle.std.specs.Prelude.{IfOk, IfErr, OnOk}
+use Rattle.std.specs.Result.{IsErrAnd}
 use Rattle.code_units.specs.declared.owner.Owner.{Owner}
 use Rattle.code_units.specs.declared.owner.Owner.TheVariants as owner
 use Rattle.plain_tree.specs.Trees.{Trees, End, Node, PlainTrees, size, height}
@@ -76,3 +77,8 @@ copy_low k n s w p e =
   where
     true_false : true ≡ false → ⊥
     true_false x = cc
+
+-- there was no memory for a tree that may be added
+pub add_wants_memory : (r : Result ℕ PageFault) (k : List Entry) (o : Owner) (p : PlainTrees) → IsErrAnd r (λ e. e ≡ fault.Memory) → MayAdd k o p → IfErr r (RefusesAdd k o p)
+add_wants_memory (Ok x) k o p h m = tt
+add_wants_memory (Err e) k o p h m = subst (RefusesAdd k o p) (sym h) m

@@ -20,3 +20,7 @@ pub record IsAdded (old new : List Entry) (id : ℕ) (o : Owner) (p : PlainTrees
   pub top : (at new id).parent ≡ None
   pub own : (x : ℕ) → length old ≤ x → x < length new → (at new x).owner ≡ o
   pub older : Older old new
+
+-- the trees of older nodes stay
+abbrev pub OlderStay : List Entry → List Entry → Type 0
+OlderStay old new = (x : ℕ) → x < length old → tree new x ≡ tree old x

@@ -7,7 +7,7 @@ use Rattle.page_tree.specs.declared.rows.Content.{Content}
 use Rattle.page_tree.specs.declared.rows.Content.TheVariants as content
 use Rattle.plain_tree.specs.Trees.{Label, TextOf, ElementOf, Trees, End, Node}
 use Rattle.page_tree.specs.Trees.{is_number, is_text}
-use Rattle.page_tree.specs.Owners.{same_owner}
+use Rattle.page_tree.specs.Owners.{is_owner, same_owner}
 
 -- a node with its links
 pub record Entry : Type 0 where
@@ -91,3 +91,7 @@ pub record IsSound (k : List Entry) : Type 0 where
   pub owned : (n p : ℕ) → (at k n).parent ≡ Some p → (same_owner (at k n).owner (at k p).owner || (p == body)) ≡ true
   pub once : (n : ℕ) → distinct (at k n).children ≡ true
   pub texts : (n : ℕ) → is_text (at k n).label ≡ true → length (at k n).children ≡ 0
+
+-- each node has an owner of the page
+abbrev pub AreOwners : List Entry → Type 0
+AreOwners k = (n : ℕ) → is_owner (at k n).owner ≡ true

@@ -7,6 +7,8 @@ pub mod Copies
 pub mod Moves
 pub mod Adds
 pub mod Arenas
+pub mod Ids
+pub mod Index
 pub mod Roots
 pub mod Counts
 pub mod Pages

@@ -1,5 +1,5 @@
 //! What a node is, read and changed.
-ghost use Rattle.std.specs.Prelude.{◌≡◌, ◌<◌, ◌≤◌, ℕ, length, true, false, slice_get, option_copied, OnOk, OnErr, Some, None, MatchResult};
+ghost use Rattle.std.specs.Prelude.{◌≡◌, ◌<◌, ◌≤◌, ℕ, length, true, false, codes, slice_get, option_copied, OnOk, OnErr, Some, None, MatchResult};
 ghost use Rattle.std.specs.Str.{bytes_eq};
 ghost use Rattle.page_tree.specs.Contents.{tag_of, text_of, attribute_of, with_value, without_value, with_attribute, IsNamed};
 ghost use Rattle.page_tree.specs.Entries.{label_of};
@@ -7,7 +7,7 @@ ghost use Rattle.page_tree.specs.Trees.{is_text};
 ghost use Rattle.plain_tree.specs.Trees.{value_of};
 
 use crate::rows::Content;
-use code_units::{Memory, Text};
+use code_units::{Memory, Text, is_word};
 
 /// The tag of an element.
 pub fn tag_of(content: &Content) -> Option<&Text>
@@ -47,6 +47,28 @@ pub fn attribute_of<'a>(content: &'a Content, name: &Text) -> Option<&'a Text>
 {
     match content {
         Content::Element(_, attributes) => value_of(attributes, name),
+        Content::Text(_) => None,
+    }
+}
+
+// The value of the first attribute named `id`.
+fn id_in(attributes: &Vec<(Text, Text)>) -> Option<&Text>
+    ensures { option_copied result ≡ value_of (codes "id") attributes.now.items }
+{
+    'each: for attribute in attributes {
+        if is_word(&attribute.0, b"id") {
+            return Some(&attribute.1);
+        }
+    }
+    None
+}
+
+/// The `id` of an element, none for a text node.
+pub fn id_of(content: &Content) -> Option<&Text>
+    ensures { option_copied result ≡ attribute_of (codes "id") (label_of content.now) }
+{
+    match content {
+        Content::Element(_, attributes) => id_in(attributes),
         Content::Text(_) => None,
     }
 }

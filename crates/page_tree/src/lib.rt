@@ -5,9 +5,12 @@ mod arena;
 mod content;
 mod copies;
 mod fault;
+mod ids;
+mod index;
 mod links;
 mod page;
 mod rows;
+mod slots;
 
 pub use fault::PageFault;
 pub use page::{NodeId, Page};

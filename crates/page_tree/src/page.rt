@@ -1,7 +1,7 @@
 //! The page: the arena with the root of each owner.
 ghost use Rattle.std.specs.Prelude.{◌≡◌, ◌≢◌, ℕ, ◌+◌, ◌<◌, ◌≤◌, Some, None, true, [], ◌∷◌, IfOk, length, slice_get, option_copied, false, slice_index, slice_set, replicate, MatchBool, MatchResult, OnOk, OnErr, IfErr, Result, Ok, Err};
 ghost use Rattle.code_units.specs.declared.owner.Owner.TheVariants as owner;
-ghost use Rattle.page_tree.specs.Owners.{is_owner, same_owner, slot, root_in};
+ghost use Rattle.page_tree.specs.Owners.{is_owner, same_owner, root_in};
 ghost use Rattle.page_tree.specs.Entries.{at, body, body_entry, tree, label_of};
 ghost use Rattle.page_tree.specs.Trees.{is_number, is_leaf, is_text};
 ghost use Rattle.page_tree.specs.Moves.{Detached, IsDepth, ArePut, IsLinked, IsSwapped, IsRelabelled, AreNodes, OthersStay};
@@ -9,18 +9,22 @@ ghost use Rattle.page_tree.specs.Contents.{tag_of, text_of, attribute_of, with_a
 ghost use Rattle.plain_tree.specs.Trees.{TextOf, unmarked, size};
 ghost use Rattle.plain_tree.specs.Plains.{unplaced};
 ghost use Rattle.page_tree.specs.Counts.{IsCounted, count_of, most_of};
-ghost use Rattle.page_tree.specs.Adds.{IsAdded};
+ghost use Rattle.page_tree.specs.Adds.{IsAdded, OlderStay};
 ghost use Rattle.page_tree.specs.Copies.{copied};
 ghost use Rattle.page_tree.specs.Arenas.{nodes_in};
+ghost use Rattle.page_tree.specs.Ids.{with_id};
+ghost use Rattle.page_tree.specs.Index.{IsIndex};
 ghost use Rattle.page_tree.specs.Roots.{IsRooted};
 ghost use Rattle.std.proofs.Props.{props};
 
 use crate::arena::{Arena, BODY};
-use crate::content;
 use crate::copies::{is_low, room_after};
 use crate::fault::PageFault;
+use crate::ids::Ids;
 use crate::links::is_number;
 use crate::rows::Content;
+use crate::slots::{OWNERS, slot_of};
+use crate::{content, index};
 use code_units::{Memory, Owner, Text};
 use plain_tree::{Plain, is_void};
 use std::alloc::Global;
@@ -31,29 +35,16 @@ pub type NodeId = u32;
 // So many nodes may stand one above the other, `body` not counted.
 const LIMIT: u32 = 201;
 
-// The widgets, and the host behind them.
-const OWNERS: usize = 33;
-
 /// The one page.
 #[derive(Drop)]
 pub struct Page {
     arena: Arena,
     roots: [Option<u32>; OWNERS],
     made: [u32; OWNERS],
+    ids: Ids,
     ghost rooted: { IsRooted (nodes_in arena) roots } by { Prim.hlevel props },
     ghost counted: { IsCounted (nodes_in arena) made } by { Prim.hlevel props },
-}
-
-// The place of an owner in a table.
-fn slot_of(owner: Owner) -> usize
-    requires { is_owner owner ≡ true }
-    ensures value { result ≡ slot owner }
-    ensures bound { result < 33 }
-{
-    match owner {
-        Owner::Host => OWNERS - 1,
-        Owner::Widget(w) => w as usize,
-    }
+    ghost indexed: { IsIndex (nodes_in arena) ids } by { Prim.hlevel props },
 }
 
 // No widget has a root, and that of the host is `body`.
@@ -115,10 +106,12 @@ impl Page {
         ensures host { IfOk result (λ page. root page owner.Host ≡ Some body) }
     {
         let arena = Arena::new(alloc)?;
+        let ids = Ids::new(alloc)?;
         Ok(Page {
             arena,
             roots: first_roots(),
             made: first_counts(),
+            ids,
         })
     }
 
@@ -326,6 +319,7 @@ impl Page {
         ensures done { OnOk result (IsLinked (nodes self.old) (nodes self.new) body None node) }
         ensures becomes { OnOk result (BecomesRoot self.old self.new node) }
         ensures unchanged { OnErr result (nodes self.new ≡ nodes self.old) }
+        ensures others { OthersStay (nodes self.old) (nodes self.new) node }
         ensures same_roots { OnErr result (SameRoots self.old self.new) }
     {
         self.arena.reserve(BODY, 1)?;
@@ -344,6 +338,7 @@ impl Page {
         requires top { (at (nodes self.old) new).parent ≡ None }
         requires free { root self.old (at (nodes self.old) new).owner ≡ None }
         ensures done { IsSwapped (nodes self.old) (nodes self.new) old new }
+        ensures others { OthersStay (nodes self.old) (nodes self.new) old }
         ensures becomes { BecomesRoot self.old self.new new }
     {
         self.arena.swap(old, new);
@@ -384,7 +379,7 @@ impl Page {
         ensures others { OthersStay (nodes self.old) (nodes self.new) node }
         ensures roots { SameRoots self.old self.new }
     {
-        self.arena.set_attribute(node, name, value)
+        index::set_attribute(&mut self.arena, &mut self.ids, node, name, value)
     }
 
     /// Gives a text node another text. It takes no memory.
@@ -396,6 +391,15 @@ impl Page {
         ensures roots { SameRoots self.old self.new }
     {
         self.arena.set_text(node, text);
+    }
+
+    /// The nodes of an owner with an `id`, in the order of their birth, also those without a parent.
+    /// It takes no memory.
+    pub fn with_id(&self, owner: Owner, id: &Text) -> &[NodeId]
+        requires { is_owner owner ≡ true }
+        ensures { result.now ≡ with_id (nodes self.now) owner id.now }
+    {
+        self.ids.get(slot_of(owner), id)
     }
 
     /// How many nodes an owner has made.
@@ -423,6 +427,7 @@ impl Page {
         ensures done { IfOk result (λ id. IsAdded (nodes self.old) (nodes self.new) id owner (unplaced plain.now)) }
         ensures refused { IfErr result (RefusesAdd (nodes self.old) owner (unplaced plain.now)) }
         ensures unchanged { OnErr result (nodes self.new ≡ nodes self.old) }
+        ensures others { OlderStay (nodes self.old) (nodes self.new) }
         ensures roots { SameRoots self.old self.new }
     {
         if !is_low(plain, LIMIT) {
@@ -433,17 +438,9 @@ impl Page {
             Some(left) => left,
             None => return Err(PageFault::Nodes { kept }),
         };
-        let len = self.arena.len();
-        match self.arena.add(alloc, owner, plain) {
-            Ok(id) => {
-                self.made[slot_of(owner)] = most_of(owner) - left;
-                Ok(id)
-            }
-            Err(_) => {
-                self.arena.truncate(len);
-                Err(PageFault::Memory)
-            }
-        }
+        let id = index::add(&mut self.arena, &mut self.ids, alloc, owner, plain)?;
+        self.made[slot_of(owner)] = most_of(owner) - left;
+        Ok(id)
     }
 
     /// Adds a copy of a widget's node, with all below it and without ids, as a tree without a parent.
@@ -455,6 +452,7 @@ impl Page {
         ensures done { IfOk result (λ id. IsAdded (nodes self.old) (nodes self.new) id (at (nodes self.old) node).owner (copied false (tree (nodes self.old) node))) }
         ensures refused { IfErr result (RefusesCopy (nodes self.old) (at (nodes self.old) node).owner (copied false (tree (nodes self.old) node))) }
         ensures unchanged { OnErr result (nodes self.new ≡ nodes self.old) }
+        ensures others { OlderStay (nodes self.old) (nodes self.new) }
         ensures roots { SameRoots self.old self.new }
     {
         let owner = self.arena.owner(node);

@@ -1,0 +1,20 @@
+//! The places of owners in tables.
+ghost use Rattle.std.specs.Prelude.{◌≡◌, ◌<◌, true};
+ghost use Rattle.page_tree.specs.Owners.{is_owner, slot};
+
+use code_units::Owner;
+
+/// The widgets, and the host behind them.
+pub const OWNERS: usize = 33;
+
+/// The place of an owner in a table.
+pub fn slot_of(owner: Owner) -> usize
+    requires { is_owner owner ≡ true }
+    ensures value { result ≡ slot owner }
+    ensures bound { result < 33 }
+{
+    match owner {
+        Owner::Host => OWNERS - 1,
+        Owner::Widget(w) => w as usize,
+    }
+}
