@@ -1,43 +1,27 @@
 -- A cell is added.
-use Rattle.std.proofs.Common.{◌≡◌, ℕ, zero, suc, ◌+◌, ◌<◌, ◌≤◌, List, [], ◌∷◌, ◌++◌, length, map, get_or, refl, sym, ap, ◌∙◌, subst, Option, Some, None, arith, Bool, true, false, eqb, cond, if◌then◌else◌, true≢false, slice_get, is_some, length-append}
-use Rattle.std.specs.Prelude.{Result, Ok, Err, IfOk, OnOk, OnErr, IfSome, ◌&&◌, MatchOption}
-use Rattle.std.specs.List.{fold}
-use Rattle.std.specs.Option.{option_map, option_map_or, option_and_then}
+use Rattle.std.proofs.Common.{◌≡◌, ℕ, zero, suc, ◌+◌, ◌<◌, ◌≤◌, List, [], ◌∷◌, ◌++◌, length, refl, sym, ap, ◌∙◌, subst, Option, Some, None, arith, Bool, true, false, eqb, if◌then◌else◌, length-append}
+use Rattle.std.specs.Prelude.{Result, Ok, Err, IfOk, IfSome}
+use Rattle.std.specs.Option.{option_map_or}
 use Rattle.std.specs.Map.{lookup}
-use Rattle.std.specs.Str.{bytes_eq}
-use Rattle.std.proofs.lemmas.Option.{slice_get-map, get_or_from_slice_get}
 use Rattle.std.proofs.lemmas.List.{length-map, map-append}
 use Rattle.std.proofs.lemmas.Bool.Decides.{nat_tests}
 use Rattle.indexmap.specs.IndexMap.{insert_entry}
-use Rattle.code_units.specs.Interned.{IsTable, Interns}
-use Rattle.code_units.specs.declared.owner.Owner.TheVariants as whose
-use Rattle.code_units.proofs.Interning.{same_test, stays, longer}
-use Rattle.object_store.specs.declared.value.Value.{Value}
-use Rattle.object_store.specs.declared.value.Value.TheVariants as value
-use Rattle.object_store.specs.declared.kind.Form.{Form}
-use Rattle.object_store.specs.declared.kind.Form.TheVariants as form
 use Rattle.object_store.specs.declared.cell.Head.{Head}
 use Rattle.object_store.specs.declared.store.Counts.{Counts}
-use Rattle.object_store.specs.Lists.{changed, count_before, count_all}
-use Rattle.object_store.specs.Cells.{PlainCell, Cells, kept_cells, is_scope, is_array, is_own, is_visible_form, is_scope_at, node_in, function_in, widget_of, prototypes, raw_cell}
-use Rattle.object_store.specs.Arrays.{length_name, count_value}
-use Rattle.object_store.specs.Numbered.{Raw, Grown, plain, named, cells_of, heads, own_head, name_at, raw_written, first_raw, node_head}
-use Rattle.object_store.specs.Host.{AreHost}
-use Rattle.object_store.specs.Shape.{Known, AreKnown, AreEntries, IsArrayTable, IsFine, AreFine, AreOrdered, IsOrdered, AreRaws, AreWords, AreWithin, IsBase, IsShape, scope_at, links_at, scope_in, is_raw, raw_from, Added, Grew, Kept, head_on, scope_head, IsNewForm}
-use Rattle.object_store.specs.Calls.{paid, bound, scope_cell, new_cell, first_pairs, made, raw_place, raw_place_from, is_raw_cell}
-use Rattle.object_store.proofs.Lists.{none_some, some_same, by_push, get_older, get_within, count_before-push, count_before-all, count_all-push, length-changed}
-use Rattle.object_store.proofs.Look.{known_entries, known_cells, insert_named}
-use Rattle.object_store.proofs.Entries.{entries_more, entries_insert, node_found, node_other}
-use Rattle.object_store.proofs.Writes.{all_fine_stay, fine_stay, cells_stay, named_stay}
-use Rattle.object_store.proofs.Heads.{head_at, some_at, links_are, scope_same}
-use Rattle.object_store.proofs.Hosts.{host_push}
-use Rattle.object_store.proofs.Interned.{found_stays}
+use Rattle.object_store.specs.Lists.{changed, count_all}
+use Rattle.object_store.specs.Cells.{kept_cells, is_scope, node_in}
+use Rattle.object_store.specs.Numbered.{Raw, cells_of, heads, own_head, node_head}
+use Rattle.object_store.specs.Shape.{AreClosed, IsFine, AreFine, AreOrdered, IsOrdered, AreRaws, AreWithin, IsBase, IsShape, scope_at, links_at, scope_in, is_raw, raw_from, Added}
+use Rattle.object_store.specs.Calls.{paid, raw_place_from}
+use Rattle.object_store.proofs.Lists.{none_some, some_same, by_push, get_older, get_within, count_before-push, count_all-push, length-changed}
+use Rattle.object_store.proofs.Entries.{node_found, node_other}
+use Rattle.object_store.proofs.Writes.{all_fine_stay}
 
 -- lookups do not see a later cell
-scope_older : (hs : List Head) (x : Head) (j : ℕ) → j < length hs → scope_at (hs ++ x ∷ []) j ≡ scope_at hs j
+pub scope_older : (hs : List Head) (x : Head) (j : ℕ) → j < length hs → scope_at (hs ++ x ∷ []) j ≡ scope_at hs j
 scope_older hs x j lt = ap (λ (p : Option Head). option_map_or (λ h. is_scope h.form) p false) (get_older hs x j lt)
 
-links_older : (hs : List Head) (x : Head) (j : ℕ) → j < length hs → links_at (hs ++ x ∷ []) j ≡ links_at hs j
+pub links_older : (hs : List Head) (x : Head) (j : ℕ) → j < length hs → links_at (hs ++ x ∷ []) j ≡ links_at hs j
 links_older hs x j lt = ap (λ (p : Option Head). option_map_or (λ h. h.links) p 0) (get_older hs x j lt)
 
 module _ (hs : List Head) (x : Head) where
@@ -184,10 +168,10 @@ cells_paid_own (k ∷ ks) (suc w) c s u (suc v) lt = cells_paid_own ks w c s u v
         by false e = grind (arith, nat_tests, e)
 
 -- a shape with one cell more
-pub shape_added : (names new : List (List ℕ)) (cs after : List Raw) (raws : List (ℕ × ℕ)) (kept counts : List Counts) (h : Head) (w c s : ℕ) → IsShape names cs raws kept → w < 32 → IsBase new after → AreHost (cells_of new after) → heads after ≡ heads cs ++ h ∷ [] → node_in h.form ≡ None → ((v : ℕ) → (if own_head v h then 1 else 0) ≡ (if eqb w v then c else 0)) → AreWithin counts → counts ≡ changed kept w (paid c s 0) → IsShape new after raws counts
-shape_added names new cs after raws kept counts h w c s shape lt base host hs none own within e = record {
+pub shape_added : (names new : List (List ℕ)) (cs after : List Raw) (raws : List (ℕ × ℕ)) (kept counts : List Counts) (h : Head) (w c s : ℕ) → IsShape names cs raws kept → w < 32 → IsBase new after → AreClosed (cells_of new after) → heads after ≡ heads cs ++ h ∷ [] → node_in h.form ≡ None → ((v : ℕ) → (if own_head v h then 1 else 0) ≡ (if eqb w v then c else 0)) → AreWithin counts → counts ≡ changed kept w (paid c s 0) → IsShape new after raws counts
+shape_added names new cs after raws kept counts h w c s shape lt base closed hs none own within e = record {
   base = base;
-  host = host;
+  closed = closed;
   nodes = subst (λ (l : List Head). AreRaws l raws) (sym hs) (raws_push (heads cs) raws h shape.nodes none);
   counted = ap length e ∙ length-changed kept w (paid c s 0) ∙ shape.counted;
   within = within;

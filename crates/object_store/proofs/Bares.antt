@@ -1,20 +1,17 @@
 -- The host's cells before they have properties.
-use Rattle.std.proofs.Common.{◌≡◌, ℕ, zero, suc, ◌+◌, ◌<◌, ◌≤◌, List, [], ◌∷◌, ◌++◌, length, map, refl, sym, ap, ◌∙◌, subst, Option, Some, None, arith, Bool, true, false, eqb, if◌then◌else◌, slice_get, length-append, append_assoc}
-use Rattle.std.specs.Prelude.{◌&&◌, not, is_some, IfSome, replicate}
+use Rattle.std.proofs.Common.{◌≡◌, ℕ, zero, suc, ◌<◌, ◌≤◌, List, [], ◌∷◌, ◌++◌, length, map, refl, sym, ap, ◌∙◌, subst, Option, Some, None, arith, Bool, true, false, if◌then◌else◌, length-append, append_assoc}
+use Rattle.std.specs.Prelude.{◌&&◌, not, IfSome, replicate}
 use Rattle.std.specs.List.{list_all}
 use Rattle.std.specs.Option.{option_map_or}
-use Rattle.std.specs.Map.{lookup}
-use Rattle.code_units.specs.declared.owner.Owner.TheVariants as whose
 use Rattle.object_store.specs.declared.value.Value.{Value}
 use Rattle.object_store.specs.declared.kind.Form.{Form}
 use Rattle.object_store.specs.declared.kind.Form.TheVariants as form
 use Rattle.object_store.specs.declared.cell.Head.{Head}
-use Rattle.object_store.specs.declared.store.Counts.{Counts}
 use Rattle.object_store.specs.Cells.{is_scope, is_array, node_in, kept_cells}
-use Rattle.object_store.specs.Numbered.{Raw, heads, node_head}
+use Rattle.object_store.specs.Numbered.{Raw}
 use Rattle.object_store.specs.Host.{nothing_paid}
-use Rattle.object_store.specs.Shape.{AreEntries, AreFine, IsFine, AreOrdered, IsOrdered, AreRaws, AreWithin, scope_at, links_at, scope_in}
-use Rattle.object_store.specs.Bare.{host_head, host_raw, is_host_form}
+use Rattle.object_store.specs.Shape.{AreEntries, AreFine, AreOrdered, IsOrdered, AreRaws, AreWithin, scope_at, links_at, scope_in}
+use Rattle.object_store.specs.Bare.{host_head, is_host_form}
 use Rattle.object_store.proofs.Lists.{get_older}
 use Rattle.object_store.proofs.Adds.{ordered_push, raws_push}
 

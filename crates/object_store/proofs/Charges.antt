@@ -18,7 +18,7 @@ module _ (s : Cells) (names : List (List ℕ)) (cs : List Raw) {raws : List (ℕ
   moved = λ j. F (kept_is j) (is j)
 
   pub charged_shape : (r : Result (Unit {0}) StoreFault) → OnOk r (counts ≡ changed kept v (paid 0 n u)) → OnErr r (counts ≡ kept) → AreWithin counts → IsShape names cs raws counts
-  charged_shape (Ok x) e g within = shape_paid names names cs cs raws kept counts shape shape.base shape.host refl within v n u e
+  charged_shape (Ok x) e g within = shape_paid names names cs cs raws kept counts shape shape.base shape.closed refl within v n u e
   charged_shape (Err x) e g within = subst (λ (ks : List Counts). IsShape names cs raws ks) (sym g) shape
 
   pub charged_ok : (r : Result (Unit {0}) StoreFault) → OnOk r (F kept v ≡ None) → OnOk r (counts ≡ changed kept v (paid 0 n u)) → OnOk r ((F s.kept w ≡ None) × (let d : Cells = record { cells = cells_of names cs; kept = counts } in d ≡ unit_cost s w n u))

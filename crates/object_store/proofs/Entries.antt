@@ -1,9 +1,8 @@
 -- The entries of one cell, after each change.
-use Rattle.std.proofs.Common.{◌≡◌, ℕ, zero, suc, ◌+◌, ◌<◌, ◌≤◌, List, [], ◌∷◌, length, get_or, refl, sym, ap, ◌∙◌, subst, Option, Some, None, arith, Bool, true, false, eqb, cond, if◌then◌else◌, slice_get, is_some, true≢false, filter}
-use Rattle.std.specs.Prelude.{nat_lt, max}
-use Rattle.std.specs.Option.{option_map, option_map_or, option_and_then}
+use Rattle.std.proofs.Common.{◌≡◌, ℕ, ◌<◌, ◌≤◌, List, [], ◌∷◌, length, get_or, refl, sym, ap, ◌∙◌, Option, Some, None, arith, Bool, true, false, eqb, cond, if◌then◌else◌, true≢false, filter}
+use Rattle.std.specs.Prelude.{nat_lt}
+use Rattle.std.specs.Option.{option_map_or}
 use Rattle.std.specs.Map.{lookup, remove_entry}
-use Rattle.std.specs.Str.{bytes_eq}
 use Rattle.std.proofs.lemmas.Bool.Decides.{nat_tests}
 use Rattle.indexmap.specs.IndexMap.{insert_entry}
 use Rattle.object_store.specs.declared.value.Value.{Value}

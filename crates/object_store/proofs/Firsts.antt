@@ -1,8 +1,7 @@
 -- The shape of a new store.
-use Rattle.std.proofs.Common.{◌≡◌, ℕ, zero, suc, ◌+◌, ◌<◌, ◌≤◌, List, [], ◌∷◌, ◌++◌, length, map, refl, sym, ap, ◌∙◌, subst, Option, Some, None, arith, Bool, true, false, eqb, if◌then◌else◌, slice_get}
-use Rattle.std.specs.Prelude.{replicate, ◌&&◌}
+use Rattle.std.proofs.Common.{◌≡◌, ℕ, List, [], ◌∷◌, ◌++◌, length, map, refl, sym, ap, ◌∙◌, subst, Some, None, arith, Bool, true, false, slice_get, not, true≢false}
+use Rattle.std.specs.Prelude.{replicate}
 use Rattle.std.specs.List.{list_all}
-use Rattle.std.specs.Map.{lookup}
 use Rattle.code_units.specs.Interned.{IsTable}
 use Rattle.object_store.specs.declared.cell.Head.{Head}
 use Rattle.object_store.specs.declared.kind.Form.{Form}
@@ -12,11 +11,12 @@ use Rattle.object_store.specs.declared.store.Counts.{Counts}
 use Rattle.object_store.specs.Lists.{count_all}
 use Rattle.object_store.specs.Numbered.{Raw, cells_of, heads, own_head, node_head}
 use Rattle.object_store.specs.Host.{AreHost, host_cells, host_count, homed, native_gift, nothing_paid}
-use Rattle.object_store.specs.Bare.{host_head, host_raw, bare_raws, is_host_form, no_arrays, with_gifts, reference_gifts, AreFirst}
-use Rattle.object_store.specs.Shape.{AreWords, AreOrdered, AreRaws, AreWithin, IsBase, IsShape}
-use Rattle.object_store.specs.Cells.{PlainCell, kept_cells}
+use Rattle.object_store.specs.Bare.{host_head, bare_raws, no_arrays, with_gifts, reference_gifts, AreFirst}
+use Rattle.object_store.specs.Shape.{AreClosed, AreWords, AreOrdered, AreRaws, AreWithin, IsBase, IsShape}
+use Rattle.object_store.specs.Cells.{PlainCell, is_bunch, kept_cells}
 use Rattle.object_store.proofs.Lists.{none_some}
-use Rattle.object_store.proofs.Adds.{ordered_push, raws_push, raws_node}
+use Rattle.object_store.proofs.Adds.{ordered_push, raws_node}
+use Rattle.object_store.proofs.Gifts.{all_at}
 use Rattle.object_store.proofs.Makes.{node_head_ordered}
 use Rattle.object_store.proofs.Bares.{ordered_group, raws_group, is_empty_cell, are_empty, empty_fine, none_paid, within_none}
 
@@ -100,6 +100,20 @@ first_host cells e = record {
   same = λ i lt. ap (λ l. slice_get l i) e;
 }
 
+all_open : list_all (λ c. not (is_bunch c.form)) host_cells ≡ true
+unfolding host_cells
+all_open = refl
+
+first_closed : (cells : List PlainCell) → cells ≡ host_cells → AreClosed cells
+first_closed cells e = record {
+  host = first_host cells e;
+  bunches = record { each = λ i c at bunch. absurd (both (is_bunch c.form) bunch (all_at (λ (d : PlainCell). not (is_bunch d.form)) host_cells i c all_open (ap (λ l. slice_get l i) (sym e) ∙ at))) };
+}
+  where
+    both : (b : Bool) → b ≡ true → not b ≡ true → ⊥
+    both true e g = true≢false (sym g)
+    both false e g = true≢false (sym e)
+
 no_own : (w : ℕ) → count_all (own_head w) (heads bare_raws) ≡ 0
 unfolding bare_raws
 no_own w = refl
@@ -107,7 +121,7 @@ no_own w = refl
 pub first_shape : (names : List (List ℕ)) (cs : List Raw) (raws : List (ℕ × ℕ)) (kept : List Counts) → AreFirst names cs → raws ≡ (0, 1) ∷ [] → kept ≡ replicate 32 nothing_paid → IsShape names cs raws kept
 first_shape names cs raws kept first e g = record {
   base = first.base;
-  host = first_host (cells_of names cs) first.done;
+  closed = first_closed (cells_of names cs) first.done;
   nodes = subst (λ (l : List Head). AreRaws l raws) (sym first.heads) (subst (λ (r : List (ℕ × ℕ)). AreRaws (heads bare_raws) r) (sym e) bare_nodes);
   counted = ap length g;
   within = subst AreWithin (sym g) (within_none 32);

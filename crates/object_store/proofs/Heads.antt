@@ -1,18 +1,16 @@
 -- What the cells' fixed parts say: chains, numbers, scopes.
-use Rattle.std.proofs.Common.{◌≡◌, ℕ, zero, suc, ◌+◌, ◌-◌, ◌<◌, ◌≤◌, List, [], ◌∷◌, length, map, refl, sym, ap, ◌∙◌, subst, Option, Some, None, arith, Bool, true, false, eqb, if◌then◌else◌, true≢false, slice_get}
+use Rattle.std.proofs.Common.{◌≡◌, ℕ, zero, suc, ◌-◌, ◌<◌, ◌≤◌, List, [], ◌∷◌, length, refl, sym, ap, ◌∙◌, subst, Option, Some, None, arith, Bool, true, false, eqb, if◌then◌else◌, true≢false, slice_get}
 use Rattle.std.specs.Prelude.{IfSome, ◌&&◌}
 use Rattle.std.specs.Option.{option_map, option_map_or, option_and_then}
 use Rattle.std.proofs.lemmas.Option.{slice_get-map}
 use Rattle.std.proofs.lemmas.List.{length-map}
 use Rattle.std.proofs.lemmas.Bool.Decides.{nat_tests}
-use Rattle.code_units.specs.declared.owner.Owner.{Owner}
-use Rattle.code_units.specs.declared.owner.Owner.TheVariants as whose
 use Rattle.object_store.specs.declared.value.Value.{Value}
 use Rattle.object_store.specs.declared.cell.Head.{Head}
 use Rattle.object_store.specs.declared.kind.Form.{Form}
 use Rattle.object_store.specs.declared.kind.Form.TheVariants as form
 use Rattle.object_store.specs.Lists.{links, climb, count_before}
-use Rattle.object_store.specs.Cells.{PlainCell, is_scope, is_array, is_scope_at, prototypes, chain, is_visible, is_visible_form, is_own, own_count, widget_of}
+use Rattle.object_store.specs.Cells.{PlainCell, is_scope, is_array, is_bunch, is_scope_at, prototypes, chain, is_visible, is_visible_form, own_count, widget_of}
 use Rattle.object_store.specs.Numbered.{Raw, plain, cells_of, named, heads, own_head, raw_has, raw_holder}
 use Rattle.object_store.specs.Shape.{AreOrdered, IsOrdered, scope_at, links_at}
 use Rattle.object_store.specs.Calls.{own_number_of}
@@ -128,6 +126,16 @@ scope_no_array form.Scope s a = true≢false (sym a)
 scope_no_array form.Bunch s a = true≢false (sym s)
 scope_no_array (form.RawNode p) s a = true≢false (sym s)
 scope_no_array form.Global s a = true≢false (sym s)
+
+pub scope_no_bunch : (f : Form) → is_scope f ≡ true → is_bunch f ≡ false
+scope_no_bunch form.Object e = refl
+scope_no_bunch form.Array e = refl
+scope_no_bunch (form.Function p) e = refl
+scope_no_bunch (form.Native p) e = refl
+scope_no_bunch form.Scope e = refl
+scope_no_bunch form.Bunch e = absurd (true≢false (sym e))
+scope_no_bunch (form.RawNode p) e = refl
+scope_no_bunch form.Global e = refl
 
 -- a scope of plain data, and of heads
 pub scope_same : (names : List (List ℕ)) (cs : List Raw) (i : ℕ) → is_scope_at (cells_of names cs) i ≡ scope_at (heads cs) i

@@ -1,5 +1,5 @@
 -- The host's cells stay.
-use Rattle.std.proofs.Common.{◌≡◌, ℕ, zero, suc, ◌+◌, ◌<◌, ◌≤◌, List, [], ◌∷◌, ◌++◌, length, map, refl, sym, ap, ◌∙◌, subst, Option, Some, None, arith, Bool, true, false, eqb, if◌then◌else◌, slice_get, is_some, length-append}
+use Rattle.std.proofs.Common.{◌≡◌, ℕ, zero, suc, ◌<◌, ◌≤◌, List, [], ◌∷◌, ◌++◌, refl, sym, ap, ◌∙◌, subst, Some, None, arith, Bool, true, false, eqb, if◌then◌else◌, slice_get, length-append}
 use Rattle.std.specs.Prelude.{◌&&◌, IfSome}
 use Rattle.std.specs.List.{list_all}
 use Rattle.std.proofs.lemmas.Bool.Decides.{nat_tests}
@@ -13,7 +13,7 @@ use Rattle.object_store.specs.declared.native.NativeId.TheVariants as native
 use Rattle.object_store.specs.declared.native.HostEntry.{HostEntry}
 use Rattle.object_store.specs.declared.native.HostEntry.TheVariants as entry
 use Rattle.object_store.specs.declared.kind.CellKind.TheVariants as kind
-use Rattle.object_store.proofs.Lists.{none_some, some_same, length-changed, get_older, get_within}
+use Rattle.object_store.proofs.Lists.{none_some, some_same, length-changed, get_older}
 
 abbrev is_hosts : PlainCell → Bool
 is_hosts c = elim c.owner [ whose.Host ↦ true | whose.Widget w ↦ false ]
@@ -56,10 +56,10 @@ changed_apart (x ∷ xs) zero (suc k) f h = refl
 changed_apart (x ∷ xs) (suc i) zero f h = refl
 changed_apart (x ∷ xs) (suc i) (suc k) f h = changed_apart xs i k f (λ e. h (ap suc e))
 
-apart : (i k : ℕ) → eqb i k ≡ false → i ≡ k → ⊥
+pub apart : (i k : ℕ) → eqb i k ≡ false → i ≡ k → ⊥
 apart i k f e = grind (arith, nat_tests, f, e)
 
-is_same : (i k : ℕ) → eqb i k ≡ true → i ≡ k
+pub is_same : (i k : ℕ) → eqb i k ≡ true → i ≡ k
 is_same i k e = grind (arith, nat_tests, e)
 
 -- a widget's cell is changed

@@ -1,11 +1,14 @@
 pub mod Adds
 pub mod Bares
+pub mod Births
 pub mod Chains
 pub mod Charges
 pub mod Climb
+pub mod Closed
 pub mod Costs
 pub mod Cuts
 pub mod Digits
+pub mod Elements
 pub mod Entries
 pub mod Firsts
 pub mod Gifts

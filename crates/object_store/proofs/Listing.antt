@@ -1,10 +1,9 @@
 -- The names that are listed, place by place.
-use Rattle.std.proofs.Common.{◌≡◌, ℕ, zero, suc, ◌+◌, ◌<◌, ◌≤◌, List, [], ◌∷◌, ◌++◌, length, map, get_or, refl, sym, ap, ◌∙◌, Option, Some, None, arith, Bool, true, false, cond, if◌then◌else◌, slice_get, filter, length-append}
+use Rattle.std.proofs.Common.{◌≡◌, ℕ, zero, suc, ◌+◌, ◌<◌, List, [], ◌∷◌, ◌++◌, length, map, refl, sym, ap, ◌∙◌, Option, Some, None, arith, Bool, true, false, cond, if◌then◌else◌, slice_get, filter, length-append}
 use Rattle.std.specs.Prelude.{option_to_list, Result, Ok, Err, IfOk}
 use Rattle.std.specs.Option.{option_and_then}
 use Rattle.std.proofs.lemmas.Option.{slice_get-get_or}
 use Rattle.object_store.specs.declared.value.Value.{Value}
-use Rattle.object_store.specs.Cells.{PlainCell}
 use Rattle.object_store.specs.Numbered.{Raw, plain, named, name_at, listed, raw_key}
 use Rattle.object_store.specs.Shape.{Known}
 use Rattle.object_store.specs.Calls.{is_key, keys_of}

@@ -1,21 +1,20 @@
 -- Cells by number, and by name.
-use Rattle.std.proofs.Common.{◌≡◌, ℕ, zero, suc, ◌+◌, ◌<◌, ◌≤◌, List, [], ◌∷◌, length, get_or, refl, sym, ap, ◌∙◌, subst, Option, Some, None, arith, Bool, true, false, eqb, cond, if◌then◌else◌, slice_get, is_some, true≢false}
+use Rattle.std.proofs.Common.{◌≡◌, ℕ, zero, suc, ◌<◌, List, [], ◌∷◌, length, get_or, refl, sym, ap, ◌∙◌, subst, Option, Some, None, arith, Bool, true, false, eqb, cond, if◌then◌else◌, slice_get, is_some, true≢false}
 use Rattle.std.specs.Option.{option_map, option_map_or, option_and_then}
 use Rattle.std.specs.List.{list_any}
 use Rattle.std.specs.Prelude.{IfSome}
 use Rattle.std.specs.Map.{lookup, remove_entry}
 use Rattle.std.specs.Str.{bytes_eq}
-use Rattle.std.proofs.lemmas.Option.{slice_get-map, get_or_from_slice_get}
+use Rattle.std.proofs.lemmas.Option.{slice_get-map}
 use Rattle.std.proofs.lemmas.List.{length-map}
 use Rattle.indexmap.specs.IndexMap.{insert_entry}
-use Rattle.code_units.specs.Interned.{IsTable}
 use Rattle.code_units.proofs.Interning.{same_test, none_test}
 use Rattle.object_store.specs.declared.value.Value.{Value}
 use Rattle.object_store.specs.declared.store.Counts.{Counts}
 use Rattle.object_store.specs.Lists.{climb}
 use Rattle.object_store.specs.Cells.{PlainCell, Cells, has_own, own_value_at, holder, value_along}
 use Rattle.object_store.specs.Numbered.{Raw, named, name_at, plain, cells_of, raw_has, raw_own, raw_holder, raw_along, raw_has_at}
-use Rattle.object_store.specs.Shape.{Known, AreKnown, AreEntries, IsFine, AreFine, IsBase, IsShape}
+use Rattle.object_store.specs.Shape.{Known, AreKnown, AreEntries, AreFine, IsShape}
 use Rattle.object_store.proofs.Lists.{none_some, some_same}
 
 pub known_at : (n : ℕ) (cs : List Raw) (i : ℕ) (c : Raw) → AreKnown n cs → slice_get cs i ≡ Some c → Known n c.entries

@@ -1,30 +1,28 @@
 -- What `make` and `add_raw` answer.
-use Rattle.std.proofs.Common.{◌≡◌, ℕ, zero, suc, ◌+◌, ◌<◌, ◌≤◌, List, [], ◌∷◌, ◌++◌, length, map, refl, sym, ap, ◌∙◌, subst, Option, Some, None, arith, Bool, true, false, eqb, if◌then◌else◌, true≢false, slice_get, is_some}
-use Rattle.std.specs.Prelude.{Result, Ok, Err, IfOk, OnOk, OnErr, IfSome, ◌&&◌, MatchOption}
-use Rattle.std.specs.Option.{option_map, option_map_or, option_and_then}
+use Rattle.std.proofs.Common.{◌≡◌, ℕ, suc, ◌+◌, ◌<◌, ◌≤◌, List, [], ◌∷◌, ◌++◌, length, refl, sym, ap, ◌∙◌, subst, Option, Some, None, arith, Bool, true, false, eqb, if◌then◌else◌}
+use Rattle.std.specs.Prelude.{IfSome, ◌&&◌, MatchOption}
+use Rattle.std.specs.Option.{option_map_or}
 use Rattle.std.specs.Map.{lookup}
 use Rattle.std.proofs.lemmas.List.{length-map, map-append}
 use Rattle.std.proofs.lemmas.Bool.Decides.{nat_tests}
 use Rattle.indexmap.specs.IndexMap.{insert_entry}
 use Rattle.code_units.specs.Interned.{IsTable}
 use Rattle.code_units.specs.declared.owner.Owner.TheVariants as whose
-use Rattle.object_store.specs.declared.value.Value.{Value}
 use Rattle.object_store.specs.declared.kind.Form.{Form}
 use Rattle.object_store.specs.declared.kind.Form.TheVariants as form
 use Rattle.object_store.specs.declared.cell.Head.{Head}
 use Rattle.object_store.specs.declared.store.Counts.{Counts}
 use Rattle.object_store.specs.Lists.{changed, count_before, count_all}
-use Rattle.object_store.specs.Cells.{PlainCell, Cells, kept_cells, is_scope, is_array, is_own, is_visible_form, is_scope_at, node_in, widget_of, prototypes, raw_cell}
+use Rattle.object_store.specs.Cells.{is_bunch, PlainCell, Cells, kept_cells, is_scope, is_array, is_own, is_visible_form, is_scope_at, node_in, prototypes, raw_cell}
 use Rattle.object_store.specs.Arrays.{length_name, count_value}
-use Rattle.object_store.specs.Numbered.{Raw, plain, named, cells_of, heads, own_head, name_at, first_raw, node_head}
-use Rattle.object_store.specs.Host.{AreHost}
-use Rattle.object_store.specs.Shape.{AreEntries, IsArrayTable, IsFine, AreOrdered, IsOrdered, AreRaws, AreWords, AreWithin, IsBase, IsShape, scope_at, links_at, scope_in, raw_from, Added, head_on, IsNewForm}
-use Rattle.object_store.specs.Calls.{paid, new_cell, first_pairs, made, raw_place}
-use Rattle.object_store.proofs.Lists.{none_some, some_same, get_within, count_before-all, count_all-push}
+use Rattle.object_store.specs.Numbered.{Raw, plain, named, cells_of, heads, own_head, first_raw, node_head}
+use Rattle.object_store.specs.Shape.{AreClosed, AreEntries, IsArrayTable, IsFine, IsOrdered, AreRaws, AreWords, IsShape, scope_at, links_at, scope_in, Added, head_on}
+use Rattle.object_store.specs.Calls.{paid, new_cell, made, raw_place}
+use Rattle.object_store.proofs.Lists.{count_before-all, count_all-push}
 use Rattle.object_store.proofs.Writes.{length_here, zero_within, length_below}
 use Rattle.object_store.proofs.Heads.{head_at, some_at, links_are, scope_same}
-use Rattle.object_store.proofs.Hosts.{host_push}
-use Rattle.object_store.proofs.Adds.{heads_push, raws_node, raw_place_is, shape_added}
+use Rattle.object_store.proofs.Closed.{closed_push}
+use Rattle.object_store.proofs.Adds.{heads_push, raws_node, raw_place_is}
 
 false_true : false ≡ true → ⊥
 false_true g = cc
@@ -146,8 +144,8 @@ module _ (s : Cells) (names : List (List ℕ)) (cs : List Raw) {raws : List (ℕ
   pub added_heads : (after : List Raw) (c : Raw) → after ≡ cs ++ c ∷ [] → heads after ≡ heads cs ++ c.head ∷ []
   added_heads after c e = ap heads e ∙ heads_push cs c
 
-  pub added_host : (after : List Raw) (new : List (List ℕ)) (p : PlainCell) → cells_of new after ≡ cells_of names cs ++ p ∷ [] → AreHost (cells_of new after)
-  added_host after new p e = subst AreHost (sym e) (host_push (cells_of names cs) p shape.host)
+  pub added_closed : (after : List Raw) (new : List (List ℕ)) (p : PlainCell) → is_bunch p.form ≡ false → cells_of new after ≡ cells_of names cs ++ p ∷ [] → AreClosed (cells_of new after)
+  added_closed after new p none e = subst AreClosed (sym e) (closed_push (cells_of names cs) p shape.closed none)
 
   -- `add_raw`
   pub node_ordered : (node : ℕ) → IsOrdered (heads cs) (length cs) (node_head node)
@@ -173,7 +171,7 @@ module _ (s : Cells) (names : List (List ℕ)) (cs : List Raw) {raws : List (ℕ
   pub node_shape : (after : List Raw) (c : Raw) (raws' : List (ℕ × ℕ)) (node id : ℕ) → c ≡ record { head = node_head node; top = 0; entries = [] } → lookup (eqb node) raws ≡ None → Added names cs names after c id → raws' ≡ insert_entry eqb raws node id → IsShape names after raws' kept
   node_shape after c raws' node id is none added e = record {
     base = added.base;
-    host = added_host after names (plain names c) (added_cells after c (plain names c) added.items refl);
+    closed = added_closed after names (plain names c) (ap (λ (d : Raw). is_bunch d.head.form) is) (added_cells after c (plain names c) added.items refl);
     nodes = subst (λ (l : List Head). AreRaws l raws') (sym hs) (subst (λ (r : List (ℕ × ℕ)). AreRaws (heads cs ++ node_head node ∷ []) r) (sym (e ∙ ap (insert_entry eqb raws node) (added.place ∙ sym (length-map cs (λ c. c.head))))) (raws_node (heads cs) raws node shape.nodes none));
     counted = shape.counted;
     within = shape.within;

@@ -1,8 +1,7 @@
 -- What a plan says of a write.
-use Rattle.std.proofs.Common.{◌≡◌, ℕ, zero, suc, ◌+◌, ◌<◌, ◌≤◌, List, [], ◌∷◌, refl, sym, ap, ◌∙◌, subst, Option, Some, None, arith, Bool, true, false, if◌then◌else◌, true≢false, eqb, length}
-use Rattle.std.specs.Prelude.{nat_lt, slice_get}
+use Rattle.std.proofs.Common.{◌≡◌, ℕ, ◌+◌, List, refl, sym, ap, ◌∙◌, Option, Some, None, arith, Bool, true, false, if◌then◌else◌, true≢false, length}
+use Rattle.std.specs.Prelude.{nat_lt}
 use Rattle.std.specs.Option.{option_map, option_map_or, option_and_then}
-use Rattle.std.specs.Map.{lookup}
 use Rattle.std.specs.Str.{bytes_eq}
 use Rattle.std.proofs.lemmas.Bool.Decides.{nat_tests}
 use Rattle.code_units.specs.Interned.{IsTable}
@@ -11,7 +10,7 @@ use Rattle.object_store.specs.declared.value.Value.{Value}
 use Rattle.object_store.specs.declared.cell.Write.{Write}
 use Rattle.object_store.specs.declared.cell.Write.TheVariants as write
 use Rattle.object_store.specs.Indices.{index_of}
-use Rattle.object_store.specs.Cells.{PlainCell, is_array}
+use Rattle.object_store.specs.Cells.{is_array}
 use Rattle.object_store.specs.Arrays.{is_below, length_in, length_name, length_of, count_value, written, cut, stored, placed, is_bad_length}
 use Rattle.object_store.specs.Numbered.{Raw, plain, named, plan_of, by_plan, element_plan, raw_length}
 use Rattle.object_store.specs.Shape.{Known, AreWords}

@@ -1,5 +1,5 @@
 -- What `put` answers.
-use Rattle.std.proofs.Common.{◌≡◌, ℕ, ◌+◌, ◌<◌, ◌≤◌, List, length, refl, sym, ap, ◌∙◌, subst, Option, Some, None, Bool, true, false, if◌then◌else◌, slice_get, is_some}
+use Rattle.std.proofs.Common.{◌≡◌, ℕ, List, length, sym, ap, ◌∙◌, subst, Option, Some, None, false, if◌then◌else◌, slice_get, is_some}
 use Rattle.std.specs.Prelude.{Result, Ok, Err, IsErr, IfErr}
 use Rattle.std.specs.Result.{IsErrAnd}
 use Rattle.std.specs.Option.{option_map, option_map_or}
@@ -15,13 +15,11 @@ use Rattle.object_store.specs.Lists.{changed, count_all}
 use Rattle.object_store.specs.Cells.{kept_cells, PlainCell, Cells, has_own, writer_in}
 use Rattle.object_store.specs.Arrays.{stored, is_bad_length}
 use Rattle.object_store.specs.Numbered.{Raw, plain, cells_of, heads, own_head, raw_has, IsNumberOf, plan_of, by_plan}
-use Rattle.object_store.specs.Host.{AreHost}
-use Rattle.object_store.specs.Shape.{IsBase, IsShape, AreRaws, AreWithin, Wrote}
+use Rattle.object_store.specs.Shape.{AreClosed, IsBase, IsShape, AreRaws, AreWithin, Wrote}
 use Rattle.object_store.specs.Calls.{Refuses, cost_refusal, slots_for, put_refusal, put_refusal_of, put_done, kept_after, paid}
 use Rattle.object_store.proofs.Lists.{length-changed, changed_alike}
-use Rattle.object_store.proofs.Look.{known_entries, known_cells, known_at, has_same, look_none}
-use Rattle.object_store.proofs.Writes.{fine_at}
-use Rattle.object_store.proofs.Hosts.{host_changed, writer_widget}
+use Rattle.object_store.proofs.Look.{known_cells, known_at, has_same, look_none}
+use Rattle.object_store.proofs.Closed.{closed_wrote}
 use Rattle.object_store.proofs.Plans.{no_plan, some_plan, plan_done, length_alike}
 use Rattle.object_store.proofs.Costs.{cells_paid}
 
@@ -39,10 +37,10 @@ refuses_err (Ok u) P x o h f is = tt
 refuses_err (Err e) P x o h f is = refuses_some e o (is ∙ ap Some (sym (f e h.1)))
 
 -- after a call that pays no cells
-pub shape_paid : (names new : List (List ℕ)) (cs after : List Raw) (raws : List (ℕ × ℕ)) (kept counts : List Counts) → IsShape names cs raws kept → IsBase new after → AreHost (cells_of new after) → heads after ≡ heads cs → AreWithin counts → (w s u : ℕ) → counts ≡ changed kept w (paid 0 s u) → IsShape new after raws counts
-shape_paid names new cs after raws kept counts shape base host same within w s u e = record {
+pub shape_paid : (names new : List (List ℕ)) (cs after : List Raw) (raws : List (ℕ × ℕ)) (kept counts : List Counts) → IsShape names cs raws kept → IsBase new after → AreClosed (cells_of new after) → heads after ≡ heads cs → AreWithin counts → (w s u : ℕ) → counts ≡ changed kept w (paid 0 s u) → IsShape new after raws counts
+shape_paid names new cs after raws kept counts shape base closed same within w s u e = record {
   base = base;
-  host = host;
+  closed = closed;
   nodes = subst (λ (hs : List Head). AreRaws hs raws) (sym same) shape.nodes;
   counted = ap length e ∙ length-changed kept w (paid 0 s u) ∙ shape.counted;
   within = within;
@@ -56,8 +54,8 @@ module _ (s : Cells) (names : List (List ℕ)) (cs : List Raw) {raws : List (ℕ
   kept_is : s.kept ≡ kept
   kept_is = ap (λ (t : Cells). t.kept) (sym view)
 
-  pub host_wrote : (w : ℕ) → writer_in c.head.owner c.head.form ≡ Some w → (new : List (List ℕ)) (after : List Raw) (f : PlainCell → PlainCell) → Wrote names cs new after i f → AreHost (cells_of new after)
-  host_wrote w writer new after f wrote = subst AreHost (sym wrote.done) (host_changed (cells_of names cs) i (plain names c) w f shape.host (slice_get-map (plain names) cs i ∙ ap (option_map (plain names)) at) (writer_widget (plain names c) w writer))
+  pub closed_after : (w : ℕ) → writer_in c.head.owner c.head.form ≡ Some w → (new : List (List ℕ)) (after : List Raw) (f : PlainCell → PlainCell) → Wrote names cs new after i f → AreClosed (cells_of new after)
+  closed_after w writer new after f wrote = closed_wrote names new cs after i w c f shape.closed at writer wrote
 
   module _ (name : List ℕ) (v : Value) where
     refusal_is : put_refusal s i name v ≡ put_refusal_of kept name v (plain names c)

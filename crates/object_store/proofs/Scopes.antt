@@ -1,18 +1,16 @@
 -- A scope and its names.
-use Rattle.std.proofs.Common.{◌≡◌, ℕ, ◌+◌, ◌<◌, ◌≤◌, List, [], ◌∷◌, ◌++◌, length, map, get_or, refl, sym, ap, ◌∙◌, subst, Option, Some, None, arith, Bool, true, false, eqb, slice_get}
+use Rattle.std.proofs.Common.{◌≡◌, ℕ, ◌+◌, ◌<◌, List, [], ◌∷◌, ◌++◌, length, refl, sym, ap, ◌∙◌, subst, Option, Some, arith, Bool, true, false, eqb, slice_get}
 use Rattle.std.specs.Prelude.{Result, Ok, Err, IfOk, OnOk, OnErr, IfSome, ◌&&◌}
 use Rattle.std.specs.List.{fold}
 use Rattle.std.proofs.lemmas.Option.{get_or_from_slice_get, slice_get-get_or}
-use Rattle.std.proofs.lemmas.List.{length-map, map-append}
+use Rattle.std.proofs.lemmas.List.{map-append}
 use Rattle.code_units.specs.Interned.{IsTable, Interns}
-use Rattle.code_units.specs.declared.owner.Owner.TheVariants as whose
 use Rattle.code_units.proofs.Interning.{same_test, stays, longer}
 use Rattle.object_store.specs.declared.value.Value.TheVariants as value
-use Rattle.object_store.specs.declared.kind.Form.TheVariants as form
 use Rattle.object_store.specs.declared.cell.Head.{Head}
-use Rattle.object_store.specs.Cells.{PlainCell, is_scope, is_array}
+use Rattle.object_store.specs.Cells.{PlainCell, is_array, is_bunch}
 use Rattle.object_store.specs.Arrays.{length_name, nodes_name}
-use Rattle.object_store.specs.Numbered.{Raw, Grown, plain, named, cells_of, heads, own_head, raw_written}
+use Rattle.object_store.specs.Numbered.{Raw, Grown, plain, cells_of, heads, own_head, raw_written}
 use Rattle.object_store.specs.Shape.{AreEntries, IsFine, IsOrdered, AreWords, IsBase, Kept, Grew, scope_at, scope_head}
 use Rattle.object_store.specs.Calls.{bound, scope_cell}
 use Rattle.object_store.proofs.Lists.{get_within}
@@ -126,3 +124,8 @@ scope_kept_err old new grown table cs base (Err x) = scope_kept old new grown ta
 pub scope_err : (old new : List (List ℕ)) (grown : Grown old new) (table : IsTable new) (words : AreWords new) (cs after : List Raw) (base : IsBase old cs) {E : Type 0} (r : Result ℕ E) → OnErr r (after ≡ cs) → OnErr r (Kept old cs new after)
 scope_err old new grown table words cs after base (Ok id) e = tt
 scope_err old new grown table words cs after base (Err x) e = scope_kept old new grown table words cs base after e
+
+-- a scope is no Bunch
+pub scope_open : (c : PlainCell) (list : List (List ℕ)) → is_bunch (fold bound c list).form ≡ is_bunch c.form
+scope_open c [] = refl
+scope_open c (name ∷ list) = scope_open (bound c name) list

@@ -1,36 +1,36 @@
 -- A name is taken out; a variable is written.
-use Rattle.std.proofs.Common.{◌≡◌, ℕ, zero, suc, ◌<◌, ◌≤◌, List, [], ◌∷◌, length, refl, sym, ap, ◌∙◌, subst, Option, Some, None, Bool, true, false, eqb, cond, if◌then◌else◌, not, is_some, slice_get}
-use Rattle.std.specs.Prelude.{◌&&◌, IfSome}
-use Rattle.std.specs.Option.{option_map, option_map_or, option_and_then}
+use Rattle.std.proofs.Common.{◌≡◌, ℕ, zero, suc, ◌<◌, List, [], ◌∷◌, length, refl, sym, ap, ◌∙◌, subst, Option, Some, None, Bool, true, false, eqb, if◌then◌else◌, not, is_some, slice_get}
+use Rattle.std.specs.Prelude.{◌&&◌}
+use Rattle.std.specs.Option.{option_map_or, option_and_then}
 use Rattle.std.specs.List.{list_any}
 use Rattle.std.specs.Map.{lookup, remove_entry}
 use Rattle.std.specs.Str.{bytes_eq}
-use Rattle.std.proofs.lemmas.Option.{slice_get-map, get_or_from_slice_get, slice_get_within}
+use Rattle.std.proofs.lemmas.Option.{get_or_from_slice_get, slice_get_within}
 use Rattle.code_units.proofs.Interning.{same_test, none_test}
 use Rattle.object_store.specs.declared.value.Value.{Value}
 use Rattle.object_store.specs.declared.cell.Head.{Head}
+use Rattle.object_store.specs.declared.kind.Form.{Form}
 use Rattle.object_store.specs.declared.store.Counts.{Counts}
 use Rattle.object_store.specs.declared.store.StoreFault.TheVariants as fault
-use Rattle.object_store.specs.Lists.{changed, climb, count_all}
-use Rattle.object_store.specs.Cells.{PlainCell, Cells, is_array, is_scope, holder, writer_in, widget_of, is_scope_at}
+use Rattle.object_store.specs.Lists.{changed, count_all}
+use Rattle.object_store.specs.Cells.{PlainCell, Cells, is_array, is_bunch, is_scope, holder, writer_in, widget_of, is_scope_at}
 use Rattle.object_store.specs.Arrays.{length_in, length_name, written}
 use Rattle.object_store.specs.Numbered.{Raw, plain, named, cells_of, heads, own_head, raw_without, raw_held, raw_has, raw_has_at, raw_holder}
-use Rattle.object_store.specs.Host.{AreHost}
-use Rattle.object_store.specs.Shape.{AreKnown, IsBase, IsFine, IsShape, AreRaws, IsRefWithin, Wrote, scope_at}
+use Rattle.object_store.specs.Shape.{AreClosed, AreKnown, IsBase, IsFine, IsShape, AreRaws, IsRefWithin, Wrote, scope_at}
 use Rattle.object_store.specs.Calls.{without, is_length_of, is_closed, remove_refusal, removed, remove_done, var_done}
-use Rattle.object_store.proofs.Lists.{none_some, some_same, changed_alike}
+use Rattle.object_store.proofs.Lists.{some_same, changed_alike}
 use Rattle.object_store.proofs.Look.{known_entries, known_cells, known_at, remove_named, remove_never, insert_named, holder_same, holder_never, climb_has}
 use Rattle.object_store.proofs.Entries.{entries_remove, entries_insert, below_remove, lookup_removed}
-use Rattle.object_store.proofs.Writes.{changed_base, changed_cells, changed_heads, not_length, here}
-use Rattle.object_store.proofs.Heads.{holder_scope, scope_form, scope_no_array, scope_same, head_at}
-use Rattle.object_store.proofs.Hosts.{host_changed}
+use Rattle.object_store.proofs.Writes.{changed_base, changed_cells, changed_heads, not_length}
+use Rattle.object_store.proofs.Heads.{holder_scope, scope_form, scope_no_array, scope_no_bunch, scope_same, head_at}
+use Rattle.object_store.proofs.Closed.{closed_wrote}
 use Rattle.object_store.proofs.Puts.{seen}
 
 -- a shape after a call that pays nothing
-pub shape_same : (names : List (List ℕ)) (cs after : List Raw) (raws : List (ℕ × ℕ)) (kept : List Counts) → IsShape names cs raws kept → IsBase names after → AreHost (cells_of names after) → heads after ≡ heads cs → IsShape names after raws kept
-shape_same names cs after raws kept shape base host same = record {
+pub shape_same : (names : List (List ℕ)) (cs after : List Raw) (raws : List (ℕ × ℕ)) (kept : List Counts) → IsShape names cs raws kept → IsBase names after → AreClosed (cells_of names after) → heads after ≡ heads cs → IsShape names after raws kept
+shape_same names cs after raws kept shape base closed same = record {
   base = base;
-  host = host;
+  closed = closed;
   nodes = subst (λ (hs : List Head). AreRaws hs raws) (sym same) shape.nodes;
   counted = shape.counted;
   within = shape.within;
@@ -165,8 +165,8 @@ module _ (s : Cells) (names : List (List ℕ)) (cs : List Raw) {raws : List (ℕ
       (λ j. record { cells = (wrote.done ∙ sym (ap (λ o. option_map_or (λ k. changed (cells_of names cs) k (written name v)) o (cells_of names cs)) found)) j; kept = kept }) ∙ ap (λ (t : Cells). var_done t from name v) view
 
   -- the written scope is a widget's
-  pub host_variable : (n h : ℕ) (f : PlainCell → PlainCell) (after : List Raw) → scope_at (heads cs) from ≡ true → raw_holder cs from n ≡ Some h → Wrote names cs names after h f → AreHost (cells_of names after)
-  host_variable n h f after scope held wrote = subst AreHost (sym wrote.done) (by (slice_get cs h) refl)
+  pub closed_variable : (n h : ℕ) (f : PlainCell → PlainCell) (after : List Raw) → scope_at (heads cs) from ≡ true → raw_holder cs from n ≡ Some h → Wrote names cs names after h f → AreClosed (cells_of names after)
+  closed_variable n h f after scope held wrote = by (slice_get cs h) refl
     where
       is_scope_h : scope_at (heads cs) h ≡ true
       is_scope_h = holder_scope names cs shape.base.ordered n from h scope held
@@ -184,9 +184,13 @@ module _ (s : Cells) (names : List (List ℕ)) (cs : List Raw) {raws : List (ℕ
           false_true : false ≡ true → ⊥
           false_true g = cc
 
-      by : (o : Option Raw) → slice_get cs h ≡ o → AreHost (changed (cells_of names cs) h f)
+      scope_writer : (o : Option ℕ) (f : Form) → is_scope f ≡ true → (if is_bunch f then None else o) ≡ o
+      scope_writer o f e = ap (λ b. if b then None else o) (scope_no_bunch f e)
+
+      by : (o : Option Raw) → slice_get cs h ≡ o → AreClosed (cells_of names after)
       by None g = absurd (no_cell g (climb_has n (length cs) cs (Some from) h held))
       by (Some c) g =
           let o = shape.base.ordered.each h c.head (head_at cs h c g) in
-          let k = widget (widget_of c.head.owner) (o.owned (scope_form names cs shape.base.ordered h c g is_scope_h)) in
-          host_changed (cells_of names cs) h (plain names c) k.0 f shape.host (slice_get-map (plain names) cs h ∙ ap (option_map (plain names)) g) k.1
+          let is = scope_form names cs shape.base.ordered h c g is_scope_h in
+          let k = widget (widget_of c.head.owner) (o.owned is) in
+          closed_wrote names names cs after h k.0 c f shape.closed g (scope_writer (widget_of c.head.owner) c.head.form is ∙ k.1) wrote

@@ -1,7 +1,7 @@
 -- A write to one cell, by number and by name.
-use Rattle.std.proofs.Common.{◌≡◌, ℕ, zero, suc, ◌+◌, ◌<◌, ◌≤◌, List, [], ◌∷◌, length, map, get_or, refl, sym, ap, ◌∙◌, subst, Option, Some, None, arith, Bool, true, false, eqb, if◌then◌else◌, true≢false, slice_get, is_some, filter}
+use Rattle.std.proofs.Common.{◌≡◌, ℕ, zero, suc, ◌<◌, ◌≤◌, List, [], ◌∷◌, length, get_or, refl, sym, ap, ◌∙◌, subst, Option, Some, None, arith, Bool, true, false, eqb, if◌then◌else◌, true≢false, slice_get, is_some, filter}
 use Rattle.std.specs.Prelude.{Result, Ok, Err, OnOk, OnErr, max, nat_le}
-use Rattle.std.specs.Option.{option_map, option_map_or, option_and_then}
+use Rattle.std.specs.Option.{option_and_then}
 use Rattle.std.specs.Map.{lookup}
 use Rattle.std.specs.Str.{bytes_eq}
 use Rattle.std.proofs.lemmas.Option.{get_or_from_slice_get}
@@ -18,9 +18,9 @@ use Rattle.object_store.specs.Lists.{changed}
 use Rattle.object_store.specs.Cells.{PlainCell, is_array}
 use Rattle.object_store.specs.Arrays.{is_below, length_in, length_name, count_value, written, cut}
 use Rattle.object_store.specs.Numbered.{Raw, plain, named, name_at, cells_of, heads, raw_written, raw_two, raw_held, raw_cut, plan_of, by_plan}
-use Rattle.object_store.specs.Shape.{Known, AreKnown, AreEntries, AreBelow, IsArrayTable, IsFine, AreFine, AreWords, AreOrdered, IsBase, IsRefWithin, Wrote, Kept}
-use Rattle.object_store.proofs.Lists.{none_some, some_same, length-changed, map-changed, map-unchanged, changed_twice, changed_alike}
-use Rattle.object_store.proofs.Look.{known_entries, known_cells, known_at, insert_named}
+use Rattle.object_store.specs.Shape.{Known, AreKnown, AreEntries, IsFine, AreFine, AreWords, AreOrdered, IsBase, IsRefWithin, Wrote, Kept}
+use Rattle.object_store.proofs.Lists.{none_some, some_same, length-changed, map-changed, map-unchanged}
+use Rattle.object_store.proofs.Look.{known_entries, known_cells, insert_named}
 use Rattle.object_store.proofs.Entries.{entries_more, entries_insert, entries_filter, below_more, below_insert, below_filter, below_stay, lookup_inserted, lookup_other, lookup_filter, named_filter}
 use Rattle.object_store.proofs.Plans.{own_facts, longer_facts, length_facts}
 
@@ -119,7 +119,7 @@ module _ (names : List (List ℕ)) (table : IsTable names) (words : AreWords nam
       λ j. record { owner = c.head.owner; form = c.head.form; up = c.head.up; pairs = p j }
 
 -- a count is a length
-count_length : (n : ℕ) → n ≤ 4294967295 → length_in (count_value n) ≡ Some n
+pub count_length : (n : ℕ) → n ≤ 4294967295 → length_in (count_value n) ≡ Some n
 count_length n le = by (nat_le n 4294967295) (grind (arith, nat_tests, le))
   where
     by : (b : Bool) → b ≡ true → (if b then Some n else None) ≡ Some n

@@ -1,6 +1,6 @@
 -- What each call of the store does, and when it refuses.
-use Rattle.std.specs.Prelude.{◌≡◌, ℕ, zero, suc, ◌+◌, ◌<◌, ◌≤◌, Bool, true, false, List, [], ◌∷◌, ◌++◌, Option, None, Some, is_some, if◌then◌else◌, nat_le, nat_lt, nat_eq, not, ◌&&◌, length, slice_get, map, fold, filter, unwrap_or, IfSome}
-use Rattle.std.specs.List.{IsDistinct}
+use Rattle.std.specs.Prelude.{◌≡◌, ℕ, suc, ◌+◌, ◌<◌, Bool, true, false, List, [], ◌∷◌, ◌++◌, Option, None, Some, is_some, if◌then◌else◌, nat_lt, nat_eq, not, ◌&&◌, length, slice_get, map, fold, filter, unwrap_or, IfSome}
+use Rattle.std.specs.List.{IsDistinct, list_all}
 use Rattle.std.specs.Option.{option_map_or, option_and_then}
 use Rattle.std.specs.Map.{remove_entry}
 use Rattle.std.specs.Str.{bytes_eq}
@@ -18,7 +18,9 @@ use Rattle.object_store.specs.declared.store.StoreFault.{StoreFault}
 use Rattle.object_store.specs.declared.store.StoreFault.TheVariants as fault
 use Rattle.object_store.specs.declared.store.TheConstants.{CELL_LIMIT, SLOT_LIMIT, UNIT_LIMIT}
 use Rattle.object_store.specs.Lists.{changed}
-use Rattle.object_store.specs.Cells.{Cells, PlainCell, is_scope_at, prototypes, kept_cells, raw_cell, has_own, own_count, widget_of, is_visible_form, holder, writer_in, is_scope, is_array, node_in}
+use Rattle.object_store.specs.Cells.{Cells, PlainCell, is_scope_at, prototypes, kept_cells, has_own, own_count, widget_of, is_visible_form, holder, writer_in, is_array, node_in}
+use Rattle.object_store.specs.Host.{array_prototype, function_prototype}
+use Rattle.object_store.specs.Bunches.{bunch_cell, hidden_array}
 use Rattle.object_store.specs.Arrays.{length_name, count_value, written, stored, is_bad_length}
 
 -- Want of memory may come at any time, and each other fault exactly where the call's refusal says so.
@@ -148,29 +150,43 @@ raw_place_from n k (c ∷ cs) = if is_raw_cell n c then Some k else raw_place_fr
 abbrev pub raw_place : ℕ → List PlainCell → Option ℕ
 raw_place n cells = raw_place_from n 0 cells
 
--- `make`, by what is made: an Array and a Function stand on their prototypes
-abbrev pub born : ℕ → NewCell → PlainCell
-born w (new.Object proto) = new_cell w form.Object proto
-born w new.Array = new_cell w form.Array 3
-born w (new.Function code fun scope) = new_cell w (form.Function (record { code = code; fun = fun; scope = scope })) 4
-born w (new.Scope outer names) = scope_cell w outer names.items
+-- a Bunch comes before its hidden Array, which refers to the cells of its nodes
+abbrev pub node_place : List PlainCell → ℕ → ℕ
+node_place cells n = unwrap_or (raw_place n cells) 0
 
--- its cost: a scope has no cell, and pays a slot and one for each name
+abbrev pub bunch_cells : List PlainCell → ℕ → List ℕ → List PlainCell
+bunch_cells cells w nodes = bunch_cell w (length cells + 1) ∷ hidden_array (map (node_place cells) nodes) ∷ []
+
+-- `make`, by what is made: an Array and a Function stand on their prototypes
+abbrev pub born : List PlainCell → ℕ → NewCell → List PlainCell
+born cells w (new.Object proto) = new_cell w form.Object proto ∷ []
+born cells w new.Array = new_cell w form.Array array_prototype ∷ []
+born cells w (new.Function code fun scope) = new_cell w (form.Function (record { code = code; fun = fun; scope = scope })) function_prototype ∷ []
+born cells w (new.Scope outer names) = scope_cell w outer names.items ∷ []
+born cells w (new.Bunch nodes) = bunch_cells cells w nodes.items
+
+-- its cost: a scope has no cell, and pays a slot and one for each name; a Bunch pays these for its nodes beside its cell
 abbrev pub cells_for : NewCell → ℕ
 cells_for (new.Scope outer names) = 0
 cells_for _ = 1
 
 abbrev pub slots_of : NewCell → ℕ
 slots_of (new.Scope outer names) = length names.items + 1
+slots_of (new.Bunch nodes) = length nodes.items + 1
 slots_of _ = 0
 
 abbrev pub make_refusal : Cells → ℕ → NewCell → Option StoreFault
 make_refusal s w n = cost_refusal s.kept w (cells_for n) (slots_of n)
 
 abbrev pub make_done : Cells → ℕ → NewCell → Cells
-make_done s w n = made s w (born w n ∷ []) (cells_for n) (slots_of n)
+make_done s w n = made s w (born s.cells w n) (cells_for n) (slots_of n)
 
--- what `make` asks: its cells exist, the chain of a prototype has room, and a scope's names differ
+-- each node has a cell
+abbrev pub HaveCells : List PlainCell → List ℕ → Type 0
+HaveCells cells nodes = list_all (λ n. is_some (raw_place n cells)) nodes ≡ true
+
+-- what `make` asks: its cells exist, the chain of a prototype has room, a scope's names differ, and
+-- so do the nodes of a Bunch, which have cells
 abbrev pub IsScopeOf : List PlainCell → Option ℕ → Type 0
 IsScopeOf cells scope = IfSome scope (λ j. (j < length cells) × (is_scope_at cells j ≡ true))
 
@@ -179,3 +195,4 @@ IsMakeable cells (new.Object proto) = (proto < length cells) × (is_scope_at cel
 IsMakeable cells new.Array = Unit {0}
 IsMakeable cells (new.Function code fun scope) = IsScopeOf cells scope
 IsMakeable cells (new.Scope outer names) = IsScopeOf cells outer × IsDistinct bytes_eq names.items
+IsMakeable cells (new.Bunch nodes) = IsDistinct nat_eq nodes.items × HaveCells cells nodes.items

@@ -1,6 +1,6 @@
 -- The host's cells that every store has: the Global cell, the cell of `body`, and the permitted
 -- table of prototypes, objects and natives.
-use Rattle.std.specs.Prelude.{◌≡◌, ℕ, zero, suc, ◌+◌, ◌<◌, ◌≤◌, List, [], ◌∷◌, ◌++◌, Option, None, Some, Bool, true, false, map, fold, codes, replicate, length, slice_get, nat_le, nat_lt, ◌&&◌}
+use Rattle.std.specs.Prelude.{◌≡◌, ℕ, ◌+◌, ◌<◌, ◌≤◌, List, [], ◌∷◌, ◌++◌, Option, None, Some, Bool, true, false, map, fold, codes, replicate, length, slice_get, nat_le, nat_lt, ◌&&◌}
 use Rattle.std.specs.List.{list_all}
 use Rattle.std.specs.Option.{option_map_or}
 use Rattle.code_units.specs.declared.owner.Owner.{Owner}
@@ -16,7 +16,7 @@ use Rattle.object_store.specs.declared.native.HostEntry.{HostEntry}
 use Rattle.object_store.specs.declared.native.HostEntry.TheVariants as entry
 use Rattle.object_store.specs.declared.store.Counts.{Counts}
 use Rattle.object_store.specs.Lists.{changed}
-use Rattle.object_store.specs.Cells.{Cells, PlainCell, raw_cell}
+use Rattle.object_store.specs.Cells.{Cells, PlainCell}
 use Rattle.object_store.specs.Arrays.{written}
 
 -- the host's cells, by place

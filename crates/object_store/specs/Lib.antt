@@ -6,4 +6,5 @@ pub mod Numbered
 pub mod Shape
 pub mod Calls
 pub mod Host
+pub mod Bunches
 pub mod Bare

@@ -1,5 +1,5 @@
 -- Cells by the numbers of their names, and what they are by name.
-use Rattle.std.specs.Prelude.{◌≡◌, ℕ, zero, suc, ◌+◌, ◌<◌, ◌≤◌, Bool, true, false, List, [], ◌∷◌, Option, None, Some, is_some, max, nat_lt, nat_eq, not, ◌&&◌, if◌then◌else◌, map, length, slice_get, slice_index_or, filter, MatchOption}
+use Rattle.std.specs.Prelude.{◌≡◌, ℕ, ◌+◌, ◌<◌, ◌≤◌, Bool, false, List, [], ◌∷◌, Option, None, Some, is_some, max, nat_lt, nat_eq, not, ◌&&◌, if◌then◌else◌, map, length, slice_get, slice_index_or, filter, MatchOption}
 use Rattle.std.specs.Option.{option_map, option_map_or, option_and_then}
 use Rattle.std.specs.Str.{bytes_eq}
 use Rattle.std.specs.List.{list_any}
@@ -10,8 +10,8 @@ use Rattle.object_store.specs.declared.kind.Form.TheVariants as form
 use Rattle.object_store.specs.declared.value.Value.{Value}
 use Rattle.object_store.specs.declared.cell.Head.{Head}
 use Rattle.code_units.specs.Permitted.{is_permitted}
-use Rattle.object_store.specs.Lists.{climb, count_before}
-use Rattle.object_store.specs.Cells.{PlainCell, is_scope, is_array, is_own, writer_in}
+use Rattle.object_store.specs.Lists.{climb}
+use Rattle.object_store.specs.Cells.{PlainCell, is_array, is_own, writer_in}
 use Rattle.object_store.specs.declared.cell.Write.{Write}
 use Rattle.object_store.specs.declared.cell.Write.TheVariants as write
 use Rattle.object_store.specs.Indices.{index_of}

@@ -1,5 +1,5 @@
 -- What every store keeps.
-use Rattle.std.specs.Prelude.{◌≡◌, ℕ, zero, suc, ◌<◌, ◌≤◌, Bool, true, false, List, [], ◌∷◌, ◌++◌, Option, None, Some, is_some, nat_eq, if◌then◌else◌, length, slice_get, IfSome}
+use Rattle.std.specs.Prelude.{◌≡◌, ℕ, suc, ◌<◌, ◌≤◌, Bool, true, false, List, [], ◌∷◌, ◌++◌, Option, None, Some, is_some, nat_eq, if◌then◌else◌, length, slice_get, IfSome}
 use Rattle.std.specs.Option.{option_map_or, option_and_then}
 use Rattle.std.specs.Map.{lookup}
 use Rattle.code_units.specs.declared.owner.Owner.TheVariants as whose
@@ -12,10 +12,11 @@ use Rattle.object_store.specs.declared.cell.Head.{Head}
 use Rattle.object_store.specs.declared.store.Counts.{Counts}
 use Rattle.object_store.specs.declared.store.TheConstants.{CELL_LIMIT, SLOT_LIMIT, UNIT_LIMIT}
 use Rattle.object_store.specs.Lists.{changed, count_before, count_all}
-use Rattle.object_store.specs.Cells.{PlainCell, kept_cells, is_visible_form, is_scope_at, is_scope, is_array, is_own, widget_of, node_in, function_in}
-use Rattle.object_store.specs.Arrays.{is_below, length_in, length_name, nodes_name}
-use Rattle.object_store.specs.Host.{AreHost}
-use Rattle.object_store.specs.Numbered.{Raw, name_at, heads, own_head, cells_of}
+use Rattle.object_store.specs.Cells.{PlainCell, kept_cells, is_bunch, is_visible_form, is_scope_at, is_scope, is_array, widget_of, node_in, function_in}
+use Rattle.object_store.specs.Arrays.{is_below, length_in, length_name, nodes_name, count_value}
+use Rattle.object_store.specs.Host.{AreHost, array_prototype}
+use Rattle.object_store.specs.Bunches.{AreBunches, elements}
+use Rattle.object_store.specs.Numbered.{Raw, name_at, named, heads, own_head, cells_of}
 
 -- a reference is to one of so many cells
 abbrev pub IsRefWithin : ℕ → Value → Type 0
@@ -108,9 +109,14 @@ abbrev pub AreWithin : List Counts → Type 0
 AreWithin [] = Unit {0}
 AreWithin (k ∷ ks) = (k.cells ≤ CELL_LIMIT) × (k.slots ≤ SLOT_LIMIT) × (k.units ≤ UNIT_LIMIT) × AreWithin ks
 
+-- the closed cells: those of the host that every store has, and Bunches with their hidden Arrays
+pub record AreClosed (cells : List PlainCell) : Type 0 where
+  pub host : AreHost cells
+  pub bunches : AreBunches cells
+
 pub record IsShape (names : List (List ℕ)) (cs : List Raw) (raws : List (ℕ × ℕ)) (kept : List Counts) : Type 0 where
   pub base : IsBase names cs
-  pub host : AreHost (cells_of names cs)
+  pub closed : AreClosed (cells_of names cs)
   pub nodes : AreRaws (heads cs) raws
   pub counted : length kept ≡ 32
   pub within : AreWithin kept
@@ -143,18 +149,36 @@ pub record Grew (old : List (List ℕ)) (cs : List Raw) (new : List (List ℕ)) 
 abbrev pub head_on : List Head → ℕ → Form → ℕ → ℕ → Head
 head_on hs w f up number = record { owner = whose.Widget w; form = f; up = Some up; links = suc (links_at hs up); number = number }
 
+-- the fixed part of the hidden Array of a Bunch
+abbrev pub hidden_head : List Head → Head
+hidden_head hs = record { owner = whose.Host; form = form.Array; up = Some array_prototype; links = suc (links_at hs array_prototype); number = 0 }
+
 abbrev pub scope_head : ℕ → Option ℕ → Head
 scope_head w outer = record { owner = whose.Widget w; form = form.Scope; up = outer; links = 0; number = 0 }
 
 -- the form of a new visible cell that is no Bunch: the scope of a function exists
 pub record IsNewForm (cells : List PlainCell) (f : Form) : Type 0 where
   pub visible : is_visible_form f ≡ true
+  pub no_bunch : is_bunch f ≡ false
   pub scope : IfSome (scope_in f) (λ j. (j < length cells) × (is_scope_at cells j ≡ true))
 
 -- each reference in the pairs is to one of so many cells
 abbrev pub AreRefs : ℕ → List (List ℕ × Value) → Type 0
 AreRefs size [] = Unit {0}
 AreRefs size (p ∷ ps) = IsRefWithin size p.1 × AreRefs size ps
+
+-- a hidden Array of these references, of so many
+pub record IsHidden (names : List (List ℕ)) (h : Head) (count : ℕ) (refs : List ℕ) (c : Raw) : Type 0 where
+  pub head : c.head ≡ h
+  pub top : 4294967295 ≤ c.top
+  pub known : Known (length names) c.entries
+  pub pairs : named names c.entries ≡ (length_name, count_value count) ∷ elements 0 refs
+
+-- A Bunch and its hidden Array were added.
+pub record GrewBunch (old : List (List ℕ)) (cs : List Raw) (new : List (List ℕ)) (after : List Raw) (p q : PlainCell) (h k : Head) : Type 0 where
+  pub done : cells_of new after ≡ cells_of old cs ++ p ∷ q ∷ []
+  pub base : IsBase new after
+  pub heads : heads after ≡ heads cs ++ h ∷ k ∷ []
 
 -- What a cell of the store keeps: its references exist, its prototype or outer scope is older and
 -- of its sort, and so is the scope of a function.

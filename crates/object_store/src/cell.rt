@@ -60,6 +60,9 @@ pub enum Write {
 /// The number of the name `length`.
 pub const LENGTH: u32 = 0;
 
+/// The number of the name `___nodes___`.
+pub const NODES: u32 = 1;
+
 /// The length that a value is: a whole number from 0 to 4294967295.
 fn length_in(value: &Value) -> Option<u32>
     ensures { result ≡ length_in value.now }

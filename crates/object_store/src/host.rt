@@ -33,7 +33,8 @@ pub const ARRAY_PROTOTYPE: CellId = 3;
 /// The prototype of Functions.
 pub const FUNCTION_PROTOTYPE: CellId = 4;
 
-const BUNCH_PROTOTYPE: CellId = 5;
+/// The prototype of Bunches.
+pub const BUNCH_PROTOTYPE: CellId = 5;
 
 const TEXT_PROTOTYPE: CellId = 6;
 

@@ -2,6 +2,7 @@
 //! host's cells.
 #![tactic(auto)]
 
+mod bunch;
 mod cell;
 mod host;
 mod index;

@@ -1,17 +1,19 @@
 //! The store.
 ghost use Rattle.std.specs.Prelude.{◌≡◌, ℕ, ◌+◌, ◌<◌, ◌≤◌, [], ◌∷◌, ◌++◌, None, Some, true, false, is_some, nat_eq, length, vec_len, slice_get, option_copied, IfOk, IfErr, IfSome, OnErr, OnOk, MatchOption, MatchResult, replicate};
 ghost use Rattle.std.specs.Option.{option_map};
-ghost use Rattle.object_store.specs.Cells.{PlainCell, chain, first_own, value_along, is_scope_at, kind_of, function_in, native_in, node_in, proto_in, prototypes, holder, raw_cell};
+ghost use Rattle.std.specs.List.{IsDistinct};
+ghost use Rattle.object_store.specs.Bunches.{IsBunch};
+ghost use Rattle.object_store.specs.Cells.{PlainCell, chain, first_own, value_along, is_scope_at, kind_of, function_in, native_in, node_in, proto_in, prototypes, holder, is_bunch, raw_cell};
 ghost use Rattle.object_store.specs.declared.store.StoreFault.TheVariants.{Memory as out_of_memory};
 ghost use Rattle.object_store.specs.Shape.{IsRefWithin, IsNewForm, IsLinked};
 ghost use Rattle.object_store.specs.Host.{first_store, nothing_paid, host_cells, is_permitted_cell, leads_on, place_of};
-ghost use Rattle.object_store.specs.Calls.{Refuses, put_refusal, put_done, remove_refusal, removed, remove_done, var_done, own_number_of, IsWidget, number_in, keys_at, units_refusal, slots_refusal, unit_cost, raw_place, cost_refusal, made, new_cell, scope_cell, IsMakeable, make_refusal, make_done};
+ghost use Rattle.object_store.specs.Calls.{Refuses, put_refusal, put_done, remove_refusal, removed, remove_done, var_done, own_number_of, IsWidget, number_in, keys_at, units_refusal, slots_refusal, unit_cost, raw_place, cost_refusal, made, new_cell, scope_cell, HaveCells, IsMakeable, bunch_cells, make_refusal, make_done};
 
 use crate::cell::Cell;
 use crate::kind::{CellKind, Form, FunParts};
 use crate::native::{HostEntry, NativeId};
 use crate::value::{CellId, Value};
-use crate::{host, table};
+use crate::{bunch, host, table};
 use code_units::{Memory, Names, Owner, Text};
 use indexmap::IndexMap;
 use js_tree::FunId;
@@ -35,7 +37,8 @@ pub struct Counts {
     pub units: u32,
 }
 
-/// What is to be made: an Object on its prototype, an Array, a Function, or a Scope with its names.
+/// What is to be made: an Object on its prototype, an Array, a Function, a Scope with its names, or a
+/// Bunch of page nodes.
 #[derive(Drop)]
 pub enum NewCell {
     Object(CellId),
@@ -49,6 +52,7 @@ pub enum NewCell {
         outer: Option<CellId>,
         names: Vec<Text>,
     },
+    Bunch(Vec<u32>),
 }
 
 /// Why a call was refused.
@@ -155,6 +159,14 @@ impl Store {
     /// chain has a cycle.
     pub fn links_are_older(&self)
         ensures { (i : ℕ) (c : PlainCell) → slice_get self.now.cells i ≡ Some c → IsLinked self.now.cells i c }
+    {
+        let _cells = &self.cells;
+    }
+
+    /// A law: each Bunch has its hidden Array alone, whose elements refer to the cells of distinct
+    /// page nodes.
+    pub fn bunches_have_nodes(&self)
+        ensures { (i : ℕ) (c : PlainCell) → slice_get self.now.cells i ≡ Some c → is_bunch c.form ≡ true → IsBunch self.now.cells c }
     {
         let _cells = &self.cells;
     }
@@ -357,7 +369,9 @@ impl Store {
     }
 
     /// Makes a cell for a widget. An Object, an Array and a Function cost one cell, a Scope one slot
-    /// and one more for each name. `Cells` or `Slots` comes exactly where the widget's kept count
+    /// and one more for each name, and a Bunch one cell, one slot and one more for each node. A Bunch
+    /// has one property `___nodes___`, a hidden Array of the host, which comes right after it and
+    /// refers to the cells of its nodes in their order. `Cells` or `Slots` comes exactly where the widget's kept count
     /// plus the cost passes the limit.
     pub fn make(&mut self, alloc: Global, owner: Owner, cell: NewCell) -> Result<CellId, StoreFault>
         requires widget { IsWidget owner }
@@ -381,6 +395,7 @@ impl Store {
                 self.make_on(alloc, w, form, proto)
             }
             NewCell::Scope { outer, names } => self.make_scope(alloc, w, outer, &names),
+            NewCell::Bunch(nodes) => self.make_bunch(alloc, w, &nodes),
         }
     }
 
@@ -427,6 +442,30 @@ impl Store {
         let slots = table::afford_list(&self.kept, w, 0, list.len())?;
         let id = table::add_scope(alloc, &mut self.names, &mut self.cells, w, outer, list)?;
         table::pay(&mut self.kept, w, 0, slots);
+        Ok(id)
+    }
+
+    // Makes a Bunch with its hidden Array.
+    fn make_bunch(&mut self, alloc: Global, w: u32, nodes: &[u32]) -> Result<CellId, StoreFault>
+        requires widget { w < 32 }
+        requires distinct { IsDistinct nat_eq nodes.now }
+        requires known { HaveCells self.old.cells nodes.now }
+        ensures ok { IfOk result (λ id. (cost_refusal self.old.kept w 1 (length nodes.now + 1) ≡ None) × (id ≡ length self.old.cells) × (self.new ≡ made self.old w (bunch_cells self.old.cells w nodes.now) 1 (length nodes.now + 1))) }
+        ensures err { IfErr result (λ e. Refuses e (cost_refusal self.old.kept w 1 (length nodes.now + 1))) }
+        ensures same { OnErr result (self.new ≡ self.old) }
+    {
+        let slots = table::afford_list(&self.kept, w, 1, nodes.len())?;
+        let number = table::counts_of(&self.kept, w).cells;
+        let id = bunch::add_bunch(
+            alloc,
+            &mut self.names,
+            &mut self.cells,
+            &self.raws,
+            w,
+            number,
+            nodes,
+        )?;
+        table::pay(&mut self.kept, w, 1, slots);
         Ok(id)
     }
 

@@ -83,8 +83,12 @@ pub(crate) fn cell(cells: &Vec<Cell>, i: CellId) -> &Cell
     &cells[i as usize]
 }
 
-// The number of a name, of which `number` is what the table says.
-fn number_or_new(names: &mut Names, number: Option<u32>, name: &Text) -> Result<u32, Memory>
+/// The number of a name, of which `number` is what the table says.
+pub(crate) fn number_or_new(
+    names: &mut Names,
+    number: Option<u32>,
+    name: &Text,
+) -> Result<u32, Memory>
     requires number { IsNumberOf names.old name.now number }
     requires table { IsTable names.old }
     ensures new { IfOk result (λ n. Interns names.old names.new name.now n) }
@@ -317,13 +321,13 @@ pub(crate) fn afford_list(
     ensures cells { OnOk result (kept_cells kept.now.items w + cells ≤ CELL_LIMIT) }
     ensures slots { OnOk result (kept_slots kept.now.items w + (len + 1) ≤ SLOT_LIMIT) }
 {
-    let kept = counts_of(kept, w);
-    if u64::from(kept.cells) + u64::from(cells) > u64::from(CELL_LIMIT) {
-        return Err(StoreFault::Cells { kept: kept.cells });
+    let paid = counts_of(kept, w);
+    if u64::from(paid.cells) + u64::from(cells) > u64::from(CELL_LIMIT) {
+        return Err(StoreFault::Cells { kept: paid.cells });
     }
-    let most = SLOT_LIMIT.saturating_sub(kept.slots);
+    let most = SLOT_LIMIT.saturating_sub(paid.slots);
     if len >= most as usize {
-        return Err(StoreFault::Slots { kept: kept.slots });
+        return Err(StoreFault::Slots { kept: paid.slots });
     }
     Ok(len as u32 + 1)
 }

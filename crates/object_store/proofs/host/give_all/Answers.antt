@@ -1,10 +1,10 @@
-use Rattle.std.proofs.Common.{◌≡◌, ◌+◌, ◌<◌, ℕ, List, ap, sym, ◌∙◌, arith, length, map, subst, true}
+use Rattle.std.proofs.Common.{◌≡◌, List, ap, sym, ◌∙◌, arith, map, subst, true}
 use Rattle.std.specs.Prelude.{nat_lt, ◌&&◌, codes}
 use Rattle.std.specs.List.{fold, list_all}
 use Rattle.object_store.specs.declared.value.Value.TheVariants as value
 use Rattle.object_store.specs.declared.value.Number.TheVariants as number
 use Rattle.object_store.specs.Cells.{PlainCell}
-use Rattle.object_store.specs.Host.{given, first_native, number_of}
+use Rattle.object_store.specs.Host.{given}
 use Rattle.object_store.specs.Bare.{no_arrays, with_gifts}
 use Rattle.object_store.proofs.Gifts.{same_length, on_ok_then}
 use Rattle.object_store.proofs.host.give_all.Goals as goal

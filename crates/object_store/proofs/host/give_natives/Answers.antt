@@ -1,10 +1,9 @@
-use Rattle.std.proofs.Common.{◌≡◌, ◌+◌, ◌<◌, ℕ, List, [], ap, sym, ◌∙◌, arith, length, map, take, get_or, Bor}
-use Rattle.std.specs.List.{fold}
+use Rattle.std.proofs.Common.{◌+◌, ℕ, List, [], ap, sym, ◌∙◌, arith, length, get_or, Bor}
 use Rattle.object_store.specs.declared.value.Value.TheVariants as value
 use Rattle.object_store.specs.declared.native.NativeId.{NativeId}
 use Rattle.object_store.specs.declared.native.NativeId.TheVariants as native
 use Rattle.object_store.specs.Cells.{PlainCell}
-use Rattle.object_store.specs.Numbered.{cells_of, heads}
+use Rattle.object_store.specs.Numbered.{cells_of}
 use Rattle.object_store.specs.Host.{given, first_native, number_of}
 use Rattle.object_store.specs.Bare.{no_arrays}
 use Rattle.object_store.proofs.Gifts.{pairs_fit, same_length, fold_more}

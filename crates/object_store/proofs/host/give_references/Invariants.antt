@@ -1,4 +1,4 @@
-use Rattle.std.proofs.Common.{◌≡◌, ◌+◌, take, map}
+use Rattle.std.proofs.Common.{◌≡◌, take, map}
 use Rattle.std.specs.List.{fold}
 use Rattle.object_store.specs.declared.value.Value.TheVariants as value
 use Rattle.object_store.specs.Numbered.{cells_of, heads}

@@ -1,4 +1,4 @@
-use Rattle.std.proofs.Common.{◌≡◌, ◌+◌, ◌<◌, ℕ, List, ap, sym, ◌∙◌, arith, length, map, subst, refl, true, Bor}
+use Rattle.std.proofs.Common.{◌≡◌, ◌+◌, ◌<◌, ℕ, List, ap, sym, ◌∙◌, arith, length, subst, Bor}
 use Rattle.object_store.specs.declared.native.NativeId.{NativeId}
 use Rattle.object_store.specs.Numbered.{Raw, heads, cells_of}
 use Rattle.object_store.specs.Shape.{IsBase}

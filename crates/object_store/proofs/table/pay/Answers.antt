@@ -1,6 +1,5 @@
-use Rattle.std.proofs.Common.{refl, length, sym, subst, ℕ, List}
+use Rattle.std.proofs.Common.{refl, length, sym, subst}
 use Rattle.std.proofs.lemmas.Option.{slice_get_read, slice_get_past}
-use Rattle.object_store.specs.declared.store.Counts.{Counts}
 use Rattle.object_store.specs.Calls.{paid}
 use Rattle.object_store.specs.Shape.{AreWithin}
 use Rattle.object_store.proofs.Lists.{changed_past}

@@ -1,5 +1,4 @@
-use Rattle.std.proofs.Common.{sym}
-use Rattle.object_store.specs.Calls.{units_refusal, slots_refusal}
+use Rattle.object_store.specs.Calls.{units_refusal}
 use Rattle.object_store.proofs.Charges.{charged_shape, charged_ok, charged_err, charged_same}
 use Rattle.object_store.proofs.store.Store.charge_units.Goals as goal
 

@@ -1,4 +1,4 @@
-use Rattle.std.proofs.Common.{ap, sym, ◌∙◌, Option, []}
+use Rattle.std.proofs.Common.{ap, sym, Option, []}
 use Rattle.std.specs.Option.{option_map_or}
 use Rattle.object_store.specs.Cells.{PlainCell}
 use Rattle.object_store.specs.Calls.{keys_of}

@@ -1,11 +1,11 @@
-use Rattle.std.proofs.Common.{◌≡◌, ◌<◌, sym, ◌∙◌, ap, arith, subst, length, refl, List, if◌then◌else◌}
+use Rattle.std.proofs.Common.{◌<◌, sym, ◌∙◌, ap, arith, subst, length, refl, List, if◌then◌else◌}
 use Rattle.object_store.specs.declared.cell.Head.{Head}
 use Rattle.object_store.specs.Numbered.{Raw, heads, first_raw, plain, own_head}
 use Rattle.object_store.specs.declared.store.Counts.{Counts}
-use Rattle.object_store.specs.Cells.{node_in}
+use Rattle.object_store.specs.Cells.{is_bunch, node_in}
 use Rattle.object_store.specs.Shape.{IsOrdered, links_at}
 use Rattle.object_store.specs.Calls.{new_cell, cost_refusal}
-use Rattle.object_store.proofs.Makes.{links_in_store, scope_in_store, scopes_in_store, length_in_store, new_ordered, first_fine, first_plain, added_cells, added_heads, added_host, made_is, kept_in_store, own_visible, visible_no_node}
+use Rattle.object_store.proofs.Makes.{links_in_store, scope_in_store, scopes_in_store, length_in_store, new_ordered, first_plain, added_cells, added_heads, added_closed, made_is, kept_in_store, own_visible, visible_no_node}
 use Rattle.object_store.proofs.Adds.{shape_added}
 use Rattle.object_store.proofs.store.Store.make_on.Goals as goal
 
@@ -41,5 +41,5 @@ invariant_of-self-2 c =
     let added = c.in_ok-id.ensures.ok in
     let is = ap (λ (x : Raw). x.head) c.in_ok-cell.ensures ∙ c.head_on-head.ensures in
     shape_added s.inside.names s.inside.names s.inside.cells.items c.add.new.cells.items s.inside.raws.entries s.inside.kept.items c.pay.new.kept.items c.in_ok-cell.cell.head c.args.w 1 0 s.invariant c.requires.widget added.base
-    (added_host c.args.self.now s.inside.names s.inside.cells.items s.inside.kept.items s.view_is s.invariant c.add.new.cells.items s.inside.names (plain s.inside.names c.in_ok-cell.cell) (added_cells c.args.self.now s.inside.names s.inside.cells.items s.inside.kept.items s.view_is s.invariant c.add.new.cells.items c.in_ok-cell.cell (plain s.inside.names c.in_ok-cell.cell) added.items refl)) (added_heads c.args.self.now s.inside.names s.inside.cells.items s.inside.kept.items s.view_is s.invariant c.add.new.cells.items c.in_ok-cell.cell added.items)
+    (added_closed c.args.self.now s.inside.names s.inside.cells.items s.inside.kept.items s.view_is s.invariant c.add.new.cells.items s.inside.names (plain s.inside.names c.in_ok-cell.cell) (ap (λ (h : Head). is_bunch h.form) is ∙ c.requires.form.no_bunch) (added_cells c.args.self.now s.inside.names s.inside.cells.items s.inside.kept.items s.view_is s.invariant c.add.new.cells.items c.in_ok-cell.cell (plain s.inside.names c.in_ok-cell.cell) added.items refl)) (added_heads c.args.self.now s.inside.names s.inside.cells.items s.inside.kept.items s.view_is s.invariant c.add.new.cells.items c.in_ok-cell.cell added.items)
     (ap (λ (h : Head). node_in h.form) is ∙ visible_no_node c.args.form c.requires.form.visible) (λ v. ap (λ b. if b then 1 else 0) (ap (own_head v) is ∙ own_visible c.args.w v c.args.form c.requires.form.visible)) c.pay.ensures.within c.pay.ensures.done

@@ -1,5 +1,3 @@
-use Rattle.std.proofs.Common.{◌∙◌, ap}
-use Rattle.object_store.specs.Cells.{Cells}
 use Rattle.object_store.proofs.Firsts.{first_shape}
 use Rattle.object_store.proofs.store.Store.new.Goals as goal
 

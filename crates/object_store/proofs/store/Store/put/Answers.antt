@@ -1,5 +1,5 @@
 use Rattle.std.proofs.Common.{sym, ◌∙◌}
-use Rattle.object_store.proofs.Puts.{put_bad, put_cost, put_is, shape_paid, host_wrote, refuses_err}
+use Rattle.object_store.proofs.Puts.{put_bad, put_cost, put_is, shape_paid, closed_after, refuses_err}
 use Rattle.object_store.proofs.store.Store.put.Goals as goal
 
 pub returns-in_default-plan-clause-err : goal.returns-in_default-plan-clause-err
@@ -17,7 +17,7 @@ pub invariant_of-self-2 : goal.invariant_of-self-2
 invariant_of-self-2 c =
     let s = c.self in
     let wrote = c.in_ok-write.ensures.ok in
-    shape_paid s.inside.names c.write.new.names s.inside.cells.items c.write.new.cells.items s.inside.raws.entries s.inside.kept.items c.pay.new.kept.items s.invariant wrote.base (host_wrote c.args.self.now s.inside.names s.inside.cells.items s.inside.kept.items s.view_is s.invariant c.args.cell c.cell-held.result.now c.cell-held.ensures c.in-Some.w (sym c.writer.ensures ∙ c.in-Some.is) c.write.new.names c.write.new.cells.items _ wrote) wrote.heads c.pay.ensures.within c.in-Some.w c.slots_for-slots.result 0 c.pay.ensures.done
+    shape_paid s.inside.names c.write.new.names s.inside.cells.items c.write.new.cells.items s.inside.raws.entries s.inside.kept.items c.pay.new.kept.items s.invariant wrote.base (closed_after c.args.self.now s.inside.names s.inside.cells.items s.inside.kept.items s.view_is s.invariant c.args.cell c.cell-held.result.now c.cell-held.ensures c.in-Some.w (sym c.writer.ensures ∙ c.in-Some.is) c.write.new.names c.write.new.cells.items _ wrote) wrote.heads c.pay.ensures.within c.in-Some.w c.slots_for-slots.result 0 c.pay.ensures.done
 
 pub returns-clause-ok : goal.returns-clause-ok
 returns-clause-ok c =

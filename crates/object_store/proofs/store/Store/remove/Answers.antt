@@ -1,5 +1,5 @@
 use Rattle.std.proofs.Common.{sym, ◌∙◌}
-use Rattle.object_store.proofs.Puts.{host_wrote}
+use Rattle.object_store.proofs.Puts.{closed_after}
 use Rattle.object_store.proofs.Takes.{shape_same, remove_length, remove_unknown, remove_known}
 use Rattle.object_store.proofs.store.Store.remove.Goals as goal
 
@@ -16,7 +16,7 @@ returns-in_default-number-clause-ok c =
 pub invariant_of-self : goal.invariant_of-self
 invariant_of-self c =
     let s = c.self in
-    shape_same s.inside.names s.inside.cells.items c.take.new.cells.items s.inside.raws.entries s.inside.kept.items s.invariant c.take.ensures.base (host_wrote c.args.self.now s.inside.names s.inside.cells.items s.inside.kept.items s.view_is s.invariant c.args.cell c.cell-held.result.now c.cell-held.ensures c.in-Some._w (sym c.writer.ensures ∙ c.in-Some.is) s.inside.names c.take.new.cells.items _ c.take.ensures) c.take.ensures.heads
+    shape_same s.inside.names s.inside.cells.items c.take.new.cells.items s.inside.raws.entries s.inside.kept.items s.invariant c.take.ensures.base (closed_after c.args.self.now s.inside.names s.inside.cells.items s.inside.kept.items s.view_is s.invariant c.args.cell c.cell-held.result.now c.cell-held.ensures c.in-Some._w (sym c.writer.ensures ∙ c.in-Some.is) s.inside.names c.take.new.cells.items _ c.take.ensures) c.take.ensures.heads
 
 pub returns-clause-ok : goal.returns-clause-ok
 returns-clause-ok c =

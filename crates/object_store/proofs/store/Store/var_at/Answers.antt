@@ -1,4 +1,4 @@
-use Rattle.std.proofs.Common.{◌≡◌, ℕ, List, ap, sym, ◌∙◌, subst, Option, slice_get}
+use Rattle.std.proofs.Common.{◌≡◌, ℕ, List, sym, ◌∙◌, subst, Option, slice_get}
 use Rattle.std.specs.Prelude.{IfSome, option_copied}
 use Rattle.std.specs.Option.{option_map}
 use Rattle.object_store.specs.declared.value.Value.{Value}

@@ -1,5 +1,5 @@
 use Rattle.std.proofs.Common.{sym, ap, ◌∙◌, is_some}
-use Rattle.object_store.proofs.Takes.{shape_same, var_found_none, var_done_none, unknown, unheld, held_is, from_scope, var_written, host_variable}
+use Rattle.object_store.proofs.Takes.{shape_same, var_found_none, var_done_none, unknown, unheld, held_is, from_scope, var_written, closed_variable}
 use Rattle.object_store.proofs.store.Store.var_set.Goals as goal
 
 pub returns-in_default-clause-found : goal.returns-in_default-clause-found
@@ -25,7 +25,7 @@ pub invariant_of-self : goal.invariant_of-self
 invariant_of-self c =
     let s = c.self in
     let held = sym c.holder.ensures.first ∙ c.in-Some-holder.is in
-    shape_same s.inside.names s.inside.cells.items c.set_variable.new.cells.items s.inside.raws.entries s.inside.kept.items s.invariant c.set_variable.ensures.base (host_variable c.args.self.now s.inside.names s.inside.cells.items s.inside.kept.items s.view_is s.invariant c.args.name.now c.args.scope c.in-Some.n c.in-Some-holder.i _ c.set_variable.new.cells.items (from_scope c.args.self.now s.inside.names s.inside.cells.items s.inside.kept.items s.view_is s.invariant c.args.name.now c.args.scope c.requires.scope) held c.set_variable.ensures) c.set_variable.ensures.heads
+    shape_same s.inside.names s.inside.cells.items c.set_variable.new.cells.items s.inside.raws.entries s.inside.kept.items s.invariant c.set_variable.ensures.base (closed_variable c.args.self.now s.inside.names s.inside.cells.items s.inside.kept.items s.view_is s.invariant c.args.name.now c.args.scope c.in-Some.n c.in-Some-holder.i _ c.set_variable.new.cells.items (from_scope c.args.self.now s.inside.names s.inside.cells.items s.inside.kept.items s.view_is s.invariant c.args.name.now c.args.scope c.requires.scope) held c.set_variable.ensures) c.set_variable.ensures.heads
 
 pub returns-clause-found : goal.returns-clause-found
 returns-clause-found c =
