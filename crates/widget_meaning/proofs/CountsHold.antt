@@ -6,7 +6,8 @@ use Rattle.js_tree.specs.Plain.{Stmts, Fun}
 use Rattle.std.proofs.lemmas.Bool.{ltb-false}
 use Rattle.widget_meaning.specs.Limits.{max_units, max_nodes}
 use Rattle.widget_meaning.specs.Values.{Normal, Is, Refers, Return, Break, Continue, Throw, Stop}
-use Rattle.widget_meaning.specs.Trees.{tree_size, Label, TextNode, Element, label_of, node_at}
+use Rattle.plain_tree.specs.Trees.{size, Label, TextOf, ElementOf}
+use Rattle.widget_meaning.specs.Trees.{label_of, node_at}
 use Rattle.widget_meaning.specs.OwnState.{Amounts, OwnState, State, Timer}
 use Rattle.widget_meaning.specs.Plan.{Plan, End, Ended, Stopped, OutOfFuel}
 use Rattle.widget_meaning.specs.Meaning.{run_plan}
@@ -97,9 +98,9 @@ module _ (start : Amounts) where
 
   value_r : (l : Option Label) (n : ℕ) (v : Option (List ℕ)) (o : OwnState) → Risen start o.counts → Risen start (with_value l n v o).counts
   value_r None n v o h = h
-  value_r (Some (TextNode t)) n v o h = h
-  value_r (Some (Element tag attrs)) n None o h = h
-  value_r (Some (Element tag attrs)) n (Some v) o h = choose _ _ o h h
+  value_r (Some (TextOf t)) n v o h = h
+  value_r (Some (ElementOf tag attrs)) n None o h = h
+  value_r (Some (ElementOf tag attrs)) n (Some v) o h = choose _ _ o h h
 
   heard_r : (x : Option (ℕ × List ℕ)) (k : State → Plan) (o : OwnState) → Risen start o.counts → Keeps (counting start) (k (begun o)) → Risen start (if_heard x k o).counts
   heard_r None k o h f = h
@@ -162,12 +163,12 @@ settled a c h = record {
   nodes_within = h.nodes_within;
 }
 
-begins : (w : Content) (grant : ℕ) → tree_size w.root ≤ max_nodes → IsWithin (beginning w grant).counts
+begins : (w : Content) (grant : ℕ) → size w.root ≤ max_nodes → IsWithin (beginning w grant).counts
 begins w grant h = record {
   units = self 0;
   cells = self 1;
   slots = self 0;
-  nodes = self (tree_size w.root);
+  nodes = self (size w.root);
   units_within = omega arith;
   cells_within = omega arith;
   slots_within = omega arith;

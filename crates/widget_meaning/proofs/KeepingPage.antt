@@ -2,7 +2,8 @@
 
 use Rattle.std.specs.Prelude.{ℕ, List, [], ◌∷◌, Bool, true, false, if◌then◌else◌, codes, Option, Some, None}
 use Rattle.widget_meaning.specs.Values.{Value, Own, Undefined}
-use Rattle.widget_meaning.specs.Trees.{Trees, Label, label_of}
+use Rattle.plain_tree.specs.Trees.{Label}
+use Rattle.widget_meaning.specs.Trees.{Trees, label_of}
 use Rattle.widget_meaning.specs.OwnState.{State, Kind, Object, Array, Function, Bunch, notes_at, new_bunch, with_new_cell, Notes, with_notes}
 use Rattle.widget_meaning.specs.Plan.{Plan}
 use Rattle.widget_meaning.specs.NativeNames.{ReadNative, Query, GetValue, GetValues, GetStyle, GetClass, GetTitle, GetCheck, Explode, Count, GetParent, GetTagName, GetMark, WriteNative, Append, Remove, Empty, Replace, SetValue, SetStyle, SetClass, SetTitle, SetCheck, SetEnabled, Focus, Blur, On, Off, Fire, Each, SetMark, Protect, Bubble, DomNative, DomQuery, DomAppend, DomTag, DomText, NativeId, OfGlobal, OfMath, OfPrototype, OfText, OfList, OfAdsafe, OfDom, OfRead, OfWrite}

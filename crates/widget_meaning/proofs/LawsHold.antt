@@ -6,7 +6,8 @@ use Rattle.std.specs.Str.{bytes_eq}
 use Rattle.js_tree.specs.Plain.{Stmts, Fun}
 use Rattle.widget_meaning.specs.Limits.{max_timers}
 use Rattle.widget_meaning.specs.Values.{Completion, Normal, Is, Refers, Return, Break, Continue, Throw, Stop}
-use Rattle.widget_meaning.specs.Trees.{node_at, label_of, Label, TextNode, Element}
+use Rattle.plain_tree.specs.Trees.{Label, TextOf, ElementOf}
+use Rattle.widget_meaning.specs.Trees.{node_at, label_of}
 use Rattle.widget_meaning.specs.OwnState.{OwnState, State, Timer}
 use Rattle.widget_meaning.specs.Plan.{Plan, Ret, Halt, Need, Tick, Do, Out, End, Ended, Stopped, OutOfFuel, and_then}
 use Rattle.widget_meaning.specs.Calls.{statements, stmt_list}
@@ -173,9 +174,9 @@ dues_grant (suc n) limit o = unless_grant o.stop o (λ p. on_due (next_due limit
 
 value_grant : (l : Option Label) (n : ℕ) (v : Option (List ℕ)) (o : OwnState) → (with_value l n v o).grant ≡ o.grant
 value_grant None n v o = refl
-value_grant (Some (TextNode t)) n v o = refl
-value_grant (Some (Element tag attrs)) n None o = refl
-value_grant (Some (Element tag attrs)) n (Some v) o = choose_grant _ o.grant _ o refl refl
+value_grant (Some (TextOf t)) n v o = refl
+value_grant (Some (ElementOf tag attrs)) n None o = refl
+value_grant (Some (ElementOf tag attrs)) n (Some v) o = choose_grant _ o.grant _ o refl refl
 
 heard_grant : (x : Option (ℕ × List ℕ)) (k : State → Plan) (o : OwnState) → (if_heard x k o).grant ≡ o.grant
 heard_grant None k o = refl

@@ -13,6 +13,7 @@ pub mod KeepingPage
 pub mod KeepingJobs
 pub mod KeepingRuns
 pub mod CountsHold
+pub mod TimersHold
 pub mod RowsHold
 pub mod OnLiterals
 pub mod SortHolds
@@ -22,3 +23,4 @@ pub mod JsonHolds
 pub mod NativeLawsHold
 pub mod NativeRowsHold
 pub mod PageRowsHold
+pub mod BodyRowsHold

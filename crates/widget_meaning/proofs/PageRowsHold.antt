@@ -2,7 +2,8 @@
 use Rattle.std.proofs.Common.{◌≡◌, refl}
 use Rattle.std.specs.Prelude.{Some, None, [], ◌∷◌, codes}
 use Rattle.widget_meaning.specs.Values.{Fuel}
-use Rattle.widget_meaning.specs.Trees.{Element, TextNode, label_of}
+use Rattle.plain_tree.specs.Trees.{ElementOf, TextOf}
+use Rattle.widget_meaning.specs.Trees.{label_of}
 use Rattle.widget_meaning.specs.QueryForms.{HuntTag, First, read_query}
 use Rattle.widget_meaning.specs.Rows.{Row, rendered}
 use Rattle.widget_meaning.specs.PageRows.{PageRows, Events, hidden_keys, bad_query, protected_paragraph, second_item, counted, looped}
@@ -39,11 +40,11 @@ counter_events_holds : Events counted 4 1 0
 unfolding widgets_on_literals
 counter_events_holds = record { turns_are = refl; missed_are = refl; gone_are = refl }
 
-counter_styled_holds : label_of 2 counted.forest ≡ Some (Element (codes "p") (record { name = codes "id"; value = codes "COUNT_out" } ∷ record { name = codes "style"; value = codes "color: red" } ∷ []))
+counter_styled_holds : label_of 2 counted.forest ≡ Some (ElementOf (codes "p") ((codes "id", codes "COUNT_out") ∷ (codes "style", codes "color: red") ∷ []))
 unfolding widgets_on_literals
 counter_styled_holds = refl
 
-counter_text_holds : label_of 10 counted.forest ≡ Some (TextNode (codes "3"))
+counter_text_holds : label_of 10 counted.forest ≡ Some (TextOf (codes "3"))
 unfolding widgets_on_literals
 counter_text_holds = refl
 

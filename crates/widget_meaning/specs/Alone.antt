@@ -6,7 +6,8 @@ use Rattle.js_tree.specs.Plain as tree
 use Rattle.js_tree.specs.Plain.{Stmts, Fun}
 use Rattle.widget_meaning.specs.NativeNames.{DomObject}
 use Rattle.widget_meaning.specs.Values.{Value, Undefined, Own, Host, Completion}
-use Rattle.widget_meaning.specs.Trees.{Trees, tree_size, numbered}
+use Rattle.plain_tree.specs.Trees.{size}
+use Rattle.widget_meaning.specs.Trees.{Trees, numbered}
 use Rattle.widget_meaning.specs.OwnState.{OwnState, State, plain_object, new_function, no_notes}
 use Rattle.widget_meaning.specs.Plan.{Plan, Ret, Do, Call, on_value}
 use Rattle.widget_meaning.specs.Costs.{cost, make, give}
@@ -48,14 +49,14 @@ beginning w grant = record {
   heap = plain_object [] ∷ [];
   scopes = [];
   forest = numbered 0 w.root;
-  notes = replicate (tree_size w.root) no_notes;
+  notes = replicate (size w.root) no_notes;
   timers = [];
   clock = 0;
   focus = None;
   log = [];
   uncaught = [];
   posts = [];
-  counts = cost 0 1 0 (tree_size w.root);
+  counts = cost 0 1 0 (size w.root);
   turns = 0;
   spent = 0;
   missed = 0;

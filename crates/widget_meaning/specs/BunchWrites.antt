@@ -5,7 +5,8 @@ use Rattle.std.specs.Str.{bytes_eq}
 use Rattle.widget_meaning.specs.Limits.{max_node_depth}
 use Rattle.widget_meaning.specs.NativeNames.{WriteNative, Append, Remove, Empty, Replace, SetValue, SetStyle, SetClass, SetTitle, SetCheck, SetEnabled, Focus, Blur, On, Off, Fire, Each, SetMark, Protect, Bubble}
 use Rattle.widget_meaning.specs.Values.{Value, Undefined, Own, E3, E10, is_true, to_text}
-use Rattle.widget_meaning.specs.Trees.{Trees, End, Node, Label, TextNode, Element, Attribute, label_of, parent, children, tops, height, tree_size, numbered, grafted, with_attribute}
+use Rattle.plain_tree.specs.Trees.{End, Node, Label, TextOf, ElementOf, Attribute, height, size}
+use Rattle.widget_meaning.specs.Trees.{Trees, label_of, parent, children, tops, numbered, grafted, with_attribute}
 use Rattle.widget_meaning.specs.OwnState.{State, Notes, notes_at, with_own, with_forest, with_notes}
 use Rattle.widget_meaning.specs.Plan.{Plan, Do, Call, charge, and_then, on_value}
 use Rattle.widget_meaning.specs.Costs.{pay, cost, slots_cost, throw, give}
@@ -42,7 +43,7 @@ has_no_root ms = not (has_number ms root)
 abbrev pub with_copies : ℕ → List ℕ → State → State
 with_copies t ms s =
     let us : Trees = numbered (next_node s) (copied (subtrees ms s.own.forest)) in
-    with_room (tree_size us) (with_forest s (grafted t us s.own.forest))
+    with_room (size us) (with_forest s (grafted t us s.own.forest))
 
 -- each target but the last gets copies, the last the nodes themselves
 abbrev pub appended : List ℕ → List ℕ → State → State
@@ -53,7 +54,7 @@ appended (t ∷ u ∷ ts) ms s = appended (u ∷ ts) ms (with_copies t ms s)
 -- `append(b)`: the extra is the targets times the nodes in the trees; the copies cost their nodes and units
 abbrev pub append_trees : List ℕ → List ℕ → Trees → Value → State → Plan
 append_trees ns ms us b s =
-    alter_for (length ns * tree_size us) ((length ns - 1) * tree_units us) ((length ns - 1) * tree_size us) b s (appended ns ms)
+    alter_for (length ns * size us) ((length ns - 1) * tree_units us) ((length ns - 1) * size us) b s (appended ns ms)
 
 -- `append(b)`
 abbrev pub append : List ℕ → Value → Value → State → Plan
@@ -87,13 +88,13 @@ replace ns v b s = want_one ns s (λ n. want_bunch v s (λ ms.
 
 -- an attribute of an element set, or taken out
 abbrev pub label_with : List ℕ → List ℕ → Label → Label
-label_with x v (Element tag attrs) = Element tag (with_attribute attrs x v)
-label_with x v (TextNode t) = TextNode t
+label_with x v (ElementOf tag attrs) = ElementOf tag (with_attribute attrs x v)
+label_with x v (TextOf t) = TextOf t
 
 -- an attribute taken out
 abbrev pub label_without : List ℕ → Label → Label
-label_without x (Element tag attrs) = Element tag (filter (λ a. not (bytes_eq a.name x)) attrs)
-label_without x (TextNode t) = TextNode t
+label_without x (ElementOf tag attrs) = ElementOf tag (filter (λ a. not (bytes_eq a.0 x)) attrs)
+label_without x (TextOf t) = TextOf t
 
 -- a label changed, where the node is there
 abbrev pub relabel : Option Label → ℕ → (Label → Label) → State → State
@@ -108,13 +109,13 @@ each_relabelled f (n ∷ ns) s = each_relabelled f ns (relabel (label_of n s.own
 -- `value(v)`: an `input` gets the attribute, a text node the text, another element a new text node for its children
 abbrev pub with_text_node : ℕ → List ℕ → State → State
 with_text_node n [] s = s
-with_text_node n (u ∷ us) s = with_room 1 (with_forest s (grafted n (Node (next_node s) (TextNode (u ∷ us)) End End) s.own.forest))
+with_text_node n (u ∷ us) s = with_room 1 (with_forest s (grafted n (Node (next_node s) (TextOf (u ∷ us)) End End) s.own.forest))
 
 -- one node with a value
 abbrev pub valued : List ℕ → ℕ → State → State
 valued t n s =
     if is_input s n then relabel (label_of n s.own.forest) n (label_with (codes "value") t) s
-    else if is_text_node s n then with_label s n (TextNode t)
+    else if is_text_node s n then with_label s n (TextOf t)
     else with_text_node n t (emptied s n)
 
 -- several nodes with a value
@@ -142,14 +143,14 @@ abbrev pub styled_attributes : List Attribute → List Attribute → List ℕ �
 styled_attributes all [] p [] = all
 styled_attributes all [] p (u ∷ us) = with_attribute all (codes "style") (print_pairs ((p, u ∷ us) ∷ []))
 styled_attributes all (a ∷ attrs) p v =
-    if bytes_eq a.name (codes "style")
-    then with_attribute all (codes "style") (print_pairs (with_property (style_pairs a.value) p v))
+    if bytes_eq a.0 (codes "style")
+    then with_attribute all (codes "style") (print_pairs (with_property (style_pairs a.1) p v))
     else styled_attributes all attrs p v
 
 -- a label with a property of its style set
 abbrev pub styled : List ℕ → List ℕ → Label → Label
-styled p v (Element tag attrs) = Element tag (styled_attributes attrs attrs p v)
-styled p v (TextNode t) = TextNode t
+styled p v (ElementOf tag attrs) = ElementOf tag (styled_attributes attrs attrs p v)
+styled p v (TextOf t) = TextOf t
 
 -- what `style` takes as a value
 abbrev pub is_empty_or_value : List ℕ → Bool

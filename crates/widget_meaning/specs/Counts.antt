@@ -1,7 +1,7 @@
 -- The counts of a widget only rise, and stay within their limits.
 use Rattle.std.specs.Prelude.{ℕ, ◌≤◌, List}
 use Rattle.widget_meaning.specs.Limits.{max_cells, max_slots, max_units, max_nodes}
-use Rattle.widget_meaning.specs.Trees.{tree_size}
+use Rattle.plain_tree.specs.Trees.{size}
 use Rattle.widget_meaning.specs.OwnState.{Amounts, OwnState, State}
 use Rattle.widget_meaning.specs.Plan.{Job}
 use Rattle.widget_meaning.specs.Meaning.{meaning}
@@ -27,4 +27,4 @@ IsWithin c = Risen c c
 pub record CountLaws : Type 0 where
   pub jobs : (j : Job) (s : State) (g : ℕ) → IsWithin s.own.counts → Risen s.own.counts (meaning j s g).state.own.counts
   pub items : (o : OwnState) (is : List Item) → IsWithin o.counts → Risen o.counts (alone_from o is).counts
-  pub whole : (w : Content) (grant : ℕ) (is : List Item) → tree_size w.root ≤ max_nodes → IsWithin (alone w grant is).counts
+  pub whole : (w : Content) (grant : ℕ) (is : List Item) → size w.root ≤ max_nodes → IsWithin (alone w grant is).counts

@@ -4,7 +4,7 @@ use Rattle.std.specs.List.{list_any}
 use Rattle.std.specs.Str.{bytes_eq}
 use Rattle.widget_meaning.specs.NativeNames.{DomNative, DomQuery, DomAppend, DomTag, DomText}
 use Rattle.widget_meaning.specs.Values.{Value, Undefined, Own, to_text}
-use Rattle.widget_meaning.specs.Trees.{Label, TextNode, Element, Attribute, tree_size}
+use Rattle.plain_tree.specs.Trees.{Label, TextOf, ElementOf, Attribute, size}
 use Rattle.widget_meaning.specs.OwnState.{State, new_bunch, with_new_cell}
 use Rattle.widget_meaning.specs.Plan.{Plan, charge}
 use Rattle.widget_meaning.specs.Costs.{pay, cost, give}
@@ -21,7 +21,7 @@ give_node l units s = pay (cost units 1 2 1) s (λ t. give (Own (length t.own.he
 -- `dom.tag(name, type)`
 abbrev pub type_attributes : Value → List Attribute
 type_attributes Undefined = []
-type_attributes v = record { name = codes "type"; value = to_text v } ∷ []
+type_attributes v = (codes "type", to_text v) ∷ []
 
 -- the units of a `type`
 abbrev pub type_units : Value → ℕ
@@ -35,12 +35,12 @@ is_type v = is_plain_words (to_text v)
 
 -- an element of a listed tag
 abbrev pub dom_tag : List ℕ → Value → State → Plan
-dom_tag tag v s = want (list_any (bytes_eq tag) listed_tags && is_type v) s (give_node (Element tag (type_attributes v)) (type_units v) s)
+dom_tag tag v s = want (list_any (bytes_eq tag) listed_tags && is_type v) s (give_node (ElementOf tag (type_attributes v)) (type_units v) s)
 
 -- `dom.append(b)`: on the root, with a new Bunch of it
 abbrev pub append_to_root : List ℕ → State → Plan
 append_to_root ms s =
-    charge (tree_size (subtrees ms s.own.forest)) s (pay (cost 0 1 2 0) s
+    charge (size (subtrees ms s.own.forest)) s (pay (cost 0 1 2 0) s
     (λ t. give (Own (length t.own.heap)) (with_new_cell (appended (root ∷ []) ms t) (new_bunch (root ∷ [])))))
 
 -- `dom.append(b)`
@@ -52,4 +52,4 @@ abbrev pub dom_native : DomNative → Option Value → List Value → ℕ → St
 dom_native DomQuery this vs d s = query (root ∷ []) (nth 0 vs) s
 dom_native DomAppend this vs d s = dom_append (nth 0 vs) s
 dom_native DomTag this vs d s = want_primitives (nth 0 vs ∷ nth 1 vs ∷ []) s (dom_tag (to_text (nth 0 vs)) (nth 1 vs) s)
-dom_native DomText this vs d s = want_primitives (nth 0 vs ∷ []) s (give_node (TextNode (to_text (nth 0 vs))) (length (to_text (nth 0 vs))) s)
+dom_native DomText this vs d s = want_primitives (nth 0 vs ∷ []) s (give_node (TextOf (to_text (nth 0 vs))) (length (to_text (nth 0 vs))) s)

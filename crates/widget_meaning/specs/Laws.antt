@@ -1,14 +1,15 @@
--- Laws of the meaning as a whole: fuel, stops, stopped widgets, and lists of items.
-use Rattle.std.specs.Prelude.{◌≡◌, ℕ, suc, ◌+◌, ◌-◌, ◌≤◌, List, ◌++◌, Some}
+-- Laws of the meaning as a whole: fuel, stops, stopped widgets, waiting timers, and lists of items.
+use Rattle.std.specs.Prelude.{◌≡◌, ℕ, suc, ◌+◌, ◌-◌, ◌*◌, ◌≤◌, List, [], ◌∷◌, ◌++◌, length, Some}
 use Rattle.js_tree.specs.Plain as tree
 use Rattle.js_tree.specs.Plain.{Stmts, Catch, OptionalBlock}
+use Rattle.widget_meaning.specs.Limits.{max_timers}
 use Rattle.widget_meaning.specs.Values.{Stop, Completion}
-use Rattle.widget_meaning.specs.OwnState.{OwnState, State}
+use Rattle.widget_meaning.specs.OwnState.{OwnState, State, Timer}
 use Rattle.widget_meaning.specs.Plan.{Place, Plan, Exec, End, Ended, Stopped, OutOfFuel, and_then}
 use Rattle.widget_meaning.specs.Calls.{statements, stmt_list}
 use Rattle.widget_meaning.specs.Meaning.{run_plan, meaning}
 use Rattle.widget_meaning.specs.Turns.{begun, turn}
-use Rattle.widget_meaning.specs.Items.{Event, Item, Occurs, Advance, item}
+use Rattle.widget_meaning.specs.Items.{Event, Item, Occurs, Advance, item, live_item, due_turns}
 use Rattle.widget_meaning.specs.Alone.{Content, Given, delivered, alone, alone_from}
 
 -- the end is a stop
@@ -39,3 +40,19 @@ pub record AloneLaws : Type 0 where
   pub goes_on : (w : Content) (grant : ℕ) (is js : List Item) → alone w grant (is ++ js) ≡ alone_from (alone w grant is) js
   pub delivered_in_parts : (gs hs : List Given) (x : List ℕ) → delivered (gs ++ hs) x ≡ delivered gs x ++ delivered hs x
   pub keeps_grant : (w : Content) (grant : ℕ) (is : List Item) → (alone w grant is).grant ≡ grant
+
+-- no timer is due before this time
+abbrev pub NoneBefore : ℕ → List Timer → Type 0
+NoneBefore time [] = Unit {0}
+NoneBefore time (t ∷ ts) = (time ≤ t.due) × NoneBefore time ts
+
+-- no more timers wait than may, and none is due before the clock
+pub record AreTimers (o : OwnState) : Type 0 where
+  pub few : length o.timers ≤ max_timers
+  pub ahead : NoneBefore o.clock o.timers
+
+-- so it is at any time; and an advance takes all due timers: its bound on their turns is never met, since a greater one changes nothing
+pub record TimerLaws : Type 0 where
+  pub kept : (o : OwnState) (is : List Item) → AreTimers o → AreTimers (alone_from o is)
+  pub whole : (w : Content) (grant : ℕ) (is : List Item) → AreTimers (alone w grant is)
+  pub enough : (o : OwnState) (d more : ℕ) → AreTimers o → due_turns (max_timers * (d + 2) + more) (o.clock + d) o ≡ live_item o (Advance d)

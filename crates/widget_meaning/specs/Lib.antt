@@ -48,3 +48,4 @@ pub mod RowTrees
 pub mod Rows
 pub mod NativeRows
 pub mod PageRows
+pub mod BodyRows

@@ -5,7 +5,8 @@ use Rattle.std.specs.Int.{is_in_range}
 use Rattle.std.specs.Str.{bytes_eq, byte}
 use Rattle.widget_meaning.specs.Limits.{max_event_type}
 use Rattle.widget_meaning.specs.Values.{Value, Own, E4, E10}
-use Rattle.widget_meaning.specs.Trees.{Trees, End, Node, Label, TextNode, Element, Attribute, label_of, relabelled}
+use Rattle.plain_tree.specs.Trees.{End, Node, Label, TextOf, ElementOf, Attribute, value_of}
+use Rattle.widget_meaning.specs.Trees.{Trees, label_of, relabelled}
 use Rattle.widget_meaning.specs.OwnState.{State, Kind, Object, Array, Function, Bunch, cell_at, no_notes, with_own, with_forest}
 use Rattle.widget_meaning.specs.Plan.{Plan}
 use Rattle.widget_meaning.specs.Costs.{throw}
@@ -42,8 +43,8 @@ want b s p = if b then p else throw E4 s
 
 -- the tag of an element, empty for a text node
 abbrev pub label_tag : Option Label → List ℕ
-label_tag (Some (Element tag attrs)) = tag
-label_tag (Some (TextNode t)) = []
+label_tag (Some (ElementOf tag attrs)) = tag
+label_tag (Some (TextOf t)) = []
 label_tag None = []
 
 -- the tag of a node
@@ -52,8 +53,8 @@ tag_of s n = label_tag (label_of n s.own.forest)
 
 -- a label of a text node
 abbrev pub is_label_text : Option Label → Bool
-is_label_text (Some (TextNode t)) = true
-is_label_text (Some (Element tag attrs)) = false
+is_label_text (Some (TextOf t)) = true
+is_label_text (Some (ElementOf tag attrs)) = false
 is_label_text None = false
 
 -- a text node; a void element; an `input`; one that can be disabled
@@ -80,15 +81,10 @@ is_field s n = is_tag (codes "input" ∷ codes "button" ∷ codes "textarea" ∷
 abbrev pub is_element : State → ℕ → Bool
 is_element s n = not (is_text_node s n)
 
--- an attribute of a node, if it has it
-abbrev pub attribute_in : List Attribute → List ℕ → Option (List ℕ)
-attribute_in [] x = None
-attribute_in (a ∷ attrs) x = if bytes_eq a.name x then Some a.value else attribute_in attrs x
-
 -- an attribute of a label
 abbrev pub label_attribute : Option Label → List ℕ → Option (List ℕ)
-label_attribute (Some (Element tag attrs)) x = attribute_in attrs x
-label_attribute (Some (TextNode t)) x = None
+label_attribute (Some (ElementOf tag attrs)) x = value_of x attrs
+label_attribute (Some (TextOf t)) x = None
 label_attribute None x = None
 
 -- an attribute of a node
@@ -103,19 +99,19 @@ or_empty (Some t) = t
 -- the text nodes of trees in document order, joined
 abbrev pub texts_of : Trees → List ℕ
 texts_of End = []
-texts_of (Node n (TextNode t) ks ts) = t ++ (texts_of ks ++ texts_of ts)
-texts_of (Node n (Element tag attrs) ks ts) = texts_of ks ++ texts_of ts
+texts_of (Node n (TextOf t) ks ts) = t ++ (texts_of ks ++ texts_of ts)
+texts_of (Node n (ElementOf tag attrs) ks ts) = texts_of ks ++ texts_of ts
 
 -- the units of trees that are copied: of text nodes, and of attribute values without `id`
 abbrev pub attribute_units : List Attribute → ℕ
 attribute_units [] = 0
-attribute_units (a ∷ attrs) = (if bytes_eq a.name (codes "id") then 0 else length a.value) + attribute_units attrs
+attribute_units (a ∷ attrs) = (if bytes_eq a.0 (codes "id") then 0 else length a.1) + attribute_units attrs
 
 -- of whole trees
 abbrev pub tree_units : Trees → ℕ
 tree_units End = 0
-tree_units (Node n (TextNode t) ks ts) = length t + (tree_units ks + tree_units ts)
-tree_units (Node n (Element tag attrs) ks ts) = attribute_units attrs + (tree_units ks + tree_units ts)
+tree_units (Node n (TextOf t) ks ts) = length t + (tree_units ks + tree_units ts)
+tree_units (Node n (ElementOf tag attrs) ks ts) = attribute_units attrs + (tree_units ks + tree_units ts)
 
 -- how many nodes the widget has had, which is the number of the next one
 abbrev pub next_node : State → ℕ

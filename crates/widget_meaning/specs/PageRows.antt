@@ -6,7 +6,8 @@ use Rattle.js_tree.specs.declared.nodes.Word.TheVariants as word
 use Rattle.js_tree.specs.Plain as tree
 use Rattle.js_tree.specs.Plain.{Expr, Stmt}
 use Rattle.widget_meaning.specs.Values.{Fuel}
-use Rattle.widget_meaning.specs.Trees.{Trees, End, Node, TextNode, Element, label_of}
+use Rattle.plain_tree.specs.Trees.{End, Node, TextOf, ElementOf}
+use Rattle.widget_meaning.specs.Trees.{Trees, label_of}
 use Rattle.widget_meaning.specs.OwnState.{OwnState}
 use Rattle.widget_meaning.specs.Items.{Item, Occurs}
 use Rattle.widget_meaning.specs.Alone.{Content, alone}
@@ -49,12 +50,12 @@ protected_paragraph =
 
 -- <ul><li>a</li><li>b</li><li>c</li></ul>, and ADSAFE.log(dom.q(..).getValue()); ADSAFE.log(dom.q(..).count());
 abbrev pub item : List ℕ → Trees → Trees
-item t ts = Node 0 (Element (codes "li") []) (Node 0 (TextNode t) End End) ts
+item t ts = Node 0 (ElementOf (codes "li") []) (Node 0 (TextOf t) End End) ts
 
 abbrev pub list_root : Trees
 list_root =
-    Node 0 (Element (codes "div") (record { name = codes "id"; value = codes "A_" } ∷ []))
-    (Node 0 (Element (codes "ul") []) (item (codes "a") (item (codes "b") (item (codes "c") End))) End) End
+    Node 0 (ElementOf (codes "div") ((codes "id", codes "A_") ∷ []))
+    (Node 0 (ElementOf (codes "ul") []) (item (codes "a") (item (codes "b") (item (codes "c") End))) End) End
 
 abbrev pub second_item : List ℕ → Content
 second_item x = record {
@@ -65,13 +66,13 @@ second_item x = record {
 
 -- the widget COUNT_: `<p id="COUNT_out">0</p>` and `<button id="COUNT_add" type="button">Add</button>`, with line feeds between
 abbrev pub line_feed : Trees → Trees
-line_feed ts = Node 0 (TextNode (10 ∷ [])) End ts
+line_feed ts = Node 0 (TextOf (10 ∷ [])) End ts
 
 abbrev pub count_root : Trees
 count_root =
-    Node 0 (Element (codes "div") (record { name = codes "id"; value = codes "COUNT_" } ∷ []))
-    (line_feed (Node 0 (Element (codes "p") (record { name = codes "id"; value = codes "COUNT_out" } ∷ [])) (Node 0 (TextNode (codes "0")) End End)
-    (line_feed (Node 0 (Element (codes "button") (record { name = codes "id"; value = codes "COUNT_add" } ∷ record { name = codes "type"; value = codes "button" } ∷ [])) (Node 0 (TextNode (codes "Add")) End End)
+    Node 0 (ElementOf (codes "div") ((codes "id", codes "COUNT_") ∷ []))
+    (line_feed (Node 0 (ElementOf (codes "p") ((codes "id", codes "COUNT_out") ∷ [])) (Node 0 (TextOf (codes "0")) End End)
+    (line_feed (Node 0 (ElementOf (codes "button") ((codes "id", codes "COUNT_add") ∷ (codes "type", codes "button") ∷ [])) (Node 0 (TextOf (codes "Add")) End End)
     (line_feed End))))) End
 
 -- n += 1; out.value(n).style("color", "red"); ADSAFE.log("clicks " + n);
@@ -103,8 +104,8 @@ counted = alone counter 100000 (click (3 ∷ []) ∷ click (3 ∷ []) ∷ click 
 -- <p><b>t</b></p>, and dom.q("b").on("click", function (e) { ADSAFE.log("b"); e.bubble(); }); dom.q("p").on("click", function (e) { while (true) {} });
 abbrev pub bubble_into_loop : Content
 bubble_into_loop = record {
-  root = Node 0 (Element (codes "div") (record { name = codes "id"; value = codes "X_" } ∷ []))
-      (Node 0 (Element (codes "p") []) (Node 0 (Element (codes "b") []) (Node 0 (TextNode (codes "t")) End End) End) End) End;
+  root = Node 0 (ElementOf (codes "div") ((codes "id", codes "X_") ∷ []))
+      (Node 0 (ElementOf (codes "p") []) (Node 0 (ElementOf (codes "b") []) (Node 0 (TextOf (codes "t")) End End) End) End) End;
   libraries = [];
   script = go
       (does (method (dom_q (codes "b")) (codes "on") (str (codes "click") ∷ handler (logs (str (codes "b")) ∷ does (method (name (codes "e")) (codes "bubble") []) ∷ []) ∷ []))
@@ -131,7 +132,7 @@ pub record PageRows : Type 0 where
   pub second_item_again_row : Row (rendered (second_item (codes "li:first +li"))) None 64 (codes "b" ∷ codes "1" ∷ []) []
   pub counter_row : Row counted None 138 (codes "clicks 1" ∷ codes "clicks 2" ∷ codes "clicks 3" ∷ []) []
   pub counter_events : Events counted 4 1 0
-  pub counter_styled : label_of 2 counted.forest ≡ Some (Element (codes "p") (record { name = codes "id"; value = codes "COUNT_out" } ∷ record { name = codes "style"; value = codes "color: red" } ∷ []))
-  pub counter_text : label_of 10 counted.forest ≡ Some (TextNode (codes "3"))
+  pub counter_styled : label_of 2 counted.forest ≡ Some (ElementOf (codes "p") ((codes "id", codes "COUNT_out") ∷ (codes "style", codes "color: red") ∷ []))
+  pub counter_text : label_of 10 counted.forest ≡ Some (TextOf (codes "3"))
   pub bubble_into_loop_row : Row looped (Some Fuel) 100033 (codes "b" ∷ []) []
   pub bubble_into_loop_events : Events looped 2 0 1

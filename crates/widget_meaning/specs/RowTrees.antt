@@ -3,7 +3,8 @@ use Rattle.std.specs.Prelude.{ℕ, List, [], ◌∷◌, codes, Option, None}
 use Rattle.js_tree.specs.declared.nodes.BinOp.{BinOp}
 use Rattle.js_tree.specs.Plain as tree
 use Rattle.js_tree.specs.Plain.{Expr, ExprForm, Exprs, Stmt, StmtForm, Stmts, Fun, Funs}
-use Rattle.widget_meaning.specs.Trees.{Trees, End, Node, TextNode, Element}
+use Rattle.plain_tree.specs.Trees.{End, Node, TextOf, ElementOf}
+use Rattle.widget_meaning.specs.Trees.{Trees}
 use Rattle.widget_meaning.specs.Alone.{Content}
 
 -- nodes without places
@@ -79,7 +80,7 @@ go body funs =
 
 -- `<div id="A_"><p>hi</p></div>`
 abbrev pub paragraph : Trees
-paragraph = Node 0 (Element (codes "div") (record { name = codes "id"; value = codes "A_" } ∷ [])) (Node 0 (Element (codes "p") []) (Node 0 (TextNode (codes "hi")) End End) End) End
+paragraph = Node 0 (ElementOf (codes "div") ((codes "id", codes "A_") ∷ [])) (Node 0 (ElementOf (codes "p") []) (Node 0 (TextOf (codes "hi")) End End) End) End
 
 -- the widget A_ with a body
 abbrev pub widget : List Stmt → Funs → Content

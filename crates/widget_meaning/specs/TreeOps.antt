@@ -2,7 +2,8 @@
 use Rattle.std.specs.Prelude.{ℕ, ◌+◌, List, [], ◌∷◌, Bool, not, nat_eq, nat_lt, is_some, if◌then◌else◌, codes, Option, Some, None}
 use Rattle.std.specs.List.{filter}
 use Rattle.std.specs.Str.{bytes_eq}
-use Rattle.widget_meaning.specs.Trees.{Trees, End, Node, Label, TextNode, Element, tree_of, without, grafted, beside}
+use Rattle.plain_tree.specs.Trees.{End, Node, Label, TextOf, ElementOf, beside}
+use Rattle.widget_meaning.specs.Trees.{Trees, tree_of, without, grafted}
 
 -- the trees of a node, none where it does not stand
 abbrev pub or_end : Option Trees → Trees
@@ -72,8 +73,8 @@ depth_of n ts = depth_below 0 n ts
 
 -- a copy has no `id`
 abbrev pub copied_label : Label → Label
-copied_label (TextNode t) = TextNode t
-copied_label (Element tag attrs) = Element tag (filter (λ a. not (bytes_eq a.name (codes "id"))) attrs)
+copied_label (TextOf t) = TextOf t
+copied_label (ElementOf tag attrs) = ElementOf tag (filter (λ a. not (bytes_eq a.0 (codes "id"))) attrs)
 
 -- a copy of trees, whose numbers are still those of the originals
 abbrev pub copied : Trees → Trees

@@ -1,31 +1,12 @@
 -- The page of one widget: plain trees whose nodes have numbers.
-use Rattle.std.specs.Prelude.{ℕ, zero, suc, ◌+◌, List, [], ◌∷◌, ◌++◌, Bool, false, nat_eq, ◌||◌, if◌then◌else◌, Option, Some, None, max}
+use Rattle.std.specs.Prelude.{ℕ, zero, suc, ◌+◌, List, [], ◌∷◌, ◌++◌, Bool, false, nat_eq, ◌||◌, if◌then◌else◌, Option, Some, None}
 use Rattle.std.specs.Str.{bytes_eq}
+use Rattle.plain_tree.specs.Trees as plain
+use Rattle.plain_tree.specs.Trees.{End, Node, Label, Attribute, beside, size}
 
--- an attribute: its name and its value
-pub record Attribute : Type 0 where
-  pub name : List ℕ
-  pub value : List ℕ
-
--- what a node is, its children apart
-pub data Label : Type 0 where
-  TextNode : List ℕ → Label
-  Element : List ℕ → List Attribute → Label
-
--- a list of trees: none, or a node with its number, label and children, and then the others
-pub data Trees : Type 0 where
-  End : Trees
-  Node : ℕ → Label → Trees → Trees → Trees
-
--- two lists of trees in a row
-abbrev pub beside : Trees → Trees → Trees
-beside End us = us
-beside (Node n l ks ts) us = Node n l ks (beside ts us)
-
--- how many nodes there are
-abbrev pub tree_size : Trees → ℕ
-tree_size End = 0
-tree_size (Node n l ks ts) = 1 + (tree_size ks + tree_size ts)
+-- trees whose nodes have numbers
+abbrev pub Trees : Type 0
+Trees = plain.Trees ℕ
 
 -- the numbers in document order
 abbrev pub numbers : Trees → List ℕ
@@ -100,26 +81,21 @@ without n (Node m l ks ts) = if nat_eq m n then without n ts else Node m l (with
 -- the same trees with numbers from this one on, in document order
 abbrev pub numbered : ℕ → Trees → Trees
 numbered n End = End
-numbered n (Node m l ks ts) = Node n l (numbered (n + 1) ks) (numbered (n + 1 + tree_size ks) ts)
-
--- how many nodes stand one above the other
-abbrev pub height : Trees → ℕ
-height End = 0
-height (Node n l ks ts) = max (height ks + 1) (height ts)
+numbered n (Node m l ks ts) = Node n l (numbered (n + 1) ks) (numbered (n + 1 + size ks) ts)
 
 -- whether an attribute is there
 abbrev pub has_attribute : List Attribute → List ℕ → Bool
 has_attribute [] x = false
-has_attribute (a ∷ attrs) x = bytes_eq a.name x || has_attribute attrs x
+has_attribute (a ∷ attrs) x = bytes_eq a.0 x || has_attribute attrs x
 
 -- with a kept attribute set
 abbrev pub reset_attribute : List Attribute → List ℕ → List ℕ → List Attribute
 reset_attribute [] x v = []
-reset_attribute (a ∷ attrs) x v = if bytes_eq a.name x then record { name = x; value = v } ∷ attrs else a ∷ reset_attribute attrs x v
+reset_attribute (a ∷ attrs) x v = if bytes_eq a.0 x then (x, v) ∷ attrs else a ∷ reset_attribute attrs x v
 
 -- the attributes with one set: a kept name keeps its place, a new one stands last
 abbrev pub with_attribute : List Attribute → List ℕ → List ℕ → List Attribute
-with_attribute attrs x v = if has_attribute attrs x then reset_attribute attrs x v else attrs ++ record { name = x; value = v } ∷ []
+with_attribute attrs x v = if has_attribute attrs x then reset_attribute attrs x v else attrs ++ (x, v) ∷ []
 
 -- the node to which child positions lead from the first tree, text nodes counted
 abbrev pub child_at : ℕ → Trees → Trees

@@ -4,7 +4,7 @@ ghost use Rattle.widget_meaning.specs.Compositional.{ExpressionLaws, StatementLa
 ghost use Rattle.js_tree.specs.Forest.{Forest};
 ghost use Rattle.widget_meaning.specs.Arena.{ArenaLaws};
 ghost use Rattle.widget_meaning.specs.Counts.{CountLaws};
-ghost use Rattle.widget_meaning.specs.Laws.{FuelLaws, StopLaws, StoppedLaws, AloneLaws};
+ghost use Rattle.widget_meaning.specs.Laws.{FuelLaws, StopLaws, StoppedLaws, AloneLaws, TimerLaws};
 
 /// The meaning of each form is made of the meanings of its parts: this is the direct recursive meaning, form by form.
 #[tactic(auto, using(crate::proofs::Parts::expression_laws, crate::proofs::Parts::statement_laws, crate::proofs::Parts::call_laws))]
@@ -48,4 +48,10 @@ pub fn stopped()
 #[tactic(auto, using(crate::proofs::LawsHold::alone_laws))]
 pub fn alone()
     ensures { AloneLaws }
+{}
+
+/// At most 64 timers wait and none is due before the clock, and an advance takes all that are due: its bound on their turns is never met.
+#[tactic(auto, using(crate::proofs::TimersHold::timer_laws))]
+pub fn timers()
+    ensures { TimerLaws }
 {}
