@@ -51,26 +51,33 @@ pub fn attribute_of<'a>(content: &'a Content, name: &Text) -> Option<&'a Text>
     }
 }
 
-// The value of the first attribute named `id`.
-fn id_in(attributes: &Vec<(Text, Text)>) -> Option<&Text>
-    ensures { option_copied result ≡ value_of (codes "id") attributes.now.items }
+// The value of the first attribute whose name is an ASCII word.
+fn value_of_word<'a>(attributes: &'a Vec<(Text, Text)>, word: &[u8]) -> Option<&'a Text>
+    ensures { option_copied result ≡ value_of word.now attributes.now.items }
 {
     'each: for attribute in attributes {
-        if is_word(&attribute.0, b"id") {
+        if is_word(&attribute.0, word) {
             return Some(&attribute.1);
         }
     }
     None
 }
 
+/// The value of an attribute whose name is an ASCII word.
+pub fn attribute_of_word<'a>(content: &'a Content, word: &[u8]) -> Option<&'a Text>
+    ensures { option_copied result ≡ attribute_of word.now (label_of content.now) }
+{
+    match content {
+        Content::Element(_, attributes) => value_of_word(attributes, word),
+        Content::Text(_) => None,
+    }
+}
+
 /// The `id` of an element, none for a text node.
 pub fn id_of(content: &Content) -> Option<&Text>
     ensures { option_copied result ≡ attribute_of (codes "id") (label_of content.now) }
 {
-    match content {
-        Content::Element(_, attributes) => id_in(attributes),
-        Content::Text(_) => None,
-    }
+    attribute_of_word(content, b"id")
 }
 
 // The place of the first attribute with a name, or their number.

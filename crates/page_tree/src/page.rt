@@ -369,6 +369,15 @@ impl Page {
         content::attribute_of(self.arena.content(node), name)
     }
 
+    /// The value of an attribute whose name is an ASCII word, none exactly where the node has none of
+    /// that name.
+    pub fn attr_of_word(&self, node: NodeId, word: &[u8]) -> Option<&Text>
+        requires { node < length (nodes self.now) }
+        ensures { option_copied result ≡ attribute_of word.now (at (nodes self.now) node).label }
+    {
+        content::attribute_of_word(self.arena.content(node), word)
+    }
+
     /// Gives an element an attribute: in its place, or else last; or takes it out.
     pub fn set_attr(&mut self, node: NodeId, name: &Text, value: Option<Text>) -> Result<(), Memory>
         requires node { node < length (nodes self.old) }
