@@ -22,5 +22,6 @@ pub mod JsonReturns
 pub mod JsonHolds
 pub mod NativeLawsHold
 pub mod NativeRowsHold
+pub mod StylesHold
 pub mod PageRowsHold
 pub mod BodyRowsHold

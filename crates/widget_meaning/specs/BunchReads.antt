@@ -8,7 +8,8 @@ use Rattle.widget_meaning.specs.OwnState.{State, notes_at, new_array, new_bunch,
 use Rattle.widget_meaning.specs.Plan.{Plan, charge}
 use Rattle.widget_meaning.specs.Costs.{pay, cost, make_text, throw, give}
 use Rattle.widget_meaning.specs.NativeForms.{nth, want_primitives, on_bunch, make_bunch, give_texts, numbered_pairs}
-use Rattle.widget_meaning.specs.Styles.{is_style_property, style_pairs, style_value}
+use Rattle.style_text.specs.Styles.{is_listed}
+use Rattle.widget_meaning.specs.Styles.{style_pairs, style_value}
 use Rattle.widget_meaning.specs.PageForms.{want, want_all, attribute, or_empty, texts_of, tag_of, is_input, is_text_node, once, next_node}
 use Rattle.widget_meaning.specs.TreeOps.{subtree}
 use Rattle.widget_meaning.specs.QueryForms.{QueryStep, Hunter, HuntNext, read_query}
@@ -62,7 +63,7 @@ get_attribute ns x s = give_page_text (length ns) (first_attribute s ns x) s
 -- `getStyle(p)`: E4 for a property that is not listed
 abbrev pub get_style : List ℕ → Value → State → Plan
 get_style ns p s =
-    want_primitives (p ∷ []) s (want (is_style_property (to_text p)) s
+    want_primitives (p ∷ []) s (want (is_listed (to_text p)) s
     (give_page_text (length ns) (style_value (style_pairs (first_attribute s ns (codes "style"))) (to_text p)) s))
 
 -- `getCheck()`: whether the first node has `checked`

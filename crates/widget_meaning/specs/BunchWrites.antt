@@ -12,7 +12,8 @@ use Rattle.widget_meaning.specs.Plan.{Plan, Do, Call, charge, and_then, on_value
 use Rattle.widget_meaning.specs.Costs.{pay, cost, slots_cost, throw, give}
 use Rattle.widget_meaning.specs.NativeForms.{nth, want_primitives, want_function, on_bunch}
 use Rattle.widget_meaning.specs.Dispatch.{dispatch}
-use Rattle.widget_meaning.specs.Styles.{is_style_property, is_style_value, style_pairs, with_property, print_pairs}
+use Rattle.style_text.specs.Styles.{is_listed, is_value, print_style}
+use Rattle.widget_meaning.specs.Styles.{style_pairs, with_property}
 use Rattle.widget_meaning.specs.TreeOps.{subtree, subtrees, stands_in, all_detached, all_moved_under, replaced_by, depth_of, copied}
 use Rattle.widget_meaning.specs.PageForms.{root, want, want_all, want_one, want_bunch, is_void, is_input, is_field, is_text_node, is_element, is_tag, tree_units, next_node, with_room, with_label, is_plain_words, is_event_type, has_number}
 use Rattle.widget_meaning.specs.BunchReads.{bunches_from, with_bunches}
@@ -141,10 +142,10 @@ set_value ns t b s =
 -- `style(p, v)`: an attribute whose last property is taken out stays where it stands
 abbrev pub styled_attributes : List Attribute → List Attribute → List ℕ → List ℕ → List Attribute
 styled_attributes all [] p [] = all
-styled_attributes all [] p (u ∷ us) = with_attribute all (codes "style") (print_pairs ((p, u ∷ us) ∷ []))
+styled_attributes all [] p (u ∷ us) = with_attribute all (codes "style") (print_style ((p, u ∷ us) ∷ []))
 styled_attributes all (a ∷ attrs) p v =
     if bytes_eq a.0 (codes "style")
-    then with_attribute all (codes "style") (print_pairs (with_property (style_pairs a.1) p v))
+    then with_attribute all (codes "style") (print_style (with_property (style_pairs a.1) p v))
     else styled_attributes all attrs p v
 
 -- a label with a property of its style set
@@ -154,12 +155,12 @@ styled p v (TextOf t) = TextOf t
 
 -- what `style` takes as a value
 abbrev pub is_empty_or_value : List ℕ → Bool
-is_empty_or_value v = nat_eq (length v) 0 || is_style_value v
+is_empty_or_value v = nat_eq (length v) 0 || is_value v
 
 -- `style(p, v)`
 abbrev pub set_style : List ℕ → List ℕ → List ℕ → Value → State → Plan
 set_style ns p v b s =
-    want (is_style_property p && is_empty_or_value v) s
+    want (is_listed p && is_empty_or_value v) s
     (want_all (is_element s) ns s (alter_for (length ns) (length ns * length v) 0 b s (each_relabelled (styled p v) ns)))
 
 -- `klass(v)` and `title(v)`

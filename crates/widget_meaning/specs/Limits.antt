@@ -61,10 +61,6 @@ max_node_depth = 200
 abbrev pub max_query_steps : ℕ
 max_query_steps = 32
 
--- of units in one value of a style
-abbrev pub max_style_value : ℕ
-max_style_value = 256
-
 -- of letters in one type of events
 abbrev pub max_event_type : ℕ
 max_event_type = 16

@@ -1,105 +1,56 @@
--- Inline styles: the properties that may be set, their values, and styles as lists of pairs.
-use Rattle.std.specs.Prelude.{ℕ, ◌+◌, ◌-◌, Bool, true, false, not, ◌&&◌, ◌||◌, List, [], ◌∷◌, ◌++◌, length, map, nat_lt, nat_le, nat_eq, ◌==◌, slice_index, if◌then◌else◌, codes}
-use Rattle.std.specs.List.{list_any, list_all, filter, slice_split, before_first, after_first, join_by}
-use Rattle.std.specs.Int.{is_in_range}
-use Rattle.std.specs.Str.{bytes_eq, byte}
-use Rattle.code_units.specs.Whole.{is_blank, trimmed}
-use Rattle.widget_meaning.specs.Limits.{max_style_value}
+-- Inline styles as a widget reads and changes them. Which properties and values there are, how a style is spelled and how it prints is said by `style_text`.
+use Rattle.std.specs.Prelude.{◌≡◌, ℕ, not, List, [], ◌∷◌, ◌++◌, length, map, nat_eq, if◌then◌else◌, Option, Some, None}
+use Rattle.std.specs.List.{filter}
+use Rattle.std.specs.Str.{bytes_eq}
+use Rattle.exact_refusals.specs.Judge.{Outcome, Read, Refused, Deeper}
+use Rattle.style_text.specs.Styles.{Pair, is_used, print_style, StyleSpells}
+use Rattle.style_text.specs.Machine.{begin, goes}
 
--- a property and its value
-abbrev pub StylePair : Type 0
-StylePair = List ℕ × List ℕ
+-- the pairs that were read, if any
+abbrev pub pairs_read : Outcome (List Pair) → Option (List Pair)
+pairs_read (Read pairs) = Some pairs
+pairs_read (Refused left) = None
+pairs_read (Deeper left) = None
 
--- the properties
-abbrev pub style_properties : List (List ℕ)
-style_properties =
-    codes "background-color" ∷ codes "border" ∷ codes "border-color" ∷ codes "border-style" ∷ codes "border-width"
-    ∷ codes "bottom" ∷ codes "clear" ∷ codes "color" ∷ codes "cursor" ∷ codes "display"
-    ∷ codes "float" ∷ codes "font-family" ∷ codes "font-size" ∷ codes "font-style" ∷ codes "font-weight"
-    ∷ codes "height" ∷ codes "left" ∷ codes "letter-spacing" ∷ codes "line-height" ∷ codes "list-style-type"
-    ∷ codes "margin" ∷ codes "margin-bottom" ∷ codes "margin-left" ∷ codes "margin-right" ∷ codes "margin-top"
-    ∷ codes "max-height" ∷ codes "max-width" ∷ codes "min-height" ∷ codes "min-width" ∷ codes "opacity"
-    ∷ codes "overflow" ∷ codes "padding" ∷ codes "padding-bottom" ∷ codes "padding-left" ∷ codes "padding-right"
-    ∷ codes "padding-top" ∷ codes "position" ∷ codes "right" ∷ codes "text-align" ∷ codes "text-decoration"
-    ∷ codes "text-indent" ∷ codes "top" ∷ codes "vertical-align" ∷ codes "visibility" ∷ codes "white-space"
-    ∷ codes "width" ∷ codes "word-spacing" ∷ codes "z-index" ∷ []
+-- the pairs of a style; a text that is none has none
+abbrev pub style_of : List ℕ → Option (List Pair)
+style_of t = pairs_read (goes t begin 0)
 
--- whether a property may be set
-abbrev pub is_style_property : List ℕ → Bool
-is_style_property p = list_any (bytes_eq p) style_properties
+-- the pairs, if there are any
+abbrev pub pairs_or_none : Option (List Pair) → List Pair
+pairs_or_none None = []
+pairs_or_none (Some pairs) = pairs
 
--- an ASCII letter, a digit, a space, or one of `# % . , - ! ( ) '`
-abbrev pub is_value_unit : ℕ → Bool
-is_value_unit u =
-    is_in_range 97 122 u || is_in_range 65 90 u || is_in_range 48 57 u || u == 32
-    || u == byte "#" || u == byte "%" || u == byte "." || u == byte "," || u == byte "-" || u == byte "!" || u == byte "(" || u == byte ")" || u == byte "'"
+-- the pairs of an attribute `style`
+abbrev pub style_pairs : List ℕ → List Pair
+style_pairs t = pairs_or_none (style_of t)
 
--- a word in lower case stands at the start of the units, or somewhere in them, in any case
-abbrev pub begins_with_word : List ℕ → List ℕ → Bool
-begins_with_word [] us = true
-begins_with_word (w ∷ ws) [] = false
-begins_with_word (w ∷ ws) (u ∷ us) = (u == w || u + 32 == w) && begins_with_word ws us
+-- the printed form of pairs, or the text
+abbrev pub printed_or : List ℕ → Option (List Pair) → List ℕ
+printed_or t None = t
+printed_or t (Some pairs) = print_style pairs
 
--- the word stands somewhere
-abbrev pub has_word : List ℕ → List ℕ → Bool
-has_word w [] = false
-has_word w (u ∷ us) = begins_with_word w (u ∷ us) || has_word w us
-
--- 1 to 256 units, neither the first nor the last a space, without `url` and `expression`
-abbrev pub is_style_value : List ℕ → Bool
-is_style_value v =
-    nat_lt 0 (length v) && nat_le (length v) max_style_value && list_all is_value_unit v
-    && not (slice_index v 0 == 32) && not (slice_index v (length v - 1) == 32)
-    && not (has_word (codes "url") v) && not (has_word (codes "expression") v)
-
--- the pairs of a style that is spelled: `property: value` between semicolons, with blanks round each part
-abbrev pub is_semicolon : ℕ → Bool
-is_semicolon u = u == byte ";"
-
--- the mark between a property and its value
-abbrev pub is_colon : ℕ → Bool
-is_colon u = u == byte ":"
-
--- the pair of a part
-abbrev pub style_pair : List ℕ → StylePair
-style_pair t = (trimmed (before_first is_colon t), trimmed (after_first is_colon t))
-
--- the pairs of a style
-abbrev pub style_pairs : List ℕ → List StylePair
-style_pairs t = map style_pair (filter (λ part. not (list_all is_blank part)) (slice_split is_semicolon t))
-
--- the printed form: `property: value; property: value`
-abbrev pub print_pairs : List StylePair → List ℕ
-print_pairs ps = join_by (λ p. p.0 ++ (codes ": " ++ p.1)) (codes "; ") ps
-
--- whether a property may be set to the value
-abbrev pub is_pair : StylePair → Bool
-is_pair p = is_style_property p.0 && is_style_value p.1
-
--- each part is a pair: true of a style that M10 accepts, and no test of whether it accepts a text
-abbrev pub is_style : List ℕ → Bool
-is_style t = list_all is_pair (style_pairs t)
-
--- a style that M10 accepts, as it prints; a text with another part stays as it is
+-- a style as it prints; a text that is none stays as it is
 abbrev pub printed_style : List ℕ → List ℕ
-printed_style t = if is_style t then print_pairs (style_pairs t) else t
+printed_style t = printed_or t (style_of t)
 
 -- the value of a property, empty where it has none
-abbrev pub style_value : List StylePair → List ℕ → List ℕ
+abbrev pub style_value : List Pair → List ℕ → List ℕ
 style_value [] p = []
 style_value (q ∷ qs) p = if bytes_eq q.0 p then q.1 else style_value qs p
 
--- a property is set: in its place, or last; an empty value takes it out
-abbrev pub has_property : List StylePair → List ℕ → Bool
-has_property qs p = list_any (λ q. bytes_eq q.0 p) qs
-
 -- without a property
-abbrev pub without_property : List StylePair → List ℕ → List StylePair
+abbrev pub without_property : List Pair → List ℕ → List Pair
 without_property qs p = filter (λ q. not (bytes_eq q.0 p)) qs
 
--- with a property set, or taken out by an empty value
-abbrev pub with_property : List StylePair → List ℕ → List ℕ → List StylePair
+-- a property is set: in its place, or last; an empty value takes it out
+abbrev pub with_property : List Pair → List ℕ → List ℕ → List Pair
 with_property qs p v =
     if nat_eq (length v) 0 then without_property qs p
-    else if has_property qs p then map (λ q. if bytes_eq q.0 p then (p, v) else q) qs
+    else if is_used qs p then map (λ q. if bytes_eq q.0 p then (p, v) else q) qs
     else qs ++ (p, v) ∷ []
+
+-- the pairs are those that the text spells as a style, and no others
+pub record StyleLaws (t : List ℕ) (pairs : List Pair) : Type 0 where
+  pub found : StyleSpells t pairs → style_of t ≡ Some pairs
+  pub spelled : style_of t ≡ Some pairs → StyleSpells t pairs

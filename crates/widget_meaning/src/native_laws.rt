@@ -1,9 +1,11 @@
 //! Laws of the natives, and rows with them.
-ghost use Rattle.std.specs.Prelude.{List};
+ghost use Rattle.std.specs.Prelude.{ℕ, List};
 ghost use Rattle.widget_meaning.specs.JsonBack.{ReturnLaws};
 ghost use Rattle.widget_meaning.specs.JsonLaws.{JsonLaws};
 ghost use Rattle.widget_meaning.specs.NativeLaws.{SplitLaws, SortLaws};
 ghost use Rattle.widget_meaning.specs.NativeRows.{NativeRows};
+ghost use Rattle.style_text.specs.Styles.{Pair};
+ghost use Rattle.widget_meaning.specs.Styles.{StyleLaws};
 ghost use Rattle.widget_meaning.specs.Values.{Value};
 
 /// The pieces that `split` gives, joined by what stood between them, are the text.
@@ -27,4 +29,10 @@ pub fn json()
 /// What single widgets with natives do, computed from the definitions.
 pub fn native_rows()
     ensures { NativeRows }
+{}
+
+/// The pairs of a style are those that `style_text` says that it spells; a text that spells none has none.
+#[tactic(auto, using(crate::proofs::StylesHold::style_laws))]
+pub fn styles()
+    ensures { (t : List ℕ) (pairs : List Pair) → StyleLaws t pairs }
 {}
