@@ -16,3 +16,17 @@ Prints ts old new = (style : List ℕ → List ℕ) → IsStyleForm style → ne
 -- the same of one attribute
 abbrev pub PrintsAttribute : Attribute → List ℕ → List ℕ → Type 0
 PrintsAttribute a old new = (style : List ℕ → List ℕ) → IsStyleForm style → new ≡ old ++ printed_attribute style a
+
+-- a text without a rest of it stands behind the bytes
+pub record AppendsBut (text rest old new : List ℕ) : Type 0 where
+  pub part : List ℕ
+  pub whole : text ≡ part ++ rest
+  pub appended : new ≡ old ++ part
+
+-- a beginning of a text stands behind the bytes
+abbrev pub AppendsPart : List ℕ → List ℕ → List ℕ → Type 0
+AppendsPart text old new = (rest : List ℕ) × AppendsBut text rest old new
+
+-- the same of the printed text of plain trees
+abbrev pub PrintsPart : PlainTrees → List ℕ → List ℕ → Type 0
+PrintsPart ts old new = (style : List ℕ → List ℕ) → IsStyleForm style → AppendsPart (printed style ts) old new

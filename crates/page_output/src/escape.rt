@@ -1,5 +1,5 @@
 //! Texts with references.
-ghost use Rattle.std.specs.Prelude.{◌≡◌, ◌++◌, IfOk, OnOk};
+ghost use Rattle.std.specs.Prelude.{◌≡◌, ◌++◌, OnErr, OnOk};
 ghost use Rattle.std.specs.List.{flat_map};
 ghost use Rattle.plain_tree.specs.Print.{escape, escape_in_value, printed_text, printed_value};
 
@@ -38,9 +38,10 @@ fn push_value_unit(units: &mut Vec<u16>, unit: u16) -> Result<(), Memory>
     push_unit(units, unit)
 }
 
-/// Appends the printed form of a text.
+/// Appends the printed form of a text. A refusal changes nothing.
 pub fn push_text(alloc: Global, text: &Text, out: &mut Vec<u8>) -> Result<(), Memory>
-    ensures { OnOk result (out.new.items ≡ out.old.items ++ printed_text text.now) }
+    ensures ok { OnOk result (out.new.items ≡ out.old.items ++ printed_text text.now) }
+    ensures err { OnErr result (out.new.items ≡ out.old.items) }
 {
     let mut units = Vec::new(alloc);
     'each: for unit in text.units() {

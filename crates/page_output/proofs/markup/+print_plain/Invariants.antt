@@ -1,9 +1,6 @@
-use Rattle.std.proofs.Common.{◌≡◌, ◌++◌, drop, ℕ, List}
-use Rattle.plain_tree.specs.Plains.{unplaced_all}
-use Rattle.plain_tree.specs.Print.{printed}
-use Rattle.page_output.specs.Printing.{IsStyleForm}
+use Rattle.page_output.proofs.Texts.{PrintsChildren}
 use Rattle.page_output.proofs.markup.+print_plain.Given as goal
 
--- what is printed, and what is still to come
+-- what is printed of the children
 abbrev pub invariant-each : goal.invariant-each
-invariant-each l = (style : List ℕ → List ℕ) → IsStyleForm style → l.out.items ++ printed style (unplaced_all (drop l.child-index l.child-items)) ≡ (l.initial.out.items ++ printed style (unplaced_all l.child-items))
+invariant-each l = PrintsChildren l.child-items l.child-index l.initial.out.items l.out.items

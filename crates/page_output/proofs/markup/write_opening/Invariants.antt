@@ -3,7 +3,7 @@ use Rattle.std.specs.List.{flat_map}
 use Rattle.plain_tree.specs.Plains.{attribute_of}
 use Rattle.plain_tree.specs.Print.{printed_attribute}
 use Rattle.page_output.specs.Printing.{IsStyleForm}
-use Rattle.page_output.proofs.markup.push_opening.Given as goal
+use Rattle.page_output.proofs.markup.write_opening.Given as goal
 
 abbrev pub invariant-each : goal.invariant-each
 invariant-each l = (style : List ℕ → List ℕ) → IsStyleForm style → l.out.items ++ flat_map (printed_attribute style) (map attribute_of (drop l.attr-index l.attr-items)) ≡ l.initial.out.items ++ flat_map (printed_attribute style) (map attribute_of l.attr-items)
