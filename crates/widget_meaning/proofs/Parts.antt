@@ -1,13 +1,13 @@
 -- Each form by the meanings of its parts.
 use Rattle.std.proofs.Common.{ℕ, zero, suc, Bool, true, false, List, [], ◌∷◌, ◌≤◌, refl, sym, ap, ◌≡◌, ◌∙◌, arith}
 use Rattle.std.proofs.lemmas.Bool.{false≢true, ltb-false}
-use Rattle.std.specs.Prelude.{Some, is_some, nat_lt, ◌-◌, ◌+◌, ◌++◌, length, Option, None, if◌then◌else◌}
+use Rattle.std.specs.Prelude.{Some, is_some, nat_lt, ◌-◌, ◌+◌, ◌++◌, length, Option, None, if◌then◌else◌, pos}
 use Rattle.js_tree.specs.declared.nodes.UnOp.TheVariants as un
 use Rattle.js_tree.specs.declared.nodes.BinOp.{BinOp}
 use Rattle.js_tree.specs.Plain as tree
 use Rattle.js_tree.specs.Plain.{Expr, ExprForm, Exprs, Properties, OptionalExpr, Stmt, StmtForm, Stmts, Decls, ForInit, Catch, OptionalBlock, Clauses, Fun, Funs}
 use Rattle.widget_meaning.specs.Limits.{max_units, max_cells, max_slots, max_nodes, max_depth}
-use Rattle.widget_meaning.specs.Values.{Value, Text, Own, Completion, Normal, Is, Refers, Return, Break, Continue, Throw, E1, Units, Cells, Slots, Nodes, Depth, is_true, is_nothing}
+use Rattle.widget_meaning.specs.Values.{Value, Text, Own, Completion, Normal, Is, Refers, Return, Break, Continue, Throw, E1, Units, Cells, Slots, Nodes, Depth, is_true, is_nothing, Undefined, Num}
 use Rattle.widget_meaning.specs.OwnState.{State, Amounts, Function, cell_at, with_new_cell, with_new_scope, new_array, plain_object, new_function}
 use Rattle.widget_meaning.specs.Plan.{Plan, Place, Ret, Halt, Do, Eval, Target, Exec, Pass, Call, RunNative, Hear, Hearing, WhileLoop, DoLoop, ForLoop, ForInLoop, Out, Stopped, OutOfFuel, and_then, charge, ticks}
 use Rattle.widget_meaning.specs.Costs.{make, give, throw, within, sum, object_cost, slots_cost, with_counts}
@@ -17,8 +17,10 @@ use Rattle.widget_meaning.specs.Scopes.{assign, fun_name, fun_names, funs_list, 
 use Rattle.widget_meaning.specs.Calls.{statements, next_statements, stmt_list, without_directive, with_variable, declare, call_end, enter, enter_scope, invoke, to_primitive, primitive_result}
 use Rattle.widget_meaning.specs.Expressions.{expr_list, property_list, array_parts, array_part, object_parts, object_part, dot_read, subscript_read, named_read, dot_target, subscript_target, named_target, value_target, expression, target, callee, next_argument, binary_right, binary_with, unary_operand, delete_target, step_target, step_converted, assign_target, assign_with, compound, assigned, referred, and_right, or_right, choose, converts, converted_left, converted_right, result, unary_converted}
 use Rattle.widget_meaning.specs.Statements.{discard, decl_list, declarations, declare_as, expressions, next_expressions, branch, loop_test, loop_end, while_next, do_next, for_init, for_again, for_next, for_in, for_in_next, for_in_names, for_in_over, to_return, to_throw, clauses_onto, bodies, choose_case, switch_on, switch_end, in_catch, caught, finally, last_end, case_tested}
+use Rattle.widget_meaning.specs.ListNatives.{next_call}
+use Rattle.widget_meaning.specs.BunchWrites.{next_fired, next_called}
 use Rattle.widget_meaning.specs.Natives.{run_native}
-use Rattle.widget_meaning.specs.Dispatch.{heard, next_handlers, dispatch_end}
+use Rattle.widget_meaning.specs.Dispatch.{heard, next_handlers, dispatch_end, dispatch}
 use Rattle.widget_meaning.specs.Meaning.{run_plan}
 use Rattle.widget_meaning.specs.Compositional.{ExpressionLaws, StatementLaws, CallLaws, then_do, looped, if_thrown, ends, is_value_form, new_scope, declared, body_in, evaluated, targeted}
 use Rattle.widget_meaning.proofs.Runs.{unit, first, part, then_part, run_and_then}
@@ -259,5 +261,11 @@ call_laws = record {
   handler = λ h s g. unit g (Hear h) s (heard h s) refl;
   handler_first = λ h s g. handler_holds h s g;
   handler_next = λ f fs h s g. part g (Call (Own f) None (h.event ∷ []) h.depth) s (next_handlers fs h);
+  element_first = λ f v vs i ws d s k g. part g (Call f None (v ∷ Num (pos i) ∷ []) d) s (next_call f vs i ws d k);
+  element_last = λ f i ws d s k g. refl;
+  bunch_first = λ f v vs b d s g. part g (Call f None (v ∷ []) d) s (next_called f vs b d);
+  bunch_last = λ f b d s g. refl;
+  node_first = λ t n ns b d s g. run_and_then g (dispatch t n Undefined d s) (next_fired t ns b d);
+  node_last = λ t b d s g. refl;
   no_fuel = λ j s. refl;
 }

@@ -4,7 +4,7 @@ use Rattle.std.specs.List.{filter, list_all, count_by}
 use Rattle.std.specs.Str.{bytes_eq}
 use Rattle.widget_meaning.specs.Limits.{max_node_depth}
 use Rattle.widget_meaning.specs.NativeNames.{WriteNative, Append, Remove, Empty, Replace, SetValue, SetStyle, SetClass, SetTitle, SetCheck, SetEnabled, Focus, Blur, On, Off, Fire, Each, SetMark, Protect, Bubble}
-use Rattle.widget_meaning.specs.Values.{Value, Undefined, Own, E3, E10, is_true, to_text}
+use Rattle.widget_meaning.specs.Values.{Value, Undefined, Own, E3, E10, is_true, to_text, Completion}
 use Rattle.plain_tree.specs.Trees.{End, Node, Label, TextOf, ElementOf, Attribute, height, size}
 use Rattle.widget_meaning.specs.Trees.{Trees, label_of, parent, children, tops, numbered, grafted, with_attribute}
 use Rattle.widget_meaning.specs.OwnState.{State, Notes, notes_at, with_own, with_forest, with_notes}
@@ -226,6 +226,10 @@ abbrev pub fired : List ℕ → List ℕ → Value → ℕ → State → Plan
 fired t [] b d s = give b s
 fired t (n ∷ ns) b d s = and_then (dispatch t n Undefined d s) (λ o u. on_value o u (λ v. fired t ns b d u))
 
+-- after a node's dispatch, the others
+abbrev pub next_fired : List ℕ → List ℕ → Value → ℕ → Completion → State → Plan
+next_fired t ns b d o s = on_value o s (λ v. fired t ns b d s)
+
 -- `fire(t)`
 abbrev pub fire : List ℕ → List ℕ → Value → ℕ → State → Plan
 fire ns t b d s = want (is_event_type t) s (charge (length ns) s (fired t ns b d s))
@@ -234,6 +238,10 @@ fire ns t b d s = want (is_event_type t) s (charge (length ns) s (fired t ns b d
 abbrev pub each_called : Value → List Value → Value → ℕ → State → Plan
 each_called f [] b d s = give b s
 each_called f (v ∷ vs) b d s = Do (Call f None (v ∷ []) d) s (λ o t. on_value o t (λ w. each_called f vs b d t))
+
+-- after a Bunch's call, the others
+abbrev pub next_called : Value → List Value → Value → ℕ → Completion → State → Plan
+next_called f vs b d o s = on_value o s (λ w. each_called f vs b d s)
 
 -- `each(f)`
 abbrev pub each : List ℕ → Value → Value → ℕ → State → Plan

@@ -1,5 +1,5 @@
 -- The meaning is compositional: each form by the meanings of its parts. This is the direct recursive meaning, form by form.
-use Rattle.std.specs.Prelude.{◌≡◌, ℕ, suc, ◌+◌, ◌-◌, nat_lt, Bool, true, false, if◌then◌else◌, List, [], ◌∷◌, ◌++◌, length, Option, Some, is_some}
+use Rattle.std.specs.Prelude.{◌≡◌, ℕ, suc, pos, ◌+◌, ◌-◌, nat_lt, Bool, true, false, if◌then◌else◌, List, [], ◌∷◌, ◌++◌, length, Option, Some, is_some}
 use Rattle.js_tree.specs.declared.nodes.Word.{Word}
 use Rattle.js_tree.specs.declared.nodes.StepOp.{StepOp}
 use Rattle.js_tree.specs.declared.nodes.UnOp.TheVariants as un
@@ -10,7 +10,7 @@ use Rattle.js_tree.specs.Plain.{Expr, ExprForm, Exprs, Properties, OptionalExpr,
 use Rattle.code_units.specs.Whole.{number_in}
 use Rattle.widget_meaning.specs.Limits.{max_depth}
 use Rattle.widget_meaning.specs.NativeNames.{NativeId, Native}
-use Rattle.widget_meaning.specs.Values.{Value, Undefined, Text, Own, Host, Reference, Variable, Completion, Normal, Is, Refers, Return, Break, Continue, Throw, E1, Depth, is_true, is_nothing}
+use Rattle.widget_meaning.specs.Values.{Value, Undefined, Num, Text, Own, Host, Reference, Variable, Completion, Normal, Is, Refers, Return, Break, Continue, Throw, E1, Depth, is_true, is_nothing}
 use Rattle.widget_meaning.specs.OwnState.{State, Function, cell_at, with_new_scope, new_array, plain_object, new_function}
 use Rattle.widget_meaning.specs.Plan.{Place, Plan, Ret, Job, Eval, Target, Exec, Pass, Call, RunNative, Hear, Hearing, Loop, WhileLoop, DoLoop, ForLoop, ForInLoop, Out, End, Ended, Stopped, OutOfFuel, charge, on_normal}
 use Rattle.widget_meaning.specs.Costs.{slots_cost, pay, make, throw, give}
@@ -20,8 +20,10 @@ use Rattle.widget_meaning.specs.Scopes.{variable, assign, fun_name, fun_names, f
 use Rattle.widget_meaning.specs.Calls.{statements, next_statements, stmt_list, without_directive, declare, call_body, call_end, invoke, call_to_string, primitive_result, to_primitive}
 use Rattle.widget_meaning.specs.Expressions.{expr_list, property_list, literal, word_value, array_parts, array_part, object_parts, object_part, dot_read, subscript_read, named_read, dot_target, subscript_target, named_target, value_target, callee, arguments_then, next_argument, binary_right, binary_with, unary_operand, delete_target, step_target, step_converted, assign_target, assign_with, compound, assigned, referred, base_of, and_right, or_right, choose, converts, converted_left, converted_right, result, unary_converted}
 use Rattle.widget_meaning.specs.Statements.{discard, decl_list, declarations, declare_as, expressions, next_expressions, branch, loop_test, while_next, do_next, for_init, for_again, for_next, for_in, for_in_next, for_in_over, to_return, to_throw, clauses_onto, bodies, from_default, switch_on, switch_end, in_catch, caught, finally, last_end, Case, choose_case, case_tested}
+use Rattle.widget_meaning.specs.ListNatives.{call_each, next_call}
+use Rattle.widget_meaning.specs.BunchWrites.{fired, next_fired, each_called, next_called}
 use Rattle.widget_meaning.specs.Natives.{run_native}
-use Rattle.widget_meaning.specs.Dispatch.{heard, handlers, next_handlers, dispatch_end}
+use Rattle.widget_meaning.specs.Dispatch.{heard, handlers, next_handlers, dispatch_end, dispatch}
 use Rattle.widget_meaning.specs.Meaning.{run_plan, meaning, eval, exec}
 
 -- what comes after an outcome; a stop passes
@@ -219,5 +221,12 @@ pub record CallLaws : Type 0 where
   pub handler : (h : Hearing) (s : State) (g : ℕ) → meaning (Hear h) s (suc g) ≡ run_plan g (heard h s)
   pub handler_first : (h : Hearing) (s : State) (g : ℕ) → run_plan g (heard h s) ≡ then_do (then_do (run_plan g (invoke (Own h.first) Option.None (h.event ∷ []) h.depth s)) (next_handlers h.others h)) (dispatch_end h)
   pub handler_next : (f : ℕ) (fs : List ℕ) (h : Hearing) (s : State) (g : ℕ) → run_plan g (handlers (f ∷ fs) h s) ≡ then_do (meaning (Call (Own f) Option.None (h.event ∷ []) h.depth) s g) (next_handlers fs h)
+  -- natives that call: with each element and its index, with each Bunch, and the dispatch at each node
+  pub element_first : (f v : Value) (vs : List Value) (i : ℕ) (ws : List Value) (d : ℕ) (s : State) (k : List Value → State → Plan) (g : ℕ) → run_plan g (call_each f (v ∷ vs) i ws d s k) ≡ then_do (meaning (Call f Option.None (v ∷ Num (pos i) ∷ []) d) s g) (next_call f vs i ws d k)
+  pub element_last : (f : Value) (i : ℕ) (ws : List Value) (d : ℕ) (s : State) (k : List Value → State → Plan) (g : ℕ) → run_plan g (call_each f [] i ws d s k) ≡ run_plan g (k ws s)
+  pub bunch_first : (f v : Value) (vs : List Value) (b : Value) (d : ℕ) (s : State) (g : ℕ) → run_plan g (each_called f (v ∷ vs) b d s) ≡ then_do (meaning (Call f Option.None (v ∷ []) d) s g) (next_called f vs b d)
+  pub bunch_last : (f b : Value) (d : ℕ) (s : State) (g : ℕ) → run_plan g (each_called f [] b d s) ≡ gives b s g
+  pub node_first : (t : List ℕ) (n : ℕ) (ns : List ℕ) (b : Value) (d : ℕ) (s : State) (g : ℕ) → run_plan g (fired t (n ∷ ns) b d s) ≡ then_do (run_plan g (dispatch t n Undefined d s)) (next_fired t ns b d)
+  pub node_last : (t : List ℕ) (b : Value) (d : ℕ) (s : State) (g : ℕ) → run_plan g (fired t [] b d s) ≡ gives b s g
   -- without a unit nothing begins
   pub no_fuel : (j : Job) (s : State) → meaning j s 0 ≡ record { how = OutOfFuel; state = s; left = 0 }

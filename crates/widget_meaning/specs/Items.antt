@@ -95,7 +95,7 @@ abbrev pub due_turns : ℕ → ℕ → OwnState → OwnState
 due_turns zero limit o = record o { clock = limit }
 due_turns (suc n) limit o = unless_stopped o.stop o (λ p. on_due (next_due limit p.timers) limit p (due_turns n limit))
 
--- an advance. A timer is due 10 or more after it is started and at most 64 wait, so no more than these turns can come
+-- an advance. A timer is due 10 or more after it is started and at most 64 wait, so no more than these turns can come (`TimerLaws`)
 abbrev pub advance : ℕ → OwnState → OwnState
 advance d o = due_turns (max_timers * (d + 2)) (o.clock + d) o
 

@@ -5,6 +5,7 @@ use Rattle.std.specs.Int.{is_in_range}
 use Rattle.std.specs.Str.{bytes_eq, byte}
 use Rattle.widget_meaning.specs.Limits.{max_event_type}
 use Rattle.widget_meaning.specs.Values.{Value, Own, E4, E10}
+use Rattle.plain_tree.specs.Names as names
 use Rattle.plain_tree.specs.Trees.{End, Node, Label, TextOf, ElementOf, Attribute, value_of}
 use Rattle.widget_meaning.specs.Trees.{Trees, label_of, relabelled}
 use Rattle.widget_meaning.specs.OwnState.{State, Kind, Object, Array, Function, Bunch, cell_at, no_notes, with_own, with_forest}
@@ -67,7 +68,7 @@ is_tag tags s n = list_any (bytes_eq (tag_of s n)) tags
 
 -- a void element
 abbrev pub is_void : State → ℕ → Bool
-is_void s n = is_tag (codes "br" ∷ codes "hr" ∷ codes "img" ∷ codes "input" ∷ []) s n
+is_void s n = names.is_void (tag_of s n)
 
 -- an `input`
 abbrev pub is_input : State → ℕ → Bool

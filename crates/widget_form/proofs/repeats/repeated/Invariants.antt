@@ -1,0 +1,8 @@
+use Rattle.std.proofs.Common.{drop}
+use Rattle.first_breach.specs.Narrowing.{Narrows}
+use Rattle.widget_form.specs.Rows.{Twice}
+use Rattle.widget_form.proofs.Again.{StillTwice}
+use Rattle.widget_form.proofs.repeats.repeated.Given as goal
+
+abbrev pub invariant-each : goal.invariant-each
+invariant-each l = Narrows (Twice l.rule l.sayings) l.fn.best (StillTwice l.rule l.seen.keys (drop l.saying-index l.sayings)) l.least

@@ -1,0 +1,5 @@
+pub mod Words
+pub mod Elements
+pub mod Rows
+pub mod Forms
+pub mod Parts
