@@ -1,0 +1,5 @@
+pub mod Page
+pub mod Html
+pub mod Manifest
+pub mod Versions
+pub mod Same

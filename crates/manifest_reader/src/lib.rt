@@ -1,0 +1,17 @@
+//! Reads manifests whole: their shape (`trace_reader`), the markup of their pages, and the fuel of
+//! their slots (`docs/TRACES.md`, "The manifest").
+#![tactic(auto)]
+
+mod count;
+mod entry;
+mod front;
+mod html;
+mod laws;
+mod manifest;
+mod page;
+#[cfg(test)]
+mod tests;
+
+pub use entry::{Entry, Manifest};
+pub use laws::{one_manifest, versions_agree};
+pub use manifest::read_manifest;
