@@ -1,6 +1,5 @@
 -- A plain tree is added, child by child.
-use Rattle.std.proofs.Common.{◌≡◌, ℕ, zero, suc, ◌+◌, ◌<◌, ◌≤◌, max, List, [], ◌∷◌, ◌++◌, Bool, true, false, refl, sym, ap, ◌∙◌, subst, eqb, arith, cond, eq-eqb, eqb-true, ne_eqb, Some, None, Option, length, length-append, drop, take, get_or, ⊎_elim, ◌||◌, Result, Ok, Err}
-use Rattle.std.specs.Prelude.{MatchResult}
+use Rattle.std.proofs.Common.{◌≡◌, ℕ, suc, ◌+◌, ◌<◌, ◌≤◌, List, [], ◌∷◌, ◌++◌, true, false, refl, sym, ap, ◌∙◌, subst, eqb, arith, cond, eq-eqb, eqb-true, ne_eqb, Some, None, length, length-append, drop, take, get_or, ⊎_elim, ◌||◌}
 use Rattle.std.proofs.lemmas.Bool.{cases_lt, eqb-false}
 use Rattle.std.proofs.lemmas.List.{at_drop_more, at_drop_all, get_or_past}
 use Rattle.code_units.specs.declared.owner.Owner.{Owner}
@@ -17,12 +16,12 @@ use Rattle.page_tree.specs.Adds.{Older, IsAdded}
 use Rattle.page_tree.specs.Moves.{MayLink, IsLinked}
 use Rattle.page_tree.proofs.Lists.{cases, at_push}
 use Rattle.page_tree.proofs.Owners.{same_or}
-use Rattle.page_tree.proofs.Shows.{Shows, none, one_more, shows_one, shows_tree, Renewed}
+use Rattle.page_tree.proofs.Shows.{Shows, none, one_more, shows_one, shows_tree}
 use Rattle.page_tree.proofs.Upward.{none_some, parent_in, level_top}
 use Rattle.page_tree.proofs.Walk.{top_not_in, not_has, without_body}
 use Rattle.page_tree.proofs.Put.{grafted_off}
 use Rattle.page_tree.proofs.Label.{IsLabelled, labelled_renewed, relabelled_off}
-use Rattle.page_tree.proofs.Plains.{unplaced_first, height_both, size_both}
+use Rattle.page_tree.proofs.Plains.{unplaced_first, size_both}
 
 -- nothing is known yet of the next number
 next_parent : (k : List Entry) → (at k (length k)).parent ≡ None

@@ -1,5 +1,5 @@
 -- The index of ids stays exact.
-use Rattle.std.proofs.Common.{◌≡◌, ℕ, zero, suc, ◌<◌, ◌≤◌, ◌+◌, List, [], ◌∷◌, Bool, true, false, refl, ap, sym, ◌∙◌, eqb, not, cond, length, arith, eqb-true, ◌||◌, ◌&&◌, get_or, set, take, eq-eqb, ne_eqb, subst, ◌≢◌, Option, Some, None, ⊎_elim, Result, Ok, Err}
+use Rattle.std.proofs.Common.{◌≡◌, ℕ, zero, suc, ◌<◌, ◌≤◌, ◌+◌, List, [], ◌∷◌, Bool, true, false, refl, ap, sym, ◌∙◌, eqb, not, cond, length, arith, eqb-true, ◌||◌, ◌&&◌, set, take, eq-eqb, ne_eqb, subst, ◌≢◌, Option, Some, None, ⊎_elim, Result, Ok, Err}
 use Rattle.std.specs.Prelude.{codes, is_err, MatchResult}
 use Rattle.std.specs.Option.{option_eq}
 use Rattle.std.specs.Str.{bytes_eq}

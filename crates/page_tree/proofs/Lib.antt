@@ -21,3 +21,4 @@ pub mod Adds
 pub mod Counts
 pub mod Takes
 pub mod Indexing
+pub mod Trials

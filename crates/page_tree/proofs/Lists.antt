@@ -1,9 +1,9 @@
 -- Lists of numbers and of nodes.
-use Rattle.std.proofs.Common.{◌≡◌, ℕ, zero, suc, ◌<◌, ◌≤◌, ◌+◌, List, [], ◌∷◌, ◌++◌, Bool, true, false, refl, ap, sym, ◌∙◌, eqb, not, cond, length, arith, eqb-true, ◌||◌, set, get_or, take, eq-eqb, ne_eqb, subst, Result, Ok, Err, Option, inl, inr, ◌⊎◌, ⊎_elim}
+use Rattle.std.proofs.Common.{◌≡◌, ℕ, zero, suc, ◌<◌, ◌≤◌, ◌+◌, List, [], ◌∷◌, ◌++◌, Bool, true, false, refl, ap, sym, ◌∙◌, eqb, not, cond, length, arith, eqb-true, ◌||◌, set, get_or, take, eq-eqb, ne_eqb, subst, Result, Ok, Err, Option, Some, None, inl, inr, ◌⊎◌, ⊎_elim}
 use Rattle.std.specs.List.{filter}
 use Rattle.std.specs.List.Retain.{IsFiltered}
 use Rattle.std.proofs.lemmas.List.{map-set, get_or-set_same, get_or-set_other, set-get_or, map-append}
-use Rattle.std.specs.Prelude.{OnOk, IfOk, MatchResult, insert}
+use Rattle.std.specs.Prelude.{OnOk, IfOk, MatchResult, insert, is_some}
 use Rattle.page_tree.specs.Trees.{is_number}
 use Rattle.std.proofs.lemmas.Fn.{filter_same}
 use Rattle.std.proofs.lemmas.Bool.{eqb-false, and_parts, and_from, cases_lt, or_cases}
@@ -79,6 +79,14 @@ place_found s (x ∷ xs) zero le none e n = ⊎_elim (λ h. absurd (omega (arith
 place_found s (x ∷ xs) (suc i) le none e n =
     ap (λ b. cond b (n ∷ x ∷ xs) (x ∷ before s n xs)) (none 0 (omega arith))
     ∙ ap (λ l. x ∷ l) (place_found s xs i (omega (arith, le)) (λ j lt. none (suc j) (omega (arith, lt))) (⊎_elim (λ h. inl (omega (arith, h))) (λ h. inr h) e) n)
+
+-- no number is none
+pub no_number : (s : Option ℕ) → is_some s ≡ false → (m : ℕ) → is_number m s ≡ false
+no_number None h m = refl
+no_number (Some n) h m = cc
+
+pub place_end : (xs : List ℕ) (s : Option ℕ) → is_some s ≡ false → (n : ℕ) → before s n xs ≡ insert xs (length xs) n
+place_end xs s h n = place_found s xs (length xs) (omega arith) (λ j lt. no_number s h (get_or xs j 0)) (inl (omega arith)) n
 
 -- no number twice
 pub distinct_minus : (n : ℕ) (xs : List ℕ) → distinct xs ≡ true → distinct (minus n xs) ≡ true

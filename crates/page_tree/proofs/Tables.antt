@@ -1,7 +1,5 @@
 -- A table of lists by ids, one of them written.
-use Rattle.std.proofs.Common.{◌≡◌, ℕ, zero, suc, ◌<◌, ◌≤◌, ◌+◌, List, [], ◌∷◌, ◌++◌, Bool, true, false, refl, ap, sym, ◌∙◌, eqb, not, cond, length, arith, eqb-true, ◌||◌, ◌&&◌, get_or, set, eq-eqb, ne_eqb, subst, Option, Some, None, Result, Ok, Err, is_some, slice_get}
-use Rattle.std.specs.Prelude.{OnOk, slice_index_or}
-use Rattle.std.specs.Option.{option_eq}
+use Rattle.std.proofs.Common.{◌≡◌, ℕ, zero, suc, ◌<◌, ◌≤◌, List, [], ◌∷◌, ◌++◌, Bool, true, false, refl, ap, sym, ◌∙◌, eqb, not, cond, length, arith, eqb-true, ◌||◌, ◌&&◌, get_or, set, eq-eqb, ne_eqb, subst, Some, None, slice_get}
 use Rattle.std.specs.Str.{bytes_eq}
 use Rattle.std.specs.HashMap.{HashMap, get_by, IsEmpty}
 use Rattle.std.specs.Map.{lookup}
@@ -10,7 +8,7 @@ use Rattle.std.specs.declared.alloc.Global.{Global}
 use Rattle.std.proofs.lemmas.Option.{slice_get-get_or}
 use Rattle.std.proofs.lemmas.Slice.Eq.{bytes_eq-Decides}
 use Rattle.page_tree.specs.Entries.{listed}
-use Rattle.page_tree.specs.Ids.{rises, is_under, numbers_of, numbers_at, room_under, room_at_id, numbers_in, room_left}
+use Rattle.page_tree.specs.Ids.{rises, is_under, numbers_of, numbers_at, room_under, room_at_id, numbers_in}
 use Rattle.page_tree.proofs.Lists.{cases}
 
 or_false : (b : Bool) → b ≡ (b || false)

@@ -1,5 +1,5 @@
 -- A tree is added.
-use Rattle.std.specs.Prelude.{◌≡◌, ℕ, ◌+◌, ◌<◌, ◌≤◌, List, length, Option, None}
+use Rattle.std.specs.Prelude.{◌≡◌, ℕ, ◌+◌, ◌<◌, ◌≤◌, List, length, None}
 use Rattle.code_units.specs.declared.owner.Owner.{Owner}
 use Rattle.plain_tree.specs.Trees.{PlainTrees, size}
 use Rattle.page_tree.specs.Entries.{Entry, at, tree}

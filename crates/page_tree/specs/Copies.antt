@@ -1,5 +1,5 @@
 -- Trees as plain trees, and plain trees with numbers.
-use Rattle.std.specs.Prelude.{ℕ, ◌+◌, List, Bool, not, ◌||◌, codes}
+use Rattle.std.specs.Prelude.{ℕ, ◌+◌, Bool, not, ◌||◌, codes}
 use Rattle.std.specs.List.{filter}
 use Rattle.std.specs.Str.{bytes_eq}
 use Rattle.plain_tree.specs.Trees.{Attribute, Label, TextOf, ElementOf, Trees, End, Node, PlainTrees, size}

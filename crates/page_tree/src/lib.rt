@@ -11,6 +11,8 @@ mod links;
 mod page;
 mod rows;
 mod slots;
+#[cfg(test)]
+mod tests;
 
 pub use fault::PageFault;
 pub use page::{NodeId, Page};

@@ -92,6 +92,9 @@ fn place_of(list: &[u32], number: Option<u32>) -> usize
     ensures found { result < length list.now → is_number (slice_index list.now result) number ≡ true }
     ensures first { (j : ℕ) → j < result → is_number (slice_index list.now j) number ≡ false }
 {
+    if number.is_none() {
+        return list.len();
+    }
     let mut place = 0;
     'each: while place < list.len() && !is_number(list[place], number) {
         place += 1;

@@ -1,4 +1,3 @@
-use Rattle.std.proofs.Common.{arith}
 use Rattle.plain_tree.specs.Plains.{unplaced}
 use Rattle.page_tree.specs.Arenas.{nodes_in}
 use Rattle.page_tree.proofs.Indexing.{owners_added, index_older, index_back, when_refused}

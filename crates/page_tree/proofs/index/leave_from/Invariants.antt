@@ -1,4 +1,4 @@
-use Rattle.std.proofs.Common.{◌≡◌, ◌≤◌, take, length}
+use Rattle.std.proofs.Common.{◌≤◌, take, length}
 use Rattle.page_tree.specs.Arenas.{nodes_in}
 use Rattle.page_tree.specs.Index.{IsIndex}
 use Rattle.page_tree.proofs.index.leave_from.Given as goal

@@ -4,7 +4,7 @@ use Rattle.plain_tree.specs.Plains.{unplaced, unplaced_all}
 use Rattle.page_tree.specs.Arenas.{nodes_in}
 use Rattle.page_tree.proofs.Lists.{ok_equal}
 use Rattle.page_tree.proofs.Walk.{child_listed, child_in, child_lower}
-use Rattle.page_tree.proofs.Plains.{copied_at, copied_step, copied_done, no_plains}
+use Rattle.page_tree.proofs.Plains.{copied_at, copied_step, copied_done}
 use Rattle.page_tree.proofs.arena.Arena.+plain_of.Goals as goal
 
 pub plain_of-requires : goal.plain_of-requires

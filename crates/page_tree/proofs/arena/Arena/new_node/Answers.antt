@@ -1,4 +1,4 @@
-use Rattle.std.proofs.Common.{arith, sym, subst, ◌∙◌}
+use Rattle.std.proofs.Common.{arith, sym, subst}
 use Rattle.page_tree.specs.Entries.{IsSound}
 use Rattle.page_tree.specs.Arenas.{nodes_in}
 use Rattle.page_tree.proofs.Lists.{entries_long, match_either}

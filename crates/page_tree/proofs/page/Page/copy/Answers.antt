@@ -1,11 +1,5 @@
-use Rattle.std.proofs.Common.{sym, ◌∙◌, ap, arith}
-use Rattle.code_units.specs.declared.owner.Owner.TheVariants as owner
-use Rattle.plain_tree.specs.Trees.{height}
-use Rattle.plain_tree.specs.Plains.{unplaced}
-use Rattle.page_tree.specs.Owners.{is_owner}
-use Rattle.page_tree.specs.Entries.{tree, body, at}
 use Rattle.page_tree.specs.Pages.{nodes}
-use Rattle.page_tree.proofs.Takes.{height_copied, copy_refused, copy_added, copy_allowed, no_host, copy_low}
+use Rattle.page_tree.proofs.Takes.{copy_refused, copy_added, copy_allowed, copy_low}
 use Rattle.page_tree.proofs.page.Page.copy.Goals as goal
 
 pub returns-in-Ok-clause-allowed : goal.returns-in-Ok-clause-allowed
