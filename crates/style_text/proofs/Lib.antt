@@ -1,7 +1,9 @@
 pub mod Complete
 pub mod Cuts
 pub mod Exact
+pub mod Marks
 pub mod Names
+pub mod PrintedForm
 pub mod Printing
 pub mod Reading
 pub mod Sound

@@ -25,3 +25,12 @@ print_more (p ∷ ps) (suc i) d lt =
     let more : take (suc i) ps ≡ take i ps ++ get_or ps i d ∷ [] = subst (λ n. take n ps ≡ take i ps ++ get_or ps i d ∷ []) (add-one i) (take_more ps i d (omega (arith, lt))) in
     let later : (suc i == 0) ≡ false = grind (arith, nat_tests) in
     rw (add-one, later) (ap (λ l. print_style (p ∷ l)) more ∙ print_next p (take i ps) (get_or ps i d))
+
+pub nonzero : (n : ℕ) → (suc n == 0) ≡ false
+nonzero n = grind (arith, nat_tests)
+
+-- one more pair is printed
+pub print_last : (ps : List Pair) (end : Pair) → print_style (ps ++ end ∷ []) ≡ print_style ps ++ separated (length ps == 0) end
+unfolding print_style
+print_last [] end = refl
+print_last (p ∷ ps) end = subst (λ b. print_style (p ∷ (ps ++ end ∷ [])) ≡ print_style (p ∷ ps) ++ separated b end) (sym (nonzero (length ps))) (print_next p ps end)

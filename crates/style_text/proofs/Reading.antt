@@ -89,7 +89,7 @@ module _ (us : List ℕ) where
   -- what is refused later is refused
   pub refused_later : (st next : State) (at then_at : ℕ) (e : StyleFault) → goes us st at ≡ goes us next then_at → Refuses us next then_at e → Refuses us st at e
   refused_later st next at then_at (fault.BadStyle place) same h = (h.0, same ∙ h.1)
-  refused_later st next at then_at fault.Memory same h = tt
+  refused_later st next at then_at fault.Memory same h = h
 
   both_ways : (b : Bool) → b ≡ true → b ≡ false → ⊥
   both_ways b e f = cc
@@ -317,6 +317,9 @@ module _ (us : List ℕ) where
         refused_later (Start ps n) (After all) at next (fault.BadStyle next) (value.goes_on ps n ∙ after_blanks all blanks.blanks) (at_unit (After all) next lt (rw (blank, other) refl))
 
   -- ## A style
+
+  pub pair_is : (ps qs : List Pair) (n v a b : List ℕ) → qs ≡ ps ++ (n, v) ∷ [] → n ≡ a → v ≡ b → qs ≡ ps ++ (a, b) ∷ []
+  pair_is ps qs n v a b e en ev = cc
 
   -- a value that is refused behind a property
   pub refused_value : (ps qs : List Pair) (at end start : ℕ) (e : StyleFault) → qs ≡ ps → IsProperty us qs at end start → ((pairs : List Pair) (property : List ℕ) → Refuses us (Start pairs property) start e) → goes us begin 0 ≡ goes us (Next ps) at → Refuses us begin 0 e

@@ -26,7 +26,7 @@ pub record IsBlanksEnd (us : List ℕ) (at next : ℕ) : Type 0 where
 -- the machine, from a state at `at`, refuses what stands at the place of the fault
 abbrev pub Refuses : List ℕ → State → ℕ → StyleFault → Type 0
 Refuses us st at (fault.BadStyle place) = (place ≤ length us) × (goes us st at ≡ Refused (length (drop place us)))
-Refuses us st at fault.Memory = Unit {0}
+Refuses us st at fault.Memory = ⊥
 
 -- a property stands from `at` to `end`, and its value may begin at `start`
 pub record IsProperty (us : List ℕ) (pairs : List Pair) (at end start : ℕ) : Type 0 where

@@ -1,6 +1,7 @@
 //! Laws on styles.
 ghost use Rattle.std.specs.Prelude.{◌≡◌, ℕ, true, List};
 ghost use Rattle.std.specs.List.{list_all};
+ghost use Rattle.style_text.specs.Form.{style_form};
 ghost use Rattle.style_text.specs.Styles.{Pair, StyleSpells, BadStylePlace, is_once, is_pair, print_style};
 
 /// A text has one list of pairs at most, or one place at which it is refused.
@@ -19,4 +20,10 @@ pub fn read_is_spelled()
 /// pairs.
 pub fn printed_is_read()
     ensures { (pairs : List Pair) → list_all is_pair pairs ≡ true → is_once pairs ≡ true → StyleSpells (print_style pairs) pairs }
+{}
+
+/// A style has its pairs in their one spelling as its printed form, and what is no style itself.
+pub fn form_of_style()
+    ensures spelled { (us : List ℕ) (pairs : List Pair) → StyleSpells us pairs → style_form us ≡ print_style pairs }
+    ensures other { (us : List ℕ) → ((pairs : List Pair) → StyleSpells us pairs → ⊥) → style_form us ≡ us }
 {}

@@ -3,6 +3,7 @@
 //! `specs/Styles.antt` says which units spell which pairs. The properties are a fixed list, a value is short and plain, and no value leads out of the page.
 #![tactic(auto)]
 
+mod form;
 mod laws;
 mod print;
 mod property;
@@ -59,7 +60,8 @@ impl<T: Drop> From<AllocFailed<T>> for StyleFault {
     }
 }
 
-pub use laws::{one_answer, printed_is_read, read_is_spelled};
+pub use form::prints_as;
+pub use laws::{form_of_style, one_answer, printed_is_read, read_is_spelled};
 pub use print::print_style;
 pub use property::property_listed;
 pub use read::read_style;

@@ -1,11 +1,12 @@
 //! The properties of styles.
-ghost use Rattle.std.specs.Prelude.{◌≡◌, ◌&&◌, not, is_some, IfSome};
+ghost use Rattle.std.specs.Prelude.{◌≡◌, ℕ, ◌&&◌, ◌||◌, ◌++◌, Bool, List, [], ◌∷◌, not, is_some, IfSome, length, map};
 ghost use Rattle.std.specs.List.{list_any};
 ghost use Rattle.std.specs.Str.{bytes_eq};
-ghost use Rattle.style_text.specs.Styles.{is_listed, is_used};
+ghost use Rattle.style_text.specs.Styles.{Pair, is_listed};
 ghost use Rattle.style_text.specs.Machine.{begins_with, fits, is_free};
+ghost use Rattle.style_text.specs.Used.{marks_of};
 
-use code_units::{Text, is_word};
+use code_units::Text;
 
 static PROPERTIES: [&[u8]; 48] = [
     b"background-color",
@@ -109,45 +110,73 @@ pub fn property_listed(name: &Text) -> bool
     listed(name.units()).is_some()
 }
 
-// Whether some pair has the property.
-#[tactic(auto, unfolding(crate::specs::Styles::is_used))]
-fn is_used(pairs: &[(Text, Text)], property: &[u8]) -> bool
-    ensures { result ≡ is_used pairs.now property.now }
+/// Which properties of the table stand before.
+pub type Used = [bool; 48];
+
+/// None of them.
+#[tactic(auto, unfolding(crate::specs::Used::marks_of, crate::specs::Styles::is_used, crate::specs::Styles::properties))]
+pub fn none_used() -> Used
+    ensures { result ≡ marks_of [] }
 {
-    'pairs: for pair in pairs {
-        if is_word(&pair.0, property) {
+    [false; 48]
+}
+
+// Whether the units are a word of a table that has no mark.
+fn free_in(table: &[&[u8]], marks: &[bool], units: &[u16]) -> bool
+    requires { length marks.now ≡ length table.now }
+    ensures { (used : List ℕ → Bool) → marks.now ≡ map (λ word. used word.now) table.now → result ≡ list_any (λ word. bytes_eq units.now word.now && not (used word.now)) table.now }
+{
+    'words: for (i, word) in table.iter().enumerate() {
+        if spells(word, units) && !marks[i] {
             return true;
         }
     }
     false
 }
 
-/// Whether the units are a listed property that no pair has.
-pub fn is_free(pairs: &[(Text, Text)], units: &[u16]) -> bool
-    ensures { result ≡ is_free pairs.now units.now }
+/// Whether the units are a listed property that does not stand before.
+#[tactic(auto, unfolding(crate::specs::Used::marks_of, crate::specs::Styles::properties))]
+pub fn is_free(used: &Used, units: &[u16]) -> bool
+    ensures { (pairs : List Pair) → used.now ≡ marks_of pairs → result ≡ is_free pairs units.now }
 {
-    match listed(units) {
-        Some(property) => !is_used(pairs, property),
-        None => false,
-    }
+    free_in(&PROPERTIES, used, units)
 }
 
-// Whether a property of a table that no pair has begins with the units.
-fn fits_in(table: &[&[u8]], pairs: &[(Text, Text)], front: &[u16]) -> bool
-    ensures { result ≡ list_any (λ word. begins_with word.now front.now && not (is_used pairs.now word.now)) table.now }
+// Whether a word of a table that has no mark begins with the units.
+fn fits_in(table: &[&[u8]], marks: &[bool], front: &[u16]) -> bool
+    requires { length marks.now ≡ length table.now }
+    ensures { (used : List ℕ → Bool) → marks.now ≡ map (λ word. used word.now) table.now → result ≡ list_any (λ word. begins_with word.now front.now && not (used word.now)) table.now }
 {
-    for word in table {
-        if begins_with(word, front) && !is_used(pairs, word) {
+    'words: for (i, word) in table.iter().enumerate() {
+        if begins_with(word, front) && !marks[i] {
             return true;
         }
     }
     false
 }
 
-/// Whether some property that no pair has begins with the units.
-#[tactic(auto, unfolding(crate::specs::Machine::fits, crate::specs::Styles::properties))]
-pub fn fits(pairs: &[(Text, Text)], front: &[u16]) -> bool
-    ensures { result ≡ fits pairs.now front.now }
+/// Whether some property that does not stand before begins with the units.
+#[tactic(auto, unfolding(crate::specs::Machine::fits, crate::specs::Used::marks_of, crate::specs::Styles::properties))]
+pub fn fits(used: &Used, front: &[u16]) -> bool
+    ensures { (pairs : List Pair) → used.now ≡ marks_of pairs → result ≡ fits pairs front.now }
 {
-    fits_in(&PROPERTIES, pairs, front)
+    fits_in(&PROPERTIES, used, front)
+}
+
+// Marks the units where they stand in a table.
+fn mark_in(table: &[&[u8]], marks: &mut [bool], units: &[u16])
+    requires { length marks.old ≡ length table.now }
+    ensures { (used : List ℕ → Bool) → marks.old ≡ map (λ word. used word.now) table.now → marks.new ≡ map (λ word. used word.now || bytes_eq units.now word.now) table.now }
+{
+    'words: for (i, word) in table.iter().enumerate() {
+        marks[i] |= spells(word, units);
+    }
+}
+
+/// The property stands in one more pair.
+#[tactic(auto, unfolding(crate::specs::Used::marks_of, crate::specs::Styles::properties))]
+pub fn mark(used: &mut Used, units: &[u16])
+    ensures { (pairs : List Pair) (value : List ℕ) → used.old ≡ marks_of pairs → used.new ≡ marks_of (pairs ++ (units.now, value) ∷ []) }
+{
+    mark_in(&PROPERTIES, used, units);
 }

@@ -3,10 +3,11 @@ ghost use Rattle.std.specs.Prelude.{◌≡◌, ℕ, ◌+◌, ◌<◌, ◌≤◌,
 ghost use Rattle.style_text.specs.declared.StyleFault.TheVariants as fault;
 ghost use Rattle.style_text.specs.Styles.{Pair, is_blank, StyleSpells, IsStyleFault};
 ghost use Rattle.style_text.specs.Machine.{Next, Name, Start, goes, fits};
+ghost use Rattle.style_text.specs.Used.{marks_of};
 ghost use Rattle.style_text.specs.Reads.{blank_first, is_first, IsBlanksEnd, Refuses, IsProperty, IsValueAt, IsWhole};
 
 use super::StyleFault;
-use crate::property::{fits, is_free};
+use crate::property::{Used, fits, is_free, mark, none_used};
 use crate::value::{SPACE, goes_on};
 use code_units::{Memory, Text};
 use std::alloc::Global;
@@ -29,8 +30,8 @@ fn stands(units: &[u16], at: usize, unit: u16) -> bool
     at < units.len() && units[at] == unit
 }
 
-// The place behind the blanks at a place.
-fn blanks_end(units: &[u16], at: usize) -> usize
+/// The place behind the blanks at a place.
+pub fn blanks_end(units: &[u16], at: usize) -> usize
     requires { at ≤ length units.now }
     ensures { IsBlanksEnd units.now at result }
 {
@@ -45,16 +46,16 @@ fn blanks_end(units: &[u16], at: usize) -> usize
 }
 
 // The place at which no property that no pair has goes on.
-fn property_end(units: &[u16], at: usize, pairs: &[(Text, Text)]) -> usize
+fn property_end(units: &[u16], at: usize, used: &Used) -> usize
     requires { at ≤ length units.now }
     ensures order { at ≤ result }
     ensures inside { result ≤ length units.now }
-    ensures read { goes units.now (Name pairs.now []) at ≡ goes units.now (Name pairs.now (slice_range units.now at result)) result }
-    ensures all { result < length units.now → fits pairs.now (slice_range units.now at (result + 1)) ≡ false }
+    ensures read { (pairs : List Pair) → used.now ≡ marks_of pairs → goes units.now (Name pairs []) at ≡ goes units.now (Name pairs (slice_range units.now at result)) result }
+    ensures all { (pairs : List Pair) → used.now ≡ marks_of pairs → result < length units.now → fits pairs (slice_range units.now at (result + 1)) ≡ false }
 {
     let mut end = at;
     'property: while end < units.len() {
-        if !fits(pairs, &units[at..end + 1]) {
+        if !fits(used, &units[at..end + 1]) {
             return end;
         }
         end += 1;
@@ -62,20 +63,16 @@ fn property_end(units: &[u16], at: usize, pairs: &[(Text, Text)]) -> usize
     end
 }
 
-// The end of the property at a place, and the place of its value.
-fn property_at(
-    units: &[u16],
-    at: usize,
-    pairs: &[(Text, Text)],
-) -> Result<(usize, usize), StyleFault>
+/// The end of the property at a place, and the place of its value.
+pub fn property_at(units: &[u16], at: usize, used: &Used) -> Result<(usize, usize), StyleFault>
     requires inside { at < length units.now }
     requires first { blank_first (drop at units.now) ≡ false }
-    ensures { MatchResult result
-        (λ r. IsProperty units.now pairs.now at r.0 r.1)
-        (λ e. Refuses units.now (Next pairs.now) at e) }
+    ensures { (pairs : List Pair) → used.now ≡ marks_of pairs → MatchResult result
+        (λ r. IsProperty units.now pairs at r.0 r.1)
+        (λ e. Refuses units.now (Next pairs) at e) }
 {
-    let end = property_end(units, at, pairs);
-    if !is_free(pairs, &units[at..end]) {
+    let end = property_end(units, at, used);
+    if !is_free(used, &units[at..end]) {
         return Err(StyleFault::BadStyle { at: end });
     }
     let colon = blanks_end(units, end);
@@ -112,8 +109,8 @@ fn value_end(units: &[u16], at: usize) -> Option<usize>
     Some(end)
 }
 
-// The end of the value at a place, and the place of the next pair or of the end.
-fn value_at(units: &[u16], at: usize) -> Result<(usize, usize), StyleFault>
+/// The end of the value at a place, and the place of the next pair or of the end.
+pub fn value_at(units: &[u16], at: usize) -> Result<(usize, usize), StyleFault>
     requires inside { at ≤ length units.now }
     requires first { blank_first (drop at units.now) ≡ false }
     ensures { MatchResult result
@@ -149,13 +146,15 @@ fn read_units(alloc: Global, units: &[u16]) -> Result<Vec<(Text, Text)>, StyleFa
     ensures place { IfErr result (λ e. IsStyleFault units.now e) }
 {
     let mut pairs = Vec::new(alloc);
+    let mut used = none_used();
     let mut at = blanks_end(units, 0);
     'pairs: while at < units.len() {
-        let (end, start) = property_at(units, at, &pairs)?;
+        let (end, start) = property_at(units, at, &used)?;
         let (stop, next) = value_at(units, start)?;
         let property = text_of(alloc, units, at, end)?;
         let value = text_of(alloc, units, start, stop)?;
         pairs.push((property, value))?;
+        mark(&mut used, &units[at..end]);
         at = next;
     }
     Ok(pairs)

@@ -1,9 +1,8 @@
-use Rattle.std.proofs.Common.{◌≡◌, drop, ◌&&◌, not}
+use Rattle.std.proofs.Common.{◌≡◌, ℕ, List, Bool, drop, map, ◌&&◌, not}
 use Rattle.std.specs.List.{list_any}
-use Rattle.style_text.specs.Styles.{is_used}
 use Rattle.style_text.specs.Machine.{begins_with}
 use Rattle.style_text.proofs.property.fits_in.Given as goal
 
-abbrev pub invariant-loop-word : goal.invariant-loop-word
-invariant-loop-word l =
-    list_any (λ row. begins_with row.now l.front && not (is_used l.pairs row.now)) l.table ≡ list_any (λ row. begins_with row.now l.front && not (is_used l.pairs row.now)) (drop l.word-index l.table)
+-- what is still to come decides
+abbrev pub invariant-words : goal.invariant-words
+invariant-words l = (used : List ℕ → Bool) → l.marks ≡ map (λ row. used row.now) l.table → list_any (λ row. begins_with row.now l.front && not (used row.now)) l.table ≡ list_any (λ row. begins_with row.now l.front && not (used row.now)) (drop l.i l.table)

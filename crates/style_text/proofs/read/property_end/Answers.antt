@@ -1,4 +1,4 @@
-use Rattle.std.proofs.Common.{sym, arith}
+use Rattle.std.proofs.Common.{◌∙◌, sym, arith}
 use Rattle.style_text.proofs.Reading.{name_more}
 use Rattle.style_text.proofs.read.property_end.Goals as goal
 
@@ -7,5 +7,5 @@ property-preserved c =
     record {
       order = omega (arith, c.property.invariant.order);
       inside = omega arith;
-      read = name_more _ _ _ _ c.property.invariant.order c.property-test.true (sym c.if-not-fits.ensures) c.property.invariant.read;
+      read = λ pairs h. name_more _ _ _ _ c.property.invariant.order c.property-test.true (sym (c.fits.ensures pairs h) ∙ c.if-not-fits.false) (c.property.invariant.read pairs h);
     }

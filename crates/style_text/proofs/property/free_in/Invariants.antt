@@ -1,0 +1,8 @@
+use Rattle.std.proofs.Common.{◌≡◌, ℕ, List, Bool, drop, map, ◌&&◌, not}
+use Rattle.std.specs.List.{list_any}
+use Rattle.std.specs.Str.{bytes_eq}
+use Rattle.style_text.proofs.property.free_in.Given as goal
+
+-- what is still to come decides
+abbrev pub invariant-words : goal.invariant-words
+invariant-words l = (used : List ℕ → Bool) → l.marks ≡ map (λ row. used row.now) l.table → list_any (λ row. bytes_eq l.units row.now && not (used row.now)) l.table ≡ list_any (λ row. bytes_eq l.units row.now && not (used row.now)) (drop l.i l.table)
