@@ -1,14 +1,20 @@
-//! Queries on the nodes of a widget: how they are written.
+//! Queries on the nodes of a widget: how they are written, and what they find.
 //!
-//! `specs/Queries.antt` says which units spell which query. A query is a list of steps, each a hunter that finds nodes and filters that keep some of them.
+//! `specs/Queries.antt` says which units spell which query, and `specs/Finds.antt` what it finds. A query is a list of steps, each a hunter that finds nodes and filters that keep some of them.
 #![tactic(auto)]
 
+mod finder;
+mod hunt;
 mod laws;
+mod marks;
+mod nodes;
+mod order;
 mod parts;
 mod query;
 mod read;
 #[cfg(test)]
 mod tests;
+mod wanted;
 
 use code_units::Memory;
 use std::alloc::{AllocError, AllocFailed};
@@ -59,6 +65,8 @@ impl<T: Drop> From<AllocFailed<T>> for QueryFault {
     }
 }
 
+pub use finder::find;
 pub use laws::one_answer;
+pub use nodes::test;
 pub use query::{Filter, Hunter, ListFilter, Query, QueryStep, StepFilter};
 pub use read::read_query;

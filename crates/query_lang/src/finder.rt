@@ -1,0 +1,181 @@
+//! Finding the nodes of a query.
+ghost use Rattle.std.specs.Prelude.{◌≡◌, ◌==◌, ◌%◌, if◌then◌else◌, ◌<◌, ◌++◌, [], ◌∷◌, true, length, OnOk, IfOk};
+ghost use Rattle.std.specs.List.{filter, flat_map};
+ghost use Rattle.code_units.specs.declared.owner.Owner.{Owner};
+ghost use Rattle.page_tree.specs.Owners.{is_owner};
+ghost use Rattle.page_tree.specs.Pages.{nodes, root};
+ghost use Rattle.query_lang.specs.Nodes.{passes};
+ghost use Rattle.query_lang.specs.Finds.{hunted, in_order, at_places, sifted, filtered, all_filtered, finds, AreOwned};
+ghost use Rattle.query_lang.specs.Walks.{AreNodes};
+
+use crate::hunt::hunt_all;
+use crate::nodes::test;
+use crate::order::in_order;
+use crate::query::{Filter, ListFilter, Query, QueryStep, StepFilter};
+use code_units::{Memory, Owner};
+use page_tree::{NodeId, Page};
+use std::alloc::Global;
+
+// Keeps a node if it passes.
+fn keep_one(
+    page: &Page,
+    focus: Option<NodeId>,
+    by: &Filter,
+    node: NodeId,
+    kept: &mut Vec<NodeId>,
+) -> Result<(), Memory>
+    requires { node < length (nodes page.now) }
+    ensures { OnOk result (kept.new.items ≡ kept.old.items ++ filter (passes (nodes page.now) focus by.now) (node ∷ [])) }
+{
+    if test(page, focus, node, by) {
+        kept.push(node)?;
+    }
+    Ok(())
+}
+
+// The nodes that a filter keeps.
+fn keep(
+    alloc: Global,
+    page: &Page,
+    focus: Option<NodeId>,
+    by: &Filter,
+    list: &[NodeId],
+) -> Result<Vec<NodeId>, Memory>
+    requires { AreNodes page.now list.now }
+    ensures { IfOk result (λ kept. kept.items ≡ filter (passes (nodes page.now) focus by.now) list.now) }
+{
+    let mut kept = Vec::new(alloc);
+    'each: for node in list {
+        keep_one(page, focus, by, *node, &mut kept)?;
+    }
+    Ok(kept)
+}
+
+// Keeps a node if its place has this rest.
+fn place_one(place: usize, rest: usize, node: NodeId, kept: &mut Vec<NodeId>) -> Result<(), Memory>
+    ensures { OnOk result (kept.new.items ≡ kept.old.items ++ (if place % 2 == rest then node ∷ [] else [])) }
+{
+    if place % 2 == rest {
+        kept.push(node)?;
+    }
+    Ok(())
+}
+
+// The nodes at even places, for the rest 0, or at odd ones, for 1.
+fn at_places(alloc: Global, rest: usize, list: &[NodeId]) -> Result<Vec<NodeId>, Memory>
+    ensures { IfOk result (λ kept. kept.items ≡ at_places rest list.now) }
+{
+    let mut kept = Vec::new(alloc);
+    'each: for (i, node) in list.iter().enumerate() {
+        place_one(i, rest, *node, &mut kept)?;
+    }
+    Ok(kept)
+}
+
+// The nodes that a filter on lists keeps.
+fn sift(alloc: Global, filter: ListFilter, mut list: Vec<NodeId>) -> Result<Vec<NodeId>, Memory>
+    ensures { IfOk result (λ kept. kept.items ≡ sifted filter list.items) }
+{
+    match filter {
+        ListFilter::First => {
+            list.truncate(1);
+            Ok(list)
+        }
+        ListFilter::Rest => Ok(list.iter().skip(1).copied().collect(alloc)?),
+        ListFilter::Even => at_places(alloc, 0, &list),
+        ListFilter::Odd => at_places(alloc, 1, &list),
+    }
+}
+
+// The nodes that a filter keeps of the list so far.
+fn filter_one(
+    alloc: Global,
+    page: &Page,
+    focus: Option<NodeId>,
+    filter: &StepFilter,
+    list: Vec<NodeId>,
+) -> Result<Vec<NodeId>, Memory>
+    requires { AreNodes page.now list.items }
+    ensures { IfOk result (λ kept. kept.items ≡ filtered (nodes page.now) focus filter.now list.items) }
+{
+    match filter {
+        StepFilter::Node(by) => keep(alloc, page, focus, by, &list),
+        StepFilter::List(filter) => sift(alloc, *filter, list),
+    }
+}
+
+// The nodes that filters keep, one after the other.
+fn filter_all(
+    alloc: Global,
+    page: &Page,
+    focus: Option<NodeId>,
+    filters: &[StepFilter],
+    list: Vec<NodeId>,
+) -> Result<Vec<NodeId>, Memory>
+    requires { AreNodes page.now list.items }
+    ensures { IfOk result (λ kept. kept.items ≡ all_filtered (nodes page.now) focus filters.now list.items) }
+{
+    let mut kept = list;
+    'each: for filter in filters {
+        kept = filter_one(alloc, page, focus, filter, kept)?;
+    }
+    Ok(kept)
+}
+
+// What a step finds from nodes of an owner.
+fn take_step(
+    alloc: Global,
+    page: &Page,
+    owner: Owner,
+    focus: Option<NodeId>,
+    step: &QueryStep,
+    starts: &[NodeId],
+) -> Result<Vec<NodeId>, Memory>
+    requires owner { is_owner owner ≡ true }
+    requires nodes { AreNodes page.now starts.now }
+    ensures { IfOk result (λ found. found.items ≡ all_filtered (nodes page.now) focus step.now.filters
+        (in_order (nodes page.now) (root page.now owner) owner (flat_map (hunted (nodes page.now) (root page.now owner) step.now.hunter) starts.now))) }
+{
+    let found = hunt_all(alloc, page, page.root_of(owner), &step.hunter, starts)?;
+    let list = in_order(alloc, page, owner, &found)?;
+    filter_all(alloc, page, focus, &step.filters, list)
+}
+
+// What the steps find from nodes of an owner.
+fn take_steps(
+    alloc: Global,
+    page: &Page,
+    owner: Owner,
+    focus: Option<NodeId>,
+    steps: &[QueryStep],
+    starts: &[NodeId],
+) -> Result<Vec<NodeId>, Memory>
+    requires owner { is_owner owner ≡ true }
+    requires nodes { AreNodes page.now starts.now }
+    ensures { IfOk result (λ found. found.items ≡ finds page.now owner focus starts.now steps.now) }
+{
+    let mut list = starts.to_vec(alloc)?;
+    'each: for step in steps {
+        list = take_step(alloc, page, owner, focus, step, &list)?;
+    }
+    Ok(list)
+}
+
+/// What a query finds from nodes of one widget, which has the focus at this node or nowhere: in
+/// document order and without repeats. A widget's document order is that of its root's tree, and
+/// then of its detached trees by the age of their tops.
+pub fn find(
+    alloc: Global,
+    page: &Page,
+    focus: Option<NodeId>,
+    starts: &[NodeId],
+    query: &Query,
+) -> Result<Vec<NodeId>, Memory>
+    requires { AreNodes page.now starts.now }
+    ensures { (o : Owner) → AreOwned page.now o starts.now → IfOk result (λ found. found.items ≡ finds page.now o focus starts.now query.now) }
+{
+    match starts.first() {
+        Some(first) => { take_steps(alloc, page, page.owner(*first), focus, &query.steps, starts) }
+        None => Ok(Vec::new(alloc)),
+    }
+}
