@@ -227,7 +227,7 @@ module _ (s : Cells) (names : List (List ℕ)) (cs : List Raw) {raws : List (ℕ
   closed_after : (new : List (List ℕ)) (after : List Raw) (w : ℕ) (h k : Head) → IsDistinct eqb nodes → HaveCells s.cells nodes → GrewBunch names cs new after (bunch_cell w (length cs + 1)) (hidden_array (map (λ n. unwrap_or (lookup (eqb n) raws) 0) nodes)) h k → AreClosed (cells_of new after)
   closed_after new after w h k distinct have grew = subst AreClosed (sym (grew.done ∙ push_twice (cells_of names cs) one two)) (record {
     host = host_push (cells_of names cs ++ one ∷ []) two (host_push (cells_of names cs) one shape.closed.host);
-    bunches = record { each = by_push (cells_of names cs ++ one ∷ []) two (λ i d. is_bunch d.form ≡ true → IsBunch all d) (by_push (cells_of names cs) one (λ i d. is_bunch d.form ≡ true → IsBunch all d) (λ i d at b. bunch_older (cells_of names cs ++ one ∷ []) two d (bunch_older (cells_of names cs) one d (shape.closed.bunches.each i d at b))) (λ b. new_bunch)) (λ b. absurd (false_true b)) };
+    bunches = record { each = by_push (cells_of names cs ++ one ∷ []) two (λ i d. is_bunch d.form ≡ true → IsBunch all d) (by_push (cells_of names cs) one (λ i d. is_bunch d.form ≡ true → IsBunch all d) (λ i d at b. bunch_older (cells_of names cs ++ one ∷ []) (two ∷ []) d (bunch_older (cells_of names cs) (one ∷ []) d (shape.closed.bunches.each i d at b))) (λ b. new_bunch)) (λ b. absurd (false_true b)) };
   })
     where
       one : PlainCell
@@ -257,7 +257,7 @@ module _ (s : Cells) (names : List (List ℕ)) (cs : List Raw) {raws : List (ℕ
         nodes = nodes;
         pairs = refl;
         hidden = last_at (cells_of names cs ++ one ∷ []) two (length cs + 1) (sym (length-append (cells_of names cs) (one ∷ []) ∙ ap (λ n. n + 1) (length-map cs (plain names))));
-        lead = cells_of_older (cells_of names cs ++ one ∷ []) two refs nodes (cells_of_older (cells_of names cs) one refs nodes lead);
+        lead = cells_of_older (cells_of names cs ++ one ∷ []) (two ∷ []) refs nodes (cells_of_older (cells_of names cs) (one ∷ []) refs nodes lead);
         distinct = distinct;
       }
 
@@ -299,3 +299,11 @@ bunch_ordered names cs kept shape w number lt counted = new_ordered names cs kep
 
     few : links_at (heads cs) bunch_prototype < 100
     few = omega (arith, links_short names cs shape.base.ordered shape.closed.host bunch_prototype (omega arith))
+
+-- one node
+one_distinct : (n : ℕ) → IsDistinct eqb (n ∷ [])
+unfolding IsDistinct
+one_distinct n = (tt, tt)
+
+pub one_node : (cells : List PlainCell) (items : List ℕ) (n i : ℕ) → items ≡ n ∷ [] → raw_place n cells ≡ Some i → IsDistinct eqb items × HaveCells cells items
+one_node cells items n i e at = (subst (IsDistinct eqb) (sym e) (one_distinct n), subst (HaveCells cells) (sym e) (ap (λ (o : Option ℕ). is_some o && true) at))

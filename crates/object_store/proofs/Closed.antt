@@ -10,7 +10,7 @@ use Rattle.object_store.specs.Bunches.{AreBunches, AreCellsOf, IsBunch, hidden_a
 use Rattle.object_store.specs.Host.{AreHost}
 use Rattle.object_store.specs.Numbered.{Raw, plain, cells_of, heads}
 use Rattle.object_store.specs.Shape.{AreClosed, Wrote}
-use Rattle.object_store.proofs.Lists.{none_some, some_same, by_push, get_older, get_within}
+use Rattle.object_store.proofs.Lists.{none_some, some_same, by_push, get_first, get_within}
 use Rattle.object_store.proofs.Hosts.{apart, is_same, changed_apart, host_changed, host_push, writer_widget}
 
 -- nodes at places, where forms stay
@@ -23,17 +23,17 @@ module _ (before after : List PlainCell) where
 
 -- an open cell is written
 module _ (before after : List PlainCell) (i w : ℕ) (c : PlainCell) (at : slice_get before i ≡ Some c) (writer : writer_in c.owner c.form ≡ Some w) (others : (k : ℕ) → (i ≡ k → ⊥) → slice_get after k ≡ slice_get before k) (forms : (k : ℕ) → form_at after k ≡ form_at before k) where
-  form_is : (cells : List PlainCell) (k : ℕ) (d : PlainCell) → slice_get cells k ≡ Some d → form_at cells k ≡ Some d.form
+  pub form_is : (cells : List PlainCell) (k : ℕ) (d : PlainCell) → slice_get cells k ≡ Some d → form_at cells k ≡ Some d.form
   form_is cells k d e = ap (option_and_then (λ (x : PlainCell). Some x.form)) e
 
-  no_writer : (d : PlainCell) → writer_in d.owner d.form ≡ None → slice_get before i ≡ Some d → ⊥
+  pub no_writer : (d : PlainCell) → writer_in d.owner d.form ≡ None → slice_get before i ≡ Some d → ⊥
   no_writer d e g = none_some (sym e ∙ ap (λ (x : PlainCell). writer_in x.owner x.form) (some_same d c (sym g ∙ at)) ∙ writer)
 
   bunch_closed : (o : Owner) (f : Form) → is_bunch f ≡ true → writer_in o f ≡ None
   bunch_closed o f e = ap (λ b. if b then None else widget_of o) e
 
-  stays : (d : PlainCell) → IsBunch before d → IsBunch after d
-  stays d h = record {
+  abbrev pub bunch_stays : (d : PlainCell) → IsBunch before d → IsBunch after d
+  bunch_stays d h = record {
     array = h.array;
     refs = h.refs;
     nodes = h.nodes;
@@ -50,7 +50,7 @@ module _ (before after : List PlainCell) (i w : ℕ) (c : PlainCell) (at : slice
   bunches_changed h = record { each = λ k d g bunch. by k d g bunch (eqb i k) refl }
     where
       by : (k : ℕ) (d : PlainCell) → slice_get after k ≡ Some d → is_bunch d.form ≡ true → (b : Bool) → eqb i k ≡ b → IsBunch after d
-      by k d g bunch false e = stays d (h.each k d (sym (others k (apart i k e)) ∙ g) bunch)
+      by k d g bunch false e = bunch_stays d (h.each k d (sym (others k (apart i k e)) ∙ g) bunch)
       by k d g bunch true e =
           let same : d.form ≡ c.form = some_form d.form c.form (sym (form_is after k d g) ∙ forms k ∙ ap (form_at before) (sym (is_same i k e)) ∙ form_is before i c at) in
           absurd (none_some (sym (bunch_closed c.owner c.form (ap is_bunch (sym same) ∙ bunch)) ∙ writer))
@@ -73,10 +73,10 @@ closed_wrote old new cs after i w c f h at writer wrote = record {
     here : slice_get (cells_of old cs) i ≡ Some (plain old c)
     here = slice_get-map (plain old) cs i ∙ ap (option_map (plain old)) at
 
--- one more cell
-module _ (cells : List PlainCell) (x : PlainCell) where
-  form_older : (k : ℕ) → k < length cells → form_at (cells ++ x ∷ []) k ≡ form_at cells k
-  form_older k lt = ap (option_and_then (λ (d : PlainCell). Some d.form)) (get_older cells x k lt)
+-- more cells
+module _ (cells more : List PlainCell) where
+  form_older : (k : ℕ) → k < length cells → form_at (cells ++ more) k ≡ form_at cells k
+  form_older k lt = ap (option_and_then (λ (d : PlainCell). Some d.form)) (get_first cells more k lt)
 
   node_within : (k n : ℕ) → node_at cells k ≡ Some n → k < length cells
   node_within k n e = by (slice_get cells k) refl e
@@ -85,26 +85,28 @@ module _ (cells : List PlainCell) (x : PlainCell) where
       by None g e = absurd (none_some e)
       by (Some d) g e = get_within cells k d g
 
-  pub cells_of_older : (refs nodes : List ℕ) → AreCellsOf cells refs nodes → AreCellsOf (cells ++ x ∷ []) refs nodes
+  pub cells_of_older : (refs nodes : List ℕ) → AreCellsOf cells refs nodes → AreCellsOf (cells ++ more) refs nodes
   cells_of_older [] [] h = tt
   cells_of_older [] (n ∷ nodes) h = h
   cells_of_older (r ∷ refs) [] h = h
   cells_of_older (r ∷ refs) (n ∷ nodes) h = (ap (option_and_then node_in) (form_older r (node_within r n h.0)) ∙ h.0, cells_of_older refs nodes h.1)
 
-  pub bunch_older : (d : PlainCell) → IsBunch cells d → IsBunch (cells ++ x ∷ []) d
+  abbrev pub bunch_older : (d : PlainCell) → IsBunch cells d → IsBunch (cells ++ more) d
   bunch_older d h = record {
     array = h.array;
     refs = h.refs;
     nodes = h.nodes;
     pairs = h.pairs;
-    hidden = get_older cells x h.array (get_within cells h.array (hidden_array h.refs) h.hidden) ∙ h.hidden;
+    hidden = get_first cells more h.array (get_within cells h.array (hidden_array h.refs) h.hidden) ∙ h.hidden;
     lead = cells_of_older h.refs h.nodes h.lead;
     distinct = h.distinct;
   }
 
+-- one more cell
+module _ (cells : List PlainCell) (x : PlainCell) where
   pub bunches_push : AreBunches cells → is_bunch x.form ≡ false → AreBunches (cells ++ x ∷ [])
   bunches_push h none = record {
-    each = by_push cells x (λ i d. is_bunch d.form ≡ true → IsBunch (cells ++ x ∷ []) d) (λ i d g bunch. bunch_older d (h.each i d g bunch)) (λ bunch. absurd (true≢false (sym bunch ∙ none)));
+    each = by_push cells x (λ i d. is_bunch d.form ≡ true → IsBunch (cells ++ x ∷ []) d) (λ i d g bunch. bunch_older cells (x ∷ []) d (h.each i d g bunch)) (λ bunch. absurd (true≢false (sym bunch ∙ none)));
   }
 
   pub closed_push : AreClosed cells → is_bunch x.form ≡ false → AreClosed (cells ++ x ∷ [])

@@ -20,9 +20,13 @@ pub mod Listing
 pub mod Lists
 pub mod Look
 pub mod Makes
+pub mod Own
+pub mod Others
 pub mod Plans
 pub mod Protos
 pub mod Puts
 pub mod Scopes
 pub mod Takes
+pub mod Tops
+pub mod Views
 pub mod Writes

@@ -28,6 +28,7 @@ module _ (names : List (List ℕ)) (cs : List Raw) (base : IsBase names cs) wher
         refs = subst (λ n. AreRefs n (named names c.entries)) (sym (length-map cs (plain names))) (named_refs names (length names) (length cs) c.entries (fine_at names (length cs) cs i c base.fine at).entries);
         up = up_plain i (is_scope c.head.form) c.head.up o.up;
         scope = up_plain i true (scope_in c.head.form) o.scope;
+        owned = o.owned;
       }
 
   pub linked : (i : ℕ) (c : PlainCell) → slice_get (cells_of names cs) i ≡ Some c → IsLinked (cells_of names cs) i c

@@ -98,3 +98,16 @@ count_all-push p (y ∷ xs) x = by (p y) (if p x then 1 else 0) (count_all-push 
     by : (b : Bool) (n : ℕ) → count_all p (xs ++ x ∷ []) ≡ count_all p xs + n → (if b then suc (count_all p (xs ++ x ∷ [])) else count_all p (xs ++ x ∷ [])) ≡ (if b then suc (count_all p xs) else count_all p xs) + n
     by true n e = omega (arith, e)
     by false n e = e
+
+-- more elements
+pub get_first : {X : Type 0} (xs ys : List X) (i : ℕ) → i < length xs → slice_get (xs ++ ys) i ≡ slice_get xs i
+get_first [] ys i lt = absurd (omega (arith, lt))
+get_first (x ∷ xs) ys zero lt = refl
+get_first (x ∷ xs) ys (suc i) lt = get_first xs ys i (omega (arith, lt))
+
+pub count_before-append : {X : Type 0} (p : X → Bool) (xs ys : List X) (i : ℕ) → i ≤ length xs → count_before p (xs ++ ys) i ≡ count_before p xs i
+count_before-append p [] [] zero le = refl
+count_before-append p [] (y ∷ ys) zero le = refl
+count_before-append p [] ys (suc i) le = absurd (omega (arith, le))
+count_before-append p (x ∷ xs) ys zero le = refl
+count_before-append p (x ∷ xs) ys (suc i) le = ap (λ n. if p x then suc n else n) (count_before-append p xs ys i (omega (arith, le)))

@@ -2,8 +2,8 @@
 use Rattle.std.proofs.Common.{◌≡◌, ℕ, zero, suc, ◌<◌, List, [], ◌∷◌, length, refl, sym, ap, ◌∙◌, subst, Option, Some, None, Bool, true, false, eqb, if◌then◌else◌, not, is_some, slice_get}
 use Rattle.std.specs.Prelude.{◌&&◌}
 use Rattle.std.specs.Option.{option_map_or, option_and_then}
-use Rattle.std.specs.List.{list_any}
-use Rattle.std.specs.Map.{lookup, remove_entry}
+use Rattle.std.specs.List.{IsDistinct, list_any}
+use Rattle.std.specs.Map.{keys_of, lookup, remove_entry}
 use Rattle.std.specs.Str.{bytes_eq}
 use Rattle.std.proofs.lemmas.Option.{get_or_from_slice_get, slice_get_within}
 use Rattle.code_units.proofs.Interning.{same_test, none_test}
@@ -12,6 +12,7 @@ use Rattle.object_store.specs.declared.cell.Head.{Head}
 use Rattle.object_store.specs.declared.kind.Form.{Form}
 use Rattle.object_store.specs.declared.store.Counts.{Counts}
 use Rattle.object_store.specs.declared.store.StoreFault.TheVariants as fault
+use Rattle.object_store.specs.Indices.{end_of}
 use Rattle.object_store.specs.Lists.{changed, count_all}
 use Rattle.object_store.specs.Cells.{PlainCell, Cells, is_array, is_bunch, is_scope, holder, writer_in, widget_of, is_scope_at}
 use Rattle.object_store.specs.Arrays.{length_in, length_name, written}
@@ -20,10 +21,11 @@ use Rattle.object_store.specs.Shape.{AreClosed, AreKnown, IsBase, IsFine, IsShap
 use Rattle.object_store.specs.Calls.{without, is_length_of, is_closed, remove_refusal, removed, remove_done, var_done}
 use Rattle.object_store.proofs.Lists.{some_same, changed_alike}
 use Rattle.object_store.proofs.Look.{known_entries, known_cells, known_at, remove_named, remove_never, insert_named, holder_same, holder_never, climb_has}
-use Rattle.object_store.proofs.Entries.{entries_remove, entries_insert, below_remove, lookup_removed}
-use Rattle.object_store.proofs.Writes.{changed_base, changed_cells, changed_heads, not_length}
+use Rattle.object_store.proofs.Entries.{entries_remove, entries_insert, lookup_removed}
+use Rattle.object_store.proofs.Writes.{changed_base, changed_cells, changed_heads, not_length, here}
 use Rattle.object_store.proofs.Heads.{holder_scope, scope_form, scope_no_array, scope_no_bunch, scope_same, head_at}
 use Rattle.object_store.proofs.Closed.{closed_wrote}
+use Rattle.object_store.proofs.Tops.{below_taken}
 use Rattle.object_store.proofs.Puts.{seen}
 
 -- a shape after a call that pays nothing
@@ -46,25 +48,30 @@ second_false false b h g = absurd (false_true g)
     false_true g = cc
 
 module _ (names : List (List ℕ)) (cs : List Raw) (base : IsBase names cs) (i : ℕ) (name : List ℕ) (n : ℕ) (at : slice_get names n ≡ Some name) where
-  pub took : ((c : Raw) → slice_get cs i ≡ Some c → (is_array c.head.form && bytes_eq name length_name) ≡ false) → (after : List Raw) → after ≡ changed cs i (raw_without n) → Wrote names cs names after i (without name)
-  took kept after e = record {
-    done = ap (cells_of names) e ∙ changed_cells names cs base i (raw_without n) (λ c. refl) (without name) alike;
-    base = subst (IsBase names) (sym e) (changed_base names cs base i (raw_without n) (λ c. refl) fine);
-    heads = ap heads e ∙ changed_heads names cs base i (raw_without n) (λ c. refl);
+  pub took : ((c : Raw) → slice_get cs i ≡ Some c → (is_array c.head.form && bytes_eq name length_name) ≡ false) → (end : ℕ) → ((c : Raw) → slice_get cs i ≡ Some c → is_array c.head.form ≡ true → end ≡ end_of name) → (x : Raw) → slice_get cs i ≡ Some x → IsDistinct eqb (keys_of x.entries) → (after : List Raw) → after ≡ changed cs i (raw_without n end) → Wrote names cs names after i (without name)
+  took kept end ends x at_x distinct after e = record {
+    done = ap (cells_of names) e ∙ changed_cells names cs base i (raw_without n end) (λ c. refl) (without name) alike;
+    base = subst (IsBase names) (sym e) (changed_base names cs base i (raw_without n end) (λ c. refl) fine);
+    heads = ap heads e ∙ changed_heads names cs base i (raw_without n end) (λ c. refl);
   }
     where
-      alike : (c : Raw) → slice_get cs i ≡ Some c → IsFine names (length cs) c → plain names (raw_without n c) ≡ without name (plain names c)
+      differ : (c : Raw) → slice_get cs i ≡ Some c → IsDistinct eqb (keys_of c.entries)
+      differ c g = subst (λ (d : Raw). IsDistinct eqb (keys_of d.entries)) (some_same x c (sym at_x ∙ g)) distinct
+
+      alike : (c : Raw) → slice_get cs i ≡ Some c → IsFine names (length cs) c → plain names (raw_without n end c) ≡ without name (plain names c)
       alike c g fine =
           let p = remove_named names name n (same_test names name n base.table at) c.entries (known_entries (length names) (length cs) c.entries fine.entries) in
           (λ j. record { owner = c.head.owner; form = c.head.form; up = c.head.up; pairs = p j })
           ∙ sym (ap (λ b. let d : PlainCell = if b then plain names c else record { owner = c.head.owner; form = c.head.form; up = c.head.up; pairs = remove_entry (bytes_eq name) (named names c.entries) } in d) (kept c g))
 
-      fine : (c : Raw) → slice_get cs i ≡ Some c → IsFine names (length cs) c → IsFine names (length cs) (raw_without n c)
+      fine : (c : Raw) → slice_get cs i ≡ Some c → IsFine names (length cs) c → IsFine names (length cs) (raw_without n end c)
       fine c g h = record {
         entries = entries_remove (length names) (length cs) n c.entries h.entries;
         array = λ a. record {
           length = ap (λ (o : Option Value). is_some (option_and_then length_in o)) (lookup_removed 0 n c.entries (not_length names base.table base.words name n at (slice_get_within names n name at) (second_false (is_array c.head.form) (bytes_eq name length_name) (kept c g) a))) ∙ (h.array a).length;
-          below = below_remove names c.top n c.entries (h.array a).below;
+          below =
+              let known = known_entries (length names) (length cs) (remove_entry (eqb n) c.entries) (entries_remove (length names) (length cs) n c.entries h.entries) in
+              below_taken names base.table name n c.top end c.entries at (here names base.table base.words name n at (slice_get_within names n name at)) (ends c g a) known (differ c g) (h.array a).below;
         };
       }
 

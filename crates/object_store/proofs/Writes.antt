@@ -1,6 +1,6 @@
 -- A write to one cell, by number and by name.
 use Rattle.std.proofs.Common.{◌≡◌, ℕ, zero, suc, ◌<◌, ◌≤◌, List, [], ◌∷◌, length, get_or, refl, sym, ap, ◌∙◌, subst, Option, Some, None, arith, Bool, true, false, eqb, if◌then◌else◌, true≢false, slice_get, is_some, filter}
-use Rattle.std.specs.Prelude.{Result, Ok, Err, OnOk, OnErr, max, nat_le}
+use Rattle.std.specs.Prelude.{Result, Ok, Err, OnOk, OnErr, max, nat_le, nat_lt}
 use Rattle.std.specs.Option.{option_and_then}
 use Rattle.std.specs.Map.{lookup}
 use Rattle.std.specs.Str.{bytes_eq}
@@ -18,10 +18,11 @@ use Rattle.object_store.specs.Lists.{changed}
 use Rattle.object_store.specs.Cells.{PlainCell, is_array}
 use Rattle.object_store.specs.Arrays.{is_below, length_in, length_name, count_value, written, cut}
 use Rattle.object_store.specs.Numbered.{Raw, plain, named, name_at, cells_of, heads, raw_written, raw_two, raw_held, raw_cut, plan_of, by_plan}
-use Rattle.object_store.specs.Shape.{Known, AreKnown, AreEntries, IsFine, AreFine, AreWords, AreOrdered, IsBase, IsRefWithin, Wrote, Kept}
+use Rattle.object_store.specs.Shape.{AreBelow, Known, AreKnown, AreEntries, IsFine, AreFine, AreWords, AreOrdered, IsBase, IsRefWithin, Wrote, Kept}
 use Rattle.object_store.proofs.Lists.{none_some, some_same, length-changed, map-changed, map-unchanged}
 use Rattle.object_store.proofs.Look.{known_entries, known_cells, insert_named}
 use Rattle.object_store.proofs.Entries.{entries_more, entries_insert, entries_filter, below_more, below_insert, below_filter, below_stay, lookup_inserted, lookup_other, lookup_filter, named_filter}
+use Rattle.object_store.proofs.Tops.{below_cut}
 use Rattle.object_store.proofs.Plans.{own_facts, longer_facts, length_facts}
 
 pub fine_at : (names : List (List ℕ)) (size : ℕ) (cs : List Raw) (i : ℕ) (c : Raw) → AreFine names size cs → slice_get cs i ≡ Some c → IsFine names size c
@@ -152,9 +153,23 @@ module _ (names : List (List ℕ)) (table : IsTable names) (words : AreWords nam
       length =
           ap (λ (o : Option Value). is_some (option_and_then length_in o)) (lookup_filter 0 (λ k. is_below n (name_at names k)) (insert_entry eqb c.entries 0 v) (length_below n) ∙ lookup_inserted 0 v c.entries)
           ∙ ap is_some is;
-      below = below_filter names c.top (λ e. is_below n (name_at names e.0)) (insert_entry eqb c.entries 0 v) (below_insert names c.top c.top 0 v c.entries (omega arith) (h.array a).below (length_below c.top));
+      below = by (nat_lt n c.top);
     };
   }
+    where
+      rest : AreBelow names n (filter (λ e. is_below n (name_at names e.0)) (insert_entry eqb c.entries 0 v))
+      rest = below_cut names n (insert_entry eqb c.entries 0 v)
+
+      by : (b : Bool) → AreBelow names (if b then n else c.top) (filter (λ e. is_below n (name_at names e.0)) (insert_entry eqb c.entries 0 v))
+      by true = rest
+      by false = below_filter names c.top (λ e. is_below n (name_at names e.0)) (insert_entry eqb c.entries 0 v) (below_insert names c.top c.top 0 v c.entries (omega arith) (h.array array).below (length_below c.top))
+
+  -- a cell whose length is written may be cut
+  pub held_known : (size : ℕ) (v : Value) (c : Raw) → IsRefWithin size v → IsFine names size c → Known (length names) (insert_entry eqb c.entries 0 v)
+  held_known size v c ref h = known_entries (length names) size (insert_entry eqb c.entries 0 v) (entries_insert (length names) size 0 v c.entries h.entries zero_within ref)
+
+  pub held_below : (size : ℕ) (v : Value) (c : Raw) → is_array c.head.form ≡ true → IsFine names size c → AreBelow names c.top (insert_entry eqb c.entries 0 v)
+  held_below size v c array h = below_insert names c.top c.top 0 v c.entries (omega arith) (h.array array).below (length_below c.top)
 
   pub plain_held : (n : ℕ) (v : Value) (c : Raw) → Known (length names) c.entries → plain names (raw_cut names n (raw_held 0 v c)) ≡ cut n (written length_name v (plain names c))
   plain_held n v c known =
@@ -270,6 +285,12 @@ module _ (names : List (List ℕ)) (name : List ℕ) (cs : List Raw) (base : IsB
   not_ref (value.Num k) e = tt
   not_ref (value.Text t) e = tt
   not_ref (value.Ref k) e = absurd (none_some e)
+
+  pub cut_known : (c after : Raw) → slice_get cs i ≡ Some c → after ≡ raw_held 0 v c → Known (length names) after.entries
+  cut_known c after at e = subst (λ (x : Raw). Known (length names) x.entries) (sym e) (held_known names base.table base.words (length cs) v c (not_ref v (length_facts name v c n (plan c at)).1) (fine_at names (length cs) cs i c base.fine at))
+
+  pub cut_below : (c after : Raw) → slice_get cs i ≡ Some c → after ≡ raw_held 0 v c → AreBelow names after.top after.entries
+  cut_below c after at e = subst (λ (x : Raw). AreBelow names x.top x.entries) (sym e) (held_below names base.table base.words (length cs) v c (length_facts name v c n (plan c at)).0 (fine_at names (length cs) cs i c base.fine at))
 
   pub wrote_length : (after : List Raw) → after ≡ changed cs i (λ c. raw_cut names n (raw_held 0 v c)) → Wrote names cs names after i (by_plan (write.Length n) name v)
   wrote_length after e = record {

@@ -7,4 +7,5 @@ pub mod Shape
 pub mod Calls
 pub mod Host
 pub mod Bunches
+pub mod Owned
 pub mod Bare

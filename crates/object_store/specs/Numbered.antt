@@ -1,5 +1,5 @@
 -- Cells by the numbers of their names, and what they are by name.
-use Rattle.std.specs.Prelude.{◌≡◌, ℕ, ◌+◌, ◌<◌, ◌≤◌, Bool, false, List, [], ◌∷◌, Option, None, Some, is_some, max, nat_lt, nat_eq, not, ◌&&◌, if◌then◌else◌, map, length, slice_get, slice_index_or, filter, MatchOption}
+use Rattle.std.specs.Prelude.{◌≡◌, ℕ, ◌+◌, ◌-◌, ◌<◌, ◌≤◌, Bool, false, List, [], ◌∷◌, Option, None, Some, is_some, max, nat_lt, nat_eq, not, ◌&&◌, if◌then◌else◌, map, length, slice_get, slice_index_or, filter, MatchOption}
 use Rattle.std.specs.Option.{option_map, option_map_or, option_and_then}
 use Rattle.std.specs.Str.{bytes_eq}
 use Rattle.std.specs.List.{list_any}
@@ -73,11 +73,12 @@ raw_two n v m u e c = record { head = c.head; top = max c.top e; entries = inser
 abbrev pub raw_held : ℕ → Value → Raw → Raw
 raw_held n v c = record c { entries = insert_entry nat_eq c.entries n v }
 
-abbrev pub raw_without : ℕ → Raw → Raw
-raw_without n c = record c { entries = remove_entry (nat_eq n) c.entries }
+-- the top falls where the name right before it goes
+abbrev pub raw_without : ℕ → ℕ → Raw → Raw
+raw_without n e c = record { head = c.head; top = if nat_eq e c.top then c.top - 1 else c.top; entries = remove_entry (nat_eq n) c.entries }
 
 abbrev pub raw_cut : List (List ℕ) → ℕ → Raw → Raw
-raw_cut names n c = record c { entries = filter (λ e. is_below n (name_at names e.0)) c.entries }
+raw_cut names n c = record { head = c.head; top = if nat_lt n c.top then n else c.top; entries = filter (λ e. is_below n (name_at names e.0)) c.entries }
 
 -- a later table has the older one's names under their numbers
 pub record Grown (old new : List (List ℕ)) : Type 0 where

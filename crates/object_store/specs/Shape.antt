@@ -1,7 +1,8 @@
 -- What every store keeps.
 use Rattle.std.specs.Prelude.{◌≡◌, ℕ, suc, ◌<◌, ◌≤◌, Bool, true, false, List, [], ◌∷◌, ◌++◌, Option, None, Some, is_some, nat_eq, if◌then◌else◌, length, slice_get, IfSome}
 use Rattle.std.specs.Option.{option_map_or, option_and_then}
-use Rattle.std.specs.Map.{lookup}
+use Rattle.std.specs.List.{IsDistinct}
+use Rattle.std.specs.Map.{keys_of, lookup}
 use Rattle.code_units.specs.declared.owner.Owner.TheVariants as whose
 use Rattle.code_units.specs.Interned.{IsTable}
 use Rattle.object_store.specs.declared.value.Value.{Value}
@@ -13,6 +14,7 @@ use Rattle.object_store.specs.declared.store.Counts.{Counts}
 use Rattle.object_store.specs.declared.store.TheConstants.{CELL_LIMIT, SLOT_LIMIT, UNIT_LIMIT}
 use Rattle.object_store.specs.Lists.{changed, count_before, count_all}
 use Rattle.object_store.specs.Cells.{PlainCell, kept_cells, is_bunch, is_visible_form, is_scope_at, is_scope, is_array, widget_of, node_in, function_in}
+use Rattle.object_store.specs.Indices.{index_of}
 use Rattle.object_store.specs.Arrays.{is_below, length_in, length_name, nodes_name, count_value}
 use Rattle.object_store.specs.Host.{AreHost, array_prototype}
 use Rattle.object_store.specs.Bunches.{AreBunches, elements}
@@ -134,6 +136,15 @@ pub record Kept (old : List (List ℕ)) (cs : List Raw) (new : List (List ℕ)) 
   pub base : IsBase new after
   pub heads : heads after ≡ heads cs
 
+-- The last name, which was the element right before the top, was taken out.
+pub record IsPopped (names : List (List ℕ)) (old new : Raw) : Type 0 where
+  pub head : new.head ≡ old.head
+  pub top : old.top ≡ suc new.top
+  pub last : ℕ × Value
+  pub entries : old.entries ≡ new.entries ++ last ∷ []
+  pub index : index_of (name_at names last.0) ≡ Some new.top
+  pub distinct : IsDistinct nat_eq (keys_of old.entries)
+
 -- A cell was added.
 pub record Added (old : List (List ℕ)) (cs : List Raw) (new : List (List ℕ)) (after : List Raw) (c : Raw) (id : ℕ) : Type 0 where
   pub place : id ≡ length cs
@@ -181,8 +192,9 @@ pub record GrewBunch (old : List (List ℕ)) (cs : List Raw) (new : List (List �
   pub heads : heads after ≡ heads cs ++ h ∷ k ∷ []
 
 -- What a cell of the store keeps: its references exist, its prototype or outer scope is older and
--- of its sort, and so is the scope of a function.
+-- of its sort, and so is the scope of a function; a scope is a widget's.
 pub record IsLinked (cells : List PlainCell) (i : ℕ) (c : PlainCell) : Type 0 where
   pub refs : AreRefs (length cells) c.pairs
   pub up : IfSome c.up (λ j. (j < i) × (is_scope_at cells j ≡ is_scope c.form))
   pub scope : IfSome (scope_in c.form) (λ j. (j < i) × (is_scope_at cells j ≡ true))
+  pub owned : is_scope c.form ≡ true → is_some (widget_of c.owner) ≡ true

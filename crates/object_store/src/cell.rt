@@ -1,13 +1,16 @@
 //! A cell by the numbers of its names.
-ghost use Rattle.std.specs.Prelude.{◌≡◌, ℕ, [], None, Some, true, is_some, nat_eq, max, if◌then◌else◌, is_ok, OnErr, OnOk, option_copied, option_map, slice_get, IfSome, ◌<◌, ◌≤◌, ◌++◌, false, ◌&&◌, not, length, option_to_list, IfOk};
-ghost use Rattle.std.specs.Map.{lookup, remove_entry};
+ghost use Rattle.std.specs.Prelude.{◌≡◌, ℕ, suc, filter, MatchOption, [], None, Some, true, is_some, nat_eq, max, if◌then◌else◌, is_ok, OnErr, OnOk, option_copied, option_map, slice_get, IfSome, ◌<◌, ◌≤◌, ◌++◌, false, ◌&&◌, not, length, option_to_list, IfOk};
+ghost use Rattle.std.specs.List.{IsDistinct};
+ghost use Rattle.std.specs.Map.{keys_of as numbers_of, lookup};
 ghost use Rattle.std.specs.Option.{option_map_or, option_and_then};
 ghost use Rattle.std.specs.Str.{bytes_eq};
 ghost use Rattle.indexmap.specs.IndexMap.{insert_entry};
 ghost use Rattle.object_store.specs.Cells.{writer_in, widget_of, is_array, is_scope, is_visible_form};
-ghost use Rattle.object_store.specs.Numbered.{Raw, first_raw, node_head, plain, raw_key, raw_cut, raw_has, name_at, raw_length, element_plan, plan_of};
+ghost use Rattle.object_store.specs.Numbered.{Raw, first_raw, node_head, plain, raw_key, raw_cut, raw_has, raw_without, name_at, raw_length, element_plan, plan_of};
 ghost use Rattle.code_units.specs.Permitted.{is_permitted};
-ghost use Rattle.object_store.specs.Shape.{Known};
+ghost use Rattle.code_units.specs.Interned.{IsTable};
+ghost use Rattle.object_store.specs.Indices.{end_of, index_of};
+ghost use Rattle.object_store.specs.Shape.{AreBelow, IsPopped, Known};
 ghost use Rattle.object_store.specs.Calls.{keys_of};
 ghost use Rattle.object_store.specs.Arrays.{count_value, is_below, length_in, length_name};
 
@@ -92,16 +95,35 @@ fn element_plan(len: u32, index: Option<u32>) -> Write
     }
 }
 
+// The index that a name by its number is.
+fn index_at(names: &Names, k: u32) -> Option<u32>
+    ensures index { result ≡ index_of (name_at names.now k) }
+    ensures small { IfSome result (λ i. i < 4294967295) }
+{
+    match names.text(k) {
+        None => None,
+        Some(text) => index_of(text),
+    }
+}
+
 // Whether a name by its number is no index from `n` on.
 fn keeps(names: &Names, k: u32, n: u32) -> bool
     ensures { result ≡ is_below n (name_at names.now k) }
 {
-    match names.text(k) {
+    match index_at(names, k) {
         None => true,
-        Some(text) => match index_of(text) {
-            None => true,
-            Some(i) => i < n,
-        },
+        Some(i) => i < n,
+    }
+}
+
+// Whether an index stands right before `top`.
+fn is_right_before(index: Option<u32>, top: u32) -> bool
+    requires { IfSome index (λ i. i < 4294967295) }
+    ensures { result ≡ true → MatchOption index ⊥ (λ i. top ≡ suc i) }
+{
+    match index {
+        None => false,
+        Some(i) => i + 1 == top,
     }
 }
 
@@ -349,17 +371,82 @@ impl Cell {
         }
     }
 
-    /// Takes a name out.
-    pub fn take(&mut self, n: u32)
-        ensures { self.new ≡ record self.old { entries = remove_entry (nat_eq n) self.old.entries } }
+    /// One past the index that a name is of an Array, else 0.
+    pub fn end(&self, name: &Text) -> u32
+        ensures { result ≡ (if is_array self.now.head.form then end_of name.now else 0) }
     {
+        if !self.head.form.is_array() {
+            return 0;
+        }
+        match index_of(name) {
+            None => 0,
+            Some(i) => i + 1,
+        }
+    }
+
+    /// Takes a name out. `end` is past it where it is an element.
+    pub fn take(&mut self, n: u32, end: u32)
+        ensures done { self.new ≡ raw_without n end self.old }
+        ensures distinct { IsDistinct nat_eq (numbers_of self.old.entries) }
+    {
+        // This says that the names differ.
+        let _len = self.table.len();
         let _ = self.table.shift_remove(&n);
+        if end == self.top {
+            self.top = self.top.saturating_sub(1);
+        }
+    }
+
+    // Takes out the last name, where it is the element right before the top.
+    fn pop_top(&mut self, names: &Names) -> bool
+        ensures same { result ≡ false → self.new ≡ self.old }
+        ensures popped { result ≡ true → IsPopped names.now self.old self.new }
+    {
+        // This says that the names differ.
+        let _len = self.table.len();
+        let Some((k, _v)) = self.table.last() else {
+            return false;
+        };
+        if !is_right_before(index_at(names, *k), self.top) {
+            return false;
+        }
+        let _last = self.table.pop();
+        self.top -= 1;
+        true
+    }
+
+    // Takes out elements from `n` on, as long as they stand last and right before the top.
+    fn pop_tops(&mut self, names: &Names, n: u32)
+        requires table { IsTable names.now }
+        requires known { Known (length names.now) self.old.entries }
+        requires below { AreBelow names.now self.old.top self.old.entries }
+        ensures alike { raw_cut names.now n self.new ≡ raw_cut names.now n self.old }
+        ensures below { AreBelow names.now self.new.top self.new.entries }
+    {
+        for _k in n..self.top {
+            if !self.pop_top(names) {
+                return;
+            }
+        }
     }
 
     /// Removes the elements from `n` on.
     pub fn cut(&mut self, names: &Names, n: u32)
+        requires table { IsTable names.now }
+        requires known { Known (length names.now) self.old.entries }
+        requires below { AreBelow names.now self.old.top self.old.entries }
         ensures { self.new ≡ raw_cut names.now n self.old }
     {
+        self.pop_tops(names, n);
+        if n < self.top {
+            self.retain_below(names, n);
+        }
+    }
+
+    fn retain_below(&mut self, names: &Names, n: u32)
+        ensures { self.new ≡ record { head = self.old.head; top = n; entries = filter (λ e. is_below n (name_at names.now e.0)) self.old.entries } }
+    {
         self.table.retain(|k, _v| keeps(names, *k, n));
+        self.top = n;
     }
 }

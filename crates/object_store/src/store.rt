@@ -1,6 +1,7 @@
 //! The store.
 ghost use Rattle.std.specs.Prelude.{◌≡◌, ℕ, ◌+◌, ◌<◌, ◌≤◌, [], ◌∷◌, ◌++◌, None, Some, true, false, is_some, nat_eq, length, vec_len, slice_get, option_copied, IfOk, IfErr, IfSome, OnErr, OnOk, MatchOption, MatchResult, replicate};
-ghost use Rattle.std.specs.Option.{option_map};
+ghost use Rattle.std.specs.Option.{option_map, option_map_or};
+ghost use Rattle.object_store.specs.Owned.{Assigned, Changed, is_of_at, is_own_scope_at, own_put, own_removed, own_set, own_value, owned, visible_at};
 ghost use Rattle.std.specs.List.{IsDistinct};
 ghost use Rattle.object_store.specs.Bunches.{IsBunch};
 ghost use Rattle.object_store.specs.Cells.{PlainCell, chain, first_own, value_along, is_scope_at, kind_of, function_in, native_in, node_in, proto_in, prototypes, holder, is_bunch, raw_cell};
@@ -306,6 +307,22 @@ impl Store {
         ensures ok { OnOk result ((put_refusal self.old cell name.now value ≡ None) × (self.new ≡ put_done self.old cell name.now value)) }
         ensures err { IfErr result (λ e. Refuses e (put_refusal self.old cell name.now value)) }
         ensures same { OnErr result (self.new ≡ self.old) }
+
+        // Its widget sees the write, and another has what it had.
+        ensures own { OnOk result ((w : ℕ) → visible_at w self.old.cells cell ≡ true → Changed w self.old self.new cell (own_put name.now (own_value w self.old.cells value))) }
+        ensures others { (w : ℕ) → is_of_at w self.old.cells cell ≡ false → owned w self.new ≡ owned w self.old }
+    {
+        self.links_are_older();
+        self.bunches_have_nodes();
+        self.put_in(cell, name, value)
+    }
+
+    fn put_in(&mut self, cell: CellId, name: &Text, value: Value) -> Result<(), StoreFault>
+        requires at { cell < length self.old.cells }
+        requires value { IsRefWithin (length self.old.cells) value }
+        ensures ok { OnOk result ((put_refusal self.old cell name.now value ≡ None) × (self.new ≡ put_done self.old cell name.now value)) }
+        ensures err { IfErr result (λ e. Refuses e (put_refusal self.old cell name.now value)) }
+        ensures same { OnErr result (self.new ≡ self.old) }
     {
         let held = table::cell(&self.cells, cell);
         let Some(w) = held.writer() else {
@@ -337,6 +354,9 @@ impl Store {
         ensures ok { OnOk result ((units_refusal self.old.kept (number_in owner) n ≡ None) × (self.new ≡ unit_cost self.old (number_in owner) 0 n)) }
         ensures err { IfErr result (λ e. units_refusal self.old.kept (number_in owner) n ≡ Some e) }
         ensures same { OnErr result (self.new ≡ self.old) }
+
+        // Another widget has what it had.
+        ensures others { (w : ℕ) → (number_in owner ≡ w → ⊥) → owned w self.new ≡ owned w self.old }
     {
         table::charge_units(&mut self.kept, table::widget(owner), n)
     }
@@ -347,12 +367,31 @@ impl Store {
         ensures ok { OnOk result ((slots_refusal self.old.kept (number_in owner) n ≡ None) × (self.new ≡ unit_cost self.old (number_in owner) n 0)) }
         ensures err { IfErr result (λ e. slots_refusal self.old.kept (number_in owner) n ≡ Some e) }
         ensures same { OnErr result (self.new ≡ self.old) }
+
+        // Another widget has what it had.
+        ensures others { (w : ℕ) → (number_in owner ≡ w → ⊥) → owned w self.new ≡ owned w self.old }
     {
         table::charge_slots(&mut self.kept, table::widget(owner), n)
     }
 
     /// The cell of a page node, made where there is none.
     pub fn add_raw(&mut self, alloc: Global, node: u32) -> Result<CellId, Memory>
+        requires { node < 2097152 }
+        ensures ok { IfOk result (λ id. MatchOption (raw_place node self.old.cells)
+            ((id ≡ length self.old.cells) × (self.new ≡ record { cells = self.old.cells ++ raw_cell node ∷ []; kept = self.old.kept }))
+            (λ i. (id ≡ i) × (self.new ≡ self.old))) }
+        ensures err { OnErr result (self.new ≡ self.old) }
+        ensures found { IfOk result (λ id. raw_place node self.new.cells ≡ Some id) }
+
+        // Each widget has what it had.
+        ensures others { (w : ℕ) → owned w self.new ≡ owned w self.old }
+    {
+        self.links_are_older();
+        self.bunches_have_nodes();
+        self.add_node(alloc, node)
+    }
+
+    fn add_node(&mut self, alloc: Global, node: u32) -> Result<CellId, Memory>
         requires { node < 2097152 }
         ensures ok { IfOk result (λ id. MatchOption (raw_place node self.old.cells)
             ((id ≡ length self.old.cells) × (self.new ≡ record { cells = self.old.cells ++ raw_cell node ∷ []; kept = self.old.kept }))
@@ -374,6 +413,21 @@ impl Store {
     /// refers to the cells of its nodes in their order. `Cells` or `Slots` comes exactly where the widget's kept count
     /// plus the cost passes the limit.
     pub fn make(&mut self, alloc: Global, owner: Owner, cell: NewCell) -> Result<CellId, StoreFault>
+        requires widget { IsWidget owner }
+        requires fit { IsMakeable self.old.cells cell }
+        ensures ok { IfOk result (λ id. (make_refusal self.old (number_in owner) cell ≡ None) × (id ≡ length self.old.cells) × (self.new ≡ make_done self.old (number_in owner) cell)) }
+        ensures err { IfErr result (λ e. Refuses e (make_refusal self.old (number_in owner) cell)) }
+        ensures same { OnErr result (self.new ≡ self.old) }
+
+        // Another widget has what it had.
+        ensures others { (w : ℕ) → (number_in owner ≡ w → ⊥) → owned w self.new ≡ owned w self.old }
+    {
+        self.links_are_older();
+        self.bunches_have_nodes();
+        self.make_in(alloc, owner, cell)
+    }
+
+    fn make_in(&mut self, alloc: Global, owner: Owner, cell: NewCell) -> Result<CellId, StoreFault>
         requires widget { IsWidget owner }
         requires fit { IsMakeable self.old.cells cell }
         ensures ok { IfOk result (λ id. (make_refusal self.old (number_in owner) cell ≡ None) × (id ≡ length self.old.cells) × (self.new ≡ make_done self.old (number_in owner) cell)) }
@@ -476,6 +530,21 @@ impl Store {
         ensures ok { IfOk result (λ b. (remove_refusal self.old cell ≡ None) × (b ≡ removed self.old cell name.now) × (self.new ≡ remove_done self.old cell name.now)) }
         ensures err { IfErr result (λ e. remove_refusal self.old cell ≡ Some e) }
         ensures same { OnErr result (self.new ≡ self.old) }
+
+        // Its widget sees that, and another has what it had.
+        ensures own { OnOk result ((w : ℕ) → visible_at w self.old.cells cell ≡ true → Changed w self.old self.new cell (own_removed name.now)) }
+        ensures others { (w : ℕ) → is_of_at w self.old.cells cell ≡ false → owned w self.new ≡ owned w self.old }
+    {
+        self.links_are_older();
+        self.bunches_have_nodes();
+        self.remove_in(cell, name)
+    }
+
+    fn remove_in(&mut self, cell: CellId, name: &Text) -> Result<bool, StoreFault>
+        requires { cell < length self.old.cells }
+        ensures ok { IfOk result (λ b. (remove_refusal self.old cell ≡ None) × (b ≡ removed self.old cell name.now) × (self.new ≡ remove_done self.old cell name.now)) }
+        ensures err { IfErr result (λ e. remove_refusal self.old cell ≡ Some e) }
+        ensures same { OnErr result (self.new ≡ self.old) }
     {
         let held = table::cell(&self.cells, cell);
         let Some(_w) = held.writer() else {
@@ -487,12 +556,29 @@ impl Store {
         let Some(n) = self.names.number(name) else {
             return Ok(true);
         };
-        table::take(&self.names, &mut self.cells, cell, name, n);
+        let end = held.end(name);
+        table::take(&self.names, &mut self.cells, cell, name, n, end);
         Ok(true)
     }
 
     /// Writes a variable in the innermost scope that has the name; false exactly where none has it.
     pub fn var_set(&mut self, scope: CellId, name: &Text, value: Value) -> bool
+        requires at { scope < length self.old.cells }
+        requires scope { is_scope_at self.old.cells scope ≡ true }
+        requires value { IsRefWithin (length self.old.cells) value }
+        ensures found { result ≡ is_some (holder self.old.cells scope name.now) }
+        ensures done { self.new ≡ var_done self.old scope name.now value }
+
+        // Its widget sees the write, and another has what it had.
+        ensures own { (w : ℕ) → IfSome (holder self.old.cells scope name.now) (λ h. is_own_scope_at w self.old.cells h ≡ true → Assigned w self.old self.new h (own_set name.now (own_value w self.old.cells value))) }
+        ensures others { (w : ℕ) → option_map_or (is_of_at w self.old.cells) (holder self.old.cells scope name.now) false ≡ false → owned w self.new ≡ owned w self.old }
+    {
+        self.links_are_older();
+        self.bunches_have_nodes();
+        self.set_in(scope, name, value)
+    }
+
+    fn set_in(&mut self, scope: CellId, name: &Text, value: Value) -> bool
         requires at { scope < length self.old.cells }
         requires scope { is_scope_at self.old.cells scope ≡ true }
         requires value { IsRefWithin (length self.old.cells) value }

@@ -7,6 +7,7 @@ ghost use Rattle.std.specs.Map.{lookup};
 ghost use Rattle.code_units.specs.Interned.{Interns, IsTable};
 ghost use Rattle.object_store.specs.Lists.{changed};
 ghost use Rattle.object_store.specs.Cells.{kept_cells, is_array};
+ghost use Rattle.object_store.specs.Indices.{end_of};
 ghost use Rattle.object_store.specs.Arrays.{length_in, length_name, written, cut};
 ghost use Rattle.object_store.specs.Numbered.{Raw, IsNumberOf, Grown, plain, heads, raw_holder, raw_along, raw_own, raw_has_at, raw_written, raw_two, raw_held, raw_cut, plan_of, by_plan};
 ghost use Rattle.object_store.specs.Shape.{IsBase, IsFine, IsOrdered, IsRefWithin, Wrote, Kept, Added, Grew, AreEntries, AreWithin, scope_at, links_at, head_on, scope_head};
@@ -263,16 +264,17 @@ pub(crate) fn pay(kept: &mut Vec<Counts>, w: u32, cells: u32, slots: u32)
     }
 }
 
-/// Takes a name out of a cell.
-pub(crate) fn take(names: &Names, cells: &mut Vec<Cell>, i: CellId, name: &Text, n: u32)
+/// Takes a name out of a cell. `end` is past it where it is an element.
+pub(crate) fn take(names: &Names, cells: &mut Vec<Cell>, i: CellId, name: &Text, n: u32, end: u32)
     requires at { i < vec_len cells.old }
     requires base { IsBase names.now cells.old.items }
     requires number { slice_get names.now n ≡ Some name.now }
     requires kept { (c : Raw) → slice_get cells.old.items i ≡ Some c → (is_array c.head.form && bytes_eq name.now length_name) ≡ false }
+    requires end { (c : Raw) → slice_get cells.old.items i ≡ Some c → is_array c.head.form ≡ true → end ≡ end_of name.now }
     ensures { Wrote names.now cells.old.items names.now cells.new.items i (without name.now) }
 {
     let cell = &mut cells[i as usize];
-    cell.take(n);
+    cell.take(n, end);
 }
 
 /// Writes a variable that the scope at `i` has.

@@ -1,13 +1,9 @@
-use Rattle.std.proofs.Common.{rules, ◌∙◌, ap, ℕ, Bool}
-use Rattle.indexmap.proofs.CallerLemmas.{filter-RetainsPairs}
-use Rattle.object_store.specs.declared.value.Value.{Value}
-use Rattle.object_store.specs.Numbered.{name_at, raw_cut}
-use Rattle.object_store.specs.Arrays.{is_below}
+use Rattle.std.proofs.Common.{◌≤◌, arith, ◌∙◌, ap}
+use Rattle.object_store.specs.Numbered.{Raw}
+use Rattle.object_store.proofs.Tops.{cut_none}
 use Rattle.object_store.proofs.cell.Cell.cut.Goals as goal
 
-pub returns : goal.returns
-returns c =
-    let s = c.self.inside in
-    let test : ℕ × Value → Bool = λ p. is_below c.args.n (name_at c.args.names.now p.0) in
-    let e = filter-RetainsPairs _ test _ (λ k v b w g call. search rules) _ _ c.retain.ensures.filtered in
-    (λ j. record { head = s.head; top = s.top; entries = e j }) ∙ ap (raw_cut c.args.names.now c.args.n) c.self.view_is
+pub returns-else-n-self : goal.returns-else-n-self
+returns-else-n-self c =
+    let le : c.pop_tops.new.self.top ≤ c.args.n = omega (arith, c.if-n-self.false, ap (λ (r : Raw). r.top) c.self.view_is) in
+    cut_none c.args.names.now c.args.n c.pop_tops.new.self le c.pop_tops.ensures.below ∙ c.pop_tops.ensures.alike

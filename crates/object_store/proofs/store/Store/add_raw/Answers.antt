@@ -1,19 +1,8 @@
-use Rattle.std.proofs.Common.{sym, ◌∙◌, ap, List, ℕ, eqb}
-use Rattle.indexmap.specs.IndexMap.{insert_entry}
-use Rattle.object_store.proofs.Makes.{node_old, node_new, node_shape}
+use Rattle.object_store.proofs.Others.{node_seen, place_seen}
 use Rattle.object_store.proofs.store.Store.add_raw.Goals as goal
 
-pub returns-in-Some-clause-ok : goal.returns-in-Some-clause-ok
-returns-in-Some-clause-ok c =
-    let s = c.self in
-    node_old c.args.self.now s.inside.names s.inside.cells.items s.inside.kept.items s.view_is s.invariant c.args.node c.in-Some.id (sym c.node_cell.ensures ∙ c.in-Some.is)
+pub returns-clause-others : goal.returns-clause-others
+returns-clause-others c = λ w. node_seen c.args.self.now c.links_are_older.ensures c.bunches_have_nodes.ensures c.args.node c.add_node.result c.add_node.new.self c.add_node.ensures.ok c.add_node.ensures.err w
 
-pub returns-clause-ok : goal.returns-clause-ok
-returns-clause-ok c =
-    let s = c.self in
-    node_new c.args.self.now s.inside.names s.inside.cells.items s.inside.kept.items s.view_is s.invariant c.add.new.cells.items c.of_node.result c.args.node c.in_ok-id.id (sym c.node_cell.ensures ∙ c.in_default.is) c.of_node.ensures c.in_ok-id.ensures.ok
-
-pub invariant_of-self-2 : goal.invariant_of-self-2
-invariant_of-self-2 c =
-    let s = c.self in
-    node_shape c.args.self.now s.inside.names s.inside.cells.items s.inside.kept.items s.view_is s.invariant c.add.new.cells.items c.of_node.result c.index_node.new.raws.entries c.args.node c.in_ok-id.id c.of_node.ensures (sym c.node_cell.ensures ∙ c.in_default.is) c.in_ok-id.ensures.ok (c.index_node.ensures ∙ ap (λ (es : List (ℕ × ℕ)). insert_entry eqb es c.args.node c.in_ok-id.id) c.in_ok-reserve.ensures.entries)
+pub returns-clause-found : goal.returns-clause-found
+returns-clause-found c = place_seen c.args.self.now c.args.node c.add_node.result c.add_node.new.self c.add_node.ensures.ok

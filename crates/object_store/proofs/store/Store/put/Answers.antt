@@ -1,27 +1,9 @@
-use Rattle.std.proofs.Common.{sym, ◌∙◌}
-use Rattle.object_store.proofs.Puts.{put_bad, put_cost, put_is, shape_paid, closed_after, refuses_err}
+use Rattle.object_store.proofs.Own.{put_own_seen}
+use Rattle.object_store.proofs.Others.{put_seen}
 use Rattle.object_store.proofs.store.Store.put.Goals as goal
 
-pub returns-in_default-plan-clause-err : goal.returns-in_default-plan-clause-err
-returns-in_default-plan-clause-err c =
-    let s = c.self in
-    put_bad c.args.self.now s.inside.names s.inside.cells.items s.inside.kept.items s.view_is s.invariant c.args.cell c.cell-held.result.now c.cell-held.ensures c.args.name.now c.args.value c.in-Some.w (sym c.writer.ensures ∙ c.in-Some.is) (sym c.plan.ensures ∙ c.in_default-plan.is)
+pub returns-clause-others : goal.returns-clause-others
+returns-clause-others c = λ w other. put_seen c.args.self.now c.links_are_older.ensures c.bunches_have_nodes.ensures c.args.cell c.args.name.now c.args.value w other c.put_in.result c.put_in.new.self c.put_in.ensures.ok c.put_in.ensures.same
 
-pub returns-in_err-afford-clause-err : goal.returns-in_err-afford-clause-err
-returns-in_err-afford-clause-err c =
-    let s = c.self in
-    let cost = put_cost c.args.self.now s.inside.names s.inside.cells.items s.inside.kept.items s.view_is s.invariant c.args.cell c.cell-held.result.now c.cell-held.ensures c.args.name.now c.args.value c.in-Some.w (sym c.writer.ensures ∙ c.in-Some.is) c.in-Some-plan.plan (sym c.plan.ensures ∙ c.in-Some-plan.is) c.number-number.result c.number-number.ensures.found c.slots_for-slots.result c.slots_for-slots.ensures in
-    refuses_err c.from_residual.result _ c.in_err-afford.field-0.0 _ c.from_residual.ensures (λ e g. g) (cost ∙ c.in_err-afford.ensures.err)
-
-pub invariant_of-self-2 : goal.invariant_of-self-2
-invariant_of-self-2 c =
-    let s = c.self in
-    let wrote = c.in_ok-write.ensures.ok in
-    shape_paid s.inside.names c.write.new.names s.inside.cells.items c.write.new.cells.items s.inside.raws.entries s.inside.kept.items c.pay.new.kept.items s.invariant wrote.base (closed_after c.args.self.now s.inside.names s.inside.cells.items s.inside.kept.items s.view_is s.invariant c.args.cell c.cell-held.result.now c.cell-held.ensures c.in-Some.w (sym c.writer.ensures ∙ c.in-Some.is) c.write.new.names c.write.new.cells.items _ wrote) wrote.heads c.pay.ensures.within c.in-Some.w c.slots_for-slots.result 0 c.pay.ensures.done
-
-pub returns-clause-ok : goal.returns-clause-ok
-returns-clause-ok c =
-    let s = c.self in
-    let cost = put_cost c.args.self.now s.inside.names s.inside.cells.items s.inside.kept.items s.view_is s.invariant c.args.cell c.cell-held.result.now c.cell-held.ensures c.args.name.now c.args.value c.in-Some.w (sym c.writer.ensures ∙ c.in-Some.is) c.in-Some-plan.plan (sym c.plan.ensures ∙ c.in-Some-plan.is) c.number-number.result c.number-number.ensures.found c.slots_for-slots.result c.slots_for-slots.ensures in
-    let done = put_is c.args.self.now s.inside.names s.inside.cells.items s.inside.kept.items s.view_is s.invariant c.args.cell c.cell-held.result.now c.cell-held.ensures c.args.name.now c.args.value c.in-Some.w (sym c.writer.ensures ∙ c.in-Some.is) c.in-Some-plan.plan (sym c.plan.ensures ∙ c.in-Some-plan.is) c.number-number.result c.number-number.ensures.found c.slots_for-slots.result c.slots_for-slots.ensures c.write.new.names c.write.new.cells.items c.pay.new.kept.items c.in_ok-write.ensures.ok c.pay.ensures.done in
-    (cost ∙ c.in_ok-afford.ensures.ok, done)
+pub returns-clause-own : goal.returns-clause-own
+returns-clause-own c = put_own_seen c.args.self.now c.links_are_older.ensures c.bunches_have_nodes.ensures c.args.cell c.args.name.now c.args.value c.requires.value c.put_in.result c.put_in.new.self c.put_in.ensures.ok

@@ -1,38 +1,9 @@
-use Rattle.std.proofs.Common.{sym, ap, ◌∙◌, is_some}
-use Rattle.object_store.proofs.Takes.{shape_same, var_found_none, var_done_none, unknown, unheld, held_is, from_scope, var_written, closed_variable}
+use Rattle.object_store.proofs.Own.{var_own}
+use Rattle.object_store.proofs.Others.{var_seen}
 use Rattle.object_store.proofs.store.Store.var_set.Goals as goal
 
-pub returns-in_default-clause-found : goal.returns-in_default-clause-found
-returns-in_default-clause-found c = let s = c.self in var_found_none c.args.self.now s.inside.names s.inside.cells.items s.inside.kept.items s.view_is s.invariant c.args.name.now c.args.scope (unknown c.args.self.now s.inside.names s.inside.cells.items s.inside.kept.items s.view_is s.invariant c.args.name.now c.args.scope c.in_default.ensures.found)
+pub returns-clause-others : goal.returns-clause-others
+returns-clause-others c = λ w other. var_seen c.args.self.now c.links_are_older.ensures c.bunches_have_nodes.ensures c.args.scope c.args.name.now c.args.value c.requires.scope c.set_in.new.self w c.set_in.ensures.done other
 
-pub returns-in_default-clause-done : goal.returns-in_default-clause-done
-returns-in_default-clause-done c = let s = c.self in var_done_none c.args.self.now s.inside.names s.inside.cells.items s.inside.kept.items s.view_is s.invariant c.args.name.now c.args.scope c.args.value (unknown c.args.self.now s.inside.names s.inside.cells.items s.inside.kept.items s.view_is s.invariant c.args.name.now c.args.scope c.in_default.ensures.found)
-
-pub returns-in_default-holder-clause-found : goal.returns-in_default-holder-clause-found
-returns-in_default-holder-clause-found c =
-    let s = c.self in
-    var_found_none c.args.self.now s.inside.names s.inside.cells.items s.inside.kept.items s.view_is s.invariant c.args.name.now c.args.scope (unheld c.args.self.now s.inside.names s.inside.cells.items s.inside.kept.items s.view_is s.invariant c.args.name.now c.args.scope c.in-Some.n c.in-Some.ensures.found.0 (sym c.holder.ensures.first ∙ c.in_default-holder.is))
-
-pub returns-in_default-holder-clause-done : goal.returns-in_default-holder-clause-done
-returns-in_default-holder-clause-done c =
-    let s = c.self in
-    var_done_none c.args.self.now s.inside.names s.inside.cells.items s.inside.kept.items s.view_is s.invariant c.args.name.now c.args.scope c.args.value (unheld c.args.self.now s.inside.names s.inside.cells.items s.inside.kept.items s.view_is s.invariant c.args.name.now c.args.scope c.in-Some.n c.in-Some.ensures.found.0 (sym c.holder.ensures.first ∙ c.in_default-holder.is))
-
-pub set_variable-requires-clause-scope : goal.set_variable-requires-clause-scope
-set_variable-requires-clause-scope c = let s = c.self in from_scope c.args.self.now s.inside.names s.inside.cells.items s.inside.kept.items s.view_is s.invariant c.args.name.now c.args.scope c.requires.scope
-
-pub invariant_of-self : goal.invariant_of-self
-invariant_of-self c =
-    let s = c.self in
-    let held = sym c.holder.ensures.first ∙ c.in-Some-holder.is in
-    shape_same s.inside.names s.inside.cells.items c.set_variable.new.cells.items s.inside.raws.entries s.inside.kept.items s.invariant c.set_variable.ensures.base (closed_variable c.args.self.now s.inside.names s.inside.cells.items s.inside.kept.items s.view_is s.invariant c.args.name.now c.args.scope c.in-Some.n c.in-Some-holder.i _ c.set_variable.new.cells.items (from_scope c.args.self.now s.inside.names s.inside.cells.items s.inside.kept.items s.view_is s.invariant c.args.name.now c.args.scope c.requires.scope) held c.set_variable.ensures) c.set_variable.ensures.heads
-
-pub returns-clause-found : goal.returns-clause-found
-returns-clause-found c =
-    let s = c.self in
-    ap is_some (sym c.in-Some-holder.is ∙ c.holder.ensures.first ∙ held_is c.args.self.now s.inside.names s.inside.cells.items s.inside.kept.items s.view_is s.invariant c.args.name.now c.args.scope c.in-Some.n c.in-Some.ensures.found.0)
-
-pub returns-clause-done : goal.returns-clause-done
-returns-clause-done c =
-    let s = c.self in
-    var_written c.args.self.now s.inside.names s.inside.cells.items s.inside.kept.items s.view_is s.invariant c.args.name.now c.args.scope c.args.value c.in-Some.n c.in-Some-holder.i c.set_variable.new.cells.items c.in-Some.ensures.found.0 (sym c.holder.ensures.first ∙ c.in-Some-holder.is) c.set_variable.ensures
+pub returns-clause-own : goal.returns-clause-own
+returns-clause-own c = λ w. var_own c.args.self.now c.links_are_older.ensures c.bunches_have_nodes.ensures c.args.scope c.args.name.now c.args.value c.requires.scope c.requires.value c.set_in.new.self c.set_in.ensures.done w
