@@ -1,8 +1,7 @@
 -- A manifest by its shape, and its faults.
-use Rattle.std.proofs.Common.{◌≡◌, ℕ, ◌<◌, ◌≤◌, true, List, length, map, take, codes, Option, Some, None, MatchOption, Result, Ok, Err, IfOk, IfErr, sym, ap, subst, ◌∙◌, arith}
+use Rattle.std.proofs.Common.{◌≡◌, ℕ, ◌<◌, true, List, length, map, take, codes, Some, MatchOption, Result, Ok, Err, IfOk, IfErr, sym, ap, subst, ◌∙◌, arith}
 use Rattle.std.proofs.lemmas.List.{take_all, take-map, length-map}
 use Rattle.serde_json.specs.Data.{Data}
-use Rattle.serde_json.specs.Read.{read}
 use Rattle.trace_reader.specs.Each.{Each}
 use Rattle.trace_reader.specs.Look.{list_at}
 use Rattle.trace_reader.specs.Slots.{IsEntry, names_in, are_slots}

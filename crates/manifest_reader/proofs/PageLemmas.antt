@@ -1,6 +1,6 @@
 -- Entries of a page by their shape and by their markup.
-use Rattle.std.proofs.Common.{◌≡◌, ℕ, zero, suc, ◌+◌, ◌<◌, ◌≤◌, true, false, Bool, List, [], ◌∷◌, ◌++◌, length, map, take, drop, codes, Option, Some, None, is_some, option_and_then, if◌then◌else◌, nat_eq, sum_by, string_bytes, refl, sym, ap, subst, ◌∙◌, arith}
-use Rattle.std.proofs.lemmas.List.{take-map, take-take, length-map, take_all}
+use Rattle.std.proofs.Common.{◌≡◌, ℕ, zero, suc, ◌≤◌, true, false, Bool, List, [], ◌∷◌, ◌++◌, length, map, take, drop, codes, Option, Some, None, option_and_then, if◌then◌else◌, nat_eq, sum_by, string_bytes, refl, sym, ap, subst, ◌∙◌, arith}
+use Rattle.std.proofs.lemmas.List.{take-map, take-take, length-map}
 use Rattle.std.proofs.lemmas.List.Sums.{sum_by-cons}
 use Rattle.std.proofs.lemmas.Grind.{common_steps, flat_map-append}
 use Rattle.plain_tree.specs.Trees.{Trees, End, size}
@@ -9,13 +9,12 @@ use Rattle.serde_json.specs.Data.{Data}
 use Rattle.serde_json.specs.Find.{get, as_str}
 use Rattle.trace_reader.specs.Each.{Each, none_left, one_each}
 use Rattle.trace_reader.specs.Keys.{has_only, keys_of}
-use Rattle.trace_reader.specs.Slots.{IsEntry, IsSlot, names_in, are_slots, name_list, slot_name}
+use Rattle.trace_reader.specs.Slots.{IsEntry, names_in, are_slots, name_list, slot_name}
 use Rattle.trace_reader.specs.Manifest as shaped
 use Rattle.trace_reader.specs.declared.keys.Shape.TheVariants as shape
-use Rattle.trace_reader.specs.declared.slot.SlotEntry.{SlotEntry}
 use Rattle.trace_reader.specs.declared.slot.PageEntry.{PageEntry}
 use Rattle.trace_reader.specs.declared.slot.PageEntry.TheVariants.{Html, Slot}
-use Rattle.trace_reader.proofs.EachLemmas.{each_take, each_length}
+use Rattle.trace_reader.proofs.EachLemmas.{each_take}
 use Rattle.trace_reader.proofs.KeyLemmas.{has_key}
 use Rattle.trace_reader.proofs.DistinctLemmas.{slots_front}
 use Rattle.manifest_reader.specs.Page.{Part, Markup, Widget, nodes_of, fuel_of, IsFilled, AreFilled}

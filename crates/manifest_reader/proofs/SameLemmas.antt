@@ -1,5 +1,5 @@
 -- A value is one manifest at most.
-use Rattle.std.proofs.Common.{◌≡◌, ℕ, true, List, [], ◌∷◌, map, String, Global, string_bytes, codes, Option, Some, None, refl, sym, ap, subst, ◌∙◌}
+use Rattle.std.proofs.Common.{◌≡◌, ℕ, List, [], ◌∷◌, map, String, Global, string_bytes, codes, Option, Some, None, sym, ap, subst, ◌∙◌}
 use Rattle.serde_json.specs.Data.{Data}
 use Rattle.serde_json.specs.Find.{get, as_str}
 use Rattle.markup_grammar.proofs.Answers.{one_reading}
@@ -9,12 +9,10 @@ use Rattle.trace_reader.specs.Each.{Each, none_left, one_each}
 use Rattle.trace_reader.specs.Slots.{IsEntry, IsFuel, names_in}
 use Rattle.trace_reader.specs.Trace.{judged_version}
 use Rattle.trace_reader.specs.Manifest.{IsLib, IsLibs, IsChannel, IsChannels, slot_in}
-use Rattle.trace_reader.specs.declared.manifest.ManifestShape.{ManifestShape}
 use Rattle.trace_reader.specs.declared.slot.PageEntry.{PageEntry}
 use Rattle.trace_reader.specs.declared.slot.PageEntry.TheVariants.{Html, Slot}
 use Rattle.trace_reader.proofs.EachLemmas.{each_same}
 use Rattle.manifest_reader.specs.Page.{Part, Markup, Widget, part_of, fuel_of, IsPageMarkup, IsFilled}
-use Rattle.manifest_reader.specs.Html.{html_text, entry_text}
 use Rattle.manifest_reader.specs.Manifest.{IsManifest, ReadsManifest}
 use Rattle.manifest_reader.specs.Same.{IsSame}
 use Rattle.manifest_reader.specs.declared.entry.Manifest.{Manifest}

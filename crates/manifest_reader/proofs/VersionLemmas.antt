@@ -1,5 +1,5 @@
 -- A manifest of version 1 with version 2.
-use Rattle.std.proofs.Common.{◌≡◌, ℕ, Bool, true, false, ◌||◌, ◌&&◌, List, [], ◌∷◌, codes, length, nat_eq, nat_cmp, Option, Some, None, unwrap_or, option_map, option_and_then, if◌then◌else◌, Ordering, Less, Equal, Greater, refl, sym, ap, subst, ◌∙◌, arith}
+use Rattle.std.proofs.Common.{◌≡◌, ℕ, Bool, true, false, ◌||◌, ◌&&◌, List, [], ◌∷◌, codes, length, nat_eq, nat_cmp, Option, unwrap_or, option_map, option_and_then, if◌then◌else◌, Ordering, Less, Equal, Greater, refl, sym, ap, subst, ◌∙◌, arith}
 use Rattle.std.specs.Cmp.Lexicographic.{slice_cmp}
 use Rattle.std.specs.Ordering.{match_ordering}
 use Rattle.std.specs.Str.{bytes_eq}
@@ -8,9 +8,9 @@ use Rattle.serde_json.specs.Find.{get, as_array, as_number, as_u64}
 use Rattle.serde_json.proofs.Views.{get_member-put, get_member-put_other}
 use Rattle.trace_reader.specs.Each.{Each, none_left, one_each}
 use Rattle.trace_reader.specs.Keys.{has_only, is_key, keys_of, members_only}
-use Rattle.trace_reader.specs.Look.{list_at, values_in}
+use Rattle.trace_reader.specs.Look.{values_in}
 use Rattle.trace_reader.specs.Slots.{IsEntry, IsFuel, names_in}
-use Rattle.trace_reader.specs.Trace.{IsJson, version_of, has_version, judged_version}
+use Rattle.trace_reader.specs.Trace.{IsJson, version_of}
 use Rattle.trace_reader.specs.Manifest as shaped
 use Rattle.trace_reader.specs.declared.keys.Shape.TheVariants as shape
 use Rattle.trace_reader.specs.declared.manifest.ManifestShape.{ManifestShape}
