@@ -13,3 +13,4 @@ pub mod Enclosing
 pub mod Walk
 pub mod Accepting
 pub mod Accepts
+pub mod Slots

@@ -1,4 +1,4 @@
-//! The rules that an accepted script keeps.
+//! The rules that accepted scripts and widget files keep.
 #![tactic(auto)]
 
 mod accepted;
@@ -12,6 +12,7 @@ mod opening;
 mod pushes;
 mod rows;
 mod scope;
+mod slot;
 #[cfg(test)]
 mod tests;
 mod walk;
@@ -21,3 +22,4 @@ pub use accepted::Accepted;
 pub use judge::check;
 pub use laws::{callee_breaks, directive_breaks, one_first, opening_breaks};
 pub use scope::{CheckFault, Scope};
+pub use slot::{CheckMarkupFault, check_markup};

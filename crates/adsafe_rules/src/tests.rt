@@ -1,5 +1,5 @@
 //! Small texts, node by node; whole scripts are judged where they are parsed.
-use crate::{CheckFault, Scope, check};
+use crate::{CheckFault, CheckMarkupFault, Scope, check, check_markup};
 use code_units::Text;
 use js_tree::{Expr, Fun, Stmt, Tree, Word};
 use std::alloc::Global;
@@ -118,5 +118,98 @@ fn libraries(rt: HostRuntime) -> Result<(), Fail> {
     )
     .err();
     assert_eq!(rt; misplaced, Some(CheckFault::Broken { rule: 2, at: 0 }));
+    Ok(())
+}
+
+// A slot's file, with the rule that it breaks first and the place.
+const SLOTS: [(&str, u8, usize); 11] = [
+    (
+        "<div id=\"A_\">\n<p>hi</b>\n<script>\nADSAFE.go(\"A_\", function (dom, lib) {\n});\n</script>\n</div>\n",
+        1,
+        21,
+    ),
+    (
+        "<div id=\"A_\">\n<p>hi</p>\n<script>\nADSAFE.go(\"A_\", function (dom, lib) {\n});\n</script>\n</div>\nthe end\n",
+        2,
+        91,
+    ),
+    (
+        "<div id=\"B_\">\n<p>hi</p>\n<script>\nADSAFE.go(\"A_\", function (dom, lib) {\n});\n</script>\n</div>\n",
+        3,
+        9,
+    ),
+    ("<div id=\"A_\">\n<p>hi</p>\n</div>\n", 4, 14),
+    (
+        "<div id=\"A_\">\n<script>\nADSAFE.go(\"A_\", function (dom, lib) {\n});\n</script>\n<p>hi</p>\n<script>\nADSAFE.go(\"A_\", function (dom, lib) {\n});\n</script>\n</div>\n",
+        5,
+        14,
+    ),
+    (
+        "<div id=\"A_\">\n<form>hi</form>\n<script>\nADSAFE.go(\"A_\", function (dom, lib) {\n});\n</script>\n</div>\n",
+        6,
+        14,
+    ),
+    (
+        "<div id=\"A_\">\n<p onclick=\"go()\">hi</p>\n<script>\nADSAFE.go(\"A_\", function (dom, lib) {\n});\n</script>\n</div>\n",
+        7,
+        17,
+    ),
+    (
+        "<div id=\"A_\">\n<p id=\"out\">hi</p>\n<script>\nADSAFE.go(\"A_\", function (dom, lib) {\n});\n</script>\n</div>\n",
+        8,
+        21,
+    ),
+    (
+        "<div id=\"A_\">\n<a href=\"javascript:go()\">hi</a>\n<script>\nADSAFE.go(\"A_\", function (dom, lib) {\n});\n</script>\n</div>\n",
+        9,
+        23,
+    ),
+    (
+        "<div id=\"A_\">\n<p style=\"background-color: url(x)\">hi</p>\n<script>\nADSAFE.go(\"A_\", function (dom, lib) {\n});\n</script>\n</div>\n",
+        10,
+        24,
+    ),
+    (
+        "<div id=\"A_\">\n<script>\nADSAFE.id(\"A_\");\n</script>\n<script src=\"n.js\"></script>\n<script>\nADSAFE.go(\"A_\", function (dom, lib) {\n});\n</script>\n</div>\n",
+        11,
+        63,
+    ),
+];
+
+// The rule and the place that a file is refused by, none where it is accepted.
+fn refusal(alloc: Global, file: &str) -> Result<Option<CheckMarkupFault>, Fail> {
+    let libs = vec![in alloc; text(alloc, b"m.js")?]?;
+    Ok(check_markup(alloc, &text(alloc, b"A_")?, &libs, file.as_bytes()).err())
+}
+
+#[test]
+fn slots_are_refused(rt: HostRuntime) -> Result<(), Fail> {
+    for (file, rule, at) in SLOTS {
+        let found = refusal(rt.alloc(), file)?;
+        assert_eq!(rt;
+            found,
+            Some(CheckMarkupFault::Broken { rule, at }),
+            "at {file}"
+        );
+    }
+    Ok(())
+}
+
+// A root with so many empty elements.
+fn crowd(alloc: Global, count: u32) -> Result<String, Fail> {
+    let mut file = String::from_str(alloc, "<div id=\"A_\">")?;
+    for _ in 0..count {
+        file.push_str("<br>")?;
+    }
+    file.push_str("<script></script></div>")?;
+    Ok(file)
+}
+
+#[test]
+fn a_slot_has_so_many_nodes(rt: HostRuntime) -> Result<(), Fail> {
+    let alloc = rt.alloc();
+    assert_eq!(rt; refusal(alloc, &crowd(alloc, 16_383)?)?, None);
+    let found = refusal(alloc, &crowd(alloc, 16_384)?)?;
+    assert_eq!(rt; found, Some(CheckMarkupFault::Broken { rule: 12, at: 0 }));
     Ok(())
 }
