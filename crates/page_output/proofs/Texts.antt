@@ -14,15 +14,6 @@ use Rattle.plain_tree.specs.Plains.{unplaced, unplaced_all, attribute_of}
 use Rattle.plain_tree.specs.Print.{printed, printed_text, opening, closing}
 use Rattle.page_tree.proofs.Plains.{unplaced_first, unplaced_element}
 
--- one more piece
-pub piece_step : {A B : Type 0} (f : List A → List B) (g : A → List B) (xs : List A) (i : ℕ) (x : A) (old new all : List B) → ((y : A) (ys : List A) → f (y ∷ ys) ≡ g y ++ f ys) → i < length xs → x ≡ get_or xs i x → new ≡ old ++ g x → old ++ f (drop i xs) ≡ all → new ++ f (drop (i + 1) xs) ≡ all
-piece_step f g xs i x old new all cons lt ex en inv =
-    ap (λ l. l ++ f (drop (i + 1) xs)) (en ∙ ap (λ y. old ++ g y) ex) ∙ append_assoc old (g (get_or xs i x)) (f (drop (i + 1) xs))
-    ∙ ap (λ l. old ++ l) (sym (cons (get_or xs i x) (drop (i + 1) xs)) ∙ sym (at_drop_more f xs i x lt)) ∙ inv
-
-pub piece_done : {A B : Type 0} (f : List A → List B) (xs : List A) (i : ℕ) (old all : List B) → f [] ≡ [] → length xs ≤ i → old ++ f (drop i xs) ≡ all → old ≡ all
-piece_done f xs i old all e le inv = sym (append-nil old) ∙ ap (λ l. old ++ l) (sym e) ∙ ap (λ l. old ++ l) (sym (at_drop_all f xs i le)) ∙ inv
-
 pub printed_beside : (style : List ℕ → List ℕ) (a b : PlainTrees) → printed style (beside a b) ≡ printed style a ++ printed style b
 printed_beside style End b = refl
 printed_beside style (Node m (TextOf us) ks ts) b = ap (λ l. printed_text us ++ l) (printed_beside style ts b) ∙ sym (append_assoc (printed_text us) (printed style ts) (printed style b))

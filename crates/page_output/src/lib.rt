@@ -4,5 +4,7 @@
 mod escape;
 mod markup;
 mod style;
+#[cfg(test)]
+mod tests;
 
 pub use markup::{print, print_plain};
