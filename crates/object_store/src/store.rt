@@ -312,11 +312,13 @@ impl Store {
         ensures own { OnOk result ((w : ℕ) → visible_at w self.old.cells cell ≡ true → Changed w self.old self.new cell (own_put name.now (own_value w self.old.cells value))) }
         ensures others { (w : ℕ) → is_of_at w self.old.cells cell ≡ false → owned w self.new ≡ owned w self.old }
     {
+        // These laws say that what other cells lead to stays.
         self.links_are_older();
         self.bunches_have_nodes();
         self.put_in(cell, name, value)
     }
 
+    // `put`, without what widgets see of it.
     fn put_in(&mut self, cell: CellId, name: &Text, value: Value) -> Result<(), StoreFault>
         requires at { cell < length self.old.cells }
         requires value { IsRefWithin (length self.old.cells) value }
@@ -386,11 +388,13 @@ impl Store {
         // Each widget has what it had.
         ensures others { (w : ℕ) → owned w self.new ≡ owned w self.old }
     {
+        // These laws say that what other cells lead to stays.
         self.links_are_older();
         self.bunches_have_nodes();
         self.add_node(alloc, node)
     }
 
+    // `add_raw`, without what widgets see of it.
     fn add_node(&mut self, alloc: Global, node: u32) -> Result<CellId, Memory>
         requires { node < 2097152 }
         ensures ok { IfOk result (λ id. MatchOption (raw_place node self.old.cells)
@@ -422,11 +426,13 @@ impl Store {
         // Another widget has what it had.
         ensures others { (w : ℕ) → (number_in owner ≡ w → ⊥) → owned w self.new ≡ owned w self.old }
     {
+        // These laws say that what other cells lead to stays.
         self.links_are_older();
         self.bunches_have_nodes();
         self.make_in(alloc, owner, cell)
     }
 
+    // `make`, without what widgets see of it.
     fn make_in(&mut self, alloc: Global, owner: Owner, cell: NewCell) -> Result<CellId, StoreFault>
         requires widget { IsWidget owner }
         requires fit { IsMakeable self.old.cells cell }
@@ -535,11 +541,13 @@ impl Store {
         ensures own { OnOk result ((w : ℕ) → visible_at w self.old.cells cell ≡ true → Changed w self.old self.new cell (own_removed name.now)) }
         ensures others { (w : ℕ) → is_of_at w self.old.cells cell ≡ false → owned w self.new ≡ owned w self.old }
     {
+        // These laws say that what other cells lead to stays.
         self.links_are_older();
         self.bunches_have_nodes();
         self.remove_in(cell, name)
     }
 
+    // `remove`, without what widgets see of it.
     fn remove_in(&mut self, cell: CellId, name: &Text) -> Result<bool, StoreFault>
         requires { cell < length self.old.cells }
         ensures ok { IfOk result (λ b. (remove_refusal self.old cell ≡ None) × (b ≡ removed self.old cell name.now) × (self.new ≡ remove_done self.old cell name.now)) }
@@ -573,11 +581,13 @@ impl Store {
         ensures own { (w : ℕ) → IfSome (holder self.old.cells scope name.now) (λ h. is_own_scope_at w self.old.cells h ≡ true → Assigned w self.old self.new h (own_set name.now (own_value w self.old.cells value))) }
         ensures others { (w : ℕ) → option_map_or (is_of_at w self.old.cells) (holder self.old.cells scope name.now) false ≡ false → owned w self.new ≡ owned w self.old }
     {
+        // These laws say that what other cells lead to stays.
         self.links_are_older();
         self.bunches_have_nodes();
         self.set_in(scope, name, value)
     }
 
+    // `var_set`, without what widgets see of it.
     fn set_in(&mut self, scope: CellId, name: &Text, value: Value) -> bool
         requires at { scope < length self.old.cells }
         requires scope { is_scope_at self.old.cells scope ≡ true }
