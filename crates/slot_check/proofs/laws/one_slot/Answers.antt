@@ -1,0 +1,11 @@
+use Rattle.slot_check.proofs.Firsts.{first_once, first_not_clean}
+use Rattle.slot_check.proofs.Written.{line_once, lines_once}
+use Rattle.slot_check.proofs.laws.one_slot.Goals as goal
+
+pub returns : goal.returns
+returns c = record {
+  first = λ slot r q a b x y f g. let same = first_once slot r q a b x y f g in (same.rule, same.source, same.at);
+  clean = first_not_clean;
+  line = line_once;
+  lines = lines_once;
+}

@@ -1,0 +1,4 @@
+pub mod Sources
+pub mod Slot
+pub mod Verdicts
+pub mod Line

@@ -1,0 +1,15 @@
+//! Laws above the definitions.
+ghost use Rattle.std.specs.Prelude.{◌≡◌, ℕ, List, Bool};
+ghost use Rattle.trace_text.specs.declared.line.Rule.{Rule};
+ghost use Rattle.slot_check.specs.Sources.{Source, Slot};
+ghost use Rattle.slot_check.specs.Slot.{SlotFirst, IsCleanSlot};
+ghost use Rattle.slot_check.specs.Line.{IsSlotLine, AreSlotLines};
+
+/// A slot breaks one rule first, in one file, at one byte; one that breaks a rule is not clean; and
+/// a slot has one line, as slots have one list of lines.
+pub fn one_slot()
+    ensures first { (slot : Slot) (r q : Rule) (a b : Source) (x y : ℕ) → SlotFirst slot r a x → SlotFirst slot q b y → (r ≡ q) × (a ≡ b) × (x ≡ y) }
+    ensures clean { (slot : Slot) (r : Rule) (a : Source) (x : ℕ) → SlotFirst slot r a x → IsCleanSlot slot → ⊥ }
+    ensures line { (slot : Slot) (r q : Bool) (b c : List ℕ) → IsSlotLine slot r b → IsSlotLine slot q c → (r ≡ q) × (b ≡ c) }
+    ensures lines { (slots : List Slot) (r q : Bool) (b c : List ℕ) → AreSlotLines slots r b → AreSlotLines slots q c → (r ≡ q) × (b ≡ c) }
+{}

@@ -1,0 +1,16 @@
+//! Which rule a slot breaks first, and what is written of it.
+#![tactic(auto)]
+
+mod laws;
+mod libraries;
+mod lines;
+mod parts;
+mod scripts;
+mod sources;
+mod verdict;
+
+pub use laws::one_slot;
+pub use libraries::{LibraryVerdicts, judge_libraries};
+pub use lines::{SlotText, slot_line, slot_lines};
+pub use sources::SourceFile;
+pub use verdict::{SlotVerdict, Widget, judge_slot};
