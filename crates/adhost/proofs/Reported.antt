@@ -1,31 +1,140 @@
 -- From what the files told to the answer.
-use Rattle.std.proofs.Common.{◌≡◌, ℕ, ◌≤◌, List, [], length, Option, Some, None, IfSome, refl, sym, Bool, true, false, Result, Err, IsErrOf, ap, ◌∙◌}
-use Rattle.host_io.specs.Files.{FileMap}
+use Rattle.std.proofs.Common.{◌≡◌, ℕ, ◌≤◌, List, [], length, Option, Some, None, IfSome, Result, Ok, Err, IfOk, IfErr, IsErrOf, refl, sym, ap, subst, ◌∙◌, Bool}
+use Rattle.host_io.specs.Files.{FileMap, IsThere}
+use Rattle.manifest_reader.specs.declared.entry.Manifest.{Manifest}
+use Rattle.manifest_reader.specs.Manifest.{ReadsManifest}
+use Rattle.slot_check.specs.Sources.{Source}
+use Rattle.slot_check.specs.Line.{AreSlotLines}
+use Rattle.adhost.specs.declared.ending.Status.{Status}
 use Rattle.adhost.specs.declared.ending.Status.TheVariants as status
 use Rattle.adhost.specs.declared.forms.Asked.{Asked}
-use Rattle.adhost.specs.Reading.{IsLong}
+use Rattle.adhost.specs.declared.reading.Stop.{Stop}
+use Rattle.adhost.specs.declared.reports.Report.{Report}
+use Rattle.adhost.specs.Reading.{IsLong, IsReadStop, IsPageStop, AllThere}
 use Rattle.adhost.specs.Forms.{IsForm}
-use Rattle.adhost.specs.Answer.{library_asked, IsText, library_limit, ending, Answer, report, too_large, unbuilt, usage}
+use Rattle.adhost.specs.Page.{file_limit, manifest_limit, AreRead, IsFirstLong, files_named, slots_of, HasManifest}
+use Rattle.adhost.specs.Answer.{library_asked, manifest_asked, IsText, ending, LibraryAnswer, report, too_large, HasLines, PageAnswer, lines, long_manifest, bad_manifest, long_file, Answer, library, page, unbuilt, usage}
+use Rattle.adhost.specs.Ends.{HasLibrary, HasPage, HasReport, of_library, of_page}
+use Rattle.adhost.proofs.Asking.{no_library}
+use Rattle.adhost.proofs.Gathered.{some_is, there_of, all_there}
+use Rattle.adhost.proofs.Manifests.{manifest_once}
 
-pub report_of : (told : Option FileMap) (words : List (List ℕ)) (what : Asked) (name file bytes : List ℕ) (refused : Bool) → library_asked words ≡ Some (what, name) → IfSome told (λ m. m name ≡ Some file) → length file ≤ library_limit → IsText what name file refused bytes → IfSome told (λ m. Answer words m (ending refused) bytes)
-report_of None words what name file bytes refused named there within written = there
-report_of (Some m) words what name file bytes refused named there within written = report {what = what} refused (record { named = named; there = there }) within written
+-- the answer on a library or a page is that of the words
+pub library_answer : (told : Option FileMap) (words : List (List ℕ)) (what : Asked) (name : List ℕ) (s : Status) (bytes : List ℕ) → library_asked words ≡ Some (what, name) → IfSome told (λ m. LibraryAnswer m what name s bytes) → IfSome told (λ m. Answer words m s bytes)
+library_answer None words what name s bytes asked answer = answer
+library_answer (Some m) words what name s bytes asked answer = library asked answer
 
-pub long_of : (told : Option FileMap) (words : List (List ℕ)) (what : Asked) (name : List ℕ) → library_asked words ≡ Some (what, name) → IfSome told (λ m. IsLong (m name) library_limit) → IfSome told (λ m. Answer words m status.TooLarge [])
-long_of None words what name named long = long
-long_of (Some m) words what name named long = long_at (m name) refl long where
-  long_at : (o : Option (List ℕ)) → m name ≡ o → IsLong o library_limit → Answer words m status.TooLarge []
-  long_at None there long = absurd long
-  long_at (Some file) there long = too_large {what = what} (record { named = named; there = there }) long
+pub page_answer : (told : Option FileMap) (words : List (List ℕ)) (name : List ℕ) (s : Status) (bytes : List ℕ) → manifest_asked words ≡ Some name → IfSome told (λ m. PageAnswer m name s bytes) → IfSome told (λ m. Answer words m s bytes)
+page_answer None words name s bytes asked answer = answer
+page_answer (Some m) words name s bytes asked answer = page asked answer
 
-pub unbuilt_of : (told : Option FileMap) (words : List (List ℕ)) → library_asked words ≡ None → IsForm words → IfSome told (λ m. Answer words m status.Unbuilt [])
-unbuilt_of None words other form = tt
-unbuilt_of (Some m) words other form = unbuilt other form
+pub unbuilt_of : (told : Option FileMap) (words : List (List ℕ)) → library_asked words ≡ None → manifest_asked words ≡ None → IsForm words → IfSome told (λ m. Answer words m status.Unbuilt [])
+unbuilt_of None words no_lib no_page form = tt
+unbuilt_of (Some m) words no_lib no_page form = unbuilt no_lib no_page form
 
 pub usage_of : (told : Option FileMap) (words : List (List ℕ)) → (IsForm words → ⊥) → IfSome told (λ m. Answer words m status.Usage [])
 usage_of None words no_form = tt
 usage_of (Some m) words no_form = usage no_form
 
--- an error that was handed on is that of the call
-pub handed_on : {T U E : Type 0} (r : Result T E) (from to is : E) → r ≡ Err from → from ≡ to → IsErrOf r is → IsErrOf {T = U} (Err to) is
-handed_on r from to is e same known = let same_is : from ≡ is = cc in ap Err (sym same ∙ same_is)
+-- a library
+pub report_of : (told : Option FileMap) (what : Asked) (name file bytes : List ℕ) (refused : Bool) → IfSome told (λ m. m name ≡ Some file) → length file ≤ file_limit → IsText what name file refused bytes → IfSome told (λ m. LibraryAnswer m what name (ending refused) bytes)
+report_of None what name file bytes refused there within written = there
+report_of (Some m) what name file bytes refused there within written = report refused (record { named = refl; there = there; within = within }) written
+
+pub long_of : (told : Option FileMap) (what : Asked) (name : List ℕ) → IfSome told (λ m. IsLong (m name) file_limit) → IfSome told (λ m. LibraryAnswer m what name status.TooLarge [])
+long_of None what name long = long
+long_of (Some m) what name long = long_at (m name) refl long where
+  long_at : (o : Option (List ℕ)) → m name ≡ o → IsLong o file_limit → LibraryAnswer m what name status.TooLarge []
+  long_at None there long = absurd long
+  long_at (Some file) there long = too_large there long
+
+-- a page
+manifest_of : (m : FileMap) (name file : List ℕ) (manifest : Manifest) → m name ≡ Some file → length file ≤ manifest_limit → ReadsManifest file manifest → HasManifest m name manifest
+manifest_of m name file manifest there within reads = record { source = record { name = name; bytes = file }; read = record { named = refl; there = there; within = within }; reads = reads }
+
+pub lines_of : (told : Option FileMap) (name file bytes : List ℕ) (manifest : Manifest) (refused : Bool) → IfSome told (λ m. m name ≡ Some file) → length file ≤ manifest_limit → ReadsManifest file manifest → IfSome told (λ m. HasLines m manifest refused bytes) → IfSome told (λ m. PageAnswer m name (ending refused) bytes)
+lines_of None name file bytes manifest refused there within reads has = has
+lines_of (Some m) name file bytes manifest refused there within reads has = lines refused (manifest_of m name file manifest there within reads) has
+
+pub long_manifest_of : (told : Option FileMap) (name : List ℕ) → IfSome told (λ m. IsLong (m name) manifest_limit) → IfSome told (λ m. PageAnswer m name status.TooLarge [])
+long_manifest_of None name long = long
+long_manifest_of (Some m) name long = long_at (m name) refl long where
+  long_at : (o : Option (List ℕ)) → m name ≡ o → IsLong o manifest_limit → PageAnswer m name status.TooLarge []
+  long_at None there long = absurd long
+  long_at (Some file) there long = long_manifest there long
+
+pub bad_of : (told : Option FileMap) (name file : List ℕ) → IfSome told (λ m. m name ≡ Some file) → length file ≤ manifest_limit → ((manifest : Manifest) → ReadsManifest file manifest → ⊥) → IfSome told (λ m. PageAnswer m name status.BadManifest [])
+bad_of None name file there within none = there
+bad_of (Some m) name file there within none = bad_manifest {source = record { name = name; bytes = file }} (record { named = refl; there = there; within = within }) none
+
+pub long_file_of : (told : Option FileMap) (name file : List ℕ) (manifest : Manifest) → IfSome told (λ m. m name ≡ Some file) → length file ≤ manifest_limit → ReadsManifest file manifest → IfSome told (λ m. IsFirstLong m file_limit (files_named manifest)) → IfSome told (λ m. PageAnswer m name status.TooLarge [])
+long_file_of None name file manifest there within reads long = long
+long_file_of (Some m) name file manifest there within reads long = long_file (manifest_of m name file manifest there within reads) long
+
+pub has_lines : (told : Option FileMap) (manifest : Manifest) (names : List (List ℕ)) (sources : List Source) (refused : Bool) (bytes : List ℕ) → names ≡ files_named manifest → IfSome told (λ m. AreRead m file_limit names sources) → AreSlotLines (slots_of manifest sources) refused bytes → IfSome told (λ m. HasLines m manifest refused bytes)
+has_lines None manifest names sources refused bytes same read written = read
+has_lines (Some m) manifest names sources refused bytes same read written = record { sources = sources; read = subst (λ ns. AreRead m file_limit ns sources) same read; lines = written }
+
+-- over calm files
+pub calm_library : (told : Option FileMap) (name : List ℕ) (calm P : Type 0) → (calm → IsThere told name → P) → IfSome told (λ m. calm → HasLibrary m name → P)
+calm_library None name calm P holds = tt
+calm_library (Some m) name calm P holds = λ is has. holds is (there_of m name has.source.bytes has.read.there)
+
+pub calm_manifest : (told : Option FileMap) (name : List ℕ) (calm P : Type 0) → (calm → IsThere told name → P) → IfSome told (λ m. calm → HasPage m name → P)
+calm_manifest None name calm P holds = tt
+calm_manifest (Some m) name calm P holds = λ is has. holds is (there_of m name has.has.source.bytes has.has.read.there)
+
+pub calm_page : (told : Option FileMap) (name file : List ℕ) (manifest : Manifest) (calm P : Type 0) → IfSome told (λ m. m name ≡ Some file) → ReadsManifest file manifest → (calm → IsThere told name → AllThere told (files_named manifest) → P) → IfSome told (λ m. calm → HasPage m name → P)
+calm_page None name file manifest calm P there reads holds = tt
+calm_page (Some m) name file manifest calm P there reads holds = λ is has.
+    let same : has.has.source.bytes ≡ file = some_is has.has.source.bytes file (sym has.has.read.there ∙ there) in
+    let names = manifest_once file has.manifest manifest (subst (λ b. ReadsManifest b has.manifest) same has.has.reads) reads in
+    holds is (there_of m name file there) (subst (AllThere (Some m)) names.files (all_there m file_limit (files_named has.manifest) has.sources has.read))
+
+-- what holds over calm files of the library or the page of the words
+pub calm_words_library : (told : Option FileMap) (words : List (List ℕ)) (what : Asked) (name : List ℕ) (calm P : Type 0) → library_asked words ≡ Some (what, name) → IfSome told (λ m. calm → HasLibrary m name → P) → IfSome told (λ m. calm → HasReport words m → P)
+calm_words_library None words what name calm P asked holds = holds
+calm_words_library (Some m) words what name calm P asked holds = λ is has. by has is where
+  by : HasReport words m → calm → P
+  by (of_library {what = other} {name = n} also has) is =
+      let same : name ≡ n = ap (λ p. p.1) (some_is (what, name) (other, n) (sym asked ∙ also)) in
+      holds is (subst (HasLibrary m) (sym same) has)
+  by (of_page {name = n} also has) is = let none = sym (no_library words n also) ∙ asked in cc
+
+pub calm_words_page : (told : Option FileMap) (words : List (List ℕ)) (name : List ℕ) (calm P : Type 0) → manifest_asked words ≡ Some name → IfSome told (λ m. calm → HasPage m name → P) → IfSome told (λ m. calm → HasReport words m → P)
+calm_words_page None words name calm P asked holds = holds
+calm_words_page (Some m) words name calm P asked holds = λ is has. by has is where
+  by : HasReport words m → calm → P
+  by (of_library {what = other} {name = n} also has) is = let none = sym (no_library words name asked) ∙ also in cc
+  by (of_page {name = n} also has) is =
+      let same : name ≡ n = some_is name n (sym asked ∙ also) in
+      holds is (subst (HasPage m) (sym same) has)
+
+-- words that ask for nothing have no report
+pub calm_words_none : (told : Option FileMap) (words : List (List ℕ)) (calm P : Type 0) → library_asked words ≡ None → manifest_asked words ≡ None → IfSome told (λ m. calm → HasReport words m → P)
+calm_words_none None words calm P no_lib no_page = tt
+calm_words_none (Some m) words calm P no_lib no_page = λ is has. by has where
+  by : HasReport words m → P
+  by (of_library also has) = let none = sym no_lib ∙ also in cc
+  by (of_page also has) = let none = sym no_page ∙ also in cc
+
+-- the answer as a whole
+pub page_whole : (told : Option FileMap) (words : List (List ℕ)) (name : List ℕ) (r : Result Report Stop) → manifest_asked words ≡ Some name → IfOk r (λ t. IfSome told (λ m. PageAnswer m name (ending t.refused) t.bytes.items)) → IfOk r (λ t. IfSome told (λ m. Answer words m (ending t.refused) t.bytes.items))
+page_whole told words name (Ok t) asked answer = page_answer told words name (ending t.refused) t.bytes.items asked answer
+page_whole told words name (Err e) asked answer = tt
+
+pub library_whole : (told : Option FileMap) (words : List (List ℕ)) (what : Asked) (name : List ℕ) (r : Result Report Stop) → library_asked words ≡ Some (what, name) → IfOk r (λ t. IfSome told (λ m. LibraryAnswer m what name (ending t.refused) t.bytes.items)) → IfOk r (λ t. IfSome told (λ m. Answer words m (ending t.refused) t.bytes.items))
+library_whole told words what name (Ok t) asked answer = library_answer told words what name (ending t.refused) t.bytes.items asked answer
+library_whole told words what name (Err e) asked answer = tt
+
+-- the stops that a page or a library has not
+err_is : (s t : Stop) → ◌≡◌ {A = Result Report Stop} (Err s) (Err t) → s ≡ t
+err_is s t e = cc
+
+pub no_page_stop : {P : Type 0} (r : Result Report Stop) (s : Stop) → (IsPageStop s → ⊥) → IfErr r IsPageStop → IsErrOf r s → P
+no_page_stop (Ok t) s never stops is = cc
+no_page_stop (Err e) s never stops is = absurd (never (subst IsPageStop (err_is e s is) stops))
+
+pub no_read_stop : {P : Type 0} (r : Result Report Stop) (s : Stop) → (IsReadStop s → ⊥) → IfErr r IsReadStop → IsErrOf r s → P
+no_read_stop (Ok t) s never stops is = cc
+no_read_stop (Err e) s never stops is = absurd (never (subst IsReadStop (err_is e s is) stops))

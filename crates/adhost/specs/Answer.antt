@@ -1,49 +1,64 @@
 -- What a run answers.
-use Rattle.std.specs.Prelude.{◌≡◌, ℕ, ◌<◌, ◌≤◌, List, [], ◌∷◌, map, length, take, Option, Some, None, codes, String, string_bytes, if◌then◌else◌, Bool, true, false}
+use Rattle.std.specs.Prelude.{◌≡◌, ℕ, ◌<◌, ◌≤◌, List, [], ◌∷◌, length, take, Option, Some, None, codes, if◌then◌else◌, Bool, true, false}
 use Rattle.std.specs.Str.{bytes_eq}
-use Rattle.std.specs.declared.alloc.Global.{Global}
 use Rattle.host_io.specs.Files.{FileMap}
 use Rattle.host_io.specs.Sink.{with_bytes}
+use Rattle.manifest_reader.specs.declared.entry.Manifest.{Manifest}
+use Rattle.manifest_reader.specs.Manifest.{ReadsManifest}
 use Rattle.script_check.specs.Line.{IsLine, IsTidied}
+use Rattle.slot_check.specs.Sources.{Source}
+use Rattle.slot_check.specs.Line.{AreSlotLines}
 use Rattle.adhost.specs.declared.ending.Status.{Status}
 use Rattle.adhost.specs.declared.ending.Status.TheVariants as status
 use Rattle.adhost.specs.declared.forms.Asked.{Asked}
 use Rattle.adhost.specs.declared.forms.Asked.TheVariants as asked
 use Rattle.adhost.specs.Forms.{IsForm}
-
-abbrev pub texts : List (String Global) → List (List ℕ)
-texts words = map string_bytes words
+use Rattle.adhost.specs.Page.{file_limit, manifest_limit, IsRead, AreRead, IsFirstLong, files_named, HasManifest, slots_of}
 
 -- what `check-lib FILE` and `tidy FILE` ask, and the file
 abbrev pub library_asked : List (List ℕ) → Option (Asked × List ℕ)
 library_asked (word ∷ name ∷ []) = if bytes_eq word (codes "check-lib") then Some (asked.Line, name) else (if bytes_eq word (codes "tidy") then Some (asked.Tidied, name) else None)
 library_asked _ = None
 
+-- the manifest of `check MANIFEST`
+abbrev pub manifest_asked : List (List ℕ) → Option (List ℕ)
+manifest_asked (word ∷ name ∷ []) = if bytes_eq word (codes "check") then Some name else None
+manifest_asked _ = None
+
 -- what is written of a library: its line, or its tidied text
 abbrev pub IsText : Asked → List ℕ → List ℕ → Bool → List ℕ → Type 0
 IsText asked.Line = IsLine
 IsText asked.Tidied = IsTidied
 
--- the bytes that a library may have
-abbrev pub library_limit : ℕ
-library_limit = 262144
-
--- the words ask this of this library, and it is there
-pub record IsLibrary (words : List (List ℕ)) (files : FileMap) (what : Asked) (name file : List ℕ) : Type 0 where
-  pub named : library_asked words ≡ Some (what, name)
-  pub there : files name ≡ Some file
-
--- the status after a line, by whether it names a broken rule
+-- the status after lines, by whether one of them names a broken rule
 abbrev pub ending : Bool → Status
 ending true = status.Refused
 ending false = status.Ok
 
+-- what is answered on a library
+pub data LibraryAnswer (files : FileMap) (what : Asked) (name : List ℕ) : Status → List ℕ → Type 0 where
+  report : {source : Source} {bytes : List ℕ} (refused : Bool) → IsRead files file_limit name source → IsText what name source.bytes refused bytes → LibraryAnswer files what name (ending refused) bytes
+  too_large : {file : List ℕ} → files name ≡ Some file → file_limit < length file → LibraryAnswer files what name status.TooLarge []
+
+-- the files that a manifest names are there, and these are the lines of its slots
+pub record HasLines (files : FileMap) (manifest : Manifest) (refused : Bool) (bytes : List ℕ) : Type 0 where
+  pub sources : List Source
+  pub read : AreRead files file_limit (files_named manifest) sources
+  pub lines : AreSlotLines (slots_of manifest sources) refused bytes
+
+-- what is answered on the manifest of a name. The first of its files that is too large decides, if those before it are there.
+pub data PageAnswer (files : FileMap) (name : List ℕ) : Status → List ℕ → Type 0 where
+  lines : {manifest : Manifest} {bytes : List ℕ} (refused : Bool) → HasManifest files name manifest → HasLines files manifest refused bytes → PageAnswer files name (ending refused) bytes
+  long_manifest : {file : List ℕ} → files name ≡ Some file → manifest_limit < length file → PageAnswer files name status.TooLarge []
+  bad_manifest : {source : Source} → IsRead files manifest_limit name source → ((manifest : Manifest) → ReadsManifest source.bytes manifest → ⊥) → PageAnswer files name status.BadManifest []
+  long_file : {manifest : Manifest} → HasManifest files name manifest → IsFirstLong files file_limit (files_named manifest) → PageAnswer files name status.TooLarge []
+
 -- Answer: the status of the words over the files, and the bytes that are written
 pub data Answer (words : List (List ℕ)) (files : FileMap) : Status → List ℕ → Type 0 where
-  report : {what : Asked} {name file bytes : List ℕ} (refused : Bool) → IsLibrary words files what name file → length file ≤ library_limit → IsText what name file refused bytes → Answer words files (ending refused) bytes
-  too_large : {what : Asked} {name file : List ℕ} → IsLibrary words files what name file → library_limit < length file → Answer words files status.TooLarge []
+  library : {what : Asked} {name : List ℕ} {s : Status} {bytes : List ℕ} → library_asked words ≡ Some (what, name) → LibraryAnswer files what name s bytes → Answer words files s bytes
+  page : {name : List ℕ} {s : Status} {bytes : List ℕ} → manifest_asked words ≡ Some name → PageAnswer files name s bytes → Answer words files s bytes
   -- the other forms are not built yet
-  unbuilt : library_asked words ≡ None → IsForm words → Answer words files status.Unbuilt []
+  unbuilt : library_asked words ≡ None → manifest_asked words ≡ None → IsForm words → Answer words files status.Unbuilt []
   usage : (IsForm words → ⊥) → Answer words files status.Usage []
 
 -- the bytes of an answer were appended, and nothing else

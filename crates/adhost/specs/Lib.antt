@@ -1,4 +1,5 @@
 pub mod Forms
+pub mod Page
 pub mod Reading
 pub mod Answer
 pub mod Ends

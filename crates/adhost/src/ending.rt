@@ -5,12 +5,14 @@ ghost use Rattle.adhost.specs.Ends.{number_of};
 /// The status of a run.
 #[derive(Clone, Copy, Debug, PartialEq, Eq)]
 pub enum Status {
-    /// The report is written, and the library breaks no rule.
+    /// The report is written, and no slot or library of it breaks a rule.
     Ok,
-    /// The report is written, and the library breaks a rule.
+    /// The report is written, and a slot or the library breaks a rule.
     Refused,
     /// The words are no form of the command line.
     Usage,
+    /// The bytes of the manifest are none.
+    BadManifest,
     /// A file has more bytes than its limit.
     TooLarge,
     /// A file could not be read.
@@ -32,6 +34,7 @@ impl Status {
             Status::Ok => 0,
             Status::Refused => 1,
             Status::Usage => 2,
+            Status::BadManifest => 3,
             Status::TooLarge => 5,
             Status::ReadFault => 6,
             Status::WriteFault => 7,

@@ -2,7 +2,8 @@
 ghost use Rattle.std.specs.Prelude.{◌≡◌, true, false, Some, None, Option, MatchOption};
 ghost use Rattle.std.specs.Str.{bytes_eq};
 ghost use Rattle.std.specs.Fmt.{decimal};
-ghost use Rattle.adhost.specs.Answer.{texts, library_asked};
+ghost use Rattle.adhost.specs.Page.{texts};
+ghost use Rattle.adhost.specs.Answer.{library_asked, manifest_asked};
 ghost use Rattle.adhost.specs.Forms.{IsCount, is_file_form, is_trace_form, IsPair, IsTraced, IsForm};
 
 use itoa::Buffer;
@@ -23,6 +24,16 @@ pub fn library_asked(words: &[String]) -> Option<(Asked, &str)>
     match words {
         [form, file] if form.as_str() == "check-lib" => Some((Asked::Line, file.as_str())),
         [form, file] if form.as_str() == "tidy" => Some((Asked::Tidied, file.as_str())),
+        _ => None,
+    }
+}
+
+/// The manifest that the words ask to check: `check`.
+pub fn manifest_asked(words: &[String]) -> Option<&str>
+    ensures { MatchOption result (manifest_asked (texts words.now) ≡ None) (λ name. manifest_asked (texts words.now) ≡ Some name.now) }
+{
+    match words {
+        [form, file] if form.as_str() == "check" => Some(file.as_str()),
         _ => None,
     }
 }

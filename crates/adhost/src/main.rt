@@ -1,9 +1,10 @@
-//! Checks a library by the rules of docs/, and writes one line on it.
+//! Checks the widgets of a page, or a library, by the rules of docs/, and writes a line on each.
 #![tactic(auto)]
 
 mod ending;
 mod forms;
 mod laws;
+mod pages;
 mod reading;
 mod reports;
 mod running;

@@ -1,15 +1,22 @@
-//! Reading a file within its limit.
-ghost use Rattle.std.specs.Prelude.{◌≡◌, ◌≤◌, ◌<◌, ◌+◌, ◌^◌, length, Some, Option, IfSome, IfOk, IfErr, IsErrOf};
+//! Reading files within their limits.
+ghost use Rattle.std.specs.Prelude.{◌≡◌, ◌≤◌, ◌<◌, ◌+◌, ◌^◌, length, All, Some, Option, IfSome, IfOk, IfErr, IsErrOf};
 ghost use Rattle.host_io.specs.Files.{Rose, IsThere};
-ghost use Rattle.adhost.specs.Reading.{IsLong, IsReadStop};
+ghost use Rattle.slot_check.specs.Verdicts.{source_of, sources_of, IsSmall};
+ghost use Rattle.adhost.specs.Page.{texts, file_limit, IsRead, AreRead, IsFirstLong};
+ghost use Rattle.adhost.specs.Reading.{IsLong, IsReadStop, AllThere};
 
 use code_units::Memory;
 use host_io::{Files, ReadFail};
+use slot_check::SourceFile;
 use std::alloc::Global;
+
+/// The bytes that a widget file or a library may have.
+pub const FILE_LIMIT: usize = 262_144;
 
 /// Why there is no report.
 #[derive(Clone, Copy, Debug, PartialEq, Eq)]
 pub enum Stop {
+    BadManifest,
     TooLarge,
     ReadFault,
     Memory,
@@ -43,6 +50,7 @@ pub fn read_file<F: Files>(
     ensures told { F.told files.new ≡ F.told files.old }
     ensures count { F.faults files.old ≤ F.faults files.new }
     ensures cause { IsErrOf result Stop.ReadFault → Rose (F.faults files.old) (F.faults files.new) }
+    ensures calm { F.calm files.old → IsThere (F.told files.old) name.now → F.calm files.new }
     ensures calm_count { F.calm files.old → IsThere (F.told files.old) name.now → F.faults files.new ≡ F.faults files.old }
     ensures calm_reads { F.calm files.old → IsThere (F.told files.old) name.now → IsErrOf result Stop.ReadFault → ⊥ }
 {
@@ -56,5 +64,58 @@ pub fn read_file<F: Files>(
         }
         Err(ReadFail::Failed) => Err(Stop::ReadFault),
         Err(ReadFail::Memory) => Err(Stop::Memory),
+    }
+}
+
+/// The files of these names, each within its limit. The first that is not decides.
+pub fn read_files<F: Files>(
+    alloc: Global,
+    names: &[String],
+    files: &mut F,
+) -> Result<Vec<SourceFile>, Stop>
+    ensures ok { IfOk result (λ v. IfSome (F.told files.old) (λ m. AreRead m file_limit (texts names.now) (sources_of v.items))) }
+    ensures many { IfOk result (λ v. length v.items ≡ length names.now) }
+    ensures small { IfOk result (λ v. All IsSmall v.items) }
+    ensures large { IsErrOf result Stop.TooLarge → IfSome (F.told files.old) (λ m. IsFirstLong m file_limit (texts names.now)) }
+    ensures stops { IfErr result IsReadStop }
+    ensures count { F.faults files.old ≤ F.faults files.new }
+    ensures cause { IsErrOf result Stop.ReadFault → Rose (F.faults files.old) (F.faults files.new) }
+    ensures calm_count { F.calm files.old → AllThere (F.told files.old) (texts names.now) → F.faults files.new ≡ F.faults files.old }
+    ensures calm_reads { F.calm files.old → AllThere (F.told files.old) (texts names.now) → IsErrOf result Stop.ReadFault → ⊥ }
+{
+    let mut sources = Vec::new(alloc);
+    'names: for name in names {
+        let source = match read_source(alloc, name.as_str(), files) {
+            Ok(source) => source,
+            Err(stop) => return Err(stop),
+        };
+        if sources.push(source).is_err() {
+            return Err(Stop::Memory);
+        }
+    }
+    Ok(sources)
+}
+
+// The file of a name, under that name.
+#[tactic(auto, using(crate::proofs::Gathered::read_one))]
+fn read_source<F: Files>(alloc: Global, name: &str, files: &mut F) -> Result<SourceFile, Stop>
+    ensures ok { IfOk result (λ s. IfSome (F.told files.old) (λ m. IsRead m file_limit name.now (source_of s))) }
+    ensures small { IfOk result IsSmall }
+    ensures large { IsErrOf result Stop.TooLarge → IfSome (F.told files.old) (λ m. IsLong (m name.now) file_limit) }
+    ensures stops { IfErr result IsReadStop }
+    ensures told { F.told files.new ≡ F.told files.old }
+    ensures count { F.faults files.old ≤ F.faults files.new }
+    ensures cause { IsErrOf result Stop.ReadFault → Rose (F.faults files.old) (F.faults files.new) }
+    ensures calm { F.calm files.old → IsThere (F.told files.old) name.now → F.calm files.new }
+    ensures calm_count { F.calm files.old → IsThere (F.told files.old) name.now → F.faults files.new ≡ F.faults files.old }
+    ensures calm_reads { F.calm files.old → IsThere (F.told files.old) name.now → IsErrOf result Stop.ReadFault → ⊥ }
+{
+    let bytes = match read_file(alloc, name, FILE_LIMIT, files) {
+        Ok(bytes) => bytes,
+        Err(stop) => return Err(stop),
+    };
+    match String::from_str(alloc, name) {
+        Ok(name) => Ok(SourceFile { name, bytes }),
+        Err(_) => Err(Stop::Memory),
     }
 }

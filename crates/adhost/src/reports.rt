@@ -1,30 +1,38 @@
 //! The report, built whole before anything is written.
-ghost use Rattle.std.specs.Prelude.{◌≡◌, ◌≤◌, ◌<◌, ◌^◌, length, [], None, Option, IfSome, IfOk, IsErrOf, Ok, Err};
+ghost use Rattle.std.specs.Prelude.{◌≡◌, ◌≤◌, ◌<◌, ◌^◌, length, [], None, Option, IfSome, IfOk, IfErr, IsErrOf, Ok, Err};
 ghost use Rattle.host_io.specs.Files.{Rose};
-ghost use Rattle.adhost.specs.Answer.{texts, IsText, ending, Answer};
+ghost use Rattle.adhost.specs.Page.{texts};
+ghost use Rattle.adhost.specs.Answer.{IsText, ending, LibraryAnswer, Answer};
 ghost use Rattle.adhost.specs.Forms.{IsForm};
 ghost use Rattle.adhost.specs.declared.ending.Status.TheVariants as status;
-ghost use Rattle.adhost.specs.Ends.{HasReport};
+ghost use Rattle.adhost.specs.Ends.{HasLibrary, HasReport};
+ghost use Rattle.adhost.specs.Reading.{IsReadStop};
 
-use crate::forms::{Asked, is_form, library_asked};
-use crate::reading::{Stop, read_file};
+use crate::forms::{Asked, is_form, library_asked, manifest_asked};
+use crate::pages::check_page;
+use crate::reading::{FILE_LIMIT, Stop, read_file};
 use code_units::Memory;
 use host_io::Files;
 use script_check::{LibraryText, library_line, tidied_library};
 use std::alloc::Global;
 
-/// The bytes that a library may have.
-const LIBRARY_LIMIT: usize = 262_144;
+/// What is written, and whether it names a broken rule.
+#[derive(Drop)]
+pub struct Report {
+    pub refused: bool,
+    pub bytes: Vec<u8>,
+}
 
 /// The report that the words ask for.
-#[tactic(auto, using(crate::proofs::Reported::report_of, crate::proofs::Reported::long_of, crate::proofs::Reported::unbuilt_of, crate::proofs::Reported::usage_of, crate::proofs::Asking::asked_form))]
+#[tactic(auto, using(crate::proofs::Reported::unbuilt_of, crate::proofs::Reported::usage_of, crate::proofs::Reported::calm_words_none))]
 pub fn build_report<F: Files>(
     alloc: Global,
     words: &[String],
     files: &mut F,
-) -> Result<LibraryText, Stop>
+) -> Result<Report, Stop>
     ensures answer { IfOk result (λ r. IfSome (F.told files.old) (λ m. Answer (texts words.now) m (ending r.refused) r.bytes.items)) }
     ensures large { IsErrOf result Stop.TooLarge → IfSome (F.told files.old) (λ m. Answer (texts words.now) m status.TooLarge []) }
+    ensures bad { IsErrOf result Stop.BadManifest → IfSome (F.told files.old) (λ m. Answer (texts words.now) m status.BadManifest []) }
     ensures unbuilt { IsErrOf result Stop.Unbuilt → IfSome (F.told files.old) (λ m. Answer (texts words.now) m status.Unbuilt []) }
     ensures usage { IsErrOf result Stop.Usage → IfSome (F.told files.old) (λ m. Answer (texts words.now) m status.Usage []) }
     ensures no_form { (IsForm (texts words.now) → ⊥) → result ≡ Err Stop.Usage }
@@ -34,6 +42,9 @@ pub fn build_report<F: Files>(
     ensures calm_count { IfSome (F.told files.old) (λ m. F.calm files.old → HasReport (texts words.now) m → F.faults files.new ≡ F.faults files.old) }
     ensures calm_reads { IfSome (F.told files.old) (λ m. F.calm files.old → HasReport (texts words.now) m → IsErrOf result Stop.ReadFault → ⊥) }
 {
+    if let Some(name) = manifest_asked(words) {
+        return check_page(alloc, name, files);
+    }
     let Some((asked, name)) = library_asked(words) else {
         return Err(if is_form(words) {
             Stop::Unbuilt
@@ -41,9 +52,36 @@ pub fn build_report<F: Files>(
             Stop::Usage
         });
     };
-    let bytes = read_file(alloc, name, LIBRARY_LIMIT, files)?;
-    let text = library_text(alloc, asked, name, &bytes)?;
-    Ok(text)
+    report_library(alloc, asked, name, files)
+}
+
+// The report on a library.
+#[tactic(auto, using(crate::proofs::Reported::report_of, crate::proofs::Reported::long_of, crate::proofs::Reported::calm_library))]
+fn report_library<F: Files>(
+    alloc: Global,
+    asked: Asked,
+    name: &str,
+    files: &mut F,
+) -> Result<Report, Stop>
+    ensures answer { IfOk result (λ r. IfSome (F.told files.old) (λ m. LibraryAnswer m asked name.now (ending r.refused) r.bytes.items)) }
+    ensures large { IsErrOf result Stop.TooLarge → IfSome (F.told files.old) (λ m. LibraryAnswer m asked name.now status.TooLarge []) }
+    ensures stops { IfErr result IsReadStop }
+    ensures count { F.faults files.old ≤ F.faults files.new }
+    ensures cause { IsErrOf result Stop.ReadFault → Rose (F.faults files.old) (F.faults files.new) }
+    ensures calm_count { IfSome (F.told files.old) (λ m. F.calm files.old → HasLibrary m name.now → F.faults files.new ≡ F.faults files.old) }
+    ensures calm_reads { IfSome (F.told files.old) (λ m. F.calm files.old → HasLibrary m name.now → IsErrOf result Stop.ReadFault → ⊥) }
+{
+    let bytes = match read_file(alloc, name, FILE_LIMIT, files) {
+        Ok(bytes) => bytes,
+        Err(stop) => return Err(stop),
+    };
+    match library_text(alloc, asked, name, &bytes) {
+        Ok(text) => Ok(Report {
+            refused: text.refused,
+            bytes: text.bytes,
+        }),
+        Err(_) => Err(Stop::Memory),
+    }
 }
 
 // What is written of a library.

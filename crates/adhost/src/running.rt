@@ -1,7 +1,8 @@
 //! The top call.
 ghost use Rattle.std.specs.Prelude.{◌≡◌, ◌≤◌, false, None, IfSome, IsTrue};
 ghost use Rattle.host_io.specs.Files.{Rose};
-ghost use Rattle.adhost.specs.Answer.{texts, Answer, Wrote, WrotePart};
+ghost use Rattle.adhost.specs.Page.{texts};
+ghost use Rattle.adhost.specs.Answer.{Answer, Wrote, WrotePart};
 ghost use Rattle.adhost.specs.Forms.{IsForm};
 ghost use Rattle.adhost.specs.Ends.{is_answer, writes, Ends, HasReport, Fits};
 
@@ -49,6 +50,7 @@ pub fn run<F: Files, S: Sink>(
             Ok(()) => Status::Ok,
             Err(_) => Status::WriteFault,
         },
+        Err(Stop::BadManifest) => Status::BadManifest,
         Err(Stop::TooLarge) => Status::TooLarge,
         Err(Stop::ReadFault) => Status::ReadFault,
         Err(Stop::Memory) => Status::Memory,

@@ -1,4 +1,4 @@
-use Rattle.std.proofs.Common.{◌≡◌, ◌∙◌}
+use Rattle.std.proofs.Common.{◌∙◌}
 use Rattle.adhost.proofs.Counting.{count_spelled, count_positive, count_within, count_parsed}
 use Rattle.adhost.proofs.forms.is_count.Goals as goal
 
