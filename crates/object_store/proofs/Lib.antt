@@ -21,6 +21,7 @@ pub mod Lists
 pub mod Look
 pub mod Makes
 pub mod Own
+pub mod OwnMade
 pub mod Others
 pub mod Plans
 pub mod Protos

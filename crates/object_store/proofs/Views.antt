@@ -74,7 +74,7 @@ module _ (v n : ℕ) (after before : List PlainCell) (same : SameNumbers v n aft
   up_same None h = refl
   up_same (Some k) h = ap Some (link_same k h)
 
-  scope_same : (o : Option ℕ) → IfSome o (λ k. k < n) → option_map (scope_number v after) o ≡ option_map (scope_number v before) o
+  pub scope_same : (o : Option ℕ) → IfSome o (λ k. k < n) → option_map (scope_number v after) o ≡ option_map (scope_number v before) o
   scope_same None h = refl
   scope_same (Some k) h = ap Some (same.scope k h)
 
@@ -230,7 +230,7 @@ module _ (v : ℕ) (cells more : List PlainCell) where
         let q = scopes_append (cells ++ more) cells ∙ ap (λ l. l ++ own_scopes v (cells ++ more) more) (scopes_stay cells (cells ++ more) linked bunches stays_older v numbers_older) in
         λ j. record { heap = p j; scopes = q j; paid = slice_get counts v }
 
-append_none : {X : Type 0} (xs : List X) → xs ++ [] ≡ xs
+pub append_none : {X : Type 0} (xs : List X) → xs ++ [] ≡ xs
 append_none [] = refl
 append_none (y ∷ xs) = ap (λ l. y ∷ l) (append_none xs)
 

@@ -1,6 +1,6 @@
 -- What one widget has, by itself: its visible cells and its scopes, each by birth, references by
 -- the numbers of its own, and what it has paid.
-use Rattle.std.specs.Prelude.{◌≡◌, ℕ, ◌+◌, max, Bool, false, List, [], ◌∷◌, ◌++◌, Option, None, Some, if◌then◌else◌, filter, map, not, nat_eq, ◌&&◌, slice_get, option_to_list}
+use Rattle.std.specs.Prelude.{◌≡◌, ℕ, ◌+◌, max, Bool, false, List, [], ◌∷◌, ◌++◌, Option, None, Some, if◌then◌else◌, filter, length, map, not, nat_eq, ◌&&◌, slice_get, option_to_list}
 use Rattle.std.specs.Map.{remove_entry}
 use Rattle.indexmap.specs.IndexMap.{insert_entry}
 use Rattle.std.specs.Option.{option_map, option_map_or, option_and_then}
@@ -12,11 +12,15 @@ use Rattle.object_store.specs.declared.value.Value.TheVariants as value
 use Rattle.object_store.specs.declared.kind.Form.{Form}
 use Rattle.object_store.specs.declared.kind.Form.TheVariants as form
 use Rattle.object_store.specs.declared.store.Counts.{Counts}
+use Rattle.object_store.specs.declared.store.NewCell.{NewCell}
+use Rattle.object_store.specs.declared.store.NewCell.TheVariants as fresh
 use Rattle.object_store.specs.Indices.{index_of}
 use Rattle.object_store.specs.Lists.{changed, count_before}
 use Rattle.object_store.specs.Cells.{Cells, PlainCell, is_array, is_bunch, is_scope, is_visible, own_count, value_of, widget_of}
 use Rattle.object_store.specs.Arrays.{is_below, length_in, length_name, length_of, nodes_name}
 use Rattle.object_store.specs.Bunches.{node_at}
+use Rattle.object_store.specs.Calls.{cells_for, paid, slots_of}
+use Rattle.object_store.specs.Host.{array_prototype, bunch_prototype, function_prototype}
 
 -- a primitive, an own cell by its number, or a cell that is not its own by its place
 pub data OwnValue : Type 0 where
@@ -177,3 +181,40 @@ is_own_scope_at w cells i = option_map_or (is_own_scope w) (slice_get cells i) f
 pub record Assigned (w : ℕ) (old new : Cells) (i : ℕ) (g : OwnScope → OwnScope) : Type 0 where
   pub heap : (owned w new).heap ≡ (owned w old).heap
   pub scopes : (owned w new).scopes ≡ changed (owned w old).scopes (scope_number w old.cells i) g
+
+-- a new cell on its prototype
+abbrev pub first_cell : OwnKind → OwnValue → OwnCell
+first_cell k up = record { kind = k; prototype = Some up; pairs = [] }
+
+-- a new scope has `undefined` under each of its names
+abbrev pub first_scope : Option ℕ → List (List ℕ) → OwnScope
+first_scope outer names = record { outer = outer; pairs = map (λ name. (name, Is value.Undefined)) names }
+
+module _ (w : ℕ) (cells : List PlainCell) where
+  -- the own cell that is made
+  abbrev pub made_cells : NewCell → List OwnCell
+  made_cells (fresh.Object proto) = first_cell Object (own_link w cells proto) ∷ []
+  made_cells fresh.Array = first_cell (Array 0) (Other array_prototype) ∷ []
+  made_cells (fresh.Function code fun scope) = first_cell (Function code fun (option_map (scope_number w cells) scope)) (Other function_prototype) ∷ []
+  made_cells (fresh.Scope outer names) = []
+  made_cells (fresh.Bunch nodes) = first_cell (Bunch nodes.items) (Other bunch_prototype) ∷ []
+
+  -- the own scope that is made
+  abbrev pub made_scopes : NewCell → List OwnScope
+  made_scopes (fresh.Scope outer names) = first_scope (option_map (scope_number w cells) outer) names.items ∷ []
+  made_scopes _ = []
+
+-- cells, slots and units are paid
+abbrev pub own_paid : ℕ → ℕ → ℕ → Owned → Owned
+own_paid c n u o = record { heap = o.heap; scopes = o.scopes; paid = option_map (paid c n u) o.paid }
+
+-- what is made comes last, and its cost is paid
+abbrev pub own_made : ℕ → Cells → NewCell → Owned
+own_made w s n = own_paid (cells_for n) (slots_of n) 0 (record { heap = (owned w s).heap ++ made_cells w s.cells n; scopes = (owned w s).scopes ++ made_scopes w s.cells n; paid = (owned w s).paid })
+
+-- A widget sees what it made, and nothing else. The new cell, by its place in the store, has the
+-- next number of its sort.
+pub record Made (w : ℕ) (old new : Cells) (i : ℕ) (n : NewCell) : Type 0 where
+  pub seen : owned w new ≡ own_made w old n
+  pub number : own_count w new.cells i ≡ length (owned w old).heap
+  pub scope : scope_number w new.cells i ≡ length (owned w old).scopes

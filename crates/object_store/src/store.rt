@@ -1,7 +1,7 @@
 //! The store.
 ghost use Rattle.std.specs.Prelude.{◌≡◌, ℕ, ◌+◌, ◌<◌, ◌≤◌, [], ◌∷◌, ◌++◌, None, Some, true, false, is_some, nat_eq, length, vec_len, slice_get, option_copied, IfOk, IfErr, IfSome, OnErr, OnOk, MatchOption, MatchResult, replicate};
 ghost use Rattle.std.specs.Option.{option_map, option_map_or};
-ghost use Rattle.object_store.specs.Owned.{Assigned, Changed, is_of_at, is_own_scope_at, own_put, own_removed, own_set, own_value, owned, visible_at};
+ghost use Rattle.object_store.specs.Owned.{Assigned, Changed, Made, is_of_at, is_own_scope_at, own_paid, own_put, own_removed, own_set, own_value, owned, visible_at};
 ghost use Rattle.std.specs.List.{IsDistinct};
 ghost use Rattle.object_store.specs.Bunches.{IsBunch};
 ghost use Rattle.object_store.specs.Cells.{PlainCell, chain, first_own, value_along, is_scope_at, kind_of, function_in, native_in, node_in, proto_in, prototypes, holder, is_bunch, raw_cell};
@@ -357,7 +357,8 @@ impl Store {
         ensures err { IfErr result (λ e. units_refusal self.old.kept (number_in owner) n ≡ Some e) }
         ensures same { OnErr result (self.new ≡ self.old) }
 
-        // Another widget has what it had.
+        // The widget sees that, and another has what it had.
+        ensures own { OnOk result (owned (number_in owner) self.new ≡ own_paid 0 0 n (owned (number_in owner) self.old)) }
         ensures others { (w : ℕ) → (number_in owner ≡ w → ⊥) → owned w self.new ≡ owned w self.old }
     {
         table::charge_units(&mut self.kept, table::widget(owner), n)
@@ -370,7 +371,8 @@ impl Store {
         ensures err { IfErr result (λ e. slots_refusal self.old.kept (number_in owner) n ≡ Some e) }
         ensures same { OnErr result (self.new ≡ self.old) }
 
-        // Another widget has what it had.
+        // The widget sees that, and another has what it had.
+        ensures own { OnOk result (owned (number_in owner) self.new ≡ own_paid 0 n 0 (owned (number_in owner) self.old)) }
         ensures others { (w : ℕ) → (number_in owner ≡ w → ⊥) → owned w self.new ≡ owned w self.old }
     {
         table::charge_slots(&mut self.kept, table::widget(owner), n)
@@ -423,13 +425,18 @@ impl Store {
         ensures err { IfErr result (λ e. Refuses e (make_refusal self.old (number_in owner) cell)) }
         ensures same { OnErr result (self.new ≡ self.old) }
 
-        // Another widget has what it had.
+        // The widget sees what it made, and another has what it had.
+        ensures own { IfOk result (λ id. Made (number_in owner) self.old self.new id cell) }
         ensures others { (w : ℕ) → (number_in owner ≡ w → ⊥) → owned w self.new ≡ owned w self.old }
     {
         // These laws say that what other cells lead to stays.
         self.links_are_older();
         self.bunches_have_nodes();
-        self.make_in(alloc, owner, cell)
+        let made = self.make_in(alloc, owner, cell);
+
+        // This law says that the prototypes are the host's.
+        self.permitted_leads_on();
+        made
     }
 
     // `make`, without what widgets see of it.
