@@ -1,3 +1,4 @@
+pub mod Behind
 pub mod Between
 pub mod Complete
 pub mod Cuts
@@ -12,3 +13,4 @@ pub mod Rising
 pub mod Siblings
 pub mod Sound
 pub mod Truths
+pub mod WithId

@@ -20,9 +20,9 @@ use Rattle.query_lang.specs.declared.query.StepFilter.TheVariants as kind
 use Rattle.query_lang.specs.Steps.{Step}
 use Rattle.query_lang.specs.Nodes.{is_element, passes}
 use Rattle.query_lang.specs.Finds.{within, below, after_number, element_behind, next_element, is_tagged, has_id, hunted, has_number, is_loose, tops, document, in_order, sifted, filtered, all_filtered, finds_in, finds}
-use Rattle.query_lang.specs.Walks.{AreNodes}
+use Rattle.query_lang.specs.Walks.{AreNodes, HaveSame}
 use Rattle.query_lang.proofs.Downward.{sound, rooted}
-use Rattle.query_lang.proofs.Ordered.{has_listed, has_both, has_first, has_at, kept_is, from_piece, none_pass, in_tree_node}
+use Rattle.query_lang.proofs.Ordered.{has_listed, has_both, has_first, has_at, kept_is, from_piece, none_pass, same_filter, in_tree_node}
 
 no_true : false ≡ true → ⊥
 no_true e = cc
@@ -83,14 +83,14 @@ module _ (p : Page) where
   hunted_nodes r hunter.Children n x h = child_nodes n x (kept_is (is_element (nodes p)) (at (nodes p) n).children x h)
   hunted_nodes r hunter.All n x h = below_nodes n x (kept_is (is_element (nodes p)) (below (nodes p) n) x h)
 
-  pub all_hunted_nodes : (r : Option ℕ) (h : Hunter) (ns found : List ℕ) → found ≡ flat_map (hunted (nodes p) r h) ns → AreNodes p found
+  pub all_hunted_nodes : (r : Option ℕ) (h : Hunter) (ns found : List ℕ) → ((x : ℕ) → has_number found x ≡ has_number (flat_map (hunted (nodes p) r h) ns) x) → AreNodes p found
   all_hunted_nodes r h ns found e x there =
-      let q = from_piece (hunted (nodes p) r h) ns x (sym (ap (λ l. has_number l x) e) ∙ there) in
+      let q = from_piece (hunted (nodes p) r h) ns x (sym (e x) ∙ there) in
       hunted_nodes r h (q.0) x (q.2)
 
 -- ## Document order
 
-in_range : (n a x : ℕ) → has_number (range_with_len a n) x ≡ true → x < a + n
+pub in_range : (n a x : ℕ) → has_number (range_with_len a n) x ≡ true → x < a + n
 in_range zero a x h = absurd (no_true h)
 in_range (suc n) a x h = ⊎_elim (λ e. let same = eqb-true x a e in omega (arith, same)) (λ e. omega (arith, in_range n (a + 1) x e)) (or_cases (eqb x a) (has_number (range_with_len (a + 1) n) x) h)
 
@@ -101,7 +101,7 @@ root_node p o own (Some r) e x h = ⊎_elim
     (λ none. absurd (no_true none))
     (or_cases (eqb x r) false h)
 
-top_node : (p : Page) (o : Owner) → is_owner o ≡ true → (x : ℕ) → has_number (tops (nodes p) (root p o) o) x ≡ true → x < length (nodes p)
+pub top_node : (p : Page) (o : Owner) → is_owner o ≡ true → (x : ℕ) → has_number (tops (nodes p) (root p o) o) x ≡ true → x < length (nodes p)
 top_node p o own x h = ⊎_elim
     (λ e. root_node p o own (root p o) refl x e)
     (λ e. omega (arith, in_range (length (nodes p)) 0 x (kept_is (is_loose (nodes p) (root p o) o) (range_with_len 0 (length (nodes p))) x e)))
@@ -114,6 +114,20 @@ ordered_nodes p o own ns x h =
 
 pub in_order_nodes : (p : Page) (o : Owner) → is_owner o ≡ true → (ns list : List ℕ) → list ≡ in_order (nodes p) (root p o) o ns → AreNodes p list
 in_order_nodes p o own ns list e = subst (λ l. AreNodes p l) (sym e) (ordered_nodes p o own ns)
+
+-- the order goes by what is found of the owner's trees
+same_order : (p : Page) (o : Owner) (ns ms : List ℕ) → HaveSame p o ns ms → in_order (nodes p) (root p o) o ns ≡ in_order (nodes p) (root p o) o ms
+same_order p o ns ms h = same_filter (has_number ns) (has_number ms) (document (nodes p) (root p o) o) h
+
+-- what a step finds
+pub step_same : (p : Page) (o : Owner) (focus : Option ℕ) (h : Hunter) (fs : List StepFilter) (s : Step) (starts found list : List ℕ) → h ≡ s.hunter → fs ≡ s.filters →
+    HaveSame p o found (flat_map (hunted (nodes p) (root p o) h) starts) → list ≡ in_order (nodes p) (root p o) o found →
+    all_filtered (nodes p) focus fs list ≡ all_filtered (nodes p) focus s.filters (in_order (nodes p) (root p o) o (flat_map (hunted (nodes p) (root p o) s.hunter) starts))
+step_same p o focus h fs s starts found list eh ef same el =
+    ap (λ gs. all_filtered (nodes p) focus gs list) ef
+    ∙ ap (all_filtered (nodes p) focus s.filters) (el
+    ∙ same_order p o found (flat_map (hunted (nodes p) (root p o) h) starts) same
+    ∙ ap (λ g. in_order (nodes p) (root p o) o (flat_map (hunted (nodes p) (root p o) g) starts)) eh)
 
 -- ## Filters
 

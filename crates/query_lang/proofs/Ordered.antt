@@ -77,9 +77,9 @@ none_pass t (n ∷ ns) h =
     ap (λ b. cond b (n ∷ filter t ns) (filter t ns)) (h n (has_first n ns))
     ∙ none_pass t ns (λ x e. h x (or_right (eqb x n) (has_number ns x) e))
 
-pub same_filter : (t u : ℕ → Bool) (ns : List ℕ) → ((n : ℕ) → t n ≡ u n) → filter t ns ≡ filter u ns
+pub same_filter : (t u : ℕ → Bool) (ns : List ℕ) → ((n : ℕ) → has_number ns n ≡ true → t n ≡ u n) → filter t ns ≡ filter u ns
 same_filter t u [] h = refl
-same_filter t u (n ∷ ns) h = ap (λ b. cond b (n ∷ filter t ns) (filter t ns)) (h n) ∙ ap (λ l. cond (u n) (n ∷ l) l) (same_filter t u ns h)
+same_filter t u (n ∷ ns) h = ap (λ b. cond b (n ∷ filter t ns) (filter t ns)) (h n (has_first n ns)) ∙ ap (λ l. cond (u n) (n ∷ l) l) (same_filter t u ns (λ m e. h m (or_right (eqb m n) (has_number ns m) e)))
 
 pub pieces : (t : ℕ → Bool) (f : ℕ → List ℕ) (ns : List ℕ) → filter t (flat_map f ns) ≡ flat_map (λ n. filter t (f n)) ns
 pieces t f [] = refl
@@ -196,7 +196,7 @@ all_trees p o found marks above ts same none inside are_tops rises =
     ∙ ap (λ l. flat_map G (option_to_list r) ++ l) (rising L G (length k) 0 ts rises (λ t h. omega (arith, inside t h)) (λ t le l h. none t (missed p o above ts t are_tops l h)))
     ∙ sym (flat_map-append G (option_to_list r) (filter L (range_with_len 0 (length k))))
     ∙ sym (pieces (has_number marks) (within k) (tops k r o))
-    ∙ same_filter (has_number marks) (has_number found) (document k r o) same
+    ∙ same_filter (has_number marks) (has_number found) (document k r o) (λ n _. same n)
 
 -- ## What is marked on the way up
 

@@ -1,13 +1,15 @@
 -- What a walk takes.
-use Rattle.std.specs.Prelude.{◌≡◌, ℕ, ◌<◌, ◌+◌, ◌≤◌, List, [], ◌∷◌, Bool, true, false, ◌&&◌, length, Some, is_some, not}
-use Rattle.std.specs.List.{filter}
+use Rattle.std.specs.Prelude.{◌≡◌, ℕ, ◌<◌, ◌+◌, ◌≤◌, List, [], ◌∷◌, Bool, true, false, ◌&&◌, ◌||◌, ◌++◌, if◌then◌else◌, length, Option, Some, None, is_some, not}
+use Rattle.std.specs.List.{filter, list_any}
+use Rattle.code_units.specs.declared.owner.Owner.{Owner}
 use Rattle.page_tree.specs.declared.page.Page.{Page}
 use Rattle.page_tree.specs.Entries.{Entry, at}
-use Rattle.page_tree.specs.Pages.{nodes}
+use Rattle.page_tree.specs.Pages.{nodes, root}
+use Rattle.page_tree.specs.Trees.{is_number}
 use Rattle.query_lang.specs.declared.wanted.Wanted.{Wanted}
 use Rattle.query_lang.specs.declared.wanted.Wanted.TheVariants as wanted
 use Rattle.query_lang.specs.Nodes.{is_element}
-use Rattle.query_lang.specs.Finds.{has_number, within, is_tagged, has_id}
+use Rattle.query_lang.specs.Finds.{has_number, within, below, document, is_tagged, has_id}
 
 -- whether a walk takes a node
 abbrev pub takes : List Entry → Wanted → ℕ → Bool
@@ -36,6 +38,27 @@ IsClosed p ns = (n m : ℕ) → has_number ns n ≡ true → (at (nodes p) n).pa
 -- the tops among the nodes of a set
 abbrev pub AreTops : Page → List ℕ → List ℕ → Type 0
 AreTops p ns tops = (n : ℕ) → has_number tops n ≡ (has_number ns n && not (is_some (at (nodes p) n).parent))
+
+-- whether a node is below one of these
+abbrev pub below_any : List Entry → List ℕ → ℕ → Bool
+below_any k ns n = list_any (λ s. has_number (below k s) n) ns
+
+-- two lists have the same of the owner's trees
+abbrev pub HaveSame : Page → Owner → List ℕ → List ℕ → Type 0
+HaveSame p o ns ms = (n : ℕ) → has_number (document (nodes p) (root p o) o) n ≡ true → has_number ns n ≡ has_number ms n
+
+-- the parent under which a node has siblings; the root has none
+abbrev pub parent_within : List Entry → Option ℕ → ℕ → Option ℕ
+parent_within k r n = if is_number n r then None else (at k n).parent
+
+-- one of the starts that have siblings
+abbrev pub is_start : Option ℕ → List ℕ → ℕ → Bool
+is_start r starts n = has_number starts n && not (is_number n r)
+
+-- Of siblings, the elements that come next behind those that pass a test. `met` says whether such a one stands before them, without an element between.
+abbrev pub next_ones : List Entry → (ℕ → Bool) → Bool → List ℕ → List ℕ
+next_ones k t met [] = []
+next_ones k t met (n ∷ ns) = (if met && is_element k n then n ∷ [] else []) ++ next_ones k t (t n || (met && not (is_element k n))) ns
 
 -- the numbers rise, from this one on
 abbrev pub RiseFrom : ℕ → List ℕ → Type 0

@@ -136,7 +136,7 @@ fn take_step(
     ensures { IfOk result (λ found. found.items ≡ all_filtered (nodes page.now) focus step.now.filters
         (in_order (nodes page.now) (root page.now owner) owner (flat_map (hunted (nodes page.now) (root page.now owner) step.now.hunter) starts.now))) }
 {
-    let found = hunt_all(alloc, page, page.root_of(owner), &step.hunter, starts)?;
+    let found = hunt_all(alloc, page, owner, &step.hunter, starts)?;
     let list = in_order(alloc, page, owner, &found)?;
     filter_all(alloc, page, focus, &step.filters, list)
 }

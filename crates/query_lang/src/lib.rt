@@ -7,6 +7,7 @@ mod finder;
 mod hunt;
 mod laws;
 mod marks;
+mod named;
 mod nodes;
 mod order;
 mod parts;

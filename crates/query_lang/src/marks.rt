@@ -34,6 +34,17 @@ impl Marks {
         }
     }
 
+    /// These nodes.
+    pub fn of(alloc: Global, nodes: &[NodeId]) -> Result<Marks, Memory>
+        ensures { IfOk result (λ marks. (n : ℕ) → has_number marks n ≡ has_number nodes.now n) }
+    {
+        let mut marks = Marks::new(alloc);
+        'each: for node in nodes {
+            marks.add(*node)?;
+        }
+        Ok(marks)
+    }
+
     /// Whether a node is in the set.
     pub fn has(&self, node: NodeId) -> bool
         ensures { result ≡ has_number self.now node }
