@@ -8,7 +8,7 @@ use Rattle.widget_meaning.specs.NativeNames.{Native}
 use Rattle.widget_meaning.specs.Values.{Value, Undefined, Null, Num, Text, Own, Host, Completion, Normal, Is, Refers, Return, Break, Continue, Throw, Reference, Variable, Property, Found}
 use Rattle.widget_meaning.specs.OwnState.{State, Cell, Kind, Object, Array, Function, Bunch}
 use Rattle.widget_meaning.specs.Plan.{Plan, Place, Ret, Loop, WhileLoop, DoLoop, ForLoop, ForInLoop, Hearing}
-use Rattle.js_tree.specs.Plain.{Expr, Stmt, Stmts, Fun, Funs, ExprForm, Exprs, Properties, OptionalExpr, StmtForm, Decls, ForInit, OptionalBlock, Catch, Clauses}
+use Rattle.js_tree.specs.Plain.{Expr, Stmt, Stmts, Fun, ExprForm, OptionalExpr, StmtForm, ForInit, OptionalBlock, Catch}
 use Rattle.widget_meaning.specs.Properties.{read, put, delete, index_name, put_pair, put_index, put_length, put_own, delete_pair, delete_own}
 use Rattle.widget_meaning.specs.Scopes.{fun_name, assign, set_in, scope_of}
 use Rattle.js_tree.specs.declared.nodes.StepOp.{StepOp}

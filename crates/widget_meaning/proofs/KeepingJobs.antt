@@ -1,7 +1,7 @@
 -- Each job, each load turn and each timer keeps an invariant.
 use Rattle.js_tree.specs.Plain as tree
 use Rattle.std.specs.Prelude.{ℕ, List}
-use Rattle.js_tree.specs.Plain.{Expr, Stmt, Stmts, Fun}
+use Rattle.js_tree.specs.Plain.{Fun}
 use Rattle.widget_meaning.specs.Values.{Value, Completion}
 use Rattle.widget_meaning.specs.OwnState.{State, Timer}
 use Rattle.widget_meaning.specs.Plan.{Plan, Job, Eval, Target, Exec, Pass, Call, RunNative, Hear}

@@ -5,7 +5,7 @@ use Rattle.std.specs.Prelude.{Some, is_some, nat_lt, ◌-◌, ◌+◌, ◌++◌,
 use Rattle.js_tree.specs.declared.nodes.UnOp.TheVariants as un
 use Rattle.js_tree.specs.declared.nodes.BinOp.{BinOp}
 use Rattle.js_tree.specs.Plain as tree
-use Rattle.js_tree.specs.Plain.{Expr, ExprForm, Exprs, Properties, OptionalExpr, Stmt, StmtForm, Stmts, Decls, ForInit, Catch, OptionalBlock, Clauses, Fun, Funs}
+use Rattle.js_tree.specs.Plain.{ExprForm, Stmts, Fun}
 use Rattle.widget_meaning.specs.Limits.{max_units, max_cells, max_slots, max_nodes, max_depth}
 use Rattle.widget_meaning.specs.Values.{Value, Text, Own, Completion, Normal, Is, Refers, Return, Break, Continue, Throw, E1, Units, Cells, Slots, Nodes, Depth, is_true, is_nothing, Undefined, Num}
 use Rattle.widget_meaning.specs.OwnState.{State, Amounts, Function, cell_at, with_new_cell, with_new_scope, new_array, plain_object, new_function}

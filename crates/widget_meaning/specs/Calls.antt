@@ -2,7 +2,7 @@
 use Rattle.std.specs.Prelude.{ℕ, suc, ◌+◌, List, [], ◌∷◌, ◌++◌, length, nat_lt, if◌then◌else◌, codes, Bool, true, false, Option, Some}
 use Rattle.std.specs.Str.{bytes_eq}
 use Rattle.js_tree.specs.Plain as tree
-use Rattle.js_tree.specs.Plain.{Expr, Stmt, Stmts, Fun, Funs}
+use Rattle.js_tree.specs.Plain.{Stmt, Stmts, Fun}
 use Rattle.widget_meaning.specs.Limits.{max_depth}
 use Rattle.widget_meaning.specs.NativeNames.{Native}
 use Rattle.widget_meaning.specs.Values.{Value, Undefined, Own, Host, Completion, Normal, Is, Refers, Return, Break, Continue, Throw, Depth, E2, E6, is_object}

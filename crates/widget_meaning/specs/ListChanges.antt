@@ -1,5 +1,5 @@
 -- The methods of arrays that change the array. All but `push` and `pop` leave every index below the length present, in rising order after the other names.
-use Rattle.std.specs.Prelude.{ℕ, zero, suc, pos, negsuc, ℤ, ◌+◌, ◌-◌, min, Bool, true, false, not, ◌&&◌, List, [], ◌∷◌, ◌++◌, length, take, drop, map, sum_by, nat_lt, is_some, is_none, if◌then◌else◌, Option, Some, None}
+use Rattle.std.specs.Prelude.{ℕ, zero, suc, pos, ℤ, ◌+◌, ◌-◌, Bool, true, false, List, [], ◌∷◌, ◌++◌, length, take, drop, sum_by, nat_lt, is_none, if◌then◌else◌, Option, Some, None}
 use Rattle.std.specs.Prelude as std
 use Rattle.std.specs.List.{filter}
 use Rattle.widget_meaning.specs.Limits.{max_length}

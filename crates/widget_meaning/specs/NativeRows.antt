@@ -2,7 +2,7 @@
 use Rattle.std.specs.Prelude.{ℕ, false, List, [], ◌∷◌, codes, Some, None}
 use Rattle.js_tree.specs.declared.nodes.BinOp.TheVariants as bin
 use Rattle.js_tree.specs.Plain as tree
-use Rattle.js_tree.specs.Plain.{Expr, Stmt, Stmts}
+use Rattle.js_tree.specs.Plain.{Expr, Stmt}
 use Rattle.widget_meaning.specs.Values.{Due, Number}
 use Rattle.widget_meaning.specs.Alone.{Content}
 use Rattle.widget_meaning.specs.Rows.{Row, rendered}
