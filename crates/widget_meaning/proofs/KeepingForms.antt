@@ -19,8 +19,8 @@ use Rattle.code_units.specs.declared.whole.WholeRead.{WholeRead}
 use Rattle.widget_meaning.specs.Operators.{OpOut, Gives, Leaves, TooLong}
 use Rattle.widget_meaning.specs.Calls.{invoke, to_primitive, statements, next_statements, declare, call_end, call_body, enter_scope, enter, primitive_result, call_to_string, with_variable}
 use Rattle.widget_meaning.specs.Expressions.{array_parts, array_part, object_parts, object_part, dot_read, named_read, subscript_read, refer, dot_target, named_target, subscript_target, value_target, write, arguments_then, next_argument, callee, result, converted_right, converted_left, operate, binary_with, binary_right, unary_converted, unary_on, unary_operand, delete_at, delete_target, step_write, step_number, step_converted, step_target, assigned, compound, assign_with, assign_target, and_right, or_right, choose, prefix_form, expression, target, referred, base_of}
-use Rattle.widget_meaning.specs.Statements.{discard, declare_as, declaration, declarations, expressions, next_expressions, branch, loop_test, loop_end, while_next, do_next, for_test, for_again, for_next, for_init, for_in, for_in_next, for_in_names, for_in_over, pass, to_return, return_form, to_throw, case_test, choose_case, case_tested, switch_end, switch_on, in_catch, caught, last_end, finally, statement, Case, from_default}
-use Rattle.widget_meaning.specs.Dispatch.{hear, hear_found, search_from, dispatch, handlers, next_handlers, bubble_on, dispatch_end, heard}
+use Rattle.widget_meaning.specs.Statements.{discard, declare_as, declaration, declarations, expressions, next_expressions, branch, loop_test, loop_end, while_next, do_next, for_test, for_again, for_next, for_init, for_in, for_in_next, for_in_over, pass, to_return, return_form, to_throw, case_test, choose_case, case_tested, switch_end, switch_on, in_catch, caught, last_end, finally, statement, Case, from_default}
+use Rattle.widget_meaning.specs.Dispatch.{hear, hear_found, search_from, dispatch, handlers, next_handlers, bubble_on, dispatch_end, heard, bubble}
 use Rattle.widget_meaning.specs.Keeps.{Invariant, Keeps}
 use Rattle.widget_meaning.proofs.Keeping.{ended, halted, job, either, value, reference, normal, thrown, chain, charged, paid, made, made_text, faulted, R}
 
@@ -354,11 +354,8 @@ module _ (inv : Invariant) where
   pub for_in_next_r : (x0 : Value) (x1 : List ℕ) (x2 : List (List ℕ)) (x3 : List Stmt) (x4 : Place) (x5 : Completion) (x6 : State) → R inv x6 → Keeps inv (for_in_next x0 x1 x2 x3 x4 x5 x6)
   for_in_next_r v x ys b p o s hr = search (loop_end_r, for_in_r)
 
-  pub for_in_names_r : (x0 : Value) (x1 : List ℕ) (x2 : List (List ℕ)) (x3 : List Stmt) (x4 : Place) (x5 : State) → R inv x5 → Keeps inv (for_in_names x0 x1 x2 x3 x4 x5)
-  for_in_names_r v x ys b p s hr = search (charged, for_in_r)
-
   pub for_in_over_r : (x0 : List ℕ) (x1 : List Stmt) (x2 : Place) (x3 : Completion) (x4 : State) → R inv x4 → Keeps inv (for_in_over x0 x1 x2 x3 x4)
-  for_in_over_r x b p o s hr = search (value, either, faulted, for_in_names_r)
+  for_in_over_r x b p o s hr = search (value, either, faulted, charged, for_in_r)
 
   pub pass_r : (x0 : Loop) (x1 : Place) (x2 : State) → R inv x2 → Keeps inv (pass x0 x1 x2)
   pass_r (WhileLoop e b) p s hr = search (chain, statements_r, while_next_r)
@@ -453,6 +450,10 @@ module _ (inv : Invariant) where
   pub dispatch_end_r : (x0 : Hearing) (x1 : Completion) (x2 : State) → R inv x2 → Keeps inv (dispatch_end x0 x1 x2)
   dispatch_end_r h (Is v) s hr = search (bubble_on_r)
   dispatch_end_r h o s hr = search (ended)
+
+  pub bubble_r : (x0 : List Bool) (x1 : State) → R inv x1 → Keeps inv (bubble x0 x1)
+  bubble_r [] s hr = search (faulted)
+  bubble_r (b ∷ bs) s hr = search (ended)
 
   pub heard_r : (x0 : Hearing) (x1 : State) → R inv x1 → Keeps inv (heard x0 x1)
   heard_r h s hr = search (chain, invoke_r, next_handlers_r, dispatch_end_r)

@@ -1,22 +1,22 @@
 -- The natives of the page keep an invariant, and so each native.
 
 use Rattle.std.specs.Prelude.{ℕ, List, [], ◌∷◌, Bool, true, false, if◌then◌else◌, codes, Option, Some, None}
-use Rattle.widget_meaning.specs.Values.{Value, Own, Undefined}
+use Rattle.widget_meaning.specs.Values.{Value, Undefined}
 use Rattle.plain_tree.specs.Trees.{Label}
 use Rattle.widget_meaning.specs.Trees.{Trees, label_of}
-use Rattle.widget_meaning.specs.OwnState.{State, Kind, Object, Array, Function, Bunch, notes_at, new_bunch, with_new_cell, Notes, with_notes}
+use Rattle.widget_meaning.specs.OwnState.{State, notes_at, new_bunch, with_new_cell, Notes, with_notes}
 use Rattle.widget_meaning.specs.Plan.{Plan}
 use Rattle.widget_meaning.specs.NativeNames.{ReadNative, Query, GetValue, GetValues, GetStyle, GetClass, GetTitle, GetCheck, Explode, Count, GetParent, GetTagName, GetMark, WriteNative, Append, Remove, Empty, Replace, SetValue, SetStyle, SetClass, SetTitle, SetCheck, SetEnabled, Focus, Blur, On, Off, Fire, Each, SetMark, Protect, Bubble, DomNative, DomQuery, DomAppend, DomTag, DomText, NativeId, OfGlobal, OfMath, OfPrototype, OfText, OfList, OfAdsafe, OfDom, OfRead, OfWrite}
-use Rattle.widget_meaning.specs.PageForms.{want, want_all, is_input, is_text_node, want_one, want_bunch, want_bunch_kind}
+use Rattle.widget_meaning.specs.PageForms.{want, want_all, is_input, is_text_node, want_one, want_bunch}
 use Rattle.widget_meaning.specs.QueryForms.{QueryStep}
 use Rattle.widget_meaning.specs.BunchReads.{with_bunches, query, read_native, give_page_text, query_steps, get_value, get_values, get_attribute, get_style, explode, get_parent, get_tag_name, read_method, exploded}
-use Rattle.widget_meaning.specs.BunchWrites.{appended, write_native, alter, alter_for, append_trees, append, remove, replace, set_value, set_style, set_attribute, set_flag, focus, blur, listen, hush, fired, fire, each_called, each, bubble, write_method, with_copies, emptied, each_emptied, label_with, relabel, each_relabelled, with_text_node, valued, each_valued, each_noted}
+use Rattle.widget_meaning.specs.BunchWrites.{appended, write_native, alter, alter_for, append_trees, append, remove, replace, set_value, set_style, set_attribute, set_flag, focus, blur, listen, hush, fired, fire, each_called, each, write_method, with_copies, emptied, each_emptied, label_with, relabel, each_relabelled, with_text_node, valued, each_valued, each_noted}
 use Rattle.widget_meaning.specs.DomNatives.{dom_native, give_node, dom_tag, append_to_root, dom_append}
 use Rattle.widget_meaning.specs.Natives.{run_native}
 use Rattle.widget_meaning.specs.Keeps.{Invariant, Keeps}
-use Rattle.widget_meaning.proofs.Keeping.{ended, job, either, value, chain, charged, paid, made_text, faulted, R}
+use Rattle.widget_meaning.proofs.Keeping.{ended, job, either, value, chain, charged, paid, made_text, faulted, R, found}
 use Rattle.widget_meaning.proofs.KeepingAdsafe.{adsafe_native_r}
-use Rattle.widget_meaning.proofs.KeepingForms.{dispatch_r}
+use Rattle.widget_meaning.proofs.KeepingForms.{dispatch_r, bubble_r}
 use Rattle.widget_meaning.proofs.KeepingNatives.{give_texts_r, global_native_r, make_bunch_r, math_native_r, on_bunch_r, want_function_r, want_primitives_r}
 use Rattle.widget_meaning.proofs.KeepingLists.{list_native_r, prototype_native_r}
 use Rattle.widget_meaning.proofs.KeepingTexts.{text_native_r}
@@ -69,15 +69,8 @@ module _ (inv : Invariant) where
   each_noted_kept f [] s hr = hr
   each_noted_kept f (n ∷ ns) s hr = each_noted_kept f ns (with_notes s n (f (notes_at s n))) hr
 
-  pub want_bunch_kind_r : (x0 : Kind) (x1 : State) (x2 : (List ℕ → Plan)) → R inv x1 → ((y0 : List ℕ) → Keeps inv (x2 y0)) → Keeps inv (want_bunch_kind x0 x1 x2)
-  want_bunch_kind_r (Bunch ns) s k hr f0 = search
-  want_bunch_kind_r Object s k hr f0 = search (faulted)
-  want_bunch_kind_r (Array len) s k hr f0 = search (faulted)
-  want_bunch_kind_r (Function f scope) s k hr f0 = search (faulted)
-
   pub want_bunch_r : (x0 : Value) (x1 : State) (x2 : (List ℕ → Plan)) → R inv x1 → ((y0 : List ℕ) → Keeps inv (x2 y0)) → Keeps inv (want_bunch x0 x1 x2)
-  want_bunch_r (Own n) s k hr f0 = search (want_bunch_kind_r)
-  want_bunch_r v s k hr f0 = search (faulted)
+  want_bunch_r v s k hr f0 = search (found)
 
   pub want_all_r : (x0 : (ℕ → Bool)) (x1 : List ℕ) (x2 : State) (x3 : Plan) → R inv x2 → Keeps inv x3 → Keeps inv (want_all x0 x1 x2 x3)
   want_all_r test ns s p hr f0 = search (either, faulted)
@@ -196,10 +189,6 @@ module _ (inv : Invariant) where
   pub each_r : (x0 : List ℕ) (x1 : Value) (x2 : Value) (x3 : ℕ) (x4 : State) → R inv x4 → Keeps inv (each x0 x1 x2 x3 x4)
   each_r ns f b d s hr = search (want_function_r, charged, paid, each_called_r, bunches_kept) depth 8 fits 4000
 
-  pub bubble_r : (x0 : List Bool) (x1 : State) → R inv x1 → Keeps inv (bubble x0 x1)
-  bubble_r [] s hr = search (faulted)
-  bubble_r (b ∷ bs) s hr = search (ended)
-
   pub write_method_r : (x0 : WriteNative) (x1 : List ℕ) (x2 : Value) (x3 : List Value) (x4 : ℕ) (x5 : State) → R inv x5 → Keeps inv (write_method x0 x1 x2 x3 x4 x5)
   write_method_r Append ns b vs d s hr = search (append_r)
   write_method_r Remove ns b vs d s hr = search (remove_r)
@@ -219,10 +208,8 @@ module _ (inv : Invariant) where
   write_method_r Each ns b vs d s hr = search (each_r)
   write_method_r SetMark ns b vs d s hr = search (want_primitives_r, alter_r, each_noted_kept)
   write_method_r Protect ns b vs d s hr = search (alter_r, each_noted_kept)
-  write_method_r Bubble ns b vs d s hr = search (bubble_r)
 
   pub write_native_r : (x0 : WriteNative) (x1 : Option Value) (x2 : List Value) (x3 : ℕ) (x4 : State) → R inv x4 → Keeps inv (write_native x0 x1 x2 x3 x4)
-  write_native_r Bubble this vs d s hr = search (bubble_r)
   write_native_r w this vs d s hr = search (on_bunch_r, write_method_r)
 
   pub give_node_r : (x0 : Label) (x1 : ℕ) (x2 : State) → R inv x2 → Keeps inv (give_node x0 x1 x2)
@@ -253,3 +240,4 @@ module _ (inv : Invariant) where
   run_native_r (OfDom w) this vs d s hr = search (dom_native_r)
   run_native_r (OfRead w) this vs d s hr = search (read_native_r)
   run_native_r (OfWrite w) this vs d s hr = search (write_native_r)
+  run_native_r Bubble this vs d s hr = search (bubble_r)

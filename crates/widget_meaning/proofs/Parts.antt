@@ -1,22 +1,22 @@
 -- Each form by the meanings of its parts.
 use Rattle.std.proofs.Common.{ℕ, zero, suc, Bool, true, false, List, [], ◌∷◌, ◌≤◌, refl, sym, ap, ◌≡◌, ◌∙◌, arith}
 use Rattle.std.proofs.lemmas.Bool.{false≢true, ltb-false}
-use Rattle.std.specs.Prelude.{Some, is_some, nat_lt, ◌-◌, ◌+◌, ◌++◌, length, Option, None, if◌then◌else◌, pos}
+use Rattle.std.specs.Prelude.{Some, is_some, nat_lt, ◌-◌, ◌++◌, length, Option, None, if◌then◌else◌, pos}
 use Rattle.js_tree.specs.declared.nodes.UnOp.TheVariants as un
 use Rattle.js_tree.specs.declared.nodes.BinOp.{BinOp}
 use Rattle.js_tree.specs.Plain as tree
 use Rattle.js_tree.specs.Plain.{ExprForm, Stmts, Fun}
 use Rattle.widget_meaning.specs.Limits.{max_units, max_cells, max_slots, max_nodes, max_depth}
 use Rattle.widget_meaning.specs.Values.{Value, Text, Own, Completion, Normal, Is, Refers, Return, Break, Continue, Throw, E1, Units, Cells, Slots, Nodes, Depth, is_true, is_nothing, Undefined, Num}
-use Rattle.widget_meaning.specs.OwnState.{State, Amounts, Function, cell_at, with_new_cell, with_new_scope, new_array, plain_object, new_function}
+use Rattle.widget_meaning.specs.OwnState.{State, Amounts, Function, cell_at, with_new_cell, with_new_scope, new_array, plain_object, new_function, Scope}
 use Rattle.widget_meaning.specs.Plan.{Plan, Place, Ret, Halt, Do, Eval, Target, Exec, Pass, Call, RunNative, Hear, Hearing, WhileLoop, DoLoop, ForLoop, ForInLoop, Out, Stopped, OutOfFuel, and_then, charge, ticks}
-use Rattle.widget_meaning.specs.Costs.{make, give, throw, within, sum, object_cost, slots_cost, with_counts}
+use Rattle.widget_meaning.specs.Costs.{make, give, throw, within, sum, object_cost, with_counts, scope_cost}
 use Rattle.widget_meaning.specs.Operators.{binary, same}
 use Rattle.widget_meaning.specs.Properties.{property, names_of}
-use Rattle.widget_meaning.specs.Scopes.{assign, fun_name, fun_names, funs_list, without_name, stmts_vars, scope_names, first_pairs}
+use Rattle.widget_meaning.specs.Scopes.{assign, fun_name, funs_list, without_name, call_scope}
 use Rattle.widget_meaning.specs.Calls.{statements, next_statements, stmt_list, without_directive, with_variable, declare, call_end, enter, enter_scope, invoke, to_primitive, primitive_result}
 use Rattle.widget_meaning.specs.Expressions.{expr_list, property_list, array_parts, array_part, object_parts, object_part, dot_read, subscript_read, named_read, dot_target, subscript_target, named_target, value_target, expression, target, callee, next_argument, binary_right, binary_with, unary_operand, delete_target, step_target, step_converted, assign_target, assign_with, compound, assigned, referred, and_right, or_right, choose, converts, converted_left, converted_right, result, unary_converted}
-use Rattle.widget_meaning.specs.Statements.{discard, decl_list, declarations, declare_as, expressions, next_expressions, branch, loop_test, loop_end, while_next, do_next, for_init, for_again, for_next, for_in, for_in_next, for_in_names, for_in_over, to_return, to_throw, clauses_onto, bodies, choose_case, switch_on, switch_end, in_catch, caught, finally, last_end, case_tested}
+use Rattle.widget_meaning.specs.Statements.{discard, decl_list, declarations, declare_as, expressions, next_expressions, branch, loop_test, loop_end, while_next, do_next, for_init, for_again, for_next, for_in, for_in_next, for_in_over, to_return, to_throw, clauses_onto, bodies, choose_case, switch_on, switch_end, in_catch, caught, finally, last_end, case_tested}
 use Rattle.widget_meaning.specs.ListNatives.{next_call}
 use Rattle.widget_meaning.specs.BunchWrites.{next_fired, next_called}
 use Rattle.widget_meaning.specs.Natives.{run_native}
@@ -120,10 +120,10 @@ entered : (f : Fun) (outer : Option ℕ) (v : Value) (vs : List Value) (d : ℕ)
 entered (tree.FunAt at names name params body funs) outer v vs d s =
     let f : Fun = tree.FunAt at names name params body funs in
     let fs : List Fun = funs_list funs [] in
-    let xs : List (List ℕ) = scope_names params body fs (fun_name f) in
-    let a : Amounts = sum s.own.counts (slots_cost (1 + length xs)) in
+    let c : Scope = call_scope f outer v vs in
+    let a : Amounts = sum s.own.counts (scope_cost c) in
     let i : ℕ = length s.own.scopes in
-    let t : State = with_new_scope (with_counts s a) (record { outer = outer; pairs = first_pairs params vs (params ++ (stmts_vars body ++ fun_names fs)) (fun_name f) v xs }) in
+    let t : State = with_new_scope (with_counts s a) c in
     let b : Completion → State → Plan = body_in f (record { scope = Some i; depth = d }) in
     sym (ap (λ q. and_then q b) (within_then a s (Ret Normal t) (declared f i))
     ∙ (within_then a s (declare fs i t (Ret Normal)) b ∙ ap (within a s) (declare_then fs i t b)))
@@ -225,7 +225,7 @@ statement_laws at names = record {
   expressions_first = λ e es p s g. part g (Eval e p) s (next_expressions es p);
   expressions_end = λ p s g. refl;
   for_in_object = λ is_declared x e b p s g. first g (Exec (tree.StmtAt at names (tree.ForIn is_declared x e b)) p) (Eval e p) s (for_in_over x (stmt_list b) p) refl;
-  for_in_list = λ v x b p s g. chosen (is_nothing v) g (throw E1 s) (for_in_names v x (names_of s v) b p s);
+  for_in_list = λ v x b p s g. chosen (is_nothing v) g (throw E1 s) (charge (length (names_of s v)) s (for_in v x (names_of s v) b p s));
   for_in_name = λ v x y ys b p s g. chosen (is_some (property s v y)) g (Do (Pass (ForInLoop v x y ys b) p) s Ret) (for_in v x ys b p s);
   for_in_end = λ v x b p s g. refl;
   for_in_pass = λ v x y ys b p s g. then_part g (Pass (ForInLoop v x y ys b) p) s (statements b p (assign s p x (Text y))) (for_in_next v x ys b p) refl;

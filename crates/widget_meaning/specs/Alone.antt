@@ -39,11 +39,11 @@ abbrev pub call_parts : Stmts → Option (List ℕ × Fun)
 call_parts (tree.AndStmt tree.NoStmts (tree.StmtAt a xs (tree.Only (tree.ExprAt b bs (tree.Call callee (tree.AndExpr (tree.AndExpr tree.NoExprs (tree.ExprAt c cs (tree.Str x))) (tree.ExprAt d ds (tree.Function f)))))))) = Some (x, f)
 call_parts ss = None
 
--- the object `lib` is made first; the nodes of the subtree are paid
+-- the object `lib`, which is made first
 abbrev pub lib : Value
 lib = Own 0
 
--- the widget before its first turn
+-- the widget before its first turn: the object `lib` and the nodes of the subtree are paid
 abbrev pub beginning : Content → ℕ → OwnState
 beginning w grant = record {
   heap = plain_object [] ∷ [];
@@ -105,7 +105,7 @@ loaded w grant =
 abbrev pub alone_from : OwnState → List Item → OwnState
 alone_from o is = fold item o is
 
--- Alone: the load, and the items in order
+-- one widget by itself: the load, and the items in order
 abbrev pub alone : Content → ℕ → List Item → OwnState
 alone w grant is = alone_from (loaded w grant) is
 

@@ -19,12 +19,12 @@ use Rattle.widget_meaning.specs.Queries.{finds}
 abbrev pub give_page_text : ℕ → List ℕ → State → Plan
 give_page_text extra t s = charge extra s (make_text t s (give (Text t)))
 
--- protected nodes are no starts where the first step's hunter is `+`
+-- whether a hunter is `+`
 abbrev pub is_next : Hunter → Bool
 is_next (HuntNext tag) = true
 is_next h = false
 
--- the starts of a query
+-- the starts of a query: no protected nodes where the first step's hunter is `+`
 abbrev pub starts : State → List QueryStep → List ℕ → List ℕ
 starts s [] ns = ns
 starts s (q ∷ qs) ns = if is_next q.hunter then filter (λ n. not (notes_at s n).is_protected) ns else ns
@@ -42,12 +42,12 @@ query ns v s = want_primitives (v ∷ []) s (query_steps (read_query (to_text v)
 abbrev pub value_of : State → ℕ → List ℕ
 value_of s n = if is_input s n then or_empty (attribute s n (codes "value")) else texts_of (subtree n s.own.forest)
 
--- `getValue()` and `getValues()`: the extra is the number of nodes and the units
+-- `getValue()`: the extra is the number of nodes and the units
 abbrev pub get_value : List ℕ → State → Plan
 get_value [] s = give Undefined s
 get_value (n ∷ ns) s = give_page_text (length (n ∷ ns) + length (value_of s n)) (value_of s n) s
 
--- the values of all nodes
+-- `getValues()`: the extra is the number of nodes and the units
 abbrev pub get_values : List ℕ → State → Plan
 get_values ns s = charge (length ns + sum_by length (map (value_of s) ns)) s (give_texts (map (value_of s) ns) s)
 
@@ -66,7 +66,7 @@ get_style ns p s =
     want_primitives (p ∷ []) s (want (is_listed (to_text p)) s
     (give_page_text (length ns) (style_value (style_pairs (first_attribute s ns (codes "style"))) (to_text p)) s))
 
--- `getCheck()`: whether the first node has `checked`
+-- whether the first node has `checked`
 abbrev pub is_checked : State → List ℕ → Bool
 is_checked s [] = false
 is_checked s (n ∷ ns) = is_some (attribute s n (codes "checked"))
@@ -89,7 +89,7 @@ exploded ns s = with_bunches (with_new_cell s (new_array (length ns) (numbered_p
 abbrev pub explode : List ℕ → State → Plan
 explode ns s = charge (length ns) s (pay (cost 0 (length ns + 1) (3 * length ns) 0) s (λ t. give (Own (length t.own.heap)) (exploded ns t)))
 
--- `getParent()`: the parents, first seen first; E10 where a node is protected or has no parent
+-- whether a node has a parent and is not protected
 abbrev pub has_open_parent : State → ℕ → Bool
 has_open_parent s n = is_some (parent n s.own.forest) && not (notes_at s n).is_protected
 
@@ -102,20 +102,20 @@ listed_parent (Some p) = p ∷ []
 abbrev pub parents : State → List ℕ → List ℕ
 parents s ns = once [] (flat_map (λ n. listed_parent (parent n s.own.forest)) ns)
 
--- `getParent()`
+-- `getParent()`: the parents, first seen first; E10 where a node is protected or has no parent
 abbrev pub get_parent : List ℕ → State → Plan
 get_parent ns s = want_all (has_open_parent s) ns s (charge (length ns) s (make_bunch (parents s ns) s give))
 
--- `getTagName()`: the first node's tag, or `#text`
+-- the tag of a node, or `#text`
 abbrev pub tag_name : State → ℕ → List ℕ
 tag_name s n = if is_text_node s n then codes "#text" else tag_of s n
 
--- `getTagName()`
+-- `getTagName()`: of the first node
 abbrev pub get_tag_name : List ℕ → State → Plan
 get_tag_name [] s = give Undefined s
 get_tag_name (n ∷ ns) s = give_page_text (length (n ∷ ns)) (tag_name s n) s
 
--- `getMark()`: the first node's mark, or empty
+-- the first node's mark, or empty
 abbrev pub first_mark : State → List ℕ → List ℕ
 first_mark s [] = []
 first_mark s (n ∷ ns) = (notes_at s n).mark

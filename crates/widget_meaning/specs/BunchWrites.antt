@@ -1,10 +1,10 @@
 -- The Bunch methods that change, and `bubble`. The extra is the number of nodes, unless said; each gives the Bunch.
-use Rattle.std.specs.Prelude.{ℕ, ◌+◌, ◌-◌, ◌*◌, List, [], ◌∷◌, ◌++◌, length, Bool, true, false, not, ◌&&◌, ◌||◌, nat_eq, nat_le, nat_lt, if◌then◌else◌, codes, Option, Some, None}
+use Rattle.std.specs.Prelude.{ℕ, ◌+◌, ◌-◌, ◌*◌, List, [], ◌∷◌, ◌++◌, length, Bool, true, false, not, ◌&&◌, ◌||◌, nat_eq, nat_le, nat_lt, if◌then◌else◌, codes, Option, Some, None, unwrap_or}
 use Rattle.std.specs.List.{filter, list_all, count_by}
 use Rattle.std.specs.Str.{bytes_eq}
 use Rattle.widget_meaning.specs.Limits.{max_node_depth}
-use Rattle.widget_meaning.specs.NativeNames.{WriteNative, Append, Remove, Empty, Replace, SetValue, SetStyle, SetClass, SetTitle, SetCheck, SetEnabled, Focus, Blur, On, Off, Fire, Each, SetMark, Protect, Bubble}
-use Rattle.widget_meaning.specs.Values.{Value, Undefined, Own, E3, E10, is_true, to_text, Completion}
+use Rattle.widget_meaning.specs.NativeNames.{WriteNative, Append, Remove, Empty, Replace, SetValue, SetStyle, SetClass, SetTitle, SetCheck, SetEnabled, Focus, Blur, On, Off, Fire, Each, SetMark, Protect}
+use Rattle.widget_meaning.specs.Values.{Value, Undefined, Own, E10, is_true, to_text, Completion}
 use Rattle.plain_tree.specs.Trees.{End, Node, Label, TextOf, ElementOf, Attribute, height, size}
 use Rattle.widget_meaning.specs.Trees.{Trees, label_of, parent, children, tops, numbered, grafted, with_attribute}
 use Rattle.widget_meaning.specs.OwnState.{State, Notes, notes_at, with_own, with_forest, with_notes}
@@ -257,17 +257,6 @@ marked t k = record { handlers = k.handlers; mark = t; is_protected = k.is_prote
 abbrev pub protected : Notes → Notes
 protected k = record { handlers = k.handlers; mark = k.mark; is_protected = true }
 
--- `bubble()` marks the innermost dispatch; E3 where none runs
-abbrev pub marked_last : List Bool → List Bool
-marked_last [] = []
-marked_last (b ∷ []) = true ∷ []
-marked_last (b ∷ c ∷ bs) = b ∷ marked_last (c ∷ bs)
-
--- `bubble()`
-abbrev pub bubble : List Bool → State → Plan
-bubble [] s = throw E3 s
-bubble (b ∷ bs) s = give Undefined (record { own = s.own; dispatches = marked_last (b ∷ bs) })
-
 -- each method on its nodes; the Bunch itself is given
 abbrev pub write_method : WriteNative → List ℕ → Value → List Value → ℕ → State → Plan
 write_method Append ns b vs d s = append ns (nth 0 vs) b s
@@ -288,14 +277,7 @@ write_method Fire ns b vs d s = want_primitives (nth 0 vs ∷ []) s (fire ns (to
 write_method Each ns b vs d s = each ns (nth 0 vs) b d s
 write_method SetMark ns b vs d s = want_primitives (nth 0 vs ∷ []) s (alter (length ns) b s (each_noted (marked (to_text (nth 0 vs))) ns))
 write_method Protect ns b vs d s = alter (length ns) b s (each_noted protected ns)
-write_method Bubble ns b vs d s = bubble s.dispatches s
-
--- the receiver, undefined where there is none
-abbrev pub or_this : Option Value → Value
-or_this None = Undefined
-or_this (Some v) = v
 
 -- a method of a Bunch that changes, which gives its receiver back, and `bubble`
 abbrev pub write_native : WriteNative → Option Value → List Value → ℕ → State → Plan
-write_native Bubble this vs d s = bubble s.dispatches s
-write_native w this vs d s = on_bunch this s (λ ns. write_method w ns (or_this this) vs d s)
+write_native w this vs d s = on_bunch this s (λ ns. write_method w ns (unwrap_or this Undefined) vs d s)

@@ -1,5 +1,5 @@
 -- The meaning is compositional: each form by the meanings of its parts. This is the direct recursive meaning, form by form.
-use Rattle.std.specs.Prelude.{◌≡◌, ℕ, suc, pos, ◌+◌, ◌-◌, nat_lt, Bool, true, false, if◌then◌else◌, List, [], ◌∷◌, ◌++◌, length, Option, Some, is_some}
+use Rattle.std.specs.Prelude.{◌≡◌, ℕ, suc, pos, ◌-◌, nat_lt, Bool, true, false, if◌then◌else◌, List, [], ◌∷◌, ◌++◌, length, Option, Some, is_some}
 use Rattle.js_tree.specs.declared.nodes.Word.{Word}
 use Rattle.js_tree.specs.declared.nodes.StepOp.{StepOp}
 use Rattle.js_tree.specs.declared.nodes.UnOp.TheVariants as un
@@ -11,12 +11,12 @@ use Rattle.code_units.specs.Whole.{number_in}
 use Rattle.widget_meaning.specs.Limits.{max_depth}
 use Rattle.widget_meaning.specs.NativeNames.{NativeId, Native}
 use Rattle.widget_meaning.specs.Values.{Value, Undefined, Num, Text, Own, Host, Reference, Variable, Completion, Normal, Is, Refers, Return, Break, Continue, Throw, E1, Depth, is_true, is_nothing}
-use Rattle.widget_meaning.specs.OwnState.{State, Function, cell_at, with_new_scope, new_array, plain_object, new_function}
+use Rattle.widget_meaning.specs.OwnState.{State, Function, cell_at, with_new_scope, new_array, plain_object, new_function, Scope}
 use Rattle.widget_meaning.specs.Plan.{Place, Plan, Ret, Job, Eval, Target, Exec, Pass, Call, RunNative, Hear, Hearing, Loop, WhileLoop, DoLoop, ForLoop, ForInLoop, Out, End, Ended, Stopped, OutOfFuel, charge, on_normal}
-use Rattle.widget_meaning.specs.Costs.{slots_cost, pay, make, throw, give}
+use Rattle.widget_meaning.specs.Costs.{pay, make, throw, give, scope_cost}
 use Rattle.widget_meaning.specs.Operators.{binary, same}
 use Rattle.widget_meaning.specs.Properties.{property, names_of}
-use Rattle.widget_meaning.specs.Scopes.{variable, assign, fun_name, fun_names, funs_list, stmts_vars, scope_names, first_pairs}
+use Rattle.widget_meaning.specs.Scopes.{variable, assign, funs_list, call_scope}
 use Rattle.widget_meaning.specs.Calls.{statements, next_statements, stmt_list, without_directive, declare, call_body, call_end, invoke, call_to_string, primitive_result, to_primitive}
 use Rattle.widget_meaning.specs.Expressions.{expr_list, property_list, literal, word_value, array_parts, array_part, object_parts, object_part, dot_read, subscript_read, named_read, dot_target, subscript_target, named_target, value_target, callee, arguments_then, next_argument, binary_right, binary_with, unary_operand, delete_target, step_target, step_converted, assign_target, assign_with, compound, assigned, referred, base_of, and_right, or_right, choose, converts, converted_left, converted_right, result, unary_converted}
 use Rattle.widget_meaning.specs.Statements.{discard, decl_list, declarations, declare_as, expressions, next_expressions, branch, loop_test, while_next, do_next, for_init, for_again, for_next, for_in, for_in_next, for_in_over, to_return, to_throw, clauses_onto, bodies, from_default, switch_on, switch_end, in_catch, caught, finally, last_end, Case, choose_case, case_tested}
@@ -65,12 +65,7 @@ is_value_form form = true
 
 -- the new scope of a call, paid
 abbrev pub new_scope : Fun → Option ℕ → Value → List Value → State → Plan
-new_scope (tree.FunAt at names name params body funs) outer f vs s =
-    let fs : List Fun = funs_list funs [] in
-    let own : List (List ℕ) = fun_name (tree.FunAt at names name params body funs) in
-    let xs : List (List ℕ) = scope_names params body fs own in
-    pay (slots_cost (1 + length xs)) s (λ t. Ret Normal
-    (with_new_scope t (record { outer = outer; pairs = first_pairs params vs (params ++ (stmts_vars body ++ fun_names fs)) own f xs })))
+new_scope f outer v vs s = let c : Scope = call_scope f outer v vs in pay (scope_cost c) s (λ t. Ret Normal (with_new_scope t c))
 
 -- then the declared functions, in that scope
 abbrev pub declared : Fun → ℕ → Completion → State → Plan

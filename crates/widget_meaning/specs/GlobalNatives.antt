@@ -102,14 +102,12 @@ parse_int v radix s =
 -- a number modulo 65536, NaN as 0
 abbrev pub code_of : WholeRead → ℕ
 code_of (read.Whole z) = unsigned_abs (int_rem_euclid z (pos 65536))
-code_of read.NotNumber = 0
-code_of read.Left = 0
+code_of r = 0
 
 -- whether it leaves the numbers
 abbrev pub leaves : WholeRead → Bool
-leaves (read.Whole z) = false
-leaves read.NotNumber = false
 leaves read.Left = true
+leaves r = false
 
 -- `String.fromCharCode(u, ...)`
 abbrev pub from_char_code : List Value → State → Plan

@@ -1,44 +1,26 @@
 -- The methods of arrays that change the array. All but `push` and `pop` leave every index below the length present, in rising order after the other names.
-use Rattle.std.specs.Prelude.{ℕ, zero, suc, pos, ℤ, ◌+◌, ◌-◌, Bool, true, false, List, [], ◌∷◌, ◌++◌, length, take, drop, sum_by, nat_lt, is_none, if◌then◌else◌, Option, Some, None}
+use Rattle.std.specs.Prelude.{ℕ, zero, suc, pos, ℤ, ◌+◌, ◌-◌, Bool, true, false, List, [], ◌∷◌, ◌++◌, length, take, drop, sum_by, nat_lt, is_none, if◌then◌else◌, Option, Some, None, unwrap_or}
 use Rattle.std.specs.Prelude as std
 use Rattle.std.specs.List.{filter}
+use Rattle.std.specs.Option.{option_map_or}
 use Rattle.widget_meaning.specs.Limits.{max_length}
 use Rattle.widget_meaning.specs.Values.{Value, Undefined, Num, Own, E4, E7, to_text, to_number}
 use Rattle.widget_meaning.specs.Operators.{text_lt}
-use Rattle.widget_meaning.specs.OwnState.{State, Cell, Kind, Object, Array, Function, Bunch, Pairs, cell_at, with_cell, new_array, with_new_cell}
+use Rattle.widget_meaning.specs.OwnState.{State, Cell, Pairs, cell_at, with_cell, new_array, with_new_cell, array_length, kind_of}
 use Rattle.widget_meaning.specs.Plan.{Plan, charge}
 use Rattle.widget_meaning.specs.Costs.{pay, cost, slots_cost, throw, give}
 use Rattle.widget_meaning.specs.Properties.{index_of, kept_below, with_pairs, with_length}
 use Rattle.widget_meaning.specs.Scopes.{first_value}
 use Rattle.widget_meaning.specs.NativeForms.{nth, want_primitives, with_number, from_end, clamped, element, elements, numbered_pairs}
 
--- the elements of an array of the widget; another object is one by itself
-abbrev pub kind_elements : Kind → ℕ → State → List Value
-kind_elements (Array len) n s = elements s n len
-kind_elements Object n s = Own n ∷ []
-kind_elements (Function f scope) n s = Own n ∷ []
-kind_elements (Bunch ns) n s = Own n ∷ []
-
--- what an argument of `concat` adds
+-- what an argument of `concat` adds: the elements of an array, all else by itself
 abbrev pub array_elements : State → Value → List Value
-array_elements s (Own n) = kind_elements (cell_at s n).kind n s
+array_elements s (Own n) = option_map_or (elements s n) (array_length (kind_of s (Own n))) (Own n ∷ [])
 array_elements s v = v ∷ []
-
--- the length of an array, else 0
-abbrev pub kind_length : Kind → ℕ
-kind_length (Array len) = len
-kind_length Object = 0
-kind_length (Function f scope) = 0
-kind_length (Bunch ns) = 0
-
--- the length of an array argument
-abbrev pub array_length : State → Value → ℕ
-array_length s (Own n) = kind_length (cell_at s n).kind
-array_length s v = 0
 
 -- the extra, without units made: the lengths of the array and of array arguments, and the number of arguments
 abbrev pub list_extra : ℕ → List Value → State → ℕ
-list_extra len vs s = len + (sum_by (array_length s) vs + length vs)
+list_extra len vs s = len + (sum_by (λ v. unwrap_or (array_length (kind_of s v)) 0) vs + length vs)
 
 -- the names that are no index
 abbrev pub other_pairs : Pairs → Pairs

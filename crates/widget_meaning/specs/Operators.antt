@@ -9,7 +9,7 @@ use Rattle.code_units.specs.declared.whole.WholeRead.{WholeRead}
 use Rattle.code_units.specs.declared.whole.WholeRead.TheVariants as read
 use Rattle.widget_meaning.specs.Limits.{past_numbers, max_text}
 use Rattle.widget_meaning.specs.Values.{Value, Undefined, Null, Truth, NaN, Num, Text, Own, Host, is_true, to_text, to_number}
-use Rattle.widget_meaning.specs.NativeNames.{HostEntry, same_host}
+use Rattle.widget_meaning.specs.NativeNames.{same_host}
 
 -- what an operator gives
 pub data OpOut : Type 0 where
@@ -83,10 +83,6 @@ abbrev pub is_yes : {A : Type 0} → Dec A → Bool
 is_yes (yes p) = true
 is_yes (no p) = false
 
--- whether two host objects are one
-abbrev pub same_entry : HostEntry → HostEntry → Bool
-same_entry g h = is_yes (same_host g h)
-
 -- `===`: type and value, texts by units, objects by identity; NaN equals nothing
 abbrev pub same : Value → Value → Bool
 same Undefined Undefined = true
@@ -95,7 +91,7 @@ same (Truth a) (Truth b) = if a then b else not b
 same (Num x) (Num y) = is_zero (x -ℤ y)
 same (Text t) (Text u) = bytes_eq t u
 same (Own m) (Own n) = nat_eq m n
-same (Host g) (Host h) = same_entry g h
+same (Host g) (Host h) = is_yes (same_host g h)
 same _ _ = false
 
 -- an operator on two primitives; `===` and `!==` on any values

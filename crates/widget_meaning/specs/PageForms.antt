@@ -4,13 +4,13 @@ use Rattle.std.specs.List.{list_any, list_all}
 use Rattle.std.specs.Int.{is_in_range}
 use Rattle.std.specs.Str.{bytes_eq, byte}
 use Rattle.widget_meaning.specs.Limits.{max_event_type}
-use Rattle.widget_meaning.specs.Values.{Value, Own, E4, E10}
+use Rattle.widget_meaning.specs.Values.{Value, E4, E10}
 use Rattle.plain_tree.specs.Names as names
 use Rattle.plain_tree.specs.Trees.{End, Node, Label, TextOf, ElementOf, Attribute, value_of}
 use Rattle.widget_meaning.specs.Trees.{Trees, label_of, relabelled}
-use Rattle.widget_meaning.specs.OwnState.{State, Kind, Object, Array, Function, Bunch, cell_at, no_notes, with_own, with_forest}
+use Rattle.widget_meaning.specs.OwnState.{State, no_notes, with_own, with_forest, bunch_nodes, kind_of}
 use Rattle.widget_meaning.specs.Plan.{Plan}
-use Rattle.widget_meaning.specs.Costs.{throw}
+use Rattle.widget_meaning.specs.Costs.{throw, or_throw}
 use Rattle.widget_meaning.specs.TreeOps.{with_detached}
 
 -- the root has the number 0
@@ -18,16 +18,8 @@ abbrev pub root : ℕ
 root = 0
 
 -- a Bunch of the widget as an argument, by its nodes; all else throws E4
-abbrev pub want_bunch_kind : Kind → State → (List ℕ → Plan) → Plan
-want_bunch_kind (Bunch ns) s k = k ns
-want_bunch_kind Object s k = throw E4 s
-want_bunch_kind (Array len) s k = throw E4 s
-want_bunch_kind (Function f scope) s k = throw E4 s
-
--- the nodes of an argument that is a Bunch
 abbrev pub want_bunch : Value → State → (List ℕ → Plan) → Plan
-want_bunch (Own n) s k = want_bunch_kind (cell_at s n).kind s k
-want_bunch v s k = throw E4 s
+want_bunch v s k = or_throw E4 (bunch_nodes (kind_of s v)) s k
 
 -- a condition on all nodes, before any change
 abbrev pub want_all : (ℕ → Bool) → List ℕ → State → Plan → Plan
@@ -143,11 +135,11 @@ is_plain_words t = list_all is_plain_unit t
 abbrev pub is_event_type : List ℕ → Bool
 is_event_type t = nat_lt 0 (length t) && nat_le (length t) max_event_type && list_all (is_in_range 97 122) t
 
--- no number twice, each at its first place
+-- whether a number is listed
 abbrev pub has_number : List ℕ → ℕ → Bool
 has_number ns n = list_any (nat_eq n) ns
 
--- the numbers behind those seen, without repeats
+-- each number once, at its first place, behind those seen
 abbrev pub once : List ℕ → List ℕ → List ℕ
 once seen [] = seen
 once seen (n ∷ ns) = if has_number seen n then once seen ns else once (seen ++ n ∷ []) ns

@@ -1,5 +1,5 @@
 -- The methods of texts. Each counts in its extra the units of the text, of the arguments that stand for texts, and of what is made.
-use Rattle.std.specs.Prelude.{ℕ, zero, suc, ℤ, pos, negsuc, ◌+◌, ◌-◌, min, max, Bool, true, false, List, [], ◌∷◌, ◌++◌, length, take, drop, map, sum_by, nat_eq, nat_le, slice_range, Option, Some, None}
+use Rattle.std.specs.Prelude.{ℕ, zero, suc, ℤ, pos, negsuc, ◌+◌, ◌-◌, min, max, Bool, true, false, List, [], ◌∷◌, ◌++◌, length, take, drop, map, sum_by, nat_eq, nat_le, slice_range, Option, Some, None, slice_get}
 use Rattle.std.specs.List.{filter, flat_map, starts_with, range_with_len, last_or}
 use Rattle.std.specs.Str.{str_to_ascii_lowercase, str_to_ascii_uppercase}
 use Rattle.widget_meaning.specs.NativeNames.{TextNative, CharAt, CharCodeAt, TextConcat, IndexOf, LastIndexOf, TextSlice, Substring, Split, ToLowerCase, ToUpperCase}
@@ -44,17 +44,12 @@ abbrev pub found : Option ℕ → Value
 found (Some i) = Num (pos i)
 found None = Num (negsuc 0)
 
--- the first of a list
-abbrev pub first_of_all : List ℕ → Option ℕ
-first_of_all [] = None
-first_of_all (i ∷ is) = Some i
-
 -- `indexOf(s, from)`: the least position at or after `from`
 abbrev pub index_of : List ℕ → Value → Value → State → Plan
 index_of t x from s =
     let extra : ℕ = length t + length (to_text x) in
     want_primitives (x ∷ from ∷ []) s (with_number (to_number from) extra s
-    (λ z. charge extra s (give (found (first_of_all (filter (nat_le (clamped (length t) z)) (positions t (to_text x))))) s)))
+    (λ z. charge extra s (give (found (slice_get (filter (nat_le (clamped (length t) z)) (positions t (to_text x))) 0)) s)))
 
 -- `lastIndexOf(s, from)`: the greatest position at or before `from`, which for NaN is the end
 abbrev pub last_index_of : List ℕ → Value → Value → State → Plan

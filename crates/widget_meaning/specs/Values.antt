@@ -69,10 +69,6 @@ is_object (Own n) = true
 is_object (Host h) = true
 is_object _ = false
 
--- a primitive: no object
-abbrev pub is_primitive : Value → Bool
-is_primitive v = not (is_object v)
-
 -- undefined and null have no properties
 abbrev pub is_nothing : Value → Bool
 is_nothing Undefined = true
