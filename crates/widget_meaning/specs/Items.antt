@@ -4,7 +4,8 @@ use Rattle.std.specs.Str.{bytes_eq}
 use Rattle.widget_meaning.specs.Limits.{max_timers}
 use Rattle.widget_meaning.specs.Values.{Value, Undefined, Text, Own, Stop}
 use Rattle.plain_tree.specs.Trees.{Label, ElementOf}
-use Rattle.widget_meaning.specs.Trees.{label_of, relabelled, with_attribute, node_at}
+use Rattle.tree_ops.specs.Labels.{with_attribute}
+use Rattle.widget_meaning.specs.Trees.{label_of, relabelled, node_at}
 use Rattle.widget_meaning.specs.OwnState.{OwnState, State, Timer}
 use Rattle.widget_meaning.specs.Plan.{Plan, Ret, Do, Call}
 use Rattle.widget_meaning.specs.Dispatch.{nearest, dispatch}
@@ -25,7 +26,7 @@ pub data Item : Type 0 where
 abbrev pub with_value : Option Label → ℕ → Option (List ℕ) → OwnState → OwnState
 with_value (Some (ElementOf tag attrs)) n (Some v) o =
     if bytes_eq tag (codes "input")
-    then record o { forest = relabelled n (ElementOf tag (with_attribute attrs (codes "value") v)) o.forest }
+    then record o { forest = relabelled n (with_attribute (codes "value") (Some v) (ElementOf tag attrs)) o.forest }
     else o
 with_value l n v o = o
 
