@@ -17,10 +17,10 @@ use Rattle.js_tree.specs.declared.nodes.BinOp.{BinOp}
 use Rattle.js_tree.specs.declared.nodes.AssignOp.{AssignOp}
 use Rattle.code_units.specs.declared.whole.WholeRead.{WholeRead}
 use Rattle.widget_meaning.specs.Operators.{OpOut, Gives, Leaves, TooLong}
-use Rattle.widget_meaning.specs.Calls.{invoke, to_primitive, statements, next_statements, declare, call_end, call_body, enter_scope, enter, primitive_result, call_to_string, with_variable}
-use Rattle.widget_meaning.specs.Expressions.{array_parts, array_part, object_parts, object_part, dot_read, named_read, subscript_read, refer, dot_target, named_target, subscript_target, value_target, write, arguments_then, next_argument, callee, result, converted_right, converted_left, operate, binary_with, binary_right, unary_converted, unary_on, unary_operand, delete_at, delete_target, step_write, step_number, step_converted, step_target, assigned, compound, assign_with, assign_target, and_right, or_right, choose, prefix_form, expression, target, referred, base_of}
-use Rattle.widget_meaning.specs.Statements.{discard, declare_as, declaration, declarations, expressions, next_expressions, branch, loop_test, loop_end, while_next, do_next, for_test, for_again, for_next, for_init, for_in, for_in_next, for_in_over, pass, to_return, return_form, to_throw, case_test, choose_case, case_tested, switch_end, switch_on, in_catch, caught, last_end, finally, statement, Case, from_default}
-use Rattle.widget_meaning.specs.Dispatch.{hear, hear_found, search_from, dispatch, handlers, next_handlers, bubble_on, dispatch_end, heard, bubble}
+use Rattle.widget_meaning.specs.Calls.{invoke, to_primitive, statements, declare, call_end, call_body, enter_scope, enter, primitive_result, call_to_string, with_variable}
+use Rattle.widget_meaning.specs.Expressions.{array_parts, object_parts, dot_read, named_read, subscript_read, refer, dot_target, named_target, subscript_target, value_target, write, arguments_then, callee, result, converted_right, converted_left, operate, binary_with, binary_right, unary_converted, unary_on, unary_operand, delete_at, delete_target, step_write, step_number, step_converted, step_target, assigned, compound, assign_with, assign_target, and_right, or_right, choose, prefix_form, expression, target, referred, base_of}
+use Rattle.widget_meaning.specs.Statements.{discard, declare_as, declaration, declarations, expressions, branch, loop_test, loop_end, while_next, do_next, for_test, for_again, for_next, for_init, for_in, for_in_next, for_in_over, pass, to_return, return_form, to_throw, case_test, choose_case, case_tested, switch_end, switch_on, in_catch, caught, last_end, finally, statement, Case, from_default}
+use Rattle.widget_meaning.specs.Dispatch.{hear, hear_found, search_from, dispatch, handlers, bubble_on, dispatch_end, heard, bubble}
 use Rattle.widget_meaning.specs.Keeps.{Invariant, Keeps}
 use Rattle.widget_meaning.proofs.Keeping.{ended, halted, job, either, value, reference, normal, thrown, chain, charged, paid, made, made_text, faulted, R}
 
@@ -82,9 +82,6 @@ module _ (inv : Invariant) where
   statements_r [] p s hr = ended inv Normal s hr
   statements_r (i ∷ is) p s hr = job inv _ s _ hr (λ o t u. normal inv o t _ u (statements_r is p t u))
 
-  pub next_statements_r : (x0 : List Stmt) (x1 : Place) (x2 : Completion) (x3 : State) → R inv x3 → Keeps inv (next_statements x0 x1 x2 x3)
-  next_statements_r is p o s hr = search (normal, statements_r)
-
   pub declare_r : (x0 : List Fun) (x1 : ℕ) (x2 : State) (x3 : (State → Plan)) → R inv x2 → ((y0 : State) → R inv y0 → Keeps inv (x3 y0)) → Keeps inv (declare x0 x1 x2 x3)
   declare_r [] i s k hr f0 = f0 s hr
   declare_r (f ∷ fs) i s k hr f0 = made inv _ 0 s _ hr (λ v t u. declare_r fs i (with_variable t i (fun_name f) v) k (variable_kept t i (fun_name f) v u) f0)
@@ -129,15 +126,9 @@ module _ (inv : Invariant) where
   array_parts_r v i [] p s hr = ended inv (Is v) s hr
   array_parts_r v i (e ∷ es) p s hr = job inv _ s _ hr (λ o t u. value inv o t _ u (λ w. put_r v (index_name i) w t (array_parts v (i + 1) es p) u (λ t' u'. array_parts_r v (i + 1) es p t' u')))
 
-  pub array_part_r : (x0 : Value) (x1 : ℕ) (x2 : List Expr) (x3 : Place) (x4 : Completion) (x5 : State) → R inv x5 → Keeps inv (array_part x0 x1 x2 x3 x4 x5)
-  array_part_r a i es p o s hr = search (value, put_r, array_parts_r)
-
   pub object_parts_r : (x0 : Value) (x1 : List (List ℕ × Expr)) (x2 : Place) (x3 : State) → R inv x3 → Keeps inv (object_parts x0 x1 x2 x3)
   object_parts_r v [] p s hr = ended inv (Is v) s hr
   object_parts_r v (q ∷ qs) p s hr = job inv _ s _ hr (λ o t u. value inv o t _ u (λ w. put_r v q.0 w t (object_parts v qs p) u (λ t' u'. object_parts_r v qs p t' u')))
-
-  pub object_part_r : (x0 : Value) (x1 : List ℕ) (x2 : List (List ℕ × Expr)) (x3 : Place) (x4 : Completion) (x5 : State) → R inv x5 → Keeps inv (object_part x0 x1 x2 x3 x4 x5)
-  object_part_r a x qs p o s hr = search (value, put_r, object_parts_r)
 
   pub dot_read_r : (x0 : List ℕ) (x1 : Completion) (x2 : State) → R inv x2 → Keeps inv (dot_read x0 x1 x2)
   dot_read_r x o s hr = search (value, read_r)
@@ -171,9 +162,6 @@ module _ (inv : Invariant) where
   pub arguments_then_r : (x0 : Reference) (x1 : List Value) (x2 : List Expr) (x3 : Place) (x4 : State) → R inv x4 → Keeps inv (arguments_then x0 x1 x2 x3 x4)
   arguments_then_r r vs [] p s hr = invoke_r (referred r p s) (base_of r) vs p.depth s hr
   arguments_then_r r vs (e ∷ es) p s hr = job inv _ s _ hr (λ o t u. value inv o t _ u (λ v. arguments_then_r r (vs ++ v ∷ []) es p t u))
-
-  pub next_argument_r : (x0 : Reference) (x1 : List Value) (x2 : List Expr) (x3 : Place) (x4 : Completion) (x5 : State) → R inv x5 → Keeps inv (next_argument x0 x1 x2 x3 x4 x5)
-  next_argument_r r vs es p o s hr = search (value, arguments_then_r)
 
   pub callee_r : (x0 : List Expr) (x1 : Place) (x2 : Completion) (x3 : State) → R inv x3 → Keeps inv (callee x0 x1 x2 x3)
   callee_r es p o s hr = search (reference, arguments_then_r)
@@ -309,9 +297,6 @@ module _ (inv : Invariant) where
   expressions_r [] p s hr = ended inv Normal s hr
   expressions_r (e ∷ es) p s hr = job inv _ s _ hr (λ o t u. value inv o t _ u (λ v. expressions_r es p t u))
 
-  pub next_expressions_r : (x0 : List Expr) (x1 : Place) (x2 : Completion) (x3 : State) → R inv x3 → Keeps inv (next_expressions x0 x1 x2 x3)
-  next_expressions_r es p o s hr = search (value, expressions_r)
-
   pub branch_r : (x0 : Stmts) (x1 : Stmts) (x2 : Place) (x3 : Completion) (x4 : State) → R inv x4 → Keeps inv (branch x0 x1 x2 x3 x4)
   branch_r a b p o s hr = search (value, either, statements_r)
 
@@ -440,9 +425,6 @@ module _ (inv : Invariant) where
   handlers_r [] g s hr = ended inv (Is Undefined) s hr
   handlers_r (f ∷ fs) g s hr = job inv _ s _ hr (λ o t u. value inv o t _ u (λ v. handlers_r fs g t u))
 
-  pub next_handlers_r : (x0 : List ℕ) (x1 : Hearing) (x2 : Completion) (x3 : State) → R inv x3 → Keeps inv (next_handlers x0 x1 x2 x3)
-  next_handlers_r fs h o s hr = search (value, handlers_r)
-
   pub bubble_on_r : (x0 : Bool) (x1 : Hearing) (x2 : State) → R inv x2 → Keeps inv (bubble_on x0 x1 x2)
   bubble_on_r false h s hr = search (ended)
   bubble_on_r true h s hr = search (search_from_r)
@@ -456,4 +438,4 @@ module _ (inv : Invariant) where
   bubble_r (b ∷ bs) s hr = search (ended)
 
   pub heard_r : (x0 : Hearing) (x1 : State) → R inv x1 → Keeps inv (heard x0 x1)
-  heard_r h s hr = search (chain, invoke_r, next_handlers_r, dispatch_end_r)
+  heard_r h s hr = search (chain, invoke_r, value, handlers_r, dispatch_end_r)

@@ -2,13 +2,13 @@
 use Rattle.code_units.specs.declared.whole.WholeRead.TheVariants as read
 use Rattle.std.specs.Prelude.{ℕ, ℤ, List, [], ◌∷◌, Option, Some, pos}
 use Rattle.code_units.specs.declared.whole.WholeRead.{WholeRead}
-use Rattle.widget_meaning.specs.Values.{Value, Undefined, Text, Own, Host, Completion}
+use Rattle.widget_meaning.specs.Values.{Value, Undefined, Text, Own, Host}
 use Rattle.widget_meaning.specs.OwnState.{State}
 use Rattle.widget_meaning.specs.Plan.{Plan}
 use Rattle.widget_meaning.specs.NativeNames.{GlobalNative, BooleanOf, NumberOf, StringOf, IsNaN, IsFinite, ParseInt, FromCharCode, MathNative, Abs, Ceil, Floor, Round, Max, Min, Pow}
 use Rattle.widget_meaning.specs.Operators.{OpOut}
 use Rattle.widget_meaning.specs.NativeForms.{want_primitives, with_number, give_text, want_function, on_text, on_array, on_bunch, make_array, make_bunch, with_number_or, with_optional, give_texts, on_object}
-use Rattle.widget_meaning.specs.GlobalNatives.{boolean_of, of_number, number_of, text_of_primitive, string_result, string_of, string_native, parse_int, from_char_code, global_native}
+use Rattle.widget_meaning.specs.GlobalNatives.{boolean_of, of_number, number_of, text_of_primitive, string_of, string_native, parse_int, from_char_code, global_native}
 use Rattle.widget_meaning.specs.MathNatives.{of_one, of_all, pow, math_native}
 use Rattle.widget_meaning.specs.Keeps.{Invariant, Keeps}
 use Rattle.widget_meaning.proofs.Keeping.{ended, halted, either, value, chain, charged, paid, made, made_text, faulted, R, found}
@@ -75,11 +75,8 @@ module _ (inv : Invariant) where
   text_of_primitive_r (Text t) s hr = search (ended)
   text_of_primitive_r v s hr = search (give_text_r)
 
-  pub string_result_r : (x0 : Completion) (x1 : State) → R inv x1 → Keeps inv (string_result x0 x1)
-  string_result_r o s hr = search (value, text_of_primitive_r)
-
   pub string_of_r : (x0 : Value) (x1 : ℕ) (x2 : State) → R inv x2 → Keeps inv (string_of x0 x1 x2)
-  string_of_r v d s hr = search (either, chain, to_primitive_r, string_result_r, charged, text_of_primitive_r)
+  string_of_r v d s hr = search (either, chain, to_primitive_r, value, charged, text_of_primitive_r)
 
   pub string_native_r : (x0 : List Value) (x1 : ℕ) (x2 : State) → R inv x2 → Keeps inv (string_native x0 x1 x2)
   string_native_r [] d s hr = search (give_text_r)

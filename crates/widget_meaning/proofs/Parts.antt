@@ -1,7 +1,7 @@
 -- Each form by the meanings of its parts.
 use Rattle.std.proofs.Common.{ℕ, zero, suc, Bool, true, false, List, [], ◌∷◌, ◌≤◌, refl, sym, ap, ◌≡◌, ◌∙◌, arith}
 use Rattle.std.proofs.lemmas.Bool.{false≢true, ltb-false}
-use Rattle.std.specs.Prelude.{Some, is_some, nat_lt, ◌-◌, ◌++◌, length, Option, None, if◌then◌else◌, pos}
+use Rattle.std.specs.Prelude.{Some, is_some, nat_lt, ◌-◌, ◌++◌, length, Option, None, if◌then◌else◌, pos, ◌+◌}
 use Rattle.js_tree.specs.declared.nodes.UnOp.TheVariants as un
 use Rattle.js_tree.specs.declared.nodes.BinOp.{BinOp}
 use Rattle.js_tree.specs.Plain as tree
@@ -9,21 +9,21 @@ use Rattle.js_tree.specs.Plain.{ExprForm, Stmts, Fun}
 use Rattle.widget_meaning.specs.Limits.{max_units, max_cells, max_slots, max_nodes, max_depth}
 use Rattle.widget_meaning.specs.Values.{Value, Text, Own, Completion, Normal, Is, Refers, Return, Break, Continue, Throw, E1, Units, Cells, Slots, Nodes, Depth, is_true, is_nothing, Undefined, Num}
 use Rattle.widget_meaning.specs.OwnState.{State, Amounts, Function, cell_at, with_new_cell, with_new_scope, new_array, plain_object, new_function, Scope}
-use Rattle.widget_meaning.specs.Plan.{Plan, Place, Ret, Halt, Do, Eval, Target, Exec, Pass, Call, RunNative, Hear, Hearing, WhileLoop, DoLoop, ForLoop, ForInLoop, Out, Stopped, OutOfFuel, and_then, charge, ticks}
+use Rattle.widget_meaning.specs.Plan.{Plan, Place, Ret, Halt, Do, Eval, Target, Exec, Pass, Call, RunNative, Hear, Hearing, WhileLoop, DoLoop, ForLoop, ForInLoop, Out, Stopped, OutOfFuel, and_then, charge, ticks, after, on_normal}
 use Rattle.widget_meaning.specs.Costs.{make, give, throw, within, sum, object_cost, with_counts, scope_cost}
 use Rattle.widget_meaning.specs.Operators.{binary, same}
-use Rattle.widget_meaning.specs.Properties.{property, names_of}
+use Rattle.widget_meaning.specs.Properties.{property, names_of, put, index_name}
 use Rattle.widget_meaning.specs.Scopes.{assign, fun_name, funs_list, without_name, call_scope}
-use Rattle.widget_meaning.specs.Calls.{statements, next_statements, stmt_list, without_directive, with_variable, declare, call_end, enter, enter_scope, invoke, to_primitive, primitive_result}
-use Rattle.widget_meaning.specs.Expressions.{expr_list, property_list, array_parts, array_part, object_parts, object_part, dot_read, subscript_read, named_read, dot_target, subscript_target, named_target, value_target, expression, target, callee, next_argument, binary_right, binary_with, unary_operand, delete_target, step_target, step_converted, assign_target, assign_with, compound, assigned, referred, and_right, or_right, choose, converts, converted_left, converted_right, result, unary_converted}
-use Rattle.widget_meaning.specs.Statements.{discard, decl_list, declarations, declare_as, expressions, next_expressions, branch, loop_test, loop_end, while_next, do_next, for_init, for_again, for_next, for_in, for_in_next, for_in_over, to_return, to_throw, clauses_onto, bodies, choose_case, switch_on, switch_end, in_catch, caught, finally, last_end, case_tested}
-use Rattle.widget_meaning.specs.ListNatives.{next_call}
-use Rattle.widget_meaning.specs.BunchWrites.{next_fired, next_called}
+use Rattle.widget_meaning.specs.Calls.{statements, stmt_list, without_directive, with_variable, declare, call_end, enter, enter_scope, invoke, to_primitive, primitive_result}
+use Rattle.widget_meaning.specs.Expressions.{expr_list, property_list, array_parts, object_parts, dot_read, subscript_read, named_read, dot_target, subscript_target, named_target, value_target, expression, target, callee, binary_right, binary_with, unary_operand, delete_target, step_target, step_converted, assign_target, assign_with, compound, assigned, referred, and_right, or_right, choose, converts, converted_left, converted_right, result, unary_converted, arguments_then}
+use Rattle.widget_meaning.specs.Statements.{discard, decl_list, declarations, declare_as, expressions, branch, loop_test, loop_end, while_next, do_next, for_init, for_again, for_next, for_in, for_in_next, for_in_over, to_return, to_throw, clauses_onto, bodies, choose_case, switch_on, switch_end, in_catch, caught, finally, last_end, case_tested}
 use Rattle.widget_meaning.specs.Natives.{run_native}
-use Rattle.widget_meaning.specs.Dispatch.{heard, next_handlers, dispatch_end, dispatch}
+use Rattle.widget_meaning.specs.Dispatch.{heard, dispatch_end, dispatch, handlers}
 use Rattle.widget_meaning.specs.Meaning.{run_plan}
 use Rattle.widget_meaning.specs.Compositional.{ExpressionLaws, StatementLaws, CallLaws, then_do, looped, if_thrown, ends, is_value_form, new_scope, declared, body_in, evaluated, targeted}
 use Rattle.widget_meaning.proofs.Runs.{unit, first, part, then_part, run_and_then}
+use Rattle.widget_meaning.specs.ListNatives.{call_each}
+use Rattle.widget_meaning.specs.BunchWrites.{each_called, fired}
 
 -- a choice is carried out as the plan that is chosen
 chosen : (b : Bool) (g : ℕ) (x y : Plan) → run_plan g (if b then x else y) ≡ (if b then run_plan g x else run_plan g y)
@@ -143,10 +143,10 @@ too_deep_holds n f outer this vs d s g h k =
     ap (λ c. run_plan g (enter c (Own n) vs (suc d) s)) h
     ∙ ap (λ c. run_plan g (if c then Halt Depth s else enter_scope f outer (Own n) vs (suc d) s)) k
 
-handler_holds : (h : Hearing) (s : State) (g : ℕ) → run_plan g (heard h s) ≡ then_do (then_do (run_plan g (invoke (Own h.first) None (h.event ∷ []) h.depth s)) (next_handlers h.others h)) (dispatch_end h)
+handler_holds : (h : Hearing) (s : State) (g : ℕ) → run_plan g (heard h s) ≡ then_do (then_do (run_plan g (invoke (Own h.first) None (h.event ∷ []) h.depth s)) (after (λ v t. handlers h.others h t))) (dispatch_end h)
 handler_holds h s g =
-    run_and_then g (and_then (invoke (Own h.first) None (h.event ∷ []) h.depth s) (next_handlers h.others h)) (dispatch_end h)
-    ∙ ap (λ r. then_do r (dispatch_end h)) (run_and_then g (invoke (Own h.first) None (h.event ∷ []) h.depth s) (next_handlers h.others h))
+    run_and_then g (and_then (invoke (Own h.first) None (h.event ∷ []) h.depth s) (after (λ v t. handlers h.others h t))) (dispatch_end h)
+    ∙ ap (λ r. then_do r (dispatch_end h)) (run_and_then g (invoke (Own h.first) None (h.event ∷ []) h.depth s) (after (λ v t. handlers h.others h t)))
 
 pub expression_laws : (at : ℕ) (names : List ℕ) → ExpressionLaws at names
 expression_laws at names = record {
@@ -155,10 +155,10 @@ expression_laws at names = record {
   name = λ x p s g. refl;
   word = λ w p s g. refl;
   array = λ es p s g. unit g (Eval (tree.ExprAt at names (tree.Array es)) p) s (make (new_array 0 []) 0 s (λ a t. array_parts a 0 (expr_list es) p t)) refl;
-  array_next = λ a i e es p s g. part g (Eval e p) s (array_part a i es p);
+  array_next = λ a i e es p s g. part g (Eval e p) s (after (λ v t. put a (index_name i) v t (array_parts a (i + 1) es p)));
   array_last = λ a i p s g. refl;
   object = λ qs p s g. unit g (Eval (tree.ExprAt at names (tree.Object qs)) p) s (make (plain_object []) 0 s (λ a t. object_parts a (property_list qs) p t)) refl;
-  object_next = λ a x e qs p s g. part g (Eval e p) s (object_part a x qs p);
+  object_next = λ a x e qs p s g. part g (Eval e p) s (after (λ v t. put a x v t (object_parts a qs p)));
   object_last = λ a p s g. refl;
   function = λ f p s g. unit g (Eval (tree.ExprAt at names (tree.Function f)) p) s (make (new_function f p.scope) 0 s give) refl;
   dot = λ e x p s g. first g (Eval (tree.ExprAt at names (tree.Dot e x)) p) (Eval e p) s (dot_read x) refl;
@@ -170,7 +170,7 @@ expression_laws at names = record {
   subscript_target_name = λ i b p s g. part g (Eval i p) s (named_target b);
   value_targets = λ form p s g h. value_target_holds at names form p s g h;
   call = λ f es p s g. first g (Eval (tree.ExprAt at names (tree.Call f es)) p) (Target f p) s (callee (expr_list es) p) refl;
-  argument = λ r vs e es p s g. part g (Eval e p) s (next_argument r vs es p);
+  argument = λ r vs e es p s g. part g (Eval e p) s (after (λ v t. arguments_then r (vs ++ v ∷ []) es p t));
   arguments_end = λ r vs p s g. refl;
   operator = λ op a b p s g. first g (Eval (tree.ExprAt at names (tree.Binary op a b)) p) (Eval a p) s (binary_right op b p) refl;
   operator_second = λ op b v p s g. part g (Eval b p) s (binary_with op v p);
@@ -199,7 +199,7 @@ expression_laws at names = record {
 
 pub statement_laws : (at : ℕ) (names : List ℕ) → StatementLaws at names
 statement_laws at names = record {
-  list = λ i is p s g. part g (Exec i p) s (next_statements is p);
+  list = λ i is p s g. part g (Exec i p) s (λ o t. on_normal o t (statements is p t));
   list_end = λ p s g. refl;
   var = λ ds p s g. unit g (Exec (tree.StmtAt at names (tree.Var ds)) p) s (declarations (decl_list ds) p s) refl;
   var_first = λ x e ds p s g. part g (Eval e p) s (declare_as x p (declarations ds p));
@@ -222,7 +222,7 @@ statement_laws at names = record {
   for_no_test = λ next b p s g. refl;
   for_pass = λ test next b p s g. then_part g (Pass (ForLoop test next b) p) s (statements b p s) (for_next test next b p) refl;
   for_round = λ test next b o p s g. loop_ended o s g (and_then (expressions next p s) (for_again test next b p)) (run_and_then g (expressions next p s) (for_again test next b p));
-  expressions_first = λ e es p s g. part g (Eval e p) s (next_expressions es p);
+  expressions_first = λ e es p s g. part g (Eval e p) s (after (λ v t. expressions es p t));
   expressions_end = λ p s g. refl;
   for_in_object = λ is_declared x e b p s g. first g (Exec (tree.StmtAt at names (tree.ForIn is_declared x e b)) p) (Eval e p) s (for_in_over x (stmt_list b) p) refl;
   for_in_list = λ v x b p s g. chosen (is_nothing v) g (throw E1 s) (charge (length (names_of s v)) s (for_in v x (names_of s v) b p s));
@@ -260,12 +260,12 @@ call_laws = record {
   charged = λ c s p g. charged_holds c s p g;
   handler = λ h s g. unit g (Hear h) s (heard h s) refl;
   handler_first = λ h s g. handler_holds h s g;
-  handler_next = λ f fs h s g. part g (Call (Own f) None (h.event ∷ []) h.depth) s (next_handlers fs h);
-  element_first = λ f v vs i ws d s k g. part g (Call f None (v ∷ Num (pos i) ∷ []) d) s (next_call f vs i ws d k);
+  handler_next = λ f fs h s g. part g (Call (Own f) None (h.event ∷ []) h.depth) s (after (λ v t. handlers fs h t));
+  element_first = λ f v vs i ws d s k g. part g (Call f None (v ∷ Num (pos i) ∷ []) d) s (after (λ w t. call_each f vs (i + 1) (ws ++ w ∷ []) d t k));
   element_last = λ f i ws d s k g. refl;
-  bunch_first = λ f v vs b d s g. part g (Call f None (v ∷ []) d) s (next_called f vs b d);
+  bunch_first = λ f v vs b d s g. part g (Call f None (v ∷ []) d) s (after (λ w t. each_called f vs b d t));
   bunch_last = λ f b d s g. refl;
-  node_first = λ t n ns b d s g. run_and_then g (dispatch t n Undefined d s) (next_fired t ns b d);
+  node_first = λ t n ns b d s g. run_and_then g (dispatch t n Undefined d s) (after (λ v u. fired t ns b d u));
   node_last = λ t b d s g. refl;
   no_fuel = λ j s. refl;
 }

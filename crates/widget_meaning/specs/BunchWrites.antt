@@ -5,12 +5,12 @@ use Rattle.std.specs.Str.{bytes_eq}
 use Rattle.std.specs.Option.{option_map_or}
 use Rattle.widget_meaning.specs.Limits.{max_node_depth}
 use Rattle.widget_meaning.specs.NativeNames.{WriteNative, Append, Remove, Empty, Replace, SetValue, SetStyle, SetClass, SetTitle, SetCheck, SetEnabled, Focus, Blur, On, Off, Fire, Each, SetMark, Protect}
-use Rattle.widget_meaning.specs.Values.{Value, Undefined, Own, E10, is_true, to_text, Completion}
+use Rattle.widget_meaning.specs.Values.{Value, Undefined, Own, E10, is_true, to_text}
 use Rattle.plain_tree.specs.Trees.{End, Node, Label, TextOf, height, size}
 use Rattle.tree_ops.specs.Labels.{with_attribute, attribute_of}
 use Rattle.widget_meaning.specs.Trees.{Trees, label_of, parent, children, tops, has, numbered, grafted, subtree, subtrees, detached, moved, depth_of, copied}
 use Rattle.widget_meaning.specs.OwnState.{State, Notes, notes_at, with_own, with_forest, with_notes}
-use Rattle.widget_meaning.specs.Plan.{Plan, Do, Call, charge, and_then, on_value}
+use Rattle.widget_meaning.specs.Plan.{Plan, Do, Call, charge, and_then, after}
 use Rattle.widget_meaning.specs.Costs.{pay, cost, slots_cost, give, or_throw}
 use Rattle.widget_meaning.specs.NativeForms.{nth, want_primitives, want_function, on_bunch}
 use Rattle.widget_meaning.specs.Dispatch.{dispatch}
@@ -186,11 +186,7 @@ hush ns v b s =
 -- `fire(t)`: a dispatch to each node in order
 abbrev pub fired : List ℕ → List ℕ → Value → ℕ → State → Plan
 fired t [] b d s = give b s
-fired t (n ∷ ns) b d s = and_then (dispatch t n Undefined d s) (λ o u. on_value o u (λ v. fired t ns b d u))
-
--- after a node's dispatch, the others
-abbrev pub next_fired : List ℕ → List ℕ → Value → ℕ → Completion → State → Plan
-next_fired t ns b d o s = on_value o s (λ v. fired t ns b d s)
+fired t (n ∷ ns) b d s = and_then (dispatch t n Undefined d s) (after (λ v u. fired t ns b d u))
 
 -- `fire(t)`
 abbrev pub fire : List ℕ → List ℕ → Value → ℕ → State → Plan
@@ -199,11 +195,7 @@ fire ns t b d s = want (is_event_type t) s (charge (length ns) s (fired t ns b d
 -- `each(f)`: the Bunches are made before the first call
 abbrev pub each_called : Value → List Value → Value → ℕ → State → Plan
 each_called f [] b d s = give b s
-each_called f (v ∷ vs) b d s = Do (Call f None (v ∷ []) d) s (λ o t. on_value o t (λ w. each_called f vs b d t))
-
--- after a Bunch's call, the others
-abbrev pub next_called : Value → List Value → Value → ℕ → Completion → State → Plan
-next_called f vs b d o s = on_value o s (λ w. each_called f vs b d s)
+each_called f (v ∷ vs) b d s = Do (Call f None (v ∷ []) d) s (after (λ w t. each_called f vs b d t))
 
 -- `each(f)`
 abbrev pub each : List ℕ → Value → Value → ℕ → State → Plan

@@ -26,10 +26,6 @@ abbrev pub statements : List Stmt → Place → State → Plan
 statements [] p s = Ret Normal s
 statements (i ∷ is) p s = Do (Exec i p) s (λ o t. on_normal o t (statements is p t))
 
--- after the first statement, the others
-abbrev pub next_statements : List Stmt → Place → Completion → State → Plan
-next_statements is p o s = on_normal o s (statements is p s)
-
 -- `"use strict";` as the first statement of a function takes nothing
 abbrev pub without_directive : List Stmt → List Stmt
 without_directive (tree.StmtAt at names (tree.Only (tree.ExprAt place inner (tree.Str t))) ∷ is) =

@@ -1,5 +1,5 @@
 -- The meaning is compositional: each form by the meanings of its parts. This is the direct recursive meaning, form by form.
-use Rattle.std.specs.Prelude.{◌≡◌, ℕ, suc, pos, ◌-◌, nat_lt, Bool, true, false, if◌then◌else◌, List, [], ◌∷◌, ◌++◌, length, Option, Some, is_some}
+use Rattle.std.specs.Prelude.{◌≡◌, ℕ, suc, pos, ◌-◌, nat_lt, Bool, true, false, if◌then◌else◌, List, [], ◌∷◌, ◌++◌, length, Option, Some, is_some, ◌+◌}
 use Rattle.js_tree.specs.declared.nodes.Word.{Word}
 use Rattle.js_tree.specs.declared.nodes.StepOp.{StepOp}
 use Rattle.js_tree.specs.declared.nodes.UnOp.TheVariants as un
@@ -12,18 +12,18 @@ use Rattle.widget_meaning.specs.Limits.{max_depth}
 use Rattle.widget_meaning.specs.NativeNames.{NativeId, Native}
 use Rattle.widget_meaning.specs.Values.{Value, Undefined, Num, Text, Own, Host, Reference, Variable, Completion, Normal, Is, Refers, Return, Break, Continue, Throw, E1, Depth, is_true, is_nothing}
 use Rattle.widget_meaning.specs.OwnState.{State, Function, cell_at, with_new_scope, new_array, plain_object, new_function, Scope}
-use Rattle.widget_meaning.specs.Plan.{Place, Plan, Ret, Job, Eval, Target, Exec, Pass, Call, RunNative, Hear, Hearing, Loop, WhileLoop, DoLoop, ForLoop, ForInLoop, Out, End, Ended, Stopped, OutOfFuel, charge, on_normal}
+use Rattle.widget_meaning.specs.Plan.{Place, Plan, Ret, Job, Eval, Target, Exec, Pass, Call, RunNative, Hear, Hearing, Loop, WhileLoop, DoLoop, ForLoop, ForInLoop, Out, End, Ended, Stopped, OutOfFuel, charge, on_normal, after}
 use Rattle.widget_meaning.specs.Costs.{pay, make, throw, give, scope_cost}
 use Rattle.widget_meaning.specs.Operators.{binary, same}
-use Rattle.widget_meaning.specs.Properties.{property, names_of}
+use Rattle.widget_meaning.specs.Properties.{property, names_of, put, index_name}
 use Rattle.widget_meaning.specs.Scopes.{variable, assign, funs_list, call_scope}
-use Rattle.widget_meaning.specs.Calls.{statements, next_statements, stmt_list, without_directive, declare, call_body, call_end, invoke, call_to_string, primitive_result, to_primitive}
-use Rattle.widget_meaning.specs.Expressions.{expr_list, property_list, literal, word_value, array_parts, array_part, object_parts, object_part, dot_read, subscript_read, named_read, dot_target, subscript_target, named_target, value_target, callee, arguments_then, next_argument, binary_right, binary_with, unary_operand, delete_target, step_target, step_converted, assign_target, assign_with, compound, assigned, referred, base_of, and_right, or_right, choose, converts, converted_left, converted_right, result, unary_converted}
-use Rattle.widget_meaning.specs.Statements.{discard, decl_list, declarations, declare_as, expressions, next_expressions, branch, loop_test, while_next, do_next, for_init, for_again, for_next, for_in, for_in_next, for_in_over, to_return, to_throw, clauses_onto, bodies, from_default, switch_on, switch_end, in_catch, caught, finally, last_end, Case, choose_case, case_tested}
-use Rattle.widget_meaning.specs.ListNatives.{call_each, next_call}
-use Rattle.widget_meaning.specs.BunchWrites.{fired, next_fired, each_called, next_called}
+use Rattle.widget_meaning.specs.Calls.{statements, stmt_list, without_directive, declare, call_body, call_end, invoke, call_to_string, primitive_result, to_primitive}
+use Rattle.widget_meaning.specs.Expressions.{expr_list, property_list, literal, word_value, array_parts, object_parts, dot_read, subscript_read, named_read, dot_target, subscript_target, named_target, value_target, callee, arguments_then, binary_right, binary_with, unary_operand, delete_target, step_target, step_converted, assign_target, assign_with, compound, assigned, referred, base_of, and_right, or_right, choose, converts, converted_left, converted_right, result, unary_converted}
+use Rattle.widget_meaning.specs.Statements.{discard, decl_list, declarations, declare_as, expressions, branch, loop_test, while_next, do_next, for_init, for_again, for_next, for_in, for_in_next, for_in_over, to_return, to_throw, clauses_onto, bodies, from_default, switch_on, switch_end, in_catch, caught, finally, last_end, Case, choose_case, case_tested}
+use Rattle.widget_meaning.specs.ListNatives.{call_each}
+use Rattle.widget_meaning.specs.BunchWrites.{fired, each_called}
 use Rattle.widget_meaning.specs.Natives.{run_native}
-use Rattle.widget_meaning.specs.Dispatch.{heard, handlers, next_handlers, dispatch_end, dispatch}
+use Rattle.widget_meaning.specs.Dispatch.{heard, handlers, dispatch_end, dispatch}
 use Rattle.widget_meaning.specs.Meaning.{run_plan, meaning, eval, exec}
 
 -- what comes after an outcome; a stop passes
@@ -97,10 +97,10 @@ module _ (at : ℕ) (names : List ℕ) where
     pub word : (w : Word) (p : Place) (s : State) (g : ℕ) → evaluated (tree.Constant w) p s g ≡ gives (word_value w) s g
     -- an array and an object: born, and then part by part
     pub array : (es : Exprs) (p : Place) (s : State) (g : ℕ) → evaluated (tree.Array es) p s g ≡ run_plan g (make (new_array 0 []) 0 s (λ a t. array_parts a 0 (expr_list es) p t))
-    pub array_next : (a : Value) (i : ℕ) (e : Expr) (es : List Expr) (p : Place) (s : State) (g : ℕ) → run_plan g (array_parts a i (e ∷ es) p s) ≡ then_do (eval e p s g) (array_part a i es p)
+    pub array_next : (a : Value) (i : ℕ) (e : Expr) (es : List Expr) (p : Place) (s : State) (g : ℕ) → run_plan g (array_parts a i (e ∷ es) p s) ≡ then_do (eval e p s g) (after (λ v t. put a (index_name i) v t (array_parts a (i + 1) es p)))
     pub array_last : (a : Value) (i : ℕ) (p : Place) (s : State) (g : ℕ) → run_plan g (array_parts a i [] p s) ≡ gives a s g
     pub object : (qs : Properties) (p : Place) (s : State) (g : ℕ) → evaluated (tree.Object qs) p s g ≡ run_plan g (make (plain_object []) 0 s (λ a t. object_parts a (property_list qs) p t))
-    pub object_next : (a : Value) (x : List ℕ) (e : Expr) (qs : List (List ℕ × Expr)) (p : Place) (s : State) (g : ℕ) → run_plan g (object_parts a ((x, e) ∷ qs) p s) ≡ then_do (eval e p s g) (object_part a x qs p)
+    pub object_next : (a : Value) (x : List ℕ) (e : Expr) (qs : List (List ℕ × Expr)) (p : Place) (s : State) (g : ℕ) → run_plan g (object_parts a ((x, e) ∷ qs) p s) ≡ then_do (eval e p s g) (after (λ v t. put a x v t (object_parts a qs p)))
     pub object_last : (a : Value) (p : Place) (s : State) (g : ℕ) → run_plan g (object_parts a [] p s) ≡ gives a s g
     pub function : (f : Fun) (p : Place) (s : State) (g : ℕ) → evaluated (tree.Function f) p s g ≡ run_plan g (make (new_function f p.scope) 0 s give)
     -- properties: the base, then the subscript, then the read
@@ -115,7 +115,7 @@ module _ (at : ℕ) (names : List ℕ) where
     pub value_targets : (form : ExprForm) (p : Place) (s : State) (g : ℕ) → is_value_form form ≡ true → targeted form p s g ≡ then_do (evaluated form p s g) value_target
     -- a call: its target, its arguments from left to right, and then the function is read and called
     pub call : (f : Expr) (es : Exprs) (p : Place) (s : State) (g : ℕ) → evaluated (tree.Call f es) p s g ≡ then_do (meaning (Target f p) s g) (callee (expr_list es) p)
-    pub argument : (r : Reference) (vs : List Value) (e : Expr) (es : List Expr) (p : Place) (s : State) (g : ℕ) → run_plan g (arguments_then r vs (e ∷ es) p s) ≡ then_do (eval e p s g) (next_argument r vs es p)
+    pub argument : (r : Reference) (vs : List Value) (e : Expr) (es : List Expr) (p : Place) (s : State) (g : ℕ) → run_plan g (arguments_then r vs (e ∷ es) p s) ≡ then_do (eval e p s g) (after (λ v t. arguments_then r (vs ++ v ∷ []) es p t))
     pub arguments_end : (r : Reference) (vs : List Value) (p : Place) (s : State) (g : ℕ) → run_plan g (arguments_then r vs [] p s) ≡ run_plan g (invoke (referred r p s) (base_of r) vs p.depth s)
     -- operators: the operands from left to right
     pub operator : (op : BinOp) (a b : Expr) (p : Place) (s : State) (g : ℕ) → evaluated (tree.Binary op a b) p s g ≡ then_do (eval a p s g) (binary_right op b p)
@@ -146,7 +146,7 @@ module _ (at : ℕ) (names : List ℕ) where
   -- the laws of statements
   pub record StatementLaws : Type 0 where
     -- statements one after the other: the first, and the others where it goes on
-    pub list : (i : Stmt) (is : List Stmt) (p : Place) (s : State) (g : ℕ) → run_plan g (statements (i ∷ is) p s) ≡ then_do (exec i p s g) (next_statements is p)
+    pub list : (i : Stmt) (is : List Stmt) (p : Place) (s : State) (g : ℕ) → run_plan g (statements (i ∷ is) p s) ≡ then_do (exec i p s g) (λ o t. on_normal o t (statements is p t))
     pub list_end : (p : Place) (s : State) (g : ℕ) → run_plan g (statements [] p s) ≡ ends Normal s g
     pub var : (ds : Decls) (p : Place) (s : State) (g : ℕ) → executed (tree.Var ds) p s g ≡ run_plan g (declarations (decl_list ds) p s)
     pub var_first : (x : List ℕ) (e : Expr) (ds : List (List ℕ × OptionalExpr)) (p : Place) (s : State) (g : ℕ) → run_plan g (declarations ((x, tree.SomeExpr e) ∷ ds) p s) ≡ then_do (eval e p s g) (declare_as x p (declarations ds p))
@@ -170,7 +170,7 @@ module _ (at : ℕ) (names : List ℕ) where
     pub for_no_test : (next : List Expr) (b : List Stmt) (p : Place) (s : State) (g : ℕ) → run_plan g (for_again tree.NoExpr next b p Normal s) ≡ meaning (Pass (ForLoop tree.NoExpr next b) p) s g
     pub for_pass : (test : OptionalExpr) (next : List Expr) (b : List Stmt) (p : Place) (s : State) (g : ℕ) → meaning (Pass (ForLoop test next b) p) s (suc g) ≡ then_do (run_plan g (statements b p s)) (for_next test next b p)
     pub for_round : (test : OptionalExpr) (next : List Expr) (b : List Stmt) (o : Completion) (p : Place) (s : State) (g : ℕ) → run_plan g (for_next test next b p o s) ≡ looped o s g (then_do (run_plan g (expressions next p s)) (for_again test next b p))
-    pub expressions_first : (e : Expr) (es : List Expr) (p : Place) (s : State) (g : ℕ) → run_plan g (expressions (e ∷ es) p s) ≡ then_do (eval e p s g) (next_expressions es p)
+    pub expressions_first : (e : Expr) (es : List Expr) (p : Place) (s : State) (g : ℕ) → run_plan g (expressions (e ∷ es) p s) ≡ then_do (eval e p s g) (after (λ v t. expressions es p t))
     pub expressions_end : (p : Place) (s : State) (g : ℕ) → run_plan g (expressions [] p s) ≡ ends Normal s g
     pub for_in_object : (is_declared : Bool) (x : List ℕ) (e : Expr) (b : Stmts) (p : Place) (s : State) (g : ℕ) → executed (tree.ForIn is_declared x e b) p s g ≡ then_do (eval e p s g) (for_in_over x (stmt_list b) p)
     -- its names are listed and charged; each that is still found has its pass, in which it is the value of the variable
@@ -214,14 +214,14 @@ pub record CallLaws : Type 0 where
   -- a charge is spent where it can be paid
   pub charged : (c : ℕ) (s : State) (p : Plan) (g : ℕ) → run_plan g (charge c s p) ≡ (if nat_lt g c then record { how = OutOfFuel; state = s; left = g } else run_plan (g - c) p)
   pub handler : (h : Hearing) (s : State) (g : ℕ) → meaning (Hear h) s (suc g) ≡ run_plan g (heard h s)
-  pub handler_first : (h : Hearing) (s : State) (g : ℕ) → run_plan g (heard h s) ≡ then_do (then_do (run_plan g (invoke (Own h.first) Option.None (h.event ∷ []) h.depth s)) (next_handlers h.others h)) (dispatch_end h)
-  pub handler_next : (f : ℕ) (fs : List ℕ) (h : Hearing) (s : State) (g : ℕ) → run_plan g (handlers (f ∷ fs) h s) ≡ then_do (meaning (Call (Own f) Option.None (h.event ∷ []) h.depth) s g) (next_handlers fs h)
+  pub handler_first : (h : Hearing) (s : State) (g : ℕ) → run_plan g (heard h s) ≡ then_do (then_do (run_plan g (invoke (Own h.first) Option.None (h.event ∷ []) h.depth s)) (after (λ v t. handlers h.others h t))) (dispatch_end h)
+  pub handler_next : (f : ℕ) (fs : List ℕ) (h : Hearing) (s : State) (g : ℕ) → run_plan g (handlers (f ∷ fs) h s) ≡ then_do (meaning (Call (Own f) Option.None (h.event ∷ []) h.depth) s g) (after (λ v t. handlers fs h t))
   -- natives that call: with each element and its index, with each Bunch, and the dispatch at each node
-  pub element_first : (f v : Value) (vs : List Value) (i : ℕ) (ws : List Value) (d : ℕ) (s : State) (k : List Value → State → Plan) (g : ℕ) → run_plan g (call_each f (v ∷ vs) i ws d s k) ≡ then_do (meaning (Call f Option.None (v ∷ Num (pos i) ∷ []) d) s g) (next_call f vs i ws d k)
+  pub element_first : (f v : Value) (vs : List Value) (i : ℕ) (ws : List Value) (d : ℕ) (s : State) (k : List Value → State → Plan) (g : ℕ) → run_plan g (call_each f (v ∷ vs) i ws d s k) ≡ then_do (meaning (Call f Option.None (v ∷ Num (pos i) ∷ []) d) s g) (after (λ w t. call_each f vs (i + 1) (ws ++ w ∷ []) d t k))
   pub element_last : (f : Value) (i : ℕ) (ws : List Value) (d : ℕ) (s : State) (k : List Value → State → Plan) (g : ℕ) → run_plan g (call_each f [] i ws d s k) ≡ run_plan g (k ws s)
-  pub bunch_first : (f v : Value) (vs : List Value) (b : Value) (d : ℕ) (s : State) (g : ℕ) → run_plan g (each_called f (v ∷ vs) b d s) ≡ then_do (meaning (Call f Option.None (v ∷ []) d) s g) (next_called f vs b d)
+  pub bunch_first : (f v : Value) (vs : List Value) (b : Value) (d : ℕ) (s : State) (g : ℕ) → run_plan g (each_called f (v ∷ vs) b d s) ≡ then_do (meaning (Call f Option.None (v ∷ []) d) s g) (after (λ w t. each_called f vs b d t))
   pub bunch_last : (f b : Value) (d : ℕ) (s : State) (g : ℕ) → run_plan g (each_called f [] b d s) ≡ gives b s g
-  pub node_first : (t : List ℕ) (n : ℕ) (ns : List ℕ) (b : Value) (d : ℕ) (s : State) (g : ℕ) → run_plan g (fired t (n ∷ ns) b d s) ≡ then_do (run_plan g (dispatch t n Undefined d s)) (next_fired t ns b d)
+  pub node_first : (t : List ℕ) (n : ℕ) (ns : List ℕ) (b : Value) (d : ℕ) (s : State) (g : ℕ) → run_plan g (fired t (n ∷ ns) b d s) ≡ then_do (run_plan g (dispatch t n Undefined d s)) (after (λ v u. fired t ns b d u))
   pub node_last : (t : List ℕ) (b : Value) (d : ℕ) (s : State) (g : ℕ) → run_plan g (fired t [] b d s) ≡ gives b s g
   -- without a unit nothing begins
   pub no_fuel : (j : Job) (s : State) → meaning j s 0 ≡ record { how = OutOfFuel; state = s; left = 0 }

@@ -6,7 +6,7 @@ use Rattle.widget_meaning.specs.NativeNames.{Bubble}
 use Rattle.widget_meaning.specs.Values.{Value, Undefined, Text, Own, Completion, Is, E3}
 use Rattle.widget_meaning.specs.Trees.{parent}
 use Rattle.widget_meaning.specs.OwnState.{State, Pairs, notes_at, plain_object, new_bunch, with_new_cell}
-use Rattle.widget_meaning.specs.Plan.{Plan, Ret, Do, and_then, Call, Hear, Hearing, on_value}
+use Rattle.widget_meaning.specs.Plan.{Plan, Ret, Do, and_then, Call, Hear, Hearing, after}
 use Rattle.widget_meaning.specs.Costs.{pay, cost, give, throw}
 use Rattle.widget_meaning.specs.HostTable.{native}
 use Rattle.widget_meaning.specs.Calls.{invoke}
@@ -88,11 +88,7 @@ dispatch kind target value d s = search_from (Some target) kind target value d s
 -- the handlers after the first, in order
 abbrev pub handlers : List ℕ → Hearing → State → Plan
 handlers [] h s = give Undefined s
-handlers (f ∷ fs) h s = Do (Call (Own f) None (h.event ∷ []) h.depth) s (λ o t. on_value o t (λ v. handlers fs h t))
-
--- after a handler, the others
-abbrev pub next_handlers : List ℕ → Hearing → Completion → State → Plan
-next_handlers fs h o s = on_value o s (λ v. handlers fs h s)
+handlers (f ∷ fs) h s = Do (Call (Own f) None (h.event ∷ []) h.depth) s (after (λ v t. handlers fs h t))
 
 -- after a dispatch: where `bubble` was called in it, the search goes on from the parent that the node has now
 abbrev pub bubble_on : Bool → Hearing → State → Plan
@@ -106,4 +102,4 @@ dispatch_end h o s = Ret o (without_dispatch s)
 
 -- what the job is, after its unit
 abbrev pub heard : Hearing → State → Plan
-heard h s = and_then (and_then (invoke (Own h.first) None (h.event ∷ []) h.depth s) (next_handlers h.others h)) (dispatch_end h)
+heard h s = and_then (and_then (invoke (Own h.first) None (h.event ∷ []) h.depth s) (after (λ v t. handlers h.others h t))) (dispatch_end h)

@@ -18,7 +18,7 @@ use Rattle.code_units.specs.Whole.{number_in}
 use Rattle.widget_meaning.specs.Values.{Value, Undefined, Null, Truth, NaN, Num, Text, Reference, Variable, Property, Found, Completion, Refers, E1, Number, LongText, is_true, is_nothing, to_text, to_number}
 use Rattle.widget_meaning.specs.Operators.{OpOut, Gives, Leaves, TooLong, number, binary, unary, type_name}
 use Rattle.widget_meaning.specs.OwnState.{State, plain_object, new_array, new_function}
-use Rattle.widget_meaning.specs.Plan.{Place, Plan, Ret, Halt, Do, Eval, Target, and_then, on_value, on_reference}
+use Rattle.widget_meaning.specs.Plan.{Place, Plan, Ret, Halt, Do, Eval, Target, and_then, on_value, on_reference, after}
 use Rattle.widget_meaning.specs.Costs.{make, make_text, throw, give}
 use Rattle.widget_meaning.specs.Properties.{get, read, put, delete, index_name, is_function}
 use Rattle.widget_meaning.specs.Scopes.{variable, assign}
@@ -59,20 +59,12 @@ word_value word.This = Undefined
 -- an array and an object are born before their parts; each part is written as soon as it has its value
 abbrev pub array_parts : Value → ℕ → List Expr → Place → State → Plan
 array_parts a i [] p s = give a s
-array_parts a i (e ∷ es) p s = Do (Eval e p) s (λ o t. on_value o t (λ v. put a (index_name i) v t (array_parts a (i + 1) es p)))
-
--- after an element: it is written, and the others follow
-abbrev pub array_part : Value → ℕ → List Expr → Place → Completion → State → Plan
-array_part a i es p o s = on_value o s (λ v. put a (index_name i) v s (array_parts a (i + 1) es p))
+array_parts a i (e ∷ es) p s = Do (Eval e p) s (after (λ v t. put a (index_name i) v t (array_parts a (i + 1) es p)))
 
 -- the properties of an object literal
 abbrev pub object_parts : Value → List (List ℕ × Expr) → Place → State → Plan
 object_parts a [] p s = give a s
-object_parts a (q ∷ qs) p s = Do (Eval q.1 p) s (λ o t. on_value o t (λ v. put a q.0 v t (object_parts a qs p)))
-
--- after a property's value: it is written, and the others follow
-abbrev pub object_part : Value → List ℕ → List (List ℕ × Expr) → Place → Completion → State → Plan
-object_part a x qs p o s = on_value o s (λ v. put a x v s (object_parts a qs p))
+object_parts a (q ∷ qs) p s = Do (Eval q.1 p) s (after (λ v t. put a q.0 v t (object_parts a qs p)))
 
 -- a property: the base, then the subscript, then the fault of undefined and null, then the read
 abbrev pub dot_read : List ℕ → Completion → State → Plan
@@ -127,11 +119,7 @@ write (Found w) p v s k = k s
 -- a call: the target, the arguments, and then the function is read. A plain call passes no receiver
 abbrev pub arguments_then : Reference → List Value → List Expr → Place → State → Plan
 arguments_then r vs [] p s = invoke (referred r p s) (base_of r) vs p.depth s
-arguments_then r vs (e ∷ es) p s = Do (Eval e p) s (λ o t. on_value o t (λ v. arguments_then r (vs ++ v ∷ []) es p t))
-
--- after an argument: the next ones, and then the call
-abbrev pub next_argument : Reference → List Value → List Expr → Place → Completion → State → Plan
-next_argument r vs es p o s = on_value o s (λ v. arguments_then r (vs ++ v ∷ []) es p s)
+arguments_then r vs (e ∷ es) p s = Do (Eval e p) s (after (λ v t. arguments_then r (vs ++ v ∷ []) es p t))
 
 -- after the target of a call: its arguments
 abbrev pub callee : List Expr → Place → Completion → State → Plan

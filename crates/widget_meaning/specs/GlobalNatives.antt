@@ -9,10 +9,10 @@ use Rattle.code_units.specs.declared.whole.WholeRead.{WholeRead}
 use Rattle.code_units.specs.declared.whole.WholeRead.TheVariants as read
 use Rattle.code_units.specs.Whole.{is_x, trimmed_start}
 use Rattle.widget_meaning.specs.NativeNames.{GlobalNative, BooleanOf, NumberOf, StringOf, IsNaN, IsFinite, ParseInt, FromCharCode}
-use Rattle.widget_meaning.specs.Values.{Value, Completion, Truth, NaN, Num, Text, Number, is_object, is_true, to_text, to_number}
+use Rattle.widget_meaning.specs.Values.{Value, Truth, NaN, Num, Text, Number, is_object, is_true, to_text, to_number}
 use Rattle.widget_meaning.specs.Operators.{OpOut, Gives, Leaves, number, truth, as_number}
 use Rattle.widget_meaning.specs.OwnState.{State}
-use Rattle.widget_meaning.specs.Plan.{Plan, Halt, and_then, charge, on_value}
+use Rattle.widget_meaning.specs.Plan.{Plan, Halt, and_then, charge, after}
 use Rattle.widget_meaning.specs.Costs.{give}
 use Rattle.widget_meaning.specs.Calls.{to_primitive}
 use Rattle.widget_meaning.specs.Expressions.{result}
@@ -47,14 +47,10 @@ abbrev pub text_of_primitive : Value → State → Plan
 text_of_primitive (Text t) s = give (Text t) s
 text_of_primitive v s = give_text 0 (to_text v) s
 
--- what the `toString` of an object gave
-abbrev pub string_result : Completion → State → Plan
-string_result o s = on_value o s (λ v. text_of_primitive v s)
-
 -- `String(v)`: an object by its `toString`
 abbrev pub string_of : Value → ℕ → State → Plan
 string_of v d s =
-    if is_object v then and_then (to_primitive v d s) string_result
+    if is_object v then and_then (to_primitive v d s) (after text_of_primitive)
     else charge (units_read v) s (text_of_primitive v s)
 
 -- absent, not undefined, gives the empty text

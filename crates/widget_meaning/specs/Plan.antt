@@ -98,6 +98,10 @@ abbrev pub on_value : Completion → State → (Value → Plan) → Plan
 on_value (Is v) s k = k v
 on_value o s k = Ret o s
 
+-- the same as what comes after a part
+abbrev pub after : (Value → State → Plan) → Completion → State → Plan
+after k o s = on_value o s (λ v. k v s)
+
 -- goes on with a reference
 abbrev pub on_reference : Completion → State → (Reference → Plan) → Plan
 on_reference (Refers r) s k = k r

@@ -5,7 +5,7 @@ use Rattle.js_tree.specs.Plain.{Expr, OptionalExpr, Stmt, StmtForm, Stmts, Decls
 use Rattle.widget_meaning.specs.Values.{Value, Undefined, Text, Completion, Normal, Return, Break, Continue, Throw, E1, is_true, is_nothing}
 use Rattle.widget_meaning.specs.Operators.{same}
 use Rattle.widget_meaning.specs.OwnState.{State, with_new_scope, Scope}
-use Rattle.widget_meaning.specs.Plan.{Place, Plan, Ret, Do, Eval, Pass, Loop, WhileLoop, DoLoop, ForLoop, ForInLoop, and_then, charge, on_value, on_normal, on_throw}
+use Rattle.widget_meaning.specs.Plan.{Place, Plan, Ret, Do, Eval, Pass, Loop, WhileLoop, DoLoop, ForLoop, ForInLoop, and_then, charge, on_value, on_normal, on_throw, after}
 use Rattle.widget_meaning.specs.Costs.{pay, throw, scope_cost}
 use Rattle.widget_meaning.specs.Properties.{property, names_of}
 use Rattle.widget_meaning.specs.Scopes.{assign}
@@ -42,11 +42,7 @@ declarations (d ∷ ds) p s = declaration d.1 d.0 p s (declarations ds p)
 -- expressions one after the other, for what they do
 abbrev pub expressions : List Expr → Place → State → Plan
 expressions [] p s = Ret Normal s
-expressions (e ∷ es) p s = Do (Eval e p) s (λ o t. on_value o t (λ v. expressions es p t))
-
--- after an expression of a list, the others
-abbrev pub next_expressions : List Expr → Place → Completion → State → Plan
-next_expressions es p o s = on_value o s (λ v. expressions es p s)
+expressions (e ∷ es) p s = Do (Eval e p) s (after (λ v t. expressions es p t))
 
 -- `if`
 abbrev pub branch : Stmts → Stmts → Place → Completion → State → Plan
