@@ -7,16 +7,16 @@ use Rattle.js_tree.specs.declared.nodes.BinOp.{BinOp}
 use Rattle.js_tree.specs.Plain as tree
 use Rattle.js_tree.specs.Plain.{ExprForm, Stmts, Fun}
 use Rattle.widget_meaning.specs.Limits.{max_units, max_cells, max_slots, max_nodes, max_depth}
-use Rattle.widget_meaning.specs.Values.{Value, Text, Own, Completion, Normal, Is, Refers, Return, Break, Continue, Throw, E1, Units, Cells, Slots, Nodes, Depth, is_true, is_nothing, Undefined, Num}
+use Rattle.widget_meaning.specs.Values.{Value, Text, Own, Completion, Normal, Is, Refers, Return, Break, Continue, Throw, E1, Units, Cells, Slots, Nodes, Depth, is_true, is_nothing, Undefined, Num, Found, to_text}
 use Rattle.widget_meaning.specs.OwnState.{State, Amounts, Function, cell_at, with_new_cell, with_new_scope, new_array, plain_object, new_function, Scope}
 use Rattle.widget_meaning.specs.Plan.{Plan, Place, Ret, Halt, Do, Eval, Target, Exec, Pass, Call, RunNative, Hear, Hearing, WhileLoop, DoLoop, ForLoop, ForInLoop, Out, Stopped, OutOfFuel, and_then, charge, ticks, after, on_normal}
 use Rattle.widget_meaning.specs.Costs.{make, give, throw, within, sum, object_cost, with_counts, scope_cost}
-use Rattle.widget_meaning.specs.Operators.{binary, same}
-use Rattle.widget_meaning.specs.Properties.{property, names_of, put, index_name}
+use Rattle.widget_meaning.specs.Operators.{binary, same, unary}
+use Rattle.widget_meaning.specs.Properties.{property, names_of, put, index_name, read}
 use Rattle.widget_meaning.specs.Scopes.{assign, fun_name, funs_list, without_name, call_scope}
 use Rattle.widget_meaning.specs.Calls.{statements, stmt_list, without_directive, with_variable, declare, call_end, enter, enter_scope, invoke, to_primitive, primitive_result}
-use Rattle.widget_meaning.specs.Expressions.{expr_list, property_list, array_parts, object_parts, dot_read, subscript_read, named_read, dot_target, subscript_target, named_target, value_target, expression, target, callee, binary_right, binary_with, unary_operand, delete_target, step_target, step_converted, assign_target, assign_with, compound, assigned, referred, and_right, or_right, choose, converts, converted_left, converted_right, result, unary_converted, arguments_then}
-use Rattle.widget_meaning.specs.Statements.{discard, decl_list, declarations, declare_as, expressions, branch, loop_test, loop_end, while_next, do_next, for_init, for_again, for_next, for_in, for_in_next, for_in_over, to_return, to_throw, clauses_onto, bodies, choose_case, switch_on, switch_end, in_catch, caught, finally, last_end, case_tested}
+use Rattle.widget_meaning.specs.Expressions.{expr_list, property_list, array_parts, object_parts, subscript_read, subscript_target, expression, target, callee, binary_right, delete_target, step_target, step_converted, assign_target, assign_with, compound, referred, and_right, or_right, choose, converts, converted_left, result, arguments_then, operate, refer, unary_on, write}
+use Rattle.widget_meaning.specs.Statements.{decl_list, declarations, expressions, branch, loop_test, loop_end, while_next, do_next, for_init, for_again, for_next, for_in, for_in_next, for_in_over, clauses_onto, bodies, choose_case, switch_on, switch_end, in_catch, caught, finally, last_end, case_tested}
 use Rattle.widget_meaning.specs.Natives.{run_native}
 use Rattle.widget_meaning.specs.Dispatch.{heard, dispatch_end, dispatch, handlers}
 use Rattle.widget_meaning.specs.Meaning.{run_plan}
@@ -49,19 +49,19 @@ catch_holds x b (Refers r) p s g = refl
 catch_holds x b (Return v) p s g = refl
 catch_holds x b (Throw v) p s g = refl
 
-converted_holds : (op : BinOp) (v w : Value) (p : Place) (s : State) (g : ℕ) → converts op ≡ true → run_plan g (binary_with op v p (Is w) s) ≡ then_do (run_plan g (to_primitive v p.depth s)) (converted_left op w p.depth)
+converted_holds : (op : BinOp) (v w : Value) (p : Place) (s : State) (g : ℕ) → converts op ≡ true → run_plan g (operate op v w p.depth s) ≡ then_do (run_plan g (to_primitive v p.depth s)) (converted_left op w p.depth)
 converted_holds op v w p s g h =
     ap (λ c. run_plan g (if c then and_then (to_primitive v p.depth s) (converted_left op w p.depth) else result (binary op v w) s)) h
     ∙ run_and_then g (to_primitive v p.depth s) (converted_left op w p.depth)
 
 module _ (at : ℕ) (names : List ℕ) where
   -- a form that is evaluated where a target is wanted
-  of_value : (form : ExprForm) (p : Place) (s : State) (g : ℕ) → target form p s ≡ and_then (expression form p s) value_target → targeted at names form p s g ≡ then_do (evaluated at names form p s g) value_target
+  of_value : (form : ExprForm) (p : Place) (s : State) (g : ℕ) → target form p s ≡ and_then (expression form p s) (after (λ v t. Ret (Refers (Found v)) t)) → targeted at names form p s g ≡ then_do (evaluated at names form p s g) (after (λ v t. Ret (Refers (Found v)) t))
   of_value form p s g e =
-      then_part g (Target (tree.ExprAt at names form) p) s (expression form p s) value_target e
-      ∙ ap (λ r. then_do r value_target) (sym (unit g (Eval (tree.ExprAt at names form) p) s (expression form p s) refl))
+      then_part g (Target (tree.ExprAt at names form) p) s (expression form p s) (after (λ v t. Ret (Refers (Found v)) t)) e
+      ∙ ap (λ r. then_do r (after (λ v t. Ret (Refers (Found v)) t))) (sym (unit g (Eval (tree.ExprAt at names form) p) s (expression form p s) refl))
 
-  value_target_holds : (form : ExprForm) (p : Place) (s : State) (g : ℕ) → is_value_form form ≡ true → targeted at names form p s g ≡ then_do (evaluated at names form p s g) value_target
+  value_target_holds : (form : ExprForm) (p : Place) (s : State) (g : ℕ) → is_value_form form ≡ true → targeted at names form p s g ≡ then_do (evaluated at names form p s g) (after (λ v t. Ret (Refers (Found v)) t))
   value_target_holds (tree.Name x) p s g h = absurd (false≢true h)
   value_target_holds (tree.Dot e x) p s g h = absurd (false≢true h)
   value_target_holds (tree.Sub e i) p s g h = absurd (false≢true h)
@@ -161,34 +161,34 @@ expression_laws at names = record {
   object_next = λ a x e qs p s g. part g (Eval e p) s (after (λ v t. put a x v t (object_parts a qs p)));
   object_last = λ a p s g. refl;
   function = λ f p s g. unit g (Eval (tree.ExprAt at names (tree.Function f)) p) s (make (new_function f p.scope) 0 s give) refl;
-  dot = λ e x p s g. first g (Eval (tree.ExprAt at names (tree.Dot e x)) p) (Eval e p) s (dot_read x) refl;
+  dot = λ e x p s g. first g (Eval (tree.ExprAt at names (tree.Dot e x)) p) (Eval e p) s (after (λ b t. read b x t)) refl;
   subscript = λ e i p s g. first g (Eval (tree.ExprAt at names (tree.Sub e i)) p) (Eval e p) s (subscript_read i p) refl;
-  subscript_name = λ i b p s g. part g (Eval i p) s (named_read b);
+  subscript_name = λ i b p s g. part g (Eval i p) s (after (λ v t. read b (to_text v) t));
   name_target = λ x p s g. refl;
-  dot_targets = λ e x p s g. first g (Target (tree.ExprAt at names (tree.Dot e x)) p) (Eval e p) s (dot_target x) refl;
+  dot_targets = λ e x p s g. first g (Target (tree.ExprAt at names (tree.Dot e x)) p) (Eval e p) s (after (λ b t. refer b x t)) refl;
   subscript_targets = λ e i p s g. first g (Target (tree.ExprAt at names (tree.Sub e i)) p) (Eval e p) s (subscript_target i p) refl;
-  subscript_target_name = λ i b p s g. part g (Eval i p) s (named_target b);
+  subscript_target_name = λ i b p s g. part g (Eval i p) s (after (λ v t. refer b (to_text v) t));
   value_targets = λ form p s g h. value_target_holds at names form p s g h;
   call = λ f es p s g. first g (Eval (tree.ExprAt at names (tree.Call f es)) p) (Target f p) s (callee (expr_list es) p) refl;
   argument = λ r vs e es p s g. part g (Eval e p) s (after (λ v t. arguments_then r (vs ++ v ∷ []) es p t));
   arguments_end = λ r vs p s g. refl;
   operator = λ op a b p s g. first g (Eval (tree.ExprAt at names (tree.Binary op a b)) p) (Eval a p) s (binary_right op b p) refl;
-  operator_second = λ op b v p s g. part g (Eval b p) s (binary_with op v p);
+  operator_second = λ op b v p s g. part g (Eval b p) s (after (λ w t. operate op v w p.depth t));
   operator_left = λ op v w p s g h. converted_holds op v w p s g h;
-  operator_last = λ op v w d s g. run_and_then g (to_primitive w d s) (converted_right op v);
+  operator_last = λ op v w d s g. run_and_then g (to_primitive w d s) (after (λ w t. result (binary op v w) t));
   operator_alike = λ op v w p s g h. ap (λ c. run_plan g (if c then and_then (to_primitive v p.depth s) (converted_left op w p.depth) else result (binary op v w) s)) h;
   delete = λ e p s g. first g (Eval (tree.ExprAt at names (tree.Unary un.Delete e)) p) (Target e p) s delete_target refl;
-  type_of = λ e p s g. first g (Eval (tree.ExprAt at names (tree.Unary un.TypeOf e)) p) (Eval e p) s (unary_operand un.TypeOf p) refl;
-  not = λ e p s g. first g (Eval (tree.ExprAt at names (tree.Unary un.Not e)) p) (Eval e p) s (unary_operand un.Not p) refl;
-  plus = λ e p s g. first g (Eval (tree.ExprAt at names (tree.Unary un.Plus e)) p) (Eval e p) s (unary_operand un.Plus p) refl;
-  minus = λ e p s g. first g (Eval (tree.ExprAt at names (tree.Unary un.Minus e)) p) (Eval e p) s (unary_operand un.Minus p) refl;
-  plus_operand = λ v p s g. run_and_then g (to_primitive v p.depth s) (unary_converted un.Plus);
-  minus_operand = λ v p s g. run_and_then g (to_primitive v p.depth s) (unary_converted un.Minus);
+  type_of = λ e p s g. first g (Eval (tree.ExprAt at names (tree.Unary un.TypeOf e)) p) (Eval e p) s (after (λ v t. unary_on un.TypeOf v p t)) refl;
+  not = λ e p s g. first g (Eval (tree.ExprAt at names (tree.Unary un.Not e)) p) (Eval e p) s (after (λ v t. unary_on un.Not v p t)) refl;
+  plus = λ e p s g. first g (Eval (tree.ExprAt at names (tree.Unary un.Plus e)) p) (Eval e p) s (after (λ v t. unary_on un.Plus v p t)) refl;
+  minus = λ e p s g. first g (Eval (tree.ExprAt at names (tree.Unary un.Minus e)) p) (Eval e p) s (after (λ v t. unary_on un.Minus v p t)) refl;
+  plus_operand = λ v p s g. run_and_then g (to_primitive v p.depth s) (after (λ v t. result (unary un.Plus v) t));
+  minus_operand = λ v p s g. run_and_then g (to_primitive v p.depth s) (after (λ v t. result (unary un.Minus v) t));
   step = λ op e p s g. first g (Eval (tree.ExprAt at names (tree.Step op e)) p) (Target e p) s (step_target op p) refl;
   step_operand = λ op r p s g. run_and_then g (to_primitive (referred r p s) p.depth s) (step_converted op r p);
   assign = λ op e v p s g. first g (Eval (tree.ExprAt at names (tree.Assign op e v)) p) (Target e p) s (assign_target op v p) refl;
   assign_right = λ op v r p s g. part g (Eval v p) s (assign_with op r (referred r p s) p);
-  assign_value = λ op r v w p s g. run_and_then g (compound op v w p.depth s) (assigned r p);
+  assign_value = λ op r v w p s g. run_and_then g (compound op v w p.depth s) (after (λ v t. write r p v t (give v)));
   conjunction = λ a b p s g. first g (Eval (tree.ExprAt at names (tree.And a b)) p) (Eval a p) s (and_right b p) refl;
   conjunction_right = λ b v p s g. chosen (is_true v) g (Do (Eval b p) s Ret) (give v s);
   disjunction = λ a b p s g. first g (Eval (tree.ExprAt at names (tree.Or a b)) p) (Eval a p) s (or_right b p) refl;
@@ -202,10 +202,10 @@ statement_laws at names = record {
   list = λ i is p s g. part g (Exec i p) s (λ o t. on_normal o t (statements is p t));
   list_end = λ p s g. refl;
   var = λ ds p s g. unit g (Exec (tree.StmtAt at names (tree.Var ds)) p) s (declarations (decl_list ds) p s) refl;
-  var_first = λ x e ds p s g. part g (Eval e p) s (declare_as x p (declarations ds p));
+  var_first = λ x e ds p s g. part g (Eval e p) s (after (λ v t. (declarations ds p) (assign t p x v)));
   var_bare = λ x ds p s g. refl;
   var_end = λ p s g. refl;
-  only = λ e p s g. first g (Exec (tree.StmtAt at names (tree.Only e)) p) (Eval e p) s discard refl;
+  only = λ e p s g. first g (Exec (tree.StmtAt at names (tree.Only e)) p) (Eval e p) s (after (λ v t. Ret Normal t)) refl;
   if_test = λ e a b p s g. first g (Exec (tree.StmtAt at names (tree.If e a b)) p) (Eval e p) s (branch a b p) refl;
   if_branch = λ a b v p s g. chosen (is_true v) g (statements (stmt_list a) p s) (statements (stmt_list b) p s);
   loop_again = λ l v p s g. chosen (is_true v) g (Do (Pass l p) s Ret) (Ret Normal s);
@@ -233,8 +233,8 @@ statement_laws at names = record {
   continue = λ x p s g. refl;
   break = λ x p s g. refl;
   return_nothing = λ p s g. refl;
-  return = λ e p s g. first g (Exec (tree.StmtAt at names (tree.Return (tree.SomeExpr e))) p) (Eval e p) s to_return refl;
-  throw = λ e p s g. first g (Exec (tree.StmtAt at names (tree.Throw e)) p) (Eval e p) s to_throw refl;
+  return = λ e p s g. first g (Exec (tree.StmtAt at names (tree.Return (tree.SomeExpr e))) p) (Eval e p) s (after (λ v t. Ret (Return v) t)) refl;
+  throw = λ e p s g. first g (Exec (tree.StmtAt at names (tree.Throw e)) p) (Eval e p) s (after (λ v t. Ret (Throw v) t)) refl;
   switch = λ e cs p s g. first g (Exec (tree.StmtAt at names (tree.Switch e cs)) p) (Eval e p) s (switch_on (clauses_onto cs []) p) refl;
   switch_cases = λ v cs p s g. run_and_then g (choose_case v cs cs p s) switch_end;
   case = λ v all e b cs p s g. part g (Eval e p) s (case_tested v all b cs p);

@@ -10,16 +10,16 @@ use Rattle.js_tree.specs.Plain.{Expr, ExprForm, Exprs, Properties, OptionalExpr,
 use Rattle.code_units.specs.Whole.{number_in}
 use Rattle.widget_meaning.specs.Limits.{max_depth}
 use Rattle.widget_meaning.specs.NativeNames.{NativeId, Native}
-use Rattle.widget_meaning.specs.Values.{Value, Undefined, Num, Text, Own, Host, Reference, Variable, Completion, Normal, Is, Refers, Return, Break, Continue, Throw, E1, Depth, is_true, is_nothing}
+use Rattle.widget_meaning.specs.Values.{Value, Undefined, Num, Text, Own, Host, Reference, Variable, Completion, Normal, Is, Refers, Return, Break, Continue, Throw, E1, Depth, is_true, is_nothing, to_text, Found}
 use Rattle.widget_meaning.specs.OwnState.{State, Function, cell_at, with_new_scope, new_array, plain_object, new_function, Scope}
 use Rattle.widget_meaning.specs.Plan.{Place, Plan, Ret, Job, Eval, Target, Exec, Pass, Call, RunNative, Hear, Hearing, Loop, WhileLoop, DoLoop, ForLoop, ForInLoop, Out, End, Ended, Stopped, OutOfFuel, charge, on_normal, after}
 use Rattle.widget_meaning.specs.Costs.{pay, make, throw, give, scope_cost}
-use Rattle.widget_meaning.specs.Operators.{binary, same}
-use Rattle.widget_meaning.specs.Properties.{property, names_of, put, index_name}
+use Rattle.widget_meaning.specs.Operators.{binary, same, unary}
+use Rattle.widget_meaning.specs.Properties.{property, names_of, put, index_name, read}
 use Rattle.widget_meaning.specs.Scopes.{variable, assign, funs_list, call_scope}
 use Rattle.widget_meaning.specs.Calls.{statements, stmt_list, without_directive, declare, call_body, call_end, invoke, call_to_string, primitive_result, to_primitive}
-use Rattle.widget_meaning.specs.Expressions.{expr_list, property_list, literal, word_value, array_parts, object_parts, dot_read, subscript_read, named_read, dot_target, subscript_target, named_target, value_target, callee, arguments_then, binary_right, binary_with, unary_operand, delete_target, step_target, step_converted, assign_target, assign_with, compound, assigned, referred, base_of, and_right, or_right, choose, converts, converted_left, converted_right, result, unary_converted}
-use Rattle.widget_meaning.specs.Statements.{discard, decl_list, declarations, declare_as, expressions, branch, loop_test, while_next, do_next, for_init, for_again, for_next, for_in, for_in_next, for_in_over, to_return, to_throw, clauses_onto, bodies, from_default, switch_on, switch_end, in_catch, caught, finally, last_end, Case, choose_case, case_tested}
+use Rattle.widget_meaning.specs.Expressions.{expr_list, property_list, literal, word_value, array_parts, object_parts, subscript_read, subscript_target, callee, arguments_then, binary_right, delete_target, step_target, step_converted, assign_target, assign_with, compound, referred, base_of, and_right, or_right, choose, converts, converted_left, result, refer, operate, unary_on, write}
+use Rattle.widget_meaning.specs.Statements.{decl_list, declarations, expressions, branch, loop_test, while_next, do_next, for_init, for_again, for_next, for_in, for_in_next, for_in_over, clauses_onto, bodies, from_default, switch_on, switch_end, in_catch, caught, finally, last_end, Case, choose_case, case_tested}
 use Rattle.widget_meaning.specs.ListNatives.{call_each}
 use Rattle.widget_meaning.specs.BunchWrites.{fired, each_called}
 use Rattle.widget_meaning.specs.Natives.{run_native}
@@ -104,38 +104,38 @@ module _ (at : ℕ) (names : List ℕ) where
     pub object_last : (a : Value) (p : Place) (s : State) (g : ℕ) → run_plan g (object_parts a [] p s) ≡ gives a s g
     pub function : (f : Fun) (p : Place) (s : State) (g : ℕ) → evaluated (tree.Function f) p s g ≡ run_plan g (make (new_function f p.scope) 0 s give)
     -- properties: the base, then the subscript, then the read
-    pub dot : (e : Expr) (x : List ℕ) (p : Place) (s : State) (g : ℕ) → evaluated (tree.Dot e x) p s g ≡ then_do (eval e p s g) (dot_read x)
+    pub dot : (e : Expr) (x : List ℕ) (p : Place) (s : State) (g : ℕ) → evaluated (tree.Dot e x) p s g ≡ then_do (eval e p s g) (after (λ b t. read b x t))
     pub subscript : (e i : Expr) (p : Place) (s : State) (g : ℕ) → evaluated (tree.Sub e i) p s g ≡ then_do (eval e p s g) (subscript_read i p)
-    pub subscript_name : (i : Expr) (b : Value) (p : Place) (s : State) (g : ℕ) → run_plan g (subscript_read i p (Is b) s) ≡ then_do (eval i p s g) (named_read b)
+    pub subscript_name : (i : Expr) (b : Value) (p : Place) (s : State) (g : ℕ) → run_plan g (subscript_read i p (Is b) s) ≡ then_do (eval i p s g) (after (λ v t. read b (to_text v) t))
     -- targets alike; one of another form is evaluated
     pub name_target : (x : List ℕ) (p : Place) (s : State) (g : ℕ) → targeted (tree.Name x) p s g ≡ ends (Refers (Variable x)) s g
-    pub dot_targets : (e : Expr) (x : List ℕ) (p : Place) (s : State) (g : ℕ) → targeted (tree.Dot e x) p s g ≡ then_do (eval e p s g) (dot_target x)
+    pub dot_targets : (e : Expr) (x : List ℕ) (p : Place) (s : State) (g : ℕ) → targeted (tree.Dot e x) p s g ≡ then_do (eval e p s g) (after (λ b t. refer b x t))
     pub subscript_targets : (e i : Expr) (p : Place) (s : State) (g : ℕ) → targeted (tree.Sub e i) p s g ≡ then_do (eval e p s g) (subscript_target i p)
-    pub subscript_target_name : (i : Expr) (b : Value) (p : Place) (s : State) (g : ℕ) → run_plan g (subscript_target i p (Is b) s) ≡ then_do (eval i p s g) (named_target b)
-    pub value_targets : (form : ExprForm) (p : Place) (s : State) (g : ℕ) → is_value_form form ≡ true → targeted form p s g ≡ then_do (evaluated form p s g) value_target
+    pub subscript_target_name : (i : Expr) (b : Value) (p : Place) (s : State) (g : ℕ) → run_plan g (subscript_target i p (Is b) s) ≡ then_do (eval i p s g) (after (λ v t. refer b (to_text v) t))
+    pub value_targets : (form : ExprForm) (p : Place) (s : State) (g : ℕ) → is_value_form form ≡ true → targeted form p s g ≡ then_do (evaluated form p s g) (after (λ v t. Ret (Refers (Found v)) t))
     -- a call: its target, its arguments from left to right, and then the function is read and called
     pub call : (f : Expr) (es : Exprs) (p : Place) (s : State) (g : ℕ) → evaluated (tree.Call f es) p s g ≡ then_do (meaning (Target f p) s g) (callee (expr_list es) p)
     pub argument : (r : Reference) (vs : List Value) (e : Expr) (es : List Expr) (p : Place) (s : State) (g : ℕ) → run_plan g (arguments_then r vs (e ∷ es) p s) ≡ then_do (eval e p s g) (after (λ v t. arguments_then r (vs ++ v ∷ []) es p t))
     pub arguments_end : (r : Reference) (vs : List Value) (p : Place) (s : State) (g : ℕ) → run_plan g (arguments_then r vs [] p s) ≡ run_plan g (invoke (referred r p s) (base_of r) vs p.depth s)
     -- operators: the operands from left to right
     pub operator : (op : BinOp) (a b : Expr) (p : Place) (s : State) (g : ℕ) → evaluated (tree.Binary op a b) p s g ≡ then_do (eval a p s g) (binary_right op b p)
-    pub operator_second : (op : BinOp) (b : Expr) (v : Value) (p : Place) (s : State) (g : ℕ) → run_plan g (binary_right op b p (Is v) s) ≡ then_do (eval b p s g) (binary_with op v p)
+    pub operator_second : (op : BinOp) (b : Expr) (v : Value) (p : Place) (s : State) (g : ℕ) → run_plan g (binary_right op b p (Is v) s) ≡ then_do (eval b p s g) (after (λ w t. operate op v w p.depth t))
     -- then objects are converted, left before right; `===` and `!==` take them as they are
-    pub operator_left : (op : BinOp) (v w : Value) (p : Place) (s : State) (g : ℕ) → converts op ≡ true → run_plan g (binary_with op v p (Is w) s) ≡ then_do (run_plan g (to_primitive v p.depth s)) (converted_left op w p.depth)
-    pub operator_last : (op : BinOp) (v w : Value) (d : ℕ) (s : State) (g : ℕ) → run_plan g (converted_left op w d (Is v) s) ≡ then_do (run_plan g (to_primitive w d s)) (converted_right op v)
-    pub operator_alike : (op : BinOp) (v w : Value) (p : Place) (s : State) (g : ℕ) → converts op ≡ false → run_plan g (binary_with op v p (Is w) s) ≡ run_plan g (result (binary op v w) s)
+    pub operator_left : (op : BinOp) (v w : Value) (p : Place) (s : State) (g : ℕ) → converts op ≡ true → run_plan g (operate op v w p.depth s) ≡ then_do (run_plan g (to_primitive v p.depth s)) (converted_left op w p.depth)
+    pub operator_last : (op : BinOp) (v w : Value) (d : ℕ) (s : State) (g : ℕ) → run_plan g (converted_left op w d (Is v) s) ≡ then_do (run_plan g (to_primitive w d s)) (after (λ w t. result (binary op v w) t))
+    pub operator_alike : (op : BinOp) (v w : Value) (p : Place) (s : State) (g : ℕ) → converts op ≡ false → run_plan g (operate op v w p.depth s) ≡ run_plan g (result (binary op v w) s)
     pub delete : (e : Expr) (p : Place) (s : State) (g : ℕ) → evaluated (tree.Unary un.Delete e) p s g ≡ then_do (meaning (Target e p) s g) delete_target
-    pub type_of : (e : Expr) (p : Place) (s : State) (g : ℕ) → evaluated (tree.Unary un.TypeOf e) p s g ≡ then_do (eval e p s g) (unary_operand un.TypeOf p)
-    pub not : (e : Expr) (p : Place) (s : State) (g : ℕ) → evaluated (tree.Unary un.Not e) p s g ≡ then_do (eval e p s g) (unary_operand un.Not p)
-    pub plus : (e : Expr) (p : Place) (s : State) (g : ℕ) → evaluated (tree.Unary un.Plus e) p s g ≡ then_do (eval e p s g) (unary_operand un.Plus p)
-    pub minus : (e : Expr) (p : Place) (s : State) (g : ℕ) → evaluated (tree.Unary un.Minus e) p s g ≡ then_do (eval e p s g) (unary_operand un.Minus p)
-    pub plus_operand : (v : Value) (p : Place) (s : State) (g : ℕ) → run_plan g (unary_operand un.Plus p (Is v) s) ≡ then_do (run_plan g (to_primitive v p.depth s)) (unary_converted un.Plus)
-    pub minus_operand : (v : Value) (p : Place) (s : State) (g : ℕ) → run_plan g (unary_operand un.Minus p (Is v) s) ≡ then_do (run_plan g (to_primitive v p.depth s)) (unary_converted un.Minus)
+    pub type_of : (e : Expr) (p : Place) (s : State) (g : ℕ) → evaluated (tree.Unary un.TypeOf e) p s g ≡ then_do (eval e p s g) (after (λ v t. unary_on un.TypeOf v p t))
+    pub not : (e : Expr) (p : Place) (s : State) (g : ℕ) → evaluated (tree.Unary un.Not e) p s g ≡ then_do (eval e p s g) (after (λ v t. unary_on un.Not v p t))
+    pub plus : (e : Expr) (p : Place) (s : State) (g : ℕ) → evaluated (tree.Unary un.Plus e) p s g ≡ then_do (eval e p s g) (after (λ v t. unary_on un.Plus v p t))
+    pub minus : (e : Expr) (p : Place) (s : State) (g : ℕ) → evaluated (tree.Unary un.Minus e) p s g ≡ then_do (eval e p s g) (after (λ v t. unary_on un.Minus v p t))
+    pub plus_operand : (v : Value) (p : Place) (s : State) (g : ℕ) → run_plan g (unary_on un.Plus v p s) ≡ then_do (run_plan g (to_primitive v p.depth s)) (after (λ v t. result (unary un.Plus v) t))
+    pub minus_operand : (v : Value) (p : Place) (s : State) (g : ℕ) → run_plan g (unary_on un.Minus v p s) ≡ then_do (run_plan g (to_primitive v p.depth s)) (after (λ v t. result (unary un.Minus v) t))
     pub step : (op : StepOp) (e : Expr) (p : Place) (s : State) (g : ℕ) → evaluated (tree.Step op e) p s g ≡ then_do (meaning (Target e p) s g) (step_target op p)
     pub step_operand : (op : StepOp) (r : Reference) (p : Place) (s : State) (g : ℕ) → run_plan g (step_target op p (Refers r) s) ≡ then_do (run_plan g (to_primitive (referred r p s) p.depth s)) (step_converted op r p)
     pub assign : (op : AssignOp) (e v : Expr) (p : Place) (s : State) (g : ℕ) → evaluated (tree.Assign op e v) p s g ≡ then_do (meaning (Target e p) s g) (assign_target op v p)
     pub assign_right : (op : AssignOp) (v : Expr) (r : Reference) (p : Place) (s : State) (g : ℕ) → run_plan g (assign_target op v p (Refers r) s) ≡ then_do (eval v p s g) (assign_with op r (referred r p s) p)
-    pub assign_value : (op : AssignOp) (r : Reference) (v w : Value) (p : Place) (s : State) (g : ℕ) → run_plan g (assign_with op r v p (Is w) s) ≡ then_do (run_plan g (compound op v w p.depth s)) (assigned r p)
+    pub assign_value : (op : AssignOp) (r : Reference) (v w : Value) (p : Place) (s : State) (g : ℕ) → run_plan g (assign_with op r v p (Is w) s) ≡ then_do (run_plan g (compound op v w p.depth s)) (after (λ v t. write r p v t (give v)))
     pub conjunction : (a b : Expr) (p : Place) (s : State) (g : ℕ) → evaluated (tree.And a b) p s g ≡ then_do (eval a p s g) (and_right b p)
     pub conjunction_right : (b : Expr) (v : Value) (p : Place) (s : State) (g : ℕ) → run_plan g (and_right b p (Is v) s) ≡ (if is_true v then eval b p s g else gives v s g)
     pub disjunction : (a b : Expr) (p : Place) (s : State) (g : ℕ) → evaluated (tree.Or a b) p s g ≡ then_do (eval a p s g) (or_right b p)
@@ -149,10 +149,10 @@ module _ (at : ℕ) (names : List ℕ) where
     pub list : (i : Stmt) (is : List Stmt) (p : Place) (s : State) (g : ℕ) → run_plan g (statements (i ∷ is) p s) ≡ then_do (exec i p s g) (λ o t. on_normal o t (statements is p t))
     pub list_end : (p : Place) (s : State) (g : ℕ) → run_plan g (statements [] p s) ≡ ends Normal s g
     pub var : (ds : Decls) (p : Place) (s : State) (g : ℕ) → executed (tree.Var ds) p s g ≡ run_plan g (declarations (decl_list ds) p s)
-    pub var_first : (x : List ℕ) (e : Expr) (ds : List (List ℕ × OptionalExpr)) (p : Place) (s : State) (g : ℕ) → run_plan g (declarations ((x, tree.SomeExpr e) ∷ ds) p s) ≡ then_do (eval e p s g) (declare_as x p (declarations ds p))
+    pub var_first : (x : List ℕ) (e : Expr) (ds : List (List ℕ × OptionalExpr)) (p : Place) (s : State) (g : ℕ) → run_plan g (declarations ((x, tree.SomeExpr e) ∷ ds) p s) ≡ then_do (eval e p s g) (after (λ v t. (declarations ds p) (assign t p x v)))
     pub var_bare : (x : List ℕ) (ds : List (List ℕ × OptionalExpr)) (p : Place) (s : State) (g : ℕ) → run_plan g (declarations ((x, tree.NoExpr) ∷ ds) p s) ≡ run_plan g (declarations ds p s)
     pub var_end : (p : Place) (s : State) (g : ℕ) → run_plan g (declarations [] p s) ≡ ends Normal s g
-    pub only : (e : Expr) (p : Place) (s : State) (g : ℕ) → executed (tree.Only e) p s g ≡ then_do (eval e p s g) discard
+    pub only : (e : Expr) (p : Place) (s : State) (g : ℕ) → executed (tree.Only e) p s g ≡ then_do (eval e p s g) (after (λ v t. Ret Normal t))
     pub if_test : (e : Expr) (a b : Stmts) (p : Place) (s : State) (g : ℕ) → executed (tree.If e a b) p s g ≡ then_do (eval e p s g) (branch a b p)
     pub if_branch : (a b : Stmts) (v : Value) (p : Place) (s : State) (g : ℕ) → run_plan g (branch a b p (Is v) s) ≡ (if is_true v then run_plan g (statements (stmt_list a) p s) else run_plan g (statements (stmt_list b) p s))
     -- loops: the test, and then the passes, of which each takes a unit
@@ -183,8 +183,8 @@ module _ (at : ℕ) (names : List ℕ) where
     pub continue : (x : Option (List ℕ)) (p : Place) (s : State) (g : ℕ) → executed (tree.Continue x) p s g ≡ ends Continue s g
     pub break : (x : Option (List ℕ)) (p : Place) (s : State) (g : ℕ) → executed (tree.Break x) p s g ≡ ends Break s g
     pub return_nothing : (p : Place) (s : State) (g : ℕ) → executed (tree.Return tree.NoExpr) p s g ≡ ends (Return Undefined) s g
-    pub return : (e : Expr) (p : Place) (s : State) (g : ℕ) → executed (tree.Return (tree.SomeExpr e)) p s g ≡ then_do (eval e p s g) to_return
-    pub throw : (e : Expr) (p : Place) (s : State) (g : ℕ) → executed (tree.Throw e) p s g ≡ then_do (eval e p s g) to_throw
+    pub return : (e : Expr) (p : Place) (s : State) (g : ℕ) → executed (tree.Return (tree.SomeExpr e)) p s g ≡ then_do (eval e p s g) (after (λ v t. Ret (Return v) t))
+    pub throw : (e : Expr) (p : Place) (s : State) (g : ℕ) → executed (tree.Throw e) p s g ≡ then_do (eval e p s g) (after (λ v t. Ret (Throw v) t))
     -- `switch`: its value, then the tests in order up to one that is the same, then the statements from there on; without one those from `default` on
     pub switch : (e : Expr) (cs : Clauses) (p : Place) (s : State) (g : ℕ) → executed (tree.Switch e cs) p s g ≡ then_do (eval e p s g) (switch_on (clauses_onto cs []) p)
     pub switch_cases : (v : Value) (cs : List Case) (p : Place) (s : State) (g : ℕ) → run_plan g (switch_on cs p (Is v) s) ≡ then_do (run_plan g (choose_case v cs cs p s)) switch_end

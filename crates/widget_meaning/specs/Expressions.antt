@@ -66,37 +66,17 @@ abbrev pub object_parts : Value → List (List ℕ × Expr) → Place → State 
 object_parts a [] p s = give a s
 object_parts a (q ∷ qs) p s = Do (Eval q.1 p) s (after (λ v t. put a q.0 v t (object_parts a qs p)))
 
--- a property: the base, then the subscript, then the fault of undefined and null, then the read
-abbrev pub dot_read : List ℕ → Completion → State → Plan
-dot_read x o s = on_value o s (λ b. read b x s)
-
--- after a subscript: the read of that name
-abbrev pub named_read : Value → Completion → State → Plan
-named_read b o s = on_value o s (λ v. read b (to_text v) s)
-
 -- after a base: its subscript
 abbrev pub subscript_read : Expr → Place → Completion → State → Plan
-subscript_read i p o s = on_value o s (λ b. Do (Eval i p) s (named_read b))
+subscript_read i p o s = on_value o s (λ b. Do (Eval i p) s (after (λ v t. read b (to_text v) t)))
 
 -- a property as a target: its base is not undefined or null
 abbrev pub refer : Value → List ℕ → State → Plan
 refer b x s = if is_nothing b then throw E1 s else Ret (Refers (Property b x)) s
 
--- after the base of a target with a dot
-abbrev pub dot_target : List ℕ → Completion → State → Plan
-dot_target x o s = on_value o s (λ b. refer b x s)
-
--- after the subscript of a target
-abbrev pub named_target : Value → Completion → State → Plan
-named_target b o s = on_value o s (λ v. refer b (to_text v) s)
-
 -- after the base of a target with a subscript
 abbrev pub subscript_target : Expr → Place → Completion → State → Plan
-subscript_target i p o s = on_value o s (λ b. Do (Eval i p) s (named_target b))
-
--- after an expression that is no other target: its value
-abbrev pub value_target : Completion → State → Plan
-value_target o s = on_value o s (λ v. Ret (Refers (Found v)) s)
+subscript_target i p o s = on_value o s (λ b. Do (Eval i p) s (after (λ v t. refer b (to_text v) t)))
 
 -- what a reference has, its base, and a write to it
 abbrev pub referred : Reference → Place → State → Value
@@ -138,13 +118,9 @@ converts bin.Same = false
 converts bin.NotSame = false
 converts _ = true
 
--- after the right operand's conversion: the operator
-abbrev pub converted_right : BinOp → Value → Completion → State → Plan
-converted_right op v o s = on_value o s (λ w. result (binary op v w) s)
-
 -- after the left operand's conversion: that of the right
 abbrev pub converted_left : BinOp → Value → ℕ → Completion → State → Plan
-converted_left op w d o s = on_value o s (λ v. and_then (to_primitive w d s) (converted_right op v))
+converted_left op w d o s = on_value o s (λ v. and_then (to_primitive w d s) (after (λ w t. result (binary op v w) t)))
 
 -- an operator on two values, by a caller at this depth
 abbrev pub operate : BinOp → Value → Value → ℕ → State → Plan
@@ -153,27 +129,15 @@ operate op v w d s =
     then and_then (to_primitive v d s) (converted_left op w d)
     else result (binary op v w) s
 
--- after the right operand
-abbrev pub binary_with : BinOp → Value → Place → Completion → State → Plan
-binary_with op v p o s = on_value o s (λ w. operate op v w p.depth s)
-
 -- after the left operand
 abbrev pub binary_right : BinOp → Expr → Place → Completion → State → Plan
-binary_right op b p o s = on_value o s (λ v. Do (Eval b p) s (binary_with op v p))
-
--- a prefix operator, after its operand is converted
-abbrev pub unary_converted : UnOp → Completion → State → Plan
-unary_converted op o s = on_value o s (λ v. result (unary op v) s)
+binary_right op b p o s = on_value o s (λ v. Do (Eval b p) s (after (λ w t. operate op v w p.depth t)))
 
 -- a prefix operator on a value: `+` and `-` convert an object, `!` and `typeof` do not
 abbrev pub unary_on : UnOp → Value → Place → State → Plan
 unary_on un.TypeOf v p s = give (Text (type_name (is_function s v) v)) s
 unary_on un.Not v p s = result (unary un.Not v) s
-unary_on op v p s = and_then (to_primitive v p.depth s) (unary_converted op)
-
--- after the operand of a prefix operator
-abbrev pub unary_operand : UnOp → Place → Completion → State → Plan
-unary_operand op p o s = on_value o s (λ v. unary_on op v p s)
+unary_on op v p s = and_then (to_primitive v p.depth s) (after (λ v t. result (unary op v) t))
 
 -- `delete` takes a property out
 abbrev pub delete_at : Reference → State → Plan
@@ -219,10 +183,6 @@ step_converted op r p o s = on_value o s (λ v. step_number (to_number v) op r p
 abbrev pub step_target : StepOp → Place → Completion → State → Plan
 step_target op p o s = on_reference o s (λ r. and_then (to_primitive (referred r p s) p.depth s) (step_converted op r p))
 
--- an assignment: the target, for a compound form what it has, the right side, and the write
-abbrev pub assigned : Reference → Place → Completion → State → Plan
-assigned r p o s = on_value o s (λ v. write r p v s (give v))
-
 -- what a compound assignment computes
 abbrev pub compound : AssignOp → Value → Value → ℕ → State → Plan
 compound assignment.Add v w d s = operate bin.Add v w d s
@@ -235,7 +195,7 @@ compound op v w d s = give w s
 
 -- after the right side of an assignment
 abbrev pub assign_with : AssignOp → Reference → Value → Place → Completion → State → Plan
-assign_with op r v p o s = on_value o s (λ w. and_then (compound op v w p.depth s) (assigned r p))
+assign_with op r v p o s = on_value o s (λ w. and_then (compound op v w p.depth s) (after (λ v t. write r p v t (give v))))
 
 -- after the target of an assignment
 abbrev pub assign_target : AssignOp → Expr → Place → Completion → State → Plan
@@ -256,7 +216,7 @@ choose b c p o s = on_value o s (λ v. if is_true v then Do (Eval b p) s Ret els
 -- a prefix operator: `delete` takes a target, the others a value
 abbrev pub prefix_form : UnOp → Expr → Place → State → Plan
 prefix_form un.Delete e p s = Do (Target e p) s delete_target
-prefix_form op e p s = Do (Eval e p) s (unary_operand op p)
+prefix_form op e p s = Do (Eval e p) s (after (λ v t. unary_on op v p t))
 
 -- what each expression does
 abbrev pub expression : ExprForm → Place → State → Plan
@@ -267,7 +227,7 @@ expression (tree.Constant w) p s = give (word_value w) s
 expression (tree.Array es) p s = make (new_array 0 []) 0 s (λ a t. array_parts a 0 (expr_list es) p t)
 expression (tree.Object qs) p s = make (plain_object []) 0 s (λ a t. object_parts a (property_list qs) p t)
 expression (tree.Function f) p s = make (new_function f p.scope) 0 s (λ v t. give v t)
-expression (tree.Dot e x) p s = Do (Eval e p) s (dot_read x)
+expression (tree.Dot e x) p s = Do (Eval e p) s (after (λ b t. read b x t))
 expression (tree.Sub e i) p s = Do (Eval e p) s (subscript_read i p)
 expression (tree.Call e es) p s = Do (Target e p) s (callee (expr_list es) p)
 expression (tree.Step op e) p s = Do (Target e p) s (step_target op p)
@@ -284,6 +244,6 @@ expression (tree.Comma a b) p s = give Undefined s
 -- what each target does
 abbrev pub target : ExprForm → Place → State → Plan
 target (tree.Name x) p s = Ret (Refers (Variable x)) s
-target (tree.Dot e x) p s = Do (Eval e p) s (dot_target x)
+target (tree.Dot e x) p s = Do (Eval e p) s (after (λ b t. refer b x t))
 target (tree.Sub e i) p s = Do (Eval e p) s (subscript_target i p)
-target form p s = and_then (expression form p s) value_target
+target form p s = and_then (expression form p s) (after (λ v t. Ret (Refers (Found v)) t))

@@ -12,10 +12,6 @@ use Rattle.widget_meaning.specs.Scopes.{assign}
 use Rattle.widget_meaning.specs.Calls.{statements, stmt_list}
 use Rattle.widget_meaning.specs.Expressions.{expr_list}
 
--- an expression for what it does
-abbrev pub discard : Completion → State → Plan
-discard o s = on_value o s (λ v. Ret Normal s)
-
 -- the declarations of a list, before those that follow
 abbrev pub decls_onto : Decls → List (List ℕ × OptionalExpr) → List (List ℕ × OptionalExpr)
 decls_onto tree.NoDecls after = after
@@ -25,14 +21,10 @@ decls_onto (tree.AndDecl ds x at e) after = decls_onto ds ((x, e) ∷ after)
 abbrev pub decl_list : Decls → List (List ℕ × OptionalExpr)
 decl_list ds = decls_onto ds []
 
--- after a first value: the variable is set
-abbrev pub declare_as : List ℕ → Place → (State → Plan) → Completion → State → Plan
-declare_as x p k o s = on_value o s (λ v. k (assign s p x v))
-
 -- one declaration, and what is done then
 abbrev pub declaration : OptionalExpr → List ℕ → Place → State → (State → Plan) → Plan
 declaration tree.NoExpr x p s k = k s
-declaration (tree.SomeExpr e) x p s k = Do (Eval e p) s (declare_as x p k)
+declaration (tree.SomeExpr e) x p s k = Do (Eval e p) s (after (λ v t. k (assign t p x v)))
 
 -- declarations one after the other: those with a first value get it
 abbrev pub declarations : List (List ℕ × OptionalExpr) → Place → State → Plan
@@ -105,18 +97,10 @@ pass (DoLoop b e) p s = and_then (statements b p s) (do_next b e p)
 pass (ForLoop test next b) p s = and_then (statements b p s) (for_next test next b p)
 pass (ForInLoop v x y ys b) p s = and_then (statements b p (assign s p x (Text y))) (for_in_next v x ys b p)
 
--- after the value of a `return`
-abbrev pub to_return : Completion → State → Plan
-to_return o s = on_value o s (λ v. Ret (Return v) s)
-
 -- `return`, with or without a value
 abbrev pub return_form : OptionalExpr → Place → State → Plan
 return_form tree.NoExpr p s = Ret (Return Undefined) s
-return_form (tree.SomeExpr e) p s = Do (Eval e p) s to_return
-
--- after the value of a `throw`
-abbrev pub to_throw : Completion → State → Plan
-to_throw o s = on_value o s (λ v. Ret (Throw v) s)
+return_form (tree.SomeExpr e) p s = Do (Eval e p) s (after (λ v t. Ret (Return v) t))
 
 -- a clause of a `switch`: its test, if any, and its statements
 abbrev pub Case : Type 0
@@ -185,7 +169,7 @@ finally (tree.SomeBlock b) p o s = and_then (statements (stmt_list b) p s) (last
 -- each form
 abbrev pub statement : StmtForm → Place → State → Plan
 statement (tree.Var ds) p s = declarations (decl_list ds) p s
-statement (tree.Only e) p s = Do (Eval e p) s discard
+statement (tree.Only e) p s = Do (Eval e p) s (after (λ v t. Ret Normal t))
 statement (tree.If e a b) p s = Do (Eval e p) s (branch a b p)
 statement (tree.While e b) p s = Do (Eval e p) s (loop_test (WhileLoop e (stmt_list b)) p)
 statement (tree.DoWhile e b) p s = Do (Pass (DoLoop (stmt_list b) e) p) s Ret
@@ -194,7 +178,7 @@ statement (tree.ForIn is_declared x e b) p s = Do (Eval e p) s (for_in_over x (s
 statement (tree.Continue x) p s = Ret Continue s
 statement (tree.Break x) p s = Ret Break s
 statement (tree.Return e) p s = return_form e p s
-statement (tree.Throw e) p s = Do (Eval e p) s to_throw
+statement (tree.Throw e) p s = Do (Eval e p) s (after (λ v t. Ret (Throw v) t))
 statement (tree.Switch e cs) p s = Do (Eval e p) s (switch_on (clauses_onto cs []) p)
 statement (tree.Try a c b) p s = and_then (and_then (statements (stmt_list a) p s) (caught c p)) (finally b p)
 -- no accepted tree has the others
