@@ -12,7 +12,7 @@ use Rattle.widget_meaning.specs.Costs.{pay, make, throw, give, scope_cost}
 use Rattle.widget_meaning.specs.Properties.{get, is_function}
 use Rattle.widget_meaning.specs.Scopes.{fun_name, without_name, funs_list, set_pair, call_scope}
 
--- the statements of a block in order
+-- the statements of a block in order, before those that follow
 abbrev pub stmts_onto : Stmts → List Stmt → List Stmt
 stmts_onto tree.NoStmts after = after
 stmts_onto (tree.AndStmt ss s) after = stmts_onto ss (s ∷ after)

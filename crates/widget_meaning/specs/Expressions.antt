@@ -24,7 +24,7 @@ use Rattle.widget_meaning.specs.Properties.{get, read, put, delete, index_name, 
 use Rattle.widget_meaning.specs.Scopes.{variable, assign}
 use Rattle.widget_meaning.specs.Calls.{invoke, to_primitive}
 
--- the parts of a list, in order
+-- the expressions of a list in order, before those that follow
 abbrev pub exprs_onto : Exprs → List Expr → List Expr
 exprs_onto tree.NoExprs after = after
 exprs_onto (tree.AndExpr es e) after = exprs_onto es (e ∷ after)
@@ -42,7 +42,7 @@ properties_onto (tree.AndProperty ps x e) after = properties_onto ps ((x, e) ∷
 abbrev pub property_list : Properties → List (List ℕ × Expr)
 property_list ps = properties_onto ps []
 
--- literals
+-- the value of a number literal
 abbrev pub literal : WholeRead → Value
 literal (read_as.Whole z) = Num z
 literal read_as.NotNumber = NaN
@@ -56,7 +56,9 @@ word_value word.False = Truth false
 -- no accepted tree has `this`
 word_value word.This = Undefined
 
--- an array and an object are born before their parts; each part is written as soon as it has its value
+-- ## Arrays and objects: born before their parts, of which each is written as soon as it has its value
+
+-- the elements of an array literal from an index on
 abbrev pub array_parts : Value → ℕ → List Expr → Place → State → Plan
 array_parts a i [] p s = give a s
 array_parts a i (e ∷ es) p s = Do (Eval e p) s (after (λ v t. put a (index_name i) v t (array_parts a (i + 1) es p)))
@@ -66,11 +68,13 @@ abbrev pub object_parts : Value → List (List ℕ × Expr) → Place → State 
 object_parts a [] p s = give a s
 object_parts a (q ∷ qs) p s = Do (Eval q.1 p) s (after (λ v t. put a q.0 v t (object_parts a qs p)))
 
--- after a base: its subscript
+-- ## Properties and targets
+
+-- after a base: its subscript, and then the read
 abbrev pub subscript_read : Expr → Place → Completion → State → Plan
 subscript_read i p o s = on_value o s (λ b. Do (Eval i p) s (after (λ v t. read b (to_text v) t)))
 
--- a property as a target: its base is not undefined or null
+-- a property as a target; undefined and null have none
 abbrev pub refer : Value → List ℕ → State → Plan
 refer b x s = if is_nothing b then throw E1 s else Ret (Refers (Property b x)) s
 
@@ -78,7 +82,7 @@ refer b x s = if is_nothing b then throw E1 s else Ret (Refers (Property b x)) s
 abbrev pub subscript_target : Expr → Place → Completion → State → Plan
 subscript_target i p o s = on_value o s (λ b. Do (Eval i p) s (after (λ v t. refer b (to_text v) t)))
 
--- what a reference has, its base, and a write to it
+-- what a reference has
 abbrev pub referred : Reference → Place → State → Value
 referred (Variable x) p s = variable s p x
 referred (Property b x) p s = get s b x
@@ -96,7 +100,9 @@ write (Variable x) p v s k = k (assign s p x v)
 write (Property b x) p v s k = put b x v s k
 write (Found w) p v s k = k s
 
--- a call: the target, the arguments, and then the function is read. A plain call passes no receiver
+-- ## Calls
+
+-- the arguments from left to right, behind those that are there; then the function is read and called. A plain call passes no receiver
 abbrev pub arguments_then : Reference → List Value → List Expr → Place → State → Plan
 arguments_then r vs [] p s = invoke (referred r p s) (base_of r) vs p.depth s
 arguments_then r vs (e ∷ es) p s = Do (Eval e p) s (after (λ v t. arguments_then r (vs ++ v ∷ []) es p t))
@@ -105,6 +111,8 @@ arguments_then r vs (e ∷ es) p s = Do (Eval e p) s (after (λ v t. arguments_t
 abbrev pub callee : List Expr → Place → Completion → State → Plan
 callee es p o s = on_reference o s (λ r. arguments_then r [] es p s)
 
+-- ## Operators
+
 -- what an operator gives: a joined text costs its units
 abbrev pub result : OpOut → State → Plan
 result (Gives (Text t)) s = make_text t s (give (Text t))
@@ -112,7 +120,7 @@ result (Gives v) s = give v s
 result Leaves s = Halt Number s
 result TooLong s = Halt LongText s
 
--- an operator on two values: objects are converted, left before right, but for `===` and `!==`
+-- whether an operator converts objects: `===` and `!==` do not
 abbrev pub converts : BinOp → Bool
 converts bin.Same = false
 converts bin.NotSame = false
@@ -122,7 +130,7 @@ converts _ = true
 abbrev pub converted_left : BinOp → Value → ℕ → Completion → State → Plan
 converted_left op w d o s = on_value o s (λ v. and_then (to_primitive w d s) (after (λ w t. result (binary op v w) t)))
 
--- an operator on two values, by a caller at this depth
+-- an operator on two values, by a caller at this depth: objects are converted, left before right
 abbrev pub operate : BinOp → Value → Value → ℕ → State → Plan
 operate op v w d s =
     if converts op
@@ -149,7 +157,9 @@ delete_at (Found v) s = give (Truth true) s
 abbrev pub delete_target : Completion → State → Plan
 delete_target o s = on_reference o s (λ r. delete_at r s)
 
--- a step: the number before and the number after are written and given
+-- ## Steps and assignments
+
+-- the number after a step
 abbrev pub stepped : StepOp → ℤ → OpOut
 stepped step.PreInc z = number (z +ℤ pos 1)
 stepped step.PostInc z = number (z +ℤ pos 1)
@@ -163,7 +173,7 @@ is_post step.PostDec = true
 is_post step.PreInc = false
 is_post step.PreDec = false
 
--- the new number is written, and the one before or after is given
+-- the new number is written, and the one before or after it is given
 abbrev pub step_write : OpOut → StepOp → Value → Reference → Place → State → Plan
 step_write (Gives w) op v r p s = write r p w s (give (if is_post op then v else w))
 step_write Leaves op v r p s = Halt Number s
@@ -201,7 +211,9 @@ assign_with op r v p o s = on_value o s (λ w. and_then (compound op v w p.depth
 abbrev pub assign_target : AssignOp → Expr → Place → Completion → State → Plan
 assign_target op e p o s = on_reference o s (λ r. Do (Eval e p) s (assign_with op r (referred r p s) p))
 
--- `&&`, `||` and `? :` choose by the truth of their first part
+-- ## Choices by the truth of a first part
+
+-- after the left of `&&`
 abbrev pub and_right : Expr → Place → Completion → State → Plan
 and_right b p o s = on_value o s (λ v. if is_true v then Do (Eval b p) s Ret else give v s)
 
@@ -212,6 +224,8 @@ or_right b p o s = on_value o s (λ v. if is_true v then give v s else Do (Eval 
 -- after the condition of `? :`
 abbrev pub choose : Expr → Expr → Place → Completion → State → Plan
 choose b c p o s = on_value o s (λ v. if is_true v then Do (Eval b p) s Ret else Do (Eval c p) s Ret)
+
+-- ## The forms
 
 -- a prefix operator: `delete` takes a target, the others a value
 abbrev pub prefix_form : UnOp → Expr → Place → State → Plan

@@ -63,7 +63,7 @@ fun_name (tree.FunAt at names name params body funs) = option_to_list name
 abbrev pub without_name : Fun → Fun
 without_name (tree.FunAt at names name params body funs) = tree.FunAt at names None params body funs
 
--- declared functions in order of the text
+-- declared functions in order of the text, before those that follow
 abbrev pub funs_list : Funs → List Fun → List Fun
 funs_list tree.NoFuns fs = fs
 funs_list (tree.AndFun gs g) fs = funs_list gs (g ∷ fs)

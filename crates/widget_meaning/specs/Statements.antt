@@ -36,7 +36,7 @@ abbrev pub expressions : List Expr → Place → State → Plan
 expressions [] p s = Ret Normal s
 expressions (e ∷ es) p s = Do (Eval e p) s (after (λ v t. expressions es p t))
 
--- `if`
+-- after the condition of an `if`
 abbrev pub branch : Stmts → Stmts → Place → Completion → State → Plan
 branch a b p o s = on_value o s (λ v. if is_true v then statements (stmt_list a) p s else statements (stmt_list b) p s)
 
@@ -64,7 +64,7 @@ abbrev pub for_test : OptionalExpr → List Expr → List Stmt → Place → Sta
 for_test tree.NoExpr next b p s = Do (Pass (ForLoop tree.NoExpr next b) p) s Ret
 for_test (tree.SomeExpr e) next b p s = Do (Eval e p) s (loop_test (ForLoop (tree.SomeExpr e) next b) p)
 
--- after the first part of a `for`, and after its last
+-- after the first part of a `for`, and after its last: the test
 abbrev pub for_again : OptionalExpr → List Expr → List Stmt → Place → Completion → State → Plan
 for_again test next b p o s = on_normal o s (for_test test next b p s)
 
