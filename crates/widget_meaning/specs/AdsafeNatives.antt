@@ -3,12 +3,12 @@ use Rattle.std.specs.Prelude.{ℕ, zero, suc, ℤ, pos, negsuc, ◌+◌, max, Bo
 use Rattle.code_units.specs.Permitted.{is_permitted}
 use Rattle.widget_meaning.specs.Limits.{max_chain, max_timers, max_post, max_posts}
 use Rattle.widget_meaning.specs.NativeNames.{AdsafeNative, Create, FromJson, GetProperty, HasProperty, IsArray, KeysOf, Later, LogValue, Post, RemoveProperty, SetProperty, ToJson}
-use Rattle.widget_meaning.specs.Values.{Value, Undefined, Truth, Num, Text, Own, E4, E8, E11, E12, is_object, to_text}
+use Rattle.widget_meaning.specs.Values.{Value, Undefined, Truth, Num, Text, Own, E4, E8, E11, E12, is_object, to_text, nth}
 use Rattle.widget_meaning.specs.OwnState.{State, Kind, Object, Array, new_object, with_own, kind_of, array_length}
 use Rattle.widget_meaning.specs.Plan.{Plan, charge}
 use Rattle.widget_meaning.specs.Costs.{pay, units_cost, make, throw, give}
 use Rattle.widget_meaning.specs.Properties.{get, put, delete, keys, own_property, prototype}
-use Rattle.widget_meaning.specs.NativeForms.{nth, want_primitives, want_function, give_texts}
+use Rattle.widget_meaning.specs.NativeForms.{want_primitives, want_function, give_texts}
 use Rattle.widget_meaning.specs.JsonValues.{from_json}
 use Rattle.widget_meaning.specs.JsonTexts.{to_json}
 

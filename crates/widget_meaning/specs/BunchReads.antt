@@ -2,12 +2,12 @@
 use Rattle.std.specs.Prelude.{ℕ, pos, ◌+◌, ◌*◌, List, [], ◌∷◌, length, map, Bool, true, false, not, ◌&&◌, if◌then◌else◌, codes, Option, Some, None, is_some, unwrap_or}
 use Rattle.std.specs.List.{filter, sum_by, range_with_len, fold, filter_map}
 use Rattle.widget_meaning.specs.NativeNames.{ReadNative, Query, GetValue, GetValues, GetStyle, GetClass, GetTitle, GetCheck, Explode, Count, GetParent, GetTagName, GetMark}
-use Rattle.widget_meaning.specs.Values.{Value, Undefined, Truth, Num, Text, Own, E9, to_text}
+use Rattle.widget_meaning.specs.Values.{Value, Undefined, Truth, Num, Text, Own, E9, to_text, nth}
 use Rattle.widget_meaning.specs.Trees.{parent, subtree}
 use Rattle.widget_meaning.specs.OwnState.{State, notes_at, new_array, new_bunch, with_new_cell}
 use Rattle.widget_meaning.specs.Plan.{Plan, charge}
 use Rattle.widget_meaning.specs.Costs.{pay, cost, make_text, throw, give}
-use Rattle.widget_meaning.specs.NativeForms.{nth, want_primitives, on_bunch, make_bunch, give_texts, numbered_pairs}
+use Rattle.widget_meaning.specs.NativeForms.{want_primitives, on_bunch, make_bunch, give_texts, numbered_pairs}
 use Rattle.style_text.specs.Styles.{is_listed}
 use Rattle.widget_meaning.specs.Styles.{style_pairs, style_value}
 use Rattle.widget_meaning.specs.PageForms.{want, want_all, attribute, texts_of, tag_of, is_input, is_text_node, once, next_node}
@@ -90,13 +90,9 @@ explode ns s = charge (length ns) s (pay (cost 0 (length ns + 1) (3 * length ns)
 abbrev pub has_open_parent : State → ℕ → Bool
 has_open_parent s n = is_some (parent n s.own.forest) && not (notes_at s n).is_protected
 
--- the parents of nodes, without repeats
-abbrev pub parents : State → List ℕ → List ℕ
-parents s ns = once [] (filter_map (λ n. parent n s.own.forest) ns)
-
 -- `getParent()`: the parents, first seen first; E10 where a node is protected or has no parent
 abbrev pub get_parent : List ℕ → State → Plan
-get_parent ns s = want_all (has_open_parent s) ns s (charge (length ns) s (make_bunch (parents s ns) s give))
+get_parent ns s = want_all (has_open_parent s) ns s (charge (length ns) s (make_bunch (once [] (filter_map (λ n. parent n s.own.forest) ns)) s give))
 
 -- `getTagName()`: the first node's tag, or `#text`
 abbrev pub get_tag_name : List ℕ → State → Plan

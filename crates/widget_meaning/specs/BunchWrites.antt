@@ -5,14 +5,14 @@ use Rattle.std.specs.Str.{bytes_eq}
 use Rattle.std.specs.Option.{option_map_or}
 use Rattle.widget_meaning.specs.Limits.{max_node_depth}
 use Rattle.widget_meaning.specs.NativeNames.{WriteNative, Append, Remove, Empty, Replace, SetValue, SetStyle, SetClass, SetTitle, SetCheck, SetEnabled, Focus, Blur, On, Off, Fire, Each, SetMark, Protect}
-use Rattle.widget_meaning.specs.Values.{Value, Undefined, Own, E10, is_true, to_text}
+use Rattle.widget_meaning.specs.Values.{Value, Undefined, Own, E10, is_true, to_text, nth}
 use Rattle.plain_tree.specs.Trees.{End, Node, Label, TextOf, height, size}
 use Rattle.tree_ops.specs.Labels.{with_attribute, attribute_of}
 use Rattle.widget_meaning.specs.Trees.{Trees, label_of, parent, children, tops, has, numbered, grafted, subtree, subtrees, detached, moved, depth_of, copied}
 use Rattle.widget_meaning.specs.OwnState.{State, Notes, notes_at, with_own, with_forest, with_notes}
 use Rattle.widget_meaning.specs.Plan.{Plan, Do, Call, charge, and_then, after}
 use Rattle.widget_meaning.specs.Costs.{pay, cost, slots_cost, give, or_throw}
-use Rattle.widget_meaning.specs.NativeForms.{nth, want_primitives, want_function, on_bunch}
+use Rattle.widget_meaning.specs.NativeForms.{want_primitives, want_function, on_bunch}
 use Rattle.widget_meaning.specs.Dispatch.{dispatch}
 use Rattle.style_text.specs.Styles.{is_listed, is_value, print_style}
 use Rattle.widget_meaning.specs.PageForms.{root, want, want_all, want_one, want_bunch, is_void, is_input, is_field, is_text_node, is_element, is_tag, tree_units, next_node, with_room, with_label, is_plain_words, is_event_type, has_number, want_place}

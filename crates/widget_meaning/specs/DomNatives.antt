@@ -3,12 +3,12 @@ use Rattle.std.specs.Prelude.{ℕ, List, [], ◌∷◌, length, ◌&&◌, codes,
 use Rattle.std.specs.List.{list_any, list_all}
 use Rattle.std.specs.Str.{bytes_eq}
 use Rattle.widget_meaning.specs.NativeNames.{DomNative, DomQuery, DomAppend, DomTag, DomText}
-use Rattle.widget_meaning.specs.Values.{Value, Undefined, Own, to_text}
+use Rattle.widget_meaning.specs.Values.{Value, Undefined, Own, to_text, nth}
 use Rattle.plain_tree.specs.Trees.{Label, TextOf, ElementOf, size}
 use Rattle.widget_meaning.specs.OwnState.{State, new_bunch, with_new_cell}
 use Rattle.widget_meaning.specs.Plan.{Plan, charge}
 use Rattle.widget_meaning.specs.Costs.{pay, cost, give}
-use Rattle.widget_meaning.specs.NativeForms.{nth, want_primitives}
+use Rattle.widget_meaning.specs.NativeForms.{want_primitives}
 use Rattle.widget_meaning.specs.Trees.{subtrees}
 use Rattle.widget_meaning.specs.PageForms.{root, want, want_all, want_bunch, with_node, next_node, is_plain_words, listed_tags}
 use Rattle.widget_meaning.specs.BunchReads.{query}

@@ -9,14 +9,14 @@ use Rattle.code_units.specs.declared.whole.WholeRead.{WholeRead}
 use Rattle.code_units.specs.declared.whole.WholeRead.TheVariants as read
 use Rattle.code_units.specs.Whole.{is_x, trimmed_start}
 use Rattle.widget_meaning.specs.NativeNames.{GlobalNative, BooleanOf, NumberOf, StringOf, IsNaN, IsFinite, ParseInt, FromCharCode}
-use Rattle.widget_meaning.specs.Values.{Value, Truth, NaN, Num, Text, Number, is_object, is_true, to_text, to_number}
+use Rattle.widget_meaning.specs.Values.{Value, Truth, NaN, Num, Text, Number, is_object, is_true, to_text, to_number, nth}
 use Rattle.widget_meaning.specs.Operators.{OpOut, Gives, Leaves, number, truth, as_number}
 use Rattle.widget_meaning.specs.OwnState.{State}
 use Rattle.widget_meaning.specs.Plan.{Plan, Halt, and_then, charge, after}
 use Rattle.widget_meaning.specs.Costs.{give}
 use Rattle.widget_meaning.specs.Calls.{to_primitive}
 use Rattle.widget_meaning.specs.Expressions.{result}
-use Rattle.widget_meaning.specs.NativeForms.{nth, want_primitives, with_number, give_text}
+use Rattle.widget_meaning.specs.NativeForms.{want_primitives, with_number, give_text}
 
 -- the units that are read of an argument
 abbrev pub units_read : Value → ℕ

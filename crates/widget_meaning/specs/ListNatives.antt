@@ -2,11 +2,11 @@
 use Rattle.std.specs.Prelude.{ℕ, pos, ◌+◌, List, [], ◌∷◌, ◌++◌, map, zip, slice_range, codes, Option, None}
 use Rattle.std.specs.List.{filter, flat_map, join_by}
 use Rattle.widget_meaning.specs.NativeNames.{ListNative, ListConcat, Join, Pop, Push, Shift, Unshift, Reverse, Sort, ListSlice, Splice, ForEach, MapNative, FilterNative}
-use Rattle.widget_meaning.specs.Values.{Value, Undefined, Null, Num, is_true, to_text, to_number}
+use Rattle.widget_meaning.specs.Values.{Value, Undefined, Null, Num, is_true, to_text, to_number, nth}
 use Rattle.widget_meaning.specs.OwnState.{State}
 use Rattle.widget_meaning.specs.Plan.{Plan, Do, Call, charge, after}
 use Rattle.widget_meaning.specs.Costs.{give}
-use Rattle.widget_meaning.specs.NativeForms.{nth, want_primitives, want_function, on_array, elements, make_array, with_number, with_optional, from_end, give_text}
+use Rattle.widget_meaning.specs.NativeForms.{want_primitives, want_function, on_array, elements, make_array, with_number, with_optional, from_end, give_text}
 use Rattle.widget_meaning.specs.ListChanges.{list_extra, array_elements, pop, push, shift, unshift, reverse, sort, splice}
 
 -- `concat(a, ...)`: the elements, then each argument, arrays by their elements

@@ -1,5 +1,5 @@
 -- What natives have in common: arguments, receivers, the extra charge, and what is made.
-use Rattle.std.specs.Prelude.{ℕ, ℤ, pos, negsuc, ◌+◌, ◌-◌, min, Bool, List, [], ◌∷◌, length, drop, map, sum_by, nat_lt, if◌then◌else◌, Option, Some, unwrap_or, option_and_then}
+use Rattle.std.specs.Prelude.{ℕ, ℤ, pos, negsuc, ◌+◌, ◌-◌, min, Bool, List, [], ◌∷◌, length, map, sum_by, nat_lt, if◌then◌else◌, Option, Some, unwrap_or, option_and_then}
 use Rattle.std.specs.List.{list_any, range_with_len}
 use Rattle.code_units.specs.declared.whole.WholeRead.{WholeRead}
 use Rattle.code_units.specs.declared.whole.WholeRead.TheVariants as read
@@ -9,11 +9,6 @@ use Rattle.widget_meaning.specs.OwnState.{State, Pairs, lookup, cell_at, new_arr
 use Rattle.widget_meaning.specs.Plan.{Plan, Halt, charge}
 use Rattle.widget_meaning.specs.Costs.{pay, cost, make, make_text, throw, give, or_throw}
 use Rattle.widget_meaning.specs.Properties.{index_name, is_own_function}
-use Rattle.widget_meaning.specs.Scopes.{first_value}
-
--- the argument at a place, from 0; an absent one is undefined
-abbrev pub nth : ℕ → List Value → Value
-nth n vs = first_value (drop n vs)
 
 -- where a row wants primitives, an object throws E4
 abbrev pub want_primitives : List Value → State → Plan → Plan

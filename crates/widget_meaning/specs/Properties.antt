@@ -4,6 +4,7 @@ use Rattle.std.specs.List.{filter, list_any}
 use Rattle.std.specs.Fmt.{decimal}
 use Rattle.std.specs.Str.{bytes_eq}
 use Rattle.std.specs.Str.Parse.{digits_value}
+use Rattle.std.specs.Option.{option_map_or}
 use Rattle.code_units.specs.Whole.{is_numeral}
 use Rattle.code_units.specs.Permitted.{is_permitted}
 use Rattle.widget_meaning.specs.Limits.{max_chain, max_length}
@@ -83,40 +84,31 @@ read Undefined x s = throw E1 s
 read Null x s = throw E1 s
 read v x s = give (get s v x) s
 
--- an object of the widget with other pairs
-abbrev pub with_pairs : Cell → Pairs → Cell
-with_pairs c ps = record c { pairs = ps }
-
--- an array with another length
-abbrev pub with_length : Cell → ℕ → Cell
-with_length c n = record c { kind = Array n }
-
 -- a write of a name: one that is kept keeps its place, a new one costs a slot
 abbrev pub put_pair : Cell → ℕ → List ℕ → Value → State → (State → Plan) → Plan
 put_pair c n x v s k =
     if is_some (lookup c.pairs x)
-    then k (with_cell s n (with_pairs c (replaced c.pairs x v)))
-    else pay (slots_cost 1) s (λ t. k (with_cell t n (with_pairs c (c.pairs ++ (x, v) ∷ []))))
+    then k (with_cell s n (record c { pairs = replaced c.pairs x v }))
+    else pay (slots_cost 1) s (λ t. k (with_cell t n (record c { pairs = c.pairs ++ (x, v) ∷ [] })))
 
 -- a write of an index at or past the length raises it
 abbrev pub put_index : Option ℕ → Cell → ℕ → ℕ → List ℕ → Value → State → (State → Plan) → Plan
 put_index None c len n x v s k = put_pair c n x v s k
-put_index (Some i) c len n x v s k = put_pair (with_length c (max len (i + 1))) n x v s k
+put_index (Some i) c len n x v s k = put_pair (record c { kind = Array (max len (i + 1)) }) n x v s k
 
--- whether a name is no index at or past a length
-abbrev pub is_below : ℕ → Option ℕ → Bool
-is_below len None = true
-is_below len (Some i) = nat_lt i len
+-- whether a name is an index below a length; for a name that is no index, this
+abbrev pub is_below : ℕ → Bool → List ℕ → Bool
+is_below len other x = option_map_or (λ i. nat_lt i len) (index_of x) other
 
--- the pairs without elements at or past a length, as a smaller length leaves them
-abbrev pub kept_below : ℕ → Pairs → Pairs
-kept_below len ps = filter (λ p. is_below len (index_of p.0)) ps
+-- an array cut to a length: without elements at or past it
+abbrev pub cut_to : Cell → ℕ → Cell
+cut_to c len = record c { kind = Array len; pairs = filter (λ p. is_below len true p.0) c.pairs }
 
 -- a write of an array's `length`: a whole number up to the largest
 abbrev pub put_length : Value → Cell → ℕ → State → (State → Plan) → Plan
 put_length (Num (pos len)) c n s k =
     if nat_le len max_length
-    then k (with_cell s n (with_length (with_pairs c (kept_below len c.pairs)) len))
+    then k (with_cell s n (cut_to c len))
     else throw E7 s
 put_length v c n s k = throw E7 s
 
@@ -134,7 +126,7 @@ put o x v s k = k s
 
 -- a pair is taken out, and what is done then
 abbrev pub delete_pair : Cell → ℕ → List ℕ → State → (Bool → State → Plan) → Plan
-delete_pair c n x s k = k true (with_cell s n (with_pairs c (taken_out c.pairs x)))
+delete_pair c n x s k = k true (with_cell s n (record c { pairs = taken_out c.pairs x }))
 
 -- a property of an object of the widget is taken out, and what is done with whether it could be; an array keeps its `length`
 abbrev pub delete_own : Kind → Cell → ℕ → List ℕ → State → (Bool → State → Plan) → Plan

@@ -5,7 +5,7 @@ use Rattle.std.specs.Str.{bytes_eq}
 use Rattle.std.specs.Option.{option_or}
 use Rattle.js_tree.specs.Plain as tree
 use Rattle.js_tree.specs.Plain.{Stmt, StmtForm, Stmts, Decls, ForInit, OptionalBlock, Catch, Clauses, Fun, Funs}
-use Rattle.widget_meaning.specs.Values.{Value, Undefined}
+use Rattle.widget_meaning.specs.Values.{Value, Undefined, nth}
 use Rattle.widget_meaning.specs.OwnState.{State, Scope, lookup, replaced, scope_at, with_scope}
 use Rattle.widget_meaning.specs.Plan.{Place}
 use Rattle.widget_meaning.specs.Properties.{listed, or_else}
@@ -77,15 +77,10 @@ abbrev pub distinct : List (List ℕ) → List (List ℕ) → List (List ℕ)
 distinct seen [] = seen
 distinct seen (x ∷ xs) = distinct (listed seen (x ∷ [])) xs
 
--- the first argument left, undefined where none is
-abbrev pub first_value : List Value → Value
-first_value [] = Undefined
-first_value (v ∷ vs) = v
-
 -- the argument of a parameter: a repeated one has the last
 abbrev pub argument : List (List ℕ) → List Value → List ℕ → Option Value
 argument [] vs x = None
-argument (p ∷ ps) vs x = option_or (argument ps (drop 1 vs) x) (if bytes_eq p x then Some (first_value vs) else None)
+argument (p ∷ ps) vs x = option_or (argument ps (drop 1 vs) x) (if bytes_eq p x then Some (nth 0 vs) else None)
 
 -- the first value of a name in a call's scope: an argument; the function itself under its own name where that is no other name; else undefined
 abbrev pub first_of_name : Fun → Value → List Value → List ℕ → Value
