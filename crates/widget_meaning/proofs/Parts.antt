@@ -13,10 +13,10 @@ use Rattle.widget_meaning.specs.Plan.{Plan, Place, Ret, Halt, Do, Eval, Target, 
 use Rattle.widget_meaning.specs.Costs.{make, give, throw, within, sum, object_cost, with_counts, scope_cost}
 use Rattle.widget_meaning.specs.Operators.{binary, same, unary}
 use Rattle.widget_meaning.specs.Properties.{property, names_of, put, index_name, read}
-use Rattle.widget_meaning.specs.Scopes.{assign, fun_name, funs_list, without_name, call_scope}
+use Rattle.widget_meaning.specs.Scopes.{assign, fun_name, fun_list, without_name, call_scope}
 use Rattle.widget_meaning.specs.Calls.{statements, stmt_list, without_directive, with_variable, declare, call_end, enter, enter_scope, invoke, to_primitive, primitive_result}
 use Rattle.widget_meaning.specs.Expressions.{expr_list, property_list, array_parts, object_parts, subscript_read, subscript_target, expression, target, callee, binary_right, delete_target, step_target, step_converted, assign_target, assign_with, compound, referred, and_right, or_right, choose, converts, converted_left, result, arguments_then, operate, refer, unary_on, write}
-use Rattle.widget_meaning.specs.Statements.{decl_list, declarations, expressions, branch, loop_test, loop_end, while_next, do_next, for_init, for_again, for_next, for_in, for_in_next, for_in_over, clauses_onto, bodies, choose_case, switch_on, switch_end, in_catch, caught, finally, last_end, case_tested}
+use Rattle.widget_meaning.specs.Statements.{decl_list, declarations, expressions, branch, loop_test, loop_end, while_next, do_next, for_init, for_again, for_next, for_in, for_in_next, for_in_over, clause_list, bodies, choose_case, switch_on, switch_end, in_catch, caught, finally, last_end, case_tested}
 use Rattle.widget_meaning.specs.Natives.{run_native}
 use Rattle.widget_meaning.specs.Dispatch.{heard, dispatch_end, dispatch, handlers}
 use Rattle.widget_meaning.specs.Meaning.{run_plan}
@@ -119,7 +119,7 @@ declare_then (f ∷ fs) i s k =
 entered : (f : Fun) (outer : Option ℕ) (v : Value) (vs : List Value) (d : ℕ) (s : State) → enter_scope f outer v vs d s ≡ and_then (and_then (new_scope f outer v vs s) (declared f (length s.own.scopes))) (body_in f (record { scope = Some (length s.own.scopes); depth = d }))
 entered (tree.FunAt at names name params body funs) outer v vs d s =
     let f : Fun = tree.FunAt at names name params body funs in
-    let fs : List Fun = funs_list funs [] in
+    let fs : List Fun = fun_list funs in
     let c : Scope = call_scope f outer v vs in
     let a : Amounts = sum s.own.counts (scope_cost c) in
     let i : ℕ = length s.own.scopes in
@@ -235,7 +235,7 @@ statement_laws at names p s g = record {
   return_nothing = refl;
   return = λ e. first g (Exec (tree.StmtAt at names (tree.Return (tree.SomeExpr e))) p) (Eval e p) s (after (λ v t. Ret (Return v) t)) refl;
   throw = λ e. first g (Exec (tree.StmtAt at names (tree.Throw e)) p) (Eval e p) s (after (λ v t. Ret (Throw v) t)) refl;
-  switch = λ e cs. first g (Exec (tree.StmtAt at names (tree.Switch e cs)) p) (Eval e p) s (switch_on (clauses_onto cs []) p) refl;
+  switch = λ e cs. first g (Exec (tree.StmtAt at names (tree.Switch e cs)) p) (Eval e p) s (switch_on (clause_list cs) p) refl;
   switch_cases = λ v cs. run_and_then g (choose_case v cs cs p s) switch_end;
   case = λ v all e b cs. part g (Eval e p) s (case_tested v all b cs p);
   case_same = λ v w all b cs. chosen (same v w) g (statements (b ++ bodies cs) p s) (choose_case v all cs p s);

@@ -1,5 +1,5 @@
 -- Calls, the conversion of objects to primitives, and statements in a row.
-use Rattle.std.specs.Prelude.{ℕ, suc, List, [], ◌∷◌, length, nat_lt, if◌then◌else◌, codes, Bool, true, false, Option, Some}
+use Rattle.std.specs.Prelude.{ℕ, suc, List, [], ◌∷◌, length, nat_lt, if◌then◌else◌, codes, Bool, true, false, Option, Some, ◌++◌}
 use Rattle.std.specs.Str.{bytes_eq}
 use Rattle.js_tree.specs.Plain as tree
 use Rattle.js_tree.specs.Plain.{Stmt, Stmts, Fun}
@@ -10,16 +10,12 @@ use Rattle.widget_meaning.specs.OwnState.{State, Kind, Function, cell_at, scope_
 use Rattle.widget_meaning.specs.Plan.{Place, Plan, Ret, Halt, Do, Exec, Call, RunNative, and_then, on_value, on_normal}
 use Rattle.widget_meaning.specs.Costs.{pay, make, throw, give, scope_cost}
 use Rattle.widget_meaning.specs.Properties.{get, is_function}
-use Rattle.widget_meaning.specs.Scopes.{fun_name, without_name, funs_list, set_pair, call_scope}
+use Rattle.widget_meaning.specs.Scopes.{fun_name, without_name, fun_list, set_pair, call_scope}
 
--- the statements of a block in order, before those that follow
-abbrev pub stmts_onto : Stmts → List Stmt → List Stmt
-stmts_onto tree.NoStmts after = after
-stmts_onto (tree.AndStmt ss s) after = stmts_onto ss (s ∷ after)
-
--- the statements of a block
+-- the statements of a block, in order
 abbrev pub stmt_list : Stmts → List Stmt
-stmt_list ss = stmts_onto ss []
+stmt_list tree.NoStmts = []
+stmt_list (tree.AndStmt ss s) = stmt_list ss ++ s ∷ []
 
 -- statements one after the other, up to the first that does not go on
 abbrev pub statements : List Stmt → Place → State → Plan
@@ -56,7 +52,7 @@ call_body body p s = and_then (statements (without_directive (stmt_list body)) p
 abbrev pub enter_scope : Fun → Option ℕ → Value → List Value → ℕ → State → Plan
 enter_scope (tree.FunAt at names name params body funs) outer f vs d s =
     let c : Scope = call_scope (tree.FunAt at names name params body funs) outer f vs in
-    pay (scope_cost c) s (λ t. declare (funs_list funs []) (length t.own.scopes) (with_new_scope t c)
+    pay (scope_cost c) s (λ t. declare (fun_list funs) (length t.own.scopes) (with_new_scope t c)
     (call_body body (record { scope = Some (length t.own.scopes); depth = d })))
 
 -- a function of the widget at this depth. A stop for depth comes before the scope

@@ -16,10 +16,10 @@ use Rattle.widget_meaning.specs.Plan.{Place, Plan, Ret, Job, Eval, Target, Exec,
 use Rattle.widget_meaning.specs.Costs.{pay, make, throw, give, scope_cost}
 use Rattle.widget_meaning.specs.Operators.{binary, same, unary}
 use Rattle.widget_meaning.specs.Properties.{property, names_of, put, index_name, read}
-use Rattle.widget_meaning.specs.Scopes.{variable, assign, funs_list, call_scope}
+use Rattle.widget_meaning.specs.Scopes.{variable, assign, fun_list, call_scope}
 use Rattle.widget_meaning.specs.Calls.{statements, stmt_list, without_directive, declare, call_body, call_end, invoke, call_to_string, primitive_result, to_primitive}
 use Rattle.widget_meaning.specs.Expressions.{expr_list, property_list, literal, word_value, array_parts, object_parts, subscript_read, subscript_target, callee, arguments_then, binary_right, delete_target, step_target, step_converted, assign_target, assign_with, compound, referred, base_of, and_right, or_right, choose, converts, converted_left, result, refer, operate, unary_on, write}
-use Rattle.widget_meaning.specs.Statements.{decl_list, declarations, expressions, branch, loop_test, while_next, do_next, for_init, for_again, for_next, for_in, for_in_next, for_in_over, clauses_onto, bodies, from_default, switch_on, switch_end, in_catch, caught, finally, last_end, Case, choose_case, case_tested}
+use Rattle.widget_meaning.specs.Statements.{decl_list, declarations, expressions, branch, loop_test, while_next, do_next, for_init, for_again, for_next, for_in, for_in_next, for_in_over, clause_list, bodies, from_default, switch_on, switch_end, in_catch, caught, finally, last_end, Case, choose_case, case_tested}
 use Rattle.widget_meaning.specs.ListNatives.{call_each}
 use Rattle.widget_meaning.specs.BunchWrites.{fired, each_called}
 use Rattle.widget_meaning.specs.Natives.{run_native}
@@ -69,7 +69,7 @@ new_scope f outer v vs s = let c : Scope = call_scope f outer v vs in pay (scope
 
 -- then the declared functions, in that scope
 abbrev pub declared : Fun → ℕ → Completion → State → Plan
-declared (tree.FunAt at names name params body funs) i o s = on_normal o s (declare (funs_list funs []) i s (Ret Normal))
+declared (tree.FunAt at names name params body funs) i o s = on_normal o s (declare (fun_list funs) i s (Ret Normal))
 
 -- then the body, whose completion is what the call gives
 abbrev pub body_in : Fun → Place → Completion → State → Plan
@@ -186,7 +186,7 @@ module _ (at : ℕ) (names : List ℕ) (p : Place) (s : State) (g : ℕ) where
     pub return : (e : Expr) → executed (tree.Return (tree.SomeExpr e)) ≡ then_do (eval e p s g) (after (λ v t. Ret (Return v) t))
     pub throw : (e : Expr) → executed (tree.Throw e) ≡ then_do (eval e p s g) (after (λ v t. Ret (Throw v) t))
     -- `switch`: its value, then the tests in order up to one that is the same, then the statements from there on; without one those from `default` on
-    pub switch : (e : Expr) (cs : Clauses) → executed (tree.Switch e cs) ≡ then_do (eval e p s g) (switch_on (clauses_onto cs []) p)
+    pub switch : (e : Expr) (cs : Clauses) → executed (tree.Switch e cs) ≡ then_do (eval e p s g) (switch_on (clause_list cs) p)
     pub switch_cases : (v : Value) (cs : List Case) → run_plan g (switch_on cs p (Is v) s) ≡ then_do (run_plan g (choose_case v cs cs p s)) switch_end
     pub case : (v : Value) (all : List Case) (e : Expr) (b : List Stmt) (cs : List Case) → run_plan g (choose_case v all ((tree.SomeExpr e, b) ∷ cs) p s) ≡ then_do (eval e p s g) (case_tested v all b cs p)
     pub case_same : (v w : Value) (all : List Case) (b : List Stmt) (cs : List Case) → run_plan g (case_tested v all b cs p (Is w) s) ≡ (if same v w then run_plan g (statements (b ++ bodies cs) p s) else run_plan g (choose_case v all cs p s))

@@ -24,23 +24,15 @@ use Rattle.widget_meaning.specs.Properties.{get, read, put, delete, index_name, 
 use Rattle.widget_meaning.specs.Scopes.{variable, assign}
 use Rattle.widget_meaning.specs.Calls.{invoke, to_primitive}
 
--- the expressions of a list in order, before those that follow
-abbrev pub exprs_onto : Exprs → List Expr → List Expr
-exprs_onto tree.NoExprs after = after
-exprs_onto (tree.AndExpr es e) after = exprs_onto es (e ∷ after)
-
--- the expressions of a list
+-- the expressions of a list, in order
 abbrev pub expr_list : Exprs → List Expr
-expr_list es = exprs_onto es []
+expr_list tree.NoExprs = []
+expr_list (tree.AndExpr es e) = expr_list es ++ e ∷ []
 
--- keys and values in order, before those that follow
-abbrev pub properties_onto : Properties → List (List ℕ × Expr) → List (List ℕ × Expr)
-properties_onto tree.NoProperties after = after
-properties_onto (tree.AndProperty ps x e) after = properties_onto ps ((x, e) ∷ after)
-
--- keys and values of an object literal
+-- keys and values of an object literal, in order
 abbrev pub property_list : Properties → List (List ℕ × Expr)
-property_list ps = properties_onto ps []
+property_list tree.NoProperties = []
+property_list (tree.AndProperty ps x e) = property_list ps ++ (x, e) ∷ []
 
 -- the value of a number literal
 abbrev pub literal : WholeRead → Value

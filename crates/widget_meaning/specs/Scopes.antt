@@ -63,14 +63,14 @@ fun_name (tree.FunAt at names name params body funs) = option_to_list name
 abbrev pub without_name : Fun → Fun
 without_name (tree.FunAt at names name params body funs) = tree.FunAt at names None params body funs
 
--- declared functions in order of the text, before those that follow
-abbrev pub funs_list : Funs → List Fun → List Fun
-funs_list tree.NoFuns fs = fs
-funs_list (tree.AndFun gs g) fs = funs_list gs (g ∷ fs)
+-- declared functions in order of the text
+abbrev pub fun_list : Funs → List Fun
+fun_list tree.NoFuns = []
+fun_list (tree.AndFun fs f) = fun_list fs ++ f ∷ []
 
 -- the names of a call's scope but its own: parameters, `var` names, names of declared functions
 abbrev pub other_names : Fun → List (List ℕ)
-other_names (tree.FunAt at names name params body funs) = params ++ (stmts_vars body ++ flat_map fun_name (funs_list funs []))
+other_names (tree.FunAt at names name params body funs) = params ++ (stmts_vars body ++ flat_map fun_name (fun_list funs))
 
 -- each name once, at its first place, behind those seen
 abbrev pub distinct : List (List ℕ) → List (List ℕ) → List (List ℕ)

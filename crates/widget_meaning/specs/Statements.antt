@@ -12,14 +12,10 @@ use Rattle.widget_meaning.specs.Scopes.{assign}
 use Rattle.widget_meaning.specs.Calls.{statements, stmt_list}
 use Rattle.widget_meaning.specs.Expressions.{expr_list}
 
--- the declarations of a list, before those that follow
-abbrev pub decls_onto : Decls → List (List ℕ × OptionalExpr) → List (List ℕ × OptionalExpr)
-decls_onto tree.NoDecls after = after
-decls_onto (tree.AndDecl ds x at e) after = decls_onto ds ((x, e) ∷ after)
-
--- the declarations of a list
+-- the declarations of a list, in order
 abbrev pub decl_list : Decls → List (List ℕ × OptionalExpr)
-decl_list ds = decls_onto ds []
+decl_list tree.NoDecls = []
+decl_list (tree.AndDecl ds x at e) = decl_list ds ++ (x, e) ∷ []
 
 -- one declaration, and what is done then
 abbrev pub declaration : OptionalExpr → List ℕ → Place → State → (State → Plan) → Plan
@@ -106,10 +102,10 @@ return_form (tree.SomeExpr e) p s = Do (Eval e p) s (after (λ v t. Ret (Return 
 abbrev pub Case : Type 0
 Case = OptionalExpr × List Stmt
 
--- clauses in order of the text, before those that follow
-abbrev pub clauses_onto : Clauses → List Case → List Case
-clauses_onto tree.NoClauses after = after
-clauses_onto (tree.AndClause cs test ss) after = clauses_onto cs ((test, stmt_list ss) ∷ after)
+-- clauses in order of the text
+abbrev pub clause_list : Clauses → List Case
+clause_list tree.NoClauses = []
+clause_list (tree.AndClause cs test ss) = clause_list cs ++ (test, stmt_list ss) ∷ []
 
 -- the statements from a clause on, which falls through
 abbrev pub bodies : List Case → List Stmt
@@ -179,7 +175,7 @@ statement (tree.Continue x) p s = Ret Continue s
 statement (tree.Break x) p s = Ret Break s
 statement (tree.Return e) p s = return_form e p s
 statement (tree.Throw e) p s = Do (Eval e p) s (after (λ v t. Ret (Throw v) t))
-statement (tree.Switch e cs) p s = Do (Eval e p) s (switch_on (clauses_onto cs []) p)
+statement (tree.Switch e cs) p s = Do (Eval e p) s (switch_on (clause_list cs) p)
 statement (tree.Try a c b) p s = and_then (and_then (statements (stmt_list a) p s) (caught c p)) (finally b p)
 -- no accepted tree has the others
 statement (tree.With e b) p s = Ret Normal s
