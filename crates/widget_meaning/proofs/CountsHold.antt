@@ -14,9 +14,9 @@ use Rattle.widget_meaning.specs.Meaning.{run_plan}
 use Rattle.widget_meaning.specs.Turns.{begun, turn, end_turn, noted, note_text}
 use Rattle.widget_meaning.specs.Dispatch.{nearest, dispatch}
 use Rattle.widget_meaning.specs.Items.{Event, Item, Occurs, Advance, item, item_at, live_item, stopped_item, occurs, if_heard, with_value, event_value, due_turns, unless_stopped, on_due, next_due, timer_turn, timer_plan, without_timer, resting}
-use Rattle.widget_meaning.specs.Alone.{Content, alone, alone_from, beginning, loaded, load_library, library_turn, library_plan, go_turn, go_plan, call_parts}
-use Rattle.widget_meaning.specs.Keeps.{Invariant, Keeps}
-use Rattle.widget_meaning.specs.Counts.{Risen, IsWithin, CountLaws}
+use Rattle.widget_meaning.specs.Alone.{Content, alone_from, beginning, loaded, load_library, library_turn, library_plan, go_turn, go_plan, call_parts}
+use Rattle.widget_meaning.specs.Keeps.{Invariant, Keeps, FitsLimits}
+use Rattle.widget_meaning.specs.Counts.{Risen, CountLaws}
 use Rattle.widget_meaning.proofs.KeepingRuns.{run_keeps, job_keeps}
 use Rattle.widget_meaning.proofs.KeepingForms.{dispatch_r}
 use Rattle.widget_meaning.proofs.KeepingJobs.{timer_plan_r, library_plan_r, go_plan_r}
@@ -33,10 +33,7 @@ counting start = record {
     cells = at_least start.cells c.cells cost.cells h.cells;
     slots = at_least start.slots c.slots cost.slots h.slots;
     nodes = at_least start.nodes c.nodes cost.nodes h.nodes;
-    units_within = f.units;
-    cells_within = f.cells;
-    slots_within = f.slots;
-    nodes_within = f.nodes;
+    within = f;
   };
   started = λ c ts clock t h l d. h;
 }
@@ -59,10 +56,12 @@ module _ (start : Amounts) where
     cells = grown start.cells o.counts.cells 0 h.cells;
     slots = grown start.slots o.counts.slots 0 h.slots;
     nodes = grown start.nodes o.counts.nodes 0 h.nodes;
-    units_within = ltb-false max_units (o.counts.units + (length t + 1)) e;
-    cells_within = plus_zero o.counts.cells _ h.cells_within;
-    slots_within = plus_zero o.counts.slots _ h.slots_within;
-    nodes_within = plus_zero o.counts.nodes _ h.nodes_within;
+    within = record {
+      units = ltb-false max_units (o.counts.units + (length t + 1)) e;
+      cells = plus_zero o.counts.cells _ h.within.cells;
+      slots = plus_zero o.counts.slots _ h.within.slots;
+      nodes = plus_zero o.counts.nodes _ h.within.nodes;
+    };
   })
 
   end_r : (e : End) (s : State) (o : OwnState) → Risen start o.counts → Risen start (end_turn e s o).counts
@@ -150,34 +149,16 @@ module _ (start : Amounts) where
 self : (n : ℕ) → n ≤ n
 self n = omega arith
 
--- what is risen is within
-settled : (a c : Amounts) → Risen a c → IsWithin c
-settled a c h = record {
-  units = self c.units;
-  cells = self c.cells;
-  slots = self c.slots;
-  nodes = self c.nodes;
-  units_within = h.units_within;
-  cells_within = h.cells_within;
-  slots_within = h.slots_within;
-  nodes_within = h.nodes_within;
-}
+-- counts are risen from themselves
+risen_from : (c : Amounts) → FitsLimits c → Risen c c
+risen_from c f = record { units = self c.units; cells = self c.cells; slots = self c.slots; nodes = self c.nodes; within = f }
 
-begins : (w : Content) (grant : ℕ) → size w.root ≤ max_nodes → IsWithin (beginning w grant).counts
-begins w grant h = record {
-  units = self 0;
-  cells = self 1;
-  slots = self 0;
-  nodes = self (size w.root);
-  units_within = omega arith;
-  cells_within = omega arith;
-  slots_within = omega arith;
-  nodes_within = h;
-}
+begins : (w : Content) (grant : ℕ) → size w.root ≤ max_nodes → FitsLimits (beginning w grant).counts
+begins w grant h = record { units = omega arith; cells = omega arith; slots = omega arith; nodes = h }
 
 pub count_laws : CountLaws
 count_laws = record {
-  jobs = λ j s g w. job_keeps (counting s.own.counts) j s g w;
-  items = λ o is w. items_r o.counts is o w;
-  whole = λ w grant is h. let a : Amounts = (beginning w grant).counts in settled a (alone w grant is).counts (items_r a is (loaded w grant) (loaded_r a w grant (begins w grant h)));
+  jobs = λ j s g w. job_keeps (counting s.own.counts) j s g (risen_from s.own.counts w);
+  items = λ o is w. items_r o.counts is o (risen_from o.counts w);
+  whole = λ w grant is h. let a : Amounts = (beginning w grant).counts in (items_r a is (loaded w grant) (loaded_r a w grant (risen_from a (begins w grant h)))).within;
 }

@@ -101,7 +101,7 @@ valued t s n =
     else if is_text_node s n then with_label s n (TextOf t)
     else with_text_node n t (emptied s n)
 
--- whether a node gets a new text node, and whether it may be given the value
+-- whether a node gets a new text node for the value
 abbrev pub gets_node : State → List ℕ → ℕ → Bool
 gets_node s t n = nat_lt 0 (length t) && is_element s n && not (is_input s n)
 
@@ -183,7 +183,7 @@ hush ns v b s =
 
 -- ## Calls
 
--- `fire(t)`: a dispatch to each node in order
+-- a dispatch to each node in order
 abbrev pub fired : List ℕ → List ℕ → Value → ℕ → State → Plan
 fired t [] b d s = give b s
 fired t (n ∷ ns) b d s = and_then (dispatch t n Undefined d s) (after (λ v u. fired t ns b d u))
@@ -192,12 +192,12 @@ fired t (n ∷ ns) b d s = and_then (dispatch t n Undefined d s) (after (λ v u.
 abbrev pub fire : List ℕ → List ℕ → Value → ℕ → State → Plan
 fire ns t b d s = want (is_event_type t) s (charge (length ns) s (fired t ns b d s))
 
--- `each(f)`: the Bunches are made before the first call
+-- a call with each Bunch in order
 abbrev pub each_called : Value → List Value → Value → ℕ → State → Plan
 each_called f [] b d s = give b s
 each_called f (v ∷ vs) b d s = Do (Call f None (v ∷ []) d) s (after (λ w t. each_called f vs b d t))
 
--- `each(f)`
+-- `each(f)`: the Bunches are made before the first call
 abbrev pub each : List ℕ → Value → Value → ℕ → State → Plan
 each ns f b d s =
     want_function f s (charge (length ns) s (pay (cost 0 (length ns) (2 * length ns) 0) s
@@ -226,6 +226,6 @@ write_method Each ns b vs d s = each ns (nth 0 vs) b d s
 write_method SetMark ns b vs d s = want_primitives (nth 0 vs ∷ []) s (alter_each (noted (λ k. record k { mark = to_text (nth 0 vs) })) ns b s)
 write_method Protect ns b vs d s = alter_each (noted (λ k. record k { is_protected = true })) ns b s
 
--- a method of a Bunch that changes, which gives its receiver back, and `bubble`
+-- a method of a Bunch that changes, which gives its receiver back
 abbrev pub write_native : WriteNative → Option Value → List Value → ℕ → State → Plan
 write_native w this vs d s = on_bunch this s (λ ns. write_method w ns (unwrap_or this Undefined) vs d s)
