@@ -1,5 +1,5 @@
 -- Dispatch: an event goes to the nearest node that listens, and with `bubble` on from its parent.
-use Rattle.std.specs.Prelude.{ℕ, zero, suc, ◌+◌, List, [], ◌∷◌, ◌++◌, Bool, true, false, length, map, Option, Some, None, codes, take, slice_index_or, slice_set, ◌-◌}
+use Rattle.std.specs.Prelude.{ℕ, zero, suc, ◌+◌, List, [], ◌∷◌, Bool, true, false, length, map, Option, Some, None, codes, drop, slice_index_or}
 use Rattle.std.specs.List.{filter}
 use Rattle.std.specs.Str.{bytes_eq}
 use Rattle.widget_meaning.specs.NativeNames.{Bubble}
@@ -32,20 +32,20 @@ nearest s o kind = nearest_from (length s.own.notes) s o kind
 
 -- with a new innermost dispatch, in which `bubble` was not called yet
 abbrev pub with_dispatch : State → State
-with_dispatch s = record s { dispatches = s.dispatches ++ false ∷ [] }
+with_dispatch s = record s { dispatches = false ∷ s.dispatches }
 
 -- without the innermost dispatch
 abbrev pub without_dispatch : State → State
-without_dispatch s = record s { dispatches = take (length s.dispatches - 1) s.dispatches }
+without_dispatch s = record s { dispatches = drop 1 s.dispatches }
 
 -- whether `bubble` was called in the innermost dispatch
 abbrev pub is_bubbled : State → Bool
-is_bubbled s = slice_index_or s.dispatches (length s.dispatches - 1) false
+is_bubbled s = slice_index_or s.dispatches 0 false
 
 -- `bubble()` marks the innermost dispatch; E3 where none runs
 abbrev pub bubble : List Bool → State → Plan
 bubble [] s = throw E3 s
-bubble bs s = give Undefined (record s { dispatches = slice_set bs (length bs - 1) true })
+bubble (b ∷ bs) s = give Undefined (record s { dispatches = true ∷ bs })
 
 -- the event object, before its two Bunches
 abbrev pub event_pairs : List ℕ → ℕ → Value → Pairs

@@ -11,7 +11,7 @@ use Rattle.widget_meaning.specs.Limits.{past_numbers, max_text}
 use Rattle.widget_meaning.specs.Values.{Value, Undefined, Null, Truth, NaN, Num, Text, Own, Host, is_true, to_text, to_number}
 use Rattle.widget_meaning.specs.NativeNames.{same_host}
 
--- what an operator gives
+-- what an operator gives: a value; or it leaves the numbers, or joins a text that is too long
 pub data OpOut : Type 0 where
   Gives : Value → OpOut
   Leaves : OpOut

@@ -82,10 +82,12 @@ pub record OwnState : Type 0 where
   -- the grant of fuel of each turn, which never changes
   pub grant : ℕ
 
--- within a turn: the widget, and the open dispatches, innermost last, each with whether `bubble` was called in it
+-- within a turn: the widget, and the open dispatches, innermost first, each with whether `bubble` was called in it
 pub record State : Type 0 where
   pub own : OwnState
   pub dispatches : List Bool
+
+-- ## Names with their values
 
 -- what a name has in a list of pairs
 abbrev pub lookup : Pairs → List ℕ → Option Value
@@ -101,6 +103,8 @@ replaced (p ∷ ps) x v = if bytes_eq p.0 x then (p.0, v) ∷ ps else p ∷ repl
 abbrev pub taken_out : Pairs → List ℕ → Pairs
 taken_out [] x = []
 taken_out (p ∷ ps) x = if bytes_eq p.0 x then ps else p ∷ taken_out ps x
+
+-- ## New objects
 
 -- an object with this prototype
 abbrev pub new_object : Value → Pairs → Cell
@@ -121,6 +125,8 @@ new_function f scope = record { kind = Function f scope; prototype = Host (Proto
 -- a Bunch of these nodes
 abbrev pub new_bunch : List ℕ → Cell
 new_bunch ns = record { kind = Bunch ns; prototype = Host (PrototypeOf BunchPrototype); pairs = [] }
+
+-- ## What is read
 
 -- the object with a number
 abbrev pub cell_at : State → ℕ → Cell
@@ -152,6 +158,8 @@ no_notes = record { handlers = []; mark = []; is_protected = false }
 -- what is kept with a node
 abbrev pub notes_at : State → ℕ → Notes
 notes_at s n = slice_index_or s.own.notes n no_notes
+
+-- ## What is changed
 
 -- with another widget
 abbrev pub with_own : State → OwnState → State

@@ -15,6 +15,8 @@ use Rattle.widget_meaning.specs.Plan.{Plan}
 use Rattle.widget_meaning.specs.Costs.{pay, slots_cost, throw, give}
 use Rattle.widget_meaning.specs.HostTable.{host_pairs, host_prototype}
 
+-- ## Indexes
+
 -- an index is the decimal text, without leading zero, of 0 to 4294967294
 abbrev pub index_value : List ℕ → ℕ → Option ℕ
 index_value x n = if bytes_eq x (decimal n) && nat_lt n max_length then Some n else None
@@ -30,6 +32,8 @@ index_name n = decimal n
 -- the name `length`
 abbrev pub is_length : List ℕ → Bool
 is_length x = bytes_eq x (codes "length")
+
+-- ## Reads
 
 -- an own property among these pairs; an array's `length` is one
 abbrev pub kind_property : Kind → Pairs → List ℕ → Option Value
@@ -83,6 +87,8 @@ abbrev pub read : Value → List ℕ → State → Plan
 read Undefined x s = throw E1 s
 read Null x s = throw E1 s
 read v x s = give (get s v x) s
+
+-- ## Writes
 
 -- a write of a name: one that is kept keeps its place, a new one costs a slot
 abbrev pub put_pair : Cell → ℕ → List ℕ → Value → State → (State → Plan) → Plan
@@ -140,6 +146,8 @@ delete (Own n) x s k = delete_own (cell_at s n).kind (cell_at s n) n x s k
 delete (Host h) x s k = throw E5 s
 delete o x s k = k true s
 
+-- ## Names
+
 -- the permitted names among these pairs, in order of insertion; an array's `length` is none of them
 abbrev pub permitted_names : Pairs → List (List ℕ)
 permitted_names ps = filter is_permitted (map (λ p. p.0) ps)
@@ -166,6 +174,8 @@ names_on_chain m s o xs = xs
 -- the names that `for-in` lists: own ones, then those along the prototypes that are not listed yet; host objects give none
 abbrev pub names_of : State → Value → List (List ℕ)
 names_of s v = names_on_chain (suc max_chain) s (Some v) []
+
+-- ## Functions
 
 -- whether an object of the widget is a function
 abbrev pub is_function_kind : Option Kind → Bool

@@ -11,6 +11,8 @@ use Rattle.widget_meaning.specs.Plan.{Place}
 use Rattle.widget_meaning.specs.Properties.{listed, or_else}
 use Rattle.widget_meaning.specs.HostTable.{globals}
 
+-- ## The names that a call makes
+
 -- the declared names of a list
 abbrev pub decl_names : Decls → List (List ℕ)
 decl_names tree.NoDecls = []
@@ -92,6 +94,8 @@ first_of_name (tree.FunAt at names name params body funs) f vs x =
 abbrev pub call_scope : Fun → Option ℕ → Value → List Value → Scope
 call_scope fun outer f vs =
     record { outer = outer; pairs = map (λ x. (x, first_of_name fun f vs x)) (distinct [] (other_names fun ++ fun_name fun)) }
+
+-- ## How a name is found
 
 -- the innermost scope from here that has the name, so many scopes far
 abbrev pub scope_having : ℕ → State → Option ℕ → List ℕ → Option ℕ
