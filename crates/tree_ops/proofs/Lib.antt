@@ -1,0 +1,5 @@
+pub mod Tests
+pub mod Numbers
+pub mod Taken
+pub mod Grafted
+pub mod Values
