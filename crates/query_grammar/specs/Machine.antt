@@ -5,14 +5,14 @@ use Rattle.std.specs.Str.{byte, bytes_eq}
 use Rattle.std.specs.Prelude.{nat_eq}
 use Rattle.exact_refusals.specs.Judge.{Outcome}
 use Rattle.plain_refusals.specs.Machine.{outcome}
-use Rattle.query_lang.specs.declared.query.Hunter.{Hunter}
-use Rattle.query_lang.specs.declared.query.Hunter.TheVariants as hunter
-use Rattle.query_lang.specs.declared.query.Filter.TheVariants as filter
-use Rattle.query_lang.specs.declared.query.ListFilter.TheVariants as on_list
-use Rattle.query_lang.specs.declared.query.StepFilter.{StepFilter}
-use Rattle.query_lang.specs.declared.query.StepFilter.TheVariants as kind
-use Rattle.query_lang.specs.Steps.{Step}
-use Rattle.query_lang.specs.Queries.{is_lower, in_name, in_word, in_value}
+use Rattle.query_grammar.specs.declared.query.Hunter.{Hunter}
+use Rattle.query_grammar.specs.declared.query.Hunter.TheVariants as hunter
+use Rattle.query_grammar.specs.declared.query.Filter.TheVariants as filter
+use Rattle.query_grammar.specs.declared.query.ListFilter.TheVariants as on_list
+use Rattle.query_grammar.specs.declared.query.StepFilter.{StepFilter}
+use Rattle.query_grammar.specs.declared.query.StepFilter.TheVariants as kind
+use Rattle.query_grammar.specs.Steps.{Step}
+use Rattle.query_grammar.specs.Queries.{is_lower, in_name, in_word, in_value}
 
 -- what a word is for
 pub data Role : Type 0 where
@@ -169,3 +169,7 @@ begin = Between []
 -- what comes of the units from a place on
 abbrev pub goes : List ℕ → State → ℕ → Outcome (List Step)
 goes us st at = outcome step done st (drop at us)
+
+-- what comes of a whole text
+abbrev pub judged : List ℕ → Outcome (List Step)
+judged us = outcome step done begin us
