@@ -1,8 +1,9 @@
 -- What the natives of the page have in common: nodes and their labels, what they cost, and new nodes.
-use Rattle.std.specs.Prelude.{ℕ, ◌+◌, List, [], ◌∷◌, ◌++◌, length, Bool, true, false, not, ◌&&◌, ◌||◌, nat_eq, nat_le, nat_lt, ◌==◌, if◌then◌else◌, codes, Option, Some, None, replicate}
+use Rattle.std.specs.Prelude.{ℕ, ◌+◌, List, [], ◌∷◌, ◌++◌, length, Bool, true, false, not, ◌&&◌, ◌||◌, nat_le, nat_lt, ◌==◌, if◌then◌else◌, codes, Option, Some, None, replicate}
 use Rattle.std.specs.List.{list_any, list_all}
 use Rattle.std.specs.Int.{is_in_range}
 use Rattle.std.specs.Str.{bytes_eq, byte}
+use Rattle.query_grammar.specs.Finds.{has_number}
 use Rattle.widget_meaning.specs.Limits.{max_event_type}
 use Rattle.widget_meaning.specs.Values.{Value, Own, E4, E10}
 use Rattle.plain_tree.specs.Names as names
@@ -142,10 +143,6 @@ is_plain_words t = list_all is_plain_unit t
 -- a type of events: 1 to 16 letters `a` to `z`
 abbrev pub is_event_type : List ℕ → Bool
 is_event_type t = nat_lt 0 (length t) && nat_le (length t) max_event_type && list_all (is_in_range 97 122) t
-
--- no number twice, each at its first place
-abbrev pub has_number : List ℕ → ℕ → Bool
-has_number ns n = list_any (nat_eq n) ns
 
 -- the numbers behind those seen, without repeats
 abbrev pub once : List ℕ → List ℕ → List ℕ

@@ -4,7 +4,9 @@ ghost use Rattle.widget_meaning.specs.JsonBack.{ReturnLaws};
 ghost use Rattle.widget_meaning.specs.JsonLaws.{JsonLaws};
 ghost use Rattle.widget_meaning.specs.NativeLaws.{SplitLaws, SortLaws};
 ghost use Rattle.widget_meaning.specs.NativeRows.{NativeRows};
+ghost use Rattle.query_grammar.specs.Steps.{Step};
 ghost use Rattle.style_text.specs.Styles.{Pair};
+ghost use Rattle.widget_meaning.specs.Queries.{QueryLaws};
 ghost use Rattle.widget_meaning.specs.Styles.{StyleLaws};
 ghost use Rattle.widget_meaning.specs.Values.{Value};
 
@@ -32,7 +34,13 @@ pub fn native_rows()
 {}
 
 /// The pairs of a style are those that `style_text` says that it spells; a text that spells none has none.
-#[tactic(auto, using(crate::proofs::StylesHold::style_laws))]
+#[tactic(auto, using(crate::proofs::TextsHold::style_laws))]
 pub fn styles()
     ensures { (t : List ℕ) (pairs : List Pair) → StyleLaws t pairs }
+{}
+
+/// The steps of a query are those that `query_grammar` says that it spells; a text that spells none has none.
+#[tactic(auto, using(crate::proofs::TextsHold::query_laws))]
+pub fn queries()
+    ensures { (us : List ℕ) (steps : List Step) → QueryLaws us steps }
 {}
