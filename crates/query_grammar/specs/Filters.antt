@@ -11,6 +11,7 @@ pub record Look : Type 0 where
   pub tag : Option (List ℕ)
   pub attribute : List ℕ → Option (List ℕ)
 
+-- no text
 abbrev pub is_element : Look → Bool
 is_element n = is_some n.tag
 
@@ -19,9 +20,11 @@ abbrev pub is_equal : Option (List ℕ) → List ℕ → Bool
 is_equal None w = false
 is_equal (Some v) w = bytes_eq v w
 
+-- whether it has this tag
 abbrev pub has_tag : Look → List ℕ → Bool
 has_tag n tag = is_equal n.tag tag
 
+-- an `input`
 abbrev pub is_input : Look → Bool
 is_input n = has_tag n (codes "input")
 
@@ -33,6 +36,7 @@ is_field n = is_input n || has_tag n (codes "button") || has_tag n (codes "texta
 abbrev pub seen_value : List ℕ → List ℕ → List ℕ
 seen_value name v = if bytes_eq name (codes "style") then style_form v else v
 
+-- the same of an attribute that may be missing
 abbrev pub seen_option : List ℕ → Option (List ℕ) → Option (List ℕ)
 seen_option name None = None
 seen_option name (Some v) = Some (seen_value name v)

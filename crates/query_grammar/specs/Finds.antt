@@ -36,11 +36,13 @@ abbrev pub numbers : Trees ℕ → List ℕ
 numbers End = []
 numbers (Node n l ks ts) = n ∷ (numbers ks ++ numbers ts)
 
+-- whether a number is among these
 abbrev pub has_number : List ℕ → ℕ → Bool
 has_number ns n = list_any (nat_eq n) ns
 
 -- ## What a hunter finds from a start
 
+-- no text
 abbrev pub is_element : (ℕ → Look) → ℕ → Bool
 is_element look n = node.is_element (look n)
 
@@ -81,6 +83,7 @@ hunted p hunter.All n = filter (is_element p.look) (p.below n)
 abbrev pub in_order : List ℕ → List ℕ → List ℕ
 in_order document ns = filter (has_number ns) document
 
+-- whether a node has the focus
 abbrev pub has_focus : Option ℕ → ℕ → Bool
 has_focus focus n = has_number (option_to_list focus) n
 

@@ -13,9 +13,11 @@ use Rattle.query_grammar.specs.Steps.{Step}
 
 -- ## Words
 
+-- `a` to `z`
 abbrev pub is_lower : ℕ → Bool
 is_lower u = is_in_range 97 122 u
 
+-- `0` to `9`
 abbrev pub is_digit : ℕ → Bool
 is_digit u = is_in_range 48 57 u
 
@@ -92,6 +94,7 @@ pub data SpellsFilter : StepFilter → List ℕ → List ℕ → Type 0 where
       SpellsFilter (kind.Node (filter.Equals w v)) (byte "[" ∷ us) rest
   by_keyword : {w rest : List ℕ} {f : StepFilter} → IsKeyword w f → SpellsFilter f (byte ":" ∷ (w ++ rest)) rest
 
+-- filters one behind the other
 pub data SpellsFilters : List StepFilter → List ℕ → List ℕ → Type 0 where
   no_filter : {rest : List ℕ} → SpellsFilters [] rest rest
   one_filter : {f : StepFilter} {fs : List StepFilter} {us vs rest : List ℕ} → SpellsFilter f us vs → SpellsFilters fs vs rest → SpellsFilters (f ∷ fs) us rest

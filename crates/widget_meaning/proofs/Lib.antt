@@ -23,5 +23,6 @@ pub mod JsonHolds
 pub mod NativeLawsHold
 pub mod NativeRowsHold
 pub mod TextsHold
+pub mod SightHolds
 pub mod PageRowsHold
 pub mod BodyRowsHold
