@@ -32,9 +32,11 @@ parent_within k r n = if is_number n r then None else (at k n).parent
 abbrev pub links : List Entry → Option ℕ → Links
 links k r = record { look = look k; children = λ n. (at k n).children; below = below k; parent = parent_within k r }
 
+-- an element with a tag
 abbrev pub is_tagged : List Entry → List ℕ → ℕ → Bool
 is_tagged k tag n = query.is_tagged (look k) tag n
 
+-- an element with an `id`
 abbrev pub has_id : List Entry → List ℕ → ℕ → Bool
 has_id k w n = query.has_id (look k) w n
 

@@ -10,6 +10,7 @@ use Rattle.query_grammar.specs.Finds as query
 abbrev pub look : List Entry → ℕ → Look
 look k n = record { tag = tag_of (at k n).label; attribute = λ name. attribute_of name (at k n).label }
 
+-- no text
 abbrev pub is_element : List Entry → ℕ → Bool
 is_element k n = query.is_element (look k) n
 

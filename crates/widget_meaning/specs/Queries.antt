@@ -1,6 +1,5 @@
 -- Queries as a widget makes them. Which texts are queries, and what a query finds of what it sees of a page, is said by `query_grammar`.
-use Rattle.std.specs.Prelude.{◌≡◌, ℕ, List, if◌then◌else◌, Option, Some, None}
-use Rattle.query_grammar.specs.Filters.{Look}
+use Rattle.std.specs.Prelude.{◌≡◌, ℕ, List, Option, Some}
 use Rattle.query_grammar.specs.Finds as query
 use Rattle.query_grammar.specs.Finds.{Links, Sight, numbers}
 use Rattle.query_grammar.specs.Machine.{judged}
@@ -9,15 +8,11 @@ use Rattle.query_grammar.specs.Steps.{Step}
 use Rattle.widget_meaning.specs.Outcomes.{what_is_read}
 use Rattle.widget_meaning.specs.Trees.{children, parent, tops}
 use Rattle.widget_meaning.specs.OwnState.{State}
-use Rattle.widget_meaning.specs.PageForms.{tag_of, is_element, attribute}
+use Rattle.widget_meaning.specs.PageForms.{look}
 
 -- the steps of a query; a text that is none has none
 abbrev pub read_query : List ℕ → Option (List Step)
 read_query us = what_is_read (judged us)
-
--- a node as queries see it: a text node has no tag
-abbrev pub look : State → ℕ → Look
-look s n = record { tag = if is_element s n then Some (tag_of s n) else None; attribute = attribute s n }
 
 -- the nodes and how they hang together
 abbrev pub links : State → Links
