@@ -6,18 +6,19 @@ ghost use Rattle.page_tree.specs.Entries.{at};
 ghost use Rattle.page_tree.specs.Owners.{is_owner, same_owner};
 ghost use Rattle.page_tree.specs.Pages.{nodes, root};
 ghost use Rattle.page_tree.specs.Trees.{is_number};
-ghost use Rattle.query_lang.specs.declared.query.Hunter.TheVariants as hunter;
+ghost use Rattle.query_grammar.specs.declared.query.Hunter.TheVariants as hunter;
 ghost use Rattle.query_lang.specs.Nodes.{is_element};
-ghost use Rattle.query_lang.specs.Finds.{has_number, below, hunted, is_tagged};
-ghost use Rattle.query_lang.specs.Walks.{AreNodes, HaveSame, MissesNone, takes, parent_within, is_start, next_ones};
+ghost use Rattle.query_lang.specs.Finds.{below, hunted, is_tagged, parent_within};
+ghost use Rattle.query_grammar.specs.Finds.{has_number};
+ghost use Rattle.query_lang.specs.Walks.{AreNodes, HaveSame, MissesNone, takes, is_start, next_ones};
 
 use crate::marks::{Marks, Risen};
 use crate::named::all_named;
 use crate::nodes::{is_element, is_this};
-use crate::query::Hunter;
 use crate::wanted::{Wanted, child_at};
 use code_units::{Memory, Owner, Text};
 use page_tree::{NodeId, Page};
+use query_grammar::Hunter;
 use std::alloc::Global;
 
 // The parent under which a node has siblings. The root has none.

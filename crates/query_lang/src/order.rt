@@ -3,7 +3,8 @@ ghost use Rattle.std.specs.Prelude.{◌≡◌, ℕ, ◌<◌, ◌++◌, [], ◌�
 ghost use Rattle.std.specs.List.{filter, flat_map};
 ghost use Rattle.page_tree.specs.Owners.{is_owner, same_owner};
 ghost use Rattle.page_tree.specs.Pages.{nodes, root};
-ghost use Rattle.query_lang.specs.Finds.{has_number, within, is_loose, in_order};
+ghost use Rattle.query_lang.specs.Finds.{within, is_loose, in_order};
+ghost use Rattle.query_grammar.specs.Finds.{has_number};
 ghost use Rattle.query_lang.specs.Walks.{takes, MissesNone, AreNodes, IsClosed, AreTops};
 
 use crate::marks::{Marks, Risen};

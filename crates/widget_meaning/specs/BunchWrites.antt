@@ -15,7 +15,8 @@ use Rattle.widget_meaning.specs.Dispatch.{dispatch}
 use Rattle.style_text.specs.Styles.{is_listed, is_value, print_style}
 use Rattle.widget_meaning.specs.Styles.{style_pairs, with_property}
 use Rattle.widget_meaning.specs.TreeOps.{subtree, subtrees, stands_in, all_detached, all_moved_under, replaced_by, depth_of, copied}
-use Rattle.widget_meaning.specs.PageForms.{root, want, want_all, want_one, want_bunch, is_void, is_input, is_field, is_text_node, is_element, is_tag, tree_units, next_node, with_room, with_label, is_plain_words, is_event_type, has_number}
+use Rattle.query_grammar.specs.Finds.{has_number}
+use Rattle.widget_meaning.specs.PageForms.{root, want, want_all, want_one, want_bunch, is_void, is_input, is_field, is_text_node, is_element, is_tag, tree_units, next_node, with_room, with_label, is_plain_words, is_event_type}
 use Rattle.widget_meaning.specs.BunchReads.{bunches_from, with_bunches}
 
 -- the extra, and then what a method that costs nothing does; it gives the Bunch

@@ -26,9 +26,9 @@ pub mod JsonLaws
 pub mod NativeLaws
 pub mod AdsafeNatives
 pub mod TreeOps
+pub mod Outcomes
 pub mod Styles
 pub mod PageForms
-pub mod QueryForms
 pub mod Queries
 pub mod BunchReads
 pub mod BunchWrites

@@ -1,8 +1,11 @@
 -- What the natives of the page have in common: nodes and their labels, what they cost, and new nodes.
-use Rattle.std.specs.Prelude.{ℕ, ◌+◌, List, [], ◌∷◌, ◌++◌, length, Bool, true, false, not, ◌&&◌, ◌||◌, nat_eq, nat_le, nat_lt, ◌==◌, if◌then◌else◌, codes, Option, Some, None, replicate}
+use Rattle.std.specs.Prelude.{ℕ, ◌+◌, List, [], ◌∷◌, ◌++◌, length, Bool, true, false, not, ◌&&◌, ◌||◌, nat_le, nat_lt, ◌==◌, if◌then◌else◌, codes, Option, Some, None, replicate}
 use Rattle.std.specs.List.{list_any, list_all}
 use Rattle.std.specs.Int.{is_in_range}
 use Rattle.std.specs.Str.{bytes_eq, byte}
+use Rattle.query_grammar.specs.Filters as node
+use Rattle.query_grammar.specs.Filters.{Look}
+use Rattle.query_grammar.specs.Finds.{has_number}
 use Rattle.widget_meaning.specs.Limits.{max_event_type}
 use Rattle.widget_meaning.specs.Values.{Value, Own, E4, E10}
 use Rattle.plain_tree.specs.Names as names
@@ -58,7 +61,7 @@ is_label_text (Some (TextOf t)) = true
 is_label_text (Some (ElementOf tag attrs)) = false
 is_label_text None = false
 
--- a text node; a void element; an `input`; one that can be disabled
+-- a text node
 abbrev pub is_text_node : State → ℕ → Bool
 is_text_node s n = is_label_text (label_of n s.own.forest)
 
@@ -69,14 +72,6 @@ is_tag tags s n = list_any (bytes_eq (tag_of s n)) tags
 -- a void element
 abbrev pub is_void : State → ℕ → Bool
 is_void s n = names.is_void (tag_of s n)
-
--- an `input`
-abbrev pub is_input : State → ℕ → Bool
-is_input s n = is_tag (codes "input" ∷ []) s n
-
--- an element that can be disabled
-abbrev pub is_field : State → ℕ → Bool
-is_field s n = is_tag (codes "input" ∷ codes "button" ∷ codes "textarea" ∷ codes "select" ∷ codes "option" ∷ []) s n
 
 -- an element
 abbrev pub is_element : State → ℕ → Bool
@@ -91,6 +86,18 @@ label_attribute None x = None
 -- an attribute of a node
 abbrev pub attribute : State → ℕ → List ℕ → Option (List ℕ)
 attribute s n x = label_attribute (label_of n s.own.forest) x
+
+-- a node as queries see it: a text node has no tag
+abbrev pub look : State → ℕ → Look
+look s n = record { tag = if is_element s n then Some (tag_of s n) else None; attribute = attribute s n }
+
+-- an `input`
+abbrev pub is_input : State → ℕ → Bool
+is_input s n = node.is_input (look s n)
+
+-- an element that can be disabled
+abbrev pub is_field : State → ℕ → Bool
+is_field s n = node.is_field (look s n)
 
 -- it, or the empty text
 abbrev pub or_empty : Option (List ℕ) → List ℕ
@@ -142,10 +149,6 @@ is_plain_words t = list_all is_plain_unit t
 -- a type of events: 1 to 16 letters `a` to `z`
 abbrev pub is_event_type : List ℕ → Bool
 is_event_type t = nat_lt 0 (length t) && nat_le (length t) max_event_type && list_all (is_in_range 97 122) t
-
--- no number twice, each at its first place
-abbrev pub has_number : List ℕ → ℕ → Bool
-has_number ns n = list_any (nat_eq n) ns
 
 -- the numbers behind those seen, without repeats
 abbrev pub once : List ℕ → List ℕ → List ℕ

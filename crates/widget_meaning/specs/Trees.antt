@@ -8,11 +8,6 @@ use Rattle.plain_tree.specs.Trees.{End, Node, Label, Attribute, beside, size}
 abbrev pub Trees : Type 0
 Trees = plain.Trees ℕ
 
--- the numbers in document order
-abbrev pub numbers : Trees → List ℕ
-numbers End = []
-numbers (Node n l ks ts) = n ∷ (numbers ks ++ numbers ts)
-
 -- the numbers of the tops
 abbrev pub tops : Trees → List ℕ
 tops End = []

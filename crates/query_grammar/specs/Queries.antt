@@ -3,21 +3,21 @@ use Rattle.std.specs.Prelude.{◌≡◌, ◌≢◌, ℕ, ◌≤◌, Bool, true, 
 use Rattle.std.specs.Int.{is_in_range}
 use Rattle.std.specs.Str.{byte}
 use Rattle.plain_refusals.specs.Places.{IsRefusedAt}
-use Rattle.query_lang.specs.declared.QueryFault.{QueryFault}
-use Rattle.query_lang.specs.declared.QueryFault.TheVariants as fault
-use Rattle.query_lang.specs.declared.query.Hunter.{Hunter}
-use Rattle.query_lang.specs.declared.query.Hunter.TheVariants as hunter
-use Rattle.query_lang.specs.declared.query.Filter.TheVariants as filter
-use Rattle.query_lang.specs.declared.query.ListFilter.TheVariants as on_list
-use Rattle.query_lang.specs.declared.query.StepFilter.{StepFilter}
-use Rattle.query_lang.specs.declared.query.StepFilter.TheVariants as kind
-use Rattle.query_lang.specs.Steps.{Step}
+use Rattle.query_grammar.specs.declared.query.Hunter.{Hunter}
+use Rattle.query_grammar.specs.declared.query.Hunter.TheVariants as hunter
+use Rattle.query_grammar.specs.declared.query.Filter.TheVariants as filter
+use Rattle.query_grammar.specs.declared.query.ListFilter.TheVariants as on_list
+use Rattle.query_grammar.specs.declared.query.StepFilter.{StepFilter}
+use Rattle.query_grammar.specs.declared.query.StepFilter.TheVariants as kind
+use Rattle.query_grammar.specs.Steps.{Step}
 
 -- ## Words
 
+-- `a` to `z`
 abbrev pub is_lower : ℕ → Bool
 is_lower u = is_in_range 97 122 u
 
+-- `0` to `9`
 abbrev pub is_digit : ℕ → Bool
 is_digit u = is_in_range 48 57 u
 
@@ -32,6 +32,10 @@ in_word u = is_lower u || is_in_range 65 90 u || is_digit u || u == byte "_" || 
 -- what an attribute is compared with
 abbrev pub in_value : ℕ → Bool
 in_value u = not (u == byte "]")
+
+-- the first unit of a filter
+abbrev pub is_mark : ℕ → Bool
+is_mark u = u == byte "." || u == byte "&" || u == byte "_" || u == byte "[" || u == byte ":"
 
 -- a unit of the class stands first
 abbrev pub goes_on : (ℕ → Bool) → List ℕ → Bool
@@ -90,6 +94,7 @@ pub data SpellsFilter : StepFilter → List ℕ → List ℕ → Type 0 where
       SpellsFilter (kind.Node (filter.Equals w v)) (byte "[" ∷ us) rest
   by_keyword : {w rest : List ℕ} {f : StepFilter} → IsKeyword w f → SpellsFilter f (byte ":" ∷ (w ++ rest)) rest
 
+-- filters one behind the other
 pub data SpellsFilters : List StepFilter → List ℕ → List ℕ → Type 0 where
   no_filter : {rest : List ℕ} → SpellsFilters [] rest rest
   one_filter : {f : StepFilter} {fs : List StepFilter} {us vs rest : List ℕ} → SpellsFilter f us vs → SpellsFilters fs vs rest → SpellsFilters (f ∷ fs) us rest
@@ -112,8 +117,3 @@ pub record QuerySpells (us : List ℕ) (steps : List Step) : Type 0 where
 -- no query begins with the units up to and with this one, and those before it begin a query; or it is the length, and the units begin a query and are none
 abbrev pub BadQueryPlace : List ℕ → ℕ → Type 0
 BadQueryPlace us at = IsRefusedAt QuerySpells us at
-
--- the units are no query, with the place of the refusal, or there was no memory
-abbrev pub IsQueryFault : List ℕ → QueryFault → Type 0
-IsQueryFault us (fault.BadQuery at) = BadQueryPlace us at
-IsQueryFault us fault.Memory = Unit {0}

@@ -2,11 +2,11 @@
 use Rattle.std.proofs.Common.{◌≡◌, ℕ, ◌+◌, List, length}
 use Rattle.exact_refusals.specs.Judge.{Refused}
 use Rattle.plain_refusals.proofs.Plain as plain
-use Rattle.query_lang.specs.Steps.{Step}
-use Rattle.query_lang.specs.Queries.{QuerySpells, BadQueryPlace}
-use Rattle.query_lang.specs.Machine.{step, done, begin}
-use Rattle.query_lang.proofs.Complete.{go, complete}
-use Rattle.query_lang.proofs.Sound.{sound, closable}
+use Rattle.query_grammar.specs.Steps.{Step}
+use Rattle.query_grammar.specs.Queries.{QuerySpells, BadQueryPlace}
+use Rattle.query_grammar.specs.Machine.{step, done, begin}
+use Rattle.query_grammar.proofs.Complete.{go, complete}
+use Rattle.query_grammar.proofs.Sound.{sound, closable}
 
 pub one_query : (us : List ℕ) (qs rs : List Step) → QuerySpells us qs → QuerySpells us rs → qs ≡ rs
 one_query = plain.one_tree step done begin QuerySpells complete sound

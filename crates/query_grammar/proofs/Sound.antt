@@ -6,17 +6,17 @@ use Rattle.std.proofs.lemmas.Bool.Decides.{nat_tests}
 use Rattle.exact_refusals.specs.Judge.{Read}
 use Rattle.plain_refusals.specs.Machine.{Closes, EachCloses}
 use Rattle.plain_refusals.proofs.Plain as plain
-use Rattle.query_lang.specs.declared.query.Hunter.{Hunter}
-use Rattle.query_lang.specs.declared.query.Hunter.TheVariants as hunter
-use Rattle.query_lang.specs.declared.query.Filter.TheVariants as filter
-use Rattle.query_lang.specs.declared.query.StepFilter.{StepFilter}
-use Rattle.query_lang.specs.declared.query.StepFilter.TheVariants as kind
-use Rattle.query_lang.specs.Steps.{Step}
-use Rattle.query_lang.specs.Queries.{is_lower, in_word, in_value, Run, run_ends, run_more, Word, a_word, Name, a_name, Spaces, here, behind, SpellsHunter, by_tag, by_id, by_child, by_next, by_children, by_all, SpellsFilter, by_class, by_name, by_type, by_presence, by_value, by_keyword, SpellsFilters, no_filter, one_filter, a_step, SpellsSteps, no_step, one_step, QuerySpells, IsKeyword}
-use Rattle.query_lang.specs.Machine.{Role, ForTag, ForId, ForChild, ForNext, ForClass, ForName, ForKind, State, Between, Hunt, HuntWord, Inside, Sift, SiftWord, Attribute, AttributeWord, AttributeValue, Keyword, with, found, sifted, begins_word, goes_in, may_wait, keyword_of, keyword_or, fits, hunts, between, inside, step, some_steps, done, begin}
-use Rattle.query_lang.proofs.Truths.{and_parts, same_number, both_ways, branch, none_some, same_some, not_false}
-use Rattle.query_lang.proofs.Keywords.{keyword_is, fits_keyword, nothing_fits}
-use Rattle.query_lang.proofs.Complete.{go, some_with, keyword_goes}
+use Rattle.query_grammar.specs.declared.query.Hunter.{Hunter}
+use Rattle.query_grammar.specs.declared.query.Hunter.TheVariants as hunter
+use Rattle.query_grammar.specs.declared.query.Filter.TheVariants as filter
+use Rattle.query_grammar.specs.declared.query.StepFilter.{StepFilter}
+use Rattle.query_grammar.specs.declared.query.StepFilter.TheVariants as kind
+use Rattle.query_grammar.specs.Steps.{Step}
+use Rattle.query_grammar.specs.Queries.{is_lower, in_word, in_value, Run, run_ends, run_more, Word, a_word, Name, a_name, Spaces, here, behind, SpellsHunter, by_tag, by_id, by_child, by_next, by_children, by_all, SpellsFilter, by_class, by_name, by_type, by_presence, by_value, by_keyword, SpellsFilters, no_filter, one_filter, a_step, SpellsSteps, no_step, one_step, QuerySpells, IsKeyword}
+use Rattle.query_grammar.specs.Machine.{Role, ForTag, ForId, ForChild, ForNext, ForClass, ForName, ForKind, State, Between, Hunt, HuntWord, Inside, Sift, SiftWord, Attribute, AttributeWord, AttributeValue, Keyword, with, found, sifted, begins_word, goes_in, may_wait, keyword_of, keyword_or, fits, hunts, between, inside, step, some_steps, done, begin}
+use Rattle.query_grammar.proofs.Truths.{and_parts, same_number, both_ways, branch, none_some, same_some, not_false}
+use Rattle.query_grammar.proofs.Keywords.{keyword_is, fits_keyword, nothing_fits}
+use Rattle.query_grammar.proofs.Complete.{go, some_with, keyword_goes}
 
 -- ## What a step of the machine was
 

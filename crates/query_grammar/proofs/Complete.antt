@@ -6,17 +6,16 @@ use Rattle.std.proofs.lemmas.Bool.Decides.{nat_tests}
 use Rattle.exact_refusals.specs.Judge.{Outcome, Read, ended}
 use Rattle.plain_refusals.specs.Machine.{outcome}
 use Rattle.plain_refusals.proofs.Plain as plain
-use Rattle.query_lang.specs.declared.query.Hunter.{Hunter}
-use Rattle.query_lang.specs.declared.query.Hunter.TheVariants as hunter
-use Rattle.query_lang.specs.declared.query.Filter.TheVariants as filter
-use Rattle.query_lang.specs.declared.query.StepFilter.{StepFilter}
-use Rattle.query_lang.specs.declared.query.StepFilter.TheVariants as kind
-use Rattle.query_lang.specs.Steps.{Step}
-use Rattle.query_lang.specs.Queries.{is_lower, in_word, in_value, goes_on, Run, run_ends, run_more, Word, a_word, Name, a_name, Spaces, here, behind, SpellsHunter, by_tag, by_id, by_child, by_next, by_children, by_all, SpellsFilter, by_class, by_name, by_type, by_presence, by_value, by_keyword, SpellsFilters, no_filter, one_filter, SpellsStep, a_step, SpellsSteps, no_step, one_step, QuerySpells}
-use Rattle.query_lang.specs.Machine.{Role, ForTag, ForId, ForChild, ForNext, FilterRole, ForClass, ForName, ForKind, State, Between, Hunt, HuntWord, Inside, Sift, SiftWord, Attribute, AttributeWord, AttributeValue, Keyword, with, found, sifted, goes_in, keyword_of, keyword_or, between, inside, step, some_steps, done, begin}
-use Rattle.query_lang.specs.Reads.{is_mark}
-use Rattle.query_lang.proofs.Truths.{same_number, both_ways, none_some}
-use Rattle.query_lang.proofs.Keywords.{keyword_listed, front_fits, front_none, nothing_fits}
+use Rattle.query_grammar.specs.declared.query.Hunter.{Hunter}
+use Rattle.query_grammar.specs.declared.query.Hunter.TheVariants as hunter
+use Rattle.query_grammar.specs.declared.query.Filter.TheVariants as filter
+use Rattle.query_grammar.specs.declared.query.StepFilter.{StepFilter}
+use Rattle.query_grammar.specs.declared.query.StepFilter.TheVariants as kind
+use Rattle.query_grammar.specs.Steps.{Step}
+use Rattle.query_grammar.specs.Queries.{is_lower, is_mark, in_word, in_value, goes_on, Run, run_ends, run_more, Word, a_word, Name, a_name, Spaces, here, behind, SpellsHunter, by_tag, by_id, by_child, by_next, by_children, by_all, SpellsFilter, by_class, by_name, by_type, by_presence, by_value, by_keyword, SpellsFilters, no_filter, one_filter, SpellsStep, a_step, SpellsSteps, no_step, one_step, QuerySpells}
+use Rattle.query_grammar.specs.Machine.{Role, ForTag, ForId, ForChild, ForNext, FilterRole, ForClass, ForName, ForKind, State, Between, Hunt, HuntWord, Inside, Sift, SiftWord, Attribute, AttributeWord, AttributeValue, Keyword, with, found, sifted, goes_in, keyword_of, keyword_or, between, inside, step, some_steps, done, begin}
+use Rattle.query_grammar.proofs.Truths.{same_number, both_ways, none_some}
+use Rattle.query_grammar.proofs.Keywords.{keyword_listed, front_fits, front_none, nothing_fits}
 
 abbrev pub go : State → List ℕ → Outcome (List Step)
 go st us = outcome step done st us

@@ -1,5 +1,5 @@
 -- Truth values and numbers.
-use Rattle.std.proofs.Common.{◌≡◌, ◌≢◌, ℕ, ◌⊎◌, inl, inr, Bool, true, false, ◌&&◌, ◌||◌, not, Option, Some, None, refl, arith, if◌then◌else◌}
+use Rattle.std.proofs.Common.{◌≡◌, ◌≢◌, ℕ, ◌⊎◌, inl, inr, Bool, true, false, ◌&&◌, ◌||◌, not, Option, Some, None, refl, sym, arith, if◌then◌else◌}
 use Rattle.std.specs.Prelude.{◌==◌}
 use Rattle.std.proofs.lemmas.Bool.Decides.{nat_tests}
 
@@ -52,3 +52,12 @@ none_some r h = cc
 
 pub same_some : {A : Type 0} (q r : A) → ◌≡◌ {A = Option A} (Some q) (Some r) → q ≡ r
 same_some q r h = cc
+
+pub no_true : false ≡ true → ⊥
+no_true e = cc
+
+-- each is true if the other is
+pub same_truth : (a b : Bool) → (a ≡ true → b ≡ true) → (b ≡ true → a ≡ true) → a ≡ b
+same_truth true b f g = sym (f refl)
+same_truth false true f g = g refl
+same_truth false false f g = refl

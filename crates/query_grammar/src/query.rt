@@ -72,7 +72,7 @@ pub struct QueryStep {
 }
 
 impl Model for QueryStep {
-    ghost use Rattle.query_lang.specs.Steps.{Step};
+    ghost use Rattle.query_grammar.specs.Steps.{Step};
 
     ghost Value = { Step };
 
@@ -87,7 +87,7 @@ pub struct Query {
 
 impl Model for Query {
     ghost use Rattle.std.specs.Prelude.{List};
-    ghost use Rattle.query_lang.specs.Steps.{Step};
+    ghost use Rattle.query_grammar.specs.Steps.{Step};
 
     ghost Value = { List Step };
 

@@ -2,17 +2,17 @@
 use Rattle.std.specs.Prelude.{ℕ, Bool, true, false, ◌&&◌, List, [], ◌∷◌, ◌++◌, length, drop, nat_lt, Option, Some, None, ◌==◌, codes, if◌then◌else◌}
 use Rattle.std.specs.List.{list_any}
 use Rattle.std.specs.Str.{byte, bytes_eq}
-use Rattle.std.specs.Prelude.{nat_eq}
 use Rattle.exact_refusals.specs.Judge.{Outcome}
 use Rattle.plain_refusals.specs.Machine.{outcome}
-use Rattle.query_lang.specs.declared.query.Hunter.{Hunter}
-use Rattle.query_lang.specs.declared.query.Hunter.TheVariants as hunter
-use Rattle.query_lang.specs.declared.query.Filter.TheVariants as filter
-use Rattle.query_lang.specs.declared.query.ListFilter.TheVariants as on_list
-use Rattle.query_lang.specs.declared.query.StepFilter.{StepFilter}
-use Rattle.query_lang.specs.declared.query.StepFilter.TheVariants as kind
-use Rattle.query_lang.specs.Steps.{Step}
-use Rattle.query_lang.specs.Queries.{is_lower, in_name, in_word, in_value}
+use Rattle.style_text.specs.Machine.{begins_with}
+use Rattle.query_grammar.specs.declared.query.Hunter.{Hunter}
+use Rattle.query_grammar.specs.declared.query.Hunter.TheVariants as hunter
+use Rattle.query_grammar.specs.declared.query.Filter.TheVariants as filter
+use Rattle.query_grammar.specs.declared.query.ListFilter.TheVariants as on_list
+use Rattle.query_grammar.specs.declared.query.StepFilter.{StepFilter}
+use Rattle.query_grammar.specs.declared.query.StepFilter.TheVariants as kind
+use Rattle.query_grammar.specs.Steps.{Step}
+use Rattle.query_grammar.specs.Queries.{is_lower, in_name, in_word, in_value}
 
 -- what a word is for
 pub data Role : Type 0 where
@@ -21,6 +21,7 @@ pub data Role : Type 0 where
   ForChild : Role
   ForNext : Role
 
+-- what the word of a filter is for
 pub data FilterRole : Type 0 where
   ForClass : FilterRole
   ForName : FilterRole
@@ -49,12 +50,14 @@ pub data State : Type 0 where
   -- behind a colon, with the units of a keyword
   Keyword : List Step → Hunter → List StepFilter → List ℕ → State
 
+-- the hunter with a word
 abbrev pub found : Role → List ℕ → Hunter
 found ForTag w = hunter.Tag w
 found ForId w = hunter.Id w
 found ForChild w = hunter.Child w
 found ForNext w = hunter.Next w
 
+-- the filter with a word
 abbrev pub sifted : FilterRole → List ℕ → StepFilter
 sifted ForClass w = kind.Node (filter.Class w)
 sifted ForName w = kind.Node (filter.Name w)
@@ -65,6 +68,7 @@ abbrev pub begins_word : Role → ℕ → Bool
 begins_word ForId u = in_word u
 begins_word _ u = is_lower u
 
+-- whether a unit goes on in a word
 abbrev pub goes_in : Role → ℕ → Bool
 goes_in ForId u = in_word u
 goes_in _ u = in_name u
@@ -87,14 +91,9 @@ abbrev pub look_up : List (List ℕ × StepFilter) → List ℕ → Option StepF
 look_up [] w = None
 look_up (row ∷ rows) w = if bytes_eq w row.0 then Some row.1 else look_up rows w
 
+-- the filter of a word, if it is a keyword
 unfoldable pub keyword_of : List ℕ → Option StepFilter
 keyword_of w = look_up keywords w
-
--- the word begins with the units
-abbrev pub begins_with : List ℕ → List ℕ → Bool
-begins_with word [] = true
-begins_with [] (u ∷ us) = false
-begins_with (letter ∷ word) (u ∷ us) = nat_eq u letter && begins_with word us
 
 -- some keyword begins with the units
 unfoldable pub fits : List ℕ → Bool
@@ -127,10 +126,12 @@ inside qs h fs u =
     else if u == byte ":" then Some (Keyword qs h fs [])
     else between (with qs h fs) u
 
+-- behind the units of a keyword, with its filter if it is whole
 abbrev pub keyword_or : List Step → Hunter → List StepFilter → List ℕ → Option StepFilter → Option State
 keyword_or qs h fs front (Some f) = Some (Inside qs h (fs ++ f ∷ []))
 keyword_or qs h fs front None = if fits front then Some (Keyword qs h fs front) else None
 
+-- the next state, if the unit is taken
 abbrev pub step : State → ℕ → Option State
 step (Between qs) u = between qs u
 step (Hunt role qs) u =
@@ -152,10 +153,12 @@ step (AttributeValue qs h fs w v) u =
 step (Keyword qs h fs front) u = keyword_or qs h fs (front ++ u ∷ []) (keyword_of (front ++ u ∷ []))
 
 -- where the text may end, and its steps then
+-- steps, if there are some
 abbrev pub some_steps : List Step → Option (List Step)
 some_steps [] = None
 some_steps (q ∷ qs) = Some (q ∷ qs)
 
+-- the steps where the text may end
 abbrev pub done : State → Option (List Step)
 done (Between qs) = some_steps qs
 done (HuntWord role qs w) = Some (with qs (found role w) [])
@@ -163,9 +166,14 @@ done (Inside qs h fs) = Some (with qs h fs)
 done (SiftWord role qs h fs w) = Some (with qs h (fs ++ sifted role w ∷ []))
 done _ = None
 
+-- before the text
 abbrev pub begin : State
 begin = Between []
 
 -- what comes of the units from a place on
 abbrev pub goes : List ℕ → State → ℕ → Outcome (List Step)
 goes us st at = outcome step done st (drop at us)
+
+-- what comes of a whole text
+abbrev pub judged : List ℕ → Outcome (List Step)
+judged us = outcome step done begin us
