@@ -2,7 +2,7 @@ use Rattle.std.proofs.Common.{sym, ◌∙◌}
 use Rattle.js_tree.specs.Trees.{trees}
 use Rattle.js_tree.specs.Forest.{plain_form}
 use Rattle.js_print.proofs.Steps.{enclosed_step, bare_step}
-use Rattle.js_print.proofs.expand.expand_expr.Goals as goal
+use Rattle.js_print.proofs.expressions.expand_expr.Goals as goal
 
 pub returns-then-is_enclosed : goal.returns-then-is_enclosed
 returns-then-is_enclosed c =

@@ -1,7 +1,7 @@
 use Rattle.std.proofs.Common.{◌≡◌, drop, arith, subst}
 use Rattle.js_print.specs.Todo.{row, row_cost, Pushes}
 use Rattle.js_print.proofs.Stacks.{row_end, row_pushed, pushes_none}
-use Rattle.js_print.proofs.expand.push_all.Goals as goal
+use Rattle.js_print.proofs.work.push_all.Goals as goal
 
 pub pieces-init : goal.pieces-init
 pieces-init c = (omega arith, λ f h. rw (row_end f c.args.pieces.now) (pushes_none f c.args.work.now.items _))

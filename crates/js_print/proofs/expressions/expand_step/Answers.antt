@@ -1,6 +1,6 @@
 use Rattle.js_print.specs.Costs.{form_cost}
 use Rattle.js_print.specs.Tidy.{form_tokens}
-use Rattle.js_print.proofs.expand.expand_step.Goals as goal
+use Rattle.js_print.proofs.expressions.expand_step.Goals as goal
 
 pub returns-in-PreInc : goal.returns-in-PreInc
 unfolding form_tokens form_cost
