@@ -1,8 +1,7 @@
 -- Finds: the nodes that a walk by the steps of a query reaches, in document order and without repeats.
 -- A node is a number.
-use Rattle.std.specs.Prelude.{ℕ, ◌%◌, List, [], ◌∷◌, ◌++◌, drop, take, map, Bool, ◌&&◌, ◌==◌, if◌then◌else◌, codes, nat_eq, Option, Some, None, option_to_list}
+use Rattle.std.specs.Prelude.{ℕ, ◌%◌, List, [], ◌∷◌, drop, take, map, Bool, ◌&&◌, ◌==◌, if◌then◌else◌, codes, nat_eq, Option, Some, None, option_to_list}
 use Rattle.std.specs.List.{filter, flat_map, list_any, enumerate_from}
-use Rattle.plain_tree.specs.Trees.{Trees, End, Node}
 use Rattle.query_grammar.specs.declared.query.Filter.{Filter}
 use Rattle.query_grammar.specs.declared.query.Hunter.{Hunter}
 use Rattle.query_grammar.specs.declared.query.Hunter.TheVariants as hunter
@@ -30,11 +29,6 @@ pub record Sight : Type 0 where
   pub links : Links
   pub document : List ℕ
   pub focus : Option ℕ
-
--- the numbers of trees in document order
-abbrev pub numbers : Trees ℕ → List ℕ
-numbers End = []
-numbers (Node n l ks ts) = n ∷ (numbers ks ++ numbers ts)
 
 -- whether a number is among these
 abbrev pub has_number : List ℕ → ℕ → Bool

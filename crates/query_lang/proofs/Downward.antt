@@ -12,7 +12,7 @@ use Rattle.page_tree.specs.Roots.{IsRooted}
 use Rattle.page_tree.proofs.Shows.{Shows, none, one_more, shows_one, shows_tree}
 use Rattle.page_tree.proofs.Walk.{listed_at, child_in, child_lower}
 use Rattle.query_lang.specs.Finds.{within, below}
-use Rattle.query_grammar.specs.Finds.{numbers}
+use Rattle.tree_ops.specs.Trees.{numbers}
 
 -- ## Pages
 

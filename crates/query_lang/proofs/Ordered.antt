@@ -15,7 +15,8 @@ use Rattle.page_tree.proofs.Shows.{shows_tree}
 use Rattle.page_tree.proofs.Upward.{has_parent, none_some}
 use Rattle.page_tree.proofs.Walk.{nearer}
 use Rattle.query_lang.specs.Finds.{within, is_loose, in_order, document, tops}
-use Rattle.query_grammar.specs.Finds.{numbers, has_number}
+use Rattle.query_grammar.specs.Finds.{has_number}
+use Rattle.tree_ops.specs.Trees.{numbers}
 use Rattle.query_lang.specs.Walks.{AreNodes, IsClosed, AreTops, RiseFrom}
 use Rattle.query_grammar.proofs.Numbers.{has_both, has_first, none_pass}
 use Rattle.query_grammar.proofs.Truths.{no_true, or_right}

@@ -11,7 +11,8 @@ use Rattle.query_grammar.specs.declared.query.Hunter.{Hunter}
 use Rattle.query_grammar.specs.declared.query.StepFilter.{StepFilter}
 use Rattle.query_grammar.specs.Steps.{Step}
 use Rattle.query_grammar.specs.Finds as query
-use Rattle.query_grammar.specs.Finds.{Links, Sight, numbers, has_number}
+use Rattle.query_grammar.specs.Finds.{Links, Sight, has_number}
+use Rattle.tree_ops.specs.Trees.{numbers}
 use Rattle.query_lang.specs.Nodes.{look}
 
 -- ## The links of a page

@@ -2,7 +2,8 @@
 use Rattle.std.proofs.Common.{◌≡◌, ℕ, ◌∷◌, ◌++◌, Bool, true, false, ◌∙◌, subst, cond, eqb, Option, Some, None, ◌⊎◌, inl, inr, ⊎_elim}
 use Rattle.std.proofs.lemmas.Bool.{or_cases}
 use Rattle.plain_tree.specs.Trees.{End, Node}
-use Rattle.query_grammar.specs.Finds.{numbers, has_number}
+use Rattle.query_grammar.specs.Finds.{has_number}
+use Rattle.tree_ops.specs.Trees.{numbers}
 use Rattle.query_grammar.specs.Renumbering.{IsWhole}
 use Rattle.query_grammar.proofs.Numbers.{has_both, has_first}
 use Rattle.query_grammar.proofs.Truths.{or_left, or_right, same_some, none_some}

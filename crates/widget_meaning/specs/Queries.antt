@@ -1,7 +1,8 @@
 -- Queries as a widget makes them. Which texts are queries, and what a query finds of what it sees of a page, is said by `query_grammar`.
 use Rattle.std.specs.Prelude.{◌≡◌, ℕ, List, Option, Some}
 use Rattle.query_grammar.specs.Finds as query
-use Rattle.query_grammar.specs.Finds.{Links, Sight, numbers}
+use Rattle.query_grammar.specs.Finds.{Links, Sight}
+use Rattle.tree_ops.specs.Trees.{numbers}
 use Rattle.query_grammar.specs.Machine.{judged}
 use Rattle.query_grammar.specs.Queries.{QuerySpells}
 use Rattle.query_grammar.specs.Steps.{Step}
