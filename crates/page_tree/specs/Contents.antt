@@ -2,7 +2,6 @@
 use Rattle.std.specs.Prelude.{ℕ, List, [], Bool, ◌≡◌, slice_index_or}
 use Rattle.std.specs.Str.{bytes_eq}
 use Rattle.plain_tree.specs.Trees.{Attribute}
-pub use Rattle.tree_ops.specs.Labels.{tag_of, attribute_of}
 
 -- whether the attribute at a place has a name
 abbrev pub IsNamed : List ℕ → List Attribute → ℕ → Bool → Type 0

@@ -2,8 +2,6 @@
 use Rattle.std.specs.Prelude.{ℕ, zero, suc, ◌+◌, max, ◌==◌, if◌then◌else◌}
 use Rattle.plain_tree.specs.Trees.{Trees, End, Node}
 use Rattle.tree_ops.specs.Trees.{without}
-pub use Rattle.tree_ops.specs.Labels.{is_text}
-pub use Rattle.tree_ops.specs.Trees.{has, is_number}
 
 -- one level further down; 0 stays
 abbrev pub deeper : ℕ → ℕ

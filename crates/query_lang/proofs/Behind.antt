@@ -7,7 +7,7 @@ use Rattle.std.specs.Prelude.{IfOk, Result, Ok, Err}
 use Rattle.page_tree.specs.declared.page.Page.{Page}
 use Rattle.page_tree.specs.Entries.{Entry, at, listed, distinct}
 use Rattle.page_tree.specs.Pages.{nodes}
-use Rattle.page_tree.specs.Trees.{is_number}
+use Rattle.tree_ops.specs.Trees.{is_number}
 use Rattle.page_tree.proofs.Upward.{parent_in}
 use Rattle.query_grammar.specs.declared.query.Hunter.TheVariants as hunter
 use Rattle.query_lang.specs.Nodes.{is_element}

@@ -8,7 +8,7 @@ use Rattle.std.specs.List.{filter, flat_map, range_with_len}
 use Rattle.code_units.specs.declared.owner.Owner.{Owner}
 use Rattle.plain_tree.specs.Trees.{Trees, End, Node, height}
 use Rattle.page_tree.specs.declared.page.Page.{Page}
-use Rattle.page_tree.specs.Trees.{has}
+use Rattle.tree_ops.specs.Trees.{has}
 use Rattle.page_tree.specs.Entries.{Entry, at, listed, tree, limit, IsSound, no_entry}
 use Rattle.page_tree.specs.Pages.{nodes, root}
 use Rattle.page_tree.proofs.Shows.{shows_tree}

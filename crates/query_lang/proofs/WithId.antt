@@ -9,8 +9,8 @@ use Rattle.code_units.specs.declared.owner.Owner.{Owner}
 use Rattle.code_units.specs.declared.owner.Owner.TheVariants as owner
 use Rattle.plain_tree.specs.Trees.{Label, TextOf, ElementOf, Trees, End, Node, height}
 use Rattle.page_tree.specs.declared.page.Page.{Page}
-use Rattle.page_tree.specs.Trees.{has}
-use Rattle.page_tree.specs.Contents.{tag_of, attribute_of}
+use Rattle.tree_ops.specs.Trees.{has}
+use Rattle.tree_ops.specs.Labels.{tag_of, attribute_of}
 use Rattle.page_tree.specs.Owners.{is_owner, same_owner}
 use Rattle.page_tree.specs.Entries.{Entry, at, body, tree, limit, IsSound}
 use Rattle.page_tree.specs.Pages.{nodes, root}

@@ -6,7 +6,7 @@ use Rattle.page_tree.specs.declared.page.Page.{Page}
 use Rattle.page_tree.specs.Entries.{Entry, at, tree}
 use Rattle.page_tree.specs.Owners.{same_owner}
 use Rattle.page_tree.specs.Pages.{nodes, root}
-use Rattle.page_tree.specs.Trees.{is_number}
+use Rattle.tree_ops.specs.Trees.{is_number}
 use Rattle.query_grammar.specs.declared.query.Hunter.{Hunter}
 use Rattle.query_grammar.specs.declared.query.StepFilter.{StepFilter}
 use Rattle.query_grammar.specs.Steps.{Step}

@@ -1,6 +1,6 @@
 -- What a filter sees of a node of a page.
 use Rattle.std.specs.Prelude.{ℕ, List, Bool, Option}
-use Rattle.page_tree.specs.Contents.{tag_of, attribute_of}
+use Rattle.tree_ops.specs.Labels.{tag_of, attribute_of}
 use Rattle.page_tree.specs.Entries.{Entry, at}
 use Rattle.query_grammar.specs.declared.query.Filter.{Filter}
 use Rattle.query_grammar.specs.Filters.{Look}

@@ -5,7 +5,7 @@ use Rattle.code_units.specs.declared.owner.Owner.{Owner}
 use Rattle.page_tree.specs.declared.page.Page.{Page}
 use Rattle.page_tree.specs.Entries.{Entry, at}
 use Rattle.page_tree.specs.Pages.{nodes, root}
-use Rattle.page_tree.specs.Trees.{is_number}
+use Rattle.tree_ops.specs.Trees.{is_number}
 use Rattle.query_lang.specs.declared.wanted.Wanted.{Wanted}
 use Rattle.query_lang.specs.declared.wanted.Wanted.TheVariants as wanted
 use Rattle.query_lang.specs.Nodes.{is_element}

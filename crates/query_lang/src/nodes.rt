@@ -3,13 +3,12 @@ ghost use Rattle.std.specs.Prelude.{◌≡◌, ◌==◌, ◌+◌, ◌<◌, ◌�
 ghost use Rattle.std.specs.List.{list_any, position_or_len};
 ghost use Rattle.std.specs.Str.{bytes_eq};
 ghost use Rattle.page_tree.specs.Pages.{nodes};
-ghost use Rattle.page_tree.specs.Trees.{is_number};
 ghost use Rattle.query_lang.specs.Nodes.{look, is_element, passes};
 ghost use Rattle.query_grammar.specs.Filters.{is_equal, has_tag, is_input, is_field, seen_value, seen, words, has_class};
 ghost use Rattle.query_grammar.specs.Finds.{has_focus};
 
 use code_units::{Text, is_word};
-use page_tree::{NodeId, Page};
+use page_tree::{NodeId, Page, is_number};
 use query_grammar::Filter;
 use style_text::prints_as;
 
@@ -152,23 +151,11 @@ fn equals(page: &Page, node: NodeId, name: &Text, value: &Text) -> bool
     }
 }
 
-/// Whether there is a node and it is this one.
-pub fn is_this(place: Option<NodeId>, node: NodeId) -> bool
-    ensures { result ≡ is_number node place }
-{
-    match place {
-        Some(place) => node == place,
-        None => false,
-    }
-}
-
+// Whether the node has the focus.
 fn has_focus(focus: Option<NodeId>, node: NodeId) -> bool
     ensures { result ≡ has_focus focus node }
 {
-    match focus {
-        Some(place) => node == place,
-        None => false,
-    }
+    is_number(node, focus)
 }
 
 /// Whether a filter keeps a node of a widget, which has the focus at this node or nowhere. An
