@@ -13,6 +13,7 @@ use crate::work::{Work, push_all, push_comma, push_inside};
 use code_units::{Memory, Text};
 use js_tree::{Clause, Decl, ExprId, ForInit, Fun, FunId, Stmt, StmtId, Tree};
 
+#[tactic(auto, unfolding(crate::specs::Tidy::fun_tokens, crate::specs::Costs::fun_cost))]
 fn expand_fun<'t>(node: &'t Fun, work: &mut Vec<Work<'t>>) -> Result<(), Memory>
     ensures { (f : Forest) (names : List ℕ) → AreFunParts f node.now → OnOk result (Pushes f (fun_tokens (plain_fun f node.now names)) (fun_cost (plain_fun f node.now names)) work.old.items work.new.items) }
 {
@@ -177,6 +178,7 @@ fn expand_else<'t>(tree: &Tree, ids: &'t [StmtId], work: &mut Vec<Work<'t>>) -> 
     }
 }
 
+#[tactic(auto, unfolding(crate::specs::Tidy::init_tokens, crate::specs::Costs::init_cost))]
 fn expand_init<'t>(init: &'t ForInit, work: &mut Vec<Work<'t>>) -> Result<(), Memory>
     ensures { (f : Forest) → AreInit f init.now → OnOk result (Pushes f (init_tokens (init_at f init.now)) (init_cost (init_at f init.now)) work.old.items work.new.items) }
 {
@@ -186,6 +188,7 @@ fn expand_init<'t>(init: &'t ForInit, work: &mut Vec<Work<'t>>) -> Result<(), Me
     }
 }
 
+#[tactic(auto, unfolding(crate::specs::Tidy::optional_tokens, crate::specs::Costs::optional_cost))]
 fn expand_optional(e: Option<ExprId>, work: &mut Vec<Work>) -> Result<(), Memory>
     ensures { (f : Forest) → IsOptional f e → OnOk result (Pushes f (optional_tokens (optional_at f e)) (optional_cost (optional_at f e)) work.old.items work.new.items) }
 {
@@ -195,6 +198,7 @@ fn expand_optional(e: Option<ExprId>, work: &mut Vec<Work>) -> Result<(), Memory
     }
 }
 
+#[tactic(auto, unfolding(crate::specs::Tidy::value_tokens, crate::specs::Costs::value_cost))]
 fn expand_value(e: Option<ExprId>, work: &mut Vec<Work>) -> Result<(), Memory>
     ensures { (f : Forest) → IsOptional f e → OnOk result (Pushes f (value_tokens (optional_at f e)) (value_cost (optional_at f e)) work.old.items work.new.items) }
 {
@@ -204,6 +208,7 @@ fn expand_value(e: Option<ExprId>, work: &mut Vec<Work>) -> Result<(), Memory>
     }
 }
 
+#[tactic(auto, unfolding(crate::specs::Tidy::test_tokens, crate::specs::Costs::test_cost))]
 fn expand_test(e: Option<ExprId>, work: &mut Vec<Work>) -> Result<(), Memory>
     ensures { (f : Forest) → IsOptional f e → OnOk result (Pushes f (test_tokens (optional_at f e)) (test_cost (optional_at f e)) work.old.items work.new.items) }
 {
@@ -231,6 +236,7 @@ fn expand_label<'t>(label: &'t Option<Text>, work: &mut Vec<Work<'t>>) -> Result
     }
 }
 
+#[tactic(auto, unfolding(crate::specs::Tidy::catch_tokens, crate::specs::Costs::catch_cost))]
 fn expand_catch<'t>(
     caught: &'t Option<(Text, Vec<StmtId>)>,
     work: &mut Vec<Work<'t>>,
@@ -252,6 +258,7 @@ fn expand_catch<'t>(
     }
 }
 
+#[tactic(auto, unfolding(crate::specs::Tidy::last_tokens, crate::specs::Costs::last_cost))]
 fn expand_last<'t>(last: &'t Option<Vec<StmtId>>, work: &mut Vec<Work<'t>>) -> Result<(), Memory>
     ensures { (f : Forest) → AreBlock f last.now → OnOk result (Pushes f (last_tokens (block_at f last.now)) (last_cost (block_at f last.now)) work.old.items work.new.items) }
 {

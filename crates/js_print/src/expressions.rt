@@ -16,6 +16,7 @@ use code_units::{Memory, Text};
 use js_tree::{AssignOp, Expr, ExprId, StepOp, Tree};
 
 // A property by its name.
+#[tactic(auto, unfolding(crate::specs::Tidy::form_tokens, crate::specs::Costs::form_cost))]
 fn expand_dot<'t>(
     object: ExprId,
     name: &'t Text,
@@ -35,6 +36,7 @@ fn expand_dot<'t>(
 }
 
 // A property by its key.
+#[tactic(auto, unfolding(crate::specs::Tidy::form_tokens, crate::specs::Costs::form_cost))]
 fn expand_sub(object: ExprId, key: ExprId, first: bool, work: &mut Vec<Work>) -> Result<(), Memory>
     ensures { (f : Forest) → IsExpr f object → IsExpr f key → OnOk result (PushesForm f first (Sub (expr_at f object) (expr_at f key)) work.old.items work.new.items) }
 {
@@ -49,6 +51,7 @@ fn expand_sub(object: ExprId, key: ExprId, first: bool, work: &mut Vec<Work>) ->
     )
 }
 
+#[tactic(auto, unfolding(crate::specs::Tidy::form_tokens, crate::specs::Costs::form_cost))]
 fn expand_call<'t>(
     function: ExprId,
     arguments: &'t [ExprId],
@@ -68,6 +71,7 @@ fn expand_call<'t>(
     )
 }
 
+#[tactic(auto, unfolding(crate::specs::Tidy::form_tokens, crate::specs::Costs::form_cost))]
 fn expand_new<'t>(
     function: ExprId,
     arguments: &'t [ExprId],
@@ -87,6 +91,7 @@ fn expand_new<'t>(
     )
 }
 
+#[tactic(auto, unfolding(crate::specs::Tidy::form_tokens, crate::specs::Costs::form_cost))]
 fn expand_step(op: StepOp, e: ExprId, first: bool, work: &mut Vec<Work>) -> Result<(), Memory>
     ensures { (f : Forest) → IsExpr f e → OnOk result (PushesForm f first (Step op (expr_at f e)) work.old.items work.new.items) }
 {
@@ -120,6 +125,7 @@ fn expand_infix<'t>(
     )
 }
 
+#[tactic(auto, unfolding(crate::specs::Tidy::form_tokens, crate::specs::Costs::form_cost))]
 fn expand_cond(
     test: ExprId,
     then: ExprId,
@@ -141,6 +147,7 @@ fn expand_cond(
     )
 }
 
+#[tactic(auto, unfolding(crate::specs::Tidy::form_tokens, crate::specs::Costs::form_cost))]
 fn expand_assign(
     op: AssignOp,
     target: ExprId,
@@ -161,6 +168,7 @@ fn expand_assign(
 }
 
 // An expression without its parentheses.
+#[tactic(auto, unfolding(crate::specs::Tidy::form_tokens, crate::specs::Costs::form_cost))]
 fn expand_form<'t>(node: &'t Expr, first: bool, work: &mut Vec<Work<'t>>) -> Result<(), Memory>
     ensures { (f : Forest) → AreExprParts f node.now → OnOk result (PushesForm f first (plain_form f node.now) work.old.items work.new.items) }
 {

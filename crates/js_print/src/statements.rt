@@ -33,6 +33,7 @@ fn expand_headed<'t>(
     )
 }
 
+#[tactic(auto, unfolding(crate::specs::Tidy::stmt_form_tokens, crate::specs::Costs::stmt_form_cost))]
 fn expand_if<'t>(
     test: ExprId,
     then: &'t [StmtId],
@@ -52,6 +53,7 @@ fn expand_if<'t>(
     )
 }
 
+#[tactic(auto, unfolding(crate::specs::Tidy::stmt_form_tokens, crate::specs::Costs::stmt_form_cost))]
 fn expand_do<'t>(test: ExprId, body: &'t [StmtId], work: &mut Vec<Work<'t>>) -> Result<(), Memory>
     ensures { (f : Forest) → IsExpr f test → All (IsStmt f) body.now → OnOk result (PushesStmt f (DoWhile (expr_at f test) (stmts_at f body.now)) work.old.items work.new.items) }
 {
@@ -67,6 +69,7 @@ fn expand_do<'t>(test: ExprId, body: &'t [StmtId], work: &mut Vec<Work<'t>>) -> 
     )
 }
 
+#[tactic(auto, unfolding(crate::specs::Tidy::stmt_form_tokens, crate::specs::Costs::stmt_form_cost))]
 fn expand_for<'t>(
     init: &'t ForInit,
     test: Option<ExprId>,
@@ -92,6 +95,7 @@ fn expand_for<'t>(
     )
 }
 
+#[tactic(auto, unfolding(crate::specs::Tidy::stmt_form_tokens, crate::specs::Costs::stmt_form_cost))]
 fn expand_for_in<'t>(
     declared: bool,
     variable: &'t Text,
@@ -116,6 +120,7 @@ fn expand_for_in<'t>(
     )
 }
 
+#[tactic(auto, unfolding(crate::specs::Tidy::stmt_form_tokens, crate::specs::Costs::stmt_form_cost))]
 fn expand_switch<'t>(
     value: ExprId,
     clauses: &'t [Clause],
@@ -135,6 +140,7 @@ fn expand_switch<'t>(
     )
 }
 
+#[tactic(auto, unfolding(crate::specs::Tidy::stmt_form_tokens, crate::specs::Costs::stmt_form_cost))]
 fn expand_try<'t>(
     body: &'t [StmtId],
     caught: &'t Option<(Text, Vec<StmtId>)>,
@@ -155,6 +161,7 @@ fn expand_try<'t>(
 }
 
 /// A statement.
+#[tactic(auto, unfolding(crate::specs::Tidy::stmt_form_tokens, crate::specs::Costs::stmt_form_cost))]
 pub fn expand_stmt<'t>(node: &'t Stmt, work: &mut Vec<Work<'t>>) -> Result<(), Memory>
     ensures { (f : Forest) → AreStmtParts f node.now → OnOk result (PushesStmt f (plain_stmt_form f node.now) work.old.items work.new.items) }
 {
