@@ -7,7 +7,7 @@ use Rattle.adsafe_rules.specs.declared.scope.Scope.{Scope}
 use Rattle.adsafe_rules.specs.declared.scope.Scope.TheVariants as scope
 use Rattle.adsafe_rules.specs.Accepts.{tree_of}
 use Rattle.script_check.specs.declared.judging.Verdict.{Verdict}
-use Rattle.script_check.specs.Line.{place}
+use Rattle.code_units.specs.Places.{place_at as place}
 use Rattle.script_check.specs.Script.{ScriptFirst}
 use Rattle.script_check.specs.Verdict.{IsAccepted, IsVerdict}
 use Rattle.trace_text.specs.declared.line.Rule.{Rule}

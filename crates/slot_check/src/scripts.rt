@@ -1,7 +1,7 @@
 //! The scripts of a widget file.
 ghost use Rattle.std.specs.Prelude.{◌≡◌, ◌+◌, ◌<◌, ◌^◌, length, IfOk};
 ghost use Rattle.slot_check.specs.Sources.{script_text};
-ghost use Rattle.script_check.specs.Line.{place};
+ghost use Rattle.code_units.specs.Places.{place_at as place};
 ghost use Rattle.slot_check.specs.Verdicts.{IsSpanVerdict};
 
 use adsafe_rules::{Accepted, Scope};
