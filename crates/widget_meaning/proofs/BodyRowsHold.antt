@@ -5,7 +5,8 @@ use Rattle.widget_meaning.specs.Values.{Due, Nodes}
 use Rattle.plain_tree.specs.Trees.{End}
 use Rattle.widget_meaning.specs.Rows.{Row, rendered}
 use Rattle.widget_meaning.specs.PageRows.{Events}
-use Rattle.widget_meaning.specs.BodyRows.{BodyRows, page, element, attr, words, shown, spliced, in_radix, made_text, replaced_ends, fallen_through, along_chain, posted, appended_copies, replaced_by_text, each_counted, fired_up, marked_all, timed_out, crowded}
+use Rattle.widget_meaning.specs.RowTrees.{element, words}
+use Rattle.widget_meaning.specs.BodyRows.{BodyRows, page, bold, shown, spliced, in_radix, made_text, replaced_ends, fallen_through, along_chain, posted, appended_copies, replaced_by_text, each_counted, fired_up, marked_all, timed_out, crowded}
 use Rattle.widget_meaning.proofs.OnLiterals.{widgets_on_literals}
 
 spliced-holds : Row (rendered spliced) None 26 (codes "1" ∷ []) []
@@ -68,11 +69,11 @@ timed_turns-holds : Events timed_out 5 0 0
 unfolding widgets_on_literals
 timed_turns-holds = record { turns_are = refl; missed_are = refl; gone_are = refl }
 
-appended_copies_page-holds : shown (rendered appended_copies) ≡ page (element (codes "b") (attr (codes "class") (codes "x y") ∷ []) (words (codes "c") End) End) (element (codes "b") [] (words (codes "x") End) End)
+appended_copies_page-holds : shown (rendered appended_copies) ≡ page bold (element "b" [] (words "x" End) End)
 unfolding widgets_on_literals
 appended_copies_page-holds = refl
 
-replaced_by_text_page-holds : shown (rendered replaced_by_text) ≡ page (words (codes "1") End) End
+replaced_by_text_page-holds : shown (rendered replaced_by_text) ≡ page (words "1" End) End
 unfolding widgets_on_literals
 replaced_by_text_page-holds = refl
 

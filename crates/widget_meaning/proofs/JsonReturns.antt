@@ -14,12 +14,12 @@ use Rattle.code_units.specs.Permitted.{is_permitted}
 use Rattle.code_units.proofs.UnitsBack.{IsUtf8-utf8_of, units_of-utf8_of}
 use Rattle.serde_json.specs.Data as json
 use Rattle.widget_meaning.specs.Limits.{max_nesting}
-use Rattle.widget_meaning.specs.Values.{Value, Undefined, Null, Truth, NaN, Num, Text, Own, Host, E8}
+use Rattle.widget_meaning.specs.Values.{Value, Undefined, Null, Truth, NaN, Num, Text, Own, Host, E8, E4}
 use Rattle.widget_meaning.specs.OwnState.{State, Cell, Kind, Object, Array, Function, Bunch, Pairs, lookup, cell_at, plain_object, with_new_cell}
 use Rattle.widget_meaning.specs.Plan.{charge}
-use Rattle.widget_meaning.specs.Costs.{throw}
+use Rattle.widget_meaning.specs.Costs.{throw, or_throw}
 use Rattle.widget_meaning.specs.Properties.{index_name}
-use Rattle.widget_meaning.specs.JsonValues.{or_bad_json, read_value, give_read, texts_in, value_at, cells_at, has_numbers, has_permitted_names}
+use Rattle.widget_meaning.specs.JsonValues.{read_value, give_read, texts_in, value_at, cells_at, has_numbers, has_permitted_names}
 use Rattle.widget_meaning.specs.JsonLaws.{PartTree, items_tree, members_tree, cell_tree, tree_of, in_order, items_in_order, put_all, HasUnits, IsOrdinary, AreOrdinary}
 use Rattle.widget_meaning.specs.JsonBack.{IsTree, AreItems, AreMembers, item_count, StandFrom, HasWholeNames, HasLength, IsOrdinaryCell, ReturnLaws}
 use Rattle.widget_meaning.proofs.JsonHolds.{OrdinaryOption, lookup_ordinary, json_laws}
@@ -212,7 +212,7 @@ return_laws s v t cells h e =
       tree = back.tree;
       is = back.is;
       reads = λ u.
-          ap (λ r. or_bad_json r (length t) u) back.read
+          ap (λ r. or_throw E4 r u (λ d. read_value (length t) d (cells_at (length u.own.heap) d) (value_at (length u.own.heap) d) u)) back.read
           ∙ judged (length t) d (cells_at (length u.own.heap) d) (value_at (length u.own.heap) d) u (laws u).names (laws u).numbers;
       again = λ u. (laws u).tree;
     }

@@ -8,7 +8,7 @@ use Rattle.widget_meaning.specs.NativeNames.{Native}
 use Rattle.widget_meaning.specs.Values.{Value, Undefined, Null, Num, Text, Own, Host, Completion, Normal, Is, Refers, Return, Break, Continue, Throw, Reference, Variable, Property, Found}
 use Rattle.widget_meaning.specs.OwnState.{State, Cell, Kind, Object, Array, Function, Bunch}
 use Rattle.widget_meaning.specs.Plan.{Plan, Place, Ret, Loop, WhileLoop, DoLoop, ForLoop, ForInLoop, Hearing}
-use Rattle.js_tree.specs.Plain.{Expr, Stmt, Stmts, Fun, Funs, ExprForm, Exprs, Properties, OptionalExpr, StmtForm, Decls, ForInit, OptionalBlock, Catch, Clauses}
+use Rattle.js_tree.specs.Plain.{Expr, Stmt, Stmts, Fun, ExprForm, OptionalExpr, StmtForm, ForInit, OptionalBlock, Catch}
 use Rattle.widget_meaning.specs.Properties.{read, put, delete, index_name, put_pair, put_index, put_length, put_own, delete_pair, delete_own}
 use Rattle.widget_meaning.specs.Scopes.{fun_name, assign, set_in, scope_of}
 use Rattle.js_tree.specs.declared.nodes.StepOp.{StepOp}
@@ -17,10 +17,10 @@ use Rattle.js_tree.specs.declared.nodes.BinOp.{BinOp}
 use Rattle.js_tree.specs.declared.nodes.AssignOp.{AssignOp}
 use Rattle.code_units.specs.declared.whole.WholeRead.{WholeRead}
 use Rattle.widget_meaning.specs.Operators.{OpOut, Gives, Leaves, TooLong}
-use Rattle.widget_meaning.specs.Calls.{invoke, to_primitive, statements, next_statements, declare, call_end, call_body, enter_scope, enter, primitive_result, call_to_string, with_variable}
-use Rattle.widget_meaning.specs.Expressions.{array_parts, array_part, object_parts, object_part, dot_read, named_read, subscript_read, refer, dot_target, named_target, subscript_target, value_target, write, arguments_then, next_argument, callee, result, converted_right, converted_left, operate, binary_with, binary_right, unary_converted, unary_on, unary_operand, delete_at, delete_target, step_write, step_number, step_converted, step_target, assigned, compound, assign_with, assign_target, and_right, or_right, choose, prefix_form, expression, target, referred, base_of}
-use Rattle.widget_meaning.specs.Statements.{discard, declare_as, declaration, declarations, expressions, next_expressions, branch, loop_test, loop_end, while_next, do_next, for_test, for_again, for_next, for_init, for_in, for_in_next, for_in_names, for_in_over, pass, to_return, return_form, to_throw, case_test, choose_case, case_tested, switch_end, switch_on, in_catch, caught, last_end, finally, statement, Case, from_default}
-use Rattle.widget_meaning.specs.Dispatch.{hear, hear_found, search_from, dispatch, handlers, next_handlers, bubble_on, dispatch_end, heard}
+use Rattle.widget_meaning.specs.Calls.{invoke, to_primitive, statements, declare, call_end, call_body, enter_scope, enter, primitive_result, call_to_string, with_variable}
+use Rattle.widget_meaning.specs.Expressions.{array_parts, object_parts, subscript_read, refer, subscript_target, write, arguments_then, callee, result, converted_left, operate, binary_right, unary_on, delete_at, delete_target, step_write, step_number, step_converted, step_target, compound, assign_with, assign_target, and_right, or_right, choose, prefix_form, expression, target, referred, base_of}
+use Rattle.widget_meaning.specs.Statements.{declaration, declarations, expressions, branch, loop_test, loop_end, while_next, do_next, for_test, for_again, for_next, for_init, for_in, for_in_next, for_in_over, pass, return_form, case_test, choose_case, case_tested, switch_end, switch_on, in_catch, caught, last_end, finally, statement, Case, from_default}
+use Rattle.widget_meaning.specs.Dispatch.{hear, hear_found, search_from, dispatch, handlers, bubble_on, dispatch_end, heard, bubble}
 use Rattle.widget_meaning.specs.Keeps.{Invariant, Keeps}
 use Rattle.widget_meaning.proofs.Keeping.{ended, halted, job, either, value, reference, normal, thrown, chain, charged, paid, made, made_text, faulted, R}
 
@@ -82,9 +82,6 @@ module _ (inv : Invariant) where
   statements_r [] p s hr = ended inv Normal s hr
   statements_r (i ∷ is) p s hr = job inv _ s _ hr (λ o t u. normal inv o t _ u (statements_r is p t u))
 
-  pub next_statements_r : (x0 : List Stmt) (x1 : Place) (x2 : Completion) (x3 : State) → R inv x3 → Keeps inv (next_statements x0 x1 x2 x3)
-  next_statements_r is p o s hr = search (normal, statements_r)
-
   pub declare_r : (x0 : List Fun) (x1 : ℕ) (x2 : State) (x3 : (State → Plan)) → R inv x2 → ((y0 : State) → R inv y0 → Keeps inv (x3 y0)) → Keeps inv (declare x0 x1 x2 x3)
   declare_r [] i s k hr f0 = f0 s hr
   declare_r (f ∷ fs) i s k hr f0 = made inv _ 0 s _ hr (λ v t u. declare_r fs i (with_variable t i (fun_name f) v) k (variable_kept t i (fun_name f) v u) f0)
@@ -129,39 +126,18 @@ module _ (inv : Invariant) where
   array_parts_r v i [] p s hr = ended inv (Is v) s hr
   array_parts_r v i (e ∷ es) p s hr = job inv _ s _ hr (λ o t u. value inv o t _ u (λ w. put_r v (index_name i) w t (array_parts v (i + 1) es p) u (λ t' u'. array_parts_r v (i + 1) es p t' u')))
 
-  pub array_part_r : (x0 : Value) (x1 : ℕ) (x2 : List Expr) (x3 : Place) (x4 : Completion) (x5 : State) → R inv x5 → Keeps inv (array_part x0 x1 x2 x3 x4 x5)
-  array_part_r a i es p o s hr = search (value, put_r, array_parts_r)
-
   pub object_parts_r : (x0 : Value) (x1 : List (List ℕ × Expr)) (x2 : Place) (x3 : State) → R inv x3 → Keeps inv (object_parts x0 x1 x2 x3)
   object_parts_r v [] p s hr = ended inv (Is v) s hr
   object_parts_r v (q ∷ qs) p s hr = job inv _ s _ hr (λ o t u. value inv o t _ u (λ w. put_r v q.0 w t (object_parts v qs p) u (λ t' u'. object_parts_r v qs p t' u')))
 
-  pub object_part_r : (x0 : Value) (x1 : List ℕ) (x2 : List (List ℕ × Expr)) (x3 : Place) (x4 : Completion) (x5 : State) → R inv x5 → Keeps inv (object_part x0 x1 x2 x3 x4 x5)
-  object_part_r a x qs p o s hr = search (value, put_r, object_parts_r)
-
-  pub dot_read_r : (x0 : List ℕ) (x1 : Completion) (x2 : State) → R inv x2 → Keeps inv (dot_read x0 x1 x2)
-  dot_read_r x o s hr = search (value, read_r)
-
-  pub named_read_r : (x0 : Value) (x1 : Completion) (x2 : State) → R inv x2 → Keeps inv (named_read x0 x1 x2)
-  named_read_r b o s hr = search (value, read_r)
-
   pub subscript_read_r : (x0 : Expr) (x1 : Place) (x2 : Completion) (x3 : State) → R inv x3 → Keeps inv (subscript_read x0 x1 x2 x3)
-  subscript_read_r i p o s hr = search (value, job, named_read_r)
+  subscript_read_r i p o s hr = search (value, job, read_r)
 
   pub refer_r : (x0 : Value) (x1 : List ℕ) (x2 : State) → R inv x2 → Keeps inv (refer x0 x1 x2)
   refer_r b x s hr = search (either, faulted, ended)
 
-  pub dot_target_r : (x0 : List ℕ) (x1 : Completion) (x2 : State) → R inv x2 → Keeps inv (dot_target x0 x1 x2)
-  dot_target_r x o s hr = search (value, refer_r)
-
-  pub named_target_r : (x0 : Value) (x1 : Completion) (x2 : State) → R inv x2 → Keeps inv (named_target x0 x1 x2)
-  named_target_r b o s hr = search (value, refer_r)
-
   pub subscript_target_r : (x0 : Expr) (x1 : Place) (x2 : Completion) (x3 : State) → R inv x3 → Keeps inv (subscript_target x0 x1 x2 x3)
-  subscript_target_r i p o s hr = search (value, job, named_target_r)
-
-  pub value_target_r : (x0 : Completion) (x1 : State) → R inv x1 → Keeps inv (value_target x0 x1)
-  value_target_r o s hr = search (value, ended)
+  subscript_target_r i p o s hr = search (value, job, refer_r)
 
   pub write_r : (x0 : Reference) (x1 : Place) (x2 : Value) (x3 : State) (x4 : (State → Plan)) → R inv x3 → ((y0 : State) → R inv y0 → Keeps inv (x4 y0)) → Keeps inv (write x0 x1 x2 x3 x4)
   write_r (Variable x) p v s k hr f0 = search (assign_kept)
@@ -172,9 +148,6 @@ module _ (inv : Invariant) where
   arguments_then_r r vs [] p s hr = invoke_r (referred r p s) (base_of r) vs p.depth s hr
   arguments_then_r r vs (e ∷ es) p s hr = job inv _ s _ hr (λ o t u. value inv o t _ u (λ v. arguments_then_r r (vs ++ v ∷ []) es p t u))
 
-  pub next_argument_r : (x0 : Reference) (x1 : List Value) (x2 : List Expr) (x3 : Place) (x4 : Completion) (x5 : State) → R inv x5 → Keeps inv (next_argument x0 x1 x2 x3 x4 x5)
-  next_argument_r r vs es p o s hr = search (value, arguments_then_r)
-
   pub callee_r : (x0 : List Expr) (x1 : Place) (x2 : Completion) (x3 : State) → R inv x3 → Keeps inv (callee x0 x1 x2 x3)
   callee_r es p o s hr = search (reference, arguments_then_r)
 
@@ -184,31 +157,19 @@ module _ (inv : Invariant) where
   result_r Leaves s hr = search (halted)
   result_r TooLong s hr = search (halted)
 
-  pub converted_right_r : (x0 : BinOp) (x1 : Value) (x2 : Completion) (x3 : State) → R inv x3 → Keeps inv (converted_right x0 x1 x2 x3)
-  converted_right_r op v o s hr = search (value, result_r)
-
   pub converted_left_r : (x0 : BinOp) (x1 : Value) (x2 : ℕ) (x3 : Completion) (x4 : State) → R inv x4 → Keeps inv (converted_left x0 x1 x2 x3 x4)
-  converted_left_r op w d o s hr = search (value, chain, to_primitive_r, converted_right_r)
+  converted_left_r op w d o s hr = search (value, chain, to_primitive_r, result_r)
 
   pub operate_r : (x0 : BinOp) (x1 : Value) (x2 : Value) (x3 : ℕ) (x4 : State) → R inv x4 → Keeps inv (operate x0 x1 x2 x3 x4)
   operate_r op v w d s hr = search (either, chain, to_primitive_r, converted_left_r, result_r)
 
-  pub binary_with_r : (x0 : BinOp) (x1 : Value) (x2 : Place) (x3 : Completion) (x4 : State) → R inv x4 → Keeps inv (binary_with x0 x1 x2 x3 x4)
-  binary_with_r op v p o s hr = search (value, operate_r)
-
   pub binary_right_r : (x0 : BinOp) (x1 : Expr) (x2 : Place) (x3 : Completion) (x4 : State) → R inv x4 → Keeps inv (binary_right x0 x1 x2 x3 x4)
-  binary_right_r op b p o s hr = search (value, job, binary_with_r)
-
-  pub unary_converted_r : (x0 : UnOp) (x1 : Completion) (x2 : State) → R inv x2 → Keeps inv (unary_converted x0 x1 x2)
-  unary_converted_r op o s hr = search (value, result_r)
+  binary_right_r op b p o s hr = search (value, job, operate_r)
 
   pub unary_on_r : (x0 : UnOp) (x1 : Value) (x2 : Place) (x3 : State) → R inv x3 → Keeps inv (unary_on x0 x1 x2 x3)
   unary_on_r un.TypeOf v p s hr = search (ended)
   unary_on_r un.Not v p s hr = search (result_r)
-  unary_on_r op v p s hr = search (chain, to_primitive_r, unary_converted_r)
-
-  pub unary_operand_r : (x0 : UnOp) (x1 : Place) (x2 : Completion) (x3 : State) → R inv x3 → Keeps inv (unary_operand x0 x1 x2 x3)
-  unary_operand_r op p o s hr = search (value, unary_on_r)
+  unary_on_r op v p s hr = search (chain, to_primitive_r, value, result_r)
 
   pub delete_at_r : (x0 : Reference) (x1 : State) → R inv x1 → Keeps inv (delete_at x0 x1)
   delete_at_r (Property b x) s hr = search (delete_r, ended)
@@ -234,9 +195,6 @@ module _ (inv : Invariant) where
   pub step_target_r : (x0 : StepOp) (x1 : Place) (x2 : Completion) (x3 : State) → R inv x3 → Keeps inv (step_target x0 x1 x2 x3)
   step_target_r op p o s hr = search (reference, chain, to_primitive_r, step_converted_r)
 
-  pub assigned_r : (x0 : Reference) (x1 : Place) (x2 : Completion) (x3 : State) → R inv x3 → Keeps inv (assigned x0 x1 x2 x3)
-  assigned_r r p o s hr = search (value, write_r, ended)
-
   pub compound_r : (x0 : AssignOp) (x1 : Value) (x2 : Value) (x3 : ℕ) (x4 : State) → R inv x4 → Keeps inv (compound x0 x1 x2 x3 x4)
   compound_r assignment.Add v w d s hr = search (operate_r)
   compound_r assignment.Sub v w d s hr = search (operate_r)
@@ -246,7 +204,7 @@ module _ (inv : Invariant) where
   compound_r op v w d s hr = search (ended)
 
   pub assign_with_r : (x0 : AssignOp) (x1 : Reference) (x2 : Value) (x3 : Place) (x4 : Completion) (x5 : State) → R inv x5 → Keeps inv (assign_with x0 x1 x2 x3 x4 x5)
-  assign_with_r op r v p o s hr = search (value, chain, compound_r, assigned_r)
+  assign_with_r op r v p o s hr = search (value, chain, compound_r, write_r, ended)
 
   pub assign_target_r : (x0 : AssignOp) (x1 : Expr) (x2 : Place) (x3 : Completion) (x4 : State) → R inv x4 → Keeps inv (assign_target x0 x1 x2 x3 x4)
   assign_target_r op e p o s hr = search (reference, job, assign_with_r)
@@ -262,7 +220,7 @@ module _ (inv : Invariant) where
 
   pub prefix_form_r : (x0 : UnOp) (x1 : Expr) (x2 : Place) (x3 : State) → R inv x3 → Keeps inv (prefix_form x0 x1 x2 x3)
   prefix_form_r un.Delete e p s hr = search (job, delete_target_r)
-  prefix_form_r op e p s hr = search (job, unary_operand_r)
+  prefix_form_r op e p s hr = search (job, value, unary_on_r)
 
   pub expression_r : (x0 : ExprForm) (x1 : Place) (x2 : State) → R inv x2 → Keeps inv (expression x0 x1 x2)
   expression_r (tree.Num t) p s hr = search (ended)
@@ -272,7 +230,7 @@ module _ (inv : Invariant) where
   expression_r (tree.Array es) p s hr = search (made, array_parts_r)
   expression_r (tree.Object qs) p s hr = search (made, object_parts_r)
   expression_r (tree.Function f) p s hr = search (made, ended)
-  expression_r (tree.Dot e x) p s hr = search (job, dot_read_r)
+  expression_r (tree.Dot e x) p s hr = search (job, value, read_r)
   expression_r (tree.Sub e i) p s hr = search (job, subscript_read_r)
   expression_r (tree.Call e es) p s hr = search (job, callee_r)
   expression_r (tree.Step op e) p s hr = search (job, step_target_r)
@@ -287,19 +245,13 @@ module _ (inv : Invariant) where
 
   pub target_r : (x0 : ExprForm) (x1 : Place) (x2 : State) → R inv x2 → Keeps inv (target x0 x1 x2)
   target_r (tree.Name x) p s hr = search (ended)
-  target_r (tree.Dot e x) p s hr = search (job, dot_target_r)
+  target_r (tree.Dot e x) p s hr = search (job, value, refer_r)
   target_r (tree.Sub e i) p s hr = search (job, subscript_target_r)
-  target_r form p s hr = search (chain, expression_r, value_target_r)
-
-  pub discard_r : (x0 : Completion) (x1 : State) → R inv x1 → Keeps inv (discard x0 x1)
-  discard_r o s hr = search (value, ended)
-
-  pub declare_as_r : (x0 : List ℕ) (x1 : Place) (x2 : (State → Plan)) (x3 : Completion) (x4 : State) → R inv x4 → ((y0 : State) → R inv y0 → Keeps inv (x2 y0)) → Keeps inv (declare_as x0 x1 x2 x3 x4)
-  declare_as_r x p k o s hr f0 = search (value, assign_kept)
+  target_r form p s hr = search (chain, expression_r, value, ended)
 
   pub declaration_r : (x0 : OptionalExpr) (x1 : List ℕ) (x2 : Place) (x3 : State) (x4 : (State → Plan)) → R inv x3 → ((y0 : State) → R inv y0 → Keeps inv (x4 y0)) → Keeps inv (declaration x0 x1 x2 x3 x4)
   declaration_r tree.NoExpr x p s k hr f0 = search
-  declaration_r (tree.SomeExpr e) x p s k hr f0 = search (job, declare_as_r)
+  declaration_r (tree.SomeExpr e) x p s k hr f0 = search (job, value, assign_kept)
 
   pub declarations_r : (x0 : List (List ℕ × OptionalExpr)) (x1 : Place) (x2 : State) → R inv x2 → Keeps inv (declarations x0 x1 x2)
   declarations_r [] p s hr = ended inv Normal s hr
@@ -308,9 +260,6 @@ module _ (inv : Invariant) where
   pub expressions_r : (x0 : List Expr) (x1 : Place) (x2 : State) → R inv x2 → Keeps inv (expressions x0 x1 x2)
   expressions_r [] p s hr = ended inv Normal s hr
   expressions_r (e ∷ es) p s hr = job inv _ s _ hr (λ o t u. value inv o t _ u (λ v. expressions_r es p t u))
-
-  pub next_expressions_r : (x0 : List Expr) (x1 : Place) (x2 : Completion) (x3 : State) → R inv x3 → Keeps inv (next_expressions x0 x1 x2 x3)
-  next_expressions_r es p o s hr = search (value, expressions_r)
 
   pub branch_r : (x0 : Stmts) (x1 : Stmts) (x2 : Place) (x3 : Completion) (x4 : State) → R inv x4 → Keeps inv (branch x0 x1 x2 x3 x4)
   branch_r a b p o s hr = search (value, either, statements_r)
@@ -354,11 +303,8 @@ module _ (inv : Invariant) where
   pub for_in_next_r : (x0 : Value) (x1 : List ℕ) (x2 : List (List ℕ)) (x3 : List Stmt) (x4 : Place) (x5 : Completion) (x6 : State) → R inv x6 → Keeps inv (for_in_next x0 x1 x2 x3 x4 x5 x6)
   for_in_next_r v x ys b p o s hr = search (loop_end_r, for_in_r)
 
-  pub for_in_names_r : (x0 : Value) (x1 : List ℕ) (x2 : List (List ℕ)) (x3 : List Stmt) (x4 : Place) (x5 : State) → R inv x5 → Keeps inv (for_in_names x0 x1 x2 x3 x4 x5)
-  for_in_names_r v x ys b p s hr = search (charged, for_in_r)
-
   pub for_in_over_r : (x0 : List ℕ) (x1 : List Stmt) (x2 : Place) (x3 : Completion) (x4 : State) → R inv x4 → Keeps inv (for_in_over x0 x1 x2 x3 x4)
-  for_in_over_r x b p o s hr = search (value, either, faulted, for_in_names_r)
+  for_in_over_r x b p o s hr = search (value, either, faulted, charged, for_in_r)
 
   pub pass_r : (x0 : Loop) (x1 : Place) (x2 : State) → R inv x2 → Keeps inv (pass x0 x1 x2)
   pass_r (WhileLoop e b) p s hr = search (chain, statements_r, while_next_r)
@@ -366,15 +312,9 @@ module _ (inv : Invariant) where
   pass_r (ForLoop test next b) p s hr = search (chain, statements_r, for_next_r)
   pass_r (ForInLoop v x y ys b) p s hr = search (chain, statements_r, assign_kept, for_in_next_r)
 
-  pub to_return_r : (x0 : Completion) (x1 : State) → R inv x1 → Keeps inv (to_return x0 x1)
-  to_return_r o s hr = search (value, ended)
-
   pub return_form_r : (x0 : OptionalExpr) (x1 : Place) (x2 : State) → R inv x2 → Keeps inv (return_form x0 x1 x2)
   return_form_r tree.NoExpr p s hr = search (ended)
-  return_form_r (tree.SomeExpr e) p s hr = search (job, to_return_r)
-
-  pub to_throw_r : (x0 : Completion) (x1 : State) → R inv x1 → Keeps inv (to_throw x0 x1)
-  to_throw_r o s hr = search (value, ended)
+  return_form_r (tree.SomeExpr e) p s hr = search (job, value, ended)
 
   pub case_test_r : (x0 : OptionalExpr) (x1 : Place) (x2 : State) (x3 : (Value → State → Plan)) (x4 : Plan) → R inv x2 → ((y0 : Value) (y1 : State) → R inv y1 → Keeps inv (x3 y0 y1)) → Keeps inv x4 → Keeps inv (case_test x0 x1 x2 x3 x4)
   case_test_r tree.NoExpr p s k skip hr f0 f1 = search
@@ -410,7 +350,7 @@ module _ (inv : Invariant) where
 
   pub statement_r : (x0 : StmtForm) (x1 : Place) (x2 : State) → R inv x2 → Keeps inv (statement x0 x1 x2)
   statement_r (tree.Var ds) p s hr = search (declarations_r)
-  statement_r (tree.Only e) p s hr = search (job, discard_r)
+  statement_r (tree.Only e) p s hr = search (job, value, ended)
   statement_r (tree.If e a b) p s hr = search (job, branch_r)
   statement_r (tree.While e b) p s hr = search (job, loop_test_r)
   statement_r (tree.DoWhile e b) p s hr = search (job, ended)
@@ -419,7 +359,7 @@ module _ (inv : Invariant) where
   statement_r (tree.Continue x) p s hr = search (ended)
   statement_r (tree.Break x) p s hr = search (ended)
   statement_r (tree.Return e) p s hr = search (return_form_r)
-  statement_r (tree.Throw e) p s hr = search (job, to_throw_r)
+  statement_r (tree.Throw e) p s hr = search (job, value, ended)
   statement_r (tree.Switch e cs) p s hr = search (job, switch_on_r)
   statement_r (tree.Try a c b) p s hr = search (chain, statements_r, caught_r, finally_r)
   statement_r (tree.With e b) p s hr = search (ended)
@@ -443,9 +383,6 @@ module _ (inv : Invariant) where
   handlers_r [] g s hr = ended inv (Is Undefined) s hr
   handlers_r (f ∷ fs) g s hr = job inv _ s _ hr (λ o t u. value inv o t _ u (λ v. handlers_r fs g t u))
 
-  pub next_handlers_r : (x0 : List ℕ) (x1 : Hearing) (x2 : Completion) (x3 : State) → R inv x3 → Keeps inv (next_handlers x0 x1 x2 x3)
-  next_handlers_r fs h o s hr = search (value, handlers_r)
-
   pub bubble_on_r : (x0 : Bool) (x1 : Hearing) (x2 : State) → R inv x2 → Keeps inv (bubble_on x0 x1 x2)
   bubble_on_r false h s hr = search (ended)
   bubble_on_r true h s hr = search (search_from_r)
@@ -454,5 +391,9 @@ module _ (inv : Invariant) where
   dispatch_end_r h (Is v) s hr = search (bubble_on_r)
   dispatch_end_r h o s hr = search (ended)
 
+  pub bubble_r : (x0 : List Bool) (x1 : State) → R inv x1 → Keeps inv (bubble x0 x1)
+  bubble_r [] s hr = search (faulted)
+  bubble_r (b ∷ bs) s hr = search (ended)
+
   pub heard_r : (x0 : Hearing) (x1 : State) → R inv x1 → Keeps inv (heard x0 x1)
-  heard_r h s hr = search (chain, invoke_r, next_handlers_r, dispatch_end_r)
+  heard_r h s hr = search (chain, invoke_r, value, handlers_r, dispatch_end_r)

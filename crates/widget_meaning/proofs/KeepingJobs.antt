@@ -1,13 +1,13 @@
 -- Each job, each load turn and each timer keeps an invariant.
 use Rattle.js_tree.specs.Plain as tree
 use Rattle.std.specs.Prelude.{ℕ, List}
-use Rattle.js_tree.specs.Plain.{Expr, Stmt, Stmts, Fun}
+use Rattle.js_tree.specs.Plain.{Fun}
 use Rattle.widget_meaning.specs.Values.{Value, Completion}
 use Rattle.widget_meaning.specs.OwnState.{State, Timer}
 use Rattle.widget_meaning.specs.Plan.{Plan, Job, Eval, Target, Exec, Pass, Call, RunNative, Hear}
 use Rattle.widget_meaning.specs.Items.{timer_plan}
 use Rattle.widget_meaning.specs.Meaning.{body}
-use Rattle.widget_meaning.specs.Alone.{call_script, keep_library, library_plan, go_plan}
+use Rattle.widget_meaning.specs.Alone.{call_script, library_plan, go_plan}
 use Rattle.widget_meaning.specs.Keeps.{Invariant, Keeps}
 use Rattle.widget_meaning.proofs.Keeping.{ended, job, value, made, R}
 use Rattle.widget_meaning.proofs.KeepingForms.{expression_r, heard_r, invoke_r, pass_r, put_r, statement_r, target_r}
@@ -26,11 +26,8 @@ module _ (inv : Invariant) where
   pub call_script_r : (x0 : Fun) (x1 : List Value) (x2 : State) (x3 : (Completion → State → Plan)) → R inv x2 → ((y0 : Completion) (y1 : State) → R inv y1 → Keeps inv (x3 y0 y1)) → Keeps inv (call_script x0 x1 x2 x3)
   call_script_r f vs s k hr f0 = search (made, job)
 
-  pub keep_library_r : (x0 : List ℕ) (x1 : Completion) (x2 : State) → R inv x2 → Keeps inv (keep_library x0 x1 x2)
-  keep_library_r x o s hr = search (value, put_r, ended)
-
   pub library_plan_r : (x0 : List ℕ) (x1 : Fun) (x2 : State) → R inv x2 → Keeps inv (library_plan x0 x1 x2)
-  library_plan_r x f s hr = search (call_script_r, keep_library_r)
+  library_plan_r x f s hr = search (call_script_r, value, put_r, ended)
 
   pub go_plan_r : (x0 : Fun) (x1 : State) → R inv x1 → Keeps inv (go_plan x0 x1)
   go_plan_r f s hr = search (call_script_r, ended)

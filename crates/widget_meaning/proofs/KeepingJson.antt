@@ -1,12 +1,12 @@
 -- Reading JSON keeps an invariant.
 use Rattle.serde_json.specs.Data as json
-use Rattle.std.specs.Prelude.{ℕ, Bool, true, false, List, [], ◌∷◌, Option, Some, None}
+use Rattle.std.specs.Prelude.{ℕ, Bool, true, false, List, [], ◌∷◌}
 use Rattle.std.specs.List.{fold}
 use Rattle.widget_meaning.specs.Values.{Value, Text}
 use Rattle.widget_meaning.specs.OwnState.{State, Cell, with_new_cell}
-use Rattle.widget_meaning.specs.JsonValues.{give_read, read_value, or_bad_json, from_json}
+use Rattle.widget_meaning.specs.JsonValues.{give_read, read_value, from_json}
 use Rattle.widget_meaning.specs.Keeps.{Invariant, Keeps}
-use Rattle.widget_meaning.proofs.Keeping.{ended, halted, either, charged, paid, faulted, R}
+use Rattle.widget_meaning.proofs.Keeping.{ended, halted, either, charged, paid, faulted, R, found}
 
 module _ (inv : Invariant) where
   cells_kept : (s : State) (cs : List Cell) → R inv s → R inv (fold with_new_cell s cs)
@@ -20,10 +20,6 @@ module _ (inv : Invariant) where
   pub read_value_r : (x0 : ℕ) (x1 : json.Data) (x2 : List Cell) (x3 : Value) (x4 : State) → R inv x4 → Keeps inv (read_value x0 x1 x2 x3 x4)
   read_value_r extra d cs v s hr = search (either, charged, give_read_r, faulted)
 
-  pub or_bad_json_r : (x0 : Option json.Data) (x1 : ℕ) (x2 : State) → R inv x2 → Keeps inv (or_bad_json x0 x1 x2)
-  or_bad_json_r None extra s hr = search (faulted)
-  or_bad_json_r (Some d) extra s hr = search (read_value_r)
-
   pub from_json_r : (x0 : Value) (x1 : State) → R inv x1 → Keeps inv (from_json x0 x1)
-  from_json_r (Text t) s hr = search (or_bad_json_r)
+  from_json_r (Text t) s hr = search (found, read_value_r)
   from_json_r v s hr = search (faulted)

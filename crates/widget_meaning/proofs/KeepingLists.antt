@@ -1,11 +1,11 @@
 -- The methods of arrays and the prototypes keep an invariant.
 use Rattle.std.specs.Prelude.{ℕ, zero, suc, ℤ, ◌+◌, List, [], ◌∷◌, ◌++◌, Option, Some}
-use Rattle.widget_meaning.specs.Values.{Value, Undefined, Num, Completion, Truth, NaN}
+use Rattle.widget_meaning.specs.Values.{Value, Undefined, Num, Truth, NaN}
 use Rattle.widget_meaning.specs.OwnState.{State}
 use Rattle.widget_meaning.specs.Plan.{Plan}
 use Rattle.widget_meaning.specs.NativeNames.{ListNative, ListConcat, Join, Pop, Push, Shift, Unshift, Reverse, Sort, ListSlice, Splice, ForEach, MapNative, FilterNative, PrototypeNative, HasOwnProperty, ObjectToString, ArrayToString, FunctionToString, TextToString, NumberToString, BooleanToString}
 use Rattle.widget_meaning.specs.ListChanges.{pop, push, shift, unshift, reverse, sort, splice, change, without_order, spliced, splice_count}
-use Rattle.widget_meaning.specs.ListNatives.{join, list_concat, list_slice, call_each, next_call, over, list_method, list_native}
+use Rattle.widget_meaning.specs.ListNatives.{join, list_concat, list_slice, call_each, over, list_method, list_native}
 use Rattle.widget_meaning.specs.PrototypeNatives.{has_own_property, give_made, function_to_string, array_to_string, in_radix, number_to_string, boolean_to_string, prototype_native}
 use Rattle.widget_meaning.specs.Keeps.{Invariant, Keeps}
 use Rattle.widget_meaning.proofs.Keeping.{ended, job, either, value, charged, paid, made_text, faulted, R}
@@ -60,9 +60,6 @@ module _ (inv : Invariant) where
   pub call_each_r : (x0 : Value) (x1 : List Value) (x2 : ℕ) (x3 : List Value) (x4 : ℕ) (x5 : State) (x6 : (List Value → State → Plan)) → R inv x5 → ((y0 : List Value) (y1 : State) → R inv y1 → Keeps inv (x6 y0 y1)) → Keeps inv (call_each x0 x1 x2 x3 x4 x5 x6)
   call_each_r f [] i ws d s k hr f0 = f0 ws s hr
   call_each_r f (v ∷ vs) i ws d s k hr f0 = job inv _ s _ hr (λ o t u. value inv o t _ u (λ w. call_each_r f vs (i + 1) (ws ++ w ∷ []) d t k u f0))
-
-  pub next_call_r : (x0 : Value) (x1 : List Value) (x2 : ℕ) (x3 : List Value) (x4 : ℕ) (x5 : (List Value → State → Plan)) (x6 : Completion) (x7 : State) → R inv x7 → ((y0 : List Value) (y1 : State) → R inv y1 → Keeps inv (x5 y0 y1)) → Keeps inv (next_call x0 x1 x2 x3 x4 x5 x6 x7)
-  next_call_r f vs i ws d k o s hr f0 = search (value, call_each_r)
 
   pub over_r : (x0 : ℕ) (x1 : ℕ) (x2 : Value) (x3 : ℕ) (x4 : State) (x5 : (List Value → State → Plan)) → R inv x4 → ((y0 : List Value) (y1 : State) → R inv y1 → Keeps inv (x5 y0 y1)) → Keeps inv (over x0 x1 x2 x3 x4 x5)
   over_r n len f d s k hr f0 = search (want_function_r, charged, call_each_r)

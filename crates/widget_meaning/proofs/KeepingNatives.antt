@@ -1,17 +1,17 @@
 -- What natives have in common, and those of the globals and of Math, keep an invariant.
 use Rattle.code_units.specs.declared.whole.WholeRead.TheVariants as read
-use Rattle.std.specs.Prelude.{ℕ, ℤ, List, [], ◌∷◌, Option, Some}
+use Rattle.std.specs.Prelude.{ℕ, ℤ, List, [], ◌∷◌, Option, Some, pos}
 use Rattle.code_units.specs.declared.whole.WholeRead.{WholeRead}
-use Rattle.widget_meaning.specs.Values.{Value, Undefined, Text, Own, Host, Completion}
-use Rattle.widget_meaning.specs.OwnState.{State, Kind, Object, Array, Function, Bunch}
+use Rattle.widget_meaning.specs.Values.{Value, Undefined, Text, Own, Host}
+use Rattle.widget_meaning.specs.OwnState.{State}
 use Rattle.widget_meaning.specs.Plan.{Plan}
 use Rattle.widget_meaning.specs.NativeNames.{GlobalNative, BooleanOf, NumberOf, StringOf, IsNaN, IsFinite, ParseInt, FromCharCode, MathNative, Abs, Ceil, Floor, Round, Max, Min, Pow}
 use Rattle.widget_meaning.specs.Operators.{OpOut}
-use Rattle.widget_meaning.specs.NativeForms.{want_primitives, with_number, give_text, want_function, on_text, on_array_kind, on_array, on_bunch_kind, on_bunch, make_array, make_bunch, with_number_or, with_optional, give_texts, on_object}
-use Rattle.widget_meaning.specs.GlobalNatives.{boolean_of, of_number, number_of, text_of_primitive, string_result, string_of, string_native, parse_int, from_char_code, global_native}
+use Rattle.widget_meaning.specs.NativeForms.{want_primitives, with_number, give_text, want_function, on_text, on_array, on_bunch, make_array, make_bunch, with_number_or, with_optional, give_texts, on_object}
+use Rattle.widget_meaning.specs.GlobalNatives.{boolean_of, of_number, number_of, text_of_primitive, string_of, string_native, parse_int, from_char_code, global_native}
 use Rattle.widget_meaning.specs.MathNatives.{of_one, of_all, pow, math_native}
 use Rattle.widget_meaning.specs.Keeps.{Invariant, Keeps}
-use Rattle.widget_meaning.proofs.Keeping.{ended, halted, either, value, chain, charged, paid, made, made_text, faulted, R}
+use Rattle.widget_meaning.proofs.Keeping.{ended, halted, either, value, chain, charged, paid, made, made_text, faulted, R, found}
 use Rattle.widget_meaning.proofs.KeepingForms.{result_r, to_primitive_r}
 
 module _ (inv : Invariant) where
@@ -25,30 +25,20 @@ module _ (inv : Invariant) where
   on_text_r (Some (Text t)) s k hr f0 = search
   on_text_r this s k hr f0 = search (faulted)
 
-  pub on_array_kind_r : (x0 : Kind) (x1 : ℕ) (x2 : State) (x3 : (ℕ → ℕ → Plan)) → R inv x2 → ((y0 : ℕ) (y1 : ℕ) → Keeps inv (x3 y0 y1)) → Keeps inv (on_array_kind x0 x1 x2 x3)
-  on_array_kind_r (Array len) n s k hr f0 = search
-  on_array_kind_r Object n s k hr f0 = search (faulted)
-  on_array_kind_r (Function f scope) n s k hr f0 = search (faulted)
-  on_array_kind_r (Bunch ns) n s k hr f0 = search (faulted)
-
   pub on_array_r : (x0 : Option Value) (x1 : State) (x2 : (ℕ → ℕ → Plan)) → R inv x1 → ((y0 : ℕ) (y1 : ℕ) → Keeps inv (x2 y0 y1)) → Keeps inv (on_array x0 x1 x2)
-  on_array_r (Some (Own n)) s k hr f0 = search (on_array_kind_r)
+  on_array_r (Some (Own n)) s k hr f0 = search (found)
   on_array_r this s k hr f0 = search (faulted)
 
-  pub on_bunch_kind_r : (x0 : Kind) (x1 : State) (x2 : (List ℕ → Plan)) → R inv x1 → ((y0 : List ℕ) → Keeps inv (x2 y0)) → Keeps inv (on_bunch_kind x0 x1 x2)
-  on_bunch_kind_r (Bunch ns) s k hr f0 = search
-  on_bunch_kind_r Object s k hr f0 = search (faulted)
-  on_bunch_kind_r (Array len) s k hr f0 = search (faulted)
-  on_bunch_kind_r (Function f scope) s k hr f0 = search (faulted)
-
   pub on_bunch_r : (x0 : Option Value) (x1 : State) (x2 : (List ℕ → Plan)) → R inv x1 → ((y0 : List ℕ) → Keeps inv (x2 y0)) → Keeps inv (on_bunch x0 x1 x2)
-  on_bunch_r (Some (Own n)) s k hr f0 = search (on_bunch_kind_r)
-  on_bunch_r this s k hr f0 = search (faulted)
+  on_bunch_r this s k hr f0 = search (found)
+
+  pub with_number_or_r : (x0 : ℤ) (x1 : WholeRead) (x2 : ℕ) (x3 : State) (x4 : (ℤ → Plan)) → R inv x3 → ((y0 : ℤ) → Keeps inv (x4 y0)) → Keeps inv (with_number_or x0 x1 x2 x3 x4)
+  with_number_or_r z (read.Whole x) extra s k hr f0 = search
+  with_number_or_r z read.NotNumber extra s k hr f0 = search
+  with_number_or_r z read.Left extra s k hr f0 = search (charged, halted)
 
   pub with_number_r : (x0 : WholeRead) (x1 : ℕ) (x2 : State) (x3 : (ℤ → Plan)) → R inv x2 → ((y0 : ℤ) → Keeps inv (x3 y0)) → Keeps inv (with_number x0 x1 x2 x3)
-  with_number_r (read.Whole z) extra s k hr f0 = search
-  with_number_r read.NotNumber extra s k hr f0 = search
-  with_number_r read.Left extra s k hr f0 = search (charged, halted)
+  with_number_r r extra s k hr f0 = with_number_or_r (pos 0) r extra s k hr f0
 
   pub give_text_r : (x0 : ℕ) (x1 : List ℕ) (x2 : State) → R inv x2 → Keeps inv (give_text x0 x1 x2)
   give_text_r extra t s hr = search (charged, made_text, ended)
@@ -58,11 +48,6 @@ module _ (inv : Invariant) where
 
   pub make_bunch_r : (x0 : List ℕ) (x1 : State) (x2 : (Value → State → Plan)) → R inv x1 → ((y0 : Value) (y1 : State) → R inv y1 → Keeps inv (x2 y0 y1)) → Keeps inv (make_bunch x0 x1 x2)
   make_bunch_r ns s k hr f0 = search (made)
-
-  pub with_number_or_r : (x0 : ℤ) (x1 : WholeRead) (x2 : ℕ) (x3 : State) (x4 : (ℤ → Plan)) → R inv x3 → ((y0 : ℤ) → Keeps inv (x4 y0)) → Keeps inv (with_number_or x0 x1 x2 x3 x4)
-  with_number_or_r z (read.Whole x) extra s k hr f0 = search
-  with_number_or_r z read.NotNumber extra s k hr f0 = search
-  with_number_or_r z read.Left extra s k hr f0 = search (charged, halted)
 
   pub with_optional_r : (x0 : ℤ) (x1 : Value) (x2 : ℕ) (x3 : State) (x4 : (ℤ → Plan)) → R inv x3 → ((y0 : ℤ) → Keeps inv (x4 y0)) → Keeps inv (with_optional x0 x1 x2 x3 x4)
   with_optional_r z Undefined extra s k hr f0 = search
@@ -90,11 +75,8 @@ module _ (inv : Invariant) where
   text_of_primitive_r (Text t) s hr = search (ended)
   text_of_primitive_r v s hr = search (give_text_r)
 
-  pub string_result_r : (x0 : Completion) (x1 : State) → R inv x1 → Keeps inv (string_result x0 x1)
-  string_result_r o s hr = search (value, text_of_primitive_r)
-
   pub string_of_r : (x0 : Value) (x1 : ℕ) (x2 : State) → R inv x2 → Keeps inv (string_of x0 x1 x2)
-  string_of_r v d s hr = search (either, chain, to_primitive_r, string_result_r, charged, text_of_primitive_r)
+  string_of_r v d s hr = search (either, chain, to_primitive_r, value, charged, text_of_primitive_r)
 
   pub string_native_r : (x0 : List Value) (x1 : ℕ) (x2 : State) → R inv x2 → Keeps inv (string_native x0 x1 x2)
   string_native_r [] d s hr = search (give_text_r)

@@ -1,31 +1,37 @@
 -- The natives of the page keep an invariant, and so each native.
 
-use Rattle.std.specs.Prelude.{ℕ, List, [], ◌∷◌, Bool, true, false, if◌then◌else◌, codes, Option, Some, None}
-use Rattle.widget_meaning.specs.Values.{Value, Own, Undefined}
+use Rattle.std.specs.Prelude.{ℕ, List, [], ◌∷◌, Bool, true, false, if◌then◌else◌, codes, Option, Some, None, length}
+use Rattle.std.specs.List.{fold}
+use Rattle.std.specs.Option.{option_map_or}
+use Rattle.widget_meaning.specs.Values.{Value, Undefined}
 use Rattle.plain_tree.specs.Trees.{Label}
 use Rattle.widget_meaning.specs.Trees.{Trees, label_of}
-use Rattle.widget_meaning.specs.OwnState.{State, Kind, Object, Array, Function, Bunch, notes_at, new_bunch, with_new_cell, Notes, with_notes}
+use Rattle.widget_meaning.specs.OwnState.{State, with_new_cell, Notes}
 use Rattle.widget_meaning.specs.Plan.{Plan}
 use Rattle.widget_meaning.specs.NativeNames.{ReadNative, Query, GetValue, GetValues, GetStyle, GetClass, GetTitle, GetCheck, Explode, Count, GetParent, GetTagName, GetMark, WriteNative, Append, Remove, Empty, Replace, SetValue, SetStyle, SetClass, SetTitle, SetCheck, SetEnabled, Focus, Blur, On, Off, Fire, Each, SetMark, Protect, Bubble, DomNative, DomQuery, DomAppend, DomTag, DomText, NativeId, OfGlobal, OfMath, OfPrototype, OfText, OfList, OfAdsafe, OfDom, OfRead, OfWrite}
-use Rattle.widget_meaning.specs.PageForms.{want, want_all, is_input, is_text_node, want_one, want_bunch, want_bunch_kind}
+use Rattle.widget_meaning.specs.PageForms.{want, want_all, is_input, is_text_node, want_one, want_bunch, want_place, with_label}
 use Rattle.query_grammar.specs.Steps.{Step}
-use Rattle.widget_meaning.specs.BunchReads.{with_bunches, query, read_native, give_page_text, query_steps, get_value, get_values, get_attribute, get_style, explode, get_parent, get_tag_name, read_method, exploded}
-use Rattle.widget_meaning.specs.BunchWrites.{appended, write_native, alter, alter_for, append_trees, append, remove, replace, set_value, set_style, set_attribute, set_flag, focus, blur, listen, hush, fired, fire, each_called, each, bubble, write_method, with_copies, emptied, each_emptied, label_with, relabel, each_relabelled, with_text_node, valued, each_valued, each_noted}
+use Rattle.widget_meaning.specs.BunchReads.{query, read_native, give_page_text, query_steps, get_value, get_values, get_attribute, get_style, explode, get_parent, get_tag_name, read_method, exploded, with_bunch}
+use Rattle.widget_meaning.specs.BunchWrites.{appended, write_native, alter, alter_for, append_trees, append, remove, replace, set_value, set_style, set_attribute, set_flag, focus, blur, listen, hush, fired, fire, each_called, each, write_method, with_copies, emptied, relabel, with_text_node, valued, alter_each, noted}
 use Rattle.widget_meaning.specs.DomNatives.{dom_native, give_node, dom_tag, append_to_root, dom_append}
 use Rattle.widget_meaning.specs.Natives.{run_native}
 use Rattle.widget_meaning.specs.Keeps.{Invariant, Keeps}
-use Rattle.widget_meaning.proofs.Keeping.{ended, job, either, value, chain, charged, paid, made_text, faulted, R}
+use Rattle.widget_meaning.proofs.Keeping.{ended, job, either, value, chain, charged, paid, made_text, faulted, R, found}
 use Rattle.widget_meaning.proofs.KeepingAdsafe.{adsafe_native_r}
-use Rattle.widget_meaning.proofs.KeepingForms.{dispatch_r}
+use Rattle.widget_meaning.proofs.KeepingForms.{dispatch_r, bubble_r}
 use Rattle.widget_meaning.proofs.KeepingNatives.{give_texts_r, global_native_r, make_bunch_r, math_native_r, on_bunch_r, want_function_r, want_primitives_r}
 use Rattle.widget_meaning.proofs.KeepingLists.{list_native_r, prototype_native_r}
 use Rattle.widget_meaning.proofs.KeepingTexts.{text_native_r}
+use Rattle.tree_ops.specs.Labels.{with_attribute}
 
 module _ (inv : Invariant) where
   -- changes of the page and of notes are not looked at
-  bunches_kept : (s : State) (ns : List ℕ) → R inv s → R inv (with_bunches s ns)
-  bunches_kept s [] hr = hr
-  bunches_kept s (n ∷ ns) hr = bunches_kept (with_new_cell s (new_bunch (n ∷ []))) ns hr
+  fold_kept : (f : State → ℕ → State) → ((t : State) (n : ℕ) → R inv t → R inv (f t n)) → (ns : List ℕ) (s : State) → R inv s → R inv (fold f s ns)
+  fold_kept f k [] s hr = hr
+  fold_kept f k (n ∷ ns) s hr = fold_kept f k ns (f s n) (k s n hr)
+
+  bunches_kept : (s : State) (ns : List ℕ) → R inv s → R inv (fold with_bunch s ns)
+  bunches_kept s ns hr = fold_kept with_bunch (λ t n k. k) ns s hr
 
   exploded_kept : (ns : List ℕ) (s : State) → R inv s → R inv (exploded ns s)
   exploded_kept ns s hr = bunches_kept (with_new_cell s _) ns hr
@@ -38,17 +44,15 @@ module _ (inv : Invariant) where
   appended_kept (t ∷ []) ms s hr = hr
   appended_kept (t ∷ u ∷ ts) ms s hr = appended_kept (u ∷ ts) ms (with_copies t ms s) (copies_kept t ms s hr)
 
-  each_emptied_kept : (ns : List ℕ) (s : State) → R inv s → R inv (each_emptied ns s)
-  each_emptied_kept [] s hr = hr
-  each_emptied_kept (n ∷ ns) s hr = each_emptied_kept ns (emptied s n) hr
+  label_kept : (l : Option Label) (n : ℕ) (f : Label → Label) (s : State) → R inv s → R inv (option_map_or (λ v. with_label s n (f v)) l s)
+  label_kept None n f s hr = hr
+  label_kept (Some l) n f s hr = hr
 
-  relabel_kept : (l : Option Label) (n : ℕ) (f : Label → Label) (s : State) → R inv s → R inv (relabel l n f s)
-  relabel_kept None n f s hr = hr
-  relabel_kept (Some l) n f s hr = hr
+  relabel_kept : (f : Label → Label) (s : State) (n : ℕ) → R inv s → R inv (relabel f s n)
+  relabel_kept f s n hr = label_kept (label_of n s.own.forest) n f s hr
 
-  each_relabelled_kept : (f : Label → Label) (ns : List ℕ) (s : State) → R inv s → R inv (each_relabelled f ns s)
-  each_relabelled_kept f [] s hr = hr
-  each_relabelled_kept f (n ∷ ns) s hr = each_relabelled_kept f ns (relabel (label_of n s.own.forest) n f s) (relabel_kept (label_of n s.own.forest) n f s hr)
+  each_relabelled_kept : (f : Label → Label) (ns : List ℕ) (s : State) → R inv s → R inv (fold (relabel f) s ns)
+  each_relabelled_kept f ns s hr = fold_kept (relabel f) (relabel_kept f) ns s hr
 
   text_node_kept : (n : ℕ) (t : List ℕ) (s : State) → R inv s → R inv (with_text_node n t s)
   text_node_kept n [] s hr = hr
@@ -58,29 +62,23 @@ module _ (inv : Invariant) where
   either_kept true p q h k = h
   either_kept false p q h k = k
 
-  valued_kept : (t : List ℕ) (n : ℕ) (s : State) → R inv s → R inv (valued t n s)
-  valued_kept t n s hr = either_kept (is_input s n) _ _ (relabel_kept (label_of n s.own.forest) n (label_with (codes "value") t) s hr) (either_kept (is_text_node s n) _ _ hr (text_node_kept n t (emptied s n) hr))
+  valued_kept : (t : List ℕ) (s : State) (n : ℕ) → R inv s → R inv (valued t s n)
+  valued_kept t s n hr = either_kept (is_input s n) _ _ (relabel_kept (with_attribute (codes "value") (Some t)) s n hr) (either_kept (is_text_node s n) _ _ hr (text_node_kept n t (emptied s n) hr))
 
-  each_valued_kept : (t ns : List ℕ) (s : State) → R inv s → R inv (each_valued t ns s)
-  each_valued_kept t [] s hr = hr
-  each_valued_kept t (n ∷ ns) s hr = each_valued_kept t ns (valued t n s) (valued_kept t n s hr)
+  each_valued_kept : (t ns : List ℕ) (s : State) → R inv s → R inv (fold (valued t) s ns)
+  each_valued_kept t ns s hr = fold_kept (valued t) (valued_kept t) ns s hr
 
-  each_noted_kept : (f : Notes → Notes) (ns : List ℕ) (s : State) → R inv s → R inv (each_noted f ns s)
-  each_noted_kept f [] s hr = hr
-  each_noted_kept f (n ∷ ns) s hr = each_noted_kept f ns (with_notes s n (f (notes_at s n))) hr
-
-  pub want_bunch_kind_r : (x0 : Kind) (x1 : State) (x2 : (List ℕ → Plan)) → R inv x1 → ((y0 : List ℕ) → Keeps inv (x2 y0)) → Keeps inv (want_bunch_kind x0 x1 x2)
-  want_bunch_kind_r (Bunch ns) s k hr f0 = search
-  want_bunch_kind_r Object s k hr f0 = search (faulted)
-  want_bunch_kind_r (Array len) s k hr f0 = search (faulted)
-  want_bunch_kind_r (Function f scope) s k hr f0 = search (faulted)
+  each_noted_kept : (f : Notes → Notes) (ns : List ℕ) (s : State) → R inv s → R inv (fold (noted f) s ns)
+  each_noted_kept f ns s hr = fold_kept (noted f) (λ t n k. k) ns s hr
 
   pub want_bunch_r : (x0 : Value) (x1 : State) (x2 : (List ℕ → Plan)) → R inv x1 → ((y0 : List ℕ) → Keeps inv (x2 y0)) → Keeps inv (want_bunch x0 x1 x2)
-  want_bunch_r (Own n) s k hr f0 = search (want_bunch_kind_r)
-  want_bunch_r v s k hr f0 = search (faulted)
+  want_bunch_r v s k hr f0 = search (found)
+
+  pub want_place_r : (x0 : Bool) (x1 : State) (x2 : Plan) → R inv x1 → Keeps inv x2 → Keeps inv (want_place x0 x1 x2)
+  want_place_r b s p hr f0 = search (either, faulted)
 
   pub want_all_r : (x0 : (ℕ → Bool)) (x1 : List ℕ) (x2 : State) (x3 : Plan) → R inv x2 → Keeps inv x3 → Keeps inv (want_all x0 x1 x2 x3)
-  want_all_r test ns s p hr f0 = search (either, faulted)
+  want_all_r test ns s p hr f0 = search (want_place_r)
 
   pub want_one_r : (x0 : List ℕ) (x1 : State) (x2 : (ℕ → Plan)) → R inv x1 → ((y0 : ℕ) → Keeps inv (x2 y0)) → Keeps inv (want_one x0 x1 x2)
   want_one_r (n ∷ []) s k hr f0 = search
@@ -145,17 +143,20 @@ module _ (inv : Invariant) where
   pub alter_for_r : (x0 : ℕ) (x1 : ℕ) (x2 : ℕ) (x3 : Value) (x4 : State) (x5 : (State → State)) → R inv x4 → ((y0 : State) → R inv y0 → R inv (x5 y0)) → Keeps inv (alter_for x0 x1 x2 x3 x4 x5)
   alter_for_r extra units nodes b s f hr f0 = search (charged, paid, ended)
 
+  pub alter_each_r : (x0 : (State → ℕ → State)) (x1 : List ℕ) (x2 : Value) (x3 : State) → R inv x3 → ((y0 : State) (y1 : ℕ) → R inv y0 → R inv (x0 y0 y1)) → Keeps inv (alter_each x0 x1 x2 x3)
+  alter_each_r f ns b s hr f0 = alter_r (length ns) b s (λ t. fold f t ns) hr (λ t k. fold_kept f f0 ns t k)
+
   pub append_trees_r : (x0 : List ℕ) (x1 : List ℕ) (x2 : Trees) (x3 : Value) (x4 : State) → R inv x4 → Keeps inv (append_trees x0 x1 x2 x3 x4)
   append_trees_r ns ms us b s hr = search (alter_for_r, appended_kept)
 
   pub append_r : (x0 : List ℕ) (x1 : Value) (x2 : Value) (x3 : State) → R inv x3 → Keeps inv (append x0 x1 x2 x3)
-  append_r ns v b s hr = search (want_bunch_r, want_all_r, either, append_trees_r, faulted)
+  append_r ns v b s hr = search (want_bunch_r, want_all_r, append_trees_r)
 
   pub remove_r : (x0 : List ℕ) (x1 : Value) (x2 : State) → R inv x2 → Keeps inv (remove x0 x1 x2)
-  remove_r ns b s hr = search (want_all_r, alter_r)
+  remove_r ns b s hr = search (want_all_r, alter_each_r)
 
   pub replace_r : (x0 : List ℕ) (x1 : Value) (x2 : Value) (x3 : State) → R inv x3 → Keeps inv (replace x0 x1 x2 x3)
-  replace_r ns v b s hr = search (want_one_r, want_bunch_r, either, alter_r, faulted)
+  replace_r ns v b s hr = search (want_one_r, want_bunch_r, found, want_place_r, alter_r)
 
   pub set_value_r : (x0 : List ℕ) (x1 : List ℕ) (x2 : Value) (x3 : State) → R inv x3 → Keeps inv (set_value x0 x1 x2 x3)
   set_value_r ns t b s hr = search (want_all_r, alter_for_r, each_valued_kept)
@@ -167,7 +168,7 @@ module _ (inv : Invariant) where
   set_attribute_r ns x v b s hr = search (want_all_r, alter_for_r, each_relabelled_kept)
 
   pub set_flag_r : (x0 : (ℕ → Bool)) (x1 : List ℕ) (x2 : List ℕ) (x3 : Bool) (x4 : Value) (x5 : State) → R inv x5 → Keeps inv (set_flag x0 x1 x2 x3 x4 x5)
-  set_flag_r test ns x is_set b s hr = search (want_all_r, alter_r, each_relabelled_kept)
+  set_flag_r test ns x is_set b s hr = search (want_all_r, alter_each_r, relabel_kept)
 
   pub focus_r : (x0 : List ℕ) (x1 : Value) (x2 : State) → R inv x2 → Keeps inv (focus x0 x1 x2)
   focus_r ns b s hr = search (want_one_r, alter_r)
@@ -179,8 +180,8 @@ module _ (inv : Invariant) where
   listen_r ns t f b s hr = search (want_r, want_function_r, charged, paid, ended, each_noted_kept) depth 8 fits 4000
 
   pub hush_r : (x0 : List ℕ) (x1 : Value) (x2 : Value) (x3 : State) → R inv x3 → Keeps inv (hush x0 x1 x2 x3)
-  hush_r ns Undefined b s hr = search (alter_r, each_noted_kept)
-  hush_r ns v b s hr = search (want_primitives_r, want_r, alter_r, each_noted_kept)
+  hush_r ns Undefined b s hr = search (alter_each_r)
+  hush_r ns v b s hr = search (want_primitives_r, want_r, alter_each_r)
 
   pub fired_r : (x0 : List ℕ) (x1 : List ℕ) (x2 : Value) (x3 : ℕ) (x4 : State) → R inv x4 → Keeps inv (fired x0 x1 x2 x3 x4)
   fired_r t [] b d s hr = ended inv _ s hr
@@ -196,14 +197,10 @@ module _ (inv : Invariant) where
   pub each_r : (x0 : List ℕ) (x1 : Value) (x2 : Value) (x3 : ℕ) (x4 : State) → R inv x4 → Keeps inv (each x0 x1 x2 x3 x4)
   each_r ns f b d s hr = search (want_function_r, charged, paid, each_called_r, bunches_kept) depth 8 fits 4000
 
-  pub bubble_r : (x0 : List Bool) (x1 : State) → R inv x1 → Keeps inv (bubble x0 x1)
-  bubble_r [] s hr = search (faulted)
-  bubble_r (b ∷ bs) s hr = search (ended)
-
   pub write_method_r : (x0 : WriteNative) (x1 : List ℕ) (x2 : Value) (x3 : List Value) (x4 : ℕ) (x5 : State) → R inv x5 → Keeps inv (write_method x0 x1 x2 x3 x4 x5)
   write_method_r Append ns b vs d s hr = search (append_r)
   write_method_r Remove ns b vs d s hr = search (remove_r)
-  write_method_r Empty ns b vs d s hr = search (alter_r, each_emptied_kept)
+  write_method_r Empty ns b vs d s hr = search (alter_each_r)
   write_method_r Replace ns b vs d s hr = search (replace_r)
   write_method_r SetValue ns b vs d s hr = search (want_primitives_r, set_value_r)
   write_method_r SetStyle ns b vs d s hr = search (want_primitives_r, set_style_r)
@@ -217,18 +214,16 @@ module _ (inv : Invariant) where
   write_method_r Off ns b vs d s hr = search (hush_r)
   write_method_r Fire ns b vs d s hr = search (want_primitives_r, fire_r)
   write_method_r Each ns b vs d s hr = search (each_r)
-  write_method_r SetMark ns b vs d s hr = search (want_primitives_r, alter_r, each_noted_kept)
-  write_method_r Protect ns b vs d s hr = search (alter_r, each_noted_kept)
-  write_method_r Bubble ns b vs d s hr = search (bubble_r)
+  write_method_r SetMark ns b vs d s hr = search (want_primitives_r, alter_each_r)
+  write_method_r Protect ns b vs d s hr = search (alter_each_r)
 
   pub write_native_r : (x0 : WriteNative) (x1 : Option Value) (x2 : List Value) (x3 : ℕ) (x4 : State) → R inv x4 → Keeps inv (write_native x0 x1 x2 x3 x4)
-  write_native_r Bubble this vs d s hr = search (bubble_r)
   write_native_r w this vs d s hr = search (on_bunch_r, write_method_r)
 
   pub give_node_r : (x0 : Label) (x1 : ℕ) (x2 : State) → R inv x2 → Keeps inv (give_node x0 x1 x2)
   give_node_r l units s hr = search (paid, ended)
 
-  pub dom_tag_r : (x0 : List ℕ) (x1 : Value) (x2 : State) → R inv x2 → Keeps inv (dom_tag x0 x1 x2)
+  pub dom_tag_r : (x0 : List ℕ) (x1 : List (List ℕ)) (x2 : State) → R inv x2 → Keeps inv (dom_tag x0 x1 x2)
   dom_tag_r tag v s hr = search (want_r, give_node_r)
 
   pub append_to_root_r : (x0 : List ℕ) (x1 : State) → R inv x1 → Keeps inv (append_to_root x0 x1)
@@ -253,3 +248,4 @@ module _ (inv : Invariant) where
   run_native_r (OfDom w) this vs d s hr = search (dom_native_r)
   run_native_r (OfRead w) this vs d s hr = search (read_native_r)
   run_native_r (OfWrite w) this vs d s hr = search (write_native_r)
+  run_native_r Bubble this vs d s hr = search (bubble_r)

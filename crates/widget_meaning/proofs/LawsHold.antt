@@ -130,7 +130,7 @@ passes g p k h = run_and_then g p k ∙ stops (run_plan g p) k (run_plan g p).ho
 pub stop_laws : StopLaws
 stop_laws = record {
   passes = passes;
-  not_caught = λ at names a c b p s g h. let q : Plan = statements (stmt_list a) p s in (statement_laws at names).try a c b p s g ∙ (ap (λ r. then_do r (finally b p)) (stops (run_plan g q) (caught c p) (run_plan g q).how h) ∙ stops (run_plan g q) (finally b p) (run_plan g q).how h);
+  not_caught = λ at names a c b p s g h. let q : Plan = statements (stmt_list a) p s in (statement_laws at names p s g).try a c b ∙ (ap (λ r. then_do r (finally b p)) (stops (run_plan g q) (caught c p) (run_plan g q).how h) ∙ stops (run_plan g q) (finally b p) (run_plan g q).how h);
 }
 
 -- stopped widgets

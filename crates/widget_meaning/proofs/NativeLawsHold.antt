@@ -1,10 +1,10 @@
 -- The laws of what the natives use.
 use Rattle.std.proofs.Common.{◌≡◌, ℕ, suc, zero, ◌-◌, ◌<◌, Bool, true, false, List, [], ◌∷◌, ◌++◌, length, drop, refl, ap, sym, append_assoc, arith}
 use Rattle.std.specs.Prelude.{map, flat_map, nat_eq}
-use Rattle.std.specs.List.{join_by, starts_with}
+use Rattle.std.specs.List.{join_by, starts_with, onto_first}
 use Rattle.std.proofs.lemmas.Bool.Decides.{Decides-eqb}
 use Rattle.std.proofs.lemmas.Slice.Eq.{starts_is}
-use Rattle.widget_meaning.specs.TextNatives.{pieces_from, cut_here, first_with}
+use Rattle.widget_meaning.specs.TextNatives.{pieces_from, cut_here}
 use Rattle.widget_meaning.specs.NativeLaws.{SplitLaws}
 
 abbrev joined : List ℕ → List (List ℕ) → List ℕ
@@ -14,7 +14,7 @@ between : (x : List ℕ) (ps : List (List ℕ)) → 0 < length ps → flat_map (
 between x [] h = absurd (omega (arith, h))
 between x (p ∷ ps) h = append_assoc x p (flat_map (λ p. x ++ p) ps)
 
-one_more : (x : List ℕ) (u : ℕ) (ps : List (List ℕ)) → 0 < length ps → joined x (first_with u ps) ≡ u ∷ joined x ps
+one_more : (x : List ℕ) (u : ℕ) (ps : List (List ℕ)) → 0 < length ps → joined x (onto_first u ps) ≡ u ∷ joined x ps
 one_more x u [] h = absurd (omega (arith, h))
 one_more x u (p ∷ ps) h = refl
 
@@ -22,8 +22,8 @@ some_cut : (b : Bool) (x : List ℕ) (u : ℕ) (after : ℕ → List (List ℕ))
 some_cut true x u after h = omega arith
 some_cut false x u after h = first (after 0) h
   where
-    first : (ps : List (List ℕ)) → 0 < length ps → 0 < length (first_with u ps)
-    first [] g = g
+    first : (ps : List (List ℕ)) → 0 < length ps → 0 < length (onto_first u ps)
+    first [] g = omega arith
     first (p ∷ ps) g = omega arith
 
 some_pieces : (x : List ℕ) (k : ℕ) (t : List ℕ) → 0 < length (pieces_from x k t)

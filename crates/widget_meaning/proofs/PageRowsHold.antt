@@ -28,11 +28,11 @@ joined_keyword_holds : read_query (codes "p:firstb") ≡ Some (record { hunter =
 unfolding widgets_on_literals
 joined_keyword_holds = refl
 
-second_item_row_holds : Row (rendered (second_item (codes "li:rest:first"))) None 48 (codes "b" ∷ codes "1" ∷ []) []
+second_item_row_holds : Row (rendered (second_item "li:rest:first")) None 48 (codes "b" ∷ codes "1" ∷ []) []
 unfolding widgets_on_literals
 second_item_row_holds = record { stop_is = refl; spent_is = refl; log_is = refl; uncaught_is = refl }
 
-second_item_again_row_holds : Row (rendered (second_item (codes "li:first +li"))) None 64 (codes "b" ∷ codes "1" ∷ []) []
+second_item_again_row_holds : Row (rendered (second_item "li:first +li")) None 64 (codes "b" ∷ codes "1" ∷ []) []
 unfolding widgets_on_literals
 second_item_again_row_holds = record { stop_is = refl; spent_is = refl; log_is = refl; uncaught_is = refl }
 

@@ -1,29 +1,29 @@
 -- Each form by the meanings of its parts.
 use Rattle.std.proofs.Common.{ℕ, zero, suc, Bool, true, false, List, [], ◌∷◌, ◌≤◌, refl, sym, ap, ◌≡◌, ◌∙◌, arith}
 use Rattle.std.proofs.lemmas.Bool.{false≢true, ltb-false}
-use Rattle.std.specs.Prelude.{Some, is_some, nat_lt, ◌-◌, ◌+◌, ◌++◌, length, Option, None, if◌then◌else◌, pos}
+use Rattle.std.specs.Prelude.{Some, is_some, nat_lt, ◌-◌, ◌++◌, length, Option, None, if◌then◌else◌, pos, ◌+◌}
 use Rattle.js_tree.specs.declared.nodes.UnOp.TheVariants as un
 use Rattle.js_tree.specs.declared.nodes.BinOp.{BinOp}
 use Rattle.js_tree.specs.Plain as tree
-use Rattle.js_tree.specs.Plain.{Expr, ExprForm, Exprs, Properties, OptionalExpr, Stmt, StmtForm, Stmts, Decls, ForInit, Catch, OptionalBlock, Clauses, Fun, Funs}
+use Rattle.js_tree.specs.Plain.{ExprForm, Stmts, Fun}
 use Rattle.widget_meaning.specs.Limits.{max_units, max_cells, max_slots, max_nodes, max_depth}
-use Rattle.widget_meaning.specs.Values.{Value, Text, Own, Completion, Normal, Is, Refers, Return, Break, Continue, Throw, E1, Units, Cells, Slots, Nodes, Depth, is_true, is_nothing, Undefined, Num}
-use Rattle.widget_meaning.specs.OwnState.{State, Amounts, Function, cell_at, with_new_cell, with_new_scope, new_array, plain_object, new_function}
-use Rattle.widget_meaning.specs.Plan.{Plan, Place, Ret, Halt, Do, Eval, Target, Exec, Pass, Call, RunNative, Hear, Hearing, WhileLoop, DoLoop, ForLoop, ForInLoop, Out, Stopped, OutOfFuel, and_then, charge, ticks}
-use Rattle.widget_meaning.specs.Costs.{make, give, throw, within, sum, object_cost, slots_cost, with_counts}
-use Rattle.widget_meaning.specs.Operators.{binary, same}
-use Rattle.widget_meaning.specs.Properties.{property, names_of}
-use Rattle.widget_meaning.specs.Scopes.{assign, fun_name, fun_names, funs_list, without_name, stmts_vars, scope_names, first_pairs}
-use Rattle.widget_meaning.specs.Calls.{statements, next_statements, stmt_list, without_directive, with_variable, declare, call_end, enter, enter_scope, invoke, to_primitive, primitive_result}
-use Rattle.widget_meaning.specs.Expressions.{expr_list, property_list, array_parts, array_part, object_parts, object_part, dot_read, subscript_read, named_read, dot_target, subscript_target, named_target, value_target, expression, target, callee, next_argument, binary_right, binary_with, unary_operand, delete_target, step_target, step_converted, assign_target, assign_with, compound, assigned, referred, and_right, or_right, choose, converts, converted_left, converted_right, result, unary_converted}
-use Rattle.widget_meaning.specs.Statements.{discard, decl_list, declarations, declare_as, expressions, next_expressions, branch, loop_test, loop_end, while_next, do_next, for_init, for_again, for_next, for_in, for_in_next, for_in_names, for_in_over, to_return, to_throw, clauses_onto, bodies, choose_case, switch_on, switch_end, in_catch, caught, finally, last_end, case_tested}
-use Rattle.widget_meaning.specs.ListNatives.{next_call}
-use Rattle.widget_meaning.specs.BunchWrites.{next_fired, next_called}
+use Rattle.widget_meaning.specs.Values.{Value, Text, Own, Completion, Normal, Is, Refers, Return, Break, Continue, Throw, E1, Units, Cells, Slots, Nodes, Depth, is_true, is_nothing, Undefined, Num, Found, to_text}
+use Rattle.widget_meaning.specs.OwnState.{State, Amounts, Function, cell_at, with_new_cell, with_new_scope, new_array, plain_object, new_function, Scope}
+use Rattle.widget_meaning.specs.Plan.{Plan, Place, Ret, Halt, Do, Eval, Target, Exec, Pass, Call, RunNative, Hear, Hearing, WhileLoop, DoLoop, ForLoop, ForInLoop, Out, Stopped, OutOfFuel, and_then, charge, ticks, after, on_normal}
+use Rattle.widget_meaning.specs.Costs.{make, give, throw, within, sum, object_cost, with_counts, scope_cost}
+use Rattle.widget_meaning.specs.Operators.{binary, same, unary}
+use Rattle.widget_meaning.specs.Properties.{property, names_of, put, index_name, read}
+use Rattle.widget_meaning.specs.Scopes.{assign, fun_name, fun_list, without_name, call_scope}
+use Rattle.widget_meaning.specs.Calls.{statements, stmt_list, without_directive, with_variable, declare, call_end, enter, enter_scope, invoke, to_primitive, primitive_result}
+use Rattle.widget_meaning.specs.Expressions.{expr_list, property_list, array_parts, object_parts, subscript_read, subscript_target, expression, target, callee, binary_right, delete_target, step_target, step_converted, assign_target, assign_with, compound, referred, and_right, or_right, choose, converts, converted_left, result, arguments_then, operate, refer, unary_on, write}
+use Rattle.widget_meaning.specs.Statements.{decl_list, declarations, expressions, branch, loop_test, loop_end, while_next, do_next, for_init, for_again, for_next, for_in, for_in_next, for_in_over, clause_list, bodies, choose_case, switch_on, switch_end, in_catch, caught, finally, last_end, case_tested}
 use Rattle.widget_meaning.specs.Natives.{run_native}
-use Rattle.widget_meaning.specs.Dispatch.{heard, next_handlers, dispatch_end, dispatch}
+use Rattle.widget_meaning.specs.Dispatch.{heard, dispatch_end, dispatch, handlers}
 use Rattle.widget_meaning.specs.Meaning.{run_plan}
 use Rattle.widget_meaning.specs.Compositional.{ExpressionLaws, StatementLaws, CallLaws, then_do, looped, if_thrown, ends, is_value_form, new_scope, declared, body_in, evaluated, targeted}
 use Rattle.widget_meaning.proofs.Runs.{unit, first, part, then_part, run_and_then}
+use Rattle.widget_meaning.specs.ListNatives.{call_each}
+use Rattle.widget_meaning.specs.BunchWrites.{each_called, fired}
 
 -- a choice is carried out as the plan that is chosen
 chosen : (b : Bool) (g : ℕ) (x y : Plan) → run_plan g (if b then x else y) ≡ (if b then run_plan g x else run_plan g y)
@@ -49,19 +49,19 @@ catch_holds x b (Refers r) p s g = refl
 catch_holds x b (Return v) p s g = refl
 catch_holds x b (Throw v) p s g = refl
 
-converted_holds : (op : BinOp) (v w : Value) (p : Place) (s : State) (g : ℕ) → converts op ≡ true → run_plan g (binary_with op v p (Is w) s) ≡ then_do (run_plan g (to_primitive v p.depth s)) (converted_left op w p.depth)
+converted_holds : (op : BinOp) (v w : Value) (p : Place) (s : State) (g : ℕ) → converts op ≡ true → run_plan g (operate op v w p.depth s) ≡ then_do (run_plan g (to_primitive v p.depth s)) (converted_left op w p.depth)
 converted_holds op v w p s g h =
     ap (λ c. run_plan g (if c then and_then (to_primitive v p.depth s) (converted_left op w p.depth) else result (binary op v w) s)) h
     ∙ run_and_then g (to_primitive v p.depth s) (converted_left op w p.depth)
 
 module _ (at : ℕ) (names : List ℕ) where
   -- a form that is evaluated where a target is wanted
-  of_value : (form : ExprForm) (p : Place) (s : State) (g : ℕ) → target form p s ≡ and_then (expression form p s) value_target → targeted at names form p s g ≡ then_do (evaluated at names form p s g) value_target
+  of_value : (form : ExprForm) (p : Place) (s : State) (g : ℕ) → target form p s ≡ and_then (expression form p s) (after (λ v t. Ret (Refers (Found v)) t)) → targeted at names p s g form ≡ then_do (evaluated at names p s g form) (after (λ v t. Ret (Refers (Found v)) t))
   of_value form p s g e =
-      then_part g (Target (tree.ExprAt at names form) p) s (expression form p s) value_target e
-      ∙ ap (λ r. then_do r value_target) (sym (unit g (Eval (tree.ExprAt at names form) p) s (expression form p s) refl))
+      then_part g (Target (tree.ExprAt at names form) p) s (expression form p s) (after (λ v t. Ret (Refers (Found v)) t)) e
+      ∙ ap (λ r. then_do r (after (λ v t. Ret (Refers (Found v)) t))) (sym (unit g (Eval (tree.ExprAt at names form) p) s (expression form p s) refl))
 
-  value_target_holds : (form : ExprForm) (p : Place) (s : State) (g : ℕ) → is_value_form form ≡ true → targeted at names form p s g ≡ then_do (evaluated at names form p s g) value_target
+  value_target_holds : (form : ExprForm) (p : Place) (s : State) (g : ℕ) → is_value_form form ≡ true → targeted at names p s g form ≡ then_do (evaluated at names p s g form) (after (λ v t. Ret (Refers (Found v)) t))
   value_target_holds (tree.Name x) p s g h = absurd (false≢true h)
   value_target_holds (tree.Dot e x) p s g h = absurd (false≢true h)
   value_target_holds (tree.Sub e i) p s g h = absurd (false≢true h)
@@ -119,11 +119,11 @@ declare_then (f ∷ fs) i s k =
 entered : (f : Fun) (outer : Option ℕ) (v : Value) (vs : List Value) (d : ℕ) (s : State) → enter_scope f outer v vs d s ≡ and_then (and_then (new_scope f outer v vs s) (declared f (length s.own.scopes))) (body_in f (record { scope = Some (length s.own.scopes); depth = d }))
 entered (tree.FunAt at names name params body funs) outer v vs d s =
     let f : Fun = tree.FunAt at names name params body funs in
-    let fs : List Fun = funs_list funs [] in
-    let xs : List (List ℕ) = scope_names params body fs (fun_name f) in
-    let a : Amounts = sum s.own.counts (slots_cost (1 + length xs)) in
+    let fs : List Fun = fun_list funs in
+    let c : Scope = call_scope f outer v vs in
+    let a : Amounts = sum s.own.counts (scope_cost c) in
     let i : ℕ = length s.own.scopes in
-    let t : State = with_new_scope (with_counts s a) (record { outer = outer; pairs = first_pairs params vs (params ++ (stmts_vars body ++ fun_names fs)) (fun_name f) v xs }) in
+    let t : State = with_new_scope (with_counts s a) c in
     let b : Completion → State → Plan = body_in f (record { scope = Some i; depth = d }) in
     sym (ap (λ q. and_then q b) (within_then a s (Ret Normal t) (declared f i))
     ∙ (within_then a s (declare fs i t (Ret Normal)) b ∙ ap (within a s) (declare_then fs i t b)))
@@ -143,129 +143,129 @@ too_deep_holds n f outer this vs d s g h k =
     ap (λ c. run_plan g (enter c (Own n) vs (suc d) s)) h
     ∙ ap (λ c. run_plan g (if c then Halt Depth s else enter_scope f outer (Own n) vs (suc d) s)) k
 
-handler_holds : (h : Hearing) (s : State) (g : ℕ) → run_plan g (heard h s) ≡ then_do (then_do (run_plan g (invoke (Own h.first) None (h.event ∷ []) h.depth s)) (next_handlers h.others h)) (dispatch_end h)
+handler_holds : (h : Hearing) (s : State) (g : ℕ) → run_plan g (heard h s) ≡ then_do (then_do (run_plan g (invoke (Own h.first) None (h.event ∷ []) h.depth s)) (after (λ v t. handlers h.others h t))) (dispatch_end h)
 handler_holds h s g =
-    run_and_then g (and_then (invoke (Own h.first) None (h.event ∷ []) h.depth s) (next_handlers h.others h)) (dispatch_end h)
-    ∙ ap (λ r. then_do r (dispatch_end h)) (run_and_then g (invoke (Own h.first) None (h.event ∷ []) h.depth s) (next_handlers h.others h))
+    run_and_then g (and_then (invoke (Own h.first) None (h.event ∷ []) h.depth s) (after (λ v t. handlers h.others h t))) (dispatch_end h)
+    ∙ ap (λ r. then_do r (dispatch_end h)) (run_and_then g (invoke (Own h.first) None (h.event ∷ []) h.depth s) (after (λ v t. handlers h.others h t)))
 
-pub expression_laws : (at : ℕ) (names : List ℕ) → ExpressionLaws at names
-expression_laws at names = record {
-  number = λ t p s g. refl;
-  string = λ t p s g. refl;
-  name = λ x p s g. refl;
-  word = λ w p s g. refl;
-  array = λ es p s g. unit g (Eval (tree.ExprAt at names (tree.Array es)) p) s (make (new_array 0 []) 0 s (λ a t. array_parts a 0 (expr_list es) p t)) refl;
-  array_next = λ a i e es p s g. part g (Eval e p) s (array_part a i es p);
-  array_last = λ a i p s g. refl;
-  object = λ qs p s g. unit g (Eval (tree.ExprAt at names (tree.Object qs)) p) s (make (plain_object []) 0 s (λ a t. object_parts a (property_list qs) p t)) refl;
-  object_next = λ a x e qs p s g. part g (Eval e p) s (object_part a x qs p);
-  object_last = λ a p s g. refl;
-  function = λ f p s g. unit g (Eval (tree.ExprAt at names (tree.Function f)) p) s (make (new_function f p.scope) 0 s give) refl;
-  dot = λ e x p s g. first g (Eval (tree.ExprAt at names (tree.Dot e x)) p) (Eval e p) s (dot_read x) refl;
-  subscript = λ e i p s g. first g (Eval (tree.ExprAt at names (tree.Sub e i)) p) (Eval e p) s (subscript_read i p) refl;
-  subscript_name = λ i b p s g. part g (Eval i p) s (named_read b);
-  name_target = λ x p s g. refl;
-  dot_targets = λ e x p s g. first g (Target (tree.ExprAt at names (tree.Dot e x)) p) (Eval e p) s (dot_target x) refl;
-  subscript_targets = λ e i p s g. first g (Target (tree.ExprAt at names (tree.Sub e i)) p) (Eval e p) s (subscript_target i p) refl;
-  subscript_target_name = λ i b p s g. part g (Eval i p) s (named_target b);
-  value_targets = λ form p s g h. value_target_holds at names form p s g h;
-  call = λ f es p s g. first g (Eval (tree.ExprAt at names (tree.Call f es)) p) (Target f p) s (callee (expr_list es) p) refl;
-  argument = λ r vs e es p s g. part g (Eval e p) s (next_argument r vs es p);
-  arguments_end = λ r vs p s g. refl;
-  operator = λ op a b p s g. first g (Eval (tree.ExprAt at names (tree.Binary op a b)) p) (Eval a p) s (binary_right op b p) refl;
-  operator_second = λ op b v p s g. part g (Eval b p) s (binary_with op v p);
-  operator_left = λ op v w p s g h. converted_holds op v w p s g h;
-  operator_last = λ op v w d s g. run_and_then g (to_primitive w d s) (converted_right op v);
-  operator_alike = λ op v w p s g h. ap (λ c. run_plan g (if c then and_then (to_primitive v p.depth s) (converted_left op w p.depth) else result (binary op v w) s)) h;
-  delete = λ e p s g. first g (Eval (tree.ExprAt at names (tree.Unary un.Delete e)) p) (Target e p) s delete_target refl;
-  type_of = λ e p s g. first g (Eval (tree.ExprAt at names (tree.Unary un.TypeOf e)) p) (Eval e p) s (unary_operand un.TypeOf p) refl;
-  not = λ e p s g. first g (Eval (tree.ExprAt at names (tree.Unary un.Not e)) p) (Eval e p) s (unary_operand un.Not p) refl;
-  plus = λ e p s g. first g (Eval (tree.ExprAt at names (tree.Unary un.Plus e)) p) (Eval e p) s (unary_operand un.Plus p) refl;
-  minus = λ e p s g. first g (Eval (tree.ExprAt at names (tree.Unary un.Minus e)) p) (Eval e p) s (unary_operand un.Minus p) refl;
-  plus_operand = λ v p s g. run_and_then g (to_primitive v p.depth s) (unary_converted un.Plus);
-  minus_operand = λ v p s g. run_and_then g (to_primitive v p.depth s) (unary_converted un.Minus);
-  step = λ op e p s g. first g (Eval (tree.ExprAt at names (tree.Step op e)) p) (Target e p) s (step_target op p) refl;
-  step_operand = λ op r p s g. run_and_then g (to_primitive (referred r p s) p.depth s) (step_converted op r p);
-  assign = λ op e v p s g. first g (Eval (tree.ExprAt at names (tree.Assign op e v)) p) (Target e p) s (assign_target op v p) refl;
-  assign_right = λ op v r p s g. part g (Eval v p) s (assign_with op r (referred r p s) p);
-  assign_value = λ op r v w p s g. run_and_then g (compound op v w p.depth s) (assigned r p);
-  conjunction = λ a b p s g. first g (Eval (tree.ExprAt at names (tree.And a b)) p) (Eval a p) s (and_right b p) refl;
-  conjunction_right = λ b v p s g. chosen (is_true v) g (Do (Eval b p) s Ret) (give v s);
-  disjunction = λ a b p s g. first g (Eval (tree.ExprAt at names (tree.Or a b)) p) (Eval a p) s (or_right b p) refl;
-  disjunction_right = λ b v p s g. chosen (is_true v) g (give v s) (Do (Eval b p) s Ret);
-  condition = λ a b c p s g. first g (Eval (tree.ExprAt at names (tree.Cond a b c)) p) (Eval a p) s (choose b c p) refl;
-  condition_branch = λ b c v p s g. chosen (is_true v) g (Do (Eval b p) s Ret) (Do (Eval c p) s Ret);
+pub expression_laws : (at : ℕ) (names : List ℕ) (p : Place) (s : State) (g : ℕ) → ExpressionLaws at names p s g
+expression_laws at names p s g = record {
+  number = λ t. refl;
+  string = λ t. refl;
+  name = λ x. refl;
+  word = λ w. refl;
+  array = λ es. unit g (Eval (tree.ExprAt at names (tree.Array es)) p) s (make (new_array 0 []) 0 s (λ a t. array_parts a 0 (expr_list es) p t)) refl;
+  array_next = λ a i e es. part g (Eval e p) s (after (λ v t. put a (index_name i) v t (array_parts a (i + 1) es p)));
+  array_last = λ a i. refl;
+  object = λ qs. unit g (Eval (tree.ExprAt at names (tree.Object qs)) p) s (make (plain_object []) 0 s (λ a t. object_parts a (property_list qs) p t)) refl;
+  object_next = λ a x e qs. part g (Eval e p) s (after (λ v t. put a x v t (object_parts a qs p)));
+  object_last = λ a. refl;
+  function = λ f. unit g (Eval (tree.ExprAt at names (tree.Function f)) p) s (make (new_function f p.scope) 0 s give) refl;
+  dot = λ e x. first g (Eval (tree.ExprAt at names (tree.Dot e x)) p) (Eval e p) s (after (λ b t. read b x t)) refl;
+  subscript = λ e i. first g (Eval (tree.ExprAt at names (tree.Sub e i)) p) (Eval e p) s (subscript_read i p) refl;
+  subscript_name = λ i b. part g (Eval i p) s (after (λ v t. read b (to_text v) t));
+  name_target = λ x. refl;
+  dot_targets = λ e x. first g (Target (tree.ExprAt at names (tree.Dot e x)) p) (Eval e p) s (after (λ b t. refer b x t)) refl;
+  subscript_targets = λ e i. first g (Target (tree.ExprAt at names (tree.Sub e i)) p) (Eval e p) s (subscript_target i p) refl;
+  subscript_target_name = λ i b. part g (Eval i p) s (after (λ v t. refer b (to_text v) t));
+  value_targets = λ form h. value_target_holds at names form p s g h;
+  call = λ f es. first g (Eval (tree.ExprAt at names (tree.Call f es)) p) (Target f p) s (callee (expr_list es) p) refl;
+  argument = λ r vs e es. part g (Eval e p) s (after (λ v t. arguments_then r (vs ++ v ∷ []) es p t));
+  arguments_end = λ r vs. refl;
+  operator = λ op a b. first g (Eval (tree.ExprAt at names (tree.Binary op a b)) p) (Eval a p) s (binary_right op b p) refl;
+  operator_second = λ op b v. part g (Eval b p) s (after (λ w t. operate op v w p.depth t));
+  operator_left = λ op v w h. converted_holds op v w p s g h;
+  operator_last = λ op v w d. run_and_then g (to_primitive w d s) (after (λ w t. result (binary op v w) t));
+  operator_alike = λ op v w h. ap (λ c. run_plan g (if c then and_then (to_primitive v p.depth s) (converted_left op w p.depth) else result (binary op v w) s)) h;
+  delete = λ e. first g (Eval (tree.ExprAt at names (tree.Unary un.Delete e)) p) (Target e p) s delete_target refl;
+  type_of = λ e. first g (Eval (tree.ExprAt at names (tree.Unary un.TypeOf e)) p) (Eval e p) s (after (λ v t. unary_on un.TypeOf v p t)) refl;
+  not = λ e. first g (Eval (tree.ExprAt at names (tree.Unary un.Not e)) p) (Eval e p) s (after (λ v t. unary_on un.Not v p t)) refl;
+  plus = λ e. first g (Eval (tree.ExprAt at names (tree.Unary un.Plus e)) p) (Eval e p) s (after (λ v t. unary_on un.Plus v p t)) refl;
+  minus = λ e. first g (Eval (tree.ExprAt at names (tree.Unary un.Minus e)) p) (Eval e p) s (after (λ v t. unary_on un.Minus v p t)) refl;
+  plus_operand = λ v. run_and_then g (to_primitive v p.depth s) (after (λ v t. result (unary un.Plus v) t));
+  minus_operand = λ v. run_and_then g (to_primitive v p.depth s) (after (λ v t. result (unary un.Minus v) t));
+  step = λ op e. first g (Eval (tree.ExprAt at names (tree.Step op e)) p) (Target e p) s (step_target op p) refl;
+  step_operand = λ op r. run_and_then g (to_primitive (referred r p s) p.depth s) (step_converted op r p);
+  assign = λ op e v. first g (Eval (tree.ExprAt at names (tree.Assign op e v)) p) (Target e p) s (assign_target op v p) refl;
+  assign_right = λ op v r. part g (Eval v p) s (assign_with op r (referred r p s) p);
+  assign_value = λ op r v w. run_and_then g (compound op v w p.depth s) (after (λ v t. write r p v t (give v)));
+  conjunction = λ a b. first g (Eval (tree.ExprAt at names (tree.And a b)) p) (Eval a p) s (and_right b p) refl;
+  conjunction_right = λ b v. chosen (is_true v) g (Do (Eval b p) s Ret) (give v s);
+  disjunction = λ a b. first g (Eval (tree.ExprAt at names (tree.Or a b)) p) (Eval a p) s (or_right b p) refl;
+  disjunction_right = λ b v. chosen (is_true v) g (give v s) (Do (Eval b p) s Ret);
+  condition = λ a b c. first g (Eval (tree.ExprAt at names (tree.Cond a b c)) p) (Eval a p) s (choose b c p) refl;
+  condition_branch = λ b c v. chosen (is_true v) g (Do (Eval b p) s Ret) (Do (Eval c p) s Ret);
 }
 
-pub statement_laws : (at : ℕ) (names : List ℕ) → StatementLaws at names
-statement_laws at names = record {
-  list = λ i is p s g. part g (Exec i p) s (next_statements is p);
-  list_end = λ p s g. refl;
-  var = λ ds p s g. unit g (Exec (tree.StmtAt at names (tree.Var ds)) p) s (declarations (decl_list ds) p s) refl;
-  var_first = λ x e ds p s g. part g (Eval e p) s (declare_as x p (declarations ds p));
-  var_bare = λ x ds p s g. refl;
-  var_end = λ p s g. refl;
-  only = λ e p s g. first g (Exec (tree.StmtAt at names (tree.Only e)) p) (Eval e p) s discard refl;
-  if_test = λ e a b p s g. first g (Exec (tree.StmtAt at names (tree.If e a b)) p) (Eval e p) s (branch a b p) refl;
-  if_branch = λ a b v p s g. chosen (is_true v) g (statements (stmt_list a) p s) (statements (stmt_list b) p s);
-  loop_again = λ l v p s g. chosen (is_true v) g (Do (Pass l p) s Ret) (Ret Normal s);
-  while = λ e b p s g. first g (Exec (tree.StmtAt at names (tree.While e b)) p) (Eval e p) s (loop_test (WhileLoop e (stmt_list b)) p) refl;
-  while_pass = λ e b p s g. then_part g (Pass (WhileLoop e b) p) s (statements b p s) (while_next e b p) refl;
-  while_again = λ e b o p s g. loop_ended o s g (Do (Eval e p) s (loop_test (WhileLoop e b) p)) (part g (Eval e p) s (loop_test (WhileLoop e b) p));
-  do_while = λ b e p s g. refl;
-  do_pass = λ b e p s g. then_part g (Pass (DoLoop b e) p) s (statements b p s) (do_next b e p) refl;
-  do_again = λ b e o p s g. loop_ended o s g (Do (Eval e p) s (loop_test (DoLoop b e) p)) (part g (Eval e p) s (loop_test (DoLoop b e) p));
-  for = λ first test next b p s g. then_part g (Exec (tree.StmtAt at names (tree.For first test next b)) p) s (for_init first p s) (for_again test (expr_list next) (stmt_list b) p) refl;
-  for_declarations = λ ds p s g. refl;
-  for_expressions = λ es p s g. refl;
-  for_test = λ e next b p s g. part g (Eval e p) s (loop_test (ForLoop (tree.SomeExpr e) next b) p);
-  for_no_test = λ next b p s g. refl;
-  for_pass = λ test next b p s g. then_part g (Pass (ForLoop test next b) p) s (statements b p s) (for_next test next b p) refl;
-  for_round = λ test next b o p s g. loop_ended o s g (and_then (expressions next p s) (for_again test next b p)) (run_and_then g (expressions next p s) (for_again test next b p));
-  expressions_first = λ e es p s g. part g (Eval e p) s (next_expressions es p);
-  expressions_end = λ p s g. refl;
-  for_in_object = λ is_declared x e b p s g. first g (Exec (tree.StmtAt at names (tree.ForIn is_declared x e b)) p) (Eval e p) s (for_in_over x (stmt_list b) p) refl;
-  for_in_list = λ v x b p s g. chosen (is_nothing v) g (throw E1 s) (for_in_names v x (names_of s v) b p s);
-  for_in_name = λ v x y ys b p s g. chosen (is_some (property s v y)) g (Do (Pass (ForInLoop v x y ys b) p) s Ret) (for_in v x ys b p s);
-  for_in_end = λ v x b p s g. refl;
-  for_in_pass = λ v x y ys b p s g. then_part g (Pass (ForInLoop v x y ys b) p) s (statements b p (assign s p x (Text y))) (for_in_next v x ys b p) refl;
-  for_in_again = λ v x ys b o p s g. loop_ended o s g (for_in v x ys b p s) refl;
-  continue = λ x p s g. refl;
-  break = λ x p s g. refl;
-  return_nothing = λ p s g. refl;
-  return = λ e p s g. first g (Exec (tree.StmtAt at names (tree.Return (tree.SomeExpr e))) p) (Eval e p) s to_return refl;
-  throw = λ e p s g. first g (Exec (tree.StmtAt at names (tree.Throw e)) p) (Eval e p) s to_throw refl;
-  switch = λ e cs p s g. first g (Exec (tree.StmtAt at names (tree.Switch e cs)) p) (Eval e p) s (switch_on (clauses_onto cs []) p) refl;
-  switch_cases = λ v cs p s g. run_and_then g (choose_case v cs cs p s) switch_end;
-  case = λ v all e b cs p s g. part g (Eval e p) s (case_tested v all b cs p);
-  case_same = λ v w all b cs p s g. chosen (same v w) g (statements (b ++ bodies cs) p s) (choose_case v all cs p s);
-  default_passed = λ v all b cs p s g. refl;
-  default_taken = λ v all p s g. refl;
-  try = λ a c b p s g. then_part g (Exec (tree.StmtAt at names (tree.Try a c b)) p) s (and_then (statements (stmt_list a) p s) (caught c p)) (finally b p) refl ∙ ap (λ r. then_do r (finally b p)) (run_and_then g (statements (stmt_list a) p s) (caught c p));
-  catch = λ x b o p s g. catch_holds x b o p s g;
-  no_catch = λ o p s g. refl;
-  finally_block = λ b o p s g. run_and_then g (statements (stmt_list b) p s) (last_end o);
-  no_finally = λ o p s g. refl;
+pub statement_laws : (at : ℕ) (names : List ℕ) (p : Place) (s : State) (g : ℕ) → StatementLaws at names p s g
+statement_laws at names p s g = record {
+  list = λ i is. part g (Exec i p) s (λ o t. on_normal o t (statements is p t));
+  list_end = refl;
+  var = λ ds. unit g (Exec (tree.StmtAt at names (tree.Var ds)) p) s (declarations (decl_list ds) p s) refl;
+  var_first = λ x e ds. part g (Eval e p) s (after (λ v t. (declarations ds p) (assign t p x v)));
+  var_bare = λ x ds. refl;
+  var_end = refl;
+  only = λ e. first g (Exec (tree.StmtAt at names (tree.Only e)) p) (Eval e p) s (after (λ v t. Ret Normal t)) refl;
+  if_test = λ e a b. first g (Exec (tree.StmtAt at names (tree.If e a b)) p) (Eval e p) s (branch a b p) refl;
+  if_branch = λ a b v. chosen (is_true v) g (statements (stmt_list a) p s) (statements (stmt_list b) p s);
+  loop_again = λ l v. chosen (is_true v) g (Do (Pass l p) s Ret) (Ret Normal s);
+  while = λ e b. first g (Exec (tree.StmtAt at names (tree.While e b)) p) (Eval e p) s (loop_test (WhileLoop e (stmt_list b)) p) refl;
+  while_pass = λ e b. then_part g (Pass (WhileLoop e b) p) s (statements b p s) (while_next e b p) refl;
+  while_again = λ e b o. loop_ended o s g (Do (Eval e p) s (loop_test (WhileLoop e b) p)) (part g (Eval e p) s (loop_test (WhileLoop e b) p));
+  do_while = λ b e. refl;
+  do_pass = λ b e. then_part g (Pass (DoLoop b e) p) s (statements b p s) (do_next b e p) refl;
+  do_again = λ b e o. loop_ended o s g (Do (Eval e p) s (loop_test (DoLoop b e) p)) (part g (Eval e p) s (loop_test (DoLoop b e) p));
+  for = λ first test next b. then_part g (Exec (tree.StmtAt at names (tree.For first test next b)) p) s (for_init first p s) (for_again test (expr_list next) (stmt_list b) p) refl;
+  for_declarations = λ ds. refl;
+  for_expressions = λ es. refl;
+  for_test = λ e next b. part g (Eval e p) s (loop_test (ForLoop (tree.SomeExpr e) next b) p);
+  for_no_test = λ next b. refl;
+  for_pass = λ test next b. then_part g (Pass (ForLoop test next b) p) s (statements b p s) (for_next test next b p) refl;
+  for_round = λ test next b o. loop_ended o s g (and_then (expressions next p s) (for_again test next b p)) (run_and_then g (expressions next p s) (for_again test next b p));
+  expressions_first = λ e es. part g (Eval e p) s (after (λ v t. expressions es p t));
+  expressions_end = refl;
+  for_in_object = λ is_declared x e b. first g (Exec (tree.StmtAt at names (tree.ForIn is_declared x e b)) p) (Eval e p) s (for_in_over x (stmt_list b) p) refl;
+  for_in_list = λ v x b. chosen (is_nothing v) g (throw E1 s) (charge (length (names_of s v)) s (for_in v x (names_of s v) b p s));
+  for_in_name = λ v x y ys b. chosen (is_some (property s v y)) g (Do (Pass (ForInLoop v x y ys b) p) s Ret) (for_in v x ys b p s);
+  for_in_end = λ v x b. refl;
+  for_in_pass = λ v x y ys b. then_part g (Pass (ForInLoop v x y ys b) p) s (statements b p (assign s p x (Text y))) (for_in_next v x ys b p) refl;
+  for_in_again = λ v x ys b o. loop_ended o s g (for_in v x ys b p s) refl;
+  continue = λ x. refl;
+  break = λ x. refl;
+  return_nothing = refl;
+  return = λ e. first g (Exec (tree.StmtAt at names (tree.Return (tree.SomeExpr e))) p) (Eval e p) s (after (λ v t. Ret (Return v) t)) refl;
+  throw = λ e. first g (Exec (tree.StmtAt at names (tree.Throw e)) p) (Eval e p) s (after (λ v t. Ret (Throw v) t)) refl;
+  switch = λ e cs. first g (Exec (tree.StmtAt at names (tree.Switch e cs)) p) (Eval e p) s (switch_on (clause_list cs) p) refl;
+  switch_cases = λ v cs. run_and_then g (choose_case v cs cs p s) switch_end;
+  case = λ v all e b cs. part g (Eval e p) s (case_tested v all b cs p);
+  case_same = λ v w all b cs. chosen (same v w) g (statements (b ++ bodies cs) p s) (choose_case v all cs p s);
+  default_passed = λ v all b cs. refl;
+  default_taken = λ v all. refl;
+  try = λ a c b. then_part g (Exec (tree.StmtAt at names (tree.Try a c b)) p) s (and_then (statements (stmt_list a) p s) (caught c p)) (finally b p) refl ∙ ap (λ r. then_do r (finally b p)) (run_and_then g (statements (stmt_list a) p s) (caught c p));
+  catch = λ x b o. catch_holds x b o p s g;
+  no_catch = λ o. refl;
+  finally_block = λ b o. run_and_then g (statements (stmt_list b) p s) (last_end o);
+  no_finally = λ o. refl;
 }
 
-pub call_laws : CallLaws
-call_laws = record {
-  call = λ f this vs d s g. unit g (Call f this vs d) s (invoke f this vs d s) refl;
-  native = λ w this vs d s g. unit g (RunNative w this vs d) s (run_native w this vs d s) refl;
-  function = λ n f outer this vs d s g h k. function_holds n f outer this vs d s g h k;
-  too_deep = λ n f outer this vs d s g h k. too_deep_holds n f outer this vs d s g h k;
-  body = λ b p s g. run_and_then g (statements (without_directive (stmt_list b)) p s) call_end;
-  native_called = λ w this vs d s g. refl;
-  conversion = λ f v d s g. part g (Call f (Some v) [] d) s primitive_result;
-  charged = λ c s p g. charged_holds c s p g;
-  handler = λ h s g. unit g (Hear h) s (heard h s) refl;
-  handler_first = λ h s g. handler_holds h s g;
-  handler_next = λ f fs h s g. part g (Call (Own f) None (h.event ∷ []) h.depth) s (next_handlers fs h);
-  element_first = λ f v vs i ws d s k g. part g (Call f None (v ∷ Num (pos i) ∷ []) d) s (next_call f vs i ws d k);
-  element_last = λ f i ws d s k g. refl;
-  bunch_first = λ f v vs b d s g. part g (Call f None (v ∷ []) d) s (next_called f vs b d);
-  bunch_last = λ f b d s g. refl;
-  node_first = λ t n ns b d s g. run_and_then g (dispatch t n Undefined d s) (next_fired t ns b d);
-  node_last = λ t b d s g. refl;
-  no_fuel = λ j s. refl;
+pub call_laws : (s : State) (g : ℕ) → CallLaws s g
+call_laws s g = record {
+  call = λ f this vs d. unit g (Call f this vs d) s (invoke f this vs d s) refl;
+  native = λ w this vs d. unit g (RunNative w this vs d) s (run_native w this vs d s) refl;
+  function = λ n f outer this vs d h k. function_holds n f outer this vs d s g h k;
+  too_deep = λ n f outer this vs d h k. too_deep_holds n f outer this vs d s g h k;
+  body = λ b p. run_and_then g (statements (without_directive (stmt_list b)) p s) call_end;
+  native_called = λ w this vs d. refl;
+  conversion = λ f v d. part g (Call f (Some v) [] d) s primitive_result;
+  charged = λ c p. charged_holds c s p g;
+  handler = λ h. unit g (Hear h) s (heard h s) refl;
+  handler_first = λ h. handler_holds h s g;
+  handler_next = λ f fs h. part g (Call (Own f) None (h.event ∷ []) h.depth) s (after (λ v t. handlers fs h t));
+  element_first = λ f v vs i ws d k. part g (Call f None (v ∷ Num (pos i) ∷ []) d) s (after (λ w t. call_each f vs (i + 1) (ws ++ w ∷ []) d t k));
+  element_last = λ f i ws d k. refl;
+  bunch_first = λ f v vs b d. part g (Call f None (v ∷ []) d) s (after (λ w t. each_called f vs b d t));
+  bunch_last = λ f b d. refl;
+  node_first = λ t n ns b d. run_and_then g (dispatch t n Undefined d s) (after (λ v u. fired t ns b d u));
+  node_last = λ t b d. refl;
+  no_fuel = λ j. refl;
 }

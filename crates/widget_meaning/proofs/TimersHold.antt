@@ -8,7 +8,7 @@ use Rattle.js_tree.specs.Plain.{Stmts, Fun}
 use Rattle.widget_meaning.specs.Limits.{max_units, max_timers}
 use Rattle.widget_meaning.specs.Values.{Normal, Is, Refers, Return, Break, Continue, Throw, Stop}
 use Rattle.plain_tree.specs.Trees.{Label, TextOf, ElementOf}
-use Rattle.widget_meaning.specs.Trees.{label_of, node_at, relabelled, with_attribute}
+use Rattle.widget_meaning.specs.Trees.{label_of, node_at, relabelled}
 use Rattle.widget_meaning.specs.OwnState.{OwnState, State, Timer}
 use Rattle.widget_meaning.specs.Plan.{Plan, End, Ended, Stopped, OutOfFuel}
 use Rattle.widget_meaning.specs.Meaning.{run_plan}
@@ -21,6 +21,7 @@ use Rattle.widget_meaning.specs.Laws.{NoneBefore, AreTimers, TimerLaws}
 use Rattle.widget_meaning.proofs.KeepingRuns.{run_keeps}
 use Rattle.widget_meaning.proofs.KeepingForms.{dispatch_r}
 use Rattle.widget_meaning.proofs.KeepingJobs.{timer_plan_r, library_plan_r, go_plan_r}
+use Rattle.tree_ops.specs.Labels.{with_attribute}
 
 -- how many timers are due up to a time
 abbrev due_now : ℕ → List Timer → ℕ
@@ -317,7 +318,7 @@ value_timers None n v o h = h
 value_timers (Some (TextOf t)) n v o h = h
 value_timers (Some (ElementOf tag attrs)) n None o h = h
 value_timers (Some (ElementOf tag attrs)) n (Some v) o h =
-    let p : OwnState = record o { forest = relabelled n (ElementOf tag (with_attribute attrs (codes "value") v)) o.forest } in
+    let p : OwnState = record o { forest = relabelled n (with_attribute (codes "value") (Some v) (ElementOf tag attrs)) o.forest } in
     either (bytes_eq tag (codes "input")) p o (record { few = h.few; ahead = h.ahead }) h
 
 heard_timers : (x : Option (ℕ × List ℕ)) (k : State → Plan) (o : OwnState) → AreTimers o → ((i : Invariant) → HoldsOf i (begun o) → Keeps i (k (begun o))) → AreTimers (if_heard x k o)

@@ -3,12 +3,12 @@ use Rattle.std.specs.Prelude.{ℕ, zero, suc, ℤ, pos, negsuc, ◌+◌, max, Bo
 use Rattle.code_units.specs.Permitted.{is_permitted}
 use Rattle.widget_meaning.specs.Limits.{max_chain, max_timers, max_post, max_posts}
 use Rattle.widget_meaning.specs.NativeNames.{AdsafeNative, Create, FromJson, GetProperty, HasProperty, IsArray, KeysOf, Later, LogValue, Post, RemoveProperty, SetProperty, ToJson}
-use Rattle.widget_meaning.specs.Values.{Value, Undefined, Truth, Num, Text, Own, E4, E8, E11, E12, is_object, to_text}
-use Rattle.widget_meaning.specs.OwnState.{State, Kind, Object, Array, Function, Bunch, cell_at, new_object, with_own}
+use Rattle.widget_meaning.specs.Values.{Value, Undefined, Truth, Num, Text, Own, E4, E8, E11, E12, is_object, to_text, nth}
+use Rattle.widget_meaning.specs.OwnState.{State, Kind, Object, Array, new_object, with_own, kind_of, array_length}
 use Rattle.widget_meaning.specs.Plan.{Plan, charge}
 use Rattle.widget_meaning.specs.Costs.{pay, units_cost, make, throw, give}
 use Rattle.widget_meaning.specs.Properties.{get, put, delete, keys, own_property, prototype}
-use Rattle.widget_meaning.specs.NativeForms.{nth, want_primitives, want_function, give_texts}
+use Rattle.widget_meaning.specs.NativeForms.{want_primitives, want_function, give_texts}
 use Rattle.widget_meaning.specs.JsonValues.{from_json}
 use Rattle.widget_meaning.specs.JsonTexts.{to_json}
 
@@ -42,24 +42,11 @@ set_native o n v s = want_object o s (want_name n s (λ x. put o x v s (give Und
 abbrev pub remove_native : Value → Value → State → Plan
 remove_native o n s = want_object o s (want_name n s (λ x. delete o x s (λ b. give Undefined)))
 
--- whether a kind is an array's
-abbrev pub is_array_kind : Kind → Bool
-is_array_kind (Array n) = true
-is_array_kind Object = false
-is_array_kind (Function f scope) = false
-is_array_kind (Bunch ns) = false
-
--- `isArray(v)`
-abbrev pub is_array : State → Value → Bool
-is_array s (Own n) = is_array_kind (cell_at s n).kind
-is_array s v = false
-
 -- what `create` takes: an Object or Array of the widget
-abbrev pub can_be_prototype : Kind → Bool
-can_be_prototype Object = true
-can_be_prototype (Array n) = true
-can_be_prototype (Function f scope) = false
-can_be_prototype (Bunch ns) = false
+abbrev pub can_be_prototype : Option Kind → Bool
+can_be_prototype (Some Object) = true
+can_be_prototype (Some (Array n)) = true
+can_be_prototype kind = false
 
 -- how many objects stand on a chain, counted up to a limit
 abbrev pub chain_from : ℕ → State → Option Value → ℕ
@@ -67,14 +54,13 @@ chain_from zero s o = zero
 chain_from (suc m) s None = zero
 chain_from (suc m) s (Some o) = suc (chain_from m s (prototype s o))
 
--- the new object's chain is o and all that is on o's; E12 where it would pass the limit
+-- a new object with this prototype; E12 where its chain, which is the prototype and what is on the prototype's, would pass the limit
 abbrev pub create_from : Value → State → Plan
 create_from o s = if nat_lt max_chain (chain_from (suc max_chain) s (Some o)) then throw E12 s else make (new_object o []) 0 s give
 
 -- `create(o)`: a new object with this prototype
 abbrev pub create : Value → State → Plan
-create (Own n) s = if can_be_prototype (cell_at s n).kind then create_from (Own n) s else throw E4 s
-create v s = throw E4 s
+create o s = if can_be_prototype (kind_of s o) then create_from o s else throw E4 s
 
 -- `keys(o)`: the own permitted names, each a made text; the extra is their number
 abbrev pub keys_native : Value → State → Plan
@@ -85,22 +71,22 @@ abbrev pub delay : ℤ → ℕ
 delay (pos n) = max 10 n
 delay (negsuc n) = 10
 
--- one more timer
+-- one more timer, due at the clock plus its delay
 abbrev pub with_timer : State → Value → ℤ → State
 with_timer s (Own n) z = with_own s (record s.own { timers = s.own.timers ++ record { due = s.own.clock + delay z; func = n } ∷ [] })
 with_timer s v z = s
 
--- E11 where as many wait as may
+-- a timer is started; E11 where as many wait as may
 abbrev pub start_timer : Value → ℤ → State → Plan
 start_timer f z s = if nat_le max_timers (length s.own.timers) then throw E11 s else give Undefined (with_timer s f z)
 
--- the time is 0 where absent; what is no number throws E4
+-- a timer by its time, which is 0 where absent; what is no number throws E4
 abbrev pub later_in : Value → Value → State → Plan
 later_in f Undefined s = start_timer f (pos 0) s
 later_in f (Num z) s = start_timer f z s
 later_in f ms s = throw E4 s
 
--- `later(f, ms)`: due at the clock plus that
+-- `later(f, ms)`
 abbrev pub later : Value → Value → State → Plan
 later f ms s = want_function f s (later_in f ms s)
 
@@ -108,7 +94,7 @@ later f ms s = want_function f s (later_in f ms s)
 abbrev pub with_entry : State → List ℕ → State
 with_entry s t = with_own s (record s.own { log = s.own.log ++ t ∷ [] })
 
--- the extra is the units of the text, the cost one more
+-- a text is logged: the extra is its units, the cost one more
 abbrev pub log_text : List ℕ → State → Plan
 log_text t s = charge (length t) s (pay (units_cost (length t + 1)) s (λ u. give Undefined (with_entry u t)))
 
@@ -120,7 +106,7 @@ log_native v s = want_primitives (v ∷ []) s (log_text (to_text v) s)
 abbrev pub with_post : State → List ℕ → List ℕ → State
 with_post s to t = with_own s (record s.own { posts = s.own.posts ++ record { receiver = to; text = t } ∷ [] })
 
--- false where as many are kept as may be; else it is kept, at the cost of its units and one
+-- a post, and whether it is kept: false where as many are kept as may be; else it costs its units and one more
 abbrev pub keep_post : List ℕ → List ℕ → State → Plan
 keep_post to t s =
     if nat_le max_posts (length s.own.posts) then give (Truth false) s
@@ -138,7 +124,7 @@ adsafe_native SetProperty this vs d s = set_native (nth 0 vs) (nth 1 vs) (nth 2 
 adsafe_native RemoveProperty this vs d s = remove_native (nth 0 vs) (nth 1 vs) s
 adsafe_native HasProperty this vs d s = has_native (nth 0 vs) (nth 1 vs) s
 adsafe_native Create this vs d s = create (nth 0 vs) s
-adsafe_native IsArray this vs d s = give (Truth (is_array s (nth 0 vs))) s
+adsafe_native IsArray this vs d s = give (Truth (is_some (array_length (kind_of s (nth 0 vs))))) s
 adsafe_native KeysOf this vs d s = keys_native (nth 0 vs) s
 adsafe_native Later this vs d s = later (nth 0 vs) (nth 1 vs) s
 adsafe_native LogValue this vs d s = log_native (nth 0 vs) s

@@ -9,7 +9,7 @@ use Rattle.widget_meaning.specs.Values.{Value, Undefined, Own, Host, Completion}
 use Rattle.plain_tree.specs.Trees.{size}
 use Rattle.widget_meaning.specs.Trees.{Trees, numbered}
 use Rattle.widget_meaning.specs.OwnState.{OwnState, State, plain_object, new_function, no_notes}
-use Rattle.widget_meaning.specs.Plan.{Plan, Ret, Do, Call, on_value}
+use Rattle.widget_meaning.specs.Plan.{Plan, Ret, Do, Call, after}
 use Rattle.widget_meaning.specs.Costs.{cost, make, give}
 use Rattle.widget_meaning.specs.Properties.{put}
 use Rattle.widget_meaning.specs.Turns.{turn}
@@ -39,11 +39,11 @@ abbrev pub call_parts : Stmts → Option (List ℕ × Fun)
 call_parts (tree.AndStmt tree.NoStmts (tree.StmtAt a xs (tree.Only (tree.ExprAt b bs (tree.Call callee (tree.AndExpr (tree.AndExpr tree.NoExprs (tree.ExprAt c cs (tree.Str x))) (tree.ExprAt d ds (tree.Function f)))))))) = Some (x, f)
 call_parts ss = None
 
--- the object `lib` is made first; the nodes of the subtree are paid
+-- the object `lib`, which is made first
 abbrev pub lib : Value
 lib = Own 0
 
--- the widget before its first turn
+-- the widget before its first turn: the object `lib` and the nodes of the subtree are paid
 abbrev pub beginning : Content → ℕ → OwnState
 beginning w grant = record {
   heap = plain_object [] ∷ [];
@@ -69,13 +69,9 @@ beginning w grant = record {
 abbrev pub call_script : Fun → List Value → State → (Completion → State → Plan) → Plan
 call_script f vs s k = make (new_function f None) 0 s (λ v t. Do (Call v None vs 0) t k)
 
--- a library's value is kept in `lib` under its name, at the cost of a property
-abbrev pub keep_library : List ℕ → Completion → State → Plan
-keep_library x o s = on_value o s (λ v. put lib x v s (give Undefined))
-
--- the call of a library's function
+-- the call of a library's function: its value is kept in `lib` under its name, at the cost of a property
 abbrev pub library_plan : List ℕ → Fun → State → Plan
-library_plan x f s = call_script f (lib ∷ []) s (keep_library x)
+library_plan x f s = call_script f (lib ∷ []) s (after (λ v t. put lib x v t (give Undefined)))
 
 -- the load turn of a library
 abbrev pub library_turn : Option (List ℕ × Fun) → OwnState → OwnState
@@ -105,7 +101,7 @@ loaded w grant =
 abbrev pub alone_from : OwnState → List Item → OwnState
 alone_from o is = fold item o is
 
--- Alone: the load, and the items in order
+-- one widget by itself: the load, and the items in order
 abbrev pub alone : Content → ℕ → List Item → OwnState
 alone w grant is = alone_from (loaded w grant) is
 

@@ -1,17 +1,16 @@
 -- The Bunch methods that read. The extra is the number of nodes, unless said.
-use Rattle.std.specs.Prelude.{ℕ, pos, ◌+◌, ◌*◌, List, [], ◌∷◌, length, map, Bool, true, false, not, ◌&&◌, if◌then◌else◌, codes, Option, Some, None, is_some}
-use Rattle.std.specs.List.{filter, flat_map, sum_by}
+use Rattle.std.specs.Prelude.{ℕ, pos, ◌+◌, ◌*◌, List, [], ◌∷◌, length, map, Bool, true, false, not, ◌&&◌, if◌then◌else◌, codes, Option, Some, None, is_some, unwrap_or}
+use Rattle.std.specs.List.{filter, sum_by, range_with_len, fold, filter_map}
 use Rattle.widget_meaning.specs.NativeNames.{ReadNative, Query, GetValue, GetValues, GetStyle, GetClass, GetTitle, GetCheck, Explode, Count, GetParent, GetTagName, GetMark}
-use Rattle.widget_meaning.specs.Values.{Value, Undefined, Truth, Num, Text, Own, E9, to_text}
-use Rattle.widget_meaning.specs.Trees.{parent}
+use Rattle.widget_meaning.specs.Values.{Value, Undefined, Truth, Num, Text, Own, E9, to_text, nth}
+use Rattle.widget_meaning.specs.Trees.{parent, subtree}
 use Rattle.widget_meaning.specs.OwnState.{State, notes_at, new_array, new_bunch, with_new_cell}
 use Rattle.widget_meaning.specs.Plan.{Plan, charge}
 use Rattle.widget_meaning.specs.Costs.{pay, cost, make_text, throw, give}
-use Rattle.widget_meaning.specs.NativeForms.{nth, want_primitives, on_bunch, make_bunch, give_texts, numbered_pairs}
+use Rattle.widget_meaning.specs.NativeForms.{want_primitives, on_bunch, make_bunch, give_texts, numbered_pairs}
 use Rattle.style_text.specs.Styles.{is_listed}
 use Rattle.widget_meaning.specs.Styles.{style_pairs, style_value}
-use Rattle.widget_meaning.specs.PageForms.{want, want_all, attribute, or_empty, texts_of, tag_of, is_input, is_text_node, once, next_node}
-use Rattle.widget_meaning.specs.TreeOps.{subtree}
+use Rattle.widget_meaning.specs.PageForms.{want, want_all, attribute, texts_of, tag_of, is_input, is_text_node, once, next_node}
 use Rattle.query_grammar.specs.declared.query.Hunter.{Hunter}
 use Rattle.query_grammar.specs.declared.query.Hunter.TheVariants as hunter
 use Rattle.query_grammar.specs.Steps.{Step}
@@ -21,12 +20,12 @@ use Rattle.widget_meaning.specs.Queries.{read_query, finds}
 abbrev pub give_page_text : ℕ → List ℕ → State → Plan
 give_page_text extra t s = charge extra s (make_text t s (give (Text t)))
 
--- protected nodes are no starts where the first step's hunter is `+`
+-- whether a hunter is `+`
 abbrev pub is_next : Hunter → Bool
 is_next (hunter.Next tag) = true
 is_next h = false
 
--- the starts of a query
+-- the starts of a query: no protected nodes where the first step's hunter is `+`
 abbrev pub starts : State → List Step → List ℕ → List ℕ
 starts s [] ns = ns
 starts s (q ∷ qs) ns = if is_next q.hunter then filter (λ n. not (notes_at s n).is_protected) ns else ns
@@ -42,21 +41,21 @@ query ns v s = want_primitives (v ∷ []) s (query_steps (read_query (to_text v)
 
 -- the value of a node: an `input` its attribute or empty, a text node its text, an element its text content
 abbrev pub value_of : State → ℕ → List ℕ
-value_of s n = if is_input s n then or_empty (attribute s n (codes "value")) else texts_of (subtree n s.own.forest)
+value_of s n = if is_input s n then unwrap_or (attribute s n (codes "value")) [] else texts_of (subtree n s.own.forest)
 
--- `getValue()` and `getValues()`: the extra is the number of nodes and the units
+-- `getValue()`: the extra is the number of nodes and the units
 abbrev pub get_value : List ℕ → State → Plan
 get_value [] s = give Undefined s
 get_value (n ∷ ns) s = give_page_text (length (n ∷ ns) + length (value_of s n)) (value_of s n) s
 
--- the values of all nodes
+-- `getValues()`: the extra is the number of nodes and the units
 abbrev pub get_values : List ℕ → State → Plan
 get_values ns s = charge (length ns + sum_by length (map (value_of s) ns)) s (give_texts (map (value_of s) ns) s)
 
 -- an attribute of the first node, or empty
 abbrev pub first_attribute : State → List ℕ → List ℕ → List ℕ
 first_attribute s [] x = []
-first_attribute s (n ∷ ns) x = or_empty (attribute s n x)
+first_attribute s (n ∷ ns) x = unwrap_or (attribute s n x) []
 
 -- `getClass()` and `getTitle()`
 abbrev pub get_attribute : List ℕ → List ℕ → State → Plan
@@ -68,56 +67,41 @@ get_style ns p s =
     want_primitives (p ∷ []) s (want (is_listed (to_text p)) s
     (give_page_text (length ns) (style_value (style_pairs (first_attribute s ns (codes "style"))) (to_text p)) s))
 
--- `getCheck()`: whether the first node has `checked`
+-- whether the first node has `checked`
 abbrev pub is_checked : State → List ℕ → Bool
 is_checked s [] = false
 is_checked s (n ∷ ns) = is_some (attribute s n (codes "checked"))
 
--- the objects with these numbers from one on, one for each node
+-- the objects from this number on, one for each node
 abbrev pub bunches_from : ℕ → List ℕ → List Value
-bunches_from m [] = []
-bunches_from m (n ∷ ns) = Own m ∷ bunches_from (m + 1) ns
+bunches_from m ns = map Own (range_with_len m (length ns))
 
--- new Bunches of one node each
-abbrev pub with_bunches : State → List ℕ → State
-with_bunches s [] = s
-with_bunches s (n ∷ ns) = with_bunches (with_new_cell s (new_bunch (n ∷ []))) ns
+-- a new Bunch of one node
+abbrev pub with_bunch : State → ℕ → State
+with_bunch s n = with_new_cell s (new_bunch (n ∷ []))
 
 -- the array and its Bunches
 abbrev pub exploded : List ℕ → State → State
-exploded ns s = with_bunches (with_new_cell s (new_array (length ns) (numbered_pairs 0 (bunches_from (length s.own.heap + 1) ns)))) ns
+exploded ns s = fold with_bunch (with_new_cell s (new_array (length ns) (numbered_pairs 0 (bunches_from (length s.own.heap + 1) ns)))) ns
 
 -- `explode()`, at one cost: an array of Bunches of one node; the array is born first
 abbrev pub explode : List ℕ → State → Plan
 explode ns s = charge (length ns) s (pay (cost 0 (length ns + 1) (3 * length ns) 0) s (λ t. give (Own (length t.own.heap)) (exploded ns t)))
 
--- `getParent()`: the parents, first seen first; E10 where a node is protected or has no parent
+-- whether a node has a parent and is not protected
 abbrev pub has_open_parent : State → ℕ → Bool
 has_open_parent s n = is_some (parent n s.own.forest) && not (notes_at s n).is_protected
 
--- a parent, if there is one
-abbrev pub listed_parent : Option ℕ → List ℕ
-listed_parent None = []
-listed_parent (Some p) = p ∷ []
-
--- the parents of nodes, without repeats
-abbrev pub parents : State → List ℕ → List ℕ
-parents s ns = once [] (flat_map (λ n. listed_parent (parent n s.own.forest)) ns)
-
--- `getParent()`
+-- `getParent()`: the parents, first seen first; E10 where a node is protected or has no parent
 abbrev pub get_parent : List ℕ → State → Plan
-get_parent ns s = want_all (has_open_parent s) ns s (charge (length ns) s (make_bunch (parents s ns) s give))
+get_parent ns s = want_all (has_open_parent s) ns s (charge (length ns) s (make_bunch (once [] (filter_map (λ n. parent n s.own.forest) ns)) s give))
 
 -- `getTagName()`: the first node's tag, or `#text`
-abbrev pub tag_name : State → ℕ → List ℕ
-tag_name s n = if is_text_node s n then codes "#text" else tag_of s n
-
--- `getTagName()`
 abbrev pub get_tag_name : List ℕ → State → Plan
 get_tag_name [] s = give Undefined s
-get_tag_name (n ∷ ns) s = give_page_text (length (n ∷ ns)) (tag_name s n) s
+get_tag_name (n ∷ ns) s = give_page_text (length (n ∷ ns)) (if is_text_node s n then codes "#text" else tag_of s n) s
 
--- `getMark()`: the first node's mark, or empty
+-- the first node's mark, or empty
 abbrev pub first_mark : State → List ℕ → List ℕ
 first_mark s [] = []
 first_mark s (n ∷ ns) = (notes_at s n).mark

@@ -1,34 +1,26 @@
 -- Calls, the conversion of objects to primitives, and statements in a row.
-use Rattle.std.specs.Prelude.{ℕ, suc, ◌+◌, List, [], ◌∷◌, ◌++◌, length, nat_lt, if◌then◌else◌, codes, Bool, true, false, Option, Some}
+use Rattle.std.specs.Prelude.{ℕ, suc, List, [], ◌∷◌, length, nat_lt, if◌then◌else◌, codes, Bool, true, false, Option, Some, ◌++◌}
 use Rattle.std.specs.Str.{bytes_eq}
 use Rattle.js_tree.specs.Plain as tree
-use Rattle.js_tree.specs.Plain.{Expr, Stmt, Stmts, Fun, Funs}
+use Rattle.js_tree.specs.Plain.{Stmt, Stmts, Fun}
 use Rattle.widget_meaning.specs.Limits.{max_depth}
 use Rattle.widget_meaning.specs.NativeNames.{Native}
-use Rattle.widget_meaning.specs.Values.{Value, Undefined, Own, Host, Completion, Normal, Is, Refers, Return, Break, Continue, Throw, Depth, E2, E6, is_object}
-use Rattle.widget_meaning.specs.OwnState.{State, Kind, Object, Array, Function, Bunch, cell_at, scope_at, with_new_scope, with_scope, new_function}
+use Rattle.widget_meaning.specs.Values.{Value, Undefined, Own, Host, Completion, Normal, Return, Throw, Depth, E2, E6, is_object}
+use Rattle.widget_meaning.specs.OwnState.{State, Kind, Function, cell_at, scope_at, with_new_scope, with_scope, new_function, Scope}
 use Rattle.widget_meaning.specs.Plan.{Place, Plan, Ret, Halt, Do, Exec, Call, RunNative, and_then, on_value, on_normal}
-use Rattle.widget_meaning.specs.Costs.{pay, slots_cost, make, throw, give}
+use Rattle.widget_meaning.specs.Costs.{pay, make, throw, give, scope_cost}
 use Rattle.widget_meaning.specs.Properties.{get, is_function}
-use Rattle.widget_meaning.specs.Scopes.{fun_name, without_name, fun_names, funs_list, scope_names, first_pairs, set_pair, stmts_vars}
+use Rattle.widget_meaning.specs.Scopes.{fun_name, without_name, fun_list, set_pair, call_scope}
 
--- the statements of a block in order
-abbrev pub stmts_onto : Stmts → List Stmt → List Stmt
-stmts_onto tree.NoStmts after = after
-stmts_onto (tree.AndStmt ss s) after = stmts_onto ss (s ∷ after)
-
--- the statements of a block
+-- the statements of a block, in order
 abbrev pub stmt_list : Stmts → List Stmt
-stmt_list ss = stmts_onto ss []
+stmt_list tree.NoStmts = []
+stmt_list (tree.AndStmt ss s) = stmt_list ss ++ s ∷ []
 
 -- statements one after the other, up to the first that does not go on
 abbrev pub statements : List Stmt → Place → State → Plan
 statements [] p s = Ret Normal s
 statements (i ∷ is) p s = Do (Exec i p) s (λ o t. on_normal o t (statements is p t))
-
--- after the first statement, the others
-abbrev pub next_statements : List Stmt → Place → Completion → State → Plan
-next_statements is p o s = on_normal o s (statements is p s)
 
 -- `"use strict";` as the first statement of a function takes nothing
 abbrev pub without_directive : List Stmt → List Stmt
@@ -50,33 +42,23 @@ declare (f ∷ fs) i s k = make (new_function (without_name f) (Some i)) 0 s (λ
 abbrev pub call_end : Completion → State → Plan
 call_end (Return v) s = give v s
 call_end (Throw v) s = Ret (Throw v) s
-call_end Normal s = give Undefined s
-call_end (Is v) s = give Undefined s
-call_end (Refers r) s = give Undefined s
-call_end Break s = give Undefined s
-call_end Continue s = give Undefined s
+call_end o s = give Undefined s
 
 -- the body of a function, in its new scope
 abbrev pub call_body : Stmts → Place → State → Plan
 call_body body p s = and_then (statements (without_directive (stmt_list body)) p s) call_end
 
--- a call's scope costs a slot and one for each name
+-- the new scope of a call costs a slot and one for each name; then the declared functions are made and the body runs
 abbrev pub enter_scope : Fun → Option ℕ → Value → List Value → ℕ → State → Plan
 enter_scope (tree.FunAt at names name params body funs) outer f vs d s =
-    let fs : List Fun = funs_list funs [] in
-    let own : List (List ℕ) = fun_name (tree.FunAt at names name params body funs) in
-    let others : List (List ℕ) = params ++ (stmts_vars body ++ fun_names fs) in
-    let xs : List (List ℕ) = scope_names params body fs own in
-    pay (slots_cost (1 + length xs)) s (λ t. declare fs (length t.own.scopes)
-    (with_new_scope t (record { outer = outer; pairs = first_pairs params vs others own f xs }))
+    let c : Scope = call_scope (tree.FunAt at names name params body funs) outer f vs in
+    pay (scope_cost c) s (λ t. declare (fun_list funs) (length t.own.scopes) (with_new_scope t c)
     (call_body body (record { scope = Some (length t.own.scopes); depth = d })))
 
 -- a function of the widget at this depth. A stop for depth comes before the scope
 abbrev pub enter : Kind → Value → List Value → ℕ → State → Plan
 enter (Function f outer) v vs d s = if nat_lt max_depth d then Halt Depth s else enter_scope f outer v vs d s
-enter Object v vs d s = throw E2 s
-enter (Array n) v vs d s = throw E2 s
-enter (Bunch ns) v vs d s = throw E2 s
+enter kind v vs d s = throw E2 s
 
 -- a call by a caller at this depth: a function of the widget runs one deeper; a native takes a unit of its own
 abbrev pub invoke : Value → Option Value → List Value → ℕ → State → Plan

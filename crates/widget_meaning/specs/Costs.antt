@@ -1,11 +1,13 @@
 -- Costs, their limits and the order of stops; faults as objects.
-use Rattle.std.specs.Prelude.{ℕ, ◌+◌, List, [], ◌∷◌, length, nat_lt, if◌then◌else◌, codes}
+use Rattle.std.specs.Prelude.{ℕ, ◌+◌, List, [], ◌∷◌, length, nat_lt, if◌then◌else◌, codes, Option, Some, None}
 use Rattle.widget_meaning.specs.Limits.{max_cells, max_slots, max_units, max_nodes, max_text}
 use Rattle.widget_meaning.specs.Values.{Value, Text, Own, Throw, Is, Fault, E1, E2, E3, E4, E5, E6, E7, E8, E9, E10, E11, E12, Cells, Slots, Units, LongText, Nodes}
-use Rattle.widget_meaning.specs.OwnState.{Amounts, State, Cell, Pairs, with_own, with_new_cell, plain_object}
+use Rattle.widget_meaning.specs.OwnState.{Amounts, State, Cell, Pairs, with_own, with_new_cell, plain_object, Scope}
 use Rattle.widget_meaning.specs.Plan.{Plan, Ret, Halt}
 
--- what things cost: units of text, cells, slots, nodes
+-- ## What things cost: units of text, cells, slots, nodes
+
+-- all four
 abbrev pub cost : ℕ → ℕ → ℕ → ℕ → Amounts
 cost units cells slots nodes = record { units = units; cells = cells; slots = slots; nodes = nodes }
 
@@ -16,6 +18,10 @@ units_cost n = cost n 0 0 0
 -- slots
 abbrev pub slots_cost : ℕ → Amounts
 slots_cost n = cost 0 0 n 0
+
+-- the scope of a call or a `catch`: a slot, and one for each name
+abbrev pub scope_cost : Scope → Amounts
+scope_cost c = slots_cost (1 + length c.pairs)
 
 -- an object with this many names of its own
 abbrev pub object_cost : ℕ → Amounts
@@ -50,7 +56,7 @@ make c slots s k = pay (object_cost slots) s (λ t. k (Own (length t.own.heap)) 
 abbrev pub make_text : List ℕ → State → (State → Plan) → Plan
 make_text t s k = if nat_lt max_text (length t) then Halt LongText s else pay (units_cost (length t)) s k
 
--- the name of a fault, and its message
+-- the name of a fault
 abbrev pub fault_name : Fault → List ℕ
 fault_name E7 = codes "RangeError"
 fault_name E8 = codes "ADsafe"
@@ -82,6 +88,11 @@ fault_pairs e = (codes "name", Text (fault_name e)) ∷ (codes "message", Text (
 -- a fault is thrown as a new object
 abbrev pub throw : Fault → State → Plan
 throw e s = make (plain_object (fault_pairs e)) 2 s (λ v t. Ret (Throw v) t)
+
+-- what is there, or else a fault is thrown
+abbrev pub or_throw : {A : Type 0} → Fault → Option A → State → (A → Plan) → Plan
+or_throw e None s k = throw e s
+or_throw e (Some a) s k = k a
 
 -- a form ends with a value
 abbrev pub give : Value → State → Plan

@@ -1,13 +1,13 @@
 -- Dispatch: an event goes to the nearest node that listens, and with `bubble` on from its parent.
-use Rattle.std.specs.Prelude.{ℕ, zero, suc, ◌+◌, List, [], ◌∷◌, ◌++◌, Bool, true, false, length, map, Option, Some, None, codes}
+use Rattle.std.specs.Prelude.{ℕ, zero, suc, ◌+◌, List, [], ◌∷◌, ◌++◌, Bool, true, false, length, map, Option, Some, None, codes, take, slice_index_or, slice_set, ◌-◌}
 use Rattle.std.specs.List.{filter}
 use Rattle.std.specs.Str.{bytes_eq}
-use Rattle.widget_meaning.specs.NativeNames.{OfWrite, Bubble}
-use Rattle.widget_meaning.specs.Values.{Value, Undefined, Text, Own, Completion, Is}
+use Rattle.widget_meaning.specs.NativeNames.{Bubble}
+use Rattle.widget_meaning.specs.Values.{Value, Undefined, Text, Own, Completion, Is, E3}
 use Rattle.widget_meaning.specs.Trees.{parent}
 use Rattle.widget_meaning.specs.OwnState.{State, Pairs, notes_at, plain_object, new_bunch, with_new_cell}
-use Rattle.widget_meaning.specs.Plan.{Plan, Ret, Do, and_then, Call, Hear, Hearing, on_value}
-use Rattle.widget_meaning.specs.Costs.{pay, cost, give}
+use Rattle.widget_meaning.specs.Plan.{Plan, Ret, Do, and_then, Call, Hear, Hearing, after}
+use Rattle.widget_meaning.specs.Costs.{pay, cost, give, throw}
 use Rattle.widget_meaning.specs.HostTable.{native}
 use Rattle.widget_meaning.specs.Calls.{invoke}
 
@@ -30,25 +30,22 @@ nearest_from (suc m) s (Some n) kind = here_or_above n (listening s n kind) (λ 
 abbrev pub nearest : State → Option ℕ → List ℕ → Option (ℕ × List ℕ)
 nearest s o kind = nearest_from (length s.own.notes) s o kind
 
--- the open dispatches: a new one, and without the innermost
+-- with a new innermost dispatch, in which `bubble` was not called yet
 abbrev pub with_dispatch : State → State
-with_dispatch s = record { own = s.own; dispatches = s.dispatches ++ false ∷ [] }
-
--- a list without its last
-abbrev pub all_but_last : List Bool → List Bool
-all_but_last [] = []
-all_but_last (b ∷ []) = []
-all_but_last (b ∷ c ∷ bs) = b ∷ all_but_last (c ∷ bs)
-
--- whether `bubble` was called in the innermost dispatch
-abbrev pub is_bubbled : List Bool → Bool
-is_bubbled [] = false
-is_bubbled (b ∷ []) = b
-is_bubbled (b ∷ c ∷ bs) = is_bubbled (c ∷ bs)
+with_dispatch s = record s { dispatches = s.dispatches ++ false ∷ [] }
 
 -- without the innermost dispatch
 abbrev pub without_dispatch : State → State
-without_dispatch s = record { own = s.own; dispatches = all_but_last s.dispatches }
+without_dispatch s = record s { dispatches = take (length s.dispatches - 1) s.dispatches }
+
+-- whether `bubble` was called in the innermost dispatch
+abbrev pub is_bubbled : State → Bool
+is_bubbled s = slice_index_or s.dispatches (length s.dispatches - 1) false
+
+-- `bubble()` marks the innermost dispatch; E3 where none runs
+abbrev pub bubble : List Bool → State → Plan
+bubble [] s = throw E3 s
+bubble bs s = give Undefined (record s { dispatches = slice_set bs (length bs - 1) true })
 
 -- the event object, before its two Bunches
 abbrev pub event_pairs : List ℕ → ℕ → Value → Pairs
@@ -57,7 +54,7 @@ event_pairs kind n value =
     ∷ (codes "target", Own (n + 1))
     ∷ (codes "that", Own (n + 2))
     ∷ (codes "value", value)
-    ∷ (codes "bubble", native (OfWrite Bubble)) ∷ []
+    ∷ (codes "bubble", native Bubble) ∷ []
 
 -- with the event object and the Bunches of its target and of the node
 abbrev pub with_event : State → List ℕ → ℕ → ℕ → Value → State
@@ -75,7 +72,7 @@ hear kind target value d node (f ∷ fs) s =
     (Hear (record { kind = kind; target = target; node = node; value = value; event = Own (length t.own.heap); first = f; others = fs; depth = d }))
     (with_dispatch (with_event t kind target node value)) Ret)
 
--- the search, from a node on; where nothing listens, nothing is done
+-- the dispatch at the node that was found; where nothing listens, nothing is done
 abbrev pub hear_found : Option (ℕ × List ℕ) → List ℕ → ℕ → Value → ℕ → State → Plan
 hear_found None kind target value d s = give Undefined s
 hear_found (Some (node, fs)) kind target value d s = hear kind target value d node fs s
@@ -91,22 +88,18 @@ dispatch kind target value d s = search_from (Some target) kind target value d s
 -- the handlers after the first, in order
 abbrev pub handlers : List ℕ → Hearing → State → Plan
 handlers [] h s = give Undefined s
-handlers (f ∷ fs) h s = Do (Call (Own f) None (h.event ∷ []) h.depth) s (λ o t. on_value o t (λ v. handlers fs h t))
+handlers (f ∷ fs) h s = Do (Call (Own f) None (h.event ∷ []) h.depth) s (after (λ v t. handlers fs h t))
 
--- after a handler, the others
-abbrev pub next_handlers : List ℕ → Hearing → Completion → State → Plan
-next_handlers fs h o s = on_value o s (λ v. handlers fs h s)
-
--- after them the dispatch is over; where `bubble` was called in it, the search goes on from the parent that the node has now
+-- after a dispatch: where `bubble` was called in it, the search goes on from the parent that the node has now
 abbrev pub bubble_on : Bool → Hearing → State → Plan
 bubble_on false h s = give Undefined s
 bubble_on true h s = search_from (parent h.node s.own.forest) h.kind h.target h.value h.depth s
 
 -- after the handlers: the dispatch is over
 abbrev pub dispatch_end : Hearing → Completion → State → Plan
-dispatch_end h (Is v) s = bubble_on (is_bubbled s.dispatches) h (without_dispatch s)
+dispatch_end h (Is v) s = bubble_on (is_bubbled s) h (without_dispatch s)
 dispatch_end h o s = Ret o (without_dispatch s)
 
 -- what the job is, after its unit
 abbrev pub heard : Hearing → State → Plan
-heard h s = and_then (and_then (invoke (Own h.first) None (h.event ∷ []) h.depth s) (next_handlers h.others h)) (dispatch_end h)
+heard h s = and_then (and_then (invoke (Own h.first) None (h.event ∷ []) h.depth s) (after (λ v t. handlers h.others h t))) (dispatch_end h)

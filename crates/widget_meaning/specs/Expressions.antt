@@ -18,31 +18,23 @@ use Rattle.code_units.specs.Whole.{number_in}
 use Rattle.widget_meaning.specs.Values.{Value, Undefined, Null, Truth, NaN, Num, Text, Reference, Variable, Property, Found, Completion, Refers, E1, Number, LongText, is_true, is_nothing, to_text, to_number}
 use Rattle.widget_meaning.specs.Operators.{OpOut, Gives, Leaves, TooLong, number, binary, unary, type_name}
 use Rattle.widget_meaning.specs.OwnState.{State, plain_object, new_array, new_function}
-use Rattle.widget_meaning.specs.Plan.{Place, Plan, Ret, Halt, Do, Eval, Target, and_then, on_value, on_reference}
+use Rattle.widget_meaning.specs.Plan.{Place, Plan, Ret, Halt, Do, Eval, Target, and_then, on_value, on_reference, after}
 use Rattle.widget_meaning.specs.Costs.{make, make_text, throw, give}
 use Rattle.widget_meaning.specs.Properties.{get, read, put, delete, index_name, is_function}
 use Rattle.widget_meaning.specs.Scopes.{variable, assign}
 use Rattle.widget_meaning.specs.Calls.{invoke, to_primitive}
 
--- the parts of a list, in order
-abbrev pub exprs_onto : Exprs → List Expr → List Expr
-exprs_onto tree.NoExprs after = after
-exprs_onto (tree.AndExpr es e) after = exprs_onto es (e ∷ after)
-
--- the expressions of a list
+-- the expressions of a list, in order
 abbrev pub expr_list : Exprs → List Expr
-expr_list es = exprs_onto es []
+expr_list tree.NoExprs = []
+expr_list (tree.AndExpr es e) = expr_list es ++ e ∷ []
 
--- keys and values in order, before those that follow
-abbrev pub properties_onto : Properties → List (List ℕ × Expr) → List (List ℕ × Expr)
-properties_onto tree.NoProperties after = after
-properties_onto (tree.AndProperty ps x e) after = properties_onto ps ((x, e) ∷ after)
-
--- keys and values of an object literal
+-- keys and values of an object literal, in order
 abbrev pub property_list : Properties → List (List ℕ × Expr)
-property_list ps = properties_onto ps []
+property_list tree.NoProperties = []
+property_list (tree.AndProperty ps x e) = property_list ps ++ (x, e) ∷ []
 
--- literals
+-- the value of a number literal
 abbrev pub literal : WholeRead → Value
 literal (read_as.Whole z) = Num z
 literal read_as.NotNumber = NaN
@@ -56,57 +48,33 @@ word_value word.False = Truth false
 -- no accepted tree has `this`
 word_value word.This = Undefined
 
--- an array and an object are born before their parts; each part is written as soon as it has its value
+-- ## Arrays and objects: born before their parts, of which each is written as soon as it has its value
+
+-- the elements of an array literal from an index on
 abbrev pub array_parts : Value → ℕ → List Expr → Place → State → Plan
 array_parts a i [] p s = give a s
-array_parts a i (e ∷ es) p s = Do (Eval e p) s (λ o t. on_value o t (λ v. put a (index_name i) v t (array_parts a (i + 1) es p)))
-
--- after an element: it is written, and the others follow
-abbrev pub array_part : Value → ℕ → List Expr → Place → Completion → State → Plan
-array_part a i es p o s = on_value o s (λ v. put a (index_name i) v s (array_parts a (i + 1) es p))
+array_parts a i (e ∷ es) p s = Do (Eval e p) s (after (λ v t. put a (index_name i) v t (array_parts a (i + 1) es p)))
 
 -- the properties of an object literal
 abbrev pub object_parts : Value → List (List ℕ × Expr) → Place → State → Plan
 object_parts a [] p s = give a s
-object_parts a (q ∷ qs) p s = Do (Eval q.1 p) s (λ o t. on_value o t (λ v. put a q.0 v t (object_parts a qs p)))
+object_parts a (q ∷ qs) p s = Do (Eval q.1 p) s (after (λ v t. put a q.0 v t (object_parts a qs p)))
 
--- after a property's value: it is written, and the others follow
-abbrev pub object_part : Value → List ℕ → List (List ℕ × Expr) → Place → Completion → State → Plan
-object_part a x qs p o s = on_value o s (λ v. put a x v s (object_parts a qs p))
+-- ## Properties and targets
 
--- a property: the base, then the subscript, then the fault of undefined and null, then the read
-abbrev pub dot_read : List ℕ → Completion → State → Plan
-dot_read x o s = on_value o s (λ b. read b x s)
-
--- after a subscript: the read of that name
-abbrev pub named_read : Value → Completion → State → Plan
-named_read b o s = on_value o s (λ v. read b (to_text v) s)
-
--- after a base: its subscript
+-- after a base: its subscript, and then the read
 abbrev pub subscript_read : Expr → Place → Completion → State → Plan
-subscript_read i p o s = on_value o s (λ b. Do (Eval i p) s (named_read b))
+subscript_read i p o s = on_value o s (λ b. Do (Eval i p) s (after (λ v t. read b (to_text v) t)))
 
--- a property as a target: its base is not undefined or null
+-- a property as a target; undefined and null have none
 abbrev pub refer : Value → List ℕ → State → Plan
 refer b x s = if is_nothing b then throw E1 s else Ret (Refers (Property b x)) s
 
--- after the base of a target with a dot
-abbrev pub dot_target : List ℕ → Completion → State → Plan
-dot_target x o s = on_value o s (λ b. refer b x s)
-
--- after the subscript of a target
-abbrev pub named_target : Value → Completion → State → Plan
-named_target b o s = on_value o s (λ v. refer b (to_text v) s)
-
 -- after the base of a target with a subscript
 abbrev pub subscript_target : Expr → Place → Completion → State → Plan
-subscript_target i p o s = on_value o s (λ b. Do (Eval i p) s (named_target b))
+subscript_target i p o s = on_value o s (λ b. Do (Eval i p) s (after (λ v t. refer b (to_text v) t)))
 
--- after an expression that is no other target: its value
-abbrev pub value_target : Completion → State → Plan
-value_target o s = on_value o s (λ v. Ret (Refers (Found v)) s)
-
--- what a reference has, its base, and a write to it
+-- what a reference has
 abbrev pub referred : Reference → Place → State → Value
 referred (Variable x) p s = variable s p x
 referred (Property b x) p s = get s b x
@@ -124,18 +92,18 @@ write (Variable x) p v s k = k (assign s p x v)
 write (Property b x) p v s k = put b x v s k
 write (Found w) p v s k = k s
 
--- a call: the target, the arguments, and then the function is read. A plain call passes no receiver
+-- ## Calls
+
+-- the arguments from left to right, behind those that are there; then the function is read and called. A plain call passes no receiver
 abbrev pub arguments_then : Reference → List Value → List Expr → Place → State → Plan
 arguments_then r vs [] p s = invoke (referred r p s) (base_of r) vs p.depth s
-arguments_then r vs (e ∷ es) p s = Do (Eval e p) s (λ o t. on_value o t (λ v. arguments_then r (vs ++ v ∷ []) es p t))
-
--- after an argument: the next ones, and then the call
-abbrev pub next_argument : Reference → List Value → List Expr → Place → Completion → State → Plan
-next_argument r vs es p o s = on_value o s (λ v. arguments_then r (vs ++ v ∷ []) es p s)
+arguments_then r vs (e ∷ es) p s = Do (Eval e p) s (after (λ v t. arguments_then r (vs ++ v ∷ []) es p t))
 
 -- after the target of a call: its arguments
 abbrev pub callee : List Expr → Place → Completion → State → Plan
 callee es p o s = on_reference o s (λ r. arguments_then r [] es p s)
+
+-- ## Operators
 
 -- what an operator gives: a joined text costs its units
 abbrev pub result : OpOut → State → Plan
@@ -144,48 +112,32 @@ result (Gives v) s = give v s
 result Leaves s = Halt Number s
 result TooLong s = Halt LongText s
 
--- an operator on two values: objects are converted, left before right, but for `===` and `!==`
+-- whether an operator converts objects: `===` and `!==` do not
 abbrev pub converts : BinOp → Bool
 converts bin.Same = false
 converts bin.NotSame = false
 converts _ = true
 
--- after the right operand's conversion: the operator
-abbrev pub converted_right : BinOp → Value → Completion → State → Plan
-converted_right op v o s = on_value o s (λ w. result (binary op v w) s)
-
 -- after the left operand's conversion: that of the right
 abbrev pub converted_left : BinOp → Value → ℕ → Completion → State → Plan
-converted_left op w d o s = on_value o s (λ v. and_then (to_primitive w d s) (converted_right op v))
+converted_left op w d o s = on_value o s (λ v. and_then (to_primitive w d s) (after (λ w t. result (binary op v w) t)))
 
--- an operator on two values, by a caller at this depth
+-- an operator on two values, by a caller at this depth: objects are converted, left before right
 abbrev pub operate : BinOp → Value → Value → ℕ → State → Plan
 operate op v w d s =
     if converts op
     then and_then (to_primitive v d s) (converted_left op w d)
     else result (binary op v w) s
 
--- after the right operand
-abbrev pub binary_with : BinOp → Value → Place → Completion → State → Plan
-binary_with op v p o s = on_value o s (λ w. operate op v w p.depth s)
-
 -- after the left operand
 abbrev pub binary_right : BinOp → Expr → Place → Completion → State → Plan
-binary_right op b p o s = on_value o s (λ v. Do (Eval b p) s (binary_with op v p))
-
--- a prefix operator, after its operand is converted
-abbrev pub unary_converted : UnOp → Completion → State → Plan
-unary_converted op o s = on_value o s (λ v. result (unary op v) s)
+binary_right op b p o s = on_value o s (λ v. Do (Eval b p) s (after (λ w t. operate op v w p.depth t)))
 
 -- a prefix operator on a value: `+` and `-` convert an object, `!` and `typeof` do not
 abbrev pub unary_on : UnOp → Value → Place → State → Plan
 unary_on un.TypeOf v p s = give (Text (type_name (is_function s v) v)) s
 unary_on un.Not v p s = result (unary un.Not v) s
-unary_on op v p s = and_then (to_primitive v p.depth s) (unary_converted op)
-
--- after the operand of a prefix operator
-abbrev pub unary_operand : UnOp → Place → Completion → State → Plan
-unary_operand op p o s = on_value o s (λ v. unary_on op v p s)
+unary_on op v p s = and_then (to_primitive v p.depth s) (after (λ v t. result (unary op v) t))
 
 -- `delete` takes a property out
 abbrev pub delete_at : Reference → State → Plan
@@ -197,7 +149,9 @@ delete_at (Found v) s = give (Truth true) s
 abbrev pub delete_target : Completion → State → Plan
 delete_target o s = on_reference o s (λ r. delete_at r s)
 
--- a step: the number before and the number after are written and given
+-- ## Steps and assignments
+
+-- the number after a step
 abbrev pub stepped : StepOp → ℤ → OpOut
 stepped step.PreInc z = number (z +ℤ pos 1)
 stepped step.PostInc z = number (z +ℤ pos 1)
@@ -211,7 +165,7 @@ is_post step.PostDec = true
 is_post step.PreInc = false
 is_post step.PreDec = false
 
--- the new number is written, and the one before or after is given
+-- the new number is written, and the one before or after it is given
 abbrev pub step_write : OpOut → StepOp → Value → Reference → Place → State → Plan
 step_write (Gives w) op v r p s = write r p w s (give (if is_post op then v else w))
 step_write Leaves op v r p s = Halt Number s
@@ -231,10 +185,6 @@ step_converted op r p o s = on_value o s (λ v. step_number (to_number v) op r p
 abbrev pub step_target : StepOp → Place → Completion → State → Plan
 step_target op p o s = on_reference o s (λ r. and_then (to_primitive (referred r p s) p.depth s) (step_converted op r p))
 
--- an assignment: the target, for a compound form what it has, the right side, and the write
-abbrev pub assigned : Reference → Place → Completion → State → Plan
-assigned r p o s = on_value o s (λ v. write r p v s (give v))
-
 -- what a compound assignment computes
 abbrev pub compound : AssignOp → Value → Value → ℕ → State → Plan
 compound assignment.Add v w d s = operate bin.Add v w d s
@@ -247,13 +197,15 @@ compound op v w d s = give w s
 
 -- after the right side of an assignment
 abbrev pub assign_with : AssignOp → Reference → Value → Place → Completion → State → Plan
-assign_with op r v p o s = on_value o s (λ w. and_then (compound op v w p.depth s) (assigned r p))
+assign_with op r v p o s = on_value o s (λ w. and_then (compound op v w p.depth s) (after (λ v t. write r p v t (give v))))
 
 -- after the target of an assignment
 abbrev pub assign_target : AssignOp → Expr → Place → Completion → State → Plan
 assign_target op e p o s = on_reference o s (λ r. Do (Eval e p) s (assign_with op r (referred r p s) p))
 
--- `&&`, `||` and `? :` choose by the truth of their first part
+-- ## Choices by the truth of a first part
+
+-- after the left of `&&`
 abbrev pub and_right : Expr → Place → Completion → State → Plan
 and_right b p o s = on_value o s (λ v. if is_true v then Do (Eval b p) s Ret else give v s)
 
@@ -265,10 +217,12 @@ or_right b p o s = on_value o s (λ v. if is_true v then give v s else Do (Eval 
 abbrev pub choose : Expr → Expr → Place → Completion → State → Plan
 choose b c p o s = on_value o s (λ v. if is_true v then Do (Eval b p) s Ret else Do (Eval c p) s Ret)
 
+-- ## The forms
+
 -- a prefix operator: `delete` takes a target, the others a value
 abbrev pub prefix_form : UnOp → Expr → Place → State → Plan
 prefix_form un.Delete e p s = Do (Target e p) s delete_target
-prefix_form op e p s = Do (Eval e p) s (unary_operand op p)
+prefix_form op e p s = Do (Eval e p) s (after (λ v t. unary_on op v p t))
 
 -- what each expression does
 abbrev pub expression : ExprForm → Place → State → Plan
@@ -279,7 +233,7 @@ expression (tree.Constant w) p s = give (word_value w) s
 expression (tree.Array es) p s = make (new_array 0 []) 0 s (λ a t. array_parts a 0 (expr_list es) p t)
 expression (tree.Object qs) p s = make (plain_object []) 0 s (λ a t. object_parts a (property_list qs) p t)
 expression (tree.Function f) p s = make (new_function f p.scope) 0 s (λ v t. give v t)
-expression (tree.Dot e x) p s = Do (Eval e p) s (dot_read x)
+expression (tree.Dot e x) p s = Do (Eval e p) s (after (λ b t. read b x t))
 expression (tree.Sub e i) p s = Do (Eval e p) s (subscript_read i p)
 expression (tree.Call e es) p s = Do (Target e p) s (callee (expr_list es) p)
 expression (tree.Step op e) p s = Do (Target e p) s (step_target op p)
@@ -296,6 +250,6 @@ expression (tree.Comma a b) p s = give Undefined s
 -- what each target does
 abbrev pub target : ExprForm → Place → State → Plan
 target (tree.Name x) p s = Ret (Refers (Variable x)) s
-target (tree.Dot e x) p s = Do (Eval e p) s (dot_target x)
+target (tree.Dot e x) p s = Do (Eval e p) s (after (λ b t. refer b x t))
 target (tree.Sub e i) p s = Do (Eval e p) s (subscript_target i p)
-target form p s = and_then (expression form p s) value_target
+target form p s = and_then (expression form p s) (after (λ v t. Ret (Refers (Found v)) t))

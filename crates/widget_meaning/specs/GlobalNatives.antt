@@ -9,14 +9,14 @@ use Rattle.code_units.specs.declared.whole.WholeRead.{WholeRead}
 use Rattle.code_units.specs.declared.whole.WholeRead.TheVariants as read
 use Rattle.code_units.specs.Whole.{is_x, trimmed_start}
 use Rattle.widget_meaning.specs.NativeNames.{GlobalNative, BooleanOf, NumberOf, StringOf, IsNaN, IsFinite, ParseInt, FromCharCode}
-use Rattle.widget_meaning.specs.Values.{Value, Completion, Truth, NaN, Num, Text, Number, is_object, is_true, to_text, to_number}
+use Rattle.widget_meaning.specs.Values.{Value, Truth, NaN, Num, Text, Number, is_object, is_true, to_text, to_number, nth}
 use Rattle.widget_meaning.specs.Operators.{OpOut, Gives, Leaves, number, truth, as_number}
 use Rattle.widget_meaning.specs.OwnState.{State}
-use Rattle.widget_meaning.specs.Plan.{Plan, Halt, and_then, charge, on_value}
+use Rattle.widget_meaning.specs.Plan.{Plan, Halt, and_then, charge, after}
 use Rattle.widget_meaning.specs.Costs.{give}
 use Rattle.widget_meaning.specs.Calls.{to_primitive}
 use Rattle.widget_meaning.specs.Expressions.{result}
-use Rattle.widget_meaning.specs.NativeForms.{nth, want_primitives, with_number, give_text}
+use Rattle.widget_meaning.specs.NativeForms.{want_primitives, with_number, give_text}
 
 -- the units that are read of an argument
 abbrev pub units_read : Value → ℕ
@@ -47,14 +47,10 @@ abbrev pub text_of_primitive : Value → State → Plan
 text_of_primitive (Text t) s = give (Text t) s
 text_of_primitive v s = give_text 0 (to_text v) s
 
--- what the `toString` of an object gave
-abbrev pub string_result : Completion → State → Plan
-string_result o s = on_value o s (λ v. text_of_primitive v s)
-
 -- `String(v)`: an object by its `toString`
 abbrev pub string_of : Value → ℕ → State → Plan
 string_of v d s =
-    if is_object v then and_then (to_primitive v d s) string_result
+    if is_object v then and_then (to_primitive v d s) (after text_of_primitive)
     else charge (units_read v) s (text_of_primitive v s)
 
 -- absent, not undefined, gives the empty text
@@ -102,14 +98,12 @@ parse_int v radix s =
 -- a number modulo 65536, NaN as 0
 abbrev pub code_of : WholeRead → ℕ
 code_of (read.Whole z) = unsigned_abs (int_rem_euclid z (pos 65536))
-code_of read.NotNumber = 0
-code_of read.Left = 0
+code_of r = 0
 
 -- whether it leaves the numbers
 abbrev pub leaves : WholeRead → Bool
-leaves (read.Whole z) = false
-leaves read.NotNumber = false
 leaves read.Left = true
+leaves r = false
 
 -- `String.fromCharCode(u, ...)`
 abbrev pub from_char_code : List Value → State → Plan

@@ -4,7 +4,8 @@ use Rattle.std.specs.Str.{bytes_eq}
 use Rattle.widget_meaning.specs.Limits.{max_timers}
 use Rattle.widget_meaning.specs.Values.{Value, Undefined, Text, Own, Stop}
 use Rattle.plain_tree.specs.Trees.{Label, ElementOf}
-use Rattle.widget_meaning.specs.Trees.{label_of, relabelled, with_attribute, node_at}
+use Rattle.tree_ops.specs.Labels.{with_attribute}
+use Rattle.widget_meaning.specs.Trees.{label_of, relabelled, node_at}
 use Rattle.widget_meaning.specs.OwnState.{OwnState, State, Timer}
 use Rattle.widget_meaning.specs.Plan.{Plan, Ret, Do, Call}
 use Rattle.widget_meaning.specs.Dispatch.{nearest, dispatch}
@@ -25,7 +26,7 @@ pub data Item : Type 0 where
 abbrev pub with_value : Option Label → ℕ → Option (List ℕ) → OwnState → OwnState
 with_value (Some (ElementOf tag attrs)) n (Some v) o =
     if bytes_eq tag (codes "input")
-    then record o { forest = relabelled n (ElementOf tag (with_attribute attrs (codes "value") v)) o.forest }
+    then record o { forest = relabelled n (with_attribute (codes "value") (Some v) (ElementOf tag attrs)) o.forest }
     else o
 with_value l n v o = o
 
@@ -52,13 +53,13 @@ abbrev pub occurs : Event → Option ℕ → OwnState → OwnState
 occurs e None o = record o { missed = o.missed + 1 }
 occurs e (Some n) o = occurs_at e n (with_value (label_of n o.forest) n e.value o)
 
--- the waiting timer with the least due time up to the limit, the earlier started at a tie
+-- the timer with the lesser due time, the first at a tie
 abbrev pub sooner : Option Timer → Option Timer → Option Timer
 sooner None u = u
 sooner (Some t) None = Some t
 sooner (Some t) (Some u) = if nat_le t.due u.due then Some t else Some u
 
--- the timer that is due next, up to the limit
+-- the waiting timer with the least due time up to the limit, the earlier started at a tie
 abbrev pub next_due : ℕ → List Timer → Option Timer
 next_due limit [] = None
 next_due limit (t ∷ ts) = sooner (if nat_le t.due limit then Some t else None) (next_due limit ts)
@@ -68,19 +69,19 @@ abbrev pub without_due : ℕ → List Timer → List Timer
 without_due d [] = []
 without_due d (t ∷ ts) = if nat_eq t.due d then ts else t ∷ without_due d ts
 
--- it is taken out, the clock becomes its due time, and its function is called in a turn
+-- the call of its function
 abbrev pub timer_plan : Timer → State → Plan
 timer_plan t s = Do (Call (Own t.func) None [] 0) s Ret
 
--- the widget at the due time of a timer, without it
+-- a timer is taken out, and the clock becomes its due time
 abbrev pub without_timer : Timer → OwnState → OwnState
 without_timer t o = record o { timers = without_due t.due o.timers; clock = t.due }
 
--- the turn of a timer
+-- the turn of a timer, without it and at its due time
 abbrev pub timer_turn : Timer → OwnState → OwnState
 timer_turn t o = turn (timer_plan t) (without_timer t o)
 
--- unless the widget has stopped
+-- what a widget does unless it has stopped
 abbrev pub unless_stopped : Option Stop → OwnState → (OwnState → OwnState) → OwnState
 unless_stopped None o f = f o
 unless_stopped (Some c) o f = o
@@ -99,12 +100,12 @@ due_turns (suc n) limit o = unless_stopped o.stop o (λ p. on_due (next_due limi
 abbrev pub advance : ℕ → OwnState → OwnState
 advance d o = due_turns (max_timers * (d + 2)) (o.clock + d) o
 
--- what an item does: a stopped widget counts its events as gone, and its advances do nothing
+-- what an item does to a widget that has not stopped
 abbrev pub live_item : OwnState → Item → OwnState
 live_item o (Occurs e) = occurs e (node_at o.forest e.path) o
 live_item o (Advance d) = advance d o
 
--- an item of a stopped widget
+-- a stopped widget counts its events as gone, and its advances do nothing
 abbrev pub stopped_item : OwnState → Item → OwnState
 stopped_item o (Occurs e) = record o { gone = o.gone + 1 }
 stopped_item o (Advance d) = o
@@ -114,6 +115,6 @@ abbrev pub item_at : Option Stop → OwnState → Item → OwnState
 item_at None o i = live_item o i
 item_at (Some c) o i = stopped_item o i
 
--- Item
+-- what an item does
 abbrev pub item : OwnState → Item → OwnState
 item o i = item_at o.stop o i

@@ -1,5 +1,5 @@
 -- JSON as values: what `serde_json` reads in a text, and the objects that stand for it.
-use Rattle.std.specs.Prelude.{ℕ, ℤ, pos, unsigned_abs, ◌+◌, Bool, true, false, ◌&&◌, List, [], ◌∷◌, ◌++◌, length, sum_by, nat_lt, if◌then◌else◌, Option, Some, None}
+use Rattle.std.specs.Prelude.{ℕ, ℤ, pos, unsigned_abs, ◌+◌, Bool, true, false, ◌&&◌, List, [], ◌∷◌, ◌++◌, length, sum_by, nat_lt, if◌then◌else◌, Option}
 use Rattle.std.specs.List.{flat_map, fold, list_all, list_any}
 use Rattle.code_units.specs.Utf8.{units_of, utf8_of}
 use Rattle.code_units.specs.Permitted.{is_permitted}
@@ -7,9 +7,9 @@ use Rattle.serde_json.specs.Data as json
 use Rattle.serde_json.specs.Read as read
 use Rattle.widget_meaning.specs.Limits.{past_numbers}
 use Rattle.widget_meaning.specs.Values.{Value, Null, Truth, Num, Text, Own, Number, LongText, E4, E8}
-use Rattle.widget_meaning.specs.OwnState.{Amounts, State, Cell, Kind, Object, Array, Function, Bunch, Pairs, plain_object, new_array, with_new_cell}
+use Rattle.widget_meaning.specs.OwnState.{Amounts, State, Cell, Kind, Object, Pairs, plain_object, new_array, with_new_cell}
 use Rattle.widget_meaning.specs.Plan.{Plan, Halt, charge}
-use Rattle.widget_meaning.specs.Costs.{pay, cost, throw, give}
+use Rattle.widget_meaning.specs.Costs.{pay, cost, throw, give, or_throw}
 use Rattle.widget_meaning.specs.Properties.{index_name}
 use Rattle.widget_meaning.specs.NativeForms.{is_too_long}
 
@@ -98,9 +98,7 @@ abbrev mutual
 -- whether the names of an object are permitted
 abbrev pub has_permitted_names : Kind → Pairs → Bool
 has_permitted_names Object ps = list_all (λ p. is_permitted p.0) ps
-has_permitted_names (Array n) ps = true
-has_permitted_names (Function f scope) ps = true
-has_permitted_names (Bunch ns) ps = true
+has_permitted_names kind ps = true
 
 -- the texts among a value and new objects
 abbrev pub texts_of : Value → List (List ℕ)
@@ -120,19 +118,14 @@ abbrev pub give_read : Bool → Value → List Cell → List (List ℕ) → Stat
 give_read false v cs ts s = Halt Number s
 give_read true v cs ts s = if list_any is_too_long ts then Halt LongText s else pay (json_cost ts cs) s (λ u. give v (fold with_new_cell u cs))
 
--- a name that is not permitted throws E8, before the extra
+-- what was read is born; a name that is not permitted throws E8, before the extra
 abbrev pub read_value : ℕ → json.Data → List Cell → Value → State → Plan
 read_value extra d cs v s =
     if list_all (λ c. has_permitted_names c.kind c.pairs) cs
     then charge extra s (give_read (has_numbers d) v cs (texts_in v cs) s)
     else throw E8 s
 
--- what is no JSON throws E4
-abbrev pub or_bad_json : Option json.Data → ℕ → State → Plan
-or_bad_json None extra s = throw E4 s
-or_bad_json (Some d) extra s = read_value extra d (cells_at (length s.own.heap) d) (value_at (length s.own.heap) d) s
-
--- `fromJson(t)`: all but a text throws E4
+-- `fromJson(t)`: all but a text, and what is no JSON, throws E4
 abbrev pub from_json : Value → State → Plan
-from_json (Text t) s = or_bad_json (read_json t) (length t) s
+from_json (Text t) s = or_throw E4 (read_json t) s (λ d. read_value (length t) d (cells_at (length s.own.heap) d) (value_at (length s.own.heap) d) s)
 from_json v s = throw E4 s

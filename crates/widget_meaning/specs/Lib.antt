@@ -25,7 +25,6 @@ pub mod JsonBack
 pub mod JsonLaws
 pub mod NativeLaws
 pub mod AdsafeNatives
-pub mod TreeOps
 pub mod Outcomes
 pub mod Styles
 pub mod PageForms

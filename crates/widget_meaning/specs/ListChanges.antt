@@ -1,69 +1,37 @@
 -- The methods of arrays that change the array. All but `push` and `pop` leave every index below the length present, in rising order after the other names.
-use Rattle.std.specs.Prelude.{ℕ, zero, suc, pos, negsuc, ℤ, ◌+◌, ◌-◌, min, Bool, true, false, not, ◌&&◌, List, [], ◌∷◌, ◌++◌, length, take, drop, map, sum_by, nat_lt, is_some, is_none, if◌then◌else◌, Option, Some, None}
+use Rattle.std.specs.Prelude.{ℕ, zero, suc, pos, ℤ, ◌+◌, ◌-◌, Bool, true, false, List, [], ◌∷◌, ◌++◌, length, take, drop, sum_by, nat_lt, is_none, if◌then◌else◌, Option, Some, None, unwrap_or}
 use Rattle.std.specs.Prelude as std
 use Rattle.std.specs.List.{filter}
+use Rattle.std.specs.Option.{option_map_or}
 use Rattle.widget_meaning.specs.Limits.{max_length}
-use Rattle.widget_meaning.specs.Values.{Value, Undefined, Num, Own, E4, E7, to_text, to_number}
+use Rattle.widget_meaning.specs.Values.{Value, Undefined, Num, Own, E4, E7, to_text, to_number, nth}
 use Rattle.widget_meaning.specs.Operators.{text_lt}
-use Rattle.widget_meaning.specs.OwnState.{State, Cell, Kind, Object, Array, Function, Bunch, Pairs, cell_at, with_cell, new_array, with_new_cell}
+use Rattle.widget_meaning.specs.OwnState.{State, Cell, cell_at, with_cell, new_array, with_new_cell, array_length, kind_of, Array}
 use Rattle.widget_meaning.specs.Plan.{Plan, charge}
 use Rattle.widget_meaning.specs.Costs.{pay, cost, slots_cost, throw, give}
-use Rattle.widget_meaning.specs.Properties.{index_of, kept_below, with_pairs, with_length}
-use Rattle.widget_meaning.specs.Scopes.{first_value}
-use Rattle.widget_meaning.specs.NativeForms.{nth, want_primitives, with_number, from_end, clamped, element, elements, numbered_pairs}
+use Rattle.widget_meaning.specs.Properties.{index_of, is_below, cut_to}
+use Rattle.widget_meaning.specs.NativeForms.{want_primitives, with_number, from_end, clamped, element, elements, numbered_pairs}
 
--- the elements of an array of the widget; another object is one by itself
-abbrev pub kind_elements : Kind → ℕ → State → List Value
-kind_elements (Array len) n s = elements s n len
-kind_elements Object n s = Own n ∷ []
-kind_elements (Function f scope) n s = Own n ∷ []
-kind_elements (Bunch ns) n s = Own n ∷ []
-
--- what an argument of `concat` adds
+-- what an argument of `concat` adds: the elements of an array, all else by itself
 abbrev pub array_elements : State → Value → List Value
-array_elements s (Own n) = kind_elements (cell_at s n).kind n s
+array_elements s (Own n) = option_map_or (elements s n) (array_length (kind_of s (Own n))) (Own n ∷ [])
 array_elements s v = v ∷ []
-
--- the length of an array, else 0
-abbrev pub kind_length : Kind → ℕ
-kind_length (Array len) = len
-kind_length Object = 0
-kind_length (Function f scope) = 0
-kind_length (Bunch ns) = 0
-
--- the length of an array argument
-abbrev pub array_length : State → Value → ℕ
-array_length s (Own n) = kind_length (cell_at s n).kind
-array_length s v = 0
 
 -- the extra, without units made: the lengths of the array and of array arguments, and the number of arguments
 abbrev pub list_extra : ℕ → List Value → State → ℕ
-list_extra len vs s = len + (sum_by (array_length s) vs + length vs)
-
--- the names that are no index
-abbrev pub other_pairs : Pairs → Pairs
-other_pairs ps = filter (λ p. is_none (index_of p.0)) ps
+list_extra len vs s = len + (sum_by (λ v. unwrap_or (array_length (kind_of s v)) 0) vs + length vs)
 
 -- an array with these elements, after its other names
 abbrev pub with_elements : Cell → List Value → Cell
-with_elements c vs = with_length (with_pairs c (other_pairs c.pairs ++ numbered_pairs 0 vs)) (length vs)
-
--- whether a name is an index below a length
-abbrev pub is_index_below : ℕ → Option ℕ → Bool
-is_index_below len None = false
-is_index_below len (Some i) = nat_lt i len
+with_elements c vs = record c { kind = Array (length vs); pairs = filter (λ p. is_none (index_of p.0)) c.pairs ++ numbered_pairs 0 vs }
 
 -- how many indexes below the new length were no names: each costs a slot
 abbrev pub new_indexes : Cell → ℕ → ℕ
-new_indexes c len = len - length (filter (λ p. is_index_below len (index_of p.0)) c.pairs)
+new_indexes c len = len - length (filter (λ p. is_below len false p.0) c.pairs)
 
 -- the array gets these elements, and the native gives this
 abbrev pub change : ℕ → List Value → Value → State → Plan
 change n vs v s = pay (slots_cost (new_indexes (cell_at s n) (length vs))) s (λ t. give v (with_cell t n (with_elements (cell_at t n) vs)))
-
--- an array cut to a length
-abbrev pub cut_to : Cell → ℕ → Cell
-cut_to c len = with_length (with_pairs c (kept_below len c.pairs)) len
 
 -- `pop()`: the last element is taken out and given; undefined where there is none
 abbrev pub pop : ℕ → ℕ → List Value → State → Plan
@@ -71,19 +39,19 @@ pop n zero vs s = charge (length vs) s (give Undefined s)
 pop n (suc len) vs s = charge (length vs) s (give (element (cell_at s n).pairs len) (with_cell s n (cut_to (cell_at s n) len)))
 
 -- an array with these elements at its end
-abbrev pub with_more : Cell → ℕ → List Value → Cell
-with_more c len vs = with_length (with_pairs c (c.pairs ++ numbered_pairs len vs)) (len + length vs)
+abbrev pub pushed : Cell → ℕ → List Value → Cell
+pushed c len vs = record c { kind = Array (len + length vs); pairs = c.pairs ++ numbered_pairs len vs }
 
 -- `push(a, ...)`: gives the length; E7 where it would pass the largest
 abbrev pub push : ℕ → ℕ → List Value → State → Plan
 push n len vs s =
     if nat_lt max_length (len + length vs) then throw E7 s
     else charge (length vs) s (pay (slots_cost (length vs)) s
-    (λ t. give (Num (pos (len + length vs))) (with_cell t n (with_more (cell_at t n) len vs))))
+    (λ t. give (Num (pos (len + length vs))) (with_cell t n (pushed (cell_at t n) len vs))))
 
 -- `shift()`: the first element is taken out and given
 abbrev pub shift : ℕ → ℕ → List Value → State → Plan
-shift n len vs s = charge (list_extra len vs s) s (change n (drop 1 (elements s n len)) (first_value (elements s n len)) s)
+shift n len vs s = charge (list_extra len vs s) s (change n (drop 1 (elements s n len)) (nth 0 (elements s n len)) s)
 
 -- `unshift(a, ...)`: at the front, and gives the length
 abbrev pub unshift : ℕ → ℕ → List Value → State → Plan

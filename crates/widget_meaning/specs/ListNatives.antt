@@ -2,11 +2,11 @@
 use Rattle.std.specs.Prelude.{ℕ, pos, ◌+◌, List, [], ◌∷◌, ◌++◌, map, zip, slice_range, codes, Option, None}
 use Rattle.std.specs.List.{filter, flat_map, join_by}
 use Rattle.widget_meaning.specs.NativeNames.{ListNative, ListConcat, Join, Pop, Push, Shift, Unshift, Reverse, Sort, ListSlice, Splice, ForEach, MapNative, FilterNative}
-use Rattle.widget_meaning.specs.Values.{Value, Completion, Undefined, Null, Num, is_true, to_text, to_number}
+use Rattle.widget_meaning.specs.Values.{Value, Undefined, Null, Num, is_true, to_text, to_number, nth}
 use Rattle.widget_meaning.specs.OwnState.{State}
-use Rattle.widget_meaning.specs.Plan.{Plan, Do, Call, charge, on_value}
+use Rattle.widget_meaning.specs.Plan.{Plan, Do, Call, charge, after}
 use Rattle.widget_meaning.specs.Costs.{give}
-use Rattle.widget_meaning.specs.NativeForms.{nth, want_primitives, want_function, on_array, elements, make_array, with_number, with_optional, from_end, give_text}
+use Rattle.widget_meaning.specs.NativeForms.{want_primitives, want_function, on_array, elements, make_array, with_number, with_optional, from_end, give_text}
 use Rattle.widget_meaning.specs.ListChanges.{list_extra, array_elements, pop, push, shift, unshift, reverse, sort, splice}
 
 -- `concat(a, ...)`: the elements, then each argument, arrays by their elements
@@ -37,11 +37,7 @@ list_slice n len a b extra s =
 -- a call of a function with each element and its index, in order, and what is done with what the calls gave. The unit of each is that of the call
 abbrev pub call_each : Value → List Value → ℕ → List Value → ℕ → State → (List Value → State → Plan) → Plan
 call_each f [] i ws d s k = k ws s
-call_each f (v ∷ vs) i ws d s k = Do (Call f None (v ∷ Num (pos i) ∷ []) d) s (λ o t. on_value o t (λ w. call_each f vs (i + 1) (ws ++ w ∷ []) d t k))
-
--- what follows a call
-abbrev pub next_call : Value → List Value → ℕ → List Value → ℕ → (List Value → State → Plan) → Completion → State → Plan
-next_call f vs i ws d k o s = on_value o s (λ w. call_each f vs (i + 1) (ws ++ w ∷ []) d s k)
+call_each f (v ∷ vs) i ws d s k = Do (Call f None (v ∷ Num (pos i) ∷ []) d) s (after (λ w t. call_each f vs (i + 1) (ws ++ w ∷ []) d t k))
 
 -- `forEach`, `map` and `filter`: the elements are listed at the start; a new array is made after the last call
 abbrev pub over : ℕ → ℕ → Value → ℕ → State → (List Value → State → Plan) → Plan

@@ -5,33 +5,21 @@ use Rattle.std.specs.Int.{int_min, int_max, int_pow}
 use Rattle.code_units.specs.declared.whole.WholeRead.{WholeRead}
 use Rattle.code_units.specs.declared.whole.WholeRead.TheVariants as read
 use Rattle.widget_meaning.specs.NativeNames.{MathNative, Abs, Ceil, Floor, Round, Max, Min, Pow}
-use Rattle.widget_meaning.specs.Values.{Value, NaN, Num, to_number}
-use Rattle.widget_meaning.specs.Operators.{OpOut, Gives, Leaves, number, as_number}
+use Rattle.widget_meaning.specs.Values.{Value, NaN, Num, to_number, nth}
+use Rattle.widget_meaning.specs.Operators.{OpOut, Gives, Leaves, number, as_number, of_numbers}
 use Rattle.widget_meaning.specs.OwnState.{State}
 use Rattle.widget_meaning.specs.Plan.{Plan, charge}
 use Rattle.widget_meaning.specs.Expressions.{result}
-use Rattle.widget_meaning.specs.NativeForms.{nth, want_primitives}
+use Rattle.widget_meaning.specs.NativeForms.{want_primitives}
 
 -- a function of one number; `ceil`, `floor` and `round` give the number
 abbrev pub of_one : List Value → (ℤ → ℤ) → State → Plan
 of_one vs f s = want_primitives (nth 0 vs ∷ []) s (charge (length vs) s (result (as_number (to_number (nth 0 vs)) f) s))
 
--- `abs(v)`
-abbrev pub absolute : ℤ → ℤ
-absolute z = pos (unsigned_abs z)
-
--- of two numbers, where one that leaves the numbers comes before NaN
-abbrev pub of_both : (ℤ → ℤ → ℤ) → WholeRead → WholeRead → WholeRead
-of_both f read.Left b = read.Left
-of_both f a read.Left = read.Left
-of_both f read.NotNumber b = read.NotNumber
-of_both f a read.NotNumber = read.NotNumber
-of_both f (read.Whole x) (read.Whole y) = read.Whole (f x y)
-
--- the best of all; none leaves the numbers
+-- the best of all, where one that leaves the numbers comes before NaN; none leaves the numbers
 abbrev pub best : (ℤ → ℤ → ℤ) → List Value → WholeRead
 best f [] = read.Left
-best f (v ∷ vs) = fold (of_both f) (to_number v) (map to_number vs)
+best f (v ∷ vs) = fold (of_numbers read.Left read.NotNumber (λ x y. read.Whole (f x y))) (to_number v) (map to_number vs)
 
 -- `max` and `min`
 abbrev pub of_all : List Value → (ℤ → ℤ → ℤ) → State → Plan
@@ -57,7 +45,7 @@ pow a b extra s = want_primitives (a ∷ b ∷ []) s (charge extra s (result (po
 
 -- the natives, each by its row
 abbrev pub math_native : MathNative → Option Value → List Value → ℕ → State → Plan
-math_native Abs this vs d s = of_one vs absolute s
+math_native Abs this vs d s = of_one vs (λ z. pos (unsigned_abs z)) s
 math_native Ceil this vs d s = of_one vs (λ z. z) s
 math_native Floor this vs d s = of_one vs (λ z. z) s
 math_native Round this vs d s = of_one vs (λ z. z) s

@@ -1,25 +1,20 @@
 -- What natives have in common: arguments, receivers, the extra charge, and what is made.
-use Rattle.std.specs.Prelude.{ℕ, zero, suc, ℤ, pos, negsuc, ◌+◌, ◌-◌, min, Bool, List, [], ◌∷◌, length, drop, map, sum_by, nat_lt, if◌then◌else◌, Option, Some}
-use Rattle.std.specs.List.{list_any}
+use Rattle.std.specs.Prelude.{ℕ, ℤ, pos, negsuc, ◌+◌, ◌-◌, min, Bool, List, [], ◌∷◌, length, map, sum_by, nat_lt, if◌then◌else◌, Option, Some, unwrap_or, option_and_then}
+use Rattle.std.specs.List.{list_any, range_with_len}
 use Rattle.code_units.specs.declared.whole.WholeRead.{WholeRead}
 use Rattle.code_units.specs.declared.whole.WholeRead.TheVariants as read
 use Rattle.widget_meaning.specs.Limits.{max_text}
 use Rattle.widget_meaning.specs.Values.{Value, Undefined, Text, Own, Host, E3, E4, Number, LongText, is_object, to_number}
-use Rattle.widget_meaning.specs.OwnState.{State, Kind, Object, Array, Function, Bunch, Pairs, lookup, cell_at, new_array, new_bunch, with_new_cell}
+use Rattle.widget_meaning.specs.OwnState.{State, Pairs, lookup, cell_at, new_array, new_bunch, with_new_cell, array_length, kind_of, bunch_nodes}
 use Rattle.widget_meaning.specs.Plan.{Plan, Halt, charge}
-use Rattle.widget_meaning.specs.Costs.{pay, cost, make, make_text, throw, give}
-use Rattle.widget_meaning.specs.Properties.{index_name, or_undefined, is_own_function}
-use Rattle.widget_meaning.specs.Scopes.{first_value}
-
--- the argument at a place, from 0; an absent one is undefined
-abbrev pub nth : ℕ → List Value → Value
-nth n vs = first_value (drop n vs)
+use Rattle.widget_meaning.specs.Costs.{pay, cost, make, make_text, throw, give, or_throw}
+use Rattle.widget_meaning.specs.Properties.{index_name, is_own_function}
 
 -- where a row wants primitives, an object throws E4
 abbrev pub want_primitives : List Value → State → Plan → Plan
 want_primitives vs s p = if list_any is_object vs then throw E4 s else p
 
--- where it wants a function of the widget, all else does
+-- where a row wants a function of the widget, all else throws E4
 abbrev pub want_function : Value → State → Plan → Plan
 want_function f s p = if is_own_function s f then p else throw E4 s
 
@@ -29,47 +24,35 @@ on_text (Some (Text t)) s k = k t
 on_text this s k = throw E3 s
 
 -- an Array of the widget as receiver, by its number and its length
-abbrev pub on_array_kind : Kind → ℕ → State → (ℕ → ℕ → Plan) → Plan
-on_array_kind (Array len) n s k = k n len
-on_array_kind Object n s k = throw E3 s
-on_array_kind (Function f scope) n s k = throw E3 s
-on_array_kind (Bunch ns) n s k = throw E3 s
-
 abbrev pub on_array : Option Value → State → (ℕ → ℕ → Plan) → Plan
-on_array (Some (Own n)) s k = on_array_kind (cell_at s n).kind n s k
+on_array (Some (Own n)) s k = or_throw E3 (array_length (kind_of s (Own n))) s (k n)
 on_array this s k = throw E3 s
 
 -- a Bunch of the widget as receiver, by its nodes
-abbrev pub on_bunch_kind : Kind → State → (List ℕ → Plan) → Plan
-on_bunch_kind (Bunch ns) s k = k ns
-on_bunch_kind Object s k = throw E3 s
-on_bunch_kind (Array len) s k = throw E3 s
-on_bunch_kind (Function f scope) s k = throw E3 s
-
 abbrev pub on_bunch : Option Value → State → (List ℕ → Plan) → Plan
-on_bunch (Some (Own n)) s k = on_bunch_kind (cell_at s n).kind s k
-on_bunch this s k = throw E3 s
+on_bunch this s k = or_throw E3 (option_and_then (λ v. bunch_nodes (kind_of s v)) this) s k
 
--- a number argument: NaN counts as 0; where it leaves the numbers, the extra without units made is taken and the widget stops
+-- a number argument, NaN as this number; where it leaves the numbers, the extra without units made is taken and the widget stops
+abbrev pub with_number_or : ℤ → WholeRead → ℕ → State → (ℤ → Plan) → Plan
+with_number_or z (read.Whole x) extra s k = k x
+with_number_or z read.NotNumber extra s k = k z
+with_number_or z read.Left extra s k = charge extra s (Halt Number s)
+
+-- the same, NaN as 0
 abbrev pub with_number : WholeRead → ℕ → State → (ℤ → Plan) → Plan
-with_number (read.Whole z) extra s k = k z
-with_number read.NotNumber extra s k = k (pos 0)
-with_number read.Left extra s k = charge extra s (Halt Number s)
+with_number r extra s k = with_number_or (pos 0) r extra s k
 
 -- the extra, which counts the units made too, and then the text that is made and given
 abbrev pub give_text : ℕ → List ℕ → State → Plan
 give_text extra t s = charge (extra + length t) s (make_text t s (give (Text t)))
 
--- the elements of an array below its length, in order; a missing one is undefined
+-- an element, undefined where it is missing
 abbrev pub element : Pairs → ℕ → Value
-element ps i = or_undefined (lookup ps (index_name i))
+element ps i = unwrap_or (lookup ps (index_name i)) Undefined
 
-abbrev pub elements_from : ℕ → ℕ → Pairs → List Value
-elements_from i zero ps = []
-elements_from i (suc n) ps = element ps i ∷ elements_from (i + 1) n ps
-
+-- the elements of an array below its length, in order
 abbrev pub elements : State → ℕ → ℕ → List Value
-elements s n len = elements_from 0 len (cell_at s n).pairs
+elements s n len = map (element (cell_at s n).pairs) (range_with_len 0 len)
 
 -- the elements as names and values, numbered from here
 abbrev pub numbered_pairs : ℕ → List Value → Pairs
@@ -84,13 +67,7 @@ make_array vs units s k = pay (cost units 1 (length vs) 0) s (λ t. k (Own (leng
 abbrev pub make_bunch : List ℕ → State → (Value → State → Plan) → Plan
 make_bunch ns s k = make (new_bunch ns) (length ns + 1) s k
 
--- the same where NaN stands for another number
-abbrev pub with_number_or : ℤ → WholeRead → ℕ → State → (ℤ → Plan) → Plan
-with_number_or z (read.Whole x) extra s k = k x
-with_number_or z read.NotNumber extra s k = k z
-with_number_or z read.Left extra s k = charge extra s (Halt Number s)
-
--- the same where an absent argument stands for another number
+-- a number argument that may be absent, which then is this number
 abbrev pub with_optional : ℤ → Value → ℕ → State → (ℤ → Plan) → Plan
 with_optional z Undefined extra s k = k z
 with_optional z v extra s k = with_number (to_number v) extra s k

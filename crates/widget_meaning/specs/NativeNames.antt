@@ -106,7 +106,7 @@ pub data ReadNative : Type 0 where
   GetMark : ReadNative
   deriving Discrete as ReadNative-discrete
 
--- of Bunches, those that change; `Bubble` is the one of the event object
+-- of Bunches, those that change
 pub data WriteNative : Type 0 where
   Append : WriteNative
   Remove : WriteNative
@@ -126,7 +126,6 @@ pub data WriteNative : Type 0 where
   Each : WriteNative
   SetMark : WriteNative
   Protect : WriteNative
-  Bubble : WriteNative
   deriving Discrete as WriteNative-discrete
 
 -- a native, by the part of the language that says what it does
@@ -140,6 +139,8 @@ pub data NativeId : Type 0 where
   OfDom : DomNative → NativeId
   OfRead : ReadNative → NativeId
   OfWrite : WriteNative → NativeId
+  -- of the event object
+  Bubble : NativeId
   deriving Discrete as NativeId-discrete
 
 -- what the host gives values of a kind
@@ -162,7 +163,7 @@ pub data HostEntry : Type 0 where
   Native : NativeId → HostEntry
   deriving Discrete as HostEntry-discrete
 
--- whether two natives, and two entries, are the same
+-- whether two natives are the same
 abbrev pub same_native : Discrete NativeId
 same_native =
     NativeId-discrete GlobalNative-discrete MathNative-discrete PrototypeNative-discrete TextNative-discrete ListNative-discrete

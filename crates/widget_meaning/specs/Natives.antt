@@ -8,7 +8,7 @@
 -- A native that calls functions asks for the job `Call f None arguments d`, with its own depth d, and goes on by how that ends; anything but a value passes by `on_value`.
 -- A recursion goes over a list that the native has listed, never over what a call may change. `charAt` and `forEach` are the two patterns.
 use Rattle.std.specs.Prelude.{ℕ, List, Option}
-use Rattle.widget_meaning.specs.NativeNames.{NativeId, OfGlobal, OfMath, OfPrototype, OfText, OfList, OfAdsafe, OfDom, OfRead, OfWrite}
+use Rattle.widget_meaning.specs.NativeNames.{NativeId, OfGlobal, OfMath, OfPrototype, OfText, OfList, OfAdsafe, OfDom, OfRead, OfWrite, Bubble}
 use Rattle.widget_meaning.specs.Values.{Value}
 use Rattle.widget_meaning.specs.OwnState.{State}
 use Rattle.widget_meaning.specs.Plan.{Plan}
@@ -21,6 +21,7 @@ use Rattle.widget_meaning.specs.AdsafeNatives.{adsafe_native}
 use Rattle.widget_meaning.specs.DomNatives.{dom_native}
 use Rattle.widget_meaning.specs.BunchReads.{read_native}
 use Rattle.widget_meaning.specs.BunchWrites.{write_native}
+use Rattle.widget_meaning.specs.Dispatch.{bubble}
 
 -- a native with its receiver, its arguments and the call depth, after its unit
 abbrev pub run_native : NativeId → Option Value → List Value → ℕ → State → Plan
@@ -33,3 +34,4 @@ run_native (OfAdsafe w) this vs d s = adsafe_native w this vs d s
 run_native (OfDom w) this vs d s = dom_native w this vs d s
 run_native (OfRead w) this vs d s = read_native w this vs d s
 run_native (OfWrite w) this vs d s = write_native w this vs d s
+run_native Bubble this vs d s = bubble s.dispatches s

@@ -9,7 +9,7 @@ use Rattle.code_units.specs.declared.whole.WholeRead.{WholeRead}
 use Rattle.code_units.specs.declared.whole.WholeRead.TheVariants as read
 use Rattle.widget_meaning.specs.Limits.{past_numbers, max_text}
 use Rattle.widget_meaning.specs.Values.{Value, Undefined, Null, Truth, NaN, Num, Text, Own, Host, is_true, to_text, to_number}
-use Rattle.widget_meaning.specs.NativeNames.{HostEntry, same_host}
+use Rattle.widget_meaning.specs.NativeNames.{same_host}
 
 -- what an operator gives
 pub data OpOut : Type 0 where
@@ -29,13 +29,17 @@ text t = if nat_lt max_text (length t) then TooLong else Gives (Text t)
 abbrev pub truth : Bool → OpOut
 truth b = Gives (Truth b)
 
--- a function of two numbers: what leaves the numbers stops, and NaN gives what is said
-abbrev pub of_numbers : WholeRead → WholeRead → OpOut → (ℤ → ℤ → OpOut) → OpOut
-of_numbers read.Left b n f = Leaves
-of_numbers a read.Left n f = Leaves
-of_numbers read.NotNumber b n f = n
-of_numbers a read.NotNumber n f = n
-of_numbers (read.Whole x) (read.Whole y) n f = f x y
+-- a function of two numbers: the first of these where one leaves the numbers, else the second where one is NaN
+abbrev pub of_numbers : {A : Type 0} → A → A → (ℤ → ℤ → A) → WholeRead → WholeRead → A
+of_numbers left nan f read.Left b = left
+of_numbers left nan f a read.Left = left
+of_numbers left nan f read.NotNumber b = nan
+of_numbers left nan f a read.NotNumber = nan
+of_numbers left nan f (read.Whole x) (read.Whole y) = f x y
+
+-- an operator on the numbers of two primitives; NaN gives NaN
+abbrev pub arithmetic : Value → Value → (ℤ → ℤ → OpOut) → OpOut
+arithmetic a b f = of_numbers Leaves (Gives NaN) f (to_number a) (to_number b)
 
 -- whether a number is 0
 abbrev pub is_zero : ℤ → Bool
@@ -61,11 +65,7 @@ is_text _ = false
 abbrev pub plus : Value → Value → OpOut
 plus a b =
     if is_text a || is_text b then text (to_text a ++ to_text b)
-    else of_numbers (to_number a) (to_number b) (Gives NaN) (λ x y. number (x +ℤ y))
-
--- an operator on the numbers of two primitives; NaN gives NaN
-abbrev pub arithmetic : Value → Value → (ℤ → ℤ → OpOut) → OpOut
-arithmetic a b f = of_numbers (to_number a) (to_number b) (Gives NaN) f
+    else arithmetic a b (λ x y. number (x +ℤ y))
 
 -- texts in the order of their units
 abbrev pub text_lt : List ℕ → List ℕ → Bool
@@ -76,16 +76,12 @@ text_lt (u ∷ us) (v ∷ vs) = nat_lt u v || (nat_eq u v && text_lt us vs)
 -- two texts are compared by units, else two numbers; NaN gives false
 abbrev pub compare : (List ℕ → List ℕ → Bool) → (ℤ → ℤ → Bool) → Value → Value → OpOut
 compare texts numbers (Text t) (Text u) = truth (texts t u)
-compare texts numbers a b = of_numbers (to_number a) (to_number b) (truth false) (λ x y. truth (numbers x y))
+compare texts numbers a b = of_numbers Leaves (truth false) (λ x y. truth (numbers x y)) (to_number a) (to_number b)
 
 -- whether a decision is yes
 abbrev pub is_yes : {A : Type 0} → Dec A → Bool
 is_yes (yes p) = true
 is_yes (no p) = false
-
--- whether two host objects are one
-abbrev pub same_entry : HostEntry → HostEntry → Bool
-same_entry g h = is_yes (same_host g h)
 
 -- `===`: type and value, texts by units, objects by identity; NaN equals nothing
 abbrev pub same : Value → Value → Bool
@@ -95,7 +91,7 @@ same (Truth a) (Truth b) = if a then b else not b
 same (Num x) (Num y) = is_zero (x -ℤ y)
 same (Text t) (Text u) = bytes_eq t u
 same (Own m) (Own n) = nat_eq m n
-same (Host g) (Host h) = same_entry g h
+same (Host g) (Host h) = is_yes (same_host g h)
 same _ _ = false
 
 -- an operator on two primitives; `===` and `!==` on any values

@@ -3,7 +3,7 @@ use Rattle.std.specs.Prelude.{ℕ, List, [], ◌∷◌, ◌++◌, Bool, false, O
 use Rattle.std.specs.Str.{bytes_eq}
 use Rattle.js_tree.specs.Plain.{Fun}
 use Rattle.widget_meaning.specs.NativeNames.{ObjectPrototype, ArrayPrototype, FunctionPrototype, BunchPrototype, PrototypeOf}
-use Rattle.widget_meaning.specs.Values.{Value, Host, Stop}
+use Rattle.widget_meaning.specs.Values.{Value, Own, Host, Stop}
 use Rattle.widget_meaning.specs.Trees.{Trees}
 
 -- names with their values, in order of insertion
@@ -102,7 +102,7 @@ abbrev pub taken_out : Pairs → List ℕ → Pairs
 taken_out [] x = []
 taken_out (p ∷ ps) x = if bytes_eq p.0 x then ps else p ∷ taken_out ps x
 
--- new objects
+-- an object with this prototype
 abbrev pub new_object : Value → Pairs → Cell
 new_object proto ps = record { kind = Object; prototype = proto; pairs = ps }
 
@@ -122,9 +122,24 @@ new_function f scope = record { kind = Function f scope; prototype = Host (Proto
 abbrev pub new_bunch : List ℕ → Cell
 new_bunch ns = record { kind = Bunch ns; prototype = Host (PrototypeOf BunchPrototype); pairs = [] }
 
--- the object and the scope with a number
+-- the object with a number
 abbrev pub cell_at : State → ℕ → Cell
 cell_at s n = slice_index_or s.own.heap n (plain_object [])
+
+-- what an object of the widget is
+abbrev pub kind_of : State → Value → Option Kind
+kind_of s (Own n) = Some (cell_at s n).kind
+kind_of s v = None
+
+-- the length of an array
+abbrev pub array_length : Option Kind → Option ℕ
+array_length (Some (Array len)) = Some len
+array_length kind = None
+
+-- the nodes of a Bunch
+abbrev pub bunch_nodes : Option Kind → Option (List ℕ)
+bunch_nodes (Some (Bunch ns)) = Some ns
+bunch_nodes kind = None
 
 -- the scope with a number
 abbrev pub scope_at : State → ℕ → Scope
@@ -138,9 +153,9 @@ no_notes = record { handlers = []; mark = []; is_protected = false }
 abbrev pub notes_at : State → ℕ → Notes
 notes_at s n = slice_index_or s.own.notes n no_notes
 
--- the state with one part in place of another
+-- with another widget
 abbrev pub with_own : State → OwnState → State
-with_own s o = record { own = o; dispatches = s.dispatches }
+with_own s o = record s { own = o }
 
 -- with one object changed
 abbrev pub with_cell : State → ℕ → Cell → State

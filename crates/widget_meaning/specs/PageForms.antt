@@ -1,69 +1,55 @@
 -- What the natives of the page have in common: nodes and their labels, what they cost, and new nodes.
-use Rattle.std.specs.Prelude.{ℕ, ◌+◌, List, [], ◌∷◌, ◌++◌, length, Bool, true, false, not, ◌&&◌, ◌||◌, nat_le, nat_lt, ◌==◌, if◌then◌else◌, codes, Option, Some, None, replicate}
+use Rattle.std.specs.Prelude.{ℕ, ◌+◌, List, [], ◌∷◌, ◌++◌, length, Bool, false, not, ◌&&◌, ◌||◌, nat_eq, nat_le, nat_lt, ◌==◌, if◌then◌else◌, codes, Option, Some, None, replicate, unwrap_or, option_and_then, sum_by}
 use Rattle.std.specs.List.{list_any, list_all}
 use Rattle.std.specs.Int.{is_in_range}
 use Rattle.std.specs.Str.{bytes_eq, byte}
+use Rattle.std.specs.Option.{option_map_or}
 use Rattle.query_grammar.specs.Filters as node
 use Rattle.query_grammar.specs.Filters.{Look}
 use Rattle.query_grammar.specs.Finds.{has_number}
 use Rattle.widget_meaning.specs.Limits.{max_event_type}
-use Rattle.widget_meaning.specs.Values.{Value, Own, E4, E10}
+use Rattle.widget_meaning.specs.Values.{Value, E4, E10}
 use Rattle.plain_tree.specs.Names as names
-use Rattle.plain_tree.specs.Trees.{End, Node, Label, TextOf, ElementOf, Attribute, value_of}
-use Rattle.widget_meaning.specs.Trees.{Trees, label_of, relabelled}
-use Rattle.widget_meaning.specs.OwnState.{State, Kind, Object, Array, Function, Bunch, cell_at, no_notes, with_own, with_forest}
+use Rattle.plain_tree.specs.Trees.{End, Node, Label, TextOf, ElementOf}
+use Rattle.widget_meaning.specs.Trees.{Trees, label_of, relabelled, with_detached}
+use Rattle.widget_meaning.specs.OwnState.{State, no_notes, with_own, with_forest, bunch_nodes, kind_of}
 use Rattle.widget_meaning.specs.Plan.{Plan}
-use Rattle.widget_meaning.specs.Costs.{throw}
-use Rattle.widget_meaning.specs.TreeOps.{with_detached}
+use Rattle.widget_meaning.specs.Costs.{throw, or_throw}
+use Rattle.tree_ops.specs.Labels as labels
+use Rattle.tree_ops.specs.Labels.{is_text, attribute_of, without_value}
 
 -- the root has the number 0
 abbrev pub root : ℕ
 root = 0
 
 -- a Bunch of the widget as an argument, by its nodes; all else throws E4
-abbrev pub want_bunch_kind : Kind → State → (List ℕ → Plan) → Plan
-want_bunch_kind (Bunch ns) s k = k ns
-want_bunch_kind Object s k = throw E4 s
-want_bunch_kind (Array len) s k = throw E4 s
-want_bunch_kind (Function f scope) s k = throw E4 s
-
--- the nodes of an argument that is a Bunch
 abbrev pub want_bunch : Value → State → (List ℕ → Plan) → Plan
-want_bunch (Own n) s k = want_bunch_kind (cell_at s n).kind s k
-want_bunch v s k = throw E4 s
+want_bunch v s k = or_throw E4 (bunch_nodes (kind_of s v)) s k
+
+-- a condition on the page; else E10
+abbrev pub want_place : Bool → State → Plan → Plan
+want_place b s p = if b then p else throw E10 s
 
 -- a condition on all nodes, before any change
 abbrev pub want_all : (ℕ → Bool) → List ℕ → State → Plan → Plan
-want_all test ns s p = if list_all test ns then p else throw E10 s
+want_all test ns s p = want_place (list_all test ns) s p
 
 -- one node alone
 abbrev pub want_one : List ℕ → State → (ℕ → Plan) → Plan
 want_one (n ∷ []) s k = k n
 want_one ns s k = throw E4 s
 
--- a condition on arguments
+-- a condition on arguments; else E4
 abbrev pub want : Bool → State → Plan → Plan
 want b s p = if b then p else throw E4 s
 
 -- the tag of an element, empty for a text node
-abbrev pub label_tag : Option Label → List ℕ
-label_tag (Some (ElementOf tag attrs)) = tag
-label_tag (Some (TextOf t)) = []
-label_tag None = []
-
--- the tag of a node
 abbrev pub tag_of : State → ℕ → List ℕ
-tag_of s n = label_tag (label_of n s.own.forest)
-
--- a label of a text node
-abbrev pub is_label_text : Option Label → Bool
-is_label_text (Some (TextOf t)) = true
-is_label_text (Some (ElementOf tag attrs)) = false
-is_label_text None = false
+tag_of s n = unwrap_or (option_and_then labels.tag_of (label_of n s.own.forest)) []
 
 -- a text node
 abbrev pub is_text_node : State → ℕ → Bool
-is_text_node s n = is_label_text (label_of n s.own.forest)
+is_text_node s n = option_map_or is_text (label_of n s.own.forest) false
 
 -- a node with one of these tags
 abbrev pub is_tag : List (List ℕ) → State → ℕ → Bool
@@ -77,15 +63,9 @@ is_void s n = names.is_void (tag_of s n)
 abbrev pub is_element : State → ℕ → Bool
 is_element s n = not (is_text_node s n)
 
--- an attribute of a label
-abbrev pub label_attribute : Option Label → List ℕ → Option (List ℕ)
-label_attribute (Some (ElementOf tag attrs)) x = value_of x attrs
-label_attribute (Some (TextOf t)) x = None
-label_attribute None x = None
-
 -- an attribute of a node
 abbrev pub attribute : State → ℕ → List ℕ → Option (List ℕ)
-attribute s n x = label_attribute (label_of n s.own.forest) x
+attribute s n x = option_and_then (attribute_of x) (label_of n s.own.forest)
 
 -- a node as queries see it: a text node has no tag
 abbrev pub look : State → ℕ → Look
@@ -111,15 +91,10 @@ texts_of (Node n (TextOf t) ks ts) = t ++ (texts_of ks ++ texts_of ts)
 texts_of (Node n (ElementOf tag attrs) ks ts) = texts_of ks ++ texts_of ts
 
 -- the units of trees that are copied: of text nodes, and of attribute values without `id`
-abbrev pub attribute_units : List Attribute → ℕ
-attribute_units [] = 0
-attribute_units (a ∷ attrs) = (if bytes_eq a.0 (codes "id") then 0 else length a.1) + attribute_units attrs
-
--- of whole trees
 abbrev pub tree_units : Trees → ℕ
 tree_units End = 0
 tree_units (Node n (TextOf t) ks ts) = length t + (tree_units ks + tree_units ts)
-tree_units (Node n (ElementOf tag attrs) ks ts) = attribute_units attrs + (tree_units ks + tree_units ts)
+tree_units (Node n (ElementOf tag attrs) ks ts) = sum_by (λ a. length a.1) (without_value (codes "id") attrs) + (tree_units ks + tree_units ts)
 
 -- how many nodes the widget has had, which is the number of the next one
 abbrev pub next_node : State → ℕ
@@ -150,7 +125,7 @@ is_plain_words t = list_all is_plain_unit t
 abbrev pub is_event_type : List ℕ → Bool
 is_event_type t = nat_lt 0 (length t) && nat_le (length t) max_event_type && list_all (is_in_range 97 122) t
 
--- the numbers behind those seen, without repeats
+-- each number once, at its first place, behind those seen
 abbrev pub once : List ℕ → List ℕ → List ℕ
 once seen [] = seen
 once seen (n ∷ ns) = if has_number seen n then once seen ns else once (seen ++ n ∷ []) ns

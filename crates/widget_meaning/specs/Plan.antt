@@ -2,7 +2,7 @@
 use Rattle.std.specs.Prelude.{ℕ, zero, suc, nat_lt, if◌then◌else◌, List, Option}
 use Rattle.js_tree.specs.Plain.{Expr, OptionalExpr, Stmt}
 use Rattle.widget_meaning.specs.NativeNames.{NativeId}
-use Rattle.widget_meaning.specs.Values.{Value, Reference, Completion, Normal, Is, Refers, Return, Break, Continue, Throw, StopCause}
+use Rattle.widget_meaning.specs.Values.{Value, Reference, Completion, Normal, Is, Refers, Throw, StopCause}
 use Rattle.widget_meaning.specs.OwnState.{State}
 
 -- where a form is evaluated: its innermost scope, and the call depth
@@ -91,42 +91,28 @@ module _ (body : Job → State → Plan) where
   run zero (Do j s k) = record { how = OutOfFuel; state = s; left = zero }
   run (suc f) (Do j s k) = run f (and_then (body j s) k)
 
--- what follows: on a value, on a reference, on a statement that went on, on a thrown value. Anything else passes
+-- ## What follows a part; any other end of it passes
+
+-- goes on with a value
 abbrev pub on_value : Completion → State → (Value → Plan) → Plan
 on_value (Is v) s k = k v
-on_value Normal s k = Ret Normal s
-on_value (Refers r) s k = Ret (Refers r) s
-on_value (Return v) s k = Ret (Return v) s
-on_value Break s k = Ret Break s
-on_value Continue s k = Ret Continue s
-on_value (Throw v) s k = Ret (Throw v) s
+on_value o s k = Ret o s
+
+-- the same as what comes after a part
+abbrev pub after : (Value → State → Plan) → Completion → State → Plan
+after k o s = on_value o s (λ v. k v s)
 
 -- goes on with a reference
 abbrev pub on_reference : Completion → State → (Reference → Plan) → Plan
 on_reference (Refers r) s k = k r
-on_reference Normal s k = Ret Normal s
-on_reference (Is v) s k = Ret (Is v) s
-on_reference (Return v) s k = Ret (Return v) s
-on_reference Break s k = Ret Break s
-on_reference Continue s k = Ret Continue s
-on_reference (Throw v) s k = Ret (Throw v) s
+on_reference o s k = Ret o s
 
 -- goes on after a statement that went on
 abbrev pub on_normal : Completion → State → Plan → Plan
 on_normal Normal s p = p
-on_normal (Is v) s p = Ret (Is v) s
-on_normal (Refers r) s p = Ret (Refers r) s
-on_normal (Return v) s p = Ret (Return v) s
-on_normal Break s p = Ret Break s
-on_normal Continue s p = Ret Continue s
-on_normal (Throw v) s p = Ret (Throw v) s
+on_normal o s p = Ret o s
 
 -- goes on with a thrown value, or else with a plan
 abbrev pub on_throw : Completion → Plan → (Value → Plan) → Plan
 on_throw (Throw v) p k = k v
-on_throw Normal p k = p
-on_throw (Is v) p k = p
-on_throw (Refers r) p k = p
-on_throw (Return v) p k = p
-on_throw Break p k = p
-on_throw Continue p k = p
+on_throw o p k = p

@@ -1,15 +1,16 @@
 -- Properties of every kind of value, and the length of arrays.
-use Rattle.std.specs.Prelude.{ℕ, zero, suc, pos, ◌+◌, List, [], ◌∷◌, ◌++◌, Bool, true, false, not, ◌&&◌, nat_lt, nat_le, if◌then◌else◌, codes, length, max, map, Option, Some, None, is_some}
+use Rattle.std.specs.Prelude.{ℕ, zero, suc, pos, ◌+◌, List, [], ◌∷◌, ◌++◌, Bool, true, false, not, ◌&&◌, nat_lt, nat_le, if◌then◌else◌, codes, length, max, map, Option, Some, None, is_some, unwrap_or}
 use Rattle.std.specs.List.{filter, list_any}
 use Rattle.std.specs.Fmt.{decimal}
 use Rattle.std.specs.Str.{bytes_eq}
 use Rattle.std.specs.Str.Parse.{digits_value}
+use Rattle.std.specs.Option.{option_map_or}
 use Rattle.code_units.specs.Whole.{is_numeral}
 use Rattle.code_units.specs.Permitted.{is_permitted}
 use Rattle.widget_meaning.specs.Limits.{max_chain, max_length}
 use Rattle.widget_meaning.specs.NativeNames.{TextPrototype, NumberPrototype, BooleanPrototype, PrototypeOf, Native}
 use Rattle.widget_meaning.specs.Values.{Value, Undefined, Null, Truth, NaN, Num, Text, Own, Host, E1, E5, E7}
-use Rattle.widget_meaning.specs.OwnState.{State, Cell, Kind, Object, Array, Function, Bunch, Pairs, lookup, replaced, taken_out, cell_at, with_cell}
+use Rattle.widget_meaning.specs.OwnState.{State, Cell, Kind, Array, Function, Bunch, Pairs, lookup, replaced, taken_out, cell_at, with_cell, kind_of}
 use Rattle.widget_meaning.specs.Plan.{Plan}
 use Rattle.widget_meaning.specs.Costs.{pay, slots_cost, throw, give}
 use Rattle.widget_meaning.specs.HostTable.{host_pairs, host_prototype}
@@ -30,12 +31,10 @@ index_name n = decimal n
 abbrev pub is_length : List ℕ → Bool
 is_length x = bytes_eq x (codes "length")
 
--- an own property of an object; an array's `length` is one
+-- an own property among these pairs; an array's `length` is one
 abbrev pub kind_property : Kind → Pairs → List ℕ → Option Value
 kind_property (Array n) ps x = if is_length x then Some (Num (pos n)) else lookup ps x
-kind_property Object ps x = lookup ps x
-kind_property (Function f scope) ps x = lookup ps x
-kind_property (Bunch ns) ps x = lookup ps x
+kind_property kind ps x = lookup ps x
 
 -- an own property of an object
 abbrev pub own_property : State → Value → List ℕ → Option Value
@@ -49,9 +48,9 @@ prototype s (Own n) = Some (cell_at s n).prototype
 prototype s (Host h) = host_prototype h
 prototype s v = None
 
--- a value that was found, or else what is found further on
-abbrev pub or_else : Option Value → (Bool → Option Value) → Option Value
-or_else (Some v) k = Some v
+-- what was found, or else what is found further on, which is looked for only then
+abbrev pub or_else : {A : Type 0} → Option A → (Bool → Option A) → Option A
+or_else (Some a) k = Some a
 or_else None k = k true
 
 -- the property of the first object on a chain that has it, so many links far
@@ -68,22 +67,16 @@ holder (Truth b) = Some (Host (PrototypeOf BooleanPrototype))
 holder NaN = Some (Host (PrototypeOf NumberPrototype))
 holder (Num z) = Some (Host (PrototypeOf NumberPrototype))
 holder (Text t) = Some (Host (PrototypeOf TextPrototype))
-holder (Own n) = Some (Own n)
-holder (Host h) = Some (Host h)
+holder v = Some v
 
 -- a property of a value, own or along the prototypes; a text has a `length`
 abbrev pub property : State → Value → List ℕ → Option Value
 property s (Text t) x = if is_length x then Some (Num (pos (length t))) else on_chain (suc max_chain) s (holder (Text t)) x
 property s v x = on_chain (suc max_chain) s (holder v) x
 
--- a missing value is undefined
-abbrev pub or_undefined : Option Value → Value
-or_undefined None = Undefined
-or_undefined (Some v) = v
-
 -- a property, undefined where there is none
 abbrev pub get : State → Value → List ℕ → Value
-get s v x = or_undefined (property s v x)
+get s v x = unwrap_or (property s v x) Undefined
 
 -- a read: undefined and null have no properties
 abbrev pub read : Value → List ℕ → State → Plan
@@ -91,49 +84,39 @@ read Undefined x s = throw E1 s
 read Null x s = throw E1 s
 read v x s = give (get s v x) s
 
--- an object of the widget with other pairs, and an array with another length
-abbrev pub with_pairs : Cell → Pairs → Cell
-with_pairs c ps = record { kind = c.kind; prototype = c.prototype; pairs = ps }
-
--- an array with another length
-abbrev pub with_length : Cell → ℕ → Cell
-with_length c n = record { kind = Array n; prototype = c.prototype; pairs = c.pairs }
-
 -- a write of a name: one that is kept keeps its place, a new one costs a slot
 abbrev pub put_pair : Cell → ℕ → List ℕ → Value → State → (State → Plan) → Plan
 put_pair c n x v s k =
     if is_some (lookup c.pairs x)
-    then k (with_cell s n (with_pairs c (replaced c.pairs x v)))
-    else pay (slots_cost 1) s (λ t. k (with_cell t n (with_pairs c (c.pairs ++ (x, v) ∷ []))))
+    then k (with_cell s n (record c { pairs = replaced c.pairs x v }))
+    else pay (slots_cost 1) s (λ t. k (with_cell t n (record c { pairs = c.pairs ++ (x, v) ∷ [] })))
 
 -- a write of an index at or past the length raises it
 abbrev pub put_index : Option ℕ → Cell → ℕ → ℕ → List ℕ → Value → State → (State → Plan) → Plan
 put_index None c len n x v s k = put_pair c n x v s k
-put_index (Some i) c len n x v s k = put_pair (with_length c (max len (i + 1))) n x v s k
+put_index (Some i) c len n x v s k = put_pair (record c { kind = Array (max len (i + 1)) }) n x v s k
 
--- whether a name is no index at or past a length
-abbrev pub is_below : ℕ → Option ℕ → Bool
-is_below len None = true
-is_below len (Some i) = nat_lt i len
+-- whether a name is an index below a length; for a name that is no index, this
+abbrev pub is_below : ℕ → Bool → List ℕ → Bool
+is_below len other x = option_map_or (λ i. nat_lt i len) (index_of x) other
 
--- the pairs without elements at or past a length, as a smaller length leaves them
-abbrev pub kept_below : ℕ → Pairs → Pairs
-kept_below len ps = filter (λ p. is_below len (index_of p.0)) ps
+-- an array cut to a length: without elements at or past it
+abbrev pub cut_to : Cell → ℕ → Cell
+cut_to c len = record c { kind = Array len; pairs = filter (λ p. is_below len true p.0) c.pairs }
 
 -- a write of an array's `length`: a whole number up to the largest
 abbrev pub put_length : Value → Cell → ℕ → State → (State → Plan) → Plan
 put_length (Num (pos len)) c n s k =
     if nat_le len max_length
-    then k (with_cell s n (with_length (with_pairs c (kept_below len c.pairs)) len))
+    then k (with_cell s n (cut_to c len))
     else throw E7 s
 put_length v c n s k = throw E7 s
 
 -- a write of an own property of an object of the widget; a Bunch is closed
 abbrev pub put_own : Kind → Cell → ℕ → List ℕ → Value → State → (State → Plan) → Plan
-put_own Object c n x v s k = put_pair c n x v s k
-put_own (Function f scope) c n x v s k = put_pair c n x v s k
 put_own (Array len) c n x v s k = if is_length x then put_length v c n s k else put_index (index_of x) c len n x v s k
 put_own (Bunch ns) c n x v s k = throw E5 s
+put_own kind c n x v s k = put_pair c n x v s k
 
 -- a write of a property, and what is done then: on a primitive nothing, and every host object is closed
 abbrev pub put : Value → List ℕ → Value → State → (State → Plan) → Plan
@@ -143,14 +126,13 @@ put o x v s k = k s
 
 -- a pair is taken out, and what is done then
 abbrev pub delete_pair : Cell → ℕ → List ℕ → State → (Bool → State → Plan) → Plan
-delete_pair c n x s k = k true (with_cell s n (with_pairs c (taken_out c.pairs x)))
+delete_pair c n x s k = k true (with_cell s n (record c { pairs = taken_out c.pairs x }))
 
 -- a property of an object of the widget is taken out, and what is done with whether it could be; an array keeps its `length`
 abbrev pub delete_own : Kind → Cell → ℕ → List ℕ → State → (Bool → State → Plan) → Plan
-delete_own Object c n x s k = delete_pair c n x s k
-delete_own (Function f scope) c n x s k = delete_pair c n x s k
 delete_own (Array len) c n x s k = if is_length x then k false s else delete_pair c n x s k
 delete_own (Bunch ns) c n x s k = throw E5 s
+delete_own kind c n x s k = delete_pair c n x s k
 
 -- `delete` of a property: of a primitive it gives true
 abbrev pub delete : Value → List ℕ → State → (Bool → State → Plan) → Plan
@@ -158,7 +140,7 @@ delete (Own n) x s k = delete_own (cell_at s n).kind (cell_at s n) n x s k
 delete (Host h) x s k = throw E5 s
 delete o x s k = k true s
 
--- the own permitted names in order of insertion, without an array's `length`
+-- the permitted names among these pairs, in order of insertion; an array's `length` is none of them
 abbrev pub permitted_names : Pairs → List (List ℕ)
 permitted_names ps = filter is_permitted (map (λ p. p.0) ps)
 
@@ -185,17 +167,14 @@ names_on_chain m s o xs = xs
 abbrev pub names_of : State → Value → List (List ℕ)
 names_of s v = names_on_chain (suc max_chain) s (Some v) []
 
--- whether an object is a function
-abbrev pub is_function_kind : Kind → Bool
-is_function_kind (Function f scope) = true
-is_function_kind Object = false
-is_function_kind (Array n) = false
-is_function_kind (Bunch ns) = false
+-- whether an object of the widget is a function
+abbrev pub is_function_kind : Option Kind → Bool
+is_function_kind (Some (Function f scope)) = true
+is_function_kind kind = false
 
 -- a function of the widget
 abbrev pub is_own_function : State → Value → Bool
-is_own_function s (Own n) = is_function_kind (cell_at s n).kind
-is_own_function s v = false
+is_own_function s v = is_function_kind (kind_of s v)
 
 -- what can be called: a function of the widget or a native
 abbrev pub is_function : State → Value → Bool

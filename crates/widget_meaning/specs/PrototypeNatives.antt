@@ -4,21 +4,18 @@ use Rattle.std.specs.Fmt.{digits}
 use Rattle.std.specs.Int.{is_negative}
 use Rattle.code_units.specs.Permitted.{is_permitted}
 use Rattle.widget_meaning.specs.NativeNames.{PrototypeNative, HasOwnProperty, ObjectToString, ArrayToString, FunctionToString, TextToString, NumberToString, BooleanToString}
-use Rattle.widget_meaning.specs.Values.{Value, Truth, NaN, Num, Text, E3, E7, to_text}
+use Rattle.widget_meaning.specs.Values.{Value, Truth, NaN, Num, Text, E3, E7, to_text, nth}
 use Rattle.widget_meaning.specs.OwnState.{State}
 use Rattle.widget_meaning.specs.Plan.{Plan}
 use Rattle.widget_meaning.specs.Costs.{make_text, throw, give}
 use Rattle.widget_meaning.specs.Properties.{own_property, is_function}
-use Rattle.widget_meaning.specs.NativeForms.{nth, want_primitives, on_object, on_array, on_text, with_optional}
+use Rattle.widget_meaning.specs.NativeForms.{want_primitives, on_object, on_array, on_text, with_optional}
 use Rattle.widget_meaning.specs.ListNatives.{join}
 
--- whether the object has that own name and the name is permitted
-abbrev pub has_own : Value → List ℕ → State → Bool
-has_own o x s = is_some (own_property s o x) && is_permitted x
-
--- `hasOwnProperty(name)`
+-- `hasOwnProperty(name)`: whether the object has that own name and the name is permitted
 abbrev pub has_own_property : Option Value → Value → State → Plan
-has_own_property this x s = on_object this s (λ o. want_primitives (x ∷ []) s (give (Truth (has_own o (to_text x) s)) s))
+has_own_property this x s =
+    on_object this s (λ o. want_primitives (x ∷ []) s (give (Truth (is_some (own_property s o (to_text x)) && is_permitted (to_text x))) s))
 
 -- a text that is made and given, without an extra
 abbrev pub give_made : List ℕ → State → Plan
@@ -33,13 +30,9 @@ function_to_string this s = throw E3 s
 abbrev pub array_to_string : ℕ → ℕ → State → Plan
 array_to_string n len s = join n len (Text (codes ",")) (len + 1) s
 
--- the text of a number in a radix
-abbrev pub radix_text : ℤ → ℕ → List ℕ
-radix_text z radix = (if is_negative z then codes "-" else []) ++ digits radix false (unsigned_abs z)
-
--- NaN has one text
+-- the text of a number in a radix; NaN has one text
 abbrev pub number_text : Value → ℤ → List ℕ
-number_text (Num z) radix = radix_text z (unsigned_abs radix)
+number_text (Num z) radix = (if is_negative z then codes "-" else []) ++ digits (unsigned_abs radix) false (unsigned_abs z)
 number_text v radix = to_text v
 
 -- 2 to 36

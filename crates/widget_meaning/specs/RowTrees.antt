@@ -1,87 +1,169 @@
 -- Trees made by hand, for the rows that are computed from the definitions.
-use Rattle.std.specs.Prelude.{ℕ, List, [], ◌∷◌, codes, Option, None}
+use Prim.Native.String.{String}
+use Rattle.std.specs.Prelude.{ℕ, List, [], ◌∷◌, map, codes, false, Option, Some, None}
+use Rattle.std.specs.List.{fold}
+use Rattle.js_tree.specs.declared.nodes.AssignOp.TheVariants as assignment
 use Rattle.js_tree.specs.declared.nodes.BinOp.{BinOp}
+use Rattle.js_tree.specs.declared.nodes.Word.TheVariants as word
 use Rattle.js_tree.specs.Plain as tree
-use Rattle.js_tree.specs.Plain.{Expr, ExprForm, Exprs, Stmt, StmtForm, Stmts, Fun, Funs}
+use Rattle.js_tree.specs.Plain.{Expr, ExprForm, Exprs, OptionalExpr, Stmt, StmtForm, Stmts, Fun}
 use Rattle.plain_tree.specs.Trees.{End, Node, TextOf, ElementOf}
 use Rattle.widget_meaning.specs.Trees.{Trees}
 use Rattle.widget_meaning.specs.Alone.{Content}
 
--- nodes without places
+-- ## Expressions
+
+-- an expression without a place
 abbrev pub expr : ExprForm → Expr
 expr form = tree.ExprAt 0 [] form
 
--- a statement
-abbrev pub stmt : StmtForm → Stmt
-stmt form = tree.StmtAt 0 [] form
-
--- lists
-abbrev pub exprs_from : Exprs → List Expr → Exprs
-exprs_from es [] = es
-exprs_from es (e ∷ more) = exprs_from (tree.AndExpr es e) more
-
 -- a list of expressions
 abbrev pub exprs : List Expr → Exprs
-exprs es = exprs_from tree.NoExprs es
+exprs es = fold tree.AndExpr tree.NoExprs es
 
--- statements behind others
-abbrev pub stmts_from : Stmts → List Stmt → Stmts
-stmts_from ss [] = ss
-stmts_from ss (s ∷ more) = stmts_from (tree.AndStmt ss s) more
-
--- a list of statements
-abbrev pub stmts : List Stmt → Stmts
-stmts ss = stmts_from tree.NoStmts ss
-
--- a name, a number, a text, a property, a call and an operator
-abbrev pub name : List ℕ → Expr
-name x = expr (tree.Name x)
+-- a name
+abbrev pub name : String → Expr
+name x = expr (tree.Name (codes x))
 
 -- a number
-abbrev pub num : List ℕ → Expr
-num t = expr (tree.Num t)
+abbrev pub num : String → Expr
+num t = expr (tree.Num (codes t))
 
 -- a text
-abbrev pub str : List ℕ → Expr
-str t = expr (tree.Str t)
+abbrev pub str : String → Expr
+str t = expr (tree.Str (codes t))
+
+-- an array
+abbrev pub array : List Expr → Expr
+array es = expr (tree.Array (exprs es))
+
+-- an object
+abbrev pub object : List (String × Expr) → Expr
+object ps = expr (tree.Object (fold (λ qs p. tree.AndProperty qs (codes p.0) p.1) tree.NoProperties ps))
 
 -- a property
-abbrev pub dot : Expr → List ℕ → Expr
-dot e x = expr (tree.Dot e x)
+abbrev pub dot : Expr → String → Expr
+dot e x = expr (tree.Dot e (codes x))
 
 -- a call
 abbrev pub apply : Expr → List Expr → Expr
 apply f es = expr (tree.Call f (exprs es))
 
+-- a call of a method
+abbrev pub method : Expr → String → List Expr → Expr
+method e x es = apply (dot e x) es
+
+-- `ADSAFE.x(..)`
+abbrev pub adsafe : String → List Expr → Expr
+adsafe x es = method (name "ADSAFE") x es
+
+-- `dom.x(..)`
+abbrev pub dom : String → List Expr → Expr
+dom x es = method (name "dom") x es
+
+-- `dom.q(..)`
+abbrev pub dom_q : String → Expr
+dom_q x = dom "q" (str x ∷ [])
+
 -- an operator between two
 abbrev pub operation : BinOp → Expr → Expr → Expr
 operation op a b = expr (tree.Binary op a b)
 
--- a statement of an expression, and a function with no name
+-- ## Statements
+
+-- a statement without a place
+abbrev pub stmt : StmtForm → Stmt
+stmt form = tree.StmtAt 0 [] form
+
+-- a list of statements
+abbrev pub stmts : List Stmt → Stmts
+stmts ss = fold tree.AndStmt tree.NoStmts ss
+
+-- a statement of an expression
 abbrev pub does : Expr → Stmt
 does e = stmt (tree.Only e)
 
--- a function
-abbrev pub fun : Option (List ℕ) → List (List ℕ) → List Stmt → Funs → Fun
-fun x params body funs = tree.FunAt 0 [] x params (stmts body) funs
-
--- `ADSAFE.x(..)`, and `ADSAFE.log(e);`
-abbrev pub adsafe : List ℕ → List Expr → Expr
-adsafe x es = apply (dot (name (codes "ADSAFE")) x) es
-
 -- `ADSAFE.log(e);`
 abbrev pub logs : Expr → Stmt
-logs e = does (adsafe (codes "log") (e ∷ []))
+logs e = does (adsafe "log" (e ∷ []))
 
--- the widget A_ with a body: `<div id="A_"><p>hi</p><script>ADSAFE.go("A_", function (dom, lib) {..});</script></div>`
-abbrev pub go : List Stmt → Funs → Stmts
-go body funs =
-    stmts (does (adsafe (codes "go") (str (codes "A_") ∷ expr (tree.Function (fun None (codes "dom" ∷ codes "lib" ∷ []) body funs)) ∷ [])) ∷ [])
+-- declared variables, with their first values
+abbrev pub vars : List (String × OptionalExpr) → Stmt
+vars ds = stmt (tree.Var (fold (λ es d. tree.AndDecl es (codes d.0) 0 d.1) tree.NoDecls ds))
 
--- `<div id="A_"><p>hi</p></div>`
-abbrev pub paragraph : Trees
-paragraph = Node 0 (ElementOf (codes "div") ((codes "id", codes "A_") ∷ [])) (Node 0 (ElementOf (codes "p") []) (Node 0 (TextOf (codes "hi")) End End) End) End
+-- one declared variable
+abbrev pub var : String → Expr → Stmt
+var x e = vars ((x, tree.SomeExpr e) ∷ [])
 
--- the widget A_ with a body
-abbrev pub widget : List Stmt → Funs → Content
-widget body funs = record { root = paragraph; libraries = []; script = go body funs }
+-- `e = v;`
+abbrev pub sets : Expr → Expr → Stmt
+sets e v = does (expr (tree.Assign assignment.Assign e v))
+
+-- `e += v;`
+abbrev pub adds : Expr → Expr → Stmt
+adds e v = does (expr (tree.Assign assignment.Add e v))
+
+-- `return e;`
+abbrev pub returns : Expr → Stmt
+returns e = stmt (tree.Return (tree.SomeExpr e))
+
+-- `while (true) { .. }`
+abbrev pub forever : List Stmt → Stmt
+forever ss = stmt (tree.While (expr (tree.Constant word.True)) (stmts ss))
+
+-- `for (x in e) { .. }`
+abbrev pub for_in : String → Expr → List Stmt → Stmt
+for_in x e ss = stmt (tree.ForIn false (codes x) e (stmts ss))
+
+-- `try { e; } catch (x) { ADSAFE.log(x.message); }`
+abbrev pub catches : Expr → String → Stmt
+catches e x = stmt (tree.Try (stmts (does e ∷ [])) (tree.CatchAs (codes x) (stmts (logs (dot (name x) "message") ∷ []))) tree.NoBlock)
+
+-- `try { s } finally { u }`
+abbrev pub try_finally : Stmt → Stmt → Stmt
+try_finally s u = stmt (tree.Try (stmts (s ∷ [])) tree.NoCatch (tree.SomeBlock (stmts (u ∷ []))))
+
+-- ## Functions
+
+-- a function without functions
+abbrev pub fun : Option (List ℕ) → List String → List Stmt → Fun
+fun x params ss = tree.FunAt 0 [] x (map codes params) (stmts ss) tree.NoFuns
+
+-- a declared function
+abbrev pub declared : String → List String → List Stmt → Fun
+declared x params ss = fun (Some (codes x)) params ss
+
+-- a function expression without a name
+abbrev pub function : List String → List Stmt → Expr
+function params ss = expr (tree.Function (fun None params ss))
+
+-- ## Widgets
+
+-- an element, with its children and what stands behind it
+abbrev pub element : String → List (String × String) → Trees → Trees → Trees
+element tag attrs ks ts = Node 0 (ElementOf (codes tag) (map (λ a. (codes a.0, codes a.1)) attrs)) ks ts
+
+-- a text, with what stands behind it
+abbrev pub words : String → Trees → Trees
+words t ts = Node 0 (TextOf (codes t)) End ts
+
+-- the root of a widget
+abbrev pub root : String → Trees → Trees
+root id ks = element "div" (("id", id) ∷ []) ks End
+
+-- a widget with a page, and a body with declared functions: `ADSAFE.go("A_", function (dom, lib) {..});`
+abbrev pub content : Trees → List Stmt → List Fun → Content
+content ts ss fs = record {
+  root = ts;
+  libraries = [];
+  script = stmts (does (adsafe "go" (str "A_" ∷ expr (tree.Function
+      (tree.FunAt 0 [] None (codes "dom" ∷ codes "lib" ∷ []) (stmts ss) (fold tree.AndFun tree.NoFuns fs))) ∷ [])) ∷ []);
+}
+
+-- a widget on `<div id="A_"><p>hi</p></div>`
+abbrev pub widget : List Stmt → List Fun → Content
+widget ss fs = content (root "A_" (element "p" [] (words "hi" End) End)) ss fs
+
+-- the same without declared functions
+abbrev pub body : List Stmt → Content
+body ss = widget ss []

@@ -1,14 +1,12 @@
 -- Rows computed from the definitions: what widgets with these bodies do, each with the default grant.
 use Rattle.std.specs.Prelude.{◌≡◌, ℕ, List, [], ◌∷◌, codes, Option, Some, None}
-use Rattle.js_tree.specs.declared.nodes.AssignOp.TheVariants as assignment
 use Rattle.js_tree.specs.declared.nodes.UnOp.TheVariants as un
 use Rattle.js_tree.specs.declared.nodes.BinOp.TheVariants as bin
 use Rattle.js_tree.specs.Plain as tree
-use Rattle.js_tree.specs.Plain.{Stmt}
 use Rattle.widget_meaning.specs.Values.{Stop, Due, Depth, Number}
 use Rattle.widget_meaning.specs.OwnState.{OwnState}
 use Rattle.widget_meaning.specs.Alone.{Content, loaded}
-use Rattle.widget_meaning.specs.RowTrees.{expr, stmt, stmts, name, num, str, dot, apply, operation, does, fun, logs, widget}
+use Rattle.widget_meaning.specs.RowTrees.{expr, stmt, name, num, str, array, object, dot, apply, operation, does, logs, var, vars, sets, catches, declared, widget, body}
 
 -- what a row says of a widget: its stop, fuel spent, log and uncaught notes
 pub record Row (o : OwnState) (stop : Option Stop) (spent : ℕ) (log uncaught : List (List ℕ)) : Type 0 where
@@ -23,56 +21,52 @@ rendered w = loaded w 100000
 
 -- ADSAFE.log(1 + 2);
 abbrev pub log_sum : Content
-log_sum = widget (logs (operation bin.Add (num (codes "1")) (num (codes "2"))) ∷ []) tree.NoFuns
+log_sum = body (logs (operation bin.Add (num "1") (num "2")) ∷ [])
 
 -- ADSAFE.log("a" + 1 + 2);
 abbrev pub joined_left : Content
-joined_left = widget (logs (operation bin.Add (operation bin.Add (str (codes "a")) (num (codes "1"))) (num (codes "2"))) ∷ []) tree.NoFuns
+joined_left = body (logs (operation bin.Add (operation bin.Add (str "a") (num "1")) (num "2")) ∷ [])
 
 -- ADSAFE.log(9007199254740991 + 0); ADSAFE.log(9007199254740991 + 1);
 abbrev pub number_limit : Content
-number_limit = widget (logs (operation bin.Add (num (codes "9007199254740991")) (num (codes "0"))) ∷ logs (operation bin.Add (num (codes "9007199254740991")) (num (codes "1"))) ∷ []) tree.NoFuns
+number_limit = body
+    (logs (operation bin.Add (num "9007199254740991") (num "0"))
+    ∷ logs (operation bin.Add (num "9007199254740991") (num "1")) ∷ [])
 
 -- ADSAFE.log((7 - 7 % 2) / 2); ADSAFE.log(7 / 2);
 abbrev pub inexact_quotient : Content
-inexact_quotient = widget
-    (logs (operation bin.Div (operation bin.Sub (num (codes "7")) (operation bin.Rem (num (codes "7")) (num (codes "2")))) (num (codes "2")))
-    ∷ logs (operation bin.Div (num (codes "7")) (num (codes "2"))) ∷ []) tree.NoFuns
+inexact_quotient = body
+    (logs (operation bin.Div (operation bin.Sub (num "7") (operation bin.Rem (num "7") (num "2"))) (num "2"))
+    ∷ logs (operation bin.Div (num "7") (num "2")) ∷ [])
 
 -- var o = {NaN: "x"}; ADSAFE.log(undefined + 1); ADSAFE.log(o[+"x"]);
 abbrev pub nan_as_name : Content
-nan_as_name = widget
-    (stmt (tree.Var (tree.AndDecl tree.NoDecls (codes "o") 0 (tree.SomeExpr (expr (tree.Object (tree.AndProperty tree.NoProperties (codes "NaN") (str (codes "x"))))))))
-    ∷ logs (operation bin.Add (name (codes "undefined")) (num (codes "1")))
-    ∷ logs (expr (tree.Sub (name (codes "o")) (expr (tree.Unary un.Plus (str (codes "x")))))) ∷ []) tree.NoFuns
+nan_as_name = body
+    (var "o" (object (("NaN", str "x") ∷ []))
+    ∷ logs (operation bin.Add (name "undefined") (num "1"))
+    ∷ logs (expr (tree.Sub (name "o") (expr (tree.Unary un.Plus (str "x"))))) ∷ [])
 
 -- var f = [].concat; try { f(); } catch (e) { ADSAFE.log(e.message); }
 abbrev pub bare_concat : Content
-bare_concat = widget
-    (stmt (tree.Var (tree.AndDecl tree.NoDecls (codes "f") 0 (tree.SomeExpr (dot (expr (tree.Array tree.NoExprs)) (codes "concat")))))
-    ∷ stmt (tree.Try (stmts (does (apply (name (codes "f")) []) ∷ [])) (tree.CatchAs (codes "e") (stmts (logs (dot (name (codes "e")) (codes "message")) ∷ []))) tree.NoBlock) ∷ []) tree.NoFuns
+bare_concat = body (var "f" (dot (array []) "concat") ∷ catches (apply (name "f") []) "e" ∷ [])
 
 -- function f() { f(); } f();
 abbrev pub endless_call : Content
-endless_call = widget (does (apply (name (codes "f")) []) ∷ []) (tree.AndFun tree.NoFuns (fun (Some (codes "f")) [] (does (apply (name (codes "f")) []) ∷ []) tree.NoFuns))
-
--- f = 1;
-abbrev pub writes_f : List Stmt
-writes_f = does (expr (tree.Assign assignment.Assign (name (codes "f")) (num (codes "1")))) ∷ []
+endless_call = widget (does (apply (name "f") []) ∷ []) (declared "f" [] (does (apply (name "f") []) ∷ []) ∷ [])
 
 -- function f() { f = 1; } f(); ADSAFE.log(f); the call writes the variable of the scope around it
 abbrev pub declared_name : Content
-declared_name = widget (does (apply (name (codes "f")) []) ∷ logs (name (codes "f")) ∷ []) (tree.AndFun tree.NoFuns (fun (Some (codes "f")) [] writes_f tree.NoFuns))
+declared_name = widget (does (apply (name "f") []) ∷ logs (name "f") ∷ []) (declared "f" [] (sets (name "f") (num "1") ∷ []) ∷ [])
 
 -- var f = 0, g = function f() { f = 1; }; g(); ADSAFE.log(f); the call writes a variable of its own
 abbrev pub expression_name : Content
-expression_name = widget
-    (stmt (tree.Var (tree.AndDecl (tree.AndDecl tree.NoDecls (codes "f") 0 (tree.SomeExpr (num (codes "0")))) (codes "g") 0 (tree.SomeExpr (expr (tree.Function (fun (Some (codes "f")) [] writes_f tree.NoFuns))))))
-    ∷ does (apply (name (codes "g")) []) ∷ logs (name (codes "f")) ∷ []) tree.NoFuns
+expression_name = body
+    (vars (("f", tree.SomeExpr (num "0")) ∷ ("g", tree.SomeExpr (expr (tree.Function (declared "f" [] (sets (name "f") (num "1") ∷ []))))) ∷ [])
+    ∷ does (apply (name "g") []) ∷ logs (name "f") ∷ [])
 
 -- throw {name: "X", message: "y"};
 abbrev pub uncaught_object : Content
-uncaught_object = widget (stmt (tree.Throw (expr (tree.Object (tree.AndProperty (tree.AndProperty tree.NoProperties (codes "name") (str (codes "X"))) (codes "message") (str (codes "y")))))) ∷ []) tree.NoFuns
+uncaught_object = body (stmt (tree.Throw (object (("name", str "X") ∷ ("message", str "y") ∷ []))) ∷ [])
 
 -- the rows; the slots of two are those of the scopes: one for each scope and one for each of its names
 pub record Rows : Type 0 where

@@ -1,13 +1,14 @@
 -- Scopes: the names that a call makes, and how a name is found.
-use Rattle.std.specs.Prelude.{ℕ, zero, suc, List, [], ◌∷◌, ◌++◌, Bool, true, false, not, ◌&&◌, if◌then◌else◌, length, map, drop, Option, Some, None, is_some, option_to_list}
-use Rattle.std.specs.List.{list_any}
+use Rattle.std.specs.Prelude.{ℕ, zero, suc, List, [], ◌∷◌, ◌++◌, not, ◌&&◌, if◌then◌else◌, length, map, drop, Option, Some, None, option_to_list, unwrap_or, option_map}
+use Rattle.std.specs.List.{list_any, flat_map}
 use Rattle.std.specs.Str.{bytes_eq}
+use Rattle.std.specs.Option.{option_or}
 use Rattle.js_tree.specs.Plain as tree
 use Rattle.js_tree.specs.Plain.{Stmt, StmtForm, Stmts, Decls, ForInit, OptionalBlock, Catch, Clauses, Fun, Funs}
-use Rattle.widget_meaning.specs.Values.{Value, Undefined}
-use Rattle.widget_meaning.specs.OwnState.{State, Scope, Pairs, lookup, replaced, scope_at, with_scope}
+use Rattle.widget_meaning.specs.Values.{Value, Undefined, nth}
+use Rattle.widget_meaning.specs.OwnState.{State, Scope, lookup, replaced, scope_at, with_scope}
 use Rattle.widget_meaning.specs.Plan.{Place}
-use Rattle.widget_meaning.specs.Properties.{or_undefined, listed}
+use Rattle.widget_meaning.specs.Properties.{listed, or_else}
 use Rattle.widget_meaning.specs.HostTable.{globals}
 
 -- the declared names of a list
@@ -36,11 +37,7 @@ unfoldable mutual
   form_vars (tree.Try a c b) = stmts_vars a ++ (catch_vars c ++ block_vars b)
   form_vars (tree.With e b) = stmts_vars b
   form_vars (tree.Label x s) = stmt_vars s
-  form_vars (tree.Only e) = []
-  form_vars (tree.Continue x) = []
-  form_vars (tree.Break x) = []
-  form_vars (tree.Return e) = []
-  form_vars (tree.Throw e) = []
+  form_vars form = []
 
   pub stmts_vars : Stmts → List (List ℕ)
   stmts_vars tree.NoStmts = []
@@ -67,76 +64,49 @@ abbrev pub without_name : Fun → Fun
 without_name (tree.FunAt at names name params body funs) = tree.FunAt at names None params body funs
 
 -- declared functions in order of the text
-abbrev pub funs_list : Funs → List Fun → List Fun
-funs_list tree.NoFuns fs = fs
-funs_list (tree.AndFun gs g) fs = funs_list gs (g ∷ fs)
+abbrev pub fun_list : Funs → List Fun
+fun_list tree.NoFuns = []
+fun_list (tree.AndFun fs f) = fun_list fs ++ f ∷ []
 
--- the names of declared functions, in order of the text
-abbrev pub fun_names : List Fun → List (List ℕ)
-fun_names [] = []
-fun_names (f ∷ fs) = fun_name f ++ fun_names fs
+-- the names of a call's scope but its own: parameters, `var` names, names of declared functions
+abbrev pub other_names : Fun → List (List ℕ)
+other_names (tree.FunAt at names name params body funs) = params ++ (stmts_vars body ++ flat_map fun_name (fun_list funs))
 
--- each name once, at its first place
+-- each name once, at its first place, behind those seen
 abbrev pub distinct : List (List ℕ) → List (List ℕ) → List (List ℕ)
 distinct seen [] = seen
 distinct seen (x ∷ xs) = distinct (listed seen (x ∷ [])) xs
 
--- the names of a call's scope: parameters, `var` names, names of declared functions, own name of a function expression
-abbrev pub scope_names : List (List ℕ) → Stmts → List Fun → List (List ℕ) → List (List ℕ)
-scope_names params body funs own = distinct [] (params ++ (stmts_vars body ++ (fun_names funs ++ own)))
-
--- the first argument left, undefined where none is
-abbrev pub first_value : List Value → Value
-first_value [] = Undefined
-first_value (v ∷ vs) = v
-
--- an argument found later, or else the one here
-abbrev pub or_first : Option Value → Bool → Value → Option Value
-or_first (Some v) here w = Some v
-or_first None here w = if here then Some w else None
-
 -- the argument of a parameter: a repeated one has the last
 abbrev pub argument : List (List ℕ) → List Value → List ℕ → Option Value
 argument [] vs x = None
-argument (p ∷ ps) vs x = or_first (argument ps (drop 1 vs) x) (bytes_eq p x) (first_value vs)
+argument (p ∷ ps) vs x = option_or (argument ps (drop 1 vs) x) (if bytes_eq p x then Some (nth 0 vs) else None)
 
--- the function itself, or undefined
-abbrev pub if_own : Bool → Value → Value
-if_own true f = f
-if_own false f = Undefined
+-- the first value of a name in a call's scope: an argument; the function itself under its own name where that is no other name; else undefined
+abbrev pub first_of_name : Fun → Value → List Value → List ℕ → Value
+first_of_name (tree.FunAt at names name params body funs) f vs x =
+    let others : List (List ℕ) = other_names (tree.FunAt at names name params body funs) in
+    unwrap_or (argument params vs x) (if list_any (bytes_eq x) (option_to_list name) && not (list_any (bytes_eq x) others) then f else Undefined)
 
--- whether a name is the function's own and no parameter, variable or function
-abbrev pub is_own_alone : List (List ℕ) → List (List ℕ) → List ℕ → Bool
-is_own_alone others own x = list_any (bytes_eq x) own && not (list_any (bytes_eq x) others)
-
--- an argument, or else the function itself or undefined
-abbrev pub or_own : Option Value → Bool → Value → Value
-or_own (Some v) alone f = v
-or_own None alone f = if_own alone f
-
--- the names of a call's scope with their first values: an argument; the function itself under its own name where that is no other name; else undefined
-abbrev pub first_pairs : List (List ℕ) → List Value → List (List ℕ) → List (List ℕ) → Value → List (List ℕ) → Pairs
-first_pairs params vs others own f xs = map (λ x. (x, or_own (argument params vs x) (is_own_alone others own x) f)) xs
-
--- this scope, or else what is found further out
-abbrev pub here_or : Bool → ℕ → (Bool → Option ℕ) → Option ℕ
-here_or true i k = Some i
-here_or false i k = k true
+-- a call's scope: each of its names once, with its first value
+abbrev pub call_scope : Fun → Option ℕ → Value → List Value → Scope
+call_scope fun outer f vs =
+    record { outer = outer; pairs = map (λ x. (x, first_of_name fun f vs x)) (distinct [] (other_names fun ++ fun_name fun)) }
 
 -- the innermost scope from here that has the name, so many scopes far
 abbrev pub scope_having : ℕ → State → Option ℕ → List ℕ → Option ℕ
 scope_having zero s o x = None
 scope_having (suc n) s None x = None
-scope_having (suc n) s (Some i) x = here_or (is_some (lookup (scope_at s i).pairs x)) i (λ _. scope_having n s (scope_at s i).outer x)
+scope_having (suc n) s (Some i) x = or_else (option_map (λ v. i) (lookup (scope_at s i).pairs x)) (λ _. scope_having n s (scope_at s i).outer x)
 
 -- the scope of a name at a place
 abbrev pub scope_of : State → Place → List ℕ → Option ℕ
 scope_of s p x = scope_having (length s.own.scopes) s p.scope x
 
--- the value of a name: of a variable, else of a listed global
+-- the value of a name in the scope that has it, or else of a listed global; undefined where neither has it
 abbrev pub value_in : State → Option ℕ → List ℕ → Value
-value_in s None x = or_undefined (lookup globals x)
-value_in s (Some i) x = or_undefined (lookup (scope_at s i).pairs x)
+value_in s None x = unwrap_or (lookup globals x) Undefined
+value_in s (Some i) x = unwrap_or (lookup (scope_at s i).pairs x) Undefined
 
 -- the value of a name at a place
 abbrev pub variable : State → Place → List ℕ → Value
@@ -144,7 +114,7 @@ variable s p x = value_in s (scope_of s p x) x
 
 -- a scope with another value of a name that it has
 abbrev pub set_pair : Scope → List ℕ → Value → Scope
-set_pair c x v = record { outer = c.outer; pairs = replaced c.pairs x v }
+set_pair c x v = record c { pairs = replaced c.pairs x v }
 
 -- a write of a name in the scope that has it; of no other name
 abbrev pub set_in : State → Option ℕ → List ℕ → Value → State

@@ -1,13 +1,13 @@
 -- The methods of texts. Each counts in its extra the units of the text, of the arguments that stand for texts, and of what is made.
-use Rattle.std.specs.Prelude.{ℕ, zero, suc, ℤ, pos, negsuc, ◌+◌, ◌-◌, min, max, Bool, true, false, List, [], ◌∷◌, ◌++◌, length, take, drop, map, sum_by, nat_eq, nat_le, slice_range, Option, Some, None}
-use Rattle.std.specs.List.{filter, flat_map, starts_with, range_with_len, last_or}
+use Rattle.std.specs.Prelude.{ℕ, zero, suc, ℤ, pos, negsuc, ◌+◌, ◌-◌, min, max, Bool, true, false, List, [], ◌∷◌, ◌++◌, length, take, drop, map, sum_by, nat_eq, nat_le, slice_range, Option, Some, None, slice_get}
+use Rattle.std.specs.List.{filter, flat_map, starts_with, range_with_len, last_or, onto_first}
 use Rattle.std.specs.Str.{str_to_ascii_lowercase, str_to_ascii_uppercase}
 use Rattle.widget_meaning.specs.NativeNames.{TextNative, CharAt, CharCodeAt, TextConcat, IndexOf, LastIndexOf, TextSlice, Substring, Split, ToLowerCase, ToUpperCase}
-use Rattle.widget_meaning.specs.Values.{Value, Undefined, NaN, Num, Text, to_text, to_number}
+use Rattle.widget_meaning.specs.Values.{Value, Undefined, NaN, Num, Text, to_text, to_number, nth}
 use Rattle.widget_meaning.specs.OwnState.{State}
 use Rattle.widget_meaning.specs.Plan.{Plan, charge}
 use Rattle.widget_meaning.specs.Costs.{give}
-use Rattle.widget_meaning.specs.NativeForms.{nth, want_primitives, on_text, with_number, with_number_or, with_optional, clamped, from_end, give_text, give_texts, make_array}
+use Rattle.widget_meaning.specs.NativeForms.{want_primitives, on_text, with_number, with_number_or, with_optional, clamped, from_end, give_text, give_texts, make_array}
 
 -- the unit at a position as a text, and nothing outside
 abbrev pub unit_at : List ℕ → ℤ → List ℕ
@@ -31,30 +31,21 @@ char_code_at t i s = want_primitives (i ∷ []) s (with_number (to_number i) (le
 abbrev pub text_concat : List ℕ → List Value → State → Plan
 text_concat t vs s = want_primitives vs s (give_text (length t + length (flat_map to_text vs)) (t ++ flat_map to_text vs) s)
 
--- whether a text stands at a position of another
-abbrev pub stands_at : List ℕ → List ℕ → ℕ → Bool
-stands_at t x i = starts_with nat_eq (drop i t) x
-
--- all positions at which it stands, rising; the empty text at each and at the end
+-- all positions at which a text stands in another, rising; the empty text at each and at the end
 abbrev pub positions : List ℕ → List ℕ → List ℕ
-positions t x = filter (stands_at t x) (range_with_len 0 (length t + 1))
+positions t x = filter (λ i. starts_with nat_eq (drop i t) x) (range_with_len 0 (length t + 1))
 
 -- a position as a number, and -1 for none
 abbrev pub found : Option ℕ → Value
 found (Some i) = Num (pos i)
 found None = Num (negsuc 0)
 
--- the first of a list
-abbrev pub first_of_all : List ℕ → Option ℕ
-first_of_all [] = None
-first_of_all (i ∷ is) = Some i
-
 -- `indexOf(s, from)`: the least position at or after `from`
 abbrev pub index_of : List ℕ → Value → Value → State → Plan
 index_of t x from s =
     let extra : ℕ = length t + length (to_text x) in
     want_primitives (x ∷ from ∷ []) s (with_number (to_number from) extra s
-    (λ z. charge extra s (give (found (first_of_all (filter (nat_le (clamped (length t) z)) (positions t (to_text x))))) s)))
+    (λ z. charge extra s (give (found (slice_get (filter (nat_le (clamped (length t) z)) (positions t (to_text x))) 0)) s)))
 
 -- `lastIndexOf(s, from)`: the greatest position at or before `from`, which for NaN is the end
 abbrev pub last_index_of : List ℕ → Value → Value → State → Plan
@@ -81,15 +72,10 @@ substring t a b s =
     want_primitives (a ∷ b ∷ []) s (with_number (to_number a) len s (λ x. with_optional (pos len) b len s
     (λ y. give_text len (between t (clamped len x) (clamped len y)) s)))
 
--- the first piece with a unit before it
-abbrev pub first_with : ℕ → List (List ℕ) → List (List ℕ)
-first_with u [] = []
-first_with u (p ∷ ps) = (u ∷ p) ∷ ps
-
 -- at a unit: where the text stands a piece ends, else the unit belongs to the first piece
 abbrev pub cut_here : Bool → List ℕ → ℕ → (ℕ → List (List ℕ)) → List (List ℕ)
 cut_here true x u after = [] ∷ after (length x - 1)
-cut_here false x u after = first_with u (after 0)
+cut_here false x u after = onto_first u (after 0)
 
 -- the pieces between the occurrences of a text, from the left; so many units of an occurrence are still to be passed over
 abbrev pub pieces_from : List ℕ → ℕ → List ℕ → List (List ℕ)

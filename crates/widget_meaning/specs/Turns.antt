@@ -1,18 +1,18 @@
 -- Turns: the calls of one turn within one grant of fuel, and how a turn ends.
 use Rattle.std.specs.Prelude.{ℕ, ◌+◌, ◌-◌, List, [], ◌∷◌, ◌++◌, length, nat_lt, if◌then◌else◌, codes, Option, Some}
 use Rattle.widget_meaning.specs.Limits.{max_units}
-use Rattle.widget_meaning.specs.Values.{Value, Text, Own, Host, Normal, Is, Refers, Return, Break, Continue, Throw, Stop, Fuel, Due, Units, to_text}
+use Rattle.widget_meaning.specs.Values.{Value, Text, Own, Host, Throw, Stop, Fuel, Due, Units, to_text}
 use Rattle.widget_meaning.specs.OwnState.{OwnState, State, cell_at, lookup}
 use Rattle.widget_meaning.specs.Plan.{Plan, Out, End, Ended, Stopped, OutOfFuel}
 use Rattle.widget_meaning.specs.Costs.{cost, sum}
 use Rattle.widget_meaning.specs.Meaning.{run_plan}
 
--- the text of an uncaught throw: of a primitive its text; of an object whose own `name` and `message` are texts these; else `[object]`
+-- the text of an uncaught object by its own `name` and `message`, where both are texts
 abbrev pub named_note : Option Value → Option Value → List ℕ
 named_note (Some (Text x)) (Some (Text m)) = x ++ (codes ": " ++ m)
 named_note x m = codes "[object]"
 
--- the text of an uncaught value
+-- the text of an uncaught value: of a primitive its text, of an object whose own `name` and `message` are texts these, else `[object]`
 abbrev pub note_text : State → Value → List ℕ
 note_text s (Own n) = named_note (lookup (cell_at s n).pairs (codes "name")) (lookup (cell_at s n).pairs (codes "message"))
 note_text s (Host h) = codes "[object]"
@@ -35,12 +35,7 @@ begun o = record { own = record o { turns = o.turns + 1 }; dispatches = [] }
 -- how it ends: what fell of the grant is spent; an uncaught throw is noted; a stop is kept
 abbrev pub end_turn : End → State → OwnState → OwnState
 end_turn (Ended (Throw v)) s o = noted (note_text s v) o
-end_turn (Ended Normal) s o = o
-end_turn (Ended (Is v)) s o = o
-end_turn (Ended (Refers r)) s o = o
-end_turn (Ended (Return v)) s o = o
-end_turn (Ended Break) s o = o
-end_turn (Ended Continue) s o = o
+end_turn (Ended e) s o = o
 end_turn (Stopped c) s o = stopped (Due c) o
 end_turn OutOfFuel s o = stopped Fuel o
 

@@ -1,5 +1,5 @@
 -- Values of a widget by itself, and how a form ends.
-use Rattle.std.specs.Prelude.{ℕ, ℤ, Bool, true, false, List, [], codes, length, nat_eq, not, pos, negsuc}
+use Rattle.std.specs.Prelude.{ℕ, ℤ, Bool, true, false, List, [], codes, length, nat_eq, not, pos, negsuc, unwrap_or, slice_get}
 use Rattle.std.specs.Fmt.{signed_decimal}
 use Rattle.code_units.specs.declared.whole.WholeRead.{WholeRead}
 use Rattle.code_units.specs.declared.whole.WholeRead.TheVariants as read
@@ -69,10 +69,6 @@ is_object (Own n) = true
 is_object (Host h) = true
 is_object _ = false
 
--- a primitive: no object
-abbrev pub is_primitive : Value → Bool
-is_primitive v = not (is_object v)
-
 -- undefined and null have no properties
 abbrev pub is_nothing : Value → Bool
 is_nothing Undefined = true
@@ -114,3 +110,7 @@ to_number (Num z) = read.Whole z
 to_number (Text t) = number_in t
 to_number (Own n) = read.NotNumber
 to_number (Host h) = read.NotNumber
+
+-- the argument at a place, from 0; an absent one is undefined
+abbrev pub nth : ℕ → List Value → Value
+nth n vs = unwrap_or (slice_get vs n) Undefined

@@ -2,16 +2,17 @@
 ghost use Rattle.std.specs.Prelude.{ℕ, List};
 ghost use Rattle.widget_meaning.specs.Compositional.{ExpressionLaws, StatementLaws, CallLaws};
 ghost use Rattle.js_tree.specs.Forest.{Forest};
+ghost use Rattle.widget_meaning.specs.OwnState.{State};
+ghost use Rattle.widget_meaning.specs.Plan.{Place};
 ghost use Rattle.widget_meaning.specs.Arena.{ArenaLaws};
 ghost use Rattle.widget_meaning.specs.Counts.{CountLaws};
 ghost use Rattle.widget_meaning.specs.Laws.{FuelLaws, StopLaws, StoppedLaws, AloneLaws, TimerLaws};
 
 /// The meaning of each form is made of the meanings of its parts: this is the direct recursive meaning, form by form.
-#[tactic(auto, using(crate::proofs::Parts::expression_laws, crate::proofs::Parts::statement_laws, crate::proofs::Parts::call_laws))]
 pub fn compositional()
-    ensures expressions { (at : ℕ) (names : List ℕ) → ExpressionLaws at names }
-    ensures statements { (at : ℕ) (names : List ℕ) → StatementLaws at names }
-    ensures calls { CallLaws }
+    ensures expressions { (at : ℕ) (names : List ℕ) (p : Place) (s : State) (g : ℕ) → ExpressionLaws at names p s g }
+    ensures statements { (at : ℕ) (names : List ℕ) (p : Place) (s : State) (g : ℕ) → StatementLaws at names p s g }
+    ensures calls { (s : State) (g : ℕ) → CallLaws s g }
 {}
 
 /// The parts that a node of an arena lists by number are the parts of its plain tree, in order.
