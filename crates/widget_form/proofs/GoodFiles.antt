@@ -1,7 +1,7 @@
 -- A file that breaks no rule, said plainly.
 use Rattle.std.proofs.Common.{◌≡◌, ℕ, ◌+◌, ◌<◌, ◌≤◌, ◌⊎◌, inl, inr, Bool, true, false, ◌&&◌, ◌||◌, not, List, [], ◌∷◌, ◌++◌, codes, Option, Some, None, cond, refl, sym, ap, ◌∙◌, subst}
 use Rattle.std.specs.Prelude.{fold, nat_lt}
-use Rattle.std.specs.List.{list_any}
+use Rattle.std.specs.List.{list_all, list_any}
 use Rattle.std.specs.Str.{bytes_eq}
 use Rattle.std.proofs.lemmas.Bool.{cases_lt}
 use Rattle.std.proofs.lemmas.Bool.Decides.{Decides-ltb}
@@ -11,11 +11,11 @@ use Rattle.first_breach.specs.Breaches.{One, If, Each, IsClean}
 use Rattle.plain_tree.specs.declared.plain.Attr.{Attr}
 use Rattle.plain_tree.specs.Trees.{Trees, TextOf, ElementOf, End, Node, size}
 use Rattle.plain_tree.specs.Plains.{Places}
-use Rattle.markup_reader.specs.Listed.{is_listed, is_phrase, is_block, is_list, is_form, is_table}
-use Rattle.widget_form.specs.Words.{is_own_id}
+use Rattle.markup_reader.specs.Listed.{is_listed, is_plain_unit, is_phrase, is_block, is_list, is_form, is_table}
+use Rattle.widget_form.specs.Words.{is_wordy, is_address, has_word, is_own_id}
 use Rattle.widget_form.specs.Elements.{Element, element, elements, roots, others, scripts, is_div, is_script, is_sourced, is_named, first_named, before_scripts, Item, items, AText, AnElement, is_blank}
-use Rattle.widget_form.specs.Rows.{Perhaps, misrooted, first_place, misnamed, ending, unended, node_limit, is_allowed, is_foreign, MarkupRows, AttributeRows, OtherRows, SlotRows, SlotAttributeRows, RootRows, IsGood, InsideRow, IdRow}
-use Rattle.widget_form.specs.Good.{EndsInScript, IsRoot, IsListedElement, IsInner, IsWidgetFile}
+use Rattle.widget_form.specs.Rows.{Perhaps, misrooted, first_place, misnamed, ending, unended, node_limit, is_allowed, is_unsafe, is_foreign, MarkupRows, AttributeRows, OtherRows, SlotRows, SlotAttributeRows, RootRows, IsGood, InsideRow, IdRow}
+use Rattle.widget_form.specs.Good.{EndsInScript, IsRoot, IsListedElement, IsSafe, IsInner, IsWidgetFile}
 
 -- ## Clean sets
 
@@ -50,6 +50,16 @@ third : (a b c : Bool) → (a && b && not c) ≡ false → a ≡ true → b ≡ 
 third true true c h e f = allowed c h
 third true false c h e f = let no : ⊥ = cc in absurd no
 third false b c h e f = let no : ⊥ = cc in absurd no
+
+words_so : (a b r : Bool) → ((a && not b) || r) ≡ false → a ≡ true → b ≡ true
+words_so true true r h e = refl
+words_so true false r h e = let no : ⊥ = cc in absurd no
+words_so false b r h e = let no : ⊥ = cc in absurd no
+
+address_so : (l c d : Bool) → (l || (c && d)) ≡ false → c ≡ true → d ≡ false
+address_so false true d h e = h
+address_so false false d h e = let no : ⊥ = cc in absurd no
+address_so true c d h e = let no : ⊥ = cc in absurd no
 
 same_text : (xs ys : List ℕ) → bytes_eq xs ys ≡ true → xs ≡ ys
 same_text xs ys h = (bytes_eq-Decides xs ys).0 h
@@ -222,6 +232,16 @@ listed_of name libs e markup slot =
     by (inl s) = inl (same_text e.tag (codes "script") s)
     by (inr l) = inr l
 
+safe_of : (name : List ℕ) (libs : List (List ℕ)) (of_script : Bool) (a : Attr) → IsClean (AttributeRows of_script a) → IsClean (SlotAttributeRows name libs of_script a) → IsSafe name a
+safe_of name libs of_script a markup slot =
+    let harmless = no_if (is_unsafe a) 9 a.value_at (λ r p h. markup r p (inr (inl h))) in
+    let wordy = is_wordy a.name && not (list_all is_plain_unit a.value) in
+    record {
+      words = words_so (is_wordy a.name) (list_all is_plain_unit a.value) (is_address a.name && has_word (codes "javascript:") a.value) harmless;
+      address = address_so wordy (is_address a.name) (has_word (codes "javascript:") a.value) harmless;
+      label = λ is. second (is_named (codes "for") a) (is_own_id name a.value) (no_if (is_named (codes "for") a && not (is_own_id name a.value)) 8 a.value_at (λ r p h. slot r p (inl h))) (text_same a.name (codes "for") is);
+    }
+
 no_scripts : (list : List Element) → IsClean (Each InsideRow list) → list ≡ []
 no_scripts [] clean = refl
 no_scripts (s ∷ rest) clean = absurd (clean 5 s.at (record { item = s; is_in = here; broken = record { same_rule = refl; same_place = refl } }))
@@ -249,5 +269,8 @@ good_file name libs file good =
       listed = λ e is_in. listed_of name libs e
           (clean_one MarkupRows (root ∷ elements root.kids) e (subst (λ l. IsClean (Each MarkupRows l)) lists.all_are markup) is_in)
           (clean_one (SlotRows name libs) (root ∷ elements root.kids) e (subst (λ l. IsClean (Each (SlotRows name libs) l)) lists.all_are slot) is_in);
+      safe = λ e a is_in in_e. safe_of name libs (is_script e.tag) a
+          (clean_one (AttributeRows (is_script e.tag)) e.attrs a (λ r p h. clean_one MarkupRows (root ∷ elements root.kids) e (subst (λ l. IsClean (Each MarkupRows l)) lists.all_are markup) is_in r p (inr (inr h))) in_e)
+          (clean_one (SlotAttributeRows name libs (is_script e.tag)) e.attrs a (λ r p h. clean_one (SlotRows name libs) (root ∷ elements root.kids) e (subst (λ l. IsClean (Each (SlotRows name libs) l)) lists.all_are slot) is_in r p (inr h)) in_e);
       inner = λ e is_in. inner_of name e (clean_one (OtherRows name) (elements root.kids) e (subst (λ l. IsClean (Each (OtherRows name) l)) lists.others_are other) is_in);
     }

@@ -1,11 +1,12 @@
 -- What a widget's file is that breaks no rule, said without breaches.
 use Rattle.std.specs.Prelude.{◌≡◌, ℕ, ◌+◌, ◌≤◌, ◌⊎◌, true, false, List, [], ◌∷◌, ◌++◌, codes, Some}
+use Rattle.std.specs.List.{list_all}
 use Rattle.first_breach.specs.Lists.{In}
 use Rattle.plain_tree.specs.declared.plain.Attr.{Attr}
 use Rattle.plain_tree.specs.Trees.{Trees, size}
 use Rattle.plain_tree.specs.Plains.{Places}
-use Rattle.markup_reader.specs.Listed.{is_listed}
-use Rattle.widget_form.specs.Words.{is_own_id}
+use Rattle.markup_reader.specs.Listed.{is_listed, is_plain_unit}
+use Rattle.widget_form.specs.Words.{is_wordy, is_address, is_own_id, has_word}
 use Rattle.widget_form.specs.Elements.{Element, elements, scripts, is_sourced, first_named, before_scripts, Item, AnElement, items}
 use Rattle.widget_form.specs.Rows.{is_allowed, node_limit}
 
@@ -33,6 +34,12 @@ pub record IsListedElement (libs : List (List ℕ)) (e : Element) : Type 0 where
   pub of_other : is_listed e.tag ≡ true → (a : Attr) → In a e.attrs → is_allowed false a.name ≡ true
   pub source : e.tag ≡ codes "script" → (a : Attr) → In a e.attrs → a.name ≡ codes "src" → In a.value libs
 
+-- an attribute that says nothing unsafe: plain words where they are asked for, no `javascript:` in an address, and a `for` of the slot's own
+pub record IsSafe (name : List ℕ) (a : Attr) : Type 0 where
+  pub words : is_wordy a.name ≡ true → list_all is_plain_unit a.value ≡ true
+  pub address : is_address a.name ≡ true → has_word (codes "javascript:") a.value ≡ false
+  pub label : a.name ≡ codes "for" → is_own_id name a.value ≡ true
+
 -- an element below the root: no script stands in it, and its `id` begins with the slot's name
 pub record IsInner (name : List ℕ) (e : Element) : Type 0 where
   pub scriptless : scripts e ≡ []
@@ -44,4 +51,5 @@ pub record IsWidgetFile (name : List ℕ) (libs : List (List ℕ)) (file : Trees
   pub alone : items file ≡ AnElement root ∷ []
   pub is_root : IsRoot name root
   pub listed : (e : Element) → In e (root ∷ elements root.kids) → IsListedElement libs e
+  pub safe : (e : Element) (a : Attr) → In e (root ∷ elements root.kids) → In a e.attrs → IsSafe name a
   pub inner : (e : Element) → In e (elements root.kids) → IsInner name e

@@ -12,8 +12,8 @@ pub fn one_first()
 {}
 
 /// A good file is one `div` of the slot's name that ends in a script of its own. Its tags and
-/// attributes are listed, its scripts take libraries of the slot, and no element below the root
-/// has a script or another's `id`.
+/// attributes are listed and say nothing unsafe, its scripts take libraries of the slot, and no
+/// element below the root has a script or another's `id`.
 pub fn good_file()
     ensures { (name : List ℕ) (libs : List (List ℕ)) (file : Trees Places) → IsGood name libs file → IsWidgetFile name libs file }
 {}
