@@ -5,3 +5,5 @@ pub mod Rows
 pub mod Parts
 pub mod Statements
 pub mod Law
+pub mod Solid
+pub mod Proper

@@ -1,5 +1,5 @@
 -- How the tidied tokens of the parts of a tree spell it; and expressions where a looser one is asked for.
-use Rattle.std.proofs.Common.{◌≡◌, ℕ, zero, suc, ◌+◌, ◌-◌, ◌≤◌, ◌<◌, List, [], ◌∷◌, ◌++◌, Bool, true, false, refl, ap, sym, subst, ◌∙◌, arith}
+use Rattle.std.proofs.Common.{◌≡◌, ℕ, zero, suc, ◌+◌, ◌-◌, ◌≤◌, ◌<◌, List, [], ◌∷◌, ◌++◌, Option, Some, None, Bool, true, false, refl, ap, sym, subst, ◌∙◌, arith}
 use Rattle.std.specs.Prelude.{codes, if◌then◌else◌, nat_lt, nat_le, ◌&&◌, ◌||◌}
 use Rattle.std.proofs.lemmas.Bool.Decides.{nat_tests}
 use Rattle.js_grammar.specs.declared.Sign.{Sign}
@@ -10,15 +10,24 @@ use Rattle.js_grammar.specs.Tables.{opens_other}
 use Rattle.js_grammar.specs.Unplaced.{unplaced_expr, unplaced_exprs}
 use Rattle.js_print.specs.Tidy.{Tokens, flat, mark, enclosed, is_enclosed, level_of, is_opening, expr_tokens, form_tokens}
 use Rattle.js_tree.specs.Plain.{Expr, ExprAt, ExprForm}
-use Rattle.tidy_laws.specs.Told.{TokenIs, as_fixed, Written, end, next}
+use Rattle.tidy_laws.specs.Told.{TokenIs, as_fixed, fixed_of, Written, end, next, IsFitness}
+
+-- a limit of depths, and what is asked of texts
+pub record Bound : Type 1 where
+  pub most : ℕ
+  pub Fit : Sign → List ℕ → Type 0
+  pub laws : IsFitness Fit
 
 -- a token without a place
 abbrev pub tok : Sign → List ℕ → ℕ → Deep
 tok s text d = ((s, record { text = text; at = 0 }), d)
 
-pub append : {limit : ℕ} {a b : Tokens} {ts us rest : List Deep} → Written limit a ts us → Written limit b us rest → Written limit (a ++ b) ts rest
+pub append : {limit : ℕ} {Fit : Sign → List ℕ → Type 0} {a b : Tokens} {ts us rest : List Deep} → Written limit Fit a ts us → Written limit Fit b us rest → Written limit Fit (a ++ b) ts rest
 append end w = w
-append (next t le v) w = next t le (append v w)
+append (next t fit le v) w = next t fit le (append v w)
+
+pub fixed_next : (limit : Bound) {s : Sign} {w : List ℕ} {n : ℕ} {words : Tokens} {ts rest : List Deep} → fixed_of s ≡ Some w → n ≤ limit.most → Written limit.most limit.Fit words ts rest → Written limit.most limit.Fit (w ∷ words) (tok s w n ∷ ts) rest
+fixed_next limit {s} {w} is le v = next (as_fixed is) (limit.laws.fixed s w is) le v
 
 -- the first token begins no statement of its own
 abbrev pub opens_first : List Deep → Bool
@@ -31,19 +40,19 @@ Begun [] = ⊥
 Begun (((s, x), d) ∷ ts) = (opens_other s ≡ false) × (x.at ≡ 0)
 
 -- tokens that have these bytes and spell the thing
-pub record Makes (limit : ℕ) (thing : Thing) (d : ℕ) (words : Tokens) (rest : List Deep) : Type 0 where
+pub record Makes (limit : Bound) (thing : Thing) (d : ℕ) (words : Tokens) (rest : List Deep) : Type 0 where
   pub tokens : List Deep
   pub spells : Spells thing d tokens rest
-  pub written : Written limit words tokens rest
+  pub written : Written limit.most limit.Fit words tokens rest
 
-abbrev pub Made : ℕ → Thing → ℕ → Tokens → Type 0
+abbrev pub Made : Bound → Thing → ℕ → Tokens → Type 0
 Made limit thing d words = (rest : List Deep) → Makes limit thing d words rest
 
 -- the same of an expression, which may begin a statement
-pub record MakesExpr (limit : ℕ) (first : Bool) (level : Level) (e : Expr) (d : ℕ) (words : Tokens) (rest : List Deep) : Type 0 where
+pub record MakesExpr (limit : Bound) (first : Bool) (level : Level) (e : Expr) (d : ℕ) (words : Tokens) (rest : List Deep) : Type 0 where
   pub tokens : List Deep
   pub spells : Spells (An level e) d tokens rest
-  pub written : Written limit words tokens rest
+  pub written : Written limit.most limit.Fit words tokens rest
   pub begins : first ≡ true → Begun tokens
 
 -- ## Levels
@@ -183,23 +192,23 @@ expr_is first n at names form =
     ∙ ap (λ l. if nat_lt (level_of form) n then enclosed l else core first form) (sym (core_plain (is_opening form) (enclosed (form_tokens false form)) (form_tokens false form)))
 
 -- its own tokens at a depth, whether an `in` may stand there or not
-abbrev pub Core : ℕ → Bool → Expr → ℕ → Type 0
+abbrev pub Core : Bound → Bool → Expr → ℕ → Type 0
 Core limit first e n = (b : Bool) (rest : List Deep) → MakesExpr limit first (own b (tightness e)) (unplaced_expr e) n (core first (form_of e)) rest
 
 -- its tokens where a level is asked for
-abbrev pub Placed : ℕ → Bool → Level → Expr → ℕ → Type 0
+abbrev pub Placed : Bound → Bool → Level → Expr → ℕ → Type 0
 Placed limit first level e n = (b : Bool) (rest : List Deep) → MakesExpr limit first (reach b level) (unplaced_expr e) n (expr_tokens first (asked level) e) rest
 
 -- What is found of tokens that spell an expression of a level: its own tidied tokens are not deeper; where parentheses are asked for, there is room for them, and so for those round the function or object with which it begins, if a statement may begin with these tokens.
-pub record Found (limit : ℕ) (level : Level) (e : Expr) (d : ℕ) (ts : List Deep) : Type 0 where
+pub record Found (limit : Bound) (level : Level) (e : Expr) (d : ℕ) (ts : List Deep) : Type 0 where
   pub some : 1 ≤ tightness e
   pub plain : (n : ℕ) → n ≤ d → Core limit false e n
-  pub inner : tightness e < asked level → (suc d ≤ limit) × ((n : ℕ) → n ≤ suc d → Core limit false e n)
+  pub inner : tightness e < asked level → (suc d ≤ limit.most) × ((n : ℕ) → n ≤ suc d → Core limit false e n)
   pub opened : (n : ℕ) → n < d → Core limit true e n
   pub begun : opens_first ts ≡ false → (n : ℕ) → n ≤ d → Core limit true e n
 
 -- a found expression stands where its level is asked for
-loosely : (limit : ℕ) (first : Bool) (level : Level) (e : Expr) (n : ℕ) → asked level ≤ tightness e → Core limit first e n → (b : Bool) (rest : List Deep) → MakesExpr limit first (reach b level) (unplaced_expr e) n (core first (form_of e)) rest
+loosely : (limit : Bound) (first : Bool) (level : Level) (e : Expr) (n : ℕ) → asked level ≤ tightness e → Core limit first e n → (b : Bool) (rest : List Deep) → MakesExpr limit first (reach b level) (unplaced_expr e) n (core first (form_of e)) rest
 loosely limit first level e n h c b rest =
     let m = c (flag b level) rest in
     record {
@@ -210,7 +219,7 @@ loosely limit first level e n h c b rest =
     }
 
 -- a primary is a whole expression
-pub whole_of_primary : (limit : ℕ) (first : Bool) (e : Expr) (n : ℕ) (words : Tokens) (rest : List Deep) → MakesExpr limit first Primary e n words rest → MakesExpr limit first Whole e n words rest
+pub whole_of_primary : (limit : Bound) (first : Bool) (e : Expr) (n : ℕ) (words : Tokens) (rest : List Deep) → MakesExpr limit first Primary e n words rest → MakesExpr limit first Whole e n words rest
 whole_of_primary limit first e n words rest m = record {
   tokens = m.tokens;
   spells = climb e n m.tokens rest false Whole 16 (omega arith) m.spells;
@@ -227,19 +236,19 @@ sixteen (Operators b k) = omega arith
 sixteen (Assignment b) = omega arith
 sixteen Whole = omega arith
 
-pub wrapped : (limit : ℕ) (first : Bool) (level : Level) (e : Expr) (n : ℕ) (words : Tokens) → suc n ≤ limit → ((rest : List Deep) → MakesExpr limit false Whole e (suc n) words rest) → (b : Bool) (rest : List Deep) → MakesExpr limit first (reach b level) e n (enclosed words) rest
+pub wrapped : (limit : Bound) (first : Bool) (level : Level) (e : Expr) (n : ℕ) (words : Tokens) → suc n ≤ limit.most → ((rest : List Deep) → MakesExpr limit false Whole e (suc n) words rest) → (b : Bool) (rest : List Deep) → MakesExpr limit first (reach b level) e n (enclosed words) rest
 wrapped limit first level e n words le c b rest =
     let m = c (tok sign.Close (codes ")") (suc n) ∷ rest) in
     let ts = tok sign.Open (codes "(") (suc n) ∷ m.tokens in
     record {
       tokens = ts;
       spells = climb e n ts rest b level 16 (sixteen level) (paren m.spells);
-      written = next (as_fixed refl) le (append m.written (next (as_fixed refl) le end));
+      written = fixed_next limit refl le (append m.written (fixed_next limit refl le end));
       begins = λ _. (refl, refl);
     }
 
-placed_at : (limit : ℕ) (first : Bool) (level : Level) (e : Expr) (n : ℕ) (x : Bool) → nat_lt (tightness e) (asked level) ≡ x → 1 ≤ tightness e
-    → (tightness e < asked level → (suc n ≤ limit) × Core limit false e (suc n)) → Core limit first e n
+placed_at : (limit : Bound) (first : Bool) (level : Level) (e : Expr) (n : ℕ) (x : Bool) → nat_lt (tightness e) (asked level) ≡ x → 1 ≤ tightness e
+    → (tightness e < asked level → (suc n ≤ limit.most) × Core limit false e (suc n)) → Core limit first e n
     → (b : Bool) (rest : List Deep) → MakesExpr limit first (reach b level) (unplaced_expr e) n (if x then enclosed (core false (form_of e)) else core first (form_of e)) rest
 placed_at limit first level e n true is some inner plain b rest =
     let h : tightness e < asked level = grind (arith, nat_tests) in
@@ -248,15 +257,15 @@ placed_at limit first level e n true is some inner plain b rest =
 placed_at limit first level e n false is some inner plain b rest =
     loosely limit first level e n (let h : asked level ≤ tightness e = grind (arith, nat_tests) in h) plain b rest
 
-place : (limit : ℕ) (first : Bool) (level : Level) (e : Expr) (n : ℕ) → 1 ≤ tightness e → (tightness e < asked level → (suc n ≤ limit) × Core limit false e (suc n)) → Core limit first e n → Placed limit first level e n
+place : (limit : Bound) (first : Bool) (level : Level) (e : Expr) (n : ℕ) → 1 ≤ tightness e → (tightness e < asked level → (suc n ≤ limit.most) × Core limit false e (suc n)) → Core limit first e n → Placed limit first level e n
 place limit first level (ExprAt at names form) n some inner plain b rest =
     let e = ExprAt at names form in
     subst (λ ws. MakesExpr limit first (reach b level) (unplaced_expr e) n ws rest) (sym (expr_is first (asked level) at names form))
     (placed_at limit first level e n (nat_lt (level_of form) (asked level)) refl some inner plain b rest)
 
-module _ (limit : ℕ) (level : Level) (e : Expr) (d : ℕ) (ts : List Deep) (f : Found limit level e d ts) where
-  room : (n : ℕ) → n ≤ d → tightness e < asked level → (suc n ≤ limit) × Core limit false e (suc n)
-  room n h below = let i = f.inner below in (let k : suc d ≤ limit = i.0 in omega (arith, k, h), i.1 (suc n) (omega (arith, h)))
+module _ (limit : Bound) (level : Level) (e : Expr) (d : ℕ) (ts : List Deep) (f : Found limit level e d ts) where
+  room : (n : ℕ) → n ≤ d → tightness e < asked level → (suc n ≤ limit.most) × Core limit false e (suc n)
+  room n h below = let i = f.inner below in (let k : suc d ≤ limit.most = i.0 in omega (arith, k, h), i.1 (suc n) (omega (arith, h)))
 
   pub later : (n : ℕ) → n ≤ d → Placed limit false level e n
   later n h = place limit false level e n f.some (room n h) (f.plain n h)

@@ -22,12 +22,12 @@ use Rattle.js_tree.specs.Plain.{Expr, ExprAt, ExprForm, Num, Str, Name, Constant
 use Rattle.js_print.specs.Tidy.{Tokens, flat, mark, enclosed, listed, is_opening, expr_tokens, form_tokens, exprs_tokens}
 use Rattle.tidy_laws.specs.Told.{TokenIs, as_name, as_number, as_string, as_fixed, fixed_of, Written, end, next}
 use Rattle.tidy_laws.specs.Tame.{TameExpr, TameForm}
-use Rattle.tidy_laws.proofs.Making.{tok, append, opens_first, Begun, Makes, Made, MakesExpr, form_of, tightness, own, asked, reach, core, Core, Placed, Found, wrapped, whole_of_primary, later, sooner, begins_with}
+use Rattle.tidy_laws.proofs.Making.{Bound, tok, append, fixed_next, opens_first, Begun, Makes, Made, MakesExpr, form_of, tightness, own, asked, reach, core, Core, Placed, Found, wrapped, whole_of_primary, later, sooner, begins_with}
 
-pub made : {limit : ℕ} {thing : Thing} {d : ℕ} {words : Tokens} {rest : List Deep} (ts : List Deep) → Spells thing d ts rest → Written limit words ts rest → Makes limit thing d words rest
+pub made : {limit : Bound} {thing : Thing} {d : ℕ} {words : Tokens} {rest : List Deep} (ts : List Deep) → Spells thing d ts rest → Written limit.most limit.Fit words ts rest → Makes limit thing d words rest
 made ts s w = record { tokens = ts; spells = s; written = w }
 
-pub made_expr : {limit : ℕ} {first : Bool} {level : Level} {e : Expr} {d : ℕ} {words : Tokens} {rest : List Deep} (ts : List Deep) → Spells (An level e) d ts rest → Written limit words ts rest → (first ≡ true → Begun ts) → MakesExpr limit first level e d words rest
+pub made_expr : {limit : Bound} {first : Bool} {level : Level} {e : Expr} {d : ℕ} {words : Tokens} {rest : List Deep} (ts : List Deep) → Spells (An level e) d ts rest → Written limit.most limit.Fit words ts rest → (first ≡ true → Begun ts) → MakesExpr limit first level e d words rest
 made_expr ts s w b = record { tokens = ts; spells = s; written = w; begins = b }
 
 pub deeper : (n d : ℕ) → n ≤ d → suc n ≤ suc d
@@ -61,8 +61,8 @@ no_post s o is h = clash (is_before (Some o)) h (ap is_before (sym is) ∙ none_
 no_prefix : (s : Sign) (o : StepOp) → prefix_of s ≡ Some (prefixes.Step o) → is_behind (Some (prefixes.Step o)) ≡ true → ⊥
 no_prefix s o is h = clash (is_behind (Some (prefixes.Step o))) h (ap is_behind (sym is) ∙ none_behind s)
 
-module _ (limit : ℕ) where
-  pub below : (n d : ℕ) → n ≤ d → d ≤ limit → n ≤ limit
+module _ (limit : Bound) where
+  pub below : (n d : ℕ) → n ≤ d → d ≤ limit.most → n ≤ limit.most
   below n d h le = omega (arith, h, le)
 
   -- ## Forms of rows
@@ -98,7 +98,7 @@ module _ (limit : ℕ) where
   }
 
   -- what no statement begins with
-  pub opening_row : (e : Expr) (d : ℕ) (ts : List Deep) → ((b : Bool) → own b (tightness e) ≡ Primary) → 16 ≤ tightness e → core true (form_of e) ≡ enclosed (core false (form_of e)) → opens_first ts ≡ true → d ≤ limit
+  pub opening_row : (e : Expr) (d : ℕ) (ts : List Deep) → ((b : Bool) → own b (tightness e) ≡ Primary) → 16 ≤ tightness e → core true (form_of e) ≡ enclosed (core false (form_of e)) → opens_first ts ≡ true → d ≤ limit.most
       → ((n : ℕ) → n ≤ d → (rest : List Deep) → MakesExpr limit false Primary (unplaced_expr e) n (core false (form_of e)) rest) → Found limit Primary e d ts
   opening_row e d ts same some around opens le c =
       let as_own = λ (first : Bool) (n : ℕ) (words : Tokens) (b : Bool) (rest : List Deep) (m : MakesExpr limit first Primary (unplaced_expr e) n words rest). subst (λ l. MakesExpr limit first l (unplaced_expr e) n words rest) (sym (same b)) m in
@@ -111,7 +111,7 @@ module _ (limit : ℕ) where
         begun = λ o. absurd (clash (opens_first ts) opens o);
       }
 
-  pub paren_row : (e : Expr) (d : ℕ) (p : Lexeme) (ts : List Deep) → suc d ≤ limit → Found limit Whole e (suc d) ts → Found limit Primary e d (((sign.Open, p), suc d) ∷ ts)
+  pub paren_row : (e : Expr) (d : ℕ) (p : Lexeme) (ts : List Deep) → suc d ≤ limit.most → Found limit Whole e (suc d) ts → Found limit Primary e d (((sign.Open, p), suc d) ∷ ts)
   paren_row e d p ts le f = record {
     some = f.some;
     plain = λ n h. f.plain n (omega (arith, h));
@@ -122,43 +122,43 @@ module _ (limit : ℕ) where
 
   -- ## Primary expressions
 
-  pub name_row : (x : Lexeme) (d : ℕ) (ts : List Deep) → d ≤ limit → Found limit Primary (ExprAt x.at [] (Name x.text)) d ts
+  pub name_row : (x : Lexeme) (d : ℕ) (ts : List Deep) → limit.Fit sign.Name x.text → d ≤ limit.most → Found limit Primary (ExprAt x.at [] (Name x.text)) d ts
   unfolding unplaced_exprs expr_tokens
-  name_row x d ts le = full_row Primary _ d ts (omega arith) (omega arith) (λ first n h b rest. made_expr (tok sign.Name x.text n ∷ rest) name (next as_name (below n d h le) end) (λ _. (refl, refl)))
+  name_row x d ts fit le = full_row Primary _ d ts (omega arith) (omega arith) (λ first n h b rest. made_expr (tok sign.Name x.text n ∷ rest) name (next as_name fit (below n d h le) end) (λ _. (refl, refl)))
 
-  pub number_row : (x : Lexeme) (d : ℕ) (ts : List Deep) → d ≤ limit → Found limit Primary (ExprAt x.at [] (Num x.text)) d ts
+  pub number_row : (x : Lexeme) (d : ℕ) (ts : List Deep) → limit.Fit sign.Number x.text → d ≤ limit.most → Found limit Primary (ExprAt x.at [] (Num x.text)) d ts
   unfolding unplaced_exprs expr_tokens
-  number_row x d ts le = full_row Primary _ d ts (omega arith) (omega arith) (λ first n h b rest. made_expr (tok sign.Number x.text n ∷ rest) number (next as_number (below n d h le) end) (λ _. (refl, refl)))
+  number_row x d ts fit le = full_row Primary _ d ts (omega arith) (omega arith) (λ first n h b rest. made_expr (tok sign.Number x.text n ∷ rest) number (next as_number fit (below n d h le) end) (λ _. (refl, refl)))
 
-  pub string_row : (x : Lexeme) (d : ℕ) (ts : List Deep) → d ≤ limit → Found limit Primary (ExprAt x.at [] (Str x.text)) d ts
+  pub string_row : (x : Lexeme) (d : ℕ) (ts : List Deep) → limit.Fit sign.Str x.text → d ≤ limit.most → Found limit Primary (ExprAt x.at [] (Str x.text)) d ts
   unfolding unplaced_exprs expr_tokens
-  string_row x d ts le = full_row Primary _ d ts (omega arith) (omega arith) (λ first n h b rest. made_expr (tok sign.Str x.text n ∷ rest) string (next as_string (below n d h le) end) (λ _. (refl, refl)))
+  string_row x d ts fit le = full_row Primary _ d ts (omega arith) (omega arith) (λ first n h b rest. made_expr (tok sign.Str x.text n ∷ rest) string (next as_string fit (below n d h le) end) (λ _. (refl, refl)))
 
-  pub this_row : (x : Lexeme) (d : ℕ) (ts : List Deep) → d ≤ limit → Found limit Primary (ExprAt x.at [] (Constant word.This)) d ts
+  pub this_row : (x : Lexeme) (d : ℕ) (ts : List Deep) → d ≤ limit.most → Found limit Primary (ExprAt x.at [] (Constant word.This)) d ts
   unfolding unplaced_exprs expr_tokens
-  this_row x d ts le = full_row Primary _ d ts (omega arith) (omega arith) (λ first n h b rest. made_expr (tok sign.This (codes "this") n ∷ rest) this (next (as_fixed refl) (below n d h le) end) (λ _. (refl, refl)))
+  this_row x d ts le = full_row Primary _ d ts (omega arith) (omega arith) (λ first n h b rest. made_expr (tok sign.This (codes "this") n ∷ rest) this (fixed_next limit refl (below n d h le) end) (λ _. (refl, refl)))
 
-  pub null_row : (x : Lexeme) (d : ℕ) (ts : List Deep) → d ≤ limit → Found limit Primary (ExprAt x.at [] (Constant word.Null)) d ts
+  pub null_row : (x : Lexeme) (d : ℕ) (ts : List Deep) → d ≤ limit.most → Found limit Primary (ExprAt x.at [] (Constant word.Null)) d ts
   unfolding unplaced_exprs expr_tokens
-  null_row x d ts le = full_row Primary _ d ts (omega arith) (omega arith) (λ first n h b rest. made_expr (tok sign.Null (codes "null") n ∷ rest) null (next (as_fixed refl) (below n d h le) end) (λ _. (refl, refl)))
+  null_row x d ts le = full_row Primary _ d ts (omega arith) (omega arith) (λ first n h b rest. made_expr (tok sign.Null (codes "null") n ∷ rest) null (fixed_next limit refl (below n d h le) end) (λ _. (refl, refl)))
 
-  pub true_row : (x : Lexeme) (d : ℕ) (ts : List Deep) → d ≤ limit → Found limit Primary (ExprAt x.at [] (Constant word.True)) d ts
+  pub true_row : (x : Lexeme) (d : ℕ) (ts : List Deep) → d ≤ limit.most → Found limit Primary (ExprAt x.at [] (Constant word.True)) d ts
   unfolding unplaced_exprs expr_tokens
-  true_row x d ts le = full_row Primary _ d ts (omega arith) (omega arith) (λ first n h b rest. made_expr (tok sign.True (codes "true") n ∷ rest) true_word (next (as_fixed refl) (below n d h le) end) (λ _. (refl, refl)))
+  true_row x d ts le = full_row Primary _ d ts (omega arith) (omega arith) (λ first n h b rest. made_expr (tok sign.True (codes "true") n ∷ rest) true_word (fixed_next limit refl (below n d h le) end) (λ _. (refl, refl)))
 
-  pub false_row : (x : Lexeme) (d : ℕ) (ts : List Deep) → d ≤ limit → Found limit Primary (ExprAt x.at [] (Constant word.False)) d ts
+  pub false_row : (x : Lexeme) (d : ℕ) (ts : List Deep) → d ≤ limit.most → Found limit Primary (ExprAt x.at [] (Constant word.False)) d ts
   unfolding unplaced_exprs expr_tokens
-  false_row x d ts le = full_row Primary _ d ts (omega arith) (omega arith) (λ first n h b rest. made_expr (tok sign.False (codes "false") n ∷ rest) false_word (next (as_fixed refl) (below n d h le) end) (λ _. (refl, refl)))
+  false_row x d ts le = full_row Primary _ d ts (omega arith) (omega arith) (λ first n h b rest. made_expr (tok sign.False (codes "false") n ∷ rest) false_word (fixed_next limit refl (below n d h le) end) (λ _. (refl, refl)))
 
   -- expressions between commas
   abbrev pub GoodItems : Bool → Exprs → ℕ → Type 0
   GoodItems b xs d = (n : ℕ) → n ≤ d → Made limit (Items b (unplaced_exprs xs)) n (listed (exprs_tokens xs))
 
   -- what stands between two marks
-  pub marked : (s r : Sign) {v w : List ℕ} {words : Tokens} {n : ℕ} {ts rest : List Deep} → fixed_of s ≡ Some v → fixed_of r ≡ Some w → n ≤ limit → Written limit words ts (tok r w n ∷ rest) → Written limit (flat (mark v ∷ words ∷ mark w ∷ [])) (tok s v n ∷ ts) rest
-  marked s r is are le w = next (as_fixed is) le (append w (next (as_fixed are) le end))
+  pub marked : (s r : Sign) {v w : List ℕ} {words : Tokens} {n : ℕ} {ts rest : List Deep} → fixed_of s ≡ Some v → fixed_of r ≡ Some w → n ≤ limit.most → Written limit.most limit.Fit words ts (tok r w n ∷ rest) → Written limit.most limit.Fit (flat (mark v ∷ words ∷ mark w ∷ [])) (tok s v n ∷ ts) rest
+  marked s r is are le w = fixed_next limit is le (append w (fixed_next limit are le end))
 
-  pub array_row : (p : Lexeme) (xs : Exprs) (d : ℕ) (ts : List Deep) → suc d ≤ limit → GoodItems false xs (suc d) → Found limit Primary (ExprAt p.at [] (Array xs)) d ts
+  pub array_row : (p : Lexeme) (xs : Exprs) (d : ℕ) (ts : List Deep) → suc d ≤ limit.most → GoodItems false xs (suc d) → Found limit Primary (ExprAt p.at [] (Array xs)) d ts
   unfolding unplaced_exprs expr_tokens
   array_row p xs d ts le g = full_row Primary _ d ts (omega arith) (omega arith) (λ first n h b rest.
       let m = g (suc n) (deeper n d h) (tok sign.CloseSquare (codes "]") (suc n) ∷ rest) in
@@ -166,20 +166,20 @@ module _ (limit : ℕ) where
 
   -- ## Properties, subscripts, calls
 
-  pub dot_row : (e : Expr) (x : Lexeme) (d : ℕ) (ts : List Deep) → d ≤ limit → Found limit LeftHand e d ts → Found limit LeftHand (ExprAt (expr_place e) (x.at ∷ []) (Dot e x.text)) d ts
+  pub dot_row : (e : Expr) (x : Lexeme) (d : ℕ) (ts : List Deep) → limit.Fit sign.Name x.text → d ≤ limit.most → Found limit LeftHand e d ts → Found limit LeftHand (ExprAt (expr_place e) (x.at ∷ []) (Dot e x.text)) d ts
   unfolding unplaced_exprs expr_tokens
-  dot_row (ExprAt at names form) x d ts le f = left_row LeftHand LeftHand _ _ d ts f (omega arith) (omega arith) (λ first n h p b rest.
+  dot_row (ExprAt at names form) x d ts fit le f = left_row LeftHand LeftHand _ _ d ts f (omega arith) (omega arith) (λ first n h p b rest.
       let m = p b (tok sign.Point (codes ".") n ∷ tok sign.Name x.text n ∷ rest) in
-      made_expr m.tokens (dot m.spells) (append m.written (next (as_fixed refl) (below n d h le) (next as_name (below n d h le) end))) m.begins)
+      made_expr m.tokens (dot m.spells) (append m.written (fixed_next limit refl (below n d h le) (next as_name fit (below n d h le) end))) m.begins)
 
-  pub sub_row : (e i : Expr) (d : ℕ) (ts us : List Deep) → suc d ≤ limit → Found limit LeftHand e d ts → Found limit Whole i (suc d) us → Found limit LeftHand (ExprAt (expr_place e) [] (Sub e i)) d ts
+  pub sub_row : (e i : Expr) (d : ℕ) (ts us : List Deep) → suc d ≤ limit.most → Found limit LeftHand e d ts → Found limit Whole i (suc d) us → Found limit LeftHand (ExprAt (expr_place e) [] (Sub e i)) d ts
   unfolding unplaced_exprs expr_tokens
   sub_row (ExprAt at names form) i d ts us le f g = left_row LeftHand LeftHand _ _ d ts f (omega arith) (omega arith) (λ first n h p b rest.
       let k = later limit Whole i (suc d) us g (suc n) (deeper n d h) false (tok sign.CloseSquare (codes "]") (suc n) ∷ rest) in
       let m = p b (tok sign.OpenSquare (codes "[") (suc n) ∷ k.tokens) in
       made_expr m.tokens (sub m.spells k.spells) (append m.written (marked sign.OpenSquare sign.CloseSquare refl refl (below (suc n) (suc d) (deeper n d h) le) k.written)) m.begins)
 
-  pub call_row : (e : Expr) (xs : Exprs) (d : ℕ) (ts : List Deep) → suc d ≤ limit → Found limit LeftHand e d ts → GoodItems false xs (suc d) → Found limit LeftHand (ExprAt (expr_place e) [] (Call e xs)) d ts
+  pub call_row : (e : Expr) (xs : Exprs) (d : ℕ) (ts : List Deep) → suc d ≤ limit.most → Found limit LeftHand e d ts → GoodItems false xs (suc d) → Found limit LeftHand (ExprAt (expr_place e) [] (Call e xs)) d ts
   unfolding unplaced_exprs expr_tokens
   call_row (ExprAt at names form) xs d ts le f g = left_row LeftHand LeftHand _ _ d ts f (omega arith) (omega arith) (λ first n h p b rest.
       let k = g (suc n) (deeper n d h) (tok sign.Close (codes ")") (suc n) ∷ rest) in
@@ -188,24 +188,24 @@ module _ (limit : ℕ) where
 
   -- ## Operators with one operand
 
-  pub post_row : (o : StepOp) (s : Sign) (e : Expr) (d : ℕ) (ts : List Deep) → step_of s ≡ Some o → d ≤ limit → Found limit LeftHand e d ts → Found limit Unary (ExprAt (expr_place e) [] (Step o e)) d ts
+  pub post_row : (o : StepOp) (s : Sign) (e : Expr) (d : ℕ) (ts : List Deep) → step_of s ≡ Some o → d ≤ limit.most → Found limit LeftHand e d ts → Found limit Unary (ExprAt (expr_place e) [] (Step o e)) d ts
   unfolding unplaced_exprs expr_tokens
   post_row step.PreInc s e d ts is le f = absurd (no_post s step.PreInc is refl)
   post_row step.PreDec s e d ts is le f = absurd (no_post s step.PreDec is refl)
   post_row step.PostInc s (ExprAt at names form) d ts is le f = left_row LeftHand Unary _ _ d ts f (omega arith) (omega arith) (λ first n h p b rest.
       let m = p b (tok sign.PlusPlus (codes "++") n ∷ rest) in
-      made_expr m.tokens (post_step refl m.spells) (append m.written (next (as_fixed refl) (below n d h le) end)) m.begins)
+      made_expr m.tokens (post_step refl m.spells) (append m.written (fixed_next limit refl (below n d h le) end)) m.begins)
   post_row step.PostDec s (ExprAt at names form) d ts is le f = left_row LeftHand Unary _ _ d ts f (omega arith) (omega arith) (λ first n h p b rest.
       let m = p b (tok sign.MinusMinus (codes "--") n ∷ rest) in
-      made_expr m.tokens (post_step refl m.spells) (append m.written (next (as_fixed refl) (below n d h le) end)) m.begins)
+      made_expr m.tokens (post_step refl m.spells) (append m.written (fixed_next limit refl (below n d h le) end)) m.begins)
 
-  prefix_made : (o : Prefix) (s : Sign) (w : List ℕ) (e : Expr) (n : ℕ) (first : Bool) (rest : List Deep) → prefix_of s ≡ Some o → fixed_of s ≡ Some w → opens_other s ≡ false → suc n ≤ limit → Placed limit false Unary e (suc n)
+  prefix_made : (o : Prefix) (s : Sign) (w : List ℕ) (e : Expr) (n : ℕ) (first : Bool) (rest : List Deep) → prefix_of s ≡ Some o → fixed_of s ≡ Some w → opens_other s ≡ false → suc n ≤ limit.most → Placed limit false Unary e (suc n)
       → MakesExpr limit first Unary (ExprAt 0 [] (prefixed o (unplaced_expr e))) n (flat (mark w ∷ expr_tokens false 13 e ∷ [])) rest
   prefix_made o s w e n first rest is fix bare le p =
       let m = p false rest in
-      made_expr (tok s w (suc n) ∷ m.tokens) (before_operand is m.spells) (next (as_fixed fix) le (append m.written end)) (λ _. (bare, refl))
+      made_expr (tok s w (suc n) ∷ m.tokens) (before_operand is m.spells) (fixed_next limit fix le (append m.written end)) (λ _. (bare, refl))
 
-  pub prefix_row : (o : Prefix) (s : Sign) (w : Lexeme) (e : Expr) (d : ℕ) (ts us : List Deep) → prefix_of s ≡ Some o → suc d ≤ limit → Found limit Unary e (suc d) us → Found limit Unary (ExprAt w.at [] (prefixed o e)) d ts
+  pub prefix_row : (o : Prefix) (s : Sign) (w : Lexeme) (e : Expr) (d : ℕ) (ts us : List Deep) → prefix_of s ≡ Some o → suc d ≤ limit.most → Found limit Unary e (suc d) us → Found limit Unary (ExprAt w.at [] (prefixed o e)) d ts
   unfolding unplaced_exprs expr_tokens
   prefix_row (prefixes.Unary un.Delete) s w e d ts us is le f = full_row Unary _ d ts (omega arith) (omega arith) (λ first n h b rest. prefix_made (prefixes.Unary un.Delete) sign.Delete (codes "delete") e n first rest refl refl refl (below (suc n) (suc d) (deeper n d h) le) (later limit Unary e (suc d) us f (suc n) (deeper n d h)))
   prefix_row (prefixes.Unary un.Void) s w e d ts us is le f = full_row Unary _ d ts (omega arith) (omega arith) (λ first n h b rest. prefix_made (prefixes.Unary un.Void) sign.Void (codes "void") e n first rest refl refl refl (below (suc n) (suc d) (deeper n d h) le) (later limit Unary e (suc d) us f (suc n) (deeper n d h)))
@@ -221,15 +221,15 @@ module _ (limit : ℕ) where
 
   -- ## Operators between two operands
 
-  pair_made : (o : Infix) (s : Sign) (w : List ℕ) (a c : Expr) (b first : Bool) (n : ℕ) (rest : List Deep) → infix_of s b ≡ Some o → fixed_of s ≡ Some w → n ≤ limit
+  pair_made : (o : Infix) (s : Sign) (w : List ℕ) (a c : Expr) (b first : Bool) (n : ℕ) (rest : List Deep) → infix_of s b ≡ Some o → fixed_of s ≡ Some w → n ≤ limit.most
       → Placed limit first (Operators b (suc (level_of o))) a n → Placed limit false (Operators b (level_of o)) c n
       → MakesExpr limit first (Operators b (suc (level_of o))) (ExprAt (expr_place (unplaced_expr a)) [] (joined o (unplaced_expr a) (unplaced_expr c))) n (flat (expr_tokens first (asked (Operators b (suc (level_of o)))) a ∷ mark w ∷ expr_tokens false (asked (Operators b (level_of o))) c ∷ [])) rest
   pair_made o s w a c b first n rest is fix le p q =
       let k = q b rest in
       let m = p b (tok s w n ∷ k.tokens) in
-      made_expr m.tokens (between is m.spells k.spells) (append m.written (next (as_fixed fix) le (append k.written end))) m.begins
+      made_expr m.tokens (between is m.spells k.spells) (append m.written (fixed_next limit fix le (append k.written end))) m.begins
 
-  pub pair_row : (c : Bool) (o : Infix) (e g : Expr) (d : ℕ) (ts us : List Deep) → TameForm (joined o e g) → d ≤ limit → Found limit (Operators c (suc (level_of o))) e d ts → Found limit (Operators c (level_of o)) g d us
+  pub pair_row : (c : Bool) (o : Infix) (e g : Expr) (d : ℕ) (ts us : List Deep) → TameForm (joined o e g) → d ≤ limit.most → Found limit (Operators c (suc (level_of o))) e d ts → Found limit (Operators c (level_of o)) g d us
       → Found limit (Operators c (suc (level_of o))) (ExprAt (expr_place e) [] (joined o e g)) d ts
   unfolding unplaced_exprs expr_tokens TameExpr
   pair_row c (infixes.Binary bin.Mul) (ExprAt at names form) g d ts us t le f k = left_row _ _ _ _ d ts f (omega arith) (omega arith) (λ first n h p b rest. pair_made (infixes.Binary bin.Mul) sign.Star _ (ExprAt at names form) g b first n rest refl refl (below n d h le) p (later limit _ g d us k n h))
@@ -258,7 +258,7 @@ module _ (limit : ℕ) where
 
   -- ## Conditions, assignments, commas
 
-  pub choice_row : (x : Bool) (a c e : Expr) (d : ℕ) (ts us vs : List Deep) → suc d ≤ limit → Found limit (Operators x 10) a d ts → Found limit (Assignment x) c (suc d) us → Found limit (Assignment x) e (suc d) vs
+  pub choice_row : (x : Bool) (a c e : Expr) (d : ℕ) (ts us vs : List Deep) → suc d ≤ limit.most → Found limit (Operators x 10) a d ts → Found limit (Assignment x) c (suc d) us → Found limit (Assignment x) e (suc d) vs
       → Found limit (Assignment x) (ExprAt (expr_place a) [] (Cond a c e)) d ts
   unfolding unplaced_exprs expr_tokens
   choice_row x (ExprAt at names form) c e d ts us vs le f g k = left_row (Operators x 10) (Assignment x) _ _ d ts f (omega arith) (omega arith) (λ first n h p b rest.
@@ -266,17 +266,17 @@ module _ (limit : ℕ) where
       let l = later limit (Assignment x) e (suc d) vs k (suc n) (deeper n d h) b rest in
       let j = later limit (Assignment x) c (suc d) us g (suc n) (deeper n d h) b (tok sign.Colon (codes ":") (suc n) ∷ l.tokens) in
       let m = p b (tok sign.Question (codes "?") (suc n) ∷ j.tokens) in
-      made_expr m.tokens (choice m.spells j.spells l.spells) (append m.written (next (as_fixed refl) deep (append j.written (next (as_fixed refl) deep (append l.written end))))) m.begins)
+      made_expr m.tokens (choice m.spells j.spells l.spells) (append m.written (fixed_next limit refl deep (append j.written (fixed_next limit refl deep (append l.written end))))) m.begins)
 
-  assign_made : (o : AssignOp) (s : Sign) (w : List ℕ) (a c : Expr) (b first : Bool) (n : ℕ) (rest : List Deep) → assign_of s ≡ Some o → fixed_of s ≡ Some w → suc n ≤ limit
+  assign_made : (o : AssignOp) (s : Sign) (w : List ℕ) (a c : Expr) (b first : Bool) (n : ℕ) (rest : List Deep) → assign_of s ≡ Some o → fixed_of s ≡ Some w → suc n ≤ limit.most
       → Placed limit first LeftHand a n → Placed limit false (Assignment b) c (suc n)
       → MakesExpr limit first (Assignment b) (ExprAt (expr_place (unplaced_expr a)) [] (Assign o (unplaced_expr a) (unplaced_expr c))) n (flat (expr_tokens first 15 a ∷ mark w ∷ expr_tokens false 2 c ∷ [])) rest
   assign_made o s w a c b first n rest is fix le p q =
       let k = q b rest in
       let m = p b (tok s w (suc n) ∷ k.tokens) in
-      made_expr m.tokens (assign is m.spells k.spells) (append m.written (next (as_fixed fix) le (append k.written end))) m.begins
+      made_expr m.tokens (assign is m.spells k.spells) (append m.written (fixed_next limit fix le (append k.written end))) m.begins
 
-  pub assign_row : (x : Bool) (o : AssignOp) (e g : Expr) (d : ℕ) (ts us : List Deep) → suc d ≤ limit → Found limit LeftHand e d ts → Found limit (Assignment x) g (suc d) us → Found limit (Assignment x) (ExprAt (expr_place e) [] (Assign o e g)) d ts
+  pub assign_row : (x : Bool) (o : AssignOp) (e g : Expr) (d : ℕ) (ts us : List Deep) → suc d ≤ limit.most → Found limit LeftHand e d ts → Found limit (Assignment x) g (suc d) us → Found limit (Assignment x) (ExprAt (expr_place e) [] (Assign o e g)) d ts
   unfolding unplaced_exprs expr_tokens
   assign_row x assigns.Assign (ExprAt at names form) g d ts us le f k = left_row LeftHand (Assignment x) _ _ d ts f (omega arith) (omega arith) (λ first n h p b rest. assign_made assigns.Assign sign.Assign _ (ExprAt at names form) g b first n rest refl refl (below (suc n) (suc d) (deeper n d h) le) p (later limit (Assignment x) g (suc d) us k (suc n) (deeper n d h)))
   assign_row x assigns.Add (ExprAt at names form) g d ts us le f k = left_row LeftHand (Assignment x) _ _ d ts f (omega arith) (omega arith) (λ first n h p b rest. assign_made assigns.Add sign.PlusAssign _ (ExprAt at names form) g b first n rest refl refl (below (suc n) (suc d) (deeper n d h) le) p (later limit (Assignment x) g (suc d) us k (suc n) (deeper n d h)))
@@ -291,9 +291,9 @@ module _ (limit : ℕ) where
   assign_row x assigns.BitOr (ExprAt at names form) g d ts us le f k = left_row LeftHand (Assignment x) _ _ d ts f (omega arith) (omega arith) (λ first n h p b rest. assign_made assigns.BitOr sign.BitOrAssign _ (ExprAt at names form) g b first n rest refl refl (below (suc n) (suc d) (deeper n d h) le) p (later limit (Assignment x) g (suc d) us k (suc n) (deeper n d h)))
   assign_row x assigns.BitXor (ExprAt at names form) g d ts us le f k = left_row LeftHand (Assignment x) _ _ d ts f (omega arith) (omega arith) (λ first n h p b rest. assign_made assigns.BitXor sign.BitXorAssign _ (ExprAt at names form) g b first n rest refl refl (below (suc n) (suc d) (deeper n d h) le) p (later limit (Assignment x) g (suc d) us k (suc n) (deeper n d h)))
 
-  pub comma_row : (e g : Expr) (d : ℕ) (ts us : List Deep) → d ≤ limit → Found limit Whole e d ts → Found limit (Assignment false) g d us → Found limit Whole (ExprAt (expr_place e) [] (Comma e g)) d ts
+  pub comma_row : (e g : Expr) (d : ℕ) (ts us : List Deep) → d ≤ limit.most → Found limit Whole e d ts → Found limit (Assignment false) g d us → Found limit Whole (ExprAt (expr_place e) [] (Comma e g)) d ts
   unfolding unplaced_exprs expr_tokens
   comma_row (ExprAt at names form) g d ts us le f k = left_row Whole Whole _ _ d ts f (omega arith) (omega arith) (λ first n h p b rest.
       let l = later limit (Assignment false) g d us k n h false rest in
       let m = p b (tok sign.Comma (codes ",") n ∷ l.tokens) in
-      made_expr m.tokens (comma m.spells l.spells) (append m.written (next (as_fixed refl) (below n d h le) (append l.written end))) m.begins)
+      made_expr m.tokens (comma m.spells l.spells) (append m.written (fixed_next limit refl (below n d h le) (append l.written end))) m.begins)

@@ -10,7 +10,9 @@ ghost use Rattle.js_grammar.specs.Unplaced.{unplaced_stmts};
 ghost use Rattle.js_print.specs.Tidy.{tidy};
 ghost use Rattle.js_tree.specs.Plain.{Stmts};
 ghost use Rattle.tidy_laws.specs.Laws.{Respells};
+ghost use Rattle.tidy_laws.specs.Proper.{IsProper, IsAny};
 ghost use Rattle.tidy_laws.specs.Tame.{TameStmts};
+ghost use Rattle.tidy_laws.specs.Told.{AreFit};
 
 /// Trees that agree apart from places have one tidied text.
 pub fn one_text()
@@ -19,7 +21,8 @@ pub fn one_text()
 
 /// The tokens of the tidied text spell the same program, apart from places, where neither `new`
 /// nor the operator `in` stands in it; and none is deeper than a limit that other tokens of the
-/// program keep to.
+/// program keep to. Where those have the texts that tokens of a script have, so have these.
 pub fn respells()
-    ensures { (limit : ℕ) (ts : List Deep) (p : Stmts) → IsProgram ts p → Within limit ts → TameStmts p → Respells limit p }
+    ensures spelled { (limit : ℕ) (ts : List Deep) (p : Stmts) → IsProgram ts p → Within limit ts → TameStmts p → Respells limit IsAny p }
+    ensures proper { (limit : ℕ) (ts : List Deep) (p : Stmts) → IsProgram ts p → Within limit ts → AreFit IsProper ts → TameStmts p → Respells limit IsProper p }
 {}

@@ -1,5 +1,5 @@
-use Rattle.tidy_laws.proofs.Law.{respells}
+use Rattle.tidy_laws.proofs.Proper as fitness
 use Rattle.tidy_laws.proofs.respells.Goals as goal
 
 pub returns : goal.returns
-returns c = respells
+returns c = record { spelled = fitness.spelled; proper = fitness.proper }
