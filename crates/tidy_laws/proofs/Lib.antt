@@ -7,3 +7,6 @@ pub mod Statements
 pub mod Law
 pub mod Solid
 pub mod Proper
+pub mod Words
+pub mod Readings
+pub mod Lexing

@@ -1,10 +1,14 @@
 -- What the tidied text of a tree spells.
-use Rattle.std.specs.Prelude.{◌≡◌, ℕ, List, [], ◌∷◌}
+use Rattle.std.specs.Prelude.{◌≡◌, ℕ, List, [], ◌∷◌, ◌++◌, map}
 use Rattle.js_grammar.specs.declared.Sign.{Sign}
 use Rattle.js_grammar.specs.declared.Sign.TheVariants as sign
 use Rattle.js_grammar.specs.Grammar.{Lexeme, Deep, Spells, Statements}
-use Rattle.js_grammar.specs.Unplaced.{unplaced_stmts}
+use Rattle.js_grammar.specs.Unplaced.{spellings, unplaced_stmts}
+use Rattle.js_parser.specs.Signs.{sign_of}
 use Rattle.js_print.specs.Tidy.{stmts_tokens}
+use Rattle.js_tokens.specs.declared.token.Token.{Token as Lexed}
+use Rattle.js_tokens.specs.Lexes.{Lexes}
+use Rattle.js_tokens.specs.Value.{text_of}
 use Rattle.js_tree.specs.Plain.{Stmts}
 use Rattle.tidy_laws.specs.Told.{Written}
 
@@ -16,3 +20,9 @@ pub record Respells (limit : ℕ) (Fit : Sign → List ℕ → Type 0) (p : Stmt
   pub spells : Spells (Statements tree) 0 tokens (((sign.End, finish), 0) ∷ [])
   pub same : unplaced_stmts tree ≡ unplaced_stmts p
   pub written : Written limit Fit (stmts_tokens p) tokens (((sign.End, finish), 0) ∷ [])
+
+-- The bytes are read as the tokens of ts before rest, as the grammar sees them.
+pub record IsReadAs (bytes : List ℕ) (ts rest : List Deep) : Type 0 where
+  pub lexed : List Lexed
+  pub lexes : Lexes bytes lexed
+  pub same : spellings ts ≡ map (λ t. (sign_of bytes t, text_of bytes t)) lexed ++ spellings rest

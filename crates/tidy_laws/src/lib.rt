@@ -3,16 +3,16 @@
 //! The functions do nothing: their contracts are the laws.
 #![tactic(auto)]
 
-ghost use Rattle.std.specs.Prelude.{◌≡◌, ℕ, List};
+ghost use Rattle.std.specs.Prelude.{◌≡◌, ℕ, List, false};
 ghost use Rattle.exact_refusals.specs.Places.{Within};
 ghost use Rattle.js_grammar.specs.Grammar.{Deep, IsProgram};
 ghost use Rattle.js_grammar.specs.Unplaced.{unplaced_stmts};
-ghost use Rattle.js_print.specs.Tidy.{tidy};
+ghost use Rattle.js_print.specs.Tidy.{Tokens, spaced, tidy};
 ghost use Rattle.js_tree.specs.Plain.{Stmts};
-ghost use Rattle.tidy_laws.specs.Laws.{Respells};
+ghost use Rattle.tidy_laws.specs.Laws.{Respells, IsReadAs};
 ghost use Rattle.tidy_laws.specs.Proper.{IsProper, IsAny};
 ghost use Rattle.tidy_laws.specs.Tame.{TameStmts};
-ghost use Rattle.tidy_laws.specs.Told.{AreFit};
+ghost use Rattle.tidy_laws.specs.Told.{AreFit, Written};
 
 /// Trees that agree apart from places have one tidied text.
 pub fn one_text()
@@ -25,4 +25,9 @@ pub fn one_text()
 pub fn respells()
     ensures spelled { (limit : ℕ) (ts : List Deep) (p : Stmts) → IsProgram ts p → Within limit ts → TameStmts p → Respells limit IsAny p }
     ensures proper { (limit : ℕ) (ts : List Deep) (p : Stmts) → IsProgram ts p → Within limit ts → AreFit IsProper ts → TameStmts p → Respells limit IsProper p }
+{}
+
+/// The text of such tokens is read as these tokens.
+pub fn is_read_back()
+    ensures { (limit : ℕ) (words : Tokens) (ts rest : List Deep) → Written limit IsProper words ts rest → IsReadAs (spaced false words) ts rest }
 {}
