@@ -10,7 +10,7 @@ use Rattle.js_grammar.specs.Unplaced.{unplaced_stmts}
 use Rattle.js_tree.specs.Plain.{Expr, Exprs, OptionalExpr, Properties, Decls, Stmt, Stmts, Clauses, Fun, Funs}
 use Rattle.exact_refusals.specs.Places.{Within}
 use Rattle.tidy_laws.specs.Tame.{TameExpr, TameForm, TameExprs, TameOptional, TameProperties, TameDecls, TameStmt, TameStmts, TameClauses, TameFun, TameFuns}
-use Rattle.tidy_laws.specs.Laws.{Respells}
+use Rattle.tidy_laws.specs.Laws.{the_end, Respells}
 use Rattle.tidy_laws.specs.Told.{AreFit, IsFitness}
 use Rattle.tidy_laws.proofs.Again.{stmts_again}
 use Rattle.tidy_laws.proofs.Making.{Bound, tok, Found}
@@ -215,11 +215,10 @@ module _ (limit : Bound) where
   pub respells : (ts : List Deep) (p : Stmts) → IsProgram ts p → Within limit.most ts → AreFit limit.Fit ts → TameStmts p → Respells limit.most limit.Fit p
   respells ts p is w f t =
       let g = goods is.1 t (fine ts w f) in
-      let m = stmts_made limit p 0 g.0 0 (omega arith) (tok sign.End [] 0 ∷ []) in
+      let m = stmts_made limit p 0 g.0 0 (omega arith) the_end in
       record {
         tokens = m.tokens;
         tree = unplaced_stmts p;
-        finish = record { text = []; at = 0 };
         spells = m.spells;
         same = stmts_again p;
         written = m.written;

@@ -10,3 +10,5 @@ pub mod Proper
 pub mod Words
 pub mod Readings
 pub mod Lexing
+pub mod Moving
+pub mod Join

@@ -39,11 +39,11 @@ abbrev pub bare_own : Option Lexeme → Option Lexeme
 bare_own None = None
 bare_own (Some x) = Some (bare x)
 
-zeros_append : (xs ys : List ℕ) → zeros (xs ++ ys) ≡ zeros xs ++ zeros ys
+pub zeros_append : (xs ys : List ℕ) → zeros (xs ++ ys) ≡ zeros xs ++ zeros ys
 zeros_append [] ys = refl
 zeros_append (x ∷ xs) ys = ap (λ zs. 0 ∷ zs) (zeros_append xs ys)
 
-names_append : (xs ys : List Lexeme) → bare_names (xs ++ ys) ≡ bare_names xs ++ bare_names ys
+pub names_append : (xs ys : List Lexeme) → bare_names (xs ++ ys) ≡ bare_names xs ++ bare_names ys
 names_append [] ys = refl
 names_append (x ∷ xs) ys = ap (λ zs. bare x ∷ zs) (names_append xs ys)
 
@@ -63,7 +63,7 @@ own_places_bare : (own : Option Lexeme) (ps : List ℕ) → own_places (bare_own
 own_places_bare None ps = refl
 own_places_bare (Some x) ps = refl
 
-fun_bare : (w : Lexeme) (own : Option Lexeme) (params : List Lexeme) (body : Stmts) (funs : Funs) →
+pub fun_bare : (w : Lexeme) (own : Option Lexeme) (params : List Lexeme) (body : Stmts) (funs : Funs) →
     fun_of (bare w) (bare_own own) (bare_names params) (unplaced_stmts body) (unplaced_funs funs) ≡ unplaced_fun (fun_of w own params body funs)
 unfolding unplaced_exprs
 fun_bare w own params body funs =
