@@ -69,8 +69,8 @@ same_signs place (((s, x), d) ∷ ts) [] e h = absurd (cc e)
 same_signs place (((s, x), d) ∷ ts) ((r, y) ∷ us) e h =
     let l = same_length ts us (ap rest_of e) in
     let at : place (length ts) ≡ y.at = h (length ts) (omega (arith, l)) ∙ here (length ts) (length us) y.at (place_in us (length ts)) l in
-    let first : (s, x.text) ≡ (r, y.text) = ap (first_of (s, x.text)) e in
     let later = same_signs place ts us (ap rest_of e) (λ k lt. h k (omega (arith, lt)) ∙ elsewhere k (length us) y.at (place_in us k) lt) in
+    let first : (s, x.text) ≡ (r, y.text) = ap (first_of (s, x.text)) e in
     λ i. ((first i).0, record { text = (first i).1; at = at i }) ∷ later i
 
 pairs_input : (bytes : List ℕ) (ts : List Lexed) → pairs (input bytes ts) ≡ map (λ t. (sign_of bytes t, text_of bytes t)) ts ++ (sign.End, []) ∷ []

@@ -12,3 +12,4 @@ pub mod Readings
 pub mod Lexing
 pub mod Moving
 pub mod Join
+pub mod Texts

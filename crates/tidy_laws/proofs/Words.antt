@@ -68,7 +68,7 @@ utf8_ascii us e = (us, (scalars_ascii us e, encodes_ascii us e))
 
 -- ## Parts of lists
 
-take_length : (w r : List ℕ) (n : ℕ) → n ≡ length w → take n (w ++ r) ≡ w
+pub take_length : (w r : List ℕ) (n : ℕ) → n ≡ length w → take n (w ++ r) ≡ w
 take_length [] r n e = rw e refl
 take_length (c ∷ w) r zero e = absurd (omega (arith, e))
 take_length (c ∷ w) r (suc n) e = ap (λ l. c ∷ l) (take_length w r n (omega (arith, e)))
@@ -82,7 +82,7 @@ length_append : (w r : List ℕ) → length (w ++ r) ≡ length w + length r
 length_append [] r = omega arith
 length_append (c ∷ w) r = let e = length_append w r in omega (arith, e)
 
-front_append : (w r : List ℕ) → front (w ++ r) r ≡ w
+pub front_append : (w r : List ℕ) → front (w ++ r) r ≡ w
 front_append w r = take_length w r (length (w ++ r) - length r) (let e = length_append w r in omega (arith, e))
 
 pub slice_middle : (pre w post : List ℕ) (from to : ℕ) → from ≡ length pre → to ≡ length pre + length w → slice_range (pre ++ (w ++ post)) from to ≡ w
@@ -124,7 +124,7 @@ letters_found c cs g rest e f =
 pub letters_word : (c : ℕ) (cs : List ℕ) → class_of c ≡ class.Letter → list_all is_part cs ≡ true → is_ascii (c ∷ cs) ≡ true → IsWord (word_kind (is_reserved (c ∷ cs))) (c ∷ cs)
 letters_word c cs e f a = record { token = λ g rest. from_found _ _ _ (letters_found c cs g rest e f); ascii = a }
 
-front_whole : (w : List ℕ) → front w [] ≡ w
+pub front_whole : (w : List ℕ) → front w [] ≡ w
 front_whole w = ap (λ l. front l []) (sym (append-nil w)) ∙ front_append w []
 
 pub name_word : (w : List ℕ) → Spelled kind.Name w [] → IsWord kind.Name w

@@ -4,12 +4,15 @@
 #![tactic(auto)]
 
 ghost use Rattle.std.specs.Prelude.{◌≡◌, ℕ, List, false};
-ghost use Rattle.exact_refusals.specs.Places.{Within};
+ghost use Rattle.exact_refusals.specs.Places.{Within, HasTree};
 ghost use Rattle.js_grammar.specs.Grammar.{Deep, IsProgram};
 ghost use Rattle.js_grammar.specs.Unplaced.{unplaced_stmts};
+ghost use Rattle.js_parser.specs.Signs.{input};
+ghost use Rattle.js_tokens.specs.declared.token.Token.{Token as Lexed};
+ghost use Rattle.js_tokens.specs.Lexes.{Lexes};
 ghost use Rattle.js_print.specs.Tidy.{Tokens, spaced, tidy};
 ghost use Rattle.js_tree.specs.Plain.{Stmts};
-ghost use Rattle.tidy_laws.specs.Laws.{Respells, IsReadAs};
+ghost use Rattle.tidy_laws.specs.Laws.{Respells, IsReadAs, IsTidied};
 ghost use Rattle.tidy_laws.specs.Proper.{IsProper, IsAny};
 ghost use Rattle.tidy_laws.specs.Tame.{TameStmts};
 ghost use Rattle.tidy_laws.specs.Told.{AreFit, Written};
@@ -30,4 +33,10 @@ pub fn respells()
 /// The text of such tokens is read as these tokens.
 pub fn is_read_back()
     ensures { (limit : ℕ) (words : Tokens) (ts rest : List Deep) → Written limit IsProper words ts rest → IsReadAs (spaced false words) ts rest }
+{}
+
+/// The tidied text of a text's program is read as the same program, apart from places, and keeps
+/// to the same limit, where neither `new` nor the operator `in` stands in it.
+pub fn tidied_is_read()
+    ensures { (limit : ℕ) (bytes : List ℕ) (lexed : List Lexed) (p : Stmts) → Lexes bytes lexed → HasTree IsProgram limit (input bytes lexed) p → TameStmts p → IsTidied limit p }
 {}

@@ -1,0 +1,5 @@
+use Rattle.tidy_laws.proofs.Texts.{tidied_text}
+use Rattle.tidy_laws.proofs.tidied_is_read.Goals as goal
+
+pub returns : goal.returns
+returns c = tidied_text
