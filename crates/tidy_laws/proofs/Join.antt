@@ -1,23 +1,24 @@
 -- The tidied text is read as the program that it is the text of.
-use Rattle.std.proofs.Common.{◌≡◌, ℕ, zero, suc, ◌+◌, ◌≤◌, ◌<◌, List, [], ◌∷◌, ◌++◌, length, Bool, true, false, refl, ap, sym, subst, ◌∙◌, arith, map}
+use Rattle.std.proofs.Common.{◌≡◌, ℕ, ◌≤◌, ◌<◌, List, [], ◌∷◌, ◌++◌, length, true, false, refl, ap, sym, ◌∙◌, arith, map}
 use Rattle.std.specs.Prelude.{nat_eq, if◌then◌else◌}
 use Rattle.std.proofs.lemmas.Bool.Decides.{nat_tests}
-use Rattle.exact_refusals.specs.Places.{signs, Within, HasTree}
+use Rattle.exact_refusals.specs.Places.{signs, Within}
 use Rattle.js_grammar.specs.declared.Sign.{Sign}
 use Rattle.js_grammar.specs.declared.Sign.TheVariants as sign
-use Rattle.js_grammar.specs.Grammar.{Lexeme, Token, Deep, IsProgram, Spells, Statements}
+use Rattle.js_grammar.specs.Grammar.{Token, Deep, IsProgram}
 use Rattle.js_grammar.specs.Unplaced.{spellings, unplaced_stmts}
-use Rattle.js_parser.specs.Signs.{sign_of, seen, input}
-use Rattle.js_print.specs.Tidy.{Tokens, stmts_tokens, spaced, tidy}
+use Rattle.js_parser.specs.Signs.{sign_of, input}
+use Rattle.js_print.specs.Tidy.{Tokens, stmts_tokens, tidy}
 use Rattle.js_tokens.specs.declared.token.Token.{Token as Lexed}
 use Rattle.js_tokens.specs.Value.{text_of}
 use Rattle.js_tree.specs.Plain.{Stmts}
-use Rattle.tidy_laws.specs.Laws.{the_end, Respells, IsReadAs, IsTidied}
+use Rattle.tidy_laws.specs.Laws.{the_end, Respells, IsTidied}
 use Rattle.tidy_laws.specs.Proper.{IsProper}
 use Rattle.tidy_laws.specs.Tame.{TameStmts}
 use Rattle.tidy_laws.specs.Told.{Written, end, next, AreFit}
 use Rattle.tidy_laws.proofs.Lexing.{read_back}
 use Rattle.tidy_laws.proofs.Moving.{moved, moves}
+use Rattle.tidy_laws.proofs.Places.{one_text}
 use Rattle.tidy_laws.proofs.Proper.{proper}
 
 -- ## Depths
@@ -101,5 +102,9 @@ tidied limit p r =
       same = a.same ∙ r.same;
     }
 
-pub tidied_is_read : (limit : ℕ) (ts : List Deep) (p : Stmts) → IsProgram ts p → Within limit ts → AreFit IsProper ts → TameStmts p → IsTidied limit p
-tidied_is_read limit ts p is w f t = tidied limit p (proper limit ts p is w f t)
+pub tidied_is_read : (limit : ℕ) (ts : List Deep) (p q : Stmts) → IsProgram ts q → Within limit ts → AreFit IsProper ts → unplaced_stmts q ≡ unplaced_stmts p → TameStmts p → IsTidied limit p
+tidied_is_read limit ts p q is w f e t = tidied limit p (proper limit ts p q is w f e t)
+
+-- tidied once more it is the same
+pub tidied_again : (limit : ℕ) (p : Stmts) (t : IsTidied limit p) → tidy t.tree ≡ tidy p
+tidied_again limit p t = one_text t.tree p t.same

@@ -1,19 +1,17 @@
 -- The tidied tokens of a program spell it, and are no deeper than others that do.
-use Rattle.std.proofs.Common.{◌≡◌, ℕ, suc, ◌≤◌, List, [], ◌∷◌, ◌++◌, Bool, true, false, Option, Some, None, refl, ap, sym, subst, ◌∙◌, arith}
-use Rattle.js_grammar.specs.declared.Sign.{Sign}
-use Rattle.js_grammar.specs.declared.Sign.TheVariants as sign
+use Rattle.std.proofs.Common.{ℕ, suc, ◌≤◌, List, [], ◌∷◌, false, arith}
 use Rattle.js_grammar.specs.declared.Infix.TheVariants as infixes
 use Rattle.js_grammar.specs.declared.Prefix.TheVariants as prefixes
-use Rattle.js_grammar.specs.Grammar.{Lexeme, Deep, Level, Primary, Operand, LeftHand, Unary, Operators, Assignment, Whole, Thing, An, Items, Keys, Maybe, Names, Code, Init, Vars, A, Statements, Block, Cases, Body, Spells, IsProgram}
+use Rattle.js_grammar.specs.Grammar.{Deep, Primary, Operand, LeftHand, Unary, Operators, Assignment, Whole, Thing, An, Items, Keys, Maybe, Names, Code, Init, Vars, A, Statements, Block, Cases, Body, Spells, IsProgram}
 use Rattle.js_grammar.specs.Grammar.Spells.{name, number, string, this, null, true_word, false_word, paren, array, object, unnamed, named, operand, operand_dot, operand_sub, left_hand, dot, sub, call, new_with, new_alone, unary, post_step, before_operand, operators, looser, between, assignment, choice, assign, whole, comma, no_items, first_item, next_item, no_keys, first_key, next_key, nothing, something, no_names, first_name, next_name, code, empty_body, body_statement, body_function, no_statement, next_statement, block, no_init, init, first_var, next_var, variables, only, if_alone, if_else, else_if, while_loop, do_loop, for_vars, for_items, for_in, for_var_in, continue_loop, continue_label, break_loop, break_label, returns, throws, with_object, switch, no_case, next_case, default_case, label, try_catch, try_finally, try_both}
 use Rattle.js_grammar.specs.Unplaced.{unplaced_stmts}
-use Rattle.js_tree.specs.Plain.{Expr, Exprs, OptionalExpr, Properties, Decls, Stmt, Stmts, Clauses, Fun, Funs}
+use Rattle.js_tree.specs.Plain.{Expr, Stmts}
 use Rattle.exact_refusals.specs.Places.{Within}
-use Rattle.tidy_laws.specs.Tame.{TameExpr, TameForm, TameExprs, TameOptional, TameProperties, TameDecls, TameStmt, TameStmts, TameClauses, TameFun, TameFuns}
+use Rattle.tidy_laws.specs.Tame.{TameExpr, TameExprs, TameOptional, TameProperties, TameDecls, TameStmt, TameStmts, TameClauses, TameFun, TameFuns}
 use Rattle.tidy_laws.specs.Laws.{the_end, Respells}
-use Rattle.tidy_laws.specs.Told.{AreFit, IsFitness}
+use Rattle.tidy_laws.specs.Told.{AreFit}
 use Rattle.tidy_laws.proofs.Again.{stmts_again}
-use Rattle.tidy_laws.proofs.Making.{Bound, tok, Found}
+use Rattle.tidy_laws.proofs.Making.{Bound, Found}
 use Rattle.tidy_laws.proofs.Rows.{GoodItems, looser_row, paren_row, name_row, number_row, string_row, this_row, null_row, true_row, false_row, array_row, dot_row, sub_row, call_row, post_row, prefix_row, pair_row, choice_row, assign_row, comma_row}
 use Rattle.tidy_laws.proofs.Parts.{no_items_row, first_item_row, next_item_row, GoodKeys, no_keys_row, first_key_row, next_key_row, object_row, GoodMaybe, nothing_row, something_row, GoodInit, no_init_row, init_row, GoodVars, first_var_row, next_var_row, GoodNames, no_names_row, first_name_row, next_name_row, GoodCode, unnamed_row, named_row, GoodStmt, GoodStmts, GoodFuns, stmts_made, code_row}
 use Rattle.tidy_laws.proofs.Statements.{GoodBlock, GoodHead, if_row, while_row, do_row, for_vars_row, for_items_row, for_in_row, for_var_in_row, continue_row, continue_to_row, break_row, break_to_row, return_row, throw_row, variables_row, only_row, with_row, GoodCases, switch_row, no_case_row, next_case_row, default_case_row, label_row, try_catch_row, try_finally_row, try_both_row}

@@ -1,6 +1,6 @@
 -- The tidied text is read as its tokens.
 use Rattle.std.proofs.Common.{◌≡◌, ℕ, ◌+◌, ◌-◌, List, [], ◌∷◌, ◌++◌, length, Bool, true, false, refl, ap, sym, subst, ◌∙◌, arith, append_assoc, map}
-use Rattle.std.specs.Prelude.{if◌then◌else◌, slice_range}
+use Rattle.std.specs.Prelude.{slice_range}
 use Rattle.js_grammar.specs.declared.Sign.{Sign}
 use Rattle.js_grammar.specs.Grammar.{Lexeme, Deep}
 use Rattle.js_grammar.specs.Unplaced.{spellings}
@@ -8,7 +8,7 @@ use Rattle.js_parser.specs.Signs.{sign_as, sign_of}
 use Rattle.js_print.specs.Tidy.{Tokens, spaced}
 use Rattle.js_tokens.specs.declared.token.Token.{Token as Lexed}
 use Rattle.js_tokens.specs.declared.token.TokenKind.{TokenKind}
-use Rattle.js_tokens.specs.Lexes.{Lexes, Reads, size}
+use Rattle.js_tokens.specs.Lexes.{Reads, size}
 use Rattle.js_tokens.specs.Lexes.Reads.{done, blank, token}
 use Rattle.js_tokens.specs.Value.{text_of, text_between}
 use Rattle.js_tokens.proofs.Fronts.{IsToken}

@@ -13,3 +13,4 @@ pub mod Lexing
 pub mod Moving
 pub mod Join
 pub mod Texts
+pub mod Tamed

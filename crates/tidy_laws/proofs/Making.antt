@@ -1,16 +1,16 @@
 -- How the tidied tokens of the parts of a tree spell it; and expressions where a looser one is asked for.
-use Rattle.std.proofs.Common.{◌≡◌, ℕ, zero, suc, ◌+◌, ◌-◌, ◌≤◌, ◌<◌, List, [], ◌∷◌, ◌++◌, Option, Some, None, Bool, true, false, refl, ap, sym, subst, ◌∙◌, arith}
+use Rattle.std.proofs.Common.{◌≡◌, ℕ, zero, suc, ◌+◌, ◌-◌, ◌≤◌, ◌<◌, List, [], ◌∷◌, ◌++◌, Some, Bool, true, false, refl, ap, sym, subst, ◌∙◌, arith}
 use Rattle.std.specs.Prelude.{codes, if◌then◌else◌, nat_lt, nat_le, ◌&&◌, ◌||◌}
 use Rattle.std.proofs.lemmas.Bool.Decides.{nat_tests}
 use Rattle.js_grammar.specs.declared.Sign.{Sign}
 use Rattle.js_grammar.specs.declared.Sign.TheVariants as sign
-use Rattle.js_grammar.specs.Grammar.{Lexeme, Deep, Level, Primary, Operand, LeftHand, Unary, Operators, Assignment, Whole, Thing, An, Spells}
+use Rattle.js_grammar.specs.Grammar.{Deep, Level, Primary, Operand, LeftHand, Unary, Operators, Assignment, Whole, Thing, An, Spells}
 use Rattle.js_grammar.specs.Grammar.Spells.{operand, left_hand, unary, operators, looser, assignment, whole, paren}
 use Rattle.js_grammar.specs.Tables.{opens_other}
-use Rattle.js_grammar.specs.Unplaced.{unplaced_expr, unplaced_exprs}
-use Rattle.js_print.specs.Tidy.{Tokens, flat, mark, enclosed, is_enclosed, level_of, is_opening, expr_tokens, form_tokens}
+use Rattle.js_grammar.specs.Unplaced.{unplaced_expr}
+use Rattle.js_print.specs.Tidy.{Tokens, enclosed, level_of, is_opening, expr_tokens, form_tokens}
 use Rattle.js_tree.specs.Plain.{Expr, ExprAt, ExprForm}
-use Rattle.tidy_laws.specs.Told.{TokenIs, as_fixed, fixed_of, Written, end, next, IsFitness}
+use Rattle.tidy_laws.specs.Told.{as_fixed, fixed_of, Written, end, next, IsFitness}
 
 -- a limit of depths, and what is asked of texts
 pub record Bound : Type 1 where

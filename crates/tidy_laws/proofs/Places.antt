@@ -1,5 +1,5 @@
 -- The tidied text does not depend on places.
-use Rattle.std.proofs.Common.{◌≡◌, ℕ, List, [], ◌∷◌, ◌++◌, Option, Some, None, Bool, true, false, refl, ap, sym, ◌∙◌}
+use Rattle.std.proofs.Common.{◌≡◌, ℕ, [], ◌∷◌, ◌++◌, Bool, true, false, refl, ap, sym, ◌∙◌}
 use Rattle.std.specs.Prelude.{codes, if◌then◌else◌, nat_lt, ◌&&◌, ◌||◌, ◌+◌, map}
 use Rattle.js_tree.specs.declared.nodes.StepOp.TheVariants as step
 use Rattle.js_tree.specs.Plain.{Expr, ExprAt, ExprForm, Num, Str, Name, Constant, Array, Object, Function, Dot, Sub, Call, New, Step, Unary, Binary, And, Or, Cond, Assign, Comma, Exprs, NoExprs, AndExpr, OptionalExpr, NoExpr, SomeExpr, Properties, NoProperties, AndProperty, Decls, NoDecls, AndDecl, ForInit, DeclsFirst, ExprsFirst, Stmt, StmtAt, StmtForm, Var, Only, If, While, DoWhile, For, ForIn, Continue, Break, Return, Throw, With, Switch, Try, Label, Stmts, NoStmts, AndStmt, OptionalBlock, NoBlock, SomeBlock, Catch, NoCatch, CatchAs, Clauses, NoClauses, AndClause, Fun, FunAt, Funs, NoFuns, AndFun}
@@ -182,6 +182,10 @@ mutual
   funs_same NoFuns = refl
   funs_same (AndFun fs f) = λ i. funs_same fs i ++ fun_same f i
 
--- trees that agree apart from places have one text
+-- trees that agree apart from places have the same tokens
+pub one_spelling : (p q : Stmts) → unplaced_stmts p ≡ unplaced_stmts q → stmts_tokens p ≡ stmts_tokens q
+one_spelling p q same = sym (stmts_same p) ∙ ap stmts_tokens same ∙ stmts_same q
+
+-- and one text
 pub one_text : (p q : Stmts) → unplaced_stmts p ≡ unplaced_stmts q → tidy p ≡ tidy q
-one_text p q same = ap (spaced false) (sym (stmts_same p) ∙ ap stmts_tokens same ∙ stmts_same q)
+one_text p q same = ap (spaced false) (one_spelling p q same)

@@ -1,10 +1,10 @@
 -- Each token of the tidied text as the grammar sees it.
-use Rattle.std.proofs.Common.{◌≡◌, ℕ, ◌+◌, List, [], ◌∷◌, ◌++◌, length, Bool, true, false, Option, Some, None, refl, ap, sym, subst, ◌∙◌, arith}
+use Rattle.std.proofs.Common.{◌≡◌, ℕ, ◌+◌, List, [], ◌++◌, length, Option, Some, None, refl, sym, subst, ◌∙◌}
 use Rattle.std.specs.Prelude.{codes}
 use Rattle.js_grammar.specs.declared.Sign.{Sign}
 use Rattle.js_grammar.specs.declared.Sign.TheVariants as sign
 use Rattle.js_parser.specs.Signs.{sign_as, words, marks}
-use Rattle.js_print.specs.Spelling.{name_bytes, string_bytes}
+use Rattle.js_print.specs.Spelling.{name_bytes}
 use Rattle.js_tokens.specs.declared.token.TokenKind.{TokenKind}
 use Rattle.js_tokens.specs.declared.token.TokenKind.TheVariants as kind
 use Rattle.js_tokens.specs.Words.{is_reserved, reserved_words}
@@ -12,7 +12,7 @@ use Rattle.js_tokens.specs.Lexes.{Spelled}
 use Rattle.js_tokens.specs.Value.{text_between}
 use Rattle.tidy_laws.specs.Proper.{IsProper}
 use Rattle.tidy_laws.specs.Told.{TokenIs, as_name, as_number, as_string, as_fixed, fixed_of}
-use Rattle.tidy_laws.proofs.Words.{IsWord, is_ascii, slice_middle, letters_word, name_word, number_word, string_word, string_text, mark_word, name_stands, number_stands}
+use Rattle.tidy_laws.proofs.Words.{IsWord, slice_middle, letters_word, name_word, number_word, string_word, string_text, mark_word, name_stands, number_stands}
 
 -- these bytes are read as a token of this sign and text
 pub record Reading (w : List ℕ) (s : Sign) (text : List ℕ) : Type 0 where

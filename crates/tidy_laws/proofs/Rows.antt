@@ -1,5 +1,5 @@
 -- Row by row: what is found of expressions.
-use Rattle.std.proofs.Common.{◌≡◌, ℕ, zero, suc, ◌+◌, ◌-◌, ◌≤◌, ◌<◌, List, [], ◌∷◌, ◌++◌, Bool, true, false, Option, Some, None, refl, ap, sym, subst, ◌∙◌, arith, append-nil}
+use Rattle.std.proofs.Common.{◌≡◌, ℕ, suc, ◌≤◌, List, [], ◌∷◌, Bool, true, false, Option, Some, refl, ap, sym, subst, ◌∙◌, arith}
 use Rattle.std.specs.Prelude.{codes}
 use Rattle.js_grammar.specs.declared.Sign.{Sign}
 use Rattle.js_grammar.specs.declared.Sign.TheVariants as sign
@@ -8,7 +8,7 @@ use Rattle.js_grammar.specs.declared.Infix.TheVariants as infixes
 use Rattle.js_grammar.specs.declared.Prefix.{Prefix}
 use Rattle.js_grammar.specs.declared.Prefix.TheVariants as prefixes
 use Rattle.js_grammar.specs.Grammar.{Lexeme, Deep, Level, Primary, LeftHand, Unary, Operators, Assignment, Whole, Thing, An, Items, Spells}
-use Rattle.js_grammar.specs.Grammar.Spells.{name, number, string, this, null, true_word, false_word, paren, array, object, dot, sub, call, post_step, before_operand, between, choice, assign, comma}
+use Rattle.js_grammar.specs.Grammar.Spells.{name, number, string, this, null, true_word, false_word, array, dot, sub, call, post_step, before_operand, between, choice, assign, comma}
 use Rattle.js_grammar.specs.Tables.{infix_of, level_of, joined, prefix_of, prefixed, step_of, assign_of, opens_other}
 use Rattle.js_grammar.specs.Unplaced.{unplaced_expr, unplaced_exprs}
 use Rattle.js_tree.specs.declared.nodes.Word.TheVariants as word
@@ -18,11 +18,11 @@ use Rattle.js_tree.specs.declared.nodes.UnOp.TheVariants as un
 use Rattle.js_tree.specs.declared.nodes.BinOp.TheVariants as bin
 use Rattle.js_tree.specs.declared.nodes.AssignOp.{AssignOp}
 use Rattle.js_tree.specs.declared.nodes.AssignOp.TheVariants as assigns
-use Rattle.js_tree.specs.Plain.{Expr, ExprAt, ExprForm, Num, Str, Name, Constant, Array, Object, Function, Dot, Sub, Call, New, Step, Unary as UnaryForm, Binary, And, Or, Cond, Assign, Comma, Exprs, NoExprs, AndExpr, OptionalExpr, NoExpr, SomeExpr, Properties, NoProperties, AndProperty, Decls, NoDecls, AndDecl, ForInit, DeclsFirst, ExprsFirst, Stmt, StmtAt, StmtForm, Var, Only, If, While, DoWhile, For, ForIn, Continue, Break, Return, Throw, With, Switch, Try, Label, Stmts, NoStmts, AndStmt, OptionalBlock, NoBlock, SomeBlock, Catch, NoCatch, CatchAs, Clauses, NoClauses, AndClause, Fun, FunAt, Funs, NoFuns, AndFun, expr_place}
-use Rattle.js_print.specs.Tidy.{Tokens, flat, mark, enclosed, listed, is_opening, expr_tokens, form_tokens, exprs_tokens}
-use Rattle.tidy_laws.specs.Told.{TokenIs, as_name, as_number, as_string, as_fixed, fixed_of, Written, end, next}
+use Rattle.js_tree.specs.Plain.{Expr, ExprAt, Num, Str, Name, Constant, Array, Dot, Sub, Call, Step, Cond, Assign, Comma, Exprs, expr_place}
+use Rattle.js_print.specs.Tidy.{Tokens, flat, mark, enclosed, listed, expr_tokens, exprs_tokens}
+use Rattle.tidy_laws.specs.Told.{as_name, as_number, as_string, fixed_of, Written, end, next}
 use Rattle.tidy_laws.specs.Tame.{TameExpr, TameForm}
-use Rattle.tidy_laws.proofs.Making.{Bound, tok, append, fixed_next, opens_first, Begun, Makes, Made, MakesExpr, form_of, tightness, own, asked, reach, core, Core, Placed, Found, wrapped, whole_of_primary, later, sooner, begins_with}
+use Rattle.tidy_laws.proofs.Making.{Bound, tok, append, fixed_next, opens_first, Begun, Makes, Made, MakesExpr, form_of, tightness, own, asked, core, Core, Placed, Found, wrapped, whole_of_primary, later, sooner, begins_with}
 
 pub made : {limit : Bound} {thing : Thing} {d : ℕ} {words : Tokens} {rest : List Deep} (ts : List Deep) → Spells thing d ts rest → Written limit.most limit.Fit words ts rest → Makes limit thing d words rest
 made ts s w = record { tokens = ts; spells = s; written = w }

@@ -1,12 +1,12 @@
 -- Names and numbers stand in printed ASCII characters other than the space.
-use Rattle.std.proofs.Common.{◌≡◌, ℕ, ◌<◌, List, [], ◌∷◌, ◌++◌, Bool, true, false, refl, ap, sym, subst, ◌∙◌, arith}
+use Rattle.std.proofs.Common.{◌≡◌, ℕ, List, [], ◌∷◌, Bool, true, refl, ap, ◌∙◌, arith}
 use Rattle.std.specs.Prelude.{nat_lt, nat_le, nat_eq, ◌&&◌, ◌||◌}
 use Rattle.std.specs.List.{list_all}
 use Rattle.std.proofs.lemmas.Bool.{and_parts}
 use Rattle.std.proofs.lemmas.Bool.Decides.{nat_tests}
 use Rattle.js_tokens.specs.declared.class.Class.TheVariants as class
 use Rattle.js_tokens.specs.declared.token.TokenKind.TheVariants as kind
-use Rattle.js_tokens.specs.Characters.{class_of, is_letter, is_digit, is_hex_digit, is_part}
+use Rattle.js_tokens.specs.Characters.{is_letter, is_digit, is_hex_digit, is_part}
 use Rattle.js_tokens.specs.Lexes.{Run, Fraction, Plus, Exponent, Number, Spelled}
 use Rattle.js_tokens.specs.Lexes.Run.{none, more}
 use Rattle.js_tokens.specs.Lexes.Fraction.{no_fraction, fraction}

@@ -1,16 +1,16 @@
 -- What is found of statements.
-use Rattle.std.proofs.Common.{◌≡◌, ℕ, zero, suc, ◌+◌, ◌≤◌, List, [], ◌∷◌, ◌++◌, Bool, true, false, Option, Some, None, refl, ap, sym, subst, ◌∙◌, arith, append-nil, append_assoc, map}
-use Rattle.std.specs.Prelude.{codes, if◌then◌else◌}
+use Rattle.std.proofs.Common.{◌≡◌, ℕ, suc, ◌≤◌, List, [], ◌∷◌, true, false, Some, None, refl, ap, sym, subst, ◌∙◌, arith}
+use Rattle.std.specs.Prelude.{codes}
 use Rattle.js_grammar.specs.declared.Sign.{Sign}
 use Rattle.js_grammar.specs.declared.Sign.TheVariants as sign
-use Rattle.js_grammar.specs.Grammar.{Lexeme, Deep, Level, Primary, LeftHand, Unary, Operators, Assignment, Whole, Thing, An, Items, Keys, Maybe, Names, Code, Init, Vars, A, Statements, Block, Cases, Body, Spells, texts, places, own_text, own_places, fun_of, has_default}
-use Rattle.js_grammar.specs.Grammar.Spells.{object, unnamed, named, no_items, first_item, next_item, no_keys, first_key, next_key, nothing, something, no_names, first_name, next_name, code, empty_body, body_statement, body_function, no_statement, next_statement, block, no_init, init, first_var, next_var, variables, only, if_alone, if_else, else_if, while_loop, do_loop, for_vars, for_items, for_in, for_var_in, continue_loop, continue_label, break_loop, break_label, returns, throws, with_object, switch, no_case, next_case, default_case, label, try_catch, try_finally, try_both}
+use Rattle.js_grammar.specs.Grammar.{Lexeme, Deep, Whole, Thing, An, A, Block, Cases, Spells, has_default}
+use Rattle.js_grammar.specs.Grammar.Spells.{block, variables, only, if_alone, if_else, else_if, while_loop, do_loop, for_vars, for_items, for_in, for_var_in, continue_loop, continue_label, break_loop, break_label, returns, throws, with_object, switch, no_case, next_case, default_case, label, try_catch, try_finally, try_both}
 use Rattle.js_grammar.specs.Tables.{opens_other}
-use Rattle.js_grammar.specs.Unplaced.{zeros, unplaced_expr, unplaced_exprs, unplaced_optional, unplaced_properties, unplaced_decls, unplaced_init, unplaced_stmt, unplaced_stmts, unplaced_clauses, unplaced_fun, unplaced_funs}
-use Rattle.js_tree.specs.Plain.{Expr, ExprAt, Array, Object, Function, Exprs, NoExprs, AndExpr, OptionalExpr, NoExpr, SomeExpr, Properties, NoProperties, AndProperty, Decls, NoDecls, AndDecl, ForInit, DeclsFirst, ExprsFirst, Stmt, StmtAt, StmtForm, Var, Only, If, While, DoWhile, For, ForIn, Continue, Break, Return, Throw, With, Switch, Try, Label, Stmts, NoStmts, AndStmt, OptionalBlock, NoBlock, SomeBlock, Catch, NoCatch, CatchAs, Clauses, NoClauses, AndClause, Fun, FunAt, Funs, NoFuns, AndFun}
-use Rattle.js_print.specs.Tidy.{Tokens, flat, more, mark, name as name_word, enclosed, braced, listed, is_if, label_tokens, else_tokens, expr_tokens, form_tokens, exprs_tokens, properties_tokens, decls_tokens, value_tokens, optional_tokens, init_tokens, stmt_tokens, stmt_form_tokens, stmts_tokens, catch_tokens, last_tokens, clauses_tokens, test_tokens, fun_tokens, funs_tokens}
-use Rattle.tidy_laws.specs.Told.{TokenIs, as_name, as_number, as_string, as_fixed, fixed_of, Written, end, next}
-use Rattle.tidy_laws.proofs.Making.{Bound, tok, append, fixed_next, opens_first, Begun, Makes, Made, MakesExpr, Found, later, begins_with}
+use Rattle.js_grammar.specs.Unplaced.{unplaced_expr, unplaced_exprs, unplaced_stmts, unplaced_clauses}
+use Rattle.js_tree.specs.Plain.{Expr, Exprs, OptionalExpr, NoExpr, SomeExpr, Decls, DeclsFirst, ExprsFirst, Stmt, StmtAt, Var, Only, If, While, DoWhile, For, ForIn, Continue, Break, Return, Throw, With, Switch, Try, Label, Stmts, NoStmts, AndStmt, NoBlock, SomeBlock, NoCatch, CatchAs, Clauses, NoClauses, AndClause}
+use Rattle.js_print.specs.Tidy.{Tokens, flat, mark, enclosed, braced, else_tokens, expr_tokens, stmts_tokens, clauses_tokens}
+use Rattle.tidy_laws.specs.Told.{as_name, Written, end, next}
+use Rattle.tidy_laws.proofs.Making.{Bound, tok, append, fixed_next, Begun, Made, MakesExpr, Found, later, begins_with}
 use Rattle.tidy_laws.proofs.Rows.{made, deeper, below, marked, GoodItems}
 use Rattle.tidy_laws.proofs.Parts.{reworded, default_bare, GoodMaybe, GoodVars, GoodStmt, GoodStmts, stmts_made}
 

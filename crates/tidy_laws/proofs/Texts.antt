@@ -1,26 +1,26 @@
 -- The tokens of a text have proper texts.
-use Rattle.std.proofs.Common.{◌≡◌, ◌≢◌, ℕ, zero, suc, ◌+◌, ◌-◌, ◌*◌, ◌<◌, ◌≤◌, List, [], ◌∷◌, ◌++◌, length, take, drop, Bool, true, false, refl, ap, ◌∙◌, subst, sym, arith, length-append, slice_index_or, encode_utf8, encode_utf8_all, All, map}
-use Rattle.std.specs.Prelude.{◌/◌, ◌%◌, nat_lt, nat_le, ◌&&◌, slice_range, if◌then◌else◌}
+use Rattle.std.proofs.Common.{◌≡◌, ℕ, zero, suc, ◌+◌, ◌-◌, ◌<◌, List, [], ◌∷◌, ◌++◌, length, take, drop, Bool, true, false, refl, ap, ◌∙◌, subst, sym, arith, length-append, encode_utf8, encode_utf8_all, All}
+use Rattle.std.specs.Prelude.{◌/◌, ◌%◌, nat_lt, slice_range}
 use Rattle.std.specs.List.{list_all}
 use Rattle.std.specs.Str.{IsUtf8, bytes_eq, chars, all_scalars}
-use Rattle.std.specs.Char.{len_utf8}
 use Rattle.std.specs.Char.Escape.{encode_utf16}
 use Rattle.std.proofs.Math.Utf8.{scalar}
 use Rattle.std.proofs.lemmas.Bool.{and_parts, cond_both, false≢true}
 use Rattle.std.proofs.lemmas.Bool.Decides.{nat_tests}
-use Rattle.std.proofs.lemmas.Str.{encodes-chars, chars-encodes, scalars-chars, encodes-append, length-encode}
+use Rattle.std.proofs.lemmas.Str.{encodes-chars, scalars-chars, encodes-append, length-encode}
 use Rattle.js_grammar.specs.declared.Sign.{Sign}
 use Rattle.js_grammar.specs.declared.Sign.TheVariants as sign
 use Rattle.exact_refusals.specs.Places.{signs, HasTree}
 use Rattle.js_grammar.specs.Grammar.{Token as Seen, Deep, IsProgram}
+use Rattle.js_grammar.specs.Unplaced.{unplaced_stmts}
 use Rattle.js_parser.specs.Signs.{look_up, words, marks, sign_as, sign_of, input}
 use Rattle.js_parser.proofs.Tokens.{lexes_tokens}
 use Rattle.js_tokens.specs.declared.token.Token.{Token}
 use Rattle.js_tokens.specs.declared.token.TokenKind.{TokenKind}
 use Rattle.js_tokens.specs.declared.token.TokenKind.TheVariants as kind
-use Rattle.js_tokens.specs.Characters.{is_digit, is_hex_digit}
+use Rattle.js_tokens.specs.Characters.{is_hex_digit}
 use Rattle.js_tokens.specs.Words.{is_reserved}
-use Rattle.js_tokens.specs.Says.{StandsFor, between_quotes}
+use Rattle.js_tokens.specs.Says.{StandsFor}
 use Rattle.js_tokens.specs.Says.StandsFor.{nothing, plain, backspace, tab, line_feed, vertical_tab, form_feed, carriage_return, null, two_digits, four_digits, itself}
 use Rattle.js_tokens.specs.Value.{hex_value, text_between, text_of}
 use Rattle.js_tokens.specs.Lexes.{front, Run, Fraction, Plus, Exponent, Number, size, Spelled, Reads, Lexes, IsTokenOf}
@@ -41,7 +41,7 @@ use Rattle.tidy_laws.specs.Proper.{IsProper}
 use Rattle.tidy_laws.specs.Tame.{TameStmts}
 use Rattle.tidy_laws.specs.Told.{AreFit}
 use Rattle.tidy_laws.proofs.Join.{tidied_is_read}
-use Rattle.tidy_laws.proofs.Solid.{solid, both, name_solid, number_solid, solid_ascii}
+use Rattle.tidy_laws.proofs.Solid.{both, name_solid, number_solid, solid_ascii}
 use Rattle.tidy_laws.proofs.Words.{is_ascii, encodes_ascii, front_append, front_whole, take_length, are_units}
 
 -- ## A token without what follows it
@@ -279,5 +279,5 @@ tokens_fit bytes lexed ts l same =
     fit_of ts (subst FitTokens (sym same) (input_fit bytes lexed p))
 
 -- the tidied text of a text's program
-pub tidied_text : (limit : ℕ) (bytes : List ℕ) (lexed : List Token) (p : Stmts) → Lexes bytes lexed → HasTree IsProgram limit (input bytes lexed) p → TameStmts p → IsTidied limit p
-tidied_text limit bytes lexed p l h t = tidied_is_read limit h.tokens p h.spelled h.within (tokens_fit bytes lexed h.tokens l h.same) t
+pub tidied_text : (limit : ℕ) (bytes : List ℕ) (lexed : List Token) (p q : Stmts) → Lexes bytes lexed → HasTree IsProgram limit (input bytes lexed) q → unplaced_stmts q ≡ unplaced_stmts p → TameStmts p → IsTidied limit p
+tidied_text limit bytes lexed p q l h e t = tidied_is_read limit h.tokens p q h.spelled h.within (tokens_fit bytes lexed h.tokens l h.same) e t

@@ -1,11 +1,10 @@
 -- Each token of the tidied text, before a space or the line feed, is read as itself.
-use Rattle.std.proofs.Common.{◌≡◌, ℕ, zero, suc, ◌+◌, ◌-◌, ◌*◌, ◌/◌, ◌%◌, ◌<◌, ◌≤◌, List, [], ◌∷◌, ◌++◌, length, take, drop, Bool, true, false, Option, Some, None, refl, ap, sym, subst, ◌∙◌, arith, append-nil, append_assoc, encode_utf8_all, inl, inr}
-use Rattle.std.specs.Prelude.{codes, if◌then◌else◌, nat_lt, nat_le, nat_eq, ◌&&◌, ◌||◌, slice_range}
+use Rattle.std.proofs.Common.{◌≡◌, ℕ, zero, suc, ◌+◌, ◌-◌, ◌*◌, ◌/◌, ◌%◌, ◌<◌, ◌≤◌, List, [], ◌∷◌, ◌++◌, length, take, drop, Bool, true, false, refl, ap, sym, subst, ◌∙◌, arith, append-nil, append_assoc, encode_utf8_all, inl, inr}
+use Rattle.std.specs.Prelude.{if◌then◌else◌, nat_lt, nat_le, nat_eq, ◌&&◌, ◌||◌, slice_range}
 use Rattle.std.specs.List.{list_all, flat_map}
 use Rattle.std.specs.Str.{IsUtf8, chars, all_scalars}
-use Rattle.std.specs.Char.Escape.{encode_utf16}
 use Rattle.std.proofs.Math.Utf8.{scalar}
-use Rattle.std.proofs.lemmas.Bool.{and_parts, or_cases, eqb-true, cond_both, both_ways, false_from_ne_true, false≢true}
+use Rattle.std.proofs.lemmas.Bool.{and_parts, or_cases, eqb-true, cond_both, both_ways, false_from_ne_true}
 use Rattle.std.proofs.lemmas.Bool.Decides.{nat_tests}
 use Rattle.std.proofs.lemmas.Str.{chars-encodes, encode_ascii}
 use Rattle.std.proofs.str.Utf16.{one_unit}
@@ -13,22 +12,21 @@ use Rattle.js_print.specs.Spelling.{hex_digit, hex_unit, unit_bytes, name_bytes,
 use Rattle.js_tokens.specs.declared.token.TokenKind.{TokenKind}
 use Rattle.js_tokens.specs.declared.token.TokenKind.TheVariants as kind
 use Rattle.js_tokens.specs.declared.class.Class.TheVariants as class
-use Rattle.js_tokens.specs.declared.value.Mode.{Mode}
 use Rattle.js_tokens.specs.declared.value.Mode.TheVariants as mode
 use Rattle.js_tokens.specs.Characters.{class_of, is_letter, is_digit, is_hex_digit, is_line_end, is_part, Begins}
-use Rattle.js_tokens.specs.Words.{is_reserved, is_mark}
+use Rattle.js_tokens.specs.Words.{is_reserved}
 use Rattle.js_tokens.specs.Value.{hex_value, string_value, text_between}
-use Rattle.js_tokens.specs.Lexes.{front, Run, Fraction, Plus, Exponent, Number, Inside, part_of, Close, Backslash, Plain, is_escape, Spelled, IsLongest, IsApart}
+use Rattle.js_tokens.specs.Lexes.{front, Run, Fraction, Plus, Exponent, Number, Inside, part_of, Plain, is_escape, Spelled}
 use Rattle.js_tokens.specs.Lexes.Run.{none, more}
 use Rattle.js_tokens.specs.Lexes.Fraction.{no_fraction, fraction}
 use Rattle.js_tokens.specs.Lexes.Plus.{no_sign, sign}
 use Rattle.js_tokens.specs.Lexes.Exponent.{no_exponent, exponent}
 use Rattle.js_tokens.specs.Lexes.Number.{hexadecimal, decimal, point}
 use Rattle.js_tokens.specs.Lexes.Inside.{close, plain, escape}
-use Rattle.js_tokens.specs.Lexes.Spelled.{name, reserved, number, text, mark}
+use Rattle.js_tokens.specs.Lexes.Spelled.{name, number}
 use Rattle.js_tokens.specs.Scan as scan
 use Rattle.js_tokens.specs.Scan.{after_run, after_number, after_exponent, word_kind, found, found_string}
-use Rattle.js_tokens.proofs.Runs.{Suffix, whole, next, suffix_length, suffix_once, suffix_more, run_suffix, run_longest, run_once, after_run_suffix}
+use Rattle.js_tokens.proofs.Runs.{suffix_once, run_longest, run_once}
 use Rattle.js_tokens.proofs.Numbers.{number_sound, point_sound, number_longest, point_longest, point_digit, number_first, number_suffix}
 use Rattle.js_tokens.proofs.Strings.{inside_found}
 use Rattle.js_tokens.proofs.Longest.{scan_of, scan_at, scan_point, scanned_longest}

@@ -3,7 +3,7 @@ use Rattle.std.specs.Prelude.{◌≡◌, ℕ, List, [], ◌∷◌, ◌++◌, map
 use Rattle.exact_refusals.specs.Places.{HasTree}
 use Rattle.js_grammar.specs.declared.Sign.{Sign}
 use Rattle.js_grammar.specs.declared.Sign.TheVariants as sign
-use Rattle.js_grammar.specs.Grammar.{Lexeme, Deep, Spells, Statements, IsProgram}
+use Rattle.js_grammar.specs.Grammar.{Deep, Spells, Statements, IsProgram}
 use Rattle.js_grammar.specs.Unplaced.{spellings, unplaced_stmts}
 use Rattle.js_parser.specs.Signs.{sign_of, input}
 use Rattle.js_print.specs.Tidy.{stmts_tokens, tidy}

@@ -22,12 +22,13 @@ pub fn one_text()
     ensures { (p q : Stmts) → unplaced_stmts p ≡ unplaced_stmts q → tidy p ≡ tidy q }
 {}
 
-/// The tokens of the tidied text spell the same program, apart from places, where neither `new`
-/// nor the operator `in` stands in it; and none is deeper than a limit that other tokens of the
-/// program keep to. Where those have the texts that tokens of a script have, so have these.
+/// Where neither `new` nor the operator `in` stands in a program, tokens with the bytes of its
+/// tidied text spell it, apart from places, and none is deeper than a limit that other tokens
+/// keep to which spell it so. Where those have the texts that tokens of a script have, so have
+/// these.
 pub fn respells()
-    ensures spelled { (limit : ℕ) (ts : List Deep) (p : Stmts) → IsProgram ts p → Within limit ts → TameStmts p → Respells limit IsAny p }
-    ensures proper { (limit : ℕ) (ts : List Deep) (p : Stmts) → IsProgram ts p → Within limit ts → AreFit IsProper ts → TameStmts p → Respells limit IsProper p }
+    ensures spelled { (limit : ℕ) (ts : List Deep) (p q : Stmts) → IsProgram ts q → Within limit ts → unplaced_stmts q ≡ unplaced_stmts p → TameStmts p → Respells limit IsAny p }
+    ensures proper { (limit : ℕ) (ts : List Deep) (p q : Stmts) → IsProgram ts q → Within limit ts → AreFit IsProper ts → unplaced_stmts q ≡ unplaced_stmts p → TameStmts p → Respells limit IsProper p }
 {}
 
 /// The text of such tokens is read as these tokens.
@@ -35,8 +36,9 @@ pub fn is_read_back()
     ensures { (limit : ℕ) (words : Tokens) (ts rest : List Deep) → Written limit IsProper words ts rest → IsReadAs (spaced false words) ts rest }
 {}
 
-/// The tidied text of a text's program is read as the same program, apart from places, and keeps
-/// to the same limit, where neither `new` nor the operator `in` stands in it.
+/// Where a text spells such a program, apart from places, its tidied text is read as the same
+/// program and is no deeper; and tidied once more it stays as it is.
 pub fn tidied_is_read()
-    ensures { (limit : ℕ) (bytes : List ℕ) (lexed : List Lexed) (p : Stmts) → Lexes bytes lexed → HasTree IsProgram limit (input bytes lexed) p → TameStmts p → IsTidied limit p }
+    ensures read { (limit : ℕ) (bytes : List ℕ) (lexed : List Lexed) (p q : Stmts) → Lexes bytes lexed → HasTree IsProgram limit (input bytes lexed) q → unplaced_stmts q ≡ unplaced_stmts p → TameStmts p → IsTidied limit p }
+    ensures again { (limit : ℕ) (p : Stmts) (t : IsTidied limit p) → tidy t.tree ≡ tidy p }
 {}
