@@ -1,5 +1,5 @@
 -- The tidied text is read as the program that it is the text of.
-use Rattle.std.proofs.Common.{◌≡◌, ℕ, ◌≤◌, ◌<◌, List, [], ◌∷◌, ◌++◌, length, true, false, refl, ap, sym, ◌∙◌, arith, map}
+use Rattle.std.proofs.Common.{◌≡◌, ℕ, ◌≤◌, ◌<◌, List, [], ◌∷◌, ◌++◌, length, true, false, refl, ap, sym, ◌∙◌, arith, map, ◌+◌}
 use Rattle.std.specs.Prelude.{nat_eq, if◌then◌else◌}
 use Rattle.std.proofs.lemmas.Bool.Decides.{nat_tests}
 use Rattle.exact_refusals.specs.Places.{signs, Within}
@@ -15,15 +15,15 @@ use Rattle.js_tree.specs.Plain.{Stmts}
 use Rattle.tidy_laws.specs.Laws.{the_end, Respells, IsTidied}
 use Rattle.tidy_laws.specs.Proper.{IsProper}
 use Rattle.tidy_laws.specs.Tame.{TameStmts}
-use Rattle.tidy_laws.specs.Told.{Written, end, next, AreFit}
+use Rattle.tidy_laws.specs.Told.{UpTo, AnyDepth, Written, end, next, AreFit}
 use Rattle.tidy_laws.proofs.Lexing.{read_back}
 use Rattle.tidy_laws.proofs.Moving.{moved, moves}
 use Rattle.tidy_laws.proofs.Places.{one_text}
-use Rattle.tidy_laws.proofs.Proper.{proper}
+use Rattle.tidy_laws.proofs.Proper.{any_proper, tame_proper}
 
 -- ## Depths
 
-within_written : {limit : ℕ} {Fit : Sign → List ℕ → Type 0} {words : Tokens} {ts rest : List Deep} → Written limit Fit words ts rest → Within limit rest → Within limit ts
+within_written : {limit : ℕ} {Fit : Sign → List ℕ → Type 0} {words : Tokens} {ts rest : List Deep} → Written (UpTo limit) Fit words ts rest → Within limit rest → Within limit ts
 within_written end w = w
 within_written (next t fit le v) w = (le, within_written v w)
 
@@ -83,9 +83,9 @@ pairs_input bytes (t ∷ ts) = ap (λ l. (sign_of bytes t, text_of bytes t) ∷ 
 zero_least : (limit : ℕ) → 0 ≤ limit
 zero_least limit = omega arith
 
-tidied : (limit : ℕ) (p : Stmts) → Respells limit IsProper p → IsTidied limit p
-tidied limit p r =
-    let back = read_back limit (stmts_tokens p) r.tokens the_end r.written in
+tidied : (Allowed : ℕ → Type 0) (limit : ℕ) (p : Stmts) (r : Respells Allowed IsProper p) → Within limit r.tokens → IsTidied limit p
+tidied Allowed limit p r w =
+    let back = read_back Allowed (stmts_tokens p) r.tokens the_end r.written in
     let us = input (tidy p) back.lexed in
     let place = place_in us in
     let a = moves place r.spells in
@@ -96,14 +96,31 @@ tidied limit p r =
       parsed = record {
         tokens = moved place r.tokens;
         same = same_signs place r.tokens us (back.same ∙ sym (pairs_input (tidy p) back.lexed)) (λ k lt. refl);
-        within = within_moved place limit r.tokens (within_written r.written (zero_least limit, tt));
+        within = within_moved place limit r.tokens w;
         spelled = (_, a.spells);
       };
       same = a.same ∙ r.same;
     }
 
-pub tidied_is_read : (limit : ℕ) (ts : List Deep) (p q : Stmts) → IsProgram ts q → Within limit ts → AreFit IsProper ts → unplaced_stmts q ≡ unplaced_stmts p → TameStmts p → IsTidied limit p
-tidied_is_read limit ts p q is w f e t = tidied limit p (proper limit ts p q is w f e t)
+-- some limit that tokens keep to
+depth_sum : List Deep → ℕ
+depth_sum [] = 0
+depth_sum ((t, d) ∷ ts) = d + depth_sum ts
+
+within_sum : (m : ℕ) (ts : List Deep) → depth_sum ts ≤ m → Within m ts
+unfolding depth_sum
+within_sum m [] h = tt
+within_sum m ((t, d) ∷ ts) h = (omega (arith, h), within_sum m ts (omega (arith, h)))
+
+pub any_tidied : (ts : List Deep) (p : Stmts) → IsProgram ts p → AreFit IsProper ts → (limit : ℕ) × IsTidied limit p
+any_tidied ts p is f =
+    let r = any_proper ts p is f in
+    (depth_sum r.tokens, tidied AnyDepth (depth_sum r.tokens) p r (within_sum (depth_sum r.tokens) r.tokens (omega arith)))
+
+pub tame_tidied : (limit : ℕ) (ts : List Deep) (p q : Stmts) → IsProgram ts q → Within limit ts → AreFit IsProper ts → unplaced_stmts q ≡ unplaced_stmts p → TameStmts p → IsTidied limit p
+tame_tidied limit ts p q is w f e t =
+    let r = tame_proper limit ts p q is w f e t in
+    tidied (UpTo limit) limit p r (within_written r.written (zero_least limit, tt))
 
 -- tidied once more it is the same
 pub tidied_again : (limit : ℕ) (p : Stmts) (t : IsTidied limit p) → tidy t.tree ≡ tidy p

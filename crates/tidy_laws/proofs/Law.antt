@@ -1,41 +1,40 @@
 -- The tidied tokens of a program spell it, and are no deeper than others that do.
-use Rattle.std.proofs.Common.{ℕ, suc, ◌≤◌, List, [], ◌∷◌, false, arith}
+use Rattle.std.proofs.Common.{ℕ, suc, List, [], ◌∷◌, false, arith}
 use Rattle.js_grammar.specs.declared.Infix.TheVariants as infixes
 use Rattle.js_grammar.specs.declared.Prefix.TheVariants as prefixes
 use Rattle.js_grammar.specs.Grammar.{Deep, Primary, Operand, LeftHand, Unary, Operators, Assignment, Whole, Thing, An, Items, Keys, Maybe, Names, Code, Init, Vars, A, Statements, Block, Cases, Body, Spells, IsProgram}
 use Rattle.js_grammar.specs.Grammar.Spells.{name, number, string, this, null, true_word, false_word, paren, array, object, unnamed, named, operand, operand_dot, operand_sub, left_hand, dot, sub, call, new_with, new_alone, unary, post_step, before_operand, operators, looser, between, assignment, choice, assign, whole, comma, no_items, first_item, next_item, no_keys, first_key, next_key, nothing, something, no_names, first_name, next_name, code, empty_body, body_statement, body_function, no_statement, next_statement, block, no_init, init, first_var, next_var, variables, only, if_alone, if_else, else_if, while_loop, do_loop, for_vars, for_items, for_in, for_var_in, continue_loop, continue_label, break_loop, break_label, returns, throws, with_object, switch, no_case, next_case, default_case, label, try_catch, try_finally, try_both}
 use Rattle.js_grammar.specs.Unplaced.{unplaced_stmts}
 use Rattle.js_tree.specs.Plain.{Expr, Stmts}
-use Rattle.exact_refusals.specs.Places.{Within}
-use Rattle.tidy_laws.specs.Tame.{TameExpr, TameExprs, TameOptional, TameProperties, TameDecls, TameStmt, TameStmts, TameClauses, TameFun, TameFuns}
+use Rattle.tidy_laws.proofs.Mild.{MildExpr, MildExprs, MildOptional, MildProperties, MildDecls, MildStmt, MildStmts, MildClauses, MildFun, MildFuns}
 use Rattle.tidy_laws.specs.Laws.{the_end, Respells}
 use Rattle.tidy_laws.specs.Told.{AreFit}
 use Rattle.tidy_laws.proofs.Again.{stmts_again}
 use Rattle.tidy_laws.proofs.Making.{Bound, Found}
-use Rattle.tidy_laws.proofs.Rows.{GoodItems, looser_row, paren_row, name_row, number_row, string_row, this_row, null_row, true_row, false_row, array_row, dot_row, sub_row, call_row, post_row, prefix_row, pair_row, choice_row, assign_row, comma_row}
+use Rattle.tidy_laws.proofs.Rows.{GoodItems, looser_row, tighter_row, new_row, paren_row, name_row, number_row, string_row, this_row, null_row, true_row, false_row, array_row, dot_row, sub_row, call_row, post_row, prefix_row, pair_row, choice_row, assign_row, comma_row}
 use Rattle.tidy_laws.proofs.Parts.{no_items_row, first_item_row, next_item_row, GoodKeys, no_keys_row, first_key_row, next_key_row, object_row, GoodMaybe, nothing_row, something_row, GoodInit, no_init_row, init_row, GoodVars, first_var_row, next_var_row, GoodNames, no_names_row, first_name_row, next_name_row, GoodCode, unnamed_row, named_row, GoodStmt, GoodStmts, GoodFuns, stmts_made, code_row}
 use Rattle.tidy_laws.proofs.Statements.{GoodBlock, GoodHead, if_row, while_row, do_row, for_vars_row, for_items_row, for_in_row, for_var_in_row, continue_row, continue_to_row, break_row, break_to_row, return_row, throw_row, variables_row, only_row, with_row, GoodCases, switch_row, no_case_row, next_case_row, default_case_row, label_row, try_catch_row, try_finally_row, try_both_row}
 
--- neither `new` nor the operator `in` stands in it
-abbrev TameThing : Thing → Type 0
-TameThing (An level e) = TameExpr e
-TameThing (Items b xs) = TameExprs xs
-TameThing (Keys ps at) = TameProperties ps
-TameThing (Maybe v) = TameOptional v
-TameThing (Names xs) = Unit {0}
-TameThing (Code w own f) = TameFun f
-TameThing (Init b v) = TameOptional v
-TameThing (Vars b ds) = TameDecls ds
-TameThing (A s) = TameStmt s
-TameThing (Statements ss) = TameStmts ss
-TameThing (Block ss) = TameStmts ss
-TameThing (Cases cs) = TameClauses cs
-TameThing (Body ss fs) = TameStmts ss × TameFuns fs
-
 module _ (limit : Bound) where
+  -- `new` and the operator `in` stand in it only where parentheses may be added freely
+  abbrev MildThing : Thing → Type 0
+  MildThing (An level e) = MildExpr limit.Loose e
+  MildThing (Items b xs) = MildExprs limit.Loose xs
+  MildThing (Keys ps at) = MildProperties limit.Loose ps
+  MildThing (Maybe v) = MildOptional limit.Loose v
+  MildThing (Names xs) = Unit {0}
+  MildThing (Code w own f) = MildFun limit.Loose f
+  MildThing (Init b v) = MildOptional limit.Loose v
+  MildThing (Vars b ds) = MildDecls limit.Loose ds
+  MildThing (A s) = MildStmt limit.Loose s
+  MildThing (Statements ss) = MildStmts limit.Loose ss
+  MildThing (Block ss) = MildStmts limit.Loose ss
+  MildThing (Cases cs) = MildClauses limit.Loose cs
+  MildThing (Body ss fs) = MildStmts limit.Loose ss × MildFuns limit.Loose fs
+
   -- what is found of each thing
   abbrev Good : Thing → ℕ → List Deep → Type 0
-  Good (An Operand e) d ts = Unit {0}
+  Good (An Operand e) d ts = limit.Loose → Found limit Operand e d ts
   Good (An level e) d ts = Found limit level e d ts
   Good (Items b xs) d ts = GoodItems limit b xs d
   Good (Keys ps at) d ts = GoodKeys limit ps at d
@@ -53,18 +52,22 @@ module _ (limit : Bound) where
   -- each token is not too deep, and its text is fit
   abbrev Fine : List Deep → Type 0
   Fine [] = Unit {0}
-  Fine (((s, x), d) ∷ ts) = ((d ≤ limit.most) × limit.Fit s x.text) × Fine ts
+  Fine (((s, x), d) ∷ ts) = (limit.Allowed d × limit.Fit s x.text) × Fine ts
 
-  fine : (ts : List Deep) → Within limit.most ts → AreFit limit.Fit ts → Fine ts
+  abbrev pub AreAllowed : List Deep → Type 0
+  AreAllowed [] = Unit {0}
+  AreAllowed (((s, x), d) ∷ ts) = limit.Allowed d × AreAllowed ts
+
+  fine : (ts : List Deep) → AreAllowed ts → AreFit limit.Fit ts → Fine ts
   fine [] w f = tt
   fine (((s, x), d) ∷ ts) w f = ((w.0, f.0), fine ts w.1 f.1)
 
-  head : (e : Expr) (d : ℕ) (ts : List Deep) → suc d ≤ limit.most → Found limit Whole e (suc d) ts → GoodHead limit e d
+  head : (e : Expr) (d : ℕ) (ts : List Deep) → limit.Allowed (suc d) → Found limit Whole e (suc d) ts → GoodHead limit e d
   head e d ts le f = record { held = ts; room = le; is = f }
 
   -- row by row
-  goods : {thing : Thing} {d : ℕ} {ts rest : List Deep} → Spells thing d ts rest → TameThing thing → Fine ts → Good thing d ts × Fine rest
-  unfolding TameExpr
+  goods : {thing : Thing} {d : ℕ} {ts rest : List Deep} → Spells thing d ts rest → MildThing thing → Fine ts → Good thing d ts × Fine rest
+  unfolding MildExpr
   goods (name {x} {d} {rest}) t w = (name_row limit x d _ (w.0).1 (w.0).0, w.1)
   goods (number {x} {d} {rest}) t w = (number_row limit x d _ (w.0).1 (w.0).0, w.1)
   goods (string {x} {d} {rest}) t w = (string_row limit x d _ (w.0).1 (w.0).0, w.1)
@@ -77,15 +80,25 @@ module _ (limit : Bound) where
   goods (object {p} {ps = ps} {at} {d} {ts} s) t w = let g = goods s t w.1 in (object_row limit p ps at d ts (w.0).0 g.0, (g.1).1)
   goods (unnamed {w = v} {f} {d} {ts} s) t w = let g = goods s t w.1 in (unnamed_row limit v f d ts (w.0).0 g.0, g.1)
   goods (named {w = v} {x} {f} {d} {ts} s) t w = let g = goods s t (w.1).1 in (named_row limit v x f d _ ((w.1).0).1 (w.0).0 g.0, g.1)
-  goods (operand s) t w = let g = goods s t w in (tt, g.1)
-  goods (operand_dot s) t w = let g = goods s t w in (tt, ((g.1).1).1)
-  goods (operand_sub s u) t w = let g = goods s t.0 w in let k = goods u t.1 (g.1).1 in (tt, (k.1).1)
+  goods (operand {e} {d} {ts} s) t w = let g = goods s t w in (λ o. looser_row limit Primary Operand e d ts (omega arith) g.0, g.1)
+  goods (operand_dot {e} {x = x} {d} {ts} s) t w =
+      let g = goods s t w in
+      (λ o. tighter_row limit LeftHand Operand _ d ts o (dot_row limit e x d ts (((g.1).1).0).1 ((g.1).0).0 (looser_row limit Operand LeftHand e d ts (omega arith) (g.0 o))), ((g.1).1).1)
+  goods (operand_sub {e} {i} {d = d} {ts} {us} s u) t w =
+      let g = goods s t.0 w in
+      let k = goods u t.1 (g.1).1 in
+      (λ o. tighter_row limit LeftHand Operand _ d ts o (sub_row limit e i d ts us ((g.1).0).0 (looser_row limit Operand LeftHand e d ts (omega arith) (g.0 o)) k.0), (k.1).1)
   goods (left_hand {e} {d} {ts} s) t w = let g = goods s t w in (looser_row limit Primary LeftHand e d ts (omega arith) g.0, g.1)
   goods (dot {e} {x = x} {d} {ts} s) t w = let g = goods s t w in (dot_row limit e x d ts (((g.1).1).0).1 ((g.1).0).0 g.0, ((g.1).1).1)
   goods (sub {e} {i} {d = d} {ts} {us} s u) t w = let g = goods s t.0 w in let k = goods u t.1 (g.1).1 in (sub_row limit e i d ts us ((g.1).0).0 g.0 k.0, (k.1).1)
   goods (call {f} {xs} {d = d} {ts} {us} s u) t w = let g = goods s t.0 w in let k = goods u t.1 (g.1).1 in (call_row limit f xs d ts ((g.1).0).0 g.0 k.0, (k.1).1)
-  goods (new_with s u) t w = absurd t
-  goods (new_alone s h) t w = absurd t
+  goods (new_with {f} {xs} {w = v} {d = d} {ts} s u) t w =
+      let g = goods s t.1 w.1 in
+      let k = goods u t.2 (g.1).1 in
+      (new_row limit v f xs d _ ts (w.0).0 ((g.1).0).0 (g.0 t.0) k.0, (k.1).1)
+  goods (new_alone {f} {w = v} {d} {ts} s h) t w =
+      let g = goods s t.1 w.1 in
+      (new_row limit v f _ d _ ts (w.0).0 (limit.free t.0 (suc d)) (g.0 t.0) (no_items_row limit false (suc d)), g.1)
   goods (unary {e} {d} {ts} s) t w = let g = goods s t w in (looser_row limit LeftHand Unary e d ts (omega arith) g.0, g.1)
   goods (post_step {e} {s = z} {o = o} {d} {ts} is s) t w = let g = goods s t w in (post_row limit o z e d ts is ((g.1).0).0 g.0, (g.1).1)
   goods (before_operand {e} {s = z} {w = v} {o = prefixes.Unary o} {d} {ts} is s) t w = let g = goods s t w.1 in (prefix_row limit (prefixes.Unary o) z v e d _ ts is (w.0).0 g.0, g.1)
@@ -210,10 +223,10 @@ module _ (limit : Bound) where
       (try_both_row limit v x ss cs fs d ((((g.1).1).1).0).1 g.0 k.0 j.0, j.1)
 
   -- the tidied tokens of a program spell it
-  pub respells : (ts : List Deep) (p : Stmts) → IsProgram ts p → Within limit.most ts → AreFit limit.Fit ts → TameStmts p → Respells limit.most limit.Fit p
+  pub respells : (ts : List Deep) (p : Stmts) → IsProgram ts p → AreAllowed ts → AreFit limit.Fit ts → MildStmts limit.Loose p → Respells limit.Allowed limit.Fit p
   respells ts p is w f t =
       let g = goods is.1 t (fine ts w f) in
-      let m = stmts_made limit p 0 g.0 0 (omega arith) the_end in
+      let m = stmts_made limit p 0 g.0 0 limit.start the_end in
       record {
         tokens = m.tokens;
         tree = unplaced_stmts p;

@@ -26,7 +26,7 @@ after (w ∷ ws) = (true, w ++ spaced true ws, refl)
 token_before : (k : TokenKind) (w : List ℕ) (ws : Tokens) → IsWord k w → IsToken k (w ++ spaced true ws) (spaced true ws)
 token_before k w ws is = let a = after ws in subst (λ l. IsToken k (w ++ l) l) (sym a.2) (is.token a.0 a.1)
 
-text_ascii : {limit : ℕ} {words : Tokens} {ts rest : List Deep} (b : Bool) → Written limit IsProper words ts rest → is_ascii (spaced b words) ≡ true
+text_ascii : {Allowed : ℕ → Type 0} {words : Tokens} {ts rest : List Deep} (b : Bool) → Written Allowed IsProper words ts rest → is_ascii (spaced b words) ≡ true
 text_ascii b end = refl
 text_ascii true (next {bytes = w} t fit le v) = ascii_append w _ (reading t fit).word.ascii (text_ascii true v)
 text_ascii false (next {bytes = w} t fit le v) = ascii_append w _ (reading t fit).word.ascii (text_ascii true v)
@@ -63,7 +63,7 @@ module _ (bytes : List ℕ) where
             λ i. (sign_same i, text_same i) ∷ m.same i;
       }
 
-  all_read : {limit : ℕ} {words : Tokens} {ts rest : List Deep} (b : Bool) (pre : List ℕ) → Written limit IsProper words ts rest → bytes ≡ pre ++ spaced b words → Read (spaced b words) ts rest
+  all_read : {Allowed : ℕ → Type 0} {words : Tokens} {ts rest : List Deep} (b : Bool) (pre : List ℕ) → Written Allowed IsProper words ts rest → bytes ≡ pre ++ spaced b words → Read (spaced b words) ts rest
   all_read b pre end whole = record { lexed = []; reads = blank refl done; same = refl }
   all_read {words = w ∷ ws} true pre (next {s = s} {x = x} {d = d} {ts = ts} {rest = rest} t fit le v) whole =
       let r = reading t fit in
@@ -77,8 +77,8 @@ module _ (bytes : List ℕ) where
       one pre w (spaced true ws) s x d ts rest r whole (ascii_append w _ r.word.ascii (text_ascii true v)) (text_ascii true v) (token_before r.k w ws r.word) m
 
 -- the text of proper tokens is read as these
-pub read_back : (limit : ℕ) (words : Tokens) (ts rest : List Deep) → Written limit IsProper words ts rest → IsReadAs (spaced false words) ts rest
-read_back limit words ts rest w =
+pub read_back : (Allowed : ℕ → Type 0) (words : Tokens) (ts rest : List Deep) → Written Allowed IsProper words ts rest → IsReadAs (spaced false words) ts rest
+read_back Allowed words ts rest w =
     let a = text_ascii false w in
     let bytes = spaced false words in
     let m = all_read bytes false [] w refl in

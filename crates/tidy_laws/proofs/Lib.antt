@@ -1,5 +1,6 @@
 pub mod Places
 pub mod Again
+pub mod Mild
 pub mod Making
 pub mod Rows
 pub mod Parts

@@ -6,27 +6,42 @@ use Rattle.js_grammar.specs.declared.Sign.{Sign}
 use Rattle.js_grammar.specs.declared.Sign.TheVariants as sign
 use Rattle.js_grammar.specs.Grammar.{Deep, Level, Primary, Operand, LeftHand, Unary, Operators, Assignment, Whole, Thing, An, Spells}
 use Rattle.js_grammar.specs.Grammar.Spells.{operand, left_hand, unary, operators, looser, assignment, whole, paren}
-use Rattle.js_grammar.specs.Tables.{opens_other}
+use Rattle.js_grammar.specs.Tables.{is_key, opens_other}
 use Rattle.js_grammar.specs.Unplaced.{unplaced_expr}
 use Rattle.js_print.specs.Tidy.{Tokens, enclosed, level_of, is_opening, expr_tokens, form_tokens}
 use Rattle.js_tree.specs.Plain.{Expr, ExprAt, ExprForm}
-use Rattle.tidy_laws.specs.Told.{as_fixed, fixed_of, Written, end, next, IsFitness}
+use Rattle.tidy_laws.specs.Told.{as_fixed, fixed_of, Written, end, next}
 
--- a limit of depths, and what is asked of texts
+-- What may be asked of texts: reserved words and marks are fit, and a key is fit as a string.
+pub record IsFitness (Fit : Sign → List ℕ → Type 0) : Type 0 where
+  pub fixed : (s : Sign) (bytes : List ℕ) → fixed_of s ≡ Some bytes → Fit s bytes
+  pub keys : (s : Sign) (text : List ℕ) → is_key s text ≡ true → Fit s text → Fit sign.Str text
+
+-- What is allowed: depths of tokens, depths that stand for others, and what is asked of texts. Where it is loose, any depth stands for any other.
 pub record Bound : Type 1 where
-  pub most : ℕ
+  pub Allowed : ℕ → Type 0
+  pub Stands : ℕ → ℕ → Type 0
+  pub Loose : Type 0
   pub Fit : Sign → List ℕ → Type 0
   pub laws : IsFitness Fit
+  pub start : Stands 0 0
+  pub down : (n d : ℕ) → Stands n d → Stands (suc n) (suc d)
+  pub wide : (n d : ℕ) → Stands n d → Stands n (suc d)
+  pub less : (n d : ℕ) → Stands (suc n) d → Stands n d
+  pub allowed : (n d : ℕ) → Stands n d → Allowed d → Allowed n
+  pub flat : (d : ℕ) → Allowed (suc d) → Allowed d
+  pub total : Loose → (n d : ℕ) → Stands n d
+  pub free : Loose → (n : ℕ) → Allowed n
 
 -- a token without a place
 abbrev pub tok : Sign → List ℕ → ℕ → Deep
 tok s text d = ((s, record { text = text; at = 0 }), d)
 
-pub append : {limit : ℕ} {Fit : Sign → List ℕ → Type 0} {a b : Tokens} {ts us rest : List Deep} → Written limit Fit a ts us → Written limit Fit b us rest → Written limit Fit (a ++ b) ts rest
+pub append : {Allowed : ℕ → Type 0} {Fit : Sign → List ℕ → Type 0} {a b : Tokens} {ts us rest : List Deep} → Written Allowed Fit a ts us → Written Allowed Fit b us rest → Written Allowed Fit (a ++ b) ts rest
 append end w = w
 append (next t fit le v) w = next t fit le (append v w)
 
-pub fixed_next : (limit : Bound) {s : Sign} {w : List ℕ} {n : ℕ} {words : Tokens} {ts rest : List Deep} → fixed_of s ≡ Some w → n ≤ limit.most → Written limit.most limit.Fit words ts rest → Written limit.most limit.Fit (w ∷ words) (tok s w n ∷ ts) rest
+pub fixed_next : (limit : Bound) {s : Sign} {w : List ℕ} {n : ℕ} {words : Tokens} {ts rest : List Deep} → fixed_of s ≡ Some w → limit.Allowed n → Written limit.Allowed limit.Fit words ts rest → Written limit.Allowed limit.Fit (w ∷ words) (tok s w n ∷ ts) rest
 fixed_next limit {s} {w} is le v = next (as_fixed is) (limit.laws.fixed s w is) le v
 
 -- the first token begins no statement of its own
@@ -43,7 +58,7 @@ Begun (((s, x), d) ∷ ts) = (opens_other s ≡ false) × (x.at ≡ 0)
 pub record Makes (limit : Bound) (thing : Thing) (d : ℕ) (words : Tokens) (rest : List Deep) : Type 0 where
   pub tokens : List Deep
   pub spells : Spells thing d tokens rest
-  pub written : Written limit.most limit.Fit words tokens rest
+  pub written : Written limit.Allowed limit.Fit words tokens rest
 
 abbrev pub Made : Bound → Thing → ℕ → Tokens → Type 0
 Made limit thing d words = (rest : List Deep) → Makes limit thing d words rest
@@ -52,7 +67,7 @@ Made limit thing d words = (rest : List Deep) → Makes limit thing d words rest
 pub record MakesExpr (limit : Bound) (first : Bool) (level : Level) (e : Expr) (d : ℕ) (words : Tokens) (rest : List Deep) : Type 0 where
   pub tokens : List Deep
   pub spells : Spells (An level e) d tokens rest
-  pub written : Written limit.most limit.Fit words tokens rest
+  pub written : Written limit.Allowed limit.Fit words tokens rest
   pub begins : first ≡ true → Begun tokens
 
 -- ## Levels
@@ -168,6 +183,9 @@ module _ (e : Expr) (d : ℕ) (ts rest : List Deep) where
   climb b (Assignment c) m h s = loose_of b m (nat_le 3 m) (nat_le 2 m) refl refl h s
   climb b Whole m h s = whole_of m (nat_le 3 m) (nat_le 2 m) refl refl s
 
+  pub to_whole : (m : ℕ) → Is (own false m) → Is Whole
+  to_whole m s = whole_of m (nat_le 3 m) (nat_le 2 m) refl refl s
+
 -- ## What is found of an expression
 
 -- the tokens of a form, where `first` says that a statement begins with it
@@ -201,11 +219,10 @@ Placed limit first level e n = (b : Bool) (rest : List Deep) → MakesExpr limit
 
 -- What is found of tokens that spell an expression of a level: its own tidied tokens are not deeper; where parentheses are asked for, there is room for them, and so for those round the function or object with which it begins, if a statement may begin with these tokens.
 pub record Found (limit : Bound) (level : Level) (e : Expr) (d : ℕ) (ts : List Deep) : Type 0 where
-  pub some : 1 ≤ tightness e
-  pub plain : (n : ℕ) → n ≤ d → Core limit false e n
-  pub inner : tightness e < asked level → (suc d ≤ limit.most) × ((n : ℕ) → n ≤ suc d → Core limit false e n)
-  pub opened : (n : ℕ) → n < d → Core limit true e n
-  pub begun : opens_first ts ≡ false → (n : ℕ) → n ≤ d → Core limit true e n
+  pub plain : (n : ℕ) → limit.Stands n d → Core limit false e n
+  pub inner : tightness e < asked level → limit.Allowed (suc d) × ((n : ℕ) → limit.Stands n (suc d) → Core limit false e n)
+  pub opened : (n : ℕ) → limit.Stands (suc n) d → Core limit true e n
+  pub begun : opens_first ts ≡ false → (n : ℕ) → limit.Stands n d → Core limit true e n
 
 -- a found expression stands where its level is asked for
 loosely : (limit : Bound) (first : Bool) (level : Level) (e : Expr) (n : ℕ) → asked level ≤ tightness e → Core limit first e n → (b : Bool) (rest : List Deep) → MakesExpr limit first (reach b level) (unplaced_expr e) n (core first (form_of e)) rest
@@ -218,13 +235,13 @@ loosely limit first level e n h c b rest =
       begins = m.begins;
     }
 
--- a primary is a whole expression
-pub whole_of_primary : (limit : Bound) (first : Bool) (e : Expr) (n : ℕ) (words : Tokens) (rest : List Deep) → MakesExpr limit first Primary e n words rest → MakesExpr limit first Whole e n words rest
-whole_of_primary limit first e n words rest m = record {
-  tokens = m.tokens;
-  spells = climb e n m.tokens rest false Whole 16 (omega arith) m.spells;
-  written = m.written;
-  begins = m.begins;
+-- whatever binds so tight is a whole expression
+pub whole_expr : (limit : Bound) (first : Bool) (m : ℕ) (e : Expr) (n : ℕ) (words : Tokens) (rest : List Deep) → MakesExpr limit first (own false m) e n words rest → MakesExpr limit first Whole e n words rest
+whole_expr limit first m e n words rest k = record {
+  tokens = k.tokens;
+  spells = to_whole e n k.tokens rest m k.spells;
+  written = k.written;
+  begins = k.begins;
 }
 
 sixteen : (level : Level) → asked level ≤ 16
@@ -236,7 +253,7 @@ sixteen (Operators b k) = omega arith
 sixteen (Assignment b) = omega arith
 sixteen Whole = omega arith
 
-pub wrapped : (limit : Bound) (first : Bool) (level : Level) (e : Expr) (n : ℕ) (words : Tokens) → suc n ≤ limit.most → ((rest : List Deep) → MakesExpr limit false Whole e (suc n) words rest) → (b : Bool) (rest : List Deep) → MakesExpr limit first (reach b level) e n (enclosed words) rest
+pub wrapped : (limit : Bound) (first : Bool) (level : Level) (e : Expr) (n : ℕ) (words : Tokens) → limit.Allowed (suc n) → ((rest : List Deep) → MakesExpr limit false Whole e (suc n) words rest) → (b : Bool) (rest : List Deep) → MakesExpr limit first (reach b level) e n (enclosed words) rest
 wrapped limit first level e n words le c b rest =
     let m = c (tok sign.Close (codes ")") (suc n) ∷ rest) in
     let ts = tok sign.Open (codes "(") (suc n) ∷ m.tokens in
@@ -247,31 +264,31 @@ wrapped limit first level e n words le c b rest =
       begins = λ _. (refl, refl);
     }
 
-placed_at : (limit : Bound) (first : Bool) (level : Level) (e : Expr) (n : ℕ) (x : Bool) → nat_lt (tightness e) (asked level) ≡ x → 1 ≤ tightness e
-    → (tightness e < asked level → (suc n ≤ limit.most) × Core limit false e (suc n)) → Core limit first e n
+placed_at : (limit : Bound) (first : Bool) (level : Level) (e : Expr) (n : ℕ) (x : Bool) → nat_lt (tightness e) (asked level) ≡ x
+    → (tightness e < asked level → limit.Allowed (suc n) × Core limit false e (suc n)) → Core limit first e n
     → (b : Bool) (rest : List Deep) → MakesExpr limit first (reach b level) (unplaced_expr e) n (if x then enclosed (core false (form_of e)) else core first (form_of e)) rest
-placed_at limit first level e n true is some inner plain b rest =
+placed_at limit first level e n true is inner plain b rest =
     let h : tightness e < asked level = grind (arith, nat_tests) in
     let i = inner h in
-    wrapped limit first level (unplaced_expr e) n (core false (form_of e)) i.0 (loosely limit false Whole e (suc n) some i.1 false) b rest
-placed_at limit first level e n false is some inner plain b rest =
+    wrapped limit first level (unplaced_expr e) n (core false (form_of e)) i.0 (λ more. whole_expr limit false (tightness e) (unplaced_expr e) (suc n) (core false (form_of e)) more (i.1 false more)) b rest
+placed_at limit first level e n false is inner plain b rest =
     loosely limit first level e n (let h : asked level ≤ tightness e = grind (arith, nat_tests) in h) plain b rest
 
-place : (limit : Bound) (first : Bool) (level : Level) (e : Expr) (n : ℕ) → 1 ≤ tightness e → (tightness e < asked level → (suc n ≤ limit.most) × Core limit false e (suc n)) → Core limit first e n → Placed limit first level e n
-place limit first level (ExprAt at names form) n some inner plain b rest =
+place : (limit : Bound) (first : Bool) (level : Level) (e : Expr) (n : ℕ) → (tightness e < asked level → limit.Allowed (suc n) × Core limit false e (suc n)) → Core limit first e n → Placed limit first level e n
+place limit first level (ExprAt at names form) n inner plain b rest =
     let e = ExprAt at names form in
     subst (λ ws. MakesExpr limit first (reach b level) (unplaced_expr e) n ws rest) (sym (expr_is first (asked level) at names form))
-    (placed_at limit first level e n (nat_lt (level_of form) (asked level)) refl some inner plain b rest)
+    (placed_at limit first level e n (nat_lt (level_of form) (asked level)) refl inner plain b rest)
 
 module _ (limit : Bound) (level : Level) (e : Expr) (d : ℕ) (ts : List Deep) (f : Found limit level e d ts) where
-  room : (n : ℕ) → n ≤ d → tightness e < asked level → (suc n ≤ limit.most) × Core limit false e (suc n)
-  room n h below = let i = f.inner below in (let k : suc d ≤ limit.most = i.0 in omega (arith, k, h), i.1 (suc n) (omega (arith, h)))
+  room : (n : ℕ) → limit.Stands n d → tightness e < asked level → limit.Allowed (suc n) × Core limit false e (suc n)
+  room n h below = let i = f.inner below in (limit.allowed (suc n) (suc d) (limit.down n d h) i.0, i.1 (suc n) (limit.down n d h))
 
-  pub later : (n : ℕ) → n ≤ d → Placed limit false level e n
-  later n h = place limit false level e n f.some (room n h) (f.plain n h)
+  pub later : (n : ℕ) → limit.Stands n d → Placed limit false level e n
+  later n h = place limit false level e n (room n h) (f.plain n h)
 
-  pub sooner : (n : ℕ) → n < d → Placed limit true level e n
-  sooner n h = place limit true level e n f.some (room n (omega (arith, h))) (f.opened n h)
+  pub sooner : (n : ℕ) → limit.Stands (suc n) d → Placed limit true level e n
+  sooner n h = place limit true level e n (room n (limit.less n d h)) (f.opened n h)
 
-  pub begins_with : opens_first ts ≡ false → (n : ℕ) → n ≤ d → Placed limit true level e n
-  begins_with o n h = place limit true level e n f.some (room n h) (f.begun o n h)
+  pub begins_with : opens_first ts ≡ false → (n : ℕ) → limit.Stands n d → Placed limit true level e n
+  begins_with o n h = place limit true level e n (room n h) (f.begun o n h)

@@ -1,5 +1,5 @@
 -- What is found of lists, functions and statements.
-use Rattle.std.proofs.Common.{◌≡◌, ℕ, suc, ◌≤◌, List, [], ◌∷◌, ◌++◌, Bool, true, false, Option, Some, None, refl, ap, sym, subst, ◌∙◌, arith, append-nil, append_assoc, map}
+use Rattle.std.proofs.Common.{◌≡◌, ℕ, suc, List, [], ◌∷◌, ◌++◌, Bool, true, false, Option, Some, None, refl, ap, sym, subst, ◌∙◌, arith, append-nil, append_assoc, map}
 use Rattle.std.specs.Prelude.{codes}
 use Rattle.js_grammar.specs.declared.Sign.TheVariants as sign
 use Rattle.js_grammar.specs.Grammar.{Lexeme, Deep, Primary, Assignment, Whole, Thing, Keys, Maybe, Names, Code, Init, Vars, A, Statements, Body, Spells, texts, places, own_text, own_places, fun_of, has_default}
@@ -9,7 +9,7 @@ use Rattle.js_tree.specs.Plain.{Expr, ExprAt, Object, Function, Exprs, NoExprs, 
 use Rattle.js_print.specs.Tidy.{Tokens, flat, more, mark, name as name_word, listed, label_tokens, expr_tokens, exprs_tokens, properties_tokens, decls_tokens, value_tokens, optional_tokens, stmt_tokens, stmts_tokens, fun_tokens, funs_tokens}
 use Rattle.tidy_laws.specs.Told.{as_name, as_string, Written, end, next}
 use Rattle.tidy_laws.proofs.Making.{Bound, tok, append, fixed_next, Makes, Made, Found, later}
-use Rattle.tidy_laws.proofs.Rows.{made, made_expr, deeper, below, marked, opening_row, GoodItems}
+use Rattle.tidy_laws.proofs.Rows.{made, made_expr, below, marked, opening_row, GoodItems}
 
 -- ## Lists of words
 
@@ -110,7 +110,7 @@ module _ (limit : Bound) where
       let m = later limit (Assignment b) e d ts f n h b rest in
       made m.tokens (first_item m.spells) (append m.written end)
 
-  pub next_item_row : (b : Bool) (xs : Exprs) (x e : Expr) (d : ℕ) (us : List Deep) → d ≤ limit.most → GoodItems limit b (AndExpr xs x) d → Found limit (Assignment b) e d us → GoodItems limit b (AndExpr (AndExpr xs x) e) d
+  pub next_item_row : (b : Bool) (xs : Exprs) (x e : Expr) (d : ℕ) (us : List Deep) → limit.Allowed d → GoodItems limit b (AndExpr xs x) d → Found limit (Assignment b) e d us → GoodItems limit b (AndExpr (AndExpr xs x) e) d
   unfolding unplaced_exprs expr_tokens
   next_item_row b xs x e d us le g f n h rest =
       let k = later limit (Assignment b) e d us f n h b rest in
@@ -121,20 +121,20 @@ module _ (limit : Bound) where
   -- ## Keys
 
   abbrev pub GoodKeys : Properties → List ℕ → ℕ → Type 0
-  GoodKeys ps at d = (n : ℕ) → n ≤ d → Made limit (Keys (unplaced_properties ps) (zeros at)) n (listed (properties_tokens ps))
+  GoodKeys ps at d = (n : ℕ) → limit.Stands n d → Made limit (Keys (unplaced_properties ps) (zeros at)) n (listed (properties_tokens ps))
 
   pub no_keys_row : (d : ℕ) → GoodKeys NoProperties [] d
   unfolding unplaced_exprs expr_tokens
   no_keys_row d n h rest = made rest no_keys end
 
-  pub first_key_row : (x : Lexeme) (e : Expr) (d : ℕ) (ts : List Deep) → limit.Fit sign.Str x.text → d ≤ limit.most → Found limit (Assignment false) e d ts → GoodKeys (AndProperty NoProperties x.text e) (x.at ∷ []) d
+  pub first_key_row : (x : Lexeme) (e : Expr) (d : ℕ) (ts : List Deep) → limit.Fit sign.Str x.text → limit.Allowed d → Found limit (Assignment false) e d ts → GoodKeys (AndProperty NoProperties x.text e) (x.at ∷ []) d
   unfolding unplaced_exprs expr_tokens
   first_key_row x e d ts fit le f n h rest =
       let l = below limit n d h le in
       let m = later limit (Assignment false) e d ts f n h false rest in
       made (tok sign.Str x.text n ∷ tok sign.Colon (codes ":") n ∷ m.tokens) (first_key refl m.spells) (append (next as_string fit l (fixed_next limit refl l (append m.written end))) end)
 
-  pub next_key_row : (ps : Properties) (k : List ℕ) (v : Expr) (at : List ℕ) (x : Lexeme) (e : Expr) (d : ℕ) (us : List Deep) → limit.Fit sign.Str x.text → d ≤ limit.most → GoodKeys (AndProperty ps k v) at d → Found limit (Assignment false) e d us → GoodKeys (AndProperty (AndProperty ps k v) x.text e) (at ++ x.at ∷ []) d
+  pub next_key_row : (ps : Properties) (k : List ℕ) (v : Expr) (at : List ℕ) (x : Lexeme) (e : Expr) (d : ℕ) (us : List Deep) → limit.Fit sign.Str x.text → limit.Allowed d → GoodKeys (AndProperty ps k v) at d → Found limit (Assignment false) e d us → GoodKeys (AndProperty (AndProperty ps k v) x.text e) (at ++ x.at ∷ []) d
   unfolding unplaced_exprs expr_tokens
   next_key_row ps k v at x e d us fit le g f n h rest =
       let l = below limit n d h le in
@@ -144,16 +144,16 @@ module _ (limit : Bound) where
       (made m.tokens (subst (λ zs. Spells (Keys (unplaced_properties (AndProperty (AndProperty ps k v) x.text e)) zs) n m.tokens rest) (sym (zeros_append at (x.at ∷ []))) (next_key m.spells refl j.spells))
       (append m.written (fixed_next limit refl l (append (next as_string fit l (fixed_next limit refl l (append j.written end))) end))))
 
-  pub object_row : (p : Lexeme) (ps : Properties) (at : List ℕ) (d : ℕ) (ts : List Deep) → suc d ≤ limit.most → GoodKeys ps at (suc d) → Found limit Primary (ExprAt p.at at (Object ps)) d (((sign.OpenBrace, p), suc d) ∷ ts)
+  pub object_row : (p : Lexeme) (ps : Properties) (at : List ℕ) (d : ℕ) (ts : List Deep) → limit.Allowed (suc d) → GoodKeys ps at (suc d) → Found limit Primary (ExprAt p.at at (Object ps)) d (((sign.OpenBrace, p), suc d) ∷ ts)
   unfolding unplaced_exprs expr_tokens
-  object_row p ps at d ts le g = opening_row limit _ d _ (λ b. refl) (omega arith) refl refl (omega (arith, le)) (λ n h rest.
-      let m = g (suc n) (deeper n d h) (tok sign.CloseBrace (codes "}") (suc n) ∷ rest) in
-      made_expr (tok sign.OpenBrace (codes "{") (suc n) ∷ m.tokens) (object m.spells) (marked limit sign.OpenBrace sign.CloseBrace refl refl (below limit (suc n) (suc d) (deeper n d h) le) m.written) (λ e. absurd (no_way e)))
+  object_row p ps at d ts le g = opening_row limit _ d _ (λ b. refl) (omega arith) refl refl (limit.flat d le) (λ n h rest.
+      let m = g (suc n) (limit.down n d h) (tok sign.CloseBrace (codes "}") (suc n) ∷ rest) in
+      made_expr (tok sign.OpenBrace (codes "{") (suc n) ∷ m.tokens) (object m.spells) (marked limit sign.OpenBrace sign.CloseBrace refl refl (below limit (suc n) (suc d) (limit.down n d h) le) m.written) (λ e. absurd (no_way e)))
 
   -- ## An expression or nothing; variables
 
   abbrev pub GoodMaybe : OptionalExpr → ℕ → Type 0
-  GoodMaybe v d = (n : ℕ) → n ≤ d → Made limit (Maybe (unplaced_optional v)) n (optional_tokens v)
+  GoodMaybe v d = (n : ℕ) → limit.Stands n d → Made limit (Maybe (unplaced_optional v)) n (optional_tokens v)
 
   pub nothing_row : (d : ℕ) → GoodMaybe NoExpr d
   unfolding unplaced_exprs expr_tokens
@@ -166,28 +166,28 @@ module _ (limit : Bound) where
       made m.tokens (something m.spells) (append m.written end)
 
   abbrev pub GoodInit : Bool → OptionalExpr → ℕ → Type 0
-  GoodInit b v d = (n : ℕ) → n ≤ d → Made limit (Init b (unplaced_optional v)) n (value_tokens v)
+  GoodInit b v d = (n : ℕ) → limit.Stands n d → Made limit (Init b (unplaced_optional v)) n (value_tokens v)
 
   pub no_init_row : (b : Bool) (d : ℕ) → GoodInit b NoExpr d
   unfolding unplaced_exprs expr_tokens
   no_init_row b d n h rest = made rest no_init end
 
-  pub init_row : (b : Bool) (e : Expr) (d : ℕ) (ts : List Deep) → d ≤ limit.most → Found limit (Assignment b) e d ts → GoodInit b (SomeExpr e) d
+  pub init_row : (b : Bool) (e : Expr) (d : ℕ) (ts : List Deep) → limit.Allowed d → Found limit (Assignment b) e d ts → GoodInit b (SomeExpr e) d
   unfolding unplaced_exprs expr_tokens
   init_row b e d ts le f n h rest =
       let m = later limit (Assignment b) e d ts f n h b rest in
       made (tok sign.Assign (codes "=") n ∷ m.tokens) (init m.spells) (fixed_next limit refl (below limit n d h le) (append m.written end))
 
   abbrev pub GoodVars : Bool → Decls → ℕ → Type 0
-  GoodVars b ds d = (n : ℕ) → n ≤ d → Made limit (Vars b (unplaced_decls ds)) n (listed (decls_tokens ds))
+  GoodVars b ds d = (n : ℕ) → limit.Stands n d → Made limit (Vars b (unplaced_decls ds)) n (listed (decls_tokens ds))
 
-  pub first_var_row : (b : Bool) (v : OptionalExpr) (x : Lexeme) (d : ℕ) → limit.Fit sign.Name x.text → d ≤ limit.most → GoodInit b v d → GoodVars b (AndDecl NoDecls x.text x.at v) d
+  pub first_var_row : (b : Bool) (v : OptionalExpr) (x : Lexeme) (d : ℕ) → limit.Fit sign.Name x.text → limit.Allowed d → GoodInit b v d → GoodVars b (AndDecl NoDecls x.text x.at v) d
   unfolding unplaced_exprs expr_tokens
   first_var_row b v x d fit le g n h rest =
       let m = g n h rest in
       made (tok sign.Name x.text n ∷ m.tokens) (first_var m.spells) (append (next as_name fit (below limit n d h le) (append m.written end)) end)
 
-  pub next_var_row : (b : Bool) (ds : Decls) (k : List ℕ) (at : ℕ) (u v : OptionalExpr) (x : Lexeme) (d : ℕ) → limit.Fit sign.Name x.text → d ≤ limit.most → GoodVars b (AndDecl ds k at u) d → GoodInit b v d → GoodVars b (AndDecl (AndDecl ds k at u) x.text x.at v) d
+  pub next_var_row : (b : Bool) (ds : Decls) (k : List ℕ) (at : ℕ) (u v : OptionalExpr) (x : Lexeme) (d : ℕ) → limit.Fit sign.Name x.text → limit.Allowed d → GoodVars b (AndDecl ds k at u) d → GoodInit b v d → GoodVars b (AndDecl (AndDecl ds k at u) x.text x.at v) d
   unfolding unplaced_exprs expr_tokens
   next_var_row b ds k at u v x d fit le g i n h rest =
       let l = below limit n d h le in
@@ -199,15 +199,15 @@ module _ (limit : Bound) where
   -- ## Functions
 
   abbrev pub GoodNames : List Lexeme → ℕ → Type 0
-  GoodNames xs d = (n : ℕ) → n ≤ d → Made limit (Names (bare_names xs)) n (listed (names_words xs))
+  GoodNames xs d = (n : ℕ) → limit.Stands n d → Made limit (Names (bare_names xs)) n (listed (names_words xs))
 
   pub no_names_row : (d : ℕ) → GoodNames [] d
   no_names_row d n h rest = made rest no_names end
 
-  pub first_name_row : (x : Lexeme) (d : ℕ) → limit.Fit sign.Name x.text → d ≤ limit.most → GoodNames (x ∷ []) d
+  pub first_name_row : (x : Lexeme) (d : ℕ) → limit.Fit sign.Name x.text → limit.Allowed d → GoodNames (x ∷ []) d
   first_name_row x d fit le n h rest = made (tok sign.Name x.text n ∷ rest) first_name (next as_name fit (below limit n d h le) end)
 
-  pub next_name_row : (y x : Lexeme) (xs : List Lexeme) (d : ℕ) → limit.Fit sign.Name x.text → d ≤ limit.most → GoodNames (y ∷ xs) d → GoodNames (y ∷ xs ++ x ∷ []) d
+  pub next_name_row : (y x : Lexeme) (xs : List Lexeme) (d : ℕ) → limit.Fit sign.Name x.text → limit.Allowed d → GoodNames (y ∷ xs) d → GoodNames (y ∷ xs ++ x ∷ []) d
   next_name_row y x xs d fit le g n h rest =
       let l = below limit n d h le in
       let m = g n h (tok sign.Comma (codes ",") n ∷ tok sign.Name x.text n ∷ rest) in
@@ -217,29 +217,29 @@ module _ (limit : Bound) where
 
   -- a function from its `(` on, whose words follow its own name
   abbrev pub GoodCode : Option Lexeme → Fun → ℕ → Type 0
-  GoodCode own f d = (words : Tokens) × (fun_tokens f ≡ codes "function" ∷ (label_tokens (own_text own) ++ words)) × ((n : ℕ) → n ≤ d → Made limit (Code function_word (bare_own own) (unplaced_fun f)) n words)
+  GoodCode own f d = (words : Tokens) × (fun_tokens f ≡ codes "function" ∷ (label_tokens (own_text own) ++ words)) × ((n : ℕ) → limit.Stands n d → Made limit (Code function_word (bare_own own) (unplaced_fun f)) n words)
 
-  pub unnamed_row : (w : Lexeme) (f : Fun) (d : ℕ) (ts : List Deep) → d ≤ limit.most → GoodCode None f d → Found limit Primary (ExprAt w.at [] (Function f)) d (((sign.Function, w), d) ∷ ts)
+  pub unnamed_row : (w : Lexeme) (f : Fun) (d : ℕ) (ts : List Deep) → limit.Allowed d → GoodCode None f d → Found limit Primary (ExprAt w.at [] (Function f)) d (((sign.Function, w), d) ∷ ts)
   unfolding unplaced_exprs expr_tokens
   unnamed_row w f d ts le g = opening_row limit _ d _ (λ b. refl) (omega arith) refl refl le (λ n h rest.
       let m = g.2 n h rest in
       made_expr (tok sign.Function (codes "function") n ∷ m.tokens) (unnamed m.spells)
-      (subst (λ ws. Written limit.most limit.Fit ws (tok sign.Function (codes "function") n ∷ m.tokens) rest) (sym (append-nil (fun_tokens f) ∙ g.1)) (fixed_next limit refl (below limit n d h le) m.written))
+      (subst (λ ws. Written limit.Allowed limit.Fit ws (tok sign.Function (codes "function") n ∷ m.tokens) rest) (sym (append-nil (fun_tokens f) ∙ g.1)) (fixed_next limit refl (below limit n d h le) m.written))
       (λ e. absurd (no_way e)))
 
-  pub named_row : (w x : Lexeme) (f : Fun) (d : ℕ) (ts : List Deep) → limit.Fit sign.Name x.text → d ≤ limit.most → GoodCode (Some x) f d → Found limit Primary (ExprAt w.at [] (Function f)) d (((sign.Function, w), d) ∷ ts)
+  pub named_row : (w x : Lexeme) (f : Fun) (d : ℕ) (ts : List Deep) → limit.Fit sign.Name x.text → limit.Allowed d → GoodCode (Some x) f d → Found limit Primary (ExprAt w.at [] (Function f)) d (((sign.Function, w), d) ∷ ts)
   unfolding unplaced_exprs expr_tokens
   named_row w x f d ts fit le g = opening_row limit _ d _ (λ b. refl) (omega arith) refl refl le (λ n h rest.
       let l = below limit n d h le in
       let m = g.2 n h rest in
       made_expr (tok sign.Function (codes "function") n ∷ tok sign.Name x.text n ∷ m.tokens) (named m.spells)
-      (subst (λ ws. Written limit.most limit.Fit ws (tok sign.Function (codes "function") n ∷ tok sign.Name x.text n ∷ m.tokens) rest) (sym (append-nil (fun_tokens f) ∙ g.1)) (fixed_next limit refl l (next as_name fit l m.written)))
+      (subst (λ ws. Written limit.Allowed limit.Fit ws (tok sign.Function (codes "function") n ∷ tok sign.Name x.text n ∷ m.tokens) rest) (sym (append-nil (fun_tokens f) ∙ g.1)) (fixed_next limit refl l (next as_name fit l m.written)))
       (λ e. absurd (no_way e)))
 
   -- ## Statements one after the other
 
   abbrev pub GoodStmt : Stmt → ℕ → Type 0
-  GoodStmt s d = (n : ℕ) → n ≤ d → Made limit (A (unplaced_stmt s)) n (stmt_tokens s)
+  GoodStmt s d = (n : ℕ) → limit.Stands n d → Made limit (A (unplaced_stmt s)) n (stmt_tokens s)
 
   abbrev pub GoodStmts : Stmts → ℕ → Type 0
   GoodStmts NoStmts d = Unit {0}
@@ -249,7 +249,7 @@ module _ (limit : Bound) where
   GoodFuns NoFuns d = Unit {0}
   GoodFuns (AndFun fs f) d = GoodFuns fs d × ((x : Lexeme) × limit.Fit sign.Name x.text × GoodCode (Some x) f d)
 
-  pub stmts_made : (ss : Stmts) (d : ℕ) → GoodStmts ss d → (n : ℕ) → n ≤ d → Made limit (Statements (unplaced_stmts ss)) n (stmts_tokens ss)
+  pub stmts_made : (ss : Stmts) (d : ℕ) → GoodStmts ss d → (n : ℕ) → limit.Stands n d → Made limit (Statements (unplaced_stmts ss)) n (stmts_tokens ss)
   unfolding unplaced_exprs expr_tokens
   stmts_made NoStmts d g n h rest = made rest no_statement end
   stmts_made (AndStmt ss s) d g n h rest =
@@ -257,7 +257,7 @@ module _ (limit : Bound) where
       let m = stmts_made ss d g.0 n h k.tokens in
       made m.tokens (next_statement m.spells k.spells) (append m.written k.written)
 
-  funs_made : (fs : Funs) (d : ℕ) → d ≤ limit.most → GoodFuns fs d → (n : ℕ) → n ≤ d → Made limit (Body NoStmts (unplaced_funs fs)) n (funs_tokens fs)
+  funs_made : (fs : Funs) (d : ℕ) → limit.Allowed d → GoodFuns fs d → (n : ℕ) → limit.Stands n d → Made limit (Body NoStmts (unplaced_funs fs)) n (funs_tokens fs)
   unfolding unplaced_exprs expr_tokens
   funs_made NoFuns d le g n h rest = made rest empty_body end
   funs_made (AndFun fs f) d le g n h rest =
@@ -267,9 +267,9 @@ module _ (limit : Bound) where
       let k = c.2 n h rest in
       let m = funs_made fs d le g.0 n h (tok sign.Function (codes "function") n ∷ tok sign.Name x.text n ∷ k.tokens) in
       made m.tokens (body_function m.spells k.spells)
-      (append m.written (subst (λ ws. Written limit.most limit.Fit ws (tok sign.Function (codes "function") n ∷ tok sign.Name x.text n ∷ k.tokens) rest) (sym c.1) (fixed_next limit refl l (next as_name (g.1).1 l k.written))))
+      (append m.written (subst (λ ws. Written limit.Allowed limit.Fit ws (tok sign.Function (codes "function") n ∷ tok sign.Name x.text n ∷ k.tokens) rest) (sym c.1) (fixed_next limit refl l (next as_name (g.1).1 l k.written))))
 
-  body_made : (ss : Stmts) (fs : Funs) (d : ℕ) → d ≤ limit.most → GoodStmts ss d → GoodFuns fs d → (n : ℕ) → n ≤ d → Made limit (Body (unplaced_stmts ss) (unplaced_funs fs)) n (funs_tokens fs ++ stmts_tokens ss)
+  body_made : (ss : Stmts) (fs : Funs) (d : ℕ) → limit.Allowed d → GoodStmts ss d → GoodFuns fs d → (n : ℕ) → limit.Stands n d → Made limit (Body (unplaced_stmts ss) (unplaced_funs fs)) n (funs_tokens fs ++ stmts_tokens ss)
   unfolding unplaced_exprs expr_tokens
   body_made NoStmts fs d le g k n h rest = reworded _ (sym (append-nil (funs_tokens fs))) (funs_made fs d le k n h rest)
   body_made (AndStmt ss s) fs d le g k n h rest =
@@ -277,18 +277,18 @@ module _ (limit : Bound) where
       let m = body_made ss fs d le g.0 k n h j.tokens in
       reworded _ (append_assoc (funs_tokens fs) (stmts_tokens ss) (stmt_tokens s)) (made m.tokens (body_statement m.spells j.spells) (append m.written j.written))
 
-  pub code_row : (w : Lexeme) (own : Option Lexeme) (params : List Lexeme) (body : Stmts) (funs : Funs) (d : ℕ) → suc d ≤ limit.most → GoodNames params (suc d) → GoodStmts body (suc d) → GoodFuns funs (suc d) → GoodCode own (fun_of w own params body funs) d
+  pub code_row : (w : Lexeme) (own : Option Lexeme) (params : List Lexeme) (body : Stmts) (funs : Funs) (d : ℕ) → limit.Allowed (suc d) → GoodNames params (suc d) → GoodStmts body (suc d) → GoodFuns funs (suc d) → GoodCode own (fun_of w own params body funs) d
   unfolding unplaced_exprs expr_tokens
   code_row w own params body funs d le names g k =
       let words = flat (mark (codes "(") ∷ listed (names_words params) ∷ mark (codes ")") ∷ mark (codes "{") ∷ funs_tokens funs ∷ stmts_tokens body ∷ mark (codes "}") ∷ []) in (
         words,
         refl,
         λ n h rest.
-            let l = below limit (suc n) (suc d) (deeper n d h) le in
-            let j = body_made body funs (suc d) le g k (suc n) (deeper n d h) (tok sign.CloseBrace (codes "}") (suc n) ∷ rest) in
-            let m = names (suc n) (deeper n d h) (tok sign.Close (codes ")") (suc n) ∷ tok sign.OpenBrace (codes "{") (suc n) ∷ j.tokens) in
+            let l = below limit (suc n) (suc d) (limit.down n d h) le in
+            let j = body_made body funs (suc d) le g k (suc n) (limit.down n d h) (tok sign.CloseBrace (codes "}") (suc n) ∷ rest) in
+            let m = names (suc n) (limit.down n d h) (tok sign.Close (codes ")") (suc n) ∷ tok sign.OpenBrace (codes "{") (suc n) ∷ j.tokens) in
             let ts = tok sign.Open (codes "(") (suc n) ∷ m.tokens in
-            let inner = subst (λ ws. Written limit.most limit.Fit ws j.tokens rest) (append_assoc (funs_tokens funs) (stmts_tokens body) (mark (codes "}"))) (append j.written (fixed_next limit refl l end)) in
+            let inner = subst (λ ws. Written limit.Allowed limit.Fit ws j.tokens rest) (append_assoc (funs_tokens funs) (stmts_tokens body) (mark (codes "}"))) (append j.written (fixed_next limit refl l end)) in
             made ts (subst (λ f. Spells (Code function_word (bare_own own) f) n ts rest) (fun_bare w own params body funs) (code m.spells j.spells))
             (fixed_next limit refl l (append m.written (fixed_next limit refl l (fixed_next limit refl l inner)))),
       )

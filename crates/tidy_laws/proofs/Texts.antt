@@ -40,7 +40,7 @@ use Rattle.tidy_laws.specs.Laws.{IsTidied}
 use Rattle.tidy_laws.specs.Proper.{IsProper}
 use Rattle.tidy_laws.specs.Tame.{TameStmts}
 use Rattle.tidy_laws.specs.Told.{AreFit}
-use Rattle.tidy_laws.proofs.Join.{tidied_is_read}
+use Rattle.tidy_laws.proofs.Join.{any_tidied, tame_tidied}
 use Rattle.tidy_laws.proofs.Solid.{both, name_solid, number_solid, solid_ascii}
 use Rattle.tidy_laws.proofs.Words.{is_ascii, encodes_ascii, front_append, front_whole, take_length, are_units}
 
@@ -279,5 +279,8 @@ tokens_fit bytes lexed ts l same =
     fit_of ts (subst FitTokens (sym same) (input_fit bytes lexed p))
 
 -- the tidied text of a text's program
-pub tidied_text : (limit : ℕ) (bytes : List ℕ) (lexed : List Token) (p q : Stmts) → Lexes bytes lexed → HasTree IsProgram limit (input bytes lexed) q → unplaced_stmts q ≡ unplaced_stmts p → TameStmts p → IsTidied limit p
-tidied_text limit bytes lexed p q l h e t = tidied_is_read limit h.tokens p q h.spelled h.within (tokens_fit bytes lexed h.tokens l h.same) e t
+pub any_text : (limit : ℕ) (bytes : List ℕ) (lexed : List Token) (p : Stmts) → Lexes bytes lexed → HasTree IsProgram limit (input bytes lexed) p → (depth : ℕ) × IsTidied depth p
+any_text limit bytes lexed p l h = any_tidied h.tokens p h.spelled (tokens_fit bytes lexed h.tokens l h.same)
+
+pub tame_text : (limit : ℕ) (bytes : List ℕ) (lexed : List Token) (p q : Stmts) → Lexes bytes lexed → HasTree IsProgram limit (input bytes lexed) q → unplaced_stmts q ≡ unplaced_stmts p → TameStmts p → IsTidied limit p
+tame_text limit bytes lexed p q l h e t = tame_tidied limit h.tokens p q h.spelled h.within (tokens_fit bytes lexed h.tokens l h.same) e t

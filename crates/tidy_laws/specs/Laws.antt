@@ -17,13 +17,13 @@ use Rattle.tidy_laws.specs.Told.{Written}
 abbrev pub the_end : List Deep
 the_end = ((sign.End, record { text = []; at = 0 }), 0) ∷ []
 
--- Tokens that have the bytes of the tidied text spell the program, apart from places; none is deeper than the limit, and each has a fit text.
-pub record Respells (limit : ℕ) (Fit : Sign → List ℕ → Type 0) (p : Stmts) : Type 0 where
+-- Tokens that have the bytes of the tidied text spell the program, apart from places; each has an allowed depth and a fit text.
+pub record Respells (Allowed : ℕ → Type 0) (Fit : Sign → List ℕ → Type 0) (p : Stmts) : Type 0 where
   pub tokens : List Deep
   pub tree : Stmts
   pub spells : Spells (Statements tree) 0 tokens the_end
   pub same : unplaced_stmts tree ≡ unplaced_stmts p
-  pub written : Written limit Fit (stmts_tokens p) tokens the_end
+  pub written : Written Allowed Fit (stmts_tokens p) tokens the_end
 
 -- The bytes are read as the tokens of ts before rest, as the grammar sees them.
 pub record IsReadAs (bytes : List ℕ) (ts rest : List Deep) : Type 0 where

@@ -1,9 +1,8 @@
 -- Which bytes the tokens of a tree have in its tidied text.
-use Rattle.std.specs.Prelude.{◌≡◌, ℕ, ◌≤◌, List, [], ◌∷◌, Option, Some, None, true, codes}
+use Rattle.std.specs.Prelude.{◌≡◌, ℕ, ◌≤◌, List, [], ◌∷◌, Option, Some, None, codes}
 use Rattle.js_grammar.specs.declared.Sign.{Sign}
 use Rattle.js_grammar.specs.declared.Sign.TheVariants as sign
 use Rattle.js_grammar.specs.Grammar.{Lexeme, Deep}
-use Rattle.js_grammar.specs.Tables.{is_key}
 use Rattle.js_print.specs.Spelling.{name_bytes, string_bytes}
 use Rattle.js_print.specs.Tidy.{Tokens}
 
@@ -94,17 +93,20 @@ pub data TokenIs : List ℕ → Sign → List ℕ → Type 0 where
   as_string : {text : List ℕ} → TokenIs (string_bytes text) sign.Str text
   as_fixed : {s : Sign} {bytes : List ℕ} → fixed_of s ≡ Some bytes → TokenIs bytes s bytes
 
--- what stands in ts before rest has these bytes, token by token; none of it is deeper than the limit, and each has a fit text
-pub data Written (limit : ℕ) (Fit : Sign → List ℕ → Type 0) : Tokens → List Deep → List Deep → Type 0 where
-  end : {rest : List Deep} → Written limit Fit [] rest rest
-  next : {bytes : List ℕ} {s : Sign} {x : Lexeme} {d : ℕ} {words : Tokens} {ts rest : List Deep} → TokenIs bytes s x.text → Fit s x.text → d ≤ limit → Written limit Fit words ts rest → Written limit Fit (bytes ∷ words) (((s, x), d) ∷ ts) rest
+-- what stands in ts before rest has these bytes, token by token; each has an allowed depth and a fit text
+pub data Written (Allowed : ℕ → Type 0) (Fit : Sign → List ℕ → Type 0) : Tokens → List Deep → List Deep → Type 0 where
+  end : {rest : List Deep} → Written Allowed Fit [] rest rest
+  next : {bytes : List ℕ} {s : Sign} {x : Lexeme} {d : ℕ} {words : Tokens} {ts rest : List Deep} → TokenIs bytes s x.text → Fit s x.text → Allowed d → Written Allowed Fit words ts rest → Written Allowed Fit (bytes ∷ words) (((s, x), d) ∷ ts) rest
+
+-- depths up to a limit
+abbrev pub UpTo : ℕ → ℕ → Type 0
+UpTo limit d = d ≤ limit
+
+-- any depth
+abbrev pub AnyDepth : ℕ → Type 0
+AnyDepth d = Unit {0}
 
 -- every token has a fit text
 abbrev pub AreFit : (Sign → List ℕ → Type 0) → List Deep → Type 0
 AreFit Fit [] = Unit {0}
 AreFit Fit (((s, x), d) ∷ ts) = Fit s x.text × AreFit Fit ts
-
--- What may be asked of texts: reserved words and marks are fit, and a key is fit as a string.
-pub record IsFitness (Fit : Sign → List ℕ → Type 0) : Type 0 where
-  pub fixed : (s : Sign) (bytes : List ℕ) → fixed_of s ≡ Some bytes → Fit s bytes
-  pub keys : (s : Sign) (text : List ℕ) → is_key s text ≡ true → Fit s text → Fit sign.Str text
