@@ -8,7 +8,8 @@ use Rattle.std.proofs.lemmas.Bool.{and_parts, or_cases, eqb-true, cond_both, bot
 use Rattle.std.proofs.lemmas.Bool.Decides.{nat_tests}
 use Rattle.std.proofs.lemmas.Str.{chars-encodes, encode_ascii}
 use Rattle.std.proofs.str.Utf16.{one_unit}
-use Rattle.js_print.specs.Spelling.{hex_digit, hex_unit, unit_bytes, name_bytes, is_escaped, quoted_unit, quoted_units, string_bytes}
+use Rattle.std.specs.Fmt.{digit_glyph}
+use Rattle.js_print.specs.Spelling.{hex_unit, unit_bytes, name_bytes, is_escaped, quoted_unit, quoted_units, string_bytes}
 use Rattle.js_tokens.specs.declared.token.TokenKind.{TokenKind}
 use Rattle.js_tokens.specs.declared.token.TokenKind.TheVariants as kind
 use Rattle.js_tokens.specs.declared.class.Class.TheVariants as class
@@ -202,10 +203,10 @@ number_word w (number n) = record { token = λ g rest. number_token w g rest n; 
 
 -- what a digit of a `\u` escape is
 record IsDigit (d : ℕ) : Type 0 where
-  hex : is_hex_digit (hex_digit d) ≡ true
-  part : part_of 34 (hex_digit d) ≡ Plain
-  value : hex_value (hex_digit d) ≡ d
-  small : nat_lt (hex_digit d) 128 ≡ true
+  hex : is_hex_digit (digit_glyph false d) ≡ true
+  part : part_of 34 (digit_glyph false d) ≡ Plain
+  value : hex_value (digit_glyph false d) ≡ d
+  small : nat_lt (digit_glyph false d) 128 ≡ true
 
 digit : (d : ℕ) → d < 16 → IsDigit d
 digit zero h = record { hex = refl; part = refl; value = refl; small = refl }
@@ -272,7 +273,7 @@ unit_inside before u later rest small i =
     (λ f. plain (plain_part before u e f) i)
     (λ f.
     let d = digits u small in
-    escape refl (four (hex_digit (u / 4096)) (hex_digit (u / 256 % 16)) (hex_digit (u / 16 % 16)) (hex_digit (u % 16)) later d.first.hex d.second.hex d.third.hex d.last.hex) (plain d.first.part (plain d.second.part (plain d.third.part (plain d.last.part i))))))
+    escape refl (four (digit_glyph false (u / 4096)) (digit_glyph false (u / 256 % 16)) (digit_glyph false (u / 16 % 16)) (digit_glyph false (u % 16)) later d.first.hex d.second.hex d.third.hex d.last.hex) (plain d.first.part (plain d.second.part (plain d.third.part (plain d.last.part i))))))
 
 abbrev pub are_units : List ℕ → Bool
 are_units us = list_all (λ u. nat_lt u 65536) us

@@ -79,11 +79,6 @@ is_input s n = node.is_input (look s n)
 abbrev pub is_field : State → ℕ → Bool
 is_field s n = node.is_field (look s n)
 
--- it, or the empty text
-abbrev pub or_empty : Option (List ℕ) → List ℕ
-or_empty None = []
-or_empty (Some t) = t
-
 -- the text nodes of trees in document order, joined
 abbrev pub texts_of : Trees → List ℕ
 texts_of End = []
