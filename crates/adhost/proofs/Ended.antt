@@ -4,7 +4,7 @@ use Rattle.host_io.specs.Files.{FileMap}
 use Rattle.adhost.specs.declared.ending.Status.{Status}
 use Rattle.adhost.specs.declared.ending.Status.TheVariants as status
 use Rattle.adhost.specs.Answer.{ending, Answer, HasAnswer}
-use Rattle.adhost.specs.Ends.{writes, Ends, answered, no_memory, read_fault, write_fault, Fits}
+use Rattle.adhost.specs.Ends.{writes, Ends, answered, no_memory, read_fault, write_fault}
 use Rattle.adhost.proofs.OneAnswer.{answer_once}
 
 -- the answer that was found is the only one
@@ -51,7 +51,3 @@ pub write_calm : (told : Option FileMap) (words : List (List ℕ)) (bytes : List
 write_calm None words bytes refused calm room answer never = answer
 write_calm (Some m) words bytes refused calm room answer never = λ t b also is fits.
     absurd (never (subst (λ x. length x ≤ room) (answer_once words m t (ending refused) b bytes also answer).1 fits))
-
-pub write_fits : (told : Option FileMap) (words : List (List ℕ)) (bytes : List ℕ) (refused : Bool) (room : ℕ) → IfSome told (λ m. Answer words m (ending refused) bytes) → (length bytes ≤ room → ⊥) → IfSome told (λ m. Fits words m room → ⊥)
-write_fits None words bytes refused room answer never = answer
-write_fits (Some m) words bytes refused room answer never = λ fits. never (fits (ending refused) bytes answer)

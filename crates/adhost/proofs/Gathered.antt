@@ -77,12 +77,12 @@ long_behind m limit names ss name file rest none there long = here there long
 long_behind m limit names ss name file rest (more {names = ns} {sources = ts} has others) there long = later has (long_behind m limit ns ts name file rest others there long)
 
 module _ (names : List (String Global)) (i : ℕ) (d : String Global) (name : List ℕ) (within : i < length names) (item : d ≡ get_or names i d) (shown : name ≡ string_bytes d) where
-  pub texts_more : texts (take (i + 1) names) ≡ texts (take i names) ++ name ∷ []
+  texts_more : texts (take (i + 1) names) ≡ texts (take i names) ++ name ∷ []
   texts_more =
       ap texts (take_more names i d within) ∙ map-append string_bytes (take i names) (get_or names i d ∷ [])
       ∙ ap (λ x. texts (take i names) ++ x ∷ []) (sym (shown ∙ ap string_bytes item))
 
-  pub texts_left : texts (drop i names) ≡ name ∷ texts (drop (i + 1) names)
+  texts_left : texts (drop i names) ≡ name ∷ texts (drop (i + 1) names)
   texts_left = ap texts (drop_more names i d within) ∙ ap (λ x. x ∷ texts (drop (i + 1) names)) (sym (shown ∙ ap string_bytes item))
 
   texts_split : texts (take i names) ++ name ∷ texts (drop (i + 1) names) ≡ texts names

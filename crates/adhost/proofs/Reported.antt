@@ -1,18 +1,16 @@
 -- From what the files told to the answer.
-use Rattle.std.proofs.Common.{◌≡◌, ℕ, ◌≤◌, List, [], length, Option, Some, None, IfSome, Result, Ok, Err, IfOk, IfErr, IsErrOf, refl, sym, ap, subst, ◌∙◌, Bool}
+use Rattle.std.proofs.Common.{◌≡◌, ℕ, ◌≤◌, List, [], length, Option, Some, None, IfSome, Result, Ok, Err, IfOk, refl, sym, ap, subst, ◌∙◌, Bool}
 use Rattle.host_io.specs.Files.{FileMap, IsThere}
 use Rattle.manifest_reader.specs.declared.entry.Manifest.{Manifest}
 use Rattle.manifest_reader.specs.Manifest.{ReadsManifest}
-use Rattle.slot_check.specs.Sources.{Source}
-use Rattle.slot_check.specs.Line.{AreSlotLines}
 use Rattle.adhost.specs.declared.ending.Status.{Status}
 use Rattle.adhost.specs.declared.ending.Status.TheVariants as status
 use Rattle.adhost.specs.declared.forms.Asked.{Asked}
 use Rattle.adhost.specs.declared.reading.Stop.{Stop}
 use Rattle.adhost.specs.declared.reports.Report.{Report}
-use Rattle.adhost.specs.Reading.{IsLong, IsReadStop, IsPageStop, ComesThrough, each_read, first_long, AreReadable}
+use Rattle.adhost.specs.Reading.{IsLong, ComesThrough, each_read, first_long, AreReadable}
 use Rattle.adhost.specs.Forms.{IsForm}
-use Rattle.adhost.specs.Page.{file_limit, manifest_limit, AreRead, IsFirstLong, files_named, slots_of, HasManifest}
+use Rattle.adhost.specs.Page.{file_limit, manifest_limit, IsFirstLong, files_named, HasManifest}
 use Rattle.adhost.specs.Answer.{library_asked, manifest_asked, IsText, ending, LibraryAnswer, report, too_large, HasLines, PageAnswer, lines, long_manifest, bad_manifest, long_file, Answer, library, page, unbuilt, usage, HasAnswer}
 use Rattle.adhost.proofs.Asking.{no_library, library_form, page_form}
 use Rattle.adhost.proofs.Gathered.{some_is, there_of, not_long}
@@ -69,10 +67,6 @@ bad_of (Some m) name file there within none = bad_manifest {source = record { na
 pub long_file_of : (told : Option FileMap) (name file : List ℕ) (manifest : Manifest) → IfSome told (λ m. m name ≡ Some file) → length file ≤ manifest_limit → ReadsManifest file manifest → IfSome told (λ m. IsFirstLong m file_limit (files_named manifest)) → IfSome told (λ m. PageAnswer m name status.TooLarge [])
 long_file_of None name file manifest there within reads long = long
 long_file_of (Some m) name file manifest there within reads long = long_file (manifest_of m name file manifest there within reads) long
-
-pub has_lines : (told : Option FileMap) (manifest : Manifest) (names : List (List ℕ)) (sources : List Source) (refused : Bool) (bytes : List ℕ) → names ≡ files_named manifest → IfSome told (λ m. AreRead m file_limit names sources) → AreSlotLines (slots_of manifest sources) refused bytes → IfSome told (λ m. HasLines m manifest refused bytes)
-has_lines None manifest names sources refused bytes same read written = read
-has_lines (Some m) manifest names sources refused bytes same read written = record { sources = sources; read = subst (λ ns. AreRead m file_limit ns sources) same read; lines = written }
 
 -- the file of a library or page that has an answer is there
 library_there : (m : FileMap) (what : Asked) (name : List ℕ) (s : Status) (bytes : List ℕ) → LibraryAnswer m what name s bytes → IsThere (Some m) name
@@ -155,15 +149,3 @@ page_whole told words name (Err e) asked answer = tt
 pub library_whole : (told : Option FileMap) (words : List (List ℕ)) (what : Asked) (name : List ℕ) (r : Result Report Stop) → library_asked words ≡ Some (what, name) → IfOk r (λ t. IfSome told (λ m. LibraryAnswer m what name (ending t.refused) t.bytes.items)) → IfOk r (λ t. IfSome told (λ m. Answer words m (ending t.refused) t.bytes.items))
 library_whole told words what name (Ok t) asked answer = library_answer told words what name (ending t.refused) t.bytes.items asked answer
 library_whole told words what name (Err e) asked answer = tt
-
--- the stops that a page or a library has not
-err_is : (s t : Stop) → ◌≡◌ {A = Result Report Stop} (Err s) (Err t) → s ≡ t
-err_is s t e = cc
-
-pub no_page_stop : {P : Type 0} (r : Result Report Stop) (s : Stop) → (IsPageStop s → ⊥) → IfErr r IsPageStop → IsErrOf r s → P
-no_page_stop (Ok t) s never stops is = cc
-no_page_stop (Err e) s never stops is = absurd (never (subst IsPageStop (err_is e s is) stops))
-
-pub no_read_stop : {P : Type 0} (r : Result Report Stop) (s : Stop) → (IsReadStop s → ⊥) → IfErr r IsReadStop → IsErrOf r s → P
-no_read_stop (Ok t) s never stops is = cc
-no_read_stop (Err e) s never stops is = absurd (never (subst IsReadStop (err_is e s is) stops))
