@@ -6,5 +6,5 @@ pub mod Names
 pub mod Manifests
 pub mod Reported
 pub mod Paged
+pub mod OneAnswer
 pub mod Ended
-mod OneAnswer

@@ -61,17 +61,23 @@ pub data Answer (words : List (List ℕ)) (files : FileMap) : Status → List �
   unbuilt : library_asked words ≡ None → manifest_asked words ≡ None → IsForm words → Answer words files status.Unbuilt []
   usage : (IsForm words → ⊥) → Answer words files status.Usage []
 
+-- there is an answer: each file to which the work comes is there
+pub record HasAnswer (IsAnswer : Status → List ℕ → Type 0) : Type 0 where
+  pub ended : Status
+  pub bytes : List ℕ
+  pub answer : IsAnswer ended bytes
+
 -- the bytes of an answer were appended, and nothing else
 pub record Wrote (IsAnswer : List ℕ → Type 0) (old new : Option (List ℕ)) : Type 0 where
   pub bytes : List ℕ
   pub answer : IsAnswer bytes
   pub appended : new ≡ with_bytes old bytes
 
--- a first part of the bytes of an answer was appended
+-- a first part of the bytes of an answer was appended, which is that of a report
 pub record WrotePart (IsAnswer : Status → List ℕ → Type 0) (old new : Option (List ℕ)) : Type 0 where
-  pub ending : Status
+  pub refused : Bool
   pub bytes : List ℕ
   pub count : ℕ
-  pub answer : IsAnswer ending bytes
+  pub answer : IsAnswer (ending refused) bytes
   pub within : count ≤ length bytes
   pub appended : new ≡ with_bytes old (take count bytes)

@@ -1,14 +1,11 @@
 -- Which statuses a run may end with, and when.
-use Rattle.std.specs.Prelude.{◌≡◌, ℕ, ◌≤◌, List, length, Some, Bool, true, false}
+use Rattle.std.specs.Prelude.{◌≡◌, ℕ, ◌≤◌, List, length, Bool, true, false}
 use Rattle.host_io.specs.Files.{FileMap}
-use Rattle.manifest_reader.specs.declared.entry.Manifest.{Manifest}
-use Rattle.slot_check.specs.Sources.{Source}
 use Rattle.adhost.specs.declared.ending.Status.{Status}
 use Rattle.adhost.specs.declared.ending.Status.TheVariants as status
-use Rattle.adhost.specs.declared.forms.Asked.{Asked}
-use Rattle.adhost.specs.Page.{file_limit, IsRead, AreRead, HasManifest, files_named}
-use Rattle.adhost.specs.Answer.{library_asked, manifest_asked, Answer}
+use Rattle.adhost.specs.Answer.{Answer}
 
+-- the exit status of the program
 abbrev pub number_of : Status → ℕ
 number_of status.Ok = 0
 number_of status.Refused = 1
@@ -34,31 +31,12 @@ writes status.Refused = true
 writes status.WriteFault = true
 writes _ = false
 
--- a report or want of memory, or a fault where it may be
-abbrev pub Ends : (read write : Type 0) → Status → Type 0
-Ends read write status.Ok = Unit {0}
-Ends read write status.Refused = Unit {0}
-Ends read write status.Memory = Unit {0}
-Ends read write status.ReadFault = read
-Ends read write status.WriteFault = write
-Ends read write _ = ⊥
-
--- the file of a library is there and within its limit
-pub record HasLibrary (files : FileMap) (name : List ℕ) : Type 0 where
-  pub source : Source
-  pub read : IsRead files file_limit name source
-
--- the file of a name is a manifest within its limit, and the files that it names are there within theirs
-pub record HasPage (files : FileMap) (name : List ℕ) : Type 0 where
-  pub manifest : Manifest
-  pub sources : List Source
-  pub has : HasManifest files name manifest
-  pub read : AreRead files file_limit (files_named manifest) sources
-
--- the words name a library or a manifest of which a report can be made
-pub data HasReport (words : List (List ℕ)) (files : FileMap) : Type 0 where
-  of_library : {what : Asked} {name : List ℕ} → library_asked words ≡ Some (what, name) → HasLibrary files name → HasReport words files
-  of_page : {name : List ℕ} → manifest_asked words ≡ Some name → HasPage files name → HasReport words files
+-- how a run ends whose answer has the status s: with s, for want of memory, or with a fault where it may be; only what is written meets a fault of the sink
+pub data Ends (s : Status) (read write : Type 0) : Status → Type 0 where
+  answered : Ends s read write s
+  no_memory : Ends s read write status.Memory
+  read_fault : read → Ends s read write status.ReadFault
+  write_fault : writes s ≡ true → write → Ends s read write status.WriteFault
 
 -- there is room for what may be written
 abbrev pub Fits : List (List ℕ) → FileMap → ℕ → Type 0

@@ -10,22 +10,25 @@ use Rattle.manifest_reader.specs.Manifest.{ReadsManifest}
 use Rattle.slot_check.specs.Sources.{Source, Slot}
 use Rattle.slot_check.specs.Line.{slots_over}
 
+-- the bytes of each word
 abbrev pub texts : List (String Global) → List (List ℕ)
 texts words = map string_bytes words
 
--- the name of a slot, and of its file
+-- the name of an entry that is a slot
 abbrev pub entry_name : Entry → List (List ℕ)
 entry_name (entry.Html content) = []
 entry_name (entry.Slot name file fuel) = name ∷ []
 
+-- the file of an entry that is a slot
 abbrev pub entry_file : Entry → List (List ℕ)
 entry_file (entry.Html content) = []
 entry_file (entry.Slot name file fuel) = string_bytes file ∷ []
 
--- the slots of a manifest in order: their names, and their files
+-- the names of the slots of a manifest, in order
 abbrev pub slot_names : List Entry → List (List ℕ)
 slot_names entries = flat_map entry_name entries
 
+-- and their files
 abbrev pub slot_files : List Entry → List (List ℕ)
 slot_files entries = flat_map entry_file entries
 
@@ -33,10 +36,11 @@ slot_files entries = flat_map entry_file entries
 abbrev pub files_named : Manifest → List (List ℕ)
 files_named manifest = slot_files manifest.entries.items ++ texts manifest.libs.items
 
--- the bytes that a widget file or a library may have, and those of a manifest
+-- the bytes that a widget file or a library may have
 abbrev pub file_limit : ℕ
 file_limit = 262144
 
+-- the bytes that a manifest may have
 abbrev pub manifest_limit : ℕ
 manifest_limit = 1048576
 
@@ -66,5 +70,6 @@ pub record HasManifest (files : FileMap) (name : List ℕ) (manifest : Manifest)
 abbrev pub slots_with : List (List ℕ) → List Source → List Slot
 slots_with names sources = slots_over (drop (length names) sources) names (take (length names) sources)
 
+-- the slots of a manifest, with the files that it names
 abbrev pub slots_of : Manifest → List Source → List Slot
 slots_of manifest sources = slots_with (slot_names manifest.entries.items) sources

@@ -1,6 +1,8 @@
 -- Files within a limit.
-use Rattle.std.specs.Prelude.{ℕ, ◌<◌, List, [], ◌∷◌, length, Option, Some, None}
-use Rattle.host_io.specs.Files.{FileMap, IsThere}
+use Rattle.std.specs.Prelude.{ℕ, ◌<◌, List, length, Option, Some, None}
+use Rattle.host_io.specs.Files.{FileMap}
+use Rattle.slot_check.specs.Sources.{Source}
+use Rattle.adhost.specs.Page.{AreRead, IsFirstLong}
 use Rattle.adhost.specs.declared.reading.Stop.{Stop}
 use Rattle.adhost.specs.declared.reading.Stop.TheVariants as stop
 
@@ -28,7 +30,12 @@ IsManifestStop stop.BadManifest = Unit {0}
 IsManifestStop stop.Memory = Unit {0}
 IsManifestStop _ = ⊥
 
--- the names are all there
-abbrev pub AllThere : Option FileMap → List (List ℕ) → Type 0
-AllThere told [] = Unit {0}
-AllThere told (name ∷ names) = IsThere told name × AllThere told names
+-- a reading of these files comes to none that is missing: each is within the limit, or the first that is not is longer
+pub data ComesThrough (files : FileMap) (limit : ℕ) (names : List (List ℕ)) : Type 0 where
+  each_read : {sources : List Source} → AreRead files limit names sources → ComesThrough files limit names
+  first_long : IsFirstLong files limit names → ComesThrough files limit names
+
+-- so it is over files that are told
+abbrev pub AreReadable : Option FileMap → ℕ → List (List ℕ) → Type 0
+AreReadable None limit names = ⊥
+AreReadable (Some files) limit names = ComesThrough files limit names

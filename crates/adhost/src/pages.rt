@@ -7,9 +7,8 @@ ghost use Rattle.slot_check.specs.Verdicts.{sources_of, IsSmall};
 ghost use Rattle.slot_check.specs.Line.{AreSlotLines};
 ghost use Rattle.adhost.specs.declared.ending.Status.TheVariants as status;
 ghost use Rattle.adhost.specs.Page.{texts, file_limit, IsFirstLong, entry_name, entry_file, slot_names, slot_files, files_named, slots_of};
-ghost use Rattle.adhost.specs.Answer.{ending, HasLines, PageAnswer};
-ghost use Rattle.adhost.specs.Ends.{HasPage};
-ghost use Rattle.adhost.specs.Reading.{IsReadStop, IsPageStop, IsManifestStop, AllThere};
+ghost use Rattle.adhost.specs.Answer.{ending, HasLines, PageAnswer, HasAnswer};
+ghost use Rattle.adhost.specs.Reading.{IsReadStop, IsPageStop, IsManifestStop, AreReadable};
 
 use crate::reading::{Stop, read_file, read_files};
 use crate::reports::Report;
@@ -29,19 +28,15 @@ pub fn check_page<F: Files>(alloc: Global, name: &str, files: &mut F) -> Result<
     ensures large { IsErrOf result Stop.TooLarge → IfSome (F.told files.old) (λ m. PageAnswer m name.now status.TooLarge []) }
     ensures bad { IsErrOf result Stop.BadManifest → IfSome (F.told files.old) (λ m. PageAnswer m name.now status.BadManifest []) }
     ensures stops { IfErr result IsPageStop }
+    ensures told { F.told files.new ≡ F.told files.old }
     ensures count { F.faults files.old ≤ F.faults files.new }
     ensures cause { IsErrOf result Stop.ReadFault → Rose (F.faults files.old) (F.faults files.new) }
-    ensures calm_count { IfSome (F.told files.old) (λ m. F.calm files.old → HasPage m name.now → F.faults files.new ≡ F.faults files.old) }
-    ensures calm_reads { IfSome (F.told files.old) (λ m. F.calm files.old → HasPage m name.now → IsErrOf result Stop.ReadFault → ⊥) }
+    ensures calm { IfSome (F.told files.old) (λ m. F.calm files.old → HasAnswer (PageAnswer m name.now) → F.calm files.new) }
+    ensures calm_count { IfSome (F.told files.old) (λ m. F.calm files.old → HasAnswer (PageAnswer m name.now) → F.faults files.new ≡ F.faults files.old) }
+    ensures calm_reads { IsErrOf result Stop.ReadFault → IfSome (F.told files.old) (λ m. F.calm files.old → HasAnswer (PageAnswer m name.now) → ⊥) }
 {
-    let bytes = match read_file(alloc, name, MANIFEST_LIMIT, files) {
-        Ok(bytes) => bytes,
-        Err(stop) => return Err(stop),
-    };
-    let manifest = match manifest_of(alloc, &bytes) {
-        Ok(manifest) => manifest,
-        Err(stop) => return Err(stop),
-    };
+    let bytes = read_file(alloc, name, MANIFEST_LIMIT, files)?;
+    let manifest = manifest_of(alloc, &bytes)?;
     check_files(alloc, &manifest, files)
 }
 
@@ -50,25 +45,20 @@ fn check_files<F: Files>(alloc: Global, manifest: &Manifest, files: &mut F) -> R
     ensures lines { IfOk result (λ r. IfSome (F.told files.old) (λ m. HasLines m manifest.now r.refused r.bytes.items)) }
     ensures large { IsErrOf result Stop.TooLarge → IfSome (F.told files.old) (λ m. IsFirstLong m file_limit (files_named manifest.now)) }
     ensures stops { IfErr result IsReadStop }
+    ensures told { F.told files.new ≡ F.told files.old }
     ensures count { F.faults files.old ≤ F.faults files.new }
     ensures cause { IsErrOf result Stop.ReadFault → Rose (F.faults files.old) (F.faults files.new) }
-    ensures calm_count { F.calm files.old → AllThere (F.told files.old) (files_named manifest.now) → F.faults files.new ≡ F.faults files.old }
-    ensures calm_reads { F.calm files.old → AllThere (F.told files.old) (files_named manifest.now) → IsErrOf result Stop.ReadFault → ⊥ }
+    ensures calm { F.calm files.old → AreReadable (F.told files.old) file_limit (files_named manifest.now) → F.calm files.new }
+    ensures calm_count { F.calm files.old → AreReadable (F.told files.old) file_limit (files_named manifest.now) → F.faults files.new ≡ F.faults files.old }
+    ensures calm_reads { F.calm files.old → AreReadable (F.told files.old) file_limit (files_named manifest.now) → IsErrOf result Stop.ReadFault → ⊥ }
 {
-    let Ok(names) = files_named(alloc, manifest) else {
-        return Err(Stop::Memory);
-    };
-    let sources = match read_files(alloc, &names, files) {
-        Ok(sources) => sources,
-        Err(stop) => return Err(stop),
-    };
-    match page_lines(alloc, manifest, &sources) {
-        Ok(text) => Ok(Report {
-            refused: text.refused,
-            bytes: text.bytes,
-        }),
-        Err(_) => Err(Stop::Memory),
-    }
+    let names = files_named(alloc, manifest)?;
+    let sources = read_files(alloc, &names, files)?;
+    let text = page_lines(alloc, manifest, &sources)?;
+    Ok(Report {
+        refused: text.refused,
+        bytes: text.bytes,
+    })
 }
 
 // The manifest that the bytes are.

@@ -3,12 +3,12 @@ ghost use Rattle.std.specs.Prelude.{◌≡◌, ◌≤◌, ◌<◌, ◌+◌, ◌^
 ghost use Rattle.host_io.specs.Files.{Rose, IsThere};
 ghost use Rattle.slot_check.specs.Verdicts.{source_of, sources_of, IsSmall};
 ghost use Rattle.adhost.specs.Page.{texts, file_limit, IsRead, AreRead, IsFirstLong};
-ghost use Rattle.adhost.specs.Reading.{IsLong, IsReadStop, AllThere};
+ghost use Rattle.adhost.specs.Reading.{IsLong, IsReadStop, AreReadable};
 
 use code_units::Memory;
 use host_io::{Files, ReadFail};
 use slot_check::SourceFile;
-use std::alloc::Global;
+use std::alloc::{AllocError, AllocFailed, Global};
 
 /// The bytes that a widget file or a library may have.
 pub const FILE_LIMIT: usize = 262_144;
@@ -16,11 +16,17 @@ pub const FILE_LIMIT: usize = 262_144;
 /// Why there is no report.
 #[derive(Clone, Copy, Debug, PartialEq, Eq)]
 pub enum Stop {
+    /// The bytes of the manifest are none.
     BadManifest,
+    /// A file has more bytes than its limit.
     TooLarge,
+    /// A file could not be read.
     ReadFault,
+    /// There was no memory.
     Memory,
+    /// The words are of a form that is not built yet.
     Unbuilt,
+    /// The words are no form of the command line.
     Usage,
 }
 
@@ -31,6 +37,28 @@ impl From<Memory> for Stop {
     ghost from_gives = { λ _ stop. stop ≡ stops.Memory };
 
     fn from(_: Memory) -> Stop {
+        Stop::Memory
+    }
+}
+
+impl From<AllocError> for Stop {
+    ghost use Rattle.std.specs.Prelude.{◌≡◌};
+    ghost use Rattle.adhost.specs.declared.reading.Stop.TheVariants as stops;
+
+    ghost from_gives = { λ _ stop. stop ≡ stops.Memory };
+
+    fn from(_: AllocError) -> Stop {
+        Stop::Memory
+    }
+}
+
+impl<T: Drop> From<AllocFailed<T>> for Stop {
+    ghost use Rattle.std.specs.Prelude.{◌≡◌};
+    ghost use Rattle.adhost.specs.declared.reading.Stop.TheVariants as stops;
+
+    ghost from_gives = { λ _ stop. stop ≡ stops.Memory };
+
+    fn from(_: AllocFailed<T>) -> Stop {
         Stop::Memory
     }
 }
@@ -68,6 +96,7 @@ pub fn read_file<F: Files>(
 }
 
 /// The files of these names, each within its limit. The first that is not decides.
+#[tactic(auto, using(crate::proofs::Gathered::readable_here))]
 pub fn read_files<F: Files>(
     alloc: Global,
     names: &[String],
@@ -78,20 +107,17 @@ pub fn read_files<F: Files>(
     ensures small { IfOk result (λ v. All IsSmall v.items) }
     ensures large { IsErrOf result Stop.TooLarge → IfSome (F.told files.old) (λ m. IsFirstLong m file_limit (texts names.now)) }
     ensures stops { IfErr result IsReadStop }
+    ensures told { F.told files.new ≡ F.told files.old }
     ensures count { F.faults files.old ≤ F.faults files.new }
     ensures cause { IsErrOf result Stop.ReadFault → Rose (F.faults files.old) (F.faults files.new) }
-    ensures calm_count { F.calm files.old → AllThere (F.told files.old) (texts names.now) → F.faults files.new ≡ F.faults files.old }
-    ensures calm_reads { F.calm files.old → AllThere (F.told files.old) (texts names.now) → IsErrOf result Stop.ReadFault → ⊥ }
+    ensures calm { F.calm files.old → AreReadable (F.told files.old) file_limit (texts names.now) → F.calm files.new }
+    ensures calm_count { F.calm files.old → AreReadable (F.told files.old) file_limit (texts names.now) → F.faults files.new ≡ F.faults files.old }
+    ensures calm_reads { F.calm files.old → AreReadable (F.told files.old) file_limit (texts names.now) → IsErrOf result Stop.ReadFault → ⊥ }
 {
     let mut sources = Vec::new(alloc);
     'names: for name in names {
-        let source = match read_source(alloc, name.as_str(), files) {
-            Ok(source) => source,
-            Err(stop) => return Err(stop),
-        };
-        if sources.push(source).is_err() {
-            return Err(Stop::Memory);
-        }
+        let source = read_source(alloc, name.as_str(), files)?;
+        sources.push(source)?;
     }
     Ok(sources)
 }
@@ -110,12 +136,7 @@ fn read_source<F: Files>(alloc: Global, name: &str, files: &mut F) -> Result<Sou
     ensures calm_count { F.calm files.old → IsThere (F.told files.old) name.now → F.faults files.new ≡ F.faults files.old }
     ensures calm_reads { F.calm files.old → IsThere (F.told files.old) name.now → IsErrOf result Stop.ReadFault → ⊥ }
 {
-    let bytes = match read_file(alloc, name, FILE_LIMIT, files) {
-        Ok(bytes) => bytes,
-        Err(stop) => return Err(stop),
-    };
-    match String::from_str(alloc, name) {
-        Ok(name) => Ok(SourceFile { name, bytes }),
-        Err(_) => Err(Stop::Memory),
-    }
+    let bytes = read_file(alloc, name, FILE_LIMIT, files)?;
+    let name = String::from_str(alloc, name)?;
+    Ok(SourceFile { name, bytes })
 }

@@ -2,10 +2,9 @@
 ghost use Rattle.std.specs.Prelude.{◌≡◌, ◌≤◌, ◌<◌, ◌^◌, length, [], None, Option, IfSome, IfOk, IfErr, IsErrOf, Ok, Err};
 ghost use Rattle.host_io.specs.Files.{Rose};
 ghost use Rattle.adhost.specs.Page.{texts};
-ghost use Rattle.adhost.specs.Answer.{IsText, ending, LibraryAnswer, Answer};
+ghost use Rattle.adhost.specs.Answer.{IsText, ending, LibraryAnswer, Answer, HasAnswer};
 ghost use Rattle.adhost.specs.Forms.{IsForm};
 ghost use Rattle.adhost.specs.declared.ending.Status.TheVariants as status;
-ghost use Rattle.adhost.specs.Ends.{HasLibrary, HasReport};
 ghost use Rattle.adhost.specs.Reading.{IsReadStop};
 
 use crate::forms::{Asked, is_form, library_asked, manifest_asked};
@@ -19,7 +18,9 @@ use std::alloc::Global;
 /// What is written, and whether it names a broken rule.
 #[derive(Drop)]
 pub struct Report {
+    /// Whether a slot or the library breaks a rule.
     pub refused: bool,
+    /// The lines, or the tidied text.
     pub bytes: Vec<u8>,
 }
 
@@ -37,10 +38,12 @@ pub fn build_report<F: Files>(
     ensures usage { IsErrOf result Stop.Usage → IfSome (F.told files.old) (λ m. Answer (texts words.now) m status.Usage []) }
     ensures no_form { (IsForm (texts words.now) → ⊥) → result ≡ Err Stop.Usage }
     ensures form { IsErrOf result Stop.Usage → IsForm (texts words.now) → ⊥ }
+    ensures told { F.told files.new ≡ F.told files.old }
     ensures count { F.faults files.old ≤ F.faults files.new }
     ensures cause { IsErrOf result Stop.ReadFault → Rose (F.faults files.old) (F.faults files.new) }
-    ensures calm_count { IfSome (F.told files.old) (λ m. F.calm files.old → HasReport (texts words.now) m → F.faults files.new ≡ F.faults files.old) }
-    ensures calm_reads { IfSome (F.told files.old) (λ m. F.calm files.old → HasReport (texts words.now) m → IsErrOf result Stop.ReadFault → ⊥) }
+    ensures calm { IfSome (F.told files.old) (λ m. F.calm files.old → HasAnswer (Answer (texts words.now) m) → F.calm files.new) }
+    ensures calm_count { IfSome (F.told files.old) (λ m. F.calm files.old → HasAnswer (Answer (texts words.now) m) → F.faults files.new ≡ F.faults files.old) }
+    ensures calm_reads { IsErrOf result Stop.ReadFault → IfSome (F.told files.old) (λ m. F.calm files.old → HasAnswer (Answer (texts words.now) m) → ⊥) }
 {
     if let Some(name) = manifest_asked(words) {
         return check_page(alloc, name, files);
@@ -66,22 +69,19 @@ fn report_library<F: Files>(
     ensures answer { IfOk result (λ r. IfSome (F.told files.old) (λ m. LibraryAnswer m asked name.now (ending r.refused) r.bytes.items)) }
     ensures large { IsErrOf result Stop.TooLarge → IfSome (F.told files.old) (λ m. LibraryAnswer m asked name.now status.TooLarge []) }
     ensures stops { IfErr result IsReadStop }
+    ensures told { F.told files.new ≡ F.told files.old }
     ensures count { F.faults files.old ≤ F.faults files.new }
     ensures cause { IsErrOf result Stop.ReadFault → Rose (F.faults files.old) (F.faults files.new) }
-    ensures calm_count { IfSome (F.told files.old) (λ m. F.calm files.old → HasLibrary m name.now → F.faults files.new ≡ F.faults files.old) }
-    ensures calm_reads { IfSome (F.told files.old) (λ m. F.calm files.old → HasLibrary m name.now → IsErrOf result Stop.ReadFault → ⊥) }
+    ensures calm { IfSome (F.told files.old) (λ m. F.calm files.old → HasAnswer (LibraryAnswer m asked name.now) → F.calm files.new) }
+    ensures calm_count { IfSome (F.told files.old) (λ m. F.calm files.old → HasAnswer (LibraryAnswer m asked name.now) → F.faults files.new ≡ F.faults files.old) }
+    ensures calm_reads { IsErrOf result Stop.ReadFault → IfSome (F.told files.old) (λ m. F.calm files.old → HasAnswer (LibraryAnswer m asked name.now) → ⊥) }
 {
-    let bytes = match read_file(alloc, name, FILE_LIMIT, files) {
-        Ok(bytes) => bytes,
-        Err(stop) => return Err(stop),
-    };
-    match library_text(alloc, asked, name, &bytes) {
-        Ok(text) => Ok(Report {
-            refused: text.refused,
-            bytes: text.bytes,
-        }),
-        Err(_) => Err(Stop::Memory),
-    }
+    let bytes = read_file(alloc, name, FILE_LIMIT, files)?;
+    let text = library_text(alloc, asked, name, &bytes)?;
+    Ok(Report {
+        refused: text.refused,
+        bytes: text.bytes,
+    })
 }
 
 // What is written of a library.

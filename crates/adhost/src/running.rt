@@ -1,10 +1,11 @@
 //! The top call.
-ghost use Rattle.std.specs.Prelude.{◌≡◌, ◌≤◌, false, None, IfSome, IsTrue};
+ghost use Rattle.std.specs.Prelude.{◌≡◌, ◌≤◌, ℕ, List, length, false, None, IfSome, IsTrue};
 ghost use Rattle.host_io.specs.Files.{Rose};
+ghost use Rattle.adhost.specs.declared.ending.Status.{Status as StatusView};
 ghost use Rattle.adhost.specs.Page.{texts};
-ghost use Rattle.adhost.specs.Answer.{Answer, Wrote, WrotePart};
+ghost use Rattle.adhost.specs.Answer.{Answer, HasAnswer, Wrote, WrotePart};
 ghost use Rattle.adhost.specs.Forms.{IsForm};
-ghost use Rattle.adhost.specs.Ends.{is_answer, writes, Ends, HasReport, Fits};
+ghost use Rattle.adhost.specs.Ends.{is_answer, writes, Ends, Fits};
 
 use crate::ending::Status;
 use crate::reading::Stop;
@@ -15,7 +16,6 @@ use std::alloc::Global;
 
 /// Does what the words ask for, over the files, and writes the report to the sink. Over files and
 /// a sink that tell what they hold, the status and the bytes are those of the answer.
-#[tactic(auto, using(crate::proofs::Ended::ends_calm, crate::proofs::Ended::ends_complete))]
 pub fn run<F: Files, S: Sink>(
     alloc: Global,
     words: &[String],
@@ -27,22 +27,28 @@ pub fn run<F: Files, S: Sink>(
     ensures usage { (IsForm (texts words.now) → ⊥) → result ≡ Status.Usage }
     ensures no_usage { result ≡ Status.Usage → IsForm (texts words.now) → ⊥ }
 
-    // A fault has its cause in the files or in the sink.
-    ensures read_fault { result ≡ Status.ReadFault → Rose (F.faults files.old) (F.faults files.new) }
-    ensures write_fault { result ≡ Status.WriteFault → Rose (S.faults sink.old) (S.faults sink.new) }
-    ensures files_count { F.faults files.old ≤ F.faults files.new }
-    ensures sink_count { S.faults sink.old ≤ S.faults sink.new }
+    // Where there is an answer, the run ends with its status, but for want of memory and faults;
+    // over calm files and a sink with room, but for want of memory alone.
+    ensures complete { IfSome (F.told files.old) (λ m. (s : StatusView) (b : List ℕ) → Answer (texts words.now) m s b → Ends s (Rose (F.faults files.old) (F.faults files.new)) (Rose (S.faults sink.old) (S.faults sink.new)) result) }
+    ensures calm { IfSome (F.told files.old) (λ m. (s : StatusView) (b : List ℕ) → Answer (texts words.now) m s b → F.calm files.old → length b ≤ S.takes sink.old → Ends s ⊥ ⊥ result) }
 
-    // A first part was written; and where nothing may be, the sink is as it was.
+    // A fault of the files comes only where their count rose, and not over calm files that have
+    // each file to which the work comes. The files stay as they are told.
+    ensures read_fault { result ≡ Status.ReadFault → Rose (F.faults files.old) (F.faults files.new) }
+    ensures calm_reads { result ≡ Status.ReadFault → IfSome (F.told files.old) (λ m. F.calm files.old → HasAnswer (Answer (texts words.now) m) → ⊥) }
+    ensures calm_files { IfSome (F.told files.old) (λ m. F.calm files.old → HasAnswer (Answer (texts words.now) m) → F.faults files.new ≡ F.faults files.old) }
+    ensures calm_stays { IfSome (F.told files.old) (λ m. F.calm files.old → HasAnswer (Answer (texts words.now) m) → F.calm files.new) }
+    ensures files_count { F.faults files.old ≤ F.faults files.new }
+    ensures told { F.told files.new ≡ F.told files.old }
+
+    // A fault of the sink comes only where its count rose and it has no room. Then a first part of
+    // a report was written; and where nothing may be, the sink is as it was.
+    ensures write_fault { result ≡ Status.WriteFault → Rose (S.faults sink.old) (S.faults sink.new) }
+    ensures room { result ≡ Status.WriteFault → IfSome (F.told files.old) (λ m. Fits (texts words.now) m (S.takes sink.old) → ⊥) }
+    ensures calm_sink { IfSome (F.told files.old) (λ m. Fits (texts words.now) m (S.takes sink.old) → S.faults sink.new ≡ S.faults sink.old) }
+    ensures sink_count { S.faults sink.old ≤ S.faults sink.new }
     ensures part { result ≡ Status.WriteFault → IfSome (F.told files.old) (λ m. WrotePart (Answer (texts words.now) m) (S.held sink.old) (S.held sink.new)) }
     ensures still { writes result ≡ false → sink.new ≡ sink.old }
-
-    // Where there is a report, it is written, but for want of memory and faults; calm files and a
-    // sink with room make none.
-    ensures complete { IfSome (F.told files.old) (λ m. HasReport (texts words.now) m → Ends (Rose (F.faults files.old) (F.faults files.new)) (Rose (S.faults sink.old) (S.faults sink.new)) result) }
-    ensures calm { IfSome (F.told files.old) (λ m. F.calm files.old → HasReport (texts words.now) m → Fits (texts words.now) m (S.takes sink.old) → Ends ⊥ ⊥ result) }
-    ensures calm_files { IfSome (F.told files.old) (λ m. F.calm files.old → HasReport (texts words.now) m → F.faults files.new ≡ F.faults files.old) }
-    ensures calm_sink { IfSome (F.told files.old) (λ m. Fits (texts words.now) m (S.takes sink.old) → S.faults sink.new ≡ S.faults sink.old) }
 {
     match build_report(alloc, words, files) {
         Ok(report) => match write_whole(sink, &report.bytes) {

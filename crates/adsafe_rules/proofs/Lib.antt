@@ -11,3 +11,5 @@ pub mod Openings
 pub mod Starting
 pub mod Judging
 pub mod Passing
+pub mod OneRule
+pub mod Refusing

@@ -6,6 +6,7 @@ use Rattle.adsafe_rules.specs.declared.accepted.Accepted.{Accepted}
 use Rattle.adsafe_rules.specs.declared.scope.Scope.{Scope}
 use Rattle.adsafe_rules.specs.Accepting.{IsJudged}
 
+-- the tree, the function that its call hands over, and the name of a library
 abbrev pub tree_of : Accepted → Tree
 tree_of a = a.tree
 
@@ -14,6 +15,10 @@ fun_of a = a.fun
 
 abbrev pub lib_name_of : Accepted → Option (List ℕ)
 lib_name_of a = a.lib_name
+
+-- at its position the tree breaks no rule, and the function and the name are those of its call
+abbrev pub BreaksNone : Accepted → Type 0
+BreaksNone a = ∥ ((scope : Scope) × IsJudged (tree_of a) scope (fun_of a) (lib_name_of a)) ∥₁
 
 -- what was accepted holds the tree, and what the position asks for
 pub record Accepts (tree : Tree) (scope : Scope) (a : Accepted) : Type 0 where

@@ -29,6 +29,7 @@ abbrev pub is_plain_fun : ℕ → Fun → Bool
 is_plain_fun n (FunAt at names None params body funs) = nat_le (length params) n
 is_plain_fun n _ = false
 
+-- an expression that is one
 abbrev pub is_plain_function : ℕ → Expr → Bool
 is_plain_function n (ExprAt at names (Function g)) = is_plain_fun n g
 is_plain_function n _ = false
@@ -45,16 +46,17 @@ abbrev pub is_adsafe_dot : List ℕ → Expr → Bool
 is_adsafe_dot word (ExprAt at names (Dot e x)) = is_name (codes "ADSAFE") e && bytes_eq x word
 is_adsafe_dot word _ = false
 
--- the call that the position of the text asks for, as an expression and as a statement
+-- the call that the position of the text asks for
 abbrev pub is_opening_call : Scope → Expr → Bool
 is_opening_call scope (ExprAt at names (Call e args)) = is_adsafe_dot (opening_word scope) e && are_arguments scope (exprs_spots args)
 is_opening_call scope _ = false
 
+-- the statement is that call
 abbrev pub is_opening : Scope → Spot → Bool
 is_opening scope (AStmt (StmtAt at names (Only e))) = is_opening_call scope e
 is_opening scope _ = false
 
--- the arguments of a statement that is a call
+-- the arguments of an expression that is a call, and of a statement that is one
 abbrev pub call_arguments : Expr → List Spot
 call_arguments (ExprAt at names (Call e args)) = exprs_spots args
 call_arguments _ = []
@@ -63,26 +65,29 @@ abbrev pub arguments_of : Spot → List Spot
 arguments_of (AStmt (StmtAt at names (Only e))) = call_arguments e
 arguments_of _ = []
 
--- the name that it hands over, and the function
+-- the string that arguments begin with
 abbrev pub first_string : List Spot → List Named
 first_string (AnExpr a ∷ rest) = literal a
 first_string _ = []
 
+-- the function that an expression is
 abbrev pub function_of : Expr → List Spot
 function_of (ExprAt at names (Function g)) = AFun g ∷ []
 function_of _ = []
 
+-- the function that stands second among arguments
 abbrev pub second_function : List Spot → List Spot
 second_function (a ∷ AnExpr e ∷ rest) = function_of e
 second_function _ = []
 
+-- the name and the function that the call of a statement hands over
 abbrev pub opening_names : Spot → List Named
 opening_names s = first_string (arguments_of s)
 
 abbrev pub opening_functions : Spot → List Spot
 opening_functions s = second_function (arguments_of s)
 
--- those of the first statement
+-- those of the first of some statements
 abbrev pub opened_names : List Spot → List Named
 opened_names [] = []
 opened_names (s ∷ rest) = opening_names s
@@ -96,6 +101,7 @@ abbrev pub lib_names : Scope → List Spot → List Named
 lib_names scope.Lib spots = opened_names spots
 lib_names scope spots = []
 
+-- where a statement stands
 abbrev pub spot_place : Spot → ℕ
 spot_place (AStmt s) = stmt_place s
 spot_place _ = 0

@@ -3,7 +3,11 @@ use Rattle.std.specs.Prelude.{ℕ, List}
 use Rattle.plain_tree.specs.Trees.{Trees}
 use Rattle.plain_tree.specs.Plains.{Places}
 use Rattle.markup_grammar.specs.Markup.{MarkupSpells, BadMarkupPlace}
+use Rattle.markup_reader.specs.declared.fault.MarkupFault.{MarkupFault}
+use Rattle.markup_reader.specs.declared.fault.MarkupFault.TheVariants as markup
 use Rattle.widget_form.specs.declared.form.Form.{Form}
+use Rattle.widget_form.specs.declared.form.FormFault.{FormFault}
+use Rattle.widget_form.specs.declared.form.FormFault.TheVariants as form
 use Rattle.widget_form.specs.Rows.{First, IsGood}
 use Rattle.widget_form.specs.Forms.{IsForm}
 use Rattle.adsafe_rules.specs.declared.slot.CheckMarkupFault.{CheckMarkupFault}
@@ -20,6 +24,15 @@ pub record IsSlot (name : List ℕ) (libs : List (List ℕ)) (bytes : List ℕ) 
 pub data FirstOfSlot (name : List ℕ) (libs : List (List ℕ)) (bytes : List ℕ) : ℕ → ℕ → Type 0 where
   M01 : {at : ℕ} → BadMarkupPlace bytes at → FirstOfSlot name libs bytes 1 at
   of_file : {file : Trees Places} {rule at : ℕ} → MarkupSpells bytes file → First name libs file rule at → FirstOfSlot name libs bytes rule at
+
+-- what comes of bytes that are no file, and of a file without a form
+abbrev pub fault_of_markup : MarkupFault → CheckMarkupFault
+fault_of_markup (markup.BadMarkup at) = fault.Broken 1 at
+fault_of_markup markup.Memory = fault.Memory
+
+abbrev pub fault_of_form : FormFault → CheckMarkupFault
+fault_of_form (form.BadForm rule at) = fault.Broken rule at
+fault_of_form form.Memory = fault.Memory
 
 -- the fault is the first broken rule, or memory ran out
 abbrev pub IsSlotFault : List ℕ → List (List ℕ) → List ℕ → CheckMarkupFault → Type 0

@@ -20,9 +20,11 @@ is_callable name = list_any (bytes_eq name) (
 unfoldable pub is_reaching : List ℕ → Bool
 is_reaching name = bytes_eq name (codes "arguments") || bytes_eq name (codes "eval")
 
+-- an ASCII letter
 unfoldable pub is_letter : ℕ → Bool
 is_letter u = (nat_le 65 u && nat_le u 90) || (nat_le 97 u && nat_le u 122)
 
+-- an ASCII digit
 unfoldable pub is_digit : ℕ → Bool
 is_digit u = nat_le 48 u && nat_le u 57
 

@@ -18,11 +18,12 @@ impl Accepted {
     ghost use Rattle.std.specs.Prelude.{◌≡◌, option_copied, IfSome};
     ghost use Rattle.js_tree.specs.Trees.{trees};
     ghost use Rattle.js_tree.specs.Forest.{IsFun};
-    ghost use Rattle.adsafe_rules.specs.Accepts.{tree_of, fun_of, lib_name_of};
+    ghost use Rattle.adsafe_rules.specs.Accepts.{tree_of, fun_of, lib_name_of, BreaksNone};
 
-    /// The tree.
+    /// The tree, which breaks no rule.
     pub fn tree(&self) -> &Tree
-        ensures { result.now ≡ tree_of self.now }
+        ensures same { result.now ≡ tree_of self.now }
+        ensures judged { BreaksNone self.now }
     {
         &self.tree
     }

@@ -213,15 +213,11 @@ pub fn check(alloc: Global, tree: Tree, scope: &Scope) -> Result<Accepted, Check
     ensures accepts { IfOk result (Accepts tree scope.now) }
     ensures refuses { IfErr result (IsFault (program_of tree) scope.now) }
 {
-    match search(alloc, &tree, scope) {
-        Ok(None) => match accept(tree, scope) {
-            Ok(accepted) => Ok(accepted),
-            Err(_) => Err(CheckFault::Memory),
-        },
-        Ok(Some(b)) => Err(CheckFault::Broken {
+    match search(alloc, &tree, scope)? {
+        Some(b) => Err(CheckFault::Broken {
             rule: b.rule,
             at: b.at,
         }),
-        Err(_) => Err(CheckFault::Memory),
+        None => Ok(accept(tree, scope)?),
     }
 }

@@ -20,6 +20,6 @@ mod words;
 
 pub use accepted::Accepted;
 pub use judge::check;
-pub use laws::{callee_breaks, directive_breaks, one_first, opening_breaks};
+pub use laws::{callee_breaks, directive_breaks, one_first, one_markup_rule, opening_breaks};
 pub use scope::{CheckFault, Scope};
 pub use slot::{CheckMarkupFault, check_markup};

@@ -1,11 +1,14 @@
 //! Where a text stands, and what a check answers.
-use code_units::Text;
+use code_units::{Memory, Text};
 
 /// Where a text stands: the first script of a slot, a library, or the last script of a slot, with the slot's name.
 #[derive(Drop)]
 pub enum Scope {
+    /// The first script of a slot that has several.
     Id(Text),
+    /// A library.
     Lib,
+    /// The last script of a slot.
     Go(Text),
 }
 
@@ -16,4 +19,15 @@ pub enum CheckFault {
     Broken { rule: u8, at: usize },
     /// There was no memory to judge it.
     Memory,
+}
+
+impl From<Memory> for CheckFault {
+    ghost use Rattle.std.specs.Prelude.{◌≡◌};
+    ghost use Rattle.adsafe_rules.specs.declared.scope.CheckFault.TheVariants as fault;
+
+    ghost from_gives = { λ _ e. e ≡ fault.Memory };
+
+    fn from(_: Memory) -> CheckFault {
+        CheckFault::Memory
+    }
 }

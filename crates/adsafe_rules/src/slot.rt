@@ -16,6 +16,34 @@ pub enum CheckMarkupFault {
     Memory,
 }
 
+impl From<MarkupFault> for CheckMarkupFault {
+    ghost use Rattle.std.specs.Prelude.{◌≡◌};
+    ghost use Rattle.adsafe_rules.specs.Slots.{fault_of_markup};
+
+    ghost from_gives = { λ f e. e ≡ fault_of_markup f };
+
+    fn from(fault: MarkupFault) -> CheckMarkupFault {
+        match fault {
+            MarkupFault::BadMarkup { at } => CheckMarkupFault::Broken { rule: 1, at },
+            MarkupFault::Memory => CheckMarkupFault::Memory,
+        }
+    }
+}
+
+impl From<FormFault> for CheckMarkupFault {
+    ghost use Rattle.std.specs.Prelude.{◌≡◌};
+    ghost use Rattle.adsafe_rules.specs.Slots.{fault_of_form};
+
+    ghost from_gives = { λ f e. e ≡ fault_of_form f };
+
+    fn from(fault: FormFault) -> CheckMarkupFault {
+        match fault {
+            FormFault::BadForm { rule, at } => CheckMarkupFault::Broken { rule, at },
+            FormFault::Memory => CheckMarkupFault::Memory,
+        }
+    }
+}
+
 /// The parts of a slot's widget file, by the slot's name and the files of its libraries
 /// (`docs/RULES.md`).
 ///
@@ -32,16 +60,6 @@ pub fn check_markup(
     // The rule of a refusal is the first that is broken.
     ensures first { IfErr result (IsSlotFault name.now libs.now bytes.now) }
 {
-    let content = match read_markup(alloc, bytes) {
-        Ok(content) => content,
-        Err(MarkupFault::BadMarkup { at }) => {
-            return Err(CheckMarkupFault::Broken { rule: 1, at });
-        }
-        Err(MarkupFault::Memory) => return Err(CheckMarkupFault::Memory),
-    };
-    match split(alloc, name, libs, content) {
-        Ok(form) => Ok(form),
-        Err(FormFault::BadForm { rule, at }) => Err(CheckMarkupFault::Broken { rule, at }),
-        Err(FormFault::Memory) => Err(CheckMarkupFault::Memory),
-    }
+    let content = read_markup(alloc, bytes)?;
+    Ok(split(alloc, name, libs, content)?)
 }

@@ -11,7 +11,7 @@ use Rattle.js_grammar.specs.declared.Sign.{Sign}
 use Rattle.js_grammar.specs.declared.Sign.TheVariants as sign
 use Rattle.js_grammar.specs.Grammar.{Token, Lexeme, has_default}
 use Rattle.js_grammar.specs.Machine as machine
-use Rattle.js_grammar.specs.Machine.{Frame, State, Step, step, finished, Wants, Gives, Did, Statement, InBlock, Test, SwitchTest, SwitchOpen, SwitchEnd, FirstCase, DefaultColon, CaseTest, InCase, whole}
+use Rattle.js_grammar.specs.Machine.{Frame, Step, step, finished, Wants, Gives, Did, Statement, InBlock, Test, SwitchTest, SwitchOpen, SwitchEnd, FirstCase, DefaultColon, CaseTest, InCase, whole}
 use Rattle.js_parser.specs.declared.refusal.Refusal.{Refusal}
 use Rattle.js_parser.specs.declared.refusal.Refusal.TheVariants as refusal
 use Rattle.js_parser.specs.Reads.{goes, from, lexeme_at, Next, IsOther, IsReady, Refuses, ReadsOne, MadeStmt}

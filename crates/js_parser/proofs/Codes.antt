@@ -10,7 +10,7 @@ use Rattle.js_grammar.specs.declared.Sign.{Sign}
 use Rattle.js_grammar.specs.declared.Sign.TheVariants as sign
 use Rattle.js_grammar.specs.Grammar.{Token, Lexeme, fun_of, own_text, own_places, places}
 use Rattle.js_grammar.specs.Machine as machine
-use Rattle.js_grammar.specs.Machine.{Frame, State, Step, step, has_function, Wants, Gives, FunOpen, FirstName, NamesEnd, FunBody, FunEnd, InBody, DeclName, Declare, VarTail, VarInit, VarName}
+use Rattle.js_grammar.specs.Machine.{Frame, State, Step, step, has_function, Wants, Gives, FunOpen, FirstName, NamesEnd, FunBody, FunEnd, InBody, DeclName, Declare, VarTail, VarInit}
 use Rattle.js_parser.specs.declared.refusal.Refusal.{Refusal}
 use Rattle.js_parser.specs.declared.refusal.Refusal.TheVariants as refusal
 use Rattle.js_parser.specs.Reads.{goes, lexeme_at, Next, IsOther, IsReady, Refuses, Reads, ReadsFun, ReadsDecl, ReadsBody, own_at}

@@ -22,6 +22,7 @@ pub record ReadsOn (start : List Frame → State) (left : List Frame → List Fr
   pub is_in : IsExpr new id
   pub leads : (k : List Frame) → goes ts (start k) at ≡ goes ts (Gives (expr_at new id) (left k)) next
 
+-- an expression is read on, or the tokens are refused
 abbrev pub GoesOn : (List Frame → State) → (List Frame → List Frame) → List Token → ℕ → Forest → Forest → Result (ExprId × ℕ) Refusal → Type 0
 GoesOn start left ts at old new result = MatchResult result (λ x. ReadsOn start left ts at old new x.0 x.1) (λ e. Refuses start ts at e)
 

@@ -56,13 +56,15 @@ pub record Reads (start : List Frame → State) (left : List Frame → List Fram
   pub is_in : IsExpr new id
   pub leads : (k : List Frame) → goes ts (start k) at ≡ goes ts (Gives (expr_at new id) (left k)) next
 
+-- an expression is read, or the tokens are refused
 abbrev pub ReadsExpr : (List Frame → State) → (List Frame → List Frame) → List Token → ℕ → Forest → Forest → Result (ExprId × ℕ) Refusal → Type 0
 ReadsExpr start left ts at old new result = MatchResult result (λ x. Reads start left ts at old new x.0 x.1) (λ e. Refuses start ts at e)
 
--- a node is added, and `next` is the place after it
+-- an expression is added, and `next` is the place after it; or there was no memory
 abbrev pub MadeExpr : Forest → Forest → Expr → ℕ → Result (ExprId × ℕ) Refusal → Type 0
 MadeExpr old new x next result = MatchResult result (λ y. AddsExpr old new x y.0 × (y.1 ≡ next)) (λ e. e ≡ refusal.Memory)
 
+-- a statement is added, and `next` is the place after it; or there was no memory
 abbrev pub MadeStmt : Forest → Forest → Stmt → ℕ → Result (StmtId × ℕ) Refusal → Type 0
 MadeStmt old new x next result = MatchResult result (λ y. AddsStmt old new x y.0 × (y.1 ≡ next)) (λ e. e ≡ refusal.Memory)
 
@@ -109,6 +111,7 @@ pub record ReadsStmt (start : List Frame → State) (ts : List Token) (at : ℕ)
   pub is_in : IsStmt new id
   pub leads : (k : List Frame) → goes ts (start k) at ≡ goes ts (Did (stmt_at new id) k) next
 
+-- a statement is read, or the tokens are refused
 abbrev pub ReadsOne : (List Frame → State) → List Token → ℕ → Forest → Forest → Result (StmtId × ℕ) Refusal → Type 0
 ReadsOne start ts at old new result = MatchResult result (λ x. ReadsStmt start ts at old new x.0 x.1) (λ e. Refuses start ts at e)
 

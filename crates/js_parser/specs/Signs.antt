@@ -26,6 +26,7 @@ words =
     ∷ (codes "typeof", sign.TypeOf) ∷ (codes "var", sign.Var) ∷ (codes "void", sign.Void) ∷ (codes "while", sign.While)
     ∷ (codes "with", sign.With) ∷ (codes "null", sign.Null) ∷ (codes "true", sign.True) ∷ (codes "false", sign.False) ∷ []
 
+-- the marks
 unfoldable pub marks : List (List ℕ × Sign)
 marks =
     (codes "(", sign.Open) ∷ (codes ")", sign.Close) ∷ (codes "{", sign.OpenBrace) ∷ (codes "}", sign.CloseBrace)
@@ -50,6 +51,7 @@ sign_as kind.Str spelling = sign.Str
 sign_as kind.Reserved spelling = look_up words spelling
 sign_as kind.Mark spelling = look_up marks spelling
 
+-- the sign of a token of these bytes
 abbrev pub sign_of : List ℕ → Lexed → Sign
 sign_of bytes t = sign_as t.kind (slice_range bytes t.from t.to)
 

@@ -2,14 +2,12 @@
 use Rattle.std.specs.Prelude.{◌≡◌, ◌≢◌, ℕ, suc, ◌+◌, ◌≤◌, ◌<◌, List, [], ◌∷◌, ◌++◌, length, All, Bool, true, false, Option, Some, None, ◌⊎◌}
 use Rattle.exact_refusals.specs.Judge.{Outcome, judge, judge_step}
 use Rattle.exact_refusals.specs.Judge.Outcome.{Refused}
-use Rattle.std.specs.declared.vec.Vec.{Vec}
-use Rattle.std.specs.declared.alloc.Global.{Global}
 use Rattle.js_tree.specs.declared.nodes.ExprId.{ExprId}
 use Rattle.js_tree.specs.declared.nodes.StmtId.{StmtId}
 use Rattle.js_tree.specs.declared.nodes.Decl.{Decl}
 use Rattle.js_tree.specs.declared.nodes.Clause.{Clause}
 use Rattle.js_tree.specs.declared.nodes.ForInit.{ForInit as InitNode}
-use Rattle.js_tree.specs.Plain.{Expr, StmtAt, If, Stmts, NoStmts, Decls, NoDecls, AndDecl, ForInit, OptionalExpr, Catch, Try, SomeBlock}
+use Rattle.js_tree.specs.Plain.{Expr, StmtAt, If, Stmts, NoStmts, Decls, NoDecls, AndDecl, ForInit, OptionalExpr}
 use Rattle.js_tree.specs.Forest.{Forest, Keeps, IsExpr, IsStmt, IsOptional, AreDecls, AreInit, AreClauseParts, expr_at, exprs_at, stmts_at, decls_at, init_at, optional_at, clauses_at, size}
 use Rattle.js_grammar.specs.declared.Sign.{Sign}
 use Rattle.js_grammar.specs.declared.Sign.TheVariants as sign
@@ -30,6 +28,7 @@ abbrev pub comes_by : (Token → Step) → List Token → Outcome Stmts
 comes_by f [] = Refused 0
 comes_by f (t ∷ rest) = judge_step 200 (f t) (suc (length rest)) (λ st. judge step finished 200 st rest)
 
+-- what comes of the tokens from a place on, of which the first does this
 abbrev pub goes_by : List Token → (Token → Step) → ℕ → Outcome Stmts
 goes_by ts f at = comes_by f (from ts at)
 
@@ -152,6 +151,7 @@ abbrev pub IsJump : List Token → ℕ → Option ℕ → ℕ → Type 0
 IsJump ts at None next = Next ts at sign.Semicolon × (next ≡ at + 1) × (next < length ts)
 IsJump ts at (Some x) next = (x ≡ at) × Next ts at sign.Name × Next ts (at + 1) sign.Semicolon × (next ≡ at + 1 + 1) × (next < length ts)
 
+-- no label and semicolon stand there: the token at `place` is refused
 abbrev pub IsNoJump : List Token → ℕ → ℕ → Type 0
 IsNoJump ts at place = ((place ≡ at) × (s : Sign) × Next ts at s × (s ≢ sign.Name) × (s ≢ sign.Semicolon)) ⊎ ((place ≡ at + 1) × (place < length ts) × Next ts at sign.Name × IsOther ts place sign.Semicolon)
 
@@ -194,24 +194,6 @@ pub record ReadsParams (d : ℕ) (ts : List Token) (at : ℕ) (names : List (Lis
   pub named : names ≡ texts params
   pub placed : after ≡ before ++ places params
   pub leads : (w : Lexeme) (own : Option Lexeme) (k : List Frame) → goes ts (Wants (machine.FirstName (suc d) ∷ machine.NamesEnd d w own ∷ k)) at ≡ goes ts (Wants (machine.FunBody d w own params ∷ k)) next
-
-abbrev pub HasCatch : ℕ → List Token → ℕ → Forest → Option (ℕ × Vec StmtId Global) → ℕ → Type 0
-HasCatch d ts at new None next = (next ≡ at) × IsOther ts at sign.Catch
-HasCatch d ts at new (Some c) next = (c.0 + 1 < length ts) × All (IsStmt new) c.1.items × (at < next) × ((w : Lexeme) (ss : Stmts) (k : List Frame) → goes ts (Wants (machine.AfterTry d w ss ∷ k)) at ≡ goes ts (Wants (machine.AfterCatch d w ss (lexeme_at ts c.0) (stmts_at new c.1.items) ∷ k)) next)
-
-abbrev pub HasFinally : ℕ → List Token → ℕ → Forest → Option (Vec StmtId Global) → ℕ → Type 0
-HasFinally d ts at new None next = (next ≡ at) × IsOther ts at sign.Finally
-HasFinally d ts at new (Some ids) next = Next ts at sign.Finally × All (IsStmt new) ids.items × (at < next) × ((w : Lexeme) (names : List ℕ) (ss : Stmts) (c : Catch) (k : List Frame) → goes ts (Wants (machine.BlockAt d ∷ machine.FinallyBlock w names ss c ∷ k)) (at + 1) ≡ goes ts (Did (StmtAt w.at names (Try ss c (SomeBlock (stmts_at new ids.items)))) k) next)
-
--- a `catch` is read, or none stands there
-pub record ReadsCatch (d : ℕ) (ts : List Token) (at : ℕ) (old new : Forest) (c : Option (ℕ × Vec StmtId Global)) (next : ℕ) : Type 0 where
-  pub walks : Walks 0 ts at next old new
-  pub read : HasCatch d ts at new c next
-
--- a `finally` is read, or none stands there
-pub record ReadsFinally (d : ℕ) (ts : List Token) (at : ℕ) (old new : Forest) (c : Option (Vec StmtId Global)) (next : ℕ) : Type 0 where
-  pub walks : Walks 0 ts at next old new
-  pub read : HasFinally d ts at new c next
 
 -- a `catch` is read, after its word
 pub record ReadsCaught (d : ℕ) (ts : List Token) (at : ℕ) (old new : Forest) (name : ℕ) (ids : List StmtId) (next : ℕ) : Type 0 where

@@ -1,5 +1,5 @@
 //! Statements that leave their place: jumps, and `try` with what catches.
-ghost use Rattle.std.specs.Prelude.{◌≡◌, ℕ, ◌+◌, ◌<◌, ◌≤◌, ◌^◌, ◌∷◌, length, MatchResult};
+ghost use Rattle.std.specs.Prelude.{◌≡◌, ℕ, ◌+◌, ◌<◌, ◌∷◌, length, MatchResult};
 ghost use Rattle.js_tree.specs.Plain.{Stmts};
 ghost use Rattle.js_tree.specs.Trees.{trees};
 ghost use Rattle.js_grammar.specs.declared.Sign.TheVariants as sign;
@@ -33,7 +33,7 @@ fn jump_label(script: &Script, at: usize) -> Result<(Option<usize>, usize), Refu
     }
 }
 
-// `continue`, with or without a label.
+/// `continue`, with or without a label.
 pub fn continue_statement(
     script: &Script,
     tree: &mut Tree,
@@ -53,7 +53,7 @@ pub fn continue_statement(
     add_named(script, tree, Stmt::Continue(Some(text)), at, name, next)
 }
 
-// `break`, with or without a label.
+/// `break`, with or without a label.
 pub fn break_statement(
     script: &Script,
     tree: &mut Tree,
@@ -94,7 +94,7 @@ fn catch_part(
     Ok((name, list, next))
 }
 
-// `try`, with `catch`, `finally` or both.
+/// `try`, with `catch`, `finally` or both.
 #[cycle(parser)]
 pub fn try_statement(
     script: &Script,

@@ -1,16 +1,16 @@
 //! Expressions: each function reads one row of the grammar (ECMA-262 3rd edition, section 11).
 //! Its contract says, for whatever is to come after the row, how the grammar's machine goes on.
-ghost use Rattle.std.specs.Prelude.{◌≡◌, ◌≢◌, ℕ, suc, ◌+◌, ◌<◌, ◌≤◌, ◌^◌, List, [], ◌∷◌, length, Some, None, true, MatchResult, All};
+ghost use Rattle.std.specs.Prelude.{◌≡◌, ◌≢◌, ℕ, ◌+◌, ◌<◌, ◌≤◌, ◌^◌, List, [], ◌∷◌, length, Some, None, true, MatchResult};
 ghost use Rattle.js_tree.specs.Plain.{Expr as PlainExpr, ExprAt, Properties};
 ghost use Rattle.js_tree.specs.Forest.{Forest, size, IsExpr, expr_at, AreExprParts, plain_expr, plain_form};
 ghost use Rattle.js_tree.specs.Trees.{trees};
 ghost use Rattle.js_grammar.specs.declared.Sign.TheVariants as sign;
 ghost use Rattle.js_grammar.specs.declared.Infix.{Infix};
-ghost use Rattle.js_grammar.specs.Tables.{infix_of, level_of, prefix_of, prefixed, joined as joined_form, step_of, assign_of, is_key};
+ghost use Rattle.js_grammar.specs.Tables.{infix_of, level_of, prefix_of, prefixed, joined as joined_form, assign_of, is_key};
 ghost use Rattle.js_grammar.specs.Grammar.{Lexeme};
 ghost use Rattle.js_grammar.specs.Machine.{Frame, Wants, Gives, PrimaryAt, UnaryAt, DotName, ItemsAt, FirstKey, NextKey, ObjectEnd, Tail, NewTail, Target, Rest, Right, Choice, Commas, expr, whole as whole_frames};
 ghost use Rattle.js_parser.specs.declared.refusal.Refusal.TheVariants as refusal;
-ghost use Rattle.js_parser.specs.Reads.{lexeme_at, Next, IsOther, IsReady, IsHead, Refuses, ReadsExpr, MadeExpr};
+ghost use Rattle.js_parser.specs.Reads.{lexeme_at, Next, IsReady, IsHead, Refuses, ReadsExpr, MadeExpr};
 ghost use Rattle.js_parser.specs.Forms.{GoesOn, IsNext, IsTail, IsNoKey, ReadsOperand, ReadsOperandOf, ReadsProperty, ReadsKeys};
 ghost use Rattle.js_parser.specs.Walks.{ReadsItems};
 

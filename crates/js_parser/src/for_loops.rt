@@ -1,5 +1,5 @@
 //! `for` in its forms (ECMA-262 3rd edition, 12.6.3 and 12.6.4).
-ghost use Rattle.std.specs.Prelude.{◌≡◌, ◌≢◌, ℕ, true, false, Some, None, suc, ◌+◌, ◌<◌, ◌≤◌, ◌∷◌, length, MatchResult, MatchBool};
+ghost use Rattle.std.specs.Prelude.{◌≡◌, true, false, Some, None, suc, ◌+◌, ◌<◌, ◌∷◌, length, MatchResult, MatchBool};
 ghost use Rattle.js_tree.specs.Plain.{ForInit as PlainInit, OptionalExpr};
 ghost use Rattle.js_tree.specs.Trees.{trees};
 ghost use Rattle.js_grammar.specs.declared.Sign.{Sign};
@@ -18,6 +18,7 @@ use crate::statements::{block, declarations, marked};
 use js_grammar::Sign;
 use js_tree::{ExprId, ForInit, Stmt, StmtId, Tree};
 
+/// `for`, and `for-in`.
 #[cycle(parser)]
 pub fn for_statement(
     script: &Script,

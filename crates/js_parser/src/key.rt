@@ -1,6 +1,6 @@
 //! The keys of object literals.
 ghost use Rattle.std.specs.Prelude.{◌≡◌};
-ghost use Rattle.js_grammar.specs.Tables.{is_key, is_whole, are_digits};
+ghost use Rattle.js_grammar.specs.Tables.{is_key, is_whole};
 
 use code_units::Text;
 use js_grammar::Sign;

@@ -14,11 +14,12 @@ mod statements;
 mod switches;
 mod text;
 
+use code_units::Memory as OutOfMemory;
 use thiserror::Error;
 
 /// Why tokens gave no tree. `at` is the byte at which the refused token begins, or the length of
 /// the text where it ends too early.
-#[derive(Debug, Drop, Error)]
+#[derive(Clone, Copy, PartialEq, Eq, Debug, Drop, Error)]
 pub enum ParseFault {
     /// No program begins with the tokens up to and with this one.
     #[error("unexpected token at byte {at}")]
@@ -29,6 +30,17 @@ pub enum ParseFault {
     /// There was no memory for the tree.
     #[error("out of memory")]
     Memory,
+}
+
+impl From<OutOfMemory> for ParseFault {
+    ghost use Rattle.std.specs.Prelude.{◌≡◌};
+    ghost use Rattle.js_parser.specs.declared.ParseFault.TheVariants as fault;
+
+    ghost from_gives = { λ _ e. e ≡ fault.Memory };
+
+    fn from(_: OutOfMemory) -> ParseFault {
+        ParseFault::Memory
+    }
 }
 
 pub use text::parse;

@@ -1,7 +1,7 @@
 //! What a sign is among operators.
 ghost use Rattle.std.specs.Prelude.{◌≡◌, ◌<◌, ◌≤◌, true, Some, MatchOption};
 ghost use Rattle.js_grammar.specs.declared.Infix.{Infix};
-ghost use Rattle.js_grammar.specs.Tables.{infix_of, level_of, binary_level, prefix_of, step_of, assign_of};
+ghost use Rattle.js_grammar.specs.Tables.{infix_of, level_of, prefix_of, step_of, assign_of};
 
 use js_grammar::{Infix, Prefix, Sign};
 use js_tree::{AssignOp, BinOp, StepOp, UnOp};
@@ -135,14 +135,10 @@ pub fn infix_below(sign: Sign, no_in: bool, limit: u32) -> Option<Infix>
         ((o : Infix) → infix_of sign no_in ≡ Some o → limit ≤ level_of o)
         (λ o. (infix_of sign no_in ≡ Some o) × (level_of o < limit)) }
 {
-    match infix(sign, no_in) {
-        Some(operator) => {
-            if level(operator) < limit {
-                Some(operator)
-            } else {
-                None
-            }
-        }
-        None => None,
+    let operator = infix(sign, no_in)?;
+    if level(operator) < limit {
+        Some(operator)
+    } else {
+        None
     }
 }

@@ -1,5 +1,5 @@
 //! What the grammar sees of a token.
-ghost use Rattle.std.specs.Prelude.{◌≡◌, ◌≤◌, length, map, slice_range};
+ghost use Rattle.std.specs.Prelude.{◌≡◌, map};
 ghost use Rattle.js_tokens.specs.Lexes.{IsTokenOf};
 ghost use Rattle.js_parser.specs.Signs.{look_up, words, marks, sign_of};
 
@@ -108,6 +108,7 @@ fn word_sign(spelling: &[u8]) -> Sign
     sign_in(&WORDS, spelling)
 }
 
+// The sign of a mark.
 #[tactic(auto, unfolding(crate::specs::Signs::marks))]
 fn mark_sign(spelling: &[u8]) -> Sign
     ensures { result ≡ look_up marks spelling.now }
@@ -115,21 +116,12 @@ fn mark_sign(spelling: &[u8]) -> Sign
     sign_in(&MARKS, spelling)
 }
 
-// The bytes of a token.
-fn between(bytes: &[u8], from: usize, to: usize) -> &[u8]
-    requires ordered { from ≤ to }
-    requires within { to ≤ length bytes.now }
-    ensures { result.now ≡ slice_range bytes.now from to }
-{
-    &bytes[from..to]
-}
-
-// What the grammar sees of a token of these bytes.
+/// What the grammar sees of a token of these bytes.
 pub fn sign_of(bytes: &[u8], token: &Token) -> Sign
     requires { IsTokenOf bytes.now token.now }
     ensures { result ≡ sign_of bytes.now token.now }
 {
-    let spelling = between(bytes, token.from, token.to);
+    let spelling = &bytes[token.from..token.to];
     match token.kind {
         TokenKind::Name => Sign::Name,
         TokenKind::Number => Sign::Number,

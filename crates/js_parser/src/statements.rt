@@ -1,15 +1,14 @@
 //! Statements: each function reads one row of the grammar (ECMA-262 3rd edition, sections 12 and 13).
 //! Its contract says, for whatever is to come after the row, how the grammar's machine goes on.
-ghost use Rattle.std.specs.Prelude.{◌≡◌, ◌≢◌, ℕ, Bool, true, false, None, suc, ◌+◌, ◌<◌, ◌≤◌, ◌^◌, List, [], ◌∷◌, ◌++◌, length, MatchResult, MatchBool, OnOk, IfOk, Option};
-ghost use Rattle.js_tree.specs.Forest.{IsStmt, stmt_at};
-ghost use Rattle.js_tree.specs.Plain.{Expr as PlainExpr, Stmts, NoStmts, Funs, NoFuns, ForInit as PlainInit, OptionalExpr, Decls, NoDecls, Catch as PlainCatch};
+ghost use Rattle.std.specs.Prelude.{◌≡◌, ◌≢◌, false, None, suc, ◌+◌, ◌<◌, ◌≤◌, ◌^◌, [], ◌∷◌, ◌++◌, length, MatchResult, MatchBool, OnOk, IfOk, Option};
+ghost use Rattle.js_tree.specs.Plain.{Expr as PlainExpr, Stmts, NoStmts, Funs, NoFuns, Decls, NoDecls};
 ghost use Rattle.js_tree.specs.Trees.{trees};
 ghost use Rattle.js_grammar.specs.declared.Sign.TheVariants as sign;
 ghost use Rattle.js_grammar.specs.Grammar.{Lexeme, own_text, own_places};
-ghost use Rattle.js_grammar.specs.Machine.{Frame, Wants, Did, AfterTry, FinallyBlock, FirstName, NamesEnd, FunOpen, InBody, Statement, InBlock, BlockAt, Test, AfterIf, VarName, VarTail, ForFirst, ForTest, ForEnd, ItemsAt, FirstCase, ForOver, whole as whole_frames};
+ghost use Rattle.js_grammar.specs.Machine.{Frame, Wants, FirstName, NamesEnd, FunOpen, InBody, Statement, InBlock, BlockAt, Test, AfterIf, VarName, VarTail, whole as whole_frames};
 ghost use Rattle.js_parser.specs.declared.refusal.Refusal.TheVariants as refusal;
 ghost use Rattle.js_parser.specs.Reads.{lexeme_at, Next, IsReady, Refuses, ReadsOne, ReadsFun, ReadsDecl, ReadsBody, IsOwn, own_at};
-ghost use Rattle.js_parser.specs.Walks.{OnlyAt, OnlyBlock, ends_list, ReadsMarked, ReadsStatements, ReadsBlock, ReadsElse, ReadsDecls, ReadsInit, ReadsFirst, ReadsSecond, ReadsThird, ReadsCases, ReadsLabels, labelled, IsUnlabelled, IsJump, IsNoJump, IsForIn, BeginsOnly, ReadsParams, ReadsCatch, ReadsFinally};
+ghost use Rattle.js_parser.specs.Walks.{OnlyAt, OnlyBlock, ends_list, ReadsMarked, ReadsStatements, ReadsBlock, ReadsElse, ReadsDecls, ReadsInit, ReadsLabels, IsUnlabelled, BeginsOnly, ReadsParams};
 
 use crate::branches::{break_statement, continue_statement, try_statement};
 use crate::descent::{add_named, add_statement, deeper, expect};
@@ -32,7 +31,7 @@ fn ends_list(sign: Sign) -> bool
     )
 }
 
-// An expression, and the mark after it.
+/// An expression, and the mark after it.
 #[cycle(parser)]
 pub fn marked(
     script: &Script,
@@ -52,7 +51,7 @@ pub fn marked(
     Ok((id, next))
 }
 
-// An expression in brackets.
+/// An expression in brackets.
 #[cycle(parser)]
 pub fn test(
     script: &Script,
@@ -70,7 +69,7 @@ pub fn test(
     marked(script, tree, first, inner, Sign::Close)
 }
 
-// Statements, up to what ends them.
+/// Statements, up to what ends them.
 #[cycle(parser)]
 pub fn statements(
     script: &Script,
@@ -95,7 +94,7 @@ pub fn statements(
     }
 }
 
-// Statements in braces.
+/// Statements in braces.
 #[cycle(parser)]
 pub fn block(
     script: &Script,
@@ -362,7 +361,7 @@ fn expression_statement(
     add_statement(script, tree, Stmt::Expr(id), at, next)
 }
 
-// Declared variables, up to what ends them.
+/// Declared variables, up to what ends them.
 #[cycle(parser)]
 pub fn declarations(
     script: &Script,
@@ -493,7 +492,7 @@ fn name_place(script: &Script, own: Option<usize>) -> Result<Vec<usize>, Memory>
     Ok(places)
 }
 
-// A function from its `(` on, where `word` is the place of its word.
+/// A function from its `(` on, where `word` is the place of its word.
 #[cycle(parser)]
 pub fn code(
     script: &Script,

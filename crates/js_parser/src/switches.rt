@@ -1,5 +1,5 @@
 //! `switch` (ECMA-262 3rd edition, 12.11).
-ghost use Rattle.std.specs.Prelude.{◌≡◌, ◌≢◌, suc, ◌+◌, ◌<◌, ◌≤◌, ◌∷◌, length, MatchResult};
+ghost use Rattle.std.specs.Prelude.{◌+◌, ◌<◌, ◌∷◌, length, MatchResult};
 ghost use Rattle.js_tree.specs.Trees.{trees};
 ghost use Rattle.js_grammar.specs.declared.Sign.TheVariants as sign;
 ghost use Rattle.js_grammar.specs.Machine.{Wants, Statement, FirstCase};
@@ -13,6 +13,7 @@ use crate::statements::{marked, statements, test};
 use js_grammar::Sign;
 use js_tree::{Clause, Stmt, StmtId, Tree};
 
+/// `switch`, with its clauses.
 #[cycle(parser)]
 pub fn switch_statement(
     script: &Script,

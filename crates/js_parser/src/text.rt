@@ -11,7 +11,7 @@ ghost use Rattle.js_grammar.specs.Machine.{begin};
 ghost use Rattle.js_parser.specs.declared.refusal.Refusal.TheVariants as refusal;
 ghost use Rattle.js_parser.specs.declared.ParseFault.TheVariants as fault;
 ghost use Rattle.js_parser.specs.Signs.{input};
-ghost use Rattle.js_parser.specs.Reads.{lexeme_at, goes};
+ghost use Rattle.js_parser.specs.Reads.{goes};
 ghost use Rattle.js_parser.specs.Parse.{IsRefusal, IsSaid, IsPlaced, Stops};
 
 use super::ParseFault;
@@ -58,6 +58,9 @@ fn fault_of(script: &Script, refusal: Refusal) -> ParseFault
 /// The tree of the tokens of these bytes.
 ///
 /// The tokens are those of the bytes, and fewer than 2^31.
+///
+/// `Syntax` at the first token with which no program begins, `TooDeep` at the token that opens the
+/// 201st link, `Memory` where there was none.
 pub fn parse(alloc: Global, bytes: &[u8], tokens: &[Token]) -> Result<Tree, ParseFault>
     requires tokens { Lexes bytes.now tokens.now }
     requires short { length tokens.now < 2 ^ 31 }
@@ -68,9 +71,7 @@ pub fn parse(alloc: Global, bytes: &[u8], tokens: &[Token]) -> Result<Tree, Pars
     // The place of a refusal is exact.
     ensures place { IfErr result (λ e. IsRefusal (input bytes.now tokens.now) e) }
 {
-    let Ok(script) = Script::new(alloc, bytes, tokens) else {
-        return Err(ParseFault::Memory);
-    };
+    let script = Script::new(alloc, bytes, tokens)?;
     let mut tree = Tree::new(alloc);
     match program(&script, &mut tree) {
         Ok(list) => {

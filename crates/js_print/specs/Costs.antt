@@ -76,6 +76,7 @@ use Rattle.js_tree.specs.Plain.{
   AndFun,
 }
 
+-- the sum
 abbrev pub total : List ℕ → ℕ
 total [] = 0
 total (n ∷ ns) = n + total ns
@@ -84,10 +85,12 @@ total (n ∷ ns) = n + total ns
 abbrev pub enclosed_cost : ℕ → ℕ
 enclosed_cost n = total (2 ∷ (1 + n) ∷ 2 ∷ [])
 
+-- a name, where there is one
 abbrev pub label_cost : Option (List ℕ) → ℕ
 label_cost None = 0
 label_cost (Some label) = total (2 ∷ [])
 
+-- names between commas
 abbrev pub names_cost : List (List ℕ) → ℕ
 names_cost [] = 0
 names_cost (text ∷ texts) = 5 + names_cost texts

@@ -104,9 +104,11 @@ listed (x ∷ xs) = x ++ more xs
 abbrev pub mark : List ℕ → Tokens
 mark bytes = bytes ∷ []
 
+-- a name or a number
 abbrev pub name : List ℕ → Tokens
 name text = name_bytes text ∷ []
 
+-- a string in its quotes
 abbrev pub quoted : List ℕ → Tokens
 quoted text = string_bytes text ∷ []
 
@@ -134,6 +136,7 @@ operator_level bin.BitAnd = BIT_AND
 operator_level bin.BitXor = BIT_XOR
 operator_level bin.BitOr = BIT_OR
 
+-- how tight a step binds
 abbrev pub step_level : StepOp → ℕ
 step_level step.PreInc = UNARY
 step_level step.PreDec = UNARY
@@ -171,6 +174,7 @@ is_opening _ = false
 abbrev pub is_enclosed : Bool → ℕ → ExprForm → Bool
 is_enclosed first level form = nat_lt (level_of form) level || (first && is_opening form)
 
+-- an expression in parentheses
 abbrev pub enclosed : Tokens → Tokens
 enclosed ts = flat (mark (codes "(") ∷ ts ∷ mark (codes ")") ∷ [])
 
@@ -178,6 +182,7 @@ enclosed ts = flat (mark (codes "(") ∷ ts ∷ mark (codes ")") ∷ [])
 abbrev pub braced : Tokens → Tokens
 braced ts = flat (mark (codes "{") ∷ ts ∷ mark (codes "}") ∷ [])
 
+-- a name, where there is one
 abbrev pub label_tokens : Option (List ℕ) → Tokens
 label_tokens None = []
 label_tokens (Some label) = name label
@@ -186,11 +191,12 @@ label_tokens (Some label) = name label
 abbrev pub var_tokens : Bool → Tokens
 var_tokens declared = if declared then mark (codes "var") else []
 
--- an `else` part that is one `if` stands without braces, and an empty one is left out
+-- a statement is an `if`
 abbrev pub is_if : Stmt → Bool
 is_if (StmtAt at names (If e a b)) = true
 is_if _ = false
 
+-- an `else` part that is one `if` stands without braces, and an empty one is left out
 abbrev pub else_tokens : Stmts → Tokens → Tokens
 else_tokens NoStmts ts = []
 else_tokens (AndStmt NoStmts s) ts = if is_if s then flat (mark (codes "else") ∷ ts ∷ []) else flat (mark (codes "else") ∷ braced ts ∷ [])

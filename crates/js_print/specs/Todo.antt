@@ -1,16 +1,18 @@
 -- What a piece of work has still to print.
 use Rattle.std.specs.Prelude.{◌≡◌, ℕ, ◌+◌, ◌≤◌, List, [], ◌∷◌, ◌++◌, Bool, false, if◌then◌else◌, map, All}
 use Rattle.js_tree.specs.Forest.{Forest, IsExpr, IsStmt, IsFun, expr_at, stmt_at, fun_at, exprs_at, stmts_at, funs_at, properties_at, decls_at, clauses_at, init_at, optional_at, catch_at, block_at, IsOptional, AreDecls, AreInit, AreClauseParts, AreCatch, AreBlock}
+use Rattle.js_tree.specs.Plain.{ExprForm, StmtForm}
 use Rattle.js_print.specs.declared.work.Work.{Work}
 use Rattle.js_print.specs.declared.work.Work.TheVariants as work
 use Rattle.js_print.specs.declared.levels.TheConstants.{WHOLE}
-use Rattle.js_print.specs.Costs.{enclosed_cost, label_cost, names_cost, expr_cost, exprs_cost, properties_cost, decls_cost, value_cost, optional_cost, init_cost, stmt_cost, stmts_cost, catch_cost, last_cost, clauses_cost, test_cost, fun_cost, funs_cost}
-use Rattle.js_print.specs.Tidy.{Tokens, enclosed, braced, more, listed, mark, name, quoted, label_tokens, var_tokens, else_tokens, expr_tokens, exprs_tokens, properties_tokens, decls_tokens, value_tokens, optional_tokens, init_tokens, stmt_tokens, stmts_tokens, catch_tokens, last_tokens, clauses_tokens, test_tokens, fun_tokens, funs_tokens}
+use Rattle.js_print.specs.Costs.{enclosed_cost, label_cost, names_cost, expr_cost, form_cost, exprs_cost, properties_cost, decls_cost, value_cost, optional_cost, init_cost, stmt_cost, stmt_form_cost, stmts_cost, catch_cost, last_cost, clauses_cost, test_cost, fun_cost, funs_cost}
+use Rattle.js_print.specs.Tidy.{Tokens, enclosed, braced, more, listed, mark, name, quoted, label_tokens, var_tokens, else_tokens, expr_tokens, form_tokens, exprs_tokens, properties_tokens, decls_tokens, value_tokens, optional_tokens, init_tokens, stmt_tokens, stmt_form_tokens, stmts_tokens, catch_tokens, last_tokens, clauses_tokens, test_tokens, fun_tokens, funs_tokens}
 
 -- a list of which some stood before
 abbrev pub between : Bool → List Tokens → Tokens
 between begun xs = if begun then more xs else listed xs
 
+-- the tokens of a piece
 abbrev pub work_tokens : Forest → Work → Tokens
 work_tokens f (work.Mark text) = mark text.now
 work_tokens f (work.Name text) = name text.now
@@ -71,6 +73,7 @@ inner_cost f (work.Label label) = label_cost label.now
 inner_cost f (work.Catch caught) = catch_cost (catch_at f caught.now)
 inner_cost f (work.Last last) = last_cost (block_at f last.now)
 
+-- how many steps it takes at most
 abbrev pub work_cost : Forest → Work → ℕ
 work_cost f w = 1 + inner_cost f w
 
@@ -101,10 +104,12 @@ abbrev pub row : Forest → List Work → Tokens
 row f [] = []
 row f (w ∷ ws) = work_tokens f w ++ row f ws
 
+-- how many steps they take at most
 abbrev pub row_cost : Forest → List Work → ℕ
 row_cost f [] = 0
 row_cost f (w ∷ ws) = work_cost f w + row_cost f ws
 
+-- they speak of nodes of the forest
 abbrev pub AreWork : Forest → List Work → Type 0
 AreWork f [] = Unit {0}
 AreWork f (w ∷ ws) = IsWork f w × AreWork f ws
@@ -119,3 +124,11 @@ pub record Pushes (f : Forest) (ts : Tokens) (cost : ℕ) (old new : List Work) 
   pub tokens : todo f new ≡ ts ++ todo f old
   pub steps : row_cost f new ≤ cost + row_cost f old
   pub valid : AreWork f old → AreWork f new
+
+-- a stack with an expression's form more, without its parentheses
+abbrev pub PushesForm : Forest → Bool → ExprForm → List Work → List Work → Type 0
+PushesForm f first form old new = Pushes f (form_tokens first form) (form_cost form) old new
+
+-- a stack with a statement's form more
+abbrev pub PushesStmt : Forest → StmtForm → List Work → List Work → Type 0
+PushesStmt f form old new = Pushes f (stmt_form_tokens form) (stmt_form_cost form) old new

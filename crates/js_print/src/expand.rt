@@ -1,279 +1,19 @@
 //! A piece of work taken apart, by the rows of the grammar.
-ghost use Rattle.std.specs.Prelude.{false, ◌+◌, ◌≡◌, ℕ, List, OnOk, All, Option, if◌then◌else◌, [], ◌∷◌, codes, map};
-ghost use Rattle.js_tree.specs.Forest.{Forest, IsExpr, IsStmt, IsFun, IsOptional, expr_at, optional_at, plain_form, plain_stmt, plain_stmt_form, plain_fun, exprs_at, stmts_at, funs_at, properties_at, decls_at, clauses_at, init_at, catch_at, block_at, AreExprParts, AreStmtParts, AreFunParts, AreDecls, AreInit, AreClauseParts, AreCatch, AreBlock};
-ghost use Rattle.js_tree.specs.Plain.{Step};
+ghost use Rattle.std.specs.Prelude.{false, ◌+◌, ◌≡◌, ℕ, List, OnOk, All, Option, [], ◌∷◌, codes, map};
+ghost use Rattle.js_tree.specs.Forest.{Forest, IsExpr, IsStmt, IsFun, IsOptional, expr_at, optional_at, plain_stmt, plain_fun, exprs_at, stmts_at, funs_at, properties_at, decls_at, clauses_at, init_at, catch_at, block_at, AreFunParts, AreDecls, AreInit, AreClauseParts, AreCatch, AreBlock};
 ghost use Rattle.js_tree.specs.Trees.{trees};
-ghost use Rattle.js_print.specs.Tidy.{enclosed, braced, flat, mark, name, is_if, label_tokens, var_tokens, optional_tokens, value_tokens, test_tokens, expr_tokens, form_tokens, exprs_tokens, properties_tokens, decls_tokens, stmts_tokens, funs_tokens, clauses_tokens, stmt_form_tokens, fun_tokens, init_tokens, catch_tokens, last_tokens, else_tokens};
-ghost use Rattle.js_print.specs.Costs.{enclosed_cost, label_cost, names_cost, expr_cost, form_cost, exprs_cost, properties_cost, decls_cost, value_cost, optional_cost, init_cost, stmt_form_cost, stmts_cost, catch_cost, last_cost, clauses_cost, test_cost, fun_cost, funs_cost};
-ghost use Rattle.js_print.specs.Todo.{IsToken, inner_cost, row_cost, work_tokens, IsWork, row, AreWork, Pushes, between};
+ghost use Rattle.js_print.specs.Tidy.{enclosed, braced, flat, mark, name, is_if, label_tokens, var_tokens, optional_tokens, value_tokens, test_tokens, expr_tokens, exprs_tokens, properties_tokens, decls_tokens, stmts_tokens, funs_tokens, clauses_tokens, fun_tokens, init_tokens, catch_tokens, last_tokens, else_tokens};
+ghost use Rattle.js_print.specs.Costs.{enclosed_cost, label_cost, names_cost, expr_cost, exprs_cost, properties_cost, decls_cost, value_cost, optional_cost, init_cost, stmts_cost, catch_cost, last_cost, clauses_cost, test_cost, fun_cost, funs_cost};
+ghost use Rattle.js_print.specs.Todo.{IsToken, inner_cost, work_tokens, IsWork, Pushes, between};
 
-use crate::levels::{
-    AND, ASSIGNMENT, BIT_OR, CHAIN, OR, PRIMARY, UNARY, WHOLE, assign_text, binary_text,
-    is_enclosed, operator_level, unary_text, word_text,
-};
-use crate::work::Work;
+use crate::expressions::expand_expr;
+use crate::levels::{ASSIGNMENT, WHOLE};
+use crate::statements::expand_stmt;
+use crate::work::{Work, push_all, push_comma, push_inside};
 use code_units::{Memory, Text};
-use js_tree::{Clause, Decl, Expr, ExprId, ForInit, Fun, FunId, StepOp, Stmt, StmtId, Tree};
+use js_tree::{Clause, Decl, ExprId, ForInit, Fun, FunId, Stmt, StmtId, Tree};
 
-// Pieces in the order of the text.
-fn push_all<'t>(work: &mut Vec<Work<'t>>, pieces: &[Work<'t>]) -> Result<(), Memory>
-    ensures { (f : Forest) → AreWork f pieces.now → OnOk result (Pushes f (row f pieces.now) (row_cost f pieces.now) work.old.items work.new.items) }
-{
-    let mut left = pieces.len();
-    'pieces: while left > 0 {
-        left -= 1;
-        work.push(pieces[left])?;
-    }
-    Ok(())
-}
-
-fn push_comma(begun: bool, work: &mut Vec<Work>) -> Result<(), Memory>
-    ensures { (f : Forest) → OnOk result (Pushes f (if begun then codes "," ∷ [] else []) 2 work.old.items work.new.items) }
-{
-    if begun {
-        return push_all(work, &[Work::Mark(",")]);
-    }
-    Ok(())
-}
-
-fn expand_form<'t>(node: &'t Expr, first: bool, work: &mut Vec<Work<'t>>) -> Result<(), Memory>
-    ensures { (f : Forest) → AreExprParts f node.now → OnOk result (Pushes f (form_tokens first (plain_form f node.now)) (form_cost (plain_form f node.now)) work.old.items work.new.items) }
-{
-    match node {
-        Expr::Num(text) => push_all(work, &[Work::Name(text)]),
-        Expr::Str(text) => push_all(work, &[Work::Quoted(text)]),
-        Expr::Name(text) => push_all(work, &[Work::Name(text)]),
-        Expr::Word(word) => push_all(work, &[Work::Mark(word_text(*word))]),
-        Expr::Array(ids) => push_all(
-            work,
-            &[Work::Mark("["), Work::Exprs(ids, false), Work::Mark("]")],
-        ),
-        Expr::Object(ps) => push_all(
-            work,
-            &[
-                Work::Mark("{"),
-                Work::Properties(ps, false),
-                Work::Mark("}"),
-            ],
-        ),
-        Expr::Function(id) => push_all(work, &[Work::Fun(*id)]),
-        Expr::Dot(e, text) => push_all(
-            work,
-            &[
-                Work::Expr(*e, CHAIN, first),
-                Work::Mark("."),
-                Work::Name(text),
-            ],
-        ),
-        Expr::Sub(a, b) => push_all(
-            work,
-            &[
-                Work::Expr(*a, CHAIN, first),
-                Work::Mark("["),
-                Work::Expr(*b, WHOLE, false),
-                Work::Mark("]"),
-            ],
-        ),
-        Expr::Call(e, ids) => push_all(
-            work,
-            &[
-                Work::Expr(*e, CHAIN, first),
-                Work::Mark("("),
-                Work::Exprs(ids, false),
-                Work::Mark(")"),
-            ],
-        ),
-        Expr::New(e, ids) => push_all(
-            work,
-            &[
-                Work::Mark("new"),
-                Work::Expr(*e, PRIMARY, false),
-                Work::Mark("("),
-                Work::Exprs(ids, false),
-                Work::Mark(")"),
-            ],
-        ),
-        Expr::Step(op, e) => expand_step(*op, *e, first, work),
-        Expr::Unary(op, e) => push_all(
-            work,
-            &[Work::Mark(unary_text(*op)), Work::Expr(*e, UNARY, false)],
-        ),
-        Expr::Binary(op, a, b) => {
-            let level = operator_level(*op);
-            push_all(
-                work,
-                &[
-                    Work::Expr(*a, level, first),
-                    Work::Mark(binary_text(*op)),
-                    Work::Expr(*b, level + 1, false),
-                ],
-            )
-        }
-        Expr::And(a, b) => push_all(
-            work,
-            &[
-                Work::Expr(*a, AND, first),
-                Work::Mark("&&"),
-                Work::Expr(*b, BIT_OR, false),
-            ],
-        ),
-        Expr::Or(a, b) => push_all(
-            work,
-            &[
-                Work::Expr(*a, OR, first),
-                Work::Mark("||"),
-                Work::Expr(*b, AND, false),
-            ],
-        ),
-        Expr::Cond(a, b, c) => push_all(
-            work,
-            &[
-                Work::Expr(*a, OR, first),
-                Work::Mark("?"),
-                Work::Expr(*b, ASSIGNMENT, false),
-                Work::Mark(":"),
-                Work::Expr(*c, ASSIGNMENT, false),
-            ],
-        ),
-        Expr::Assign(op, a, b) => push_all(
-            work,
-            &[
-                Work::Expr(*a, CHAIN, first),
-                Work::Mark(assign_text(*op)),
-                Work::Expr(*b, ASSIGNMENT, false),
-            ],
-        ),
-        Expr::Comma(a, b) => push_all(
-            work,
-            &[
-                Work::Expr(*a, WHOLE, first),
-                Work::Mark(","),
-                Work::Expr(*b, ASSIGNMENT, false),
-            ],
-        ),
-    }
-}
-
-fn expand_step(op: StepOp, e: ExprId, first: bool, work: &mut Vec<Work>) -> Result<(), Memory>
-    ensures { (f : Forest) → IsExpr f e → OnOk result (Pushes f (form_tokens first (Step op (expr_at f e))) (form_cost (Step op (expr_at f e))) work.old.items work.new.items) }
-{
-    match op {
-        StepOp::PreInc => push_all(work, &[Work::Mark("++"), Work::Expr(e, UNARY, false)]),
-        StepOp::PreDec => push_all(work, &[Work::Mark("--"), Work::Expr(e, UNARY, false)]),
-        StepOp::PostInc => push_all(work, &[Work::Expr(e, CHAIN, first), Work::Mark("++")]),
-        StepOp::PostDec => push_all(work, &[Work::Expr(e, CHAIN, first), Work::Mark("--")]),
-    }
-}
-
-fn expand_stmt<'t>(node: &'t Stmt, work: &mut Vec<Work<'t>>) -> Result<(), Memory>
-    ensures { (f : Forest) → AreStmtParts f node.now → OnOk result (Pushes f (stmt_form_tokens (plain_stmt_form f node.now)) (stmt_form_cost (plain_stmt_form f node.now)) work.old.items work.new.items) }
-{
-    match node {
-        Stmt::Var(ds) => push_all(
-            work,
-            &[Work::Mark("var"), Work::Decls(ds, false), Work::Mark(";")],
-        ),
-        Stmt::Expr(e) => push_all(work, &[Work::Expr(*e, WHOLE, true), Work::Mark(";")]),
-        Stmt::If(e, a, b) => push_all(
-            work,
-            &[
-                Work::Mark("if"),
-                Work::Head(*e),
-                Work::Block(a),
-                Work::Else(b),
-            ],
-        ),
-        Stmt::While(e, body) => push_all(
-            work,
-            &[Work::Mark("while"), Work::Head(*e), Work::Block(body)],
-        ),
-        Stmt::DoWhile(e, body) => push_all(
-            work,
-            &[
-                Work::Mark("do"),
-                Work::Block(body),
-                Work::Mark("while"),
-                Work::Head(*e),
-                Work::Mark(";"),
-            ],
-        ),
-        Stmt::For(init, test, next, body) => push_all(
-            work,
-            &[
-                Work::Mark("for"),
-                Work::Mark("("),
-                Work::Init(init),
-                Work::Mark(";"),
-                Work::Optional(*test),
-                Work::Mark(";"),
-                Work::Exprs(next, false),
-                Work::Mark(")"),
-                Work::Block(body),
-            ],
-        ),
-        Stmt::ForIn(declared, text, e, body) => push_all(
-            work,
-            &[
-                Work::Mark("for"),
-                Work::Mark("("),
-                Work::Declared(*declared),
-                Work::Name(text),
-                Work::Mark("in"),
-                Work::Expr(*e, WHOLE, false),
-                Work::Mark(")"),
-                Work::Block(body),
-            ],
-        ),
-        Stmt::Continue(label) => push_all(
-            work,
-            &[Work::Mark("continue"), Work::Label(label), Work::Mark(";")],
-        ),
-        Stmt::Break(label) => push_all(
-            work,
-            &[Work::Mark("break"), Work::Label(label), Work::Mark(";")],
-        ),
-        Stmt::Return(e) => push_all(
-            work,
-            &[Work::Mark("return"), Work::Optional(*e), Work::Mark(";")],
-        ),
-        Stmt::Throw(e) => push_all(
-            work,
-            &[
-                Work::Mark("throw"),
-                Work::Expr(*e, WHOLE, false),
-                Work::Mark(";"),
-            ],
-        ),
-        Stmt::With(e, body) => push_all(
-            work,
-            &[Work::Mark("with"), Work::Head(*e), Work::Block(body)],
-        ),
-        Stmt::Switch(e, clauses) => push_all(
-            work,
-            &[
-                Work::Mark("switch"),
-                Work::Head(*e),
-                Work::Mark("{"),
-                Work::Clauses(clauses),
-                Work::Mark("}"),
-            ],
-        ),
-        Stmt::Try(body, caught, last) => push_all(
-            work,
-            &[
-                Work::Mark("try"),
-                Work::Block(body),
-                Work::Catch(caught),
-                Work::Last(last),
-            ],
-        ),
-        Stmt::Label(text, s) => push_all(
-            work,
-            &[Work::Name(text), Work::Mark(":"), Work::Stmt(*s)],
-        ),
-    }
-}
-
+#[tactic(auto, unfolding(crate::specs::Tidy::fun_tokens, crate::specs::Costs::fun_cost))]
 fn expand_fun<'t>(node: &'t Fun, work: &mut Vec<Work<'t>>) -> Result<(), Memory>
     ensures { (f : Forest) (names : List ℕ) → AreFunParts f node.now → OnOk result (Pushes f (fun_tokens (plain_fun f node.now names)) (fun_cost (plain_fun f node.now names)) work.old.items work.new.items) }
 {
@@ -296,20 +36,13 @@ fn expand_fun<'t>(node: &'t Fun, work: &mut Vec<Work<'t>>) -> Result<(), Memory>
 fn expand_head(id: ExprId, work: &mut Vec<Work>) -> Result<(), Memory>
     ensures { (f : Forest) → IsExpr f id → OnOk result (Pushes f (enclosed (expr_tokens false WHOLE (expr_at f id))) (enclosed_cost (expr_cost (expr_at f id))) work.old.items work.new.items) }
 {
-    push_all(
-        work,
-        &[
-            Work::Mark("("),
-            Work::Expr(id, WHOLE, false),
-            Work::Mark(")"),
-        ],
-    )
+    push_inside("(", Work::Expr(id, WHOLE, false), ")", work)
 }
 
 fn expand_block<'t>(ids: &'t [StmtId], work: &mut Vec<Work<'t>>) -> Result<(), Memory>
     ensures { (f : Forest) → All (IsStmt f) ids.now → OnOk result (Pushes f (braced (stmts_tokens (stmts_at f ids.now))) (enclosed_cost (stmts_cost (stmts_at f ids.now))) work.old.items work.new.items) }
 {
-    push_all(work, &[Work::Mark("{"), Work::Stmts(ids), Work::Mark("}")])
+    push_inside("{", Work::Stmts(ids), "}", work)
 }
 
 fn expand_exprs<'t>(ids: &'t [ExprId], begun: bool, work: &mut Vec<Work<'t>>) -> Result<(), Memory>
@@ -445,6 +178,7 @@ fn expand_else<'t>(tree: &Tree, ids: &'t [StmtId], work: &mut Vec<Work<'t>>) -> 
     }
 }
 
+#[tactic(auto, unfolding(crate::specs::Tidy::init_tokens, crate::specs::Costs::init_cost))]
 fn expand_init<'t>(init: &'t ForInit, work: &mut Vec<Work<'t>>) -> Result<(), Memory>
     ensures { (f : Forest) → AreInit f init.now → OnOk result (Pushes f (init_tokens (init_at f init.now)) (init_cost (init_at f init.now)) work.old.items work.new.items) }
 {
@@ -454,6 +188,7 @@ fn expand_init<'t>(init: &'t ForInit, work: &mut Vec<Work<'t>>) -> Result<(), Me
     }
 }
 
+#[tactic(auto, unfolding(crate::specs::Tidy::optional_tokens, crate::specs::Costs::optional_cost))]
 fn expand_optional(e: Option<ExprId>, work: &mut Vec<Work>) -> Result<(), Memory>
     ensures { (f : Forest) → IsOptional f e → OnOk result (Pushes f (optional_tokens (optional_at f e)) (optional_cost (optional_at f e)) work.old.items work.new.items) }
 {
@@ -463,6 +198,7 @@ fn expand_optional(e: Option<ExprId>, work: &mut Vec<Work>) -> Result<(), Memory
     }
 }
 
+#[tactic(auto, unfolding(crate::specs::Tidy::value_tokens, crate::specs::Costs::value_cost))]
 fn expand_value(e: Option<ExprId>, work: &mut Vec<Work>) -> Result<(), Memory>
     ensures { (f : Forest) → IsOptional f e → OnOk result (Pushes f (value_tokens (optional_at f e)) (value_cost (optional_at f e)) work.old.items work.new.items) }
 {
@@ -472,6 +208,7 @@ fn expand_value(e: Option<ExprId>, work: &mut Vec<Work>) -> Result<(), Memory>
     }
 }
 
+#[tactic(auto, unfolding(crate::specs::Tidy::test_tokens, crate::specs::Costs::test_cost))]
 fn expand_test(e: Option<ExprId>, work: &mut Vec<Work>) -> Result<(), Memory>
     ensures { (f : Forest) → IsOptional f e → OnOk result (Pushes f (test_tokens (optional_at f e)) (test_cost (optional_at f e)) work.old.items work.new.items) }
 {
@@ -499,6 +236,7 @@ fn expand_label<'t>(label: &'t Option<Text>, work: &mut Vec<Work<'t>>) -> Result
     }
 }
 
+#[tactic(auto, unfolding(crate::specs::Tidy::catch_tokens, crate::specs::Costs::catch_cost))]
 fn expand_catch<'t>(
     caught: &'t Option<(Text, Vec<StmtId>)>,
     work: &mut Vec<Work<'t>>,
@@ -520,6 +258,7 @@ fn expand_catch<'t>(
     }
 }
 
+#[tactic(auto, unfolding(crate::specs::Tidy::last_tokens, crate::specs::Costs::last_cost))]
 fn expand_last<'t>(last: &'t Option<Vec<StmtId>>, work: &mut Vec<Work<'t>>) -> Result<(), Memory>
     ensures { (f : Forest) → AreBlock f last.now → OnOk result (Pushes f (last_tokens (block_at f last.now)) (last_cost (block_at f last.now)) work.old.items work.new.items) }
 {
@@ -527,25 +266,6 @@ fn expand_last<'t>(last: &'t Option<Vec<StmtId>>, work: &mut Vec<Work<'t>>) -> R
         None => Ok(()),
         Some(body) => push_all(work, &[Work::Mark("finally"), Work::Block(body)]),
     }
-}
-
-fn expand_expr<'t>(
-    tree: &'t Tree,
-    id: ExprId,
-    level: u8,
-    first: bool,
-    work: &mut Vec<Work<'t>>,
-) -> Result<(), Memory>
-    requires { IsExpr (trees tree.now) id }
-    ensures { OnOk result (Pushes (trees tree.now) (expr_tokens first level (expr_at (trees tree.now) id)) (expr_cost (expr_at (trees tree.now) id)) work.old.items work.new.items) }
-{
-    let node = tree.expr(id);
-    if is_enclosed(node, level, first) {
-        push_all(work, &[Work::Mark(")")])?;
-        expand_form(node, false, work)?;
-        return push_all(work, &[Work::Mark("(")]);
-    }
-    expand_form(node, first, work)
 }
 
 /// Takes a piece that is no token apart: its pieces stand on the stack in its place.

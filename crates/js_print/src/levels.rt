@@ -6,38 +6,39 @@ ghost use Rattle.js_print.specs.Tidy.{operator_level, step_level, binary_level, 
 
 use js_tree::{AssignOp, BinOp, Expr, StepOp, UnOp, Word};
 
+/// Below every level that is asked for, so that an operator `in` has parentheses everywhere.
 pub const LOOSE: u8 = 0;
-
+/// A whole expression: `a, b`.
 pub const WHOLE: u8 = 1;
-
+/// `a = b` and `a ? b : c`.
 pub const ASSIGNMENT: u8 = 2;
-
+/// `a || b`.
 pub const OR: u8 = 3;
-
+/// `a && b`.
 pub const AND: u8 = 4;
-
+/// `a | b`.
 pub const BIT_OR: u8 = 5;
-
+/// `a ^ b`.
 pub const BIT_XOR: u8 = 6;
-
+/// `a & b`.
 pub const BIT_AND: u8 = 7;
-
+/// `a == b` and its kin.
 pub const EQUALITY: u8 = 8;
-
+/// `a < b` and its kin.
 pub const RELATION: u8 = 9;
-
+/// `a << b` and its kin.
 pub const SHIFT: u8 = 10;
-
+/// `a + b` and `a - b`.
 pub const SUM: u8 = 11;
-
+/// `a * b`, `a / b` and `a % b`.
 pub const PRODUCT: u8 = 12;
-
+/// `-a` and its kin, and `++a`.
 pub const UNARY: u8 = 13;
-
+/// `a++` and `a--`.
 pub const STEP: u8 = 14;
-
+/// `a.b`, `a[b]`, `a(b)` and `new a(b)`.
 pub const CHAIN: u8 = 15;
-
+/// A name, a literal, or parentheses.
 pub const PRIMARY: u8 = 16;
 
 /// How tight an operator binds its operands.

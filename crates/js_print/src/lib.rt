@@ -2,8 +2,10 @@
 #![tactic(auto)]
 
 mod expand;
+mod expressions;
 mod levels;
 mod print;
+mod statements;
 mod work;
 mod write;
 

@@ -1,6 +1,6 @@
 //! Printed texts of small trees, and of a long chain.
-ghost use Rattle.std.specs.Prelude.{◌≡◌, ◌+◌, ◌<◌, ◌≤◌, ◌^◌, length, IfOk, OnOk, [], ◌∷◌};
-ghost use Rattle.js_tree.specs.Forest.{Forest, IsExpr, IsStmt, IsFun, AreExprParts, AreStmtParts, size};
+ghost use Rattle.std.specs.Prelude.{◌+◌, ◌<◌, ◌^◌, length, IfOk};
+ghost use Rattle.js_tree.specs.Forest.{Forest, IsExpr, IsStmt, IsFun, AreExprParts, AreStmtParts};
 ghost use Rattle.js_tree.specs.Trees.{trees};
 
 use crate::print_tree;

@@ -1,14 +1,16 @@
 //! Tokens as bytes. A refusal leaves a front of the token appended.
-ghost use Rattle.std.specs.Prelude.{◌≡◌, ◌<◌, ◌++◌, MatchResult};
-ghost use Rattle.js_print.specs.Spelling.{hex_digit, unit_bytes, quoted_unit, name_bytes, string_bytes};
+ghost use Rattle.std.specs.Prelude.{false, ◌≡◌, ◌<◌, ◌++◌, MatchResult};
+ghost use Rattle.std.specs.Fmt.{digit_glyph};
+ghost use Rattle.js_print.specs.Spelling.{unit_bytes, quoted_unit, name_bytes, string_bytes};
 ghost use Rattle.js_print.specs.Walk.{space};
 ghost use Rattle.js_print.specs.Writing.{AppendsFront};
 
 use code_units::{Memory, Text};
 
+// A lower-case hexadecimal digit.
 fn hex_digit(n: u16) -> u8
     requires { n < 16 }
-    ensures { result ≡ hex_digit n }
+    ensures { result ≡ digit_glyph false n }
 {
     if n < 10 {
         b'0' + n as u8

@@ -4,8 +4,8 @@ use Rattle.std.specs.Prelude.{Result, Ok, Err, IfOk, IfErr, MatchResult}
 use Rattle.std.specs.Global.{Vec}
 use Rattle.plain_tree.specs.declared.plain.Plain.{Plain}
 use Rattle.std.specs.Str.{IsUtf8, IsValidUpTo}
-use Rattle.markup_grammar.specs.Judge.{Judged, Read, Bad, judged}
-use Rattle.markup_grammar.specs.Markup.{MarkupSpells, BadMarkupPlace}
+use Rattle.markup_grammar.specs.Judge.{Read, Bad, judged}
+use Rattle.markup_grammar.specs.Markup.{MarkupSpells}
 use Rattle.markup_grammar.proofs.Answers.{trees_are}
 use Rattle.markup_grammar.proofs.Places.{spells_judged, text_judged}
 use Rattle.markup_grammar.proofs.Broken.{broken_judged}

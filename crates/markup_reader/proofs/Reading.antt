@@ -1,5 +1,5 @@
 -- Reading a text character by character.
-use Rattle.std.proofs.Common.{◌≡◌, ℕ, ◌+◌, ◌≤◌, List, [], ◌∷◌, ◌++◌, Some, None, length, refl, sym, ap, ◌∙◌, arith, length-append, encode_utf8}
+use Rattle.std.proofs.Common.{◌≡◌, ℕ, ◌+◌, ◌≤◌, List, [], ◌∷◌, ◌++◌, Some, None, length, sym, ap, ◌∙◌, arith, length-append, encode_utf8}
 use Rattle.std.specs.Str.{IsUtf8, chars}
 use Rattle.std.specs.Char.{len_utf8}
 use Rattle.std.proofs.lemmas.Str.{IsUtf8-past_char, chars_past_char, chars-nil, length-encode, len_utf8_bounds}
@@ -11,7 +11,7 @@ use Rattle.plain_tree.specs.Trees.{Trees}
 use Rattle.plain_tree.specs.Plains.{Places}
 use Rattle.markup_reader.specs.declared.fault.MarkupFault.{MarkupFault}
 use Rattle.markup_reader.specs.declared.fault.MarkupFault.TheVariants as fault
-use Rattle.markup_grammar.specs.Judge.{Outcome, Reached, Stuck, goes_on, reads, judged, behind, ends}
+use Rattle.markup_grammar.specs.Judge.{Reached, Stuck, goes_on, reads, judged, behind, ends}
 use Rattle.markup_reader.specs.States.{spot, IsStuck, IsJudged}
 
 -- what is left of the text, and what comes of it

@@ -17,7 +17,7 @@ use plain_tree::{Attr, Plain};
 use std::mem;
 
 impl Reader {
-    // Behind an element, or where content begins.
+    /// Behind an element, or where content begins.
     pub fn between(&mut self, c: char, at: usize) -> Result<(), Stop>
         ensures { Took (machine.between (trees_of self.old) (opens_of self.old) (sign_of c) (spot c at)) result (state_of self.new) }
     {
@@ -41,6 +41,7 @@ impl Reader {
         Ok(())
     }
 
+    /// In a text.
     pub fn in_text(&mut self, c: char, at: usize) -> Result<(), Stop>
         ensures { Took (machine.in_run (text_run self.old) (trees_of self.old) (opens_of self.old) (sign_of c) (spot c at)) result (state_of self.new) }
     {
@@ -59,6 +60,7 @@ impl Reader {
         Ok(())
     }
 
+    /// In the value of an attribute.
     pub fn in_value(&mut self, c: char, at: usize) -> Result<(), Stop>
         ensures { Took (machine.in_run (value_run self.old) (trees_of self.old) (opens_of self.old) (sign_of c) (spot c at)) result (state_of self.new) }
     {
@@ -74,7 +76,7 @@ impl Reader {
         Ok(())
     }
 
-    // The text ends.
+    /// The text ends.
     #[tactic(auto, using(crate::proofs::Grows::one_text))]
     pub fn end_text(&mut self) -> Result<(), Memory>
         ensures nodes { OnOk result (trees_of self.new ≡ beside (trees_of self.old) (text_node self.old.units.items self.old.text_at)) }
@@ -103,7 +105,7 @@ impl Reader {
         Ok(())
     }
 
-    // In an end tag, of whose name so many units are read.
+    /// In an end tag, of whose name so many units are read.
     pub fn ending(&mut self, read: usize, c: char, at: usize) -> Result<(), Stop>
         ensures { Took (machine.ending (drop read (top_tag (opens_of self.old))) (trees_of self.old) (opens_of self.old) (sign_of c) (spot c at)) result (state_of self.new) }
     {
@@ -127,7 +129,7 @@ impl Reader {
         }
     }
 
-    // Behind the name of an end tag.
+    /// Behind the name of an end tag.
     pub fn ended(&mut self, c: char, at: usize) -> Result<(), Stop>
         ensures { Took (machine.ended (trees_of self.old) (opens_of self.old) (sign_of c) (spot c at)) result (state_of self.new) }
     {

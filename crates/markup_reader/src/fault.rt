@@ -25,10 +25,12 @@ impl From<Memory> for MarkupFault {
     }
 }
 
-// Why a character is not taken.
+/// Why a character is not taken.
 #[derive(Clone, Copy, Debug, Drop)]
 pub enum Stop {
+    /// No content goes on with it.
     Bad,
+    /// There was no memory.
     Memory,
 }
 

@@ -28,7 +28,7 @@ fn is_bare(name: &Text) -> bool
 }
 
 impl Reader {
-    // Behind `<`.
+    /// Behind `<`.
     pub fn begun(&mut self, c: char, at: usize) -> Result<(), Stop>
         ensures { Took (machine.begun self.old.head.at (trees_of self.old) (opens_of self.old) (sign_of c) (spot c at)) result (state_of self.new) }
     {
@@ -66,6 +66,7 @@ impl Reader {
         Ok(())
     }
 
+    /// In the name of a tag.
     pub fn tag_name(&mut self, c: char, at: usize) -> Result<(), Stop>
         requires { at + 1 < 2 ^ 64 }
         ensures { Took (machine.tag_name self.old.head.at self.old.units.items (trees_of self.old) (opens_of self.old) (sign_of c) (spot c at)) result (state_of self.new) }
@@ -80,7 +81,7 @@ impl Reader {
         self.in_head(c, at)
     }
 
-    // Behind the name of a tag, a value or an attribute that stands bare.
+    /// Behind the name of a tag, a value or an attribute that stands bare.
     pub fn in_head(&mut self, c: char, at: usize) -> Result<(), Stop>
         requires { at + 1 < 2 ^ 64 }
         ensures { Took (machine.in_head (opening_of self.old.head) (trees_of self.old) (opens_of self.old) (sign_of c) (spot c at)) result (state_of self.new) }
@@ -129,7 +130,7 @@ impl Reader {
         })
     }
 
-    // Adds the element of the head, whole.
+    /// Adds the element of the head, whole.
     #[tactic(auto, using(crate::proofs::Grows::one_element))]
     pub fn add_element(&mut self, children: Vec<Plain>) -> Result<(), Memory>
         ensures { OnOk result (state_of self.new ≡ machine.added (opening_of self.old.head) (placed_all children.items) (trees_of self.old) (opens_of self.old)) }
@@ -145,7 +146,7 @@ impl Reader {
         Ok(())
     }
 
-    // Behind blanks.
+    /// Behind blanks.
     pub fn spaced(&mut self, c: char, at: usize) -> Result<(), Stop>
         requires { at + 1 < 2 ^ 64 }
         ensures { Took (machine.spaced (opening_of self.old.head) (trees_of self.old) (opens_of self.old) (sign_of c) (spot c at)) result (state_of self.new) }
@@ -162,6 +163,7 @@ impl Reader {
         }
     }
 
+    /// In the name of an attribute.
     pub fn attribute_name(&mut self, c: char, at: usize) -> Result<(), Stop>
         requires { at + 1 < 2 ^ 64 }
         ensures { Took (machine.attribute_name (opening_of self.old.head) self.old.name_at self.old.units.items (trees_of self.old) (opens_of self.old) (sign_of c) (spot c at)) result (state_of self.new) }
@@ -199,7 +201,7 @@ impl Reader {
         self.in_head(c, at)
     }
 
-    // Behind `=`.
+    /// Behind `=`.
     pub fn assigned(&mut self, c: char, at: usize) -> Result<(), Stop>
         requires { at + 1 < 2 ^ 64 }
         ensures { Took (machine.assigned (opening_of self.old.head) self.old.name_at self.old.name (trees_of self.old) (opens_of self.old) (sign_of c) (spot c at)) result (state_of self.new) }
@@ -215,7 +217,7 @@ impl Reader {
         Ok(())
     }
 
-    // Behind the `/` of a void element.
+    /// Behind the `/` of a void element.
     pub fn slashed(&mut self, c: char, at: usize) -> Result<(), Stop>
         ensures { Took (machine.slashed (opening_of self.old.head) (trees_of self.old) (opens_of self.old) (sign_of c) (spot c at)) result (state_of self.new) }
     {

@@ -1,13 +1,13 @@
 //! What has been read since the last element.
 
-// Where units go: to a text or to the value of an attribute.
+/// Where units go: to a text or to the value of an attribute.
 #[derive(Clone, Copy, Debug, Drop)]
 pub enum Run {
     Text,
     Value,
 }
 
-// A named reference.
+/// A named reference.
 #[derive(Clone, Copy, Debug, Drop)]
 pub enum Named {
     Amp,
@@ -17,39 +17,43 @@ pub enum Named {
     Nbsp,
 }
 
-// A reference whose front is read.
+/// A reference whose front is read.
 #[derive(Clone, Copy, Debug, Drop)]
 pub enum Referring {
     Ampersand,
-    // and how much of the name
+    /// And how much of the name.
     Named(Named, usize),
-    // how many digits, and their value
+    /// How many digits, and their value.
     Number(u32, u32),
 }
 
+/// Where the reader stands.
 #[derive(Clone, Copy, Debug, Drop)]
 pub enum Mode {
-    // behind an element, or where content begins
+    /// Behind an element, or where content begins.
     Between,
     In(Run),
     Refers(Run, Referring),
-    // behind `<`
+    /// Behind `<`.
     Begun,
     TagName,
-    // behind a value
+    /// Behind a value.
     Valued,
-    // behind blanks in a head
+    /// Behind blanks in a head.
     Spaced,
     AttributeName,
-    // behind `=`
+    /// Behind `=`.
     Assigned,
-    // behind the `/` of a void element
+    /// Behind the `/` of a void element.
     Slashed,
-    // in an end tag, and how much of its name is read; behind it
+    /// In an end tag, and how much of its name is read.
     Ending(usize),
+    /// Behind the name of an end tag.
     Ended,
-    // in a script; the same behind `<`; behind `</`, and how much of the name is read
+    /// In a script.
     InRaw,
+    /// In a script, behind `<`.
     RawBegun,
+    /// In a script, behind `</`, and how much of the name is read.
     RawEnding(usize),
 }

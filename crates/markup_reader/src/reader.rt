@@ -10,7 +10,7 @@ use code_units::{Memory, Text};
 use plain_tree::{Attr, Plain};
 use std::alloc::Global;
 
-// The head of an element: its tag, its attributes so far, and its place.
+/// The head of an element: its tag, its attributes so far, and its place.
 #[derive(Drop)]
 pub struct Head {
     pub tag: Text,
@@ -18,32 +18,34 @@ pub struct Head {
     pub at: usize,
 }
 
-// An element whose content is read, and the trees that stand before it.
+/// An element whose content is read, and the trees that stand before it.
 #[derive(Drop)]
 pub struct Open {
     pub before: Vec<Plain>,
     pub head: Head,
 }
 
+/// The trees so far, the open elements, and what is being read.
 #[derive(Drop)]
 pub struct Reader {
     pub alloc: Global,
     pub mode: Mode,
     pub nodes: Vec<Plain>,
-    // the innermost last
+    /// The innermost last.
     pub open: Vec<Open>,
     pub head: Head,
-    // the attribute whose value is read
+    /// Of the attribute whose value is read.
     pub name: Text,
     pub name_at: usize,
     pub value_at: usize,
     pub double: bool,
-    // of the text, the value or the name that is read
+    /// Of the text, the value or the name that is read.
     pub units: Vec<u16>,
     pub text_at: usize,
 }
 
 impl Reader {
+    /// Where content begins.
     pub fn new(alloc: Global) -> Result<Reader, Memory>
         ensures { IfOk result (λ r. state_of r ≡ begin) }
     {
@@ -66,7 +68,7 @@ impl Reader {
         })
     }
 
-    // Takes one character, which stands at `at`.
+    /// Takes one character, which stands at `at`.
     pub fn take(&mut self, c: char, at: usize) -> Result<(), Stop>
         requires { at + 1 < 2 ^ 64 }
         ensures { Took (step (state_of self.old) (sign_of c) (spot c at)) result (state_of self.new) }

@@ -63,6 +63,7 @@ fn is_referable(code: u32) -> bool
 }
 
 impl Reader {
+    /// In a reference.
     pub fn in_reference(
         &mut self,
         run: Run,

@@ -13,6 +13,7 @@ use markup_grammar::Sign;
 use plain_tree::Plain;
 
 impl Reader {
+    /// In a script.
     pub fn in_raw(&mut self, c: char, at: usize) -> Result<(), Stop>
         ensures { Took (machine.in_raw (opening_of self.old.head) self.old.text_at self.old.units.items (trees_of self.old) (opens_of self.old) (sign_of c) (spot c at)) result (state_of self.new) }
     {
@@ -26,7 +27,7 @@ impl Reader {
         Ok(())
     }
 
-    // Behind `<`.
+    /// Behind `<`.
     pub fn raw_begun(&mut self, c: char, at: usize) -> Result<(), Stop>
         ensures { Took (machine.raw_begun (opening_of self.old.head) self.old.text_at self.old.units.items (trees_of self.old) (opens_of self.old) (sign_of c) (spot c at)) result (state_of self.new) }
     {
@@ -42,7 +43,7 @@ impl Reader {
         }
     }
 
-    // Behind `</` and so many bytes of the name.
+    /// Behind `</` and so many bytes of the name.
     pub fn raw_ending(&mut self, read: usize, c: char, at: usize) -> Result<(), Stop>
         ensures { Took (machine.raw_ending (opening_of self.old.head) self.old.text_at self.old.units.items (drop read (codes "script")) (trees_of self.old) (opens_of self.old) (sign_of c) (spot c at)) result (state_of self.new) }
     {

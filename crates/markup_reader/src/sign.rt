@@ -5,6 +5,7 @@ ghost use Rattle.markup_reader.specs.States.{IsInName};
 
 use markup_grammar::Sign;
 
+/// The character as the grammar sees it.
 pub fn sign_of(c: char) -> Sign
     ensures { result ≡ sign_of c }
 {
@@ -26,14 +27,14 @@ pub fn sign_of(c: char) -> Sign
     }
 }
 
-// Whether the character goes on in the name of a tag.
+/// Whether the character goes on in the name of a tag.
 pub fn is_in_tag(sign: Sign) -> bool
     ensures { result ≡ in_tag sign }
 {
     matches!(sign, Sign::Letter | Sign::Digit)
 }
 
-// The unit of a character of a name.
+/// The unit of a character of a name.
 pub fn name_unit(c: char) -> u16
     requires { IsInName (sign_of c) }
     ensures { result ≡ c }

@@ -6,7 +6,7 @@ use code_units::{Memory, Text};
 use std::alloc::Global;
 use std::mem;
 
-// Appends the units of a character.
+/// Appends the units of a character.
 pub fn push_char(units: &mut Vec<u16>, c: char) -> Result<(), Memory>
     ensures { OnOk result (units.new.items ≡ units.old.items ++ encode_utf16 c) }
 {
@@ -14,14 +14,14 @@ pub fn push_char(units: &mut Vec<u16>, c: char) -> Result<(), Memory>
     Ok(())
 }
 
-// The text of the units, which are taken out.
+/// The text of the units, which are taken out.
 pub fn take_text(alloc: Global, units: &mut Vec<u16>) -> Result<Text, Memory>
     ensures { IfOk result (λ t. t ≡ units.old.items) }
 {
     Text::from_units(alloc, mem::replace(units, Vec::new(alloc)))
 }
 
-// The unit of a word at a place; none behind its end.
+/// The unit of a word at a place; none behind its end.
 pub fn unit_at(word: &[u16], at: usize) -> Option<u16>
     ensures unit { MatchOption result (drop at word.now ≡ []) (λ u. drop at word.now ≡ u ∷ drop (at + 1) word.now) }
     ensures within { IfSome result (λ _. at < length word.now) }
@@ -29,7 +29,7 @@ pub fn unit_at(word: &[u16], at: usize) -> Option<u16>
     word.get(at).copied()
 }
 
-// The byte of a word at a place; none behind its end.
+/// The byte of a word at a place; none behind its end.
 pub fn byte_at(word: &[u8], at: usize) -> Option<u8>
     ensures { MatchOption result (drop at word.now ≡ []) (λ u. drop at word.now ≡ u ∷ drop (at + 1) word.now) }
 {

@@ -1,19 +1,21 @@
 -- A cell is added.
 use Rattle.std.proofs.Common.{◌≡◌, ℕ, zero, suc, ◌+◌, ◌<◌, ◌≤◌, List, [], ◌∷◌, ◌++◌, length, refl, sym, ap, ◌∙◌, subst, Option, Some, None, arith, Bool, true, false, eqb, if◌then◌else◌, length-append}
+use Rattle.std.specs.List.{count_by}
 use Rattle.std.specs.Prelude.{Result, Ok, Err, IfOk, IfSome}
-use Rattle.std.specs.Option.{option_map_or}
+use Rattle.std.specs.Option.{option_map, option_map_or}
 use Rattle.std.specs.Map.{lookup}
 use Rattle.std.proofs.lemmas.List.{length-map, map-append}
 use Rattle.std.proofs.lemmas.Bool.Decides.{nat_tests}
 use Rattle.indexmap.specs.IndexMap.{insert_entry}
 use Rattle.object_store.specs.declared.cell.Head.{Head}
 use Rattle.object_store.specs.declared.store.Counts.{Counts}
-use Rattle.object_store.specs.Lists.{changed, count_all}
-use Rattle.object_store.specs.Cells.{kept_cells, is_scope, node_in}
-use Rattle.object_store.specs.Numbered.{Raw, cells_of, heads, own_head, node_head}
-use Rattle.object_store.specs.Shape.{AreClosed, IsFine, AreFine, AreOrdered, IsOrdered, AreRaws, AreWithin, IsBase, IsShape, scope_at, links_at, scope_in, is_raw, raw_from, Added}
-use Rattle.object_store.specs.Calls.{paid, raw_place_from}
-use Rattle.object_store.proofs.Lists.{none_some, some_same, by_push, get_older, get_within, count_before-push, count_all-push, length-changed}
+use Rattle.object_store.specs.Lists.{changed}
+use Rattle.object_store.specs.Cells.{PlainCell, is_raw, kept_cells, is_scope, node_in}
+use Rattle.object_store.specs.Numbered.{Raw, cells_of, heads, own_head, node_head, plain}
+use Rattle.object_store.specs.Shape.{AreClosed, IsFine, AreFine, AreOrdered, IsOrdered, AreRaws, AreWithin, IsBase, IsShape, scope_at, links_at, scope_in, node_head_at, Added}
+use Rattle.object_store.specs.Calls.{paid, raw_place}
+use Rattle.object_store.proofs.Lists.{none_some, some_same, by_push, get_older, get_within, count_before-push, count_by-push, length-changed}
+use Rattle.object_store.proofs.Places.{position_push, position_step}
 use Rattle.object_store.proofs.Entries.{node_found, node_other}
 use Rattle.object_store.proofs.Writes.{all_fine_stay}
 
@@ -78,17 +80,8 @@ added_ok names cs after c (Ok id) base fine new ok = record {
 added_ok names cs after c (Err e) base fine new ok = tt
 
 -- the cells of nodes
-raw_from-push : (n k : ℕ) (hs : List Head) (x : Head) → raw_from n k (hs ++ x ∷ []) ≡ option_map_or (λ i. Some i) (raw_from n k hs) (if is_raw n x.form then Some (k + length hs) else None)
-raw_from-push n k [] x = ap (λ m. if is_raw n x.form then Some m else None) (omega arith)
-raw_from-push n k (h ∷ hs) x = by (is_raw n h.form) (raw_from-push n (suc k) hs x)
-  where
-    same : suc k + length hs ≡ k + suc (length hs)
-    same = omega arith
-
-    by : (b : Bool) → raw_from n (suc k) (hs ++ x ∷ []) ≡ option_map_or (λ i. Some i) (raw_from n (suc k) hs) (if is_raw n x.form then Some (suc k + length hs) else None)
-        → (if b then Some k else raw_from n (suc k) (hs ++ x ∷ [])) ≡ option_map_or (λ i. Some i) (if b then Some k else raw_from n (suc k) hs) (if is_raw n x.form then Some (k + suc (length hs)) else None)
-    by true e = refl
-    by false e = e ∙ ap (λ m. option_map_or (λ i. Some i) (raw_from n (suc k) hs) (if is_raw n x.form then Some m else None)) same
+pushed : (n : ℕ) (hs : List Head) (x : Head) → node_head_at n (hs ++ x ∷ []) ≡ option_map_or (λ i. Some i) (node_head_at n hs) (if is_raw n x.form then Some (length hs) else None)
+pushed n hs x = position_push (λ (h : Head). is_raw n h.form) hs x
 
 some_again : (o : Option ℕ) → option_map_or (λ i. Some i) o None ≡ o
 some_again None = refl
@@ -98,29 +91,29 @@ some_again (Some i) = refl
 pub raws_push : (hs : List Head) (raws : List (ℕ × ℕ)) (x : Head) → AreRaws hs raws → node_in x.form ≡ None → AreRaws (hs ++ x ∷ []) raws
 raws_push hs raws x h none = record {
   found = λ n. h.found n ∙ sym (stay n);
-  one = λ i n y at node. stay n ∙ by_push hs x (λ i y. node_in y.form ≡ Some n → raw_from n 0 hs ≡ Some i) (λ k z g e. h.one k n z g e) (λ e. absurd (none_some (sym none ∙ e))) i y at node;
+  one = λ i n y at node. stay n ∙ by_push hs x (λ i y. node_in y.form ≡ Some n → node_head_at n hs ≡ Some i) (λ k z g e. h.one k n z g e) (λ e. absurd (none_some (sym none ∙ e))) i y at node;
 }
   where
-    stay : (n : ℕ) → raw_from n 0 (hs ++ x ∷ []) ≡ raw_from n 0 hs
+    stay : (n : ℕ) → node_head_at n (hs ++ x ∷ []) ≡ node_head_at n hs
     stay n =
         let no_node : is_raw n x.form ≡ false = ap (λ (o : Option ℕ). option_map_or (λ m. eqb n m) o false) none in
-        raw_from-push n 0 hs x ∙ ap (λ b. option_map_or (λ i. Some i) (raw_from n 0 hs) (if b then Some (0 + length hs) else None)) no_node ∙ some_again (raw_from n 0 hs)
+        pushed n hs x ∙ ap (λ b. option_map_or (λ i. Some i) (node_head_at n hs) (if b then Some (length hs) else None)) no_node ∙ some_again (node_head_at n hs)
 
 -- the cell of a node that had none
 pub raws_node : (hs : List Head) (raws : List (ℕ × ℕ)) (node : ℕ) → AreRaws hs raws → lookup (eqb node) raws ≡ None → AreRaws (hs ++ node_head node ∷ []) (insert_entry eqb raws node (length hs))
 raws_node hs raws node h none = record {
   found = λ n. by n (eqb n node) refl;
-  one = λ i n y at is. by_push hs (node_head node) (λ i y. node_in y.form ≡ Some n → raw_from n 0 (hs ++ node_head node ∷ []) ≡ Some i) (λ k z g e. raw_from-push n 0 hs (node_head node) ∙ ap (λ (o : Option ℕ). option_map_or (λ i. Some i) o (if eqb n node then Some (0 + length hs) else None)) (h.one k n z g e)) (λ e. let same : node ≡ n = some_same node n e in subst (λ m. raw_from m 0 (hs ++ node_head node ∷ []) ≡ Some (length hs)) same here) i y at is;
+  one = λ i n y at is. by_push hs (node_head node) (λ i y. node_in y.form ≡ Some n → node_head_at n (hs ++ node_head node ∷ []) ≡ Some i) (λ k z g e. pushed n hs (node_head node) ∙ ap (λ (o : Option ℕ). option_map_or (λ i. Some i) o (if eqb n node then Some (length hs) else None)) (h.one k n z g e)) (λ e. let same : node ≡ n = some_same node n e in subst (λ m. node_head_at m (hs ++ node_head node ∷ []) ≡ Some (length hs)) same here) i y at is;
 }
   where
-    absent : raw_from node 0 hs ≡ None
+    absent : node_head_at node hs ≡ None
     absent = sym (h.found node) ∙ none
 
     self : eqb node node ≡ true
     self = grind (arith, nat_tests)
 
-    here : raw_from node 0 (hs ++ node_head node ∷ []) ≡ Some (length hs)
-    here = raw_from-push node 0 hs (node_head node) ∙ ap (λ (o : Option ℕ). option_map_or (λ i. Some i) o (if eqb node node then Some (0 + length hs) else None)) absent ∙ ap (λ b. if b then Some (0 + length hs) else None) self ∙ ap Some (omega arith)
+    here : node_head_at node (hs ++ node_head node ∷ []) ≡ Some (length hs)
+    here = pushed node hs (node_head node) ∙ ap (λ (o : Option ℕ). option_map_or (λ i. Some i) o (if eqb node node then Some (length hs) else None)) absent ∙ ap (λ b. if b then Some (length hs) else None) self
 
     equal : (n : ℕ) → eqb n node ≡ true → node ≡ n
     equal n e = grind (arith, nat_tests, e)
@@ -128,14 +121,15 @@ raws_node hs raws node h none = record {
     apart : (n : ℕ) → eqb n node ≡ false → eqb n node ≡ false
     apart n e = e
 
-    by : (n : ℕ) (b : Bool) → eqb n node ≡ b → lookup (eqb n) (insert_entry eqb raws node (length hs)) ≡ raw_from n 0 (hs ++ node_head node ∷ [])
-    by n true e = subst (λ m. lookup (eqb m) (insert_entry eqb raws node (length hs)) ≡ raw_from m 0 (hs ++ node_head node ∷ [])) (equal n e) (node_found node (length hs) raws ∙ sym here)
-    by n false e = node_other n node (length hs) raws e ∙ h.found n ∙ sym (raw_from-push n 0 hs (node_head node) ∙ ap (λ b. option_map_or (λ i. Some i) (raw_from n 0 hs) (if b then Some (0 + length hs) else None)) e ∙ some_again (raw_from n 0 hs))
+    by : (n : ℕ) (b : Bool) → eqb n node ≡ b → lookup (eqb n) (insert_entry eqb raws node (length hs)) ≡ node_head_at n (hs ++ node_head node ∷ [])
+    by n true e = subst (λ m. lookup (eqb m) (insert_entry eqb raws node (length hs)) ≡ node_head_at m (hs ++ node_head node ∷ [])) (equal n e) (node_found node (length hs) raws ∙ sym here)
+    by n false e = node_other n node (length hs) raws e ∙ h.found n ∙ sym (pushed n hs (node_head node) ∙ ap (λ b. option_map_or (λ i. Some i) (node_head_at n hs) (if b then Some (length hs) else None)) e ∙ some_again (node_head_at n hs))
 
 -- the same place in plain data
-pub raw_place_is : (names : List (List ℕ)) (n k : ℕ) (cs : List Raw) → raw_from n k (heads cs) ≡ raw_place_from n k (cells_of names cs)
-raw_place_is names n k [] = refl
-raw_place_is names n k (c ∷ cs) = ap (λ (o : Option ℕ). if is_raw n c.head.form then Some k else o) (raw_place_is names n (suc k) cs)
+pub raw_place_is : (names : List (List ℕ)) (n : ℕ) (cs : List Raw) → node_head_at n (heads cs) ≡ raw_place n (cells_of names cs)
+raw_place_is names n [] = refl
+raw_place_is names n (c ∷ cs) =
+    position_step (λ (h : Head). is_raw n h.form) c.head (heads cs) ∙ ap (λ (o : Option ℕ). if is_raw n c.head.form then Some 0 else option_map suc o) (raw_place_is names n cs) ∙ sym (position_step (λ (d : PlainCell). is_raw n d.form) (plain names c) (cells_of names cs))
 
 -- counts
 pub cells_paid_own : (ks : List Counts) (w c s u v : ℕ) → w < length ks → kept_cells (changed ks w (paid c s u)) v ≡ kept_cells ks v + (if eqb w v then c else 0)
@@ -176,6 +170,6 @@ shape_added names new cs after raws kept counts h w c s shape lt base closed hs 
   counted = ap length e ∙ length-changed kept w (paid c s 0) ∙ shape.counted;
   within = within;
   exact = λ v g.
-      ap (λ (ks : List Counts). kept_cells ks v) e ∙ cells_paid_own kept w c s 0 v (omega (arith, lt, shape.counted)) ∙ ap (λ n. n + (if eqb w v then c else 0)) (shape.exact v g) ∙ ap (λ n. count_all (own_head v) (heads cs) + n) (sym (own v))
-      ∙ sym (ap (count_all (own_head v)) hs ∙ count_all-push (own_head v) (heads cs) h);
+      ap (λ (ks : List Counts). kept_cells ks v) e ∙ cells_paid_own kept w c s 0 v (omega (arith, lt, shape.counted)) ∙ ap (λ n. n + (if eqb w v then c else 0)) (shape.exact v g) ∙ ap (λ n. count_by (own_head v) (heads cs) + n) (sym (own v))
+      ∙ sym (ap (count_by (own_head v)) hs ∙ count_by-push (own_head v) (heads cs) h);
 }

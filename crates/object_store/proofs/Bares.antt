@@ -159,4 +159,4 @@ none_paid (suc n) (suc w) = none_paid n w
 
 pub within_none : (n : ℕ) → AreWithin (replicate n nothing_paid)
 within_none zero = tt
-within_none (suc n) = (omega arith, omega arith, omega arith, within_none n)
+within_none (suc n) = ((omega arith, omega arith, omega arith), within_none n)

@@ -1,9 +1,9 @@
 -- A Bunch is added with its hidden Array.
 use Rattle.std.proofs.Common.{◌≡◌, ℕ, zero, suc, ◌+◌, ◌<◌, ◌≤◌, List, [], ◌∷◌, ◌++◌, length, map, refl, sym, ap, ◌∙◌, subst, Option, Some, None, arith, Bool, true, false, eqb, if◌then◌else◌, slice_get, is_some, length-append}
 use Rattle.std.specs.Prelude.{Result, Ok, Err, OnErr, ◌&&◌, unwrap_or}
-use Rattle.std.specs.List.{IsDistinct, list_all}
+use Rattle.std.specs.List.{IsDistinct, list_all, count_by}
 use Rattle.std.specs.Map.{lookup}
-use Rattle.std.specs.Option.{option_map_or}
+use Rattle.std.specs.Option.{option_and_then, option_map_or}
 use Rattle.std.proofs.lemmas.Option.{get_or_from_slice_get}
 use Rattle.std.proofs.lemmas.List.{length-map, map-append}
 use Rattle.std.proofs.lemmas.Bool.Decides.{nat_tests}
@@ -12,15 +12,16 @@ use Rattle.object_store.specs.declared.value.Value.TheVariants as value
 use Rattle.object_store.specs.declared.kind.Form.TheVariants as form
 use Rattle.object_store.specs.declared.cell.Head.{Head}
 use Rattle.object_store.specs.declared.store.Counts.{Counts}
-use Rattle.object_store.specs.Lists.{changed, count_all}
-use Rattle.object_store.specs.Cells.{Cells, PlainCell, is_bunch, kept_cells, node_in, prototypes}
+use Rattle.object_store.specs.Lists.{changed}
+use Rattle.object_store.specs.Cells.{Cells, PlainCell, is_bunch, is_raw, kept_cells, node_in, prototypes}
 use Rattle.object_store.specs.Arrays.{length_name, nodes_name, count_value}
 use Rattle.object_store.specs.Bunches.{AreCellsOf, IsBunch, bunch_cell, elements, hidden_array, node_at}
 use Rattle.object_store.specs.Host.{AreHost, array_prototype, bunch_prototype, host_count}
 use Rattle.object_store.specs.Numbered.{Raw, Grown, plain, name_at, cells_of, heads, own_head}
-use Rattle.object_store.specs.Shape.{AreClosed, AreFine, AreOrdered, AreRaws, AreWithin, AreWords, GrewBunch, IsBase, IsFine, IsHidden, IsOrdered, IsShape, Kept, head_on, hidden_head, is_raw, links_at, raw_from, scope_at}
-use Rattle.object_store.specs.Calls.{HaveCells, bunch_cells, made, node_place, paid, raw_place, raw_place_from}
-use Rattle.object_store.proofs.Lists.{by_push, get_within, none_some, count_all-push, length-changed}
+use Rattle.object_store.specs.Shape.{AreClosed, AreFine, AreOrdered, AreRaws, AreWithin, AreWords, GrewBunch, IsBase, IsFine, IsHidden, IsOrdered, IsShape, Kept, head_on, hidden_head, links_at, scope_at}
+use Rattle.object_store.specs.Calls.{HaveCells, bunch_cells, made, node_place, paid, raw_place}
+use Rattle.object_store.proofs.Lists.{by_push, get_within, count_by-push, length-changed}
+use Rattle.object_store.proofs.Places.{position_at}
 use Rattle.object_store.proofs.Look.{known_cells}
 use Rattle.object_store.proofs.Writes.{all_fine_stay, cells_stay}
 use Rattle.object_store.proofs.Heads.{head_at, links_are, scope_same, some_at}
@@ -40,24 +41,13 @@ push_twice [] x y = refl
 push_twice (z ∷ xs) x y = ap (λ l. z ∷ l) (push_twice xs x y)
 
 -- the cells of nodes
-raw_from_within : (n k : ℕ) (hs : List Head) (i : ℕ) → raw_from n k hs ≡ Some i → i < k + length hs
-raw_from_within n k [] i e = absurd (none_some e)
-raw_from_within n k (h ∷ hs) i e = by (is_raw n h.form) e (λ g. raw_from_within n (suc k) hs i g)
-  where
-    some_nat : (a b : ℕ) → Some a ≡ Some b → a ≡ b
-    some_nat a b e = cc
-
-    by : (b : Bool) → (if b then Some k else raw_from n (suc k) hs) ≡ Some i → (raw_from n (suc k) hs ≡ Some i → i < suc k + length hs) → i < k + suc (length hs)
-    by true e rest = omega (arith, some_nat k i e)
-    by false e rest = omega (arith, rest e)
-
 pub places_under : (hs : List Head) (raws : List (ℕ × ℕ)) (size : ℕ) (nodes : List ℕ) → AreRaws hs raws → 0 < size → length hs ≤ size → AllUnder size (map (λ n. unwrap_or (lookup (eqb n) raws) 0) nodes)
 places_under hs raws size [] h some le = tt
 places_under hs raws size (n ∷ nodes) h some le = (by (lookup (eqb n) raws) refl, places_under hs raws size nodes h some le)
   where
     by : (o : Option ℕ) → lookup (eqb n) raws ≡ o → unwrap_or o 0 < size
     by None e = some
-    by (Some i) e = omega (arith, le, raw_from_within n 0 hs i (sym (h.found n) ∙ e))
+    by (Some i) e = let r = position_at (λ (x : Head). is_raw n x.form) hs i (sym (h.found n) ∙ e) in omega (arith, le, get_within hs i r.0 r.1)
 
 -- the chains of the host's cells are short
 pub links_short : (names : List (List ℕ)) (cs : List Raw) → AreOrdered (heads cs) → AreHost (cells_of names cs) → (i : ℕ) → i < host_count → links_at (heads cs) i ≤ 2
@@ -93,7 +83,7 @@ module _ (old new : List (List ℕ)) (grown : Grown old new) (table : IsTable ne
 
     bunch_fine : IsFine new (length cs + 2) bunch
     bunch_fine = subst (λ (c : Raw). IsFine new (length cs + 2) c) (sym is_bunch) (record {
-      entries = (one_within, omega arith, tt);
+      entries = ((one_within, omega arith), tt);
       array = λ e. absurd (false_true e);
     })
 
@@ -168,27 +158,17 @@ kept_after old new grown table cs base after (Ok x) e = tt
 kept_after old new grown table cs base after (Err x) e = grown_kept old new grown table cs base after e
 
 -- the node of the cell that a node has
-raw_cell_at : (cells : List PlainCell) (n k i : ℕ) → raw_place_from n k cells ≡ Some i → (j : ℕ) × (i ≡ k + j) × (node_at cells j ≡ Some n)
-raw_cell_at [] n k i e = absurd (none_some e)
-raw_cell_at (c ∷ cells) n k i e = by (node_in c.form) refl e (λ g. raw_cell_at cells n (suc k) i g)
+raw_cell_at : (cells : List PlainCell) (n i : ℕ) → raw_place n cells ≡ Some i → node_at cells i ≡ Some n
+raw_cell_at cells n i e =
+    let r = position_at (λ (c : PlainCell). is_raw n c.form) cells i e in
+    ap (λ (o : Option PlainCell). option_and_then node_in (option_and_then (λ c. Some c.form) o)) r.1 ∙ by (node_in r.0.form) r.2
   where
-    some_nat : (a b : ℕ) → Some a ≡ Some b → a ≡ b
-    some_nat a b e = cc
-
-    later : ((j : ℕ) × (i ≡ suc k + j) × (node_at cells j ≡ Some n)) → (j : ℕ) × (i ≡ k + j) × (node_at (c ∷ cells) j ≡ Some n)
-    later r = (suc r.0, omega (arith, r.1), r.2)
-
     equal : (m : ℕ) → eqb n m ≡ true → m ≡ n
     equal m g = grind (arith, nat_tests, g)
 
-    by : (o : Option ℕ) → node_in c.form ≡ o → (if option_map_or (λ m. eqb n m) o false then Some k else raw_place_from n (suc k) cells) ≡ Some i → (raw_place_from n (suc k) cells ≡ Some i → (j : ℕ) × (i ≡ suc k + j) × (node_at cells j ≡ Some n))
-        → (j : ℕ) × (i ≡ k + j) × (node_at (c ∷ cells) j ≡ Some n)
-    by None g e rest = later (rest e)
-    by (Some m) g e rest = pick (eqb n m) refl e
-      where
-        pick : (b : Bool) → eqb n m ≡ b → (if b then Some k else raw_place_from n (suc k) cells) ≡ Some i → (j : ℕ) × (i ≡ k + j) × (node_at (c ∷ cells) j ≡ Some n)
-        pick true f e = (0, omega (arith, some_nat k i e), g ∙ ap Some (equal m f))
-        pick false f e = later (rest e)
+    by : (o : Option ℕ) → option_map_or (λ m. eqb n m) o false ≡ true → o ≡ Some n
+    by None g = absurd (false_true g)
+    by (Some m) g = ap Some (equal m g)
 
 pub places_lead : (cells : List PlainCell) (nodes : List ℕ) → HaveCells cells nodes → AreCellsOf cells (map (node_place cells) nodes) nodes
 places_lead cells [] h = tt
@@ -204,12 +184,12 @@ places_lead cells (n ∷ nodes) h = (by (raw_place n cells) refl (first (is_some
 
     by : (o : Option ℕ) → raw_place n cells ≡ o → is_some o ≡ true → node_at cells (unwrap_or o 0) ≡ Some n
     by None e g = absurd (false_true g)
-    by (Some i) e g = let r = raw_cell_at cells n 0 i e in ap (node_at cells) (omega (arith, r.1)) ∙ r.2
+    by (Some i) e g = raw_cell_at cells n i e
 
 -- what a store becomes
 module _ (s : Cells) (names : List (List ℕ)) (cs : List Raw) {raws : List (ℕ × ℕ)} (kept : List Counts) (view : (let c : Cells = record { cells = cells_of names cs; kept = kept } in c ≡ s)) (shape : IsShape names cs raws kept) (nodes : List ℕ) where
   place_same : (n : ℕ) → unwrap_or (lookup (eqb n) raws) 0 ≡ node_place s.cells n
-  place_same n = ap (λ (o : Option ℕ). unwrap_or o 0) (shape.nodes.found n ∙ raw_place_is names n 0 cs ∙ ap (λ (t : Cells). raw_place n t.cells) view)
+  place_same n = ap (λ (o : Option ℕ). unwrap_or o 0) (shape.nodes.found n ∙ raw_place_is names n cs ∙ ap (λ (t : Cells). raw_place n t.cells) view)
 
   places_same : (ns : List ℕ) → map (λ n. unwrap_or (lookup (eqb n) raws) 0) ns ≡ map (node_place s.cells) ns
   places_same [] = refl
@@ -270,8 +250,8 @@ module _ (s : Cells) (names : List (List ℕ)) (cs : List Raw) {raws : List (ℕ
     within = within;
     exact = λ v g.
         let own : unit (own_head v one) ≡ unit (eqb w v) = ap unit (own_visible w v form.Bunch refl) in
-        let counts_is : kept_cells counts v ≡ count_all (own_head v) (heads cs) + unit (eqb w v) = ap (λ (ks : List Counts). kept_cells ks v) e ∙ cells_paid_own kept w 1 n 0 v (omega (arith, lt, shape.counted)) ∙ ap (λ m. m + unit (eqb w v)) (shape.exact v g) in
-        let all : count_all (own_head v) (heads after) ≡ (count_all (own_head v) (heads cs) + unit (own_head v one)) + 0 = ap (count_all (own_head v)) twice ∙ count_all-push (own_head v) (heads cs ++ one ∷ []) two ∙ ap (λ m. m + 0) (count_all-push (own_head v) (heads cs) one) in
+        let counts_is : kept_cells counts v ≡ count_by (own_head v) (heads cs) + unit (eqb w v) = ap (λ (ks : List Counts). kept_cells ks v) e ∙ cells_paid_own kept w 1 n 0 v (omega (arith, lt, shape.counted)) ∙ ap (λ m. m + unit (eqb w v)) (shape.exact v g) in
+        let all : count_by (own_head v) (heads after) ≡ (count_by (own_head v) (heads cs) + unit (own_head v one)) + 0 = ap (count_by (own_head v)) twice ∙ count_by-push (own_head v) (heads cs ++ one ∷ []) two ∙ ap (λ m. m + 0) (count_by-push (own_head v) (heads cs) one) in
         omega (arith, own, counts_is, all);
   }
     where

@@ -1,5 +1,6 @@
 -- What is found first along a chain.
 use Rattle.std.proofs.Common.{◌≡◌, ℕ, zero, suc, List, [], ◌∷◌, length, refl, ap, Option, Some, None, Bool, true, false, if◌then◌else◌, slice_get}
+use Rattle.std.specs.List.{find}
 use Rattle.std.specs.Option.{option_map_or, option_and_then}
 use Rattle.object_store.specs.Cells.{PlainCell, chain, first_own, has_own, own_value_at, value_of, value_along}
 use Rattle.object_store.specs.Lists.{climb, links}
@@ -14,7 +15,7 @@ module _ (name : List ℕ) (cs : List PlainCell) where
           → option_and_then (own_value_at cs name) (option_map_or (λ x. if has_own name x then Some i else climb (has_own name) (λ c. c.up) f cs x.up) o None) ≡ first_own name (option_map_or (λ x. x ∷ links (λ c. c.up) f cs x.up) o [])
       by rest None e = refl
       by rest (Some x) e =
-          let P : Bool → Type 0 = λ b. option_and_then (own_value_at cs name) (if b then Some i else climb (has_own name) (λ c. c.up) f cs x.up) ≡ (if b then value_of x.pairs name else first_own name (links (λ c. c.up) f cs x.up)) in
+          let P : Bool → Type 0 = λ b. option_and_then (own_value_at cs name) (if b then Some i else climb (has_own name) (λ c. c.up) f cs x.up) ≡ option_and_then (λ c. value_of c.pairs name) (if b then Some x else find (has_own name) (links (λ c. c.up) f cs x.up)) in
           elim (has_own name x) as (λ b. P b) [
             | true ↦ ap (λ (o : Option PlainCell). option_and_then (λ c. value_of c.pairs name) o) e
             | false ↦ rest x.up

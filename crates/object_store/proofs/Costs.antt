@@ -16,13 +16,13 @@ paid_set ks w c s k at = set_is ks w k (record { cells = k.cells + c; slots = k.
 
 pub within_paid : (ks : List Counts) (w c s u : ℕ) → AreWithin ks → kept_cells ks w + c ≤ CELL_LIMIT → kept_slots ks w + s ≤ SLOT_LIMIT → kept_units ks w + u ≤ UNIT_LIMIT → AreWithin (changed ks w (paid c s u))
 within_paid [] w c s u h lc ls lu = tt
-within_paid (k ∷ ks) zero c s u h lc ls lu = (lc, ls, lu, h.3)
-within_paid (k ∷ ks) (suc w) c s u h lc ls lu = (h.0, h.1, h.2, within_paid ks w c s u h.3 lc ls lu)
+within_paid (k ∷ ks) zero c s u h lc ls lu = ((lc, ls, lu), h.1)
+within_paid (k ∷ ks) (suc w) c s u h lc ls lu = (h.0, within_paid ks w c s u h.1 lc ls lu)
 
 pub units_le : (ks : List Counts) (w : ℕ) → AreWithin ks → kept_units ks w + 0 ≤ UNIT_LIMIT
 units_le [] w h = omega arith
-units_le (k ∷ ks) zero h = omega (arith, h.2)
-units_le (k ∷ ks) (suc w) h = units_le ks w h.3
+units_le (k ∷ ks) zero h = omega (arith, h.0.2)
+units_le (k ∷ ks) (suc w) h = units_le ks w h.1
 
 -- slots and units paid leave the cells
 pub cells_paid : (ks : List Counts) (w s u v : ℕ) → kept_cells (changed ks w (paid 0 s u)) v ≡ kept_cells ks v
@@ -43,13 +43,13 @@ units_set ks w n k at = set_is ks w k (record { cells = k.cells; slots = k.slots
 
 cells_le : (ks : List Counts) (w : ℕ) → AreWithin ks → kept_cells ks w + 0 ≤ CELL_LIMIT
 cells_le [] w h = omega arith
-cells_le (k ∷ ks) zero h = omega (arith, h.0)
-cells_le (k ∷ ks) (suc w) h = cells_le ks w h.3
+cells_le (k ∷ ks) zero h = omega (arith, h.0.0)
+cells_le (k ∷ ks) (suc w) h = cells_le ks w h.1
 
 slots_le : (ks : List Counts) (w : ℕ) → AreWithin ks → kept_slots ks w + 0 ≤ SLOT_LIMIT
 slots_le [] w h = omega arith
-slots_le (k ∷ ks) zero h = omega (arith, h.1)
-slots_le (k ∷ ks) (suc w) h = slots_le ks w h.3
+slots_le (k ∷ ks) zero h = omega (arith, h.0.1)
+slots_le (k ∷ ks) (suc w) h = slots_le ks w h.1
 
 pub within_units : (ks : List Counts) (w n : ℕ) → AreWithin ks → kept_units ks w + n ≤ UNIT_LIMIT → AreWithin (changed ks w (paid 0 0 n))
 within_units ks w n h le = within_paid ks w 0 0 n h (cells_le ks w h) (slots_le ks w h) le

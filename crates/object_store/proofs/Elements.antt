@@ -151,7 +151,7 @@ known_insert m n v (e ∷ es) h lt = by (eqb n e.0) (known_insert m n v es h.1 l
 
 known_refs : (names : List (List ℕ)) (n size : ℕ) (es : List (ℕ × Value)) → Known n es → AreRefs size (named names es) → AreEntries n size es
 known_refs names n size [] h r = tt
-known_refs names n size (e ∷ es) h r = (h.0, r.0, known_refs names n size es h.1 r.1)
+known_refs names n size (e ∷ es) h r = ((h.0, r.0), known_refs names n size es h.1 r.1)
 
 -- a reference is written
 module _ (old new : List (List ℕ)) (name : List ℕ) (n : ℕ) (is : Interns old new name n) (table : IsTable new) (c : Raw) (v : Value) (known : Known (length old) c.entries) where

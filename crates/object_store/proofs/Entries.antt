@@ -23,30 +23,30 @@ ref_more m n (value.Ref i) le h = omega (arith, h)
 
 pub entries_more : (n n' size size' : ℕ) (es : List (ℕ × Value)) → n ≤ n' → size ≤ size' → AreEntries n size es → AreEntries n' size' es
 entries_more n n' size size' [] le ls h = tt
-entries_more n n' size size' (e ∷ es) le ls h = (omega (arith, h.0), ref_more size size' e.1 ls h.1, entries_more n n' size size' es le ls h.2)
+entries_more n n' size size' (e ∷ es) le ls h = ((omega (arith, h.0.0), ref_more size size' e.1 ls h.0.1), entries_more n n' size size' es le ls h.1)
 
 pub entries_insert : (n size k : ℕ) (v : Value) (es : List (ℕ × Value)) → AreEntries n size es → k < n → IsRefWithin size v → AreEntries n size (insert_entry eqb es k v)
-entries_insert n size k v [] h lt r = (lt, r, tt)
-entries_insert n size k v (e ∷ es) h lt r = by (eqb k e.0) (entries_insert n size k v es h.2 lt r)
+entries_insert n size k v [] h lt r = ((lt, r), tt)
+entries_insert n size k v (e ∷ es) h lt r = by (eqb k e.0) (entries_insert n size k v es h.1 lt r)
   where
     by : (b : Bool) → AreEntries n size (insert_entry eqb es k v) → AreEntries n size (if b then (e.0, v) ∷ es else e ∷ insert_entry eqb es k v)
-    by true rest = (h.0, r, h.2)
-    by false rest = (h.0, h.1, rest)
+    by true rest = ((h.0.0, r), h.1)
+    by false rest = (h.0, rest)
 
 pub entries_remove : (n size k : ℕ) (es : List (ℕ × Value)) → AreEntries n size es → AreEntries n size (remove_entry (eqb k) es)
 entries_remove n size k [] h = tt
-entries_remove n size k (e ∷ es) h = by (eqb k e.0) (entries_remove n size k es h.2)
+entries_remove n size k (e ∷ es) h = by (eqb k e.0) (entries_remove n size k es h.1)
   where
     by : (b : Bool) → AreEntries n size (remove_entry (eqb k) es) → AreEntries n size (cond b es (e ∷ remove_entry (eqb k) es))
-    by true rest = h.2
-    by false rest = (h.0, h.1, rest)
+    by true rest = h.1
+    by false rest = (h.0, rest)
 
 pub entries_filter : (n size : ℕ) (p : ℕ × Value → Bool) (es : List (ℕ × Value)) → AreEntries n size es → AreEntries n size (filter p es)
 entries_filter n size p [] h = tt
-entries_filter n size p (e ∷ es) h = by (p e) (entries_filter n size p es h.2)
+entries_filter n size p (e ∷ es) h = by (p e) (entries_filter n size p es h.1)
   where
     by : (b : Bool) → AreEntries n size (filter p es) → AreEntries n size (cond b (e ∷ filter p es) (filter p es))
-    by true rest = (h.0, h.1, rest)
+    by true rest = (h.0, rest)
     by false rest = rest
 
 -- indices

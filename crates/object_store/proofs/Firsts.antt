@@ -1,14 +1,13 @@
 -- The shape of a new store.
 use Rattle.std.proofs.Common.{◌≡◌, ℕ, List, [], ◌∷◌, ◌++◌, length, map, refl, sym, ap, ◌∙◌, subst, Some, None, arith, Bool, true, false, slice_get, not, true≢false}
 use Rattle.std.specs.Prelude.{replicate}
-use Rattle.std.specs.List.{list_all}
+use Rattle.std.specs.List.{list_all, count_by}
 use Rattle.code_units.specs.Interned.{IsTable}
 use Rattle.object_store.specs.declared.cell.Head.{Head}
 use Rattle.object_store.specs.declared.kind.Form.{Form}
 use Rattle.object_store.specs.declared.kind.Form.TheVariants as form
 use Rattle.object_store.specs.declared.native.NativeId.TheVariants as native
 use Rattle.object_store.specs.declared.store.Counts.{Counts}
-use Rattle.object_store.specs.Lists.{count_all}
 use Rattle.object_store.specs.Numbered.{Raw, cells_of, heads, own_head, node_head}
 use Rattle.object_store.specs.Host.{AreHost, host_cells, host_count, homed, native_gift, nothing_paid}
 use Rattle.object_store.specs.Bare.{host_head, bare_raws, no_arrays, with_gifts, reference_gifts, AreFirst}
@@ -114,7 +113,7 @@ first_closed cells e = record {
     both true e g = true≢false (sym g)
     both false e g = true≢false (sym e)
 
-no_own : (w : ℕ) → count_all (own_head w) (heads bare_raws) ≡ 0
+no_own : (w : ℕ) → count_by (own_head w) (heads bare_raws) ≡ 0
 unfolding bare_raws
 no_own w = refl
 
@@ -125,7 +124,7 @@ first_shape names cs raws kept first e g = record {
   nodes = subst (λ (l : List Head). AreRaws l raws) (sym first.heads) (subst (λ (r : List (ℕ × ℕ)). AreRaws (heads bare_raws) r) (sym e) bare_nodes);
   counted = ap length g;
   within = subst AreWithin (sym g) (within_none 32);
-  exact = λ w lt. ap (λ (ks : List Counts). kept_cells ks w) g ∙ none_paid 32 w ∙ sym (ap (count_all (own_head w)) first.heads ∙ no_own w);
+  exact = λ w lt. ap (λ (ks : List Counts). kept_cells ks w) g ∙ none_paid 32 w ∙ sym (ap (count_by (own_head w)) first.heads ∙ no_own w);
 }
 
 -- the gifts give the host's cells

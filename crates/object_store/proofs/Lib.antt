@@ -6,7 +6,9 @@ pub mod Charges
 pub mod Climb
 pub mod Closed
 pub mod Costs
+pub mod Counted
 pub mod Cuts
+pub mod Decimals
 pub mod Digits
 pub mod Elements
 pub mod Entries
@@ -23,6 +25,8 @@ pub mod Makes
 pub mod Own
 pub mod OwnMade
 pub mod Others
+pub mod Paid
+pub mod Places
 pub mod Plans
 pub mod Protos
 pub mod Puts

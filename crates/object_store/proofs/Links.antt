@@ -5,16 +5,18 @@ use Rattle.std.specs.Option.{option_map}
 use Rattle.std.proofs.lemmas.Option.{slice_get-map}
 use Rattle.std.proofs.lemmas.List.{length-map}
 use Rattle.object_store.specs.declared.value.Value.{Value}
-use Rattle.object_store.specs.Cells.{PlainCell, is_scope, is_scope_at}
+use Rattle.object_store.specs.Cells.{PlainCell, is_scope, is_scope_at, node_in}
 use Rattle.object_store.specs.Numbered.{Raw, plain, named, cells_of, heads}
-use Rattle.object_store.specs.Shape.{AreEntries, AreRefs, IsBase, IsLinked, scope_at, scope_in}
+use Rattle.object_store.specs.Shape.{AreEntries, AreRaws, AreRefs, IsBase, IsLinked, scope_at, scope_in}
+use Rattle.object_store.specs.Calls.{raw_place}
 use Rattle.object_store.proofs.Lists.{some_same, get_within}
+use Rattle.object_store.proofs.Adds.{raw_place_is}
 use Rattle.object_store.proofs.Heads.{head_at, some_at, scope_same}
 use Rattle.object_store.proofs.Writes.{fine_at}
 
 named_refs : (names : List (List ℕ)) (n size : ℕ) (es : List (ℕ × Value)) → AreEntries n size es → AreRefs size (named names es)
 named_refs names n size [] h = tt
-named_refs names n size (e ∷ es) h = (h.1, named_refs names n size es h.2)
+named_refs names n size (e ∷ es) h = (h.0.1, named_refs names n size es h.1)
 
 module _ (names : List (List ℕ)) (cs : List Raw) (base : IsBase names cs) where
   up_plain : (i : ℕ) (b : Bool) (o : Option ℕ) → IfSome o (λ j. (j < i) × (scope_at (heads cs) j ≡ b)) → IfSome o (λ j. (j < i) × (is_scope_at (cells_of names cs) j ≡ b))
@@ -37,3 +39,12 @@ module _ (names : List (List ℕ)) (cs : List Raw) (base : IsBase names cs) wher
       let k = some_at cs i lt in
       let is : plain names k.0 ≡ c = some_same (plain names k.0) c (sym (slice_get-map (plain names) cs i ∙ ap (option_map (plain names)) k.1) ∙ at) in
       subst (λ (d : PlainCell). IsLinked (cells_of names cs) i d) is (linked_raw i k.0 k.1)
+
+-- each node has one cell
+module _ (names : List (List ℕ)) (cs : List Raw) {raws : List (ℕ × ℕ)} (h : AreRaws (heads cs) raws) where
+  pub one_cell : (i n : ℕ) (c : PlainCell) → slice_get (cells_of names cs) i ≡ Some c → node_in c.form ≡ Some n → raw_place n (cells_of names cs) ≡ Some i
+  one_cell i n c at node =
+      let lt : i < length cs = omega (arith, get_within (cells_of names cs) i c at, length-map cs (plain names)) in
+      let k = some_at cs i lt in
+      let is : plain names k.0 ≡ c = some_same (plain names k.0) c (sym (slice_get-map (plain names) cs i ∙ ap (option_map (plain names)) k.1) ∙ at) in
+      sym (raw_place_is names n cs) ∙ h.one i n k.0.head (head_at cs i k.0 k.1) (ap (λ (d : PlainCell). node_in d.form) is ∙ node)

@@ -24,7 +24,7 @@ known_at n (x ∷ cs) (suc i) c h e = known_at n cs i c h.1 e
 
 pub known_entries : (n size : ℕ) (es : List (ℕ × Value)) → AreEntries n size es → Known n es
 known_entries n size [] h = tt
-known_entries n size (e ∷ es) h = (h.0, known_entries n size es h.2)
+known_entries n size (e ∷ es) h = (h.0.0, known_entries n size es h.1)
 
 pub known_cells : (names : List (List ℕ)) (size : ℕ) (cs : List Raw) → AreFine names size cs → AreKnown (length names) cs
 known_cells names size [] h = tt

@@ -1,5 +1,6 @@
 -- What `make` and `add_raw` answer.
 use Rattle.std.proofs.Common.{◌≡◌, ℕ, suc, ◌+◌, ◌<◌, ◌≤◌, List, [], ◌∷◌, ◌++◌, length, refl, sym, ap, ◌∙◌, subst, Option, Some, None, arith, Bool, true, false, eqb, if◌then◌else◌}
+use Rattle.std.specs.List.{count_by}
 use Rattle.std.specs.Prelude.{IfSome, ◌&&◌, MatchOption}
 use Rattle.std.specs.Option.{option_map_or}
 use Rattle.std.specs.Map.{lookup}
@@ -12,13 +13,13 @@ use Rattle.object_store.specs.declared.kind.Form.{Form}
 use Rattle.object_store.specs.declared.kind.Form.TheVariants as form
 use Rattle.object_store.specs.declared.cell.Head.{Head}
 use Rattle.object_store.specs.declared.store.Counts.{Counts}
-use Rattle.object_store.specs.Lists.{changed, count_before, count_all}
+use Rattle.object_store.specs.Lists.{changed, count_before}
 use Rattle.object_store.specs.Cells.{is_bunch, PlainCell, Cells, kept_cells, is_scope, is_array, is_own, is_visible_form, is_scope_at, node_in, prototypes, raw_cell}
 use Rattle.object_store.specs.Arrays.{length_name, count_value}
 use Rattle.object_store.specs.Numbered.{Raw, plain, named, cells_of, heads, own_head, first_raw, node_head}
 use Rattle.object_store.specs.Shape.{AreClosed, AreEntries, IsArrayTable, IsFine, IsOrdered, AreRaws, AreWords, IsShape, scope_at, links_at, scope_in, Added, head_on}
 use Rattle.object_store.specs.Calls.{paid, new_cell, made, raw_place}
-use Rattle.object_store.proofs.Lists.{count_before-all, count_all-push}
+use Rattle.object_store.proofs.Lists.{count_before-all, count_by-push}
 use Rattle.object_store.proofs.Writes.{length_here, zero_within, length_below}
 use Rattle.object_store.proofs.Heads.{head_at, some_at, links_are, scope_same}
 use Rattle.object_store.proofs.Closed.{closed_push}
@@ -91,7 +92,7 @@ first_fine names size table words h = record {
 }
   where
     entries : (b : Bool) → AreEntries (length names) size (if b then (0, count_value 0) ∷ [] else [])
-    entries true = (zero_within names table words, tt, tt)
+    entries true = ((zero_within names table words, tt), tt)
     entries false = tt
 
     table_one : IsArrayTable names 0 ((0, count_value 0) ∷ [])
@@ -166,7 +167,7 @@ module _ (s : Cells) (names : List (List ℕ)) (cs : List Raw) {raws : List (ℕ
   }
 
   pub node_found_is : (node : ℕ) → lookup (eqb node) raws ≡ raw_place node s.cells
-  node_found_is node = shape.nodes.found node ∙ raw_place_is names node 0 cs ∙ ap (λ (t : Cells). raw_place node t.cells) view
+  node_found_is node = shape.nodes.found node ∙ raw_place_is names node cs ∙ ap (λ (t : Cells). raw_place node t.cells) view
 
   pub node_shape : (after : List Raw) (c : Raw) (raws' : List (ℕ × ℕ)) (node id : ℕ) → c ≡ record { head = node_head node; top = 0; entries = [] } → lookup (eqb node) raws ≡ None → Added names cs names after c id → raws' ≡ insert_entry eqb raws node id → IsShape names after raws' kept
   node_shape after c raws' node id is none added e = record {
@@ -175,7 +176,7 @@ module _ (s : Cells) (names : List (List ℕ)) (cs : List Raw) {raws : List (ℕ
     nodes = subst (λ (l : List Head). AreRaws l raws') (sym hs) (subst (λ (r : List (ℕ × ℕ)). AreRaws (heads cs ++ node_head node ∷ []) r) (sym (e ∙ ap (insert_entry eqb raws node) (added.place ∙ sym (length-map cs (λ c. c.head))))) (raws_node (heads cs) raws node shape.nodes none));
     counted = shape.counted;
     within = shape.within;
-    exact = λ v g. shape.exact v g ∙ sym (ap (count_all (own_head v)) hs ∙ count_all-push (own_head v) (heads cs) (node_head node) ∙ add_zero (count_all (own_head v) (heads cs)));
+    exact = λ v g. shape.exact v g ∙ sym (ap (count_by (own_head v)) hs ∙ count_by-push (own_head v) (heads cs) (node_head node) ∙ add_zero (count_by (own_head v) (heads cs)));
   }
     where
       hs : heads after ≡ heads cs ++ node_head node ∷ []

@@ -1,5 +1,5 @@
 -- A call of one widget is not seen by the others.
-use Rattle.std.proofs.Common.{◌≡◌, ℕ, zero, suc, ◌+◌, ◌<◌, List, [], ◌∷◌, ◌++◌, length, refl, sym, ap, ◌∙◌, Option, Some, None, arith, Bool, true, false, eqb, if◌then◌else◌, true≢false, slice_get, not, is_some}
+use Rattle.std.proofs.Common.{◌≡◌, ℕ, zero, suc, ◌<◌, List, [], ◌∷◌, ◌++◌, length, refl, sym, ap, ◌∙◌, Option, Some, None, arith, Bool, true, false, eqb, if◌then◌else◌, true≢false, slice_get, not, is_some}
 use Rattle.std.specs.Prelude.{Result, Ok, Err, OnOk, OnErr, IfOk, IfSome, MatchOption, ◌&&◌, nat_lt}
 use Rattle.std.specs.List.{fold, list_all}
 use Rattle.std.specs.Map.{remove_entry}
@@ -19,14 +19,15 @@ use Rattle.object_store.specs.declared.store.StoreFault.{StoreFault}
 use Rattle.object_store.specs.declared.store.StoreFault.TheVariants as fault
 use Rattle.object_store.specs.Lists.{changed, climb}
 use Rattle.object_store.specs.Indices.{index_of}
-use Rattle.object_store.specs.Cells.{Cells, PlainCell, form_at, has_own, holder, is_array, is_bunch, is_scope, is_scope_at, raw_cell, widget_of, writer_in}
+use Rattle.object_store.specs.Cells.{Cells, PlainCell, form_at, has_own, holder, is_array, is_bunch, is_raw, is_scope, is_scope_at, raw_cell, widget_of, writer_in}
 use Rattle.object_store.specs.Arrays.{cut, extended, is_bad_length, length_in, length_name, length_of, placed, resized, stored, written}
 use Rattle.object_store.specs.Host.{array_prototype, function_prototype}
 use Rattle.object_store.specs.Bunches.{AreBunches, IsBunch}
 use Rattle.object_store.specs.Shape.{IsLinked}
-use Rattle.object_store.specs.Calls.{born, bound, cells_for, cost_refusal, is_length_of, kept_after, make_done, make_refusal, new_cell, paid, put_done, put_refusal, raw_place, raw_place_from, is_raw_cell, remove_done, remove_refusal, removed, scope_cell, slots_for, slots_of, unit_cost, var_done, without}
+use Rattle.object_store.specs.Calls.{born, bound, cells_for, cost_refusal, is_length_of, kept_after, make_done, make_refusal, new_cell, paid, put_done, put_refusal, raw_place, remove_done, remove_refusal, removed, scope_cell, slots_for, slots_of, unit_cost, var_done, without}
 use Rattle.object_store.specs.Owned.{is_of, is_of_at, own_cells, own_scopes, owned}
 use Rattle.object_store.proofs.Lists.{changed_past, none_some, some_same}
+use Rattle.object_store.proofs.Places.{position_push}
 use Rattle.object_store.proofs.Heads.{scope_no_bunch}
 use Rattle.object_store.proofs.Hosts.{changed_apart}
 use Rattle.object_store.proofs.Closed.{bunch_stays}
@@ -288,33 +289,17 @@ module _ (s : Cells) (w v : ℕ) (apart : w ≡ v → ⊥) where
   cost_seen (Err x) o slots units t ok err = ap (owned v) err
 
 -- `add_raw` gives the cell of the node
-place_push : (node k : ℕ) (cells : List PlainCell) → raw_place_from node k cells ≡ None → raw_place_from node k (cells ++ raw_cell node ∷ []) ≡ Some (k + length cells)
-place_push node k [] e = ap (λ b. if b then Some k else None) (self node) ∙ ap Some (add_zero k)
+place_push : (node : ℕ) (cells : List PlainCell) → raw_place node cells ≡ None → raw_place node (cells ++ raw_cell node ∷ []) ≡ Some (length cells)
+place_push node cells e =
+    position_push (λ (c : PlainCell). is_raw node c.form) cells (raw_cell node) ∙ ap (λ (o : Option ℕ). option_map_or (λ i. Some i) o (if eqb node node then Some (length cells) else None)) e ∙ ap (λ b. if b then Some (length cells) else None) (self node)
   where
     self : (n : ℕ) → eqb n n ≡ true
     self n = grind (arith, nat_tests)
 
-    add_zero : (n : ℕ) → n ≡ n + 0
-    add_zero n = omega arith
-place_push node k (c ∷ cells) e = by (is_raw_cell node c) e (place_push node (suc k) cells)
-  where
-    some_none : (i : ℕ) → Some i ≡ None → ⊥
-    some_none i g = cc
-
-    next : suc k + length cells ≡ k + suc (length cells)
-    next = omega arith
-
-    by : (b : Bool) → (if b then Some k else raw_place_from node (suc k) cells) ≡ None → (raw_place_from node (suc k) cells ≡ None → raw_place_from node (suc k) (cells ++ raw_cell node ∷ []) ≡ Some (suc k + length cells)) → (if b then Some k else raw_place_from node (suc k) (cells ++ raw_cell node ∷ [])) ≡ Some (k + suc (length cells))
-    by true g rest = absurd (some_none k g)
-    by false g rest = rest g ∙ ap Some next
-
 pub place_seen : {E : Type 0} (s : Cells) (node : ℕ) (r : Result ℕ E) (t : Cells) → IfOk r (λ id. MatchOption (raw_place node s.cells) ((id ≡ length s.cells) × (t ≡ record { cells = s.cells ++ raw_cell node ∷ []; kept = s.kept })) (λ i. (id ≡ i) × (t ≡ s))) → IfOk r (λ id. raw_place node t.cells ≡ Some id)
 place_seen s node (Ok id) t ok = by (raw_place node s.cells) refl ok
   where
-    born : id ≡ length s.cells → 0 + length s.cells ≡ id
-    born e = omega (arith, e)
-
     by : (o : Option ℕ) → raw_place node s.cells ≡ o → MatchOption o ((id ≡ length s.cells) × (t ≡ record { cells = s.cells ++ raw_cell node ∷ []; kept = s.kept })) (λ i. (id ≡ i) × (t ≡ s)) → raw_place node t.cells ≡ Some id
-    by None e h = ap (λ (c : Cells). raw_place node c.cells) h.1 ∙ place_push node 0 s.cells e ∙ ap Some (born h.0)
+    by None e h = ap (λ (c : Cells). raw_place node c.cells) h.1 ∙ place_push node s.cells e ∙ ap Some (sym h.0)
     by (Some i) e h = ap (λ (c : Cells). raw_place node c.cells) h.1 ∙ e ∙ ap Some (sym h.0)
 place_seen s node (Err x) t ok = tt

@@ -1,5 +1,5 @@
 -- A call of a widget, as it sees it.
-use Rattle.std.proofs.Common.{◌≡◌, ℕ, zero, suc, ◌+◌, ◌<◌, ◌≤◌, List, [], ◌∷◌, length, refl, sym, ap, ◌∙◌, subst, Option, Some, None, arith, Bool, true, false, eqb, cond, if◌then◌else◌, slice_get, filter, not}
+use Rattle.std.proofs.Common.{◌≡◌, ℕ, zero, suc, ◌+◌, ◌<◌, ◌≤◌, List, [], ◌∷◌, length, refl, sym, ap, ◌∙◌, subst, Option, Some, None, arith, Bool, true, false, eqb, cond, if◌then◌else◌, slice_get, filter, map, not, take}
 use Rattle.std.specs.Prelude.{Result, Ok, Err, OnOk, IfOk, IfSome, ◌&&◌, nat_lt, max}
 use Rattle.std.specs.Map.{lookup, remove_entry}
 use Rattle.std.specs.Option.{option_map, option_map_or, option_and_then}
@@ -19,9 +19,10 @@ use Rattle.object_store.specs.Arrays.{count_value, cut, extended, is_below, leng
 use Rattle.object_store.specs.Bunches.{IsBunch}
 use Rattle.object_store.specs.Shape.{IsLinked, IsRefWithin}
 use Rattle.object_store.specs.declared.store.Counts.{Counts}
-use Rattle.object_store.specs.Calls.{put_done, put_refusal, remove_done, remove_refusal, removed, var_done, without}
+use Rattle.object_store.specs.Calls.{paid, put_done, put_refusal, remove_done, remove_refusal, removed, slots_at, var_done, without}
 use Rattle.object_store.specs.Owned.{Assigned, Changed, OwnCell, OwnKind, OwnScope, OwnValue, is_of, is_own_scope, is_own_scope_at, owned, own_cell, own_cells, own_length, own_link, own_pairs, own_put, own_raised, own_removed, own_resized, own_scope, own_scopes, own_set, own_value, scope_number, visible_at, with_own}
-use Rattle.object_store.proofs.Lists.{none_some, some_same}
+use Rattle.object_store.proofs.Lists.{count_step, none_some, same_rest, some_same}
+use Rattle.object_store.proofs.Paid.{none_paid, put_paid}
 use Rattle.object_store.proofs.Others.{bunches, put_writer, remove_writer, stays, var_writer, stored_form, stored_owner, without_form, without_owner}
 use Rattle.object_store.proofs.Views.{SameNumbers, heap_stays, numbers_kept, scopes_stay, value_same}
 use Rattle.object_store.proofs.Elements.{index_small}
@@ -32,13 +33,13 @@ module _ (w : ℕ) (f : PlainCell → PlainCell) (seen : (c : PlainCell) → is_
   heap_own : (cs : List PlainCell) (i : ℕ) → visible_at w cs i ≡ true → ((c : PlainCell) → slice_get cs i ≡ Some c → own_cell w all (f c) ≡ g (own_cell w all c)) → own_cells w all (changed cs i f) ≡ changed (own_cells w all cs) (own_count w cs i) g
   heap_own [] i v h = refl
   heap_own (c ∷ cs) zero v h =
-      ap (λ b. if b then own_cell w all (f c) ∷ own_cells w all cs else own_cells w all cs) (seen c ∙ v)
+      ap (λ b. map (own_cell w all) (if b then f c ∷ filter (is_visible w) cs else filter (is_visible w) cs)) (seen c ∙ v)
       ∙ ap (λ d. d ∷ own_cells w all cs) (h c refl)
-      ∙ ap (λ b. changed (if b then own_cell w all c ∷ own_cells w all cs else own_cells w all cs) 0 g) (sym v)
-  heap_own (c ∷ cs) (suc i) v h = by (is_visible w c) (heap_own cs i v h)
+      ∙ ap (λ b. changed (map (own_cell w all) (if b then c ∷ filter (is_visible w) cs else filter (is_visible w) cs)) 0 g) (sym v)
+  heap_own (c ∷ cs) (suc i) v h = by (is_visible w c) (heap_own cs i v h) ∙ ap (λ k. changed (map (own_cell w all) (if is_visible w c then c ∷ filter (is_visible w) cs else filter (is_visible w) cs)) k g) (sym (count_step (is_visible w) c (take i cs)))
     where
       by : (b : Bool) → own_cells w all (changed cs i f) ≡ changed (own_cells w all cs) (own_count w cs i) g
-          → (if b then own_cell w all c ∷ own_cells w all (changed cs i f) else own_cells w all (changed cs i f)) ≡ changed (if b then own_cell w all c ∷ own_cells w all cs else own_cells w all cs) (if b then suc (own_count w cs i) else own_count w cs i) g
+          → (map (own_cell w all) (if b then c ∷ filter (is_visible w) (changed cs i f) else filter (is_visible w) (changed cs i f))) ≡ changed (map (own_cell w all) (if b then c ∷ filter (is_visible w) cs else filter (is_visible w) cs)) (if b then suc (own_count w cs i) else own_count w cs i) g
       by true e = ap (λ l. own_cell w all c ∷ l) e
       by false e = e
 
@@ -365,9 +366,9 @@ open_no_bunch o f x e = by (is_bunch f) e
 scopes_seen : (w : ℕ) (f : PlainCell → PlainCell) (all cs : List PlainCell) (i : ℕ) → ((c : PlainCell) → slice_get cs i ≡ Some c → (is_own_scope w (f c) ≡ false) × (is_own_scope w c ≡ false)) → own_scopes w all (changed cs i f) ≡ own_scopes w all cs
 scopes_seen w f all [] i h = refl
 scopes_seen w f all (c ∷ cs) zero h =
-    ap (λ b. if b then own_scope w all (f c) ∷ own_scopes w all cs else own_scopes w all cs) (h c refl).0
-    ∙ ap (λ b. if b then own_scope w all c ∷ own_scopes w all cs else own_scopes w all cs) (sym (h c refl).1)
-scopes_seen w f all (c ∷ cs) (suc i) h = ap (λ l. if is_own_scope w c then own_scope w all c ∷ l else l) (scopes_seen w f all cs i h)
+    ap (λ b. map (own_scope w all) (if b then f c ∷ filter (is_own_scope w) cs else filter (is_own_scope w) cs)) (h c refl).0
+    ∙ ap (λ b. map (own_scope w all) (if b then c ∷ filter (is_own_scope w) cs else filter (is_own_scope w) cs)) (sym (h c refl).1)
+scopes_seen w f all (c ∷ cs) (suc i) h = same_rest (own_scope w all) (is_own_scope w) c (changed cs i f) cs (scopes_seen w f all cs i h)
 
 -- a widget's write, as it sees it
 module _ (s : Cells) (links : (i : ℕ) (c : PlainCell) → slice_get s.cells i ≡ Some c → IsLinked s.cells i c) (bunches_each : (i : ℕ) (c : PlainCell) → slice_get s.cells i ≡ Some c → is_bunch c.form ≡ true → IsBunch s.cells c) (i : ℕ) where
@@ -383,13 +384,14 @@ module _ (s : Cells) (links : (i : ℕ) (c : PlainCell) → slice_get s.cells i 
         let is : is_own_scope w d ≡ false = ap (is_own_scope w) (some_same d c (sym e ∙ at)) ∙ visible_no_scope w c visible in
         ((λ j. is_of w (same_owner d j) && is_scope (same_form d j)) ∙ is, is)
 
-    pub own_changed : own_cell w (changed s.cells i f) (f c) ≡ g (own_cell w (changed s.cells i f) c) → Changed w s (record { cells = changed s.cells i f; kept = counts }) i g
+    pub own_changed : (slots : ℕ) → slice_get counts w ≡ option_map (paid 0 slots 0) (slice_get s.kept w) → own_cell w (changed s.cells i f) (f c) ≡ g (own_cell w (changed s.cells i f) c) → Changed w s (record { cells = changed s.cells i f; kept = counts }) i slots g
     unfolding owned
-    own_changed h = record {
+    own_changed slots pay h = record {
       heap =
           heap_own w f (λ d. λ j. is_own w (same_owner d j) (same_form d j)) (changed s.cells i f) g s.cells i here (λ d e. subst (λ (y : PlainCell). own_cell w (changed s.cells i f) (f y) ≡ g (own_cell w (changed s.cells i f) y)) (some_same c d (sym at ∙ e)) h)
           ∙ ap (λ l. changed l (own_count w s.cells i) g) (heap_stays s.cells (changed s.cells i f) links (bunches s links bunches_each) (stays s links bunches_each i x c at writer f same_owner same_form) w numbers);
       scopes = scopes_seen w f (changed s.cells i f) s.cells i no_scope ∙ scopes_stay s.cells (changed s.cells i f) links (bunches s links bunches_each) (stays s links bunches_each i x c at writer f same_owner same_form) w numbers;
+      paid = pay;
     }
 
     pub numbers_same : (u : Value) → IsRefWithin (length s.cells) u → own_value w (changed s.cells i f) u ≡ own_value w s.cells u
@@ -397,41 +399,41 @@ module _ (s : Cells) (links : (i : ℕ) (c : PlainCell) → slice_get s.cells i 
 
   -- `put`
   module _ (name : List ℕ) (u : Value) (ref : IsRefWithin (length s.cells) u) where
-    put_own : put_refusal s i name u ≡ None → (w : ℕ) → visible_at w s.cells i ≡ true → Changed w s (put_done s i name u) i (own_put name (own_value w s.cells u))
+    put_own : put_refusal s i name u ≡ None → (w : ℕ) → visible_at w s.cells i ≡ true → Changed w s (put_done s i name u) i (slots_at s.cells i name) (own_put name (own_value w s.cells u))
     put_own none w v = by (slice_get s.cells i) refl
       where
         visible : (c : PlainCell) → slice_get s.cells i ≡ Some c → is_visible w c ≡ true
         visible c at = sym (ap (λ (o : Option PlainCell). option_map_or (is_visible w) o false) at) ∙ v
 
-        by : (o : Option PlainCell) → slice_get s.cells i ≡ o → Changed w s (put_done s i name u) i (own_put name (own_value w s.cells u))
+        by : (o : Option PlainCell) → slice_get s.cells i ≡ o → Changed w s (put_done s i name u) i (slots_at s.cells i name) (own_put name (own_value w s.cells u))
         by None at = absurd (false_true (sym (ap (λ (o : Option PlainCell). option_map_or (is_visible w) o false) at) ∙ v))
         by (Some c) at =
             let k = put_writer s links bunches_each i name u c at none in
             let e = visible_form w c (visible c at) in
             let stored_is = cell_stored w (changed s.cells i (stored name u)) name u c.owner c.up c.pairs c.form e (open_no_bunch c.owner c.form k.0 k.1) in
             let same = numbers_same k.0 c at k.1 (stored name u) (stored_owner name u) (stored_form name u) w (visible c at) s.kept (own_put name (own_value w s.cells u)) u ref in
-            own_changed k.0 c at k.1 (stored name u) (stored_owner name u) (stored_form name u) w (visible c at) (put_done s i name u).kept (own_put name (own_value w s.cells u)) (stored_is ∙ ap (λ y. own_put name y (own_cell w (changed s.cells i (stored name u)) c)) same)
+            own_changed k.0 c at k.1 (stored name u) (stored_owner name u) (stored_form name u) w (visible c at) (put_done s i name u).kept (own_put name (own_value w s.cells u)) (slots_at s.cells i name) (put_paid s i name u c k.0 w at k.1 (visible c at)) (stored_is ∙ ap (λ y. own_put name y (own_cell w (changed s.cells i (stored name u)) c)) same)
 
-    pub put_own_seen : {E : Type 0} (r : Result (Unit {0}) E) (t : Cells) → OnOk r ((put_refusal s i name u ≡ None) × (t ≡ put_done s i name u)) → OnOk r ((w : ℕ) → visible_at w s.cells i ≡ true → Changed w s t i (own_put name (own_value w s.cells u)))
-    put_own_seen (Ok y) t ok = λ w v. subst (λ (d : Cells). Changed w s d i (own_put name (own_value w s.cells u))) (sym ok.1) (put_own ok.0 w v)
+    pub put_own_seen : {E : Type 0} (r : Result (Unit {0}) E) (t : Cells) → OnOk r ((put_refusal s i name u ≡ None) × (t ≡ put_done s i name u)) → OnOk r ((w : ℕ) → visible_at w s.cells i ≡ true → Changed w s t i (slots_at s.cells i name) (own_put name (own_value w s.cells u)))
+    put_own_seen (Ok y) t ok = λ w v. subst (λ (d : Cells). Changed w s d i (slots_at s.cells i name) (own_put name (own_value w s.cells u))) (sym ok.1) (put_own ok.0 w v)
     put_own_seen (Err y) t ok = tt
 
   -- `remove`
   module _ (name : List ℕ) where
-    remove_own : remove_refusal s i ≡ None → (w : ℕ) → visible_at w s.cells i ≡ true → Changed w s (remove_done s i name) i (own_removed name)
+    remove_own : remove_refusal s i ≡ None → (w : ℕ) → visible_at w s.cells i ≡ true → Changed w s (remove_done s i name) i 0 (own_removed name)
     remove_own none w v = by (slice_get s.cells i) refl
       where
         visible : (c : PlainCell) → slice_get s.cells i ≡ Some c → is_visible w c ≡ true
         visible c at = sym (ap (λ (o : Option PlainCell). option_map_or (is_visible w) o false) at) ∙ v
 
-        by : (o : Option PlainCell) → slice_get s.cells i ≡ o → Changed w s (remove_done s i name) i (own_removed name)
+        by : (o : Option PlainCell) → slice_get s.cells i ≡ o → Changed w s (remove_done s i name) i 0 (own_removed name)
         by None at = absurd (false_true (sym (ap (λ (o : Option PlainCell). option_map_or (is_visible w) o false) at) ∙ v))
         by (Some c) at =
             let k = remove_writer s links bunches_each i c at none in
-            own_changed k.0 c at k.1 (without name) (without_owner name value.Undefined) (without_form name value.Undefined) w (visible c at) s.kept (own_removed name) (cell_without w (changed s.cells i (without name)) name c.owner c.up c.pairs c.form (visible_form w c (visible c at)) (open_no_bunch c.owner c.form k.0 k.1))
+            own_changed k.0 c at k.1 (without name) (without_owner name value.Undefined) (without_form name value.Undefined) w (visible c at) s.kept (own_removed name) 0 (none_paid (slice_get s.kept w)) (cell_without w (changed s.cells i (without name)) name c.owner c.up c.pairs c.form (visible_form w c (visible c at)) (open_no_bunch c.owner c.form k.0 k.1))
 
-    pub remove_own_seen : {E : Type 0} (r : Result Bool E) (t : Cells) → IfOk r (λ b. (remove_refusal s i ≡ None) × (b ≡ removed s i name) × (t ≡ remove_done s i name)) → OnOk r ((w : ℕ) → visible_at w s.cells i ≡ true → Changed w s t i (own_removed name))
-    remove_own_seen (Ok y) t ok = λ w v. subst (λ (d : Cells). Changed w s d i (own_removed name)) (sym ok.2) (remove_own ok.0 w v)
+    pub remove_own_seen : {E : Type 0} (r : Result Bool E) (t : Cells) → IfOk r (λ b. (remove_refusal s i ≡ None) × (b ≡ removed s i name) × (t ≡ remove_done s i name)) → OnOk r ((w : ℕ) → visible_at w s.cells i ≡ true → Changed w s t i 0 (own_removed name))
+    remove_own_seen (Ok y) t ok = λ w v. subst (λ (d : Cells). Changed w s d i 0 (own_removed name)) (sym ok.2) (remove_own ok.0 w v)
     remove_own_seen (Err y) t ok = tt
 
 -- a scope is no visible cell
@@ -445,22 +447,22 @@ scope_not_visible w c e = by (is_visible w c) refl
 scopes_own : (w : ℕ) (f : PlainCell → PlainCell) → ((c : PlainCell) → is_own_scope w (f c) ≡ is_own_scope w c) → (all : List PlainCell) (g : OwnScope → OwnScope) (cs : List PlainCell) (i : ℕ) → is_own_scope_at w cs i ≡ true → ((c : PlainCell) → own_scope w all (f c) ≡ g (own_scope w all c)) → own_scopes w all (changed cs i f) ≡ changed (own_scopes w all cs) (count_before (is_own_scope w) cs i) g
 scopes_own w f seen all g [] i v h = refl
 scopes_own w f seen all g (c ∷ cs) zero v h =
-    ap (λ b. if b then own_scope w all (f c) ∷ own_scopes w all cs else own_scopes w all cs) (seen c ∙ v)
+    ap (λ b. map (own_scope w all) (if b then f c ∷ filter (is_own_scope w) cs else filter (is_own_scope w) cs)) (seen c ∙ v)
     ∙ ap (λ d. d ∷ own_scopes w all cs) (h c)
-    ∙ ap (λ b. changed (if b then own_scope w all c ∷ own_scopes w all cs else own_scopes w all cs) 0 g) (sym v)
-scopes_own w f seen all g (c ∷ cs) (suc i) v h = by (is_own_scope w c) (scopes_own w f seen all g cs i v h)
+    ∙ ap (λ b. changed (map (own_scope w all) (if b then c ∷ filter (is_own_scope w) cs else filter (is_own_scope w) cs)) 0 g) (sym v)
+scopes_own w f seen all g (c ∷ cs) (suc i) v h = by (is_own_scope w c) (scopes_own w f seen all g cs i v h) ∙ ap (λ k. changed (map (own_scope w all) (if is_own_scope w c then c ∷ filter (is_own_scope w) cs else filter (is_own_scope w) cs)) k g) (sym (count_step (is_own_scope w) c (take i cs)))
   where
     by : (b : Bool) → own_scopes w all (changed cs i f) ≡ changed (own_scopes w all cs) (count_before (is_own_scope w) cs i) g
-        → (if b then own_scope w all c ∷ own_scopes w all (changed cs i f) else own_scopes w all (changed cs i f)) ≡ changed (if b then own_scope w all c ∷ own_scopes w all cs else own_scopes w all cs) (if b then suc (count_before (is_own_scope w) cs i) else count_before (is_own_scope w) cs i) g
+        → (map (own_scope w all) (if b then c ∷ filter (is_own_scope w) (changed cs i f) else filter (is_own_scope w) (changed cs i f))) ≡ changed (map (own_scope w all) (if b then c ∷ filter (is_own_scope w) cs else filter (is_own_scope w) cs)) (if b then suc (count_before (is_own_scope w) cs i) else count_before (is_own_scope w) cs i) g
     by true e = ap (λ l. own_scope w all c ∷ l) e
     by false e = e
 
 heap_unseen : (w : ℕ) (f : PlainCell → PlainCell) (all cs : List PlainCell) (i : ℕ) → ((c : PlainCell) → slice_get cs i ≡ Some c → (is_visible w (f c) ≡ false) × (is_visible w c ≡ false)) → own_cells w all (changed cs i f) ≡ own_cells w all cs
 heap_unseen w f all [] i h = refl
 heap_unseen w f all (c ∷ cs) zero h =
-    ap (λ b. if b then own_cell w all (f c) ∷ own_cells w all cs else own_cells w all cs) (h c refl).0
-    ∙ ap (λ b. if b then own_cell w all c ∷ own_cells w all cs else own_cells w all cs) (sym (h c refl).1)
-heap_unseen w f all (c ∷ cs) (suc i) h = ap (λ l. if is_visible w c then own_cell w all c ∷ l else l) (heap_unseen w f all cs i h)
+    ap (λ b. map (own_cell w all) (if b then f c ∷ filter (is_visible w) cs else filter (is_visible w) cs)) (h c refl).0
+    ∙ ap (λ b. map (own_cell w all) (if b then c ∷ filter (is_visible w) cs else filter (is_visible w) cs)) (sym (h c refl).1)
+heap_unseen w f all (c ∷ cs) (suc i) h = same_rest (own_cell w all) (is_visible w) c (changed cs i f) cs (heap_unseen w f all cs i h)
 
 -- `var_set`, as the scope's widget sees it
 module _ (s : Cells) (links : (i : ℕ) (c : PlainCell) → slice_get s.cells i ≡ Some c → IsLinked s.cells i c) (bunches_each : (i : ℕ) (c : PlainCell) → slice_get s.cells i ≡ Some c → is_bunch c.form ≡ true → IsBunch s.cells c) (from : ℕ) (name : List ℕ) (u : Value) (scope : is_scope_at s.cells from ≡ true) (ref : IsRefWithin (length s.cells) u) where
@@ -496,4 +498,5 @@ module _ (s : Cells) (links : (i : ℕ) (c : PlainCell) → slice_get s.cells i 
                 scopes =
                     scopes_own w (written name u) (λ c. refl) (changed s.cells h (written name u)) (own_set name (own_value w s.cells u)) s.cells h v (λ c. (λ j. record { outer = option_map (scope_number w (changed s.cells h (written name u))) c.up; pairs = pairs_written w (changed s.cells h (written name u)) name u c.pairs j }) ∙ ap (λ x. own_set name x (own_scope w (changed s.cells h (written name u)) c)) same)
                     ∙ ap (λ l. changed l (scope_number w s.cells h) (own_set name (own_value w s.cells u))) (scopes_stay s.cells (changed s.cells h (written name u)) links (bunches s links bunches_each) hidden w numbers);
+                paid = refl;
               }

@@ -1,9 +1,11 @@
 -- What a widget makes and pays, as it sees it.
 use Rattle.std.proofs.Common.{◌≡◌, ℕ, zero, suc, ◌+◌, ◌<◌, List, [], ◌∷◌, ◌++◌, length, map, refl, sym, ap, ◌∙◌, subst, Option, Some, None, arith, Bool, true, false, eqb, cond, if◌then◌else◌, slice_get, filter, not}
 use Rattle.std.specs.Prelude.{Result, Ok, Err, OnOk, IfOk, IfSome, ◌&&◌}
-use Rattle.std.specs.List.{AllByRecursion, IsDistinct, fold, list_all}
+use Rattle.std.specs.List.{AllByRecursion, IsDistinct, fold, list_all, count_by}
 use Rattle.std.specs.Option.{option_map, option_map_or, option_and_then}
 use Rattle.std.specs.Str.{bytes_eq}
+use Rattle.std.proofs.lemmas.List.{length-map}
+use Rattle.std.proofs.lemmas.List.Sums.{length-filter}
 use Rattle.std.proofs.lemmas.Bool.Decides.{nat_tests}
 use Rattle.std.proofs.lemmas.Map.Keys.{IsDistinct-head, IsDistinct-tail}
 use Rattle.std.proofs.lemmas.Slice.Eq.{bytes_eq-Decides}
@@ -18,7 +20,6 @@ use Rattle.object_store.specs.declared.kind.Form.TheVariants as form
 use Rattle.object_store.specs.declared.store.NewCell.{NewCell}
 use Rattle.object_store.specs.declared.store.NewCell.TheVariants as fresh
 use Rattle.object_store.specs.declared.store.StoreFault.{StoreFault}
-use Rattle.object_store.specs.Lists.{changed, count_all}
 use Rattle.object_store.specs.Cells.{Cells, PlainCell, is_bunch, is_own, is_scope, is_scope_at, is_visible, is_visible_form, own_count}
 use Rattle.object_store.specs.Arrays.{count_value, length_in, length_name, length_of}
 use Rattle.object_store.specs.Bunches.{IsBunch, bunch_cell, hidden_array}
@@ -26,7 +27,7 @@ use Rattle.object_store.specs.Host.{array_prototype, bunch_prototype, function_p
 use Rattle.object_store.specs.Shape.{IsLinked}
 use Rattle.object_store.specs.Calls.{HaveCells, IsMakeable, born, bound, bunch_cells, cells_for, make_done, make_refusal, new_cell, node_place, paid, scope_cell, slots_of, unit_cost}
 use Rattle.object_store.specs.Owned.{Made, OwnCell, OwnKind, OwnValue, first_cell, first_scope, is_own_scope, made_cells, made_scopes, own_cell, own_cells, own_link, own_made, own_paid, own_pairs, own_scope, own_scopes, owned, scope_number, visible_at}
-use Rattle.object_store.proofs.Lists.{count_before-all, count_before-append}
+use Rattle.object_store.proofs.Lists.{changed_here, count_before-all, count_before-append}
 use Rattle.object_store.proofs.Births.{places_lead}
 use Rattle.object_store.proofs.Closed.{cells_of_older}
 use Rattle.object_store.proofs.Others.{bunches}
@@ -50,11 +51,6 @@ flipped a b e = by (bytes_eq b a) refl
     by : (d : Bool) → bytes_eq b a ≡ d → d ≡ false
     by false g = refl
     by true g = absurd (false_true (sym e ∙ same_is a b (sym (is_same b a g))))
-
-changed_here : {X : Type 0} (xs : List X) (i : ℕ) (f : X → X) → slice_get (changed xs i f) i ≡ option_map f (slice_get xs i)
-changed_here [] i f = refl
-changed_here (x ∷ xs) zero f = refl
-changed_here (x ∷ xs) (suc i) f = changed_here xs i f
 
 -- the pairs of a new scope
 abbrev unset : List (List ℕ) → List (List ℕ × Value)
@@ -173,10 +169,10 @@ module _ (w : ℕ) (cells : List PlainCell) where
 
   -- it counts for its widget, as a visible cell or as a scope
   visible_seen : (all : List PlainCell) (f : Form) (up : ℕ) (d : OwnCell) → is_visible_form f ≡ true → own_cell w all (new_cell w f up) ≡ d → own_cells w all (new_cell w f up ∷ []) ≡ d ∷ []
-  visible_seen all f up d v e = ap (λ b. if b && is_visible_form f then own_cell w all (new_cell w f up) ∷ [] else []) (eqb_self w) ∙ ap (λ b. if b then own_cell w all (new_cell w f up) ∷ [] else []) v ∙ ap (λ x. x ∷ []) e
+  visible_seen all f up d v e = ap (λ b. map (own_cell w all) (if b && is_visible_form f then (new_cell w f up) ∷ [] else [])) (eqb_self w) ∙ ap (λ b. map (own_cell w all) (if b then (new_cell w f up) ∷ [] else [])) v ∙ ap (λ x. x ∷ []) e
 
   no_scope_seen : (all : List PlainCell) (f : Form) (up : ℕ) → is_scope f ≡ false → own_scopes w all (new_cell w f up ∷ []) ≡ []
-  no_scope_seen all f up v = ap (λ b. if b && is_scope f then own_scope w all (new_cell w f up) ∷ [] else []) (eqb_self w) ∙ ap (λ b. if b then own_scope w all (new_cell w f up) ∷ [] else []) v
+  no_scope_seen all f up v = ap (λ b. map (own_scope w all) (if b && is_scope f then (new_cell w f up) ∷ [] else [])) (eqb_self w) ∙ ap (λ b. map (own_scope w all) (if b then (new_cell w f up) ∷ [] else [])) v
 
   abbrev AreHosts : List PlainCell → Type 0
   AreHosts all = (i : ℕ) → is_permitted_cell i ≡ true → IfSome (slice_get all i) (λ c. leads_on c ≡ true)
@@ -190,10 +186,10 @@ module _ (w : ℕ) (cells : List PlainCell) where
       let f : Form = form.Function (record { code = code; fun = fun; scope = scope }) in
       let more = new_cell w f function_prototype ∷ [] in
       visible_seen (cells ++ more) f function_prototype (first_cell (OwnKind.Function code fun (option_map (scope_number w cells) scope)) (OwnValue.Other function_prototype)) refl (function_seen more code fun scope (within scope fit) (host_link w (cells ++ more) function_prototype (hosts function_prototype refl)))
-  cells_born (fresh.Scope outer names) fit hosts = ap (λ c. own_cells w (cells ++ scope_cell w outer names.items ∷ []) (c ∷ [])) (scope_is w outer names.items fit.1) ∙ ap (λ b. if b && false then own_cell w (cells ++ scope_cell w outer names.items ∷ []) (scope_of w outer (unset names.items)) ∷ [] else []) (eqb_self w)
+  cells_born (fresh.Scope outer names) fit hosts = ap (λ c. own_cells w (cells ++ scope_cell w outer names.items ∷ []) (c ∷ [])) (scope_is w outer names.items fit.1) ∙ ap (λ b. map (own_cell w (cells ++ scope_cell w outer names.items ∷ [])) (if b && false then (scope_of w outer (unset names.items)) ∷ [] else [])) (eqb_self w)
   cells_born (fresh.Bunch nodes) fit hosts =
       let all = cells ++ bunch_cells cells w nodes.items in
-      ap (λ b. if b && true then own_cell w all (bunch_cell w (length cells + 1)) ∷ [] else []) (eqb_self w) ∙ ap (λ x. x ∷ []) (bunch_seen nodes.items fit.0 fit.1 (host_link w all bunch_prototype (hosts bunch_prototype refl)))
+      ap (λ b. map (own_cell w all) (if b && true then (bunch_cell w (length cells + 1)) ∷ [] else [])) (eqb_self w) ∙ ap (λ x. x ∷ []) (bunch_seen nodes.items fit.0 fit.1 (host_link w all bunch_prototype (hosts bunch_prototype refl)))
 
   pub scopes_born : (n : NewCell) → IsMakeable cells n → own_scopes w (cells ++ born cells w n) (born cells w n) ≡ made_scopes w cells n
   scopes_born (fresh.Object proto) fit = no_scope_seen (cells ++ new_cell w form.Object proto ∷ []) form.Object proto refl
@@ -204,25 +200,15 @@ module _ (w : ℕ) (cells : List PlainCell) where
   scopes_born (fresh.Scope outer names) fit =
       let more = scope_cell w outer names.items ∷ [] in
       let c = scope_of w outer (unset names.items) in
-      ap (λ d. own_scopes w (cells ++ more) (d ∷ [])) (scope_is w outer names.items fit.1) ∙ ap (λ b. if b && true then own_scope w (cells ++ more) c ∷ [] else []) (eqb_self w) ∙ ap (λ x. x ∷ []) (scope_seen more outer names.items (within outer fit.0))
-  scopes_born (fresh.Bunch nodes) fit = ap (λ b. if b && false then own_scope w (cells ++ bunch_cells cells w nodes.items) (bunch_cell w (length cells + 1)) ∷ [] else []) (eqb_self w)
+      ap (λ d. own_scopes w (cells ++ more) (d ∷ [])) (scope_is w outer names.items fit.1) ∙ ap (λ b. map (own_scope w (cells ++ more)) (if b && true then c ∷ [] else [])) (eqb_self w) ∙ ap (λ x. x ∷ []) (scope_seen more outer names.items (within outer fit.0))
+  scopes_born (fresh.Bunch nodes) fit = ap (λ b. map (own_scope w (cells ++ bunch_cells cells w nodes.items)) (if b && false then (bunch_cell w (length cells + 1)) ∷ [] else [])) (eqb_self w)
 
 -- how many a widget has
-count_own : (w : ℕ) (all cs : List PlainCell) → length (own_cells w all cs) ≡ count_all (is_visible w) cs
-count_own w all [] = refl
-count_own w all (c ∷ cs) = by (is_visible w c) (count_own w all cs)
-  where
-    by : (b : Bool) → length (own_cells w all cs) ≡ count_all (is_visible w) cs → length (if b then own_cell w all c ∷ own_cells w all cs else own_cells w all cs) ≡ (if b then suc (count_all (is_visible w) cs) else count_all (is_visible w) cs)
-    by true e = ap suc e
-    by false e = e
+count_own : (w : ℕ) (all cs : List PlainCell) → length (own_cells w all cs) ≡ count_by (is_visible w) cs
+count_own w all cs = length-map (filter (is_visible w) cs) (own_cell w all) ∙ length-filter (is_visible w) cs
 
-count_scopes : (w : ℕ) (all cs : List PlainCell) → length (own_scopes w all cs) ≡ count_all (is_own_scope w) cs
-count_scopes w all [] = refl
-count_scopes w all (c ∷ cs) = by (is_own_scope w c) (count_scopes w all cs)
-  where
-    by : (b : Bool) → length (own_scopes w all cs) ≡ count_all (is_own_scope w) cs → length (if b then own_scope w all c ∷ own_scopes w all cs else own_scopes w all cs) ≡ (if b then suc (count_all (is_own_scope w) cs) else count_all (is_own_scope w) cs)
-    by true e = ap suc e
-    by false e = e
+count_scopes : (w : ℕ) (all cs : List PlainCell) → length (own_scopes w all cs) ≡ count_by (is_own_scope w) cs
+count_scopes w all cs = length-map (filter (is_own_scope w) cs) (own_scope w all) ∙ length-filter (is_own_scope w) cs
 
 -- `make`
 module _ (s : Cells) (links : (i : ℕ) (c : PlainCell) → slice_get s.cells i ≡ Some c → IsLinked s.cells i c) (bunches_each : (i : ℕ) (c : PlainCell) → slice_get s.cells i ≡ Some c → is_bunch c.form ≡ true → IsBunch s.cells c) (w : ℕ) (n : NewCell) (fit : IsMakeable s.cells n) where

@@ -1,5 +1,6 @@
 -- What `put` answers.
 use Rattle.std.proofs.Common.{◌≡◌, ℕ, List, length, sym, ap, ◌∙◌, subst, Option, Some, None, false, if◌then◌else◌, slice_get, is_some}
+use Rattle.std.specs.List.{count_by}
 use Rattle.std.specs.Prelude.{Result, Ok, Err, IsErr, IfErr}
 use Rattle.std.specs.Result.{IsErrAnd}
 use Rattle.std.specs.Option.{option_map, option_map_or}
@@ -11,7 +12,7 @@ use Rattle.object_store.specs.declared.cell.Write.{Write}
 use Rattle.object_store.specs.declared.store.Counts.{Counts}
 use Rattle.object_store.specs.declared.store.StoreFault.{StoreFault}
 use Rattle.object_store.specs.declared.store.StoreFault.TheVariants as fault
-use Rattle.object_store.specs.Lists.{changed, count_all}
+use Rattle.object_store.specs.Lists.{changed}
 use Rattle.object_store.specs.Cells.{kept_cells, PlainCell, Cells, has_own, writer_in}
 use Rattle.object_store.specs.Arrays.{stored, is_bad_length}
 use Rattle.object_store.specs.Numbered.{Raw, plain, cells_of, heads, own_head, raw_has, IsNumberOf, plan_of, by_plan}
@@ -44,7 +45,7 @@ shape_paid names new cs after raws kept counts shape base closed same within w s
   nodes = subst (λ (hs : List Head). AreRaws hs raws) (sym same) shape.nodes;
   counted = ap length e ∙ length-changed kept w (paid 0 s u) ∙ shape.counted;
   within = within;
-  exact = λ v lt. ap (λ (ks : List Counts). kept_cells ks v) e ∙ cells_paid kept w s u v ∙ shape.exact v lt ∙ ap (count_all (own_head v)) (sym same);
+  exact = λ v lt. ap (λ (ks : List Counts). kept_cells ks v) e ∙ cells_paid kept w s u v ∙ shape.exact v lt ∙ ap (count_by (own_head v)) (sym same);
 }
 
 module _ (s : Cells) (names : List (List ℕ)) (cs : List Raw) {raws : List (ℕ × ℕ)} (kept : List Counts) (view : (let c : Cells = record { cells = cells_of names cs; kept = kept } in c ≡ s)) (shape : IsShape names cs raws kept) (i : ℕ) (c : Raw) (at : slice_get cs i ≡ Some c) where

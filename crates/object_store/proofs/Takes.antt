@@ -2,7 +2,7 @@
 use Rattle.std.proofs.Common.{◌≡◌, ℕ, zero, suc, ◌<◌, List, [], ◌∷◌, length, refl, sym, ap, ◌∙◌, subst, Option, Some, None, Bool, true, false, eqb, if◌then◌else◌, not, is_some, slice_get}
 use Rattle.std.specs.Prelude.{◌&&◌}
 use Rattle.std.specs.Option.{option_map_or, option_and_then}
-use Rattle.std.specs.List.{IsDistinct, list_any}
+use Rattle.std.specs.List.{IsDistinct, list_any, count_by}
 use Rattle.std.specs.Map.{keys_of, lookup, remove_entry}
 use Rattle.std.specs.Str.{bytes_eq}
 use Rattle.std.proofs.lemmas.Option.{get_or_from_slice_get, slice_get_within}
@@ -13,7 +13,7 @@ use Rattle.object_store.specs.declared.kind.Form.{Form}
 use Rattle.object_store.specs.declared.store.Counts.{Counts}
 use Rattle.object_store.specs.declared.store.StoreFault.TheVariants as fault
 use Rattle.object_store.specs.Indices.{end_of}
-use Rattle.object_store.specs.Lists.{changed, count_all}
+use Rattle.object_store.specs.Lists.{changed}
 use Rattle.object_store.specs.Cells.{PlainCell, Cells, is_array, is_bunch, is_scope, holder, writer_in, widget_of, is_scope_at}
 use Rattle.object_store.specs.Arrays.{length_in, length_name, written}
 use Rattle.object_store.specs.Numbered.{Raw, plain, named, cells_of, heads, own_head, raw_without, raw_held, raw_has, raw_has_at, raw_holder}
@@ -36,7 +36,7 @@ shape_same names cs after raws kept shape base closed same = record {
   nodes = subst (λ (hs : List Head). AreRaws hs raws) (sym same) shape.nodes;
   counted = shape.counted;
   within = shape.within;
-  exact = λ w lt. shape.exact w lt ∙ ap (count_all (own_head w)) (sym same);
+  exact = λ w lt. shape.exact w lt ∙ ap (count_by (own_head w)) (sym same);
 }
 
 -- both hold, or one fails

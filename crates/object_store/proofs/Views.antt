@@ -1,9 +1,11 @@
 -- What a widget has, where the store changed elsewhere.
-use Rattle.std.proofs.Common.{◌≡◌, ℕ, zero, suc, ◌<◌, List, [], ◌∷◌, ◌++◌, length, refl, sym, ap, ◌∙◌, Option, Some, None, arith, Bool, true, false, eqb, cond, if◌then◌else◌, slice_get, filter, not}
-use Rattle.std.specs.Prelude.{IfSome, ◌&&◌, option_to_list}
-use Rattle.std.specs.List.{list_all}
+use Rattle.std.proofs.Common.{◌≡◌, ℕ, zero, suc, ◌<◌, List, [], ◌∷◌, ◌++◌, length, refl, sym, ap, ◌∙◌, Option, Some, None, arith, Bool, true, false, eqb, cond, if◌then◌else◌, slice_get, filter, map, not, take}
+use Rattle.std.specs.Prelude.{IfSome, ◌&&◌}
+use Rattle.std.specs.List.{cons_option, list_all}
 use Rattle.std.specs.Option.{option_map, option_map_or}
 use Rattle.std.specs.Str.{bytes_eq}
+use Rattle.std.proofs.lemmas.List.{map-append}
+use Rattle.std.proofs.lemmas.List.Elements.{filter-append}
 use Rattle.object_store.specs.declared.value.Value.{Value}
 use Rattle.object_store.specs.declared.value.Value.TheVariants as value
 use Rattle.object_store.specs.declared.kind.Form.{Form}
@@ -15,7 +17,7 @@ use Rattle.object_store.specs.Arrays.{length_name}
 use Rattle.object_store.specs.Bunches.{AreBunches, AreCellsOf, IsBunch, elements}
 use Rattle.object_store.specs.Shape.{AreRefs, IsLinked, IsRefWithin, scope_in}
 use Rattle.object_store.specs.Owned.{OwnKind, OwnValue, is_of, is_of_at, is_own_scope, nodes_in, nodes_of, own_cell, own_cells, own_kind, own_link, own_pairs, own_scope, own_scopes, own_value, owned, scope_number, shown, visible_at}
-use Rattle.object_store.proofs.Lists.{get_first, get_within, count_before-append}
+use Rattle.object_store.proofs.Lists.{get_first, get_within, count_more, count_before-append, same_rest}
 use Rattle.object_store.proofs.Closed.{bunch_older}
 
 false_true : false ≡ true → ⊥
@@ -26,7 +28,7 @@ nodes_elements : (cells : List PlainCell) (k : ℕ) (refs nodes : List ℕ) → 
 nodes_elements cells k [] [] h = refl
 nodes_elements cells k [] (n ∷ nodes) h = absurd h
 nodes_elements cells k (r ∷ refs) [] h = absurd h
-nodes_elements cells k (r ∷ refs) (n ∷ nodes) h = λ j. option_to_list (h.0 j) ++ nodes_elements cells (suc k) refs nodes h.1 j
+nodes_elements cells k (r ∷ refs) (n ∷ nodes) h = λ j. cons_option (h.0 j) (nodes_elements cells (suc k) refs nodes h.1 j)
 
 pub nodes_are : (cells : List PlainCell) (d : PlainCell) (h : IsBunch cells d) → nodes_of cells d ≡ h.nodes
 nodes_are cells d h =
@@ -121,11 +123,19 @@ module _ (before after : List PlainCell) (linked : (i : ℕ) (c : PlainCell) →
 
   heap_same : (cs : List PlainCell) → ((i : ℕ) (c : PlainCell) → slice_get cs i ≡ Some c → own_cell v after c ≡ own_cell v before c) → own_cells v after cs ≡ own_cells v before cs
   heap_same [] h = refl
-  heap_same (c ∷ cs) h = let p = h 0 c refl in let q = heap_same cs (λ i d at. h (suc i) d at) in λ j. if is_visible v c then p j ∷ q j else q j
+  heap_same (c ∷ cs) h = by (is_visible v c) (h 0 c refl) (heap_same cs (λ i d at. h (suc i) d at))
+    where
+      by : (b : Bool) → own_cell v after c ≡ own_cell v before c → own_cells v after cs ≡ own_cells v before cs → map (own_cell v after) (if b then c ∷ filter (is_visible v) cs else filter (is_visible v) cs) ≡ map (own_cell v before) (if b then c ∷ filter (is_visible v) cs else filter (is_visible v) cs)
+      by true p q = λ j. p j ∷ q j
+      by false p q = q
 
   scopes_same : (cs : List PlainCell) → ((i : ℕ) (c : PlainCell) → slice_get cs i ≡ Some c → own_scope v after c ≡ own_scope v before c) → own_scopes v after cs ≡ own_scopes v before cs
   scopes_same [] h = refl
-  scopes_same (c ∷ cs) h = let p = h 0 c refl in let q = scopes_same cs (λ i d at. h (suc i) d at) in λ j. if is_own_scope v c then p j ∷ q j else q j
+  scopes_same (c ∷ cs) h = by (is_own_scope v c) (h 0 c refl) (scopes_same cs (λ i d at. h (suc i) d at))
+    where
+      by : (b : Bool) → own_scope v after c ≡ own_scope v before c → own_scopes v after cs ≡ own_scopes v before cs → map (own_scope v after) (if b then c ∷ filter (is_own_scope v) cs else filter (is_own_scope v) cs) ≡ map (own_scope v before) (if b then c ∷ filter (is_own_scope v) cs else filter (is_own_scope v) cs)
+      by true p q = λ j. p j ∷ q j
+      by false p q = q
 
   pub heap_stays : own_cells v after before ≡ own_cells v before before
   heap_stays = heap_same before each_cell
@@ -155,9 +165,9 @@ module _ (v : ℕ) (f : PlainCell → PlainCell) (same_owner : (c : PlainCell) �
   count_kept : (p : PlainCell → Bool) → ((c : PlainCell) → p (f c) ≡ p c) → (cs : List PlainCell) (i k : ℕ) → count_before p (changed cs i f) k ≡ count_before p cs k
   count_kept p h [] i k = refl
   count_kept p h (c ∷ cs) zero zero = refl
-  count_kept p h (c ∷ cs) zero (suc k) = ap (λ b. if b then suc (count_before p cs k) else count_before p cs k) (h c)
+  count_kept p h (c ∷ cs) zero (suc k) = count_more p p (f c) c (take k cs) (take k cs) (h c) refl
   count_kept p h (c ∷ cs) (suc i) zero = refl
-  count_kept p h (c ∷ cs) (suc i) (suc k) = ap (λ n. if p c then suc n else n) (count_kept p h cs i k)
+  count_kept p h (c ∷ cs) (suc i) (suc k) = count_more p p c c (take k (changed cs i f)) (take k cs) refl (count_kept p h cs i k)
 
   at_kept : (cs : List PlainCell) (i k : ℕ) → visible_at v (changed cs i f) k ≡ visible_at v cs k
   at_kept [] i k = refl
@@ -175,13 +185,13 @@ module _ (v : ℕ) (f : PlainCell → PlainCell) (same_owner : (c : PlainCell) �
 
   heap_other : (all cs : List PlainCell) (i : ℕ) → is_of_at v cs i ≡ false → own_cells v all (changed cs i f) ≡ own_cells v all cs
   heap_other all [] i h = refl
-  heap_other all (c ∷ cs) zero h = ap (λ b. if b then own_cell v all (f c) ∷ own_cells v all cs else own_cells v all cs) (visible_kept c ∙ own_false v c h) ∙ ap (λ b. if b then own_cell v all c ∷ own_cells v all cs else own_cells v all cs) (sym (own_false v c h))
-  heap_other all (c ∷ cs) (suc i) h = ap (λ l. if is_visible v c then own_cell v all c ∷ l else l) (heap_other all cs i h)
+  heap_other all (c ∷ cs) zero h = ap (λ b. map (own_cell v all) (if b then f c ∷ filter (is_visible v) cs else filter (is_visible v) cs)) (visible_kept c ∙ own_false v c h) ∙ ap (λ b. map (own_cell v all) (if b then c ∷ filter (is_visible v) cs else filter (is_visible v) cs)) (sym (own_false v c h))
+  heap_other all (c ∷ cs) (suc i) h = same_rest (own_cell v all) (is_visible v) c (changed cs i f) cs (heap_other all cs i h)
 
   scopes_other : (all cs : List PlainCell) (i : ℕ) → is_of_at v cs i ≡ false → own_scopes v all (changed cs i f) ≡ own_scopes v all cs
   scopes_other all [] i h = refl
-  scopes_other all (c ∷ cs) zero h = ap (λ b. if b then own_scope v all (f c) ∷ own_scopes v all cs else own_scopes v all cs) (scope_kept c ∙ scope_false v c h) ∙ ap (λ b. if b then own_scope v all c ∷ own_scopes v all cs else own_scopes v all cs) (sym (scope_false v c h))
-  scopes_other all (c ∷ cs) (suc i) h = ap (λ l. if is_own_scope v c then own_scope v all c ∷ l else l) (scopes_other all cs i h)
+  scopes_other all (c ∷ cs) zero h = ap (λ b. map (own_scope v all) (if b then f c ∷ filter (is_own_scope v) cs else filter (is_own_scope v) cs)) (scope_kept c ∙ scope_false v c h) ∙ ap (λ b. map (own_scope v all) (if b then c ∷ filter (is_own_scope v) cs else filter (is_own_scope v) cs)) (sym (scope_false v c h))
+  scopes_other all (c ∷ cs) (suc i) h = same_rest (own_scope v all) (is_own_scope v) c (changed cs i f) cs (scopes_other all cs i h)
 
   -- the others see nothing of it
   module _ (cells : List PlainCell) (i : ℕ) (linked : (k : ℕ) (c : PlainCell) → slice_get cells k ≡ Some c → IsLinked cells k c) (bunches : AreBunches cells) (stays : (c : PlainCell) (h : IsBunch cells c) → (g : IsBunch (changed cells i f) c) × (g.nodes ≡ h.nodes)) where
@@ -203,20 +213,10 @@ module _ (v : ℕ) (cells more : List PlainCell) where
   }
 
   heap_append : (all cs : List PlainCell) → own_cells v all (cs ++ more) ≡ own_cells v all cs ++ own_cells v all more
-  heap_append all [] = refl
-  heap_append all (c ∷ cs) = by (is_visible v c) (heap_append all cs)
-    where
-      by : (b : Bool) → own_cells v all (cs ++ more) ≡ own_cells v all cs ++ own_cells v all more → (if b then own_cell v all c ∷ own_cells v all (cs ++ more) else own_cells v all (cs ++ more)) ≡ (if b then own_cell v all c ∷ own_cells v all cs else own_cells v all cs) ++ own_cells v all more
-      by true e = ap (λ l. own_cell v all c ∷ l) e
-      by false e = e
+  heap_append all cs = ap (map (own_cell v all)) (filter-append (is_visible v) cs more) ∙ map-append (own_cell v all) (filter (is_visible v) cs) (filter (is_visible v) more)
 
   scopes_append : (all cs : List PlainCell) → own_scopes v all (cs ++ more) ≡ own_scopes v all cs ++ own_scopes v all more
-  scopes_append all [] = refl
-  scopes_append all (c ∷ cs) = by (is_own_scope v c) (scopes_append all cs)
-    where
-      by : (b : Bool) → own_scopes v all (cs ++ more) ≡ own_scopes v all cs ++ own_scopes v all more → (if b then own_scope v all c ∷ own_scopes v all (cs ++ more) else own_scopes v all (cs ++ more)) ≡ (if b then own_scope v all c ∷ own_scopes v all cs else own_scopes v all cs) ++ own_scopes v all more
-      by true e = ap (λ l. own_scope v all c ∷ l) e
-      by false e = e
+  scopes_append all cs = ap (map (own_scope v all)) (filter-append (is_own_scope v) cs more) ∙ map-append (own_scope v all) (filter (is_own_scope v) cs) (filter (is_own_scope v) more)
 
   module _ (linked : (k : ℕ) (c : PlainCell) → slice_get cells k ≡ Some c → IsLinked cells k c) (bunches : AreBunches cells) where
     stays_older : (c : PlainCell) (h : IsBunch cells c) → (g : IsBunch (cells ++ more) c) × (g.nodes ≡ h.nodes)
@@ -241,7 +241,7 @@ heap_none v all (c ∷ more) h = by (is_of v c.owner) refl h (λ g. heap_none v 
   where
     by : (b : Bool) → is_of v c.owner ≡ b → (not b && list_all (λ (c : PlainCell). not (is_of v c.owner)) more) ≡ true → (list_all (λ (c : PlainCell). not (is_of v c.owner)) more ≡ true → own_cells v all more ≡ []) → own_cells v all (c ∷ more) ≡ []
     by true e h rest = absurd (false_true h)
-    by false e h rest = ap (λ b. if b then own_cell v all c ∷ own_cells v all more else own_cells v all more) (own_false v c e) ∙ rest h
+    by false e h rest = ap (λ b. map (own_cell v all) (if b then c ∷ filter (is_visible v) more else filter (is_visible v) more)) (own_false v c e) ∙ rest h
 
 scopes_none : (v : ℕ) (all more : List PlainCell) → list_all (λ (c : PlainCell). not (is_of v c.owner)) more ≡ true → own_scopes v all more ≡ []
 scopes_none v all [] h = refl
@@ -249,7 +249,7 @@ scopes_none v all (c ∷ more) h = by (is_of v c.owner) refl h (λ g. scopes_non
   where
     by : (b : Bool) → is_of v c.owner ≡ b → (not b && list_all (λ (c : PlainCell). not (is_of v c.owner)) more) ≡ true → (list_all (λ (c : PlainCell). not (is_of v c.owner)) more ≡ true → own_scopes v all more ≡ []) → own_scopes v all (c ∷ more) ≡ []
     by true e h rest = absurd (false_true h)
-    by false e h rest = ap (λ b. if b then own_scope v all c ∷ own_scopes v all more else own_scopes v all more) (scope_false v c e) ∙ rest h
+    by false e h rest = ap (λ b. map (own_scope v all) (if b then c ∷ filter (is_own_scope v) more else filter (is_own_scope v) more)) (scope_false v c e) ∙ rest h
 
 pub others_grown : (v : ℕ) (cells more : List PlainCell) → ((k : ℕ) (c : PlainCell) → slice_get cells k ≡ Some c → IsLinked cells k c) → AreBunches cells → (kept counts : List Counts) → list_all (λ (c : PlainCell). not (is_of v c.owner)) more ≡ true → slice_get counts v ≡ slice_get kept v → (let a : Cells = record { cells = cells ++ more; kept = counts } in owned v a) ≡ (let b : Cells = record { cells = cells; kept = kept } in owned v b)
 unfolding owned

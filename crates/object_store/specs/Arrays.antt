@@ -9,11 +9,11 @@ use Rattle.object_store.specs.declared.value.Value.TheVariants as value
 use Rattle.object_store.specs.declared.value.Number.TheVariants as number
 use Rattle.object_store.specs.Cells.{PlainCell, value_of, is_array}
 
--- `length`
+-- the name `length`
 abbrev pub length_name : List ℕ
 length_name = 108 ∷ 101 ∷ 110 ∷ 103 ∷ 116 ∷ 104 ∷ []
 
--- `___nodes___`
+-- the name `___nodes___`
 abbrev pub nodes_name : List ℕ
 nodes_name = 95 ∷ 95 ∷ 95 ∷ 110 ∷ 111 ∷ 100 ∷ 101 ∷ 115 ∷ 95 ∷ 95 ∷ 95 ∷ []
 
@@ -30,37 +30,37 @@ length_in _ = None
 abbrev pub length_of : List (List ℕ × Value) → ℕ
 length_of pairs = option_map_or (λ n. n) (option_and_then length_in (value_of pairs length_name)) 0
 
--- the name is no index from n on
+-- whether a name is no index from n on
 abbrev pub is_below : ℕ → List ℕ → Bool
 is_below n name = option_map_or (λ i. nat_lt i n) (index_of name) true
 
--- a name keeps its place, and a new one goes last
+-- a cell after a write under a name: an own name keeps its place, and a new one goes last
 abbrev pub written : List ℕ → Value → PlainCell → PlainCell
 written name v c = record c { pairs = insert_entry bytes_eq c.pairs name v }
 
--- without the elements from n on
+-- a cell without the elements from n on
 abbrev pub cut : ℕ → PlainCell → PlainCell
 cut n c = record c { pairs = filter (λ p. is_below n p.0) c.pairs }
 
--- a write under `length` takes out the elements past it
+-- an Array after a write under `length`, which takes out the elements past it
 abbrev pub resized : Value → PlainCell → PlainCell
 resized v c = option_map_or (λ n. cut n (written length_name v c)) (length_in v) c
 
--- a write of an element at or past the length raises it
+-- an Array after a write of an element at or past its length, which raises it
 abbrev pub extended : List ℕ → Value → ℕ → PlainCell → PlainCell
 extended name v i c = written length_name (count_value (i + 1)) (written name v c)
 
--- a write under the name of an element
+-- an Array after a write under a name other than `length`, by the index that the name is
 abbrev pub placed : List ℕ → Value → PlainCell → Option ℕ → PlainCell
 placed name v c None = written name v c
 placed name v c (Some i) = if nat_lt i (length_of c.pairs) then written name v c else extended name v i c
 
--- a write under a name
+-- a cell after a write under a name (ECMA-262 3rd edition, 8.6.2.2 and 15.4.5.1)
 abbrev pub stored : List ℕ → Value → PlainCell → PlainCell
 stored name v c =
     if is_array c.form then (if bytes_eq name length_name then resized v c else placed name v c (index_of name)) else written name v c
 
--- a length that is none
+-- whether a write gives the `length` of an Array what is no length
 abbrev pub is_bad_length : List ℕ → Value → PlainCell → Bool
 is_bad_length name v c =
     if is_array c.form then (if bytes_eq name length_name then option_map_or (λ n. false) (length_in v) true else false) else false

@@ -17,7 +17,7 @@ abbrev pub elements : ℕ → List ℕ → List (List ℕ × Value)
 elements k [] = []
 elements k (r ∷ rs) = (decimal k, value.Ref r) ∷ elements (suc k) rs
 
--- the hidden Array of these references
+-- a hidden Array of these references
 abbrev pub hidden_array : List ℕ → PlainCell
 hidden_array refs = record { owner = whose.Host; form = form.Array; up = Some array_prototype; pairs = (length_name, count_value (length refs)) ∷ elements 0 refs }
 
@@ -25,11 +25,11 @@ hidden_array refs = record { owner = whose.Host; form = form.Array; up = Some ar
 abbrev pub bunch_cell : ℕ → ℕ → PlainCell
 bunch_cell w array = record { owner = whose.Widget w; form = form.Bunch; up = Some bunch_prototype; pairs = (nodes_name, value.Ref array) ∷ [] }
 
--- the node of the cell at a place
+-- the page node of the cell at a place
 abbrev pub node_at : List PlainCell → ℕ → Option ℕ
 node_at cells i = option_and_then node_in (form_at cells i)
 
--- the cells at these places are those of these nodes
+-- the cells at these places are the RawNodes of these nodes
 abbrev pub AreCellsOf : List PlainCell → List ℕ → List ℕ → Type 0
 AreCellsOf cells [] [] = Unit {0}
 AreCellsOf cells (r ∷ rs) (n ∷ ns) = (node_at cells r ≡ Some n) × AreCellsOf cells rs ns
@@ -45,6 +45,6 @@ pub record IsBunch (cells : List PlainCell) (c : PlainCell) : Type 0 where
   pub lead : AreCellsOf cells refs nodes
   pub distinct : IsDistinct nat_eq nodes
 
--- each Bunch is one
+-- Each Bunch of the store is one.
 pub record AreBunches (cells : List PlainCell) : Type 0 where
   pub each : (i : ℕ) (c : PlainCell) → slice_get cells i ≡ Some c → is_bunch c.form ≡ true → IsBunch cells c

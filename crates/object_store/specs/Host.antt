@@ -19,47 +19,59 @@ use Rattle.object_store.specs.Lists.{changed}
 use Rattle.object_store.specs.Cells.{Cells, PlainCell}
 use Rattle.object_store.specs.Arrays.{written}
 
--- the host's cells, by place
+-- the place of the Global cell
 abbrev pub global : ℕ
 global = 0
 
+-- the place of the RawNode of `body`
 abbrev pub body : ℕ
 body = 1
 
+-- the place of the prototype of Objects
 abbrev pub object_prototype : ℕ
 object_prototype = 2
 
+-- the place of the prototype of Arrays
 abbrev pub array_prototype : ℕ
 array_prototype = 3
 
+-- the place of the prototype of Functions
 abbrev pub function_prototype : ℕ
 function_prototype = 4
 
+-- the place of the prototype of Bunches
 abbrev pub bunch_prototype : ℕ
 bunch_prototype = 5
 
+-- the place of the prototype of texts
 abbrev pub text_prototype : ℕ
 text_prototype = 6
 
+-- the place of the prototype of numbers
 abbrev pub number_prototype : ℕ
 number_prototype = 7
 
+-- the place of the prototype of truth values
 abbrev pub boolean_prototype : ℕ
 boolean_prototype = 8
 
+-- the place of `Math`
 abbrev pub math : ℕ
 math = 9
 
+-- the place of `ADSAFE`
 abbrev pub adsafe : ℕ
 adsafe = 10
 
+-- the place of `dom`
 abbrev pub dom : ℕ
 dom = 11
 
--- the natives come next, in order
+-- the place of the first native; the others follow in order
 abbrev pub first_native : ℕ
 first_native = 12
 
+-- the number of a native in that order
 abbrev pub number_of : NativeId → ℕ
 number_of native.Bubble = 0
 number_of native.Boolean = 1
@@ -153,6 +165,7 @@ number_of native.Mark = 88
 number_of native.GetMark = 89
 number_of native.Protect = 90
 
+-- the place of `String`
 abbrev pub string : ℕ
 string = first_native + number_of native.String
 
@@ -160,37 +173,39 @@ string = first_native + number_of native.String
 abbrev pub Row : Type 0
 Row = ℕ × List ℕ × NativeId
 
--- the global natives
+-- the natives that are globals
 abbrev pub global_natives : List Row
 global_natives =
     (global, codes "Boolean", native.Boolean) ∷ (global, codes "Number", native.Number) ∷ (global, codes "String", native.String)
     ∷ (global, codes "isNaN", native.IsNaN) ∷ (global, codes "isFinite", native.IsFinite) ∷ (global, codes "parseInt", native.ParseInt) ∷ []
 
--- of `String`
+-- the natives of `String`
 abbrev pub string_natives : List Row
 string_natives = (string, codes "fromCharCode", native.FromCharCode) ∷ []
 
--- of `Math`
+-- the natives of `Math`
 abbrev pub math_natives : List Row
 math_natives =
     (math, codes "abs", native.Abs) ∷ (math, codes "ceil", native.Ceil) ∷ (math, codes "floor", native.Floor) ∷ (math, codes "round", native.Round)
     ∷ (math, codes "max", native.Max) ∷ (math, codes "min", native.Min) ∷ (math, codes "pow", native.Pow) ∷ []
 
--- of the prototype of Object
+-- the natives of the prototype of Objects
 abbrev pub object_natives : List Row
 object_natives = (object_prototype, codes "hasOwnProperty", native.HasOwnProperty) ∷ (object_prototype, codes "toString", native.ObjectToString) ∷ []
 
--- of the prototypes of Function, number and boolean
+-- the native of the prototype of Functions
 abbrev pub function_natives : List Row
 function_natives = (function_prototype, codes "toString", native.FunctionToString) ∷ []
 
+-- the native of the prototype of numbers
 abbrev pub number_natives : List Row
 number_natives = (number_prototype, codes "toString", native.NumberToString) ∷ []
 
+-- the native of the prototype of truth values
 abbrev pub boolean_natives : List Row
 boolean_natives = (boolean_prototype, codes "toString", native.BooleanToString) ∷ []
 
--- of texts
+-- the natives of the prototype of texts
 abbrev pub text_natives : List Row
 text_natives =
     (text_prototype, codes "toString", native.TextToString) ∷ (text_prototype, codes "charAt", native.CharAt)
@@ -200,7 +215,7 @@ text_natives =
     ∷ (text_prototype, codes "split", native.Split) ∷ (text_prototype, codes "toLowerCase", native.ToLowerCase)
     ∷ (text_prototype, codes "toUpperCase", native.ToUpperCase) ∷ []
 
--- of arrays
+-- the natives of the prototype of Arrays
 abbrev pub array_natives : List Row
 array_natives =
     (array_prototype, codes "toString", native.ArrayToString) ∷ (array_prototype, codes "concat", native.ArrayConcat)
@@ -210,7 +225,7 @@ array_natives =
     ∷ (array_prototype, codes "slice", native.ArraySlice) ∷ (array_prototype, codes "splice", native.Splice)
     ∷ (array_prototype, codes "forEach", native.ForEach) ∷ (array_prototype, codes "map", native.Map) ∷ (array_prototype, codes "filter", native.Filter) ∷ []
 
--- of `ADSAFE`
+-- the natives of `ADSAFE`
 abbrev pub adsafe_natives : List Row
 adsafe_natives =
     (adsafe, codes "get", native.Get) ∷ (adsafe, codes "set", native.Set) ∷ (adsafe, codes "remove", native.Remove) ∷ (adsafe, codes "has", native.Has)
@@ -218,11 +233,11 @@ adsafe_natives =
     ∷ (adsafe, codes "later", native.Later) ∷ (adsafe, codes "log", native.Log) ∷ (adsafe, codes "post", native.Post)
     ∷ (adsafe, codes "fromJson", native.FromJson) ∷ (adsafe, codes "toJson", native.ToJson) ∷ []
 
--- of `dom`
+-- the natives of `dom`
 abbrev pub dom_natives : List Row
 dom_natives = (dom, codes "q", native.DomQ) ∷ (dom, codes "append", native.DomAppend) ∷ (dom, codes "tag", native.DomTag) ∷ (dom, codes "text", native.DomText) ∷ []
 
--- of Bunches
+-- the natives of the prototype of Bunches
 abbrev pub bunch_natives : List Row
 bunch_natives =
     (bunch_prototype, codes "q", native.BunchQ) ∷ (bunch_prototype, codes "append", native.BunchAppend)
@@ -244,32 +259,34 @@ bunch_natives =
 abbrev pub homed : List Row
 homed = global_natives ++ string_natives ++ math_natives ++ object_natives ++ function_natives ++ number_natives ++ boolean_natives ++ text_natives ++ array_natives ++ adsafe_natives ++ dom_natives ++ bunch_natives
 
+-- all natives, in the order of their places
 abbrev pub natives : List NativeId
 natives = native.Bubble ∷ map (λ r. r.2) homed
 
--- a property of a host cell: the cell, the name, the value
+-- A property of a host cell: the cell, the name, the value.
 abbrev pub Gift : Type 0
 Gift = ℕ × List ℕ × Value
 
+-- the property that is a native of its home
 abbrev pub native_gift : Row → Gift
 native_gift r = (r.0, r.1, value.Ref (first_native + number_of r.2))
 
--- the other properties: the listed globals that are no natives, `document`, and the methods that
--- the prototypes of number and boolean do not inherit
+-- the other properties: the globals that are no natives, and `hasOwnProperty` of the two prototypes that stand on nothing
 abbrev pub other_gifts : List Gift
 other_gifts =
     (global, codes "undefined", value.Undefined) ∷ (global, codes "NaN", value.Num number.NaN) ∷ (global, codes "Math", value.Ref math) ∷ (global, codes "ADSAFE", value.Ref adsafe)
     ∷ (global, codes "document", value.Ref body) ∷ (number_prototype, codes "hasOwnProperty", value.Ref (first_native + number_of native.HasOwnProperty))
     ∷ (boolean_prototype, codes "hasOwnProperty", value.Ref (first_native + number_of native.HasOwnProperty)) ∷ []
 
--- the cells without properties: the prototypes of Array, Function, Bunch and text stand on that of
--- Object, and so do the objects; a native stands on that of Function
+-- a cell of the host without properties
 abbrev pub host_cell : Option ℕ → Form → PlainCell
 host_cell up f = record { owner = whose.Host; form = f; up = up; pairs = [] }
 
+-- the forms of the natives, in the order of their places
 abbrev pub native_forms : List Form
 native_forms = map form.Native natives
 
+-- the host's cells without properties: natives stand on the prototype of Functions, and most prototypes and objects on that of Objects
 abbrev pub bare_cells : List PlainCell
 bare_cells =
     map (host_cell None) (form.Global ∷ form.RawNode 0 ∷ form.Object ∷ [])
@@ -277,29 +294,31 @@ bare_cells =
     ++ map (host_cell None) (form.Object ∷ form.Object ∷ []) ++ map (host_cell (Some object_prototype)) (form.Object ∷ form.Object ∷ form.Object ∷ [])
     ++ map (host_cell (Some function_prototype)) native_forms
 
+-- the cells after a property was given
 abbrev pub given : List PlainCell → Gift → List PlainCell
 given cells g = changed cells g.0 (written g.1 g.2)
 
--- the host's cells
+-- the host's cells with their properties
 unfoldable pub host_cells : List PlainCell
 host_cells = fold given (fold given bare_cells (map native_gift homed)) other_gifts
 
--- how many they are
+-- how many cells the host has in each store
 abbrev pub host_count : ℕ
 host_count = 103
 
--- the cells of a new store
+-- the counts of a widget that has paid nothing
 abbrev pub nothing_paid : Counts
 nothing_paid = record { cells = 0; slots = 0; units = 0 }
 
+-- a new store: the host's cells alone, and no widget has paid
 abbrev pub first_store : Cells
 first_store = record { cells = host_cells; kept = replicate 32 nothing_paid }
 
--- the permitted table: all but the Global cell and the cell of `body`
+-- whether the cell at a place is of the permitted table: all of the host's first cells but Global and `body`
 abbrev pub is_permitted_cell : ℕ → Bool
 is_permitted_cell i = nat_le object_prototype i && nat_lt i host_count
 
--- the cell of an entry of the permitted table
+-- the place of an entry of the permitted table
 abbrev pub place_of : HostEntry → ℕ
 place_of entry.ObjectPrototype = object_prototype
 place_of entry.ArrayPrototype = array_prototype
@@ -318,20 +337,22 @@ pub record AreHost (cells : List PlainCell) : Type 0 where
   pub enough : host_count ≤ length cells
   pub same : (i : ℕ) → i < host_count → slice_get cells i ≡ slice_get host_cells i
 
--- a primitive, or a reference to a cell of the permitted table
+-- whether a value is a primitive, or a reference to a cell of the permitted table
 abbrev pub is_permitted_value : Value → Bool
 is_permitted_value (value.Ref i) = is_permitted_cell i
 is_permitted_value _ = true
 
--- a frozen cell of the host that leads to primitives and permitted cells alone, also by its prototype
+-- whether a form is one that cells of the permitted table have
 abbrev pub is_frozen_form : Form → Bool
 is_frozen_form form.Object = true
 is_frozen_form (form.Native n) = true
 is_frozen_form _ = false
 
+-- whether an owner is the host
 abbrev pub is_host_owner : Owner → Bool
 is_host_owner whose.Host = true
 is_host_owner _ = false
 
+-- whether a cell is a frozen cell of the host that leads to primitives and permitted cells alone, also by its prototype
 abbrev pub leads_on : PlainCell → Bool
 leads_on c = is_host_owner c.owner && (is_frozen_form c.form && (option_map_or is_permitted_cell c.up true && list_all (λ p. is_permitted_value p.1) c.pairs))

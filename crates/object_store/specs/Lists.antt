@@ -1,5 +1,6 @@
 -- Words on lists of cells, for cells of any form.
-use Rattle.std.specs.Prelude.{ℕ, zero, suc, Bool, List, [], ◌∷◌, Option, None, Some, if◌then◌else◌, slice_get}
+use Rattle.std.specs.Prelude.{ℕ, zero, suc, Bool, List, [], ◌∷◌, Option, None, Some, if◌then◌else◌, slice_get, take}
+use Rattle.std.specs.List.{count_by}
 use Rattle.std.specs.Option.{option_map_or}
 
 module _ {X : Type 0} (has : X → Bool) (up : X → Option ℕ) where
@@ -24,11 +25,4 @@ changed (x ∷ xs) (suc i) f = x ∷ changed xs i f
 
 -- how many elements before a place pass the test
 abbrev pub count_before : {X : Type 0} → (X → Bool) → List X → ℕ → ℕ
-count_before p [] i = 0
-count_before p (x ∷ xs) zero = 0
-count_before p (x ∷ xs) (suc i) = if p x then suc (count_before p xs i) else count_before p xs i
-
--- how many elements pass the test
-abbrev pub count_all : {X : Type 0} → (X → Bool) → List X → ℕ
-count_all p [] = 0
-count_all p (x ∷ xs) = if p x then suc (count_all p xs) else count_all p xs
+count_before p xs i = count_by p (take i xs)

@@ -11,12 +11,13 @@ use Rattle.object_store.specs.declared.value.Value.{Value}
 use Rattle.object_store.specs.declared.cell.Head.{Head}
 use Rattle.code_units.specs.Permitted.{is_permitted}
 use Rattle.object_store.specs.Lists.{climb}
-use Rattle.object_store.specs.Cells.{PlainCell, is_array, is_own, writer_in}
+use Rattle.object_store.specs.Cells.{PlainCell, is_array, is_own}
 use Rattle.object_store.specs.declared.cell.Write.{Write}
 use Rattle.object_store.specs.declared.cell.Write.TheVariants as write
 use Rattle.object_store.specs.Indices.{index_of}
 use Rattle.object_store.specs.Arrays.{is_below, count_value, length_in, length_name, written, cut}
 
+-- A cell as it is kept: its fixed part, a bound on its elements, and its pairs by the numbers of their names.
 pub record Raw : Type 0 where
   pub head : Head
   pub top : ℕ
@@ -28,94 +29,103 @@ name_at names n = slice_index_or names n []
 
 -- the pairs with their names
 abbrev pub named : List (List ℕ) → List (ℕ × Value) → List (List ℕ × Value)
-named names [] = []
-named names (e ∷ es) = (name_at names e.0, e.1) ∷ named names es
+named names es = map (λ e. (name_at names e.0, e.1)) es
 
+-- a cell with its names
 abbrev pub plain : List (List ℕ) → Raw → PlainCell
 plain names c = record { owner = c.head.owner; form = c.head.form; up = c.head.up; pairs = named names c.entries }
 
+-- the cells with their names
 abbrev pub cells_of : List (List ℕ) → List Raw → List PlainCell
 cells_of names cs = map (plain names) cs
 
+-- the fixed parts of the cells
 abbrev pub heads : List Raw → List Head
 heads cs = map (λ c. c.head) cs
 
--- the same questions by number
+-- whether a cell has a name of its own, by its number
 abbrev pub raw_has : ℕ → Raw → Bool
 raw_has n c = is_some (lookup (nat_eq n) c.entries)
 
+-- the place of the first cell with a name, from a cell on upwards, by its number
 abbrev pub raw_holder : List Raw → ℕ → ℕ → Option ℕ
 raw_holder cells i n = climb (raw_has n) (λ c. c.head.up) (length cells) cells (Some i)
 
+-- the value under a name of the cell at a place, by its number
 abbrev pub raw_own : List Raw → ℕ → ℕ → Option Value
 raw_own cells n i = option_and_then (λ c. lookup (nat_eq n) c.entries) (slice_get cells i)
 
+-- the value under a name of the first cell with it, from a cell on upwards, by its number
 abbrev pub raw_along : List Raw → ℕ → ℕ → Option Value
 raw_along cells i n = option_and_then (raw_own cells n) (raw_holder cells i n)
 
-abbrev pub raw_writer : List Raw → ℕ → Option ℕ
-raw_writer cells i = option_and_then (λ c. writer_in c.head.owner c.head.form) (slice_get cells i)
-
+-- whether the cell at a place has a name that may have a number
 abbrev pub raw_has_at : List Raw → ℕ → Option ℕ → Bool
 raw_has_at cells i None = false
 raw_has_at cells i (Some n) = option_map_or (raw_has n) (slice_get cells i) false
 
+-- whether a fixed part is that of one of a widget's visible cells
 abbrev pub own_head : ℕ → Head → Bool
 own_head w h = is_own w h.owner h.form
 
--- the same writes by number
+-- a cell after a write under a name by its number; its elements stand below `e` or its old bound
 abbrev pub raw_written : ℕ → Value → ℕ → Raw → Raw
-raw_written n v e c = record { head = c.head; top = max c.top e; entries = insert_entry nat_eq c.entries n v }
+raw_written n v e c = record c { top = max c.top e; entries = insert_entry nat_eq c.entries n v }
 
+-- a cell after writes under two names by their numbers
 abbrev pub raw_two : ℕ → Value → ℕ → Value → ℕ → Raw → Raw
-raw_two n v m u e c = record { head = c.head; top = max c.top e; entries = insert_entry nat_eq (insert_entry nat_eq c.entries n v) m u }
+raw_two n v m u e c = record c { top = max c.top e; entries = insert_entry nat_eq (insert_entry nat_eq c.entries n v) m u }
 
+-- a cell after a write under a name that it has, by its number
 abbrev pub raw_held : ℕ → Value → Raw → Raw
 raw_held n v c = record c { entries = insert_entry nat_eq c.entries n v }
 
--- the top falls where the name right before it goes
+-- a cell after a name was taken out by its number: its bound falls where that was the element right before it
 abbrev pub raw_without : ℕ → ℕ → Raw → Raw
-raw_without n e c = record { head = c.head; top = if nat_eq e c.top then c.top - 1 else c.top; entries = remove_entry (nat_eq n) c.entries }
+raw_without n e c = record c { top = if nat_eq e c.top then c.top - 1 else c.top; entries = remove_entry (nat_eq n) c.entries }
 
+-- a cell after its elements from an index on were taken out
 abbrev pub raw_cut : List (List ℕ) → ℕ → Raw → Raw
-raw_cut names n c = record { head = c.head; top = if nat_lt n c.top then n else c.top; entries = filter (λ e. is_below n (name_at names e.0)) c.entries }
+raw_cut names n c = record c { top = if nat_lt n c.top then n else c.top; entries = filter (λ e. is_below n (name_at names e.0)) c.entries }
 
 -- a later table has the older one's names under their numbers
 pub record Grown (old new : List (List ℕ)) : Type 0 where
   pub longer : length old ≤ length new
   pub kept : (k : ℕ) → k < length old → slice_index_or new k [] ≡ slice_index_or old k []
 
--- an Array's length
+-- the length of an Array, which stands under the number 0
 abbrev pub raw_length : List (ℕ × Value) → ℕ
 raw_length es = option_map_or (λ n. n) (option_and_then length_in (lookup (nat_eq 0) es)) 0
 
--- how a write goes: none where it is a bad length
+-- how a write under a name of an Array goes, by its length and the index that the name is
 abbrev pub element_plan : ℕ → Option ℕ → Write
 element_plan len None = write.Own 0
 element_plan len (Some i) = if nat_lt i len then write.Own (i + 1) else write.Longer (i + 1)
 
+-- how a write under a name goes, none where it is a bad length
 abbrev pub plan_of : List ℕ → Value → Raw → Option Write
 plan_of name v c =
     if is_array c.head.form then (if bytes_eq name length_name then option_map (λ n. write.Length n) (length_in v) else Some (element_plan (raw_length c.entries) (index_of name))) else Some (write.Own 0)
 
--- what the plan does
+-- a cell after a write that goes as planned
 abbrev pub by_plan : Write → List ℕ → Value → PlainCell → PlainCell
 by_plan (write.Own e) name v c = written name v c
 by_plan (write.Length n) name v c = cut n (written length_name v c)
 by_plan (write.Longer n) name v c = written length_name (count_value n) (written name v c)
 
--- what a look-up says of a name
+-- the number of a name in the table, none exactly where it is not there
 abbrev pub IsNumberOf : List (List ℕ) → List ℕ → Option ℕ → Type 0
 IsNumberOf names name number = MatchOption number (list_any (bytes_eq name) names ≡ false) (λ n. (slice_get names n ≡ Some name) × (n < length names))
 
--- the name at a place, where it is listed
+-- a name of a cell, where it is listed
 abbrev pub listed : Raw → List ℕ → Option (List ℕ)
 listed c name = if is_permitted name && not (is_array c.head.form && bytes_eq name length_name) then Some name else None
 
+-- the name at a place of a cell's pairs, where it is listed
 abbrev pub raw_key : List (List ℕ) → Raw → ℕ → Option (List ℕ)
 raw_key names c at = option_and_then (λ e. option_and_then (listed c) (slice_get names e.0)) (slice_get c.entries at)
 
--- the fixed part of the cell of a page node
+-- the fixed part of the RawNode of a page node
 abbrev pub node_head : ℕ → Head
 node_head n = record { owner = whose.Host; form = form.RawNode n; up = None; links = 0; number = 0 }
 

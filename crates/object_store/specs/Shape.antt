@@ -1,7 +1,7 @@
 -- What every store keeps.
-use Rattle.std.specs.Prelude.{◌≡◌, ℕ, suc, ◌<◌, ◌≤◌, Bool, true, false, List, [], ◌∷◌, ◌++◌, Option, None, Some, is_some, nat_eq, if◌then◌else◌, length, slice_get, IfSome}
+use Rattle.std.specs.Prelude.{◌≡◌, ℕ, suc, ◌<◌, ◌≤◌, Bool, true, false, List, [], ◌∷◌, ◌++◌, Option, Some, is_some, nat_eq, if◌then◌else◌, length, position, slice_get, IfSome}
 use Rattle.std.specs.Option.{option_map_or, option_and_then}
-use Rattle.std.specs.List.{IsDistinct}
+use Rattle.std.specs.List.{AllByRecursion, IsDistinct, count_by}
 use Rattle.std.specs.Map.{keys_of, lookup}
 use Rattle.code_units.specs.declared.owner.Owner.TheVariants as whose
 use Rattle.code_units.specs.Interned.{IsTable}
@@ -12,8 +12,8 @@ use Rattle.object_store.specs.declared.kind.Form.TheVariants as form
 use Rattle.object_store.specs.declared.cell.Head.{Head}
 use Rattle.object_store.specs.declared.store.Counts.{Counts}
 use Rattle.object_store.specs.declared.store.TheConstants.{CELL_LIMIT, SLOT_LIMIT, UNIT_LIMIT}
-use Rattle.object_store.specs.Lists.{changed, count_before, count_all}
-use Rattle.object_store.specs.Cells.{PlainCell, kept_cells, is_bunch, is_visible_form, is_scope_at, is_scope, is_array, widget_of, node_in, function_in}
+use Rattle.object_store.specs.Lists.{changed, count_before}
+use Rattle.object_store.specs.Cells.{PlainCell, kept_cells, is_bunch, is_visible_form, is_scope_at, is_scope, is_array, is_raw, widget_of, node_in, function_in}
 use Rattle.object_store.specs.Indices.{index_of}
 use Rattle.object_store.specs.Arrays.{is_below, length_in, length_name, nodes_name, count_value}
 use Rattle.object_store.specs.Host.{AreHost, array_prototype}
@@ -25,50 +25,49 @@ abbrev pub IsRefWithin : ℕ → Value → Type 0
 IsRefWithin size (value.Ref i) = i < size
 IsRefWithin size _ = Unit {0}
 
--- each name is in the table, and each reference exists
+-- each name of the pairs is one of so many, and each reference is to one of so many cells
 abbrev pub AreEntries : ℕ → ℕ → List (ℕ × Value) → Type 0
-AreEntries n size [] = Unit {0}
-AreEntries n size (e ∷ es) = (e.0 < n) × IsRefWithin size e.1 × AreEntries n size es
+AreEntries n size es = AllByRecursion (λ e. (e.0 < n) × IsRefWithin size e.1) es
 
--- each name is in the table
+-- each name of the pairs is one of so many
 abbrev pub Known : ℕ → List (ℕ × Value) → Type 0
-Known n [] = Unit {0}
-Known n (e ∷ es) = (e.0 < n) × Known n es
+Known n es = AllByRecursion (λ e. e.0 < n) es
 
+-- each name of each cell is one of so many
 abbrev pub AreKnown : ℕ → List Raw → Type 0
-AreKnown n [] = Unit {0}
-AreKnown n (c ∷ cs) = Known n c.entries × AreKnown n cs
+AreKnown n cs = AllByRecursion (λ c. Known n c.entries) cs
 
--- no name is an index from top on
+-- no name of the pairs is an index from a bound on
 abbrev pub AreBelow : List (List ℕ) → ℕ → List (ℕ × Value) → Type 0
-AreBelow names top [] = Unit {0}
-AreBelow names top (e ∷ es) = (is_below top (name_at names e.0) ≡ true) × AreBelow names top es
+AreBelow names top es = AllByRecursion (λ e. is_below top (name_at names e.0) ≡ true) es
 
--- an Array has a length, and its elements stand below its top
+-- An Array has a length, and its elements stand below its bound.
 pub record IsArrayTable (names : List (List ℕ)) (top : ℕ) (entries : List (ℕ × Value)) : Type 0 where
   pub length : is_some (option_and_then length_in (lookup (nat_eq 0) entries)) ≡ true
   pub below : AreBelow names top entries
 
+-- A cell's names are in the table, its references exist, and an Array is one.
 pub record IsFine (names : List (List ℕ)) (size : ℕ) (c : Raw) : Type 0 where
   pub entries : AreEntries (length names) size c.entries
   pub array : is_array c.head.form ≡ true → IsArrayTable names c.top c.entries
 
+-- each cell's names are in the table, its references exist, and each Array is one
 abbrev pub AreFine : List (List ℕ) → ℕ → List Raw → Type 0
-AreFine names size [] = Unit {0}
-AreFine names size (c ∷ cs) = IsFine names size c × AreFine names size cs
+AreFine names size cs = AllByRecursion (IsFine names size) cs
 
--- what stands at a place
+-- whether the cell at a place is a Scope
 abbrev pub scope_at : List Head → ℕ → Bool
 scope_at hs i = option_map_or (λ h. is_scope h.form) (slice_get hs i) false
 
+-- the number of prototypes of the cell at a place
 abbrev pub links_at : List Head → ℕ → ℕ
 links_at hs i = option_map_or (λ h. h.links) (slice_get hs i) 0
 
+-- the scope in which a function was made
 abbrev pub scope_in : Form → Option ℕ
 scope_in f = option_and_then (λ p. p.scope) (function_in f)
 
--- Prototypes are older and no scopes, and outer scopes are older scopes; so no chain has a cycle.
--- A chain has at most 100 prototypes, and a cell's number is its place among its owner's.
+-- Prototypes are older and no scopes, and outer scopes are older scopes, so no chain has a cycle; a chain has at most 100 prototypes, and a cell's number is its place among its owner's.
 pub record IsOrdered (hs : List Head) (i : ℕ) (h : Head) : Type 0 where
   pub up : IfSome h.up (λ j. (j < i) × (scope_at hs j ≡ is_scope h.form))
   pub scope : IfSome (scope_in h.form) (λ j. (j < i) × (scope_at hs j ≡ true))
@@ -78,51 +77,48 @@ pub record IsOrdered (hs : List Head) (i : ℕ) (h : Head) : Type 0 where
   pub owned : is_scope h.form ≡ true → is_some (widget_of h.owner) ≡ true
   pub number : (w : ℕ) → own_head w h ≡ true → h.number ≡ count_before (own_head w) hs i
 
+-- Each cell's prototype or outer scope is older than it and of its sort, and its number is its place.
 pub record AreOrdered (hs : List Head) : Type 0 where
   pub each : (i : ℕ) (h : Head) → slice_get hs i ≡ Some h → IsOrdered hs i h
 
--- the place of a node's cell
-abbrev pub is_raw : ℕ → Form → Bool
-is_raw n f = option_map_or (λ m. nat_eq n m) (node_in f) false
+-- the place of the RawNode of a page node
+abbrev pub node_head_at : ℕ → List Head → Option ℕ
+node_head_at n hs = position (λ h. is_raw n h.form) hs
 
-abbrev pub raw_from : ℕ → ℕ → List Head → Option ℕ
-raw_from n k [] = None
-raw_from n k (h ∷ hs) = if is_raw n h.form then Some k else raw_from n (suc k) hs
-
--- each node has at most one cell, which the index finds
+-- Each node has at most one RawNode, which the index finds.
 pub record AreRaws (hs : List Head) (raws : List (ℕ × ℕ)) : Type 0 where
-  pub found : (n : ℕ) → lookup (nat_eq n) raws ≡ raw_from n 0 hs
-  pub one : (i n : ℕ) (h : Head) → slice_get hs i ≡ Some h → node_in h.form ≡ Some n → raw_from n 0 hs ≡ Some i
+  pub found : (n : ℕ) → lookup (nat_eq n) raws ≡ node_head_at n hs
+  pub one : (i n : ℕ) (h : Head) → slice_get hs i ≡ Some h → node_in h.form ≡ Some n → node_head_at n hs ≡ Some i
 
--- two names have fixed numbers
+-- Two names have fixed numbers.
 pub record AreWords (names : List (List ℕ)) : Type 0 where
   pub length : slice_get names 0 ≡ Some length_name
   pub nodes : slice_get names 1 ≡ Some nodes_name
 
--- what names and cells keep
+-- What names and cells keep.
 pub record IsBase (names : List (List ℕ)) (cs : List Raw) : Type 0 where
   pub table : IsTable names
   pub words : AreWords names
   pub fine : AreFine names (length cs) cs
   pub ordered : AreOrdered (heads cs)
 
--- each count is within its limit
+-- each count of each widget is within its limit
 abbrev pub AreWithin : List Counts → Type 0
-AreWithin [] = Unit {0}
-AreWithin (k ∷ ks) = (k.cells ≤ CELL_LIMIT) × (k.slots ≤ SLOT_LIMIT) × (k.units ≤ UNIT_LIMIT) × AreWithin ks
+AreWithin kept = AllByRecursion (λ k. (k.cells ≤ CELL_LIMIT) × (k.slots ≤ SLOT_LIMIT) × (k.units ≤ UNIT_LIMIT)) kept
 
--- the closed cells: those of the host that every store has, and Bunches with their hidden Arrays
+-- The closed cells: those of the host that every store has, and Bunches with their hidden Arrays.
 pub record AreClosed (cells : List PlainCell) : Type 0 where
   pub host : AreHost cells
   pub bunches : AreBunches cells
 
+-- What every store keeps: the host's cells and Bunches stay closed, each page node has at most one RawNode, and each widget's count of cells is exact and within the limit, as its other counts are.
 pub record IsShape (names : List (List ℕ)) (cs : List Raw) (raws : List (ℕ × ℕ)) (kept : List Counts) : Type 0 where
   pub base : IsBase names cs
   pub closed : AreClosed (cells_of names cs)
   pub nodes : AreRaws (heads cs) raws
   pub counted : length kept ≡ 32
   pub within : AreWithin kept
-  pub exact : (w : ℕ) → w < 32 → kept_cells kept w ≡ count_all (own_head w) (heads cs)
+  pub exact : (w : ℕ) → w < 32 → kept_cells kept w ≡ count_by (own_head w) (heads cs)
 
 -- A cell was written: the others, the names of all and what they keep are as before.
 pub record Wrote (old : List (List ℕ)) (cs : List Raw) (new : List (List ℕ)) (after : List Raw) (i : ℕ) (f : PlainCell → PlainCell) : Type 0 where
@@ -151,12 +147,13 @@ pub record Added (old : List (List ℕ)) (cs : List Raw) (new : List (List ℕ))
   pub items : after ≡ cs ++ c ∷ []
   pub base : IsBase new after
 
+-- A cell was added by name, with its fixed part.
 pub record Grew (old : List (List ℕ)) (cs : List Raw) (new : List (List ℕ)) (after : List Raw) (p : PlainCell) (h : Head) : Type 0 where
   pub done : cells_of new after ≡ cells_of old cs ++ p ∷ []
   pub base : IsBase new after
   pub heads : heads after ≡ heads cs ++ h ∷ []
 
--- the fixed parts of new cells
+-- the fixed part of a widget's new cell on a prototype
 abbrev pub head_on : List Head → ℕ → Form → ℕ → ℕ → Head
 head_on hs w f up number = record { owner = whose.Widget w; form = f; up = Some up; links = suc (links_at hs up); number = number }
 
@@ -164,21 +161,21 @@ head_on hs w f up number = record { owner = whose.Widget w; form = f; up = Some 
 abbrev pub hidden_head : List Head → Head
 hidden_head hs = record { owner = whose.Host; form = form.Array; up = Some array_prototype; links = suc (links_at hs array_prototype); number = 0 }
 
+-- the fixed part of a widget's new scope
 abbrev pub scope_head : ℕ → Option ℕ → Head
 scope_head w outer = record { owner = whose.Widget w; form = form.Scope; up = outer; links = 0; number = 0 }
 
--- the form of a new visible cell that is no Bunch: the scope of a function exists
+-- The form of a new visible cell that is no Bunch: the scope of a function exists.
 pub record IsNewForm (cells : List PlainCell) (f : Form) : Type 0 where
   pub visible : is_visible_form f ≡ true
   pub no_bunch : is_bunch f ≡ false
   pub scope : IfSome (scope_in f) (λ j. (j < length cells) × (is_scope_at cells j ≡ true))
 
--- each reference in the pairs is to one of so many cells
+-- each reference of the pairs is to one of so many cells
 abbrev pub AreRefs : ℕ → List (List ℕ × Value) → Type 0
-AreRefs size [] = Unit {0}
-AreRefs size (p ∷ ps) = IsRefWithin size p.1 × AreRefs size ps
+AreRefs size ps = AllByRecursion (λ p. IsRefWithin size p.1) ps
 
--- a hidden Array of these references, of so many
+-- A hidden Array of these references, of so many.
 pub record IsHidden (names : List (List ℕ)) (h : Head) (count : ℕ) (refs : List ℕ) (c : Raw) : Type 0 where
   pub head : c.head ≡ h
   pub top : 4294967295 ≤ c.top
@@ -191,8 +188,7 @@ pub record GrewBunch (old : List (List ℕ)) (cs : List Raw) (new : List (List �
   pub base : IsBase new after
   pub heads : heads after ≡ heads cs ++ h ∷ k ∷ []
 
--- What a cell of the store keeps: its references exist, its prototype or outer scope is older and
--- of its sort, and so is the scope of a function; a scope is a widget's.
+-- What a cell of the store keeps: its references exist, its prototype or outer scope is older and of its sort, the scope of a function is an older Scope, and a Scope is a widget's.
 pub record IsLinked (cells : List PlainCell) (i : ℕ) (c : PlainCell) : Type 0 where
   pub refs : AreRefs (length cells) c.pairs
   pub up : IfSome c.up (λ j. (j < i) × (is_scope_at cells j ≡ is_scope c.form))

@@ -100,10 +100,8 @@ fn index_at(names: &Names, k: u32) -> Option<u32>
     ensures index { result ≡ index_of (name_at names.now k) }
     ensures small { IfSome result (λ i. i < 4294967295) }
 {
-    match names.text(k) {
-        None => None,
-        Some(text) => index_of(text),
-    }
+    let name = names.text(k)?;
+    index_of(name)
 }
 
 // Whether a name by its number is no index from `n` on.

@@ -1,5 +1,6 @@
 //! Names that are indices of arrays.
-ghost use Rattle.std.specs.Prelude.{◌≡◌, ◌<◌, IfSome};
+ghost use Rattle.std.specs.Prelude.{◌≡◌, ℕ, Some, ◌<◌, IfSome};
+ghost use Rattle.std.specs.Fmt.{decimal};
 ghost use Rattle.object_store.specs.Indices.{digit_more, digits_more, index_of};
 
 use code_units::Text;
@@ -26,10 +27,7 @@ fn digits(units: &[u16]) -> Option<u32>
 {
     let mut value = 0;
     for unit in units {
-        match digit_more(value, *unit) {
-            None => return None,
-            Some(more) => value = more,
-        }
+        value = digit_more(value, *unit)?;
     }
     Some(value)
 }
@@ -45,10 +43,12 @@ fn index_in(units: &[u16]) -> Option<u32>
     }
 }
 
-/// The index that a name is (ECMA-262 3rd edition, 15.4): decimal digits without a leading zero,
-/// from 0 to 4294967294.
+/// The index that a name is (ECMA-262 3rd edition, 15.4), none exactly where it is the decimal text
+/// of no number from 0 to 4294967294.
 pub fn index_of(name: &Text) -> Option<u32>
     ensures index { result ≡ index_of name.now }
+    ensures decimal { IfSome result (λ i. decimal i ≡ name.now) }
+    ensures only { (i : ℕ) → i < 4294967295 → decimal i ≡ name.now → result ≡ Some i }
     ensures small { IfSome result (λ i. i < 4294967295) }
 {
     index_in(name.units())

@@ -7,8 +7,8 @@ ghost use Rattle.object_store.specs.Bunches.{IsBunch};
 ghost use Rattle.object_store.specs.Cells.{PlainCell, chain, first_own, value_along, is_scope_at, kind_of, function_in, native_in, node_in, proto_in, prototypes, holder, is_bunch, raw_cell};
 ghost use Rattle.object_store.specs.declared.store.StoreFault.TheVariants.{Memory as out_of_memory};
 ghost use Rattle.object_store.specs.Shape.{IsRefWithin, IsNewForm, IsLinked};
-ghost use Rattle.object_store.specs.Host.{first_store, nothing_paid, host_cells, is_permitted_cell, leads_on, place_of};
-ghost use Rattle.object_store.specs.Calls.{Refuses, put_refusal, put_done, remove_refusal, removed, remove_done, var_done, own_number_of, IsWidget, number_in, keys_at, units_refusal, slots_refusal, unit_cost, raw_place, cost_refusal, made, new_cell, scope_cell, HaveCells, IsMakeable, bunch_cells, make_refusal, make_done};
+ghost use Rattle.object_store.specs.Host.{first_store, global, nothing_paid, host_cells, is_permitted_cell, leads_on, place_of};
+ghost use Rattle.object_store.specs.Calls.{Refuses, put_refusal, put_done, remove_refusal, removed, remove_done, var_done, own_number_of, IsOwner, IsWidget, cells_by, number_in, paid_by, slots_at, keys_at, units_refusal, slots_refusal, unit_cost, raw_place, cost_refusal, made, new_cell, scope_cell, HaveCells, IsMakeable, bunch_cells, make_refusal, make_done};
 
 use crate::cell::Cell;
 use crate::kind::{CellKind, Form, FunParts};
@@ -56,18 +56,25 @@ pub enum NewCell {
     Bunch(Vec<u32>),
 }
 
-/// Why a call was refused.
+/// Why a call was refused; `kept` is what the widget has paid so far.
 #[derive(Clone, Copy, PartialEq, Eq, Debug, Drop)]
 pub enum StoreFault {
+    /// The cost passes the limit of visible cells.
     Cells { kept: u32 },
+    /// The cost passes the limit of slots.
     Slots { kept: u32 },
+    /// The cost passes the limit of text units.
     Units { kept: u32 },
+    /// No widget may write to the cell: it is a Bunch or the host's.
     Closed,
+    /// The `length` of an Array was given something else than a whole number from 0 to 4294967295.
     BadLength,
+    /// There was no memory.
     Memory,
 }
 
-const NOTHING_PAID: Counts = Counts {
+/// What a widget has paid at first.
+pub(crate) const NOTHING_PAID: Counts = Counts {
     cells: 0,
     slots: 0,
     units: 0,
@@ -126,9 +133,12 @@ impl Store {
 
     /// The Global cell.
     pub fn global(&self) -> CellId
+        ensures place { result ≡ global }
         ensures cell { IfSome (slice_get self.now.cells result) (λ c. kind_of c.form ≡ CellKind.Global) }
+        ensures same { slice_get self.now.cells result ≡ slice_get host_cells result }
         ensures within { result < length self.now.cells }
     {
+        // To read a field opens what the type keeps, here and in the laws below.
         let _cells = &self.cells;
         host::GLOBAL
     }
@@ -168,6 +178,13 @@ impl Store {
     /// page nodes.
     pub fn bunches_have_nodes(&self)
         ensures { (i : ℕ) (c : PlainCell) → slice_get self.now.cells i ≡ Some c → is_bunch c.form ≡ true → IsBunch self.now.cells c }
+    {
+        let _cells = &self.cells;
+    }
+
+    /// A law: each page node has at most one cell.
+    pub fn nodes_have_one_cell(&self)
+        ensures { (i n : ℕ) (c : PlainCell) → slice_get self.now.cells i ≡ Some c → node_in c.form ≡ Some n → raw_place n self.now.cells ≡ Some i }
     {
         let _cells = &self.cells;
     }
@@ -245,12 +262,19 @@ impl Store {
         table::cell(&self.cells, cell).number()
     }
 
-    /// What a widget has paid.
+    /// What an owner has paid: a widget one cell for each of its visible cells, and the host nothing.
     pub fn counts(&self, owner: Owner) -> Counts
-        requires { IsWidget owner }
-        ensures { slice_get self.now.kept (number_in owner) ≡ Some result }
+        requires { IsOwner owner }
+        ensures paid { paid_by self.now.kept owner ≡ Some result }
+        ensures exact { result.cells ≡ length (cells_by self.now.cells owner) }
+        ensures cells { result.cells ≤ CELL_LIMIT }
+        ensures slots { result.slots ≤ SLOT_LIMIT }
+        ensures units { result.units ≤ UNIT_LIMIT }
     {
-        self.kept[table::widget(owner) as usize]
+        match owner {
+            Owner::Host => NOTHING_PAID,
+            Owner::Widget(w) => self.kept[w as usize],
+        }
     }
 
     /// The permitted own names of a cell in order of insertion, the `length` of an Array left out.
@@ -309,7 +333,7 @@ impl Store {
         ensures same { OnErr result (self.new ≡ self.old) }
 
         // Its widget sees the write, and another has what it had.
-        ensures own { OnOk result ((w : ℕ) → visible_at w self.old.cells cell ≡ true → Changed w self.old self.new cell (own_put name.now (own_value w self.old.cells value))) }
+        ensures own { OnOk result ((w : ℕ) → visible_at w self.old.cells cell ≡ true → Changed w self.old self.new cell (slots_at self.old.cells cell name.now) (own_put name.now (own_value w self.old.cells value))) }
         ensures others { (w : ℕ) → is_of_at w self.old.cells cell ≡ false → owned w self.new ≡ owned w self.old }
     {
         // These laws say that what other cells lead to stays.
@@ -545,7 +569,7 @@ impl Store {
         ensures same { OnErr result (self.new ≡ self.old) }
 
         // Its widget sees that, and another has what it had.
-        ensures own { OnOk result ((w : ℕ) → visible_at w self.old.cells cell ≡ true → Changed w self.old self.new cell (own_removed name.now)) }
+        ensures own { OnOk result ((w : ℕ) → visible_at w self.old.cells cell ≡ true → Changed w self.old self.new cell 0 (own_removed name.now)) }
         ensures others { (w : ℕ) → is_of_at w self.old.cells cell ≡ false → owned w self.new ≡ owned w self.old }
     {
         // These laws say that what other cells lead to stays.
@@ -616,9 +640,7 @@ impl Store {
         requires { cell < length self.now.cells }
         ensures { option_copied result ≡ value_along self.now.cells cell name.now }
     {
-        match self.names.number(name) {
-            None => None,
-            Some(n) => table::found(&self.cells, cell, n),
-        }
+        let n = self.names.number(name)?;
+        table::found(&self.cells, cell, n)
     }
 }

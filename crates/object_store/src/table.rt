@@ -15,7 +15,7 @@ ghost use Rattle.object_store.specs.Calls.{cost_refusal, units_refusal, slots_re
 
 use crate::cell::{Cell, Head, LENGTH, Write, count_value};
 use crate::kind::Form;
-use crate::store::{CELL_LIMIT, Counts, SLOT_LIMIT, StoreFault, UNIT_LIMIT};
+use crate::store::{CELL_LIMIT, Counts, NOTHING_PAID, SLOT_LIMIT, StoreFault, UNIT_LIMIT};
 use crate::value::{CellId, Value};
 use code_units::{Memory, Names, Owner, Text};
 use indexmap::IndexMap;
@@ -28,12 +28,8 @@ fn holder_on(cells: &[Cell], from: CellId, n: u32) -> Option<CellId>
 {
     let mut at = Some(from);
     for _k in 0..cells.len() {
-        let Some(i) = at else {
-            return None;
-        };
-        let Some(cell) = cell_on(cells, i) else {
-            return None;
-        };
+        let i = at?;
+        let cell = cell_on(cells, i)?;
         if cell.has(n) {
             return Some(i);
         }
@@ -61,19 +57,14 @@ pub(crate) fn holder(cells: &Vec<Cell>, from: CellId, n: u32) -> Option<CellId>
 pub(crate) fn found(cells: &Vec<Cell>, from: CellId, n: u32) -> Option<&Value>
     ensures { option_copied result ≡ raw_along cells.now.items from n }
 {
-    match holder(cells, from, n) {
-        None => None,
-        Some(i) => own_at(cells, i, n),
-    }
+    let i = holder(cells, from, n)?;
+    own_at(cells, i, n)
 }
 
 fn own_at(cells: &Vec<Cell>, i: CellId, n: u32) -> Option<&Value>
     ensures { option_copied result ≡ raw_own cells.now.items n i }
 {
-    match cell_on(cells, i) {
-        None => None,
-        Some(c) => c.own(n),
-    }
+    cell_on(cells, i)?.own(n)
 }
 
 /// The cell at a place.
@@ -223,11 +214,7 @@ pub(crate) fn counts_of(kept: &Vec<Counts>, w: u32) -> Counts
     ensures units { result.units ≡ kept_units kept.now.items w }
 {
     match kept.get(w as usize) {
-        None => Counts {
-            cells: 0,
-            slots: 0,
-            units: 0,
-        },
+        None => NOTHING_PAID,
         Some(counts) => *counts,
     }
 }

@@ -8,10 +8,10 @@ use Rattle.plain_tree.specs.declared.plain.Plain.{Plain}
 use Rattle.plain_tree.specs.Trees.{Label, TextOf, ElementOf, Trees, End, Node, PlainTrees, beside, size, height}
 use Rattle.plain_tree.specs.Plains.{unplaced, unplaced_all}
 use Rattle.plain_tree.proofs.Lists.{beside_assoc, beside_end}
-use Rattle.page_tree.specs.Trees.{has, put_before, grafted, relabelled, is_text}
+use Rattle.tree_ops.specs.Labels.{is_text}
+use Rattle.tree_ops.specs.Trees.{has, put_before, grafted, relabelled, numbered}
 use Rattle.page_tree.specs.Owners.{same_owner}
 use Rattle.page_tree.specs.Entries.{Entry, at, body, listed, distinct, limit, tree, IsSound, no_entry}
-use Rattle.page_tree.specs.Copies.{numbered}
 use Rattle.page_tree.specs.Adds.{Older, IsAdded}
 use Rattle.page_tree.specs.Moves.{MayLink, IsLinked}
 use Rattle.page_tree.proofs.Lists.{cases, at_push}
@@ -19,8 +19,8 @@ use Rattle.page_tree.proofs.Owners.{same_or}
 use Rattle.page_tree.proofs.Shows.{Shows, none, one_more, shows_one, shows_tree}
 use Rattle.page_tree.proofs.Upward.{none_some, parent_in, level_top}
 use Rattle.page_tree.proofs.Walk.{top_not_in, not_has, without_body}
-use Rattle.page_tree.proofs.Put.{grafted_off}
-use Rattle.page_tree.proofs.Label.{IsLabelled, labelled_renewed, relabelled_off}
+use Rattle.tree_ops.proofs.Absent.{grafted_off, relabelled_off}
+use Rattle.page_tree.proofs.Label.{IsLabelled, labelled_renewed}
 use Rattle.page_tree.proofs.Plains.{unplaced_first, size_both}
 
 -- nothing is known yet of the next number
@@ -52,14 +52,15 @@ new_labelled k o l =
 new_same : (k : List Entry) (o : Owner) (l : Label) (x : ℕ) → (x ≡ length k → ⊥) → at (with_node k o l) x ≡ at k x
 new_same k o l x ne = at_push k _ x ∙ ap (λ b. cond b (record { owner = o; parent = None; children = []; label = l }) (at k x)) (ne_eqb x (length k) ne)
 
-new_sound : (k : List Entry) (o : Owner) (l : Label) → IsSound k → IsSound (with_node k o l)
-new_sound k o l s =
+new_sound : (k : List Entry) (o : Owner) (l : Label) → IsSound k → length k < 2147483648 → IsSound (with_node k o l)
+new_sound k o l s room =
     let m = with_node k o l in
     let n = length k in
     let c = new_labelled k o l in
     let first : at m body ≡ at k body = new_same k o l body (λ e. omega (arith, e, s.some)) in
     record {
       some = omega (arith, length-append k ((record { owner = o; parent = None; children = []; label = l }) ∷ []), s.some);
+      few = omega (arith, length-append k ((record { owner = o; parent = None; children = []; label = l }) ∷ []), room);
       top = c.parents body ∙ s.top;
       host = ap (λ (y : Entry). same_owner y.owner owner.Host) first ∙ s.host;
       element = ap (λ (y : Entry). is_text y.label) first ∙ s.element;
@@ -101,8 +102,8 @@ new_added k o l s =
     }
 
 -- the whole call of `new_node`
-pub node_written : (k m : List Entry) (o : Owner) (l : Label) (id : ℕ) → IsSound k → id ≡ length k → m ≡ with_node k o l → IsSound m × IsAdded k m id o (Node tt l End End)
-node_written k m o l id s eid em = subst (λ y. IsSound y × IsAdded k y id o (Node tt l End End)) (sym em) (new_sound k o l s, subst (λ i. IsAdded k (with_node k o l) i o (Node tt l End End)) (sym eid) (new_added k o l s))
+pub node_written : (k m : List Entry) (o : Owner) (l : Label) (id : ℕ) → IsSound k → id ≡ length k → id < 2147483648 → m ≡ with_node k o l → IsSound m × IsAdded k m id o (Node tt l End End)
+node_written k m o l id s eid room em = subst (λ y. IsSound y × IsAdded k y id o (Node tt l End End)) (sym em) (new_sound k o l s (omega (arith, eid, room)), subst (λ i. IsAdded k (with_node k o l) i o (Node tt l End End)) (sym eid) (new_added k o l s))
 
 pub older_same : (k m : List Entry) → m ≡ k → Older k m
 older_same k m e = subst (Older k) (sym e) (record { long = omega arith; same = λ x _. refl; trees = λ x _. refl })

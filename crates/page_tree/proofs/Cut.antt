@@ -1,8 +1,10 @@
 -- A node is taken from its parent.
-use Rattle.std.proofs.Common.{◌≡◌, ℕ, zero, suc, ◌+◌, ◌≤◌, max, List, [], ◌∷◌, Bool, true, false, refl, sym, ap, ◌∙◌, subst, eqb, arith, cond, ne_eqb, Some, None, Option, length, ◌||◌}
+use Rattle.std.proofs.Common.{◌≡◌, ℕ, zero, suc, ◌+◌, ◌≤◌, max, List, [], ◌∷◌, Bool, true, false, refl, sym, ap, ◌∙◌, subst, eqb, arith, cond, ne_eqb, Some, None, Option, length, ◌||◌, not}
 use Rattle.std.proofs.lemmas.Bool.{eqb-false}
 use Rattle.plain_tree.specs.Trees.{Trees, End, Node, height}
-use Rattle.page_tree.specs.Trees.{deeper, level, without, pruned, is_text}
+use Rattle.tree_ops.specs.Labels.{is_text}
+use Rattle.tree_ops.specs.Trees.{without}
+use Rattle.page_tree.specs.Trees.{deeper, level, pruned}
 use Rattle.code_units.specs.declared.owner.Owner.TheVariants as owner
 use Rattle.page_tree.specs.Owners.{same_owner}
 use Rattle.page_tree.specs.Entries.{Entry, at, body, listed, distinct, minus, tree, IsSound}
@@ -19,7 +21,7 @@ pub record IsCut (k m : List Entry) (n : ℕ) : Type 0 where
 shows_without : (k m : List Entry) (n : ℕ) → IsCut k m n → (ns : List ℕ) (ts : Trees ℕ) → Shows k ns ts → Shows m (minus n ns) (without n ts)
 shows_without k m n c [] _ none = none
 shows_without k m n c (x ∷ ns) _ (one_more {ks = ks} {ts = ts} hk hs) =
-    cases (λ b. Shows m (cond b (minus n ns) (x ∷ minus n ns)) (cond b (without n ts) (Node x (at k x).label (without n ks) (without n ts)))) (eqb x n)
+    cases (λ b. Shows m (cond (not b) (x ∷ minus n ns) (minus n ns)) (cond b (without n ts) (Node x (at k x).label (without n ks) (without n ts)))) (eqb x n)
     (λ _. shows_without k m n c ns ts hs)
     (λ _. shows_node m x (at k x).label (minus n (at k x).children) (minus n ns) _ _ (c.labels x) (c.children x) (shows_without k m n c (at k x).children ks hk) (shows_without k m n c ns ts hs))
 
@@ -73,6 +75,7 @@ minus_short n (x ∷ xs) h = absurd (omega (arith, h))
 pub cut_sound : (k m : List Entry) (n : ℕ) → IsSound k → IsCut k m n → IsSound m
 cut_sound k m n s c = record {
   some = omega (arith, s.some, c.length);
+  few = omega (arith, s.few, c.length);
   top = c.parents body ∙ cond_none (eqb body n) (at k body).parent s.top;
   host = ap (λ o. same_owner o owner.Host) (c.owners body) ∙ s.host;
   element = ap is_text (c.labels body) ∙ s.element;

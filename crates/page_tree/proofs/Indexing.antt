@@ -9,20 +9,19 @@ use Rattle.code_units.specs.declared.owner.Owner.{Owner}
 use Rattle.code_units.specs.declared.owner.Owner.TheVariants as owner
 use Rattle.plain_tree.specs.Trees.{Label, TextOf, ElementOf, PlainTrees}
 use Rattle.page_tree.specs.declared.ids.Ids.{Ids}
-use Rattle.page_tree.specs.Contents.{attribute_of, with_attribute}
+use Rattle.tree_ops.specs.Labels.{attribute_of, with_attribute, is_text}
 use Rattle.page_tree.specs.Adds.{IsAdded, Older}
 use Rattle.page_tree.specs.Entries.{Entry, at, no_entry, body_entry, listed, AreOwners}
 use Rattle.page_tree.specs.Ids.{has_id, with_id, is_under, rises}
 use Rattle.page_tree.specs.Index.{indexed, room_for, HasRoom, AreRising, SameNumbers, Puts, Takes, IsIndex}
 use Rattle.page_tree.specs.Moves.{KeepsNodes, IsRelabelled}
 use Rattle.page_tree.specs.Owners.{is_owner, same_owner, slot}
-use Rattle.page_tree.specs.Trees.{is_text}
 use Rattle.page_tree.proofs.Counts.{slot_is}
 use Rattle.page_tree.proofs.Lists.{cases, at_set}
 use Rattle.page_tree.proofs.Owners.{same_is, is_same}
 use Rattle.page_tree.proofs.Rising.{rising_filter}
 use Rattle.page_tree.proofs.Takes.{taken_back}
-use Rattle.page_tree.proofs.Values.{attribute_set, attribute_other}
+use Rattle.tree_ops.proofs.Values.{attribute_set, attribute_other}
 
 false_true : false ≡ true → ⊥
 false_true e = cc

@@ -2,11 +2,14 @@
 use Rattle.std.proofs.Common.{◌≡◌, ℕ, zero, suc, ◌+◌, ◌<◌, ◌≤◌, max, List, [], ◌∷◌, Bool, true, false, refl, sym, ap, ◌∙◌, subst, eqb, ◌||◌, arith, cond, eqb-true, eq-eqb, ne_eqb, Some, None, Option, ⊎_elim, length}
 use Rattle.std.proofs.lemmas.Bool.{or_cases, cases_Bool}
 use Rattle.plain_tree.specs.Trees.{Trees, End, Node, beside, height}
-use Rattle.page_tree.specs.Trees.{has, deeper, level, is_number, put_before, grafted, is_text}
+use Rattle.tree_ops.specs.Labels.{is_text}
+use Rattle.tree_ops.specs.Trees.{has, is_number, put_before, grafted}
+use Rattle.page_tree.specs.Trees.{deeper, level}
 use Rattle.code_units.specs.declared.owner.Owner.TheVariants as owner
 use Rattle.page_tree.specs.Owners.{same_owner}
 use Rattle.page_tree.specs.Entries.{Entry, at, body, listed, distinct, before, limit, tree, IsSound}
 use Rattle.page_tree.specs.Moves.{MayLink}
+use Rattle.page_tree.proofs.Plains.{height_both}
 use Rattle.page_tree.proofs.Lists.{cases, listed_before, distinct_before, or_right, or_none}
 use Rattle.page_tree.proofs.Shows.{Shows, none, one_more, shows_node, shows_tree, shows_before, shows_one, tree_low, tree_lower, child_not_body, Renewed, renewed}
 
@@ -54,15 +57,11 @@ pub reach_le : (v h : ℕ) → reach v h ≤ v + h
 reach_le zero h = omega arith
 reach_le (suc v) h = omega arith
 
-pub height_beside : (ts us : Trees ℕ) → height (beside ts us) ≡ max (height ts) (height us)
-height_beside End us = omega arith
-height_beside (Node m l ks ts) us = omega (arith, height_beside ts us)
-
 pub height_before : (s : Option ℕ) (us ts : Trees ℕ) → height (put_before s us ts) ≡ max (height ts) (height us)
 height_before s us End = omega arith
 height_before s us (Node m l ks ts) =
     cases (λ b. height (cond b (beside us (Node m l ks ts)) (Node m l ks (put_before s us ts))) ≡ max (max (height ks + 1) (height ts)) (height us)) (is_number m s)
-    (λ _. omega (arith, height_beside us (Node m l ks ts)))
+    (λ _. omega (arith, height_both us (Node m l ks ts)))
     (λ _. omega (arith, height_before s us ts))
 
 at_target : (v w g hk gt ht h : ℕ) → g ≤ max hk (reach v h) → gt ≤ max ht (reach w h) → max (max g h + 1) gt ≤ max (max (hk + 1) ht) (reach (max (max 1 (deeper v)) w) h)
@@ -156,6 +155,7 @@ insert_sound k m t s n sound c may =
     (λ _ h. sound.owned x p h) in
     record {
       some = omega (arith, sound.some, c.length);
+      few = omega (arith, sound.few, c.length);
       top = c.parents body ∙ ap (λ b. cond b (Some t) (at k body).parent) (ne_eqb body n (λ e. may.other (sym e))) ∙ sound.top;
       host = ap (λ o. same_owner o owner.Host) (c.owners body) ∙ sound.host;
       element = ap is_text (c.labels body) ∙ sound.element;

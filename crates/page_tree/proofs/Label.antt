@@ -3,12 +3,11 @@ use Rattle.std.proofs.Common.{◌≡◌, ℕ, ◌<◌, List, [], ◌∷◌, true
 use Rattle.std.proofs.lemmas.List.{length-set}
 use Rattle.code_units.specs.declared.owner.Owner.TheVariants as owner
 use Rattle.plain_tree.specs.Trees.{Label, TextOf, ElementOf, Trees, End, Node, height}
-use Rattle.page_tree.specs.Trees.{has, relabelled, is_text}
+use Rattle.tree_ops.specs.Labels.{is_text, with_attribute}
+use Rattle.tree_ops.specs.Trees.{relabelled}
 use Rattle.page_tree.specs.Owners.{same_owner}
 use Rattle.page_tree.specs.Entries.{Entry, at, body, listed, distinct, tree, IsSound}
-use Rattle.page_tree.specs.Contents.{with_attribute}
 use Rattle.page_tree.specs.Moves.{IsRelabelled}
-use Rattle.page_tree.proofs.Lists.{or_none}
 use Rattle.page_tree.proofs.Shows.{Shows, none, one_more, shows_node, shows_tree, tree_low, tree_lower, Renewed, renewed}
 use Rattle.page_tree.proofs.Detach.{keeps_field, sets_field}
 
@@ -42,6 +41,7 @@ label_written k m n l s nin kind em =
     subst (λ y. IsSound y × IsRelabelled k y n l) (sym em) (
       record {
         some = omega (arith, s.some, length-set k n (record (at k n) { label = l }));
+        few = omega (arith, s.few, length-set k n (record (at k n) { label = l }));
         top = c.parents body ∙ s.top;
         host = ap (λ o. same_owner o owner.Host) (own body) ∙ s.host;
         element = kinds body ∙ s.element;
@@ -54,13 +54,6 @@ label_written k m n l s nin kind em =
       },
       record { trees = (labelled_renewed k _ n l s c).trees; labels = c.labels; parents = c.parents; children = c.children; owners = own; made = length-set k n _ },
     )
-
-pub relabelled_off : (n : ℕ) (l : Label) (ts : Trees ℕ) → has n ts ≡ false → relabelled n l ts ≡ ts
-relabelled_off n l End h = refl
-relabelled_off n l (Node m v ks ts) h =
-    let p = or_none (eqb m n) _ h in
-    let q = or_none (has n ks) (has n ts) (p.1) in
-    ap (λ b. Node m (cond b l v) (relabelled n l ks) (relabelled n l ts)) (p.0) ∙ ap (λ y. Node m v y (relabelled n l ts)) (relabelled_off n l ks (q.0)) ∙ ap (Node m v ks) (relabelled_off n l ts (q.1))
 
 -- an element stays one
 pub attribute_kind : (name : List ℕ) (value : Option (List ℕ)) (l : Label) → is_text l ≡ false → is_text (with_attribute name value l) ≡ is_text l

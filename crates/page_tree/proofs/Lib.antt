@@ -21,4 +21,5 @@ pub mod Adds
 pub mod Counts
 pub mod Takes
 pub mod Indexing
+pub mod Agree
 pub mod Trials

@@ -1,41 +1,24 @@
 -- Lists of numbers and of nodes.
 use Rattle.std.proofs.Common.{◌≡◌, ℕ, zero, suc, ◌<◌, ◌≤◌, ◌+◌, List, [], ◌∷◌, ◌++◌, Bool, true, false, refl, ap, sym, ◌∙◌, eqb, not, cond, length, arith, eqb-true, ◌||◌, set, get_or, take, eq-eqb, ne_eqb, subst, Result, Ok, Err, Option, Some, None, inl, inr, ◌⊎◌, ⊎_elim}
-use Rattle.std.specs.List.{filter}
 use Rattle.std.specs.List.Retain.{IsFiltered}
 use Rattle.std.proofs.lemmas.List.{map-set, get_or-set_same, get_or-set_other, set-get_or, map-append}
 use Rattle.std.specs.Prelude.{OnOk, IfOk, MatchResult, insert, is_some}
-use Rattle.page_tree.specs.Trees.{is_number}
+use Rattle.tree_ops.specs.Trees.{is_number}
+pub use Rattle.tree_ops.proofs.Tests.{cases, or_none, or_right}
 use Rattle.std.proofs.lemmas.Fn.{filter_same}
 use Rattle.std.proofs.lemmas.Bool.{eqb-false, and_parts, and_from, cases_lt, or_cases}
 use Rattle.page_tree.specs.declared.rows.Row.{Row}
 use Rattle.page_tree.specs.Room.{room_in, room_at}
 use Rattle.page_tree.specs.Entries.{minus, before, listed, distinct, Entry, entry_of, entries, at, no_entry}
 
--- a test and its two outcomes
-pub cases : (P : Bool → Type 0) (b : Bool) → (b ≡ true → P true) → (b ≡ false → P false) → P b
-cases P true t f = t refl
-cases P false t f = f refl
-
-minus_filter : (n : ℕ) (xs : List ℕ) → filter (λ c. not (eqb c n)) xs ≡ minus n xs
-minus_filter n [] = refl
-minus_filter n (x ∷ xs) = cases (λ b. cond (not b) (x ∷ filter (λ c. not (eqb c n)) xs) (filter (λ c. not (eqb c n)) xs) ≡ cond b (minus n xs) (x ∷ minus n xs)) (eqb x n) (λ _. minus_filter n xs) (λ _. ap (λ l. x ∷ l) (minus_filter n xs))
-
 pub minus_retained : {F : Type 0} (R : F → ℕ → Bool → F → Type 0) (n : ℕ) (f : F) → ((x : ℕ) (b : Bool) (g : F) → R f x b g → (b ≡ not (eqb x n)) × (g ≡ f)) → (xs ys : List ℕ) → IsFiltered R f xs ys → ys ≡ minus n xs
-minus_retained R n f says xs ys h = filter_same R (λ c. not (eqb c n)) f says xs ys h ∙ minus_filter n xs
-
-pub or_right : (a b : Bool) → b ≡ true → (a || b) ≡ true
-or_right true b h = refl
-or_right false b h = h
-
-pub or_none : (a b : Bool) → (a || b) ≡ false → (a ≡ false) × (b ≡ false)
-or_none true b h = cc
-or_none false b h = (refl, h)
+minus_retained R n f says xs ys h = filter_same R (λ c. not (eqb c n)) f says xs ys h
 
 -- what is left
 pub listed_minus : (n c : ℕ) (xs : List ℕ) → listed c (minus n xs) ≡ true → (listed c xs ≡ true) × (c ≡ n → ⊥)
 listed_minus n c [] h = cc
 listed_minus n c (x ∷ xs) h0 =
-    cases (λ b. listed c (cond b (minus n xs) (x ∷ minus n xs)) ≡ true → ((eqb x c || listed c xs) ≡ true) × (c ≡ n → ⊥)) (eqb x n)
+    cases (λ b. listed c (cond (not b) (x ∷ minus n xs) (minus n xs)) ≡ true → ((eqb x c || listed c xs) ≡ true) × (c ≡ n → ⊥)) (eqb x n)
     (λ e h. let p = listed_minus n c xs h in (or_right (eqb x c) (listed c xs) (p.0), p.1))
     (λ e. cases (λ b. (b || listed c (minus n xs)) ≡ true → ((b || listed c xs) ≡ true) × (c ≡ n → ⊥)) (eqb x c)
     (λ e2 h. (refl, λ same. eqb-false x n e (eqb-true x c e2 ∙ same)))
@@ -45,14 +28,14 @@ listed_minus n c (x ∷ xs) h0 =
 pub minus_listed : (n c : ℕ) (xs : List ℕ) → listed c xs ≡ true → (c ≡ n → ⊥) → listed c (minus n xs) ≡ true
 minus_listed n c [] h ne = h
 minus_listed n c (x ∷ xs) h ne =
-    cases (λ b. (b || listed c xs) ≡ true → listed c (cond (eqb x n) (minus n xs) (x ∷ minus n xs)) ≡ true) (eqb x c)
-    (λ e h. cases (λ b. (eqb x n ≡ b) → listed c (cond b (minus n xs) (x ∷ minus n xs)) ≡ true) (eqb x n) (λ e2 _. absurd (ne (sym (eqb-true x c e) ∙ eqb-true x n e2))) (λ _ _. ap (λ b. b || listed c (minus n xs)) e) refl)
-    (λ e h. cases (λ b. listed c (cond b (minus n xs) (x ∷ minus n xs)) ≡ true) (eqb x n) (λ _. minus_listed n c xs h ne) (λ _. ap (λ b. b || listed c (minus n xs)) e ∙ minus_listed n c xs h ne))
+    cases (λ b. (b || listed c xs) ≡ true → listed c (cond (not (eqb x n)) (x ∷ minus n xs) (minus n xs)) ≡ true) (eqb x c)
+    (λ e h. cases (λ b. (eqb x n ≡ b) → listed c (cond (not b) (x ∷ minus n xs) (minus n xs)) ≡ true) (eqb x n) (λ e2 _. absurd (ne (sym (eqb-true x c e) ∙ eqb-true x n e2))) (λ _ _. ap (λ b. b || listed c (minus n xs)) e) refl)
+    (λ e h. cases (λ b. listed c (cond (not b) (x ∷ minus n xs) (minus n xs)) ≡ true) (eqb x n) (λ _. minus_listed n c xs h ne) (λ _. ap (λ b. b || listed c (minus n xs)) e ∙ minus_listed n c xs h ne))
     h
 
 pub minus_none : (n : ℕ) (xs : List ℕ) → listed n xs ≡ false → minus n xs ≡ xs
 minus_none n [] h = refl
-minus_none n (x ∷ xs) h0 = cases (λ b. (b || listed n xs) ≡ false → cond b (minus n xs) (x ∷ minus n xs) ≡ x ∷ xs) (eqb x n) (λ e h. cc) (λ e h. ap (λ l. x ∷ l) (minus_none n xs h)) h0
+minus_none n (x ∷ xs) h0 = cases (λ b. (b || listed n xs) ≡ false → cond (not b) (x ∷ minus n xs) (minus n xs) ≡ x ∷ xs) (eqb x n) (λ e h. cc) (λ e h. ap (λ l. x ∷ l) (minus_none n xs h)) h0
 
 -- where a number is put in
 pub listed_before : (c n : ℕ) (s : Option ℕ) (xs : List ℕ) → listed c (before s n xs) ≡ (listed c xs || eqb n c)
@@ -94,7 +77,7 @@ distinct_minus n [] h = refl
 distinct_minus n (x ∷ xs) h =
     let p = and_parts (not (listed x xs)) (distinct xs) h in
     let rest = distinct_minus n xs (p.1) in
-    cases (λ b. distinct (cond b (minus n xs) (x ∷ minus n xs)) ≡ true) (eqb x n) (λ _. rest)
+    cases (λ b. distinct (cond (not b) (x ∷ minus n xs) (minus n xs)) ≡ true) (eqb x n) (λ _. rest)
     (λ _. and_from (not (listed x (minus n xs))) (distinct (minus n xs))
     (cases (λ b. listed x (minus n xs) ≡ b → not b ≡ true) (listed x (minus n xs)) (λ e _. absurd (not_true (listed x xs) (p.0) ((listed_minus n x xs e).0))) (λ _ _. refl) refl)
     rest)

@@ -1,6 +1,6 @@
 -- Whether an optional number is the one.
 use Rattle.std.proofs.Common.{◌≡◌, ℕ, true, false, ap, sym, ◌∙◌, eqb-true, eq-eqb, Some, None, Option}
-use Rattle.page_tree.specs.Trees.{is_number}
+use Rattle.tree_ops.specs.Trees.{is_number}
 
 pub number_is : (n : ℕ) (s : Option ℕ) → is_number n s ≡ true → s ≡ Some n
 number_is n None h = cc

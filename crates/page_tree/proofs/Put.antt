@@ -4,10 +4,13 @@ use Rattle.std.proofs.lemmas.Bool.{or_cases, eqb-false}
 use Rattle.std.proofs.lemmas.List.{length-set, at_drop_more, at_drop_all, get_or-set_other}
 use Rattle.plain_tree.specs.Trees.{Trees, End, Node, beside, height}
 use Rattle.code_units.specs.declared.owner.Owner.{Owner}
-use Rattle.page_tree.specs.Trees.{has, deeper, level, is_number, put_before, without, pruned, grafted, is_text}
+use Rattle.tree_ops.specs.Labels.{is_text}
+use Rattle.tree_ops.specs.Trees.{has, is_number, put_before, without, grafted}
+use Rattle.page_tree.specs.Trees.{deeper, level, pruned}
 use Rattle.page_tree.specs.Entries.{Entry, at, body, listed, before, tree, IsSound, no_entry}
 use Rattle.page_tree.specs.Moves.{Detached, KeepsNodes, MayLink, IsLinked, MayMove, IsPut, put_under, put_all, parents_after, ArePut, OthersStay}
 use Rattle.page_tree.proofs.Shows.{Shows, none, one_more, shows_tree}
+use Rattle.tree_ops.proofs.Absent.{without_off, grafted_off}
 use Rattle.page_tree.proofs.Lists.{cases, or_right, or_none}
 use Rattle.page_tree.proofs.Cut.{height_pruned, level_pruned}
 use Rattle.page_tree.proofs.Detach.{keeps_field, sets_field}
@@ -33,16 +36,6 @@ has_pruned t n (Node m l ks ts) h =
     let p = or_none (eqb m t) (has t ks || has t ts) h in
     let q = or_none (has t ks) (has t ts) (p.1) in
     none_of (eqb m t) _ (p.0) (none_of _ _ (has_without t n ks (q.0)) (has_pruned t n ts (q.1)))
-
--- no graft where the target is not
-pub grafted_off : (t : ℕ) (s : Option ℕ) (us ts : Trees ℕ) → has t ts ≡ false → grafted t s us ts ≡ ts
-grafted_off t s us End h = refl
-grafted_off t s us (Node m l ks ts) h =
-    let p = or_none (eqb m t) (has t ks || has t ts) h in
-    let q = or_none (has t ks) (has t ts) (p.1) in
-    let a = grafted_off t s us ks (q.0) in
-    let b = grafted_off t s us ts (q.1) in
-    ap (λ c. Node m l (cond c (put_before s us (grafted t s us ks)) (grafted t s us ks)) (grafted t s us ts)) (p.0) ∙ ap (λ y. Node m l y (grafted t s us ts)) a ∙ ap (Node m l ks) b
 
 level_beside : (t : ℕ) (ts us : Trees ℕ) → level t (beside ts us) ≡ max (level t ts) (level t us)
 level_beside t End us = omega arith
@@ -180,15 +173,6 @@ other_not_in k s n x away ne = cases (λ b. has n (tree k x) ≡ b → b ≡ fal
   where
     top_is : (c : ℕ) → (eqb x c || false) ≡ true → (at k c).owner ≡ (at k x).owner
     top_is c l = ⊎_elim (λ e. ap (λ y. (at k y).owner) (sym (eqb-true x c e))) (λ e. cc) (or_cases (eqb x c) false l)
-
-without_off : (n : ℕ) (ts : Trees ℕ) → has n ts ≡ false → without n ts ≡ ts
-without_off n End h = refl
-without_off n (Node m l ks ts) h =
-    let p = or_none (eqb m n) (has n ks || has n ts) h in
-    let q = or_none (has n ks) (has n ts) (p.1) in
-    let a = without_off n ks (q.0) in
-    let b = without_off n ts (q.1) in
-    ap (λ c. cond c (without n ts) (Node m l (without n ks) (without n ts))) (p.0) ∙ ap (λ y. Node m l y (without n ts)) a ∙ ap (Node m l ks) b
 
 pub pruned_off : (n : ℕ) (ts : Trees ℕ) → has n ts ≡ false → pruned n ts ≡ ts
 pruned_off n End h = refl

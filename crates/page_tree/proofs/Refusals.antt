@@ -1,13 +1,15 @@
 -- When nodes may be put under a target.
-use Rattle.std.proofs.Common.{◌≡◌, ℕ, suc, ◌+◌, ◌<◌, ◌≤◌, List, Bool, true, false, refl, sym, ap, ◌∙◌, subst, arith, Some, None, Option, inr, ⊎_elim, length, [], ◌∷◌, eqb, ◌||◌}
-use Rattle.std.specs.Prelude.{slice_index}
+use Rattle.std.proofs.Common.{◌≡◌, ℕ, suc, ◌+◌, ◌<◌, ◌≤◌, List, Bool, true, false, refl, sym, ap, ◌∙◌, subst, arith, Some, None, Option, Result, Ok, Err, inr, ⊎_elim, length, [], ◌∷◌, eqb, ◌||◌}
+use Rattle.std.specs.Prelude.{slice_index, MatchResult}
+use Rattle.std.specs.Result.{IsErrAnd}
 use Rattle.code_units.specs.declared.owner.Owner.{Owner}
 use Rattle.code_units.specs.declared.owner.Owner.TheVariants as owner
 use Rattle.std.specs.List.{list_any}
 use Rattle.page_tree.specs.declared.fault.PageFault.{PageFault}
 use Rattle.page_tree.specs.declared.fault.PageFault.TheVariants as fault
 use Rattle.plain_tree.specs.Trees.{height}
-use Rattle.page_tree.specs.Trees.{is_number, is_leaf, is_text}
+use Rattle.tree_ops.specs.Labels.{is_leaf, is_text}
+use Rattle.tree_ops.specs.Trees.{is_number}
 use Rattle.page_tree.specs.Owners.{root_in}
 use Rattle.page_tree.specs.Roots.{IsRooted}
 use Rattle.page_tree.specs.Entries.{Entry, at, body, listed, tree, limit, IsSound}
@@ -59,6 +61,11 @@ may_move k roots t ns s r may i lt =
       low = may.low i lt;
       takes = text_is_leaf k t may.open_target;
     }
+
+-- a fault that is handed on
+pub handed_on : {T : Type 0} (Q : T → Type 0) (P : PageFault → Type 0) (r : Result T PageFault) (f : PageFault) → IsErrAnd r (λ e. e ≡ f) → P f → MatchResult r Q P
+handed_on Q P (Ok x) f h p = absurd h
+handed_on Q P (Err e) f h p = subst P (sym h) p
 
 -- what may not be put under the parent may not replace
 pub refuses_parent : (k : List Entry) (root : Owner → Option ℕ) (t n : ℕ) (ns : List ℕ) (f : PageFault) → (at k n).parent ≡ Some t → is_number n (root (at k n).owner) ≡ false → listed n ns ≡ false → RefusesAll k root t ns f → RefusesReplaceFirst k root n ns f

@@ -73,22 +73,22 @@ rises_minus a n [] h = refl
 rises_minus a n (m ∷ ms) h =
     let p = parts a m ms h in
     let rest = rises_minus (m + 1) n ms (p.1) in
-    cases (λ b. rises a (cond b (minus n ms) (m ∷ minus n ms)) ≡ true) (eqb m n) (λ _. rises_lower (m + 1) a (minus n ms) (omega (arith, p.0)) rest) (λ _. whole a m (minus n ms) (p.0) rest)
+    cases (λ b. rises a (cond (not b) (m ∷ minus n ms) (minus n ms)) ≡ true) (eqb m n) (λ _. rises_lower (m + 1) a (minus n ms) (omega (arith, p.0)) rest) (λ _. whole a m (minus n ms) (p.0) rest)
 
 pub remove_minus : (a n : ℕ) (xs : List ℕ) (i : ℕ) → rises a xs ≡ true → i < length xs → get_or xs i 0 ≡ n → remove xs i ≡ minus n xs
 remove_minus a n [] i h lt e = absurd (omega (arith, lt))
 remove_minus a n (m ∷ ms) zero h lt e =
     let p = parts a m ms h in
-    sym (ap (λ b. cond b (minus n ms) (m ∷ minus n ms)) (eq-eqb m n e) ∙ minus_none n ms (not_below (m + 1) n ms (p.1) (omega (arith, e))))
+    sym (ap (λ b. cond (not b) (m ∷ minus n ms) (minus n ms)) (eq-eqb m n e) ∙ minus_none n ms (not_below (m + 1) n ms (p.1) (omega (arith, e))))
 remove_minus a n (m ∷ ms) (suc i) h lt e =
     let p = parts a m ms h in
     let le = high (m + 1) ms i (p.1) (omega (arith, lt)) in
-    ap (λ l. m ∷ l) (remove_minus (m + 1) n ms i (p.1) (omega (arith, lt)) e) ∙ sym (ap (λ b. cond b (minus n ms) (m ∷ minus n ms)) (ne_eqb m n (λ s. omega (arith, le, e, s))))
+    ap (λ l. m ∷ l) (remove_minus (m + 1) n ms i (p.1) (omega (arith, lt)) e) ∙ sym (ap (λ b. cond (not b) (m ∷ minus n ms) (minus n ms)) (ne_eqb m n (λ s. omega (arith, le, e, s))))
 
 pub listed_less : (y n : ℕ) (xs : List ℕ) → listed y (minus n xs) ≡ (listed y xs && not (eqb n y))
 listed_less y n [] = refl
 listed_less y n (x ∷ xs) =
-    cases (λ b. listed y (cond b (minus n xs) (x ∷ minus n xs)) ≡ ((eqb x y || listed y xs) && not (eqb n y))) (eqb x n)
+    cases (λ b. listed y (cond (not b) (x ∷ minus n xs) (minus n xs)) ≡ ((eqb x y || listed y xs) && not (eqb n y))) (eqb x n)
     (λ e. listed_less y n xs ∙ gone (eqb n y) (listed y xs) ∙ ap (λ z. (eqb z y || listed y xs) && not (eqb n y)) (sym (eqb-true x n e)))
     (λ e. ap (λ b. eqb x y || b) (listed_less y n xs) ∙ cases (λ b. (b || (listed y xs && not (eqb n y))) ≡ ((b || listed y xs) && not (eqb n y))) (eqb x y) (λ s. sym (ap not (ne_eqb n y (λ d. eqb-false x n e (eqb-true x y s ∙ sym d))))) (λ _. refl))
   where

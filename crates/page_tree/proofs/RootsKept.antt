@@ -14,8 +14,8 @@ use Rattle.page_tree.specs.Moves.{parents_after, ArePut, Detached, KeepsNodes, O
 use Rattle.page_tree.specs.Pages.{MayPutAll, MayReplace, root_after, HasNone}
 use Rattle.page_tree.proofs.Owners.{same_is, is_same}
 use Rattle.page_tree.specs.Trees.{pruned}
-use Rattle.page_tree.proofs.Put.{owner_below, others_detached, other_not_in, grafted_off, pruned_off}
-use Rattle.page_tree.proofs.Label.{relabelled_off}
+use Rattle.page_tree.proofs.Put.{owner_below, others_detached, other_not_in, pruned_off}
+use Rattle.tree_ops.proofs.Absent.{grafted_off, relabelled_off}
 use Rattle.page_tree.proofs.Lists.{cases, listed_place}
 
 some_is : (a b : ℕ) → Some a ≡ Some b → a ≡ b

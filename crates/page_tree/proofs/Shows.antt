@@ -2,7 +2,7 @@
 use Rattle.std.proofs.Common.{◌≡◌, ℕ, zero, suc, ◌≤◌, max, List, [], ◌∷◌, ◌++◌, true, false, refl, sym, ap, ◌∙◌, subst, arith, cond, eqb, eq-eqb, Some, None, Option, ◌||◌}
 use Rattle.std.proofs.lemmas.Bool.{and_parts, and_from, eqb-false}
 use Rattle.plain_tree.specs.Trees.{Label, Trees, End, Node, beside, height}
-use Rattle.page_tree.specs.Trees.{is_number, put_before}
+use Rattle.tree_ops.specs.Trees.{is_number, put_before}
 use Rattle.page_tree.specs.Entries.{Entry, at, body, before, listed, read, fits, limit, tree, IsSound}
 use Rattle.page_tree.proofs.Lists.{cases, or_right}
 

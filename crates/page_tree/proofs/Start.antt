@@ -39,6 +39,7 @@ fits_body (suc n) = refl
 sound_body : IsSound (body_entry ∷ [])
 sound_body = record {
   some = omega arith;
+  few = omega arith;
   top = refl;
   host = refl;
   element = refl;

@@ -2,7 +2,8 @@
 use Rattle.std.proofs.Common.{◌≡◌, ℕ, zero, suc, ◌<◌, ◌≤◌, List, [], ◌∷◌, Bool, true, false, refl, sym, ap, ◌∙◌, subst, eqb, arith, cond, eqb-true, ne_eqb, Some, None, Option, length, set, not, ◌||◌, get_or, ⊎_elim}
 use Rattle.std.proofs.lemmas.Bool.{eqb-false, and_parts, or_cases}
 use Rattle.std.proofs.lemmas.List.{length-set}
-use Rattle.page_tree.specs.Trees.{is_number, pruned}
+use Rattle.tree_ops.specs.Trees.{is_number}
+use Rattle.page_tree.specs.Trees.{pruned}
 use Rattle.page_tree.specs.Entries.{Entry, at, body, listed, distinct, minus, before, tree, IsSound}
 use Rattle.page_tree.specs.Moves.{MayLink, IsSwapped}
 use Rattle.page_tree.proofs.Lists.{cases, minus_none, or_right}
@@ -41,15 +42,15 @@ written_over n m (x ∷ xs) zero d ne lt e =
     let p = and_parts (not (listed x xs)) (distinct xs) d in
     let away : minus n xs ≡ xs = minus_none n xs (ap (λ y. listed y xs) (sym (eqb-true x n e)) ∙ not_true (listed x xs) (p.0)) in
     sym (ap (λ b. minus n (cond b (m ∷ x ∷ xs) (x ∷ before (Some n) m xs))) e
-    ∙ ap (λ b. cond b (minus n (x ∷ xs)) (m ∷ minus n (x ∷ xs))) (ne_eqb m n ne)
-    ∙ ap (λ b. m ∷ cond b (minus n xs) (x ∷ minus n xs)) e
+    ∙ ap (λ b. cond (not b) (m ∷ minus n (x ∷ xs)) (minus n (x ∷ xs))) (ne_eqb m n ne)
+    ∙ ap (λ b. m ∷ cond (not b) (x ∷ minus n xs) (minus n xs)) e
     ∙ ap (λ l. m ∷ l) away)
 written_over n m (x ∷ xs) (suc i) d ne lt e =
     let p = and_parts (not (listed x xs)) (distinct xs) d in
     let here = listed_here n xs i (omega (arith, lt)) e in
     let other : eqb x n ≡ false = ne_eqb x n (λ h. true_false (sym (subst (λ y. listed y xs ≡ true) (sym h) here) ∙ not_true (listed x xs) (p.0))) in
     sym (ap (λ b. minus n (cond b (m ∷ x ∷ xs) (x ∷ before (Some n) m xs))) other
-    ∙ ap (λ b. cond b (minus n (before (Some n) m xs)) (x ∷ minus n (before (Some n) m xs))) other
+    ∙ ap (λ b. cond (not b) (x ∷ minus n (before (Some n) m xs)) (minus n (before (Some n) m xs))) other
     ∙ ap (λ l. x ∷ l) (sym (written_over n m xs i (p.1) ne (omega (arith, lt)) e)))
   where
     true_false : true ≡ false → ⊥

@@ -1,16 +1,16 @@
 -- A tree is added to a page, or refused.
-use Rattle.std.proofs.Common.{◌≡◌, ℕ, ◌+◌, ◌-◌, ◌<◌, ◌≤◌, List, Bool, true, false, refl, sym, ap, ◌∙◌, subst, arith, length, take, get_or, set, Result, Ok, Err}
+use Rattle.std.proofs.Common.{◌≡◌, ℕ, ◌+◌, ◌-◌, ◌<◌, ◌≤◌, List, true, false, refl, sym, ap, ◌∙◌, subst, arith, length, take, get_or, set, Result, Ok, Err}
 use Rattle.std.specs.Prelude.{IfOk, IfErr, OnOk}
 use Rattle.std.specs.Result.{IsErrAnd}
 use Rattle.code_units.specs.declared.owner.Owner.{Owner}
 use Rattle.code_units.specs.declared.owner.Owner.TheVariants as owner
-use Rattle.plain_tree.specs.Trees.{Trees, End, Node, PlainTrees, size, height}
+use Rattle.plain_tree.specs.Trees.{Trees, End, Node, PlainTrees, unmarked, size, height}
 use Rattle.page_tree.specs.declared.fault.PageFault.{PageFault}
 use Rattle.page_tree.specs.declared.fault.PageFault.TheVariants as fault
 use Rattle.page_tree.specs.Owners.{is_owner, same_owner, slot}
 use Rattle.page_tree.specs.Entries.{Entry, at, body, tree, limit, IsSound}
 use Rattle.page_tree.proofs.Shows.{tree_lower}
-use Rattle.page_tree.specs.Copies.{copied}
+use Rattle.tree_ops.specs.Trees.{copied}
 use Rattle.page_tree.specs.Counts.{count_of, most_of, IsCounted}
 use Rattle.page_tree.specs.Adds.{Older, IsAdded}
 use Rattle.page_tree.specs.Pages.{MayAdd, IsTooMany, RefusesAdd, RefusesCopy}
@@ -41,9 +41,9 @@ pub taken_back : (k m : List Entry) (n : ℕ) → n ≡ length k → Older k m �
 taken_back k m n e h = ap (λ q. take q m) e ∙ older_take k m h.long h.same
 
 -- a copy is as high as its tree
-pub height_copied : (ids : Bool) (ts : Trees ℕ) → height (copied ids ts) ≡ height ts
-height_copied ids End = refl
-height_copied ids (Node m l ks ts) = omega (arith, height_copied ids ks, height_copied ids ts)
+height_copied : (ts : Trees ℕ) → height (unmarked (copied ts)) ≡ height ts
+height_copied End = refl
+height_copied (Node m l ks ts) = omega (arith, height_copied ks, height_copied ts)
 
 pub copy_refused : {T : Type 0} (r : Result T PageFault) (k : List Entry) (o o2 : Owner) (p q : PlainTrees) → o ≡ o2 → p ≡ q → height p ≤ limit → IfErr r (RefusesAdd k o p) → IfErr r (RefusesCopy k o2 q)
 copy_refused (Ok x) k o o2 p q eo ep low h = tt
@@ -70,10 +70,10 @@ no_host k n o P h e t = absurd (true_false (sym t ∙ ap (λ q. same_owner q own
     true_false x = cc
 
 -- a widget's tree is no higher than may be
-pub copy_low : (k : List Entry) (n : ℕ) → IsSound k → same_owner (at k n).owner owner.Host ≡ false → (p : PlainTrees) → p ≡ copied false (tree k n) → height p ≤ limit
+pub copy_low : (k : List Entry) (n : ℕ) → IsSound k → same_owner (at k n).owner owner.Host ≡ false → (p : PlainTrees) → p ≡ unmarked (copied (tree k n)) → height p ≤ limit
 copy_low k n s w p e =
     let ne : n ≡ body → ⊥ = λ h. true_false (sym s.host ∙ ap (λ x. same_owner (at k x).owner owner.Host) (sym h) ∙ w) in
-    omega (arith, ap height e, height_copied false (tree k n), tree_lower k s n ne)
+    omega (arith, ap height e, height_copied (tree k n), tree_lower k s n ne)
   where
     true_false : true ≡ false → ⊥
     true_false x = cc

@@ -3,8 +3,10 @@ use Rattle.std.proofs.Common.{◌≡◌, ℕ, zero, suc, ◌+◌, ◌<◌, ◌�
 use Rattle.std.proofs.lemmas.Bool.{or_cases, cases_Bool, cases_lt}
 use Rattle.std.proofs.lemmas.List.{get_or_past}
 use Rattle.plain_tree.specs.Trees.{Trees, End, Node, height}
-use Rattle.page_tree.specs.Trees.{has, deeper, level}
+use Rattle.tree_ops.specs.Trees.{has}
+use Rattle.page_tree.specs.Trees.{deeper, level}
 use Rattle.page_tree.specs.Entries.{Entry, at, body, listed, tree, IsSound, no_entry}
+pub use Rattle.tree_ops.proofs.Tests.{or_left}
 use Rattle.page_tree.proofs.Lists.{or_right, or_none}
 use Rattle.page_tree.proofs.Shows.{Shows, none, one_more, shows_tree, shows_one}
 use Rattle.page_tree.proofs.Cut.{deeper_le}
@@ -27,10 +29,6 @@ zero_if false h = refl
 at_most : (v w : ℕ) → v ≤ 1 + w → (o : ℕ) → 1 ≤ max o (deeper w) → deeper v ≤ 1 + max o (deeper w)
 at_most v zero a o b = omega (arith, deeper_most v)
 at_most v (suc w) a o b = omega (arith, deeper_most v)
-
-pub or_left : (a b : Bool) → a ≡ true → (a || b) ≡ true
-or_left true b h = refl
-or_left false b h = cc
 
 -- one tree among several
 pub record Among (us ts : Trees ℕ) : Type 0 where

@@ -1,11 +1,13 @@
 -- The walk up from a node.
-use Rattle.std.proofs.Common.{◌≡◌, ℕ, zero, suc, ◌+◌, ◌-◌, ◌<◌, ◌≤◌, max, List, [], ◌∷◌, Bool, true, false, refl, sym, ap, ◌∙◌, subst, eqb, arith, eqb-true, eq-eqb, Some, None, length, get_or, drop, ⊎_elim, inl, inr}
-use Rattle.std.proofs.lemmas.Bool.{or_cases, cases_lt}
+use Rattle.std.proofs.Common.{◌≡◌, ℕ, zero, suc, ◌+◌, ◌-◌, ◌<◌, ◌≤◌, max, List, [], ◌∷◌, Bool, true, false, refl, sym, ap, ◌∙◌, subst, eqb, ltb, cond, Less, Equal, Greater, arith, eqb-true, eq-eqb, Some, None, length, get_or, drop, ⊎_elim, inl, inr}
+use Rattle.std.specs.Ordering.{is_lt, nat_cmp, ord_max}
+use Rattle.std.proofs.lemmas.Bool.{or_cases, cases_lt, ltb-true, ltb-false}
 use Rattle.std.proofs.lemmas.List.{get_or_past, get_or_default, at_drop_more, at_drop_all}
 use Rattle.plain_tree.specs.Trees.{Trees, End, Node, height}
-use Rattle.page_tree.specs.Trees.{has, level}
+use Rattle.tree_ops.specs.Trees.{has}
+use Rattle.page_tree.specs.Trees.{level}
 use Rattle.page_tree.specs.Moves.{IsDepth}
-use Rattle.page_tree.proofs.Lists.{or_right}
+use Rattle.page_tree.proofs.Lists.{cases, or_right}
 use Rattle.page_tree.proofs.Insert.{deeper_pos}
 use Rattle.page_tree.specs.Entries.{Entry, at, body, listed, limit, tree, IsSound, no_entry}
 use Rattle.page_tree.proofs.Shows.{Shows, none, one_more, shows_one, shows_tree, tree_low}
@@ -65,6 +67,12 @@ depth_found k s n x d other above most reached =
 
 pub depth_of_body : (k : List Entry) → IsSound k → IsDepth k body 0
 depth_of_body k s = record { most = λ y ne. omega (arith, level_none body (tree k y) (without_body k s y ne)); reached = inl (refl, refl) }
+
+-- the larger of two numbers
+pub larger : (a b : ℕ) → ord_max nat_cmp a b ≡ max a b
+larger a b = cases (λ c. cond (is_lt (cond c Less (cond (eqb b a) Equal Greater))) a b ≡ max a b) (ltb b a)
+    (λ e. omega (arith, ltb-true b a e))
+    (λ e. cases (λ c. cond (is_lt (cond c Equal Greater)) a b ≡ max a b) (eqb b a) (λ _. omega (arith, ltb-false b a e)) (λ _. omega (arith, ltb-false b a e)))
 
 -- the greatest height of several nodes' trees
 abbrev pub highest : List Entry → List ℕ → ℕ

@@ -3,7 +3,7 @@ use Rattle.std.specs.Prelude.{◌≡◌, ℕ, ◌+◌, ◌<◌, ◌≤◌, List,
 use Rattle.code_units.specs.declared.owner.Owner.{Owner}
 use Rattle.plain_tree.specs.Trees.{PlainTrees, size}
 use Rattle.page_tree.specs.Entries.{Entry, at, tree}
-use Rattle.page_tree.specs.Copies.{numbered}
+use Rattle.tree_ops.specs.Trees.{numbered}
 
 -- older nodes stay as they were
 pub record Older (old new : List Entry) : Type 0 where

@@ -4,6 +4,7 @@ use Rattle.page_tree.specs.declared.arena.Arena.{Arena}
 use Rattle.page_tree.specs.Entries.{Entry, entries}
 use Rattle.page_tree.specs.Room.{room_at}
 
+-- its nodes, in the order of their numbers
 abbrev pub nodes_in : Arena → List Entry
 nodes_in a = entries a.rows.items
 

@@ -1,12 +1,14 @@
 -- The nodes of the arena, and the trees that are read off them.
-use Rattle.std.specs.Prelude.{◌≡◌, ℕ, zero, suc, ◌<◌, List, [], ◌∷◌, map, length, slice_index_or, codes, Option, Some, None, Bool, true, false, not, ◌&&◌, ◌||◌, ◌==◌, if◌then◌else◌}
+use Rattle.std.specs.Prelude.{◌≡◌, ℕ, zero, suc, ◌<◌, ◌≤◌, List, [], ◌∷◌, map, length, slice_index_or, codes, Option, Some, None, Bool, true, false, not, ◌&&◌, ◌||◌, ◌==◌, if◌then◌else◌}
+use Rattle.std.specs.List.{filter}
 use Rattle.code_units.specs.declared.owner.Owner.{Owner}
 use Rattle.code_units.specs.declared.owner.Owner.TheVariants as owner
 use Rattle.page_tree.specs.declared.rows.Row.{Row}
 use Rattle.page_tree.specs.declared.rows.Content.{Content}
 use Rattle.page_tree.specs.declared.rows.Content.TheVariants as content
 use Rattle.plain_tree.specs.Trees.{Label, TextOf, ElementOf, Trees, End, Node}
-use Rattle.page_tree.specs.Trees.{is_number, is_text}
+use Rattle.tree_ops.specs.Labels.{is_text}
+use Rattle.tree_ops.specs.Trees.{is_number}
 use Rattle.page_tree.specs.Owners.{is_owner, same_owner}
 
 -- a node with its links
@@ -16,16 +18,20 @@ pub record Entry : Type 0 where
   pub children : List ℕ
   pub label : Label
 
+-- what a node is, as the label of a plain tree
 abbrev pub label_of : Content → Label
 label_of (content.Element tag attributes) = ElementOf tag attributes.items
 label_of (content.Text text) = TextOf text
 
+-- a row as a node with its links
 abbrev pub entry_of : Row → Entry
 entry_of r = record { owner = r.owner; parent = r.parent; children = r.children.items; label = label_of r.content }
 
+-- all rows
 abbrev pub entries : List Row → List Entry
 entries rows = map entry_of rows
 
+-- what stands for a node under a number that none has
 abbrev pub no_entry : Entry
 no_entry = record { owner = owner.Host; parent = None; children = []; label = TextOf [] }
 
@@ -41,6 +47,7 @@ body = 0
 abbrev pub body_entry : Entry
 body_entry = record { owner = owner.Host; parent = None; children = []; label = ElementOf (codes "body") [] }
 
+-- whether a number is in a list
 abbrev pub listed : ℕ → List ℕ → Bool
 listed n [] = false
 listed n (m ∷ ms) = (m == n) || listed n ms
@@ -50,9 +57,9 @@ abbrev pub distinct : List ℕ → Bool
 distinct [] = true
 distinct (m ∷ ms) = not (listed m ms) && distinct ms
 
+-- a list without a number
 abbrev pub minus : ℕ → List ℕ → List ℕ
-minus n [] = []
-minus n (m ∷ ms) = if m == n then minus n ms else m ∷ minus n ms
+minus n ms = filter (λ m. not (m == n)) ms
 
 -- a list with a number more, before another or behind the last
 abbrev pub before : Option ℕ → ℕ → List ℕ → List ℕ
@@ -79,9 +86,10 @@ limit = 201
 abbrev pub tree : List Entry → ℕ → Trees ℕ
 tree k n = read k (suc limit) (n ∷ [])
 
--- The links agree; no node is too deep, and so none is below itself; what is below a node has its owner, but under `body`.
+-- Each node has a number; the links agree; no node is too deep, and so none is below itself; what is below a node has its owner, but under `body`.
 pub record IsSound (k : List Entry) : Type 0 where
   pub some : 0 < length k
+  pub few : length k ≤ 2147483648
   pub top : (at k body).parent ≡ None
   pub host : same_owner (at k body).owner owner.Host ≡ true
   pub element : is_text (at k body).label ≡ false

@@ -7,7 +7,7 @@ use Rattle.std.specs.HashMap.{HashMap, get_by}
 use Rattle.std.specs.declared.vec.Vec.{Vec}
 use Rattle.std.specs.declared.alloc.Global.{Global}
 use Rattle.code_units.specs.declared.owner.Owner.{Owner}
-use Rattle.page_tree.specs.Contents.{attribute_of}
+use Rattle.tree_ops.specs.Labels.{attribute_of}
 use Rattle.page_tree.specs.Entries.{Entry, at}
 use Rattle.page_tree.specs.Owners.{same_owner}
 use Rattle.page_tree.specs.Room.{room_in}
@@ -49,6 +49,7 @@ module _ {S : Type 0} where
   numbers_at None value = []
   numbers_at (Some lists) value = numbers_of lists value
 
+  -- the room of a list in a table
   abbrev pub room_at_id : Option (HashMap (List ℕ) (Vec ℕ Global) S) → List ℕ → ℕ
   room_at_id None value = 0
   room_at_id (Some lists) value = room_under lists value

@@ -10,6 +10,7 @@ use Rattle.page_tree.specs.Owners.{is_owner, slot}
 abbrev pub indexed : Ids → ℕ → List ℕ → List ℕ
 indexed ids s value = numbers_at (slice_get ids.owners.items s) value
 
+-- for how many more there is room
 abbrev pub room_for : Ids → ℕ → List ℕ → ℕ
 room_for ids s value = room_at_id (slice_get ids.owners.items s) value
 

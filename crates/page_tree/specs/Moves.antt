@@ -1,7 +1,9 @@
 -- What it is that nodes are moved.
 use Rattle.std.specs.Prelude.{◌≡◌, ℕ, ◌+◌, ◌<◌, ◌≤◌, List, [], ◌∷◌, length, Option, Some, None, true, false, ◌==◌, ◌||◌, if◌then◌else◌, ◌⊎◌, ◌≢◌, slice_index}
 use Rattle.plain_tree.specs.Trees.{Label, Trees, height}
-use Rattle.page_tree.specs.Trees.{has, level, pruned, grafted, relabelled, is_text}
+use Rattle.tree_ops.specs.Labels.{is_text}
+use Rattle.tree_ops.specs.Trees.{has, grafted, relabelled}
+use Rattle.page_tree.specs.Trees.{level, pruned}
 use Rattle.page_tree.specs.Owners.{same_owner}
 use Rattle.page_tree.specs.Entries.{Entry, at, body, tree, limit}
 
@@ -66,6 +68,7 @@ pub record MayMove (k : List Entry) (t n : ℕ) : Type 0 where
   pub low : (x : ℕ) → x ≢ body → level t (tree k x) + height (tree k n) ≤ limit
   pub takes : is_text (at k t).label ≡ false
 
+-- each node of a list may be moved
 abbrev pub MayMoveAll : List Entry → ℕ → List ℕ → Type 0
 MayMoveAll k t ns = (i : ℕ) → i < length ns → MayMove k t (slice_index ns i)
 

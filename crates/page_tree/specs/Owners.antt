@@ -8,6 +8,7 @@ abbrev pub is_owner : Owner → Bool
 is_owner owner.Host = true
 is_owner (owner.Widget w) = nat_lt w 32
 
+-- whether two owners are one
 abbrev pub same_owner : Owner → Owner → Bool
 same_owner owner.Host owner.Host = true
 same_owner owner.Host (owner.Widget w) = false

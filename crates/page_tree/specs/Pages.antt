@@ -6,7 +6,9 @@ use Rattle.plain_tree.specs.Trees.{PlainTrees, height, size}
 use Rattle.page_tree.specs.declared.fault.PageFault.{PageFault}
 use Rattle.page_tree.specs.declared.fault.PageFault.TheVariants as fault
 use Rattle.page_tree.specs.declared.page.Page.{Page}
-use Rattle.page_tree.specs.Trees.{has, level, pruned, is_leaf}
+use Rattle.tree_ops.specs.Labels.{is_leaf}
+use Rattle.tree_ops.specs.Trees.{has}
+use Rattle.page_tree.specs.Trees.{level, pruned}
 use Rattle.page_tree.specs.Owners.{is_owner, root_in, same_owner}
 use Rattle.page_tree.specs.Entries.{Entry, at, body, listed, tree, limit}
 use Rattle.page_tree.specs.Moves.{KeepsNodes, put_all, parents_after}
@@ -20,6 +22,12 @@ nodes p = nodes_in p.arena
 -- the root of an owner
 abbrev pub root : Page → Owner → Option ℕ
 root p o = root_in p.roots o
+
+-- a root is a node of its owner, and nothing but `body` is above it
+pub record IsRoot (k : List Entry) (o : Owner) (r : ℕ) : Type 0 where
+  pub is_in : r < length k
+  pub own : (at k r).owner ≡ o
+  pub high : (p : ℕ) → (at k r).parent ≡ Some p → p ≡ body
 
 -- when a node may not be put under another: it is that node or above it, has another owner, or is a root or `body`
 abbrev pub IsNotInside : List Entry → (Owner → Option ℕ) → ℕ → ℕ → Type 0
@@ -62,10 +70,8 @@ RefusesAll k root t ns (fault.Nodes kept) = ⊥
 
 -- When nodes are not put under a target. Memory may be wanted where nothing else is wrong.
 abbrev pub RefusesPut : List Entry → (Owner → Option ℕ) → ℕ → List ℕ → PageFault → Type 0
-RefusesPut k root t ns fault.NotInside = AreNotInside k root t ns
-RefusesPut k root t ns fault.TooDeep = (¬ AreNotInside k root t ns) × SomeNode ns (IsTooDeep k t)
 RefusesPut k root t ns fault.Memory = MayPutAll k root t ns
-RefusesPut k root t ns (fault.Nodes kept) = ⊥
+RefusesPut k root t ns f = RefusesAll k root t ns f
 
 -- A node that may be replaced: it has a parent, is no root and none of the nodes, which may be put under its parent.
 pub record MayReplace (k : List Entry) (root : Owner → Option ℕ) (t n : ℕ) (ns : List ℕ) : Type 0 where
@@ -85,11 +91,10 @@ RefusesReplaceFirst k root n ns fault.TooDeep = (¬ IsNotReplaced k root n ns) �
 RefusesReplaceFirst k root n ns fault.Memory = ⊥
 RefusesReplaceFirst k root n ns (fault.Nodes kept) = ⊥
 
+-- When a node is not replaced. Memory may be wanted where nothing else is wrong.
 abbrev pub RefusesReplace : List Entry → (Owner → Option ℕ) → ℕ → List ℕ → PageFault → Type 0
-RefusesReplace k root n ns fault.NotInside = IsNotReplaced k root n ns
-RefusesReplace k root n ns fault.TooDeep = (¬ IsNotReplaced k root n ns) × ((t : ℕ) × ((at k n).parent ≡ Some t) × SomeNode ns (IsTooDeep k t))
 RefusesReplace k root n ns fault.Memory = (t : ℕ) × MayReplace k root t n ns
-RefusesReplace k root n ns (fault.Nodes kept) = ⊥
+RefusesReplace k root n ns f = RefusesReplaceFirst k root n ns f
 
 -- Nodes are put before a node, in order, and then it is taken from its parent.
 pub record IsReplaced (old new : List Entry) (t n : ℕ) (ns : List ℕ) : Type 0 where
@@ -106,6 +111,7 @@ abbrev pub HasNone : List (Option ℕ) → Owner → Type 0
 HasNone roots owner.Host = Unit {0}
 HasNone roots (owner.Widget w) = root_in roots (owner.Widget w) ≡ None
 
+-- the host, or a widget of which the page has no root
 abbrev pub HasNoRoot : Page → Owner → Type 0
 HasNoRoot p o = HasNone p.roots o
 

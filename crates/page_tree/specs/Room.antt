@@ -4,9 +4,11 @@ use Rattle.std.specs.declared.vec.Vec.{Vec}
 use Rattle.std.specs.declared.alloc.Global.{Global}
 use Rattle.page_tree.specs.declared.rows.Row.{Row}
 
+-- how many more numbers fit into a list without memory
 abbrev pub room_in : Vec ℕ Global → ℕ
 room_in v = vec_capacity v - vec_len v
 
+-- the room among the children of a node
 abbrev pub room_at : List Row → ℕ → ℕ
 room_at [] t = 0
 room_at (r ∷ rows) zero = room_in r.children

@@ -2,9 +2,9 @@
 ghost use Rattle.std.specs.Prelude.{◌≡◌, ℕ, ◌+◌, ◌<◌, ◌≤◌, ◌≢◌, ◌==◌, List, [], ◌∷◌, length, if◌then◌else◌, Some, None, max, MatchOption, MatchResult, true, false, take, OnOk, IfOk, slice_get};
 ghost use Rattle.page_tree.specs.Entries.{entries, at, body, body_entry, IsSound, tree, limit, label_of};
 ghost use Rattle.page_tree.specs.Room.{room_at};
-ghost use Rattle.page_tree.specs.Trees.{has, is_text};
-ghost use Rattle.page_tree.specs.Contents.{with_attribute};
-ghost use Rattle.page_tree.specs.Copies.{copied};
+ghost use Rattle.tree_ops.specs.Labels.{is_text, with_attribute};
+ghost use Rattle.tree_ops.specs.Trees.{has};
+ghost use Rattle.page_tree.specs.Copies.{taken};
 ghost use Rattle.plain_tree.specs.Plains.{unplaced};
 ghost use Rattle.page_tree.specs.Adds.{Older, IsAdded};
 ghost use Rattle.plain_tree.specs.Trees.{height, TextOf, End, Node};
@@ -31,12 +31,6 @@ const MOST: usize = 0x8000_0000;
 pub struct Arena {
     rows: Vec<Row>,
     ghost sound: { IsSound (entries rows.items) } by { Prim.hlevel props },
-}
-
-fn larger(a: u32, b: u32) -> u32
-    ensures { result ≡ max a b }
-{
-    if a < b { b } else { a }
 }
 
 impl Arena {
@@ -70,6 +64,14 @@ impl Arena {
         ensures { result.now.items ≡ (at (nodes_in self.now) node).children }
     {
         children_of(&self.rows, node)
+    }
+
+    /// The number of a node's children.
+    pub fn width(&self, node: u32) -> u32
+        requires { node < length (nodes_in self.now) }
+        ensures { result ≡ length (at (nodes_in self.now) node).children }
+    {
+        children_of(&self.rows, node).len() as u32
     }
 
     /// The owner of a node.
@@ -143,7 +145,7 @@ impl Arena {
         let children = children_of(&self.rows, node);
         let mut most = 0;
         'each: for child in children {
-            most = larger(most, self.height(*child));
+            most = most.max(self.height(*child));
         }
         most + 1
     }
@@ -253,7 +255,7 @@ impl Arena {
     /// The plain tree of a node, with or without its ids.
     pub fn plain_of(&self, alloc: Global, node: u32, ids: bool) -> Result<Plain, Memory>
         requires { node < length (nodes_in self.now) }
-        ensures { IfOk result (λ plain. unplaced plain ≡ copied ids (tree (nodes_in self.now) node)) }
+        ensures { IfOk result (λ plain. unplaced plain ≡ taken ids (tree (nodes_in self.now) node)) }
     {
         let mut plains = Vec::new(alloc);
         let children = children_of(&self.rows, node);
@@ -281,10 +283,8 @@ impl Arena {
         if id >= MOST {
             return Err(Memory);
         }
-        match push_node(&mut self.rows, alloc, owner, content) {
-            Ok(()) => Ok(id as u32),
-            Err(_) => Err(Memory),
-        }
+        push_node(&mut self.rows, alloc, owner, content)?;
+        Ok(id as u32)
     }
 
     // Puts a node without a parent behind the last child of another.
@@ -296,13 +296,9 @@ impl Arena {
             (λ _. IsLinked (nodes_in self.old) (nodes_in self.new) target None node)
             (λ _. nodes_in self.new ≡ nodes_in self.old) }
     {
-        match self.reserve(target, 1) {
-            Ok(()) => {
-                self.link(target, None, node);
-                Ok(())
-            }
-            Err(_) => Err(Memory),
-        }
+        self.reserve(target, 1)?;
+        self.link(target, None, node);
+        Ok(())
     }
 
     /// Adds a plain tree, with numbers from the next on in document order. After a refusal the older

@@ -1,9 +1,9 @@
 //! What a node is, read and changed.
 ghost use Rattle.std.specs.Prelude.{◌≡◌, ◌<◌, ◌≤◌, ℕ, length, true, false, codes, slice_get, option_copied, OnOk, OnErr, Some, None, MatchResult};
 ghost use Rattle.std.specs.Str.{bytes_eq};
-ghost use Rattle.page_tree.specs.Contents.{tag_of, text_of, attribute_of, with_value, without_value, with_attribute, IsNamed};
+ghost use Rattle.tree_ops.specs.Labels.{tag_of, text_of, attribute_of, with_value, without_value, with_attribute, is_text};
+ghost use Rattle.page_tree.specs.Contents.{IsNamed};
 ghost use Rattle.page_tree.specs.Entries.{label_of};
-ghost use Rattle.page_tree.specs.Trees.{is_text};
 ghost use Rattle.plain_tree.specs.Trees.{value_of};
 
 use crate::rows::Content;

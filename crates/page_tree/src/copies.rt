@@ -1,9 +1,9 @@
 //! What nodes are made of, as parts of plain trees.
 ghost use Rattle.std.specs.Prelude.{◌≡◌, ◌<◌, ◌≤◌, ◌+◌, [], ℕ, true, map, IfOk, MatchOption, MatchBool};
 ghost use Rattle.std.specs.List.{filter};
-ghost use Rattle.page_tree.specs.Copies.{is_copied, copied_label};
+ghost use Rattle.tree_ops.specs.Labels.{is_text};
+ghost use Rattle.page_tree.specs.Copies.{is_taken, taken_label};
 ghost use Rattle.page_tree.specs.Entries.{label_of};
-ghost use Rattle.page_tree.specs.Trees.{is_text};
 ghost use Rattle.plain_tree.specs.Trees.{ElementOf, End, Node, size, height};
 ghost use Rattle.plain_tree.specs.Plains.{attribute_of, unplaced, unplaced_all};
 
@@ -18,7 +18,7 @@ fn attributes_of(
     attributes: &Vec<(Text, Text)>,
     ids: bool,
 ) -> Result<Vec<Attr>, Memory>
-    ensures { IfOk result (λ attrs. map attribute_of attrs.items ≡ filter (is_copied ids) attributes.now.items) }
+    ensures { IfOk result (λ attrs. map attribute_of attrs.items ≡ filter (is_taken ids) attributes.now.items) }
 {
     let mut attrs = Vec::new(alloc);
     'each: for attribute in attributes {
@@ -42,7 +42,7 @@ pub fn plain_with(
     children: Vec<Plain>,
 ) -> Result<Plain, Memory>
     requires { is_text (label_of content.now) ≡ true → children.items ≡ [] }
-    ensures { IfOk result (λ plain. unplaced plain ≡ Node tt (copied_label ids (label_of content.now)) (unplaced_all children.items) End) }
+    ensures { IfOk result (λ plain. unplaced plain ≡ Node tt (taken_label ids (label_of content.now)) (unplaced_all children.items) End) }
 {
     match content {
         Content::Text(text) => Ok(Plain::Text {
@@ -89,10 +89,7 @@ pub fn room_after(plain: &Plain, room: u32) -> Option<u32>
     let mut left = room - 1;
     if let Plain::Element { children, .. } = plain {
         'each: for child in children {
-            match room_after(child, left) {
-                Some(rest) => left = rest,
-                None => return None,
-            }
+            left = room_after(child, left)?;
         }
     }
     Some(left)

@@ -5,12 +5,11 @@ ghost use Rattle.plain_tree.specs.Trees.{height};
 ghost use Rattle.plain_tree.specs.Plains.{unplaced};
 ghost use Rattle.page_tree.specs.Adds.{IsAdded, Older};
 ghost use Rattle.page_tree.specs.Arenas.{nodes_in};
-ghost use Rattle.page_tree.specs.Contents.{with_attribute};
+ghost use Rattle.tree_ops.specs.Labels.{with_attribute, is_text};
 ghost use Rattle.page_tree.specs.Entries.{AreOwners, at, limit};
 ghost use Rattle.page_tree.specs.Index.{IsIndex};
 ghost use Rattle.page_tree.specs.Moves.{IsRelabelled};
 ghost use Rattle.page_tree.specs.Owners.{is_owner};
-ghost use Rattle.page_tree.specs.Trees.{is_text};
 
 use crate::arena::Arena;
 use crate::content::id_of;

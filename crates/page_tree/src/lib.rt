@@ -15,4 +15,6 @@ mod slots;
 mod tests;
 
 pub use fault::PageFault;
+pub use links::is_number;
 pub use page::{NodeId, Page};
+pub use slots::same_owner;

@@ -1,8 +1,8 @@
 //! The links of the arena, without its invariants: each call writes one node.
 ghost use Rattle.std.specs.Prelude.{◌≡◌, ℕ, ◌+◌, ◌<◌, ◌≤◌, List, [], ◌∷◌, ◌++◌, length, Some, None, insert, slice_set, slice_index, slice_get, true, false, is_ok, ◌≢◌, OnOk, MatchResult};
 ghost use Rattle.page_tree.specs.Entries.{minus, before, listed, distinct, Entry, entries, at, label_of};
-ghost use Rattle.page_tree.specs.Trees.{is_number, is_text};
-ghost use Rattle.page_tree.specs.Contents.{with_attribute};
+ghost use Rattle.tree_ops.specs.Labels.{is_text, with_attribute};
+ghost use Rattle.tree_ops.specs.Trees.{is_number};
 ghost use Rattle.plain_tree.specs.Trees.{TextOf};
 ghost use Rattle.page_tree.specs.Room.{room_in, room_at};
 
@@ -177,10 +177,7 @@ pub fn push_node(
         children: Vec::new(alloc),
         content,
     };
-    match rows.push(row) {
-        Ok(()) => Ok(()),
-        Err(e) => Err(AllocError::from(e)),
-    }
+    Ok(rows.push(row)?)
 }
 
 /// Sets an attribute of an element, or takes it out. A refusal changes nothing.

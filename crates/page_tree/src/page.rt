@@ -2,15 +2,17 @@
 ghost use Rattle.std.specs.Prelude.{◌≡◌, ◌≢◌, ℕ, ◌+◌, ◌<◌, ◌≤◌, Some, None, true, [], ◌∷◌, IfOk, length, slice_get, option_copied, false, slice_index, slice_set, replicate, MatchBool, MatchResult, OnOk, OnErr, IfErr, Result, Ok, Err};
 ghost use Rattle.code_units.specs.declared.owner.Owner.TheVariants as owner;
 ghost use Rattle.page_tree.specs.Owners.{is_owner, same_owner, root_in};
-ghost use Rattle.page_tree.specs.Entries.{at, body, body_entry, tree, label_of};
-ghost use Rattle.page_tree.specs.Trees.{is_number, is_leaf, is_text};
+ghost use Rattle.page_tree.specs.Entries.{at, body, body_entry, tree, label_of, listed, distinct, limit};
+ghost use Rattle.tree_ops.specs.Labels.{is_leaf, is_text, tag_of, text_of, attribute_of, with_attribute};
+ghost use Rattle.code_units.specs.declared.owner.Owner.{Owner};
+ghost use Rattle.tree_ops.specs.Trees.{has, is_number};
 ghost use Rattle.page_tree.specs.Moves.{Detached, IsDepth, ArePut, IsLinked, IsSwapped, IsRelabelled, AreNodes, OthersStay};
-ghost use Rattle.page_tree.specs.Contents.{tag_of, text_of, attribute_of, with_attribute};
-ghost use Rattle.plain_tree.specs.Trees.{TextOf, unmarked, size};
+ghost use Rattle.plain_tree.specs.Trees.{TextOf, unmarked, size, height};
 ghost use Rattle.plain_tree.specs.Plains.{unplaced};
 ghost use Rattle.page_tree.specs.Counts.{IsCounted, count_of, most_of};
 ghost use Rattle.page_tree.specs.Adds.{IsAdded, OlderStay};
-ghost use Rattle.page_tree.specs.Copies.{copied};
+ghost use Rattle.code_units.specs.declared.owner.Owner.{Owner};
+ghost use Rattle.tree_ops.specs.Trees.{has, copied};
 ghost use Rattle.page_tree.specs.Arenas.{nodes_in};
 ghost use Rattle.page_tree.specs.Ids.{with_id};
 ghost use Rattle.page_tree.specs.Index.{IsIndex};
@@ -23,7 +25,7 @@ use crate::fault::PageFault;
 use crate::ids::Ids;
 use crate::links::is_number;
 use crate::rows::Content;
-use crate::slots::{OWNERS, slot_of};
+use crate::slots::{OWNERS, same_owner, slot_of};
 use crate::{content, index};
 use code_units::{Memory, Owner, Text};
 use plain_tree::{Plain, is_void};
@@ -75,17 +77,6 @@ fn most_of(owner: Owner) -> u32
     }
 }
 
-// Whether two owners are one.
-fn same_owner(one: Owner, other: Owner) -> bool
-    ensures { result ≡ same_owner one other }
-{
-    match (one, other) {
-        (Owner::Host, Owner::Host) => true,
-        (Owner::Widget(v), Owner::Widget(w)) => v == w,
-        _ => false,
-    }
-}
-
 // Whether a node takes no children: a text node or a void element.
 fn is_leaf(content: &Content) -> bool
     ensures { result ≡ is_leaf (label_of content.now) }
@@ -97,7 +88,7 @@ fn is_leaf(content: &Content) -> bool
 }
 
 impl Page {
-    ghost use Rattle.page_tree.specs.Pages.{nodes, root, IsInside, IsNotInside, IsLow, IsTooDeep, SomeNode, MayPutAll, RefusesAll, RefusesPut, MayReplace, RefusesReplaceFirst, RefusesReplace, Replaces, HasNoRoot, root_after, IsReplaced, MayAdd, RefusesAdd, RefusesCopy, HasHostRoom, SameRoots, BecomesRoot};
+    ghost use Rattle.page_tree.specs.Pages.{nodes, root, IsInside, IsNotInside, IsLow, IsTooDeep, SomeNode, MayPutAll, RefusesAll, RefusesPut, MayReplace, RefusesReplaceFirst, RefusesReplace, Replaces, HasNoRoot, root_after, IsReplaced, MayAdd, RefusesAdd, RefusesCopy, HasHostRoom, SameRoots, BecomesRoot, IsRoot};
 
     /// The page of the host's `body` alone.
     pub fn new(alloc: Global) -> Result<Page, Memory>
@@ -115,6 +106,23 @@ impl Page {
         })
     }
 
+    /// A law: the links from nodes to their children and to their parents agree, and what is below a
+    /// node has its owner, but under `body`. No node is below itself, and no chain of links that does
+    /// not begin at `body` is longer than 200. A root is its owner's and stands under `body` or has
+    /// no parent; of a widget nothing but its root stands under `body`.
+    pub fn links_agree(&self)
+        ensures down { (n c : ℕ) → listed c (at (nodes self.now) n).children ≡ true → (at (nodes self.now) c).parent ≡ Some n }
+        ensures upward { (n p : ℕ) → (at (nodes self.now) n).parent ≡ Some p → listed n (at (nodes self.now) p).children ≡ true }
+        ensures once { (n : ℕ) → distinct (at (nodes self.now) n).children ≡ true }
+        ensures owned { (n p : ℕ) → (at (nodes self.now) n).parent ≡ Some p → p ≢ body → (at (nodes self.now) n).owner ≡ (at (nodes self.now) p).owner }
+        ensures apart { (n p : ℕ) → (at (nodes self.now) n).parent ≡ Some p → has p (tree (nodes self.now) n) ≡ false }
+        ensures low { (n : ℕ) → n ≢ body → height (tree (nodes self.now) n) ≤ limit }
+        ensures roots { (o : Owner) (r : ℕ) → is_owner o ≡ true → root self.now o ≡ Some r → IsRoot (nodes self.now) o r }
+        ensures under { (n : ℕ) → (at (nodes self.now) n).parent ≡ Some body → (at (nodes self.now) n).owner ≢ owner.Host → root self.now (at (nodes self.now) n).owner ≡ Some n }
+    {
+        let _arena = &self.arena;
+    }
+
     /// The parent of a node.
     pub fn parent(&self, node: NodeId) -> Option<NodeId>
         requires { node < length (nodes self.now) }
@@ -124,19 +132,19 @@ impl Page {
     }
 
     /// The number of a node's children.
-    pub fn width(&self, node: NodeId) -> usize
+    pub fn width(&self, node: NodeId) -> u32
         requires { node < length (nodes self.now) }
         ensures { result ≡ length (at (nodes self.now) node).children }
     {
-        self.arena.children(node).len()
+        self.arena.width(node)
     }
 
     /// The child of a node at a place, from 0.
-    pub fn child(&self, node: NodeId, place: usize) -> Option<NodeId>
+    pub fn child(&self, node: NodeId, place: u32) -> Option<NodeId>
         requires { node < length (nodes self.now) }
         ensures { result ≡ slice_get (at (nodes self.now) node).children place }
     {
-        self.arena.children(node).get(place).copied()
+        self.arena.children(node).get(place as usize).copied()
     }
 
     /// The owner of a node.
@@ -271,13 +279,11 @@ impl Page {
         if self.is_root(node) || news.contains(&node) {
             return Err(PageFault::NotInside);
         }
-        match self.arena.parent(node) {
-            Some(parent) => match self.may_put_all(parent, news) {
-                Ok(()) => Ok(parent),
-                Err(fault) => Err(fault),
-            },
-            None => Err(PageFault::NotInside),
-        }
+        let Some(parent) = self.arena.parent(node) else {
+            return Err(PageFault::NotInside);
+        };
+        self.may_put_all(parent, news)?;
+        Ok(parent)
     }
 
     /// Puts nodes in the place of a node, in order, each taken from where it was; the node then has
@@ -411,10 +417,11 @@ impl Page {
         self.ids.get(slot_of(owner), id)
     }
 
-    /// How many nodes an owner has made.
+    /// How many nodes an owner has made: a widget 16,384 at most.
     pub fn made(&self, owner: Owner) -> u32
         requires { is_owner owner ≡ true }
-        ensures { result ≡ count_of owner (nodes self.now) }
+        ensures exact { result ≡ count_of owner (nodes self.now) }
+        ensures few { result ≤ most_of owner }
     {
         self.made[slot_of(owner)]
     }
@@ -443,9 +450,8 @@ impl Page {
             return Err(PageFault::TooDeep);
         }
         let kept = self.made[slot_of(owner)];
-        let left = match room_after(plain, most_of(owner) - kept) {
-            Some(left) => left,
-            None => return Err(PageFault::Nodes { kept }),
+        let Some(left) = room_after(plain, most_of(owner) - kept) else {
+            return Err(PageFault::Nodes { kept });
         };
         let id = index::add(&mut self.arena, &mut self.ids, alloc, owner, plain)?;
         self.made[slot_of(owner)] = most_of(owner) - left;
@@ -457,17 +463,15 @@ impl Page {
     pub fn copy(&mut self, alloc: Global, node: NodeId) -> Result<NodeId, PageFault>
         requires node { node < length (nodes self.old) }
         requires widget { same_owner (at (nodes self.old) node).owner owner.Host ≡ false }
-        ensures allowed { OnOk result (MayAdd (nodes self.old) (at (nodes self.old) node).owner (copied false (tree (nodes self.old) node))) }
-        ensures done { IfOk result (λ id. IsAdded (nodes self.old) (nodes self.new) id (at (nodes self.old) node).owner (copied false (tree (nodes self.old) node))) }
-        ensures refused { IfErr result (RefusesCopy (nodes self.old) (at (nodes self.old) node).owner (copied false (tree (nodes self.old) node))) }
+        ensures allowed { OnOk result (MayAdd (nodes self.old) (at (nodes self.old) node).owner (unmarked (copied (tree (nodes self.old) node)))) }
+        ensures done { IfOk result (λ id. IsAdded (nodes self.old) (nodes self.new) id (at (nodes self.old) node).owner (unmarked (copied (tree (nodes self.old) node)))) }
+        ensures refused { IfErr result (RefusesCopy (nodes self.old) (at (nodes self.old) node).owner (unmarked (copied (tree (nodes self.old) node)))) }
         ensures unchanged { OnErr result (nodes self.new ≡ nodes self.old) }
         ensures others { OlderStay (nodes self.old) (nodes self.new) }
         ensures roots { SameRoots self.old self.new }
     {
         let owner = self.arena.owner(node);
-        match self.arena.plain_of(alloc, node, false) {
-            Ok(plain) => self.add(alloc, owner, &plain),
-            Err(_) => Err(PageFault::Memory),
-        }
+        let plain = self.arena.plain_of(alloc, node, false)?;
+        self.add(alloc, owner, &plain)
     }
 }

@@ -1,11 +1,22 @@
-//! The places of owners in tables.
+//! Owners, and their places in tables.
 ghost use Rattle.std.specs.Prelude.{◌≡◌, ◌<◌, true};
-ghost use Rattle.page_tree.specs.Owners.{is_owner, slot};
+ghost use Rattle.page_tree.specs.Owners.{is_owner, same_owner, slot};
 
 use code_units::Owner;
 
 /// The widgets, and the host behind them.
 pub const OWNERS: usize = 33;
+
+/// Whether two owners are one.
+pub fn same_owner(one: Owner, other: Owner) -> bool
+    ensures { result ≡ same_owner one other }
+{
+    match (one, other) {
+        (Owner::Host, Owner::Host) => true,
+        (Owner::Widget(v), Owner::Widget(w)) => v == w,
+        _ => false,
+    }
+}
 
 /// The place of an owner in a table.
 pub fn slot_of(owner: Owner) -> usize

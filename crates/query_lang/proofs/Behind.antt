@@ -7,27 +7,20 @@ use Rattle.std.specs.Prelude.{IfOk, Result, Ok, Err}
 use Rattle.page_tree.specs.declared.page.Page.{Page}
 use Rattle.page_tree.specs.Entries.{Entry, at, listed, distinct}
 use Rattle.page_tree.specs.Pages.{nodes}
-use Rattle.page_tree.specs.Trees.{is_number}
+use Rattle.tree_ops.specs.Trees.{is_number}
 use Rattle.page_tree.proofs.Upward.{parent_in}
-use Rattle.query_lang.specs.declared.query.Hunter.TheVariants as hunter
+use Rattle.query_grammar.specs.declared.query.Hunter.TheVariants as hunter
 use Rattle.query_lang.specs.Nodes.{is_element}
-use Rattle.query_lang.specs.Finds.{has_number, after_number, element_behind, next_element, is_tagged, hunted}
-use Rattle.query_lang.specs.Walks.{AreNodes, parent_within, is_start, next_ones}
+use Rattle.query_lang.specs.Finds.{links, is_tagged, hunted, parent_within}
+use Rattle.query_grammar.specs.Finds.{has_number, after_number, element_behind, next_element}
+use Rattle.query_lang.specs.Walks.{AreNodes, is_start, next_ones}
 use Rattle.query_lang.proofs.Downward.{sound, filter-append}
-use Rattle.query_lang.proofs.Ordered.{has_both, has_first, kept_is, from_piece}
-use Rattle.query_lang.proofs.Truths.{and_parts, and_made, not_true, or_left, or_right, none_some}
-
-no_true : false ≡ true → ⊥
-no_true e = cc
+use Rattle.query_grammar.proofs.Numbers.{has_both, has_first, kept_is, from_piece}
+use Rattle.query_grammar.proofs.Truths.{no_true, same_truth, and_parts, and_made, not_true, or_left, or_right, none_some}
 
 or_all : (a : Bool) → (a || true) ≡ true
 or_all true = refl
 or_all false = refl
-
-pub alike : (a b : Bool) → (a ≡ true → b ≡ true) → (b ≡ true → a ≡ true) → a ≡ b
-alike true b f g = sym (f refl)
-alike false true f g = g refl
-alike false false f g = refl
 
 -- ## Lists
 
@@ -172,13 +165,6 @@ module _ (k : List Entry) (t : ℕ → Bool) where
 
 -- ## The pages
 
-next_is : (k : List Entry) (r : Option ℕ) (n : ℕ) → next_element k r n ≡ element_behind k (parent_within k r n) n
-next_is k r n = by_test (is_number n r)
-  where
-    by_test : (b : Bool) → cond b [] (element_behind k (at k n).parent n) ≡ element_behind k (cond b None (at k n).parent) n
-    by_test true = refl
-    by_test false = refl
-
 no_root : (k : List Entry) (r : Option ℕ) (n m : ℕ) → parent_within k r n ≡ Some m → (is_number n r ≡ false) × ((at k n).parent ≡ Some m)
 no_root k r n m h = by_test (is_number n r) h
   where
@@ -218,23 +204,23 @@ module _ (p : Page) (r : Option ℕ) (starts parents : List ℕ) (ups : HasParen
         (λ w. found (q.0) (w.0) x (w.1) (w.2) (w.3) (kept_passes (is_tagged k tag) ones x (q.2)))
         (next_from k (is_start r marks) x (at k (q.0)).children false ((sound p).once (q.0)) (kept_is (is_tagged k tag) ones x (q.2)))
       where
-        found : (m s x : ℕ) → is_start r marks s ≡ true → listed s (at (nodes p) m).children ≡ true → has_number (element_behind (nodes p) (Some m) s) x ≡ true → is_tagged (nodes p) tag x ≡ true → has_number (flat_map (hunted (nodes p) r (hunter.Next tag)) starts) x ≡ true
+        found : (m s x : ℕ) → is_start r marks s ≡ true → listed s (at (nodes p) m).children ≡ true → has_number (element_behind (links (nodes p) r) (Some m) s) x ≡ true → is_tagged (nodes p) tag x ≡ true → has_number (flat_map (hunted (nodes p) r (hunter.Next tag)) starts) x ≡ true
         found m s x st l b tagged =
             let k = nodes p in
             let both = and_parts (has_number marks s) (not (is_number s r)) st in
             let up : parent_within k r s ≡ Some m = ap (λ b. cond b None (at k s).parent) (not_true (is_number s r) (both.1)) ∙ (sound p).down m s l in
             to_piece (hunted k r (hunter.Next tag)) starts s x (sym (same s) ∙ both.0)
-            (keeps (is_tagged k tag) (next_element k r s) x (ap (λ y. has_number y x) (next_is k r s ∙ ap (λ u. element_behind k u s) up) ∙ b) tagged)
+            (keeps (is_tagged k tag) (next_element (links k r) s) x (ap (λ u. has_number (element_behind (links k r) u s) x) up ∙ b) tagged)
 
     back : (x : ℕ) → has_number (flat_map (hunted (nodes p) r (hunter.Next tag)) starts) x ≡ true → has_number (flat_map (taken p r marks tag) parents) x ≡ true
     back x h =
         let k = nodes p in
         let q = from_piece (hunted k r (hunter.Next tag)) starts x h in
         found (q.0) (parent_within k r (q.0)) refl (q.1)
-        (ap (λ y. has_number y x) (sym (next_is k r (q.0))) ∙ kept_is (is_tagged k tag) (next_element k r (q.0)) x (q.2))
-        (kept_passes (is_tagged k tag) (next_element k r (q.0)) x (q.2))
+        (kept_is (is_tagged k tag) (next_element (links k r) (q.0)) x (q.2))
+        (kept_passes (is_tagged k tag) (next_element (links k r) (q.0)) x (q.2))
       where
-        found : (s : ℕ) (u : Option ℕ) → parent_within (nodes p) r s ≡ u → has_number starts s ≡ true → has_number (element_behind (nodes p) u s) x ≡ true → is_tagged (nodes p) tag x ≡ true → has_number (flat_map (taken p r marks tag) parents) x ≡ true
+        found : (s : ℕ) (u : Option ℕ) → parent_within (nodes p) r s ≡ u → has_number starts s ≡ true → has_number (element_behind (links (nodes p) r) u s) x ≡ true → is_tagged (nodes p) tag x ≡ true → has_number (flat_map (taken p r marks tag) parents) x ≡ true
         found s None e st b tagged = absurd (no_true b)
         found s (Some m) e st b tagged =
             let k = nodes p in
@@ -244,7 +230,7 @@ module _ (p : Page) (r : Option ℕ) (starts parents : List ℕ) (ups : HasParen
             (keeps (is_tagged k tag) (next_ones k (is_start r marks) false (at k m).children) x (next_has k (is_start r marks) s x (at k m).children false start b) tagged)
 
     pub same_next : (found : List ℕ) → found ≡ flat_map (taken p r marks tag) parents → (x : ℕ) → has_number found x ≡ has_number (flat_map (hunted (nodes p) r (hunter.Next tag)) starts) x
-    same_next found e x = ap (λ l. has_number l x) e ∙ alike _ _ (forth x) (back x)
+    same_next found e x = ap (λ l. has_number l x) e ∙ same_truth _ _ (forth x) (back x)
 
 -- ## Results
 

@@ -6,7 +6,7 @@ use Rattle.std.proofs.lemmas.List.Splits.{slice_split_first}
 use Rattle.std.specs.Prelude.{◌==◌}
 use Rattle.std.specs.List.{list_any, onto_first, position_or_len}
 use Rattle.std.specs.Str.{bytes_eq}
-use Rattle.query_lang.specs.Nodes.{words}
+use Rattle.query_grammar.specs.Filters.{words}
 
 abbrev is_space : ℕ → Bool
 is_space u = u == 32

@@ -11,7 +11,8 @@ use Rattle.page_tree.specs.Pages.{nodes}
 use Rattle.page_tree.specs.Roots.{IsRooted}
 use Rattle.page_tree.proofs.Shows.{Shows, none, one_more, shows_one, shows_tree}
 use Rattle.page_tree.proofs.Walk.{listed_at, child_in, child_lower}
-use Rattle.query_lang.specs.Finds.{numbers, within, below}
+use Rattle.query_lang.specs.Finds.{within, below}
+use Rattle.tree_ops.specs.Trees.{numbers}
 
 -- ## Pages
 

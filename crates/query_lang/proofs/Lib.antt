@@ -1,16 +1,11 @@
 pub mod Behind
 pub mod Between
-pub mod Complete
 pub mod Cuts
 pub mod Downward
-pub mod Exact
-pub mod Keywords
 pub mod Marked
 pub mod Members
 pub mod Ordered
 pub mod Reading
 pub mod Rising
 pub mod Siblings
-pub mod Sound
-pub mod Truths
 pub mod WithId

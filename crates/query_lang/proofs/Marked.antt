@@ -8,9 +8,10 @@ use Rattle.page_tree.specs.Entries.{at}
 use Rattle.page_tree.specs.Pages.{nodes}
 use Rattle.page_tree.proofs.Walk.{some_is_same}
 use Rattle.page_tree.proofs.Upward.{none_some}
-use Rattle.query_lang.specs.Finds.{has_number}
+use Rattle.query_grammar.specs.Finds.{has_number}
 use Rattle.query_lang.specs.Walks.{AreNodes, IsClosed, AreTops}
-use Rattle.query_lang.proofs.Ordered.{IsClosedBut, has_added, has_both}
+use Rattle.query_lang.proofs.Ordered.{IsClosedBut, has_added}
+use Rattle.query_grammar.proofs.Numbers.{has_both}
 
 no_true : false ≡ true → ⊥
 no_true e = cc

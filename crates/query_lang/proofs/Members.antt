@@ -1,57 +1,29 @@
 -- What is found are nodes.
-use Rattle.std.proofs.Common.{◌≡◌, ℕ, zero, suc, ◌+◌, ◌<◌, List, [], ◌∷◌, Bool, true, false, ◌||◌, refl, sym, ap, ◌∙◌, subst, length, take, drop, map, get_or, cond, arith, eqb, eqb-true, Some, None, Option, ⊎_elim}
+use Rattle.std.proofs.Common.{◌≡◌, ℕ, zero, suc, ◌+◌, ◌<◌, List, [], ◌∷◌, true, false, refl, sym, ap, ◌∙◌, subst, length, drop, get_or, arith, eqb, eqb-true, Some, None, Option, ⊎_elim}
 use Rattle.std.proofs.lemmas.Bool.{or_cases}
 use Rattle.std.proofs.lemmas.List.{at_drop_more}
-use Rattle.std.specs.Prelude.{option_to_list, slice_get, ◌==◌, ◌%◌}
-use Rattle.std.specs.List.{filter, flat_map, range_with_len, enumerate_from}
+use Rattle.std.specs.Prelude.{option_to_list, slice_get}
+use Rattle.std.specs.List.{filter, flat_map, range_with_len}
 use Rattle.code_units.specs.declared.owner.Owner.{Owner}
 use Rattle.page_tree.specs.declared.page.Page.{Page}
 use Rattle.page_tree.specs.Owners.{is_owner}
 use Rattle.page_tree.specs.Entries.{Entry, at}
 use Rattle.page_tree.specs.Pages.{nodes, root}
-use Rattle.page_tree.specs.Trees.{is_number}
 use Rattle.page_tree.proofs.Walk.{child_in}
-use Rattle.query_lang.specs.declared.query.Hunter.{Hunter}
-use Rattle.query_lang.specs.declared.query.Hunter.TheVariants as hunter
-use Rattle.query_lang.specs.declared.query.ListFilter.{ListFilter}
-use Rattle.query_lang.specs.declared.query.ListFilter.TheVariants as on_list
-use Rattle.query_lang.specs.declared.query.StepFilter.{StepFilter}
-use Rattle.query_lang.specs.declared.query.StepFilter.TheVariants as kind
-use Rattle.query_lang.specs.Steps.{Step}
-use Rattle.query_lang.specs.Nodes.{is_element, passes}
-use Rattle.query_lang.specs.Finds.{within, below, after_number, element_behind, next_element, is_tagged, has_id, hunted, has_number, is_loose, tops, document, in_order, sifted, filtered, all_filtered, finds_in, finds}
+use Rattle.query_grammar.specs.declared.query.Hunter.{Hunter}
+use Rattle.query_grammar.specs.declared.query.Hunter.TheVariants as hunter
+use Rattle.query_grammar.specs.declared.query.StepFilter.{StepFilter}
+use Rattle.query_grammar.specs.Steps.{Step}
+use Rattle.query_lang.specs.Nodes.{look, is_element}
+use Rattle.query_lang.specs.Finds.{within, below, parent_within, links, is_tagged, has_id, hunted, is_loose, tops, document, in_order, filtered, all_filtered, sight, finds}
+use Rattle.query_grammar.specs.Finds.{after_number, has_number, element_behind, next_element}
 use Rattle.query_lang.specs.Walks.{AreNodes, HaveSame}
 use Rattle.query_lang.proofs.Downward.{sound, rooted}
-use Rattle.query_lang.proofs.Ordered.{has_listed, has_both, has_first, has_at, kept_is, from_piece, none_pass, same_filter, in_tree_node}
-
-no_true : false ≡ true → ⊥
-no_true e = cc
-
-or_right : (a b : Bool) → b ≡ true → (a || b) ≡ true
-or_right true b h = refl
-or_right false b h = h
-
-or_left : (a b : Bool) → a ≡ true → (a || b) ≡ true
-or_left true b h = refl
-or_left false b h = cc
-
-taken_is : (i : ℕ) (ns : List ℕ) (x : ℕ) → has_number (take i ns) x ≡ true → has_number ns x ≡ true
-taken_is zero ns x h = absurd (no_true h)
-taken_is (suc i) [] x h = h
-taken_is (suc i) (n ∷ ns) x h = ⊎_elim (λ e. or_left (eqb x n) (has_number ns x) e) (λ e. or_right (eqb x n) (has_number ns x) (taken_is i ns x e)) (or_cases (eqb x n) (has_number (take i ns) x) h)
-
-left_is : (i : ℕ) (ns : List ℕ) (x : ℕ) → has_number (drop i ns) x ≡ true → has_number ns x ≡ true
-left_is zero ns x h = h
-left_is (suc i) [] x h = h
-left_is (suc i) (n ∷ ns) x h = or_right (eqb x n) (has_number ns x) (left_is i ns x h)
-
-behind_is : (n : ℕ) (ns : List ℕ) (x : ℕ) → has_number (after_number n ns) x ≡ true → has_number ns x ≡ true
-behind_is n [] x h = h
-behind_is n (m ∷ ns) x h = by_test (eqb m n) (λ e. behind_is n ns x e) h
-  where
-    by_test : (b : Bool) → (has_number (after_number n ns) x ≡ true → has_number ns x ≡ true) → has_number (cond b ns (after_number n ns)) x ≡ true → has_number (m ∷ ns) x ≡ true
-    by_test true more h = or_right (eqb x m) (has_number ns x) h
-    by_test false more h = or_right (eqb x m) (has_number ns x) (more h)
+use Rattle.query_lang.proofs.Ordered.{has_listed, same_filter, in_tree_node}
+use Rattle.query_grammar.proofs.Kept as query
+use Rattle.query_grammar.proofs.Kept.{filtered_is, all_filtered_is}
+use Rattle.query_grammar.proofs.Numbers.{has_both, has_first, has_at, kept_is, from_piece, taken_is, behind_is}
+use Rattle.query_grammar.proofs.Truths.{no_true}
 
 -- ## Hunters
 
@@ -62,24 +34,20 @@ module _ (p : Page) where
   below_nodes : (n x : ℕ) → has_number (below (nodes p) n) x ≡ true → x < length (nodes p)
   below_nodes n x h = let q = from_piece (within (nodes p)) (at (nodes p) n).children x h in in_tree_node (nodes p) (sound p) x (q.0) (child_nodes n (q.0) (q.1)) (q.2)
 
-  behind_nodes : (u : Option ℕ) (n x : ℕ) → has_number (element_behind (nodes p) u n) x ≡ true → x < length (nodes p)
-  behind_nodes None n x h = absurd (no_true h)
-  behind_nodes (Some q) n x h =
+  behind_nodes : (r u : Option ℕ) (n x : ℕ) → has_number (element_behind (links (nodes p) r) u n) x ≡ true → x < length (nodes p)
+  behind_nodes r None n x h = absurd (no_true h)
+  behind_nodes r (Some q) n x h =
       let rest = after_number n (at (nodes p) q).children in
       child_nodes q x (behind_is n (at (nodes p) q).children x (kept_is (is_element (nodes p)) rest x (taken_is 1 (filter (is_element (nodes p)) rest) x h)))
 
-  next_nodes : (r : Option ℕ) (n x : ℕ) → has_number (next_element (nodes p) r n) x ≡ true → x < length (nodes p)
-  next_nodes r n x h = by_test (is_number n r) h
-    where
-      by_test : (b : Bool) → has_number (cond b [] (element_behind (nodes p) (at (nodes p) n).parent n)) x ≡ true → x < length (nodes p)
-      by_test true h = absurd (no_true h)
-      by_test false h = behind_nodes (at (nodes p) n).parent n x h
+  next_nodes : (r : Option ℕ) (n x : ℕ) → has_number (next_element (links (nodes p) r) n) x ≡ true → x < length (nodes p)
+  next_nodes r n x h = behind_nodes r (parent_within (nodes p) r n) n x h
 
   hunted_nodes : (r : Option ℕ) (h : Hunter) (n x : ℕ) → has_number (hunted (nodes p) r h n) x ≡ true → x < length (nodes p)
   hunted_nodes r (hunter.Tag tag) n x h = below_nodes n x (kept_is (is_tagged (nodes p) tag) (below (nodes p) n) x h)
   hunted_nodes r (hunter.Id w) n x h = below_nodes n x (kept_is (has_id (nodes p) w) (below (nodes p) n) x h)
   hunted_nodes r (hunter.Child tag) n x h = child_nodes n x (kept_is (is_tagged (nodes p) tag) (at (nodes p) n).children x h)
-  hunted_nodes r (hunter.Next tag) n x h = next_nodes r n x (kept_is (is_tagged (nodes p) tag) (next_element (nodes p) r n) x h)
+  hunted_nodes r (hunter.Next tag) n x h = next_nodes r n x (kept_is (is_tagged (nodes p) tag) (next_element (links (nodes p) r) n) x h)
   hunted_nodes r hunter.Children n x h = child_nodes n x (kept_is (is_element (nodes p)) (at (nodes p) n).children x h)
   hunted_nodes r hunter.All n x h = below_nodes n x (kept_is (is_element (nodes p)) (below (nodes p) n) x h)
 
@@ -131,57 +99,20 @@ step_same p o focus h fs s starts found list eh ef same el =
 
 -- ## Filters
 
-placed_is : (r i : ℕ) (ns : List ℕ) (x : ℕ) → has_number (map (λ q. q.1) (filter (λ q. q.0 % 2 == r) (enumerate_from i ns))) x ≡ true → has_number ns x ≡ true
-placed_is r i [] x h = h
-placed_is r i (n ∷ ns) x h = by_test (i % 2 == r) (λ e. placed_is r (i + 1) ns x e) h
-  where
-    by_test : (b : Bool) → (has_number (map (λ q. q.1) (filter (λ q. q.0 % 2 == r) (enumerate_from (i + 1) ns))) x ≡ true → has_number ns x ≡ true) → has_number (map (λ q. q.1) (cond b ((i, n) ∷ filter (λ q. q.0 % 2 == r) (enumerate_from (i + 1) ns)) (filter (λ q. q.0 % 2 == r) (enumerate_from (i + 1) ns)))) x ≡ true → has_number (n ∷ ns) x ≡ true
-    by_test true more h = ⊎_elim (λ e. or_left (eqb x n) (has_number ns x) e) (λ e. or_right (eqb x n) (has_number ns x) (more e)) (or_cases (eqb x n) _ h)
-    by_test false more h = or_right (eqb x n) (has_number ns x) (more h)
-
-sifted_is : (f : ListFilter) (ns : List ℕ) (x : ℕ) → has_number (sifted f ns) x ≡ true → has_number ns x ≡ true
-sifted_is on_list.First ns x h = taken_is 1 ns x h
-sifted_is on_list.Rest ns x h = left_is 1 ns x h
-sifted_is on_list.Even ns x h = placed_is 0 0 ns x h
-sifted_is on_list.Odd ns x h = placed_is 1 0 ns x h
-
-filtered_is : (k : List Entry) (focus : Option ℕ) (f : StepFilter) (ns : List ℕ) (x : ℕ) → has_number (filtered k focus f ns) x ≡ true → has_number ns x ≡ true
-filtered_is k focus (kind.Node f) ns x h = kept_is (passes k focus f) ns x h
-filtered_is k focus (kind.List f) ns x h = sifted_is f ns x h
-
-all_filtered_is : (k : List Entry) (focus : Option ℕ) (fs : List StepFilter) (ns : List ℕ) (x : ℕ) → has_number (all_filtered k focus fs ns) x ≡ true → has_number ns x ≡ true
-all_filtered_is k focus [] ns x h = h
-all_filtered_is k focus (f ∷ fs) ns x h = filtered_is k focus f ns x (all_filtered_is k focus fs (filtered k focus f ns) x h)
-
 pub filter_nodes : (p : Page) (focus : Option ℕ) (f : StepFilter) (ns list : List ℕ) → AreNodes p ns → list ≡ filtered (nodes p) focus f ns → AreNodes p list
-filter_nodes p focus f ns list h e x there = h x (filtered_is (nodes p) focus f ns x (sym (ap (λ l. has_number l x) e) ∙ there))
+filter_nodes p focus f ns list h e x there = h x (filtered_is (look (nodes p)) focus f ns x (sym (ap (λ l. has_number l x) e) ∙ there))
 
 pub step_nodes : (p : Page) (o : Owner) → is_owner o ≡ true → (focus : Option ℕ) (fs : List StepFilter) (ns list : List ℕ) → list ≡ all_filtered (nodes p) focus fs (in_order (nodes p) (root p o) o ns) → AreNodes p list
 step_nodes p o own focus fs ns list e x there =
-    ordered_nodes p o own ns x (all_filtered_is (nodes p) focus fs (in_order (nodes p) (root p o) o ns) x (sym (ap (λ l. has_number l x) e) ∙ there))
+    ordered_nodes p o own ns x (all_filtered_is (look (nodes p)) focus fs (in_order (nodes p) (root p o) o ns) x (sym (ap (λ l. has_number l x) e) ∙ there))
 
 pub node_at : (p : Page) (ns : List ℕ) (i d : ℕ) → AreNodes p ns → i < length ns → get_or ns i d < length (nodes p)
 node_at p ns i d h lt = h (get_or ns i d) (has_at ns i d lt)
 
 -- ## No starts
 
-none_filtered : (k : List Entry) (focus : Option ℕ) (fs : List StepFilter) → all_filtered k focus fs [] ≡ []
-none_filtered k focus [] = refl
-none_filtered k focus (kind.Node f ∷ fs) = none_filtered k focus fs
-none_filtered k focus (kind.List on_list.First ∷ fs) = none_filtered k focus fs
-none_filtered k focus (kind.List on_list.Rest ∷ fs) = none_filtered k focus fs
-none_filtered k focus (kind.List on_list.Even ∷ fs) = none_filtered k focus fs
-none_filtered k focus (kind.List on_list.Odd ∷ fs) = none_filtered k focus fs
-
-none_found : (k : List Entry) (r : Option ℕ) (o : Owner) (focus : Option ℕ) (q : List Step) → finds_in k r o focus [] q ≡ []
-none_found k r o focus [] = refl
-none_found k r o focus (s ∷ q) =
-    ap (λ l. finds_in k r o focus (all_filtered k focus s.filters l) q) (none_pass (has_number []) (document k r o) (λ x h. refl))
-    ∙ ap (λ l. finds_in k r o focus l q) (none_filtered k focus s.filters)
-    ∙ none_found k r o focus q
-
 pub finds_none : (p : Page) (o : Owner) (focus : Option ℕ) (q : List Step) → finds p o focus [] q ≡ []
-finds_none p o focus q = none_found (nodes p) (root p o) o focus q
+finds_none p o focus q = query.finds_none (sight p o focus) q
 
 -- ## Steps and filters, one by one
 

@@ -1,28 +1,28 @@
 -- Nodes in document order.
-use Rattle.std.proofs.Common.{◌≡◌, ℕ, zero, suc, ◌+◌, ◌-◌, ◌<◌, ◌≤◌, List, [], ◌∷◌, ◌++◌, Bool, true, false, not, ◌&&◌, ◌||◌, refl, sym, ap, ◌∙◌, subst, length, get_or, cond, arith, eqb, eqb-true, eq-eqb, nat_eq, Some, ◌⊎◌, inl, inr, ⊎_elim}
+use Rattle.std.proofs.Common.{◌≡◌, ℕ, zero, suc, ◌+◌, ◌-◌, ◌<◌, ◌≤◌, List, [], ◌∷◌, ◌++◌, Bool, true, false, not, ◌&&◌, ◌||◌, refl, sym, ap, ◌∙◌, subst, length, cond, arith, eqb, eqb-true, eq-eqb, Some, ◌⊎◌, inl, inr, ⊎_elim}
 use Rattle.std.proofs.lemmas.Bool.{or_cases, and_parts, cases_Bool, cases_lt}
 use Rattle.std.proofs.lemmas.List.{get_or_past}
-use Rattle.std.proofs.lemmas.List.Folds.{list_any-append}
 use Rattle.std.proofs.lemmas.Grind.{flat_map-append}
 use Rattle.std.specs.Prelude.{is_some, option_to_list}
 use Rattle.std.specs.List.{filter, flat_map, range_with_len}
 use Rattle.code_units.specs.declared.owner.Owner.{Owner}
 use Rattle.plain_tree.specs.Trees.{Trees, End, Node, height}
 use Rattle.page_tree.specs.declared.page.Page.{Page}
-use Rattle.page_tree.specs.Trees.{has}
+use Rattle.tree_ops.specs.Trees.{has}
 use Rattle.page_tree.specs.Entries.{Entry, at, listed, tree, limit, IsSound, no_entry}
 use Rattle.page_tree.specs.Pages.{nodes, root}
 use Rattle.page_tree.proofs.Shows.{shows_tree}
 use Rattle.page_tree.proofs.Upward.{has_parent, none_some}
 use Rattle.page_tree.proofs.Walk.{nearer}
-use Rattle.query_lang.specs.Finds.{numbers, within, has_number, is_loose, in_order, document, tops}
+use Rattle.query_lang.specs.Finds.{within, is_loose, in_order, document, tops}
+use Rattle.query_grammar.specs.Finds.{has_number}
+use Rattle.tree_ops.specs.Trees.{numbers}
 use Rattle.query_lang.specs.Walks.{AreNodes, IsClosed, AreTops, RiseFrom}
+use Rattle.query_grammar.proofs.Numbers.{has_both, has_first, none_pass}
+use Rattle.query_grammar.proofs.Truths.{no_true, or_right}
 use Rattle.query_lang.proofs.Downward.{sound, filter-append}
 
 -- ## Numbers in lists
-
-no_true : false ≡ true → ⊥
-no_true e = cc
 
 turned : (a b : ℕ) → eqb a b ≡ eqb b a
 turned a b = ⊎_elim
@@ -33,49 +33,6 @@ turned a b = ⊎_elim
 pub has_listed : (n : ℕ) (ns : List ℕ) → has_number ns n ≡ listed n ns
 has_listed n [] = refl
 has_listed n (m ∷ ns) = ap (λ b. b || has_number ns n) (turned n m) ∙ ap (λ b. eqb m n || b) (has_listed n ns)
-
-pub has_both : (n : ℕ) (xs ys : List ℕ) → has_number (xs ++ ys) n ≡ (has_number xs n || has_number ys n)
-has_both n xs ys = list_any-append (nat_eq n) xs ys
-
-or_left : (a b : Bool) → a ≡ true → (a || b) ≡ true
-or_left true b h = refl
-or_left false b h = cc
-
-or_right : (a b : Bool) → b ≡ true → (a || b) ≡ true
-or_right true b h = refl
-or_right false b h = h
-
-pub has_first : (n : ℕ) (ns : List ℕ) → has_number (n ∷ ns) n ≡ true
-has_first n ns = or_left (eqb n n) (has_number ns n) (eq-eqb n n refl)
-
-pub has_at : (ns : List ℕ) (i d : ℕ) → i < length ns → has_number ns (get_or ns i d) ≡ true
-has_at [] i d lt = absurd (omega (arith, lt))
-has_at (n ∷ ns) zero d lt = has_first n ns
-has_at (n ∷ ns) (suc i) d lt = or_right (eqb (get_or ns i d) n) (has_number ns (get_or ns i d)) (has_at ns i d (omega (arith, lt)))
-
--- what a test keeps was there
-pub kept_is : (t : ℕ → Bool) (ns : List ℕ) (x : ℕ) → has_number (filter t ns) x ≡ true → has_number ns x ≡ true
-kept_is t [] x h = h
-kept_is t (n ∷ ns) x h = by_test (t n) (λ e. kept_is t ns x e) h
-  where
-    by_test : (b : Bool) → (has_number (filter t ns) x ≡ true → has_number ns x ≡ true) → has_number (cond b (n ∷ filter t ns) (filter t ns)) x ≡ true → has_number (n ∷ ns) x ≡ true
-    by_test true more h = ⊎_elim (λ e. or_left (eqb x n) (has_number ns x) e) (λ e. or_right (eqb x n) (has_number ns x) (more e)) (or_cases (eqb x n) (has_number (filter t ns) x) h)
-    by_test false more h = or_right (eqb x n) (has_number ns x) (more h)
-
--- where the piece of a number comes from
-pub from_piece : (f : ℕ → List ℕ) (ns : List ℕ) (x : ℕ) → has_number (flat_map f ns) x ≡ true → (n : ℕ) × (has_number ns n ≡ true) × (has_number (f n) x ≡ true)
-from_piece f [] x h = cc
-from_piece f (n ∷ ns) x h = ⊎_elim
-    (λ e. (n, has_first n ns, e))
-    (λ e. let q = from_piece f ns x e in (q.0, or_right (eqb (q.0) n) (has_number ns (q.0)) (q.1), q.2))
-    (or_cases (has_number (f n) x) (has_number (flat_map f ns) x) (sym (has_both x (f n) (flat_map f ns)) ∙ h))
-
--- nothing passes
-pub none_pass : (t : ℕ → Bool) (ns : List ℕ) → ((x : ℕ) → has_number ns x ≡ true → t x ≡ false) → filter t ns ≡ []
-none_pass t [] h = refl
-none_pass t (n ∷ ns) h =
-    ap (λ b. cond b (n ∷ filter t ns) (filter t ns)) (h n (has_first n ns))
-    ∙ none_pass t ns (λ x e. h x (or_right (eqb x n) (has_number ns x) e))
 
 pub same_filter : (t u : ℕ → Bool) (ns : List ℕ) → ((n : ℕ) → has_number ns n ≡ true → t n ≡ u n) → filter t ns ≡ filter u ns
 same_filter t u [] h = refl

@@ -8,21 +8,22 @@ use Rattle.exact_refusals.specs.Judge.{Read, Refused, ended}
 use Rattle.plain_refusals.proofs.Plain as plain
 use Rattle.query_lang.specs.declared.QueryFault.{QueryFault}
 use Rattle.query_lang.specs.declared.QueryFault.TheVariants as fault
-use Rattle.query_lang.specs.declared.query.Hunter.{Hunter}
-use Rattle.query_lang.specs.declared.query.Hunter.TheVariants as hunter
-use Rattle.query_lang.specs.declared.query.Filter.TheVariants as filter
-use Rattle.query_lang.specs.declared.query.StepFilter.{StepFilter}
-use Rattle.query_lang.specs.declared.query.StepFilter.TheVariants as kind
-use Rattle.query_lang.specs.Steps.{Step}
-use Rattle.query_lang.specs.Queries.{is_lower, in_word, in_value, goes_on, Run, run_ends, run_more, Word, a_word, Spaces, here, behind, SpellsHunter, by_tag, by_id, by_child, by_next, by_children, by_all, SpellsFilter, by_class, by_name, by_type, by_presence, by_value, by_keyword, SpellsFilters, no_filter, one_filter, QuerySpells, IsQueryFault}
-use Rattle.query_lang.specs.Machine.{State, Between, Hunt, Inside, Sift, Attribute, AttributeWord, AttributeValue, Keyword, ForId, ForChild, ForNext, FilterRole, ForClass, ForName, ForKind, with, between, keyword_of, keyword_or, fits, step, some_steps, done, begin, goes}
+use Rattle.query_grammar.specs.declared.query.Hunter.{Hunter}
+use Rattle.query_grammar.specs.declared.query.Hunter.TheVariants as hunter
+use Rattle.query_grammar.specs.declared.query.Filter.TheVariants as filter
+use Rattle.query_grammar.specs.declared.query.StepFilter.{StepFilter}
+use Rattle.query_grammar.specs.declared.query.StepFilter.TheVariants as kind
+use Rattle.query_grammar.specs.Steps.{Step}
+use Rattle.query_grammar.specs.Queries.{is_lower, in_word, in_value, goes_on, Run, run_ends, run_more, Word, a_word, Spaces, here, behind, SpellsHunter, by_tag, by_id, by_child, by_next, by_children, by_all, SpellsFilter, by_class, by_name, by_type, by_presence, by_value, by_keyword, SpellsFilters, no_filter, one_filter, QuerySpells, is_mark}
+use Rattle.query_grammar.specs.Machine.{State, Between, Hunt, Inside, Sift, Attribute, AttributeWord, AttributeValue, Keyword, ForId, ForChild, ForNext, FilterRole, ForClass, ForName, ForKind, with, between, keyword_of, keyword_or, fits, step, some_steps, done, begin, goes}
 use Rattle.query_lang.specs.Runs.{is_space}
-use Rattle.query_lang.specs.Reads.{is_first, is_mark, IsRunAt, IsWordAt, IsNameAt, IsHunterAt, IsFilterBehind, IsFilterAt, AreFiltersAt, HasNone, Refuses, HasRoom}
-use Rattle.query_lang.proofs.Truths.{same_number, other_number, both_ways, not_false, or_split}
-use Rattle.query_lang.proofs.Keywords.{keyword_is}
-use Rattle.query_lang.proofs.Complete.{go, complete, taken, between_spaces, hunter_goes, filters_go, step_ends, attribute_goes, value_on, child_spaces, next_spaces, id_mark, child_mark, next_mark, run_stops}
-use Rattle.query_lang.proofs.Sound.{sound}
-use Rattle.query_lang.proofs.Exact.{refused_is}
+use Rattle.query_lang.specs.Faults.{IsQueryFault}
+use Rattle.query_lang.specs.Reads.{is_first, IsRunAt, IsWordAt, IsNameAt, IsHunterAt, IsFilterBehind, IsFilterAt, AreFiltersAt, HasNone, Refuses, HasRoom}
+use Rattle.query_grammar.proofs.Truths.{same_number, other_number, both_ways, not_false, or_split}
+use Rattle.query_grammar.proofs.Keywords.{keyword_is}
+use Rattle.query_grammar.proofs.Complete.{go, complete, taken, between_spaces, hunter_goes, filters_go, step_ends, attribute_goes, value_on, child_spaces, next_spaces, id_mark, child_mark, next_mark, run_stops}
+use Rattle.query_grammar.proofs.Sound.{sound}
+use Rattle.query_grammar.proofs.Exact.{refused_is}
 use Rattle.query_lang.proofs.Cuts.{unit_at, no_unit_at, left_at, first_at, none_at, range_more, range_none, range_behind}
 
 -- a run of spaces

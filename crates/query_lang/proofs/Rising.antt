@@ -7,7 +7,7 @@ use Rattle.std.specs.List.{AllByRecursion}
 use Rattle.std.specs.List.Sorted.{IsStrictlySortedBy}
 use Rattle.std.specs.BTreeSet.{insert_key}
 use Rattle.std.proofs.lemmas.Bool.Decides.{nat_tests}
-use Rattle.query_lang.specs.Finds.{has_number}
+use Rattle.query_grammar.specs.Finds.{has_number}
 use Rattle.query_lang.specs.Walks.{RiseFrom}
 
 less_is : (a b : ℕ) → nat_cmp a b ≡ Less → a < b

@@ -1,7 +1,7 @@
 -- The nodes with an `id` below nodes: those of the owner's that have it, and up from each.
-use Rattle.std.proofs.Common.{◌≡◌, ℕ, zero, suc, ◌+◌, ◌-◌, ◌<◌, ◌≤◌, List, [], ◌∷◌, Bool, true, false, not, ◌&&◌, ◌||◌, refl, sym, ap, ◌∙◌, subst, length, arith, eqb, eqb-true, eq-eqb, codes, Option, Some, None, ◌⊎◌, ⊎_elim}
+use Rattle.std.proofs.Common.{◌≡◌, ℕ, zero, suc, ◌+◌, ◌-◌, ◌<◌, ◌≤◌, List, [], ◌∷◌, Bool, true, false, ◌&&◌, ◌||◌, refl, sym, ap, ◌∙◌, subst, length, arith, eqb, eqb-true, eq-eqb, codes, Option, Some, None, ◌⊎◌, ⊎_elim}
 use Rattle.std.proofs.lemmas.Bool.{or_cases, cases_Bool, cases_lt}
-use Rattle.std.specs.Prelude.{option_to_list}
+use Rattle.std.specs.Prelude.{option_to_list, is_some}
 use Rattle.std.specs.List.{filter, flat_map, range_with_len}
 use Rattle.std.specs.Option.{option_eq}
 use Rattle.std.specs.Str.{bytes_eq}
@@ -9,8 +9,8 @@ use Rattle.code_units.specs.declared.owner.Owner.{Owner}
 use Rattle.code_units.specs.declared.owner.Owner.TheVariants as owner
 use Rattle.plain_tree.specs.Trees.{Label, TextOf, ElementOf, Trees, End, Node, height}
 use Rattle.page_tree.specs.declared.page.Page.{Page}
-use Rattle.page_tree.specs.Trees.{has, is_text}
-use Rattle.page_tree.specs.Contents.{attribute_of}
+use Rattle.tree_ops.specs.Trees.{has}
+use Rattle.tree_ops.specs.Labels.{tag_of, attribute_of}
 use Rattle.page_tree.specs.Owners.{is_owner, same_owner}
 use Rattle.page_tree.specs.Entries.{Entry, at, body, tree, limit, IsSound}
 use Rattle.page_tree.specs.Pages.{nodes, root}
@@ -20,18 +20,17 @@ use Rattle.page_tree.proofs.Owners.{same_is, is_same}
 use Rattle.page_tree.proofs.Shows.{Shows, none, one_more, shows_tree, shows_one}
 use Rattle.page_tree.proofs.Upward.{has_itself, none_some}
 use Rattle.page_tree.proofs.Walk.{nearer, some_is_same, without_body}
-use Rattle.query_lang.specs.declared.query.Hunter.TheVariants as hunter
-use Rattle.query_lang.specs.Nodes.{is_equal}
-use Rattle.query_lang.specs.Finds.{within, below, has_number, has_id, hunted, is_loose, tops, document}
+use Rattle.query_grammar.specs.declared.query.Hunter.TheVariants as hunter
+use Rattle.query_grammar.specs.Filters.{is_equal}
+use Rattle.query_lang.specs.Finds.{within, below, has_id, hunted, is_loose, tops, document}
+use Rattle.query_grammar.specs.Finds.{has_number}
 use Rattle.query_lang.specs.Walks.{AreNodes, HaveSame, below_any}
 use Rattle.query_lang.proofs.Downward.{sound, rooted, within_is}
-use Rattle.query_lang.proofs.Ordered.{has_listed, has_both, has_numbers, from_piece, kept_is, up_one, in_tree_node}
-use Rattle.query_lang.proofs.Behind.{alike, keeps, kept_passes, to_piece, some_has, from_some}
+use Rattle.query_lang.proofs.Ordered.{has_listed, has_numbers, up_one, in_tree_node}
+use Rattle.query_grammar.proofs.Numbers.{has_both, from_piece, kept_is}
+use Rattle.query_lang.proofs.Behind.{keeps, kept_passes, to_piece, some_has, from_some}
 use Rattle.query_lang.proofs.Members.{top_node, in_range}
-use Rattle.query_lang.proofs.Truths.{and_parts, or_left, or_right}
-
-no_true : false ≡ true → ⊥
-no_true e = cc
+use Rattle.query_grammar.proofs.Truths.{no_true, same_truth, and_parts, or_left, or_right}
 
 -- ## Below, by the parents
 
@@ -73,7 +72,7 @@ module _ (k : List Entry) (s : IsSound k) where
 
   -- a node is below another if its parent is that one or below it
   below_up : (x q n : ℕ) → (at k x).parent ≡ Some q → has_number (below k n) x ≡ (eqb q n || has_number (below k n) q)
-  below_up x q n u = alike _ _ up down
+  below_up x q n u = same_truth _ _ up down
     where
       up : has_number (below k n) x ≡ true → (eqb q n || has_number (below k n) q) ≡ true
       up h =
@@ -149,7 +148,7 @@ bears k o w x e = ap (λ b. b && option_eq bytes_eq (attribute_of (codes "id") (
     equal None = refl
     equal (Some v) = refl
 
-    of : (l : Label) → option_eq bytes_eq (attribute_of (codes "id") l) (Some w) ≡ (not (is_text l) && is_equal (attribute_of (codes "id") l) w)
+    of : (l : Label) → option_eq bytes_eq (attribute_of (codes "id") l) (Some w) ≡ (is_some (tag_of l) && is_equal (attribute_of (codes "id") l) w)
     of (TextOf t) = refl
     of (ElementOf t a) = equal (attribute_of (codes "id") (ElementOf t a))
 
@@ -199,7 +198,7 @@ module _ (p : Page) (o : Owner) (own : is_owner o ≡ true) where
           (some_has (λ n. has_number (below k n) x) marks (q.0) (same (q.0) ∙ q.1) (kept_is (has_id k w) (below k (q.0)) x (q.2)))
 
       pub same_named : (found : List ℕ) → found ≡ filter (below_any (nodes p) marks) (with_id (nodes p) o w) → HaveSame p o found (flat_map (hunted (nodes p) (root p o) (hunter.Id w)) starts)
-      same_named found e x there = ap (λ l. has_number l x) e ∙ alike _ _ (forth x (document_owner x there)) (back x (document_node x there) (document_owner x there))
+      same_named found e x there = ap (λ l. has_number l x) e ∙ same_truth _ _ (forth x (document_owner x there)) (back x (document_node x there) (document_owner x there))
 
 pub with_id_node : (p : Page) (o : Owner) (w : List ℕ) → AreNodes p (with_id (nodes p) o w)
 with_id_node p o w x h = omega (arith, in_range (length (nodes p)) 0 x (kept_is (λ n. bears_id o w (at (nodes p) n)) (range_with_len 0 (length (nodes p))) x h))

@@ -1,22 +1,17 @@
 -- What the parts of the reader do.
-use Rattle.std.specs.Prelude.{◌≡◌, ℕ, ◌<◌, ◌≤◌, Bool, true, false, ◌||◌, List, ◌∷◌, length, drop, slice_range, nat_lt, ◌==◌}
-use Rattle.std.specs.Str.{byte}
+use Rattle.std.specs.Prelude.{◌≡◌, ℕ, ◌<◌, ◌≤◌, Bool, true, false, List, ◌∷◌, length, drop, slice_range, nat_lt, ◌==◌}
 use Rattle.exact_refusals.specs.Judge.Outcome.{Refused}
 use Rattle.query_lang.specs.declared.QueryFault.{QueryFault}
 use Rattle.query_lang.specs.declared.QueryFault.TheVariants as fault
-use Rattle.query_lang.specs.declared.query.Hunter.{Hunter}
-use Rattle.query_lang.specs.declared.query.StepFilter.{StepFilter}
-use Rattle.query_lang.specs.Steps.{Step}
-use Rattle.query_lang.specs.Queries.{goes_on, Run, Word, Name, SpellsHunter, SpellsFilter, SpellsFilters}
-use Rattle.query_lang.specs.Machine.{State, goes}
+use Rattle.query_grammar.specs.declared.query.Hunter.{Hunter}
+use Rattle.query_grammar.specs.declared.query.StepFilter.{StepFilter}
+use Rattle.query_grammar.specs.Steps.{Step}
+use Rattle.query_grammar.specs.Queries.{goes_on, is_mark, Run, Word, Name, SpellsHunter, SpellsFilter, SpellsFilters}
+use Rattle.query_grammar.specs.Machine.{State, goes}
 
 -- the unit stands first
 abbrev pub is_first : ℕ → List ℕ → Bool
 is_first unit us = goes_on (λ u. u == unit) us
-
--- the first unit of a filter
-abbrev pub is_mark : ℕ → Bool
-is_mark u = u == byte "." || u == byte "&" || u == byte "_" || u == byte "[" || u == byte ":"
 
 -- the longest run of units of the class stands from `at` to `end`
 pub record IsRunAt (us : List ℕ) (p : ℕ → Bool) (at end : ℕ) : Type 0 where

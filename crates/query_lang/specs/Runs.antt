@@ -2,7 +2,7 @@
 use Rattle.std.specs.Prelude.{ℕ, Bool, ◌==◌}
 use Rattle.query_lang.specs.declared.parts.Run.{Run as Class}
 use Rattle.query_lang.specs.declared.parts.Run.TheVariants as run
-use Rattle.query_lang.specs.Queries.{in_name, in_word, in_value}
+use Rattle.query_grammar.specs.Queries.{in_name, in_word, in_value}
 
 abbrev pub is_space : ℕ → Bool
 is_space u = u == 32

@@ -1,15 +1,16 @@
 -- What a walk takes.
-use Rattle.std.specs.Prelude.{◌≡◌, ℕ, ◌<◌, ◌+◌, ◌≤◌, List, [], ◌∷◌, Bool, true, false, ◌&&◌, ◌||◌, ◌++◌, if◌then◌else◌, length, Option, Some, None, is_some, not}
+use Rattle.std.specs.Prelude.{◌≡◌, ℕ, ◌<◌, ◌+◌, ◌≤◌, List, [], ◌∷◌, Bool, true, false, ◌&&◌, ◌||◌, ◌++◌, if◌then◌else◌, length, Option, Some, is_some, not}
 use Rattle.std.specs.List.{filter, list_any}
 use Rattle.code_units.specs.declared.owner.Owner.{Owner}
 use Rattle.page_tree.specs.declared.page.Page.{Page}
 use Rattle.page_tree.specs.Entries.{Entry, at}
 use Rattle.page_tree.specs.Pages.{nodes, root}
-use Rattle.page_tree.specs.Trees.{is_number}
+use Rattle.tree_ops.specs.Trees.{is_number}
 use Rattle.query_lang.specs.declared.wanted.Wanted.{Wanted}
 use Rattle.query_lang.specs.declared.wanted.Wanted.TheVariants as wanted
 use Rattle.query_lang.specs.Nodes.{is_element}
-use Rattle.query_lang.specs.Finds.{has_number, within, below, document, is_tagged, has_id}
+use Rattle.query_grammar.specs.Finds.{has_number}
+use Rattle.query_lang.specs.Finds.{within, below, document, is_tagged, has_id}
 
 -- whether a walk takes a node
 abbrev pub takes : List Entry → Wanted → ℕ → Bool
@@ -46,10 +47,6 @@ below_any k ns n = list_any (λ s. has_number (below k s) n) ns
 -- two lists have the same of the owner's trees
 abbrev pub HaveSame : Page → Owner → List ℕ → List ℕ → Type 0
 HaveSame p o ns ms = (n : ℕ) → has_number (document (nodes p) (root p o) o) n ≡ true → has_number ns n ≡ has_number ms n
-
--- the parent under which a node has siblings; the root has none
-abbrev pub parent_within : List Entry → Option ℕ → ℕ → Option ℕ
-parent_within k r n = if is_number n r then None else (at k n).parent
 
 -- one of the starts that have siblings
 abbrev pub is_start : Option ℕ → List ℕ → ℕ → Bool

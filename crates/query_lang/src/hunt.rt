@@ -5,19 +5,20 @@ ghost use Rattle.code_units.specs.declared.owner.Owner.TheVariants as owners;
 ghost use Rattle.page_tree.specs.Entries.{at};
 ghost use Rattle.page_tree.specs.Owners.{is_owner, same_owner};
 ghost use Rattle.page_tree.specs.Pages.{nodes, root};
-ghost use Rattle.page_tree.specs.Trees.{is_number};
-ghost use Rattle.query_lang.specs.declared.query.Hunter.TheVariants as hunter;
+ghost use Rattle.tree_ops.specs.Trees.{is_number};
+ghost use Rattle.query_grammar.specs.declared.query.Hunter.TheVariants as hunter;
 ghost use Rattle.query_lang.specs.Nodes.{is_element};
-ghost use Rattle.query_lang.specs.Finds.{has_number, below, hunted, is_tagged};
-ghost use Rattle.query_lang.specs.Walks.{AreNodes, HaveSame, MissesNone, takes, parent_within, is_start, next_ones};
+ghost use Rattle.query_lang.specs.Finds.{below, hunted, is_tagged, parent_within};
+ghost use Rattle.query_grammar.specs.Finds.{has_number};
+ghost use Rattle.query_lang.specs.Walks.{AreNodes, HaveSame, MissesNone, takes, is_start, next_ones};
 
 use crate::marks::{Marks, Risen};
 use crate::named::all_named;
-use crate::nodes::{is_element, is_this};
-use crate::query::Hunter;
+use crate::nodes::is_element;
 use crate::wanted::{Wanted, child_at};
 use code_units::{Memory, Owner, Text};
-use page_tree::{NodeId, Page};
+use page_tree::{NodeId, Page, is_number};
+use query_grammar::Hunter;
 use std::alloc::Global;
 
 // The parent under which a node has siblings. The root has none.
@@ -25,7 +26,7 @@ fn parent_within(page: &Page, root: Option<NodeId>, node: NodeId) -> Option<Node
     requires { node < length (nodes page.now) }
     ensures { result ≡ parent_within (nodes page.now) root node }
 {
-    if is_this(root, node) {
+    if is_number(node, root) {
         return None;
     }
     page.parent(node)
@@ -68,7 +69,7 @@ fn parents_of(
 fn is_start(root: Option<NodeId>, starts: &Marks, node: NodeId) -> bool
     ensures { result ≡ is_start root starts.now node }
 {
-    starts.has(node) && !is_this(root, node)
+    starts.has(node) && !is_number(node, root)
 }
 
 // Whether a start was met whose next element is still to come, behind this child.

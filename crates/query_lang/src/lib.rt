@@ -1,17 +1,15 @@
 //! Queries on the nodes of a widget: how they are written, and what they find.
 //!
-//! `specs/Queries.antt` says which units spell which query, and `specs/Finds.antt` what it finds. A query is a list of steps, each a hunter that finds nodes and filters that keep some of them.
+//! Which units spell which query, and what it finds of what it sees of a page, is said by `query_grammar`; `specs/Finds.antt` says what it sees of a page.
 #![tactic(auto)]
 
 mod finder;
 mod hunt;
-mod laws;
 mod marks;
 mod named;
 mod nodes;
 mod order;
 mod parts;
-mod query;
 mod read;
 #[cfg(test)]
 mod tests;
@@ -67,7 +65,6 @@ impl<T: Drop> From<AllocFailed<T>> for QueryFault {
 }
 
 pub use finder::find;
-pub use laws::one_answer;
 pub use nodes::test;
-pub use query::{Filter, Hunter, ListFilter, Query, QueryStep, StepFilter};
+pub use query_grammar::{Filter, Hunter, ListFilter, Query, QueryStep, StepFilter};
 pub use read::read_query;

@@ -1,6 +1,6 @@
 //! Sets of nodes.
 ghost use Rattle.std.specs.Prelude.{◌≡◌, ◌==◌, ℕ, ◌++◌, [], ◌∷◌, IfOk, OnOk, not, ◌||◌, if◌then◌else◌};
-ghost use Rattle.query_lang.specs.Finds.{has_number};
+ghost use Rattle.query_grammar.specs.Finds.{has_number};
 ghost use Rattle.query_lang.specs.Walks.{RiseFrom};
 
 use code_units::Memory;

@@ -5,7 +5,7 @@ ghost use Rattle.code_units.specs.declared.owner.Owner.TheVariants as owners;
 ghost use Rattle.page_tree.specs.Ids.{with_id};
 ghost use Rattle.page_tree.specs.Owners.{is_owner, same_owner};
 ghost use Rattle.page_tree.specs.Pages.{nodes, root};
-ghost use Rattle.query_lang.specs.declared.query.Hunter.TheVariants as hunter;
+ghost use Rattle.query_grammar.specs.declared.query.Hunter.TheVariants as hunter;
 ghost use Rattle.query_lang.specs.Finds.{hunted};
 ghost use Rattle.query_lang.specs.Walks.{AreNodes, HaveSame, below_any};
 

@@ -3,12 +3,13 @@ ghost use Rattle.std.specs.Prelude.{◌≡◌, ◌==◌, ◌+◌, ◌<◌, ◌�
 ghost use Rattle.std.specs.List.{list_any, position_or_len};
 ghost use Rattle.std.specs.Str.{bytes_eq};
 ghost use Rattle.page_tree.specs.Pages.{nodes};
-ghost use Rattle.page_tree.specs.Trees.{is_number};
-ghost use Rattle.query_lang.specs.Nodes.{is_element, is_equal, has_tag, is_input, is_field, attribute, seen_value, seen, words, has_class, passes};
+ghost use Rattle.query_lang.specs.Nodes.{look, is_element, passes};
+ghost use Rattle.query_grammar.specs.Filters.{is_equal, has_tag, is_input, is_field, seen_value, seen, words, has_class};
+ghost use Rattle.query_grammar.specs.Finds.{has_focus};
 
-use crate::query::Filter;
 use code_units::{Text, is_word};
-use page_tree::{NodeId, Page};
+use page_tree::{NodeId, Page, is_number};
+use query_grammar::Filter;
 use style_text::prints_as;
 
 const SPACE: u16 = 0x20;
@@ -24,7 +25,7 @@ pub fn is_element(page: &Page, node: NodeId) -> bool
 /// Whether a node has a tag.
 pub fn has_tag(page: &Page, node: NodeId, tag: &Text) -> bool
     requires { node < length (nodes page.now) }
-    ensures { result ≡ has_tag (nodes page.now) node tag.now }
+    ensures { result ≡ has_tag (look (nodes page.now) node) tag.now }
 {
     match page.tag(node) {
         Some(text) => *text == *tag,
@@ -35,7 +36,7 @@ pub fn has_tag(page: &Page, node: NodeId, tag: &Text) -> bool
 // The same of a tag that is an ASCII word.
 fn has_word_tag(page: &Page, node: NodeId, tag: &[u8]) -> bool
     requires { node < length (nodes page.now) }
-    ensures { result ≡ has_tag (nodes page.now) node tag.now }
+    ensures { result ≡ has_tag (look (nodes page.now) node) tag.now }
 {
     match page.tag(node) {
         Some(text) => is_word(text, tag),
@@ -45,7 +46,7 @@ fn has_word_tag(page: &Page, node: NodeId, tag: &[u8]) -> bool
 
 fn is_input(page: &Page, node: NodeId) -> bool
     requires { node < length (nodes page.now) }
-    ensures { result ≡ is_input (nodes page.now) node }
+    ensures { result ≡ is_input (look (nodes page.now) node) }
 {
     has_word_tag(page, node, b"input")
 }
@@ -53,7 +54,7 @@ fn is_input(page: &Page, node: NodeId) -> bool
 // Whether a node can be disabled.
 fn is_field(page: &Page, node: NodeId) -> bool
     requires { node < length (nodes page.now) }
-    ensures { result ≡ is_field (nodes page.now) node }
+    ensures { result ≡ is_field (look (nodes page.now) node) }
 {
     is_input(page, node)
         || has_word_tag(page, node, b"button")
@@ -65,7 +66,7 @@ fn is_field(page: &Page, node: NodeId) -> bool
 /// Whether a node has an attribute with a value. The name is an ASCII word.
 pub fn has_value(page: &Page, node: NodeId, name: &[u8], value: &Text) -> bool
     requires { node < length (nodes page.now) }
-    ensures { result ≡ is_equal (attribute (nodes page.now) node name.now) value.now }
+    ensures { result ≡ is_equal ((look (nodes page.now) node).attribute name.now) value.now }
 {
     match page.attr_of_word(node, name) {
         Some(found) => *found == *value,
@@ -76,7 +77,7 @@ pub fn has_value(page: &Page, node: NodeId, name: &[u8], value: &Text) -> bool
 // Whether a node has an attribute. The name is an ASCII word.
 fn has_word_attr(page: &Page, node: NodeId, name: &[u8]) -> bool
     requires { node < length (nodes page.now) }
-    ensures { result ≡ is_some (attribute (nodes page.now) node name.now) }
+    ensures { result ≡ is_some ((look (nodes page.now) node).attribute name.now) }
 {
     page.attr_of_word(node, name).is_some()
 }
@@ -121,7 +122,7 @@ fn has_word(units: &[u16], word: &[u16]) -> bool
 
 fn has_class(page: &Page, node: NodeId, word: &Text) -> bool
     requires { node < length (nodes page.now) }
-    ensures { result ≡ has_class (nodes page.now) node word.now }
+    ensures { result ≡ has_class (look (nodes page.now) node) word.now }
 {
     match page.attr_of_word(node, b"class") {
         Some(classes) => has_word(classes.units(), word.units()),
@@ -142,7 +143,7 @@ fn is_seen(name: &Text, found: &Text, value: &Text) -> bool
 
 fn equals(page: &Page, node: NodeId, name: &Text, value: &Text) -> bool
     requires { node < length (nodes page.now) }
-    ensures { result ≡ is_equal (seen (nodes page.now) node name.now) value.now }
+    ensures { result ≡ is_equal (seen (look (nodes page.now) node) name.now) value.now }
 {
     match page.attr(node, name) {
         Some(found) => is_seen(name, found, value),
@@ -150,14 +151,11 @@ fn equals(page: &Page, node: NodeId, name: &Text, value: &Text) -> bool
     }
 }
 
-/// Whether there is a node and it is this one.
-pub fn is_this(place: Option<NodeId>, node: NodeId) -> bool
-    ensures { result ≡ is_number node place }
+// Whether the node has the focus.
+fn has_focus(focus: Option<NodeId>, node: NodeId) -> bool
+    ensures { result ≡ has_focus focus node }
 {
-    match place {
-        Some(place) => node == place,
-        None => false,
-    }
+    is_number(node, focus)
 }
 
 /// Whether a filter keeps a node of a widget, which has the focus at this node or nowhere. An
@@ -176,6 +174,6 @@ pub fn test(page: &Page, focus: Option<NodeId>, node: NodeId, filter: &Filter) -
         Filter::Unchecked => is_input(page, node) && !has_word_attr(page, node, b"checked"),
         Filter::Enabled => is_field(page, node) && !has_word_attr(page, node, b"disabled"),
         Filter::Disabled => is_field(page, node) && has_word_attr(page, node, b"disabled"),
-        Filter::Focus => is_this(focus, node),
+        Filter::Focus => has_focus(focus, node),
     }
 }

@@ -1,16 +1,16 @@
 //! Document order.
 ghost use Rattle.std.specs.Prelude.{◌≡◌, ℕ, ◌<◌, ◌++◌, [], ◌∷◌, true, length, OnOk, IfOk, IfSome, option_to_list};
 ghost use Rattle.std.specs.List.{filter, flat_map};
-ghost use Rattle.page_tree.specs.Owners.{is_owner, same_owner};
+ghost use Rattle.page_tree.specs.Owners.{is_owner};
 ghost use Rattle.page_tree.specs.Pages.{nodes, root};
-ghost use Rattle.query_lang.specs.Finds.{has_number, within, is_loose, in_order};
+ghost use Rattle.query_lang.specs.Finds.{within, is_loose, in_order};
+ghost use Rattle.query_grammar.specs.Finds.{has_number};
 ghost use Rattle.query_lang.specs.Walks.{takes, MissesNone, AreNodes, IsClosed, AreTops};
 
 use crate::marks::{Marks, Risen};
-use crate::nodes::is_this;
 use crate::wanted::Wanted;
 use code_units::{Memory, Owner};
-use page_tree::{NodeId, Page};
+use page_tree::{NodeId, Page, is_number, same_owner};
 use std::alloc::Global;
 
 // Puts a node and all above it into a set that has all above its nodes, and the top into a second
@@ -39,23 +39,12 @@ fn mark_up(page: &Page, node: NodeId, above: &mut Marks, tops: &mut Risen) -> Re
     Ok(())
 }
 
-// Whether two owners are one.
-fn same_owner(one: Owner, other: Owner) -> bool
-    ensures { result ≡ same_owner one other }
-{
-    match (one, other) {
-        (Owner::Host, Owner::Host) => true,
-        (Owner::Widget(v), Owner::Widget(w)) => v == w,
-        _ => false,
-    }
-}
-
 // Whether a node is the top of a detached tree of the owner.
 fn is_loose(page: &Page, root: Option<NodeId>, owner: Owner, node: NodeId) -> bool
     requires { node < length (nodes page.now) }
     ensures { result ≡ is_loose (nodes page.now) root owner node }
 {
-    same_owner(page.owner(node), owner) && page.parent(node).is_none() && !is_this(root, node)
+    same_owner(page.owner(node), owner) && page.parent(node).is_none() && !is_number(node, root)
 }
 
 // What a walk takes of the root's tree, if there is one.

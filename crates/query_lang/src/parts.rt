@@ -1,14 +1,15 @@
 //! Words, names, runs and keywords among the units of a query.
 ghost use Rattle.std.specs.Prelude.{◌≡◌, ◌+◌, ◌<◌, ◌≤◌, length, drop, slice_range, IfOk, MatchResult};
 ghost use Rattle.std.specs.Str.{bytes_eq};
-ghost use Rattle.query_lang.specs.Queries.{is_lower, in_name, in_word};
-ghost use Rattle.query_lang.specs.Machine.{begins_with, keyword_of, fits};
+ghost use Rattle.query_grammar.specs.Queries.{is_lower, in_name, in_word};
+ghost use Rattle.query_grammar.specs.Machine.{keyword_of, fits};
+ghost use Rattle.style_text.specs.Machine.{begins_with};
 ghost use Rattle.query_lang.specs.Runs.{passes};
 ghost use Rattle.query_lang.specs.Reads.{is_first, IsRunAt, IsWordAt, IsNameAt, HasNone};
 
 use super::QueryFault;
-use crate::query::{Filter, ListFilter, StepFilter};
 use code_units::{Memory, Text};
+use query_grammar::{Filter, ListFilter, StepFilter};
 use std::alloc::Global;
 
 const CLOSE: u16 = 0x5D;
@@ -139,7 +140,7 @@ fn spells(word: &[u8], units: &[u16]) -> bool
 }
 
 /// The filter of a keyword.
-#[tactic(auto, unfolding(crate::specs::Machine::keyword_of, crate::specs::Machine::keywords))]
+#[tactic(auto, unfolding(query_grammar::specs::Machine::keyword_of, query_grammar::specs::Machine::keywords))]
 pub fn keyword_of(units: &[u16]) -> Option<StepFilter>
     ensures { result ≡ keyword_of units.now }
 {
@@ -174,7 +175,7 @@ pub fn keyword_of(units: &[u16]) -> Option<StepFilter>
 }
 
 /// Whether some keyword begins with the units.
-#[tactic(auto, unfolding(crate::specs::Machine::fits, crate::specs::Machine::keywords))]
+#[tactic(auto, unfolding(query_grammar::specs::Machine::fits, query_grammar::specs::Machine::keywords))]
 pub fn fits(front: &[u16]) -> bool
     ensures { result ≡ fits front.now }
 {

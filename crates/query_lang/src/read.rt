@@ -2,18 +2,19 @@
 ghost use Rattle.std.specs.Prelude.{◌≡◌, ℕ, ◌+◌, ◌<◌, ◌≤◌, true, false, List, [], length, drop, ◌==◌, MatchResult, IfOk, IfErr};
 ghost use Rattle.std.specs.Str.{byte};
 ghost use Rattle.query_lang.specs.declared.QueryFault.TheVariants as fault;
-ghost use Rattle.query_lang.specs.declared.query.Hunter.{Hunter as Found};
-ghost use Rattle.query_lang.specs.declared.query.StepFilter.{StepFilter as Sifter};
-ghost use Rattle.query_lang.specs.Steps.{Step};
-ghost use Rattle.query_lang.specs.Queries.{goes_on, QuerySpells, IsQueryFault};
-ghost use Rattle.query_lang.specs.Machine.{Between, Inside, Attribute, Keyword};
+ghost use Rattle.query_grammar.specs.declared.query.Hunter.{Hunter as Found};
+ghost use Rattle.query_grammar.specs.declared.query.StepFilter.{StepFilter as Sifter};
+ghost use Rattle.query_grammar.specs.Steps.{Step};
+ghost use Rattle.query_grammar.specs.Queries.{goes_on, is_mark, QuerySpells};
+ghost use Rattle.query_grammar.specs.Machine.{Between, Inside, Attribute, Keyword};
 ghost use Rattle.query_lang.specs.Runs.{is_space};
-ghost use Rattle.query_lang.specs.Reads.{is_mark, IsHunterAt, IsFilterBehind, IsFilterAt, AreFiltersAt, Refuses, HasRoom};
+ghost use Rattle.query_lang.specs.Faults.{IsQueryFault};
+ghost use Rattle.query_lang.specs.Reads.{IsHunterAt, IsFilterBehind, IsFilterAt, AreFiltersAt, Refuses, HasRoom};
 
 use super::QueryFault;
 use crate::parts::{Run, fits, keyword_of, name_at, run_end, stands, text_of, word_at};
-use crate::query::{Filter, Hunter, Query, QueryStep, StepFilter};
 use code_units::Text;
+use query_grammar::{Filter, Hunter, Query, QueryStep, StepFilter};
 use std::alloc::Global;
 
 /// The most steps of a query.

@@ -24,7 +24,7 @@ pub enum Wanted<'a> {
 }
 
 /// The child of a node at a place.
-pub fn child_at(page: &Page, node: NodeId, place: usize) -> NodeId
+pub fn child_at(page: &Page, node: NodeId, place: u32) -> NodeId
     requires node { node < length (nodes page.now) }
     requires place { place < length (at (nodes page.now) node).children }
     ensures child { result ≡ slice_index_or (at (nodes page.now) node).children place result }

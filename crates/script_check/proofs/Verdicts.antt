@@ -1,5 +1,6 @@
 -- A script has one verdict.
 use Rattle.std.proofs.Common.{◌≡◌, ℕ, List, Bool, refl, sym, ap, subst, ◌∙◌}
+use Rattle.code_units.specs.Places.{place_at}
 use Rattle.exact_refusals.specs.Places.{HasTree, IsSyntaxAt, IsTooDeepAt}
 use Rattle.exact_refusals.proofs.Exact as exact
 use Rattle.first_breach.proofs.Narrowing as breaches
@@ -17,7 +18,7 @@ use Rattle.adsafe_rules.specs.declared.scope.Scope.TheVariants as position
 use Rattle.adsafe_rules.specs.Program.{First}
 use Rattle.trace_text.specs.declared.line.Rule.TheVariants as rule
 use Rattle.trace_text.specs.Report.{lib_refused}
-use Rattle.script_check.specs.Line.{IsLine, accepted, refused, IsTidied, tidied, not_tidied, place}
+use Rattle.script_check.specs.Line.{IsLine, accepted, refused, IsTidied, tidied, not_tidied}
 use Rattle.script_check.specs.Script.{Reads, TextFirst, ScriptFirst, IsScript, IsCleanScript, bad_token, syntax, too_deep, unread, broken}
 
 module _ (bytes : List ℕ) where
@@ -85,10 +86,10 @@ one_first bytes = first_once bytes
 pub not_clean : (bytes : List ℕ) (scope : Scope) (rule at : ℕ) → ScriptFirst bytes scope rule at → IsCleanScript bytes scope → ⊥
 not_clean bytes scope rule at first clean = first_not_clean bytes scope rule at clean.program first clean.script
 
-refused_once : (name file : List ℕ) (n x m y : ℕ) → ScriptFirst file position.Lib n x → ScriptFirst file position.Lib m y → lib_refused name (rule.A n) (place file x) ≡ lib_refused name (rule.A m) (place file y)
+refused_once : (name file : List ℕ) (n x m y : ℕ) → ScriptFirst file position.Lib n x → ScriptFirst file position.Lib m y → lib_refused name (rule.A n) (place_at file x) ≡ lib_refused name (rule.A m) (place_at file y)
 refused_once name file n x m y f g =
     let e = one_first file position.Lib n x m y f g in
-    ap (λ k. lib_refused name (rule.A k) (place file x)) e.0 ∙ ap (λ z. lib_refused name (rule.A m) (place file z)) e.1
+    ap (λ k. lib_refused name (rule.A k) (place_at file x)) e.0 ∙ ap (λ z. lib_refused name (rule.A m) (place_at file z)) e.1
 
 -- a library has one line under its name
 pub one_line : (name file b c : List ℕ) (r s : Bool) → IsLine name file r b → IsLine name file s c → (r ≡ s) × (b ≡ c)

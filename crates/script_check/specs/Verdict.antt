@@ -30,12 +30,12 @@ pub record IsAccepted (bytes : List ℕ) (scope : Scope) (a : Accepted) : Type 0
   pub has : HasProgram bytes program
   pub holds : Holds program scope a
 
--- of its bytes
+-- what a verdict says of the bytes of a script at a position
 abbrev pub IsVerdict : List ℕ → Scope → Verdict → Type 0
 IsVerdict bytes scope (verdict.Clean a) = IsAccepted bytes scope a
 IsVerdict bytes scope (verdict.Broken rule at) = ScriptFirst bytes scope rule at
 
--- of its program
+-- what a verdict says of a program at a position
 abbrev pub IsVerdictOn : Stmts → Scope → Verdict → Type 0
 IsVerdictOn program scope (verdict.Clean a) = Holds program scope a
 IsVerdictOn program scope (verdict.Broken rule at) = First program scope rule at

@@ -1,5 +1,5 @@
 //! The verdict on the bytes of a script: its tokens, its tree, and the rules.
-ghost use Rattle.std.specs.Prelude.{◌≡◌, ◌<◌, ◌^◌, IfOk, length};
+ghost use Rattle.std.specs.Prelude.{◌<◌, ◌^◌, IfOk, length};
 ghost use Rattle.js_tokens.specs.Lexes.{Lexes};
 ghost use Rattle.js_tree.specs.Trees.{program_of};
 ghost use Rattle.script_check.specs.Verdict.{IsVerdict, IsVerdictOn, IsParsed};

@@ -1,5 +1,6 @@
 //! What is written of a library: its line, or its tidied text.
 ghost use Rattle.std.specs.Prelude.{◌≡◌, ◌<◌, ◌^◌, true, false, IfOk, length};
+ghost use Rattle.code_units.specs.Places.{place_at};
 ghost use Rattle.js_tree.specs.Trees.{program_of};
 ghost use Rattle.js_print.specs.Tidy.{tidy};
 ghost use Rattle.adsafe_rules.specs.Accepts.{tree_of};
@@ -7,7 +8,7 @@ ghost use Rattle.trace_text.specs.Report.{lib_accepted, lib_refused};
 ghost use Rattle.trace_text.specs.declared.line.Rule.TheVariants as rules;
 ghost use Rattle.adsafe_rules.specs.declared.scope.Scope.TheVariants as scopes;
 ghost use Rattle.script_check.specs.Verdict.{IsVerdict};
-ghost use Rattle.script_check.specs.Line.{IsLine, IsTidied, place};
+ghost use Rattle.script_check.specs.Line.{IsLine, IsTidied};
 
 use crate::judging::{Verdict, judge_script};
 use adsafe_rules::{Accepted, Scope};
@@ -116,7 +117,7 @@ fn refused_line(
     at: usize,
 ) -> Result<LibraryText, Memory>
     requires { length library.now < 2 ^ 31 }
-    ensures line { IfOk result (λ text. text.bytes.items ≡ lib_refused name.now (rules.A rule) (place library.now at)) }
+    ensures line { IfOk result (λ text. text.bytes.items ≡ lib_refused name.now (rules.A rule) (place_at library.now at)) }
     ensures refused { IfOk result (λ text. text.refused ≡ true) }
 {
     let line = Line::LibRefused {
@@ -136,7 +137,7 @@ fn refused_line(
 #[tactic(auto, using(crate::proofs::Within::line_within, crate::proofs::Within::column_within))]
 fn place_in(bytes: &[u8], at: usize) -> Place
     requires { length bytes.now < 2 ^ 31 }
-    ensures { result ≡ place bytes.now at }
+    ensures { result ≡ place_at bytes.now at }
 {
     place_of(bytes, at.min(bytes.len()))
 }

@@ -11,7 +11,8 @@ use Rattle.trace_text.specs.declared.line.Rule.{Rule}
 use Rattle.trace_text.specs.declared.line.Rule.TheVariants as rule
 use Rattle.slot_check.specs.Sources.{Source, Slot, keys_of, IsLibrary, script_text}
 use Rattle.slot_check.specs.Slot.{HasForm, IsIdClean, AreClean, more, LibrariesFirst, here, later, SlotFirst, markup, id_script, library, go_script, IsCleanSlot}
-use Rattle.slot_check.proofs.OneForm.{SameScripts, markup_once, no_form, one_form}
+use Rattle.adsafe_rules.proofs.OneRule.{markup_once, no_form}
+use Rattle.slot_check.proofs.OneForm.{SameScripts, one_form}
 
 some_is : {A : Type 0} (x y : A) → Some x ≡ Some y → x ≡ y
 some_is x y e = cc

@@ -1,14 +1,12 @@
--- A file has one answer of the markup rules.
-use Rattle.std.proofs.Common.{◌≡◌, ℕ, List, Some, refl, sym, ap, subst, ◌∙◌}
+-- A file has one form.
+use Rattle.std.proofs.Common.{◌≡◌, ℕ, List, Some, sym, ap, ◌∙◌}
 use Rattle.std.specs.Prelude.{option_map, filter_map, None}
 use Rattle.std.specs.List.{last_or}
-use Rattle.first_breach.proofs.Narrowing as breaches
-use Rattle.markup_grammar.proofs.Answers.{one_reading, one_place, one_kind}
+use Rattle.markup_grammar.proofs.Answers.{one_reading}
 use Rattle.widget_form.specs.declared.form.Form.{Form}
 use Rattle.widget_form.specs.declared.form.Span.{Span}
-use Rattle.widget_form.specs.Rows.{First}
 use Rattle.widget_form.specs.Forms.{span_of, source, first_of_several, root_scripts}
-use Rattle.adsafe_rules.specs.Slots.{FirstOfSlot, M01, of_file, IsSlot}
+use Rattle.adsafe_rules.specs.Slots.{IsSlot}
 
 -- two forms of a file have the same scripts
 pub record SameScripts (f g : Form) : Type 0 where
@@ -20,18 +18,6 @@ same_span : (a b : Span) → Some a ≡ Some b → a ≡ b
 same_span a b e = cc
 
 module _ (name : List ℕ) (libs : List (List ℕ)) (bytes : List ℕ) where
-  pub markup_once : (rule at other place : ℕ) → FirstOfSlot name libs bytes rule at → FirstOfSlot name libs bytes other place → (rule ≡ other) × (at ≡ place)
-  markup_once rule at other place (M01 a) (M01 b) = (refl, one_place bytes at place a b)
-  markup_once rule at other place (M01 a) (of_file {file = f} s b) = absurd (one_kind bytes f at s a)
-  markup_once rule at other place (of_file {file = f} s a) (M01 b) = absurd (one_kind bytes f place s b)
-  markup_once rule at other place (of_file {file = f} s a) (of_file {file = g} t b) =
-      breaches.one_first a (subst (λ x. First name libs x other place) (one_reading bytes g f t s) b)
-
-  pub no_form : (rule at : ℕ) (f : Form) → FirstOfSlot name libs bytes rule at → IsSlot name libs bytes f → ⊥
-  no_form rule at f (M01 a) h = one_kind bytes h.file at h.spelled a
-  no_form rule at f (of_file {file = g} s a) h =
-      h.good rule at (subst (λ x. First name libs x rule at) (one_reading bytes g h.file s h.spelled) a).broken
-
   pub one_form : (f g : Form) → IsSlot name libs bytes f → IsSlot name libs bytes g → SameScripts f g
   one_form f g h k =
       let same = one_reading bytes h.file k.file h.spelled k.spelled in

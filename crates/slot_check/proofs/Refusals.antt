@@ -12,7 +12,7 @@ use Rattle.widget_form.specs.declared.form.Form.{Form}
 use Rattle.adsafe_rules.specs.declared.slot.CheckMarkupFault.{CheckMarkupFault}
 use Rattle.adsafe_rules.specs.declared.slot.CheckMarkupFault.TheVariants as fault
 use Rattle.adsafe_rules.specs.Slots.{FirstOfSlot, IsSlotFault}
-use Rattle.script_check.specs.Line.{place}
+use Rattle.code_units.specs.Places.{place_at as place}
 use Rattle.trace_text.specs.declared.line.Rule.{Rule}
 use Rattle.trace_text.specs.declared.line.Rule.TheVariants as rule
 use Rattle.slot_check.specs.declared.sources.SourceFile.{SourceFile}

@@ -5,7 +5,7 @@ use Rattle.code_units.specs.declared.place.Place.{Place}
 use Rattle.code_units.specs.Places.{line_of, column_of}
 use Rattle.adsafe_rules.specs.declared.scope.Scope.{Scope}
 use Rattle.widget_form.specs.declared.form.Span.{Span}
-use Rattle.script_check.specs.Line.{place}
+use Rattle.code_units.specs.Places.{place_at as place}
 use Rattle.script_check.proofs.Within.{line_within, column_within}
 use Rattle.script_check.specs.Script.{ScriptFirst}
 use Rattle.slot_check.specs.Sources.{script_text}

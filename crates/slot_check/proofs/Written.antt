@@ -7,7 +7,7 @@ use Rattle.js_tree.specs.Trees.{program_of}
 use Rattle.code_units.specs.declared.place.Place.{Place}
 use Rattle.code_units.specs.declared.memory.Memory.{Memory}
 use Rattle.adsafe_rules.specs.Accepts.{tree_of}
-use Rattle.script_check.specs.Line.{place}
+use Rattle.code_units.specs.Places.{place_at as place}
 use Rattle.trace_text.specs.declared.line.Rule.{Rule}
 use Rattle.trace_text.specs.Report.{accepted_slot, refused_life}
 use Rattle.slot_check.specs.declared.sources.SourceFile.{SourceFile}

@@ -1,6 +1,6 @@
 -- What is written of slots.
 use Rattle.std.specs.Prelude.{ℕ, List, [], ◌∷◌, ◌++◌, Bool, true, false, ◌||◌, None}
-use Rattle.script_check.specs.Line.{place}
+use Rattle.code_units.specs.Places.{place_at as place}
 use Rattle.trace_text.specs.declared.line.Rule.{Rule}
 use Rattle.trace_text.specs.Report.{accepted_slot, refused_life}
 use Rattle.slot_check.specs.Sources.{Source, Slot}

@@ -7,7 +7,7 @@ use Rattle.adsafe_rules.specs.declared.scope.Scope.{Scope}
 use Rattle.adsafe_rules.specs.declared.scope.Scope.TheVariants as scope
 use Rattle.adsafe_rules.specs.Accepts.{tree_of}
 use Rattle.script_check.specs.declared.judging.Verdict.{Verdict}
-use Rattle.script_check.specs.Line.{place}
+use Rattle.code_units.specs.Places.{place_at as place}
 use Rattle.script_check.specs.Script.{ScriptFirst}
 use Rattle.script_check.specs.Verdict.{IsAccepted, IsVerdict}
 use Rattle.trace_text.specs.declared.line.Rule.{Rule}
@@ -26,6 +26,7 @@ use Rattle.slot_check.specs.declared.verdict.SlotVerdict.TheVariants as slot_ver
 use Rattle.slot_check.specs.Sources.{Source, Slot, keys_of, script_text}
 use Rattle.slot_check.specs.Slot.{IsIdClean, AreClean, LibrariesFirst, SlotFirst, IsWidget}
 
+-- a file as a source
 abbrev pub source_of : SourceFile → Source
 source_of file = record { name = string_bytes file.name; bytes = file.bytes.items }
 
@@ -36,6 +37,7 @@ sources_of files = map source_of files
 abbrev pub slot_over : List Source → List ℕ → SourceFile → Slot
 slot_over libs name file = record { name = name; file = source_of file; libs = libs }
 
+-- the same over files
 abbrev pub slot_of : List ℕ → SourceFile → List SourceFile → Slot
 slot_of name file libs = slot_over (sources_of libs) name file
 
@@ -59,30 +61,34 @@ pub record IsSpanBroken (file : List ℕ) (span : Span) (scope : Scope) (number 
   pub first : ScriptFirst (script_text file span) scope number behind
   pub placed : at ≡ place file (span.from + behind)
 
+-- what a verdict on a script of a file says
 abbrev pub IsSpanVerdict : List ℕ → Span → Scope → SpanVerdict → Type 0
 IsSpanVerdict file span scope (span_verdict.Clean accepted) = IsAccepted (script_text file span) scope accepted
 IsSpanVerdict file span scope (span_verdict.Broken number at) = IsSpanBroken file span scope number at
 
--- of the `ADSAFE.id` script of a slot of this name, where it has one
+-- the `ADSAFE.id` script of a slot of this name breaks its first rule there
 pub record IsIdBroken (name bytes : List ℕ) (script : Option Span) (number : ℕ) (at : Place) : Type 0 where
   pub span : Span
   pub there : script ≡ Some span
   pub broken : IsSpanBroken bytes span (scope.Id name) number at
 
+-- what a verdict on that script says, where there is one
 abbrev pub IsIdVerdict : List ℕ → List ℕ → Option Span → IdVerdict → Type 0
 IsIdVerdict name bytes script id_verdict.Clean = IsIdClean name bytes script
 IsIdVerdict name bytes script (id_verdict.Broken number at) = IsIdBroken name bytes script number at
 
--- of the libraries that a slot names
+-- the libraries that a slot names break no rule, and stand at these places
 pub record AreNamedClean (libs : List Source) (names : List (List ℕ)) (places : List ℕ) : Type 0 where
   pub programs : List Stmts
   pub clean : AreClean libs names places programs
 
+-- one of them is the first that breaks a rule
 pub record IsNamedBroken (libs : List Source) (names : List (List ℕ)) (library number at : ℕ) : Type 0 where
   pub lib : Source
   pub there : slice_get libs library ≡ Some lib
   pub first : LibrariesFirst libs names number lib at
 
+-- what a verdict on them says
 abbrev pub IsNamedVerdict : List Source → List (List ℕ) → NamedVerdict → Type 0
 IsNamedVerdict libs names (named_verdict.Clean places) = AreNamedClean libs names places.items
 IsNamedVerdict libs names (named_verdict.Broken library number at) = IsNamedBroken libs names library number at
@@ -100,6 +106,7 @@ pub record IsRefused (slot : Slot) (rule : Rule) (file : List ℕ) (at : Place) 
   pub named : file ≡ source.name
   pub placed : at ≡ place source.bytes byte
 
+-- what a verdict on a slot says
 abbrev pub IsSlotVerdict : Slot → SlotVerdict → Type 0
 IsSlotVerdict slot (slot_verdict.Accepted widget) = IsAcceptedWidget slot widget
 IsSlotVerdict slot (slot_verdict.Refused rule file at) = IsRefused slot rule (string_bytes file) at

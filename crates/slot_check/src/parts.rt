@@ -13,22 +13,22 @@ use script_check::Verdict;
 use std::alloc::Global;
 use widget_form::Span;
 
-// The verdict on the `ADSAFE.id` script of a slot, with the place in its file.
+/// The verdict on the `ADSAFE.id` script of a slot, with the place in its file.
 #[derive(Clone, Copy, PartialEq, Eq, Debug)]
 pub enum IdVerdict {
     Clean,
     Broken { rule: u8, at: Place },
 }
 
-// The verdict on the libraries that a slot names: where they stand in the list, or the first that
-// breaks a rule, with the byte.
+/// The verdict on the libraries that a slot names: where they stand in the list, or the first that
+/// breaks a rule, with the byte.
 #[derive(Drop)]
 pub enum NamedVerdict {
     Clean(Vec<usize>),
     Broken { library: usize, rule: u8, at: usize },
 }
 
-// The verdict on the `ADSAFE.id` script, where there is one.
+/// The verdict on the `ADSAFE.id` script, where there is one.
 pub fn judge_id(
     alloc: Global,
     name: &Text,
@@ -48,7 +48,7 @@ pub fn judge_id(
     }
 }
 
-// The verdict on the libraries of these names, in order.
+/// The verdict on the libraries of these names, in order.
 pub fn judge_named(
     alloc: Global,
     names: &[Text],

@@ -1,7 +1,7 @@
 //! The scripts of a widget file.
 ghost use Rattle.std.specs.Prelude.{◌≡◌, ◌+◌, ◌<◌, ◌^◌, length, IfOk};
 ghost use Rattle.slot_check.specs.Sources.{script_text};
-ghost use Rattle.script_check.specs.Line.{place};
+ghost use Rattle.code_units.specs.Places.{place_at as place};
 ghost use Rattle.slot_check.specs.Verdicts.{IsSpanVerdict};
 
 use adsafe_rules::{Accepted, Scope};
@@ -10,14 +10,14 @@ use script_check::{Verdict, judge_script};
 use std::alloc::Global;
 use widget_form::Span;
 
-// The verdict on a script of a file, with the place in that file.
+/// The verdict on a script of a file, with the place in that file.
 #[derive(Drop)]
 pub enum SpanVerdict {
     Clean(Accepted),
     Broken { rule: u8, at: Place },
 }
 
-// The verdict on the script that stands there in a file.
+/// The verdict on the script that stands there in a file.
 #[tactic(auto, using(crate::proofs::Spans::broken_span, crate::proofs::Spans::shorter))]
 pub fn judge_span(
     alloc: Global,
@@ -56,7 +56,7 @@ fn place_behind(file: &[u8], from: usize, at: usize) -> Place
     place_in(file, from.saturating_add(at))
 }
 
-// The place of a byte; the end stands for what is past it.
+/// The place of a byte; the end stands for what is past it.
 #[tactic(auto, using(script_check::proofs::Within::line_within, script_check::proofs::Within::column_within))]
 pub fn place_in(file: &[u8], at: usize) -> Place
     requires { length file.now < 2 ^ 31 }

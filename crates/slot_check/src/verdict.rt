@@ -1,7 +1,7 @@
 //! The verdict on a slot.
 ghost use Rattle.std.specs.Prelude.{◌≡◌, ◌<◌, ℕ, List, length, slice_get, Some, Option, All, IfOk};
 ghost use Rattle.trace_text.specs.declared.line.Rule.TheVariants as rules;
-ghost use Rattle.script_check.specs.Line.{place};
+ghost use Rattle.code_units.specs.Places.{place_at as place};
 ghost use Rattle.slot_check.specs.Sources.{Source, Slot};
 ghost use Rattle.slot_check.specs.Slot.{HasForm, IsIdClean, SlotFirst};
 ghost use Rattle.slot_check.specs.Verdicts.{source_of, sources_of, slot_over, slot_of, IsSmall, AreJudged, AreNamedClean, IsSlotVerdict};

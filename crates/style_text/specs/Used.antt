@@ -1,5 +1,5 @@
 -- Which properties stand in pairs.
-use Rattle.std.specs.Prelude.{◌≡◌, ℕ, List, ◌++◌, Bool, map, Option, MatchOption, ◌≢◌}
+use Rattle.std.specs.Prelude.{List, Bool, map}
 use Rattle.style_text.specs.Styles.{Pair, properties, is_used}
 
 -- for each listed property in order, whether some pair has it

@@ -16,6 +16,7 @@ use code_units::Memory;
 use std::alloc::{AllocError, AllocFailed};
 use thiserror::Error;
 
+/// Why units gave no pairs.
 #[derive(Debug, Drop, Error)]
 pub enum StyleFault {
     /// No style begins with the units up to and with this one; or `at` is the length, where the

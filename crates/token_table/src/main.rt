@@ -31,19 +31,26 @@ fn write_strings(
     Ok(())
 }
 
+// The kind of each token, and where it stands.
+fn write_tokens(list: &[Token], row: &mut String) -> std::result::Result<(), Memory> {
+    for token in list {
+        let separator = if row.is_empty() { "" } else { " " };
+        let kind = token.kind;
+        let from = token.from;
+        let to = token.to;
+        write!(row, "{separator}{kind:?} {from} {to}")?;
+    }
+    Ok(())
+}
+
+// The tokens of a script, or where it has none.
 fn row_of(alloc: Global, bytes: &[u8]) -> std::result::Result<String, Memory> {
     let mut row = String::new(alloc);
     match tokens(alloc, bytes) {
         Err(TokenFault::BadToken { at }) => write!(row, "bad {at}")?,
         Err(TokenFault::Memory) => return Err(Memory),
         Ok(list) => {
-            for token in &list {
-                let separator = if row.is_empty() { "" } else { " " };
-                let kind = token.kind;
-                let from = token.from;
-                let to = token.to;
-                write!(row, "{separator}{kind:?} {from} {to}")?;
-            }
+            write_tokens(&list, &mut row)?;
             write_strings(alloc, bytes, &list, &mut row)?;
         }
     }

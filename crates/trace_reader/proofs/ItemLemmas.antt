@@ -1,5 +1,5 @@
 -- What is an item, and what is none.
-use Rattle.std.proofs.Common.{◌≡◌, ◌≢◌, ℕ, ◌+◌, ◌<◌, ◌≤◌, Bool, true, false, List, [], ◌∷◌, ◌++◌, length, map, take, get_or, codes, Option, Some, None, is_some, option_and_then, refl, sym, ap, subst, ◌∙◌, arith}
+use Rattle.std.proofs.Common.{◌≡◌, ℕ, ◌+◌, ◌<◌, ◌≤◌, true, false, List, [], ◌∷◌, ◌++◌, length, map, take, get_or, codes, Option, Some, None, is_some, option_and_then, refl, sym, ap, subst, arith}
 use Rattle.std.proofs.lemmas.List.{length-map, take_all}
 use Rattle.serde_json.specs.Data.{Data, null, boolean, number, string, array, object, unsigned, negative, float}
 use Rattle.serde_json.specs.Find.{get, as_number, as_u64}
@@ -8,7 +8,7 @@ use Rattle.serde_json.specs.declared.value.Value.{Value}
 use Rattle.trace_reader.specs.Each.{Each}
 use Rattle.trace_reader.specs.Keys.{has_only, is_key, keys_of}
 use Rattle.trace_reader.specs.Look.{number_at}
-use Rattle.trace_reader.specs.Items.{IsStep, IsPath, IsAdvance, IsEvent, IsSwap, IsItem}
+use Rattle.trace_reader.specs.Items.{IsStep, IsPath, IsAdvance, IsSwap, IsItem}
 use Rattle.trace_reader.specs.declared.keys.Shape.TheVariants as shape
 use Rattle.trace_reader.specs.declared.item.TraceItem.{TraceItem}
 use Rattle.trace_reader.specs.declared.item.TraceItem.TheVariants.{Event, Advance, Swap}

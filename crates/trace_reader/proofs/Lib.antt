@@ -8,3 +8,4 @@ pub mod PageLemmas
 pub mod LibLemmas
 pub mod ChannelLemmas
 pub mod ManifestLemmas
+pub mod OneTrace

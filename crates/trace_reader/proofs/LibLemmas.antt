@@ -1,9 +1,8 @@
 -- Library names so far, and where they stop.
-use Rattle.std.proofs.Common.{◌≡◌, ℕ, zero, suc, ◌+◌, ◌<◌, ◌≤◌, Bool, true, false, not, ◌&&◌, ◌||◌, List, [], ◌∷◌, ◌++◌, length, map, take, drop, get_or, bytes_eq, String, Global, string_bytes, Option, Some, None, refl, sym, ap, subst, ◌∙◌, append-nil, arith}
-use Rattle.std.proofs.lemmas.Grind.{common_steps, flat_map-append}
+use Rattle.std.proofs.Common.{◌≡◌, ℕ, ◌+◌, ◌<◌, ◌≤◌, Bool, true, false, not, ◌||◌, List, [], ◌∷◌, ◌++◌, length, map, take, drop, get_or, bytes_eq, String, Global, string_bytes, Some, None, refl, sym, ap, subst, ◌∙◌, append-nil, arith}
+use Rattle.std.proofs.lemmas.Grind.{flat_map-append}
 use Rattle.std.proofs.lemmas.List.{length-map, take_more, take_all, map-append, take-append-drop}
 use Rattle.std.specs.List.{list_any}
-use Rattle.serde_json.specs.Data.{Data}
 use Rattle.serde_json.specs.Find.{as_str}
 use Rattle.serde_json.specs.View.{view}
 use Rattle.serde_json.specs.declared.value.Value.{Value}
@@ -11,7 +10,7 @@ use Rattle.trace_reader.specs.Distinct.{distinct}
 use Rattle.trace_reader.specs.Each.{Each, none_left}
 use Rattle.trace_reader.specs.Slots.{name_list}
 use Rattle.trace_reader.specs.Manifest.{IsLib, AreLibs, texts_in}
-use Rattle.trace_reader.proofs.EachLemmas.{each_length, no_each_value, taken_more}
+use Rattle.trace_reader.proofs.EachLemmas.{no_each_value, taken_more}
 use Rattle.trace_reader.proofs.DistinctLemmas.{distinct_front, distinct_snoc, and_true, and_false}
 
 -- the first i values are these names

@@ -1,5 +1,5 @@
 -- A manifest from its parts, and its faults.
-use Rattle.std.proofs.Common.{◌≡◌, ℕ, ◌<◌, ◌≤◌, true, List, length, take, codes, String, Global, Option, Some, None, MatchOption, sym, ap, subst, ◌∙◌, arith}
+use Rattle.std.proofs.Common.{◌≡◌, ℕ, true, List, length, take, codes, String, Global, Option, Some, MatchOption, sym, ap, subst, ◌∙◌, arith}
 use Rattle.std.proofs.lemmas.List.{take_all}
 use Rattle.serde_json.specs.Data.{Data}
 use Rattle.trace_reader.specs.Each.{Each}

@@ -1,5 +1,5 @@
 -- Entries of a page so far, and where they stop.
-use Rattle.std.proofs.Common.{◌≡◌, ℕ, zero, suc, ◌+◌, ◌<◌, ◌≤◌, Bool, true, false, List, [], ◌∷◌, ◌++◌, length, map, take, drop, get_or, codes, Option, Some, None, option_map, option_and_then, ◌⊎◌, inl, inr, refl, sym, ap, subst, ◌∙◌, append-nil, arith}
+use Rattle.std.proofs.Common.{◌≡◌, ℕ, zero, suc, ◌+◌, ◌<◌, ◌≤◌, true, List, [], ◌∷◌, ◌++◌, length, map, take, drop, get_or, codes, Option, Some, None, option_map, option_and_then, inl, inr, refl, sym, ap, subst, ◌∙◌, append-nil, arith}
 use Rattle.std.proofs.lemmas.Grind.{common_steps, flat_map-append}
 use Rattle.std.proofs.lemmas.Bool.{cases_lt}
 use Rattle.std.proofs.lemmas.List.{length-map, take_more, take_all, map-append}
@@ -11,8 +11,7 @@ use Rattle.serde_json.specs.View.{view}
 use Rattle.serde_json.specs.declared.value.Value.{Value}
 use Rattle.trace_reader.specs.Each.{Each, none_left}
 use Rattle.trace_reader.specs.Keys.{has_only, keys_of}
-use Rattle.trace_reader.specs.Look.{text_at}
-use Rattle.trace_reader.specs.Slots.{IsEntry, IsHtml, IsSlot, name_list, slot_name, entry_names, names_in, are_slots}
+use Rattle.trace_reader.specs.Slots.{IsEntry, name_list, slot_name, entry_names, names_in, are_slots}
 use Rattle.trace_reader.specs.Manifest.{AreGoodEntries, IsLongestGoodPage, BreaksOff}
 use Rattle.trace_reader.specs.declared.keys.Shape.TheVariants as shape
 use Rattle.trace_reader.specs.declared.slot.PageEntry.{PageEntry}

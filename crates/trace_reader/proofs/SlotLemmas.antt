@@ -1,10 +1,10 @@
 -- What is an entry, and what is none.
-use Rattle.std.proofs.Common.{◌≡◌, ℕ, Bool, true, false, List, [], ◌∷◌, codes, nat_eq, Option, Some, None, is_some, option_and_then, if◌then◌else◌, refl, sym, ap, arith}
+use Rattle.std.proofs.Common.{◌≡◌, ℕ, Bool, true, false, List, codes, nat_eq, Option, Some, None, is_some, option_and_then, if◌then◌else◌, refl, ap}
 use Rattle.serde_json.specs.Data.{Data}
 use Rattle.serde_json.specs.Find.{get, as_str}
-use Rattle.trace_reader.specs.Keys.{has_only, is_key, keys_of}
+use Rattle.trace_reader.specs.Keys.{has_only, keys_of}
 use Rattle.trace_reader.specs.Look.{text_at}
-use Rattle.trace_reader.specs.Slots.{IsHtml, IsSlot, IsEntry, slot_shape}
+use Rattle.trace_reader.specs.Slots.{IsHtml, IsSlot, IsEntry}
 use Rattle.trace_reader.specs.declared.keys.Shape.TheVariants as shape
 use Rattle.trace_reader.specs.declared.slot.SlotEntry.{SlotEntry}
 use Rattle.trace_reader.specs.declared.slot.PageEntry.{PageEntry}

@@ -1,5 +1,5 @@
 -- Entries that are items so far, and where they stop.
-use Rattle.std.proofs.Common.{◌≡◌, ◌≢◌, ℕ, zero, suc, ◌+◌, ◌<◌, ◌≤◌, Bool, true, false, List, [], ◌∷◌, ◌++◌, length, map, take, get_or, codes, count_by, Option, Some, None, MatchOption, if◌then◌else◌, ◌⊎◌, inl, inr, refl, sym, ap, subst, ◌∙◌, arith}
+use Rattle.std.proofs.Common.{◌≡◌, ℕ, zero, suc, ◌+◌, ◌<◌, ◌≤◌, List, [], ◌∷◌, ◌++◌, length, map, take, get_or, codes, count_by, Some, MatchOption, if◌then◌else◌, inl, inr, refl, sym, ap, subst, ◌∙◌, arith}
 use Rattle.std.proofs.lemmas.Grind.{common_steps}
 use Rattle.std.proofs.lemmas.Bool.{cases_lt}
 use Rattle.std.proofs.lemmas.List.{length-map, take_more, take_all, map-append}
@@ -9,7 +9,7 @@ use Rattle.serde_json.specs.View.{view}
 use Rattle.serde_json.specs.declared.value.Value.{Value}
 use Rattle.trace_reader.specs.Each.{Each, none_left}
 use Rattle.trace_reader.specs.Items.{IsItem, is_swap}
-use Rattle.trace_reader.specs.Trace.{AreGood, IsLongestGood, IsTrace, IsBadTrace, HasTooMany, IsItemsFault, IsValueFault, judged_version}
+use Rattle.trace_reader.specs.Trace.{AreGood, IsLongestGood, IsItemsFault, IsValueFault, judged_version}
 use Rattle.trace_reader.specs.declared.fault.ShapeFault.{ShapeFault}
 use Rattle.trace_reader.specs.declared.fault.ShapeFault.TheVariants.{NotJson, BadShape, TooMany, Memory}
 use Rattle.trace_reader.specs.Look.{list_at}

@@ -35,11 +35,13 @@ abbrev pub IsValue : Option Data → Option (List ℕ) → Type 0
 IsValue None value = value ≡ None
 IsValue (Some d) value = (units : List ℕ) × (value ≡ Some units) × (option_map units_of (as_str d) ≡ Some units) × (length units ≤ 65536)
 
+-- an advance of time: at most a minute
 pub record IsAdvance (d : Data) (ms : ℕ) : Type 0 where
   pub keys : IsTrue (has_only (keys_of shape.Advance) d)
   pub time : number_at (codes "advance") d ≡ Some ms
   pub short : ms ≤ 60000
 
+-- an event at a node of a slot: its type, the path to the node, and its value
 pub record IsEvent (names : List (List ℕ)) (d : Data) (to : ℕ) (event : Happening) : Type 0 where
   pub keys : IsTrue (has_only (keys_of shape.Event) d)
   pub slot : slot_at (codes "to") names d ≡ Some to
@@ -50,6 +52,7 @@ pub record IsEvent (names : List (List ℕ)) (d : Data) (to : ℕ) (event : Happ
   pub path : IsPath steps event.path.items
   pub value : IsValue (get (codes "value") d) event.value
 
+-- another file for a slot
 pub record IsSwap (names : List (List ℕ)) (d : Data) (to : ℕ) (file : List ℕ) : Type 0 where
   pub keys : IsTrue (has_only (keys_of shape.Swap) d)
   pub slot : slot_at (codes "swap") names d ≡ Some to

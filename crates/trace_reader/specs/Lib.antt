@@ -6,3 +6,4 @@ pub mod Trace
 pub mod Distinct
 pub mod Slots
 pub mod Manifest
+pub mod Said

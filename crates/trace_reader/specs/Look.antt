@@ -13,13 +13,15 @@ values_in (item d ds) = d ∷ values_in ds
 abbrev pub listed_in : Data → Option (List Data)
 listed_in d = option_map values_in (as_array d)
 
--- the whole number that is not below 0, the text, or the list under a key
+-- the whole number under a key that is not below 0
 abbrev pub number_at : List ℕ → Data → Option ℕ
 number_at key d = option_and_then as_u64 (option_and_then as_number (get key d))
 
+-- the text under a key
 abbrev pub text_at : List ℕ → Data → Option (List ℕ)
 text_at key d = option_and_then as_str (get key d)
 
+-- the list under a key
 abbrev pub list_at : List ℕ → Data → Option (List Data)
 list_at key d = option_map values_in (option_and_then as_array (get key d))
 

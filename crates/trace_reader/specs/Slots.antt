@@ -30,6 +30,7 @@ abbrev pub IsFuel : Option Data → Option ℕ → Type 0
 IsFuel None fuel = fuel ≡ None
 IsFuel (Some d) fuel = (n : ℕ) × (fuel ≡ Some n) × (option_and_then as_u64 (as_number d) ≡ Some n) × (1 ≤ n) × (n ≤ 1000000)
 
+-- markup of the page, as a text
 pub record IsHtml (d : Data) (text : List ℕ) : Type 0 where
   pub keys : IsTrue (has_only (keys_of shape.Html) d)
   pub html : text_at (codes "html") d ≡ Some text
@@ -38,6 +39,7 @@ pub record IsHtml (d : Data) (text : List ℕ) : Type 0 where
 abbrev pub slot_shape : ℕ → Shape
 slot_shape version = if nat_eq version 2 then shape.FuelledSlot else shape.Slot
 
+-- a slot: its name and its file
 pub record IsSlot (version : ℕ) (d : Data) (slot : SlotEntry) : Type 0 where
   pub keys : IsTrue (has_only (keys_of (slot_shape version)) d)
   pub name : option_map units_of (text_at (codes "widget") d) ≡ Some slot.name
@@ -55,6 +57,7 @@ abbrev pub name_list : Option (List ℕ) → List (List ℕ)
 name_list None = []
 name_list (Some name) = name ∷ []
 
+-- the name of a slot that stands in an entry
 abbrev pub slot_name : Data → Option (List ℕ)
 slot_name d = option_map units_of (text_at (codes "widget") d)
 

@@ -1,5 +1,5 @@
 -- A trace as a JSON value, and where one is out of shape.
-use Rattle.std.specs.Prelude.{◌≡◌, ◌≤◌, ◌<◌, ⊤, ℕ, Bool, IsTrue, IsUtf8, List, length, take, codes, count_by, MatchOption, Option, Some, None, unwrap_or, nat_eq, ◌||◌, if◌then◌else◌}
+use Rattle.std.specs.Prelude.{◌≡◌, ◌≤◌, ◌<◌, ⊤, ℕ, Bool, IsTrue, IsUtf8, List, length, take, codes, count_by, MatchOption, Some, unwrap_or, nat_eq, ◌||◌, if◌then◌else◌}
 use Rattle.serde_json.specs.Data.{Data}
 use Rattle.serde_json.specs.Read.{read}
 use Rattle.trace_reader.specs.Each.{Each}

@@ -66,15 +66,11 @@ fn read_pairs(alloc: Global, pairs: &[Value], names: &[Text]) -> Result<Vec<(u32
     }
     let mut channels = Vec::new(alloc);
     'pairs: for pair in pairs {
-        match read_channel(pair, names) {
-            Ok(channel) => {
-                if is_given(&channels, channel) {
-                    return Err(Misfit::Shape);
-                }
-                channels.push(channel)?;
-            }
-            Err(misfit) => return Err(misfit),
+        let channel = read_channel(pair, names)?;
+        if is_given(&channels, channel) {
+            return Err(Misfit::Shape);
         }
+        channels.push(channel)?;
     }
     Ok(channels)
 }

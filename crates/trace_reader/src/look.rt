@@ -10,24 +10,28 @@ use code_units::{Memory, Text, from_utf8_bytes, is_word};
 use serde_json::Value;
 use std::alloc::Global;
 
+/// Whether the value has something under a key.
 pub fn has_key(value: &Value, key: &str) -> bool
     ensures { result ≡ is_some (get key.now (view value.now)) }
 {
     value.get(key).is_some()
 }
 
+/// The whole number under a key that is not below 0.
 pub fn number_at(value: &Value, key: &str) -> Option<u64>
     ensures { result ≡ number_at key.now (view value.now) }
 {
     value.get(key).and_then(Value::as_u64)
 }
 
+/// The text under a key.
 pub fn text_at<'a>(value: &'a Value, key: &str) -> Option<&'a str>
     ensures { option_map (λ s. s.now) result ≡ text_at key.now (view value.now) }
 {
     value.get(key).and_then(Value::as_str)
 }
 
+/// The values of a value that is a list.
 pub fn list_in(value: &Value) -> Option<&[Value]>
     ensures { option_map (λ l. map view l.now) result ≡ listed_in (view value.now) }
 {
@@ -37,6 +41,7 @@ pub fn list_in(value: &Value) -> Option<&[Value]>
     Some(list.as_slice())
 }
 
+/// The list under a key.
 pub fn list_at<'a>(value: &'a Value, key: &str) -> Option<&'a [Value]>
     ensures { option_map (λ l. map view l.now) result ≡ list_at key.now (view value.now) }
 {
@@ -56,6 +61,7 @@ pub fn named(text: &str, names: &[Text]) -> Option<usize>
     names.iter().position(|name| is_word(name, text.as_bytes()))
 }
 
+/// The number of the slot whose name stands under a key.
 pub fn slot_at(value: &Value, key: &str, names: &[Text]) -> Option<usize>
     ensures { result ≡ slot_at key.now names.now (view value.now) }
 {

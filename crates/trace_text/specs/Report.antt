@@ -33,6 +33,7 @@ abbrev pub rule_mark : Rule → List ℕ
 rule_mark (M n) = if nat_lt n 10 then codes "M0" else codes "M"
 rule_mark (A n) = if nat_lt n 10 then codes "A0" else codes "A"
 
+-- the number of a rule
 abbrev pub rule_number : Rule → ℕ
 rule_number (M n) = n
 rule_number (A n) = n
@@ -75,20 +76,24 @@ until_member (Some n) = codes ",\"until\":" ++ decimal n
 abbrev pub concat : List (List ℕ) → List ℕ
 concat parts = flat_map (λ part. part) parts
 
--- each line is a JSON object without blanks, and a line feed
+-- Each line is a JSON object without blanks, and a line feed.
+-- A library breaks no rule: {"file":"..","accepted":true}
 abbrev pub lib_accepted : List ℕ → List ℕ
 lib_accepted file = concat (codes "{\"file\":\"" ∷ escaped file ∷ codes "\",\"accepted\":true}\n" ∷ [])
 
+-- a library breaks a rule first: {"file":"..","refused":"A04","at":[2,31]}, with line and column
 abbrev pub lib_refused : List ℕ → Rule → Place → List ℕ
 lib_refused file rule at =
     concat (codes "{\"file\":\"" ∷ escaped file
     ∷ codes "\",\"refused\":\"" ∷ rule_mark rule ∷ decimal (rule_number rule)
     ∷ codes "\",\"at\":[" ∷ decimal at.line ∷ codes "," ∷ decimal at.column ∷ codes "]}\n" ∷ [])
 
+-- a slot breaks no rule: {"widget":"..","file":"..","accepted":true}
 abbrev pub accepted_slot : List ℕ → List ℕ → List ℕ
 accepted_slot name file =
     concat (codes "{\"widget\":\"" ∷ text_inside name ∷ codes "\",\"file\":\"" ∷ escaped file ∷ codes "\",\"accepted\":true}\n" ∷ [])
 
+-- a life whose files break a rule: {"widget":"..","file":"..","refused":"M03","at":[1,7]}, with `until` before the file where a swap ended it
 abbrev pub refused_life : List ℕ → Option ℕ → List ℕ → Rule → Place → List ℕ
 refused_life name until file rule at =
     concat (codes "{\"widget\":\"" ∷ text_inside name ∷ codes "\"" ∷ until_member until
@@ -96,7 +101,7 @@ refused_life name until file rule at =
     ∷ codes "\",\"refused\":\"" ∷ rule_mark rule ∷ decimal (rule_number rule)
     ∷ codes "\",\"at\":[" ∷ decimal at.line ∷ codes "," ∷ decimal at.column ∷ codes "]}\n" ∷ [])
 
--- what a life did, up to the events that it no longer took
+-- what a life did, up to the events that it no longer took: {"widget":"..","state":"live","turns":..,"spent":..,"missed":..,"gone":..
 unfoldable pub run_members : RunText → List ℕ
 run_members run =
     concat (codes "{\"widget\":\"" ∷ text_inside run.name ∷ codes "\"" ∷ until_member run.until
@@ -104,7 +109,7 @@ run_members run =
     ∷ codes ",\"spent\":" ∷ decimal run.spent ∷ codes ",\"missed\":" ∷ decimal run.missed
     ∷ codes ",\"gone\":" ∷ decimal run.gone ∷ [])
 
--- its log and its uncaught notes
+-- its log and its uncaught notes: ,"log":[..],"uncaught":[..]
 unfoldable pub run_notes : List (List ℕ) → List (List ℕ) → List ℕ
 run_notes log uncaught =
     concat (codes ",\"log\":[" ∷ quoted_list log ∷ codes "],\"uncaught\":[" ∷ quoted_list uncaught ∷ codes "]" ∷ [])
@@ -113,16 +118,19 @@ run_notes log uncaught =
 abbrev pub line_end : List ℕ
 line_end = codes "}\n"
 
+-- a life without its notes
 abbrev pub short_life : RunText → List ℕ
 short_life run = run_members run ++ line_end
 
+-- a life with its notes
 abbrev pub ran_life : RunText → List ℕ
 ran_life run = run_members run ++ (run_notes run.log.items run.uncaught.items ++ line_end)
 
--- the text of a page, which stands as UTF-8
+-- the text of a page, which stands as UTF-8: {"page":".."}
 abbrev pub page_line : List ℕ → List ℕ
 page_line text = concat (codes "{\"page\":\"" ∷ escaped text ∷ codes "\"}\n" ∷ [])
 
+-- a line of a report
 abbrev pub line_text : Line → List ℕ
 line_text (Ran run) = ran_life run
 line_text (Short run) = short_life run

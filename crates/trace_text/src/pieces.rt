@@ -70,51 +70,52 @@ fn push_escaped(bytes: &[u8], out: &mut Vec<u8>) -> Result<(), Memory>
     Ok(())
 }
 
-fn push_units(text: &Text, out: &mut Vec<u8>) -> Result<(), Memory>
+// Appends a text, escaped. The buffer holds its UTF-8 meanwhile; the texts of a line share it.
+fn push_units(text: &Text, buffer: &mut Vec<u8>, out: &mut Vec<u8>) -> Result<(), Memory>
     ensures ok { OnOk result (out.new.items ≡ out.old.items ++ text_inside text.now) }
     ensures part { AppendsPart out.old.items out.new.items (text_inside text.now) }
 {
-    let mut bytes = Vec::new(*out.allocator());
-    push_utf8(text, &mut bytes)?;
-    push_escaped(&bytes, out)
+    buffer.clear();
+    push_utf8(text, buffer)?;
+    push_escaped(buffer, out)
 }
 
-fn push_quoted(text: &Text, out: &mut Vec<u8>) -> Result<(), Memory>
+fn push_quoted(text: &Text, buffer: &mut Vec<u8>, out: &mut Vec<u8>) -> Result<(), Memory>
     ensures ok { OnOk result (out.new.items ≡ out.old.items ++ quoted text.now) }
     ensures part { AppendsPart out.old.items out.new.items (quoted text.now) }
 {
     out.extend_from_slice(b"\"")?;
-    push_units(text, out)?;
+    push_units(text, buffer, out)?;
     Ok(out.extend_from_slice(b"\"")?)
 }
 
-fn push_next(text: &Text, out: &mut Vec<u8>) -> Result<(), Memory>
+fn push_next(text: &Text, buffer: &mut Vec<u8>, out: &mut Vec<u8>) -> Result<(), Memory>
     ensures ok { OnOk result (out.new.items ≡ out.old.items ++ next_quoted text.now) }
     ensures part { AppendsPart out.old.items out.new.items (next_quoted text.now) }
 {
     out.extend_from_slice(b",")?;
-    push_quoted(text, out)
+    push_quoted(text, buffer, out)
 }
 
-fn push_rest(texts: &[Text], out: &mut Vec<u8>) -> Result<(), Memory>
+fn push_rest(texts: &[Text], buffer: &mut Vec<u8>, out: &mut Vec<u8>) -> Result<(), Memory>
     ensures ok { OnOk result (out.new.items ≡ out.old.items ++ flat_map next_quoted texts.now) }
     ensures part { AppendsPart out.old.items out.new.items (flat_map next_quoted texts.now) }
 {
     'texts: for text in texts {
-        push_next(text, out)?;
+        push_next(text, buffer, out)?;
     }
     Ok(())
 }
 
-fn push_texts(texts: &[Text], out: &mut Vec<u8>) -> Result<(), Memory>
+fn push_texts(texts: &[Text], buffer: &mut Vec<u8>, out: &mut Vec<u8>) -> Result<(), Memory>
     ensures ok { OnOk result (out.new.items ≡ out.old.items ++ quoted_list texts.now) }
     ensures part { AppendsPart out.old.items out.new.items (quoted_list texts.now) }
 {
     let Some((first, rest)) = texts.split_first() else {
         return Ok(());
     };
-    push_quoted(first, out)?;
-    push_rest(rest, out)
+    push_quoted(first, buffer, out)?;
+    push_rest(rest, buffer, out)
 }
 
 fn push_number(n: u64, out: &mut Vec<u8>) -> Result<(), Memory>
@@ -136,15 +137,15 @@ fn push_until(until: Option<u32>, out: &mut Vec<u8>) -> Result<(), Memory>
     push_number(u64::from(n), out)
 }
 
-fn push_piece(piece: &Piece, out: &mut Vec<u8>) -> Result<(), Memory>
+fn push_piece(piece: &Piece, buffer: &mut Vec<u8>, out: &mut Vec<u8>) -> Result<(), Memory>
     ensures ok { OnOk result (out.new.items ≡ out.old.items ++ piece_text piece.now) }
     ensures part { AppendsPart out.old.items out.new.items (piece_text piece.now) }
 {
     match piece {
         Piece::Plain(text) => Ok(out.extend_from_slice(text.as_bytes())?),
         Piece::Escaped(bytes) => push_escaped(bytes, out),
-        Piece::Units(text) => push_units(text, out),
-        Piece::Texts(texts) => push_texts(texts, out),
+        Piece::Units(text) => push_units(text, buffer, out),
+        Piece::Texts(texts) => push_texts(texts, buffer, out),
         Piece::Until(until) => push_until(*until, out),
         Piece::Number(n) => push_number(*n, out),
     }
@@ -155,8 +156,9 @@ pub fn push_pieces(pieces: &[Piece], out: &mut Vec<u8>) -> Result<(), Memory>
     ensures ok { OnOk result (out.new.items ≡ out.old.items ++ flat_map piece_text pieces.now) }
     ensures part { AppendsPart out.old.items out.new.items (flat_map piece_text pieces.now) }
 {
+    let mut buffer = Vec::new(*out.allocator());
     'pieces: for piece in pieces {
-        push_piece(piece, out)?;
+        push_piece(piece, &mut buffer, out)?;
     }
     Ok(())
 }

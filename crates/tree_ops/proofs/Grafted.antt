@@ -1,5 +1,5 @@
 -- Trees are grafted on others.
-use Rattle.std.proofs.Common.{◌≡◌, ℕ, Bool, true, false, refl, ap, ◌∙◌, eqb, cond, ◌||◌, ◌&&◌, Option}
+use Rattle.std.proofs.Common.{None, ◌≡◌, ℕ, Bool, true, false, refl, ap, ◌∙◌, eqb, cond, ◌||◌, ◌&&◌, Option}
 use Rattle.plain_tree.specs.Trees.{Trees, End, Node, beside}
 use Rattle.tree_ops.specs.Trees.{has, is_number, put_before, grafted}
 use Rattle.tree_ops.proofs.Tests.{cases}
@@ -21,6 +21,10 @@ has_beside n (Node m l ks us) ts =
     ap (λ b. eqb m n || (has n ks || b)) (has_beside n us ts)
     ∙ ap (λ b. eqb m n || b) (turned (has n ks) (has n ts) (has n us))
     ∙ turned (eqb m n) (has n ts) (has n ks || has n us)
+
+pub behind_last : (us ts : Trees ℕ) → put_before None us ts ≡ beside ts us
+behind_last us End = refl
+behind_last us (Node m l ks ts) = ap (Node m l ks) (behind_last us ts)
 
 has_before : (n : ℕ) (s : Option ℕ) (us ts : Trees ℕ) → has n (put_before s us ts) ≡ (has n ts || has n us)
 has_before n s us End = refl

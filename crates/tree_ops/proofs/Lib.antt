@@ -1,4 +1,5 @@
 pub mod Tests
+pub mod Absent
 pub mod Numbers
 pub mod Taken
 pub mod Grafted

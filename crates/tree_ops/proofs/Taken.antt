@@ -7,18 +7,10 @@ use Rattle.std.proofs.lemmas.Bool.{cases_Bool}
 use Rattle.plain_tree.specs.Trees.{Label, Trees, End, Node}
 use Rattle.tree_ops.specs.Trees.{numbers, has, tree_of, subtree, without}
 use Rattle.tree_ops.proofs.Tests.{cases, or_none, or_left, or_right, not_both}
+use Rattle.tree_ops.proofs.Absent.{without_off}
 use Rattle.tree_ops.proofs.Numbers.{Apart, Once, all_left, none_left}
 
--- where it is not there
-absent : (n : ℕ) (ts : Trees ℕ) → has n ts ≡ false → without n ts ≡ ts
-absent n End h = refl
-absent n (Node m l ks ts) h =
-    let p = or_none (eqb m n) (has n ks || has n ts) h in
-    let q = or_none (has n ks) (has n ts) (p.1) in
-    ap (λ b. cond b (without n ts) (Node m l (without n ks) (without n ts))) (p.0)
-    ∙ ap (λ t. Node m l t (without n ts)) (absent n ks (q.0))
-    ∙ ap (Node m l ks) (absent n ts (q.1))
-
+-- where it is not there there is no tree of it
 no_tree : (n : ℕ) (ts : Trees ℕ) → has n ts ≡ false → tree_of n ts ≡ None
 no_tree n End h = refl
 no_tree n (Node m l ks ts) h =
@@ -75,7 +67,7 @@ module _ (n m : ℕ) (ks ts : Trees ℕ) (l : Label) (h : Once (Node m l ks ts))
       ap not (ap (λ b. b || (has x ks || false)) (ne_eqb m x (λ same. absurd (true_false (sym e ∙ subst (λ y. has y ts ≡ false) same (h.1))))) ∙ ap (λ b. b || false) (apart_back ks ts (h.2) x e)) in
       let first : not (has m (Node m l ks End)) ≡ false = ap (λ b. not (b || (has m ks || false))) (eq-eqb m m refl) in
       let p : ℕ → Bool = λ x. not (has x (Node m l ks End)) in
-      ap numbers (absent n ts (subst (λ y. has y ts ≡ false) e (h.1)))
+      ap numbers (without_off n ts (subst (λ y. has y ts ≡ false) e (h.1)))
       ∙ sym (all_left p ts away)
       ∙ sym (ap (λ xs. xs ++ filter p (numbers ts)) (none_left p ks (λ x e. gone x (below x e))))
       ∙ sym (filter-append p (numbers ks) (numbers ts))
@@ -87,12 +79,12 @@ module _ (n m : ℕ) (ks ts : Trees ℕ) (l : Label) (h : Once (Node m l ks ts))
     where
       in_children : has n ks ≡ true → numbers (Node m l (without n ks) (without n ts)) ≡ filter (λ x. not (has x (unwrap_or (option_or (tree_of n ks) (tree_of n ts)) End))) (m ∷ (numbers ks ++ numbers ts))
       in_children e =
-          parts (left n ks) m ks ts (without n ks) (without n ts) (ap not (not_in_tree n m ks (h.0))) hk (ap numbers (absent n ts (h.2 n e)) ∙ sym (all_left (left n ks) ts (λ x i. ap not (not_in_tree n x ks (apart_back ks ts (h.2) x i)))))
+          parts (left n ks) m ks ts (without n ks) (without n ts) (ap not (not_in_tree n m ks (h.0))) hk (ap numbers (without_off n ts (h.2 n e)) ∙ sym (all_left (left n ks) ts (λ x i. ap not (not_in_tree n x ks (apart_back ks ts (h.2) x i)))))
           ∙ ap (λ o. filter (λ x. not (has x (unwrap_or o End))) (m ∷ (numbers ks ++ numbers ts))) (sym (no_other (tree_of n ks)) ∙ ap (option_or (tree_of n ks)) (sym (no_tree n ts (h.2 n e))))
 
       beside : has n ks ≡ false → numbers (Node m l (without n ks) (without n ts)) ≡ filter (λ x. not (has x (unwrap_or (option_or (tree_of n ks) (tree_of n ts)) End))) (m ∷ (numbers ks ++ numbers ts))
       beside e =
-          parts (left n ts) m ks ts (without n ks) (without n ts) (ap not (not_in_tree n m ts (h.1))) (ap numbers (absent n ks e) ∙ sym (all_left (left n ts) ks (λ x i. ap not (not_in_tree n x ts (h.2 x i))))) hs
+          parts (left n ts) m ks ts (without n ks) (without n ts) (ap not (not_in_tree n m ts (h.1))) (ap numbers (without_off n ks e) ∙ sym (all_left (left n ts) ks (λ x i. ap not (not_in_tree n x ts (h.2 x i))))) hs
           ∙ ap (λ o. filter (λ x. not (has x (unwrap_or (option_or o (tree_of n ts)) End))) (m ∷ (numbers ks ++ numbers ts))) (sym (no_tree n ks e))
 
 pub without_left : (n : ℕ) (ts : Trees ℕ) → Once ts → numbers (without n ts) ≡ filter (left n ts) (numbers ts)

@@ -4,12 +4,12 @@
 //! The functions do nothing: their contracts are laws that say of the definitions what they mean.
 #![tactic(auto)]
 
-ghost use Rattle.std.specs.Prelude.{◌≡◌, ℕ, List, [], ◌∷◌, ◌++◌, map, Option, Some, false, not, ◌&&◌, ◌||◌, ◌==◌, nat_eq, is_some, if◌then◌else◌};
+ghost use Rattle.std.specs.Prelude.{◌≡◌, ℕ, List, [], ◌∷◌, ◌++◌, map, Option, None, false, not, ◌&&◌, ◌||◌, ◌==◌, nat_eq, is_some, if◌then◌else◌};
 ghost use Rattle.std.specs.List.{filter, list_any, range_with_len, IsDistinct};
 ghost use Rattle.std.specs.Str.{bytes_eq};
-ghost use Rattle.plain_tree.specs.Trees.{Attribute, Label, Trees, unmarked, size, value_of};
+ghost use Rattle.plain_tree.specs.Trees.{Attribute, Label, Trees, beside, unmarked, size, value_of};
 ghost use Rattle.tree_ops.specs.Labels.{is_text, attribute_of, with_value, with_attribute};
-ghost use Rattle.tree_ops.specs.Trees.{numbers, has, subtree, without, relabelled, grafted, numbered, copied};
+ghost use Rattle.tree_ops.specs.Trees.{numbers, has, subtree, without, relabelled, put_before, grafted, numbered, copied};
 
 /// A number stands in trees where it is among their numbers.
 pub fn has_its_numbers()
@@ -22,8 +22,17 @@ pub fn without_leaves_others()
 {}
 
 /// Trees and what is grafted on them at a node have the numbers of both, where the node is there.
+/// What is put before no number comes behind the last.
 pub fn grafted_has_both()
-    ensures { (t : ℕ) (s : Option ℕ) (us ts : Trees ℕ) (n : ℕ) → has n (grafted t s us ts) ≡ (has n ts || (has t ts && has n us)) }
+    ensures last { (us ts : Trees ℕ) → put_before None us ts ≡ beside ts us }
+    ensures both { (t : ℕ) (s : Option ℕ) (us ts : Trees ℕ) (n : ℕ) → has n (grafted t s us ts) ≡ (has n ts || (has t ts && has n us)) }
+{}
+
+/// Where a node is not there, nothing is taken, put in or given another label.
+pub fn nothing_without_the_node()
+    ensures without { (n : ℕ) (ts : Trees ℕ) → has n ts ≡ false → without n ts ≡ ts }
+    ensures grafted { (t : ℕ) (s : Option ℕ) (us ts : Trees ℕ) → has t ts ≡ false → grafted t s us ts ≡ ts }
+    ensures relabelled { (n : ℕ) (l : Label) (ts : Trees ℕ) → has n ts ≡ false → relabelled n l ts ≡ ts }
 {}
 
 /// A renumbering leaves labels and shape, and counts on in document order.

@@ -6,3 +6,4 @@ pub mod Rooted
 pub mod Siblings
 pub mod Body
 pub mod Splitting
+pub mod GoodFiles

@@ -21,6 +21,7 @@ pub record Element : Type 0 where
   pub attrs : List Attr
   pub kids : Trees Places
 
+-- the element of a node's parts
 abbrev pub element : Places → List ℕ → List Attribute → Trees Places → Element
 element m tag attrs ks = record { at = m.at; tag = tag; attrs = spots attrs m.attrs; kids = ks }
 
@@ -36,6 +37,7 @@ tops End = []
 tops (Node m (TextOf us) ks ts) = tops ts
 tops (Node m (ElementOf tag attrs) ks ts) = element m tag attrs ks ∷ tops ts
 
+-- the tags of the root and of a script
 abbrev pub is_div : List ℕ → Bool
 is_div tag = bytes_eq tag (codes "div")
 
@@ -56,6 +58,7 @@ others (Node m (ElementOf tag attrs) ks ts) = if is_div tag then elements ks ++ 
 
 -- ## Attributes
 
+-- the attribute has this name
 abbrev pub is_named : List ℕ → Attr → Bool
 is_named word a = bytes_eq a.name word
 
@@ -63,11 +66,13 @@ is_named word a = bytes_eq a.name word
 abbrev pub first_named : List ℕ → List Attr → Option Attr
 first_named word attrs = find (is_named word) attrs
 
+-- an attribute with this name stands in the element
 abbrev pub has_named : List ℕ → Element → Bool
 has_named word e = is_some (first_named word e.attrs)
 
 -- ## Scripts
 
+-- an element that is a script
 abbrev pub is_script_element : Element → Bool
 is_script_element e = is_script e.tag
 
@@ -87,6 +92,7 @@ before_scripts (Node m (ElementOf tag attrs) ks ts) = if is_script tag then End 
 
 -- ## Items
 
+-- a space, a tab, CR or LF
 abbrev pub is_blank_unit : ℕ → Bool
 is_blank_unit u = nat_eq u 32 || nat_eq u 9 || nat_eq u 13 || nat_eq u 10
 
@@ -99,6 +105,7 @@ pub data Item : Type 0 where
   AText : ℕ → Item
   AnElement : Element → Item
 
+-- where it stands
 abbrev pub item_at : Item → ℕ
 item_at (AText at) = at
 item_at (AnElement e) = e.at
@@ -109,6 +116,7 @@ items End = []
 items (Node m (TextOf us) ks ts) = if is_blank us then items ts else AText m.at ∷ items ts
 items (Node m (ElementOf tag attrs) ks ts) = AnElement (element m tag attrs ks) ∷ items ts
 
+-- it is a script, or a `div`
 abbrev pub is_script_item : Item → Bool
 is_script_item (AText at) = false
 is_script_item (AnElement e) = is_script e.tag

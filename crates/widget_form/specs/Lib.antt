@@ -3,3 +3,4 @@ pub mod Elements
 pub mod Rows
 pub mod Forms
 pub mod Parts
+pub mod Good

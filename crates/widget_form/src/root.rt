@@ -72,8 +72,9 @@ fn disordered(scripts: &[Part], best: Option<Breach>) -> Option<Breach>
     least
 }
 
-// How much room is left when a tree's nodes have taken theirs, none exactly where there is too little.
-fn room_after(plain: &Plain, room: u32) -> Option<u32>
+/// How much room is left when a tree's nodes have taken theirs, none exactly where there is too
+/// little.
+pub fn room_after(plain: &Plain, room: u32) -> Option<u32>
     ensures { MatchOption result
         (room < size (placed plain.now))
         (λ left. left + size (placed plain.now) ≡ room) }

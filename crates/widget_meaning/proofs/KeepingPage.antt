@@ -10,7 +10,7 @@ use Rattle.widget_meaning.specs.OwnState.{State, with_new_cell, Notes}
 use Rattle.widget_meaning.specs.Plan.{Plan}
 use Rattle.widget_meaning.specs.NativeNames.{ReadNative, Query, GetValue, GetValues, GetStyle, GetClass, GetTitle, GetCheck, Explode, Count, GetParent, GetTagName, GetMark, WriteNative, Append, Remove, Empty, Replace, SetValue, SetStyle, SetClass, SetTitle, SetCheck, SetEnabled, Focus, Blur, On, Off, Fire, Each, SetMark, Protect, Bubble, DomNative, DomQuery, DomAppend, DomTag, DomText, NativeId, OfGlobal, OfMath, OfPrototype, OfText, OfList, OfAdsafe, OfDom, OfRead, OfWrite}
 use Rattle.widget_meaning.specs.PageForms.{want, want_all, is_input, is_text_node, want_one, want_bunch, want_place, with_label}
-use Rattle.widget_meaning.specs.QueryForms.{QueryStep}
+use Rattle.query_grammar.specs.Steps.{Step}
 use Rattle.widget_meaning.specs.BunchReads.{query, read_native, give_page_text, query_steps, get_value, get_values, get_attribute, get_style, explode, get_parent, get_tag_name, read_method, exploded, with_bunch}
 use Rattle.widget_meaning.specs.BunchWrites.{appended, write_native, alter, alter_for, append_trees, append, remove, replace, set_value, set_style, set_attribute, set_flag, focus, blur, listen, hush, fired, fire, each_called, each, write_method, with_copies, emptied, relabel, with_text_node, valued, alter_each, noted}
 use Rattle.widget_meaning.specs.DomNatives.{dom_native, give_node, dom_tag, append_to_root, dom_append}
@@ -90,7 +90,7 @@ module _ (inv : Invariant) where
   pub give_page_text_r : (x0 : ℕ) (x1 : List ℕ) (x2 : State) → R inv x2 → Keeps inv (give_page_text x0 x1 x2)
   give_page_text_r extra t s hr = search (charged, made_text, ended)
 
-  pub query_steps_r : (x0 : Option (List QueryStep)) (x1 : List ℕ) (x2 : State) → R inv x2 → Keeps inv (query_steps x0 x1 x2)
+  pub query_steps_r : (x0 : Option (List Step)) (x1 : List ℕ) (x2 : State) → R inv x2 → Keeps inv (query_steps x0 x1 x2)
   query_steps_r None ns s hr = search (faulted)
   query_steps_r (Some qs) ns s hr = search (charged, make_bunch_r, ended)
 

@@ -22,6 +22,7 @@ pub mod JsonReturns
 pub mod JsonHolds
 pub mod NativeLawsHold
 pub mod NativeRowsHold
-pub mod StylesHold
+pub mod TextsHold
+pub mod SightHolds
 pub mod PageRowsHold
 pub mod BodyRowsHold

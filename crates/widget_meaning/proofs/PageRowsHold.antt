@@ -4,7 +4,10 @@ use Rattle.std.specs.Prelude.{Some, None, [], ◌∷◌, codes}
 use Rattle.widget_meaning.specs.Values.{Fuel}
 use Rattle.plain_tree.specs.Trees.{ElementOf, TextOf}
 use Rattle.widget_meaning.specs.Trees.{label_of}
-use Rattle.widget_meaning.specs.QueryForms.{HuntTag, First, read_query}
+use Rattle.query_grammar.specs.declared.query.Hunter.TheVariants as hunter
+use Rattle.query_grammar.specs.declared.query.ListFilter.TheVariants as on_list
+use Rattle.query_grammar.specs.declared.query.StepFilter.TheVariants as kind
+use Rattle.widget_meaning.specs.Queries.{read_query}
 use Rattle.widget_meaning.specs.Rows.{Row, rendered}
 use Rattle.widget_meaning.specs.PageRows.{PageRows, Events, hidden_keys, bad_query, protected_paragraph, second_item, counted, looped}
 use Rattle.widget_meaning.proofs.OnLiterals.{widgets_on_literals}
@@ -21,7 +24,8 @@ protected_paragraph_row_holds : Row (rendered protected_paragraph) None 98 (code
 unfolding widgets_on_literals
 protected_paragraph_row_holds = record { stop_is = refl; spent_is = refl; log_is = refl; uncaught_is = refl }
 
-joined_keyword_holds : read_query (codes "p:firstb") ≡ Some (record { hunter = HuntTag (codes "p"); filters = First ∷ [] } ∷ record { hunter = HuntTag (codes "b"); filters = [] } ∷ [])
+joined_keyword_holds : read_query (codes "p:firstb") ≡ Some (record { hunter = hunter.Tag (codes "p"); filters = kind.List on_list.First ∷ [] } ∷ record { hunter = hunter.Tag (codes "b"); filters = [] } ∷ [])
+unfolding widgets_on_literals
 joined_keyword_holds = refl
 
 second_item_row_holds : Row (rendered (second_item "li:rest:first")) None 48 (codes "b" ∷ codes "1" ∷ []) []

@@ -11,8 +11,10 @@ use Rattle.widget_meaning.specs.NativeForms.{want_primitives, on_bunch, make_bun
 use Rattle.style_text.specs.Styles.{is_listed}
 use Rattle.widget_meaning.specs.Styles.{style_pairs, style_value}
 use Rattle.widget_meaning.specs.PageForms.{want, want_all, attribute, texts_of, tag_of, is_input, is_text_node, once, next_node}
-use Rattle.widget_meaning.specs.QueryForms.{QueryStep, Hunter, HuntNext, read_query}
-use Rattle.widget_meaning.specs.Queries.{finds}
+use Rattle.query_grammar.specs.declared.query.Hunter.{Hunter}
+use Rattle.query_grammar.specs.declared.query.Hunter.TheVariants as hunter
+use Rattle.query_grammar.specs.Steps.{Step}
+use Rattle.widget_meaning.specs.Queries.{read_query, finds}
 
 -- a text that is made and given, with this extra
 abbrev pub give_page_text : ℕ → List ℕ → State → Plan
@@ -20,16 +22,16 @@ give_page_text extra t s = charge extra s (make_text t s (give (Text t)))
 
 -- whether a hunter is `+`
 abbrev pub is_next : Hunter → Bool
-is_next (HuntNext tag) = true
+is_next (hunter.Next tag) = true
 is_next h = false
 
 -- the starts of a query: no protected nodes where the first step's hunter is `+`
-abbrev pub starts : State → List QueryStep → List ℕ → List ℕ
+abbrev pub starts : State → List Step → List ℕ → List ℕ
 starts s [] ns = ns
 starts s (q ∷ qs) ns = if is_next q.hunter then filter (λ n. not (notes_at s n).is_protected) ns else ns
 
 -- what a query of these steps finds, or E9 where the text is no query
-abbrev pub query_steps : Option (List QueryStep) → List ℕ → State → Plan
+abbrev pub query_steps : Option (List Step) → List ℕ → State → Plan
 query_steps None ns s = throw E9 s
 query_steps (Some qs) ns s = charge (length qs * next_node s) s (make_bunch (finds s (starts s qs ns) qs) s give)
 

@@ -25,9 +25,9 @@ pub mod JsonBack
 pub mod JsonLaws
 pub mod NativeLaws
 pub mod AdsafeNatives
+pub mod Outcomes
 pub mod Styles
 pub mod PageForms
-pub mod QueryForms
 pub mod Queries
 pub mod BunchReads
 pub mod BunchWrites

@@ -57,10 +57,6 @@ max_nesting = 100
 abbrev pub max_node_depth : ℕ
 max_node_depth = 200
 
--- of steps in one query
-abbrev pub max_query_steps : ℕ
-max_query_steps = 32
-
 -- of letters in one type of events
 abbrev pub max_event_type : ℕ
 max_event_type = 16

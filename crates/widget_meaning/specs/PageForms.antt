@@ -4,6 +4,9 @@ use Rattle.std.specs.List.{list_any, list_all}
 use Rattle.std.specs.Int.{is_in_range}
 use Rattle.std.specs.Str.{bytes_eq, byte}
 use Rattle.std.specs.Option.{option_map_or}
+use Rattle.query_grammar.specs.Filters as node
+use Rattle.query_grammar.specs.Filters.{Look}
+use Rattle.query_grammar.specs.Finds.{has_number}
 use Rattle.widget_meaning.specs.Limits.{max_event_type}
 use Rattle.widget_meaning.specs.Values.{Value, E4, E10}
 use Rattle.plain_tree.specs.Names as names
@@ -56,14 +59,6 @@ is_tag tags s n = list_any (bytes_eq (tag_of s n)) tags
 abbrev pub is_void : State → ℕ → Bool
 is_void s n = names.is_void (tag_of s n)
 
--- an `input`
-abbrev pub is_input : State → ℕ → Bool
-is_input s n = is_tag (codes "input" ∷ []) s n
-
--- an element that can be disabled
-abbrev pub is_field : State → ℕ → Bool
-is_field s n = is_tag (codes "input" ∷ codes "button" ∷ codes "textarea" ∷ codes "select" ∷ codes "option" ∷ []) s n
-
 -- an element
 abbrev pub is_element : State → ℕ → Bool
 is_element s n = not (is_text_node s n)
@@ -72,10 +67,17 @@ is_element s n = not (is_text_node s n)
 abbrev pub attribute : State → ℕ → List ℕ → Option (List ℕ)
 attribute s n x = option_and_then (attribute_of x) (label_of n s.own.forest)
 
--- it, or the empty text
-abbrev pub or_empty : Option (List ℕ) → List ℕ
-or_empty None = []
-or_empty (Some t) = t
+-- a node as queries see it: a text node has no tag
+abbrev pub look : State → ℕ → Look
+look s n = record { tag = if is_element s n then Some (tag_of s n) else None; attribute = attribute s n }
+
+-- an `input`
+abbrev pub is_input : State → ℕ → Bool
+is_input s n = node.is_input (look s n)
+
+-- an element that can be disabled
+abbrev pub is_field : State → ℕ → Bool
+is_field s n = node.is_field (look s n)
 
 -- the text nodes of trees in document order, joined
 abbrev pub texts_of : Trees → List ℕ
@@ -117,10 +119,6 @@ is_plain_words t = list_all is_plain_unit t
 -- a type of events: 1 to 16 letters `a` to `z`
 abbrev pub is_event_type : List ℕ → Bool
 is_event_type t = nat_lt 0 (length t) && nat_le (length t) max_event_type && list_all (is_in_range 97 122) t
-
--- whether a number is listed
-abbrev pub has_number : List ℕ → ℕ → Bool
-has_number ns n = list_any (nat_eq n) ns
 
 -- each number once, at its first place, behind those seen
 abbrev pub once : List ℕ → List ℕ → List ℕ

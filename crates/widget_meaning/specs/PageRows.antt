@@ -10,7 +10,10 @@ use Rattle.widget_meaning.specs.Trees.{Trees, label_of}
 use Rattle.widget_meaning.specs.OwnState.{OwnState}
 use Rattle.widget_meaning.specs.Items.{Item, Occurs}
 use Rattle.widget_meaning.specs.Alone.{Content, alone}
-use Rattle.widget_meaning.specs.QueryForms.{HuntTag, First, read_query}
+use Rattle.query_grammar.specs.declared.query.Hunter.TheVariants as hunter
+use Rattle.query_grammar.specs.declared.query.ListFilter.TheVariants as on_list
+use Rattle.query_grammar.specs.declared.query.StepFilter.TheVariants as kind
+use Rattle.widget_meaning.specs.Queries.{read_query}
 use Rattle.widget_meaning.specs.Rows.{Row, rendered}
 use Rattle.widget_meaning.specs.RowTrees.{name, num, str, dom, dom_q, method, operation, does, logs, var, vars, adds, forever, for_in, catches, function, element, words, root, content, body}
 
@@ -99,7 +102,7 @@ pub record PageRows : Type 0 where
   pub hidden_keys_row : Row (rendered hidden_keys) None 27 (codes "false" ∷ []) []
   pub bad_query_row : Row (rendered bad_query) None 24 (codes "bad query" ∷ []) []
   pub protected_paragraph_row : Row (rendered protected_paragraph) None 98 (codes "1" ∷ codes "0" ∷ codes "bad place in the page" ∷ []) []
-  pub joined_keyword : read_query (codes "p:firstb") ≡ Some (record { hunter = HuntTag (codes "p"); filters = First ∷ [] } ∷ record { hunter = HuntTag (codes "b"); filters = [] } ∷ [])
+  pub joined_keyword : read_query (codes "p:firstb") ≡ Some (record { hunter = hunter.Tag (codes "p"); filters = kind.List on_list.First ∷ [] } ∷ record { hunter = hunter.Tag (codes "b"); filters = [] } ∷ [])
   pub second_item_row : Row (rendered (second_item "li:rest:first")) None 48 (codes "b" ∷ codes "1" ∷ []) []
   pub second_item_again_row : Row (rendered (second_item "li:first +li")) None 64 (codes "b" ∷ codes "1" ∷ []) []
   pub counter_row : Row counted None 138 (codes "clicks 1" ∷ codes "clicks 2" ∷ codes "clicks 3" ∷ []) []

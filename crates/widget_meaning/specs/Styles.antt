@@ -2,19 +2,13 @@
 use Rattle.std.specs.Prelude.{◌≡◌, ℕ, not, List, [], ◌∷◌, ◌++◌, length, map, nat_eq, if◌then◌else◌, Option, Some, None}
 use Rattle.std.specs.List.{filter}
 use Rattle.std.specs.Str.{bytes_eq}
-use Rattle.exact_refusals.specs.Judge.{Outcome, Read, Refused, Deeper}
-use Rattle.style_text.specs.Styles.{Pair, is_used, print_style, StyleSpells}
+use Rattle.style_text.specs.Styles.{Pair, is_used, StyleSpells}
 use Rattle.style_text.specs.Machine.{begin, goes}
-
--- the pairs that were read, if any
-abbrev pub pairs_read : Outcome (List Pair) → Option (List Pair)
-pairs_read (Read pairs) = Some pairs
-pairs_read (Refused left) = None
-pairs_read (Deeper left) = None
+use Rattle.widget_meaning.specs.Outcomes.{what_is_read}
 
 -- the pairs of a style; a text that is none has none
 abbrev pub style_of : List ℕ → Option (List Pair)
-style_of t = pairs_read (goes t begin 0)
+style_of t = what_is_read (goes t begin 0)
 
 -- the pairs, if there are any
 abbrev pub pairs_or_none : Option (List Pair) → List Pair
@@ -24,15 +18,6 @@ pairs_or_none (Some pairs) = pairs
 -- the pairs of an attribute `style`
 abbrev pub style_pairs : List ℕ → List Pair
 style_pairs t = pairs_or_none (style_of t)
-
--- the printed form of pairs, or the text
-abbrev pub printed_or : List ℕ → Option (List Pair) → List ℕ
-printed_or t None = t
-printed_or t (Some pairs) = print_style pairs
-
--- a style as it prints; a text that is none stays as it is
-abbrev pub printed_style : List ℕ → List ℕ
-printed_style t = printed_or t (style_of t)
 
 -- the value of a property, empty where it has none
 abbrev pub style_value : List Pair → List ℕ → List ℕ

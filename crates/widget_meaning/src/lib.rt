@@ -7,5 +7,5 @@ mod native_laws;
 mod rows;
 
 pub use laws::{alone, arena, compositional, counts, fuel, stopped, stops, timers};
-pub use native_laws::{json, native_rows, sort, split, styles};
+pub use native_laws::{json, native_rows, queries, sort, split, styles};
 pub use rows::{body_rows, page_rows, rows_hold};

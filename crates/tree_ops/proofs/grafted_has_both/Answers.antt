@@ -1,5 +1,5 @@
-use Rattle.tree_ops.proofs.Grafted.{has_grafted}
+use Rattle.tree_ops.proofs.Grafted.{behind_last, has_grafted}
 use Rattle.tree_ops.proofs.grafted_has_both.Goals as goal
 
 pub returns : goal.returns
-returns c = has_grafted
+returns c = record { last = behind_last; both = has_grafted }

@@ -1,7 +1,7 @@
-use Rattle.std.proofs.Common.{◌≡◌, ◌≤◌, length, take, drop, All, IfSome}
+use Rattle.std.proofs.Common.{◌≡◌, ◌≤◌, length, take, All, IfSome}
 use Rattle.slot_check.specs.Verdicts.{sources_of, IsSmall}
 use Rattle.adhost.specs.Page.{texts, file_limit, AreRead}
-use Rattle.adhost.specs.Reading.{AllThere}
+use Rattle.adhost.specs.Reading.{AreReadable}
 use Rattle.adhost.proofs.reading.read_files.Given as goal
 
 abbrev pub invariant-names : goal.invariant-names
@@ -11,7 +11,6 @@ invariant-names g l = record {
   many : length l.sources.items ≡ l.name-index;
   small : All IsSmall l.sources.items;
   count : g.F.Files.faults l.fn.files ≤ g.F.Files.faults l.files;
-  there : AllThere (g.F.Files.told l.fn.files) (texts l.names) → AllThere (g.F.Files.told l.fn.files) (texts (drop l.name-index l.names));
-  calm : g.F.Files.calm l.fn.files → AllThere (g.F.Files.told l.fn.files) (texts l.names) → g.F.Files.calm l.files;
-  calm_count : g.F.Files.calm l.fn.files → AllThere (g.F.Files.told l.fn.files) (texts l.names) → g.F.Files.faults l.files ≡ g.F.Files.faults l.fn.files;
+  calm : g.F.Files.calm l.fn.files → AreReadable (g.F.Files.told l.fn.files) file_limit (texts l.names) → g.F.Files.calm l.files;
+  calm_count : g.F.Files.calm l.fn.files → AreReadable (g.F.Files.told l.fn.files) file_limit (texts l.names) → g.F.Files.faults l.files ≡ g.F.Files.faults l.fn.files;
 }

@@ -1,8 +1,9 @@
-use Rattle.adsafe_rules.specs.Slots.{M01, of_file}
+use Rattle.plain_tree.specs.Plains.{placed_all}
+use Rattle.adsafe_rules.proofs.Refusing.{pass_markup, pass_form}
 use Rattle.adsafe_rules.proofs.slot.check_markup.Goals as goal
 
-pub returns-in-Err-BadMarkup-clause-first : goal.returns-in-Err-BadMarkup-clause-first
-returns-in-Err-BadMarkup-clause-first c = rw c.in-Err-BadMarkup.field-0-is (M01 (rw c.in-Err-BadMarkup.field-0-is at c.in-Err-BadMarkup.ensures.place))
+pub returns-in_err-content-clause-first : goal.returns-in_err-content-clause-first
+returns-in_err-content-clause-first c = pass_markup c.args.name.now c.args.libs.now c.args.bytes.now c.from_residual.result c.in_err-content.field-0.0 c.from_residual.ensures.1 c.in_err-content.ensures.place
 
-pub returns-in-Err-BadForm-clause-first : goal.returns-in-Err-BadForm-clause-first
-returns-in-Err-BadForm-clause-first c = of_file c.in-Ok.ensures.read (rw c.in-Err-BadForm.field-0-is at c.in-Err-BadForm.ensures.first)
+pub returns-in_err-split-clause-first : goal.returns-in_err-split-clause-first
+returns-in_err-split-clause-first c = pass_form c.args.name.now c.args.libs.now c.args.bytes.now c.from_residual-in_err-split.result (placed_all c.in_ok-content.content.items) c.in_err-split.field-0.0 c.from_residual-in_err-split.ensures.1 c.in_ok-content.ensures.read c.in_err-split.ensures.first

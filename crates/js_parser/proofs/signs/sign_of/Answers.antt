@@ -1,5 +1,11 @@
 use Rattle.js_tokens.proofs.Lies.{token_range}
 use Rattle.js_parser.proofs.signs.sign_of.Goals as goal
 
-pub between-spelling-requires : goal.between-spelling-requires
-between-spelling-requires c = let r = token_range _ _ c.requires in record { ordered = r.0; within = r.1 }
+pub slice_bounds-spelling-count : goal.slice_bounds-spelling-count
+slice_bounds-spelling-count c = (token_range _ _ c.requires).0
+
+pub slice_bounds-spelling-start : goal.slice_bounds-spelling-start
+slice_bounds-spelling-start c = (token_range _ _ c.requires).0
+
+pub slice_bounds-spelling-end : goal.slice_bounds-spelling-end
+slice_bounds-spelling-end c = (token_range _ _ c.requires).1

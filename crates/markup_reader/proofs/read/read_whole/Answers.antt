@@ -1,7 +1,7 @@
 use Rattle.std.proofs.Common.{Some, None}
 use Rattle.markup_reader.specs.States.{state_of}
 use Rattle.plain_tree.specs.Plains.{placed_all}
-use Rattle.markup_reader.proofs.Reading.{whole_end, whole_stuck}
+use Rattle.markup_reader.proofs.Reading.{whole_end}
 use Rattle.markup_reader.proofs.read.read_whole.Goals as goal
 
 pub returns-in-Ok : goal.returns-in-Ok

@@ -1,7 +1,7 @@
 use Rattle.std.proofs.Common.{ap, ◌∙◌}
 use Rattle.std.specs.Prelude.{codes, option_copied}
 use Rattle.page_tree.specs.Arenas.{nodes_in}
-use Rattle.page_tree.specs.Contents.{attribute_of}
+use Rattle.tree_ops.specs.Labels.{attribute_of}
 use Rattle.page_tree.specs.Owners.{slot}
 use Rattle.page_tree.proofs.Indexing.{left_last}
 use Rattle.page_tree.proofs.index.leave.Goals as goal

@@ -1,5 +1,5 @@
 use Rattle.std.proofs.Common.{length, ◌-◌, ◌≡◌, ℕ, ◌<◌, ◌≤◌, get_or, false}
-use Rattle.page_tree.specs.Trees.{is_number}
+use Rattle.tree_ops.specs.Trees.{is_number}
 use Rattle.page_tree.proofs.links.place_of.Given as goal
 
 -- none of those so far is the number

@@ -1,5 +1,5 @@
 use Rattle.std.proofs.Common.{arith, ap, ◌∙◌}
-use Rattle.page_tree.specs.Contents.{with_attribute}
+use Rattle.tree_ops.specs.Labels.{with_attribute}
 use Rattle.page_tree.specs.Entries.{Entry, entry_of}
 use Rattle.page_tree.proofs.Lists.{entries_set, entries_same, entry_read, entries_long, match_more}
 use Rattle.page_tree.proofs.links.set_attribute.Goals as goal

@@ -1,5 +1,5 @@
 use Rattle.std.proofs.Common.{◌≡◌, ◌++◌, drop}
-use Rattle.query_lang.specs.Finds.{at_places}
+use Rattle.query_grammar.specs.Finds.{at_places}
 use Rattle.query_lang.proofs.Siblings.{placed}
 use Rattle.query_lang.proofs.finder.at_places.Given as goal
 

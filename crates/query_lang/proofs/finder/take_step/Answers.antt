@@ -1,7 +1,7 @@
 use Rattle.std.proofs.Common.{ap, ◌∙◌, subst, sym}
 use Rattle.page_tree.proofs.Lists.{ok_equal}
-use Rattle.query_lang.specs.Finds.{has_number}
-use Rattle.query_lang.specs.Steps.{Step}
+use Rattle.query_grammar.specs.Finds.{has_number}
+use Rattle.query_grammar.specs.Steps.{Step}
 use Rattle.query_lang.specs.Walks.{AreNodes}
 use Rattle.query_lang.proofs.Members.{in_order_nodes, step_same}
 use Rattle.query_lang.proofs.finder.take_step.Goals as goal

@@ -1,8 +1,9 @@
 use Rattle.std.proofs.Common.{◌≡◌, ℕ, ap, ◌∙◌}
 use Rattle.std.specs.List.{flat_map}
 use Rattle.page_tree.specs.Pages.{nodes}
-use Rattle.query_lang.specs.declared.query.Hunter.TheVariants as hunter
-use Rattle.query_lang.specs.Finds.{has_number, hunted}
+use Rattle.query_grammar.specs.declared.query.Hunter.TheVariants as hunter
+use Rattle.query_lang.specs.Finds.{hunted}
+use Rattle.query_grammar.specs.Finds.{has_number}
 use Rattle.query_lang.proofs.Behind.{taken, parents_nodes, same_next, ok_more}
 use Rattle.query_lang.proofs.hunt.all_next.Goals as goal
 

@@ -1,7 +1,8 @@
 use Rattle.std.proofs.Common.{◌≡◌, ℕ, ap, ◌∙◌}
 use Rattle.std.specs.List.{flat_map}
 use Rattle.page_tree.specs.Pages.{nodes, root}
-use Rattle.query_lang.specs.Finds.{has_number, hunted}
+use Rattle.query_lang.specs.Finds.{hunted}
+use Rattle.query_grammar.specs.Finds.{has_number}
 use Rattle.query_lang.specs.Walks.{AreNodes, HaveSame}
 use Rattle.query_lang.proofs.Behind.{ok_more}
 use Rattle.query_lang.proofs.Members.{all_hunted_nodes}

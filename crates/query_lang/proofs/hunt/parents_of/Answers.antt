@@ -1,9 +1,9 @@
 use Rattle.std.proofs.Common.{◌≡◌, ℕ, ap, ◌∙◌, get_or}
 use Rattle.std.specs.List.{list_any}
 use Rattle.page_tree.specs.Pages.{nodes}
-use Rattle.page_tree.specs.Trees.{is_number}
-use Rattle.query_lang.specs.Finds.{has_number}
-use Rattle.query_lang.specs.Walks.{parent_within}
+use Rattle.tree_ops.specs.Trees.{is_number}
+use Rattle.query_grammar.specs.Finds.{has_number}
+use Rattle.query_lang.specs.Finds.{parent_within}
 use Rattle.query_lang.proofs.Behind.{some_more, some_done, ok_more}
 use Rattle.query_lang.proofs.Downward.{itself}
 use Rattle.query_lang.proofs.Members.{node_at}

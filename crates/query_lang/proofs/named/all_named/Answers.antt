@@ -1,7 +1,7 @@
 use Rattle.std.proofs.Common.{◌≡◌, ap, ◌∙◌, subst, sym}
 use Rattle.std.specs.List.{filter, flat_map}
 use Rattle.page_tree.specs.Pages.{nodes, root}
-use Rattle.query_lang.specs.declared.query.Hunter.TheVariants as hunter
+use Rattle.query_grammar.specs.declared.query.Hunter.TheVariants as hunter
 use Rattle.query_lang.specs.Finds.{hunted}
 use Rattle.query_lang.specs.Walks.{AreNodes, HaveSame, below_any}
 use Rattle.query_lang.proofs.Behind.{ok_more}

@@ -1,7 +1,7 @@
 use Rattle.std.proofs.Common.{◌∙◌, sym, ap, ◌+◌, ◌<◌, length, length-drop, arith}
 use Rattle.std.specs.List.{list_any}
 use Rattle.std.specs.Str.{bytes_eq}
-use Rattle.query_lang.specs.Nodes.{words}
+use Rattle.query_grammar.specs.Filters.{words}
 use Rattle.query_lang.proofs.Between.{word_met, last_word, next_word}
 use Rattle.query_lang.proofs.nodes.has_word.Goals as goal
 

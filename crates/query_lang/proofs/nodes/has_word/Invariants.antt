@@ -1,7 +1,7 @@
 use Rattle.std.proofs.Common.{◌≡◌, length}
 use Rattle.std.specs.List.{list_any}
 use Rattle.std.specs.Str.{bytes_eq}
-use Rattle.query_lang.specs.Nodes.{words}
+use Rattle.query_grammar.specs.Filters.{words}
 use Rattle.query_lang.proofs.nodes.has_word.Given as goal
 
 -- the words that are left decide

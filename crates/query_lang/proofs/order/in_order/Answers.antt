@@ -1,6 +1,6 @@
 use Rattle.std.proofs.Common.{◌≡◌, sym, ◌∙◌, ap, ⊎_elim, subst, true, ◌||◌, eqb, get_or}
 use Rattle.page_tree.proofs.Lists.{ok_equal}
-use Rattle.query_lang.specs.Finds.{has_number}
+use Rattle.query_grammar.specs.Finds.{has_number}
 use Rattle.query_lang.specs.Walks.{AreTops, RiseFrom}
 use Rattle.query_lang.proofs.Downward.{itself}
 use Rattle.query_lang.proofs.Ordered.{has_added, misses_none, all_trees}

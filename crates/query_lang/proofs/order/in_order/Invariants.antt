@@ -1,5 +1,5 @@
 use Rattle.std.proofs.Common.{◌≡◌, ℕ, true, take}
-use Rattle.query_lang.specs.Finds.{has_number}
+use Rattle.query_grammar.specs.Finds.{has_number}
 use Rattle.query_lang.specs.Walks.{AreNodes, IsClosed, AreTops}
 use Rattle.query_lang.proofs.order.in_order.Given as goal
 

@@ -2,7 +2,7 @@ use Rattle.std.proofs.Common.{◌≡◌, ℕ, suc, ◌<◌, ◌-◌, ◌⊎◌, 
 use Rattle.plain_tree.specs.Trees.{height}
 use Rattle.page_tree.specs.Entries.{tree, limit}
 use Rattle.page_tree.specs.Pages.{nodes}
-use Rattle.query_lang.specs.Finds.{has_number}
+use Rattle.query_grammar.specs.Finds.{has_number}
 use Rattle.query_lang.specs.Walks.{AreNodes, AreTops}
 use Rattle.query_lang.proofs.Ordered.{IsClosedBut}
 use Rattle.query_lang.proofs.order.mark_up.Given as goal

@@ -11,17 +11,17 @@ pairs-init c = no_channel_yet c.args.names.now c.args.pairs.now c.new-channels.r
 
 pub returns-then-is_given-clause-misfit : goal.returns-then-is_given-clause-misfit
 returns-then-is_given-clause-misfit c = λ err all are.
-    let again : true ≡ list_any (λ b. same_channel b c.in-Ok.channel) c.pairs.channels.items =
-    sym c.if-is_given.true ∙ c.is_given.ensures ∙ ap (λ (cs : List (ℕ × ℕ)). list_any (λ b. same_channel b c.in-Ok.channel) cs) c.deref.ensures.value in
-    channel_again c.args.names.now c.args.pairs.now c.pairs.pair-index c.pair-item.result c.pairs.channels.items all c.in-Ok.channel c.pairs-test.true c.pair-item.is c.pairs.invariant c.in-Ok.ensures.ok again are
+    let again : true ≡ list_any (λ b. same_channel b c.in_ok-channel.channel) c.pairs.channels.items =
+    sym c.if-is_given.true ∙ c.is_given.ensures ∙ ap (λ (cs : List (ℕ × ℕ)). list_any (λ b. same_channel b c.in_ok-channel.channel) cs) c.deref.ensures.value in
+    channel_again c.args.names.now c.args.pairs.now c.pairs.pair-index c.pair-item.result c.pairs.channels.items all c.in_ok-channel.channel c.pairs-test.true c.pair-item.is c.pairs.invariant c.in_ok-channel.ensures.ok again are
 
-pub returns-in-Err-clause-misfit : goal.returns-in-Err-clause-misfit
-returns-in-Err-clause-misfit c = λ err all are.
+pub returns-in_err-channel-clause-misfit : goal.returns-in_err-channel-clause-misfit
+returns-in_err-channel-clause-misfit c = λ err all are.
     let here : IsErrOf c.read_channel.result misfit.Shape = search rules in
     no_channel c.args.names.now c.args.pairs.now c.pairs.pair-index c.pair-item.result all c.pairs-test.true c.pair-item.is (c.read_channel.ensures.misfit here) are
 
 pub pairs-preserved : goal.pairs-preserved
 pairs-preserved c =
-    let fresh : false ≡ list_any (λ b. same_channel b c.in-Ok.channel) c.pairs.channels.items =
-    sym c.if-is_given.false ∙ c.is_given.ensures ∙ ap (λ (cs : List (ℕ × ℕ)). list_any (λ b. same_channel b c.in-Ok.channel) cs) c.deref.ensures.value in
-    channels_more c.args.names.now c.args.pairs.now c.pairs.pair-index c.pair-item.result c.pairs.channels.items c.push.new.self.items c.in-Ok.channel c.pairs-test.true c.pair-item.is c.pairs.invariant c.in-Ok.ensures.ok fresh c.in_ok-push-in-Ok.ensures.items
+    let fresh : false ≡ list_any (λ b. same_channel b c.in_ok-channel.channel) c.pairs.channels.items =
+    sym c.if-is_given.false ∙ c.is_given.ensures ∙ ap (λ (cs : List (ℕ × ℕ)). list_any (λ b. same_channel b c.in_ok-channel.channel) cs) c.deref.ensures.value in
+    channels_more c.args.names.now c.args.pairs.now c.pairs.pair-index c.pair-item.result c.pairs.channels.items c.push.new.self.items c.in_ok-channel.channel c.pairs-test.true c.pair-item.is c.pairs.invariant c.in_ok-channel.ensures.ok fresh c.in_ok-push.ensures.items

@@ -1,5 +1,4 @@
-use Rattle.std.proofs.Common.{◌≡◌, sym, ◌∙◌, rules, arith}
-use Rattle.std.proofs.lemmas.Grind.{common_steps}
+use Rattle.std.proofs.Common.{sym, ◌∙◌, rules}
 use Rattle.std.specs.Result.{IsErrOf}
 use Rattle.serde_json.specs.View.{view}
 use Rattle.trace_reader.specs.declared.fault.Misfit.TheVariants as misfit

@@ -1,4 +1,4 @@
-use Rattle.std.proofs.Common.{ℕ, map, subst}
+use Rattle.std.proofs.Common.{map, subst}
 use Rattle.serde_json.specs.View.{view}
 use Rattle.trace_reader.specs.Manifest.{IsPageFault}
 use Rattle.trace_reader.proofs.ManifestLemmas.{pass_page_fault}

@@ -1,4 +1,4 @@
-use Rattle.std.proofs.Common.{◌≡◌, ◌≤◌, ℕ, Some, length, map, sym, subst, rules}
+use Rattle.std.proofs.Common.{◌≤◌, length, map, sym, subst, rules}
 use Rattle.std.proofs.lemmas.List.{length-map}
 use Rattle.serde_json.specs.View.{view}
 use Rattle.trace_reader.specs.Trace.{IsValueFault, IsItemsFault}

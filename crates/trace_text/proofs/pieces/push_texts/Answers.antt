@@ -1,4 +1,4 @@
-use Rattle.std.proofs.Common.{◌≡◌, ℕ, List, ◌∷◌, sym, subst}
+use Rattle.std.proofs.Common.{sym, subst}
 use Rattle.std.specs.List.{flat_map}
 use Rattle.trace_text.specs.Report.{quoted, next_quoted, quoted_list, AppendsPart}
 use Rattle.trace_text.proofs.Parts.{first_part, later_part}

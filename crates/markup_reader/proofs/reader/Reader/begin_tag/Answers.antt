@@ -1,4 +1,4 @@
-use Rattle.std.proofs.Common.{◌≡◌, ◌++◌, ◌∙◌, ◌∷◌, [], arith, length, ap}
+use Rattle.std.proofs.Common.{◌++◌, ◌∙◌, ◌∷◌, [], arith, ap}
 use Rattle.markup_reader.specs.States.{opens_of, trees_of, spot}
 use Rattle.markup_reader.proofs.Grows.{length_stack, tag_goes}
 use Rattle.markup_reader.proofs.reader.Reader.begin_tag.Goals as goal

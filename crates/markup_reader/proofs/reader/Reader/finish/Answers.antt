@@ -1,4 +1,4 @@
-use Rattle.std.proofs.Common.{arith, length, []}
+use Rattle.std.proofs.Common.{arith, []}
 use Rattle.std.proofs.lemmas.Grind.{common_steps}
 use Rattle.markup_reader.specs.States.{opens_of, trees_of, mode_of}
 use Rattle.markup_reader.proofs.Grows.{unfinished, length_stack}

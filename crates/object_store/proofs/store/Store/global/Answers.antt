@@ -17,3 +17,9 @@ returns-clause-within c =
     let s = c.self in
     let h : AreHost c.args.self.now.cells = subst (λ (t : Cells). AreHost t.cells) s.view_is s.invariant.closed.host in
     omega (arith, h.enough)
+
+pub returns-clause-same : goal.returns-clause-same
+returns-clause-same c =
+    let s = c.self in
+    let h : AreHost c.args.self.now.cells = subst (λ (t : Cells). AreHost t.cells) s.view_is s.invariant.closed.host in
+    global_is c.args.self.now.cells h

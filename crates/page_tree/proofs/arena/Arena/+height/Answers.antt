@@ -2,7 +2,7 @@ use Rattle.std.proofs.Common.{◌∙◌, arith, ap}
 use Rattle.page_tree.specs.Entries.{at}
 use Rattle.page_tree.specs.Arenas.{nodes_in}
 use Rattle.page_tree.proofs.Shows.{tree_low}
-use Rattle.page_tree.proofs.Walk.{child_listed, child_in, child_lower, highest, highest_step, highest_done, limit_is}
+use Rattle.page_tree.proofs.Walk.{child_listed, child_in, child_lower, highest, highest_step, highest_done, larger, limit_is}
 use Rattle.page_tree.proofs.arena.Arena.+height.Goals as goal
 
 pub height-requires : goal.height-requires
@@ -18,7 +18,7 @@ each-init t c =
 pub each-preserved : goal.each-preserved
 each-preserved t c = record {
   items = c.each.invariant.items;
-  most = let e = highest_step (nodes_in c.args.self.now) c.deref-child-items.result.now c.each.child-index c.each.most c.height.result (highest (nodes_in c.args.self.now) (at (nodes_in c.args.self.now) c.args.node).children) c.each-test.true c.height.ensures c.each.invariant.most in omega (arith, e, c.larger-most.ensures);
+  most = let e = highest_step (nodes_in c.args.self.now) c.deref-child-items.result.now c.each.child-index c.each.most c.height.result (highest (nodes_in c.args.self.now) (at (nodes_in c.args.self.now) c.args.node).children) c.each-test.true c.height.ensures c.each.invariant.most in omega (arith, e, c.max-most.ensures, larger c.each.most c.height.result);
 }
 
 pub overflow_add-result : goal.overflow_add-result

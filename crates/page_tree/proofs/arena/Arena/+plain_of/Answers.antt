@@ -4,7 +4,7 @@ use Rattle.plain_tree.specs.Plains.{unplaced, unplaced_all}
 use Rattle.page_tree.specs.Arenas.{nodes_in}
 use Rattle.page_tree.proofs.Lists.{ok_equal}
 use Rattle.page_tree.proofs.Walk.{child_listed, child_in, child_lower}
-use Rattle.page_tree.proofs.Plains.{copied_at, copied_step, copied_done}
+use Rattle.page_tree.proofs.Plains.{taken_at, taken_step, taken_done}
 use Rattle.page_tree.proofs.arena.Arena.+plain_of.Goals as goal
 
 pub plain_of-requires : goal.plain_of-requires
@@ -19,7 +19,7 @@ each-init t c =
       items = e;
       count = ap length c.new-plains.ensures.items;
       bound = omega arith;
-      same = ap (λ l. beside (unplaced_all l) (copied_at (nodes_in c.args.self.now) c.args.ids c.deref-child-items.result.now)) c.new-plains.ensures.items ∙ ap (copied_at (nodes_in c.args.self.now) c.args.ids) e;
+      same = ap (λ l. beside (unplaced_all l) (taken_at (nodes_in c.args.self.now) c.args.ids c.deref-child-items.result.now)) c.new-plains.ensures.items ∙ ap (taken_at (nodes_in c.args.self.now) c.args.ids) e;
     }
 
 pub each-preserved : goal.each-preserved
@@ -27,8 +27,8 @@ each-preserved t c = record {
   items = c.each.invariant.items;
   count = ap length c.in_ok-push.ensures.items ∙ length-append c.each.plains.items (c.in_ok-plain.plain ∷ []) ∙ ap (λ n. n + 1) c.each.invariant.count;
   bound = omega (arith, c.each-test.true);
-  same = copied_step (nodes_in c.args.self.now) c.args.ids c.each.plains.items _ c.in_ok-plain.plain c.deref-child-items.result.now c.each.child-index _ c.each-test.true c.in_ok-push.ensures.items c.in_ok-plain.ensures c.each.invariant.same;
+  same = taken_step (nodes_in c.args.self.now) c.args.ids c.each.plains.items _ c.in_ok-plain.plain c.deref-child-items.result.now c.each.child-index _ c.each-test.true c.in_ok-push.ensures.items c.in_ok-plain.ensures c.each.invariant.same;
 }
 
 pub returns : goal.returns
-returns t c = ok_equal c.plain_with.result unplaced _ _ (copied_done (nodes_in c.args.self.now) c.args.self.now.sound c.args.ids c.args.node _ c.each.plains.items c.deref-child-items.result.now c.each.child-index c.each-test.false c.content_of.ensures c.each.invariant.same) c.plain_with.ensures
+returns t c = ok_equal c.plain_with.result unplaced _ _ (taken_done (nodes_in c.args.self.now) c.args.self.now.sound c.args.ids c.args.node _ c.each.plains.items c.deref-child-items.result.now c.each.child-index c.each-test.false c.content_of.ensures c.each.invariant.same) c.plain_with.ensures

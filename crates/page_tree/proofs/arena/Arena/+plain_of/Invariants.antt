@@ -3,7 +3,7 @@ use Rattle.plain_tree.specs.Trees.{height, beside}
 use Rattle.plain_tree.specs.Plains.{unplaced_all}
 use Rattle.page_tree.specs.Entries.{tree, at}
 use Rattle.page_tree.specs.Arenas.{nodes_in}
-use Rattle.page_tree.proofs.Plains.{copied_at}
+use Rattle.page_tree.proofs.Plains.{taken_at}
 use Rattle.page_tree.proofs.arena.Arena.+plain_of.Given as goal
 
 abbrev pub decreases-plain_of : goal.decreases-plain_of
@@ -15,5 +15,5 @@ invariant-each l = record {
   items : l.child-items ≡ (at (nodes_in l.self) l.node).children;
   count : length l.plains.items ≡ l.child-index;
   bound : l.child-index ≤ length l.child-items;
-  same : beside (unplaced_all l.plains.items) (copied_at (nodes_in l.self) l.ids (drop l.child-index l.child-items)) ≡ copied_at (nodes_in l.self) l.ids (at (nodes_in l.self) l.node).children;
+  same : beside (unplaced_all l.plains.items) (taken_at (nodes_in l.self) l.ids (drop l.child-index l.child-items)) ≡ taken_at (nodes_in l.self) l.ids (at (nodes_in l.self) l.node).children;
 }

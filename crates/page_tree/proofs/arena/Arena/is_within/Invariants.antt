@@ -1,7 +1,7 @@
 use Rattle.std.proofs.Common.{suc, ◌≡◌, ◌<◌, ◌-◌, length, true}
 use Rattle.page_tree.specs.Entries.{tree, limit}
 use Rattle.page_tree.specs.Arenas.{nodes_in}
-use Rattle.page_tree.specs.Trees.{has}
+use Rattle.tree_ops.specs.Trees.{has}
 use Rattle.plain_tree.specs.Trees.{height}
 use Rattle.page_tree.proofs.arena.Arena.is_within.Given as goal
 

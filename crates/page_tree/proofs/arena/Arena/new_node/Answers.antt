@@ -8,10 +8,10 @@ use Rattle.page_tree.proofs.arena.Arena.new_node.Goals as goal
 pub invariant_of-self : goal.invariant_of-self
 invariant_of-self c = record {
   sound = match_either c.push_node.result _ _ _
-      (λ e. (node_written (nodes_in c.args.self.now) _ c.args.owner _ c.len-id.result c.args.self.now.sound (omega (arith, c.len-id.ensures, c.args.self.now.rows.ok.0, entries_long c.args.self.now.rows.items)) e).0)
+      (λ e. (node_written (nodes_in c.args.self.now) _ c.args.owner _ c.len-id.result c.args.self.now.sound (omega (arith, c.len-id.ensures, c.args.self.now.rows.ok.0, entries_long c.args.self.now.rows.items)) (omega (arith, c.if-id-ge-MOST.false)) e).0)
       (λ e. subst IsSound (sym e) c.args.self.now.sound)
       c.push_node.ensures;
 }
 
-pub returns-in-Ok : goal.returns-in-Ok
-returns-in-Ok c = (node_written (nodes_in c.args.self.now) _ c.args.owner _ c.len-id.result c.args.self.now.sound (omega (arith, c.len-id.ensures, c.args.self.now.rows.ok.0, entries_long c.args.self.now.rows.items)) c.in-Ok.ensures).1
+pub returns : goal.returns
+returns c = (node_written (nodes_in c.args.self.now) _ c.args.owner _ c.len-id.result c.args.self.now.sound (omega (arith, c.len-id.ensures, c.args.self.now.rows.ok.0, entries_long c.args.self.now.rows.items)) (omega (arith, c.if-id-ge-MOST.false)) c.in_ok-push_node.ensures).1

@@ -9,8 +9,8 @@ use Rattle.page_tree.proofs.page.Page.add.Goals as goal
 pub returns-then-not-is_low-clause-refused : goal.returns-then-not-is_low-clause-refused
 returns-then-not-is_low-clause-refused c = omega (arith, limit_is, c.if-not-is_low.ensures)
 
-pub returns-in-None-clause-refused : goal.returns-in-None-clause-refused
-returns-in-None-clause-refused c = too_many (nodes c.args.self.now) c.args.self.now.made c.args.owner (unplaced c.args.plain.now) c.slot_of.result c.most_of.result c.args.self.now.counted c.requires.owner c.slot_of.ensures.value c.most_of.ensures c.if-not-is_low.ensures c.in-None.ensures
+pub returns-in_default-clause-refused : goal.returns-in_default-clause-refused
+returns-in_default-clause-refused c = too_many (nodes c.args.self.now) c.args.self.now.made c.args.owner (unplaced c.args.plain.now) c.slot_of.result c.most_of.result c.args.self.now.counted c.requires.owner c.slot_of.ensures.value c.most_of.ensures c.if-not-is_low.ensures c.in_default.ensures
 
 pub add-requires-clause-low : goal.add-requires-clause-low
 add-requires-clause-low c = omega (arith, limit_is, c.if-not-is_low.ensures)

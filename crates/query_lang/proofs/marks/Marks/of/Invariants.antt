@@ -1,5 +1,5 @@
 use Rattle.std.proofs.Common.{◌≡◌, ℕ, take}
-use Rattle.query_lang.specs.Finds.{has_number}
+use Rattle.query_grammar.specs.Finds.{has_number}
 use Rattle.query_lang.proofs.marks.Marks.of.Given as goal
 
 abbrev pub invariant-each : goal.invariant-each

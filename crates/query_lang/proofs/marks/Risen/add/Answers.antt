@@ -1,5 +1,5 @@
 use Rattle.std.proofs.Common.{ap, ◌∙◌, ◌||◌, eqb}
-use Rattle.query_lang.specs.Finds.{has_number}
+use Rattle.query_grammar.specs.Finds.{has_number}
 use Rattle.query_lang.proofs.Rising.{inserted}
 use Rattle.query_lang.proofs.marks.Risen.add.Goals as goal
 

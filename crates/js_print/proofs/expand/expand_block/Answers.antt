@@ -1,4 +1,0 @@
-use Rattle.js_print.proofs.expand.expand_block.Goals as goal
-
-pub returns : goal.returns
-returns c = λ f h. c.push_all.ensures f (tt, (h, (tt, tt)))

@@ -1,0 +1,6 @@
+pub mod Filters
+pub mod Finds
+pub mod Machine
+pub mod Queries
+pub mod Renumbering
+pub mod Steps

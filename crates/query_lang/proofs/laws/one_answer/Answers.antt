@@ -1,5 +1,0 @@
-use Rattle.query_lang.proofs.Exact.{one_query, one_place, no_query}
-use Rattle.query_lang.proofs.laws.one_answer.Goals as goal
-
-pub returns : goal.returns
-returns c = record { one_query = one_query; one_place = one_place; no_query = no_query }

@@ -1,0 +1,17 @@
+pub mod Places
+pub mod Again
+pub mod Mild
+pub mod Making
+pub mod Rows
+pub mod Parts
+pub mod Statements
+pub mod Law
+pub mod Solid
+pub mod Proper
+pub mod Words
+pub mod Readings
+pub mod Lexing
+pub mod Moving
+pub mod Join
+pub mod Texts
+pub mod Tamed

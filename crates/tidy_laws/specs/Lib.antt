@@ -1,0 +1,4 @@
+pub mod Told
+pub mod Tame
+pub mod Proper
+pub mod Laws
