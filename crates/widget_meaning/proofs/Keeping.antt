@@ -6,7 +6,7 @@ use Rattle.widget_meaning.specs.Limits.{max_cells, max_slots, max_units, max_nod
 use Rattle.widget_meaning.specs.Values.{StopCause, Units, Cells, Slots, Nodes, LongText, Value, Own, Completion, Normal, Is, Refers, Return, Break, Continue, Throw, Reference, Fault}
 use Rattle.widget_meaning.specs.OwnState.{Amounts, State, Cell, plain_object, with_new_cell}
 use Rattle.widget_meaning.specs.Plan.{Job, Plan, Ret, Halt, Need, Tick, Do, and_then, ticks, charge, on_value, on_reference, on_normal, on_throw}
-use Rattle.widget_meaning.specs.Costs.{sum, pay, make, make_text, throw, fault_pairs, object_cost, units_cost, or_throw}
+use Rattle.widget_meaning.specs.Costs.{sum, pay, make, make_text, throw, fault_pairs, object_cost, units_cost, or_throw, want}
 use Rattle.widget_meaning.specs.Keeps.{Invariant, HoldsOf, Keeps}
 
 module _ (inv : Invariant) where
@@ -107,6 +107,9 @@ module _ (inv : Invariant) where
 
   pub faulted : (e : Fault) (s : State) → R s → Keeps inv (throw e s)
   faulted e s h = made (plain_object (fault_pairs e)) 2 s (λ v t. Ret (Throw v) t) h (λ v t u. ended (Throw v) t u)
+
+  pub wanted : (e : Fault) (b : Bool) (s : State) (p : Plan) → R s → Keeps inv p → Keeps inv (want e b s p)
+  wanted e b s p h f = either b p (throw e s) f (faulted e s h)
 
   pub found : {A : Type 0} (e : Fault) (o : Option A) (s : State) (k : A → Plan) → R s → ((a : A) → Keeps inv (k a)) → Keeps inv (or_throw e o s k)
   found e None s k h f = faulted e s h

@@ -8,9 +8,9 @@ use Rattle.widget_meaning.specs.OwnState.{State}
 use Rattle.widget_meaning.specs.Plan.{Plan}
 use Rattle.widget_meaning.specs.NativeNames.{AdsafeNative, Create, FromJson, GetProperty, HasProperty, IsArray, KeysOf, Later, LogValue, Post, RemoveProperty, SetProperty, ToJson}
 use Rattle.widget_meaning.specs.JsonTexts.{to_json, give_json, Written, Wrote, NoJson, TooLong}
-use Rattle.widget_meaning.specs.AdsafeNatives.{want_object, want_permitted, want_name, get_native, has_native, set_native, remove_native, create_from, create, keys_native, start_timer, later_in, later, log_text, log_native, keep_post, post, adsafe_native, with_timer, delay}
+use Rattle.widget_meaning.specs.AdsafeNatives.{want_name, get_native, has_native, set_native, remove_native, create_from, create, keys_native, start_timer, later_in, later, log_text, log_native, keep_post, post, adsafe_native, with_timer, delay}
 use Rattle.widget_meaning.specs.Keeps.{Invariant, Keeps}
-use Rattle.widget_meaning.proofs.Keeping.{ended, halted, either, charged, paid, made, made_text, faulted, R, unless}
+use Rattle.widget_meaning.proofs.Keeping.{ended, halted, either, charged, paid, made, made_text, faulted, R, unless, wanted}
 use Rattle.widget_meaning.proofs.KeepingForms.{delete_r, put_r}
 use Rattle.widget_meaning.proofs.KeepingJson.{from_json_r}
 use Rattle.widget_meaning.proofs.KeepingNatives.{give_texts_r, want_function_r, want_primitives_r}
@@ -35,38 +35,31 @@ module _ (inv : Invariant) where
   pub to_json_r : (x0 : Value) (x1 : State) → R inv x1 → Keeps inv (to_json x0 x1)
   to_json_r v s hr = search (give_json_r)
 
-  pub want_object_r : (x0 : Value) (x1 : State) (x2 : Plan) → R inv x1 → Keeps inv x2 → Keeps inv (want_object x0 x1 x2)
-  want_object_r o s p hr f0 = search (either, faulted)
-
-  pub want_permitted_r : (x0 : List ℕ) (x1 : State) (x2 : (List ℕ → Plan)) → R inv x1 → ((y0 : List ℕ) → Keeps inv (x2 y0)) → Keeps inv (want_permitted x0 x1 x2)
-  want_permitted_r x s k hr f0 = search (either, faulted)
-
   pub want_name_r : (x0 : Value) (x1 : State) (x2 : (List ℕ → Plan)) → R inv x1 → ((y0 : List ℕ) → Keeps inv (x2 y0)) → Keeps inv (want_name x0 x1 x2)
-  want_name_r (Text t) s k hr f0 = search (want_permitted_r)
-  want_name_r (Num z) s k hr f0 = search (want_permitted_r)
+  want_name_r (Text t) s k hr f0 = search (wanted)
+  want_name_r (Num z) s k hr f0 = search (wanted)
   want_name_r v s k hr f0 = search (faulted)
 
   pub get_native_r : (x0 : Value) (x1 : Value) (x2 : State) → R inv x2 → Keeps inv (get_native x0 x1 x2)
-  get_native_r o n s hr = search (want_object_r, want_name_r, ended)
+  get_native_r o n s hr = search (wanted, want_name_r, ended)
 
   pub has_native_r : (x0 : Value) (x1 : Value) (x2 : State) → R inv x2 → Keeps inv (has_native x0 x1 x2)
-  has_native_r o n s hr = search (want_object_r, want_name_r, ended)
+  has_native_r o n s hr = search (wanted, want_name_r, ended)
 
   pub set_native_r : (x0 : Value) (x1 : Value) (x2 : Value) (x3 : State) → R inv x3 → Keeps inv (set_native x0 x1 x2 x3)
-  set_native_r o n v s hr = search (want_object_r, want_name_r, put_r, ended)
+  set_native_r o n v s hr = search (wanted, want_name_r, put_r, ended)
 
   pub remove_native_r : (x0 : Value) (x1 : Value) (x2 : State) → R inv x2 → Keeps inv (remove_native x0 x1 x2)
-  remove_native_r o n s hr = search (want_object_r, want_name_r, delete_r, ended)
+  remove_native_r o n s hr = search (wanted, want_name_r, delete_r, ended)
 
   pub create_from_r : (x0 : Value) (x1 : State) → R inv x1 → Keeps inv (create_from x0 x1)
   create_from_r o s hr = search (either, faulted, made, ended)
 
   pub create_r : (x0 : Value) (x1 : State) → R inv x1 → Keeps inv (create x0 x1)
-  create_r (Own n) s hr = search (either, create_from_r, faulted)
-  create_r v s hr = search (faulted)
+  create_r o s hr = search (wanted, create_from_r)
 
   pub keys_native_r : (x0 : Value) (x1 : State) → R inv x1 → Keeps inv (keys_native x0 x1)
-  keys_native_r o s hr = search (want_object_r, charged, give_texts_r)
+  keys_native_r o s hr = search (wanted, charged, give_texts_r)
 
   pub start_timer_r : (x0 : Value) (x1 : ℤ) (x2 : State) → R inv x2 → Keeps inv (start_timer x0 x1 x2)
   start_timer_r f z s hr = unless inv (nat_le max_timers (length s.own.timers)) _ _ (faulted inv E11 s hr) (λ e. ended inv _ (with_timer s f z) (timer_kept s f z hr (leb-false max_timers (length s.own.timers) e)))

@@ -22,7 +22,7 @@ use Rattle.widget_meaning.specs.Expressions.{array_parts, object_parts, subscrip
 use Rattle.widget_meaning.specs.Statements.{declaration, declarations, expressions, branch, loop_test, loop_end, while_next, do_next, for_test, for_again, for_next, for_init, for_in, for_in_next, for_in_over, pass, return_form, case_test, choose_case, case_tested, switch_end, switch_on, in_catch, caught, last_end, finally, statement, Case, from_default}
 use Rattle.widget_meaning.specs.Dispatch.{hear, hear_found, search_from, dispatch, handlers, bubble_on, dispatch_end, heard, bubble}
 use Rattle.widget_meaning.specs.Keeps.{Invariant, Keeps}
-use Rattle.widget_meaning.proofs.Keeping.{ended, halted, job, either, value, reference, normal, thrown, chain, charged, paid, made, made_text, faulted, R}
+use Rattle.widget_meaning.proofs.Keeping.{ended, halted, job, either, value, reference, normal, thrown, chain, charged, paid, made, made_text, faulted, R, wanted}
 
 module _ (inv : Invariant) where
   -- variables are not looked at
@@ -50,7 +50,7 @@ module _ (inv : Invariant) where
   put_index_r (Some i) c len n x v s k hr f0 = search (put_pair_r)
 
   pub put_length_r : (x0 : Value) (x1 : Cell) (x2 : ℕ) (x3 : State) (x4 : (State → Plan)) → R inv x3 → ((y0 : State) → R inv y0 → Keeps inv (x4 y0)) → Keeps inv (put_length x0 x1 x2 x3 x4)
-  put_length_r (Num (pos len)) c n s k hr f0 = search (either, faulted)
+  put_length_r (Num (pos len)) c n s k hr f0 = search (wanted)
   put_length_r v c n s k hr f0 = search (faulted)
 
   pub put_own_r : (x0 : Kind) (x1 : Cell) (x2 : ℕ) (x3 : List ℕ) (x4 : Value) (x5 : State) (x6 : (State → Plan)) → R inv x5 → ((y0 : State) → R inv y0 → Keeps inv (x6 y0)) → Keeps inv (put_own x0 x1 x2 x3 x4 x5 x6)

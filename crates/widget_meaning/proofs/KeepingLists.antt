@@ -8,7 +8,7 @@ use Rattle.widget_meaning.specs.ListChanges.{pop, push, shift, unshift, reverse,
 use Rattle.widget_meaning.specs.ListNatives.{join, list_concat, list_slice, call_each, over, list_method, list_native}
 use Rattle.widget_meaning.specs.PrototypeNatives.{has_own_property, give_made, function_to_string, array_to_string, in_radix, number_to_string, boolean_to_string, prototype_native}
 use Rattle.widget_meaning.specs.Keeps.{Invariant, Keeps}
-use Rattle.widget_meaning.proofs.Keeping.{ended, job, either, value, charged, paid, made_text, faulted, R}
+use Rattle.widget_meaning.proofs.Keeping.{ended, job, either, value, charged, paid, made_text, faulted, R, wanted}
 use Rattle.widget_meaning.proofs.KeepingNatives.{give_text_r, make_array_r, on_array_r, on_object_r, on_text_r, want_function_r, want_primitives_r, with_number_r, with_optional_r}
 
 module _ (inv : Invariant) where
@@ -89,14 +89,14 @@ module _ (inv : Invariant) where
   give_made_r t s hr = search (made_text, ended)
 
   pub function_to_string_r : (x0 : Option Value) (x1 : State) → R inv x1 → Keeps inv (function_to_string x0 x1)
-  function_to_string_r (Some v) s hr = search (either, give_made_r, faulted)
+  function_to_string_r (Some v) s hr = search (wanted, give_made_r)
   function_to_string_r this s hr = search (faulted)
 
   pub array_to_string_r : (x0 : ℕ) (x1 : ℕ) (x2 : State) → R inv x2 → Keeps inv (array_to_string x0 x1 x2)
   array_to_string_r n len s hr = search (join_r)
 
   pub in_radix_r : (x0 : Value) (x1 : Value) (x2 : State) → R inv x2 → Keeps inv (in_radix x0 x1 x2)
-  in_radix_r v radix s hr = search (want_primitives_r, with_optional_r, either, give_made_r, faulted)
+  in_radix_r v radix s hr = search (want_primitives_r, with_optional_r, wanted, give_made_r)
 
   pub number_to_string_r : (x0 : Option Value) (x1 : Value) (x2 : State) → R inv x2 → Keeps inv (number_to_string x0 x1 x2)
   number_to_string_r (Some NaN) radix s hr = search (in_radix_r)

@@ -11,7 +11,7 @@ use Rattle.widget_meaning.specs.NativeForms.{want_primitives, with_number, give_
 use Rattle.widget_meaning.specs.GlobalNatives.{boolean_of, of_number, number_of, text_of_primitive, string_of, string_native, parse_int, from_char_code, global_native}
 use Rattle.widget_meaning.specs.MathNatives.{of_one, of_all, pow, math_native}
 use Rattle.widget_meaning.specs.Keeps.{Invariant, Keeps}
-use Rattle.widget_meaning.proofs.Keeping.{ended, halted, either, value, chain, charged, paid, made, made_text, faulted, R, found}
+use Rattle.widget_meaning.proofs.Keeping.{ended, halted, either, value, chain, charged, paid, made, made_text, faulted, R, found, wanted}
 use Rattle.widget_meaning.proofs.KeepingForms.{result_r, to_primitive_r}
 
 module _ (inv : Invariant) where
@@ -19,7 +19,7 @@ module _ (inv : Invariant) where
   want_primitives_r vs s p hr f0 = search (either, faulted)
 
   pub want_function_r : (x0 : Value) (x1 : State) (x2 : Plan) → R inv x1 → Keeps inv x2 → Keeps inv (want_function x0 x1 x2)
-  want_function_r f s p hr f0 = search (either, faulted)
+  want_function_r f s p hr f0 = search (wanted)
 
   pub on_text_r : (x0 : Option Value) (x1 : State) (x2 : (List ℕ → Plan)) → R inv x1 → ((y0 : List ℕ) → Keeps inv (x2 y0)) → Keeps inv (on_text x0 x1 x2)
   on_text_r (Some (Text t)) s k hr f0 = search

@@ -9,14 +9,14 @@ use Rattle.widget_meaning.specs.Trees.{Trees, label_of}
 use Rattle.widget_meaning.specs.OwnState.{State, with_new_cell, Notes}
 use Rattle.widget_meaning.specs.Plan.{Plan}
 use Rattle.widget_meaning.specs.NativeNames.{ReadNative, Query, GetValue, GetValues, GetStyle, GetClass, GetTitle, GetCheck, Explode, Count, GetParent, GetTagName, GetMark, WriteNative, Append, Remove, Empty, Replace, SetValue, SetStyle, SetClass, SetTitle, SetCheck, SetEnabled, Focus, Blur, On, Off, Fire, Each, SetMark, Protect, Bubble, DomNative, DomQuery, DomAppend, DomTag, DomText, NativeId, OfGlobal, OfMath, OfPrototype, OfText, OfList, OfAdsafe, OfDom, OfRead, OfWrite}
-use Rattle.widget_meaning.specs.PageForms.{want, want_all, is_input, is_text_node, want_one, want_bunch, want_place, with_label}
+use Rattle.widget_meaning.specs.PageForms.{want_all, is_input, is_text_node, want_one, want_bunch, with_label}
 use Rattle.query_grammar.specs.Steps.{Step}
 use Rattle.widget_meaning.specs.BunchReads.{query, read_native, give_page_text, query_steps, get_value, get_values, get_attribute, get_style, explode, get_parent, get_tag_name, read_method, exploded, with_bunch}
 use Rattle.widget_meaning.specs.BunchWrites.{appended, write_native, alter, alter_for, append_trees, append, remove, replace, set_value, set_style, set_attribute, set_flag, focus, blur, listen, hush, fired, fire, each_called, each, write_method, with_copies, emptied, relabel, with_text_node, valued, alter_each, noted}
 use Rattle.widget_meaning.specs.DomNatives.{dom_native, give_node, dom_tag, append_to_root, dom_append}
 use Rattle.widget_meaning.specs.Natives.{run_native}
 use Rattle.widget_meaning.specs.Keeps.{Invariant, Keeps}
-use Rattle.widget_meaning.proofs.Keeping.{ended, job, either, value, chain, charged, paid, made_text, faulted, R, found}
+use Rattle.widget_meaning.proofs.Keeping.{ended, job, value, chain, charged, paid, made_text, faulted, R, found, wanted}
 use Rattle.widget_meaning.proofs.KeepingAdsafe.{adsafe_native_r}
 use Rattle.widget_meaning.proofs.KeepingForms.{dispatch_r, bubble_r}
 use Rattle.widget_meaning.proofs.KeepingNatives.{give_texts_r, global_native_r, make_bunch_r, math_native_r, on_bunch_r, want_function_r, want_primitives_r}
@@ -74,18 +74,12 @@ module _ (inv : Invariant) where
   pub want_bunch_r : (x0 : Value) (x1 : State) (x2 : (List ℕ → Plan)) → R inv x1 → ((y0 : List ℕ) → Keeps inv (x2 y0)) → Keeps inv (want_bunch x0 x1 x2)
   want_bunch_r v s k hr f0 = search (found)
 
-  pub want_place_r : (x0 : Bool) (x1 : State) (x2 : Plan) → R inv x1 → Keeps inv x2 → Keeps inv (want_place x0 x1 x2)
-  want_place_r b s p hr f0 = search (either, faulted)
-
   pub want_all_r : (x0 : (ℕ → Bool)) (x1 : List ℕ) (x2 : State) (x3 : Plan) → R inv x2 → Keeps inv x3 → Keeps inv (want_all x0 x1 x2 x3)
-  want_all_r test ns s p hr f0 = search (want_place_r)
+  want_all_r test ns s p hr f0 = search (wanted)
 
   pub want_one_r : (x0 : List ℕ) (x1 : State) (x2 : (ℕ → Plan)) → R inv x1 → ((y0 : ℕ) → Keeps inv (x2 y0)) → Keeps inv (want_one x0 x1 x2)
   want_one_r (n ∷ []) s k hr f0 = search
   want_one_r ns s k hr f0 = search (faulted)
-
-  pub want_r : (x0 : Bool) (x1 : State) (x2 : Plan) → R inv x1 → Keeps inv x2 → Keeps inv (want x0 x1 x2)
-  want_r b s p hr f0 = search (either, faulted)
 
   pub give_page_text_r : (x0 : ℕ) (x1 : List ℕ) (x2 : State) → R inv x2 → Keeps inv (give_page_text x0 x1 x2)
   give_page_text_r extra t s hr = search (charged, made_text, ended)
@@ -108,7 +102,7 @@ module _ (inv : Invariant) where
   get_attribute_r ns x s hr = search (give_page_text_r)
 
   pub get_style_r : (x0 : List ℕ) (x1 : Value) (x2 : State) → R inv x2 → Keeps inv (get_style x0 x1 x2)
-  get_style_r ns p s hr = search (want_primitives_r, want_r, give_page_text_r)
+  get_style_r ns p s hr = search (want_primitives_r, wanted, give_page_text_r)
 
   pub explode_r : (x0 : List ℕ) (x1 : State) → R inv x1 → Keeps inv (explode x0 x1)
   explode_r ns s hr = search (charged, paid, ended, exploded_kept)
@@ -156,13 +150,13 @@ module _ (inv : Invariant) where
   remove_r ns b s hr = search (want_all_r, alter_each_r)
 
   pub replace_r : (x0 : List ℕ) (x1 : Value) (x2 : Value) (x3 : State) → R inv x3 → Keeps inv (replace x0 x1 x2 x3)
-  replace_r ns v b s hr = search (want_one_r, want_bunch_r, found, want_place_r, alter_r)
+  replace_r ns v b s hr = search (want_one_r, want_bunch_r, found, wanted, alter_r)
 
   pub set_value_r : (x0 : List ℕ) (x1 : List ℕ) (x2 : Value) (x3 : State) → R inv x3 → Keeps inv (set_value x0 x1 x2 x3)
   set_value_r ns t b s hr = search (want_all_r, alter_for_r, each_valued_kept)
 
   pub set_style_r : (x0 : List ℕ) (x1 : List ℕ) (x2 : List ℕ) (x3 : Value) (x4 : State) → R inv x4 → Keeps inv (set_style x0 x1 x2 x3 x4)
-  set_style_r ns p v b s hr = search (want_r, want_all_r, alter_for_r, each_relabelled_kept)
+  set_style_r ns p v b s hr = search (wanted, want_all_r, alter_for_r, each_relabelled_kept)
 
   pub set_attribute_r : (x0 : List ℕ) (x1 : List ℕ) (x2 : List ℕ) (x3 : Value) (x4 : State) → R inv x4 → Keeps inv (set_attribute x0 x1 x2 x3 x4)
   set_attribute_r ns x v b s hr = search (want_all_r, alter_for_r, each_relabelled_kept)
@@ -177,18 +171,18 @@ module _ (inv : Invariant) where
   blur_r ns b s hr = search (alter_r)
 
   pub listen_r : (x0 : List ℕ) (x1 : List ℕ) (x2 : Value) (x3 : Value) (x4 : State) → R inv x4 → Keeps inv (listen x0 x1 x2 x3 x4)
-  listen_r ns t f b s hr = search (want_r, want_function_r, charged, paid, ended, each_noted_kept) depth 8 fits 4000
+  listen_r ns t f b s hr = search (wanted, want_function_r, charged, paid, ended, each_noted_kept) depth 8 fits 4000
 
   pub hush_r : (x0 : List ℕ) (x1 : Value) (x2 : Value) (x3 : State) → R inv x3 → Keeps inv (hush x0 x1 x2 x3)
   hush_r ns Undefined b s hr = search (alter_each_r)
-  hush_r ns v b s hr = search (want_primitives_r, want_r, alter_each_r)
+  hush_r ns v b s hr = search (want_primitives_r, wanted, alter_each_r)
 
   pub fired_r : (x0 : List ℕ) (x1 : List ℕ) (x2 : Value) (x3 : ℕ) (x4 : State) → R inv x4 → Keeps inv (fired x0 x1 x2 x3 x4)
   fired_r t [] b d s hr = ended inv _ s hr
   fired_r t (n ∷ ns) b d s hr = chain inv _ _ (dispatch_r inv t n Undefined d s hr) (λ o u v. value inv o u _ v (λ w. fired_r t ns b d u v))
 
   pub fire_r : (x0 : List ℕ) (x1 : List ℕ) (x2 : Value) (x3 : ℕ) (x4 : State) → R inv x4 → Keeps inv (fire x0 x1 x2 x3 x4)
-  fire_r ns t b d s hr = search (want_r, charged, fired_r)
+  fire_r ns t b d s hr = search (wanted, charged, fired_r)
 
   pub each_called_r : (x0 : Value) (x1 : List Value) (x2 : Value) (x3 : ℕ) (x4 : State) → R inv x4 → Keeps inv (each_called x0 x1 x2 x3 x4)
   each_called_r f [] b d s hr = ended inv _ s hr
@@ -204,7 +198,7 @@ module _ (inv : Invariant) where
   write_method_r Replace ns b vs d s hr = search (replace_r)
   write_method_r SetValue ns b vs d s hr = search (want_primitives_r, set_value_r)
   write_method_r SetStyle ns b vs d s hr = search (want_primitives_r, set_style_r)
-  write_method_r SetClass ns b vs d s hr = search (want_primitives_r, want_r, set_attribute_r)
+  write_method_r SetClass ns b vs d s hr = search (want_primitives_r, wanted, set_attribute_r)
   write_method_r SetTitle ns b vs d s hr = search (want_primitives_r, set_attribute_r)
   write_method_r SetCheck ns b vs d s hr = search (set_flag_r)
   write_method_r SetEnabled ns b vs d s hr = search (set_flag_r)
@@ -224,7 +218,7 @@ module _ (inv : Invariant) where
   give_node_r l units s hr = search (paid, ended)
 
   pub dom_tag_r : (x0 : List ℕ) (x1 : List (List ℕ)) (x2 : State) → R inv x2 → Keeps inv (dom_tag x0 x1 x2)
-  dom_tag_r tag v s hr = search (want_r, give_node_r)
+  dom_tag_r tag v s hr = search (wanted, give_node_r)
 
   pub append_to_root_r : (x0 : List ℕ) (x1 : State) → R inv x1 → Keeps inv (append_to_root x0 x1)
   append_to_root_r ms s hr = search (charged, paid, ended, appended_kept)

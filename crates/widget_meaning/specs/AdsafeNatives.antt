@@ -6,41 +6,33 @@ use Rattle.widget_meaning.specs.NativeNames.{AdsafeNative, Create, FromJson, Get
 use Rattle.widget_meaning.specs.Values.{Value, Undefined, Truth, Num, Text, Own, E4, E8, E11, E12, is_object, to_text, nth}
 use Rattle.widget_meaning.specs.OwnState.{State, Kind, Object, Array, new_object, with_own, kind_of, array_length}
 use Rattle.widget_meaning.specs.Plan.{Plan, charge}
-use Rattle.widget_meaning.specs.Costs.{pay, units_cost, make, throw, give}
+use Rattle.widget_meaning.specs.Costs.{pay, units_cost, make, throw, give, want}
 use Rattle.widget_meaning.specs.Properties.{get, put, delete, keys, own_property, prototype}
 use Rattle.widget_meaning.specs.NativeForms.{want_primitives, want_function, give_texts}
 use Rattle.widget_meaning.specs.JsonValues.{from_json}
 use Rattle.widget_meaning.specs.JsonTexts.{to_json}
 
--- an object argument; a primitive throws E4
-abbrev pub want_object : Value → State → Plan → Plan
-want_object o s p = if is_object o then p else throw E4 s
-
--- a permitted name; another throws E8
-abbrev pub want_permitted : List ℕ → State → (List ℕ → Plan) → Plan
-want_permitted x s k = if is_permitted x then k x else throw E8 s
-
--- a name is a text or a whole number; all else throws E8
+-- a name is a permitted text or a whole number; all else throws E8
 abbrev pub want_name : Value → State → (List ℕ → Plan) → Plan
-want_name (Text t) s k = want_permitted t s k
-want_name (Num z) s k = want_permitted (to_text (Num z)) s k
+want_name (Text t) s k = want E8 (is_permitted t) s (k t)
+want_name (Num z) s k = want E8 (is_permitted (to_text (Num z))) s (k (to_text (Num z)))
 want_name v s k = throw E8 s
 
 -- `get(o, n)`: the property, along the prototypes
 abbrev pub get_native : Value → Value → State → Plan
-get_native o n s = want_object o s (want_name n s (λ x. give (get s o x) s))
+get_native o n s = want E4 (is_object o) s (want_name n s (λ x. give (get s o x) s))
 
 -- `has(o, n)`: whether it is an own property
 abbrev pub has_native : Value → Value → State → Plan
-has_native o n s = want_object o s (want_name n s (λ x. give (Truth (is_some (own_property s o x))) s))
+has_native o n s = want E4 (is_object o) s (want_name n s (λ x. give (Truth (is_some (own_property s o x))) s))
 
 -- `set(o, n, v)`: writes the own property
 abbrev pub set_native : Value → Value → Value → State → Plan
-set_native o n v s = want_object o s (want_name n s (λ x. put o x v s (give Undefined)))
+set_native o n v s = want E4 (is_object o) s (want_name n s (λ x. put o x v s (give Undefined)))
 
 -- `remove(o, n)`: takes it out; gives undefined, also where an array keeps its `length`
 abbrev pub remove_native : Value → Value → State → Plan
-remove_native o n s = want_object o s (want_name n s (λ x. delete o x s (λ b. give Undefined)))
+remove_native o n s = want E4 (is_object o) s (want_name n s (λ x. delete o x s (λ b. give Undefined)))
 
 -- what `create` takes: an Object or Array of the widget
 abbrev pub can_be_prototype : Option Kind → Bool
@@ -60,11 +52,11 @@ create_from o s = if nat_lt max_chain (chain_from (suc max_chain) s (Some o)) th
 
 -- `create(o)`: a new object with this prototype
 abbrev pub create : Value → State → Plan
-create o s = if can_be_prototype (kind_of s o) then create_from o s else throw E4 s
+create o s = want E4 (can_be_prototype (kind_of s o)) s (create_from o s)
 
 -- `keys(o)`: the own permitted names, each a made text; the extra is their number
 abbrev pub keys_native : Value → State → Plan
-keys_native o s = want_object o s (charge (length (keys s o)) s (give_texts (keys s o) s))
+keys_native o s = want E4 (is_object o) s (charge (length (keys s o)) s (give_texts (keys s o) s))
 
 -- a timer waits the larger of 10 and the given time
 abbrev pub delay : ℤ → ℕ

@@ -2,15 +2,15 @@
 use Rattle.std.specs.Prelude.{ℕ, pos, ◌+◌, ◌*◌, List, [], ◌∷◌, length, map, Bool, true, false, not, ◌&&◌, if◌then◌else◌, codes, Option, Some, None, is_some, unwrap_or}
 use Rattle.std.specs.List.{filter, sum_by, range_with_len, fold, filter_map}
 use Rattle.widget_meaning.specs.NativeNames.{ReadNative, Query, GetValue, GetValues, GetStyle, GetClass, GetTitle, GetCheck, Explode, Count, GetParent, GetTagName, GetMark}
-use Rattle.widget_meaning.specs.Values.{Value, Undefined, Truth, Num, Text, Own, E9, to_text, nth}
+use Rattle.widget_meaning.specs.Values.{Value, Undefined, Truth, Num, Text, Own, E9, to_text, nth, E4}
 use Rattle.widget_meaning.specs.Trees.{parent, subtree}
 use Rattle.widget_meaning.specs.OwnState.{State, notes_at, new_array, new_bunch, with_new_cell}
 use Rattle.widget_meaning.specs.Plan.{Plan, charge}
-use Rattle.widget_meaning.specs.Costs.{pay, cost, make_text, throw, give}
+use Rattle.widget_meaning.specs.Costs.{pay, cost, make_text, throw, give, want}
 use Rattle.widget_meaning.specs.NativeForms.{want_primitives, on_bunch, make_bunch, give_texts, numbered_pairs}
 use Rattle.style_text.specs.Styles.{is_listed}
 use Rattle.widget_meaning.specs.Styles.{style_pairs, style_value}
-use Rattle.widget_meaning.specs.PageForms.{want, want_all, attribute, texts_of, tag_of, is_input, is_text_node, once, next_node}
+use Rattle.widget_meaning.specs.PageForms.{want_all, attribute, texts_of, tag_of, is_input, is_text_node, once, next_node}
 use Rattle.query_grammar.specs.declared.query.Hunter.{Hunter}
 use Rattle.query_grammar.specs.declared.query.Hunter.TheVariants as hunter
 use Rattle.query_grammar.specs.Steps.{Step}
@@ -64,7 +64,7 @@ get_attribute ns x s = give_page_text (length ns) (first_attribute s ns x) s
 -- `getStyle(p)`: E4 for a property that is not listed
 abbrev pub get_style : List ℕ → Value → State → Plan
 get_style ns p s =
-    want_primitives (p ∷ []) s (want (is_listed (to_text p)) s
+    want_primitives (p ∷ []) s (want E4 (is_listed (to_text p)) s
     (give_page_text (length ns) (style_value (style_pairs (first_attribute s ns (codes "style"))) (to_text p)) s))
 
 -- whether the first node has `checked`

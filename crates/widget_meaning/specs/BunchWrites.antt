@@ -5,18 +5,18 @@ use Rattle.std.specs.Str.{bytes_eq}
 use Rattle.std.specs.Option.{option_map_or}
 use Rattle.widget_meaning.specs.Limits.{max_node_depth}
 use Rattle.widget_meaning.specs.NativeNames.{WriteNative, Append, Remove, Empty, Replace, SetValue, SetStyle, SetClass, SetTitle, SetCheck, SetEnabled, Focus, Blur, On, Off, Fire, Each, SetMark, Protect}
-use Rattle.widget_meaning.specs.Values.{Value, Undefined, Own, E10, is_true, to_text, nth}
+use Rattle.widget_meaning.specs.Values.{Value, Undefined, Own, E10, is_true, to_text, nth, E4}
 use Rattle.plain_tree.specs.Trees.{End, Node, Label, TextOf, height, size}
 use Rattle.tree_ops.specs.Labels.{with_attribute, attribute_of}
 use Rattle.widget_meaning.specs.Trees.{Trees, label_of, parent, children, tops, has, numbered, grafted, subtree, subtrees, detached, moved, depth_of, copied}
 use Rattle.widget_meaning.specs.OwnState.{State, Notes, notes_at, with_own, with_forest, with_notes}
 use Rattle.widget_meaning.specs.Plan.{Plan, Do, Call, charge, and_then, after}
-use Rattle.widget_meaning.specs.Costs.{pay, cost, slots_cost, give, or_throw}
+use Rattle.widget_meaning.specs.Costs.{pay, cost, slots_cost, give, or_throw, want}
 use Rattle.widget_meaning.specs.NativeForms.{want_primitives, want_function, on_bunch}
 use Rattle.widget_meaning.specs.Dispatch.{dispatch}
 use Rattle.style_text.specs.Styles.{is_listed, is_value, print_style}
 use Rattle.query_grammar.specs.Finds.{has_number}
-use Rattle.widget_meaning.specs.PageForms.{root, want, want_all, want_one, want_bunch, is_void, is_input, is_field, is_text_node, is_element, is_tag, tree_units, next_node, with_room, with_label, is_plain_words, is_event_type, want_place}
+use Rattle.widget_meaning.specs.PageForms.{root, want_all, want_one, want_bunch, is_void, is_input, is_field, is_text_node, is_element, is_tag, tree_units, next_node, with_room, with_label, is_plain_words, is_event_type}
 use Rattle.widget_meaning.specs.BunchReads.{bunches_from, with_bunch}
 use Rattle.widget_meaning.specs.Styles.{with_property, style_pairs}
 
@@ -81,7 +81,7 @@ emptied s n = with_forest s (fold detached s.own.forest (tops (children n s.own.
 -- `replace(b)`: one node with a parent, which does not stand in b, is detached, and those of b come in its place
 abbrev pub replace : List ℕ → Value → Value → State → Plan
 replace ns v b s = want_one ns s (λ n. want_bunch v s (λ ms. or_throw E10 (parent n s.own.forest) s (λ p.
-    want_place (not (has_number ms n) && takes s ms p) s
+    want E10 (not (has_number ms n) && takes s ms p) s
     (alter 1 b s (λ t. with_forest t (detached (fold (moved p (Some n)) t.own.forest ms) n))))))
 
 -- ## Labels
@@ -129,7 +129,7 @@ styled p v l = with_style (attribute_of (codes "style") l) p v l
 -- `style(p, v)`
 abbrev pub set_style : List ℕ → List ℕ → List ℕ → Value → State → Plan
 set_style ns p v b s =
-    want (is_listed p && (nat_eq (length v) 0 || is_value v)) s
+    want E4 (is_listed p && (nat_eq (length v) 0 || is_value v)) s
     (want_all (is_element s) ns s (alter_for (length ns) (length ns * length v) 0 b s (λ t. fold (relabel (styled p v)) t ns)))
 
 -- `klass(v)` and `title(v)`
@@ -173,13 +173,13 @@ with_handler t v k = k
 -- `on(t, f)`: each handler costs a slot
 abbrev pub listen : List ℕ → List ℕ → Value → Value → State → Plan
 listen ns t f b s =
-    want (is_event_type t) s (want_function f s (charge (length ns) s (pay (slots_cost (length ns)) s (λ u. give b (fold (noted (with_handler t f)) u ns)))))
+    want E4 (is_event_type t) s (want_function f s (charge (length ns) s (pay (slots_cost (length ns)) s (λ u. give b (fold (noted (with_handler t f)) u ns)))))
 
 -- `off(t)`: the handlers of the type are taken out, or all
 abbrev pub hush : List ℕ → Value → Value → State → Plan
 hush ns Undefined b s = alter_each (noted (λ k. record k { handlers = [] })) ns b s
 hush ns v b s =
-    want_primitives (v ∷ []) s (want (is_event_type (to_text v)) s
+    want_primitives (v ∷ []) s (want E4 (is_event_type (to_text v)) s
     (alter_each (noted (λ k. record k { handlers = filter (λ h. not (bytes_eq h.kind (to_text v))) k.handlers })) ns b s))
 
 -- ## Calls
@@ -191,7 +191,7 @@ fired t (n ∷ ns) b d s = and_then (dispatch t n Undefined d s) (after (λ v u.
 
 -- `fire(t)`
 abbrev pub fire : List ℕ → List ℕ → Value → ℕ → State → Plan
-fire ns t b d s = want (is_event_type t) s (charge (length ns) s (fired t ns b d s))
+fire ns t b d s = want E4 (is_event_type t) s (charge (length ns) s (fired t ns b d s))
 
 -- a call with each Bunch in order
 abbrev pub each_called : Value → List Value → Value → ℕ → State → Plan
@@ -214,7 +214,7 @@ write_method Empty ns b vs d s = alter_each emptied ns b s
 write_method Replace ns b vs d s = replace ns (nth 0 vs) b s
 write_method SetValue ns b vs d s = want_primitives (nth 0 vs ∷ []) s (set_value ns (to_text (nth 0 vs)) b s)
 write_method SetStyle ns b vs d s = want_primitives (nth 0 vs ∷ nth 1 vs ∷ []) s (set_style ns (to_text (nth 0 vs)) (to_text (nth 1 vs)) b s)
-write_method SetClass ns b vs d s = want_primitives (nth 0 vs ∷ []) s (want (is_plain_words (to_text (nth 0 vs))) s (set_attribute ns (codes "class") (to_text (nth 0 vs)) b s))
+write_method SetClass ns b vs d s = want_primitives (nth 0 vs ∷ []) s (want E4 (is_plain_words (to_text (nth 0 vs))) s (set_attribute ns (codes "class") (to_text (nth 0 vs)) b s))
 write_method SetTitle ns b vs d s = want_primitives (nth 0 vs ∷ []) s (set_attribute ns (codes "title") (to_text (nth 0 vs)) b s)
 write_method SetCheck ns b vs d s = set_flag (is_input s) ns (codes "checked") (is_true (nth 0 vs)) b s
 write_method SetEnabled ns b vs d s = set_flag (is_field s) ns (codes "disabled") (not (is_true (nth 0 vs))) b s

@@ -1,5 +1,5 @@
 -- Costs, their limits and the order of stops; faults as objects.
-use Rattle.std.specs.Prelude.{ℕ, ◌+◌, List, [], ◌∷◌, length, nat_lt, if◌then◌else◌, codes, Option, Some, None}
+use Rattle.std.specs.Prelude.{ℕ, ◌+◌, List, [], ◌∷◌, length, nat_lt, if◌then◌else◌, codes, Option, Some, None, Bool}
 use Rattle.widget_meaning.specs.Limits.{max_cells, max_slots, max_units, max_nodes, max_text}
 use Rattle.widget_meaning.specs.Values.{Value, Text, Own, Throw, Is, Fault, E1, E2, E3, E4, E5, E6, E7, E8, E9, E10, E11, E12, Cells, Slots, Units, LongText, Nodes}
 use Rattle.widget_meaning.specs.OwnState.{Amounts, State, Cell, Pairs, with_own, with_new_cell, plain_object, Scope}
@@ -88,6 +88,10 @@ fault_pairs e = (codes "name", Text (fault_name e)) ∷ (codes "message", Text (
 -- a fault is thrown as a new object
 abbrev pub throw : Fault → State → Plan
 throw e s = make (plain_object (fault_pairs e)) 2 s (λ v t. Ret (Throw v) t)
+
+-- a condition; else a fault is thrown
+abbrev pub want : Fault → Bool → State → Plan → Plan
+want e b s p = if b then p else throw e s
 
 -- what is there, or else a fault is thrown
 abbrev pub or_throw : {A : Type 0} → Fault → Option A → State → (A → Plan) → Plan

@@ -3,14 +3,14 @@ use Rattle.std.specs.Prelude.{ℕ, List, [], ◌∷◌, length, ◌&&◌, codes,
 use Rattle.std.specs.List.{list_any, list_all}
 use Rattle.std.specs.Str.{bytes_eq}
 use Rattle.widget_meaning.specs.NativeNames.{DomNative, DomQuery, DomAppend, DomTag, DomText}
-use Rattle.widget_meaning.specs.Values.{Value, Undefined, Own, to_text, nth}
+use Rattle.widget_meaning.specs.Values.{Value, Undefined, Own, to_text, nth, E4}
 use Rattle.plain_tree.specs.Trees.{Label, TextOf, ElementOf, size}
 use Rattle.widget_meaning.specs.OwnState.{State, new_bunch, with_new_cell}
 use Rattle.widget_meaning.specs.Plan.{Plan, charge}
-use Rattle.widget_meaning.specs.Costs.{pay, cost, give}
+use Rattle.widget_meaning.specs.Costs.{pay, cost, give, want}
 use Rattle.widget_meaning.specs.NativeForms.{want_primitives}
 use Rattle.widget_meaning.specs.Trees.{subtrees}
-use Rattle.widget_meaning.specs.PageForms.{root, want, want_all, want_bunch, with_node, next_node, is_plain_words, listed_tags}
+use Rattle.widget_meaning.specs.PageForms.{root, want_all, want_bunch, with_node, next_node, is_plain_words, listed_tags}
 use Rattle.widget_meaning.specs.BunchReads.{query}
 use Rattle.widget_meaning.specs.BunchWrites.{takes, appended}
 
@@ -26,7 +26,7 @@ given_text v = to_text v ∷ []
 -- `dom.tag(name, type)`: an element of a listed tag, with the `type` that is given
 abbrev pub dom_tag : List ℕ → List (List ℕ) → State → Plan
 dom_tag tag types s =
-    want (list_any (bytes_eq tag) listed_tags && list_all is_plain_words types) s
+    want E4 (list_any (bytes_eq tag) listed_tags && list_all is_plain_words types) s
     (give_node (ElementOf tag (map (λ t. (codes "type", t)) types)) (sum_by length types) s)
 
 -- nodes become the last children of the root, and a new Bunch of it is given

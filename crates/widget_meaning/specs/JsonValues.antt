@@ -9,7 +9,7 @@ use Rattle.widget_meaning.specs.Limits.{past_numbers}
 use Rattle.widget_meaning.specs.Values.{Value, Null, Truth, Num, Text, Own, Number, LongText, E4, E8}
 use Rattle.widget_meaning.specs.OwnState.{Amounts, State, Cell, Kind, Object, Pairs, plain_object, new_array, with_new_cell}
 use Rattle.widget_meaning.specs.Plan.{Plan, Halt, charge}
-use Rattle.widget_meaning.specs.Costs.{pay, cost, throw, give, or_throw}
+use Rattle.widget_meaning.specs.Costs.{pay, cost, throw, give, or_throw, want}
 use Rattle.widget_meaning.specs.Properties.{index_name}
 use Rattle.widget_meaning.specs.NativeForms.{is_too_long}
 
@@ -121,9 +121,7 @@ give_read true v cs ts s = if list_any is_too_long ts then Halt LongText s else 
 -- what was read is born; a name that is not permitted throws E8, before the extra
 abbrev pub read_value : ℕ → json.Data → List Cell → Value → State → Plan
 read_value extra d cs v s =
-    if list_all (λ c. has_permitted_names c.kind c.pairs) cs
-    then charge extra s (give_read (has_numbers d) v cs (texts_in v cs) s)
-    else throw E8 s
+    want E8 (list_all (λ c. has_permitted_names c.kind c.pairs) cs) s (charge extra s (give_read (has_numbers d) v cs (texts_in v cs) s))
 
 -- `fromJson(t)`: all but a text, and what is no JSON, throws E4
 abbrev pub from_json : Value → State → Plan

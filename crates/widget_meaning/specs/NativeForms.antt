@@ -7,7 +7,7 @@ use Rattle.widget_meaning.specs.Limits.{max_text}
 use Rattle.widget_meaning.specs.Values.{Value, Undefined, Text, Own, Host, E3, E4, Number, LongText, is_object, to_number}
 use Rattle.widget_meaning.specs.OwnState.{State, Pairs, lookup, cell_at, new_array, new_bunch, with_new_cell, array_length, kind_of, bunch_nodes}
 use Rattle.widget_meaning.specs.Plan.{Plan, Halt, charge}
-use Rattle.widget_meaning.specs.Costs.{pay, cost, make, make_text, throw, give, or_throw}
+use Rattle.widget_meaning.specs.Costs.{pay, cost, make, make_text, throw, give, or_throw, want}
 use Rattle.widget_meaning.specs.Properties.{index_name, is_own_function}
 
 -- where a row wants primitives, an object throws E4
@@ -16,7 +16,7 @@ want_primitives vs s p = if list_any is_object vs then throw E4 s else p
 
 -- where a row wants a function of the widget, all else throws E4
 abbrev pub want_function : Value → State → Plan → Plan
-want_function f s p = if is_own_function s f then p else throw E4 s
+want_function f s p = want E4 (is_own_function s f) s p
 
 -- a text as receiver; all else throws E3
 abbrev pub on_text : Option Value → State → (List ℕ → Plan) → Plan

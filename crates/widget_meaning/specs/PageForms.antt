@@ -1,5 +1,5 @@
 -- What the natives of the page have in common: nodes and their labels, what they cost, and new nodes.
-use Rattle.std.specs.Prelude.{ℕ, ◌+◌, List, [], ◌∷◌, ◌++◌, length, Bool, false, not, ◌&&◌, ◌||◌, nat_eq, nat_le, nat_lt, ◌==◌, if◌then◌else◌, codes, Option, Some, None, replicate, unwrap_or, option_and_then, sum_by}
+use Rattle.std.specs.Prelude.{ℕ, ◌+◌, List, [], ◌∷◌, ◌++◌, length, Bool, false, not, ◌&&◌, ◌||◌, nat_le, nat_lt, ◌==◌, if◌then◌else◌, codes, Option, Some, None, replicate, unwrap_or, option_and_then, sum_by}
 use Rattle.std.specs.List.{list_any, list_all}
 use Rattle.std.specs.Int.{is_in_range}
 use Rattle.std.specs.Str.{bytes_eq, byte}
@@ -14,7 +14,7 @@ use Rattle.plain_tree.specs.Trees.{End, Node, Label, TextOf, ElementOf}
 use Rattle.widget_meaning.specs.Trees.{Trees, label_of, relabelled, with_detached}
 use Rattle.widget_meaning.specs.OwnState.{State, no_notes, with_own, with_forest, bunch_nodes, kind_of}
 use Rattle.widget_meaning.specs.Plan.{Plan}
-use Rattle.widget_meaning.specs.Costs.{throw, or_throw}
+use Rattle.widget_meaning.specs.Costs.{throw, or_throw, want}
 use Rattle.tree_ops.specs.Labels as labels
 use Rattle.tree_ops.specs.Labels.{is_text, attribute_of, without_value}
 
@@ -26,22 +26,14 @@ root = 0
 abbrev pub want_bunch : Value → State → (List ℕ → Plan) → Plan
 want_bunch v s k = or_throw E4 (bunch_nodes (kind_of s v)) s k
 
--- a condition on the page; else E10
-abbrev pub want_place : Bool → State → Plan → Plan
-want_place b s p = if b then p else throw E10 s
-
 -- a condition on all nodes, before any change
 abbrev pub want_all : (ℕ → Bool) → List ℕ → State → Plan → Plan
-want_all test ns s p = want_place (list_all test ns) s p
+want_all test ns s p = want E10 (list_all test ns) s p
 
 -- one node alone
 abbrev pub want_one : List ℕ → State → (ℕ → Plan) → Plan
 want_one (n ∷ []) s k = k n
 want_one ns s k = throw E4 s
-
--- a condition on arguments; else E4
-abbrev pub want : Bool → State → Plan → Plan
-want b s p = if b then p else throw E4 s
 
 -- the tag of an element, empty for a text node
 abbrev pub tag_of : State → ℕ → List ℕ

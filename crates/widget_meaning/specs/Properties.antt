@@ -12,7 +12,7 @@ use Rattle.widget_meaning.specs.NativeNames.{TextPrototype, NumberPrototype, Boo
 use Rattle.widget_meaning.specs.Values.{Value, Undefined, Null, Truth, NaN, Num, Text, Own, Host, E1, E5, E7}
 use Rattle.widget_meaning.specs.OwnState.{State, Cell, Kind, Array, Function, Bunch, Pairs, lookup, replaced, taken_out, cell_at, with_cell, kind_of}
 use Rattle.widget_meaning.specs.Plan.{Plan}
-use Rattle.widget_meaning.specs.Costs.{pay, slots_cost, throw, give}
+use Rattle.widget_meaning.specs.Costs.{pay, slots_cost, throw, give, want}
 use Rattle.widget_meaning.specs.HostTable.{host_pairs, host_prototype}
 
 -- ## Indexes
@@ -112,10 +112,7 @@ cut_to c len = record c { kind = Array len; pairs = filter (λ p. is_below len t
 
 -- a write of an array's `length`: a whole number up to the largest
 abbrev pub put_length : Value → Cell → ℕ → State → (State → Plan) → Plan
-put_length (Num (pos len)) c n s k =
-    if nat_le len max_length
-    then k (with_cell s n (cut_to c len))
-    else throw E7 s
+put_length (Num (pos len)) c n s k = want E7 (nat_le len max_length) s (k (with_cell s n (cut_to c len)))
 put_length v c n s k = throw E7 s
 
 -- a write of an own property of an object of the widget; a Bunch is closed

@@ -7,7 +7,7 @@ use Rattle.widget_meaning.specs.NativeNames.{PrototypeNative, HasOwnProperty, Ob
 use Rattle.widget_meaning.specs.Values.{Value, Truth, NaN, Num, Text, E3, E7, to_text, nth}
 use Rattle.widget_meaning.specs.OwnState.{State}
 use Rattle.widget_meaning.specs.Plan.{Plan}
-use Rattle.widget_meaning.specs.Costs.{make_text, throw, give}
+use Rattle.widget_meaning.specs.Costs.{make_text, throw, give, want}
 use Rattle.widget_meaning.specs.Properties.{own_property, is_function}
 use Rattle.widget_meaning.specs.NativeForms.{want_primitives, on_object, on_array, on_text, with_optional}
 use Rattle.widget_meaning.specs.ListNatives.{join}
@@ -23,7 +23,7 @@ give_made t s = make_text t s (give (Text t))
 
 -- the `toString` of functions: those of the widget, and natives
 abbrev pub function_to_string : Option Value → State → Plan
-function_to_string (Some v) s = if is_function s v then give_made (codes "[function]") s else throw E3 s
+function_to_string (Some v) s = want E3 (is_function s v) s (give_made (codes "[function]") s)
 function_to_string this s = throw E3 s
 
 -- the `toString` of arrays is `join(",")`, with its extra: the length, one argument and the units made
@@ -42,7 +42,7 @@ is_radix z = int_le (pos 2) z && int_le z (pos 36)
 -- 10 where absent; a radix outside 2 to 36 throws E7
 abbrev pub in_radix : Value → Value → State → Plan
 in_radix v radix s =
-    want_primitives (radix ∷ []) s (with_optional (pos 10) radix 0 s (λ r. if is_radix r then give_made (number_text v r) s else throw E7 s))
+    want_primitives (radix ∷ []) s (with_optional (pos 10) radix 0 s (λ r. want E7 (is_radix r) s (give_made (number_text v r) s)))
 
 -- the `toString` of numbers
 abbrev pub number_to_string : Option Value → Value → State → Plan
