@@ -134,7 +134,7 @@ module _ (inv : Invariant) where
   subscript_read_r i p o s hr = search (value, job, read_r)
 
   pub refer_r : (x0 : Value) (x1 : List ℕ) (x2 : State) → R inv x2 → Keeps inv (refer x0 x1 x2)
-  refer_r b x s hr = search (either, faulted, ended)
+  refer_r b x s hr = search (wanted, ended)
 
   pub subscript_target_r : (x0 : Expr) (x1 : Place) (x2 : Completion) (x3 : State) → R inv x3 → Keeps inv (subscript_target x0 x1 x2 x3)
   subscript_target_r i p o s hr = search (value, job, refer_r)

@@ -16,7 +16,7 @@ use Rattle.widget_meaning.proofs.KeepingForms.{result_r, to_primitive_r}
 
 module _ (inv : Invariant) where
   pub want_primitives_r : (x0 : List Value) (x1 : State) (x2 : Plan) → R inv x1 → Keeps inv x2 → Keeps inv (want_primitives x0 x1 x2)
-  want_primitives_r vs s p hr f0 = search (either, faulted)
+  want_primitives_r vs s p hr f0 = search (wanted)
 
   pub want_function_r : (x0 : Value) (x1 : State) (x2 : Plan) → R inv x1 → Keeps inv x2 → Keeps inv (want_function x0 x1 x2)
   want_function_r f s p hr f0 = search (wanted)

@@ -1,5 +1,5 @@
 -- Expressions: what each form does after its unit, one level deep. What comes after a part has a name.
-use Rattle.std.specs.Prelude.{ℕ, ◌+◌, ◌-ℤ◌, ◌+ℤ◌, ℤ, pos, List, [], ◌∷◌, ◌++◌, Bool, true, false, if◌then◌else◌, Option, Some, None}
+use Rattle.std.specs.Prelude.{ℕ, ◌+◌, ◌-ℤ◌, ◌+ℤ◌, ℤ, pos, List, [], ◌∷◌, ◌++◌, Bool, true, false, if◌then◌else◌, Option, Some, None, not}
 use Rattle.js_tree.specs.declared.nodes.Word.{Word}
 use Rattle.js_tree.specs.declared.nodes.Word.TheVariants as word
 use Rattle.js_tree.specs.declared.nodes.StepOp.{StepOp}
@@ -19,7 +19,7 @@ use Rattle.widget_meaning.specs.Values.{Value, Undefined, Null, Truth, NaN, Num,
 use Rattle.widget_meaning.specs.Operators.{OpOut, Gives, Leaves, TooLong, number, binary, unary, type_name}
 use Rattle.widget_meaning.specs.OwnState.{State, plain_object, new_array, new_function}
 use Rattle.widget_meaning.specs.Plan.{Place, Plan, Ret, Halt, Do, Eval, Target, and_then, on_value, on_reference, after}
-use Rattle.widget_meaning.specs.Costs.{make, make_text, throw, give}
+use Rattle.widget_meaning.specs.Costs.{make, make_text, give, want}
 use Rattle.widget_meaning.specs.Properties.{get, read, put, delete, index_name, is_function}
 use Rattle.widget_meaning.specs.Scopes.{variable, assign}
 use Rattle.widget_meaning.specs.Calls.{invoke, to_primitive}
@@ -68,7 +68,7 @@ subscript_read i p o s = on_value o s (λ b. Do (Eval i p) s (after (λ v t. rea
 
 -- a property as a target; undefined and null have none
 abbrev pub refer : Value → List ℕ → State → Plan
-refer b x s = if is_nothing b then throw E1 s else Ret (Refers (Property b x)) s
+refer b x s = want E1 (not (is_nothing b)) s (Ret (Refers (Property b x)) s)
 
 -- after the base of a target with a subscript
 abbrev pub subscript_target : Expr → Place → Completion → State → Plan

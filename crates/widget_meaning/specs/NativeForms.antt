@@ -1,5 +1,5 @@
 -- What natives have in common: arguments, receivers, the extra charge, and what is made.
-use Rattle.std.specs.Prelude.{ℕ, ℤ, pos, negsuc, ◌+◌, ◌-◌, min, Bool, List, [], ◌∷◌, length, map, sum_by, nat_lt, if◌then◌else◌, Option, Some, unwrap_or, option_and_then}
+use Rattle.std.specs.Prelude.{ℕ, ℤ, pos, negsuc, ◌+◌, ◌-◌, min, Bool, List, [], ◌∷◌, length, map, sum_by, nat_lt, if◌then◌else◌, Option, Some, unwrap_or, option_and_then, not}
 use Rattle.std.specs.List.{list_any, range_with_len}
 use Rattle.code_units.specs.declared.whole.WholeRead.{WholeRead}
 use Rattle.code_units.specs.declared.whole.WholeRead.TheVariants as read
@@ -12,7 +12,7 @@ use Rattle.widget_meaning.specs.Properties.{index_name, is_own_function}
 
 -- where a row wants primitives, an object throws E4
 abbrev pub want_primitives : List Value → State → Plan → Plan
-want_primitives vs s p = if list_any is_object vs then throw E4 s else p
+want_primitives vs s p = want E4 (not (list_any is_object vs)) s p
 
 -- where a row wants a function of the widget, all else throws E4
 abbrev pub want_function : Value → State → Plan → Plan

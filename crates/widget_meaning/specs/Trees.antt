@@ -4,7 +4,7 @@ use Rattle.std.specs.List.{fold, list_any}
 use Rattle.std.specs.Option.{option_or}
 use Rattle.plain_tree.specs.Trees as plain
 use Rattle.plain_tree.specs.Trees.{End, Node, Label, joined}
-pub use Rattle.tree_ops.specs.Trees.{numbers, tops, has, subtree, without, relabelled, grafted, numbered, copied}
+pub use Rattle.tree_ops.specs.Trees.{tops, has, subtree, without, relabelled, grafted, numbered, copied}
 
 -- trees whose nodes have numbers
 abbrev pub Trees : Type 0
