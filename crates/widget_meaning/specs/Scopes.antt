@@ -23,11 +23,13 @@ abbrev pub init_names : ForInit → List (List ℕ)
 init_names (tree.DeclsFirst ds) = decl_names ds
 init_names (tree.ExprsFirst es) = []
 
--- the `var` names of statements in order of the text; functions inside have their own
+-- the `var` names in order of the text; functions inside have their own
 unfoldable mutual
+  -- of a statement
   pub stmt_vars : Stmt → List (List ℕ)
   stmt_vars (tree.StmtAt at names form) = form_vars form
 
+  -- of its form
   pub form_vars : StmtForm → List (List ℕ)
   form_vars (tree.Var ds) = decl_names ds
   form_vars (tree.If e a b) = stmts_vars a ++ stmts_vars b
@@ -41,18 +43,22 @@ unfoldable mutual
   form_vars (tree.Label x s) = stmt_vars s
   form_vars form = []
 
+  -- of the statements of a block
   pub stmts_vars : Stmts → List (List ℕ)
   stmts_vars tree.NoStmts = []
   stmts_vars (tree.AndStmt ss s) = stmts_vars ss ++ stmt_vars s
 
+  -- of the block of a `finally`
   pub block_vars : OptionalBlock → List (List ℕ)
   block_vars tree.NoBlock = []
   block_vars (tree.SomeBlock ss) = stmts_vars ss
 
+  -- of the block of a `catch`
   pub catch_vars : Catch → List (List ℕ)
   catch_vars tree.NoCatch = []
   catch_vars (tree.CatchAs x ss) = stmts_vars ss
 
+  -- of the clauses of a `switch`
   pub clauses_vars : Clauses → List (List ℕ)
   clauses_vars tree.NoClauses = []
   clauses_vars (tree.AndClause cs test ss) = clauses_vars cs ++ stmts_vars ss
