@@ -1,0 +1,20 @@
+//! Laws on the rules of a text, and of its tidied text.
+//!
+//! The functions do nothing: their contracts are the laws.
+#![tactic(auto)]
+
+ghost use Rattle.std.specs.Prelude.{ℕ, List};
+ghost use Rattle.js_tree.specs.Plain.{Stmts};
+ghost use Rattle.adsafe_rules.specs.declared.scope.Scope.{Scope};
+ghost use Rattle.adsafe_rules.specs.Program.{IsClean};
+ghost use Rattle.script_check.specs.Script.{IsScript};
+ghost use Rattle.tidy_laws.specs.Laws.{IsTidied};
+ghost use Rattle.tidy_laws.specs.Tame.{TameStmts};
+
+/// In a program that breaks no rule neither `new` nor the operator `in` stands. So the tidied text
+/// of a script that breaks no rule is read as its program, apart from places, with no token deeper
+/// than 200 links.
+pub fn accepted_is_tame()
+    ensures tame { (p : Stmts) (scope : Scope) → IsClean p scope → TameStmts p }
+    ensures no_deeper { (bytes : List ℕ) (scope : Scope) (p : Stmts) → IsScript bytes scope p → IsTidied 200 p }
+{}
