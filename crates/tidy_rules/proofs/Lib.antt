@@ -1,1 +1,5 @@
 pub mod Accepted
+pub mod Bare
+pub mod Bound
+pub mod Ignoring
+pub mod Clean

@@ -3,7 +3,8 @@
 //! The functions do nothing: their contracts are the laws.
 #![tactic(auto)]
 
-ghost use Rattle.std.specs.Prelude.{ℕ, List};
+ghost use Rattle.std.specs.Prelude.{◌≡◌, ℕ, List};
+ghost use Rattle.js_grammar.specs.Unplaced.{unplaced_stmts};
 ghost use Rattle.js_tree.specs.Plain.{Stmts};
 ghost use Rattle.adsafe_rules.specs.declared.scope.Scope.{Scope};
 ghost use Rattle.adsafe_rules.specs.Program.{IsClean};
@@ -17,4 +18,10 @@ ghost use Rattle.tidy_laws.specs.Tame.{TameStmts};
 pub fn accepted_is_tame()
     ensures tame { (p : Stmts) (scope : Scope) → IsClean p scope → TameStmts p }
     ensures no_deeper { (bytes : List ℕ) (scope : Scope) (p : Stmts) → IsScript bytes scope p → IsTidied 200 p }
+{}
+
+/// The rules do not look at places: of two programs that agree apart from places, one breaks no
+/// rule where the other breaks none.
+pub fn rules_ignore_places()
+    ensures { (p q : Stmts) (scope : Scope) → unplaced_stmts q ≡ unplaced_stmts p → IsClean p scope → IsClean q scope }
 {}
