@@ -1,12 +1,12 @@
 -- In what breaks no rule neither `new` nor the operator `in` stands.
-use Rattle.std.proofs.Common.{◌≡◌, ℕ, List, [], ◌∷◌, ◌++◌, refl, sym, subst, inl, inr, Bool, true, false, arith}
+use Rattle.std.proofs.Common.{◌≡◌, ℕ, List, [], ◌∷◌, ◌++◌, refl, inl, inr, Bool, true, false, arith}
 use Rattle.std.specs.Prelude.{if◌then◌else◌}
 use Rattle.js_tree.specs.declared.nodes.BinOp.{BinOp}
 use Rattle.js_tree.specs.declared.nodes.BinOp.TheVariants as bin
 use Rattle.js_tree.specs.Plain.{Expr, ExprAt, ExprForm, Num, Str, Name, Constant, Array, Object, Function, Dot, Sub, Call, New, Step, Unary, Binary, And, Or, Cond, Assign, Comma, Exprs, NoExprs, AndExpr, OptionalExpr, NoExpr, SomeExpr, Properties, NoProperties, AndProperty, Decls, NoDecls, AndDecl, ForInit, DeclsFirst, ExprsFirst, Stmt, StmtAt, StmtForm, Var, Only, If, While, DoWhile, For, ForIn, Continue, Break, Return, Throw, With, Switch, Try, Label, Stmts, NoStmts, AndStmt, OptionalBlock, NoBlock, SomeBlock, Catch, NoCatch, CatchAs, Clauses, NoClauses, AndClause, Fun, FunAt, Funs, NoFuns, AndFun}
 use Rattle.js_tree.specs.Parts.{Spot, AnExpr, AStmt, AFun, exprs_spots, stmts_spots, funs_spots, optional_spots, properties_spots, decls_spots, init_spots, catch_spots, block_spots}
 use Rattle.first_breach.specs.Lists.{In, here, later}
-use Rattle.first_breach.proofs.Members.{in_none, in_front, in_back}
+use Rattle.first_breach.proofs.Members.{in_front, in_back}
 use Rattle.adsafe_rules.specs.declared.scope.Scope.{Scope}
 use Rattle.adsafe_rules.specs.Forms.{is_typed, is_allowed_callee, is_directive}
 use Rattle.adsafe_rules.specs.Parts.{tests, bodies, after_directive, expr_parts_of, stmt_parts_outside, stmt_parts_inside, inner, Stands, itself, outside, inside}

@@ -1,21 +1,16 @@
 -- What the rules ask of a node is the same where its places are forgotten.
-use Rattle.std.proofs.Common.{◌≡◌, ℕ, List, [], ◌∷◌, ◌++◌, refl, sym, ap, ◌∙◌, Bool, true, false, ◌&&◌, Option, Some, None}
+use Rattle.std.proofs.Common.{◌≡◌, ℕ, List, [], ◌∷◌, ◌++◌, refl, sym, ap, ◌∙◌, Bool, true, false, ◌&&◌, Some, None}
 use Rattle.std.specs.Prelude.{map, codes, not, if◌then◌else◌, option_to_list}
-use Rattle.std.specs.Str.{bytes_eq}
-use Rattle.js_tree.specs.declared.nodes.UnOp.{UnOp}
-use Rattle.js_tree.specs.Plain.{Expr, ExprAt, ExprForm, Num, Str, Name, Constant, Array, Object, Function, Dot, Sub, Call, New, Step, Unary, Binary, And, Or, Cond, Assign, Comma, Exprs, NoExprs, AndExpr, OptionalExpr, NoExpr, SomeExpr, Properties, NoProperties, AndProperty, Decls, NoDecls, AndDecl, ForInit, DeclsFirst, ExprsFirst, Stmt, StmtAt, StmtForm, Var, Only, If, While, DoWhile, For, ForIn, Continue, Break, Return, Throw, With, Switch, Try, Label, Stmts, NoStmts, AndStmt, OptionalBlock, NoBlock, SomeBlock, Catch, NoCatch, CatchAs, Clauses, NoClauses, AndClause, Fun, FunAt, Funs, NoFuns, AndFun, expr_place}
+use Rattle.js_tree.specs.Plain.{Expr, ExprAt, ExprForm, Num, Str, Name, Constant, Array, Object, Dot, Sub, Call, New, Step, Unary, Binary, Assign, Exprs, NoExprs, AndExpr, OptionalExpr, NoExpr, SomeExpr, Properties, NoProperties, AndProperty, Decls, NoDecls, AndDecl, ForInit, DeclsFirst, ExprsFirst, Stmt, StmtAt, StmtForm, Var, Only, If, While, DoWhile, For, ForIn, Continue, Break, Return, With, Switch, Try, Stmts, NoStmts, AndStmt, OptionalBlock, NoBlock, SomeBlock, Catch, NoCatch, CatchAs, Clauses, NoClauses, AndClause, Fun, FunAt, Funs, NoFuns, AndFun, expr_place}
 use Rattle.js_tree.specs.Parts.{Spot, AnExpr, AStmt, AFun, exprs_spots, stmts_spots, funs_spots, optional_spots, properties_spots, decls_spots, init_spots, catch_spots, block_spots}
 use Rattle.js_grammar.specs.Unplaced.{unplaced_expr, unplaced_form, unplaced_exprs, unplaced_optional, unplaced_properties, unplaced_decls, unplaced_init, unplaced_stmt, unplaced_stmt_form, unplaced_stmts, unplaced_block, unplaced_catch, unplaced_clauses, unplaced_fun, unplaced_funs}
 use Rattle.first_breach.proofs.Members.{map_append}
-use Rattle.adsafe_rules.specs.declared.scope.Scope.{Scope}
-use Rattle.adsafe_rules.specs.declared.scope.Scope.TheVariants as scope
 use Rattle.adsafe_rules.specs.declared.enclosing.Jumps.{Jumps}
 use Rattle.adsafe_rules.specs.Words.{is_callable}
 use Rattle.adsafe_rules.specs.Names.{Named, named, placed, literal, variable, keys, declared_names, first_names, variables, uses, binders, properties, targets}
 use Rattle.adsafe_rules.specs.Forms.{is_name, is_string, is_this, is_subscript, wrong_subscripts, is_adsafe, is_allowed_callee, is_of_math, is_with, is_loose_equality, is_bitwise, is_typed, is_dropping, is_wrong_number, is_act, is_idle, is_target, is_property, is_delete, wrong_targets, is_text, is_directive}
 use Rattle.adsafe_rules.specs.Binding.{blocks, own_name, function_names, stmt_jumps, jumps_in, jumps_from, is_stray}
 use Rattle.adsafe_rules.specs.Parts.{tests, bodies, after_directive, expr_parts_of, stmt_parts_outside, stmt_parts_inside, outer, inner}
-use Rattle.adsafe_rules.specs.Program.{opening_word, is_plain_fun, is_plain_function, are_arguments, is_adsafe_dot, is_opening_call, is_opening, call_arguments, arguments_of, first_string, function_of, second_function, opening_names, opening_functions, tops}
 
 abbrev pub bare : Spot → Spot
 bare (AnExpr e) = AnExpr (unplaced_expr e)

@@ -1,10 +1,10 @@
 -- Trees that agree apart from places bind the same names.
-use Rattle.std.proofs.Common.{◌≡◌, ℕ, List, [], ◌∷◌, ◌++◌, refl, sym, ap, ◌∙◌, subst, Option, Some, None}
-use Rattle.std.specs.Prelude.{map, option_to_list}
-use Rattle.js_tree.specs.Plain.{Expr, Stmt, StmtAt, StmtForm, Try, NoCatch, CatchAs, Fun, FunAt, Funs}
+use Rattle.std.proofs.Common.{◌≡◌, ℕ, List, [], ◌∷◌, refl, sym, ap, ◌∙◌, subst}
+use Rattle.std.specs.Prelude.{map}
+use Rattle.js_tree.specs.Plain.{StmtAt, StmtForm, Try, NoCatch, CatchAs, FunAt}
 use Rattle.js_tree.specs.Parts.{Spot, AnExpr, AStmt, AFun, stmts_spots}
 use Rattle.js_grammar.specs.Unplaced.{unplaced_exprs}
-use Rattle.first_breach.specs.Lists.{In, here, later}
+use Rattle.first_breach.specs.Lists.{In, here}
 use Rattle.first_breach.proofs.Members.{FromMap, in_none, in_one, in_map, in_unmap}
 use Rattle.adsafe_rules.specs.Names.{Named, variables}
 use Rattle.adsafe_rules.specs.Binding.{blocks, Declares, itself, block, own_name, function_names, Binds, own, parameter, hoisted, function, caught, IsBound}

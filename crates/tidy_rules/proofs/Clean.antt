@@ -8,7 +8,7 @@ use Rattle.js_grammar.specs.Unplaced.{unplaced_expr, unplaced_exprs, unplaced_st
 use Rattle.first_breach.proofs.Members.{map_append}
 use Rattle.adsafe_rules.specs.declared.scope.Scope.{Scope}
 use Rattle.adsafe_rules.specs.declared.scope.Scope.TheVariants as scope
-use Rattle.adsafe_rules.specs.Forms.{is_name, is_string}
+use Rattle.adsafe_rules.specs.Forms.{is_string}
 use Rattle.adsafe_rules.specs.Program.{opening_word, is_opening_name, is_plain_fun, is_plain_function, are_arguments, is_adsafe_dot, is_opening_call, is_opening, call_arguments, arguments_of, first_string, function_of, second_function, opening_names, opening_functions, spot_place, tops, Misopened, nothing, first, second, name, Breaks, A02, within, IsClean}
 use Rattle.tidy_rules.proofs.Bare.{bare, texts, name_bare, string_bare, exprs_bare, stmts_bare, literal_bare}
 use Rattle.tidy_rules.proofs.Ignoring.{Somewhere, named_by, any_found_too}

@@ -1,15 +1,13 @@
 -- Programs that agree apart from places break the same rules.
-use Rattle.std.proofs.Common.{◌≡◌, ℕ, List, [], ◌∷◌, ◌++◌, refl, sym, ap, ◌∙◌, subst, Bool, true, false, ◌&&◌, Option, Some, None}
-use Rattle.std.specs.Prelude.{map, codes, if◌then◌else◌}
+use Rattle.std.proofs.Common.{◌≡◌, ℕ, List, [], ◌∷◌, ◌++◌, refl, sym, ap, ◌∙◌, subst, Bool, true, false}
+use Rattle.std.specs.Prelude.{map, codes}
 use Rattle.std.specs.Str.{bytes_eq}
 use Rattle.code_units.specs.Permitted.{is_banned, is_barred}
-use Rattle.js_tree.specs.Plain.{Expr, ExprAt, ExprForm, Str, Function, Dot, Call, Stmt, StmtAt, StmtForm, Only, Stmts, Fun, FunAt}
-use Rattle.js_tree.specs.Parts.{Spot, AnExpr, AStmt, AFun, exprs_spots, stmts_spots}
-use Rattle.js_grammar.specs.Unplaced.{unplaced_expr, unplaced_form, unplaced_exprs, unplaced_stmt, unplaced_stmt_form, unplaced_stmts, unplaced_fun}
-use Rattle.first_breach.specs.Lists.{In, here, later}
-use Rattle.first_breach.proofs.Members.{FromMap, in_none, in_map, in_unmap, map_append}
-use Rattle.adsafe_rules.specs.declared.scope.Scope.{Scope}
-use Rattle.adsafe_rules.specs.declared.scope.Scope.TheVariants as scope
+use Rattle.js_tree.specs.Plain.{ExprAt, ExprForm, StmtAt, StmtForm}
+use Rattle.js_tree.specs.Parts.{Spot, AnExpr, AStmt, AFun}
+use Rattle.js_grammar.specs.Unplaced.{unplaced_form, unplaced_exprs, unplaced_stmt_form}
+use Rattle.first_breach.specs.Lists.{In}
+use Rattle.first_breach.proofs.Members.{FromMap, in_none, map_append}
 use Rattle.adsafe_rules.specs.Words.{is_global, is_reaching}
 use Rattle.adsafe_rules.specs.Names.{Named, uses, binders, properties, targets}
 use Rattle.adsafe_rules.specs.Forms.{is_this, wrong_subscripts, is_adsafe, is_of_math, is_with, is_loose_equality, is_bitwise, is_typed, is_dropping, is_wrong_number, is_idle, wrong_targets}

@@ -3,3 +3,4 @@ pub mod Bare
 pub mod Bound
 pub mod Ignoring
 pub mod Clean
+pub mod Staying
