@@ -13,8 +13,6 @@ mod pushes;
 mod rows;
 mod scope;
 mod slot;
-#[cfg(test)]
-mod tests;
 mod walk;
 mod words;
 

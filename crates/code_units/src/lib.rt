@@ -6,8 +6,6 @@ mod names;
 mod owner;
 mod permission;
 mod place;
-#[cfg(test)]
-mod tests;
 mod text;
 mod utf8;
 mod whole;

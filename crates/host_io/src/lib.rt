@@ -7,8 +7,6 @@ mod mem_files;
 mod mem_sink;
 mod real;
 mod sink;
-#[cfg(test)]
-mod tests;
 
 pub use files::{Files, ReadFail};
 pub use mem_files::MemFiles;

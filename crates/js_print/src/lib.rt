@@ -11,5 +11,3 @@ mod write;
 
 pub use print::print_tree;
 
-#[cfg(test)]
-mod tests;

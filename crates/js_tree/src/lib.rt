@@ -12,5 +12,3 @@ pub use nodes::{
 };
 pub use tree::Tree;
 
-#[cfg(test)]
-mod tests;

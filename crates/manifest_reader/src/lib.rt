@@ -9,8 +9,6 @@ mod html;
 mod laws;
 mod manifest;
 mod page;
-#[cfg(test)]
-mod tests;
 
 pub use entry::{Entry, Manifest};
 pub use laws::{one_manifest, versions_agree};

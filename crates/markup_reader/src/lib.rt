@@ -13,8 +13,6 @@ mod reader;
 mod reference;
 mod script;
 mod sign;
-#[cfg(test)]
-mod tests;
 mod units;
 
 pub use fault::MarkupFault;

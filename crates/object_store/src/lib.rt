@@ -10,8 +10,6 @@ mod kind;
 mod native;
 mod store;
 mod table;
-#[cfg(test)]
-mod tests;
 mod value;
 
 pub use index::index_of;

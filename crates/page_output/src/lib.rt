@@ -4,7 +4,5 @@
 mod escape;
 mod markup;
 mod style;
-#[cfg(test)]
-mod tests;
 
 pub use markup::{print, print_plain};

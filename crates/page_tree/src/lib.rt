@@ -11,8 +11,6 @@ mod links;
 mod page;
 mod rows;
 mod slots;
-#[cfg(test)]
-mod tests;
 
 pub use fault::PageFault;
 pub use links::is_number;

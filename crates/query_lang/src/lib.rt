@@ -11,8 +11,6 @@ mod nodes;
 mod order;
 mod parts;
 mod read;
-#[cfg(test)]
-mod tests;
 mod wanted;
 
 use code_units::Memory;

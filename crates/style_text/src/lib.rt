@@ -8,8 +8,6 @@ mod laws;
 mod print;
 mod property;
 mod read;
-#[cfg(test)]
-mod tests;
 mod value;
 
 use code_units::Memory;

@@ -11,8 +11,6 @@ mod look;
 mod manifest;
 mod page;
 mod slot;
-#[cfg(test)]
-mod tests;
 mod trace;
 
 pub use fault::ShapeFault;

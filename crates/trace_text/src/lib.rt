@@ -4,8 +4,6 @@
 mod line;
 mod pieces;
 mod report;
-#[cfg(test)]
-mod tests;
 
 pub use line::{Line, Rule, RunText, State};
 pub use report::report_line;

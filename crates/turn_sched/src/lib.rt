@@ -4,8 +4,6 @@
 mod chooser;
 mod listed;
 mod round_robin;
-#[cfg(test)]
-mod tests;
 
 pub use chooser::{Ask, Chooser};
 pub use listed::Listed;

@@ -13,8 +13,6 @@ mod part;
 mod repeats;
 mod root;
 mod rows;
-#[cfg(test)]
-mod tests;
 mod words;
 
 pub use file::split;
