@@ -1,4 +1,5 @@
 pub mod Cuts
+pub mod Fed
 pub mod Forms
 pub mod Fractions
 pub mod Interning

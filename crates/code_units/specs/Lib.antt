@@ -1,5 +1,5 @@
+pub mod Feeding
 pub mod Interned
-pub mod Mix
 pub mod Permitted
 pub mod Places
 pub mod Readings

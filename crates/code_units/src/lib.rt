@@ -1,6 +1,7 @@
 //! Texts of 16-bit units, whole numbers in texts, places, and interned names.
 #![tactic(auto)]
 
+mod feeding;
 mod memory;
 mod names;
 mod owner;

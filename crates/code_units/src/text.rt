@@ -1,55 +1,26 @@
-//! A shared text of 16-bit units, which keeps its hash.
+//! A shared text of 16-bit units, which keeps no hash.
 ghost use Rattle.std.specs.Prelude.{◌≡◌, IfOk};
-ghost use Rattle.std.specs.List.{fold};
-ghost use Rattle.code_units.specs.Mix.{mix, hash_of};
 
+use crate::feeding::feed;
 use crate::memory::Memory;
 use std::alloc::Global;
-use std::cmp::{Eq, PartialEq};
+use std::cmp::{Eq, Ord, Ordering, PartialEq, PartialOrd};
 use std::hash::{Hash, Hasher};
 use std::marker::Model;
 use std::rc::Rc;
 
-#[derive(Drop)]
-struct Body {
-    hash: u64,
-    units: Vec<u16>,
-}
-
 /// A shared list of 16-bit units.
 #[derive(Drop)]
 pub struct Text {
-    body: Rc<Body>,
+    units: Rc<Vec<u16>>,
 }
 
 impl Model for Text {
     ghost use Rattle.std.specs.Prelude.{List, ℕ, ◌≡◌};
-    ghost use Rattle.code_units.specs.Mix.{hash_of};
 
     ghost Value = { List ℕ };
 
-    ghost view = { λ t. t.body.value.units.items };
-
-    ghost invariant = { λ t. t.body.value.hash ≡ hash_of t.body.value.units.items };
-}
-
-const SEED: u64 = 0x9E37_79B9_7F4A_7C15;
-
-fn mix_one(h: u64, u: u16) -> u64
-    ensures { result ≡ mix h u }
-{
-    (h ^ u64::from(u)).wrapping_mul(SEED)
-}
-
-#[tactic(auto, unfolding(crate::specs::Mix::hash_of))]
-fn hash_units(units: &[u16]) -> u64
-    ensures { result ≡ hash_of units.now }
-{
-    let mut h = SEED;
-    for u in units {
-        h = mix_one(h, *u);
-    }
-    h
+    ghost view = { λ t. t.units.value.items };
 }
 
 impl Text {
@@ -57,9 +28,8 @@ impl Text {
     pub fn from_units(alloc: Global, units: Vec<u16>) -> Result<Text, Memory>
         ensures { IfOk result (λ t. t ≡ units.items) }
     {
-        let hash = hash_units(&units);
         Ok(Text {
-            body: Rc::new(alloc, Body { hash, units })?,
+            units: Rc::new(alloc, units)?,
         })
     }
 
@@ -68,7 +38,7 @@ impl Text {
         ensures { IfOk result (λ t. t ≡ self.now) }
     {
         Ok(Text {
-            body: self.body.clone()?,
+            units: self.units.clone()?,
         })
     }
 
@@ -76,7 +46,7 @@ impl Text {
     pub fn units(&self) -> &[u16]
         ensures { result.now ≡ self.now }
     {
-        self.body.units.as_slice()
+        self.units.as_slice()
     }
 }
 
@@ -90,7 +60,7 @@ impl PartialEq for Text {
     ghost laws = { partial_equiv_from_equiv nat_list_eq_equiv };
 
     fn eq(&self, other: &Text) -> bool {
-        self.body.hash == other.body.hash && self.units() == other.units()
+        self.units() == other.units()
     }
 }
 
@@ -101,16 +71,47 @@ impl Eq for Text {
 }
 
 impl Hash for Text {
-    ghost use Rattle.std.specs.Hash as fed;
     ghost use Rattle.std.proofs.Common.{ap};
     ghost use Rattle.std.proofs.lemmas.Slice.Eq.{bytes_eq-Decides};
-    ghost use Rattle.code_units.specs.Mix.{hash_of};
+    ghost use Rattle.code_units.specs.Feeding.{input};
 
-    ghost hash_input = { λ t. fed.u64 (hash_of t) };
+    ghost hash_input = { λ t. input t };
 
-    ghost respects_eq = { λ x y h. ap (λ t. fed.u64 (hash_of t)) ((bytes_eq-Decides x y).0 h) };
+    ghost respects_eq = { λ x y h. ap (λ t. input t) ((bytes_eq-Decides x y).0 h) };
 
     fn hash<H: Hasher>(&self, state: &mut H) {
-        state.write_u64(self.body.hash);
+        feed(self.units(), state);
+    }
+}
+
+impl PartialOrd for Text {
+    ghost use Rattle.std.specs.Prelude.{Some};
+    ghost use Rattle.std.specs.Ordering.{nat_cmp};
+    ghost use Rattle.std.specs.Cmp.Lexicographic.{slice_cmp, texts_po};
+
+    ghost partial_cmp = { λ x y. Some (slice_cmp nat_cmp x y) };
+
+    ghost laws = { texts_po };
+
+    fn partial_cmp(&self, other: &Text) -> Option<Ordering> {
+        Some(self.units().cmp(other.units()))
+    }
+}
+
+impl Ord for Text {
+    ghost use Rattle.std.proofs.Common.{refl};
+    ghost use Rattle.std.specs.Ordering.{nat_cmp};
+    ghost use Rattle.std.specs.Cmp.Lexicographic.{slice_cmp, nat_list_cmp_total, texts_ties};
+
+    ghost cmp = { slice_cmp nat_cmp };
+
+    ghost total = { nat_list_cmp_total };
+
+    ghost matches_partial_cmp = { λ x y. refl };
+
+    ghost matches_eq = { texts_ties };
+
+    fn cmp(&self, other: &Text) -> Ordering {
+        self.units().cmp(other.units())
     }
 }
