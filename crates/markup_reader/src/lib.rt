@@ -6,7 +6,6 @@
 mod content;
 mod fault;
 mod head;
-mod listed;
 mod mode;
 mod read;
 mod reader;
@@ -16,5 +15,5 @@ mod sign;
 mod units;
 
 pub use fault::MarkupFault;
-pub use listed::{plain_words, tag_listed};
+pub use plain_tree::{plain_words, tag_listed};
 pub use read::read_markup;

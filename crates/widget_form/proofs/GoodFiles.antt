@@ -1,7 +1,7 @@
 -- A file that breaks no rule, said plainly.
 use Rattle.std.proofs.Common.{◌≡◌, ℕ, ◌+◌, ◌<◌, ◌≤◌, ◌⊎◌, inl, inr, Bool, true, false, ◌&&◌, ◌||◌, not, List, [], ◌∷◌, ◌++◌, codes, Option, Some, None, cond, refl, sym, ap, ◌∙◌, subst}
 use Rattle.std.specs.Prelude.{fold, nat_lt}
-use Rattle.std.specs.List.{list_all, list_any}
+use Rattle.std.specs.List.{list_any}
 use Rattle.std.specs.Str.{bytes_eq}
 use Rattle.std.proofs.lemmas.Bool.{cases_lt}
 use Rattle.std.proofs.lemmas.Bool.Decides.{Decides-ltb}
@@ -11,7 +11,8 @@ use Rattle.first_breach.specs.Breaches.{One, If, Each, IsClean}
 use Rattle.plain_tree.specs.declared.plain.Attr.{Attr}
 use Rattle.plain_tree.specs.Trees.{Trees, TextOf, ElementOf, End, Node, size}
 use Rattle.plain_tree.specs.Plains.{Places}
-use Rattle.markup_reader.specs.Listed.{is_listed, is_plain_unit, is_phrase, is_block, is_list, is_form, is_table}
+use Rattle.plain_tree.specs.Tags.{is_listed_tag, is_phrase, is_block, is_list, is_form, is_table}
+use Rattle.plain_tree.specs.Words.{is_plain_words}
 use Rattle.widget_form.specs.Words.{is_wordy, is_address, has_word, is_own_id}
 use Rattle.widget_form.specs.Elements.{Element, element, elements, roots, others, scripts, is_div, is_script, is_sourced, is_named, first_named, before_scripts, Item, items, AText, AnElement, is_blank}
 use Rattle.widget_form.specs.Rows.{Perhaps, misrooted, first_place, misnamed, ending, unended, node_limit, is_allowed, is_unsafe, is_foreign, MarkupRows, AttributeRows, OtherRows, SlotRows, SlotAttributeRows, RootRows, IsGood, InsideRow, IdRow}
@@ -205,15 +206,15 @@ source_of : (name : List ℕ) (libs : List (List ℕ)) (of_script : Bool) (a : A
 source_of name libs of_script a clean script src =
     in_of_any a.value libs (third of_script (is_named (codes "src") a) (list_any (bytes_eq a.value) libs) (no_if (of_script && is_named (codes "src") a && not (list_any (bytes_eq a.value) libs)) 11 a.value_at (λ r p h. clean r p (inr h))) script (text_same a.name (codes "src") src))
 
-script_unlisted : is_listed (codes "script") ≡ false
+script_unlisted : is_listed_tag (codes "script") ≡ false
 unfolding is_phrase is_block is_list is_form is_table
 script_unlisted = refl
 
-listed_no_script : (b : Bool) (tag : List ℕ) → is_script tag ≡ b → is_listed tag ≡ true → b ≡ false
+listed_no_script : (b : Bool) (tag : List ℕ) → is_script tag ≡ b → is_listed_tag tag ≡ true → b ≡ false
 listed_no_script false tag s l = refl
 listed_no_script true tag s l =
     let e : tag ≡ codes "script" = same_text tag (codes "script") s in
-    let no : is_listed (codes "script") ≡ true = sym (ap is_listed e) ∙ l in
+    let no : is_listed_tag (codes "script") ≡ true = sym (ap is_listed_tag e) ∙ l in
     let unlisted = script_unlisted in
     let never : ⊥ = cc in absurd never
 
@@ -222,22 +223,22 @@ listed_of name libs e markup slot =
     let P : Bool → Type 0 = λ b. (a : Attr) → In a e.attrs → is_allowed b a.name ≡ true in
     let all : P (is_script e.tag) = λ a is_in. attribute_of (is_script e.tag) a (clean_one (AttributeRows (is_script e.tag)) e.attrs a (λ r p h. markup r p (inr (inr h))) is_in) in
     record {
-      tag = by (neither (is_script e.tag) (is_listed e.tag) (no_if (is_foreign e.tag) 6 e.at (λ r p h. markup r p (inl h))));
+      tag = by (neither (is_script e.tag) (is_listed_tag e.tag) (no_if (is_foreign e.tag) 6 e.at (λ r p h. markup r p (inl h))));
       of_script = λ is. subst P (text_same e.tag (codes "script") is) all;
       of_other = λ is. subst P (listed_no_script (is_script e.tag) e.tag refl is) all;
       source = λ is a is_in src. source_of name libs (is_script e.tag) a (clean_one (SlotAttributeRows name libs (is_script e.tag)) e.attrs a (λ r p h. slot r p (inr h)) is_in) (text_same e.tag (codes "script") is) src;
     }
   where
-    by : (is_script e.tag ≡ true) ⊎ (is_listed e.tag ≡ true) → (e.tag ≡ codes "script") ⊎ (is_listed e.tag ≡ true)
+    by : (is_script e.tag ≡ true) ⊎ (is_listed_tag e.tag ≡ true) → (e.tag ≡ codes "script") ⊎ (is_listed_tag e.tag ≡ true)
     by (inl s) = inl (same_text e.tag (codes "script") s)
     by (inr l) = inr l
 
 safe_of : (name : List ℕ) (libs : List (List ℕ)) (of_script : Bool) (a : Attr) → IsClean (AttributeRows of_script a) → IsClean (SlotAttributeRows name libs of_script a) → IsSafe name a
 safe_of name libs of_script a markup slot =
     let harmless = no_if (is_unsafe a) 9 a.value_at (λ r p h. markup r p (inr (inl h))) in
-    let wordy = is_wordy a.name && not (list_all is_plain_unit a.value) in
+    let wordy = is_wordy a.name && not (is_plain_words a.value) in
     record {
-      words = words_so (is_wordy a.name) (list_all is_plain_unit a.value) (is_address a.name && has_word (codes "javascript:") a.value) harmless;
+      words = words_so (is_wordy a.name) (is_plain_words a.value) (is_address a.name && has_word (codes "javascript:") a.value) harmless;
       address = address_so wordy (is_address a.name) (has_word (codes "javascript:") a.value) harmless;
       label = λ is. second (is_named (codes "for") a) (is_own_id name a.value) (no_if (is_named (codes "for") a && not (is_own_id name a.value)) 8 a.value_at (λ r p h. slot r p (inl h))) (text_same a.name (codes "for") is);
     }

@@ -1,11 +1,11 @@
 -- What a widget's file is that breaks no rule, said without breaches.
 use Rattle.std.specs.Prelude.{◌≡◌, ℕ, ◌+◌, ◌≤◌, ◌⊎◌, true, false, List, [], ◌∷◌, ◌++◌, codes, Some}
-use Rattle.std.specs.List.{list_all}
 use Rattle.first_breach.specs.Lists.{In}
 use Rattle.plain_tree.specs.declared.plain.Attr.{Attr}
 use Rattle.plain_tree.specs.Trees.{Trees, size}
 use Rattle.plain_tree.specs.Plains.{Places}
-use Rattle.markup_reader.specs.Listed.{is_listed, is_plain_unit}
+use Rattle.plain_tree.specs.Tags.{is_listed_tag}
+use Rattle.plain_tree.specs.Words.{is_plain_words}
 use Rattle.widget_form.specs.Words.{is_wordy, is_address, is_own_id, has_word}
 use Rattle.widget_form.specs.Elements.{Element, elements, scripts, is_sourced, first_named, before_scripts, Item, AnElement, items}
 use Rattle.widget_form.specs.Rows.{is_allowed, node_limit}
@@ -29,14 +29,14 @@ pub record IsRoot (name : List ℕ) (root : Element) : Type 0 where
 
 -- an element of a listed tag with allowed attributes; a script takes a library of the slot
 pub record IsListedElement (libs : List (List ℕ)) (e : Element) : Type 0 where
-  pub tag : (e.tag ≡ codes "script") ⊎ (is_listed e.tag ≡ true)
+  pub tag : (e.tag ≡ codes "script") ⊎ (is_listed_tag e.tag ≡ true)
   pub of_script : e.tag ≡ codes "script" → (a : Attr) → In a e.attrs → is_allowed true a.name ≡ true
-  pub of_other : is_listed e.tag ≡ true → (a : Attr) → In a e.attrs → is_allowed false a.name ≡ true
+  pub of_other : is_listed_tag e.tag ≡ true → (a : Attr) → In a e.attrs → is_allowed false a.name ≡ true
   pub source : e.tag ≡ codes "script" → (a : Attr) → In a e.attrs → a.name ≡ codes "src" → In a.value libs
 
 -- an attribute that says nothing unsafe: plain words where they are asked for, no `javascript:` in an address, and a `for` of the slot's own
 pub record IsSafe (name : List ℕ) (a : Attr) : Type 0 where
-  pub words : is_wordy a.name ≡ true → list_all is_plain_unit a.value ≡ true
+  pub words : is_wordy a.name ≡ true → is_plain_words a.value ≡ true
   pub address : is_address a.name ≡ true → has_word (codes "javascript:") a.value ≡ false
   pub label : a.name ≡ codes "for" → is_own_id name a.value ≡ true
 

@@ -6,7 +6,8 @@ use Rattle.first_breach.specs.Breaches.{Nothing, Either, One, If, Each, IsFirst,
 use Rattle.plain_tree.specs.declared.plain.Attr.{Attr}
 use Rattle.plain_tree.specs.Trees.{Trees, size}
 use Rattle.plain_tree.specs.Plains.{Places}
-use Rattle.markup_reader.specs.Listed.{is_listed, is_plain_unit}
+use Rattle.plain_tree.specs.Tags.{is_listed_tag}
+use Rattle.plain_tree.specs.Words.{is_plain_words}
 use Rattle.style_text.specs.Styles.{Pair, StyleSpells}
 use Rattle.widget_form.specs.declared.repeats.Saying.{Saying}
 use Rattle.widget_form.specs.Words.{is_listed_attribute, is_script_attribute, is_wordy, is_address, is_own_id, has_word}
@@ -118,7 +119,7 @@ is_allowed of_script name = if of_script then is_script_attribute name else is_l
 
 -- words with another character, or an address that says `javascript:`
 abbrev pub is_unsafe : Attr → Bool
-is_unsafe a = (is_wordy a.name && not (list_all is_plain_unit a.value)) || (is_address a.name && has_word (codes "javascript:") a.value)
+is_unsafe a = (is_wordy a.name && not (is_plain_words a.value)) || (is_address a.name && has_word (codes "javascript:") a.value)
 
 -- M10: a `style` is no list of styles
 pub record Unstyled (a : Attr) (r p : ℕ) : Type 0 where
@@ -136,7 +137,7 @@ AttributeRows of_script a =
 
 -- M06: the tag is not listed
 abbrev pub is_foreign : List ℕ → Bool
-is_foreign tag = not (is_script tag) && not (is_listed tag)
+is_foreign tag = not (is_script tag) && not (is_listed_tag tag)
 
 -- the rules of a slot's file and of an `html` text
 abbrev pub MarkupRows : Element → ℕ → ℕ → Type 0
