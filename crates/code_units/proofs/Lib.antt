@@ -2,14 +2,15 @@ pub mod Cuts
 pub mod Fed
 pub mod Forms
 pub mod Fractions
+pub mod Indexed
 pub mod Interning
 pub mod LossyChars
 pub mod Numerals
 pub mod PlacesMore
 pub mod RoundTrip
 pub mod Signs
-pub mod Trims
 pub mod UnitsBack
 pub mod Utf8Laws
 pub mod WholeBack
+pub mod Within
 pub mod Words

@@ -1,7 +1,10 @@
 pub mod Feeding
+pub mod Indices
 pub mod Interned
+pub mod Pairs
 pub mod Permitted
 pub mod Places
 pub mod Readings
 pub mod Utf8
 pub mod Whole
+pub mod Words

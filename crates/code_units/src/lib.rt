@@ -1,7 +1,10 @@
-//! Texts of 16-bit units, whole numbers in texts, places, and interned names.
+//! Texts of 16-bit units, whole numbers and indices in texts, places, and interned names.
 #![tactic(auto)]
 
+mod digit;
 mod feeding;
+mod grown;
+mod index;
 mod memory;
 mod names;
 mod owner;
@@ -12,12 +15,15 @@ mod utf8;
 mod whole;
 mod word;
 
+pub use digit::hex_digit;
+pub use grown::{push_ascii, push_char};
+pub use index::{MAX_LENGTH, index_of};
 pub use memory::Memory;
 pub use names::Names;
 pub use owner::Owner;
 pub use permission::{is_banned, is_barred, permitted};
-pub use place::{Place, place_of};
+pub use place::{Place, place_in, place_of};
 pub use text::Text;
 pub use utf8::{TextFault, from_utf8_bytes, push_utf8, utf8_fault};
 pub use whole::{WholeRead, read_whole, whole_text};
-pub use word::is_word;
+pub use word::{begins_with, is_word, spells};

@@ -1,5 +1,5 @@
 //! Places in a text of bytes, as reports give them.
-ghost use Rattle.std.specs.Prelude.{◌≡◌, ℕ, ◌<◌, ◌≤◌, length};
+ghost use Rattle.std.specs.Prelude.{◌≡◌, ℕ, ◌<◌, ◌≤◌, ◌^◌, length};
 ghost use Rattle.code_units.specs.Places.{line_of, column_of, place_at, Precedes};
 
 /// A line and a column, both counted from 1; the column counts bytes.
@@ -29,4 +29,13 @@ pub fn place_of(bytes: &[u8], offset: usize) -> Place
         }
     }
     Place { line, column }
+}
+
+/// The place of a byte offset; the end stands for what is past it.
+#[tactic(auto, using(crate::proofs::Within::line_within, crate::proofs::Within::column_within))]
+pub fn place_in(bytes: &[u8], offset: usize) -> Place
+    requires { length bytes.now < 2 ^ 31 }
+    ensures { result ≡ place_at bytes.now offset }
+{
+    place_of(bytes, offset.min(bytes.len()))
 }

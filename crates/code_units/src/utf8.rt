@@ -3,10 +3,10 @@ ghost use Rattle.std.specs.Prelude.{◌≡◌, false, ◌+◌, MatchOption, IfSo
 ghost use Rattle.std.specs.Vec.{vec_len};
 ghost use Rattle.std.specs.Char.Utf16.{has_unpaired_surrogate, utf16_lossy_chars, lone_unit_char, surrogate_pair_char};
 ghost use Rattle.std.specs.Str.{IsValidUpTo};
-ghost use Rattle.std.specs.Char.Escape.{encode_utf16};
 ghost use Rattle.code_units.specs.declared.utf8.TextFault.TheVariants.{Memory as out_of_memory};
 ghost use Rattle.code_units.specs.Utf8.{units_of, utf8_of, IsSurrogatePair, IsTextFault};
 
+use crate::grown::push_char;
 use crate::memory::Memory;
 use crate::text::Text;
 use std::alloc::{AllocError, Global};
@@ -49,43 +49,32 @@ pub fn from_utf8_bytes(alloc: Global, bytes: &[u8]) -> Result<Text, TextFault>
     ensures err { IfErr result (IsTextFault bytes.now) }
 {
     match str::from_utf8(bytes) {
-        Ok(text) => Ok(from_text(alloc, text)?),
+        Ok(text) => Ok(Text::from_str(alloc, text)?),
         Err(fault) => Err(TextFault::NotUtf8 {
             at: fault.valid_up_to(),
         }),
     }
 }
 
-// The units of a text. A byte gives no more than one unit.
-fn from_text(alloc: Global, text: &str) -> Result<Text, Memory>
-    ensures { IfOk result (λ t. t ≡ units_of text.now) }
-{
-    let mut units = Vec::with_capacity(alloc, text.len())?;
-    push_units(&mut units, text)?;
-    Text::from_units(alloc, units)
+impl Text {
+    /// The text of a string: one unit for each code point below 65536 and two surrogates for each
+    /// above.
+    pub fn from_str(alloc: Global, text: &str) -> Result<Text, Memory>
+        ensures { IfOk result (λ t. t ≡ units_of text.now) }
+    {
+        // A byte gives no more than one unit.
+        let mut units = Vec::with_capacity(alloc, text.len())?;
+        push_units(&mut units, text)?;
+        Text::from_units(alloc, units)
+    }
 }
 
 // Appends the units of a text.
-fn push_units(units: &mut Vec<u16>, text: &str) -> Result<(), AllocError>
+fn push_units(units: &mut Vec<u16>, text: &str) -> Result<(), Memory>
     ensures { OnOk result (units.new.items ≡ units.old.items ++ units_of text.now) }
 {
     for c in text.chars() {
         push_char(units, c)?;
-    }
-    Ok(())
-}
-
-// Appends the units of a code point.
-fn push_char(units: &mut Vec<u16>, c: char) -> Result<(), AllocError>
-    ensures { OnOk result (units.new.items ≡ units.old.items ++ encode_utf16 c) }
-{
-    let code = c as u32;
-    if code < 0x1_0000 {
-        units.push(code as u16)?;
-    } else {
-        let over = code - 0x1_0000;
-        units.push((0xD800 + over / 0x400) as u16)?;
-        units.push((0xDC00 + over % 0x400) as u16)?;
     }
     Ok(())
 }

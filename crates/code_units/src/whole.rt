@@ -4,7 +4,7 @@ ghost use Rattle.std.specs.List.{list_all, position};
 ghost use Rattle.std.specs.Char.{digit_value, is_digit};
 ghost use Rattle.std.specs.Fmt.{signed_decimal};
 ghost use Rattle.std.specs.Str.Parse.{digits_value, without_leading_sign};
-ghost use Rattle.code_units.specs.Whole.{is_blank, trimmed, bounded, is_numeral, is_hexadecimal, is_point, is_e, is_mantissa, is_fraction, number_of, number_in};
+ghost use Rattle.code_units.specs.Whole.{is_blank, trimmed, trimmed_start, trimmed_end, bounded, is_numeral, is_hexadecimal, is_point, is_e, is_mantissa, is_fraction, number_of, number_in};
 ghost use Rattle.code_units.specs.Readings.{Gives};
 
 use crate::memory::Memory;
@@ -90,18 +90,31 @@ fn read_trimmed(units: &[u16]) -> WholeRead
 }
 
 // The units without the blanks at the two ends.
+#[tactic(auto, unfolding(crate::specs::Whole::trimmed))]
 fn trimmed(units: &[u16]) -> &[u16]
     ensures { result.now ≡ trimmed units.now }
+{
+    trimmed_start(trimmed_end(units))
+}
+
+fn trimmed_end(units: &[u16]) -> &[u16]
+    ensures { result.now ≡ trimmed_end units.now }
 {
     let mut end = units.len();
     while end > 0 && is_blank(units[end - 1]) {
         end -= 1;
     }
+    &units[..end]
+}
+
+fn trimmed_start(units: &[u16]) -> &[u16]
+    ensures { result.now ≡ trimmed_start units.now }
+{
     let mut start = 0;
-    while start < end && is_blank(units[start]) {
+    while start < units.len() && is_blank(units[start]) {
         start += 1;
     }
-    &units[start..end]
+    &units[start..]
 }
 
 fn is_blank(unit: u16) -> bool
@@ -145,7 +158,7 @@ fn digit_value(unit: u16) -> u16
 }
 
 // The number of a numeral, or the limit where it is larger. None where the units are no numeral.
-fn numeral(units: &[u16], radix: u16) -> Option<u64>
+pub(crate) fn numeral(units: &[u16], radix: u16) -> Option<u64>
     requires { (1 ≤ radix) × (radix ≤ 36) }
     ensures { MatchOption result (is_numeral radix units.now ≡ false)
         (λ n. (is_numeral radix units.now ≡ true) × (n ≡ min (digits_value radix units.now) (2 ^ 53))) }

@@ -1,6 +1,7 @@
-//! Texts that are ASCII words.
+//! Texts and ASCII words.
 ghost use Rattle.std.specs.Prelude.{◌≡◌};
 ghost use Rattle.std.specs.Str.{bytes_eq};
+ghost use Rattle.code_units.specs.Words.{begins_with};
 
 use crate::text::Text;
 
@@ -11,8 +12,8 @@ pub fn is_word(text: &Text, word: &[u8]) -> bool
     spells(text.units(), word)
 }
 
-// Whether the units are those of the word.
-pub(crate) fn spells(units: &[u16], word: &[u8]) -> bool
+/// Whether the units are those of the ASCII word.
+pub fn spells(units: &[u16], word: &[u8]) -> bool
     ensures { result ≡ bytes_eq units.now word.now }
 {
     if units.len() != word.len() {
@@ -24,4 +25,11 @@ pub(crate) fn spells(units: &[u16], word: &[u8]) -> bool
         }
     }
     true
+}
+
+/// Whether the ASCII word begins with the units.
+pub fn begins_with(word: &[u8], front: &[u16]) -> bool
+    ensures { result ≡ begins_with word.now front.now }
+{
+    front.len() <= word.len() && spells(front, &word[..front.len()])
 }
