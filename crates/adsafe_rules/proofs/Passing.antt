@@ -4,7 +4,7 @@ use Rattle.std.specs.Prelude.{codes, not, ◌||◌, if◌then◌else◌}
 use Rattle.std.specs.List.{list_any}
 use Rattle.std.specs.Str.{bytes_eq}
 use Rattle.std.proofs.lemmas.Slice.Eq.{bytes_eq-Decides}
-use Rattle.code_units.specs.Permitted.{is_banned, is_barred}
+use Rattle.code_units.specs.Permitted.{is_banned, has_edge_underscore}
 use Rattle.js_tree.specs.Plain.{Expr, ExprAt, Str, Name, Function, Dot, Call, Exprs, Stmt, StmtAt, Only, Fun}
 use Rattle.js_tree.specs.Parts.{Spot, AnExpr, AStmt, exprs_spots}
 use Rattle.first_breach.specs.Lists.{In}
@@ -39,19 +39,19 @@ any_is P x [] h e = cc
 any_is P x (w ∷ ws) h e = one_case P x w (bytes_eq x w) (list_any (bytes_eq x) ws) refl e h.0 (any_is P x ws h.1)
 
 abbrev Passes : List ℕ → Type 0
-Passes x = (is_barred x ≡ false) × (is_banned x ≡ false)
+Passes x = (has_edge_underscore x ≡ false) × (is_banned x ≡ false)
 
 callable_passes : (x : List ℕ) → is_callable x ≡ true → Passes x
-unfolding is_callable is_barred is_banned
+unfolding is_callable has_edge_underscore is_banned
 callable_passes x h = any_is Passes x
     (codes "create" ∷ codes "fromJson" ∷ codes "get" ∷ codes "has" ∷ codes "isArray" ∷ codes "keys" ∷ codes "later" ∷ codes "log" ∷ codes "post" ∷ codes "remove" ∷ codes "set" ∷ codes "toJson" ∷ [])
     ((refl, refl), ((refl, refl), ((refl, refl), ((refl, refl), ((refl, refl), ((refl, refl), ((refl, refl), ((refl, refl), ((refl, refl), ((refl, refl), ((refl, refl), ((refl, refl), tt)))))))))))) h
 
 abbrev IsListed : List ℕ → Type 0
-IsListed x = (is_barred x ≡ false) × (is_reaching x ≡ false) × (is_global x ≡ true)
+IsListed x = (has_edge_underscore x ≡ false) × (is_reaching x ≡ false) × (is_global x ≡ true)
 
 adsafe_listed : (x : List ℕ) → bytes_eq x (codes "ADSAFE") ≡ true → IsListed x
-unfolding is_barred is_reaching is_global
+unfolding has_edge_underscore is_reaching is_global
 adsafe_listed x h = subst IsListed (sym ((bytes_eq-Decides x (codes "ADSAFE")).0 h)) (refl, refl, refl)
 
 -- a property by its text
@@ -61,7 +61,7 @@ placed_text at (p ∷ names) x y i = ap (λ (z : Named). z.text) (in_one i)
 
 -- the name `ADSAFE`
 name_breaks : {env : List Spot} {at : ℕ} {names x : List ℕ} {r p : ℕ} → IsListed x → Broken env (AnExpr (ExprAt at names (Name x))) r p → r ≡ 9
-name_breaks l (A03 i h) = absurd (never (ap is_barred (ap (λ (z : Named). z.text) (in_one i)) ∙ l.0) h)
+name_breaks l (A03 i h) = absurd (never (ap has_edge_underscore (ap (λ (z : Named). z.text) (in_one i)) ∙ l.0) h)
 name_breaks l (A04 h) = cc
 name_breaks l (A05 i h) = absurd (in_none i)
 name_breaks l (A05_name i h) = absurd (never (ap is_reaching (ap (λ (z : Named). z.text) (in_one i)) ∙ l.1) h)
@@ -88,7 +88,7 @@ adsafe_stands (ExprAt at names form) h s b = cc
 
 -- a property of it that may be called
 dot_breaks : {env : List Spot} {at : ℕ} {names x : List ℕ} {e : Expr} {r p : ℕ} → is_name (codes "Math") e ≡ false → Passes x → Broken env (AnExpr (ExprAt at names (Dot e x))) r p → ⊥
-dot_breaks {at = at} {names = names} {x = x} k l (A03 {x = y} i h) = never (ap is_barred (placed_text at names x y i) ∙ l.0) h
+dot_breaks {at = at} {names = names} {x = x} k l (A03 {x = y} i h) = never (ap has_edge_underscore (placed_text at names x y i) ∙ l.0) h
 dot_breaks k l (A04 h) = cc
 dot_breaks {at = at} {names = names} {x = x} k l (A05 {x = y} i h) = never (ap is_banned (placed_text at names x y i) ∙ l.1) h
 dot_breaks k l (A05_name i h) = in_none i
@@ -228,7 +228,7 @@ arguments_stand scope l h i s b = cc
 
 -- the callee of the call
 opening_passes : (scope : Scope) → Passes (opening_word scope)
-unfolding is_barred is_banned
+unfolding has_edge_underscore is_banned
 opening_passes (scope.Id slot) = (refl, refl)
 opening_passes scope.Lib = (refl, refl)
 opening_passes (scope.Go slot) = (refl, refl)

@@ -1,6 +1,6 @@
 -- The rows of a node, one after the other, are what it breaks.
 use Rattle.std.proofs.Common.{◌≡◌, ℕ, List, ◌++◌, refl, sym, subst, inl, inr, Bool, true, false, Option}
-use Rattle.code_units.specs.Permitted.{is_banned, is_barred}
+use Rattle.code_units.specs.Permitted.{is_banned, has_edge_underscore}
 use Rattle.js_tree.specs.Plain.{ExprAt, ExprForm, StmtAt, StmtForm, Fun}
 use Rattle.js_tree.specs.Parts.{Spot, AnExpr, AStmt, AFun}
 use Rattle.first_breach.specs.declared.Breach.{Breach}
@@ -70,7 +70,7 @@ module _ (env : List Spot) (n : Spot) where
   abbrev NameRows : ℕ → ℕ → Type 0
   NameRows = Either (Each (UseRow env) (uses n)) (Either (Each BinderRow (binders n)) (Either (Each TargetRow (targets n)) (Each PropertyRow (properties n))))
 
-  barred_in : (x : Named) → In x (uses n ++ (binders n ++ properties n)) → is_barred x.text ≡ true → NameRows 3 x.at
+  barred_in : (x : Named) → In x (uses n ++ (binders n ++ properties n)) → has_edge_underscore x.text ≡ true → NameRows 3 x.at
   barred_in x i h = elim (in_split (uses n) (binders n ++ properties n) i) [
     | inl j ↦ inl (record { item = x; is_in = j; broken = inl (hit h) })
     | inr j ↦ elim (in_split (binders n) (properties n) j) [

@@ -1,7 +1,7 @@
 -- The rules A03 to A19, a row for each: what a node breaks, and where.
 use Rattle.std.specs.Prelude.{◌≡◌, ℕ, true, false, List, ◌++◌, codes}
 use Rattle.std.specs.Str.{bytes_eq}
-use Rattle.code_units.specs.Permitted.{is_banned, is_barred}
+use Rattle.code_units.specs.Permitted.{is_banned, has_edge_underscore}
 use Rattle.js_tree.specs.Plain.{ExprAt, ExprForm, StmtAt, StmtForm}
 use Rattle.js_tree.specs.Parts.{Spot, AnExpr, AStmt}
 use Rattle.first_breach.specs.Lists.{In}
@@ -14,7 +14,7 @@ use Rattle.adsafe_rules.specs.Binding.{IsBound, no_jumps, jumps_from, is_stray}
 -- `Broken env n rule place`: the node n, which those of env enclose, breaks the rule at the place
 pub data Broken : List Spot → Spot → ℕ → ℕ → Type 0 where
   -- a name or a property begins or ends with `_`
-  A03 : {env : List Spot} {n : Spot} {x : Named} → In x (uses n ++ (binders n ++ properties n)) → is_barred x.text ≡ true → Broken env n 3 x.at
+  A03 : {env : List Spot} {n : Spot} {x : Named} → In x (uses n ++ (binders n ++ properties n)) → has_edge_underscore x.text ≡ true → Broken env n 3 x.at
   -- `this` stands
   A04 : {env : List Spot} {at : ℕ} {names : List ℕ} {form : ExprForm} → is_this form ≡ true → Broken env (AnExpr (ExprAt at names form)) 4 at
   -- a property is banned

@@ -1,7 +1,7 @@
 -- The rows of a node as sets of breaches, one after the other, as the code meets them.
 use Rattle.std.specs.Prelude.{◌≡◌, ℕ, false, List, codes}
 use Rattle.std.specs.Str.{bytes_eq}
-use Rattle.code_units.specs.Permitted.{is_banned, is_barred}
+use Rattle.code_units.specs.Permitted.{is_banned, has_edge_underscore}
 use Rattle.js_tree.specs.Plain.{ExprAt, ExprForm, StmtAt, StmtForm, Fun}
 use Rattle.js_tree.specs.Parts.{Spot, AnExpr, AStmt, AFun}
 use Rattle.first_breach.specs.Breaches.{Either, One, If, Each}
@@ -18,16 +18,16 @@ pub record Unbound (env : List Spot) (x : Named) (r p : ℕ) : Type 0 where
 
 -- what a name breaks that is used, that is bound, that is written to, and as a property
 abbrev pub UseRow : List Spot → Named → ℕ → ℕ → Type 0
-UseRow env x = Either (If (is_barred x.text) (One 3 x.at)) (Either (If (is_reaching x.text) (One 5 x.at)) (Unbound env x))
+UseRow env x = Either (If (has_edge_underscore x.text) (One 3 x.at)) (Either (If (is_reaching x.text) (One 5 x.at)) (Unbound env x))
 
 abbrev pub BinderRow : Named → ℕ → ℕ → Type 0
-BinderRow x = Either (If (is_barred x.text) (One 3 x.at)) (Either (If (is_reaching x.text) (One 5 x.at)) (If (is_global x.text) (One 8 x.at)))
+BinderRow x = Either (If (has_edge_underscore x.text) (One 3 x.at)) (Either (If (is_reaching x.text) (One 5 x.at)) (If (is_global x.text) (One 8 x.at)))
 
 abbrev pub TargetRow : Named → ℕ → ℕ → Type 0
 TargetRow x = If (is_global x.text) (One 8 x.at)
 
 abbrev pub PropertyRow : Named → ℕ → ℕ → Type 0
-PropertyRow x = Either (If (is_barred x.text) (One 3 x.at)) (If (is_banned x.text) (One 5 x.at))
+PropertyRow x = Either (If (has_edge_underscore x.text) (One 3 x.at)) (If (is_banned x.text) (One 5 x.at))
 
 abbrev pub RandomRow : Named → ℕ → ℕ → Type 0
 RandomRow x = If (bytes_eq x.text (codes "random")) (One 10 x.at)

@@ -19,7 +19,7 @@ use crate::forms::{
     is_wrong_number,
 };
 use crate::words::{is_global, is_reaching, is_word};
-use code_units::{Text, is_banned, is_barred};
+use code_units::{Text, has_edge_underscore, is_banned};
 use first_breach::{Breach, offer};
 use js_tree::{BinOp, Decl, Expr, ExprId, ForInit, Fun, FunId, Stmt, StmtId, Tree, UnOp};
 
@@ -42,7 +42,7 @@ fn used(name: &Text, at: usize, enclosing: &Enclosing, best: Option<Breach>) -> 
     requires { IsCounted enclosing.now }
     ensures { (f : Forest) → AreKnown f enclosing.now.stack.items → Narrows (UseRow (env_of f enclosing.now.stack.items) (named name.now at)) best Nothing result }
 {
-    let best = offer(best, is_barred(name), 3, at);
+    let best = offer(best, has_edge_underscore(name), 3, at);
     let best = offer(best, is_reaching(name), 5, at);
     unbound(name, at, enclosing, best)
 }
@@ -51,7 +51,7 @@ fn used(name: &Text, at: usize, enclosing: &Enclosing, best: Option<Breach>) -> 
 fn bound(name: &Text, at: usize, best: Option<Breach>) -> Option<Breach>
     ensures { Narrows (BinderRow (named name.now at)) best Nothing result }
 {
-    let best = offer(best, is_barred(name), 3, at);
+    let best = offer(best, has_edge_underscore(name), 3, at);
     let best = offer(best, is_reaching(name), 5, at);
     offer(best, is_global(name), 8, at)
 }
@@ -67,7 +67,7 @@ fn written(name: &Text, at: usize, best: Option<Breach>) -> Option<Breach>
 fn property(name: &Text, at: usize, best: Option<Breach>) -> Option<Breach>
     ensures { Narrows (PropertyRow (named name.now at)) best Nothing result }
 {
-    let best = offer(best, is_barred(name), 3, at);
+    let best = offer(best, has_edge_underscore(name), 3, at);
     offer(best, is_banned(name), 5, at)
 }
 

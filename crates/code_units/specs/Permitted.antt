@@ -13,12 +13,12 @@ unfoldable pub is_banned : List ℕ → Bool
 is_banned name = list_any (bytes_eq name) banned_names
 
 -- the name begins or ends with `_`
-unfoldable pub is_barred : List ℕ → Bool
-is_barred name = starts_with nat_eq name (codes "_") || ends_with nat_eq name (codes "_")
+unfoldable pub has_edge_underscore : List ℕ → Bool
+has_edge_underscore name = starts_with nat_eq name (codes "_") || ends_with nat_eq name (codes "_")
 
 -- it is not banned and neither begins nor ends with `_`
 abbrev pub is_permitted : List ℕ → Bool
-is_permitted name = not (is_banned name) && not (is_barred name)
+is_permitted name = not (is_banned name) && not (has_edge_underscore name)
 
 abbrev pub IsPermitted : List ℕ → Type 0
 IsPermitted name = IsTrue (is_permitted name)

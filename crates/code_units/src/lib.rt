@@ -21,7 +21,7 @@ pub use index::{MAX_LENGTH, index_of};
 pub use memory::Memory;
 pub use names::Names;
 pub use owner::Owner;
-pub use permission::{is_banned, is_barred, permitted};
+pub use permission::{has_edge_underscore, is_banned, permitted};
 pub use place::{Place, place_in, place_of};
 pub use text::Text;
 pub use utf8::{TextFault, from_utf8_bytes, push_utf8, utf8_fault};

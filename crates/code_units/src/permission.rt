@@ -1,6 +1,6 @@
 //! Which names a script may use.
 ghost use Rattle.std.specs.Prelude.{◌≡◌};
-ghost use Rattle.code_units.specs.Permitted.{is_banned, is_barred, is_permitted};
+ghost use Rattle.code_units.specs.Permitted.{is_banned, has_edge_underscore, is_permitted};
 
 use crate::text::Text;
 use crate::word::is_word;
@@ -25,9 +25,9 @@ pub fn is_banned(name: &Text) -> bool
 }
 
 /// Whether the name begins or ends with `_`.
-#[tactic(auto, unfolding(crate::specs::Permitted::is_barred))]
-pub fn is_barred(name: &Text) -> bool
-    ensures { result ≡ is_barred name.now }
+#[tactic(auto, unfolding(crate::specs::Permitted::has_edge_underscore))]
+pub fn has_edge_underscore(name: &Text) -> bool
+    ensures { result ≡ has_edge_underscore name.now }
 {
     let units = name.units();
     units.starts_with(&[LOW_LINE]) || units.ends_with(&[LOW_LINE])
@@ -38,5 +38,5 @@ pub fn is_barred(name: &Text) -> bool
 pub fn permitted(name: &Text) -> bool
     ensures { result ≡ is_permitted name.now }
 {
-    !is_banned(name) && !is_barred(name)
+    !is_banned(name) && !has_edge_underscore(name)
 }

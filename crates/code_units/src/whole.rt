@@ -49,7 +49,7 @@ fn decimal_units(alloc: Global, n: i64) -> Result<Vec<u16>, AllocError>
 }
 
 /// What a text gives as a number.
-#[derive(Clone, Copy, PartialEq, Eq, Debug)]
+#[derive(Clone, Copy, PartialEq, Eq)]
 pub enum WholeRead {
     /// A number from -(2^53-1) to 2^53-1.
     Whole(i64),

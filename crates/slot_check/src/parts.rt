@@ -14,7 +14,7 @@ use std::alloc::Global;
 use widget_form::Span;
 
 /// The verdict on the `ADSAFE.id` script of a slot, with the place in its file.
-#[derive(Clone, Copy, PartialEq, Eq, Debug)]
+#[derive(Clone, Copy, PartialEq, Eq)]
 pub enum IdVerdict {
     Clean,
     Broken { rule: u8, at: Place },

@@ -2,7 +2,7 @@
 use Rattle.std.proofs.Common.{◌≡◌, ℕ, List, [], ◌∷◌, ◌++◌, refl, sym, ap, ◌∙◌, subst, Bool, true, false}
 use Rattle.std.specs.Prelude.{map, codes}
 use Rattle.std.specs.Str.{bytes_eq}
-use Rattle.code_units.specs.Permitted.{is_banned, is_barred}
+use Rattle.code_units.specs.Permitted.{is_banned, has_edge_underscore}
 use Rattle.js_tree.specs.Plain.{ExprAt, ExprForm, StmtAt, StmtForm}
 use Rattle.js_tree.specs.Parts.{Spot, AnExpr, AStmt, AFun}
 use Rattle.js_grammar.specs.Unplaced.{unplaced_form, unplaced_exprs, unplaced_stmt_form}
@@ -123,7 +123,7 @@ row_10 env (AFun g) x t i h = cc
 
 -- a node of one tree breaks what that of the other breaks
 broken_too : {env : List Spot} {n : Spot} {r p : ℕ} (others : List Spot) (m : Spot) → map bare env ≡ map bare others → bare n ≡ bare m → Broken env n r p → Somewhere (Broken others m r)
-broken_too {n = n} others m l e (A03 i h) = let f = named_by all_names all_same n m e i in record { at = f.from.at; broken = A03 f.is_in (ap is_barred f.same ∙ h) }
+broken_too {n = n} others m l e (A03 i h) = let f = named_by all_names all_same n m e i in record { at = f.from.at; broken = A03 f.is_in (ap has_edge_underscore f.same ∙ h) }
 broken_too {n = n} others m l e (A04 {form = form} h) = expr_row is_this 4 others m (λ at names form t. A04 t) (expr_passed is_this this_bare n m e h)
 broken_too {n = n} others m l e (A05 i h) = let f = named_by properties named_properties_bare n m e i in record { at = f.from.at; broken = A05 f.is_in (ap is_banned f.same ∙ h) }
 broken_too {n = n} others m l e (A05_name i h) = let f = named_by use_names use_same n m e i in record { at = f.from.at; broken = A05_name f.is_in (ap is_reaching f.same ∙ h) }

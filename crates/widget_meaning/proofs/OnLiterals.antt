@@ -16,5 +16,5 @@ use Rattle.widget_meaning.specs.Scopes as scopes
 
 -- what an answer unfolds to compute a widget on a literal
 unfoldable pub widgets_on_literals : ⊤
-unfolding scopes.stmt_vars whole.number_in whole.trimmed fmt.digits permitted.is_banned permitted.is_barred utf8.units_of utf8.utf8_of str.chars char.encode_utf8 utf16.utf16_chars names.is_void styles.properties styles.is_listed styles.is_used styles.is_value styles.print_style machine.fits form.style_form query.keywords query.keyword_of query.fits serde_json_on_literals
+unfolding scopes.stmt_vars whole.number_in whole.trimmed fmt.digits permitted.is_banned permitted.has_edge_underscore utf8.units_of utf8.utf8_of str.chars char.encode_utf8 utf16.utf16_chars names.is_void styles.properties styles.is_listed styles.is_used styles.is_value styles.print_style machine.fits form.style_form query.keywords query.keyword_of query.fits serde_json_on_literals
 widgets_on_literals = tt
