@@ -20,7 +20,7 @@ pub use grown::{push_ascii, push_char};
 pub use index::{MAX_LENGTH, index_of};
 pub use memory::Memory;
 pub use names::Names;
-pub use owner::Owner;
+pub use owner::{Owner, WIDGETS};
 pub use permission::{has_edge_underscore, is_banned, permitted};
 pub use place::{Place, place_in, place_of};
 pub use text::Text;

@@ -1,6 +1,9 @@
 //! Whose a cell, a node or a name is.
 
-/// The host, or a widget by its number, which is below 32.
+/// How many widgets there may be over the life of a page.
+pub const WIDGETS: usize = 32;
+
+/// The host, or a widget by its number, which is below `WIDGETS`.
 #[derive(Clone, Copy, PartialEq, Eq)]
 pub enum Owner {
     Host,
