@@ -1,49 +1,61 @@
 -- What a tree keeps, as it grows and as it is read.
-use Rattle.std.proofs.Common.{◌≡◌, ℕ, suc, ◌+◌, ◌-◌, ◌<◌, List, [], ◌∷◌, ◌++◌, length, get_or, refl, sym, ap, ◌∙◌, subst, arith, length-append, append-nil, Bool, true, false}
-use Rattle.std.proofs.lemmas.List.{get_or_read}
-use Rattle.std.specs.Prelude.{All, map, if◌then◌else◌}
+use Rattle.std.proofs.Common.{◌≡◌, ℕ, ◌+◌, ◌-◌, ◌<◌, ◌≤◌, List, [], ◌∷◌, ◌++◌, length, get_or, take, drop, refl, sym, ap, ◌∙◌, subst, arith, length-append, Bool, true, false}
+use Rattle.std.proofs.lemmas.List.{take_at, take-append-le, drop_at, drop-append-le, length-drop, append-nil}
+use Rattle.std.proofs.lemmas.List.Elements.{All-push}
+use Rattle.std.specs.Prelude.{All, map, slice_range, if◌then◌else◌}
 use Rattle.js_tree.specs.declared.nodes.ExprId.{ExprId}
 use Rattle.js_tree.specs.declared.nodes.StmtId.{StmtId}
 use Rattle.js_tree.specs.declared.nodes.FunId.{FunId}
-use Rattle.js_tree.specs.declared.nodes.Part.{Part}
 use Rattle.js_tree.specs.declared.nodes.Part.TheVariants as part
-use Rattle.js_tree.specs.declared.nodes.Expr.{Expr as ExprNode}
-use Rattle.js_tree.specs.declared.nodes.Stmt.{Stmt as StmtNode}
-use Rattle.js_tree.specs.declared.nodes.Fun.{Fun as FunNode}
-use Rattle.js_tree.specs.declared.tree.Entry.{Entry}
-use Rattle.js_tree.specs.declared.tree.Entry.TheVariants as entry
-use Rattle.js_tree.specs.Forest.{Forest, no_trees, IsExpr, IsStmt, IsFun, AreExprParts, AreStmtParts, AreFunParts, plain_expr, plain_stmt, plain_fun, stmts_at, Keeps}
-use Rattle.js_tree.specs.Arena.{entry_spot, with_spot, grow, forest, entry_parts, are_in, is_ordered, places, is_expr, is_stmt, is_fun, IsArena, Stands}
-use Rattle.js_tree.proofs.Grown.{forest_more, keeps_with}
-use Rattle.js_tree.proofs.Kept.{stmts_kept}
+use Rattle.js_tree.specs.declared.tree.Span.{Span}
+use Rattle.js_tree.specs.declared.tree.ExprEntry.{ExprEntry}
+use Rattle.js_tree.specs.declared.tree.StmtEntry.{StmtEntry}
+use Rattle.js_tree.specs.declared.tree.FunEntry.{FunEntry}
+use Rattle.js_tree.specs.declared.tree.Kind.{Kind}
+use Rattle.js_tree.specs.declared.tree.Kind.TheVariants as kind
+use Rattle.js_tree.specs.Plain.{Expr, Stmt, Fun, expr_place, expr_names, stmt_place, stmt_names, fun_names}
+use Rattle.js_tree.specs.Parts.{Spot, AnExpr, AStmt, AFun}
+use Rattle.js_tree.specs.Forest.{Forest, AddsExpr, AddsStmt, AddsFun, no_trees, IsExpr, IsStmt, IsFun, expr_at, stmt_at, fun_at, AreExprParts, AreStmtParts, AreFunParts, plain_expr, plain_stmt, plain_fun, stmts_at, Keeps}
+use Rattle.js_tree.specs.Arena.{Entry, names_of, IsWithin, expr_entry, stmt_entry, fun_entry, entries, entry_spot, with_spot, grow, forest, entry_parts, are_in, is_ordered, IsArena, Stands}
+use Rattle.js_tree.proofs.Grown.{forest_more, keeps_with, adds_expr, adds_stmt, adds_fun}
+use Rattle.js_tree.proofs.Kept.{first_of_all, rest_of_all, stmts_kept}
 use Rattle.js_tree.proofs.PartsIn.{EachIn, both, and_true, each_passed, each_passes, each_kept, map_each, map_all, expr_each, stmt_each, fun_each}
-use Rattle.js_tree.proofs.Births.{next_part, Found, counted, finds}
+use Rattle.js_tree.proofs.Births.{Counted, counted, expr_found, stmt_found, fun_found, expr_counted, stmt_counted, fun_counted, expr_after, stmt_after, fun_after}
 
--- the places of a kind after one entry more
-places_after : (kind : Entry → Bool) (es : List Entry) (e : Entry) (at : ℕ) → places kind at (es ++ e ∷ []) ≡ places kind at es ++ places kind (at + length es) (e ∷ [])
-places_after kind [] e at = let z : at ≡ at + 0 = omega arith in ap (λ n. places kind n (e ∷ [])) z
-places_after kind (x ∷ es) e at =
-    let more : places kind (at + 1) (es ++ e ∷ []) ≡ places kind (at + 1) es ++ places kind (at + length (x ∷ es)) (e ∷ []) =
-    let z : (at + 1) + length es ≡ at + length (x ∷ es) = omega arith in
-    places_after kind es e (at + 1) ∙ ap (λ n. places kind (at + 1) es ++ places kind n (e ∷ [])) z in
-    let M : Bool → Type 0 = λ b. (if b then at ∷ places kind (at + 1) (es ++ e ∷ []) else places kind (at + 1) (es ++ e ∷ [])) ≡ (if b then at ∷ places kind (at + 1) es else places kind (at + 1) es) ++ places kind (at + length (x ∷ es)) (e ∷ []) in
-    let all : (b : Bool) → M b = elim [ true ↦ ap (λ l. at ∷ l) more | false ↦ more ] in
-    all (kind x)
+-- a part of the list of names stays as the list grows
+span_kept : (names more : List ℕ) (span : Span) → IsWithin names span → names_of (names ++ more) span ≡ names_of names span
+span_kept names more span h =
+    ap (take (span.to - span.from)) (drop-append-le span.from names more (omega (arith, h.0, h.1)))
+    ∙ take-append-le (span.to - span.from) (drop span.from names) more (omega (arith, h.0, h.1, length-drop span.from names))
 
-places_of_kind : (kind : Entry → Bool) (es : List Entry) (e : Entry) (ps : List ℕ) → kind e ≡ true → ps ≡ places kind 0 es → ps ++ length es ∷ [] ≡ places kind 0 (es ++ e ∷ [])
-places_of_kind kind es e ps is h =
-    let z : 0 + length es ≡ length es = omega arith in
-    ap (λ l. l ++ length es ∷ []) h
-    ∙ ap (λ n. places kind 0 es ++ n ∷ []) (sym z)
-    ∙ ap (λ b. places kind 0 es ++ (if b then (0 + length es) ∷ [] else [])) (sym is)
-    ∙ sym (places_after kind es e 0)
+pub span_last : (names more : List ℕ) (span : Span) → span.from ≡ length names → span.to ≡ length (names ++ more) → names_of (names ++ more) span ≡ more
+span_last names more span from to =
+    let n : span.to - span.from ≡ length more = omega (arith, from, to, length-append names more) in
+    rw (n, drop_at names more span.from (sym from)) (ap (take (length more)) (sym (append-nil more)) ∙ take_at more [] (length more) refl)
 
-places_of_other : (kind : Entry → Bool) (es : List Entry) (e : Entry) (ps : List ℕ) → kind e ≡ false → ps ≡ places kind 0 es → ps ≡ places kind 0 (es ++ e ∷ [])
-places_of_other kind es e ps is h =
-    h
-    ∙ sym (append-nil (places kind 0 es))
-    ∙ ap (λ b. places kind 0 es ++ (if b then (0 + length es) ∷ [] else [])) (sym is)
-    ∙ sym (places_after kind es e 0)
+pub span_within : (names more : List ℕ) (span : Span) → span.from ≡ length names → span.to ≡ length (names ++ more) → IsWithin (names ++ more) span
+span_within names more span from to = (omega (arith, from, to, length-append names more), omega (arith, to))
+
+within_more : (names more : List ℕ) (span : Span) → IsWithin names span → IsWithin (names ++ more) span
+within_more names more span h = (h.0, omega (arith, h.1, length-append names more))
+
+entries_kept : (names more : List ℕ) (ks : List Kind) (es : List ExprEntry) (ss : List StmtEntry) (gs : List FunEntry) → All (λ e. IsWithin names e.names) es → All (λ s. IsWithin names s.names) ss → All (λ g. IsWithin names g.names) gs → entries (names ++ more) ks es ss gs ≡ entries names ks es ss gs
+entries_kept names more [] es ss gs a b c = refl
+entries_kept names more (kind.Expr ∷ ks) [] ss gs a b c = refl
+entries_kept names more (kind.Expr ∷ ks) (e ∷ es) ss gs a b c =
+    let P : ExprEntry → Type 0 = λ x. IsWithin names x.names in
+    let s = span_kept names more e.names (first_of_all P e es a) in
+    rw (s, entries_kept names more ks es ss gs (rest_of_all P e es a) b c) refl
+entries_kept names more (kind.Stmt ∷ ks) es [] gs a b c = refl
+entries_kept names more (kind.Stmt ∷ ks) es (e ∷ ss) gs a b c =
+    let P : StmtEntry → Type 0 = λ x. IsWithin names x.names in
+    let s = span_kept names more e.names (first_of_all P e ss b) in
+    rw (s, entries_kept names more ks es ss gs a (rest_of_all P e ss b) c) refl
+entries_kept names more (kind.Fun ∷ ks) es ss [] a b c = refl
+entries_kept names more (kind.Fun ∷ ks) es ss (e ∷ gs) a b c =
+    let P : FunEntry → Type 0 = λ x. IsWithin names x.names in
+    let s = span_kept names more e.names (first_of_all P e gs c) in
+    rw (s, entries_kept names more ks es ss gs a b (rest_of_all P e gs c)) refl
 
 ordered_after : (f : Forest) (es : List Entry) (e : Entry) → is_ordered f es ≡ true → EachIn (grow f es) (entry_parts e) → is_ordered f (es ++ e ∷ []) ≡ true
 ordered_after f [] e o h = and_true (are_in f (entry_parts e)) true (each_passes f (entry_parts e) h) refl
@@ -66,170 +78,178 @@ program_more es e program h = each_passes _ _ (each_kept (forest es) _ (keeps_mo
 pub program_stays : (es : List Entry) (e : Entry) (program : List StmtId) → are_in (forest es) (map part.Stmt program) ≡ true → stmts_at (forest (es ++ e ∷ [])) program ≡ stmts_at (forest es) program
 program_stays es e program h = stmts_kept (forest es) (forest (es ++ e ∷ [])) (keeps_more es e) _ program (map_all (forest es) part.Stmt program (each_passed _ _ h))
 
-pub program_is_in : (es : List Entry) (program : List StmtId) → are_in (forest es) (map part.Stmt program) ≡ true → All (IsStmt (forest es)) program
-program_is_in es program h = map_all (forest es) part.Stmt program (each_passed _ _ h)
+-- the tree of a spot of each kind
+abbrev spot_expr : Expr → Spot → Expr
+spot_expr d (AnExpr e) = e
+spot_expr d _ = d
 
-module _ (es : List Entry) (exprs stmts funs : List ℕ) (program : List StmtId) (a : IsArena es exprs stmts funs program) where
-  -- after each kind of push
-  pub arena_expr : (node : ExprNode) (at : ℕ) (names : _) → AreExprParts (forest es) node → IsArena (es ++ entry.Expr node at names ∷ []) (exprs ++ length es ∷ []) stmts funs program
-  arena_expr node at names h = let e = entry.Expr node at names in record {
-    exprs_placed = places_of_kind is_expr es e exprs refl a.exprs_placed;
-    stmts_placed = places_of_other is_stmt es e stmts refl a.stmts_placed;
-    funs_placed = places_of_other is_fun es e funs refl a.funs_placed;
-    ordered = ordered_more es e a.ordered (expr_each (forest es) node h);
-    program_in = program_more es e program a.program_in;
+abbrev spot_stmt : Stmt → Spot → Stmt
+spot_stmt d (AStmt s) = s
+spot_stmt d _ = d
+
+abbrev spot_fun : Fun → Spot → Fun
+spot_fun d (AFun g) = g
+spot_fun d _ = d
+
+module _ (names : List ℕ) (ks : List Kind) (es : List ExprEntry) (ss : List StmtEntry) (gs : List FunEntry) (program : List StmtId) (a : IsArena names ks es ss gs program) where
+  abbrev pub all : List Entry
+  all = entries names ks es ss gs
+
+  pub program_is_in : All (IsStmt (forest all)) program
+  program_is_in = map_all (forest all) part.Stmt program (each_passed _ _ a.program_in)
+
+  -- with more names in the list
+  pub trees_kept : (more : List ℕ) → entries (names ++ more) ks es ss gs ≡ all
+  trees_kept more = entries_kept names more ks es ss gs a.exprs_within a.stmts_within a.funs_within
+
+  pub arena_names : (more : List ℕ) → IsArena (names ++ more) ks es ss gs program
+  arena_names more = record {
+    counted = a.counted;
+    ordered = rw (trees_kept more) a.ordered;
+    program_in = rw (trees_kept more) a.program_in;
+    exprs_within = λ k d lt. within_more names more _ (a.exprs_within k d lt);
+    stmts_within = λ k d lt. within_more names more _ (a.stmts_within k d lt);
+    funs_within = λ k d lt. within_more names more _ (a.funs_within k d lt);
   }
 
-  pub arena_stmt : (node : StmtNode) (at : ℕ) (names : _) → AreStmtParts (forest es) node → IsArena (es ++ entry.Stmt node at names ∷ []) exprs (stmts ++ length es ∷ []) funs program
-  arena_stmt node at names h = let e = entry.Stmt node at names in record {
-    exprs_placed = places_of_other is_expr es e exprs refl a.exprs_placed;
-    stmts_placed = places_of_kind is_stmt es e stmts refl a.stmts_placed;
-    funs_placed = places_of_other is_fun es e funs refl a.funs_placed;
-    ordered = ordered_more es e a.ordered (stmt_each (forest es) node h);
-    program_in = program_more es e program a.program_in;
-  }
+  -- the list of names may have grown
+  pub trees_if : (b : Bool) (more : List ℕ) → entries (if b then names ++ more else names) ks es ss gs ≡ all
+  trees_if true more = trees_kept more
+  trees_if false more = refl
 
-  pub arena_fun : (node : FunNode) (names : _) → AreFunParts (forest es) node → IsArena (es ++ entry.Fun node names ∷ []) exprs stmts (funs ++ length es ∷ []) program
-  arena_fun node names h = let e = entry.Fun node names in record {
-    exprs_placed = places_of_other is_expr es e exprs refl a.exprs_placed;
-    stmts_placed = places_of_other is_stmt es e stmts refl a.stmts_placed;
-    funs_placed = places_of_kind is_fun es e funs refl a.funs_placed;
-    ordered = ordered_more es e a.ordered (fun_each (forest es) node h);
-    program_in = program_more es e program a.program_in;
-  }
+  pub arena_if : (b : Bool) (more : List ℕ) → IsArena (if b then names ++ more else names) ks es ss gs program
+  arena_if true more = arena_names more
+  arena_if false more = a
 
-  pub arena_program : (list : List StmtId) → All (IsStmt (forest es)) list → IsArena es exprs stmts funs list
+  pub arena_program : (list : List StmtId) → All (IsStmt (forest all)) list → IsArena names ks es ss gs list
   arena_program list h = record {
-    exprs_placed = a.exprs_placed;
-    stmts_placed = a.stmts_placed;
-    funs_placed = a.funs_placed;
+    counted = a.counted;
     ordered = a.ordered;
-    program_in = each_passes _ _ (map_each (forest es) part.Stmt list h);
+    program_in = each_passes _ _ (map_each (forest all) part.Stmt list h);
+    exprs_within = a.exprs_within;
+    stmts_within = a.stmts_within;
+    funs_within = a.funs_within;
   }
 
--- the numbers of a kind
-module _ (kind : Entry → Bool) (count : Forest → ℕ) (number : ℕ → Part)
-    (born : (f : Forest) (e : Entry) → kind e ≡ true → next_part f e ≡ number (count f))
-    (counts : (f : Forest) (e : Entry) → kind e ≡ true → count (with_spot f (entry_spot f e)) ≡ suc (count f))
-    (passes : (f : Forest) (e : Entry) → kind e ≡ false → count (with_spot f (entry_spot f e)) ≡ count f)
-    (none : count no_trees ≡ 0) where
-  kind_count : (es : List Entry) (ps : List ℕ) → ps ≡ places kind 0 es → length ps ≡ count (forest es)
+  -- after each kind of push
+  pub expr_more : (e : ExprEntry) → entries names (ks ++ kind.Expr ∷ []) (es ++ e ∷ []) ss gs ≡ all ++ expr_entry names e ∷ []
+  expr_more e = expr_after names ks es ss gs e a.counted
+
+  pub arena_expr : (e : ExprEntry) → AreExprParts (forest all) e.node → IsWithin names e.names → IsArena names (ks ++ kind.Expr ∷ []) (es ++ e ∷ []) ss gs program
+  arena_expr e parts within = record {
+    counted = expr_counted names ks es ss gs e a.counted;
+    ordered = rw (expr_more e) (ordered_more all (expr_entry names e) a.ordered (expr_each (forest all) e.node parts));
+    program_in = rw (expr_more e) (program_more all (expr_entry names e) program a.program_in);
+    exprs_within = All-push (λ x. IsWithin names x.names) es e a.exprs_within within;
+    stmts_within = a.stmts_within;
+    funs_within = a.funs_within;
+  }
+
+  pub stmt_more : (s : StmtEntry) → entries names (ks ++ kind.Stmt ∷ []) es (ss ++ s ∷ []) gs ≡ all ++ stmt_entry names s ∷ []
+  stmt_more s = stmt_after names ks es ss gs s a.counted
+
+  pub arena_stmt : (s : StmtEntry) → AreStmtParts (forest all) s.node → IsWithin names s.names → IsArena names (ks ++ kind.Stmt ∷ []) es (ss ++ s ∷ []) gs program
+  arena_stmt s parts within = record {
+    counted = stmt_counted names ks es ss gs s a.counted;
+    ordered = rw (stmt_more s) (ordered_more all (stmt_entry names s) a.ordered (stmt_each (forest all) s.node parts));
+    program_in = rw (stmt_more s) (program_more all (stmt_entry names s) program a.program_in);
+    exprs_within = a.exprs_within;
+    stmts_within = All-push (λ x. IsWithin names x.names) ss s a.stmts_within within;
+    funs_within = a.funs_within;
+  }
+
+  pub fun_more : (g : FunEntry) → entries names (ks ++ kind.Fun ∷ []) es ss (gs ++ g ∷ []) ≡ all ++ fun_entry names g ∷ []
+  fun_more g = fun_after names ks es ss gs g a.counted
+
+  pub arena_fun : (g : FunEntry) → AreFunParts (forest all) g.node → IsWithin names g.names → IsArena names (ks ++ kind.Fun ∷ []) es ss (gs ++ g ∷ []) program
+  arena_fun g parts within = record {
+    counted = fun_counted names ks es ss gs g a.counted;
+    ordered = rw (fun_more g) (ordered_more all (fun_entry names g) a.ordered (fun_each (forest all) g.node parts));
+    program_in = rw (fun_more g) (program_more all (fun_entry names g) program a.program_in);
+    exprs_within = a.exprs_within;
+    stmts_within = a.stmts_within;
+    funs_within = All-push (λ x. IsWithin names x.names) gs g a.funs_within within;
+  }
+
+  -- there are as many trees of a kind as nodes
+  counts : Counted names no_trees ks es ss gs
+  counts = counted names no_trees ks es ss gs a.counted
+
+  pub exprs_count : length es ≡ length (forest all).exprs
   unfolding forest
-  kind_count es ps h = rw h (omega (arith, counted kind count number born counts passes no_trees es 0, none))
+  exprs_count = omega (arith, counts.exprs)
 
-  kind_finds : (es : List Entry) (ps : List ℕ) (i : ℕ) → ps ≡ places kind 0 es → is_ordered no_trees es ≡ true → i < length ps → Found no_trees es 0 (get_or ps i 0) (number i)
-  kind_finds es ps i h o lt =
-      let z : count no_trees + i ≡ i = omega (arith, none) in
-      subst (λ l. i < length l → Found no_trees es 0 (get_or l i 0) (number i)) (sym h)
-      (λ k. subst (λ n. Found no_trees es 0 (get_or (places kind 0 es) i 0) (number n)) z (finds kind count number born counts passes no_trees es 0 i o k)) lt
-
-expr_born : (f : Forest) (e : Entry) → is_expr e ≡ true → next_part f e ≡ part.Expr (record { 0 = length f.exprs })
-expr_born f (entry.Expr node at names) h = refl
-expr_born f (entry.Stmt node at names) h = cc
-expr_born f (entry.Fun node names) h = cc
-
-expr_counts : (f : Forest) (e : Entry) → is_expr e ≡ true → length (with_spot f (entry_spot f e)).exprs ≡ suc (length f.exprs)
-expr_counts f (entry.Expr node at names) h = omega (arith, length-append f.exprs (plain_expr f node at names.items ∷ []))
-expr_counts f (entry.Stmt node at names) h = cc
-expr_counts f (entry.Fun node names) h = cc
-
-expr_passes : (f : Forest) (e : Entry) → is_expr e ≡ false → length (with_spot f (entry_spot f e)).exprs ≡ length f.exprs
-expr_passes f (entry.Expr node at names) h = cc
-expr_passes f (entry.Stmt node at names) h = refl
-expr_passes f (entry.Fun node names) h = refl
-
-stmt_born : (f : Forest) (e : Entry) → is_stmt e ≡ true → next_part f e ≡ part.Stmt (record { 0 = length f.stmts })
-stmt_born f (entry.Expr node at names) h = cc
-stmt_born f (entry.Stmt node at names) h = refl
-stmt_born f (entry.Fun node names) h = cc
-
-stmt_counts : (f : Forest) (e : Entry) → is_stmt e ≡ true → length (with_spot f (entry_spot f e)).stmts ≡ suc (length f.stmts)
-stmt_counts f (entry.Expr node at names) h = cc
-stmt_counts f (entry.Stmt node at names) h = omega (arith, length-append f.stmts (plain_stmt f node at names.items ∷ []))
-stmt_counts f (entry.Fun node names) h = cc
-
-stmt_passes : (f : Forest) (e : Entry) → is_stmt e ≡ false → length (with_spot f (entry_spot f e)).stmts ≡ length f.stmts
-stmt_passes f (entry.Expr node at names) h = refl
-stmt_passes f (entry.Stmt node at names) h = cc
-stmt_passes f (entry.Fun node names) h = refl
-
-fun_born : (f : Forest) (e : Entry) → is_fun e ≡ true → next_part f e ≡ part.Fun (record { 0 = length f.funs })
-fun_born f (entry.Expr node at names) h = cc
-fun_born f (entry.Stmt node at names) h = cc
-fun_born f (entry.Fun node names) h = refl
-
-fun_counts : (f : Forest) (e : Entry) → is_fun e ≡ true → length (with_spot f (entry_spot f e)).funs ≡ suc (length f.funs)
-fun_counts f (entry.Expr node at names) h = cc
-fun_counts f (entry.Stmt node at names) h = cc
-fun_counts f (entry.Fun node names) h = omega (arith, length-append f.funs (plain_fun f node names.items ∷ []))
-
-fun_passes : (f : Forest) (e : Entry) → is_fun e ≡ false → length (with_spot f (entry_spot f e)).funs ≡ length f.funs
-fun_passes f (entry.Expr node at names) h = refl
-fun_passes f (entry.Stmt node at names) h = refl
-fun_passes f (entry.Fun node names) h = cc
-
-module _ (es : List Entry) (exprs stmts funs : List ℕ) (program : List StmtId) (a : IsArena es exprs stmts funs program) where
-  -- there are as many trees of a kind as places
-  pub exprs_count : length exprs ≡ length (forest es).exprs
-  exprs_count = kind_count is_expr (λ f. length f.exprs) (λ i. part.Expr (record { 0 = i })) expr_born expr_counts expr_passes refl es exprs a.exprs_placed
-
-  pub stmts_count : length stmts ≡ length (forest es).stmts
-  stmts_count = kind_count is_stmt (λ f. length f.stmts) (λ i. part.Stmt (record { 0 = i })) stmt_born stmt_counts stmt_passes refl es stmts a.stmts_placed
-
-  pub funs_count : length funs ≡ length (forest es).funs
-  funs_count = kind_count is_fun (λ f. length f.funs) (λ i. part.Fun (record { 0 = i })) fun_born fun_counts fun_passes refl es funs a.funs_placed
-
-  -- a place leads to the entry with the number
-  expr_found : (id : ExprId) → id.0 < length exprs → Found no_trees es 0 (get_or exprs id.0 0) (part.Expr id)
-  expr_found id lt = kind_finds is_expr (λ f. length f.exprs) (λ i. part.Expr (record { 0 = i })) expr_born expr_counts expr_passes refl es exprs id.0 a.exprs_placed a.ordered lt
-
-  stmt_found : (id : StmtId) → id.0 < length stmts → Found no_trees es 0 (get_or stmts id.0 0) (part.Stmt id)
-  stmt_found id lt = kind_finds is_stmt (λ f. length f.stmts) (λ i. part.Stmt (record { 0 = i })) stmt_born stmt_counts stmt_passes refl es stmts id.0 a.stmts_placed a.ordered lt
-
-  fun_found : (id : FunId) → id.0 < length funs → Found no_trees es 0 (get_or funs id.0 0) (part.Fun id)
-  fun_found id lt = kind_finds is_fun (λ f. length f.funs) (λ i. part.Fun (record { 0 = i })) fun_born fun_counts fun_passes refl es funs id.0 a.funs_placed a.ordered lt
-
-  found_below : (place : ℕ) (p : Part) → Found no_trees es 0 place p → place < length es
-  found_below place p h = omega (arith, h.below)
-
-  found_stands : (place : ℕ) (p : Part) → Found no_trees es 0 place p → (e : Entry) → e ≡ get_or es place e → Stands (forest es) e p
+  pub stmts_count : length ss ≡ length (forest all).stmts
   unfolding forest
-  found_stands place p h e is =
-      let z : place - 0 ≡ place = omega arith in
-      subst (λ x. Stands (grow no_trees es) x p) (sym (is ∙ ap (λ n. get_or es n e) (sym z) ∙ h.found e)) h.stands
+  stmts_count = omega (arith, counts.stmts)
 
-  pub expr_in : (id : ExprId) → IsExpr (forest es) id → id.0 < length exprs
-  expr_in id h = omega (arith, exprs_count)
+  pub funs_count : length gs ≡ length (forest all).funs
+  unfolding forest
+  funs_count = omega (arith, counts.funs)
 
-  expr_place : (id : ExprId) (place : ℕ) → IsExpr (forest es) id → place ≡ get_or exprs id.0 place → Found no_trees es 0 place (part.Expr id)
-  expr_place id place h is = subst (λ n. Found no_trees es 0 n (part.Expr id)) (sym (get_or_read exprs id.0 place (expr_in id h) is 0)) (expr_found id (expr_in id h))
+  pub expr_in : (id : ExprId) → IsExpr (forest all) id → id.0 < length es
+  expr_in id h = omega (arith, h, exprs_count)
 
-  pub expr_below : (id : ExprId) (place : ℕ) → IsExpr (forest es) id → place ≡ get_or exprs id.0 place → place < length es
-  expr_below id place h is = found_below _ _ (expr_place id place h is)
+  pub stmt_in : (id : StmtId) → IsStmt (forest all) id → id.0 < length ss
+  stmt_in id h = omega (arith, h, stmts_count)
 
-  pub expr_stands : (id : ExprId) (place : ℕ) → IsExpr (forest es) id → place ≡ get_or exprs id.0 place → (e : Entry) → e ≡ get_or es place e → Stands (forest es) e (part.Expr id)
-  expr_stands id place h is e read = found_stands _ _ (expr_place id place h is) e read
+  pub fun_in : (id : FunId) → IsFun (forest all) id → id.0 < length gs
+  fun_in id h = omega (arith, h, funs_count)
 
-  pub stmt_in : (id : StmtId) → IsStmt (forest es) id → id.0 < length stmts
-  stmt_in id h = omega (arith, stmts_count)
+  -- a number leads to its node
+  pub expr_stands : (id : ExprId) (e : ExprEntry) → IsExpr (forest all) id → e ≡ get_or es id.0 e → Stands (forest all) (expr_entry names e) (part.Expr id)
+  unfolding forest
+  expr_stands id e h is = subst (λ x. Stands (grow no_trees all) (expr_entry names x) (part.Expr id)) (sym is) (expr_found names no_trees ks es ss gs id.0 id.0 e a.ordered a.counted (expr_in id h) (omega arith))
 
-  stmt_place : (id : StmtId) (place : ℕ) → IsStmt (forest es) id → place ≡ get_or stmts id.0 place → Found no_trees es 0 place (part.Stmt id)
-  stmt_place id place h is = subst (λ n. Found no_trees es 0 n (part.Stmt id)) (sym (get_or_read stmts id.0 place (stmt_in id h) is 0)) (stmt_found id (stmt_in id h))
+  pub stmt_stands : (id : StmtId) (s : StmtEntry) → IsStmt (forest all) id → s ≡ get_or ss id.0 s → Stands (forest all) (stmt_entry names s) (part.Stmt id)
+  unfolding forest
+  stmt_stands id s h is = subst (λ x. Stands (grow no_trees all) (stmt_entry names x) (part.Stmt id)) (sym is) (stmt_found names no_trees ks es ss gs id.0 id.0 s a.ordered a.counted (stmt_in id h) (omega arith))
 
-  pub stmt_below : (id : StmtId) (place : ℕ) → IsStmt (forest es) id → place ≡ get_or stmts id.0 place → place < length es
-  stmt_below id place h is = found_below _ _ (stmt_place id place h is)
+  pub fun_stands : (id : FunId) (g : FunEntry) → IsFun (forest all) id → g ≡ get_or gs id.0 g → Stands (forest all) (fun_entry names g) (part.Fun id)
+  unfolding forest
+  fun_stands id g h is = subst (λ x. Stands (grow no_trees all) (fun_entry names x) (part.Fun id)) (sym is) (fun_found names no_trees ks es ss gs id.0 id.0 g a.ordered a.counted (fun_in id h) (omega arith))
 
-  pub stmt_stands : (id : StmtId) (place : ℕ) → IsStmt (forest es) id → place ≡ get_or stmts id.0 place → (e : Entry) → e ≡ get_or es place e → Stands (forest es) e (part.Stmt id)
-  stmt_stands id place h is e read = found_stands _ _ (stmt_place id place h is) e read
+  pub adds_one_expr : (old : Forest) (e : ExprEntry) (own : List ℕ) (id : ExprId) → old ≡ forest all → own ≡ names_of names e.names → id.0 ≡ length old.exprs → AddsExpr old (forest (entries names (ks ++ kind.Expr ∷ []) (es ++ e ∷ []) ss gs)) (plain_expr old e.node e.at own) id
+  adds_one_expr old e own id is own_is number = rw (is, own_is, expr_more e, forest_more all (expr_entry names e)) (adds_expr (forest all) (plain_expr (forest all) e.node e.at (names_of names e.names)) id (subst (λ f. id.0 ≡ length f.exprs) is number))
 
-  pub fun_in : (id : FunId) → IsFun (forest es) id → id.0 < length funs
-  fun_in id h = omega (arith, funs_count)
+  pub program_with_expr : (e : ExprEntry) → stmts_at (forest (entries names (ks ++ kind.Expr ∷ []) (es ++ e ∷ []) ss gs)) program ≡ stmts_at (forest all) program
+  program_with_expr e = rw (expr_more e) (program_stays all (expr_entry names e) program a.program_in)
 
-  fun_place : (id : FunId) (place : ℕ) → IsFun (forest es) id → place ≡ get_or funs id.0 place → Found no_trees es 0 place (part.Fun id)
-  fun_place id place h is = subst (λ n. Found no_trees es 0 n (part.Fun id)) (sym (get_or_read funs id.0 place (fun_in id h) is 0)) (fun_found id (fun_in id h))
+  pub expr_is : (id : ExprId) (e : ExprEntry) → IsExpr (forest all) id → e ≡ get_or es id.0 e → plain_expr (forest all) e.node e.at (names_of names e.names) ≡ expr_at (forest all) id
+  expr_is id e h is = ap (spot_expr (expr_at (forest all) id)) (expr_stands id e h is).same
 
-  pub fun_below : (id : FunId) (place : ℕ) → IsFun (forest es) id → place ≡ get_or funs id.0 place → place < length es
-  fun_below id place h is = found_below _ _ (fun_place id place h is)
+  pub expr_reads : (id : ExprId) (e : ExprEntry) → IsExpr (forest all) id → e ≡ get_or es id.0 e → plain_expr (forest all) e.node (expr_place (expr_at (forest all) id)) (expr_names (expr_at (forest all) id)) ≡ expr_at (forest all) id
+  expr_reads id e h is = subst (λ x. plain_expr (forest all) e.node (expr_place x) (expr_names x) ≡ x) (expr_is id e h is) refl
 
-  pub fun_stands : (id : FunId) (place : ℕ) → IsFun (forest es) id → place ≡ get_or funs id.0 place → (e : Entry) → e ≡ get_or es place e → Stands (forest es) e (part.Fun id)
-  fun_stands id place h is e read = found_stands _ _ (fun_place id place h is) e read
+  pub adds_one_stmt : (old : Forest) (s : StmtEntry) (own : List ℕ) (id : StmtId) → old ≡ forest all → own ≡ names_of names s.names → id.0 ≡ length old.stmts → AddsStmt old (forest (entries names (ks ++ kind.Stmt ∷ []) es (ss ++ s ∷ []) gs)) (plain_stmt old s.node s.at own) id
+  adds_one_stmt old s own id is own_is number = rw (is, own_is, stmt_more s, forest_more all (stmt_entry names s)) (adds_stmt (forest all) (plain_stmt (forest all) s.node s.at (names_of names s.names)) id (subst (λ f. id.0 ≡ length f.stmts) is number))
+
+  pub program_with_stmt : (s : StmtEntry) → stmts_at (forest (entries names (ks ++ kind.Stmt ∷ []) es (ss ++ s ∷ []) gs)) program ≡ stmts_at (forest all) program
+  program_with_stmt s = rw (stmt_more s) (program_stays all (stmt_entry names s) program a.program_in)
+
+  pub stmt_is : (id : StmtId) (s : StmtEntry) → IsStmt (forest all) id → s ≡ get_or ss id.0 s → plain_stmt (forest all) s.node s.at (names_of names s.names) ≡ stmt_at (forest all) id
+  stmt_is id s h is = ap (spot_stmt (stmt_at (forest all) id)) (stmt_stands id s h is).same
+
+  pub stmt_reads : (id : StmtId) (s : StmtEntry) → IsStmt (forest all) id → s ≡ get_or ss id.0 s → plain_stmt (forest all) s.node (stmt_place (stmt_at (forest all) id)) (stmt_names (stmt_at (forest all) id)) ≡ stmt_at (forest all) id
+  stmt_reads id s h is = subst (λ x. plain_stmt (forest all) s.node (stmt_place x) (stmt_names x) ≡ x) (stmt_is id s h is) refl
+
+  pub adds_one_fun : (old : Forest) (g : FunEntry) (own : List ℕ) (id : FunId) → old ≡ forest all → own ≡ names_of names g.names → id.0 ≡ length old.funs → AddsFun old (forest (entries names (ks ++ kind.Fun ∷ []) es ss (gs ++ g ∷ []))) (plain_fun old g.node own) id
+  adds_one_fun old g own id is own_is number = rw (is, own_is, fun_more g, forest_more all (fun_entry names g)) (adds_fun (forest all) (plain_fun (forest all) g.node (names_of names g.names)) id (subst (λ f. id.0 ≡ length f.funs) is number))
+
+  pub program_with_fun : (g : FunEntry) → stmts_at (forest (entries names (ks ++ kind.Fun ∷ []) es ss (gs ++ g ∷ []))) program ≡ stmts_at (forest all) program
+  program_with_fun g = rw (fun_more g) (program_stays all (fun_entry names g) program a.program_in)
+
+  pub fun_is : (id : FunId) (g : FunEntry) → IsFun (forest all) id → g ≡ get_or gs id.0 g → plain_fun (forest all) g.node (names_of names g.names) ≡ fun_at (forest all) id
+  fun_is id g h is = ap (spot_fun (fun_at (forest all) id)) (fun_stands id g h is).same
+
+  pub fun_reads : (id : FunId) (g : FunEntry) → IsFun (forest all) id → g ≡ get_or gs id.0 g → plain_fun (forest all) g.node (fun_names (fun_at (forest all) id)) ≡ fun_at (forest all) id
+  fun_reads id g h is = subst (λ x. plain_fun (forest all) g.node (fun_names x) ≡ x) (fun_is id g h is) refl
+
+  pub expr_within : (id : ExprId) (e : ExprEntry) → IsExpr (forest all) id → e ≡ get_or es id.0 e → IsWithin names e.names
+  expr_within id e h is = subst (λ x. IsWithin names x.names) (sym is) (a.exprs_within id.0 e (expr_in id h))
+
+  pub stmt_within : (id : StmtId) (s : StmtEntry) → IsStmt (forest all) id → s ≡ get_or ss id.0 s → IsWithin names s.names
+  stmt_within id s h is = subst (λ x. IsWithin names x.names) (sym is) (a.stmts_within id.0 s (stmt_in id h))
+
+  pub fun_within : (id : FunId) (g : FunEntry) → IsFun (forest all) id → g ≡ get_or gs id.0 g → IsWithin names g.names
+  fun_within id g h is = subst (λ x. IsWithin names x.names) (sym is) (a.funs_within id.0 g (fun_in id h))

@@ -5,11 +5,10 @@ use Rattle.std.proofs.Math.Seq.{get_or-append_seam}
 use Rattle.js_tree.specs.declared.nodes.ExprId.{ExprId}
 use Rattle.js_tree.specs.declared.nodes.StmtId.{StmtId}
 use Rattle.js_tree.specs.declared.nodes.FunId.{FunId}
-use Rattle.js_tree.specs.declared.tree.Entry.{Entry}
 use Rattle.js_tree.specs.Plain.{Expr, Stmt, Fun}
 use Rattle.js_tree.specs.Forest.{Forest, no_trees, Keeps, AddsExpr, AddsStmt, AddsFun}
 use Rattle.js_tree.specs.Parts.{Spot, AnExpr, AStmt, AFun}
-use Rattle.js_tree.specs.Arena.{entry_spot, with_spot, grow, forest}
+use Rattle.js_tree.specs.Arena.{Entry, entry_spot, with_spot, grow, forest}
 
 grow_append : (f : Forest) (a b : List Entry) → grow f (a ++ b) ≡ grow (grow f a) b
 grow_append f [] b = refl

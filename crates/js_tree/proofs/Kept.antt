@@ -19,10 +19,10 @@ use Rattle.js_tree.specs.Plain.{Expr, ExprForm, Array, Object, Function, Dot, Su
 use Rattle.js_tree.specs.Forest.{Forest, IsExpr, IsStmt, IsFun, expr_at, stmt_at, fun_at, exprs_more, exprs_at, stmts_more, stmts_at, funs_more, funs_at, optional_at, properties_more, decls_more, init_at, clauses_more, clauses_at, catch_at, block_at, plain_form, plain_stmt_form, plain_fun, IsOptional, AreDecls, AreInit, AreClauseParts, AreCatch, AreBlock, AreExprParts, AreStmtParts, AreFunParts, Keeps}
 
 -- the first, and the rest
-first_of_all : {A : Type 0} (P : A → Type 0) (x : A) (xs : List A) → All P (x ∷ xs) → P x
+pub first_of_all : {A : Type 0} (P : A → Type 0) (x : A) (xs : List A) → All P (x ∷ xs) → P x
 first_of_all P x xs h = h 0 x (omega arith)
 
-rest_of_all : {A : Type 0} (P : A → Type 0) (x : A) (xs : List A) → All P (x ∷ xs) → All P xs
+pub rest_of_all : {A : Type 0} (P : A → Type 0) (x : A) (xs : List A) → All P (x ∷ xs) → All P xs
 rest_of_all P x xs h = λ k d lt. h (suc k) d (omega arith)
 
 module _ (f g : Forest) (k : Keeps f g) where

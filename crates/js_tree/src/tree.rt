@@ -1,33 +1,60 @@
 //! The tree: nodes refer to older nodes by their numbers.
-ghost use Rattle.std.specs.Prelude.{◌≡◌, ◌<◌, ◌^◌, length, All, MatchResult};
+ghost use Rattle.std.specs.Prelude.{◌≡◌, ◌<◌, ◌^◌, length, All, MatchResult, IfOk};
 ghost use Rattle.js_tree.specs.Plain.{NoStmts, expr_place, stmt_place, expr_names, stmt_names, fun_names};
 ghost use Rattle.js_tree.specs.Forest.{no_trees, IsExpr, IsStmt, IsFun, expr_at, stmt_at, fun_at, stmts_at, plain_expr, plain_stmt, plain_fun, AreExprParts, AreStmtParts, AreFunParts, AddsExpr, AddsStmt, AddsFun};
-ghost use Rattle.js_tree.specs.Parts.{IsIn};
-ghost use Rattle.js_tree.specs.Arena.{IsArena, Stands};
+ghost use Rattle.js_tree.specs.Arena.{names_of, IsWithin, IsArena};
 
-use crate::nodes::{Expr, ExprId, Fun, FunId, Part, Stmt, StmtId};
+use crate::nodes::{Expr, ExprId, Fun, FunId, Stmt, StmtId};
 use code_units::Memory;
 use std::alloc::Global;
 
-// A node with its place, which a function has itself, and the places of its own names.
+// Where the places of a node's own names stand in the list of the tree.
+#[derive(Clone, Copy, Drop)]
+struct Span {
+    from: usize,
+    to: usize,
+}
+
 #[derive(Drop)]
-enum Entry {
-    Expr(Expr, usize, Vec<usize>),
-    Stmt(Stmt, usize, Vec<usize>),
-    Fun(Fun, Vec<usize>),
+struct ExprEntry {
+    node: Expr,
+    at: usize,
+    names: Span,
+}
+
+#[derive(Drop)]
+struct StmtEntry {
+    node: Stmt,
+    at: usize,
+    names: Span,
+}
+
+// A function has its place itself.
+#[derive(Drop)]
+struct FunEntry {
+    node: Fun,
+    names: Span,
+}
+
+#[derive(Clone, Copy, Drop)]
+enum Kind {
+    Expr,
+    Stmt,
+    Fun,
 }
 
 /// The parse tree of a text: expressions, statements and functions under numbers of their kind.
 #[derive(Drop)]
 pub struct Tree {
-    // of all kinds, in the order of birth
-    entries: Vec<Entry>,
-    // where the entries of each kind are
-    exprs: Vec<usize>,
-    stmts: Vec<usize>,
-    funs: Vec<usize>,
+    exprs: Vec<ExprEntry>,
+    stmts: Vec<StmtEntry>,
+    funs: Vec<FunEntry>,
+    // the kinds of all nodes in the order of birth, by which each part is older than its node
+    births: Vec<Kind>,
+    // the places of the own names of all nodes
+    names: Vec<usize>,
     program: Vec<StmtId>,
-    ghost arena: { IsArena entries.items exprs.items stmts.items funs.items program.items },
+    ghost arena: { IsArena names.items births.items exprs.items stmts.items funs.items program.items },
 }
 
 impl Tree {
@@ -39,10 +66,11 @@ impl Tree {
         ensures program { program_of result ≡ NoStmts }
     {
         Tree {
-            entries: Vec::new(alloc),
             exprs: Vec::new(alloc),
             stmts: Vec::new(alloc),
             funs: Vec::new(alloc),
+            births: Vec::new(alloc),
+            names: Vec::new(alloc),
             program: Vec::new(alloc),
         }
     }
@@ -67,11 +95,12 @@ impl Tree {
         ensures program { program_of self.new ≡ program_of self.old }
     {
         let id = self.exprs.len() as u32;
-        self.exprs.push(self.entries.len())?;
-        match self.entries.push(Entry::Expr(node, at, names)) {
+        let names = self.add_names(&names)?;
+        self.births.push(Kind::Expr)?;
+        match self.exprs.push(ExprEntry { node, at, names }) {
             Ok(()) => Ok(ExprId(id)),
             Err(e) => {
-                let _ = self.exprs.pop();
+                let _ = self.births.pop();
                 Err(Memory::from(e))
             }
         }
@@ -88,11 +117,12 @@ impl Tree {
         ensures program { program_of self.new ≡ program_of self.old }
     {
         let id = self.stmts.len() as u32;
-        self.stmts.push(self.entries.len())?;
-        match self.entries.push(Entry::Stmt(node, at, names)) {
+        let names = self.add_names(&names)?;
+        self.births.push(Kind::Stmt)?;
+        match self.stmts.push(StmtEntry { node, at, names }) {
             Ok(()) => Ok(StmtId(id)),
             Err(e) => {
-                let _ = self.stmts.pop();
+                let _ = self.births.pop();
                 Err(Memory::from(e))
             }
         }
@@ -109,27 +139,35 @@ impl Tree {
         ensures program { program_of self.new ≡ program_of self.old }
     {
         let id = self.funs.len() as u32;
-        self.funs.push(self.entries.len())?;
-        match self.entries.push(Entry::Fun(node, names)) {
+        let names = self.add_names(&names)?;
+        self.births.push(Kind::Fun)?;
+        match self.funs.push(FunEntry { node, names }) {
             Ok(()) => Ok(FunId(id)),
             Err(e) => {
-                let _ = self.funs.pop();
+                let _ = self.births.pop();
                 Err(Memory::from(e))
             }
         }
     }
 
-    // The entry with a number.
-    #[inline]
-    fn find(&self, part: Part) -> &Entry
-        requires { IsIn (trees self.now) part }
-        ensures { Stands (trees self.now) result.now part }
+    // Adds the places of the own names of the next node.
+    fn add_names(&mut self, names: &[usize]) -> Result<Span, Memory>
+        ensures added { IfOk result (λ span. names_of self.new.names.items span ≡ names.now) }
+        ensures within { IfOk result (IsWithin self.new.names.items) }
+        ensures nodes { trees self.new ≡ trees self.old }
+        ensures program { program_of self.new ≡ program_of self.old }
     {
-        match part {
-            Part::Expr(id) => &self.entries[self.exprs[id.0 as usize]],
-            Part::Stmt(id) => &self.entries[self.stmts[id.0 as usize]],
-            Part::Fun(id) => &self.entries[self.funs[id.0 as usize]],
-        }
+        let from = self.names.len();
+        self.names.extend_from_slice(names)?;
+        let to = self.names.len();
+        Ok(Span { from, to })
+    }
+
+    fn names_in(&self, span: Span) -> &[usize]
+        requires { IsWithin self.now.names.items span }
+        ensures { result.now ≡ names_of self.now.names.items span }
+    {
+        &self.names[span.from..span.to]
     }
 
     /// The expression with a number of the tree.
@@ -139,10 +177,7 @@ impl Tree {
             plain_expr (trees self.now) result.now (expr_place e) (expr_names e) ≡ e }
         ensures parts { AreExprParts (trees self.now) result.now }
     {
-        match self.find(Part::Expr(id)) {
-            Entry::Expr(node, _, _) => node,
-            _ => unreachable!(),
-        }
+        &self.exprs[id.0 as usize].node
     }
 
     /// The place of an expression: the byte at which its first token begins.
@@ -150,10 +185,7 @@ impl Tree {
         requires { IsExpr (trees self.now) id }
         ensures { result ≡ expr_place (expr_at (trees self.now) id) }
     {
-        match self.find(Part::Expr(id)) {
-            Entry::Expr(_, at, _) => *at,
-            _ => unreachable!(),
-        }
+        self.exprs[id.0 as usize].at
     }
 
     /// The places of an expression's own names, in the order of the text.
@@ -161,10 +193,7 @@ impl Tree {
         requires { IsExpr (trees self.now) id }
         ensures { result.now ≡ expr_names (expr_at (trees self.now) id) }
     {
-        match self.find(Part::Expr(id)) {
-            Entry::Expr(_, _, names) => names.as_slice(),
-            _ => unreachable!(),
-        }
+        self.names_in(self.exprs[id.0 as usize].names)
     }
 
     /// The statement with a number of the tree.
@@ -174,10 +203,7 @@ impl Tree {
             plain_stmt (trees self.now) result.now (stmt_place s) (stmt_names s) ≡ s }
         ensures parts { AreStmtParts (trees self.now) result.now }
     {
-        match self.find(Part::Stmt(id)) {
-            Entry::Stmt(node, _, _) => node,
-            _ => unreachable!(),
-        }
+        &self.stmts[id.0 as usize].node
     }
 
     /// The place of a statement: the byte at which its first token begins.
@@ -185,10 +211,7 @@ impl Tree {
         requires { IsStmt (trees self.now) id }
         ensures { result ≡ stmt_place (stmt_at (trees self.now) id) }
     {
-        match self.find(Part::Stmt(id)) {
-            Entry::Stmt(_, at, _) => *at,
-            _ => unreachable!(),
-        }
+        self.stmts[id.0 as usize].at
     }
 
     /// The places of a statement's own names, in the order of the text.
@@ -196,10 +219,7 @@ impl Tree {
         requires { IsStmt (trees self.now) id }
         ensures { result.now ≡ stmt_names (stmt_at (trees self.now) id) }
     {
-        match self.find(Part::Stmt(id)) {
-            Entry::Stmt(_, _, names) => names.as_slice(),
-            _ => unreachable!(),
-        }
+        self.names_in(self.stmts[id.0 as usize].names)
     }
 
     /// The function with a number of the tree.
@@ -209,10 +229,7 @@ impl Tree {
             plain_fun (trees self.now) result.now (fun_names g) ≡ g }
         ensures parts { AreFunParts (trees self.now) result.now }
     {
-        match self.find(Part::Fun(id)) {
-            Entry::Fun(node, _) => node,
-            _ => unreachable!(),
-        }
+        &self.funs[id.0 as usize].node
     }
 
     /// The places of a function's own name, where it has one, and of its parameters.
@@ -220,10 +237,7 @@ impl Tree {
         requires { IsFun (trees self.now) id }
         ensures { result.now ≡ fun_names (fun_at (trees self.now) id) }
     {
-        match self.find(Part::Fun(id)) {
-            Entry::Fun(_, names) => names.as_slice(),
-            _ => unreachable!(),
-        }
+        self.names_in(self.funs[id.0 as usize].names)
     }
 
     /// The statements of the program.
