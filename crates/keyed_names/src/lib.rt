@@ -3,6 +3,8 @@
 
 mod keys;
 mod names;
+mod numbers;
 
 pub use keys::Keys;
 pub use names::Names;
+pub use numbers::{NumberHasher, NumberKeys};
