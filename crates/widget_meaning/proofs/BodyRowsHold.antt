@@ -1,7 +1,7 @@
 -- The rows of single bodies hold: both sides compute to the same.
 use Rattle.std.proofs.Common.{◌≡◌, refl}
 use Rattle.std.specs.Prelude.{Some, None, [], ◌∷◌, codes}
-use Rattle.widget_meaning.specs.Values.{Due, Nodes}
+use Rattle.widget_meaning.specs.Values.{PastLimit, Nodes}
 use Rattle.plain_tree.specs.Trees.{End}
 use Rattle.widget_meaning.specs.Rows.{Row, rendered}
 use Rattle.widget_meaning.specs.PageRows.{Events}
@@ -77,7 +77,7 @@ replaced_by_text_page-holds : shown (rendered replaced_by_text) ≡ page (words 
 unfolding widgets_on_literals
 replaced_by_text_page-holds = refl
 
-crowded_row-holds : Row crowded (Some (Due Nodes)) 7 [] []
+crowded_row-holds : Row crowded (Some (PastLimit Nodes)) 7 [] []
 unfolding widgets_on_literals
 crowded_row-holds = record { stop_is = refl; spent_is = refl; log_is = refl; uncaught_is = refl }
 

@@ -6,13 +6,13 @@ use Rattle.std.specs.Option.{option_map_or}
 use Rattle.widget_meaning.specs.Values.{Value, Undefined}
 use Rattle.plain_tree.specs.Trees.{Label}
 use Rattle.widget_meaning.specs.Trees.{Trees, label_of}
-use Rattle.widget_meaning.specs.OwnState.{State, with_new_cell, Notes}
+use Rattle.widget_meaning.specs.OwnState.{State, with_new_cell, Kept}
 use Rattle.widget_meaning.specs.Plan.{Plan}
 use Rattle.widget_meaning.specs.NativeNames.{ReadNative, Query, GetValue, GetValues, GetStyle, GetClass, GetTitle, GetCheck, Explode, Count, GetParent, GetTagName, GetMark, WriteNative, Append, Remove, Empty, Replace, SetValue, SetStyle, SetClass, SetTitle, SetCheck, SetEnabled, Focus, Blur, On, Off, Fire, Each, SetMark, Protect, Bubble, DomNative, DomQuery, DomAppend, DomTag, DomText, NativeId, OfGlobal, OfMath, OfPrototype, OfText, OfList, OfAdsafe, OfDom, OfRead, OfWrite}
 use Rattle.widget_meaning.specs.PageForms.{want_all, is_input, is_text_node, want_one, want_bunch, with_label}
 use Rattle.query_grammar.specs.Steps.{Step}
 use Rattle.widget_meaning.specs.BunchReads.{query, read_native, give_page_text, query_steps, get_value, get_values, get_attribute, get_style, explode, get_parent, get_tag_name, read_method, exploded, with_bunch}
-use Rattle.widget_meaning.specs.BunchWrites.{appended, write_native, alter, alter_for, append_trees, append, remove, replace, set_value, set_style, set_attribute, set_flag, focus, blur, listen, hush, fired, fire, each_called, each, write_method, with_copies, emptied, relabel, with_text_node, valued, alter_each, noted}
+use Rattle.widget_meaning.specs.BunchWrites.{appended, write_native, alter, alter_for, append_trees, append, remove, replace, set_value, set_style, set_attribute, set_flag, focus, blur, listen, hush, fired, fire, each_called, each, write_method, with_copies, emptied, relabel, with_text_node, valued, alter_each, change_kept}
 use Rattle.widget_meaning.specs.DomNatives.{dom_native, give_node, dom_tag, append_to_root, dom_append}
 use Rattle.widget_meaning.specs.Natives.{run_native}
 use Rattle.widget_meaning.specs.Keeps.{Invariant, Keeps}
@@ -68,8 +68,8 @@ module _ (inv : Invariant) where
   each_valued_kept : (t ns : List ℕ) (s : State) → R inv s → R inv (fold (valued t) s ns)
   each_valued_kept t ns s hr = fold_kept (valued t) (valued_kept t) ns s hr
 
-  each_noted_kept : (f : Notes → Notes) (ns : List ℕ) (s : State) → R inv s → R inv (fold (noted f) s ns)
-  each_noted_kept f ns s hr = fold_kept (noted f) (λ t n k. k) ns s hr
+  each_changed_kept : (f : Kept → Kept) (ns : List ℕ) (s : State) → R inv s → R inv (fold (change_kept f) s ns)
+  each_changed_kept f ns s hr = fold_kept (change_kept f) (λ t n k. k) ns s hr
 
   pub want_bunch_r : (x0 : Value) (x1 : State) (x2 : (List ℕ → Plan)) → R inv x1 → ((y0 : List ℕ) → Keeps inv (x2 y0)) → Keeps inv (want_bunch x0 x1 x2)
   want_bunch_r v s k hr f0 = search (found)
@@ -171,7 +171,7 @@ module _ (inv : Invariant) where
   blur_r ns b s hr = search (alter_r)
 
   pub listen_r : (x0 : List ℕ) (x1 : List ℕ) (x2 : Value) (x3 : Value) (x4 : State) → R inv x4 → Keeps inv (listen x0 x1 x2 x3 x4)
-  listen_r ns t f b s hr = search (wanted, want_function_r, charged, paid, ended, each_noted_kept) depth 8 fits 4000
+  listen_r ns t f b s hr = search (wanted, want_function_r, charged, paid, ended, each_changed_kept) depth 8 fits 4000
 
   pub hush_r : (x0 : List ℕ) (x1 : Value) (x2 : Value) (x3 : State) → R inv x3 → Keeps inv (hush x0 x1 x2 x3)
   hush_r ns Undefined b s hr = search (alter_each_r)

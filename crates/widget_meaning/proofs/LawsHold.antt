@@ -1,10 +1,10 @@
 -- The laws of the whole.
-use Rattle.std.proofs.Common.{◌≡◌, ℕ, zero, suc, ◌+◌, ◌-◌, ◌*◌, ◌≤◌, List, [], ◌∷◌, ◌++◌, Bool, true, false, refl, ap, ◌∙◌, arith}
+use Rattle.std.proofs.Common.{◌≡◌, ℕ, zero, suc, ◌+◌, ◌-◌, ◌*◌, ◌/◌, ◌≤◌, List, [], ◌∷◌, ◌++◌, Bool, true, false, refl, ap, ◌∙◌, arith}
 use Rattle.std.specs.Prelude.{nat_lt, if◌then◌else◌, Option, Some, None}
 use Rattle.std.specs.List.{fold}
 use Rattle.std.specs.Str.{bytes_eq}
 use Rattle.js_tree.specs.Plain.{Stmts, Fun}
-use Rattle.widget_meaning.specs.Limits.{max_timers}
+use Rattle.widget_meaning.specs.Limits.{max_timers, min_delay}
 use Rattle.widget_meaning.specs.Values.{Completion, Normal, Is, Refers, Return, Break, Continue, Throw, Stop}
 use Rattle.plain_tree.specs.Trees.{Label, TextOf, ElementOf}
 use Rattle.widget_meaning.specs.Trees.{node_at, label_of}
@@ -188,7 +188,7 @@ occurs_grant e (Some n) o = let p : OwnState = with_value (label_of n o.forest) 
 
 live_grant : (o : OwnState) (i : Item) → (live_item o i).grant ≡ o.grant
 live_grant o (Occurs e) = occurs_grant e (node_at o.forest e.path) o
-live_grant o (Advance d) = dues_grant (max_timers * (d + 2)) (o.clock + d) o
+live_grant o (Advance d) = dues_grant (max_timers * (d / min_delay + 2)) (o.clock + d) o
 
 stopped_grant : (o : OwnState) (i : Item) → (stopped_item o i).grant ≡ o.grant
 stopped_grant o (Occurs e) = refl

@@ -1,4 +1,5 @@
 pub mod Runs
+pub mod PlansHold
 pub mod Parts
 pub mod ArenaHolds
 pub mod LawsHold

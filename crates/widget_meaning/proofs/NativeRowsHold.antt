@@ -1,7 +1,7 @@
 -- The rows, computed.
 use Rattle.std.proofs.Common.{refl}
 use Rattle.std.specs.Prelude.{Some, None, [], ◌∷◌, codes}
-use Rattle.widget_meaning.specs.Values.{Due, Number}
+use Rattle.widget_meaning.specs.Values.{PastLimit, Number}
 use Rattle.widget_meaning.specs.Rows.{Row, rendered}
 use Rattle.widget_meaning.proofs.OnLiterals.{widgets_on_literals}
 use Rattle.widget_meaning.specs.NativeRows.{NativeRows, sorted_texts, underscore_get, mapped_squares, hidden_get, json_and_back, json_fraction, json_banned_name}
@@ -26,7 +26,7 @@ json_and_back-holds : Row (rendered json_and_back) None 81 (codes "{\"a\":\"x\",
 unfolding widgets_on_literals
 json_and_back-holds = record { stop_is = refl; spent_is = refl; log_is = refl; uncaught_is = refl }
 
-json_fraction-holds : Row (rendered json_fraction) (Some (Due Number)) 10 [] []
+json_fraction-holds : Row (rendered json_fraction) (Some (PastLimit Number)) 10 [] []
 unfolding widgets_on_literals
 json_fraction-holds = record { stop_is = refl; spent_is = refl; log_is = refl; uncaught_is = refl }
 

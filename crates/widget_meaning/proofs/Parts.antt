@@ -11,11 +11,11 @@ use Rattle.widget_meaning.specs.Values.{Value, Text, Own, Completion, Normal, Is
 use Rattle.widget_meaning.specs.OwnState.{State, Amounts, Function, cell_at, with_new_cell, with_new_scope, new_array, plain_object, new_function, Scope}
 use Rattle.widget_meaning.specs.Plan.{Plan, Place, Ret, Halt, Do, Eval, Target, Exec, Pass, Call, RunNative, Hear, Hearing, WhileLoop, DoLoop, ForLoop, ForInLoop, Out, Stopped, OutOfFuel, and_then, charge, ticks, after, on_normal}
 use Rattle.widget_meaning.specs.Costs.{make, give, throw, within, sum, object_cost, with_counts, scope_cost}
-use Rattle.widget_meaning.specs.Operators.{binary, same, unary}
+use Rattle.widget_meaning.specs.Operators.{binary, is_same, unary}
 use Rattle.widget_meaning.specs.Properties.{property, names_of, put, index_name, read}
 use Rattle.widget_meaning.specs.Scopes.{assign, fun_name, fun_list, without_name, call_scope}
 use Rattle.widget_meaning.specs.Calls.{statements, stmt_list, without_directive, with_variable, declare, call_end, enter, enter_scope, invoke, to_primitive, primitive_result}
-use Rattle.widget_meaning.specs.Expressions.{expr_list, property_list, array_parts, object_parts, subscript_read, subscript_target, expression, target, callee, binary_right, delete_target, step_target, step_converted, assign_target, assign_with, compound, referred, and_right, or_right, choose, converts, converted_left, result, arguments_then, operate, refer, unary_on, write}
+use Rattle.widget_meaning.specs.Expressions.{expr_list, property_list, array_parts, object_parts, subscript_read, subscript_target, expression, target, callee, binary_right, delete_target, step_target, step_converted, assign_target, assign_with, compound, referred, and_right, or_right, choose, is_converting, converted_left, result, arguments_then, operate, refer, unary_on, write}
 use Rattle.widget_meaning.specs.Statements.{decl_list, declarations, expressions, branch, loop_test, loop_end, while_next, do_next, for_init, for_again, for_next, for_in, for_in_next, for_in_over, clause_list, bodies, choose_case, switch_on, switch_end, in_catch, caught, finally, last_end, case_tested}
 use Rattle.widget_meaning.specs.Natives.{run_native}
 use Rattle.widget_meaning.specs.Dispatch.{heard, dispatch_end, dispatch, handlers}
@@ -49,7 +49,7 @@ catch_holds x b (Refers r) p s g = refl
 catch_holds x b (Return v) p s g = refl
 catch_holds x b (Throw v) p s g = refl
 
-converted_holds : (op : BinOp) (v w : Value) (p : Place) (s : State) (g : ℕ) → converts op ≡ true → run_plan g (operate op v w p.depth s) ≡ then_do (run_plan g (to_primitive v p.depth s)) (converted_left op w p.depth)
+converted_holds : (op : BinOp) (v w : Value) (p : Place) (s : State) (g : ℕ) → is_converting op ≡ true → run_plan g (operate op v w p.depth s) ≡ then_do (run_plan g (to_primitive v p.depth s)) (converted_left op w p.depth)
 converted_holds op v w p s g h =
     ap (λ c. run_plan g (if c then and_then (to_primitive v p.depth s) (converted_left op w p.depth) else result (binary op v w) s)) h
     ∙ run_and_then g (to_primitive v p.depth s) (converted_left op w p.depth)
@@ -238,7 +238,7 @@ statement_laws at names p s g = record {
   switch = λ e cs. first g (Exec (tree.StmtAt at names (tree.Switch e cs)) p) (Eval e p) s (switch_on (clause_list cs) p) refl;
   switch_cases = λ v cs. run_and_then g (choose_case v cs cs p s) switch_end;
   case = λ v all e b cs. part g (Eval e p) s (case_tested v all b cs p);
-  case_same = λ v w all b cs. chosen (same v w) g (statements (b ++ bodies cs) p s) (choose_case v all cs p s);
+  case_same = λ v w all b cs. chosen (is_same v w) g (statements (b ++ bodies cs) p s) (choose_case v all cs p s);
   default_passed = λ v all b cs. refl;
   default_taken = λ v all. refl;
   try = λ a c b. then_part g (Exec (tree.StmtAt at names (tree.Try a c b)) p) s (and_then (statements (stmt_list a) p s) (caught c p)) (finally b p) refl ∙ ap (λ r. then_do r (finally b p)) (run_and_then g (statements (stmt_list a) p s) (caught c p));

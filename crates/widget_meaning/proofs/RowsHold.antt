@@ -4,7 +4,7 @@ use Rattle.std.specs.Prelude.{Some, None, [], ◌∷◌, codes}
 use Rattle.std.specs.Fmt as fmt
 use Rattle.code_units.specs.Whole as whole
 use Rattle.widget_meaning.specs.Scopes as scopes
-use Rattle.widget_meaning.specs.Values.{Due, Depth, Number}
+use Rattle.widget_meaning.specs.Values.{PastLimit, Depth, Number}
 use Rattle.widget_meaning.specs.Rows.{Rows, Row, rendered, log_sum, joined_left, number_limit, inexact_quotient, nan_as_name, bare_concat, endless_call, declared_name, expression_name, uncaught_object}
 
 log_sum_holds : Row (rendered log_sum) None 10 (codes "3" ∷ []) []
@@ -15,11 +15,11 @@ joined_left_holds : Row (rendered joined_left) None 14 (codes "a12" ∷ []) []
 unfolding fmt.digits whole.number_in whole.trimmed scopes.stmt_vars
 joined_left_holds = record { stop_is = refl; spent_is = refl; log_is = refl; uncaught_is = refl }
 
-number_limit_holds : Row (rendered number_limit) (Some (Due Number)) 32 (codes "9007199254740991" ∷ []) []
+number_limit_holds : Row (rendered number_limit) (Some (PastLimit Number)) 32 (codes "9007199254740991" ∷ []) []
 unfolding fmt.digits whole.number_in whole.trimmed scopes.stmt_vars
 number_limit_holds = record { stop_is = refl; spent_is = refl; log_is = refl; uncaught_is = refl }
 
-inexact_quotient_holds : Row (rendered inexact_quotient) (Some (Due Number)) 21 (codes "3" ∷ []) []
+inexact_quotient_holds : Row (rendered inexact_quotient) (Some (PastLimit Number)) 21 (codes "3" ∷ []) []
 unfolding fmt.digits whole.number_in whole.trimmed scopes.stmt_vars
 inexact_quotient_holds = record { stop_is = refl; spent_is = refl; log_is = refl; uncaught_is = refl }
 
@@ -31,7 +31,7 @@ bare_concat_holds : Row (rendered bare_concat) None 28 (codes "bad receiver" ∷
 unfolding fmt.digits whole.number_in whole.trimmed scopes.stmt_vars
 bare_concat_holds = record { stop_is = refl; spent_is = refl; log_is = refl; uncaught_is = refl }
 
-endless_call_holds : Row (rendered endless_call) (Some (Due Depth)) 601 [] []
+endless_call_holds : Row (rendered endless_call) (Some (PastLimit Depth)) 601 [] []
 unfolding fmt.digits whole.number_in whole.trimmed scopes.stmt_vars
 endless_call_holds = record { stop_is = refl; spent_is = refl; log_is = refl; uncaught_is = refl }
 

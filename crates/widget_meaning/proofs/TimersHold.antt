@@ -1,11 +1,11 @@
 -- The waiting timers of a widget stay few and ahead of its clock, and the bound on the turns of an advance is never met.
-use Rattle.std.proofs.Common.{◌≡◌, ℕ, zero, suc, ◌+◌, ◌-◌, ◌*◌, ◌<◌, ◌≤◌, List, [], ◌∷◌, ◌++◌, length, Bool, true, false, refl, sym, ap, subst, inl, inr, ◌⊎◌, arith}
+use Rattle.std.proofs.Common.{◌≡◌, ℕ, zero, suc, ◌+◌, ◌-◌, ◌*◌, ◌/◌, ◌<◌, ◌≤◌, List, [], ◌∷◌, ◌++◌, length, Bool, true, false, refl, sym, ap, subst, inl, inr, ◌⊎◌, arith}
 use Rattle.std.specs.Prelude.{codes, nat_le, nat_lt, nat_eq, if◌then◌else◌, Option, Some, None}
 use Rattle.std.specs.List.{fold}
 use Rattle.std.specs.Str.{bytes_eq}
-use Rattle.std.proofs.lemmas.Bool.{leb-true, leb-false, eqb-true, eqb-false}
+use Rattle.std.proofs.lemmas.Bool.{leb-true, leb-false, ltb-true, ltb-false, eqb-true, eqb-false}
 use Rattle.js_tree.specs.Plain.{Stmts, Fun}
-use Rattle.widget_meaning.specs.Limits.{max_units, max_timers}
+use Rattle.widget_meaning.specs.Limits.{max_units, max_timers, min_delay}
 use Rattle.widget_meaning.specs.Values.{Normal, Is, Refers, Return, Break, Continue, Throw, Stop}
 use Rattle.plain_tree.specs.Trees.{Label, TextOf, ElementOf}
 use Rattle.widget_meaning.specs.Trees.{label_of, node_at, relabelled}
@@ -23,10 +23,10 @@ use Rattle.widget_meaning.proofs.KeepingForms.{dispatch_r}
 use Rattle.widget_meaning.proofs.KeepingJobs.{timer_plan_r, library_plan_r, go_plan_r}
 use Rattle.tree_ops.specs.Labels.{with_attribute}
 
--- how many timers are due up to a time
-abbrev due_now : ℕ → List Timer → ℕ
-due_now d [] = 0
-due_now d (t ∷ ts) = if nat_le t.due d then suc (due_now d ts) else due_now d ts
+-- how many timers are due before a time
+abbrev due_before : ℕ → List Timer → ℕ
+due_before e [] = 0
+due_before e (t ∷ ts) = if nat_lt t.due e then suc (due_before e ts) else due_before e ts
 
 -- a timer is due at a time
 abbrev HasDue : ℕ → List Timer → Type 0
@@ -45,9 +45,6 @@ below_le m n k h i = omega arith
 
 less_le : (m n : ℕ) → m < n → m ≤ n
 less_le m n h = omega arith
-
-no_less : (m n : ℕ) → m < n → n ≤ m → ⊥
-no_less m n h i = omega arith
 
 later_than : (c d n : ℕ) → c ≡ d → c + 10 ≤ n → d < n
 later_than c d n e h = omega arith
@@ -70,8 +67,14 @@ fewer m n e h = omega arith
 same_as : (m n : ℕ) → m ≡ n → m ≤ n
 same_as m n e = omega arith
 
-not_equal : (m n : ℕ) → m < n → n ≡ m → ⊥
-not_equal m n h e = omega arith
+no_later : (m n : ℕ) → m < n → n ≤ m → ⊥
+no_later m n h i = omega arith
+
+past_end : (e now clock due : ℕ) → e ≤ now + 10 → clock ≡ now → clock + 10 ≤ due → e ≤ due
+past_end e now clock due i c d = omega arith
+
+before_end : (due d e : ℕ) → due ≡ d → d < e → due < e
+before_end due d e h i = omega arith
 
 -- lists
 no_earlier : (m n : ℕ) (ts : List Timer) → m ≤ n → NoneBefore n ts → NoneBefore m ts
@@ -86,26 +89,26 @@ length_one : (ts : List Timer) (t : Timer) → length (ts ++ t ∷ []) ≡ suc (
 length_one [] t = refl
 length_one (u ∷ us) t = ap suc (length_one us t)
 
--- one that is due later is not counted
-not_counted : (d n : ℕ) (t : Timer) (b : Bool) → nat_le t.due d ≡ b → d < t.due → (if b then suc n else n) ≡ n
-not_counted d n t true e h = absurd (no_less d t.due h (leb-true t.due d e))
-not_counted d n t false e h = refl
+-- one that is due at the end or later is not counted
+not_counted : (e n : ℕ) (t : Timer) (b : Bool) → nat_lt t.due e ≡ b → e ≤ t.due → (if b then suc n else n) ≡ n
+not_counted e n t true h i = absurd (no_later t.due e (ltb-true t.due e h) i)
+not_counted e n t false h i = refl
 
-counted : (d n : ℕ) (t : Timer) (b : Bool) → nat_le t.due d ≡ b → t.due ≡ d → (if b then suc n else n) ≡ suc n
-counted d n t true e h = refl
-counted d n t false e h = absurd (not_equal d t.due (leb-false t.due d e) h)
+counted : (e n : ℕ) (t : Timer) (b : Bool) → nat_lt t.due e ≡ b → t.due < e → (if b then suc n else n) ≡ suc n
+counted e n t true h i = refl
+counted e n t false h i = absurd (no_later t.due e i (ltb-false t.due e h))
 
-due_one : (d : ℕ) (ts : List Timer) (t : Timer) → d < t.due → due_now d (ts ++ t ∷ []) ≡ due_now d ts
-due_one d [] t h = not_counted d 0 t (nat_le t.due d) refl h
-due_one d (u ∷ us) t h = ap (λ n. if nat_le u.due d then suc n else n) (due_one d us t h)
+due_one : (e : ℕ) (ts : List Timer) (t : Timer) → e ≤ t.due → due_before e (ts ++ t ∷ []) ≡ due_before e ts
+due_one e [] t h = not_counted e 0 t (nat_lt t.due e) refl h
+due_one e (u ∷ us) t h = ap (λ n. if nat_lt u.due e then suc n else n) (due_one e us t h)
 
 due_of : (n m : ℕ) (b : Bool) → n ≤ m → (if b then suc n else n) ≤ suc m
 due_of n m true h = up_both n m h
 due_of n m false h = up n m h
 
-due_few : (d : ℕ) (ts : List Timer) → due_now d ts ≤ length ts
-due_few d [] = same_le 0
-due_few d (t ∷ ts) = due_of (due_now d ts) (length ts) (nat_le t.due d) (due_few d ts)
+due_few : (e : ℕ) (ts : List Timer) → due_before e ts ≤ length ts
+due_few e [] = same_le 0
+due_few e (t ∷ ts) = due_of (due_before e ts) (length ts) (nat_lt t.due e) (due_few e ts)
 
 has_ahead : (m d : ℕ) (ts : List Timer) → NoneBefore m ts → HasDue d ts → m ≤ d
 has_ahead m d [] h i = absurd i
@@ -156,45 +159,47 @@ pushed : (b : Bool) (m n : ℕ) → suc m ≡ n → suc (if b then suc m else m)
 pushed true m n e = ap suc e
 pushed false m n e = e
 
-one_due_at : (d : ℕ) (t : Timer) (ts : List Timer) (b : Bool) → nat_eq t.due d ≡ b → HasDue d (t ∷ ts) → (HasDue d ts → suc (due_now d (without_due d ts)) ≡ due_now d ts) → suc (due_now d (if b then ts else t ∷ without_due d ts)) ≡ due_now d (t ∷ ts)
-one_due_at d t ts true e h f = sym (counted d (due_now d ts) t (nat_le t.due d) refl (eqb-true t.due d e))
-one_due_at d t ts false e h f = pushed (nat_le t.due d) (due_now d (without_due d ts)) (due_now d ts) (f (other d t ts e h))
+one_due_at : (e d : ℕ) (t : Timer) (ts : List Timer) (b : Bool) → nat_eq t.due d ≡ b → d < e → HasDue d (t ∷ ts)
+    → (HasDue d ts → suc (due_before e (without_due d ts)) ≡ due_before e ts)
+    → suc (due_before e (if b then ts else t ∷ without_due d ts)) ≡ due_before e (t ∷ ts)
+one_due_at e d t ts true h l i f = sym (counted e (due_before e ts) t (nat_lt t.due e) refl (before_end t.due d e (eqb-true t.due d h) l))
+one_due_at e d t ts false h l i f = pushed (nat_lt t.due e) (due_before e (without_due d ts)) (due_before e ts) (f (other d t ts h i))
 
-one_due : (d : ℕ) (ts : List Timer) → HasDue d ts → suc (due_now d (without_due d ts)) ≡ due_now d ts
-one_due d [] h = absurd h
-one_due d (t ∷ ts) h = one_due_at d t ts (nat_eq t.due d) refl h (one_due d ts)
+one_due : (e d : ℕ) (ts : List Timer) → d < e → HasDue d ts → suc (due_before e (without_due d ts)) ≡ due_before e ts
+one_due e d [] l h = absurd h
+one_due e d (t ∷ ts) l h = one_due_at e d t ts (nat_eq t.due d) refl l h (one_due e d ts l)
 
--- within a turn at a time, no more are due then than at its start
-record Waits (now count : ℕ) (ts : List Timer) (clock : ℕ) : Type 0 where
+-- within a turn at a time, no more timers are due before an end, up to which none that is started is due
+record Waits (now e count : ℕ) (ts : List Timer) (clock : ℕ) : Type 0 where
   clock_is : clock ≡ now
   few : length ts ≤ max_timers
   ahead : NoneBefore now ts
-  due : due_now now ts ≤ count
+  due : due_before e ts ≤ count
 
-abbrev waiting : ℕ → ℕ → Invariant
-waiting now count = record {
-  Holds = λ c ts clock. Waits now count ts clock;
+abbrev waiting : (now e count : ℕ) → e ≤ now + min_delay → Invariant
+waiting now e count i = record {
+  Holds = λ c ts clock. Waits now e count ts clock;
   paid = λ c cost ts clock h f. h;
-  started = λ c ts clock t h l d. let later : now < t.due = later_than clock now t.due h.clock_is d in record {
+  started = λ c ts clock t h l d. record {
     clock_is = h.clock_is;
     few = one_more (length ts) (length (ts ++ t ∷ [])) l (length_one ts t);
-    ahead = with_one now ts t (less_le now t.due later) h.ahead;
-    due = chain_le _ (due_now now ts) count (same_as _ _ (due_one now ts t later)) h.due;
+    ahead = with_one now ts t (less_le now t.due (later_than clock now t.due h.clock_is d)) h.ahead;
+    due = chain_le _ (due_before e ts) count (same_as _ _ (due_one e ts t (past_end e now clock t.due i h.clock_is d))) h.due;
   };
 }
 
-abbrev WaitsOf : ℕ → ℕ → OwnState → Type 0
-WaitsOf now count o = Waits now count o.timers o.clock
+abbrev WaitsOf : ℕ → ℕ → ℕ → OwnState → Type 0
+WaitsOf now e count o = Waits now e count o.timers o.clock
 
-module _ (now count : ℕ) where
-  choose : (b : Bool) (o p : OwnState) → WaitsOf now count o → WaitsOf now count p → WaitsOf now count (if b then o else p)
+module _ (now e count : ℕ) (i : e ≤ now + min_delay) where
+  choose : (b : Bool) (o p : OwnState) → WaitsOf now e count o → WaitsOf now e count p → WaitsOf now e count (if b then o else p)
   choose true o p h k = h
   choose false o p h k = k
 
-  noted_r : (t : List ℕ) (o : OwnState) → WaitsOf now count o → WaitsOf now count (noted t o)
+  noted_r : (t : List ℕ) (o : OwnState) → WaitsOf now e count o → WaitsOf now e count (noted t o)
   noted_r t o h = choose (nat_lt max_units (o.counts.units + (length t + 1))) _ _ h h
 
-  end_r : (e : End) (s : State) (o : OwnState) → WaitsOf now count o → WaitsOf now count (end_turn e s o)
+  end_r : (x : End) (s : State) (o : OwnState) → WaitsOf now e count o → WaitsOf now e count (end_turn x s o)
   end_r (Ended (Throw v)) s o h = noted_r (note_text s v) o h
   end_r (Ended Normal) s o h = h
   end_r (Ended (Is v)) s o h = h
@@ -205,69 +210,93 @@ module _ (now count : ℕ) where
   end_r (Stopped c) s o h = h
   end_r OutOfFuel s o h = h
 
-  turn_r : (k : State → Plan) (o : OwnState) → Keeps (waiting now count) (k (begun o)) → WaitsOf now count (turn k o)
-  turn_r k o f = end_r (run_plan o.grant (k (begun o))).how (run_plan o.grant (k (begun o))).state _ (run_keeps (waiting now count) o.grant (k (begun o)) f)
+  turn_r : (k : State → Plan) (o : OwnState) → Keeps (waiting now e count i) (k (begun o)) → WaitsOf now e count (turn k o)
+  turn_r k o f = end_r (run_plan o.grant (k (begun o))).how (run_plan o.grant (k (begun o))).state _ (run_keeps (waiting now e count i) o.grant (k (begun o)) f)
 
 -- after a turn the timers are few and ahead
-are_timers : (now count : ℕ) (o : OwnState) → WaitsOf now count o → AreTimers o
-are_timers now count o h = record { few = h.few; ahead = no_earlier o.clock now o.timers (same_as o.clock now h.clock_is) h.ahead }
+are_timers : (now e count : ℕ) (o : OwnState) → WaitsOf now e count o → AreTimers o
+are_timers now e count o h = record { few = h.few; ahead = no_earlier o.clock now o.timers (same_as o.clock now h.clock_is) h.ahead }
 
-waits : (o : OwnState) → AreTimers o → WaitsOf o.clock (due_now o.clock o.timers) o
-waits o h = record { clock_is = refl; few = h.few; ahead = h.ahead; due = same_le (due_now o.clock o.timers) }
+waits : (o : OwnState) → AreTimers o → WaitsOf o.clock 0 (due_before 0 o.timers) o
+waits o h = record { clock_is = refl; few = h.few; ahead = h.ahead; due = same_le (due_before 0 o.timers) }
 
 -- the turn of the next timer
-next_waits : (t : Timer) (o : OwnState) → AreTimers o → NoneBefore t.due o.timers → HasDue t.due o.timers → WaitsOf t.due (due_now t.due (without_due t.due o.timers)) (timer_turn t o)
-next_waits t o h a d =
-    let n : ℕ = due_now t.due (without_due t.due o.timers) in
-    turn_r t.due n (timer_plan t) (without_timer t o) (timer_plan_r (waiting t.due n) t (begun (without_timer t o)) (record {
+next_waits : (t : Timer) (o : OwnState) (e : ℕ) → e ≤ t.due + min_delay → AreTimers o → NoneBefore t.due o.timers → HasDue t.due o.timers
+    → WaitsOf t.due e (due_before e (without_due t.due o.timers)) (timer_turn t o)
+next_waits t o e i h a d =
+    let n : ℕ = due_before e (without_due t.due o.timers) in
+    turn_r t.due e n i (timer_plan t) (without_timer t o) (timer_plan_r (waiting t.due e n i) t (begun (without_timer t o)) (record {
       clock_is = refl;
       few = fewer (length (without_due t.due o.timers)) (length o.timers) (shorter t.due o.timers d) h.few;
       ahead = still_ahead t.due t.due o.timers a;
       due = same_le n;
     }))
 
--- each turn comes nearer to the limit
-nearer_now : (limit clock count before n : ℕ) → suc count ≡ before → 64 * (limit - clock) + before < suc n → 64 * (limit - clock) + count < n
-nearer_now limit clock count before n e h = omega arith
-
-nearer_later : (limit clock now count rest all before n : ℕ) → clock < now → now ≤ limit → count ≤ rest → suc rest ≡ all → all ≤ 64 → 64 * (limit - clock) + before < suc n → 64 * (limit - now) + count < n
-nearer_later limit clock now count rest all before n h i j e k l = omega arith
-
-same_time : (m n : ℕ) → m ≤ n → n ≤ m → m ≡ n
-same_time m n h i = omega arith
-
-nearer : (limit n : ℕ) (o : OwnState) (t : Timer) (b : Bool) → nat_le t.due o.clock ≡ b → AreTimers o → t.due ≤ limit → NoneBefore t.due o.timers → HasDue t.due o.timers
-    → 64 * (limit - o.clock) + due_now o.clock o.timers < suc n → 64 * (limit - t.due) + due_now t.due (without_due t.due o.timers) < n
-nearer limit n o t true e h l a d m =
-    let c : o.clock ≡ t.due = same_time o.clock t.due (has_ahead o.clock t.due o.timers h.ahead d) (leb-true t.due o.clock e) in
-    nearer_now limit t.due (due_now t.due (without_due t.due o.timers)) (due_now t.due o.timers) n (one_due t.due o.timers d)
-    (subst (λ x. 64 * (limit - x) + due_now x o.timers < suc n) c m)
-nearer limit n o t false e h l a d m =
-    let ts : List Timer = without_due t.due o.timers in
-    nearer_later limit o.clock t.due (due_now t.due ts) (length ts) (length o.timers) (due_now o.clock o.timers) n
-    (leb-false t.due o.clock e) l (due_few t.due ts) (shorter t.due o.timers d) h.few m
-
-less : (limit now m count n : ℕ) → m ≤ count → 64 * (limit - now) + count < n → 64 * (limit - now) + m < n
-less limit now m count n h i = omega arith
-
-after_next : (limit now count n : ℕ) (o : OwnState) → WaitsOf now count o → 64 * (limit - now) + count < n → 64 * (limit - o.clock) + due_now o.clock o.timers < n
-after_next limit now count n o h m = subst (λ x. 64 * (limit - x) + due_now x o.timers < n) (sym h.clock_is) (less limit now (due_now now o.timers) count n h.due m)
-
 -- with a greater bound an advance is the same, and it leaves the timers few and ahead
 abbrev Bounded : ℕ → ℕ → ℕ → OwnState → Type 0
 Bounded n k limit o = (due_turns k limit o ≡ due_turns n limit o) × AreTimers (due_turns n limit o)
 
-by_next : (n k limit : ℕ) (o : OwnState) → AreTimers o → 64 * (limit - o.clock) + due_now o.clock o.timers < suc n
-    → ((p : OwnState) → AreTimers p → p.clock ≤ limit → 64 * (limit - p.clock) + due_now p.clock p.timers < n → Bounded n k limit p)
+-- up to an end 10 after the clock or sooner, so many timers are still due, none of which is started now; behind it stand so many stretches of 10, in each of which at most 64 are due
+record Nears (limit n e w : ℕ) (o : OwnState) : Type 0 where
+  timers : AreTimers o
+  near : e ≤ o.clock + min_delay
+  far : limit < e + 10 * w
+  left : 64 * w + due_before e o.timers < n
+
+same_end : (e clock due p : ℕ) → e ≤ clock + 10 → clock ≤ due → p ≡ due → e ≤ p + 10
+same_end e clock due p h i c = omega arith
+
+end_le : (e clock due : ℕ) → e ≤ clock + 10 → clock ≤ due → e ≤ due + 10
+end_le e clock due h i = omega arith
+
+one_less : (w m count before n : ℕ) → m ≤ count → suc count ≡ before → 64 * w + before < suc n → 64 * w + m < n
+one_less w m count before n h e l = omega arith
+
+no_stretch : (limit due e : ℕ) → limit < e + 10 * 0 → e ≤ due → due ≤ limit → ⊥
+no_stretch limit due e h i l = omega arith
+
+next_stretch : (limit due e v : ℕ) → limit < e + 10 * suc v → e ≤ due → limit < due + 10 + 10 * v
+next_stretch limit due e v h i = omega arith
+
+next_left : (v m count rest all before n : ℕ) → m ≤ count → count ≤ rest → suc rest ≡ all → all ≤ 64 → 64 * suc v + before < suc n → 64 * v + m < n
+next_left v m count rest all before n h i e k l = omega arith
+
+end_next : (due p : ℕ) → p ≡ due → due + 10 ≤ p + 10
+end_next due p c = omega arith
+
+-- after the next timer: one less before the same end, or the end is 10 after it and one stretch fewer is left
+nearer : (limit n e w : ℕ) (o : OwnState) (t : Timer) (b : Bool) → nat_lt t.due e ≡ b → Nears limit (suc n) e w o → t.due ≤ limit
+    → NoneBefore t.due o.timers → HasDue t.due o.timers → (f : ℕ) × (v : ℕ) × Nears limit n f v (timer_turn t o)
+nearer limit n e w o t true b h l a d =
+    let c : ℕ = due_before e (without_due t.due o.timers) in
+    let i : o.clock ≤ t.due = has_ahead o.clock t.due o.timers h.timers.ahead d in
+    let x : WaitsOf t.due e c (timer_turn t o) = next_waits t o e (end_le e o.clock t.due h.near i) h.timers a d in
+    (e, w, record {
+      timers = are_timers t.due e c (timer_turn t o) x;
+      near = same_end e o.clock t.due (timer_turn t o).clock h.near i x.clock_is;
+      far = h.far;
+      left = one_less w (due_before e (timer_turn t o).timers) c (due_before e o.timers) n x.due (one_due e t.due o.timers (ltb-true t.due e b) d) h.left;
+    })
+nearer limit n e zero o t false b h l a d = absurd (no_stretch limit t.due e h.far (ltb-false t.due e b) l)
+nearer limit n e (suc v) o t false b h l a d =
+    let f : ℕ = t.due + 10 in
+    let ts : List Timer = without_due t.due o.timers in
+    let x : WaitsOf t.due f (due_before f ts) (timer_turn t o) = next_waits t o f (same_le f) h.timers a d in
+    (f, v, record {
+      timers = are_timers t.due f (due_before f ts) (timer_turn t o) x;
+      near = end_next t.due (timer_turn t o).clock x.clock_is;
+      far = next_stretch limit t.due e v h.far (ltb-false t.due e b);
+      left = next_left v (due_before f (timer_turn t o).timers) (due_before f ts) (length ts) (length o.timers) (due_before e o.timers) n x.due (due_few f ts) (shorter t.due o.timers d) h.timers.few h.left;
+    })
+
+by_next : (n k limit e w : ℕ) (o : OwnState) → Nears limit (suc n) e w o
+    → ((p : OwnState) (f v : ℕ) → Nears limit n f v p → Bounded n k limit p)
     → (r : Option Timer) → IsNext limit o.timers r
     → (on_due r limit o (due_turns k limit) ≡ on_due r limit o (due_turns n limit)) × AreTimers (on_due r limit o (due_turns n limit))
-by_next n k limit o h m f None i = (refl, record { few = h.few; ahead = no_earlier limit (suc limit) o.timers (up limit limit (same_le limit)) i })
-by_next n k limit o h m f (Some t) i =
-    let p : OwnState = timer_turn t o in
-    let c : ℕ = due_now t.due (without_due t.due o.timers) in
-    let w : WaitsOf t.due c p = next_waits t o h i.1.0 i.1.1 in
-    f p (are_timers t.due c p w) (chain_le p.clock t.due limit (same_as p.clock t.due w.clock_is) i.0)
-    (after_next limit t.due c n p w (nearer limit n o t (nat_le t.due o.clock) refl h i.0 i.1.0 i.1.1 m))
+by_next n k limit e w o h f None i = (refl, record { few = h.timers.few; ahead = no_earlier limit (suc limit) o.timers (up limit limit (same_le limit)) i })
+by_next n k limit e w o h f (Some t) i =
+    let x : (y : ℕ) × (v : ℕ) × Nears limit n y v (timer_turn t o) = nearer limit n e w o t (nat_lt t.due e) refl h i.0 i.1.0 i.1.1 in
+    f (timer_turn t o) x.0 x.1 x.2
 
 by_stop : (c : Option Stop) (o : OwnState) (f g : OwnState → OwnState) → AreTimers o → (f o ≡ g o) × AreTimers (g o) → (unless_stopped c o f ≡ unless_stopped c o g) × AreTimers (unless_stopped c o g)
 by_stop None o f g h e = e
@@ -282,32 +311,42 @@ no_greater n h = omega arith
 pred_le : (m n : ℕ) → suc m ≤ suc n → m ≤ n
 pred_le m n h = omega arith
 
-bounded : (n k limit : ℕ) (o : OwnState) → n ≤ k → AreTimers o → o.clock ≤ limit → 64 * (limit - o.clock) + due_now o.clock o.timers < n → Bounded n k limit o
-bounded zero k limit o l h i m = absurd (nothing_less _ m)
-bounded (suc n) zero limit o l h i m = absurd (no_greater n l)
-bounded (suc n) (suc k) limit o l h i m =
-    by_stop o.stop o (λ p. on_due (next_due limit p.timers) limit p (due_turns k limit)) (λ p. on_due (next_due limit p.timers) limit p (due_turns n limit)) h
-    (by_next n k limit o h m (λ p a b c. bounded n k limit p (pred_le n k l) a b c) (next_due limit o.timers) (next_is limit o.timers))
+bounded : (n k limit e w : ℕ) (o : OwnState) → n ≤ k → Nears limit n e w o → Bounded n k limit o
+bounded zero k limit e w o l h = absurd (nothing_less _ h.left)
+bounded (suc n) zero limit e w o l h = absurd (no_greater n l)
+bounded (suc n) (suc k) limit e w o l h =
+    by_stop o.stop o (λ p. on_due (next_due limit p.timers) limit p (due_turns k limit)) (λ p. on_due (next_due limit p.timers) limit p (due_turns n limit)) h.timers
+    (by_next n k limit e w o h (λ p f v i. bounded n k limit f v p (pred_le n k l) i) (next_due limit o.timers) (next_is limit o.timers))
 
-enough_turns : (d c count len : ℕ) → count ≤ len → len ≤ 64 → 64 * (c + d - c) + count < 64 * (d + 2)
-enough_turns d c count len h i = omega arith
+enough_turns : (w count len : ℕ) → count ≤ len → len ≤ 64 → 64 * w + count < 64 * (w + 2)
+enough_turns w count len h i = omega arith
 
-at_end : (c d : ℕ) → c ≤ c + d
-at_end c d = omega arith
+stretches : (c d : ℕ) → c + d < c + 10 + 10 * (d / 10)
+stretches c d = omega arith
 
 no_fewer : (n m : ℕ) → n ≤ n + m
 no_fewer n m = omega arith
 
-advanced : (o : OwnState) (d more : ℕ) → AreTimers o → Bounded (max_timers * (d + 2)) (max_timers * (d + 2) + more) (o.clock + d) o
+advanced : (o : OwnState) (d more : ℕ) → AreTimers o → Bounded (max_timers * (d / min_delay + 2)) (max_timers * (d / min_delay + 2) + more) (o.clock + d) o
 advanced o d more h =
-    bounded (max_timers * (d + 2)) (max_timers * (d + 2) + more) (o.clock + d) o (no_fewer (max_timers * (d + 2)) more) h (at_end o.clock d)
-    (enough_turns d o.clock (due_now o.clock o.timers) (length o.timers) (due_few o.clock o.timers) h.few)
+    let e : ℕ = o.clock + 10 in
+    let n : ℕ = max_timers * (d / min_delay + 2) in
+    bounded n (n + more) (o.clock + d) e (d / 10) o (no_fewer n more) (record {
+      timers = h;
+      near = same_le e;
+      far = stretches o.clock d;
+      left = enough_turns (d / 10) (due_before e o.timers) (length o.timers) (due_few e o.timers) h.few;
+    })
 
 -- turns and items
+none_left : (n : ℕ) → 0 ≤ n
+none_left n = omega arith
+
 turn_timers : (k : State → Plan) (o : OwnState) → AreTimers o → ((i : Invariant) → HoldsOf i (begun o) → Keeps i (k (begun o))) → AreTimers (turn k o)
 turn_timers k o h f =
-    let n : ℕ = due_now o.clock o.timers in
-    are_timers o.clock n (turn k o) (turn_r o.clock n k o (f (waiting o.clock n) (waits o h)))
+    let n : ℕ = due_before 0 o.timers in
+    let i : 0 ≤ o.clock + min_delay = none_left (o.clock + min_delay) in
+    are_timers o.clock 0 n (turn k o) (turn_r o.clock 0 n i k o (f (waiting o.clock 0 n i) (waits o h)))
 
 either : (b : Bool) (o p : OwnState) → AreTimers o → AreTimers p → AreTimers (if b then o else p)
 either true o p h k = h

@@ -1,7 +1,7 @@
 -- The natives of `ADSAFE`. They take any receiver.
 use Rattle.std.specs.Prelude.{ℕ, zero, suc, ℤ, pos, negsuc, ◌+◌, max, Bool, true, false, List, [], ◌∷◌, ◌++◌, length, nat_lt, nat_le, is_some, if◌then◌else◌, Option, Some, None}
 use Rattle.code_units.specs.Permitted.{is_permitted}
-use Rattle.widget_meaning.specs.Limits.{max_chain, max_timers, max_post, max_posts}
+use Rattle.widget_meaning.specs.Limits.{max_chain, max_timers, min_delay, max_post, max_posts}
 use Rattle.widget_meaning.specs.NativeNames.{AdsafeNative, Create, FromJson, GetProperty, HasProperty, IsArray, KeysOf, Later, LogValue, Post, RemoveProperty, SetProperty, ToJson}
 use Rattle.widget_meaning.specs.Values.{Value, Undefined, Truth, Num, Text, Own, E4, E8, E11, E12, is_object, to_text, nth}
 use Rattle.widget_meaning.specs.OwnState.{State, Kind, Object, Array, new_object, with_own, kind_of, array_length}
@@ -35,10 +35,10 @@ abbrev pub remove_native : Value → Value → State → Plan
 remove_native o n s = want E4 (is_object o) s (want_name n s (λ x. delete o x s (λ b. give Undefined)))
 
 -- what `create` takes: an Object or Array of the widget
-abbrev pub can_be_prototype : Option Kind → Bool
-can_be_prototype (Some Object) = true
-can_be_prototype (Some (Array n)) = true
-can_be_prototype kind = false
+abbrev pub is_prototype_kind : Option Kind → Bool
+is_prototype_kind (Some Object) = true
+is_prototype_kind (Some (Array n)) = true
+is_prototype_kind kind = false
 
 -- how many objects stand on a chain, counted up to a limit
 abbrev pub chain_from : ℕ → State → Option Value → ℕ
@@ -46,26 +46,28 @@ chain_from zero s o = zero
 chain_from (suc m) s None = zero
 chain_from (suc m) s (Some o) = suc (chain_from m s (prototype s o))
 
--- a new object with this prototype; E12 where its chain, which is the prototype and what is on the prototype's, would pass the limit
+-- a new object with this prototype; E12 where the chain from the prototype on passes the limit
 abbrev pub create_from : Value → State → Plan
-create_from o s = if nat_lt max_chain (chain_from (suc max_chain) s (Some o)) then throw E12 s else make (new_object o []) 0 s give
+create_from o s =
+    if nat_lt max_chain (chain_from (suc max_chain) s (Some o)) then throw E12 s else make (new_object o []) 0 s give
 
 -- `create(o)`: a new object with this prototype
 abbrev pub create : Value → State → Plan
-create o s = want E4 (can_be_prototype (kind_of s o)) s (create_from o s)
+create o s = want E4 (is_prototype_kind (kind_of s o)) s (create_from o s)
 
 -- `keys(o)`: the own permitted names, each a made text; the extra is their number
 abbrev pub keys_native : Value → State → Plan
 keys_native o s = want E4 (is_object o) s (charge (length (keys s o)) s (give_texts (keys s o) s))
 
--- a timer waits the larger of 10 and the given time
+-- a timer waits the larger of the least and the given time
 abbrev pub delay : ℤ → ℕ
-delay (pos n) = max 10 n
-delay (negsuc n) = 10
+delay (pos n) = max min_delay n
+delay (negsuc n) = min_delay
 
 -- one more timer, due at the clock plus its delay
 abbrev pub with_timer : State → Value → ℤ → State
-with_timer s (Own n) z = with_own s (record s.own { timers = s.own.timers ++ record { due = s.own.clock + delay z; func = n } ∷ [] })
+with_timer s (Own n) z =
+    with_own s (record s.own { timers = s.own.timers ++ record { due = s.own.clock + delay z; func = n } ∷ [] })
 with_timer s v z = s
 
 -- a timer is started; E11 where as many wait as may

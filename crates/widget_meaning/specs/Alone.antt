@@ -8,7 +8,7 @@ use Rattle.widget_meaning.specs.NativeNames.{DomObject}
 use Rattle.widget_meaning.specs.Values.{Value, Undefined, Own, Host, Completion}
 use Rattle.plain_tree.specs.Trees.{size}
 use Rattle.widget_meaning.specs.Trees.{Trees, numbered}
-use Rattle.widget_meaning.specs.OwnState.{OwnState, State, plain_object, new_function, no_notes}
+use Rattle.widget_meaning.specs.OwnState.{OwnState, State, plain_object, new_function, nothing_kept}
 use Rattle.widget_meaning.specs.Plan.{Plan, Ret, Do, Call, after}
 use Rattle.widget_meaning.specs.Costs.{cost, make, give}
 use Rattle.widget_meaning.specs.Properties.{put}
@@ -36,7 +36,11 @@ pub record Content : Type 0 where
 
 -- the string and the function of `ADSAFE.lib("name", function ..);` and of `ADSAFE.go("NAME_", function ..);`
 abbrev pub call_parts : Stmts → Option (List ℕ × Fun)
-call_parts (tree.AndStmt tree.NoStmts (tree.StmtAt a xs (tree.Only (tree.ExprAt b bs (tree.Call callee (tree.AndExpr (tree.AndExpr tree.NoExprs (tree.ExprAt c cs (tree.Str x))) (tree.ExprAt d ds (tree.Function f)))))))) = Some (x, f)
+call_parts (tree.AndStmt tree.NoStmts
+    (tree.StmtAt a xs (tree.Only
+    (tree.ExprAt b bs (tree.Call callee
+    (tree.AndExpr (tree.AndExpr tree.NoExprs (tree.ExprAt c cs (tree.Str x)))
+    (tree.ExprAt d ds (tree.Function f)))))))) = Some (x, f)
 call_parts ss = None
 
 -- the object `lib`, which is made first
@@ -49,7 +53,7 @@ beginning w grant = record {
   heap = plain_object [] ∷ [];
   scopes = [];
   forest = numbered 0 w.root;
-  notes = replicate (size w.root) no_notes;
+  kept = replicate (size w.root) nothing_kept;
   timers = [];
   clock = 0;
   focus = None;

@@ -16,6 +16,8 @@ pub record ArenaLaws (f : Forest) : Type 0 where
   pub exprs : (ids : List ExprId) → expr_list (exprs_at f ids) ≡ map (expr_at f) ids
   pub stmts : (ids : List StmtId) → stmt_list (stmts_at f ids) ≡ map (stmt_at f) ids
   pub funs : (ids : List FunId) → fun_list (funs_at f ids) ≡ map (fun_at f) ids
-  pub properties : (ps : List (List ℕ × ExprId)) → property_list (properties_at f ps) ≡ map (λ p. (p.0, expr_at f p.1)) ps
+  pub properties : (ps : List (List ℕ × ExprId))
+      → property_list (properties_at f ps) ≡ map (λ p. (p.0, expr_at f p.1)) ps
   pub decls : (ds : List Decl) → decl_list (decls_at f ds) ≡ map (λ d. (d.name, optional_at f d.init)) ds
-  pub clauses : (cs : List Clause) → clause_list (clauses_at f cs) ≡ map (λ c. (optional_at f c.test, stmt_list (stmts_at f c.body.items))) cs
+  pub clauses : (cs : List Clause)
+      → clause_list (clauses_at f cs) ≡ map (λ c. (optional_at f c.test, stmt_list (stmts_at f c.body.items))) cs

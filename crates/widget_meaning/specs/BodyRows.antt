@@ -4,7 +4,7 @@ use Rattle.std.specs.Prelude.{◌≡◌, List, [], ◌∷◌, codes, Some, None}
 use Rattle.js_tree.specs.declared.nodes.UnOp.TheVariants as un
 use Rattle.js_tree.specs.Plain as tree
 use Rattle.js_tree.specs.Plain.{Stmt, Stmts, Fun, Expr}
-use Rattle.widget_meaning.specs.Values.{Due, Nodes}
+use Rattle.widget_meaning.specs.Values.{PastLimit, Nodes}
 use Rattle.plain_tree.specs.Trees.{End, marked}
 use Rattle.widget_meaning.specs.Trees.{Trees, child_at}
 use Rattle.widget_meaning.specs.OwnState.{OwnState}
@@ -16,7 +16,8 @@ use Rattle.widget_meaning.specs.Rows.{Row, rendered}
 use Rattle.widget_meaning.specs.RowTrees.{expr, stmt, stmts, name, num, str, array, object, dot, dom, dom_q, method, apply, adsafe, does, logs, vars, sets, adds, returns, forever, for_in, try_finally, declared, function, element, words, root, content}
 use Rattle.widget_meaning.specs.PageRows.{Events}
 
--- `<p title="t">a..</p><ul><li>1..</li><li>2..</li><li name="n" type="t">3..</li></ul><input type="text" value="v"><input type="checkbox" checked><button id="A_k" disabled>k</button>` in the root, with what ends the paragraph and each item
+-- `<p title="t">a..</p><ul><li>1..</li><li>2..</li><li name="n" type="t">3..</li></ul><input type="text" value="v">
+-- <input type="checkbox" checked><button id="A_k" disabled>k</button>` in the root; `last` ends the paragraph, `more` each item
 abbrev pub page : Trees → Trees → Trees
 page last more = root "A_"
     (element "p" (("title", "t") ∷ []) (words "a" last)
@@ -42,7 +43,8 @@ shown o = marked (λ _. 0) (child_at 0 o.forest)
 -- ADSAFE.log([1, 2, 3].splice(1, 1, 7, 8).length);
 abbrev pub spliced : Content
 spliced = on_page
-    (logs (dot (method (array (num "1" ∷ num "2" ∷ num "3" ∷ [])) "splice" (num "1" ∷ num "1" ∷ num "7" ∷ num "8" ∷ [])) "length") ∷ []) []
+    (logs (dot (method (array (num "1" ∷ num "2" ∷ num "3" ∷ [])) "splice"
+        (num "1" ∷ num "1" ∷ num "7" ∷ num "8" ∷ [])) "length") ∷ []) []
 
 -- ADSAFE.log((255).toString(16));
 abbrev pub in_radix : Content
@@ -50,15 +52,20 @@ in_radix = on_page (logs (method (num "255") "toString" (num "16" ∷ [])) ∷ [
 
 -- ADSAFE.log(String({toString: function () { return 55; }}));
 abbrev pub made_text : Content
-made_text = on_page (logs (apply (name "String") (object (("toString", function [] (returns (num "55") ∷ [])) ∷ []) ∷ [])) ∷ []) []
+made_text =
+    on_page (logs (apply (name "String") (object (("toString", function [] (returns (num "55") ∷ [])) ∷ []) ∷ []))
+    ∷ []) []
 
--- function f() { try { return 1; } finally { return 2; } } function g() { try { throw 1; } finally { return 3; } } function h() { while (true) { try { return 1; } finally { break; } } return 4; } ADSAFE.log(f()); ADSAFE.log(g()); ADSAFE.log(h());
+-- function f() { try { return 1; } finally { return 2; } } function g() { try { throw 1; } finally { return 3; } }
+-- function h() { while (true) { try { return 1; } finally { break; } } return 4; }
+-- ADSAFE.log(f()); ADSAFE.log(g()); ADSAFE.log(h());
 abbrev pub replaced_ends : Content
 replaced_ends = on_page
     (logs (apply (name "f") []) ∷ logs (apply (name "g") []) ∷ logs (apply (name "h") []) ∷ [])
     (declared "f" [] (try_finally (returns (num "1")) (returns (num "2")) ∷ [])
     ∷ declared "g" [] (try_finally (stmt (tree.Throw (num "1"))) (returns (num "3")) ∷ [])
-    ∷ declared "h" [] (forever (try_finally (returns (num "1")) (stmt (tree.Break None)) ∷ []) ∷ returns (num "4") ∷ []) ∷ [])
+    ∷ declared "h" [] (forever (try_finally (returns (num "1")) (stmt (tree.Break None)) ∷ []) ∷ returns (num "4")
+        ∷ []) ∷ [])
 
 -- lib.x = n;
 abbrev pub sets_lib : String → String → Stmts
@@ -72,7 +79,8 @@ fallen_through = on_page
     (tree.SomeExpr (num "2")) (sets_lib "b" "2"))
     tree.NoExpr (sets_lib "c" "3"))) ∷ []) []
 
--- var p = {a: 1, b: 2}, o = ADSAFE.create(p), k, s = ""; o.z = 1; o.a = 2; for (k in o) { s += k; delete p.b; } ADSAFE.log(s);
+-- var p = {a: 1, b: 2}, o = ADSAFE.create(p), k, s = ""; o.z = 1; o.a = 2; for (k in o) { s += k; delete p.b; }
+-- ADSAFE.log(s);
 abbrev pub along_chain : Content
 along_chain = on_page
     (vars
@@ -92,16 +100,19 @@ posted = on_page (does (adsafe "post" (str "B_" ∷ str "abc" ∷ [])) ∷ []) [
 abbrev pub starts : String → List Expr → Stmt
 starts x times = does (adsafe "later" (apply (name "f") (str x ∷ []) ∷ times))
 
--- function f(n) { return function () { ADSAFE.log(n); }; } ADSAFE.later(f("c"), 30); ADSAFE.later(f("a")); ADSAFE.later(f("b"), 15); ADSAFE.later(f("a2"), 3); ADSAFE.later(f("d"), 100);
+-- function f(n) { return function () { ADSAFE.log(n); }; } ADSAFE.later(f("c"), 30); ADSAFE.later(f("a"));
+-- ADSAFE.later(f("b"), 15); ADSAFE.later(f("a2"), 3); ADSAFE.later(f("d"), 100);
 abbrev pub timed : Content
 timed = on_page
-    (starts "c" (num "30" ∷ []) ∷ starts "a" [] ∷ starts "b" (num "15" ∷ []) ∷ starts "a2" (num "3" ∷ []) ∷ starts "d" (num "100" ∷ []) ∷ [])
+    (starts "c" (num "30" ∷ []) ∷ starts "a" [] ∷ starts "b" (num "15" ∷ []) ∷ starts "a2" (num "3" ∷ [])
+        ∷ starts "d" (num "100" ∷ []) ∷ [])
     (declared "f" ("n" ∷ []) (returns (function [] (logs (name "n") ∷ [])) ∷ []) ∷ [])
 
 -- dom.q("li").append(dom.tag("b").append(dom.text("x")));
 abbrev pub appended_copies : Content
 appended_copies = on_page
-    (does (method (dom_q "li") "append" (method (dom "tag" (str "b" ∷ [])) "append" (dom "text" (str "x" ∷ []) ∷ []) ∷ [])) ∷ []) []
+    (does (method (dom_q "li") "append"
+        (method (dom "tag" (str "b" ∷ [])) "append" (dom "text" (str "x" ∷ []) ∷ []) ∷ [])) ∷ []) []
 
 -- dom.q("b").replace(dom.text(1));
 abbrev pub replaced_by_text : Content
@@ -115,12 +126,15 @@ each_counted = on_page
 -- dom.q("b").on("x", function (e) { e.bubble(); }).fire("x");
 abbrev pub fired_up : Content
 fired_up = on_page
-    (does (method (method (dom_q "b") "on" (str "x" ∷ function ("e" ∷ []) (does (method (name "e") "bubble" []) ∷ []) ∷ [])) "fire" (str "x" ∷ [])) ∷ []) []
+    (does (method (method (dom_q "b") "on"
+        (str "x" ∷ function ("e" ∷ []) (does (method (name "e") "bubble" []) ∷ []) ∷ [])) "fire" (str "x" ∷ []))
+        ∷ []) []
 
 -- dom.q("li").protect().mark("m").title("t").klass("k");
 abbrev pub marked_all : Content
 marked_all = on_page
-    (does (method (method (method (method (dom_q "li") "protect" []) "mark" (str "m" ∷ [])) "title" (str "t" ∷ [])) "klass" (str "k" ∷ [])) ∷ []) []
+    (does (method (method (method (method (dom_q "li") "protect" []) "mark" (str "m" ∷ [])) "title"
+        (str "t" ∷ [])) "klass" (str "k" ∷ [])) ∷ []) []
 
 -- the timers that are due within 60 milliseconds
 abbrev pub timed_out : OwnState
@@ -153,4 +167,4 @@ pub record BodyRows : Type 0 where
   pub timed_turns : Events timed_out 5 0 0
   pub appended_copies_page : shown (rendered appended_copies) ≡ page bold (element "b" [] (words "x" End) End)
   pub replaced_by_text_page : shown (rendered replaced_by_text) ≡ page (words "1" End) End
-  pub crowded_row : Row crowded (Some (Due Nodes)) 7 [] []
+  pub crowded_row : Row crowded (Some (PastLimit Nodes)) 7 [] []

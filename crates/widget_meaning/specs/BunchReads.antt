@@ -4,7 +4,7 @@ use Rattle.std.specs.List.{filter, sum_by, range_with_len, fold, filter_map}
 use Rattle.widget_meaning.specs.NativeNames.{ReadNative, Query, GetValue, GetValues, GetStyle, GetClass, GetTitle, GetCheck, Explode, Count, GetParent, GetTagName, GetMark}
 use Rattle.widget_meaning.specs.Values.{Value, Undefined, Truth, Num, Text, Own, E9, to_text, nth, E4}
 use Rattle.widget_meaning.specs.Trees.{parent, subtree}
-use Rattle.widget_meaning.specs.OwnState.{State, notes_at, new_array, new_bunch, with_new_cell}
+use Rattle.widget_meaning.specs.OwnState.{State, kept_at, new_array, new_bunch, with_new_cell}
 use Rattle.widget_meaning.specs.Plan.{Plan, charge}
 use Rattle.widget_meaning.specs.Costs.{pay, cost, make_text, throw, give, want}
 use Rattle.widget_meaning.specs.NativeForms.{want_primitives, on_bunch, make_bunch, give_texts, numbered_pairs}
@@ -28,7 +28,7 @@ is_next h = false
 -- the starts of a query: no protected nodes where the first step's hunter is `+`
 abbrev pub starts : State → List Step → List ℕ → List ℕ
 starts s [] ns = ns
-starts s (q ∷ qs) ns = if is_next q.hunter then filter (λ n. not (notes_at s n).is_protected) ns else ns
+starts s (q ∷ qs) ns = if is_next q.hunter then filter (λ n. not (kept_at s n).is_protected) ns else ns
 
 -- what a query of these steps finds, or E9 where the text is no query
 abbrev pub query_steps : Option (List Step) → List ℕ → State → Plan
@@ -82,19 +82,25 @@ with_bunch s n = with_new_cell s (new_bunch (n ∷ []))
 
 -- the array and its Bunches
 abbrev pub exploded : List ℕ → State → State
-exploded ns s = fold with_bunch (with_new_cell s (new_array (length ns) (numbered_pairs 0 (bunches_from (length s.own.heap + 1) ns)))) ns
+exploded ns s =
+    fold with_bunch (with_new_cell s
+    (new_array (length ns) (numbered_pairs 0 (bunches_from (length s.own.heap + 1) ns)))) ns
 
 -- `explode()`, at one cost: an array of Bunches of one node; the array is born first
 abbrev pub explode : List ℕ → State → Plan
-explode ns s = charge (length ns) s (pay (cost 0 (length ns + 1) (3 * length ns) 0) s (λ t. give (Own (length t.own.heap)) (exploded ns t)))
+explode ns s =
+    charge (length ns) s
+    (pay (cost 0 (length ns + 1) (3 * length ns) 0) s (λ t. give (Own (length t.own.heap)) (exploded ns t)))
 
 -- whether a node has a parent and is not protected
 abbrev pub has_open_parent : State → ℕ → Bool
-has_open_parent s n = is_some (parent n s.own.forest) && not (notes_at s n).is_protected
+has_open_parent s n = is_some (parent n s.own.forest) && not (kept_at s n).is_protected
 
 -- `getParent()`: the parents, first seen first; E10 where a node is protected or has no parent
 abbrev pub get_parent : List ℕ → State → Plan
-get_parent ns s = want_all (has_open_parent s) ns s (charge (length ns) s (make_bunch (once [] (filter_map (λ n. parent n s.own.forest) ns)) s give))
+get_parent ns s =
+    want_all (has_open_parent s) ns s
+    (charge (length ns) s (make_bunch (once [] (filter_map (λ n. parent n s.own.forest) ns)) s give))
 
 -- `getTagName()`: the first node's tag, or `#text`
 abbrev pub get_tag_name : List ℕ → State → Plan
@@ -104,7 +110,7 @@ get_tag_name (n ∷ ns) s = give_page_text (length (n ∷ ns)) (if is_text_node 
 -- the first node's mark, or empty
 abbrev pub first_mark : State → List ℕ → List ℕ
 first_mark s [] = []
-first_mark s (n ∷ ns) = (notes_at s n).mark
+first_mark s (n ∷ ns) = (kept_at s n).mark
 
 -- each method on its nodes
 abbrev pub read_method : ReadNative → List ℕ → List Value → State → Plan

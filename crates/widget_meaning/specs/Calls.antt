@@ -25,7 +25,8 @@ statements (i ∷ is) p s = Do (Exec i p) s (λ o t. on_normal o t (statements i
 -- `"use strict";` as the first statement of a function takes nothing
 abbrev pub without_directive : List Stmt → List Stmt
 without_directive (tree.StmtAt at names (tree.Only (tree.ExprAt place inner (tree.Str t))) ∷ is) =
-    if bytes_eq t (codes "use strict") then is else tree.StmtAt at names (tree.Only (tree.ExprAt place inner (tree.Str t))) ∷ is
+    if bytes_eq t (codes "use strict") then is
+        else tree.StmtAt at names (tree.Only (tree.ExprAt place inner (tree.Str t))) ∷ is
 without_directive is = is
 
 -- a value under a function's name, where it has one
@@ -36,7 +37,8 @@ with_variable s i (x ∷ xs) v = with_scope s i (set_pair (scope_at s i) x v)
 -- the declared functions are made in order of the text, each at the cost of a cell, and then what follows
 abbrev pub declare : List Fun → ℕ → State → (State → Plan) → Plan
 declare [] i s k = k s
-declare (f ∷ fs) i s k = make (new_function (without_name f) (Some i)) 0 s (λ v t. declare fs i (with_variable t i (fun_name f) v) k)
+declare (f ∷ fs) i s k =
+    make (new_function (without_name f) (Some i)) 0 s (λ v t. declare fs i (with_variable t i (fun_name f) v) k)
 
 -- how a call ends, by how its body ended
 abbrev pub call_end : Completion → State → Plan
@@ -75,6 +77,8 @@ abbrev pub call_to_string : Bool → Value → Value → ℕ → State → Plan
 call_to_string true f v d s = Do (Call f (Some v) [] d) s primitive_result
 call_to_string false f v d s = throw E6 s
 
--- an operand as a primitive, by a caller at this depth: of an object `toString` is read as a property and called with no arguments
+-- an operand as a primitive, by a caller at this depth: of an object `toString` is called with no arguments
 abbrev pub to_primitive : Value → ℕ → State → Plan
-to_primitive v d s = if is_object v then call_to_string (is_function s (get s v (codes "toString"))) (get s v (codes "toString")) v d s else give v s
+to_primitive v d s =
+    if is_object v then call_to_string (is_function s (get s v (codes "toString"))) (get s v (codes "toString")) v d s
+    else give v s

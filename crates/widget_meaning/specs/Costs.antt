@@ -35,7 +35,7 @@ sum a b = cost (a.units + b.units) (a.cells + b.cells) (a.slots + b.slots) (a.no
 abbrev pub with_counts : State → Amounts → State
 with_counts s a = with_own s (record s.own { counts = a })
 
--- a cost that passes no limit is counted; else the widget stops, with the first of units, cells, slots, nodes that passes its limit
+-- what passes no limit goes on; else the widget stops, with the first of units, cells, slots, nodes that does not fit
 abbrev pub within : Amounts → State → Plan → Plan
 within a s p =
     if nat_lt max_units a.units then Halt Units s

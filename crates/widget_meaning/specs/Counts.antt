@@ -19,6 +19,8 @@ pub record Risen (earlier counts : Amounts) : Type 0 where
 
 -- of a job, of items, and of a whole run of a widget whose subtree is within its limit
 pub record CountLaws : Type 0 where
-  pub jobs : (j : Job) (s : State) (g : ℕ) → FitsLimits s.own.counts → Risen s.own.counts (meaning j s g).state.own.counts
+  pub jobs : (j : Job) (s : State) (g : ℕ) → FitsLimits s.own.counts
+      → Risen s.own.counts (meaning j s g).state.own.counts
   pub items : (o : OwnState) (is : List Item) → FitsLimits o.counts → Risen o.counts (alone_from o is).counts
-  pub whole : (w : Content) (grant : ℕ) (is : List Item) → size w.root ≤ max_nodes → FitsLimits (alone w grant is).counts
+  pub whole : (w : Content) (grant : ℕ) (is : List Item) → size w.root ≤ max_nodes
+      → FitsLimits (alone w grant is).counts

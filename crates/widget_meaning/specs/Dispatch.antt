@@ -2,10 +2,11 @@
 use Rattle.std.specs.Prelude.{ℕ, zero, suc, ◌+◌, List, [], ◌∷◌, Bool, true, false, length, map, Option, Some, None, codes, drop, slice_index_or}
 use Rattle.std.specs.List.{filter}
 use Rattle.std.specs.Str.{bytes_eq}
+use Rattle.widget_meaning.specs.Limits.{max_node_depth}
 use Rattle.widget_meaning.specs.NativeNames.{Bubble}
 use Rattle.widget_meaning.specs.Values.{Value, Undefined, Text, Own, Completion, Is, E3}
 use Rattle.widget_meaning.specs.Trees.{parent}
-use Rattle.widget_meaning.specs.OwnState.{State, Pairs, notes_at, plain_object, new_bunch, with_new_cell}
+use Rattle.widget_meaning.specs.OwnState.{State, Pairs, kept_at, plain_object, new_bunch, with_new_cell}
 use Rattle.widget_meaning.specs.Plan.{Plan, Ret, Do, and_then, Call, Hear, Hearing, after}
 use Rattle.widget_meaning.specs.Costs.{pay, cost, give, throw}
 use Rattle.widget_meaning.specs.HostTable.{native}
@@ -13,7 +14,7 @@ use Rattle.widget_meaning.specs.Calls.{invoke}
 
 -- the functions of a node that listen to a type, in order of listening
 abbrev pub listening : State → ℕ → List ℕ → List ℕ
-listening s n kind = map (λ h. h.func) (filter (λ h. bytes_eq h.kind kind) (notes_at s n).handlers)
+listening s n kind = map (λ h. h.func) (filter (λ h. bytes_eq h.kind kind) (kept_at s n).handlers)
 
 -- the functions of this node where it has some, or else what is found further up
 abbrev pub here_or_above : ℕ → List ℕ → (Bool → Option (ℕ × List ℕ)) → Option (ℕ × List ℕ)
@@ -24,11 +25,12 @@ here_or_above n (f ∷ fs) k = Some (n, f ∷ fs)
 abbrev pub nearest_from : ℕ → State → Option ℕ → List ℕ → Option (ℕ × List ℕ)
 nearest_from m s None kind = None
 nearest_from zero s (Some n) kind = None
-nearest_from (suc m) s (Some n) kind = here_or_above n (listening s n kind) (λ _. nearest_from m s (parent n s.own.forest) kind)
+nearest_from (suc m) s (Some n) kind =
+    here_or_above n (listening s n kind) (λ _. nearest_from m s (parent n s.own.forest) kind)
 
--- the nearest of all
+-- the nearest of all: no node has more above it than the limit
 abbrev pub nearest : State → Option ℕ → List ℕ → Option (ℕ × List ℕ)
-nearest s o kind = nearest_from (length s.own.notes) s o kind
+nearest s o kind = nearest_from (max_node_depth + 1) s o kind
 
 -- with a new innermost dispatch, in which `bubble` was not called yet
 abbrev pub with_dispatch : State → State
@@ -64,12 +66,13 @@ with_event s kind target node value =
     (new_bunch (target ∷ [])))
     (new_bunch (node ∷ []))
 
--- the dispatch at a node: its event object costs three cells and nine slots, before the first call. The job's unit is that of the first call
+-- the dispatch at a node: its event object is paid before the first call. The job's unit is that of the first call
 abbrev pub hear : List ℕ → ℕ → Value → ℕ → ℕ → List ℕ → State → Plan
 hear kind target value d node [] s = give Undefined s
 hear kind target value d node (f ∷ fs) s =
     pay (cost 0 3 9 0) s (λ t. Do
-    (Hear (record { kind = kind; target = target; node = node; value = value; event = Own (length t.own.heap); first = f; others = fs; depth = d }))
+    (Hear (record { kind = kind; target = target; node = node; value = value; event = Own
+        (length t.own.heap); first = f; others = fs; depth = d }))
     (with_dispatch (with_event t kind target node value)) Ret)
 
 -- the dispatch at the node that was found; where nothing listens, nothing is done
@@ -102,4 +105,6 @@ dispatch_end h o s = Ret o (without_dispatch s)
 
 -- what the job is, after its unit
 abbrev pub heard : Hearing → State → Plan
-heard h s = and_then (and_then (invoke (Own h.first) None (h.event ∷ []) h.depth s) (after (λ v t. handlers h.others h t))) (dispatch_end h)
+heard h s =
+    and_then (and_then (invoke (Own h.first) None (h.event ∷ []) h.depth s) (after (λ v t. handlers h.others h t)))
+    (dispatch_end h)

@@ -94,7 +94,7 @@ write (Found w) p v s k = k s
 
 -- ## Calls
 
--- the arguments from left to right, behind those that are there; then the function is read and called. A plain call passes no receiver
+-- the arguments from left to right, behind those that are there; then the function is read and called
 abbrev pub arguments_then : Reference → List Value → List Expr → Place → State → Plan
 arguments_then r vs [] p s = invoke (referred r p s) (base_of r) vs p.depth s
 arguments_then r vs (e ∷ es) p s = Do (Eval e p) s (after (λ v t. arguments_then r (vs ++ v ∷ []) es p t))
@@ -113,10 +113,10 @@ result Leaves s = Halt Number s
 result TooLong s = Halt LongText s
 
 -- whether an operator converts objects: `===` and `!==` do not
-abbrev pub converts : BinOp → Bool
-converts bin.Same = false
-converts bin.NotSame = false
-converts _ = true
+abbrev pub is_converting : BinOp → Bool
+is_converting bin.Same = false
+is_converting bin.NotSame = false
+is_converting _ = true
 
 -- after the left operand's conversion: that of the right
 abbrev pub converted_left : BinOp → Value → ℕ → Completion → State → Plan
@@ -125,7 +125,7 @@ converted_left op w d o s = on_value o s (λ v. and_then (to_primitive w d s) (a
 -- an operator on two values, by a caller at this depth: objects are converted, left before right
 abbrev pub operate : BinOp → Value → Value → ℕ → State → Plan
 operate op v w d s =
-    if converts op
+    if is_converting op
     then and_then (to_primitive v d s) (converted_left op w d)
     else result (binary op v w) s
 
@@ -183,7 +183,8 @@ step_converted op r p o s = on_value o s (λ v. step_number (to_number v) op r p
 
 -- after the target of a step
 abbrev pub step_target : StepOp → Place → Completion → State → Plan
-step_target op p o s = on_reference o s (λ r. and_then (to_primitive (referred r p s) p.depth s) (step_converted op r p))
+step_target op p o s =
+    on_reference o s (λ r. and_then (to_primitive (referred r p s) p.depth s) (step_converted op r p))
 
 -- what a compound assignment computes
 abbrev pub compound : AssignOp → Value → Value → ℕ → State → Plan
@@ -197,7 +198,8 @@ compound op v w d s = give w s
 
 -- after the right side of an assignment
 abbrev pub assign_with : AssignOp → Reference → Value → Place → Completion → State → Plan
-assign_with op r v p o s = on_value o s (λ w. and_then (compound op v w p.depth s) (after (λ v t. write r p v t (give v))))
+assign_with op r v p o s =
+    on_value o s (λ w. and_then (compound op v w p.depth s) (after (λ v t. write r p v t (give v))))
 
 -- after the target of an assignment
 abbrev pub assign_target : AssignOp → Expr → Place → Completion → State → Plan

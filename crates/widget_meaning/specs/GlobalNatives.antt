@@ -1,4 +1,4 @@
--- The natives among the listed globals. Each counts in its extra the units of the arguments that are texts, and of what is made.
+-- The natives among the listed globals. The extra counts the units of arguments that are texts, and of what is made.
 use Rattle.std.specs.Prelude.{ℕ, zero, suc, ℤ, pos, negsuc, neg_ℤ, ◌+◌, ◌==◌, Bool, true, false, not, ◌&&◌, List, [], ◌∷◌, length, take, drop, sum_by, map, slice_index, nat_lt, nat_le, unsigned_abs, if◌then◌else◌, Option}
 use Rattle.std.specs.List.{list_any, prefix_len}
 use Rattle.std.specs.Int.{int_rem_euclid}
@@ -101,16 +101,17 @@ code_of (read.Whole z) = unsigned_abs (int_rem_euclid z (pos 65536))
 code_of r = 0
 
 -- whether it leaves the numbers
-abbrev pub leaves : WholeRead → Bool
-leaves read.Left = true
-leaves r = false
+abbrev pub has_left : WholeRead → Bool
+has_left read.Left = true
+has_left r = false
 
 -- `String.fromCharCode(u, ...)`
 abbrev pub from_char_code : List Value → State → Plan
 from_char_code vs s =
     let extra : ℕ = sum_by units_read vs in
     want_primitives vs s
-    (if list_any leaves (map to_number vs) then charge extra s (Halt Number s) else give_text extra (map code_of (map to_number vs)) s)
+    (if list_any has_left (map to_number vs) then charge extra s (Halt Number s)
+        else give_text extra (map code_of (map to_number vs)) s)
 
 -- the natives, each by its row
 abbrev pub global_native : GlobalNative → Option Value → List Value → ℕ → State → Plan

@@ -115,7 +115,7 @@ host_pairs DomObject =
 host_pairs (PrototypeOf p) = prototype_pairs p
 host_pairs (Native w) = native_pairs w
 
--- the prototype of each entry: those of objects, numbers and truth values stand on nothing, a native on that of functions, all else on that of objects
+-- the prototype of each entry: those of objects, numbers and truth values have none, a native that of functions
 abbrev pub host_prototype : HostEntry → Option Value
 host_prototype (PrototypeOf ObjectPrototype) = None
 host_prototype (PrototypeOf NumberPrototype) = None

@@ -1,7 +1,7 @@
 -- Items: what an event and an advance do to a widget by itself.
-use Rattle.std.specs.Prelude.{ℕ, zero, suc, ◌+◌, ◌*◌, List, [], ◌∷◌, nat_le, nat_eq, if◌then◌else◌, codes, Option, Some, None}
+use Rattle.std.specs.Prelude.{ℕ, zero, suc, ◌+◌, ◌*◌, ◌/◌, List, [], ◌∷◌, nat_le, nat_eq, if◌then◌else◌, codes, Option, Some, None}
 use Rattle.std.specs.Str.{bytes_eq}
-use Rattle.widget_meaning.specs.Limits.{max_timers}
+use Rattle.widget_meaning.specs.Limits.{max_timers, min_delay}
 use Rattle.widget_meaning.specs.Values.{Value, Undefined, Text, Own, Stop}
 use Rattle.plain_tree.specs.Trees.{Label, ElementOf}
 use Rattle.tree_ops.specs.Labels.{with_attribute}
@@ -96,9 +96,9 @@ abbrev pub due_turns : ℕ → ℕ → OwnState → OwnState
 due_turns zero limit o = record o { clock = limit }
 due_turns (suc n) limit o = unless_stopped o.stop o (λ p. on_due (next_due limit p.timers) limit p (due_turns n limit))
 
--- an advance. A timer is due 10 or more after it is started and at most 64 wait, so no more than these turns can come (`TimerLaws`)
+-- an advance: in each stretch of the least delay no more timers are due than may wait, so the turns are enough
 abbrev pub advance : ℕ → OwnState → OwnState
-advance d o = due_turns (max_timers * (d + 2)) (o.clock + d) o
+advance d o = due_turns (max_timers * (d / min_delay + 2)) (o.clock + d) o
 
 -- what an item does to a widget that has not stopped
 abbrev pub live_item : OwnState → Item → OwnState

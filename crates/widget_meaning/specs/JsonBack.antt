@@ -1,4 +1,4 @@
--- A law of JSON: the objects that are made for a tree have that tree, so a value that is written and read is the same tree again.
+-- A law of JSON: the objects made for a tree have that tree, so a value that is written and read is the same tree.
 use Rattle.std.specs.Prelude.{◌≡◌, ◌≤◌, ◌<◌, Some, ℕ, suc, ◌+◌, pos, negsuc, true, false, List, [], ◌∷◌, length, slice_index_or, ⊤}
 use Rattle.std.specs.Char.Utf16.{has_unpaired_surrogate}
 use Rattle.std.specs.List.{fold, list_all}
@@ -14,7 +14,7 @@ use Rattle.widget_meaning.specs.JsonValues.{from_json, give_read, texts_in, valu
 use Rattle.widget_meaning.specs.JsonTexts.{Wrote, value_text}
 use Rattle.widget_meaning.specs.JsonLaws.{tree_of, in_order, IsOrdinary, AreOrdinary}
 
--- trees of values: texts are UTF-8, numbers whole and within the numbers, names permitted, arrays no longer than an array can be
+-- a number of a tree that stands for a value: whole and within the numbers
 abbrev pub IsNumber : json.Num → Type 0
 IsNumber (json.unsigned n) = n < past_numbers
 IsNumber (json.negative (pos n)) = ⊥
@@ -58,7 +58,9 @@ pub record Born (m : ℕ) (s : State) (n : ℕ) (d : json.Data) : Type 0 where
 
 -- for every tree that is not nested deeper than this
 abbrev pub BornLaws : Type 0
-BornLaws = (m : ℕ) (s : State) (n : ℕ) (d : json.Data) → IsTree d → json.depth d ≤ m → StandFrom s n (cells_at n d) → Born m s n d
+BornLaws =
+    (m : ℕ) (s : State) (n : ℕ) (d : json.Data) → IsTree d → json.depth d ≤ m → StandFrom s n (cells_at n d)
+    → Born m s n d
 
 -- what holds of every own state, and names without lone surrogates
 abbrev pub HasWholeNames : Pairs → Type 0
@@ -78,14 +80,22 @@ pub record IsOrdinaryCell (c : Cell) : Type 0 where
   pub names : HasWholeNames c.pairs
   pub len : HasLength c.kind
 
--- a value that `toJson` writes, and `fromJson` of its text in any state: no fault and no stop for a number, and the new objects have the same tree, with names in the order of the crate's map
+-- a value that `toJson` writes, and `fromJson` of its text: no fault, no stop for a number, and objects of the same
+-- tree
 pub record Returns (s : State) (v : Value) (t : List ℕ) : Type 0 where
   pub tree : json.Data
   pub is : tree_of max_nesting s v ≡ Some tree
   pub reads : (u : State) → from_json (Text t) u
-      ≡ charge (length t) u (give_read true (value_at (length u.own.heap) (in_order tree)) (cells_at (length u.own.heap) (in_order tree)) (texts_in (value_at (length u.own.heap) (in_order tree)) (cells_at (length u.own.heap) (in_order tree))) u)
-  pub again : (u : State) → tree_of max_nesting (fold with_new_cell u (cells_at (length u.own.heap) (in_order tree))) (value_at (length u.own.heap) (in_order tree)) ≡ Some (in_order tree)
+      ≡ charge (length t) u
+          (give_read true (value_at (length u.own.heap) (in_order tree))
+          (cells_at (length u.own.heap) (in_order tree))
+          (texts_in (value_at (length u.own.heap) (in_order tree)) (cells_at (length u.own.heap) (in_order tree))) u)
+  pub again : (u : State)
+      → tree_of max_nesting (fold with_new_cell u (cells_at (length u.own.heap) (in_order tree)))
+      (value_at (length u.own.heap) (in_order tree)) ≡ Some (in_order tree)
 
 -- for every value that is written
 abbrev pub ReturnLaws : Type 0
-ReturnLaws = (s : State) (v : Value) (t : List ℕ) → ((n : ℕ) → IsOrdinaryCell (cell_at s n)) → IsOrdinary v → value_text max_nesting s v [] ≡ Wrote t → Returns s v t
+ReturnLaws =
+    (s : State) (v : Value) (t : List ℕ) → ((n : ℕ) → IsOrdinaryCell (cell_at s n)) → IsOrdinary v
+    → value_text max_nesting s v [] ≡ Wrote t → Returns s v t

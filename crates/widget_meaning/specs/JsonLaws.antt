@@ -25,12 +25,14 @@ PartTree = Value → Option json.Data
 abbrev pub items_tree : PartTree → Pairs → ℕ → ℕ → Option json.Items
 items_tree tree ps i zero = Some json.no_items
 items_tree tree ps i (suc n) =
-    option_and_then (λ d. option_map (json.item d) (items_tree tree ps (i + 1) n)) (option_and_then tree (lookup ps (index_name i)))
+    option_and_then (λ d. option_map (json.item d) (items_tree tree ps (i + 1) n))
+        (option_and_then tree (lookup ps (index_name i)))
 
 -- names and values
 abbrev pub members_tree : PartTree → Pairs → Option json.Members
 members_tree tree [] = Some json.no_members
-members_tree tree (p ∷ ps) = option_and_then (λ d. option_map (json.member (utf8_of p.0) d) (members_tree tree ps)) (tree p.1)
+members_tree tree (p ∷ ps) =
+    option_and_then (λ d. option_map (json.member (utf8_of p.0) d) (members_tree tree ps)) (tree p.1)
 
 -- an object by its permitted names, an array by its elements
 abbrev pub cell_tree : PartTree → Kind → Pairs → Option json.Data
@@ -39,7 +41,7 @@ cell_tree tree (Array len) ps = option_map json.array (items_tree tree ps 0 len)
 cell_tree tree (Function f scope) ps = None
 cell_tree tree (Bunch ns) ps = None
 
--- the tree of a value, in which so many arrays and objects may stand one in the other, with names in order of insertion; what has no JSON has none
+-- the tree of a value, in which so many arrays and objects may stand one in the other; what has no JSON has none
 abbrev pub tree_of : ℕ → State → Value → Option json.Data
 tree_of m s Undefined = None
 tree_of m s Null = Some json.null
@@ -87,7 +89,7 @@ abbrev pub AreOrdinary : Pairs → Type 0
 AreOrdinary [] = ⊤
 AreOrdinary (p ∷ ps) = HasUnits p.0 × IsOrdinary p.1 × AreOrdinary ps
 
--- a value that `toJson` writes has a tree; the text is what `serde_json` writes for the tree, and is read back as the tree
+-- a value that `toJson` writes has a tree; the text is what `serde_json` writes for it, and is read back as the tree
 pub record Back (s : State) (v : Value) (t : List ℕ) : Type 0 where
   pub tree : json.Data
   pub is : tree_of max_nesting s v ≡ Some tree
@@ -96,4 +98,6 @@ pub record Back (s : State) (v : Value) (t : List ℕ) : Type 0 where
 
 -- for every value that is written
 abbrev pub JsonLaws : Type 0
-JsonLaws = (s : State) (v : Value) (t : List ℕ) → ((n : ℕ) → AreOrdinary (cell_at s n).pairs) → IsOrdinary v → value_text max_nesting s v [] ≡ Wrote t → Back s v t
+JsonLaws =
+    (s : State) (v : Value) (t : List ℕ) → ((n : ℕ) → AreOrdinary (cell_at s n).pairs) → IsOrdinary v
+    → value_text max_nesting s v [] ≡ Wrote t → Back s v t

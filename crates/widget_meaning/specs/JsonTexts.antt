@@ -56,7 +56,8 @@ members_text value before (p ∷ ps) t =
 
 -- an object gives its own permitted names, an array its elements below its length
 abbrev pub cell_text : Writer → Kind → Pairs → List ℕ → Written
-cell_text value Object ps t = and_write (write t (codes "{")) (members_text value [] (filter (λ p. is_permitted p.0) ps))
+cell_text value Object ps t =
+    and_write (write t (codes "{")) (members_text value [] (filter (λ p. is_permitted p.0) ps))
 cell_text value (Array len) ps t = and_write (write t (codes "[")) (elements_text value ps [] 0 len)
 cell_text value (Function f scope) ps t = NoJson
 cell_text value (Bunch ns) ps t = NoJson

@@ -88,12 +88,16 @@ abbrev mutual
   -- the elements from an index on, and the objects in them
   pub items_at : ℕ → ℕ → json.Items → Parts
   items_at n i json.no_items = ([], [])
-  items_at n i (json.item d ds) = with_part (index_name i) (value_at n d) (cells_at n d) (items_at (n + length (cells_at n d)) (i + 1) ds)
+  items_at n i (json.item d ds) =
+      let cs : List Cell = cells_at n d in
+      with_part (index_name i) (value_at n d) cs (items_at (n + length cs) (i + 1) ds)
 
   -- the names, and the objects in their values
   pub members_at : ℕ → json.Members → Parts
   members_at n json.no_members = ([], [])
-  members_at n (json.member k d ms) = with_part (units_of k) (value_at n d) (cells_at n d) (members_at (n + length (cells_at n d)) ms)
+  members_at n (json.member k d ms) =
+      let cs : List Cell = cells_at n d in
+      with_part (units_of k) (value_at n d) cs (members_at (n + length cs) ms)
 
 -- whether the names of an object are permitted
 abbrev pub has_permitted_names : Kind → Pairs → Bool
@@ -116,14 +120,19 @@ json_cost ts cs = cost (sum_by length ts) (length cs) (sum_by (λ c. length c.pa
 -- the stops, the cost, and then all is born
 abbrev pub give_read : Bool → Value → List Cell → List (List ℕ) → State → Plan
 give_read false v cs ts s = Halt Number s
-give_read true v cs ts s = if list_any is_too_long ts then Halt LongText s else pay (json_cost ts cs) s (λ u. give v (fold with_new_cell u cs))
+give_read true v cs ts s =
+    if list_any is_too_long ts then Halt LongText s
+    else pay (json_cost ts cs) s (λ u. give v (fold with_new_cell u cs))
 
 -- what was read is born; a name that is not permitted throws E8, before the extra
 abbrev pub read_value : ℕ → json.Data → List Cell → Value → State → Plan
 read_value extra d cs v s =
-    want E8 (list_all (λ c. has_permitted_names c.kind c.pairs) cs) s (charge extra s (give_read (has_numbers d) v cs (texts_in v cs) s))
+    want E8 (list_all (λ c. has_permitted_names c.kind c.pairs) cs) s
+        (charge extra s (give_read (has_numbers d) v cs (texts_in v cs) s))
 
 -- `fromJson(t)`: all but a text, and what is no JSON, throws E4
 abbrev pub from_json : Value → State → Plan
-from_json (Text t) s = or_throw E4 (read_json t) s (λ d. read_value (length t) d (cells_at (length s.own.heap) d) (value_at (length s.own.heap) d) s)
+from_json (Text t) s =
+    or_throw E4 (read_json t) s
+    (λ d. read_value (length t) d (cells_at (length s.own.heap) d) (value_at (length s.own.heap) d) s)
 from_json v s = throw E4 s

@@ -42,6 +42,7 @@ pub mod Items
 pub mod Alone
 pub mod Laws
 pub mod Keeps
+pub mod PlanLaws
 pub mod Counts
 pub mod RowTrees
 pub mod Rows

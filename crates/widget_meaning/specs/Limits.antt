@@ -33,6 +33,10 @@ max_chain = 100
 abbrev pub max_timers : ℕ
 max_timers = 64
 
+-- milliseconds that a timer waits at least
+abbrev pub min_delay : ℕ
+min_delay = 10
+
 -- kept posts
 abbrev pub max_posts : ℕ
 max_posts = 256
@@ -56,7 +60,3 @@ max_nesting = 100
 -- of nodes one inside the other
 abbrev pub max_node_depth : ℕ
 max_node_depth = 200
-
--- of letters in one type of events
-abbrev pub max_event_type : ℕ
-max_event_type = 16

@@ -1,11 +1,12 @@
--- The methods of arrays that change the array. All but `push` and `pop` leave every index below the length present, in rising order after the other names.
+-- The methods that change an array.
+-- All but `push` and `pop` leave every index below the length, rising, behind all else.
 use Rattle.std.specs.Prelude.{ℕ, zero, suc, pos, ℤ, ◌+◌, ◌-◌, Bool, true, false, List, [], ◌∷◌, ◌++◌, length, take, drop, sum_by, nat_lt, is_none, if◌then◌else◌, Option, Some, None, unwrap_or}
 use Rattle.std.specs.Prelude as std
 use Rattle.std.specs.List.{filter}
 use Rattle.std.specs.Option.{option_map_or}
 use Rattle.widget_meaning.specs.Limits.{max_length}
 use Rattle.widget_meaning.specs.Values.{Value, Undefined, Num, Own, E4, E7, to_text, to_number, nth}
-use Rattle.widget_meaning.specs.Operators.{text_lt}
+use Rattle.widget_meaning.specs.Operators.{is_text_before}
 use Rattle.widget_meaning.specs.OwnState.{State, Cell, cell_at, with_cell, new_array, with_new_cell, array_length, kind_of, Array}
 use Rattle.widget_meaning.specs.Plan.{Plan, charge}
 use Rattle.widget_meaning.specs.Costs.{pay, cost, slots_cost, throw, give}
@@ -23,7 +24,8 @@ list_extra len vs s = len + (sum_by (λ v. unwrap_or (array_length (kind_of s v)
 
 -- an array with these elements, after its other names
 abbrev pub with_elements : Cell → List Value → Cell
-with_elements c vs = record c { kind = Array (length vs); pairs = filter (λ p. is_none (index_of p.0)) c.pairs ++ numbered_pairs 0 vs }
+with_elements c vs =
+    record c { kind = Array (length vs); pairs = filter (λ p. is_none (index_of p.0)) c.pairs ++ numbered_pairs 0 vs }
 
 -- how many indexes below the new length were no names: each costs a slot
 abbrev pub new_indexes : Cell → ℕ → ℕ
@@ -31,12 +33,15 @@ new_indexes c len = len - length (filter (λ p. is_below len false p.0) c.pairs)
 
 -- the array gets these elements, and the native gives this
 abbrev pub change : ℕ → List Value → Value → State → Plan
-change n vs v s = pay (slots_cost (new_indexes (cell_at s n) (length vs))) s (λ t. give v (with_cell t n (with_elements (cell_at t n) vs)))
+change n vs v s =
+    pay (slots_cost (new_indexes (cell_at s n) (length vs))) s
+    (λ t. give v (with_cell t n (with_elements (cell_at t n) vs)))
 
 -- `pop()`: the last element is taken out and given; undefined where there is none
 abbrev pub pop : ℕ → ℕ → List Value → State → Plan
 pop n zero vs s = charge (length vs) s (give Undefined s)
-pop n (suc len) vs s = charge (length vs) s (give (element (cell_at s n).pairs len) (with_cell s n (cut_to (cell_at s n) len)))
+pop n (suc len) vs s =
+    charge (length vs) s (give (element (cell_at s n).pairs len) (with_cell s n (cut_to (cell_at s n) len)))
 
 -- an array with these elements at its end
 abbrev pub pushed : Cell → ℕ → List Value → Cell
@@ -69,19 +74,19 @@ sort_key Undefined = None
 sort_key v = Some (to_text v)
 
 -- by units, undefined last
-abbrev pub key_lt : Option (List ℕ) → Option (List ℕ) → Bool
-key_lt None b = false
-key_lt (Some t) None = true
-key_lt (Some t) (Some u) = text_lt t u
+abbrev pub is_key_before : Option (List ℕ) → Option (List ℕ) → Bool
+is_key_before None b = false
+is_key_before (Some t) None = true
+is_key_before (Some t) (Some u) = is_text_before t u
 
 -- whether an element comes before another
-abbrev pub comes_before : Value → Value → Bool
-comes_before v w = key_lt (sort_key v) (sort_key w)
+abbrev pub is_before : Value → Value → Bool
+is_before v w = is_key_before (sort_key v) (sort_key w)
 
 -- an element goes before those of sorted ones that do not come before it
 abbrev pub put_in : Value → List Value → List Value
 put_in v [] = v ∷ []
-put_in v (w ∷ ws) = if comes_before w v then w ∷ put_in v ws else v ∷ w ∷ ws
+put_in v (w ∷ ws) = if is_before w v then w ∷ put_in v ws else v ∷ w ∷ ws
 
 -- the elements in order; those that tie keep theirs
 abbrev pub sorted : List Value → List Value
@@ -105,7 +110,9 @@ spliced n vs at count new s =
     let taken : List Value = take count (drop at vs) in
     let left : List Value = take at vs ++ (new ++ drop (at + count) vs) in
     pay (cost 0 1 (length taken + new_indexes (cell_at s n) (length left)) 0) s
-    (λ t. give (Own (length t.own.heap)) (with_cell (with_new_cell t (new_array (length taken) (numbered_pairs 0 taken))) n (with_elements (cell_at t n) left)))
+    (λ t. give (Own (length t.own.heap))
+        (with_cell (with_new_cell t (new_array (length taken) (numbered_pairs 0 taken))) n
+        (with_elements (cell_at t n) left)))
 
 -- how many are taken out: to the end where n is absent, not undefined
 abbrev pub splice_count : ℕ → List Value → ℕ → State → (ℤ → Plan) → Plan
@@ -117,4 +124,5 @@ abbrev pub splice : ℕ → ℕ → List Value → State → Plan
 splice n len vs s =
     let extra : ℕ = list_extra len vs s in
     want_primitives (take 2 vs) s (with_number (to_number (nth 0 vs)) extra s (λ a. splice_count len (drop 1 vs) extra s
-    (λ count. charge extra s (spliced n (elements s n len) (from_end len a) (clamped (len - from_end len a) count) (drop 2 vs) s))))
+    (λ count. charge extra s
+        (spliced n (elements s n len) (from_end len a) (clamped (len - from_end len a) count) (drop 2 vs) s))))

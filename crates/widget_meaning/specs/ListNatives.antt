@@ -11,7 +11,8 @@ use Rattle.widget_meaning.specs.ListChanges.{list_extra, array_elements, pop, pu
 
 -- `concat(a, ...)`: the elements, then each argument, arrays by their elements
 abbrev pub list_concat : ℕ → ℕ → List Value → State → Plan
-list_concat n len vs s = charge (list_extra len vs s) s (make_array (elements s n len ++ flat_map (array_elements s) vs) 0 s give)
+list_concat n len vs s =
+    charge (list_extra len vs s) s (make_array (elements s n len ++ flat_map (array_elements s) vs) 0 s give)
 
 -- the text of an element; undefined and null are empty
 abbrev pub joined_text : Value → List ℕ
@@ -26,7 +27,9 @@ separator v = to_text v
 
 -- `join(s)`: an object among the elements throws E4, before the extra
 abbrev pub join : ℕ → ℕ → Value → ℕ → State → Plan
-join n len x extra s = want_primitives (x ∷ elements s n len) s (give_text extra (join_by joined_text (separator x) (elements s n len)) s)
+join n len x extra s =
+    want_primitives (x ∷ elements s n len) s
+    (give_text extra (join_by joined_text (separator x) (elements s n len)) s)
 
 -- `slice(a, b)`
 abbrev pub list_slice : ℕ → ℕ → Value → Value → ℕ → State → Plan
@@ -34,10 +37,11 @@ list_slice n len a b extra s =
     want_primitives (a ∷ b ∷ []) s (with_number (to_number a) extra s (λ x. with_optional (pos len) b extra s
     (λ y. charge extra s (make_array (slice_range (elements s n len) (from_end len x) (from_end len y)) 0 s give))))
 
--- a call of a function with each element and its index, in order, and what is done with what the calls gave. The unit of each is that of the call
+-- a call of a function with each element and its index, in order, and what is done with what the calls gave
 abbrev pub call_each : Value → List Value → ℕ → List Value → ℕ → State → (List Value → State → Plan) → Plan
 call_each f [] i ws d s k = k ws s
-call_each f (v ∷ vs) i ws d s k = Do (Call f None (v ∷ Num (pos i) ∷ []) d) s (after (λ w t. call_each f vs (i + 1) (ws ++ w ∷ []) d t k))
+call_each f (v ∷ vs) i ws d s k =
+    Do (Call f None (v ∷ Num (pos i) ∷ []) d) s (after (λ w t. call_each f vs (i + 1) (ws ++ w ∷ []) d t k))
 
 -- `forEach`, `map` and `filter`: the elements are listed at the start; a new array is made after the last call
 abbrev pub over : ℕ → ℕ → Value → ℕ → State → (List Value → State → Plan) → Plan
@@ -54,7 +58,8 @@ list_method Join n len vs d s = join n len (nth 0 vs) (list_extra len vs s) s
 list_method ListSlice n len vs d s = list_slice n len (nth 0 vs) (nth 1 vs) (list_extra len vs s) s
 list_method ForEach n len vs d s = over n len (nth 0 vs) d s (λ ws t. give Undefined t)
 list_method MapNative n len vs d s = over n len (nth 0 vs) d s (λ ws t. make_array ws 0 t give)
-list_method FilterNative n len vs d s = over n len (nth 0 vs) d s (λ ws t. make_array (kept (elements s n len) ws) 0 t give)
+list_method FilterNative n len vs d s =
+    over n len (nth 0 vs) d s (λ ws t. make_array (kept (elements s n len) ws) 0 t give)
 list_method Pop n len vs d s = pop n len vs s
 list_method Push n len vs d s = push n len vs s
 list_method Shift n len vs d s = shift n len vs s

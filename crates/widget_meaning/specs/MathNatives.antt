@@ -19,7 +19,8 @@ of_one vs f s = want_primitives (nth 0 vs ∷ []) s (charge (length vs) s (resul
 -- the best of all, where one that leaves the numbers comes before NaN; none leaves the numbers
 abbrev pub best : (ℤ → ℤ → ℤ) → List Value → WholeRead
 best f [] = read.Left
-best f (v ∷ vs) = fold (of_numbers read.Left read.NotNumber (λ x y. read.Whole (f x y))) (to_number v) (map to_number vs)
+best f (v ∷ vs) =
+    fold (of_numbers read.Left read.NotNumber (λ x y. read.Whole (f x y))) (to_number v) (map to_number vs)
 
 -- `max` and `min`
 abbrev pub of_all : List Value → (ℤ → ℤ → ℤ) → State → Plan

@@ -32,7 +32,7 @@ on_array this s k = throw E3 s
 abbrev pub on_bunch : Option Value → State → (List ℕ → Plan) → Plan
 on_bunch this s k = or_throw E3 (option_and_then (λ v. bunch_nodes (kind_of s v)) this) s k
 
--- a number argument, NaN as this number; where it leaves the numbers, the extra without units made is taken and the widget stops
+-- a number argument, NaN as this number; where it leaves the numbers, the extra is taken and the widget stops
 abbrev pub with_number_or : ℤ → WholeRead → ℕ → State → (ℤ → Plan) → Plan
 with_number_or z (read.Whole x) extra s k = k x
 with_number_or z read.NotNumber extra s k = k z
@@ -61,7 +61,9 @@ numbered_pairs i (v ∷ vs) = (index_name i, v) ∷ numbered_pairs (i + 1) vs
 
 -- a new array of these elements, with so many units of texts made for it: one cost
 abbrev pub make_array : List Value → ℕ → State → (Value → State → Plan) → Plan
-make_array vs units s k = pay (cost units 1 (length vs) 0) s (λ t. k (Own (length t.own.heap)) (with_new_cell t (new_array (length vs) (numbered_pairs 0 vs))))
+make_array vs units s k =
+    pay (cost units 1 (length vs) 0) s
+    (λ t. k (Own (length t.own.heap)) (with_new_cell t (new_array (length vs) (numbered_pairs 0 vs))))
 
 -- a new Bunch of these nodes: a cell, and a slot more than there are nodes
 abbrev pub make_bunch : List ℕ → State → (Value → State → Plan) → Plan
@@ -88,7 +90,8 @@ is_too_long t = nat_lt max_text (length t)
 
 -- a new array of texts that are all made for it: one is too long, or one cost
 abbrev pub give_texts : List (List ℕ) → State → Plan
-give_texts ts s = if list_any is_too_long ts then Halt LongText s else make_array (map Text ts) (sum_by length ts) s give
+give_texts ts s =
+    if list_any is_too_long ts then Halt LongText s else make_array (map Text ts) (sum_by length ts) s give
 
 -- an object as receiver: of the widget, or an entry of the permitted table
 abbrev pub on_object : Option Value → State → (Value → Plan) → Plan

@@ -1,9 +1,9 @@
--- Rows computed from the definitions: widgets whose bodies use operators and natives, each with the default grant. Above each tree stands its body.
+-- Rows computed from the definitions: bodies with operators and natives. Above each tree stands its text.
 use Rattle.std.specs.Prelude.{[], ◌∷◌, codes, Some, None}
 use Rattle.js_tree.specs.declared.nodes.BinOp.TheVariants as bin
 use Rattle.js_tree.specs.Plain as tree
 use Rattle.js_tree.specs.Plain.{Expr}
-use Rattle.widget_meaning.specs.Values.{Due, Number}
+use Rattle.widget_meaning.specs.Values.{PastLimit, Number}
 use Rattle.widget_meaning.specs.Alone.{Content}
 use Rattle.widget_meaning.specs.Rows.{Row, rendered}
 use Rattle.widget_meaning.specs.RowTrees.{expr, name, num, str, array, object, dom_q, method, adsafe, operation, does, logs, var, returns, catches, function, body}
@@ -14,7 +14,8 @@ sorted_texts = body (logs (method (method (array (num "3" ∷ num "10" ∷ num "
 
 -- var o = {a: 1}; try { ADSAFE.get(o, "b_"); } catch (e) { ADSAFE.log(e.message); }
 abbrev pub underscore_get : Content
-underscore_get = body (var "o" (object (("a", num "1") ∷ [])) ∷ catches (adsafe "get" (name "o" ∷ str "b_" ∷ [])) "e" ∷ [])
+underscore_get =
+    body (var "o" (object (("a", num "1") ∷ [])) ∷ catches (adsafe "get" (name "o" ∷ str "b_" ∷ [])) "e" ∷ [])
 
 -- function (x) { return x * x; }
 abbrev pub square : Expr
@@ -23,7 +24,8 @@ square = function ("x" ∷ []) (returns (operation bin.Mul (name "x") (name "x")
 -- var a = [1, 2, 3].map(function (x) { return x * x; }); ADSAFE.log(a[2]);
 abbrev pub mapped_squares : Content
 mapped_squares =
-    body (var "a" (method (array (num "1" ∷ num "2" ∷ num "3" ∷ [])) "map" (square ∷ [])) ∷ logs (expr (tree.Sub (name "a") (num "2"))) ∷ [])
+    body (var "a" (method (array (num "1" ∷ num "2" ∷ num "3" ∷ [])) "map" (square ∷ []))
+        ∷ logs (expr (tree.Sub (name "a") (num "2"))) ∷ [])
 
 -- ADSAFE.log(ADSAFE.toJson(ADSAFE.fromJson("{\"b\":[1,null],\"a\":\"x\"}")));
 abbrev pub json_and_back : Content
@@ -33,7 +35,8 @@ json_and_back = body (logs (adsafe "toJson" (adsafe "fromJson" (str "{\"b\":[1,n
 abbrev pub has_text : Expr
 has_text = object (("toString", function [] (returns (str "x") ∷ [])) ∷ [])
 
--- var b = dom.q("p"); try { ADSAFE.get(b, {toString: function () { return "x"; }}); } catch (e) { ADSAFE.log(e.message); } try { ADSAFE.get(b, "___nodes___"); } catch (g) { ADSAFE.log(g.message); }
+-- var b = dom.q("p"); try { ADSAFE.get(b, {toString: function () { return "x"; }}); }
+-- catch (e) { ADSAFE.log(e.message); } try { ADSAFE.get(b, "___nodes___"); } catch (g) { ADSAFE.log(g.message); }
 abbrev pub hidden_get : Content
 hidden_get = body
     (var "b" (dom_q "p")
@@ -55,5 +58,5 @@ pub record NativeRows : Type 0 where
   pub mapped_squares_row : Row (rendered mapped_squares) None 37 (codes "9" ∷ []) []
   pub hidden_get_row : Row (rendered hidden_get) None 57 (codes "bad name" ∷ codes "bad name" ∷ []) []
   pub json_and_back_row : Row (rendered json_and_back) None 81 (codes "{\"a\":\"x\",\"b\":[1,null]}" ∷ []) []
-  pub json_fraction_row : Row (rendered json_fraction) (Some (Due Number)) 10 [] []
+  pub json_fraction_row : Row (rendered json_fraction) (Some (PastLimit Number)) 10 [] []
   pub json_banned_name_row : Row (rendered json_banned_name) None 7 [] (codes "ADsafe: bad name" ∷ [])

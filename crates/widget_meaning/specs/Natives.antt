@@ -1,12 +1,12 @@
 -- The natives, each by the file of its family.
 --
--- How a native is written. It has taken its one unit; what follows is a plan of a few lines, beside its row of the language:
+-- How a native is written. It has taken its one unit; what follows is a plan of a few lines:
 --   first the receiver, which is none for a plain call (`on_text`, `on_array`, `on_bunch` throw E3 for another);
 --   then the arguments (`want_primitives`, `want_function` throw E4);
---   then the extra (`charge`), the stops `number` and `longtext` in this order, and the costs (`pay`, `make`, `make_array`, `make_bunch`): one cost for all that one native makes;
+--   then the extra (`charge`), the stops `number` and `longtext` in this order, and one cost for all that it makes;
 --   then the change of the state, and what it gives (`give`).
--- A native that calls functions asks for the job `Call f None arguments d`, with its own depth d, and goes on by how that ends; anything but a value passes by `on_value`.
--- A recursion goes over a list that the native has listed, never over what a call may change. `charAt` and `forEach` are the two patterns.
+-- A native that calls a function asks for the job `Call`, with its own depth; all but a value passes by `on_value`.
+-- A recursion goes over a list that the native has listed, never over what a call may change.
 use Rattle.std.specs.Prelude.{ℕ, List, Option}
 use Rattle.widget_meaning.specs.NativeNames.{NativeId, OfGlobal, OfMath, OfPrototype, OfText, OfList, OfAdsafe, OfDom, OfRead, OfWrite, Bubble}
 use Rattle.widget_meaning.specs.Values.{Value}

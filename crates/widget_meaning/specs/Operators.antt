@@ -68,10 +68,10 @@ plus a b =
     else arithmetic a b (λ x y. number (x +ℤ y))
 
 -- texts in the order of their units
-abbrev pub text_lt : List ℕ → List ℕ → Bool
-text_lt t [] = false
-text_lt [] (v ∷ vs) = true
-text_lt (u ∷ us) (v ∷ vs) = nat_lt u v || (nat_eq u v && text_lt us vs)
+abbrev pub is_text_before : List ℕ → List ℕ → Bool
+is_text_before t [] = false
+is_text_before [] (v ∷ vs) = true
+is_text_before (u ∷ us) (v ∷ vs) = nat_lt u v || (nat_eq u v && is_text_before us vs)
 
 -- two texts are compared by units, else two numbers; NaN gives false
 abbrev pub compare : (List ℕ → List ℕ → Bool) → (ℤ → ℤ → Bool) → Value → Value → OpOut
@@ -84,15 +84,15 @@ is_yes (yes p) = true
 is_yes (no p) = false
 
 -- `===`: type and value, texts by units, objects by identity; NaN equals nothing
-abbrev pub same : Value → Value → Bool
-same Undefined Undefined = true
-same Null Null = true
-same (Truth a) (Truth b) = if a then b else not b
-same (Num x) (Num y) = is_zero (x -ℤ y)
-same (Text t) (Text u) = bytes_eq t u
-same (Own m) (Own n) = nat_eq m n
-same (Host g) (Host h) = is_yes (same_host g h)
-same _ _ = false
+abbrev pub is_same : Value → Value → Bool
+is_same Undefined Undefined = true
+is_same Null Null = true
+is_same (Truth a) (Truth b) = if a then b else not b
+is_same (Num x) (Num y) = is_zero (x -ℤ y)
+is_same (Text t) (Text u) = bytes_eq t u
+is_same (Own m) (Own n) = nat_eq m n
+is_same (Host g) (Host h) = is_yes (same_host g h)
+is_same _ _ = false
 
 -- an operator on two primitives; `===` and `!==` on any values
 abbrev pub binary : BinOp → Value → Value → OpOut
@@ -101,12 +101,12 @@ binary bin.Sub a b = arithmetic a b (λ x y. number (x -ℤ y))
 binary bin.Mul a b = arithmetic a b (λ x y. number (x *ℤ y))
 binary bin.Rem a b = arithmetic a b remainder
 binary bin.Div a b = arithmetic a b quotient
-binary bin.Less a b = compare text_lt int_lt a b
-binary bin.Greater a b = compare (λ t u. text_lt u t) (λ x y. int_lt y x) a b
-binary bin.LessEqual a b = compare (λ t u. not (text_lt u t)) (λ x y. not (int_lt y x)) a b
-binary bin.GreaterEqual a b = compare (λ t u. not (text_lt t u)) (λ x y. not (int_lt x y)) a b
-binary bin.Same a b = truth (same a b)
-binary bin.NotSame a b = truth (not (same a b))
+binary bin.Less a b = compare is_text_before int_lt a b
+binary bin.Greater a b = compare (λ t u. is_text_before u t) (λ x y. int_lt y x) a b
+binary bin.LessEqual a b = compare (λ t u. not (is_text_before u t)) (λ x y. not (int_lt y x)) a b
+binary bin.GreaterEqual a b = compare (λ t u. not (is_text_before t u)) (λ x y. not (int_lt x y)) a b
+binary bin.Same a b = truth (is_same a b)
+binary bin.NotSame a b = truth (not (is_same a b))
 -- no accepted tree has the others
 binary _ a b = Gives Undefined
 

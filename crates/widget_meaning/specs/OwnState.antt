@@ -34,7 +34,7 @@ pub record Handler : Type 0 where
   pub func : ℕ
 
 -- what is kept with a node: its handlers in order of listening, its mark, and whether it is protected
-pub record Notes : Type 0 where
+pub record Kept : Type 0 where
   pub handlers : List Handler
   pub mark : List ℕ
   pub is_protected : Bool
@@ -64,7 +64,7 @@ pub record OwnState : Type 0 where
   -- the root's tree first, then detached trees by the age of their tops; nodes are numbered by birth
   pub forest : Trees
   -- by the numbers of nodes
-  pub notes : List Notes
+  pub kept : List Kept
   -- in order of their start
   pub timers : List Timer
   pub clock : ℕ
@@ -152,12 +152,12 @@ abbrev pub scope_at : State → ℕ → Scope
 scope_at s n = slice_index_or s.own.scopes n (record { outer = None; pairs = [] })
 
 -- nothing is kept with a node
-abbrev pub no_notes : Notes
-no_notes = record { handlers = []; mark = []; is_protected = false }
+abbrev pub nothing_kept : Kept
+nothing_kept = record { handlers = []; mark = []; is_protected = false }
 
 -- what is kept with a node
-abbrev pub notes_at : State → ℕ → Notes
-notes_at s n = slice_index_or s.own.notes n no_notes
+abbrev pub kept_at : State → ℕ → Kept
+kept_at s n = slice_index_or s.own.kept n nothing_kept
 
 -- ## What is changed
 
@@ -178,8 +178,8 @@ abbrev pub with_forest : State → Trees → State
 with_forest s t = with_own s (record s.own { forest = t })
 
 -- with other notes of one node
-abbrev pub with_notes : State → ℕ → Notes → State
-with_notes s n k = with_own s (record s.own { notes = slice_set s.own.notes n k })
+abbrev pub with_kept : State → ℕ → Kept → State
+with_kept s n k = with_own s (record s.own { kept = slice_set s.own.kept n k })
 
 -- with one more object; its number is how many there were
 abbrev pub with_new_cell : State → Cell → State

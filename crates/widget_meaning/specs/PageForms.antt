@@ -1,18 +1,16 @@
 -- What the natives of the page have in common: nodes and their labels, what they cost, and new nodes.
 use Rattle.std.specs.Prelude.{ℕ, ◌+◌, List, [], ◌∷◌, ◌++◌, length, Bool, false, not, ◌&&◌, ◌||◌, nat_le, nat_lt, ◌==◌, if◌then◌else◌, codes, Option, Some, None, replicate, unwrap_or, option_and_then, sum_by}
 use Rattle.std.specs.List.{list_any, list_all}
-use Rattle.std.specs.Int.{is_in_range}
-use Rattle.std.specs.Str.{bytes_eq, byte}
+use Rattle.std.specs.Str.{bytes_eq}
 use Rattle.std.specs.Option.{option_map_or}
 use Rattle.query_grammar.specs.Filters as node
 use Rattle.query_grammar.specs.Filters.{Look}
 use Rattle.query_grammar.specs.Finds.{has_number}
-use Rattle.widget_meaning.specs.Limits.{max_event_type}
 use Rattle.widget_meaning.specs.Values.{Value, E4, E10}
 use Rattle.plain_tree.specs.Names as names
 use Rattle.plain_tree.specs.Trees.{End, Node, Label, TextOf, ElementOf}
 use Rattle.widget_meaning.specs.Trees.{Trees, label_of, relabelled, with_detached}
-use Rattle.widget_meaning.specs.OwnState.{State, no_notes, with_own, with_forest, bunch_nodes, kind_of}
+use Rattle.widget_meaning.specs.OwnState.{State, nothing_kept, with_own, with_forest, bunch_nodes, kind_of}
 use Rattle.widget_meaning.specs.Plan.{Plan}
 use Rattle.widget_meaning.specs.Costs.{throw, or_throw, want}
 use Rattle.tree_ops.specs.Labels as labels
@@ -81,15 +79,16 @@ texts_of (Node n (ElementOf tag attrs) ks ts) = texts_of ks ++ texts_of ts
 abbrev pub tree_units : Trees → ℕ
 tree_units End = 0
 tree_units (Node n (TextOf t) ks ts) = length t + (tree_units ks + tree_units ts)
-tree_units (Node n (ElementOf tag attrs) ks ts) = sum_by (λ a. length a.1) (without_value (codes "id") attrs) + (tree_units ks + tree_units ts)
+tree_units (Node n (ElementOf tag attrs) ks ts) =
+    sum_by (λ a. length a.1) (without_value (codes "id") attrs) + (tree_units ks + tree_units ts)
 
 -- how many nodes the widget has had, which is the number of the next one
 abbrev pub next_node : State → ℕ
-next_node s = length s.own.notes
+next_node s = length s.own.kept
 
 -- room for new nodes, of which nothing is kept yet
 abbrev pub with_room : ℕ → State → State
-with_room k s = with_own s (record s.own { notes = s.own.notes ++ replicate k no_notes })
+with_room k s = with_own s (record s.own { kept = s.own.kept ++ replicate k nothing_kept })
 
 -- a new tree of one node, detached
 abbrev pub with_node : Label → State → State
@@ -99,29 +98,7 @@ with_node l s = with_room 1 (with_forest s (with_detached (Node (next_node s) l 
 abbrev pub with_label : State → ℕ → Label → State
 with_label s n l = with_forest s (relabelled n l s.own.forest)
 
--- units of `class`, `name` and `type`: ASCII letters, digits, space, `_`, `-`, `/`
-abbrev pub is_plain_unit : ℕ → Bool
-is_plain_unit u =
-    is_in_range 97 122 u || is_in_range 65 90 u || is_in_range 48 57 u || u == 32 || u == byte "_" || u == byte "-" || u == byte "/"
-
--- whether a text may be a `class` or a `type`
-abbrev pub is_plain_words : List ℕ → Bool
-is_plain_words t = list_all is_plain_unit t
-
--- a type of events: 1 to 16 letters `a` to `z`
-abbrev pub is_event_type : List ℕ → Bool
-is_event_type t = nat_lt 0 (length t) && nat_le (length t) max_event_type && list_all (is_in_range 97 122) t
-
 -- each number once, at its first place, behind those seen
 abbrev pub once : List ℕ → List ℕ → List ℕ
 once seen [] = seen
 once seen (n ∷ ns) = if has_number seen n then once seen ns else once (seen ++ n ∷ []) ns
-
--- the listed tags, without `script`
-abbrev pub listed_tags : List (List ℕ)
-listed_tags =
-    codes "a" ∷ codes "abbr" ∷ codes "b" ∷ codes "blockquote" ∷ codes "br" ∷ codes "button" ∷ codes "caption" ∷ codes "code" ∷ codes "dd"
-    ∷ codes "div" ∷ codes "dl" ∷ codes "dt" ∷ codes "em" ∷ codes "h1" ∷ codes "h2" ∷ codes "h3" ∷ codes "h4" ∷ codes "h5" ∷ codes "h6"
-    ∷ codes "hr" ∷ codes "i" ∷ codes "img" ∷ codes "input" ∷ codes "label" ∷ codes "li" ∷ codes "ol" ∷ codes "option" ∷ codes "p"
-    ∷ codes "pre" ∷ codes "select" ∷ codes "small" ∷ codes "span" ∷ codes "strong" ∷ codes "sub" ∷ codes "sup" ∷ codes "table"
-    ∷ codes "tbody" ∷ codes "td" ∷ codes "textarea" ∷ codes "tfoot" ∷ codes "th" ∷ codes "thead" ∷ codes "tr" ∷ codes "ul" ∷ []

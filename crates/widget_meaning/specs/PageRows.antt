@@ -32,7 +32,8 @@ bad_query = body (catches (dom_q "#") "e" ∷ [])
 abbrev pub logs_next : Stmt
 logs_next = logs (method (method (name "b") "q" (str "+p" ∷ [])) "count" [])
 
--- var b = dom.q("p"); dom.append(dom.tag("p")); ADSAFE.log(b.q("+p").count()); b.protect(); ADSAFE.log(b.q("+p").count()); try { b.getParent(); } catch (e) { ADSAFE.log(e.message); }
+-- var b = dom.q("p"); dom.append(dom.tag("p")); ADSAFE.log(b.q("+p").count()); b.protect();
+-- ADSAFE.log(b.q("+p").count()); try { b.getParent(); } catch (e) { ADSAFE.log(e.message); }
 abbrev pub protected_paragraph : Content
 protected_paragraph = body
     (var "b" (dom_q "p")
@@ -81,10 +82,12 @@ click path = Occurs (record { kind = codes "click"; path = path; value = None })
 abbrev pub counted : OwnState
 counted = alone counter 100000 (click (3 ∷ []) ∷ click (3 ∷ []) ∷ click (3 ∷ []) ∷ click (9 ∷ []) ∷ [])
 
--- <p><b>t</b></p>, and dom.q("b").on("click", function (e) { ADSAFE.log("b"); e.bubble(); }); dom.q("p").on("click", function (e) { while (true) {} });
+-- <p><b>t</b></p>, and dom.q("b").on("click", function (e) { ADSAFE.log("b"); e.bubble(); });
+-- dom.q("p").on("click", function (e) { while (true) {} });
 abbrev pub bubble_into_loop : Content
 bubble_into_loop = content (root "X_" (element "p" [] (element "b" [] (words "t" End) End) End))
-    (does (method (dom_q "b") "on" (str "click" ∷ function ("e" ∷ []) (logs (str "b") ∷ does (method (name "e") "bubble" []) ∷ []) ∷ []))
+    (does (method (dom_q "b") "on"
+        (str "click" ∷ function ("e" ∷ []) (logs (str "b") ∷ does (method (name "e") "bubble" []) ∷ []) ∷ []))
     ∷ does (method (dom_q "p") "on" (str "click" ∷ function ("e" ∷ []) (forever [] ∷ []) ∷ [])) ∷ []) []
 
 -- two clicks on the inner element: the second comes too late
@@ -97,17 +100,21 @@ pub record Events (o : OwnState) (turns missed gone : ℕ) : Type 0 where
   pub missed_are : o.missed ≡ missed
   pub gone_are : o.gone ≡ gone
 
--- the rows; a keyword of a query may stand directly before the next step; after the clicks the paragraph of the counter has its style, and a new text
+-- the rows; after the clicks the paragraph of the counter has its style, and a new text
 pub record PageRows : Type 0 where
   pub hidden_keys_row : Row (rendered hidden_keys) None 27 (codes "false" ∷ []) []
   pub bad_query_row : Row (rendered bad_query) None 24 (codes "bad query" ∷ []) []
-  pub protected_paragraph_row : Row (rendered protected_paragraph) None 98 (codes "1" ∷ codes "0" ∷ codes "bad place in the page" ∷ []) []
-  pub joined_keyword : read_query (codes "p:firstb") ≡ Some (record { hunter = hunter.Tag (codes "p"); filters = kind.List on_list.First ∷ [] } ∷ record { hunter = hunter.Tag (codes "b"); filters = [] } ∷ [])
+  pub protected_paragraph_row : Row (rendered protected_paragraph) None 98
+      (codes "1" ∷ codes "0" ∷ codes "bad place in the page" ∷ []) []
+  pub joined_keyword : read_query (codes "p:firstb") ≡ Some
+      (record { hunter = hunter.Tag (codes "p"); filters = kind.List on_list.First ∷ [] }
+      ∷ record { hunter = hunter.Tag (codes "b"); filters = [] } ∷ [])
   pub second_item_row : Row (rendered (second_item "li:rest:first")) None 48 (codes "b" ∷ codes "1" ∷ []) []
   pub second_item_again_row : Row (rendered (second_item "li:first +li")) None 64 (codes "b" ∷ codes "1" ∷ []) []
   pub counter_row : Row counted None 138 (codes "clicks 1" ∷ codes "clicks 2" ∷ codes "clicks 3" ∷ []) []
   pub counter_events : Events counted 4 1 0
-  pub counter_styled : label_of 2 counted.forest ≡ Some (ElementOf (codes "p") ((codes "id", codes "COUNT_out") ∷ (codes "style", codes "color: red") ∷ []))
+  pub counter_styled : label_of 2 counted.forest ≡ Some
+      (ElementOf (codes "p") ((codes "id", codes "COUNT_out") ∷ (codes "style", codes "color: red") ∷ []))
   pub counter_text : label_of 10 counted.forest ≡ Some (TextOf (codes "3"))
   pub bubble_into_loop_row : Row looped (Some Fuel) 100033 (codes "b" ∷ []) []
   pub bubble_into_loop_events : Events looped 2 0 1

@@ -17,7 +17,7 @@ pub data Loop : Type 0 where
   ForLoop : OptionalExpr → List Expr → List Stmt → Loop
   ForInLoop : Value → List ℕ → List ℕ → List (List ℕ) → List Stmt → Loop
 
--- an event at one node: its type, its target, the node whose handlers run, the value, the event object, and the calls to make
+-- an event at one node: type, target, the node whose handlers run, value, the event object, and the calls to make
 pub record Hearing : Type 0 where
   pub kind : List ℕ
   pub target : ℕ

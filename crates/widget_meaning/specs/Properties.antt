@@ -63,20 +63,21 @@ on_chain zero s o x = None
 on_chain (suc n) s None x = None
 on_chain (suc n) s (Some o) x = or_else (own_property s o x) (λ _. on_chain n s (prototype s o) x)
 
--- where the properties of a value are: those of a primitive come from a host prototype
-abbrev pub holder : Value → Option Value
-holder Undefined = None
-holder Null = None
-holder (Truth b) = Some (Host (PrototypeOf BooleanPrototype))
-holder NaN = Some (Host (PrototypeOf NumberPrototype))
-holder (Num z) = Some (Host (PrototypeOf NumberPrototype))
-holder (Text t) = Some (Host (PrototypeOf TextPrototype))
-holder v = Some v
+-- a property of an object, own or along its prototypes
+abbrev pub along : State → Value → List ℕ → Option Value
+along s o x = on_chain (suc max_chain) s (Some o) x
 
--- a property of a value, own or along the prototypes; a text has a `length`
+-- a property of a value: those of a primitive come from a host prototype; a text has a `length`
 abbrev pub property : State → Value → List ℕ → Option Value
-property s (Text t) x = if is_length x then Some (Num (pos (length t))) else on_chain (suc max_chain) s (holder (Text t)) x
-property s v x = on_chain (suc max_chain) s (holder v) x
+property s Undefined x = None
+property s Null x = None
+property s (Truth b) x = along s (Host (PrototypeOf BooleanPrototype)) x
+property s NaN x = along s (Host (PrototypeOf NumberPrototype)) x
+property s (Num z) x = along s (Host (PrototypeOf NumberPrototype)) x
+property s (Text t) x =
+    if is_length x then Some (Num (pos (length t))) else along s (Host (PrototypeOf TextPrototype)) x
+property s (Own n) x = along s (Own n) x
+property s (Host h) x = along s (Host h) x
 
 -- a property, undefined where there is none
 abbrev pub get : State → Value → List ℕ → Value
@@ -131,7 +132,7 @@ put o x v s k = k s
 abbrev pub delete_pair : Cell → ℕ → List ℕ → State → (Bool → State → Plan) → Plan
 delete_pair c n x s k = k true (with_cell s n (record c { pairs = taken_out c.pairs x }))
 
--- a property of an object of the widget is taken out, and what is done with whether it could be; an array keeps its `length`
+-- a property of an object of the widget is taken out, and what is done then; an array keeps its `length`
 abbrev pub delete_own : Kind → Cell → ℕ → List ℕ → State → (Bool → State → Plan) → Plan
 delete_own (Array len) c n x s k = if is_length x then k false s else delete_pair c n x s k
 delete_own (Bunch ns) c n x s k = throw E5 s
@@ -165,10 +166,11 @@ listed xs ys = xs ++ filter (λ y. not (is_listed xs y)) ys
 
 -- the names along a chain of objects of the widget, behind those listed
 abbrev pub names_on_chain : ℕ → State → Option Value → List (List ℕ) → List (List ℕ)
-names_on_chain (suc m) s (Some (Own n)) xs = names_on_chain m s (Some (cell_at s n).prototype) (listed xs (permitted_names (cell_at s n).pairs))
+names_on_chain (suc m) s (Some (Own n)) xs =
+    names_on_chain m s (Some (cell_at s n).prototype) (listed xs (permitted_names (cell_at s n).pairs))
 names_on_chain m s o xs = xs
 
--- the names that `for-in` lists: own ones, then those along the prototypes that are not listed yet; host objects give none
+-- the names that `for-in` lists: own ones, then those along the prototypes; host objects give none
 abbrev pub names_of : State → Value → List (List ℕ)
 names_of s v = names_on_chain (suc max_chain) s (Some v) []
 

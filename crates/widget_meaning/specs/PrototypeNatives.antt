@@ -15,7 +15,8 @@ use Rattle.widget_meaning.specs.ListNatives.{join}
 -- `hasOwnProperty(name)`: whether the object has that own name and the name is permitted
 abbrev pub has_own_property : Option Value → Value → State → Plan
 has_own_property this x s =
-    on_object this s (λ o. want_primitives (x ∷ []) s (give (Truth (is_some (own_property s o (to_text x)) && is_permitted (to_text x))) s))
+    on_object this s (λ o. want_primitives (x ∷ []) s
+        (give (Truth (is_some (own_property s o (to_text x)) && is_permitted (to_text x))) s))
 
 -- a text that is made and given, without an extra
 abbrev pub give_made : List ℕ → State → Plan
@@ -32,7 +33,8 @@ array_to_string n len s = join n len (Text (codes ",")) (len + 1) s
 
 -- the text of a number in a radix; NaN has one text
 abbrev pub number_text : Value → ℤ → List ℕ
-number_text (Num z) radix = (if is_negative z then codes "-" else []) ++ digits (unsigned_abs radix) false (unsigned_abs z)
+number_text (Num z) radix =
+    (if is_negative z then codes "-" else []) ++ digits (unsigned_abs radix) false (unsigned_abs z)
 number_text v radix = to_text v
 
 -- 2 to 36
@@ -42,7 +44,8 @@ is_radix z = int_le (pos 2) z && int_le z (pos 36)
 -- 10 where absent; a radix outside 2 to 36 throws E7
 abbrev pub in_radix : Value → Value → State → Plan
 in_radix v radix s =
-    want_primitives (radix ∷ []) s (with_optional (pos 10) radix 0 s (λ r. want E7 (is_radix r) s (give_made (number_text v r) s)))
+    want_primitives (radix ∷ []) s
+        (with_optional (pos 10) radix 0 s (λ r. want E7 (is_radix r) s (give_made (number_text v r) s)))
 
 -- the `toString` of numbers
 abbrev pub number_to_string : Option Value → Value → State → Plan

@@ -1,4 +1,4 @@
--- Queries as a widget makes them. Which texts are queries, and what a query finds of what it sees of a page, is said by `query_grammar`.
+-- Queries as a widget makes them. Which texts are queries, and what a query finds, is said by `query_grammar`.
 use Rattle.std.specs.Prelude.{◌≡◌, ℕ, List, Option, Some}
 use Rattle.query_grammar.specs.Finds as query
 use Rattle.query_grammar.specs.Finds.{Links, Sight}
@@ -24,7 +24,7 @@ links s = record {
   parent = λ n. parent n s.own.forest;
 }
 
--- what a query sees of the widget's page: in document order the root's tree comes first, and then detached trees by the age of their tops
+-- what a query sees of the widget's page: the root's tree comes first, then detached trees by the age of their tops
 abbrev pub sight : State → Sight
 sight s = record { links = links s; document = numbers s.own.forest; focus = s.own.focus }
 

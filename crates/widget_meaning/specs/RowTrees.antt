@@ -117,7 +117,9 @@ for_in x e ss = stmt (tree.ForIn false (codes x) e (stmts ss))
 
 -- `try { e; } catch (x) { ADSAFE.log(x.message); }`
 abbrev pub catches : Expr → String → Stmt
-catches e x = stmt (tree.Try (stmts (does e ∷ [])) (tree.CatchAs (codes x) (stmts (logs (dot (name x) "message") ∷ []))) tree.NoBlock)
+catches e x =
+    stmt (tree.Try (stmts (does e ∷ []))
+    (tree.CatchAs (codes x) (stmts (logs (dot (name x) "message") ∷ []))) tree.NoBlock)
 
 -- `try { s } finally { u }`
 abbrev pub try_finally : Stmt → Stmt → Stmt
@@ -157,7 +159,8 @@ content ts ss fs = record {
   root = ts;
   libraries = [];
   script = stmts (does (adsafe "go" (str "A_" ∷ expr (tree.Function
-      (tree.FunAt 0 [] None (codes "dom" ∷ codes "lib" ∷ []) (stmts ss) (fold tree.AndFun tree.NoFuns fs))) ∷ [])) ∷ []);
+      (tree.FunAt 0 [] None (codes "dom" ∷ codes "lib" ∷ []) (stmts ss) (fold tree.AndFun tree.NoFuns fs))) ∷ []))
+          ∷ []);
 }
 
 -- a widget on `<div id="A_"><p>hi</p></div>`

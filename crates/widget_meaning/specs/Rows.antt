@@ -3,7 +3,7 @@ use Rattle.std.specs.Prelude.{◌≡◌, ℕ, List, [], ◌∷◌, codes, Option
 use Rattle.js_tree.specs.declared.nodes.UnOp.TheVariants as un
 use Rattle.js_tree.specs.declared.nodes.BinOp.TheVariants as bin
 use Rattle.js_tree.specs.Plain as tree
-use Rattle.widget_meaning.specs.Values.{Stop, Due, Depth, Number}
+use Rattle.widget_meaning.specs.Values.{Stop, PastLimit, Depth, Number}
 use Rattle.widget_meaning.specs.OwnState.{OwnState}
 use Rattle.widget_meaning.specs.Alone.{Content, loaded}
 use Rattle.widget_meaning.specs.RowTrees.{expr, stmt, name, num, str, array, object, dot, apply, operation, does, logs, var, vars, sets, catches, declared, widget, body}
@@ -56,12 +56,14 @@ endless_call = widget (does (apply (name "f") []) ∷ []) (declared "f" [] (does
 
 -- function f() { f = 1; } f(); ADSAFE.log(f); the call writes the variable of the scope around it
 abbrev pub declared_name : Content
-declared_name = widget (does (apply (name "f") []) ∷ logs (name "f") ∷ []) (declared "f" [] (sets (name "f") (num "1") ∷ []) ∷ [])
+declared_name =
+    widget (does (apply (name "f") []) ∷ logs (name "f") ∷ []) (declared "f" [] (sets (name "f") (num "1") ∷ []) ∷ [])
 
 -- var f = 0, g = function f() { f = 1; }; g(); ADSAFE.log(f); the call writes a variable of its own
 abbrev pub expression_name : Content
 expression_name = body
-    (vars (("f", tree.SomeExpr (num "0")) ∷ ("g", tree.SomeExpr (expr (tree.Function (declared "f" [] (sets (name "f") (num "1") ∷ []))))) ∷ [])
+    (vars (("f", tree.SomeExpr (num "0"))
+        ∷ ("g", tree.SomeExpr (expr (tree.Function (declared "f" [] (sets (name "f") (num "1") ∷ []))))) ∷ [])
     ∷ does (apply (name "g") []) ∷ logs (name "f") ∷ [])
 
 -- throw {name: "X", message: "y"};
@@ -72,11 +74,11 @@ uncaught_object = body (stmt (tree.Throw (object (("name", str "X") ∷ ("messag
 pub record Rows : Type 0 where
   pub log_sum_row : Row (rendered log_sum) None 10 (codes "3" ∷ []) []
   pub joined_left_row : Row (rendered joined_left) None 14 (codes "a12" ∷ []) []
-  pub number_limit_row : Row (rendered number_limit) (Some (Due Number)) 32 (codes "9007199254740991" ∷ []) []
-  pub inexact_quotient_row : Row (rendered inexact_quotient) (Some (Due Number)) 21 (codes "3" ∷ []) []
+  pub number_limit_row : Row (rendered number_limit) (Some (PastLimit Number)) 32 (codes "9007199254740991" ∷ []) []
+  pub inexact_quotient_row : Row (rendered inexact_quotient) (Some (PastLimit Number)) 21 (codes "3" ∷ []) []
   pub nan_as_name_row : Row (rendered nan_as_name) None 25 (codes "NaN" ∷ codes "x" ∷ []) []
   pub bare_concat_row : Row (rendered bare_concat) None 28 (codes "bad receiver" ∷ []) []
-  pub endless_call_row : Row (rendered endless_call) (Some (Due Depth)) 601 [] []
+  pub endless_call_row : Row (rendered endless_call) (Some (PastLimit Depth)) 601 [] []
   pub declared_name_row : Row (rendered declared_name) None 15 (codes "1" ∷ []) []
   pub declared_name_slots : (rendered declared_name).counts.slots ≡ 5
   pub expression_name_row : Row (rendered expression_name) None 18 (codes "0" ∷ []) []

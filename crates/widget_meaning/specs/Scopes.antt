@@ -78,7 +78,8 @@ fun_list (tree.AndFun fs f) = fun_list fs ++ f ∷ []
 
 -- the names of a call's scope but its own: parameters, `var` names, names of declared functions
 abbrev pub other_names : Fun → List (List ℕ)
-other_names (tree.FunAt at names name params body funs) = params ++ (stmts_vars body ++ flat_map fun_name (fun_list funs))
+other_names (tree.FunAt at names name params body funs) =
+    params ++ (stmts_vars body ++ flat_map fun_name (fun_list funs))
 
 -- each name once, at its first place, behind those seen
 abbrev pub distinct : List (List ℕ) → List (List ℕ) → List (List ℕ)
@@ -90,16 +91,18 @@ abbrev pub argument : List (List ℕ) → List Value → List ℕ → Option Val
 argument [] vs x = None
 argument (p ∷ ps) vs x = option_or (argument ps (drop 1 vs) x) (if bytes_eq p x then Some (nth 0 vs) else None)
 
--- the first value of a name in a call's scope: an argument; the function itself under its own name where that is no other name; else undefined
+-- the first value of a name in a call's scope: an argument; the function under its own name; else undefined
 abbrev pub first_of_name : Fun → Value → List Value → List ℕ → Value
 first_of_name (tree.FunAt at names name params body funs) f vs x =
     let others : List (List ℕ) = other_names (tree.FunAt at names name params body funs) in
-    unwrap_or (argument params vs x) (if list_any (bytes_eq x) (option_to_list name) && not (list_any (bytes_eq x) others) then f else Undefined)
+    unwrap_or (argument params vs x)
+        (if list_any (bytes_eq x) (option_to_list name) && not (list_any (bytes_eq x) others) then f else Undefined)
 
 -- a call's scope: each of its names once, with its first value
 abbrev pub call_scope : Fun → Option ℕ → Value → List Value → Scope
 call_scope fun outer f vs =
-    record { outer = outer; pairs = map (λ x. (x, first_of_name fun f vs x)) (distinct [] (other_names fun ++ fun_name fun)) }
+    record { outer = outer; pairs = map (λ x. (x, first_of_name fun f vs x))
+        (distinct [] (other_names fun ++ fun_name fun)) }
 
 -- ## How a name is found
 
@@ -107,7 +110,8 @@ call_scope fun outer f vs =
 abbrev pub scope_having : ℕ → State → Option ℕ → List ℕ → Option ℕ
 scope_having zero s o x = None
 scope_having (suc n) s None x = None
-scope_having (suc n) s (Some i) x = or_else (option_map (λ v. i) (lookup (scope_at s i).pairs x)) (λ _. scope_having n s (scope_at s i).outer x)
+scope_having (suc n) s (Some i) x =
+    or_else (option_map (λ v. i) (lookup (scope_at s i).pairs x)) (λ _. scope_having n s (scope_at s i).outer x)
 
 -- the scope of a name at a place
 abbrev pub scope_of : State → Place → List ℕ → Option ℕ

@@ -3,7 +3,7 @@ use Rattle.std.specs.Prelude.{ℕ, List, [], ◌∷◌, ◌++◌, length, if◌t
 use Rattle.js_tree.specs.Plain as tree
 use Rattle.js_tree.specs.Plain.{Expr, OptionalExpr, Stmt, StmtForm, Stmts, Decls, ForInit, OptionalBlock, Catch, Clauses}
 use Rattle.widget_meaning.specs.Values.{Value, Undefined, Text, Completion, Normal, Return, Break, Continue, Throw, E1, is_true, is_nothing}
-use Rattle.widget_meaning.specs.Operators.{same}
+use Rattle.widget_meaning.specs.Operators.{is_same}
 use Rattle.widget_meaning.specs.OwnState.{State, with_new_scope, Scope}
 use Rattle.widget_meaning.specs.Plan.{Place, Plan, Ret, Do, Eval, Pass, Loop, WhileLoop, DoLoop, ForLoop, ForInLoop, and_then, charge, on_value, on_normal, on_throw, after}
 use Rattle.widget_meaning.specs.Costs.{pay, throw, scope_cost}
@@ -76,7 +76,8 @@ for_init (tree.ExprsFirst es) p s = expressions (expr_list es) p s
 -- the listed names one after the other; one that is no longer found is passed over
 abbrev pub for_in : Value → List ℕ → List (List ℕ) → List Stmt → Place → State → Plan
 for_in v x [] b p s = Ret Normal s
-for_in v x (y ∷ ys) b p s = if is_some (property s v y) then Do (Pass (ForInLoop v x y ys b) p) s Ret else for_in v x ys b p s
+for_in v x (y ∷ ys) b p s =
+    if is_some (property s v y) then Do (Pass (ForInLoop v x y ys b) p) s Ret else for_in v x ys b p s
 
 -- after the body of a `for-in`
 abbrev pub for_in_next : Value → List ℕ → List (List ℕ) → List Stmt → Place → Completion → State → Plan
@@ -84,7 +85,9 @@ for_in_next v x ys b p o s = loop_end o s (for_in v x ys b p s)
 
 -- after the object of a `for-in`: its names are listed, and each is charged
 abbrev pub for_in_over : List ℕ → List Stmt → Place → Completion → State → Plan
-for_in_over x b p o s = on_value o s (λ v. if is_nothing v then throw E1 s else charge (length (names_of s v)) s (for_in v x (names_of s v) b p s))
+for_in_over x b p o s =
+    on_value o s (λ v. if is_nothing v then throw E1 s
+    else charge (length (names_of s v)) s (for_in v x (names_of s v) b p s))
 
 -- a pass, after its unit
 abbrev pub pass : Loop → Place → State → Plan
@@ -127,11 +130,13 @@ case_test (tree.SomeExpr e) p s k skip = Do (Eval e p) s (λ o t. on_value o t (
 abbrev pub choose_case : Value → List Case → List Case → Place → State → Plan
 choose_case v all [] p s = statements (from_default all all) p s
 choose_case v all (c ∷ cs) p s =
-    case_test c.0 p s (λ w t. if same v w then statements (c.1 ++ bodies cs) p t else choose_case v all cs p t) (choose_case v all cs p s)
+    case_test c.0 p s (λ w t. if is_same v w then statements (c.1 ++ bodies cs) p t else choose_case v all cs p t)
+        (choose_case v all cs p s)
 
 -- after the test of a clause
 abbrev pub case_tested : Value → List Case → List Stmt → List Case → Place → Completion → State → Plan
-case_tested v all b cs p o s = on_value o s (λ w. if same v w then statements (b ++ bodies cs) p s else choose_case v all cs p s)
+case_tested v all b cs p o s =
+    on_value o s (λ w. if is_same v w then statements (b ++ bodies cs) p s else choose_case v all cs p s)
 
 -- a `break` ends a switch
 abbrev pub switch_end : Completion → State → Plan
@@ -146,7 +151,8 @@ switch_on cs p o s = on_value o s (λ v. and_then (choose_case v cs cs p s) swit
 abbrev pub in_catch : List ℕ → List Stmt → Value → Place → State → Plan
 in_catch x b v p s =
     let c : Scope = record { outer = p.scope; pairs = (x, v) ∷ [] } in
-    pay (scope_cost c) s (λ t. statements b (record { scope = Some (length t.own.scopes); depth = p.depth }) (with_new_scope t c))
+    pay (scope_cost c) s
+        (λ t. statements b (record { scope = Some (length t.own.scopes); depth = p.depth }) (with_new_scope t c))
 
 -- after the block of a `try`: its `catch`
 abbrev pub caught : Catch → Place → Completion → State → Plan
@@ -169,7 +175,8 @@ statement (tree.Only e) p s = Do (Eval e p) s (after (λ v t. Ret Normal t))
 statement (tree.If e a b) p s = Do (Eval e p) s (branch a b p)
 statement (tree.While e b) p s = Do (Eval e p) s (loop_test (WhileLoop e (stmt_list b)) p)
 statement (tree.DoWhile e b) p s = Do (Pass (DoLoop (stmt_list b) e) p) s Ret
-statement (tree.For first test next b) p s = and_then (for_init first p s) (for_again test (expr_list next) (stmt_list b) p)
+statement (tree.For first test next b) p s =
+    and_then (for_init first p s) (for_again test (expr_list next) (stmt_list b) p)
 statement (tree.ForIn is_declared x e b) p s = Do (Eval e p) s (for_in_over x (stmt_list b) p)
 statement (tree.Continue x) p s = Ret Continue s
 statement (tree.Break x) p s = Ret Break s

@@ -1,4 +1,4 @@
--- Inline styles as a widget reads and changes them. Which properties and values there are, how a style is spelled and how it prints is said by `style_text`.
+-- Inline styles as a widget reads and changes them. How a style is spelled and prints is said by `style_text`.
 use Rattle.std.specs.Prelude.{◌≡◌, ℕ, not, List, [], ◌∷◌, ◌++◌, length, map, nat_eq, if◌then◌else◌, Option, Some, None}
 use Rattle.std.specs.List.{filter}
 use Rattle.std.specs.Str.{bytes_eq}

@@ -1,4 +1,4 @@
--- The methods of texts. Each counts in its extra the units of the text, of the arguments that stand for texts, and of what is made.
+-- The methods of texts. The extra counts the units of the text, of arguments that stand for texts, and of what is made.
 use Rattle.std.specs.Prelude.{ℕ, zero, suc, ℤ, pos, negsuc, ◌+◌, ◌-◌, min, max, Bool, true, false, List, [], ◌∷◌, ◌++◌, length, take, drop, map, sum_by, nat_eq, nat_le, slice_range, Option, Some, None, slice_get}
 use Rattle.std.specs.List.{filter, flat_map, starts_with, range_with_len, last_or, onto_first}
 use Rattle.std.specs.Str.{str_to_ascii_lowercase, str_to_ascii_uppercase}
@@ -16,7 +16,8 @@ unit_at t (negsuc n) = []
 
 -- `charAt(i)`
 abbrev pub char_at : List ℕ → Value → State → Plan
-char_at t i s = want_primitives (i ∷ []) s (with_number (to_number i) (length t) s (λ z. give_text (length t) (unit_at t z) s))
+char_at t i s =
+    want_primitives (i ∷ []) s (with_number (to_number i) (length t) s (λ z. give_text (length t) (unit_at t z) s))
 
 -- the first unit as a number, NaN where there is none
 abbrev pub first_code : List ℕ → Value
@@ -25,11 +26,14 @@ first_code (u ∷ us) = Num (pos u)
 
 -- `charCodeAt(i)`: no text is made
 abbrev pub char_code_at : List ℕ → Value → State → Plan
-char_code_at t i s = want_primitives (i ∷ []) s (with_number (to_number i) (length t) s (λ z. charge (length t) s (give (first_code (unit_at t z)) s)))
+char_code_at t i s =
+    want_primitives (i ∷ []) s
+    (with_number (to_number i) (length t) s (λ z. charge (length t) s (give (first_code (unit_at t z)) s)))
 
 -- `concat(a, ...)`
 abbrev pub text_concat : List ℕ → List Value → State → Plan
-text_concat t vs s = want_primitives vs s (give_text (length t + length (flat_map to_text vs)) (t ++ flat_map to_text vs) s)
+text_concat t vs s =
+    want_primitives vs s (give_text (length t + length (flat_map to_text vs)) (t ++ flat_map to_text vs) s)
 
 -- all positions at which a text stands in another, rising; the empty text at each and at the end
 abbrev pub positions : List ℕ → List ℕ → List ℕ
@@ -45,14 +49,16 @@ abbrev pub index_of : List ℕ → Value → Value → State → Plan
 index_of t x from s =
     let extra : ℕ = length t + length (to_text x) in
     want_primitives (x ∷ from ∷ []) s (with_number (to_number from) extra s
-    (λ z. charge extra s (give (found (slice_get (filter (nat_le (clamped (length t) z)) (positions t (to_text x))) 0)) s)))
+    (λ z. charge extra s
+        (give (found (slice_get (filter (nat_le (clamped (length t) z)) (positions t (to_text x))) 0)) s)))
 
 -- `lastIndexOf(s, from)`: the greatest position at or before `from`, which for NaN is the end
 abbrev pub last_index_of : List ℕ → Value → Value → State → Plan
 last_index_of t x from s =
     let extra : ℕ = length t + length (to_text x) in
     want_primitives (x ∷ from ∷ []) s (with_number_or (pos (length t)) (to_number from) extra s
-    (λ z. charge extra s (give (found (last_or None (filter (λ i. nat_le i (clamped (length t) z)) (positions t (to_text x))))) s)))
+    (λ z. charge extra s
+        (give (found (last_or None (filter (λ i. nat_le i (clamped (length t) z)) (positions t (to_text x))))) s)))
 
 -- `slice(a, b)`: negatives from the end, an absent b is the end
 abbrev pub text_slice : List ℕ → Value → Value → State → Plan
@@ -77,7 +83,7 @@ abbrev pub cut_here : Bool → List ℕ → ℕ → (ℕ → List (List ℕ)) �
 cut_here true x u after = [] ∷ after (length x - 1)
 cut_here false x u after = onto_first u (after 0)
 
--- the pieces between the occurrences of a text, from the left; so many units of an occurrence are still to be passed over
+-- the pieces between the occurrences of a text, from the left; so many units are still to be passed over
 abbrev pub pieces_from : List ℕ → ℕ → List ℕ → List (List ℕ)
 pieces_from x k [] = [] ∷ []
 pieces_from x zero (u ∷ us) = cut_here (starts_with nat_eq (u ∷ us) x) x u (λ k. pieces_from x k us)
@@ -93,7 +99,8 @@ abbrev pub split : List ℕ → Value → State → Plan
 split t Undefined s = charge (length t) s (make_array (Text t ∷ []) 0 s give)
 split t x s =
     want_primitives (x ∷ []) s
-    (charge (length t + (length (to_text x) + sum_by length (pieces (to_text x) t))) s (give_texts (pieces (to_text x) t) s))
+    (charge (length t + (length (to_text x) + sum_by length (pieces (to_text x) t))) s
+        (give_texts (pieces (to_text x) t) s))
 
 -- the methods of a text
 abbrev pub text_method : TextNative → List ℕ → List Value → State → Plan

@@ -1,4 +1,5 @@
--- The page of one widget: plain trees whose nodes have numbers, the root's tree first and then detached trees by the age of their tops.
+-- The page of one widget: plain trees whose nodes have numbers, the root's first, then detached ones by age of their
+-- tops.
 use Rattle.std.specs.Prelude.{ℕ, zero, suc, ◌+◌, List, map, nat_eq, nat_lt, if◌then◌else◌, slice_get, Option, Some, None}
 use Rattle.std.specs.List.{fold, list_any}
 use Rattle.std.specs.Option.{option_or}

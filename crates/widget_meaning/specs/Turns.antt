@@ -1,7 +1,7 @@
 -- Turns: the calls of one turn within one grant of fuel, and how a turn ends.
 use Rattle.std.specs.Prelude.{ℕ, ◌+◌, ◌-◌, List, [], ◌∷◌, ◌++◌, length, nat_lt, if◌then◌else◌, codes, Option, Some}
 use Rattle.widget_meaning.specs.Limits.{max_units}
-use Rattle.widget_meaning.specs.Values.{Value, Text, Own, Host, Throw, Stop, Fuel, Due, Units, to_text}
+use Rattle.widget_meaning.specs.Values.{Value, Text, Own, Host, Throw, Stop, Fuel, PastLimit, Units, to_text}
 use Rattle.widget_meaning.specs.OwnState.{OwnState, State, cell_at, lookup}
 use Rattle.widget_meaning.specs.Plan.{Plan, Out, End, Ended, Stopped, OutOfFuel}
 use Rattle.widget_meaning.specs.Costs.{cost, sum}
@@ -12,9 +12,10 @@ abbrev pub named_note : Option Value → Option Value → List ℕ
 named_note (Some (Text x)) (Some (Text m)) = x ++ (codes ": " ++ m)
 named_note x m = codes "[object]"
 
--- the text of an uncaught value: of a primitive its text, of an object whose own `name` and `message` are texts these, else `[object]`
+-- the text of an uncaught value: of a primitive its text, of an object its own `name` and `message`, else `[object]`
 abbrev pub note_text : State → Value → List ℕ
-note_text s (Own n) = named_note (lookup (cell_at s n).pairs (codes "name")) (lookup (cell_at s n).pairs (codes "message"))
+note_text s (Own n) =
+    named_note (lookup (cell_at s n).pairs (codes "name")) (lookup (cell_at s n).pairs (codes "message"))
 note_text s (Host h) = codes "[object]"
 note_text s v = to_text v
 
@@ -25,7 +26,7 @@ stopped c o = record o { stop = Some c }
 -- a note costs its units and one more; one that does not fit is not kept, and the widget stops
 abbrev pub noted : List ℕ → OwnState → OwnState
 noted t o =
-    if nat_lt max_units (o.counts.units + (length t + 1)) then stopped (Due Units) o
+    if nat_lt max_units (o.counts.units + (length t + 1)) then stopped (PastLimit Units) o
     else record o { uncaught = o.uncaught ++ t ∷ []; counts = sum o.counts (cost (length t + 1) 0 0 0) }
 
 -- a turn begins: it counts, and no dispatch is open
@@ -36,7 +37,7 @@ begun o = record { own = record o { turns = o.turns + 1 }; dispatches = [] }
 abbrev pub end_turn : End → State → OwnState → OwnState
 end_turn (Ended (Throw v)) s o = noted (note_text s v) o
 end_turn (Ended e) s o = o
-end_turn (Stopped c) s o = stopped (Due c) o
+end_turn (Stopped c) s o = stopped (PastLimit c) o
 end_turn OutOfFuel s o = stopped Fuel o
 
 -- what a turn cannot change is as before it; what it spends is added

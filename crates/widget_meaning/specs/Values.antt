@@ -58,10 +58,10 @@ pub data StopCause : Type 0 where
   LongText : StopCause
   Nodes : StopCause
 
--- a stop
+-- a stop: want of fuel, or what was left or passed
 pub data Stop : Type 0 where
   Fuel : Stop
-  Due : StopCause → Stop
+  PastLimit : StopCause → Stop
 
 -- an object, of the widget or of the host
 abbrev pub is_object : Value → Bool

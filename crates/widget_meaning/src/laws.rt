@@ -2,8 +2,9 @@
 ghost use Rattle.std.specs.Prelude.{ℕ, List};
 ghost use Rattle.widget_meaning.specs.Compositional.{ExpressionLaws, StatementLaws, CallLaws};
 ghost use Rattle.js_tree.specs.Forest.{Forest};
-ghost use Rattle.widget_meaning.specs.OwnState.{State};
-ghost use Rattle.widget_meaning.specs.Plan.{Place};
+ghost use Rattle.widget_meaning.specs.OwnState.{Amounts, State};
+ghost use Rattle.widget_meaning.specs.Plan.{Place, Plan};
+ghost use Rattle.widget_meaning.specs.PlanLaws.{PlanLaws, CostLaws};
 ghost use Rattle.widget_meaning.specs.Arena.{ArenaLaws};
 ghost use Rattle.widget_meaning.specs.Counts.{CountLaws};
 ghost use Rattle.widget_meaning.specs.Laws.{FuelLaws, StopLaws, StoppedLaws, AloneLaws, TimerLaws};
@@ -13,6 +14,13 @@ pub fn compositional()
     ensures expressions { (at : ℕ) (names : List ℕ) (p : Place) (s : State) (g : ℕ) → ExpressionLaws at names p s g }
     ensures statements { (at : ℕ) (names : List ℕ) (p : Place) (s : State) (g : ℕ) → StatementLaws at names p s g }
     ensures calls { (s : State) (g : ℕ) → CallLaws s g }
+{}
+
+/// Plans one after the other, charges and costs: what is there is taken, and the first that is not stops.
+#[tactic(auto, using(crate::proofs::PlansHold::plan_laws, crate::proofs::PlansHold::cost_laws))]
+pub fn plans()
+    ensures plans { PlanLaws }
+    ensures costs { (a : Amounts) (s : State) (k : State → Plan) → CostLaws a s k }
 {}
 
 /// The parts that a node of an arena lists by number are the parts of its plain tree, in order.

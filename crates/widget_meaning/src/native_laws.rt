@@ -12,7 +12,7 @@ ghost use Rattle.widget_meaning.specs.Queries.{QueryLaws, sight};
 ghost use Rattle.widget_meaning.specs.Styles.{StyleLaws};
 ghost use Rattle.widget_meaning.specs.Values.{Value};
 
-/// The pieces that `split` gives, joined by what stood between them, are the text.
+/// The pieces that `split` gives, joined by what stood between them, are the text, which is cut as early as can be.
 #[tactic(auto, using(crate::proofs::NativeLawsHold::split_laws))]
 pub fn split()
     ensures { SplitLaws }
