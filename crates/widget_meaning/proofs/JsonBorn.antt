@@ -36,8 +36,8 @@ is_false : (b : Bool) → (b ≡ true → ⊥) → b ≡ false
 is_false true h = absurd (h refl)
 is_false false h = refl
 
-other_name : (i j : ℕ) → i < j → j ≤ max_length → bytes_eq (index_name i) (index_name j) ≡ false
-other_name i j h k = is_false _ (λ e. omega (arith, h, same_index i j (omega (arith, h, k)) k ((bytes_eq-Decides (index_name i) (index_name j)).0 e)))
+other_name : (i j : ℕ) → i < j → j ≤ max_length → bytes_eq (index_name j) (index_name i) ≡ false
+other_name i j h k = is_false _ (λ e. omega (arith, h, same_index i j (omega (arith, h, k)) k (sym ((bytes_eq-Decides (index_name j) (index_name i)).0 e))))
 
 own_name : (x : List ℕ) → bytes_eq x x ≡ true
 own_name x = (bytes_eq-Decides x x).1 refl
@@ -58,7 +58,7 @@ is_other false v o e = refl
 after_others : (ps qs : Pairs) (x : List ℕ) → lookup ps x ≡ None → lookup (ps ++ qs) x ≡ lookup qs x
 after_others [] qs x h = refl
 after_others (p ∷ ps) qs x h =
-    let b : bytes_eq p.0 x ≡ false = is_other (bytes_eq p.0 x) p.1 (lookup ps x) h in
+    let b : bytes_eq x p.0 ≡ false = is_other (bytes_eq x p.0) p.1 (lookup ps x) h in
     ap (λ c. if c then Some p.1 else lookup (ps ++ qs) x) b ∙ after_others ps qs x (sym (ap (λ c. if c then Some p.1 else lookup ps x) b) ∙ h)
 
 -- pairs that have no index from one on

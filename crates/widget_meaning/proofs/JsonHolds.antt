@@ -135,7 +135,7 @@ found_ordinary false v o h k = k
 
 pub lookup_ordinary : (ps : Pairs) (x : List ℕ) → AreOrdinary ps → OrdinaryOption (lookup ps x)
 lookup_ordinary [] x h = tt
-lookup_ordinary (p ∷ ps) x h = found_ordinary (bytes_eq p.0 x) p.1 (lookup ps x) h.1 (lookup_ordinary ps x h.2)
+lookup_ordinary (p ∷ ps) x h = found_ordinary (bytes_eq x p.0) p.1 (lookup ps x) h.1 (lookup_ordinary ps x h.2)
 
 module _ (m : ℕ) (tree : PartTree) (value : Writer) (good : Good m tree value) where
   element : (o : Option Value) (t w : List ℕ) → OrdinaryOption o → element_text value o t ≡ Wrote w → Value-written m (option_and_then tree o) t w

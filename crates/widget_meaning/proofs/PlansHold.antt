@@ -3,9 +3,9 @@ use Rattle.std.proofs.Common.{◌≡◌, ℕ, zero, suc, ◌+◌, ◌<◌, ◌�
 use Rattle.std.specs.Prelude.{nat_lt, if◌then◌else◌}
 use Rattle.std.proofs.lemmas.Bool.Decides.{nat_tests}
 use Rattle.widget_meaning.specs.Limits.{max_units, max_cells, max_slots, max_nodes}
-use Rattle.widget_meaning.specs.Values.{Completion, Units, Cells, Slots, Nodes}
+use Rattle.widget_meaning.specs.Values.{Completion, Cells, Slots, Nodes}
 use Rattle.widget_meaning.specs.OwnState.{Amounts, State}
-use Rattle.widget_meaning.specs.Plan.{Plan, Halt, Need, Tick, Out, OutOfFuel, and_then, ticks, charge}
+use Rattle.widget_meaning.specs.Plan.{Plan, Halt, Need, Tick, and_then, ticks, charge}
 use Rattle.widget_meaning.specs.Costs.{sum, with_counts}
 use Rattle.widget_meaning.specs.Meaning.{run_plan}
 use Rattle.widget_meaning.specs.PlanLaws.{PlanLaws, CostLaws, out_of_fuel}

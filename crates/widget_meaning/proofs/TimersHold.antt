@@ -1,5 +1,5 @@
 -- The waiting timers of a widget stay few and ahead of its clock, and the bound on the turns of an advance is never met.
-use Rattle.std.proofs.Common.{◌≡◌, ℕ, zero, suc, ◌+◌, ◌-◌, ◌*◌, ◌/◌, ◌<◌, ◌≤◌, List, [], ◌∷◌, ◌++◌, length, Bool, true, false, refl, sym, ap, subst, inl, inr, ◌⊎◌, arith}
+use Rattle.std.proofs.Common.{◌≡◌, ℕ, zero, suc, ◌+◌, ◌*◌, ◌/◌, ◌<◌, ◌≤◌, List, [], ◌∷◌, ◌++◌, length, Bool, true, false, refl, sym, ap, inl, inr, ◌⊎◌, arith}
 use Rattle.std.specs.Prelude.{codes, nat_le, nat_lt, nat_eq, if◌then◌else◌, Option, Some, None}
 use Rattle.std.specs.List.{fold}
 use Rattle.std.specs.Str.{bytes_eq}
@@ -270,24 +270,30 @@ nearer : (limit n e w : ℕ) (o : OwnState) (t : Timer) (b : Bool) → nat_lt t.
 nearer limit n e w o t true b h l a d =
     let c : ℕ = due_before e (without_due t.due o.timers) in
     let i : o.clock ≤ t.due = has_ahead o.clock t.due o.timers h.timers.ahead d in
-    let x : WaitsOf t.due e c (timer_turn t o) = next_waits t o e (end_le e o.clock t.due h.near i) h.timers a d in
-    (e, w, record {
-      timers = are_timers t.due e c (timer_turn t o) x;
-      near = same_end e o.clock t.due (timer_turn t o).clock h.near i x.clock_is;
-      far = h.far;
-      left = one_less w (due_before e (timer_turn t o).timers) c (due_before e o.timers) n x.due (one_due e t.due o.timers (ltb-true t.due e b) d) h.left;
-    })
+    let x : WaitsOf t.due e c (timer_turn t o) = next_waits t o e (end_le e o.clock t.due h.near i) h.timers a d in (
+      e,
+      w,
+      record {
+        timers = are_timers t.due e c (timer_turn t o) x;
+        near = same_end e o.clock t.due (timer_turn t o).clock h.near i x.clock_is;
+        far = h.far;
+        left = one_less w (due_before e (timer_turn t o).timers) c (due_before e o.timers) n x.due (one_due e t.due o.timers (ltb-true t.due e b) d) h.left;
+      },
+    )
 nearer limit n e zero o t false b h l a d = absurd (no_stretch limit t.due e h.far (ltb-false t.due e b) l)
 nearer limit n e (suc v) o t false b h l a d =
     let f : ℕ = t.due + 10 in
     let ts : List Timer = without_due t.due o.timers in
-    let x : WaitsOf t.due f (due_before f ts) (timer_turn t o) = next_waits t o f (same_le f) h.timers a d in
-    (f, v, record {
-      timers = are_timers t.due f (due_before f ts) (timer_turn t o) x;
-      near = end_next t.due (timer_turn t o).clock x.clock_is;
-      far = next_stretch limit t.due e v h.far (ltb-false t.due e b);
-      left = next_left v (due_before f (timer_turn t o).timers) (due_before f ts) (length ts) (length o.timers) (due_before e o.timers) n x.due (due_few f ts) (shorter t.due o.timers d) h.timers.few h.left;
-    })
+    let x : WaitsOf t.due f (due_before f ts) (timer_turn t o) = next_waits t o f (same_le f) h.timers a d in (
+      f,
+      v,
+      record {
+        timers = are_timers t.due f (due_before f ts) (timer_turn t o) x;
+        near = end_next t.due (timer_turn t o).clock x.clock_is;
+        far = next_stretch limit t.due e v h.far (ltb-false t.due e b);
+        left = next_left v (due_before f (timer_turn t o).timers) (due_before f ts) (length ts) (length o.timers) (due_before e o.timers) n x.due (due_few f ts) (shorter t.due o.timers d) h.timers.few h.left;
+      },
+    )
 
 by_next : (n k limit e w : ℕ) (o : OwnState) → Nears limit (suc n) e w o
     → ((p : OwnState) (f v : ℕ) → Nears limit n f v p → Bounded n k limit p)

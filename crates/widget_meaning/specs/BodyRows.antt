@@ -17,7 +17,7 @@ use Rattle.widget_meaning.specs.RowTrees.{expr, stmt, stmts, name, num, str, arr
 use Rattle.widget_meaning.specs.PageRows.{Events}
 
 -- `<p title="t">a..</p><ul><li>1..</li><li>2..</li><li name="n" type="t">3..</li></ul><input type="text" value="v">
--- <input type="checkbox" checked><button id="A_k" disabled>k</button>` in the root; `last` ends the paragraph, `more` each item
+-- <input type="checkbox" checked><button id="A_k" disabled>k</button>` in the root; `more` ends each item
 abbrev pub page : Trees → Trees → Trees
 page last more = root "A_"
     (element "p" (("title", "t") ∷ []) (words "a" last)
@@ -44,7 +44,7 @@ shown o = marked (λ _. 0) (child_at 0 o.forest)
 abbrev pub spliced : Content
 spliced = on_page
     (logs (dot (method (array (num "1" ∷ num "2" ∷ num "3" ∷ [])) "splice"
-        (num "1" ∷ num "1" ∷ num "7" ∷ num "8" ∷ [])) "length") ∷ []) []
+    (num "1" ∷ num "1" ∷ num "7" ∷ num "8" ∷ [])) "length") ∷ []) []
 
 -- ADSAFE.log((255).toString(16));
 abbrev pub in_radix : Content
@@ -65,7 +65,7 @@ replaced_ends = on_page
     (declared "f" [] (try_finally (returns (num "1")) (returns (num "2")) ∷ [])
     ∷ declared "g" [] (try_finally (stmt (tree.Throw (num "1"))) (returns (num "3")) ∷ [])
     ∷ declared "h" [] (forever (try_finally (returns (num "1")) (stmt (tree.Break None)) ∷ []) ∷ returns (num "4")
-        ∷ []) ∷ [])
+    ∷ []) ∷ [])
 
 -- lib.x = n;
 abbrev pub sets_lib : String → String → Stmts
@@ -105,14 +105,14 @@ starts x times = does (adsafe "later" (apply (name "f") (str x ∷ []) ∷ times
 abbrev pub timed : Content
 timed = on_page
     (starts "c" (num "30" ∷ []) ∷ starts "a" [] ∷ starts "b" (num "15" ∷ []) ∷ starts "a2" (num "3" ∷ [])
-        ∷ starts "d" (num "100" ∷ []) ∷ [])
+    ∷ starts "d" (num "100" ∷ []) ∷ [])
     (declared "f" ("n" ∷ []) (returns (function [] (logs (name "n") ∷ [])) ∷ []) ∷ [])
 
 -- dom.q("li").append(dom.tag("b").append(dom.text("x")));
 abbrev pub appended_copies : Content
 appended_copies = on_page
     (does (method (dom_q "li") "append"
-        (method (dom "tag" (str "b" ∷ [])) "append" (dom "text" (str "x" ∷ []) ∷ []) ∷ [])) ∷ []) []
+    (method (dom "tag" (str "b" ∷ [])) "append" (dom "text" (str "x" ∷ []) ∷ []) ∷ [])) ∷ []) []
 
 -- dom.q("b").replace(dom.text(1));
 abbrev pub replaced_by_text : Content
@@ -127,14 +127,14 @@ each_counted = on_page
 abbrev pub fired_up : Content
 fired_up = on_page
     (does (method (method (dom_q "b") "on"
-        (str "x" ∷ function ("e" ∷ []) (does (method (name "e") "bubble" []) ∷ []) ∷ [])) "fire" (str "x" ∷ []))
-        ∷ []) []
+    (str "x" ∷ function ("e" ∷ []) (does (method (name "e") "bubble" []) ∷ []) ∷ [])) "fire" (str "x" ∷ []))
+    ∷ []) []
 
 -- dom.q("li").protect().mark("m").title("t").klass("k");
 abbrev pub marked_all : Content
 marked_all = on_page
     (does (method (method (method (method (dom_q "li") "protect" []) "mark" (str "m" ∷ [])) "title"
-        (str "t" ∷ [])) "klass" (str "k" ∷ [])) ∷ []) []
+    (str "t" ∷ [])) "klass" (str "k" ∷ [])) ∷ []) []
 
 -- the timers that are due within 60 milliseconds
 abbrev pub timed_out : OwnState

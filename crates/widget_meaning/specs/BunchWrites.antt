@@ -118,8 +118,8 @@ is_value_target s t n =
 abbrev pub set_value : List ℕ → List ℕ → Value → State → Plan
 set_value ns t b s =
     want_all (is_value_target s t) ns s
-        (alter_for (length ns) (length ns * length t) (count_by (has_new_text s t) ns) b s
-        (λ u. fold (valued t) u ns))
+    (alter_for (length ns) (length ns * length t) (count_by (has_new_text s t) ns) b s
+    (λ u. fold (valued t) u ns))
 
 -- a label whose style is this, with a property set; where there is none, an empty value makes none
 abbrev pub with_style : Option (List ℕ) → List ℕ → List ℕ → Label → Label
@@ -136,7 +136,7 @@ abbrev pub set_style : List ℕ → List ℕ → List ℕ → Value → State �
 set_style ns p v b s =
     want E4 (is_listed p && (nat_eq (length v) 0 || is_value v)) s
     (want_all (is_element s) ns s
-        (alter_for (length ns) (length ns * length v) 0 b s (λ t. fold (relabel (styled p v)) t ns)))
+    (alter_for (length ns) (length ns * length v) 0 b s (λ t. fold (relabel (styled p v)) t ns)))
 
 -- `klass(v)` and `title(v)`
 abbrev pub set_attribute : List ℕ → List ℕ → List ℕ → Value → State → Plan
@@ -183,8 +183,8 @@ with_handler t v k = k
 abbrev pub listen : List ℕ → List ℕ → Value → Value → State → Plan
 listen ns t f b s =
     want E4 (is_event_type t) s
-        (want_function f s (charge (length ns) s
-        (pay (slots_cost (length ns)) s (λ u. give b (fold (change_kept (with_handler t f)) u ns)))))
+    (want_function f s (charge (length ns) s
+    (pay (slots_cost (length ns)) s (λ u. give b (fold (change_kept (with_handler t f)) u ns)))))
 
 -- `off(t)`: the handlers of the type are taken out, or all
 abbrev pub hush : List ℕ → Value → Value → State → Plan
@@ -192,7 +192,7 @@ hush ns Undefined b s = alter_each (change_kept (λ k. record k { handlers = [] 
 hush ns v b s =
     want_primitives (v ∷ []) s (want E4 (is_event_type (to_text v)) s
     (alter_each (change_kept
-        (λ k. record k { handlers = filter (λ h. not (bytes_eq h.kind (to_text v))) k.handlers })) ns b s))
+    (λ k. record k { handlers = filter (λ h. not (bytes_eq h.kind (to_text v))) k.handlers })) ns b s))
 
 -- ## Calls
 

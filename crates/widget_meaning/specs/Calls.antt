@@ -26,7 +26,7 @@ statements (i ∷ is) p s = Do (Exec i p) s (λ o t. on_normal o t (statements i
 abbrev pub without_directive : List Stmt → List Stmt
 without_directive (tree.StmtAt at names (tree.Only (tree.ExprAt place inner (tree.Str t))) ∷ is) =
     if bytes_eq t (codes "use strict") then is
-        else tree.StmtAt at names (tree.Only (tree.ExprAt place inner (tree.Str t))) ∷ is
+    else tree.StmtAt at names (tree.Only (tree.ExprAt place inner (tree.Str t))) ∷ is
 without_directive is = is
 
 -- a value under a function's name, where it has one

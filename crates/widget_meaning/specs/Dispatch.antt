@@ -6,7 +6,7 @@ use Rattle.widget_meaning.specs.Limits.{max_node_depth}
 use Rattle.widget_meaning.specs.NativeNames.{Bubble}
 use Rattle.widget_meaning.specs.Values.{Value, Undefined, Text, Own, Completion, Is, E3}
 use Rattle.widget_meaning.specs.Trees.{parent}
-use Rattle.widget_meaning.specs.OwnState.{State, Pairs, kept_at, plain_object, new_bunch, with_new_cell}
+use Rattle.widget_meaning.specs.OwnState.{Amounts, State, Pairs, kept_at, plain_object, new_bunch, with_new_cell}
 use Rattle.widget_meaning.specs.Plan.{Plan, Ret, Do, and_then, Call, Hear, Hearing, after}
 use Rattle.widget_meaning.specs.Costs.{pay, cost, give, throw}
 use Rattle.widget_meaning.specs.HostTable.{native}
@@ -66,13 +66,26 @@ with_event s kind target node value =
     (new_bunch (target ∷ [])))
     (new_bunch (node ∷ []))
 
+-- an event object with its two Bunches
+abbrev pub event_cost : Amounts
+event_cost = cost 0 3 9 0
+
 -- the dispatch at a node: its event object is paid before the first call. The job's unit is that of the first call
 abbrev pub hear : List ℕ → ℕ → Value → ℕ → ℕ → List ℕ → State → Plan
 hear kind target value d node [] s = give Undefined s
 hear kind target value d node (f ∷ fs) s =
-    pay (cost 0 3 9 0) s (λ t. Do
-    (Hear (record { kind = kind; target = target; node = node; value = value; event = Own
-        (length t.own.heap); first = f; others = fs; depth = d }))
+    pay event_cost s (λ t. Do
+    (Hear (record {
+      kind = kind;
+      target = target;
+      node = node;
+      value = value;
+      event = Own
+          (length t.own.heap);
+      first = f;
+      others = fs;
+      depth = d;
+    }))
     (with_dispatch (with_event t kind target node value)) Ret)
 
 -- the dispatch at the node that was found; where nothing listens, nothing is done

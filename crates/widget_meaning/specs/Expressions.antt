@@ -1,4 +1,4 @@
--- Expressions: what each form does after its unit, one level deep. What comes after a part has a name.
+-- Expressions: what each form does after its unit, one level deep. A longer continuation has a name.
 use Rattle.std.specs.Prelude.{ℕ, ◌+◌, ◌-ℤ◌, ◌+ℤ◌, ℤ, pos, List, [], ◌∷◌, ◌++◌, Bool, true, false, if◌then◌else◌, Option, Some, None, not}
 use Rattle.js_tree.specs.declared.nodes.Word.{Word}
 use Rattle.js_tree.specs.declared.nodes.Word.TheVariants as word

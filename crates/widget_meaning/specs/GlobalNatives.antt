@@ -8,6 +8,7 @@ use Rattle.std.specs.Str.Parse.{digits_value, starts_with_minus, without_leading
 use Rattle.code_units.specs.declared.whole.WholeRead.{WholeRead}
 use Rattle.code_units.specs.declared.whole.WholeRead.TheVariants as read
 use Rattle.code_units.specs.Whole.{is_x, trimmed_start}
+use Rattle.widget_meaning.specs.Limits.{min_radix, max_radix, past_units}
 use Rattle.widget_meaning.specs.NativeNames.{GlobalNative, BooleanOf, NumberOf, StringOf, IsNaN, IsFinite, ParseInt, FromCharCode}
 use Rattle.widget_meaning.specs.Values.{Value, Truth, NaN, Num, Text, Number, is_object, is_true, to_text, to_number, nth}
 use Rattle.widget_meaning.specs.Operators.{OpOut, Gives, Leaves, number, truth, as_number}
@@ -79,7 +80,7 @@ digit_run radix us = take (prefix_len (λ u. is_digit u radix) us) us
 -- a radix outside 2 to 36, and no digit, give NaN
 abbrev pub run_value : Bool → ℕ → List ℕ → OpOut
 run_value negative radix ds =
-    if nat_le 2 radix && nat_le radix 36 && nat_lt 0 (length ds)
+    if nat_le min_radix radix && nat_le radix max_radix && nat_lt 0 (length ds)
     then number (if negative then neg_ℤ (pos (digits_value radix ds)) else pos (digits_value radix ds))
     else Gives NaN
 
@@ -97,7 +98,7 @@ parse_int v radix s =
 
 -- a number modulo 65536, NaN as 0
 abbrev pub code_of : WholeRead → ℕ
-code_of (read.Whole z) = unsigned_abs (int_rem_euclid z (pos 65536))
+code_of (read.Whole z) = unsigned_abs (int_rem_euclid z (pos past_units))
 code_of r = 0
 
 -- whether it leaves the numbers
@@ -111,7 +112,7 @@ from_char_code vs s =
     let extra : ℕ = sum_by units_read vs in
     want_primitives vs s
     (if list_any has_left (map to_number vs) then charge extra s (Halt Number s)
-        else give_text extra (map code_of (map to_number vs)) s)
+    else give_text extra (map code_of (map to_number vs)) s)
 
 -- the natives, each by its row
 abbrev pub global_native : GlobalNative → Option Value → List Value → ℕ → State → Plan

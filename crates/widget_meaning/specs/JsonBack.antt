@@ -87,9 +87,9 @@ pub record Returns (s : State) (v : Value) (t : List ℕ) : Type 0 where
   pub is : tree_of max_nesting s v ≡ Some tree
   pub reads : (u : State) → from_json (Text t) u
       ≡ charge (length t) u
-          (give_read true (value_at (length u.own.heap) (in_order tree))
-          (cells_at (length u.own.heap) (in_order tree))
-          (texts_in (value_at (length u.own.heap) (in_order tree)) (cells_at (length u.own.heap) (in_order tree))) u)
+      (give_read true (value_at (length u.own.heap) (in_order tree))
+      (cells_at (length u.own.heap) (in_order tree))
+      (texts_in (value_at (length u.own.heap) (in_order tree)) (cells_at (length u.own.heap) (in_order tree))) u)
   pub again : (u : State)
       → tree_of max_nesting (fold with_new_cell u (cells_at (length u.own.heap) (in_order tree)))
       (value_at (length u.own.heap) (in_order tree)) ≡ Some (in_order tree)

@@ -1,11 +1,11 @@
 -- Laws of JSON: the text that is written for a value is that of its tree, and is read back as that tree.
-use Rattle.std.specs.Prelude.{◌≡◌, ℕ, zero, suc, ◌+◌, ◌^◌, ◌<◌, ℤ, pos, negsuc, unsigned_abs, List, [], ◌∷◌, Option, Some, None, option_map, option_and_then, slice_index, ⊤}
+use Rattle.std.specs.Prelude.{◌≡◌, ℕ, zero, suc, ◌+◌, ◌<◌, ℤ, pos, negsuc, unsigned_abs, List, [], ◌∷◌, Option, Some, None, option_map, option_and_then, slice_index, ⊤}
 use Rattle.std.specs.List.{filter}
 use Rattle.code_units.specs.Utf8.{utf8_of}
 use Rattle.code_units.specs.Permitted.{is_permitted}
 use Rattle.serde_json.specs.Data as json
 use Rattle.serde_json.specs.Written.{compact_text}
-use Rattle.widget_meaning.specs.Limits.{past_numbers, max_nesting}
+use Rattle.widget_meaning.specs.Limits.{past_numbers, past_units, max_nesting}
 use Rattle.widget_meaning.specs.Values.{Value, Undefined, Null, Truth, NaN, Num, Text, Own, Host}
 use Rattle.widget_meaning.specs.OwnState.{State, Kind, Object, Array, Function, Bunch, Pairs, lookup, cell_at}
 use Rattle.widget_meaning.specs.Properties.{index_name}
@@ -26,7 +26,7 @@ abbrev pub items_tree : PartTree → Pairs → ℕ → ℕ → Option json.Items
 items_tree tree ps i zero = Some json.no_items
 items_tree tree ps i (suc n) =
     option_and_then (λ d. option_map (json.item d) (items_tree tree ps (i + 1) n))
-        (option_and_then tree (lookup ps (index_name i)))
+    (option_and_then tree (lookup ps (index_name i)))
 
 -- names and values
 abbrev pub members_tree : PartTree → Pairs → Option json.Members
@@ -76,7 +76,7 @@ abbrev mutual
 
 -- what holds of every own state: texts are of 16-bit units
 abbrev pub HasUnits : List ℕ → Type 0
-HasUnits t = (i : ℕ) → slice_index t i < 2 ^ 16
+HasUnits t = (i : ℕ) → slice_index t i < past_units
 
 -- and numbers are within the numbers
 abbrev pub IsOrdinary : Value → Type 0

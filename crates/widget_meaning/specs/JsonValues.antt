@@ -128,7 +128,7 @@ give_read true v cs ts s =
 abbrev pub read_value : ℕ → json.Data → List Cell → Value → State → Plan
 read_value extra d cs v s =
     want E8 (list_all (λ c. has_permitted_names c.kind c.pairs) cs) s
-        (charge extra s (give_read (has_numbers d) v cs (texts_in v cs) s))
+    (charge extra s (give_read (has_numbers d) v cs (texts_in v cs) s))
 
 -- `fromJson(t)`: all but a text, and what is no JSON, throws E4
 abbrev pub from_json : Value → State → Plan

@@ -1,5 +1,6 @@
 -- The limits of one widget.
 use Rattle.std.specs.Prelude.{ℕ, ◌^◌}
+use Rattle.code_units.specs.declared.index.TheConstants.{MAX_LENGTH}
 
 -- objects over its life
 abbrev pub max_cells : ℕ
@@ -41,13 +42,25 @@ min_delay = 10
 abbrev pub max_posts : ℕ
 max_posts = 256
 
+-- the least radix of a numeral
+abbrev pub min_radix : ℕ
+min_radix = 2
+
+-- the greatest
+abbrev pub max_radix : ℕ
+max_radix = 36
+
+-- the first number past the 16-bit units
+abbrev pub past_units : ℕ
+past_units = 2 ^ 16
+
 -- the first whole number past the numbers, which go from -(2^53-1) to 2^53-1
 abbrev pub past_numbers : ℕ
 past_numbers = 2 ^ 53
 
 -- the largest length of an array
 abbrev pub max_length : ℕ
-max_length = 4294967295
+max_length = MAX_LENGTH
 
 -- of units in one post
 abbrev pub max_post : ℕ

@@ -111,8 +111,8 @@ spliced n vs at count new s =
     let left : List Value = take at vs ++ (new ++ drop (at + count) vs) in
     pay (cost 0 1 (length taken + new_indexes (cell_at s n) (length left)) 0) s
     (λ t. give (Own (length t.own.heap))
-        (with_cell (with_new_cell t (new_array (length taken) (numbered_pairs 0 taken))) n
-        (with_elements (cell_at t n) left)))
+    (with_cell (with_new_cell t (new_array (length taken) (numbered_pairs 0 taken))) n
+    (with_elements (cell_at t n) left)))
 
 -- how many are taken out: to the end where n is absent, not undefined
 abbrev pub splice_count : ℕ → List Value → ℕ → State → (ℤ → Plan) → Plan
@@ -125,4 +125,4 @@ splice n len vs s =
     let extra : ℕ = list_extra len vs s in
     want_primitives (take 2 vs) s (with_number (to_number (nth 0 vs)) extra s (λ a. splice_count len (drop 1 vs) extra s
     (λ count. charge extra s
-        (spliced n (elements s n len) (from_end len a) (clamped (len - from_end len a) count) (drop 2 vs) s))))
+    (spliced n (elements s n len) (from_end len a) (clamped (len - from_end len a) count) (drop 2 vs) s))))

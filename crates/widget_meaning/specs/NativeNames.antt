@@ -167,7 +167,7 @@ pub data HostEntry : Type 0 where
 abbrev pub same_native : Discrete NativeId
 same_native =
     NativeId-discrete GlobalNative-discrete MathNative-discrete PrototypeNative-discrete TextNative-discrete
-        ListNative-discrete
+    ListNative-discrete
     AdsafeNative-discrete DomNative-discrete ReadNative-discrete WriteNative-discrete
 
 -- whether two entries of the permitted table are the same

@@ -25,7 +25,7 @@ square = function ("x" ∷ []) (returns (operation bin.Mul (name "x") (name "x")
 abbrev pub mapped_squares : Content
 mapped_squares =
     body (var "a" (method (array (num "1" ∷ num "2" ∷ num "3" ∷ [])) "map" (square ∷ []))
-        ∷ logs (expr (tree.Sub (name "a") (num "2"))) ∷ [])
+    ∷ logs (expr (tree.Sub (name "a") (num "2"))) ∷ [])
 
 -- ADSAFE.log(ADSAFE.toJson(ADSAFE.fromJson("{\"b\":[1,null],\"a\":\"x\"}")));
 abbrev pub json_and_back : Content

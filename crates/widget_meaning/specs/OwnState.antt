@@ -1,6 +1,7 @@
 -- The state of one widget by itself, and how it is read and changed.
 use Rattle.std.specs.Prelude.{ℕ, List, [], ◌∷◌, ◌++◌, Bool, false, Option, Some, None, slice_index_or, slice_set, if◌then◌else◌}
 use Rattle.std.specs.Str.{bytes_eq}
+pub use Rattle.code_units.specs.Pairs.{lookup}
 use Rattle.js_tree.specs.Plain.{Fun}
 use Rattle.widget_meaning.specs.NativeNames.{ObjectPrototype, ArrayPrototype, FunctionPrototype, BunchPrototype, PrototypeOf}
 use Rattle.widget_meaning.specs.Values.{Value, Own, Host, Stop}
@@ -87,22 +88,17 @@ pub record State : Type 0 where
   pub own : OwnState
   pub dispatches : List Bool
 
--- ## Names with their values
-
--- what a name has in a list of pairs
-abbrev pub lookup : Pairs → List ℕ → Option Value
-lookup [] x = None
-lookup (p ∷ ps) x = if bytes_eq p.0 x then Some p.1 else lookup ps x
+-- ## Names with their values: `lookup` gives what a name has
 
 -- a kept name keeps its place; a new one is not put in
 abbrev pub replaced : Pairs → List ℕ → Value → Pairs
 replaced [] x v = []
-replaced (p ∷ ps) x v = if bytes_eq p.0 x then (p.0, v) ∷ ps else p ∷ replaced ps x v
+replaced (p ∷ ps) x v = if bytes_eq x p.0 then (p.0, v) ∷ ps else p ∷ replaced ps x v
 
 -- the pairs without a name
 abbrev pub taken_out : Pairs → List ℕ → Pairs
 taken_out [] x = []
-taken_out (p ∷ ps) x = if bytes_eq p.0 x then ps else p ∷ taken_out ps x
+taken_out (p ∷ ps) x = if bytes_eq x p.0 then ps else p ∷ taken_out ps x
 
 -- ## New objects
 

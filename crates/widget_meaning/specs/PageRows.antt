@@ -87,7 +87,7 @@ counted = alone counter 100000 (click (3 ∷ []) ∷ click (3 ∷ []) ∷ click 
 abbrev pub bubble_into_loop : Content
 bubble_into_loop = content (root "X_" (element "p" [] (element "b" [] (words "t" End) End) End))
     (does (method (dom_q "b") "on"
-        (str "click" ∷ function ("e" ∷ []) (logs (str "b") ∷ does (method (name "e") "bubble" []) ∷ []) ∷ []))
+    (str "click" ∷ function ("e" ∷ []) (logs (str "b") ∷ does (method (name "e") "bubble" []) ∷ []) ∷ []))
     ∷ does (method (dom_q "p") "on" (str "click" ∷ function ("e" ∷ []) (forever [] ∷ []) ∷ [])) ∷ []) []
 
 -- two clicks on the inner element: the second comes too late

@@ -1,11 +1,10 @@
 -- Properties of every kind of value, and the length of arrays.
-use Rattle.std.specs.Prelude.{ℕ, zero, suc, pos, ◌+◌, List, [], ◌∷◌, ◌++◌, Bool, true, false, not, ◌&&◌, nat_lt, nat_le, if◌then◌else◌, codes, length, max, map, Option, Some, None, is_some, unwrap_or}
+use Rattle.std.specs.Prelude.{ℕ, zero, suc, pos, ◌+◌, List, [], ◌∷◌, ◌++◌, Bool, true, false, not, nat_lt, nat_le, if◌then◌else◌, codes, length, max, map, Option, Some, None, is_some, unwrap_or}
 use Rattle.std.specs.List.{filter, list_any}
 use Rattle.std.specs.Fmt.{decimal}
 use Rattle.std.specs.Str.{bytes_eq}
-use Rattle.std.specs.Str.Parse.{digits_value}
 use Rattle.std.specs.Option.{option_map_or}
-use Rattle.code_units.specs.Whole.{is_numeral}
+pub use Rattle.code_units.specs.Indices.{index_of}
 use Rattle.code_units.specs.Permitted.{is_permitted}
 use Rattle.widget_meaning.specs.Limits.{max_chain, max_length}
 use Rattle.widget_meaning.specs.NativeNames.{TextPrototype, NumberPrototype, BooleanPrototype, PrototypeOf, Native}
@@ -15,15 +14,7 @@ use Rattle.widget_meaning.specs.Plan.{Plan}
 use Rattle.widget_meaning.specs.Costs.{pay, slots_cost, throw, give, want}
 use Rattle.widget_meaning.specs.HostTable.{host_pairs, host_prototype}
 
--- ## Indexes
-
--- an index is the decimal text, without leading zero, of 0 to 4294967294
-abbrev pub index_value : List ℕ → ℕ → Option ℕ
-index_value x n = if bytes_eq x (decimal n) && nat_lt n max_length then Some n else None
-
--- the index that a name is, if it is one
-abbrev pub index_of : List ℕ → Option ℕ
-index_of x = if is_numeral 10 x then index_value x (digits_value 10 x) else None
+-- ## Indexes: `index_of` gives the index that a name is, if it is one
 
 -- the name of an element
 abbrev pub index_name : ℕ → List ℕ

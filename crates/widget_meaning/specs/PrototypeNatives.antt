@@ -3,6 +3,7 @@ use Rattle.std.specs.Prelude.{ℕ, ℤ, pos, unsigned_abs, int_le, ◌+◌, Bool
 use Rattle.std.specs.Fmt.{digits}
 use Rattle.std.specs.Int.{is_negative}
 use Rattle.code_units.specs.Permitted.{is_permitted}
+use Rattle.widget_meaning.specs.Limits.{min_radix, max_radix}
 use Rattle.widget_meaning.specs.NativeNames.{PrototypeNative, HasOwnProperty, ObjectToString, ArrayToString, FunctionToString, TextToString, NumberToString, BooleanToString}
 use Rattle.widget_meaning.specs.Values.{Value, Truth, NaN, Num, Text, E3, E7, to_text, nth}
 use Rattle.widget_meaning.specs.OwnState.{State}
@@ -16,7 +17,7 @@ use Rattle.widget_meaning.specs.ListNatives.{join}
 abbrev pub has_own_property : Option Value → Value → State → Plan
 has_own_property this x s =
     on_object this s (λ o. want_primitives (x ∷ []) s
-        (give (Truth (is_some (own_property s o (to_text x)) && is_permitted (to_text x))) s))
+    (give (Truth (is_some (own_property s o (to_text x)) && is_permitted (to_text x))) s))
 
 -- a text that is made and given, without an extra
 abbrev pub give_made : List ℕ → State → Plan
@@ -39,13 +40,13 @@ number_text v radix = to_text v
 
 -- 2 to 36
 abbrev pub is_radix : ℤ → Bool
-is_radix z = int_le (pos 2) z && int_le z (pos 36)
+is_radix z = int_le (pos min_radix) z && int_le z (pos max_radix)
 
 -- 10 where absent; a radix outside 2 to 36 throws E7
 abbrev pub in_radix : Value → Value → State → Plan
 in_radix v radix s =
     want_primitives (radix ∷ []) s
-        (with_optional (pos 10) radix 0 s (λ r. want E7 (is_radix r) s (give_made (number_text v r) s)))
+    (with_optional (pos 10) radix 0 s (λ r. want E7 (is_radix r) s (give_made (number_text v r) s)))
 
 -- the `toString` of numbers
 abbrev pub number_to_string : Option Value → Value → State → Plan

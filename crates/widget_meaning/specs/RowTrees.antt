@@ -160,7 +160,7 @@ content ts ss fs = record {
   libraries = [];
   script = stmts (does (adsafe "go" (str "A_" ∷ expr (tree.Function
       (tree.FunAt 0 [] None (codes "dom" ∷ codes "lib" ∷ []) (stmts ss) (fold tree.AndFun tree.NoFuns fs))) ∷ []))
-          ∷ []);
+      ∷ []);
 }
 
 -- a widget on `<div id="A_"><p>hi</p></div>`

@@ -63,7 +63,7 @@ declared_name =
 abbrev pub expression_name : Content
 expression_name = body
     (vars (("f", tree.SomeExpr (num "0"))
-        ∷ ("g", tree.SomeExpr (expr (tree.Function (declared "f" [] (sets (name "f") (num "1") ∷ []))))) ∷ [])
+    ∷ ("g", tree.SomeExpr (expr (tree.Function (declared "f" [] (sets (name "f") (num "1") ∷ []))))) ∷ [])
     ∷ does (apply (name "g") []) ∷ logs (name "f") ∷ [])
 
 -- throw {name: "X", message: "y"};

@@ -96,13 +96,16 @@ abbrev pub first_of_name : Fun → Value → List Value → List ℕ → Value
 first_of_name (tree.FunAt at names name params body funs) f vs x =
     let others : List (List ℕ) = other_names (tree.FunAt at names name params body funs) in
     unwrap_or (argument params vs x)
-        (if list_any (bytes_eq x) (option_to_list name) && not (list_any (bytes_eq x) others) then f else Undefined)
+    (if list_any (bytes_eq x) (option_to_list name) && not (list_any (bytes_eq x) others) then f else Undefined)
 
 -- a call's scope: each of its names once, with its first value
 abbrev pub call_scope : Fun → Option ℕ → Value → List Value → Scope
 call_scope fun outer f vs =
-    record { outer = outer; pairs = map (λ x. (x, first_of_name fun f vs x))
-        (distinct [] (other_names fun ++ fun_name fun)) }
+    record {
+      outer = outer;
+      pairs = map (λ x. (x, first_of_name fun f vs x))
+          (distinct [] (other_names fun ++ fun_name fun));
+    }
 
 -- ## How a name is found
 

@@ -1,4 +1,4 @@
--- Statements: what each form does after its unit, one level deep. What comes after a part has a name.
+-- Statements: what each form does after its unit, one level deep. A longer continuation has a name.
 use Rattle.std.specs.Prelude.{ℕ, List, [], ◌∷◌, ◌++◌, length, if◌then◌else◌, Some, is_some}
 use Rattle.js_tree.specs.Plain as tree
 use Rattle.js_tree.specs.Plain.{Expr, OptionalExpr, Stmt, StmtForm, Stmts, Decls, ForInit, OptionalBlock, Catch, Clauses}
@@ -131,7 +131,7 @@ abbrev pub choose_case : Value → List Case → List Case → Place → State �
 choose_case v all [] p s = statements (from_default all all) p s
 choose_case v all (c ∷ cs) p s =
     case_test c.0 p s (λ w t. if is_same v w then statements (c.1 ++ bodies cs) p t else choose_case v all cs p t)
-        (choose_case v all cs p s)
+    (choose_case v all cs p s)
 
 -- after the test of a clause
 abbrev pub case_tested : Value → List Case → List Stmt → List Case → Place → Completion → State → Plan
@@ -152,7 +152,7 @@ abbrev pub in_catch : List ℕ → List Stmt → Value → Place → State → P
 in_catch x b v p s =
     let c : Scope = record { outer = p.scope; pairs = (x, v) ∷ [] } in
     pay (scope_cost c) s
-        (λ t. statements b (record { scope = Some (length t.own.scopes); depth = p.depth }) (with_new_scope t c))
+    (λ t. statements b (record { scope = Some (length t.own.scopes); depth = p.depth }) (with_new_scope t c))
 
 -- after the block of a `try`: its `catch`
 abbrev pub caught : Catch → Place → Completion → State → Plan

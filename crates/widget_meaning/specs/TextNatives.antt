@@ -50,7 +50,7 @@ index_of t x from s =
     let extra : ℕ = length t + length (to_text x) in
     want_primitives (x ∷ from ∷ []) s (with_number (to_number from) extra s
     (λ z. charge extra s
-        (give (found (slice_get (filter (nat_le (clamped (length t) z)) (positions t (to_text x))) 0)) s)))
+    (give (found (slice_get (filter (nat_le (clamped (length t) z)) (positions t (to_text x))) 0)) s)))
 
 -- `lastIndexOf(s, from)`: the greatest position at or before `from`, which for NaN is the end
 abbrev pub last_index_of : List ℕ → Value → Value → State → Plan
@@ -58,7 +58,7 @@ last_index_of t x from s =
     let extra : ℕ = length t + length (to_text x) in
     want_primitives (x ∷ from ∷ []) s (with_number_or (pos (length t)) (to_number from) extra s
     (λ z. charge extra s
-        (give (found (last_or None (filter (λ i. nat_le i (clamped (length t) z)) (positions t (to_text x))))) s)))
+    (give (found (last_or None (filter (λ i. nat_le i (clamped (length t) z)) (positions t (to_text x))))) s)))
 
 -- `slice(a, b)`: negatives from the end, an absent b is the end
 abbrev pub text_slice : List ℕ → Value → Value → State → Plan
@@ -100,7 +100,7 @@ split t Undefined s = charge (length t) s (make_array (Text t ∷ []) 0 s give)
 split t x s =
     want_primitives (x ∷ []) s
     (charge (length t + (length (to_text x) + sum_by length (pieces (to_text x) t))) s
-        (give_texts (pieces (to_text x) t) s))
+    (give_texts (pieces (to_text x) t) s))
 
 -- the methods of a text
 abbrev pub text_method : TextNative → List ℕ → List Value → State → Plan

@@ -9,14 +9,16 @@ ghost use Rattle.widget_meaning.specs.Arena.{ArenaLaws};
 ghost use Rattle.widget_meaning.specs.Counts.{CountLaws};
 ghost use Rattle.widget_meaning.specs.Laws.{FuelLaws, StopLaws, StoppedLaws, AloneLaws, TimerLaws};
 
-/// The meaning of each form is made of the meanings of its parts: this is the direct recursive meaning, form by form.
+/// The meaning of each form is made of the meanings of its parts: this is the direct recursive
+/// meaning, form by form.
 pub fn compositional()
     ensures expressions { (at : ℕ) (names : List ℕ) (p : Place) (s : State) (g : ℕ) → ExpressionLaws at names p s g }
     ensures statements { (at : ℕ) (names : List ℕ) (p : Place) (s : State) (g : ℕ) → StatementLaws at names p s g }
     ensures calls { (s : State) (g : ℕ) → CallLaws s g }
 {}
 
-/// Plans one after the other, charges and costs: what is there is taken, and the first that is not stops.
+/// Plans one after the other, charges and costs: what is there is taken, and the first that is not
+/// stops.
 #[tactic(auto, using(crate::proofs::PlansHold::plan_laws, crate::proofs::PlansHold::cost_laws))]
 pub fn plans()
     ensures plans { PlanLaws }
@@ -59,7 +61,8 @@ pub fn alone()
     ensures { AloneLaws }
 {}
 
-/// At most 64 timers wait and none is due before the clock, and an advance takes all that are due: its bound on their turns is never met.
+/// At most 64 timers wait and none is due before the clock, and an advance takes all that are due:
+/// its bound on their turns is never met.
 #[tactic(auto, using(crate::proofs::TimersHold::timer_laws))]
 pub fn timers()
     ensures { TimerLaws }

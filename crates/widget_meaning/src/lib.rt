@@ -1,4 +1,5 @@
-//! What a script means, and what one widget does by itself: definitions in `specs/`, in the order of docs/LANGUAGE.md, and their laws.
+//! What a script means, and what one widget does by itself: definitions in `specs/`, in the order of
+//! docs/LANGUAGE.md, and their laws.
 //! There is no code here: the functions that do nothing carry the laws of the definitions.
 #![tactic(auto)]
 

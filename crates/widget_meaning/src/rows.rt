@@ -13,7 +13,8 @@ pub fn page_rows()
     ensures { PageRows }
 {}
 
-/// What single bodies do on one page: natives, ends of calls, timers, posts, changes of nodes, and a node past the limit.
+/// What single bodies do on one page: natives, ends of calls, timers, posts, changes of nodes, and a
+/// node past the limit.
 pub fn body_rows()
     ensures { BodyRows }
 {}
