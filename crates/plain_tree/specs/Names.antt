@@ -7,6 +7,7 @@ use Rattle.std.specs.Str.{bytes_eq}
 abbrev pub is_letter : ℕ → Bool
 is_letter c = nat_le 97 c && nat_le c 122
 
+-- `0` to `9`
 abbrev pub is_digit : ℕ → Bool
 is_digit c = nat_le 48 c && nat_le c 57
 
@@ -23,9 +24,11 @@ abbrev pub is_name : (ℕ → Bool) → List ℕ → Bool
 is_name p [] = false
 is_name p (c ∷ cs) = is_letter c && list_all p cs
 
+-- the name of a tag
 abbrev pub is_tag_name : List ℕ → Bool
 is_tag_name us = is_name is_in_tag us
 
+-- the name of an attribute
 abbrev pub is_attribute_name : List ℕ → Bool
 is_attribute_name us = is_name is_in_attribute us
 
