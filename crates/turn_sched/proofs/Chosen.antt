@@ -10,6 +10,7 @@ use Rattle.std.proofs.lemmas.Bool.Decides.{nat_tests}
 use Rattle.std.proofs.lemmas.Option.{slice_get_within, get_or_from_slice_get}
 use Rattle.std.specs.List.{list_any, position_or_len}
 use Rattle.std.specs.List.Sorted.{IsStrictlyIncreasing}
+use Rattle.code_units.specs.declared.owner.TheConstants.{WIDGETS}
 use Rattle.turn_sched.specs.declared.chooser.Ask.{Ask}
 use Rattle.turn_sched.specs.Asks.{IsAsk, is_ready}
 use Rattle.turn_sched.specs.Turns.{TakesNext, is_above}
@@ -44,12 +45,12 @@ stands w [] found = cc
 stands w (x ∷ xs) found = stands_or w x xs found (λ rest. stands w xs rest)
 
 -- the number taken is ready
-is_taken : (ready : List ℕ) (i : ℕ) (ask : Ask) → All (λ w. w < 32) ready → IsAsk ready i ask → IsTrue (is_ready ask ask.taken)
+is_taken : (ready : List ℕ) (i : ℕ) (ask : Ask) → All (λ w. w < WIDGETS) ready → IsAsk ready i ask → IsTrue (is_ready ask ask.taken)
 is_taken ready i ask below asked =
     let within : i < length ready = slice_get_within ready i ask.taken asked.taken in
     let same : slice_index ready i ≡ ask.taken = get_or_from_slice_get ready i ask.taken 0 asked.taken in
-    let small : slice_index ready i < 32 = below i 0 within in
-    let fits : ask.taken < 32 = omega arith in
+    let small : slice_index ready i < WIDGETS = below i 0 within in
+    let fits : ask.taken < WIDGETS = omega arith in
     let found : list_any (nat_eq ask.taken) ready ≡ true = list_any_at (nat_eq ask.taken) ready i 0 within (grind (arith, common_steps)) in
     asked.flags ask.taken fits ∙ found
 
@@ -58,7 +59,7 @@ past : (p : ℕ → Bool) (xs : List ℕ) (k : ℕ) → position p xs ≡ None �
 past p xs k none within = grind (arith, common_steps, nat_tests)
 
 -- the first above the last one
-pub some_above : (last : Option ℕ) (ready : List ℕ) (i : ℕ) (ask : Ask) → IsStrictlyIncreasing ready → All (λ w. w < 32) ready → position (is_above last) ready ≡ Some i → IsAsk ready i ask → TakesNext last ask
+pub some_above : (last : Option ℕ) (ready : List ℕ) (i : ℕ) (ask : Ask) → IsStrictlyIncreasing ready → All (λ w. w < WIDGETS) ready → position (is_above last) ready ≡ Some i → IsAsk ready i ask → TakesNext last ask
 some_above last ready i ask rising below first asked =
     let at = position-Some (is_above last) ready i 0 first in
     let same : slice_index ready i ≡ ask.taken = get_or_from_slice_get ready i ask.taken 0 asked.taken in
@@ -79,10 +80,10 @@ some_above last ready i ask rising below first asked =
     }
 
 -- none is above the last one
-pub none_above : (last : Option ℕ) (ready : List ℕ) (ask : Ask) → IsStrictlyIncreasing ready → All (λ w. w < 32) ready → position (is_above last) ready ≡ None → IsAsk ready 0 ask → TakesNext last ask
+pub none_above : (last : Option ℕ) (ready : List ℕ) (ask : Ask) → IsStrictlyIncreasing ready → All (λ w. w < WIDGETS) ready → position (is_above last) ready ≡ None → IsAsk ready 0 ask → TakesNext last ask
 none_above last ready ask rising below none asked =
     let same : slice_index ready 0 ≡ ask.taken = get_or_from_slice_get ready 0 ask.taken 0 asked.taken in
-    let never : (w : ℕ) → w < 32 → IsTrue (is_ready ask w) → IsTrue (is_above last w) → ⊥ =
+    let never : (w : ℕ) → w < WIDGETS → IsTrue (is_ready ask w) → IsTrue (is_above last w) → ⊥ =
     λ w fits is_in over. (let here = stands w ready (sym (asked.flags w fits) ∙ is_in) in
     let over_there : is_above last (slice_index ready here.0) ≡ true = subst (λ n. is_above last n ≡ true) (sym here.2) over in
     let not_over : is_above last (slice_index ready here.0) ≡ false = fails_before_first (is_above last) ready here.0 0 (past (is_above last) ready here.0 none here.1) in cc) in
@@ -100,10 +101,10 @@ none_above last ready ask rising below none asked =
 pub nowhere : (xs : List ℕ) → position (is_above None) xs ≡ None
 nowhere xs = let all = position_or_len_is (is_above None) xs (length xs) 0 (omega arith) (λ k lt. refl) (λ lt. absurd (omega arith)) in grind (arith, common_steps, nat_tests, all)
 
-by_place : (last : Option ℕ) (ready : List ℕ) (ask : Ask) (place : Option ℕ) → IsStrictlyIncreasing ready → All (λ w. w < 32) ready → position (is_above last) ready ≡ place → IsAsk ready (unwrap_or place 0) ask → TakesNext last ask
+by_place : (last : Option ℕ) (ready : List ℕ) (ask : Ask) (place : Option ℕ) → IsStrictlyIncreasing ready → All (λ w. w < WIDGETS) ready → position (is_above last) ready ≡ place → IsAsk ready (unwrap_or place 0) ask → TakesNext last ask
 by_place last ready ask None rising below is asked = none_above last ready ask rising below is asked
 by_place last ready ask (Some i) rising below is asked = some_above last ready i ask rising below is asked
 
 -- the answer of a round robin takes the number that is next
-pub takes_next : (last : Option ℕ) (ready : List ℕ) (at : ℕ) (ask : Ask) → IsStrictlyIncreasing ready → All (λ w. w < 32) ready → at ≡ unwrap_or (position (is_above last) ready) 0 → IsAsk ready at ask → TakesNext last ask
+pub takes_next : (last : Option ℕ) (ready : List ℕ) (at : ℕ) (ask : Ask) → IsStrictlyIncreasing ready → All (λ w. w < WIDGETS) ready → at ≡ unwrap_or (position (is_above last) ready) 0 → IsAsk ready at ask → TakesNext last ask
 takes_next last ready at ask rising below is asked = by_place last ready ask (position (is_above last) ready) rising below refl (subst (λ n. IsAsk ready n ask) is asked)

@@ -1,5 +1,6 @@
 -- Round robin: who is taken at each ask.
 use Rattle.std.specs.Prelude.{◌<◌, ◌≤◌, ℕ, Bool, false, IsTrue, List, [], ◌∷◌, length, nat_lt, Option, Some, None, if◌then◌else◌}
+use Rattle.code_units.specs.declared.owner.TheConstants.{WIDGETS}
 use Rattle.turn_sched.specs.declared.chooser.Ask.{Ask}
 use Rattle.turn_sched.specs.Asks.{is_ready}
 
@@ -11,9 +12,9 @@ is_above (Some last) w = nat_lt last w
 -- the ask takes the least ready number above the one taken last, or where none is above it, or none was taken, the least ready number
 pub record TakesNext (last : Option ℕ) (ask : Ask) : Type 0 where
   pub taken : IsTrue (is_ready ask ask.taken)
-  pub above : (w : ℕ) → w < 32 → IsTrue (is_ready ask w) → IsTrue (is_above last w) → IsTrue (is_above last ask.taken)
-  pub least_above : (w : ℕ) → w < 32 → IsTrue (is_ready ask w) → IsTrue (is_above last w) → ask.taken ≤ w
-  pub least : (w : ℕ) → w < 32 → IsTrue (is_ready ask w) → ¬ IsTrue (is_above last ask.taken) → ask.taken ≤ w
+  pub above : (w : ℕ) → w < WIDGETS → IsTrue (is_ready ask w) → IsTrue (is_above last w) → IsTrue (is_above last ask.taken)
+  pub least_above : (w : ℕ) → w < WIDGETS → IsTrue (is_ready ask w) → IsTrue (is_above last w) → ask.taken ≤ w
+  pub least : (w : ℕ) → w < WIDGETS → IsTrue (is_ready ask w) → ¬ IsTrue (is_above last ask.taken) → ask.taken ≤ w
 
 -- one ask after the other takes the number that is next after the one taken before
 pub data TakeTurns : Option ℕ → List Ask → Type 0 where

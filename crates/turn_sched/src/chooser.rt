@@ -4,10 +4,12 @@ ghost use Rattle.std.specs.List.Sorted.{IsStrictlyIncreasing};
 ghost use Rattle.turn_sched.specs.declared.chooser.Ask.{Ask};
 ghost use Rattle.turn_sched.specs.Asks.{KeepsAsk};
 
-/// One call of a chooser: which of the numbers below 32 were ready, and which one was taken.
-#[derive(Clone, Copy, PartialEq, Eq, Debug)]
+use code_units::WIDGETS;
+
+/// One call of a chooser: which of the widgets' numbers were ready, and which one was taken.
+#[derive(Clone, Copy, PartialEq, Eq)]
 pub struct Ask {
-    pub ready: [bool; 32],
+    pub ready: [bool; WIDGETS],
     pub taken: u32,
 }
 
@@ -19,11 +21,11 @@ pub trait Chooser {
     /// How many more calls it keeps.
     ghost room: { Self → ℕ };
 
-    /// The index of the one that is next, in a rising list of numbers below 32 that is not empty.
+    /// The index of the one that is next, in a rising list of widgets' numbers that is not empty.
     /// It takes no memory.
     fn next(&mut self, ready: &[u32]) -> usize
         requires rising { IsStrictlyIncreasing ready.now }
-        requires below { All (λ w. w < 32) ready.now }
+        requires below { All (λ w. w < WIDGETS) ready.now }
         requires some { 0 < length ready.now }
         ensures within { result < length ready.now }
         ensures kept { 0 < room self.old → KeepsAsk ready.now result (asks self.old) (asks self.new) }

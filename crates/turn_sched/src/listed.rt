@@ -4,6 +4,7 @@ ghost use Rattle.std.specs.Prelude.{All, ◌≡◌, ◌<◌, ◌+◌, ◌%◌, [
 ghost use Rattle.turn_sched.specs.Turns.{round_place};
 
 use crate::chooser::Chooser;
+use code_units::WIDGETS;
 
 /// Takes the next number of its list modulo the length of what it is asked about, and begins again
 /// at the end. An empty list takes the first each time. It keeps no asks.
@@ -20,7 +21,7 @@ impl Chooser for Listed {
 
     fn next(&mut self, ready: &[u32]) -> usize
         requires rising { IsStrictlyIncreasing ready.now }
-        requires below { All (λ w. w < 32) ready.now }
+        requires below { All (λ w. w < WIDGETS) ready.now }
         requires some { 0 < length ready.now }
         ensures within { result < length ready.now }
         ensures empty { length self.old.list.items ≡ 0 → result ≡ 0 }

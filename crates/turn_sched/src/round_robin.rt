@@ -3,10 +3,10 @@ ghost use Rattle.std.specs.Prelude.{◌≡◌, ◌<◌, ◌+◌, ◌++◌, ◌�
 ghost use Rattle.std.specs.List.{list_any};
 ghost use Rattle.std.specs.List.Sorted.{IsStrictlyIncreasing};
 ghost use Rattle.turn_sched.specs.Asks.{KeepsAsk};
-ghost use Rattle.turn_sched.specs.Turns.{RoundState, TakeTurns, is_above};
+ghost use Rattle.turn_sched.specs.Turns.{RoundState, TakeTurns, is_above, last_taken};
 
 use crate::chooser::{Ask, Chooser};
-use code_units::Memory;
+use code_units::{Memory, WIDGETS};
 use std::alloc::Global;
 use std::marker::Model;
 
@@ -42,21 +42,23 @@ impl RoundRobin {
         })
     }
 
-    /// The asks that it kept. Each takes the number that is next after the one before it.
+    /// The asks that it kept. Each takes the number that is next after the one before it, and while
+    /// there is room for more, the number taken last is that of the last one.
     pub fn asks(&self) -> &[Ask]
         ensures value { result.now ≡ self.now.asks }
         ensures turns { TakeTurns None result.now }
+        ensures last { 0 < self.now.room → self.now.last ≡ last_taken None result.now }
     {
         self.asks.as_slice()
     }
 }
 
-// The numbers below 32 that stand in the list.
-fn flags_of(ready: &[u32]) -> [bool; 32]
-    requires { All (λ w. w < 32) ready.now }
-    ensures { (w : ℕ) → w < 32 → unwrap_or (slice_get result w) false ≡ list_any (nat_eq w) ready.now }
+// The widgets whose numbers stand in the list.
+fn flags_of(ready: &[u32]) -> [bool; WIDGETS]
+    requires { All (λ w. w < WIDGETS) ready.now }
+    ensures { (w : ℕ) → w < WIDGETS → unwrap_or (slice_get result w) false ≡ list_any (nat_eq w) ready.now }
 {
-    let mut flags = [false; 32];
+    let mut flags = [false; WIDGETS];
     'ready: for w in ready {
         flags[*w as usize] = true;
     }
@@ -90,11 +92,12 @@ impl Chooser for RoundRobin {
 
     fn next(&mut self, ready: &[u32]) -> usize
         requires rising { IsStrictlyIncreasing ready.now }
-        requires below { All (λ w. w < 32) ready.now }
+        requires below { All (λ w. w < WIDGETS) ready.now }
         requires some { 0 < length ready.now }
         ensures within { result < length ready.now }
         ensures answer { result ≡ unwrap_or (position (is_above self.old.last) ready.now) 0 }
         ensures last { self.new.last ≡ slice_get ready.now result }
+        ensures last_kept { 0 < self.old.room → self.new.last ≡ last_taken None self.new.asks }
         ensures kept { 0 < self.old.room → KeepsAsk ready.now result self.old.asks self.new.asks }
         ensures room { 0 < self.old.room → self.new.room + 1 ≡ self.old.room }
         ensures full { self.old.room ≡ 0 → self.new.asks ≡ self.old.asks }

@@ -32,3 +32,9 @@ returns-then-is_ok-clause-kept c = λ some. record {
 
 pub returns-else-self-gt0-clause-last : goal.returns-else-self-gt0-clause-last
 returns-else-self-gt0-clause-last c = sym (slice_get-get_or c.args.ready.now c.next_after-at.result 0 c.next_after-at.ensures.within)
+
+pub returns-then-is_ok-clause-last_kept : goal.returns-then-is_ok-clause-last_kept
+returns-then-is_ok-clause-last_kept c = λ some.
+    let ask : Ask = record { ready = c.flags_of.result; taken = slice_index c.args.ready.now c.next_after-at.result } in
+    let pushed : c.push.new.self.items ≡ c.self.inside.asks.items ++ ask ∷ [] = grind (arith, common_steps, c.push.ensures.items) in
+    sym (ap (last_taken None) pushed ∙ last_more None c.self.inside.asks.items ask)
