@@ -107,7 +107,7 @@ turn_spent k o = end_spent (run_plan o.grant (k (begun o))).how (run_plan o.gran
 at_most : (a s g l : ℕ) → a ≡ s + (g - l) → a ≤ s + g
 at_most a s g l e = omega arith
 
-turn_grant : (k : State → Plan) (o : OwnState) → (turn k o).grant ≡ o.grant
+pub turn_grant : (k : State → Plan) (o : OwnState) → (turn k o).grant ≡ o.grant
 turn_grant k o = end_grant (run_plan o.grant (k (begun o))).how (run_plan o.grant (k (begun o))).state _
 
 pub fuel_laws : FuelLaws

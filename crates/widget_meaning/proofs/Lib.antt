@@ -15,6 +15,7 @@ pub mod KeepingJobs
 pub mod KeepingRuns
 pub mod CountsHold
 pub mod TimersHold
+pub mod SumsHold
 pub mod RowsHold
 pub mod OnLiterals
 pub mod SortHolds

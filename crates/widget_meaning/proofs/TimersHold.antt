@@ -24,12 +24,12 @@ use Rattle.widget_meaning.proofs.KeepingJobs.{timer_plan_r, library_plan_r, go_p
 use Rattle.tree_ops.specs.Labels.{with_attribute}
 
 -- how many timers are due before a time
-abbrev due_before : ℕ → List Timer → ℕ
+abbrev pub due_before : ℕ → List Timer → ℕ
 due_before e [] = 0
 due_before e (t ∷ ts) = if nat_lt t.due e then suc (due_before e ts) else due_before e ts
 
 -- a timer is due at a time
-abbrev HasDue : ℕ → List Timer → Type 0
+abbrev pub HasDue : ℕ → List Timer → Type 0
 HasDue d [] = ⊥
 HasDue d (t ∷ ts) = (t.due ≡ d) ⊎ HasDue d ts
 
@@ -116,7 +116,7 @@ has_ahead m d (t ∷ ts) h (inl e) = chain_le m t.due d h.0 (same_as t.due d e)
 has_ahead m d (t ∷ ts) h (inr i) = has_ahead m d ts h.1 i
 
 -- the next timer
-abbrev IsNext : ℕ → List Timer → Option Timer → Type 0
+abbrev pub IsNext : ℕ → List Timer → Option Timer → Type 0
 IsNext limit ts None = NoneBefore (suc limit) ts
 IsNext limit ts (Some t) = (t.due ≤ limit) × (NoneBefore t.due ts × HasDue t.due ts)
 
@@ -130,7 +130,7 @@ sooner_is limit t ts false (Some u) e i = (i.0, ((below_le u.due limit t.due i.0
 sooner_is limit t ts true None e i = (leb-true t.due limit e, ((same_le t.due, no_earlier t.due (suc limit) ts (up t.due limit (leb-true t.due limit e)) i), inl refl))
 sooner_is limit t ts true (Some u) e i = earlier limit t u ts (nat_le t.due u.due) refl (leb-true t.due limit e) i
 
-next_is : (limit : ℕ) (ts : List Timer) → IsNext limit ts (next_due limit ts)
+pub next_is : (limit : ℕ) (ts : List Timer) → IsNext limit ts (next_due limit ts)
 next_is limit [] = tt
 next_is limit (t ∷ ts) = sooner_is limit t ts (nat_le t.due limit) (next_due limit ts) refl (next_is limit ts)
 
@@ -170,11 +170,11 @@ one_due e d [] l h = absurd h
 one_due e d (t ∷ ts) l h = one_due_at e d t ts (nat_eq t.due d) refl l h (one_due e d ts l)
 
 -- within a turn at a time, no more timers are due before an end, up to which none that is started is due
-record Waits (now e count : ℕ) (ts : List Timer) (clock : ℕ) : Type 0 where
-  clock_is : clock ≡ now
-  few : length ts ≤ max_timers
-  ahead : NoneBefore now ts
-  due : due_before e ts ≤ count
+pub record Waits (now e count : ℕ) (ts : List Timer) (clock : ℕ) : Type 0 where
+  pub clock_is : clock ≡ now
+  pub few : length ts ≤ max_timers
+  pub ahead : NoneBefore now ts
+  pub due : due_before e ts ≤ count
 
 abbrev waiting : (now e count : ℕ) → e ≤ now + min_delay → Invariant
 waiting now e count i = record {
@@ -188,7 +188,7 @@ waiting now e count i = record {
   };
 }
 
-abbrev WaitsOf : ℕ → ℕ → ℕ → OwnState → Type 0
+abbrev pub WaitsOf : ℕ → ℕ → ℕ → OwnState → Type 0
 WaitsOf now e count o = Waits now e count o.timers o.clock
 
 module _ (now e count : ℕ) (i : e ≤ now + min_delay) where
@@ -214,14 +214,14 @@ module _ (now e count : ℕ) (i : e ≤ now + min_delay) where
   turn_r k o f = end_r (run_plan o.grant (k (begun o))).how (run_plan o.grant (k (begun o))).state _ (run_keeps (waiting now e count i) o.grant (k (begun o)) f)
 
 -- after a turn the timers are few and ahead
-are_timers : (now e count : ℕ) (o : OwnState) → WaitsOf now e count o → AreTimers o
+pub are_timers : (now e count : ℕ) (o : OwnState) → WaitsOf now e count o → AreTimers o
 are_timers now e count o h = record { few = h.few; ahead = no_earlier o.clock now o.timers (same_as o.clock now h.clock_is) h.ahead }
 
 waits : (o : OwnState) → AreTimers o → WaitsOf o.clock 0 (due_before 0 o.timers) o
 waits o h = record { clock_is = refl; few = h.few; ahead = h.ahead; due = same_le (due_before 0 o.timers) }
 
 -- the turn of the next timer
-next_waits : (t : Timer) (o : OwnState) (e : ℕ) → e ≤ t.due + min_delay → AreTimers o → NoneBefore t.due o.timers → HasDue t.due o.timers
+pub next_waits : (t : Timer) (o : OwnState) (e : ℕ) → e ≤ t.due + min_delay → AreTimers o → NoneBefore t.due o.timers → HasDue t.due o.timers
     → WaitsOf t.due e (due_before e (without_due t.due o.timers)) (timer_turn t o)
 next_waits t o e i h a d =
     let n : ℕ = due_before e (without_due t.due o.timers) in
@@ -345,7 +345,7 @@ advanced o d more h =
     })
 
 -- turns and items
-none_left : (n : ℕ) → 0 ≤ n
+pub none_left : (n : ℕ) → 0 ≤ n
 none_left n = omega arith
 
 turn_timers : (k : State → Plan) (o : OwnState) → AreTimers o → ((i : Invariant) → HoldsOf i (begun o) → Keeps i (k (begun o))) → AreTimers (turn k o)
@@ -354,11 +354,18 @@ turn_timers k o h f =
     let i : 0 ≤ o.clock + min_delay = none_left (o.clock + min_delay) in
     are_timers o.clock 0 n (turn k o) (turn_r o.clock 0 n i k o (f (waiting o.clock 0 n i) (waits o h)))
 
+-- and its clock stays
+pub turn_clock : (k : State → Plan) (o : OwnState) → AreTimers o → ((i : Invariant) → HoldsOf i (begun o) → Keeps i (k (begun o))) → (turn k o).clock ≡ o.clock
+turn_clock k o h f =
+    let n : ℕ = due_before 0 o.timers in
+    let i : 0 ≤ o.clock + min_delay = none_left (o.clock + min_delay) in
+    (turn_r o.clock 0 n i k o (f (waiting o.clock 0 n i) (waits o h))).clock_is
+
 either : (b : Bool) (o p : OwnState) → AreTimers o → AreTimers p → AreTimers (if b then o else p)
 either true o p h k = h
 either false o p h k = k
 
-value_timers : (l : Option Label) (n : ℕ) (v : Option (List ℕ)) (o : OwnState) → AreTimers o → AreTimers (with_value l n v o)
+pub value_timers : (l : Option Label) (n : ℕ) (v : Option (List ℕ)) (o : OwnState) → AreTimers o → AreTimers (with_value l n v o)
 value_timers None n v o h = h
 value_timers (Some (TextOf t)) n v o h = h
 value_timers (Some (ElementOf tag attrs)) n None o h = h
@@ -381,7 +388,7 @@ live_timers : (o : OwnState) (i : Item) → AreTimers o → AreTimers (live_item
 live_timers o (Occurs e) h = occurs_timers e (node_at o.forest e.path) o h
 live_timers o (Advance d) h = (advanced o d 0 h).1
 
-item_timers : (c : Option Stop) (o : OwnState) (i : Item) → AreTimers o → AreTimers (item_at c o i)
+pub item_timers : (c : Option Stop) (o : OwnState) (i : Item) → AreTimers o → AreTimers (item_at c o i)
 item_timers None o i h = live_timers o i h
 item_timers (Some c) o (Occurs e) h = record { few = h.few; ahead = h.ahead }
 item_timers (Some c) o (Advance d) h = h
@@ -403,11 +410,14 @@ go_timers : (x : Option (List ℕ × Fun)) (o : OwnState) → AreTimers o → Ar
 go_timers None o h = h
 go_timers (Some (x, f)) o h = turn_timers (go_plan f) o h (λ i r. go_plan_r i f (begun o) r)
 
-libraries_timers : (ls : List Stmts) (o : OwnState) → AreTimers o → AreTimers (fold load_library o ls)
-libraries_timers [] o h = h
-libraries_timers (l ∷ ls) o h = libraries_timers ls (load_library o l) (unless_timers o.stop o (library_turn (call_parts l)) h (λ p k. library_timers (call_parts l) p k))
+pub load_timers : (l : Stmts) (o : OwnState) → AreTimers o → AreTimers (load_library o l)
+load_timers l o h = unless_timers o.stop o (library_turn (call_parts l)) h (λ p k. library_timers (call_parts l) p k)
 
-loaded_timers : (w : Content) (grant : ℕ) → AreTimers (loaded w grant)
+pub libraries_timers : (ls : List Stmts) (o : OwnState) → AreTimers o → AreTimers (fold load_library o ls)
+libraries_timers [] o h = h
+libraries_timers (l ∷ ls) o h = libraries_timers ls (load_library o l) (load_timers l o h)
+
+pub loaded_timers : (w : Content) (grant : ℕ) → AreTimers (loaded w grant)
 loaded_timers w grant =
     let o : OwnState = fold load_library (beginning w grant) w.libraries in
     unless_timers o.stop o (go_turn (call_parts w.script)) (libraries_timers w.libraries (beginning w grant) (record { few = omega arith; ahead = tt })) (λ p k. go_timers (call_parts w.script) p k)

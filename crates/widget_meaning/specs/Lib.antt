@@ -44,6 +44,7 @@ pub mod Laws
 pub mod Keeps
 pub mod PlanLaws
 pub mod Counts
+pub mod Sums
 pub mod RowTrees
 pub mod Rows
 pub mod NativeRows

@@ -7,6 +7,9 @@ ghost use Rattle.widget_meaning.specs.Plan.{Place, Plan};
 ghost use Rattle.widget_meaning.specs.PlanLaws.{PlanLaws, CostLaws};
 ghost use Rattle.widget_meaning.specs.Arena.{ArenaLaws};
 ghost use Rattle.widget_meaning.specs.Counts.{CountLaws};
+ghost use Rattle.widget_meaning.specs.Items.{Item};
+ghost use Rattle.widget_meaning.specs.Alone.{Content};
+ghost use Rattle.widget_meaning.specs.Sums.{SumLaws};
 ghost use Rattle.widget_meaning.specs.Laws.{FuelLaws, StopLaws, StoppedLaws, AloneLaws, TimerLaws};
 
 /// The meaning of each form is made of the meanings of its parts: this is the direct recursive
@@ -41,6 +44,13 @@ pub fn fuel()
 #[tactic(auto, using(crate::proofs::CountsHold::count_laws))]
 pub fn counts()
     ensures { CountLaws }
+{}
+
+/// What a whole run comes to at most, by its items: turns, units spent, events that no turn took, and
+/// the clock.
+#[tactic(auto, using(crate::proofs::SumsHold::sum_laws))]
+pub fn sums()
+    ensures { (w : Content) (grant : ℕ) (is : List Item) → SumLaws w grant is }
 {}
 
 /// No `catch` and no `finally` sees a stop.
