@@ -14,29 +14,51 @@ ghost use Rattle.exact_refusals.specs.Judge.Outcome.{Read, Refused, Deeper};
 
 /// The same tokens are taken in one way: at the same depths, and as the same tree.
 pub fn one_tree<Token, State, Tree>()
-    ensures { (step : State → Token → Option (ℕ × State)) (done : State → Option Tree) (begin : State) (ts us : List (Token × ℕ)) (p q : Tree) → Takes step done begin ts p → Takes step done begin us q → signs ts ≡ signs us → (ts ≡ us) × (p ≡ q) }
+    ensures { (step : State → Token → Option (ℕ × State)) (done : State → Option Tree) (begin : State)
+        (ts us : List (Token × ℕ)) (p q : Tree) → Takes step done begin ts p → Takes step done begin us q →
+        signs ts ≡ signs us → (ts ≡ us) × (p ≡ q) }
 {}
 
 /// A tree comes of a text exactly where the text has it within the limit.
 pub fn tree_is_read<Token, State, Tree>()
-    ensures { (step : State → Token → Option (ℕ × State)) (done : State → Option Tree) (begin : State) (limit : ℕ) (input : List Token) (p : Tree) → (judge step done limit begin input ≡ Read p) ↔ HasTree (Takes step done begin) limit input p }
+    ensures { (step : State → Token → Option (ℕ × State)) (done : State → Option Tree) (begin : State)
+        (limit : ℕ) (input : List Token) (p : Tree) →
+        (judge step done limit begin input ≡ Read p) ↔ HasTree (Takes step done begin) limit input p }
 {}
 
 /// The token at which the machine is stuck is the place of the refusal.
 pub fn stuck_is_syntax<Token, State, Tree>()
-    ensures { (step : State → Token → Option (ℕ × State)) (done : State → Option Tree) (begin : State) → IsClosable step done begin → (limit : ℕ) (input : List Token) (left at : ℕ) → judge step done limit begin input ≡ Refused left → at + left ≡ length input → IsSyntaxAt (Takes step done begin) limit input at }
+    ensures { (step : State → Token → Option (ℕ × State)) (done : State → Option Tree) (begin : State) →
+        IsClosable step done begin → (limit : ℕ) (input : List Token) (left at : ℕ) →
+        judge step done limit begin input ≡ Refused left → at + left ≡ length input →
+        IsSyntaxAt (Takes step done begin) limit input at }
 {}
 
 /// Where each token opens at most one link, the first token beyond the limit is the place of the refusal.
 pub fn beyond_is_too_deep<Token, State, Tree>()
-    ensures { (step : State → Token → Option (ℕ × State)) (done : State → Option Tree) (begin : State) → IsClosable step done begin → OpensOne step begin → (limit : ℕ) (input : List Token) (left at : ℕ) → judge step done limit begin input ≡ Deeper left → at + left ≡ length input → IsTooDeepAt (Takes step done begin) limit input at }
+    ensures { (step : State → Token → Option (ℕ × State)) (done : State → Option Tree) (begin : State) →
+        IsClosable step done begin → OpensOne step begin → (limit : ℕ) (input : List Token) (left at : ℕ) →
+        judge step done limit begin input ≡ Deeper left → at + left ≡ length input →
+        IsTooDeepAt (Takes step done begin) limit input at }
 {}
 
 /// A text is refused at one place and for one cause, and has then no tree.
 pub fn one_answer<Token, State, Tree>()
-    ensures one_place { (step : State → Token → Option (ℕ × State)) (done : State → Option Tree) (begin : State) (limit : ℕ) (input : List Token) (at other : ℕ) → IsSyntaxAt (Takes step done begin) limit input at → IsSyntaxAt (Takes step done begin) limit input other → at ≡ other }
-    ensures one_deep { (step : State → Token → Option (ℕ × State)) (done : State → Option Tree) (begin : State) (limit : ℕ) (input : List Token) (at other : ℕ) → IsTooDeepAt (Takes step done begin) limit input at → IsTooDeepAt (Takes step done begin) limit input other → at ≡ other }
-    ensures one_cause { (step : State → Token → Option (ℕ × State)) (done : State → Option Tree) (begin : State) (limit : ℕ) (input : List Token) (at other : ℕ) → IsSyntaxAt (Takes step done begin) limit input at → IsTooDeepAt (Takes step done begin) limit input other → ⊥ }
-    ensures no_tree { (step : State → Token → Option (ℕ × State)) (done : State → Option Tree) (begin : State) (limit : ℕ) (input : List Token) (at : ℕ) (p : Tree) → IsSyntaxAt (Takes step done begin) limit input at → HasTree (Takes step done begin) limit input p → ⊥ }
-    ensures no_flat_tree { (step : State → Token → Option (ℕ × State)) (done : State → Option Tree) (begin : State) (limit : ℕ) (input : List Token) (at : ℕ) (p : Tree) → IsTooDeepAt (Takes step done begin) limit input at → HasTree (Takes step done begin) limit input p → ⊥ }
+    ensures one_place { (step : State → Token → Option (ℕ × State)) (done : State → Option Tree)
+        (begin : State) (limit : ℕ) (input : List Token) (at other : ℕ) →
+        IsSyntaxAt (Takes step done begin) limit input at →
+        IsSyntaxAt (Takes step done begin) limit input other → at ≡ other }
+    ensures one_deep { (step : State → Token → Option (ℕ × State)) (done : State → Option Tree) (begin : State)
+        (limit : ℕ) (input : List Token) (at other : ℕ) → IsTooDeepAt (Takes step done begin) limit input at →
+        IsTooDeepAt (Takes step done begin) limit input other → at ≡ other }
+    ensures one_cause { (step : State → Token → Option (ℕ × State)) (done : State → Option Tree)
+        (begin : State) (limit : ℕ) (input : List Token) (at other : ℕ) →
+        IsSyntaxAt (Takes step done begin) limit input at →
+        ¬ IsTooDeepAt (Takes step done begin) limit input other }
+    ensures no_tree { (step : State → Token → Option (ℕ × State)) (done : State → Option Tree) (begin : State)
+        (limit : ℕ) (input : List Token) (at : ℕ) (p : Tree) →
+        IsSyntaxAt (Takes step done begin) limit input at → ¬ HasTree (Takes step done begin) limit input p }
+    ensures no_flat_tree { (step : State → Token → Option (ℕ × State)) (done : State → Option Tree)
+        (begin : State) (limit : ℕ) (input : List Token) (at : ℕ) (p : Tree) →
+        IsTooDeepAt (Takes step done begin) limit input at → ¬ HasTree (Takes step done begin) limit input p }
 {}

@@ -13,11 +13,18 @@ ghost use Rattle.plain_refusals.specs.Places.{IsRefusedAt};
 
 /// A text is refused at one place at most, and has then no tree.
 pub fn one_answer<Token, State, Tree>()
-    ensures place { (step : State → Token → Option State) (done : State → Option Tree) (begin : State) (ts : List Token) (at other : ℕ) → IsRefusedAt (Reads step done begin) ts at → IsRefusedAt (Reads step done begin) ts other → at ≡ other }
-    ensures no_tree { (step : State → Token → Option State) (done : State → Option Tree) (begin : State) (ts : List Token) (at : ℕ) (tree : Tree) → IsRefusedAt (Reads step done begin) ts at → Reads step done begin ts tree → ⊥ }
+    ensures place { (step : State → Token → Option State) (done : State → Option Tree) (begin : State)
+        (ts : List Token) (at other : ℕ) → IsRefusedAt (Reads step done begin) ts at →
+        IsRefusedAt (Reads step done begin) ts other → at ≡ other }
+    ensures no_tree { (step : State → Token → Option State) (done : State → Option Tree) (begin : State)
+        (ts : List Token) (at : ℕ) (tree : Tree) → IsRefusedAt (Reads step done begin) ts at →
+        ¬ Reads step done begin ts tree }
 {}
 
 /// The token at which a closable machine is stuck is the place of the refusal.
 pub fn stuck_is_refused<Token, State, Tree>()
-    ensures { (step : State → Token → Option State) (done : State → Option Tree) (begin : State) → EachCloses step done begin → (input : List Token) (left at : ℕ) → outcome step done begin input ≡ Refused left → at + left ≡ length input → IsRefusedAt (Reads step done begin) input at }
+    ensures { (step : State → Token → Option State) (done : State → Option Tree) (begin : State) →
+        EachCloses step done begin → (input : List Token) (left at : ℕ) →
+        outcome step done begin input ≡ Refused left → at + left ≡ length input →
+        IsRefusedAt (Reads step done begin) input at }
 {}

@@ -7,7 +7,7 @@ use Rattle.std.proofs.lemmas.Slice.Eq.{bytes_eq-Decides}
 use Rattle.std.proofs.lemmas.Bool.Decides.{nat_tests}
 use Rattle.query_grammar.specs.declared.query.StepFilter.{StepFilter}
 use Rattle.query_grammar.specs.Queries.{IsKeyword, key_checked, key_unchecked, key_enabled, key_disabled, key_focus, key_first, key_rest, key_even, key_odd}
-use Rattle.style_text.specs.Machine.{begins_with}
+use Rattle.code_units.specs.Words.{begins_with}
 use Rattle.query_grammar.specs.Machine.{keywords, keyword_of, look_up, fits}
 use Rattle.query_grammar.proofs.Truths.{and_parts, and_made, or_left, or_right, branch, none_some, same_some}
 

@@ -6,7 +6,7 @@ use Rattle.std.proofs.Math.Seq.{drop-cons, drop-nil}
 use Rattle.std.proofs.lemmas.List.{drop_all, length-take-le}
 use Rattle.std.proofs.lemmas.List.Folds.{drop_split}
 use Rattle.query_grammar.specs.Queries.{goes_on, Run, run_ends, run_more, Word, a_word, Name, a_name, in_word, in_name, is_lower}
-use Rattle.style_text.specs.Machine.{begins_with}
+use Rattle.code_units.specs.Words.{begins_with}
 use Rattle.query_lang.specs.Reads.{IsRunAt, IsWordAt, IsNameAt}
 
 take_one_more : (n : ℕ) (us : List ℕ) → n < length us → take (suc n) us ≡ take n us ++ get_or us n 0 ∷ []

@@ -3,7 +3,7 @@ ghost use Rattle.std.specs.Prelude.{◌≡◌, ◌+◌, ◌<◌, ◌≤◌, leng
 ghost use Rattle.std.specs.Str.{bytes_eq};
 ghost use Rattle.query_grammar.specs.Queries.{is_lower, in_name, in_word};
 ghost use Rattle.query_grammar.specs.Machine.{keyword_of, fits};
-ghost use Rattle.style_text.specs.Machine.{begins_with};
+ghost use Rattle.code_units.specs.Words.{begins_with};
 ghost use Rattle.query_lang.specs.Runs.{passes};
 ghost use Rattle.query_lang.specs.Reads.{is_first, IsRunAt, IsWordAt, IsNameAt, HasNone};
 

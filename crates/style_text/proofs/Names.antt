@@ -6,7 +6,8 @@ use Rattle.std.specs.Str.{bytes_eq, byte}
 use Rattle.std.proofs.lemmas.Slice.Eq.{bytes_eq-Decides}
 use Rattle.std.proofs.lemmas.Bool.Decides.{nat_tests}
 use Rattle.style_text.specs.Styles.{Pair, is_blank, properties, is_listed, is_used, is_once}
-use Rattle.style_text.specs.Machine.{begins_with, fits, is_free}
+use Rattle.code_units.specs.Words.{begins_with}
+use Rattle.style_text.specs.Machine.{fits, is_free}
 use Rattle.style_text.proofs.Words.{and_parts, and_made, or_right, or_left, or_parts, or_none, not_true}
 
 -- ## Rows of a table

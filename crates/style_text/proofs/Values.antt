@@ -5,6 +5,7 @@ use Rattle.std.specs.Str.{byte}
 use Rattle.std.specs.List.{list_all}
 use Rattle.std.proofs.lemmas.List.Folds.{list_all-append}
 use Rattle.std.proofs.lemmas.Bool.Decides.{nat_tests}
+use Rattle.style_text.specs.declared.value.TheConstants.{LONGEST_VALUE}
 use Rattle.style_text.specs.Styles.{is_value, is_blank, is_value_unit, has_word}
 use Rattle.style_text.specs.Values.{is_open, extends, ends_in_word}
 use Rattle.style_text.proofs.Words.{and_parts, not_true, or_split, has_word_last, no_word_before, word_space}
@@ -13,7 +14,7 @@ use Rattle.style_text.proofs.Words.{and_parts, not_true, or_split, has_word_last
 
 pub record ValueParts (us : List ℕ) : Type 0 where
   pub some : nat_lt 0 (length us) ≡ true
-  pub short : nat_le (length us) 256 ≡ true
+  pub short : nat_le (length us) LONGEST_VALUE ≡ true
   pub units : list_all is_value_unit us ≡ true
   pub start : (slice_index us 0 == 32) ≡ false
   pub end : (slice_index us (length us - 1) == 32) ≡ false
@@ -140,7 +141,7 @@ unfolding is_value
 extends_value us u h =
     let p = open_parts us h in
     rw (some_more us u, last_at us u, all_more us u p.units, word_more (codes "url") us u p.no_url, word_more (codes "expression") us u p.no_expression)
-    (sym (in_order (nat_le (length (us ++ u ∷ [])) 256) (is_value_unit u) (slice_index (us ++ u ∷ []) 0 == 32) (u == 32) (ends_in_word (codes "url") (us ++ u ∷ [])) (ends_in_word (codes "expression") (us ++ u ∷ [])) (first_more us u h)))
+    (sym (in_order (nat_le (length (us ++ u ∷ [])) LONGEST_VALUE) (is_value_unit u) (slice_index (us ++ u ∷ []) 0 == 32) (u == 32) (ends_in_word (codes "url") (us ++ u ∷ [])) (ends_in_word (codes "expression") (us ++ u ∷ [])) (first_more us u h)))
 
 pub no_value : is_value [] ≡ false
 unfolding is_value

@@ -1,14 +1,12 @@
 -- Words among units.
 use Rattle.std.proofs.Common.{◌≡◌, ℕ, zero, suc, ◌+◌, ◌-◌, ◌<◌, ◌≤◌, List, [], ◌∷◌, ◌++◌, Bool, true, false, ◌&&◌, ◌||◌, not, refl, ap, sym, ◌∙◌, subst, length, drop, arith, ◌⊎◌, inl, inr}
 use Rattle.std.proofs.Math.Seq.{drop-nil}
-use Rattle.std.specs.Prelude.{nat_le, nat_eq}
+use Rattle.std.specs.Prelude.{nat_le}
 use Rattle.std.specs.List.{list_all}
-use Rattle.std.specs.Str.{bytes_eq}
 use Rattle.std.proofs.lemmas.Bool.{cases_lt}
 use Rattle.std.proofs.lemmas.Bool.Decides.{nat_tests}
 use Rattle.style_text.specs.Styles.{begins_in_any_case, has_word, is_letter}
 use Rattle.style_text.specs.Values.{ends_in_word}
-use Rattle.style_text.specs.Machine.{begins_with}
 
 -- ## Truth values
 
@@ -52,30 +50,6 @@ or_false false = refl
 or_assoc : (a b c : Bool) → (a || (b || c)) ≡ ((a || b) || c)
 or_assoc true b c = refl
 or_assoc false b c = refl
-
--- ## A word that begins with units
-
--- the word is too short
-pub begins_short : (word front : List ℕ) (at : ℕ) → length word ≤ at → at < length front → begins_with (drop at word) (drop at front) ≡ false
-begins_short [] [] at le lt = absurd (omega (arith, lt))
-begins_short [] (u ∷ us) zero le lt = refl
-begins_short [] (u ∷ us) (suc at) le lt = subst (λ w. begins_with w (drop at us) ≡ false) (drop-nil at) (begins_short [] us at (omega arith) (omega (arith, lt)))
-begins_short (c ∷ word) front zero le lt = absurd (omega (arith, le))
-begins_short (c ∷ word) [] (suc at) le lt = absurd (omega (arith, lt))
-begins_short (c ∷ word) (u ∷ us) (suc at) le lt = begins_short word us at (omega (arith, le)) (omega (arith, lt))
-
--- of one length the word is the units
-pub same_word : (word us : List ℕ) → length word ≡ length us → begins_with word us ≡ bytes_eq us word
-same_word [] [] e = refl
-same_word [] (u ∷ us) e = absurd (omega (arith, e))
-same_word (c ∷ word) [] e = absurd (omega (arith, e))
-same_word (c ∷ word) (u ∷ us) e = ap (λ b. nat_eq u c && b) (same_word word us (omega (arith, e)))
-
-pub other_word : (word us : List ℕ) → (length word ≡ length us → ⊥) → bytes_eq us word ≡ false
-other_word [] [] e = absurd (e refl)
-other_word [] (u ∷ us) e = refl
-other_word (c ∷ word) [] e = refl
-other_word (c ∷ word) (u ∷ us) e = rw (other_word word us (λ h. e (ap suc h))) (and_false (nat_eq u c))
 
 -- ## A word among units
 

@@ -1,7 +1,8 @@
 -- A machine that takes one unit of a style at a time.
-use Rattle.std.specs.Prelude.{ℕ, Bool, true, false, ◌&&◌, not, List, [], ◌∷◌, ◌++◌, drop, Option, Some, None, nat_eq, ◌==◌, if◌then◌else◌}
+use Rattle.std.specs.Prelude.{ℕ, Bool, ◌&&◌, not, List, [], ◌∷◌, ◌++◌, drop, Option, Some, None, ◌==◌, if◌then◌else◌}
 use Rattle.std.specs.List.{list_any}
 use Rattle.std.specs.Str.{byte}
+use Rattle.code_units.specs.Words.{begins_with}
 use Rattle.exact_refusals.specs.Judge.{Outcome}
 use Rattle.plain_refusals.specs.Machine.{outcome}
 use Rattle.style_text.specs.Styles.{Pair, is_blank, properties, is_listed, is_used, is_value}
@@ -24,12 +25,6 @@ pub data State : Type 0 where
 -- a listed property that no pair has
 abbrev pub is_free : List Pair → List ℕ → Bool
 is_free pairs property = is_listed property && not (is_used pairs property)
-
--- the word begins with the units
-abbrev pub begins_with : List ℕ → List ℕ → Bool
-begins_with word [] = true
-begins_with [] (u ∷ us) = false
-begins_with (letter ∷ word) (u ∷ us) = nat_eq u letter && begins_with word us
 
 -- some property that no pair has begins with these units
 unfoldable pub fits : List Pair → List ℕ → Bool

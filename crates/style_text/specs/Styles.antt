@@ -4,6 +4,7 @@ use Rattle.std.specs.List.{list_any, list_all}
 use Rattle.std.specs.Int.{is_in_range}
 use Rattle.std.specs.Str.{bytes_eq, byte}
 use Rattle.plain_refusals.specs.Places.{IsRefusedAt}
+use Rattle.style_text.specs.declared.value.TheConstants.{LONGEST_VALUE}
 use Rattle.style_text.specs.declared.StyleFault.{StyleFault}
 use Rattle.style_text.specs.declared.StyleFault.TheVariants as fault
 
@@ -69,10 +70,10 @@ has_word word (u ∷ us) = begins_in_any_case word (u ∷ us) || has_word word u
 abbrev pub has_barred_word : List ℕ → Bool
 has_barred_word us = has_word (codes "url") us || has_word (codes "expression") us
 
--- 1 to 256 units of values, neither the first nor the last a space, with no barred word
+-- 1 to `LONGEST_VALUE` units of values, neither the first nor the last a space, with no barred word
 unfoldable pub is_value : List ℕ → Bool
 is_value us =
-    nat_lt 0 (length us) && nat_le (length us) 256 && list_all is_value_unit us
+    nat_lt 0 (length us) && nat_le (length us) LONGEST_VALUE && list_all is_value_unit us
     && not (slice_index us 0 == 32) && not (slice_index us (length us - 1) == 32) && not (has_barred_word us)
 
 -- ## Styles

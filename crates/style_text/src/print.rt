@@ -3,18 +3,8 @@ ghost use Rattle.std.specs.Prelude.{◌≡◌, ◌++◌, IfOk, OnOk};
 ghost use Rattle.style_text.specs.Styles.{print_style};
 ghost use Rattle.style_text.specs.Separated.{separated};
 
-use code_units::{Memory, Text};
+use code_units::{Memory, Text, push_ascii};
 use std::alloc::Global;
-
-// Appends ASCII.
-fn push_ascii(units: &mut Vec<u16>, text: &[u8]) -> Result<(), Memory>
-    ensures { OnOk result (units.new.items ≡ units.old.items ++ text.now) }
-{
-    for byte in text {
-        units.push(u16::from(*byte))?;
-    }
-    Ok(())
-}
 
 // Appends a pair, behind a separator where it is not the first.
 fn push_pair(units: &mut Vec<u16>, first: bool, pair: &(Text, Text)) -> Result<(), Memory>

@@ -3,12 +3,16 @@ ghost use Rattle.std.specs.Prelude.{◌≡◌, ℕ, ◌&&◌, ◌||◌, ◌++◌
 ghost use Rattle.std.specs.List.{list_any};
 ghost use Rattle.std.specs.Str.{bytes_eq};
 ghost use Rattle.style_text.specs.Styles.{Pair, is_listed};
-ghost use Rattle.style_text.specs.Machine.{begins_with, fits, is_free};
+ghost use Rattle.code_units.specs.Words.{begins_with};
+ghost use Rattle.style_text.specs.Machine.{fits, is_free};
 ghost use Rattle.style_text.specs.Used.{marks_of};
 
-use code_units::Text;
+use code_units::{Text, begins_with, spells};
 
-static PROPERTIES: [&[u8]; 48] = [
+// How many properties there are.
+const COUNT: usize = 48;
+
+static PROPERTIES: [&[u8]; COUNT] = [
     b"background-color",
     b"border",
     b"border-color",
@@ -59,35 +63,13 @@ static PROPERTIES: [&[u8]; 48] = [
     b"z-index",
 ];
 
-// Whether the word begins with the units.
-fn begins_with(word: &[u8], front: &[u16]) -> bool
-    ensures { result ≡ begins_with word.now front.now }
-{
-    for (i, unit) in front.iter().enumerate() {
-        if i >= word.len() {
-            return false;
-        }
-        if *unit != u16::from(word[i]) {
-            return false;
-        }
-    }
-    true
-}
-
-// Whether the units are the word.
-fn spells(word: &[u8], units: &[u16]) -> bool
-    ensures { result ≡ bytes_eq units.now word.now }
-{
-    word.len() == units.len() && begins_with(word, units)
-}
-
 // The property of a table that the units spell.
 fn found_in<'t>(table: &[&'t [u8]], units: &[u16]) -> Option<&'t [u8]>
     ensures found { is_some result ≡ list_any (λ word. bytes_eq units.now word.now) table.now }
     ensures same { IfSome result (λ word. word.now ≡ units.now) }
 {
     for word in table {
-        if spells(word, units) {
+        if spells(units, word) {
             return Some(*word);
         }
     }
@@ -111,14 +93,14 @@ pub fn property_listed(name: &Text) -> bool
 }
 
 /// Which properties of the table stand before.
-pub type Used = [bool; 48];
+pub type Used = [bool; COUNT];
 
 /// None of them.
 #[tactic(auto, unfolding(crate::specs::Used::marks_of, crate::specs::Styles::is_used, crate::specs::Styles::properties))]
 pub fn none_used() -> Used
     ensures { result ≡ marks_of [] }
 {
-    [false; 48]
+    [false; COUNT]
 }
 
 // Whether the units are a word of a table that has no mark.
@@ -127,7 +109,7 @@ fn free_in(table: &[&[u8]], marks: &[bool], units: &[u16]) -> bool
     ensures { (used : List ℕ → Bool) → marks.now ≡ map (λ word. used word.now) table.now → result ≡ list_any (λ word. bytes_eq units.now word.now && not (used word.now)) table.now }
 {
     'words: for (i, word) in table.iter().enumerate() {
-        if spells(word, units) && !marks[i] {
+        if spells(units, word) && !marks[i] {
             return true;
         }
     }
@@ -169,7 +151,7 @@ fn mark_in(table: &[&[u8]], marks: &mut [bool], units: &[u16])
     ensures { (used : List ℕ → Bool) → marks.old ≡ map (λ word. used word.now) table.now → marks.new ≡ map (λ word. used word.now || bytes_eq units.now word.now) table.now }
 {
     'words: for (i, word) in table.iter().enumerate() {
-        marks[i] |= spells(word, units);
+        marks[i] |= spells(units, word);
     }
 }
 

@@ -6,8 +6,8 @@ ghost use Rattle.style_text.specs.Values.{is_open, ends_in_word, extends};
 
 use code_units::Text;
 
-/// The most units of a value.
-const LONGEST: usize = 256;
+// The most units of a value.
+const LONGEST_VALUE: usize = 256;
 
 pub const SPACE: u16 = 0x20;
 
@@ -74,12 +74,7 @@ fn ends_in_word(word: &[u8], units: &[u16]) -> bool
 fn are_value_units(units: &[u16]) -> bool
     ensures { result ≡ list_all is_value_unit units.now }
 {
-    'units: for unit in units {
-        if !is_value_unit(*unit) {
-            return false;
-        }
-    }
-    true
+    units.iter().all(|unit| is_value_unit(*unit))
 }
 
 /// Whether the text is a value of a style: 1 to 256 ASCII letters, digits, spaces and
@@ -90,7 +85,7 @@ pub fn value_spelled(text: &Text) -> bool
     ensures { result ≡ is_value text.now }
 {
     let units = text.units();
-    if units.is_empty() || units.len() > LONGEST {
+    if units.is_empty() || units.len() > LONGEST_VALUE {
         return false;
     }
     are_value_units(units)
@@ -106,7 +101,7 @@ fn extends(front: &[u16], unit: u16) -> bool
 {
     is_value_unit(unit)
         && unit != SPACE
-        && front.len() <= LONGEST
+        && front.len() <= LONGEST_VALUE
         && !ends_in_word(b"url", front)
         && !ends_in_word(b"expression", front)
 }

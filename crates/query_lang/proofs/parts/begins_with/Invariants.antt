@@ -1,5 +1,5 @@
 use Rattle.std.proofs.Common.{◌≡◌, drop}
-use Rattle.style_text.specs.Machine.{begins_with}
+use Rattle.code_units.specs.Words.{begins_with}
 use Rattle.query_lang.proofs.parts.begins_with.Given as goal
 
 abbrev pub invariant-loop-i : goal.invariant-loop-i

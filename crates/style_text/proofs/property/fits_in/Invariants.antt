@@ -1,6 +1,6 @@
 use Rattle.std.proofs.Common.{◌≡◌, ℕ, List, Bool, drop, map, ◌&&◌, not}
 use Rattle.std.specs.List.{list_any}
-use Rattle.style_text.specs.Machine.{begins_with}
+use Rattle.code_units.specs.Words.{begins_with}
 use Rattle.style_text.proofs.property.fits_in.Given as goal
 
 -- what is still to come decides
