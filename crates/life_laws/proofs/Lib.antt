@@ -1,0 +1,4 @@
+pub mod Runs
+pub mod Begins
+pub mod Ends
+pub mod LifeHolds

@@ -1,0 +1,5 @@
+pub mod Picks
+pub mod Journal
+pub mod Asked
+pub mod Order
+pub mod PickLaws
