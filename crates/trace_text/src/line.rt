@@ -5,7 +5,7 @@ ghost use Rattle.trace_text.specs.Report.{rule_mark, rule_number, state_name};
 use code_units::{Place, Text};
 
 /// The number of a markup rule or of a script rule.
-#[derive(Clone, Copy, PartialEq, Eq, Debug)]
+#[derive(Clone, Copy, PartialEq, Eq)]
 pub enum Rule {
     /// A markup rule, `M01` to `M12`.
     M(u8),
@@ -36,7 +36,7 @@ impl Rule {
 }
 
 /// How a life stands at its end.
-#[derive(Clone, Copy, PartialEq, Eq, Debug)]
+#[derive(Clone, Copy, PartialEq, Eq)]
 pub enum State {
     /// It can go on.
     Live,

@@ -1,12 +1,15 @@
 //! Pieces of a line, appended in order.
-ghost use Rattle.std.specs.Prelude.{◌≡◌, ◌<◌, ◌++◌, OnOk, OnErr, decimal, false};
+ghost use Rattle.std.specs.Prelude.{◌≡◌, ◌++◌, OnOk, OnErr, decimal};
 ghost use Rattle.std.specs.List.{flat_map};
-ghost use Rattle.std.specs.Fmt.{digit_glyph};
 ghost use Rattle.trace_text.specs.Report.{escape, escaped, text_inside, quoted, next_quoted, quoted_list, until_member, AppendsPart};
 ghost use Rattle.trace_text.specs.Pieces.{piece_text};
 
-use code_units::{Memory, Text, push_utf8};
+use code_units::{Memory, Text, hex_digit, push_utf8};
 use itoa::Buffer;
+
+const BACKSPACE: u8 = 8;
+
+const FORM_FEED: u8 = 12;
 
 /// A piece of a line.
 #[derive(Clone, Copy)]
@@ -34,30 +37,22 @@ fn push_escape(byte: u8, out: &mut Vec<u8>) -> Result<(), Memory>
     let pushed = match byte {
         b'"' => out.extend_from_slice(b"\\\""),
         b'\\' => out.extend_from_slice(b"\\\\"),
-        8 => out.extend_from_slice(b"\\b"),
+        BACKSPACE => out.extend_from_slice(b"\\b"),
         b'\t' => out.extend_from_slice(b"\\t"),
         b'\n' => out.extend_from_slice(b"\\n"),
-        12 => out.extend_from_slice(b"\\f"),
+        FORM_FEED => out.extend_from_slice(b"\\f"),
         b'\r' => out.extend_from_slice(b"\\r"),
         0..=31 => out.extend_from_slice(&[
             b'\\',
             b'u',
             b'0',
             b'0',
-            hex_digit(byte / 16),
-            hex_digit(byte % 16),
+            hex_digit(u16::from(byte / 16)),
+            hex_digit(u16::from(byte % 16)),
         ]),
         _ => out.extend_from_slice(&[byte]),
     };
     Ok(pushed?)
-}
-
-// A lower-case hexadecimal digit.
-fn hex_digit(n: u8) -> u8
-    requires { n < 16 }
-    ensures { result ≡ digit_glyph false n }
-{
-    if n < 10 { b'0' + n } else { b'a' + (n - 10) }
 }
 
 fn push_escaped(bytes: &[u8], out: &mut Vec<u8>) -> Result<(), Memory>
