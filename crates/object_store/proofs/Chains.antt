@@ -2,8 +2,8 @@
 use Rattle.std.proofs.Common.{◌≡◌, ℕ, zero, suc, List, [], ◌∷◌, length, refl, ap, Option, Some, None, Bool, true, false, if◌then◌else◌, slice_get}
 use Rattle.std.specs.List.{find}
 use Rattle.std.specs.Option.{option_map_or, option_and_then}
-use Rattle.object_store.specs.Cells.{PlainCell, chain, first_own, has_own, own_value_at, value_of, value_along}
-use Rattle.object_store.specs.Lists.{climb, links}
+use Rattle.store_cells.specs.Cells.{PlainCell, chain, first_own, has_own, own_value_at, value_of, value_along}
+use Rattle.store_cells.specs.Lists.{climb, links}
 
 module _ (name : List ℕ) (cs : List PlainCell) where
   pub first_climbed : (f : ℕ) (at : Option ℕ) → option_and_then (own_value_at cs name) (climb (has_own name) (λ c. c.up) f cs at) ≡ first_own name (links (λ c. c.up) f cs at)

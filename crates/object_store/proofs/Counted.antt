@@ -4,15 +4,15 @@ use Rattle.std.specs.List.{count_by}
 use Rattle.std.specs.Option.{option_map_or}
 use Rattle.std.proofs.lemmas.List.Sums.{length-filter}
 use Rattle.std.proofs.lemmas.Option.{slice_get-get_or}
-use Rattle.object_store.specs.declared.store.Counts.{Counts}
-use Rattle.object_store.specs.declared.store.TheConstants.{CELL_LIMIT, SLOT_LIMIT, UNIT_LIMIT}
-use Rattle.object_store.specs.Cells.{is_visible}
-use Rattle.object_store.specs.Numbered.{Raw, cells_of, heads, own_head, plain}
-use Rattle.object_store.specs.Shape.{AreWithin, IsShape}
-use Rattle.object_store.proofs.Lists.{count_more, none_some, some_same}
+use Rattle.store_cells.specs.declared.counts.Counts.{Counts}
+use Rattle.store_cells.specs.declared.counts.TheConstants.{CELL_LIMIT, SLOT_LIMIT, UNIT_LIMIT}
+use Rattle.store_cells.specs.Cells.{is_visible}
+use Rattle.store_cells.specs.Numbered.{NumberedCell, cells_of, heads, own_head, plain}
+use Rattle.store_cells.specs.Shape.{AreWithin, IsShape}
+use Rattle.store_cells.proofs.Lists.{count_more, none_some, some_same}
 
 -- the visible cells are counted by their fixed parts
-counted : (names : List (List ℕ)) (w : ℕ) (cs : List Raw) → count_by (own_head w) (heads cs) ≡ count_by (is_visible w) (cells_of names cs)
+counted : (names : List (List ℕ)) (w : ℕ) (cs : List NumberedCell) → count_by (own_head w) (heads cs) ≡ count_by (is_visible w) (cells_of names cs)
 counted names w [] = refl
 counted names w (c ∷ cs) = count_more (own_head w) (is_visible w) c.head (plain names c) (heads cs) (cells_of names cs) refl (counted names w cs)
 
@@ -23,7 +23,7 @@ kept_within (x ∷ ks) zero k h e = subst (λ (y : Counts). (y.cells ≤ CELL_LI
 kept_within (x ∷ ks) (suc w) k h e = kept_within ks w k h.1 e
 
 -- the counts of a widget
-module _ (names : List (List ℕ)) (cs : List Raw) {raws : List (ℕ × ℕ)} (kept : List Counts) (shape : IsShape names cs raws kept) (w : ℕ) (k : Counts) (lt : w < 32) (is : k ≡ get_or kept w k) where
+module _ (names : List (List ℕ)) (cs : List NumberedCell) {raws : List (ℕ × ℕ)} (kept : List Counts) (shape : IsShape names cs raws kept) (w : ℕ) (k : Counts) (lt : w < 32) (is : k ≡ get_or kept w k) where
   at : slice_get kept w ≡ Some k
   at = slice_get-get_or kept w k (omega (arith, shape.counted, lt)) ∙ ap Some (sym is)
 

@@ -1,36 +1,39 @@
 -- A call of one widget is not seen by the others.
 use Rattle.std.proofs.Common.{◌≡◌, ℕ, zero, suc, ◌<◌, List, [], ◌∷◌, ◌++◌, length, refl, sym, ap, ◌∙◌, Option, Some, None, arith, Bool, true, false, eqb, if◌then◌else◌, true≢false, slice_get, not, is_some}
 use Rattle.std.specs.Prelude.{Result, Ok, Err, OnOk, OnErr, IfOk, IfSome, MatchOption, ◌&&◌, nat_lt}
-use Rattle.std.specs.List.{fold, list_all}
+use Rattle.std.specs.List.{list_all}
 use Rattle.std.specs.Map.{remove_entry}
 use Rattle.std.specs.Option.{option_map_or}
 use Rattle.std.specs.Str.{bytes_eq}
 use Rattle.std.proofs.lemmas.Bool.Decides.{nat_tests}
 use Rattle.code_units.specs.declared.owner.Owner.{Owner}
 use Rattle.code_units.specs.declared.owner.Owner.TheVariants as whose
-use Rattle.object_store.specs.declared.value.Value.{Value}
-use Rattle.object_store.specs.declared.value.Value.TheVariants as value
-use Rattle.object_store.specs.declared.kind.Form.{Form}
-use Rattle.object_store.specs.declared.kind.Form.TheVariants as form
-use Rattle.object_store.specs.declared.store.Counts.{Counts}
+use Rattle.store_cells.specs.declared.value.Value.{Value}
+use Rattle.store_cells.specs.declared.value.Value.TheVariants as value
+use Rattle.store_cells.specs.declared.kind.Form.{Form}
+use Rattle.store_cells.specs.declared.kind.Form.TheVariants as form
+use Rattle.store_cells.specs.declared.counts.Counts.{Counts}
 use Rattle.object_store.specs.declared.store.NewCell.{NewCell}
 use Rattle.object_store.specs.declared.store.NewCell.TheVariants as new
-use Rattle.object_store.specs.declared.store.StoreFault.{StoreFault}
-use Rattle.object_store.specs.declared.store.StoreFault.TheVariants as fault
-use Rattle.object_store.specs.Lists.{changed, climb}
-use Rattle.object_store.specs.Indices.{index_of}
-use Rattle.object_store.specs.Cells.{Cells, PlainCell, form_at, has_own, holder, is_array, is_bunch, is_raw, is_scope, is_scope_at, raw_cell, widget_of, writer_in}
-use Rattle.object_store.specs.Arrays.{cut, extended, is_bad_length, length_in, length_name, length_of, placed, resized, stored, written}
-use Rattle.object_store.specs.Host.{array_prototype, function_prototype}
-use Rattle.object_store.specs.Bunches.{AreBunches, IsBunch}
-use Rattle.object_store.specs.Shape.{IsLinked}
-use Rattle.object_store.specs.Calls.{born, bound, cells_for, cost_refusal, is_length_of, kept_after, make_done, make_refusal, new_cell, paid, put_done, put_refusal, raw_place, remove_done, remove_refusal, removed, scope_cell, slots_for, slots_of, unit_cost, var_done, without}
+use Rattle.store_cells.specs.declared.counts.StoreFault.{StoreFault}
+use Rattle.store_cells.specs.declared.counts.StoreFault.TheVariants as fault
+use Rattle.store_cells.specs.Lists.{changed, climb}
+use Rattle.code_units.specs.Indices.{index_of}
+use Rattle.store_cells.specs.Cells.{Cells, PlainCell, form_at, has_own, holder, is_array, is_bunch, is_raw, is_scope, is_scope_at, raw_cell, widget_of, writer_in}
+use Rattle.store_cells.specs.Arrays.{cut, extended, is_bad_length, length_in, length_name, length_of, placed, resized, stored, written}
+use Rattle.store_cells.specs.Host.{array_prototype, function_prototype}
+use Rattle.store_cells.specs.Bunches.{AreBunches, IsBunch}
+use Rattle.store_cells.specs.Shape.{IsLinked}
+use Rattle.object_store.specs.Calls.{IsCharged, IsMade, IsPut, IsRemoved, born, cells_for, kept_after, make_done, put_done, put_refusal, remove_done, remove_refusal, removed, slots_for, slots_of, unit_cost, var_done}
+use Rattle.store_cells.specs.Born.{array_cell, new_cell, object_cell, raw_place, scope_cell, unset}
+use Rattle.store_cells.specs.Costs.{cost_refusal, paid}
+use Rattle.store_cells.specs.Arrays.{is_length_of, without}
 use Rattle.object_store.specs.Owned.{is_of, is_of_at, own_cells, own_scopes, owned}
-use Rattle.object_store.proofs.Lists.{changed_past, none_some, some_same}
-use Rattle.object_store.proofs.Places.{position_push}
-use Rattle.object_store.proofs.Heads.{scope_no_bunch}
-use Rattle.object_store.proofs.Hosts.{changed_apart}
-use Rattle.object_store.proofs.Closed.{bunch_stays}
+use Rattle.store_cells.proofs.Lists.{changed_past, none_some, some_same}
+use Rattle.store_cells.proofs.Places.{position_push}
+use Rattle.store_cells.proofs.Heads.{scope_no_bunch}
+use Rattle.store_cells.proofs.Hosts.{changed_apart}
+use Rattle.store_cells.proofs.Closed.{bunch_stays}
 use Rattle.object_store.proofs.Views.{others_changed, others_grown}
 
 -- a write changes neither whose a cell is nor what it is
@@ -163,8 +166,8 @@ module _ (s : Cells) (links : (i : ℕ) (c : PlainCell) → slice_get s.cells i 
     put_others none None at = ap (owned v) (λ j. record { cells = changed_past s.cells i (stored name u) at j; kept = ap (λ (o : Option PlainCell). option_map_or (kept_after s.kept name) o s.kept) at j })
     put_others none (Some c) at = put_open c at none (writer_in c.owner c.form) refl
 
-    pub put_seen : {E : Type 0} (r : Result (Unit {0}) E) (t : Cells) → OnOk r ((put_refusal s i name u ≡ None) × (t ≡ put_done s i name u)) → OnErr r (t ≡ s) → owned v t ≡ owned v s
-    put_seen (Ok x) t ok err = ap (owned v) ok.1 ∙ put_others ok.0 (slice_get s.cells i) refl
+    pub put_seen : {E : Type 0} (r : Result (Unit {0}) E) (t : Cells) → OnOk r (IsPut s t i name u) → OnErr r (t ≡ s) → owned v t ≡ owned v s
+    put_seen (Ok x) t ok err = ap (owned v) ok.done ∙ put_others ok.allowed (slice_get s.cells i) refl
     put_seen (Err x) t ok err = ap (owned v) err
 
   -- `remove`
@@ -180,8 +183,8 @@ module _ (s : Cells) (links : (i : ℕ) (c : PlainCell) → slice_get s.cells i 
     remove_others none None at = ap (owned v) (λ j. record { cells = changed_past s.cells i (without name) at j; kept = s.kept })
     remove_others none (Some c) at = remove_open c at none (writer_in c.owner c.form) refl
 
-    pub remove_seen : {E : Type 0} (r : Result Bool E) (t : Cells) → IfOk r (λ b. (remove_refusal s i ≡ None) × (b ≡ removed s i name) × (t ≡ remove_done s i name)) → OnErr r (t ≡ s) → owned v t ≡ owned v s
-    remove_seen (Ok x) t ok err = ap (owned v) ok.2 ∙ remove_others ok.0 (slice_get s.cells i) refl
+    pub remove_seen : {E : Type 0} (r : Result Bool E) (t : Cells) → IfOk r (λ b. IsRemoved s t i name b) → OnErr r (t ≡ s) → owned v t ≡ owned v s
+    remove_seen (Ok x) t ok err = ap (owned v) ok.done ∙ remove_others ok.allowed (slice_get s.cells i) refl
     remove_seen (Err x) t ok err = ap (owned v) err
 
   -- `var_set`
@@ -248,22 +251,21 @@ module _ (s : Cells) (links : (i : ℕ) (c : PlainCell) → slice_get s.cells i 
     one_other : (c : PlainCell) → c.owner ≡ whose.Widget w → list_all (λ (c : PlainCell). not (is_of v c.owner)) (c ∷ []) ≡ true
     one_other c e = ap (λ o. not (is_of v o) && true) e ∙ ap (λ b. not b && true) not_own
 
-    fold_owner : (c : PlainCell) (list : List (List ℕ)) → (fold bound c list).owner ≡ c.owner
-    fold_owner c [] = refl
-    fold_owner c (x ∷ list) = fold_owner (bound c x) list
-
     born_others : (n : NewCell) → list_all (λ (c : PlainCell). not (is_of v c.owner)) (born s.cells w n) ≡ true
     born_others (new.Object proto) = one_other (new_cell w form.Object proto) refl
     born_others new.Array = one_other (new_cell w form.Array array_prototype) refl
-    born_others (new.Function code fun scope) = one_other (new_cell w (form.Function (record { code = code; fun = fun; scope = scope })) function_prototype) refl
-    born_others (new.Scope outer list) = one_other (scope_cell w outer list.items) (fold_owner _ list.items)
+    born_others (new.Function code fun declared scope) = one_other (new_cell w (form.Function (record { code = code; fun = fun; declared = declared; scope = scope })) function_prototype) refl
+    born_others (new.Scope outer list) = one_other (scope_cell w outer (unset list.items)) refl
     born_others (new.Bunch nodes) = ap (λ b. not b && true) not_own
+    born_others (new.ObjectWith proto pairs) = one_other (object_cell w proto pairs.items) refl
+    born_others (new.ArrayWith values) = one_other (array_cell w values.items) refl
+    born_others (new.ScopeWith outer pairs) = one_other (scope_cell w outer pairs.items) refl
 
     pub make_others : (n : NewCell) → owned v (make_done s w n) ≡ owned v s
     make_others n = others_grown v s.cells (born s.cells w n) links bunches s.kept (make_done s w n).kept (born_others n) (changed_apart s.kept w v (paid (cells_for n) (slots_of n) 0) apart)
 
-    pub make_seen : {E : Type 0} (n : NewCell) (r : Result ℕ E) (t : Cells) → IfOk r (λ id. (make_refusal s w n ≡ None) × (id ≡ length s.cells) × (t ≡ make_done s w n)) → OnErr r (t ≡ s) → owned v t ≡ owned v s
-    make_seen n (Ok id) t ok err = ap (owned v) ok.2 ∙ make_others n
+    pub make_seen : {E : Type 0} (n : NewCell) (r : Result ℕ E) (t : Cells) → IfOk r (λ id. IsMade s t w id n) → OnErr r (t ≡ s) → owned v t ≡ owned v s
+    make_seen n (Ok id) t ok err = ap (owned v) ok.done ∙ make_others n
     make_seen n (Err x) t ok err = ap (owned v) err
 
   -- `add_raw`
@@ -284,8 +286,8 @@ module _ (s : Cells) (w v : ℕ) (apart : w ≡ v → ⊥) where
   unfolding owned
   cost_others slots units = λ j. record { heap = own_cells v s.cells s.cells; scopes = own_scopes v s.cells s.cells; paid = changed_apart s.kept w v (paid 0 slots units) apart j }
 
-  pub cost_seen : {E : Type 0} (r : Result (Unit {0}) E) (o : Option StoreFault) (slots units : ℕ) (t : Cells) → OnOk r ((o ≡ None) × (t ≡ unit_cost s w slots units)) → OnErr r (t ≡ s) → owned v t ≡ owned v s
-  cost_seen (Ok x) o slots units t ok err = ap (owned v) ok.1 ∙ cost_others slots units
+  pub cost_seen : {E : Type 0} (r : Result (Unit {0}) E) (o : Option StoreFault) (slots units : ℕ) (t : Cells) → OnOk r (IsCharged s t w slots units o) → OnErr r (t ≡ s) → owned v t ≡ owned v s
+  cost_seen (Ok x) o slots units t ok err = ap (owned v) ok.done ∙ cost_others slots units
   cost_seen (Err x) o slots units t ok err = ap (owned v) err
 
 -- `add_raw` gives the cell of the node

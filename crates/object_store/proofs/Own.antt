@@ -8,25 +8,31 @@ use Rattle.std.proofs.lemmas.Bool.Decides.{nat_tests}
 use Rattle.std.proofs.lemmas.Slice.Eq.{bytes_eq-Decides}
 use Rattle.indexmap.specs.IndexMap.{insert_entry}
 use Rattle.code_units.specs.declared.owner.Owner.{Owner}
-use Rattle.object_store.specs.declared.value.Value.{Value}
-use Rattle.object_store.specs.declared.value.Value.TheVariants as value
-use Rattle.object_store.specs.declared.kind.Form.{Form}
-use Rattle.object_store.specs.declared.kind.Form.TheVariants as form
-use Rattle.object_store.specs.Indices.{index_of}
-use Rattle.object_store.specs.Lists.{changed, count_before}
-use Rattle.object_store.specs.Cells.{Cells, PlainCell, is_bunch, holder, is_own, is_scope, is_scope_at, is_visible, is_visible_form, own_count, widget_of, writer_in}
-use Rattle.object_store.specs.Arrays.{count_value, cut, extended, is_below, length_in, length_name, length_of, placed, resized, stored, written}
-use Rattle.object_store.specs.Bunches.{IsBunch}
-use Rattle.object_store.specs.Shape.{IsLinked, IsRefWithin}
-use Rattle.object_store.specs.declared.store.Counts.{Counts}
-use Rattle.object_store.specs.Calls.{paid, put_done, put_refusal, remove_done, remove_refusal, removed, slots_at, var_done, without}
+use Rattle.store_cells.specs.declared.value.Value.{Value}
+use Rattle.store_cells.specs.declared.value.Value.TheVariants as value
+use Rattle.store_cells.specs.declared.kind.Form.{Form}
+use Rattle.store_cells.specs.declared.kind.Form.TheVariants as form
+use Rattle.code_units.specs.Indices.{index_of}
+use Rattle.store_cells.specs.Lists.{changed, count_before}
+use Rattle.store_cells.specs.Cells.{Cells, PlainCell, is_bunch, holder, is_own, is_scope, is_scope_at, is_visible, is_visible_form, own_count, widget_of, writer_in}
+use Rattle.store_cells.specs.Arrays.{count_value, cut, extended, is_below, length_in, length_name, length_of, placed, resized, stored, written}
+use Rattle.store_cells.specs.Bunches.{IsBunch}
+use Rattle.store_cells.specs.Shape.{IsLinked, IsRefWithin}
+use Rattle.store_cells.specs.declared.counts.Counts.{Counts}
+use Rattle.store_cells.specs.Costs.{paid}
+use Rattle.object_store.specs.Calls.{IsPut, IsRemoved, put_done, put_refusal, remove_done, remove_refusal, removed, slots_at, var_done}
+use Rattle.store_cells.specs.Arrays.{without}
 use Rattle.object_store.specs.Owned.{Assigned, Changed, OwnCell, OwnKind, OwnScope, OwnValue, is_of, is_own_scope, is_own_scope_at, owned, own_cell, own_cells, own_length, own_link, own_pairs, own_put, own_raised, own_removed, own_resized, own_scope, own_scopes, own_set, own_value, scope_number, visible_at, with_own}
-use Rattle.object_store.proofs.Lists.{count_step, none_some, same_rest, some_same}
+use Rattle.store_cells.proofs.Lists.{count_step, none_some, same_rest, some_same}
 use Rattle.object_store.proofs.Paid.{none_paid, put_paid}
 use Rattle.object_store.proofs.Others.{bunches, put_writer, remove_writer, stays, var_writer, stored_form, stored_owner, without_form, without_owner}
 use Rattle.object_store.proofs.Views.{SameNumbers, heap_stays, numbers_kept, scopes_stay, value_same}
-use Rattle.object_store.proofs.Elements.{index_small}
-use Rattle.object_store.proofs.Writes.{count_length}
+use Rattle.code_units.proofs.Indexed.{index_known}
+use Rattle.store_cells.proofs.Writes.{count_length}
+
+-- no index passes the largest
+index_small : (name : List ℕ) (v : ℕ) → index_of name ≡ Some v → v ≤ 4294967294
+index_small name v e = omega (arith, (index_known name v e).1)
 
 -- an own cell is changed
 module _ (w : ℕ) (f : PlainCell → PlainCell) (seen : (c : PlainCell) → is_visible w (f c) ≡ is_visible w c) (all : List PlainCell) (g : OwnCell → OwnCell) where
@@ -287,7 +293,7 @@ module _ (w : ℕ) (all : List PlainCell) (name : List ℕ) (v : Value) (o : Own
   pub cell_stored : (f : Form) → is_visible_form f ≡ true → is_bunch f ≡ false → own_cell w all (stored name v (cell o f u ps)) ≡ own_put name (own_value w all v) (own_cell w all (cell o f u ps))
   cell_stored form.Object e g = λ j. record { kind = OwnKind.Object; prototype = option_map (own_link w all) u; pairs = pairs_written w all name v ps j }
   cell_stored form.Array e g = array_stored
-  cell_stored (form.Function p) e g = λ j. record { kind = OwnKind.Function p.code p.fun (option_map (scope_number w all) p.scope); prototype = option_map (own_link w all) u; pairs = pairs_written w all name v ps j }
+  cell_stored (form.Function p) e g = λ j. record { kind = OwnKind.Function p.code p.fun p.declared (option_map (scope_number w all) p.scope); prototype = option_map (own_link w all) u; pairs = pairs_written w all name v ps j }
   cell_stored (form.Native p) e g = absurd (false_true e)
   cell_stored form.Scope e g = absurd (false_true e)
   cell_stored form.Bunch e g = absurd (false_true (sym g))
@@ -312,7 +318,7 @@ module _ (w : ℕ) (all : List PlainCell) (name : List ℕ) (o : Owner) (u : Opt
   pub cell_without : (f : Form) → is_visible_form f ≡ true → is_bunch f ≡ false → own_cell w all (without name (cell o f u ps)) ≡ own_removed name (own_cell w all (cell o f u ps))
   cell_without form.Object e g = λ j. record { kind = OwnKind.Object; prototype = option_map (own_link w all) u; pairs = pairs_without w all name ps j }
   cell_without form.Array e g = array_without
-  cell_without (form.Function p) e g = λ j. record { kind = OwnKind.Function p.code p.fun (option_map (scope_number w all) p.scope); prototype = option_map (own_link w all) u; pairs = pairs_without w all name ps j }
+  cell_without (form.Function p) e g = λ j. record { kind = OwnKind.Function p.code p.fun p.declared (option_map (scope_number w all) p.scope); prototype = option_map (own_link w all) u; pairs = pairs_without w all name ps j }
   cell_without (form.Native p) e g = absurd (false_true e)
   cell_without form.Scope e g = absurd (false_true e)
   cell_without form.Bunch e g = absurd (false_true (sym g))
@@ -414,8 +420,8 @@ module _ (s : Cells) (links : (i : ℕ) (c : PlainCell) → slice_get s.cells i 
             let same = numbers_same k.0 c at k.1 (stored name u) (stored_owner name u) (stored_form name u) w (visible c at) s.kept (own_put name (own_value w s.cells u)) u ref in
             own_changed k.0 c at k.1 (stored name u) (stored_owner name u) (stored_form name u) w (visible c at) (put_done s i name u).kept (own_put name (own_value w s.cells u)) (slots_at s.cells i name) (put_paid s i name u c k.0 w at k.1 (visible c at)) (stored_is ∙ ap (λ y. own_put name y (own_cell w (changed s.cells i (stored name u)) c)) same)
 
-    pub put_own_seen : {E : Type 0} (r : Result (Unit {0}) E) (t : Cells) → OnOk r ((put_refusal s i name u ≡ None) × (t ≡ put_done s i name u)) → OnOk r ((w : ℕ) → visible_at w s.cells i ≡ true → Changed w s t i (slots_at s.cells i name) (own_put name (own_value w s.cells u)))
-    put_own_seen (Ok y) t ok = λ w v. subst (λ (d : Cells). Changed w s d i (slots_at s.cells i name) (own_put name (own_value w s.cells u))) (sym ok.1) (put_own ok.0 w v)
+    pub put_own_seen : {E : Type 0} (r : Result (Unit {0}) E) (t : Cells) → OnOk r (IsPut s t i name u) → OnOk r ((w : ℕ) → visible_at w s.cells i ≡ true → Changed w s t i (slots_at s.cells i name) (own_put name (own_value w s.cells u)))
+    put_own_seen (Ok y) t ok = λ w v. subst (λ (d : Cells). Changed w s d i (slots_at s.cells i name) (own_put name (own_value w s.cells u))) (sym ok.done) (put_own ok.allowed w v)
     put_own_seen (Err y) t ok = tt
 
   -- `remove`
@@ -432,8 +438,8 @@ module _ (s : Cells) (links : (i : ℕ) (c : PlainCell) → slice_get s.cells i 
             let k = remove_writer s links bunches_each i c at none in
             own_changed k.0 c at k.1 (without name) (without_owner name value.Undefined) (without_form name value.Undefined) w (visible c at) s.kept (own_removed name) 0 (none_paid (slice_get s.kept w)) (cell_without w (changed s.cells i (without name)) name c.owner c.up c.pairs c.form (visible_form w c (visible c at)) (open_no_bunch c.owner c.form k.0 k.1))
 
-    pub remove_own_seen : {E : Type 0} (r : Result Bool E) (t : Cells) → IfOk r (λ b. (remove_refusal s i ≡ None) × (b ≡ removed s i name) × (t ≡ remove_done s i name)) → OnOk r ((w : ℕ) → visible_at w s.cells i ≡ true → Changed w s t i 0 (own_removed name))
-    remove_own_seen (Ok y) t ok = λ w v. subst (λ (d : Cells). Changed w s d i 0 (own_removed name)) (sym ok.2) (remove_own ok.0 w v)
+    pub remove_own_seen : {E : Type 0} (r : Result Bool E) (t : Cells) → IfOk r (λ b. IsRemoved s t i name b) → OnOk r ((w : ℕ) → visible_at w s.cells i ≡ true → Changed w s t i 0 (own_removed name))
+    remove_own_seen (Ok y) t ok = λ w v. subst (λ (d : Cells). Changed w s d i 0 (own_removed name)) (sym ok.done) (remove_own ok.allowed w v)
     remove_own_seen (Err y) t ok = tt
 
 -- a scope is no visible cell

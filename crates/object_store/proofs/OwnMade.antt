@@ -1,37 +1,44 @@
 -- What a widget makes and pays, as it sees it.
-use Rattle.std.proofs.Common.{◌≡◌, ℕ, zero, suc, ◌+◌, ◌<◌, List, [], ◌∷◌, ◌++◌, length, map, refl, sym, ap, ◌∙◌, subst, Option, Some, None, arith, Bool, true, false, eqb, cond, if◌then◌else◌, slice_get, filter, not}
-use Rattle.std.specs.Prelude.{Result, Ok, Err, OnOk, IfOk, IfSome, ◌&&◌}
-use Rattle.std.specs.List.{AllByRecursion, IsDistinct, fold, list_all, count_by}
+use Rattle.std.proofs.Common.{◌≡◌, ℕ, zero, suc, ◌+◌, ◌<◌, ◌≤◌, List, [], ◌∷◌, ◌++◌, length, map, refl, sym, ap, ◌∙◌, subst, Option, Some, None, arith, Bool, true, false, eqb, cond, if◌then◌else◌, slice_get, filter, not}
+use Rattle.std.specs.Prelude.{Result, Ok, Err, OnOk, IfOk, IfSome, ◌&&◌, nat_lt}
+use Rattle.std.specs.Fmt.{decimal}
+use Rattle.std.specs.List.{IsDistinct, list_all, count_by}
+use Rattle.std.specs.Map.{lookup}
 use Rattle.std.specs.Option.{option_map, option_map_or, option_and_then}
 use Rattle.std.specs.Str.{bytes_eq}
 use Rattle.std.proofs.lemmas.List.{length-map}
 use Rattle.std.proofs.lemmas.List.Sums.{length-filter}
 use Rattle.std.proofs.lemmas.Bool.Decides.{nat_tests}
-use Rattle.std.proofs.lemmas.Map.Keys.{IsDistinct-head, IsDistinct-tail}
 use Rattle.std.proofs.lemmas.Slice.Eq.{bytes_eq-Decides}
-use Rattle.indexmap.specs.IndexMap.{insert_entry}
 use Rattle.js_tree.specs.declared.nodes.FunId.{FunId}
 use Rattle.code_units.specs.declared.owner.Owner.{Owner}
 use Rattle.code_units.specs.declared.owner.Owner.TheVariants as whose
-use Rattle.object_store.specs.declared.value.Value.{Value}
-use Rattle.object_store.specs.declared.value.Value.TheVariants as value
-use Rattle.object_store.specs.declared.kind.Form.{Form}
-use Rattle.object_store.specs.declared.kind.Form.TheVariants as form
+use Rattle.store_cells.specs.declared.value.Value.{Value}
+use Rattle.store_cells.specs.declared.value.Value.TheVariants as value
+use Rattle.store_cells.specs.declared.kind.Form.{Form}
+use Rattle.store_cells.specs.declared.kind.Form.TheVariants as form
 use Rattle.object_store.specs.declared.store.NewCell.{NewCell}
 use Rattle.object_store.specs.declared.store.NewCell.TheVariants as fresh
-use Rattle.object_store.specs.declared.store.StoreFault.{StoreFault}
-use Rattle.object_store.specs.Cells.{Cells, PlainCell, is_bunch, is_own, is_scope, is_scope_at, is_visible, is_visible_form, own_count}
-use Rattle.object_store.specs.Arrays.{count_value, length_in, length_name, length_of}
-use Rattle.object_store.specs.Bunches.{IsBunch, bunch_cell, hidden_array}
-use Rattle.object_store.specs.Host.{array_prototype, bunch_prototype, function_prototype, is_frozen_form, is_host_owner, is_permitted_cell, is_permitted_value, leads_on}
-use Rattle.object_store.specs.Shape.{IsLinked}
-use Rattle.object_store.specs.Calls.{HaveCells, IsMakeable, born, bound, bunch_cells, cells_for, make_done, make_refusal, new_cell, node_place, paid, scope_cell, slots_of, unit_cost}
-use Rattle.object_store.specs.Owned.{Made, OwnCell, OwnKind, OwnValue, first_cell, first_scope, is_own_scope, made_cells, made_scopes, own_cell, own_cells, own_link, own_made, own_paid, own_pairs, own_scope, own_scopes, owned, scope_number, visible_at}
-use Rattle.object_store.proofs.Lists.{changed_here, count_before-all, count_before-append}
-use Rattle.object_store.proofs.Births.{places_lead}
-use Rattle.object_store.proofs.Closed.{cells_of_older}
+use Rattle.store_cells.specs.declared.counts.Counts.{Counts}
+use Rattle.store_cells.specs.declared.counts.StoreFault.{StoreFault}
+use Rattle.store_cells.specs.declared.counts.StoreFault.TheVariants as fault
+use Rattle.store_cells.specs.declared.counts.TheConstants.{CELL_LIMIT, SLOT_LIMIT}
+use Rattle.store_cells.specs.Cells.{Cells, PlainCell, is_bunch, is_own, is_scope, is_scope_at, is_visible, is_visible_form, kept_cells, own_count}
+use Rattle.store_cells.specs.Arrays.{count_value, length_in, length_name, length_of}
+use Rattle.store_cells.specs.Bunches.{IsBunch, array_pairs, bunch_cell, elements, hidden_array}
+use Rattle.store_cells.specs.Host.{array_prototype, bunch_prototype, function_prototype, is_frozen_form, is_host_owner, is_permitted_cell, is_permitted_value, leads_on}
+use Rattle.store_cells.specs.Shape.{AreElements, AreRefs, IsLinked}
+use Rattle.store_cells.specs.Costs.{cost_refusal, kept_slots, paid}
+use Rattle.store_cells.specs.Born.{HaveCells, array_cell, bunch_cells, new_cell, node_place, object_cell, scope_cell, unset}
+use Rattle.object_store.specs.Calls.{IsCharged, IsMade, IsMakeable, born, cells_for, make_done, slots_of, unit_cost}
+use Rattle.object_store.specs.Owned.{Made, OwnCell, OwnKind, OwnValue, filled_own, first_cell, first_scope, is_own_scope, made_cells, made_scopes, own_cell, own_cells, own_link, own_made, own_paid, own_pairs, own_scope, own_scopes, owned, scope_number, visible_at}
+use Rattle.store_cells.proofs.Lists.{changed_here, count_before-all, count_before-append}
+use Rattle.store_cells.proofs.Births.{places_lead}
+use Rattle.store_cells.proofs.Closed.{cells_of_older}
+use Rattle.store_cells.proofs.Elements.{element_length, refs_elements}
+use Rattle.store_cells.proofs.Writes.{count_length}
 use Rattle.object_store.proofs.Others.{bunches}
-use Rattle.object_store.proofs.Views.{append_none, nodes_are, numbers_older, owned_grown, scope_same, value_same}
+use Rattle.object_store.proofs.Views.{append_none, nodes_are, numbers_older, owned_grown, pairs_same, scope_same, value_same}
 
 false_true : false ≡ true → ⊥
 false_true g = cc
@@ -39,65 +46,8 @@ false_true g = cc
 eqb_self : (w : ℕ) → eqb w w ≡ true
 eqb_self w = grind (arith, nat_tests)
 
-is_same : (a b : List ℕ) → bytes_eq a b ≡ true → a ≡ b
-is_same a b e = (bytes_eq-Decides a b).0 e
-
 same_is : (a b : List ℕ) → a ≡ b → bytes_eq a b ≡ true
 same_is a b e = (bytes_eq-Decides a b).1 e
-
-flipped : (a b : List ℕ) → bytes_eq a b ≡ false → bytes_eq b a ≡ false
-flipped a b e = by (bytes_eq b a) refl
-  where
-    by : (d : Bool) → bytes_eq b a ≡ d → d ≡ false
-    by false g = refl
-    by true g = absurd (false_true (sym e ∙ same_is a b (sym (is_same b a g))))
-
--- the pairs of a new scope
-abbrev unset : List (List ℕ) → List (List ℕ × Value)
-unset names = map (λ name. (name, value.Undefined)) names
-
--- no pair has the name
-abbrev Lacks : List ℕ → List (List ℕ × Value) → Type 0
-Lacks x [] = Unit {0}
-Lacks x (p ∷ ps) = (bytes_eq x p.0 ≡ false) × Lacks x ps
-
-abbrev AllLack : List (List ℕ) → List (List ℕ × Value) → Type 0
-AllLack [] ps = Unit {0}
-AllLack (x ∷ xs) ps = Lacks x ps × AllLack xs ps
-
-inserted_last : (name : List ℕ) (v : Value) (ps : List (List ℕ × Value)) → Lacks name ps → insert_entry bytes_eq ps name v ≡ ps ++ (name, v) ∷ []
-inserted_last name v [] h = refl
-inserted_last name v (p ∷ ps) h = ap (λ b. if b then (p.0, v) ∷ ps else p ∷ insert_entry bytes_eq ps name v) h.0 ∙ ap (λ l. p ∷ l) (inserted_last name v ps h.1)
-
-lacks_push : (x name : List ℕ) (v : Value) (ps : List (List ℕ × Value)) → Lacks x ps → bytes_eq x name ≡ false → Lacks x (ps ++ (name, v) ∷ [])
-lacks_push x name v [] h e = (e, tt)
-lacks_push x name v (p ∷ ps) h e = (h.0, lacks_push x name v ps h.1 e)
-
-all_lack_push : (name : List ℕ) (v : Value) (xs : List (List ℕ)) (ps : List (List ℕ × Value)) → AllLack xs ps → AllByRecursion (λ y. bytes_eq name y ≡ false) xs → AllLack xs (ps ++ (name, v) ∷ [])
-all_lack_push name v [] ps h e = tt
-all_lack_push name v (x ∷ xs) ps h e = (lacks_push x name v ps h.0 (flipped name x e.0), all_lack_push name v xs ps h.1 e.1)
-
-none_lack : (xs : List (List ℕ)) → AllLack xs []
-none_lack [] = tt
-none_lack (x ∷ xs) = (tt, none_lack xs)
-
-push_more : {X : Type 0} (xs : List X) (y : X) (ys : List X) → (xs ++ y ∷ []) ++ ys ≡ xs ++ y ∷ ys
-push_more [] y ys = refl
-push_more (x ∷ xs) y ys = ap (λ l. x ∷ l) (push_more xs y ys)
-
--- a new scope, by its pairs
-abbrev scope_of : ℕ → Option ℕ → List (List ℕ × Value) → PlainCell
-scope_of w outer ps = record { owner = whose.Widget w; form = form.Scope; up = outer; pairs = ps }
-
-bound_all : (w : ℕ) (outer : Option ℕ) (names : List (List ℕ)) (ps : List (List ℕ × Value)) → IsDistinct bytes_eq names → AllLack names ps → fold bound (scope_of w outer ps) names ≡ scope_of w outer (ps ++ unset names)
-bound_all w outer [] ps d h = ap (scope_of w outer) (sym (append_none ps))
-bound_all w outer (x ∷ xs) ps d h =
-    ap (λ l. fold bound (scope_of w outer l) xs) (inserted_last x value.Undefined ps h.0)
-    ∙ bound_all w outer xs (ps ++ (x, value.Undefined) ∷ []) (IsDistinct-tail bytes_eq x xs d) (all_lack_push x value.Undefined xs ps h.1 (IsDistinct-head bytes_eq x xs d))
-    ∙ ap (scope_of w outer) (push_more ps (x, value.Undefined) (unset xs))
-
-scope_is : (w : ℕ) (outer : Option ℕ) (names : List (List ℕ)) → IsDistinct bytes_eq names → scope_cell w outer names ≡ scope_of w outer (unset names)
-scope_is w outer names d = bound_all w outer names [] d (none_lack names)
 
 -- the host's cells are no widget's
 host_unseen : (w : ℕ) (cells : List PlainCell) (i : ℕ) → IfSome (slice_get cells i) (λ c. leads_on c ≡ true) → visible_at w cells i ≡ false
@@ -124,6 +74,17 @@ empty_length = by (bytes_eq length_name length_name)
 empty_shown : filter (λ (p : List ℕ × Value). not (bytes_eq p.0 length_name)) ((length_name, count_value 0) ∷ []) ≡ []
 empty_shown = ap (λ b. cond (not b) ((length_name, count_value 0) ∷ []) []) (same_is length_name length_name refl)
 
+-- the length and the elements of a whole Array
+whole_length : (vs : List Value) → length vs ≤ 4294967295 → length_of (array_pairs vs) ≡ length vs
+whole_length vs le = ap (λ b. option_map_or (λ n. n) (option_and_then length_in (cond b (Some (count_value (length vs))) (lookup (bytes_eq length_name) (elements 0 vs)))) 0) (same_is length_name length_name refl) ∙ ap (λ (o : Option ℕ). option_map_or (λ n. n) o 0) (count_length (length vs) le)
+
+elements_shown : (k : ℕ) (vs : List Value) → k + length vs ≤ 4294967295 → filter (λ (p : List ℕ × Value). not (bytes_eq p.0 length_name)) (elements k vs) ≡ elements k vs
+elements_shown k [] le = refl
+elements_shown k (v ∷ vs) le = ap (λ b. cond (not b) ((decimal k, v) ∷ filter (λ (p : List ℕ × Value). not (bytes_eq p.0 length_name)) (elements (suc k) vs)) (filter (λ (p : List ℕ × Value). not (bytes_eq p.0 length_name)) (elements (suc k) vs))) (element_length k (omega (arith, le))) ∙ ap (λ es. (decimal k, v) ∷ es) (elements_shown (suc k) vs (omega (arith, le)))
+
+whole_shown : (vs : List Value) → length vs ≤ 4294967295 → filter (λ (p : List ℕ × Value). not (bytes_eq p.0 length_name)) (array_pairs vs) ≡ elements 0 vs
+whole_shown vs le = ap (λ b. cond (not b) ((length_name, count_value (length vs)) ∷ filter (λ (p : List ℕ × Value). not (bytes_eq p.0 length_name)) (elements 0 vs)) (filter (λ (p : List ℕ × Value). not (bytes_eq p.0 length_name)) (elements 0 vs))) (same_is length_name length_name refl) ∙ elements_shown 0 vs (omega (arith, le))
+
 second_at : {X : Type 0} (xs : List X) (x y : X) (n : ℕ) → n ≡ length xs + 1 → slice_get (xs ++ x ∷ y ∷ []) n ≡ Some y
 second_at [] x y n e = ap (λ k. slice_get (x ∷ y ∷ []) k) e
 second_at (z ∷ xs) x y zero e = absurd (omega (arith, e))
@@ -137,9 +98,9 @@ module _ (w : ℕ) (cells : List PlainCell) where
   array_seen : (all : List PlainCell) → own_link w all array_prototype ≡ OwnValue.Other array_prototype → own_cell w all (new_cell w form.Array array_prototype) ≡ first_cell (OwnKind.Array 0) (OwnValue.Other array_prototype)
   array_seen all link = λ j. record { kind = OwnKind.Array (empty_length j); prototype = Some (link j); pairs = own_pairs w all (empty_shown j) }
 
-  function_seen : (more : List PlainCell) (code : ℕ) (fun : FunId) (scope : Option ℕ) → IfSome scope (λ k. k < length cells) → own_link w (cells ++ more) function_prototype ≡ OwnValue.Other function_prototype
-      → own_cell w (cells ++ more) (new_cell w (form.Function (record { code = code; fun = fun; scope = scope })) function_prototype) ≡ first_cell (OwnKind.Function code fun (option_map (scope_number w cells) scope)) (OwnValue.Other function_prototype)
-  function_seen more code fun scope lt link = λ j. first_cell (OwnKind.Function code fun (scope_same w (length cells) (cells ++ more) cells (numbers_older w cells more) scope lt j)) (link j)
+  function_seen : (more : List PlainCell) (code : ℕ) (fun : FunId) (declared : Bool) (scope : Option ℕ) → IfSome scope (λ k. k < length cells) → own_link w (cells ++ more) function_prototype ≡ OwnValue.Other function_prototype
+      → own_cell w (cells ++ more) (new_cell w (form.Function (record { code = code; fun = fun; declared = declared; scope = scope })) function_prototype) ≡ first_cell (OwnKind.Function code fun declared (option_map (scope_number w cells) scope)) (OwnValue.Other function_prototype)
+  function_seen more code fun declared scope lt link = λ j. first_cell (OwnKind.Function code fun declared (scope_same w (length cells) (cells ++ more) cells (numbers_older w cells more) scope lt j)) (link j)
 
   abbrev new_bunch : (nodes : List ℕ) → IsDistinct eqb nodes → HaveCells cells nodes → IsBunch (cells ++ bunch_cells cells w nodes) (bunch_cell w (length cells + 1))
   new_bunch nodes distinct have = record {
@@ -160,8 +121,21 @@ module _ (w : ℕ) (cells : List PlainCell) where
   unset_seen all [] = refl
   unset_seen all (x ∷ xs) = ap (λ l. (x, OwnValue.Is value.Undefined) ∷ l) (unset_seen all xs)
 
-  scope_seen : (more : List PlainCell) (outer : Option ℕ) (names : List (List ℕ)) → IfSome outer (λ k. k < length cells) → own_scope w (cells ++ more) (scope_of w outer (unset names)) ≡ first_scope (option_map (scope_number w cells) outer) names
+  scope_seen : (more : List PlainCell) (outer : Option ℕ) (names : List (List ℕ)) → IfSome outer (λ k. k < length cells) → own_scope w (cells ++ more) (scope_cell w outer (unset names)) ≡ first_scope (option_map (scope_number w cells) outer) names
   scope_seen more outer names lt = λ j. record { outer = scope_same w (length cells) (cells ++ more) cells (numbers_older w cells more) outer lt j; pairs = unset_seen (cells ++ more) names j }
+
+  -- first pairs
+  pairs_seen : (more : List PlainCell) (ps : List (List ℕ × Value)) → AreRefs (length cells) ps → own_pairs w (cells ++ more) ps ≡ own_pairs w cells ps
+  pairs_seen more ps refs = pairs_same w (length cells) (cells ++ more) cells (numbers_older w cells more) ps refs
+
+  filled_seen : (more : List PlainCell) (proto : ℕ) (ps : List (List ℕ × Value)) → proto < length cells → AreRefs (length cells) ps → own_cell w (cells ++ more) (object_cell w proto ps) ≡ filled_own OwnKind.Object (own_link w cells proto) (own_pairs w cells ps)
+  filled_seen more proto ps lt refs = λ j. filled_own OwnKind.Object (value_same w (length cells) (cells ++ more) cells (numbers_older w cells more) (value.Ref proto) lt j) (pairs_seen more ps refs j)
+
+  bound_seen : (more : List PlainCell) (outer : Option ℕ) (ps : List (List ℕ × Value)) → IfSome outer (λ k. k < length cells) → AreRefs (length cells) ps → own_scope w (cells ++ more) (scope_cell w outer ps) ≡ record { outer = option_map (scope_number w cells) outer; pairs = own_pairs w cells ps }
+  bound_seen more outer ps lt refs = λ j. record { outer = scope_same w (length cells) (cells ++ more) cells (numbers_older w cells more) outer lt j; pairs = pairs_seen more ps refs j }
+
+  elements_seen : (more : List PlainCell) (vs : List Value) → AreElements (length cells) vs → length vs ≤ 4294967295 → own_link w (cells ++ more) array_prototype ≡ OwnValue.Other array_prototype → own_cell w (cells ++ more) (array_cell w vs) ≡ filled_own (OwnKind.Array (length vs)) (OwnValue.Other array_prototype) (own_pairs w cells (elements 0 vs))
+  elements_seen more vs refs few link = λ j. filled_own (OwnKind.Array (whole_length vs few j)) (link j) ((ap (own_pairs w (cells ++ more)) (whole_shown vs few) ∙ pairs_seen more (elements 0 vs) (refs_elements (length cells) 0 vs refs)) j)
 
   within : (o : Option ℕ) → IfSome o (λ k. (k < length cells) × (is_scope_at cells k ≡ true)) → IfSome o (λ k. k < length cells)
   within None h = tt
@@ -171,36 +145,59 @@ module _ (w : ℕ) (cells : List PlainCell) where
   visible_seen : (all : List PlainCell) (f : Form) (up : ℕ) (d : OwnCell) → is_visible_form f ≡ true → own_cell w all (new_cell w f up) ≡ d → own_cells w all (new_cell w f up ∷ []) ≡ d ∷ []
   visible_seen all f up d v e = ap (λ b. map (own_cell w all) (if b && is_visible_form f then (new_cell w f up) ∷ [] else [])) (eqb_self w) ∙ ap (λ b. map (own_cell w all) (if b then (new_cell w f up) ∷ [] else [])) v ∙ ap (λ x. x ∷ []) e
 
+  whole_seen : (all : List PlainCell) (c : PlainCell) (d : OwnCell) → is_visible w c ≡ true → own_cell w all c ≡ d → own_cells w all (c ∷ []) ≡ d ∷ []
+  whole_seen all c d v e = ap (λ b. map (own_cell w all) (if b then c ∷ [] else [])) v ∙ ap (λ x. x ∷ []) e
+
+  mine : (f : Form) → is_visible_form f ≡ true → is_own w (whose.Widget w) f ≡ true
+  mine f v = ap (λ b. b && is_visible_form f) (eqb_self w) ∙ v
+
+  unscoped : (all : List PlainCell) (c : PlainCell) → is_own_scope w c ≡ false → own_scopes w all (c ∷ []) ≡ []
+  unscoped all c v = ap (λ b. map (own_scope w all) (if b then c ∷ [] else [])) v
+
+  not_scope : (eqb w w && false) ≡ false
+  not_scope = ap (λ b. b && false) (eqb_self w)
+
   no_scope_seen : (all : List PlainCell) (f : Form) (up : ℕ) → is_scope f ≡ false → own_scopes w all (new_cell w f up ∷ []) ≡ []
   no_scope_seen all f up v = ap (λ b. map (own_scope w all) (if b && is_scope f then (new_cell w f up) ∷ [] else [])) (eqb_self w) ∙ ap (λ b. map (own_scope w all) (if b then (new_cell w f up) ∷ [] else [])) v
 
   abbrev AreHosts : List PlainCell → Type 0
   AreHosts all = (i : ℕ) → is_permitted_cell i ≡ true → IfSome (slice_get all i) (λ c. leads_on c ≡ true)
 
-  pub cells_born : (n : NewCell) → IsMakeable cells n → AreHosts (cells ++ born cells w n) → own_cells w (cells ++ born cells w n) (born cells w n) ≡ made_cells w cells n
-  cells_born (fresh.Object proto) fit hosts = visible_seen (cells ++ new_cell w form.Object proto ∷ []) form.Object proto (first_cell OwnKind.Object (own_link w cells proto)) refl (object_seen (new_cell w form.Object proto ∷ []) proto fit.0)
-  cells_born fresh.Array fit hosts =
+  pub cells_born : (n : NewCell) → IsMakeable cells n → slots_of n ≤ 4294967295 → AreHosts (cells ++ born cells w n) → own_cells w (cells ++ born cells w n) (born cells w n) ≡ made_cells w cells n
+  cells_born (fresh.Object proto) fit few hosts = visible_seen (cells ++ new_cell w form.Object proto ∷ []) form.Object proto (first_cell OwnKind.Object (own_link w cells proto)) refl (object_seen (new_cell w form.Object proto ∷ []) proto fit.within)
+  cells_born fresh.Array fit few hosts =
       let all = cells ++ new_cell w form.Array array_prototype ∷ [] in
       visible_seen all form.Array array_prototype (first_cell (OwnKind.Array 0) (OwnValue.Other array_prototype)) refl (array_seen all (host_link w all array_prototype (hosts array_prototype refl)))
-  cells_born (fresh.Function code fun scope) fit hosts =
-      let f : Form = form.Function (record { code = code; fun = fun; scope = scope }) in
+  cells_born (fresh.Function code fun declared scope) fit few hosts =
+      let f : Form = form.Function (record { code = code; fun = fun; declared = declared; scope = scope }) in
       let more = new_cell w f function_prototype ∷ [] in
-      visible_seen (cells ++ more) f function_prototype (first_cell (OwnKind.Function code fun (option_map (scope_number w cells) scope)) (OwnValue.Other function_prototype)) refl (function_seen more code fun scope (within scope fit) (host_link w (cells ++ more) function_prototype (hosts function_prototype refl)))
-  cells_born (fresh.Scope outer names) fit hosts = ap (λ c. own_cells w (cells ++ scope_cell w outer names.items ∷ []) (c ∷ [])) (scope_is w outer names.items fit.1) ∙ ap (λ b. map (own_cell w (cells ++ scope_cell w outer names.items ∷ [])) (if b && false then (scope_of w outer (unset names.items)) ∷ [] else [])) (eqb_self w)
-  cells_born (fresh.Bunch nodes) fit hosts =
+      visible_seen (cells ++ more) f function_prototype (first_cell (OwnKind.Function code fun declared (option_map (scope_number w cells) scope)) (OwnValue.Other function_prototype)) refl (function_seen more code fun declared scope (within scope fit) (host_link w (cells ++ more) function_prototype (hosts function_prototype refl)))
+  cells_born (fresh.Scope outer names) fit few hosts = ap (λ b. map (own_cell w (cells ++ scope_cell w outer (unset names.items) ∷ [])) (if b && false then (scope_cell w outer (unset names.items)) ∷ [] else [])) (eqb_self w)
+  cells_born (fresh.ObjectWith proto pairs) fit few hosts =
+      let c = object_cell w proto pairs.items in
+      whole_seen (cells ++ c ∷ []) c _ (mine form.Object refl) (filled_seen (c ∷ []) proto pairs.items fit.0.within fit.1.refs)
+  cells_born (fresh.ArrayWith values) fit few hosts =
+      let c = array_cell w values.items in
+      whole_seen (cells ++ c ∷ []) c _ (mine form.Array refl) (elements_seen (c ∷ []) values.items fit few (host_link w (cells ++ c ∷ []) array_prototype (hosts array_prototype refl)))
+  cells_born (fresh.ScopeWith outer pairs) fit few hosts = ap (λ b. map (own_cell w (cells ++ scope_cell w outer pairs.items ∷ [])) (if b && false then (scope_cell w outer pairs.items) ∷ [] else [])) (eqb_self w)
+  cells_born (fresh.Bunch nodes) fit few hosts =
       let all = cells ++ bunch_cells cells w nodes.items in
       ap (λ b. map (own_cell w all) (if b && true then (bunch_cell w (length cells + 1)) ∷ [] else [])) (eqb_self w) ∙ ap (λ x. x ∷ []) (bunch_seen nodes.items fit.0 fit.1 (host_link w all bunch_prototype (hosts bunch_prototype refl)))
 
   pub scopes_born : (n : NewCell) → IsMakeable cells n → own_scopes w (cells ++ born cells w n) (born cells w n) ≡ made_scopes w cells n
   scopes_born (fresh.Object proto) fit = no_scope_seen (cells ++ new_cell w form.Object proto ∷ []) form.Object proto refl
   scopes_born fresh.Array fit = no_scope_seen (cells ++ new_cell w form.Array array_prototype ∷ []) form.Array array_prototype refl
-  scopes_born (fresh.Function code fun scope) fit =
-      let f : Form = form.Function (record { code = code; fun = fun; scope = scope }) in
+  scopes_born (fresh.Function code fun declared scope) fit =
+      let f : Form = form.Function (record { code = code; fun = fun; declared = declared; scope = scope }) in
       no_scope_seen (cells ++ new_cell w f function_prototype ∷ []) f function_prototype refl
   scopes_born (fresh.Scope outer names) fit =
-      let more = scope_cell w outer names.items ∷ [] in
-      let c = scope_of w outer (unset names.items) in
-      ap (λ d. own_scopes w (cells ++ more) (d ∷ [])) (scope_is w outer names.items fit.1) ∙ ap (λ b. map (own_scope w (cells ++ more)) (if b && true then c ∷ [] else [])) (eqb_self w) ∙ ap (λ x. x ∷ []) (scope_seen more outer names.items (within outer fit.0))
+      let c = scope_cell w outer (unset names.items) in
+      ap (λ b. map (own_scope w (cells ++ c ∷ [])) (if b && true then c ∷ [] else [])) (eqb_self w) ∙ ap (λ x. x ∷ []) (scope_seen (c ∷ []) outer names.items (within outer fit.0))
+  scopes_born (fresh.ObjectWith proto pairs) fit = let c = object_cell w proto pairs.items in unscoped (cells ++ c ∷ []) c not_scope
+  scopes_born (fresh.ArrayWith values) fit = let c = array_cell w values.items in unscoped (cells ++ c ∷ []) c not_scope
+  scopes_born (fresh.ScopeWith outer pairs) fit =
+      let c = scope_cell w outer pairs.items in
+      ap (λ b. map (own_scope w (cells ++ c ∷ [])) (if b && true then c ∷ [] else [])) (eqb_self w) ∙ ap (λ x. x ∷ []) (bound_seen (c ∷ []) outer pairs.items (within outer fit.0) fit.1.refs)
   scopes_born (fresh.Bunch nodes) fit = ap (λ b. map (own_scope w (cells ++ bunch_cells cells w nodes.items)) (if b && false then (bunch_cell w (length cells + 1)) ∷ [] else [])) (eqb_self w)
 
 -- how many a widget has
@@ -210,27 +207,42 @@ count_own w all cs = length-map (filter (is_visible w) cs) (own_cell w all) ∙ 
 count_scopes : (w : ℕ) (all cs : List PlainCell) → length (own_scopes w all cs) ≡ count_by (is_own_scope w) cs
 count_scopes w all cs = length-map (filter (is_own_scope w) cs) (own_scope w all) ∙ length-filter (is_own_scope w) cs
 
+-- what can be paid is small
+slots_few : (kept : List Counts) (w c n : ℕ) → cost_refusal kept w c n ≡ None → n ≤ 4294967295
+slots_few kept w c n none = by (nat_lt CELL_LIMIT (kept_cells kept w + c)) (nat_lt SLOT_LIMIT (kept_slots kept w + n)) refl none
+  where
+    some_none : {X : Type 0} (x : X) → Some x ≡ None → ⊥
+    some_none x e = cc
+
+    not_lt : nat_lt SLOT_LIMIT (kept_slots kept w + n) ≡ false → n ≤ 4294967295
+    not_lt e = grind (arith, nat_tests, e)
+
+    by : (a b : Bool) → nat_lt SLOT_LIMIT (kept_slots kept w + n) ≡ b → (if a then Some (fault.Cells (kept_cells kept w)) else (if b then Some (fault.Slots (kept_slots kept w)) else None)) ≡ None → n ≤ 4294967295
+    by true b e h = absurd (some_none _ h)
+    by false true e h = absurd (some_none _ h)
+    by false false e h = not_lt e
+
 -- `make`
 module _ (s : Cells) (links : (i : ℕ) (c : PlainCell) → slice_get s.cells i ≡ Some c → IsLinked s.cells i c) (bunches_each : (i : ℕ) (c : PlainCell) → slice_get s.cells i ≡ Some c → is_bunch c.form ≡ true → IsBunch s.cells c) (w : ℕ) (n : NewCell) (fit : IsMakeable s.cells n) where
-  make_seen_own : AreHosts w s.cells (s.cells ++ born s.cells w n) → owned w (make_done s w n) ≡ own_made w s n
+  make_seen_own : slots_of n ≤ 4294967295 → AreHosts w s.cells (s.cells ++ born s.cells w n) → owned w (make_done s w n) ≡ own_made w s n
   unfolding owned
-  make_seen_own hosts =
-      let p = ap (λ l. own_cells w s.cells s.cells ++ l) (cells_born w s.cells n fit hosts) in
+  make_seen_own few hosts =
+      let p = ap (λ l. own_cells w s.cells s.cells ++ l) (cells_born w s.cells n fit few hosts) in
       let q = ap (λ l. own_scopes w s.cells s.cells ++ l) (scopes_born w s.cells n fit) in
       owned_grown w s.cells (born s.cells w n) links (bunches s links bunches_each) s.kept (make_done s w n).kept ∙ (λ j. record { heap = p j; scopes = q j; paid = changed_here s.kept w (paid (cells_for n) (slots_of n) 0) j })
 
-  make_own : AreHosts w s.cells (s.cells ++ born s.cells w n) → Made w s (make_done s w n) (length s.cells) n
+  make_own : slots_of n ≤ 4294967295 → AreHosts w s.cells (s.cells ++ born s.cells w n) → Made w s (make_done s w n) (length s.cells) n
   unfolding owned
-  make_own hosts = record {
-    seen = make_seen_own hosts;
+  make_own few hosts = record {
+    seen = make_seen_own few hosts;
     number = count_before-append (is_visible w) s.cells (born s.cells w n) (length s.cells) (omega arith) ∙ count_before-all (is_visible w) s.cells ∙ sym (count_own w s.cells s.cells);
     scope = count_before-append (is_own_scope w) s.cells (born s.cells w n) (length s.cells) (omega arith) ∙ count_before-all (is_own_scope w) s.cells ∙ sym (count_scopes w s.cells s.cells);
   }
 
-  pub make_own_seen : {E : Type 0} (r : Result ℕ E) (t : Cells) → ((i : ℕ) → is_permitted_cell i ≡ true → IfSome (slice_get t.cells i) (λ c. leads_on c ≡ true)) → IfOk r (λ id. (make_refusal s w n ≡ None) × (id ≡ length s.cells) × (t ≡ make_done s w n)) → IfOk r (λ id. Made w s t id n)
+  pub make_own_seen : {E : Type 0} (r : Result ℕ E) (t : Cells) → ((i : ℕ) → is_permitted_cell i ≡ true → IfSome (slice_get t.cells i) (λ c. leads_on c ≡ true)) → IfOk r (λ id. IsMade s t w id n) → IfOk r (λ id. Made w s t id n)
   make_own_seen (Ok id) t hosts ok =
-      let m = make_own (subst (λ (d : Cells). AreHosts w s.cells d.cells) ok.2 hosts) in
-      subst (λ (d : Cells). Made w s d id n) (sym ok.2) (subst (λ k. Made w s (make_done s w n) k n) (sym ok.1) m)
+      let m = make_own (slots_few s.kept w (cells_for n) (slots_of n) ok.paid) (subst (λ (d : Cells). AreHosts w s.cells d.cells) ok.done hosts) in
+      subst (λ (d : Cells). Made w s d id n) (sym ok.done) (subst (λ k. Made w s (make_done s w n) k n) (sym ok.place) m)
   make_own_seen (Err x) t hosts ok = tt
 
 -- `charge_units` and `charge_slots`
@@ -239,6 +251,6 @@ module _ (s : Cells) (w slots units : ℕ) where
   unfolding owned
   cost_own = λ j. record { heap = own_cells w s.cells s.cells; scopes = own_scopes w s.cells s.cells; paid = changed_here s.kept w (paid 0 slots units) j }
 
-  pub cost_own_seen : {E : Type 0} (r : Result (Unit {0}) E) (o : Option StoreFault) (t : Cells) → OnOk r ((o ≡ None) × (t ≡ unit_cost s w slots units)) → OnOk r (owned w t ≡ own_paid 0 slots units (owned w s))
-  cost_own_seen (Ok x) o t ok = ap (owned w) ok.1 ∙ cost_own
+  pub cost_own_seen : {E : Type 0} (r : Result (Unit {0}) E) (o : Option StoreFault) (t : Cells) → OnOk r (IsCharged s t w slots units o) → OnOk r (owned w t ≡ own_paid 0 slots units (owned w s))
+  cost_own_seen (Ok x) o t ok = ap (owned w) ok.done ∙ cost_own
   cost_own_seen (Err x) o t ok = tt

@@ -5,13 +5,14 @@ use Rattle.std.specs.Option.{option_map, option_map_or}
 use Rattle.std.proofs.lemmas.Bool.Decides.{nat_tests}
 use Rattle.code_units.specs.declared.owner.Owner.{Owner}
 use Rattle.code_units.specs.declared.owner.Owner.TheVariants as whose
-use Rattle.object_store.specs.declared.kind.Form.{Form}
-use Rattle.object_store.specs.declared.store.Counts.{Counts}
-use Rattle.object_store.specs.declared.value.Value.{Value}
-use Rattle.object_store.specs.Lists.{changed}
-use Rattle.object_store.specs.Cells.{Cells, PlainCell, is_bunch, is_own, is_visible, is_visible_form, widget_of, writer_in}
-use Rattle.object_store.specs.Calls.{kept_after, paid, put_done, slots_at, slots_for}
-use Rattle.object_store.proofs.Lists.{changed_here, none_some, some_same}
+use Rattle.store_cells.specs.declared.kind.Form.{Form}
+use Rattle.store_cells.specs.declared.counts.Counts.{Counts}
+use Rattle.store_cells.specs.declared.value.Value.{Value}
+use Rattle.store_cells.specs.Lists.{changed}
+use Rattle.store_cells.specs.Cells.{Cells, PlainCell, is_bunch, is_own, is_visible, is_visible_form, widget_of, writer_in}
+use Rattle.object_store.specs.Calls.{kept_after, put_done, slots_at, slots_for}
+use Rattle.store_cells.specs.Costs.{paid}
+use Rattle.store_cells.proofs.Lists.{changed_here, none_some, some_same}
 
 false_true : false ≡ true → ⊥
 false_true e = cc

@@ -5,24 +5,25 @@ use Rattle.std.specs.Prelude.{Result, Ok, Err, IsErr, IfErr}
 use Rattle.std.specs.Result.{IsErrAnd}
 use Rattle.std.specs.Option.{option_map, option_map_or}
 use Rattle.std.proofs.lemmas.Option.{slice_get-map}
-use Rattle.code_units.proofs.Interning.{same_test, none_test}
-use Rattle.object_store.specs.declared.value.Value.{Value}
-use Rattle.object_store.specs.declared.cell.Head.{Head}
-use Rattle.object_store.specs.declared.cell.Write.{Write}
-use Rattle.object_store.specs.declared.store.Counts.{Counts}
-use Rattle.object_store.specs.declared.store.StoreFault.{StoreFault}
-use Rattle.object_store.specs.declared.store.StoreFault.TheVariants as fault
-use Rattle.object_store.specs.Lists.{changed}
-use Rattle.object_store.specs.Cells.{kept_cells, PlainCell, Cells, has_own, writer_in}
-use Rattle.object_store.specs.Arrays.{stored, is_bad_length}
-use Rattle.object_store.specs.Numbered.{Raw, plain, cells_of, heads, own_head, raw_has, IsNumberOf, plan_of, by_plan}
-use Rattle.object_store.specs.Shape.{AreClosed, IsBase, IsShape, AreRaws, AreWithin, Wrote}
-use Rattle.object_store.specs.Calls.{Refuses, cost_refusal, slots_for, put_refusal, put_refusal_of, put_done, kept_after, paid}
-use Rattle.object_store.proofs.Lists.{length-changed, changed_alike}
-use Rattle.object_store.proofs.Look.{known_cells, known_at, has_same, look_none}
-use Rattle.object_store.proofs.Closed.{closed_wrote}
-use Rattle.object_store.proofs.Plans.{no_plan, some_plan, plan_done, length_alike}
-use Rattle.object_store.proofs.Costs.{cells_paid}
+use Rattle.keyed_names.proofs.Interning.{same_test, none_test}
+use Rattle.store_cells.specs.declared.value.Value.{Value}
+use Rattle.store_cells.specs.declared.cell.Head.{Head}
+use Rattle.store_cells.specs.declared.cell.Write.{Write}
+use Rattle.store_cells.specs.declared.counts.Counts.{Counts}
+use Rattle.store_cells.specs.declared.counts.StoreFault.{StoreFault}
+use Rattle.store_cells.specs.declared.counts.StoreFault.TheVariants as fault
+use Rattle.store_cells.specs.Lists.{changed}
+use Rattle.store_cells.specs.Cells.{kept_cells, PlainCell, Cells, has_own, writer_in}
+use Rattle.store_cells.specs.Arrays.{stored, is_bad_length}
+use Rattle.store_cells.specs.Numbered.{NumberedCell, plain, cells_of, heads, own_head, numbered_has, IsNumberOf, plan_of, by_plan}
+use Rattle.store_cells.specs.Shape.{AreClosed, IsBase, IsShape, AreRaws, AreWithin, Wrote}
+use Rattle.store_cells.specs.Costs.{Refuses, cost_refusal, paid}
+use Rattle.object_store.specs.Calls.{slots_for, put_refusal, put_refusal_of, put_done, kept_after}
+use Rattle.store_cells.proofs.Lists.{length-changed, changed_alike}
+use Rattle.store_cells.proofs.Look.{known_cells, known_at, has_same, look_none}
+use Rattle.store_cells.proofs.Closed.{closed_wrote}
+use Rattle.store_cells.proofs.Plans.{no_plan, some_plan, plan_done, length_alike}
+use Rattle.store_cells.proofs.Costs.{cells_paid}
 
 pub refuses_some : (e : StoreFault) (r : Option StoreFault) → r ≡ Some e → Refuses e r
 refuses_some (fault.Cells k) r h = h
@@ -38,7 +39,7 @@ refuses_err (Ok u) P x o h f is = tt
 refuses_err (Err e) P x o h f is = refuses_some e o (is ∙ ap Some (sym (f e h.1)))
 
 -- after a call that pays no cells
-pub shape_paid : (names new : List (List ℕ)) (cs after : List Raw) (raws : List (ℕ × ℕ)) (kept counts : List Counts) → IsShape names cs raws kept → IsBase new after → AreClosed (cells_of new after) → heads after ≡ heads cs → AreWithin counts → (w s u : ℕ) → counts ≡ changed kept w (paid 0 s u) → IsShape new after raws counts
+pub shape_paid : (names new : List (List ℕ)) (cs after : List NumberedCell) (raws : List (ℕ × ℕ)) (kept counts : List Counts) → IsShape names cs raws kept → IsBase new after → AreClosed (cells_of new after) → heads after ≡ heads cs → AreWithin counts → (w s u : ℕ) → counts ≡ changed kept w (paid 0 s u) → IsShape new after raws counts
 shape_paid names new cs after raws kept counts shape base closed same within w s u e = record {
   base = base;
   closed = closed;
@@ -48,14 +49,14 @@ shape_paid names new cs after raws kept counts shape base closed same within w s
   exact = λ v lt. ap (λ (ks : List Counts). kept_cells ks v) e ∙ cells_paid kept w s u v ∙ shape.exact v lt ∙ ap (count_by (own_head v)) (sym same);
 }
 
-module _ (s : Cells) (names : List (List ℕ)) (cs : List Raw) {raws : List (ℕ × ℕ)} (kept : List Counts) (view : (let c : Cells = record { cells = cells_of names cs; kept = kept } in c ≡ s)) (shape : IsShape names cs raws kept) (i : ℕ) (c : Raw) (at : slice_get cs i ≡ Some c) where
+module _ (s : Cells) (names : List (List ℕ)) (cs : List NumberedCell) {raws : List (ℕ × ℕ)} (kept : List Counts) (view : (let c : Cells = record { cells = cells_of names cs; kept = kept } in c ≡ s)) (shape : IsShape names cs raws kept) (i : ℕ) (c : NumberedCell) (at : slice_get cs i ≡ Some c) where
   pub seen : slice_get s.cells i ≡ Some (plain names c)
   seen = ap (λ (t : Cells). slice_get t.cells i) (sym view) ∙ slice_get-map (plain names) cs i ∙ ap (option_map (plain names)) at
 
   kept_is : s.kept ≡ kept
   kept_is = ap (λ (t : Cells). t.kept) (sym view)
 
-  pub closed_after : (w : ℕ) → writer_in c.head.owner c.head.form ≡ Some w → (new : List (List ℕ)) (after : List Raw) (f : PlainCell → PlainCell) → Wrote names cs new after i f → AreClosed (cells_of new after)
+  pub closed_after : (w : ℕ) → writer_in c.head.owner c.head.form ≡ Some w → (new : List (List ℕ)) (after : List NumberedCell) (f : PlainCell → PlainCell) → Wrote names cs new after i f → AreClosed (cells_of new after)
   closed_after w writer new after f wrote = closed_wrote names new cs after i w c f shape.closed at writer wrote
 
   module _ (name : List ℕ) (v : Value) where
@@ -72,8 +73,8 @@ module _ (s : Cells) (names : List (List ℕ)) (cs : List Raw) {raws : List (ℕ
       pub put_bad : plan_of name v c ≡ None → put_refusal s i name v ≡ Some fault.BadLength
       put_bad e = open_refusal ∙ ap (λ b. if b then Some fault.BadLength else cost_refusal kept w 0 (slots_for name (plain names c))) (no_plan name v c e names)
 
-      module _ (p : Write) (plan : plan_of name v c ≡ Some p) (number : Option ℕ) (found : IsNumberOf names name number) (slots : ℕ) (cost : slots ≡ (if option_map_or (λ n. raw_has n c) number false then 0 else 1)) where
-        has_number : (number : Option ℕ) → IsNumberOf names name number → option_map_or (λ n. raw_has n c) number false ≡ has_own name (plain names c)
+      module _ (p : Write) (plan : plan_of name v c ≡ Some p) (number : Option ℕ) (found : IsNumberOf names name number) (slots : ℕ) (cost : slots ≡ (if option_map_or (λ n. numbered_has n c) number false then 0 else 1)) where
+        has_number : (number : Option ℕ) → IsNumberOf names name number → option_map_or (λ n. numbered_has n c) number false ≡ has_own name (plain names c)
         has_number None h = sym (ap is_some (look_none names name (none_test names name h) c.entries (known_at (length names) cs i c (known_cells names (length cs) cs shape.base.fine) at)))
         has_number (Some n) h = has_same names name n (same_test names name n shape.base.table h.0) c (known_at (length names) cs i c (known_cells names (length cs) cs shape.base.fine) at)
 
@@ -83,7 +84,7 @@ module _ (s : Cells) (names : List (List ℕ)) (cs : List Raw) {raws : List (ℕ
         pub put_cost : put_refusal s i name v ≡ cost_refusal kept w 0 slots
         put_cost = open_refusal ∙ ap (λ b. if b then Some fault.BadLength else cost_refusal kept w 0 (slots_for name (plain names c))) (some_plan name v c p plan names) ∙ ap (cost_refusal kept w 0) (sym cost_is)
 
-        pub put_is : (new : List (List ℕ)) (after : List Raw) (counts : List Counts) → Wrote names cs new after i (by_plan p name v) → counts ≡ changed kept w (paid 0 slots 0) → (let d : Cells = record { cells = cells_of new after; kept = counts } in d ≡ put_done s i name v)
+        pub put_is : (new : List (List ℕ)) (after : List NumberedCell) (counts : List Counts) → Wrote names cs new after i (by_plan p name v) → counts ≡ changed kept w (paid 0 slots 0) → (let d : Cells = record { cells = cells_of new after; kept = counts } in d ≡ put_done s i name v)
         put_is new after counts wrote e =
             let same : changed (cells_of names cs) i (by_plan p name v) ≡ changed (cells_of names cs) i (stored name v) =
             changed_alike (cells_of names cs) i (by_plan p name v) (stored name v) (λ x g.

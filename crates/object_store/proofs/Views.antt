@@ -6,25 +6,25 @@ use Rattle.std.specs.Option.{option_map, option_map_or}
 use Rattle.std.specs.Str.{bytes_eq}
 use Rattle.std.proofs.lemmas.List.{map-append}
 use Rattle.std.proofs.lemmas.List.Elements.{filter-append}
-use Rattle.object_store.specs.declared.value.Value.{Value}
-use Rattle.object_store.specs.declared.value.Value.TheVariants as value
-use Rattle.object_store.specs.declared.kind.Form.{Form}
-use Rattle.object_store.specs.declared.kind.Form.TheVariants as form
-use Rattle.object_store.specs.declared.store.Counts.{Counts}
-use Rattle.object_store.specs.Lists.{changed, count_before}
-use Rattle.object_store.specs.Cells.{Cells, PlainCell, is_array, is_bunch, is_own, is_scope, is_visible, is_visible_form, own_count, widget_of}
-use Rattle.object_store.specs.Arrays.{length_name}
-use Rattle.object_store.specs.Bunches.{AreBunches, AreCellsOf, IsBunch, elements}
-use Rattle.object_store.specs.Shape.{AreRefs, IsLinked, IsRefWithin, scope_in}
+use Rattle.store_cells.specs.declared.value.Value.{Value}
+use Rattle.store_cells.specs.declared.value.Value.TheVariants as value
+use Rattle.store_cells.specs.declared.kind.Form.{Form}
+use Rattle.store_cells.specs.declared.kind.Form.TheVariants as form
+use Rattle.store_cells.specs.declared.counts.Counts.{Counts}
+use Rattle.store_cells.specs.Lists.{changed, count_before}
+use Rattle.store_cells.specs.Cells.{Cells, PlainCell, is_array, is_bunch, is_own, is_scope, is_visible, is_visible_form, own_count, widget_of}
+use Rattle.store_cells.specs.Arrays.{length_name}
+use Rattle.store_cells.specs.Bunches.{AreBunches, AreCellsOf, IsBunch, elements}
+use Rattle.store_cells.specs.Shape.{AreRefs, IsLinked, IsRefWithin, scope_in}
 use Rattle.object_store.specs.Owned.{OwnKind, OwnValue, is_of, is_of_at, is_own_scope, nodes_in, nodes_of, own_cell, own_cells, own_kind, own_link, own_pairs, own_scope, own_scopes, own_value, owned, scope_number, shown, visible_at}
-use Rattle.object_store.proofs.Lists.{get_first, get_within, count_more, count_before-append, same_rest}
-use Rattle.object_store.proofs.Closed.{bunch_older}
+use Rattle.store_cells.proofs.Lists.{get_first, get_within, count_more, count_before-append, same_rest}
+use Rattle.store_cells.proofs.Closed.{bunch_older}
 
 false_true : false ≡ true → ⊥
 false_true g = cc
 
 -- the nodes of a Bunch are those that it was made of
-nodes_elements : (cells : List PlainCell) (k : ℕ) (refs nodes : List ℕ) → AreCellsOf cells refs nodes → nodes_in cells (elements k refs) ≡ nodes
+nodes_elements : (cells : List PlainCell) (k : ℕ) (refs nodes : List ℕ) → AreCellsOf cells refs nodes → nodes_in cells (elements k (map value.Ref refs)) ≡ nodes
 nodes_elements cells k [] [] h = refl
 nodes_elements cells k [] (n ∷ nodes) h = absurd h
 nodes_elements cells k (r ∷ refs) [] h = absurd h
@@ -52,7 +52,7 @@ module _ (v n : ℕ) (after before : List PlainCell) (same : SameNumbers v n aft
   value_same (value.Text t) h = refl
   value_same (value.Ref k) h = link_same k h
 
-  pairs_same : (ps : List (List ℕ × Value)) → AreRefs n ps → own_pairs v after ps ≡ own_pairs v before ps
+  pub pairs_same : (ps : List (List ℕ × Value)) → AreRefs n ps → own_pairs v after ps ≡ own_pairs v before ps
   pairs_same [] h = refl
   pairs_same (p ∷ ps) h = λ j. (p.0, value_same p.1 h.0 j) ∷ pairs_same ps h.1 j
 
@@ -84,7 +84,7 @@ module _ (v n : ℕ) (after before : List PlainCell) (same : SameNumbers v n aft
     kind_same : (f : Form) → IfSome (scope_in f) (λ k. k < n) → (is_bunch f ≡ true → nodes_of after c ≡ nodes_of before c) → own_kind v after c f ≡ own_kind v before c f
     kind_same form.Object s b = refl
     kind_same form.Array s b = refl
-    kind_same (form.Function p) s b = ap (OwnKind.Function p.code p.fun) (scope_same p.scope s)
+    kind_same (form.Function p) s b = ap (OwnKind.Function p.code p.fun p.declared) (scope_same p.scope s)
     kind_same (form.Native p) s b = refl
     kind_same form.Scope s b = refl
     kind_same form.Bunch s b = ap OwnKind.Bunch (b refl)

@@ -1,11 +1,3 @@
-pub mod Lists
-pub mod Cells
-pub mod Indices
-pub mod Arrays
-pub mod Numbered
-pub mod Shape
 pub mod Calls
-pub mod Host
-pub mod Bunches
 pub mod Owned
-pub mod Bare
+pub mod Grows

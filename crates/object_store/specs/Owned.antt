@@ -1,6 +1,6 @@
 -- What one widget has, by itself: its visible cells and its scopes, each by birth, references by
 -- the numbers of its own, and what it has paid.
-use Rattle.std.specs.Prelude.{◌≡◌, ℕ, ◌+◌, max, Bool, false, List, [], ◌∷◌, ◌++◌, Option, None, Some, if◌then◌else◌, filter, length, map, not, nat_eq, ◌&&◌, slice_get}
+use Rattle.std.specs.Prelude.{◌≡◌, ℕ, ◌+◌, max, Bool, true, false, List, [], ◌∷◌, ◌++◌, Option, None, Some, if◌then◌else◌, filter, length, map, not, nat_eq, ◌&&◌, slice_get, IfSome}
 use Rattle.std.specs.List.{filter_map}
 use Rattle.std.specs.Map.{remove_entry}
 use Rattle.indexmap.specs.IndexMap.{insert_entry}
@@ -8,20 +8,21 @@ use Rattle.std.specs.Option.{option_map, option_map_or, option_and_then}
 use Rattle.std.specs.Str.{bytes_eq}
 use Rattle.js_tree.specs.declared.nodes.FunId.{FunId}
 use Rattle.code_units.specs.declared.owner.Owner.{Owner}
-use Rattle.object_store.specs.declared.value.Value.{Value}
-use Rattle.object_store.specs.declared.value.Value.TheVariants as value
-use Rattle.object_store.specs.declared.kind.Form.{Form}
-use Rattle.object_store.specs.declared.kind.Form.TheVariants as form
-use Rattle.object_store.specs.declared.store.Counts.{Counts}
+use Rattle.store_cells.specs.declared.value.Value.{Value}
+use Rattle.store_cells.specs.declared.value.Value.TheVariants as value
+use Rattle.store_cells.specs.declared.kind.Form.{Form}
+use Rattle.store_cells.specs.declared.kind.Form.TheVariants as form
+use Rattle.store_cells.specs.declared.counts.Counts.{Counts}
 use Rattle.object_store.specs.declared.store.NewCell.{NewCell}
 use Rattle.object_store.specs.declared.store.NewCell.TheVariants as fresh
-use Rattle.object_store.specs.Indices.{index_of}
-use Rattle.object_store.specs.Lists.{changed, count_before}
-use Rattle.object_store.specs.Cells.{Cells, PlainCell, is_array, is_bunch, is_scope, is_visible, own_count, value_of, widget_of}
-use Rattle.object_store.specs.Arrays.{is_below, length_in, length_name, length_of, nodes_name}
-use Rattle.object_store.specs.Bunches.{node_at}
-use Rattle.object_store.specs.Calls.{cells_for, paid, slots_of}
-use Rattle.object_store.specs.Host.{array_prototype, bunch_prototype, function_prototype}
+use Rattle.code_units.specs.Indices.{index_of}
+use Rattle.store_cells.specs.Lists.{changed, count_before}
+use Rattle.store_cells.specs.Cells.{Cells, PlainCell, holder, is_array, is_bunch, is_scope, is_visible, own_count, value_of, widget_of}
+use Rattle.store_cells.specs.Arrays.{is_below, length_in, length_name, length_of, nodes_name}
+use Rattle.store_cells.specs.Bunches.{elements, node_at}
+use Rattle.object_store.specs.Calls.{cells_for, slots_at, slots_of}
+use Rattle.store_cells.specs.Costs.{paid}
+use Rattle.store_cells.specs.Host.{array_prototype, bunch_prototype, function_prototype}
 
 -- A value as a widget has it: a primitive, an own cell by its number, or a cell that is not its own by its place.
 pub data OwnValue : Type 0 where
@@ -29,11 +30,11 @@ pub data OwnValue : Type 0 where
   Own : ℕ → OwnValue
   Other : ℕ → OwnValue
 
--- What a visible cell is: an Array has its length, a Function its tree, its function there and its scope, a Bunch its nodes.
+-- What a visible cell is: an Array has its length, a Function its tree, its function there, whether a declaration made it, and its scope, a Bunch its nodes.
 pub data OwnKind : Type 0 where
   Object : OwnKind
   Array : ℕ → OwnKind
-  Function : ℕ → FunId → Option ℕ → OwnKind
+  Function : ℕ → FunId → Bool → Option ℕ → OwnKind
   Bunch : List ℕ → OwnKind
 
 -- A visible cell of a widget: what it is, its prototype, and its pairs in order of insertion.
@@ -112,7 +113,7 @@ module _ (w : ℕ) (cells : List PlainCell) where
   -- what a visible cell is, by its form
   abbrev pub own_kind : PlainCell → Form → OwnKind
   own_kind c form.Array = Array (length_of c.pairs)
-  own_kind c (form.Function p) = Function p.code p.fun (option_map scope_number p.scope)
+  own_kind c (form.Function p) = Function p.code p.fun p.declared (option_map scope_number p.scope)
   own_kind c form.Bunch = Bunch (nodes_of cells c)
   own_kind c _ = Object
 
@@ -204,18 +205,26 @@ first_cell k up = record { kind = k; prototype = Some up; pairs = [] }
 abbrev pub first_scope : Option ℕ → List (List ℕ) → OwnScope
 first_scope outer names = record { outer = outer; pairs = map (λ name. (name, Is value.Undefined)) names }
 
+-- a new own cell with its first pairs
+abbrev pub filled_own : OwnKind → OwnValue → List (List ℕ × OwnValue) → OwnCell
+filled_own k up ps = record { kind = k; prototype = Some up; pairs = ps }
+
 module _ (w : ℕ) (cells : List PlainCell) where
   -- the own cell that `make` adds, if it adds one
   abbrev pub made_cells : NewCell → List OwnCell
   made_cells (fresh.Object proto) = first_cell Object (own_link w cells proto) ∷ []
   made_cells fresh.Array = first_cell (Array 0) (Other array_prototype) ∷ []
-  made_cells (fresh.Function code fun scope) = first_cell (Function code fun (option_map (scope_number w cells) scope)) (Other function_prototype) ∷ []
+  made_cells (fresh.Function code fun declared scope) = first_cell (Function code fun declared (option_map (scope_number w cells) scope)) (Other function_prototype) ∷ []
   made_cells (fresh.Scope outer names) = []
   made_cells (fresh.Bunch nodes) = first_cell (Bunch nodes.items) (Other bunch_prototype) ∷ []
+  made_cells (fresh.ObjectWith proto pairs) = filled_own Object (own_link w cells proto) (own_pairs w cells pairs.items) ∷ []
+  made_cells (fresh.ArrayWith values) = filled_own (Array (length values.items)) (Other array_prototype) (own_pairs w cells (elements 0 values.items)) ∷ []
+  made_cells (fresh.ScopeWith outer pairs) = []
 
   -- the own scope that `make` adds, if it adds one
   abbrev pub made_scopes : NewCell → List OwnScope
   made_scopes (fresh.Scope outer names) = first_scope (option_map (scope_number w cells) outer) names.items ∷ []
+  made_scopes (fresh.ScopeWith outer pairs) = record { outer = option_map (scope_number w cells) outer; pairs = own_pairs w cells pairs.items } ∷ []
   made_scopes _ = []
 
 -- what a widget has after `make`: what is made comes last, and its cost is paid
@@ -227,3 +236,21 @@ pub record Made (w : ℕ) (old new : Cells) (i : ℕ) (n : NewCell) : Type 0 whe
   pub seen : owned w new ≡ own_made w old n
   pub number : own_count w new.cells i ≡ length (owned w old).heap
   pub scope : scope_number w new.cells i ≡ length (owned w old).scopes
+
+-- what a widget sees of a `put` into one of its cells
+abbrev pub SeesPut : ℕ → Cells → Cells → ℕ → List ℕ → Value → Type 0
+SeesPut w old new i name v =
+    visible_at w old.cells i ≡ true → Changed w old new i (slots_at old.cells i name) (own_put name (own_value w old.cells v))
+
+-- what a widget sees of a `remove` from one of its cells
+abbrev pub SeesRemoved : ℕ → Cells → Cells → ℕ → List ℕ → Type 0
+SeesRemoved w old new i name = visible_at w old.cells i ≡ true → Changed w old new i 0 (own_removed name)
+
+-- what a widget sees of a `var_set` that ends at one of its scopes
+abbrev pub SeesSet : ℕ → Cells → Cells → ℕ → List ℕ → Value → Type 0
+SeesSet w old new from name v =
+    IfSome (holder old.cells from name) (λ h. is_own_scope_at w old.cells h ≡ true → Assigned w old new h (own_set name (own_value w old.cells v)))
+
+-- whether a look-up of a variable ends at a scope of the widget
+abbrev pub is_held_by : ℕ → List PlainCell → ℕ → List ℕ → Bool
+is_held_by w cells from name = option_map_or (is_of_at w cells) (holder cells from name) false

@@ -2,18 +2,9 @@
 //! host's cells.
 #![tactic(auto)]
 
-mod bunch;
-mod cell;
-mod host;
-mod index;
-mod kind;
-mod native;
 mod store;
-mod table;
-mod value;
 
-pub use index::index_of;
-pub use kind::{CellKind, Form, FunParts};
-pub use native::{HostEntry, NativeId};
-pub use store::{CELL_LIMIT, Counts, NewCell, SLOT_LIMIT, Store, StoreFault, UNIT_LIMIT};
-pub use value::{CellId, Number, Value};
+pub use permitted_table::{HostEntry, NativeId};
+pub use store::{NewCell, Store};
+pub use store_cells::counts::{CELL_LIMIT, Counts, NODE_LIMIT, SLOT_LIMIT, StoreFault, UNIT_LIMIT};
+pub use store_cells::{CellId, CellKind, Form, FunParts, Number, Value};

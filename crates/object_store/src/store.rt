@@ -1,45 +1,36 @@
 //! The store.
 ghost use Rattle.std.specs.Prelude.{◌≡◌, ℕ, ◌+◌, ◌<◌, ◌≤◌, [], ◌∷◌, ◌++◌, None, Some, true, false, is_some, nat_eq, length, vec_len, slice_get, option_copied, IfOk, IfErr, IfSome, OnErr, OnOk, MatchOption, MatchResult, replicate};
-ghost use Rattle.std.specs.Option.{option_map, option_map_or};
-ghost use Rattle.object_store.specs.Owned.{Assigned, Changed, Made, is_of_at, is_own_scope_at, own_paid, own_put, own_removed, own_set, own_value, owned, visible_at};
+ghost use Rattle.std.specs.Option.{option_and_then, option_map, option_map_or};
+ghost use Rattle.object_store.specs.Owned.{Made, SeesPut, SeesRemoved, SeesSet, is_held_by, is_of_at, own_paid, owned};
 ghost use Rattle.std.specs.List.{IsDistinct};
-ghost use Rattle.object_store.specs.Bunches.{IsBunch};
-ghost use Rattle.object_store.specs.Cells.{PlainCell, chain, first_own, value_along, is_scope_at, kind_of, function_in, native_in, node_in, proto_in, prototypes, holder, is_bunch, raw_cell};
-ghost use Rattle.object_store.specs.declared.store.StoreFault.TheVariants.{Memory as out_of_memory};
-ghost use Rattle.object_store.specs.Shape.{IsRefWithin, IsNewForm, IsLinked};
-ghost use Rattle.object_store.specs.Host.{first_store, global, nothing_paid, host_cells, is_permitted_cell, leads_on, place_of};
-ghost use Rattle.object_store.specs.Calls.{Refuses, put_refusal, put_done, remove_refusal, removed, remove_done, var_done, own_number_of, IsOwner, IsWidget, cells_by, number_in, paid_by, slots_at, keys_at, units_refusal, slots_refusal, unit_cost, raw_place, cost_refusal, made, new_cell, scope_cell, HaveCells, IsMakeable, bunch_cells, make_refusal, make_done};
+ghost use Rattle.std.specs.Str.{bytes_eq};
+ghost use Rattle.store_cells.specs.Arrays.{length_in, length_name};
+ghost use Rattle.store_cells.specs.Bunches.{IsBunch};
+ghost use Rattle.store_cells.specs.Cells.{PlainCell, chain, first_own, value_along, is_bunch_at, is_scope_at, is_visible, kind_of, function_in, native_in, node_in, proto_in, prototypes, holder, is_array, is_bunch, raw_cell, value_of};
+ghost use Rattle.store_cells.specs.Shape.{AreElements, HasPrototype, IsLinked, IsNewForm, IsRefWithin};
+ghost use Rattle.store_cells.specs.Host.{first_store, global, nothing_paid, host_cells, host_count, is_permitted_cell, leads_on, place_of};
+ghost use Rattle.store_cells.specs.Costs.{Refuses, cost_refusal, slots_refusal, units_refusal, whole_refusal};
+ghost use Rattle.object_store.specs.Calls.{Adds, AreFirstPairs, HasLength, HasNode, IsCharged, IsMade, IsMakeable, IsPrototype, IsPut, IsRemoved, cells_by, keys_at, make_refusal, paid_by, put_refusal, read_start, readable, remove_refusal, var_done};
+ghost use Rattle.object_store.specs.Grows.{Grows};
+ghost use Rattle.store_cells.specs.Cells.{own_number_of, IsOwner, IsWidget, number_in};
+ghost use Rattle.store_cells.specs.Born.{HaveCells, IsScopeOf, array_cell, bunch_cells, new_cell, object_cell, raw_place, scope_cell, unset};
 
-use crate::cell::Cell;
-use crate::kind::{CellKind, Form, FunParts};
-use crate::native::{HostEntry, NativeId};
-use crate::value::{CellId, Value};
-use crate::{bunch, host, table};
-use code_units::{Memory, Names, Owner, Text};
+use code_units::{Memory, Owner, Text};
 use indexmap::IndexMap;
 use js_tree::FunId;
-use std::alloc::{AllocError, Global};
+use keyed_names::{Keys, Names, NumberKeys};
+use permitted_table::{HostEntry, NativeId};
+use std::alloc::Global;
 use std::marker::Model;
-
-/// How many visible cells a widget may have over its life.
-pub const CELL_LIMIT: u32 = 524_288;
-
-/// How many slots a widget may have over its life.
-pub const SLOT_LIMIT: u32 = 1_048_576;
-
-/// How many text units a widget may have over its life.
-pub const UNIT_LIMIT: u32 = 2_097_152;
-
-/// What a widget has paid.
-#[derive(Clone, Copy, PartialEq, Eq, Debug, Drop)]
-pub struct Counts {
-    pub cells: u32,
-    pub slots: u32,
-    pub units: u32,
-}
+use store_cells::cell::{Cell, Maker};
+use store_cells::counts::{
+    CELL_LIMIT, Counts, NODE_LIMIT, NOTHING_PAID, SLOT_LIMIT, StoreFault, UNIT_LIMIT, first_counts,
+};
+use store_cells::{CellId, CellKind, Form, FunParts, Value, bunch, host, table};
 
 /// What is to be made: an Object on its prototype, an Array, a Function, a Scope with its names, or a
-/// Bunch of page nodes.
+/// Bunch of page nodes; or, paid in one, an Object or a Scope with its first pairs, or an Array with
+/// its elements.
 #[derive(Drop)]
 pub enum NewCell {
     Object(CellId),
@@ -47,6 +38,7 @@ pub enum NewCell {
     Function {
         code: u32,
         fun: FunId,
+        declared: bool,
         scope: Option<CellId>,
     },
     Scope {
@@ -54,44 +46,26 @@ pub enum NewCell {
         names: Vec<Text>,
     },
     Bunch(Vec<u32>),
+    ObjectWith {
+        proto: CellId,
+        pairs: Vec<(Text, Value)>,
+    },
+    ArrayWith(Vec<Value>),
+    ScopeWith {
+        outer: Option<CellId>,
+        pairs: Vec<(Text, Value)>,
+    },
 }
 
-/// Why a call was refused; `kept` is what the widget has paid so far.
-#[derive(Clone, Copy, PartialEq, Eq, Debug, Drop)]
-pub enum StoreFault {
-    /// The cost passes the limit of visible cells.
-    Cells { kept: u32 },
-    /// The cost passes the limit of slots.
-    Slots { kept: u32 },
-    /// The cost passes the limit of text units.
-    Units { kept: u32 },
-    /// No widget may write to the cell: it is a Bunch or the host's.
-    Closed,
-    /// The `length` of an Array was given something else than a whole number from 0 to 4294967295.
-    BadLength,
-    /// There was no memory.
-    Memory,
-}
-
-/// What a widget has paid at first.
-pub(crate) const NOTHING_PAID: Counts = Counts {
-    cells: 0,
-    slots: 0,
-    units: 0,
-};
-
-fn first_counts(alloc: Global) -> Result<Vec<Counts>, AllocError>
-    ensures { IfOk result (λ kept. kept.items ≡ replicate 32 nothing_paid) }
+// `undefined` under each name.
+fn unset(alloc: Global, names: &[Text]) -> Result<Vec<(Text, Value)>, Memory>
+    ensures { IfOk result (λ pairs. pairs.items ≡ unset names.now) }
 {
-    vec![in alloc; NOTHING_PAID; 32]
-}
-
-impl From<Memory> for StoreFault {
-    ghost from_gives = { λ _ e. e ≡ out_of_memory };
-
-    fn from(_: Memory) -> StoreFault {
-        StoreFault::Memory
+    let mut pairs = Vec::new(alloc);
+    for name in names {
+        pairs.push((name.share()?, Value::Undefined))?;
     }
+    Ok(pairs)
 }
 
 /// The store: the cells of all owners, and what each widget has paid.
@@ -99,14 +73,15 @@ impl From<Memory> for StoreFault {
 pub struct Store {
     names: Names,
     cells: Vec<Cell>,
-    raws: IndexMap<u32, u32>,
+    raws: IndexMap<u32, u32, NumberKeys>,
     kept: Vec<Counts>,
+    key: NumberKeys,
 }
 
 impl Model for Store {
-    ghost use Rattle.object_store.specs.Cells.{Cells};
-    ghost use Rattle.object_store.specs.Numbered.{cells_of};
-    ghost use Rattle.object_store.specs.Shape.{IsShape};
+    ghost use Rattle.store_cells.specs.Cells.{Cells};
+    ghost use Rattle.store_cells.specs.Numbered.{cells_of};
+    ghost use Rattle.store_cells.specs.Shape.{IsShape};
 
     ghost Value = { Cells };
 
@@ -116,18 +91,21 @@ impl Model for Store {
 }
 
 impl Store {
-    /// A store with the host's cells alone, which are made and never changed.
-    pub fn new(alloc: Global) -> Result<Store, Memory>
+    /// A store with the host's cells alone, which are made and never changed. Its tables hash by
+    /// these keys.
+    pub fn new(alloc: Global, keys: Keys) -> Result<Store, Memory>
         ensures { IfOk result (λ s. s ≡ first_store) }
     {
-        let table = host::host_table(alloc)?;
-        let raws = host::first_raws(alloc)?;
+        let key = keys.for_numbers();
+        let table = host::host_table(alloc, keys)?;
+        let raws = host::first_raws(Maker { alloc, key })?;
         let kept = first_counts(alloc)?;
         Ok(Store {
             names: table.0,
             cells: table.1,
             raws,
             kept,
+            key,
         })
     }
 
@@ -149,8 +127,9 @@ impl Store {
         ensures within { is_permitted_cell result ≡ true }
         ensures cell { slice_get self.now.cells result ≡ slice_get host_cells result }
 
-        // It is no scope, and its chain is short.
+        // It is no Scope and no Bunch, and its chain is short.
         ensures object { is_scope_at self.now.cells result ≡ false }
+        ensures unbunched { is_bunch_at self.now.cells result ≡ false }
         ensures chain { prototypes self.now.cells result ≤ 2 }
         ensures born { result < length self.now.cells }
     {
@@ -166,6 +145,21 @@ impl Store {
         let _cells = &self.cells;
     }
 
+    /// A law: the host's cells stand first, as they were made.
+    pub fn host_stays(&self)
+        ensures enough { host_count ≤ length self.now.cells }
+        ensures same { (i : ℕ) → i < host_count → slice_get self.now.cells i ≡ slice_get host_cells i }
+    {
+        let _cells = &self.cells;
+    }
+
+    /// A law: each Array has a length.
+    pub fn arrays_have_length(&self)
+        ensures { (i : ℕ) (c : PlainCell) → slice_get self.now.cells i ≡ Some c → is_array c.form ≡ true → HasLength c }
+    {
+        let _cells = &self.cells;
+    }
+
     /// A law: each reference of a cell exists, and its prototype or outer scope is older, so that no
     /// chain has a cycle.
     pub fn links_are_older(&self)
@@ -174,17 +168,27 @@ impl Store {
         let _cells = &self.cells;
     }
 
+    /// A law: each cell of a widget that is no Scope has a prototype, which is no Bunch.
+    pub fn cells_have_prototypes(&self)
+        ensures { (w i : ℕ) (c : PlainCell) → slice_get self.now.cells i ≡ Some c → is_visible w c ≡ true
+            → HasPrototype self.now.cells c }
+    {
+        let _cells = &self.cells;
+    }
+
     /// A law: each Bunch has its hidden Array alone, whose elements refer to the cells of distinct
     /// page nodes.
     pub fn bunches_have_nodes(&self)
-        ensures { (i : ℕ) (c : PlainCell) → slice_get self.now.cells i ≡ Some c → is_bunch c.form ≡ true → IsBunch self.now.cells c }
+        ensures { (i : ℕ) (c : PlainCell) → slice_get self.now.cells i ≡ Some c → is_bunch c.form ≡ true
+            → IsBunch self.now.cells c }
     {
         let _cells = &self.cells;
     }
 
     /// A law: each page node has at most one cell.
     pub fn nodes_have_one_cell(&self)
-        ensures { (i n : ℕ) (c : PlainCell) → slice_get self.now.cells i ≡ Some c → node_in c.form ≡ Some n → raw_place n self.now.cells ≡ Some i }
+        ensures { (i n : ℕ) (c : PlainCell) → slice_get self.now.cells i ≡ Some c → node_in c.form ≡ Some n
+            → raw_place n self.now.cells ≡ Some i }
     {
         let _cells = &self.cells;
     }
@@ -293,11 +297,12 @@ impl Store {
         table::cell(&self.cells, cell).keys_len(&self.names)
     }
 
-    /// The value of a Scope's own name at a place of its list of names, none exactly where it has
-    /// no name there.
+    /// The value of an own name of a cell at a place of its list of names, from 0, none exactly where
+    /// it has no name there. Of a Scope it is a variable.
     pub fn var_at(&self, scope: CellId, at: u32) -> Option<&Value>
         requires { scope < length self.now.cells }
-        ensures { IfSome (slice_get self.now.cells scope) (λ c. option_copied result ≡ option_map (λ p. p.1) (slice_get c.pairs at)) }
+        ensures { IfSome (slice_get self.now.cells scope) (λ c.
+            option_copied result ≡ option_map (λ p. p.1) (slice_get c.pairs at)) }
     {
         table::cell(&self.cells, scope).value_at(at)
     }
@@ -308,16 +313,32 @@ impl Store {
         requires { scope < length self.now.cells }
         ensures { option_copied result ≡ first_own name.now (chain self.now.cells scope) }
     {
-        self.get(scope, name)
+        self.get_along(scope, name)
     }
 
     /// The first own value under a name, from the cell on along its prototypes (ECMA-262 3rd
-    /// edition, 8.6.2.1). None exactly where no cell of the chain has the name.
+    /// edition, 8.6.2.1); of a Bunch, whose own pair is hidden, from its prototype on. None exactly
+    /// where no such cell has the name.
     pub fn get(&self, cell: CellId, name: &Text) -> Option<&Value>
         requires { cell < length self.now.cells }
-        ensures { option_copied result ≡ first_own name.now (chain self.now.cells cell) }
+        ensures { option_copied result ≡ first_own name.now (readable self.now.cells cell) }
     {
-        self.get_along(cell, name)
+        let from = self.read_start(cell)?;
+        self.get_along(from, name)
+    }
+
+    // The cell at which a read begins.
+    fn read_start(&self, cell: CellId) -> Option<CellId>
+        requires { cell < length self.now.cells }
+        ensures start { result ≡ read_start self.now.cells cell }
+        ensures within { IfSome result (λ i. i < length self.now.cells) }
+    {
+        let head = table::cell(&self.cells, cell).head();
+        if head.form.is_bunch() {
+            head.up
+        } else {
+            Some(cell)
+        }
     }
 
     /// Writes under a name: an own name keeps its place, a new one goes last. Under the `length` of
@@ -328,13 +349,14 @@ impl Store {
     pub fn put(&mut self, cell: CellId, name: &Text, value: Value) -> Result<(), StoreFault>
         requires at { cell < length self.old.cells }
         requires value { IsRefWithin (length self.old.cells) value }
-        ensures ok { OnOk result ((put_refusal self.old cell name.now value ≡ None) × (self.new ≡ put_done self.old cell name.now value)) }
+        ensures ok { OnOk result (IsPut self.old self.new cell name.now value) }
         ensures err { IfErr result (λ e. Refuses e (put_refusal self.old cell name.now value)) }
         ensures same { OnErr result (self.new ≡ self.old) }
 
         // Its widget sees the write, and another has what it had.
-        ensures own { OnOk result ((w : ℕ) → visible_at w self.old.cells cell ≡ true → Changed w self.old self.new cell (slots_at self.old.cells cell name.now) (own_put name.now (own_value w self.old.cells value))) }
+        ensures own { OnOk result ((w : ℕ) → SeesPut w self.old self.new cell name.now value) }
         ensures others { (w : ℕ) → is_of_at w self.old.cells cell ≡ false → owned w self.new ≡ owned w self.old }
+        ensures grows { (w : ℕ) → Grows w self.old.cells self.new.cells }
     {
         // These laws say that what other cells lead to stays.
         self.links_are_older();
@@ -346,7 +368,7 @@ impl Store {
     fn put_in(&mut self, cell: CellId, name: &Text, value: Value) -> Result<(), StoreFault>
         requires at { cell < length self.old.cells }
         requires value { IsRefWithin (length self.old.cells) value }
-        ensures ok { OnOk result ((put_refusal self.old cell name.now value ≡ None) × (self.new ≡ put_done self.old cell name.now value)) }
+        ensures ok { OnOk result (IsPut self.old self.new cell name.now value) }
         ensures err { IfErr result (λ e. Refuses e (put_refusal self.old cell name.now value)) }
         ensures same { OnErr result (self.new ≡ self.old) }
     {
@@ -373,17 +395,29 @@ impl Store {
         Ok(())
     }
 
+    /// Whether a widget can pay a whole cost: `Units`, else `Cells`, else `Slots` comes exactly where
+    /// its kept count plus the cost passes that limit. Nothing is paid.
+    pub fn afford(&self, owner: Owner, cost: Counts) -> Result<(), StoreFault>
+        requires { IsWidget owner }
+        ensures ok { OnOk result (whole_refusal self.now.kept (number_in owner) cost ≡ None) }
+        ensures err { IfErr result (λ e. whole_refusal self.now.kept (number_in owner) cost ≡ Some e) }
+    {
+        table::afford_all(&self.kept, table::widget(owner), cost)
+    }
+
     /// A widget pays text units. `Units` comes exactly where the kept count plus `n` passes the
     /// limit.
     pub fn charge_units(&mut self, owner: Owner, n: u32) -> Result<(), StoreFault>
         requires { IsWidget owner }
-        ensures ok { OnOk result ((units_refusal self.old.kept (number_in owner) n ≡ None) × (self.new ≡ unit_cost self.old (number_in owner) 0 n)) }
+        ensures ok { OnOk result (
+            IsCharged self.old self.new (number_in owner) 0 n (units_refusal self.old.kept (number_in owner) n)) }
         ensures err { IfErr result (λ e. units_refusal self.old.kept (number_in owner) n ≡ Some e) }
         ensures same { OnErr result (self.new ≡ self.old) }
 
         // The widget sees that, and another has what it had.
         ensures own { OnOk result (owned (number_in owner) self.new ≡ own_paid 0 0 n (owned (number_in owner) self.old)) }
         ensures others { (w : ℕ) → (number_in owner ≡ w → ⊥) → owned w self.new ≡ owned w self.old }
+        ensures grows { (w : ℕ) → Grows w self.old.cells self.new.cells }
     {
         table::charge_units(&mut self.kept, table::widget(owner), n)
     }
@@ -391,28 +425,29 @@ impl Store {
     /// A widget pays slots. `Slots` comes exactly where the kept count plus `n` passes the limit.
     pub fn charge_slots(&mut self, owner: Owner, n: u32) -> Result<(), StoreFault>
         requires { IsWidget owner }
-        ensures ok { OnOk result ((slots_refusal self.old.kept (number_in owner) n ≡ None) × (self.new ≡ unit_cost self.old (number_in owner) n 0)) }
+        ensures ok { OnOk result (
+            IsCharged self.old self.new (number_in owner) n 0 (slots_refusal self.old.kept (number_in owner) n)) }
         ensures err { IfErr result (λ e. slots_refusal self.old.kept (number_in owner) n ≡ Some e) }
         ensures same { OnErr result (self.new ≡ self.old) }
 
         // The widget sees that, and another has what it had.
         ensures own { OnOk result (owned (number_in owner) self.new ≡ own_paid 0 n 0 (owned (number_in owner) self.old)) }
         ensures others { (w : ℕ) → (number_in owner ≡ w → ⊥) → owned w self.new ≡ owned w self.old }
+        ensures grows { (w : ℕ) → Grows w self.old.cells self.new.cells }
     {
         table::charge_slots(&mut self.kept, table::widget(owner), n)
     }
 
     /// The cell of a page node, made where there is none.
     pub fn add_raw(&mut self, alloc: Global, node: u32) -> Result<CellId, Memory>
-        requires { node < 2097152 }
-        ensures ok { IfOk result (λ id. MatchOption (raw_place node self.old.cells)
-            ((id ≡ length self.old.cells) × (self.new ≡ record { cells = self.old.cells ++ raw_cell node ∷ []; kept = self.old.kept }))
-            (λ i. (id ≡ i) × (self.new ≡ self.old))) }
+        requires { node < NODE_LIMIT }
+        ensures ok { IfOk result (λ id. HasNode self.old self.new node id) }
         ensures err { OnErr result (self.new ≡ self.old) }
         ensures found { IfOk result (λ id. raw_place node self.new.cells ≡ Some id) }
 
         // Each widget has what it had.
         ensures others { (w : ℕ) → owned w self.new ≡ owned w self.old }
+        ensures grows { (w : ℕ) → Grows w self.old.cells self.new.cells }
     {
         // These laws say that what other cells lead to stays.
         self.links_are_older();
@@ -422,36 +457,39 @@ impl Store {
 
     // `add_raw`, without what widgets see of it.
     fn add_node(&mut self, alloc: Global, node: u32) -> Result<CellId, Memory>
-        requires { node < 2097152 }
-        ensures ok { IfOk result (λ id. MatchOption (raw_place node self.old.cells)
-            ((id ≡ length self.old.cells) × (self.new ≡ record { cells = self.old.cells ++ raw_cell node ∷ []; kept = self.old.kept }))
-            (λ i. (id ≡ i) × (self.new ≡ self.old))) }
+        requires { node < NODE_LIMIT }
+        ensures ok { IfOk result (λ id. HasNode self.old self.new node id) }
         ensures err { OnErr result (self.new ≡ self.old) }
     {
         if let Some(id) = table::node_cell(&self.raws, node) {
             return Ok(id);
         }
         self.raws.reserve(1)?;
-        let id = table::add(&self.names, &mut self.cells, Cell::of_node(alloc, node))?;
+        let maker = Maker {
+            alloc,
+            key: self.key,
+        };
+        let id = table::add(&self.names, &mut self.cells, Cell::of_node(maker, node))?;
         table::index_node(&mut self.raws, node, id);
         Ok(id)
     }
 
-    /// Makes a cell for a widget. An Object, an Array and a Function cost one cell, a Scope one slot
-    /// and one more for each name, and a Bunch one cell, one slot and one more for each node. A Bunch
-    /// has one property `___nodes___`, a hidden Array of the host, which comes right after it and
-    /// refers to the cells of its nodes in their order. `Cells` or `Slots` comes exactly where the widget's kept count
-    /// plus the cost passes the limit.
+    /// Makes a cell for a widget. An Object, an Array and a Function cost one cell, and one slot for
+    /// each first pair or element; a Scope one slot, and one more for each name; a Bunch one cell, one
+    /// slot, and one more for each node. A Bunch has one property `___nodes___`, a hidden Array of the
+    /// host, which comes right after it and refers to the cells of its nodes in their order. `Cells`
+    /// or `Slots` comes exactly where the widget's kept count plus the cost passes the limit.
     pub fn make(&mut self, alloc: Global, owner: Owner, cell: NewCell) -> Result<CellId, StoreFault>
         requires widget { IsWidget owner }
         requires fit { IsMakeable self.old.cells cell }
-        ensures ok { IfOk result (λ id. (make_refusal self.old (number_in owner) cell ≡ None) × (id ≡ length self.old.cells) × (self.new ≡ make_done self.old (number_in owner) cell)) }
+        ensures ok { IfOk result (λ id. IsMade self.old self.new (number_in owner) id cell) }
         ensures err { IfErr result (λ e. Refuses e (make_refusal self.old (number_in owner) cell)) }
         ensures same { OnErr result (self.new ≡ self.old) }
 
         // The widget sees what it made, and another has what it had.
         ensures own { IfOk result (λ id. Made (number_in owner) self.old self.new id cell) }
         ensures others { (w : ℕ) → (number_in owner ≡ w → ⊥) → owned w self.new ≡ owned w self.old }
+        ensures grows { (w : ℕ) → Grows w self.old.cells self.new.cells }
     {
         // These laws say that what other cells lead to stays.
         self.links_are_older();
@@ -467,7 +505,7 @@ impl Store {
     fn make_in(&mut self, alloc: Global, owner: Owner, cell: NewCell) -> Result<CellId, StoreFault>
         requires widget { IsWidget owner }
         requires fit { IsMakeable self.old.cells cell }
-        ensures ok { IfOk result (λ id. (make_refusal self.old (number_in owner) cell ≡ None) × (id ≡ length self.old.cells) × (self.new ≡ make_done self.old (number_in owner) cell)) }
+        ensures ok { IfOk result (λ id. IsMade self.old self.new (number_in owner) id cell) }
         ensures err { IfErr result (λ e. Refuses e (make_refusal self.old (number_in owner) cell)) }
         ensures same { OnErr result (self.new ≡ self.old) }
     {
@@ -480,13 +518,26 @@ impl Store {
                 let proto = self.host(HostEntry::ArrayPrototype);
                 self.make_on(alloc, w, Form::Array, proto)
             }
-            NewCell::Function { code, fun, scope } => {
+            NewCell::Function {
+                code,
+                fun,
+                declared,
+                scope,
+            } => {
                 let proto = self.host(HostEntry::FunctionPrototype);
-                let form = Form::Function(FunParts { code, fun, scope });
+                let form = Form::Function(FunParts {
+                    code,
+                    fun,
+                    declared,
+                    scope,
+                });
                 self.make_on(alloc, w, form, proto)
             }
-            NewCell::Scope { outer, names } => self.make_scope(alloc, w, outer, &names),
+            NewCell::Scope { outer, names } => self.make_unset(alloc, w, outer, &names),
             NewCell::Bunch(nodes) => self.make_bunch(alloc, w, &nodes),
+            NewCell::ObjectWith { proto, pairs } => self.make_object(alloc, w, proto, &pairs),
+            NewCell::ArrayWith(values) => self.make_array(alloc, w, &values),
+            NewCell::ScopeWith { outer, pairs } => self.make_scope(alloc, w, outer, &pairs),
         }
     }
 
@@ -501,38 +552,120 @@ impl Store {
         requires widget { w < 32 }
         requires up { up < length self.old.cells }
         requires object { is_scope_at self.old.cells up ≡ false }
+        requires unbunched { is_bunch_at self.old.cells up ≡ false }
         requires few { prototypes self.old.cells up < 100 }
         requires form { IsNewForm self.old.cells form }
-        ensures ok { IfOk result (λ id. (cost_refusal self.old.kept w 1 0 ≡ None) × (id ≡ length self.old.cells) × (self.new ≡ made self.old w (new_cell w form up ∷ []) 1 0)) }
+        ensures ok { IfOk result (λ id. Adds self.old self.new w id (new_cell w form up ∷ []) 1 0) }
         ensures err { IfErr result (λ e. Refuses e (cost_refusal self.old.kept w 1 0)) }
         ensures same { OnErr result (self.new ≡ self.old) }
     {
         table::afford(&self.kept, w, 1, 0)?;
         let number = table::counts_of(&self.kept, w).cells;
         let head = table::head_on(&self.cells, w, form, up, number);
-        let cell = Cell::first(alloc, head)?;
+        let maker = Maker {
+            alloc,
+            key: self.key,
+        };
+        let cell = Cell::first(maker, head)?;
         let id = table::add(&self.names, &mut self.cells, cell)?;
         table::pay(&mut self.kept, w, 1, 0);
         Ok(id)
     }
 
-    // Makes a scope.
+    // Makes a scope of unset variables.
+    fn make_unset(
+        &mut self,
+        alloc: Global,
+        w: u32,
+        outer: Option<CellId>,
+        names: &[Text],
+    ) -> Result<CellId, StoreFault>
+        requires widget { w < 32 }
+        requires outer { IsScopeOf self.old.cells outer }
+        requires distinct { IsDistinct bytes_eq names.now }
+        ensures ok { IfOk result (λ id.
+            Adds self.old self.new w id (scope_cell w outer (unset names.now) ∷ []) 0 (length names.now + 1)) }
+        ensures err { IfErr result (λ e. Refuses e (cost_refusal self.old.kept w 0 (length names.now + 1))) }
+        ensures same { OnErr result (self.new ≡ self.old) }
+    {
+        let pairs = unset(alloc, names)?;
+        self.make_scope(alloc, w, outer, &pairs)
+    }
+
+    // Makes a scope with its first pairs.
     fn make_scope(
         &mut self,
         alloc: Global,
         w: u32,
         outer: Option<CellId>,
-        list: &[Text],
+        pairs: &[(Text, Value)],
     ) -> Result<CellId, StoreFault>
         requires widget { w < 32 }
-        requires outer { IfSome outer (λ i. (i < length self.old.cells) × (is_scope_at self.old.cells i ≡ true)) }
-        ensures ok { IfOk result (λ id. (cost_refusal self.old.kept w 0 (length list.now + 1) ≡ None) × (id ≡ length self.old.cells) × (self.new ≡ made self.old w (scope_cell w outer list.now ∷ []) 0 (length list.now + 1))) }
-        ensures err { IfErr result (λ e. Refuses e (cost_refusal self.old.kept w 0 (length list.now + 1))) }
+        requires outer { IsScopeOf self.old.cells outer }
+        requires pairs { AreFirstPairs self.old.cells pairs.now }
+        ensures ok { IfOk result (λ id.
+            Adds self.old self.new w id (scope_cell w outer pairs.now ∷ []) 0 (length pairs.now + 1)) }
+        ensures err { IfErr result (λ e. Refuses e (cost_refusal self.old.kept w 0 (length pairs.now + 1))) }
         ensures same { OnErr result (self.new ≡ self.old) }
     {
-        let slots = table::afford_list(&self.kept, w, 0, list.len())?;
-        let id = table::add_scope(alloc, &mut self.names, &mut self.cells, w, outer, list)?;
+        let slots = table::afford_slots(&self.kept, w, 0, pairs.len() + 1)?;
+        let head = table::scope_head(w, outer);
+        let maker = Maker {
+            alloc,
+            key: self.key,
+        };
+        let id = table::add_filled(maker, &mut self.names, &mut self.cells, head, pairs)?;
         table::pay(&mut self.kept, w, 0, slots);
+        Ok(id)
+    }
+
+    // Makes an Object with its first pairs.
+    fn make_object(
+        &mut self,
+        alloc: Global,
+        w: u32,
+        up: CellId,
+        pairs: &[(Text, Value)],
+    ) -> Result<CellId, StoreFault>
+        requires widget { w < 32 }
+        requires up { IsPrototype self.old.cells up }
+        requires pairs { AreFirstPairs self.old.cells pairs.now }
+        ensures ok { IfOk result (λ id.
+            Adds self.old self.new w id (object_cell w up pairs.now ∷ []) 1 (length pairs.now)) }
+        ensures err { IfErr result (λ e. Refuses e (cost_refusal self.old.kept w 1 (length pairs.now))) }
+        ensures same { OnErr result (self.new ≡ self.old) }
+    {
+        let slots = table::afford_slots(&self.kept, w, 1, pairs.len())?;
+        let number = table::counts_of(&self.kept, w).cells;
+        let head = table::head_on(&self.cells, w, Form::Object, up, number);
+        let maker = Maker {
+            alloc,
+            key: self.key,
+        };
+        let id = table::add_filled(maker, &mut self.names, &mut self.cells, head, pairs)?;
+        table::pay(&mut self.kept, w, 1, slots);
+        Ok(id)
+    }
+
+    // Makes an Array of these elements.
+    fn make_array(&mut self, alloc: Global, w: u32, values: &[Value]) -> Result<CellId, StoreFault>
+        requires widget { w < 32 }
+        requires refs { AreElements (length self.old.cells) values.now }
+        ensures ok { IfOk result (λ id.
+            Adds self.old self.new w id (array_cell w values.now ∷ []) 1 (length values.now)) }
+        ensures err { IfErr result (λ e. Refuses e (cost_refusal self.old.kept w 1 (length values.now))) }
+        ensures same { OnErr result (self.new ≡ self.old) }
+    {
+        let slots = table::afford_slots(&self.kept, w, 1, values.len())?;
+        let number = table::counts_of(&self.kept, w).cells;
+        let up = host::ARRAY_PROTOTYPE;
+        let head = table::head_on(&self.cells, w, Form::Array, up, number);
+        let maker = Maker {
+            alloc,
+            key: self.key,
+        };
+        let id = bunch::add_array(maker, &mut self.names, &mut self.cells, head, values)?;
+        table::pay(&mut self.kept, w, 1, slots);
         Ok(id)
     }
 
@@ -541,14 +674,19 @@ impl Store {
         requires widget { w < 32 }
         requires distinct { IsDistinct nat_eq nodes.now }
         requires known { HaveCells self.old.cells nodes.now }
-        ensures ok { IfOk result (λ id. (cost_refusal self.old.kept w 1 (length nodes.now + 1) ≡ None) × (id ≡ length self.old.cells) × (self.new ≡ made self.old w (bunch_cells self.old.cells w nodes.now) 1 (length nodes.now + 1))) }
+        ensures ok { IfOk result (λ id.
+            Adds self.old self.new w id (bunch_cells self.old.cells w nodes.now) 1 (length nodes.now + 1)) }
         ensures err { IfErr result (λ e. Refuses e (cost_refusal self.old.kept w 1 (length nodes.now + 1))) }
         ensures same { OnErr result (self.new ≡ self.old) }
     {
-        let slots = table::afford_list(&self.kept, w, 1, nodes.len())?;
+        let slots = table::afford_slots(&self.kept, w, 1, nodes.len() + 1)?;
         let number = table::counts_of(&self.kept, w).cells;
-        let id = bunch::add_bunch(
+        let maker = Maker {
             alloc,
+            key: self.key,
+        };
+        let id = bunch::add_bunch(
+            maker,
             &mut self.names,
             &mut self.cells,
             &self.raws,
@@ -564,13 +702,14 @@ impl Store {
     /// exactly for the `length` of an Array.
     pub fn remove(&mut self, cell: CellId, name: &Text) -> Result<bool, StoreFault>
         requires { cell < length self.old.cells }
-        ensures ok { IfOk result (λ b. (remove_refusal self.old cell ≡ None) × (b ≡ removed self.old cell name.now) × (self.new ≡ remove_done self.old cell name.now)) }
+        ensures ok { IfOk result (λ answer. IsRemoved self.old self.new cell name.now answer) }
         ensures err { IfErr result (λ e. remove_refusal self.old cell ≡ Some e) }
         ensures same { OnErr result (self.new ≡ self.old) }
 
         // Its widget sees that, and another has what it had.
-        ensures own { OnOk result ((w : ℕ) → visible_at w self.old.cells cell ≡ true → Changed w self.old self.new cell 0 (own_removed name.now)) }
+        ensures own { OnOk result ((w : ℕ) → SeesRemoved w self.old self.new cell name.now) }
         ensures others { (w : ℕ) → is_of_at w self.old.cells cell ≡ false → owned w self.new ≡ owned w self.old }
+        ensures grows { (w : ℕ) → Grows w self.old.cells self.new.cells }
     {
         // These laws say that what other cells lead to stays.
         self.links_are_older();
@@ -581,7 +720,7 @@ impl Store {
     // `remove`, without what widgets see of it.
     fn remove_in(&mut self, cell: CellId, name: &Text) -> Result<bool, StoreFault>
         requires { cell < length self.old.cells }
-        ensures ok { IfOk result (λ b. (remove_refusal self.old cell ≡ None) × (b ≡ removed self.old cell name.now) × (self.new ≡ remove_done self.old cell name.now)) }
+        ensures ok { IfOk result (λ answer. IsRemoved self.old self.new cell name.now answer) }
         ensures err { IfErr result (λ e. remove_refusal self.old cell ≡ Some e) }
         ensures same { OnErr result (self.new ≡ self.old) }
     {
@@ -609,8 +748,9 @@ impl Store {
         ensures done { self.new ≡ var_done self.old scope name.now value }
 
         // Its widget sees the write, and another has what it had.
-        ensures own { (w : ℕ) → IfSome (holder self.old.cells scope name.now) (λ h. is_own_scope_at w self.old.cells h ≡ true → Assigned w self.old self.new h (own_set name.now (own_value w self.old.cells value))) }
-        ensures others { (w : ℕ) → option_map_or (is_of_at w self.old.cells) (holder self.old.cells scope name.now) false ≡ false → owned w self.new ≡ owned w self.old }
+        ensures own { (w : ℕ) → SeesSet w self.old self.new scope name.now value }
+        ensures others { (w : ℕ) → is_held_by w self.old.cells scope name.now ≡ false → owned w self.new ≡ owned w self.old }
+        ensures grows { (w : ℕ) → Grows w self.old.cells self.new.cells }
     {
         // These laws say that what other cells lead to stays.
         self.links_are_older();
@@ -632,7 +772,7 @@ impl Store {
         let Some(i) = table::holder(&self.cells, scope, n) else {
             return false;
         };
-        table::set_variable(&self.names, &mut self.cells, scope, i, name, n, value);
+        table::set_variable(&self.names, &mut self.cells, i, name, n, value);
         true
     }
 

@@ -1,6 +1,6 @@
 use Rattle.std.proofs.Common.{sym, ◌∙◌, ap, List, ℕ, eqb}
 use Rattle.indexmap.specs.IndexMap.{insert_entry}
-use Rattle.object_store.proofs.Makes.{node_old, node_new, node_shape}
+use Rattle.store_cells.proofs.Makes.{node_old, node_new, node_shape}
 use Rattle.object_store.proofs.store.Store.add_node.Goals as goal
 
 pub returns-in-Some-clause-ok : goal.returns-in-Some-clause-ok

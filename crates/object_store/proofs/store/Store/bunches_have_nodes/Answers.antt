@@ -1,6 +1,6 @@
 use Rattle.std.proofs.Common.{◌≡◌, ℕ, subst, slice_get, Some, true}
-use Rattle.object_store.specs.Bunches.{IsBunch}
-use Rattle.object_store.specs.Cells.{Cells, PlainCell, is_bunch}
+use Rattle.store_cells.specs.Bunches.{IsBunch}
+use Rattle.store_cells.specs.Cells.{Cells, PlainCell, is_bunch}
 use Rattle.object_store.proofs.store.Store.bunches_have_nodes.Goals as goal
 
 pub returns : goal.returns

@@ -1,7 +1,7 @@
 use Rattle.std.proofs.Common.{◌≤◌, ap, sym, ◌∙◌, subst}
-use Rattle.object_store.specs.declared.cell.Head.{Head}
-use Rattle.object_store.specs.Cells.{Cells, prototypes}
-use Rattle.object_store.proofs.Heads.{links_are, links_few}
+use Rattle.store_cells.specs.declared.cell.Head.{Head}
+use Rattle.store_cells.specs.Cells.{Cells, prototypes}
+use Rattle.store_cells.proofs.Heads.{links_are, links_few}
 use Rattle.object_store.proofs.store.Store.chain.Goals as goal
 
 pub returns-clause-count : goal.returns-clause-count

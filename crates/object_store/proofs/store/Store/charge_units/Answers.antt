@@ -1,7 +1,9 @@
 use Rattle.object_store.proofs.Others.{cost_seen}
 use Rattle.object_store.proofs.OwnMade.{cost_own_seen}
-use Rattle.object_store.specs.Calls.{number_in, units_refusal}
+use Rattle.store_cells.specs.Cells.{number_in}
+use Rattle.store_cells.specs.Costs.{units_refusal}
 use Rattle.object_store.proofs.Charges.{charged_shape, charged_ok, charged_err, charged_same}
+use Rattle.object_store.proofs.Growth.{cost_grows}
 use Rattle.object_store.proofs.store.Store.charge_units.Goals as goal
 
 pub invariant_of-self : goal.invariant_of-self
@@ -33,3 +35,8 @@ pub returns-clause-own : goal.returns-clause-own
 returns-clause-own c =
     let s = c.self in
     cost_own_seen c.args.self.now (number_in c.args.owner) 0 c.args.n c.charge_units.result (units_refusal c.args.self.now.kept (number_in c.args.owner) c.args.n) _ (charged_ok c.args.self.now s.inside.names s.inside.cells.items s.inside.kept.items s.view_is s.invariant c.charge_units.new.kept.items c.widget.result _ 0 c.args.n c.widget.ensures (λ ks w. units_refusal ks w c.args.n) c.charge_units.result c.charge_units.ensures.ok c.charge_units.ensures.done)
+
+pub returns-clause-grows : goal.returns-clause-grows
+returns-clause-grows c =
+    let s = c.self in
+    λ w. cost_grows c.args.self.now w c.charge_units.result (units_refusal c.args.self.now.kept (number_in c.args.owner) c.args.n) (number_in c.args.owner) 0 c.args.n _ (charged_ok c.args.self.now s.inside.names s.inside.cells.items s.inside.kept.items s.view_is s.invariant c.charge_units.new.kept.items c.widget.result _ 0 c.args.n c.widget.ensures (λ ks w. units_refusal ks w c.args.n) c.charge_units.result c.charge_units.ensures.ok c.charge_units.ensures.done) (charged_same c.args.self.now s.inside.names s.inside.cells.items s.inside.kept.items s.view_is s.invariant c.charge_units.new.kept.items c.widget.result _ 0 c.args.n c.widget.ensures (λ ks w. units_refusal ks w c.args.n) c.charge_units.result c.charge_units.ensures.same)

@@ -1,8 +1,9 @@
 use Rattle.std.proofs.Common.{sym, subst, ◌∙◌, ap, length}
 use Rattle.code_units.specs.declared.owner.Owner.{Owner}
 use Rattle.code_units.specs.declared.owner.Owner.TheVariants as whose
-use Rattle.object_store.specs.Calls.{IsOwner, cells_by}
-use Rattle.object_store.specs.Cells.{Cells}
+use Rattle.store_cells.specs.Cells.{IsOwner}
+use Rattle.object_store.specs.Calls.{cells_by}
+use Rattle.store_cells.specs.Cells.{Cells}
 use Rattle.object_store.proofs.Counted.{counts_exact, counts_within}
 use Rattle.object_store.proofs.store.Store.counts.Goals as goal
 

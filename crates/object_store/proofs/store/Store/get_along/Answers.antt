@@ -1,6 +1,6 @@
 use Rattle.std.proofs.Common.{ap, ◌∙◌}
 use Rattle.std.specs.Prelude.{option_copied}
-use Rattle.object_store.proofs.Look.{get_found, get_none}
+use Rattle.store_cells.proofs.Look.{get_found, get_none}
 use Rattle.object_store.proofs.store.Store.get_along.Goals as goal
 
 pub returns-in_err-n : goal.returns-in_err-n

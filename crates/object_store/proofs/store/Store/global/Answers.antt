@@ -1,9 +1,9 @@
 use Rattle.std.proofs.Common.{◌≡◌, sym, subst, arith, Option}
 use Rattle.std.specs.Prelude.{IfSome}
-use Rattle.object_store.specs.declared.kind.CellKind.TheVariants as kind
-use Rattle.object_store.specs.Cells.{Cells, PlainCell, kind_of}
-use Rattle.object_store.specs.Host.{AreHost}
-use Rattle.object_store.proofs.Hosts.{global_is, global_form}
+use Rattle.store_cells.specs.declared.kind.CellKind.TheVariants as kind
+use Rattle.store_cells.specs.Cells.{Cells, PlainCell, kind_of}
+use Rattle.store_cells.specs.Host.{AreHost}
+use Rattle.store_cells.proofs.Hosts.{global_is, global_form}
 use Rattle.object_store.proofs.store.Store.global.Goals as goal
 
 pub returns-clause-cell : goal.returns-clause-cell

@@ -1,8 +1,8 @@
 use Rattle.std.proofs.Common.{◌≡◌, ◌<◌, ◌≤◌, sym, ap, ◌∙◌, subst, arith, false}
-use Rattle.object_store.specs.Cells.{Cells, is_scope_at, prototypes}
-use Rattle.object_store.specs.Host.{AreHost, is_permitted_cell, host_count}
-use Rattle.object_store.proofs.Hosts.{place_within, place_permitted}
-use Rattle.object_store.proofs.Protos.{host_object, host_chain}
+use Rattle.store_cells.specs.Cells.{Cells, is_bunch_at, is_scope_at, prototypes}
+use Rattle.store_cells.specs.Host.{AreHost, is_permitted_cell, host_count}
+use Rattle.store_cells.proofs.Hosts.{place_within, place_permitted}
+use Rattle.store_cells.proofs.Protos.{host_chain, host_object, host_open}
 use Rattle.object_store.proofs.store.Store.host.Goals as goal
 
 pub returns-clause-place : goal.returns-clause-place
@@ -34,3 +34,9 @@ returns-clause-born c =
     let s = c.self in
     let h : AreHost c.args.self.now.cells = subst (λ (t : Cells). AreHost t.cells) s.view_is s.invariant.closed.host in
     omega (arith, h.enough, place_within c.args.entry, c.place_of.ensures)
+
+pub returns-clause-unbunched : goal.returns-clause-unbunched
+returns-clause-unbunched c =
+    let s = c.self in
+    let lt = subst (λ n. n < host_count) (sym c.place_of.ensures) (place_within c.args.entry) in
+    subst (λ (t : Cells). is_bunch_at t.cells c.place_of.result ≡ false) s.view_is (host_open s.inside.names s.inside.cells.items s.invariant.base.ordered s.invariant.closed.host c.place_of.result lt)

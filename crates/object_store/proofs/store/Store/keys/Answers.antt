@@ -1,10 +1,10 @@
 use Rattle.std.proofs.Common.{ap, sym, Option, []}
 use Rattle.std.specs.Option.{option_map_or}
-use Rattle.object_store.specs.Cells.{PlainCell}
-use Rattle.object_store.specs.Calls.{keys_of}
-use Rattle.object_store.proofs.Look.{known_cells, known_at}
+use Rattle.store_cells.specs.Cells.{PlainCell}
+use Rattle.store_cells.specs.Arrays.{keys_of}
+use Rattle.store_cells.proofs.Look.{known_cells, known_at}
 use Rattle.object_store.proofs.Puts.{seen}
-use Rattle.object_store.proofs.Listing.{keys_seen}
+use Rattle.store_cells.proofs.Listing.{keys_seen}
 use Rattle.object_store.proofs.store.Store.keys.Goals as goal
 
 pub keys-requires : goal.keys-requires

@@ -1,8 +1,8 @@
 use Rattle.std.proofs.Common.{ap, sym, ◌∙◌, length, Option, []}
 use Rattle.std.specs.Option.{option_map_or}
-use Rattle.object_store.specs.Cells.{PlainCell}
-use Rattle.object_store.specs.Calls.{keys_of}
-use Rattle.object_store.proofs.Look.{known_cells, known_at}
+use Rattle.store_cells.specs.Cells.{PlainCell}
+use Rattle.store_cells.specs.Arrays.{keys_of}
+use Rattle.store_cells.proofs.Look.{known_cells, known_at}
 use Rattle.object_store.proofs.Puts.{seen}
 use Rattle.object_store.proofs.store.Store.keys_len.Goals as goal
 

@@ -1,6 +1,6 @@
 use Rattle.std.proofs.Common.{◌≡◌, ℕ, subst, slice_get, Some}
-use Rattle.object_store.specs.Cells.{Cells, PlainCell}
-use Rattle.object_store.specs.Shape.{IsLinked}
+use Rattle.store_cells.specs.Cells.{Cells, PlainCell}
+use Rattle.store_cells.specs.Shape.{IsLinked}
 use Rattle.object_store.proofs.Links.{linked}
 use Rattle.object_store.proofs.store.Store.links_are_older.Goals as goal
 

@@ -1,27 +1,41 @@
-use Rattle.std.proofs.Common.{sym, ◌∙◌, ap, List, refl, length, ◌+◌}
-use Rattle.object_store.specs.declared.store.Counts.{Counts}
-use Rattle.object_store.specs.Lists.{changed}
-use Rattle.object_store.specs.Shape.{scope_head}
-use Rattle.object_store.specs.Calls.{cost_refusal, paid, scope_cell}
-use Rattle.object_store.proofs.Adds.{shape_added}
-use Rattle.object_store.proofs.Makes.{scopes_in_store, length_in_store, kept_in_store, made_is, added_closed, own_scope}
-use Rattle.object_store.proofs.Scopes.{scope_open}
+use Rattle.std.proofs.Common.{ℕ, List, ap, length, refl, subst, sym, ◌+◌, ◌≡◌, ◌∙◌}
+use Rattle.store_cells.specs.declared.cell.Head.{Head}
+use Rattle.store_cells.specs.declared.counts.Counts.{Counts}
+use Rattle.store_cells.specs.Cells.{is_array}
+use Rattle.store_cells.specs.Lists.{changed}
+use Rattle.store_cells.specs.Numbered.{heads}
+use Rattle.store_cells.specs.Shape.{Grew, IsOrdered, scope_head}
+use Rattle.store_cells.specs.Costs.{paid}
+use Rattle.store_cells.specs.Born.{filled_cell}
+use Rattle.store_cells.proofs.Filled.{scope_ordered}
+use Rattle.store_cells.proofs.Makes.{own_scope, scopes_in_store}
+use Rattle.std.proofs.lemmas.List.{length-map}
+use Rattle.object_store.proofs.Fills.{grew_adds, grew_shape, refs_in_store}
 use Rattle.object_store.proofs.store.Store.make_scope.Goals as goal
 
-pub add_scope-requires-clause-outer : goal.add_scope-requires-clause-outer
-add_scope-requires-clause-outer c = let s = c.self in scopes_in_store c.args.self.now s.inside.names s.inside.cells.items s.inside.kept.items s.view_is s.invariant c.args.outer c.requires.outer
+pub add_filled-requires-clause-ordered : goal.add_filled-requires-clause-ordered
+add_filled-requires-clause-ordered c =
+    let s = c.self in
+    let cs = s.inside.cells.items in
+    subst (λ (h : Head). IsOrdered (heads cs) (length cs) h) (sym c.scope_head-head.ensures) (scope_ordered (heads cs) (length cs) c.args.w c.args.outer (sym (length-map cs (λ d. d.head))) (scopes_in_store c.args.self.now s.inside.names s.inside.cells.items s.inside.kept.items s.view_is s.invariant c.args.outer c.requires.outer))
+
+pub add_filled-requires-clause-other : goal.add_filled-requires-clause-other
+add_filled-requires-clause-other c = ap (λ (h : Head). is_array h.form) c.scope_head-head.ensures
+
+pub add_filled-requires-clause-refs : goal.add_filled-requires-clause-refs
+add_filled-requires-clause-refs c = let s = c.self in refs_in_store c.args.self.now s.inside.names s.inside.cells.items s.inside.kept.items s.view_is s.invariant c.args.pairs.now c.requires.pairs.refs
+
+pub add_filled-requires-clause-distinct : goal.add_filled-requires-clause-distinct
+add_filled-requires-clause-distinct c = c.requires.pairs.distinct
 
 pub returns-clause-ok : goal.returns-clause-ok
 returns-clause-ok c =
     let s = c.self in
-    let grew = c.in_ok-id.ensures.ok in (
-      ap (λ (ks : List Counts). cost_refusal ks c.args.w 0 (length c.args.list.now + 1)) (kept_in_store c.args.self.now s.inside.names s.inside.cells.items s.inside.kept.items s.view_is s.invariant) ∙ c.in_ok-slots.ensures.ok,
-      grew.0 ∙ sym (length_in_store c.args.self.now s.inside.names s.inside.cells.items s.inside.kept.items s.view_is s.invariant),
-      made_is c.args.self.now s.inside.names s.inside.cells.items s.inside.kept.items s.view_is s.invariant c.add_scope.new.names c.add_scope.new.cells.items c.pay.new.kept.items c.args.w 0 (length c.args.list.now + 1) (scope_cell c.args.w c.args.outer c.args.list.now) grew.1.done (c.pay.ensures.done ∙ ap (λ n. changed s.inside.kept.items c.args.w (paid 0 n 0)) c.in_ok-slots.ensures.count),
-    )
+    let grew = subst (λ (h : Head). Grew s.inside.names s.inside.cells.items c.add_filled.new.names c.add_filled.new.cells.items (filled_cell h c.args.pairs.now) h) c.scope_head-head.ensures c.in_ok-id.ensures.ok.1 in
+    grew_adds c.args.self.now s.inside.names s.inside.cells.items s.inside.kept.items s.view_is s.invariant c.add_filled.new.names c.add_filled.new.cells.items c.pay.new.kept.items c.args.w 0 (length c.args.pairs.now + 1) _ _ grew (c.pay.ensures.done ∙ ap (λ n. changed s.inside.kept.items c.args.w (paid 0 n 0)) c.in_ok-slots.ensures.count) c.in_ok-id.id c.in_ok-id.ensures.ok.0 c.in_ok-slots.ensures.ok
 
 pub invariant_of-self-2 : goal.invariant_of-self-2
 invariant_of-self-2 c =
     let s = c.self in
-    let grew = c.in_ok-id.ensures.ok.1 in
-    shape_added s.inside.names c.add_scope.new.names s.inside.cells.items c.add_scope.new.cells.items s.inside.raws.entries s.inside.kept.items c.pay.new.kept.items (scope_head c.args.w c.args.outer) c.args.w 0 _ s.invariant c.requires.widget grew.base (added_closed c.args.self.now s.inside.names s.inside.cells.items s.inside.kept.items s.view_is s.invariant c.add_scope.new.cells.items c.add_scope.new.names (scope_cell c.args.w c.args.outer c.args.list.now) (scope_open _ c.args.list.now) grew.done) grew.heads refl (own_scope c.args.w) c.pay.ensures.within c.pay.ensures.done
+    let grew = subst (λ (h : Head). Grew s.inside.names s.inside.cells.items c.add_filled.new.names c.add_filled.new.cells.items (filled_cell h c.args.pairs.now) h) c.scope_head-head.ensures c.in_ok-id.ensures.ok.1 in
+    grew_shape c.args.self.now s.inside.names s.inside.cells.items s.inside.kept.items s.view_is s.invariant c.add_filled.new.names c.add_filled.new.cells.items c.pay.new.kept.items c.args.w 0 c.in_ok-slots.slots _ _ grew c.pay.ensures.done c.requires.widget refl refl (own_scope c.args.w) c.pay.ensures.within

@@ -1,6 +1,6 @@
 use Rattle.std.proofs.Common.{◌≡◌, ℕ, subst, slice_get, Some}
-use Rattle.object_store.specs.Calls.{raw_place}
-use Rattle.object_store.specs.Cells.{Cells, PlainCell, node_in}
+use Rattle.store_cells.specs.Born.{raw_place}
+use Rattle.store_cells.specs.Cells.{Cells, PlainCell, node_in}
 use Rattle.object_store.proofs.Links.{one_cell}
 use Rattle.object_store.proofs.store.Store.nodes_have_one_cell.Goals as goal
 

@@ -1,9 +1,9 @@
 use Rattle.std.proofs.Common.{◌≡◌, ap, sym, ◌∙◌, subst, Option}
 use Rattle.std.specs.Prelude.{IfSome}
-use Rattle.object_store.specs.Cells.{Cells, PlainCell}
-use Rattle.object_store.specs.Numbered.{plain}
-use Rattle.object_store.specs.Calls.{own_number_of}
-use Rattle.object_store.proofs.Heads.{number_is}
+use Rattle.store_cells.specs.Cells.{Cells, PlainCell}
+use Rattle.store_cells.specs.Numbered.{plain}
+use Rattle.store_cells.specs.Cells.{own_number_of}
+use Rattle.store_cells.proofs.Heads.{number_is}
 use Rattle.object_store.proofs.Puts.{seen}
 use Rattle.object_store.proofs.store.Store.own_number.Goals as goal
 

@@ -1,7 +1,7 @@
 use Rattle.std.proofs.Common.{subst}
-use Rattle.object_store.specs.Cells.{Cells}
-use Rattle.object_store.specs.Host.{AreHost}
-use Rattle.object_store.proofs.Protos.{permitted_leads}
+use Rattle.store_cells.specs.Cells.{Cells}
+use Rattle.store_cells.specs.Host.{AreHost}
+use Rattle.store_cells.proofs.Protos.{permitted_leads}
 use Rattle.object_store.proofs.store.Store.permitted_leads_on.Goals as goal
 
 pub returns : goal.returns

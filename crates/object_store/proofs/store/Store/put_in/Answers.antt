@@ -24,4 +24,7 @@ returns-clause-ok c =
     let s = c.self in
     let cost = put_cost c.args.self.now s.inside.names s.inside.cells.items s.inside.kept.items s.view_is s.invariant c.args.cell c.cell-held.result.now c.cell-held.ensures c.args.name.now c.args.value c.in-Some.w (sym c.writer.ensures ∙ c.in-Some.is) c.in-Some-plan.plan (sym c.plan.ensures ∙ c.in-Some-plan.is) c.number-number.result c.number-number.ensures.found c.slots_for-slots.result c.slots_for-slots.ensures in
     let done = put_is c.args.self.now s.inside.names s.inside.cells.items s.inside.kept.items s.view_is s.invariant c.args.cell c.cell-held.result.now c.cell-held.ensures c.args.name.now c.args.value c.in-Some.w (sym c.writer.ensures ∙ c.in-Some.is) c.in-Some-plan.plan (sym c.plan.ensures ∙ c.in-Some-plan.is) c.number-number.result c.number-number.ensures.found c.slots_for-slots.result c.slots_for-slots.ensures c.write.new.names c.write.new.cells.items c.pay.new.kept.items c.in_ok-write.ensures.ok c.pay.ensures.done in
-    (cost ∙ c.in_ok-afford.ensures.ok, done)
+    record {
+      allowed = cost ∙ c.in_ok-afford.ensures.ok;
+      done = done;
+    }

@@ -1,6 +1,6 @@
 use Rattle.std.proofs.Common.{sym, ◌∙◌}
 use Rattle.object_store.proofs.Puts.{closed_after}
-use Rattle.object_store.proofs.Takes.{shape_same, remove_length, remove_unknown, remove_known}
+use Rattle.object_store.proofs.Removes.{shape_same, remove_length, remove_unknown, remove_known}
 use Rattle.object_store.proofs.store.Store.remove_in.Goals as goal
 
 pub returns-then-is_length-clause-ok : goal.returns-then-is_length-clause-ok

@@ -1,5 +1,5 @@
 use Rattle.std.proofs.Common.{sym, ap, ◌∙◌, is_some}
-use Rattle.object_store.proofs.Takes.{shape_same, var_found_none, var_done_none, unknown, unheld, held_is, from_scope, var_written, closed_variable}
+use Rattle.object_store.proofs.Removes.{shape_same, var_found_none, var_done_none, unknown, unheld, held_is, from_scope, var_written, closed_variable}
 use Rattle.object_store.proofs.store.Store.set_in.Goals as goal
 
 pub returns-in_default-clause-found : goal.returns-in_default-clause-found
@@ -18,8 +18,14 @@ returns-in_default-holder-clause-done c =
     let s = c.self in
     var_done_none c.args.self.now s.inside.names s.inside.cells.items s.inside.kept.items s.view_is s.invariant c.args.name.now c.args.scope c.args.value (unheld c.args.self.now s.inside.names s.inside.cells.items s.inside.kept.items s.view_is s.invariant c.args.name.now c.args.scope c.in-Some.n c.in-Some.ensures.found.0 (sym c.holder.ensures.first ∙ c.in_default-holder.is))
 
-pub set_variable-requires-clause-scope : goal.set_variable-requires-clause-scope
-set_variable-requires-clause-scope c = let s = c.self in from_scope c.args.self.now s.inside.names s.inside.cells.items s.inside.kept.items s.view_is s.invariant c.args.name.now c.args.scope c.requires.scope
+pub set_variable-requires-clause-variable : goal.set_variable-requires-clause-variable
+set_variable-requires-clause-variable c =
+    let s = c.self in
+    record {
+      from = c.args.scope;
+      scope = from_scope c.args.self.now s.inside.names s.inside.cells.items s.inside.kept.items s.view_is s.invariant c.args.name.now c.args.scope c.requires.scope;
+      found = sym c.holder.ensures.first ∙ c.in-Some-holder.is;
+    }
 
 pub invariant_of-self : goal.invariant_of-self
 invariant_of-self c =

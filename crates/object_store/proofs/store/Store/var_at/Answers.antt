@@ -1,9 +1,9 @@
 use Rattle.std.proofs.Common.{◌≡◌, ℕ, List, sym, ◌∙◌, subst, Option, slice_get}
 use Rattle.std.specs.Prelude.{IfSome, option_copied}
 use Rattle.std.specs.Option.{option_map}
-use Rattle.object_store.specs.declared.value.Value.{Value}
-use Rattle.object_store.specs.Cells.{PlainCell}
-use Rattle.object_store.proofs.Heads.{value_place}
+use Rattle.store_cells.specs.declared.value.Value.{Value}
+use Rattle.store_cells.specs.Cells.{PlainCell}
+use Rattle.store_cells.proofs.Heads.{value_place}
 use Rattle.object_store.proofs.Puts.{seen}
 use Rattle.object_store.proofs.store.Store.var_at.Goals as goal
 

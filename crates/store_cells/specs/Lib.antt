@@ -1,0 +1,10 @@
+pub mod Lists
+pub mod Cells
+pub mod Arrays
+pub mod Numbered
+pub mod Shape
+pub mod Costs
+pub mod Born
+pub mod Host
+pub mod Bunches
+pub mod Bare
