@@ -5,7 +5,7 @@ ghost use Rattle.host_io.specs.Files.{FileMap, IsStart, Rose, IsThere};
 use std::alloc::Global;
 
 /// Why a read gave nothing.
-#[derive(Clone, Copy, Debug, PartialEq, Eq)]
+#[derive(Clone, Copy, PartialEq, Eq)]
 pub enum ReadFail {
     /// The file is missing, or reading it failed.
     Failed,
@@ -36,7 +36,7 @@ pub trait Files {
         // Calm files give each file that is there, and stay calm.
         ensures calm { calm self.old → IsThere (told self.old) name.now → calm self.new }
         ensures calm_count { calm self.old → IsThere (told self.old) name.now → faults self.new ≡ faults self.old }
-        ensures calm_reads { calm self.old → IsThere (told self.old) name.now → IsErrOf result ReadFail.Failed → ⊥ };
+        ensures calm_reads { calm self.old → IsThere (told self.old) name.now → ¬ IsErrOf result ReadFail.Failed };
 
     /// Calm files are told.
     ghost calm_tells: { (files : Self) → calm files → IsSome (told files) };

@@ -4,7 +4,7 @@ ghost use Rattle.host_io.specs.Files.{Rose};
 ghost use Rattle.host_io.specs.Sink.{with_bytes};
 
 /// Why a write appended nothing.
-#[derive(Clone, Copy, Debug, PartialEq, Eq)]
+#[derive(Clone, Copy, PartialEq, Eq)]
 pub enum WriteFail {
     /// Writing failed.
     Failed,
