@@ -30,12 +30,7 @@ fn is_blank_unit(unit: u16) -> bool
 fn is_blank(text: &Text) -> bool
     ensures { result ≡ is_blank text.now }
 {
-    'units: for unit in text.units() {
-        if !is_blank_unit(*unit) {
-            return false;
-        }
-    }
-    true
+    text.units().iter().all(|unit| is_blank_unit(*unit))
 }
 
 /// The first attribute with a name.
@@ -54,10 +49,7 @@ pub fn first_named<'a>(attrs: &'a [Attr], word: &[u8]) -> Option<&'a Attr>
 pub fn has_named(attrs: &[Attr], word: &[u8]) -> bool
     ensures { result ≡ is_some (first_named word.now attrs.now) }
 {
-    match first_named(attrs, word) {
-        Some(_) => true,
-        None => false,
-    }
+    first_named(attrs, word).is_some()
 }
 
 // Whether an element is a script without a `src`.

@@ -6,8 +6,8 @@ ghost use Rattle.widget_form.specs.Rows.{Twice};
 
 use code_units::{Memory, Text};
 use first_breach::{Breach, offer};
-use indexmap::IndexSet;
 use std::alloc::Global;
+use std::collections::BTreeSet;
 
 /// What an attribute says by its name or by its value, and where.
 #[derive(Drop)]
@@ -25,7 +25,7 @@ pub fn repeated(
 ) -> Result<Option<Breach>, Memory>
     ensures { IfOk result (Narrows (Twice rule sayings.now) best Nothing) }
 {
-    let mut seen = IndexSet::new(alloc);
+    let mut seen = BTreeSet::new(alloc);
     let mut least = best;
     'each: for saying in sayings {
         let is_new = seen.insert(saying.text.share()?)?;

@@ -17,8 +17,7 @@ use crate::words::{
 };
 use code_units::{Memory, Text, is_word};
 use first_breach::{Breach, offer};
-use markup_reader::{plain_words, tag_listed};
-use plain_tree::{Attr, Plain};
+use plain_tree::{Attr, Plain, plain_words, tag_listed};
 use std::alloc::Global;
 use style_text::{StyleFault, read_style};
 
@@ -145,12 +144,7 @@ pub fn all_markup_rows(
 fn is_among(texts: &[Text], text: &Text) -> bool
     ensures { result ≡ list_any (bytes_eq text.now) texts.now }
 {
-    'texts: for other in texts {
-        if text == other {
-            return true;
-        }
-    }
-    false
+    texts.iter().any(|other| text == other)
 }
 
 // Whether an attribute with this name has another value than an `id` of the slot.

@@ -81,12 +81,7 @@ fn is_in_id(unit: u16) -> bool
 fn are_in_id(units: &[u16]) -> bool
     ensures { result ≡ list_all is_in_id units.now }
 {
-    'units: for unit in units {
-        if !is_in_id(*unit) {
-            return false;
-        }
-    }
-    true
+    units.iter().all(|unit| is_in_id(*unit))
 }
 
 /// Whether the text is the slot's name and then one or more ASCII letters, digits, `_` or `-`.
