@@ -3,7 +3,6 @@ pub mod Fed
 pub mod Forms
 pub mod Fractions
 pub mod Indexed
-pub mod Interning
 pub mod LossyChars
 pub mod Numerals
 pub mod PlacesMore

@@ -1,6 +1,5 @@
 pub mod Feeding
 pub mod Indices
-pub mod Interned
 pub mod Pairs
 pub mod Permitted
 pub mod Places

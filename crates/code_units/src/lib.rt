@@ -1,4 +1,4 @@
-//! Texts of 16-bit units, whole numbers and indices in texts, places, and interned names.
+//! Texts of 16-bit units, whole numbers and indices in texts, and places.
 #![tactic(auto)]
 
 mod digit;
@@ -6,7 +6,6 @@ mod feeding;
 mod grown;
 mod index;
 mod memory;
-mod names;
 mod owner;
 mod permission;
 mod place;
@@ -19,7 +18,6 @@ pub use digit::hex_digit;
 pub use grown::{push_ascii, push_char};
 pub use index::{MAX_LENGTH, index_of};
 pub use memory::Memory;
-pub use names::Names;
 pub use owner::{Owner, WIDGETS};
 pub use permission::{has_edge_underscore, is_banned, permitted};
 pub use place::{Place, place_in, place_of};

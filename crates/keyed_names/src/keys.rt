@@ -1,7 +1,8 @@
 //! Keys of tables, from everything that was read.
-ghost use Rattle.std.specs.Prelude.{◌≡◌, map};
+ghost use Rattle.std.specs.Prelude.{◌≡◌, ℕ, List, map};
+ghost use Rattle.std.specs.List.{AllByRecursion};
 ghost use Rattle.std.specs.Hash as fed;
-ghost use Rattle.keyed_names.specs.Keying.{digest_of, AreKeysOf};
+ghost use Rattle.keyed_names.specs.Keying.{digest_of, message, AreKeysOf, IsShort};
 
 use sha2::{Digest, Sha256};
 use std::hash::{BuildHasher, DefaultHasher, Hasher};
@@ -34,6 +35,12 @@ impl Keys {
         Keys { fed }
     }
 }
+
+/// No two lists of files are one message to the digest.
+pub fn one_message()
+    ensures { (xs ys : List (List ℕ)) → AllByRecursion IsShort xs → AllByRecursion IsShort ys →
+        message xs ≡ message ys → xs ≡ ys }
+{}
 
 // The digest of the files, each with its length before it.
 fn digest_files(files: &[&[u8]]) -> [u8; 32]

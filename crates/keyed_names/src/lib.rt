@@ -5,6 +5,6 @@ mod keys;
 mod names;
 mod numbers;
 
-pub use keys::Keys;
+pub use keys::{Keys, one_message};
 pub use names::Names;
 pub use numbers::{NumberHasher, NumberKeys};
