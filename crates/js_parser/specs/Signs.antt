@@ -18,30 +18,29 @@ look_up (row ∷ rows) text = if bytes_eq text row.0 then row.1 else look_up row
 -- the reserved words that the grammar uses
 unfoldable pub words : List (List ℕ × Sign)
 words =
-    (codes "break", sign.Break) ∷ (codes "case", sign.Case) ∷ (codes "catch", sign.Catch) ∷ (codes "continue", sign.Continue)
-    ∷ (codes "default", sign.Default) ∷ (codes "delete", sign.Delete) ∷ (codes "do", sign.Do) ∷ (codes "else", sign.Else)
-    ∷ (codes "finally", sign.Finally) ∷ (codes "for", sign.For) ∷ (codes "function", sign.Function) ∷ (codes "if", sign.If)
-    ∷ (codes "in", sign.In) ∷ (codes "instanceof", sign.InstanceOf) ∷ (codes "new", sign.New) ∷ (codes "return", sign.Return)
-    ∷ (codes "switch", sign.Switch) ∷ (codes "this", sign.This) ∷ (codes "throw", sign.Throw) ∷ (codes "try", sign.Try)
-    ∷ (codes "typeof", sign.TypeOf) ∷ (codes "var", sign.Var) ∷ (codes "void", sign.Void) ∷ (codes "while", sign.While)
-    ∷ (codes "with", sign.With) ∷ (codes "null", sign.Null) ∷ (codes "true", sign.True) ∷ (codes "false", sign.False) ∷ []
+    (codes "var", sign.Var) ∷ (codes "function", sign.Function) ∷ (codes "return", sign.Return) ∷ (codes "if", sign.If)
+    ∷ (codes "this", sign.This) ∷ (codes "else", sign.Else) ∷ (codes "for", sign.For) ∷ (codes "new", sign.New)
+    ∷ (codes "true", sign.True) ∷ (codes "false", sign.False) ∷ (codes "null", sign.Null) ∷ (codes "typeof", sign.TypeOf)
+    ∷ (codes "case", sign.Case) ∷ (codes "break", sign.Break) ∷ (codes "while", sign.While) ∷ (codes "in", sign.In)
+    ∷ (codes "throw", sign.Throw) ∷ (codes "try", sign.Try) ∷ (codes "catch", sign.Catch) ∷ (codes "switch", sign.Switch)
+    ∷ (codes "default", sign.Default) ∷ (codes "delete", sign.Delete) ∷ (codes "continue", sign.Continue) ∷ (codes "do", sign.Do)
+    ∷ (codes "finally", sign.Finally) ∷ (codes "instanceof", sign.InstanceOf) ∷ (codes "void", sign.Void) ∷ (codes "with", sign.With) ∷ []
 
 -- the marks
 unfoldable pub marks : List (List ℕ × Sign)
 marks =
-    (codes "(", sign.Open) ∷ (codes ")", sign.Close) ∷ (codes "{", sign.OpenBrace) ∷ (codes "}", sign.CloseBrace)
-    ∷ (codes "[", sign.OpenSquare) ∷ (codes "]", sign.CloseSquare) ∷ (codes ".", sign.Point) ∷ (codes ";", sign.Semicolon)
-    ∷ (codes ",", sign.Comma) ∷ (codes "<", sign.Less) ∷ (codes ">", sign.Greater) ∷ (codes "<=", sign.LessEqual)
-    ∷ (codes ">=", sign.GreaterEqual) ∷ (codes "==", sign.Equal) ∷ (codes "!=", sign.NotEqual) ∷ (codes "===", sign.Same)
-    ∷ (codes "!==", sign.NotSame) ∷ (codes "+", sign.Plus) ∷ (codes "-", sign.Minus) ∷ (codes "*", sign.Star)
-    ∷ (codes "/", sign.Slash) ∷ (codes "%", sign.Percent) ∷ (codes "++", sign.PlusPlus) ∷ (codes "--", sign.MinusMinus)
-    ∷ (codes "<<", sign.ShiftLeft) ∷ (codes ">>", sign.ShiftRight) ∷ (codes ">>>", sign.ShiftRightZero) ∷ (codes "&", sign.BitAnd)
-    ∷ (codes "|", sign.BitOr) ∷ (codes "^", sign.BitXor) ∷ (codes "!", sign.Not) ∷ (codes "~", sign.BitNot)
-    ∷ (codes "&&", sign.AndAnd) ∷ (codes "||", sign.OrOr) ∷ (codes "?", sign.Question) ∷ (codes ":", sign.Colon)
-    ∷ (codes "=", sign.Assign) ∷ (codes "+=", sign.PlusAssign) ∷ (codes "-=", sign.MinusAssign) ∷ (codes "*=", sign.StarAssign)
-    ∷ (codes "/=", sign.SlashAssign) ∷ (codes "%=", sign.PercentAssign) ∷ (codes "<<=", sign.ShiftLeftAssign)
-    ∷ (codes ">>=", sign.ShiftRightAssign) ∷ (codes ">>>=", sign.ShiftRightZeroAssign) ∷ (codes "&=", sign.BitAndAssign)
-    ∷ (codes "|=", sign.BitOrAssign) ∷ (codes "^=", sign.BitXorAssign) ∷ []
+    (codes "(", sign.Open) ∷ (codes ")", sign.Close) ∷ (codes ";", sign.Semicolon) ∷ (codes ",", sign.Comma)
+    ∷ (codes ".", sign.Point) ∷ (codes "{", sign.OpenBrace) ∷ (codes "}", sign.CloseBrace) ∷ (codes "=", sign.Assign)
+    ∷ (codes "[", sign.OpenSquare) ∷ (codes "]", sign.CloseSquare) ∷ (codes ":", sign.Colon) ∷ (codes "===", sign.Same)
+    ∷ (codes "+", sign.Plus) ∷ (codes "-", sign.Minus) ∷ (codes "++", sign.PlusPlus) ∷ (codes "&&", sign.AndAnd)
+    ∷ (codes "||", sign.OrOr) ∷ (codes "<", sign.Less) ∷ (codes ">", sign.Greater) ∷ (codes "!", sign.Not)
+    ∷ (codes "?", sign.Question) ∷ (codes "!==", sign.NotSame) ∷ (codes "+=", sign.PlusAssign) ∷ (codes "*", sign.Star)
+    ∷ (codes "/", sign.Slash) ∷ (codes "%", sign.Percent) ∷ (codes "<=", sign.LessEqual) ∷ (codes ">=", sign.GreaterEqual)
+    ∷ (codes "==", sign.Equal) ∷ (codes "!=", sign.NotEqual) ∷ (codes "--", sign.MinusMinus) ∷ (codes "-=", sign.MinusAssign)
+    ∷ (codes "*=", sign.StarAssign) ∷ (codes "/=", sign.SlashAssign) ∷ (codes "%=", sign.PercentAssign) ∷ (codes "&", sign.BitAnd)
+    ∷ (codes "|", sign.BitOr) ∷ (codes "^", sign.BitXor) ∷ (codes "~", sign.BitNot) ∷ (codes "<<", sign.ShiftLeft)
+    ∷ (codes ">>", sign.ShiftRight) ∷ (codes ">>>", sign.ShiftRightZero) ∷ (codes "<<=", sign.ShiftLeftAssign) ∷ (codes ">>=", sign.ShiftRightAssign)
+    ∷ (codes ">>>=", sign.ShiftRightZeroAssign) ∷ (codes "&=", sign.BitAndAssign) ∷ (codes "|=", sign.BitOrAssign) ∷ (codes "^=", sign.BitXorAssign) ∷ []
 
 -- the sign of a token of this kind and these bytes
 abbrev pub sign_as : TokenKind → List ℕ → Sign

@@ -17,7 +17,9 @@ pub const LIMIT: u32 = 200;
 /// One link deeper, at the token that opens it.
 pub fn deeper(depth: u32, at: usize) -> Result<u32, Refusal>
     requires { depth ≤ 200 }
-    ensures { MatchResult result (λ inner. (inner ≡ suc depth) × (inner ≤ 200)) (λ e. (e ≡ refusal.TooDeep at) × (depth ≡ 200)) }
+    ensures { MatchResult result
+        (λ inner. (inner ≡ suc depth) × (inner ≤ 200))
+        (λ e. (e ≡ refusal.TooDeep at) × (depth ≡ 200)) }
 {
     if depth == LIMIT {
         return Err(Refusal::TooDeep(at));
@@ -51,7 +53,8 @@ pub fn add_statement(
     requires in_text { at < length script.now }
     requires parts { AreStmtParts (trees tree.old) node }
     requires room { size (trees tree.old) < 2 ^ 31 }
-    ensures { MadeStmt (trees tree.old) (trees tree.new) (plain_stmt (trees tree.old) node (lexeme_at script.now at).at []) next result }
+    ensures { MadeStmt (trees tree.old) (trees tree.new)
+        (plain_stmt (trees tree.old) node (lexeme_at script.now at).at []) next result }
 {
     let id = tree.add_stmt(node, script.place(at), Vec::new(script.alloc()))?;
     Ok((id, next))
@@ -70,7 +73,9 @@ pub fn add_named(
     requires named { name < length script.now }
     requires parts { AreStmtParts (trees tree.old) node }
     requires room { size (trees tree.old) < 2 ^ 31 }
-    ensures { MadeStmt (trees tree.old) (trees tree.new) (plain_stmt (trees tree.old) node (lexeme_at script.now at).at ((lexeme_at script.now name).at ∷ [])) next result }
+    ensures { MadeStmt (trees tree.old) (trees tree.new)
+        (plain_stmt (trees tree.old) node (lexeme_at script.now at).at ((lexeme_at script.now name).at ∷ []))
+        next result }
 {
     let mut names = Vec::new(script.alloc());
     names.push(script.place(name))?;

@@ -34,7 +34,8 @@ fn add(
 ) -> Result<(ExprId, usize), Refusal>
     requires parts { AreExprParts (trees tree.old) node }
     requires room { size (trees tree.old) < 2 ^ 31 }
-    ensures { MadeExpr (trees tree.old) (trees tree.new) (plain_expr (trees tree.old) node at names.items) next result }
+    ensures { MadeExpr (trees tree.old) (trees tree.new) (plain_expr (trees tree.old) node at names.items)
+        next result }
 {
     let id = tree.add_expr(node, at, names)?;
     Ok((id, next))
@@ -61,7 +62,8 @@ fn leaf(script: &Script, tree: &mut Tree, node: Expr, at: usize) -> Result<(Expr
     requires short { length script.now ≤ 2 ^ 31 }
     requires parts { AreExprParts (trees tree.old) node }
     requires room { size (trees tree.old) < 2 ^ 31 }
-    ensures { MadeExpr (trees tree.old) (trees tree.new) (ExprAt (lexeme_at script.now at).at [] (plain_form (trees tree.old) node)) (at + 1) result }
+    ensures { MadeExpr (trees tree.old) (trees tree.new)
+        (ExprAt (lexeme_at script.now at).at [] (plain_form (trees tree.old) node)) (at + 1) result }
 {
     add_plain(script, tree, node, script.place(at), at + 1)
 }
@@ -76,7 +78,8 @@ fn dot(
 ) -> Result<(ExprId, usize), Refusal>
     requires ready { IsReady script.now at depth (trees tree.old) }
     requires left { IsExpr (trees tree.old) left }
-    ensures { ReadsExpr (λ k. Wants (DotName depth (expr_at (trees tree.old) left) ∷ k)) (λ k. k) script.now at (trees tree.old) (trees tree.new) result }
+    ensures { ReadsExpr (λ k. Wants (DotName depth (expr_at (trees tree.old) left) ∷ k)) (λ k. k)
+        script.now at (trees tree.old) (trees tree.new) result }
 {
     let next = expect(script, at, Sign::Name)?;
     let text = script.text(at)?;
@@ -108,7 +111,8 @@ fn stepped(
     requires ready { IsReady script.now at depth (trees tree.old) }
     requires left { IsExpr (trees tree.old) left }
     requires unassigned { IsNext script.now at (λ s. assign_of s ≡ None) }
-    ensures { GoesOn (λ k. Gives (expr_at (trees tree.old) left) (Target depth ∷ k)) (λ k. k) script.now at (trees tree.old) (trees tree.new) result }
+    ensures { GoesOn (λ k. Gives (expr_at (trees tree.old) left) (Target depth ∷ k)) (λ k. k)
+        script.now at (trees tree.old) (trees tree.new) result }
 {
     match postfix(script.peek(at)) {
         Some(operator) => {
@@ -150,7 +154,8 @@ fn primary(
     depth: u32,
 ) -> Result<(ExprId, usize), Refusal>
     requires { IsReady script.now at depth (trees tree.old) }
-    ensures { ReadsExpr (λ k. Wants (PrimaryAt depth ∷ k)) (λ k. k) script.now at (trees tree.old) (trees tree.new) result }
+    ensures { ReadsExpr (λ k. Wants (PrimaryAt depth ∷ k)) (λ k. k)
+        script.now at (trees tree.old) (trees tree.new) result }
 {
     match script.peek(at) {
         Sign::Name => leaf(script, tree, Expr::Name(script.text(at)?), at),
@@ -178,7 +183,8 @@ fn paren(
     requires ready { IsReady script.now at depth (trees tree.old) }
     requires here { Next script.now at sign.Open }
     requires inside { at + 1 < length script.now }
-    ensures { ReadsExpr (λ k. Wants (PrimaryAt depth ∷ k)) (λ k. k) script.now at (trees tree.old) (trees tree.new) result }
+    ensures { ReadsExpr (λ k. Wants (PrimaryAt depth ∷ k)) (λ k. k)
+        script.now at (trees tree.old) (trees tree.new) result }
 {
     let inner = deeper(depth, at)?;
     let (id, close) = whole(script, tree, at + 1, inner)?;
@@ -196,7 +202,8 @@ fn array(
     requires ready { IsReady script.now at depth (trees tree.old) }
     requires here { Next script.now at sign.OpenSquare }
     requires inside { at + 1 < length script.now }
-    ensures { ReadsExpr (λ k. Wants (PrimaryAt depth ∷ k)) (λ k. k) script.now at (trees tree.old) (trees tree.new) result }
+    ensures { ReadsExpr (λ k. Wants (PrimaryAt depth ∷ k)) (λ k. k)
+        script.now at (trees tree.old) (trees tree.new) result }
 {
     let inner = deeper(depth, at)?;
     let (list, close) = items(script, tree, at + 1, inner, false)?;
@@ -209,7 +216,8 @@ fn array(
 fn key(script: &Script, at: usize) -> Result<Text, Refusal>
     requires { at < length script.now }
     ensures { MatchResult result
-        (λ t. (t ≡ (lexeme_at script.now at).text) × (at + 1 < length script.now) × IsNext script.now at (λ s. is_key s (lexeme_at script.now at).text ≡ true))
+        (λ t. (t ≡ (lexeme_at script.now at).text) × (at + 1 < length script.now) ×
+        IsNext script.now at (λ s. is_key s (lexeme_at script.now at).text ≡ true))
         (λ e. IsNoKey script.now at e) }
 {
     let sign = script.peek(at);
@@ -234,7 +242,8 @@ fn property(
     requires { IsReady script.now at depth (trees tree.old) }
     ensures { MatchResult result
         (λ x. ReadsProperty depth script.now at (trees tree.old) (trees tree.new) x.0 x.1 x.2)
-        (λ e. (ps : Properties) (names : List ℕ) → Refuses (λ k. Wants (NextKey depth ps names ∷ k)) script.now at e) }
+        (λ e. (ps : Properties) (names : List ℕ) →
+        Refuses (λ k. Wants (NextKey depth ps names ∷ k)) script.now at e) }
 {
     let name = key(script, at)?;
     let colon = at + 1;
@@ -284,7 +293,8 @@ fn object(
     requires ready { IsReady script.now at depth (trees tree.old) }
     requires here { Next script.now at sign.OpenBrace }
     requires inside { at + 1 < length script.now }
-    ensures { ReadsExpr (λ k. Wants (PrimaryAt depth ∷ k)) (λ k. k) script.now at (trees tree.old) (trees tree.new) result }
+    ensures { ReadsExpr (λ k. Wants (PrimaryAt depth ∷ k)) (λ k. k)
+        script.now at (trees tree.old) (trees tree.new) result }
 {
     let inner = deeper(depth, at)?;
     let (list, names, next) = keys(script, tree, at + 1, inner)?;
@@ -302,7 +312,8 @@ fn function(
     requires ready { IsReady script.now at depth (trees tree.old) }
     requires here { Next script.now at sign.Function }
     requires inside { at + 1 < length script.now }
-    ensures { ReadsExpr (λ k. Wants (PrimaryAt depth ∷ k)) (λ k. k) script.now at (trees tree.old) (trees tree.new) result }
+    ensures { ReadsExpr (λ k. Wants (PrimaryAt depth ∷ k)) (λ k. k)
+        script.now at (trees tree.old) (trees tree.new) result }
 {
     let (own, open) = own_name(script, at + 1);
     let (fun, next) = code(script, tree, open, depth, at, own)?;
@@ -323,7 +334,9 @@ fn subscript(
     requires left { IsExpr (trees tree.old) left }
     requires here { Next script.now at sign.OpenSquare }
     requires inside { at + 1 < length script.now }
-    ensures { (f : Frame) → IsTail depth f → ReadsExpr (λ k. Gives (expr_at (trees tree.old) left) (f ∷ k)) (λ k. f ∷ k) script.now at (trees tree.old) (trees tree.new) result }
+    ensures { (f : Frame) → IsTail depth f →
+        ReadsExpr (λ k. Gives (expr_at (trees tree.old) left) (f ∷ k)) (λ k. f ∷ k) script.now at (trees tree.old)
+        (trees tree.new) result }
 {
     let inner = deeper(depth, at)?;
     let (index, close) = whole(script, tree, at + 1, inner)?;
@@ -345,7 +358,8 @@ fn call(
     requires left { IsExpr (trees tree.old) left }
     requires here { Next script.now at sign.Open }
     requires inside { at + 1 < length script.now }
-    ensures { ReadsExpr (λ k. Gives (expr_at (trees tree.old) left) (Tail depth ∷ k)) (λ k. Tail depth ∷ k) script.now at (trees tree.old) (trees tree.new) result }
+    ensures { ReadsExpr (λ k. Gives (expr_at (trees tree.old) left) (Tail depth ∷ k)) (λ k. Tail depth ∷ k)
+        script.now at (trees tree.old) (trees tree.new) result }
 {
     let inner = deeper(depth, at)?;
     let (list, close) = items(script, tree, at + 1, inner, false)?;
@@ -369,7 +383,8 @@ fn new_call(
     requires here { Next script.now at sign.Open }
     requires inside { at + 1 < length script.now }
     requires word { word < length script.now }
-    ensures { ReadsExpr (λ k. Gives (expr_at (trees tree.old) left) (NewTail depth (lexeme_at script.now word) ∷ k)) (λ k. k) script.now at (trees tree.old) (trees tree.new) result }
+    ensures { ReadsExpr (λ k. Gives (expr_at (trees tree.old) left) (NewTail depth (lexeme_at script.now word) ∷ k))
+        (λ k. k) script.now at (trees tree.old) (trees tree.new) result }
 {
     let inner = deeper(depth, at)?;
     let (list, close) = items(script, tree, at + 1, inner, false)?;
@@ -390,8 +405,10 @@ fn operand(
     requires ready { IsReady script.now at depth (trees tree.old) }
     requires word { word < length script.now }
     ensures { MatchResult result
-        (λ x. ReadsOperandOf depth (lexeme_at script.now word) script.now at (trees tree.old) (trees tree.new) x.0 x.1)
-        (λ e. Refuses (λ k. Wants (PrimaryAt depth ∷ NewTail depth (lexeme_at script.now word) ∷ k)) script.now at e) }
+        (λ x. ReadsOperandOf depth (lexeme_at script.now word)
+        script.now at (trees tree.old) (trees tree.new) x.0 x.1)
+        (λ e. Refuses (λ k. Wants (PrimaryAt depth ∷ NewTail depth (lexeme_at script.now word) ∷ k))
+        script.now at e) }
 {
     let (mut left, mut place) = primary(script, tree, at, depth)?;
     'tails: loop {
@@ -422,7 +439,8 @@ fn new_form(
     requires ready { IsReady script.now at depth (trees tree.old) }
     requires here { Next script.now at sign.New }
     requires inside { at + 1 < length script.now }
-    ensures { ReadsExpr (λ k. Wants (UnaryAt depth ∷ k)) (λ k. Tail depth ∷ Target depth ∷ k) script.now at (trees tree.old) (trees tree.new) result }
+    ensures { ReadsExpr (λ k. Wants (UnaryAt depth ∷ k)) (λ k. Tail depth ∷ Target depth ∷ k)
+        script.now at (trees tree.old) (trees tree.new) result }
 {
     let (left, next) = operand(script, tree, at + 1, depth, at)?;
     match script.peek(next) {
@@ -440,7 +458,8 @@ fn new_form(
 fn head(script: &Script, tree: &mut Tree, at: usize, depth: u32) -> Result<(ExprId, usize), Refusal>
     requires ready { IsReady script.now at depth (trees tree.old) }
     requires bare { IsNext script.now at (λ s. prefix_of s ≡ None) }
-    ensures { ReadsExpr (λ k. Wants (UnaryAt depth ∷ k)) (λ k. Tail depth ∷ Target depth ∷ k) script.now at (trees tree.old) (trees tree.new) result }
+    ensures { ReadsExpr (λ k. Wants (UnaryAt depth ∷ k)) (λ k. Tail depth ∷ Target depth ∷ k)
+        script.now at (trees tree.old) (trees tree.new) result }
 {
     match script.peek(at) {
         Sign::New => new_form(script, tree, at, depth),
@@ -458,7 +477,8 @@ fn left_hand(
 ) -> Result<(ExprId, usize), Refusal>
     requires ready { IsReady script.now at depth (trees tree.old) }
     requires bare { IsNext script.now at (λ s. prefix_of s ≡ None) }
-    ensures { ReadsExpr (λ k. Wants (UnaryAt depth ∷ k)) (λ k. Target depth ∷ k) script.now at (trees tree.old) (trees tree.new) result }
+    ensures { ReadsExpr (λ k. Wants (UnaryAt depth ∷ k)) (λ k. Target depth ∷ k)
+        script.now at (trees tree.old) (trees tree.new) result }
 {
     let (mut left, mut place) = head(script, tree, at, depth)?;
     'tails: loop {
@@ -495,7 +515,8 @@ fn prefixed(
     requires ready { IsReady script.now at depth (trees tree.old) }
     requires here { IsNext script.now at (λ s. prefix_of s ≡ Some operator) }
     requires inside { at + 1 < length script.now }
-    ensures { ReadsExpr (λ k. Wants (UnaryAt depth ∷ k)) (λ k. k) script.now at (trees tree.old) (trees tree.new) result }
+    ensures { ReadsExpr (λ k. Wants (UnaryAt depth ∷ k)) (λ k. k)
+        script.now at (trees tree.old) (trees tree.new) result }
 {
     let inner = deeper(depth, at)?;
     let (id, next) = unary(script, tree, at + 1, inner)?;
@@ -546,7 +567,9 @@ fn operators(
 ) -> Result<(ExprId, usize), Refusal>
     requires ready { IsReady script.now at depth (trees tree.old) }
     requires limit { limit ≤ 10 }
-    ensures { (o : Infix) (a : PlainExpr) → ReadsExpr (λ k. Wants (UnaryAt depth ∷ Rest no_in limit depth ∷ Right o a ∷ k)) (λ k. Right o a ∷ k) script.now at (trees tree.old) (trees tree.new) result }
+    ensures { (o : Infix) (a : PlainExpr) →
+        ReadsExpr (λ k. Wants (UnaryAt depth ∷ Rest no_in limit depth ∷ Right o a ∷ k)) (λ k. Right o a ∷ k)
+        script.now at (trees tree.old) (trees tree.new) result }
 {
     let (left, next) = unary(script, tree, at, depth)?;
     chain(script, tree, left, next, depth, no_in, limit)
@@ -567,7 +590,9 @@ fn joined(
     requires left { IsExpr (trees tree.old) left }
     requires here { IsNext script.now at (λ s. infix_of s no_in ≡ Some operator) }
     requires inside { at + 1 < length script.now }
-    ensures { (n : ℕ) → level_of operator < n → ReadsExpr (λ k. Gives (expr_at (trees tree.old) left) (Rest no_in n depth ∷ k)) (λ k. Rest no_in n depth ∷ k) script.now at (trees tree.old) (trees tree.new) result }
+    ensures { (n : ℕ) → level_of operator < n →
+        ReadsExpr (λ k. Gives (expr_at (trees tree.old) left) (Rest no_in n depth ∷ k))
+        (λ k. Rest no_in n depth ∷ k) script.now at (trees tree.old) (trees tree.new) result }
 {
     let limit = level(operator);
     let (right, next) = operators(script, tree, at + 1, depth, no_in, limit)?;
@@ -589,7 +614,8 @@ fn chain(
     requires ready { IsReady script.now at depth (trees tree.old) }
     requires left { IsExpr (trees tree.old) first }
     requires limit { limit ≤ 10 }
-    ensures { GoesOn (λ k. Gives (expr_at (trees tree.old) first) (Rest no_in limit depth ∷ k)) (λ k. k) script.now at (trees tree.old) (trees tree.new) result }
+    ensures { GoesOn (λ k. Gives (expr_at (trees tree.old) first) (Rest no_in limit depth ∷ k)) (λ k. k)
+        script.now at (trees tree.old) (trees tree.new) result }
 {
     let mut left = first;
     let mut place = at;
@@ -619,7 +645,8 @@ fn choice(
     requires left { IsExpr (trees tree.old) test }
     requires here { Next script.now at sign.Question }
     requires inside { at + 1 < length script.now }
-    ensures { ReadsExpr (λ k. Gives (expr_at (trees tree.old) test) (Choice no_in depth ∷ k)) (λ k. k) script.now at (trees tree.old) (trees tree.new) result }
+    ensures { ReadsExpr (λ k. Gives (expr_at (trees tree.old) test) (Choice no_in depth ∷ k)) (λ k. k)
+        script.now at (trees tree.old) (trees tree.new) result }
 {
     let inner = deeper(depth, at)?;
     let (chosen, colon) = assignment(script, tree, at + 1, inner, no_in)?;
@@ -641,7 +668,8 @@ fn conditional(
 ) -> Result<(ExprId, usize), Refusal>
     requires ready { IsReady script.now at depth (trees tree.old) }
     requires left { IsExpr (trees tree.old) first }
-    ensures { GoesOn (λ k. Gives (expr_at (trees tree.old) first) (Rest no_in 10 depth ∷ Choice no_in depth ∷ k)) (λ k. k) script.now at (trees tree.old) (trees tree.new) result }
+    ensures { GoesOn (λ k. Gives (expr_at (trees tree.old) first) (Rest no_in 10 depth ∷ Choice no_in depth ∷ k))
+        (λ k. k) script.now at (trees tree.old) (trees tree.new) result }
 {
     let (test, next) = chain(script, tree, first, at, depth, no_in, 10)?;
     match script.peek(next) {
@@ -665,7 +693,9 @@ fn assigned(
     requires left { IsExpr (trees tree.old) left }
     requires here { IsNext script.now at (λ s. assign_of s ≡ Some operator) }
     requires inside { at + 1 < length script.now }
-    ensures { ReadsExpr (λ k. Gives (expr_at (trees tree.old) left) (Target depth ∷ Rest no_in 10 depth ∷ Choice no_in depth ∷ k)) (λ k. k) script.now at (trees tree.old) (trees tree.new) result }
+    ensures { ReadsExpr (λ k. Gives (expr_at (trees tree.old) left)
+        (Target depth ∷ Rest no_in 10 depth ∷ Choice no_in depth ∷ k)) (λ k. k) script.now at (trees tree.old)
+        (trees tree.new) result }
 {
     let inner = deeper(depth, at)?;
     let (right, next) = assignment(script, tree, at + 1, inner, no_in)?;
@@ -690,7 +720,8 @@ fn bare_assignment(
 ) -> Result<(ExprId, usize), Refusal>
     requires ready { IsReady script.now at depth (trees tree.old) }
     requires bare { IsNext script.now at (λ s. prefix_of s ≡ None) }
-    ensures { ReadsExpr (λ k. Wants (expr no_in depth k)) (λ k. k) script.now at (trees tree.old) (trees tree.new) result }
+    ensures { ReadsExpr (λ k. Wants (expr no_in depth k)) (λ k. k)
+        script.now at (trees tree.old) (trees tree.new) result }
 {
     let (left, next) = left_hand(script, tree, at, depth)?;
     match assigning(script.peek(next)) {
@@ -712,7 +743,8 @@ pub fn assignment(
     no_in: bool,
 ) -> Result<(ExprId, usize), Refusal>
     requires { IsReady script.now at depth (trees tree.old) }
-    ensures { ReadsExpr (λ k. Wants (expr no_in depth k)) (λ k. k) script.now at (trees tree.old) (trees tree.new) result }
+    ensures { ReadsExpr (λ k. Wants (expr no_in depth k)) (λ k. k)
+        script.now at (trees tree.old) (trees tree.new) result }
 {
     match prefix(script.peek(at)) {
         Some(operator) => {
@@ -736,7 +768,8 @@ fn comma(
     requires left { IsExpr (trees tree.old) left }
     requires here { Next script.now at sign.Comma }
     requires inside { at + 1 < length script.now }
-    ensures { ReadsExpr (λ k. Gives (expr_at (trees tree.old) left) (Commas depth ∷ k)) (λ k. Commas depth ∷ k) script.now at (trees tree.old) (trees tree.new) result }
+    ensures { ReadsExpr (λ k. Gives (expr_at (trees tree.old) left) (Commas depth ∷ k)) (λ k. Commas depth ∷ k)
+        script.now at (trees tree.old) (trees tree.new) result }
 {
     let (right, next) = assignment(script, tree, at + 1, depth, false)?;
     let place = tree.expr_at(left);
@@ -752,7 +785,8 @@ pub fn whole(
     depth: u32,
 ) -> Result<(ExprId, usize), Refusal>
     requires { IsReady script.now at depth (trees tree.old) }
-    ensures { ReadsExpr (λ k. Wants (whole_frames depth k)) (λ k. k) script.now at (trees tree.old) (trees tree.new) result }
+    ensures { ReadsExpr (λ k. Wants (whole_frames depth k)) (λ k. k)
+        script.now at (trees tree.old) (trees tree.new) result }
 {
     let (mut left, mut place) = assignment(script, tree, at, depth, false)?;
     'commas: loop {

@@ -76,7 +76,9 @@ fn for_in_statement(
 ) -> Result<(StmtId, usize), Refusal>
     requires ready { IsReady script.now (name + 2) (suc depth) (trees tree.old) }
     requires before { at < name }
-    ensures { ReadsOne (λ k. Wants (whole_frames (suc depth) (ForOver depth (lexeme_at script.now at) declared (lexeme_at script.now name) ∷ k))) script.now (name + 2) (trees tree.old) (trees tree.new) result }
+    ensures { ReadsOne (λ k. Wants (whole_frames (suc depth)
+        (ForOver depth (lexeme_at script.now at) declared (lexeme_at script.now name) ∷ k))) script.now (name + 2)
+        (trees tree.old) (trees tree.new) result }
 {
     let (object, first) = marked(script, tree, name + 2, depth + 1, Sign::Close)?;
     let (body, next) = block(script, tree, first, depth)?;
@@ -97,7 +99,8 @@ fn for_loop(
     requires ready { IsReady script.now first (suc depth) (trees tree.old) }
     requires before { at < first }
     requires other { IsForIn script.now first None }
-    ensures { ReadsOne (λ k. Wants (ForFirst depth (lexeme_at script.now at) ∷ k)) script.now first (trees tree.old) (trees tree.new) result }
+    ensures { ReadsOne (λ k. Wants (ForFirst depth (lexeme_at script.now at) ∷ k))
+        script.now first (trees tree.old) (trees tree.new) result }
 {
     let (init, second) = first_part(script, tree, first, depth)?;
     let (test, third) = second_part(script, tree, second, depth)?;
@@ -158,7 +161,8 @@ fn third_part(
     requires { IsReady script.now at (suc depth) (trees tree.old) }
     ensures { MatchResult result
         (λ x. ReadsThird depth script.now at (trees tree.old) (trees tree.new) x.0.items x.1)
-        (λ e. (w : Lexeme) (i : PlainInit) (test : OptionalExpr) → Refuses (λ k. Wants (ItemsAt false (suc depth) ∷ ForEnd depth w i test ∷ k)) script.now at e) }
+        (λ e. (w : Lexeme) (i : PlainInit) (test : OptionalExpr) →
+        Refuses (λ k. Wants (ItemsAt false (suc depth) ∷ ForEnd depth w i test ∷ k)) script.now at e) }
 {
     let (list, last) = items(script, tree, at, depth + 1, false)?;
     let next = expect(script, last, Sign::Close)?;

@@ -43,7 +43,8 @@ pub fn marked(
     requires ready { IsReady script.now at depth (trees tree.old) }
     requires no_end { mark ≢ sign.End }
     ensures { MatchResult result
-        (λ x. ReadsMarked mark (λ k. Wants (whole_frames depth k)) script.now at (trees tree.old) (trees tree.new) x.0 x.1)
+        (λ x. ReadsMarked mark (λ k. Wants (whole_frames depth k))
+        script.now at (trees tree.old) (trees tree.new) x.0 x.1)
         (λ e. (f : Frame) → OnlyAt mark f → Refuses (λ k. Wants (whole_frames depth (f ∷ k))) script.now at e) }
 {
     let (id, last) = whole(script, tree, at, depth)?;
@@ -61,7 +62,8 @@ pub fn test(
 ) -> Result<(ExprId, usize), Refusal>
     requires { IsReady script.now at depth (trees tree.old) }
     ensures { MatchResult result
-        (λ x. (suc depth ≤ 200) × ReadsMarked sign.Close (λ k. Wants (Test depth ∷ k)) script.now at (trees tree.old) (trees tree.new) x.0 x.1)
+        (λ x. (suc depth ≤ 200) × ReadsMarked sign.Close (λ k. Wants (Test depth ∷ k)) script.now at
+        (trees tree.old) (trees tree.new) x.0 x.1)
         (λ e. (f : Frame) → OnlyAt sign.Close f → Refuses (λ k. Wants (Test depth ∷ f ∷ k)) script.now at e) }
 {
     let first = expect(script, at, Sign::Open)?;
@@ -278,7 +280,8 @@ fn else_part(
     requires { IsReady script.now at depth (trees tree.old) }
     ensures { MatchResult result
         (λ x. ReadsElse depth script.now at (trees tree.old) (trees tree.new) x.0.items x.1)
-        (λ e. (w : Lexeme) (e' : PlainExpr) (ss : Stmts) → Refuses (λ k. Wants (AfterIf depth w e' ss ∷ k)) script.now at e) }
+        (λ e. (w : Lexeme) (e' : PlainExpr) (ss : Stmts) →
+        Refuses (λ k. Wants (AfterIf depth w e' ss ∷ k)) script.now at e) }
 {
     let Sign::Else = script.peek(at) else {
         return Ok((Vec::new(script.alloc()), at));
@@ -424,8 +427,10 @@ struct Parameters {
 // Adds a name.
 fn push_name(params: &mut Parameters, script: &Script, at: usize) -> Result<(), Memory>
     requires { at + 1 < length script.now }
-    ensures texts { OnOk result (params.new.texts.items ≡ params.old.texts.items ++ (lexeme_at script.now at).text ∷ []) }
-    ensures places { OnOk result (params.new.places.items ≡ params.old.places.items ++ (lexeme_at script.now at).at ∷ []) }
+    ensures texts { OnOk result
+        (params.new.texts.items ≡ params.old.texts.items ++ (lexeme_at script.now at).text ∷ []) }
+    ensures places { OnOk result
+        (params.new.places.items ≡ params.old.places.items ++ (lexeme_at script.now at).at ∷ []) }
 {
     params.texts.push(script.text(at)?)?;
     params.places.push(script.place(at))?;
@@ -443,7 +448,8 @@ fn params(
     requires shallow { suc depth ≤ 200 }
     ensures { MatchResult result
         (λ x. ReadsParams depth script.now at x.0.texts.items places.items x.0.places.items x.1)
-        (λ e. (w : Lexeme) (own : Option Lexeme) → Refuses (λ k. Wants (FirstName (suc depth) ∷ NamesEnd depth w own ∷ k)) script.now at e) }
+        (λ e. (w : Lexeme) (own : Option Lexeme) →
+        Refuses (λ k. Wants (FirstName (suc depth) ∷ NamesEnd depth w own ∷ k)) script.now at e) }
 {
     let mut params = Parameters {
         texts: Vec::new(script.alloc()),
@@ -506,8 +512,10 @@ pub fn code(
     requires word { word < length script.now }
     requires own { IsOwn script.now own }
     ensures { MatchResult result
-        (λ x. ReadsFun (λ k. Wants (FunOpen depth (lexeme_at script.now word) (own_at script.now own) ∷ k)) (lexeme_at script.now word) depth script.now at (trees tree.old) (trees tree.new) x.0 x.1)
-        (λ e. Refuses (λ k. Wants (FunOpen depth (lexeme_at script.now word) (own_at script.now own) ∷ k)) script.now at e) }
+        (λ x. ReadsFun (λ k. Wants (FunOpen depth (lexeme_at script.now word) (own_at script.now own) ∷ k))
+        (lexeme_at script.now word) depth script.now at (trees tree.old) (trees tree.new) x.0 x.1)
+        (λ e. Refuses (λ k. Wants (FunOpen depth (lexeme_at script.now word) (own_at script.now own) ∷ k))
+        script.now at e) }
 {
     let open = expect(script, at, Sign::Open)?;
     let inner = deeper(depth, at)?;

@@ -29,7 +29,8 @@ fn program(script: &Script, tree: &mut Tree) -> Result<Vec<StmtId>, Refusal>
     requires short { length script.now ≤ 2 ^ 31 }
     requires none { trees tree.old ≡ no_trees }
     ensures { MatchResult result
-        (λ list. All (IsStmt (trees tree.new)) list.items × (goes script.now begin 0 ≡ Read (stmts_at (trees tree.new) list.items)))
+        (λ list. All (IsStmt (trees tree.new)) list.items ×
+        (goes script.now begin 0 ≡ Read (stmts_at (trees tree.new) list.items)))
         (λ e. Stops script.now e) }
 {
     let (list, last) = statements(script, tree, 0, 0)?;
@@ -67,7 +68,8 @@ pub fn parse(alloc: Global, bytes: &[u8], tokens: &[Token]) -> Result<Tree, Pars
     // The tree is one that the tokens spell, with none of them too deep.
     ensures tree { IfOk result (λ tree. HasTree IsProgram 200 (input bytes.now tokens.now) (program_of tree)) }
     // Where they spell one, it is read, unless memory runs out.
-    ensures only { (program : Stmts) → HasTree IsProgram 200 (input bytes.now tokens.now) program → MatchResult result (λ tree. program_of tree ≡ program) (λ e. e ≡ fault.Memory) }
+    ensures only { (program : Stmts) → HasTree IsProgram 200 (input bytes.now tokens.now) program →
+        MatchResult result (λ tree. program_of tree ≡ program) (λ e. e ≡ fault.Memory) }
     // The place of a refusal is exact.
     ensures place { IfErr result (λ e. IsRefusal (input bytes.now tokens.now) e) }
 {

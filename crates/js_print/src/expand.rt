@@ -15,7 +15,9 @@ use js_tree::{Clause, Decl, ExprId, ForInit, Fun, FunId, Stmt, StmtId, Tree};
 
 #[tactic(auto, unfolding(crate::specs::Tidy::fun_tokens, crate::specs::Costs::fun_cost))]
 fn expand_fun<'t>(node: &'t Fun, work: &mut Vec<Work<'t>>) -> Result<(), Memory>
-    ensures { (f : Forest) (names : List ℕ) → AreFunParts f node.now → OnOk result (Pushes f (fun_tokens (plain_fun f node.now names)) (fun_cost (plain_fun f node.now names)) work.old.items work.new.items) }
+    ensures { (f : Forest) (names : List ℕ) → AreFunParts f node.now →
+        OnOk result (Pushes f (fun_tokens (plain_fun f node.now names)) (fun_cost (plain_fun f node.now names))
+        work.old.items work.new.items) }
 {
     push_all(
         work,
@@ -34,19 +36,25 @@ fn expand_fun<'t>(node: &'t Fun, work: &mut Vec<Work<'t>>) -> Result<(), Memory>
 }
 
 fn expand_head(id: ExprId, work: &mut Vec<Work>) -> Result<(), Memory>
-    ensures { (f : Forest) → IsExpr f id → OnOk result (Pushes f (enclosed (expr_tokens false WHOLE (expr_at f id))) (enclosed_cost (expr_cost (expr_at f id))) work.old.items work.new.items) }
+    ensures { (f : Forest) → IsExpr f id →
+        OnOk result (Pushes f (enclosed (expr_tokens false WHOLE (expr_at f id)))
+        (enclosed_cost (expr_cost (expr_at f id))) work.old.items work.new.items) }
 {
     push_inside("(", Work::Expr(id, WHOLE, false), ")", work)
 }
 
 fn expand_block<'t>(ids: &'t [StmtId], work: &mut Vec<Work<'t>>) -> Result<(), Memory>
-    ensures { (f : Forest) → All (IsStmt f) ids.now → OnOk result (Pushes f (braced (stmts_tokens (stmts_at f ids.now))) (enclosed_cost (stmts_cost (stmts_at f ids.now))) work.old.items work.new.items) }
+    ensures { (f : Forest) → All (IsStmt f) ids.now →
+        OnOk result (Pushes f (braced (stmts_tokens (stmts_at f ids.now)))
+        (enclosed_cost (stmts_cost (stmts_at f ids.now))) work.old.items work.new.items) }
 {
     push_inside("{", Work::Stmts(ids), "}", work)
 }
 
 fn expand_exprs<'t>(ids: &'t [ExprId], begun: bool, work: &mut Vec<Work<'t>>) -> Result<(), Memory>
-    ensures { (f : Forest) → All (IsExpr f) ids.now → OnOk result (Pushes f (between begun (exprs_tokens (exprs_at f ids.now))) (exprs_cost (exprs_at f ids.now)) work.old.items work.new.items) }
+    ensures { (f : Forest) → All (IsExpr f) ids.now →
+        OnOk result (Pushes f (between begun (exprs_tokens (exprs_at f ids.now))) (exprs_cost (exprs_at f ids.now))
+        work.old.items work.new.items) }
 {
     match ids {
         [] => Ok(()),
@@ -65,7 +73,9 @@ fn expand_properties<'t>(
     begun: bool,
     work: &mut Vec<Work<'t>>,
 ) -> Result<(), Memory>
-    ensures { (f : Forest) → All (λ p. IsExpr f p.1) properties.now → OnOk result (Pushes f (between begun (properties_tokens (properties_at f properties.now))) (properties_cost (properties_at f properties.now)) work.old.items work.new.items) }
+    ensures { (f : Forest) → All (λ p. IsExpr f p.1) properties.now →
+        OnOk result (Pushes f (between begun (properties_tokens (properties_at f properties.now)))
+        (properties_cost (properties_at f properties.now)) work.old.items work.new.items) }
 {
     match properties {
         [] => Ok(()),
@@ -85,7 +95,9 @@ fn expand_properties<'t>(
 }
 
 fn expand_decls<'t>(decls: &'t [Decl], begun: bool, work: &mut Vec<Work<'t>>) -> Result<(), Memory>
-    ensures { (f : Forest) → AreDecls f decls.now → OnOk result (Pushes f (between begun (decls_tokens (decls_at f decls.now))) (decls_cost (decls_at f decls.now)) work.old.items work.new.items) }
+    ensures { (f : Forest) → AreDecls f decls.now →
+        OnOk result (Pushes f (between begun (decls_tokens (decls_at f decls.now)))
+        (decls_cost (decls_at f decls.now)) work.old.items work.new.items) }
 {
     match decls {
         [] => Ok(()),
@@ -104,7 +116,8 @@ fn expand_decls<'t>(decls: &'t [Decl], begun: bool, work: &mut Vec<Work<'t>>) ->
 }
 
 fn expand_names<'t>(texts: &'t [Text], begun: bool, work: &mut Vec<Work<'t>>) -> Result<(), Memory>
-    ensures { (f : Forest) → OnOk result (Pushes f (between begun (map name texts.now)) (names_cost texts.now) work.old.items work.new.items) }
+    ensures { (f : Forest) → OnOk result (Pushes f (between begun (map name texts.now)) (names_cost texts.now)
+        work.old.items work.new.items) }
 {
     match texts {
         [] => Ok(()),
@@ -116,7 +129,9 @@ fn expand_names<'t>(texts: &'t [Text], begun: bool, work: &mut Vec<Work<'t>>) ->
 }
 
 fn expand_stmts<'t>(ids: &'t [StmtId], work: &mut Vec<Work<'t>>) -> Result<(), Memory>
-    ensures { (f : Forest) → All (IsStmt f) ids.now → OnOk result (Pushes f (stmts_tokens (stmts_at f ids.now)) (stmts_cost (stmts_at f ids.now)) work.old.items work.new.items) }
+    ensures { (f : Forest) → All (IsStmt f) ids.now →
+        OnOk result (Pushes f (stmts_tokens (stmts_at f ids.now)) (stmts_cost (stmts_at f ids.now)) work.old.items
+        work.new.items) }
 {
     match ids {
         [] => Ok(()),
@@ -125,7 +140,9 @@ fn expand_stmts<'t>(ids: &'t [StmtId], work: &mut Vec<Work<'t>>) -> Result<(), M
 }
 
 fn expand_funs<'t>(ids: &'t [FunId], work: &mut Vec<Work<'t>>) -> Result<(), Memory>
-    ensures { (f : Forest) → All (IsFun f) ids.now → OnOk result (Pushes f (funs_tokens (funs_at f ids.now)) (funs_cost (funs_at f ids.now)) work.old.items work.new.items) }
+    ensures { (f : Forest) → All (IsFun f) ids.now →
+        OnOk result (Pushes f (funs_tokens (funs_at f ids.now)) (funs_cost (funs_at f ids.now)) work.old.items
+        work.new.items) }
 {
     match ids {
         [] => Ok(()),
@@ -134,7 +151,9 @@ fn expand_funs<'t>(ids: &'t [FunId], work: &mut Vec<Work<'t>>) -> Result<(), Mem
 }
 
 fn expand_clauses<'t>(clauses: &'t [Clause], work: &mut Vec<Work<'t>>) -> Result<(), Memory>
-    ensures { (f : Forest) → All (AreClauseParts f) clauses.now → OnOk result (Pushes f (clauses_tokens (clauses_at f clauses.now)) (clauses_cost (clauses_at f clauses.now)) work.old.items work.new.items) }
+    ensures { (f : Forest) → All (AreClauseParts f) clauses.now →
+        OnOk result (Pushes f (clauses_tokens (clauses_at f clauses.now)) (clauses_cost (clauses_at f clauses.now))
+        work.old.items work.new.items) }
 {
     match clauses {
         [] => Ok(()),
@@ -157,14 +176,18 @@ fn is_if(node: &Stmt) -> bool
 }
 
 fn push_else<'t>(ids: &'t [StmtId], work: &mut Vec<Work<'t>>) -> Result<(), Memory>
-    ensures { (f : Forest) → All (IsStmt f) ids.now → OnOk result (Pushes f (flat (mark (codes "else") ∷ braced (stmts_tokens (stmts_at f ids.now)) ∷ [])) (8 + stmts_cost (stmts_at f ids.now)) work.old.items work.new.items) }
+    ensures { (f : Forest) → All (IsStmt f) ids.now →
+        OnOk result (Pushes f (flat (mark (codes "else") ∷ braced (stmts_tokens (stmts_at f ids.now)) ∷ []))
+        (8 + stmts_cost (stmts_at f ids.now)) work.old.items work.new.items) }
 {
     push_all(work, &[Work::Mark("else"), Work::Block(ids)])
 }
 
 fn expand_else<'t>(tree: &Tree, ids: &'t [StmtId], work: &mut Vec<Work<'t>>) -> Result<(), Memory>
     requires { All (IsStmt (trees tree.now)) ids.now }
-    ensures { OnOk result (Pushes (trees tree.now) (else_tokens (stmts_at (trees tree.now) ids.now) (stmts_tokens (stmts_at (trees tree.now) ids.now))) (8 + stmts_cost (stmts_at (trees tree.now) ids.now)) work.old.items work.new.items) }
+    ensures { OnOk result (Pushes (trees tree.now)
+        (else_tokens (stmts_at (trees tree.now) ids.now) (stmts_tokens (stmts_at (trees tree.now) ids.now)))
+        (8 + stmts_cost (stmts_at (trees tree.now) ids.now)) work.old.items work.new.items) }
 {
     match ids {
         [] => Ok(()),
@@ -180,7 +203,9 @@ fn expand_else<'t>(tree: &Tree, ids: &'t [StmtId], work: &mut Vec<Work<'t>>) -> 
 
 #[tactic(auto, unfolding(crate::specs::Tidy::init_tokens, crate::specs::Costs::init_cost))]
 fn expand_init<'t>(init: &'t ForInit, work: &mut Vec<Work<'t>>) -> Result<(), Memory>
-    ensures { (f : Forest) → AreInit f init.now → OnOk result (Pushes f (init_tokens (init_at f init.now)) (init_cost (init_at f init.now)) work.old.items work.new.items) }
+    ensures { (f : Forest) → AreInit f init.now →
+        OnOk result (Pushes f (init_tokens (init_at f init.now)) (init_cost (init_at f init.now)) work.old.items
+        work.new.items) }
 {
     match init {
         ForInit::Var(ds) => push_all(work, &[Work::Mark("var"), Work::Decls(ds, false)]),
@@ -190,7 +215,9 @@ fn expand_init<'t>(init: &'t ForInit, work: &mut Vec<Work<'t>>) -> Result<(), Me
 
 #[tactic(auto, unfolding(crate::specs::Tidy::optional_tokens, crate::specs::Costs::optional_cost))]
 fn expand_optional(e: Option<ExprId>, work: &mut Vec<Work>) -> Result<(), Memory>
-    ensures { (f : Forest) → IsOptional f e → OnOk result (Pushes f (optional_tokens (optional_at f e)) (optional_cost (optional_at f e)) work.old.items work.new.items) }
+    ensures { (f : Forest) → IsOptional f e →
+        OnOk result (Pushes f (optional_tokens (optional_at f e)) (optional_cost (optional_at f e)) work.old.items
+        work.new.items) }
 {
     match e {
         None => Ok(()),
@@ -200,7 +227,9 @@ fn expand_optional(e: Option<ExprId>, work: &mut Vec<Work>) -> Result<(), Memory
 
 #[tactic(auto, unfolding(crate::specs::Tidy::value_tokens, crate::specs::Costs::value_cost))]
 fn expand_value(e: Option<ExprId>, work: &mut Vec<Work>) -> Result<(), Memory>
-    ensures { (f : Forest) → IsOptional f e → OnOk result (Pushes f (value_tokens (optional_at f e)) (value_cost (optional_at f e)) work.old.items work.new.items) }
+    ensures { (f : Forest) → IsOptional f e →
+        OnOk result (Pushes f (value_tokens (optional_at f e)) (value_cost (optional_at f e)) work.old.items
+        work.new.items) }
 {
     match e {
         None => Ok(()),
@@ -210,7 +239,9 @@ fn expand_value(e: Option<ExprId>, work: &mut Vec<Work>) -> Result<(), Memory>
 
 #[tactic(auto, unfolding(crate::specs::Tidy::test_tokens, crate::specs::Costs::test_cost))]
 fn expand_test(e: Option<ExprId>, work: &mut Vec<Work>) -> Result<(), Memory>
-    ensures { (f : Forest) → IsOptional f e → OnOk result (Pushes f (test_tokens (optional_at f e)) (test_cost (optional_at f e)) work.old.items work.new.items) }
+    ensures { (f : Forest) → IsOptional f e →
+        OnOk result (Pushes f (test_tokens (optional_at f e)) (test_cost (optional_at f e)) work.old.items
+        work.new.items) }
 {
     match e {
         None => push_all(work, &[Work::Mark("default")]),
@@ -228,7 +259,8 @@ fn expand_declared(declared: bool, work: &mut Vec<Work>) -> Result<(), Memory>
 }
 
 fn expand_label<'t>(label: &'t Option<Text>, work: &mut Vec<Work<'t>>) -> Result<(), Memory>
-    ensures { (f : Forest) → OnOk result (Pushes f (label_tokens label.now) (label_cost label.now) work.old.items work.new.items) }
+    ensures { (f : Forest) → OnOk result (Pushes f (label_tokens label.now) (label_cost label.now) work.old.items
+        work.new.items) }
 {
     match label {
         None => Ok(()),
@@ -241,7 +273,9 @@ fn expand_catch<'t>(
     caught: &'t Option<(Text, Vec<StmtId>)>,
     work: &mut Vec<Work<'t>>,
 ) -> Result<(), Memory>
-    ensures { (f : Forest) → AreCatch f caught.now → OnOk result (Pushes f (catch_tokens (catch_at f caught.now)) (catch_cost (catch_at f caught.now)) work.old.items work.new.items) }
+    ensures { (f : Forest) → AreCatch f caught.now →
+        OnOk result (Pushes f (catch_tokens (catch_at f caught.now)) (catch_cost (catch_at f caught.now))
+        work.old.items work.new.items) }
 {
     match caught {
         None => Ok(()),
@@ -260,7 +294,9 @@ fn expand_catch<'t>(
 
 #[tactic(auto, unfolding(crate::specs::Tidy::last_tokens, crate::specs::Costs::last_cost))]
 fn expand_last<'t>(last: &'t Option<Vec<StmtId>>, work: &mut Vec<Work<'t>>) -> Result<(), Memory>
-    ensures { (f : Forest) → AreBlock f last.now → OnOk result (Pushes f (last_tokens (block_at f last.now)) (last_cost (block_at f last.now)) work.old.items work.new.items) }
+    ensures { (f : Forest) → AreBlock f last.now →
+        OnOk result (Pushes f (last_tokens (block_at f last.now)) (last_cost (block_at f last.now)) work.old.items
+        work.new.items) }
 {
     match last {
         None => Ok(()),
@@ -272,7 +308,8 @@ fn expand_last<'t>(last: &'t Option<Vec<StmtId>>, work: &mut Vec<Work<'t>>) -> R
 pub fn expand<'t>(tree: &'t Tree, piece: Work<'t>, work: &mut Vec<Work<'t>>) -> Result<(), Memory>
     requires parts { IsWork (trees tree.now) piece }
     requires whole { ¬ IsToken piece }
-    ensures { OnOk result (Pushes (trees tree.now) (work_tokens (trees tree.now) piece.entry) (inner_cost (trees tree.now) piece.entry) work.old.items work.new.items) }
+    ensures { OnOk result (Pushes (trees tree.now) (work_tokens (trees tree.now) piece.entry)
+        (inner_cost (trees tree.now) piece.entry) work.old.items work.new.items) }
 {
     match piece {
         Work::Mark(_) | Work::Name(_) | Work::Quoted(_) => unreachable!(),

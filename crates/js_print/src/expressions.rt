@@ -23,7 +23,8 @@ fn expand_dot<'t>(
     first: bool,
     work: &mut Vec<Work<'t>>,
 ) -> Result<(), Memory>
-    ensures { (f : Forest) → IsExpr f object → OnOk result (PushesForm f first (Dot (expr_at f object) name.now) work.old.items work.new.items) }
+    ensures { (f : Forest) → IsExpr f object →
+        OnOk result (PushesForm f first (Dot (expr_at f object) name.now) work.old.items work.new.items) }
 {
     push_all(
         work,
@@ -38,7 +39,8 @@ fn expand_dot<'t>(
 // A property by its key.
 #[tactic(auto, unfolding(crate::specs::Tidy::form_tokens, crate::specs::Costs::form_cost))]
 fn expand_sub(object: ExprId, key: ExprId, first: bool, work: &mut Vec<Work>) -> Result<(), Memory>
-    ensures { (f : Forest) → IsExpr f object → IsExpr f key → OnOk result (PushesForm f first (Sub (expr_at f object) (expr_at f key)) work.old.items work.new.items) }
+    ensures { (f : Forest) → IsExpr f object → IsExpr f key →
+        OnOk result (PushesForm f first (Sub (expr_at f object) (expr_at f key)) work.old.items work.new.items) }
 {
     push_all(
         work,
@@ -58,7 +60,9 @@ fn expand_call<'t>(
     first: bool,
     work: &mut Vec<Work<'t>>,
 ) -> Result<(), Memory>
-    ensures { (f : Forest) → IsExpr f function → All (IsExpr f) arguments.now → OnOk result (PushesForm f first (Call (expr_at f function) (exprs_at f arguments.now)) work.old.items work.new.items) }
+    ensures { (f : Forest) → IsExpr f function → All (IsExpr f) arguments.now →
+        OnOk result (PushesForm f first (Call (expr_at f function) (exprs_at f arguments.now)) work.old.items
+        work.new.items) }
 {
     push_all(
         work,
@@ -77,7 +81,9 @@ fn expand_new<'t>(
     arguments: &'t [ExprId],
     work: &mut Vec<Work<'t>>,
 ) -> Result<(), Memory>
-    ensures { (f : Forest) (first : Bool) → IsExpr f function → All (IsExpr f) arguments.now → OnOk result (PushesForm f first (New (expr_at f function) (exprs_at f arguments.now)) work.old.items work.new.items) }
+    ensures { (f : Forest) (first : Bool) → IsExpr f function → All (IsExpr f) arguments.now →
+        OnOk result (PushesForm f first (New (expr_at f function) (exprs_at f arguments.now)) work.old.items
+        work.new.items) }
 {
     push_all(
         work,
@@ -93,7 +99,8 @@ fn expand_new<'t>(
 
 #[tactic(auto, unfolding(crate::specs::Tidy::form_tokens, crate::specs::Costs::form_cost))]
 fn expand_step(op: StepOp, e: ExprId, first: bool, work: &mut Vec<Work>) -> Result<(), Memory>
-    ensures { (f : Forest) → IsExpr f e → OnOk result (PushesForm f first (Step op (expr_at f e)) work.old.items work.new.items) }
+    ensures { (f : Forest) → IsExpr f e →
+        OnOk result (PushesForm f first (Step op (expr_at f e)) work.old.items work.new.items) }
 {
     match op {
         StepOp::PreInc => push_all(work, &[Work::Mark("++"), Work::Expr(e, UNARY, false)]),
@@ -113,7 +120,11 @@ fn expand_infix<'t>(
     work: &mut Vec<Work<'t>>,
 ) -> Result<(), Memory>
     requires { level < PRIMARY }
-    ensures { (f : Forest) → IsExpr f left → IsExpr f right → OnOk result (Pushes f (flat (expr_tokens first level (expr_at f left) ∷ mark operator.now ∷ expr_tokens false (level + 1) (expr_at f right) ∷ [])) (total ((1 + expr_cost (expr_at f left)) ∷ 2 ∷ (1 + expr_cost (expr_at f right)) ∷ [])) work.old.items work.new.items) }
+    ensures { (f : Forest) → IsExpr f left → IsExpr f right →
+        OnOk result (Pushes f (flat (expr_tokens first level (expr_at f left) ∷ mark operator.now ∷ expr_tokens
+        false (level + 1) (expr_at f right) ∷ []))
+        (total ((1 + expr_cost (expr_at f left)) ∷ 2 ∷ (1 + expr_cost (expr_at f right)) ∷ [])) work.old.items
+        work.new.items) }
 {
     push_all(
         work,
@@ -133,7 +144,9 @@ fn expand_cond(
     first: bool,
     work: &mut Vec<Work>,
 ) -> Result<(), Memory>
-    ensures { (f : Forest) → IsExpr f test → IsExpr f then → IsExpr f other → OnOk result (PushesForm f first (Cond (expr_at f test) (expr_at f then) (expr_at f other)) work.old.items work.new.items) }
+    ensures { (f : Forest) → IsExpr f test → IsExpr f then → IsExpr f other →
+        OnOk result (PushesForm f first (Cond (expr_at f test) (expr_at f then) (expr_at f other)) work.old.items
+        work.new.items) }
 {
     push_all(
         work,
@@ -155,7 +168,9 @@ fn expand_assign(
     first: bool,
     work: &mut Vec<Work>,
 ) -> Result<(), Memory>
-    ensures { (f : Forest) → IsExpr f target → IsExpr f value → OnOk result (PushesForm f first (Assign op (expr_at f target) (expr_at f value)) work.old.items work.new.items) }
+    ensures { (f : Forest) → IsExpr f target → IsExpr f value →
+        OnOk result (PushesForm f first (Assign op (expr_at f target) (expr_at f value)) work.old.items
+        work.new.items) }
 {
     push_all(
         work,
@@ -170,7 +185,8 @@ fn expand_assign(
 // An expression without its parentheses.
 #[tactic(auto, unfolding(crate::specs::Tidy::form_tokens, crate::specs::Costs::form_cost))]
 fn expand_form<'t>(node: &'t Expr, first: bool, work: &mut Vec<Work<'t>>) -> Result<(), Memory>
-    ensures { (f : Forest) → AreExprParts f node.now → OnOk result (PushesForm f first (plain_form f node.now) work.old.items work.new.items) }
+    ensures { (f : Forest) → AreExprParts f node.now →
+        OnOk result (PushesForm f first (plain_form f node.now) work.old.items work.new.items) }
 {
     match node {
         Expr::Num(text) => push_all(work, &[Work::Name(text)]),
@@ -210,7 +226,8 @@ pub fn expand_expr<'t>(
     work: &mut Vec<Work<'t>>,
 ) -> Result<(), Memory>
     requires { IsExpr (trees tree.now) id }
-    ensures { OnOk result (Pushes (trees tree.now) (expr_tokens first level (expr_at (trees tree.now) id)) (expr_cost (expr_at (trees tree.now) id)) work.old.items work.new.items) }
+    ensures { OnOk result (Pushes (trees tree.now) (expr_tokens first level (expr_at (trees tree.now) id))
+        (expr_cost (expr_at (trees tree.now) id)) work.old.items work.new.items) }
 {
     let node = tree.expr(id);
     if is_enclosed(node, level, first) {

@@ -10,4 +10,3 @@ mod work;
 mod write;
 
 pub use print::print_tree;
-

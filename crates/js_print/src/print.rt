@@ -24,8 +24,11 @@ fn step<'t>(
     requires piece { IsWork (trees tree.now) piece }
     requires stack { AreWork (trees tree.now) work.old.items }
     ensures { MatchResult result
-        (λ now. Steps (trees tree.now) (work_tokens (trees tree.now) piece.entry) (work_cost (trees tree.now) piece.entry) begun now work.old.items work.new.items out.old.items out.new.items)
-        (λ _. AppendsFront out.old.items out.new.items (spaced begun (work_tokens (trees tree.now) piece.entry ++ todo (trees tree.now) work.old.items))) }
+        (λ now. Steps (trees tree.now) (work_tokens (trees tree.now) piece.entry)
+        (work_cost (trees tree.now) piece.entry) begun now work.old.items work.new.items out.old.items
+        out.new.items)
+        (λ _. AppendsFront out.old.items out.new.items
+        (spaced begun (work_tokens (trees tree.now) piece.entry ++ todo (trees tree.now) work.old.items))) }
 {
     match piece {
         Work::Mark(text) => {

@@ -13,7 +13,9 @@ use js_tree::{Clause, ExprId, ForInit, Stmt, StmtId};
 
 // A word, one piece and a semicolon.
 fn expand_simple<'t>(word: &'t str, piece: Work<'t>, work: &mut Vec<Work<'t>>) -> Result<(), Memory>
-    ensures { (f : Forest) → IsWork f piece.entry → OnOk result (Pushes f (flat (mark word.now ∷ work_tokens f piece.entry ∷ mark (codes ";") ∷ [])) (total (2 ∷ work_cost f piece.entry ∷ 2 ∷ [])) work.old.items work.new.items) }
+    ensures { (f : Forest) → IsWork f piece.entry →
+        OnOk result (Pushes f (flat (mark word.now ∷ work_tokens f piece.entry ∷ mark (codes ";") ∷ []))
+        (total (2 ∷ work_cost f piece.entry ∷ 2 ∷ [])) work.old.items work.new.items) }
 {
     push_all(work, &[Work::Mark(word), piece, Work::Mark(";")])
 }
@@ -25,7 +27,11 @@ fn expand_headed<'t>(
     body: &'t [StmtId],
     work: &mut Vec<Work<'t>>,
 ) -> Result<(), Memory>
-    ensures { (f : Forest) → IsExpr f head → All (IsStmt f) body.now → OnOk result (Pushes f (flat (mark word.now ∷ enclosed (expr_tokens false WHOLE (expr_at f head)) ∷ braced (stmts_tokens (stmts_at f body.now)) ∷ [])) (total (2 ∷ (1 + enclosed_cost (expr_cost (expr_at f head))) ∷ (1 + enclosed_cost (stmts_cost (stmts_at f body.now))) ∷ [])) work.old.items work.new.items) }
+    ensures { (f : Forest) → IsExpr f head → All (IsStmt f) body.now →
+        OnOk result (Pushes f (flat (mark word.now ∷ enclosed (expr_tokens false WHOLE (expr_at f head)) ∷ braced
+        (stmts_tokens (stmts_at f body.now)) ∷ []))
+        (total (2 ∷ (1 + enclosed_cost (expr_cost (expr_at f head))) ∷
+        (1 + enclosed_cost (stmts_cost (stmts_at f body.now))) ∷ [])) work.old.items work.new.items) }
 {
     push_all(
         work,
@@ -40,7 +46,9 @@ fn expand_if<'t>(
     other: &'t [StmtId],
     work: &mut Vec<Work<'t>>,
 ) -> Result<(), Memory>
-    ensures { (f : Forest) → IsExpr f test → All (IsStmt f) then.now → All (IsStmt f) other.now → OnOk result (PushesStmt f (If (expr_at f test) (stmts_at f then.now) (stmts_at f other.now)) work.old.items work.new.items) }
+    ensures { (f : Forest) → IsExpr f test → All (IsStmt f) then.now → All (IsStmt f) other.now →
+        OnOk result (PushesStmt f (If (expr_at f test) (stmts_at f then.now) (stmts_at f other.now)) work.old.items
+        work.new.items) }
 {
     push_all(
         work,
@@ -55,7 +63,8 @@ fn expand_if<'t>(
 
 #[tactic(auto, unfolding(crate::specs::Tidy::stmt_form_tokens, crate::specs::Costs::stmt_form_cost))]
 fn expand_do<'t>(test: ExprId, body: &'t [StmtId], work: &mut Vec<Work<'t>>) -> Result<(), Memory>
-    ensures { (f : Forest) → IsExpr f test → All (IsStmt f) body.now → OnOk result (PushesStmt f (DoWhile (expr_at f test) (stmts_at f body.now)) work.old.items work.new.items) }
+    ensures { (f : Forest) → IsExpr f test → All (IsStmt f) body.now →
+        OnOk result (PushesStmt f (DoWhile (expr_at f test) (stmts_at f body.now)) work.old.items work.new.items) }
 {
     push_all(
         work,
@@ -77,7 +86,10 @@ fn expand_for<'t>(
     body: &'t [StmtId],
     work: &mut Vec<Work<'t>>,
 ) -> Result<(), Memory>
-    ensures { (f : Forest) → AreInit f init.now → IsOptional f test → All (IsExpr f) steps.now → All (IsStmt f) body.now → OnOk result (PushesStmt f (For (init_at f init.now) (optional_at f test) (exprs_at f steps.now) (stmts_at f body.now)) work.old.items work.new.items) }
+    ensures { (f : Forest) → AreInit f init.now → IsOptional f test → All (IsExpr f) steps.now →
+        All (IsStmt f) body.now → OnOk result
+        (PushesStmt f (For (init_at f init.now) (optional_at f test) (exprs_at f steps.now) (stmts_at f body.now))
+        work.old.items work.new.items) }
 {
     push_all(
         work,
@@ -103,7 +115,9 @@ fn expand_for_in<'t>(
     body: &'t [StmtId],
     work: &mut Vec<Work<'t>>,
 ) -> Result<(), Memory>
-    ensures { (f : Forest) → IsExpr f object → All (IsStmt f) body.now → OnOk result (PushesStmt f (ForIn declared variable.now (expr_at f object) (stmts_at f body.now)) work.old.items work.new.items) }
+    ensures { (f : Forest) → IsExpr f object → All (IsStmt f) body.now →
+        OnOk result (PushesStmt f (ForIn declared variable.now (expr_at f object) (stmts_at f body.now))
+        work.old.items work.new.items) }
 {
     push_all(
         work,
@@ -126,7 +140,9 @@ fn expand_switch<'t>(
     clauses: &'t [Clause],
     work: &mut Vec<Work<'t>>,
 ) -> Result<(), Memory>
-    ensures { (f : Forest) → IsExpr f value → All (AreClauseParts f) clauses.now → OnOk result (PushesStmt f (Switch (expr_at f value) (clauses_at f clauses.now)) work.old.items work.new.items) }
+    ensures { (f : Forest) → IsExpr f value → All (AreClauseParts f) clauses.now →
+        OnOk result (PushesStmt f (Switch (expr_at f value) (clauses_at f clauses.now)) work.old.items
+        work.new.items) }
 {
     push_all(
         work,
@@ -147,7 +163,9 @@ fn expand_try<'t>(
     last: &'t Option<Vec<StmtId>>,
     work: &mut Vec<Work<'t>>,
 ) -> Result<(), Memory>
-    ensures { (f : Forest) → All (IsStmt f) body.now → AreCatch f caught.now → AreBlock f last.now → OnOk result (PushesStmt f (Try (stmts_at f body.now) (catch_at f caught.now) (block_at f last.now)) work.old.items work.new.items) }
+    ensures { (f : Forest) → All (IsStmt f) body.now → AreCatch f caught.now → AreBlock f last.now →
+        OnOk result (PushesStmt f (Try (stmts_at f body.now) (catch_at f caught.now) (block_at f last.now))
+        work.old.items work.new.items) }
 {
     push_all(
         work,
@@ -163,7 +181,8 @@ fn expand_try<'t>(
 /// A statement.
 #[tactic(auto, unfolding(crate::specs::Tidy::stmt_form_tokens, crate::specs::Costs::stmt_form_cost))]
 pub fn expand_stmt<'t>(node: &'t Stmt, work: &mut Vec<Work<'t>>) -> Result<(), Memory>
-    ensures { (f : Forest) → AreStmtParts f node.now → OnOk result (PushesStmt f (plain_stmt_form f node.now) work.old.items work.new.items) }
+    ensures { (f : Forest) → AreStmtParts f node.now →
+        OnOk result (PushesStmt f (plain_stmt_form f node.now) work.old.items work.new.items) }
 {
     match node {
         Stmt::Var(ds) => expand_simple("var", Work::Decls(ds, false), work),

@@ -64,7 +64,8 @@ pub enum Work<'t> {
 
 /// Pieces in the order of the text.
 pub fn push_all<'t>(work: &mut Vec<Work<'t>>, pieces: &[Work<'t>]) -> Result<(), Memory>
-    ensures { (f : Forest) → AreWork f pieces.now → OnOk result (Pushes f (row f pieces.now) (row_cost f pieces.now) work.old.items work.new.items) }
+    ensures { (f : Forest) → AreWork f pieces.now →
+        OnOk result (Pushes f (row f pieces.now) (row_cost f pieces.now) work.old.items work.new.items) }
 {
     let mut left = pieces.len();
     'pieces: while left > 0 {
@@ -76,7 +77,8 @@ pub fn push_all<'t>(work: &mut Vec<Work<'t>>, pieces: &[Work<'t>]) -> Result<(),
 
 /// A comma, where some of a list stood before.
 pub fn push_comma(begun: bool, work: &mut Vec<Work>) -> Result<(), Memory>
-    ensures { (f : Forest) → OnOk result (Pushes f (if begun then codes "," ∷ [] else []) 2 work.old.items work.new.items) }
+    ensures { (f : Forest) → OnOk result (Pushes f (if begun then codes "," ∷ [] else []) 2 work.old.items
+        work.new.items) }
 {
     if begun {
         return push_all(work, &[Work::Mark(",")]);
@@ -91,7 +93,9 @@ pub fn push_inside<'t>(
     after: &'t str,
     work: &mut Vec<Work<'t>>,
 ) -> Result<(), Memory>
-    ensures { (f : Forest) → IsWork f piece.entry → OnOk result (Pushes f (flat (mark before.now ∷ work_tokens f piece.entry ∷ mark after.now ∷ [])) (enclosed_cost (inner_cost f piece.entry)) work.old.items work.new.items) }
+    ensures { (f : Forest) → IsWork f piece.entry →
+        OnOk result (Pushes f (flat (mark before.now ∷ work_tokens f piece.entry ∷ mark after.now ∷ []))
+        (enclosed_cost (inner_cost f piece.entry)) work.old.items work.new.items) }
 {
     push_all(work, &[Work::Mark(before), piece, Work::Mark(after)])
 }

@@ -1,27 +1,15 @@
 //! Tokens as bytes. A refusal leaves a front of the token appended.
-ghost use Rattle.std.specs.Prelude.{false, ◌≡◌, ◌<◌, ◌++◌, MatchResult};
-ghost use Rattle.std.specs.Fmt.{digit_glyph};
+ghost use Rattle.std.specs.Prelude.{◌≡◌, ◌++◌, MatchResult};
 ghost use Rattle.js_print.specs.Spelling.{unit_bytes, quoted_unit, name_bytes, string_bytes};
 ghost use Rattle.js_print.specs.Walk.{space};
 ghost use Rattle.js_print.specs.Writing.{AppendsFront};
 
-use code_units::{Memory, Text};
-
-// A lower-case hexadecimal digit.
-fn hex_digit(n: u16) -> u8
-    requires { n < 16 }
-    ensures { result ≡ digit_glyph false n }
-{
-    if n < 10 {
-        b'0' + n as u8
-    } else {
-        b'a' - 10 + n as u8
-    }
-}
+use code_units::{Memory, Text, hex_digit};
 
 // A refusal appends nothing.
 fn push_unit(out: &mut Vec<u8>, unit: u16) -> Result<(), Memory>
-    ensures { MatchResult result (λ _. out.new.items ≡ out.old.items ++ unit_bytes unit) (λ _. out.new.items ≡ out.old.items) }
+    ensures { MatchResult result (λ _. out.new.items ≡ out.old.items ++ unit_bytes unit)
+        (λ _. out.new.items ≡ out.old.items) }
 {
     if 32 <= unit && unit <= 126 {
         out.push(unit as u8)?;
@@ -40,7 +28,8 @@ fn push_unit(out: &mut Vec<u8>, unit: u16) -> Result<(), Memory>
 }
 
 fn push_quoted_unit(out: &mut Vec<u8>, before: u16, unit: u16) -> Result<(), Memory>
-    ensures { MatchResult result (λ _. out.new.items ≡ out.old.items ++ quoted_unit before unit) (λ _. out.new.items ≡ out.old.items) }
+    ensures { MatchResult result (λ _. out.new.items ≡ out.old.items ++ quoted_unit before unit)
+        (λ _. out.new.items ≡ out.old.items) }
 {
     if unit == 34 || unit == 92 || unit == 47 && before == 60 {
         out.extend_from_slice(&[b'\\', unit as u8])?;
@@ -51,7 +40,8 @@ fn push_quoted_unit(out: &mut Vec<u8>, before: u16, unit: u16) -> Result<(), Mem
 
 // Appends a name or a number.
 fn push_name(out: &mut Vec<u8>, text: &Text) -> Result<(), Memory>
-    ensures { MatchResult result (λ _. out.new.items ≡ out.old.items ++ name_bytes text.now) (λ _. AppendsFront out.old.items out.new.items (name_bytes text.now)) }
+    ensures { MatchResult result (λ _. out.new.items ≡ out.old.items ++ name_bytes text.now)
+        (λ _. AppendsFront out.old.items out.new.items (name_bytes text.now)) }
 {
     'units: for unit in text.units() {
         push_unit(out, *unit)?;
@@ -61,7 +51,8 @@ fn push_name(out: &mut Vec<u8>, text: &Text) -> Result<(), Memory>
 
 // Appends a string in its quotes.
 fn push_quoted(out: &mut Vec<u8>, text: &Text) -> Result<(), Memory>
-    ensures { MatchResult result (λ _. out.new.items ≡ out.old.items ++ string_bytes text.now) (λ _. AppendsFront out.old.items out.new.items (string_bytes text.now)) }
+    ensures { MatchResult result (λ _. out.new.items ≡ out.old.items ++ string_bytes text.now)
+        (λ _. AppendsFront out.old.items out.new.items (string_bytes text.now)) }
 {
     out.push(b'"')?;
     let mut before = 0;
@@ -75,7 +66,8 @@ fn push_quoted(out: &mut Vec<u8>, text: &Text) -> Result<(), Memory>
 
 // A refusal appends nothing.
 fn push_space(out: &mut Vec<u8>, begun: bool) -> Result<(), Memory>
-    ensures { MatchResult result (λ _. out.new.items ≡ out.old.items ++ space begun) (λ _. out.new.items ≡ out.old.items) }
+    ensures { MatchResult result (λ _. out.new.items ≡ out.old.items ++ space begun)
+        (λ _. out.new.items ≡ out.old.items) }
 {
     if begun {
         out.push(b' ')?;
@@ -85,7 +77,8 @@ fn push_space(out: &mut Vec<u8>, begun: bool) -> Result<(), Memory>
 
 /// Appends a mark or a word, after a space where a token came before.
 pub fn write_mark(out: &mut Vec<u8>, begun: bool, text: &str) -> Result<(), Memory>
-    ensures { MatchResult result (λ _. out.new.items ≡ out.old.items ++ (space begun ++ text.now)) (λ _. AppendsFront out.old.items out.new.items (space begun ++ text.now)) }
+    ensures { MatchResult result (λ _. out.new.items ≡ out.old.items ++ (space begun ++ text.now))
+        (λ _. AppendsFront out.old.items out.new.items (space begun ++ text.now)) }
 {
     push_space(out, begun)?;
     out.extend_from_slice(text.as_bytes())?;
@@ -94,7 +87,8 @@ pub fn write_mark(out: &mut Vec<u8>, begun: bool, text: &str) -> Result<(), Memo
 
 /// Appends a name or a number likewise.
 pub fn write_name(out: &mut Vec<u8>, begun: bool, text: &Text) -> Result<(), Memory>
-    ensures { MatchResult result (λ _. out.new.items ≡ out.old.items ++ (space begun ++ name_bytes text.now)) (λ _. AppendsFront out.old.items out.new.items (space begun ++ name_bytes text.now)) }
+    ensures { MatchResult result (λ _. out.new.items ≡ out.old.items ++ (space begun ++ name_bytes text.now))
+        (λ _. AppendsFront out.old.items out.new.items (space begun ++ name_bytes text.now)) }
 {
     push_space(out, begun)?;
     push_name(out, text)
@@ -102,7 +96,8 @@ pub fn write_name(out: &mut Vec<u8>, begun: bool, text: &Text) -> Result<(), Mem
 
 /// Appends a string likewise.
 pub fn write_quoted(out: &mut Vec<u8>, begun: bool, text: &Text) -> Result<(), Memory>
-    ensures { MatchResult result (λ _. out.new.items ≡ out.old.items ++ (space begun ++ string_bytes text.now)) (λ _. AppendsFront out.old.items out.new.items (space begun ++ string_bytes text.now)) }
+    ensures { MatchResult result (λ _. out.new.items ≡ out.old.items ++ (space begun ++ string_bytes text.now))
+        (λ _. AppendsFront out.old.items out.new.items (space begun ++ string_bytes text.now)) }
 {
     push_space(out, begun)?;
     push_quoted(out, text)

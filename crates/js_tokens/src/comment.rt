@@ -9,7 +9,8 @@ use crate::cursor::char_at;
 pub fn comment_end(text: &str, at: usize) -> Option<usize>
     requires { IsPlace text.now at }
     ensures { MatchOption result (after_comment (from text.now at) ≡ None)
-        (λ next. (after_comment (from text.now at) ≡ Some (from text.now next)) × (at < next) × IsPlace text.now next) }
+        (λ next. (after_comment (from text.now at) ≡ Some (from text.now next)) × (at < next) ×
+        IsPlace text.now next) }
 {
     let mut place = at;
     'comment: loop {

@@ -25,5 +25,6 @@ pub fn in_order()
 /// What stands between the quotes of a string has at most one value, and the text of a string is that value.
 pub fn one_value()
     ensures one { (cs us vs : List ℕ) → StandsFor cs us → StandsFor cs vs → us ≡ vs }
-    ensures found { (bytes : List ℕ) (token : Token) → IsTokenOf bytes token → token.kind ≡ kind.Str → StandsFor (between_quotes bytes token) (text_of bytes token) }
+    ensures found { (bytes : List ℕ) (token : Token) → IsTokenOf bytes token → token.kind ≡ kind.Str →
+        StandsFor (between_quotes bytes token) (text_of bytes token) }
 {}

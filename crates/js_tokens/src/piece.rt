@@ -45,7 +45,8 @@ fn number_piece(text: &str, at: usize, end: usize) -> Piece
 fn string_piece(text: &str, at: usize, next: usize, quote: char) -> Piece
     requires place { IsPlace text.now at }
     requires quote { IsNext text.now at quote next }
-    ensures { IsPiece text.now at (found_string (from text.now at) (after_string quote false (from text.now next)) (first_bad quote false (from text.now next))) result }
+    ensures { IsPiece text.now at (found_string (from text.now at) (after_string quote false (from text.now next))
+        (first_bad quote false (from text.now next))) result }
 {
     match string_end(text, next, quote) {
         StringEnd::Open => Piece::Bad(at),

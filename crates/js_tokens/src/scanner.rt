@@ -36,7 +36,8 @@ fn text_tokens(alloc: Global, text: &str) -> Result<Vec<Token>, TokenFault>
 /// `BadToken` comes exactly where the bytes have no reading, with the first byte of the first ill-formed sequence of UTF-8 or else the least bad place; `Memory` where there was none for the list.
 pub fn tokens(alloc: Global, bytes: &[u8]) -> Result<Vec<Token>, TokenFault>
     ensures found { IfOk result (λ v. Lexes bytes.now v.items) }
-    ensures only { (ts : List Token) → Lexes bytes.now ts → MatchResult result (λ v. v.items ≡ ts) (λ e. e ≡ TokenFault.Memory) }
+    ensures only { (ts : List Token) → Lexes bytes.now ts →
+        MatchResult result (λ v. v.items ≡ ts) (λ e. e ≡ TokenFault.Memory) }
     ensures place { IfErr result (λ e. IsFault bytes.now e) }
 {
     match str::from_utf8(bytes) {

@@ -86,7 +86,8 @@ fn noted(bad: Option<usize>, text: &str, place: usize, next: usize) -> Option<us
 /// Where the string with this quote ends, from behind the quote.
 pub fn string_end(text: &str, at: usize, quote: char) -> StringEnd
     requires { IsPlace text.now at }
-    ensures { IsStringEnd text.now at (after_string quote false (from text.now at)) (first_bad quote false (from text.now at)) result }
+    ensures { IsStringEnd text.now at (after_string quote false (from text.now at))
+        (first_bad quote false (from text.now at)) result }
 {
     let mut place = at;
     let mut bad = None;

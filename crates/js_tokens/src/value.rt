@@ -131,7 +131,8 @@ fn string_text(alloc: Global, bytes: &[u8]) -> Result<Vec<u16>, AllocError>
 pub fn token_text(alloc: Global, bytes: &[u8], token: &Token) -> Result<Text, Memory>
     requires { IsTokenOf bytes.now token.now }
     ensures units { IfOk result (λ t. t ≡ text_of bytes.now token.now) }
-    ensures value { token.now.kind ≡ TokenKind.Str → IfOk result (λ t. StandsFor (between_quotes bytes.now token.now) t) }
+    ensures value { token.now.kind ≡ TokenKind.Str →
+        IfOk result (λ t. StandsFor (between_quotes bytes.now token.now) t) }
 {
     match token.kind {
         TokenKind::Str => {

@@ -4,3 +4,4 @@ pub mod PartsIn
 pub mod Births
 pub mod Arenas
 pub mod PartLaws
+mod Listing

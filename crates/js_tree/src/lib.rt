@@ -5,10 +5,9 @@ mod laws;
 mod nodes;
 mod tree;
 
-pub use laws::{parts_agree, parts_are_in, sizes_fall};
+pub use laws::{lists_agree, parts_agree, parts_are_in, sizes_fall};
 pub use nodes::{
     AssignOp, BinOp, Clause, Decl, Expr, ExprId, ForInit, Fun, FunId, Part, StepOp, Stmt, StmtId,
     UnOp, Word,
 };
 pub use tree::Tree;
-

@@ -14,7 +14,7 @@ pub struct StmtId(pub u32);
 pub struct FunId(pub u32);
 
 /// A reserved word that is an expression.
-#[derive(Clone, Copy, PartialEq, Eq, Debug, Drop)]
+#[derive(Clone, Copy, PartialEq, Eq, Drop)]
 pub enum Word {
     This,
     Null,
@@ -23,7 +23,7 @@ pub enum Word {
 }
 
 /// An operator that steps a variable.
-#[derive(Clone, Copy, PartialEq, Eq, Debug, Drop)]
+#[derive(Clone, Copy, PartialEq, Eq, Drop)]
 pub enum StepOp {
     PreInc,
     PreDec,
@@ -32,7 +32,7 @@ pub enum StepOp {
 }
 
 /// A prefix operator: `delete void typeof + - ~ !`.
-#[derive(Clone, Copy, PartialEq, Eq, Debug, Drop)]
+#[derive(Clone, Copy, PartialEq, Eq, Drop)]
 pub enum UnOp {
     Delete,
     Void,
@@ -44,7 +44,7 @@ pub enum UnOp {
 }
 
 /// An operator between two operands.
-#[derive(Clone, Copy, PartialEq, Eq, Debug, Drop)]
+#[derive(Clone, Copy, PartialEq, Eq, Drop)]
 pub enum BinOp {
     Mul,
     Div,
@@ -70,7 +70,7 @@ pub enum BinOp {
 }
 
 /// An assignment operator.
-#[derive(Clone, Copy, PartialEq, Eq, Debug, Drop)]
+#[derive(Clone, Copy, PartialEq, Eq, Drop)]
 pub enum AssignOp {
     Assign,
     Add,
@@ -163,7 +163,7 @@ pub struct Fun {
 }
 
 /// A node of any kind, by its number.
-#[derive(Clone, Copy, PartialEq, Eq, Debug, Drop)]
+#[derive(Clone, Copy, PartialEq, Eq, Drop)]
 pub enum Part {
     Expr(ExprId),
     Stmt(StmtId),

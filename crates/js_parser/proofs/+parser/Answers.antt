@@ -282,6 +282,12 @@ expressions::chain-returns-in_err-id-in-Some t c =
 pub expressions::chain-chain-preserved : goal.expressions::chain-chain-preserved
 expressions::chain-chain-preserved t c = chain_more _ _ _ _ _ _ _ _ _ _ c.chain.invariant _ _ _ (c.in_ok-id-in-Some.ensures _ c.in-Some.ensures.1)
 
+pub expressions::choice-add_plain-requires-clause-parts : goal.expressions::choice-add_plain-requires-clause-parts
+expressions::choice-add_plain-requires-clause-parts t c =
+    let chosen = c.in_ok-chosen.ensures in
+    let other = c.in_ok-other.ensures in
+    ((other.kept.exprs c.args.test (chosen.kept.exprs c.args.test c.requires.left).0).0, (other.kept.exprs c.in_ok-chosen.chosen chosen.is_in).0, other.is_in)
+
 pub expressions::choice-returns-in_err-chosen : goal.expressions::choice-returns-in_err-chosen
 expressions::choice-returns-in_err-chosen t c =
     let p = err_from_is_err_and c.from_residual-in_err-chosen.result c.from_residual-in_err-chosen.ensures.1 in
