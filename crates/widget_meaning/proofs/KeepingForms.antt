@@ -4,7 +4,7 @@ use Rattle.js_tree.specs.declared.nodes.UnOp.TheVariants as un
 use Rattle.js_tree.specs.declared.nodes.AssignOp.TheVariants as assignment
 use Rattle.code_units.specs.declared.whole.WholeRead.TheVariants as read_as
 use Rattle.std.specs.Prelude.{ℕ, pos, ◌+◌, List, [], ◌∷◌, ◌++◌, Bool, true, false, Option, Some, None}
-use Rattle.widget_meaning.specs.NativeNames.{Native}
+use Rattle.permitted_table.specs.declared.native.HostEntry.TheVariants as host
 use Rattle.widget_meaning.specs.Values.{Value, Undefined, Null, Num, Text, Own, Host, Completion, Normal, Is, Refers, Return, Break, Continue, Throw, Reference, Variable, Property, Found}
 use Rattle.widget_meaning.specs.OwnState.{State, Cell, Kind, Object, Array, Function, Bunch}
 use Rattle.widget_meaning.specs.Plan.{Plan, Place, Ret, Loop, WhileLoop, DoLoop, ForLoop, ForInLoop, Hearing}
@@ -109,7 +109,7 @@ module _ (inv : Invariant) where
 
   pub invoke_r : (x0 : Value) (x1 : Option Value) (x2 : List Value) (x3 : ℕ) (x4 : State) → R inv x4 → Keeps inv (invoke x0 x1 x2 x3 x4)
   invoke_r (Own n) this vs d s hr = search (enter_r)
-  invoke_r (Host (Native w)) this vs d s hr = search (job, ended)
+  invoke_r (Host (host.Native w)) this vs d s hr = search (job, ended)
   invoke_r v this vs d s hr = search (faulted)
 
   pub primitive_result_r : (x0 : Completion) (x1 : State) → R inv x1 → Keeps inv (primitive_result x0 x1)

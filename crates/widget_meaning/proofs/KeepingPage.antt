@@ -3,18 +3,19 @@
 use Rattle.std.specs.Prelude.{ℕ, List, [], ◌∷◌, Bool, true, false, if◌then◌else◌, codes, Option, Some, None, length}
 use Rattle.std.specs.List.{fold}
 use Rattle.std.specs.Option.{option_map_or}
+use Rattle.permitted_table.specs.declared.native.NativeId.{NativeId}
 use Rattle.widget_meaning.specs.Values.{Value, Undefined}
 use Rattle.plain_tree.specs.Trees.{Label}
 use Rattle.widget_meaning.specs.Trees.{Trees, label_of}
 use Rattle.widget_meaning.specs.OwnState.{State, with_new_cell, Kept}
 use Rattle.widget_meaning.specs.Plan.{Plan}
-use Rattle.widget_meaning.specs.NativeNames.{ReadNative, Query, GetValue, GetValues, GetStyle, GetClass, GetTitle, GetCheck, Explode, Count, GetParent, GetTagName, GetMark, WriteNative, Append, Remove, Empty, Replace, SetValue, SetStyle, SetClass, SetTitle, SetCheck, SetEnabled, Focus, Blur, On, Off, Fire, Each, SetMark, Protect, Bubble, DomNative, DomQuery, DomAppend, DomTag, DomText, NativeId, OfGlobal, OfMath, OfPrototype, OfText, OfList, OfAdsafe, OfDom, OfRead, OfWrite}
+use Rattle.widget_meaning.specs.NativeNames.{ReadNative, Query, GetValue, GetValues, GetStyle, GetClass, GetTitle, GetCheck, Explode, Count, GetParent, GetTagName, GetMark, WriteNative, Append, Remove, Empty, Replace, SetValue, SetStyle, SetClass, SetTitle, SetCheck, SetEnabled, Focus, Blur, On, Off, Fire, Each, SetMark, Protect, OfEvent, family_of, DomNative, DomQuery, DomAppend, DomTag, DomText, Family, OfGlobal, OfMath, OfPrototype, OfText, OfList, OfAdsafe, OfDom, OfRead, OfWrite}
 use Rattle.widget_meaning.specs.PageForms.{want_all, is_input, is_text_node, want_one, want_bunch, with_label}
 use Rattle.query_grammar.specs.Steps.{Step}
 use Rattle.widget_meaning.specs.BunchReads.{query, read_native, give_page_text, query_steps, get_value, get_values, get_attribute, get_style, explode, get_parent, get_tag_name, read_method, exploded, with_bunch}
 use Rattle.widget_meaning.specs.BunchWrites.{appended, write_native, alter, alter_for, append_trees, append, remove, replace, set_value, set_style, set_attribute, set_flag, focus, blur, listen, hush, fired, fire, each_called, each, write_method, with_copies, emptied, relabel, with_text_node, valued, alter_each, change_kept}
 use Rattle.widget_meaning.specs.DomNatives.{dom_native, give_node, dom_tag, append_to_root, dom_append}
-use Rattle.widget_meaning.specs.Natives.{run_native}
+use Rattle.widget_meaning.specs.Natives.{run_family, run_native}
 use Rattle.widget_meaning.specs.Keeps.{Invariant, Keeps}
 use Rattle.widget_meaning.proofs.Keeping.{ended, job, value, chain, charged, paid, made_text, faulted, R, found, wanted}
 use Rattle.widget_meaning.proofs.KeepingAdsafe.{adsafe_native_r}
@@ -232,14 +233,17 @@ module _ (inv : Invariant) where
   dom_native_r DomTag this vs d s hr = search (want_primitives_r, dom_tag_r)
   dom_native_r DomText this vs d s hr = search (want_primitives_r, give_node_r)
 
+  pub run_family_r : (x0 : Family) (x1 : Option Value) (x2 : List Value) (x3 : ℕ) (x4 : State) → R inv x4 → Keeps inv (run_family x0 x1 x2 x3 x4)
+  run_family_r (OfGlobal w) this vs d s hr = search (global_native_r)
+  run_family_r (OfMath w) this vs d s hr = search (math_native_r)
+  run_family_r (OfPrototype w) this vs d s hr = search (prototype_native_r)
+  run_family_r (OfText w) this vs d s hr = search (text_native_r)
+  run_family_r (OfList w) this vs d s hr = search (list_native_r)
+  run_family_r (OfAdsafe w) this vs d s hr = search (adsafe_native_r)
+  run_family_r (OfDom w) this vs d s hr = search (dom_native_r)
+  run_family_r (OfRead w) this vs d s hr = search (read_native_r)
+  run_family_r (OfWrite w) this vs d s hr = search (write_native_r)
+  run_family_r OfEvent this vs d s hr = search (bubble_r)
+
   pub run_native_r : (x0 : NativeId) (x1 : Option Value) (x2 : List Value) (x3 : ℕ) (x4 : State) → R inv x4 → Keeps inv (run_native x0 x1 x2 x3 x4)
-  run_native_r (OfGlobal w) this vs d s hr = search (global_native_r)
-  run_native_r (OfMath w) this vs d s hr = search (math_native_r)
-  run_native_r (OfPrototype w) this vs d s hr = search (prototype_native_r)
-  run_native_r (OfText w) this vs d s hr = search (text_native_r)
-  run_native_r (OfList w) this vs d s hr = search (list_native_r)
-  run_native_r (OfAdsafe w) this vs d s hr = search (adsafe_native_r)
-  run_native_r (OfDom w) this vs d s hr = search (dom_native_r)
-  run_native_r (OfRead w) this vs d s hr = search (read_native_r)
-  run_native_r (OfWrite w) this vs d s hr = search (write_native_r)
-  run_native_r Bubble this vs d s hr = search (bubble_r)
+  run_native_r w this vs d s hr = run_family_r (family_of w) this vs d s hr

@@ -4,7 +4,7 @@ use Rattle.std.specs.List.{fold}
 use Rattle.std.specs.Str.{bytes_eq}
 use Rattle.js_tree.specs.Plain as tree
 use Rattle.js_tree.specs.Plain.{Stmts, Fun}
-use Rattle.widget_meaning.specs.NativeNames.{DomObject}
+use Rattle.permitted_table.specs.declared.native.HostEntry.TheVariants as host
 use Rattle.widget_meaning.specs.Values.{Value, Undefined, Own, Host, Completion}
 use Rattle.plain_tree.specs.Trees.{size}
 use Rattle.widget_meaning.specs.Trees.{Trees, numbered}
@@ -84,7 +84,7 @@ library_turn (Some (x, f)) o = turn (library_plan x f) o
 
 -- the `go` function is called with `dom` and `lib`
 abbrev pub go_plan : Fun → State → Plan
-go_plan f s = call_script f (Host DomObject ∷ lib ∷ []) s Ret
+go_plan f s = call_script f (Host host.Dom ∷ lib ∷ []) s Ret
 
 -- the turn of the `go` function
 abbrev pub go_turn : Option (List ℕ × Fun) → OwnState → OwnState

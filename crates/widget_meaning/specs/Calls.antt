@@ -4,7 +4,7 @@ use Rattle.std.specs.Str.{bytes_eq}
 use Rattle.js_tree.specs.Plain as tree
 use Rattle.js_tree.specs.Plain.{Stmt, Stmts, Fun}
 use Rattle.widget_meaning.specs.Limits.{max_depth}
-use Rattle.widget_meaning.specs.NativeNames.{Native}
+use Rattle.permitted_table.specs.declared.native.HostEntry.TheVariants as host
 use Rattle.widget_meaning.specs.Values.{Value, Undefined, Own, Host, Completion, Normal, Return, Throw, Depth, E2, E6, is_object}
 use Rattle.widget_meaning.specs.OwnState.{State, Kind, Function, cell_at, scope_at, with_new_scope, with_scope, new_function, Scope}
 use Rattle.widget_meaning.specs.Plan.{Place, Plan, Ret, Halt, Do, Exec, Call, RunNative, and_then, on_value, on_normal}
@@ -65,7 +65,7 @@ enter kind v vs d s = throw E2 s
 -- a call by a caller at this depth: a function of the widget runs one deeper; a native takes a unit of its own
 abbrev pub invoke : Value → Option Value → List Value → ℕ → State → Plan
 invoke (Own n) this vs d s = enter (cell_at s n).kind (Own n) vs (suc d) s
-invoke (Host (Native w)) this vs d s = Do (RunNative w this vs d) s Ret
+invoke (Host (host.Native w)) this vs d s = Do (RunNative w this vs d) s Ret
 invoke v this vs d s = throw E2 s
 
 -- what a `toString` gave, or E6 where that is an object

@@ -9,7 +9,8 @@ use Rattle.js_tree.specs.Plain as tree
 use Rattle.js_tree.specs.Plain.{Expr, ExprForm, Exprs, Properties, OptionalExpr, Stmt, StmtForm, Stmts, Decls, ForInit, Catch, OptionalBlock, Clauses, Fun}
 use Rattle.code_units.specs.Whole.{number_in}
 use Rattle.widget_meaning.specs.Limits.{max_depth}
-use Rattle.widget_meaning.specs.NativeNames.{NativeId, Native}
+use Rattle.permitted_table.specs.declared.native.NativeId.{NativeId}
+use Rattle.permitted_table.specs.declared.native.HostEntry.TheVariants as host
 use Rattle.widget_meaning.specs.Values.{Value, Undefined, Num, Text, Own, Host, Reference, Variable, Completion, Normal, Is, Refers, Return, Break, Continue, Throw, E1, Depth, is_true, is_nothing, to_text, Found}
 use Rattle.widget_meaning.specs.OwnState.{State, Function, cell_at, with_new_scope, new_array, plain_object, new_function, Scope}
 use Rattle.widget_meaning.specs.Plan.{Place, Plan, Ret, Job, Eval, Target, Exec, Pass, Call, RunNative, Hear, Hearing, Loop, WhileLoop, DoLoop, ForLoop, ForInLoop, Out, End, Ended, Stopped, OutOfFuel, charge, on_normal, after}
@@ -312,7 +313,7 @@ pub record CallLaws (s : State) (g : ℕ) : Type 0 where
       → run_plan g (call_body b p s) ≡ then_do
       (run_plan g (statements (without_directive (stmt_list b)) p s)) call_end
   pub native_called : (w : NativeId) (this : Option Value) (vs : List Value) (d : ℕ)
-      → run_plan g (invoke (Host (Native w)) this vs d s) ≡ meaning (RunNative w this vs d) s g
+      → run_plan g (invoke (Host (host.Native w)) this vs d s) ≡ meaning (RunNative w this vs d) s g
   -- the conversion of an object: its `toString`, which the host calls
   pub conversion : (f v : Value) (d : ℕ)
       → run_plan g (call_to_string true f v d s) ≡ then_do (meaning (Call f (Some v) [] d) s g) primitive_result

@@ -3,7 +3,7 @@ use Rattle.std.specs.Prelude.{ℕ, zero, suc, ◌+◌, List, [], ◌∷◌, Bool
 use Rattle.std.specs.List.{filter}
 use Rattle.std.specs.Str.{bytes_eq}
 use Rattle.widget_meaning.specs.Limits.{max_node_depth}
-use Rattle.widget_meaning.specs.NativeNames.{Bubble}
+use Rattle.permitted_table.specs.declared.native.NativeId.TheVariants as natives
 use Rattle.widget_meaning.specs.Values.{Value, Undefined, Text, Own, Completion, Is, E3}
 use Rattle.widget_meaning.specs.Trees.{parent}
 use Rattle.widget_meaning.specs.OwnState.{Amounts, State, Pairs, kept_at, plain_object, new_bunch, with_new_cell}
@@ -56,7 +56,7 @@ event_pairs kind n value =
     ∷ (codes "target", Own (n + 1))
     ∷ (codes "that", Own (n + 2))
     ∷ (codes "value", value)
-    ∷ (codes "bubble", native Bubble) ∷ []
+    ∷ (codes "bubble", native natives.Bubble) ∷ []
 
 -- with the event object and the Bunches of its target and of the node
 abbrev pub with_event : State → List ℕ → ℕ → ℕ → Value → State

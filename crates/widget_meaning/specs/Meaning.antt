@@ -3,7 +3,7 @@ use Rattle.std.specs.Prelude.{ℕ, List, Option}
 use Rattle.js_tree.specs.Plain as tree
 use Rattle.js_tree.specs.Plain.{Expr, Stmt}
 use Rattle.widget_meaning.specs.Values.{Value}
-use Rattle.widget_meaning.specs.NativeNames.{NativeId}
+use Rattle.permitted_table.specs.declared.native.NativeId.{NativeId}
 use Rattle.widget_meaning.specs.OwnState.{State}
 use Rattle.widget_meaning.specs.Plan.{Place, Plan, Ret, Do, Job, Eval, Target, Exec, Pass, Call, RunNative, Hear, Out, run}
 use Rattle.widget_meaning.specs.Calls.{invoke}

@@ -1,6 +1,6 @@
--- The natives of the language and the host's objects that a widget may hold: names alone.
-
-use mathlib.Core.HLevel.{Discrete}
+-- The families of natives, by the part of the language that says what they do.
+use Rattle.permitted_table.specs.declared.native.NativeId.{NativeId}
+use Rattle.permitted_table.specs.declared.native.NativeId.TheVariants as native
 
 -- of the listed globals
 pub data GlobalNative : Type 0 where
@@ -11,7 +11,6 @@ pub data GlobalNative : Type 0 where
   IsFinite : GlobalNative
   ParseInt : GlobalNative
   FromCharCode : GlobalNative
-  deriving Discrete as GlobalNative-discrete
 
 -- of `Math`
 pub data MathNative : Type 0 where
@@ -22,7 +21,6 @@ pub data MathNative : Type 0 where
   Max : MathNative
   Min : MathNative
   Pow : MathNative
-  deriving Discrete as MathNative-discrete
 
 -- `hasOwnProperty`, and the `toString` of each prototype
 pub data PrototypeNative : Type 0 where
@@ -33,7 +31,6 @@ pub data PrototypeNative : Type 0 where
   TextToString : PrototypeNative
   NumberToString : PrototypeNative
   BooleanToString : PrototypeNative
-  deriving Discrete as PrototypeNative-discrete
 
 -- of texts
 pub data TextNative : Type 0 where
@@ -47,7 +44,6 @@ pub data TextNative : Type 0 where
   Split : TextNative
   ToLowerCase : TextNative
   ToUpperCase : TextNative
-  deriving Discrete as TextNative-discrete
 
 -- of arrays
 pub data ListNative : Type 0 where
@@ -64,7 +60,6 @@ pub data ListNative : Type 0 where
   ForEach : ListNative
   MapNative : ListNative
   FilterNative : ListNative
-  deriving Discrete as ListNative-discrete
 
 -- of `ADSAFE`
 pub data AdsafeNative : Type 0 where
@@ -80,7 +75,6 @@ pub data AdsafeNative : Type 0 where
   RemoveProperty : AdsafeNative
   SetProperty : AdsafeNative
   ToJson : AdsafeNative
-  deriving Discrete as AdsafeNative-discrete
 
 -- of `dom`
 pub data DomNative : Type 0 where
@@ -88,7 +82,6 @@ pub data DomNative : Type 0 where
   DomAppend : DomNative
   DomTag : DomNative
   DomText : DomNative
-  deriving Discrete as DomNative-discrete
 
 -- of Bunches, those that read
 pub data ReadNative : Type 0 where
@@ -104,7 +97,6 @@ pub data ReadNative : Type 0 where
   GetParent : ReadNative
   GetTagName : ReadNative
   GetMark : ReadNative
-  deriving Discrete as ReadNative-discrete
 
 -- of Bunches, those that change
 pub data WriteNative : Type 0 where
@@ -126,50 +118,111 @@ pub data WriteNative : Type 0 where
   Each : WriteNative
   SetMark : WriteNative
   Protect : WriteNative
-  deriving Discrete as WriteNative-discrete
 
--- a native, by the part of the language that says what it does
-pub data NativeId : Type 0 where
-  OfGlobal : GlobalNative → NativeId
-  OfMath : MathNative → NativeId
-  OfPrototype : PrototypeNative → NativeId
-  OfText : TextNative → NativeId
-  OfList : ListNative → NativeId
-  OfAdsafe : AdsafeNative → NativeId
-  OfDom : DomNative → NativeId
-  OfRead : ReadNative → NativeId
-  OfWrite : WriteNative → NativeId
+-- a native in its family
+pub data Family : Type 0 where
+  OfGlobal : GlobalNative → Family
+  OfMath : MathNative → Family
+  OfPrototype : PrototypeNative → Family
+  OfText : TextNative → Family
+  OfList : ListNative → Family
+  OfAdsafe : AdsafeNative → Family
+  OfDom : DomNative → Family
+  OfRead : ReadNative → Family
+  OfWrite : WriteNative → Family
   -- of the event object
-  Bubble : NativeId
-  deriving Discrete as NativeId-discrete
+  OfEvent : Family
 
--- what the host gives values of a kind
-pub data Prototype : Type 0 where
-  ObjectPrototype : Prototype
-  ArrayPrototype : Prototype
-  FunctionPrototype : Prototype
-  TextPrototype : Prototype
-  NumberPrototype : Prototype
-  BooleanPrototype : Prototype
-  BunchPrototype : Prototype
-  deriving Discrete as Prototype-discrete
-
--- an entry of the permitted table: a host object that a widget may hold
-pub data HostEntry : Type 0 where
-  AdsafeObject : HostEntry
-  MathObject : HostEntry
-  DomObject : HostEntry
-  PrototypeOf : Prototype → HostEntry
-  Native : NativeId → HostEntry
-  deriving Discrete as HostEntry-discrete
-
--- whether two natives are the same
-abbrev pub same_native : Discrete NativeId
-same_native =
-    NativeId-discrete GlobalNative-discrete MathNative-discrete PrototypeNative-discrete TextNative-discrete
-    ListNative-discrete
-    AdsafeNative-discrete DomNative-discrete ReadNative-discrete WriteNative-discrete
-
--- whether two entries of the permitted table are the same
-abbrev pub same_host : Discrete HostEntry
-same_host = HostEntry-discrete Prototype-discrete same_native
+-- the family of each native
+abbrev pub family_of : NativeId → Family
+family_of native.Bubble = OfEvent
+family_of native.Boolean = OfGlobal BooleanOf
+family_of native.Number = OfGlobal NumberOf
+family_of native.String = OfGlobal StringOf
+family_of native.IsNaN = OfGlobal IsNaN
+family_of native.IsFinite = OfGlobal IsFinite
+family_of native.ParseInt = OfGlobal ParseInt
+family_of native.FromCharCode = OfGlobal FromCharCode
+family_of native.Abs = OfMath Abs
+family_of native.Ceil = OfMath Ceil
+family_of native.Floor = OfMath Floor
+family_of native.Round = OfMath Round
+family_of native.Max = OfMath Max
+family_of native.Min = OfMath Min
+family_of native.Pow = OfMath Pow
+family_of native.HasOwnProperty = OfPrototype HasOwnProperty
+family_of native.ObjectToString = OfPrototype ObjectToString
+family_of native.FunctionToString = OfPrototype FunctionToString
+family_of native.NumberToString = OfPrototype NumberToString
+family_of native.BooleanToString = OfPrototype BooleanToString
+family_of native.TextToString = OfPrototype TextToString
+family_of native.ArrayToString = OfPrototype ArrayToString
+family_of native.CharAt = OfText CharAt
+family_of native.CharCodeAt = OfText CharCodeAt
+family_of native.TextConcat = OfText TextConcat
+family_of native.IndexOf = OfText IndexOf
+family_of native.LastIndexOf = OfText LastIndexOf
+family_of native.TextSlice = OfText TextSlice
+family_of native.Substring = OfText Substring
+family_of native.Split = OfText Split
+family_of native.ToLowerCase = OfText ToLowerCase
+family_of native.ToUpperCase = OfText ToUpperCase
+family_of native.ArrayConcat = OfList ListConcat
+family_of native.Join = OfList Join
+family_of native.Pop = OfList Pop
+family_of native.Shift = OfList Shift
+family_of native.Push = OfList Push
+family_of native.Unshift = OfList Unshift
+family_of native.Reverse = OfList Reverse
+family_of native.Sort = OfList Sort
+family_of native.ArraySlice = OfList ListSlice
+family_of native.Splice = OfList Splice
+family_of native.ForEach = OfList ForEach
+family_of native.Map = OfList MapNative
+family_of native.Filter = OfList FilterNative
+family_of native.Get = OfAdsafe GetProperty
+family_of native.Set = OfAdsafe SetProperty
+family_of native.Remove = OfAdsafe RemoveProperty
+family_of native.Has = OfAdsafe HasProperty
+family_of native.Create = OfAdsafe Create
+family_of native.IsArray = OfAdsafe IsArray
+family_of native.Keys = OfAdsafe KeysOf
+family_of native.Later = OfAdsafe Later
+family_of native.Log = OfAdsafe LogValue
+family_of native.Post = OfAdsafe Post
+family_of native.FromJson = OfAdsafe FromJson
+family_of native.ToJson = OfAdsafe ToJson
+family_of native.DomQ = OfDom DomQuery
+family_of native.DomAppend = OfDom DomAppend
+family_of native.DomTag = OfDom DomTag
+family_of native.DomText = OfDom DomText
+family_of native.BunchQ = OfRead Query
+family_of native.BunchAppend = OfWrite Append
+family_of native.BunchRemove = OfWrite Remove
+family_of native.Empty = OfWrite Empty
+family_of native.Replace = OfWrite Replace
+family_of native.Value = OfWrite SetValue
+family_of native.GetValue = OfRead GetValue
+family_of native.GetValues = OfRead GetValues
+family_of native.Style = OfWrite SetStyle
+family_of native.GetStyle = OfRead GetStyle
+family_of native.Klass = OfWrite SetClass
+family_of native.Title = OfWrite SetTitle
+family_of native.GetClass = OfRead GetClass
+family_of native.GetTitle = OfRead GetTitle
+family_of native.Check = OfWrite SetCheck
+family_of native.Enable = OfWrite SetEnabled
+family_of native.GetCheck = OfRead GetCheck
+family_of native.Focus = OfWrite Focus
+family_of native.Blur = OfWrite Blur
+family_of native.On = OfWrite On
+family_of native.Off = OfWrite Off
+family_of native.Fire = OfWrite Fire
+family_of native.Each = OfWrite Each
+family_of native.Explode = OfRead Explode
+family_of native.Count = OfRead Count
+family_of native.GetParent = OfRead GetParent
+family_of native.GetTagName = OfRead GetTagName
+family_of native.Mark = OfWrite SetMark
+family_of native.GetMark = OfRead GetMark
+family_of native.Protect = OfWrite Protect

@@ -8,7 +8,8 @@
 -- A native that calls a function asks for the job `Call`, with its own depth; all but a value passes by `on_value`.
 -- A recursion goes over a list that the native has listed, never over what a call may change.
 use Rattle.std.specs.Prelude.{ℕ, List, Option}
-use Rattle.widget_meaning.specs.NativeNames.{NativeId, OfGlobal, OfMath, OfPrototype, OfText, OfList, OfAdsafe, OfDom, OfRead, OfWrite, Bubble}
+use Rattle.permitted_table.specs.declared.native.NativeId.{NativeId}
+use Rattle.widget_meaning.specs.NativeNames.{Family, OfGlobal, OfMath, OfPrototype, OfText, OfList, OfAdsafe, OfDom, OfRead, OfWrite, OfEvent, family_of}
 use Rattle.widget_meaning.specs.Values.{Value}
 use Rattle.widget_meaning.specs.OwnState.{State}
 use Rattle.widget_meaning.specs.Plan.{Plan}
@@ -23,15 +24,19 @@ use Rattle.widget_meaning.specs.BunchReads.{read_native}
 use Rattle.widget_meaning.specs.BunchWrites.{write_native}
 use Rattle.widget_meaning.specs.Dispatch.{bubble}
 
--- a native with its receiver, its arguments and the call depth, after its unit
+-- a native of a family with its receiver, its arguments and the call depth, after its unit
+abbrev pub run_family : Family → Option Value → List Value → ℕ → State → Plan
+run_family (OfGlobal w) this vs d s = global_native w this vs d s
+run_family (OfMath w) this vs d s = math_native w this vs d s
+run_family (OfPrototype w) this vs d s = prototype_native w this vs d s
+run_family (OfText w) this vs d s = text_native w this vs s
+run_family (OfList w) this vs d s = list_native w this vs d s
+run_family (OfAdsafe w) this vs d s = adsafe_native w this vs d s
+run_family (OfDom w) this vs d s = dom_native w this vs d s
+run_family (OfRead w) this vs d s = read_native w this vs d s
+run_family (OfWrite w) this vs d s = write_native w this vs d s
+run_family OfEvent this vs d s = bubble s.dispatches s
+
+-- a native
 abbrev pub run_native : NativeId → Option Value → List Value → ℕ → State → Plan
-run_native (OfGlobal w) this vs d s = global_native w this vs d s
-run_native (OfMath w) this vs d s = math_native w this vs d s
-run_native (OfPrototype w) this vs d s = prototype_native w this vs d s
-run_native (OfText w) this vs d s = text_native w this vs s
-run_native (OfList w) this vs d s = list_native w this vs d s
-run_native (OfAdsafe w) this vs d s = adsafe_native w this vs d s
-run_native (OfDom w) this vs d s = dom_native w this vs d s
-run_native (OfRead w) this vs d s = read_native w this vs d s
-run_native (OfWrite w) this vs d s = write_native w this vs d s
-run_native Bubble this vs d s = bubble s.dispatches s
+run_native w this vs d s = run_family (family_of w) this vs d s

@@ -9,7 +9,7 @@ use Rattle.code_units.specs.declared.whole.WholeRead.{WholeRead}
 use Rattle.code_units.specs.declared.whole.WholeRead.TheVariants as read
 use Rattle.widget_meaning.specs.Limits.{past_numbers, max_text}
 use Rattle.widget_meaning.specs.Values.{Value, Undefined, Null, Truth, NaN, Num, Text, Own, Host, is_true, to_text, to_number}
-use Rattle.widget_meaning.specs.NativeNames.{same_host}
+use Rattle.permitted_table.specs.Table.{entry_number}
 
 -- what an operator gives: a value; or it leaves the numbers, or joins a text that is too long
 pub data OpOut : Type 0 where
@@ -78,11 +78,6 @@ abbrev pub compare : (List ℕ → List ℕ → Bool) → (ℤ → ℤ → Bool)
 compare texts numbers (Text t) (Text u) = truth (texts t u)
 compare texts numbers a b = of_numbers Leaves (truth false) (λ x y. truth (numbers x y)) (to_number a) (to_number b)
 
--- whether a decision is yes
-abbrev pub is_yes : {A : Type 0} → Dec A → Bool
-is_yes (yes p) = true
-is_yes (no p) = false
-
 -- `===`: type and value, texts by units, objects by identity; NaN equals nothing
 abbrev pub is_same : Value → Value → Bool
 is_same Undefined Undefined = true
@@ -91,7 +86,7 @@ is_same (Truth a) (Truth b) = if a then b else not b
 is_same (Num x) (Num y) = is_zero (x -ℤ y)
 is_same (Text t) (Text u) = bytes_eq t u
 is_same (Own m) (Own n) = nat_eq m n
-is_same (Host g) (Host h) = is_yes (same_host g h)
+is_same (Host g) (Host h) = nat_eq (entry_number g) (entry_number h)
 is_same _ _ = false
 
 -- an operator on two primitives; `===` and `!==` on any values

@@ -3,7 +3,7 @@ use Rattle.std.specs.Prelude.{ℕ, List, [], ◌∷◌, ◌++◌, Bool, false, O
 use Rattle.std.specs.Str.{bytes_eq}
 pub use Rattle.code_units.specs.Pairs.{lookup}
 use Rattle.js_tree.specs.Plain.{Fun}
-use Rattle.widget_meaning.specs.NativeNames.{ObjectPrototype, ArrayPrototype, FunctionPrototype, BunchPrototype, PrototypeOf}
+use Rattle.permitted_table.specs.declared.native.HostEntry.TheVariants as host
 use Rattle.widget_meaning.specs.Values.{Value, Own, Host, Stop}
 use Rattle.widget_meaning.specs.Trees.{Trees}
 
@@ -108,19 +108,19 @@ new_object proto ps = record { kind = Object; prototype = proto; pairs = ps }
 
 -- an object with the plain prototype
 abbrev pub plain_object : Pairs → Cell
-plain_object ps = new_object (Host (PrototypeOf ObjectPrototype)) ps
+plain_object ps = new_object (Host host.ObjectPrototype) ps
 
 -- an array of this length
 abbrev pub new_array : ℕ → Pairs → Cell
-new_array n ps = record { kind = Array n; prototype = Host (PrototypeOf ArrayPrototype); pairs = ps }
+new_array n ps = record { kind = Array n; prototype = Host host.ArrayPrototype; pairs = ps }
 
 -- a function with the scope in which it is made
 abbrev pub new_function : Fun → Option ℕ → Cell
-new_function f scope = record { kind = Function f scope; prototype = Host (PrototypeOf FunctionPrototype); pairs = [] }
+new_function f scope = record { kind = Function f scope; prototype = Host host.FunctionPrototype; pairs = [] }
 
 -- a Bunch of these nodes
 abbrev pub new_bunch : List ℕ → Cell
-new_bunch ns = record { kind = Bunch ns; prototype = Host (PrototypeOf BunchPrototype); pairs = [] }
+new_bunch ns = record { kind = Bunch ns; prototype = Host host.BunchPrototype; pairs = [] }
 
 -- ## What is read
 

@@ -1,7 +1,7 @@
 -- What is still to be done, as a plan: it ends, stops, pays, or asks for a job and goes on by how that ends.
 use Rattle.std.specs.Prelude.{ℕ, zero, suc, nat_lt, if◌then◌else◌, List, Option}
 use Rattle.js_tree.specs.Plain.{Expr, OptionalExpr, Stmt}
-use Rattle.widget_meaning.specs.NativeNames.{NativeId}
+use Rattle.permitted_table.specs.declared.native.NativeId.{NativeId}
 use Rattle.widget_meaning.specs.Values.{Value, Reference, Completion, Normal, Is, Refers, Throw, StopCause}
 use Rattle.widget_meaning.specs.OwnState.{State}
 

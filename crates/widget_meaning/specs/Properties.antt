@@ -7,7 +7,7 @@ use Rattle.std.specs.Option.{option_map_or}
 pub use Rattle.code_units.specs.Indices.{index_of}
 use Rattle.code_units.specs.Permitted.{is_permitted}
 use Rattle.widget_meaning.specs.Limits.{max_chain, max_length}
-use Rattle.widget_meaning.specs.NativeNames.{TextPrototype, NumberPrototype, BooleanPrototype, PrototypeOf, Native}
+use Rattle.permitted_table.specs.declared.native.HostEntry.TheVariants as host
 use Rattle.widget_meaning.specs.Values.{Value, Undefined, Null, Truth, NaN, Num, Text, Own, Host, E1, E5, E7}
 use Rattle.widget_meaning.specs.OwnState.{State, Cell, Kind, Array, Function, Bunch, Pairs, lookup, replaced, taken_out, cell_at, with_cell, kind_of}
 use Rattle.widget_meaning.specs.Plan.{Plan}
@@ -62,11 +62,11 @@ along s o x = on_chain (suc max_chain) s (Some o) x
 abbrev pub property : State → Value → List ℕ → Option Value
 property s Undefined x = None
 property s Null x = None
-property s (Truth b) x = along s (Host (PrototypeOf BooleanPrototype)) x
-property s NaN x = along s (Host (PrototypeOf NumberPrototype)) x
-property s (Num z) x = along s (Host (PrototypeOf NumberPrototype)) x
+property s (Truth b) x = along s (Host host.BooleanPrototype) x
+property s NaN x = along s (Host host.NumberPrototype) x
+property s (Num z) x = along s (Host host.NumberPrototype) x
 property s (Text t) x =
-    if is_length x then Some (Num (pos (length t))) else along s (Host (PrototypeOf TextPrototype)) x
+    if is_length x then Some (Num (pos (length t))) else along s (Host host.TextPrototype) x
 property s (Own n) x = along s (Own n) x
 property s (Host h) x = along s (Host h) x
 
@@ -178,5 +178,5 @@ is_own_function s v = is_function_kind (kind_of s v)
 
 -- what can be called: a function of the widget or a native
 abbrev pub is_function : State → Value → Bool
-is_function s (Host (Native w)) = true
+is_function s (Host (host.Native w)) = true
 is_function s v = is_own_function s v

@@ -4,7 +4,7 @@ use Rattle.std.specs.Fmt.{signed_decimal}
 use Rattle.code_units.specs.declared.whole.WholeRead.{WholeRead}
 use Rattle.code_units.specs.declared.whole.WholeRead.TheVariants as read
 use Rattle.code_units.specs.Whole.{number_in}
-use Rattle.widget_meaning.specs.NativeNames.{HostEntry}
+use Rattle.permitted_table.specs.declared.native.HostEntry.{HostEntry}
 
 -- a primitive, an object of the widget by the number of its birth, or an entry of the permitted table
 pub data Value : Type 0 where
