@@ -11,5 +11,3 @@ pub mod Openings
 pub mod Starting
 pub mod Judging
 pub mod Passing
-pub mod OneRule
-pub mod Refusing

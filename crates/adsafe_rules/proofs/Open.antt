@@ -1,7 +1,10 @@
 -- The open nodes bind what is counted, and allow the jumps that they say.
-use Rattle.std.proofs.Common.{◌≡◌, ℕ, zero, suc, ◌+◌, ◌<◌, ◌≤◌, ◌↔◌, List, [], ◌∷◌, ◌++◌, refl, sym, ap, ◌∙◌, subst, inl, inr, ◌⊎◌, Bool, true, false, arith, length, get_or, take, count_by, cond}
+use Rattle.std.proofs.Common.{◌≡◌, ℕ, zero, suc, ◌+◌, ◌<◌, ◌≤◌, ◌↔◌, List, [], ◌∷◌, ◌++◌, refl, sym, ap, ◌∙◌, subst, inl, inr, ◌⊎◌, Bool, true, false, Option, Some, None, arith, length, get_or, take, count_by, cond, unwrap_or}
 use Rattle.std.specs.Prelude.{if◌then◌else◌}
+use Rattle.std.specs.Ordering.{nat_cmp, is_eq}
 use Rattle.std.specs.Str.{bytes_eq}
+use Rattle.std.specs.Cmp.Lexicographic.{slice_cmp, nat_list_eq_equiv}
+use Rattle.std.proofs.lemmas.Map.Text.{is_eq-slice_cmp}
 use Rattle.std.proofs.lemmas.List.Sums.{sum_by-cons, sum_by_more, sum_by_more_le}
 use Rattle.std.proofs.lemmas.Slice.Eq.{bytes_eq-Decides}
 use Rattle.js_tree.specs.Forest.{Forest}
@@ -11,7 +14,7 @@ use Rattle.first_breach.proofs.Members.{in_none, in_one, in_split}
 use Rattle.adsafe_rules.specs.declared.enclosing.Jumps.{Jumps}
 use Rattle.adsafe_rules.specs.declared.enclosing.Opened.{Opened}
 use Rattle.adsafe_rules.specs.Binding.{Binds, IsBound, jumps_in, jumps_from}
-use Rattle.adsafe_rules.specs.Enclosing.{occurs, env_of, IsKnown, AreKnown, AreJumps, jumps_of}
+use Rattle.adsafe_rules.specs.Enclosing.{one_for, occurs, env_of, IsKnown, AreKnown, AreJumps, jumps_of}
 
 pub known_more : (f : Forest) (os : List Opened) (o : Opened) → AreKnown f os → IsKnown f o → AreKnown f (os ++ o ∷ [])
 known_more f [] o h k = (k, tt)
@@ -100,6 +103,43 @@ pub jumps_more : (f : Forest) (j : Jumps) (os : List Opened) (o : Opened) → Ar
 jumps_more f j [] o h e = (e, tt)
 jumps_more f j (t ∷ os) o h e = (h.0, jumps_more f t.jumps os o h.1 e)
 
+-- one value of an ordered map of counts is written
+module _ (old new : List ℕ → Option ℕ) (name : List ℕ) (w : ℕ) (updates : (q : List ℕ) → new q ≡ cond (is_eq (slice_cmp nat_cmp name q)) (Some w) (old q)) where
+  same_at : (q : List ℕ) → is_eq (slice_cmp nat_cmp name q) ≡ true → old q ≡ old name
+  same_at q e = ap old (sym ((bytes_eq-Decides name q).0 (sym (is_eq-slice_cmp name q) ∙ e)))
+
+  pub raised : w ≡ unwrap_or (old name) 0 + 1 → (q : List ℕ) → unwrap_or (new q) 0 ≡ unwrap_or (old q) 0 + one_for name q
+  raised is q = ap (λ o. unwrap_or o 0) (updates q) ∙ by (is_eq (slice_cmp nat_cmp name q)) refl
+    where
+      by : (b : Bool) → is_eq (slice_cmp nat_cmp name q) ≡ b → unwrap_or (cond b (Some w) (old q)) 0 ≡ unwrap_or (old q) 0 + (if b then 1 else 0)
+      by true e = is ∙ ap (λ o. unwrap_or o 0 + 1) (sym (same_at q e))
+      by false e = omega arith
+
+  pub lowered : w + 1 ≡ unwrap_or (old name) 0 → (q : List ℕ) → unwrap_or (new q) 0 + one_for name q ≡ unwrap_or (old q) 0
+  lowered is q = ap (λ o. unwrap_or o 0 + one_for name q) (updates q) ∙ by (is_eq (slice_cmp nat_cmp name q)) refl
+    where
+      by : (b : Bool) → is_eq (slice_cmp nat_cmp name q) ≡ b → unwrap_or (cond b (Some w) (old q)) 0 + (if b then 1 else 0) ≡ unwrap_or (old q) 0
+      by true e = is ∙ ap (λ o. unwrap_or o 0) (sym (same_at q e))
+      by false e = omega arith
+
+-- a name that was not there
+pub counted_first : (old new : List ℕ → Option ℕ) (key name : List ℕ) → key ≡ name → old name ≡ None → ((q : List ℕ) → new q ≡ cond (is_eq (slice_cmp nat_cmp key q)) (Some 1) (old q)) → (q : List ℕ) → unwrap_or (new q) 0 ≡ unwrap_or (old q) 0 + one_for name q
+counted_first old new key name same absent updates q =
+    let missing : old key ≡ None = ap old same ∙ absent in
+    let one : 1 ≡ unwrap_or (old key) 0 + 1 = omega (arith, ap (λ o. unwrap_or o 0) missing) in
+    subst (λ k. unwrap_or (new q) 0 ≡ unwrap_or (old q) 0 + one_for k q) same (raised old new key 1 updates one q)
+
+-- a name is counted where it is the same
+one_same : (name q : List ℕ) → one_for name q ≡ cond (bytes_eq q name) 1 0
+one_same name q = ap (λ b. cond b 1 0) (is_eq-slice_cmp name q ∙ nat_list_eq_equiv.symm name q)
+
+-- one name more
+pub more_step : (ns : List (List ℕ)) (i : ℕ) (x : List ℕ) → i < length ns → x ≡ get_or ns i x → (q : List ℕ) (next now was : ℕ) → next ≡ now + one_for x q → now ≡ was + count_by (bytes_eq q) (take i ns) → next ≡ was + count_by (bytes_eq q) (take (i + 1) ns)
+more_step ns i x lt is q next now was d e =
+    let f : List ℕ → ℕ = λ n. cond (bytes_eq q n) 1 0 in
+    let one : one_for x q ≡ f (get_or ns i x) = one_same x q ∙ ap f is in
+    omega (arith, sum_by_more f ns i x lt, one)
+
 -- one name less
 module _ (ns : List (List ℕ)) (i : ℕ) (x name : List ℕ) (lt : i < length ns) (is : x ≡ get_or ns i x) (same : name ≡ x) where
   pub less_room : (now was : ℕ) → now + count_by (bytes_eq name) (take i ns) ≡ was → count_by (bytes_eq name) ns ≤ was → 0 < now
@@ -109,8 +149,8 @@ module _ (ns : List (List ℕ)) (i : ℕ) (x name : List ℕ) (lt : i < length n
       let one : f (get_or ns i x) ≡ 1 = ap (λ b. cond b 1 0) t in
       omega (arith, sum_by_more_le f ns i x lt, one)
 
-  pub less_step : (q : List ℕ) (next now was : ℕ) → next + (if bytes_eq q name then 1 else 0) ≡ now → now + count_by (bytes_eq q) (take i ns) ≡ was → next + count_by (bytes_eq q) (take (i + 1) ns) ≡ was
+  pub less_step : (q : List ℕ) (next now was : ℕ) → next + one_for name q ≡ now → now + count_by (bytes_eq q) (take i ns) ≡ was → next + count_by (bytes_eq q) (take (i + 1) ns) ≡ was
   less_step q next now was d e =
       let f : List ℕ → ℕ = λ n. cond (bytes_eq q n) 1 0 in
-      let one : cond (bytes_eq q name) 1 0 ≡ f (get_or ns i x) = ap (λ t. cond (bytes_eq q t) 1 0) (same ∙ is) in
+      let one : one_for name q ≡ f (get_or ns i x) = one_same name q ∙ ap f (same ∙ is) in
       omega (arith, sum_by_more f ns i x lt, one)

@@ -1,7 +1,10 @@
 -- What the code knows of the nodes that enclose.
-use Rattle.std.specs.Prelude.{◌≡◌, ℕ, ◌+◌, ◌↔◌, List, [], ◌∷◌, map, count_by, unwrap_or}
+use Rattle.std.specs.Prelude.{◌≡◌, ℕ, ◌+◌, ◌↔◌, List, [], ◌∷◌, map, count_by, unwrap_or, if◌then◌else◌}
 use Rattle.std.specs.Str.{bytes_eq}
-use Rattle.std.specs.HashMap as hash
+use Rattle.std.specs.BTreeMap.{BTreeMap, get}
+use Rattle.std.specs.Ordering.{nat_cmp, is_eq}
+use Rattle.std.specs.Cmp.Lexicographic.{slice_cmp}
+use Rattle.std.specs.declared.alloc.Global.{Global}
 use Rattle.js_tree.specs.Forest.{Forest}
 use Rattle.js_tree.specs.Parts.{Spot, spot_at}
 use Rattle.first_breach.specs.Lists.{In}
@@ -15,9 +18,17 @@ abbrev pub occurs : List ℕ → List Opened → ℕ
 occurs q [] = 0
 occurs q (o ∷ os) = count_by (bytes_eq q) o.names.items + occurs q os
 
--- the map says so
+-- how often a map counts a name
+abbrev pub count_of : BTreeMap (List ℕ) ℕ → List ℕ → ℕ
+count_of counts q = unwrap_or (get (slice_cmp nat_cmp) counts q) 0
+
+-- one, where the name is this
+abbrev pub one_for : List ℕ → List ℕ → ℕ
+one_for name q = if is_eq (slice_cmp nat_cmp name q) then 1 else 0
+
+-- the map says how often
 abbrev pub IsCounted : Enclosing → Type 0
-IsCounted e = (q : List ℕ) → unwrap_or (hash.get bytes_eq e.counts q) 0 ≡ occurs q e.stack.items
+IsCounted e = (q : List ℕ) → count_of e.counts q ≡ occurs q e.stack.items
 
 -- the nodes that enclose
 abbrev pub env_of : Forest → List Opened → List Spot

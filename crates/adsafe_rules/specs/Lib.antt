@@ -13,4 +13,3 @@ pub mod Enclosing
 pub mod Walk
 pub mod Accepting
 pub mod Accepts
-pub mod Slots

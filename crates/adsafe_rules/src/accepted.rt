@@ -1,7 +1,7 @@
 //! A tree that breaks no rule.
-ghost use Rattle.adsafe_rules.specs.declared.scope.Scope.{Scope};
 ghost use Rattle.adsafe_rules.specs.Accepting.{IsJudged};
 
+use crate::scope::Scope;
 use code_units::Text;
 use js_tree::{FunId, Tree};
 
@@ -9,23 +9,31 @@ use js_tree::{FunId, Tree};
 #[derive(Drop)]
 pub struct Accepted {
     pub(crate) tree: Tree,
+    pub(crate) scope: Scope,
     pub(crate) fun: Option<FunId>,
     pub(crate) lib_name: Option<Text>,
-    ghost judged: { ∥ ((scope : Scope) × IsJudged tree scope fun lib_name) ∥₁ },
+    ghost judged: { ∥ IsJudged tree scope fun lib_name ∥₁ },
 }
 
 impl Accepted {
     ghost use Rattle.std.specs.Prelude.{◌≡◌, option_copied, IfSome};
     ghost use Rattle.js_tree.specs.Trees.{trees};
     ghost use Rattle.js_tree.specs.Forest.{IsFun};
-    ghost use Rattle.adsafe_rules.specs.Accepts.{tree_of, fun_of, lib_name_of, BreaksNone};
+    ghost use Rattle.adsafe_rules.specs.Accepts.{tree_of, scope_of, fun_of, lib_name_of, BreaksNone};
 
-    /// The tree, which breaks no rule.
+    /// The tree, which breaks no rule at its position.
     pub fn tree(&self) -> &Tree
         ensures same { result.now ≡ tree_of self.now }
         ensures judged { BreaksNone self.now }
     {
         &self.tree
+    }
+
+    /// The position at which the tree breaks no rule, with the slot's name.
+    pub fn scope(&self) -> &Scope
+        ensures { result.now ≡ scope_of self.now }
+    {
+        &self.scope
     }
 
     /// The function that the text hands over; none for an `id` script.

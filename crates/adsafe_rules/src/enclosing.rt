@@ -1,18 +1,17 @@
 //! The nodes that enclose: functions, catches, loops and `switch`es.
-ghost use Rattle.std.specs.Prelude.{◌≡◌, ℕ, ◌+◌, ◌-◌, ◌<◌, ◌≤◌, ◌↔◌, List, [], ◌∷◌, ◌++◌, take, vec_len, count_by, unwrap_or, if◌then◌else◌, OnOk, IsTrue};
+ghost use Rattle.std.specs.Prelude.{◌≡◌, ℕ, ◌+◌, ◌-◌, ◌<◌, ◌≤◌, ◌↔◌, List, [], ◌∷◌, ◌++◌, take, vec_len, count_by, OnOk, IsTrue};
 ghost use Rattle.std.specs.Str.{bytes_eq};
-ghost use Rattle.std.specs.HashMap.{get};
 ghost use Rattle.js_tree.specs.Forest.{Forest};
 ghost use Rattle.adsafe_rules.specs.Binding.{IsBound, no_jumps};
-ghost use Rattle.adsafe_rules.specs.Enclosing.{IsCounted, occurs, AreKnown, env_of, jumps_of};
+ghost use Rattle.adsafe_rules.specs.Enclosing.{count_of, one_for, IsCounted, occurs, AreKnown, env_of, jumps_of};
 
 use code_units::{Memory, Text};
 use js_tree::Part;
 use std::alloc::Global;
-use std::collections::HashMap;
+use std::collections::BTreeMap;
 
 /// Which jumps without a label may stand at a place.
-#[derive(Clone, Copy, PartialEq, Eq, Debug, Drop)]
+#[derive(Clone, Copy, PartialEq, Eq, Drop)]
 pub struct Jumps {
     pub breaks: bool,
     pub continues: bool,
@@ -30,7 +29,7 @@ pub struct Opened {
 #[derive(Drop)]
 pub struct Enclosing {
     pub stack: Vec<Opened>,
-    pub counts: HashMap<Text, usize>,
+    pub counts: BTreeMap<Text, usize>,
 }
 
 impl Enclosing {
@@ -40,7 +39,7 @@ impl Enclosing {
     {
         Enclosing {
             stack: Vec::new(alloc),
-            counts: HashMap::new(alloc),
+            counts: BTreeMap::new(alloc),
         }
     }
 
@@ -117,9 +116,9 @@ impl Enclosing {
     }
 }
 
-/// Counts each name once more.
-fn count_more(counts: &mut HashMap<Text, usize>, names: &Vec<Text>) -> Result<(), Memory>
-    ensures { OnOk result ((q : List ℕ) → unwrap_or (get bytes_eq counts.new q) 0 ≡ unwrap_or (get bytes_eq counts.old q) 0 + count_by (bytes_eq q) names.now.items) }
+// Counts each name once more.
+fn count_more(counts: &mut BTreeMap<Text, usize>, names: &[Text]) -> Result<(), Memory>
+    ensures { OnOk result ((q : List ℕ) → count_of counts.new q ≡ count_of counts.old q + count_by (bytes_eq q) names.now) }
 {
     'more: for name in names {
         count(counts, name)?;
@@ -127,34 +126,32 @@ fn count_more(counts: &mut HashMap<Text, usize>, names: &Vec<Text>) -> Result<()
     Ok(())
 }
 
-/// Counts a name once more.
-fn count(counts: &mut HashMap<Text, usize>, name: &Text) -> Result<(), Memory>
-    ensures { OnOk result ((q : List ℕ) → unwrap_or (get bytes_eq counts.new q) 0 ≡ unwrap_or (get bytes_eq counts.old q) 0 + (if bytes_eq q name.now then 1 else 0)) }
+// Counts a name once more.
+fn count(counts: &mut BTreeMap<Text, usize>, name: &Text) -> Result<(), Memory>
+    ensures { OnOk result ((q : List ℕ) → count_of counts.new q ≡ count_of counts.old q + one_for name.now q) }
 {
-    let n = counts.get(name).copied().unwrap_or(0);
-    match n.checked_add(1) {
-        Some(next) => {
-            counts.insert(name.share()?, next)?;
-            Ok(())
-        }
-        None => Err(Memory),
+    if let Some(n) = counts.get_mut(name) {
+        *n = n.checked_add(1).ok_or(Memory)?;
+        return Ok(());
     }
+    counts.insert(name.share()?, 1)?;
+    Ok(())
 }
 
-/// Counts each name once less.
-fn count_less(counts: &mut HashMap<Text, usize>, names: &Vec<Text>)
-    requires { (q : List ℕ) → count_by (bytes_eq q) names.now.items ≤ unwrap_or (get bytes_eq counts.old q) 0 }
-    ensures { (q : List ℕ) → unwrap_or (get bytes_eq counts.new q) 0 + count_by (bytes_eq q) names.now.items ≡ unwrap_or (get bytes_eq counts.old q) 0 }
+// Counts each name once less.
+fn count_less(counts: &mut BTreeMap<Text, usize>, names: &[Text])
+    requires { (q : List ℕ) → count_by (bytes_eq q) names.now ≤ count_of counts.old q }
+    ensures { (q : List ℕ) → count_of counts.new q + count_by (bytes_eq q) names.now ≡ count_of counts.old q }
 {
     'less: for name in names {
         uncount(counts, name);
     }
 }
 
-/// Counts a name once less.
-fn uncount(counts: &mut HashMap<Text, usize>, name: &Text)
-    requires { 0 < unwrap_or (get bytes_eq counts.old name.now) 0 }
-    ensures { (q : List ℕ) → unwrap_or (get bytes_eq counts.new q) 0 + (if bytes_eq q name.now then 1 else 0) ≡ unwrap_or (get bytes_eq counts.old q) 0 }
+// Counts a name once less.
+fn uncount(counts: &mut BTreeMap<Text, usize>, name: &Text)
+    requires { 0 < count_of counts.old name.now }
+    ensures { (q : List ℕ) → count_of counts.new q + one_for name.now q ≡ count_of counts.old q }
 {
     if let Some(n) = counts.get_mut(name) {
         *n -= 1;

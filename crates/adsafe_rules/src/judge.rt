@@ -198,8 +198,10 @@ fn accept(tree: Tree, scope: &Scope) -> Result<Accepted, Memory>
 {
     let fun = first_function(&tree, tree.program());
     let lib_name = lib_name_in(&tree, scope, tree.program())?;
+    let position = scope.share()?;
     Ok(Accepted {
         tree,
+        scope: position,
         fun,
         lib_name,
     })

@@ -6,19 +6,12 @@ ghost use Rattle.adsafe_rules.specs.declared.scope.Scope.{Scope};
 ghost use Rattle.adsafe_rules.specs.Forms.{is_allowed_callee, is_directive};
 ghost use Rattle.adsafe_rules.specs.Parts.{Stands};
 ghost use Rattle.adsafe_rules.specs.Rows.{Broken, AnyFound};
-ghost use Rattle.adsafe_rules.specs.Program.{First, is_opening, opening_functions};
-ghost use Rattle.adsafe_rules.specs.Slots.{FirstOfSlot, IsSlot};
-ghost use Rattle.widget_form.specs.declared.form.Form.{Form};
+ghost use Rattle.adsafe_rules.specs.Program.{First, IsClean, is_opening, opening_functions};
 
-/// A text has one first broken rule at most.
+/// A text has at most one first broken rule, and breaks none where it has no first.
 pub fn one_first()
-    ensures { (program : Stmts) (scope : Scope) (r p s q : ℕ) → First program scope r p → First program scope s q → (r ≡ s) × (p ≡ q) }
-{}
-
-/// A widget file has one first broken markup rule at most, and one that has a form has none.
-pub fn one_markup_rule()
-    ensures first { (name : List ℕ) (libs : List (List ℕ)) (bytes : List ℕ) (rule at other place : ℕ) → FirstOfSlot name libs bytes rule at → FirstOfSlot name libs bytes other place → (rule ≡ other) × (at ≡ place) }
-    ensures good { (name : List ℕ) (libs : List (List ℕ)) (bytes : List ℕ) (rule at : ℕ) (form : Form) → FirstOfSlot name libs bytes rule at → IsSlot name libs bytes form → ⊥ }
+    ensures one { (program : Stmts) (scope : Scope) (r p s q : ℕ) → First program scope r p → First program scope s q → (r ≡ s) × (p ≡ q) }
+    ensures some { (program : Stmts) (scope : Scope) → ((r p : ℕ) → ¬ First program scope r p) → IsClean program scope }
 {}
 
 /// The callee of a call that A09 allows is passed over: it breaks no other rule.

@@ -12,12 +12,10 @@ mod opening;
 mod pushes;
 mod rows;
 mod scope;
-mod slot;
 mod walk;
 mod words;
 
 pub use accepted::Accepted;
 pub use judge::check;
-pub use laws::{callee_breaks, directive_breaks, one_first, one_markup_rule, opening_breaks};
+pub use laws::{callee_breaks, directive_breaks, one_first, opening_breaks};
 pub use scope::{CheckFault, Scope};
-pub use slot::{CheckMarkupFault, check_markup};

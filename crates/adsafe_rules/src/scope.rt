@@ -12,6 +12,21 @@ pub enum Scope {
     Go(Text),
 }
 
+impl Scope {
+    ghost use Rattle.std.specs.Prelude.{◌≡◌, IfOk};
+
+    /// The same position for a second holder.
+    pub fn share(&self) -> Result<Scope, Memory>
+        ensures { IfOk result (λ scope. scope ≡ self.now) }
+    {
+        Ok(match self {
+            Scope::Id(slot) => Scope::Id(slot.share()?),
+            Scope::Lib => Scope::Lib,
+            Scope::Go(slot) => Scope::Go(slot.share()?),
+        })
+    }
+}
+
 /// Why a tree is not accepted.
 #[derive(Clone, Copy, PartialEq, Eq, Debug, Drop)]
 pub enum CheckFault {

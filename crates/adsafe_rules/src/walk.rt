@@ -21,7 +21,7 @@ use js_tree::{FunId, Part, Stmt, StmtId, Tree};
 use std::alloc::Global;
 
 /// A node that is still to be visited, and how many nodes enclose it.
-#[derive(Clone, Copy, Debug, Drop)]
+#[derive(Clone, Copy, Drop)]
 pub struct Work {
     pub part: Part,
     pub depth: usize,

@@ -4,23 +4,8 @@ ghost use Rattle.std.specs.List.{list_all};
 ghost use Rattle.std.specs.Str.{bytes_eq};
 ghost use Rattle.adsafe_rules.specs.Words.{is_global, is_callable, is_reaching, is_letter, is_digit, is_library_name};
 
+pub use code_units::is_word;
 use code_units::{Text, is_banned};
-
-/// Whether the text is an ASCII word.
-pub fn is_word(text: &Text, word: &[u8]) -> bool
-    ensures { result ≡ bytes_eq text.now word.now }
-{
-    let units = text.units();
-    if units.len() != word.len() {
-        return false;
-    }
-    for (i, byte) in word.iter().enumerate() {
-        if units[i] != u16::from(*byte) {
-            return false;
-        }
-    }
-    true
-}
 
 /// Whether the name is a listed global.
 #[tactic(auto, unfolding(crate::specs::Words::is_global))]

@@ -34,7 +34,7 @@ mark_shorter : (m cs rest : List ℕ) → is_mark m ≡ true → cs ≡ m ++ res
 mark_shorter [] cs rest is same = let none : false ≡ true = sym no_mark ∙ is in cc
 mark_shorter (c ∷ m) cs rest is same = let l = ap length same ∙ length-append (c ∷ m) rest in omega (arith, l)
 
-spelled_shorter : {k : TokenKind} {cs rest : List ℕ} → Spelled k cs rest → length rest < length cs
+pub spelled_shorter : {k : TokenKind} {cs rest : List ℕ} → Spelled k cs rest → length rest < length cs
 spelled_shorter (name letter run free) = let l = suffix_length (run_suffix run) in omega (arith, l)
 spelled_shorter (reserved letter run word) = let l = suffix_length (run_suffix run) in omega (arith, l)
 spelled_shorter (number n) = number_shorter n

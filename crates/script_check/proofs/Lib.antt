@@ -3,3 +3,4 @@ pub mod Within
 pub mod Judged
 pub mod Written
 pub mod Verdicts
+pub mod Some

@@ -4,14 +4,14 @@ use Rattle.js_tree.specs.Plain.{Stmts}
 use Rattle.adsafe_rules.specs.declared.scope.Scope.TheVariants as scope
 use Rattle.widget_form.specs.declared.form.Form.{Form}
 use Rattle.widget_form.specs.declared.form.Span.{Span}
-use Rattle.adsafe_rules.specs.Slots.{FirstOfSlot}
+use Rattle.slot_check.specs.Slots.{FirstOfSlot}
 use Rattle.script_check.specs.Script.{ScriptFirst, LibFirst, IsCleanScript}
 use Rattle.script_check.proofs.Verdicts.{one_first, not_clean}
 use Rattle.trace_text.specs.declared.line.Rule.{Rule}
 use Rattle.trace_text.specs.declared.line.Rule.TheVariants as rule
 use Rattle.slot_check.specs.Sources.{Source, Slot, keys_of, IsLibrary, script_text}
 use Rattle.slot_check.specs.Slot.{HasForm, IsIdClean, AreClean, more, LibrariesFirst, here, later, SlotFirst, markup, id_script, library, go_script, IsCleanSlot}
-use Rattle.adsafe_rules.proofs.OneRule.{markup_once, no_form}
+use Rattle.slot_check.proofs.OneRule.{markup_once, no_form}
 use Rattle.slot_check.proofs.OneForm.{SameScripts, one_form}
 
 some_is : {A : Type 0} (x y : A) → Some x ≡ Some y → x ≡ y

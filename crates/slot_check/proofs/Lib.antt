@@ -1,3 +1,4 @@
+pub mod Accepting
 pub mod Judging
 pub mod Spans
 pub mod Named
@@ -6,3 +7,5 @@ pub mod OneForm
 pub mod Sourced
 pub mod Firsts
 pub mod Written
+pub mod OneRule
+pub mod Refusing

@@ -11,22 +11,13 @@ use Rattle.std.proofs.lemmas.List.Elements.{All-get_or, All-from_get_or}
 use Rattle.std.proofs.lemmas.List.Folds.{list_any_none}
 use Rattle.std.proofs.lemmas.List.Sums.{fails_before_first}
 use Rattle.js_tree.specs.Plain.{Stmts}
-use Rattle.js_tree.specs.Trees.{program_of}
-use Rattle.adsafe_rules.specs.declared.scope.Scope.{Scope}
 use Rattle.adsafe_rules.specs.declared.scope.Scope.TheVariants as scope
-use Rattle.adsafe_rules.specs.declared.accepted.Accepted.{Accepted}
-use Rattle.adsafe_rules.specs.Accepts.{tree_of}
-use Rattle.script_check.specs.declared.judging.Verdict.{Verdict}
-use Rattle.script_check.specs.declared.judging.Verdict.TheVariants as verdict
-use Rattle.script_check.specs.Script.{Reads, LibFirst, IsScript}
-use Rattle.script_check.specs.Verdict.{IsAccepted, IsVerdict}
+use Rattle.script_check.specs.Script.{LibFirst, IsScript, IsCleanScript}
+use Rattle.slot_check.specs.declared.libraries.LibraryVerdict.{LibraryVerdict}
+use Rattle.slot_check.specs.declared.libraries.LibraryVerdict.TheVariants as verdict
 use Rattle.slot_check.specs.Sources.{Source, key_of, keys_of, IsLibrary}
 use Rattle.slot_check.specs.Slot.{AreClean, none, more, LibrariesFirst, here, later}
-use Rattle.slot_check.specs.Verdicts.{AreVerdicts, no_verdict, one_verdict, AreNamedClean, IsNamedBroken}
-
--- the program that was accepted is that of the bytes
-pub script_of : (bytes : List ℕ) (scope : Scope) (a : Accepted) → IsAccepted bytes scope a → IsScript bytes scope (program_of (tree_of a))
-script_of bytes scope a is = record { tokens = is.has.tokens; reads = subst (λ p. Reads bytes is.has.tokens p) (sym is.holds.same) is.has.reads; clean = is.holds.judged.clean }
+use Rattle.slot_check.specs.Verdicts.{AreVerdicts, no_verdict, one_verdict, IsLibraryVerdict, AreNamedClean, IsNamedBroken}
 
 no_source : Source
 no_source = record { name = []; bytes = [] }
@@ -70,16 +61,16 @@ pub first_of : (keys shown : List (List ℕ)) (name : List ℕ) (place : ℕ) (r
 first_of keys shown name place r same found_at is = sym (ap (position (bytes_eq name)) same) ∙ sym found_at ∙ is
 
 -- a verdict for each library
-as_many : (libs : List Source) (vs : List Verdict) → AreVerdicts libs vs → length vs ≡ length libs
+as_many : (libs : List Source) (vs : List LibraryVerdict) → AreVerdicts libs vs → length vs ≡ length libs
 as_many libs vs no_verdict = refl
-as_many libs vs (one_verdict {libs = ls} {verdicts = ws} is rest) = ap suc (as_many ls ws rest)
+as_many libs vs (one_verdict {libs = ls} {vs = ws} is rest) = ap suc (as_many ls ws rest)
 
-verdict_at : (libs : List Source) (vs : List Verdict) (i : ℕ) (lib : Source) (v : Verdict) → AreVerdicts libs vs → slice_get libs i ≡ Some lib → i < length vs → v ≡ get_or vs i v → IsVerdict lib.bytes scope.Lib v
-verdict_at libs vs zero lib v (one_verdict {lib = l} {verdict = w} is rest) there within read =
+verdict_at : (libs : List Source) (vs : List LibraryVerdict) (i : ℕ) (lib : Source) (v : LibraryVerdict) → AreVerdicts libs vs → slice_get libs i ≡ Some lib → i < length vs → v ≡ get_or vs i v → IsLibraryVerdict lib.bytes v
+verdict_at libs vs zero lib v (one_verdict {lib = l} {v = w} is rest) there within read =
     let same : l ≡ lib = cc in
     let also : w ≡ v = sym read in
-    subst (λ x. IsVerdict lib.bytes scope.Lib x) also (subst (λ x. IsVerdict x.bytes scope.Lib w) same is)
-verdict_at libs vs (suc i) lib v (one_verdict {libs = ls} {verdicts = ws} is rest) there within read = verdict_at ls ws i lib v rest there (omega arith) read
+    subst (λ x. IsLibraryVerdict lib.bytes x) also (subst (λ x. IsLibraryVerdict x.bytes w) same is)
+verdict_at libs vs (suc i) lib v (one_verdict {libs = ls} {vs = ws} is rest) there within read = verdict_at ls ws i lib v rest there (omega arith) read
 verdict_at libs vs i lib v no_verdict there within read = absurd (omega arith)
 
 push_clean : (libs : List Source) (names : List (List ℕ)) (places : List ℕ) (programs : List Stmts) (name : List ℕ) (place : ℕ) (lib : Source) (program : Stmts) → AreClean libs names places programs → IsLibrary libs name place lib → IsScript lib.bytes scope.Lib program → AreClean libs (names ++ name ∷ []) (places ++ place ∷ []) (programs ++ program ∷ [])
@@ -90,30 +81,30 @@ first_behind : (libs : List Source) (names : List (List ℕ)) (places : List ℕ
 first_behind libs names places programs name rest place lib number at none is first = here is first
 first_behind libs names places programs name rest place lib number at (more {program = g} {names = ns} {places = ps} {programs = gs} has script clean) is first = later has (record { program = g; script = script }) (first_behind libs ns ps gs name rest place lib number at clean is first)
 
-module _ (libs : List Source) (keys : List (List ℕ)) (vs : List Verdict) (keyed : keys ≡ keys_of libs) (judged : AreVerdicts libs vs) (name : List ℕ) (place : ℕ) (first : position (bytes_eq name) keys ≡ Some place) where
+module _ (libs : List Source) (keys : List (List ℕ)) (vs : List LibraryVerdict) (keyed : keys ≡ keys_of libs) (judged : AreVerdicts libs vs) (name : List ℕ) (place : ℕ) (first : position (bytes_eq name) keys ≡ Some place) where
   pub place_within : place < length vs
   place_within =
       let within = (position-Some (bytes_eq name) keys place [] first).0 in
       omega (arith, within, ap length keyed, length-map libs key_of, as_many libs vs judged)
 
-  is_judged : (v : Verdict) (f : Found libs name place) → v ≡ get_or vs place v → IsVerdict f.lib.bytes scope.Lib v
+  is_judged : (v : LibraryVerdict) (f : Found libs name place) → v ≡ get_or vs place v → IsLibraryVerdict f.lib.bytes v
   is_judged v f read = verdict_at libs vs place f.lib v judged f.is.there place_within read
 
-  pub clean_more : (names : List (List ℕ)) (i : ℕ) (v : Verdict) (a : Accepted) (places grown : List ℕ) → i < length names → name ≡ get_or names i name → v ≡ get_or vs place v → v ≡ verdict.Clean a → AreNamedClean libs (take i names) places → grown ≡ places ++ place ∷ [] → AreNamedClean libs (take (i + 1) names) grown
-  clean_more names i v a places grown within is read clean before after =
+  pub clean_more : (names : List (List ℕ)) (i : ℕ) (v : LibraryVerdict) (places grown : List ℕ) → i < length names → name ≡ get_or names i name → v ≡ get_or vs place v → v ≡ verdict.Clean → AreNamedClean libs (take i names) places → grown ≡ places ++ place ∷ [] → AreNamedClean libs (take (i + 1) names) grown
+  clean_more names i v places grown within is read clean before after =
       let f = found libs keys name place keyed first in
-      let script = script_of f.lib.bytes scope.Lib a (subst (IsVerdict f.lib.bytes scope.Lib) clean (is_judged v f read)) in
-      let all = push_clean libs (take i names) places before.programs name place f.lib (program_of (tree_of a)) before.clean f.is script in
+      let judged : IsCleanScript f.lib.bytes scope.Lib = subst (IsLibraryVerdict f.lib.bytes) clean (is_judged v f read) in
+      let all = push_clean libs (take i names) places before.programs name place f.lib judged.program before.clean f.is judged.script in
       let ns : take i names ++ name ∷ [] ≡ take (i + 1) names = ap (λ n. take i names ++ n ∷ []) is ∙ sym (take_more names i name within) in
       record {
-        programs = before.programs ++ program_of (tree_of a) ∷ [];
-        clean = subst (λ ps. AreClean libs (take (i + 1) names) ps (before.programs ++ program_of (tree_of a) ∷ [])) (sym after) (subst (λ n. AreClean libs n (places ++ place ∷ []) (before.programs ++ program_of (tree_of a) ∷ [])) ns all);
+        programs = before.programs ++ judged.program ∷ [];
+        clean = subst (λ ps. AreClean libs (take (i + 1) names) ps (before.programs ++ judged.program ∷ [])) (sym after) (subst (λ n. AreClean libs n (places ++ place ∷ []) (before.programs ++ judged.program ∷ [])) ns all);
       }
 
-  pub broken_here : (names : List (List ℕ)) (i : ℕ) (v : Verdict) (number at : ℕ) (places : List ℕ) → i < length names → name ≡ get_or names i name → v ≡ get_or vs place v → v ≡ verdict.Broken number at → AreNamedClean libs (take i names) places → IsNamedBroken libs names place number at
+  pub broken_here : (names : List (List ℕ)) (i : ℕ) (v : LibraryVerdict) (number at : ℕ) (places : List ℕ) → i < length names → name ≡ get_or names i name → v ≡ get_or vs place v → v ≡ verdict.Broken number at → AreNamedClean libs (take i names) places → IsNamedBroken libs names place number at
   broken_here names i v number at places within is read broken before =
       let f = found libs keys name place keyed first in
-      let breaks : LibFirst f.lib.bytes number at = subst (IsVerdict f.lib.bytes scope.Lib) broken (is_judged v f read) in
+      let breaks : LibFirst f.lib.bytes number at = subst (IsLibraryVerdict f.lib.bytes) broken (is_judged v f read) in
       let all = first_behind libs (take i names) places before.programs name (drop (i + 1) names) place f.lib number at before.clean f.is breaks in
       let ns : take i names ++ name ∷ drop (i + 1) names ≡ names = ap (λ n. take i names ++ n ∷ drop (i + 1) names) is ∙ ap (λ rest. take i names ++ rest) (sym (drop_more names i name within)) ∙ take-append-drop i names in
       record { lib = f.lib; there = f.is.there; first = subst (λ n. LibrariesFirst libs n number f.lib at) ns all }

@@ -6,7 +6,7 @@ use Rattle.markup_grammar.proofs.Answers.{one_reading}
 use Rattle.widget_form.specs.declared.form.Form.{Form}
 use Rattle.widget_form.specs.declared.form.Span.{Span}
 use Rattle.widget_form.specs.Forms.{span_of, source, first_of_several, root_scripts}
-use Rattle.adsafe_rules.specs.Slots.{IsSlot}
+use Rattle.slot_check.specs.Slots.{IsSlot}
 
 -- two forms of a file have the same scripts
 pub record SameScripts (f g : Form) : Type 0 where

@@ -9,9 +9,9 @@ use Rattle.code_units.specs.declared.memory.Memory.{Memory}
 use Rattle.code_units.specs.declared.place.Place.{Place}
 use Rattle.adsafe_rules.specs.declared.scope.Scope.TheVariants as scope
 use Rattle.widget_form.specs.declared.form.Form.{Form}
-use Rattle.adsafe_rules.specs.declared.slot.CheckMarkupFault.{CheckMarkupFault}
-use Rattle.adsafe_rules.specs.declared.slot.CheckMarkupFault.TheVariants as fault
-use Rattle.adsafe_rules.specs.Slots.{FirstOfSlot, IsSlotFault}
+use Rattle.slot_check.specs.declared.markup.CheckMarkupFault.{CheckMarkupFault}
+use Rattle.slot_check.specs.declared.markup.CheckMarkupFault.TheVariants as fault
+use Rattle.slot_check.specs.Slots.{FirstOfSlot, IsSlotFault}
 use Rattle.code_units.specs.Places.{place_at as place}
 use Rattle.trace_text.specs.declared.line.Rule.{Rule}
 use Rattle.trace_text.specs.declared.line.Rule.TheVariants as rule

@@ -12,7 +12,7 @@ use Rattle.widget_form.specs.declared.form.Form.{Form}
 use Rattle.widget_form.specs.Elements.{Element, element, elements, tops, roots, is_div, is_script, is_named, first_named, is_script_element, scripts}
 use Rattle.widget_form.specs.Rows.{IsGood}
 use Rattle.widget_form.specs.Forms.{source, root_scripts}
-use Rattle.adsafe_rules.specs.Slots.{IsSlot}
+use Rattle.slot_check.specs.Slots.{IsSlot}
 
 split_cons : {X : Type 0} {x y : X} (ys : List X) → In x (y ∷ ys) → (x ≡ y) ⊎ In x ys
 split_cons ys here = inl refl

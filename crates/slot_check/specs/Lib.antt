@@ -2,3 +2,4 @@ pub mod Sources
 pub mod Slot
 pub mod Verdicts
 pub mod Line
+pub mod Slots

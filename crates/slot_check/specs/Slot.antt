@@ -4,7 +4,7 @@ use Rattle.js_tree.specs.Plain.{Stmts}
 use Rattle.adsafe_rules.specs.declared.scope.Scope.TheVariants as scope
 use Rattle.widget_form.specs.declared.form.Form.{Form}
 use Rattle.widget_form.specs.declared.form.Span.{Span}
-use Rattle.adsafe_rules.specs.Slots.{IsSlot, FirstOfSlot}
+use Rattle.slot_check.specs.Slots.{IsSlot, FirstOfSlot}
 use Rattle.script_check.specs.Script.{ScriptFirst, LibFirst, IsScript, IsCleanScript}
 use Rattle.trace_text.specs.declared.line.Rule.{Rule}
 use Rattle.trace_text.specs.declared.line.Rule.TheVariants as rule

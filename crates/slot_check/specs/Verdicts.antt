@@ -7,12 +7,15 @@ use Rattle.adsafe_rules.specs.declared.scope.Scope.{Scope}
 use Rattle.adsafe_rules.specs.declared.scope.Scope.TheVariants as scope
 use Rattle.adsafe_rules.specs.Accepts.{tree_of}
 use Rattle.script_check.specs.declared.judging.Verdict.{Verdict}
+use Rattle.script_check.specs.declared.judging.Verdict.TheVariants as verdict
 use Rattle.code_units.specs.Places.{place_at as place}
-use Rattle.script_check.specs.Script.{ScriptFirst}
-use Rattle.script_check.specs.Verdict.{IsAccepted, IsVerdict}
+use Rattle.script_check.specs.Script.{ScriptFirst, LibFirst, IsCleanScript}
+use Rattle.script_check.specs.Verdict.{IsAccepted}
 use Rattle.trace_text.specs.declared.line.Rule.{Rule}
 use Rattle.widget_form.specs.declared.form.Span.{Span}
 use Rattle.slot_check.specs.declared.sources.SourceFile.{SourceFile}
+use Rattle.slot_check.specs.declared.libraries.LibraryVerdict.{LibraryVerdict}
+use Rattle.slot_check.specs.declared.libraries.LibraryVerdict.TheVariants as library_verdict
 use Rattle.slot_check.specs.declared.libraries.LibraryVerdicts.{LibraryVerdicts}
 use Rattle.slot_check.specs.declared.scripts.SpanVerdict.{SpanVerdict}
 use Rattle.slot_check.specs.declared.scripts.SpanVerdict.TheVariants as span_verdict
@@ -45,10 +48,20 @@ slot_of name file libs = slot_over (sources_of libs) name file
 abbrev pub IsSmall : SourceFile → Type 0
 IsSmall file = length file.bytes.items < 2 ^ 31
 
+-- a verdict without its tree
+abbrev pub without_tree : Verdict → LibraryVerdict
+without_tree (verdict.Clean accepted) = library_verdict.Clean
+without_tree (verdict.Broken rule at) = library_verdict.Broken rule at
+
+-- what the verdict on a library says of its bytes
+abbrev pub IsLibraryVerdict : List ℕ → LibraryVerdict → Type 0
+IsLibraryVerdict bytes library_verdict.Clean = IsCleanScript bytes scope.Lib
+IsLibraryVerdict bytes (library_verdict.Broken rule at) = LibFirst bytes rule at
+
 -- a verdict for each library, in order
-pub data AreVerdicts : List Source → List Verdict → Type 0 where
+pub data AreVerdicts : List Source → List LibraryVerdict → Type 0 where
   no_verdict : AreVerdicts [] []
-  one_verdict : {lib : Source} {verdict : Verdict} {libs : List Source} {verdicts : List Verdict} → IsVerdict lib.bytes scope.Lib verdict → AreVerdicts libs verdicts → AreVerdicts (lib ∷ libs) (verdict ∷ verdicts)
+  one_verdict : {lib : Source} {v : LibraryVerdict} {libs : List Source} {vs : List LibraryVerdict} → IsLibraryVerdict lib.bytes v → AreVerdicts libs vs → AreVerdicts (lib ∷ libs) (v ∷ vs)
 
 -- the libraries are judged
 pub record AreJudged (libs : List Source) (judged : LibraryVerdicts) : Type 0 where

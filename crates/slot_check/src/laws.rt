@@ -1,6 +1,8 @@
 //! Laws above the definitions.
 ghost use Rattle.std.specs.Prelude.{◌≡◌, ℕ, List, Bool};
 ghost use Rattle.trace_text.specs.declared.line.Rule.{Rule};
+ghost use Rattle.widget_form.specs.declared.form.Form.{Form};
+ghost use Rattle.slot_check.specs.Slots.{FirstOfSlot, IsSlot};
 ghost use Rattle.slot_check.specs.Sources.{Source, Slot};
 ghost use Rattle.slot_check.specs.Slot.{SlotFirst, IsCleanSlot};
 ghost use Rattle.slot_check.specs.Line.{IsSlotLine, AreSlotLines};
@@ -12,4 +14,10 @@ pub fn one_slot()
     ensures clean { (slot : Slot) (r : Rule) (a : Source) (x : ℕ) → SlotFirst slot r a x → IsCleanSlot slot → ⊥ }
     ensures line { (slot : Slot) (r q : Bool) (b c : List ℕ) → IsSlotLine slot r b → IsSlotLine slot q c → (r ≡ q) × (b ≡ c) }
     ensures lines { (slots : List Slot) (r q : Bool) (b c : List ℕ) → AreSlotLines slots r b → AreSlotLines slots q c → (r ≡ q) × (b ≡ c) }
+{}
+
+/// A widget file has one first broken markup rule at most, and one that has a form has none.
+pub fn one_markup_rule()
+    ensures first { (name : List ℕ) (libs : List (List ℕ)) (bytes : List ℕ) (rule at other place : ℕ) → FirstOfSlot name libs bytes rule at → FirstOfSlot name libs bytes other place → (rule ≡ other) × (at ≡ place) }
+    ensures good { (name : List ℕ) (libs : List (List ℕ)) (bytes : List ℕ) (rule at : ℕ) (form : Form) → FirstOfSlot name libs bytes rule at → IsSlot name libs bytes form → ⊥ }
 {}

@@ -4,12 +4,11 @@ ghost use Rattle.std.specs.List.{list_any};
 ghost use Rattle.std.specs.Str.{bytes_eq};
 ghost use Rattle.slot_check.specs.Verdicts.{sources_of, IsSmall, AreJudged, IsIdVerdict, IsNamedVerdict};
 
-use crate::libraries::{LibraryVerdicts, library_place};
+use crate::libraries::{LibraryVerdict, LibraryVerdicts, library_place};
 use crate::scripts::{SpanVerdict, judge_span};
 use crate::sources::SourceFile;
 use adsafe_rules::Scope;
 use code_units::{Memory, Place, Text};
-use script_check::Verdict;
 use std::alloc::Global;
 use widget_form::Span;
 
@@ -64,7 +63,7 @@ pub fn judge_named(
         let Some(place) = library_place(&judged.keys, name) else {
             unreachable!()
         };
-        if let Verdict::Broken { rule, at } = &judged.verdicts[place] {
+        if let LibraryVerdict::Broken { rule, at } = &judged.verdicts[place] {
             return Ok(NamedVerdict::Broken {
                 library: place,
                 rule: *rule,

@@ -7,10 +7,11 @@ ghost use Rattle.slot_check.specs.Slot.{HasForm, IsIdClean, SlotFirst};
 ghost use Rattle.slot_check.specs.Verdicts.{source_of, sources_of, slot_over, slot_of, IsSmall, AreJudged, AreNamedClean, IsSlotVerdict};
 
 use crate::libraries::LibraryVerdicts;
+use crate::markup::{CheckMarkupFault, check_markup};
 use crate::parts::{IdVerdict, NamedVerdict, judge_id, judge_named};
 use crate::scripts::{SpanVerdict, judge_span, place_in};
 use crate::sources::SourceFile;
-use adsafe_rules::{Accepted, CheckMarkupFault, Scope, check_markup};
+use adsafe_rules::{Accepted, Scope};
 use code_units::{Memory, Place, Text};
 use std::alloc::Global;
 use trace_text::Rule;

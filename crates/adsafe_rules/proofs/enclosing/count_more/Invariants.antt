@@ -1,7 +1,7 @@
-use Rattle.std.proofs.Common.{◌≡◌, ℕ, ◌+◌, List, take, count_by, unwrap_or}
+use Rattle.std.proofs.Common.{◌≡◌, ℕ, ◌+◌, List, take, count_by}
 use Rattle.std.specs.Str.{bytes_eq}
-use Rattle.std.specs.HashMap.{get}
+use Rattle.adsafe_rules.specs.Enclosing.{count_of}
 use Rattle.adsafe_rules.proofs.enclosing.count_more.Given as goal
 
 abbrev pub invariant-more : goal.invariant-more
-invariant-more l = (q : List ℕ) → unwrap_or (get bytes_eq l.counts q) 0 ≡ unwrap_or (get bytes_eq l.initial.counts q) 0 + count_by (bytes_eq q) (take l.name-index l.names.items)
+invariant-more l = (q : List ℕ) → count_of l.counts q ≡ count_of l.initial.counts q + count_by (bytes_eq q) (take l.name-index l.names)

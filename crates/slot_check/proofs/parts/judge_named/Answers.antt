@@ -23,4 +23,4 @@ returns-in-Broken c =
 pub names-preserved : goal.names-preserved
 names-preserved c =
     let first = first_of c.args.judged.now.keys.items c.deref.result.now c.name-item.result c.in-Some.place c.library_place.result c.deref.ensures.value c.library_place.ensures c.in-Some.is in
-    clean_more (sources_of c.args.libs.now) c.args.judged.now.keys.items c.args.judged.now.verdicts.items c.requires.judged.keyed c.requires.judged.verdicts c.name-item.result c.in-Some.place first c.args.names.now c.names.name-index c.index.result.now c.in_default-index.field-0 c.names.places.items c.push.new.self.items c.names-test.true c.name-item.is c.index.ensures c.in_default-index.is c.names.invariant c.in_ok-push.ensures.items
+    clean_more (sources_of c.args.libs.now) c.args.judged.now.keys.items c.args.judged.now.verdicts.items c.requires.judged.keyed c.requires.judged.verdicts c.name-item.result c.in-Some.place first c.args.names.now c.names.name-index c.index.result.now c.names.places.items c.push.new.self.items c.names-test.true c.name-item.is c.index.ensures c.in_default-index.is c.names.invariant c.in_ok-push.ensures.items

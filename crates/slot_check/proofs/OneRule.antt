@@ -4,7 +4,7 @@ use Rattle.first_breach.proofs.Narrowing as breaches
 use Rattle.markup_grammar.proofs.Answers.{one_reading, one_place, one_kind}
 use Rattle.widget_form.specs.declared.form.Form.{Form}
 use Rattle.widget_form.specs.Rows.{First}
-use Rattle.adsafe_rules.specs.Slots.{FirstOfSlot, M01, of_file, IsSlot}
+use Rattle.slot_check.specs.Slots.{FirstOfSlot, M01, of_file, IsSlot}
 
 module _ (name : List ℕ) (libs : List (List ℕ)) (bytes : List ℕ) where
   pub markup_once : (rule at other place : ℕ) → FirstOfSlot name libs bytes rule at → FirstOfSlot name libs bytes other place → (rule ≡ other) × (at ≡ place)

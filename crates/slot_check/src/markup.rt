@@ -1,6 +1,6 @@
 //! The markup rules of a widget file.
 ghost use Rattle.std.specs.Prelude.{IfOk, IfErr};
-ghost use Rattle.adsafe_rules.specs.Slots.{IsSlot, IsSlotFault};
+ghost use Rattle.slot_check.specs.Slots.{IsSlot, IsSlotFault};
 
 use code_units::Text;
 use markup_reader::{MarkupFault, read_markup};
@@ -18,7 +18,7 @@ pub enum CheckMarkupFault {
 
 impl From<MarkupFault> for CheckMarkupFault {
     ghost use Rattle.std.specs.Prelude.{◌≡◌};
-    ghost use Rattle.adsafe_rules.specs.Slots.{fault_of_markup};
+    ghost use Rattle.slot_check.specs.Slots.{fault_of_markup};
 
     ghost from_gives = { λ f e. e ≡ fault_of_markup f };
 
@@ -32,7 +32,7 @@ impl From<MarkupFault> for CheckMarkupFault {
 
 impl From<FormFault> for CheckMarkupFault {
     ghost use Rattle.std.specs.Prelude.{◌≡◌};
-    ghost use Rattle.adsafe_rules.specs.Slots.{fault_of_form};
+    ghost use Rattle.slot_check.specs.Slots.{fault_of_form};
 
     ghost from_gives = { λ f e. e ≡ fault_of_form f };
 

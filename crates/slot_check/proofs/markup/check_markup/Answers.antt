@@ -1,6 +1,6 @@
 use Rattle.plain_tree.specs.Plains.{placed_all}
-use Rattle.adsafe_rules.proofs.Refusing.{pass_markup, pass_form}
-use Rattle.adsafe_rules.proofs.slot.check_markup.Goals as goal
+use Rattle.slot_check.proofs.Refusing.{pass_markup, pass_form}
+use Rattle.slot_check.proofs.markup.check_markup.Goals as goal
 
 pub returns-in_err-content-clause-first : goal.returns-in_err-content-clause-first
 returns-in_err-content-clause-first c = pass_markup c.args.name.now c.args.libs.now c.args.bytes.now c.from_residual.result c.in_err-content.field-0.0 c.from_residual.ensures.1 c.in_err-content.ensures.place

@@ -10,8 +10,8 @@ use Rattle.markup_reader.specs.Faults.{IsMarkupFault}
 use Rattle.widget_form.specs.declared.form.FormFault.{FormFault}
 use Rattle.widget_form.specs.declared.form.FormFault.TheVariants as form
 use Rattle.widget_form.specs.Forms.{IsFormFault}
-use Rattle.adsafe_rules.specs.declared.slot.CheckMarkupFault.{CheckMarkupFault}
-use Rattle.adsafe_rules.specs.Slots.{IsSlotFault, M01, of_file, fault_of_markup, fault_of_form}
+use Rattle.slot_check.specs.declared.markup.CheckMarkupFault.{CheckMarkupFault}
+use Rattle.slot_check.specs.Slots.{IsSlotFault, M01, of_file, fault_of_markup, fault_of_form}
 
 module _ (name : List ℕ) (libs : List (List ℕ)) (bytes : List ℕ) where
   markup_fault : (f : MarkupFault) → IsMarkupFault bytes f → IsSlotFault name libs bytes (fault_of_markup f)

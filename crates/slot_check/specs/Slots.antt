@@ -10,8 +10,8 @@ use Rattle.widget_form.specs.declared.form.FormFault.{FormFault}
 use Rattle.widget_form.specs.declared.form.FormFault.TheVariants as form
 use Rattle.widget_form.specs.Rows.{First, IsGood}
 use Rattle.widget_form.specs.Forms.{IsForm}
-use Rattle.adsafe_rules.specs.declared.slot.CheckMarkupFault.{CheckMarkupFault}
-use Rattle.adsafe_rules.specs.declared.slot.CheckMarkupFault.TheVariants as fault
+use Rattle.slot_check.specs.declared.markup.CheckMarkupFault.{CheckMarkupFault}
+use Rattle.slot_check.specs.declared.markup.CheckMarkupFault.TheVariants as fault
 
 -- the bytes are a file that breaks no markup rule, and has this form
 pub record IsSlot (name : List ℕ) (libs : List (List ℕ)) (bytes : List ℕ) (form : Form) : Type 0 where
