@@ -1,5 +1,5 @@
 -- Files that are read in order.
-use Rattle.std.proofs.Common.{◌≡◌, ℕ, ◌<◌, ◌≤◌, ◌+◌, List, [], ◌∷◌, ◌++◌, length, take, drop, get_or, Option, Some, None, IfSome, All, IsSome, refl, ap, sym, subst, ◌∙◌, arith}
+use Rattle.std.proofs.Common.{◌≡◌, ℕ, ◌<◌, ◌≤◌, ◌+◌, List, [], ◌∷◌, ◌++◌, length, take, drop, get_or, Option, Some, None, IfSome, IsSomeAnd, All, IsSome, refl, ap, sym, subst, ◌∙◌, arith}
 use Rattle.std.specs.Prelude.{String, string_bytes}
 use Rattle.std.specs.declared.alloc.Global.{Global}
 use Rattle.std.proofs.lemmas.List.{map-append, take_more, drop_more, take-append-drop, take_all, length_push}
@@ -9,7 +9,7 @@ use Rattle.slot_check.specs.declared.sources.SourceFile.{SourceFile}
 use Rattle.slot_check.specs.Sources.{Source}
 use Rattle.slot_check.specs.Verdicts.{source_of, sources_of, IsSmall}
 use Rattle.adhost.specs.Page.{texts, IsRead, AreRead, none, more, IsFirstLong, here, later}
-use Rattle.adhost.specs.Reading.{IsLong, ComesThrough, each_read, first_long, AreReadable}
+use Rattle.adhost.specs.Reading.{IsLong, ComesThrough, each_read, first_long}
 
 pub some_is : {A : Type 0} (x y : A) → Some x ≡ Some y → x ≡ y
 some_is x y e = cc
@@ -103,7 +103,7 @@ module _ (names : List (String Global)) (i : ℕ) (d : String Global) (name : Li
     long_at (Some file) there long = subst (IsFirstLong m limit) texts_split (long_behind m limit (texts (take i names)) (sources_of all) name file (texts (drop (i + 1) names)) before there long)
 
   -- where the files can be read, the next one is there
-  pub readable_here : (told : Option FileMap) (limit : ℕ) (got : List SourceFile) → IfSome told (λ m. AreRead m limit (texts (take i names)) (sources_of got)) → AreReadable told limit (texts names) → IsThere told name
+  pub readable_here : (told : Option FileMap) (limit : ℕ) (got : List SourceFile) → IfSome told (λ m. AreRead m limit (texts (take i names)) (sources_of got)) → IsSomeAnd told (λ m. ComesThrough m limit (texts names)) → IsThere told name
   readable_here None limit got before through = through
   readable_here (Some m) limit got before through = behind_there m limit (texts (take i names)) (sources_of got) name (texts (drop (i + 1) names)) before (subst (ComesThrough m limit) (sym texts_split) through)
 

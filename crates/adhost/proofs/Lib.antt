@@ -1,7 +1,8 @@
 pub mod Counting
+pub mod Gathered
+pub mod ReadsLemmas
 pub mod Asking
 pub mod Pieces
-pub mod Gathered
 pub mod Names
 pub mod Manifests
 pub mod Reported

@@ -2,8 +2,8 @@
 use Rattle.std.proofs.Common.{◌≡◌, ℕ, List, [], ◌∷◌, ◌++◌, map, refl, sym, ap, subst, ◌∙◌}
 use Rattle.std.specs.Prelude.{string_bytes}
 use Rattle.std.specs.List.{flat_map}
-use Rattle.trace_reader.specs.declared.fault.ShapeFault.{ShapeFault}
-use Rattle.trace_reader.specs.declared.fault.ShapeFault.TheVariants as fault
+use Rattle.json_shapes.specs.declared.fault.ShapeFault.{ShapeFault}
+use Rattle.json_shapes.specs.declared.fault.ShapeFault.TheVariants as fault
 use Rattle.manifest_reader.specs.declared.entry.Entry.{Entry}
 use Rattle.manifest_reader.specs.declared.entry.Entry.TheVariants as entry
 use Rattle.manifest_reader.specs.declared.entry.Manifest.{Manifest}

@@ -1,5 +1,5 @@
 -- Words have one answer.
-use Rattle.std.proofs.Common.{◌≡◌, ℕ, List, Bool, Some, refl, sym, ap, subst, ◌∙◌}
+use Rattle.std.proofs.Common.{◌≡◌, ℕ, List, [], Bool, false, refl, sym, ap, subst, ◌∙◌}
 use Rattle.host_io.specs.Files.{FileMap}
 use Rattle.manifest_reader.specs.declared.entry.Manifest.{Manifest}
 use Rattle.manifest_reader.specs.Manifest.{ReadsManifest}
@@ -8,12 +8,14 @@ use Rattle.slot_check.specs.Sources.{Source}
 use Rattle.slot_check.specs.Line.{AreSlotLines}
 use Rattle.slot_check.proofs.Written.{lines_once}
 use Rattle.adhost.specs.declared.ending.Status.{Status}
-use Rattle.adhost.specs.declared.forms.Asked.{Asked}
-use Rattle.adhost.specs.declared.forms.Asked.TheVariants as asked
+use Rattle.adhost.specs.declared.ending.Status.TheVariants as status
+use Rattle.adhost.specs.declared.reports.Asked.{Asked}
+use Rattle.adhost.specs.declared.reports.Asked.TheVariants as asked
 use Rattle.adhost.specs.Page.{file_limit, manifest_limit, IsRead, AreRead, IsFirstLong, files_named, slots_with, slots_of, HasManifest}
-use Rattle.adhost.specs.Answer.{library_asked, manifest_asked, IsText, ending, LibraryAnswer, report, too_large, HasLines, PageAnswer, lines, long_manifest, bad_manifest, long_file, Answer, library, page, unbuilt, usage}
-use Rattle.adhost.proofs.Asking.{library_form, page_form, no_library}
-use Rattle.adhost.proofs.Gathered.{some_is, one_read, read_once, not_long, none_long}
+use Rattle.adhost.specs.Request.{Request, Check, CheckLib, Tidy, Render, Replay, Audit, CheckAudit, Demo, is_built}
+use Rattle.adhost.specs.Answer.{IsText, ending, LibraryAnswer, report, too_large, HasLines, PageAnswer, lines, long_manifest, bad_manifest, long_file, RequestAnswer, check, check_lib, tidy, unbuilt, Answer, of_request, usage}
+use Rattle.adhost.proofs.Asking.{form_of, one_form}
+use Rattle.adhost.proofs.Gathered.{one_read, read_once, not_long, none_long}
 use Rattle.adhost.proofs.Manifests.{SameFiles, manifest_once}
 
 -- a library has one text
@@ -71,30 +73,58 @@ page_once m name s t b c (long_file is more) (long_manifest there long) = (refl,
 page_once m name s t b c (long_file {manifest = x} also long) (bad_manifest {source = f} is none) = absurd (not_bad m name x f also is none)
 page_once m name s t b c (long_file is long) (long_file also more) = (refl, refl)
 
--- words ask for one thing
-not_both : {A : Type 0} (words : List (List ℕ)) {what : Asked} {name other : List ℕ} → library_asked words ≡ Some (what, name) → manifest_asked words ≡ Some other → A
-not_both words {other = other} lib asked = let none = sym (no_library words other asked) ∙ lib in cc
+-- what answers a request, by the request
+abbrev Answering : FileMap → Request → Status → List ℕ → Type 0
+Answering m (Check manifest) s b = PageAnswer m manifest s b
+Answering m (CheckLib file) s b = LibraryAnswer m asked.Line file s b
+Answering m (Tidy file) s b = LibraryAnswer m asked.Tidied file s b
+Answering m _ s b = (s ≡ status.Unbuilt) × (b ≡ [])
+
+not_built : (m : FileMap) (r : Request) → is_built r ≡ false → Answering m r status.Unbuilt []
+not_built m (Check manifest) is = cc
+not_built m (CheckLib file) is = cc
+not_built m (Tidy file) is = cc
+not_built m (Render manifest) is = (refl, refl)
+not_built m (Replay manifest trace slice) is = (refl, refl)
+not_built m (Audit manifest trace slice) is = (refl, refl)
+not_built m (CheckAudit file) is = (refl, refl)
+not_built m (Demo count) is = (refl, refl)
+
+answering : (m : FileMap) (r : Request) (s : Status) (b : List ℕ) → RequestAnswer m r s b → Answering m r s b
+answering m r s b (check answer) = answer
+answering m r s b (check_lib answer) = answer
+answering m r s b (tidy answer) = answer
+answering m r s b (unbuilt {request = q} is) = not_built m q is
+
+-- it does not depend on numbers
+by_form : (m : FileMap) (r : Request) (s : Status) (b : List ℕ) → Answering m r s b → Answering m (form_of r) s b
+by_form m (Check manifest) s b is = is
+by_form m (CheckLib file) s b is = is
+by_form m (Tidy file) s b is = is
+by_form m (Render manifest) s b is = is
+by_form m (Replay manifest trace slice) s b is = is
+by_form m (Audit manifest trace slice) s b is = is
+by_form m (CheckAudit file) s b is = is
+by_form m (Demo count) s b is = is
+
+same_unbuilt : (s t : Status) (b c : List ℕ) → (s ≡ status.Unbuilt) × (b ≡ []) → (t ≡ status.Unbuilt) × (c ≡ []) → (s ≡ t) × (b ≡ c)
+same_unbuilt s t b c x y = (x.0 ∙ sym y.0, x.1 ∙ sym y.1)
+
+request_once : (m : FileMap) (r : Request) (s t : Status) (b c : List ℕ) → Answering m r s b → Answering m r t c → (s ≡ t) × (b ≡ c)
+request_once m (Check manifest) s t b c x y = page_once m manifest s t b c x y
+request_once m (CheckLib file) s t b c x y = library_once m asked.Line file s t b c x y
+request_once m (Tidy file) s t b c x y = library_once m asked.Tidied file s t b c x y
+request_once m (Render manifest) s t b c x y = same_unbuilt s t b c x y
+request_once m (Replay manifest trace slice) s t b c x y = same_unbuilt s t b c x y
+request_once m (Audit manifest trace slice) s t b c x y = same_unbuilt s t b c x y
+request_once m (CheckAudit file) s t b c x y = same_unbuilt s t b c x y
+request_once m (Demo count) s t b c x y = same_unbuilt s t b c x y
 
 pub answer_once : (words : List (List ℕ)) (m : FileMap) (s t : Status) (b c : List ℕ) → Answer words m s b → Answer words m t c → (s ≡ t) × (b ≡ c)
-answer_once words m s t b c (library {what = x} {name = n} l a) (library {what = y} {name = k} i d) =
-    let both = some_is (x, n) (y, k) (sym l ∙ i) in
-    let what : x ≡ y = ap (λ p. p.0) both in
-    let named : n ≡ k = ap (λ p. p.1) both in
-    library_once m y k s t b c (subst (λ w. LibraryAnswer m w k s b) what (subst (λ o. LibraryAnswer m x o s b) named a)) d
-answer_once words m s t b c (library l a) (page i d) = not_both words l i
-answer_once words m s t b c (library l a) (unbuilt none never form) = let e = sym none ∙ l in cc
-answer_once words m s t b c (library {what = x} {name = n} l a) (usage none) = absurd (none (library_form words x n l))
-answer_once words m s t b c (page i d) (library l a) = not_both words l i
-answer_once words m s t b c (page {name = n} l a) (page {name = k} i d) =
-    let named : n ≡ k = some_is n k (sym l ∙ i) in
-    page_once m k s t b c (subst (λ o. PageAnswer m o s b) named a) d
-answer_once words m s t b c (page l a) (unbuilt none never form) = let e = sym never ∙ l in cc
-answer_once words m s t b c (page {name = n} l a) (usage none) = absurd (none (page_form words n l))
-answer_once words m s t b c (unbuilt none never form) (library l a) = let e = sym none ∙ l in cc
-answer_once words m s t b c (unbuilt none never form) (page l a) = let e = sym never ∙ l in cc
-answer_once words m s t b c (unbuilt none never form) (unbuilt also more other) = (refl, refl)
-answer_once words m s t b c (unbuilt none never form) (usage wrong) = absurd (wrong form)
-answer_once words m s t b c (usage none) (library {what = x} {name = n} l a) = absurd (none (library_form words x n l))
-answer_once words m s t b c (usage none) (page {name = n} l a) = absurd (none (page_form words n l))
-answer_once words m s t b c (usage none) (unbuilt also never form) = absurd (none form)
+answer_once words m s t b c (of_request {request = r} asks x) (of_request {request = q} also y) =
+    let one = by_form m r s b (answering m r s b x) in
+    let other = by_form m q t c (answering m q t c y) in
+    request_once m (form_of q) s t b c (subst (λ f. Answering m f s b) (one_form words r q asks also) one) other
+answer_once words m s t b c (of_request {request = r} asks x) (usage none) = absurd (none (record { request = r; asks = asks }))
+answer_once words m s t b c (usage none) (of_request {request = q} asks y) = absurd (none (record { request = q; asks = asks }))
 answer_once words m s t b c (usage none) (usage also) = (refl, refl)

@@ -1,6 +1,5 @@
 -- What a run answers.
-use Rattle.std.specs.Prelude.{◌≡◌, ℕ, ◌<◌, ◌≤◌, List, [], ◌∷◌, length, take, Option, Some, None, codes, if◌then◌else◌, Bool, true, false}
-use Rattle.std.specs.Str.{bytes_eq}
+use Rattle.std.specs.Prelude.{◌≡◌, ℕ, ◌<◌, ◌≤◌, List, [], length, take, Option, Some, Bool, true, false}
 use Rattle.host_io.specs.Files.{FileMap}
 use Rattle.host_io.specs.Sink.{with_bytes}
 use Rattle.manifest_reader.specs.declared.entry.Manifest.{Manifest}
@@ -10,20 +9,10 @@ use Rattle.slot_check.specs.Sources.{Source}
 use Rattle.slot_check.specs.Line.{AreSlotLines}
 use Rattle.adhost.specs.declared.ending.Status.{Status}
 use Rattle.adhost.specs.declared.ending.Status.TheVariants as status
-use Rattle.adhost.specs.declared.forms.Asked.{Asked}
-use Rattle.adhost.specs.declared.forms.Asked.TheVariants as asked
-use Rattle.adhost.specs.Forms.{IsForm}
+use Rattle.adhost.specs.declared.reports.Asked.{Asked}
+use Rattle.adhost.specs.declared.reports.Asked.TheVariants as asked
+use Rattle.adhost.specs.Request.{Request, Check, CheckLib, Tidy, Asks, IsForm, is_built}
 use Rattle.adhost.specs.Page.{file_limit, manifest_limit, IsRead, AreRead, IsFirstLong, files_named, HasManifest, slots_of}
-
--- what `check-lib FILE` and `tidy FILE` ask, and the file
-abbrev pub library_asked : List (List ℕ) → Option (Asked × List ℕ)
-library_asked (word ∷ name ∷ []) = if bytes_eq word (codes "check-lib") then Some (asked.Line, name) else (if bytes_eq word (codes "tidy") then Some (asked.Tidied, name) else None)
-library_asked _ = None
-
--- the manifest of `check MANIFEST`
-abbrev pub manifest_asked : List (List ℕ) → Option (List ℕ)
-manifest_asked (word ∷ name ∷ []) = if bytes_eq word (codes "check") then Some name else None
-manifest_asked _ = None
 
 -- what is written of a library: its line, or its tidied text
 abbrev pub IsText : Asked → List ℕ → List ℕ → Bool → List ℕ → Type 0
@@ -50,22 +39,20 @@ pub record HasLines (files : FileMap) (manifest : Manifest) (refused : Bool) (by
 pub data PageAnswer (files : FileMap) (name : List ℕ) : Status → List ℕ → Type 0 where
   lines : {manifest : Manifest} {bytes : List ℕ} (refused : Bool) → HasManifest files name manifest → HasLines files manifest refused bytes → PageAnswer files name (ending refused) bytes
   long_manifest : {file : List ℕ} → files name ≡ Some file → manifest_limit < length file → PageAnswer files name status.TooLarge []
-  bad_manifest : {source : Source} → IsRead files manifest_limit name source → ((manifest : Manifest) → ReadsManifest source.bytes manifest → ⊥) → PageAnswer files name status.BadManifest []
+  bad_manifest : {source : Source} → IsRead files manifest_limit name source → ((manifest : Manifest) → ¬ ReadsManifest source.bytes manifest) → PageAnswer files name status.BadManifest []
   long_file : {manifest : Manifest} → HasManifest files name manifest → IsFirstLong files file_limit (files_named manifest) → PageAnswer files name status.TooLarge []
+
+-- what is answered to a request
+pub data RequestAnswer (files : FileMap) : Request → Status → List ℕ → Type 0 where
+  check : {manifest : List ℕ} {s : Status} {bytes : List ℕ} → PageAnswer files manifest s bytes → RequestAnswer files (Check manifest) s bytes
+  check_lib : {file : List ℕ} {s : Status} {bytes : List ℕ} → LibraryAnswer files asked.Line file s bytes → RequestAnswer files (CheckLib file) s bytes
+  tidy : {file : List ℕ} {s : Status} {bytes : List ℕ} → LibraryAnswer files asked.Tidied file s bytes → RequestAnswer files (Tidy file) s bytes
+  unbuilt : {request : Request} → is_built request ≡ false → RequestAnswer files request status.Unbuilt []
 
 -- Answer: the status of the words over the files, and the bytes that are written
 pub data Answer (words : List (List ℕ)) (files : FileMap) : Status → List ℕ → Type 0 where
-  library : {what : Asked} {name : List ℕ} {s : Status} {bytes : List ℕ} → library_asked words ≡ Some (what, name) → LibraryAnswer files what name s bytes → Answer words files s bytes
-  page : {name : List ℕ} {s : Status} {bytes : List ℕ} → manifest_asked words ≡ Some name → PageAnswer files name s bytes → Answer words files s bytes
-  -- the other forms are not built yet
-  unbuilt : library_asked words ≡ None → manifest_asked words ≡ None → IsForm words → Answer words files status.Unbuilt []
-  usage : (IsForm words → ⊥) → Answer words files status.Usage []
-
--- there is an answer: each file to which the work comes is there
-pub record HasAnswer (IsAnswer : Status → List ℕ → Type 0) : Type 0 where
-  pub ended : Status
-  pub bytes : List ℕ
-  pub answer : IsAnswer ended bytes
+  of_request : {request : Request} {s : Status} {bytes : List ℕ} → Asks words request → RequestAnswer files request s bytes → Answer words files s bytes
+  usage : ¬ IsForm words → Answer words files status.Usage []
 
 -- the bytes of an answer were appended, and nothing else
 pub record Wrote (IsAnswer : List ℕ → Type 0) (old new : Option (List ℕ)) : Type 0 where
@@ -73,11 +60,12 @@ pub record Wrote (IsAnswer : List ℕ → Type 0) (old new : Option (List ℕ)) 
   pub answer : IsAnswer bytes
   pub appended : new ≡ with_bytes old bytes
 
--- a first part of the bytes of an answer was appended, which is that of a report
-pub record WrotePart (IsAnswer : Status → List ℕ → Type 0) (old new : Option (List ℕ)) : Type 0 where
+-- a first part of the bytes of a report was appended, and the sink had no room for all of them
+pub record WrotePart (IsAnswer : Status → List ℕ → Type 0) (room : ℕ) (old new : Option (List ℕ)) : Type 0 where
   pub refused : Bool
   pub bytes : List ℕ
   pub count : ℕ
   pub answer : IsAnswer (ending refused) bytes
+  pub no_room : room < length bytes
   pub within : count ≤ length bytes
   pub appended : new ≡ with_bytes old (take count bytes)

@@ -1,4 +1,4 @@
-pub mod Forms
+pub mod Request
 pub mod Page
 pub mod Reading
 pub mod Answer

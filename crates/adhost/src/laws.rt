@@ -6,5 +6,6 @@ ghost use Rattle.adhost.specs.Answer.{Answer};
 
 /// Words have at most one answer over the files: one status, and the same bytes.
 pub fn one_answer()
-    ensures { (words : List (List ℕ)) (files : FileMap) (s t : Status) (b c : List ℕ) → Answer words files s b → Answer words files t c → (s ≡ t) × (b ≡ c) }
+    ensures { (words : List (List ℕ)) (files : FileMap) (s t : Status) (b c : List ℕ) →
+        Answer words files s b → Answer words files t c → (s ≡ t) × (b ≡ c) }
 {}

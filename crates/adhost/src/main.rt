@@ -2,11 +2,11 @@
 #![tactic(auto)]
 
 mod ending;
-mod forms;
 mod laws;
 mod pages;
 mod reading;
 mod reports;
+mod request;
 mod running;
 #[cfg(test)]
 mod tests;

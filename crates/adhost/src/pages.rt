@@ -1,23 +1,21 @@
 //! The page of a manifest, with its files.
-ghost use Rattle.std.specs.Prelude.{◌≡◌, ◌≤◌, ◌++◌, ◌∷◌, [], length, All, Option, IfSome, IfOk, OnOk, IfErr, IsErrOf};
-ghost use Rattle.host_io.specs.Files.{Rose};
+ghost use Rattle.std.specs.Prelude.{◌≡◌, ◌≤◌, ◌++◌, ◌∷◌, [], length, All, IfSome, IsSomeAnd, IfOk, OnOk, IfErr, IsErrOf};
 ghost use Rattle.manifest_reader.specs.declared.entry.Manifest.{Manifest as ManifestView};
 ghost use Rattle.manifest_reader.specs.Manifest.{ReadsManifest};
 ghost use Rattle.slot_check.specs.Verdicts.{sources_of, IsSmall};
 ghost use Rattle.slot_check.specs.Line.{AreSlotLines};
-ghost use Rattle.adhost.specs.declared.ending.Status.TheVariants as status;
 ghost use Rattle.adhost.specs.Page.{texts, file_limit, IsFirstLong, entry_name, entry_file, slot_names, slot_files, files_named, slots_of};
-ghost use Rattle.adhost.specs.Answer.{ending, HasLines, PageAnswer, HasAnswer};
-ghost use Rattle.adhost.specs.Reading.{IsReadStop, IsPageStop, IsManifestStop, AreReadable};
+ghost use Rattle.adhost.specs.Answer.{ending, HasLines, PageAnswer};
+ghost use Rattle.adhost.specs.Ends.{IsStop};
+ghost use Rattle.adhost.specs.Reading.{ReadsFiles, ComesThrough, HasPageFiles, IsReadStop, IsBuiltStop, IsManifestStop};
 
 use crate::reading::{Stop, read_file, read_files};
 use crate::reports::Report;
 use code_units::{Memory, Text};
 use host_io::Files;
-use manifest_reader::{Entry, Manifest, read_manifest};
+use manifest_reader::{Entry, Manifest, ShapeFault, read_manifest};
 use slot_check::{SlotText, SourceFile, slot_lines};
 use std::alloc::Global;
-use trace_reader::ShapeFault;
 
 /// The bytes that a manifest may have.
 const MANIFEST_LIMIT: usize = 1_048_576;
@@ -25,15 +23,10 @@ const MANIFEST_LIMIT: usize = 1_048_576;
 /// The report on a manifest: the lines of its slots.
 pub fn check_page<F: Files>(alloc: Global, name: &str, files: &mut F) -> Result<Report, Stop>
     ensures answer { IfOk result (λ r. IfSome (F.told files.old) (λ m. PageAnswer m name.now (ending r.refused) r.bytes.items)) }
-    ensures large { IsErrOf result Stop.TooLarge → IfSome (F.told files.old) (λ m. PageAnswer m name.now status.TooLarge []) }
-    ensures bad { IsErrOf result Stop.BadManifest → IfSome (F.told files.old) (λ m. PageAnswer m name.now status.BadManifest []) }
-    ensures stops { IfErr result IsPageStop }
-    ensures told { F.told files.new ≡ F.told files.old }
-    ensures count { F.faults files.old ≤ F.faults files.new }
-    ensures cause { IsErrOf result Stop.ReadFault → Rose (F.faults files.old) (F.faults files.new) }
-    ensures calm { IfSome (F.told files.old) (λ m. F.calm files.old → HasAnswer (PageAnswer m name.now) → F.calm files.new) }
-    ensures calm_count { IfSome (F.told files.old) (λ m. F.calm files.old → HasAnswer (PageAnswer m name.now) → F.faults files.new ≡ F.faults files.old) }
-    ensures calm_reads { IsErrOf result Stop.ReadFault → IfSome (F.told files.old) (λ m. F.calm files.old → HasAnswer (PageAnswer m name.now) → ⊥) }
+    ensures stop { IfErr result (λ stop. IfSome (F.told files.old) (λ m. IsStop (PageAnswer m name.now) stop)) }
+    ensures built { IfErr result IsBuiltStop }
+    ensures reads { ReadsFiles F.told F.calm F.faults files.old files.new (IsErrOf result Stop.ReadFault)
+        (IsSomeAnd (F.told files.old) (λ m. HasPageFiles m name.now)) }
 {
     let bytes = read_file(alloc, name, MANIFEST_LIMIT, files)?;
     let manifest = manifest_of(alloc, &bytes)?;
@@ -43,14 +36,11 @@ pub fn check_page<F: Files>(alloc: Global, name: &str, files: &mut F) -> Result<
 // The lines of the slots of this manifest.
 fn check_files<F: Files>(alloc: Global, manifest: &Manifest, files: &mut F) -> Result<Report, Stop>
     ensures lines { IfOk result (λ r. IfSome (F.told files.old) (λ m. HasLines m manifest.now r.refused r.bytes.items)) }
-    ensures large { IsErrOf result Stop.TooLarge → IfSome (F.told files.old) (λ m. IsFirstLong m file_limit (files_named manifest.now)) }
+    ensures large { IsErrOf result Stop.TooLarge →
+        IfSome (F.told files.old) (λ m. IsFirstLong m file_limit (files_named manifest.now)) }
     ensures stops { IfErr result IsReadStop }
-    ensures told { F.told files.new ≡ F.told files.old }
-    ensures count { F.faults files.old ≤ F.faults files.new }
-    ensures cause { IsErrOf result Stop.ReadFault → Rose (F.faults files.old) (F.faults files.new) }
-    ensures calm { F.calm files.old → AreReadable (F.told files.old) file_limit (files_named manifest.now) → F.calm files.new }
-    ensures calm_count { F.calm files.old → AreReadable (F.told files.old) file_limit (files_named manifest.now) → F.faults files.new ≡ F.faults files.old }
-    ensures calm_reads { F.calm files.old → AreReadable (F.told files.old) file_limit (files_named manifest.now) → IsErrOf result Stop.ReadFault → ⊥ }
+    ensures reads { ReadsFiles F.told F.calm F.faults files.old files.new (IsErrOf result Stop.ReadFault)
+        (IsSomeAnd (F.told files.old) (λ m. ComesThrough m file_limit (files_named manifest.now))) }
 {
     let names = files_named(alloc, manifest)?;
     let sources = read_files(alloc, &names, files)?;
@@ -64,7 +54,7 @@ fn check_files<F: Files>(alloc: Global, manifest: &Manifest, files: &mut F) -> R
 // The manifest that the bytes are.
 fn manifest_of(alloc: Global, bytes: &[u8]) -> Result<Manifest, Stop>
     ensures ok { IfOk result (ReadsManifest bytes.now) }
-    ensures bad { IsErrOf result Stop.BadManifest → (manifest : ManifestView) → ReadsManifest bytes.now manifest → ⊥ }
+    ensures bad { IsErrOf result Stop.BadManifest → (manifest : ManifestView) → ¬ ReadsManifest bytes.now manifest }
     ensures stops { IfErr result IsManifestStop }
 {
     match read_manifest(alloc, bytes) {
@@ -75,13 +65,13 @@ fn manifest_of(alloc: Global, bytes: &[u8]) -> Result<Manifest, Stop>
 
 // What the work stops at where bytes give no manifest.
 fn stop_of(fault: ShapeFault) -> Stop
-    ensures bad { result ≡ Stop.BadManifest → fault ≡ ShapeFault.Memory → ⊥ }
+    ensures bad { result ≡ Stop.BadManifest → ¬ (fault ≡ ShapeFault.Memory) }
     ensures stops { IsManifestStop result }
 {
     match fault {
-        ShapeFault::NotJson => Stop::BadManifest,
-        ShapeFault::BadShape { .. } => Stop::BadManifest,
-        ShapeFault::TooMany { .. } => Stop::BadManifest,
+        ShapeFault::NotJson | ShapeFault::BadShape { .. } | ShapeFault::TooMany { .. } => {
+            Stop::BadManifest
+        }
         ShapeFault::Memory => Stop::Memory,
     }
 }

@@ -1,9 +1,9 @@
 //! Reading files within their limits.
-ghost use Rattle.std.specs.Prelude.{◌≡◌, ◌≤◌, ◌<◌, ◌+◌, ◌^◌, length, All, Some, Option, IfSome, IfOk, IfErr, IsErrOf};
-ghost use Rattle.host_io.specs.Files.{Rose, IsThere};
+ghost use Rattle.std.specs.Prelude.{◌≡◌, ◌≤◌, ◌<◌, ◌^◌, length, All, Some, IfSome, IsSomeAnd, IfOk, IfErr, IsErrOf};
+ghost use Rattle.host_io.specs.Files.{IsThere};
 ghost use Rattle.slot_check.specs.Verdicts.{source_of, sources_of, IsSmall};
 ghost use Rattle.adhost.specs.Page.{texts, file_limit, IsRead, AreRead, IsFirstLong};
-ghost use Rattle.adhost.specs.Reading.{IsLong, IsReadStop, AreReadable};
+ghost use Rattle.adhost.specs.Reading.{ReadsFiles, IsLong, ComesThrough, IsReadStop};
 
 use code_units::Memory;
 use host_io::{Files, ReadFail};
@@ -14,7 +14,7 @@ use std::alloc::{AllocError, AllocFailed, Global};
 pub const FILE_LIMIT: usize = 262_144;
 
 /// Why there is no report.
-#[derive(Clone, Copy, Debug, PartialEq, Eq)]
+#[derive(Clone, Copy)]
 pub enum Stop {
     /// The bytes of the manifest are none.
     BadManifest,
@@ -26,8 +26,6 @@ pub enum Stop {
     Memory,
     /// The words are of a form that is not built yet.
     Unbuilt,
-    /// The words are no form of the command line.
-    Usage,
 }
 
 impl From<Memory> for Stop {
@@ -75,12 +73,8 @@ pub fn read_file<F: Files>(
     ensures within { IfOk result (λ v. length v.items ≤ limit) }
     ensures large { IsErrOf result Stop.TooLarge → IfSome (F.told files.old) (λ m. IsLong (m name.now) limit) }
     ensures stops { IfErr result IsReadStop }
-    ensures told { F.told files.new ≡ F.told files.old }
-    ensures count { F.faults files.old ≤ F.faults files.new }
-    ensures cause { IsErrOf result Stop.ReadFault → Rose (F.faults files.old) (F.faults files.new) }
-    ensures calm { F.calm files.old → IsThere (F.told files.old) name.now → F.calm files.new }
-    ensures calm_count { F.calm files.old → IsThere (F.told files.old) name.now → F.faults files.new ≡ F.faults files.old }
-    ensures calm_reads { F.calm files.old → IsThere (F.told files.old) name.now → IsErrOf result Stop.ReadFault → ⊥ }
+    ensures reads { ReadsFiles F.told F.calm F.faults files.old files.new (IsErrOf result Stop.ReadFault)
+        (IsThere (F.told files.old) name.now) }
 {
     match files.read(alloc, name, limit) {
         Ok(bytes) => {
@@ -96,7 +90,6 @@ pub fn read_file<F: Files>(
 }
 
 /// The files of these names, each within its limit. The first that is not decides.
-#[tactic(auto, using(crate::proofs::Gathered::readable_here))]
 pub fn read_files<F: Files>(
     alloc: Global,
     names: &[String],
@@ -105,14 +98,11 @@ pub fn read_files<F: Files>(
     ensures ok { IfOk result (λ v. IfSome (F.told files.old) (λ m. AreRead m file_limit (texts names.now) (sources_of v.items))) }
     ensures many { IfOk result (λ v. length v.items ≡ length names.now) }
     ensures small { IfOk result (λ v. All IsSmall v.items) }
-    ensures large { IsErrOf result Stop.TooLarge → IfSome (F.told files.old) (λ m. IsFirstLong m file_limit (texts names.now)) }
+    ensures large { IsErrOf result Stop.TooLarge →
+        IfSome (F.told files.old) (λ m. IsFirstLong m file_limit (texts names.now)) }
     ensures stops { IfErr result IsReadStop }
-    ensures told { F.told files.new ≡ F.told files.old }
-    ensures count { F.faults files.old ≤ F.faults files.new }
-    ensures cause { IsErrOf result Stop.ReadFault → Rose (F.faults files.old) (F.faults files.new) }
-    ensures calm { F.calm files.old → AreReadable (F.told files.old) file_limit (texts names.now) → F.calm files.new }
-    ensures calm_count { F.calm files.old → AreReadable (F.told files.old) file_limit (texts names.now) → F.faults files.new ≡ F.faults files.old }
-    ensures calm_reads { F.calm files.old → AreReadable (F.told files.old) file_limit (texts names.now) → IsErrOf result Stop.ReadFault → ⊥ }
+    ensures reads { ReadsFiles F.told F.calm F.faults files.old files.new (IsErrOf result Stop.ReadFault)
+        (IsSomeAnd (F.told files.old) (λ m. ComesThrough m file_limit (texts names.now))) }
 {
     let mut sources = Vec::new(alloc);
     'names: for name in names {
@@ -129,12 +119,8 @@ fn read_source<F: Files>(alloc: Global, name: &str, files: &mut F) -> Result<Sou
     ensures small { IfOk result IsSmall }
     ensures large { IsErrOf result Stop.TooLarge → IfSome (F.told files.old) (λ m. IsLong (m name.now) file_limit) }
     ensures stops { IfErr result IsReadStop }
-    ensures told { F.told files.new ≡ F.told files.old }
-    ensures count { F.faults files.old ≤ F.faults files.new }
-    ensures cause { IsErrOf result Stop.ReadFault → Rose (F.faults files.old) (F.faults files.new) }
-    ensures calm { F.calm files.old → IsThere (F.told files.old) name.now → F.calm files.new }
-    ensures calm_count { F.calm files.old → IsThere (F.told files.old) name.now → F.faults files.new ≡ F.faults files.old }
-    ensures calm_reads { F.calm files.old → IsThere (F.told files.old) name.now → IsErrOf result Stop.ReadFault → ⊥ }
+    ensures reads { ReadsFiles F.told F.calm F.faults files.old files.new (IsErrOf result Stop.ReadFault)
+        (IsThere (F.told files.old) name.now) }
 {
     let bytes = read_file(alloc, name, FILE_LIMIT, files)?;
     let name = String::from_str(alloc, name)?;

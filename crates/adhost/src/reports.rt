@@ -1,15 +1,14 @@
 //! The report, built whole before anything is written.
-ghost use Rattle.std.specs.Prelude.{◌≡◌, ◌≤◌, ◌<◌, ◌^◌, length, [], None, Option, IfSome, IfOk, IfErr, IsErrOf, Ok, Err};
-ghost use Rattle.host_io.specs.Files.{Rose};
-ghost use Rattle.adhost.specs.Page.{texts};
-ghost use Rattle.adhost.specs.Answer.{IsText, ending, LibraryAnswer, Answer, HasAnswer};
-ghost use Rattle.adhost.specs.Forms.{IsForm};
-ghost use Rattle.adhost.specs.declared.ending.Status.TheVariants as status;
-ghost use Rattle.adhost.specs.Reading.{IsReadStop};
+ghost use Rattle.std.specs.Prelude.{◌≡◌, ◌<◌, ◌^◌, length, false, IfSome, IsSomeAnd, IfOk, IfErr, IsErrOf, Err};
+ghost use Rattle.host_io.specs.Files.{IsThere};
+ghost use Rattle.adhost.specs.Request.{request_of, is_built};
+ghost use Rattle.adhost.specs.Answer.{IsText, ending, LibraryAnswer, RequestAnswer};
+ghost use Rattle.adhost.specs.Ends.{IsStop};
+ghost use Rattle.adhost.specs.Reading.{ReadsFiles, HasFilesFor, IsReadStop};
 
-use crate::forms::{Asked, is_form, library_asked, manifest_asked};
 use crate::pages::check_page;
 use crate::reading::{FILE_LIMIT, Stop, read_file};
+use crate::request::Request;
 use code_units::Memory;
 use host_io::Files;
 use script_check::{LibraryText, library_line, tidied_library};
@@ -24,42 +23,38 @@ pub struct Report {
     pub bytes: Vec<u8>,
 }
 
-/// The report that the words ask for.
-#[tactic(auto, using(crate::proofs::Reported::unbuilt_of, crate::proofs::Reported::usage_of, crate::proofs::Reported::calm_words_none))]
-pub fn build_report<F: Files>(
-    alloc: Global,
-    words: &[String],
-    files: &mut F,
-) -> Result<Report, Stop>
-    ensures answer { IfOk result (λ r. IfSome (F.told files.old) (λ m. Answer (texts words.now) m (ending r.refused) r.bytes.items)) }
-    ensures large { IsErrOf result Stop.TooLarge → IfSome (F.told files.old) (λ m. Answer (texts words.now) m status.TooLarge []) }
-    ensures bad { IsErrOf result Stop.BadManifest → IfSome (F.told files.old) (λ m. Answer (texts words.now) m status.BadManifest []) }
-    ensures unbuilt { IsErrOf result Stop.Unbuilt → IfSome (F.told files.old) (λ m. Answer (texts words.now) m status.Unbuilt []) }
-    ensures usage { IsErrOf result Stop.Usage → IfSome (F.told files.old) (λ m. Answer (texts words.now) m status.Usage []) }
-    ensures no_form { (IsForm (texts words.now) → ⊥) → result ≡ Err Stop.Usage }
-    ensures form { IsErrOf result Stop.Usage → IsForm (texts words.now) → ⊥ }
-    ensures told { F.told files.new ≡ F.told files.old }
-    ensures count { F.faults files.old ≤ F.faults files.new }
-    ensures cause { IsErrOf result Stop.ReadFault → Rose (F.faults files.old) (F.faults files.new) }
-    ensures calm { IfSome (F.told files.old) (λ m. F.calm files.old → HasAnswer (Answer (texts words.now) m) → F.calm files.new) }
-    ensures calm_count { IfSome (F.told files.old) (λ m. F.calm files.old → HasAnswer (Answer (texts words.now) m) → F.faults files.new ≡ F.faults files.old) }
-    ensures calm_reads { IsErrOf result Stop.ReadFault → IfSome (F.told files.old) (λ m. F.calm files.old → HasAnswer (Answer (texts words.now) m) → ⊥) }
+/// What is asked of a library.
+#[derive(Clone, Copy)]
+pub enum Asked {
+    /// Its line: `check-lib`.
+    Line,
+    /// Its tidied text: `tidy`.
+    Tidied,
+}
+
+/// The report that is asked for.
+pub fn report_on<F: Files>(alloc: Global, request: &Request, files: &mut F) -> Result<Report, Stop>
+    ensures answer { IfOk result (λ r. IfSome (F.told files.old) (λ m.
+        RequestAnswer m (request_of request.now) (ending r.refused) r.bytes.items)) }
+    ensures stop { IfErr result (λ stop. IfSome (F.told files.old) (λ m. IsStop (RequestAnswer m (request_of request.now)) stop)) }
+    ensures unbuilt { IsErrOf result Stop.Unbuilt → is_built (request_of request.now) ≡ false }
+    ensures not_built { is_built (request_of request.now) ≡ false → result ≡ Err Stop.Unbuilt }
+    ensures reads { ReadsFiles F.told F.calm F.faults files.old files.new (IsErrOf result Stop.ReadFault)
+        (IsSomeAnd (F.told files.old) (λ m. HasFilesFor m (request_of request.now))) }
 {
-    if let Some(name) = manifest_asked(words) {
-        return check_page(alloc, name, files);
+    match request {
+        Request::Check { manifest } => check_page(alloc, manifest, files),
+        Request::CheckLib { file } => report_library(alloc, Asked::Line, file, files),
+        Request::Tidy { file } => report_library(alloc, Asked::Tidied, file, files),
+        Request::Render { .. }
+        | Request::Replay { .. }
+        | Request::Audit { .. }
+        | Request::CheckAudit { .. }
+        | Request::Demo { .. } => Err(Stop::Unbuilt),
     }
-    let Some((asked, name)) = library_asked(words) else {
-        return Err(if is_form(words) {
-            Stop::Unbuilt
-        } else {
-            Stop::Usage
-        });
-    };
-    report_library(alloc, asked, name, files)
 }
 
 // The report on a library.
-#[tactic(auto, using(crate::proofs::Reported::report_of, crate::proofs::Reported::long_of, crate::proofs::Reported::calm_library))]
 fn report_library<F: Files>(
     alloc: Global,
     asked: Asked,
@@ -67,14 +62,10 @@ fn report_library<F: Files>(
     files: &mut F,
 ) -> Result<Report, Stop>
     ensures answer { IfOk result (λ r. IfSome (F.told files.old) (λ m. LibraryAnswer m asked name.now (ending r.refused) r.bytes.items)) }
-    ensures large { IsErrOf result Stop.TooLarge → IfSome (F.told files.old) (λ m. LibraryAnswer m asked name.now status.TooLarge []) }
+    ensures stop { IfErr result (λ stop. IfSome (F.told files.old) (λ m. IsStop (LibraryAnswer m asked name.now) stop)) }
     ensures stops { IfErr result IsReadStop }
-    ensures told { F.told files.new ≡ F.told files.old }
-    ensures count { F.faults files.old ≤ F.faults files.new }
-    ensures cause { IsErrOf result Stop.ReadFault → Rose (F.faults files.old) (F.faults files.new) }
-    ensures calm { IfSome (F.told files.old) (λ m. F.calm files.old → HasAnswer (LibraryAnswer m asked name.now) → F.calm files.new) }
-    ensures calm_count { IfSome (F.told files.old) (λ m. F.calm files.old → HasAnswer (LibraryAnswer m asked name.now) → F.faults files.new ≡ F.faults files.old) }
-    ensures calm_reads { IsErrOf result Stop.ReadFault → IfSome (F.told files.old) (λ m. F.calm files.old → HasAnswer (LibraryAnswer m asked name.now) → ⊥) }
+    ensures reads { ReadsFiles F.told F.calm F.faults files.old files.new (IsErrOf result Stop.ReadFault)
+        (IsThere (F.told files.old) name.now) }
 {
     let bytes = read_file(alloc, name, FILE_LIMIT, files)?;
     let text = library_text(alloc, asked, name, &bytes)?;

@@ -1,66 +1,68 @@
 //! The top call.
-ghost use Rattle.std.specs.Prelude.{◌≡◌, ◌≤◌, ℕ, List, length, false, None, IfSome, IsTrue};
-ghost use Rattle.host_io.specs.Files.{Rose};
-ghost use Rattle.adhost.specs.declared.ending.Status.{Status as StatusView};
+ghost use Rattle.std.specs.Prelude.{◌≡◌, ◌↔◌, false, IsTrue, IfSome, IsSomeAnd};
 ghost use Rattle.adhost.specs.Page.{texts};
-ghost use Rattle.adhost.specs.Answer.{Answer, HasAnswer, Wrote, WrotePart};
-ghost use Rattle.adhost.specs.Forms.{IsForm};
-ghost use Rattle.adhost.specs.Ends.{is_answer, writes, Ends, Fits};
+ghost use Rattle.adhost.specs.Request.{IsForm, IsUnbuilt};
+ghost use Rattle.adhost.specs.Answer.{Answer, Wrote, WrotePart};
+ghost use Rattle.adhost.specs.Reading.{ReadsFiles, HasFiles};
+ghost use Rattle.adhost.specs.Ends.{is_answer, writes, Completes, Fits, WritesSink, status_of};
 
 use crate::ending::Status;
 use crate::reading::Stop;
-use crate::reports::build_report;
-use crate::writing::write_whole;
+use crate::reports::report_on;
+use crate::request::parse;
+use crate::writing::write_report;
 use host_io::{Files, Sink};
 use std::alloc::Global;
 
-/// Does what the words ask for, over the files, and writes the report to the sink. Over files and
-/// a sink that tell what they hold, the status and the bytes are those of the answer.
+/// Does what the words ask for, over the files, and writes the report to the sink. What a run
+/// answers is `Answer`, which is one (`one_answer`).
 pub fn run<F: Files, S: Sink>(
     alloc: Global,
     words: &[String],
     files: &mut F,
     sink: &mut S,
 ) -> Status
-    // The answer, and just its bytes.
-    ensures answer { IsTrue (is_answer result) → IfSome (F.told files.old) (λ m. Wrote (Answer (texts words.now) m result) (S.held sink.old) (S.held sink.new)) }
-    ensures usage { (IsForm (texts words.now) → ⊥) → result ≡ Status.Usage }
-    ensures no_usage { result ≡ Status.Usage → IsForm (texts words.now) → ⊥ }
+    // The status is that of the answer, but for a fault and want of memory, and just the answer's
+    // bytes are appended.
+    ensures answer { IsTrue (is_answer result) → IfSome (F.told files.old) (λ m.
+        Wrote (Answer (texts words.now) m result) (S.held sink.old) (S.held sink.new)) }
+    ensures usage { (result ≡ Status.Usage) ↔ (¬ IsForm (texts words.now)) }
+    ensures unbuilt { (result ≡ Status.Unbuilt) ↔ IsUnbuilt (texts words.now) }
 
-    // Where there is an answer, the run ends with its status, but for want of memory and faults;
-    // over calm files and a sink with room, but for want of memory alone.
-    ensures complete { IfSome (F.told files.old) (λ m. (s : StatusView) (b : List ℕ) → Answer (texts words.now) m s b → Ends s (Rose (F.faults files.old) (F.faults files.new)) (Rose (S.faults sink.old) (S.faults sink.new)) result) }
-    ensures calm { IfSome (F.told files.old) (λ m. (s : StatusView) (b : List ℕ) → Answer (texts words.now) m s b → F.calm files.old → length b ≤ S.takes sink.old → Ends s ⊥ ⊥ result) }
+    // Over calm files that have each file to which the work comes there is an answer, and the run
+    // ends with it, but for want of memory, and for a sink without room.
+    ensures complete { IfSome (F.told files.old) (λ m. F.calm files.old → HasFiles (texts words.now) m →
+        Completes (Answer (texts words.now) m) (S.takes sink.old) result) }
 
-    // A fault of the files comes only where their count rose, and not over calm files that have
-    // each file to which the work comes. The files stay as they are told.
-    ensures read_fault { result ≡ Status.ReadFault → Rose (F.faults files.old) (F.faults files.new) }
-    ensures calm_reads { result ≡ Status.ReadFault → IfSome (F.told files.old) (λ m. F.calm files.old → HasAnswer (Answer (texts words.now) m) → ⊥) }
-    ensures calm_files { IfSome (F.told files.old) (λ m. F.calm files.old → HasAnswer (Answer (texts words.now) m) → F.faults files.new ≡ F.faults files.old) }
-    ensures calm_stays { IfSome (F.told files.old) (λ m. F.calm files.old → HasAnswer (Answer (texts words.now) m) → F.calm files.new) }
-    ensures files_count { F.faults files.old ≤ F.faults files.new }
-    ensures told { F.told files.new ≡ F.told files.old }
+    // A fault has its cause in the files or in the sink.
+    ensures reads { ReadsFiles F.told F.calm F.faults files.old files.new (result ≡ Status.ReadFault)
+        (IsSomeAnd (F.told files.old) (HasFiles (texts words.now))) }
+    ensures sink { WritesSink S.faults sink.old sink.new (result ≡ Status.WriteFault)
+        (IsSomeAnd (F.told files.old) (λ m. Fits (texts words.now) m (S.takes sink.old))) }
 
-    // A fault of the sink comes only where its count rose and it has no room. Then a first part of
-    // a report was written; and where nothing may be, the sink is as it was.
-    ensures write_fault { result ≡ Status.WriteFault → Rose (S.faults sink.old) (S.faults sink.new) }
-    ensures room { result ≡ Status.WriteFault → IfSome (F.told files.old) (λ m. Fits (texts words.now) m (S.takes sink.old) → ⊥) }
-    ensures calm_sink { IfSome (F.told files.old) (λ m. Fits (texts words.now) m (S.takes sink.old) → S.faults sink.new ≡ S.faults sink.old) }
-    ensures sink_count { S.faults sink.old ≤ S.faults sink.new }
-    ensures part { result ≡ Status.WriteFault → IfSome (F.told files.old) (λ m. WrotePart (Answer (texts words.now) m) (S.held sink.old) (S.held sink.new)) }
+    // Where writing fails a first part of a report is appended; where nothing may be, nothing is.
+    ensures part { result ≡ Status.WriteFault → IfSome (F.told files.old) (λ m.
+        WrotePart (Answer (texts words.now) m) (S.takes sink.old) (S.held sink.old) (S.held sink.new)) }
     ensures still { writes result ≡ false → sink.new ≡ sink.old }
 {
-    match build_report(alloc, words, files) {
-        Ok(report) => match write_whole(sink, &report.bytes) {
-            Ok(()) if report.refused => Status::Refused,
-            Ok(()) => Status::Ok,
-            Err(_) => Status::WriteFault,
-        },
-        Err(Stop::BadManifest) => Status::BadManifest,
-        Err(Stop::TooLarge) => Status::TooLarge,
-        Err(Stop::ReadFault) => Status::ReadFault,
-        Err(Stop::Memory) => Status::Memory,
-        Err(Stop::Unbuilt) => Status::Unbuilt,
-        Err(Stop::Usage) => Status::Usage,
+    let Some(request) = parse(words) else {
+        return Status::Usage;
+    };
+    match report_on(alloc, &request, files) {
+        Ok(report) => write_report(sink, &report),
+        Err(stop) => status_of(stop),
+    }
+}
+
+// The status that a stop ends with.
+fn status_of(stop: Stop) -> Status
+    ensures { result ≡ status_of stop }
+{
+    match stop {
+        Stop::BadManifest => Status::BadManifest,
+        Stop::TooLarge => Status::TooLarge,
+        Stop::ReadFault => Status::ReadFault,
+        Stop::Memory => Status::Memory,
+        Stop::Unbuilt => Status::Unbuilt,
     }
 }

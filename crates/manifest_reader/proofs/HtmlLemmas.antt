@@ -7,8 +7,8 @@ use Rattle.std.proofs.lemmas.List.Sums.{sum_by-cons, sum_by_push}
 use Rattle.markup_grammar.proofs.Answers.{one_reading}
 use Rattle.plain_tree.specs.Trees.{Trees, size}
 use Rattle.plain_tree.specs.Plains.{Places}
-use Rattle.trace_reader.specs.Each.{Each, none_left, one_each}
-use Rattle.trace_reader.proofs.EachLemmas.{each_more}
+use Rattle.json_shapes.specs.Each.{Each, none_left, one_each}
+use Rattle.json_shapes.proofs.EachLemmas.{each_more}
 use Rattle.manifest_reader.specs.Page.{node_limit}
 use Rattle.manifest_reader.specs.Html.{IsHtmlOf, AreHtml, IsLongestHtml}
 

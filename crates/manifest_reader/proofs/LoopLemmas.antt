@@ -8,9 +8,9 @@ use Rattle.plain_tree.specs.Trees.{Trees, size}
 use Rattle.plain_tree.specs.Plains.{Places}
 use Rattle.serde_json.specs.View.{view}
 use Rattle.serde_json.specs.declared.value.Value.{Value}
-use Rattle.trace_reader.specs.Each.{Each, none_left}
-use Rattle.trace_reader.specs.declared.slot.PageEntry.{PageEntry}
-use Rattle.trace_reader.proofs.EachLemmas.{each_more, each_length}
+use Rattle.json_shapes.specs.Each.{Each, none_left}
+use Rattle.manifest_shape.specs.declared.slot.PageEntry.{PageEntry}
+use Rattle.json_shapes.proofs.EachLemmas.{each_more, each_length}
 use Rattle.manifest_reader.specs.Page.{part_of, nodes_of, node_limit, IsFilled, AreFilled}
 use Rattle.manifest_reader.specs.Html.{entry_text, html_text, IsHtmlOf, IsLongestHtml}
 use Rattle.manifest_reader.specs.declared.entry.Entry.{Entry}

@@ -2,16 +2,16 @@
 use Rattle.std.proofs.Common.{◌≡◌, ℕ, ◌<◌, true, List, length, map, take, codes, Some, MatchOption, Result, Ok, Err, IfOk, IfErr, sym, ap, subst, ◌∙◌, arith}
 use Rattle.std.proofs.lemmas.List.{take_all, take-map, length-map}
 use Rattle.serde_json.specs.Data.{Data}
-use Rattle.trace_reader.specs.Each.{Each}
-use Rattle.trace_reader.specs.Look.{list_at}
-use Rattle.trace_reader.specs.Slots.{IsEntry, names_in, are_slots}
-use Rattle.trace_reader.specs.Trace.{IsJson, judged_version}
-use Rattle.trace_reader.specs.Manifest as shaped
-use Rattle.trace_reader.specs.declared.fault.ShapeFault.{ShapeFault}
-use Rattle.trace_reader.specs.declared.fault.ShapeFault.TheVariants.{NotJson, BadShape, TooMany, Memory}
-use Rattle.trace_reader.specs.declared.manifest.ManifestShape.{ManifestShape}
+use Rattle.json_shapes.specs.Each.{Each}
+use Rattle.json_shapes.specs.Look.{list_at}
+use Rattle.manifest_shape.specs.Slots.{IsEntry, names_in, are_slots}
+use Rattle.json_shapes.specs.Json.{IsJson, judged_version}
+use Rattle.manifest_shape.specs.Manifest as shaped
+use Rattle.json_shapes.specs.declared.fault.ShapeFault.{ShapeFault}
+use Rattle.json_shapes.specs.declared.fault.ShapeFault.TheVariants.{NotJson, BadShape, TooMany, Memory}
+use Rattle.manifest_shape.specs.declared.manifest.ManifestShape.{ManifestShape}
 use Rattle.manifest_reader.specs.Html.{entry_text, html_text, IsLongestHtml, IsHtmlFault}
-use Rattle.manifest_reader.specs.Manifest.{IsOfShape, IsManifest, AreGoodEntries, IsLongestGoodPage, IsBadManifest, IsManifestFault, ReadsManifest}
+use Rattle.manifest_reader.specs.Manifest.{IsOfShape, IsManifest, AreGoodEntries, IsLongestGoodPage, IsBadManifest, IsValueFault}
 use Rattle.manifest_reader.specs.declared.entry.Manifest.{Manifest}
 use Rattle.manifest_reader.proofs.PageLemmas.{texts_of, longest_both}
 
@@ -22,8 +22,8 @@ one_value bytes d e left right = let l = left.value in let r = right.value in cc
 pub same_page : (key : List ℕ) (d : Data) (ds es : List Data) → list_at key d ≡ Some ds → list_at key d ≡ Some es → ds ≡ es
 same_page key d ds es left right = cc
 
-pub whole : (bytes : List ℕ) (shape : ManifestShape) (manifest : Manifest) → shaped.ReadsManifest bytes shape → IsOfShape shape manifest → ReadsManifest bytes manifest
-whole bytes shape manifest reads filled = record { value = reads.value; json = reads.json; is = record { shape = shape; is = reads.is; filled = filled } }
+pub whole : (d : Data) (shape : ManifestShape) (manifest : Manifest) → shaped.IsManifest d shape → IsOfShape shape manifest → IsManifest d manifest
+whole d shape manifest is filled = record { shape = shape; is = is; filled = filled }
 
 -- all entries of a manifest are good
 whole_page : (d : Data) (page : List Data) (shape : ManifestShape) → list_at (codes "page") d ≡ Some page → shaped.IsManifest d shape → shaped.AreGoodEntries (judged_version d) page (length page)
@@ -59,38 +59,30 @@ bad_markup d shape item is less html =
       place = subst (λ o. MatchOption o (item ≡ 0) (λ page. IsLongestGoodPage version page item)) (sym is.list) longest;
     }
 
-pub html_fault : (bytes : List ℕ) (shape : ManifestShape) (fault : ShapeFault) → shaped.ReadsManifest bytes shape → IsHtmlFault (map entry_text shape.entries.items) fault → IsManifestFault bytes fault
-html_fault bytes shape NotJson reads is = absurd is
-html_fault bytes shape (TooMany items) reads is = absurd is
-html_fault bytes shape Memory reads is = tt
-html_fault bytes shape (BadShape item) reads is = (reads.value, reads.json, bad_markup reads.value shape item reads.is is.0 is.1)
+pub html_fault : (d : Data) (shape : ManifestShape) (fault : ShapeFault) → shaped.IsManifest d shape → IsHtmlFault (map entry_text shape.entries.items) fault → IsValueFault d fault
+html_fault d shape NotJson shaped_so is = absurd is
+html_fault d shape (TooMany items) shaped_so is = absurd is
+html_fault d shape Memory shaped_so is = tt
+html_fault d shape (BadShape item) shaped_so is = bad_markup d shape item shaped_so is.0 is.1
 
--- the fault of a shape, with the page of its value
-pub shape_at : (bytes : List ℕ) (d : Data) (page : List Data) (k : ℕ) → IsJson bytes d → list_at (codes "page") d ≡ Some page → shaped.IsManifestBytesFault bytes (BadShape k) → shaped.IsLongestGoodPage (judged_version d) page k
-shape_at bytes d page k json list fault =
-    let same : fault.0 ≡ d = one_value bytes fault.0 d fault.1 json in
-    let bad : shaped.IsBadManifest d k = subst (λ e. shaped.IsBadManifest e k) same fault.2 in
-    subst (λ o. MatchOption o (k ≡ 0) (λ page. shaped.IsLongestGoodPage (judged_version d) page k)) list bad.place
+-- the page of a value that is refused for its shape
+pub shape_at : (d : Data) (page : List Data) (k : ℕ) → list_at (codes "page") d ≡ Some page → shaped.IsBadManifest d k → shaped.IsLongestGoodPage (judged_version d) page k
+shape_at d page k list bad = subst (λ o. MatchOption o (k ≡ 0) (λ page. shaped.IsLongestGoodPage (judged_version d) page k)) list bad.place
 
 -- a manifest that is refused for its shape, with the number of entries whose markup is good
-pub lowered : (bytes : List ℕ) (d : Data) (page : List Data) (k n : ℕ) → IsJson bytes d → list_at (codes "page") d ≡ Some page → shaped.IsManifestBytesFault bytes (BadShape k) → IsLongestHtml (map html_text (take k page)) n → IsManifestFault bytes (BadShape n)
-lowered bytes d page k n json list fault html =
-    let same : fault.0 ≡ d = one_value bytes fault.0 d fault.1 json in
-    let bad : shaped.IsBadManifest d k = subst (λ e. shaped.IsBadManifest e k) same fault.2 in
-    let longest = longest_both (judged_version d) page k n (shape_at bytes d page k json list fault) (subst (λ ts. IsLongestHtml ts n) (sym (take-map html_text k page)) html) in (
-      d,
-      json,
-      record {
-        no_manifest = λ manifest is. bad.no_manifest is.shape is.is;
-        place = subst (λ o. MatchOption o (n ≡ 0) (λ page. IsLongestGoodPage (judged_version d) page n)) (sym list) longest;
-      },
-    )
+pub lowered : (d : Data) (page : List Data) (k n : ℕ) → list_at (codes "page") d ≡ Some page → shaped.IsBadManifest d k → IsLongestHtml (map html_text (take k page)) n → IsBadManifest d n
+lowered d page k n list bad html =
+    let longest = longest_both (judged_version d) page k n (shape_at d page k list bad) (subst (λ ts. IsLongestHtml ts n) (sym (take-map html_text k page)) html) in
+    record {
+      no_manifest = λ manifest is. bad.no_manifest is.shape is.is;
+      place = subst (λ o. MatchOption o (n ≡ 0) (λ page. IsLongestGoodPage (judged_version d) page n)) (sym list) longest;
+    }
 
 -- what comes of a shape
-pub pass_manifest : (bytes : List ℕ) (shape : ManifestShape) (r : Result Manifest ShapeFault) → shaped.ReadsManifest bytes shape → IfOk r (IsOfShape shape) → IfOk r (λ manifest. ReadsManifest bytes manifest)
-pass_manifest bytes shape (Ok manifest) reads is = whole bytes shape manifest reads is
-pass_manifest bytes shape (Err fault) reads is = tt
+pub pass_manifest : (d : Data) (shape : ManifestShape) (r : Result Manifest ShapeFault) → shaped.IsManifest d shape → IfOk r (IsOfShape shape) → IfOk r (IsManifest d)
+pass_manifest d shape (Ok manifest) shaped_so is = whole d shape manifest shaped_so is
+pass_manifest d shape (Err fault) shaped_so is = tt
 
-pub pass_fault : (bytes : List ℕ) (shape : ManifestShape) (r : Result Manifest ShapeFault) → shaped.ReadsManifest bytes shape → IfErr r (IsHtmlFault (map entry_text shape.entries.items)) → IfErr r (IsManifestFault bytes)
-pass_fault bytes shape (Ok manifest) reads is = tt
-pass_fault bytes shape (Err fault) reads is = html_fault bytes shape fault reads is
+pub pass_fault : (d : Data) (shape : ManifestShape) (r : Result Manifest ShapeFault) → shaped.IsManifest d shape → IfErr r (IsHtmlFault (map entry_text shape.entries.items)) → IfErr r (IsValueFault d)
+pass_fault d shape (Ok manifest) shaped_so is = tt
+pass_fault d shape (Err fault) shaped_so is = html_fault d shape fault shaped_so is

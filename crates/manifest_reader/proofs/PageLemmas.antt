@@ -7,25 +7,24 @@ use Rattle.plain_tree.specs.Trees.{Trees, End, size}
 use Rattle.plain_tree.specs.Plains.{Places}
 use Rattle.serde_json.specs.Data.{Data}
 use Rattle.serde_json.specs.Find.{get, as_str}
-use Rattle.trace_reader.specs.Each.{Each, none_left, one_each}
-use Rattle.trace_reader.specs.Keys.{has_only, keys_of}
-use Rattle.trace_reader.specs.Slots.{IsEntry, names_in, are_slots, name_list, slot_name}
-use Rattle.trace_reader.specs.Manifest as shaped
-use Rattle.trace_reader.specs.declared.keys.Shape.TheVariants as shape
-use Rattle.trace_reader.specs.declared.slot.PageEntry.{PageEntry}
-use Rattle.trace_reader.specs.declared.slot.PageEntry.TheVariants.{Html, Slot}
-use Rattle.trace_reader.proofs.EachLemmas.{each_take}
-use Rattle.trace_reader.proofs.KeyLemmas.{has_key}
-use Rattle.trace_reader.proofs.DistinctLemmas.{slots_front}
+use Rattle.json_shapes.specs.Each.{Each, none_left, one_each}
+use Rattle.json_shapes.specs.Keys.{has_only}
+use Rattle.manifest_shape.specs.Slots.{IsEntry, names_in, are_slots, name_list, slot_name}
+use Rattle.manifest_shape.specs.Manifest as shaped
+use Rattle.manifest_shape.specs.declared.slot.PageEntry.{PageEntry}
+use Rattle.manifest_shape.specs.declared.slot.PageEntry.TheVariants.{Html, Slot}
+use Rattle.json_shapes.proofs.EachLemmas.{each_take}
+use Rattle.json_shapes.proofs.KeyLemmas.{has_key}
+use Rattle.manifest_shape.proofs.DistinctLemmas.{slots_front}
 use Rattle.manifest_reader.specs.Page.{Part, Markup, Widget, nodes_of, fuel_of, IsFilled, AreFilled}
 use Rattle.manifest_reader.specs.Html.{entry_text, html_text, IsHtmlOf, AreHtml, IsLongestHtml}
 use Rattle.manifest_reader.specs.Manifest.{AreGoodEntries, IsLongestGoodPage}
 
 -- a slot has no markup
-without : (two : Bool) (d : Data) (o : Option Data) → get (codes "html") d ≡ o → has_only (keys_of (if two then shape.FuelledSlot else shape.Slot)) d ≡ true → html_text d ≡ None
+without : (two : Bool) (d : Data) (o : Option Data) → get (codes "html") d ≡ o → has_only (if two then codes "widget" ∷ codes "file" ∷ codes "fuel" ∷ [] else codes "widget" ∷ codes "file" ∷ []) d ≡ true → html_text d ≡ None
 without two d None found only = ap (λ o. option_and_then as_str o) found
-without true d (Some e) found only = let h = has_key (keys_of shape.FuelledSlot) (codes "html") d e only found in cc
-without false d (Some e) found only = let h = has_key (keys_of shape.Slot) (codes "html") d e only found in cc
+without true d (Some e) found only = let h = has_key (codes "widget" ∷ codes "file" ∷ codes "fuel" ∷ []) (codes "html") d e only found in cc
+without false d (Some e) found only = let h = has_key (codes "widget" ∷ codes "file" ∷ []) (codes "html") d e only found in cc
 
 pub text_of : (version : ℕ) (d : Data) (e : PageEntry) → IsEntry version d e → html_text d ≡ entry_text e
 text_of version d (Html text) is = is.html

@@ -5,13 +5,13 @@ use Rattle.serde_json.specs.Find.{get, as_str}
 use Rattle.markup_grammar.proofs.Answers.{one_reading}
 use Rattle.plain_tree.specs.Trees.{Trees}
 use Rattle.plain_tree.specs.Plains.{Places}
-use Rattle.trace_reader.specs.Each.{Each, none_left, one_each}
-use Rattle.trace_reader.specs.Slots.{IsEntry, IsFuel, names_in}
-use Rattle.trace_reader.specs.Trace.{judged_version}
-use Rattle.trace_reader.specs.Manifest.{IsLib, IsLibs, IsChannel, IsChannels, slot_in}
-use Rattle.trace_reader.specs.declared.slot.PageEntry.{PageEntry}
-use Rattle.trace_reader.specs.declared.slot.PageEntry.TheVariants.{Html, Slot}
-use Rattle.trace_reader.proofs.EachLemmas.{each_same}
+use Rattle.json_shapes.specs.Each.{Each, none_left, one_each}
+use Rattle.manifest_shape.specs.Slots.{IsEntry, IsFuel, names_in}
+use Rattle.json_shapes.specs.Json.{judged_version}
+use Rattle.manifest_shape.specs.Manifest.{IsLib, IsLibs, IsChannel, IsChannels, slot_in}
+use Rattle.manifest_shape.specs.declared.slot.PageEntry.{PageEntry}
+use Rattle.manifest_shape.specs.declared.slot.PageEntry.TheVariants.{Html, Slot}
+use Rattle.json_shapes.proofs.EachLemmas.{each_same}
 use Rattle.manifest_reader.specs.Page.{Part, Markup, Widget, part_of, fuel_of, IsPageMarkup, IsFilled}
 use Rattle.manifest_reader.specs.Manifest.{IsManifest, ReadsManifest}
 use Rattle.manifest_reader.specs.Same.{IsSame}

@@ -6,17 +6,16 @@ use Rattle.std.specs.Str.{bytes_eq}
 use Rattle.serde_json.specs.Data.{Data, null, boolean, number, string, array, object, unsigned, Members, no_members, member, put}
 use Rattle.serde_json.specs.Find.{get, as_array, as_number, as_u64}
 use Rattle.serde_json.proofs.Views.{get_member-put, get_member-put_other}
-use Rattle.trace_reader.specs.Each.{Each, none_left, one_each}
-use Rattle.trace_reader.specs.Keys.{has_only, is_key, keys_of, members_only}
-use Rattle.trace_reader.specs.Look.{values_in}
-use Rattle.trace_reader.specs.Slots.{IsEntry, IsFuel, names_in}
-use Rattle.trace_reader.specs.Trace.{IsJson, version_of}
-use Rattle.trace_reader.specs.Manifest as shaped
-use Rattle.trace_reader.specs.declared.keys.Shape.TheVariants as shape
-use Rattle.trace_reader.specs.declared.manifest.ManifestShape.{ManifestShape}
-use Rattle.trace_reader.specs.declared.slot.PageEntry.{PageEntry}
-use Rattle.trace_reader.specs.declared.slot.PageEntry.TheVariants.{Html, Slot}
-use Rattle.trace_reader.proofs.KeyLemmas.{both_true}
+use Rattle.json_shapes.specs.Each.{Each, none_left, one_each}
+use Rattle.json_shapes.specs.Keys.{has_only, is_key, members_only}
+use Rattle.json_shapes.specs.Look.{values_in}
+use Rattle.manifest_shape.specs.Slots.{slot_keys, IsEntry, IsFuel, names_in}
+use Rattle.json_shapes.specs.Json.{IsJson, version_of}
+use Rattle.manifest_shape.specs.Manifest as shaped
+use Rattle.manifest_shape.specs.declared.manifest.ManifestShape.{ManifestShape}
+use Rattle.manifest_shape.specs.declared.slot.PageEntry.{PageEntry}
+use Rattle.manifest_shape.specs.declared.slot.PageEntry.TheVariants.{Html, Slot}
+use Rattle.json_shapes.proofs.KeyLemmas.{both_true}
 use Rattle.manifest_reader.specs.Manifest.{IsManifest, ReadsManifest}
 use Rattle.manifest_reader.specs.Versions.{with_version}
 use Rattle.manifest_reader.specs.declared.entry.Manifest.{Manifest}
@@ -85,17 +84,17 @@ five false false true d e is = refl
 five false false false true e is = refl
 five false false false false e is = cc
 
-slot_keys : (key : List ℕ) → is_key (keys_of shape.Slot) key ≡ true → is_key (keys_of shape.FuelledSlot) key ≡ true
-slot_keys key is = three (bytes_eq key (codes "widget")) (bytes_eq key (codes "file")) (bytes_eq key (codes "fuel")) is
+slot_more : (key : List ℕ) → is_key (slot_keys 1) key ≡ true → is_key (slot_keys 2) key ≡ true
+slot_more key is = three (bytes_eq (codes "widget") key) (bytes_eq (codes "file") key) (bytes_eq (codes "fuel") key) is
 
-manifest_keys : (key : List ℕ) → is_key (keys_of shape.Manifest) key ≡ true → is_key (keys_of shape.LinkedManifest) key ≡ true
-manifest_keys key is = five (bytes_eq key (codes "version")) (bytes_eq key (codes "page")) (bytes_eq key (codes "fuel")) (bytes_eq key (codes "libs")) (bytes_eq key (codes "channels")) is
+manifest_more : (key : List ℕ) → is_key (shaped.manifest_keys 1) key ≡ true → is_key (shaped.manifest_keys 2) key ≡ true
+manifest_more key is = five (bytes_eq (codes "version") key) (bytes_eq (codes "page") key) (bytes_eq (codes "fuel") key) (bytes_eq (codes "libs") key) (bytes_eq (codes "channels") key) is
 
 -- an entry of version 1 is one of version 2
 entry_agrees : (d : Data) (e : PageEntry) → IsEntry 1 d e → IsEntry 2 d e
 entry_agrees d (Html text) is = is
 entry_agrees d (Slot slot) is =
-    record { keys = all_among (keys_of shape.Slot) (keys_of shape.FuelledSlot) d slot_keys is.keys; name = is.name; letters = is.letters; file = is.file; fuel = is.fuel }
+    record { keys = all_among (slot_keys 1) (slot_keys 2) d slot_more is.keys; name = is.name; letters = is.letters; file = is.file; fuel = is.fuel }
 
 entries_agree : (ds : List Data) (es : List PageEntry) → Each (IsEntry 1) ds es → Each (IsEntry 2) ds es
 entries_agree [] [] none_left = none_left
@@ -103,20 +102,20 @@ entries_agree [] (e ∷ es) each = elim each [ ]
 entries_agree (d ∷ ds) [] each = elim each [ ]
 entries_agree (d ∷ ds) (e ∷ es) (one_each first rest) = one_each (entry_agrees d e first) (entries_agree ds es rest)
 
-keys_agree : (d : Data) → has_only (keys_of shape.Manifest) d ≡ true → has_only (keys_of shape.LinkedManifest) (with_version 2 d) ≡ true
+keys_agree : (d : Data) → has_only (shaped.manifest_keys 1) d ≡ true → has_only (shaped.manifest_keys 2) (with_version 2 d) ≡ true
 keys_agree null only = cc
 keys_agree (boolean b) only = cc
 keys_agree (number n) only = cc
 keys_agree (string s) only = cc
 keys_agree (array ds) only = cc
-keys_agree (object ms) only = put_only (keys_of shape.LinkedManifest) (codes "version") (number (unsigned 2)) ms refl (among (keys_of shape.Manifest) (keys_of shape.LinkedManifest) ms manifest_keys only)
+keys_agree (object ms) only = put_only (shaped.manifest_keys 2) (codes "version") (number (unsigned 2)) ms refl (among (shaped.manifest_keys 1) (shaped.manifest_keys 2) ms manifest_more only)
 
 rest_agrees : (names : List (List ℕ)) (d : Data) (shape : ManifestShape) → version_of d ≡ 1 → shaped.IsRest names d shape.fuel shape.libs.items shape.channels.items → shaped.IsRest names (with_version 2 d) shape.fuel shape.libs.items shape.channels.items
 rest_agrees names d shape version is =
     let new = new_version d version in
-    let old_keys : has_only (keys_of (shaped.manifest_shape (if nat_eq 1 2 then 2 else 1))) d ≡ true = subst (λ n. has_only (keys_of (shaped.manifest_shape (if nat_eq n 2 then 2 else 1))) d ≡ true) version is.keys in
+    let old_keys : has_only (shaped.manifest_keys (if nat_eq 1 2 then 2 else 1)) d ≡ true = subst (λ n. has_only (shaped.manifest_keys (if nat_eq n 2 then 2 else 1)) d ≡ true) version is.keys in
     record {
-      keys = subst (λ n. has_only (keys_of (shaped.manifest_shape (if nat_eq n 2 then 2 else 1))) (with_version 2 d) ≡ true) (sym new) (keys_agree d old_keys);
+      keys = subst (λ n. has_only (shaped.manifest_keys (if nat_eq n 2 then 2 else 1)) (with_version 2 d) ≡ true) (sym new) (keys_agree d old_keys);
       version = subst (λ n. (nat_eq n 1 || nat_eq n 2) ≡ true) (sym new) refl;
       fuel_is = subst (λ o. IsFuel o shape.fuel) (sym (other_key (codes "fuel") d (λ e. (let h : 4 ≡ 7 = ap length e in omega arith)))) is.fuel_is;
       libs_are = subst (λ o. shaped.IsLibs o shape.libs.items) (sym (other_key (codes "libs") d (λ e. (let h : 4 ≡ 7 = ap length e in omega arith)))) is.libs_are;

@@ -3,12 +3,12 @@ use Rattle.std.specs.Prelude.{◌≡◌, ◌≤◌, ◌<◌, ⊤, ℕ, List, len
 use Rattle.serde_json.specs.Data.{Data}
 use Rattle.plain_tree.specs.Trees.{Trees, End, size}
 use Rattle.plain_tree.specs.Plains.{Places}
-use Rattle.trace_reader.specs.Each.{Each}
-use Rattle.trace_reader.specs.Look.{text_at}
-use Rattle.trace_reader.specs.declared.fault.ShapeFault.{ShapeFault}
-use Rattle.trace_reader.specs.declared.fault.ShapeFault.TheVariants.{NotJson, BadShape, TooMany, Memory}
-use Rattle.trace_reader.specs.declared.slot.PageEntry.{PageEntry}
-use Rattle.trace_reader.specs.declared.slot.PageEntry.TheVariants.{Html, Slot}
+use Rattle.json_shapes.specs.Each.{Each}
+use Rattle.json_shapes.specs.Look.{text_at}
+use Rattle.json_shapes.specs.declared.fault.ShapeFault.{ShapeFault}
+use Rattle.json_shapes.specs.declared.fault.ShapeFault.TheVariants.{NotJson, BadShape, TooMany, Memory}
+use Rattle.manifest_shape.specs.declared.slot.PageEntry.{PageEntry}
+use Rattle.manifest_shape.specs.declared.slot.PageEntry.TheVariants.{Html, Slot}
 use Rattle.manifest_reader.specs.Page.{IsPageMarkup, node_limit}
 
 -- the text of an entry that is markup

@@ -1,12 +1,12 @@
 -- A manifest as a JSON value, and where one is refused.
 use Rattle.std.specs.Prelude.{◌≡◌, ◌≤◌, ⊤, ℕ, List, map, codes, MatchOption, Option}
 use Rattle.serde_json.specs.Data.{Data}
-use Rattle.trace_reader.specs.Look.{list_at}
-use Rattle.trace_reader.specs.Trace.{IsJson, judged_version}
-use Rattle.trace_reader.specs.Manifest as shaped
-use Rattle.trace_reader.specs.declared.fault.ShapeFault.{ShapeFault}
-use Rattle.trace_reader.specs.declared.fault.ShapeFault.TheVariants.{NotJson, BadShape, TooMany, Memory}
-use Rattle.trace_reader.specs.declared.manifest.ManifestShape.{ManifestShape}
+use Rattle.json_shapes.specs.Look.{list_at}
+use Rattle.json_shapes.specs.Json.{IsJson, judged_version}
+use Rattle.manifest_shape.specs.Manifest as shaped
+use Rattle.json_shapes.specs.declared.fault.ShapeFault.{ShapeFault}
+use Rattle.json_shapes.specs.declared.fault.ShapeFault.TheVariants.{NotJson, BadShape, TooMany, Memory}
+use Rattle.manifest_shape.specs.declared.manifest.ManifestShape.{ManifestShape}
 use Rattle.manifest_reader.specs.Page.{Part, part_of, AreFilled}
 use Rattle.manifest_reader.specs.declared.entry.Manifest.{Manifest}
 
@@ -38,6 +38,13 @@ pub record IsLongestGoodPage (version : ℕ) (page : List Data) (n : ℕ) : Type
 pub record IsBadManifest (d : Data) (item : ℕ) : Type 0 where
   pub no_manifest : (manifest : Manifest) → ¬ IsManifest d manifest
   pub place : MatchOption (list_at (codes "page") d) (item ≡ 0) (λ page. IsLongestGoodPage (judged_version d) page item)
+
+-- why a value is no manifest
+abbrev pub IsValueFault : Data → ShapeFault → Type 0
+IsValueFault d NotJson = ⊥
+IsValueFault d (BadShape item) = IsBadManifest d item
+IsValueFault d (TooMany items) = ⊥
+IsValueFault d Memory = ⊤
 
 -- why bytes are no manifest: each cause with what shows it
 abbrev pub IsManifestFault : List ℕ → ShapeFault → Type 0

@@ -3,9 +3,9 @@ use Rattle.std.specs.Prelude.{◌≡◌, ◌≤◌, ℕ, List, Option, Some, Non
 use Rattle.markup_grammar.specs.Markup.{MarkupSpells}
 use Rattle.plain_tree.specs.Trees.{Trees, size}
 use Rattle.plain_tree.specs.Plains.{Places, placed_all}
-use Rattle.trace_reader.specs.Each.{Each}
-use Rattle.trace_reader.specs.declared.slot.PageEntry.{PageEntry}
-use Rattle.trace_reader.specs.declared.slot.PageEntry.TheVariants as shaped
+use Rattle.json_shapes.specs.Each.{Each}
+use Rattle.manifest_shape.specs.declared.slot.PageEntry.{PageEntry}
+use Rattle.manifest_shape.specs.declared.slot.PageEntry.TheVariants as shaped
 use Rattle.widget_form.specs.Rows.{IsHostMarkup}
 use Rattle.manifest_reader.specs.declared.entry.Entry.{Entry}
 use Rattle.manifest_reader.specs.declared.entry.Entry.TheVariants.{Html, Slot}
@@ -33,9 +33,13 @@ pub record IsPageMarkup (text : List ℕ) (trees : Trees Places) : Type 0 where
   pub spells : MarkupSpells text trees
   pub allowed : IsHostMarkup trees
 
+-- the fuel of a slot where the manifest gives none
+abbrev pub usual_fuel : ℕ
+usual_fuel = 100000
+
 -- the fuel of a slot: its own, else that which the manifest gives, else 100,000
 abbrev pub fuel_of : Option ℕ → Option ℕ → ℕ
-fuel_of None given = unwrap_or given 100000
+fuel_of None given = unwrap_or given usual_fuel
 fuel_of (Some own) given = own
 
 -- an entry of a shape, its markup read and its fuel filled in

@@ -1,5 +1,5 @@
 //! How far the markup of a page may be there, where its shape is out of order later.
-ghost use Rattle.std.specs.Prelude.{◌≡◌, ◌<◌, ◌+◌, IfOk, IsErrOf, map, option_map};
+ghost use Rattle.std.specs.Prelude.{◌≡◌, ◌<◌, ◌+◌, IfOk, IsErrOf, map};
 ghost use Rattle.serde_json.specs.View.{view};
 ghost use Rattle.plain_tree.specs.Trees.{Trees, size};
 ghost use Rattle.plain_tree.specs.Plains.{Places};
@@ -7,21 +7,17 @@ ghost use Rattle.manifest_reader.specs.Html.{html_text, IsHtmlOf, IsLongestHtml}
 
 use crate::html::{HtmlFault, NODE_LIMIT, read_html};
 use code_units::Memory;
+use json_shapes::text_at;
 use serde_json::Value;
 use std::alloc::Global;
-
-fn html_text(value: &Value) -> Option<&str>
-    ensures { option_map (λ s. s.now) result ≡ html_text (view value.now) }
-{
-    value.get("html").and_then(Value::as_str)
-}
 
 // How many nodes may follow an entry.
 fn room_behind(alloc: Global, value: &Value, room: u32) -> Result<u32, HtmlFault>
     ensures room { IfOk result (λ left. (trees : Trees Places) × IsHtmlOf (html_text (view value.now)) trees × (left + size trees ≡ room)) }
-    ensures bad { IsErrOf result HtmlFault.Bad → (trees : Trees Places) → IsHtmlOf (html_text (view value.now)) trees → room < size trees }
+    ensures bad { IsErrOf result HtmlFault.Bad → (trees : Trees Places) →
+        IsHtmlOf (html_text (view value.now)) trees → room < size trees }
 {
-    match html_text(value) {
+    match text_at(value, "html") {
         Some(text) => Ok(read_html(alloc, text, room)?.1),
         None => Ok(room),
     }

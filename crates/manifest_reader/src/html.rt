@@ -15,7 +15,7 @@ use widget_form::host_markup;
 pub const NODE_LIMIT: u32 = 262_144;
 
 /// Why a text gave no markup.
-#[derive(Clone, Copy, PartialEq, Eq, Debug, Drop)]
+#[derive(Clone, Copy)]
 pub enum HtmlFault {
     /// It is no markup that may be there, or has too many nodes.
     Bad,
@@ -38,7 +38,8 @@ impl From<Memory> for HtmlFault {
 pub fn read_html(alloc: Global, text: &str, room: u32) -> Result<(Vec<Plain>, u32), HtmlFault>
     ensures markup { IfOk result (λ p. IsPageMarkup text.now (placed_all p.0.items)) }
     ensures room { IfOk result (λ p. p.1 + size (placed_all p.0.items) ≡ room) }
-    ensures bad { IsErrOf result HtmlFault.Bad → (trees : Trees Places) → IsPageMarkup text.now trees → room < size trees }
+    ensures bad { IsErrOf result HtmlFault.Bad → (trees : Trees Places) →
+        IsPageMarkup text.now trees → room < size trees }
 {
     let content = match read_markup(alloc, text.as_bytes()) {
         Ok(content) => content,

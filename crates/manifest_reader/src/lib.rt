@@ -1,4 +1,4 @@
-//! Reads manifests whole: their shape (`trace_reader`), the markup of their pages, and the fuel of
+//! Reads manifests whole: their shape (`manifest_shape`), the markup of their pages, and the fuel of
 //! their slots (`docs/TRACES.md`, "The manifest").
 #![tactic(auto)]
 
@@ -11,5 +11,6 @@ mod manifest;
 mod page;
 
 pub use entry::{Entry, Manifest};
+pub use json_shapes::ShapeFault;
 pub use laws::{one_manifest, versions_agree};
 pub use manifest::read_manifest;

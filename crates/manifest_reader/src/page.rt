@@ -8,9 +8,11 @@ ghost use Rattle.manifest_reader.specs.Html.{entry_text, IsHtmlOf, IsHtmlFault};
 use crate::entry::Entry;
 use crate::html::{HtmlFault, NODE_LIMIT, read_html};
 use code_units::Memory;
+use json_shapes::ShapeFault;
+use manifest_shape::{PageEntry, SlotEntry};
 use std::alloc::Global;
-use trace_reader::{PageEntry, ShapeFault, SlotEntry};
 
+/// The fuel of a slot where the manifest gives none.
 const USUAL_FUEL: u32 = 100_000;
 
 fn fuel_of(own: Option<u32>, given: Option<u32>) -> u32
@@ -38,7 +40,8 @@ fn read_entry(
 ) -> Result<(Entry, u32), HtmlFault>
     ensures entry { IfOk result (λ p. IsFilled given entry.now (part_of p.0)) }
     ensures room { IfOk result (λ p. p.1 + nodes_of (part_of p.0) ≡ room) }
-    ensures bad { IsErrOf result HtmlFault.Bad → (trees : Trees Places) → IsHtmlOf (entry_text entry.now) trees → room < size trees }
+    ensures bad { IsErrOf result HtmlFault.Bad → (trees : Trees Places) →
+        IsHtmlOf (entry_text entry.now) trees → room < size trees }
 {
     match entry {
         PageEntry::Html(text) => {
@@ -64,7 +67,7 @@ pub fn read_entries(
     let mut room = NODE_LIMIT;
     'entries: for entry in entries {
         // No memory holds so many entries.
-        if read.len() > 4_294_967_295 {
+        if read.len() > u32::MAX as usize {
             return Err(ShapeFault::Memory);
         }
         let item = read.len() as u32;

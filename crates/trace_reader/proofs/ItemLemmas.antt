@@ -5,15 +5,14 @@ use Rattle.serde_json.specs.Data.{Data, null, boolean, number, string, array, ob
 use Rattle.serde_json.specs.Find.{get, as_number, as_u64}
 use Rattle.serde_json.specs.View.{view}
 use Rattle.serde_json.specs.declared.value.Value.{Value}
-use Rattle.trace_reader.specs.Each.{Each}
-use Rattle.trace_reader.specs.Keys.{has_only, is_key, keys_of}
-use Rattle.trace_reader.specs.Look.{number_at}
-use Rattle.trace_reader.specs.Items.{IsStep, IsPath, IsAdvance, IsSwap, IsItem}
-use Rattle.trace_reader.specs.declared.keys.Shape.TheVariants as shape
+use Rattle.json_shapes.specs.Each.{Each}
+use Rattle.json_shapes.specs.Keys.{has_only, is_key}
+use Rattle.json_shapes.specs.Look.{number_at}
+use Rattle.trace_reader.specs.Items.{event_keys, swap_keys, IsStep, IsPath, IsAdvance, IsSwap, IsItem}
 use Rattle.trace_reader.specs.declared.item.TraceItem.{TraceItem}
 use Rattle.trace_reader.specs.declared.item.TraceItem.TheVariants.{Event, Advance, Swap}
-use Rattle.trace_reader.proofs.EachLemmas.{each_length, taken_more, no_each_value}
-use Rattle.trace_reader.proofs.KeyLemmas.{has_key}
+use Rattle.json_shapes.proofs.EachLemmas.{each_length, taken_more, no_each_value}
+use Rattle.json_shapes.proofs.KeyLemmas.{listed}
 
 -- too many steps
 pub too_long : (vs : List Value) (path : List ℕ) → 200 < length vs → IsPath (map view vs) path → ⊥
@@ -57,14 +56,6 @@ pub step_more : (vs : List Value) (i : ℕ) (v : Value) (path new : List ℕ) (n
 step_more vs i v path new n within is so_far found small pushed =
     subst (λ ys. Each IsStep (map view (take (i + 1) vs)) ys) (sym pushed) (taken_more IsStep vs i v path n within is so_far (is_step (view v) n found small))
 
--- an object that has a key has a value under it
-some_under : (key : List ℕ) (d : Data) (keys : List (List ℕ)) (o : Option Data) → get key d ≡ o → is_some o ≡ true → has_only keys d ≡ true → is_key keys key ≡ true
-some_under key d keys None is some only = cc
-some_under key d keys (Some e) is some only = has_key keys key d e only is
-
-pub listed : (key : List ℕ) (d : Data) (keys : List (List ℕ)) → is_some (get key d) ≡ true → has_only keys d ≡ true → is_key keys key ≡ true
-listed key d keys some only = some_under key d keys (get key d) refl some only
-
 -- what has no value under a key has no number there
 none_under : (key : List ℕ) (d : Data) (n : ℕ) (o : Option Data) → get key d ≡ o → is_some o ≡ false → number_at key d ≡ Some n → ⊥
 none_under key d n None is none found = let nothing : number_at key d ≡ None = ap (λ o. option_and_then as_u64 (option_and_then as_number o)) is in cc
@@ -72,12 +63,12 @@ none_under key d n (Some e) is none found = cc
 
 -- an advance is nothing else
 pub no_advance : (version : ℕ) (names : List (List ℕ)) (d : Data) → is_some (get (codes "advance") d) ≡ true → ((ms : ℕ) → IsAdvance d ms → ⊥) → (t : TraceItem) → IsItem version names d t → ⊥
-no_advance version names d some none (Event to event) is = let h = listed (codes "advance") d (keys_of shape.Event) some is.keys in cc
+no_advance version names d some none (Event to event) is = let h = listed (codes "advance") d event_keys some is.keys in cc
 no_advance version names d some none (Advance ms) is = none ms is
-no_advance version names d some none (Swap to file) is = let h = listed (codes "advance") d (keys_of shape.Swap) some is.1.keys in cc
+no_advance version names d some none (Swap to file) is = let h = listed (codes "advance") d swap_keys some is.1.keys in cc
 
 -- nor is a swap
 pub no_swap : (version : ℕ) (names : List (List ℕ)) (d : Data) → is_some (get (codes "advance") d) ≡ false → is_some (get (codes "swap") d) ≡ true → ((to : ℕ) (file : List ℕ) → version ≡ 2 → IsSwap names d to file → ⊥) → (t : TraceItem) → IsItem version names d t → ⊥
-no_swap version names d apart some none (Event to event) is = let h = listed (codes "swap") d (keys_of shape.Event) some is.keys in cc
+no_swap version names d apart some none (Event to event) is = let h = listed (codes "swap") d event_keys some is.keys in cc
 no_swap version names d apart some none (Advance ms) is = none_under (codes "advance") d ms (get (codes "advance") d) refl apart is.time
 no_swap version names d apart some none (Swap to file) is = none to _ is.0 is.1

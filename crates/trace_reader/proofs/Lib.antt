@@ -1,11 +1,3 @@
-pub mod EachLemmas
-pub mod KeyLemmas
 pub mod ItemLemmas
 pub mod TraceLemmas
-pub mod SlotLemmas
-pub mod DistinctLemmas
-pub mod PageLemmas
-pub mod LibLemmas
-pub mod ChannelLemmas
-pub mod ManifestLemmas
 pub mod OneTrace

@@ -4,20 +4,19 @@ use Rattle.std.specs.Prelude.{is_some, option_and_then, position}
 use Rattle.std.specs.Str.{bytes_eq}
 use Rattle.serde_json.specs.Data.{Data}
 use Rattle.serde_json.specs.Find.{get, as_str, as_number, as_u64}
-use Rattle.trace_reader.specs.Each.{Each, none_left, one_each}
-use Rattle.trace_reader.specs.Keys.{keys_of}
-use Rattle.trace_reader.specs.Look.{number_at, slot_at, list_at}
-use Rattle.trace_reader.specs.Items.{IsStep, IsValue, IsItem, IsEvent, IsAdvance, IsSwap}
+use Rattle.json_shapes.specs.Each.{Each, none_left, one_each}
+use Rattle.json_shapes.specs.Look.{number_at, slot_at, list_at}
+use Rattle.trace_reader.specs.Items.{event_keys, advance_keys, IsStep, IsValue, IsItem, IsEvent, IsAdvance, IsSwap}
 use Rattle.trace_reader.specs.Said.{Said, said, an_event, an_advance, a_swap}
-use Rattle.trace_reader.specs.Trace.{IsJson, judged_version, IsTrace, IsLongestGood, IsBadTrace, HasTooMany, ReadsTrace, IsTraceFault}
-use Rattle.trace_reader.specs.declared.keys.Shape.TheVariants as shape
+use Rattle.json_shapes.specs.Json.{IsJson, judged_version}
+use Rattle.trace_reader.specs.Trace.{IsTrace, IsLongestGood, IsBadTrace, HasTooMany, ReadsTrace, IsTraceFault}
 use Rattle.trace_reader.specs.declared.item.Happening.{Happening}
 use Rattle.trace_reader.specs.declared.item.TraceItem.{TraceItem}
 use Rattle.trace_reader.specs.declared.item.TraceItem.TheVariants.{Event, Advance, Swap}
-use Rattle.trace_reader.specs.declared.fault.ShapeFault.{ShapeFault}
-use Rattle.trace_reader.specs.declared.fault.ShapeFault.TheVariants.{NotJson, BadShape, TooMany, Memory}
-use Rattle.trace_reader.proofs.EachLemmas.{each_same}
-use Rattle.trace_reader.proofs.ItemLemmas.{listed}
+use Rattle.json_shapes.specs.declared.fault.ShapeFault.{ShapeFault}
+use Rattle.json_shapes.specs.declared.fault.ShapeFault.TheVariants.{NotJson, BadShape, TooMany, Memory}
+use Rattle.json_shapes.proofs.EachLemmas.{each_same}
+use Rattle.json_shapes.proofs.KeyLemmas.{listed}
 
 -- bytes have one value, and a value has one list of entries
 one_value : (bytes : List ℕ) (d e : Data) → IsJson bytes d → IsJson bytes e → d ≡ e
@@ -49,15 +48,15 @@ under_slot key names d to (Some e) is found = ap is_some is
 -- an advance is no event, and a swap is neither
 no_event : (names : List (List ℕ)) (d : Data) (ms to : ℕ) (event : Happening) → IsAdvance d ms → IsEvent names d to event → ⊥
 no_event names d ms to event advance is =
-    let h = listed (codes "advance") d (keys_of shape.Event) (under_number (codes "advance") d ms (get (codes "advance") d) refl advance.time) is.keys in cc
+    let h = listed (codes "advance") d event_keys (under_number (codes "advance") d ms (get (codes "advance") d) refl advance.time) is.keys in cc
 
 swap_no_event : (names : List (List ℕ)) (d : Data) (to from : ℕ) (file : List ℕ) (event : Happening) → IsSwap names d to file → IsEvent names d from event → ⊥
 swap_no_event names d to from file event swap is =
-    let h = listed (codes "swap") d (keys_of shape.Event) (under_slot (codes "swap") names d to (get (codes "swap") d) refl swap.slot) is.keys in cc
+    let h = listed (codes "swap") d event_keys (under_slot (codes "swap") names d to (get (codes "swap") d) refl swap.slot) is.keys in cc
 
 swap_no_advance : (names : List (List ℕ)) (d : Data) (to ms : ℕ) (file : List ℕ) → IsSwap names d to file → IsAdvance d ms → ⊥
 swap_no_advance names d to ms file swap is =
-    let h = listed (codes "swap") d (keys_of shape.Advance) (under_slot (codes "swap") names d to (get (codes "swap") d) refl swap.slot) is.keys in cc
+    let h = listed (codes "swap") d advance_keys (under_slot (codes "swap") names d to (get (codes "swap") d) refl swap.slot) is.keys in cc
 
 same_event : (to from : ℕ) (kind type : List ℕ) (path way : List ℕ) (value text : Option (List ℕ)) → to ≡ from → kind ≡ type → path ≡ way → value ≡ text → an_event to kind path value ≡ an_event from type way text
 same_event to from kind type path way value text a b c e = cc

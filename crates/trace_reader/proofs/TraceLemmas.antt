@@ -7,14 +7,15 @@ use Rattle.std.proofs.Math.ListN.{get_or-map}
 use Rattle.serde_json.specs.Data.{Data}
 use Rattle.serde_json.specs.View.{view}
 use Rattle.serde_json.specs.declared.value.Value.{Value}
-use Rattle.trace_reader.specs.Each.{Each, none_left}
+use Rattle.json_shapes.specs.Each.{Each, none_left}
 use Rattle.trace_reader.specs.Items.{IsItem, is_swap}
-use Rattle.trace_reader.specs.Trace.{AreGood, IsLongestGood, IsItemsFault, IsValueFault, judged_version}
-use Rattle.trace_reader.specs.declared.fault.ShapeFault.{ShapeFault}
-use Rattle.trace_reader.specs.declared.fault.ShapeFault.TheVariants.{NotJson, BadShape, TooMany, Memory}
-use Rattle.trace_reader.specs.Look.{list_at}
+use Rattle.json_shapes.specs.Json.{judged_version}
+use Rattle.trace_reader.specs.Trace.{AreGood, IsLongestGood, IsItemsFault, IsValueFault}
+use Rattle.json_shapes.specs.declared.fault.ShapeFault.{ShapeFault}
+use Rattle.json_shapes.specs.declared.fault.ShapeFault.TheVariants.{NotJson, BadShape, TooMany, Memory}
+use Rattle.json_shapes.specs.Look.{list_at}
 use Rattle.trace_reader.specs.declared.item.TraceItem.{TraceItem}
-use Rattle.trace_reader.proofs.EachLemmas.{each_length, each_at, taken_more}
+use Rattle.json_shapes.proofs.EachLemmas.{each_length, each_at, taken_more, taken_map, first_of_more}
 
 -- the first i entries are these items, with so many swaps
 pub record SoFar (version : ℕ) (names : List (List ℕ)) (vs : List Value) (i : ℕ) (items : List TraceItem) (swaps : ℕ) : Type 0 where
@@ -24,11 +25,6 @@ pub record SoFar (version : ℕ) (names : List (List ℕ)) (vs : List Value) (i 
 
 pub none_yet : (version : ℕ) (names : List (List ℕ)) (vs : List Value) (items : List TraceItem) → items ≡ [] → SoFar version names vs 0 items 0
 none_yet version names vs items empty = record { each = subst (λ (ts : List TraceItem). Each (IsItem version names) [] ts) (sym empty) none_left; count = refl; few = omega arith }
-
-pub taken_map : (i : ℕ) (vs : List Value) → take i (map view vs) ≡ map view (take i vs)
-taken_map zero vs = refl
-taken_map (suc i) [] = refl
-taken_map (suc i) (v ∷ vs) = ap (λ rest. view v ∷ rest) (taken_map i vs)
 
 count_last : (ds : List Data) (d : Data) → count_by is_swap (ds ++ d ∷ []) ≡ count_by is_swap ds + (if is_swap d then 1 else 0)
 count_last [] d = grind (arith, common_steps)
@@ -61,9 +57,6 @@ are_good version names vs i items swaps within so_far =
       each = subst (λ ds. Each (IsItem version names) ds items) same so_far.each;
       swaps = subst P same (omega arith);
     }
-
-pub first_of_more : (ds : List Data) (i m : ℕ) (d : Data) → i < m → get_or (take m ds) i d ≡ get_or ds i d
-first_of_more ds i m d lt = grind (arith, common_steps)
 
 -- they stop at an entry that is no item
 pub stops_at_item : (version : ℕ) (names : List (List ℕ)) (vs : List Value) (i : ℕ) (v : Value) (items : List TraceItem) (swaps : ℕ) → i < length vs → v ≡ get_or vs i v → SoFar version names vs i items swaps → ((t : TraceItem) → IsItem version names (view v) t → ⊥) → IsLongestGood version names (map view vs) i

@@ -1,49 +1,39 @@
 -- A trace as a JSON value, and where one is out of shape.
-use Rattle.std.specs.Prelude.{◌≡◌, ◌≤◌, ◌<◌, ⊤, ℕ, Bool, IsTrue, IsUtf8, List, length, take, codes, count_by, MatchOption, Some, unwrap_or, nat_eq, ◌||◌, if◌then◌else◌}
+use Rattle.std.specs.Prelude.{◌≡◌, ◌≤◌, ◌<◌, ⊤, ℕ, IsTrue, List, [], ◌∷◌, length, take, codes, count_by, MatchOption, Some}
 use Rattle.serde_json.specs.Data.{Data}
-use Rattle.serde_json.specs.Read.{read}
-use Rattle.trace_reader.specs.Each.{Each}
-use Rattle.trace_reader.specs.Keys.{has_only, keys_of}
-use Rattle.trace_reader.specs.Look.{number_at, list_at}
-use Rattle.trace_reader.specs.Items.{IsItem, is_swap}
-use Rattle.trace_reader.specs.declared.keys.Shape.TheVariants as shape
+use Rattle.json_shapes.specs.Each.{Each}
+use Rattle.json_shapes.specs.Json.{IsJson, has_version, judged_version}
+use Rattle.json_shapes.specs.Keys.{has_only}
+use Rattle.json_shapes.specs.Look.{list_at}
+use Rattle.trace_reader.specs.Items.{IsItem, is_swap, most_swaps}
 use Rattle.trace_reader.specs.declared.item.TraceItem.{TraceItem}
-use Rattle.trace_reader.specs.declared.fault.ShapeFault.{ShapeFault}
-use Rattle.trace_reader.specs.declared.fault.ShapeFault.TheVariants.{NotJson, BadShape, TooMany, Memory}
+use Rattle.json_shapes.specs.declared.fault.ShapeFault.{ShapeFault}
+use Rattle.json_shapes.specs.declared.fault.ShapeFault.TheVariants.{NotJson, BadShape, TooMany, Memory}
 
--- the bytes are this JSON value, as `serde_json` reads them
-pub record IsJson (bytes : List ℕ) (d : Data) : Type 0 where
-  pub utf8 : IsUtf8 bytes
-  pub value : read bytes ≡ Some d
+-- the items that a trace may have
+abbrev pub most_items : ℕ
+most_items = 4096
 
--- the number under `version`, 0 where there is none
-abbrev pub version_of : Data → ℕ
-version_of d = unwrap_or (number_at (codes "version") d) 0
-
--- it is 1 or 2
-abbrev pub has_version : Data → Bool
-has_version d = nat_eq (version_of d) 1 || nat_eq (version_of d) 2
-
--- the version by which entries are judged: 1 where it is neither
-abbrev pub judged_version : Data → ℕ
-judged_version d = if nat_eq (version_of d) 2 then 2 else 1
+-- the keys of a trace
+abbrev pub trace_keys : List (List ℕ)
+trace_keys = codes "version" ∷ codes "items" ∷ []
 
 -- the value is a trace of these items
 pub record IsTrace (names : List (List ℕ)) (d : Data) (items : List TraceItem) : Type 0 where
-  pub keys : IsTrue (has_only (keys_of shape.Trace) d)
+  pub keys : IsTrue (has_only trace_keys d)
   pub version : IsTrue (has_version d)
   pub entries : List Data
   pub list : list_at (codes "items") d ≡ Some entries
-  pub few : length entries ≤ 4096
+  pub few : length entries ≤ most_items
   pub each : Each (IsItem (judged_version d) names) entries items
-  pub swaps : count_by is_swap entries ≤ 4
+  pub swaps : count_by is_swap entries ≤ most_swaps
 
 -- the first n entries break no rule, alone or together
 pub record AreGood (version : ℕ) (names : List (List ℕ)) (entries : List Data) (n : ℕ) : Type 0 where
   pub within : n ≤ length entries
   pub items : List TraceItem
   pub each : Each (IsItem version names) (take n entries) items
-  pub swaps : count_by is_swap (take n entries) ≤ 4
+  pub swaps : count_by is_swap (take n entries) ≤ most_swaps
 
 -- they do, and no more of them do
 pub record IsLongestGood (version : ℕ) (names : List (List ℕ)) (entries : List Data) (n : ℕ) : Type 0 where
@@ -55,7 +45,7 @@ pub record HasTooMany (d : Data) (items : ℕ) : Type 0 where
   pub entries : List Data
   pub list : list_at (codes "items") d ≡ Some entries
   pub count : length entries ≡ items
-  pub many : 4096 < items
+  pub many : most_items < items
 
 -- the value is no trace, and its item is the number of good entries, 0 where it has no list of them
 pub record IsBadTrace (names : List (List ℕ)) (d : Data) (item : ℕ) : Type 0 where
@@ -76,13 +66,6 @@ IsValueFault names d NotJson = ⊥
 IsValueFault names d (BadShape item) = IsBadTrace names d item
 IsValueFault names d (TooMany items) = HasTooMany d items
 IsValueFault names d Memory = ⊤
-
--- why bytes are no JSON
-abbrev pub IsJsonFault : List ℕ → ShapeFault → Type 0
-IsJsonFault bytes NotJson = (d : Data) → ¬ IsJson bytes d
-IsJsonFault bytes (BadShape item) = ⊥
-IsJsonFault bytes (TooMany items) = ⊥
-IsJsonFault bytes Memory = ⊤
 
 -- the bytes are a trace of these items
 pub record ReadsTrace (bytes : List ℕ) (names : List (List ℕ)) (items : List TraceItem) : Type 0 where

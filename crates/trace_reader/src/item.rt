@@ -1,16 +1,26 @@
 //! The items of a trace.
 ghost use Rattle.std.specs.Prelude.{◌≡◌, ◌<◌, ◌^◌, ℕ, List, IfOk, IsErrOf, length, map, codes, string_bytes, Option};
-ghost use Rattle.std.specs.List.{list_all};
 ghost use Rattle.serde_json.specs.View.{view};
 ghost use Rattle.serde_json.specs.Find.{get};
-ghost use Rattle.trace_reader.specs.Items.{is_small_letter, is_event_type, IsPath, IsValue, IsAdvance, IsEvent, IsSwap, IsItem};
+ghost use Rattle.trace_reader.specs.Items.{IsPath, IsValue, IsAdvance, IsEvent, IsSwap, IsItem};
 
-use crate::fault::Misfit;
-use crate::keys::{Shape, has_only};
-use crate::look::{has_key, list_at, number_at, slot_at, text_at, units_in};
 use code_units::Text;
+use json_shapes::{Misfit, has_key, has_only, list_at, number_at, slot_at, text_at};
+use plain_tree::is_event_type;
 use serde_json::Value;
 use std::alloc::Global;
+
+/// The steps that a path may have.
+const LONGEST_PATH: usize = 200;
+
+/// The last child position that a step may have.
+const LAST_STEP: u64 = u32::MAX as u64;
+
+/// The units that the value of an event may have.
+const LONGEST_VALUE: usize = 65_536;
+
+/// The milliseconds that an advance may have.
+const LONGEST_ADVANCE: u64 = 60_000;
 
 /// What happens at a node of a widget: the type of the event, the path from the widget's root to
 /// the node by child positions, and a text for it, if there is one.
@@ -32,29 +42,11 @@ pub enum TraceItem {
     Swap { to: u32, file: String },
 }
 
-fn is_small_letter(unit: u16) -> bool
-    ensures { result ≡ is_small_letter unit }
-{
-    97 <= unit && unit <= 122
-}
-
-fn are_small_letters(units: &[u16]) -> bool
-    ensures { result ≡ list_all is_small_letter units.now }
-{
-    units.iter().all(|unit| is_small_letter(*unit))
-}
-
-fn is_event_type(units: &[u16]) -> bool
-    ensures { result ≡ is_event_type units.now }
-{
-    1 <= units.len() && units.len() <= 16 && are_small_letters(units)
-}
-
 fn read_path(alloc: Global, steps: &[Value]) -> Result<Vec<u32>, Misfit>
     ensures ok { IfOk result (λ path. IsPath (map view steps.now) path.items) }
-    ensures misfit { IsErrOf result Misfit.Shape → (path : List ℕ) → IsPath (map view steps.now) path → ⊥ }
+    ensures misfit { IsErrOf result Misfit.Shape → (path : List ℕ) → ¬ IsPath (map view steps.now) path }
 {
-    if steps.len() > 200 {
+    if steps.len() > LONGEST_PATH {
         return Err(Misfit::Shape);
     }
     let mut path = Vec::with_capacity(alloc, steps.len())?;
@@ -62,7 +54,7 @@ fn read_path(alloc: Global, steps: &[Value]) -> Result<Vec<u32>, Misfit>
         let Some(n) = step.as_u64() else {
             return Err(Misfit::Shape);
         };
-        if n > 4_294_967_295 {
+        if n > LAST_STEP {
             return Err(Misfit::Shape);
         }
         path.push(n as u32)?;
@@ -72,7 +64,8 @@ fn read_path(alloc: Global, steps: &[Value]) -> Result<Vec<u32>, Misfit>
 
 fn read_value(alloc: Global, item: &Value) -> Result<Option<Text>, Misfit>
     ensures ok { IfOk result (λ value. IsValue (get (codes "value") (view item.now)) value) }
-    ensures misfit { IsErrOf result Misfit.Shape → (value : Option (List ℕ)) → IsValue (get (codes "value") (view item.now)) value → ⊥ }
+    ensures misfit { IsErrOf result Misfit.Shape → (value : Option (List ℕ)) →
+        ¬ IsValue (get (codes "value") (view item.now)) value }
 {
     let Some(value) = item.get("value") else {
         return Ok(None);
@@ -80,8 +73,8 @@ fn read_value(alloc: Global, item: &Value) -> Result<Option<Text>, Misfit>
     let Some(text) = value.as_str() else {
         return Err(Misfit::Shape);
     };
-    let text = units_in(alloc, text)?;
-    if text.units().len() > 65_536 {
+    let text = Text::from_str(alloc, text)?;
+    if text.units().len() > LONGEST_VALUE {
         return Err(Misfit::Shape);
     }
     Ok(Some(text))
@@ -89,12 +82,12 @@ fn read_value(alloc: Global, item: &Value) -> Result<Option<Text>, Misfit>
 
 fn read_advance(item: &Value) -> Result<u32, Misfit>
     ensures ok { IfOk result (λ ms. IsAdvance (view item.now) ms) }
-    ensures misfit { IsErrOf result Misfit.Shape → (ms : ℕ) → IsAdvance (view item.now) ms → ⊥ }
+    ensures misfit { IsErrOf result Misfit.Shape → (ms : ℕ) → ¬ IsAdvance (view item.now) ms }
 {
     let Some(ms) = number_at(item, "advance") else {
         return Err(Misfit::Shape);
     };
-    if ms > 60_000 || !has_only(item, Shape::Advance) {
+    if ms > LONGEST_ADVANCE || !has_only(item, &["advance"]) {
         return Err(Misfit::Shape);
     }
     Ok(ms as u32)
@@ -103,7 +96,8 @@ fn read_advance(item: &Value) -> Result<u32, Misfit>
 fn read_swap(alloc: Global, item: &Value, names: &[Text]) -> Result<(u32, String), Misfit>
     requires { length names.now < 2 ^ 32 }
     ensures ok { IfOk result (λ p. IsSwap names.now (view item.now) p.0 (string_bytes p.1)) }
-    ensures misfit { IsErrOf result Misfit.Shape → (to : ℕ) → (file : List ℕ) → IsSwap names.now (view item.now) to file → ⊥ }
+    ensures misfit { IsErrOf result Misfit.Shape → (to : ℕ) → (file : List ℕ) →
+        ¬ IsSwap names.now (view item.now) to file }
 {
     let Some(to) = slot_at(item, "swap", names) else {
         return Err(Misfit::Shape);
@@ -111,7 +105,7 @@ fn read_swap(alloc: Global, item: &Value, names: &[Text]) -> Result<(u32, String
     let Some(file) = text_at(item, "file") else {
         return Err(Misfit::Shape);
     };
-    if !has_only(item, Shape::Swap) {
+    if !has_only(item, &["swap", "file"]) {
         return Err(Misfit::Shape);
     }
     Ok((to as u32, String::from_str(alloc, file)?))
@@ -120,9 +114,10 @@ fn read_swap(alloc: Global, item: &Value, names: &[Text]) -> Result<(u32, String
 fn read_event(alloc: Global, item: &Value, names: &[Text]) -> Result<(u32, Happening), Misfit>
     requires { length names.now < 2 ^ 32 }
     ensures ok { IfOk result (λ p. IsEvent names.now (view item.now) p.0 p.1) }
-    ensures misfit { IsErrOf result Misfit.Shape → (to : ℕ) → (event : Happening) → IsEvent names.now (view item.now) to event → ⊥ }
+    ensures misfit { IsErrOf result Misfit.Shape → (to : ℕ) → (event : Happening) →
+        ¬ IsEvent names.now (view item.now) to event }
 {
-    if !has_only(item, Shape::Event) {
+    if !has_only(item, &["to", "event", "path", "value"]) {
         return Err(Misfit::Shape);
     }
     let Some(to) = slot_at(item, "to", names) else {
@@ -134,8 +129,8 @@ fn read_event(alloc: Global, item: &Value, names: &[Text]) -> Result<(u32, Happe
     let Some(steps) = list_at(item, "path") else {
         return Err(Misfit::Shape);
     };
-    let kind = units_in(alloc, kind)?;
-    if !is_event_type(kind.units()) {
+    let kind = Text::from_str(alloc, kind)?;
+    if !is_event_type(&kind) {
         return Err(Misfit::Shape);
     }
     let path = read_path(alloc, steps)?;
@@ -152,7 +147,7 @@ pub fn read_item(
 ) -> Result<TraceItem, Misfit>
     requires { length names.now < 2 ^ 32 }
     ensures ok { IfOk result (λ t. IsItem version names.now (view item.now) t) }
-    ensures misfit { IsErrOf result Misfit.Shape → (t : TraceItem) → IsItem version names.now (view item.now) t → ⊥ }
+    ensures misfit { IsErrOf result Misfit.Shape → (t : TraceItem) → ¬ IsItem version names.now (view item.now) t }
 {
     if has_key(item, "advance") {
         return Ok(TraceItem::Advance(read_advance(item)?));

@@ -1,59 +1,28 @@
 //! Reads a trace.
 ghost use Rattle.std.specs.Prelude.{◌≡◌, ◌≤◌, ◌<◌, ◌+◌, ◌^◌, IfOk, IfErr, length, map, count_by, if◌then◌else◌};
 ghost use Rattle.serde_json.specs.View.{view};
-ghost use Rattle.trace_reader.specs.Each.{Each};
-ghost use Rattle.trace_reader.specs.Items.{IsItem, is_swap};
-ghost use Rattle.trace_reader.specs.Trace.{version_of, has_version, judged_version, IsJson, IsTrace, IsItemsFault, IsValueFault, IsJsonFault, IsTraceFault, ReadsTrace};
+ghost use Rattle.json_shapes.specs.Each.{Each};
+ghost use Rattle.trace_reader.specs.Items.{IsItem, is_swap, most_swaps};
+ghost use Rattle.json_shapes.specs.Json.{version_of, has_version, judged_version, IsJson, IsJsonFault};
+ghost use Rattle.trace_reader.specs.Trace.{most_items, IsTrace, IsItemsFault, IsValueFault, IsTraceFault, ReadsTrace};
 
-use crate::fault::{Misfit, ShapeFault};
 use crate::item::{TraceItem, read_item};
-use crate::keys::{Shape, has_only};
-use crate::look::{has_key, list_at, number_at};
 use code_units::Text;
+use json_shapes::{
+    Misfit, ShapeFault, has_key, has_only, has_version, judged_version, list_at, read_json,
+};
 use serde_json::Value;
 use std::alloc::Global;
 
-const MOST_ITEMS: usize = 4096;
+/// The items that a trace may have.
+const MOST_ITEMS: usize = 4_096;
 
-/// The value of a JSON text.
-pub fn read_json(alloc: Global, bytes: &[u8]) -> Result<Value, ShapeFault>
-    ensures ok { IfOk result (λ v. IsJson bytes.now (view v)) }
-    ensures err { IfErr result (IsJsonFault bytes.now) }
-{
-    match Value::from_slice(alloc, bytes) {
-        Ok(value) => Ok(value),
-        Err(fault) => Err(if fault.is_memory() {
-            ShapeFault::Memory
-        } else {
-            ShapeFault::NotJson
-        }),
-    }
-}
-
-fn version_of(value: &Value) -> u64
-    ensures { result ≡ version_of (view value.now) }
-{
-    number_at(value, "version").unwrap_or(0)
-}
-
-/// Whether the version is 1 or 2.
-pub fn has_version(value: &Value) -> bool
-    ensures { result ≡ has_version (view value.now) }
-{
-    let version = version_of(value);
-    version == 1 || version == 2
-}
-
-/// The version by which entries are judged.
-pub fn judged_version(value: &Value) -> u64
-    ensures { result ≡ judged_version (view value.now) }
-{
-    if version_of(value) == 2 { 2 } else { 1 }
-}
+/// The swaps that a trace may have.
+const MOST_SWAPS: u32 = 4;
 
 // The swaps with one entry more.
 fn swaps_with(swaps: u32, entry: &Value) -> u32
-    requires { swaps ≤ 4 }
+    requires { swaps ≤ most_swaps }
     ensures { result ≡ swaps + (if is_swap (view entry.now) then 1 else 0) }
 {
     if has_key(entry, "swap") {
@@ -70,9 +39,9 @@ fn read_items(
     names: &[Text],
 ) -> Result<Vec<TraceItem>, ShapeFault>
     requires slots { length names.now < 2 ^ 32 }
-    requires few { length entries.now ≤ 4096 }
+    requires few { length entries.now ≤ most_items }
     ensures each { IfOk result (λ items. Each (IsItem version names.now) (map view entries.now) items.items) }
-    ensures swaps { IfOk result (λ items. count_by is_swap (map view entries.now) ≤ 4) }
+    ensures swaps { IfOk result (λ items. count_by is_swap (map view entries.now) ≤ most_swaps) }
     ensures err { IfErr result (IsItemsFault version names.now (map view entries.now)) }
 {
     let mut items = Vec::new(alloc);
@@ -80,7 +49,7 @@ fn read_items(
     'entries: for entry in entries {
         let item = items.len() as u32;
         swaps = swaps_with(swaps, entry);
-        if swaps > 4 {
+        if swaps > MOST_SWAPS {
             return Err(ShapeFault::BadShape { item });
         }
         match read_item(alloc, version, entry, names) {
@@ -106,7 +75,7 @@ fn read_value(alloc: Global, value: &Value, names: &[Text]) -> Result<Vec<TraceI
         });
     }
     let items = read_items(alloc, judged_version(value), entries, names)?;
-    if !has_only(value, Shape::Trace) || !has_version(value) {
+    if !has_only(value, &["version", "items"]) || !has_version(value) {
         return Err(ShapeFault::BadShape {
             item: entries.len() as u32,
         });

@@ -1,5 +1,5 @@
-use Rattle.std.proofs.Common.{List, map, sym, subst}
-use Rattle.std.proofs.lemmas.List.{take-map}
+use Rattle.std.proofs.Common.{List, map, sym, subst, arith}
+use Rattle.std.proofs.lemmas.List.{take-map, length-map}
 use Rattle.serde_json.specs.Data.{Data}
 use Rattle.serde_json.specs.View.{view}
 use Rattle.manifest_reader.specs.Html.{html_text, IsLongestHtml}
@@ -10,6 +10,5 @@ pub returns : goal.returns
 returns c =
     let page = c.in-Some.page.now in
     let item = c.args.item in
-    lowered c.args.bytes.now (view c.in-Ok.value) (map view page) item c.in_ok-good.good
-    record { utf8 = c.in-Ok.ensures.ok.0; value = c.in-Ok.ensures.ok.1 } (sym c.in-Some.ensures) c.requires
+    lowered (view c.args.value.now) (map view page) item c.in_ok-good.good (sym c.in-Some.ensures) c.requires
     (subst (λ (ds : List Data). IsLongestHtml (map html_text ds) c.in_ok-good.good) (sym (take-map view item page)) c.in_ok-good.ensures)

@@ -1,5 +1,5 @@
 use Rattle.std.proofs.Common.{List, map, refl, subst}
-use Rattle.trace_reader.specs.declared.slot.PageEntry.{PageEntry}
+use Rattle.manifest_shape.specs.declared.slot.PageEntry.{PageEntry}
 use Rattle.manifest_reader.specs.Page.{part_of, AreFilled}
 use Rattle.manifest_reader.proofs.manifest.fill.Goals as goal
 

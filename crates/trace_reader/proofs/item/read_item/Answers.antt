@@ -1,7 +1,7 @@
 use Rattle.std.proofs.Common.{sym, ◌∙◌, rules}
 use Rattle.std.specs.Result.{IsErrOf}
 use Rattle.serde_json.specs.View.{view}
-use Rattle.trace_reader.specs.declared.fault.Misfit.TheVariants as misfit
+use Rattle.json_shapes.specs.declared.fault.Misfit.TheVariants as misfit
 use Rattle.trace_reader.proofs.ItemLemmas.{no_advance, no_swap}
 use Rattle.trace_reader.proofs.item.read_item.Goals as goal
 

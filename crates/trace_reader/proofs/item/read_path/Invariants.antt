@@ -1,6 +1,6 @@
 use Rattle.std.proofs.Common.{map, take}
 use Rattle.serde_json.specs.View.{view}
-use Rattle.trace_reader.specs.Each.{Each}
+use Rattle.json_shapes.specs.Each.{Each}
 use Rattle.trace_reader.specs.Items.{IsStep}
 use Rattle.trace_reader.proofs.item.read_path.Given as goal
 

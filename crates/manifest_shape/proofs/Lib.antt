@@ -1,0 +1,6 @@
+pub mod SlotLemmas
+pub mod DistinctLemmas
+pub mod PageLemmas
+pub mod LibLemmas
+pub mod ChannelLemmas
+pub mod ManifestLemmas

@@ -1,5 +1,0 @@
-use Rattle.trace_reader.proofs.ChannelLemmas.{ChannelsSoFar}
-use Rattle.trace_reader.proofs.channels.read_pairs.Given as goal
-
-abbrev pub invariant-pairs : goal.invariant-pairs
-invariant-pairs l = ChannelsSoFar l.names l.pairs l.pair-index l.channels.items

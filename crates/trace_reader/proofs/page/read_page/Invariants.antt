@@ -1,5 +1,0 @@
-use Rattle.trace_reader.proofs.PageLemmas.{PageSoFar}
-use Rattle.trace_reader.proofs.page.read_page.Given as goal
-
-abbrev pub invariant-entries : goal.invariant-entries
-invariant-entries l = PageSoFar l.version l.page l.value-index l.entries.items l.names.items
