@@ -12,7 +12,7 @@ use Rattle.plain_tree.specs.declared.plain.Plain.{Plain}
 use Rattle.plain_tree.specs.Trees.{TextOf, ElementOf, End, Node, PlainTrees, beside}
 use Rattle.plain_tree.specs.Plains.{unplaced, unplaced_all, attribute_of}
 use Rattle.plain_tree.specs.Print.{printed, printed_text, opening, closing}
-use Rattle.page_tree.proofs.Plains.{unplaced_first, unplaced_element}
+use Rattle.page_nodes.proofs.Plains.{unplaced_first, unplaced_element}
 
 pub printed_beside : (style : List ℕ → List ℕ) (a b : PlainTrees) → printed style (beside a b) ≡ printed style a ++ printed style b
 printed_beside style End b = refl
@@ -82,45 +82,48 @@ element_part style old o1 new tag attributes ks void e1 p =
       },
     )
 
--- what is printed of the children
-abbrev pub PrintsChildren : List Plain → ℕ → List ℕ → List ℕ → Type 0
-PrintsChildren items i old new = (style : List ℕ → List ℕ) → IsStyleForm style → AppendsBut (printed style (unplaced_all items)) (printed style (unplaced_all (drop i items))) old new
+-- ## Several items, one after the other
 
-next_printed : (style : List ℕ → List ℕ) (items : List Plain) (i : ℕ) (child : Plain) → i < length items → child ≡ get_or items i child → printed style (unplaced_all (drop i items)) ≡ printed style (unplaced child) ++ printed style (unplaced_all (drop (i + 1) items))
-next_printed style items i child lt e = at_drop_more (λ l. printed style (unplaced_all l)) items i child lt ∙ printed_first style (get_or items i child) (drop (i + 1) items) ∙ ap (λ q. printed style (unplaced q) ++ printed style (unplaced_all (drop (i + 1) items))) (sym e)
+module _ {X : Type 0} (one : X → PlainTrees) (all : List X → PlainTrees) (nothing : all [] ≡ End) (first : (style : List ℕ → List ℕ) (x : X) (xs : List X) → printed style (all (x ∷ xs)) ≡ printed style (one x) ++ printed style (all xs)) where
+  -- what is printed of the items
+  abbrev pub PrintsItems : List X → ℕ → List ℕ → List ℕ → Type 0
+  PrintsItems items i old new = (style : List ℕ → List ℕ) → IsStyleForm style → AppendsBut (printed style (all items)) (printed style (all (drop i items))) old new
 
-pub children_start : (items : List Plain) (old new : List ℕ) → new ≡ old → PrintsChildren items 0 old new
-children_start items old new e style f = but_start (printed style (unplaced_all items)) old new e
+  next_printed : (style : List ℕ → List ℕ) (items : List X) (i : ℕ) (x : X) → i < length items → x ≡ get_or items i x → printed style (all (drop i items)) ≡ printed style (one x) ++ printed style (all (drop (i + 1) items))
+  next_printed style items i x lt e = at_drop_more (λ l. printed style (all l)) items i x lt ∙ first style (get_or items i x) (drop (i + 1) items) ∙ ap (λ q. printed style (one q) ++ printed style (all (drop (i + 1) items))) (sym e)
 
-pub children_step : (items : List Plain) (i : ℕ) (child : Plain) (old mid new : List ℕ) → i < length items → child ≡ get_or items i child → PrintsChildren items i old mid → Prints (unplaced child) mid new → PrintsChildren items (i + 1) old new
-children_step items i child old mid new lt e h p style f = but_more _ (printed style (unplaced child)) _ (printed style (unplaced_all (drop (i + 1) items))) old mid new (h style f) (next_printed style items i child lt e) (p style f)
+  pub items_start : (items : List X) (old new : List ℕ) → new ≡ old → PrintsItems items 0 old new
+  items_start items old new e style f = but_start (printed style (all items)) old new e
 
--- the call of an element ends within its children
-pub element_cut : (p : Plain) (tag : List ℕ) (attrs : Vec Attr) (children : Vec Plain) (at : ℕ) (old o1 mid new : List ℕ) (items : List Plain) (i : ℕ) (child : Plain) → p ≡ plain.Element tag attrs children at → items ≡ children.items → is_void tag ≡ false → ((style : List ℕ → List ℕ) → IsStyleForm style → o1 ≡ old ++ opening style tag (map attribute_of attrs.items)) → i < length items → child ≡ get_or items i child → PrintsChildren items i o1 mid → PrintsPart (unplaced child) mid new → PrintsPart (unplaced p) old new
-element_cut p tag attrs children at old o1 mid new items i child ep ei void front lt e h g = λ style f.
-    subst (λ t. AppendsPart (printed style t) old new) (sym (unplaced_element p tag attrs children at ep))
-    (element_part style old o1 new tag (map attribute_of attrs.items) (unplaced_all children.items) void (front style f)
-    (subst (λ l. AppendsPart (printed style (unplaced_all l)) o1 new) ei
-    (but_part _ (printed style (unplaced child)) _ (printed style (unplaced_all (drop (i + 1) items))) o1 mid new (h style f) (next_printed style items i child lt e) (g style f))))
+  pub items_step : (items : List X) (i : ℕ) (x : X) (old mid new : List ℕ) → i < length items → x ≡ get_or items i x → PrintsItems items i old mid → Prints (one x) mid new → PrintsItems items (i + 1) old new
+  items_step items i x old mid new lt e h p style f = but_more _ (printed style (one x)) _ (printed style (all (drop (i + 1) items))) old mid new (h style f) (next_printed style items i x lt e) (p style f)
 
--- the children are printed
-all_printed : (style : List ℕ → List ℕ) (items : List Plain) (i : ℕ) (o1 o2 : List ℕ) → IsStyleForm style → length items ≤ i → PrintsChildren items i o1 o2 → o2 ≡ o1 ++ printed style (unplaced_all items)
-all_printed style items i o1 o2 f le h =
-    let rest : printed style (unplaced_all (drop i items)) ≡ [] = at_drop_all (λ l. printed style (unplaced_all l)) items i le in
-    let b = h style f in
-    b.appended ∙ ap (λ l. o1 ++ l) (sym (append-nil b.part) ∙ ap (λ l. b.part ++ l) (sym rest) ∙ sym b.whole)
+  -- the printing of an element ends within its items
+  pub items_cut : (tag : List ℕ) (attributes : List (List ℕ × List ℕ)) (old o1 mid new : List ℕ) (items : List X) (i : ℕ) (x : X) → is_void tag ≡ false → ((style : List ℕ → List ℕ) → IsStyleForm style → o1 ≡ old ++ opening style tag attributes) → i < length items → x ≡ get_or items i x → PrintsItems items i o1 mid → PrintsPart (one x) mid new → PrintsPart (Node tt (ElementOf tag attributes) (all items) End) old new
+  items_cut tag attributes old o1 mid new items i x void front lt e h g = λ style f.
+      element_part style old o1 new tag attributes (all items) void (front style f)
+      (but_part _ (printed style (one x)) _ (printed style (all (drop (i + 1) items))) o1 mid new (h style f) (next_printed style items i x lt e) (g style f))
 
--- the whole call of an element
-pub element_done : (r : Result (Unit {0}) Memory) (p : Plain) (tag : List ℕ) (attrs : Vec Attr) (children : Vec Plain) (at : ℕ) (old o1 o2 new : List ℕ) (items : List Plain) (i : ℕ) → p ≡ plain.Element tag attrs children at → items ≡ children.items → is_void tag ≡ false → ((style : List ℕ → List ℕ) → IsStyleForm style → o1 ≡ old ++ opening style tag (map attribute_of attrs.items)) → length items ≤ i → PrintsChildren items i o1 o2 → OnOk r (new ≡ o2 ++ closing tag) → OnOk r (Prints (unplaced p) old new)
-element_done (Err e) p tag attrs children at old o1 o2 new items i ep ei void front le inv h = tt
-element_done (Ok x) p tag attrs children at old o1 o2 new items i ep ei void front le inv h = λ style f.
-    element_printed style old o1 o2 new tag (map attribute_of attrs.items) (unplaced_all children.items) void (front style f) (all_printed style items i o1 o2 f le inv ∙ ap (λ l. o1 ++ printed style (unplaced_all l)) ei) h
-    ∙ ap (λ t. old ++ printed style t) (sym (unplaced_element p tag attrs children at ep))
+  -- all items are printed
+  all_printed : (style : List ℕ → List ℕ) (items : List X) (i : ℕ) (o1 o2 : List ℕ) → IsStyleForm style → length items ≤ i → PrintsItems items i o1 o2 → o2 ≡ o1 ++ printed style (all items)
+  all_printed style items i o1 o2 f le h =
+      let rest : printed style (all (drop i items)) ≡ [] = at_drop_all (λ l. printed style (all l)) items i le ∙ ap (printed style) nothing in
+      let b = h style f in
+      b.appended ∙ ap (λ l. o1 ++ l) (sym (append-nil b.part) ∙ ap (λ l. b.part ++ l) (sym rest) ∙ sym b.whole)
 
-pub element_unclosed : (r : Result (Unit {0}) Memory) (p : Plain) (tag : List ℕ) (attrs : Vec Attr) (children : Vec Plain) (at : ℕ) (old o1 o2 new : List ℕ) (items : List Plain) (i : ℕ) → p ≡ plain.Element tag attrs children at → items ≡ children.items → is_void tag ≡ false → ((style : List ℕ → List ℕ) → IsStyleForm style → o1 ≡ old ++ opening style tag (map attribute_of attrs.items)) → length items ≤ i → PrintsChildren items i o1 o2 → OnErr r (new ≡ o2) → OnErr r (PrintsPart (unplaced p) old new)
-element_unclosed (Ok x) p tag attrs children at old o1 o2 new items i ep ei void front le inv h = tt
-element_unclosed (Err e) p tag attrs children at old o1 o2 new items i ep ei void front le inv h = λ style f.
-    subst (λ t. AppendsPart (printed style t) old new) (sym (unplaced_element p tag attrs children at ep))
-    (element_part style old o1 new tag (map attribute_of attrs.items) (unplaced_all children.items) void (front style f)
-    (subst (λ l. AppendsPart (printed style (unplaced_all l)) o1 new) ei
-    (part_all (printed style (unplaced_all items)) o1 new (h ∙ all_printed style items i o1 o2 f le inv))))
+  -- the whole element
+  pub items_done : (r : Result (Unit {0}) Memory) (tag : List ℕ) (attributes : List (List ℕ × List ℕ)) (old o1 o2 new : List ℕ) (items : List X) (i : ℕ) → is_void tag ≡ false → ((style : List ℕ → List ℕ) → IsStyleForm style → o1 ≡ old ++ opening style tag attributes) → length items ≤ i → PrintsItems items i o1 o2 → OnOk r (new ≡ o2 ++ closing tag) → OnOk r (Prints (Node tt (ElementOf tag attributes) (all items) End) old new)
+  items_done (Err e) tag attributes old o1 o2 new items i void front le inv h = tt
+  items_done (Ok x) tag attributes old o1 o2 new items i void front le inv h = λ style f. element_printed style old o1 o2 new tag attributes (all items) void (front style f) (all_printed style items i o1 o2 f le inv) h
+
+  pub items_unclosed : (r : Result (Unit {0}) Memory) (tag : List ℕ) (attributes : List (List ℕ × List ℕ)) (old o1 o2 new : List ℕ) (items : List X) (i : ℕ) → is_void tag ≡ false → ((style : List ℕ → List ℕ) → IsStyleForm style → o1 ≡ old ++ opening style tag attributes) → length items ≤ i → PrintsItems items i o1 o2 → OnErr r (new ≡ o2) → OnErr r (PrintsPart (Node tt (ElementOf tag attributes) (all items) End) old new)
+  items_unclosed (Ok x) tag attributes old o1 o2 new items i void front le inv h = tt
+  items_unclosed (Err e) tag attributes old o1 o2 new items i void front le inv h = λ style f.
+      element_part style old o1 new tag attributes (all items) void (front style f)
+      (part_all (printed style (all items)) o1 new (h ∙ all_printed style items i o1 o2 f le inv))
+
+pub on_trees : {T : Type 0} (r : Result T Memory) (ts us : PlainTrees) (old new : List ℕ) → ts ≡ us → OnOk r (Prints ts old new) → OnOk r (Prints us old new)
+on_trees r ts us old new e h = subst (λ y. OnOk r (Prints y old new)) e h
+
+pub on_part : {T : Type 0} (r : Result T Memory) (ts us : PlainTrees) (old new : List ℕ) → ts ≡ us → OnErr r (PrintsPart ts old new) → OnErr r (PrintsPart us old new)
+on_part r ts us old new e h = subst (λ y. OnErr r (PrintsPart y old new)) e h

@@ -2,7 +2,7 @@
 use Rattle.std.specs.Prelude.{◌≡◌, ℕ, List, ◌++◌}
 use Rattle.style_text.specs.Styles.{Pair, StyleSpells, print_style}
 use Rattle.plain_tree.specs.Trees.{PlainTrees, Attribute}
-use Rattle.plain_tree.specs.Print.{printed, printed_attribute}
+use Rattle.plain_tree.specs.Print.{opening, printed, printed_attribute}
 
 -- `style` gives a list of styles in its one spelling, and what is no such list as it stands.
 pub record IsStyleForm (style : List ℕ → List ℕ) : Type 0 where
@@ -16,6 +16,10 @@ Prints ts old new = (style : List ℕ → List ℕ) → IsStyleForm style → ne
 -- the same of one attribute
 abbrev pub PrintsAttribute : Attribute → List ℕ → List ℕ → Type 0
 PrintsAttribute a old new = (style : List ℕ → List ℕ) → IsStyleForm style → new ≡ old ++ printed_attribute style a
+
+-- the same of a start tag
+abbrev pub PrintsOpening : List ℕ → List Attribute → List ℕ → List ℕ → Type 0
+PrintsOpening tag attrs old new = (style : List ℕ → List ℕ) → IsStyleForm style → new ≡ old ++ opening style tag attrs
 
 -- a text without a rest of it stands behind the bytes
 pub record AppendsBut (text rest old new : List ℕ) : Type 0 where

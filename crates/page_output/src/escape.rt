@@ -3,27 +3,25 @@ ghost use Rattle.std.specs.Prelude.{◌≡◌, ◌++◌, OnErr, OnOk};
 ghost use Rattle.std.specs.List.{flat_map};
 ghost use Rattle.plain_tree.specs.Print.{escape, escape_in_value, printed_text, printed_value};
 
-use code_units::{Memory, Text, push_utf8};
+use code_units::{Memory, Text, push_ascii, push_utf8};
 use std::alloc::Global;
 
-// Appends ASCII.
-fn push_ascii(units: &mut Vec<u16>, text: &[u8]) -> Result<(), Memory>
-    ensures { OnOk result (units.new.items ≡ units.old.items ++ text.now) }
-{
-    'each: for byte in text {
-        units.push(u16::from(*byte))?;
-    }
-    Ok(())
-}
+const QUOTE: u16 = 0x22;
+
+const AMPERSAND: u16 = 0x26;
+
+const LESS: u16 = 0x3C;
+
+const GREATER: u16 = 0x3E;
 
 // Appends a unit, `&`, `<` and `>` as references.
 fn push_unit(units: &mut Vec<u16>, unit: u16) -> Result<(), Memory>
     ensures { OnOk result (units.new.items ≡ units.old.items ++ escape unit) }
 {
     match unit {
-        38 => push_ascii(units, b"&amp;"),
-        60 => push_ascii(units, b"&lt;"),
-        62 => push_ascii(units, b"&gt;"),
+        AMPERSAND => push_ascii(units, b"&amp;"),
+        LESS => push_ascii(units, b"&lt;"),
+        GREATER => push_ascii(units, b"&gt;"),
         _ => Ok(units.push(unit)?),
     }
 }
@@ -32,7 +30,7 @@ fn push_unit(units: &mut Vec<u16>, unit: u16) -> Result<(), Memory>
 fn push_value_unit(units: &mut Vec<u16>, unit: u16) -> Result<(), Memory>
     ensures { OnOk result (units.new.items ≡ units.old.items ++ escape_in_value unit) }
 {
-    if unit == 34 {
+    if unit == QUOTE {
         return push_ascii(units, b"&quot;");
     }
     push_unit(units, unit)

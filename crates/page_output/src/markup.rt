@@ -1,18 +1,18 @@
 //! Markup as it is printed.
-ghost use Rattle.std.specs.Prelude.{◌≡◌, ℕ, ◌<◌, ◌++◌, List, map, length, OnErr, OnOk};
+ghost use Rattle.std.specs.Prelude.{◌≡◌, ◌<◌, ◌++◌, map, length, OnErr, OnOk};
 ghost use Rattle.std.specs.List.{flat_map};
 ghost use Rattle.code_units.specs.Utf8.{utf8_of};
 ghost use Rattle.plain_tree.specs.Trees.{unmarked};
 ghost use Rattle.plain_tree.specs.Plains.{attribute_of, unplaced};
-ghost use Rattle.plain_tree.specs.Print.{written, opening, closing};
+ghost use Rattle.plain_tree.specs.Print.{written, closing};
 ghost use Rattle.page_tree.specs.Entries.{tree};
 ghost use Rattle.page_tree.specs.Pages.{nodes};
-ghost use Rattle.page_output.specs.Printing.{IsStyleForm, Prints, PrintsAttribute, PrintsPart};
+ghost use Rattle.page_output.specs.Printing.{Prints, PrintsAttribute, PrintsOpening, PrintsPart};
 
 use crate::escape::{push_text, push_value};
 use crate::style::style_form;
 use code_units::{Memory, Text, is_word, push_utf8};
-use page_tree::{NodeId, Page};
+use page_tree::{Content, NodeId, Page};
 use plain_tree::{Attr, Plain, is_void};
 use std::alloc::Global;
 
@@ -29,32 +29,50 @@ fn push_written(alloc: Global, name: &Text, value: &Text, out: &mut Vec<u8>) -> 
 }
 
 // Appends an attribute, a style in its printed form. An empty style is left out.
-fn push_attribute(alloc: Global, attr: &Attr, out: &mut Vec<u8>) -> Result<(), Memory>
-    ensures { OnOk result (PrintsAttribute (attribute_of attr.now) out.old.items out.new.items) }
+fn push_attribute(alloc: Global, name: &Text, value: &Text, out: &mut Vec<u8>) -> Result<(), Memory>
+    ensures { OnOk result (PrintsAttribute (name.now, value.now) out.old.items out.new.items) }
 {
-    if !is_word(&attr.name, b"style") {
-        return push_written(alloc, &attr.name, &attr.value, out);
+    if !is_word(name, b"style") {
+        return push_written(alloc, name, value, out);
     }
-    let style = style_form(alloc, &attr.value)?;
+    let style = style_form(alloc, value)?;
     if style.units().is_empty() {
         return Ok(());
     }
-    push_written(alloc, &attr.name, &style, out)
+    push_written(alloc, name, &style, out)
 }
 
-// Writes a start tag.
+// Writes the start tag of a plain tree.
 fn write_opening(
     alloc: Global,
     tag: &Text,
     attrs: &Vec<Attr>,
     out: &mut Vec<u8>,
 ) -> Result<(), Memory>
-    ensures { OnOk result ((style : List ℕ → List ℕ) → IsStyleForm style → out.new.items ≡ out.old.items ++ opening style tag.now (map attribute_of attrs.now.items)) }
+    ensures { OnOk result (PrintsOpening tag.now (map attribute_of attrs.now.items) out.old.items out.new.items) }
 {
     out.extend_from_slice(b"<")?;
     push_utf8(tag, out)?;
     'each: for attr in attrs {
-        push_attribute(alloc, attr, out)?;
+        push_attribute(alloc, &attr.name, &attr.value, out)?;
+    }
+    out.extend_from_slice(b">")?;
+    Ok(())
+}
+
+// Writes the start tag of a node.
+fn write_node_opening(
+    alloc: Global,
+    tag: &Text,
+    attributes: &Vec<(Text, Text)>,
+    out: &mut Vec<u8>,
+) -> Result<(), Memory>
+    ensures { OnOk result (PrintsOpening tag.now attributes.now.items out.old.items out.new.items) }
+{
+    out.extend_from_slice(b"<")?;
+    push_utf8(tag, out)?;
+    'each: for attribute in attributes {
+        push_attribute(alloc, &attribute.0, &attribute.1, out)?;
     }
     out.extend_from_slice(b">")?;
     Ok(())
@@ -70,18 +88,34 @@ fn write_closing(tag: &Text, out: &mut Vec<u8>) -> Result<(), Memory>
     Ok(())
 }
 
-// Appends a start tag, whole or not at all.
+// Appends the start tag of a plain tree, whole or not at all.
 fn push_opening(
     alloc: Global,
     tag: &Text,
     attrs: &Vec<Attr>,
     out: &mut Vec<u8>,
 ) -> Result<(), Memory>
-    ensures ok { OnOk result ((style : List ℕ → List ℕ) → IsStyleForm style → out.new.items ≡ out.old.items ++ opening style tag.now (map attribute_of attrs.now.items)) }
+    ensures ok { OnOk result (PrintsOpening tag.now (map attribute_of attrs.now.items) out.old.items out.new.items) }
     ensures err { OnErr result (out.new.items ≡ out.old.items) }
 {
     let mut bytes = Vec::new(alloc);
     write_opening(alloc, tag, attrs, &mut bytes)?;
+    out.extend_from_slice(&bytes)?;
+    Ok(())
+}
+
+// Appends the start tag of a node, whole or not at all.
+fn push_node_opening(
+    alloc: Global,
+    tag: &Text,
+    attributes: &Vec<(Text, Text)>,
+    out: &mut Vec<u8>,
+) -> Result<(), Memory>
+    ensures ok { OnOk result (PrintsOpening tag.now attributes.now.items out.old.items out.new.items) }
+    ensures err { OnErr result (out.new.items ≡ out.old.items) }
+{
+    let mut bytes = Vec::new(alloc);
+    write_node_opening(alloc, tag, attributes, &mut bytes)?;
     out.extend_from_slice(&bytes)?;
     Ok(())
 }
@@ -128,6 +162,17 @@ pub fn print(alloc: Global, page: &Page, node: NodeId, out: &mut Vec<u8>) -> Res
     ensures ok { OnOk result (Prints (unmarked (tree (nodes page.now) node)) out.old.items out.new.items) }
     ensures part { OnErr result (PrintsPart (unmarked (tree (nodes page.now) node)) out.old.items out.new.items) }
 {
-    let plain = page.plain_of(alloc, node)?;
-    print_plain(alloc, &plain, out)
+    match page.content(node) {
+        Content::Text(text) => push_text(alloc, text, out),
+        Content::Element(tag, attributes) => {
+            push_node_opening(alloc, tag, attributes, out)?;
+            if is_void(tag) {
+                return Ok(());
+            }
+            'each: for child in page.children(node) {
+                print(alloc, page, *child, out)?;
+            }
+            push_closing(alloc, tag, out)
+        }
+    }
 }

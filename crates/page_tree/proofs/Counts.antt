@@ -6,13 +6,13 @@ use Rattle.std.proofs.lemmas.List.{length-set, get_or-set_same, get_or-set_other
 use Rattle.code_units.specs.declared.owner.Owner.{Owner}
 use Rattle.code_units.specs.declared.owner.Owner.TheVariants as owner
 use Rattle.plain_tree.specs.Trees.{PlainTrees, size}
-use Rattle.page_tree.specs.Owners.{is_owner, same_owner, slot}
-use Rattle.page_tree.specs.Entries.{Entry, at, body_entry}
+use Rattle.page_nodes.specs.Owners.{is_owner, same_owner, slot}
+use Rattle.page_nodes.specs.Entries.{Entry, at, body_entry}
 use Rattle.page_tree.specs.Counts.{count_of, most_of, IsCounted}
-use Rattle.page_tree.specs.Adds.{IsAdded}
-use Rattle.page_tree.specs.Moves.{KeepsNodes}
-use Rattle.page_tree.proofs.Lists.{cases}
-use Rattle.page_tree.proofs.Owners.{same_is, is_same}
+use Rattle.page_nodes.specs.Adds.{IsAdded}
+use Rattle.page_nodes.specs.Moves.{KeepsNodes}
+use Rattle.page_nodes.proofs.Lists.{cases}
+use Rattle.page_nodes.proofs.Owners.{same_is, is_same, slot_is}
 
 -- the same owners in the same order
 count_same : (o : Owner) (k m : List Entry) → length m ≡ length k → ((x : ℕ) → (at m x).owner ≡ (at k x).owner) → count_of o m ≡ count_of o k
@@ -58,12 +58,6 @@ count_grown p o n (x ∷ k) [] e same own = absurd (omega (arith, e))
 count_grown p o n (x ∷ k) (y ∷ m) e same own =
     let rest = count_grown p o n k m (omega (arith, e)) (λ i lt. same (suc i) (omega (arith, lt))) (λ i le lt. own (suc i) (omega (arith, le)) (omega (arith, lt))) in
     ap (λ (z : Entry). cond {A = ℕ} (same_owner z.owner p) 1 0 + count_of p m) (same 0 (omega arith)) ∙ omega (arith, rest)
-
-pub slot_is : (o p : Owner) → is_owner o ≡ true → is_owner p ≡ true → slot o ≡ slot p → o ≡ p
-slot_is owner.Host owner.Host i j e = refl
-slot_is owner.Host (owner.Widget w) i j e = absurd (omega (arith, e, ltb-true w 32 j))
-slot_is (owner.Widget v) owner.Host i j e = absurd (omega (arith, e, ltb-true v 32 i))
-slot_is (owner.Widget v) (owner.Widget w) i j e = ap owner.Widget e
 
 slot_low : (o : Owner) → is_owner o ≡ true → slot o < 33
 slot_low owner.Host i = omega arith

@@ -1,6 +1,6 @@
 -- When nodes may be put under a target.
-use Rattle.std.proofs.Common.{◌≡◌, ℕ, suc, ◌+◌, ◌<◌, ◌≤◌, List, Bool, true, false, refl, sym, ap, ◌∙◌, subst, arith, Some, None, Option, Result, Ok, Err, inr, ⊎_elim, length, [], ◌∷◌, eqb, ◌||◌}
-use Rattle.std.specs.Prelude.{slice_index, MatchResult}
+use Rattle.std.proofs.Common.{◌≡◌, ℕ, suc, ◌+◌, ◌<◌, ◌≤◌, List, Bool, true, false, refl, sym, ap, ◌∙◌, subst, arith, Some, None, Option, Result, Ok, Err, inr, ⊎_elim, length, [], ◌∷◌, eqb, ◌||◌, zero, get_or}
+use Rattle.std.specs.Prelude.{slice_index, MatchResult, OnErr, OnOk}
 use Rattle.std.specs.Result.{IsErrAnd}
 use Rattle.code_units.specs.declared.owner.Owner.{Owner}
 use Rattle.code_units.specs.declared.owner.Owner.TheVariants as owner
@@ -10,15 +10,16 @@ use Rattle.page_tree.specs.declared.fault.PageFault.TheVariants as fault
 use Rattle.plain_tree.specs.Trees.{height}
 use Rattle.tree_ops.specs.Labels.{is_leaf, is_text}
 use Rattle.tree_ops.specs.Trees.{is_number}
-use Rattle.page_tree.specs.Owners.{root_in}
+use Rattle.page_nodes.specs.Owners.{root_in}
 use Rattle.page_tree.specs.Roots.{IsRooted}
-use Rattle.page_tree.specs.Entries.{Entry, at, body, listed, tree, limit, IsSound}
-use Rattle.page_tree.specs.Moves.{IsDepth, MayMoveAll}
+use Rattle.page_nodes.specs.Entries.{Entry, at, body, listed, tree, limit, IsSound}
+use Rattle.page_nodes.specs.Moves.{IsDepth, MayMoveAll}
 use Rattle.page_tree.specs.Pages.{MayPutAll, IsInside, IsNotInside, AreNotInside, IsLow, IsTooDeep, RefusesAll, RefusesReplaceFirst}
-use Rattle.page_tree.proofs.Owners.{same_is}
+use Rattle.page_nodes.proofs.Lists.{or_none}
+use Rattle.page_nodes.proofs.Owners.{same_is}
 use Rattle.page_tree.proofs.Numbers.{number_not}
-use Rattle.page_tree.proofs.Shows.{tree_low, tree_lower}
-use Rattle.page_tree.proofs.Upward.{level_height}
+use Rattle.page_nodes.proofs.Shows.{tree_low, tree_lower}
+use Rattle.page_nodes.proofs.Upward.{level_height}
 
 -- `body` is a root
 pub not_body : (k : List Entry) (roots : List (Option ℕ)) → IsSound k → IsRooted k roots → (n : ℕ) → (root_in roots (at k n).owner ≡ Some n → ⊥) → n ≡ body → ⊥
@@ -104,3 +105,14 @@ not_any n xs b e h = sym (listed_any n xs) ∙ sym e ∙ h
 
 pub is_any : (n : ℕ) (xs : List ℕ) (b : Bool) → b ≡ list_any (λ y. eqb y n) xs → b ≡ true → listed n xs ≡ true
 is_any n xs b e h = sym (listed_any n xs) ∙ sym e ∙ h
+
+-- a number that is not listed is at no place
+pub at_no_place : (n : ℕ) (ns : List ℕ) → listed n ns ≡ false → (i : ℕ) → i < length ns → eqb (get_or ns i 0) n ≡ false
+at_no_place n [] h i lt = absurd (omega (arith, lt))
+at_no_place n (m ∷ ns) h zero lt = (or_none (eqb m n) (listed n ns) h).0
+at_no_place n (m ∷ ns) h (suc i) lt = at_no_place n ns ((or_none (eqb m n) (listed n ns) h).1) i (omega (arith, lt))
+
+-- what a page keeps, it keeps after a call that did its work or left all as it was
+pub either_way : {T E : Type 0} (r : Result T E) (P : List Entry → Type 0) (Q : Type 0) (k m : List Entry) → P k → (Q → P m) → OnOk r Q → OnErr r (m ≡ k) → P m
+either_way (Ok x) P Q k m p f q e = f q
+either_way (Err x) P Q k m p f q e = subst P (sym e) p

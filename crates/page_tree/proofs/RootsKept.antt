@@ -4,19 +4,19 @@ use Rattle.std.proofs.lemmas.Bool.{cases_Bool, cases_lt, eqb-false, and_parts}
 use Rattle.code_units.specs.declared.owner.Owner.{Owner}
 use Rattle.code_units.specs.declared.owner.Owner.TheVariants as owner
 use Rattle.plain_tree.specs.Trees.{Label, PlainTrees}
-use Rattle.page_tree.specs.Adds.{IsAdded}
-use Rattle.page_tree.proofs.Walk.{child_in, without_body}
+use Rattle.page_nodes.specs.Adds.{IsAdded}
+use Rattle.page_nodes.proofs.Walk.{child_in, without_body}
 use Rattle.std.proofs.lemmas.List.{get_or_past}
-use Rattle.page_tree.specs.Owners.{is_owner, same_owner, root_in}
+use Rattle.page_nodes.specs.Owners.{is_owner, same_owner, root_in}
 use Rattle.page_tree.specs.Roots.{IsRooted}
-use Rattle.page_tree.specs.Entries.{Entry, at, body, listed, tree, IsSound, no_entry}
-use Rattle.page_tree.specs.Moves.{parents_after, ArePut, Detached, KeepsNodes, OthersStay, IsLinked, IsSwapped, IsRelabelled}
+use Rattle.page_nodes.specs.Entries.{Entry, at, body, listed, tree, IsSound, no_entry}
+use Rattle.page_nodes.specs.Moves.{parents_after, ArePut, Detached, KeepsNodes, OthersStay, IsLinked, IsSwapped, IsRelabelled}
 use Rattle.page_tree.specs.Pages.{MayPutAll, MayReplace, root_after, HasNone}
-use Rattle.page_tree.proofs.Owners.{same_is, is_same}
-use Rattle.page_tree.specs.Trees.{pruned}
-use Rattle.page_tree.proofs.Put.{owner_below, others_detached, other_not_in, pruned_off}
+use Rattle.page_nodes.proofs.Owners.{same_is, is_same}
+use Rattle.page_nodes.specs.Trees.{pruned}
+use Rattle.page_nodes.proofs.Put.{owner_below, others_detached, other_not_in, pruned_off}
 use Rattle.tree_ops.proofs.Absent.{grafted_off, relabelled_off}
-use Rattle.page_tree.proofs.Lists.{cases, listed_place}
+use Rattle.page_nodes.proofs.Lists.{cases, listed_place}
 
 some_is : (a b : ℕ) → Some a ≡ Some b → a ≡ b
 some_is a b h = cc

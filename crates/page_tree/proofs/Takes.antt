@@ -1,5 +1,5 @@
 -- A tree is added to a page, or refused.
-use Rattle.std.proofs.Common.{◌≡◌, ℕ, ◌+◌, ◌-◌, ◌<◌, ◌≤◌, List, true, false, refl, sym, ap, ◌∙◌, subst, arith, length, take, get_or, set, Result, Ok, Err}
+use Rattle.std.proofs.Common.{◌≡◌, ℕ, ◌+◌, ◌-◌, ◌<◌, ◌≤◌, List, true, false, refl, sym, ap, ◌∙◌, subst, arith, get_or, set, Result, Ok, Err}
 use Rattle.std.specs.Prelude.{IfOk, IfErr, OnOk}
 use Rattle.std.specs.Result.{IsErrAnd}
 use Rattle.code_units.specs.declared.owner.Owner.{Owner}
@@ -7,16 +7,15 @@ use Rattle.code_units.specs.declared.owner.Owner.TheVariants as owner
 use Rattle.plain_tree.specs.Trees.{Trees, End, Node, PlainTrees, unmarked, size, height}
 use Rattle.page_tree.specs.declared.fault.PageFault.{PageFault}
 use Rattle.page_tree.specs.declared.fault.PageFault.TheVariants as fault
-use Rattle.page_tree.specs.Owners.{is_owner, same_owner, slot}
-use Rattle.page_tree.specs.Entries.{Entry, at, body, tree, limit, IsSound}
-use Rattle.page_tree.proofs.Shows.{tree_lower}
+use Rattle.page_nodes.specs.Owners.{is_owner, same_owner, slot}
+use Rattle.page_nodes.specs.Entries.{Entry, at, body, tree, limit, IsSound}
+use Rattle.page_nodes.proofs.Shows.{tree_lower}
 use Rattle.tree_ops.specs.Trees.{copied}
 use Rattle.page_tree.specs.Counts.{count_of, most_of, IsCounted}
-use Rattle.page_tree.specs.Adds.{Older, IsAdded}
+use Rattle.page_nodes.specs.Adds.{IsAdded}
 use Rattle.page_tree.specs.Pages.{MayAdd, IsTooMany, RefusesAdd, RefusesCopy}
-use Rattle.page_tree.proofs.Adds.{older_take}
 use Rattle.page_tree.proofs.Counts.{counted_added}
-use Rattle.page_tree.proofs.Walk.{limit_is}
+use Rattle.page_nodes.proofs.Walk.{limit_is}
 
 pub kept_is : (k : List Entry) (made : List ℕ) (o : Owner) (i : ℕ) → IsCounted k made → is_owner o ≡ true → i ≡ slot o → get_or made i 0 ≡ count_of o k
 kept_is k made o i c io e = ap (λ q. get_or made q 0) e ∙ c.counts o io
@@ -35,10 +34,6 @@ pub counted_now : (k m : List Entry) (made : List ℕ) (id : ℕ) (o : Owner) (p
 counted_now k m made id o p i j most most2 left c g io ei ej em em2 room =
     let kept = kept_is k made o i c io ei in
     subst (λ q. IsCounted m (set made q (most2 - left))) (sym ej) (counted_added k m made id (most2 - left) o p c g io (omega (arith, room, em, em2, kept, c.most o io)) (omega (arith, em2)))
-
--- after a refusal the new nodes are taken away
-pub taken_back : (k m : List Entry) (n : ℕ) → n ≡ length k → Older k m → take n m ≡ k
-taken_back k m n e h = ap (λ q. take q m) e ∙ older_take k m h.long h.same
 
 -- a copy is as high as its tree
 height_copied : (ts : Trees ℕ) → height (unmarked (copied ts)) ≡ height ts

@@ -6,11 +6,11 @@ use Rattle.code_units.specs.declared.owner.Owner.{Owner}
 use Rattle.code_units.specs.declared.owner.Owner.TheVariants as owner
 use Rattle.plain_tree.specs.Trees.{PlainTrees}
 use Rattle.page_tree.specs.declared.page.Page.{Page}
-use Rattle.page_tree.specs.Adds.{IsAdded}
-use Rattle.page_tree.specs.Entries.{Entry, at, listed, IsSound}
-use Rattle.page_tree.specs.Owners.{is_owner}
+use Rattle.page_nodes.specs.Adds.{IsAdded}
+use Rattle.page_nodes.specs.Entries.{Entry, at, listed, IsSound}
+use Rattle.page_nodes.specs.Owners.{is_owner}
 use Rattle.page_tree.specs.Pages.{nodes, root, BecomesRoot, root_after}
-use Rattle.page_tree.proofs.Walk.{child_in, listed_at}
+use Rattle.page_nodes.proofs.Walk.{child_in, listed_at}
 
 pub added_own : (k m : List Entry) (n : ℕ) (o : Owner) (p : PlainTrees) → IsAdded k m n o p → (at m n).owner ≡ o
 added_own k m n o p g = g.own n (omega (arith, g.number)) g.is_in

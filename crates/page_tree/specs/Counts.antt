@@ -2,8 +2,8 @@
 use Rattle.std.specs.Prelude.{◌≡◌, ℕ, ◌+◌, ◌≤◌, List, [], ◌∷◌, length, slice_index_or, true, if◌then◌else◌}
 use Rattle.code_units.specs.declared.owner.Owner.{Owner}
 use Rattle.code_units.specs.declared.owner.Owner.TheVariants as owner
-use Rattle.page_tree.specs.Owners.{is_owner, same_owner, slot}
-use Rattle.page_tree.specs.Entries.{Entry}
+use Rattle.page_nodes.specs.Owners.{is_owner, same_owner, slot}
+use Rattle.page_nodes.specs.Entries.{Entry}
 
 -- the nodes that an owner ever made
 abbrev pub count_of : Owner → List Entry → ℕ

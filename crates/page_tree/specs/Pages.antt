@@ -2,18 +2,18 @@
 use Rattle.std.specs.Prelude.{◌≡◌, ℕ, ◌+◌, ◌<◌, ◌≤◌, List, length, Option, Some, None, true, false, not, ◌&&◌, ◌==◌, if◌then◌else◌, ◌⊎◌, ◌≢◌, slice_index}
 use Rattle.code_units.specs.declared.owner.Owner.{Owner}
 use Rattle.code_units.specs.declared.owner.Owner.TheVariants as owner
-use Rattle.plain_tree.specs.Trees.{PlainTrees, height, size}
+use Rattle.plain_tree.specs.Trees.{PlainTrees, unmarked, height, size}
 use Rattle.page_tree.specs.declared.fault.PageFault.{PageFault}
 use Rattle.page_tree.specs.declared.fault.PageFault.TheVariants as fault
 use Rattle.page_tree.specs.declared.page.Page.{Page}
 use Rattle.tree_ops.specs.Labels.{is_leaf}
-use Rattle.tree_ops.specs.Trees.{has}
-use Rattle.page_tree.specs.Trees.{level, pruned}
-use Rattle.page_tree.specs.Owners.{is_owner, root_in, same_owner}
-use Rattle.page_tree.specs.Entries.{Entry, at, body, listed, tree, limit}
-use Rattle.page_tree.specs.Moves.{KeepsNodes, put_all, parents_after}
+use Rattle.tree_ops.specs.Trees.{has, copied}
+use Rattle.page_nodes.specs.Trees.{level, pruned}
+use Rattle.page_nodes.specs.Owners.{is_owner, root_in, same_owner}
+use Rattle.page_nodes.specs.Entries.{Entry, at, body, listed, tree, limit, IsSound}
+use Rattle.page_nodes.specs.Moves.{KeepsNodes, put_all, parents_after, Puts, Detached}
 use Rattle.page_tree.specs.Counts.{count_of, most_of}
-use Rattle.page_tree.specs.Arenas.{nodes_in}
+use Rattle.page_nodes.specs.Arenas.{nodes_in}
 
 -- the nodes of a page, in the order of their numbers, which is that of their birth
 abbrev pub nodes : Page → List Entry
@@ -106,6 +106,15 @@ pub record IsReplaced (old new : List Entry) (t n : ℕ) (ns : List ℕ) : Type 
 abbrev pub Replaces : List Entry → List Entry → (Owner → Option ℕ) → ℕ → List ℕ → Type 0
 Replaces old new root n ns = (t : ℕ) × MayReplace old root t n ns × IsReplaced old new t n ns
 
+-- The same as steps: the nodes are put before the node under its parent, and then it is taken from there. The page in between keeps what every page keeps.
+pub record ReplaceSteps (old new : List Entry) (n : ℕ) (ns : List ℕ) : Type 0 where
+  pub parent : ℕ
+  pub is : (at old n).parent ≡ Some parent
+  pub page : List Entry
+  pub put : Puts old parent (Some n) ns page
+  pub sound : IsSound page
+  pub taken : Detached page new n
+
 -- the host, or a widget without a root
 abbrev pub HasNone : List (Option ℕ) → Owner → Type 0
 HasNone roots owner.Host = Unit {0}
@@ -142,6 +151,10 @@ RefusesAdd k o p fault.TooDeep = limit < height p
 RefusesAdd k o p (fault.Nodes kept) = (height p ≤ limit) × IsTooMany k o p kept
 RefusesAdd k o p fault.Memory = MayAdd k o p
 RefusesAdd k o p fault.NotInside = ⊥
+
+-- the copy of a node, without ids and numbers
+abbrev pub copy_of : List Entry → ℕ → PlainTrees
+copy_of k n = unmarked (copied (tree k n))
 
 -- A copy is never too deep. Memory may be wanted before its nodes are counted.
 abbrev pub RefusesCopy : List Entry → Owner → PlainTrees → PageFault → Type 0

@@ -2,8 +2,8 @@
 use Rattle.std.specs.Prelude.{◌≡◌, ℕ, ◌<◌, List, Option, Some, true, false, length}
 use Rattle.code_units.specs.declared.owner.Owner.{Owner}
 use Rattle.code_units.specs.declared.owner.Owner.TheVariants as owner
-use Rattle.page_tree.specs.Owners.{is_owner, same_owner, root_in}
-use Rattle.page_tree.specs.Entries.{Entry, at, body}
+use Rattle.page_nodes.specs.Owners.{is_owner, same_owner, root_in}
+use Rattle.page_nodes.specs.Entries.{Entry, at, body}
 
 -- An owner's root is its own and stands under `body` or has no parent. What stands under `body` is the host's or its owner's root.
 pub record IsRooted (k : List Entry) (roots : List (Option ℕ)) : Type 0 where

@@ -1,33 +1,30 @@
 //! The page: the arena with the root of each owner.
 ghost use Rattle.std.specs.Prelude.{◌≡◌, ◌≢◌, ℕ, ◌+◌, ◌<◌, ◌≤◌, Some, None, true, [], ◌∷◌, IfOk, length, slice_get, option_copied, false, slice_index, slice_set, replicate, MatchBool, MatchResult, OnOk, OnErr, IfErr, Result, Ok, Err};
 ghost use Rattle.code_units.specs.declared.owner.Owner.TheVariants as owner;
-ghost use Rattle.page_tree.specs.Owners.{is_owner, same_owner, root_in};
-ghost use Rattle.page_tree.specs.Entries.{at, body, body_entry, tree, label_of, listed, distinct, limit};
+ghost use Rattle.page_nodes.specs.Owners.{is_owner, same_owner, root_in};
+ghost use Rattle.page_nodes.specs.Entries.{at, body, body_entry, tree, label_of, listed, distinct, limit};
 ghost use Rattle.tree_ops.specs.Labels.{is_leaf, is_text, tag_of, text_of, attribute_of, with_attribute};
 ghost use Rattle.code_units.specs.declared.owner.Owner.{Owner};
 ghost use Rattle.tree_ops.specs.Trees.{has, is_number};
-ghost use Rattle.page_tree.specs.Moves.{Detached, IsDepth, ArePut, IsLinked, IsSwapped, IsRelabelled, AreNodes, OthersStay};
+ghost use Rattle.page_nodes.specs.Moves.{Detached, IsDepth, ArePut, Puts, IsLinked, IsSwapped, IsRelabelled, AreNodes, OthersStay};
 ghost use Rattle.plain_tree.specs.Trees.{TextOf, unmarked, size, height};
 ghost use Rattle.plain_tree.specs.Plains.{unplaced};
 ghost use Rattle.page_tree.specs.Counts.{IsCounted, count_of, most_of};
-ghost use Rattle.page_tree.specs.Adds.{IsAdded, OlderStay};
-ghost use Rattle.code_units.specs.declared.owner.Owner.{Owner};
-ghost use Rattle.tree_ops.specs.Trees.{has, copied};
-ghost use Rattle.page_tree.specs.Arenas.{nodes_in};
-ghost use Rattle.page_tree.specs.Ids.{with_id};
-ghost use Rattle.page_tree.specs.Index.{IsIndex};
+ghost use Rattle.page_nodes.specs.Adds.{IsAdded, OlderStay};
+ghost use Rattle.page_nodes.specs.Arenas.{nodes_in};
+ghost use Rattle.page_nodes.specs.Ids.{with_id};
+ghost use Rattle.page_nodes.specs.Index.{IsIndex};
+ghost use Rattle.page_tree.specs.Documents.{document};
 ghost use Rattle.page_tree.specs.Roots.{IsRooted};
 ghost use Rattle.std.proofs.Props.{props};
 
-use crate::arena::{Arena, BODY};
-use crate::copies::{is_low, room_after};
 use crate::fault::PageFault;
-use crate::ids::Ids;
-use crate::links::is_number;
-use crate::rows::Content;
-use crate::slots::{OWNERS, same_owner, slot_of};
-use crate::{content, index};
 use code_units::{Memory, Owner, Text};
+use keyed_names::Keys;
+use page_nodes::{
+    Arena, BODY, Content, Ids, OWNERS, content, index, is_low, is_number, room_after, same_owner,
+    slot_of,
+};
 use plain_tree::{Plain, is_void};
 use std::alloc::Global;
 
@@ -88,16 +85,16 @@ fn is_leaf(content: &Content) -> bool
 }
 
 impl Page {
-    ghost use Rattle.page_tree.specs.Pages.{nodes, root, IsInside, IsNotInside, IsLow, IsTooDeep, SomeNode, MayPutAll, RefusesAll, RefusesPut, MayReplace, RefusesReplaceFirst, RefusesReplace, Replaces, HasNoRoot, root_after, IsReplaced, MayAdd, RefusesAdd, RefusesCopy, HasHostRoom, SameRoots, BecomesRoot, IsRoot};
+    ghost use Rattle.page_tree.specs.Pages.{nodes, root, IsInside, IsNotInside, IsLow, IsTooDeep, SomeNode, MayPutAll, RefusesAll, RefusesPut, MayReplace, RefusesReplaceFirst, RefusesReplace, Replaces, ReplaceSteps, HasNoRoot, root_after, IsReplaced, MayAdd, RefusesAdd, RefusesCopy, copy_of, HasHostRoom, SameRoots, BecomesRoot, IsRoot};
 
-    /// The page of the host's `body` alone.
-    pub fn new(alloc: Global) -> Result<Page, Memory>
+    /// The page of the host's `body` alone. Its table of ids hashes by these keys.
+    pub fn new(alloc: Global, keys: Keys) -> Result<Page, Memory>
         ensures nodes { IfOk result (λ page. nodes page ≡ body_entry ∷ []) }
         ensures roots { IfOk result (λ page. (w : ℕ) → w < 32 → root page (owner.Widget w) ≡ None) }
         ensures host { IfOk result (λ page. root page owner.Host ≡ Some body) }
     {
         let arena = Arena::new(alloc)?;
-        let ids = Ids::new(alloc)?;
+        let ids = Ids::new(alloc, keys)?;
         Ok(Page {
             arena,
             roots: first_roots(),
@@ -114,11 +111,21 @@ impl Page {
         ensures down { (n c : ℕ) → listed c (at (nodes self.now) n).children ≡ true → (at (nodes self.now) c).parent ≡ Some n }
         ensures upward { (n p : ℕ) → (at (nodes self.now) n).parent ≡ Some p → listed n (at (nodes self.now) p).children ≡ true }
         ensures once { (n : ℕ) → distinct (at (nodes self.now) n).children ≡ true }
-        ensures owned { (n p : ℕ) → (at (nodes self.now) n).parent ≡ Some p → p ≢ body → (at (nodes self.now) n).owner ≡ (at (nodes self.now) p).owner }
+        ensures owned { (n p : ℕ) → (at (nodes self.now) n).parent ≡ Some p → p ≢ body →
+            (at (nodes self.now) n).owner ≡ (at (nodes self.now) p).owner }
         ensures apart { (n p : ℕ) → (at (nodes self.now) n).parent ≡ Some p → has p (tree (nodes self.now) n) ≡ false }
         ensures low { (n : ℕ) → n ≢ body → height (tree (nodes self.now) n) ≤ limit }
         ensures roots { (o : Owner) (r : ℕ) → is_owner o ≡ true → root self.now o ≡ Some r → IsRoot (nodes self.now) o r }
-        ensures under { (n : ℕ) → (at (nodes self.now) n).parent ≡ Some body → (at (nodes self.now) n).owner ≢ owner.Host → root self.now (at (nodes self.now) n).owner ≡ Some n }
+        ensures under { (n : ℕ) → (at (nodes self.now) n).parent ≡ Some body → (at (nodes self.now) n).owner ≢ owner.Host →
+            root self.now (at (nodes self.now) n).owner ≡ Some n }
+    {
+        let _arena = &self.arena;
+    }
+
+    /// A law: in the document of an owner each node stands once.
+    pub fn nodes_stand_once(&self, owner: Owner)
+        requires { is_owner owner ≡ true }
+        ensures { distinct (document (nodes self.now) (root self.now owner) owner) ≡ true }
     {
         let _arena = &self.arena;
     }
@@ -153,6 +160,14 @@ impl Page {
         ensures { result ≡ (at (nodes self.now) node).owner }
     {
         self.arena.owner(node)
+    }
+
+    /// How many nodes stand above a node and with it, `body` not counted.
+    pub fn depth(&self, node: NodeId) -> u32
+        requires { node < length (nodes self.now) }
+        ensures { IsDepth (nodes self.now) node result }
+    {
+        self.arena.depth(node)
     }
 
     /// The root of an owner. That of the host is `body`.
@@ -230,8 +245,9 @@ impl Page {
         true
     }
 
-    // Whether nodes may be put under a target. What is not inside is told before what is too deep.
-    fn may_put_all(&self, target: NodeId, news: &[NodeId]) -> Result<(), PageFault>
+    /// Whether `append` may put nodes under a target. It answers as `append` does, but for want of
+    /// memory, and takes none.
+    pub fn may_append(&self, target: NodeId, news: &[NodeId]) -> Result<(), PageFault>
         requires target { target < length (nodes self.now) }
         requires news { AreNodes (nodes self.now) news.now }
         ensures { MatchResult result
@@ -257,14 +273,14 @@ impl Page {
         requires news { AreNodes (nodes self.old) news.now }
         ensures allowed { OnOk result (MayPutAll (nodes self.old) (root self.old) target news.now) }
         ensures done { OnOk result (ArePut (nodes self.old) (nodes self.new) target None news.now) }
+        ensures steps { OnOk result (Puts (nodes self.old) target None news.now (nodes self.new)) }
         ensures refused { IfErr result (RefusesPut (nodes self.old) (root self.old) target news.now) }
         ensures unchanged { OnErr result (nodes self.new ≡ nodes self.old) }
         ensures others { OthersStay (nodes self.old) (nodes self.new) target }
         ensures roots { SameRoots self.old self.new }
     {
-        self.may_put_all(target, news)?;
-        self.arena.reserve(target, news.len())?;
-        self.arena.put_all(target, None, news);
+        self.may_append(target, news)?;
+        self.arena.put_all(target, None, news)?;
         Ok(())
     }
 
@@ -282,7 +298,7 @@ impl Page {
         let Some(parent) = self.arena.parent(node) else {
             return Err(PageFault::NotInside);
         };
-        self.may_put_all(parent, news)?;
+        self.may_append(parent, news)?;
         Ok(parent)
     }
 
@@ -293,14 +309,14 @@ impl Page {
         requires node { node < length (nodes self.old) }
         requires news { AreNodes (nodes self.old) news.now }
         ensures done { OnOk result (Replaces (nodes self.old) (nodes self.new) (root self.old) node news.now) }
+        ensures steps { OnOk result (ReplaceSteps (nodes self.old) (nodes self.new) node news.now) }
         ensures refused { IfErr result (RefusesReplace (nodes self.old) (root self.old) node news.now) }
         ensures unchanged { OnErr result (nodes self.new ≡ nodes self.old) }
         ensures others { OthersStay (nodes self.old) (nodes self.new) node }
         ensures roots { SameRoots self.old self.new }
     {
         let target = self.may_replace(node, news)?;
-        self.arena.reserve(target, news.len())?;
-        self.arena.put_all(target, Some(node), news);
+        self.arena.put_all(target, Some(node), news)?;
         self.arena.detach(node);
         Ok(())
     }
@@ -349,6 +365,22 @@ impl Page {
     {
         self.arena.swap(old, new);
         Page::set_root(&mut self.roots, self.arena.owner(new), new);
+    }
+
+    /// The children of a node.
+    pub fn children(&self, node: NodeId) -> &[NodeId]
+        requires { node < length (nodes self.now) }
+        ensures { result.now ≡ (at (nodes self.now) node).children }
+    {
+        self.arena.children(node)
+    }
+
+    /// What a node is: an element with its tag and its attributes, or a text.
+    pub fn content(&self, node: NodeId) -> &Content
+        requires { node < length (nodes self.now) }
+        ensures { label_of result.now ≡ (at (nodes self.now) node).label }
+    {
+        self.arena.content(node)
     }
 
     /// The tag of an element, none exactly for a text node.
@@ -426,7 +458,7 @@ impl Page {
         self.made[slot_of(owner)]
     }
 
-    /// The plain tree of a node. Its places are 0.
+    /// The plain tree of a node.
     pub fn plain_of(&self, alloc: Global, node: NodeId) -> Result<Plain, Memory>
         requires { node < length (nodes self.now) }
         ensures { IfOk result (λ plain. unplaced plain ≡ unmarked (tree (nodes self.now) node)) }
@@ -463,9 +495,10 @@ impl Page {
     pub fn copy(&mut self, alloc: Global, node: NodeId) -> Result<NodeId, PageFault>
         requires node { node < length (nodes self.old) }
         requires widget { same_owner (at (nodes self.old) node).owner owner.Host ≡ false }
-        ensures allowed { OnOk result (MayAdd (nodes self.old) (at (nodes self.old) node).owner (unmarked (copied (tree (nodes self.old) node)))) }
-        ensures done { IfOk result (λ id. IsAdded (nodes self.old) (nodes self.new) id (at (nodes self.old) node).owner (unmarked (copied (tree (nodes self.old) node)))) }
-        ensures refused { IfErr result (RefusesCopy (nodes self.old) (at (nodes self.old) node).owner (unmarked (copied (tree (nodes self.old) node)))) }
+        ensures allowed { OnOk result (MayAdd (nodes self.old) (at (nodes self.old) node).owner (copy_of (nodes self.old) node)) }
+        ensures done { IfOk result (λ id.
+            IsAdded (nodes self.old) (nodes self.new) id (at (nodes self.old) node).owner (copy_of (nodes self.old) node)) }
+        ensures refused { IfErr result (RefusesCopy (nodes self.old) (at (nodes self.old) node).owner (copy_of (nodes self.old) node)) }
         ensures unchanged { OnErr result (nodes self.new ≡ nodes self.old) }
         ensures others { OlderStay (nodes self.old) (nodes self.new) }
         ensures roots { SameRoots self.old self.new }

@@ -8,10 +8,11 @@ use Rattle.page_tree.specs.declared.page.Page.{Page}
 use Rattle.page_tree.specs.Entries.{Entry, at, listed, distinct}
 use Rattle.page_tree.specs.Pages.{nodes}
 use Rattle.tree_ops.specs.Trees.{is_number}
-use Rattle.page_tree.proofs.Upward.{parent_in}
+use Rattle.page_nodes.proofs.Upward.{parent_in}
 use Rattle.query_grammar.specs.declared.query.Hunter.TheVariants as hunter
 use Rattle.query_lang.specs.Nodes.{is_element}
-use Rattle.query_lang.specs.Finds.{links, is_tagged, hunted, parent_within}
+use Rattle.page_tree.specs.Documents.{parent_within}
+use Rattle.query_lang.specs.Finds.{links, is_tagged, hunted}
 use Rattle.query_grammar.specs.Finds.{has_number, after_number, element_behind, next_element}
 use Rattle.query_lang.specs.Walks.{AreNodes, is_start, next_ones}
 use Rattle.query_lang.proofs.Downward.{sound, filter-append}

@@ -9,9 +9,9 @@ use Rattle.page_tree.specs.declared.page.Page.{Page}
 use Rattle.page_tree.specs.Entries.{Entry, at, tree, IsSound}
 use Rattle.page_tree.specs.Pages.{nodes}
 use Rattle.page_tree.specs.Roots.{IsRooted}
-use Rattle.page_tree.proofs.Shows.{Shows, none, one_more, shows_one, shows_tree}
-use Rattle.page_tree.proofs.Walk.{listed_at, child_in, child_lower}
-use Rattle.query_lang.specs.Finds.{within, below}
+use Rattle.page_nodes.proofs.Shows.{Shows, none, one_more, shows_one, shows_tree}
+use Rattle.page_nodes.proofs.Walk.{listed_at, child_in, child_lower}
+use Rattle.page_tree.specs.Documents.{within, below}
 use Rattle.tree_ops.specs.Trees.{numbers}
 
 -- ## Pages

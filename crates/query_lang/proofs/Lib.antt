@@ -1,11 +1,9 @@
 pub mod Behind
 pub mod Between
-pub mod Cuts
 pub mod Downward
 pub mod Marked
 pub mod Members
 pub mod Ordered
-pub mod Reading
 pub mod Rising
 pub mod Siblings
 pub mod WithId

@@ -6,8 +6,8 @@ use Rattle.std.specs.Prelude.{is_some}
 use Rattle.page_tree.specs.declared.page.Page.{Page}
 use Rattle.page_tree.specs.Entries.{at}
 use Rattle.page_tree.specs.Pages.{nodes}
-use Rattle.page_tree.proofs.Walk.{some_is_same}
-use Rattle.page_tree.proofs.Upward.{none_some}
+use Rattle.page_nodes.proofs.Walk.{some_is_same}
+use Rattle.page_nodes.proofs.Upward.{none_some}
 use Rattle.query_grammar.specs.Finds.{has_number}
 use Rattle.query_lang.specs.Walks.{AreNodes, IsClosed, AreTops}
 use Rattle.query_lang.proofs.Ordered.{IsClosedBut, has_added}

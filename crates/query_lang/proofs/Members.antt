@@ -9,13 +9,14 @@ use Rattle.page_tree.specs.declared.page.Page.{Page}
 use Rattle.page_tree.specs.Owners.{is_owner}
 use Rattle.page_tree.specs.Entries.{Entry, at}
 use Rattle.page_tree.specs.Pages.{nodes, root}
-use Rattle.page_tree.proofs.Walk.{child_in}
+use Rattle.page_nodes.proofs.Walk.{child_in}
 use Rattle.query_grammar.specs.declared.query.Hunter.{Hunter}
 use Rattle.query_grammar.specs.declared.query.Hunter.TheVariants as hunter
 use Rattle.query_grammar.specs.declared.query.StepFilter.{StepFilter}
 use Rattle.query_grammar.specs.Steps.{Step}
 use Rattle.query_lang.specs.Nodes.{look, is_element}
-use Rattle.query_lang.specs.Finds.{within, below, parent_within, links, is_tagged, has_id, hunted, is_loose, tops, document, in_order, filtered, all_filtered, sight, finds}
+use Rattle.page_tree.specs.Documents.{within, below, parent_within, is_loose, tops, document}
+use Rattle.query_lang.specs.Finds.{links, is_tagged, has_id, hunted, in_order, filtered, all_filtered, sight, finds}
 use Rattle.query_grammar.specs.Finds.{after_number, has_number, element_behind, next_element}
 use Rattle.query_lang.specs.Walks.{AreNodes, HaveSame}
 use Rattle.query_lang.proofs.Downward.{sound, rooted}

@@ -11,10 +11,11 @@ use Rattle.page_tree.specs.declared.page.Page.{Page}
 use Rattle.tree_ops.specs.Trees.{has}
 use Rattle.page_tree.specs.Entries.{Entry, at, listed, tree, limit, IsSound, no_entry}
 use Rattle.page_tree.specs.Pages.{nodes, root}
-use Rattle.page_tree.proofs.Shows.{shows_tree}
-use Rattle.page_tree.proofs.Upward.{has_parent, none_some}
-use Rattle.page_tree.proofs.Walk.{nearer}
-use Rattle.query_lang.specs.Finds.{within, is_loose, in_order, document, tops}
+use Rattle.page_nodes.proofs.Shows.{shows_tree}
+use Rattle.page_nodes.proofs.Upward.{has_parent, none_some}
+use Rattle.page_nodes.proofs.Walk.{nearer}
+use Rattle.page_tree.specs.Documents.{within, is_loose, document, tops}
+use Rattle.query_lang.specs.Finds.{in_order}
 use Rattle.query_grammar.specs.Finds.{has_number}
 use Rattle.tree_ops.specs.Trees.{numbers}
 use Rattle.query_lang.specs.Walks.{AreNodes, IsClosed, AreTops, RiseFrom}

@@ -16,13 +16,14 @@ use Rattle.page_tree.specs.Entries.{Entry, at, body, tree, limit, IsSound}
 use Rattle.page_tree.specs.Pages.{nodes, root}
 use Rattle.page_tree.specs.Ids.{with_id}
 use Rattle.page_tree.specs.Ids.{has_id as bears_id}
-use Rattle.page_tree.proofs.Owners.{same_is, is_same}
-use Rattle.page_tree.proofs.Shows.{Shows, none, one_more, shows_tree, shows_one}
-use Rattle.page_tree.proofs.Upward.{has_itself, none_some}
-use Rattle.page_tree.proofs.Walk.{nearer, some_is_same, without_body}
+use Rattle.page_nodes.proofs.Owners.{same_is, is_same}
+use Rattle.page_nodes.proofs.Shows.{Shows, none, one_more, shows_tree, shows_one}
+use Rattle.page_nodes.proofs.Upward.{has_itself, none_some}
+use Rattle.page_nodes.proofs.Walk.{nearer, some_is_same, without_body}
 use Rattle.query_grammar.specs.declared.query.Hunter.TheVariants as hunter
 use Rattle.query_grammar.specs.Filters.{is_equal}
-use Rattle.query_lang.specs.Finds.{within, below, has_id, hunted, is_loose, tops, document}
+use Rattle.page_tree.specs.Documents.{within, below, is_loose, tops, document}
+use Rattle.query_lang.specs.Finds.{has_id, hunted}
 use Rattle.query_grammar.specs.Finds.{has_number}
 use Rattle.query_lang.specs.Walks.{AreNodes, HaveSame, below_any}
 use Rattle.query_lang.proofs.Downward.{sound, rooted, within_is}

@@ -1,33 +1,18 @@
 -- What queries find on a page.
-use Rattle.std.specs.Prelude.{◌≡◌, ℕ, List, ◌++◌, length, Bool, true, not, ◌&&◌, if◌then◌else◌, Option, None, is_some, option_to_list}
-use Rattle.std.specs.List.{filter, flat_map, range_with_len}
+use Rattle.std.specs.Prelude.{◌≡◌, ℕ, List, Bool, true, Option}
 use Rattle.code_units.specs.declared.owner.Owner.{Owner}
 use Rattle.page_tree.specs.declared.page.Page.{Page}
-use Rattle.page_tree.specs.Entries.{Entry, at, tree}
-use Rattle.page_tree.specs.Owners.{same_owner}
+use Rattle.page_tree.specs.Documents.{below, parent_within, document}
+use Rattle.page_tree.specs.Entries.{Entry, at}
 use Rattle.page_tree.specs.Pages.{nodes, root}
-use Rattle.tree_ops.specs.Trees.{is_number}
 use Rattle.query_grammar.specs.declared.query.Hunter.{Hunter}
 use Rattle.query_grammar.specs.declared.query.StepFilter.{StepFilter}
 use Rattle.query_grammar.specs.Steps.{Step}
 use Rattle.query_grammar.specs.Finds as query
 use Rattle.query_grammar.specs.Finds.{Links, Sight, has_number}
-use Rattle.tree_ops.specs.Trees.{numbers}
 use Rattle.query_lang.specs.Nodes.{look}
 
 -- ## The links of a page
-
--- a node with what is below it
-abbrev pub within : List Entry → ℕ → List ℕ
-within k n = numbers (tree k n)
-
--- what is below a node
-abbrev pub below : List Entry → ℕ → List ℕ
-below k n = flat_map (within k) (at k n).children
-
--- the parent under which a node has siblings; the root has none
-abbrev pub parent_within : List Entry → Option ℕ → ℕ → Option ℕ
-parent_within k r n = if is_number n r then None else (at k n).parent
 
 -- what a hunter sees of the page of a widget with this root
 abbrev pub links : List Entry → Option ℕ → Links
@@ -46,18 +31,6 @@ abbrev pub hunted : List Entry → Option ℕ → Hunter → ℕ → List ℕ
 hunted k r h n = query.hunted (links k r) h n
 
 -- ## Document order
-
--- the top of a detached tree of the owner
-abbrev pub is_loose : List Entry → Option ℕ → Owner → ℕ → Bool
-is_loose k r o n = same_owner (at k n).owner o && not (is_some (at k n).parent) && not (is_number n r)
-
--- the tops of the owner's trees: the root, and then the others by their age
-abbrev pub tops : List Entry → Option ℕ → Owner → List ℕ
-tops k r o = option_to_list r ++ filter (is_loose k r o) (range_with_len 0 (length k))
-
--- the owner's nodes in document order
-abbrev pub document : List Entry → Option ℕ → Owner → List ℕ
-document k r o = flat_map (within k) (tops k r o)
 
 -- those that are among these nodes, in document order
 abbrev pub in_order : List Entry → Option ℕ → Owner → List ℕ → List ℕ

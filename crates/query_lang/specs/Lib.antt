@@ -1,6 +1,4 @@
-pub mod Faults
+pub use Rattle.query_text.specs.Faults
 pub mod Finds
 pub mod Nodes
-pub mod Reads
-pub mod Runs
 pub mod Walks

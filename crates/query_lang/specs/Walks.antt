@@ -1,16 +1,18 @@
 -- What a walk takes.
 use Rattle.std.specs.Prelude.{◌≡◌, ℕ, ◌<◌, ◌+◌, ◌≤◌, List, [], ◌∷◌, Bool, true, false, ◌&&◌, ◌||◌, ◌++◌, if◌then◌else◌, length, Option, Some, is_some, not}
-use Rattle.std.specs.List.{filter, list_any}
+use Rattle.std.specs.List.{filter, flat_map, list_any}
 use Rattle.code_units.specs.declared.owner.Owner.{Owner}
 use Rattle.page_tree.specs.declared.page.Page.{Page}
 use Rattle.page_tree.specs.Entries.{Entry, at}
 use Rattle.page_tree.specs.Pages.{nodes, root}
 use Rattle.tree_ops.specs.Trees.{is_number}
+use Rattle.query_grammar.specs.declared.query.Hunter.{Hunter}
 use Rattle.query_lang.specs.declared.wanted.Wanted.{Wanted}
 use Rattle.query_lang.specs.declared.wanted.Wanted.TheVariants as wanted
 use Rattle.query_lang.specs.Nodes.{is_element}
 use Rattle.query_grammar.specs.Finds.{has_number}
-use Rattle.query_lang.specs.Finds.{within, below, document, is_tagged, has_id}
+use Rattle.page_tree.specs.Documents.{within, below, document}
+use Rattle.query_lang.specs.Finds.{is_tagged, has_id, hunted}
 
 -- whether a walk takes a node
 abbrev pub takes : List Entry → Wanted → ℕ → Bool
@@ -44,9 +46,21 @@ AreTops p ns tops = (n : ℕ) → has_number tops n ≡ (has_number ns n && not 
 abbrev pub below_any : List Entry → List ℕ → ℕ → Bool
 below_any k ns n = list_any (λ s. has_number (below k s) n) ns
 
+-- a walk adds what it takes of these nodes
+abbrev pub TakesOf : List Entry → Wanted → List ℕ → List ℕ → List ℕ → Type 0
+TakesOf k w ns old new = new ≡ old ++ filter (takes k w) ns
+
+-- the nodes that a hunter finds from starts, in any order
+abbrev pub AreHunted : List Entry → Option ℕ → Hunter → List ℕ → List ℕ → Type 0
+AreHunted k r h starts ns = (n : ℕ) → has_number ns n ≡ has_number (flat_map (hunted k r h) starts) n
+
 -- two lists have the same of the owner's trees
 abbrev pub HaveSame : Page → Owner → List ℕ → List ℕ → Type 0
 HaveSame p o ns ms = (n : ℕ) → has_number (document (nodes p) (root p o) o) n ≡ true → has_number ns n ≡ has_number ms n
+
+-- what a hunter finds in the trees of an owner, in any order
+abbrev pub AreHuntedOf : Page → Owner → Hunter → List ℕ → List ℕ → Type 0
+AreHuntedOf p o h starts ns = HaveSame p o ns (flat_map (hunted (nodes p) (root p o) h) starts)
 
 -- one of the starts that have siblings
 abbrev pub is_start : Option ℕ → List ℕ → ℕ → Bool

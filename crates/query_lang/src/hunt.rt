@@ -8,9 +8,10 @@ ghost use Rattle.page_tree.specs.Pages.{nodes, root};
 ghost use Rattle.tree_ops.specs.Trees.{is_number};
 ghost use Rattle.query_grammar.specs.declared.query.Hunter.TheVariants as hunter;
 ghost use Rattle.query_lang.specs.Nodes.{is_element};
-ghost use Rattle.query_lang.specs.Finds.{below, hunted, is_tagged, parent_within};
+ghost use Rattle.page_tree.specs.Documents.{below, parent_within};
+ghost use Rattle.query_lang.specs.Finds.{hunted, is_tagged};
 ghost use Rattle.query_grammar.specs.Finds.{has_number};
-ghost use Rattle.query_lang.specs.Walks.{AreNodes, HaveSame, MissesNone, takes, is_start, next_ones};
+ghost use Rattle.query_lang.specs.Walks.{AreNodes, AreHunted, AreHuntedOf, MissesNone, takes, is_start, next_ones};
 
 use crate::marks::{Marks, Risen};
 use crate::named::all_named;
@@ -146,7 +147,7 @@ fn all_next(
     starts: &[NodeId],
 ) -> Result<Vec<NodeId>, Memory>
     requires { AreNodes page.now starts.now }
-    ensures { IfOk result (λ found. (n : ℕ) → has_number found.items n ≡ has_number (flat_map (hunted (nodes page.now) root (hunter.Next tag.now)) starts.now) n) }
+    ensures { IfOk result (λ found. AreHunted (nodes page.now) root (hunter.Next tag.now) starts.now found.items) }
 {
     let marks = Marks::of(alloc, starts)?;
     let parents = parents_of(alloc, page, root, starts)?;
@@ -197,7 +198,7 @@ fn walk_all(
     starts: &[NodeId],
 ) -> Result<Vec<NodeId>, Memory>
     requires { AreNodes page.now starts.now }
-    ensures { IfOk result (λ found. (n : ℕ) → has_number found.items n ≡ has_number (flat_map (hunted (nodes page.now) root hunter.now) starts.now) n) }
+    ensures { IfOk result (λ found. AreHunted (nodes page.now) root hunter.now starts.now found.items) }
 {
     match hunter {
         Hunter::Tag(tag) => all_below(alloc, page, &Wanted::Tagged(tag), starts),
@@ -220,7 +221,7 @@ fn hunt_by_links(
     requires owner { is_owner owner ≡ true }
     requires nodes { AreNodes page.now starts.now }
     ensures nodes { IfOk result (λ found. AreNodes page.now found.items) }
-    ensures found { IfOk result (λ found. HaveSame page.now owner found.items (flat_map (hunted (nodes page.now) (root page.now owner) hunter.now) starts.now)) }
+    ensures found { IfOk result (λ found. AreHuntedOf page.now owner hunter.now starts.now found.items) }
 {
     walk_all(alloc, page, page.root_of(owner), hunter, starts)
 }
@@ -238,7 +239,7 @@ fn hunt_in_widget(
     requires widget { same_owner owner owners.Host ≡ false }
     requires nodes { AreNodes page.now starts.now }
     ensures nodes { IfOk result (λ found. AreNodes page.now found.items) }
-    ensures found { IfOk result (λ found. HaveSame page.now owner found.items (flat_map (hunted (nodes page.now) (root page.now owner) hunter.now) starts.now)) }
+    ensures found { IfOk result (λ found. AreHuntedOf page.now owner hunter.now starts.now found.items) }
 {
     match hunter {
         Hunter::Id(id) => all_named(alloc, page, owner, id, starts),
@@ -258,7 +259,7 @@ pub fn hunt_all(
     requires owner { is_owner owner ≡ true }
     requires nodes { AreNodes page.now starts.now }
     ensures nodes { IfOk result (λ found. AreNodes page.now found.items) }
-    ensures found { IfOk result (λ found. HaveSame page.now owner found.items (flat_map (hunted (nodes page.now) (root page.now owner) hunter.now) starts.now)) }
+    ensures found { IfOk result (λ found. AreHuntedOf page.now owner hunter.now starts.now found.items) }
 {
     match owner {
         Owner::Host => hunt_by_links(alloc, page, owner, hunter, starts),

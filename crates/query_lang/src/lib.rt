@@ -1,6 +1,6 @@
 //! Queries on the nodes of a widget: how they are written, and what they find.
 //!
-//! Which units spell which query, and what it finds of what it sees of a page, is said by `query_grammar`; `specs/Finds.antt` says what it sees of a page.
+//! Which units spell which query, and what it finds of what it sees of a page, is said by `query_grammar`; `specs/Finds.antt` says what it sees of a page. Their text is read by `query_text`.
 #![tactic(auto)]
 
 mod finder;
@@ -9,60 +9,9 @@ mod marks;
 mod named;
 mod nodes;
 mod order;
-mod parts;
-mod read;
 mod wanted;
-
-use code_units::Memory;
-use std::alloc::{AllocError, AllocFailed};
-use thiserror::Error;
-
-/// Why a text gave no query.
-#[derive(Debug, Drop, Error)]
-pub enum QueryFault {
-    /// No query begins with the units up to and with this one; or `at` is the length, where the
-    /// text ends too early.
-    #[error("no query at unit {at}")]
-    BadQuery { at: usize },
-    /// There was no memory for the query.
-    #[error("out of memory")]
-    Memory,
-}
-
-impl From<Memory> for QueryFault {
-    ghost use Rattle.std.specs.Prelude.{◌≡◌};
-    ghost use Rattle.query_lang.specs.declared.QueryFault.TheVariants as fault;
-
-    ghost from_gives = { λ _ e. e ≡ fault.Memory };
-
-    fn from(_: Memory) -> QueryFault {
-        QueryFault::Memory
-    }
-}
-
-impl From<AllocError> for QueryFault {
-    ghost use Rattle.std.specs.Prelude.{◌≡◌};
-    ghost use Rattle.query_lang.specs.declared.QueryFault.TheVariants as fault;
-
-    ghost from_gives = { λ _ e. e ≡ fault.Memory };
-
-    fn from(_: AllocError) -> QueryFault {
-        QueryFault::Memory
-    }
-}
-
-impl<T: Drop> From<AllocFailed<T>> for QueryFault {
-    ghost use Rattle.std.specs.Prelude.{◌≡◌};
-    ghost use Rattle.query_lang.specs.declared.QueryFault.TheVariants as fault;
-
-    ghost from_gives = { λ _ e. e ≡ fault.Memory };
-
-    fn from(_: AllocFailed<T>) -> QueryFault {
-        QueryFault::Memory
-    }
-}
 
 pub use finder::find;
 pub use nodes::test;
 pub use query_grammar::{Filter, Hunter, ListFilter, Query, QueryStep, StepFilter};
-pub use read::read_query;
+pub use query_text::{QueryFault, read_query};

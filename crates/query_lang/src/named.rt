@@ -6,8 +6,7 @@ ghost use Rattle.page_tree.specs.Ids.{with_id};
 ghost use Rattle.page_tree.specs.Owners.{is_owner, same_owner};
 ghost use Rattle.page_tree.specs.Pages.{nodes, root};
 ghost use Rattle.query_grammar.specs.declared.query.Hunter.TheVariants as hunter;
-ghost use Rattle.query_lang.specs.Finds.{hunted};
-ghost use Rattle.query_lang.specs.Walks.{AreNodes, HaveSame, below_any};
+ghost use Rattle.query_lang.specs.Walks.{AreNodes, AreHuntedOf, below_any};
 
 use crate::marks::Marks;
 use code_units::{Memory, Owner, Text};
@@ -74,7 +73,7 @@ pub fn all_named(
     requires owner { is_owner owner ≡ true }
     requires widget { same_owner owner owners.Host ≡ false }
     ensures nodes { IfOk result (λ found. AreNodes page.now found.items) }
-    ensures found { IfOk result (λ found. HaveSame page.now owner found.items (flat_map (hunted (nodes page.now) (root page.now owner) (hunter.Id id.now)) starts.now)) }
+    ensures found { IfOk result (λ found. AreHuntedOf page.now owner (hunter.Id id.now) starts.now found.items) }
 {
     let marks = Marks::of(alloc, starts)?;
     collect_below(alloc, page, &marks, page.with_id(owner, id))

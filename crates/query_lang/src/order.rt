@@ -3,9 +3,10 @@ ghost use Rattle.std.specs.Prelude.{◌≡◌, ℕ, ◌<◌, ◌++◌, [], ◌�
 ghost use Rattle.std.specs.List.{filter, flat_map};
 ghost use Rattle.page_tree.specs.Owners.{is_owner};
 ghost use Rattle.page_tree.specs.Pages.{nodes, root};
-ghost use Rattle.query_lang.specs.Finds.{within, is_loose, in_order};
+ghost use Rattle.page_tree.specs.Documents.{within, is_loose};
+ghost use Rattle.query_lang.specs.Finds.{in_order};
 ghost use Rattle.query_grammar.specs.Finds.{has_number};
-ghost use Rattle.query_lang.specs.Walks.{takes, MissesNone, AreNodes, IsClosed, AreTops};
+ghost use Rattle.query_lang.specs.Walks.{takes, TakesOf, MissesNone, AreNodes, IsClosed, AreTops};
 
 use crate::marks::{Marks, Risen};
 use crate::wanted::Wanted;
@@ -56,7 +57,8 @@ fn walk_root(
 ) -> Result<(), Memory>
     requires root { IfSome root (λ r. r < length (nodes page.now)) }
     requires all { MissesNone page.now wanted.now }
-    ensures { OnOk result (list.new.items ≡ list.old.items ++ filter (takes (nodes page.now) wanted.now) (flat_map (within (nodes page.now)) (option_to_list root))) }
+    ensures { OnOk result (TakesOf (nodes page.now) wanted.now (flat_map (within (nodes page.now)) (option_to_list root))
+        list.old.items list.new.items) }
 {
     match root {
         Some(root) => wanted.collect(page, root, list),
@@ -75,7 +77,8 @@ fn walk_loose(
 ) -> Result<(), Memory>
     requires top { top < length (nodes page.now) }
     requires all { MissesNone page.now wanted.now }
-    ensures { OnOk result (list.new.items ≡ list.old.items ++ filter (takes (nodes page.now) wanted.now) (flat_map (within (nodes page.now)) (filter (is_loose (nodes page.now) root owner) (top ∷ [])))) }
+    ensures { OnOk result (TakesOf (nodes page.now) wanted.now (flat_map (within (nodes page.now)) (filter (is_loose (nodes page.now) root owner) (top ∷ [])))
+        list.old.items list.new.items) }
 {
     if is_loose(page, root, owner, top) {
         return wanted.collect(page, top, list);

@@ -3,7 +3,7 @@ ghost use Rattle.std.specs.Prelude.{◌≡◌, ℕ, ◌<◌, ◌++◌, [], ◌�
 ghost use Rattle.std.specs.List.{filter};
 ghost use Rattle.page_tree.specs.Entries.{at};
 ghost use Rattle.page_tree.specs.Pages.{nodes};
-ghost use Rattle.query_lang.specs.Finds.{within, below};
+ghost use Rattle.page_tree.specs.Documents.{within, below};
 
 use crate::marks::Marks;
 use crate::nodes::{has_tag, has_value, is_element};
@@ -37,7 +37,7 @@ pub fn child_at(page: &Page, node: NodeId, place: u32) -> NodeId
 }
 
 impl Wanted<'_> {
-    ghost use Rattle.query_lang.specs.Walks.{takes, enters, MissesNone};
+    ghost use Rattle.query_lang.specs.Walks.{takes, TakesOf, enters, MissesNone};
 
     // Whether a walk takes a node.
     fn takes(&self, page: &Page, node: NodeId) -> bool
@@ -65,7 +65,8 @@ impl Wanted<'_> {
     /// Takes a node if it is wanted.
     pub fn take(&self, page: &Page, node: NodeId, found: &mut Vec<NodeId>) -> Result<(), Memory>
         requires { node < length (nodes page.now) }
-        ensures { OnOk result (found.new.items ≡ found.old.items ++ filter (takes (nodes page.now) self.now) (node ∷ [])) }
+        ensures { OnOk result (TakesOf (nodes page.now) self.now (node ∷ [])
+            found.old.items found.new.items) }
     {
         if self.takes(page, node) {
             found.push(node)?;
@@ -81,7 +82,8 @@ impl Wanted<'_> {
         found: &mut Vec<NodeId>,
     ) -> Result<(), Memory>
         requires { node < length (nodes page.now) }
-        ensures { OnOk result (found.new.items ≡ found.old.items ++ filter (takes (nodes page.now) self.now) (at (nodes page.now) node).children) }
+        ensures { OnOk result (TakesOf (nodes page.now) self.now (at (nodes page.now) node).children
+            found.old.items found.new.items) }
     {
         'each: for place in 0..page.width(node) {
             self.take(page, child_at(page, node, place), found)?;
@@ -93,7 +95,8 @@ impl Wanted<'_> {
     pub fn collect(&self, page: &Page, node: NodeId, found: &mut Vec<NodeId>) -> Result<(), Memory>
         requires node { node < length (nodes page.now) }
         requires all { MissesNone page.now self.now }
-        ensures { OnOk result (found.new.items ≡ found.old.items ++ filter (takes (nodes page.now) self.now) (within (nodes page.now) node)) }
+        ensures { OnOk result (TakesOf (nodes page.now) self.now (within (nodes page.now) node)
+            found.old.items found.new.items) }
     {
         if !self.enters(node) {
             return Ok(());
@@ -114,7 +117,8 @@ impl Wanted<'_> {
     ) -> Result<(), Memory>
         requires node { node < length (nodes page.now) }
         requires all { MissesNone page.now self.now }
-        ensures { OnOk result (found.new.items ≡ found.old.items ++ filter (takes (nodes page.now) self.now) (below (nodes page.now) node)) }
+        ensures { OnOk result (TakesOf (nodes page.now) self.now (below (nodes page.now) node)
+            found.old.items found.new.items) }
     {
         'each: for place in 0..page.width(node) {
             self.collect(page, child_at(page, node, place), found)?;

@@ -1,6 +1,7 @@
 use Rattle.std.proofs.Common.{refl, sym, ◌∙◌}
 use Rattle.plain_tree.specs.Plains.{unplaced}
-use Rattle.page_output.proofs.Texts.{element_done, element_unclosed, element_cut, children_start, children_step, on_err, prints_none}
+use Rattle.page_output.proofs.PlainTrees.{element_done, element_unclosed, element_cut, children_start, children_step}
+use Rattle.page_output.proofs.Texts.{on_err, prints_none}
 use Rattle.page_output.proofs.markup.+print_plain.Goals as goal
 
 pub each-init : goal.each-init
@@ -19,4 +20,4 @@ pub returns-in_err-push_opening-in-Element-clause-part : goal.returns-in_err-pus
 returns-in_err-push_opening-in-Element-clause-part t c = on_err _ _ (prints_none (unplaced c.args.plain.now) c.args.out.now.items c.push_opening.new.out.items c.in_err-push_opening-in-Element.ensures.err)
 
 pub returns-in_err-print_plain-in-Element-clause-part : goal.returns-in_err-print_plain-in-Element-clause-part
-returns-in_err-print_plain-in-Element-clause-part t c = on_err _ _ (element_cut c.args.plain.now _ _ _ _ c.args.out.now.items _ c.each.out.items c.print_plain.new.out.items c.deref-child-items.result.now c.each.child-index c.child-item.result c.in-Element.is c.deref-child-items.ensures.value (sym c.is_void.ensures ∙ c.if-is_void.false) c.in_ok-push_opening-in-Element.ensures.ok c.each-test.true c.child-item.is c.each.invariant c.in_err-print_plain-in-Element.ensures.part)
+returns-in_err-print_plain-in-Element-clause-part t c = element_cut _ c.args.plain.now _ _ _ _ c.args.out.now.items _ c.each.out.items c.print_plain.new.out.items c.deref-child-items.result.now c.each.child-index c.child-item.result c.in-Element.is c.deref-child-items.ensures.value (sym c.is_void.ensures ∙ c.if-is_void.false) c.in_ok-push_opening-in-Element.ensures.ok c.each-test.true c.child-item.is c.each.invariant c.in_err-print_plain-in-Element.ensures.part

@@ -1,4 +1,4 @@
-use Rattle.page_output.proofs.Texts.{PrintsChildren}
+use Rattle.page_output.proofs.PlainTrees.{PrintsChildren}
 use Rattle.page_output.proofs.markup.+print_plain.Given as goal
 
 -- what is printed of the children

@@ -1,5 +1,5 @@
 use Rattle.std.proofs.Common.{ap, ◌∙◌, subst, sym}
-use Rattle.page_tree.proofs.Lists.{ok_equal}
+use Rattle.page_nodes.proofs.Lists.{ok_equal}
 use Rattle.query_grammar.specs.Finds.{has_number}
 use Rattle.query_grammar.specs.Steps.{Step}
 use Rattle.query_lang.specs.Walks.{AreNodes}

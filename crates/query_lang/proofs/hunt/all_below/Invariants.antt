@@ -1,7 +1,7 @@
 use Rattle.std.proofs.Common.{◌≡◌, ◌++◌, drop}
 use Rattle.std.specs.List.{filter, flat_map}
 use Rattle.page_tree.specs.Pages.{nodes}
-use Rattle.query_lang.specs.Finds.{below}
+use Rattle.page_tree.specs.Documents.{below}
 use Rattle.query_lang.specs.Walks.{takes}
 use Rattle.query_lang.proofs.hunt.all_below.Given as goal
 

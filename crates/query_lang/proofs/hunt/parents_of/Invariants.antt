@@ -3,7 +3,7 @@ use Rattle.std.specs.List.{list_any}
 use Rattle.page_tree.specs.Pages.{nodes}
 use Rattle.tree_ops.specs.Trees.{is_number}
 use Rattle.query_grammar.specs.Finds.{has_number}
-use Rattle.query_lang.specs.Finds.{parent_within}
+use Rattle.page_tree.specs.Documents.{parent_within}
 use Rattle.query_lang.proofs.hunt.parents_of.Given as goal
 
 -- the parents of the starts before this one, and of those that are still to come

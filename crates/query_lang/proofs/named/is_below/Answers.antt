@@ -1,7 +1,7 @@
 use Rattle.std.proofs.Common.{sym, ◌∙◌}
 use Rattle.page_tree.specs.Pages.{nodes}
-use Rattle.page_tree.proofs.Upward.{parent_in}
-use Rattle.page_tree.proofs.Walk.{nearer}
+use Rattle.page_nodes.proofs.Upward.{parent_in}
+use Rattle.page_nodes.proofs.Walk.{nearer}
 use Rattle.query_lang.specs.Walks.{below_any}
 use Rattle.query_lang.proofs.Downward.{sound}
 use Rattle.query_lang.proofs.WithId.{up_on, up_found, up_none}

@@ -1,5 +1,5 @@
 use Rattle.std.proofs.Common.{◌≡◌, sym, ◌∙◌, ap, ⊎_elim, subst, true, ◌||◌, eqb, get_or}
-use Rattle.page_tree.proofs.Lists.{ok_equal}
+use Rattle.page_nodes.proofs.Lists.{ok_equal}
 use Rattle.query_grammar.specs.Finds.{has_number}
 use Rattle.query_lang.specs.Walks.{AreTops, RiseFrom}
 use Rattle.query_lang.proofs.Downward.{itself}

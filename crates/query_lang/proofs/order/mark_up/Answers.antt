@@ -1,7 +1,7 @@
 use Rattle.std.proofs.Common.{sym, ◌∙◌, inl}
 use Rattle.page_tree.specs.Pages.{nodes}
-use Rattle.page_tree.proofs.Upward.{parent_in}
-use Rattle.page_tree.proofs.Walk.{nearer}
+use Rattle.page_nodes.proofs.Upward.{parent_in}
+use Rattle.page_nodes.proofs.Walk.{nearer}
 use Rattle.query_lang.proofs.Downward.{sound}
 use Rattle.query_lang.proofs.Marked.{still_there, either_there, closed_on, closed_top, nodes_on, tops_on, tops_top}
 use Rattle.query_lang.proofs.order.mark_up.Goals as goal

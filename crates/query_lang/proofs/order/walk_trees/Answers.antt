@@ -1,6 +1,6 @@
 use Rattle.std.proofs.Common.{get_or}
 use Rattle.page_tree.specs.Pages.{nodes}
-use Rattle.query_lang.specs.Finds.{is_loose}
+use Rattle.page_tree.specs.Documents.{is_loose}
 use Rattle.query_lang.specs.Walks.{takes}
 use Rattle.query_lang.proofs.Downward.{loose_more, itself}
 use Rattle.query_lang.proofs.Members.{node_at}

@@ -1,7 +1,7 @@
 use Rattle.std.proofs.Common.{◌≡◌, ◌++◌, drop}
 use Rattle.std.specs.List.{filter, flat_map}
 use Rattle.page_tree.specs.Pages.{nodes}
-use Rattle.query_lang.specs.Finds.{within, is_loose}
+use Rattle.page_tree.specs.Documents.{within, is_loose}
 use Rattle.query_lang.specs.Walks.{takes}
 use Rattle.query_lang.proofs.order.walk_trees.Given as goal
 

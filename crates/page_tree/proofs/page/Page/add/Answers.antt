@@ -1,7 +1,7 @@
 use Rattle.std.proofs.Common.{arith}
 use Rattle.plain_tree.specs.Plains.{unplaced}
 use Rattle.page_tree.specs.Pages.{nodes}
-use Rattle.page_tree.proofs.Walk.{limit_is}
+use Rattle.page_nodes.proofs.Walk.{limit_is}
 use Rattle.page_tree.proofs.RootsKept.{rooted_added}
 use Rattle.page_tree.proofs.Takes.{may_add, too_many, counted_now, add_wants_memory}
 use Rattle.page_tree.proofs.page.Page.add.Goals as goal

@@ -1,12 +1,12 @@
 use Rattle.std.proofs.Common.{ap, ◌∙◌}
-use Rattle.page_tree.specs.Entries.{at}
-use Rattle.page_tree.specs.Owners.{root_in}
-use Rattle.page_tree.specs.Arenas.{nodes_in}
+use Rattle.page_nodes.specs.Entries.{at}
+use Rattle.page_nodes.specs.Owners.{root_in}
+use Rattle.page_nodes.specs.Arenas.{nodes_in}
 use Rattle.page_tree.specs.Pages.{nodes, root_after}
-use Rattle.page_tree.proofs.Swap.{under_body}
+use Rattle.page_nodes.proofs.Swap.{under_body}
 use Rattle.page_tree.proofs.RootsKept.{rooted_new, new_linked, others_adopted}
 use Rattle.page_tree.proofs.Counts.{counted_after}
-use Rattle.page_tree.proofs.Indexing.{index_after}
+use Rattle.page_nodes.proofs.Indexing.{index_after}
 use Rattle.page_tree.proofs.page.Page.adopt.Goals as goal
 
 pub link-requires-clause-may : goal.link-requires-clause-may

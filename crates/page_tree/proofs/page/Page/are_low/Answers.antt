@@ -1,8 +1,8 @@
 use Rattle.std.proofs.Common.{arith, get_or}
 use Rattle.page_tree.specs.Pages.{nodes, IsLow}
-use Rattle.page_tree.proofs.Lists.{one_more_below}
-use Rattle.page_tree.proofs.Shows.{tree_low}
-use Rattle.page_tree.proofs.Walk.{limit_is}
+use Rattle.page_nodes.proofs.Lists.{one_more_below}
+use Rattle.page_nodes.proofs.Shows.{tree_low}
+use Rattle.page_nodes.proofs.Walk.{limit_is}
 use Rattle.page_tree.proofs.Refusals.{depth_low, put_low, put_deep}
 use Rattle.page_tree.proofs.page.Page.are_low.Goals as goal
 

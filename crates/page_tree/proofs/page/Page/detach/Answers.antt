@@ -1,8 +1,8 @@
 use Rattle.page_tree.specs.Pages.{nodes}
-use Rattle.page_tree.proofs.Put.{others_detached}
+use Rattle.page_nodes.proofs.Put.{others_detached}
 use Rattle.page_tree.proofs.RootsKept.{rooted_cut}
 use Rattle.page_tree.proofs.Counts.{counted_kept}
-use Rattle.page_tree.proofs.Indexing.{index_kept}
+use Rattle.page_nodes.proofs.Indexing.{index_kept}
 use Rattle.page_tree.proofs.page.Page.detach.Goals as goal
 
 pub invariant_of-self : goal.invariant_of-self

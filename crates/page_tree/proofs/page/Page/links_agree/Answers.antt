@@ -1,7 +1,7 @@
 use Rattle.page_tree.specs.Pages.{nodes}
 use Rattle.page_tree.proofs.Agree.{apart, is_root, under_body}
-use Rattle.page_tree.proofs.Put.{owner_below}
-use Rattle.page_tree.proofs.Shows.{tree_lower}
+use Rattle.page_nodes.proofs.Put.{owner_below}
+use Rattle.page_nodes.proofs.Shows.{tree_lower}
 use Rattle.page_tree.proofs.page.Page.links_agree.Goals as goal
 
 pub returns : goal.returns

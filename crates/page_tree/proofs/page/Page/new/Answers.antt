@@ -1,9 +1,9 @@
 use Rattle.std.proofs.Common.{◌∙◌, ap}
 use Rattle.code_units.specs.declared.owner.Owner.TheVariants as owner
-use Rattle.page_tree.specs.Owners.{root_in}
+use Rattle.page_nodes.specs.Owners.{root_in}
 use Rattle.page_tree.proofs.Start.{no_root_first, rooted_start}
 use Rattle.page_tree.proofs.Counts.{counted_start}
-use Rattle.page_tree.proofs.Indexing.{index_start}
+use Rattle.page_nodes.proofs.Indexing.{index_start}
 use Rattle.page_tree.proofs.page.Page.new.Goals as goal
 
 pub invariant_of-result : goal.invariant_of-result

@@ -2,7 +2,7 @@ use Rattle.std.proofs.Common.{subst, sym}
 use Rattle.page_tree.specs.Roots.{IsRooted}
 use Rattle.page_tree.specs.Counts.{IsCounted}
 use Rattle.page_tree.specs.Pages.{nodes}
-use Rattle.page_tree.proofs.Lists.{match_either}
+use Rattle.page_nodes.proofs.Lists.{match_either}
 use Rattle.page_tree.proofs.RootsKept.{rooted_relabelled, others_relabelled, others_same}
 use Rattle.page_tree.proofs.Counts.{counted_same}
 use Rattle.page_tree.proofs.page.Page.set_attr.Goals as goal

@@ -2,7 +2,7 @@ use Rattle.plain_tree.specs.Trees.{TextOf}
 use Rattle.page_tree.specs.Pages.{nodes}
 use Rattle.page_tree.proofs.RootsKept.{rooted_relabelled, others_relabelled}
 use Rattle.page_tree.proofs.Counts.{counted_same}
-use Rattle.page_tree.proofs.Indexing.{index_text}
+use Rattle.page_nodes.proofs.Indexing.{index_text}
 use Rattle.page_tree.proofs.page.Page.set_text.Goals as goal
 
 pub invariant_of-self : goal.invariant_of-self

@@ -1,9 +1,9 @@
 use Rattle.std.proofs.Common.{ap, ◌∙◌}
-use Rattle.page_tree.specs.Owners.{root_in}
+use Rattle.page_nodes.specs.Owners.{root_in}
 use Rattle.page_tree.specs.Pages.{nodes, root_after}
 use Rattle.page_tree.proofs.RootsKept.{rooted_new, new_swapped, others_swapped}
 use Rattle.page_tree.proofs.Counts.{counted_kept}
-use Rattle.page_tree.proofs.Indexing.{index_kept}
+use Rattle.page_nodes.proofs.Indexing.{index_kept}
 use Rattle.page_tree.proofs.page.Page.swap_root.Goals as goal
 
 pub invariant_of-self : goal.invariant_of-self

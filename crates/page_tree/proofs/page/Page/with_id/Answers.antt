@@ -1,6 +1,6 @@
 use Rattle.std.proofs.Common.{◌∙◌}
 use Rattle.page_tree.specs.Pages.{nodes}
-use Rattle.page_tree.proofs.Indexing.{index_gives}
+use Rattle.page_nodes.proofs.Indexing.{index_gives}
 use Rattle.page_tree.proofs.page.Page.with_id.Goals as goal
 
 pub returns : goal.returns

@@ -3,7 +3,7 @@ use Rattle.std.specs.List.{filter, flat_map}
 use Rattle.plain_tree.specs.Trees.{height}
 use Rattle.page_tree.specs.Entries.{at, tree}
 use Rattle.page_tree.specs.Pages.{nodes}
-use Rattle.query_lang.specs.Finds.{within, below}
+use Rattle.page_tree.specs.Documents.{within, below}
 use Rattle.query_lang.specs.Walks.{takes}
 use Rattle.query_lang.proofs.wanted.Wanted.+collect.Given as goal
 

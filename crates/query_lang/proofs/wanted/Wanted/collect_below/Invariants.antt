@@ -2,7 +2,7 @@ use Rattle.std.proofs.Common.{◌≡◌, ◌++◌, drop}
 use Rattle.std.specs.List.{filter, flat_map}
 use Rattle.page_tree.specs.Entries.{at}
 use Rattle.page_tree.specs.Pages.{nodes}
-use Rattle.query_lang.specs.Finds.{within, below}
+use Rattle.page_tree.specs.Documents.{within, below}
 use Rattle.query_lang.specs.Walks.{takes}
 use Rattle.query_lang.proofs.wanted.Wanted.collect_below.Given as goal
 

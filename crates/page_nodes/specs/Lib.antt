@@ -1,0 +1,12 @@
+pub mod Trees
+pub mod Owners
+pub mod Entries
+pub mod Room
+pub mod Contents
+pub mod Copies
+pub mod Moves
+pub mod Many
+pub mod Adds
+pub mod Arenas
+pub mod Ids
+pub mod Index

@@ -1,7 +1,0 @@
-use Rattle.std.proofs.Common.{arith, ap, length}
-use Rattle.page_tree.specs.Arenas.{nodes_in}
-use Rattle.page_tree.proofs.Agree.{width_small}
-use Rattle.page_tree.proofs.arena.Arena.width.Goals as goal
-
-pub overflow_cast-result : goal.overflow_cast-result
-overflow_cast-result c = omega (arith, c.len.ensures, ap length c.children_of.ensures, width_small (nodes_in c.args.self.now) c.args.self.now.sound c.args.node)

@@ -1,9 +1,0 @@
-use Rattle.std.proofs.Common.{arith, subst, take, ◌≡◌, ◌-◌, ◌+◌}
-use Rattle.page_tree.specs.Arenas.{nodes_in}
-use Rattle.page_tree.specs.Index.{IsIndex}
-use Rattle.page_tree.proofs.index.leave_from.Goals as goal
-
-pub leave-requires-clause-before : goal.leave-requires-clause-before
-leave-requires-clause-before c =
-    let e : c.back.node ≡ c.back.node - 1 + 1 = omega arith in
-    subst (λ n. IsIndex (take n (nodes_in c.args.arena.now)) c.back.ids) e c.back.invariant.index

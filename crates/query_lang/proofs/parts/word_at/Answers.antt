@@ -1,5 +1,0 @@
-use Rattle.query_lang.proofs.Cuts.{word_is}
-use Rattle.query_lang.proofs.parts.word_at.Goals as goal
-
-pub returns : goal.returns
-returns c = word_is _ _ _ _ c.run_end-end.ensures c.if-end-at.false c.in_ok-text_of.ensures

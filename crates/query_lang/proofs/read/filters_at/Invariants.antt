@@ -1,9 +1,0 @@
-use Rattle.std.proofs.Common.{◌-◌, length}
-use Rattle.query_lang.proofs.Reading.{FiltersSoFar}
-use Rattle.query_lang.proofs.read.filters_at.Given as goal
-
-abbrev pub invariant-filters : goal.invariant-filters
-invariant-filters l = FiltersSoFar l.units l.at l.filters.items l.place
-
-abbrev pub decreases-filters : goal.decreases-filters
-decreases-filters l = length l.units - l.place
