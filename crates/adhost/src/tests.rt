@@ -82,7 +82,7 @@ impl Case<'_> {
     }
 }
 
-// Libraries that break a rule, with the rule and its place. (The table of crate library_table has
+// Libraries that break a rule, with the rule and its place. (The table of crate script_table has
 // hundreds.)
 const BROKEN: [(&str, &str); 5] = [
     ("", "A02\",\"at\":[1,1]"),
@@ -164,7 +164,7 @@ fn leaves_other_words(rt: HostRuntime) -> Result<(), Fail> {
     Ok(())
 }
 
-// Libraries with their tidied texts. (The table of crate library_table has more.)
+// Libraries with their tidied texts. (The table of crate script_table has more.)
 const TIDIED: [(&str, &str, Status); 3] = [
     (
         "ADSAFE.lib(\"m\", function (lib) {\n  return (1 + 2) * 3;\n});\n",
