@@ -1,7 +1,6 @@
 pub mod Runs
 pub mod PlansHold
 pub mod Parts
-pub mod ArenaHolds
 pub mod LawsHold
 pub mod Keeping
 pub mod KeepingForms

@@ -1,6 +1,7 @@
 -- Calls, the conversion of objects to primitives, and statements in a row.
 use Rattle.std.specs.Prelude.{ℕ, suc, List, [], ◌∷◌, length, nat_lt, if◌then◌else◌, codes, Bool, true, false, Option, Some, ◌++◌}
 use Rattle.std.specs.Str.{bytes_eq}
+pub use Rattle.js_tree.specs.Lists.{stmt_list}
 use Rattle.js_tree.specs.Plain as tree
 use Rattle.js_tree.specs.Plain.{Stmt, Stmts, Fun}
 use Rattle.widget_meaning.specs.Limits.{max_depth}
@@ -11,11 +12,6 @@ use Rattle.widget_meaning.specs.Plan.{Place, Plan, Ret, Halt, Do, Exec, Call, Ru
 use Rattle.widget_meaning.specs.Costs.{pay, make, throw, give, scope_cost}
 use Rattle.widget_meaning.specs.Properties.{get, is_function}
 use Rattle.widget_meaning.specs.Scopes.{fun_name, without_name, fun_list, set_pair, call_scope}
-
--- the statements of a block, in order
-abbrev pub stmt_list : Stmts → List Stmt
-stmt_list tree.NoStmts = []
-stmt_list (tree.AndStmt ss s) = stmt_list ss ++ s ∷ []
 
 -- statements one after the other, up to the first that does not go on
 abbrev pub statements : List Stmt → Place → State → Plan

@@ -10,6 +10,7 @@ use Rattle.js_tree.specs.declared.nodes.BinOp.{BinOp}
 use Rattle.js_tree.specs.declared.nodes.BinOp.TheVariants as bin
 use Rattle.js_tree.specs.declared.nodes.AssignOp.{AssignOp}
 use Rattle.js_tree.specs.declared.nodes.AssignOp.TheVariants as assignment
+pub use Rattle.js_tree.specs.Lists.{expr_list, property_list}
 use Rattle.js_tree.specs.Plain as tree
 use Rattle.js_tree.specs.Plain.{Expr, ExprForm, Exprs, Properties}
 use Rattle.code_units.specs.declared.whole.WholeRead.{WholeRead}
@@ -23,16 +24,6 @@ use Rattle.widget_meaning.specs.Costs.{make, make_text, give, want}
 use Rattle.widget_meaning.specs.Properties.{get, read, put, delete, index_name, is_function}
 use Rattle.widget_meaning.specs.Scopes.{variable, assign}
 use Rattle.widget_meaning.specs.Calls.{invoke, to_primitive}
-
--- the expressions of a list, in order
-abbrev pub expr_list : Exprs → List Expr
-expr_list tree.NoExprs = []
-expr_list (tree.AndExpr es e) = expr_list es ++ e ∷ []
-
--- keys and values of an object literal, in order
-abbrev pub property_list : Properties → List (List ℕ × Expr)
-property_list tree.NoProperties = []
-property_list (tree.AndProperty ps x e) = property_list ps ++ (x, e) ∷ []
 
 -- the value of a number literal
 abbrev pub literal : WholeRead → Value

@@ -35,7 +35,6 @@ pub mod DomNatives
 pub mod Natives
 pub mod Dispatch
 pub mod Meaning
-pub mod Arena
 pub mod Compositional
 pub mod Turns
 pub mod Items

@@ -3,6 +3,7 @@ use Rattle.std.specs.Prelude.{ℕ, zero, suc, List, [], ◌∷◌, ◌++◌, not
 use Rattle.std.specs.List.{list_any, flat_map}
 use Rattle.std.specs.Str.{bytes_eq}
 use Rattle.std.specs.Option.{option_or}
+pub use Rattle.js_tree.specs.Lists.{fun_list}
 use Rattle.js_tree.specs.Plain as tree
 use Rattle.js_tree.specs.Plain.{Stmt, StmtForm, Stmts, Decls, ForInit, OptionalBlock, Catch, Clauses, Fun, Funs}
 use Rattle.widget_meaning.specs.Values.{Value, Undefined, nth}
@@ -70,11 +71,6 @@ fun_name (tree.FunAt at names name params body funs) = option_to_list name
 -- a declared function: its name is a variable of the scope around it, and none of its own calls
 abbrev pub without_name : Fun → Fun
 without_name (tree.FunAt at names name params body funs) = tree.FunAt at names None params body funs
-
--- declared functions in order of the text
-abbrev pub fun_list : Funs → List Fun
-fun_list tree.NoFuns = []
-fun_list (tree.AndFun fs f) = fun_list fs ++ f ∷ []
 
 -- the names of a call's scope but its own: parameters, `var` names, names of declared functions
 abbrev pub other_names : Fun → List (List ℕ)

@@ -1,5 +1,6 @@
 -- Statements: what each form does after its unit, one level deep. A longer continuation has a name.
 use Rattle.std.specs.Prelude.{ℕ, List, [], ◌∷◌, ◌++◌, length, if◌then◌else◌, Some, is_some}
+pub use Rattle.js_tree.specs.Lists.{decl_list, clause_list}
 use Rattle.js_tree.specs.Plain as tree
 use Rattle.js_tree.specs.Plain.{Expr, OptionalExpr, Stmt, StmtForm, Stmts, Decls, ForInit, OptionalBlock, Catch, Clauses}
 use Rattle.widget_meaning.specs.Values.{Value, Undefined, Text, Completion, Normal, Return, Break, Continue, Throw, E1, is_true, is_nothing}
@@ -11,11 +12,6 @@ use Rattle.widget_meaning.specs.Properties.{property, names_of}
 use Rattle.widget_meaning.specs.Scopes.{assign}
 use Rattle.widget_meaning.specs.Calls.{statements, stmt_list}
 use Rattle.widget_meaning.specs.Expressions.{expr_list}
-
--- the declarations of a list, in order
-abbrev pub decl_list : Decls → List (List ℕ × OptionalExpr)
-decl_list tree.NoDecls = []
-decl_list (tree.AndDecl ds x at e) = decl_list ds ++ (x, e) ∷ []
 
 -- one declaration, and what is done then
 abbrev pub declaration : OptionalExpr → List ℕ → Place → State → (State → Plan) → Plan
@@ -104,11 +100,6 @@ return_form (tree.SomeExpr e) p s = Do (Eval e p) s (after (λ v t. Ret (Return 
 -- a clause of a `switch`: its test, if any, and its statements
 abbrev pub Case : Type 0
 Case = OptionalExpr × List Stmt
-
--- clauses in order of the text
-abbrev pub clause_list : Clauses → List Case
-clause_list tree.NoClauses = []
-clause_list (tree.AndClause cs test ss) = clause_list cs ++ (test, stmt_list ss) ∷ []
 
 -- the statements from a clause on, which falls through
 abbrev pub bodies : List Case → List Stmt

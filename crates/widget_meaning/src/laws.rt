@@ -1,11 +1,9 @@
 //! Laws of the definitions.
 ghost use Rattle.std.specs.Prelude.{ℕ, List};
 ghost use Rattle.widget_meaning.specs.Compositional.{ExpressionLaws, StatementLaws, CallLaws};
-ghost use Rattle.js_tree.specs.Forest.{Forest};
 ghost use Rattle.widget_meaning.specs.OwnState.{Amounts, State};
 ghost use Rattle.widget_meaning.specs.Plan.{Place, Plan};
 ghost use Rattle.widget_meaning.specs.PlanLaws.{PlanLaws, CostLaws};
-ghost use Rattle.widget_meaning.specs.Arena.{ArenaLaws};
 ghost use Rattle.widget_meaning.specs.Counts.{CountLaws};
 ghost use Rattle.widget_meaning.specs.Items.{Item};
 ghost use Rattle.widget_meaning.specs.Alone.{Content};
@@ -26,12 +24,6 @@ pub fn compositional()
 pub fn plans()
     ensures plans { PlanLaws }
     ensures costs { (a : Amounts) (s : State) (k : State → Plan) → CostLaws a s k }
-{}
-
-/// The parts that a node of an arena lists by number are the parts of its plain tree, in order.
-#[tactic(auto, using(crate::proofs::ArenaHolds::arena_laws))]
-pub fn arena()
-    ensures { (f : Forest) → ArenaLaws f }
 {}
 
 /// Fuel left never grows, and a turn spends what fell of its grant.
