@@ -50,13 +50,19 @@ fn answer_to(alloc: Global, question: Question, case: &Value) -> Result<String> 
             let read = read_manifest(alloc, &bytes_of(alloc, case)?);
             fault_line(alloc, read.err())
         }
-        Question::Trace => {
-            let names = names_of(alloc, list_at(case, "names")?)?;
-            let read = read_trace(alloc, &bytes_of(alloc, case)?, &names);
-            fault_line(alloc, read.err())
-        }
+        Question::Trace => answer_of_trace(alloc, case),
         Question::Slots => answer_of_slots(alloc, case),
     }
+}
+
+// What comes of reading a trace for the slots of these names.
+fn answer_of_trace(alloc: Global, case: &Value) -> Result<String> {
+    let names = names_of(alloc, list_at(case, "names")?)?;
+    if names.len() > 16 {
+        bail!("a page has at most 16 slots");
+    }
+    let read = read_trace(alloc, &bytes_of(alloc, case)?, &names);
+    fault_line(alloc, read.err())
 }
 
 fn fault_line(alloc: Global, fault: Option<ShapeFault>) -> Result<String> {
