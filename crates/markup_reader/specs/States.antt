@@ -39,16 +39,16 @@ stack_on k [] = k
 stack_on k (o ∷ others) = stack_on (open_of o ∷ k) others
 
 abbrev pub trees_of : Reader → Trees Places
-trees_of r = placed_all r.nodes.items
+trees_of r = placed_all r.grown.nodes.items
 
 abbrev pub opens_of : Reader → List machine.Open
-opens_of r = stack_on [] r.open.items
+opens_of r = stack_on [] r.grown.open.items
 
 abbrev pub text_run : Reader → Run
-text_run r = InText r.text_at r.units.items
+text_run r = InText r.piece.at r.piece.units.items
 
 abbrev pub value_run : Reader → Run
-value_run r = InValue (opening_of r.head) r.name r.name_at r.value_at r.double r.units.items
+value_run r = InValue (opening_of r.head) r.attribute.name r.attribute.at r.attribute.value_at r.attribute.double r.piece.units.items
 
 abbrev pub run_of : Reader → CodeRun → Run
 run_of r run.Text = text_run r
@@ -83,17 +83,17 @@ mode_of r mode.Between = machine.Between
 mode_of r (mode.In x) = machine.In (run_of r x)
 mode_of r (mode.Refers x f) = machine.Refers (run_of r x) (referring_of f)
 mode_of r mode.Begun = machine.Begun (r.head).at
-mode_of r mode.TagName = machine.TagName (r.head).at r.units.items
+mode_of r mode.TagName = machine.TagName (r.head).at r.piece.units.items
 mode_of r mode.Valued = machine.Valued (opening_of r.head)
 mode_of r mode.Spaced = machine.Spaced (opening_of r.head)
-mode_of r mode.AttributeName = machine.AttributeName (opening_of r.head) r.name_at r.units.items
-mode_of r mode.Assigned = machine.Assigned (opening_of r.head) r.name_at r.name
+mode_of r mode.AttributeName = machine.AttributeName (opening_of r.head) r.attribute.at r.piece.units.items
+mode_of r mode.Assigned = machine.Assigned (opening_of r.head) r.attribute.at r.attribute.name
 mode_of r mode.Slashed = machine.Slashed (opening_of r.head)
 mode_of r (mode.Ending read) = machine.Ending (drop read (top_tag (opens_of r)))
 mode_of r mode.Ended = machine.Ended
-mode_of r mode.InRaw = machine.InRaw (opening_of r.head) r.text_at r.units.items
-mode_of r mode.RawBegun = machine.RawBegun (opening_of r.head) r.text_at r.units.items
-mode_of r (mode.RawEnding read) = machine.RawEnding (opening_of r.head) r.text_at r.units.items (drop read (codes "script"))
+mode_of r mode.InRaw = machine.InRaw (opening_of r.head) r.piece.at r.piece.units.items
+mode_of r mode.RawBegun = machine.RawBegun (opening_of r.head) r.piece.at r.piece.units.items
+mode_of r (mode.RawEnding read) = machine.RawEnding (opening_of r.head) r.piece.at r.piece.units.items (drop read (codes "script"))
 
 abbrev pub state_of : Reader → State
 state_of r = State_at (mode_of r r.mode) (trees_of r) (opens_of r)

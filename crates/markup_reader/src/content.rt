@@ -10,8 +10,8 @@ use crate::fault::Stop;
 use crate::mode::{Mode, Referring, Run};
 use crate::reader::{Head, Open, Reader};
 use crate::sign::{is_in_tag, sign_of};
-use crate::units::{push_char, take_text, unit_at};
-use code_units::Memory;
+use crate::units::{take_text, unit_at};
+use code_units::{Memory, push_char};
 use markup_grammar::Sign;
 use plain_tree::{Attr, Plain};
 use std::mem;
@@ -27,14 +27,14 @@ impl Reader {
                 self.mode = Mode::Begun;
             }
             Sign::Ampersand => {
-                self.units.clear();
-                self.text_at = at;
+                self.piece.units.clear();
+                self.piece.at = at;
                 self.mode = Mode::Refers(Run::Text, Referring::Ampersand);
             }
             _ => {
-                self.units.clear();
-                push_char(&mut self.units, c)?;
-                self.text_at = at;
+                self.piece.units.clear();
+                push_char(&mut self.piece.units, c)?;
+                self.piece.at = at;
                 self.mode = Mode::In(Run::Text);
             }
         }
@@ -53,7 +53,7 @@ impl Reader {
             }
             Sign::Ampersand => self.mode = Mode::Refers(Run::Text, Referring::Ampersand),
             _ => {
-                push_char(&mut self.units, c)?;
+                push_char(&mut self.piece.units, c)?;
                 self.mode = Mode::In(Run::Text);
             }
         }
@@ -64,12 +64,12 @@ impl Reader {
     pub fn in_value(&mut self, c: char, at: usize) -> Result<(), Stop>
         ensures { Took (machine.in_run (value_run self.old) (trees_of self.old) (opens_of self.old) (sign_of c) (spot c at)) result (state_of self.new) }
     {
-        match (sign_of(c), self.double) {
+        match (sign_of(c), self.attribute.double) {
             (Sign::Less, _) => return Err(Stop::Bad),
             (Sign::Ampersand, _) => self.mode = Mode::Refers(Run::Value, Referring::Ampersand),
             (Sign::DoubleQuote, true) | (Sign::SingleQuote, false) => self.end_value()?,
             _ => {
-                push_char(&mut self.units, c)?;
+                push_char(&mut self.piece.units, c)?;
                 self.mode = Mode::In(Run::Value);
             }
         }
@@ -79,27 +79,27 @@ impl Reader {
     /// The text ends.
     #[tactic(auto, using(crate::proofs::Grows::one_text))]
     pub fn end_text(&mut self) -> Result<(), Memory>
-        ensures nodes { OnOk result (trees_of self.new ≡ beside (trees_of self.old) (text_node self.old.units.items self.old.text_at)) }
+        ensures nodes { OnOk result (trees_of self.new ≡ beside (trees_of self.old) (text_node self.old.piece.units.items self.old.piece.at)) }
         ensures kept { OnOk result (opens_of self.new ≡ opens_of self.old) }
     {
-        let text = take_text(self.alloc, &mut self.units)?;
-        self.nodes.push(Plain::Text {
+        let text = take_text(self.alloc, &mut self.piece.units)?;
+        self.grown.nodes.push(Plain::Text {
             text,
-            at: self.text_at,
+            at: self.piece.at,
         })?;
         Ok(())
     }
 
     // The value ends, and with it the attribute.
     fn end_value(&mut self) -> Result<(), Memory>
-        ensures { OnOk result (state_of self.new ≡ machine.valued (opening_of self.old.head) self.old.name self.old.name_at self.old.value_at self.old.units.items (trees_of self.old) (opens_of self.old)) }
+        ensures { OnOk result (state_of self.new ≡ machine.valued (opening_of self.old.head) self.old.attribute.name self.old.attribute.at self.old.attribute.value_at self.old.piece.units.items (trees_of self.old) (opens_of self.old)) }
     {
-        let value = take_text(self.alloc, &mut self.units)?;
+        let value = take_text(self.alloc, &mut self.piece.units)?;
         self.head.attrs.push(Attr {
-            name: self.name.share()?,
+            name: self.attribute.name.share()?,
             value,
-            at: self.name_at,
-            value_at: self.value_at,
+            at: self.attribute.at,
+            value_at: self.attribute.value_at,
         })?;
         self.mode = Mode::Valued;
         Ok(())
@@ -123,7 +123,7 @@ impl Reader {
     fn end_word(&self) -> &[u16]
         ensures { result.now ≡ top_tag (opens_of self.now) }
     {
-        match self.open.last() {
+        match self.grown.open.last() {
             Some(open) => open.head.tag.units(),
             None => &[],
         }
@@ -148,12 +148,12 @@ impl Reader {
     fn close(&mut self) -> Result<(), Stop>
         ensures { Took (machine.closed (trees_of self.old) (opens_of self.old)) result (state_of self.new) }
     {
-        let Some(Open { before, head }) = self.open.pop() else {
+        let Some(Open { before, head }) = self.grown.open.pop() else {
             return Err(Stop::Bad);
         };
         let Head { tag, attrs, at } = head;
-        let children = mem::replace(&mut self.nodes, before);
-        self.nodes.push(Plain::Element {
+        let children = mem::replace(&mut self.grown.nodes, before);
+        self.grown.nodes.push(Plain::Element {
             tag,
             attrs,
             children,

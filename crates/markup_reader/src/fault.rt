@@ -26,7 +26,7 @@ impl From<Memory> for MarkupFault {
 }
 
 /// Why a character is not taken.
-#[derive(Clone, Copy, Debug, Drop)]
+#[derive(Clone, Copy, Drop)]
 pub enum Stop {
     /// No content goes on with it.
     Bad,

@@ -45,11 +45,11 @@ impl Reader {
         requires { IsInName (sign_of c) }
         ensures { Took (machine.tag_begun self.old.head.at (trees_of self.old) (opens_of self.old) (spot c at)) result (state_of self.new) }
     {
-        if self.open.len() >= LIMIT {
+        if self.grown.open.len() >= LIMIT {
             return Err(Stop::Bad);
         }
-        self.units.clear();
-        self.units.push(name_unit(c))?;
+        self.piece.units.clear();
+        self.piece.units.push(name_unit(c))?;
         self.mode = Mode::TagName;
         Ok(())
     }
@@ -59,7 +59,7 @@ impl Reader {
     fn begin_end(&mut self) -> Result<(), Stop>
         ensures { Took (machine.end_begun (trees_of self.old) (opens_of self.old)) result (state_of self.new) }
     {
-        if self.open.is_empty() {
+        if self.grown.open.is_empty() {
             return Err(Stop::Bad);
         }
         self.mode = Mode::Ending(0);
@@ -69,14 +69,14 @@ impl Reader {
     /// In the name of a tag.
     pub fn tag_name(&mut self, c: char, at: usize) -> Result<(), Stop>
         requires { at + 1 < 2 ^ 64 }
-        ensures { Took (machine.tag_name self.old.head.at self.old.units.items (trees_of self.old) (opens_of self.old) (sign_of c) (spot c at)) result (state_of self.new) }
+        ensures { Took (machine.tag_name self.old.head.at self.old.piece.units.items (trees_of self.old) (opens_of self.old) (sign_of c) (spot c at)) result (state_of self.new) }
     {
         if is_in_tag(sign_of(c)) {
-            self.units.push(name_unit(c))?;
+            self.piece.units.push(name_unit(c))?;
             self.mode = Mode::TagName;
             return Ok(());
         }
-        self.head.tag = take_text(self.alloc, &mut self.units)?;
+        self.head.tag = take_text(self.alloc, &mut self.piece.units)?;
         self.head.attrs.clear();
         self.in_head(c, at)
     }
@@ -106,14 +106,14 @@ impl Reader {
             return self.add_element(children);
         }
         if is_word(&self.head.tag, b"script") {
-            self.units.clear();
-            self.text_at = at + 1;
+            self.piece.units.clear();
+            self.piece.at = at + 1;
             self.mode = Mode::InRaw;
             return Ok(());
         }
         let head = self.take_head()?;
-        let before = mem::replace(&mut self.nodes, Vec::new(self.alloc));
-        self.open.push(Open { before, head })?;
+        let before = mem::replace(&mut self.grown.nodes, Vec::new(self.alloc));
+        self.grown.open.push(Open { before, head })?;
         self.mode = Mode::Between;
         Ok(())
     }
@@ -136,7 +136,7 @@ impl Reader {
         ensures { OnOk result (state_of self.new ≡ machine.added (opening_of self.old.head) (placed_all children.items) (trees_of self.old) (opens_of self.old)) }
     {
         let head = self.take_head()?;
-        self.nodes.push(Plain::Element {
+        self.grown.nodes.push(Plain::Element {
             tag: head.tag,
             attrs: head.attrs,
             children,
@@ -153,9 +153,9 @@ impl Reader {
     {
         match sign_of(c) {
             Sign::Letter => {
-                self.units.clear();
-                self.units.push(name_unit(c))?;
-                self.name_at = at;
+                self.piece.units.clear();
+                self.piece.units.push(name_unit(c))?;
+                self.attribute.at = at;
                 self.mode = Mode::AttributeName;
                 Ok(())
             }
@@ -166,16 +166,16 @@ impl Reader {
     /// In the name of an attribute.
     pub fn attribute_name(&mut self, c: char, at: usize) -> Result<(), Stop>
         requires { at + 1 < 2 ^ 64 }
-        ensures { Took (machine.attribute_name (opening_of self.old.head) self.old.name_at self.old.units.items (trees_of self.old) (opens_of self.old) (sign_of c) (spot c at)) result (state_of self.new) }
+        ensures { Took (machine.attribute_name (opening_of self.old.head) self.old.attribute.at self.old.piece.units.items (trees_of self.old) (opens_of self.old) (sign_of c) (spot c at)) result (state_of self.new) }
     {
         match sign_of(c) {
             Sign::Letter | Sign::Hyphen => {
-                self.units.push(name_unit(c))?;
+                self.piece.units.push(name_unit(c))?;
                 self.mode = Mode::AttributeName;
                 Ok(())
             }
             Sign::Equals => {
-                self.name = take_text(self.alloc, &mut self.units)?;
+                self.attribute.name = take_text(self.alloc, &mut self.piece.units)?;
                 self.mode = Mode::Assigned;
                 Ok(())
             }
@@ -186,17 +186,17 @@ impl Reader {
     // Behind an attribute that stands bare.
     fn bared(&mut self, c: char, at: usize) -> Result<(), Stop>
         requires { at + 1 < 2 ^ 64 }
-        ensures { Took (machine.bared (opening_of self.old.head) self.old.name_at self.old.units.items (trees_of self.old) (opens_of self.old) (sign_of c) (spot c at)) result (state_of self.new) }
+        ensures { Took (machine.bared (opening_of self.old.head) self.old.attribute.at self.old.piece.units.items (trees_of self.old) (opens_of self.old) (sign_of c) (spot c at)) result (state_of self.new) }
     {
-        let name = take_text(self.alloc, &mut self.units)?;
+        let name = take_text(self.alloc, &mut self.piece.units)?;
         if !is_bare(&name) {
             return Err(Stop::Bad);
         }
         self.head.attrs.push(Attr {
             value: name.share()?,
             name,
-            at: self.name_at,
-            value_at: self.name_at,
+            at: self.attribute.at,
+            value_at: self.attribute.at,
         })?;
         self.in_head(c, at)
     }
@@ -204,15 +204,15 @@ impl Reader {
     /// Behind `=`.
     pub fn assigned(&mut self, c: char, at: usize) -> Result<(), Stop>
         requires { at + 1 < 2 ^ 64 }
-        ensures { Took (machine.assigned (opening_of self.old.head) self.old.name_at self.old.name (trees_of self.old) (opens_of self.old) (sign_of c) (spot c at)) result (state_of self.new) }
+        ensures { Took (machine.assigned (opening_of self.old.head) self.old.attribute.at self.old.attribute.name (trees_of self.old) (opens_of self.old) (sign_of c) (spot c at)) result (state_of self.new) }
     {
-        self.double = match sign_of(c) {
+        self.attribute.double = match sign_of(c) {
             Sign::DoubleQuote => true,
             Sign::SingleQuote => false,
             _ => return Err(Stop::Bad),
         };
-        self.units.clear();
-        self.value_at = at + 1;
+        self.piece.units.clear();
+        self.attribute.value_at = at + 1;
         self.mode = Mode::In(Run::Value);
         Ok(())
     }

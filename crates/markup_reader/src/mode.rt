@@ -1,14 +1,14 @@
 //! What has been read since the last element.
 
 /// Where units go: to a text or to the value of an attribute.
-#[derive(Clone, Copy, Debug, Drop)]
+#[derive(Clone, Copy, Drop)]
 pub enum Run {
     Text,
     Value,
 }
 
 /// A named reference.
-#[derive(Clone, Copy, Debug, Drop)]
+#[derive(Clone, Copy, Drop)]
 pub enum Named {
     Amp,
     Lt,
@@ -18,7 +18,7 @@ pub enum Named {
 }
 
 /// A reference whose front is read.
-#[derive(Clone, Copy, Debug, Drop)]
+#[derive(Clone, Copy, Drop)]
 pub enum Referring {
     Ampersand,
     /// And how much of the name.
@@ -28,7 +28,7 @@ pub enum Referring {
 }
 
 /// Where the reader stands.
-#[derive(Clone, Copy, Debug, Drop)]
+#[derive(Clone, Copy, Drop)]
 pub enum Mode {
     /// Behind an element, or where content begins.
     Between,

@@ -106,7 +106,7 @@ impl Reader {
     fn finish(&mut self) -> Result<Vec<Plain>, Stop>
         ensures { MatchResult result (λ v. finished (Some (state_of self.old)) ≡ Some (placed_all v.items)) (λ e. e ≡ stop.Bad → finished (Some (state_of self.old)) ≡ None) }
     {
-        if !self.open.is_empty() {
+        if !self.grown.open.is_empty() {
             return Err(Stop::Bad);
         }
         match self.mode {
@@ -114,6 +114,6 @@ impl Reader {
             Mode::In(Run::Text) => self.end_text()?,
             _ => return Err(Stop::Bad),
         }
-        Ok(mem::replace(&mut self.nodes, Vec::new(self.alloc)))
+        Ok(mem::replace(&mut self.grown.nodes, Vec::new(self.alloc)))
     }
 }

@@ -25,23 +25,39 @@ pub struct Open {
     pub head: Head,
 }
 
-/// The trees so far, the open elements, and what is being read.
+/// The trees so far, and the open elements, the innermost last.
+#[derive(Drop)]
+pub struct Grown {
+    pub nodes: Vec<Plain>,
+    pub open: Vec<Open>,
+}
+
+/// An attribute whose value is read: its name, where both stand, and whether the value stands in
+/// double quotes.
+#[derive(Drop)]
+pub struct Attribute {
+    pub name: Text,
+    pub at: usize,
+    pub value_at: usize,
+    pub double: bool,
+}
+
+/// The units of the text, the value or the name that is read, and where a text stands.
+#[derive(Drop)]
+pub struct Piece {
+    pub units: Vec<u16>,
+    pub at: usize,
+}
+
+/// What was read, and what is being read.
 #[derive(Drop)]
 pub struct Reader {
     pub alloc: Global,
     pub mode: Mode,
-    pub nodes: Vec<Plain>,
-    /// The innermost last.
-    pub open: Vec<Open>,
+    pub grown: Grown,
     pub head: Head,
-    /// Of the attribute whose value is read.
-    pub name: Text,
-    pub name_at: usize,
-    pub value_at: usize,
-    pub double: bool,
-    /// Of the text, the value or the name that is read.
-    pub units: Vec<u16>,
-    pub text_at: usize,
+    pub attribute: Attribute,
+    pub piece: Piece,
 }
 
 impl Reader {
@@ -52,19 +68,25 @@ impl Reader {
         Ok(Reader {
             alloc,
             mode: Mode::Between,
-            nodes: Vec::new(alloc),
-            open: Vec::new(alloc),
+            grown: Grown {
+                nodes: Vec::new(alloc),
+                open: Vec::new(alloc),
+            },
             head: Head {
                 tag: Text::from_units(alloc, Vec::new(alloc))?,
                 attrs: Vec::new(alloc),
                 at: 0,
             },
-            name: Text::from_units(alloc, Vec::new(alloc))?,
-            name_at: 0,
-            value_at: 0,
-            double: false,
-            units: Vec::new(alloc),
-            text_at: 0,
+            attribute: Attribute {
+                name: Text::from_units(alloc, Vec::new(alloc))?,
+                at: 0,
+                value_at: 0,
+                double: false,
+            },
+            piece: Piece {
+                units: Vec::new(alloc),
+                at: 0,
+            },
         })
     }
 

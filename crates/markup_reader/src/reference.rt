@@ -11,8 +11,8 @@ use crate::fault::Stop;
 use crate::mode::{Mode, Named, Referring, Run};
 use crate::reader::Reader;
 use crate::sign::{is_in_tag, sign_of};
-use crate::units::{byte_at, push_char};
-use code_units::Memory;
+use crate::units::byte_at;
+use code_units::{Memory, push_char};
 use markup_grammar::Sign;
 
 // The reference whose name begins with a letter.
@@ -167,7 +167,7 @@ impl Reader {
     fn refer(&mut self, run: Run, c: char) -> Result<(), Memory>
         ensures { OnOk result (state_of self.new ≡ machine.referred (run_of self.old run) c (trees_of self.old) (opens_of self.old)) }
     {
-        push_char(&mut self.units, c)?;
+        push_char(&mut self.piece.units, c)?;
         self.mode = Mode::In(run);
         Ok(())
     }

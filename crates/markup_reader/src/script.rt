@@ -8,19 +8,20 @@ use crate::fault::Stop;
 use crate::mode::Mode;
 use crate::reader::Reader;
 use crate::sign::{is_in_tag, sign_of};
-use crate::units::{byte_at, push_char, take_text};
+use crate::units::{byte_at, take_text};
+use code_units::push_char;
 use markup_grammar::Sign;
 use plain_tree::Plain;
 
 impl Reader {
     /// In a script.
     pub fn in_raw(&mut self, c: char, at: usize) -> Result<(), Stop>
-        ensures { Took (machine.in_raw (opening_of self.old.head) self.old.text_at self.old.units.items (trees_of self.old) (opens_of self.old) (sign_of c) (spot c at)) result (state_of self.new) }
+        ensures { Took (machine.in_raw (opening_of self.old.head) self.old.piece.at self.old.piece.units.items (trees_of self.old) (opens_of self.old) (sign_of c) (spot c at)) result (state_of self.new) }
     {
         match sign_of(c) {
             Sign::Less => self.mode = Mode::RawBegun,
             _ => {
-                push_char(&mut self.units, c)?;
+                push_char(&mut self.piece.units, c)?;
                 self.mode = Mode::InRaw;
             }
         }
@@ -29,7 +30,7 @@ impl Reader {
 
     /// Behind `<`.
     pub fn raw_begun(&mut self, c: char, at: usize) -> Result<(), Stop>
-        ensures { Took (machine.raw_begun (opening_of self.old.head) self.old.text_at self.old.units.items (trees_of self.old) (opens_of self.old) (sign_of c) (spot c at)) result (state_of self.new) }
+        ensures { Took (machine.raw_begun (opening_of self.old.head) self.old.piece.at self.old.piece.units.items (trees_of self.old) (opens_of self.old) (sign_of c) (spot c at)) result (state_of self.new) }
     {
         match sign_of(c) {
             Sign::Slash => {
@@ -37,7 +38,7 @@ impl Reader {
                 Ok(())
             }
             _ => {
-                self.units.push(u16::from(b'<'))?;
+                self.piece.units.push(u16::from(b'<'))?;
                 self.in_raw(c, at)
             }
         }
@@ -45,7 +46,7 @@ impl Reader {
 
     /// Behind `</` and so many bytes of the name.
     pub fn raw_ending(&mut self, read: usize, c: char, at: usize) -> Result<(), Stop>
-        ensures { Took (machine.raw_ending (opening_of self.old.head) self.old.text_at self.old.units.items (drop read (codes "script")) (trees_of self.old) (opens_of self.old) (sign_of c) (spot c at)) result (state_of self.new) }
+        ensures { Took (machine.raw_ending (opening_of self.old.head) self.old.piece.at self.old.piece.units.items (drop read (codes "script")) (trees_of self.old) (opens_of self.old) (sign_of c) (spot c at)) result (state_of self.new) }
     {
         match byte_at(b"script", read) {
             None => self.raw_ended(c, at),
@@ -60,15 +61,15 @@ impl Reader {
     // Behind `</script`.
     #[tactic(auto, using(crate::proofs::Grows::one_text))]
     fn raw_ended(&mut self, c: char, at: usize) -> Result<(), Stop>
-        ensures { Took (machine.raw_ending (opening_of self.old.head) self.old.text_at self.old.units.items [] (trees_of self.old) (opens_of self.old) (sign_of c) (spot c at)) result (state_of self.new) }
+        ensures { Took (machine.raw_ending (opening_of self.old.head) self.old.piece.at self.old.piece.units.items [] (trees_of self.old) (opens_of self.old) (sign_of c) (spot c at)) result (state_of self.new) }
     {
         match sign_of(c) {
             Sign::Greater => {
-                let text = take_text(self.alloc, &mut self.units)?;
+                let text = take_text(self.alloc, &mut self.piece.units)?;
                 let mut children = Vec::new(self.alloc);
                 children.push(Plain::Text {
                     text,
-                    at: self.text_at,
+                    at: self.piece.at,
                 })?;
                 Ok(self.add_element(children)?)
             }

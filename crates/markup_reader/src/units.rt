@@ -1,18 +1,9 @@
-//! Lists of units that grow.
-ghost use Rattle.std.specs.Prelude.{◌≡◌, ◌++◌, ◌∷◌, ◌+◌, [], IfOk, OnOk, IfSome, ◌<◌, length, drop, MatchOption};
-ghost use Rattle.std.specs.Char.Escape.{encode_utf16};
+//! Units that are taken, and units of words.
+ghost use Rattle.std.specs.Prelude.{◌≡◌, ◌∷◌, ◌+◌, [], IfOk, IfSome, ◌<◌, length, drop, MatchOption};
 
 use code_units::{Memory, Text};
 use std::alloc::Global;
 use std::mem;
-
-/// Appends the units of a character.
-pub fn push_char(units: &mut Vec<u16>, c: char) -> Result<(), Memory>
-    ensures { OnOk result (units.new.items ≡ units.old.items ++ encode_utf16 c) }
-{
-    units.extend_from_slice(c.encode_utf16(&mut [0; 2]))?;
-    Ok(())
-}
 
 /// The text of the units, which are taken out.
 pub fn take_text(alloc: Global, units: &mut Vec<u16>) -> Result<Text, Memory>

@@ -6,6 +6,6 @@ use Rattle.markup_reader.proofs.reader.Reader.begin_end.Goals as goal
 
 pub returns : goal.returns
 returns c =
-    let n = length_stack [] c.args.self.now.open.items in
-    let l = c.args.self.now.open.ok.0 in
+    let n = length_stack [] c.args.self.now.grown.open.items in
+    let l = c.args.self.now.grown.open.ok.0 in
     end_goes (trees_of c.args.self.now) (opens_of c.args.self.now) (grind (arith, common_steps, n, l, c.is_empty.ensures, c.if-is_empty.false))

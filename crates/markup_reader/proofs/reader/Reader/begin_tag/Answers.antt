@@ -5,8 +5,8 @@ use Rattle.markup_reader.proofs.reader.Reader.begin_tag.Goals as goal
 
 pub returns : goal.returns
 returns c =
-    let n = length_stack [] c.args.self.now.open.items in
-    let l = c.args.self.now.open.ok.0 in
+    let n = length_stack [] c.args.self.now.grown.open.items in
+    let l = c.args.self.now.grown.open.ok.0 in
     let few = c.len.ensures in
     tag_goes c.args.self.now.head.at (trees_of c.args.self.now) (opens_of c.args.self.now) (spot c.args.c c.args.at) c.push.new.self.items
     (omega (arith, n, l, few, c.if-len-ge-LIMIT.false))

@@ -3,4 +3,4 @@ use Rattle.markup_reader.proofs.Grows.{top_last}
 use Rattle.markup_reader.proofs.reader.Reader.end_word.Goals as goal
 
 pub returns-in-Some : goal.returns-in-Some
-returns-in-Some c = c.units.ensures ∙ sym (top_last c.args.self.now.open.items c.in-Some.open.now (sym (c.in-Some.ensures.value ∙ ap (λ l. slice_get l (length l - 1)) c.deref.ensures.value)))
+returns-in-Some c = c.units.ensures ∙ sym (top_last c.args.self.now.grown.open.items c.in-Some.open.now (sym (c.in-Some.ensures.value ∙ ap (λ l. slice_get l (length l - 1)) c.deref.ensures.value)))

@@ -6,6 +6,6 @@ use Rattle.markup_reader.proofs.reader.Reader.finish.Goals as goal
 
 pub returns-then-not-is_empty : goal.returns-then-not-is_empty
 returns-then-not-is_empty c =
-    let n = length_stack [] c.args.self.now.open.items in
-    let l = c.args.self.now.open.ok.0 in
+    let n = length_stack [] c.args.self.now.grown.open.items in
+    let l = c.args.self.now.grown.open.ok.0 in
     λ _. unfinished (mode_of c.args.self.now c.args.self.now.mode) (trees_of c.args.self.now) (opens_of c.args.self.now) (grind (arith, common_steps, n, l, c.is_empty.ensures, c.if-not-is_empty))
