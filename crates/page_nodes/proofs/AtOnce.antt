@@ -48,7 +48,7 @@ searched_listed xs x r sorted h = of r (searched xs x r h (λ i j le lt. (IsNonD
 
 -- ## Lists without others
 
-turned : (a b : ℕ) → eqb a b ≡ eqb b a
+pub turned : (a b : ℕ) → eqb a b ≡ eqb b a
 turned a b = cases (λ c. eqb a b ≡ c → c ≡ eqb b a) (eqb a b) (λ e _. sym (eq-eqb b a (sym (eqb-true a b e)))) (λ e _. sym (ne_eqb b a (λ h. eqb-false a b e (sym h)))) refl
 
 pub outside_none : (xs : List ℕ) → outside [] xs ≡ xs
@@ -169,7 +169,7 @@ spliced_at s ms (y ∷ ys) (suc i) le none found =
 
 -- ## Nodes moved one after the other
 
-freed_is : (k : List Entry) → IsSound k → (n : ℕ) → n < length k → (u : Option ℕ) → (at k n).parent ≡ u → (d : List Entry) × IsCut k d n
+pub freed_is : (k : List Entry) → IsSound k → (n : ℕ) → n < length k → (u : Option ℕ) → (at k n).parent ≡ u → (d : List Entry) × IsCut k d n
 freed_is k s n lt None u = (k, cut_none k s n u)
 freed_is k s n lt (Some p) u = (raised (taken k p n) n, cut_written k s n p (parent_in k s n p u) lt u)
 
@@ -245,11 +245,11 @@ all_moved a k t s done (n ∷ ns) puts sound tin may =
 -- ## The same at once
 
 -- entries of equal parts are equal
-entry_same : (a b : Entry) → a.owner ≡ b.owner → a.parent ≡ b.parent → a.children ≡ b.children → a.label ≡ b.label → a ≡ b
+pub entry_same : (a b : Entry) → a.owner ≡ b.owner → a.parent ≡ b.parent → a.children ≡ b.children → a.label ≡ b.label → a ≡ b
 entry_same a b eo ep ec el = λ i. record { owner = eo i; parent = ep i; children = ec i; label = el i }
 
 -- lists of equal elements are equal
-all_same : (k m : List Entry) → length m ≡ length k → ((x : ℕ) → at m x ≡ at k x) → m ≡ k
+pub all_same : (k m : List Entry) → length m ≡ length k → ((x : ℕ) → at m x ≡ at k x) → m ≡ k
 all_same [] [] e h = refl
 all_same [] (y ∷ m) e h = absurd (omega (arith, e))
 all_same (x ∷ k) [] e h = absurd (omega (arith, e))
@@ -264,7 +264,7 @@ parents_last : (t : ℕ) (ns : List ℕ) (n : ℕ) (u : ℕ → Option ℕ) (x :
 parents_last t [] n u x = refl
 parents_last t (m ∷ ns) n u x = parents_last t ns n (λ y. cond (eqb y m) (Some t) (u y)) x
 
-same_function : {B : Type 0} (f g : ℕ → B) → ((x : ℕ) → f x ≡ g x) → f ≡ g
+pub same_function : {B : Type 0} (f g : ℕ → B) → ((x : ℕ) → f x ≡ g x) → f ≡ g
 same_function f g h = λ i. λ x. h x i
 
 pub puts_are : (k : List Entry) (t : ℕ) (s : Option ℕ) (ns : List ℕ) (m : List Entry) → Puts k t s ns m → ArePut k m t s ns
@@ -396,7 +396,7 @@ free_swept k m m2 ns i n p s lt en f u w =
           (ap (λ y. (at m2 y).parent) (sym en) ∙ swept.cleared n p (met.0) ∙ ap (λ b. cond (b && (eqb p p || listed p f.parents)) None (Some p)) here ∙ ap (λ b. cond (b || listed p f.parents) None (Some p)) (eq-eqb p p refl));
     }
 
-outside_same : (ns ms xs : List ℕ) → ((x : ℕ) → listed x ns ≡ listed x ms) → outside ns xs ≡ outside ms xs
+pub outside_same : (ns ms xs : List ℕ) → ((x : ℕ) → listed x ns ≡ listed x ms) → outside ns xs ≡ outside ms xs
 outside_same ns ms [] h = refl
 outside_same ns ms (x ∷ xs) h = ap (λ b. cond (not b) (x ∷ outside ns xs) (outside ns xs)) (h x) ∙ ap (λ l. cond (not (listed x ms)) (x ∷ l) l) (outside_same ns ms xs h)
 
@@ -447,7 +447,7 @@ cut_at_once k m ns i s le f = record {
         (λ h _. f.swept.cleared x q e ∙ ap (λ b. cond (b && listed q f.parents) None (Some q)) h ∙ sym e)
         refl
 
-listed-last : (x n : ℕ) (xs : List ℕ) → listed x (xs ++ n ∷ []) ≡ (listed x xs || eqb n x)
+pub listed-last : (x n : ℕ) (xs : List ℕ) → listed x (xs ++ n ∷ []) ≡ (listed x xs || eqb n x)
 listed-last x n [] = cases (λ b. (b || false) ≡ b) (eqb n x) (λ _. refl) (λ _. refl)
 listed-last x n (y ∷ xs) = ap (λ b. eqb y x || b) (listed-last x n xs) ∙ cases (λ b. (b || (listed x xs || eqb n x)) ≡ ((b || listed x xs) || eqb n x)) (eqb y x) (λ _. refl) (λ _. refl)
 

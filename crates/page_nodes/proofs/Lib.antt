@@ -17,4 +17,5 @@ pub mod Plains
 pub mod Adds
 pub mod Width
 pub mod AtOnce
+pub mod Detaching
 pub mod Indexing

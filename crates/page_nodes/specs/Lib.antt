@@ -5,6 +5,7 @@ pub mod Room
 pub mod Contents
 pub mod Copies
 pub mod Moves
+pub mod Writes
 pub mod Many
 pub mod Adds
 pub mod Arenas

@@ -1,5 +1,5 @@
 -- Many nodes are moved at once.
-use Rattle.std.specs.Prelude.{◌≡◌, ℕ, ◌-◌, List, [], ◌∷◌, ◌++◌, Option, Some, None, is_some, not, ◌&&◌, ◌==◌, if◌then◌else◌, take, drop, reverse}
+use Rattle.std.specs.Prelude.{◌≡◌, ℕ, ◌-◌, ◌<◌, List, length, slice_index, [], ◌∷◌, ◌++◌, Option, Some, None, is_some, not, ◌&&◌, ◌==◌, if◌then◌else◌, take, drop, reverse}
 use Rattle.std.specs.List.{filter}
 use Rattle.tree_ops.specs.Trees.{is_number}
 use Rattle.page_nodes.specs.Entries.{Entry, at, listed}
@@ -48,6 +48,10 @@ pub record AreCut (old new : List Entry) (ns : List ℕ) : Type 0 where
   pub kept : KeepsNodes old new
   pub children : (x : ℕ) → (at new x).children ≡ outside ns (at old x).children
   pub parents : (x : ℕ) → (at new x).parent ≡ (if listed x ns then None else (at old x).parent)
+
+-- none of these nodes has a parent
+abbrev pub AreTops : List Entry → List ℕ → Type 0
+AreTops k ns = (i : ℕ) → i < length ns → (at k (slice_index ns i)).parent ≡ None
 
 -- nodes without a parent stand behind the last child of a target, each once and the last of them first
 pub record AreAdded (old new : List Entry) (t : ℕ) (ms ns : List ℕ) : Type 0 where

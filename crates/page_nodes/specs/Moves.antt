@@ -3,9 +3,9 @@ use Rattle.std.specs.Prelude.{◌≡◌, ℕ, ◌+◌, ◌<◌, ◌≤◌, List,
 use Rattle.plain_tree.specs.Trees.{Label, Trees, height}
 use Rattle.tree_ops.specs.Labels.{is_text}
 use Rattle.tree_ops.specs.Trees.{has, grafted, relabelled}
-use Rattle.page_nodes.specs.Trees.{level, pruned}
+use Rattle.page_nodes.specs.Trees.{level, pruned, all_pruned}
 use Rattle.page_nodes.specs.Owners.{same_owner}
-use Rattle.page_nodes.specs.Entries.{Entry, at, body, tree, limit, IsSound}
+use Rattle.page_nodes.specs.Entries.{Entry, at, body, listed, tree, limit, IsSound}
 
 -- labels and owners stay
 pub record KeepsNodes (old new : List Entry) : Type 0 where
@@ -17,6 +17,12 @@ pub record KeepsNodes (old new : List Entry) : Type 0 where
 pub record Detached (old new : List Entry) (n : ℕ) : Type 0 where
   pub trees : (x : ℕ) → tree new x ≡ pruned n (tree old x)
   pub parents : (x : ℕ) → (at new x).parent ≡ (if x == n then None else (at old x).parent)
+  pub kept : KeepsNodes old new
+
+-- Nodes are taken from their parents: every tree is without them below its top.
+pub record AreDetached (old new : List Entry) (ns : List ℕ) : Type 0 where
+  pub trees : (x : ℕ) → tree new x ≡ all_pruned ns (tree old x)
+  pub parents : (x : ℕ) → (at new x).parent ≡ (if listed x ns then None else (at old x).parent)
   pub kept : KeepsNodes old new
 
 -- the tree of each node, after one is put among the children of another
@@ -86,6 +92,11 @@ AreNodes k ns = (i : ℕ) → i < length ns → slice_index ns i < length k
 abbrev pub OthersStay : List Entry → List Entry → ℕ → Type 0
 OthersStay old new t = (x : ℕ) → x ≢ body → (at old x).owner ≢ (at old t).owner → tree new x ≡ tree old x
 
+-- the trees stay of the owners that have none of these nodes
+abbrev pub OthersOfAllStay : List Entry → List Entry → List ℕ → Type 0
+OthersOfAllStay old new ns =
+    (x : ℕ) → x ≢ body → ((n : ℕ) → listed n ns ≡ true → (at old x).owner ≢ (at old n).owner) → tree new x ≡ tree old x
+
 -- A tree stands in the place of another under `body`.
 pub record IsSwapped (old new : List Entry) (n m : ℕ) : Type 0 where
   pub trees : (x : ℕ) → tree new x ≡ pruned n (grafted body (Some n) (tree old m) (tree old x))
@@ -105,3 +116,8 @@ pub record IsRelabelled (old new : List Entry) (n : ℕ) (l : Label) : Type 0 wh
 pub data Puts (k : List Entry) (t : ℕ) (s : Option ℕ) : List ℕ → List Entry → Type 0 where
   none_put : Puts k t s [] k
   put_last : {ns : List ℕ} {m new : List Entry} {n : ℕ} → Puts k t s ns m → IsSound m → MayMove m t n → IsPut m new t s n → Puts k t s (ns ++ n ∷ []) new
+
+-- Nodes were taken from their parents one after the other. Each page on the way keeps what every page keeps.
+pub data Detaches (k : List Entry) : List ℕ → List Entry → Type 0 where
+  none_detached : Detaches k [] k
+  detach_last : {ns : List ℕ} {m new : List Entry} {n : ℕ} → Detaches k ns m → IsSound m → Detached m new n → Detaches k (ns ++ n ∷ []) new

@@ -15,7 +15,7 @@ use crate::links::{
     add_child, children_of, content_of, drop_child, owner_of, parent_of, push_node,
     reserve_children, set_attribute, set_parent, set_text, swap_child,
 };
-use crate::many::{hang_all, sorted, take_all};
+use crate::many::{hang_all, sorted, take_all, take_children};
 use crate::rows::{Content, Row};
 use code_units::{Memory, Owner, Text, from_utf8_bytes};
 use plain_tree::Plain;
@@ -37,7 +37,7 @@ pub struct Arena {
 
 impl Arena {
     ghost use Rattle.page_nodes.specs.Arenas.{nodes_in, room_of};
-    ghost use Rattle.page_nodes.specs.Moves.{Detached, IsDepth, MayLink, IsLinked, MayMoveAll, IsSwapped, IsRelabelled, ArePut, Puts, AreNodes, OthersStay};
+    ghost use Rattle.page_nodes.specs.Moves.{Detached, AreDetached, Detaches, IsDepth, MayLink, IsLinked, MayMoveAll, IsSwapped, IsRelabelled, ArePut, Puts, AreNodes, OthersStay};
 
     /// The arena of `body` alone.
     pub fn new(alloc: Global) -> Result<Arena, Memory>
@@ -164,6 +164,27 @@ impl Arena {
         }
     }
 
+    /// Takes nodes from their parents. Each list of children that changes is gone over once. It takes
+    /// no memory.
+    pub fn detach_all(&mut self, nodes: Vec<u32>)
+        requires { AreNodes (nodes_in self.old) nodes.items }
+        ensures links { AreDetached (nodes_in self.old) (nodes_in self.new) nodes.items }
+        ensures steps { Detaches (nodes_in self.old) nodes.items (nodes_in self.new) }
+    {
+        let mut sorted = nodes;
+        sorted.sort_unstable();
+        take_all(&mut self.rows, &sorted, &sorted);
+    }
+
+    /// Takes all children from a node. It takes no memory.
+    pub fn empty(&mut self, node: u32)
+        requires { node < length (nodes_in self.old) }
+        ensures links { AreDetached (nodes_in self.old) (nodes_in self.new) (at (nodes_in self.old) node).children }
+        ensures steps { Detaches (nodes_in self.old) (at (nodes_in self.old) node).children (nodes_in self.new) }
+    {
+        take_children(&mut self.rows, node);
+    }
+
     /// Makes room for further children of a node. Nothing else changes.
     pub fn reserve(&mut self, node: u32, count: usize) -> Result<(), AllocError>
         requires { node < length (nodes_in self.old) }
@@ -231,7 +252,8 @@ impl Arena {
         requires node { node < length (nodes_in self.old) }
         requires element { is_text (at (nodes_in self.old) node).label ≡ false }
         ensures { MatchResult result
-            (λ _. IsRelabelled (nodes_in self.old) (nodes_in self.new) node (with_attribute name.now value (at (nodes_in self.old) node).label))
+            (λ _. IsRelabelled (nodes_in self.old) (nodes_in self.new) node
+            (with_attribute name.now value (at (nodes_in self.old) node).label))
             (λ _. nodes_in self.new ≡ nodes_in self.old) }
     {
         set_attribute(&mut self.rows, node, name, value)

@@ -42,7 +42,8 @@ pub fn plain_with(
     children: Vec<Plain>,
 ) -> Result<Plain, Memory>
     requires { is_text (label_of content.now) ≡ true → children.items ≡ [] }
-    ensures { IfOk result (λ plain. unplaced plain ≡ Node tt (taken_label ids (label_of content.now)) (unplaced_all children.items) End) }
+    ensures { IfOk result (λ plain.
+        unplaced plain ≡ Node tt (taken_label ids (label_of content.now)) (unplaced_all children.items) End) }
 {
     match content {
         Content::Text(text) => Ok(Plain::Text {

@@ -85,7 +85,8 @@ fn put_under(lists: &mut Lists, id: &Text, node: u32)
     requires in_order { (value : List ℕ) → rises 0 (numbers_of lists.old value) ≡ true }
     requires room { 1 ≤ room_under lists.old id.now }
     ensures in_order { (value : List ℕ) → rises 0 (numbers_of lists.new value) ≡ true }
-    ensures exact { (value : List ℕ) (x : ℕ) → listed x (numbers_of lists.new value) ≡ (listed x (numbers_of lists.old value) || (bytes_eq id.now value && (node == x))) }
+    ensures exact { (value : List ℕ) (x : ℕ) → listed x (numbers_of lists.new value) ≡
+        (listed x (numbers_of lists.old value) || (bytes_eq id.now value && (node == x))) }
 {
     match lists.get_mut(id) {
         Some(list) => put_in_order(list, node),
@@ -97,7 +98,8 @@ fn put_under(lists: &mut Lists, id: &Text, node: u32)
 fn take_from(lists: &mut Lists, id: &Text, node: u32)
     requires in_order { (value : List ℕ) → rises 0 (numbers_of lists.old value) ≡ true }
     ensures in_order { (value : List ℕ) → rises 0 (numbers_of lists.new value) ≡ true }
-    ensures exact { (value : List ℕ) (x : ℕ) → listed x (numbers_of lists.new value) ≡ (listed x (numbers_of lists.old value) && not (bytes_eq id.now value && (node == x))) }
+    ensures exact { (value : List ℕ) (x : ℕ) → listed x (numbers_of lists.new value) ≡
+        (listed x (numbers_of lists.old value) && not (bytes_eq id.now value && (node == x))) }
     ensures room { (value : List ℕ) → room_under lists.old value ≤ room_under lists.new value }
 {
     if let Some(list) = lists.get_mut(id) {

@@ -161,7 +161,8 @@ fn set_id(
     requires owners { AreOwners (nodes_in arena.old) }
     requires index { IsIndex (nodes_in arena.old) ids.old }
     ensures nodes { MatchResult result
-        (λ _. IsRelabelled (nodes_in arena.old) (nodes_in arena.new) node (with_attribute name.now value (at (nodes_in arena.old) node).label))
+        (λ _. IsRelabelled (nodes_in arena.old) (nodes_in arena.new) node
+        (with_attribute name.now value (at (nodes_in arena.old) node).label))
         (λ _. nodes_in arena.new ≡ nodes_in arena.old) }
     ensures index { IsIndex (nodes_in arena.new) ids.new }
 {
@@ -189,7 +190,8 @@ pub fn set_attribute(
     requires owners { AreOwners (nodes_in arena.old) }
     requires index { IsIndex (nodes_in arena.old) ids.old }
     ensures nodes { MatchResult result
-        (λ _. IsRelabelled (nodes_in arena.old) (nodes_in arena.new) node (with_attribute name.now value (at (nodes_in arena.old) node).label))
+        (λ _. IsRelabelled (nodes_in arena.old) (nodes_in arena.new) node
+        (with_attribute name.now value (at (nodes_in arena.old) node).label))
         (λ _. nodes_in arena.new ≡ nodes_in arena.old) }
     ensures index { IsIndex (nodes_in arena.new) ids.new }
 {

@@ -1,10 +1,11 @@
 //! The links of the arena, without its invariants: each call writes one node.
-ghost use Rattle.std.specs.Prelude.{◌≡◌, ℕ, ◌+◌, ◌<◌, ◌≤◌, List, [], ◌∷◌, ◌++◌, length, Some, None, insert, slice_set, slice_index, slice_get, true, false, is_ok, ◌≢◌, OnOk, MatchResult};
+ghost use Rattle.std.specs.Prelude.{◌≡◌, ℕ, ◌+◌, ◌<◌, ◌≤◌, List, [], ◌∷◌, ◌++◌, length, Some, None, insert, slice_index, slice_get, true, false, is_ok, ◌≢◌, OnOk, MatchResult};
 ghost use Rattle.page_nodes.specs.Entries.{minus, before, listed, distinct, Entry, entries, at, label_of};
 ghost use Rattle.tree_ops.specs.Labels.{is_text, with_attribute};
 ghost use Rattle.tree_ops.specs.Trees.{is_number};
 ghost use Rattle.plain_tree.specs.Trees.{TextOf};
 ghost use Rattle.page_nodes.specs.Room.{room_in, room_at};
+ghost use Rattle.page_nodes.specs.Writes.{new_entry, with_children, with_parent, with_label, children_in, label_in};
 
 use crate::content;
 use crate::rows::{Content, Row};
@@ -59,7 +60,8 @@ fn take_out(list: &mut Vec<u32>, number: u32)
 #[tactic(auto, using(crate::proofs::Lists::entries_long))]
 pub fn drop_child(rows: &mut Vec<Row>, parent: u32, node: u32)
     requires { parent < length (entries rows.old.items) }
-    ensures links { entries rows.new.items ≡ slice_set (entries rows.old.items) parent (record (at (entries rows.old.items) parent) { children = minus node (at (entries rows.old.items) parent).children }) }
+    ensures links { entries rows.new.items ≡
+        with_children (entries rows.old.items) parent (minus node (children_in rows.old.items parent)) }
     ensures room { (t : ℕ) → room_at rows.old.items t ≤ room_at rows.new.items t }
 {
     take_out(&mut rows[parent as usize].children, node);
@@ -69,7 +71,7 @@ pub fn drop_child(rows: &mut Vec<Row>, parent: u32, node: u32)
 #[tactic(auto, using(crate::proofs::Lists::entries_long))]
 pub fn set_parent(rows: &mut Vec<Row>, node: u32, parent: Option<u32>)
     requires { node < length (entries rows.old.items) }
-    ensures links { entries rows.new.items ≡ slice_set (entries rows.old.items) node (record (at (entries rows.old.items) node) { parent = parent }) }
+    ensures links { entries rows.new.items ≡ with_parent (entries rows.old.items) node parent }
     ensures room { (t : ℕ) → room_at rows.old.items t ≤ room_at rows.new.items t }
 {
     rows[node as usize].parent = parent;
@@ -120,7 +122,8 @@ fn put_in(list: &mut Vec<u32>, next: Option<u32>, number: u32)
 pub fn add_child(rows: &mut Vec<Row>, parent: u32, next: Option<u32>, node: u32)
     requires parent { parent < length (entries rows.old.items) }
     requires room { 1 ≤ room_at rows.old.items parent }
-    ensures links { entries rows.new.items ≡ slice_set (entries rows.old.items) parent (record (at (entries rows.old.items) parent) { children = before next node (at (entries rows.old.items) parent).children }) }
+    ensures links { entries rows.new.items ≡
+        with_children (entries rows.old.items) parent (before next node (children_in rows.old.items parent)) }
     ensures room { (t : ℕ) → room_at rows.old.items t ≤ room_at rows.new.items t + 1 }
 {
     put_in(&mut rows[parent as usize].children, next, node);
@@ -144,7 +147,8 @@ pub fn swap_child(rows: &mut Vec<Row>, parent: u32, old: u32, new: u32)
     requires listed { listed old (at (entries rows.old.items) parent).children ≡ true }
     requires once { distinct (at (entries rows.old.items) parent).children ≡ true }
     requires other { new ≢ old }
-    ensures { entries rows.new.items ≡ slice_set (entries rows.old.items) parent (record (at (entries rows.old.items) parent) { children = minus old (before (Some old) new (at (entries rows.old.items) parent).children) }) }
+    ensures { entries rows.new.items ≡ with_children (entries rows.old.items) parent
+        (minus old (before (Some old) new (children_in rows.old.items parent))) }
 {
     write_over(&mut rows[parent as usize].children, old, new);
 }
@@ -168,7 +172,7 @@ pub fn push_node(
     content: Content,
 ) -> Result<(), AllocError>
     ensures { MatchResult result
-        (λ _. entries rows.new.items ≡ entries rows.old.items ++ record { owner = owner; parent = None; children = []; label = label_of content } ∷ [])
+        (λ _. entries rows.new.items ≡ entries rows.old.items ++ new_entry owner (label_of content) ∷ [])
         (λ _. entries rows.new.items ≡ entries rows.old.items) }
 {
     let row = Row {
@@ -191,7 +195,8 @@ pub fn set_attribute(
     requires node { node < length (entries rows.old.items) }
     requires element { is_text (at (entries rows.old.items) node).label ≡ false }
     ensures { MatchResult result
-        (λ _. entries rows.new.items ≡ slice_set (entries rows.old.items) node (record (at (entries rows.old.items) node) { label = with_attribute name.now value (at (entries rows.old.items) node).label }))
+        (λ _. entries rows.new.items ≡
+        with_label (entries rows.old.items) node (with_attribute name.now value (label_in rows.old.items node)))
         (λ _. entries rows.new.items ≡ entries rows.old.items) }
 {
     content::set_attribute(&mut rows[node as usize].content, name, value)
@@ -201,7 +206,7 @@ pub fn set_attribute(
 #[tactic(auto, using(crate::proofs::Lists::entries_long))]
 pub fn set_text(rows: &mut Vec<Row>, node: u32, text: Text)
     requires { node < length (entries rows.old.items) }
-    ensures { entries rows.new.items ≡ slice_set (entries rows.old.items) node (record (at (entries rows.old.items) node) { label = TextOf text }) }
+    ensures { entries rows.new.items ≡ with_label (entries rows.old.items) node (TextOf text) }
 {
     rows[node as usize].content = Content::Text(text);
 }

@@ -1,12 +1,13 @@
 //! Many nodes moved at once: each list of children that changes is gone over once.
-ghost use Rattle.std.specs.Prelude.{◌≡◌, ℕ, ◌<◌, ◌≤◌, ◌+◌, ◌-◌, [], ◌∷◌, ◌++◌, length, true, false, None, Some, IfOk, is_some, if◌then◌else◌, slice_index, slice_set, take, drop, reverse};
+ghost use Rattle.std.specs.Prelude.{◌≡◌, ℕ, ◌<◌, ◌≤◌, ◌+◌, ◌-◌, [], ◌∷◌, ◌++◌, length, true, false, None, Some, IfOk, is_some, if◌then◌else◌, take, drop, reverse};
 ghost use Rattle.std.specs.List.Sorted.{IsSorted};
 ghost use Rattle.std.specs.Ordering.{nat_cmp};
 ghost use Rattle.tree_ops.specs.Trees.{is_number};
 ghost use Rattle.page_nodes.specs.Entries.{at, entries, listed, IsSound};
-ghost use Rattle.page_nodes.specs.Many.{outside, if_top, backward, put_off, AreCleared, IsSwept, AreCut, AreAdded, AreHung, last_ones};
+ghost use Rattle.page_nodes.specs.Many.{outside, if_top, backward, put_off, AreCleared, IsSwept, AreCut, AreAdded, AreHung, AreTops, last_ones};
 ghost use Rattle.page_nodes.specs.Moves.{AreNodes};
 ghost use Rattle.page_nodes.specs.Room.{room_at, room_in};
+ghost use Rattle.page_nodes.specs.Writes.{with_children, children_in};
 
 use crate::links::{add_child, children_of, parent_of, place_of, set_parent};
 use crate::rows::Row;
@@ -73,8 +74,8 @@ fn clear_links(rows: &mut Vec<Row>, parent: u32, sorted: &[u32])
 fn drop_children(rows: &mut Vec<Row>, parent: u32, sorted: &[u32])
     requires parent { parent < length (entries rows.old.items) }
     requires in_order { IsSorted nat_cmp sorted.now }
-    ensures links { entries rows.new.items ≡ slice_set (entries rows.old.items) parent
-        (record (at (entries rows.old.items) parent) { children = outside sorted.now (at (entries rows.old.items) parent).children }) }
+    ensures links { entries rows.new.items ≡
+        with_children (entries rows.old.items) parent (outside sorted.now (children_in rows.old.items parent)) }
     ensures room { (t : ℕ) → room_at rows.old.items t ≤ room_at rows.new.items t }
 {
     take_out_all(&mut rows[parent as usize].children, sorted);
@@ -90,6 +91,39 @@ fn sweep(rows: &mut Vec<Row>, parent: u32, sorted: &[u32])
 {
     clear_links(rows, parent, sorted);
     drop_children(rows, parent, sorted);
+}
+
+// Clears the link up from each child of a node.
+fn clear_all(rows: &mut Vec<Row>, parent: u32)
+    requires parent { parent < length (entries rows.old.items) }
+    requires inside { AreNodes (entries rows.old.items) (children_in rows.old.items parent) }
+    ensures { AreCleared (entries rows.old.items) (entries rows.new.items)
+        (children_in rows.old.items parent) (children_in rows.old.items parent) }
+{
+    let width = children_of(rows, parent).len();
+    'each: for place in 0..width {
+        let child = children_of(rows, parent)[place];
+        set_parent(rows, child, None);
+    }
+}
+
+// Leaves a node without children.
+#[tactic(auto, using(crate::proofs::Lists::entries_long))]
+fn drop_all(rows: &mut Vec<Row>, parent: u32)
+    requires { parent < length (entries rows.old.items) }
+    ensures { entries rows.new.items ≡ with_children (entries rows.old.items) parent [] }
+{
+    rows[parent as usize].children.clear();
+}
+
+/// Takes all children from a node.
+pub fn take_children(rows: &mut Vec<Row>, parent: u32)
+    requires parent { parent < length (entries rows.old.items) }
+    requires inside { AreNodes (entries rows.old.items) (children_in rows.old.items parent) }
+    ensures { IsSwept (entries rows.old.items) (entries rows.new.items) (children_in rows.old.items parent) parent }
+{
+    clear_all(rows, parent);
+    drop_all(rows, parent);
 }
 
 /// Takes nodes from their parents. They are given a second time in order.
@@ -114,7 +148,8 @@ fn hang_one(rows: &mut Vec<Row>, target: u32, node: u32)
     requires node { node < length (entries rows.old.items) }
     requires room { 1 ≤ room_at rows.old.items target }
     ensures links { AreAdded (entries rows.old.items) (entries rows.new.items) target
-        (if_top (at (entries rows.old.items) node).parent node) (if_top (at (entries rows.old.items) node).parent node) }
+        (if_top (at (entries rows.old.items) node).parent node)
+        (if_top (at (entries rows.old.items) node).parent node) }
     ensures room { (t : ℕ) → room_at rows.old.items t ≤ room_at rows.new.items t + 1 }
 {
     if parent_of(rows, node).is_none() {
@@ -127,9 +162,10 @@ fn hang_one(rows: &mut Vec<Row>, target: u32, node: u32)
 fn hang_back(rows: &mut Vec<Row>, target: u32, nodes: &[u32])
     requires target { target < length (entries rows.old.items) }
     requires nodes { AreNodes (entries rows.old.items) nodes.now }
-    requires tops { (i : ℕ) → i < length nodes.now → (at (entries rows.old.items) (slice_index nodes.now i)).parent ≡ None }
+    requires tops { AreTops (entries rows.old.items) nodes.now }
     requires room { length nodes.now ≤ room_at rows.old.items target }
-    ensures { AreAdded (entries rows.old.items) (entries rows.new.items) target (reverse (last_ones nodes.now)) nodes.now }
+    ensures { AreAdded (entries rows.old.items) (entries rows.new.items) target
+        (reverse (last_ones nodes.now)) nodes.now }
 {
     let mut left = nodes.len();
     'back: while left > 0 {
@@ -171,8 +207,8 @@ fn turn_children(rows: &mut Vec<Row>, parent: u32, place: usize, first: usize)
     requires parent { parent < length (entries rows.old.items) }
     requires order { place ≤ first }
     requires inside { first ≤ length (at (entries rows.old.items) parent).children }
-    ensures { entries rows.new.items ≡ slice_set (entries rows.old.items) parent
-        (record (at (entries rows.old.items) parent) { children = put_off place first (backward first (at (entries rows.old.items) parent).children) }) }
+    ensures { entries rows.new.items ≡ with_children (entries rows.old.items) parent
+        (put_off place first (backward first (children_in rows.old.items parent))) }
 {
     turn_in(&mut rows[parent as usize].children, place, first);
 }
@@ -182,7 +218,7 @@ fn turn_children(rows: &mut Vec<Row>, parent: u32, place: usize, first: usize)
 pub fn hang_all(rows: &mut Vec<Row>, target: u32, next: Option<u32>, nodes: &[u32])
     requires target { target < length (entries rows.old.items) }
     requires nodes { AreNodes (entries rows.old.items) nodes.now }
-    requires tops { (i : ℕ) → i < length nodes.now → (at (entries rows.old.items) (slice_index nodes.now i)).parent ≡ None }
+    requires tops { AreTops (entries rows.old.items) nodes.now }
     requires room { length nodes.now ≤ room_at rows.old.items target }
     ensures { AreHung (entries rows.old.items) (entries rows.new.items) target next nodes.now }
 {

@@ -5,5 +5,4 @@ pub mod Start
 pub mod Counts
 pub mod Takes
 pub mod Agree
-pub mod Trials
 pub mod InDocument

@@ -10,7 +10,7 @@ use Rattle.std.proofs.lemmas.List.{get_or_past}
 use Rattle.page_nodes.specs.Owners.{is_owner, same_owner, root_in}
 use Rattle.page_tree.specs.Roots.{IsRooted}
 use Rattle.page_nodes.specs.Entries.{Entry, at, body, listed, tree, IsSound, no_entry}
-use Rattle.page_nodes.specs.Moves.{parents_after, ArePut, Detached, KeepsNodes, OthersStay, IsLinked, IsSwapped, IsRelabelled}
+use Rattle.page_nodes.specs.Moves.{parents_after, ArePut, Detached, AreDetached, KeepsNodes, OthersStay, IsLinked, IsSwapped, IsRelabelled}
 use Rattle.page_tree.specs.Pages.{MayPutAll, MayReplace, root_after, HasNone}
 use Rattle.page_nodes.proofs.Owners.{same_is, is_same}
 use Rattle.page_nodes.specs.Trees.{pruned}
@@ -74,15 +74,22 @@ not_none : (p : ℕ) (b : Bool) (u : Option ℕ) → cond b None u ≡ Some p �
 not_none p true u h = cc
 not_none p false u h = h
 
-pub rooted_cut : (k m : List Entry) (roots : List (Option ℕ)) (n : ℕ) → IsRooted k roots → Detached k m n → IsRooted m roots
-rooted_cut k m roots n r cut = record {
+-- where nodes lose their parents at most
+rooted_fewer : (k m : List Entry) (roots : List (Option ℕ)) → IsRooted k roots → KeepsNodes k m → ((x p : ℕ) → (at m x).parent ≡ Some p → (at k x).parent ≡ Some p) → IsRooted m roots
+rooted_fewer k m roots r kept parents = record {
   host = r.host;
-  owners = λ x. ap is_owner (cut.kept.owners x) ∙ r.owners x;
-  is_in = λ o x i e. omega (arith, cut.kept.made, r.is_in o x i e);
-  own = λ o x i e. ap (λ p. same_owner p o) (cut.kept.owners x) ∙ r.own o x i e;
-  high = λ o x p i e u. r.high o x p i e (not_none p (eqb x n) (at k x).parent (sym (cut.parents x) ∙ u));
-  under = λ x u w. ap (root_in roots) (cut.kept.owners x) ∙ r.under x (not_none body (eqb x n) (at k x).parent (sym (cut.parents x) ∙ u)) (ap (λ p. same_owner p owner.Host) (sym (cut.kept.owners x)) ∙ w);
+  owners = λ x. ap is_owner (kept.owners x) ∙ r.owners x;
+  is_in = λ o x i e. omega (arith, kept.made, r.is_in o x i e);
+  own = λ o x i e. ap (λ p. same_owner p o) (kept.owners x) ∙ r.own o x i e;
+  high = λ o x p i e u. r.high o x p i e (parents x p u);
+  under = λ x u w. ap (root_in roots) (kept.owners x) ∙ r.under x (parents x body u) (ap (λ p. same_owner p owner.Host) (sym (kept.owners x)) ∙ w);
 }
+
+pub rooted_cut : (k m : List Entry) (roots : List (Option ℕ)) (n : ℕ) → IsRooted k roots → Detached k m n → IsRooted m roots
+rooted_cut k m roots n r cut = rooted_fewer k m roots r cut.kept (λ x p u. not_none p (eqb x n) (at k x).parent (sym (cut.parents x) ∙ u))
+
+pub rooted_cut_all : (k m : List Entry) (roots : List (Option ℕ)) (ns : List ℕ) → IsRooted k roots → AreDetached k m ns → IsRooted m roots
+rooted_cut_all k m roots ns r cut = rooted_fewer k m roots r cut.kept (λ x p u. not_none p (listed x ns) (at k x).parent (sym (cut.parents x) ∙ u))
 
 pub rooted_replaced : (k b a m : List Entry) (roots : List (Option ℕ)) (t n : ℕ) (ns : List ℕ) → b ≡ k → IsSound k → IsRooted k roots → MayReplace k (root_in roots) t n ns → ArePut b a t (Some n) ns → Detached a m n → IsRooted m roots
 rooted_replaced k b a m roots t n ns e sound r may put cut = rooted_cut a m roots n (rooted_put_same k b a roots t (Some n) ns e sound r may.may put) cut

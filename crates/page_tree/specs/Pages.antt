@@ -128,6 +128,10 @@ HasNoRoot p o = HasNone p.roots o
 abbrev pub root_after : ℕ → Owner → (Owner → Option ℕ) → Owner → Option ℕ
 root_after n o root p = if same_owner p o && not (same_owner o owner.Host) then Some n else root p
 
+-- none of these nodes is its owner's root
+abbrev pub AreNoRoots : Page → List ℕ → Type 0
+AreNoRoots p ns = (i : ℕ) → i < length ns → root p (at (nodes p) (slice_index ns i)).owner ≢ Some (slice_index ns i)
+
 -- the roots stay
 abbrev pub SameRoots : Page → Page → Type 0
 SameRoots old new = (o : Owner) → is_owner o ≡ true → root new o ≡ root old o

@@ -6,7 +6,7 @@ ghost use Rattle.page_nodes.specs.Entries.{at, body, body_entry, tree, label_of,
 ghost use Rattle.tree_ops.specs.Labels.{is_leaf, is_text, tag_of, text_of, attribute_of, with_attribute};
 ghost use Rattle.code_units.specs.declared.owner.Owner.{Owner};
 ghost use Rattle.tree_ops.specs.Trees.{has, is_number};
-ghost use Rattle.page_nodes.specs.Moves.{Detached, IsDepth, ArePut, Puts, IsLinked, IsSwapped, IsRelabelled, AreNodes, OthersStay};
+ghost use Rattle.page_nodes.specs.Moves.{Detached, AreDetached, Detaches, IsDepth, ArePut, Puts, IsLinked, IsSwapped, IsRelabelled, AreNodes, OthersStay, OthersOfAllStay};
 ghost use Rattle.plain_tree.specs.Trees.{TextOf, unmarked, size, height};
 ghost use Rattle.plain_tree.specs.Plains.{unplaced};
 ghost use Rattle.page_tree.specs.Counts.{IsCounted, count_of, most_of};
@@ -85,7 +85,7 @@ fn is_leaf(content: &Content) -> bool
 }
 
 impl Page {
-    ghost use Rattle.page_tree.specs.Pages.{nodes, root, IsInside, IsNotInside, IsLow, IsTooDeep, SomeNode, MayPutAll, RefusesAll, RefusesPut, MayReplace, RefusesReplaceFirst, RefusesReplace, Replaces, ReplaceSteps, HasNoRoot, root_after, IsReplaced, MayAdd, RefusesAdd, RefusesCopy, copy_of, HasHostRoom, SameRoots, BecomesRoot, IsRoot};
+    ghost use Rattle.page_tree.specs.Pages.{nodes, root, AreNoRoots, IsInside, IsNotInside, IsLow, IsTooDeep, SomeNode, MayPutAll, RefusesAll, RefusesPut, MayReplace, RefusesReplaceFirst, RefusesReplace, Replaces, ReplaceSteps, HasNoRoot, root_after, IsReplaced, MayAdd, RefusesAdd, RefusesCopy, copy_of, HasHostRoom, SameRoots, BecomesRoot, IsRoot};
 
     /// The page of the host's `body` alone. Its table of ids hashes by these keys.
     pub fn new(alloc: Global, keys: Keys) -> Result<Page, Memory>
@@ -108,15 +108,20 @@ impl Page {
     /// not begin at `body` is longer than 200. A root is its owner's and stands under `body` or has
     /// no parent; of a widget nothing but its root stands under `body`.
     pub fn links_agree(&self)
-        ensures down { (n c : ℕ) → listed c (at (nodes self.now) n).children ≡ true → (at (nodes self.now) c).parent ≡ Some n }
-        ensures upward { (n p : ℕ) → (at (nodes self.now) n).parent ≡ Some p → listed n (at (nodes self.now) p).children ≡ true }
+        ensures down { (n c : ℕ) → listed c (at (nodes self.now) n).children ≡ true →
+            (at (nodes self.now) c).parent ≡ Some n }
+        ensures upward { (n p : ℕ) → (at (nodes self.now) n).parent ≡ Some p →
+            listed n (at (nodes self.now) p).children ≡ true }
         ensures once { (n : ℕ) → distinct (at (nodes self.now) n).children ≡ true }
         ensures owned { (n p : ℕ) → (at (nodes self.now) n).parent ≡ Some p → p ≢ body →
             (at (nodes self.now) n).owner ≡ (at (nodes self.now) p).owner }
-        ensures apart { (n p : ℕ) → (at (nodes self.now) n).parent ≡ Some p → has p (tree (nodes self.now) n) ≡ false }
+        ensures apart { (n p : ℕ) → (at (nodes self.now) n).parent ≡ Some p →
+            has p (tree (nodes self.now) n) ≡ false }
         ensures low { (n : ℕ) → n ≢ body → height (tree (nodes self.now) n) ≤ limit }
-        ensures roots { (o : Owner) (r : ℕ) → is_owner o ≡ true → root self.now o ≡ Some r → IsRoot (nodes self.now) o r }
-        ensures under { (n : ℕ) → (at (nodes self.now) n).parent ≡ Some body → (at (nodes self.now) n).owner ≢ owner.Host →
+        ensures roots { (o : Owner) (r : ℕ) → is_owner o ≡ true → root self.now o ≡ Some r →
+            IsRoot (nodes self.now) o r }
+        ensures under { (n : ℕ) → (at (nodes self.now) n).parent ≡ Some body →
+            (at (nodes self.now) n).owner ≢ owner.Host →
             root self.now (at (nodes self.now) n).owner ≡ Some n }
     {
         let _arena = &self.arena;
@@ -198,6 +203,32 @@ impl Page {
         self.arena.detach(node);
     }
 
+    /// Takes nodes that are no roots from their parents, as `detach` does one after the other, but
+    /// each list of children that changes is gone over once. It takes no memory.
+    pub fn detach_all(&mut self, list: Vec<NodeId>)
+        requires list { AreNodes (nodes self.old) list.items }
+        requires no_root { AreNoRoots self.old list.items }
+        ensures done { AreDetached (nodes self.old) (nodes self.new) list.items }
+        ensures steps { Detaches (nodes self.old) list.items (nodes self.new) }
+        ensures others { OthersOfAllStay (nodes self.old) (nodes self.new) list.items }
+        ensures roots { SameRoots self.old self.new }
+    {
+        self.arena.detach_all(list);
+    }
+
+    /// Takes all children from a node other than `body`, as `detach` does one after the other, in the
+    /// time of going over them once. It takes no memory.
+    pub fn empty(&mut self, node: NodeId)
+        requires node { node < length (nodes self.old) }
+        requires below { node ≢ body }
+        ensures done { AreDetached (nodes self.old) (nodes self.new) (at (nodes self.old) node).children }
+        ensures steps { Detaches (nodes self.old) (at (nodes self.old) node).children (nodes self.new) }
+        ensures others { OthersStay (nodes self.old) (nodes self.new) node }
+        ensures roots { SameRoots self.old self.new }
+    {
+        self.arena.empty(node);
+    }
+
     // Whether a node is not the target or above it, has its owner and is no root.
     fn is_inside(&self, target: NodeId, node: NodeId) -> bool
         requires target { target < length (nodes self.now) }
@@ -216,7 +247,8 @@ impl Page {
         requires target { target < length (nodes self.now) }
         requires news { AreNodes (nodes self.now) news.now }
         ensures { MatchBool result
-            ((i : ℕ) → i < length news.now → IsInside (nodes self.now) (root self.now) target (slice_index news.now i))
+            ((i : ℕ) → i < length news.now →
+            IsInside (nodes self.now) (root self.now) target (slice_index news.now i))
             (SomeNode news.now (IsNotInside (nodes self.now) (root self.now) target)) }
     {
         'each: for node in news {
@@ -324,7 +356,8 @@ impl Page {
     // Makes a node the root of its owner, where that is a widget.
     fn set_root(roots: &mut [Option<u32>; OWNERS], owner: Owner, node: NodeId)
         requires { is_owner owner ≡ true }
-        ensures { (o : Owner) → is_owner o ≡ true → root_in roots.new o ≡ root_after node owner (root_in roots.old) o }
+        ensures { (o : Owner) → is_owner o ≡ true →
+            root_in roots.new o ≡ root_after node owner (root_in roots.old) o }
     {
         if let Owner::Widget(w) = owner {
             roots[w as usize] = Some(node);
@@ -495,10 +528,13 @@ impl Page {
     pub fn copy(&mut self, alloc: Global, node: NodeId) -> Result<NodeId, PageFault>
         requires node { node < length (nodes self.old) }
         requires widget { same_owner (at (nodes self.old) node).owner owner.Host ≡ false }
-        ensures allowed { OnOk result (MayAdd (nodes self.old) (at (nodes self.old) node).owner (copy_of (nodes self.old) node)) }
+        ensures allowed { OnOk result
+            (MayAdd (nodes self.old) (at (nodes self.old) node).owner (copy_of (nodes self.old) node)) }
         ensures done { IfOk result (λ id.
-            IsAdded (nodes self.old) (nodes self.new) id (at (nodes self.old) node).owner (copy_of (nodes self.old) node)) }
-        ensures refused { IfErr result (RefusesCopy (nodes self.old) (at (nodes self.old) node).owner (copy_of (nodes self.old) node)) }
+            IsAdded (nodes self.old) (nodes self.new) id (at (nodes self.old) node).owner
+            (copy_of (nodes self.old) node)) }
+        ensures refused { IfErr result
+            (RefusesCopy (nodes self.old) (at (nodes self.old) node).owner (copy_of (nodes self.old) node)) }
         ensures unchanged { OnErr result (nodes self.new ≡ nodes self.old) }
         ensures others { OlderStay (nodes self.old) (nodes self.new) }
         ensures roots { SameRoots self.old self.new }
