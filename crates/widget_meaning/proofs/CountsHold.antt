@@ -9,14 +9,15 @@ use Rattle.widget_meaning.specs.Values.{Normal, Is, Refers, Return, Break, Conti
 use Rattle.plain_tree.specs.Trees.{size, Label, TextOf, ElementOf}
 use Rattle.widget_meaning.specs.Trees.{label_of, node_at}
 use Rattle.widget_meaning.specs.OwnState.{Amounts, OwnState, State, Timer}
-use Rattle.widget_meaning.specs.Plan.{Plan, End, Ended, Stopped, OutOfFuel}
+use Rattle.widget_meaning.specs.Plan.{Plan, End, Ended, Stopped, OutOfFuel, Job, Eval, Target, Exec, Pass, Call, RunNative, Hear}
 use Rattle.widget_meaning.specs.Meaning.{run_plan}
 use Rattle.widget_meaning.specs.Turns.{begun, turn, end_turn, noted, note_text}
 use Rattle.widget_meaning.specs.Dispatch.{nearest, dispatch}
 use Rattle.widget_meaning.specs.Items.{Event, Item, Occurs, Advance, item, item_at, live_item, stopped_item, occurs, if_heard, with_value, event_value, due_turns, unless_stopped, on_due, next_due, timer_turn, timer_plan, without_timer, resting}
 use Rattle.widget_meaning.specs.Alone.{Content, alone_from, beginning, loaded, load_library, library_turn, library_plan, go_turn, go_plan, call_parts}
-use Rattle.widget_meaning.specs.Keeps.{Invariant, Keeps, FitsLimits}
+use Rattle.widget_meaning.specs.Keeps.{Invariant, HoldsOf, JobOf, Keeps, FitsLimits}
 use Rattle.widget_meaning.specs.Counts.{Risen, CountLaws}
+use Rattle.widget_meaning.proofs.Keeping.{no_links}
 use Rattle.widget_meaning.proofs.KeepingRuns.{run_keeps, job_keeps}
 use Rattle.widget_meaning.proofs.KeepingForms.{dispatch_r}
 use Rattle.widget_meaning.proofs.KeepingJobs.{timer_plan_r, library_plan_r, go_plan_r}
@@ -36,7 +37,11 @@ counting start = record {
     within = f;
   };
   started = λ c ts clock t h l d. h;
+  links = no_links;
 }
+
+fine_counts : (start : Amounts) (s : State) → Risen start s.own.counts → HoldsOf (counting start) 0 s
+fine_counts start s h = record { holds = h; linked = tt; wide = omega arith }
 
 module _ (start : Amounts) where
   -- a turn
@@ -75,8 +80,8 @@ module _ (start : Amounts) where
   end_r (Stopped c) s o h = h
   end_r OutOfFuel s o h = h
 
-  turn_r : (k : State → Plan) (o : OwnState) → Keeps (counting start) (k (begun o)) → Risen start (turn k o).counts
-  turn_r k o f = end_r (run_plan o.grant (k (begun o))).how (run_plan o.grant (k (begun o))).state _ (run_keeps (counting start) o.grant (k (begun o)) f)
+  turn_r : (k : State → Plan) (o : OwnState) → Keeps (counting start) 0 (k (begun o)) → Risen start (turn k o).counts
+  turn_r k o f = end_r (run_plan o.grant (k (begun o))).how (run_plan o.grant (k (begun o))).state _ (run_keeps (counting start) 0 o.grant (k (begun o)) f).holds
 
   -- items
   unless_r : (c : Option Stop) (o : OwnState) (f : OwnState → OwnState) → Risen start o.counts → ((p : OwnState) → Risen start p.counts → Risen start (f p).counts) → Risen start (unless_stopped c o f).counts
@@ -85,7 +90,7 @@ module _ (start : Amounts) where
 
   due_r : (t : Option Timer) (limit : ℕ) (o : OwnState) (f : OwnState → OwnState) → Risen start o.counts → ((p : OwnState) → Risen start p.counts → Risen start (f p).counts) → Risen start (on_due t limit o f).counts
   due_r None limit o f h k = h
-  due_r (Some t) limit o f h k = k (timer_turn t o) (turn_r (timer_plan t) (without_timer t o) (timer_plan_r (counting start) t (begun (without_timer t o)) h))
+  due_r (Some t) limit o f h k = k (timer_turn t o) (turn_r (timer_plan t) (without_timer t o) (timer_plan_r (counting start) 0 t (begun (without_timer t o)) (fine_counts start (begun (without_timer t o)) h)))
 
   dues_r : (n limit : ℕ) (o : OwnState) → Risen start o.counts → Risen start (due_turns n limit o).counts
   dues_r zero limit o h = h
@@ -101,7 +106,7 @@ module _ (start : Amounts) where
   value_r (Some (ElementOf tag attrs)) n None o h = h
   value_r (Some (ElementOf tag attrs)) n (Some v) o h = choose _ _ o h h
 
-  heard_r : (x : Option (ℕ × List ℕ)) (k : State → Plan) (o : OwnState) → Risen start o.counts → Keeps (counting start) (k (begun o)) → Risen start (if_heard x k o).counts
+  heard_r : (x : Option (ℕ × List ℕ)) (k : State → Plan) (o : OwnState) → Risen start o.counts → Keeps (counting start) 0 (k (begun o)) → Risen start (if_heard x k o).counts
   heard_r None k o h f = h
   heard_r (Some x) k o h f = turn_r k o f
 
@@ -110,7 +115,7 @@ module _ (start : Amounts) where
   occurs_r e (Some n) o h =
       let p : OwnState = with_value (label_of n o.forest) n e.value o in
       let k : Risen start p.counts = value_r (label_of n o.forest) n e.value o h in
-      heard_r (nearest (resting p) (Some n) e.kind) (dispatch e.kind n (event_value e.value) 0) p k (dispatch_r (counting start) e.kind n (event_value e.value) 0 (begun p) k)
+      heard_r (nearest (resting p) (Some n) e.kind) (dispatch e.kind n (event_value e.value) 0) p k (dispatch_r (counting start) 0 e.kind n (event_value e.value) 0 (begun p) (fine_counts start (begun p) k))
 
   live_r : (o : OwnState) (i : Item) → Risen start o.counts → Risen start (live_item o i).counts
   live_r o (Occurs e) h = occurs_r e (node_at o.forest e.path) o h
@@ -131,11 +136,11 @@ module _ (start : Amounts) where
   -- the load
   library_r : (x : Option (List ℕ × Fun)) (o : OwnState) → Risen start o.counts → Risen start (library_turn x o).counts
   library_r None o h = h
-  library_r (Some (x, f)) o h = turn_r (library_plan x f) o (library_plan_r (counting start) x f (begun o) h)
+  library_r (Some (x, f)) o h = turn_r (library_plan x f) o (library_plan_r (counting start) 0 x f (begun o) (fine_counts start (begun o) h))
 
   go_r : (x : Option (List ℕ × Fun)) (o : OwnState) → Risen start o.counts → Risen start (go_turn x o).counts
   go_r None o h = h
-  go_r (Some (x, f)) o h = turn_r (go_plan f) o (go_plan_r (counting start) f (begun o) h)
+  go_r (Some (x, f)) o h = turn_r (go_plan f) o (go_plan_r (counting start) 0 f (begun o) (fine_counts start (begun o) h))
 
   libraries_r : (ls : List Stmts) (o : OwnState) → Risen start o.counts → Risen start (fold load_library o ls).counts
   libraries_r [] o h = h
@@ -156,9 +161,18 @@ risen_from c f = record { units = self c.units; cells = self c.cells; slots = se
 begins : (w : Content) (grant : ℕ) → size w.root ≤ max_nodes → FitsLimits (beginning w grant).counts
 begins w grant h = record { units = omega arith; cells = omega arith; slots = omega arith; nodes = h }
 
+any_job : (c : Amounts) (j : Job) → JobOf (counting c) 0 j
+any_job c (Eval e p) = tt
+any_job c (Target e p) = tt
+any_job c (Exec i p) = tt
+any_job c (Pass l p) = tt
+any_job c (Call f this vs d) = tt
+any_job c (RunNative f this vs d) = tt
+any_job c (Hear h) = tt
+
 pub count_laws : CountLaws
 count_laws = record {
-  jobs = λ j s g w. job_keeps (counting s.own.counts) j s g (risen_from s.own.counts w);
+  jobs = λ j s g w. (job_keeps (counting s.own.counts) 0 j s g (fine_counts s.own.counts s (risen_from s.own.counts w)) (any_job s.own.counts j)).holds;
   items = λ o is w. items_r o.counts is o (risen_from o.counts w);
   whole = λ w grant is h. let a : Amounts = (beginning w grant).counts in (items_r a is (loaded w grant) (loaded_r a w grant (risen_from a (begins w grant h)))).within;
 }

@@ -1,23 +1,24 @@
 -- The natives of the page keep an invariant, and so each native.
 
-use Rattle.std.specs.Prelude.{ℕ, List, [], ◌∷◌, Bool, true, false, if◌then◌else◌, codes, Option, Some, None, length}
+use Rattle.widget_meaning.specs.NativeForms.{numbered_pairs}
+use Rattle.std.specs.Prelude.{ℕ, ◌+◌, List, [], ◌∷◌, Bool, true, false, if◌then◌else◌, codes, Option, Some, None, length}
 use Rattle.std.specs.List.{fold}
 use Rattle.std.specs.Option.{option_map_or}
 use Rattle.permitted_table.specs.declared.native.NativeId.{NativeId}
 use Rattle.widget_meaning.specs.Values.{Value, Undefined}
 use Rattle.plain_tree.specs.Trees.{Label}
 use Rattle.widget_meaning.specs.Trees.{Trees, label_of}
-use Rattle.widget_meaning.specs.OwnState.{State, with_new_cell, Kept}
+use Rattle.widget_meaning.specs.OwnState.{State, with_new_cell, new_array, new_bunch, Kept}
 use Rattle.widget_meaning.specs.Plan.{Plan}
 use Rattle.widget_meaning.specs.NativeNames.{ReadNative, Query, GetValue, GetValues, GetStyle, GetClass, GetTitle, GetCheck, Explode, Count, GetParent, GetTagName, GetMark, WriteNative, Append, Remove, Empty, Replace, SetValue, SetStyle, SetClass, SetTitle, SetCheck, SetEnabled, Focus, Blur, On, Off, Fire, Each, SetMark, Protect, OfEvent, family_of, DomNative, DomQuery, DomAppend, DomTag, DomText, Family, OfGlobal, OfMath, OfPrototype, OfText, OfList, OfAdsafe, OfDom, OfRead, OfWrite}
 use Rattle.widget_meaning.specs.PageForms.{want_all, is_input, is_text_node, want_one, want_bunch, with_label}
 use Rattle.query_grammar.specs.Steps.{Step}
-use Rattle.widget_meaning.specs.BunchReads.{query, read_native, give_page_text, query_steps, get_value, get_values, get_attribute, get_style, explode, get_parent, get_tag_name, read_method, exploded, with_bunch}
+use Rattle.widget_meaning.specs.BunchReads.{bunches_from, query, read_native, give_page_text, query_steps, get_value, get_values, get_attribute, get_style, explode, get_parent, get_tag_name, read_method, exploded, with_bunch}
 use Rattle.widget_meaning.specs.BunchWrites.{appended, write_native, alter, alter_for, append_trees, append, remove, replace, set_value, set_style, set_attribute, set_flag, focus, blur, listen, hush, fired, fire, each_called, each, write_method, with_copies, emptied, relabel, with_text_node, valued, alter_each, change_kept}
 use Rattle.widget_meaning.specs.DomNatives.{dom_native, give_node, dom_tag, append_to_root, dom_append}
 use Rattle.widget_meaning.specs.Natives.{run_family, run_native}
 use Rattle.widget_meaning.specs.Keeps.{Invariant, Keeps}
-use Rattle.widget_meaning.proofs.Keeping.{ended, job, value, chain, charged, paid, made_text, faulted, R, found, wanted}
+use Rattle.widget_meaning.proofs.Keeping.{ended, job, value, chain, charged, paid, made_text, faulted, R, found, wanted, born, no_function}
 use Rattle.widget_meaning.proofs.KeepingAdsafe.{adsafe_native_r}
 use Rattle.widget_meaning.proofs.KeepingForms.{dispatch_r, bubble_r}
 use Rattle.widget_meaning.proofs.KeepingNatives.{give_texts_r, global_native_r, make_bunch_r, math_native_r, on_bunch_r, want_function_r, want_primitives_r}
@@ -25,97 +26,97 @@ use Rattle.widget_meaning.proofs.KeepingLists.{list_native_r, prototype_native_r
 use Rattle.widget_meaning.proofs.KeepingTexts.{text_native_r}
 use Rattle.tree_ops.specs.Labels.{with_attribute}
 
-module _ (inv : Invariant) where
+module _ (inv : Invariant) (many : ℕ) where
   -- changes of the page and of notes are not looked at
-  fold_kept : (f : State → ℕ → State) → ((t : State) (n : ℕ) → R inv t → R inv (f t n)) → (ns : List ℕ) (s : State) → R inv s → R inv (fold f s ns)
+  fold_kept : (f : State → ℕ → State) → ((t : State) (n : ℕ) → R inv many t → R inv many (f t n)) → (ns : List ℕ) (s : State) → R inv many s → R inv many (fold f s ns)
   fold_kept f k [] s hr = hr
   fold_kept f k (n ∷ ns) s hr = fold_kept f k ns (f s n) (k s n hr)
 
-  bunches_kept : (s : State) (ns : List ℕ) → R inv s → R inv (fold with_bunch s ns)
-  bunches_kept s ns hr = fold_kept with_bunch (λ t n k. k) ns s hr
+  bunches_kept : (s : State) (ns : List ℕ) → R inv many s → R inv many (fold with_bunch s ns)
+  bunches_kept s ns hr = fold_kept with_bunch (λ t n k. born inv many t.own.counts t.own.timers t.own.clock t.own.heap t.own.scopes (new_bunch (n ∷ [])) k tt) ns s hr
 
-  exploded_kept : (ns : List ℕ) (s : State) → R inv s → R inv (exploded ns s)
-  exploded_kept ns s hr = bunches_kept (with_new_cell s _) ns hr
+  exploded_kept : (ns : List ℕ) (s : State) → R inv many s → R inv many (exploded ns s)
+  exploded_kept ns s hr = bunches_kept (with_new_cell s _) ns (born inv many s.own.counts s.own.timers s.own.clock s.own.heap s.own.scopes (new_array (length ns) (numbered_pairs 0 (bunches_from (length s.own.heap + 1) ns))) hr tt)
 
-  copies_kept : (t : ℕ) (ms : List ℕ) (s : State) → R inv s → R inv (with_copies t ms s)
+  copies_kept : (t : ℕ) (ms : List ℕ) (s : State) → R inv many s → R inv many (with_copies t ms s)
   copies_kept t ms s hr = hr
 
-  appended_kept : (ns ms : List ℕ) (s : State) → R inv s → R inv (appended ns ms s)
+  appended_kept : (ns ms : List ℕ) (s : State) → R inv many s → R inv many (appended ns ms s)
   appended_kept [] ms s hr = hr
   appended_kept (t ∷ []) ms s hr = hr
   appended_kept (t ∷ u ∷ ts) ms s hr = appended_kept (u ∷ ts) ms (with_copies t ms s) (copies_kept t ms s hr)
 
-  label_kept : (l : Option Label) (n : ℕ) (f : Label → Label) (s : State) → R inv s → R inv (option_map_or (λ v. with_label s n (f v)) l s)
+  label_kept : (l : Option Label) (n : ℕ) (f : Label → Label) (s : State) → R inv many s → R inv many (option_map_or (λ v. with_label s n (f v)) l s)
   label_kept None n f s hr = hr
   label_kept (Some l) n f s hr = hr
 
-  relabel_kept : (f : Label → Label) (s : State) (n : ℕ) → R inv s → R inv (relabel f s n)
+  relabel_kept : (f : Label → Label) (s : State) (n : ℕ) → R inv many s → R inv many (relabel f s n)
   relabel_kept f s n hr = label_kept (label_of n s.own.forest) n f s hr
 
-  each_relabelled_kept : (f : Label → Label) (ns : List ℕ) (s : State) → R inv s → R inv (fold (relabel f) s ns)
+  each_relabelled_kept : (f : Label → Label) (ns : List ℕ) (s : State) → R inv many s → R inv many (fold (relabel f) s ns)
   each_relabelled_kept f ns s hr = fold_kept (relabel f) (relabel_kept f) ns s hr
 
-  text_node_kept : (n : ℕ) (t : List ℕ) (s : State) → R inv s → R inv (with_text_node n t s)
+  text_node_kept : (n : ℕ) (t : List ℕ) (s : State) → R inv many s → R inv many (with_text_node n t s)
   text_node_kept n [] s hr = hr
   text_node_kept n (u ∷ us) s hr = hr
 
-  either_kept : (b : Bool) (p q : State) → R inv p → R inv q → R inv (if b then p else q)
+  either_kept : (b : Bool) (p q : State) → R inv many p → R inv many q → R inv many (if b then p else q)
   either_kept true p q h k = h
   either_kept false p q h k = k
 
-  valued_kept : (t : List ℕ) (s : State) (n : ℕ) → R inv s → R inv (valued t s n)
+  valued_kept : (t : List ℕ) (s : State) (n : ℕ) → R inv many s → R inv many (valued t s n)
   valued_kept t s n hr = either_kept (is_input s n) _ _ (relabel_kept (with_attribute (codes "value") (Some t)) s n hr) (either_kept (is_text_node s n) _ _ hr (text_node_kept n t (emptied s n) hr))
 
-  each_valued_kept : (t ns : List ℕ) (s : State) → R inv s → R inv (fold (valued t) s ns)
+  each_valued_kept : (t ns : List ℕ) (s : State) → R inv many s → R inv many (fold (valued t) s ns)
   each_valued_kept t ns s hr = fold_kept (valued t) (valued_kept t) ns s hr
 
-  each_changed_kept : (f : Kept → Kept) (ns : List ℕ) (s : State) → R inv s → R inv (fold (change_kept f) s ns)
+  each_changed_kept : (f : Kept → Kept) (ns : List ℕ) (s : State) → R inv many s → R inv many (fold (change_kept f) s ns)
   each_changed_kept f ns s hr = fold_kept (change_kept f) (λ t n k. k) ns s hr
 
-  pub want_bunch_r : (x0 : Value) (x1 : State) (x2 : (List ℕ → Plan)) → R inv x1 → ((y0 : List ℕ) → Keeps inv (x2 y0)) → Keeps inv (want_bunch x0 x1 x2)
+  pub want_bunch_r : (x0 : Value) (x1 : State) (x2 : (List ℕ → Plan)) → R inv many x1 → ((y0 : List ℕ) → Keeps inv many (x2 y0)) → Keeps inv many (want_bunch x0 x1 x2)
   want_bunch_r v s k hr f0 = search (found)
 
-  pub want_all_r : (x0 : (ℕ → Bool)) (x1 : List ℕ) (x2 : State) (x3 : Plan) → R inv x2 → Keeps inv x3 → Keeps inv (want_all x0 x1 x2 x3)
+  pub want_all_r : (x0 : (ℕ → Bool)) (x1 : List ℕ) (x2 : State) (x3 : Plan) → R inv many x2 → Keeps inv many x3 → Keeps inv many (want_all x0 x1 x2 x3)
   want_all_r test ns s p hr f0 = search (wanted)
 
-  pub want_one_r : (x0 : List ℕ) (x1 : State) (x2 : (ℕ → Plan)) → R inv x1 → ((y0 : ℕ) → Keeps inv (x2 y0)) → Keeps inv (want_one x0 x1 x2)
+  pub want_one_r : (x0 : List ℕ) (x1 : State) (x2 : (ℕ → Plan)) → R inv many x1 → ((y0 : ℕ) → Keeps inv many (x2 y0)) → Keeps inv many (want_one x0 x1 x2)
   want_one_r (n ∷ []) s k hr f0 = search
   want_one_r ns s k hr f0 = search (faulted)
 
-  pub give_page_text_r : (x0 : ℕ) (x1 : List ℕ) (x2 : State) → R inv x2 → Keeps inv (give_page_text x0 x1 x2)
+  pub give_page_text_r : (x0 : ℕ) (x1 : List ℕ) (x2 : State) → R inv many x2 → Keeps inv many (give_page_text x0 x1 x2)
   give_page_text_r extra t s hr = search (charged, made_text, ended)
 
-  pub query_steps_r : (x0 : Option (List Step)) (x1 : List ℕ) (x2 : State) → R inv x2 → Keeps inv (query_steps x0 x1 x2)
+  pub query_steps_r : (x0 : Option (List Step)) (x1 : List ℕ) (x2 : State) → R inv many x2 → Keeps inv many (query_steps x0 x1 x2)
   query_steps_r None ns s hr = search (faulted)
   query_steps_r (Some qs) ns s hr = search (charged, make_bunch_r, ended)
 
-  pub query_r : (x0 : List ℕ) (x1 : Value) (x2 : State) → R inv x2 → Keeps inv (query x0 x1 x2)
+  pub query_r : (x0 : List ℕ) (x1 : Value) (x2 : State) → R inv many x2 → Keeps inv many (query x0 x1 x2)
   query_r ns v s hr = search (want_primitives_r, query_steps_r)
 
-  pub get_value_r : (x0 : List ℕ) (x1 : State) → R inv x1 → Keeps inv (get_value x0 x1)
+  pub get_value_r : (x0 : List ℕ) (x1 : State) → R inv many x1 → Keeps inv many (get_value x0 x1)
   get_value_r [] s hr = search (ended)
   get_value_r (n ∷ ns) s hr = search (give_page_text_r)
 
-  pub get_values_r : (x0 : List ℕ) (x1 : State) → R inv x1 → Keeps inv (get_values x0 x1)
+  pub get_values_r : (x0 : List ℕ) (x1 : State) → R inv many x1 → Keeps inv many (get_values x0 x1)
   get_values_r ns s hr = search (charged, give_texts_r)
 
-  pub get_attribute_r : (x0 : List ℕ) (x1 : List ℕ) (x2 : State) → R inv x2 → Keeps inv (get_attribute x0 x1 x2)
+  pub get_attribute_r : (x0 : List ℕ) (x1 : List ℕ) (x2 : State) → R inv many x2 → Keeps inv many (get_attribute x0 x1 x2)
   get_attribute_r ns x s hr = search (give_page_text_r)
 
-  pub get_style_r : (x0 : List ℕ) (x1 : Value) (x2 : State) → R inv x2 → Keeps inv (get_style x0 x1 x2)
+  pub get_style_r : (x0 : List ℕ) (x1 : Value) (x2 : State) → R inv many x2 → Keeps inv many (get_style x0 x1 x2)
   get_style_r ns p s hr = search (want_primitives_r, wanted, give_page_text_r)
 
-  pub explode_r : (x0 : List ℕ) (x1 : State) → R inv x1 → Keeps inv (explode x0 x1)
+  pub explode_r : (x0 : List ℕ) (x1 : State) → R inv many x1 → Keeps inv many (explode x0 x1)
   explode_r ns s hr = search (charged, paid, ended, exploded_kept)
 
-  pub get_parent_r : (x0 : List ℕ) (x1 : State) → R inv x1 → Keeps inv (get_parent x0 x1)
+  pub get_parent_r : (x0 : List ℕ) (x1 : State) → R inv many x1 → Keeps inv many (get_parent x0 x1)
   get_parent_r ns s hr = search (want_all_r, charged, make_bunch_r, ended)
 
-  pub get_tag_name_r : (x0 : List ℕ) (x1 : State) → R inv x1 → Keeps inv (get_tag_name x0 x1)
+  pub get_tag_name_r : (x0 : List ℕ) (x1 : State) → R inv many x1 → Keeps inv many (get_tag_name x0 x1)
   get_tag_name_r [] s hr = search (ended)
   get_tag_name_r (n ∷ ns) s hr = search (give_page_text_r)
 
-  pub read_method_r : (x0 : ReadNative) (x1 : List ℕ) (x2 : List Value) (x3 : State) → R inv x3 → Keeps inv (read_method x0 x1 x2 x3)
+  pub read_method_r : (x0 : ReadNative) (x1 : List ℕ) (x2 : List Value) (x3 : State) → R inv many x3 → Keeps inv many (read_method x0 x1 x2 x3)
   read_method_r Query ns vs s hr = search (query_r)
   read_method_r GetValue ns vs s hr = search (get_value_r)
   read_method_r GetValues ns vs s hr = search (get_values_r)
@@ -129,70 +130,70 @@ module _ (inv : Invariant) where
   read_method_r GetTagName ns vs s hr = search (get_tag_name_r)
   read_method_r GetMark ns vs s hr = search (give_page_text_r)
 
-  pub read_native_r : (x0 : ReadNative) (x1 : Option Value) (x2 : List Value) (x3 : ℕ) (x4 : State) → R inv x4 → Keeps inv (read_native x0 x1 x2 x3 x4)
+  pub read_native_r : (x0 : ReadNative) (x1 : Option Value) (x2 : List Value) (x3 : ℕ) (x4 : State) → R inv many x4 → Keeps inv many (read_native x0 x1 x2 x3 x4)
   read_native_r w this vs d s hr = search (on_bunch_r, read_method_r)
 
-  pub alter_r : (x0 : ℕ) (x1 : Value) (x2 : State) (x3 : (State → State)) → R inv x2 → ((y0 : State) → R inv y0 → R inv (x3 y0)) → Keeps inv (alter x0 x1 x2 x3)
+  pub alter_r : (x0 : ℕ) (x1 : Value) (x2 : State) (x3 : (State → State)) → R inv many x2 → ((y0 : State) → R inv many y0 → R inv many (x3 y0)) → Keeps inv many (alter x0 x1 x2 x3)
   alter_r extra b s f hr f0 = search (charged, ended)
 
-  pub alter_for_r : (x0 : ℕ) (x1 : ℕ) (x2 : ℕ) (x3 : Value) (x4 : State) (x5 : (State → State)) → R inv x4 → ((y0 : State) → R inv y0 → R inv (x5 y0)) → Keeps inv (alter_for x0 x1 x2 x3 x4 x5)
+  pub alter_for_r : (x0 : ℕ) (x1 : ℕ) (x2 : ℕ) (x3 : Value) (x4 : State) (x5 : (State → State)) → R inv many x4 → ((y0 : State) → R inv many y0 → R inv many (x5 y0)) → Keeps inv many (alter_for x0 x1 x2 x3 x4 x5)
   alter_for_r extra units nodes b s f hr f0 = search (charged, paid, ended)
 
-  pub alter_each_r : (x0 : (State → ℕ → State)) (x1 : List ℕ) (x2 : Value) (x3 : State) → R inv x3 → ((y0 : State) (y1 : ℕ) → R inv y0 → R inv (x0 y0 y1)) → Keeps inv (alter_each x0 x1 x2 x3)
+  pub alter_each_r : (x0 : (State → ℕ → State)) (x1 : List ℕ) (x2 : Value) (x3 : State) → R inv many x3 → ((y0 : State) (y1 : ℕ) → R inv many y0 → R inv many (x0 y0 y1)) → Keeps inv many (alter_each x0 x1 x2 x3)
   alter_each_r f ns b s hr f0 = alter_r (length ns) b s (λ t. fold f t ns) hr (λ t k. fold_kept f f0 ns t k)
 
-  pub append_trees_r : (x0 : List ℕ) (x1 : List ℕ) (x2 : Trees) (x3 : Value) (x4 : State) → R inv x4 → Keeps inv (append_trees x0 x1 x2 x3 x4)
+  pub append_trees_r : (x0 : List ℕ) (x1 : List ℕ) (x2 : Trees) (x3 : Value) (x4 : State) → R inv many x4 → Keeps inv many (append_trees x0 x1 x2 x3 x4)
   append_trees_r ns ms us b s hr = search (alter_for_r, appended_kept)
 
-  pub append_r : (x0 : List ℕ) (x1 : Value) (x2 : Value) (x3 : State) → R inv x3 → Keeps inv (append x0 x1 x2 x3)
+  pub append_r : (x0 : List ℕ) (x1 : Value) (x2 : Value) (x3 : State) → R inv many x3 → Keeps inv many (append x0 x1 x2 x3)
   append_r ns v b s hr = search (want_bunch_r, want_all_r, append_trees_r)
 
-  pub remove_r : (x0 : List ℕ) (x1 : Value) (x2 : State) → R inv x2 → Keeps inv (remove x0 x1 x2)
+  pub remove_r : (x0 : List ℕ) (x1 : Value) (x2 : State) → R inv many x2 → Keeps inv many (remove x0 x1 x2)
   remove_r ns b s hr = search (want_all_r, alter_each_r)
 
-  pub replace_r : (x0 : List ℕ) (x1 : Value) (x2 : Value) (x3 : State) → R inv x3 → Keeps inv (replace x0 x1 x2 x3)
+  pub replace_r : (x0 : List ℕ) (x1 : Value) (x2 : Value) (x3 : State) → R inv many x3 → Keeps inv many (replace x0 x1 x2 x3)
   replace_r ns v b s hr = search (want_one_r, want_bunch_r, found, wanted, alter_r)
 
-  pub set_value_r : (x0 : List ℕ) (x1 : List ℕ) (x2 : Value) (x3 : State) → R inv x3 → Keeps inv (set_value x0 x1 x2 x3)
+  pub set_value_r : (x0 : List ℕ) (x1 : List ℕ) (x2 : Value) (x3 : State) → R inv many x3 → Keeps inv many (set_value x0 x1 x2 x3)
   set_value_r ns t b s hr = search (want_all_r, alter_for_r, each_valued_kept)
 
-  pub set_style_r : (x0 : List ℕ) (x1 : List ℕ) (x2 : List ℕ) (x3 : Value) (x4 : State) → R inv x4 → Keeps inv (set_style x0 x1 x2 x3 x4)
+  pub set_style_r : (x0 : List ℕ) (x1 : List ℕ) (x2 : List ℕ) (x3 : Value) (x4 : State) → R inv many x4 → Keeps inv many (set_style x0 x1 x2 x3 x4)
   set_style_r ns p v b s hr = search (wanted, want_all_r, alter_for_r, each_relabelled_kept)
 
-  pub set_attribute_r : (x0 : List ℕ) (x1 : List ℕ) (x2 : List ℕ) (x3 : Value) (x4 : State) → R inv x4 → Keeps inv (set_attribute x0 x1 x2 x3 x4)
+  pub set_attribute_r : (x0 : List ℕ) (x1 : List ℕ) (x2 : List ℕ) (x3 : Value) (x4 : State) → R inv many x4 → Keeps inv many (set_attribute x0 x1 x2 x3 x4)
   set_attribute_r ns x v b s hr = search (want_all_r, alter_for_r, each_relabelled_kept)
 
-  pub set_flag_r : (x0 : (ℕ → Bool)) (x1 : List ℕ) (x2 : List ℕ) (x3 : Bool) (x4 : Value) (x5 : State) → R inv x5 → Keeps inv (set_flag x0 x1 x2 x3 x4 x5)
+  pub set_flag_r : (x0 : (ℕ → Bool)) (x1 : List ℕ) (x2 : List ℕ) (x3 : Bool) (x4 : Value) (x5 : State) → R inv many x5 → Keeps inv many (set_flag x0 x1 x2 x3 x4 x5)
   set_flag_r test ns x is_set b s hr = search (want_all_r, alter_each_r, relabel_kept)
 
-  pub focus_r : (x0 : List ℕ) (x1 : Value) (x2 : State) → R inv x2 → Keeps inv (focus x0 x1 x2)
+  pub focus_r : (x0 : List ℕ) (x1 : Value) (x2 : State) → R inv many x2 → Keeps inv many (focus x0 x1 x2)
   focus_r ns b s hr = search (want_one_r, alter_r)
 
-  pub blur_r : (x0 : List ℕ) (x1 : Value) (x2 : State) → R inv x2 → Keeps inv (blur x0 x1 x2)
+  pub blur_r : (x0 : List ℕ) (x1 : Value) (x2 : State) → R inv many x2 → Keeps inv many (blur x0 x1 x2)
   blur_r ns b s hr = search (alter_r)
 
-  pub listen_r : (x0 : List ℕ) (x1 : List ℕ) (x2 : Value) (x3 : Value) (x4 : State) → R inv x4 → Keeps inv (listen x0 x1 x2 x3 x4)
+  pub listen_r : (x0 : List ℕ) (x1 : List ℕ) (x2 : Value) (x3 : Value) (x4 : State) → R inv many x4 → Keeps inv many (listen x0 x1 x2 x3 x4)
   listen_r ns t f b s hr = search (wanted, want_function_r, charged, paid, ended, each_changed_kept) depth 8 fits 4000
 
-  pub hush_r : (x0 : List ℕ) (x1 : Value) (x2 : Value) (x3 : State) → R inv x3 → Keeps inv (hush x0 x1 x2 x3)
+  pub hush_r : (x0 : List ℕ) (x1 : Value) (x2 : Value) (x3 : State) → R inv many x3 → Keeps inv many (hush x0 x1 x2 x3)
   hush_r ns Undefined b s hr = search (alter_each_r)
   hush_r ns v b s hr = search (want_primitives_r, wanted, alter_each_r)
 
-  pub fired_r : (x0 : List ℕ) (x1 : List ℕ) (x2 : Value) (x3 : ℕ) (x4 : State) → R inv x4 → Keeps inv (fired x0 x1 x2 x3 x4)
-  fired_r t [] b d s hr = ended inv _ s hr
-  fired_r t (n ∷ ns) b d s hr = chain inv _ _ (dispatch_r inv t n Undefined d s hr) (λ o u v. value inv o u _ v (λ w. fired_r t ns b d u v))
+  pub fired_r : (x0 : List ℕ) (x1 : List ℕ) (x2 : Value) (x3 : ℕ) (x4 : State) → R inv many x4 → Keeps inv many (fired x0 x1 x2 x3 x4)
+  fired_r t [] b d s hr = ended inv many _ s hr
+  fired_r t (n ∷ ns) b d s hr = chain inv many _ _ (dispatch_r inv many t n Undefined d s hr) (λ o u v. value inv many o u _ v (λ w. fired_r t ns b d u v))
 
-  pub fire_r : (x0 : List ℕ) (x1 : List ℕ) (x2 : Value) (x3 : ℕ) (x4 : State) → R inv x4 → Keeps inv (fire x0 x1 x2 x3 x4)
+  pub fire_r : (x0 : List ℕ) (x1 : List ℕ) (x2 : Value) (x3 : ℕ) (x4 : State) → R inv many x4 → Keeps inv many (fire x0 x1 x2 x3 x4)
   fire_r ns t b d s hr = search (wanted, charged, fired_r)
 
-  pub each_called_r : (x0 : Value) (x1 : List Value) (x2 : Value) (x3 : ℕ) (x4 : State) → R inv x4 → Keeps inv (each_called x0 x1 x2 x3 x4)
-  each_called_r f [] b d s hr = ended inv _ s hr
-  each_called_r f (v ∷ vs) b d s hr = job inv _ s _ hr (λ o t u. value inv o t _ u (λ w. each_called_r f vs b d t u))
+  pub each_called_r : (x0 : Value) (x1 : List Value) (x2 : Value) (x3 : ℕ) (x4 : State) → R inv many x4 → Keeps inv many (each_called x0 x1 x2 x3 x4)
+  each_called_r f [] b d s hr = ended inv many _ s hr
+  each_called_r f (v ∷ vs) b d s hr = job inv many _ s _ hr tt (λ o t u. value inv many o t _ u (λ w. each_called_r f vs b d t u))
 
-  pub each_r : (x0 : List ℕ) (x1 : Value) (x2 : Value) (x3 : ℕ) (x4 : State) → R inv x4 → Keeps inv (each x0 x1 x2 x3 x4)
+  pub each_r : (x0 : List ℕ) (x1 : Value) (x2 : Value) (x3 : ℕ) (x4 : State) → R inv many x4 → Keeps inv many (each x0 x1 x2 x3 x4)
   each_r ns f b d s hr = search (want_function_r, charged, paid, each_called_r, bunches_kept) depth 8 fits 4000
 
-  pub write_method_r : (x0 : WriteNative) (x1 : List ℕ) (x2 : Value) (x3 : List Value) (x4 : ℕ) (x5 : State) → R inv x5 → Keeps inv (write_method x0 x1 x2 x3 x4 x5)
+  pub write_method_r : (x0 : WriteNative) (x1 : List ℕ) (x2 : Value) (x3 : List Value) (x4 : ℕ) (x5 : State) → R inv many x5 → Keeps inv many (write_method x0 x1 x2 x3 x4 x5)
   write_method_r Append ns b vs d s hr = search (append_r)
   write_method_r Remove ns b vs d s hr = search (remove_r)
   write_method_r Empty ns b vs d s hr = search (alter_each_r)
@@ -212,28 +213,28 @@ module _ (inv : Invariant) where
   write_method_r SetMark ns b vs d s hr = search (want_primitives_r, alter_each_r)
   write_method_r Protect ns b vs d s hr = search (alter_each_r)
 
-  pub write_native_r : (x0 : WriteNative) (x1 : Option Value) (x2 : List Value) (x3 : ℕ) (x4 : State) → R inv x4 → Keeps inv (write_native x0 x1 x2 x3 x4)
+  pub write_native_r : (x0 : WriteNative) (x1 : Option Value) (x2 : List Value) (x3 : ℕ) (x4 : State) → R inv many x4 → Keeps inv many (write_native x0 x1 x2 x3 x4)
   write_native_r w this vs d s hr = search (on_bunch_r, write_method_r)
 
-  pub give_node_r : (x0 : Label) (x1 : ℕ) (x2 : State) → R inv x2 → Keeps inv (give_node x0 x1 x2)
-  give_node_r l units s hr = search (paid, ended)
+  pub give_node_r : (x0 : Label) (x1 : ℕ) (x2 : State) → R inv many x2 → Keeps inv many (give_node x0 x1 x2)
+  give_node_r l units s hr = search (paid, ended, born, no_function)
 
-  pub dom_tag_r : (x0 : List ℕ) (x1 : List (List ℕ)) (x2 : State) → R inv x2 → Keeps inv (dom_tag x0 x1 x2)
+  pub dom_tag_r : (x0 : List ℕ) (x1 : List (List ℕ)) (x2 : State) → R inv many x2 → Keeps inv many (dom_tag x0 x1 x2)
   dom_tag_r tag v s hr = search (wanted, give_node_r)
 
-  pub append_to_root_r : (x0 : List ℕ) (x1 : State) → R inv x1 → Keeps inv (append_to_root x0 x1)
-  append_to_root_r ms s hr = search (charged, paid, ended, appended_kept)
+  pub append_to_root_r : (x0 : List ℕ) (x1 : State) → R inv many x1 → Keeps inv many (append_to_root x0 x1)
+  append_to_root_r ms s hr = search (charged, paid, ended, born, no_function)
 
-  pub dom_append_r : (x0 : Value) (x1 : State) → R inv x1 → Keeps inv (dom_append x0 x1)
+  pub dom_append_r : (x0 : Value) (x1 : State) → R inv many x1 → Keeps inv many (dom_append x0 x1)
   dom_append_r v s hr = search (want_bunch_r, want_all_r, append_to_root_r)
 
-  pub dom_native_r : (x0 : DomNative) (x1 : Option Value) (x2 : List Value) (x3 : ℕ) (x4 : State) → R inv x4 → Keeps inv (dom_native x0 x1 x2 x3 x4)
+  pub dom_native_r : (x0 : DomNative) (x1 : Option Value) (x2 : List Value) (x3 : ℕ) (x4 : State) → R inv many x4 → Keeps inv many (dom_native x0 x1 x2 x3 x4)
   dom_native_r DomQuery this vs d s hr = search (query_r)
   dom_native_r DomAppend this vs d s hr = search (dom_append_r)
   dom_native_r DomTag this vs d s hr = search (want_primitives_r, dom_tag_r)
   dom_native_r DomText this vs d s hr = search (want_primitives_r, give_node_r)
 
-  pub run_family_r : (x0 : Family) (x1 : Option Value) (x2 : List Value) (x3 : ℕ) (x4 : State) → R inv x4 → Keeps inv (run_family x0 x1 x2 x3 x4)
+  pub run_family_r : (x0 : Family) (x1 : Option Value) (x2 : List Value) (x3 : ℕ) (x4 : State) → R inv many x4 → Keeps inv many (run_family x0 x1 x2 x3 x4)
   run_family_r (OfGlobal w) this vs d s hr = search (global_native_r)
   run_family_r (OfMath w) this vs d s hr = search (math_native_r)
   run_family_r (OfPrototype w) this vs d s hr = search (prototype_native_r)
@@ -245,5 +246,5 @@ module _ (inv : Invariant) where
   run_family_r (OfWrite w) this vs d s hr = search (write_native_r)
   run_family_r OfEvent this vs d s hr = search (bubble_r)
 
-  pub run_native_r : (x0 : NativeId) (x1 : Option Value) (x2 : List Value) (x3 : ℕ) (x4 : State) → R inv x4 → Keeps inv (run_native x0 x1 x2 x3 x4)
+  pub run_native_r : (x0 : NativeId) (x1 : Option Value) (x2 : List Value) (x3 : ℕ) (x4 : State) → R inv many x4 → Keeps inv many (run_native x0 x1 x2 x3 x4)
   run_native_r w this vs d s hr = run_family_r (family_of w) this vs d s hr

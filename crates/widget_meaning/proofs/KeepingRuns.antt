@@ -1,19 +1,22 @@
 -- A plan that is carried out keeps an invariant.
-use Rattle.std.proofs.Common.{ℕ, zero, suc, Bool, true, false}
+use Rattle.std.proofs.Common.{ℕ, zero, suc, ◌≤◌, Bool, true, false, length, arith}
 use Rattle.std.specs.Prelude.{nat_lt, if◌then◌else◌}
 use Rattle.widget_meaning.specs.OwnState.{State}
 use Rattle.widget_meaning.specs.Plan.{Plan, Ret, Halt, Need, Tick, Do, Job, and_then, Out, OutOfFuel}
 use Rattle.widget_meaning.specs.Meaning.{body, run_plan, meaning}
-use Rattle.widget_meaning.specs.Keeps.{Invariant, HoldsOf, Keeps}
-use Rattle.widget_meaning.proofs.Keeping.{chain, job, ended}
+use Rattle.widget_meaning.specs.Keeps.{Invariant, HoldsOf, JobOf, Keeps}
+use Rattle.widget_meaning.proofs.Keeping.{chain_later, job, ended}
 use Rattle.widget_meaning.proofs.KeepingJobs.{body_r}
 
-module _ (inv : Invariant) where
-  either_state : (b : Bool) (r q : Out) → HoldsOf inv r.state → HoldsOf inv q.state → HoldsOf inv (if b then r else q).state
+module _ (inv : Invariant) (many : ℕ) where
+  either_state : (b : Bool) (r q : Out) → HoldsOf inv many r.state → HoldsOf inv many q.state → HoldsOf inv many (if b then r else q).state
   either_state true r q h k = h
   either_state false r q h k = k
 
-  pub run_keeps : (g : ℕ) (p : Plan) → Keeps inv p → HoldsOf inv (run_plan g p).state
+  self : (n : ℕ) → n ≤ n
+  self n = omega arith
+
+  pub run_keeps : (g : ℕ) (p : Plan) → Keeps inv many p → HoldsOf inv many (run_plan g p).state
   unfolding Keeps
   run_keeps g (Ret o s) h = h
   run_keeps g (Halt c s) h = h
@@ -21,7 +24,10 @@ module _ (inv : Invariant) where
   run_keeps zero (Tick s p) h = h.0
   run_keeps (suc f) (Tick s p) h = run_keeps f p h.1
   run_keeps zero (Do j s k) h = h.0
-  run_keeps (suc f) (Do j s k) h = run_keeps f (and_then (body j s) k) (chain inv (body j s) k (body_r inv j s h.0) h.1)
+  run_keeps (suc f) (Do j s k) h =
+      let n : ℕ = length s.own.scopes in
+      let fine : HoldsOf inv n s = record { holds = h.0.holds; linked = h.0.linked; wide = self n } in
+      run_keeps f (and_then (body j s) k) (chain_later inv many n (body j s) k h.0.wide (body_r inv n j s fine h.1.0) h.1.1)
 
-  pub job_keeps : (j : Job) (s : State) (g : ℕ) → HoldsOf inv s → HoldsOf inv (meaning j s g).state
-  job_keeps j s g h = run_keeps g (Do j s Ret) (job inv j s Ret h (λ o t u. ended inv o t u))
+  pub job_keeps : (j : Job) (s : State) (g : ℕ) → HoldsOf inv many s → JobOf inv many j → HoldsOf inv many (meaning j s g).state
+  job_keeps j s g h q = run_keeps g (Do j s Ret) (job inv many j s Ret h q (λ o t u. ended inv many o t u))

@@ -13,6 +13,7 @@ pub mod KeepingPage
 pub mod KeepingJobs
 pub mod KeepingRuns
 pub mod CountsHold
+pub mod ScopesHold
 pub mod TimersHold
 pub mod SumsHold
 pub mod RowsHold

@@ -15,7 +15,7 @@ use Rattle.widget_meaning.specs.Plan.{Plan, End, Ended, Stopped, OutOfFuel}
 use Rattle.widget_meaning.specs.Meaning.{run_plan}
 use Rattle.widget_meaning.specs.Dispatch.{nearest, dispatch}
 use Rattle.widget_meaning.specs.Turns.{begun, turn, end_turn}
-use Rattle.widget_meaning.specs.Items.{Event, Item, Occurs, Advance, item, item_at, live_item, stopped_item, occurs, if_heard, with_value, event_value, due_turns, unless_stopped, on_due, next_due, timer_turn, timer_plan, without_timer, resting}
+use Rattle.widget_meaning.specs.Items.{Event, Item, Occurs, Advance, item, item_at, occurs, if_heard, with_value, event_value, due_turns, unless_stopped, on_due, next_due, timer_turn, timer_plan, without_timer, resting}
 use Rattle.widget_meaning.specs.Alone.{Content, alone, alone_from, beginning, loaded, load_library, library_turn, library_plan, go_turn, go_plan, call_parts}
 use Rattle.widget_meaning.specs.Keeps.{Invariant, HoldsOf, Keeps}
 use Rattle.widget_meaning.specs.Laws.{AreTimers}
@@ -107,7 +107,7 @@ kept_clock : (a b c : ℕ) → a ≡ b → b ≤ c → a ≤ c
 kept_clock a b c e h = omega arith
 
 -- a turn at rest, of a plan that keeps every invariant
-rest_sums : (n k x : ℕ) (p : State → Plan) (o : OwnState) → AreTimers o → ((i : Invariant) → HoldsOf i (begun o) → Keeps i (p (begun o))) → Sums n k x o → Sums (suc n) k x (turn p o)
+rest_sums : (n k x : ℕ) (p : State → Plan) (o : OwnState) → AreTimers o → ((i : Invariant) → HoldsOf i 0 (begun o) → Keeps i 0 (p (begun o))) → Sums n k x o → Sums (suc n) k x (turn p o)
 rest_sums n k x p o a f h = turn_sums n k x x p o (kept_clock (turn p o).clock o.clock x (turn_clock p o a f) h.at) h
 
 -- an advance
@@ -163,7 +163,7 @@ value_sums n k x (Some (ElementOf tag attrs)) m (Some v) o h =
     let p : OwnState = record o { forest = relabelled m (with_attribute (codes "value") (Some v) (ElementOf tag attrs)) o.forest } in
     choose_sums n k x (bytes_eq tag (codes "input")) p o (record { few = h.few; within = h.within; told = h.told; at = h.at }) h
 
-heard_sums : (n k x : ℕ) (f : Option (ℕ × List ℕ)) (p : State → Plan) (o : OwnState) → AreTimers o → ((i : Invariant) → HoldsOf i (begun o) → Keeps i (p (begun o))) → Sums n k x o → Sums (suc n) k x (if_heard f p o)
+heard_sums : (n k x : ℕ) (f : Option (ℕ × List ℕ)) (p : State → Plan) (o : OwnState) → AreTimers o → ((i : Invariant) → HoldsOf i 0 (begun o) → Keeps i 0 (p (begun o))) → Sums n k x o → Sums (suc n) k x (if_heard f p o)
 heard_sums n k x None p o a f h = more n (suc n) k k x x o (one_more n) (self k) (self x) h
   where
     one_more : (n : ℕ) → n ≤ suc n
@@ -193,7 +193,7 @@ occurs_sums n k x e (Some m) o a h =
     let p : OwnState = with_value (label_of m o.forest) m e.value o in
     more (suc n) (n + 1) k (k + 1) x (x + 0) _ (one_turn n) (later k 1) (and_none x)
     (heard_sums n k x (nearest (resting p) (Some m) e.kind) (dispatch e.kind m (event_value e.value) 0) p
-    (value_timers (label_of m o.forest) m e.value o a) (λ i r. dispatch_r i e.kind m (event_value e.value) 0 (begun p) r)
+    (value_timers (label_of m o.forest) m e.value o a) (λ i r. dispatch_r i 0 e.kind m (event_value e.value) 0 (begun p) r)
     (value_sums n k x (label_of m o.forest) m e.value o h))
 
 passed : (a b c d : ℕ) → a ≤ b + d → b ≤ c → a ≤ c + d
@@ -241,14 +241,14 @@ library_sums n k x None o a h = more n (suc n) k k x x o (one_more n) (self k) (
   where
     one_more : (n : ℕ) → n ≤ suc n
     one_more n = omega arith
-library_sums n k x (Some (y, f)) o a h = rest_sums n k x (library_plan y f) o a (λ i r. library_plan_r i y f (begun o) r) h
+library_sums n k x (Some (y, f)) o a h = rest_sums n k x (library_plan y f) o a (λ i r. library_plan_r i 0 y f (begun o) r) h
 
 go_sums : (n k x : ℕ) (y : Option (List ℕ × Fun)) (o : OwnState) → AreTimers o → Sums n k x o → Sums (suc n) k x (go_turn y o)
 go_sums n k x None o a h = more n (suc n) k k x x o (one_more n) (self k) (self x) h
   where
     one_more : (n : ℕ) → n ≤ suc n
     one_more n = omega arith
-go_sums n k x (Some (y, f)) o a h = rest_sums n k x (go_plan f) o a (λ i r. go_plan_r i f (begun o) r) h
+go_sums n k x (Some (y, f)) o a h = rest_sums n k x (go_plan f) o a (λ i r. go_plan_r i 0 f (begun o) r) h
 
 less : (n : ℕ) → n ≤ suc n
 less n = omega arith

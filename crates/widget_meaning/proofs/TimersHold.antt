@@ -18,6 +18,7 @@ use Rattle.widget_meaning.specs.Items.{Event, Item, Occurs, Advance, item, item_
 use Rattle.widget_meaning.specs.Alone.{Content, alone_from, beginning, loaded, load_library, library_turn, library_plan, go_turn, go_plan, call_parts}
 use Rattle.widget_meaning.specs.Keeps.{Invariant, HoldsOf, Keeps}
 use Rattle.widget_meaning.specs.Laws.{NoneBefore, AreTimers, TimerLaws}
+use Rattle.widget_meaning.proofs.Keeping.{no_links}
 use Rattle.widget_meaning.proofs.KeepingRuns.{run_keeps}
 use Rattle.widget_meaning.proofs.KeepingForms.{dispatch_r}
 use Rattle.widget_meaning.proofs.KeepingJobs.{timer_plan_r, library_plan_r, go_plan_r}
@@ -186,7 +187,11 @@ waiting now e count i = record {
     ahead = with_one now ts t (less_le now t.due (later_than clock now t.due h.clock_is d)) h.ahead;
     due = chain_le _ (due_before e ts) count (same_as _ _ (due_one e ts t (past_end e now clock t.due i h.clock_is d))) h.due;
   };
+  links = no_links;
 }
+
+fine_waits : (now e count : ℕ) (i : e ≤ now + min_delay) (s : State) → Waits now e count s.own.timers s.own.clock → HoldsOf (waiting now e count i) 0 s
+fine_waits now e count i s h = record { holds = h; linked = tt; wide = omega arith }
 
 abbrev pub WaitsOf : ℕ → ℕ → ℕ → OwnState → Type 0
 WaitsOf now e count o = Waits now e count o.timers o.clock
@@ -210,8 +215,8 @@ module _ (now e count : ℕ) (i : e ≤ now + min_delay) where
   end_r (Stopped c) s o h = h
   end_r OutOfFuel s o h = h
 
-  turn_r : (k : State → Plan) (o : OwnState) → Keeps (waiting now e count i) (k (begun o)) → WaitsOf now e count (turn k o)
-  turn_r k o f = end_r (run_plan o.grant (k (begun o))).how (run_plan o.grant (k (begun o))).state _ (run_keeps (waiting now e count i) o.grant (k (begun o)) f)
+  turn_r : (k : State → Plan) (o : OwnState) → Keeps (waiting now e count i) 0 (k (begun o)) → WaitsOf now e count (turn k o)
+  turn_r k o f = end_r (run_plan o.grant (k (begun o))).how (run_plan o.grant (k (begun o))).state _ (run_keeps (waiting now e count i) 0 o.grant (k (begun o)) f).holds
 
 -- after a turn the timers are few and ahead
 pub are_timers : (now e count : ℕ) (o : OwnState) → WaitsOf now e count o → AreTimers o
@@ -225,12 +230,12 @@ pub next_waits : (t : Timer) (o : OwnState) (e : ℕ) → e ≤ t.due + min_dela
     → WaitsOf t.due e (due_before e (without_due t.due o.timers)) (timer_turn t o)
 next_waits t o e i h a d =
     let n : ℕ = due_before e (without_due t.due o.timers) in
-    turn_r t.due e n i (timer_plan t) (without_timer t o) (timer_plan_r (waiting t.due e n i) t (begun (without_timer t o)) (record {
+    turn_r t.due e n i (timer_plan t) (without_timer t o) (timer_plan_r (waiting t.due e n i) 0 t (begun (without_timer t o)) (fine_waits t.due e n i (begun (without_timer t o)) (record {
       clock_is = refl;
       few = fewer (length (without_due t.due o.timers)) (length o.timers) (shorter t.due o.timers d) h.few;
       ahead = still_ahead t.due t.due o.timers a;
       due = same_le n;
-    }))
+    })))
 
 -- with a greater bound an advance is the same, and it leaves the timers few and ahead
 abbrev Bounded : ℕ → ℕ → ℕ → OwnState → Type 0
@@ -348,18 +353,18 @@ advanced o d more h =
 pub none_left : (n : ℕ) → 0 ≤ n
 none_left n = omega arith
 
-turn_timers : (k : State → Plan) (o : OwnState) → AreTimers o → ((i : Invariant) → HoldsOf i (begun o) → Keeps i (k (begun o))) → AreTimers (turn k o)
+turn_timers : (k : State → Plan) (o : OwnState) → AreTimers o → ((i : Invariant) → HoldsOf i 0 (begun o) → Keeps i 0 (k (begun o))) → AreTimers (turn k o)
 turn_timers k o h f =
     let n : ℕ = due_before 0 o.timers in
     let i : 0 ≤ o.clock + min_delay = none_left (o.clock + min_delay) in
-    are_timers o.clock 0 n (turn k o) (turn_r o.clock 0 n i k o (f (waiting o.clock 0 n i) (waits o h)))
+    are_timers o.clock 0 n (turn k o) (turn_r o.clock 0 n i k o (f (waiting o.clock 0 n i) (fine_waits o.clock 0 n i (begun o) (waits o h))))
 
 -- and its clock stays
-pub turn_clock : (k : State → Plan) (o : OwnState) → AreTimers o → ((i : Invariant) → HoldsOf i (begun o) → Keeps i (k (begun o))) → (turn k o).clock ≡ o.clock
+pub turn_clock : (k : State → Plan) (o : OwnState) → AreTimers o → ((i : Invariant) → HoldsOf i 0 (begun o) → Keeps i 0 (k (begun o))) → (turn k o).clock ≡ o.clock
 turn_clock k o h f =
     let n : ℕ = due_before 0 o.timers in
     let i : 0 ≤ o.clock + min_delay = none_left (o.clock + min_delay) in
-    (turn_r o.clock 0 n i k o (f (waiting o.clock 0 n i) (waits o h))).clock_is
+    (turn_r o.clock 0 n i k o (f (waiting o.clock 0 n i) (fine_waits o.clock 0 n i (begun o) (waits o h)))).clock_is
 
 either : (b : Bool) (o p : OwnState) → AreTimers o → AreTimers p → AreTimers (if b then o else p)
 either true o p h k = h
@@ -373,7 +378,7 @@ value_timers (Some (ElementOf tag attrs)) n (Some v) o h =
     let p : OwnState = record o { forest = relabelled n (with_attribute (codes "value") (Some v) (ElementOf tag attrs)) o.forest } in
     either (bytes_eq tag (codes "input")) p o (record { few = h.few; ahead = h.ahead }) h
 
-heard_timers : (x : Option (ℕ × List ℕ)) (k : State → Plan) (o : OwnState) → AreTimers o → ((i : Invariant) → HoldsOf i (begun o) → Keeps i (k (begun o))) → AreTimers (if_heard x k o)
+heard_timers : (x : Option (ℕ × List ℕ)) (k : State → Plan) (o : OwnState) → AreTimers o → ((i : Invariant) → HoldsOf i 0 (begun o) → Keeps i 0 (k (begun o))) → AreTimers (if_heard x k o)
 heard_timers None k o h f = h
 heard_timers (Some x) k o h f = turn_timers k o h f
 
@@ -382,7 +387,7 @@ occurs_timers e None o h = record { few = h.few; ahead = h.ahead }
 occurs_timers e (Some n) o h =
     let p : OwnState = with_value (label_of n o.forest) n e.value o in
     heard_timers (nearest (resting p) (Some n) e.kind) (dispatch e.kind n (event_value e.value) 0) p (value_timers (label_of n o.forest) n e.value o h)
-    (λ i r. dispatch_r i e.kind n (event_value e.value) 0 (begun p) r)
+    (λ i r. dispatch_r i 0 e.kind n (event_value e.value) 0 (begun p) r)
 
 live_timers : (o : OwnState) (i : Item) → AreTimers o → AreTimers (live_item o i)
 live_timers o (Occurs e) h = occurs_timers e (node_at o.forest e.path) o h
@@ -404,11 +409,11 @@ unless_timers (Some c) o f h k = h
 
 library_timers : (x : Option (List ℕ × Fun)) (o : OwnState) → AreTimers o → AreTimers (library_turn x o)
 library_timers None o h = h
-library_timers (Some (x, f)) o h = turn_timers (library_plan x f) o h (λ i r. library_plan_r i x f (begun o) r)
+library_timers (Some (x, f)) o h = turn_timers (library_plan x f) o h (λ i r. library_plan_r i 0 x f (begun o) r)
 
 go_timers : (x : Option (List ℕ × Fun)) (o : OwnState) → AreTimers o → AreTimers (go_turn x o)
 go_timers None o h = h
-go_timers (Some (x, f)) o h = turn_timers (go_plan f) o h (λ i r. go_plan_r i f (begun o) r)
+go_timers (Some (x, f)) o h = turn_timers (go_plan f) o h (λ i r. go_plan_r i 0 f (begun o) r)
 
 pub load_timers : (l : Stmts) (o : OwnState) → AreTimers o → AreTimers (load_library o l)
 load_timers l o h = unless_timers o.stop o (library_turn (call_parts l)) h (λ p k. library_timers (call_parts l) p k)

@@ -1,5 +1,5 @@
 -- Calls, the conversion of objects to primitives, and statements in a row.
-use Rattle.std.specs.Prelude.{ℕ, suc, List, [], ◌∷◌, length, nat_lt, if◌then◌else◌, codes, Bool, true, false, Option, Some, ◌++◌}
+use Rattle.std.specs.Prelude.{ℕ, suc, List, [], ◌∷◌, length, nat_lt, if◌then◌else◌, codes, Bool, true, false, Option, Some}
 use Rattle.std.specs.Str.{bytes_eq}
 pub use Rattle.js_tree.specs.Lists.{stmt_list}
 use Rattle.js_tree.specs.Plain as tree

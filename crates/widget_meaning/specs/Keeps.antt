@@ -1,9 +1,10 @@
--- What each state of a plan keeps: a predicate on the counts, the waiting timers and the clock.
-use Rattle.std.specs.Prelude.{ℕ, ◌+◌, ◌<◌, ◌≤◌, List, [], ◌∷◌, ◌++◌, length}
+-- What each state of a plan keeps: a predicate on the counts, the waiting timers and the clock, and one on objects and
+-- scopes.
+use Rattle.std.specs.Prelude.{ℕ, ◌+◌, ◌<◌, ◌≤◌, List, [], ◌∷◌, ◌++◌, length, Option, Some, None, slice_index_or, slice_set}
 use Rattle.widget_meaning.specs.Limits.{max_cells, max_slots, max_units, max_nodes, max_timers, min_delay}
 use Rattle.widget_meaning.specs.Values.{Completion}
-use Rattle.widget_meaning.specs.OwnState.{Amounts, State, Timer}
-use Rattle.widget_meaning.specs.Plan.{Plan, Ret, Halt, Need, Tick, Do}
+use Rattle.widget_meaning.specs.OwnState.{Amounts, State, Timer, Cell, Kind, Function, Scope, Pairs, plain_object}
+use Rattle.widget_meaning.specs.Plan.{Plan, Ret, Halt, Need, Tick, Do, Job, Eval, Target, Exec, Pass}
 use Rattle.widget_meaning.specs.Costs.{sum}
 
 -- the counts pass no limit
@@ -13,6 +14,33 @@ pub record FitsLimits (c : Amounts) : Type 0 where
   pub slots : c.slots ≤ max_slots
   pub nodes : c.nodes ≤ max_nodes
 
+-- a predicate on the scope in which a function was made; all else has none
+abbrev pub OfFunction : (Option ℕ → Type 0) → Kind → Type 0
+OfFunction P (Function f scope) = P scope
+OfFunction P kind = Unit {0}
+
+-- no scope
+abbrev pub no_scope : Scope
+no_scope = record { outer = None; pairs = [] }
+
+-- a predicate on objects and scopes, and one on a scope where there are so many, that what is born and written keeps
+pub record Links : Type 1 where
+  pub Linked : List Cell → List Scope → Type 0
+  pub Older : ℕ → Option ℕ → Type 0
+  pub later : (m n : ℕ) (o : Option ℕ) → m ≤ n → Older m o → Older n o
+  pub outermost : (n : ℕ) → Older n None
+  pub newest : (cs : List Scope) (c : Scope) → Older (length (cs ++ c ∷ [])) (Some (length cs))
+  pub function : (hs : List Cell) (cs : List Scope) (n : ℕ) → Linked hs cs
+      → OfFunction (Older (length cs)) (slice_index_or hs n (plain_object [])).kind
+  pub born : (hs : List Cell) (cs : List Scope) (c : Cell) → Linked hs cs → OfFunction (Older (length cs)) c.kind
+      → Linked (hs ++ c ∷ []) cs
+  pub written : (hs : List Cell) (cs : List Scope) (n : ℕ) (c : Cell) → Linked hs cs
+      → OfFunction (Older (length cs)) c.kind → Linked (slice_set hs n c) cs
+  pub entered : (hs : List Cell) (cs : List Scope) (c : Scope) → Linked hs cs → Older (length cs) c.outer
+      → Linked hs (cs ++ c ∷ [])
+  pub assigned : (hs : List Cell) (cs : List Scope) (n : ℕ) (ps : Pairs) → Linked hs cs
+      → Linked hs (slice_set cs n (record (slice_index_or cs n no_scope) { pairs = ps }))
+
 -- a predicate that costs within the limits keep, and timers that are started while fewer than the limit wait
 pub record Invariant : Type 1 where
   pub Holds : Amounts → List Timer → ℕ → Type 0
@@ -20,15 +48,31 @@ pub record Invariant : Type 1 where
       → Holds (sum c cost) ts clock
   pub started : (c : Amounts) (ts : List Timer) (clock : ℕ) (t : Timer) → Holds c ts clock → length ts < max_timers
       → clock + min_delay ≤ t.due → Holds c (ts ++ t ∷ []) clock
+  pub links : Links
 
--- of a state
-abbrev pub HoldsOf : Invariant → State → Type 0
-HoldsOf i s = i.Holds s.own.counts s.own.timers s.own.clock
+-- of a state, in which there are at least so many scopes
+pub record Fine (i : Invariant) (n : ℕ) (c : Amounts) (ts : List Timer) (clock : ℕ) (hs : List Cell) (cs : List Scope) : Type 0 where
+  pub holds : i.Holds c ts clock
+  pub linked : i.links.Linked hs cs
+  pub wide : n ≤ length cs
+
+-- the same by the state
+abbrev pub HoldsOf : Invariant → ℕ → State → Type 0
+HoldsOf i n s = Fine i n s.own.counts s.own.timers s.own.clock s.own.heap s.own.scopes
+
+-- the scope of a job's place is one where there are so many
+abbrev pub JobOf : Invariant → ℕ → Job → Type 0
+JobOf i n (Eval e p) = i.links.Older n p.scope
+JobOf i n (Target e p) = i.links.Older n p.scope
+JobOf i n (Exec e p) = i.links.Older n p.scope
+JobOf i n (Pass l p) = i.links.Older n p.scope
+JobOf i n j = Unit {0}
 
 -- each state of a plan has it, where those that its jobs hand on have it
-unfoldable pub Keeps : Invariant → Plan → Type 0
-Keeps i (Ret o s) = HoldsOf i s
-Keeps i (Halt c s) = HoldsOf i s
-Keeps i (Need n s p) = HoldsOf i s × Keeps i p
-Keeps i (Tick s p) = HoldsOf i s × Keeps i p
-Keeps i (Do j s k) = HoldsOf i s × ((o : Completion) (t : State) → HoldsOf i t → Keeps i (k o t))
+unfoldable pub Keeps : Invariant → ℕ → Plan → Type 0
+Keeps i n (Ret o s) = HoldsOf i n s
+Keeps i n (Halt c s) = HoldsOf i n s
+Keeps i n (Need c s p) = HoldsOf i n s × Keeps i n p
+Keeps i n (Tick s p) = HoldsOf i n s × Keeps i n p
+Keeps i n (Do j s k) = HoldsOf i n s × (JobOf i (length s.own.scopes) j
+    × ((o : Completion) (t : State) → HoldsOf i (length s.own.scopes) t → Keeps i n (k o t)))

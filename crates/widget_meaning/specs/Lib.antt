@@ -43,6 +43,7 @@ pub mod Laws
 pub mod Keeps
 pub mod PlanLaws
 pub mod Counts
+pub mod ScopeLaws
 pub mod Sums
 pub mod RowTrees
 pub mod Rows

@@ -7,6 +7,7 @@ ghost use Rattle.widget_meaning.specs.PlanLaws.{PlanLaws, CostLaws};
 ghost use Rattle.widget_meaning.specs.Counts.{CountLaws};
 ghost use Rattle.widget_meaning.specs.Items.{Item};
 ghost use Rattle.widget_meaning.specs.Alone.{Content};
+ghost use Rattle.widget_meaning.specs.ScopeLaws.{ScopeLaws};
 ghost use Rattle.widget_meaning.specs.Sums.{SumLaws};
 ghost use Rattle.widget_meaning.specs.Laws.{FuelLaws, StopLaws, StoppedLaws, AloneLaws, TimerLaws};
 
@@ -36,6 +37,13 @@ pub fn fuel()
 #[tactic(auto, using(crate::proofs::CountsHold::count_laws))]
 pub fn counts()
     ensures { CountLaws }
+{}
+
+/// Each scope stands in an older one, and each function was made in a scope that is there. So the bound
+/// on the search for a name is never met.
+#[tactic(auto, using(crate::proofs::ScopesHold::scope_laws))]
+pub fn scopes_end()
+    ensures { ScopeLaws }
 {}
 
 /// What a whole run comes to at most, by its items: turns, units spent, events that no turn took, and
