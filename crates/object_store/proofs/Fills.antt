@@ -20,10 +20,10 @@ use Rattle.store_cells.specs.Born.{scope_cell, unset}
 use Rattle.object_store.specs.Calls.{Adds, AreFirstPairs}
 use Rattle.store_cells.specs.declared.kind.Form.TheVariants as form
 use Rattle.store_cells.proofs.Adds.{shape_added}
-use Rattle.store_cells.proofs.Births.{links_short}
+use Rattle.store_table.proofs.Births.{links_short}
 use Rattle.store_cells.proofs.Heads.{bunch_same, scope_same}
 use Rattle.store_cells.proofs.Makes.{added_closed, kept_in_store, length_in_store, made_is, new_ordered}
-use Rattle.store_cells.proofs.Protos.{host_object, host_open}
+use Rattle.store_table.proofs.Protos.{host_object, host_open}
 
 -- variables that are not set
 first_names : (names : List (List ℕ)) → map (λ (p : List ℕ × Value). p.0) (unset names) ≡ names

@@ -11,5 +11,6 @@ pub mod OwnMade
 pub mod Paid
 pub mod Puts
 pub mod Removes
+pub mod Stands
 pub mod Starts
 pub mod Views

@@ -33,7 +33,7 @@ use Rattle.store_cells.specs.Born.{HaveCells, array_cell, bunch_cells, new_cell,
 use Rattle.object_store.specs.Calls.{IsCharged, IsMade, IsMakeable, born, cells_for, make_done, slots_of, unit_cost}
 use Rattle.object_store.specs.Owned.{Made, OwnCell, OwnKind, OwnValue, filled_own, first_cell, first_scope, is_own_scope, made_cells, made_scopes, own_cell, own_cells, own_link, own_made, own_paid, own_pairs, own_scope, own_scopes, owned, scope_number, visible_at}
 use Rattle.store_cells.proofs.Lists.{changed_here, count_before-all, count_before-append}
-use Rattle.store_cells.proofs.Births.{places_lead}
+use Rattle.store_table.proofs.Births.{places_lead}
 use Rattle.store_cells.proofs.Closed.{cells_of_older}
 use Rattle.store_cells.proofs.Elements.{element_length, refs_elements}
 use Rattle.store_cells.proofs.Writes.{count_length}

@@ -7,6 +7,7 @@ use Rattle.code_units.specs.declared.owner.Owner.{Owner}
 use Rattle.code_units.specs.declared.owner.Owner.TheVariants as whose
 use Rattle.store_cells.specs.declared.value.Value.{Value}
 use Rattle.store_cells.specs.declared.kind.Form.TheVariants as form
+use Rattle.store_cells.specs.declared.kind.FunParts.{FunParts}
 use Rattle.store_cells.specs.declared.counts.Counts.{Counts}
 use Rattle.store_cells.specs.declared.counts.StoreFault.{StoreFault}
 use Rattle.store_cells.specs.declared.counts.StoreFault.TheVariants as fault
@@ -28,10 +29,15 @@ slots_for name c = if has_own name c then 0 else 1
 abbrev pub slots_at : List PlainCell → ℕ → List ℕ → ℕ
 slots_at cells i name = option_map_or (slots_for name) (slice_get cells i) 0
 
+-- why a widget's `put` into a cell to which it may write is refused: `BadLength` before `Slots`
+abbrev pub write_refusal : List Counts → List ℕ → Value → PlainCell → ℕ → Option StoreFault
+write_refusal kept name v c w =
+    if is_bad_length name v c then Some fault.BadLength else cost_refusal kept w 0 (slots_for name c)
+
 -- why `put` into a cell is refused: `Closed` before `BadLength` before `Slots`
 abbrev pub put_refusal_of : List Counts → List ℕ → Value → PlainCell → Option StoreFault
 put_refusal_of kept name v c =
-    option_map_or (λ w. if is_bad_length name v c then Some fault.BadLength else cost_refusal kept w 0 (slots_for name c)) (writer_in c.owner c.form) (Some fault.Closed)
+    option_map_or (write_refusal kept name v c) (writer_in c.owner c.form) (Some fault.Closed)
 
 -- why `put` into the cell at a place is refused
 abbrev pub put_refusal : Cells → ℕ → List ℕ → Value → Option StoreFault
@@ -39,7 +45,8 @@ put_refusal s i name v = option_map_or (put_refusal_of s.kept name v) (slice_get
 
 -- the counts after the cell's widget paid for a write under a name
 abbrev pub kept_after : List Counts → List ℕ → PlainCell → List Counts
-kept_after kept name c = option_map_or (λ w. changed kept w (paid 0 (slots_for name c) 0)) (writer_in c.owner c.form) kept
+kept_after kept name c =
+    option_map_or (λ w. changed kept w (paid 0 (slots_for name c) 0)) (writer_in c.owner c.form) kept
 
 -- the store after `put`: the value stands under the name, and the slot of a new name is paid
 abbrev pub put_done : Cells → ℕ → List ℕ → Value → Cells
@@ -81,7 +88,9 @@ keys_at cells i = option_map_or keys_of (slice_get cells i) []
 
 -- the store after `var_set`: the value stands in the innermost scope that has the name
 abbrev pub var_done : Cells → ℕ → List ℕ → Value → Cells
-var_done s i name v = record s { cells = option_map_or (λ h. changed s.cells h (written name v)) (holder s.cells i name) s.cells }
+var_done s i name v = record s {
+  cells = option_map_or (λ h. changed s.cells h (written name v)) (holder s.cells i name) s.cells;
+}
 
 -- the store after `charge_slots` or `charge_units`: a widget paid so many slots and text units
 abbrev pub unit_cost : Cells → ℕ → ℕ → ℕ → Cells
@@ -116,7 +125,9 @@ cells_by cells (whose.Widget w) = filter (is_visible w) cells
 abbrev pub born : List PlainCell → ℕ → NewCell → List PlainCell
 born cells w (new.Object proto) = new_cell w form.Object proto ∷ []
 born cells w new.Array = new_cell w form.Array array_prototype ∷ []
-born cells w (new.Function code fun declared scope) = new_cell w (form.Function (record { code = code; fun = fun; declared = declared; scope = scope })) function_prototype ∷ []
+born cells w (new.Function code fun declared scope) =
+    let parts : FunParts = record { code = code; fun = fun; declared = declared; scope = scope } in
+    new_cell w (form.Function parts) function_prototype ∷ []
 born cells w (new.Scope outer names) = scope_cell w outer (unset names.items) ∷ []
 born cells w (new.Bunch nodes) = bunch_cells cells w nodes.items
 born cells w (new.ObjectWith proto pairs) = object_cell w proto pairs.items ∷ []

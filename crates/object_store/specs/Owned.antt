@@ -30,7 +30,8 @@ pub data OwnValue : Type 0 where
   Own : ℕ → OwnValue
   Other : ℕ → OwnValue
 
--- What a visible cell is: an Array has its length, a Function its tree, its function there, whether a declaration made it, and its scope, a Bunch its nodes.
+-- What a visible cell is: an Array has its length, a Function its tree, its function there, whether a declaration made
+-- it, and its scope, a Bunch its nodes.
 pub data OwnKind : Type 0 where
   Object : OwnKind
   Array : ℕ → OwnKind
@@ -78,11 +79,17 @@ cell_of cells _ = None
 
 -- the nodes of a Bunch, through its hidden Array
 abbrev pub nodes_of : List PlainCell → PlainCell → List ℕ
-nodes_of cells c = option_map_or (λ (a : PlainCell). nodes_in cells a.pairs) (option_and_then (cell_of cells) (value_of c.pairs nodes_name)) []
+nodes_of cells c =
+    let hidden = option_and_then (cell_of cells) (value_of c.pairs nodes_name) in
+    option_map_or (λ (a : PlainCell). nodes_in cells a.pairs) hidden []
+
+-- pairs but for the `length` of an Array
+abbrev pub but_length : List (List ℕ × Value) → List (List ℕ × Value)
+but_length ps = filter (λ p. not (bytes_eq p.0 length_name)) ps
 
 -- the pairs that a widget sees: none of a Bunch, and not the `length` of an Array
 abbrev pub shown : PlainCell → List (List ℕ × Value)
-shown c = if is_bunch c.form then [] else (if is_array c.form then filter (λ p. not (bytes_eq p.0 length_name)) c.pairs else c.pairs)
+shown c = if is_bunch c.form then [] else (if is_array c.form then but_length c.pairs else c.pairs)
 
 module _ (w : ℕ) (cells : List PlainCell) where
   -- whether the cell at a place is one of the widget's visible cells
@@ -135,7 +142,11 @@ module _ (w : ℕ) (cells : List PlainCell) where
 
 -- what a widget has in a store
 unfoldable pub owned : ℕ → Cells → Owned
-owned w s = record { heap = own_cells w s.cells s.cells; scopes = own_scopes w s.cells s.cells; paid = slice_get s.kept w }
+owned w s = record {
+  heap = own_cells w s.cells s.cells;
+  scopes = own_scopes w s.cells s.cells;
+  paid = slice_get s.kept w;
+}
 
 -- whether the cell at a place is a widget's
 abbrev pub is_of_at : ℕ → List PlainCell → ℕ → Bool
@@ -160,9 +171,14 @@ abbrev pub own_raised : ℕ → Option ℕ → ℕ
 own_raised n None = n
 own_raised n (Some i) = max n (i + 1)
 
+-- an own Array of a length after a write under a name other than `length`
+abbrev pub own_placed : List ℕ → OwnValue → OwnCell → ℕ → OwnCell
+own_placed name v c n = with_own c (Array (own_raised n (index_of name))) (insert_entry bytes_eq c.pairs name v)
+
 -- an own cell of a kind after a write under a name
 abbrev pub own_stored : List ℕ → OwnValue → OwnCell → OwnKind → OwnCell
-own_stored name v c (Array n) = if bytes_eq name length_name then own_resized c (own_length v) else with_own c (Array (own_raised n (index_of name))) (insert_entry bytes_eq c.pairs name v)
+own_stored name v c (Array n) =
+    if bytes_eq name length_name then own_resized c (own_length v) else own_placed name v c n
 own_stored name v c k = with_own c k (insert_entry bytes_eq c.pairs name v)
 
 -- an own cell after a write under a name
@@ -181,7 +197,8 @@ own_set name v c = record c { pairs = insert_entry bytes_eq c.pairs name v }
 abbrev pub own_paid : ℕ → ℕ → ℕ → Owned → Owned
 own_paid c n u o = record o { paid = option_map (paid c n u) o.paid }
 
--- A widget sees a change of the one of its cells that stands at a place of the store, and that it paid so many slots, and nothing else.
+-- A widget sees a change of the one of its cells that stands at a place of the store, and that it paid so many slots,
+-- and nothing else.
 pub record Changed (w : ℕ) (old new : Cells) (i slots : ℕ) (g : OwnCell → OwnCell) : Type 0 where
   pub heap : (owned w new).heap ≡ changed (owned w old).heap (own_count w old.cells i) g
   pub scopes : (owned w new).scopes ≡ (owned w old).scopes
@@ -191,7 +208,8 @@ pub record Changed (w : ℕ) (old new : Cells) (i slots : ℕ) (g : OwnCell → 
 abbrev pub is_own_scope_at : ℕ → List PlainCell → ℕ → Bool
 is_own_scope_at w cells i = option_map_or (is_own_scope w) (slice_get cells i) false
 
--- A widget sees a change of the one of its scopes that stands at a place of the store, and nothing else, and paid nothing.
+-- A widget sees a change of the one of its scopes that stands at a place of the store, and nothing else, and paid
+-- nothing.
 pub record Assigned (w : ℕ) (old new : Cells) (i : ℕ) (g : OwnScope → OwnScope) : Type 0 where
   pub heap : (owned w new).heap ≡ (owned w old).heap
   pub scopes : (owned w new).scopes ≡ changed (owned w old).scopes (scope_number w old.cells i) g
@@ -214,24 +232,32 @@ module _ (w : ℕ) (cells : List PlainCell) where
   abbrev pub made_cells : NewCell → List OwnCell
   made_cells (fresh.Object proto) = first_cell Object (own_link w cells proto) ∷ []
   made_cells fresh.Array = first_cell (Array 0) (Other array_prototype) ∷ []
-  made_cells (fresh.Function code fun declared scope) = first_cell (Function code fun declared (option_map (scope_number w cells) scope)) (Other function_prototype) ∷ []
+  made_cells (fresh.Function code fun declared scope) =
+      first_cell (Function code fun declared (option_map (scope_number w cells) scope)) (Other function_prototype) ∷ []
   made_cells (fresh.Scope outer names) = []
   made_cells (fresh.Bunch nodes) = first_cell (Bunch nodes.items) (Other bunch_prototype) ∷ []
-  made_cells (fresh.ObjectWith proto pairs) = filled_own Object (own_link w cells proto) (own_pairs w cells pairs.items) ∷ []
-  made_cells (fresh.ArrayWith values) = filled_own (Array (length values.items)) (Other array_prototype) (own_pairs w cells (elements 0 values.items)) ∷ []
+  made_cells (fresh.ObjectWith proto pairs) =
+      filled_own Object (own_link w cells proto) (own_pairs w cells pairs.items) ∷ []
+  made_cells (fresh.ArrayWith values) =
+      filled_own (Array (length values.items)) (Other array_prototype) (own_pairs w cells (elements 0 values.items)) ∷ []
   made_cells (fresh.ScopeWith outer pairs) = []
 
   -- the own scope that `make` adds, if it adds one
   abbrev pub made_scopes : NewCell → List OwnScope
   made_scopes (fresh.Scope outer names) = first_scope (option_map (scope_number w cells) outer) names.items ∷ []
-  made_scopes (fresh.ScopeWith outer pairs) = record { outer = option_map (scope_number w cells) outer; pairs = own_pairs w cells pairs.items } ∷ []
+  made_scopes (fresh.ScopeWith outer pairs) =
+      record { outer = option_map (scope_number w cells) outer; pairs = own_pairs w cells pairs.items } ∷ []
   made_scopes _ = []
 
 -- what a widget has after `make`: what is made comes last, and its cost is paid
 abbrev pub own_made : ℕ → Cells → NewCell → Owned
-own_made w s n = own_paid (cells_for n) (slots_of n) 0 (record (owned w s) { heap = (owned w s).heap ++ made_cells w s.cells n; scopes = (owned w s).scopes ++ made_scopes w s.cells n })
+own_made w s n = own_paid (cells_for n) (slots_of n) 0 (record (owned w s) {
+  heap = (owned w s).heap ++ made_cells w s.cells n;
+  scopes = (owned w s).scopes ++ made_scopes w s.cells n;
+})
 
--- A widget sees what it made and paid, and nothing else: the new cell, by its place in the store, has the next number of its sort.
+-- A widget sees what it made and paid, and nothing else: the new cell, by its place in the store, has the next number
+-- of its sort.
 pub record Made (w : ℕ) (old new : Cells) (i : ℕ) (n : NewCell) : Type 0 where
   pub seen : owned w new ≡ own_made w old n
   pub number : own_count w new.cells i ≡ length (owned w old).heap
@@ -240,7 +266,8 @@ pub record Made (w : ℕ) (old new : Cells) (i : ℕ) (n : NewCell) : Type 0 whe
 -- what a widget sees of a `put` into one of its cells
 abbrev pub SeesPut : ℕ → Cells → Cells → ℕ → List ℕ → Value → Type 0
 SeesPut w old new i name v =
-    visible_at w old.cells i ≡ true → Changed w old new i (slots_at old.cells i name) (own_put name (own_value w old.cells v))
+    visible_at w old.cells i ≡ true
+    → Changed w old new i (slots_at old.cells i name) (own_put name (own_value w old.cells v))
 
 -- what a widget sees of a `remove` from one of its cells
 abbrev pub SeesRemoved : ℕ → Cells → Cells → ℕ → List ℕ → Type 0
@@ -249,7 +276,8 @@ SeesRemoved w old new i name = visible_at w old.cells i ≡ true → Changed w o
 -- what a widget sees of a `var_set` that ends at one of its scopes
 abbrev pub SeesSet : ℕ → Cells → Cells → ℕ → List ℕ → Value → Type 0
 SeesSet w old new from name v =
-    IfSome (holder old.cells from name) (λ h. is_own_scope_at w old.cells h ≡ true → Assigned w old new h (own_set name (own_value w old.cells v)))
+    IfSome (holder old.cells from name) (λ h. is_own_scope_at w old.cells h ≡ true
+    → Assigned w old new h (own_set name (own_value w old.cells v)))
 
 -- whether a look-up of a variable ends at a scope of the widget
 abbrev pub is_held_by : ℕ → List PlainCell → ℕ → List ℕ → Bool

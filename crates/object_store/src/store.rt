@@ -1,12 +1,12 @@
 //! The store.
 ghost use Rattle.std.specs.Prelude.{◌≡◌, ℕ, ◌+◌, ◌<◌, ◌≤◌, [], ◌∷◌, ◌++◌, None, Some, true, false, is_some, nat_eq, length, vec_len, slice_get, option_copied, IfOk, IfErr, IfSome, OnErr, OnOk, MatchOption, MatchResult, replicate};
 ghost use Rattle.std.specs.Option.{option_and_then, option_map, option_map_or};
-ghost use Rattle.object_store.specs.Owned.{Made, SeesPut, SeesRemoved, SeesSet, is_held_by, is_of_at, own_paid, owned};
+ghost use Rattle.object_store.specs.Owned.{Made, SeesPut, SeesRemoved, SeesSet, is_held_by, is_of_at, is_own_scope, own_cell, own_paid, own_scope, owned, scope_number};
 ghost use Rattle.std.specs.List.{IsDistinct};
 ghost use Rattle.std.specs.Str.{bytes_eq};
 ghost use Rattle.store_cells.specs.Arrays.{length_in, length_name};
 ghost use Rattle.store_cells.specs.Bunches.{IsBunch};
-ghost use Rattle.store_cells.specs.Cells.{PlainCell, chain, first_own, value_along, is_bunch_at, is_scope_at, is_visible, kind_of, function_in, native_in, node_in, proto_in, prototypes, holder, is_array, is_bunch, raw_cell, value_of};
+ghost use Rattle.store_cells.specs.Cells.{Cells, PlainCell, chain, own_count, first_own, value_along, is_bunch_at, is_scope_at, is_visible, kind_of, function_in, native_in, node_in, proto_in, prototypes, holder, is_array, is_bunch, raw_cell, value_of};
 ghost use Rattle.store_cells.specs.Shape.{AreElements, HasPrototype, IsLinked, IsNewForm, IsRefWithin};
 ghost use Rattle.store_cells.specs.Host.{first_store, global, nothing_paid, host_cells, host_count, is_permitted_cell, leads_on, place_of};
 ghost use Rattle.store_cells.specs.Costs.{Refuses, cost_refusal, slots_refusal, units_refusal, whole_refusal};
@@ -24,9 +24,12 @@ use std::alloc::Global;
 use std::marker::Model;
 use store_cells::cell::{Cell, Maker};
 use store_cells::counts::{
-    CELL_LIMIT, Counts, NODE_LIMIT, NOTHING_PAID, SLOT_LIMIT, StoreFault, UNIT_LIMIT, first_counts,
+    self, CELL_LIMIT, Counts, NODE_LIMIT, NOTHING_PAID, SLOT_LIMIT, StoreFault, UNIT_LIMIT,
+    first_counts,
 };
-use store_cells::{CellId, CellKind, Form, FunParts, Value, bunch, host, table};
+use store_cells::{CellId, CellKind, Form, FunParts, Value};
+use store_table::table::{OwnPlace, Target};
+use store_table::{bunch, host, table};
 
 /// What is to be made: an Object on its prototype, an Array, a Function, a Scope with its names, or a
 /// Bunch of page nodes; or, paid in one, an Object or a Scope with its first pairs, or an Array with
@@ -89,6 +92,15 @@ impl Model for Store {
 
     ghost invariant = { λ s. IsShape s.names s.cells.items s.raws.entries s.kept.items };
 }
+
+/// A law: each visible cell of a widget, and each of its scopes, stands in what the widget has under
+/// its own number.
+pub fn own_numbers()
+    ensures cells { (w i : ℕ) (s : Cells) (c : PlainCell) → slice_get s.cells i ≡ Some c → is_visible w c ≡ true
+        → slice_get (owned w s).heap (own_count w s.cells i) ≡ Some (own_cell w s.cells c) }
+    ensures scopes { (w i : ℕ) (s : Cells) (c : PlainCell) → slice_get s.cells i ≡ Some c → is_own_scope w c ≡ true
+        → slice_get (owned w s).scopes (scope_number w s.cells i) ≡ Some (own_scope w s.cells c) }
+{}
 
 impl Store {
     /// A store with the host's cells alone, which are made and never changed. Its tables hash by
@@ -381,17 +393,10 @@ impl Store {
         };
         let number = self.names.number(name);
         let slots = held.slots_for(number);
-        table::afford(&self.kept, w, 0, slots)?;
-        table::write(
-            &mut self.names,
-            &mut self.cells,
-            cell,
-            number,
-            name,
-            value,
-            plan,
-        )?;
-        table::pay(&mut self.kept, w, 0, slots);
+        counts::afford(&self.kept, w, 0, slots as usize)?;
+        let target = Target { cell, number };
+        table::write(&mut self.names, &mut self.cells, target, name, value, plan)?;
+        counts::pay(&mut self.kept, w, 0, slots);
         Ok(())
     }
 
@@ -402,7 +407,7 @@ impl Store {
         ensures ok { OnOk result (whole_refusal self.now.kept (number_in owner) cost ≡ None) }
         ensures err { IfErr result (λ e. whole_refusal self.now.kept (number_in owner) cost ≡ Some e) }
     {
-        table::afford_all(&self.kept, table::widget(owner), cost)
+        counts::afford_all(&self.kept, counts::widget(owner), cost)
     }
 
     /// A widget pays text units. `Units` comes exactly where the kept count plus `n` passes the
@@ -415,11 +420,12 @@ impl Store {
         ensures same { OnErr result (self.new ≡ self.old) }
 
         // The widget sees that, and another has what it had.
-        ensures own { OnOk result (owned (number_in owner) self.new ≡ own_paid 0 0 n (owned (number_in owner) self.old)) }
+        ensures own { OnOk result (
+            owned (number_in owner) self.new ≡ own_paid 0 0 n (owned (number_in owner) self.old)) }
         ensures others { (w : ℕ) → (number_in owner ≡ w → ⊥) → owned w self.new ≡ owned w self.old }
         ensures grows { (w : ℕ) → Grows w self.old.cells self.new.cells }
     {
-        table::charge_units(&mut self.kept, table::widget(owner), n)
+        counts::charge_units(&mut self.kept, counts::widget(owner), n)
     }
 
     /// A widget pays slots. `Slots` comes exactly where the kept count plus `n` passes the limit.
@@ -431,11 +437,12 @@ impl Store {
         ensures same { OnErr result (self.new ≡ self.old) }
 
         // The widget sees that, and another has what it had.
-        ensures own { OnOk result (owned (number_in owner) self.new ≡ own_paid 0 n 0 (owned (number_in owner) self.old)) }
+        ensures own { OnOk result (
+            owned (number_in owner) self.new ≡ own_paid 0 n 0 (owned (number_in owner) self.old)) }
         ensures others { (w : ℕ) → (number_in owner ≡ w → ⊥) → owned w self.new ≡ owned w self.old }
         ensures grows { (w : ℕ) → Grows w self.old.cells self.new.cells }
     {
-        table::charge_slots(&mut self.kept, table::widget(owner), n)
+        counts::charge_slots(&mut self.kept, counts::widget(owner), n)
     }
 
     /// The cell of a page node, made where there is none.
@@ -559,16 +566,17 @@ impl Store {
         ensures err { IfErr result (λ e. Refuses e (cost_refusal self.old.kept w 1 0)) }
         ensures same { OnErr result (self.new ≡ self.old) }
     {
-        table::afford(&self.kept, w, 1, 0)?;
-        let number = table::counts_of(&self.kept, w).cells;
-        let head = table::head_on(&self.cells, w, form, up, number);
+        counts::afford(&self.kept, w, 1, 0)?;
+        let number = counts::counts_of(&self.kept, w).cells;
+        let place = OwnPlace { widget: w, number };
+        let head = table::head_on(&self.cells, place, form, up);
         let maker = Maker {
             alloc,
             key: self.key,
         };
         let cell = Cell::first(maker, head)?;
         let id = table::add(&self.names, &mut self.cells, cell)?;
-        table::pay(&mut self.kept, w, 1, 0);
+        counts::pay(&mut self.kept, w, 1, 0);
         Ok(id)
     }
 
@@ -608,14 +616,14 @@ impl Store {
         ensures err { IfErr result (λ e. Refuses e (cost_refusal self.old.kept w 0 (length pairs.now + 1))) }
         ensures same { OnErr result (self.new ≡ self.old) }
     {
-        let slots = table::afford_slots(&self.kept, w, 0, pairs.len() + 1)?;
+        let slots = counts::afford(&self.kept, w, 0, pairs.len() + 1)?;
         let head = table::scope_head(w, outer);
         let maker = Maker {
             alloc,
             key: self.key,
         };
         let id = table::add_filled(maker, &mut self.names, &mut self.cells, head, pairs)?;
-        table::pay(&mut self.kept, w, 0, slots);
+        counts::pay(&mut self.kept, w, 0, slots);
         Ok(id)
     }
 
@@ -635,15 +643,16 @@ impl Store {
         ensures err { IfErr result (λ e. Refuses e (cost_refusal self.old.kept w 1 (length pairs.now))) }
         ensures same { OnErr result (self.new ≡ self.old) }
     {
-        let slots = table::afford_slots(&self.kept, w, 1, pairs.len())?;
-        let number = table::counts_of(&self.kept, w).cells;
-        let head = table::head_on(&self.cells, w, Form::Object, up, number);
+        let slots = counts::afford(&self.kept, w, 1, pairs.len())?;
+        let number = counts::counts_of(&self.kept, w).cells;
+        let place = OwnPlace { widget: w, number };
+        let head = table::head_on(&self.cells, place, Form::Object, up);
         let maker = Maker {
             alloc,
             key: self.key,
         };
         let id = table::add_filled(maker, &mut self.names, &mut self.cells, head, pairs)?;
-        table::pay(&mut self.kept, w, 1, slots);
+        counts::pay(&mut self.kept, w, 1, slots);
         Ok(id)
     }
 
@@ -656,16 +665,17 @@ impl Store {
         ensures err { IfErr result (λ e. Refuses e (cost_refusal self.old.kept w 1 (length values.now))) }
         ensures same { OnErr result (self.new ≡ self.old) }
     {
-        let slots = table::afford_slots(&self.kept, w, 1, values.len())?;
-        let number = table::counts_of(&self.kept, w).cells;
+        let slots = counts::afford(&self.kept, w, 1, values.len())?;
+        let number = counts::counts_of(&self.kept, w).cells;
         let up = host::ARRAY_PROTOTYPE;
-        let head = table::head_on(&self.cells, w, Form::Array, up, number);
+        let place = OwnPlace { widget: w, number };
+        let head = table::head_on(&self.cells, place, Form::Array, up);
         let maker = Maker {
             alloc,
             key: self.key,
         };
         let id = bunch::add_array(maker, &mut self.names, &mut self.cells, head, values)?;
-        table::pay(&mut self.kept, w, 1, slots);
+        counts::pay(&mut self.kept, w, 1, slots);
         Ok(id)
     }
 
@@ -679,22 +689,22 @@ impl Store {
         ensures err { IfErr result (λ e. Refuses e (cost_refusal self.old.kept w 1 (length nodes.now + 1))) }
         ensures same { OnErr result (self.new ≡ self.old) }
     {
-        let slots = table::afford_slots(&self.kept, w, 1, nodes.len() + 1)?;
-        let number = table::counts_of(&self.kept, w).cells;
+        let slots = counts::afford(&self.kept, w, 1, nodes.len() + 1)?;
+        let number = counts::counts_of(&self.kept, w).cells;
         let maker = Maker {
             alloc,
             key: self.key,
         };
+        let place = OwnPlace { widget: w, number };
         let id = bunch::add_bunch(
             maker,
             &mut self.names,
             &mut self.cells,
             &self.raws,
-            w,
-            number,
+            place,
             nodes,
         )?;
-        table::pay(&mut self.kept, w, 1, slots);
+        counts::pay(&mut self.kept, w, 1, slots);
         Ok(id)
     }
 
@@ -749,7 +759,8 @@ impl Store {
 
         // Its widget sees the write, and another has what it had.
         ensures own { (w : ℕ) → SeesSet w self.old self.new scope name.now value }
-        ensures others { (w : ℕ) → is_held_by w self.old.cells scope name.now ≡ false → owned w self.new ≡ owned w self.old }
+        ensures others { (w : ℕ) → is_held_by w self.old.cells scope name.now ≡ false
+            → owned w self.new ≡ owned w self.old }
         ensures grows { (w : ℕ) → Grows w self.old.cells self.new.cells }
     {
         // These laws say that what other cells lead to stays.

@@ -1,15 +1,10 @@
 pub mod Adds
-pub mod Bares
-pub mod Births
-pub mod Climb
 pub mod Closed
 pub mod Costs
 pub mod Cuts
 pub mod Elements
 pub mod Entries
 pub mod Filled
-pub mod Firsts
-pub mod Gifts
 pub mod Heads
 pub mod Hosts
 pub mod Interned
@@ -19,7 +14,6 @@ pub mod Look
 pub mod Makes
 pub mod Places
 pub mod Plans
-pub mod Protos
 pub mod Takes
 pub mod Tops
 pub mod Writes

@@ -61,15 +61,22 @@ abbrev pub placed : List ℕ → Value → PlainCell → Option ℕ → PlainCel
 placed name v c None = written name v c
 placed name v c (Some i) = if nat_lt i (length_of c.pairs) then written name v c else extended name v i c
 
--- a cell after a write under a name (ECMA-262 3rd edition, 8.6.2.2 and 15.4.5.1)
+-- an Array after a write under a name (ECMA-262 3rd edition, 15.4.5.1)
+abbrev pub array_stored : List ℕ → Value → PlainCell → PlainCell
+array_stored name v c = if bytes_eq name length_name then resized v c else placed name v c (index_of name)
+
+-- a cell after a write under a name (ECMA-262 3rd edition, 8.6.2.2)
 abbrev pub stored : List ℕ → Value → PlainCell → PlainCell
-stored name v c =
-    if is_array c.form then (if bytes_eq name length_name then resized v c else placed name v c (index_of name)) else written name v c
+stored name v c = if is_array c.form then array_stored name v c else written name v c
+
+-- whether a value is no length
+abbrev pub is_no_length : Value → Bool
+is_no_length v = option_map_or (λ n. false) (length_in v) true
 
 -- whether a write gives the `length` of an Array what is no length
 abbrev pub is_bad_length : List ℕ → Value → PlainCell → Bool
 is_bad_length name v c =
-    if is_array c.form then (if bytes_eq name length_name then option_map_or (λ n. false) (length_in v) true else false) else false
+    if is_array c.form then (if bytes_eq name length_name then is_no_length v else false) else false
 
 -- whether a name is the `length` of an Array
 abbrev pub is_length_of : List ℕ → PlainCell → Bool

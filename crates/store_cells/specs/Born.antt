@@ -40,7 +40,8 @@ object_cell w proto pairs = record { owner = whose.Widget w; form = form.Object;
 
 -- a widget's new Array of these elements
 abbrev pub array_cell : ℕ → List Value → PlainCell
-array_cell w vs = record { owner = whose.Widget w; form = form.Array; up = Some array_prototype; pairs = array_pairs vs }
+array_cell w vs =
+    record { owner = whose.Widget w; form = form.Array; up = Some array_prototype; pairs = array_pairs vs }
 
 -- a widget's new Scope with its first pairs
 abbrev pub scope_cell : ℕ → Option ℕ → List (List ℕ × Value) → PlainCell

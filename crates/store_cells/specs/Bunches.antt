@@ -23,11 +23,21 @@ array_pairs vs = (length_name, count_value (length vs)) ∷ elements 0 vs
 
 -- a hidden Array of these references
 abbrev pub hidden_array : List ℕ → PlainCell
-hidden_array refs = record { owner = whose.Host; form = form.Array; up = Some array_prototype; pairs = array_pairs (map value.Ref refs) }
+hidden_array refs = record {
+  owner = whose.Host;
+  form = form.Array;
+  up = Some array_prototype;
+  pairs = array_pairs (map value.Ref refs);
+}
 
 -- a widget's Bunch, by the place of its hidden Array
 abbrev pub bunch_cell : ℕ → ℕ → PlainCell
-bunch_cell w array = record { owner = whose.Widget w; form = form.Bunch; up = Some bunch_prototype; pairs = (nodes_name, value.Ref array) ∷ [] }
+bunch_cell w array = record {
+  owner = whose.Widget w;
+  form = form.Bunch;
+  up = Some bunch_prototype;
+  pairs = (nodes_name, value.Ref array) ∷ [];
+}
 
 -- the page node of the cell at a place
 abbrev pub node_at : List PlainCell → ℕ → Option ℕ

@@ -16,7 +16,7 @@ use Rattle.permitted_table.specs.declared.native.NativeId.{NativeId}
 use Rattle.store_cells.specs.declared.counts.Counts.{Counts}
 use Rattle.store_cells.specs.Lists.{climb, links, count_before}
 
--- A cell: whose it is, what it is, its prototype or outer scope, and its pairs of a name and a value in order of insertion.
+-- A cell: whose it is, what it is, its prototype or outer scope, and its pairs of a name and a value in order.
 pub record PlainCell : Type 0 where
   pub owner : Owner
   pub form : Form
@@ -174,4 +174,5 @@ number_in o = unwrap_or (widget_of o) 0
 
 -- the place of a cell among its owner's visible cells, none exactly for a cell that is no visible cell of a widget
 abbrev pub own_number_of : List PlainCell → ℕ → PlainCell → Option ℕ
-own_number_of cells i c = option_and_then (λ w. if is_visible_form c.form then Some (own_count w cells i) else None) (widget_of c.owner)
+own_number_of cells i c =
+    option_and_then (λ w. if is_visible_form c.form then Some (own_count w cells i) else None) (widget_of c.owner)

@@ -24,7 +24,7 @@ kept_units kept w = option_map_or (λ k. k.units) (slice_get kept w) 0
 abbrev pub paid : ℕ → ℕ → ℕ → Counts → Counts
 paid c s u k = record { cells = k.cells + c; slots = k.slots + s; units = k.units + u }
 
--- whether a widget can pay: `Cells` comes before `Slots`, each exactly where the kept count plus the cost passes the limit
+-- whether a widget can pay: `Cells` before `Slots`, each exactly where the kept count plus the cost passes the limit
 abbrev pub cost_refusal : List Counts → ℕ → ℕ → ℕ → Option StoreFault
 cost_refusal kept w c s =
     if nat_lt CELL_LIMIT (kept_cells kept w + c) then Some (fault.Cells (kept_cells kept w))
@@ -33,12 +33,15 @@ cost_refusal kept w c s =
 -- whether a widget can pay a whole cost: the first of units, cells and slots that passes its limit
 abbrev pub whole_refusal : List Counts → ℕ → Counts → Option StoreFault
 whole_refusal kept w k =
-    if nat_lt UNIT_LIMIT (kept_units kept w + k.units) then Some (fault.Units (kept_units kept w)) else cost_refusal kept w k.cells k.slots
+    if nat_lt UNIT_LIMIT (kept_units kept w + k.units) then Some (fault.Units (kept_units kept w))
+    else cost_refusal kept w k.cells k.slots
 
 -- why `charge_units` is refused
 abbrev pub units_refusal : List Counts → ℕ → ℕ → Option StoreFault
-units_refusal kept w n = if nat_lt UNIT_LIMIT (kept_units kept w + n) then Some (fault.Units (kept_units kept w)) else None
+units_refusal kept w n =
+    if nat_lt UNIT_LIMIT (kept_units kept w + n) then Some (fault.Units (kept_units kept w)) else None
 
 -- why `charge_slots` is refused
 abbrev pub slots_refusal : List Counts → ℕ → ℕ → Option StoreFault
-slots_refusal kept w n = if nat_lt SLOT_LIMIT (kept_slots kept w + n) then Some (fault.Slots (kept_slots kept w)) else None
+slots_refusal kept w n =
+    if nat_lt SLOT_LIMIT (kept_slots kept w + n) then Some (fault.Slots (kept_slots kept w)) else None

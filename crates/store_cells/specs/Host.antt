@@ -158,6 +158,11 @@ abbrev pub is_host_owner : Owner → Bool
 is_host_owner whose.Host = true
 is_host_owner _ = false
 
+-- whether pairs lead to primitives and permitted cells alone
+abbrev pub lead_on : List (List ℕ × Value) → Bool
+lead_on ps = list_all (λ p. is_permitted_value p.1) ps
+
 -- whether a cell is a frozen cell of the host that leads to primitives and permitted cells alone, also by its prototype
 abbrev pub leads_on : PlainCell → Bool
-leads_on c = is_host_owner c.owner && (is_frozen_form c.form && (option_map_or is_permitted_cell c.up true && list_all (λ p. is_permitted_value p.1) c.pairs))
+leads_on c =
+    is_host_owner c.owner && (is_frozen_form c.form && (option_map_or is_permitted_cell c.up true && lead_on c.pairs))

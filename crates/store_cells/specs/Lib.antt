@@ -7,4 +7,3 @@ pub mod Costs
 pub mod Born
 pub mod Host
 pub mod Bunches
-pub mod Bare

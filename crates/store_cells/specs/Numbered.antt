@@ -11,7 +11,7 @@ use Rattle.store_cells.specs.declared.value.Value.{Value}
 use Rattle.store_cells.specs.declared.cell.Head.{Head}
 use Rattle.code_units.specs.Permitted.{is_permitted}
 use Rattle.store_cells.specs.Lists.{climb}
-use Rattle.store_cells.specs.Cells.{PlainCell, is_array, is_own}
+use Rattle.store_cells.specs.Cells.{PlainCell, is_array, is_own, is_visible_form, widget_of}
 use Rattle.store_cells.specs.declared.cell.Write.{Write}
 use Rattle.store_cells.specs.declared.cell.Write.TheVariants as write
 use Rattle.code_units.specs.Indices.{index_of}
@@ -68,13 +68,18 @@ numbered_has_at cells i (Some n) = option_map_or (numbered_has n) (slice_get cel
 abbrev pub own_head : ℕ → Head → Bool
 own_head w h = is_own w h.owner h.form
 
+-- the place of a cell among its owner's visible cells, by its fixed part
+abbrev pub own_place : Head → Option ℕ
+own_place h = option_and_then (λ w. if is_visible_form h.form then Some h.number else None) (widget_of h.owner)
+
 -- a cell after a write under a name by its number; its elements stand below `e` or its old bound
 abbrev pub numbered_written : ℕ → Value → ℕ → NumberedCell → NumberedCell
 numbered_written n v e c = record c { top = max c.top e; entries = insert_entry nat_eq c.entries n v }
 
 -- a cell after writes under two names by their numbers
 abbrev pub numbered_two : ℕ → Value → ℕ → Value → ℕ → NumberedCell → NumberedCell
-numbered_two n v m u e c = record c { top = max c.top e; entries = insert_entry nat_eq (insert_entry nat_eq c.entries n v) m u }
+numbered_two n v m u e c =
+    record c { top = max c.top e; entries = insert_entry nat_eq (insert_entry nat_eq c.entries n v) m u }
 
 -- a cell after a write under a name that it has, by its number
 abbrev pub numbered_held : ℕ → Value → NumberedCell → NumberedCell
@@ -82,11 +87,21 @@ numbered_held n v c = record c { entries = insert_entry nat_eq c.entries n v }
 
 -- a cell after a name was taken out by its number: its bound falls where that was the element right before it
 abbrev pub numbered_without : ℕ → ℕ → NumberedCell → NumberedCell
-numbered_without n e c = record c { top = if nat_eq e c.top then c.top - 1 else c.top; entries = remove_entry (nat_eq n) c.entries }
+numbered_without n e c = record c {
+  top = if nat_eq e c.top then c.top - 1 else c.top;
+  entries = remove_entry (nat_eq n) c.entries;
+}
 
 -- a cell after its elements from an index on were taken out
 abbrev pub numbered_cut : List (List ℕ) → ℕ → NumberedCell → NumberedCell
-numbered_cut names n c = record c { top = if nat_lt n c.top then n else c.top; entries = filter (λ e. is_below n (name_at names e.0)) c.entries }
+numbered_cut names n c = record c {
+  top = if nat_lt n c.top then n else c.top;
+  entries = filter (λ e. is_below n (name_at names e.0)) c.entries;
+}
+
+-- a cell whose elements from an index on were taken out, where it had some
+abbrev pub numbered_below : List (List ℕ) → ℕ → NumberedCell → NumberedCell
+numbered_below names n c = record c { top = n; entries = filter (λ e. is_below n (name_at names e.0)) c.entries }
 
 -- a later table has the older one's names under their numbers
 pub record Grown (old new : List (List ℕ)) : Type 0 where
@@ -102,10 +117,18 @@ abbrev pub element_plan : ℕ → Option ℕ → Write
 element_plan len None = write.Own 0
 element_plan len (Some i) = if nat_lt i len then write.Own (i + 1) else write.Longer (i + 1)
 
+-- how a write under the `length` of an Array goes, none where it is a bad length
+abbrev pub length_plan : Value → Option Write
+length_plan v = option_map (λ n. write.Length n) (length_in v)
+
+-- how a write under a name of an Array goes
+abbrev pub array_plan : List ℕ → Value → NumberedCell → Option Write
+array_plan name v c =
+    if bytes_eq name length_name then length_plan v else Some (element_plan (numbered_length c.entries) (index_of name))
+
 -- how a write under a name goes, none where it is a bad length
 abbrev pub plan_of : List ℕ → Value → NumberedCell → Option Write
-plan_of name v c =
-    if is_array c.head.form then (if bytes_eq name length_name then option_map (λ n. write.Length n) (length_in v) else Some (element_plan (numbered_length c.entries) (index_of name))) else Some (write.Own 0)
+plan_of name v c = if is_array c.head.form then array_plan name v c else Some (write.Own 0)
 
 -- a cell after a write that goes as planned
 abbrev pub by_plan : Write → List ℕ → Value → PlainCell → PlainCell
@@ -115,15 +138,25 @@ by_plan (write.Longer n) name v c = written length_name (count_value n) (written
 
 -- the number of a name in the table, none exactly where it is not there
 abbrev pub IsNumberOf : List (List ℕ) → List ℕ → Option ℕ → Type 0
-IsNumberOf names name number = MatchOption number (list_any (bytes_eq name) names ≡ false) (λ n. (slice_get names n ≡ Some name) × (n < length names))
+IsNumberOf names name number =
+    MatchOption number (list_any (bytes_eq name) names ≡ false) (λ n. (slice_get names n ≡ Some name) × (n < length names))
+
+-- whether a name is the `length` of an Array
+abbrev pub is_length_in : NumberedCell → List ℕ → Bool
+is_length_in c name = is_array c.head.form && bytes_eq name length_name
+
+-- whether a name is listed: it is permitted, and not the `length` of an Array
+abbrev pub is_listed : NumberedCell → List ℕ → Bool
+is_listed c name = is_permitted name && not (is_length_in c name)
 
 -- a name of a cell, where it is listed
 abbrev pub listed : NumberedCell → List ℕ → Option (List ℕ)
-listed c name = if is_permitted name && not (is_array c.head.form && bytes_eq name length_name) then Some name else None
+listed c name = if is_listed c name then Some name else None
 
 -- the name at a place of a cell's pairs, where it is listed
 abbrev pub numbered_key : List (List ℕ) → NumberedCell → ℕ → Option (List ℕ)
-numbered_key names c at = option_and_then (λ e. option_and_then (listed c) (slice_get names e.0)) (slice_get c.entries at)
+numbered_key names c at =
+    option_and_then (λ e. option_and_then (listed c) (slice_get names e.0)) (slice_get c.entries at)
 
 -- the fixed part of the RawNode of a page node
 abbrev pub node_head : ℕ → Head

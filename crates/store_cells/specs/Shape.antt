@@ -1,5 +1,5 @@
 -- What every store keeps.
-use Rattle.std.specs.Prelude.{◌≡◌, ℕ, suc, ◌<◌, ◌≤◌, Bool, true, false, List, [], ◌∷◌, ◌++◌, Option, Some, is_some, nat_eq, if◌then◌else◌, length, position, slice_get, IfSome}
+use Rattle.std.specs.Prelude.{◌≡◌, ℕ, suc, ◌<◌, ◌≤◌, Bool, true, false, List, [], ◌∷◌, ◌++◌, Option, Some, is_some, nat_eq, if◌then◌else◌, length, map, position, slice_get, unwrap_or, IfSome}
 use Rattle.std.specs.Option.{option_map_or, option_and_then}
 use Rattle.std.specs.List.{AllByRecursion, IsDistinct, count_by}
 use Rattle.std.specs.Map.{keys_of, lookup}
@@ -15,10 +15,11 @@ use Rattle.store_cells.specs.declared.counts.TheConstants.{CELL_LIMIT, SLOT_LIMI
 use Rattle.store_cells.specs.Lists.{changed, count_before}
 use Rattle.store_cells.specs.Cells.{PlainCell, kept_cells, is_bunch, is_bunch_at, is_visible_form, is_scope_at, is_scope, is_array, is_raw, widget_of, node_in, function_in}
 use Rattle.code_units.specs.Indices.{index_of}
-use Rattle.store_cells.specs.Arrays.{is_below, length_in, length_name, nodes_name, count_value}
+use Rattle.store_cells.specs.Arrays.{end_of, is_below, length_in, length_name, nodes_name, count_value}
 use Rattle.store_cells.specs.Host.{AreHost, array_prototype}
 use Rattle.store_cells.specs.Bunches.{AreBunches, elements}
-use Rattle.store_cells.specs.Numbered.{NumberedCell, name_at, named, heads, numbered_holder, own_head, cells_of}
+use Rattle.store_cells.specs.declared.cell.Write.{Write}
+use Rattle.store_cells.specs.Numbered.{NumberedCell, name_at, named, heads, is_length_in, numbered_holder, own_head, plan_of, cells_of}
 
 -- a reference is to one of so many cells
 abbrev pub IsRefWithin : ℕ → Value → Type 0
@@ -71,7 +72,8 @@ links_at hs i = option_map_or (λ h. h.links) (slice_get hs i) 0
 abbrev pub scope_in : Form → Option ℕ
 scope_in f = option_and_then (λ p. p.scope) (function_in f)
 
--- Prototypes are older and neither scopes nor Bunches, and outer scopes are older scopes, so no chain has a cycle; a cell of a widget has a prototype; a chain has at most 100 prototypes, and a cell's number is its place among its owner's.
+-- Prototypes are older and neither scopes nor Bunches, and outer scopes are older scopes, so no chain has a cycle;
+-- a cell of a widget has a prototype; a chain has at most 100, and a cell's number is its place among its owner's.
 pub record IsOrdered (hs : List Head) (i : ℕ) (h : Head) : Type 0 where
   pub up : IfSome h.up (λ j. (j < i) × (scope_at hs j ≡ is_scope h.form))
   pub scope : IfSome (scope_in h.form) (λ j. (j < i) × (scope_at hs j ≡ true))
@@ -117,8 +119,10 @@ pub record AreClosed (cells : List PlainCell) : Type 0 where
   pub host : AreHost cells
   pub bunches : AreBunches cells
 
--- What every store keeps: the host's cells and Bunches stay closed, each page node has at most one RawNode, and each widget's count of cells is exact and within the limit, as its other counts are.
-pub record IsShape (names : List (List ℕ)) (cs : List NumberedCell) (raws : List (ℕ × ℕ)) (kept : List Counts) : Type 0 where
+-- What every store keeps: the host's cells and Bunches stay closed, each page node has at most one RawNode, and each
+-- widget's count of cells is exact and within the limit, as its other counts are.
+pub record IsShape (names : List (List ℕ)) (cs : List NumberedCell) (raws : List (ℕ × ℕ)) (kept : List Counts)
+    : Type 0 where
   pub base : IsBase names cs
   pub closed : AreClosed (cells_of names cs)
   pub nodes : AreRaws (heads cs) raws
@@ -127,10 +131,28 @@ pub record IsShape (names : List (List ℕ)) (cs : List NumberedCell) (raws : Li
   pub exact : (w : ℕ) → w < 32 → kept_cells kept w ≡ count_by (own_head w) (heads cs)
 
 -- A cell was written: the others, the names of all and what they keep are as before.
-pub record Wrote (old : List (List ℕ)) (cs : List NumberedCell) (new : List (List ℕ)) (after : List NumberedCell) (i : ℕ) (f : PlainCell → PlainCell) : Type 0 where
+pub record Wrote (old : List (List ℕ)) (cs : List NumberedCell) (new : List (List ℕ)) (after : List NumberedCell)
+    (i : ℕ) (f : PlainCell → PlainCell) : Type 0 where
   pub done : cells_of new after ≡ changed (cells_of old cs) i f
   pub base : IsBase new after
   pub heads : heads after ≡ heads cs
+
+-- the write of a value under a name of the cell at a place goes as planned
+abbrev pub IsPlanned : List NumberedCell → ℕ → List ℕ → Value → Write → Type 0
+IsPlanned cs i name v plan = (c : NumberedCell) → slice_get cs i ≡ Some c → plan_of name v c ≡ Some plan
+
+-- a name may be taken out of the cell at a place: it is not the `length` of an Array
+abbrev pub IsTakeable : List NumberedCell → ℕ → List ℕ → Type 0
+IsTakeable cs i name = (c : NumberedCell) → slice_get cs i ≡ Some c → is_length_in c name ≡ false
+
+-- where the cell at a place is an Array, this is one past the index that a name is, or 0
+abbrev pub IsEndOf : List NumberedCell → ℕ → List ℕ → ℕ → Type 0
+IsEndOf cs i name end =
+    (c : NumberedCell) → slice_get cs i ≡ Some c → is_array c.head.form ≡ true → end ≡ end_of name
+
+-- what an index of the cells of page nodes says of some nodes: the places of their cells, 0 where there is none
+abbrev pub node_places : List (ℕ × ℕ) → List ℕ → List ℕ
+node_places raws nodes = map (λ n. unwrap_or (lookup (nat_eq n) raws) 0) nodes
 
 -- A variable by its number: a look-up from some Scope on ends at this place.
 pub record IsVariable (cs : List NumberedCell) (n i : ℕ) : Type 0 where
@@ -139,7 +161,8 @@ pub record IsVariable (cs : List NumberedCell) (n i : ℕ) : Type 0 where
   pub found : numbered_holder cs from n ≡ Some i
 
 -- No cell was written.
-pub record Kept (old : List (List ℕ)) (cs : List NumberedCell) (new : List (List ℕ)) (after : List NumberedCell) : Type 0 where
+pub record Kept (old : List (List ℕ)) (cs : List NumberedCell) (new : List (List ℕ)) (after : List NumberedCell)
+    : Type 0 where
   pub done : cells_of new after ≡ cells_of old cs
   pub base : IsBase new after
   pub heads : heads after ≡ heads cs
@@ -154,24 +177,33 @@ pub record IsPopped (names : List (List ℕ)) (old new : NumberedCell) : Type 0 
   pub distinct : IsDistinct nat_eq (keys_of old.entries)
 
 -- A cell was added.
-pub record Added (old : List (List ℕ)) (cs : List NumberedCell) (new : List (List ℕ)) (after : List NumberedCell) (c : NumberedCell) (id : ℕ) : Type 0 where
+pub record Added (old : List (List ℕ)) (cs : List NumberedCell) (new : List (List ℕ)) (after : List NumberedCell)
+    (c : NumberedCell) (id : ℕ) : Type 0 where
   pub place : id ≡ length cs
   pub items : after ≡ cs ++ c ∷ []
   pub base : IsBase new after
 
 -- A cell was added by name, with its fixed part.
-pub record Grew (old : List (List ℕ)) (cs : List NumberedCell) (new : List (List ℕ)) (after : List NumberedCell) (p : PlainCell) (h : Head) : Type 0 where
+pub record Grew (old : List (List ℕ)) (cs : List NumberedCell) (new : List (List ℕ)) (after : List NumberedCell)
+    (p : PlainCell) (h : Head) : Type 0 where
   pub done : cells_of new after ≡ cells_of old cs ++ p ∷ []
   pub base : IsBase new after
   pub heads : heads after ≡ heads cs ++ h ∷ []
 
 -- the fixed part of a widget's new cell on a prototype
 abbrev pub head_on : List Head → ℕ → Form → ℕ → ℕ → Head
-head_on hs w f up number = record { owner = whose.Widget w; form = f; up = Some up; links = suc (links_at hs up); number = number }
+head_on hs w f up number =
+    record { owner = whose.Widget w; form = f; up = Some up; links = suc (links_at hs up); number = number }
 
 -- the fixed part of the hidden Array of a Bunch
 abbrev pub hidden_head : List Head → Head
-hidden_head hs = record { owner = whose.Host; form = form.Array; up = Some array_prototype; links = suc (links_at hs array_prototype); number = 0 }
+hidden_head hs = record {
+  owner = whose.Host;
+  form = form.Array;
+  up = Some array_prototype;
+  links = suc (links_at hs array_prototype);
+  number = 0;
+}
 
 -- the fixed part of a widget's new scope
 abbrev pub scope_head : ℕ → Option ℕ → Head
@@ -199,12 +231,14 @@ pub record IsArrayOf (names : List (List ℕ)) (h : Head) (count : ℕ) (vs : Li
   pub pairs : named names c.entries ≡ (length_name, count_value count) ∷ elements 0 vs
 
 -- A Bunch and its hidden Array were added.
-pub record GrewBunch (old : List (List ℕ)) (cs : List NumberedCell) (new : List (List ℕ)) (after : List NumberedCell) (p q : PlainCell) (h k : Head) : Type 0 where
+pub record GrewBunch (old : List (List ℕ)) (cs : List NumberedCell) (new : List (List ℕ)) (after : List NumberedCell)
+    (p q : PlainCell) (h k : Head) : Type 0 where
   pub done : cells_of new after ≡ cells_of old cs ++ p ∷ q ∷ []
   pub base : IsBase new after
   pub heads : heads after ≡ heads cs ++ h ∷ k ∷ []
 
--- What a cell of the store keeps: its references exist, its prototype or outer scope is older and of its sort, the scope of a function is an older Scope, and a Scope is a widget's.
+-- What a cell of the store keeps: its references exist, its prototype or outer scope is older and of its sort, the
+-- scope of a function is an older Scope, and a Scope is a widget's.
 pub record IsLinked (cells : List PlainCell) (i : ℕ) (c : PlainCell) : Type 0 where
   pub refs : AreRefs (length cells) c.pairs
   pub up : IfSome c.up (λ j. (j < i) × (is_scope_at cells j ≡ is_scope c.form))

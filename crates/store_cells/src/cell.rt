@@ -1,19 +1,14 @@
 //! A cell by the numbers of its names.
-ghost use Rattle.std.specs.Prelude.{◌≡◌, ℕ, suc, filter, MatchOption, [], None, Some, true, is_some, nat_eq, max, if◌then◌else◌, is_ok, OnErr, OnOk, option_copied, option_map, slice_get, IfSome, ◌<◌, ◌≤◌, ◌++◌, false, ◌&&◌, not, length, option_to_list, IfOk};
+ghost use Rattle.std.specs.Prelude.{◌≡◌, suc, MatchOption, [], None, Some, true, is_some, nat_eq, if◌then◌else◌, OnErr, OnOk, option_copied, option_map, slice_get, IfSome, ◌<◌, ◌≤◌, ◌++◌, false, length, option_to_list, IfOk};
 ghost use Rattle.std.specs.List.{IsDistinct};
 ghost use Rattle.std.specs.Map.{keys_of as numbers_of, lookup};
-ghost use Rattle.std.specs.Option.{option_map_or, option_and_then};
-ghost use Rattle.std.specs.Str.{bytes_eq};
-ghost use Rattle.indexmap.specs.IndexMap.{insert_entry};
-ghost use Rattle.store_cells.specs.Cells.{writer_in, widget_of, is_array, is_scope, is_visible_form};
-ghost use Rattle.store_cells.specs.Numbered.{NumberedCell, first_numbered, node_head, plain, numbered_key, numbered_cut, numbered_has, numbered_without, name_at, numbered_length, element_plan, plan_of};
-ghost use Rattle.code_units.specs.Permitted.{is_permitted};
+ghost use Rattle.std.specs.Option.{option_map_or};
 ghost use Rattle.keyed_names.specs.Interned.{IsTable};
 ghost use Rattle.code_units.specs.Indices.{index_of};
-ghost use Rattle.store_cells.specs.Arrays.{end_of};
+ghost use Rattle.store_cells.specs.Arrays.{count_value, end_of, is_below, keys_of, length_in};
+ghost use Rattle.store_cells.specs.Cells.{is_array, is_scope, writer_in};
+ghost use Rattle.store_cells.specs.Numbered.{NumberedCell, element_plan, first_numbered, is_length_in, is_listed, name_at, node_head, numbered_below, numbered_cut, numbered_has, numbered_held, numbered_key, numbered_length, numbered_two, numbered_without, numbered_written, own_place, plain, plan_of};
 ghost use Rattle.store_cells.specs.Shape.{AreBelow, IsPopped, Known};
-ghost use Rattle.store_cells.specs.Arrays.{keys_of};
-ghost use Rattle.store_cells.specs.Arrays.{count_value, is_below, length_in, length_name};
 
 use crate::kind::Form;
 use crate::value::{CellId, Number, Value};
@@ -204,7 +199,7 @@ impl Cell {
 
     /// Whether a name is the `length` of an Array.
     pub fn is_length(&self, name: &Text) -> bool
-        ensures { result ≡ (is_array self.now.head.form && bytes_eq name.now length_name) }
+        ensures { result ≡ is_length_in self.now name.now }
     {
         self.head.form.is_array() && is_word(name, b"length")
     }
@@ -222,7 +217,7 @@ impl Cell {
 
     /// The place among its owner's visible cells.
     pub fn number(&self) -> Option<u32>
-        ensures { result ≡ option_and_then (λ w. if is_visible_form self.now.head.form then Some self.now.head.number else None) (widget_of self.now.head.owner) }
+        ensures { result ≡ own_place self.now.head }
     {
         match self.head.owner {
             Owner::Widget(_) if self.head.form.is_visible() => Some(self.head.number),
@@ -276,7 +271,7 @@ impl Cell {
 
     // Whether a name is listed: it is permitted, and no `length` of an Array.
     fn is_listed(&self, name: &Text) -> bool
-        ensures { result ≡ (is_permitted name.now && not (is_array self.now.head.form && bytes_eq name.now length_name)) }
+        ensures { result ≡ is_listed self.now name.now }
     {
         permitted(name) && !self.is_length(name)
     }
@@ -339,7 +334,7 @@ impl Cell {
     /// Writes under a name, a new one last. A name that it has needs no memory. `end` is past the
     /// name where it is an index.
     pub fn write(&mut self, n: u32, value: Value, end: u32) -> Result<(), Memory>
-        ensures ok { OnOk result (self.new ≡ record { head = self.old.head; top = max self.old.top end; entries = insert_entry nat_eq self.old.entries n value }) }
+        ensures ok { OnOk result (self.new ≡ numbered_written n value end self.old) }
         ensures err { OnErr result (self.new ≡ self.old) }
     {
         self.table.insert(n, value)?;
@@ -356,7 +351,7 @@ impl Cell {
         other: Value,
         end: u32,
     ) -> Result<(), Memory>
-        ensures ok { OnOk result (self.new ≡ record { head = self.old.head; top = max self.old.top end; entries = insert_entry nat_eq (insert_entry nat_eq self.old.entries n value) m other }) }
+        ensures ok { OnOk result (self.new ≡ numbered_two n value m other end self.old) }
         ensures err { OnErr result (self.new ≡ self.old) }
     {
         self.table.reserve(2)?;
@@ -373,7 +368,7 @@ impl Cell {
     /// Writes under a name that it has.
     pub fn write_held(&mut self, n: u32, value: Value)
         requires { is_some (lookup (nat_eq n) self.old.entries) ≡ true }
-        ensures { self.new ≡ record self.old { entries = insert_entry nat_eq self.old.entries n value } }
+        ensures { self.new ≡ numbered_held n value self.old }
     {
         match self.table.insert(n, value) {
             Ok(_) => {}
@@ -454,7 +449,7 @@ impl Cell {
     }
 
     fn retain_below(&mut self, names: &Names, n: u32)
-        ensures { self.new ≡ record { head = self.old.head; top = n; entries = filter (λ e. is_below n (name_at names.now e.0)) self.old.entries } }
+        ensures { self.new ≡ numbered_below names.now n self.old }
     {
         self.table.retain(|k, _v| is_kept(names, *k, n));
         self.top = n;

@@ -1,13 +1,10 @@
 //! The cells of the store by the numbers of their names: objects, arrays, functions, scopes and
-//! Bunches, what is written to each, and the host's cells.
+//! Bunches, what is written to each, and what widgets have paid.
 #![tactic(auto)]
 
-pub mod bunch;
 pub mod cell;
 pub mod counts;
-pub mod host;
 mod kind;
-pub mod table;
 mod value;
 
 pub use kind::{CellKind, Form, FunParts};

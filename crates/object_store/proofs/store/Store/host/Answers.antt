@@ -2,7 +2,7 @@ use Rattle.std.proofs.Common.{◌≡◌, ◌<◌, ◌≤◌, sym, ap, ◌∙◌,
 use Rattle.store_cells.specs.Cells.{Cells, is_bunch_at, is_scope_at, prototypes}
 use Rattle.store_cells.specs.Host.{AreHost, is_permitted_cell, host_count}
 use Rattle.store_cells.proofs.Hosts.{place_within, place_permitted}
-use Rattle.store_cells.proofs.Protos.{host_chain, host_object, host_open}
+use Rattle.store_table.proofs.Protos.{host_chain, host_object, host_open}
 use Rattle.object_store.proofs.store.Store.host.Goals as goal
 
 pub returns-clause-place : goal.returns-clause-place

@@ -2,7 +2,7 @@ use Rattle.std.proofs.Common.{sym, ◌∙◌, ap, length, List, ◌+◌}
 use Rattle.store_cells.specs.declared.counts.Counts.{Counts}
 use Rattle.store_cells.specs.Lists.{changed}
 use Rattle.store_cells.specs.Costs.{cost_refusal, paid}
-use Rattle.store_cells.proofs.Births.{bunch_made, bunch_ordered, bunch_shape}
+use Rattle.store_table.proofs.Births.{bunch_made, bunch_ordered, bunch_shape}
 use Rattle.store_cells.proofs.Makes.{kept_in_store, length_in_store}
 use Rattle.object_store.proofs.store.Store.make_bunch.Goals as goal
 

@@ -1,4 +1,4 @@
-use Rattle.store_cells.proofs.Firsts.{first_shape}
+use Rattle.store_table.proofs.Firsts.{first_shape}
 use Rattle.object_store.proofs.store.Store.new.Goals as goal
 
 pub invariant_of-result : goal.invariant_of-result

@@ -1,7 +1,7 @@
 use Rattle.std.proofs.Common.{subst}
 use Rattle.store_cells.specs.Cells.{Cells}
 use Rattle.store_cells.specs.Host.{AreHost}
-use Rattle.store_cells.proofs.Protos.{permitted_leads}
+use Rattle.store_table.proofs.Protos.{permitted_leads}
 use Rattle.object_store.proofs.store.Store.permitted_leads_on.Goals as goal
 
 pub returns : goal.returns

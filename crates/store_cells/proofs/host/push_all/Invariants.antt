@@ -1,6 +1,0 @@
-use Rattle.std.proofs.Common.{◌≡◌, ◌++◌, map, take}
-use Rattle.store_cells.specs.Bare.{host_numbered}
-use Rattle.store_cells.proofs.host.push_all.Given as goal
-
-abbrev pub invariant-loop-form : goal.invariant-loop-form
-invariant-loop-form l = l.cells.items ≡ l.initial.cells.items ++ map (host_numbered l.up l.links) (take l.form-index l.forms)

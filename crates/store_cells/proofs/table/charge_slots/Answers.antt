@@ -1,5 +1,0 @@
-use Rattle.store_cells.proofs.Costs.{no_cells}
-use Rattle.store_cells.proofs.table.charge_slots.Goals as goal
-
-pub pay-requires-clause-cells : goal.pay-requires-clause-cells
-pay-requires-clause-cells c = no_cells c.args.kept.now.items c.args.w c.requires.within

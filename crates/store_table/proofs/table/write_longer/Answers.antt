@@ -1,0 +1,13 @@
+use Rattle.std.proofs.Common.{arith}
+use Rattle.store_cells.proofs.Writes.{kept_err, wrote_longer}
+use Rattle.store_table.proofs.table.write_longer.Goals as goal
+
+pub returns-clause-ok : goal.returns-clause-ok
+returns-clause-ok c =
+    let is = c.in_ok-n.ensures in
+    wrote_longer c.args.names.now c.number_or_new.new.names c.args.name.now c.in_ok-n.n is.new is.table c.args.cells.now.items c.write_two_at.new.cells.items c.requires.base c.args.target.cell c.write_two_at.result c.args.value c.requires.value c.args.len c.count_value.result c.count_value.ensures (omega (arith, c.ranges.len.fits)) c.requires.plan c.write_two_at.ensures.ok
+
+pub returns-clause-err : goal.returns-clause-err
+returns-clause-err c =
+    let is = c.in_ok-n.ensures in
+    kept_err c.args.names.now c.number_or_new.new.names c.args.name.now c.in_ok-n.n is.new is.table c.args.cells.now.items c.write_two_at.new.cells.items c.requires.base c.args.target.cell c.write_two_at.result c.write_two_at.ensures.err

@@ -1,0 +1,401 @@
+//! The host's cells of a new store.
+ghost use Rattle.std.specs.Prelude.{◌≡◌, ◌+◌, ◌<◌, [], ◌∷◌, ◌++◌, Some, true, map, fold, length, vec_len, IfOk, OnOk};
+ghost use Rattle.keyed_names.specs.Interned.{IsTable};
+ghost use Rattle.permitted_table.specs.Natives.{number_of};
+ghost use Rattle.store_cells.specs.Host.{first_native, place_of};
+ghost use Rattle.store_cells.specs.Numbered.{cells_of, heads};
+ghost use Rattle.store_cells.specs.Shape.{AreWords, IsBase, IsRefWithin};
+ghost use Rattle.store_table.specs.Bare.{AreFirst, IsGiven, are_natives_within, are_references_within, bare_of, given, homed, host_numbered, native_cells, native_gift, native_gifts, no_arrays, reference_gifts, references_as_gifts, with_gifts};
+
+use crate::table::{self, Target};
+use code_units::{Memory, Owner, Text};
+use indexmap::IndexMap;
+use keyed_names::{Keys, Names, NumberKeys};
+use permitted_table::{HostEntry, NativeId};
+use std::alloc::{AllocError, Global};
+use store_cells::cell::{Cell, Head, Maker};
+use store_cells::{CellId, Form, Number, Value};
+
+/// The Global cell.
+pub const GLOBAL: CellId = 0;
+
+/// The cell of `body`.
+pub const BODY: CellId = 1;
+
+const OBJECT_PROTOTYPE: CellId = 2;
+
+/// The prototype of Arrays.
+pub const ARRAY_PROTOTYPE: CellId = 3;
+
+/// The prototype of Functions.
+pub const FUNCTION_PROTOTYPE: CellId = 4;
+
+/// The prototype of Bunches.
+pub const BUNCH_PROTOTYPE: CellId = 5;
+
+const TEXT_PROTOTYPE: CellId = 6;
+
+const NUMBER_PROTOTYPE: CellId = 7;
+
+const BOOLEAN_PROTOTYPE: CellId = 8;
+
+const MATH: CellId = 9;
+
+const ADSAFE: CellId = 10;
+
+const DOM: CellId = 11;
+
+// The natives come next, in order.
+const FIRST_NATIVE: CellId = 12;
+
+const STRING: CellId = 15;
+
+// The natives with a home, in order: the cell that has it, its name there.
+const NATIVES: [(u32, &str, NativeId); 90] = [
+    (GLOBAL, "Boolean", NativeId::Boolean),
+    (GLOBAL, "Number", NativeId::Number),
+    (GLOBAL, "String", NativeId::String),
+    (GLOBAL, "isNaN", NativeId::IsNaN),
+    (GLOBAL, "isFinite", NativeId::IsFinite),
+    (GLOBAL, "parseInt", NativeId::ParseInt),
+    (STRING, "fromCharCode", NativeId::FromCharCode),
+    (MATH, "abs", NativeId::Abs),
+    (MATH, "ceil", NativeId::Ceil),
+    (MATH, "floor", NativeId::Floor),
+    (MATH, "round", NativeId::Round),
+    (MATH, "max", NativeId::Max),
+    (MATH, "min", NativeId::Min),
+    (MATH, "pow", NativeId::Pow),
+    (OBJECT_PROTOTYPE, "hasOwnProperty", NativeId::HasOwnProperty),
+    (OBJECT_PROTOTYPE, "toString", NativeId::ObjectToString),
+    (FUNCTION_PROTOTYPE, "toString", NativeId::FunctionToString),
+    (NUMBER_PROTOTYPE, "toString", NativeId::NumberToString),
+    (BOOLEAN_PROTOTYPE, "toString", NativeId::BooleanToString),
+    (TEXT_PROTOTYPE, "toString", NativeId::TextToString),
+    (TEXT_PROTOTYPE, "charAt", NativeId::CharAt),
+    (TEXT_PROTOTYPE, "charCodeAt", NativeId::CharCodeAt),
+    (TEXT_PROTOTYPE, "concat", NativeId::TextConcat),
+    (TEXT_PROTOTYPE, "indexOf", NativeId::IndexOf),
+    (TEXT_PROTOTYPE, "lastIndexOf", NativeId::LastIndexOf),
+    (TEXT_PROTOTYPE, "slice", NativeId::TextSlice),
+    (TEXT_PROTOTYPE, "substring", NativeId::Substring),
+    (TEXT_PROTOTYPE, "split", NativeId::Split),
+    (TEXT_PROTOTYPE, "toLowerCase", NativeId::ToLowerCase),
+    (TEXT_PROTOTYPE, "toUpperCase", NativeId::ToUpperCase),
+    (ARRAY_PROTOTYPE, "toString", NativeId::ArrayToString),
+    (ARRAY_PROTOTYPE, "concat", NativeId::ArrayConcat),
+    (ARRAY_PROTOTYPE, "join", NativeId::Join),
+    (ARRAY_PROTOTYPE, "pop", NativeId::Pop),
+    (ARRAY_PROTOTYPE, "shift", NativeId::Shift),
+    (ARRAY_PROTOTYPE, "push", NativeId::Push),
+    (ARRAY_PROTOTYPE, "unshift", NativeId::Unshift),
+    (ARRAY_PROTOTYPE, "reverse", NativeId::Reverse),
+    (ARRAY_PROTOTYPE, "sort", NativeId::Sort),
+    (ARRAY_PROTOTYPE, "slice", NativeId::ArraySlice),
+    (ARRAY_PROTOTYPE, "splice", NativeId::Splice),
+    (ARRAY_PROTOTYPE, "forEach", NativeId::ForEach),
+    (ARRAY_PROTOTYPE, "map", NativeId::Map),
+    (ARRAY_PROTOTYPE, "filter", NativeId::Filter),
+    (ADSAFE, "get", NativeId::Get),
+    (ADSAFE, "set", NativeId::Set),
+    (ADSAFE, "remove", NativeId::Remove),
+    (ADSAFE, "has", NativeId::Has),
+    (ADSAFE, "create", NativeId::Create),
+    (ADSAFE, "isArray", NativeId::IsArray),
+    (ADSAFE, "keys", NativeId::Keys),
+    (ADSAFE, "later", NativeId::Later),
+    (ADSAFE, "log", NativeId::Log),
+    (ADSAFE, "post", NativeId::Post),
+    (ADSAFE, "fromJson", NativeId::FromJson),
+    (ADSAFE, "toJson", NativeId::ToJson),
+    (DOM, "q", NativeId::DomQ),
+    (DOM, "append", NativeId::DomAppend),
+    (DOM, "tag", NativeId::DomTag),
+    (DOM, "text", NativeId::DomText),
+    (BUNCH_PROTOTYPE, "q", NativeId::BunchQ),
+    (BUNCH_PROTOTYPE, "append", NativeId::BunchAppend),
+    (BUNCH_PROTOTYPE, "remove", NativeId::BunchRemove),
+    (BUNCH_PROTOTYPE, "empty", NativeId::Empty),
+    (BUNCH_PROTOTYPE, "replace", NativeId::Replace),
+    (BUNCH_PROTOTYPE, "value", NativeId::Value),
+    (BUNCH_PROTOTYPE, "getValue", NativeId::GetValue),
+    (BUNCH_PROTOTYPE, "getValues", NativeId::GetValues),
+    (BUNCH_PROTOTYPE, "style", NativeId::Style),
+    (BUNCH_PROTOTYPE, "getStyle", NativeId::GetStyle),
+    (BUNCH_PROTOTYPE, "klass", NativeId::Klass),
+    (BUNCH_PROTOTYPE, "title", NativeId::Title),
+    (BUNCH_PROTOTYPE, "getClass", NativeId::GetClass),
+    (BUNCH_PROTOTYPE, "getTitle", NativeId::GetTitle),
+    (BUNCH_PROTOTYPE, "check", NativeId::Check),
+    (BUNCH_PROTOTYPE, "enable", NativeId::Enable),
+    (BUNCH_PROTOTYPE, "getCheck", NativeId::GetCheck),
+    (BUNCH_PROTOTYPE, "focus", NativeId::Focus),
+    (BUNCH_PROTOTYPE, "blur", NativeId::Blur),
+    (BUNCH_PROTOTYPE, "on", NativeId::On),
+    (BUNCH_PROTOTYPE, "off", NativeId::Off),
+    (BUNCH_PROTOTYPE, "fire", NativeId::Fire),
+    (BUNCH_PROTOTYPE, "each", NativeId::Each),
+    (BUNCH_PROTOTYPE, "explode", NativeId::Explode),
+    (BUNCH_PROTOTYPE, "count", NativeId::Count),
+    (BUNCH_PROTOTYPE, "getParent", NativeId::GetParent),
+    (BUNCH_PROTOTYPE, "getTagName", NativeId::GetTagName),
+    (BUNCH_PROTOTYPE, "mark", NativeId::Mark),
+    (BUNCH_PROTOTYPE, "getMark", NativeId::GetMark),
+    (BUNCH_PROTOTYPE, "protect", NativeId::Protect),
+];
+
+// References that are no natives of their own home.
+const REFERENCES: [(u32, &str, CellId); 5] = [
+    (GLOBAL, "Math", MATH),
+    (GLOBAL, "ADSAFE", ADSAFE),
+    (GLOBAL, "document", BODY),
+    (NUMBER_PROTOTYPE, "hasOwnProperty", 27),
+    (BOOLEAN_PROTOTYPE, "hasOwnProperty", 27),
+];
+
+/// The cell of an entry of the permitted table.
+pub fn place_of(entry: HostEntry) -> CellId
+    ensures { result ≡ place_of entry }
+{
+    match entry {
+        HostEntry::ObjectPrototype => OBJECT_PROTOTYPE,
+        HostEntry::ArrayPrototype => ARRAY_PROTOTYPE,
+        HostEntry::FunctionPrototype => FUNCTION_PROTOTYPE,
+        HostEntry::BunchPrototype => BUNCH_PROTOTYPE,
+        HostEntry::TextPrototype => TEXT_PROTOTYPE,
+        HostEntry::NumberPrototype => NUMBER_PROTOTYPE,
+        HostEntry::BooleanPrototype => BOOLEAN_PROTOTYPE,
+        HostEntry::Math => MATH,
+        HostEntry::Adsafe => ADSAFE,
+        HostEntry::Dom => DOM,
+        HostEntry::Native(native) => native_place(native),
+    }
+}
+
+fn native_place(native: NativeId) -> CellId
+    ensures { result ≡ first_native + number_of native }
+{
+    FIRST_NATIVE + native as u32
+}
+
+// A text of ASCII letters.
+fn text_of(alloc: Global, word: &str) -> Result<Text, Memory>
+    ensures { IfOk result (λ t. t ≡ word.now) }
+{
+    let units = units_of(alloc, word)?;
+    Text::from_units(alloc, units)
+}
+
+fn units_of(alloc: Global, word: &str) -> Result<Vec<u16>, AllocError>
+    ensures { IfOk result (λ units. units.items ≡ word.now) }
+{
+    word.bytes().map(u16::from).collect(alloc)
+}
+
+// A cell of the host without properties.
+fn bare(maker: Maker, form: Form, up: Option<CellId>, links: u32) -> Cell
+    ensures { result ≡ host_numbered up links form }
+{
+    Cell::new(
+        maker,
+        Head {
+            owner: Owner::Host,
+            form,
+            up,
+            links,
+            number: 0,
+        },
+    )
+}
+
+fn push_all(
+    maker: Maker,
+    cells: &mut Vec<Cell>,
+    forms: &[Form],
+    up: Option<CellId>,
+    links: u32,
+) -> Result<(), Memory>
+    ensures { OnOk result (cells.new.items ≡ cells.old.items ++ map (host_numbered up links) forms.now) }
+{
+    for form in forms {
+        cells.push(bare(maker, *form, up, links))?;
+    }
+    Ok(())
+}
+
+fn push_natives(
+    maker: Maker,
+    cells: &mut Vec<Cell>,
+    rows: &[(u32, &str, NativeId)],
+) -> Result<(), Memory>
+    ensures { OnOk result (cells.new.items ≡ cells.old.items ++ native_cells rows.now) }
+{
+    for (_home, _name, native) in rows {
+        cells.push(bare(maker, Form::Native(*native), Some(FUNCTION_PROTOTYPE), 2))?;
+    }
+    Ok(())
+}
+
+// The host's cells before they have properties.
+fn bare_cells(maker: Maker, rows: &[(u32, &str, NativeId)]) -> Result<Vec<Cell>, Memory>
+    ensures { IfOk result (λ cells. cells.items ≡ bare_of (native_cells rows.now)) }
+{
+    let mut cells = Vec::new(maker.alloc);
+    push_all(maker, &mut cells, &[Form::Global], None, 0)?;
+    cells.push(Cell::of_node(maker, 0))?;
+    push_all(maker, &mut cells, &[Form::Object], None, 0)?;
+    push_all(
+        maker,
+        &mut cells,
+        &[Form::Object; 4],
+        Some(OBJECT_PROTOTYPE),
+        1,
+    )?;
+    push_all(maker, &mut cells, &[Form::Object; 2], None, 0)?;
+    push_all(
+        maker,
+        &mut cells,
+        &[Form::Object; 3],
+        Some(OBJECT_PROTOTYPE),
+        1,
+    )?;
+    let bubble = [Form::Native(NativeId::Bubble)];
+    push_all(maker, &mut cells, &bubble, Some(FUNCTION_PROTOTYPE), 2)?;
+    push_natives(maker, &mut cells, rows)?;
+    Ok(cells)
+}
+
+// The two names with fixed numbers.
+fn first_names(alloc: Global, keys: Keys) -> Result<Names, Memory>
+    ensures { IfOk result (λ names. IsTable names × AreWords names) }
+{
+    let mut names = Names::new(alloc, keys)?;
+    names.intern(&text_of(alloc, "length")?)?;
+    names.intern(&text_of(alloc, "___nodes___")?)?;
+    Ok(names)
+}
+
+// Gives a cell of the host a property.
+fn give(
+    alloc: Global,
+    names: &mut Names,
+    cells: &mut Vec<Cell>,
+    home: CellId,
+    name: &str,
+    value: Value,
+) -> Result<(), Memory>
+    requires at { home < vec_len cells.old }
+    requires base { IsBase names.old cells.old.items }
+    requires plain { no_arrays (heads cells.old.items) ≡ true }
+    requires value { IsRefWithin (length cells.old.items) value }
+    ensures { OnOk result (IsGiven names.old cells.old.items names.new cells.new.items home name.now value) }
+{
+    let name = text_of(alloc, name)?;
+    let number = names.number(&name);
+    let target = Target { cell: home, number };
+    table::write_own(names, cells, target, &name, value, 0)
+}
+
+fn give_natives(
+    alloc: Global,
+    names: &mut Names,
+    cells: &mut Vec<Cell>,
+    rows: &[(u32, &str, NativeId)],
+) -> Result<(), Memory>
+    requires rows { are_natives_within (length cells.old.items) rows.now ≡ true }
+    requires base { IsBase names.old cells.old.items }
+    requires plain { no_arrays (heads cells.old.items) ≡ true }
+    ensures done { OnOk result (cells_of names.new cells.new.items
+        ≡ fold given (cells_of names.old cells.old.items) (native_gifts rows.now)) }
+    ensures base { OnOk result (IsBase names.new cells.new.items) }
+    ensures heads { OnOk result (heads cells.new.items ≡ heads cells.old.items) }
+{
+    for (home, name, native) in rows {
+        let value = Value::Ref(native_place(*native));
+        give(alloc, names, cells, *home, name, value)?;
+    }
+    Ok(())
+}
+
+fn give_references(
+    alloc: Global,
+    names: &mut Names,
+    cells: &mut Vec<Cell>,
+    rows: &[(u32, &str, CellId)],
+) -> Result<(), Memory>
+    requires rows { are_references_within (length cells.old.items) rows.now ≡ true }
+    requires base { IsBase names.old cells.old.items }
+    requires plain { no_arrays (heads cells.old.items) ≡ true }
+    ensures done { OnOk result (cells_of names.new cells.new.items
+        ≡ fold given (cells_of names.old cells.old.items) (references_as_gifts rows.now)) }
+    ensures base { OnOk result (IsBase names.new cells.new.items) }
+    ensures heads { OnOk result (heads cells.new.items ≡ heads cells.old.items) }
+{
+    for (home, name, target) in rows {
+        give(alloc, names, cells, *home, name, Value::Ref(*target))?;
+    }
+    Ok(())
+}
+
+// Gives the host's cells their properties.
+fn give_all(
+    alloc: Global,
+    names: &mut Names,
+    cells: &mut Vec<Cell>,
+    rows: &[(u32, &str, NativeId)],
+    references: &[(u32, &str, CellId)],
+) -> Result<(), Memory>
+    requires size { 0 < length cells.old.items }
+    requires base { IsBase names.old cells.old.items }
+    requires plain { no_arrays (heads cells.old.items) ≡ true }
+    requires rows { are_natives_within (length cells.old.items) rows.now ≡ true }
+    requires references { are_references_within (length cells.old.items) references.now ≡ true }
+    ensures base { OnOk result (IsBase names.new cells.new.items) }
+    ensures heads { OnOk result (heads cells.new.items ≡ heads cells.old.items) }
+    ensures done { OnOk result (cells_of names.new cells.new.items
+        ≡ with_gifts (native_gifts rows.now) (references_as_gifts references.now) (cells_of names.old cells.old.items)) }
+{
+    give_natives(alloc, names, cells, rows)?;
+    let undefined = Value::Undefined;
+    give(alloc, names, cells, GLOBAL, "undefined", undefined)?;
+    let nan = Value::Num(Number::NaN);
+    give(alloc, names, cells, GLOBAL, "NaN", nan)?;
+    give_references(alloc, names, cells, references)
+}
+
+// The table of the rows, which are those of the host.
+fn table_of(
+    alloc: Global,
+    keys: Keys,
+    rows: &[(u32, &str, NativeId)],
+    references: &[(u32, &str, CellId)],
+) -> Result<(Names, Vec<Cell>), Memory>
+    requires forms { native_cells rows.now ≡ native_cells homed }
+    requires natives { native_gifts rows.now ≡ map native_gift homed }
+    requires references { references_as_gifts references.now ≡ reference_gifts }
+    requires fit_rows { are_natives_within 103 rows.now ≡ true }
+    requires fit_references { are_references_within 103 references.now ≡ true }
+    ensures { IfOk result (λ r. AreFirst r.0 r.1.items) }
+{
+    let mut names = first_names(alloc, keys)?;
+    let key = keys.for_numbers();
+    let mut cells = bare_cells(Maker { alloc, key }, rows)?;
+    give_all(alloc, &mut names, &mut cells, rows, references)?;
+    Ok((names, cells))
+}
+
+/// The host's cells of a new store, and the table of their names, which hash by these keys.
+pub fn host_table(alloc: Global, keys: Keys) -> Result<(Names, Vec<Cell>), Memory>
+    ensures { IfOk result (λ r. AreFirst r.0 r.1.items) }
+{
+    table_of(alloc, keys, &NATIVES, &REFERENCES)
+}
+
+/// The cell of `body` by its node.
+pub fn first_raws(maker: Maker) -> Result<IndexMap<u32, u32, NumberKeys>, Memory>
+    ensures { IfOk result (λ raws. raws.entries ≡ (0, 1) ∷ []) }
+{
+    let mut raws = IndexMap::with_hasher(maker.alloc, maker.key);
+    raws.insert(0, BODY)?;
+    Ok(raws)
+}

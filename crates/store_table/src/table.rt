@@ -1,0 +1,385 @@
+//! What the store does, on its list of cells by number.
+ghost use Rattle.std.specs.Prelude.{◌≡◌, ◌+◌, ◌<◌, ◌≤◌, [], ◌∷◌, ◌++◌, None, Some, false, nat_eq, length, map, max, vec_len, slice_get, option_copied, IfOk, IfSome, OnErr, OnOk, MatchOption, true};
+ghost use Rattle.std.specs.List.{IsDistinct, fold};
+ghost use Rattle.std.specs.Map.{lookup};
+ghost use Rattle.std.specs.Str.{bytes_eq};
+ghost use Rattle.indexmap.specs.IndexMap.{insert_entry, spare};
+ghost use Rattle.keyed_names.specs.Interned.{Interns, IsTable};
+ghost use Rattle.store_cells.specs.Arrays.{without, written};
+ghost use Rattle.store_cells.specs.Born.{filled_cell, with_pair};
+ghost use Rattle.store_cells.specs.Cells.{is_array};
+ghost use Rattle.store_cells.specs.Lists.{changed};
+ghost use Rattle.store_cells.specs.Numbered.{Grown, IsNumberOf, by_plan, heads, numbered_along, numbered_has_at, numbered_holder, numbered_own, numbered_two, numbered_written, plain};
+ghost use Rattle.store_cells.specs.Shape.{Added, AreRefs, Grew, IsBase, IsEndOf, IsFine, IsOrdered, IsPlanned, IsRefWithin, IsTakeable, IsVariable, Kept, Known, Wrote, head_on, links_at, scope_head};
+
+use code_units::{Memory, Owner, Text};
+use indexmap::IndexMap;
+use keyed_names::{Names, NumberKeys};
+use store_cells::cell::{Cell, Head, LENGTH, Maker, Write, count_value};
+use store_cells::{CellId, Form, Value};
+
+/// Where a write goes: a cell, under a name of which `number` is what the table of names says.
+#[derive(Clone, Copy, Drop)]
+pub struct Target {
+    pub cell: CellId,
+    pub number: Option<u32>,
+}
+
+/// The place of a new cell: a widget, and how many visible cells it has.
+#[derive(Clone, Copy, Drop)]
+pub struct OwnPlace {
+    pub widget: u32,
+    pub number: u32,
+}
+
+/// How many names, and how many cells, a store may have.
+pub const MOST: usize = 1 << 31;
+
+// The first cell that has the name, from one cell on upwards.
+#[tactic(auto, using(crate::proofs::Climb::climb_none, crate::proofs::Climb::climb_more, crate::proofs::Climb::climb_over))]
+fn holder_on(cells: &[Cell], from: CellId, n: u32) -> Option<CellId>
+    ensures { result ≡ numbered_holder cells.now from n }
+{
+    let mut at = Some(from);
+    for _k in 0..cells.len() {
+        let i = at?;
+        let cell = cell_on(cells, i)?;
+        if cell.has(n) {
+            return Some(i);
+        }
+        at = cell.head().up;
+    }
+    None
+}
+
+fn cell_on(cells: &[Cell], i: CellId) -> Option<&Cell>
+    ensures { MatchOption result (slice_get cells.now i ≡ None) (λ c. slice_get cells.now i ≡ Some c.now) }
+{
+    cells.get(i as usize)
+}
+
+/// The first cell that has the name, from one cell on upwards.
+pub fn holder(cells: &Vec<Cell>, from: CellId, n: u32) -> Option<CellId>
+    ensures first { result ≡ numbered_holder cells.now.items from n }
+    ensures held { IfSome result (λ i. numbered_has_at cells.now.items i (Some n) ≡ true) }
+    ensures within { IfSome result (λ i. i < vec_len cells.now) }
+{
+    holder_on(cells, from, n)
+}
+
+/// The first value under the name, from one cell on upwards.
+pub fn found(cells: &Vec<Cell>, from: CellId, n: u32) -> Option<&Value>
+    ensures { option_copied result ≡ numbered_along cells.now.items from n }
+{
+    let i = holder(cells, from, n)?;
+    own_at(cells, i, n)
+}
+
+fn own_at(cells: &Vec<Cell>, i: CellId, n: u32) -> Option<&Value>
+    ensures { option_copied result ≡ numbered_own cells.now.items n i }
+{
+    cell_on(cells, i)?.own(n)
+}
+
+/// The cell at a place.
+pub fn cell(cells: &Vec<Cell>, i: CellId) -> &Cell
+    requires { i < vec_len cells.now }
+    ensures { slice_get cells.now.items i ≡ Some result.now }
+{
+    &cells[i as usize]
+}
+
+/// The number of a name, of which `number` is what the table says.
+pub fn number_or_new(names: &mut Names, number: Option<u32>, name: &Text) -> Result<u32, Memory>
+    requires number { IsNumberOf names.old name.now number }
+    requires table { IsTable names.old }
+    ensures new { IfOk result (λ n. Interns names.old names.new name.now n) }
+    ensures err { OnErr result (names.new ≡ names.old) }
+    ensures table { IsTable names.new }
+{
+    match number {
+        Some(n) => Ok(n),
+        None => {
+            if names.len() >= MOST {
+                return Err(Memory);
+            }
+            names.intern(name)
+        }
+    }
+}
+
+fn write_at(cells: &mut Vec<Cell>, i: CellId, n: u32, value: Value, end: u32) -> Result<(), Memory>
+    requires { i < vec_len cells.old }
+    ensures ok { OnOk result (cells.new.items ≡ changed cells.old.items i (numbered_written n value end)) }
+    ensures err { OnErr result (cells.new.items ≡ cells.old.items) }
+{
+    let cell = &mut cells[i as usize];
+    cell.write(n, value, end)
+}
+
+fn write_two_at(
+    cells: &mut Vec<Cell>,
+    i: CellId,
+    n: u32,
+    value: Value,
+    other: Value,
+    end: u32,
+) -> Result<(), Memory>
+    requires { i < vec_len cells.old }
+    ensures ok { OnOk result (cells.new.items ≡ changed cells.old.items i (numbered_two n value 0 other end)) }
+    ensures err { OnErr result (cells.new.items ≡ cells.old.items) }
+{
+    let cell = &mut cells[i as usize];
+    cell.write_two(n, value, LENGTH, other, end)
+}
+
+/// Writes under a name alone.
+pub fn write_own(
+    names: &mut Names,
+    cells: &mut Vec<Cell>,
+    target: Target,
+    name: &Text,
+    value: Value,
+    end: u32,
+) -> Result<(), Memory>
+    requires at { target.cell < vec_len cells.old }
+    requires number { IsNumberOf names.old name.now target.number }
+    requires base { IsBase names.old cells.old.items }
+    requires value { IsRefWithin (length cells.old.items) value }
+    requires plan { IsPlanned cells.old.items target.cell name.now value (Write.Own end) }
+    ensures ok { OnOk result (Wrote names.old cells.old.items names.new cells.new.items target.cell
+        (written name.now value)) }
+    ensures err { OnErr result (Kept names.old cells.old.items names.new cells.new.items) }
+{
+    let n = number_or_new(names, target.number, name)?;
+    write_at(cells, target.cell, n, value, end)
+}
+
+// Writes an element at or past the length of an Array, and the length.
+fn write_longer(
+    names: &mut Names,
+    cells: &mut Vec<Cell>,
+    target: Target,
+    name: &Text,
+    value: Value,
+    len: u32,
+) -> Result<(), Memory>
+    requires at { target.cell < vec_len cells.old }
+    requires number { IsNumberOf names.old name.now target.number }
+    requires base { IsBase names.old cells.old.items }
+    requires value { IsRefWithin (length cells.old.items) value }
+    requires plan { IsPlanned cells.old.items target.cell name.now value (Write.Longer len) }
+    ensures ok { OnOk result (Wrote names.old cells.old.items names.new cells.new.items target.cell
+        (by_plan (Write.Longer len) name.now value)) }
+    ensures err { OnErr result (Kept names.old cells.old.items names.new cells.new.items) }
+{
+    let n = number_or_new(names, target.number, name)?;
+    write_two_at(cells, target.cell, n, value, count_value(len), len)
+}
+
+// Writes under the `length` of an Array.
+fn resize(names: &Names, cells: &mut Vec<Cell>, i: CellId, name: &Text, value: Value, len: u32)
+    requires at { i < vec_len cells.old }
+    requires base { IsBase names.now cells.old.items }
+    requires plan { IsPlanned cells.old.items i name.now value (Write.Length len) }
+    ensures { Wrote names.now cells.old.items names.now cells.new.items i (by_plan (Write.Length len) name.now value) }
+{
+    let cell = &mut cells[i as usize];
+    cell.write_held(LENGTH, value);
+    cell.cut(names, len);
+}
+
+/// Writes under a name as the plan says.
+pub fn write(
+    names: &mut Names,
+    cells: &mut Vec<Cell>,
+    target: Target,
+    name: &Text,
+    value: Value,
+    plan: Write,
+) -> Result<(), Memory>
+    requires at { target.cell < vec_len cells.old }
+    requires number { IsNumberOf names.old name.now target.number }
+    requires base { IsBase names.old cells.old.items }
+    requires value { IsRefWithin (length cells.old.items) value }
+    requires plan { IsPlanned cells.old.items target.cell name.now value plan }
+    ensures ok { OnOk result (Wrote names.old cells.old.items names.new cells.new.items target.cell
+        (by_plan plan name.now value)) }
+    ensures err { OnErr result (Kept names.old cells.old.items names.new cells.new.items) }
+{
+    match plan {
+        Write::Own { end } => write_own(names, cells, target, name, value, end),
+        Write::Longer { len } => write_longer(names, cells, target, name, value, len),
+        Write::Length { len } => {
+            resize(names, cells, target.cell, name, value, len);
+            Ok(())
+        }
+    }
+}
+
+/// Takes a name out of a cell. `end` is past it where it is an element.
+pub fn take(names: &Names, cells: &mut Vec<Cell>, i: CellId, name: &Text, n: u32, end: u32)
+    requires at { i < vec_len cells.old }
+    requires base { IsBase names.now cells.old.items }
+    requires number { slice_get names.now n ≡ Some name.now }
+    requires kept { IsTakeable cells.old.items i name.now }
+    requires end { IsEndOf cells.old.items i name.now end }
+    ensures { Wrote names.now cells.old.items names.now cells.new.items i (without name.now) }
+{
+    let cell = &mut cells[i as usize];
+    cell.take(n, end);
+}
+
+/// Writes a variable that the scope at `i` has.
+pub fn set_variable(
+    names: &Names,
+    cells: &mut Vec<Cell>,
+    i: CellId,
+    name: &Text,
+    n: u32,
+    value: Value,
+)
+    requires at { i < vec_len cells.old }
+    requires base { IsBase names.now cells.old.items }
+    requires number { (slice_get names.now n ≡ Some name.now) × (n < length names.now) }
+    requires variable { IsVariable cells.old.items n i }
+    requires value { IsRefWithin (length cells.old.items) value }
+    ensures { Wrote names.now cells.old.items names.now cells.new.items i (written name.now value) }
+{
+    let cell = &mut cells[i as usize];
+    cell.write_held(n, value);
+}
+
+/// Puts a cell last.
+pub fn push(cells: &mut Vec<Cell>, cell: Cell) -> Result<CellId, Memory>
+    ensures ok { IfOk result (λ id. (id ≡ length cells.old.items) × (cells.new.items ≡ cells.old.items ++ cell ∷ [])) }
+    ensures err { OnErr result (cells.new.items ≡ cells.old.items) }
+{
+    if cells.len() >= MOST {
+        return Err(Memory);
+    }
+    let id = cells.len() as u32;
+    cells.push(cell)?;
+    Ok(id)
+}
+
+/// Adds a cell.
+pub fn add(names: &Names, cells: &mut Vec<Cell>, cell: Cell) -> Result<CellId, Memory>
+    requires base { IsBase names.now cells.old.items }
+    requires fine { IsFine names.now (length cells.old.items + 1) cell }
+    requires ordered { IsOrdered (heads cells.old.items) (length cells.old.items) cell.head }
+    ensures ok { IfOk result (λ id. Added names.now cells.old.items names.now cells.new.items cell id) }
+    ensures err { OnErr result (cells.new.items ≡ cells.old.items) }
+{
+    push(cells, cell)
+}
+
+/// The fixed part of a new cell of a widget on a prototype.
+pub fn head_on(cells: &Vec<Cell>, place: OwnPlace, form: Form, up: CellId) -> Head
+    requires at { up < vec_len cells.now }
+    requires few { links_at (heads cells.now.items) up < 100 }
+    ensures { result ≡ head_on (heads cells.now.items) place.widget form up place.number }
+{
+    Head {
+        owner: Owner::Widget(place.widget),
+        form,
+        up: Some(up),
+        links: cell(cells, up).head().links + 1,
+        number: place.number,
+    }
+}
+
+/// The cell of a node.
+pub fn node_cell(raws: &IndexMap<u32, u32, NumberKeys>, node: u32) -> Option<CellId>
+    ensures { result ≡ lookup (nat_eq node) raws.now.entries }
+{
+    raws.get(&node).copied()
+}
+
+/// Notes the cell of a node that had none. There is room for one more.
+pub fn index_node(raws: &mut IndexMap<u32, u32, NumberKeys>, node: u32, id: CellId)
+    requires { 0 < spare raws.old }
+    ensures { raws.new.entries ≡ insert_entry nat_eq raws.old.entries node id }
+{
+    let Ok(_) = raws.insert(node, id) else {
+        unreachable!()
+    };
+}
+
+/// Writes under a name of a new cell. `end` is past it where it is an element.
+pub fn write_new(
+    names: &mut Names,
+    cell: &mut Cell,
+    name: &Text,
+    value: Value,
+    end: u32,
+) -> Result<(), Memory>
+    requires table { IsTable names.old }
+    requires known { Known (length names.old) cell.old.entries }
+    ensures grown { Grown names.old names.new }
+    ensures table { IsTable names.new }
+    ensures known { OnOk result (Known (length names.new) cell.new.entries) }
+    ensures head { OnOk result (cell.new.head ≡ cell.old.head) }
+    ensures top { OnOk result (cell.new.top ≡ max cell.old.top end) }
+    ensures done { OnOk result (plain names.new cell.new ≡ written name.now value (plain names.old cell.old)) }
+{
+    let number = names.number(name);
+    let n = number_or_new(names, number, name)?;
+    cell.write(n, value, end)
+}
+
+// A new cell with its first pairs.
+fn filled(
+    maker: Maker,
+    names: &mut Names,
+    head: Head,
+    pairs: &[(Text, Value)],
+) -> Result<Cell, Memory>
+    requires table { IsTable names.old }
+    ensures grown { Grown names.old names.new }
+    ensures table { IsTable names.new }
+    ensures known { IfOk result (λ c. Known (length names.new) c.entries) }
+    ensures head { IfOk result (λ c. c.head ≡ head) }
+    ensures done { IfOk result (λ c. plain names.new c ≡ fold with_pair (filled_cell head []) pairs.now) }
+{
+    let mut cell = Cell::new(maker, head);
+    for (name, value) in pairs {
+        let value = value.share()?;
+        write_new(names, &mut cell, name, value, 0)?;
+    }
+    Ok(cell)
+}
+
+/// Adds a cell that is no Array, with its first pairs, whose names differ.
+pub fn add_filled(
+    maker: Maker,
+    names: &mut Names,
+    cells: &mut Vec<Cell>,
+    head: Head,
+    pairs: &[(Text, Value)],
+) -> Result<CellId, Memory>
+    requires base { IsBase names.old cells.old.items }
+    requires ordered { IsOrdered (heads cells.old.items) (length cells.old.items) head }
+    requires other { is_array head.form ≡ false }
+    requires refs { AreRefs (length cells.old.items) pairs.now }
+    requires distinct { IsDistinct bytes_eq (map (λ p. p.0) pairs.now) }
+    ensures ok { IfOk result (λ id. (id ≡ length cells.old.items)
+        × Grew names.old cells.old.items names.new cells.new.items (filled_cell head pairs.now) head) }
+    ensures err { OnErr result (Kept names.old cells.old.items names.new cells.new.items) }
+{
+    let cell = filled(maker, names, head, pairs)?;
+    push(cells, cell)
+}
+
+/// The fixed part of a widget's new scope.
+pub fn scope_head(w: u32, outer: Option<CellId>) -> Head
+    ensures { result ≡ scope_head w outer }
+{
+    Head {
+        owner: Owner::Widget(w),
+        form: Form::Scope,
+        up: outer,
+        links: 0,
+        number: 0,
+    }
+}
