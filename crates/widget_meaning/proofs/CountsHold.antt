@@ -17,7 +17,7 @@ use Rattle.widget_meaning.specs.Items.{Event, Item, Occurs, Advance, item, item_
 use Rattle.widget_meaning.specs.Alone.{Content, alone_from, beginning, loaded, load_library, library_turn, library_plan, go_turn, go_plan, call_parts}
 use Rattle.widget_meaning.specs.Keeps.{Invariant, HoldsOf, JobOf, Keeps, FitsLimits}
 use Rattle.widget_meaning.specs.Counts.{Risen, CountLaws}
-use Rattle.widget_meaning.proofs.Keeping.{no_links}
+use Rattle.widget_meaning.proofs.Keeping.{no_links, no_pages}
 use Rattle.widget_meaning.proofs.KeepingRuns.{run_keeps, job_keeps}
 use Rattle.widget_meaning.proofs.KeepingForms.{dispatch_r}
 use Rattle.widget_meaning.proofs.KeepingJobs.{timer_plan_r, library_plan_r, go_plan_r}
@@ -38,10 +38,11 @@ counting start = record {
   };
   started = λ c ts clock t h l d. h;
   links = no_links;
+  pages = no_pages;
 }
 
 fine_counts : (start : Amounts) (s : State) → Risen start s.own.counts → HoldsOf (counting start) 0 s
-fine_counts start s h = record { holds = h; linked = tt; wide = omega arith }
+fine_counts start s h = record { holds = h; linked = tt; page = tt; wide = omega arith }
 
 module _ (start : Amounts) where
   -- a turn

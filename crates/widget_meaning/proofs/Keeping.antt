@@ -3,12 +3,15 @@ use Rattle.std.proofs.Common.{◌≡◌, ℕ, zero, suc, ◌≤◌, List, [], �
 use Rattle.std.specs.Prelude.{nat_lt, if◌then◌else◌, slice_set, slice_index_or}
 use Rattle.std.proofs.lemmas.Bool.{ltb-false}
 use Rattle.std.proofs.lemmas.List.{length-set}
+use Rattle.plain_tree.specs.Trees.{Label}
+use Rattle.tree_ops.specs.Trees.{relabelled}
+use Rattle.widget_meaning.specs.Trees.{Trees, detached}
 use Rattle.widget_meaning.specs.Limits.{max_cells, max_slots, max_units, max_nodes, max_text}
 use Rattle.widget_meaning.specs.Values.{StopCause, Units, Cells, Slots, Nodes, LongText, Value, Own, Completion, Normal, Is, Refers, Return, Break, Continue, Throw, Reference, Fault}
 use Rattle.widget_meaning.specs.OwnState.{Amounts, State, Cell, Kind, Object, Array, Function, Bunch, Scope, Timer, Pairs, cell_at, plain_object, with_new_cell}
 use Rattle.widget_meaning.specs.Plan.{Job, Eval, Target, Exec, Pass, Call, RunNative, Hear, Place, Plan, Ret, Halt, Need, Tick, Do, and_then, ticks, charge, on_value, on_reference, on_normal, on_throw}
 use Rattle.widget_meaning.specs.Costs.{sum, pay, make, make_text, throw, fault_pairs, object_cost, units_cost, or_throw, want, with_counts}
-use Rattle.widget_meaning.specs.Keeps.{Links, Invariant, Fine, HoldsOf, JobOf, Keeps, OfFunction, no_scope}
+use Rattle.widget_meaning.specs.Keeps.{Links, Pages, Invariant, Fine, HoldsOf, JobOf, Keeps, OfFunction, no_scope}
 
 pub no_kind : (k : Kind) → OfFunction (λ o. Unit {0}) k
 no_kind (Function f o) = tt
@@ -29,6 +32,17 @@ no_links = record {
   written = λ hs cs n c h q. tt;
   entered = λ hs cs c h q. tt;
   assigned = λ hs cs n ps h. tt;
+}
+
+-- where the page is not looked at
+abbrev pub no_pages : Pages
+no_pages = record {
+  Page = λ ts k. Unit {0};
+  labelled = λ ts k n l h. tt;
+  put = λ ts k p n next h. tt;
+  freed = λ ts k n h. tt;
+  grown = λ ts us k p next h. tt;
+  added = λ ts k l h. tt;
 }
 
 -- one more
@@ -61,7 +75,7 @@ module _ (inv : Invariant) (many : ℕ) where
   far m n k h i = omega arith
 
   pub wider : (n : ℕ) (t : State) → many ≤ n → HoldsOf inv n t → R t
-  wider n t l h = record { holds = h.holds; linked = h.linked; wide = far many n (length t.own.scopes) l h.wide }
+  wider n t l h = record { holds = h.holds; linked = h.linked; page = h.page; wide = far many n (length t.own.scopes) l h.wide }
 
   pub job_later : (m n : ℕ) (j : Job) → m ≤ n → JobOf inv m j → JobOf inv n j
   job_later m n (Eval e p) l h = inv.links.later m n p.scope l h
@@ -171,22 +185,33 @@ module _ (inv : Invariant) (many : ℕ) where
           nodes = ltb-false max_nodes b.nodes y;
         });
         linked = h.linked;
+        page = h.page;
         wide = h.wide;
       })))))
 
   -- objects and scopes
-  module _ (c : Amounts) (ts : List Timer) (clock : ℕ) (hs : List Cell) (cs : List Scope) where
-    pub born : (d : Cell) → Fine inv many c ts clock hs cs → OfFunction (inv.links.Older many) d.kind → Fine inv many c ts clock (hs ++ d ∷ []) cs
-    born d h q = record { holds = h.holds; linked = inv.links.born hs cs d h.linked (kind_later many (length cs) d.kind h.wide q); wide = h.wide }
+  module _ (c : Amounts) (ts : List Timer) (clock : ℕ) (hs : List Cell) (cs : List Scope) (f : Trees) (k : ℕ) where
+    pub born : (d : Cell) → Fine inv many c ts clock hs cs f k → OfFunction (inv.links.Older many) d.kind → Fine inv many c ts clock (hs ++ d ∷ []) cs f k
+    born d h q = record { holds = h.holds; linked = inv.links.born hs cs d h.linked (kind_later many (length cs) d.kind h.wide q); page = h.page; wide = h.wide }
 
-    pub written : (n : ℕ) (d : Cell) → Fine inv many c ts clock hs cs → OfFunction (inv.links.Older (length cs)) d.kind → Fine inv many c ts clock (slice_set hs n d) cs
-    written n d h q = record { holds = h.holds; linked = inv.links.written hs cs n d h.linked q; wide = h.wide }
+    pub written : (n : ℕ) (d : Cell) → Fine inv many c ts clock hs cs f k → OfFunction (inv.links.Older (length cs)) d.kind → Fine inv many c ts clock (slice_set hs n d) cs f k
+    written n d h q = record { holds = h.holds; linked = inv.links.written hs cs n d h.linked q; page = h.page; wide = h.wide }
 
-    pub entered : (d : Scope) → Fine inv many c ts clock hs cs → inv.links.Older (length cs) d.outer → Fine inv (length (cs ++ d ∷ [])) c ts clock hs (cs ++ d ∷ [])
-    entered d h q = record { holds = h.holds; linked = inv.links.entered hs cs d h.linked q; wide = same (length (cs ++ d ∷ [])) }
+    pub entered : (d : Scope) → Fine inv many c ts clock hs cs f k → inv.links.Older (length cs) d.outer → Fine inv (length (cs ++ d ∷ [])) c ts clock hs (cs ++ d ∷ []) f k
+    entered d h q = record { holds = h.holds; linked = inv.links.entered hs cs d h.linked q; page = h.page; wide = same (length (cs ++ d ∷ [])) }
 
-    pub assigned : (n : ℕ) (ps : Pairs) → Fine inv many c ts clock hs cs → Fine inv many c ts clock hs (slice_set cs n (record (slice_index_or cs n no_scope) { pairs = ps }))
-    assigned n ps h = record { holds = h.holds; linked = inv.links.assigned hs cs n ps h.linked; wide = subst (λ m. many ≤ m) (sym (length-set cs n _)) h.wide }
+    pub assigned : (n : ℕ) (ps : Pairs) → Fine inv many c ts clock hs cs f k → Fine inv many c ts clock hs (slice_set cs n (record (slice_index_or cs n no_scope) { pairs = ps })) f k
+    assigned n ps h = record { holds = h.holds; linked = inv.links.assigned hs cs n ps h.linked; page = h.page; wide = subst (λ m. many ≤ m) (sym (length-set cs n _)) h.wide }
+
+    -- another page
+    pub paged : (g : Trees) (m : ℕ) → Fine inv many c ts clock hs cs f k → inv.pages.Page g m → Fine inv many c ts clock hs cs g m
+    paged g m h q = record { holds = h.holds; linked = h.linked; page = q; wide = h.wide }
+
+    pub labelled : (n : ℕ) (l : Label) → Fine inv many c ts clock hs cs f k → Fine inv many c ts clock hs cs (relabelled n l f) k
+    labelled n l h = paged (relabelled n l f) k h (inv.pages.labelled f k n l h.page)
+
+    pub freed : (n : ℕ) → Fine inv many c ts clock hs cs f k → Fine inv many c ts clock hs cs (detached f n) k
+    freed n h = paged (detached f n) k h (inv.pages.freed f k n h.page)
 
   pub no_fewer : (s : State) (c : Scope) → R s → many ≤ length (s.own.scopes ++ c ∷ [])
   no_fewer s c h = far many (length s.own.scopes) _ h.wide (longer s.own.scopes c)
@@ -203,7 +228,7 @@ module _ (inv : Invariant) (many : ℕ) where
   outermost = inv.links.outermost many
 
   pub made : (c : Cell) (n : ℕ) (s : State) (k : Value → State → Plan) → R s → OfFunction (inv.links.Older many) c.kind → ((v : Value) (t : State) → R t → Keeps inv many (k v t)) → Keeps inv many (make c n s k)
-  made c n s k h q f = paid (object_cost n) s (λ t. k (Own (length t.own.heap)) (with_new_cell t c)) h (λ a u. f (Own (length s.own.heap)) (with_new_cell (with_counts s a) c) (born a s.own.timers s.own.clock s.own.heap s.own.scopes c u q))
+  made c n s k h q f = paid (object_cost n) s (λ t. k (Own (length t.own.heap)) (with_new_cell t c)) h (λ a u. f (Own (length s.own.heap)) (with_new_cell (with_counts s a) c) (born a s.own.timers s.own.clock s.own.heap s.own.scopes s.own.forest (length s.own.kept) c u q))
 
   pub made_text : (x : List ℕ) (s : State) (k : State → Plan) → R s → ((a : Amounts) → R (with_counts s a) → Keeps inv many (k (with_counts s a))) → Keeps inv many (make_text x s k)
   made_text x s k h f = either (nat_lt max_text (length x)) _ _ (halted LongText s h) (paid (units_cost (length x)) s k h f)

@@ -27,6 +27,7 @@ module _ (inv : Invariant) (many : ℕ) where
   timer_kept s (Own n) z hr l = record {
     holds = inv.started s.own.counts s.own.timers s.own.clock (record { due = s.own.clock + delay z; func = n }) hr.holds l (plus_le s.own.clock 10 (delay z) (least_delay z));
     linked = hr.linked;
+    page = hr.page;
     wide = hr.wide;
   }
   timer_kept s v z hr l = hr

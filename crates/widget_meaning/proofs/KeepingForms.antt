@@ -29,14 +29,14 @@ module _ (inv : Invariant) (many : ℕ) where
   -- a variable is written, and its scope keeps its place
   set_kept : (s : State) (o : Option ℕ) (x : List ℕ) (v : Value) → R inv many s → R inv many (set_in s o x v)
   set_kept s None x v hr = hr
-  set_kept s (Some i) x v hr = assigned inv many s.own.counts s.own.timers s.own.clock s.own.heap s.own.scopes i (replaced (scope_at s i).pairs x v) hr
+  set_kept s (Some i) x v hr = assigned inv many s.own.counts s.own.timers s.own.clock s.own.heap s.own.scopes s.own.forest (length s.own.kept) i (replaced (scope_at s i).pairs x v) hr
 
   pub assign_kept : (s : State) (p : Place) (x : List ℕ) (v : Value) → R inv many s → R inv many (assign s p x v)
   assign_kept s p x v hr = set_kept s (scope_of s p x) x v hr
 
   pub variable_kept : (s : State) (i : ℕ) (xs : List (List ℕ)) (v : Value) → R inv many s → R inv many (with_variable s i xs v)
   variable_kept s i [] v hr = hr
-  variable_kept s i (x ∷ xs) v hr = assigned inv many s.own.counts s.own.timers s.own.clock s.own.heap s.own.scopes i (replaced (scope_at s i).pairs x v) hr
+  variable_kept s i (x ∷ xs) v hr = assigned inv many s.own.counts s.own.timers s.own.clock s.own.heap s.own.scopes s.own.forest (length s.own.kept) i (replaced (scope_at s i).pairs x v) hr
 
   pub read_r : (x0 : Value) (x1 : List ℕ) (x2 : State) → R inv many x2 → Keeps inv many (read x0 x1 x2)
   read_r Undefined x s hr = search (faulted)
@@ -107,7 +107,7 @@ module _ (inv : Invariant) (many : ℕ) where
       let n : ℕ = length (with_new_scope s c).own.scopes in
       let q : inv.links.Older n (Some (length s.own.scopes)) = inv.links.newest s.own.scopes c in
       lowered inv many n _ (no_fewer inv many s c hr)
-      (declare_r inv n fs (length s.own.scopes) (with_new_scope s c) _ (entered inv many s.own.counts s.own.timers s.own.clock s.own.heap s.own.scopes c hr hp) q
+      (declare_r inv n fs (length s.own.scopes) (with_new_scope s c) _ (entered inv many s.own.counts s.own.timers s.own.clock s.own.heap s.own.scopes s.own.forest (length s.own.kept) c hr hp) q
       (λ t u. call_body_r inv n body (record { scope = Some (length s.own.scopes); depth = d }) t u q))
 
   pub enter_scope_r : (x0 : Fun) (x1 : Option ℕ) (x2 : Value) (x3 : List Value) (x4 : ℕ) (x5 : State) → R inv many x5 → inv.links.Older (length x5.own.scopes) x1 → Keeps inv many (enter_scope x0 x1 x2 x3 x4 x5)
@@ -357,7 +357,7 @@ module _ (inv : Invariant) (many : ℕ) where
       paid inv many (scope_cost c) s (λ t. statements b (record { scope = Some (length t.own.scopes); depth = p.depth }) (with_new_scope t c)) hr
       (λ a u. lowered inv many n (statements b q (with_new_scope (with_counts s a) c)) (no_fewer inv many s c hr)
       (statements_r inv n b q (with_new_scope (with_counts s a) c)
-      (entered inv many a s.own.timers s.own.clock s.own.heap s.own.scopes c u (inv.links.later many (length s.own.scopes) p.scope hr.wide hp))
+      (entered inv many a s.own.timers s.own.clock s.own.heap s.own.scopes s.own.forest (length s.own.kept) c u (inv.links.later many (length s.own.scopes) p.scope hr.wide hp))
       (inv.links.newest s.own.scopes c)))
 
   pub caught_r : (x0 : Catch) (x1 : Place) (x2 : Completion) (x3 : State) → R inv many x3 → At inv many x1 → Keeps inv many (caught x0 x1 x2 x3)

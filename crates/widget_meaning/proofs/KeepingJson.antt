@@ -43,7 +43,7 @@ module _ (inv : Invariant) (many : ℕ) where
 
   cells_kept : (s : State) (cs : List Cell) → R inv many s → NoFunctions cs → R inv many (fold with_new_cell s cs)
   cells_kept s [] hr h = hr
-  cells_kept s (c ∷ cs) hr h = cells_kept (with_new_cell s c) cs (born inv many s.own.counts s.own.timers s.own.clock s.own.heap s.own.scopes c hr (any_kind c.kind h.0)) h.1
+  cells_kept s (c ∷ cs) hr h = cells_kept (with_new_cell s c) cs (born inv many s.own.counts s.own.timers s.own.clock s.own.heap s.own.scopes s.own.forest (length s.own.kept) c hr (any_kind c.kind h.0)) h.1
 
   pub give_read_r : (x0 : Bool) (x1 : Value) (x2 : List Cell) (x3 : List (List ℕ)) (x4 : State) → R inv many x4 → NoFunctions x2 → Keeps inv many (give_read x0 x1 x2 x3 x4)
   give_read_r false v cs ts s hr h = search (halted) depth 8 fits 4000

@@ -1,24 +1,30 @@
 -- The natives of the page keep an invariant, and so each native.
 
 use Rattle.widget_meaning.specs.NativeForms.{numbered_pairs}
-use Rattle.std.specs.Prelude.{ℕ, ◌+◌, List, [], ◌∷◌, Bool, true, false, if◌then◌else◌, codes, Option, Some, None, length}
-use Rattle.std.specs.List.{fold}
+use Rattle.std.proofs.Common.{sym, ap, ◌∙◌, subst}
+use Rattle.std.proofs.lemmas.List.{length-append, length-replicate, length-set}
+use Rattle.std.specs.Str.{bytes_eq}
+use Rattle.std.specs.Prelude.{not, replicate, ℕ, ◌+◌, List, [], ◌∷◌, Bool, true, false, if◌then◌else◌, codes, Option, Some, None, length}
+use Rattle.std.specs.List.{fold, filter}
 use Rattle.std.specs.Option.{option_map_or}
 use Rattle.permitted_table.specs.declared.native.NativeId.{NativeId}
-use Rattle.widget_meaning.specs.Values.{Value, Undefined}
-use Rattle.plain_tree.specs.Trees.{Label}
-use Rattle.widget_meaning.specs.Trees.{Trees, label_of}
-use Rattle.widget_meaning.specs.OwnState.{State, with_new_cell, new_array, new_bunch, Kept}
+use Rattle.widget_meaning.specs.Values.{Value, Undefined, Own, Is, E4, E10, to_text, nth}
+use Rattle.plain_tree.specs.Trees.{Label, TextOf, End, Node, size}
+use Rattle.plain_tree.specs.Words.{is_event_type}
+use Rattle.tree_ops.specs.Trees.{relabelled}
+use Rattle.widget_meaning.specs.Trees.{Trees, label_of, tops, children, parent, subtrees, grafted, numbered, copied, with_detached, detached, moved}
+use Rattle.widget_meaning.specs.OwnState.{State, with_new_cell, new_array, new_bunch, Kept, nothing_kept, kept_at, with_forest}
+use Rattle.widget_meaning.specs.Costs.{cost, give, with_counts}
 use Rattle.widget_meaning.specs.Plan.{Plan}
 use Rattle.widget_meaning.specs.NativeNames.{ReadNative, Query, GetValue, GetValues, GetStyle, GetClass, GetTitle, GetCheck, Explode, Count, GetParent, GetTagName, GetMark, WriteNative, Append, Remove, Empty, Replace, SetValue, SetStyle, SetClass, SetTitle, SetCheck, SetEnabled, Focus, Blur, On, Off, Fire, Each, SetMark, Protect, OfEvent, family_of, DomNative, DomQuery, DomAppend, DomTag, DomText, Family, OfGlobal, OfMath, OfPrototype, OfText, OfList, OfAdsafe, OfDom, OfRead, OfWrite}
-use Rattle.widget_meaning.specs.PageForms.{want_all, is_input, is_text_node, want_one, want_bunch, with_label}
+use Rattle.widget_meaning.specs.PageForms.{root, next_node, with_room, with_node, want_all, is_input, is_text_node, want_one, want_bunch, with_label}
 use Rattle.query_grammar.specs.Steps.{Step}
 use Rattle.widget_meaning.specs.BunchReads.{bunches_from, query, read_native, give_page_text, query_steps, get_value, get_values, get_attribute, get_style, explode, get_parent, get_tag_name, read_method, exploded, with_bunch}
 use Rattle.widget_meaning.specs.BunchWrites.{appended, write_native, alter, alter_for, append_trees, append, remove, replace, set_value, set_style, set_attribute, set_flag, focus, blur, listen, hush, fired, fire, each_called, each, write_method, with_copies, emptied, relabel, with_text_node, valued, alter_each, change_kept}
 use Rattle.widget_meaning.specs.DomNatives.{dom_native, give_node, dom_tag, append_to_root, dom_append}
 use Rattle.widget_meaning.specs.Natives.{run_family, run_native}
 use Rattle.widget_meaning.specs.Keeps.{Invariant, Keeps}
-use Rattle.widget_meaning.proofs.Keeping.{ended, job, value, chain, charged, paid, made_text, faulted, R, found, wanted, born, no_function}
+use Rattle.widget_meaning.proofs.Keeping.{ended, job, value, chain, charged, paid, made_text, faulted, R, found, wanted, born, paged}
 use Rattle.widget_meaning.proofs.KeepingAdsafe.{adsafe_native_r}
 use Rattle.widget_meaning.proofs.KeepingForms.{dispatch_r, bubble_r}
 use Rattle.widget_meaning.proofs.KeepingNatives.{give_texts_r, global_native_r, make_bunch_r, math_native_r, on_bunch_r, want_function_r, want_primitives_r}
@@ -33,22 +39,56 @@ module _ (inv : Invariant) (many : ℕ) where
   fold_kept f k (n ∷ ns) s hr = fold_kept f k ns (f s n) (k s n hr)
 
   bunches_kept : (s : State) (ns : List ℕ) → R inv many s → R inv many (fold with_bunch s ns)
-  bunches_kept s ns hr = fold_kept with_bunch (λ t n k. born inv many t.own.counts t.own.timers t.own.clock t.own.heap t.own.scopes (new_bunch (n ∷ [])) k tt) ns s hr
+  bunches_kept s ns hr = fold_kept with_bunch (λ t n k. born inv many t.own.counts t.own.timers t.own.clock t.own.heap t.own.scopes t.own.forest (length t.own.kept) (new_bunch (n ∷ [])) k tt) ns s hr
 
   exploded_kept : (ns : List ℕ) (s : State) → R inv many s → R inv many (exploded ns s)
-  exploded_kept ns s hr = bunches_kept (with_new_cell s _) ns (born inv many s.own.counts s.own.timers s.own.clock s.own.heap s.own.scopes (new_array (length ns) (numbered_pairs 0 (bunches_from (length s.own.heap + 1) ns))) hr tt)
+  exploded_kept ns s hr = bunches_kept (with_new_cell s _) ns (born inv many s.own.counts s.own.timers s.own.clock s.own.heap s.own.scopes s.own.forest (length s.own.kept) (new_array (length ns) (numbered_pairs 0 (bunches_from (length s.own.heap + 1) ns))) hr tt)
+
+  -- the page changes
+  with_page : (s : State) (g : Trees) → R inv many s → inv.pages.Page g (length s.own.kept) → R inv many (with_forest s g)
+  with_page s g hr q = paged inv many s.own.counts s.own.timers s.own.clock s.own.heap s.own.scopes s.own.forest (length s.own.kept) g (length s.own.kept) hr q
+
+  roomy : (s : State) (g : Trees) (n : ℕ) → R inv many s → inv.pages.Page g (length s.own.kept + n) → R inv many (with_room n (with_forest s g))
+  roomy s g n hr q =
+      paged inv many s.own.counts s.own.timers s.own.clock s.own.heap s.own.scopes s.own.forest (length s.own.kept) g _ hr
+      (subst (inv.pages.Page g) (sym (length-append s.own.kept (replicate n nothing_kept) ∙ ap (λ m. length s.own.kept + m) (length-replicate n nothing_kept))) q)
+
+  all_put : (p k : ℕ) (next : Option ℕ) (ms : List ℕ) (ts : Trees) → inv.pages.Page ts k → inv.pages.Page (fold (moved p next) ts ms) k
+  all_put p k next [] ts h = h
+  all_put p k next (m ∷ ms) ts h = all_put p k next ms (moved p next ts m) (inv.pages.put ts k p m next h)
+
+  all_freed : (k : ℕ) (ms : List ℕ) (ts : Trees) → inv.pages.Page ts k → inv.pages.Page (fold detached ts ms) k
+  all_freed k [] ts h = h
+  all_freed k (m ∷ ms) ts h = all_freed k ms (detached ts m) (inv.pages.freed ts k m h)
 
   copies_kept : (t : ℕ) (ms : List ℕ) (s : State) → R inv many s → R inv many (with_copies t ms s)
-  copies_kept t ms s hr = hr
+  copies_kept t ms s hr =
+      let us : Trees = copied (subtrees ms s.own.forest) in
+      roomy s (grafted t None (numbered (length s.own.kept) us) s.own.forest) (size (numbered (length s.own.kept) us)) hr
+      (inv.pages.grown s.own.forest us (length s.own.kept) t None hr.page)
 
   appended_kept : (ns ms : List ℕ) (s : State) → R inv many s → R inv many (appended ns ms s)
   appended_kept [] ms s hr = hr
-  appended_kept (t ∷ []) ms s hr = hr
+  appended_kept (t ∷ []) ms s hr = with_page s (fold (moved t None) s.own.forest ms) hr (all_put t (length s.own.kept) None ms s.own.forest hr.page)
   appended_kept (t ∷ u ∷ ts) ms s hr = appended_kept (u ∷ ts) ms (with_copies t ms s) (copies_kept t ms s hr)
+
+  replaced_kept : (p n : ℕ) (ms : List ℕ) (s : State) → R inv many s → R inv many (with_forest s (detached (fold (moved p (Some n)) s.own.forest ms) n))
+  replaced_kept p n ms s hr =
+      let g : Trees = fold (moved p (Some n)) s.own.forest ms in
+      with_page s (detached g n) hr (inv.pages.freed g (length s.own.kept) n (all_put p (length s.own.kept) (Some n) ms s.own.forest hr.page))
+
+  removed_kept : (s : State) (n : ℕ) → R inv many s → R inv many (with_forest s (detached s.own.forest n))
+  removed_kept s n hr = with_page s (detached s.own.forest n) hr (inv.pages.freed s.own.forest (length s.own.kept) n hr.page)
+
+  emptied_kept : (s : State) (n : ℕ) → R inv many s → R inv many (emptied s n)
+  emptied_kept s n hr = with_page s _ hr (all_freed (length s.own.kept) (tops (children n s.own.forest)) s.own.forest hr.page)
+
+  one_label_kept : (s : State) (n : ℕ) (l : Label) → R inv many s → R inv many (with_label s n l)
+  one_label_kept s n l hr = with_page s (relabelled n l s.own.forest) hr (inv.pages.labelled s.own.forest (length s.own.kept) n l hr.page)
 
   label_kept : (l : Option Label) (n : ℕ) (f : Label → Label) (s : State) → R inv many s → R inv many (option_map_or (λ v. with_label s n (f v)) l s)
   label_kept None n f s hr = hr
-  label_kept (Some l) n f s hr = hr
+  label_kept (Some l) n f s hr = one_label_kept s n (f l) hr
 
   relabel_kept : (f : Label → Label) (s : State) (n : ℕ) → R inv many s → R inv many (relabel f s n)
   relabel_kept f s n hr = label_kept (label_of n s.own.forest) n f s hr
@@ -58,20 +98,32 @@ module _ (inv : Invariant) (many : ℕ) where
 
   text_node_kept : (n : ℕ) (t : List ℕ) (s : State) → R inv many s → R inv many (with_text_node n t s)
   text_node_kept n [] s hr = hr
-  text_node_kept n (u ∷ us) s hr = hr
+  text_node_kept n (u ∷ us) s hr =
+      roomy s (grafted n None (Node (length s.own.kept) (TextOf (u ∷ us)) End End) s.own.forest) 1 hr
+      (inv.pages.grown s.own.forest (Node 0 (TextOf (u ∷ us)) End End) (length s.own.kept) n None hr.page)
+
+  node_kept : (l : Label) (s : State) → R inv many s → R inv many (with_node l s)
+  node_kept l s hr = roomy s (with_detached (Node (length s.own.kept) l End End) s.own.forest) 1 hr (inv.pages.added s.own.forest (length s.own.kept) l hr.page)
 
   either_kept : (b : Bool) (p q : State) → R inv many p → R inv many q → R inv many (if b then p else q)
   either_kept true p q h k = h
   either_kept false p q h k = k
 
   valued_kept : (t : List ℕ) (s : State) (n : ℕ) → R inv many s → R inv many (valued t s n)
-  valued_kept t s n hr = either_kept (is_input s n) _ _ (relabel_kept (with_attribute (codes "value") (Some t)) s n hr) (either_kept (is_text_node s n) _ _ hr (text_node_kept n t (emptied s n) hr))
+  valued_kept t s n hr =
+      either_kept (is_input s n) _ _ (relabel_kept (with_attribute (codes "value") (Some t)) s n hr)
+      (either_kept (is_text_node s n) _ _ (one_label_kept s n (TextOf t) hr) (text_node_kept n t (emptied s n) (emptied_kept s n hr)))
 
   each_valued_kept : (t ns : List ℕ) (s : State) → R inv many s → R inv many (fold (valued t) s ns)
   each_valued_kept t ns s hr = fold_kept (valued t) (valued_kept t) ns s hr
 
+  changed_kept : (f : Kept → Kept) (s : State) (n : ℕ) → R inv many s → R inv many (change_kept f s n)
+  changed_kept f s n hr =
+      paged inv many s.own.counts s.own.timers s.own.clock s.own.heap s.own.scopes s.own.forest (length s.own.kept) s.own.forest _ hr
+      (subst (inv.pages.Page s.own.forest) (sym (length-set s.own.kept n (f (kept_at s n)))) hr.page)
+
   each_changed_kept : (f : Kept → Kept) (ns : List ℕ) (s : State) → R inv many s → R inv many (fold (change_kept f) s ns)
-  each_changed_kept f ns s hr = fold_kept (change_kept f) (λ t n k. k) ns s hr
+  each_changed_kept f ns s hr = fold_kept (change_kept f) (changed_kept f) ns s hr
 
   pub want_bunch_r : (x0 : Value) (x1 : State) (x2 : (List ℕ → Plan)) → R inv many x1 → ((y0 : List ℕ) → Keeps inv many (x2 y0)) → Keeps inv many (want_bunch x0 x1 x2)
   want_bunch_r v s k hr f0 = search (found)
@@ -142,6 +194,9 @@ module _ (inv : Invariant) (many : ℕ) where
   pub alter_each_r : (x0 : (State → ℕ → State)) (x1 : List ℕ) (x2 : Value) (x3 : State) → R inv many x3 → ((y0 : State) (y1 : ℕ) → R inv many y0 → R inv many (x0 y0 y1)) → Keeps inv many (alter_each x0 x1 x2 x3)
   alter_each_r f ns b s hr f0 = alter_r (length ns) b s (λ t. fold f t ns) hr (λ t k. fold_kept f f0 ns t k)
 
+  each_change_r : (f : Kept → Kept) (ns : List ℕ) (b : Value) (s : State) → R inv many s → Keeps inv many (alter_each (change_kept f) ns b s)
+  each_change_r f ns b s hr = alter_each_r (change_kept f) ns b s hr (changed_kept f)
+
   pub append_trees_r : (x0 : List ℕ) (x1 : List ℕ) (x2 : Trees) (x3 : Value) (x4 : State) → R inv many x4 → Keeps inv many (append_trees x0 x1 x2 x3 x4)
   append_trees_r ns ms us b s hr = search (alter_for_r, appended_kept)
 
@@ -149,10 +204,12 @@ module _ (inv : Invariant) (many : ℕ) where
   append_r ns v b s hr = search (want_bunch_r, want_all_r, append_trees_r)
 
   pub remove_r : (x0 : List ℕ) (x1 : Value) (x2 : State) → R inv many x2 → Keeps inv many (remove x0 x1 x2)
-  remove_r ns b s hr = search (want_all_r, alter_each_r)
+  remove_r ns b s hr = want_all_r _ ns s _ hr (alter_each_r (λ t n. with_forest t (detached t.own.forest n)) ns b s hr removed_kept)
 
   pub replace_r : (x0 : List ℕ) (x1 : Value) (x2 : Value) (x3 : State) → R inv many x3 → Keeps inv many (replace x0 x1 x2 x3)
-  replace_r ns v b s hr = search (want_one_r, want_bunch_r, found, wanted, alter_r)
+  replace_r ns v b s hr =
+      want_one_r ns s _ hr (λ n. want_bunch_r v s _ hr (λ ms. found inv many E10 (parent n s.own.forest) s _ hr (λ p. wanted inv many E10 _ s _ hr
+      (alter_r 1 b s (λ t. with_forest t (detached (fold (moved p (Some n)) t.own.forest ms) n)) hr (replaced_kept p n ms)))))
 
   pub set_value_r : (x0 : List ℕ) (x1 : List ℕ) (x2 : Value) (x3 : State) → R inv many x3 → Keeps inv many (set_value x0 x1 x2 x3)
   set_value_r ns t b s hr = search (want_all_r, alter_for_r, each_valued_kept)
@@ -176,8 +233,10 @@ module _ (inv : Invariant) (many : ℕ) where
   listen_r ns t f b s hr = search (wanted, want_function_r, charged, paid, ended, each_changed_kept) depth 8 fits 4000
 
   pub hush_r : (x0 : List ℕ) (x1 : Value) (x2 : Value) (x3 : State) → R inv many x3 → Keeps inv many (hush x0 x1 x2 x3)
-  hush_r ns Undefined b s hr = search (alter_each_r)
-  hush_r ns v b s hr = search (want_primitives_r, wanted, alter_each_r)
+  hush_r ns Undefined b s hr = each_change_r (λ k. record k { handlers = [] }) ns b s hr
+  hush_r ns v b s hr =
+      want_primitives_r inv many (v ∷ []) s _ hr (wanted inv many E4 (is_event_type (to_text v)) s _ hr
+      (each_change_r (λ k. record k { handlers = filter (λ h. not (bytes_eq h.kind (to_text v))) k.handlers }) ns b s hr))
 
   pub fired_r : (x0 : List ℕ) (x1 : List ℕ) (x2 : Value) (x3 : ℕ) (x4 : State) → R inv many x4 → Keeps inv many (fired x0 x1 x2 x3 x4)
   fired_r t [] b d s hr = ended inv many _ s hr
@@ -196,7 +255,7 @@ module _ (inv : Invariant) (many : ℕ) where
   pub write_method_r : (x0 : WriteNative) (x1 : List ℕ) (x2 : Value) (x3 : List Value) (x4 : ℕ) (x5 : State) → R inv many x5 → Keeps inv many (write_method x0 x1 x2 x3 x4 x5)
   write_method_r Append ns b vs d s hr = search (append_r)
   write_method_r Remove ns b vs d s hr = search (remove_r)
-  write_method_r Empty ns b vs d s hr = search (alter_each_r)
+  write_method_r Empty ns b vs d s hr = alter_each_r emptied ns b s hr emptied_kept
   write_method_r Replace ns b vs d s hr = search (replace_r)
   write_method_r SetValue ns b vs d s hr = search (want_primitives_r, set_value_r)
   write_method_r SetStyle ns b vs d s hr = search (want_primitives_r, set_style_r)
@@ -210,20 +269,30 @@ module _ (inv : Invariant) (many : ℕ) where
   write_method_r Off ns b vs d s hr = search (hush_r)
   write_method_r Fire ns b vs d s hr = search (want_primitives_r, fire_r)
   write_method_r Each ns b vs d s hr = search (each_r)
-  write_method_r SetMark ns b vs d s hr = search (want_primitives_r, alter_each_r)
-  write_method_r Protect ns b vs d s hr = search (alter_each_r)
+  write_method_r SetMark ns b vs d s hr =
+      want_primitives_r inv many (nth 0 vs ∷ []) s _ hr (each_change_r (λ k. record k { mark = to_text (nth 0 vs) }) ns b s hr)
+  write_method_r Protect ns b vs d s hr = each_change_r (λ k. record k { is_protected = true }) ns b s hr
 
   pub write_native_r : (x0 : WriteNative) (x1 : Option Value) (x2 : List Value) (x3 : ℕ) (x4 : State) → R inv many x4 → Keeps inv many (write_native x0 x1 x2 x3 x4)
   write_native_r w this vs d s hr = search (on_bunch_r, write_method_r)
 
   pub give_node_r : (x0 : Label) (x1 : ℕ) (x2 : State) → R inv many x2 → Keeps inv many (give_node x0 x1 x2)
-  give_node_r l units s hr = search (paid, ended, born, no_function)
+  give_node_r l units s hr =
+      paid inv many (cost units 1 2 1) s (λ t. give (Own (length t.own.heap)) (with_new_cell (with_node l t) (new_bunch (next_node t ∷ [])))) hr
+      (λ a u. let t : State = with_node l (with_counts s a) in
+      ended inv many (Is (Own (length s.own.heap))) (with_new_cell t (new_bunch (length s.own.kept ∷ [])))
+      (born inv many a s.own.timers s.own.clock s.own.heap s.own.scopes t.own.forest (length t.own.kept) (new_bunch (length s.own.kept ∷ [])) (node_kept l (with_counts s a) u) tt))
 
   pub dom_tag_r : (x0 : List ℕ) (x1 : List (List ℕ)) (x2 : State) → R inv many x2 → Keeps inv many (dom_tag x0 x1 x2)
   dom_tag_r tag v s hr = search (wanted, give_node_r)
 
   pub append_to_root_r : (x0 : List ℕ) (x1 : State) → R inv many x1 → Keeps inv many (append_to_root x0 x1)
-  append_to_root_r ms s hr = search (charged, paid, ended, born, no_function)
+  append_to_root_r ms s hr =
+      charged inv many (size (subtrees ms s.own.forest)) s _ hr
+      (paid inv many (cost 0 1 2 0) s (λ t. give (Own (length t.own.heap)) (with_new_cell (appended (root ∷ []) ms t) (new_bunch (root ∷ [])))) hr
+      (λ a u. let t : State = appended (root ∷ []) ms (with_counts s a) in
+      ended inv many (Is (Own (length s.own.heap))) (with_new_cell t (new_bunch (root ∷ [])))
+      (born inv many a s.own.timers s.own.clock s.own.heap s.own.scopes t.own.forest (length s.own.kept) (new_bunch (root ∷ [])) (appended_kept (root ∷ []) ms (with_counts s a) u) tt)))
 
   pub dom_append_r : (x0 : Value) (x1 : State) → R inv many x1 → Keeps inv many (dom_append x0 x1)
   dom_append_r v s hr = search (want_bunch_r, want_all_r, append_to_root_r)

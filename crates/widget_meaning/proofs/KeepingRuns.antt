@@ -26,7 +26,7 @@ module _ (inv : Invariant) (many : ℕ) where
   run_keeps zero (Do j s k) h = h.0
   run_keeps (suc f) (Do j s k) h =
       let n : ℕ = length s.own.scopes in
-      let fine : HoldsOf inv n s = record { holds = h.0.holds; linked = h.0.linked; wide = self n } in
+      let fine : HoldsOf inv n s = record { holds = h.0.holds; linked = h.0.linked; page = h.0.page; wide = self n } in
       run_keeps f (and_then (body j s) k) (chain_later inv many n (body j s) k h.0.wide (body_r inv n j s fine h.1.0) h.1.1)
 
   pub job_keeps : (j : Job) (s : State) (g : ℕ) → HoldsOf inv many s → JobOf inv many j → HoldsOf inv many (meaning j s g).state

@@ -13,7 +13,10 @@ pub mod KeepingPage
 pub mod KeepingJobs
 pub mod KeepingRuns
 pub mod CountsHold
+pub mod Rest
 pub mod ScopesHold
+pub mod Times
+pub mod NodesHold
 pub mod TimersHold
 pub mod SumsHold
 pub mod RowsHold

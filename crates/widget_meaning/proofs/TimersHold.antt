@@ -18,7 +18,7 @@ use Rattle.widget_meaning.specs.Items.{Event, Item, Occurs, Advance, item, item_
 use Rattle.widget_meaning.specs.Alone.{Content, alone_from, beginning, loaded, load_library, library_turn, library_plan, go_turn, go_plan, call_parts}
 use Rattle.widget_meaning.specs.Keeps.{Invariant, HoldsOf, Keeps}
 use Rattle.widget_meaning.specs.Laws.{NoneBefore, AreTimers, TimerLaws}
-use Rattle.widget_meaning.proofs.Keeping.{no_links}
+use Rattle.widget_meaning.proofs.Keeping.{no_links, no_pages}
 use Rattle.widget_meaning.proofs.KeepingRuns.{run_keeps}
 use Rattle.widget_meaning.proofs.KeepingForms.{dispatch_r}
 use Rattle.widget_meaning.proofs.KeepingJobs.{timer_plan_r, library_plan_r, go_plan_r}
@@ -188,10 +188,11 @@ waiting now e count i = record {
     due = chain_le _ (due_before e ts) count (same_as _ _ (due_one e ts t (past_end e now clock t.due i h.clock_is d))) h.due;
   };
   links = no_links;
+  pages = no_pages;
 }
 
 fine_waits : (now e count : ℕ) (i : e ≤ now + min_delay) (s : State) → Waits now e count s.own.timers s.own.clock → HoldsOf (waiting now e count i) 0 s
-fine_waits now e count i s h = record { holds = h; linked = tt; wide = omega arith }
+fine_waits now e count i s h = record { holds = h; linked = tt; page = tt; wide = omega arith }
 
 abbrev pub WaitsOf : ℕ → ℕ → ℕ → OwnState → Type 0
 WaitsOf now e count o = Waits now e count o.timers o.clock

@@ -1,6 +1,9 @@
 -- What each state of a plan keeps: a predicate on the counts, the waiting timers and the clock, and one on objects and
 -- scopes.
 use Rattle.std.specs.Prelude.{ℕ, ◌+◌, ◌<◌, ◌≤◌, List, [], ◌∷◌, ◌++◌, length, Option, Some, None, slice_index_or, slice_set}
+use Rattle.plain_tree.specs.Trees.{Label, End, Node, size}
+use Rattle.tree_ops.specs.Trees.{relabelled}
+use Rattle.widget_meaning.specs.Trees.{Trees, grafted, numbered, with_detached, detached, moved}
 use Rattle.widget_meaning.specs.Limits.{max_cells, max_slots, max_units, max_nodes, max_timers, min_delay}
 use Rattle.widget_meaning.specs.Values.{Completion}
 use Rattle.widget_meaning.specs.OwnState.{Amounts, State, Timer, Cell, Kind, Function, Scope, Pairs, plain_object}
@@ -41,6 +44,16 @@ pub record Links : Type 1 where
   pub assigned : (hs : List Cell) (cs : List Scope) (n : ℕ) (ps : Pairs) → Linked hs cs
       → Linked hs (slice_set cs n (record (slice_index_or cs n no_scope) { pairs = ps }))
 
+-- a predicate on a page and how many nodes there were, that each change of the page keeps
+pub record Pages : Type 1 where
+  pub Page : Trees → ℕ → Type 0
+  pub labelled : (ts : Trees) (k n : ℕ) (l : Label) → Page ts k → Page (relabelled n l ts) k
+  pub put : (ts : Trees) (k p n : ℕ) (next : Option ℕ) → Page ts k → Page (moved p next ts n) k
+  pub freed : (ts : Trees) (k n : ℕ) → Page ts k → Page (detached ts n) k
+  pub grown : (ts us : Trees) (k p : ℕ) (next : Option ℕ) → Page ts k
+      → Page (grafted p next (numbered k us) ts) (k + size (numbered k us))
+  pub added : (ts : Trees) (k : ℕ) (l : Label) → Page ts k → Page (with_detached (Node k l End End) ts) (k + 1)
+
 -- a predicate that costs within the limits keep, and timers that are started while fewer than the limit wait
 pub record Invariant : Type 1 where
   pub Holds : Amounts → List Timer → ℕ → Type 0
@@ -49,16 +62,20 @@ pub record Invariant : Type 1 where
   pub started : (c : Amounts) (ts : List Timer) (clock : ℕ) (t : Timer) → Holds c ts clock → length ts < max_timers
       → clock + min_delay ≤ t.due → Holds c (ts ++ t ∷ []) clock
   pub links : Links
+  pub pages : Pages
 
 -- of a state, in which there are at least so many scopes
-pub record Fine (i : Invariant) (n : ℕ) (c : Amounts) (ts : List Timer) (clock : ℕ) (hs : List Cell) (cs : List Scope) : Type 0 where
+pub record Fine (i : Invariant) (n : ℕ) (c : Amounts) (ts : List Timer) (clock : ℕ) (hs : List Cell) (cs : List Scope)
+    (f : Trees) (k : ℕ) : Type 0 where
   pub holds : i.Holds c ts clock
   pub linked : i.links.Linked hs cs
+  pub page : i.pages.Page f k
   pub wide : n ≤ length cs
 
 -- the same by the state
 abbrev pub HoldsOf : Invariant → ℕ → State → Type 0
-HoldsOf i n s = Fine i n s.own.counts s.own.timers s.own.clock s.own.heap s.own.scopes
+HoldsOf i n s =
+    Fine i n s.own.counts s.own.timers s.own.clock s.own.heap s.own.scopes s.own.forest (length s.own.kept)
 
 -- the scope of a job's place is one where there are so many
 abbrev pub JobOf : Invariant → ℕ → Job → Type 0

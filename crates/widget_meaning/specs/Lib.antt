@@ -44,6 +44,7 @@ pub mod Keeps
 pub mod PlanLaws
 pub mod Counts
 pub mod ScopeLaws
+pub mod NodeLaws
 pub mod Sums
 pub mod RowTrees
 pub mod Rows

@@ -7,6 +7,7 @@ ghost use Rattle.widget_meaning.specs.PlanLaws.{PlanLaws, CostLaws};
 ghost use Rattle.widget_meaning.specs.Counts.{CountLaws};
 ghost use Rattle.widget_meaning.specs.Items.{Item};
 ghost use Rattle.widget_meaning.specs.Alone.{Content};
+ghost use Rattle.widget_meaning.specs.NodeLaws.{NodeLaws};
 ghost use Rattle.widget_meaning.specs.ScopeLaws.{ScopeLaws};
 ghost use Rattle.widget_meaning.specs.Sums.{SumLaws};
 ghost use Rattle.widget_meaning.specs.Laws.{FuelLaws, StopLaws, StoppedLaws, AloneLaws, TimerLaws};
@@ -44,6 +45,12 @@ pub fn counts()
 #[tactic(auto, using(crate::proofs::ScopesHold::scope_laws))]
 pub fn scopes_end()
     ensures { ScopeLaws }
+{}
+
+/// Each node of a widget's page has a number of its own, below how many nodes the widget has had.
+#[tactic(auto, using(crate::proofs::NodesHold::node_laws))]
+pub fn nodes_have_numbers()
+    ensures { NodeLaws }
 {}
 
 /// What a whole run comes to at most, by its items: turns, units spent, events that no turn took, and
