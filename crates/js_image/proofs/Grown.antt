@@ -1,0 +1,116 @@
+-- Values stay the same as the store grows.
+use Rattle.std.proofs.Common.{◌≡◌, ℕ, zero, suc, ◌<◌, List, [], ◌∷◌, ◌++◌, length, refl, sym, ap, ◌∙◌, subst, Option, Some, None, arith, if◌then◌else◌, slice_get}
+use Rattle.std.specs.Prelude.{IfSome, ◌||◌}
+use Rattle.std.specs.List.{AllByRecursion}
+use Rattle.std.specs.Option.{option_map}
+use Rattle.js_tree.specs.Forest.{Forest}
+use Rattle.store_cells.specs.declared.value.Value.{Value}
+use Rattle.store_cells.specs.declared.value.Value.TheVariants as value
+use Rattle.store_cells.specs.declared.kind.FunParts.{FunParts}
+use Rattle.store_cells.specs.Cells.{Cells, PlainCell, function_in}
+use Rattle.store_cells.specs.Host.{is_permitted_cell}
+use Rattle.object_store.specs.Owned as store
+use Rattle.object_store.specs.Owned.{own_link, own_value, owned, scope_number}
+use Rattle.object_store.specs.Grows.{Grows}
+use Rattle.object_store.proofs.Growth.{grows_same}
+use Rattle.js_image.specs.Image.{meant, seen}
+use Rattle.js_image.specs.Held.{ArePairs, IsConfined, IsFine, IsFineFor, IsFunOf, IsHeld, IsOwnScope, IsPlaceScope, Kept}
+
+module _ (w : ℕ) (old new : List PlainCell) (g : Grows w old new) where
+  link_stays : (i : ℕ) → i < length old → own_link w new i ≡ own_link w old i
+  link_stays i lt = λ j. if g.visible i lt j then store.Own (g.count i lt j) else store.Other i
+
+  value_stays : (v : Value) → IsFine w old v → own_value w new v ≡ own_value w old v
+  value_stays value.Undefined h = refl
+  value_stays value.Null h = refl
+  value_stays (value.Bool b) h = refl
+  value_stays (value.Num n) h = refl
+  value_stays (value.Text t) h = refl
+  value_stays (value.Ref i) h = link_stays i h.0
+
+  -- a value that the widget holds stays the same value
+  pub seen_stays : (v : Value) → IsFine w old v → seen w new v ≡ seen w old v
+  seen_stays v h = ap meant (value_stays v h)
+
+  pub scope_stays : (o : Option ℕ) → IsPlaceScope w old o → option_map (scope_number w new) o ≡ option_map (scope_number w old) o
+  scope_stays None h = refl
+  scope_stays (Some i) h = ap Some (g.scope i h.0)
+
+  longer : (i : ℕ) → i < length old → i < length new
+  longer i lt = omega (arith, lt, g.size)
+
+  pub held_stays : (i : ℕ) → IsHeld w old i → IsHeld w new i
+  held_stays i h = (longer i h.0, ap (λ b. b || is_permitted_cell i) (g.visible i h.0) ∙ h.1)
+
+  pub fine_stays : (v : Value) → IsFine w old v → IsFine w new v
+  fine_stays value.Undefined h = tt
+  fine_stays value.Null h = tt
+  fine_stays (value.Bool b) h = tt
+  fine_stays (value.Num n) h = tt
+  fine_stays (value.Text t) h = tt
+  fine_stays (value.Ref i) h = held_stays i h
+
+  own_scope_stays : (i : ℕ) → IsOwnScope w old i → IsOwnScope w new i
+  own_scope_stays i h = (longer i h.0, g.own_scope i h.0 ∙ h.1)
+
+  pub place_stays : (o : Option ℕ) → IsPlaceScope w old o → IsPlaceScope w new o
+  place_stays None h = tt
+  place_stays (Some i) h = own_scope_stays i h
+
+  pub pairs_stay : (ps : List (List ℕ × Value)) → ArePairs w old ps → ArePairs w new ps
+  pairs_stay [] h = tt
+  pairs_stay (p ∷ ps) h = (fine_stays p.1 h.0, pairs_stay ps h.1)
+
+  up_stays : (o : Option ℕ) → IfSome o (IsHeld w old) → IfSome o (IsHeld w new)
+  up_stays None h = tt
+  up_stays (Some i) h = held_stays i h
+
+  fun_stays : (fs : List Forest) (o : Option FunParts) → IfSome o (λ p. IsFunOf fs p × IsPlaceScope w old p.scope) → IfSome o (λ p. IsFunOf fs p × IsPlaceScope w new p.scope)
+  fun_stays fs None h = tt
+  fun_stays fs (Some p) h = (h.0, place_stays p.scope h.1)
+
+  -- what a cell leads to stays what the widget may hold
+  pub cell_stays : (fs : List Forest) (c : PlainCell) → IsFineFor fs w old c → IsFineFor fs w new c
+  cell_stays fs c h = record {
+    cell = λ v. record {
+      up = up_stays c.up (h.cell v).up;
+      pairs = λ b. pairs_stay c.pairs ((h.cell v).pairs b);
+      fun = fun_stays fs (function_in c.form) (h.cell v).fun;
+    };
+    scope = λ v. record { outer = place_stays c.up (h.scope v).outer; pairs = pairs_stay c.pairs (h.scope v).pairs };
+  }
+
+-- nothing changed
+pub kept_same : (fs : List Forest) (w : ℕ) (old new : Cells) → new ≡ old → Kept fs w old new
+kept_same fs w old new same = subst (λ (t : Cells). Kept fs w old t) (sym same) (record { confined = λ h. h; grows = grows_same w old.cells; others = λ v h. refl })
+
+-- counts alone changed
+pub kept_cells_same : (fs : List Forest) (w : ℕ) (old new : Cells) → new.cells ≡ old.cells → Grows w old.cells new.cells → ((v : ℕ) → (w ≡ v → ⊥) → owned v new ≡ owned v old) → Kept fs w old new
+kept_cells_same fs w old new same grows others = record {
+  confined = λ h. subst (λ (l : List PlainCell). IsConfined fs w (record { cells = l; kept = new.kept })) (sym same) (record { each = h.each });
+  grows = grows;
+  others = others;
+}
+
+-- an element of two lists one after the other
+all_at : {X : Type 0} (P : X → Type 0) (xs : List X) → AllByRecursion P xs → (i : ℕ) (x : X) → slice_get xs i ≡ Some x → P x
+all_at P [] h i x at = absurd (none_some at)
+  where
+    none_some : {A : Type 0} {a : A} → None ≡ Some a → ⊥
+    none_some e = cc
+all_at P (y ∷ xs) h zero x at = subst P (same y x at) h.0
+  where
+    same : {A : Type 0} (a b : A) → Some a ≡ Some b → a ≡ b
+    same a b e = cc
+all_at P (y ∷ xs) h (suc i) x at = all_at P xs h.1 i x at
+
+by_append : {X : Type 0} (P : X → Type 0) (xs ys : List X) → ((i : ℕ) (x : X) → slice_get xs i ≡ Some x → P x) → AllByRecursion P ys → (i : ℕ) (x : X) → slice_get (xs ++ ys) i ≡ Some x → P x
+by_append P [] ys h all i x at = all_at P ys all i x at
+by_append P (y ∷ xs) ys h all zero x at = h zero x at
+by_append P (y ∷ xs) ys h all (suc i) x at = by_append P xs ys (λ k z e. h (suc k) z e) all i x at
+
+-- more cells, which lead to what the widget may hold
+pub confined_more : (fs : List Forest) (w : ℕ) (s t : Cells) (more : List PlainCell) → t.cells ≡ s.cells ++ more → Grows w s.cells t.cells → AllByRecursion (IsFineFor fs w t.cells) more → IsConfined fs w s → IsConfined fs w t
+confined_more fs w s t more is grows fine h = record {
+  each = λ i c at. by_append (IsFineFor fs w t.cells) s.cells more (λ k d e. cell_stays w s.cells t.cells grows fs d (h.each k d e)) fine i c (ap (λ (l : List PlainCell). slice_get l i) (sym is) ∙ at);
+}

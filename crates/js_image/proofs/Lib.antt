@@ -1,0 +1,9 @@
+pub mod Pays
+pub mod Grown
+pub mod Hosts
+pub mod Makes
+pub mod Faults
+pub mod Chains
+pub mod Variables
+pub mod Found
+pub mod Writes

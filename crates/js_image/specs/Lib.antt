@@ -1,0 +1,5 @@
+pub mod Image
+pub mod Held
+pub mod Laws
+pub mod Plans
+pub mod Reads

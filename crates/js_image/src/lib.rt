@@ -1,0 +1,16 @@
+//! What a widget has, read off the store: the state that its meaning speaks of, and each call of the
+//! store as the plan that it carries out.
+#![tactic(auto)]
+
+mod laws;
+mod making;
+mod outcome;
+mod paying;
+mod reading;
+mod writing;
+
+pub use making::{make, make_fault, make_scope, word};
+pub use outcome::{Fault, Made, Paid, Removed, StopCause, Written};
+pub use paying::{pay_slots, pay_text, pay_units};
+pub use reading::{get, variable};
+pub use writing::assign;

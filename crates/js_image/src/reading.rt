@@ -1,0 +1,154 @@
+//! What is read from the store.
+ghost use Rattle.std.specs.Prelude.{◌≡◌, ℕ, ◌<◌, ◌≤◌, List, Option, IfOk, IfSome, pos, length, option_copied, unwrap_or};
+ghost use Rattle.std.specs.Option.{option_map};
+ghost use Rattle.js_tree.specs.Forest.{Forest};
+ghost use Rattle.store_cells.specs.Cells.{prototypes};
+ghost use Rattle.store_cells.specs.Host.{text_prototype};
+ghost use Rattle.store_cells.specs.Shape.{IsRefWithin};
+ghost use Rattle.object_store.specs.Owned.{scope_number};
+ghost use Rattle.widget_meaning.specs.Properties as properties;
+ghost use Rattle.widget_meaning.specs.Scopes as scopes;
+ghost use Rattle.js_image.specs.Image.{Rest, image, seen};
+ghost use Rattle.js_image.specs.Held.{IsConfined, IsFine, IsPlaceScope};
+ghost use Rattle.js_image.specs.Reads.{is_body, reader, shown_global, stored_property, stored_read, stored_value, stored_variable};
+
+use crate::laws::lawful;
+use code_units::{Memory, Text, is_word};
+use object_store::{CellId, HostEntry, Number, Store, Value};
+
+/// A property of a value, own or along its prototypes; `undefined` where there is none.
+pub fn get(store: &Store, base: &Value, name: &Text) -> Result<Value, Memory>
+    requires { IsRefWithin (length store.now.cells) base.now }
+    ensures found { IfOk result (λ v. (fs : List Forest) (r : Rest) (w : ℕ)
+        → IsConfined fs w store.now → IsFine w store.now.cells base.now
+        → seen w store.now.cells v ≡ properties.get (image fs r w store.now) (seen w store.now.cells base.now) name.now) }
+    ensures fine { IfOk result (λ v. (fs : List Forest) (w : ℕ)
+        → IsConfined fs w store.now → IsFine w store.now.cells base.now → IsFine w store.now.cells v) }
+{
+    lawful(store);
+    read_of(store, base, name)
+}
+
+// The same by the cell from which the value is read.
+fn read_of(store: &Store, base: &Value, name: &Text) -> Result<Value, Memory>
+    requires { IsRefWithin (length store.now.cells) base.now }
+    ensures value { IfOk result (λ v. v ≡ stored_read store.now.cells base.now name.now) }
+    ensures few { IfSome (reader base.now) (λ i. prototypes store.now.cells i ≤ 100) }
+{
+    match base {
+        Value::Undefined => Ok(Value::Undefined),
+        Value::Null => Ok(Value::Undefined),
+        Value::Bool(_) => property_of(store, store.host(HostEntry::BooleanPrototype), name),
+        Value::Num(_) => property_of(store, store.host(HostEntry::NumberPrototype), name),
+        Value::Text(t) => property_of_text(store, t, name),
+        Value::Ref(cell) => property_of(store, *cell, name),
+    }
+}
+
+// A property of a text, which has a `length`.
+fn property_of_text(store: &Store, t: &Text, name: &Text) -> Result<Value, Memory>
+    ensures value { IfOk result (λ v. v ≡ stored_read store.now.cells (Value.Text t.now) name.now) }
+    ensures few { prototypes store.now.cells text_prototype ≤ 100 }
+{
+    let proto = store.host(HostEntry::TextPrototype);
+    if is_length(name) {
+        Ok(length_value(t))
+    } else {
+        property_of(store, proto, name)
+    }
+}
+
+// The first own property along the prototypes of a cell, of which there are at most 100.
+fn property_of(store: &Store, cell: CellId, name: &Text) -> Result<Value, Memory>
+    requires { cell < length store.now.cells }
+    ensures value { IfOk result (λ v. v ≡ stored_property store.now.cells cell name.now) }
+    ensures few { prototypes store.now.cells cell ≤ 100 }
+{
+    let _links = store.chain(cell);
+    shared(store.get(cell, name))
+}
+
+// A value for a second holder, or `undefined`.
+fn shared(found: Option<&Value>) -> Result<Value, Memory>
+    ensures { IfOk result (λ v. v ≡ unwrap_or (option_copied found.entry) Value.Undefined) }
+{
+    match found {
+        None => Ok(Value::Undefined),
+        Some(v) => v.share(),
+    }
+}
+
+fn is_length(name: &Text) -> bool
+    ensures { result ≡ properties.is_length name.now }
+{
+    is_word(name, b"length")
+}
+
+// The length of a text.
+fn length_value(t: &Text) -> Value
+    ensures { result ≡ Value.Num (Number.Whole (pos (length t.now))) }
+{
+    Value::Num(Number::Whole(t.units().len() as i64))
+}
+
+/// The value of a variable: of the innermost scope that has the name, or else of a listed global;
+/// `undefined` where neither has it.
+pub fn variable(store: &Store, scope: Option<CellId>, name: &Text) -> Result<Value, Memory>
+    requires { IfSome scope (λ i. i < length store.now.cells) }
+    ensures found { IfOk result (λ v. (fs : List Forest) (r : Rest) (w d : ℕ)
+        → IsConfined fs w store.now → IsPlaceScope w store.now.cells scope
+        → seen w store.now.cells v ≡ scopes.variable (image fs r w store.now)
+        (record { scope = option_map (scope_number w store.now.cells) scope; depth = d }) name.now) }
+    ensures fine { IfOk result (λ v. (fs : List Forest) (w : ℕ)
+        → IsConfined fs w store.now → IsPlaceScope w store.now.cells scope → IsFine w store.now.cells v) }
+{
+    lawful(store);
+    value_of(store, scope, name)
+}
+
+// The value of a variable, or else of a listed global.
+fn value_of(store: &Store, scope: Option<CellId>, name: &Text) -> Result<Value, Memory>
+    requires { IfSome scope (λ i. i < length store.now.cells) }
+    ensures { IfOk result (λ v. v ≡ stored_value store.now.cells scope name.now) }
+{
+    match in_scopes(store, scope, name) {
+        None => shown(store.get(store.global(), name)),
+        Some(value) => value.share(),
+    }
+}
+
+// The value of a variable of a scope or of those around it.
+fn in_scopes<'a>(store: &'a Store, scope: Option<CellId>, name: &Text) -> Option<&'a Value>
+    requires { IfSome scope (λ i. i < length store.now.cells) }
+    ensures { option_copied result ≡ stored_variable store.now.cells scope name.now }
+{
+    match scope {
+        None => None,
+        Some(from) => store.var_get(from, name),
+    }
+}
+
+// A global for a second holder; the cell of `body` is hidden.
+fn shown(found: Option<&Value>) -> Result<Value, Memory>
+    ensures { IfOk result (λ v. v ≡ shown_global (option_copied found.entry)) }
+{
+    match found {
+        None => Ok(Value::Undefined),
+        Some(v) => {
+            if is_body(v) {
+                Ok(Value::Undefined)
+            } else {
+                v.share()
+            }
+        }
+    }
+}
+
+fn is_body(v: &Value) -> bool
+    ensures { result ≡ is_body v.now }
+{
+    match v {
+        Value::Ref(i) => *i == 1,
+        _ => false,
+    }
+}
