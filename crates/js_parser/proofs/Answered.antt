@@ -12,15 +12,16 @@ use Rattle.js_grammar.specs.declared.Sign.TheVariants as sign
 use Rattle.js_grammar.specs.Grammar.{Token, Lexeme, IsProgram}
 use Rattle.js_grammar.specs.Machine.{Step, begin, step, finished, Wants, Done, InBlock}
 use Rattle.js_grammar.proofs.Laws.{read_means, tree_means, refused_means, deeper_means}
-use Rattle.js_parser.specs.declared.refusal.Refusal.{Refusal}
-use Rattle.js_parser.specs.declared.refusal.Refusal.TheVariants as refusal
+use Rattle.js_cursor.specs.declared.refusal.Refusal.{Refusal}
+use Rattle.js_cursor.specs.declared.refusal.Refusal.TheVariants as refusal
 use Rattle.js_parser.specs.declared.ParseFault.{ParseFault}
 use Rattle.js_parser.specs.declared.ParseFault.TheVariants as fault
-use Rattle.js_parser.specs.Reads.{from, goes, lexeme_at, Next, IsReady, Refuses}
-use Rattle.js_parser.specs.Walks.{ReadsStatements, ends_list}
+use Rattle.js_cursor.specs.Reads.{from, goes, lexeme_at, Next, Refuses}
+use Rattle.js_descent.specs.Rows.{IsReady}
+use Rattle.js_descent.specs.Walks.{ReadsStatements, ends_list}
 use Rattle.js_parser.specs.Parse.{IsRefusal, IsPlaced, IsSaid, Stops}
-use Rattle.js_parser.proofs.Reading.{take_one, refuse_one}
-use Rattle.js_parser.proofs.Steps.{next_once}
+use Rattle.js_cursor.proofs.Reading.{take_one, refuse_one}
+use Rattle.js_descent.proofs.Steps.{next_once}
 
 pub ready_first : (ts : List Token) (a : Forest) → 0 < length ts → length ts ≤ 2 ^ 31 → a ≡ no_trees → IsReady ts 0 0 a
 ready_first ts a some short none = record { in_text = some; shallow = omega arith; short = short; few = subst (λ f. size f ≤ 0) (sym none) (omega arith) }

@@ -1,17 +1,2 @@
-pub mod Input
 pub mod Tokens
-pub mod Reading
-pub mod Chain
-pub mod Names
-pub mod Lists
-pub mod Loops
-pub mod Steps
-pub mod Codes
-pub mod Keys
-pub mod Exprs
-pub mod ExprLists
-pub mod More
-pub mod Fors
-pub mod Cases
-pub mod Tries
 pub mod Answered

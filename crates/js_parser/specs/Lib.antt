@@ -1,5 +1,3 @@
-pub mod Signs
-pub mod Reads
-pub mod Forms
-pub mod Walks
+pub use Rattle.js_cursor.specs.Signs
+pub use Rattle.js_cursor.specs.Reads
 pub mod Parse

@@ -6,9 +6,9 @@ use Rattle.js_grammar.specs.Grammar.{Token, IsProgram}
 use Rattle.js_grammar.specs.Machine.{begin}
 use Rattle.js_parser.specs.declared.ParseFault.{ParseFault}
 use Rattle.js_parser.specs.declared.ParseFault.TheVariants as fault
-use Rattle.js_parser.specs.declared.refusal.Refusal.{Refusal}
-use Rattle.js_parser.specs.declared.refusal.Refusal.TheVariants as refusal
-use Rattle.js_parser.specs.Reads.{from, goes, lexeme_at}
+use Rattle.js_cursor.specs.declared.refusal.Refusal.{Refusal}
+use Rattle.js_cursor.specs.declared.refusal.Refusal.TheVariants as refusal
+use Rattle.js_cursor.specs.Reads.{from, goes, lexeme_at}
 
 -- Where the text is refused, and why: the fault gives the byte at which the refused token begins, or the length at the end of the text.
 abbrev pub IsRefusal : List Token → ParseFault → Type 0

@@ -1,17 +1,6 @@
 //! The parser: from the tokens of a text to its tree.
 #![tactic(auto)]
 
-mod branches;
-mod descent;
-mod expressions;
-mod for_loops;
-mod key;
-mod operators;
-mod refusal;
-mod script;
-mod signs;
-mod statements;
-mod switches;
 mod text;
 
 use code_units::Memory as OutOfMemory;

@@ -1,0 +1,12 @@
+pub mod Joins
+pub mod Chain
+pub mod Lists
+pub mod Loops
+pub mod Steps
+pub mod Codes
+pub mod Exprs
+pub mod ExprLists
+pub mod More
+pub mod Fors
+pub mod Cases
+pub mod Tries
