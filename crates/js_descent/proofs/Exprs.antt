@@ -24,7 +24,7 @@ use Rattle.js_descent.specs.Rows.{IsReady, Reads, ReadsExpr, ReadsFun}
 use Rattle.js_cursor.specs.Named.{IsHead, own_at}
 use Rattle.js_descent.specs.Forms.{ReadsOn, GoesOn, IsTail, IsOperand, ReadsOperand, ReadsOperandOf}
 use Rattle.js_descent.specs.Walks.{goes_by, ReadsItems}
-use Rattle.js_cursor.proofs.Reading.{take_one, take_to, refuse_one, deep_one, same_one}
+use Rattle.js_cursor.proofs.Reading.{take_one, take_to, refuse_one, deep_one, same_one, other_refused}
 use Rattle.js_descent.proofs.Joins.{keeps_same, keeps_then, refuses_before, reads_then, refuses_then, reads_in, ends_made}
 
 -- ## One token after a list, and other steps
