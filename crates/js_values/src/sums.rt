@@ -1,0 +1,79 @@
+//! `+` on primitives (ECMA-262 3rd edition, 11.6.1).
+ghost use Rattle.std.specs.Prelude.{◌≡◌, ◌+ℤ◌, ◌++◌, IfOk};
+ghost use Rattle.js_tree.specs.declared.nodes.BinOp.TheVariants as bin;
+ghost use Rattle.widget_meaning.specs.Operators as operators;
+ghost use Rattle.js_values.specs.Operands.{IsPlainOut, IsPrimitive, meant_out, plain};
+
+use crate::operands::{to_number, to_text};
+use crate::outcome::OpOut;
+use code_units::{Memory, Text, WholeRead};
+use object_store::{Number, Value};
+use std::alloc::Global;
+
+/// `+` on two primitives: the texts are joined where either is a text, else the numbers are added.
+/// Two whole numbers take no memory.
+pub fn plus(alloc: Global, a: &Value, b: &Value) -> Result<OpOut, Memory>
+    requires left { IsPrimitive a.now }
+    requires right { IsPrimitive b.now }
+    ensures value { IfOk result (λ o. meant_out o ≡ operators.binary bin.Add (plain a.now) (plain b.now)) }
+    ensures plain { IfOk result (λ o. IsPlainOut o) }
+{
+    if is_text(a) || is_text(b) {
+        let left = to_text(alloc, a)?;
+        let right = to_text(alloc, b)?;
+        return join(alloc, &left, &right);
+    }
+    match (to_number(a), to_number(b)) {
+        (WholeRead::Left, _) => Ok(OpOut::Left),
+        (_, WholeRead::Left) => Ok(OpOut::Left),
+        (WholeRead::Whole(x), WholeRead::Whole(y)) => Ok(sum(x, y)),
+        _ => Ok(OpOut::Is(Value::Num(Number::NaN))),
+    }
+}
+
+fn is_text(v: &Value) -> bool
+    requires { IsPrimitive v.now }
+    ensures { result ≡ operators.is_text (plain v.now) }
+{
+    match v {
+        Value::Text(_) => true,
+        _ => false,
+    }
+}
+
+// The sum of two numbers.
+fn sum(x: i64, y: i64) -> OpOut
+    ensures value { meant_out result ≡ operators.number (x +ℤ y) }
+    ensures plain { IsPlainOut result }
+{
+    match x.checked_add(y) {
+        Some(z) => {
+            if z.unsigned_abs() < LIMIT {
+                OpOut::Is(Value::Num(Number::Whole(z)))
+            } else {
+                OpOut::Left
+            }
+        }
+        None => OpOut::Left,
+    }
+}
+
+const LIMIT: u64 = 1 << 53;
+
+const LONGEST: usize = 65536;
+
+// Two texts joined.
+fn join(alloc: Global, a: &Text, b: &Text) -> Result<OpOut, Memory>
+    ensures value { IfOk result (λ o. meant_out o ≡ operators.text (a.now ++ b.now)) }
+    ensures plain { IfOk result (λ o. IsPlainOut o) }
+{
+    let left = a.units();
+    let right = b.units();
+    if left.len() > LONGEST || right.len() > LONGEST - left.len() {
+        return Ok(OpOut::LongText);
+    }
+    let mut units = Vec::with_capacity(alloc, left.len() + right.len())?;
+    units.extend_from_slice(left)?;
+    units.extend_from_slice(right)?;
+    Ok(OpOut::Is(Value::Text(Text::from_units(alloc, units)?)))
+}
