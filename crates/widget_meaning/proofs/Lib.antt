@@ -17,6 +17,7 @@ pub mod Rest
 pub mod ScopesHold
 pub mod Times
 pub mod NodesHold
+pub mod Ancestors
 pub mod TimersHold
 pub mod SumsHold
 pub mod RowsHold

@@ -9,7 +9,7 @@ use Rattle.widget_meaning.specs.Trees.{Trees, among, with_detached, detached, mo
 use Rattle.widget_meaning.specs.NodeLaws.{times, IsPage}
 
 -- ## Arithmetic
-none_of : (b : Bool) (a c : ℕ) → cond b 1 0 + (a + c) ≡ 0 → (b ≡ false) × ((a ≡ 0) × (c ≡ 0))
+pub none_of : (b : Bool) (a c : ℕ) → cond b 1 0 + (a + c) ≡ 0 → (b ≡ false) × ((a ≡ 0) × (c ≡ 0))
 none_of true a c h = absurd (no a c h)
   where
     no : (a c : ℕ) → 1 + (a + c) ≡ 0 → ⊥
@@ -23,10 +23,10 @@ none_of false a c h = (refl, (left a c h, right a c h))
     right a c e = omega arith
 
 -- of a sum of at most one
-abbrev Parts : ℕ → ℕ → Type 0
+abbrev pub Parts : ℕ → ℕ → Type 0
 Parts a c = (a ≤ 1) × ((c ≤ 1) × ((a ≡ 0) ⊎ (c ≡ 0)))
 
-parts_of : (b : Bool) (a c : ℕ) → cond b 1 0 + (a + c) ≤ 1 → Parts a c
+pub parts_of : (b : Bool) (a c : ℕ) → cond b 1 0 + (a + c) ≤ 1 → Parts a c
 parts_of b a c h = (left b a c h, (right b a c h, either b a c h))
   where
     left : (b : Bool) (a c : ℕ) → cond b 1 0 + (a + c) ≤ 1 → a ≤ 1
@@ -45,7 +45,7 @@ parts_of b a c h = (left b a c h, (right b a c h, either b a c h))
     either b zero c h = inl refl
     either b (suc a) c h = inr (rest b a c h)
 
-none_more : (a c : ℕ) → 1 + (a + c) ≤ 1 → (a ≡ 0) × (c ≡ 0)
+pub none_more : (a c : ℕ) → 1 + (a + c) ≤ 1 → (a ≡ 0) × (c ≡ 0)
 none_more a c h = (first a c h, second a c h)
   where
     first : (a c : ℕ) → 1 + (a + c) ≤ 1 → a ≡ 0
@@ -81,7 +81,7 @@ two_le a b c d h i = omega arith
 same_le : (n : ℕ) → n ≤ n
 same_le n = omega arith
 
-chain_le : (m n k : ℕ) → m ≤ n → n ≤ k → m ≤ k
+pub chain_le : (m n k : ℕ) → m ≤ n → n ≤ k → m ≤ k
 chain_le m n k h i = omega arith
 
 none_left : (m n : ℕ) → m ≤ n → n ≡ 0 → m ≡ 0

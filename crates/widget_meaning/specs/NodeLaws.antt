@@ -1,9 +1,12 @@
--- Nodes: each has a number of its own, below how many nodes the widget has had.
-use Rattle.std.specs.Prelude.{◌≡◌, ℕ, ◌+◌, ◌≤◌, List, length, nat_eq, if◌then◌else◌}
-use Rattle.plain_tree.specs.Trees.{End, Node}
+-- Nodes: each has a number of its own, below how many nodes the widget has had; and the way up from a node ends by itself
+-- where no tree is too high.
+use Rattle.std.specs.Prelude.{◌≡◌, ℕ, ◌+◌, ◌≤◌, List, length, nat_eq, if◌then◌else◌, Option}
+use Rattle.plain_tree.specs.Trees.{End, Node, height}
+use Rattle.widget_meaning.specs.Limits.{max_node_depth}
 use Rattle.widget_meaning.specs.Trees.{Trees}
 use Rattle.widget_meaning.specs.OwnState.{OwnState, State}
 use Rattle.widget_meaning.specs.Plan.{Job}
+use Rattle.widget_meaning.specs.Dispatch.{nearest_from, nearest}
 use Rattle.widget_meaning.specs.Meaning.{meaning}
 use Rattle.widget_meaning.specs.Items.{Item}
 use Rattle.widget_meaning.specs.Alone.{Content, alone, alone_from}
@@ -26,3 +29,10 @@ pub record NodeLaws : Type 0 where
       → IsPage (alone_from o is).forest (length (alone_from o is).kept)
   pub whole : (w : Content) (grant : ℕ) (is : List Item)
       → IsPage (alone w grant is).forest (length (alone w grant is).kept)
+
+-- where each number stands once and no tree is higher than the limit, a greater bound finds the same
+abbrev pub AncestorLaws : Type 0
+AncestorLaws =
+    (s : State) (o : Option ℕ) (kind : List ℕ) (k more : ℕ) → IsPage s.own.forest k
+    → height s.own.forest ≤ max_node_depth + 1
+    → nearest_from (max_node_depth + 1 + more) s o kind ≡ nearest s o kind

@@ -7,7 +7,7 @@ ghost use Rattle.widget_meaning.specs.PlanLaws.{PlanLaws, CostLaws};
 ghost use Rattle.widget_meaning.specs.Counts.{CountLaws};
 ghost use Rattle.widget_meaning.specs.Items.{Item};
 ghost use Rattle.widget_meaning.specs.Alone.{Content};
-ghost use Rattle.widget_meaning.specs.NodeLaws.{NodeLaws};
+ghost use Rattle.widget_meaning.specs.NodeLaws.{NodeLaws, AncestorLaws};
 ghost use Rattle.widget_meaning.specs.ScopeLaws.{ScopeLaws};
 ghost use Rattle.widget_meaning.specs.Sums.{SumLaws};
 ghost use Rattle.widget_meaning.specs.Laws.{FuelLaws, StopLaws, StoppedLaws, AloneLaws, TimerLaws};
@@ -51,6 +51,13 @@ pub fn scopes_end()
 #[tactic(auto, using(crate::proofs::NodesHold::node_laws))]
 pub fn nodes_have_numbers()
     ensures { NodeLaws }
+{}
+
+/// Where no tree of a widget's page is higher than the limit, the bound on the way up from a node is
+/// never met.
+#[tactic(auto, using(crate::proofs::Ancestors::ancestor_laws))]
+pub fn ancestors_end()
+    ensures { AncestorLaws }
 {}
 
 /// What a whole run comes to at most, by its items: turns, units spent, events that no turn took, and

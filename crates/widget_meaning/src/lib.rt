@@ -8,8 +8,8 @@ mod native_laws;
 mod rows;
 
 pub use laws::{
-    alone, compositional, counts, fuel, nodes_have_numbers, plans, scopes_end, stopped, stops,
-    sums, timers,
+    alone, ancestors_end, compositional, counts, fuel, nodes_have_numbers, plans, scopes_end,
+    stopped, stops, sums, timers,
 };
 pub use native_laws::{json, native_rows, queries, sort, split, styles};
 pub use rows::{body_rows, page_rows, rows_hold};
