@@ -1,21 +1,9 @@
-//! Checks the widgets of a page, or a library, by the rules of docs/, and writes a line on each.
+//! The program: the words of the command line, the machine's files and the standard output, handed
+//! to `run`.
 #![tactic(auto)]
 
-mod ending;
-mod laws;
-mod pages;
-mod reading;
-mod reports;
-mod request;
-mod running;
-#[cfg(test)]
-mod tests;
-mod writing;
-
-pub use ending::Status;
+use adhost_run::{Status, run};
 use host_io::{RealFiles, RealSink};
-pub use laws::one_answer;
-pub use running::run;
 use std::env;
 use std::io::ErrorKind;
 use std::process::ExitCode;

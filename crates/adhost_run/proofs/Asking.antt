@@ -1,0 +1,87 @@
+-- Words are of one form at most, and of none where no form fits.
+use Rattle.std.proofs.Common.{◌≡◌, ℕ, List, [], ◌∷◌, codes, Option, Some, None, Bool, true, false, refl, sym, ap, subst, ◌∙◌, if◌then◌else◌}
+use Rattle.std.specs.Str.{bytes_eq}
+use Rattle.std.proofs.lemmas.Slice.Eq.{bytes_eq-Decides}
+use Rattle.adhost_run.specs.Request.{Request, Check, CheckLib, Tidy, Render, Replay, Audit, CheckAudit, Demo, IsCount, slice_limit, demo_limit, Asks, check, check_lib, tidy, render, replay, audit, check_audit, demo, IsForm, is_built}
+use Rattle.adhost_run.proofs.Gathered.{some_is}
+
+-- a request without its number
+abbrev pub form_of : Request → Request
+form_of (Check manifest) = Check manifest
+form_of (CheckLib file) = CheckLib file
+form_of (Tidy file) = Tidy file
+form_of (Render manifest) = Render manifest
+form_of (Replay manifest trace slice) = Replay manifest trace 0
+form_of (Audit manifest trace slice) = Audit manifest trace 0
+form_of (CheckAudit file) = CheckAudit file
+form_of (Demo count) = Demo 0
+
+-- the request of words, without its number, by tests of the first
+abbrev form_in : List (List ℕ) → Option Request
+form_in (form ∷ one ∷ []) =
+    if bytes_eq form (codes "check") then Some (Check one)
+    else (if bytes_eq form (codes "check-lib") then Some (CheckLib one)
+    else (if bytes_eq form (codes "tidy") then Some (Tidy one)
+    else (if bytes_eq form (codes "render") then Some (Render one)
+    else (if bytes_eq form (codes "check-audit") then Some (CheckAudit one)
+    else (if bytes_eq form (codes "demo") then Some (Demo 0) else None)))))
+form_in (form ∷ manifest ∷ trace ∷ slice ∷ []) =
+    if bytes_eq form (codes "replay") then Some (Replay manifest trace 0)
+    else (if bytes_eq form (codes "audit") then Some (Audit manifest trace 0) else None)
+form_in _ = None
+
+asks_in : (words : List (List ℕ)) (request : Request) → Asks words request → form_in words ≡ Some (form_of request)
+asks_in words request check = refl
+asks_in words request check_lib = refl
+asks_in words request tidy = refl
+asks_in words request render = refl
+asks_in words request (replay count) = refl
+asks_in words request (audit count) = refl
+asks_in words request check_audit = refl
+asks_in words request (demo count) = refl
+
+-- words ask for one thing
+pub one_form : (words : List (List ℕ)) (r q : Request) → Asks words r → Asks words q → form_of r ≡ form_of q
+one_form words r q a b = some_is (form_of r) (form_of q) (sym (asks_in words r a) ∙ asks_in words q b)
+
+-- which is built, or is not, whatever its number
+pub form_built : (r : Request) → is_built (form_of r) ≡ is_built r
+form_built (Check manifest) = refl
+form_built (CheckLib file) = refl
+form_built (Tidy file) = refl
+form_built (Render manifest) = refl
+form_built (Replay manifest trace slice) = refl
+form_built (Audit manifest trace slice) = refl
+form_built (CheckAudit file) = refl
+form_built (Demo count) = refl
+
+same_word : (xs ys : List ℕ) → bytes_eq xs ys ≡ true → xs ≡ ys
+same_word xs ys = (bytes_eq-Decides xs ys).0
+
+-- two words of a form
+module _ (form one : List ℕ) where
+  pub asks_check : bytes_eq form (codes "check") ≡ true → Asks (form ∷ one ∷ []) (Check one)
+  asks_check is = subst (λ f. Asks (f ∷ one ∷ []) (Check one)) (sym (same_word form (codes "check") is)) check
+
+  pub asks_check_lib : bytes_eq form (codes "check-lib") ≡ true → Asks (form ∷ one ∷ []) (CheckLib one)
+  asks_check_lib is = subst (λ f. Asks (f ∷ one ∷ []) (CheckLib one)) (sym (same_word form (codes "check-lib") is)) check_lib
+
+  pub asks_tidy : bytes_eq form (codes "tidy") ≡ true → Asks (form ∷ one ∷ []) (Tidy one)
+  asks_tidy is = subst (λ f. Asks (f ∷ one ∷ []) (Tidy one)) (sym (same_word form (codes "tidy") is)) tidy
+
+  pub asks_render : bytes_eq form (codes "render") ≡ true → Asks (form ∷ one ∷ []) (Render one)
+  asks_render is = subst (λ f. Asks (f ∷ one ∷ []) (Render one)) (sym (same_word form (codes "render") is)) render
+
+  pub asks_check_audit : bytes_eq form (codes "check-audit") ≡ true → Asks (form ∷ one ∷ []) (CheckAudit one)
+  asks_check_audit is = subst (λ f. Asks (f ∷ one ∷ []) (CheckAudit one)) (sym (same_word form (codes "check-audit") is)) check_audit
+
+  pub asks_demo : (n : ℕ) → bytes_eq form (codes "demo") ≡ true → IsCount demo_limit one n → Asks (form ∷ one ∷ []) (Demo n)
+  asks_demo n is count = subst (λ f. Asks (f ∷ one ∷ []) (Demo n)) (sym (same_word form (codes "demo") is)) (demo count)
+
+-- four words of a form
+module _ (form manifest trace word : List ℕ) where
+  pub asks_replay : (n : ℕ) → bytes_eq form (codes "replay") ≡ true → IsCount slice_limit word n → Asks (form ∷ manifest ∷ trace ∷ word ∷ []) (Replay manifest trace n)
+  asks_replay n is count = subst (λ f. Asks (f ∷ manifest ∷ trace ∷ word ∷ []) (Replay manifest trace n)) (sym (same_word form (codes "replay") is)) (replay count)
+
+  pub asks_audit : (n : ℕ) → bytes_eq form (codes "audit") ≡ true → IsCount slice_limit word n → Asks (form ∷ manifest ∷ trace ∷ word ∷ []) (Audit manifest trace n)
+  asks_audit n is count = subst (λ f. Asks (f ∷ manifest ∷ trace ∷ word ∷ []) (Audit manifest trace n)) (sym (same_word form (codes "audit") is)) (audit count)

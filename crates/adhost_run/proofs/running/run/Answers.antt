@@ -1,0 +1,72 @@
+use Rattle.std.proofs.Common.{refl}
+use Rattle.adhost_run.specs.declared.ending.Status.TheVariants as status
+use Rattle.adhost_run.specs.Page.{texts}
+use Rattle.adhost_run.specs.Request.{request_of}
+use Rattle.adhost_run.specs.Answer.{ending, RequestAnswer, Answer}
+use Rattle.adhost_run.proofs.ReadsLemmas.{reads_nothing, reads_as}
+use Rattle.adhost_run.proofs.Reported.{pass_report, pass_stop}
+use Rattle.adhost_run.proofs.Ended.{asked_of, needs, usage_answer, usage_complete, usage_unbuilt, sink_stays, stop_answer, stop_write, stop_read, stop_is_usage, stop_is_unbuilt, stop_complete, no_silence, still_none, ok_answer, ok_complete, ok_part, ok_is_usage, ok_is_unbuilt, fits_one, sink_as}
+use Rattle.adhost_run.proofs.running.run.Goals as goal
+
+-- words of no form
+pub returns-in_default-clause-answer : goal.returns-in_default-clause-answer
+returns-in_default-clause-answer g c = λ is. usage_answer (g.F.Files.told c.args.files.now) (texts c.args.words.now) (g.S.Sink.held c.args.sink.now) c.in_default.ensures.none
+
+pub returns-in_default-clause-unbuilt : goal.returns-in_default-clause-unbuilt
+returns-in_default-clause-unbuilt g c = usage_unbuilt (texts c.args.words.now) c.in_default.ensures.none
+
+pub returns-in_default-clause-complete : goal.returns-in_default-clause-complete
+returns-in_default-clause-complete g c = usage_complete (g.F.Files.told c.args.files.now) (texts c.args.words.now) (g.F.Files.calm c.args.files.now) (g.S.Sink.takes c.args.sink.now) c.in_default.ensures.none
+
+pub returns-in_default-clause-reads : goal.returns-in_default-clause-reads
+returns-in_default-clause-reads g c = reads_nothing g.F.Files.told g.F.Files.calm g.F.Files.faults (λ e. (let f = e in cc))
+
+pub returns-in_default-clause-sink : goal.returns-in_default-clause-sink
+returns-in_default-clause-sink g c = sink_stays g.S.Sink.faults (λ e. (let f = e in cc))
+
+-- the report is written, or a part of it
+pub returns-in-Ok-clause-answer : goal.returns-in-Ok-clause-answer
+returns-in-Ok-clause-answer g c = ok_answer c.in-Ok.report.refused c.in-Ok.report.bytes.items (g.S.Sink.takes c.args.sink.now) (g.S.Sink.held c.args.sink.now) (g.S.Sink.held c.write_report.new.sink) (g.F.Files.told c.args.files.now) (texts c.args.words.now) c.write_report.result (pass_report (λ m. RequestAnswer m (request_of c.in-Some.request)) (λ m. Answer (texts c.args.words.now) m) (asked_of (texts c.args.words.now) (request_of c.in-Some.request) c.in-Some.ensures.some) (g.F.Files.told c.args.files.now) (ending c.in-Ok.report.refused) c.in-Ok.report.bytes.items c.in-Ok.ensures.answer) c.write_report.ensures.written
+
+pub returns-in-Ok-clause-usage : goal.returns-in-Ok-clause-usage
+returns-in-Ok-clause-usage g c = ok_is_usage c.in-Ok.report.refused c.in-Ok.report.bytes.items (g.S.Sink.takes c.args.sink.now) (g.S.Sink.held c.args.sink.now) (g.S.Sink.held c.write_report.new.sink) (texts c.args.words.now) (request_of c.in-Some.request) c.write_report.result c.in-Some.ensures.some c.write_report.ensures.written
+
+pub returns-in-Ok-clause-unbuilt : goal.returns-in-Ok-clause-unbuilt
+returns-in-Ok-clause-unbuilt g c = ok_is_unbuilt c.in-Ok.report.refused c.in-Ok.report.bytes.items (g.S.Sink.takes c.args.sink.now) (g.S.Sink.held c.args.sink.now) (g.S.Sink.held c.write_report.new.sink) (texts c.args.words.now) (request_of c.in-Some.request) c.write_report.result c.in-Ok.report c.in-Some.ensures.some c.write_report.ensures.written c.in-Ok.ensures.not_built
+
+pub returns-in-Ok-clause-complete : goal.returns-in-Ok-clause-complete
+returns-in-Ok-clause-complete g c = ok_complete c.in-Ok.report.refused c.in-Ok.report.bytes.items (g.S.Sink.takes c.args.sink.now) (g.S.Sink.held c.args.sink.now) (g.S.Sink.held c.write_report.new.sink) (g.F.Files.told c.args.files.now) (texts c.args.words.now) c.write_report.result (g.F.Files.calm c.args.files.now) (pass_report (λ m. RequestAnswer m (request_of c.in-Some.request)) (λ m. Answer (texts c.args.words.now) m) (asked_of (texts c.args.words.now) (request_of c.in-Some.request) c.in-Some.ensures.some) (g.F.Files.told c.args.files.now) (ending c.in-Ok.report.refused) c.in-Ok.report.bytes.items c.in-Ok.ensures.answer) c.write_report.ensures.written
+
+pub returns-in-Ok-clause-reads : goal.returns-in-Ok-clause-reads
+returns-in-Ok-clause-reads g c = reads_as g.F.Files.told g.F.Files.calm g.F.Files.faults c.in-Ok.ensures.reads (λ failed. absurd (no_silence c.in-Ok.report.refused c.in-Ok.report.bytes.items (g.S.Sink.takes c.args.sink.now) (g.S.Sink.held c.args.sink.now) (g.S.Sink.held c.write_report.new.sink) c.write_report.result status.ReadFault c.write_report.ensures.written refl failed)) (needs (g.F.Files.told c.args.files.now) (texts c.args.words.now) (request_of c.in-Some.request) c.in-Some.ensures.some)
+
+pub returns-in-Ok-clause-sink : goal.returns-in-Ok-clause-sink
+returns-in-Ok-clause-sink g c = sink_as g.S.Sink.faults c.write_report.ensures.sink (fits_one (g.F.Files.told c.args.files.now) (texts c.args.words.now) (ending c.in-Ok.report.refused) c.in-Ok.report.bytes.items (g.S.Sink.takes c.args.sink.now) (pass_report (λ m. RequestAnswer m (request_of c.in-Some.request)) (λ m. Answer (texts c.args.words.now) m) (asked_of (texts c.args.words.now) (request_of c.in-Some.request) c.in-Some.ensures.some) (g.F.Files.told c.args.files.now) (ending c.in-Ok.report.refused) c.in-Ok.report.bytes.items c.in-Ok.ensures.answer))
+
+pub returns-in-Ok-clause-part : goal.returns-in-Ok-clause-part
+returns-in-Ok-clause-part g c = ok_part c.in-Ok.report.refused c.in-Ok.report.bytes.items (g.S.Sink.takes c.args.sink.now) (g.S.Sink.held c.args.sink.now) (g.S.Sink.held c.write_report.new.sink) (g.F.Files.told c.args.files.now) (texts c.args.words.now) c.write_report.result (pass_report (λ m. RequestAnswer m (request_of c.in-Some.request)) (λ m. Answer (texts c.args.words.now) m) (asked_of (texts c.args.words.now) (request_of c.in-Some.request) c.in-Some.ensures.some) (g.F.Files.told c.args.files.now) (ending c.in-Ok.report.refused) c.in-Ok.report.bytes.items c.in-Ok.ensures.answer) c.write_report.ensures.written
+
+pub returns-in-Ok-clause-still : goal.returns-in-Ok-clause-still
+returns-in-Ok-clause-still g c = λ silent. still_none c.in-Ok.report.refused c.in-Ok.report.bytes.items (g.S.Sink.takes c.args.sink.now) (g.S.Sink.held c.args.sink.now) (g.S.Sink.held c.write_report.new.sink) c.write_report.result c.write_report.ensures.written silent
+
+-- there is none
+pub returns-in-Err-clause-answer : goal.returns-in-Err-clause-answer
+returns-in-Err-clause-answer g c = rw c.status_of.ensures (stop_answer (g.F.Files.told c.args.files.now) (texts c.args.words.now) c.in-Err.stop (g.S.Sink.held c.args.sink.now) (pass_stop (λ m. RequestAnswer m (request_of c.in-Some.request)) (λ m. Answer (texts c.args.words.now) m) (asked_of (texts c.args.words.now) (request_of c.in-Some.request) c.in-Some.ensures.some) (g.F.Files.told c.args.files.now) c.in-Err.stop c.in-Err.ensures.stop))
+
+pub returns-in-Err-clause-usage : goal.returns-in-Err-clause-usage
+returns-in-Err-clause-usage g c = rw c.status_of.ensures (stop_is_usage (texts c.args.words.now) (request_of c.in-Some.request) c.in-Err.stop c.in-Some.ensures.some)
+
+pub returns-in-Err-clause-unbuilt : goal.returns-in-Err-clause-unbuilt
+returns-in-Err-clause-unbuilt g c = rw c.status_of.ensures (stop_is_unbuilt (texts c.args.words.now) (request_of c.in-Some.request) c.in-Err.stop c.in-Some.ensures.some c.in-Err.ensures.unbuilt c.in-Err.ensures.not_built)
+
+pub returns-in-Err-clause-complete : goal.returns-in-Err-clause-complete
+returns-in-Err-clause-complete g c = rw c.status_of.ensures (stop_complete (g.F.Files.told c.args.files.now) (texts c.args.words.now) c.in-Err.stop (g.F.Files.calm c.args.files.now) (g.S.Sink.takes c.args.sink.now) (pass_stop (λ m. RequestAnswer m (request_of c.in-Some.request)) (λ m. Answer (texts c.args.words.now) m) (asked_of (texts c.args.words.now) (request_of c.in-Some.request) c.in-Some.ensures.some) (g.F.Files.told c.args.files.now) c.in-Err.stop c.in-Err.ensures.stop) (λ is has failed. c.in-Err.ensures.reads.no_fault is (needs (g.F.Files.told c.args.files.now) (texts c.args.words.now) (request_of c.in-Some.request) c.in-Some.ensures.some has) (stop_read c.in-Err.stop failed)))
+
+pub returns-in-Err-clause-reads : goal.returns-in-Err-clause-reads
+returns-in-Err-clause-reads g c = rw c.status_of.ensures (reads_as g.F.Files.told g.F.Files.calm g.F.Files.faults c.in-Err.ensures.reads (stop_read c.in-Err.stop) (needs (g.F.Files.told c.args.files.now) (texts c.args.words.now) (request_of c.in-Some.request) c.in-Some.ensures.some))
+
+pub returns-in-Err-clause-sink : goal.returns-in-Err-clause-sink
+returns-in-Err-clause-sink g c = rw c.status_of.ensures (sink_stays g.S.Sink.faults (stop_write c.in-Err.stop))
+
+pub returns-in-Err-clause-part : goal.returns-in-Err-clause-part
+returns-in-Err-clause-part g c = rw c.status_of.ensures (λ is. absurd (stop_write c.in-Err.stop is))

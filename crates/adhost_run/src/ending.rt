@@ -1,0 +1,45 @@
+//! How a run ends.
+ghost use Rattle.std.specs.Prelude.{◌≡◌};
+ghost use Rattle.adhost_run.specs.Ends.{number_of};
+
+/// The status of a run.
+#[derive(Clone, Copy, Debug, PartialEq, Eq)]
+pub enum Status {
+    /// The report is written, and no slot or library of it breaks a rule.
+    Ok,
+    /// The report is written, and a slot or the library breaks a rule.
+    Refused,
+    /// The words are no form of the command line.
+    Usage,
+    /// The bytes of the manifest are none.
+    BadManifest,
+    /// A file has more bytes than its limit.
+    TooLarge,
+    /// A file could not be read.
+    ReadFault,
+    /// The report could not be written whole.
+    WriteFault,
+    /// There was no memory, before anything was written.
+    Memory,
+    /// The words are of a form that is not built yet.
+    Unbuilt,
+}
+
+impl Status {
+    /// The exit status of the program.
+    pub fn number(&self) -> u8
+        ensures { result ≡ number_of self.now }
+    {
+        match self {
+            Status::Ok => 0,
+            Status::Refused => 1,
+            Status::Usage => 2,
+            Status::BadManifest => 3,
+            Status::TooLarge => 5,
+            Status::ReadFault => 6,
+            Status::WriteFault => 7,
+            Status::Memory => 8,
+            Status::Unbuilt => 9,
+        }
+    }
+}
