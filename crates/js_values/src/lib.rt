@@ -10,4 +10,4 @@ pub use js_image::{Fault, StopCause};
 pub use meter::{Meter, OutOfFuel};
 pub use operands::{is_true, to_number, to_text};
 pub use outcome::{Keep, NativeOut, OpOut, Plan};
-pub use sums::plus;
+pub use sums::{minus, plus, times};

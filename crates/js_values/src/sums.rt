@@ -1,5 +1,5 @@
-//! `+` on primitives (ECMA-262 3rd edition, 11.6.1).
-ghost use Rattle.std.specs.Prelude.{◌≡◌, ◌+ℤ◌, ◌++◌, IfOk};
+//! `+`, `-` and `*` on primitives (ECMA-262 3rd edition, 11.5.1 and 11.6).
+ghost use Rattle.std.specs.Prelude.{◌≡◌, ◌+ℤ◌, ◌-ℤ◌, ◌*ℤ◌, ◌++◌, IfOk};
 ghost use Rattle.js_tree.specs.declared.nodes.BinOp.TheVariants as bin;
 ghost use Rattle.widget_meaning.specs.Operators as operators;
 ghost use Rattle.js_values.specs.Operands.{IsPlainOut, IsPrimitive, meant_out, plain};
@@ -31,6 +31,36 @@ pub fn plus(alloc: Global, a: &Value, b: &Value) -> Result<OpOut, Memory>
     }
 }
 
+/// `-` on two primitives. It takes no memory.
+pub fn minus(a: &Value, b: &Value) -> OpOut
+    requires left { IsPrimitive a.now }
+    requires right { IsPrimitive b.now }
+    ensures value { meant_out result ≡ operators.binary bin.Sub (plain a.now) (plain b.now) }
+    ensures plain { IsPlainOut result }
+{
+    match (to_number(a), to_number(b)) {
+        (WholeRead::Left, _) => OpOut::Left,
+        (_, WholeRead::Left) => OpOut::Left,
+        (WholeRead::Whole(x), WholeRead::Whole(y)) => difference(x, y),
+        _ => OpOut::Is(Value::Num(Number::NaN)),
+    }
+}
+
+/// `*` on two primitives. It takes no memory.
+pub fn times(a: &Value, b: &Value) -> OpOut
+    requires left { IsPrimitive a.now }
+    requires right { IsPrimitive b.now }
+    ensures value { meant_out result ≡ operators.binary bin.Mul (plain a.now) (plain b.now) }
+    ensures plain { IsPlainOut result }
+{
+    match (to_number(a), to_number(b)) {
+        (WholeRead::Left, _) => OpOut::Left,
+        (_, WholeRead::Left) => OpOut::Left,
+        (WholeRead::Whole(x), WholeRead::Whole(y)) => product(x, y),
+        _ => OpOut::Is(Value::Num(Number::NaN)),
+    }
+}
+
 fn is_text(v: &Value) -> bool
     requires { IsPrimitive v.now }
     ensures { result ≡ operators.is_text (plain v.now) }
@@ -47,6 +77,40 @@ fn sum(x: i64, y: i64) -> OpOut
     ensures plain { IsPlainOut result }
 {
     match x.checked_add(y) {
+        Some(z) => {
+            if z.unsigned_abs() < LIMIT {
+                OpOut::Is(Value::Num(Number::Whole(z)))
+            } else {
+                OpOut::Left
+            }
+        }
+        None => OpOut::Left,
+    }
+}
+
+// The difference of two numbers.
+fn difference(x: i64, y: i64) -> OpOut
+    ensures value { meant_out result ≡ operators.number (x -ℤ y) }
+    ensures plain { IsPlainOut result }
+{
+    match x.checked_sub(y) {
+        Some(z) => {
+            if z.unsigned_abs() < LIMIT {
+                OpOut::Is(Value::Num(Number::Whole(z)))
+            } else {
+                OpOut::Left
+            }
+        }
+        None => OpOut::Left,
+    }
+}
+
+// The product of two numbers.
+fn product(x: i64, y: i64) -> OpOut
+    ensures value { meant_out result ≡ operators.number (x *ℤ y) }
+    ensures plain { IsPlainOut result }
+{
+    match x.checked_mul(y) {
         Some(z) => {
             if z.unsigned_abs() < LIMIT {
                 OpOut::Is(Value::Num(Number::Whole(z)))
