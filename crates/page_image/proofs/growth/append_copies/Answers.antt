@@ -1,0 +1,28 @@
+use Rattle.std.proofs.Common.{◌≡◌, None, map, ap, ◌∙◌}
+use Rattle.std.specs.List.{fold}
+use Rattle.tree_ops.specs.Trees.{grafted}
+use Rattle.widget_meaning.specs.Trees.{moved}
+use Rattle.page_image.specs.Copies.{copies_of}
+use Rattle.page_image.specs.Image.{number, forest}
+use Rattle.page_image.proofs.Copies.{still_root, copies_put}
+use Rattle.page_image.proofs.Looks.{root_owned}
+use Rattle.page_image.proofs.Pages.{owner_is, below_32}
+use Rattle.page_image.proofs.Results.{ok_then}
+use Rattle.page_image.proofs.growth.append_copies.Goals as goal
+
+pub append-requires-clause-home : goal.append-requires-clause-home
+append-requires-clause-home c =
+    let old = c.args.page.now in
+    let w = c.args.widget in
+    let g = c.in_ok-ids.ensures.copied.grown in
+    still_root old c.copy_all.new.page w (g.0) (below_32 old w c.args.target c.requires.target) (g.2) c.requires.home (root_owned old w c.requires.home (owner_is old w c.args.target c.requires.target))
+
+pub returns-clause-image : goal.returns-clause-image
+returns-clause-image c =
+    let old = c.args.page.now in
+    let mid = c.copy_all.new.page in
+    let new = c.append.new.page in
+    let w = c.args.widget in
+    let t = c.args.target in
+    ok_then c.append.result (forest new w ≡ fold (moved (number mid w t) None) (forest mid w) (map (number mid w) c.deref.result.now)) (forest new w ≡ grafted (number old w t) None (copies_of old w c.args.nodes.now) (forest old w))
+    (λ e. copies_put old mid new w t c.args.nodes.now c.in_ok-ids.ids.items c.in_ok-ids.ensures.copied c.requires.target (e ∙ ap (λ l. fold (moved (number mid w t) None) (forest mid w) (map (number mid w) l)) c.deref.ensures.value)) c.append.ensures.image

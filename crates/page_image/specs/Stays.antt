@@ -1,0 +1,29 @@
+-- What stays where a page changes.
+use Rattle.std.specs.Prelude.{◌≡◌, ◌≢◌, ℕ, ◌<◌, List, ◌++◌, length, true, false}
+use Rattle.page_tree.specs.declared.page.Page.{Page}
+use Rattle.query_grammar.specs.Finds.{has_number}
+use Rattle.page_image.specs.Image.{owns, number, own, root_of, forest}
+
+-- No node comes and none goes: all have their owners and own numbers, and the roots stay.
+pub record KeepsNodes (old new : Page) : Type 0 where
+  pub owners : (v n : ℕ) → owns new v n ≡ owns old v n
+  pub numbers : (v n : ℕ) → number new v n ≡ number old v n
+  pub nodes : (v : ℕ) → own new v ≡ own old v
+  pub roots : (v : ℕ) → v < 32 → root_of new v ≡ root_of old v
+
+-- A widget gets nodes that were nobody's: they stand behind its others. All older nodes keep their owners and own numbers, and the roots stay.
+pub record Grows (old new : Page) (w : ℕ) (news : List ℕ) : Type 0 where
+  pub owners : (v n : ℕ) → owns old v n ≡ true → owns new v n ≡ true
+  pub numbers : (v n : ℕ) → owns old v n ≡ true → number new v n ≡ number old v n
+  pub nodes : own new w ≡ own old w ++ news
+  pub others : (v : ℕ) → v ≢ w → own new v ≡ own old v
+  pub fresh : (v n : ℕ) → has_number news n ≡ true → owns old v n ≡ false
+  pub roots : (v : ℕ) → v < 32 → root_of new v ≡ root_of old v
+
+-- the trees of all other widgets stay
+abbrev pub OthersStay : Page → Page → ℕ → Type 0
+OthersStay old new w = (v : ℕ) → v < 32 → v ≢ w → forest new v ≡ forest old v
+
+-- so many nodes come
+abbrev pub GrowsBy : Page → Page → ℕ → ℕ → Type 0
+GrowsBy old new w n = (news : List ℕ) × (length news ≡ n) × Grows old new w news
