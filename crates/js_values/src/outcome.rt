@@ -15,6 +15,19 @@ pub enum OpOut {
     LongText,
 }
 
+/// How two primitives stand to each other.
+#[derive(Clone, Copy, PartialEq, Eq, Debug, Drop)]
+pub enum Compared {
+    /// The left is before the right.
+    Less,
+    /// Neither is before the other.
+    Same,
+    /// The right is before the left.
+    More,
+    /// One of them is NaN.
+    Unordered,
+}
+
 /// What a native gives.
 #[derive(Drop)]
 pub enum NativeOut {

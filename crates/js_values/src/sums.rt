@@ -1,10 +1,11 @@
 //! `+`, `-` and `*` on primitives (ECMA-262 3rd edition, 11.5.1 and 11.6).
-ghost use Rattle.std.specs.Prelude.{◌≡◌, ◌+ℤ◌, ◌-ℤ◌, ◌*ℤ◌, ◌++◌, IfOk};
+ghost use Rattle.std.specs.Prelude.{◌≡◌, ◌+ℤ◌, ◌-ℤ◌, ◌*ℤ◌, ◌++◌, ◌≤◌, IfOk, length};
 ghost use Rattle.js_tree.specs.declared.nodes.BinOp.TheVariants as bin;
 ghost use Rattle.widget_meaning.specs.Operators as operators;
+ghost use Rattle.widget_meaning.specs.Values as meaning;
 ghost use Rattle.js_values.specs.Operands.{IsPlainOut, IsPrimitive, meant_out, plain};
 
-use crate::operands::{to_number, to_text};
+use crate::operands::{number_of, push_text};
 use crate::outcome::OpOut;
 use code_units::{Memory, Text, WholeRead};
 use object_store::{Number, Value};
@@ -12,18 +13,16 @@ use std::alloc::Global;
 
 /// `+` on two primitives: the texts are joined where either is a text, else the numbers are added.
 /// Two whole numbers take no memory.
-pub fn plus(alloc: Global, a: &Value, b: &Value) -> Result<OpOut, Memory>
+pub(crate) fn plus(alloc: Global, a: &Value, b: &Value) -> Result<OpOut, Memory>
     requires left { IsPrimitive a.now }
     requires right { IsPrimitive b.now }
     ensures value { IfOk result (λ o. meant_out o ≡ operators.binary bin.Add (plain a.now) (plain b.now)) }
     ensures plain { IfOk result (λ o. IsPlainOut o) }
 {
     if is_text(a) || is_text(b) {
-        let left = to_text(alloc, a)?;
-        let right = to_text(alloc, b)?;
-        return join(alloc, &left, &right);
+        return join(alloc, a, b);
     }
-    match (to_number(a), to_number(b)) {
+    match (number_of(a), number_of(b)) {
         (WholeRead::Left, _) => Ok(OpOut::Left),
         (_, WholeRead::Left) => Ok(OpOut::Left),
         (WholeRead::Whole(x), WholeRead::Whole(y)) => Ok(sum(x, y)),
@@ -32,13 +31,13 @@ pub fn plus(alloc: Global, a: &Value, b: &Value) -> Result<OpOut, Memory>
 }
 
 /// `-` on two primitives. It takes no memory.
-pub fn minus(a: &Value, b: &Value) -> OpOut
+pub(crate) fn minus(a: &Value, b: &Value) -> OpOut
     requires left { IsPrimitive a.now }
     requires right { IsPrimitive b.now }
     ensures value { meant_out result ≡ operators.binary bin.Sub (plain a.now) (plain b.now) }
     ensures plain { IsPlainOut result }
 {
-    match (to_number(a), to_number(b)) {
+    match (number_of(a), number_of(b)) {
         (WholeRead::Left, _) => OpOut::Left,
         (_, WholeRead::Left) => OpOut::Left,
         (WholeRead::Whole(x), WholeRead::Whole(y)) => difference(x, y),
@@ -47,13 +46,13 @@ pub fn minus(a: &Value, b: &Value) -> OpOut
 }
 
 /// `*` on two primitives. It takes no memory.
-pub fn times(a: &Value, b: &Value) -> OpOut
+pub(crate) fn times(a: &Value, b: &Value) -> OpOut
     requires left { IsPrimitive a.now }
     requires right { IsPrimitive b.now }
     ensures value { meant_out result ≡ operators.binary bin.Mul (plain a.now) (plain b.now) }
     ensures plain { IsPlainOut result }
 {
-    match (to_number(a), to_number(b)) {
+    match (number_of(a), number_of(b)) {
         (WholeRead::Left, _) => OpOut::Left,
         (_, WholeRead::Left) => OpOut::Left,
         (WholeRead::Whole(x), WholeRead::Whole(y)) => product(x, y),
@@ -126,18 +125,37 @@ const LIMIT: u64 = 1 << 53;
 
 const LONGEST: usize = 65536;
 
-// Two texts joined.
-fn join(alloc: Global, a: &Text, b: &Text) -> Result<OpOut, Memory>
-    ensures value { IfOk result (λ o. meant_out o ≡ operators.text (a.now ++ b.now)) }
+// The texts of two primitives, joined.
+fn join(alloc: Global, a: &Value, b: &Value) -> Result<OpOut, Memory>
+    requires left { IsPrimitive a.now }
+    requires right { IsPrimitive b.now }
+    ensures value { IfOk result (λ o. meant_out o ≡ operators.text (meaning.to_text (plain a.now) ++ meaning.to_text (plain b.now))) }
     ensures plain { IfOk result (λ o. IsPlainOut o) }
 {
-    let left = a.units();
-    let right = b.units();
-    if left.len() > LONGEST || right.len() > LONGEST - left.len() {
+    let left = least_len(a);
+    let right = least_len(b);
+    if left > LONGEST || right > LONGEST - left {
         return Ok(OpOut::LongText);
     }
-    let mut units = Vec::with_capacity(alloc, left.len() + right.len())?;
-    units.extend_from_slice(left)?;
-    units.extend_from_slice(right)?;
+    let mut units = Vec::with_capacity(alloc, left + right + SPARE)?;
+    push_text(&mut units, a)?;
+    push_text(&mut units, b)?;
+    if units.len() > LONGEST {
+        return Ok(OpOut::LongText);
+    }
     Ok(OpOut::Is(Value::Text(Text::from_units(alloc, units)?)))
 }
+
+// How many units the text of a primitive has: of a text exactly, of another at least.
+fn least_len(v: &Value) -> usize
+    requires { IsPrimitive v.now }
+    ensures { result ≤ length (meaning.to_text (plain v.now)) }
+{
+    match v {
+        Value::Text(t) => t.units().len(),
+        _ => 0,
+    }
+}
+
+// Room for the text of a primitive that is no text.
+const SPARE: usize = 20;
