@@ -57,7 +57,7 @@ looked w cells ps x = lookup-map_values meant (bytes_eq x) (own_pairs w cells ps
     by (Some v) = refl
 
 -- the same among pairs without `length`, for another name
-looked_apart : (ps : List (List ℕ × Value)) (x : List ℕ) → bytes_eq x length_name ≡ false → value_of (filter (λ p. not (bytes_eq p.0 length_name)) ps) x ≡ value_of ps x
+pub looked_apart : (ps : List (List ℕ × Value)) (x : List ℕ) → bytes_eq x length_name ≡ false → value_of (filter (λ p. not (bytes_eq p.0 length_name)) ps) x ≡ value_of ps x
 looked_apart ps x differs = lookup-filter-keys (bytes_eq x) (λ k. not (bytes_eq k length_name)) true (λ k e. ap not (ap (λ y. bytes_eq y length_name) (sym ((bytes_eq-Decides x k).0 e)) ∙ differs)) ps
 
 -- a visible cell stands at its number
@@ -169,7 +169,7 @@ frozen_is form.Global h = absurd (false_true h)
 
 -- what a cell of the table leads to
 module _ (c : PlainCell) (h : leads_on c ≡ true) where
-  leads_form : is_frozen_form c.form ≡ true
+  pub leads_form : is_frozen_form c.form ≡ true
   leads_form = (both (is_frozen_form c.form) _ (both (is_host_owner c.owner) _ h).1).0
 
   leads_up : option_map_or is_permitted_cell c.up true ≡ true

@@ -1,4 +1,8 @@
 pub mod Pays
+pub mod Puts
+pub mod Removes
+pub mod Listed
+pub mod Units
 pub mod Grown
 pub mod Hosts
 pub mod Makes

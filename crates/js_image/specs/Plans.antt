@@ -67,6 +67,15 @@ IsStopOf (fault.Slots k) c = c ≡ cause.Slots
 IsStopOf (fault.Units k) c = c ≡ cause.Units
 IsStopOf _ c = ⊥
 
+-- what a refused write gives
+abbrev pub IsRefusalOf : StoreFault → Written → Type 0
+IsRefusalOf fault.Closed p = p ≡ written.Throw e.E5
+IsRefusalOf fault.BadLength p = p ≡ written.Throw e.E7
+IsRefusalOf (fault.Cells k) p = p ≡ written.Stop cause.Cells
+IsRefusalOf (fault.Slots k) p = p ≡ written.Stop cause.Slots
+IsRefusalOf (fault.Units k) p = p ≡ written.Stop cause.Units
+IsRefusalOf fault.Memory p = ⊥
+
 -- what is done once a cost is paid, or else the stop
 abbrev pub paid_plan : Paid → (State → Plan) → State → Plan
 paid_plan paid.Done k s = k s

@@ -9,6 +9,11 @@ use Rattle.store_cells.specs.Host.{body, boolean_prototype, global, number_proto
 use Rattle.object_store.specs.Calls.{readable}
 use Rattle.widget_meaning.specs.Properties.{is_length}
 
+-- the cell to which a value refers
+abbrev pub cell_in : Value → Option ℕ
+cell_in (value.Ref i) = Some i
+cell_in _ = None
+
 -- whether a value is the cell of `body`
 abbrev pub is_body : Value → Bool
 is_body (value.Ref i) = nat_eq i body

@@ -9,8 +9,8 @@ mod paying;
 mod reading;
 mod writing;
 
-pub use making::{make, make_fault, make_scope, word};
+pub use making::{make, make_array, make_fault, make_scope, word};
 pub use outcome::{Fault, Made, Paid, Removed, StopCause, Written};
 pub use paying::{pay_slots, pay_text, pay_units};
-pub use reading::{get, variable};
-pub use writing::assign;
+pub use reading::{get, keys, keys_len, variable};
+pub use writing::{assign, put, remove};

@@ -8,14 +8,16 @@ ghost use Rattle.widget_meaning.specs.Values.{Value as Meant};
 ghost use Rattle.widget_meaning.specs.OwnState.{State, plain_object, with_new_scope};
 ghost use Rattle.widget_meaning.specs.Plan.{Plan};
 ghost use Rattle.widget_meaning.specs.Costs as costs;
-ghost use Rattle.js_image.specs.Image.{Rest, image};
-ghost use Rattle.js_image.specs.Held.{ArePairs, IsPlaceScope, Kept};
+ghost use Rattle.widget_meaning.specs.NativeForms as natives;
+ghost use Rattle.js_image.specs.Image.{Rest, all_seen, image};
+ghost use Rattle.js_image.specs.Held.{AreFine, ArePairs, IsPlaceScope, Kept};
 ghost use Rattle.js_image.specs.Plans.{IsFineMade, IsNew, IsNewOf, IsScopeMade, IsStopOf, fault_values, made_plan, meant_fault, meant_new, scope_of, scope_plan};
 
 use crate::laws::lawful;
-use crate::outcome::{Fault, Made, StopCause};
+use crate::outcome::{Fault, Made, Paid, StopCause};
+use crate::paying::pay_units;
 use code_units::{Memory, Owner, Text};
-use object_store::{CellId, HostEntry, NewCell, Store, StoreFault, Value};
+use object_store::{CellId, HostEntry, NewCell, Store, StoreFault, UNIT_LIMIT, Value};
 use std::alloc::Global;
 
 /// Makes an Object, an Array, a Function or a Bunch, with its first pairs or elements: the plan that
@@ -35,6 +37,51 @@ pub fn make(alloc: Global, store: &mut Store, w: u32, cell: NewCell) -> Result<M
     match store.make(alloc, Owner::Widget(w), cell) {
         Ok(id) => Ok(Made::Cell(id)),
         Err(fault) => Ok(Made::Stop(stop_of(fault)?)),
+    }
+}
+
+/// Makes an Array of these elements, and pays for so many units of texts that are made for it: the
+/// plan that pays for all at once.
+pub fn make_array(
+    alloc: Global,
+    store: &mut Store,
+    w: u32,
+    values: Vec<Value>,
+    units: u32,
+) -> Result<Made, Memory>
+    requires widget { w < 32 }
+    requires held { AreFine w store.old.cells values.items }
+    ensures plan { IfOk result (λ m. (fs : List Forest) (r : Rest) (k : Meant → State → Plan)
+        → natives.make_array (all_seen w store.old.cells values.items) units (image fs r w store.old) k
+        ≡ made_plan w store.new.cells m k (image fs r w store.new)) }
+    ensures fine { IfOk result (λ m. IsFineMade w store.new.cells m) }
+    ensures kept { (fs : List Forest) → Kept fs w store.old store.new }
+{
+    // Units come first in the order of stops, and what is left of the cost is made and then paid.
+    let paid = store.counts(Owner::Widget(w));
+    if units > UNIT_LIMIT - paid.units {
+        return Ok(Made::Stop(StopCause::Units));
+    }
+    let made = make(alloc, store, w, NewCell::ArrayWith(values))?;
+    Ok(with_units(store, w, made, units))
+}
+
+// What was made, once units are paid for it.
+fn with_units(store: &mut Store, w: u32, made: Made, units: u32) -> Made
+    requires widget { w < 32 }
+    requires made { IsFineMade w store.old.cells made }
+    ensures plan { (fs : List Forest) (r : Rest) (k : Meant → State → Plan)
+        → made_plan w store.old.cells made (λ v t. costs.pay (costs.units_cost units) t (k v)) (image fs r w store.old)
+        ≡ made_plan w store.new.cells result k (image fs r w store.new) }
+    ensures fine { IsFineMade w store.new.cells result }
+    ensures kept { (fs : List Forest) → Kept fs w store.old store.new }
+{
+    match made {
+        Made::Stop(cause) => Made::Stop(cause),
+        Made::Cell(id) => match pay_units(store, w, units) {
+            Paid::Done => Made::Cell(id),
+            Paid::Stop(cause) => Made::Stop(cause),
+        },
     }
 }
 

@@ -13,8 +13,10 @@ ghost use Rattle.js_image.specs.Held.{IsConfined, IsFine, IsPlaceScope};
 ghost use Rattle.js_image.specs.Reads.{is_body, reader, shown_global, stored_property, stored_read, stored_value, stored_variable};
 
 use crate::laws::lawful;
+use crate::writing::cell_of;
 use code_units::{Memory, Text, is_word};
 use object_store::{CellId, HostEntry, Number, Store, Value};
+use std::alloc::Global;
 
 /// A property of a value, own or along its prototypes; `undefined` where there is none.
 pub fn get(store: &Store, base: &Value, name: &Text) -> Result<Value, Memory>
@@ -89,6 +91,35 @@ fn length_value(t: &Text) -> Value
     ensures { result ≡ Value.Num (Number.Whole (pos (length t.now))) }
 {
     Value::Num(Number::Whole(t.units().len() as i64))
+}
+
+/// The permitted own names of a value, in order of insertion; a primitive has none, and the `length`
+/// of an Array is none of them.
+pub fn keys(alloc: Global, store: &Store, base: &Value) -> Result<Vec<Text>, Memory>
+    requires { IsRefWithin (length store.now.cells) base.now }
+    ensures { IfOk result (λ names. (fs : List Forest) (r : Rest) (w : ℕ) → IsFine w store.now.cells base.now
+        → names.items ≡ properties.keys (image fs r w store.now) (seen w store.now.cells base.now)) }
+{
+    lawful(store);
+    store.bunches_have_nodes();
+    match cell_of(base) {
+        None => Ok(Vec::new(alloc)),
+        Some(cell) => store.keys(alloc, cell),
+    }
+}
+
+/// How many names `keys` gives.
+pub fn keys_len(store: &Store, base: &Value) -> usize
+    requires { IsRefWithin (length store.now.cells) base.now }
+    ensures { (fs : List Forest) (r : Rest) (w : ℕ) → IsFine w store.now.cells base.now
+        → result ≡ length (properties.keys (image fs r w store.now) (seen w store.now.cells base.now)) }
+{
+    lawful(store);
+    store.bunches_have_nodes();
+    match cell_of(base) {
+        None => 0,
+        Some(cell) => store.keys_len(cell),
+    }
 }
 
 /// The value of a variable: of the innermost scope that has the name, or else of a listed global;

@@ -1,15 +1,21 @@
 //! What is written to the store.
-ghost use Rattle.std.specs.Prelude.{◌≡◌, ℕ, ◌<◌, List};
+ghost use Rattle.std.specs.Prelude.{◌≡◌, ℕ, ◌<◌, Bool, List, IfOk};
 ghost use Rattle.std.specs.Option.{option_map};
 ghost use Rattle.js_tree.specs.Forest.{Forest};
 ghost use Rattle.object_store.specs.Owned.{scope_number};
+ghost use Rattle.widget_meaning.specs.OwnState.{State};
+ghost use Rattle.widget_meaning.specs.Plan.{Plan};
+ghost use Rattle.widget_meaning.specs.Properties as properties;
 ghost use Rattle.widget_meaning.specs.Scopes as scopes;
 ghost use Rattle.js_image.specs.Image.{Rest, image, seen};
-ghost use Rattle.js_image.specs.Held.{IsConfined, IsFine, IsPlaceScope, Kept};
+ghost use Rattle.js_image.specs.Held.{IsConfined, IsFine, IsHeld, IsPlaceScope, Kept};
+ghost use Rattle.js_image.specs.Plans.{IsRefusalOf, put_plan, removed_plan};
+ghost use Rattle.js_image.specs.Reads.{cell_in};
 
 use crate::laws::lawful;
-use code_units::Text;
-use object_store::{CellId, Store, Value};
+use crate::outcome::{Fault, Removed, StopCause, Written};
+use code_units::{Memory, Owner, Text};
+use object_store::{CellId, Store, StoreFault, Value};
 
 /// Writes a variable in the innermost scope that has the name; of no other name.
 pub fn assign(store: &mut Store, w: u32, scope: Option<CellId>, name: &Text, value: Value)
@@ -23,5 +29,106 @@ pub fn assign(store: &mut Store, w: u32, scope: Option<CellId>, name: &Text, val
     lawful(store);
     if let Some(from) = scope {
         store.var_set(from, name, value);
+    }
+}
+
+/// Writes a property of a value that the widget holds: the plan that pays for a new name, and then
+/// goes on; on a primitive it does nothing.
+pub fn put(
+    store: &mut Store,
+    w: u32,
+    base: &Value,
+    name: &Text,
+    value: Value,
+) -> Result<Written, Memory>
+    requires widget { w < 32 }
+    requires base { IsFine w store.old.cells base.now }
+    requires value { IsFine w store.old.cells value }
+    ensures plan { IfOk result (λ p. (fs : List Forest) (r : Rest) (k : State → Plan)
+        → properties.put (seen w store.old.cells base.now) name.now (seen w store.old.cells value) (image fs r w store.old) k
+        ≡ put_plan p k (image fs r w store.new)) }
+    ensures kept { (fs : List Forest) → Kept fs w store.old store.new }
+{
+    match cell_of(base) {
+        None => Ok(Written::Done),
+        Some(cell) => put_in(store, w, cell, name, value),
+    }
+}
+
+// The same for a cell.
+fn put_in(
+    store: &mut Store,
+    w: u32,
+    cell: CellId,
+    name: &Text,
+    value: Value,
+) -> Result<Written, Memory>
+    requires widget { w < 32 }
+    requires held { IsHeld w store.old.cells cell }
+    requires value { IsFine w store.old.cells value }
+    ensures plan { IfOk result (λ p. (fs : List Forest) (r : Rest) (k : State → Plan)
+        → properties.put (seen w store.old.cells (Value.Ref cell)) name.now (seen w store.old.cells value) (image fs r w store.old) k
+        ≡ put_plan p k (image fs r w store.new)) }
+    ensures kept { (fs : List Forest) → Kept fs w store.old store.new }
+{
+    lawful(store);
+    let _paid = store.counts(Owner::Widget(w));
+    match store.put(cell, name, value) {
+        Ok(()) => Ok(Written::Done),
+        Err(fault) => refused(fault),
+    }
+}
+
+/// Takes a name out of a value that the widget holds: the plan that goes on with the answer, false
+/// exactly for the `length` of an Array; of a primitive it is true.
+pub fn remove(store: &mut Store, w: u32, base: &Value, name: &Text) -> Removed
+    requires { IsFine w store.old.cells base.now }
+    ensures plan { (fs : List Forest) (r : Rest) (k : Bool → State → Plan)
+        → properties.delete (seen w store.old.cells base.now) name.now (image fs r w store.old) k
+        ≡ removed_plan result k (image fs r w store.new) }
+    ensures kept { (fs : List Forest) → Kept fs w store.old store.new }
+{
+    match cell_of(base) {
+        None => Removed::Done(true),
+        Some(cell) => remove_in(store, w, cell, name),
+    }
+}
+
+// The same for a cell.
+fn remove_in(store: &mut Store, w: u32, cell: CellId, name: &Text) -> Removed
+    requires { IsHeld w store.old.cells cell }
+    ensures plan { (fs : List Forest) (r : Rest) (k : Bool → State → Plan)
+        → properties.delete (seen w store.old.cells (Value.Ref cell)) name.now (image fs r w store.old) k
+        ≡ removed_plan result k (image fs r w store.new) }
+    ensures kept { (fs : List Forest) → Kept fs w store.old store.new }
+{
+    lawful(store);
+    match store.remove(cell, name) {
+        Ok(answer) => Removed::Done(answer),
+        Err(_) => Removed::Throw(Fault::E5),
+    }
+}
+
+// The cell to which a value refers.
+pub(crate) fn cell_of(v: &Value) -> Option<CellId>
+    ensures { result ≡ cell_in v.now }
+{
+    match v {
+        Value::Ref(cell) => Some(*cell),
+        _ => None,
+    }
+}
+
+// What a refused write gives.
+fn refused(fault: StoreFault) -> Result<Written, Memory>
+    ensures { IfOk result (λ p. IsRefusalOf fault p) }
+{
+    match fault {
+        StoreFault::Closed => Ok(Written::Throw(Fault::E5)),
+        StoreFault::BadLength => Ok(Written::Throw(Fault::E7)),
+        StoreFault::Cells { .. } => Ok(Written::Stop(StopCause::Cells)),
+        StoreFault::Slots { .. } => Ok(Written::Stop(StopCause::Slots)),
+        StoreFault::Units { .. } => Ok(Written::Stop(StopCause::Units)),
+        StoreFault::Memory => Err(Memory),
     }
 }
