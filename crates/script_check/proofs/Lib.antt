@@ -1,5 +1,4 @@
 pub mod Counts
-pub mod Within
 pub mod Judged
 pub mod Written
 pub mod Verdicts

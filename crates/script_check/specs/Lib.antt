@@ -1,3 +1,4 @@
 pub mod Script
+pub mod Faults
 pub mod Verdict
 pub mod Line

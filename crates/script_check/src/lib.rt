@@ -1,10 +1,12 @@
 //! Which rule a script breaks first, and what is written of a library.
 #![tactic(auto)]
 
+mod fault;
 mod judging;
 mod laws;
 mod lines;
 
-pub use judging::{Verdict, judge_script};
+pub use fault::ScriptFault;
+pub use judging::judge_script;
 pub use laws::one_verdict;
-pub use lines::{LibraryText, library_line, tidied_library};
+pub use lines::{LibraryText, Report, library_line, tidied_library};

@@ -1,11 +1,11 @@
 pub mod Accepting
 pub mod Judging
 pub mod Spans
-pub mod Named
 pub mod Refusals
-pub mod OneForm
+pub mod Named
 pub mod Sourced
 pub mod Firsts
 pub mod Written
 pub mod OneRule
 pub mod Refusing
+pub mod Some

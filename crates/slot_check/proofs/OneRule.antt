@@ -1,9 +1,12 @@
 -- A file has one answer of the markup rules.
 use Rattle.std.proofs.Common.{◌≡◌, ℕ, List, refl, subst}
 use Rattle.first_breach.proofs.Narrowing as breaches
+use Rattle.plain_tree.specs.Trees.{Trees}
+use Rattle.plain_tree.specs.Plains.{Places}
+use Rattle.markup_grammar.specs.Markup.{MarkupSpells}
 use Rattle.markup_grammar.proofs.Answers.{one_reading, one_place, one_kind}
 use Rattle.widget_form.specs.declared.form.Form.{Form}
-use Rattle.widget_form.specs.Rows.{First}
+use Rattle.widget_form.specs.Rows.{First, IsGood}
 use Rattle.slot_check.specs.Slots.{FirstOfSlot, M01, of_file, IsSlot}
 
 module _ (name : List ℕ) (libs : List (List ℕ)) (bytes : List ℕ) where
@@ -14,7 +17,10 @@ module _ (name : List ℕ) (libs : List (List ℕ)) (bytes : List ℕ) where
   markup_once rule at other place (of_file {file = f} s a) (of_file {file = g} t b) =
       breaches.one_first a (subst (λ x. First name libs x other place) (one_reading bytes g f t s) b)
 
+  pub no_file : (rule at : ℕ) (f : Trees Places) → FirstOfSlot name libs bytes rule at → MarkupSpells bytes f → IsGood name libs f → ⊥
+  no_file rule at f (M01 a) s good = one_kind bytes f at s a
+  no_file rule at f (of_file {file = g} t a) s good =
+      good rule at (subst (λ x. First name libs x rule at) (one_reading bytes g f t s) a).broken
+
   pub no_form : (rule at : ℕ) (f : Form) → FirstOfSlot name libs bytes rule at → IsSlot name libs bytes f → ⊥
-  no_form rule at f (M01 a) h = one_kind bytes h.file at h.spelled a
-  no_form rule at f (of_file {file = g} s a) h =
-      h.good rule at (subst (λ x. First name libs x rule at) (one_reading bytes g h.file s h.spelled) a).broken
+  no_form rule at f first h = no_file rule at h.file first h.spelled h.good

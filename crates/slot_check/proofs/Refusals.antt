@@ -1,82 +1,98 @@
--- From a broken part to the verdict on the slot.
-use Rattle.std.proofs.Common.{◌≡◌, ℕ, ◌<◌, ◌+◌, List, length, get_or, Some, None, All, Result, IfOk, Bool, true, false, nat_lt, ◌≤◌, refl, sym, subst, ◌∙◌, arith}
-use Rattle.std.specs.Prelude.{slice_get}
-use Rattle.std.proofs.lemmas.List.{length-map}
+-- From a broken part to the refusal of the slot.
+use Rattle.std.proofs.Common.{◌≡◌, ℕ, ◌<◌, ◌+◌, ◌-◌, ◌^◌, min, List, length, get_or, Some, Option, All, Result, Ok, Err, IfErr, sym, subst, ◌∙◌}
+use Rattle.std.specs.Result.{IsErrAnd}
 use Rattle.std.proofs.lemmas.List.Elements.{All-get_or}
-use Rattle.std.proofs.lemmas.Option.{slice_get_past}
-use Rattle.std.proofs.lemmas.Bool.{ltb-true, ltb-false}
-use Rattle.code_units.specs.declared.memory.Memory.{Memory}
-use Rattle.code_units.specs.declared.place.Place.{Place}
+use Rattle.first_breach.specs.declared.Breach.{Breach}
+use Rattle.adsafe_rules.specs.declared.scope.Scope.{Scope}
 use Rattle.adsafe_rules.specs.declared.scope.Scope.TheVariants as scope
-use Rattle.widget_form.specs.declared.form.Form.{Form}
-use Rattle.slot_check.specs.declared.markup.CheckMarkupFault.{CheckMarkupFault}
-use Rattle.slot_check.specs.declared.markup.CheckMarkupFault.TheVariants as fault
-use Rattle.slot_check.specs.Slots.{FirstOfSlot, IsSlotFault}
-use Rattle.code_units.specs.Places.{place_at as place}
-use Rattle.trace_text.specs.declared.line.Rule.{Rule}
+use Rattle.plain_tree.specs.Trees.{Trees}
+use Rattle.plain_tree.specs.Plains.{Places}
+use Rattle.widget_form.specs.declared.form.Span.{Span}
+use Rattle.script_check.specs.declared.fault.ScriptFault.{ScriptFault}
+use Rattle.script_check.specs.declared.fault.ScriptFault.TheVariants as script
+use Rattle.script_check.specs.Script.{ScriptFirst}
+use Rattle.script_check.specs.Verdict.{IsScriptFault}
 use Rattle.trace_text.specs.declared.line.Rule.TheVariants as rule
 use Rattle.slot_check.specs.declared.sources.SourceFile.{SourceFile}
-use Rattle.slot_check.specs.declared.scripts.SpanVerdict.{SpanVerdict}
-use Rattle.slot_check.specs.declared.scripts.SpanVerdict.TheVariants as span_verdict
-use Rattle.slot_check.specs.declared.parts.IdVerdict.{IdVerdict}
-use Rattle.slot_check.specs.declared.parts.IdVerdict.TheVariants as id_verdict
-use Rattle.slot_check.specs.declared.parts.NamedVerdict.{NamedVerdict}
-use Rattle.slot_check.specs.declared.parts.NamedVerdict.TheVariants as named_verdict
-use Rattle.slot_check.specs.declared.verdict.SlotVerdict.{SlotVerdict}
-use Rattle.slot_check.specs.Sources.{Source, Slot, keys_of}
-use Rattle.slot_check.specs.Slot.{HasForm, IsIdClean, LibrariesFirst, SlotFirst, markup, id_script, library, go_script}
-use Rattle.slot_check.specs.Verdicts.{source_of, sources_of, slot_over, IsSmall, IsSpanBroken, IsSpanVerdict, IsIdBroken, IsIdVerdict, AreNamedClean, IsNamedBroken, IsNamedVerdict, IsSlotVerdict}
+use Rattle.slot_check.specs.declared.markup.CheckMarkupFault.{CheckMarkupFault}
+use Rattle.slot_check.specs.declared.markup.CheckMarkupFault.TheVariants as markup_fault
+use Rattle.slot_check.specs.declared.fault.Refusal.{Refusal}
+use Rattle.slot_check.specs.declared.fault.SlotFault.{SlotFault}
+use Rattle.slot_check.specs.declared.fault.SlotFault.TheVariants as fault
+use Rattle.slot_check.specs.Slots.{FirstOfSlot, IsSlotFault}
+use Rattle.slot_check.specs.Sources.{Slot, keys_of, script_text}
+use Rattle.slot_check.specs.Slot.{IsFile, id_span, named_libs, last_span, IsIdClean, AreClean, LibrariesFirst, markup, id_script, library, go_script}
+use Rattle.slot_check.specs.Verdicts.{source_of, sources_of, IsSmall, IsRefusalAt, Refuses, IsMarkupRefusal, IsSpanRefusal, IsIdRefusal, IsLibraryRefusal, IsNamedRefusal, IsRefused, IsVerdictAt, AreNamedClean}
+use Rattle.slot_check.proofs.Judging.{there_at}
+use Rattle.slot_check.proofs.Spans.{place_far}
 
-pub small_at : (libs : List SourceFile) (i : ℕ) (lib : SourceFile) → All IsSmall libs → i < length libs → lib ≡ get_or libs i lib → IsSmall lib
-small_at libs i lib small within is = subst IsSmall (sym is) (All-get_or IsSmall libs i lib within small)
+pub small_at : (libs : List SourceFile) (i : ℕ) (file : SourceFile) → All IsSmall libs → i < length libs → file ≡ get_or libs i file → IsSmall file
+small_at libs i file small within is = subst IsSmall (sym is) (All-get_or IsSmall libs i file within small)
 
-some_is : {A : Type 0} (x y : A) → Some x ≡ Some y → x ≡ y
-some_is x y e = cc
+-- a fault of which one thing is known has another
+weaker : (P Q : Refusal → Type 0) (f : SlotFault) → ((r : Refusal) → P r → Q r) → Refuses P f → Refuses Q f
+weaker P Q (fault.Broken r) so is = so r is
+weaker P Q fault.Memory so is = tt
 
--- a source at a place of the list is that of the file there
-past : (libs : List SourceFile) (i : ℕ) (lib : Source) → slice_get (sources_of libs) i ≡ Some lib → length libs ≤ i → ⊥
-past libs i lib there behind =
-    let none = slice_get_past (sources_of libs) i (omega (arith, behind, length-map libs source_of)) in
-    let both : Some lib ≡ None = sym there ∙ none in
-    cc
-
--- what a refusal in a file gives
-abbrev Gives : SourceFile → Rule → Place → Result SlotVerdict Memory → Type 0
-Gives file r at result = (slot : Slot) (byte : ℕ) → SlotFirst slot r (source_of file) byte → at ≡ place file.bytes.items byte → IfOk result (IsSlotVerdict slot)
-
-module _ (libs : List Source) (name : List ℕ) (file : SourceFile) (form : Form) (has : HasForm (slot_over libs name file) form) where
-  -- the `ADSAFE.id` script is broken
-  pub id_broken : (v : IdVerdict) (number : ℕ) (at : Place) (result : Result SlotVerdict Memory) → IsIdVerdict name file.bytes.items form.id_script v → v ≡ id_verdict.Broken number at → Gives file (rule.A number) at result → IfOk result (IsSlotVerdict (slot_over libs name file))
-  id_broken v number at result verdict is gives =
-      let b : IsIdBroken name file.bytes.items form.id_script number at = subst (IsIdVerdict name file.bytes.items form.id_script) is verdict in
-      gives (slot_over libs name file) (b.span.from + b.broken.behind) (id_script has b.there b.broken.first) b.broken.placed
-
-  -- the last script is broken
-  pub last_broken : (places : List ℕ) (shown key : List ℕ) (v : SpanVerdict) (number : ℕ) (at : Place) (result : Result SlotVerdict Memory) → IsIdClean name file.bytes.items form.id_script → AreNamedClean libs form.libs.items places → key ≡ name → shown ≡ file.bytes.items → IsSpanVerdict shown form.script (scope.Go key) v → v ≡ span_verdict.Broken number at → Gives file (rule.A number) at result → IfOk result (IsSlotVerdict (slot_over libs name file))
-  last_broken places shown key v number at result id named same_name same_bytes verdict is gives =
-      let here : IsSpanBroken shown form.script (scope.Go key) number at = subst (IsSpanVerdict shown form.script (scope.Go key)) is verdict in
-      let b : IsSpanBroken file.bytes.items form.script (scope.Go name) number at = subst (λ n. IsSpanBroken file.bytes.items form.script (scope.Go n) number at) same_name (subst (λ x. IsSpanBroken x form.script (scope.Go key) number at) same_bytes here) in
-      gives (slot_over libs name file) (form.script.from + b.behind) (go_script has id named.clean b.first) b.placed
-
--- a library is broken
-module _ (files : List SourceFile) (names : List (List ℕ)) (v : NamedVerdict) (place number at : ℕ) (verdict : IsNamedVerdict (sources_of files) names v) (is : v ≡ named_verdict.Broken place number at) where
-  named_broken : IsNamedBroken (sources_of files) names place number at
-  named_broken = subst (IsNamedVerdict (sources_of files) names) is verdict
-
-  pub library_within : place < length files
-  library_within = inside (nat_lt place (length files)) refl where
-    inside : (b : Bool) → nat_lt place (length files) ≡ b → place < length files
-    inside true e = ltb-true place (length files) e
-    inside false e = absurd (past files place named_broken.lib named_broken.there (ltb-false place (length files) e))
-
-  pub library_broken : (name : List ℕ) (file : SourceFile) (form : Form) (result : Result SlotVerdict Memory) → HasForm (slot_over (sources_of files) name file) form → IsIdClean name file.bytes.items form.id_script → names ≡ form.libs.items → ((slot : Slot) (lib : Source) → slice_get (sources_of files) place ≡ Some lib → SlotFirst slot (rule.A number) lib at → IfOk result (IsSlotVerdict slot)) → IfOk result (IsSlotVerdict (slot_over (sources_of files) name file))
-  library_broken name file form result has id same gives =
-      let b = named_broken in
-      gives (slot_over (sources_of files) name file) b.lib b.there (library has id (subst (λ ns. LibrariesFirst (sources_of files) ns number b.lib at) same b.first))
+-- what `?` hands on
+pub pass : {X : Type 0} (P Q : Refusal → Type 0) (r : Result X SlotFault) (f : SlotFault) → IsErrAnd r (λ e. e ≡ f) → Refuses P f → ((x : Refusal) → P x → Q x) → IfErr r (Refuses Q)
+pass P Q (Ok x) f same is so = absurd same
+pass P Q (Err e) f same is so = subst (Refuses Q) (sym same) (weaker P Q f so is)
 
 -- the markup is broken
-pub markup_broken : (libs : List Source) (name : List ℕ) (file : SourceFile) (keys : List (List ℕ)) (shown : List ℕ) (e : CheckMarkupFault) (number at : ℕ) (result : Result SlotVerdict Memory) → keys ≡ keys_of libs → shown ≡ file.bytes.items → IsSlotFault name keys shown e → e ≡ fault.Broken number at → ((slot : Slot) → SlotFirst slot (rule.M number) (source_of file) at → IfOk result (IsSlotVerdict slot)) → IfOk result (IsSlotVerdict (slot_over libs name file))
-markup_broken libs name file keys shown e number at result keyed same broken is gives =
+pub markup_refused : (name : List ℕ) (keys : List (List ℕ)) (file : SourceFile) (shown : List ℕ) (e : CheckMarkupFault) (number at : ℕ) (f : SlotFault) → shown ≡ file.bytes.items → IsSlotFault name keys shown e → e ≡ markup_fault.Broken number at → Refuses (IsRefusalAt (source_of file) (rule.M number) at) f → Refuses (IsMarkupRefusal name keys (source_of file)) f
+markup_refused name keys file shown e number at f same broken is refused =
     let here : FirstOfSlot name keys shown number at = subst (IsSlotFault name keys shown) is broken in
-    let there : FirstOfSlot name (keys_of libs) file.bytes.items number at = subst (λ b. FirstOfSlot name (keys_of libs) b number at) same (subst (λ k. FirstOfSlot name k shown number at) keyed here) in
-    gives (slot_over libs name file) (markup there)
+    weaker (IsRefusalAt (source_of file) (rule.M number) at) (IsMarkupRefusal name keys (source_of file)) f
+    (λ r h. record { number = number; at = at; first = subst (λ b. FirstOfSlot name keys b number at) same here; is = h }) refused
+
+-- a script is broken
+pub span_refused : (file : SourceFile) (span : Span) (scope : Scope) (shown : List ℕ) (e : ScriptFault) (b : Breach) (k : ℕ) (f : SlotFault) → IsSmall file → shown ≡ script_text file.bytes.items span → IsScriptFault shown scope e → e ≡ script.Broken b → k ≡ min (span.from + b.at) (2 ^ 64 - 1) → Refuses (IsRefusalAt (source_of file) (rule.A b.rule) k) f → Refuses (IsSpanRefusal (source_of file) span scope) f
+span_refused file span scope shown e b k f small same broken is far refused =
+    let here : ScriptFirst shown scope b.rule b.at = subst (IsScriptFault shown scope) is broken in
+    weaker (IsRefusalAt (source_of file) (rule.A b.rule) k) (IsSpanRefusal (source_of file) span scope) f
+    (λ r h. record {
+      number = b.rule;
+      behind = b.at;
+      first = subst (λ t. ScriptFirst t scope b.rule b.at) same here;
+      is = record { same = h.same; named = h.named; placed = place_far file.bytes.items (span.from + b.at) k r.at small far h.placed };
+    }) refused
+
+pub id_refused : {X : Type 0} (name key : List ℕ) (file : SourceFile) (script : Option Span) (span : Span) (r : Result X SlotFault) (f : SlotFault) → script ≡ Some span → key ≡ name → IsErrAnd r (λ e. e ≡ f) → Refuses (IsSpanRefusal (source_of file) span (scope.Id key)) f → IfErr r (Refuses (IsIdRefusal name (source_of file) script))
+id_refused name key file script span r f there same is refused =
+    pass (IsSpanRefusal (source_of file) span (scope.Id key)) (IsIdRefusal name (source_of file) script) r f is refused
+    (λ x h. record { span = span; there = there; broken = subst (λ n. IsSpanRefusal (source_of file) span (scope.Id n) x) same h })
+
+-- a library is broken
+pub library_refused : (libs : List SourceFile) (place : ℕ) (file : SourceFile) (b : Breach) (f : SlotFault) → IsVerdictAt (sources_of libs) place (Some b) → place < length libs → file ≡ get_or libs place file → Refuses (IsRefusalAt (source_of file) (rule.A b.rule) b.at) f → Refuses (IsLibraryRefusal (sources_of libs) place) f
+library_refused libs place file b f v within is refused =
+    let both : Some (source_of file) ≡ Some v.lib = sym (there_at libs place file within is) ∙ v.there in
+    let same : source_of file ≡ v.lib = cc in
+    weaker (IsRefusalAt (source_of file) (rule.A b.rule) b.at) (IsLibraryRefusal (sources_of libs) place) f
+    (λ r h. record { lib = v.lib; there = v.there; number = b.rule; byte = b.at; first = v.is; is = subst (λ s. IsRefusalAt s (rule.A b.rule) b.at r) same h }) refused
+
+-- ## The slot
+
+module _ (slot : Slot) where
+  pub slot_markup : {X : Type 0} (keys : List (List ℕ)) (r : Result X SlotFault) (f : SlotFault) → keys ≡ keys_of slot.libs → IsErrAnd r (λ e. e ≡ f) → Refuses (IsMarkupRefusal slot.name keys slot.file) f → IfErr r (Refuses (IsRefused slot))
+  slot_markup keys r f keyed is refused =
+      pass (IsMarkupRefusal slot.name keys slot.file) (IsRefused slot) r f is refused
+      (λ x h. record { rule = rule.M h.number; source = slot.file; byte = h.at; first = markup (subst (λ k. FirstOfSlot slot.name k slot.file.bytes h.number h.at) keyed h.first); is = h.is })
+
+  module _ (file : Trees Places) (has : IsFile slot file) where
+    pub slot_id : {X : Type 0} (script : Option Span) (r : Result X SlotFault) (f : SlotFault) → script ≡ id_span file → IsErrAnd r (λ e. e ≡ f) → Refuses (IsIdRefusal slot.name slot.file script) f → IfErr r (Refuses (IsRefused slot))
+    slot_id script r f same is refused =
+        pass (IsIdRefusal slot.name slot.file script) (IsRefused slot) r f is refused
+        (λ x h. record { rule = rule.A h.broken.number; source = slot.file; byte = h.span.from + h.broken.behind; first = id_script has (sym same ∙ h.there) h.broken.first; is = h.broken.is })
+
+    module _ (clean : IsIdClean slot.name slot.file.bytes (id_span file)) where
+      pub slot_named : {X : Type 0} (names : List (List ℕ)) (r : Result X SlotFault) (f : SlotFault) → names ≡ named_libs file → IsErrAnd r (λ e. e ≡ f) → Refuses (IsNamedRefusal slot.libs names) f → IfErr r (Refuses (IsRefused slot))
+      slot_named names r f same is refused =
+          pass (IsNamedRefusal slot.libs names) (IsRefused slot) r f is refused
+          (λ x h. record { rule = rule.A h.number; source = h.lib; byte = h.byte; first = library has clean (subst (λ ns. LibrariesFirst slot.libs ns h.number h.lib h.byte) same h.first); is = h.is })
+
+      pub slot_last : {X : Type 0} (names : List (List ℕ)) (places : List ℕ) (span : Span) (key : List ℕ) (r : Result X SlotFault) (f : SlotFault) → names ≡ named_libs file → AreNamedClean slot.libs names places → Some span ≡ last_span file → key ≡ slot.name → IsErrAnd r (λ e. e ≡ f) → Refuses (IsSpanRefusal slot.file span (scope.Go key)) f → IfErr r (Refuses (IsRefused slot))
+      slot_last names places span key r f same named there name is refused =
+          let libs = subst (λ ns. AreClean slot.libs ns places named.programs) same named.clean in
+          pass (IsSpanRefusal slot.file span (scope.Go key)) (IsRefused slot) r f is refused
+          (λ x h. record { rule = rule.A h.number; source = slot.file; byte = span.from + h.behind; first = go_script has clean libs (sym there) (subst (λ n. ScriptFirst (script_text slot.file.bytes span) (scope.Go n) h.number h.behind) name h.first); is = h.is })

@@ -1,5 +1,5 @@
 -- The libraries that a good file names are listed.
-use Rattle.std.proofs.Common.{◌≡◌, ℕ, zero, suc, ◌<◌, List, [], ◌∷◌, ◌++◌, length, All, Option, Some, None, Bool, true, false, cond, codes, ◌&&◌, not, inl, inr, refl, sym, subst, arith, if◌then◌else◌}
+use Rattle.std.proofs.Common.{◌≡◌, ℕ, zero, suc, ◌<◌, List, [], ◌∷◌, ◌++◌, length, All, Option, Some, None, Bool, true, false, cond, codes, ◌&&◌, not, inl, inr, refl, sym, subst, ◌∙◌, arith, if◌then◌else◌}
 use Rattle.std.specs.Prelude.{◌⊎◌, slice_index_or, filter, find, filter_map, option_map}
 use Rattle.std.specs.List.{cons_option, list_any, flat_map}
 use Rattle.std.specs.Str.{bytes_eq}
@@ -134,10 +134,9 @@ module _ (name : List ℕ) (libs : List (List ℕ)) (file : Trees Places) (good 
         let value : a.value ≡ v = cc in
         subst (λ x. list_any (bytes_eq x) libs ≡ true) value (listed_value s a place script.1 found.0 found.1)
 
-pub listed : (name : List ℕ) (libs : List (List ℕ)) (bytes : List ℕ) (form : Form) → IsSlot name libs bytes form → All (λ lib. list_any (bytes_eq lib) libs ≡ true) form.libs.items
-listed name libs bytes form h =
-    subst (All (λ lib. list_any (bytes_eq lib) libs ≡ true)) (sym h.parts.libs) (all_sources (λ lib. list_any (bytes_eq lib) libs ≡ true) (root_scripts h.file) (listed_source name libs h.file h.good))
+pub listed_names : (name : List ℕ) (libs : List (List ℕ)) (file : Trees Places) → IsGood name libs file → All (λ n. list_any (bytes_eq n) libs ≡ true) (filter_map source (root_scripts file))
+listed_names name libs file good = all_sources (λ lib. list_any (bytes_eq lib) libs ≡ true) (root_scripts file) (listed_source name libs file good)
 
-pub listed_keys : (name : List ℕ) (libs keys : List (List ℕ)) (bytes : List ℕ) (form : Form) (shown : List (List ℕ)) → keys ≡ libs → shown ≡ form.libs.items → IsSlot name libs bytes form → All (λ n. list_any (bytes_eq n) keys ≡ true) shown
-listed_keys name libs keys bytes form shown keyed same h =
-    subst (λ ns. All (λ n. list_any (bytes_eq n) keys ≡ true) ns) (sym same) (subst (λ ks. All (λ n. list_any (bytes_eq n) ks ≡ true) form.libs.items) (sym keyed) (listed name libs bytes form h))
+pub listed_keys : (name : List ℕ) (keys : List (List ℕ)) (bytes : List ℕ) (form : Form) (shown : List (List ℕ)) → shown ≡ form.libs.items → IsSlot name keys bytes form → All (λ n. list_any (bytes_eq n) keys ≡ true) shown
+listed_keys name keys bytes form shown same h =
+    subst (All (λ n. list_any (bytes_eq n) keys ≡ true)) (sym (same ∙ h.parts.libs)) (listed_names name keys h.file h.good)

@@ -1,18 +1,12 @@
 -- The scripts of a widget file.
-use Rattle.std.proofs.Common.{◌≡◌, ℕ, ◌+◌, ◌-◌, ◌<◌, ◌≤◌, ◌^◌, min, max, List, length, take, drop, ap, sym, ◌∙◌, arith, length-drop, length-take}
+use Rattle.std.proofs.Common.{◌≡◌, ℕ, ◌-◌, ◌<◌, ◌≤◌, ◌^◌, min, max, List, length, take, drop, ap, sym, ◌∙◌, arith, length-drop, length-take}
 use Rattle.std.proofs.lemmas.List.{take_min, drop_min}
 use Rattle.code_units.specs.declared.place.Place.{Place}
 use Rattle.code_units.specs.Places.{line_of, column_of}
-use Rattle.adsafe_rules.specs.declared.scope.Scope.{Scope}
 use Rattle.widget_form.specs.declared.form.Span.{Span}
 use Rattle.code_units.specs.Places.{place_at as place}
-use Rattle.script_check.proofs.Within.{line_within, column_within}
-use Rattle.script_check.specs.Script.{ScriptFirst}
+use Rattle.code_units.proofs.Within.{line_within, column_within}
 use Rattle.slot_check.specs.Sources.{script_text}
-use Rattle.slot_check.specs.Verdicts.{IsSpanBroken}
-
-pub broken_span : (file : List ℕ) (span : Span) (scope : Scope) (number behind : ℕ) (at : Place) → ScriptFirst (script_text file span) scope number behind → at ≡ place file (span.from + behind) → IsSpanBroken file span scope number at
-broken_span file span scope number behind at first placed = record { behind = behind; first = first; placed = placed }
 
 -- the text of a script by bounds within its file
 pub within_file : (bytes : List ℕ) (from to : ℕ) → take (max (min to (length bytes)) (min from (length bytes)) - min from (length bytes)) (drop (min from (length bytes)) bytes) ≡ take (to - from) (drop from bytes)

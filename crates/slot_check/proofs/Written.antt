@@ -1,59 +1,48 @@
 -- What is written of slots.
 use Rattle.std.proofs.Common.{◌≡◌, ℕ, ◌<◌, ◌≤◌, ◌+◌, List, [], ◌∷◌, ◌++◌, length, take, get_or, refl, sym, ap, subst, ◌∙◌, arith, append_assoc, append-nil, Bool, true, false, ◌||◌, None, Result, Ok, Err, IfOk, length-take}
-use Rattle.std.specs.Prelude.{String, string_bytes}
-use Rattle.std.specs.declared.alloc.Global.{Global}
+use Rattle.std.specs.Prelude.{string_bytes}
 use Rattle.std.proofs.lemmas.List.{length-map, take_more, take_all}
 use Rattle.js_tree.specs.Trees.{program_of}
-use Rattle.code_units.specs.declared.place.Place.{Place}
 use Rattle.code_units.specs.declared.memory.Memory.{Memory}
 use Rattle.adsafe_rules.specs.Accepts.{tree_of}
 use Rattle.code_units.specs.Places.{place_at as place}
-use Rattle.trace_text.specs.declared.line.Rule.{Rule}
+use Rattle.script_check.specs.declared.lines.Report.{Report}
 use Rattle.trace_text.specs.Report.{accepted_slot, refused_life}
 use Rattle.slot_check.specs.declared.sources.SourceFile.{SourceFile}
-use Rattle.slot_check.specs.declared.lines.SlotText.{SlotText}
+use Rattle.slot_check.specs.declared.fault.Refusal.{Refusal}
+use Rattle.slot_check.specs.declared.fault.SlotFault.{SlotFault}
+use Rattle.slot_check.specs.declared.fault.SlotFault.TheVariants as fault
 use Rattle.slot_check.specs.declared.verdict.Widget.{Widget}
-use Rattle.slot_check.specs.declared.verdict.SlotVerdict.{SlotVerdict}
-use Rattle.slot_check.specs.declared.verdict.SlotVerdict.TheVariants as slot_verdict
 use Rattle.slot_check.specs.Sources.{Source, Slot}
 use Rattle.slot_check.specs.Slot.{IsCleanSlot}
-use Rattle.slot_check.specs.Verdicts.{source_of, sources_of, IsAcceptedWidget, IsRefused, IsSlotVerdict}
+use Rattle.slot_check.specs.Verdicts.{source_of, sources_of, IsAcceptedWidget, IsRefused, Refuses}
 use Rattle.slot_check.specs.Line.{IsSlotLine, accepted, refused, AreSlotLines, none, more, slots_over}
 use Rattle.slot_check.proofs.Judging.{sources_more}
 use Rattle.slot_check.proofs.Firsts.{first_once, first_not_clean}
 
 clean_of : (slot : Slot) (widget : Widget) → IsAcceptedWidget slot widget → IsCleanSlot slot
-clean_of slot widget is = record { form = widget.form; places = widget.libs.items; programs = is.programs; script = program_of (tree_of widget.script); widget = is.is }
+clean_of slot widget is = record { file = is.file; places = widget.libs.items; programs = is.programs; script = program_of (tree_of widget.script); widget = is.is }
 
 -- the line of a slot that breaks no rule
-clean_text : (slot : Slot) (name file : List ℕ) (widget : Widget) (r : Result SlotText Memory) → slot.name ≡ name → slot.file.name ≡ file → IsAcceptedWidget slot widget → IfOk r (λ t. t.bytes.items ≡ accepted_slot name file) → IfOk r (λ t. t.refused ≡ false) → IfOk r (λ t. IsSlotLine slot t.refused t.bytes.items)
-clean_text slot name file widget (Ok t) named filed is line clean =
+pub accepted_text : (slot : Slot) (shown : List ℕ) (widget : Widget) (r : Result Report Memory) → shown ≡ slot.file.name → IsAcceptedWidget slot widget → IfOk r (λ t. t.bytes.items ≡ accepted_slot slot.name shown) → IfOk r (λ t. t.refused ≡ false) → IfOk r (λ t. IsSlotLine slot t.refused t.bytes.items)
+accepted_text slot shown widget (Ok t) filed is line clean =
     let there : IsSlotLine slot false (accepted_slot slot.name slot.file.name) = accepted (clean_of slot widget is) in
-    let same : accepted_slot slot.name slot.file.name ≡ t.bytes.items = ap (λ n. accepted_slot n slot.file.name) named ∙ ap (accepted_slot name) filed ∙ sym line in
+    let same : accepted_slot slot.name slot.file.name ≡ t.bytes.items = ap (accepted_slot slot.name) (sym filed) ∙ sym line in
     subst (λ b. IsSlotLine slot b t.bytes.items) (sym clean) (subst (IsSlotLine slot false) same there)
-clean_text slot name file widget (Err e) named filed is line clean = tt
+accepted_text slot shown widget (Err e) filed is line clean = tt
 
 -- the line of one that breaks a rule
-broken_text : (slot : Slot) (name broken : List ℕ) (rule : Rule) (at : Place) (r : Result SlotText Memory) → slot.name ≡ name → IsRefused slot rule broken at → IfOk r (λ t. t.bytes.items ≡ refused_life name None broken rule at) → IfOk r (λ t. t.refused ≡ true) → IfOk r (λ t. IsSlotLine slot t.refused t.bytes.items)
-broken_text slot name broken rule at (Ok t) named is line clean =
-    let there : IsSlotLine slot true (refused_life slot.name None is.source.name rule (place is.source.bytes is.byte)) = refused is.first in
-    let same : refused_life slot.name None is.source.name rule (place is.source.bytes is.byte) ≡ t.bytes.items =
-    ap (λ n. refused_life n None is.source.name rule (place is.source.bytes is.byte)) named
-    ∙ ap (λ f. refused_life name None f rule (place is.source.bytes is.byte)) (sym is.named)
-    ∙ ap (refused_life name None broken rule) (sym is.placed) ∙ sym line in
+pub refused_text : (slot : Slot) (f : SlotFault) (refusal : Refusal) (r : Result Report Memory) → Refuses (IsRefused slot) f → f ≡ fault.Broken refusal → IfOk r (λ t. t.bytes.items ≡ refused_life slot.name None (string_bytes refusal.file) refusal.rule refusal.at) → IfOk r (λ t. t.refused ≡ true) → IfOk r (λ t. IsSlotLine slot t.refused t.bytes.items)
+refused_text slot f refusal (Ok t) refuses same line clean =
+    let is : IsRefused slot refusal = subst (Refuses (IsRefused slot)) same refuses in
+    let there : IsSlotLine slot true (refused_life slot.name None is.source.name is.rule (place is.source.bytes is.byte)) = refused is.first in
+    let same : refused_life slot.name None is.source.name is.rule (place is.source.bytes is.byte) ≡ t.bytes.items =
+    ap (λ f. refused_life slot.name None f is.rule (place is.source.bytes is.byte)) (sym is.is.named)
+    ∙ ap (λ n. refused_life slot.name None (string_bytes refusal.file) n (place is.source.bytes is.byte)) (sym is.is.same)
+    ∙ ap (refused_life slot.name None (string_bytes refusal.file) refusal.rule) (sym is.is.placed) ∙ sym line in
     subst (λ b. IsSlotLine slot b t.bytes.items) (sym clean) (subst (IsSlotLine slot true) same there)
-broken_text slot name broken rule at (Err e) named is line clean = tt
+refused_text slot f refusal (Err e) refuses same line clean = tt
 
-module _ (slot : Slot) (verdict : SlotVerdict) (is : IsSlotVerdict slot verdict) where
-  pub refused_text : (name broken : List ℕ) (rule : Rule) (file : String Global) (at : Place) (r : Result SlotText Memory) → verdict ≡ slot_verdict.Refused rule file at → slot.name ≡ name → broken ≡ string_bytes file → IfOk r (λ t. t.bytes.items ≡ refused_life name None broken rule at) → IfOk r (λ t. t.refused ≡ true) → IfOk r (λ t. IsSlotLine slot t.refused t.bytes.items)
-  refused_text name broken rule file at r same named shown =
-      let refused_is : IsRefused slot rule (string_bytes file) at = subst (IsSlotVerdict slot) same is in
-      broken_text slot name broken rule at r named (subst (λ f. IsRefused slot rule f at) (sym shown) refused_is)
-
-  pub accepted_text : (name file : List ℕ) (widget : Widget) (r : Result SlotText Memory) → verdict ≡ slot_verdict.Accepted widget → slot.name ≡ name → slot.file.name ≡ file → IfOk r (λ t. t.bytes.items ≡ accepted_slot name file) → IfOk r (λ t. t.refused ≡ false) → IfOk r (λ t. IsSlotLine slot t.refused t.bytes.items)
-  accepted_text name file widget r same named filed = clean_text slot name file widget r named filed (subst (IsSlotVerdict slot) same is)
-
--- a slot has one line
 pub line_once : (s : Slot) (r q : Bool) (b c : List ℕ) → IsSlotLine s r b → IsSlotLine s q c → (r ≡ q) × (b ≡ c)
 line_once s r q b c (accepted f) (accepted g) = (refl, refl)
 line_once s r q b c (accepted f) (refused {rule = n} {broken = a} {at = x} p) = absurd (first_not_clean s n a x p f)

@@ -1,18 +1,34 @@
 -- The first rule that a slot breaks, and what a slot is that breaks none.
-use Rattle.std.specs.Prelude.{◌≡◌, ℕ, ◌+◌, List, [], ◌∷◌, Option, Some, None}
+use Rattle.std.specs.Prelude.{◌≡◌, ℕ, ◌+◌, List, [], ◌∷◌, Option, Some, None, option_map, filter_map}
+use Rattle.std.specs.List.{last_or}
 use Rattle.js_tree.specs.Plain.{Stmts}
 use Rattle.adsafe_rules.specs.declared.scope.Scope.TheVariants as scope
-use Rattle.widget_form.specs.declared.form.Form.{Form}
+use Rattle.plain_tree.specs.Trees.{Trees}
+use Rattle.plain_tree.specs.Plains.{Places}
+use Rattle.markup_grammar.specs.Markup.{MarkupSpells}
 use Rattle.widget_form.specs.declared.form.Span.{Span}
-use Rattle.slot_check.specs.Slots.{IsSlot, FirstOfSlot}
+use Rattle.widget_form.specs.Rows.{IsGood}
+use Rattle.widget_form.specs.Forms.{root_scripts, first_of_several, span_of, source}
+use Rattle.slot_check.specs.Slots.{FirstOfSlot}
 use Rattle.script_check.specs.Script.{ScriptFirst, LibFirst, IsScript, IsCleanScript}
 use Rattle.trace_text.specs.declared.line.Rule.{Rule}
 use Rattle.trace_text.specs.declared.line.Rule.TheVariants as rule
 use Rattle.slot_check.specs.Sources.{Source, Slot, keys_of, IsLibrary, script_text}
 
--- the file of the slot breaks no markup rule, and this is its form
-abbrev pub HasForm : Slot → Form → Type 0
-HasForm slot form = IsSlot slot.name (keys_of slot.libs) slot.file.bytes form
+-- the file of the slot is these trees, which break no markup rule
+pub record IsFile (slot : Slot) (file : Trees Places) : Type 0 where
+  pub spelled : MarkupSpells slot.file.bytes file
+  pub good : IsGood slot.name (keys_of slot.libs) file
+
+-- where the `ADSAFE.id` script of a file stands, if it has one; the libraries that it names; and where its last script stands
+abbrev pub id_span : Trees Places → Option Span
+id_span file = option_map span_of (first_of_several (root_scripts file))
+
+abbrev pub named_libs : Trees Places → List (List ℕ)
+named_libs file = filter_map source (root_scripts file)
+
+abbrev pub last_span : Trees Places → Option Span
+last_span file = option_map span_of (last_or None (root_scripts file))
 
 -- the `ADSAFE.id` script, where there is one, breaks no rule
 abbrev pub IsIdClean : List ℕ → List ℕ → Option Span → Type 0
@@ -34,23 +50,25 @@ pub data SlotFirst (slot : Slot) : Rule → Source → ℕ → Type 0 where
   -- the markup of its file
   markup : {number at : ℕ} → FirstOfSlot slot.name (keys_of slot.libs) slot.file.bytes number at → SlotFirst slot (rule.M number) slot.file at
   -- its `ADSAFE.id` script
-  id_script : {form : Form} {span : Span} {number at : ℕ} → HasForm slot form → form.id_script ≡ Some span → ScriptFirst (script_text slot.file.bytes span) (scope.Id slot.name) number at → SlotFirst slot (rule.A number) slot.file (span.from + at)
+  id_script : {file : Trees Places} {span : Span} {number at : ℕ} → IsFile slot file → id_span file ≡ Some span → ScriptFirst (script_text slot.file.bytes span) (scope.Id slot.name) number at → SlotFirst slot (rule.A number) slot.file (span.from + at)
   -- the libraries that it names, in order
-  library : {form : Form} {number at : ℕ} {lib : Source} → HasForm slot form → IsIdClean slot.name slot.file.bytes form.id_script → LibrariesFirst slot.libs form.libs.items number lib at → SlotFirst slot (rule.A number) lib at
+  library : {file : Trees Places} {number at : ℕ} {lib : Source} → IsFile slot file → IsIdClean slot.name slot.file.bytes (id_span file) → LibrariesFirst slot.libs (named_libs file) number lib at → SlotFirst slot (rule.A number) lib at
   -- its last script
-  go_script : {form : Form} {places : List ℕ} {programs : List Stmts} {number at : ℕ} → HasForm slot form → IsIdClean slot.name slot.file.bytes form.id_script → AreClean slot.libs form.libs.items places programs → ScriptFirst (script_text slot.file.bytes form.script) (scope.Go slot.name) number at → SlotFirst slot (rule.A number) slot.file (form.script.from + at)
+  go_script : {file : Trees Places} {places : List ℕ} {programs : List Stmts} {span : Span} {number at : ℕ} → IsFile slot file → IsIdClean slot.name slot.file.bytes (id_span file) → AreClean slot.libs (named_libs file) places programs → last_span file ≡ Some span → ScriptFirst (script_text slot.file.bytes span) (scope.Go slot.name) number at → SlotFirst slot (rule.A number) slot.file (span.from + at)
 
--- Widget: the slot breaks no rule. Its widget is the subtree of the form, the programs of its libraries in order, with their places in the list, and the program of its last script.
-pub record IsWidget (slot : Slot) (form : Form) (places : List ℕ) (programs : List Stmts) (script : Stmts) : Type 0 where
-  pub has : HasForm slot form
-  pub id : IsIdClean slot.name slot.file.bytes form.id_script
-  pub libs : AreClean slot.libs form.libs.items places programs
-  pub last : IsScript (script_text slot.file.bytes form.script) (scope.Go slot.name) script
+-- Widget: the slot breaks no rule. Its widget is the subtree of its file, the programs of its libraries in order, with their places in the list, and the program of its last script.
+pub record IsWidget (slot : Slot) (file : Trees Places) (places : List ℕ) (programs : List Stmts) (script : Stmts) : Type 0 where
+  pub has : IsFile slot file
+  pub id : IsIdClean slot.name slot.file.bytes (id_span file)
+  pub libs : AreClean slot.libs (named_libs file) places programs
+  pub span : Span
+  pub there : last_span file ≡ Some span
+  pub last : IsScript (script_text slot.file.bytes span) (scope.Go slot.name) script
 
 -- the slot breaks no rule
 pub record IsCleanSlot (slot : Slot) : Type 0 where
-  pub form : Form
+  pub file : Trees Places
   pub places : List ℕ
   pub programs : List Stmts
   pub script : Stmts
-  pub widget : IsWidget slot form places programs script
+  pub widget : IsWidget slot file places programs script

@@ -1,79 +1,127 @@
 //! The libraries of a manifest.
-ghost use Rattle.std.specs.Prelude.{◌≡◌, ◌<◌, ◌^◌, All, Option, IfOk, length, position};
+ghost use Rattle.std.specs.Prelude.{◌≡◌, ◌<◌, ◌^◌, ℕ, List, All, Option, IfOk, IfErr, OnOk, length, position};
 ghost use Rattle.std.specs.Str.{bytes_eq};
-ghost use Rattle.code_units.specs.Utf8.{units_of};
-ghost use Rattle.slot_check.specs.Verdicts.{sources_of, IsSmall, AreJudged, IsLibraryVerdict, without_tree};
+ghost use Rattle.slot_check.specs.Verdicts.{sources_of, IsSmall, IsKnown, IsLibraryVerdict, IsVerdictAt, AreJudged, IsCleanAt, IsLibraryRefusal, Refuses};
 
+use crate::fault::{SlotFault, broken_in};
 use crate::sources::SourceFile;
 use adsafe_rules::Scope;
-use code_units::{Memory, Text, from_utf8_bytes};
-use script_check::{Verdict, judge_script};
+use code_units::{Memory, Text};
+use first_breach::Breach;
+use script_check::{ScriptFault, judge_script};
 use std::alloc::Global;
+use trace_text::Rule;
 
-/// The verdict on a library. Nothing runs it, so its tree is not kept.
+/// What is known of a library.
 #[derive(Clone, Copy, Drop)]
-pub enum LibraryVerdict {
+pub enum Known {
+    /// Nothing yet.
+    Unjudged,
     /// It breaks no rule.
     Clean,
     /// Its first broken rule, of A01 to A20, and the byte where.
-    Broken { rule: u8, at: usize },
+    Broken(Breach),
 }
 
-/// What is known of the libraries of a manifest: the name of each as units, and the verdict on it.
+/// The libraries of a manifest: the name of each as units, and what is known of it. A library is
+/// judged when a slot first names it, and its tree is not kept.
 #[derive(Drop)]
-pub struct LibraryVerdicts {
+pub struct Libraries {
     pub keys: Vec<Text>,
-    pub verdicts: Vec<LibraryVerdict>,
+    pub known: Vec<Known>,
 }
 
-/// Judges each library once, for all the slots that name it.
-pub fn judge_libraries(alloc: Global, libs: &[SourceFile]) -> Result<LibraryVerdicts, Memory>
-    requires { All IsSmall libs.now }
-    ensures { IfOk result (AreJudged (sources_of libs.now)) }
-{
-    let mut keys = Vec::new(alloc);
-    let mut verdicts = Vec::new(alloc);
-    'libs: for lib in libs {
-        let key = key_of(alloc, lib.name.as_str())?;
-        let verdict = judge_library(alloc, &lib.bytes)?;
-        keys.push(key)?;
-        verdicts.push(verdict)?;
+impl Libraries {
+    /// The libraries, of which nothing is known yet.
+    pub fn new(alloc: Global, libs: &[SourceFile]) -> Result<Libraries, Memory>
+        ensures { IfOk result (AreJudged (sources_of libs.now)) }
+    {
+        let mut keys = Vec::new(alloc);
+        let mut known = Vec::new(alloc);
+        'libs: for lib in libs {
+            keys.push(Text::from_str(alloc, lib.name.as_str())?)?;
+            known.push(Known::Unjudged)?;
+        }
+        Ok(Libraries { keys, known })
     }
-    Ok(LibraryVerdicts { keys, verdicts })
+
+    /// The first library of this name.
+    pub fn place(&self, name: &Text) -> Option<usize>
+        ensures { result ≡ position (bytes_eq name.now) self.now.keys.items }
+    {
+        self.keys.iter().position(|key| *name == *key)
+    }
+
+    /// Judges the library at a place, if it was not judged before.
+    ///
+    /// # Errors
+    /// `Broken` exactly where it breaks a rule, with the first of them.
+    pub fn judge(
+        &mut self,
+        alloc: Global,
+        libs: &[SourceFile],
+        place: usize,
+    ) -> Result<(), SlotFault>
+        requires small { All IsSmall libs.now }
+        requires judged { AreJudged (sources_of libs.now) self.old }
+        requires inside { place < length libs.now }
+        ensures clean { OnOk result (IsCleanAt (sources_of libs.now) place) }
+        ensures broken { IfErr result (Refuses (IsLibraryRefusal (sources_of libs.now) place)) }
+        ensures judged { AreJudged (sources_of libs.now) self.new }
+    {
+        match self.verdict(alloc, libs, place)? {
+            Some(breach) => Err(broken_in(alloc, &libs[place], Rule::A(breach.rule), breach.at)),
+            None => Ok(()),
+        }
+    }
+
+    // The first broken rule of the library at a place, if it breaks one.
+    fn verdict(
+        &mut self,
+        alloc: Global,
+        libs: &[SourceFile],
+        place: usize,
+    ) -> Result<Option<Breach>, Memory>
+        requires small { All IsSmall libs.now }
+        requires judged { AreJudged (sources_of libs.now) self.old }
+        requires inside { place < length libs.now }
+        ensures verdict { IfOk result (IsVerdictAt (sources_of libs.now) place) }
+        ensures judged { AreJudged (sources_of libs.now) self.new }
+    {
+        let before = self.known[place];
+        match before {
+            Known::Clean => Ok(None),
+            Known::Broken(breach) => Ok(Some(breach)),
+            Known::Unjudged => {
+                let first = library_verdict(alloc, &libs[place].bytes)?;
+                self.known[place] = as_known(first);
+                Ok(first)
+            }
+        }
+    }
 }
 
-// The units of a name, which is UTF-8.
-fn key_of(alloc: Global, name: &str) -> Result<Text, Memory>
-    ensures { IfOk result (λ key. key ≡ units_of name.now) }
-{
-    from_utf8_bytes(alloc, name.as_bytes()).map_err(|_| Memory)
-}
-
-// The verdict on a library.
-fn judge_library(alloc: Global, library: &[u8]) -> Result<LibraryVerdict, Memory>
+// The first broken rule of a library, if it breaks one.
+fn library_verdict(alloc: Global, library: &[u8]) -> Result<Option<Breach>, Memory>
     requires { length library.now < 2 ^ 31 }
     ensures { IfOk result (IsLibraryVerdict library.now) }
 {
-    let verdict = judge_script(alloc, &Scope::Lib, library)?;
-    Ok(without_tree(&verdict))
-}
-
-// A verdict without its tree.
-fn without_tree(verdict: &Verdict) -> LibraryVerdict
-    ensures { result ≡ without_tree verdict.now }
-{
-    match verdict {
-        Verdict::Clean(_) => LibraryVerdict::Clean,
-        Verdict::Broken { rule, at } => LibraryVerdict::Broken {
-            rule: *rule,
-            at: *at,
-        },
+    match judge_script(alloc, &Scope::Lib, library) {
+        Ok(accepted) => {
+            drop(accepted);
+            Ok(None)
+        }
+        Err(ScriptFault::Broken(breach)) => Ok(Some(breach)),
+        Err(ScriptFault::Memory) => Err(Memory),
     }
 }
 
-/// The first library of this name.
-pub fn library_place(keys: &[Text], name: &Text) -> Option<usize>
-    ensures { result ≡ position (bytes_eq name.now) keys.now }
+// What is known by a verdict.
+fn as_known(verdict: Option<Breach>) -> Known
+    ensures { (library : List ℕ) → IsLibraryVerdict library verdict → IsKnown library result }
 {
-    keys.iter().position(|key| *name == *key)
+    match verdict {
+        Some(breach) => Known::Broken(breach),
+        None => Known::Clean,
+    }
 }

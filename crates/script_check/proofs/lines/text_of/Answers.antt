@@ -1,5 +1,0 @@
-use Rattle.script_check.proofs.Written.{broken_texts}
-use Rattle.script_check.proofs.lines.text_of.Goals as goal
-
-pub returns-in-Broken : goal.returns-in-Broken
-returns-in-Broken c = broken_texts c.args.name.now c.args.library.now c.args.verdict.now c.in-Broken.rule c.in-Broken.at c.requires.judged c.in-Broken.is c.refused_line.result c.refused_line.ensures.line c.refused_line.ensures.refused
