@@ -1,2 +1,4 @@
+pub mod Answered
 pub mod Identity
 pub mod Orders
+pub mod Plain

@@ -1,18 +1,14 @@
 -- Primitives of the store as the meaning has them.
-use Rattle.std.specs.Prelude.{◌<◌, Bool, true, false, not, if◌then◌else◌, nat_eq, ◌-ℤ◌, unsigned_abs}
+use Rattle.std.specs.Prelude.{Bool, true, false, not, if◌then◌else◌, nat_eq, ◌-ℤ◌}
 use Rattle.std.specs.Str.{bytes_eq}
-use Rattle.code_units.specs.declared.whole.WholeRead.{WholeRead}
-use Rattle.code_units.specs.declared.whole.WholeRead.TheVariants as read
 use Rattle.js_tree.specs.declared.nodes.BinOp.{BinOp}
 use Rattle.js_tree.specs.declared.nodes.BinOp.TheVariants as bin
 use Rattle.js_tree.specs.declared.nodes.UnOp.{UnOp}
 use Rattle.js_tree.specs.declared.nodes.UnOp.TheVariants as un
 use Rattle.store_cells.specs.declared.value.Value.{Value as StoreValue}
 use Rattle.store_cells.specs.declared.value.Value.TheVariants as value
-use Rattle.store_cells.specs.declared.value.Number.{Number}
 use Rattle.store_cells.specs.declared.value.Number.TheVariants as number
 use Rattle.object_store.specs.Owned as store
-use Rattle.widget_meaning.specs.Limits.{past_numbers}
 use Rattle.widget_meaning.specs.Values.{Value}
 use Rattle.widget_meaning.specs.Operators as operators
 use Rattle.widget_meaning.specs.Operators.{OpOut}
@@ -20,21 +16,10 @@ use Rattle.js_image.specs.Image.{meant}
 use Rattle.js_values.specs.declared.outcome.OpOut.{OpOut as Out}
 use Rattle.js_values.specs.declared.outcome.OpOut.TheVariants as out
 
--- a number of the language
-abbrev pub IsNumber : Number → Type 0
-IsNumber number.NaN = Unit {0}
-IsNumber (number.Whole z) = unsigned_abs z < past_numbers
-
--- a primitive, whose number is one of the language
+-- a primitive
 abbrev pub IsPrimitive : StoreValue → Type 0
 IsPrimitive (value.Ref i) = ⊥
-IsPrimitive (value.Num n) = IsNumber n
 IsPrimitive _ = Unit {0}
-
--- what a text or a primitive reads as is one of the numbers, or none
-abbrev pub IsWithin : WholeRead → Type 0
-IsWithin (read.Whole z) = unsigned_abs z < past_numbers
-IsWithin _ = Unit {0}
 
 -- an operand of an operator: `===` and `!==` take any value, the others primitives
 abbrev pub IsOperand : BinOp → StoreValue → Type 0

@@ -2,6 +2,7 @@
 #![tactic(auto)]
 
 mod comparing;
+mod laws;
 mod meter;
 mod operands;
 mod operators;
@@ -11,6 +12,7 @@ mod sums;
 
 pub use comparing::{compare, is_same};
 pub use js_image::{Fault, StopCause};
+pub use laws::{answers, primitives};
 pub use meter::{Meter, OutOfFuel};
 pub use operands::{is_true, number_of, to_number, to_text, type_name};
 pub use operators::{binary, unary};

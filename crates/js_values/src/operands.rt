@@ -5,7 +5,7 @@ ghost use Rattle.store_cells.specs.Cells.{PlainCell};
 ghost use Rattle.widget_meaning.specs.Operators as operators;
 ghost use Rattle.widget_meaning.specs.Values as meaning;
 ghost use Rattle.js_image.specs.Image.{seen};
-ghost use Rattle.js_values.specs.Operands.{IsPlainOut, IsPrimitive, IsWithin, meant_out, plain};
+ghost use Rattle.js_values.specs.Operands.{IsPlainOut, IsPrimitive, meant_out, plain};
 
 use crate::outcome::OpOut;
 use code_units::{Memory, Text, WholeRead, push_ascii, read_whole, whole_text};
@@ -67,8 +67,7 @@ pub(crate) fn push_text(units: &mut Vec<u16>, v: &Value) -> Result<(), Memory>
 /// takes no memory.
 pub fn number_of(v: &Value) -> WholeRead
     requires primitive { IsPrimitive v.now }
-    ensures value { result ≡ meaning.to_number (plain v.now) }
-    ensures within { IsWithin result }
+    ensures { result ≡ meaning.to_number (plain v.now) }
 {
     match v {
         Value::Undefined => WholeRead::NotNumber,

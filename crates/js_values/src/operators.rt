@@ -10,7 +10,7 @@ ghost use Rattle.js_values.specs.Operands.{IsOperand, IsPlainOut, IsPrefixed, Is
 use crate::comparing::{comparison, is_same};
 use crate::operands::{is_true, number_of, to_number};
 use crate::outcome::OpOut;
-use crate::quotients::{divided, modulo};
+use crate::quotients::{divided, modulo, within};
 use crate::sums::{minus, plus, times};
 use code_units::{Memory, WholeRead};
 use js_tree::{BinOp, UnOp};
@@ -19,7 +19,7 @@ use std::alloc::Global;
 
 /// An operator on two primitives, `===` and `!==` on any two values of a widget: `Left` exactly
 /// where the result is outside the numbers, `LongText` exactly where it has over 65,536 units. Only
-/// a joined text takes memory. No accepted tree has the operators that have no result.
+/// a joined text takes memory; `/` and `%` answer a number that no widget has with `Memory`. No accepted tree has the operators that have no result.
 pub fn binary(alloc: Global, op: BinOp, a: &Value, b: &Value) -> Result<OpOut, Memory>
     requires left { IsOperand op a.now }
     requires right { IsOperand op b.now }
@@ -31,8 +31,8 @@ pub fn binary(alloc: Global, op: BinOp, a: &Value, b: &Value) -> Result<OpOut, M
         BinOp::Add => plus(alloc, a, b),
         BinOp::Sub => Ok(minus(a, b)),
         BinOp::Mul => Ok(times(a, b)),
-        BinOp::Div => Ok(divided(a, b)),
-        BinOp::Rem => Ok(modulo(a, b)),
+        BinOp::Div => divided(a, b),
+        BinOp::Rem => modulo(a, b),
         BinOp::Less => Ok(comparison(BinOp::Less, a, b)),
         BinOp::Greater => Ok(comparison(BinOp::Greater, a, b)),
         BinOp::LessEqual => Ok(comparison(BinOp::LessEqual, a, b)),
@@ -53,33 +53,34 @@ pub fn binary(alloc: Global, op: BinOp, a: &Value, b: &Value) -> Result<OpOut, M
 }
 
 /// A prefix operator: `+` and `-` on a primitive, `!` on any value; `Left` exactly where the number
-/// is outside the numbers. It takes no memory. `typeof` is `type_name`, `delete` a call of the
-/// store, and no accepted tree has the others.
-pub fn unary(op: UnOp, v: &Value) -> OpOut
+/// is outside the numbers. It takes no memory; `-` answers a number that no widget has with
+/// `Memory`. `typeof` is `type_name`, `delete` a call of the store, and no accepted tree has the
+/// others.
+pub fn unary(op: UnOp, v: &Value) -> Result<OpOut, Memory>
     requires operand { IsPrefixed op v.now }
-    ensures value { (w : ℕ) (cells : List PlainCell) → meant_out result ≡ operators.unary op (seen w cells v.now) }
-    ensures plain { IsPlainOut result }
+    ensures value { IfOk result (λ o. (w : ℕ) (cells : List PlainCell) → meant_out o ≡ operators.unary op (seen w cells v.now)) }
+    ensures plain { IfOk result (λ o. IsPlainOut o) }
 {
     match op {
-        UnOp::Plus => to_number(v),
+        UnOp::Plus => Ok(to_number(v)),
         UnOp::Minus => negative(v),
-        UnOp::Not => OpOut::Is(Value::Bool(!is_true(v))),
-        UnOp::Delete => OpOut::Is(Value::Undefined),
-        UnOp::Void => OpOut::Is(Value::Undefined),
-        UnOp::TypeOf => OpOut::Is(Value::Undefined),
-        UnOp::BitNot => OpOut::Is(Value::Undefined),
+        UnOp::Not => Ok(OpOut::Is(Value::Bool(!is_true(v)))),
+        UnOp::Delete => Ok(OpOut::Is(Value::Undefined)),
+        UnOp::Void => Ok(OpOut::Is(Value::Undefined)),
+        UnOp::TypeOf => Ok(OpOut::Is(Value::Undefined)),
+        UnOp::BitNot => Ok(OpOut::Is(Value::Undefined)),
     }
 }
 
 // The negative of the number of a primitive.
-fn negative(v: &Value) -> OpOut
+fn negative(v: &Value) -> Result<OpOut, Memory>
     requires primitive { IsPrimitive v.now }
-    ensures value { meant_out result ≡ operators.unary un.Minus (plain v.now) }
-    ensures plain { IsPlainOut result }
+    ensures value { IfOk result (λ o. meant_out o ≡ operators.unary un.Minus (plain v.now)) }
+    ensures plain { IfOk result (λ o. IsPlainOut o) }
 {
     match number_of(v) {
-        WholeRead::Whole(n) => OpOut::Is(Value::Num(Number::Whole(-n))),
-        WholeRead::NotNumber => OpOut::Is(Value::Num(Number::NaN)),
-        WholeRead::Left => OpOut::Left,
+        WholeRead::Whole(n) => Ok(OpOut::Is(Value::Num(Number::Whole(-within(n)?)))),
+        WholeRead::NotNumber => Ok(OpOut::Is(Value::Num(Number::NaN))),
+        WholeRead::Left => Ok(OpOut::Left),
     }
 }

@@ -39,6 +39,8 @@ pub enum NativeOut {
     Call(Plan),
     /// The widget stops.
     Stop(StopCause),
+    /// Fuel is wanting, and nothing was taken.
+    OutOfFuel,
 }
 
 /// The calls that a native asks for.
