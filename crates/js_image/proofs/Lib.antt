@@ -3,6 +3,7 @@ pub mod Puts
 pub mod Removes
 pub mod Listed
 pub mod Units
+pub mod Called
 pub mod Grown
 pub mod Hosts
 pub mod Makes

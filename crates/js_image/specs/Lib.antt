@@ -3,3 +3,4 @@ pub mod Held
 pub mod Laws
 pub mod Plans
 pub mod Reads
+pub mod Callees

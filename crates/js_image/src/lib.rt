@@ -2,6 +2,7 @@
 //! store as the plan that it carries out.
 #![tactic(auto)]
 
+mod calling;
 mod laws;
 mod making;
 mod outcome;
@@ -9,8 +10,9 @@ mod paying;
 mod reading;
 mod writing;
 
+pub use calling::callee;
 pub use making::{make, make_array, make_fault, make_scope, word};
-pub use outcome::{Fault, Made, Paid, Removed, StopCause, Written};
+pub use outcome::{Callee, Fault, Made, Paid, Removed, StopCause, Written};
 pub use paying::{pay_slots, pay_text, pay_units};
 pub use reading::{get, keys, keys_len, variable};
 pub use writing::{assign, put, remove};

@@ -1,6 +1,6 @@
 //! What calls give.
 
-use object_store::CellId;
+use object_store::{CellId, FunParts, NativeId};
 
 /// Why a widget stops for good, beside want of fuel.
 #[derive(Clone, Copy, PartialEq, Eq, Debug, Drop)]
@@ -55,6 +55,15 @@ pub enum Fault {
 pub enum Made {
     Cell(CellId),
     Stop(StopCause),
+}
+
+/// What a value is when it is called: a function of a widget by its parts, a native, or nothing that
+/// can be called.
+#[derive(Clone, Copy, Drop)]
+pub enum Callee {
+    Function(FunParts),
+    Native(NativeId),
+    Nothing,
 }
 
 /// What paying gave.

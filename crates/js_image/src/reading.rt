@@ -10,10 +10,9 @@ ghost use Rattle.widget_meaning.specs.Properties as properties;
 ghost use Rattle.widget_meaning.specs.Scopes as scopes;
 ghost use Rattle.js_image.specs.Image.{Rest, image, seen};
 ghost use Rattle.js_image.specs.Held.{IsConfined, IsFine, IsPlaceScope};
-ghost use Rattle.js_image.specs.Reads.{is_body, reader, shown_global, stored_property, stored_read, stored_value, stored_variable};
+ghost use Rattle.js_image.specs.Reads.{cell_in, is_body, reader, shown_global, stored_property, stored_read, stored_value, stored_variable};
 
 use crate::laws::lawful;
-use crate::writing::cell_of;
 use code_units::{Memory, Text, is_word};
 use object_store::{CellId, HostEntry, Number, Store, Value};
 use std::alloc::Global;
@@ -91,6 +90,16 @@ fn length_value(t: &Text) -> Value
     ensures { result ≡ Value.Num (Number.Whole (pos (length t.now))) }
 {
     Value::Num(Number::Whole(t.units().len() as i64))
+}
+
+// The cell to which a value refers.
+pub(crate) fn cell_of(v: &Value) -> Option<CellId>
+    ensures { result ≡ cell_in v.now }
+{
+    match v {
+        Value::Ref(cell) => Some(*cell),
+        _ => None,
+    }
 }
 
 /// The permitted own names of a value, in order of insertion; a primitive has none, and the `length`

@@ -10,10 +10,10 @@ ghost use Rattle.widget_meaning.specs.Scopes as scopes;
 ghost use Rattle.js_image.specs.Image.{Rest, image, seen};
 ghost use Rattle.js_image.specs.Held.{IsConfined, IsFine, IsHeld, IsPlaceScope, Kept};
 ghost use Rattle.js_image.specs.Plans.{IsRefusalOf, put_plan, removed_plan};
-ghost use Rattle.js_image.specs.Reads.{cell_in};
 
 use crate::laws::lawful;
 use crate::outcome::{Fault, Removed, StopCause, Written};
+use crate::reading::cell_of;
 use code_units::{Memory, Owner, Text};
 use object_store::{CellId, Store, StoreFault, Value};
 
@@ -106,16 +106,6 @@ fn remove_in(store: &mut Store, w: u32, cell: CellId, name: &Text) -> Removed
     match store.remove(cell, name) {
         Ok(answer) => Removed::Done(answer),
         Err(_) => Removed::Throw(Fault::E5),
-    }
-}
-
-// The cell to which a value refers.
-pub(crate) fn cell_of(v: &Value) -> Option<CellId>
-    ensures { result ≡ cell_in v.now }
-{
-    match v {
-        Value::Ref(cell) => Some(*cell),
-        _ => None,
     }
 }
 
