@@ -22,3 +22,5 @@ pub mod Grafts
 pub mod Copies
 pub mod Detaching
 pub mod Numbering
+pub mod Rooting
+pub mod Adopting

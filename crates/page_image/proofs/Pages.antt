@@ -76,7 +76,7 @@ module _ (old new : Page) (same : SameRoots old new) where
   others_by w made owners parents trees = λ v lt ne.
       ap (λ u. own_forest (nodes new) u v) (same (owner.Widget v) (is_widget v lt))
       ∙ forest_stays (nodes old) old.arena.sound old.roots old.rooted v (root old (owner.Widget v)) (is_widget v lt) refl (nodes new) made owners
-      (λ x e. parents x (one_owner old v w x ne e))
+      (λ x e _. parents x (one_owner old v w x ne e))
       (λ x e. trees x (own_not_body (nodes old) old.arena.sound v x e) (one_owner old v w x ne e))
 
   pub others_stay : (w t : ℕ) → owns old w t ≡ true → length (nodes new) ≡ length (nodes old) → ((x : ℕ) → (at (nodes new) x).owner ≡ (at (nodes old) x).owner) → ((x : ℕ) → owns old w x ≡ false → is_some (at (nodes new) x).parent ≡ is_some (at (nodes old) x).parent) → page.OthersStay (nodes old) (nodes new) t → OthersStay old new w

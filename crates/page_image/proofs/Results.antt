@@ -30,6 +30,10 @@ pub ok_both : {T E : Type 0} (r : Result T E) (A B Q : Type 0) → (A → B → 
 ok_both (Ok x) A B Q f a b = f a b
 ok_both (Err x) A B Q f a b = a
 
+pub err_both : {T E : Type 0} (r : Result T E) (A B Q : Type 0) → (A → B → Q) → OnErr r A → OnErr r B → OnErr r Q
+err_both (Ok x) A B Q f a b = a
+err_both (Err x) A B Q f a b = f a b
+
 -- what does not speak of what is given
 pub if_ok_on : {T E : Type 0} (r : Result T E) (P : T → Type 0) (Q : Type 0) → ((x : T) → P x → Q) → IfOk r P → OnOk r Q
 if_ok_on (Ok x) P Q f h = f x h

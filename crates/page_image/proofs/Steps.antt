@@ -51,7 +51,7 @@ filter_same p q h [] = refl
 filter_same p q h (x ∷ xs) = ap (λ b. cond b (x ∷ filter q xs) (filter q xs)) (h x) ∙ ap (λ l. cond (p x) (x ∷ l) l) (filter_same p q h xs)
 
 -- a test that one number fails
-minus_filter : (p q : ℕ → Bool) (n : ℕ) → ((x : ℕ) → q x ≡ cond (eqb x n) false (p x)) → (xs : List ℕ) → filter q xs ≡ minus n (filter p xs)
+pub minus_filter : (p q : ℕ → Bool) (n : ℕ) → ((x : ℕ) → q x ≡ cond (eqb x n) false (p x)) → (xs : List ℕ) → filter q xs ≡ minus n (filter p xs)
 minus_filter p q n h [] = refl
 minus_filter p q n h (x ∷ xs) =
     ap (λ b. cond b (x ∷ filter q xs) (filter q xs)) (h x)
@@ -124,7 +124,7 @@ grafted_beside t s us End b = refl
 grafted_beside t s us (Node m v ks a) b = ap (Node m v (cond (eqb m t) (put_before s us (grafted t s us ks)) (grafted t s us ks))) (grafted_beside t s us a b)
 
 -- without a node: the other tops, each without it
-without_tops : (k : List Entry) (n : ℕ) (ns : List ℕ) → without n (trees_of k ns) ≡ joined (map (λ x. pruned n (tree k x)) (minus n ns))
+pub without_tops : (k : List Entry) (n : ℕ) (ns : List ℕ) → without n (trees_of k ns) ≡ joined (map (λ x. pruned n (tree k x)) (minus n ns))
 without_tops k n [] = refl
 without_tops k n (m ∷ ns) = cases (λ b. cond b (without n (trees_of k ns)) (Node m (at k m).label (without n (read k limit (at k m).children)) (without n (trees_of k ns))) ≡ joined (map (λ x. pruned n (tree k x)) (cond (not b) (m ∷ minus n ns) (minus n ns)))) (eqb m n)
     (λ _. without_tops k n ns)

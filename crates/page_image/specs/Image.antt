@@ -3,7 +3,8 @@ use Rattle.std.specs.Prelude.{◌≡◌, ℕ, List, Option, Some, Bool}
 use Rattle.std.specs.Option.{option_map_or}
 use Rattle.code_units.specs.declared.owner.Owner.TheVariants as owner
 use Rattle.plain_tree.specs.Trees.{Label, Trees}
-use Rattle.tree_ops.specs.Trees.{relabelled}
+use Rattle.tree_ops.specs.Trees.{is_number, relabelled}
+use Rattle.page_nodes.specs.Entries.{at, body}
 use Rattle.page_tree.specs.declared.page.Page.{Page}
 use Rattle.page_tree.specs.Pages.{nodes, root}
 use Rattle.widget_meaning.specs.Trees.{label_of}
@@ -16,6 +17,10 @@ owns p w n = is_own (nodes p) w n
 -- the number of a node among the widget's, by birth
 unfoldable pub number : Page → ℕ → ℕ → ℕ
 number p w n = own_number (nodes p) w n
+
+-- whether a node stands under the host's `body`
+unfoldable pub is_shown : Page → ℕ → Bool
+is_shown p n = is_number body (at (nodes p) n).parent
 
 -- the widget's nodes by birth
 unfoldable pub own : Page → ℕ → List ℕ

@@ -1,5 +1,5 @@
 -- What stays where a page changes.
-use Rattle.std.specs.Prelude.{◌≡◌, ◌≢◌, ℕ, ◌<◌, List, ◌++◌, length, true, false}
+use Rattle.std.specs.Prelude.{◌≡◌, ◌≢◌, ℕ, ◌<◌, List, ◌++◌, length, Some, true, false}
 use Rattle.page_tree.specs.declared.page.Page.{Page}
 use Rattle.query_grammar.specs.Finds.{has_number}
 use Rattle.page_image.specs.Image.{owns, number, own, root_of, forest}
@@ -10,6 +10,14 @@ pub record KeepsNodes (old new : Page) : Type 0 where
   pub numbers : (v n : ℕ) → number new v n ≡ number old v n
   pub nodes : (v : ℕ) → own new v ≡ own old v
   pub roots : (v : ℕ) → v < 32 → root_of new v ≡ root_of old v
+
+-- No node comes and none goes, and a node becomes a widget's root. The roots of the others stay.
+pub record GetsRoot (old new : Page) (w n : ℕ) : Type 0 where
+  pub owners : (v x : ℕ) → owns new v x ≡ owns old v x
+  pub numbers : (v x : ℕ) → number new v x ≡ number old v x
+  pub nodes : (v : ℕ) → own new v ≡ own old v
+  pub root : root_of new w ≡ Some n
+  pub others : (v : ℕ) → v < 32 → v ≢ w → root_of new v ≡ root_of old v
 
 -- A widget gets nodes that were nobody's: they stand behind its others. All older nodes keep their owners and own numbers, and the roots stay.
 pub record Grows (old new : Page) (w : ℕ) (news : List ℕ) : Type 0 where

@@ -9,6 +9,7 @@ mod changes;
 mod growth;
 mod laws;
 mod reads;
+mod roots;
 
 pub use changes::{append, detach, detach_all, empty, replace, set_attr, set_text};
 pub use growth::{add, append_copies, copy};
@@ -16,3 +17,4 @@ pub use laws::{kept_by_number, numbers_agree, numbers_stay};
 pub use reads::{
     attr_of_word, children, content, depth, is_root, made, may_append, parent, tag, text,
 };
+pub use roots::{adopt, is_shown, swap_root};
