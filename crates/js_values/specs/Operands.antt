@@ -1,6 +1,8 @@
 -- Primitives of the store as the meaning has them.
-use Rattle.std.specs.Prelude.{Bool, true, false, not, if◌then◌else◌, nat_eq, ◌-ℤ◌}
+use Rattle.std.specs.Prelude.{Bool, true, false, not, if◌then◌else◌, nat_eq, nat_lt, ◌-ℤ◌, unsigned_abs}
 use Rattle.std.specs.Str.{bytes_eq}
+use Rattle.code_units.specs.declared.whole.WholeRead.{WholeRead}
+use Rattle.code_units.specs.declared.whole.WholeRead.TheVariants as read
 use Rattle.js_tree.specs.declared.nodes.BinOp.{BinOp}
 use Rattle.js_tree.specs.declared.nodes.BinOp.TheVariants as bin
 use Rattle.js_tree.specs.declared.nodes.UnOp.{UnOp}
@@ -9,7 +11,8 @@ use Rattle.store_cells.specs.declared.value.Value.{Value as StoreValue}
 use Rattle.store_cells.specs.declared.value.Value.TheVariants as value
 use Rattle.store_cells.specs.declared.value.Number.TheVariants as number
 use Rattle.object_store.specs.Owned as store
-use Rattle.widget_meaning.specs.Values.{Value}
+use Rattle.widget_meaning.specs.Limits.{past_numbers}
+use Rattle.widget_meaning.specs.Values.{Value, to_number}
 use Rattle.widget_meaning.specs.Operators as operators
 use Rattle.widget_meaning.specs.Operators.{OpOut}
 use Rattle.js_image.specs.Image.{meant}
@@ -30,6 +33,19 @@ IsOperand _ v = IsPrimitive v
 -- a primitive as the meaning has it; it is the same in each store
 abbrev pub plain : StoreValue → Value
 plain v = meant (store.Is v)
+
+-- whether a primitive reads as a whole number that is none of the language's; no widget has one
+abbrev pub is_outside : WholeRead → Bool
+is_outside (read.Whole z) = not (nat_lt (unsigned_abs z) past_numbers)
+is_outside _ = false
+
+abbrev pub reads_outside : StoreValue → Bool
+reads_outside v = is_outside (to_number (plain v))
+
+-- `+`, which may join texts
+abbrev pub is_adding : BinOp → Bool
+is_adding bin.Add = true
+is_adding _ = false
 
 -- what an operator gives
 abbrev pub meant_out : Out → OpOut

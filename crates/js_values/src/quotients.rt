@@ -1,9 +1,9 @@
 //! `/` and `%` on primitives (ECMA-262 3rd edition, 11.5.2 and 11.5.3).
-ghost use Rattle.std.specs.Prelude.{◌≡◌, ◌<◌, IfOk, unsigned_abs};
+ghost use Rattle.std.specs.Prelude.{◌≡◌, ◌<◌, ◌||◌, IfOk, OnErr, nat_lt, not, true, unsigned_abs};
 ghost use Rattle.js_tree.specs.declared.nodes.BinOp.TheVariants as bin;
 ghost use Rattle.widget_meaning.specs.Limits.{past_numbers};
 ghost use Rattle.widget_meaning.specs.Operators as operators;
-ghost use Rattle.js_values.specs.Operands.{IsPlainOut, IsPrimitive, meant_out, plain};
+ghost use Rattle.js_values.specs.Operands.{IsPlainOut, IsPrimitive, meant_out, plain, reads_outside};
 
 use crate::operands::number_of;
 use crate::outcome::OpOut;
@@ -16,11 +16,17 @@ pub(crate) fn divided(a: &Value, b: &Value) -> Result<OpOut, Memory>
     requires right { IsPrimitive b.now }
     ensures value { IfOk result (λ o. meant_out o ≡ operators.binary bin.Div (plain a.now) (plain b.now)) }
     ensures plain { IfOk result (λ o. IsPlainOut o) }
+    ensures outside { OnErr result ((reads_outside a.now || reads_outside b.now) ≡ true) }
 {
     match (number_of(a), number_of(b)) {
         (WholeRead::Left, _) => Ok(OpOut::Left),
         (_, WholeRead::Left) => Ok(OpOut::Left),
-        (WholeRead::Whole(x), WholeRead::Whole(y)) => Ok(quotient(within(x)?, within(y)?)),
+        (WholeRead::Whole(x), WholeRead::Whole(y)) => {
+            if is_outside(x) || is_outside(y) {
+                return Err(Memory);
+            }
+            Ok(quotient(x, y))
+        }
         _ => Ok(OpOut::Is(Value::Num(Number::NaN))),
     }
 }
@@ -31,25 +37,26 @@ pub(crate) fn modulo(a: &Value, b: &Value) -> Result<OpOut, Memory>
     requires right { IsPrimitive b.now }
     ensures value { IfOk result (λ o. meant_out o ≡ operators.binary bin.Rem (plain a.now) (plain b.now)) }
     ensures plain { IfOk result (λ o. IsPlainOut o) }
+    ensures outside { OnErr result ((reads_outside a.now || reads_outside b.now) ≡ true) }
 {
     match (number_of(a), number_of(b)) {
         (WholeRead::Left, _) => Ok(OpOut::Left),
         (_, WholeRead::Left) => Ok(OpOut::Left),
-        (WholeRead::Whole(x), WholeRead::Whole(y)) => Ok(remainder(within(x)?, within(y)?)),
+        (WholeRead::Whole(x), WholeRead::Whole(y)) => {
+            if is_outside(x) || is_outside(y) {
+                return Err(Memory);
+            }
+            Ok(remainder(x, y))
+        }
         _ => Ok(OpOut::Is(Value::Num(Number::NaN))),
     }
 }
 
-// A number of the language. No widget has another; one is answered with `Memory`, so that nobody
-// has to know it.
-pub(crate) fn within(n: i64) -> Result<i64, Memory>
-    ensures { IfOk result (λ m. (m ≡ n) × (unsigned_abs n < past_numbers)) }
+// Whether a number is none of the language's. No widget has one.
+pub(crate) fn is_outside(n: i64) -> bool
+    ensures { result ≡ not (nat_lt (unsigned_abs n) past_numbers) }
 {
-    if n.unsigned_abs() < LIMIT {
-        Ok(n)
-    } else {
-        Err(Memory)
-    }
+    n.unsigned_abs() >= LIMIT
 }
 
 // The first number past the numbers.
