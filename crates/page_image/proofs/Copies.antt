@@ -31,7 +31,7 @@ no_true : false ≡ true → ⊥
 no_true e = cc
 
 -- one tree
-abbrev IsOne : Option (Trees ℕ) → Type 0
+abbrev pub IsOne : Option (Trees ℕ) → Type 0
 IsOne None = ⊥
 IsOne (Some End) = ⊥
 IsOne (Some (Node m l ks End)) = Unit {0}
@@ -39,19 +39,19 @@ IsOne (Some (Node m l ks (Node _ _ _ _))) = ⊥
 
 -- ## Lists and trees
 
-copied_beside : (a b : Trees ℕ) → copied (beside a b) ≡ beside (copied a) (copied b)
+pub copied_beside : (a b : Trees ℕ) → copied (beside a b) ≡ beside (copied a) (copied b)
 copied_beside End b = refl
 copied_beside (Node m l ks a) b = ap (Node m (copied_label l) (copied ks)) (copied_beside a b)
 
-size_beside : (a b : Trees ℕ) → size (beside a b) ≡ size a + size b
+pub size_beside : (a b : Trees ℕ) → size (beside a b) ≡ size a + size b
 size_beside End b = omega arith
 size_beside (Node m l ks a) b = let e : size (beside a b) ≡ size a + size b = size_beside a b in omega (arith, e)
 
-size_copied : (ts : Trees ℕ) → size (copied ts) ≡ size ts
+pub size_copied : (ts : Trees ℕ) → size (copied ts) ≡ size ts
 size_copied End = refl
 size_copied (Node m l ks ts) = ap (λ a. a + size (copied ts) + 1) (size_copied ks) ∙ ap (λ b. size ks + b + 1) (size_copied ts)
 
-numbered_beside : (n : ℕ) (a b : Trees ℕ) → numbered n (beside a b) ≡ beside (numbered n a) (numbered (n + size a) b)
+pub numbered_beside : (n : ℕ) (a b : Trees ℕ) → numbered n (beside a b) ≡ beside (numbered n a) (numbered (n + size a) b)
 numbered_beside n End b = let e : n ≡ n + 0 = omega arith in ap (λ q. numbered q b) e
 numbered_beside n (Node m l ks ts) b =
     let e : n + 1 + size ks + size ts ≡ n + (size ks + size ts + 1) = omega arith in
@@ -94,7 +94,7 @@ has_tree n (Node m l ks ts) h = by_test (eqb m n) h (has_tree n ks) (has_tree n 
     by_test false e f g = ⊎_elim (λ x. left (tree_of n ks) (f x)) (λ x. right (tree_of n ks) (g x)) (or_cases (has n ks) (has n ts) e)
 
 -- the tree of a node that stands in the first trees
-first_found : (n : ℕ) (a b : Trees ℕ) → has n a ≡ true → subtree n (beside a b) ≡ subtree n a
+pub first_found : (n : ℕ) (a b : Trees ℕ) → has n a ≡ true → subtree n (beside a b) ≡ subtree n a
 first_found n a b h = ap (λ o. unwrap_or o End) (tree_of_beside n a b ∙ some (tree_of n a) (has_tree n a h))
   where
     some : (o : Option (Trees ℕ)) → is_some o ≡ true → option_or o (tree_of n b) ≡ o
@@ -138,7 +138,7 @@ grows_kept a b c w xs p q = record {
 
 -- ## Copies
 
-one_tree : (n : ℕ) (ts : Trees ℕ) → has n ts ≡ true → IsOne (tree_of n ts)
+pub one_tree : (n : ℕ) (ts : Trees ℕ) → has n ts ≡ true → IsOne (tree_of n ts)
 one_tree n End h = absurd (no_true h)
 one_tree n (Node m l ks ts) h = by_test (eqb m n) h (one_tree n ks) (one_tree n ts)
   where
@@ -174,13 +174,13 @@ copied_none p w = record {
 }
 
 module _ (old mid new : Page) (w : ℕ) (ns ids : List ℕ) (c : AreCopied old mid w ns ids) (n id : ℕ) (hn : owns old w n ≡ true) where
-  same_tree : subtree (number mid w n) (forest mid w) ≡ subtree (number old w n) (forest old w)
+  pub same_tree : subtree (number mid w n) (forest mid w) ≡ subtree (number old w n) (forest old w)
   same_tree =
       ap (λ x. subtree x (forest mid w)) ((c.grown.2).numbers w n hn)
       ∙ ap (subtree (number old w n)) c.trees
       ∙ first_found (number old w n) (forest old w) (copies_of old w ns) (stands_at old w n hn)
 
-  made : length (own mid w) ≡ length (own old w) + size (copied (trees_at old w ns))
+  pub made : length (own mid w) ≡ length (own old w) + size (copied (trees_at old w ns))
   made = ap length (c.grown.2).nodes ∙ length-append (own old w) (c.grown.0) ∙ ap (λ x. length (own old w) + x) (c.grown.1 ∙ sym (size_copied (trees_at old w ns)))
 
   last_tree : trees_at old w (ns ++ n ∷ []) ≡ beside (trees_at old w ns) (subtree (number old w n) (forest old w))
@@ -245,7 +245,7 @@ low : (p : Page) (w x : ℕ) → is_own (nodes p) w x ≡ true → is_below (len
 unfolding owns number
 low p w x h = below_is (own_number (nodes p) w x) (length (own p w)) (number_low p w x h)
 
-all_low : (p : Page) (w : ℕ) → is_owner (owner.Widget w) ≡ true → AllIn (is_below (length (own p w))) (forest p w)
+pub all_low : (p : Page) (w : ℕ) → is_owner (owner.Widget w) ≡ true → AllIn (is_below (length (own p w))) (forest p w)
 unfolding forest
 all_low p w is = marked_low (own_number (nodes p) w) (is_own (nodes p) w) (is_below (length (own p w))) (low p w) (page_forest (nodes p) (root p (owner.Widget w)) w) (forest_own (nodes p) p.arena.sound p.roots p.rooted w (root p (owner.Widget w)) is refl)
 

@@ -56,22 +56,22 @@ is_less : (x c : ℕ) → is_below c x ≡ true → x < c
 unfolding is_below
 is_less x c e = ltb-true x c e
 
-all_below : (a b : ℕ) → a ≤ b → (ts : Trees ℕ) → AllIn (is_below a) ts → AllIn (is_below b) ts
+pub all_below : (a b : ℕ) → a ≤ b → (ts : Trees ℕ) → AllIn (is_below a) ts → AllIn (is_below b) ts
 all_below a b le End h = tt
 all_below a b le (Node m l ks ts) h = (below_is m b (let lt : m < a = is_less m a (h.0) in omega (arith, lt, le)), all_below a b le ks (h.1), all_below a b le ts (h.2))
 
-numbered_below : (a b : ℕ) (ts : Trees ℕ) → a + size ts ≤ b → AllIn (is_below b) (numbered a ts)
+pub numbered_below : (a b : ℕ) (ts : Trees ℕ) → a + size ts ≤ b → AllIn (is_below b) (numbered a ts)
 numbered_below a b End le = tt
 numbered_below a b (Node m l ks ts) le = (below_is a b (omega (arith, le)), numbered_below (a + 1) b ks (omega (arith, le)), numbered_below (a + 1 + size ks) b ts (omega (arith, le)))
 
-numbered_off : (a : ℕ) (ts : Trees ℕ) (x : ℕ) → x < a → has x (numbered a ts) ≡ false
+pub numbered_off : (a : ℕ) (ts : Trees ℕ) (x : ℕ) → x < a → has x (numbered a ts) ≡ false
 numbered_off a End x lt = refl
 numbered_off a (Node m l ks ts) x lt =
     ap (λ b. b || (has x (numbered (a + 1) ks) || has x (numbered (a + 1 + size ks) ts))) (ne_eqb a x (λ e. omega (arith, e, lt)))
     ∙ ap (λ b. b || has x (numbered (a + 1 + size ks) ts)) (numbered_off (a + 1) ks x (omega (arith, lt)))
     ∙ numbered_off (a + 1 + size ks) ts x (omega (arith, lt))
 
-off_below : (c x : ℕ) → c ≤ x → (ts : Trees ℕ) → AllIn (is_below c) ts → has x ts ≡ false
+pub off_below : (c x : ℕ) → c ≤ x → (ts : Trees ℕ) → AllIn (is_below c) ts → has x ts ≡ false
 off_below c x le ts h = by_case (has x ts) refl
   where
     no_lt : x < c → ⊥

@@ -24,3 +24,4 @@ pub mod Detaching
 pub mod Numbering
 pub mod Rooting
 pub mod Adopting
+pub mod Refusing

@@ -1,5 +1,6 @@
 -- What holds of an answer.
-use Rattle.std.proofs.Common.{Result, Ok, Err, OnOk, OnErr, IfOk, IfErr}
+use Rattle.std.specs.Prelude.{IsErrAnd}
+use Rattle.std.proofs.Common.{◌≡◌, sym, subst, Result, Ok, Err, OnOk, OnErr, IfOk, IfErr}
 
 pub ok_then : {T E : Type 0} (r : Result T E) (P Q : Type 0) → (P → Q) → OnOk r P → OnOk r Q
 ok_then (Ok x) P Q f h = f h
@@ -42,3 +43,8 @@ if_ok_on (Err x) P Q f h = h
 pub if_either : {T E : Type 0} (r : Result T E) (P : T → Type 0) (Q R : Type 0) → ((x : T) → P x → R) → (Q → R) → IfOk r P → OnErr r Q → R
 if_either (Ok x) P Q R f g p q = f x p
 if_either (Err x) P Q R f g p q = g q
+
+-- an error that is handed on as it is
+pub handed_on : {T E : Type 0} (r : Result T E) (e : E) (P : E → Type 0) → IsErrAnd r (λ y. y ≡ e) → P e → IfErr r P
+handed_on (Ok x) e P q h = absurd q
+handed_on (Err x) e P q h = subst P (sym q) h

@@ -11,6 +11,13 @@ RefusesCopy made more fault.Memory = Unit {0}
 RefusesCopy made more fault.TooDeep = ⊥
 RefusesCopy made more fault.NotInside = ⊥
 
+-- So many copies pass the limit of a widget that has so many nodes; those that were made before are kept.
+abbrev pub RefusesCopies : ℕ → ℕ → PageFault → Type 0
+RefusesCopies made more (fault.Nodes kept) = (made ≤ kept) × (16384 < made + more)
+RefusesCopies made more fault.Memory = Unit {0}
+RefusesCopies made more fault.TooDeep = ⊥
+RefusesCopies made more fault.NotInside = ⊥
+
 -- a tree is too deep, or its nodes pass the limit
 abbrev pub RefusesTree : ℕ → PlainTrees → PageFault → Type 0
 RefusesTree made p fault.TooDeep = 201 < height p

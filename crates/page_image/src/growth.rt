@@ -1,5 +1,5 @@
 //! New nodes of one widget. All older nodes keep their numbers, and the trees of all others stay.
-ghost use Rattle.std.specs.Prelude.{◌≡◌, ℕ, ◌+◌, ◌<◌, ◌≤◌, List, [], ◌∷◌, ◌++◌, None, true, length, OnOk, OnErr, IfOk, IfErr};
+ghost use Rattle.std.specs.Prelude.{◌≡◌, ℕ, ◌+◌, ◌<◌, ◌≤◌, List, [], ◌∷◌, ◌++◌, None, true, map, length, OnOk, OnErr, IfOk, IfErr};
 ghost use Rattle.page_tree.specs.declared.fault.PageFault.{PageFault};
 ghost use Rattle.plain_tree.specs.Plains.{unplaced};
 ghost use Rattle.plain_tree.specs.Trees.{beside, size};
@@ -7,8 +7,9 @@ ghost use Rattle.tree_ops.specs.Trees.{subtree, numbered, copied, grafted};
 ghost use Rattle.query_grammar.specs.Finds.{has_number};
 ghost use Rattle.page_image.specs.Copies.{AreCopied, trees_at, copies_of};
 ghost use Rattle.page_image.specs.Image.{owns, number, own, forest, HasRoot};
-ghost use Rattle.page_image.specs.Refusals.{RefusesTree, RefusesCopy};
+ghost use Rattle.page_image.specs.Refusals.{RefusesTree, RefusesCopy, RefusesCopies};
 ghost use Rattle.page_image.specs.Stays.{KeepsNodes, GrowsBy, OthersStay};
+ghost use Rattle.page_image.specs.Targets.{takes};
 
 use crate::changes::append;
 use code_units::{Memory, Owner};
@@ -67,6 +68,8 @@ fn copy_all(
 ) -> Result<Vec<NodeId>, PageFault>
     requires { (n : ℕ) → has_number nodes.now n ≡ true → owns page.old widget n ≡ true }
     ensures copied { IfOk result (λ ids. AreCopied page.old page.new widget nodes.now ids.items) }
+    ensures refused { IfErr result (RefusesCopies (length (own page.old widget))
+        (size (trees_at page.old widget nodes.now))) }
     ensures others { OthersStay page.old page.new widget }
 {
     let mut ids = Vec::new(alloc);
@@ -78,7 +81,8 @@ fn copy_all(
 }
 
 /// Adds copies of nodes of a widget, each with all below it and without ids, as the last children of
-/// a target, in order.
+/// a target, in order. Where the target takes the nodes, it is refused for want of memory or for too
+/// many nodes alone. Where it is refused, copies may be left as detached trees.
 pub fn append_copies(
     alloc: Global,
     page: &mut Page,
@@ -92,6 +96,9 @@ pub fn append_copies(
     ensures image { OnOk result (forest page.new widget ≡
         grafted (number page.old widget target) None (copies_of page.old widget nodes.now) (forest page.old widget)) }
     ensures grows { OnOk result (GrowsBy page.old page.new widget (size (trees_at page.old widget nodes.now))) }
+    ensures refused { IfErr result (λ f.
+        takes (forest page.old widget) (map (number page.old widget) nodes.now) (number page.old widget target) ≡ true →
+        RefusesCopies (length (own page.old widget)) (size (trees_at page.old widget nodes.now)) f) }
     ensures others { OthersStay page.old page.new widget }
 {
     let ids = copy_all(alloc, page, widget, nodes)?;

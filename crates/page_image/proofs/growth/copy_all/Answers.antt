@@ -1,5 +1,10 @@
-use Rattle.std.proofs.Common.{[], sym, subst, take}
-use Rattle.page_image.specs.Copies.{AreCopied}
+use Rattle.std.proofs.Common.{[], length, sym, subst, take}
+use Rattle.plain_tree.specs.Trees.{size}
+use Rattle.page_image.specs.Copies.{AreCopied, trees_at}
+use Rattle.page_image.specs.Image.{own}
+use Rattle.page_image.specs.Refusals.{RefusesCopies}
+use Rattle.page_image.proofs.Refusing.{copy_too_many}
+use Rattle.page_image.proofs.Results.{handed_on}
 use Rattle.page_image.proofs.Copies.{copied_none, copied_at, copied_all, still_owned}
 use Rattle.page_image.proofs.growth.copy_all.Goals as goal
 
@@ -14,3 +19,11 @@ each-preserved c = copied_at c.args.page.now c.each.page c.copy.new.page c.args.
 
 pub returns-clause-copied : goal.returns-clause-copied
 returns-clause-copied c = copied_all c.args.page.now c.each.page c.args.widget c.each.node-index c.args.nodes.now c.each.ids.items c.each-test.false c.each.invariant
+
+pub returns-in_err-id-clause-refused : goal.returns-in_err-id-clause-refused
+returns-in_err-id-clause-refused c =
+    let old = c.args.page.now in
+    let w = c.args.widget in
+    let ns = c.args.nodes.now in
+    handed_on c.from_residual.result c.in_err-id.field-0.0 (RefusesCopies (length (own old w)) (size (trees_at old w ns))) c.from_residual.ensures.1
+    (copy_too_many old c.each.page w c.each.node-index ns c.each.ids.items c.each-test.true c.requires c.each.invariant c.in_err-id.field-0.0 c.in_err-id.ensures.refused)
