@@ -1,0 +1,4 @@
+pub mod Events
+pub mod Going
+pub mod States
+pub mod Growth
