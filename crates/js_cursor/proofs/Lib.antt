@@ -2,3 +2,4 @@ pub mod Input
 pub mod Reading
 pub mod Listed
 pub mod Keys
+pub mod Kept

@@ -1,3 +1,4 @@
 pub mod Signs
 pub mod Reads
 pub mod Named
+pub mod Texts

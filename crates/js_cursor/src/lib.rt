@@ -9,3 +9,4 @@ pub mod refusal;
 pub mod script;
 pub mod signs;
 pub mod steps;
+pub mod texts;

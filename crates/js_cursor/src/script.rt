@@ -6,6 +6,7 @@ ghost use Rattle.js_cursor.specs.Signs.{input, sign_of};
 ghost use Rattle.js_cursor.specs.Reads.{Next, lexeme_at};
 
 use crate::signs::sign_of;
+use crate::texts::{Texts, texts_of};
 use code_units::{Memory, Text};
 use js_grammar::Sign;
 use js_tokens::{Token, token_text};
@@ -18,6 +19,7 @@ pub struct Script<'a> {
     bytes: &'a [u8],
     tokens: &'a [Token],
     signs: Vec<Sign>,
+    texts: Texts,
     alloc: Global,
 }
 
@@ -25,12 +27,14 @@ impl<'a> Model for Script<'a> {
     ghost use Rattle.std.specs.Prelude.{List};
     ghost use Rattle.js_grammar.specs.Grammar.{Token};
     ghost use Rattle.js_cursor.specs.Signs.{input, IsScript};
+    ghost use Rattle.js_cursor.specs.Texts.{AreTexts};
 
     ghost Value = { List Token };
 
     ghost view = { λ s. input s.bytes.now s.tokens.now };
 
-    ghost invariant = { λ s. IsScript s.bytes.now s.tokens.now s.signs.items };
+    ghost invariant = { λ s. IsScript s.bytes.now s.tokens.now s.signs.items ×
+        AreTexts s.bytes.now s.tokens.now s.texts.numbers.items s.texts.list.items };
 }
 
 // The signs of the tokens.
@@ -53,10 +57,12 @@ impl<'a> Script<'a> {
         ensures { IfOk result (λ script. script ≡ input bytes.now tokens.now) }
     {
         let signs = signs_of(alloc, bytes, tokens)?;
+        let texts = texts_of(alloc, bytes, tokens)?;
         Ok(Script {
             bytes,
             tokens,
             signs,
+            texts,
             alloc,
         })
     }
@@ -98,6 +104,10 @@ impl<'a> Script<'a> {
         requires { at + 1 < length self.now }
         ensures { IfOk result (λ t. t ≡ (lexeme_at self.now at).text) }
     {
-        token_text(self.alloc, self.bytes, &self.tokens[at])
+        let number = self.texts.numbers[at] as usize;
+        if number == 0 {
+            return token_text(self.alloc, self.bytes, &self.tokens[at]);
+        }
+        self.texts.list[number - 1].share()
     }
 }
