@@ -17,7 +17,7 @@ use Rattle.page_image.specs.Own.{is_own, own_number, page_forest}
 use Rattle.query_grammar.specs.Finds.{has_number}
 use Rattle.query_grammar.proofs.Numbers.{has_both, has_first, has_at}
 use Rattle.widget_meaning.specs.Trees.{moved, subtrees}
-use Rattle.page_image.specs.Copies.{AreCopied, trees_at, copies_of}
+use Rattle.page_image.specs.Copies.{AreCopied, SomeCopied, trees_at, copies_of}
 use Rattle.page_image.specs.Image.{owns, number, own, forest, HasRoot}
 use Rattle.page_image.specs.Stays.{KeepsNodes, Grows, GrowsBy, OthersStay}
 use Rattle.page_image.proofs.Copying.{none_there, tree_of_beside}
@@ -226,6 +226,16 @@ copied_at old mid new w i ns ids list id lt own c e trees is mine g others =
 
 pub copied_all : (old new : Page) (w i : ℕ) (ns ids : List ℕ) → length ns ≤ i → AreCopied old new w (take i ns) ids → AreCopied old new w ns ids
 copied_all old new w i ns ids le c = subst (λ l. AreCopied old new w l ids) (take_all i ns le) c
+
+-- what is left of them
+pub some_copied : (old new : Page) (w i : ℕ) (ns ids : List ℕ) → AreCopied old new w (take i ns) ids → SomeCopied old new w ns
+some_copied old new w i ns ids c = record { many = i; trees = c.trees; grown = c.grown }
+
+pub some_kept : (old mid new : Page) (w i : ℕ) (ns ids : List ℕ) → AreCopied old mid w (take i ns) ids → forest new w ≡ forest mid w → KeepsNodes mid new → SomeCopied old new w ns
+some_kept old mid new w i ns ids c e k = record { many = i; trees = e ∙ c.trees; grown = (c.grown.0, c.grown.1, grows_kept old mid new w (c.grown.0) (c.grown.2) k) }
+
+pub all_kept : (old mid new : Page) (w : ℕ) (ns ids : List ℕ) → AreCopied old mid w ns ids → KeepsNodes mid new → forest new w ≡ forest mid w → SomeCopied old new w ns
+all_kept old mid new w ns ids c k e = some_kept old mid new w (length ns) ns ids (subst (λ l. AreCopied old mid w l ids) (sym (take_all (length ns) ns (omega arith))) c) e k
 
 -- the node that is copied is still the widget's
 pub still_owned : (old mid : Page) (w i : ℕ) (ns ms ids : List ℕ) → i < length ns → ((n : ℕ) → has_number ns n ≡ true → owns old w n ≡ true) → AreCopied old mid w ms ids → owns mid w (get_or ns i 0) ≡ true

@@ -48,3 +48,7 @@ if_either (Err x) P Q R f g p q = g q
 pub handed_on : {T E : Type 0} (r : Result T E) (e : E) (P : E → Type 0) → IsErrAnd r (λ y. y ≡ e) → P e → IfErr r P
 handed_on (Ok x) e P q h = absurd q
 handed_on (Err x) e P q h = subst P (sym q) h
+
+pub err_holds : {T E : Type 0} (r : Result T E) (e : E) (P : Type 0) → IsErrAnd r (λ y. y ≡ e) → P → OnErr r P
+err_holds (Ok x) e P q h = absurd q
+err_holds (Err x) e P q h = h

@@ -1,5 +1,5 @@
 -- Copies of several nodes of a widget.
-use Rattle.std.specs.Prelude.{◌≡◌, ℕ, List, length, map, true}
+use Rattle.std.specs.Prelude.{◌≡◌, ℕ, List, length, map, take, true}
 use Rattle.plain_tree.specs.Trees.{Trees, beside, size}
 use Rattle.tree_ops.specs.Trees.{tops, numbered, copied}
 use Rattle.page_tree.specs.declared.page.Page.{Page}
@@ -23,3 +23,9 @@ pub record AreCopied (old new : Page) (w : ℕ) (ns ids : List ℕ) : Type 0 whe
   pub owned : (n : ℕ) → has_number ids n ≡ true → owns new w n ≡ true
   pub grown : GrowsBy old new w (size (trees_at old w ns))
   pub others : OthersStay old new w
+
+-- Copies of the first so many nodes stand behind all other trees of a widget.
+pub record SomeCopied (old new : Page) (w : ℕ) (ns : List ℕ) : Type 0 where
+  pub many : ℕ
+  pub trees : forest new w ≡ beside (forest old w) (copies_of old w (take many ns))
+  pub grown : GrowsBy old new w (size (trees_at old w (take many ns)))

@@ -5,7 +5,7 @@ ghost use Rattle.plain_tree.specs.Plains.{unplaced};
 ghost use Rattle.plain_tree.specs.Trees.{beside, size};
 ghost use Rattle.tree_ops.specs.Trees.{subtree, numbered, copied, grafted};
 ghost use Rattle.query_grammar.specs.Finds.{has_number};
-ghost use Rattle.page_image.specs.Copies.{AreCopied, trees_at, copies_of};
+ghost use Rattle.page_image.specs.Copies.{AreCopied, SomeCopied, trees_at, copies_of};
 ghost use Rattle.page_image.specs.Image.{owns, number, own, forest, HasRoot};
 ghost use Rattle.page_image.specs.Refusals.{RefusesTree, RefusesCopy, RefusesCopies};
 ghost use Rattle.page_image.specs.Stays.{KeepsNodes, GrowsBy, OthersStay};
@@ -70,6 +70,7 @@ fn copy_all(
     ensures copied { IfOk result (λ ids. AreCopied page.old page.new widget nodes.now ids.items) }
     ensures refused { IfErr result (RefusesCopies (length (own page.old widget))
         (size (trees_at page.old widget nodes.now))) }
+    ensures left { OnErr result (SomeCopied page.old page.new widget nodes.now) }
     ensures others { OthersStay page.old page.new widget }
 {
     let mut ids = Vec::new(alloc);
@@ -82,7 +83,7 @@ fn copy_all(
 
 /// Adds copies of nodes of a widget, each with all below it and without ids, as the last children of
 /// a target, in order. Where the target takes the nodes, it is refused for want of memory or for too
-/// many nodes alone. Where it is refused, copies may be left as detached trees.
+/// many nodes alone. Refused, it may leave copies of the first of them as detached trees.
 pub fn append_copies(
     alloc: Global,
     page: &mut Page,
@@ -99,6 +100,7 @@ pub fn append_copies(
     ensures refused { IfErr result (λ f.
         takes (forest page.old widget) (map (number page.old widget) nodes.now) (number page.old widget target) ≡ true →
         RefusesCopies (length (own page.old widget)) (size (trees_at page.old widget nodes.now)) f) }
+    ensures left { OnErr result (SomeCopied page.old page.new widget nodes.now) }
     ensures others { OthersStay page.old page.new widget }
 {
     let ids = copy_all(alloc, page, widget, nodes)?;

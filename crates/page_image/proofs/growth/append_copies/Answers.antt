@@ -4,15 +4,15 @@ use Rattle.page_tree.specs.declared.fault.PageFault.TheVariants as fault
 use Rattle.plain_tree.specs.Trees.{size}
 use Rattle.tree_ops.specs.Trees.{grafted}
 use Rattle.widget_meaning.specs.Trees.{moved}
-use Rattle.page_image.specs.Copies.{trees_at, copies_of}
+use Rattle.page_image.specs.Copies.{SomeCopied, trees_at, copies_of}
 use Rattle.page_image.specs.Image.{number, own, forest}
 use Rattle.page_image.specs.Refusals.{RefusesCopies}
 use Rattle.page_image.specs.Targets.{takes}
-use Rattle.page_image.proofs.Copies.{still_root, copies_put}
+use Rattle.page_image.proofs.Copies.{still_root, copies_put, all_kept}
 use Rattle.page_image.proofs.Looks.{root_owned}
 use Rattle.page_image.proofs.Pages.{owner_is, below_32}
 use Rattle.page_image.proofs.Refusing.{copies_refused}
-use Rattle.page_image.proofs.Results.{ok_then, if_err_then}
+use Rattle.page_image.proofs.Results.{ok_then, err_then, if_err_then}
 use Rattle.page_image.proofs.growth.append_copies.Goals as goal
 
 pub append-requires-clause-home : goal.append-requires-clause-home
@@ -41,3 +41,12 @@ returns-clause-refused c =
     let ns = c.args.nodes.now in
     if_err_then c.append.result (λ f. (f ≡ fault.Memory) ⊎ (takes (forest mid w) (map (number mid w) c.deref.result.now) (number mid w t) ≡ false)) (λ f. takes (forest old w) (map (number old w) ns) (number old w t) ≡ true → RefusesCopies (length (own old w)) (size (trees_at old w ns)) f)
     (copies_refused old mid w t ns c.in_ok-ids.ids.items c.in_ok-ids.ensures.copied c.requires.target c.requires.nodes c.deref.result.now c.deref.ensures.value) c.append.ensures.refused
+
+pub returns-clause-left : goal.returns-clause-left
+returns-clause-left c =
+    let old = c.args.page.now in
+    let mid = c.copy_all.new.page in
+    let new = c.append.new.page in
+    let w = c.args.widget in
+    err_then c.append.result (forest new w ≡ forest mid w) (SomeCopied old new w c.args.nodes.now)
+    (all_kept old mid new w c.args.nodes.now c.in_ok-ids.ids.items c.in_ok-ids.ensures.copied c.append.ensures.kept) c.append.ensures.unchanged
