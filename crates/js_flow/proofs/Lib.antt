@@ -1,0 +1,4 @@
+pub mod Follow
+pub mod Moves
+pub mod Stays
+pub mod Listing

@@ -1,0 +1,81 @@
+-- How much frames may take up before they come to a charge, a native or an end.
+use Rattle.std.specs.Prelude.{ℕ, ◌+◌, List, [], ◌∷◌}
+use Rattle.js_flow.specs.declared.job.Next.{Next}
+use Rattle.js_flow.specs.declared.job.Next.TheVariants as next
+use Rattle.js_flow.specs.declared.frame.FormFrame.{FormFrame}
+use Rattle.js_flow.specs.declared.frame.FormFrame.TheVariants as form
+use Rattle.js_flow.specs.declared.frame.StatementFrame.{StatementFrame}
+use Rattle.js_flow.specs.declared.frame.StatementFrame.TheVariants as statement
+use Rattle.js_flow.specs.declared.frame.CallFrame.{CallFrame}
+use Rattle.js_flow.specs.declared.frame.CallFrame.TheVariants as call
+use Rattle.js_flow.specs.declared.frame.Frame.{Frame}
+use Rattle.js_flow.specs.declared.frame.Frame.TheVariants as frame
+use Rattle.js_flow.specs.declared.task.Control.{Control}
+use Rattle.js_flow.specs.declared.task.Control.TheVariants as control
+
+-- Each frame weighs at least what it may put in its place with no charge.
+abbrev pub form_free : FormFrame → ℕ
+form_free (form.Right op e p) = 8
+form_free (form.Operate op v d) = 8
+form_free (form.ConvertedLeft op v d) = 4
+form_free (form.Prefix op p) = 4
+form_free (form.StepTarget op p) = 4
+form_free (form.AssignTarget op e p) = 12
+form_free (form.AssignWith op r v p) = 12
+form_free f = 1
+
+abbrev pub statement_free : StatementFrame → ℕ
+statement_free (statement.Branch i p) = 2
+statement_free (statement.LoopNext i p) = 4
+statement_free (statement.ForInOver i p) = 4
+statement_free (statement.Switch i p) = 4
+statement_free (statement.Case v i n p) = 2
+statement_free (statement.Caught i p) = 2
+statement_free (statement.Finally i p) = 4
+statement_free f = 1
+
+abbrev pub call_free : CallFrame → ℕ
+call_free (call.Callee e p) = 4
+call_free (call.Argument a) = 4
+call_free call.TextOf = 4
+call_free f = 1
+
+abbrev pub frame_free : Frame → ℕ
+frame_free (frame.Form f) = form_free f
+frame_free (frame.Statement f) = statement_free f
+frame_free (frame.Call f) = call_free f
+
+-- what a job is weighs at most this
+abbrev pub job_free : ℕ
+job_free = 15
+
+-- what is next
+abbrev pub next_free : Next → ℕ
+next_free (next.Push f j) = frame_free f
+next_free (next.Push2 f g j) = frame_free f + frame_free g
+next_free (next.Go j) = 0
+next_free (next.Begin f j) = frame_free f + 16
+next_free (next.Block f b p) = frame_free f + 2
+next_free (next.Block2 f g b p) = frame_free f + frame_free g + 2
+next_free (next.Run b p) = 2
+next_free (next.Give o) = 1
+next_free (next.Feed f g o) = frame_free f + frame_free g + 1
+next_free (next.Pay f n) = frame_free f + 2
+next_free (next.Native c) = 0
+next_free (next.Stop c) = 0
+
+-- what a task is at
+abbrev pub control_free : Control → ℕ
+control_free (control.Begin j) = 16
+control_free (control.Give o) = 1
+control_free (control.Pay n) = 2
+control_free c = 0
+
+-- all frames together
+abbrev pub frames_free : List Frame → ℕ
+frames_free [] = 0
+frames_free (f ∷ frames) = frame_free f + frames_free frames
+
+-- a task
+abbrev pub free : Control → List Frame → ℕ
+free c frames = control_free c + frames_free frames

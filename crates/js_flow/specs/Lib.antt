@@ -1,0 +1,9 @@
+pub mod Parts
+pub mod Views
+pub mod Forms
+pub mod Statements
+pub mod Calls
+pub mod Frames
+pub mod Fine
+pub mod Free
+pub mod Todo
