@@ -1,0 +1,6 @@
+mod Hoisted
+mod Once
+mod Placed
+mod Finding
+mod Listed
+mod Scoped

@@ -1,0 +1,4 @@
+pub mod Hoisting
+pub mod Names
+pub mod Found
+pub mod Code
