@@ -84,7 +84,7 @@ module _ (fs : List Forest) (w : ℕ) (cells : List PlainCell) where
   FineJob (job.Target e p) = IsExprAt e p
   FineJob (job.Exec i p) = IsStmtAt i p
   FineJob (job.Pass i p) = IsStmtAt i p
-  FineJob (job.PassIn l p) = FineNames l.value p
+  FineJob (job.PassIn l p) = FineNames l.value p × (l.value.at < length l.value.names.items)
   FineJob (job.Call c) = FineCall w cells c.value
   FineJob (job.RunNative c) = FineNative w cells c.value
 

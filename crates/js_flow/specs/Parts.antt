@@ -2,7 +2,6 @@
 use Rattle.std.specs.Prelude.{◌≡◌, ℕ, ◌+◌, ◌<◌, ◌^◌, List, [], ◌∷◌, Option, MatchOption, drop, slice_index_or}
 use Rattle.js_tree.specs.declared.nodes.ExprId.{ExprId}
 use Rattle.js_tree.specs.declared.nodes.StmtId.{StmtId}
-use Rattle.js_tree.specs.declared.nodes.Word.TheVariants as word
 use Rattle.js_tree.specs.Plain as tree
 use Rattle.js_tree.specs.Plain.{Expr, Stmt, Stmts, Fun, Funs, Catch, ForInit, OptionalBlock, OptionalExpr}
 use Rattle.js_tree.specs.Lists.{clause_list, decl_list, expr_list, property_list, stmt_list}
@@ -89,12 +88,11 @@ abbrev pub variable_of : Stmt → List ℕ
 variable_of (tree.StmtAt at names (tree.ForIn is_declared x e b)) = x
 variable_of _ = []
 
--- a `while`, a `do` or a `for` at its next pass; another statement is none
+-- a `while` or a `do` at its next pass, and else a `for` of these parts
 abbrev pub loop_of : Stmt → Loop
 loop_of (tree.StmtAt at names (tree.While e b)) = WhileLoop e (stmt_list b)
 loop_of (tree.StmtAt at names (tree.DoWhile e b)) = DoLoop (stmt_list b) e
-loop_of (tree.StmtAt at names (tree.For first test next b)) = ForLoop test (expr_list next) (stmt_list b)
-loop_of _ = WhileLoop (tree.ExprAt 0 [] (tree.Constant word.This)) []
+loop_of s = ForLoop (test_of s) (last_of s) (stmt_list (loop_body s))
 
 -- the clauses of a `switch`
 abbrev pub clauses_of : Stmt → List Case

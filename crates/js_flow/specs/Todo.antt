@@ -1,5 +1,5 @@
 -- What a task has still to do, and what a step keeps of it.
-use Rattle.std.specs.Prelude.{◌≡◌, ℕ, ◌-◌, ◌<◌, ◌≤◌, List}
+use Rattle.std.specs.Prelude.{◌≡◌, ℕ, ◌-◌, ◌<◌, ◌≤◌, List, Bool, true, false}
 use Rattle.js_tree.specs.Forest.{Forest}
 use Rattle.store_cells.specs.Cells.{PlainCell}
 use Rattle.widget_meaning.specs.Values as meaning
@@ -44,6 +44,17 @@ IsGoing (control.Waits d) = ⊥
 IsGoing control.Over = ⊥
 IsGoing _ = Unit {0}
 
+-- the task waits for a native
+abbrev pub IsWaiting : Control → Type 0
+IsWaiting (control.Waits d) = Unit {0}
+IsWaiting _ = ⊥
+
+-- the next step costs nothing
+abbrev pub is_free : Control → Bool
+is_free (control.Begin j) = true
+is_free (control.Give o) = true
+is_free _ = false
+
 -- what an answer says of the task
 abbrev pub Follows : Stepped → Control → Type 0
 Follows stepped.Went c = IsGoing c
@@ -61,3 +72,8 @@ IfOutOfFuel _ P = Unit {0}
 abbrev pub IsNotFuel : Stepped → Type 0
 IsNotFuel stepped.OutOfFuel = ⊥
 IsNotFuel _ = Unit {0}
+
+-- an answer with which steps come to a native or to their end
+abbrev pub IsOver : Stepped → Type 0
+IsOver stepped.Went = ⊥
+IsOver _ = Unit {0}

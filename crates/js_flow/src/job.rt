@@ -5,10 +5,9 @@ use code_units::Text;
 use js_image::StopCause;
 use js_tree::{ExprId, FunId, StmtId};
 use object_store::{CellId, NativeId, Value};
-use smallvec::SmallVec;
 
-/// A list of arguments, of which the first four take no allocation.
-pub type Args = SmallVec<Value, 4>;
+/// A list of arguments.
+pub type Args = Vec<Value>;
 
 /// Where a form is evaluated: the number of its tree, its innermost scope, and the call depth.
 #[derive(Clone, Copy, Drop)]

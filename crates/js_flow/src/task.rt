@@ -19,9 +19,10 @@ pub enum Control {
     Over,
 }
 
-/// One call that the host makes, with its frames, the last of which is given to first.
+/// One call that the host makes for a widget, with its frames, the last of which is given to first.
 #[derive(Drop)]
 pub struct Task {
+    pub widget: u32,
     pub control: Control,
     pub frames: Vec<Frame>,
 }
