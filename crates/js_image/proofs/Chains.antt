@@ -202,7 +202,7 @@ module _ (fs : List Forest) (r : Rest) (w : ℕ) (s : Cells) (confined : IsConfi
   permitted_else i held e = sym (ap (λ b. b || is_permitted_cell i) e) ∙ held.1
 
   -- an own property of a cell that the widget holds
-  own_is : (i : ℕ) (c : PlainCell) → slice_get s.cells i ≡ Some c → IsHeld w s.cells i → is_bunch c.form ≡ false → own_property st (seen w s.cells (value.Ref i)) x ≡ option_map (seen w s.cells) (value_of c.pairs x)
+  pub own_is : (i : ℕ) (c : PlainCell) → slice_get s.cells i ≡ Some c → IsHeld w s.cells i → is_bunch c.form ≡ false → own_property st (seen w s.cells (value.Ref i)) x ≡ option_map (seen w s.cells) (value_of c.pairs x)
   own_is i c at held plain = by (visible_at w s.cells i) refl
     where
       by : (b : Bool) → visible_at w s.cells i ≡ b → own_property st (seen w s.cells (value.Ref i)) x ≡ option_map (seen w s.cells) (value_of c.pairs x)
@@ -217,8 +217,19 @@ module _ (fs : List Forest) (r : Rest) (w : ℕ) (s : Cells) (confined : IsConfi
           ∙ entry_own w s.cells laws (entry_at i) x
           ∙ ap (λ (d : PlainCell). option_map (seen w s.cells) (value_of d.pairs x)) (sym (host_is w s.cells laws i c p at))
 
+  -- a Bunch has none
+  pub own_nothing : (i : ℕ) (c : PlainCell) → slice_get s.cells i ≡ Some c → IsHeld w s.cells i → is_bunch c.form ≡ true → own_property st (seen w s.cells (value.Ref i)) x ≡ None
+  own_nothing i c at held bunch = by (visible_at w s.cells i) refl
+    where
+      by : (b : Bool) → visible_at w s.cells i ≡ b → own_property st (seen w s.cells (value.Ref i)) x ≡ None
+      by true e =
+          ap (λ v. own_property st v x) (own_link_is i e)
+          ∙ ap (λ (d : Cell). kind_property d.kind d.pairs x) (cell_is i c at (sym (visible_is i c at) ∙ e))
+          ∙ bunch_has fs r.nodes w s.cells c x c.form bunch
+      by false e = absurd (false_true (sym (frozen_is c.form (leads_form c (leads_at w s.cells laws i c at (permitted_else i held e)))).1 ∙ bunch))
+
   -- its prototype
-  proto_is : (i : ℕ) (c : PlainCell) → slice_get s.cells i ≡ Some c → IsHeld w s.cells i → prototype st (seen w s.cells (value.Ref i)) ≡ option_map (λ j. seen w s.cells (value.Ref j)) c.up
+  pub proto_is : (i : ℕ) (c : PlainCell) → slice_get s.cells i ≡ Some c → IsHeld w s.cells i → prototype st (seen w s.cells (value.Ref i)) ≡ option_map (λ j. seen w s.cells (value.Ref j)) c.up
   proto_is i c at held = by (visible_at w s.cells i) refl
     where
       up_own : (o : Option ℕ) → is_some o ≡ true → Some (option_map_or meant (option_map (own_link w s.cells) o) meaning.Undefined) ≡ option_map (λ j. seen w s.cells (value.Ref j)) o
@@ -236,7 +247,7 @@ module _ (fs : List Forest) (r : Rest) (w : ℕ) (s : Cells) (confined : IsConfi
           ∙ ap (λ (d : PlainCell). option_map (λ j. seen w s.cells (value.Ref j)) d.up) (sym (host_is w s.cells laws i c p at))
 
   -- what holds of a prototype
-  up_held : (i j : ℕ) (c : PlainCell) → slice_get s.cells i ≡ Some c → IsHeld w s.cells i → c.up ≡ Some j → IsHeld w s.cells j × (is_bunch_at s.cells j ≡ false)
+  pub up_held : (i j : ℕ) (c : PlainCell) → slice_get s.cells i ≡ Some c → IsHeld w s.cells i → c.up ≡ Some j → IsHeld w s.cells j × (is_bunch_at s.cells j ≡ false)
   up_held i j c at held e = by (visible_at w s.cells i) refl
     where
       by : (b : Bool) → visible_at w s.cells i ≡ b → IsHeld w s.cells j × (is_bunch_at s.cells j ≡ false)
@@ -253,7 +264,7 @@ module _ (fs : List Forest) (r : Rest) (w : ℕ) (s : Cells) (confined : IsConfi
           (h, bunch_is j d.0 d.1 ∙ (frozen_is d.0.form (leads_form d.0 (leads_at w s.cells laws j d.0 d.1 q))).1)
 
   -- a prototype or outer scope is older
-  older : (i j : ℕ) (c : PlainCell) → slice_get s.cells i ≡ Some c → c.up ≡ Some j → j < i
+  pub older : (i j : ℕ) (c : PlainCell) → slice_get s.cells i ≡ Some c → c.up ≡ Some j → j < i
   older i j c at e = (subst (λ (o : Option ℕ). IfSome o (λ k. (k < i) × (is_scope_at s.cells k ≡ is_scope c.form))) e (laws.linked i c at).up).0
 
   abbrev along : ℕ → Option ℕ → List PlainCell
@@ -352,7 +363,7 @@ module _ (fs : List Forest) (r : Rest) (w : ℕ) (s : Cells) (confined : IsConfi
           low m lt None u = tt
           low m lt (Some j) u = omega (arith, lt, older k j c e u)
 
-  not_scope : (i : ℕ) (c : PlainCell) → slice_get s.cells i ≡ Some c → IsHeld w s.cells i → is_scope_at s.cells i ≡ false
+  pub not_scope : (i : ℕ) (c : PlainCell) → slice_get s.cells i ≡ Some c → IsHeld w s.cells i → is_scope_at s.cells i ≡ false
   not_scope i c at held = ap (λ (o : Option PlainCell). option_map_or (λ d. is_scope d.form) o false) at ∙ by (visible_at w s.cells i) refl
     where
       by : (b : Bool) → visible_at w s.cells i ≡ b → is_scope c.form ≡ false
@@ -379,12 +390,6 @@ module _ (fs : List Forest) (r : Rest) (w : ℕ) (s : Cells) (confined : IsConfi
       start : readable s.cells i ≡ option_map_or (chain s.cells) c.up []
       start = ap (λ (o : Option PlainCell). option_map_or (chain s.cells) (option_and_then (λ d. if is_bunch d.form then d.up else Some i) o) []) at ∙ ap (λ b. option_map_or (chain s.cells) (if b then c.up else Some i) []) bunch
 
-      none_own : is_visible w c ≡ true → visible_at w s.cells i ≡ true → own_property st (seen w s.cells (value.Ref i)) x ≡ None
-      none_own mine e =
-          ap (λ v. own_property st v x) (own_link_is i e)
-          ∙ ap (λ (d : Cell). kind_property d.kind d.pairs x) (cell_is i c at mine)
-          ∙ bunch_has fs r.nodes w s.cells c x c.form bunch
-
       -- the chain from the prototype is one shorter
       rest : (f j : ℕ) → f ≡ length s.cells → c.up ≡ Some j → length (along f (Some i)) ≤ 101 → length (along f (Some j)) ≤ 100
       rest zero j e u l = omega arith
@@ -402,7 +407,7 @@ module _ (fs : List Forest) (r : Rest) (w : ℕ) (s : Cells) (confined : IsConfi
           let start_j : readable s.cells i ≡ chain s.cells j = start ∙ ap (λ (o : Option ℕ). option_map_or (chain s.cells) o []) u in
           record {
             same =
-                ap (λ o. or_else o (λ _. on_chain 100 st (prototype st (seen w s.cells (value.Ref i))) x)) (none_own mine e)
+                ap (λ o. or_else o (λ _. on_chain 100 st (prototype st (seen w s.cells (value.Ref i))) x)) (own_nothing i c at held bunch)
                 ∙ ap (λ o. on_chain 100 st o x) (proto_is i c at held ∙ ap (option_map (λ k. seen w s.cells (value.Ref k))) u)
                 ∙ chain_is (length s.cells) 100 j d.0.0 d.0 d.1 few
                 ∙ ap (λ l. option_map (seen w s.cells) (first_own x l)) (sym start_j);
@@ -424,6 +429,14 @@ module _ (fs : List Forest) (r : Rest) (w : ℕ) (s : Cells) (confined : IsConfi
       by : (c : PlainCell) → slice_get s.cells i ≡ Some c → (b : Bool) → is_bunch c.form ≡ b → length (chain s.cells i) ≤ 101 → IsRead i
       by c at true e short = read_bunch i c at held e short
       by c at false e short = read_plain i c at held e short
+
+  -- whether a read finds something
+  pub some_is : (i : ℕ) → IsHeld w s.cells i → prototypes s.cells i ≤ 100 → is_some (first_own x (readable s.cells i)) ≡ is_some (on_chain 101 st (Some (seen w s.cells (value.Ref i))) x)
+  some_is i held few = by (first_own x (readable s.cells i)) ∙ sym (ap is_some (read_is i held (prototypes s.cells i) refl few).same)
+    where
+      by : (o : Option Value) → is_some o ≡ is_some (option_map (seen w s.cells) o)
+      by None = refl
+      by (Some v) = refl
 
   -- a property of a held cell is along its chain
   pub property_is : (i : ℕ) → IsHeld w s.cells i → property st (seen w s.cells (value.Ref i)) x ≡ on_chain 101 st (Some (seen w s.cells (value.Ref i))) x

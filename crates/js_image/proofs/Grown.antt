@@ -7,14 +7,17 @@ use Rattle.js_tree.specs.Forest.{Forest}
 use Rattle.store_cells.specs.declared.value.Value.{Value}
 use Rattle.store_cells.specs.declared.value.Value.TheVariants as value
 use Rattle.store_cells.specs.declared.kind.FunParts.{FunParts}
+use Rattle.store_cells.specs.declared.counts.StoreFault.{StoreFault}
 use Rattle.store_cells.specs.Cells.{Cells, PlainCell, function_in}
 use Rattle.store_cells.specs.Host.{is_permitted_cell}
 use Rattle.object_store.specs.Owned as store
-use Rattle.object_store.specs.Owned.{own_link, own_value, owned, scope_number}
+use Rattle.object_store.specs.Owned.{Owned, own_link, own_paid, own_value, owned, scope_number}
+use Rattle.object_store.specs.Calls.{IsCharged}
 use Rattle.object_store.specs.Grows.{Grows}
 use Rattle.object_store.proofs.Growth.{grows_same}
 use Rattle.js_image.specs.Image.{meant, seen}
 use Rattle.js_image.specs.Held.{ArePairs, IsConfined, IsFine, IsFineFor, IsFunOf, IsHeld, IsOwnScope, IsPlaceScope, Kept}
+use Rattle.js_image.proofs.Nodes.{hold_same, rise_same, rise_to}
 
 module _ (w : ℕ) (old new : List PlainCell) (g : Grows w old new) where
   link_stays : (i : ℕ) → i < length old → own_link w new i ≡ own_link w old i
@@ -82,14 +85,16 @@ module _ (w : ℕ) (old new : List PlainCell) (g : Grows w old new) where
 
 -- nothing changed
 pub kept_same : (fs : List Forest) (w : ℕ) (old new : Cells) → new ≡ old → Kept fs w old new
-kept_same fs w old new same = subst (λ (t : Cells). Kept fs w old t) (sym same) (record { confined = λ h. h; grows = grows_same w old.cells; others = λ v h. refl })
+kept_same fs w old new same = subst (λ (t : Cells). Kept fs w old t) (sym same) (record { confined = λ h. h; grows = grows_same w old.cells; others = λ v h. refl; nodes = λ p h. h; counts = rise_same (owned w old).paid })
 
 -- counts alone changed
-pub kept_cells_same : (fs : List Forest) (w : ℕ) (old new : Cells) → new.cells ≡ old.cells → Grows w old.cells new.cells → ((v : ℕ) → (w ≡ v → ⊥) → owned v new ≡ owned v old) → Kept fs w old new
-kept_cells_same fs w old new same grows others = record {
+pub kept_paid : (fs : List Forest) (w : ℕ) (old new : Cells) (n u : ℕ) (refusal : Option StoreFault) → IsCharged old new w n u refusal → owned w new ≡ own_paid 0 n u (owned w old) → Grows w old.cells new.cells → ((v : ℕ) → (w ≡ v → ⊥) → owned v new ≡ owned v old) → Kept fs w old new
+kept_paid fs w old new n u refusal charged own grows others = let same : new.cells ≡ old.cells = ap (λ (t : Cells). t.cells) charged.done in record {
   confined = λ h. subst (λ (l : List PlainCell). IsConfined fs w (record { cells = l; kept = new.kept })) (sym same) (record { each = h.each });
   grows = grows;
   others = others;
+  nodes = λ p h. hold_same p w old new (ap (λ (o : Owned). o.heap) own) h;
+  counts = rise_to 0 n u (owned w old).paid (owned w new).paid (ap (λ (o : Owned). o.paid) own);
 }
 
 -- an element of two lists one after the other

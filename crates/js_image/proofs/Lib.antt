@@ -6,9 +6,13 @@ pub mod Units
 pub mod Called
 pub mod Grown
 pub mod Hosts
+pub mod Nodes
 pub mod Makes
 pub mod Faults
 pub mod Chains
 pub mod Variables
 pub mod Found
 pub mod Writes
+pub mod Arrays
+pub mod ForIn
+pub mod Pushes

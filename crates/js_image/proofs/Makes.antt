@@ -25,7 +25,7 @@ use Rattle.object_store.specs.declared.store.NewCell.TheVariants as fresh
 use Rattle.object_store.specs.Calls.{IsMade, IsMakeable, born, cells_for, make_refusal, slots_of}
 use Rattle.object_store.specs.Grows.{Grows}
 use Rattle.object_store.specs.Owned as store
-use Rattle.object_store.specs.Owned.{Made, OwnCell, filled_own, first_cell, is_of, is_own_scope, is_own_scope_at, made_cells, made_scopes, own_link, own_made, own_pairs, own_value, owned, scope_number, visible_at}
+use Rattle.object_store.specs.Owned.{Made, OwnCell, Owned, filled_own, first_cell, is_of, is_own_scope, is_own_scope_at, made_cells, made_scopes, own_link, own_made, own_pairs, own_value, owned, scope_number, visible_at}
 use Rattle.object_store.proofs.Views.{append_none}
 use Rattle.widget_meaning.specs.Values as meaning
 use Rattle.widget_meaning.specs.OwnState.{Cell, Scope, State, new_array, with_new_cell, with_new_scope}
@@ -34,13 +34,24 @@ use Rattle.widget_meaning.specs.Costs.{make, pay, scope_cost, slots_cost, with_c
 use Rattle.widget_meaning.specs.NativeForms.{numbered_pairs}
 use Rattle.js_image.specs.declared.outcome.StopCause.{StopCause}
 use Rattle.js_image.specs.Image.{Rest, all_seen, image, meant, meant_cell, meant_counts, meant_scope, seen, seen_pairs, state_of}
-use Rattle.js_image.specs.Held.{AreFine, ArePairs, IsFine, IsFineCell, IsFineFor, IsHeld, IsOwnScope, IsPlaceScope, Kept}
+use Rattle.js_image.specs.Held.{AreFine, ArePairs, IsConfined, IsFine, IsFineCell, IsFineFor, IsFunOf, IsHeld, IsOwnScope, IsPlaceScope, Kept, PassNodes}
 use Rattle.js_image.specs.Plans.{IsNew, IsNewOf, IsStopOf, meant_cause, meant_new, scope_of}
+use Rattle.js_image.proofs.Nodes.{hold_more, pass_made, rise_to}
 use Rattle.js_image.proofs.Pays.{cost_plan, pay_is, stops}
 use Rattle.js_image.proofs.Grown.{confined_more, fine_stays, held_stays, pairs_stay, place_stays}
 
 false_true : false ≡ true → ⊥
 false_true h = cc
+
+-- a new function is of one of the trees
+abbrev pub HasTree : List Forest → NewCell → Type 0
+HasTree fs (fresh.Function code fun declared scope) = IsFunOf fs (record { code = code; fun = fun; declared = declared; scope = scope })
+HasTree fs n = Unit {0}
+
+has_tree : (fs : List Forest) (n : NewCell) → IsNewOf fs n → HasTree fs n
+has_tree fs (fresh.Function code fun declared scope) h = h
+has_tree fs (fresh.Bunch nodes) h = tt
+has_tree fs n h = tt
 
 no_both : (a : Bool) → (a && false) ≡ true → ⊥
 no_both true h = false_true h
@@ -141,7 +152,7 @@ module _ (w : ℕ) (cells : List PlainCell) where
     elements_fine k (v ∷ vs) h = (fine_stays w cells all g v h.0, elements_fine (suc k) vs h.1)
 
     -- what is made leads to what the widget may hold
-    fine_born : host_count ≤ length cells → (n : NewCell) → IsNew w cells n → IsNewOf fs n → AllByRecursion (IsFineFor fs w all) (born cells w n)
+    fine_born : host_count ≤ length cells → (n : NewCell) → IsNew w cells n → HasTree fs n → AllByRecursion (IsFineFor fs w all) (born cells w n)
     fine_born enough = by
       where
         host : (i : ℕ) → i < host_count → is_permitted_cell i ≡ true → IsHeld w all i
@@ -150,7 +161,7 @@ module _ (w : ℕ) (cells : List PlainCell) where
         array : IsHeld w all array_prototype
         array = host array_prototype (omega arith) refl
 
-        by : (n : NewCell) → IsNew w cells n → IsNewOf fs n → AllByRecursion (IsFineFor fs w all) (born cells w n)
+        by : (n : NewCell) → IsNew w cells n → HasTree fs n → AllByRecursion (IsFineFor fs w all) (born cells w n)
         by (fresh.Object proto) h o = (fine_cell (new_cell w form.Object proto) refl (record { up = held_stays w cells all g proto h.0; pairs = λ b. tt; fun = tt }), tt)
         by fresh.Array h o = (fine_cell (new_cell w form.Array array_prototype) refl (record { up = array; pairs = λ b. (tt, tt); fun = tt }), tt)
         by (fresh.Function code fun declared scope) h o = (fine_cell (new_cell w (form.Function (record { code = code; fun = fun; declared = declared; scope = scope })) function_prototype) refl (record { up = host function_prototype (omega arith) refl; pairs = λ b. tt; fun = (o, place_stays w cells all g scope h) }), tt)
@@ -184,11 +195,16 @@ module _ (w : ℕ) (old new : Cells) (n : NewCell) (h : IsNew w old.cells n) whe
   pub new_held : (id : ℕ) → IsMade old new w id n → IsHeld w new.cells id
   new_held id made = ((visible id made).0, ap (λ b. b || is_permitted_cell id) (visible id made).1)
 
-  pub new_kept : (id : ℕ) → host_count ≤ length old.cells → IsMade old new w id n → Grows w old.cells new.cells → ((v : ℕ) → (w ≡ v → ⊥) → owned v new ≡ owned v old) → (fs : List Forest) → IsNewOf fs n → Kept fs w old new
-  new_kept id enough made grows others fs o = record {
-    confined = confined_more fs w old new (born old.cells w n) (cells_are id made) grows (fine_born w old.cells fs new.cells grows enough n h o);
+  pub new_confined : (id : ℕ) → host_count ≤ length old.cells → IsMade old new w id n → Grows w old.cells new.cells → (fs : List Forest) → HasTree fs n → IsConfined fs w old → IsConfined fs w new
+  new_confined id enough made grows fs o = confined_more fs w old new (born old.cells w n) (cells_are id made) grows (fine_born w old.cells fs new.cells grows enough n h o)
+
+  pub new_kept : (id : ℕ) → host_count ≤ length old.cells → IsMade old new w id n → Made w old new id n → Grows w old.cells new.cells → ((v : ℕ) → (w ≡ v → ⊥) → owned v new ≡ owned v old) → (fs : List Forest) → IsNewOf fs n → Kept fs w old new
+  new_kept id enough made own grows others fs o = record {
+    confined = new_confined id enough made grows fs (has_tree fs n o);
     grows = grows;
     others = others;
+    nodes = λ p held. hold_more p w old new (made_cells w old.cells n) (ap (λ (q : Owned). q.heap) own.seen) (pass_made p fs w old.cells n o) held;
+    counts = rise_to (cells_for n) (slots_of n) 0 (owned w old).paid (owned w new).paid (ap (λ (q : Owned). q.paid) own.seen);
   }
 
   module _ (fs : List Forest) (r : Rest) (k : Counts) (at : slice_get old.kept w ≡ Some k) (units : k.units ≤ UNIT_LIMIT) where
@@ -254,11 +270,13 @@ module _ (w : ℕ) (old new : Cells) (outer : Option ℕ) (ps : List (List ℕ �
         (λ j. is_own_scope_at w (e j) (made.place j)) ∙ ap (λ (o : Option PlainCell). option_map_or (is_own_scope w) o false) (get_last old.cells (scope_cell w outer ps) []) ∙ ap (λ b. b && true) (eqb_self w),
       )
 
-  pub scope_kept : (id : ℕ) → IsMade old new w id n → Grows w old.cells new.cells → ((v : ℕ) → (w ≡ v → ⊥) → owned v new ≡ owned v old) → IsPlaceScope w old.cells outer → ArePairs w old.cells ps → (fs : List Forest) → Kept fs w old new
-  scope_kept id made grows others o h fs = record {
+  pub scope_kept : (id : ℕ) → IsMade old new w id n → Made w old new id n → made_cells w old.cells n ≡ [] → Grows w old.cells new.cells → ((v : ℕ) → (w ≡ v → ⊥) → owned v new ≡ owned v old) → IsPlaceScope w old.cells outer → ArePairs w old.cells ps → (fs : List Forest) → Kept fs w old new
+  scope_kept id made own none grows others o h fs = record {
     confined = confined_more fs w old new (scope_cell w outer ps ∷ []) (scope_cells id made) grows (scope_fine fs grows o h);
     grows = grows;
     others = others;
+    nodes = λ p held. hold_more p w old new (made_cells w old.cells n) (ap (λ (q : Owned). q.heap) own.seen) (subst (AllByRecursion (λ (c : OwnCell). PassNodes p c.kind)) (sym none) tt) held;
+    counts = rise_to (cells_for n) (slots_of n) 0 (owned w old).paid (owned w new).paid (ap (λ (q : Owned). q.paid) own.seen);
   }
 
   module _ (no_cells : made_cells w old.cells n ≡ []) (its : made_scopes w old.cells n ≡ (record { outer = option_map (scope_number w old.cells) outer; pairs = own_pairs w old.cells ps }) ∷ []) (none : cells_for n ≡ 0) (slots : slots_of n ≡ length ps + 1) (fs : List Forest) (r : Rest) (k : Counts) (at : slice_get old.kept w ≡ Some k) (units : k.units ≤ UNIT_LIMIT) where

@@ -26,10 +26,10 @@ use Rattle.store_cells.specs.Cells.{Cells, PlainCell, has_own, is_array, is_bunc
 use Rattle.store_cells.specs.Costs.{Refuses, cost_refusal, kept_slots, paid}
 use Rattle.store_cells.specs.Host.{is_host_owner, is_permitted_cell}
 use Rattle.store_cells.proofs.Lists.{changed-set, map-changed}
-use Rattle.object_store.specs.Calls.{HasLength, IsPut, put_refusal, put_refusal_of, slots_for, write_refusal}
+use Rattle.object_store.specs.Calls.{HasLength, IsPut, put_refusal, put_refusal_of, slots_at, slots_for, write_refusal}
 use Rattle.object_store.specs.Grows.{Grows}
 use Rattle.object_store.specs.Owned as store
-use Rattle.object_store.specs.Owned.{Changed, OwnCell, OwnValue, SeesPut, but_length, is_of, is_of_at, own_cell, own_cells, own_kind, own_length, own_link, own_pairs, own_put, own_raised, own_resized, own_value, owned, visible_at}
+use Rattle.object_store.specs.Owned.{Changed, OwnCell, OwnValue, Owned, SeesPut, but_length, is_of, is_of_at, own_cell, own_cells, own_kind, own_length, own_link, own_pairs, own_put, own_raised, own_resized, own_value, owned, visible_at}
 use Rattle.widget_meaning.specs.Values as meaning
 use Rattle.widget_meaning.specs.OwnState as state
 use Rattle.widget_meaning.specs.OwnState.{Cell, Kind, State, cell_at, with_cell}
@@ -39,7 +39,8 @@ use Rattle.widget_meaning.specs.Properties as properties
 use Rattle.widget_meaning.specs.Properties.{cut_to, put, put_index, put_length, put_own, put_pair}
 use Rattle.js_image.specs.declared.outcome.Written.{Written}
 use Rattle.js_image.specs.Image.{Rest, image, meant, meant_cell, meant_counts, meant_pairs, seen, state_of}
-use Rattle.js_image.specs.Held.{ArePairs, IsFine, IsFineFor, IsHeld, Kept}
+use Rattle.js_image.specs.Held.{ArePairs, CountsRise, HoldNodes, IsFine, IsFineFor, IsHeld, Kept}
+use Rattle.js_image.proofs.Nodes.{hold_changed, hold_same, pass_put, rise_same, rise_to}
 use Rattle.js_image.specs.Laws.{AreLawful}
 use Rattle.js_image.specs.Plans.{IsRefusalOf, put_plan}
 use Rattle.js_image.specs.Reads.{cell_in}
@@ -116,6 +117,13 @@ permitted_else w cells i held e = sym (ap (λ b. b || is_permitted_cell i) e) �
 -- a cell of the table is no widget's
 pub hosts_cell : (w : ℕ) (cells : List PlainCell) → AreLawful cells → (i : ℕ) (c : PlainCell) → slice_get cells i ≡ Some c → is_permitted_cell i ≡ true → widget_of c.owner ≡ None
 hosts_cell w cells laws i c at p = host_owner c.owner (first_is (is_host_owner c.owner) _ (leads_at w cells laws i c at p))
+
+-- a cell that a widget holds and does not have is the host's
+pub hosts_of : (w : ℕ) (cells : List PlainCell) → AreLawful cells → (i : ℕ) → IsHeld w cells i → visible_at w cells i ≡ false → (v : ℕ) → is_of_at v cells i ≡ false
+hosts_of w cells laws i held e v =
+    let c = get_there cells i held.0 in
+    ap (λ (o : Option PlainCell). option_map_or (λ (d : PlainCell). is_of v d.owner) o false) c.1
+    ∙ ap (λ o. option_map_or (λ u. nat_eq u v) o false) (hosts_cell w cells laws i c.0 c.1 (permitted_else w cells i held e))
 
 -- a cell that a widget holds is no other's
 pub not_others : (w v : ℕ) (cells : List PlainCell) → AreLawful cells → (i : ℕ) → IsHeld w cells i → (w ≡ v → ⊥) → is_of_at v cells i ≡ false
@@ -411,7 +419,7 @@ module _ (w : ℕ) (cells : List PlainCell) (x : List ℕ) (v : Value) (fine : I
       by true = written_fine
       by false = (insert_entry bytes_eq (insert_entry bytes_eq d.pairs x v) length_name (count_value (i + 1)), refl, λ h. insert_fine w cells (insert_entry bytes_eq d.pairs x v) length_name (count_value (i + 1)) (insert_fine w cells d.pairs x v h fine) tt)
 
-  stored_fine : Repaired (stored x v d)
+  pub stored_fine : Repaired (stored x v d)
   stored_fine = by (is_array d.form) (bytes_eq x length_name)
     where
       by : (a b : Bool) → Repaired (if a then (if b then resized v d else placed x v d (index_of x)) else written x v d)
@@ -420,13 +428,26 @@ module _ (w : ℕ) (cells : List PlainCell) (x : List ℕ) (v : Value) (fine : I
       by false b = written_fine
 
 -- what a write keeps
-pub put_kept : (fs : List Forest) (w : ℕ) (old new : Cells) → AreLawful old.cells → (x : List ℕ) (v : Value) (i : ℕ) → IsHeld w old.cells i → IsFine w old.cells v → IsPut old new i x v → Grows w old.cells new.cells → ((u : ℕ) → is_of_at u old.cells i ≡ false → owned u new ≡ owned u old) → Kept fs w old new
-put_kept fs w old new laws x v i held fine is grows others = record {
+pub put_kept : (fs : List Forest) (w : ℕ) (old new : Cells) → AreLawful old.cells → (x : List ℕ) (v : Value) (i : ℕ) → IsHeld w old.cells i → IsFine w old.cells v → IsPut old new i x v → SeesPut w old new i x v → Grows w old.cells new.cells → ((u : ℕ) → is_of_at u old.cells i ≡ false → owned u new ≡ owned u old) → Kept fs w old new
+put_kept fs w old new laws x v i held fine is sees grows others = record {
   confined = λ h. confined_changed fs w old new i (stored x v) (ap (λ (t : Cells). t.cells) is.done) grows h (λ d at. after d (h.each i d at));
   grows = grows;
   others = λ u apart. others u (not_others w u old.cells laws i held apart);
+  nodes = λ p. seen_nodes p (visible_at w old.cells i) refl;
+  counts = seen_counts (visible_at w old.cells i) refl;
 }
   where
+    stays : visible_at w old.cells i ≡ false → owned w new ≡ owned w old
+    stays e = others w (hosts_of w old.cells laws i held e w)
+
+    seen_nodes : (p : ℕ → Bool) (b : Bool) → visible_at w old.cells i ≡ b → HoldNodes p w old → HoldNodes p w new
+    seen_nodes p true e h = hold_changed p w old new i (slots_at old.cells i x) (own_put x (own_value w old.cells v)) (pass_put p x (own_value w old.cells v)) (sees e) h
+    seen_nodes p false e h = hold_same p w old new (ap (λ (o : Owned). o.heap) (stays e)) h
+
+    seen_counts : (b : Bool) → visible_at w old.cells i ≡ b → CountsRise (owned w old).paid (owned w new).paid
+    seen_counts true e = rise_to 0 (slots_at old.cells i x) 0 (owned w old).paid (owned w new).paid (sees e).paid
+    seen_counts false e = subst (CountsRise (owned w old).paid) (sym (ap (λ (o : Owned). o.paid) (stays e))) (rise_same (owned w old).paid)
+
     after : (d : PlainCell) → IsFineFor fs w old.cells d → IsFineFor fs w new.cells (stored x v d)
     after d h =
         let s = stored_fine w new.cells x v (fine_stays w old.cells new.cells grows v fine) d in

@@ -1,5 +1,5 @@
 -- A property that is taken out, as the widget sees it.
-use Rattle.std.proofs.Common.{◌≡◌, ℕ, zero, suc, List, [], ◌∷◌, refl, sym, ap, ◌∙◌, Option, Some, None, Bool, true, false, cond, if◌then◌else◌, slice_get, is_some, not}
+use Rattle.std.proofs.Common.{◌≡◌, ℕ, zero, suc, List, [], ◌∷◌, refl, sym, ap, ◌∙◌, Option, Some, None, Bool, true, false, cond, if◌then◌else◌, slice_get, is_some, not, subst}
 use Rattle.std.specs.Prelude.{◌&&◌}
 use Rattle.std.specs.Map.{remove_entry}
 use Rattle.std.specs.Option.{option_map, option_map_or}
@@ -19,20 +19,21 @@ use Rattle.store_cells.specs.Host.{is_permitted_cell}
 use Rattle.object_store.specs.Calls.{IsRemoved, is_closed, remove_refusal}
 use Rattle.object_store.specs.Grows.{Grows}
 use Rattle.object_store.specs.Owned as store
-use Rattle.object_store.specs.Owned.{Changed, OwnCell, OwnValue, SeesRemoved, but_length, is_of_at, own_cell, own_kind, own_link, own_pairs, own_removed, owned, visible_at}
+use Rattle.object_store.specs.Owned.{Changed, OwnCell, OwnValue, Owned, SeesRemoved, but_length, is_of_at, own_cell, own_kind, own_link, own_pairs, own_removed, owned, visible_at}
 use Rattle.widget_meaning.specs.Values as meaning
 use Rattle.widget_meaning.specs.OwnState.{Cell, State, taken_out, with_cell}
 use Rattle.widget_meaning.specs.Plan.{Plan}
 use Rattle.widget_meaning.specs.Costs.{throw}
 use Rattle.widget_meaning.specs.Properties.{delete, delete_own, delete_pair}
 use Rattle.js_image.specs.Image.{Rest, image, meant, meant_cell, meant_pairs, seen}
-use Rattle.js_image.specs.Held.{ArePairs, IsFineFor, IsHeld, Kept}
+use Rattle.js_image.specs.Held.{ArePairs, CountsRise, HoldNodes, IsFineFor, IsHeld, Kept}
+use Rattle.js_image.proofs.Nodes.{hold_changed, hold_same, pass_removed, rise_same, rise_to}
 use Rattle.js_image.specs.Laws.{AreLawful}
 use Rattle.js_image.specs.Reads.{cell_in}
 use Rattle.js_image.proofs.Chains.{visible_form}
 use Rattle.js_image.proofs.Grown.{cell_stays}
 use Rattle.js_image.proofs.Hosts.{get_there, host_link}
-use Rattle.js_image.proofs.Puts.{after_change, cell_there, hosts_cell, not_others, other_pairs, owner_is, permitted_else, same_counts, shows}
+use Rattle.js_image.proofs.Puts.{after_change, cell_there, hosts_cell, hosts_of, not_others, other_pairs, owner_is, permitted_else, same_counts, shows}
 use Rattle.js_image.proofs.Writes.{confined_changed}
 
 false_true : false ≡ true → ⊥
@@ -201,13 +202,26 @@ module _ (fs : List Forest) (r : Rest) (w : ℕ) (old : Cells) (laws : AreLawful
       by there false unseen = ap (λ a. delete a x st go) (host_link w old.cells laws i (permitted_else w old.cells i held unseen))
 
 -- what taking out keeps
-pub remove_kept : (fs : List Forest) (w : ℕ) (old new : Cells) → AreLawful old.cells → (x : List ℕ) (i : ℕ) (answer : Bool) → IsHeld w old.cells i → IsRemoved old new i x answer → Grows w old.cells new.cells → ((u : ℕ) → is_of_at u old.cells i ≡ false → owned u new ≡ owned u old) → Kept fs w old new
-remove_kept fs w old new laws x i answer held is grows others = record {
+pub remove_kept : (fs : List Forest) (w : ℕ) (old new : Cells) → AreLawful old.cells → (x : List ℕ) (i : ℕ) (answer : Bool) → IsHeld w old.cells i → IsRemoved old new i x answer → SeesRemoved w old new i x → Grows w old.cells new.cells → ((u : ℕ) → is_of_at u old.cells i ≡ false → owned u new ≡ owned u old) → Kept fs w old new
+remove_kept fs w old new laws x i answer held is sees grows others = record {
   confined = λ h. confined_changed fs w old new i (without x) (ap (λ (t : Cells). t.cells) is.done) grows h (λ d at. after d (is_length_of x d) (h.each i d at));
   grows = grows;
   others = λ u apart. others u (not_others w u old.cells laws i held apart);
+  nodes = λ p. seen_nodes p (visible_at w old.cells i) refl;
+  counts = seen_counts (visible_at w old.cells i) refl;
 }
   where
+    stays : visible_at w old.cells i ≡ false → owned w new ≡ owned w old
+    stays e = others w (hosts_of w old.cells laws i held e w)
+
+    seen_nodes : (p : ℕ → Bool) (b : Bool) → visible_at w old.cells i ≡ b → HoldNodes p w old → HoldNodes p w new
+    seen_nodes p true e h = hold_changed p w old new i 0 (own_removed x) (pass_removed p x) (sees e) h
+    seen_nodes p false e h = hold_same p w old new (ap (λ (o : Owned). o.heap) (stays e)) h
+
+    seen_counts : (b : Bool) → visible_at w old.cells i ≡ b → CountsRise (owned w old).paid (owned w new).paid
+    seen_counts true e = rise_to 0 0 0 (owned w old).paid (owned w new).paid (sees e).paid
+    seen_counts false e = subst (CountsRise (owned w old).paid) (sym (ap (λ (o : Owned). o.paid) (stays e))) (rise_same (owned w old).paid)
+
     after : (d : PlainCell) (b : Bool) → IsFineFor fs w old.cells d → IsFineFor fs w new.cells (if b then d else record d { pairs = remove_entry (bytes_eq x) d.pairs })
     after d true h = cell_stays w old.cells new.cells grows fs d h
     after d false h = other_pairs fs w new.cells d (remove_entry (bytes_eq x) d.pairs) (λ p. removed_fine w new.cells x d.pairs p) (cell_stays w old.cells new.cells grows fs d h)

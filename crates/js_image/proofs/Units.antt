@@ -19,6 +19,7 @@ use Rattle.widget_meaning.specs.Costs.{cost, make, pay, sum, units_cost, with_co
 use Rattle.widget_meaning.specs.NativeForms.{make_array, numbered_pairs}
 use Rattle.js_image.specs.Image.{Rest, all_seen, image, meant_counts, seen}
 use Rattle.js_image.specs.Held.{Kept}
+use Rattle.js_image.proofs.Nodes.{rise_then}
 use Rattle.js_image.proofs.Pays.{not_over, plus_none}
 
 -- limits that were passed are passed
@@ -103,6 +104,7 @@ grows_then w one two three f g = record {
   scope = λ k lt. g.scope k (omega (arith, lt, f.size)) ∙ f.scope k lt;
   own_scope = λ k lt. g.own_scope k (omega (arith, lt, f.size)) ∙ f.own_scope k lt;
   bunch = λ k lt. g.bunch k (omega (arith, lt, f.size)) ∙ f.bunch k lt;
+  raws = λ n i e. g.raws n i (f.raws n i e);
 }
 
 pub kept_then : (fs : List Forest) (w : ℕ) (one two three : Cells) → Kept fs w one two → Kept fs w two three → Kept fs w one three
@@ -110,6 +112,8 @@ kept_then fs w one two three f g = record {
   confined = λ h. g.confined (f.confined h);
   grows = grows_then w one two three f.grows g.grows;
   others = λ v apart. g.others v apart ∙ f.others v apart;
+  nodes = λ p h. g.nodes p (f.nodes p h);
+  counts = rise_then (owned w one).paid (owned w two).paid (owned w three).paid f.counts g.counts;
 }
 
 -- an Array of these elements, with units of text that are made for it

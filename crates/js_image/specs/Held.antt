@@ -1,13 +1,15 @@
 -- What a widget may hold, and that what it holds in the store is its own.
-use Rattle.std.specs.Prelude.{◌≡◌, ℕ, ◌<◌, Bool, true, false, List, Option, IfSome, length, slice_get, slice_index_or, ◌||◌}
+use Rattle.std.specs.Prelude.{◌≡◌, ℕ, ◌<◌, ◌≤◌, Bool, true, false, List, Option, None, Some, IfSome, length, slice_get, slice_index_or, ◌||◌}
 use Rattle.std.specs.List.{AllByRecursion}
 use Rattle.js_tree.specs.Forest.{Forest, no_trees, IsFun}
 use Rattle.store_cells.specs.declared.value.Value.{Value}
 use Rattle.store_cells.specs.declared.value.Value.TheVariants as value
 use Rattle.store_cells.specs.declared.kind.FunParts.{FunParts}
+use Rattle.store_cells.specs.declared.counts.Counts.{Counts}
 use Rattle.store_cells.specs.Cells.{Cells, PlainCell, function_in, is_bunch, is_visible}
 use Rattle.store_cells.specs.Host.{is_permitted_cell}
-use Rattle.object_store.specs.Owned.{is_own_scope, is_own_scope_at, owned, visible_at}
+use Rattle.object_store.specs.Owned as store
+use Rattle.object_store.specs.Owned.{OwnKind, is_own_scope, is_own_scope_at, owned, visible_at}
 use Rattle.object_store.specs.Grows.{Grows}
 
 module _ (w : ℕ) (cells : List PlainCell) where
@@ -62,10 +64,27 @@ pub record IsFineFor (fs : List Forest) (w : ℕ) (cells : List PlainCell) (c : 
 
 -- The store's part of confinement: whatever the widget has in the store leads to what it may hold.
 pub record IsConfined (fs : List Forest) (w : ℕ) (s : Cells) : Type 0 where
-  pub each : (i : ℕ) (c : PlainCell) → slice_get s.cells i ≡ Option.Some c → IsFineFor fs w s.cells c
+  pub each : (i : ℕ) (c : PlainCell) → slice_get s.cells i ≡ Some c → IsFineFor fs w s.cells c
 
--- What a call keeps for the widget whose call it is: it stays confined, what is there stays under its numbers, and other widgets have what they had.
+-- the nodes of an own cell, if it is a Bunch, pass a test
+abbrev pub PassNodes : (ℕ → Bool) → OwnKind → Type 0
+PassNodes p (store.Bunch ns) = AllByRecursion (λ n. p n ≡ true) ns
+PassNodes p _ = Unit {0}
+
+-- the nodes of all Bunches of the widget pass a test, as that they are its own
+abbrev pub HoldNodes : (ℕ → Bool) → ℕ → Cells → Type 0
+HoldNodes p w s = AllByRecursion (λ c. PassNodes p c.kind) (owned w s).heap
+
+-- no count of what was paid is less
+abbrev pub CountsRise : Option Counts → Option Counts → Type 0
+CountsRise None o = Unit {0}
+CountsRise (Some a) None = ⊥
+CountsRise (Some a) (Some b) = (a.cells ≤ b.cells) × (a.slots ≤ b.slots) × (a.units ≤ b.units)
+
+-- What a call keeps for the widget whose call it is: it stays confined, what is there stays under its numbers, other widgets have what they had, its Bunches get no node that they did not have, and no count falls.
 pub record Kept (fs : List Forest) (w : ℕ) (old new : Cells) : Type 0 where
   pub confined : IsConfined fs w old → IsConfined fs w new
   pub grows : Grows w old.cells new.cells
   pub others : (v : ℕ) → (w ≡ v → ⊥) → owned v new ≡ owned v old
+  pub nodes : (p : ℕ → Bool) → HoldNodes p w old → HoldNodes p w new
+  pub counts : CountsRise (owned w old).paid (owned w new).paid

@@ -4,3 +4,4 @@ pub mod Laws
 pub mod Plans
 pub mod Reads
 pub mod Callees
+pub mod Elements

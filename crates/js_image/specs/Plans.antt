@@ -1,5 +1,5 @@
 -- What a call of the store gives, as the plan that it carries out.
-use Rattle.std.specs.Prelude.{◌≡◌, ℕ, List, [], ◌∷◌, Bool, Option, codes, length, map, nat_eq}
+use Rattle.std.specs.Prelude.{◌≡◌, ℕ, List, [], ◌∷◌, Bool, Option, codes, length, map, nat_eq, Some}
 use Rattle.std.specs.Option.{option_map}
 use Rattle.std.specs.List.{IsDistinct}
 use Rattle.std.specs.Str.{bytes_eq}
@@ -16,10 +16,11 @@ use Rattle.object_store.specs.Owned.{scope_number}
 use Rattle.object_store.specs.Calls.{IsPrototype}
 use Rattle.widget_meaning.specs.Values as meaning
 use Rattle.widget_meaning.specs.Values.{Value}
-use Rattle.widget_meaning.specs.OwnState.{Cell, Scope, State, new_array, new_bunch, new_function, new_object, plain_object}
+use Rattle.widget_meaning.specs.OwnState.{Cell, Scope, State, new_array, new_bunch, new_function, new_object, plain_object, array_length, cell_at, kind_of, with_cell}
 use Rattle.widget_meaning.specs.Plan.{Plan, Halt}
 use Rattle.widget_meaning.specs.Costs.{fault_message, fault_name, throw}
 use Rattle.widget_meaning.specs.NativeForms.{numbered_pairs}
+use Rattle.widget_meaning.specs.ListChanges.{pushed}
 use Rattle.js_image.specs.declared.outcome.StopCause.{StopCause}
 use Rattle.js_image.specs.declared.outcome.StopCause.TheVariants as cause
 use Rattle.js_image.specs.declared.outcome.Fault.{Fault}
@@ -92,6 +93,11 @@ abbrev pub removed_plan : Removed → (Bool → State → Plan) → State → Pl
 removed_plan (removed.Done b) k s = k b s
 removed_plan (removed.Throw f) k s = throw (meant_fault f) s
 
+-- an element was put behind the last of an Array of the widget, which has this number and this length
+abbrev pub PushedAt : ℕ → ℕ → Value → Value → State → State → Type 0
+PushedAt n len this v s t =
+    array_length (kind_of s this) ≡ Some len → t ≡ with_cell s n (pushed (cell_at s n) len (v ∷ []))
+
 module _ (w : ℕ) (cells : List PlainCell) where
   -- what is done with the cell that was made, or else the stop
   abbrev pub made_plan : Made → (Value → State → Plan) → State → Plan
@@ -138,9 +144,10 @@ module _ (w : ℕ) (cells : List PlainCell) where
   IsNew (fresh.ArrayWith values) = AreFine w cells values.items
   IsNew (fresh.ScopeWith outer pairs) = ⊥
 
--- a new function is one of the trees
+-- a new cell after which all is kept: no Bunch, whose nodes are not the store's to judge, and a function of one of the trees
 abbrev pub IsNewOf : List Forest → NewCell → Type 0
 IsNewOf fs (fresh.Function code fun declared scope) = IsFunOf fs (record { code = code; fun = fun; declared = declared; scope = scope })
+IsNewOf fs (fresh.Bunch nodes) = ⊥
 IsNewOf fs _ = Unit {0}
 
 -- the pairs of the object of a fault, as values of the store

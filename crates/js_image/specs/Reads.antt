@@ -1,5 +1,5 @@
 -- What a read gives, as a value of the store.
-use Rattle.std.specs.Prelude.{ℕ, Bool, false, List, Option, None, Some, nat_eq, if◌then◌else◌, length, unwrap_or}
+use Rattle.std.specs.Prelude.{ℕ, Bool, false, List, Option, None, Some, nat_eq, if◌then◌else◌, is_some, length, unwrap_or, ◌||◌}
 use Rattle.std.specs.Option.{option_and_then, option_map_or}
 use Rattle.store_cells.specs.declared.value.Value.{Value}
 use Rattle.store_cells.specs.declared.value.Value.TheVariants as value
@@ -43,6 +43,18 @@ stored_read cells (value.Num n) name = stored_property cells number_prototype na
 stored_read cells (value.Text t) name = if is_length name then count_value (length t) else stored_property cells text_prototype name
 stored_read cells (value.Ref i) name = stored_property cells i name
 stored_read cells _ name = value.Undefined
+
+-- whether a cell has a property, own or along its prototypes
+abbrev pub stored_some : List PlainCell → ℕ → List ℕ → Bool
+stored_some cells i name = is_some (first_own name (readable cells i))
+
+-- whether a value has a property; a text has a `length`
+abbrev pub stored_found : List PlainCell → Value → List ℕ → Bool
+stored_found cells (value.Bool b) name = stored_some cells boolean_prototype name
+stored_found cells (value.Num n) name = stored_some cells number_prototype name
+stored_found cells (value.Text t) name = is_length name || stored_some cells text_prototype name
+stored_found cells (value.Ref i) name = stored_some cells i name
+stored_found cells _ name = false
 
 -- a variable of a scope or of those around it
 abbrev pub stored_variable : List PlainCell → Option ℕ → List ℕ → Option Value

@@ -4,15 +4,19 @@
 
 mod calling;
 mod laws;
+mod listing;
 mod making;
 mod outcome;
 mod paying;
 mod reading;
+mod receivers;
 mod writing;
 
 pub use calling::callee;
+pub use listing::for_in_names;
 pub use making::{make, make_array, make_fault, make_scope, word};
 pub use outcome::{Callee, Fault, Made, Paid, Removed, StopCause, Written};
 pub use paying::{pay_slots, pay_text, pay_units};
-pub use reading::{get, keys, keys_len, variable};
-pub use writing::{assign, put, remove};
+pub use reading::{get, is_found, keys, keys_len, variable};
+pub use receivers::{array_length, bunch_nodes, element, elements, has_own};
+pub use writing::{assign, push_paid, put, remove};

@@ -1,5 +1,5 @@
 //! What is read from the store.
-ghost use Rattle.std.specs.Prelude.{◌≡◌, ℕ, ◌<◌, ◌≤◌, List, Option, IfOk, IfSome, pos, length, option_copied, unwrap_or};
+ghost use Rattle.std.specs.Prelude.{◌≡◌, ℕ, ◌<◌, ◌≤◌, List, Option, IfOk, IfSome, is_some, pos, length, ◌||◌, option_copied, unwrap_or};
 ghost use Rattle.std.specs.Option.{option_map};
 ghost use Rattle.js_tree.specs.Forest.{Forest};
 ghost use Rattle.store_cells.specs.Cells.{prototypes};
@@ -10,7 +10,7 @@ ghost use Rattle.widget_meaning.specs.Properties as properties;
 ghost use Rattle.widget_meaning.specs.Scopes as scopes;
 ghost use Rattle.js_image.specs.Image.{Rest, image, seen};
 ghost use Rattle.js_image.specs.Held.{IsConfined, IsFine, IsPlaceScope};
-ghost use Rattle.js_image.specs.Reads.{cell_in, is_body, reader, shown_global, stored_property, stored_read, stored_value, stored_variable};
+ghost use Rattle.js_image.specs.Reads.{cell_in, is_body, reader, shown_global, stored_found, stored_property, stored_read, stored_some, stored_value, stored_variable};
 
 use crate::laws::lawful;
 use code_units::{Memory, Text, is_word};
@@ -69,8 +69,53 @@ fn property_of(store: &Store, cell: CellId, name: &Text) -> Result<Value, Memory
     shared(store.get(cell, name))
 }
 
+/// Whether a value has a property, own or along its prototypes.
+pub fn is_found(store: &Store, base: &Value, name: &Text) -> bool
+    requires { IsRefWithin (length store.now.cells) base.now }
+    ensures { (fs : List Forest) (r : Rest) (w : ℕ) → IsConfined fs w store.now → IsFine w store.now.cells base.now
+        → result ≡ is_some (properties.property (image fs r w store.now) (seen w store.now.cells base.now) name.now) }
+{
+    lawful(store);
+    found_of(store, base, name)
+}
+
+// The same by the cell from which the value is read.
+fn found_of(store: &Store, base: &Value, name: &Text) -> bool
+    requires { IsRefWithin (length store.now.cells) base.now }
+    ensures found { result ≡ stored_found store.now.cells base.now name.now }
+    ensures few { IfSome (reader base.now) (λ i. prototypes store.now.cells i ≤ 100) }
+{
+    match base {
+        Value::Undefined => false,
+        Value::Null => false,
+        Value::Bool(_) => has_property(store, store.host(HostEntry::BooleanPrototype), name),
+        Value::Num(_) => has_property(store, store.host(HostEntry::NumberPrototype), name),
+        Value::Text(_) => has_property_of_text(store, name),
+        Value::Ref(cell) => has_property(store, *cell, name),
+    }
+}
+
+// Whether a text has a property.
+fn has_property_of_text(store: &Store, name: &Text) -> bool
+    ensures found { result ≡ (properties.is_length name.now || stored_some store.now.cells text_prototype name.now) }
+    ensures few { prototypes store.now.cells text_prototype ≤ 100 }
+{
+    let along = has_property(store, store.host(HostEntry::TextPrototype), name);
+    is_length(name) || along
+}
+
+// Whether a cell has a property along its prototypes, of which there are at most 100.
+fn has_property(store: &Store, cell: CellId, name: &Text) -> bool
+    requires { cell < length store.now.cells }
+    ensures found { result ≡ stored_some store.now.cells cell name.now }
+    ensures few { prototypes store.now.cells cell ≤ 100 }
+{
+    let _links = store.chain(cell);
+    store.get(cell, name).is_some()
+}
+
 // A value for a second holder, or `undefined`.
-fn shared(found: Option<&Value>) -> Result<Value, Memory>
+pub(crate) fn shared(found: Option<&Value>) -> Result<Value, Memory>
     ensures { IfOk result (λ v. v ≡ unwrap_or (option_copied found.entry) Value.Undefined) }
 {
     match found {

@@ -1,6 +1,8 @@
 //! What is written to the store.
-ghost use Rattle.std.specs.Prelude.{◌≡◌, ℕ, ◌<◌, Bool, List, IfOk};
+ghost use Rattle.std.specs.Prelude.{◌≡◌, ℕ, ◌<◌, Bool, List, IfOk, OnOk};
+ghost use Rattle.std.specs.Fmt.{decimal};
 ghost use Rattle.std.specs.Option.{option_map};
+ghost use Rattle.store_cells.specs.Cells.{own_count};
 ghost use Rattle.js_tree.specs.Forest.{Forest};
 ghost use Rattle.object_store.specs.Owned.{scope_number};
 ghost use Rattle.widget_meaning.specs.OwnState.{State};
@@ -9,13 +11,14 @@ ghost use Rattle.widget_meaning.specs.Properties as properties;
 ghost use Rattle.widget_meaning.specs.Scopes as scopes;
 ghost use Rattle.js_image.specs.Image.{Rest, image, seen};
 ghost use Rattle.js_image.specs.Held.{IsConfined, IsFine, IsHeld, IsPlaceScope, Kept};
-ghost use Rattle.js_image.specs.Plans.{IsRefusalOf, put_plan, removed_plan};
+ghost use Rattle.js_image.specs.Plans.{IsRefusalOf, put_plan, removed_plan, PushedAt};
 
 use crate::laws::lawful;
 use crate::outcome::{Fault, Removed, StopCause, Written};
 use crate::reading::cell_of;
-use code_units::{Memory, Owner, Text};
+use code_units::{Memory, Owner, Text, whole_text};
 use object_store::{CellId, Store, StoreFault, Value};
+use std::alloc::Global;
 
 /// Writes a variable in the innermost scope that has the name; of no other name.
 pub fn assign(store: &mut Store, w: u32, scope: Option<CellId>, name: &Text, value: Value)
@@ -77,6 +80,38 @@ fn put_in(
         Ok(()) => Ok(Written::Done),
         Err(fault) => refused(fault),
     }
+}
+
+/// Puts an element behind the last of an Array of the widget, which has this length; the slot was paid
+/// before. What is no such Array, or has an element there, is answered like want of memory.
+pub fn push_paid(
+    alloc: Global,
+    store: &mut Store,
+    w: u32,
+    array: CellId,
+    at: u32,
+    value: Value,
+) -> Result<(), Memory>
+    requires held { IsHeld w store.old.cells array }
+    requires value { IsFine w store.old.cells value }
+    requires below { at < 4294967295 }
+    ensures done { OnOk result ((fs : List Forest) (r : Rest) → PushedAt (own_count w store.old.cells array) at
+        (seen w store.old.cells (Value.Ref array)) (seen w store.old.cells value) (image fs r w store.old) (image fs r w store.new)) }
+    ensures kept { (fs : List Forest) → Kept fs w store.old store.new }
+{
+    let name = index_name(alloc, at)?;
+    lawful(store);
+    match store.put_paid(array, &name, value) {
+        Ok(()) => Ok(()),
+        Err(_) => Err(Memory),
+    }
+}
+
+// The name of an element.
+fn index_name(alloc: Global, at: u32) -> Result<Text, Memory>
+    ensures { IfOk result (λ t. t ≡ decimal at) }
+{
+    whole_text(alloc, i64::from(at))
 }
 
 /// Takes a name out of a value that the widget holds: the plan that goes on with the answer, false

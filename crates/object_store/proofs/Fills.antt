@@ -1,20 +1,19 @@
 -- Cells that are made with their first pairs.
-use Rattle.std.proofs.Common.{◌≡◌, ℕ, ◌+◌, ◌<◌, ◌≤◌, List, [], ◌∷◌, ◌++◌, length, map, refl, sym, ap, ◌∙◌, subst, Option, Some, None, arith, Bool, true, false, eqb, if◌then◌else◌}
-use Rattle.std.specs.Prelude.{Result, IfOk, IfErr, IfSome}
+use Rattle.std.proofs.Common.{◌≡◌, ℕ, ◌+◌, ◌<◌, List, [], ◌∷◌, length, map, refl, sym, ap, ◌∙◌, subst, Option, None, arith, false, eqb, if◌then◌else◌}
+use Rattle.std.specs.Prelude.{Result, IfOk, IfErr}
 use Rattle.std.specs.List.{IsDistinct}
 use Rattle.std.specs.Str.{bytes_eq}
 use Rattle.std.proofs.lemmas.List.{length-map}
 use Rattle.store_cells.specs.declared.value.Value.{Value}
 use Rattle.store_cells.specs.declared.value.Value.TheVariants as value
-use Rattle.store_cells.specs.declared.kind.Form.{Form}
 use Rattle.store_cells.specs.declared.cell.Head.{Head}
 use Rattle.store_cells.specs.declared.counts.Counts.{Counts}
 use Rattle.store_cells.specs.declared.counts.StoreFault.{StoreFault}
 use Rattle.store_cells.specs.Lists.{changed}
-use Rattle.store_cells.specs.Cells.{Cells, PlainCell, is_bunch, is_visible_form, kept_cells, node_in}
-use Rattle.store_cells.specs.Host.{array_prototype, host_count}
+use Rattle.store_cells.specs.Cells.{Cells, PlainCell, is_bunch, kept_cells, node_in}
+use Rattle.store_cells.specs.Host.{array_prototype}
 use Rattle.store_cells.specs.Numbered.{NumberedCell, cells_of, heads, own_head, plain}
-use Rattle.store_cells.specs.Shape.{AreElements, AreRefs, AreWithin, Grew, IsOrdered, IsShape, bunch_at, head_on, links_at, scope_at}
+use Rattle.store_cells.specs.Shape.{AreElements, AreRefs, AreWithin, Grew, IsOrdered, IsShape, head_on, links_at}
 use Rattle.store_cells.specs.Costs.{Refuses, cost_refusal, paid}
 use Rattle.store_cells.specs.Born.{scope_cell, unset}
 use Rattle.object_store.specs.Calls.{Adds, AreFirstPairs}

@@ -1,18 +1,19 @@
 -- Each call leaves what was there under its numbers.
-use Rattle.std.proofs.Common.{◌≡◌, ℕ, zero, suc, ◌<◌, ◌≤◌, List, [], ◌∷◌, ◌++◌, length, refl, sym, ap, ◌∙◌, subst, Option, Some, None, arith, Bool, true, false, slice_get, length-append}
-use Rattle.std.specs.Prelude.{Result, Ok, Err, OnOk, OnErr, IfOk, MatchOption, ◌&&◌}
-use Rattle.std.specs.Option.{option_map_or}
+use Rattle.std.proofs.Common.{◌≡◌, ℕ, zero, suc, List, [], ◌∷◌, ◌++◌, length, refl, sym, ap, ◌∙◌, subst, Option, Some, None, arith, Bool, true, false, slice_get, length-append}
+use Rattle.std.specs.Prelude.{Result, Ok, Err, OnOk, OnErr, IfOk, MatchOption, ◌&&◌, if◌then◌else◌}
+use Rattle.std.specs.Option.{option_map, option_map_or}
 use Rattle.store_cells.specs.declared.value.Value.{Value}
 use Rattle.store_cells.specs.declared.counts.StoreFault.{StoreFault}
 use Rattle.store_cells.specs.Lists.{changed}
-use Rattle.store_cells.specs.Cells.{Cells, PlainCell, holder, is_bunch, is_scope, raw_cell}
+use Rattle.store_cells.specs.Cells.{Cells, PlainCell, holder, is_bunch, is_raw, is_scope, raw_cell}
 use Rattle.store_cells.specs.Arrays.{stored, without, written}
 use Rattle.store_cells.specs.Born.{raw_place}
-use Rattle.object_store.specs.Calls.{HasNode, IsCharged, IsMade, IsPut, IsRemoved, born, put_done, remove_done, unit_cost, var_done}
+use Rattle.object_store.specs.Calls.{IsCharged, IsMade, IsPut, IsRemoved, born, put_done, remove_done, unit_cost, var_done}
 use Rattle.object_store.specs.Owned.{is_of, is_own_scope}
 use Rattle.object_store.specs.Grows.{Grows}
 use Rattle.object_store.specs.declared.store.NewCell.{NewCell}
-use Rattle.store_cells.proofs.Lists.{get_first, length-changed}
+use Rattle.store_cells.proofs.Lists.{get_first, length-changed, none_some}
+use Rattle.store_cells.proofs.Places.{position_step}
 use Rattle.object_store.proofs.Others.{stored_form, stored_owner, without_form, without_owner}
 use Rattle.object_store.proofs.Views.{numbers_kept, numbers_older}
 
@@ -24,6 +25,7 @@ grows_same w cells = record {
   scope = λ k lt. refl;
   own_scope = λ k lt. refl;
   bunch = λ k lt. refl;
+  raws = λ n i e. e;
 }
 
 -- a cell is changed, but not whose it is nor what it is
@@ -35,6 +37,18 @@ module _ (w : ℕ) (f : PlainCell → PlainCell) (same_owner : (c : PlainCell) �
   test_kept p h (c ∷ cs) (suc i) zero = refl
   test_kept p h (c ∷ cs) (suc i) (suc k) = test_kept p h cs i k
 
+  -- a page node keeps its cell
+  raw_kept : (n : ℕ) (cs : List PlainCell) (i : ℕ) → raw_place n (changed cs i f) ≡ raw_place n cs
+  raw_kept n [] i = refl
+  raw_kept n (c ∷ cs) zero =
+      position_step (λ (d : PlainCell). is_raw n d.form) (f c) cs
+      ∙ ap (λ b. if b then Some 0 else option_map suc (raw_place n cs)) (ap (is_raw n) (same_form c))
+      ∙ sym (position_step (λ (d : PlainCell). is_raw n d.form) c cs)
+  raw_kept n (c ∷ cs) (suc i) =
+      position_step (λ (d : PlainCell). is_raw n d.form) c (changed cs i f)
+      ∙ ap (λ (o : Option ℕ). if is_raw n c.form then Some 0 else option_map suc o) (raw_kept n cs i)
+      ∙ sym (position_step (λ (d : PlainCell). is_raw n d.form) c cs)
+
   pub grows_changed : (cells : List PlainCell) (i : ℕ) → Grows w cells (changed cells i f)
   grows_changed cells i =
       let same = numbers_kept w f same_owner same_form cells i (length cells) in
@@ -45,7 +59,20 @@ module _ (w : ℕ) (f : PlainCell → PlainCell) (same_owner : (c : PlainCell) �
         scope = same.scope;
         own_scope = λ k lt. test_kept (is_own_scope w) (λ c j. is_of w (same_owner c j) && is_scope (same_form c j)) cells i k;
         bunch = λ k lt. test_kept (λ c. is_bunch c.form) (λ c. ap is_bunch (same_form c)) cells i k;
+        raws = λ n k e. raw_kept n cells i ∙ e;
       }
+
+-- the first cell of a page node stays where it is as cells are added
+raw_first : (n i : ℕ) (cs more : List PlainCell) → raw_place n cs ≡ Some i → raw_place n (cs ++ more) ≡ Some i
+raw_first n i [] more e = absurd (none_some e)
+raw_first n i (c ∷ cs) more e =
+    position_step (λ (d : PlainCell). is_raw n d.form) c (cs ++ more)
+    ∙ by (is_raw n c.form) (raw_place n cs) (λ k h. raw_first n k cs more h) (sym (position_step (λ (d : PlainCell). is_raw n d.form) c cs) ∙ e)
+  where
+    by : (b : Bool) (o : Option ℕ) → ((k : ℕ) → o ≡ Some k → raw_place n (cs ++ more) ≡ Some k) → (if b then Some 0 else option_map suc o) ≡ Some i → (if b then Some 0 else option_map suc (raw_place n (cs ++ more))) ≡ Some i
+    by true o h g = g
+    by false None h g = absurd (none_some g)
+    by false (Some k) h g = ap (option_map suc) (h k refl) ∙ g
 
 -- more cells
 pub grows_more : (w : ℕ) (cells more : List PlainCell) → Grows w cells (cells ++ more)
@@ -58,12 +85,13 @@ grows_more w cells more =
       scope = same.scope;
       own_scope = λ k lt. ap (λ (o : Option PlainCell). option_map_or (is_own_scope w) o false) (get_first cells more k lt);
       bunch = λ k lt. ap (λ (o : Option PlainCell). option_map_or (λ c. is_bunch c.form) o false) (get_first cells more k lt);
+      raws = λ n i e. raw_first n i cells more e;
     }
 
-grows_to : (w : ℕ) (s t u : Cells) → t ≡ u → Grows w s.cells u.cells → Grows w s.cells t.cells
+pub grows_to : (w : ℕ) (s t u : Cells) → t ≡ u → Grows w s.cells u.cells → Grows w s.cells t.cells
 grows_to w s t u e g = subst (λ (d : Cells). Grows w s.cells d.cells) (sym e) g
 
-grows_back : (w : ℕ) (s t : Cells) → t ≡ s → Grows w s.cells t.cells
+pub grows_back : (w : ℕ) (s t : Cells) → t ≡ s → Grows w s.cells t.cells
 grows_back w s t e = grows_to w s t s e (grows_same w s.cells)
 
 module _ (s : Cells) (w : ℕ) where

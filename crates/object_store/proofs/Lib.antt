@@ -1,3 +1,4 @@
+pub mod BunchNodes
 pub mod Chains
 pub mod Charges
 pub mod Counted
@@ -11,6 +12,8 @@ pub mod OwnMade
 pub mod Paid
 pub mod Puts
 pub mod Removes
+pub mod Shown
 pub mod Stands
 pub mod Starts
 pub mod Views
+pub mod PaidPuts

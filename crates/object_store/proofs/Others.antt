@@ -24,7 +24,7 @@ use Rattle.store_cells.specs.Arrays.{cut, extended, is_bad_length, length_in, le
 use Rattle.store_cells.specs.Host.{array_prototype, function_prototype}
 use Rattle.store_cells.specs.Bunches.{AreBunches, IsBunch}
 use Rattle.store_cells.specs.Shape.{IsLinked}
-use Rattle.object_store.specs.Calls.{IsCharged, IsMade, IsPut, IsRemoved, born, cells_for, kept_after, make_done, put_done, put_refusal, remove_done, remove_refusal, removed, slots_for, slots_of, unit_cost, var_done}
+use Rattle.object_store.specs.Calls.{IsCharged, IsMade, IsPut, IsRemoved, born, cells_for, kept_after, make_done, put_done, put_refusal, remove_done, remove_refusal, slots_for, slots_of, unit_cost, var_done}
 use Rattle.store_cells.specs.Born.{array_cell, new_cell, object_cell, raw_place, scope_cell, unset}
 use Rattle.store_cells.specs.Costs.{cost_refusal, paid}
 use Rattle.store_cells.specs.Arrays.{is_length_of, without}

@@ -20,7 +20,7 @@ use Rattle.store_cells.specs.Bunches.{IsBunch}
 use Rattle.store_cells.specs.Shape.{IsLinked, IsRefWithin}
 use Rattle.store_cells.specs.declared.counts.Counts.{Counts}
 use Rattle.store_cells.specs.Costs.{paid}
-use Rattle.object_store.specs.Calls.{IsPut, IsRemoved, put_done, put_refusal, remove_done, remove_refusal, removed, slots_at, var_done}
+use Rattle.object_store.specs.Calls.{IsPut, IsRemoved, put_done, put_refusal, remove_done, remove_refusal, slots_at, var_done}
 use Rattle.store_cells.specs.Arrays.{without}
 use Rattle.object_store.specs.Owned.{Assigned, Changed, OwnCell, OwnKind, OwnScope, OwnValue, is_of, is_own_scope, is_own_scope_at, owned, own_cell, own_cells, own_length, own_link, own_pairs, own_put, own_raised, own_removed, own_resized, own_scope, own_scopes, own_set, own_value, scope_number, visible_at, with_own}
 use Rattle.store_cells.proofs.Lists.{count_step, none_some, same_rest, some_same}
@@ -351,7 +351,7 @@ visible_no_scope w c e = by (widget_of c.owner) e
     by None e = absurd (false_true e)
     by (Some v) e = and_false (eqb v w) (is_scope c.form) (form_no_scope c.form (second (eqb v w) (is_visible_form c.form) e))
 
-visible_form : (w : ℕ) (c : PlainCell) → is_visible w c ≡ true → is_visible_form c.form ≡ true
+pub visible_form : (w : ℕ) (c : PlainCell) → is_visible w c ≡ true → is_visible_form c.form ≡ true
 visible_form w c e = by (widget_of c.owner) e
   where
     second : (a b : Bool) → (a && b) ≡ true → b ≡ true
@@ -362,7 +362,7 @@ visible_form w c e = by (widget_of c.owner) e
     by None e = absurd (false_true e)
     by (Some v) e = second (eqb v w) (is_visible_form c.form) e
 
-open_no_bunch : (o : Owner) (f : Form) (x : ℕ) → writer_in o f ≡ Some x → is_bunch f ≡ false
+pub open_no_bunch : (o : Owner) (f : Form) (x : ℕ) → writer_in o f ≡ Some x → is_bunch f ≡ false
 open_no_bunch o f x e = by (is_bunch f) e
   where
     by : (b : Bool) → (if b then None else widget_of o) ≡ Some x → b ≡ false

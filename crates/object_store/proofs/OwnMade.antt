@@ -38,7 +38,7 @@ use Rattle.store_cells.proofs.Closed.{cells_of_older}
 use Rattle.store_cells.proofs.Elements.{element_length, refs_elements}
 use Rattle.store_cells.proofs.Writes.{count_length}
 use Rattle.object_store.proofs.Others.{bunches}
-use Rattle.object_store.proofs.Views.{append_none, nodes_are, numbers_older, owned_grown, pairs_same, scope_same, value_same}
+use Rattle.object_store.proofs.Views.{nodes_are, numbers_older, owned_grown, pairs_same, scope_same, value_same}
 
 false_true : false ≡ true → ⊥
 false_true g = cc

@@ -1,11 +1,10 @@
 -- What `remove` and `var_set` answer.
-use Rattle.std.proofs.Common.{◌≡◌, ℕ, zero, suc, ◌<◌, List, [], ◌∷◌, length, refl, sym, ap, ◌∙◌, subst, Option, Some, None, Bool, true, false, eqb, if◌then◌else◌, not, is_some, slice_get}
+use Rattle.std.proofs.Common.{◌≡◌, ℕ, zero, suc, List, [], ◌∷◌, length, refl, sym, ap, ◌∙◌, subst, Option, Some, None, true, false, if◌then◌else◌, not, is_some, slice_get}
 use Rattle.std.specs.Prelude.{◌&&◌}
-use Rattle.std.specs.Option.{option_map_or, option_and_then}
-use Rattle.std.specs.List.{IsDistinct, list_any, count_by}
-use Rattle.std.specs.Map.{keys_of, lookup, remove_entry}
+use Rattle.std.specs.Option.{option_map_or}
+use Rattle.std.specs.List.{list_any, count_by}
+use Rattle.std.specs.Map.{remove_entry}
 use Rattle.std.specs.Str.{bytes_eq}
-use Rattle.std.proofs.lemmas.Option.{get_or_from_slice_get, slice_get_within}
 use Rattle.keyed_names.proofs.Interning.{same_test, none_test}
 use Rattle.store_cells.specs.declared.value.Value.{Value}
 use Rattle.store_cells.specs.declared.cell.Head.{Head}
@@ -14,18 +13,15 @@ use Rattle.store_cells.specs.declared.counts.Counts.{Counts}
 use Rattle.store_cells.specs.declared.counts.StoreFault.TheVariants as fault
 use Rattle.store_cells.specs.Lists.{changed}
 use Rattle.store_cells.specs.Cells.{PlainCell, Cells, is_array, is_bunch, is_scope, holder, writer_in, widget_of, is_scope_at}
-use Rattle.store_cells.specs.Arrays.{length_in, length_name, written}
-use Rattle.store_cells.specs.Numbered.{NumberedCell, plain, named, cells_of, heads, own_head, numbered_without, numbered_held, numbered_has, numbered_has_at, numbered_holder}
-use Rattle.store_cells.specs.Shape.{AreClosed, AreKnown, IsBase, IsFine, IsShape, AreRaws, IsRefWithin, Wrote, scope_at}
+use Rattle.store_cells.specs.Arrays.{length_name, written}
+use Rattle.store_cells.specs.Numbered.{NumberedCell, plain, named, cells_of, heads, own_head, numbered_has, numbered_has_at, numbered_holder}
+use Rattle.store_cells.specs.Shape.{AreClosed, AreKnown, IsBase, IsShape, AreRaws, Wrote, scope_at}
 use Rattle.store_cells.specs.Arrays.{without, is_length_of}
 use Rattle.object_store.specs.Calls.{IsRemoved, is_closed, remove_refusal, removed, remove_done, var_done}
 use Rattle.store_cells.proofs.Lists.{some_same, changed_alike}
-use Rattle.store_cells.proofs.Look.{known_entries, known_cells, known_at, remove_named, remove_never, insert_named, holder_same, holder_never, climb_has}
-use Rattle.store_cells.proofs.Entries.{entries_remove, entries_insert, lookup_removed}
-use Rattle.store_cells.proofs.Writes.{changed_base, changed_cells, changed_heads, not_length, here}
-use Rattle.store_cells.proofs.Heads.{holder_scope, scope_form, scope_no_array, scope_no_bunch, scope_same, head_at}
+use Rattle.store_cells.proofs.Look.{known_cells, known_at, remove_never, holder_same, holder_never, climb_has}
+use Rattle.store_cells.proofs.Heads.{holder_scope, scope_form, scope_no_bunch, scope_same, head_at}
 use Rattle.store_cells.proofs.Closed.{closed_wrote}
-use Rattle.store_cells.proofs.Tops.{below_taken}
 use Rattle.object_store.proofs.Puts.{seen}
 
 -- a shape after a call that pays nothing

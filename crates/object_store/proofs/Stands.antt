@@ -1,5 +1,5 @@
 -- What passes a test stands, among all that pass, at the number of those before it.
-use Rattle.std.proofs.Common.{◌≡◌, ℕ, zero, suc, Bool, true, false, List, [], ◌∷◌, refl, ap, ◌∙◌, map, filter, take, slice_get, Some, if◌then◌else◌}
+use Rattle.std.proofs.Common.{◌≡◌, ℕ, zero, suc, Bool, true, false, List, [], ◌∷◌, ap, ◌∙◌, map, filter, take, slice_get, Some, if◌then◌else◌}
 use Rattle.std.specs.List.{count_by}
 use Rattle.store_cells.specs.Lists.{count_before}
 use Rattle.store_cells.specs.Cells.{Cells, PlainCell, is_visible, own_count}

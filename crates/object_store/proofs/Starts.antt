@@ -1,5 +1,5 @@
 -- Where a read begins.
-use Rattle.std.proofs.Common.{◌≡◌, ℕ, ◌<◌, List, length, sym, ap, ◌∙◌, Option, Some, None, arith, Bool, true, false, if◌then◌else◌, slice_get}
+use Rattle.std.proofs.Common.{◌≡◌, ℕ, ◌<◌, List, length, sym, ap, ◌∙◌, Option, Some, None, arith, true, false, if◌then◌else◌, slice_get}
 use Rattle.std.specs.Prelude.{IfSome}
 use Rattle.std.specs.Option.{option_and_then}
 use Rattle.store_cells.specs.Cells.{Cells, PlainCell, is_bunch, is_scope, is_scope_at}
@@ -8,7 +8,6 @@ use Rattle.store_cells.specs.declared.counts.Counts.{Counts}
 use Rattle.store_cells.specs.Shape.{IsShape}
 use Rattle.object_store.specs.Calls.{read_start}
 use Rattle.store_cells.proofs.Lists.{get_within}
-use Rattle.store_cells.specs.Shape.{IsLinked}
 use Rattle.object_store.proofs.Puts.{seen}
 use Rattle.object_store.proofs.Links.{linked}
 

@@ -60,6 +60,29 @@ pub record IsPut (old new : Cells) (i : ℕ) (name : List ℕ) (v : Value) : Typ
   pub allowed : put_refusal old i name v ≡ None
   pub done : new ≡ put_done old i name v
 
+-- why `put_paid` into a cell to which a widget may write is refused: the cell has the name, or a bad length
+abbrev pub new_refusal : List ℕ → Value → PlainCell → Option StoreFault
+new_refusal name v c =
+    if has_own name c then Some fault.Closed else (if is_bad_length name v c then Some fault.BadLength else None)
+
+-- why `put_paid` into a cell is refused
+abbrev pub paid_refusal_of : List ℕ → Value → PlainCell → Option StoreFault
+paid_refusal_of name v c =
+    option_map_or (λ w. new_refusal name v c) (writer_in c.owner c.form) (Some fault.Closed)
+
+-- why `put_paid` into the cell at a place is refused
+abbrev pub paid_refusal : Cells → ℕ → List ℕ → Value → Option StoreFault
+paid_refusal s i name v = option_map_or (paid_refusal_of name v) (slice_get s.cells i) None
+
+-- the store after `put_paid`: the value stands under the name, and nothing is paid
+abbrev pub paid_done : Cells → ℕ → List ℕ → Value → Cells
+paid_done s i name v = record s { cells = changed s.cells i (stored name v) }
+
+-- A value was put under a new name of the cell at a place, whose slot was paid before.
+pub record IsPutPaid (old new : Cells) (i : ℕ) (name : List ℕ) (v : Value) : Type 0 where
+  pub allowed : paid_refusal old i name v ≡ None
+  pub done : new ≡ paid_done old i name v
+
 -- whether no widget may write to a cell: it is a Bunch, or the host's
 abbrev pub is_closed : PlainCell → Bool
 is_closed c = not (is_some (writer_in c.owner c.form))

@@ -1,3 +1,4 @@
 pub mod Calls
 pub mod Owned
 pub mod Grows
+pub mod Elements

@@ -269,6 +269,11 @@ SeesPut w old new i name v =
     visible_at w old.cells i ≡ true
     → Changed w old new i (slots_at old.cells i name) (own_put name (own_value w old.cells v))
 
+-- what a widget sees of a `put_paid` into one of its cells
+abbrev pub SeesPaid : ℕ → Cells → Cells → ℕ → List ℕ → Value → Type 0
+SeesPaid w old new i name v =
+    visible_at w old.cells i ≡ true → Changed w old new i 0 (own_put name (own_value w old.cells v))
+
 -- what a widget sees of a `remove` from one of its cells
 abbrev pub SeesRemoved : ℕ → Cells → Cells → ℕ → List ℕ → Type 0
 SeesRemoved w old new i name = visible_at w old.cells i ≡ true → Changed w old new i 0 (own_removed name)

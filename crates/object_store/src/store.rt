@@ -1,16 +1,17 @@
 //! The store.
-ghost use Rattle.std.specs.Prelude.{◌≡◌, ℕ, ◌+◌, ◌<◌, ◌≤◌, [], ◌∷◌, ◌++◌, None, Some, true, false, is_some, nat_eq, length, vec_len, slice_get, option_copied, IfOk, IfErr, IfSome, OnErr, OnOk, MatchOption, MatchResult, replicate};
+ghost use Rattle.std.specs.Prelude.{◌≡◌, ℕ, option_to_list, ◌+◌, ◌<◌, ◌≤◌, [], ◌∷◌, ◌++◌, None, Some, true, false, is_some, nat_eq, length, vec_len, slice_get, option_copied, IfOk, IfErr, IfSome, OnErr, OnOk, MatchOption, MatchResult, replicate};
 ghost use Rattle.std.specs.Option.{option_and_then, option_map, option_map_or};
-ghost use Rattle.object_store.specs.Owned.{Made, SeesPut, SeesRemoved, SeesSet, is_held_by, is_of_at, is_own_scope, own_cell, own_paid, own_scope, owned, scope_number};
-ghost use Rattle.std.specs.List.{IsDistinct};
+ghost use Rattle.object_store.specs.Owned.{Made, SeesPut, SeesRemoved, SeesSet, is_held_by, is_of_at, is_own_scope, node_of, nodes_in, own_cell, own_paid, own_scope, owned, scope_number, SeesPaid};
+ghost use Rattle.std.specs.List.{IsDistinct, list_any};
 ghost use Rattle.std.specs.Str.{bytes_eq};
-ghost use Rattle.store_cells.specs.Arrays.{length_in, length_name};
+ghost use Rattle.store_cells.specs.Arrays.{keys_of, length_in, length_name};
 ghost use Rattle.store_cells.specs.Bunches.{IsBunch};
 ghost use Rattle.store_cells.specs.Cells.{Cells, PlainCell, chain, own_count, first_own, value_along, is_bunch_at, is_scope_at, is_visible, kind_of, function_in, native_in, node_in, proto_in, prototypes, holder, is_array, is_bunch, raw_cell, value_of};
 ghost use Rattle.store_cells.specs.Shape.{AreElements, HasPrototype, IsLinked, IsNewForm, IsRefWithin};
 ghost use Rattle.store_cells.specs.Host.{first_store, global, nothing_paid, host_cells, host_count, is_permitted_cell, leads_on, place_of};
 ghost use Rattle.store_cells.specs.Costs.{Refuses, cost_refusal, slots_refusal, units_refusal, whole_refusal};
-ghost use Rattle.object_store.specs.Calls.{Adds, AreFirstPairs, HasLength, HasNode, IsCharged, IsMade, IsMakeable, IsPrototype, IsPut, IsRemoved, cells_by, keys_at, make_refusal, paid_by, put_refusal, read_start, readable, remove_refusal, var_done};
+ghost use Rattle.object_store.specs.Calls.{Adds, AreFirstPairs, HasLength, HasNode, IsCharged, IsMade, IsMakeable, IsPrototype, IsPut, IsRemoved, cells_by, keys_at, make_refusal, paid_by, put_refusal, read_start, readable, remove_refusal, var_done, IsPutPaid, paid_refusal};
+ghost use Rattle.object_store.specs.Elements.{HasHidden, array_length, bunch_nodes, element, reference_in, shows_own};
 ghost use Rattle.object_store.specs.Grows.{Grows};
 ghost use Rattle.store_cells.specs.Cells.{own_number_of, IsOwner, IsWidget, number_in};
 ghost use Rattle.store_cells.specs.Born.{HaveCells, IsScopeOf, array_cell, bunch_cells, new_cell, object_cell, raw_place, scope_cell, unset};
@@ -69,6 +70,16 @@ fn unset(alloc: Global, names: &[Text]) -> Result<Vec<(Text, Value)>, Memory>
         pairs.push((name.share()?, Value::Undefined))?;
     }
     Ok(pairs)
+}
+
+// The cell to which a value refers.
+fn reference(value: Option<&Value>) -> Option<CellId>
+    ensures { result ≡ option_and_then reference_in (option_copied value.entry) }
+{
+    match value? {
+        Value::Ref(cell) => Some(*cell),
+        _ => None,
+    }
 }
 
 /// The store: the cells of all owners, and what each widget has paid.
@@ -319,6 +330,138 @@ impl Store {
         table::cell(&self.cells, scope).value_at(at)
     }
 
+    /// The name of an own pair of a cell at a place, from 0, none exactly where it has no pair there.
+    pub fn name_at(&self, cell: CellId, at: u32) -> Option<&Text>
+        requires { cell < length self.now.cells }
+        ensures { IfSome (slice_get self.now.cells cell) (λ c.
+            option_copied result ≡ option_map (λ p. p.0) (slice_get c.pairs at)) }
+    {
+        let n = table::cell(&self.cells, cell).number_at(at)?;
+        self.names.text(n)
+    }
+
+    /// Whether a cell has a name of its own; the pair of a Bunch is hidden.
+    pub fn has_own(&self, cell: CellId, name: &Text) -> bool
+        requires { cell < length self.now.cells }
+        ensures { IfSome (slice_get self.now.cells cell) (λ c. result ≡ shows_own name.now c) }
+    {
+        let held = table::cell(&self.cells, cell);
+        if held.head().form.is_bunch() {
+            return false;
+        }
+        match self.names.number(name) {
+            None => false,
+            Some(n) => held.has(n),
+        }
+    }
+
+    /// Whether `keys` gives a name.
+    pub fn lists(&self, cell: CellId, name: &Text) -> bool
+        requires { cell < length self.now.cells }
+        ensures { IfSome (slice_get self.now.cells cell) (λ c. result ≡ list_any (bytes_eq name.now) (keys_of c)) }
+    {
+        let held = table::cell(&self.cells, cell);
+        if !held.is_listed(name) {
+            return false;
+        }
+        match self.names.number(name) {
+            None => false,
+            Some(n) => held.has(n),
+        }
+    }
+
+    /// The length of an Array, none exactly for a cell of another kind.
+    pub fn array_length(&self, cell: CellId) -> Option<u32>
+        requires { cell < length self.now.cells }
+        ensures { IfSome (slice_get self.now.cells cell) (λ c. result ≡ array_length c) }
+    {
+        table::cell(&self.cells, cell).array_length()
+    }
+
+    /// What an Array has under an index, for which no text is made; none exactly where it has nothing
+    /// there, and for a cell of another kind.
+    pub fn element(&self, cell: CellId, at: u32) -> Option<&Value>
+        requires cell { cell < length self.now.cells }
+        requires index { at < 4294967295 }
+        ensures { IfSome (slice_get self.now.cells cell) (λ c. option_copied result ≡ element at c) }
+    {
+        let held = table::cell(&self.cells, cell);
+        if !held.head().form.is_array() {
+            return None;
+        }
+        held.element(&self.names, at)
+    }
+
+    /// The page nodes of a Bunch in their order, which differ; none exactly for a cell of another kind.
+    pub fn bunch_nodes(&self, alloc: Global, cell: CellId) -> Result<Option<Vec<u32>>, Memory>
+        requires { cell < length self.now.cells }
+        ensures nodes { IfOk result (λ found. IfSome (slice_get self.now.cells cell) (λ c.
+            option_map (λ v. v.items) found ≡ bunch_nodes self.now.cells c)) }
+        ensures distinct { IfOk result (λ found. IfSome found (λ v. IsDistinct nat_eq v.items)) }
+    {
+        // These laws say what a Bunch has.
+        self.links_are_older();
+        self.bunches_have_nodes();
+        let Some(array) = self.hidden_array(cell) else {
+            return Ok(None);
+        };
+        let nodes = self.nodes_in(alloc, array)?;
+        Ok(Some(nodes))
+    }
+
+    // The hidden Array of a Bunch.
+    fn hidden_array(&self, cell: CellId) -> Option<CellId>
+        requires { cell < length self.now.cells }
+        ensures { IfSome (slice_get self.now.cells cell) (λ c. HasHidden self.now.cells c result) }
+    {
+        // This law says what a Bunch has.
+        self.bunches_have_nodes();
+        if !table::cell(&self.cells, cell).head().form.is_bunch() {
+            return None;
+        }
+        reference(self.var_at(cell, 0))
+    }
+
+    // The nodes to whose cells an Array refers, in order.
+    fn nodes_in(&self, alloc: Global, array: CellId) -> Result<Vec<u32>, Memory>
+        requires { array < length self.now.cells }
+        ensures { IfOk result (λ nodes. IfSome (slice_get self.now.cells array) (λ a.
+            nodes.items ≡ nodes_in self.now.cells a.pairs)) }
+    {
+        // This law says that references exist.
+        self.links_are_older();
+        let mut nodes = Vec::new(alloc);
+        for at in 0..u32::MAX {
+            let Some(value) = self.var_at(array, at) else {
+                return Ok(nodes);
+            };
+            self.push_node(value, &mut nodes)?;
+        }
+        Err(Memory)
+    }
+
+    // Puts the node to whose cell a value refers behind others.
+    fn push_node(&self, value: &Value, nodes: &mut Vec<u32>) -> Result<(), Memory>
+        requires { IsRefWithin (length self.now.cells) value.now }
+        ensures { OnOk result (nodes.new.items ≡ nodes.old.items ++ option_to_list (node_of self.now.cells value.now)) }
+    {
+        if let Some(node) = self.node_of(value) {
+            nodes.push(node)?;
+        }
+        Ok(())
+    }
+
+    // The node to whose cell a value refers.
+    fn node_of(&self, value: &Value) -> Option<u32>
+        requires { IsRefWithin (length self.now.cells) value.now }
+        ensures { result ≡ node_of self.now.cells value.now }
+    {
+        match value {
+            Value::Ref(cell) => self.raw_node(*cell),
+            _ => None,
+        }
+    }
+
     /// The value of a variable: that of the innermost scope that has the name, none exactly where
     /// none has it.
     pub fn var_get(&self, scope: CellId, name: &Text) -> Option<&Value>
@@ -398,6 +541,54 @@ impl Store {
         table::write(&mut self.names, &mut self.cells, target, name, value, plan)?;
         counts::pay(&mut self.kept, w, 0, slots);
         Ok(())
+    }
+
+    /// Writes as `put` does under a name that the cell does not have, whose slot was paid before:
+    /// nothing is paid. `Closed` comes exactly where the cell is a Bunch or the host's, or has the
+    /// name; `BadLength` where `put` answers it.
+    pub fn put_paid(&mut self, cell: CellId, name: &Text, value: Value) -> Result<(), StoreFault>
+        requires at { cell < length self.old.cells }
+        requires value { IsRefWithin (length self.old.cells) value }
+        ensures ok { OnOk result (IsPutPaid self.old self.new cell name.now value) }
+        ensures err { IfErr result (λ e. Refuses e (paid_refusal self.old cell name.now value)) }
+        ensures same { OnErr result (self.new ≡ self.old) }
+
+        // Its widget sees the write, and another has what it had.
+        ensures own { OnOk result ((w : ℕ) → SeesPaid w self.old self.new cell name.now value) }
+        ensures others { (w : ℕ) → is_of_at w self.old.cells cell ≡ false → owned w self.new ≡ owned w self.old }
+        ensures grows { (w : ℕ) → Grows w self.old.cells self.new.cells }
+    {
+        // These laws say that what other cells lead to stays.
+        self.links_are_older();
+        self.bunches_have_nodes();
+        self.put_paid_in(cell, name, value)
+    }
+
+    // `put_paid`, without what widgets see of it.
+    fn put_paid_in(&mut self, cell: CellId, name: &Text, value: Value) -> Result<(), StoreFault>
+        requires at { cell < length self.old.cells }
+        requires value { IsRefWithin (length self.old.cells) value }
+        ensures ok { OnOk result (IsPutPaid self.old self.new cell name.now value) }
+        ensures err { IfErr result (λ e. Refuses e (paid_refusal self.old cell name.now value)) }
+        ensures same { OnErr result (self.new ≡ self.old) }
+    {
+        let held = table::cell(&self.cells, cell);
+        let Some(_w) = held.writer() else {
+            return Err(StoreFault::Closed);
+        };
+        let number = self.names.number(name);
+        let slots = held.slots_for(number);
+        if slots == 0 {
+            return Err(StoreFault::Closed);
+        }
+        match held.plan(name, &value) {
+            None => Err(StoreFault::BadLength),
+            Some(plan) => {
+                let target = Target { cell, number };
+                table::write(&mut self.names, &mut self.cells, target, name, value, plan)?;
+                Ok(())
+            }
+        }
     }
 
     /// Whether a widget can pay a whole cost: `Units`, else `Cells`, else `Slots` comes exactly where

@@ -7,6 +7,7 @@ pub mod Entries
 pub mod Filled
 pub mod Heads
 pub mod Hosts
+pub mod Indexed
 pub mod Interned
 pub mod Listing
 pub mod Lists

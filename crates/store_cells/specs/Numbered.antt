@@ -2,6 +2,7 @@
 use Rattle.std.specs.Prelude.{◌≡◌, ℕ, ◌+◌, ◌-◌, ◌<◌, ◌≤◌, Bool, false, List, [], ◌∷◌, Option, None, Some, is_some, max, nat_lt, nat_eq, not, ◌&&◌, if◌then◌else◌, map, length, slice_get, slice_index_or, filter, MatchOption}
 use Rattle.std.specs.Option.{option_map, option_map_or, option_and_then}
 use Rattle.std.specs.Str.{bytes_eq}
+use Rattle.std.specs.Fmt.{decimal}
 use Rattle.std.specs.List.{list_any}
 use Rattle.std.specs.Map.{lookup, remove_entry}
 use Rattle.indexmap.specs.IndexMap.{insert_entry}
@@ -111,6 +112,14 @@ pub record Grown (old new : List (List ℕ)) : Type 0 where
 -- the length of an Array, which stands under the number 0
 abbrev pub numbered_length : List (ℕ × Value) → ℕ
 numbered_length es = option_map_or (λ n. n) (option_and_then length_in (lookup (nat_eq 0) es)) 0
+
+-- whether a name is an index
+abbrev pub is_index : ℕ → List ℕ → Bool
+is_index at name = option_map_or (λ i. nat_eq i at) (index_of name) false
+
+-- what a cell has under an index
+abbrev pub numbered_element : List (List ℕ) → ℕ → List (ℕ × Value) → Option Value
+numbered_element names at es = lookup (bytes_eq (decimal at)) (named names es)
 
 -- how a write under a name of an Array goes, by its length and the index that the name is
 abbrev pub element_plan : ℕ → Option ℕ → Write

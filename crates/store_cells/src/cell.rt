@@ -7,7 +7,7 @@ ghost use Rattle.keyed_names.specs.Interned.{IsTable};
 ghost use Rattle.code_units.specs.Indices.{index_of};
 ghost use Rattle.store_cells.specs.Arrays.{count_value, end_of, is_below, keys_of, length_in};
 ghost use Rattle.store_cells.specs.Cells.{is_array, is_scope, writer_in};
-ghost use Rattle.store_cells.specs.Numbered.{NumberedCell, element_plan, first_numbered, is_length_in, is_listed, name_at, node_head, numbered_below, numbered_cut, numbered_has, numbered_held, numbered_key, numbered_length, numbered_two, numbered_without, numbered_written, own_place, plain, plan_of};
+ghost use Rattle.store_cells.specs.Numbered.{NumberedCell, element_plan, is_index, first_numbered, is_length_in, is_listed, name_at, node_head, numbered_below, numbered_cut, numbered_element, numbered_has, numbered_held, numbered_key, numbered_length, numbered_two, numbered_without, numbered_written, own_place, plain, plan_of};
 ghost use Rattle.store_cells.specs.Shape.{AreBelow, IsPopped, Known};
 
 use crate::kind::Form;
@@ -232,6 +232,67 @@ impl Cell {
         Some(self.table.get_index(at as usize)?.1)
     }
 
+    /// The number of its own name at a place.
+    pub fn number_at(&self, at: u32) -> Option<u32>
+        ensures { result ≡ option_map (λ e. e.0) (slice_get self.now.entries at) }
+    {
+        let (n, _value) = self.table.get_index(at as usize)?;
+        Some(*n)
+    }
+
+    /// The length of an Array.
+    pub fn array_length(&self) -> Option<u32>
+        ensures { result ≡ (if is_array self.now.head.form then Some (numbered_length self.now.entries) else None) }
+    {
+        if self.head.form.is_array() {
+            Some(self.length())
+        } else {
+            None
+        }
+    }
+
+    // Whether its name at a place is an index.
+    fn is_element(&self, names: &Names, place: usize, at: u32) -> bool
+        ensures { result ≡ option_map_or (λ e. is_index at (name_at names.now e.0)) (slice_get self.now.entries place) false }
+    {
+        let Some((k, _value)) = self.table.get_index(place) else {
+            return false;
+        };
+        match index_at(names, *k) {
+            None => false,
+            Some(i) => i == at,
+        }
+    }
+
+    // Its value at a place.
+    fn value_in(&self, place: usize) -> Option<&Value>
+        ensures { option_copied result ≡ option_map (λ e. e.1) (slice_get self.now.entries place) }
+    {
+        Some(self.table.get_index(place)?.1)
+    }
+
+    /// What it has under an index. The elements of an Array that was made whole stand in order behind
+    /// its `length`.
+    pub fn element(&self, names: &Names, at: u32) -> Option<&Value>
+        requires table { IsTable names.now }
+        requires known { Known (length names.now) self.now.entries }
+        requires index { at < 4294967295 }
+        ensures { option_copied result ≡ numbered_element names.now at self.now.entries }
+    {
+        // This says that the names differ.
+        let _len = self.table.len();
+        let behind = at as usize + 1;
+        if self.is_element(names, behind, at) {
+            return self.value_in(behind);
+        }
+        for place in 0..self.table.len() {
+            if self.is_element(names, place, at) {
+                return self.value_in(place);
+            }
+        }
+        None
+    }
+
     /// How a write under a name goes, none where it would be a bad length.
     pub fn plan(&self, name: &Text, value: &Value) -> Option<Write>
         ensures { result ≡ plan_of name.now value.now self.now }
@@ -269,8 +330,8 @@ impl Cell {
         self.table.get(&n)
     }
 
-    // Whether a name is listed: it is permitted, and no `length` of an Array.
-    fn is_listed(&self, name: &Text) -> bool
+    /// Whether a name is listed: it is permitted, and no `length` of an Array.
+    pub fn is_listed(&self, name: &Text) -> bool
         ensures { result ≡ is_listed self.now name.now }
     {
         permitted(name) && !self.is_length(name)

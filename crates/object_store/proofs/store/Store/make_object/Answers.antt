@@ -1,16 +1,14 @@
-use Rattle.std.proofs.Common.{ℕ, List, ap, arith, length, refl, subst, sym, ◌+◌, ◌<◌, ◌≡◌, ◌∙◌, if◌then◌else◌}
+use Rattle.std.proofs.Common.{ap, arith, length, refl, subst, sym, ◌<◌, ◌∙◌, if◌then◌else◌}
 use Rattle.store_cells.specs.declared.cell.Head.{Head}
-use Rattle.store_cells.specs.declared.counts.Counts.{Counts}
 use Rattle.store_cells.specs.declared.kind.Form.TheVariants as form
 use Rattle.store_cells.specs.Cells.{is_array}
 use Rattle.store_cells.specs.Lists.{changed}
-use Rattle.store_cells.specs.Numbered.{heads, own_head}
-use Rattle.store_cells.specs.Shape.{Grew, IsOrdered, head_on, links_at}
+use Rattle.store_cells.specs.Numbered.{heads}
+use Rattle.store_cells.specs.Shape.{Grew, IsOrdered, links_at}
 use Rattle.store_cells.specs.Costs.{paid}
-use Rattle.store_cells.specs.Bunches.{array_pairs}
 use Rattle.store_cells.specs.Born.{filled_cell}
 use Rattle.store_cells.proofs.Makes.{bunch_in_store, length_in_store, links_in_store, new_ordered, own_visible, scope_in_store}
-use Rattle.object_store.proofs.Fills.{array_few, array_ordered, array_up, elements_in_store, grew_adds, grew_shape, refs_in_store}
+use Rattle.object_store.proofs.Fills.{grew_adds, grew_shape, refs_in_store}
 use Rattle.object_store.proofs.store.Store.make_object.Goals as goal
 
 pub head_on-head-requires-clause-at : goal.head_on-head-requires-clause-at

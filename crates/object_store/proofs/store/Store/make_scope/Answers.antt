@@ -1,10 +1,9 @@
-use Rattle.std.proofs.Common.{ℕ, List, ap, length, refl, subst, sym, ◌+◌, ◌≡◌, ◌∙◌}
+use Rattle.std.proofs.Common.{ap, length, refl, subst, sym, ◌+◌, ◌∙◌}
 use Rattle.store_cells.specs.declared.cell.Head.{Head}
-use Rattle.store_cells.specs.declared.counts.Counts.{Counts}
 use Rattle.store_cells.specs.Cells.{is_array}
 use Rattle.store_cells.specs.Lists.{changed}
 use Rattle.store_cells.specs.Numbered.{heads}
-use Rattle.store_cells.specs.Shape.{Grew, IsOrdered, scope_head}
+use Rattle.store_cells.specs.Shape.{Grew, IsOrdered}
 use Rattle.store_cells.specs.Costs.{paid}
 use Rattle.store_cells.specs.Born.{filled_cell}
 use Rattle.store_cells.proofs.Filled.{scope_ordered}
