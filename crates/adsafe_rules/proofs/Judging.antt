@@ -8,10 +8,10 @@ use Rattle.js_tree.specs.Trees.{trees, program_of}
 use Rattle.js_tree.specs.Forest.{IsFun, fun_at, stmts_at}
 use Rattle.js_tree.specs.Parts.{AFun, stmts_spots}
 use Rattle.adsafe_rules.specs.declared.scope.Scope.{Scope}
-use Rattle.adsafe_rules.specs.Hoisting.{stmt_spot}
+use Rattle.node_rules.specs.Hoisting.{stmt_spot}
 use Rattle.adsafe_rules.specs.Program.{IsClean, opened_functions, lib_names}
 use Rattle.adsafe_rules.specs.Accepting.{IsJudged}
-use Rattle.adsafe_rules.proofs.Hoisting.{stmts_spots_at}
+use Rattle.node_rules.proofs.Hoisting.{stmts_spots_at}
 
 program_spots : (tree : Tree) (list : List StmtId) → stmts_at (trees tree) list ≡ program_of tree → map (stmt_spot (trees tree)) list ≡ stmts_spots (program_of tree)
 program_spots tree list e = sym (stmts_spots_at (trees tree) list) ∙ ap stmts_spots e

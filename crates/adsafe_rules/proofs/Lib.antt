@@ -1,9 +1,4 @@
-pub mod Open
-pub mod Placing
-pub mod Lists
 pub mod Rules
-pub mod Sizes
-pub mod Hoisting
 pub mod Parting
 pub mod Stacking
 pub mod Visiting

@@ -7,7 +7,7 @@ use Rattle.js_tree.specs.Forest.{Forest, expr_at, exprs_at}
 use Rattle.js_tree.specs.Parts.{exprs_spots}
 use Rattle.adsafe_rules.specs.declared.scope.Scope.{Scope}
 use Rattle.adsafe_rules.specs.declared.scope.Scope.TheVariants as scope
-use Rattle.adsafe_rules.specs.Names.{literal}
+use Rattle.node_rules.specs.Names.{literal}
 use Rattle.adsafe_rules.specs.Program.{are_arguments, first_string, second_function, function_of}
 use Rattle.adsafe_rules.proofs.Parting.{exprs_are}
 

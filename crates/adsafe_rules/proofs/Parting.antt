@@ -21,12 +21,13 @@ use Rattle.js_tree.specs.Plain.{Exprs, NoExprs, AndExpr, Properties, NoPropertie
 use Rattle.js_tree.specs.Forest.{Forest, IsExpr, IsStmt, IsFun, IsOptional, AreDecls, AreInit, AreClauseParts, AreCatch, AreBlock, AreExprParts, AreStmtParts, AreFunParts, expr_at, stmt_at, fun_at, exprs_more, exprs_at, stmts_at, funs_more, funs_at, optional_at, properties_more, decls_more, decls_at, init_at, clauses_more, catch_at, block_at, plain_form, plain_stmt_form, plain_fun}
 use Rattle.js_tree.specs.Parts.{Spot, AnExpr, AFun, spot_at, init_parts, catch_parts, block_parts, exprs_spots, stmts_spots, funs_spots, optional_spots, properties_spots, decls_spots, init_spots, catch_spots, block_spots}
 use Rattle.first_breach.proofs.Members.{map_append}
-use Rattle.adsafe_rules.specs.Forms.{is_allowed_callee, is_directive}
-use Rattle.adsafe_rules.specs.Parts.{tests, bodies, after_directive, expr_parts_of, stmt_parts_outside, stmt_parts_inside, inner}
-use Rattle.adsafe_rules.specs.Hoisting.{stmt_spot}
-use Rattle.adsafe_rules.specs.Walk.{AreIn, expr_ids, stmt_ids, fun_ids, value_ids, option_ids, decl_ids, test_ids, body_ids, expr_work, outer_work, inner_work, body_work, fun_work}
-use Rattle.adsafe_rules.proofs.Lists.{append_nothing}
-use Rattle.adsafe_rules.proofs.Hoisting.{stmts_spots_at}
+use Rattle.node_rules.specs.Forms.{is_allowed_callee, is_directive}
+use Rattle.node_rules.specs.Parts.{tests, bodies, after_directive, expr_parts_of, stmt_parts_outside, stmt_parts_inside, inner}
+use Rattle.node_rules.specs.Hoisting.{stmt_spot}
+use Rattle.node_rules.specs.Work.{expr_ids, stmt_ids, fun_ids, value_ids, option_ids, decl_ids, test_ids, body_ids, expr_work, outer_work, inner_work, body_work, fun_work}
+use Rattle.adsafe_rules.specs.Walk.{AreIn}
+use Rattle.node_rules.proofs.Lists.{append_nothing}
+use Rattle.node_rules.proofs.Hoisting.{stmts_spots_at}
 
 -- lists of parts as lists of plain trees
 module _ (f : Forest) where

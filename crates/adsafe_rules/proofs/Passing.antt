@@ -9,10 +9,10 @@ use Rattle.js_tree.specs.Plain.{Expr, ExprAt, Str, Name, Function, Dot, Call, Ex
 use Rattle.js_tree.specs.Parts.{Spot, AnExpr, AStmt, exprs_spots}
 use Rattle.first_breach.specs.Lists.{In}
 use Rattle.first_breach.proofs.Members.{in_none, in_one, in_split}
-use Rattle.adsafe_rules.specs.Words.{is_global, is_callable, is_reaching}
-use Rattle.adsafe_rules.specs.Names.{Named, placed}
-use Rattle.adsafe_rules.specs.Forms.{is_name, is_string, is_allowed_callee, is_text, is_directive, is_act}
-use Rattle.adsafe_rules.specs.Parts.{Stands, itself, outside, inside}
+use Rattle.node_rules.specs.Words.{is_global, is_callable, is_reaching}
+use Rattle.node_rules.specs.Names.{Named, placed}
+use Rattle.node_rules.specs.Forms.{is_name, is_string, is_allowed_callee, is_text, is_directive, is_act}
+use Rattle.node_rules.specs.Parts.{Stands, itself, outside, inside}
 use Rattle.adsafe_rules.specs.Rows.{Broken, A03, A04, A05, A05_name, A06, A07, A08, A09, A10, A11, A12, A13, A14, A15, A16, A17, A18, A19, AnyFound}
 use Rattle.adsafe_rules.specs.declared.scope.Scope.{Scope}
 use Rattle.adsafe_rules.specs.declared.scope.Scope.TheVariants as scope

@@ -9,11 +9,11 @@ use Rattle.first_breach.specs.Breaches.{Nothing, Either, One, If, Each}
 use Rattle.first_breach.specs.Narrowing.{Narrows}
 use Rattle.first_breach.proofs.Members.{in_front, in_back, in_split, in_none}
 use Rattle.first_breach.proofs.Narrowing.{narrows_as}
-use Rattle.adsafe_rules.specs.Words.{is_global, is_reaching}
-use Rattle.adsafe_rules.specs.Names.{Named, uses, binders, properties, targets}
-use Rattle.adsafe_rules.specs.Binding.{IsBound}
+use Rattle.node_rules.specs.Words.{is_global, is_reaching}
+use Rattle.node_rules.specs.Names.{Named, uses, binders, properties, targets}
+use Rattle.node_rules.specs.Binding.{IsBound}
 use Rattle.adsafe_rules.specs.Rows.{Broken, A03, A04, A05, A05_name, A06, A07, A08, A09, A10, A11, A12, A13, A14, A15, A16, A17, A18, A19}
-use Rattle.adsafe_rules.specs.Sets.{UseRow, BinderRow, TargetRow, PropertyRow, FormRows, ExprRows, StmtRows, FunRows}
+use Rattle.node_rules.specs.Sets.{UseRow, BinderRow, TargetRow, PropertyRow, FormRows, ExprRows, StmtRows, FunRows}
 
 -- at a rule and a place that are equal to those of a row
 along : {env : List Spot} {n : Spot} {k at r p : ℕ} → One k at r p → Broken env n k at → Broken env n r p

@@ -6,9 +6,10 @@ use Rattle.js_tree.specs.Forest.{Forest}
 use Rattle.js_tree.specs.Parts.{spot_at, IsIn, spots_size}
 use Rattle.first_breach.specs.Lists.{In, here, later}
 use Rattle.first_breach.proofs.Members.{in_front, in_back, in_split, in_none, in_unmap, map_append}
-use Rattle.adsafe_rules.specs.declared.walk.Work.{Work}
-use Rattle.adsafe_rules.specs.Walk.{Rises, at_depth, AreIn, tree_of, load}
-use Rattle.adsafe_rules.proofs.Sizes.{spots_append}
+use Rattle.node_rules.specs.declared.pushes.Work.{Work}
+use Rattle.node_rules.specs.Work.{at_depth}
+use Rattle.adsafe_rules.specs.Walk.{Rises, AreIn, tree_of, load}
+use Rattle.node_rules.proofs.Sizes.{spots_append}
 
 pub all_in : (f : Forest) (ps : List Part) → AreIn f ps → (p : Part) → In p ps → IsIn f p
 all_in f [] h p i = absurd (in_none i)

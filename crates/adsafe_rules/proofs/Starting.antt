@@ -12,14 +12,15 @@ use Rattle.first_breach.specs.Narrowing.{Narrows}
 use Rattle.first_breach.proofs.Members.{map_append}
 use Rattle.first_breach.proofs.Narrowing.{narrows_beside, narrows_as}
 use Rattle.adsafe_rules.specs.declared.scope.Scope.{Scope}
-use Rattle.adsafe_rules.specs.declared.walk.Work.{Work}
-use Rattle.adsafe_rules.specs.Hoisting.{stmt_spot}
+use Rattle.node_rules.specs.declared.pushes.Work.{Work}
+use Rattle.node_rules.specs.Hoisting.{stmt_spot}
 use Rattle.adsafe_rules.specs.Program.{is_opening, is_opening_name, opening_functions, Misopened, nothing, first, second, name, tops, Breaks, A02, within}
 use Rattle.adsafe_rules.specs.Openings.{OpeningRows, SecondRow, ProgramRows}
 use Rattle.adsafe_rules.specs.Rows.{AnyFound}
-use Rattle.adsafe_rules.specs.Walk.{at_depth, Pushes, stmt_ids}
+use Rattle.node_rules.specs.Work.{at_depth, stmt_ids}
+use Rattle.adsafe_rules.specs.Walk.{Pushes}
 use Rattle.adsafe_rules.proofs.Parting.{in_both, in_stmts}
-use Rattle.adsafe_rules.proofs.Lists.{append_nothing}
+use Rattle.node_rules.proofs.Lists.{append_nothing}
 
 -- lists by their first
 pub first_at : {A : Type 0} (xs : List A) (d : A) → 0 < length xs → xs ≡ get_or xs 0 d ∷ drop 1 xs

@@ -11,17 +11,18 @@ use Rattle.first_breach.specs.Breaches.{Nothing}
 use Rattle.first_breach.specs.Narrowing.{Narrows}
 use Rattle.first_breach.proofs.Members.{in_front, in_back, in_split, in_none, in_one, in_map, in_unmap, map_append}
 use Rattle.first_breach.proofs.Narrowing.{narrows_none, narrows_then, narrows_beside}
-use Rattle.adsafe_rules.specs.declared.walk.Work.{Work}
-use Rattle.adsafe_rules.specs.declared.enclosing.Opened.{Opened}
-use Rattle.adsafe_rules.specs.declared.enclosing.Enclosing.{Enclosing}
-use Rattle.adsafe_rules.specs.Parts.{Stands, itself, outside, inside, outer, inner}
-use Rattle.adsafe_rules.specs.Binding.{no_jumps, jumps_in}
+use Rattle.node_rules.specs.declared.pushes.Work.{Work}
+use Rattle.node_rules.specs.declared.enclosing.Opened.{Opened}
+use Rattle.node_rules.specs.declared.enclosing.Enclosing.{Enclosing}
+use Rattle.node_rules.specs.Parts.{Stands, itself, outside, inside, outer, inner}
+use Rattle.node_rules.specs.Binding.{no_jumps, jumps_in}
 use Rattle.adsafe_rules.specs.Rows.{Broken, Found, AnyFound}
-use Rattle.adsafe_rules.specs.Enclosing.{IsCounted, IsKnown, AreKnown, AreJumps, IsEnclosing, env_of, jumps_of}
-use Rattle.adsafe_rules.specs.Walk.{Left, Rises, at_depth, AreIn, IsGoing, load, Pushes, Opens}
-use Rattle.adsafe_rules.proofs.Lists.{append_nothing}
-use Rattle.adsafe_rules.proofs.Open.{known_more, known_take, env_take, env_length, jumps_more, jumps_take}
-use Rattle.adsafe_rules.proofs.Sizes.{parts_less}
+use Rattle.node_rules.specs.Enclosing.{IsCounted, IsKnown, AreKnown, AreJumps, IsEnclosing, env_of, jumps_of}
+use Rattle.node_rules.specs.Work.{at_depth}
+use Rattle.adsafe_rules.specs.Walk.{Left, Rises, AreIn, IsGoing, load, Pushes, Opens}
+use Rattle.node_rules.proofs.Lists.{append_nothing}
+use Rattle.node_rules.proofs.Open.{known_more, known_take, env_take, env_length, jumps_more, jumps_take}
+use Rattle.node_rules.proofs.Sizes.{parts_less}
 use Rattle.adsafe_rules.proofs.Stacking.{all_in, take_less, length_take, take_front, rises_front, rises_last, level, rises_level, rises_both, trees_at, load_append}
 
 -- what is found in a node

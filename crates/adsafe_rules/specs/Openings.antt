@@ -3,7 +3,7 @@ use Rattle.std.specs.Prelude.{◌≡◌, ℕ, not, List, [], ◌∷◌, slice_in
 use Rattle.first_breach.specs.Breaches.{Nothing, Either, One, If, Each}
 use Rattle.js_tree.specs.Parts.{Spot}
 use Rattle.adsafe_rules.specs.declared.scope.Scope.{Scope}
-use Rattle.adsafe_rules.specs.Names.{Named}
+use Rattle.node_rules.specs.Names.{Named}
 use Rattle.adsafe_rules.specs.Program.{is_opening_name, is_opening, opening_names, spot_place}
 use Rattle.js_tree.specs.declared.nodes.ExprId.{ExprId}
 use Rattle.adsafe_rules.specs.declared.opening.Arguments.{Arguments}

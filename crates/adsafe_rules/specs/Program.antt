@@ -7,9 +7,9 @@ use Rattle.first_breach.specs.Lists.{In}
 use Rattle.first_breach.specs.Breaches as breaches
 use Rattle.adsafe_rules.specs.declared.scope.Scope.{Scope}
 use Rattle.adsafe_rules.specs.declared.scope.Scope.TheVariants as scope
-use Rattle.adsafe_rules.specs.Words.{is_library_name}
-use Rattle.adsafe_rules.specs.Names.{Named, literal}
-use Rattle.adsafe_rules.specs.Forms.{is_name, is_string}
+use Rattle.node_rules.specs.Words.{is_library_name}
+use Rattle.node_rules.specs.Names.{Named, literal}
+use Rattle.node_rules.specs.Forms.{is_name, is_string}
 use Rattle.adsafe_rules.specs.Rows.{AnyFound}
 
 -- the property of `ADSAFE` that the text calls

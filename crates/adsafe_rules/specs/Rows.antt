@@ -5,11 +5,11 @@ use Rattle.code_units.specs.Permitted.{is_banned, has_edge_underscore}
 use Rattle.js_tree.specs.Plain.{ExprAt, ExprForm, StmtAt, StmtForm}
 use Rattle.js_tree.specs.Parts.{Spot, AnExpr, AStmt}
 use Rattle.first_breach.specs.Lists.{In}
-use Rattle.adsafe_rules.specs.Words.{is_global, is_reaching}
-use Rattle.adsafe_rules.specs.Names.{Named, uses, binders, properties, targets}
-use Rattle.adsafe_rules.specs.Forms.{is_this, wrong_subscripts, is_adsafe, is_of_math, is_with, is_loose_equality, is_bitwise, is_typed, is_dropping, is_wrong_number, is_idle, wrong_targets}
-use Rattle.adsafe_rules.specs.Parts.{Stands}
-use Rattle.adsafe_rules.specs.Binding.{IsBound, no_jumps, jumps_from, is_stray}
+use Rattle.node_rules.specs.Words.{is_global, is_reaching}
+use Rattle.node_rules.specs.Names.{Named, uses, binders, properties, targets}
+use Rattle.node_rules.specs.Forms.{is_this, wrong_subscripts, is_adsafe, is_of_math, is_with, is_loose_equality, is_bitwise, is_typed, is_dropping, is_wrong_number, is_idle, wrong_targets}
+use Rattle.node_rules.specs.Parts.{Stands}
+use Rattle.node_rules.specs.Binding.{IsBound, no_jumps, jumps_from, is_stray}
 
 -- `Broken env n rule place`: the node n, which those of env enclose, breaks the rule at the place
 pub data Broken : List Spot → Spot → ℕ → ℕ → Type 0 where

@@ -6,8 +6,8 @@ ghost use Rattle.js_tree.specs.Trees.{trees, program_of};
 ghost use Rattle.js_tree.specs.Plain.{stmt_place};
 ghost use Rattle.js_tree.specs.Forest.{IsExpr, IsStmt, IsFun, expr_at, stmt_at, fun_at};
 ghost use Rattle.js_tree.specs.Parts.{AStmt, AFun, stmts_spots};
-ghost use Rattle.adsafe_rules.specs.Names.{literal};
-ghost use Rattle.adsafe_rules.specs.Hoisting.{stmt_spot};
+ghost use Rattle.node_rules.specs.Names.{literal};
+ghost use Rattle.node_rules.specs.Hoisting.{stmt_spot};
 ghost use Rattle.adsafe_rules.specs.Program.{is_opening, opening_names, opening_functions, opened_names, opened_functions, lib_names, tops, Breaks, IsClean};
 ghost use Rattle.adsafe_rules.specs.Openings.{NameRow, OpeningRows, SecondRow, ProgramRows};
 ghost use Rattle.adsafe_rules.specs.Walk.{Pushes};
@@ -15,15 +15,15 @@ ghost use Rattle.adsafe_rules.specs.Accepting.{IsFault};
 ghost use Rattle.adsafe_rules.specs.Accepts.{Accepts};
 
 use crate::accepted::Accepted;
-use crate::enclosing::Enclosing;
 use crate::opening::{is_opening, is_opening_name, opening_function, opening_string};
-use crate::pushes::push_stmts;
-use crate::rows::literal;
 use crate::scope::{CheckFault, Scope};
-use crate::walk::{Work, visit};
+use crate::walk::visit;
 use code_units::{Memory, Text};
 use first_breach::{Breach, offer};
 use js_tree::{ExprId, FunId, Part, StmtId, Tree};
+use node_rules::enclosing::Enclosing;
+use node_rules::pushes::{Work, push_stmts};
+use node_rules::shapes::literal;
 use std::alloc::Global;
 
 // A02 of a string that is handed over.

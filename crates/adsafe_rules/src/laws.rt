@@ -3,8 +3,8 @@ ghost use Rattle.std.specs.Prelude.{◌≡◌, ◌⊎◌, ℕ, List, true};
 ghost use Rattle.js_tree.specs.Plain.{Expr, Stmt, Stmts};
 ghost use Rattle.js_tree.specs.Parts.{Spot, AnExpr, AStmt};
 ghost use Rattle.adsafe_rules.specs.declared.scope.Scope.{Scope};
-ghost use Rattle.adsafe_rules.specs.Forms.{is_allowed_callee, is_directive};
-ghost use Rattle.adsafe_rules.specs.Parts.{Stands};
+ghost use Rattle.node_rules.specs.Forms.{is_allowed_callee, is_directive};
+ghost use Rattle.node_rules.specs.Parts.{Stands};
 ghost use Rattle.adsafe_rules.specs.Rows.{Broken, AnyFound};
 ghost use Rattle.adsafe_rules.specs.Program.{First, IsClean, is_opening, opening_functions};
 

@@ -2,18 +2,12 @@
 #![tactic(auto)]
 
 mod accepted;
-mod binding;
-mod enclosing;
-mod forms;
 mod judge;
 mod laws;
-mod numbers;
 mod opening;
-mod pushes;
 mod rows;
 mod scope;
 mod walk;
-mod words;
 
 pub use accepted::Accepted;
 pub use judge::check;

@@ -7,16 +7,16 @@ ghost use Rattle.js_tree.specs.Trees.{trees, program_of};
 ghost use Rattle.js_tree.specs.Plain.{expr_place};
 ghost use Rattle.js_tree.specs.Forest.{IsExpr, IsStmt, IsFun, expr_at, stmt_at, fun_at, exprs_at};
 ghost use Rattle.js_tree.specs.Parts.{AnExpr, AStmt, AFun, exprs_spots, stmts_spots};
-ghost use Rattle.adsafe_rules.specs.Names.{named, literal};
-ghost use Rattle.adsafe_rules.specs.Forms.{is_string};
+ghost use Rattle.node_rules.specs.Names.{named, literal};
+ghost use Rattle.node_rules.specs.Forms.{is_string};
 ghost use Rattle.adsafe_rules.specs.Openings.{AreListed};
 ghost use Rattle.adsafe_rules.specs.Program.{opening_word, is_opening_name, is_plain_fun, is_plain_function, are_arguments, is_adsafe_dot, is_opening_call, is_opening, call_arguments, arguments_of, first_string, function_of, second_function, opening_names, opening_functions};
 
-use crate::rows::{is_name, literal};
 use crate::scope::Scope;
-use crate::words::{is_library_name, is_word};
 use code_units::Text;
 use js_tree::{Expr, ExprId, FunId, Stmt, StmtId, Tree};
+use node_rules::shapes::is_name;
+use node_rules::words::{is_library_name, is_word};
 use std::cmp::PartialEq;
 
 /// Whether the call may hand over this name.

@@ -5,27 +5,21 @@ ghost use Rattle.first_breach.specs.Narrowing.{Narrows};
 ghost use Rattle.js_tree.specs.Trees.{trees};
 ghost use Rattle.js_tree.specs.Forest.{IsStmt, IsFun, stmt_at, fun_at};
 ghost use Rattle.js_tree.specs.Parts.{AStmt, AFun, spot_at, IsIn};
-ghost use Rattle.adsafe_rules.specs.Parts.{outer};
+ghost use Rattle.node_rules.specs.Parts.{outer};
+ghost use Rattle.node_rules.specs.Enclosing.{IsEnclosing, env_of};
+ghost use Rattle.node_rules.specs.Work.{inner_work};
 ghost use Rattle.adsafe_rules.specs.Rows.{Broken};
-ghost use Rattle.adsafe_rules.specs.Enclosing.{IsEnclosing, env_of};
-ghost use Rattle.adsafe_rules.specs.Walk.{Pushes, Opens, IsGoing, Left, load, inner_work};
+ghost use Rattle.adsafe_rules.specs.Walk.{Pushes, Opens, IsGoing, Left, load};
 
-use crate::binding::{names_of_fun, names_of_stmt};
-use crate::enclosing::{Enclosing, Jumps};
-use crate::forms::stmt_jumps;
-use crate::pushes::{push_expr_parts, push_fun_parts, push_inner, push_outer};
 use crate::rows::{expr_rules, fun_rules, stmt_rules};
 use code_units::Memory;
 use first_breach::Breach;
 use js_tree::{FunId, Part, Stmt, StmtId, Tree};
+use node_rules::binding::{names_of_fun, names_of_stmt};
+use node_rules::enclosing::{Enclosing, Jumps};
+use node_rules::forms::stmt_jumps;
+use node_rules::pushes::{Work, push_expr_parts, push_fun_parts, push_inner, push_outer};
 use std::alloc::Global;
-
-/// A node that is still to be visited, and how many nodes enclose it.
-#[derive(Clone, Copy, Drop)]
-pub struct Work {
-    pub part: Part,
-    pub depth: usize,
-}
 
 /// What a node itself breaks.
 fn own_rules(tree: &Tree, part: Part, enclosing: &Enclosing, best: Option<Breach>) -> Option<Breach>

@@ -1,5 +1,2 @@
 pub mod Fronts
-pub mod Stacks
-pub mod Lists
-pub mod Steps
 pub mod Walks

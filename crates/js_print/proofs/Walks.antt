@@ -2,14 +2,14 @@
 use Rattle.std.proofs.Common.{◌≡◌, ℕ, ◌+◌, ◌<◌, arith, refl, List, [], ◌∷◌, ◌++◌, sym, ap, ◌∙◌, subst, append-nil}
 use Rattle.std.specs.Prelude.{Bool}
 use Rattle.js_tree.specs.Forest.{Forest}
-use Rattle.js_print.specs.declared.work.Work.{Work}
-use Rattle.js_print.specs.declared.work.Work.TheVariants as work
-use Rattle.js_print.specs.Tidy.{spaced}
-use Rattle.js_print.specs.Todo.{work_tokens, work_cost, IsWork, IsToken, row_cost, AreWork, todo}
+use Rattle.js_pieces.specs.declared.work.Work.{Work}
+use Rattle.js_pieces.specs.declared.work.Work.TheVariants as work
+use Rattle.js_pieces.specs.Tidy.{spaced}
+use Rattle.js_pieces.specs.Todo.{work_tokens, work_cost, IsWork, IsToken, row_cost, AreWork, todo}
 use Rattle.js_print.specs.Walk.{Steps}
 use Rattle.js_print.specs.Writing.{AppendsFront}
 use Rattle.js_print.proofs.Fronts.{Goes, goes_on, goes_part}
-use Rattle.js_print.proofs.Stacks.{todo-push, row_cost-push, are_front, are_last}
+use Rattle.js_pieces.proofs.Stacks.{todo-push, row_cost-push, are_front, are_last}
 
 module _ (f : Forest) (start now whole : List ℕ) (begun : Bool) (ws rest : List Work) (piece : Work) (split : ws ≡ rest ++ piece ∷ []) (g : Goes start now whole (spaced begun (todo f ws))) where
   -- the piece on top comes next

@@ -1,6 +1,4 @@
-pub mod Spelling
-pub mod Tidy
-pub mod Costs
-pub mod Todo
+pub use Rattle.js_pieces.specs.Spelling
+pub use Rattle.js_pieces.specs.Tidy
 pub mod Writing
 pub mod Walk

@@ -1,9 +1,9 @@
 -- One step of the walk.
 use Rattle.std.specs.Prelude.{◌≡◌, ℕ, ◌+◌, ◌<◌, List, [], ◌∷◌, ◌++◌, Bool, if◌then◌else◌}
 use Rattle.js_tree.specs.Forest.{Forest}
-use Rattle.js_print.specs.declared.work.Work.{Work}
-use Rattle.js_print.specs.Tidy.{Tokens, spaced}
-use Rattle.js_print.specs.Todo.{todo, row_cost, AreWork}
+use Rattle.js_pieces.specs.declared.work.Work.{Work}
+use Rattle.js_pieces.specs.Tidy.{Tokens, spaced}
+use Rattle.js_pieces.specs.Todo.{todo, row_cost, AreWork}
 
 -- a space, where a token came before
 abbrev pub space : Bool → List ℕ

@@ -1,15 +1,15 @@
 //! The walk that prints a tree.
 ghost use Rattle.std.specs.Prelude.{◌≡◌, ◌++◌, MatchResult};
 ghost use Rattle.js_tree.specs.Trees.{trees, program_of};
-ghost use Rattle.js_print.specs.Tidy.{tidy, spaced};
-ghost use Rattle.js_print.specs.Todo.{work_tokens, work_cost, IsWork, AreWork, todo};
+ghost use Rattle.js_pieces.specs.Tidy.{tidy, spaced};
+ghost use Rattle.js_pieces.specs.Todo.{work_tokens, work_cost, IsWork, AreWork, todo};
 ghost use Rattle.js_print.specs.Walk.{Steps};
 ghost use Rattle.js_print.specs.Writing.{AppendsFront};
 
-use crate::expand::expand;
-use crate::work::Work;
 use crate::write::{write_mark, write_name, write_quoted};
 use code_units::Memory;
+use js_pieces::expand::expand;
+use js_pieces::work::Work;
 use js_tree::Tree;
 use std::alloc::Global;
 

@@ -1,6 +1,6 @@
 //! Tokens as bytes. A refusal leaves a front of the token appended.
 ghost use Rattle.std.specs.Prelude.{◌≡◌, ◌++◌, MatchResult};
-ghost use Rattle.js_print.specs.Spelling.{unit_bytes, quoted_unit, name_bytes, string_bytes};
+ghost use Rattle.js_pieces.specs.Spelling.{unit_bytes, quoted_unit, name_bytes, string_bytes};
 ghost use Rattle.js_print.specs.Walk.{space};
 ghost use Rattle.js_print.specs.Writing.{AppendsFront};
 

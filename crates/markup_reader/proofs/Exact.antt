@@ -11,8 +11,7 @@ use Rattle.markup_grammar.proofs.Places.{spells_judged, text_judged}
 use Rattle.markup_grammar.proofs.Broken.{broken_judged}
 use Rattle.markup_reader.specs.declared.fault.MarkupFault.{MarkupFault}
 use Rattle.markup_reader.specs.declared.fault.MarkupFault.TheVariants as fault
-use Rattle.markup_reader.specs.Faults.{IsMarkupFault}
-use Rattle.markup_reader.specs.States.{IsJudged}
+use Rattle.markup_reader.specs.Faults.{IsMarkupFault, IsJudged}
 use Rattle.plain_tree.specs.Trees.{Trees}
 use Rattle.plain_tree.specs.Plains.{Places, placed_all}
 

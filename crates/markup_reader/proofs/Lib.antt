@@ -1,3 +1,2 @@
-mod Grows
 mod Reading
 mod Exact

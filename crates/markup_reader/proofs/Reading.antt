@@ -12,7 +12,8 @@ use Rattle.plain_tree.specs.Plains.{Places}
 use Rattle.markup_reader.specs.declared.fault.MarkupFault.{MarkupFault}
 use Rattle.markup_reader.specs.declared.fault.MarkupFault.TheVariants as fault
 use Rattle.markup_grammar.specs.Judge.{Reached, Stuck, goes_on, reads, judged, behind, ends}
-use Rattle.markup_reader.specs.States.{spot, IsStuck, IsJudged}
+use Rattle.markup_steps.specs.States.{spot}
+use Rattle.markup_reader.specs.Faults.{IsStuck, IsJudged}
 
 -- what is left of the text, and what comes of it
 pub record Left (text rest : List ℕ) (st : State) (at : ℕ) : Type 0 where

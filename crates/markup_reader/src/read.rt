@@ -1,26 +1,23 @@
 //! From bytes to trees.
-ghost use Rattle.std.specs.Prelude.{◌≡◌, IfOk, IfErr, MatchResult, Some, None, drop};
+ghost use Rattle.std.specs.Prelude.{◌≡◌, IfOk, IfErr, MatchResult, drop};
 ghost use Rattle.std.specs.Str.{IsValidUpTo, chars, valid_up_to, error_len};
 ghost use Rattle.std.specs.Str.Lossy.{utf8_valid_len, utf8_error_len};
-ghost use Rattle.markup_grammar.specs.Machine.{begin, finished};
+ghost use Rattle.markup_grammar.specs.Machine.{begin};
 ghost use Rattle.markup_grammar.specs.Judge.{reads, judged, begun_len};
 ghost use Rattle.markup_grammar.specs.Judge.Outcome.{Reached, Stuck};
 ghost use Rattle.markup_grammar.specs.Judge.Judged.{Read, Bad};
 ghost use Rattle.markup_reader.specs.declared.fault.MarkupFault.TheVariants as fault;
-ghost use Rattle.markup_reader.specs.declared.fault.Stop.TheVariants as stop;
 ghost use Rattle.markup_grammar.specs.Markup.{MarkupSpells};
-ghost use Rattle.markup_reader.specs.Faults.{IsMarkupFault};
-ghost use Rattle.markup_reader.specs.States.{state_of, IsStuck, IsJudged};
+ghost use Rattle.markup_reader.specs.Faults.{IsMarkupFault, IsStuck, IsJudged};
+ghost use Rattle.markup_steps.specs.States.{state_of};
 ghost use Rattle.plain_tree.specs.Plains.{Places, placed_all};
 ghost use Rattle.plain_tree.specs.Trees.{Trees};
 
-use crate::fault::{MarkupFault, Stop};
-use crate::mode::{Mode, Run};
-use crate::reader::Reader;
-use crate::units::take_text;
+use crate::fault::MarkupFault;
+use markup_steps::reader::Reader;
+use markup_steps::stop::Stop;
 use plain_tree::Plain;
 use std::alloc::Global;
-use std::mem;
 use std::str::Utf8Error;
 
 /// The trees that the bytes spell (`docs/MARKUP.md`). `BadMarkup` comes exactly where they spell
@@ -99,21 +96,4 @@ fn read_text(alloc: Global, text: &str) -> Result<Reader, MarkupFault>
         }
     }
     Ok(reader)
-}
-
-impl Reader {
-    // The trees, where the text may end.
-    fn finish(&mut self) -> Result<Vec<Plain>, Stop>
-        ensures { MatchResult result (λ v. finished (Some (state_of self.old)) ≡ Some (placed_all v.items)) (λ e. e ≡ stop.Bad → finished (Some (state_of self.old)) ≡ None) }
-    {
-        if !self.grown.open.is_empty() {
-            return Err(Stop::Bad);
-        }
-        match self.mode {
-            Mode::Between => {}
-            Mode::In(Run::Text) => self.end_text()?,
-            _ => return Err(Stop::Bad),
-        }
-        Ok(mem::replace(&mut self.grown.nodes, Vec::new(self.alloc)))
-    }
 }

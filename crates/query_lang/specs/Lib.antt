@@ -1,4 +1,4 @@
+pub use Rattle.query_walks.specs.Finds
+pub use Rattle.query_walks.specs.Nodes
+pub use Rattle.query_walks.specs.Walks
 pub use Rattle.query_text.specs.Faults
-pub mod Finds
-pub mod Nodes
-pub mod Walks

@@ -4,17 +4,17 @@ ghost use Rattle.std.specs.List.{filter, flat_map};
 ghost use Rattle.code_units.specs.declared.owner.Owner.{Owner};
 ghost use Rattle.page_tree.specs.Owners.{is_owner};
 ghost use Rattle.page_tree.specs.Pages.{nodes, root};
-ghost use Rattle.query_lang.specs.Nodes.{passes};
-ghost use Rattle.query_lang.specs.Finds.{hunted, in_order, filtered, all_filtered, finds, AreOwned};
+ghost use Rattle.query_walks.specs.Nodes.{passes};
+ghost use Rattle.query_walks.specs.Finds.{hunted, in_order, filtered, all_filtered, finds, AreOwned};
 ghost use Rattle.query_grammar.specs.Finds.{at_places, sifted};
-ghost use Rattle.query_lang.specs.Walks.{AreNodes};
+ghost use Rattle.query_walks.specs.Walks.{AreNodes};
 
-use crate::hunt::hunt_all;
-use crate::nodes::test;
-use crate::order::in_order;
 use code_units::{Memory, Owner};
 use page_tree::{NodeId, Page};
 use query_grammar::{Filter, ListFilter, Query, QueryStep, StepFilter};
+use query_walks::hunt::hunt_all;
+use query_walks::nodes::test;
+use query_walks::order::in_order;
 use std::alloc::Global;
 
 // Keeps a node if it passes.

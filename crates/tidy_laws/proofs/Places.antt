@@ -4,7 +4,7 @@ use Rattle.std.specs.Prelude.{codes, if◌then◌else◌, nat_lt, ◌&&◌, ◌|
 use Rattle.js_tree.specs.declared.nodes.StepOp.TheVariants as step
 use Rattle.js_tree.specs.Plain.{Expr, ExprAt, ExprForm, Num, Str, Name, Constant, Array, Object, Function, Dot, Sub, Call, New, Step, Unary, Binary, And, Or, Cond, Assign, Comma, Exprs, NoExprs, AndExpr, OptionalExpr, NoExpr, SomeExpr, Properties, NoProperties, AndProperty, Decls, NoDecls, AndDecl, ForInit, DeclsFirst, ExprsFirst, Stmt, StmtAt, StmtForm, Var, Only, If, While, DoWhile, For, ForIn, Continue, Break, Return, Throw, With, Switch, Try, Label, Stmts, NoStmts, AndStmt, OptionalBlock, NoBlock, SomeBlock, Catch, NoCatch, CatchAs, Clauses, NoClauses, AndClause, Fun, FunAt, Funs, NoFuns, AndFun}
 use Rattle.js_grammar.specs.Unplaced.{unplaced_expr, unplaced_form, unplaced_exprs, unplaced_optional, unplaced_properties, unplaced_decls, unplaced_init, unplaced_stmt, unplaced_stmt_form, unplaced_stmts, unplaced_block, unplaced_catch, unplaced_clauses, unplaced_fun, unplaced_funs}
-use Rattle.js_print.specs.declared.levels.TheConstants.{WHOLE, ASSIGNMENT, OR, AND, BIT_OR, UNARY, CHAIN, PRIMARY}
+use Rattle.js_pieces.specs.declared.levels.TheConstants.{WHOLE, ASSIGNMENT, OR, AND, BIT_OR, UNARY, CHAIN, PRIMARY}
 use Rattle.js_print.specs.Spelling.{unary_bytes, binary_bytes, assign_bytes}
 use Rattle.js_print.specs.Tidy.{Tokens, flat, mark, name, quoted, enclosed, braced, listed, operator_level, is_enclosed, level_of, label_tokens, var_tokens, is_opening, is_if, else_tokens, expr_tokens, form_tokens, exprs_tokens, properties_tokens, decls_tokens, value_tokens, optional_tokens, init_tokens, stmt_tokens, stmt_form_tokens, stmts_tokens, catch_tokens, last_tokens, clauses_tokens, test_tokens, fun_tokens, funs_tokens, spaced, tidy}
 

@@ -5,7 +5,7 @@ use Rattle.js_tree.specs.Plain.{Expr, ExprAt, ExprForm, Num, Str, Name, Constant
 use Rattle.js_tree.specs.Parts.{Spot, AnExpr, AStmt, AFun, exprs_spots, stmts_spots, funs_spots, optional_spots, properties_spots, decls_spots, init_spots, catch_spots, block_spots}
 use Rattle.js_grammar.specs.Unplaced.{unplaced_expr, unplaced_form, unplaced_exprs, unplaced_optional, unplaced_properties, unplaced_decls, unplaced_init, unplaced_stmt, unplaced_stmt_form, unplaced_stmts, unplaced_block, unplaced_catch, unplaced_clauses, unplaced_fun, unplaced_funs}
 use Rattle.first_breach.proofs.Members.{map_append}
-use Rattle.adsafe_rules.specs.declared.enclosing.Jumps.{Jumps}
+use Rattle.node_rules.specs.declared.enclosing.Jumps.{Jumps}
 use Rattle.adsafe_rules.specs.Words.{is_callable}
 use Rattle.adsafe_rules.specs.Names.{Named, named, placed, literal, variable, keys, declared_names, first_names, variables, uses, binders, properties, targets}
 use Rattle.adsafe_rules.specs.Forms.{is_name, is_string, is_this, is_subscript, wrong_subscripts, is_adsafe, is_allowed_callee, is_of_math, is_with, is_loose_equality, is_bitwise, is_typed, is_dropping, is_wrong_number, is_act, is_idle, is_target, is_property, is_delete, wrong_targets, is_text, is_directive}

@@ -2,25 +2,23 @@
 use Rattle.std.proofs.Common.{◌≡◌, ℕ, ◌+◌, ◌<◌, ◌≤◌, Bool, true, false, ◌&&◌, not, List, [], ◌∷◌, ◌++◌, refl, sym, ap, ◌∙◌, subst, inl, inr, Option, Some, None, cond, length, get_or, drop, take, map, arith}
 use Rattle.std.specs.Prelude.{fold, filter}
 use Rattle.std.specs.List.{flat_map}
-use Rattle.std.specs.Prelude.{MatchBool, option_map, nat_lt, slice_get, unwrap_or, Result, Ok, Err, IfOk}
-use Rattle.std.proofs.lemmas.Bool.Decides.{Decides-ltb}
+use Rattle.std.specs.Prelude.{option_map, slice_get, unwrap_or, Result, Ok, Err, IfOk}
 use Rattle.std.specs.Global.{Vec}
 use Rattle.code_units.specs.Utf8.{utf8_of}
 use Rattle.plain_tree.specs.declared.plain.Plain.TheVariants as plain
 use Rattle.widget_form.specs.declared.form.Span.{Span}
-use Rattle.std.proofs.lemmas.List.{append-nil, at_drop_more, at_drop_all, take_more, take_all}
+use Rattle.std.proofs.lemmas.List.{append-nil, at_drop_all, take_more, take_all}
 use Rattle.first_breach.specs.Lists.{In, here}
 use Rattle.plain_tree.specs.declared.plain.Plain.{Plain}
 use Rattle.plain_tree.specs.declared.plain.Attr.{Attr}
-use Rattle.plain_tree.specs.Trees.{Trees, TextOf, ElementOf, End, Node, beside, size}
-use Rattle.plain_tree.specs.Plains.{Places, placed, placed_all, element_node, places_of, attribute_of}
+use Rattle.plain_tree.specs.Trees.{Trees, TextOf, ElementOf, End, Node, beside}
+use Rattle.plain_tree.specs.Plains.{Places, placed, placed_all, element_node}
 use Rattle.plain_tree.proofs.Lists.{placed_more, placed_text, placed_element, beside_assoc, beside_end}
-use Rattle.widget_form.specs.declared.part.Part.{Part}
-use Rattle.widget_form.specs.Elements.{Element, element, roots, scripts, tops, is_div, is_script, is_script_element, is_sourced, before_scripts, Item, items, is_blank, AText}
-use Rattle.widget_form.specs.Parts.{IsText, IsElement, StaysInBody, EndsBody, with_body}
-use Rattle.widget_form.specs.Rows.{misrooted, first_place, ending, unended, Perhaps, IsGood}
-use Rattle.widget_form.specs.Forms.{root_scripts, body_of, span_in, span_of, first_of_several}
-use Rattle.widget_form.proofs.Nodes.{size_beside}
+use Rattle.markup_rules.specs.Elements.{Element, element, roots, scripts, tops, is_div, is_script, is_script_element, is_sourced, before_scripts, Item, items, is_blank, AText}
+use Rattle.markup_rules.specs.Parts.{StaysInBody, EndsBody, with_body}
+use Rattle.markup_rules.specs.Rows.{misrooted, first_place, ending, unended, Perhaps, IsGood}
+use Rattle.widget_form.specs.Forms.{root_scripts, span_in, span_of, first_of_several}
+use Rattle.markup_rules.proofs.Bodies.{before_at}
 
 some≢none : {A : Type 0} {x : A} → Some x ≡ None → ⊥
 some≢none e = let no : ⊥ = cc in no
@@ -73,36 +71,7 @@ good_scripts name libs file good none =
     let ended : unended r.root.at (items r.root.kids) ≡ None = no_place 4 (unended r.root.at (items r.root.kids)) (λ q p h. good q p (inr (inl (record { item = r.root; is_in = subst (λ l. In r.root l) (sym r.same) here; broken = inr (inl h) })))) in
     some≢none (not_ended r.root.kids (Some r.root.at) of_root ended)
 
--- ## Bodies
-
-body_text : (t ts : Trees Places) → IsText t → body_of (beside t ts) ≡ body_of ts
-body_text t ts h = subst (λ x. body_of (beside x ts) ≡ body_of ts) (sym h.same) refl
-
-body_here : (p : Part) (t ts : Trees Places) (b : Bool) → IsElement p t → is_div p.tag.now ≡ b → body_of (beside t ts) ≡ cond b (element_node p.tag.now p.attrs.now (before_scripts (placed_all p.children.now)) p.at) (body_of ts)
-body_here p t ts b e is = subst (λ x. body_of (beside x ts) ≡ cond b (element_node p.tag.now p.attrs.now (before_scripts (placed_all p.children.now)) p.at) (body_of ts)) (sym e)
-    (ap (λ c. cond c (element_node p.tag.now p.attrs.now (before_scripts (placed_all p.children.now)) p.at) (body_of ts)) is)
-
-pub body_pass_text : (xs : List Plain) (i : ℕ) (x : Plain) → i < length xs → x ≡ get_or xs i x → IsText (placed x) → body_of (placed_all (drop i xs)) ≡ body_of (placed_all (drop (i + 1) xs))
-body_pass_text xs i x lt ex h =
-    let rest = placed_all (drop (i + 1) xs) in
-    ap body_of (at_drop_more placed_all xs i x lt ∙ ap (λ y. beside (placed y) rest) (sym ex)) ∙ body_text (placed x) rest h
-
-pub body_pass : (p : Part) (b : Bool) (xs : List Plain) (i : ℕ) (x : Plain) → i < length xs → x ≡ get_or xs i x → IsElement p (placed x) → is_div p.tag.now ≡ b → body_of (placed_all (drop i xs)) ≡ cond b (element_node p.tag.now p.attrs.now (before_scripts (placed_all p.children.now)) p.at) (body_of (placed_all (drop (i + 1) xs)))
-body_pass p b xs i x lt ex e is =
-    let rest = placed_all (drop (i + 1) xs) in
-    ap body_of (at_drop_more placed_all xs i x lt ∙ ap (λ y. beside (placed y) rest) (sym ex)) ∙ body_here p (placed x) rest b e is
-
 -- ## What stands before the scripts
-
-pub stays_text : (t : Trees Places) → IsText t → StaysInBody t
-stays_text t h = subst StaysInBody (sym h.same) (λ ts. refl)
-
-pub stays_or_ends : (r : Bool) (p : Part) (t : Trees Places) → IsElement p t → r ≡ is_script p.tag.now → MatchBool r (EndsBody t) (StaysInBody t)
-stays_or_ends true p t e is = subst EndsBody (sym e) (λ ts. ap (λ b. cond b End (Node (record { at = p.at; attrs = map places_of p.attrs.now }) (ElementOf p.tag.now (map attribute_of p.attrs.now)) (placed_all p.children.now) (before_scripts ts))) (sym is))
-stays_or_ends false p t e is = subst StaysInBody (sym e) (λ ts. ap (λ b. cond b End (Node (record { at = p.at; attrs = map places_of p.attrs.now }) (ElementOf p.tag.now (map attribute_of p.attrs.now)) (placed_all p.children.now) (before_scripts ts))) (sym is))
-
-before_at : (xs : List Plain) (i : ℕ) (x : Plain) → i < length xs → x ≡ get_or xs i x → before_scripts (placed_all (drop i xs)) ≡ before_scripts (beside (placed x) (placed_all (drop (i + 1) xs)))
-before_at xs i x lt ex = ap before_scripts (at_drop_more placed_all xs i x lt ∙ ap (λ y. beside (placed y) (placed_all (drop (i + 1) xs))) (sym ex))
 
 -- one tree more in the body
 pub body_more : (xs : List Plain) (i : ℕ) (x : Plain) → i < length xs → x ≡ get_or xs i x → StaysInBody (placed x) → before_scripts (placed_all xs) ≡ beside (placed_all (take i xs)) (before_scripts (placed_all (drop i xs))) → before_scripts (placed_all xs) ≡ beside (placed_all (take (i + 1) xs)) (before_scripts (placed_all (drop (i + 1) xs)))
@@ -119,26 +88,6 @@ body_ends xs i x lt ex ends inv = inv ∙ ap (beside (placed_all (take i xs))) (
 -- or at the end
 pub body_all : (xs : List Plain) (i : ℕ) → length xs ≤ i → before_scripts (placed_all xs) ≡ beside (placed_all (take i xs)) (before_scripts (placed_all (drop i xs))) → before_scripts (placed_all xs) ≡ placed_all (take i xs)
 body_all xs i le inv = inv ∙ ap (beside (placed_all (take i xs))) (at_drop_all (λ l. before_scripts (placed_all l)) xs i le) ∙ beside_end (placed_all (take i xs))
-
--- ## How many nodes
-
-pub room_more : (xs : List Plain) (i : ℕ) (x : Plain) (left rest : ℕ) → i < length xs → x ≡ get_or xs i x → StaysInBody (placed x) → rest + size (placed x) ≡ left → left + size (before_scripts (placed_all xs)) ≡ 16383 + size (before_scripts (placed_all (drop i xs))) → rest + size (before_scripts (placed_all xs)) ≡ 16383 + size (before_scripts (placed_all (drop (i + 1) xs)))
-room_more xs i x left rest lt ex stays sum inv =
-    let e = ap size (before_at xs i x lt ex ∙ stays (placed_all (drop (i + 1) xs))) ∙ size_beside (placed x) (before_scripts (placed_all (drop (i + 1) xs))) in
-    omega (arith, e, sum, inv)
-
-pub room_ends : (xs : List Plain) (i : ℕ) (x : Plain) (left : ℕ) → i < length xs → x ≡ get_or xs i x → EndsBody (placed x) → left + size (before_scripts (placed_all xs)) ≡ 16383 + size (before_scripts (placed_all (drop i xs))) → size (before_scripts (placed_all xs)) + 1 ≤ 16384
-room_ends xs i x left lt ex ends inv =
-    let e = ap size (before_at xs i x lt ex ∙ ends (placed_all (drop (i + 1) xs))) in
-    omega (arith, e, inv)
-
-pub room_all : (xs : List Plain) (i left : ℕ) → length xs ≤ i → left + size (before_scripts (placed_all xs)) ≡ 16383 + size (before_scripts (placed_all (drop i xs))) → size (before_scripts (placed_all xs)) + 1 ≤ 16384
-room_all xs i left le inv = let e = at_drop_all (λ l. size (before_scripts (placed_all l))) xs i le in omega (arith, e, inv)
-
-pub room_short : (xs : List Plain) (i : ℕ) (x : Plain) (left : ℕ) → i < length xs → x ≡ get_or xs i x → StaysInBody (placed x) → left < size (placed x) → left + size (before_scripts (placed_all xs)) ≡ 16383 + size (before_scripts (placed_all (drop i xs))) → 16384 < size (before_scripts (placed_all xs)) + 1
-room_short xs i x left lt ex stays less inv =
-    let e = ap size (before_at xs i x lt ex ∙ stays (placed_all (drop (i + 1) xs))) ∙ size_beside (placed x) (before_scripts (placed_all (drop (i + 1) xs))) in
-    omega (arith, e, less, inv)
 
 -- ## The parts of scripts
 
@@ -184,13 +133,3 @@ pub several : {A : Type 0} (f : A → Element) (xs : List A) (x : A) (s : Span) 
 several f [] x s le e es = absurd (omega (arith, le))
 several f (y ∷ []) x s le e es = absurd (omega (arith, le))
 several f (y ∷ z ∷ rest) x s le e es = ap Some (es ∙ ap (λ w. span_of (f w)) e)
-
-pub is_more : (n : ℕ) → 16384 < n → true ≡ nat_lt 16384 n
-is_more n lt = sym ((Decides-ltb 16384 n).1 lt)
-
-pub is_no_more : (n : ℕ) → n ≤ 16384 → false ≡ nat_lt 16384 n
-is_no_more n le = by (nat_lt 16384 n) refl
-  where
-    by : (b : Bool) → nat_lt 16384 n ≡ b → false ≡ b
-    by false e = refl
-    by true e = absurd (omega (arith, le, (Decides-ltb 16384 n).0 e))

@@ -13,9 +13,9 @@ use Rattle.plain_tree.specs.Trees.{Trees, TextOf, ElementOf, End, Node, size}
 use Rattle.plain_tree.specs.Plains.{Places}
 use Rattle.plain_tree.specs.Tags.{is_listed_tag, is_phrase, is_block, is_list, is_form, is_table}
 use Rattle.plain_tree.specs.Words.{is_plain_words}
-use Rattle.widget_form.specs.Words.{is_wordy, is_address, has_word, is_own_id}
-use Rattle.widget_form.specs.Elements.{Element, element, elements, roots, others, scripts, is_div, is_script, is_sourced, is_named, first_named, before_scripts, Item, items, AText, AnElement, is_blank}
-use Rattle.widget_form.specs.Rows.{Perhaps, misrooted, first_place, misnamed, ending, unended, node_limit, is_allowed, is_unsafe, is_foreign, MarkupRows, AttributeRows, OtherRows, SlotRows, SlotAttributeRows, RootRows, IsGood, InsideRow, IdRow}
+use Rattle.markup_rules.specs.Words.{is_wordy, is_address, has_word, is_own_id}
+use Rattle.markup_rules.specs.Elements.{Element, element, elements, roots, others, scripts, is_div, is_script, is_sourced, is_named, first_named, before_scripts, Item, items, AText, AnElement, is_blank}
+use Rattle.markup_rules.specs.Rows.{Perhaps, misrooted, first_place, misnamed, ending, unended, node_limit, is_allowed, is_unsafe, is_foreign, MarkupRows, AttributeRows, OtherRows, SlotRows, SlotAttributeRows, RootRows, IsGood, InsideRow, IdRow}
 use Rattle.widget_form.specs.Good.{EndsInScript, IsRoot, IsListedElement, IsSafe, IsInner, IsWidgetFile}
 
 -- ## Clean sets

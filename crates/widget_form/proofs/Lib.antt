@@ -1,9 +1,3 @@
-pub mod Wording
-pub mod Steps
-pub mod Nodes
-pub mod Again
-pub mod Rooted
-pub mod Siblings
 pub mod Body
 pub mod Splitting
 pub mod GoodFiles

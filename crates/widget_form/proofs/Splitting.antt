@@ -1,7 +1,7 @@
 -- The parts of a file, put together.
-use Rattle.std.proofs.Common.{◌≡◌, ℕ, zero, suc, ◌+◌, ◌-◌, true, false, List, [], ◌∷◌, refl, sym, ap, ◌∙◌, subst, Option, Some, None, length, take, map, arith, slice_get, true≢false}
+use Rattle.std.proofs.Common.{◌≡◌, ℕ, zero, suc, ◌+◌, ◌-◌, true, false, List, [], ◌∷◌, refl, sym, ap, ◌∙◌, subst, Option, Some, None, length, map, arith, slice_get, true≢false}
 use Rattle.std.specs.Prelude.{filter, ◌↔◌, IsTrue, option_map, filter_map}
-use Rattle.std.specs.List.{flat_map, last_or, list_all, take-map}
+use Rattle.std.specs.List.{flat_map, last_or, list_all}
 use Rattle.std.proofs.lemmas.List.{append-nil}
 use Rattle.std.proofs.lemmas.Option.{slice_get_within}
 use Rattle.first_breach.specs.declared.Breach.{Breach}
@@ -11,10 +11,10 @@ use Rattle.first_breach.proofs.Narrowing.{clean_of, first_of}
 use Rattle.plain_tree.specs.declared.plain.Plain.{Plain}
 use Rattle.plain_tree.specs.Trees.{Trees}
 use Rattle.plain_tree.specs.Plains.{Places, placed_all}
-use Rattle.widget_form.specs.declared.part.Part.{Part}
-use Rattle.widget_form.specs.Elements.{Element, elements, roots, scripts, tops, is_script_element}
-use Rattle.widget_form.specs.Parts.{element_of}
-use Rattle.widget_form.specs.Rows.{Breaks, before_last, MarkupRows, is_free, IsHostMarkup}
+use Rattle.markup_rules.specs.declared.part.Part.{Part}
+use Rattle.markup_rules.specs.Elements.{Element, elements, roots, scripts, tops, is_script_element}
+use Rattle.markup_rules.specs.Parts.{element_of}
+use Rattle.markup_rules.specs.Rows.{Breaks, MarkupRows, is_free, IsHostMarkup}
 use Rattle.widget_form.specs.declared.file.Scripts.{Scripts}
 use Rattle.widget_form.specs.Forms.{root_scripts, span_of, source, first_of_several, HasScripts}
 
@@ -32,15 +32,6 @@ last_at f d (y ∷ []) zero x e h = ap (option_map f) h
 last_at f d (y ∷ []) (suc k) x e h = absurd (omega (arith, e))
 last_at f d (y ∷ z ∷ rest) zero x e h = absurd (omega (arith, e))
 last_at f d (y ∷ z ∷ rest) (suc k) x e h = last_at f (Some (f y)) (z ∷ rest) k x (omega (arith, e)) h
-
-length_mapped : {A B : Type 0} (f : A → B) (xs : List A) → length (map f xs) ≡ length xs
-length_mapped f [] = refl
-length_mapped f (x ∷ xs) = ap suc (length_mapped f xs)
-
--- the scripts before the last
-pub early_scripts : (xs : List Part) (list : List Element) (n : ℕ) → map element_of xs ≡ list → n ≡ length xs - 1 → map element_of (take n xs) ≡ before_last list
-early_scripts xs list n e en =
-    ap (λ k. map element_of (take k xs)) en ∙ sym (take-map element_of (length xs - 1) xs) ∙ ap (λ k. take (k - 1) (map element_of xs)) (sym (length_mapped element_of xs)) ∙ ap before_last e
 
 -- ## Markup of the page
 

@@ -1,5 +1,5 @@
 -- The parts of a widget file that breaks no markup rule.
-use Rattle.std.specs.Prelude.{◌≡◌, ℕ, ◌+◌, List, ◌∷◌, Option, Some, None, codes, length, if◌then◌else◌, option_map, filter_map}
+use Rattle.std.specs.Prelude.{◌≡◌, ℕ, ◌+◌, List, ◌∷◌, Option, Some, None, codes, length, option_map, filter_map}
 use Rattle.std.specs.List.{last_or, flat_map}
 use Rattle.code_units.specs.Utf8.{utf8_of}
 use Rattle.plain_tree.specs.Trees.{Trees, End, Node, TextOf, ElementOf}
@@ -9,8 +9,8 @@ use Rattle.widget_form.specs.declared.form.Form.{Form}
 use Rattle.widget_form.specs.declared.form.FormFault.{FormFault}
 use Rattle.widget_form.specs.declared.form.FormFault.TheVariants as fault
 use Rattle.widget_form.specs.declared.file.Scripts.{Scripts}
-use Rattle.widget_form.specs.Elements.{Element, roots, scripts, first_named, before_scripts, is_div}
-use Rattle.widget_form.specs.Rows.{First}
+use Rattle.markup_rules.specs.Elements.{Element, roots, scripts, first_named, body_of}
+use Rattle.markup_rules.specs.Rows.{First}
 
 -- where the text of a script stands in the file: its one child; and an empty place where it has none
 abbrev pub span_in : ℕ → Trees Places → Span
@@ -33,12 +33,6 @@ source s = option_map (λ a. a.value) (first_named (codes "src") s.attrs)
 abbrev pub first_of_several : List Element → Option Element
 first_of_several (s ∷ t ∷ rest) = Some s
 first_of_several _ = None
-
--- the root with the children before its first script
-abbrev pub body_of : Trees Places → Trees Places
-body_of End = End
-body_of (Node m (TextOf us) ks ts) = body_of ts
-body_of (Node m (ElementOf tag attrs) ks ts) = if is_div tag then Node m (ElementOf tag attrs) (before_scripts ks) End else body_of ts
 
 -- the form of a file
 pub record IsForm (name : List ℕ) (file : Trees Places) (form : Form) : Type 0 where

@@ -6,9 +6,9 @@ use Rattle.plain_tree.specs.Trees.{Trees, size}
 use Rattle.plain_tree.specs.Plains.{Places}
 use Rattle.plain_tree.specs.Tags.{is_listed_tag}
 use Rattle.plain_tree.specs.Words.{is_plain_words}
-use Rattle.widget_form.specs.Words.{is_wordy, is_address, is_own_id, has_word}
-use Rattle.widget_form.specs.Elements.{Element, elements, scripts, is_sourced, first_named, before_scripts, Item, AnElement, items}
-use Rattle.widget_form.specs.Rows.{is_allowed, node_limit}
+use Rattle.markup_rules.specs.Words.{is_wordy, is_address, is_own_id, has_word}
+use Rattle.markup_rules.specs.Elements.{Element, elements, scripts, is_sourced, first_named, before_scripts, Item, AnElement, items}
+use Rattle.markup_rules.specs.Rows.{is_allowed, node_limit}
 
 -- the last of the items is a script without `src`
 pub record EndsInScript (list : List Item) : Type 0 where

@@ -1,6 +1,5 @@
-pub mod Words
-pub mod Elements
-pub mod Rows
+pub use Rattle.markup_rules.specs.Words
+pub use Rattle.markup_rules.specs.Elements
+pub use Rattle.markup_rules.specs.Rows
 pub mod Forms
-pub mod Parts
 pub mod Good

@@ -3,18 +3,18 @@ ghost use Rattle.std.specs.Prelude.{◌≡◌, ◌+◌, [], length, map, IfOk, I
 ghost use Rattle.code_units.specs.Utf8.{utf8_of};
 ghost use Rattle.plain_tree.specs.Trees.{Trees, beside};
 ghost use Rattle.plain_tree.specs.Plains.{Places, placed, placed_all};
-ghost use Rattle.widget_form.specs.Elements.{before_scripts};
-ghost use Rattle.widget_form.specs.Parts.{element_of, IsRootPlace, with_body};
-ghost use Rattle.widget_form.specs.Rows.{IsGood};
-ghost use Rattle.widget_form.specs.Forms.{HasScripts, span_in, span_of, source, first_of_several, root_scripts, body_of, IsForm, IsFormFault};
+ghost use Rattle.markup_rules.specs.Elements.{before_scripts, body_of};
+ghost use Rattle.markup_rules.specs.Parts.{element_of, IsRootPlace, with_body};
+ghost use Rattle.markup_rules.specs.Rows.{IsGood};
+ghost use Rattle.widget_form.specs.Forms.{HasScripts, span_in, span_of, source, first_of_several, root_scripts, IsForm, IsFormFault};
 
 use crate::form::{Form, FormFault, Span};
-use crate::items::first_named;
 use crate::judge::judge;
-use crate::part::{Part, root_of, root_place, scripts_of};
-use crate::root::is_script;
-use crate::rows::Slot;
 use code_units::{Memory, Text, push_utf8};
+use markup_rules::items::first_named;
+use markup_rules::part::{Part, root_of, root_place, scripts_of};
+use markup_rules::root::is_script;
+use markup_rules::rows::Slot;
 use plain_tree::Plain;
 use std::alloc::Global;
 

@@ -2,14 +2,14 @@
 ghost use Rattle.std.specs.Prelude.{◌≡◌, ◌↔◌, ◌&&◌, not, is_some, codes, map, IsTrue, IfOk};
 ghost use Rattle.std.specs.List.{list_all};
 ghost use Rattle.plain_tree.specs.Plains.{placed_all};
-ghost use Rattle.widget_form.specs.Elements.{first_named};
-ghost use Rattle.widget_form.specs.Parts.{element_of};
-ghost use Rattle.widget_form.specs.Rows.{is_free, IsHostMarkup};
+ghost use Rattle.markup_rules.specs.Elements.{first_named};
+ghost use Rattle.markup_rules.specs.Parts.{element_of};
+ghost use Rattle.markup_rules.specs.Rows.{is_free, IsHostMarkup};
 
-use crate::items::has_named;
-use crate::part::{Part, all_elements};
-use crate::rows::all_markup_rows;
 use code_units::{Memory, is_word};
+use markup_rules::items::has_named;
+use markup_rules::part::{Part, all_elements};
+use markup_rules::rows::all_markup_rows;
 use plain_tree::{Attr, Plain};
 use std::alloc::Global;
 

@@ -3,17 +3,17 @@ ghost use Rattle.std.specs.Prelude.{◌≡◌, ◌++◌, [], None, map, filter, 
 ghost use Rattle.first_breach.specs.Breaches.{Nothing, Each};
 ghost use Rattle.first_breach.specs.Narrowing.{Narrows};
 ghost use Rattle.plain_tree.specs.Plains.{placed_all};
-ghost use Rattle.widget_form.specs.Elements.{elements, roots, is_named};
-ghost use Rattle.widget_form.specs.Parts.{element_of};
-ghost use Rattle.widget_form.specs.Rows.{value_of, ids, FileRows, RootRows, Breaks};
+ghost use Rattle.markup_rules.specs.Elements.{elements, roots, is_named};
+ghost use Rattle.markup_rules.specs.Parts.{element_of};
+ghost use Rattle.markup_rules.specs.Rows.{value_of, ids, FileRows, RootRows, Breaks};
 
-use crate::items::{followed, misrooted};
-use crate::part::{Part, all_elements, other_elements, root_of};
-use crate::repeats::{Saying, repeated};
-use crate::root::{offer_at, root_rows};
-use crate::rows::{Slot, all_markup_rows, all_other_rows, all_slot_rows};
 use code_units::{Memory, Text, is_word};
 use first_breach::Breach;
+use markup_rules::items::{followed, misrooted};
+use markup_rules::part::{Part, all_elements, other_elements, root_of};
+use markup_rules::repeats::{Saying, repeated};
+use markup_rules::root::{offer_at, root_rows};
+use markup_rules::rows::{Slot, all_markup_rows, all_other_rows, all_slot_rows};
 use plain_tree::{Attr, Plain};
 use std::alloc::Global;
 

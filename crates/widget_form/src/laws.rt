@@ -2,7 +2,7 @@
 ghost use Rattle.std.specs.Prelude.{◌≡◌, ℕ, List};
 ghost use Rattle.plain_tree.specs.Trees.{Trees};
 ghost use Rattle.plain_tree.specs.Plains.{Places};
-ghost use Rattle.widget_form.specs.Rows.{First, IsGood};
+ghost use Rattle.markup_rules.specs.Rows.{First, IsGood};
 ghost use Rattle.widget_form.specs.Good.{IsWidgetFile};
 
 /// A file has one first broken rule at most, and a good one has none.

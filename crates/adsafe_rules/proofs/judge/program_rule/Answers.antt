@@ -4,7 +4,7 @@ use Rattle.first_breach.specs.Breaches.{Nothing}
 use Rattle.first_breach.specs.Narrowing.{Narrows}
 use Rattle.first_breach.proofs.Narrowing.{narrows_both}
 use Rattle.js_tree.specs.Trees.{trees}
-use Rattle.adsafe_rules.specs.Hoisting.{stmt_spot}
+use Rattle.node_rules.specs.Hoisting.{stmt_spot}
 use Rattle.adsafe_rules.specs.Openings.{ProgramRows}
 use Rattle.adsafe_rules.proofs.Starting.{none_of, first_at, hit_narrows}
 use Rattle.adsafe_rules.proofs.judge.program_rule.Goals as goal

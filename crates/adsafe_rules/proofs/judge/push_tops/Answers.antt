@@ -2,9 +2,9 @@ use Rattle.std.proofs.Common.{◌<◌, ◌++◌, length, arith, sym, ap, ◌∙�
 use Rattle.std.specs.Prelude.{map}
 use Rattle.js_tree.specs.Trees.{trees}
 use Rattle.js_tree.specs.Forest.{IsStmt}
-use Rattle.adsafe_rules.specs.Hoisting.{stmt_spot}
+use Rattle.node_rules.specs.Hoisting.{stmt_spot}
 use Rattle.adsafe_rules.specs.Program.{tops}
-use Rattle.adsafe_rules.specs.Walk.{at_depth, stmt_ids}
+use Rattle.node_rules.specs.Work.{at_depth, stmt_ids}
 use Rattle.adsafe_rules.proofs.Starting.{none_of, cut_is, all_rest, pushes_none, pushes_stmts, tops_open, tops_all}
 use Rattle.adsafe_rules.proofs.judge.push_tops.Goals as goal
 

@@ -4,12 +4,12 @@ use Rattle.first_breach.specs.Breaches.{Nothing}
 use Rattle.first_breach.specs.Narrowing.{Narrows}
 use Rattle.js_tree.specs.Trees.{trees, program_of}
 use Rattle.js_tree.specs.Parts.{stmts_spots}
-use Rattle.adsafe_rules.specs.Hoisting.{stmt_spot}
+use Rattle.node_rules.specs.Hoisting.{stmt_spot}
 use Rattle.adsafe_rules.specs.Program.{tops}
 use Rattle.adsafe_rules.specs.Openings.{ProgramRows}
-use Rattle.adsafe_rules.specs.Enclosing.{env_of}
+use Rattle.node_rules.specs.Enclosing.{env_of}
 use Rattle.adsafe_rules.specs.Walk.{Left, Pushes}
-use Rattle.adsafe_rules.proofs.Hoisting.{stmts_spots_at}
+use Rattle.node_rules.proofs.Hoisting.{stmts_spots_at}
 use Rattle.adsafe_rules.proofs.Starting.{start_narrows}
 use Rattle.adsafe_rules.proofs.Visiting.{walk_going, walk_to, walk_from, walk_ends}
 use Rattle.adsafe_rules.proofs.judge.search.Goals as goal

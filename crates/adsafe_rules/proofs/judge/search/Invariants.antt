@@ -2,7 +2,7 @@ use Rattle.std.proofs.Common.{None}
 use Rattle.js_tree.specs.Trees.{trees, program_of}
 use Rattle.first_breach.specs.Narrowing.{Narrows}
 use Rattle.adsafe_rules.specs.Program.{Breaks}
-use Rattle.adsafe_rules.specs.Enclosing.{env_of}
+use Rattle.node_rules.specs.Enclosing.{env_of}
 use Rattle.adsafe_rules.specs.Walk.{IsGoing, Left, load}
 use Rattle.adsafe_rules.proofs.judge.search.Given as goal
 

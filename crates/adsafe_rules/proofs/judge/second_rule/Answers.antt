@@ -4,7 +4,7 @@ use Rattle.first_breach.specs.Breaches.{Nothing}
 use Rattle.first_breach.specs.Narrowing.{Narrows}
 use Rattle.first_breach.proofs.Narrowing.{narrows_none}
 use Rattle.js_tree.specs.Trees.{trees}
-use Rattle.adsafe_rules.specs.Hoisting.{stmt_spot}
+use Rattle.node_rules.specs.Hoisting.{stmt_spot}
 use Rattle.adsafe_rules.specs.Openings.{SecondRow}
 use Rattle.adsafe_rules.proofs.Starting.{no_rest, rest_at, hit_narrows}
 use Rattle.adsafe_rules.proofs.judge.second_rule.Goals as goal

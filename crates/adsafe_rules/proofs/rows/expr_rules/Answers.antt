@@ -7,7 +7,7 @@ use Rattle.js_tree.specs.Plain.{ExprAt, expr_place}
 use Rattle.js_tree.specs.Parts.{AnExpr}
 use Rattle.js_tree.specs.Forest.{plain_form, expr_at}
 use Rattle.adsafe_rules.specs.Rows.{Broken}
-use Rattle.adsafe_rules.specs.Enclosing.{env_of}
+use Rattle.node_rules.specs.Enclosing.{env_of}
 use Rattle.adsafe_rules.proofs.Rules.{expr_rows}
 use Rattle.adsafe_rules.proofs.rows.expr_rules.Goals as goal
 

@@ -5,10 +5,10 @@ use Rattle.js_tree.specs.Trees.{trees}
 use Rattle.js_tree.specs.Plain.{FunAt}
 use Rattle.js_tree.specs.Parts.{AFun}
 use Rattle.js_tree.specs.Forest.{plain_fun, fun_at, stmts_at, funs_at}
-use Rattle.adsafe_rules.specs.Names.{placed}
+use Rattle.node_rules.specs.Names.{placed}
 use Rattle.adsafe_rules.specs.Rows.{Broken}
-use Rattle.adsafe_rules.specs.Sets.{BinderRow}
-use Rattle.adsafe_rules.proofs.Placing.{placed_first}
+use Rattle.node_rules.specs.Sets.{BinderRow}
+use Rattle.node_rules.proofs.Placing.{placed_first}
 use Rattle.adsafe_rules.proofs.Rules.{fun_rows}
 use Rattle.adsafe_rules.proofs.rows.fun_rules.Goals as goal
 

@@ -6,9 +6,9 @@ use Rattle.js_tree.specs.Plain.{ExprAt}
 use Rattle.js_tree.specs.Parts.{AnExpr}
 use Rattle.js_tree.specs.Trees.{trees}
 use Rattle.js_tree.specs.Forest.{plain_form, properties_at}
-use Rattle.adsafe_rules.specs.Names.{placed, properties, keys}
-use Rattle.adsafe_rules.specs.Sets.{PropertyRow}
-use Rattle.adsafe_rules.proofs.Lists.{keys_at}
+use Rattle.node_rules.specs.Names.{placed, properties, keys}
+use Rattle.node_rules.specs.Sets.{PropertyRow}
+use Rattle.node_rules.proofs.Lists.{keys_at}
 use Rattle.adsafe_rules.proofs.rows.property_rules.Goals as goal
 
 pub returns-in-Object : goal.returns-in-Object

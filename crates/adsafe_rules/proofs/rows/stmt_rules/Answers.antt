@@ -6,10 +6,10 @@ use Rattle.js_tree.specs.Trees.{trees}
 use Rattle.js_tree.specs.Plain.{StmtAt, stmt_place}
 use Rattle.js_tree.specs.Parts.{AStmt}
 use Rattle.js_tree.specs.Forest.{plain_stmt_form, stmt_at}
-use Rattle.adsafe_rules.specs.Binding.{is_stray, no_jumps, jumps_from}
+use Rattle.node_rules.specs.Binding.{is_stray, no_jumps, jumps_from}
 use Rattle.adsafe_rules.specs.Rows.{Broken}
-use Rattle.adsafe_rules.specs.Enclosing.{env_of}
-use Rattle.adsafe_rules.proofs.Open.{jumps_are}
+use Rattle.node_rules.specs.Enclosing.{env_of}
+use Rattle.node_rules.proofs.Open.{jumps_are}
 use Rattle.adsafe_rules.proofs.Rules.{stmt_rows}
 use Rattle.adsafe_rules.proofs.rows.stmt_rules.Goals as goal
 

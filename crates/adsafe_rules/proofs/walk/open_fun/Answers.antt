@@ -5,8 +5,8 @@ use Rattle.js_tree.specs.Trees.{trees}
 use Rattle.js_tree.specs.Plain.{fun_names}
 use Rattle.js_tree.specs.Forest.{fun_at}
 use Rattle.js_tree.specs.Parts.{AFun, spot_at}
-use Rattle.adsafe_rules.specs.Parts.{inner}
-use Rattle.adsafe_rules.specs.Walk.{fun_work}
+use Rattle.node_rules.specs.Parts.{inner}
+use Rattle.node_rules.specs.Work.{fun_work}
 use Rattle.adsafe_rules.proofs.Parting.{fun_plain, fun_in}
 use Rattle.adsafe_rules.proofs.Visiting.{opens_some}
 use Rattle.adsafe_rules.proofs.walk.open_fun.Goals as goal

@@ -6,11 +6,11 @@ use Rattle.js_tree.specs.Plain.{stmt_place, stmt_names}
 use Rattle.js_tree.specs.Forest.{stmt_at, plain_stmt}
 use Rattle.js_tree.specs.Parts.{AStmt, spot_at}
 use Rattle.first_breach.specs.Lists.{In}
-use Rattle.adsafe_rules.specs.Binding.{Binds, no_jumps, jumps_in}
-use Rattle.adsafe_rules.specs.Enclosing.{jumps_of}
-use Rattle.adsafe_rules.specs.Parts.{inner}
-use Rattle.adsafe_rules.specs.Walk.{inner_work}
-use Rattle.adsafe_rules.proofs.Hoisting.{stmt_binds}
+use Rattle.node_rules.specs.Binding.{Binds, no_jumps, jumps_in}
+use Rattle.node_rules.specs.Enclosing.{jumps_of}
+use Rattle.node_rules.specs.Parts.{inner}
+use Rattle.node_rules.specs.Work.{inner_work}
+use Rattle.node_rules.proofs.Hoisting.{stmt_binds}
 use Rattle.adsafe_rules.proofs.Parting.{inner_plain, inner_in}
 use Rattle.adsafe_rules.proofs.Visiting.{opens_none, opens_some}
 use Rattle.adsafe_rules.proofs.walk.open_stmt.Goals as goal

@@ -3,8 +3,9 @@ use Rattle.std.specs.Prelude.{map}
 use Rattle.js_tree.specs.Trees.{trees}
 use Rattle.js_tree.specs.Forest.{expr_at, stmt_at}
 use Rattle.js_tree.specs.Parts.{AnExpr, AStmt, spot_at}
-use Rattle.adsafe_rules.specs.Parts.{outer}
-use Rattle.adsafe_rules.specs.Walk.{Pushes, expr_work, outer_work}
+use Rattle.node_rules.specs.Parts.{outer}
+use Rattle.node_rules.specs.Work.{expr_work, outer_work}
+use Rattle.adsafe_rules.specs.Walk.{Pushes}
 use Rattle.adsafe_rules.proofs.Parting.{expr_plain, outer_plain, expr_in, outer_in}
 use Rattle.adsafe_rules.proofs.walk.push_outside.Goals as goal
 

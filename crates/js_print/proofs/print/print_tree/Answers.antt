@@ -1,6 +1,6 @@
 use Rattle.std.proofs.Common.{refl}
 use Rattle.js_tree.specs.Trees.{trees, program_of}
-use Rattle.js_print.specs.Tidy.{tidy}
+use Rattle.js_pieces.specs.Tidy.{tidy}
 use Rattle.js_print.proofs.Fronts.{refused, front_none, goes_refused}
 use Rattle.js_print.proofs.Walks.{walked, stopped, popped_is, popped_are, popped_less}
 use Rattle.js_print.proofs.print.print_tree.Goals as goal

@@ -1,6 +1,6 @@
 use Rattle.js_tree.specs.Trees.{trees, program_of}
-use Rattle.js_print.specs.Tidy.{tidy, spaced}
-use Rattle.js_print.specs.Todo.{todo, row_cost, AreWork}
+use Rattle.js_pieces.specs.Tidy.{tidy, spaced}
+use Rattle.js_pieces.specs.Todo.{todo, row_cost, AreWork}
 use Rattle.js_print.proofs.Fronts.{Goes}
 use Rattle.js_print.proofs.print.print_tree.Given as goal
 

@@ -1,4 +1,4 @@
-use Rattle.js_print.specs.Spelling.{name_bytes}
+use Rattle.js_pieces.specs.Spelling.{name_bytes}
 use Rattle.js_print.proofs.Fronts.{goes_start}
 use Rattle.js_print.proofs.write.push_name.Goals as goal
 

@@ -1,6 +1,6 @@
 use Rattle.std.proofs.Common.{drop}
 use Rattle.std.specs.List.{flat_map}
-use Rattle.js_print.specs.Spelling.{name_bytes, unit_bytes}
+use Rattle.js_pieces.specs.Spelling.{name_bytes, unit_bytes}
 use Rattle.js_print.proofs.Fronts.{Goes}
 use Rattle.js_print.proofs.write.push_name.Given as goal
 

@@ -1,5 +1,5 @@
 use Rattle.std.proofs.Common.{◌∷◌, [], ap}
-use Rattle.js_print.specs.Spelling.{string_bytes}
+use Rattle.js_pieces.specs.Spelling.{string_bytes}
 use Rattle.js_print.proofs.Fronts.{goes_start, goes_on, goes_refused}
 use Rattle.js_print.proofs.write.push_quoted.Goals as goal
 

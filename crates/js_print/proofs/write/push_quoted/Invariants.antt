@@ -1,5 +1,5 @@
 use Rattle.std.proofs.Common.{drop, ◌++◌, ◌∷◌, []}
-use Rattle.js_print.specs.Spelling.{string_bytes, quoted_units}
+use Rattle.js_pieces.specs.Spelling.{string_bytes, quoted_units}
 use Rattle.js_print.proofs.Fronts.{Goes}
 use Rattle.js_print.proofs.write.push_quoted.Given as goal
 

@@ -1,6 +1,6 @@
 use Rattle.std.proofs.Common.{◌+◌, arith, subst, sym}
 use Rattle.std.proofs.lemmas.Grind.{common_steps}
-use Rattle.markup_reader.specs.States.{state_of}
+use Rattle.markup_steps.specs.States.{state_of}
 use Rattle.markup_reader.proofs.Reading.{Left, one_more, no_more, all_read, inside}
 use Rattle.markup_reader.proofs.read.read_text.Goals as goal
 

@@ -1,4 +1,4 @@
-use Rattle.markup_reader.specs.States.{state_of}
+use Rattle.markup_steps.specs.States.{state_of}
 use Rattle.markup_reader.proofs.Reading.{Left}
 use Rattle.markup_reader.proofs.read.read_text.Given as goal
 

@@ -1,5 +1,5 @@
 use Rattle.std.proofs.Common.{Some, None}
-use Rattle.markup_reader.specs.States.{state_of}
+use Rattle.markup_steps.specs.States.{state_of}
 use Rattle.plain_tree.specs.Plains.{placed_all}
 use Rattle.markup_reader.proofs.Reading.{whole_end}
 use Rattle.markup_reader.proofs.read.read_whole.Goals as goal

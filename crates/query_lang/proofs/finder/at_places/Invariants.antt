@@ -1,6 +1,6 @@
 use Rattle.std.proofs.Common.{◌≡◌, ◌++◌, drop}
 use Rattle.query_grammar.specs.Finds.{at_places}
-use Rattle.query_lang.proofs.Siblings.{placed}
+use Rattle.query_walks.proofs.Siblings.{placed}
 use Rattle.query_lang.proofs.finder.at_places.Given as goal
 
 -- what is kept, and what is still to come

@@ -1,5 +1,5 @@
 use Rattle.page_tree.specs.Pages.{nodes}
-use Rattle.query_lang.proofs.Members.{filter_nodes, filter_left}
+use Rattle.query_walks.proofs.Members.{filter_nodes, filter_left}
 use Rattle.query_lang.proofs.finder.filter_all.Goals as goal
 
 pub each-preserved : goal.each-preserved

@@ -1,7 +1,7 @@
 use Rattle.std.proofs.Common.{◌≡◌, drop}
 use Rattle.page_tree.specs.Pages.{nodes}
-use Rattle.query_lang.specs.Finds.{all_filtered}
-use Rattle.query_lang.specs.Walks.{AreNodes}
+use Rattle.query_walks.specs.Finds.{all_filtered}
+use Rattle.query_walks.specs.Walks.{AreNodes}
 use Rattle.query_lang.proofs.finder.filter_all.Given as goal
 
 abbrev pub invariant-each : goal.invariant-each

@@ -1,7 +1,7 @@
 use Rattle.std.proofs.Common.{◌≡◌, sym, ◌∙◌, ap, []}
 use Rattle.std.specs.Prelude.{option_copied}
-use Rattle.query_lang.specs.Finds.{finds}
-use Rattle.query_lang.proofs.Members.{first_has, no_first, finds_none}
+use Rattle.query_walks.specs.Finds.{finds}
+use Rattle.query_walks.proofs.Members.{first_has, no_first, finds_none}
 use Rattle.query_lang.proofs.finder.find.Goals as goal
 
 pub owner-requires : goal.owner-requires

@@ -1,8 +1,8 @@
 use Rattle.std.proofs.Common.{get_or}
 use Rattle.page_tree.specs.Pages.{nodes}
-use Rattle.query_lang.specs.Nodes.{passes}
-use Rattle.query_lang.proofs.Downward.{ones_more, itself}
-use Rattle.query_lang.proofs.Members.{node_at}
+use Rattle.query_walks.specs.Nodes.{passes}
+use Rattle.query_walks.proofs.Downward.{ones_more, itself}
+use Rattle.query_walks.proofs.Members.{node_at}
 use Rattle.query_lang.proofs.finder.keep.Goals as goal
 
 pub keep_one-requires : goal.keep_one-requires

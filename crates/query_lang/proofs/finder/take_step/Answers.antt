@@ -2,8 +2,8 @@ use Rattle.std.proofs.Common.{ap, ◌∙◌, subst, sym}
 use Rattle.page_nodes.proofs.Lists.{ok_equal}
 use Rattle.query_grammar.specs.Finds.{has_number}
 use Rattle.query_grammar.specs.Steps.{Step}
-use Rattle.query_lang.specs.Walks.{AreNodes}
-use Rattle.query_lang.proofs.Members.{in_order_nodes, step_same}
+use Rattle.query_walks.specs.Walks.{AreNodes}
+use Rattle.query_walks.proofs.Members.{in_order_nodes, step_same}
 use Rattle.query_lang.proofs.finder.take_step.Goals as goal
 
 pub in_order-requires-clause-nodes : goal.in_order-requires-clause-nodes

@@ -1,7 +1,7 @@
 use Rattle.std.specs.List.{flat_map}
 use Rattle.page_tree.specs.Pages.{nodes, root}
-use Rattle.query_lang.specs.Finds.{hunted}
-use Rattle.query_lang.proofs.Members.{step_nodes, steps_left}
+use Rattle.query_walks.specs.Finds.{hunted}
+use Rattle.query_walks.proofs.Members.{step_nodes, steps_left}
 use Rattle.query_lang.proofs.finder.take_steps.Goals as goal
 
 pub each-preserved : goal.each-preserved

@@ -1,6 +1,6 @@
 use Rattle.std.proofs.Common.{◌≡◌, drop}
-use Rattle.query_lang.specs.Finds.{finds}
-use Rattle.query_lang.specs.Walks.{AreNodes}
+use Rattle.query_walks.specs.Finds.{finds}
+use Rattle.query_walks.specs.Walks.{AreNodes}
 use Rattle.query_lang.proofs.finder.take_steps.Given as goal
 
 abbrev pub invariant-each : goal.invariant-each

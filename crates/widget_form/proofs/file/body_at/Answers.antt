@@ -1,7 +1,7 @@
 use Rattle.std.proofs.Common.{sym, ap, ◌∙◌, arith}
 use Rattle.std.proofs.lemmas.Option.{slice_get_within, get_or_from_slice_get}
 use Rattle.plain_tree.specs.Plains.{placed}
-use Rattle.widget_form.specs.Parts.{with_body}
+use Rattle.markup_rules.specs.Parts.{with_body}
 use Rattle.widget_form.proofs.file.body_at.Goals as goal
 
 pub swap_remove-requires : goal.swap_remove-requires

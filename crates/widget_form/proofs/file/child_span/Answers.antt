@@ -2,7 +2,7 @@ use Rattle.widget_form.specs.Forms.{span_in}
 use Rattle.std.proofs.Common.{◌≡◌}
 use Rattle.plain_tree.specs.Trees.{beside}
 use Rattle.plain_tree.specs.Plains.{placed}
-use Rattle.widget_form.proofs.Steps.{if_ok_then}
+use Rattle.markup_rules.proofs.Steps.{if_ok_then}
 use Rattle.widget_form.proofs.Body.{text_child, element_child}
 use Rattle.widget_form.proofs.file.child_span.Goals as goal
 

@@ -1,7 +1,7 @@
 use Rattle.std.proofs.Common.{◌≡◌, ◌++◌, drop, map}
 use Rattle.std.specs.Prelude.{filter_map}
 use Rattle.widget_form.specs.Forms.{source}
-use Rattle.widget_form.specs.Parts.{element_of}
+use Rattle.markup_rules.specs.Parts.{element_of}
 use Rattle.widget_form.proofs.file.libs_of.Given as goal
 
 abbrev pub invariant-scripts : goal.invariant-scripts

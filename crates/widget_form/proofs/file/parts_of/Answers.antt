@@ -1,6 +1,6 @@
 use Rattle.std.proofs.Common.{map}
 use Rattle.plain_tree.specs.Plains.{placed_all}
-use Rattle.widget_form.specs.Parts.{element_of}
+use Rattle.markup_rules.specs.Parts.{element_of}
 use Rattle.widget_form.specs.Forms.{root_scripts}
 use Rattle.widget_form.proofs.Splitting.{scripts_found, has_scripts}
 use Rattle.widget_form.proofs.file.parts_of.Goals as goal

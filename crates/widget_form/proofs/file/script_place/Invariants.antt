@@ -1,7 +1,7 @@
 use Rattle.std.proofs.Common.{◌≡◌, drop, take}
 use Rattle.plain_tree.specs.Trees.{beside}
 use Rattle.plain_tree.specs.Plains.{placed_all}
-use Rattle.widget_form.specs.Elements.{before_scripts}
+use Rattle.markup_rules.specs.Elements.{before_scripts}
 use Rattle.widget_form.proofs.file.script_place.Given as goal
 
 abbrev pub invariant-nodes : goal.invariant-nodes

@@ -1,7 +1,7 @@
 use Rattle.first_breach.proofs.Narrowing.{clean_of, first_of}
 use Rattle.std.proofs.Common.{None, Some}
 use Rattle.plain_tree.specs.Plains.{placed_all}
-use Rattle.widget_form.specs.Rows.{Breaks}
+use Rattle.markup_rules.specs.Rows.{Breaks}
 use Rattle.widget_form.proofs.Body.{good_scripts}
 use Rattle.widget_form.proofs.Splitting.{judged}
 use Rattle.widget_form.proofs.file.split.Goals as goal

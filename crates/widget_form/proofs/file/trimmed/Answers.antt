@@ -1,6 +1,6 @@
 use Rattle.std.proofs.Common.{subst, ◌≡◌, take}
 use Rattle.plain_tree.specs.Plains.{placed_all}
-use Rattle.widget_form.specs.Elements.{before_scripts}
+use Rattle.markup_rules.specs.Elements.{before_scripts}
 use Rattle.widget_form.proofs.Body.{trimmed_element, trimmed_text}
 use Rattle.widget_form.proofs.file.trimmed.Goals as goal
 

@@ -1,7 +1,7 @@
 use Rattle.std.proofs.Common.{◌≡◌, drop, map}
 use Rattle.std.specs.List.{list_all}
-use Rattle.widget_form.specs.Rows.{is_free}
-use Rattle.widget_form.specs.Parts.{element_of}
+use Rattle.markup_rules.specs.Rows.{is_free}
+use Rattle.markup_rules.specs.Parts.{element_of}
 use Rattle.widget_form.proofs.host.are_free.Given as goal
 
 abbrev pub invariant-parts : goal.invariant-parts

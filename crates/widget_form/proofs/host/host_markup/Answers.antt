@@ -3,8 +3,8 @@ use Rattle.std.specs.List.{list_all}
 use Rattle.first_breach.specs.Breaches.{Nothing, Each}
 use Rattle.first_breach.specs.Narrowing.{Narrows}
 use Rattle.plain_tree.specs.Plains.{placed_all}
-use Rattle.widget_form.specs.Parts.{element_of}
-use Rattle.widget_form.specs.Rows.{MarkupRows, is_free}
+use Rattle.markup_rules.specs.Parts.{element_of}
+use Rattle.markup_rules.specs.Rows.{MarkupRows, is_free}
 use Rattle.widget_form.proofs.Splitting.{host_clean, host_broken}
 use Rattle.widget_form.proofs.host.host_markup.Goals as goal
 

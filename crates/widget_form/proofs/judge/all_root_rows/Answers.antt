@@ -3,9 +3,9 @@ use Rattle.first_breach.specs.Breaches.{Nothing, Each}
 use Rattle.first_breach.specs.Narrowing.{Narrows}
 use Rattle.first_breach.proofs.Narrowing.{each_one}
 use Rattle.plain_tree.specs.Plains.{placed_all}
-use Rattle.widget_form.specs.Elements.{roots}
-use Rattle.widget_form.specs.Rows.{RootRows}
-use Rattle.widget_form.proofs.Steps.{if_ok_then}
+use Rattle.markup_rules.specs.Elements.{roots}
+use Rattle.markup_rules.specs.Rows.{RootRows}
+use Rattle.markup_rules.proofs.Steps.{if_ok_then}
 use Rattle.widget_form.proofs.judge.all_root_rows.Goals as goal
 
 pub returns-in-Some : goal.returns-in-Some

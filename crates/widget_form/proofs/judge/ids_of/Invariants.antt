@@ -1,6 +1,6 @@
 use Rattle.std.proofs.Common.{◌≡◌, ◌++◌, drop, map}
-use Rattle.widget_form.specs.Rows.{ids}
-use Rattle.widget_form.specs.Parts.{element_of}
+use Rattle.markup_rules.specs.Rows.{ids}
+use Rattle.markup_rules.specs.Parts.{element_of}
 use Rattle.widget_form.proofs.judge.ids_of.Given as goal
 
 abbrev pub invariant-parts : goal.invariant-parts

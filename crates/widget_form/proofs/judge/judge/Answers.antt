@@ -2,8 +2,8 @@ use Rattle.std.proofs.Common.{subst, ap, ◌∙◌, map}
 use Rattle.first_breach.specs.Breaches.{Nothing, Each}
 use Rattle.first_breach.specs.Narrowing.{Narrows}
 use Rattle.first_breach.proofs.Narrowing.{narrows_both}
-use Rattle.widget_form.specs.Parts.{element_of}
-use Rattle.widget_form.specs.Rows.{OtherRows, MarkupRows, SlotRows}
+use Rattle.markup_rules.specs.Parts.{element_of}
+use Rattle.markup_rules.specs.Rows.{OtherRows, MarkupRows, SlotRows}
 use Rattle.widget_form.proofs.judge.judge.Goals as goal
 
 pub returns : goal.returns

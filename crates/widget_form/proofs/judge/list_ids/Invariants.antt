@@ -1,7 +1,7 @@
 use Rattle.std.proofs.Common.{◌≡◌, ◌++◌, drop, map}
 use Rattle.std.specs.Prelude.{filter, codes}
-use Rattle.widget_form.specs.Elements.{is_named}
-use Rattle.widget_form.specs.Rows.{value_of}
+use Rattle.markup_rules.specs.Elements.{is_named}
+use Rattle.markup_rules.specs.Rows.{value_of}
 use Rattle.widget_form.proofs.judge.list_ids.Given as goal
 
 abbrev pub invariant-attrs : goal.invariant-attrs

@@ -1,5 +1,0 @@
-use Rattle.std.proofs.Common.{◌≡◌, ◌++◌, take}
-use Rattle.adsafe_rules.proofs.binding.add_all.Given as goal
-
-abbrev pub invariant-list : goal.invariant-list
-invariant-list l = l.names.items ≡ l.fn.names.items ++ take l.name-index l.list

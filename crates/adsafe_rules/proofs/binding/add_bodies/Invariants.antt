@@ -1,6 +1,0 @@
-use Rattle.std.proofs.Common.{◌≡◌, ◌++◌, take}
-use Rattle.adsafe_rules.specs.Hoisting.{clause_bodies}
-use Rattle.adsafe_rules.proofs.binding.add_bodies.Given as goal
-
-abbrev pub invariant-list : goal.invariant-list
-invariant-list l = l.left.items ≡ l.fn.left.items ++ clause_bodies (take l.clause-index l.list)

@@ -1,7 +1,0 @@
-use Rattle.std.proofs.Common.{◌≡◌, ◌++◌, take}
-use Rattle.std.specs.Prelude.{map}
-use Rattle.adsafe_rules.specs.Walk.{at_depth, fun_ids}
-use Rattle.adsafe_rules.proofs.pushes.push_funs.Given as goal
-
-abbrev pub invariant-ids : goal.invariant-ids
-invariant-ids l = l.work.items ≡ l.fn.work.items ++ map (at_depth l.depth) (fun_ids (take l.id-index l.ids))

@@ -1,0 +1,4 @@
+pub mod Spelling
+pub mod Tidy
+pub mod Costs
+pub mod Todo

@@ -1,0 +1,8 @@
+use Rattle.std.proofs.Common.{◌≡◌, ◌++◌, drop, map}
+use Rattle.plain_tree.specs.Plains.{placed_all}
+use Rattle.markup_rules.specs.Elements.{elements}
+use Rattle.markup_rules.specs.Parts.{element_of}
+use Rattle.markup_rules.proofs.part.all_elements.Given as goal
+
+abbrev pub invariant-each : goal.invariant-each
+invariant-each l = map element_of l.found.items ++ elements (placed_all (drop l.plain-index l.content)) ≡ elements (placed_all l.content)

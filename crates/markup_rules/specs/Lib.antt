@@ -1,0 +1,4 @@
+pub mod Words
+pub mod Elements
+pub mod Rows
+pub mod Parts

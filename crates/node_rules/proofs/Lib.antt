@@ -1,0 +1,5 @@
+pub mod Lists
+pub mod Sizes
+pub mod Hoisting
+pub mod Open
+pub mod Placing

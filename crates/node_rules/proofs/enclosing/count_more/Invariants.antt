@@ -1,0 +1,7 @@
+use Rattle.std.proofs.Common.{◌≡◌, ℕ, ◌+◌, List, take, count_by}
+use Rattle.std.specs.Str.{bytes_eq}
+use Rattle.node_rules.specs.Enclosing.{count_of}
+use Rattle.node_rules.proofs.enclosing.count_more.Given as goal
+
+abbrev pub invariant-more : goal.invariant-more
+invariant-more l = (q : List ℕ) → count_of l.counts q ≡ count_of l.initial.counts q + count_by (bytes_eq q) (take l.name-index l.names)

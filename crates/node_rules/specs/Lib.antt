@@ -1,0 +1,10 @@
+pub mod Words
+pub mod Names
+pub mod Numbers
+pub mod Forms
+pub mod Parts
+pub mod Binding
+pub mod Sets
+pub mod Hoisting
+pub mod Enclosing
+pub mod Work

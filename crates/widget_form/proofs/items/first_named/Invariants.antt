@@ -1,6 +1,0 @@
-use Rattle.std.proofs.Common.{◌≡◌, drop}
-use Rattle.widget_form.specs.Elements.{first_named}
-use Rattle.widget_form.proofs.items.first_named.Given as goal
-
-abbrev pub invariant-attrs : goal.invariant-attrs
-invariant-attrs l = first_named l.word l.attrs ≡ first_named l.word (drop l.attr-index l.attrs)

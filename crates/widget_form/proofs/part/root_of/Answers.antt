@@ -1,6 +1,0 @@
-use Rattle.std.proofs.Common.{sym, ◌∙◌, true}
-use Rattle.widget_form.proofs.Rooted.{roots_pass}
-use Rattle.widget_form.proofs.part.root_of.Goals as goal
-
-pub returns-then-is_word : goal.returns-then-is_word
-returns-then-is_word c = c.nodes.invariant ∙ roots_pass c.in-Some.part true c.args.content.now c.nodes.plain-index c.plain-item.result c.nodes-test.true c.plain-item.is c.in-Some.ensures (sym c.if-is_word.ensures)

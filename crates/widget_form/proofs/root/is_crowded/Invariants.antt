@@ -1,9 +1,0 @@
-use Rattle.std.proofs.Common.{◌≡◌, ◌+◌, drop}
-use Rattle.plain_tree.specs.Trees.{size}
-use Rattle.plain_tree.specs.Plains.{placed_all}
-use Rattle.widget_form.specs.Elements.{before_scripts}
-use Rattle.widget_form.proofs.root.is_crowded.Given as goal
-
--- what is left, and what is still to come
-abbrev pub invariant-nodes : goal.invariant-nodes
-invariant-nodes l = l.left + size (before_scripts (placed_all l.children)) ≡ 16383 + size (before_scripts (placed_all (drop l.plain-index l.children)))

@@ -1,8 +1,0 @@
-use Rattle.widget_form.proofs.Body.{stays_or_ends, stays_text}
-use Rattle.widget_form.proofs.root.is_script.Goals as goal
-
-pub returns-in-Some : goal.returns-in-Some
-returns-in-Some c = stays_or_ends c.is_word.result c.in-Some.part _ c.in-Some.ensures c.is_word.ensures
-
-pub returns-in-None : goal.returns-in-None
-returns-in-None c = stays_text _ c.in-None.ensures

@@ -1,9 +1,0 @@
-use Rattle.std.proofs.Common.{sym, subst}
-use Rattle.first_breach.specs.Breaches.{Nothing}
-use Rattle.first_breach.specs.Narrowing.{Narrows}
-use Rattle.widget_form.specs.Rows.{Perhaps}
-use Rattle.widget_form.proofs.Steps.{narrows_sure}
-use Rattle.widget_form.proofs.root.offer_at.Goals as goal
-
-pub returns-in-Some : goal.returns-in-Some
-returns-in-Some c = subst (λ p. Narrows (Perhaps c.args.rule p) c.args.best Nothing c.offer.result) (sym c.in-Some.is) (narrows_sure c.offer.ensures)

@@ -1,6 +1,0 @@
-use Rattle.widget_form.specs.Rows.{SlotAttributeRows}
-use Rattle.widget_form.proofs.Steps.{each_step}
-use Rattle.widget_form.proofs.rows.all_slot_attribute_rows.Goals as goal
-
-pub attrs-preserved : goal.attrs-preserved
-attrs-preserved c = each_step (SlotAttributeRows c.args.slot.now.name.now c.args.slot.now.libs.now c.args.of_script) _ _ _ c.args.attrs.now c.attrs.attr-index c.attr-item.result c.attrs-test.true c.attr-item.is c.attrs.invariant c.slot_attribute_rows-least.ensures

@@ -1,8 +1,0 @@
-use Rattle.std.proofs.Common.{take}
-use Rattle.first_breach.specs.Breaches.{Nothing, Each}
-use Rattle.first_breach.specs.Narrowing.{Narrows}
-use Rattle.widget_form.specs.Rows.{SlotAttributeRows}
-use Rattle.widget_form.proofs.rows.all_slot_attribute_rows.Given as goal
-
-abbrev pub invariant-attrs : goal.invariant-attrs
-invariant-attrs l = Narrows (Each (SlotAttributeRows l.slot.name.now l.slot.libs.now l.of_script) (take l.attr-index l.attrs)) l.fn.best Nothing l.least

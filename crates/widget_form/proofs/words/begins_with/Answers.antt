@@ -1,6 +1,0 @@
-use Rattle.std.proofs.Common.{sym, ◌∙◌, arith}
-use Rattle.widget_form.proofs.Wording.{begins_far}
-use Rattle.widget_form.proofs.words.begins_with.Goals as goal
-
-pub returns-then-i-units : goal.returns-then-i-units
-returns-then-i-units c = sym (c.word.invariant ∙ begins_far c.args.word.now c.args.units.now c.word.i (omega arith) (omega arith))
