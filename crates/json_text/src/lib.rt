@@ -1,0 +1,10 @@
+//! JSON of a widget's values: the text that is written of a value, and the value that is read in a
+//! text.
+#![tactic(auto)]
+
+mod building;
+mod laws;
+mod reading;
+mod weighing;
+
+pub use reading::from_json;

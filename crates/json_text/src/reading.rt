@@ -1,0 +1,151 @@
+//! The value that is read in a text.
+ghost use Rattle.std.specs.Prelude.{◌≡◌, ◌<◌, ℕ, List, IfErr, IfOk, OnErr, OnOk, option_map};
+ghost use Rattle.js_tree.specs.Forest.{Forest};
+ghost use Rattle.serde_json.specs.View.{view};
+ghost use Rattle.widget_meaning.specs.Costs as costs;
+ghost use Rattle.widget_meaning.specs.Costs.{units_cost, with_counts};
+ghost use Rattle.widget_meaning.specs.JsonValues as means;
+ghost use Rattle.widget_meaning.specs.OwnState.{State};
+ghost use Rattle.widget_meaning.specs.Plan.{Halt, Plan};
+ghost use Rattle.js_image.specs.Held.{IsFine, Kept};
+ghost use Rattle.js_image.specs.Image.{Rest, image, seen};
+ghost use Rattle.js_image.specs.Plans.{meant_cause};
+ghost use Rattle.native_forms.specs.Meets.{Ends, Meets};
+ghost use Rattle.native_forms.specs.Numbers.{counted};
+ghost use Rattle.json_text.specs.Reading.{born_plan, read_plan, weight_cost};
+ghost use Rattle.json_text.specs.Weights.{weight};
+
+use crate::building::build;
+use crate::weighing::{NO_WEIGHT, Weight, weigh};
+use code_units::{Memory, Owner, Text, push_utf8};
+use js_image::{Fault, Paid, StopCause, pay_units};
+use js_values::{Meter, NativeOut};
+use json_shapes::{ShapeFault, read_json};
+use native_forms::{take, text_len};
+use object_store::{CELL_LIMIT, SLOT_LIMIT, Store, UNIT_LIMIT, Value};
+use serde_json::Value as Json;
+use std::alloc::Global;
+
+/// `fromJson(t)`: the value that a text spells.
+pub fn from_json(
+    alloc: Global,
+    store: &mut Store,
+    meter: &mut Meter,
+    w: u32,
+    v: &Value,
+) -> Result<NativeOut, Memory>
+    requires { w < 32 }
+    ensures native { IfOk result (λ o. Meets w store.old store.new meter.old meter.new
+        (λ d s. means.from_json (seen w store.old.cells v.now) s) o) }
+    ensures memory { OnErr result ((fs : List Forest) → Kept fs w store.old store.new) }
+{
+    let Value::Text(text) = v else {
+        return Ok(NativeOut::Throw(Fault::E4));
+    };
+    match parsed(alloc, text)? {
+        None => Ok(NativeOut::Throw(Fault::E4)),
+        Some(json) => read_value(alloc, store, meter, w, text_len(text), &json),
+    }
+}
+
+// The JSON that a text is, none where it is none.
+fn parsed(alloc: Global, text: &Text) -> Result<Option<Json>, Memory>
+    ensures { IfOk result (λ o. option_map view o ≡ means.read_json text.now) }
+{
+    let mut bytes = Vec::new(alloc);
+    push_utf8(text, &mut bytes)?;
+    match read_json(alloc, &bytes) {
+        Ok(json) => Ok(Some(json)),
+        Err(ShapeFault::NotJson) => Ok(None),
+        Err(_) => Err(Memory),
+    }
+}
+
+// What was read is made: its names first, then the extra, which is the units of the text.
+fn read_value(
+    alloc: Global,
+    store: &mut Store,
+    meter: &mut Meter,
+    w: u32,
+    extra: usize,
+    json: &Json,
+) -> Result<NativeOut, Memory>
+    requires { w < 32 }
+    ensures native { IfOk result (λ o. (n : ℕ) → extra ≡ counted n → Meets w store.old store.new meter.old meter.new
+        (λ d s. read_plan n (view json.now) s) o) }
+    ensures memory { OnErr result ((fs : List Forest) → Kept fs w store.old store.new) }
+{
+    let mut sum = NO_WEIGHT;
+    weigh(alloc, json, &mut sum)?;
+    if !sum.named {
+        return Ok(NativeOut::Throw(Fault::E8));
+    }
+    match take(meter, extra) {
+        Err(_) => Ok(NativeOut::OutOfFuel),
+        Ok(()) => bear(alloc, store, w, &sum, json),
+    }
+}
+
+// The stops, the cost, and then all is made.
+fn bear(
+    alloc: Global,
+    store: &mut Store,
+    w: u32,
+    sum: &Weight,
+    json: &Json,
+) -> Result<NativeOut, Memory>
+    requires widget { w < 32 }
+    requires sum { sum.now ≡ weight (view json.now) }
+    ensures ends { IfOk result (λ o. Ends w store.old store.new (λ d s. born_plan (view json.now) s) o) }
+    ensures memory { OnErr result ((fs : List Forest) → Kept fs w store.old store.new) }
+{
+    if !sum.whole {
+        return Ok(NativeOut::Stop(StopCause::Number));
+    }
+    if !sum.short {
+        return Ok(NativeOut::Stop(StopCause::LongText));
+    }
+    match afford(store, w, sum) {
+        Err(cause) => Ok(NativeOut::Stop(cause)),
+        Ok(units) => {
+            pay(store, w, units)?;
+            Ok(NativeOut::Value(build(alloc, store, w, json)?))
+        }
+    }
+}
+
+// The units of a cost that a widget can pay, or the stop: units, cells and slots are judged in this
+// order.
+fn afford(store: &Store, w: u32, sum: &Weight) -> Result<u32, StopCause>
+    requires { w < 32 }
+    ensures stop { IfErr result (λ c. (fs : List Forest) (r : Rest) (k : State → Plan)
+        → costs.pay (weight_cost sum.now) (image fs r w store.now) k ≡ Halt (meant_cause c) (image fs r w store.now)) }
+    ensures units { IfOk result (λ n. (n ≡ sum.now.units) × ((fs : List Forest) (r : Rest) (k : State → Plan)
+        → costs.pay (weight_cost sum.now) (image fs r w store.now) k
+        ≡ k (with_counts (image fs r w store.now) (costs.sum (image fs r w store.now).own.counts (weight_cost sum.now))))) }
+{
+    let paid = store.counts(Owner::Widget(w));
+    if sum.units > (UNIT_LIMIT - paid.units) as usize {
+        return Err(StopCause::Units);
+    }
+    if sum.cells > (CELL_LIMIT - paid.cells) as usize {
+        return Err(StopCause::Cells);
+    }
+    if sum.slots > (SLOT_LIMIT - paid.slots) as usize {
+        return Err(StopCause::Slots);
+    }
+    Ok(sum.units as u32)
+}
+
+// Units are paid; that they can be is known before.
+fn pay(store: &mut Store, w: u32, units: u32) -> Result<(), Memory>
+    requires { w < 32 }
+    ensures paid { OnOk result ((fs : List Forest) (r : Rest) (k : State → Plan)
+        → costs.pay (units_cost units) (image fs r w store.old) k ≡ k (image fs r w store.new)) }
+    ensures kept { (fs : List Forest) → Kept fs w store.old store.new }
+{
+    match pay_units(store, w, units) {
+        Paid::Done => Ok(()),
+        Paid::Stop(_) => Err(Memory),
+    }
+}
