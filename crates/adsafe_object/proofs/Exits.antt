@@ -1,0 +1,104 @@
+-- How an answer meets its plan where notes change, or the widget is confined.
+use Rattle.std.proofs.Common.{◌≡◌, ℕ, ℤ, ◌+◌, ◌<◌, List, [], length, refl, sym, ap, subst, arith, Option, None}
+use Rattle.js_tree.specs.Forest.{Forest}
+use Rattle.store_cells.specs.declared.value.Value.{Value as StoreValue}
+use Rattle.store_cells.specs.Cells.{Cells}
+use Rattle.widget_meaning.specs.Values.{Value}
+use Rattle.widget_meaning.specs.OwnState.{State}
+use Rattle.widget_meaning.specs.Plan.{Plan, charge}
+use Rattle.js_image.specs.Held.{IsConfined}
+use Rattle.js_image.specs.Image.{Rest, image, no_rest, seen}
+use Rattle.js_image.proofs.Grown.{kept_same}
+use Rattle.js_values.specs.Answers.{Answers, IsFineOut, IsOutOfFuel, Leaves}
+use Rattle.js_values.specs.Fuel.{Fuel}
+use Rattle.js_values.specs.declared.outcome.NativeOut.{NativeOut}
+use Rattle.js_values.specs.declared.outcome.NativeOut.TheVariants as native
+use Rattle.js_values.proofs.Answered.{charged_answers, free_answers, lacking_answers}
+use Rattle.native_forms.specs.Meets.{Ends, Meets}
+use Rattle.adsafe_object.specs.Ends.{EndsConfined, EndsNoted, MeetsNoted}
+use Rattle.adsafe_object.specs.Notes.{Notes, noted}
+
+module _ (w waiting : ℕ) (old new : Cells) (before after : Notes) where
+  -- an answer before any charge
+  pub noted_free : (plan : ℕ → State → Plan) (o : NativeOut) (had : Fuel) → EndsNoted w waiting old new before after plan o → MeetsNoted w waiting old new had had before after plan o
+  noted_free plan o had h = record {
+    answer = λ fs r node d confined few. free_answers (seen w new.cells) node d (image fs (noted w old.cells before r) w old) (image fs (noted w new.cells after r) w new) o (plan d (image fs (noted w old.cells before r) w old)) had.left had.left refl (h.leaves fs r node d few);
+    fine = λ fs confined. h.fine;
+    spent = refl;
+    unpaid = λ f. absurd (h.paid f);
+    kept = h.kept;
+  }
+
+  -- a charge was taken, and the answer is what is left
+  pub noted_charged : (n : ℕ) (plan : ℕ → State → Plan) (o : NativeOut) (had has : Fuel) → had.left ≡ n + has.left → has.spent ≡ had.spent + n → EndsNoted w waiting old new before after plan o
+      → MeetsNoted w waiting old new had has before after (λ d s. charge n s (plan d s)) o
+  noted_charged n plan o had has left spent h = record {
+    answer = λ fs r node d confined few. charged_answers (seen w new.cells) node d (image fs (noted w old.cells before r) w old) (image fs (noted w new.cells after r) w new) o n (plan d (image fs (noted w old.cells before r) w old)) had.left has.left left (h.leaves fs r node d few);
+    fine = λ fs confined. h.fine;
+    spent = omega (arith, left, spent);
+    unpaid = λ f. absurd (h.paid f);
+    kept = h.kept;
+  }
+
+  -- a plan that is the same at the image
+  pub noted_same : (p q : ℕ → State → Plan) (o : NativeOut) (had has : Fuel) → ((fs : List Forest) (r : Rest) (d : ℕ) → p d (image fs r w old) ≡ q d (image fs r w old)) → MeetsNoted w waiting old new had has before after q o → MeetsNoted w waiting old new had has before after p o
+  noted_same p q o had has e h = record {
+    answer = λ fs r node d confined few. subst (λ (x : Plan). Answers (seen w new.cells) node d x (image fs (noted w old.cells before r) w old) o (image fs (noted w new.cells after r) w new) had.left has.left) (sym (e fs (noted w old.cells before r) d)) (h.answer fs r node d confined few);
+    fine = h.fine;
+    spent = h.spent;
+    unpaid = h.unpaid;
+    kept = h.kept;
+  }
+
+-- a charge that is not there
+noted_lacking : (w waiting : ℕ) (old : Cells) (notes : Notes) (n : ℕ) (plan : ℕ → State → Plan) (had : Fuel) → had.left < n → MeetsNoted w waiting old old had had notes notes (λ d s. charge n s (plan d s)) native.OutOfFuel
+noted_lacking w waiting old notes n plan had lt = record {
+  answer = λ fs r node d confined few. lacking_answers (seen w old.cells) node d (image fs (noted w old.cells notes r) w old) (image fs (noted w old.cells notes r) w old) n (plan d (image fs (noted w old.cells notes r) w old)) had.left had.left lt refl;
+  fine = λ fs confined. tt;
+  spent = refl;
+  unpaid = λ f. (refl, refl, refl);
+  kept = λ fs. kept_same fs w old old refl;
+}
+
+pub noted_refused : (w waiting : ℕ) (old : Cells) (notes : Notes) (n : ℕ) (plan : ℕ → State → Plan) (had has : Fuel) → had.left < n → has ≡ had → MeetsNoted w waiting old old had has notes notes (λ d s. charge n s (plan d s)) native.OutOfFuel
+noted_refused w waiting old notes n plan had has lt same = subst (λ (f : Fuel). MeetsNoted w waiting old old had f notes notes (λ d s. charge n s (plan d s)) native.OutOfFuel) (sym same) (noted_lacking w waiting old notes n plan had lt)
+
+module _ (w waiting : ℕ) (old new : Cells) (had has : Fuel) (log : List (List ℕ)) (posts : List (List ℕ × List ℕ)) (plan : ℕ → State → Plan) (o : NativeOut) where
+  abbrev with_timer : Option (ℕ × ℤ) → Notes
+  with_timer asked = record { log = log; posts = posts; asked = asked }
+
+  -- a native that changes no notes
+  pub meets_keeps : (asked : Option (ℕ × ℤ)) → asked ≡ None → Meets w old new had has plan o → MeetsNoted w waiting old new had has (with_timer None) (with_timer asked) plan o
+  meets_keeps asked none h = subst (λ a. MeetsNoted w waiting old new had has (with_timer None) (with_timer a) plan o) (sym none) (record {
+    answer = λ fs r node d confined few. h.answer fs (noted w old.cells (with_timer None) r) node d;
+    fine = λ fs confined. h.fine;
+    spent = h.spent;
+    unpaid = λ f. ((h.unpaid f).0, (h.unpaid f).1, refl);
+    kept = h.kept;
+  })
+
+  -- the same where the widget is confined, and no fuel is asked for
+  pub ends_keeps : (asked : Option (ℕ × ℤ)) → asked ≡ None → has ≡ had → EndsConfined w old new plan o → MeetsNoted w waiting old new had has (with_timer None) (with_timer asked) plan o
+  ends_keeps asked none same h = subst (λ a. MeetsNoted w waiting old new had has (with_timer None) (with_timer a) plan o) (sym none) (record {
+    answer = λ fs r node d confined few. free_answers (seen w new.cells) node d (image fs (noted w old.cells (with_timer None) r) w old) (image fs (noted w old.cells (with_timer None) r) w new) o (plan d (image fs (noted w old.cells (with_timer None) r) w old)) had.left has.left (ap (λ f. f.left) (sym same)) (h.leaves fs (noted w old.cells (with_timer None) r) node d confined);
+    fine = h.fine;
+    spent = ap (λ f. f.left + f.spent) same;
+    unpaid = λ f. absurd (h.paid f);
+    kept = h.kept;
+  })
+
+  -- the same of a plan that is the same
+  pub meets_run : (asked : Option (ℕ × ℤ)) → asked ≡ None → (p : ℕ → State → Plan) → ((d : ℕ) (s : State) → p d s ≡ plan d s) → Meets w old new had has plan o → MeetsNoted w waiting old new had has (with_timer None) (with_timer asked) p o
+  meets_run asked none p e h = noted_same w waiting old new (with_timer None) (with_timer asked) p plan o had has (λ fs r d. e d (image fs r w old)) (meets_keeps asked none h)
+
+  pub confined_run : (asked : Option (ℕ × ℤ)) → asked ≡ None → (p : ℕ → State → Plan) → ((d : ℕ) (s : State) → p d s ≡ plan d s) → has ≡ had → EndsConfined w old new plan o → MeetsNoted w waiting old new had has (with_timer None) (with_timer asked) p o
+  confined_run asked none p e same h = noted_same w waiting old new (with_timer None) (with_timer asked) p plan o had has (λ fs r d. e d (image fs r w old)) (ends_keeps asked none same h)
+
+-- a native that changes the log or the posts, and asks for no timer
+pub noted_run : (w waiting : ℕ) (old new : Cells) (had has : Fuel) (log more : List (List ℕ)) (posts kept : List (List ℕ × List ℕ)) (plan : ℕ → State → Plan) (o : NativeOut) (asked : Option (ℕ × ℤ)) → asked ≡ None
+    → (p : ℕ → State → Plan) → ((d : ℕ) (s : State) → p d s ≡ plan d s)
+    → MeetsNoted w waiting old new had has (record { log = log; posts = posts; asked = None }) (record { log = more; posts = kept; asked = None }) plan o
+    → MeetsNoted w waiting old new had has (record { log = log; posts = posts; asked = None }) (record { log = more; posts = kept; asked = asked }) p o
+noted_run w waiting old new had has log more posts kept plan o asked none p e h =
+    subst (λ a. MeetsNoted w waiting old new had has (record { log = log; posts = posts; asked = None }) (record { log = more; posts = kept; asked = a }) p o) (sym none)
+    (noted_same w waiting old new _ _ p plan o had has (λ fs r d. e d (image fs r w old)) h)

@@ -1,0 +1,95 @@
+-- Texts that are too many, and the arguments of natives.
+use Rattle.std.proofs.Common.{◌≡◌, ℕ, zero, suc, ◌+◌, ◌<◌, List, [], ◌∷◌, length, map, refl, sym, ap, ◌∙◌, subst, arith, Bool, true, false, Option, None, Some, if◌then◌else◌, is_some, slice_get, sum_by, unwrap_or}
+use Rattle.std.specs.Prelude.{nat_lt}
+use Rattle.std.specs.List.{list_any}
+use Rattle.std.proofs.lemmas.Bool.Decides.{nat_tests}
+use Rattle.permitted_table.specs.declared.native.NativeId.{NativeId}
+use Rattle.permitted_table.specs.declared.native.NativeId.TheVariants as native
+use Rattle.store_cells.specs.declared.value.Value.{Value as StoreValue}
+use Rattle.store_cells.specs.declared.value.Value.TheVariants as value
+use Rattle.store_cells.specs.Cells.{PlainCell}
+use Rattle.widget_meaning.specs.Limits.{max_cells, max_nodes, max_slots, max_units}
+use Rattle.widget_meaning.specs.Values as meaning
+use Rattle.widget_meaning.specs.Values.{Value, Own, Truth, nth}
+use Rattle.widget_meaning.specs.OwnState.{State, array_length, kind_of, new_array, with_new_cell}
+use Rattle.widget_meaning.specs.Plan.{Plan, Halt}
+use Rattle.widget_meaning.specs.Costs.{cost, give, sum, with_counts}
+use Rattle.widget_meaning.specs.NativeForms.{give_texts, is_too_long, make_array, numbered_pairs}
+use Rattle.widget_meaning.specs.AdsafeNatives.{create, get_native, keys_native, later, log_native, post, remove_native, set_native}
+use Rattle.widget_meaning.specs.Natives.{run_native}
+use Rattle.js_image.specs.Image.{all_seen, seen}
+use Rattle.js_image.specs.Held.{AreFine, IsFine}
+use Rattle.js_image.specs.declared.outcome.StopCause.TheVariants as cause
+use Rattle.js_image.specs.Plans.{meant_cause}
+use Rattle.native_forms.proofs.Seen.{nth_seen}
+use Rattle.adsafe_object.specs.Names.{too_many}
+
+-- more units than a widget may have
+units_stop : (vs : List Value) (n : ℕ) (s : State) → max_units < n → make_array vs n s give ≡ Halt meaning.Units s
+units_stop vs n s h =
+    let a = sum s.own.counts (cost n 1 (length vs) 0) in
+    let p : Plan = give (Own (length s.own.heap)) (with_new_cell (with_counts s a) (new_array (length vs) (numbered_pairs 0 vs))) in
+    ap (λ b. if b then Halt meaning.Units s else if nat_lt max_cells a.cells then Halt meaning.Cells s else if nat_lt max_slots a.slots then Halt meaning.Slots s else if nat_lt max_nodes a.nodes then Halt meaning.Nodes s else p) (over s.own.counts.units n h)
+  where
+    over : (m n : ℕ) → max_units < n → nat_lt max_units (m + n) ≡ true
+    over m n h = grind (arith, nat_tests, h)
+
+pub texts_stop : (ts : List (List ℕ)) (s : State) → max_units < sum_by length ts → give_texts ts s ≡ Halt (meant_cause (too_many ts)) s
+texts_stop ts s h = by (list_any is_too_long ts) refl
+  where
+    by : (b : Bool) → list_any is_too_long ts ≡ b → give_texts ts s ≡ Halt (meant_cause (too_many ts)) s
+    by true e = ap (λ b. if b then Halt meaning.LongText s else make_array (map meaning.Text ts) (sum_by length ts) s give) e ∙ sym (ap (λ b. Halt (meant_cause (if b then cause.LongText else cause.Units)) s) e)
+    by false e =
+        ap (λ b. if b then Halt meaning.LongText s else make_array (map meaning.Text ts) (sum_by length ts) s give) e
+        ∙ units_stop (map meaning.Text ts) (sum_by length ts) s h
+        ∙ sym (ap (λ b. Halt (meant_cause (if b then cause.LongText else cause.Units)) s) e)
+
+-- ## Arguments
+
+-- an argument may be held
+pub nth_fine : (w : ℕ) (cells : List PlainCell) (vs : List StoreValue) (n : ℕ) → AreFine w cells vs → IsFine w cells (unwrap_or (slice_get vs n) value.Undefined)
+nth_fine w cells [] n h = tt
+nth_fine w cells (v ∷ vs) zero h = h.0
+nth_fine w cells (v ∷ vs) (suc n) h = nth_fine w cells vs n h.1
+
+module _ (w : ℕ) (cells : List PlainCell) (args : List StoreValue) (this : Option Value) (which : NativeId) where
+  abbrev vs : List Value
+  vs = all_seen w cells args
+
+  abbrev IsNth : ℕ → StoreValue → Type 0
+  IsNth n v = v ≡ unwrap_or (slice_get args n) value.Undefined
+
+  abbrev run : NativeId → ℕ → State → Plan
+  run n d s = run_native n this vs d s
+
+  arg : (n : ℕ) (v : StoreValue) → IsNth n v → nth n vs ≡ seen w cells v
+  arg n v e = nth_seen w cells args n ∙ ap (seen w cells) (sym e)
+
+  module _ (a : StoreValue) (first : IsNth 0 a) where
+    pub create_is : which ≡ native.Create → (d : ℕ) (s : State) → run which d s ≡ create (seen w cells a) s
+    create_is is d s = ap (λ n. run n d s) is ∙ ap (λ v. create v s) (arg 0 a first)
+
+    pub is_array_is : which ≡ native.IsArray → (d : ℕ) (s : State) → run which d s ≡ give (Truth (is_some (array_length (kind_of s (seen w cells a))))) s
+    is_array_is is d s = ap (λ n. run n d s) is ∙ ap (λ v. give (Truth (is_some (array_length (kind_of s v)))) s) (arg 0 a first)
+
+    pub keys_is : which ≡ native.Keys → (d : ℕ) (s : State) → run which d s ≡ keys_native (seen w cells a) s
+    keys_is is d s = ap (λ n. run n d s) is ∙ ap (λ v. keys_native v s) (arg 0 a first)
+
+    pub log_is : which ≡ native.Log → (d : ℕ) (s : State) → run which d s ≡ log_native (seen w cells a) s
+    log_is is d s = ap (λ n. run n d s) is ∙ ap (λ v. log_native v s) (arg 0 a first)
+
+    module _ (b : StoreValue) (second : IsNth 1 b) where
+      pub get_is : which ≡ native.Get → (d : ℕ) (s : State) → run which d s ≡ get_native (seen w cells a) (seen w cells b) s
+      get_is is d s = ap (λ n. run n d s) is ∙ (λ j. get_native (arg 0 a first j) (arg 1 b second j) s)
+
+      pub remove_is : which ≡ native.Remove → (d : ℕ) (s : State) → run which d s ≡ remove_native (seen w cells a) (seen w cells b) s
+      remove_is is d s = ap (λ n. run n d s) is ∙ (λ j. remove_native (arg 0 a first j) (arg 1 b second j) s)
+
+      pub later_is : which ≡ native.Later → (d : ℕ) (s : State) → run which d s ≡ later (seen w cells a) (seen w cells b) s
+      later_is is d s = ap (λ n. run n d s) is ∙ (λ j. later (arg 0 a first j) (arg 1 b second j) s)
+
+      pub post_is : which ≡ native.Post → (d : ℕ) (s : State) → run which d s ≡ post (seen w cells a) (seen w cells b) s
+      post_is is d s = ap (λ n. run n d s) is ∙ (λ j. post (arg 0 a first j) (arg 1 b second j) s)
+
+      pub set_is : (x : StoreValue) → IsNth 2 x → which ≡ native.Set → (d : ℕ) (s : State) → run which d s ≡ set_native (seen w cells a) (seen w cells b) (seen w cells x) s
+      set_is x third is d s = ap (λ n. run n d s) is ∙ (λ j. set_native (arg 0 a first j) (arg 1 b second j) (arg 2 x third j) s)

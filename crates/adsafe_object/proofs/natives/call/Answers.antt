@@ -1,0 +1,8 @@
+use Rattle.std.proofs.Common.{ℕ, List, OnErr, sym, ap, subst}
+use Rattle.js_tree.specs.Forest.{Forest}
+use Rattle.store_cells.specs.Cells.{number_in}
+use Rattle.js_image.specs.Held.{Kept}
+use Rattle.adsafe_object.proofs.natives.call.Goals as goal
+
+pub returns-clause-memory : goal.returns-clause-memory
+returns-clause-memory c = subst (λ (n : ℕ). OnErr c.run.result ((fs : List Forest) → Kept fs n c.args.store.now c.run.new.store)) (sym (ap number_in c.in-Widget.is)) c.run.ensures.memory

@@ -1,0 +1,80 @@
+use Rattle.std.proofs.Common.{◌≡◌, refl, sym, ap, ◌∙◌, subst, is_some}
+use Rattle.std.proofs.lemmas.Result.{IfOk-weaker}
+use Rattle.widget_meaning.specs.Values.{Truth}
+use Rattle.widget_meaning.specs.OwnState.{array_length, kind_of}
+use Rattle.widget_meaning.specs.Costs.{give}
+use Rattle.widget_meaning.specs.AdsafeNatives.{create, get_native, keys_native, later, log_native, post, remove_native, set_native}
+use Rattle.js_image.specs.Image.{image, seen}
+use Rattle.js_image.specs.Held.{IsFine}
+use Rattle.native_forms.proofs.Meeting.{meets_free}
+use Rattle.native_forms.specs.Receivers.{receiver}
+use Rattle.adsafe_object.proofs.Exits.{confined_run, meets_run, noted_free, noted_run, noted_same}
+use Rattle.adsafe_object.proofs.Lists.{create_is, get_is, is_array_is, keys_is, later_is, log_is, nth_fine, post_is, remove_is, set_is}
+use Rattle.adsafe_object.proofs.natives.run.Goals as goal
+
+pub returns-in-Get-clause-native : goal.returns-in-Get-clause-native
+returns-in-Get-clause-native c = IfOk-weaker c.get.result _ _ (λ o h.
+    confined_run c.args.w c.args.waiting c.args.store.now c.args.store.now c.args.meter.now c.args.meter.now c.args.log.now.items c.args.posts.now.items _ o c.args.asked.now c.requires.unasked _
+    (get_is c.args.w c.args.store.now.cells c.args.args.now (receiver c.args.w c.args.store.now.cells c.args.this.now) c.args.which c.nth-first.result.now c.nth-first.ensures c.nth-second.result.now c.nth-second.ensures c.in-Get.is) refl h) c.get.ensures
+
+pub set-requires-clause-object : goal.set-requires-clause-object
+set-requires-clause-object c = subst (IsFine c.args.w c.args.store.now.cells) (sym c.nth-first.ensures) (nth_fine c.args.w c.args.store.now.cells c.args.args.now 0 c.requires.args)
+
+pub set-requires-clause-value : goal.set-requires-clause-value
+set-requires-clause-value c = subst (IsFine c.args.w c.args.store.now.cells) (sym c.nth.ensures) (nth_fine c.args.w c.args.store.now.cells c.args.args.now 2 c.requires.args)
+
+pub returns-in-Set-clause-native : goal.returns-in-Set-clause-native
+returns-in-Set-clause-native c = IfOk-weaker c.set.result _ _ (λ o h.
+    meets_run c.args.w c.args.waiting c.args.store.now c.set.new.store c.args.meter.now c.args.meter.now c.args.log.now.items c.args.posts.now.items _ o c.args.asked.now c.requires.unasked _
+    (set_is c.args.w c.args.store.now.cells c.args.args.now (receiver c.args.w c.args.store.now.cells c.args.this.now) c.args.which c.nth-first.result.now c.nth-first.ensures c.nth-second.result.now c.nth-second.ensures c.nth.result.now c.nth.ensures c.in-Set.is) (meets_free _ _ _ _ _ _ h)) c.set.ensures.ends
+
+pub remove-requires : goal.remove-requires
+remove-requires c = subst (IsFine c.args.w c.args.store.now.cells) (sym c.nth-first.ensures) (nth_fine c.args.w c.args.store.now.cells c.args.args.now 0 c.requires.args)
+
+pub returns-in-Remove-clause-native : goal.returns-in-Remove-clause-native
+returns-in-Remove-clause-native c = IfOk-weaker c.remove.result _ _ (λ o h.
+    meets_run c.args.w c.args.waiting c.args.store.now c.remove.new.store c.args.meter.now c.args.meter.now c.args.log.now.items c.args.posts.now.items _ o c.args.asked.now c.requires.unasked _
+    (remove_is c.args.w c.args.store.now.cells c.args.args.now (receiver c.args.w c.args.store.now.cells c.args.this.now) c.args.which c.nth-first.result.now c.nth-first.ensures c.nth-second.result.now c.nth-second.ensures c.in-Remove.is) (meets_free _ _ _ _ _ _ h)) c.remove.ensures.ends
+
+pub create-requires-clause-object : goal.create-requires-clause-object
+create-requires-clause-object c = subst (IsFine c.args.w c.args.store.now.cells) (sym c.nth-first.ensures) (nth_fine c.args.w c.args.store.now.cells c.args.args.now 0 c.requires.args)
+
+pub returns-in-Create-clause-native : goal.returns-in-Create-clause-native
+returns-in-Create-clause-native c = IfOk-weaker c.create.result _ _ (λ o h.
+    confined_run c.args.w c.args.waiting c.args.store.now c.create.new.store c.args.meter.now c.args.meter.now c.args.log.now.items c.args.posts.now.items _ o c.args.asked.now c.requires.unasked _
+    (create_is c.args.w c.args.store.now.cells c.args.args.now (receiver c.args.w c.args.store.now.cells c.args.this.now) c.args.which c.nth-first.result.now c.nth-first.ensures c.in-Create.is) refl h) c.create.ensures.ends
+
+pub is_array-requires : goal.is_array-requires
+is_array-requires c = subst (IsFine c.args.w c.args.store.now.cells) (sym c.nth-first.ensures) (nth_fine c.args.w c.args.store.now.cells c.args.args.now 0 c.requires.args)
+
+pub returns-in-IsArray-clause-native : goal.returns-in-IsArray-clause-native
+returns-in-IsArray-clause-native c =
+    meets_run c.args.w c.args.waiting c.args.store.now c.args.store.now c.args.meter.now c.args.meter.now c.args.log.now.items c.args.posts.now.items _ _ c.args.asked.now c.requires.unasked _
+    (is_array_is c.args.w c.args.store.now.cells c.args.args.now (receiver c.args.w c.args.store.now.cells c.args.this.now) c.args.which c.nth-first.result.now c.nth-first.ensures c.in-IsArray.is) (meets_free _ _ _ _ _ _ c.is_array.ensures)
+
+pub keys-requires-clause-object : goal.keys-requires-clause-object
+keys-requires-clause-object c = subst (IsFine c.args.w c.args.store.now.cells) (sym c.nth-first.ensures) (nth_fine c.args.w c.args.store.now.cells c.args.args.now 0 c.requires.args)
+
+pub returns-in-Keys-clause-native : goal.returns-in-Keys-clause-native
+returns-in-Keys-clause-native c = IfOk-weaker c.keys.result _ _ (λ o h.
+    meets_run c.args.w c.args.waiting c.args.store.now c.keys.new.store c.args.meter.now c.keys.new.meter c.args.log.now.items c.args.posts.now.items _ o c.args.asked.now c.requires.unasked _
+    (keys_is c.args.w c.args.store.now.cells c.args.args.now (receiver c.args.w c.args.store.now.cells c.args.this.now) c.args.which c.nth-first.result.now c.nth-first.ensures c.in-Keys.is) h) c.keys.ensures.native
+
+pub later-requires-clause-func : goal.later-requires-clause-func
+later-requires-clause-func c = subst (IsFine c.args.w c.args.store.now.cells) (sym c.nth-first.ensures) (nth_fine c.args.w c.args.store.now.cells c.args.args.now 0 c.requires.args)
+
+pub returns-in-Later-clause-native : goal.returns-in-Later-clause-native
+returns-in-Later-clause-native c =
+    noted_same c.args.w c.args.waiting c.args.store.now c.args.store.now _ _ _ _ _ c.args.meter.now c.args.meter.now
+    (λ fs r d. later_is c.args.w c.args.store.now.cells c.args.args.now (receiver c.args.w c.args.store.now.cells c.args.this.now) c.args.which c.nth-first.result.now c.nth-first.ensures c.nth-second.result.now c.nth-second.ensures c.in-Later.is d (image fs r c.args.w c.args.store.now))
+    (noted_free c.args.w c.args.waiting c.args.store.now c.args.store.now _ _ _ _ c.args.meter.now (c.later.ensures c.args.log.now.items c.args.posts.now.items))
+
+pub returns-in-Log-clause-native : goal.returns-in-Log-clause-native
+returns-in-Log-clause-native c = IfOk-weaker c.log.result _ _ (λ o h.
+    noted_run c.args.w c.args.waiting c.args.store.now c.log.new.store c.args.meter.now c.log.new.meter c.args.log.now.items c.log.new.log.items c.args.posts.now.items c.args.posts.now.items _ o c.args.asked.now c.requires.unasked _
+    (log_is c.args.w c.args.store.now.cells c.args.args.now (receiver c.args.w c.args.store.now.cells c.args.this.now) c.args.which c.nth-first.result.now c.nth-first.ensures c.in-Log.is) (h c.args.waiting c.args.posts.now.items)) c.log.ensures.native
+
+pub returns-in-Post-clause-native : goal.returns-in-Post-clause-native
+returns-in-Post-clause-native c = IfOk-weaker c.post.result _ _ (λ o h.
+    noted_run c.args.w c.args.waiting c.args.store.now c.post.new.store c.args.meter.now c.post.new.meter c.args.log.now.items c.args.log.now.items c.args.posts.now.items c.post.new.posts.items _ o c.args.asked.now c.requires.unasked _
+    (post_is c.args.w c.args.store.now.cells c.args.args.now (receiver c.args.w c.args.store.now.cells c.args.this.now) c.args.which c.nth-first.result.now c.nth-first.ensures c.nth-second.result.now c.nth-second.ensures c.in-Post.is) (h c.args.waiting c.args.log.now.items)) c.post.ensures.native

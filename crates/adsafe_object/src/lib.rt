@@ -1,0 +1,12 @@
+//! The natives of `ADSAFE`, and `hasOwnProperty`.
+#![tactic(auto)]
+
+mod laws;
+mod names;
+mod natives;
+mod notes;
+mod objects;
+mod properties;
+mod texts;
+
+pub use natives::call;

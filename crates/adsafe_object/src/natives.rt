@@ -1,0 +1,97 @@
+//! The one call of a native.
+ghost use Rattle.std.specs.Prelude.{◌≡◌, ◌<◌, ℕ, List, None, true, IfOk, OnErr};
+ghost use Rattle.js_tree.specs.Forest.{Forest};
+ghost use Rattle.store_cells.specs.Cells.{IsWidget, number_in};
+ghost use Rattle.widget_meaning.specs.Natives.{run_native};
+ghost use Rattle.js_image.specs.Image.{all_seen};
+ghost use Rattle.js_image.specs.Held.{AreFine, Kept};
+ghost use Rattle.native_forms.specs.Receivers.{IsReceiver, receiver};
+ghost use Rattle.adsafe_object.specs.Ends.{MeetsNoted};
+ghost use Rattle.adsafe_object.specs.Part.{is_part};
+
+use crate::notes::{later, log as log_value, post};
+use crate::objects::{create, is_array, keys};
+use crate::properties::{get, remove, set};
+use code_units::{Memory, Owner, Text};
+use js_values::{Meter, NativeOut};
+use native_forms::nth;
+use object_store::{CellId, NativeId, Store, Value};
+use std::alloc::Global;
+
+/// Calls a native of `ADSAFE`, or `hasOwnProperty`, whose unit was taken: the answer is the row of the
+/// language. `waiting` timers wait; what `later` asks for is left in `asked`, `log` is the widget's log,
+/// and `posts` are the posts that it has kept, each with receiver and text.
+pub fn call(
+    alloc: Global,
+    which: NativeId,
+    this: &Value,
+    args: &[Value],
+    store: &mut Store,
+    meter: &mut Meter,
+    owner: Owner,
+    log: &mut Vec<Text>,
+    waiting: u32,
+    asked: &mut Option<(CellId, i64)>,
+    posts: &mut Vec<(Text, Text)>,
+) -> Result<NativeOut, Memory>
+    requires part { is_part which ≡ true }
+    requires widget { IsWidget owner }
+    requires receiver { IsReceiver (number_in owner) store.old.cells this.now }
+    requires args { AreFine (number_in owner) store.old.cells args.now }
+    requires unasked { asked.old ≡ None }
+    ensures native { IfOk result (λ o.
+        MeetsNoted (number_in owner) waiting store.old store.new meter.old meter.new
+        (record { log = log.old.items; posts = posts.old.items; asked = None })
+        (record { log = log.new.items; posts = posts.new.items; asked = asked.new })
+        (run_native which (receiver (number_in owner) store.old.cells this.now) (all_seen (number_in owner) store.old.cells args.now)) o) }
+    ensures memory { OnErr result ((fs : List Forest) → Kept fs (number_in owner) store.old store.new) }
+{
+    let Owner::Widget(w) = owner else {
+        unreachable!()
+    };
+    run(
+        alloc, which, this, args, store, meter, w, log, waiting, asked, posts,
+    )
+}
+
+// The same for a widget by its number.
+fn run(
+    alloc: Global,
+    which: NativeId,
+    this: &Value,
+    args: &[Value],
+    store: &mut Store,
+    meter: &mut Meter,
+    w: u32,
+    log: &mut Vec<Text>,
+    waiting: u32,
+    asked: &mut Option<(CellId, i64)>,
+    posts: &mut Vec<(Text, Text)>,
+) -> Result<NativeOut, Memory>
+    requires part { is_part which ≡ true }
+    requires widget { w < 32 }
+    requires args { AreFine w store.old.cells args.now }
+    requires unasked { asked.old ≡ None }
+    ensures native { IfOk result (λ o.
+        MeetsNoted w waiting store.old store.new meter.old meter.new
+        (record { log = log.old.items; posts = posts.old.items; asked = None })
+        (record { log = log.new.items; posts = posts.new.items; asked = asked.new })
+        (run_native which (receiver w store.old.cells this.now) (all_seen w store.old.cells args.now)) o) }
+    ensures memory { OnErr result ((fs : List Forest) → Kept fs w store.old store.new) }
+{
+    let absent = Value::Undefined;
+    let first = nth(args, 0, &absent);
+    let second = nth(args, 1, &absent);
+    match which {
+        NativeId::Get => get(alloc, store, w, first, second),
+        NativeId::Set => set(alloc, store, w, first, second, nth(args, 2, &absent)),
+        NativeId::Remove => remove(alloc, store, w, first, second),
+        NativeId::Create => create(alloc, store, w, first),
+        NativeId::IsArray => Ok(is_array(store, w, first)),
+        NativeId::Keys => keys(alloc, store, meter, w, first),
+        NativeId::Later => Ok(later(store, w, first, second, waiting, asked)),
+        NativeId::Log => log_value(alloc, store, meter, w, first, log),
+        NativeId::Post => post(store, meter, w, first, second, posts),
+        _ => unreachable!(),
+    }
+}
