@@ -1,20 +1,17 @@
 -- How an answer meets its plan where notes change, or the widget is confined.
-use Rattle.std.proofs.Common.{◌≡◌, ℕ, ℤ, ◌+◌, ◌<◌, List, [], length, refl, sym, ap, subst, arith, Option, None}
+use Rattle.std.proofs.Common.{◌≡◌, ℕ, ℤ, ◌+◌, ◌<◌, List, refl, sym, ap, subst, arith, Option, None}
 use Rattle.js_tree.specs.Forest.{Forest}
-use Rattle.store_cells.specs.declared.value.Value.{Value as StoreValue}
 use Rattle.store_cells.specs.Cells.{Cells}
-use Rattle.widget_meaning.specs.Values.{Value}
 use Rattle.widget_meaning.specs.OwnState.{State}
 use Rattle.widget_meaning.specs.Plan.{Plan, charge}
-use Rattle.js_image.specs.Held.{IsConfined}
-use Rattle.js_image.specs.Image.{Rest, image, no_rest, seen}
+use Rattle.js_image.specs.Image.{Rest, image, seen}
 use Rattle.js_image.proofs.Grown.{kept_same}
-use Rattle.js_values.specs.Answers.{Answers, IsFineOut, IsOutOfFuel, Leaves}
+use Rattle.js_values.specs.Answers.{Answers}
 use Rattle.js_values.specs.Fuel.{Fuel}
 use Rattle.js_values.specs.declared.outcome.NativeOut.{NativeOut}
 use Rattle.js_values.specs.declared.outcome.NativeOut.TheVariants as native
 use Rattle.js_values.proofs.Answered.{charged_answers, free_answers, lacking_answers}
-use Rattle.native_forms.specs.Meets.{Ends, Meets}
+use Rattle.native_forms.specs.Meets.{Meets}
 use Rattle.adsafe_object.specs.Ends.{EndsConfined, EndsNoted, MeetsNoted}
 use Rattle.adsafe_object.specs.Notes.{Notes, noted}
 

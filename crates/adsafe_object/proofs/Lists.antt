@@ -1,5 +1,5 @@
 -- Texts that are too many, and the arguments of natives.
-use Rattle.std.proofs.Common.{◌≡◌, ℕ, zero, suc, ◌+◌, ◌<◌, List, [], ◌∷◌, length, map, refl, sym, ap, ◌∙◌, subst, arith, Bool, true, false, Option, None, Some, if◌then◌else◌, is_some, slice_get, sum_by, unwrap_or}
+use Rattle.std.proofs.Common.{◌≡◌, ℕ, zero, suc, ◌+◌, ◌<◌, List, [], ◌∷◌, length, map, refl, sym, ap, ◌∙◌, arith, Bool, true, false, Option, if◌then◌else◌, is_some, slice_get, sum_by, unwrap_or}
 use Rattle.std.specs.Prelude.{nat_lt}
 use Rattle.std.specs.List.{list_any}
 use Rattle.std.proofs.lemmas.Bool.Decides.{nat_tests}
@@ -16,6 +16,7 @@ use Rattle.widget_meaning.specs.Plan.{Plan, Halt}
 use Rattle.widget_meaning.specs.Costs.{cost, give, sum, with_counts}
 use Rattle.widget_meaning.specs.NativeForms.{give_texts, is_too_long, make_array, numbered_pairs}
 use Rattle.widget_meaning.specs.AdsafeNatives.{create, get_native, keys_native, later, log_native, post, remove_native, set_native}
+use Rattle.widget_meaning.specs.JsonValues.{from_json}
 use Rattle.widget_meaning.specs.Natives.{run_native}
 use Rattle.js_image.specs.Image.{all_seen, seen}
 use Rattle.js_image.specs.Held.{AreFine, IsFine}
@@ -77,6 +78,9 @@ module _ (w : ℕ) (cells : List PlainCell) (args : List StoreValue) (this : Opt
 
     pub log_is : which ≡ native.Log → (d : ℕ) (s : State) → run which d s ≡ log_native (seen w cells a) s
     log_is is d s = ap (λ n. run n d s) is ∙ ap (λ v. log_native v s) (arg 0 a first)
+
+    pub from_json_is : which ≡ native.FromJson → (d : ℕ) (s : State) → run which d s ≡ from_json (seen w cells a) s
+    from_json_is is d s = ap (λ n. run n d s) is ∙ ap (λ v. from_json v s) (arg 0 a first)
 
     module _ (b : StoreValue) (second : IsNth 1 b) where
       pub get_is : which ≡ native.Get → (d : ℕ) (s : State) → run which d s ≡ get_native (seen w cells a) (seen w cells b) s

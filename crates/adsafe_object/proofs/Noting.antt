@@ -1,14 +1,12 @@
 -- What the natives that change notes do, as the meaning has it.
-use Rattle.std.proofs.Common.{◌≡◌, ℕ, ℤ, ◌+◌, ◌<◌, ◌≤◌, List, [], ◌∷◌, ◌++◌, length, map, refl, sym, ap, ◌∙◌, arith, Bool, true, false, Option, None, Some, if◌then◌else◌}
+use Rattle.std.proofs.Common.{◌≡◌, ℕ, ℤ, ◌+◌, ◌<◌, ◌≤◌, List, [], ◌∷◌, ◌++◌, length, map, refl, sym, ap, ◌∙◌, arith, true, false, Option, None, Some, if◌then◌else◌}
 use Rattle.std.specs.Prelude.{nat_le, nat_lt}
 use Rattle.std.proofs.lemmas.Bool.Decides.{nat_tests}
 use Rattle.std.proofs.lemmas.List.{length-map, map-append}
 use Rattle.store_cells.specs.declared.value.Value.{Value as StoreValue}
 use Rattle.store_cells.specs.declared.value.Value.TheVariants as value
 use Rattle.store_cells.specs.declared.value.Number.TheVariants as number
-use Rattle.store_cells.specs.Cells.{PlainCell, own_count}
-use Rattle.object_store.specs.Owned as store
-use Rattle.object_store.specs.Owned.{visible_at}
+use Rattle.store_cells.specs.Cells.{PlainCell}
 use Rattle.widget_meaning.specs.Values as meaning
 use Rattle.widget_meaning.specs.Values.{Value, Undefined, Truth}
 use Rattle.widget_meaning.specs.OwnState.{Post, State}
@@ -16,7 +14,7 @@ use Rattle.widget_meaning.specs.Plan.{Plan, charge}
 use Rattle.widget_meaning.specs.Costs.{give, pay, throw, units_cost}
 use Rattle.widget_meaning.specs.AdsafeNatives.{keep_post, later_in, post, start_timer, with_post, with_timer}
 use Rattle.widget_meaning.specs.NativeForms.{want_primitives}
-use Rattle.js_image.specs.Image.{meant, seen}
+use Rattle.js_image.specs.Image.{seen}
 use Rattle.js_values.specs.Operands.{IsPrimitive, plain}
 use Rattle.js_values.proofs.Plain.{seen_plain}
 use Rattle.adsafe_object.specs.Notes.{post_of}

@@ -1,11 +1,10 @@
 -- What a value is, as the widget sees it.
-use Rattle.std.proofs.Common.{◌≡◌, ℕ, ◌<◌, List, length, refl, sym, ap, ◌∙◌, subst, Option, Some, None, Bool, true, false, cond, if◌then◌else◌, slice_get, is_some, arith}
-use Rattle.std.specs.Prelude.{Result, Ok, Err, OnErr, IfSome, ◌&&◌, ◌||◌, nat_eq}
+use Rattle.std.proofs.Common.{◌≡◌, ℕ, ◌<◌, List, length, refl, sym, ap, ◌∙◌, subst, Option, Some, None, Bool, true, false, if◌then◌else◌, slice_get, is_some, arith}
+use Rattle.std.specs.Prelude.{Result, Ok, Err, OnErr, IfSome, ◌&&◌, nat_eq}
 use Rattle.std.specs.Option.{option_map_or}
 use Rattle.std.proofs.lemmas.Bool.Decides.{nat_tests}
 use Rattle.js_tree.specs.Forest.{Forest}
 use Rattle.code_units.specs.declared.owner.Owner.{Owner}
-use Rattle.code_units.specs.declared.owner.Owner.TheVariants as whose
 use Rattle.store_cells.specs.declared.value.Value.{Value}
 use Rattle.store_cells.specs.declared.value.Value.TheVariants as value
 use Rattle.store_cells.specs.declared.value.Number.TheVariants as number
@@ -14,19 +13,19 @@ use Rattle.store_cells.specs.declared.kind.Form.{Form}
 use Rattle.store_cells.specs.declared.kind.Form.TheVariants as form
 use Rattle.store_cells.specs.Cells as cells_of
 use Rattle.store_cells.specs.Cells.{Cells, PlainCell, is_array, is_own, is_visible, is_visible_form, own_count}
-use Rattle.store_cells.specs.Host.{is_frozen_form, is_host_owner, leads_on}
+use Rattle.store_cells.specs.Host.{is_frozen_form}
 use Rattle.object_store.specs.Owned as store
 use Rattle.object_store.specs.Owned.{is_of, own_kind, visible_at}
 use Rattle.widget_meaning.specs.Values as meaning
-use Rattle.widget_meaning.specs.OwnState.{Cell, Kind, State, array_length, cell_at, kind_of}
+use Rattle.widget_meaning.specs.OwnState.{Cell, Kind, State, array_length, kind_of}
 use Rattle.widget_meaning.specs.AdsafeNatives.{is_prototype_kind}
-use Rattle.js_image.specs.Image.{Rest, entry_at, image, meant, meant_kind, seen}
+use Rattle.js_image.specs.Image.{Rest, image, meant, meant_kind, seen}
 use Rattle.js_image.specs.Held.{IsFine, IsHeld}
 use Rattle.js_image.specs.Laws.{AreLawful}
 use Rattle.js_image.specs.Reads.{cell_in}
 use Rattle.js_image.proofs.Chains.{leads_form, visible_form}
 use Rattle.js_image.proofs.Hosts.{get_there, host_link, leads_at}
-use Rattle.js_image.proofs.Puts.{cell_there, host_owner, hosts_cell, owner_is, permitted_else, shows}
+use Rattle.js_image.proofs.Puts.{cell_there, hosts_cell, owner_is, permitted_else, shows}
 use Rattle.adsafe_object.specs.Kinds.{base_in, is_array_in, is_array_kind, is_base, is_base_kind}
 
 false_true : false ≡ true → ⊥

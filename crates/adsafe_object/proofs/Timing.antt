@@ -1,5 +1,5 @@
 -- What `later` leaves.
-use Rattle.std.proofs.Common.{◌≡◌, ℕ, ℤ, List, length, refl, sym, ap, ◌∙◌, subst, Option, None, Some}
+use Rattle.std.proofs.Common.{◌≡◌, ℕ, ℤ, List, length, refl, sym, subst, Option, None, Some}
 use Rattle.js_tree.specs.Forest.{Forest}
 use Rattle.store_cells.specs.declared.value.Value.{Value as StoreValue}
 use Rattle.store_cells.specs.declared.value.Value.TheVariants as value

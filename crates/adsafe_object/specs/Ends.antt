@@ -1,5 +1,5 @@
 -- When a function carries out a native's plan at the image of a widget that is confined.
-use Rattle.std.specs.Prelude.{◌≡◌, ◌+◌, ℕ, List, length, None}
+use Rattle.std.specs.Prelude.{◌≡◌, ◌+◌, ℕ, List, length}
 use Rattle.js_tree.specs.Forest.{Forest}
 use Rattle.store_cells.specs.Cells.{Cells}
 use Rattle.widget_meaning.specs.OwnState.{State}

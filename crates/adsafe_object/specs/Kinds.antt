@@ -1,7 +1,6 @@
 -- What a value of the store is, by its cell.
 use Rattle.std.specs.Prelude.{ℕ, Bool, true, false, List, Option, None, Some, ◌&&◌, if◌then◌else◌, slice_get}
 use Rattle.std.specs.Option.{option_map_or}
-use Rattle.code_units.specs.declared.owner.Owner.{Owner}
 use Rattle.store_cells.specs.declared.kind.CellKind.{CellKind}
 use Rattle.store_cells.specs.declared.kind.CellKind.TheVariants as kind
 use Rattle.store_cells.specs.declared.value.Value.{Value}

@@ -3,7 +3,7 @@ use Rattle.std.specs.Prelude.{Bool, true, false}
 use Rattle.permitted_table.specs.declared.native.NativeId.{NativeId}
 use Rattle.permitted_table.specs.declared.native.NativeId.TheVariants as native
 
--- those of `ADSAFE`, and `hasOwnProperty`
+-- those of `ADSAFE`
 abbrev pub is_part : NativeId → Bool
 is_part native.Get = true
 is_part native.Set = true
@@ -14,4 +14,5 @@ is_part native.Keys = true
 is_part native.Later = true
 is_part native.Log = true
 is_part native.Post = true
+is_part native.FromJson = true
 is_part _ = false

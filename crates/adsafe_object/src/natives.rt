@@ -14,6 +14,7 @@ use crate::objects::{create, is_array, keys};
 use crate::properties::{get, remove, set};
 use code_units::{Memory, Owner, Text};
 use js_values::{Meter, NativeOut};
+use json_text::from_json;
 use native_forms::nth;
 use object_store::{CellId, NativeId, Store, Value};
 use std::alloc::Global;
@@ -92,6 +93,7 @@ fn run(
         NativeId::Later => Ok(later(store, w, first, second, waiting, asked)),
         NativeId::Log => log_value(alloc, store, meter, w, first, log),
         NativeId::Post => post(store, meter, w, first, second, posts),
+        NativeId::FromJson => from_json(alloc, store, meter, w, first),
         _ => unreachable!(),
     }
 }

@@ -1,15 +1,11 @@
-use Rattle.std.proofs.Common.{◌≡◌, refl, sym, ap, ◌∙◌, subst, is_some}
+use Rattle.std.proofs.Common.{refl, sym, subst}
 use Rattle.std.proofs.lemmas.Result.{IfOk-weaker}
-use Rattle.widget_meaning.specs.Values.{Truth}
-use Rattle.widget_meaning.specs.OwnState.{array_length, kind_of}
-use Rattle.widget_meaning.specs.Costs.{give}
-use Rattle.widget_meaning.specs.AdsafeNatives.{create, get_native, keys_native, later, log_native, post, remove_native, set_native}
-use Rattle.js_image.specs.Image.{image, seen}
+use Rattle.js_image.specs.Image.{image}
 use Rattle.js_image.specs.Held.{IsFine}
 use Rattle.native_forms.proofs.Meeting.{meets_free}
 use Rattle.native_forms.specs.Receivers.{receiver}
 use Rattle.adsafe_object.proofs.Exits.{confined_run, meets_run, noted_free, noted_run, noted_same}
-use Rattle.adsafe_object.proofs.Lists.{create_is, get_is, is_array_is, keys_is, later_is, log_is, nth_fine, post_is, remove_is, set_is}
+use Rattle.adsafe_object.proofs.Lists.{create_is, from_json_is, get_is, is_array_is, keys_is, later_is, log_is, nth_fine, post_is, remove_is, set_is}
 use Rattle.adsafe_object.proofs.natives.run.Goals as goal
 
 pub returns-in-Get-clause-native : goal.returns-in-Get-clause-native
@@ -78,3 +74,8 @@ pub returns-in-Post-clause-native : goal.returns-in-Post-clause-native
 returns-in-Post-clause-native c = IfOk-weaker c.post.result _ _ (λ o h.
     noted_run c.args.w c.args.waiting c.args.store.now c.post.new.store c.args.meter.now c.post.new.meter c.args.log.now.items c.args.log.now.items c.args.posts.now.items c.post.new.posts.items _ o c.args.asked.now c.requires.unasked _
     (post_is c.args.w c.args.store.now.cells c.args.args.now (receiver c.args.w c.args.store.now.cells c.args.this.now) c.args.which c.nth-first.result.now c.nth-first.ensures c.nth-second.result.now c.nth-second.ensures c.in-Post.is) (h c.args.waiting c.args.log.now.items)) c.post.ensures.native
+
+pub returns-in-FromJson-clause-native : goal.returns-in-FromJson-clause-native
+returns-in-FromJson-clause-native c = IfOk-weaker c.from_json.result _ _ (λ o h.
+    meets_run c.args.w c.args.waiting c.args.store.now c.from_json.new.store c.args.meter.now c.from_json.new.meter c.args.log.now.items c.args.posts.now.items _ o c.args.asked.now c.requires.unasked _
+    (from_json_is c.args.w c.args.store.now.cells c.args.args.now (receiver c.args.w c.args.store.now.cells c.args.this.now) c.args.which c.nth-first.result.now c.nth-first.ensures c.in-FromJson.is) h) c.from_json.ensures.native

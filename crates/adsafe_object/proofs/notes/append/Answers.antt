@@ -1,11 +1,8 @@
-use Rattle.std.proofs.Common.{◌≡◌, ℕ, ◌+◌, List, length, sym, ap, ◌∙◌, subst, None}
+use Rattle.std.proofs.Common.{ℕ, ◌+◌, List, length, sym, ap, ◌∙◌, None}
 use Rattle.widget_meaning.specs.Values.{Undefined}
-use Rattle.widget_meaning.specs.OwnState.{State}
-use Rattle.widget_meaning.specs.Plan.{Plan, Halt}
 use Rattle.widget_meaning.specs.Costs.{give, pay, units_cost}
 use Rattle.widget_meaning.specs.AdsafeNatives.{with_entry}
 use Rattle.js_image.specs.Image.{image}
-use Rattle.js_image.specs.Plans.{meant_cause}
 use Rattle.adsafe_object.specs.Notes.{noted}
 use Rattle.adsafe_object.proofs.notes.append.Goals as goal
 

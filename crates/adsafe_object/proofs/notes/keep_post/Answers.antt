@@ -1,6 +1,6 @@
-use Rattle.std.proofs.Common.{◌≡◌, ℕ, ◌+◌, List, [], ◌∷◌, ◌++◌, length, map, refl, sym, ap, ◌∙◌, None, true, arith}
+use Rattle.std.proofs.Common.{ℕ, ◌+◌, List, [], ◌∷◌, ◌++◌, length, map, refl, sym, ap, ◌∙◌, None, true, arith}
 use Rattle.widget_meaning.specs.Values.{Truth}
-use Rattle.widget_meaning.specs.OwnState.{Post, State, with_own}
+use Rattle.widget_meaning.specs.OwnState.{Post, with_own}
 use Rattle.widget_meaning.specs.Costs.{give, pay, units_cost}
 use Rattle.widget_meaning.specs.AdsafeNatives.{with_post}
 use Rattle.js_image.specs.Image.{image}

@@ -1,18 +1,13 @@
-use Rattle.std.proofs.Common.{◌≡◌, ℕ, ℤ, List, refl, sym, ap, ◌∙◌, subst, is_some, None, Some, Option, rules}
+use Rattle.std.proofs.Common.{ℤ, sym, ap, ◌∙◌, subst, is_some, None, Some, rules}
 use Rattle.std.specs.Int.{w64}
 use Rattle.std.proofs.lemmas.Int.{to_z-of_z}
 use mir.Val.{SFits}
-use Rattle.store_cells.specs.Cells.{own_count}
 use Rattle.widget_meaning.specs.Values as meaning
 use Rattle.widget_meaning.specs.Values.{Undefined, Value}
-use Rattle.widget_meaning.specs.OwnState.{State}
-use Rattle.widget_meaning.specs.Plan.{Plan}
 use Rattle.widget_meaning.specs.Costs.{give, want}
-use Rattle.widget_meaning.specs.AdsafeNatives.{later, later_in, start_timer, with_timer}
+use Rattle.widget_meaning.specs.AdsafeNatives.{later, later_in, with_timer}
 use Rattle.js_image.specs.Image.{image, seen}
-use Rattle.js_image.proofs.Grown.{kept_same}
 use Rattle.adsafe_object.specs.Ends.{EndsNoted}
-use Rattle.adsafe_object.specs.Notes.{Notes, noted}
 use Rattle.adsafe_object.proofs.Noting.{later_is, room_to, timed, too_many}
 use Rattle.adsafe_object.proofs.Timing.{refused, started}
 use Rattle.adsafe_object.proofs.notes.later.Goals as goal

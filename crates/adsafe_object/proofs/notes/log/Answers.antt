@@ -1,4 +1,4 @@
-use Rattle.std.proofs.Common.{◌≡◌, ℕ, ◌+◌, List, length, refl, sym, ap, ◌∙◌, None}
+use Rattle.std.proofs.Common.{ℕ, ◌+◌, length, refl, ap, ◌∙◌, None}
 use Rattle.std.proofs.lemmas.Result.{IfOk-weaker}
 use Rattle.widget_meaning.specs.Values.{Undefined}
 use Rattle.widget_meaning.specs.OwnState.{State}

@@ -1,16 +1,13 @@
-use Rattle.std.proofs.Common.{◌≡◌, ℕ, ◌≤◌, refl, ap, sym, ◌∙◌, subst, is_some, Some, true}
-use Rattle.store_cells.specs.declared.value.Value.{Value}
-use Rattle.store_cells.specs.declared.value.Value.TheVariants as value
+use Rattle.std.proofs.Common.{refl, ap, sym, ◌∙◌, subst, is_some}
 use Rattle.widget_meaning.specs.Plan.{Plan}
 use Rattle.widget_meaning.specs.Values as meaning
 use Rattle.widget_meaning.specs.Costs.{give, want}
 use Rattle.widget_meaning.specs.AdsafeNatives.{create_from}
 use Rattle.js_values.specs.Answers.{Leaves}
 use Rattle.js_image.specs.Image.{image, seen}
-use Rattle.js_image.specs.Held.{IsFine}
 use Rattle.js_image.proofs.Grown.{kept_same}
-use Rattle.adsafe_object.proofs.Shapes.{base_refers, base_some, on_err}
-use Rattle.adsafe_object.proofs.Lengths.{base_fits, chain_made, chain_refused}
+use Rattle.adsafe_object.proofs.Shapes.{base_some, on_err}
+use Rattle.adsafe_object.proofs.Lengths.{chain_made, chain_refused}
 use Rattle.adsafe_object.proofs.objects.create.Goals as goal
 
 pub returns-in_default-clause-ends : goal.returns-in_default-clause-ends

@@ -1,7 +1,6 @@
-use Rattle.std.proofs.Common.{◌≡◌, ℕ, List, length, refl, sym, ap, ◌∙◌, subst, arith}
+use Rattle.std.proofs.Common.{◌≡◌, length, sym, ap, ◌∙◌, subst, arith}
 use Rattle.widget_meaning.specs.Values as meaning
-use Rattle.widget_meaning.specs.OwnState.{State}
-use Rattle.widget_meaning.specs.Plan.{Plan, charge}
+use Rattle.widget_meaning.specs.Plan.{charge}
 use Rattle.widget_meaning.specs.Costs.{want}
 use Rattle.widget_meaning.specs.NativeForms.{give_texts}
 use Rattle.widget_meaning.specs.Properties.{keys}
