@@ -17,7 +17,7 @@ use Rattle.widget_meaning.specs.Operators.{binary}
 use Rattle.widget_meaning.specs.Properties.{index_name, put, read}
 use Rattle.widget_meaning.specs.Calls.{statements}
 use Rattle.widget_meaning.specs.Expressions.{and_right, arguments_then, array_parts, assign_target, assign_with, binary_right, callee, choose, converted_left, operate, or_right, refer, result, step_converted, step_target, subscript_read, subscript_target, unary_on, write}
-use Rattle.widget_meaning.specs.Statements.{branch, caught, expressions, finally, for_again, for_in_next, for_in_over, last_end, loop_test, switch_on}
+use Rattle.widget_meaning.specs.Statements.{branch, caught, expressions, finally, for_in_next, for_in_over, last_end, loop_test, switch_on}
 use Rattle.widget_meaning.specs.ListNatives.{call_each}
 use Rattle.widget_meaning.specs.BunchWrites.{each_called}
 use Rattle.js_image.specs.Image.{all_seen, seen}
@@ -39,7 +39,7 @@ use Rattle.js_flow.specs.declared.frame.Frame.TheVariants as frame
 use Rattle.js_flow.specs.Parts.{arguments_of, block_list, catch_of, clauses_of, decls_of, elements_of, else_of, finally_of, first_of, forest_at, last_of, loop_body, loop_of, properties_of, test_of, then_of, variable_of}
 use Rattle.js_flow.specs.Views.{completion_of, place_of, reference_of}
 use Rattle.js_flow.specs.Forms.{form_taken, property_done}
-use Rattle.js_flow.specs.Statements.{clause_tested, declared, loop_next, statement_taken}
+use Rattle.js_flow.specs.Statements.{clause_tested, declared, loop_again, loop_next, statement_taken}
 use Rattle.js_flow.specs.Calls.{call_taken, gathered}
 use Rattle.js_flow.specs.Frames.{over, rest, taken}
 use Rattle.js_flow.specs.Fine.{FineCallFrame, FineCompletion, FineForm, FineFrame, FineFrames, FineReference, FineStatement, IsPlace}
@@ -121,7 +121,7 @@ module _ (fs : List Forest) (w : ℕ) (old new : List PlainCell) (g : Grows w ol
   statement_same (statement.Branch k p) h = λ i. branch (then_of (stmt_at (forest_at fs p.code) k)) (else_of (stmt_at (forest_at fs p.code) k)) (place_same p h.0 i)
   statement_same (statement.Test k p) h = λ i. loop_test (loop_of (stmt_at (forest_at fs p.code) k)) (place_same p h.0 i)
   statement_same (statement.LoopNext k p) h = λ i. loop_next (loop_of (stmt_at (forest_at fs p.code) k)) (place_same p h.0 i)
-  statement_same (statement.ForAgain k p) h = λ i. for_again (test_of (stmt_at (forest_at fs p.code) k)) (last_of (stmt_at (forest_at fs p.code) k)) (stmt_list (loop_body (stmt_at (forest_at fs p.code) k))) (place_same p h.0 i)
+  statement_same (statement.ForAgain k p) h = λ i. loop_again (loop_of (stmt_at (forest_at fs p.code) k)) (place_same p h.0 i)
   statement_same (statement.ForInOver k p) h = λ i. for_in_over (variable_of (stmt_at (forest_at fs p.code) k)) (stmt_list (loop_body (stmt_at (forest_at fs p.code) k))) (place_same p h.0 i)
   statement_same (statement.ForInNext l p) h = λ i. for_in_next (seen_stays w old new g l.value.object h.0 i) (variable_of (stmt_at (forest_at fs p.code) l.value.id)) (drop l.value.at l.value.names.items)
       (stmt_list (loop_body (stmt_at (forest_at fs p.code) l.value.id))) (place_same p h.1.0 i)

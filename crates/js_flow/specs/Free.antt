@@ -1,5 +1,7 @@
 -- How much frames may take up before they come to a charge, a native or an end.
 use Rattle.std.specs.Prelude.{ℕ, ◌+◌, List, [], ◌∷◌}
+use Rattle.js_flow.specs.declared.job.Job.{Job}
+use Rattle.js_flow.specs.declared.job.Job.TheVariants as job
 use Rattle.js_flow.specs.declared.job.Next.{Next}
 use Rattle.js_flow.specs.declared.job.Next.TheVariants as next
 use Rattle.js_flow.specs.declared.frame.FormFrame.{FormFrame}
@@ -45,16 +47,21 @@ frame_free (frame.Form f) = form_free f
 frame_free (frame.Statement f) = statement_free f
 frame_free (frame.Call f) = call_free f
 
--- what a job is weighs at most this
+-- what an expression, a statement, a pass or a call is weighs at most this
 abbrev pub job_free : ℕ
 job_free = 15
+
+-- what a job is: a target may be an expression that begins with no charge
+abbrev pub job_weight : Job → ℕ
+job_weight (job.Target e p) = 17
+job_weight j = job_free
 
 -- what is next
 abbrev pub next_free : Next → ℕ
 next_free (next.Push f j) = frame_free f
 next_free (next.Push2 f g j) = frame_free f + frame_free g
 next_free (next.Go j) = 0
-next_free (next.Begin f j) = frame_free f + 16
+next_free (next.Begin f j) = frame_free f + (job_weight j + 1)
 next_free (next.Block f b p) = frame_free f + 2
 next_free (next.Block2 f g b p) = frame_free f + frame_free g + 2
 next_free (next.Run b p) = 2
@@ -66,7 +73,7 @@ next_free (next.Stop c) = 0
 
 -- what a task is at
 abbrev pub control_free : Control → ℕ
-control_free (control.Begin j) = 16
+control_free (control.Begin j) = job_weight j + 1
 control_free (control.Give o) = 1
 control_free (control.Pay n) = 2
 control_free c = 0

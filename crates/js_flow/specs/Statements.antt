@@ -8,7 +8,7 @@ use Rattle.widget_meaning.specs.Values as meaning
 use Rattle.widget_meaning.specs.Values.{Value, Completion}
 use Rattle.widget_meaning.specs.OwnState.{State}
 use Rattle.widget_meaning.specs.Plan as plan
-use Rattle.widget_meaning.specs.Plan.{Loop, Plan, Ret, after, on_normal}
+use Rattle.widget_meaning.specs.Plan.{Do, Loop, Plan, Ret, after, on_normal}
 use Rattle.widget_meaning.specs.Scopes.{assign}
 use Rattle.widget_meaning.specs.Calls.{statements}
 use Rattle.widget_meaning.specs.Statements.{Case, branch, case_tested, caught, declarations, do_next, expressions, finally, for_again, for_in_next, for_in_over, for_next, last_end, loop_test, switch_end, switch_on, while_next}
@@ -32,6 +32,13 @@ loop_next (plan.DoLoop b e) = do_next b e
 loop_next (plan.ForLoop test next b) = for_next test next b
 loop_next (plan.ForInLoop v x y ys b) = for_in_next v x ys b
 
+-- after the first part and the last part of a loop: its test
+abbrev pub loop_again : Loop → plan.Place → Completion → State → Plan
+loop_again (plan.WhileLoop e b) p o s = on_normal o s (Do (plan.Eval e p) s (loop_test (plan.WhileLoop e b) p))
+loop_again (plan.DoLoop b e) p o s = on_normal o s (Do (plan.Eval e p) s (loop_test (plan.DoLoop b e) p))
+loop_again (plan.ForLoop test next b) p o s = for_again test next b p o s
+loop_again (plan.ForInLoop v x y ys b) p o s = Ret o s
+
 -- after the test of the clause at the head of these
 abbrev pub clause_tested : Value → List Case → List Case → plan.Place → Completion → State → Plan
 clause_tested v all [] p o s = Ret o s
@@ -53,9 +60,7 @@ module _ (fs : List Forest) (w : ℕ) (cells : List PlainCell) where
       branch (then_of (stmt_at (forest_at fs p.code) i)) (else_of (stmt_at (forest_at fs p.code) i)) (place_of w cells p)
   statement_taken (frame.Test i p) = loop_test (loop_of (stmt_at (forest_at fs p.code) i)) (place_of w cells p)
   statement_taken (frame.LoopNext i p) = loop_next (loop_of (stmt_at (forest_at fs p.code) i)) (place_of w cells p)
-  statement_taken (frame.ForAgain i p) =
-      for_again (test_of (stmt_at (forest_at fs p.code) i)) (last_of (stmt_at (forest_at fs p.code) i))
-      (stmt_list (loop_body (stmt_at (forest_at fs p.code) i))) (place_of w cells p)
+  statement_taken (frame.ForAgain i p) = loop_again (loop_of (stmt_at (forest_at fs p.code) i)) (place_of w cells p)
   statement_taken (frame.ForInOver i p) =
       for_in_over (variable_of (stmt_at (forest_at fs p.code) i)) (stmt_list (loop_body (stmt_at (forest_at fs p.code) i))) (place_of w cells p)
   statement_taken (frame.ForInNext l p) =
