@@ -4,3 +4,8 @@ pub mod Weighed
 pub mod Sums
 pub mod Given
 pub mod Wholes
+pub mod Bodies
+pub mod Parts
+pub mod Texts
+pub mod Quoted
+pub mod Ended

@@ -4,7 +4,11 @@
 
 mod building;
 mod laws;
+mod quoting;
 mod reading;
+mod steps;
 mod weighing;
+mod writing;
 
 pub use reading::from_json;
+pub use writing::to_json;
