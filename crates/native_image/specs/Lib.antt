@@ -1,0 +1,3 @@
+pub mod Image
+pub mod Sound
+pub mod Meets
