@@ -1,27 +1,16 @@
-//! Runs command lines over files and a sink in memory, and writes which of them do not end as is
-//! wanted. A case of the files in data/ is a JSON object (crate `test_cases`):
+//! Command lines over files and a sink in memory, some of whose reads and writes fail. A case is a
+//! JSON object (crate `test_cases`):
 //!
 //! - `words` and `files`, the text of each by its name; a file that is not there is missing
 //! - `fail_reads` and `fail_writes`, where there are any: the numbers of the calls that fail, from 1
 //! - `room` and `per_call`, where there are limits: the bytes that the sink takes, and those of a call
 //! - `status` and `out`: what is wanted
-#![tactic(auto)]
-
 use adhost_run::run;
 use anyhow::{Result, bail};
 use host_io::{MemFiles, MemSink};
 use serde_json::Value;
 use std::alloc::Global;
-use std::fs;
-use test_cases::{bytes_of, list_at, text_at};
-
-const FILES: [&str; 5] = [
-    "words.jsonl",
-    "libraries.jsonl",
-    "tidied.jsonl",
-    "pages.jsonl",
-    "faults.jsonl",
-];
+use test_cases::{bytes_of, list_at};
 
 // The bytes that a sink may take in all, where a case does not say.
 const ROOM: u64 = 1_000_000;
@@ -33,26 +22,14 @@ struct Ending {
     out: Vec<u8>,
 }
 
-fn main(rt: HostRuntime) -> Result<()> {
-    let alloc = rt.alloc();
-    for file in FILES {
-        println!(rt; "## {file}")?;
-        let cases = fs::read_to_string(&rt, file)?;
-        let mut differing = Vec::new(alloc);
-        for line in cases.lines() {
-            let case = Value::from_str(alloc, line)?;
-            if ending_of(alloc, &case)? != wanted(alloc, &case)? {
-                differing.push(text_at(alloc, &case, "name")?)?;
-            }
-        }
-        let count = cases.lines().count();
-        let others = differing.len();
-        println!(rt; "{count} cases, {others} end otherwise")?;
-        for name in &differing {
-            println!(rt; "# {name}")?;
-        }
+/// Whether the command line of a case ends as is wanted.
+pub fn answer_of_command(alloc: Global, case: &Value) -> Result<String> {
+    let ends = ending_of(alloc, case)?;
+    if ends == wanted(alloc, case)? {
+        Ok(String::from_str(alloc, "as wanted\n")?)
+    } else {
+        Ok(String::from_str(alloc, "otherwise\n")?)
     }
-    Ok(())
 }
 
 // How the command line of a case ends.
