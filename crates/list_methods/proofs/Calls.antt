@@ -1,0 +1,40 @@
+-- A native of arrays is what it does with the Array that is its receiver.
+use Rattle.std.proofs.Common.{◌≡◌, ℕ, List, refl, sym, ap, ◌∙◌, Option, None, Some, true, false}
+use Rattle.js_tree.specs.Forest.{Forest}
+use Rattle.permitted_table.specs.declared.native.NativeId.{NativeId}
+use Rattle.permitted_table.specs.declared.native.NativeId.TheVariants as native
+use Rattle.store_cells.specs.declared.value.Value.{Value as StoreValue}
+use Rattle.store_cells.specs.Cells.{Cells}
+use Rattle.widget_meaning.specs.Values.{Value, E3}
+use Rattle.widget_meaning.specs.OwnState.{State}
+use Rattle.widget_meaning.specs.Plan.{Plan}
+use Rattle.widget_meaning.specs.Costs.{throw}
+use Rattle.widget_meaning.specs.Natives.{run_native}
+use Rattle.widget_meaning.specs.NativeForms.{on_array}
+use Rattle.js_image.specs.Image.{Rest, image}
+use Rattle.native_forms.specs.Receivers.{receiver}
+use Rattle.list_methods.specs.declared.array.OwnArray.{OwnArray}
+use Rattle.list_methods.specs.Arrays.{number, on_own}
+use Rattle.list_methods.specs.Parts.{is_part, method}
+
+false_true : false ≡ true → ⊥
+false_true h = cc
+
+natives_are : (which : NativeId) → is_part which ≡ true → (this : Option Value) (vs : List Value) (d : ℕ) (s : State) → run_native which this vs d s ≡ on_array this s (λ n len. method which n len vs d s)
+natives_are native.ArrayConcat h this vs d s = refl
+natives_are native.Pop h this vs d s = refl
+natives_are native.Push h this vs d s = refl
+natives_are native.ArraySlice h this vs d s = refl
+natives_are native.ForEach h this vs d s = refl
+natives_are native.Map h this vs d s = refl
+natives_are native.Filter h this vs d s = refl
+natives_are _ h this vs d s = absurd (false_true h)
+
+module _ (w : ℕ) (s : Cells) (this : StoreValue) (o : Option OwnArray) (plan : (fs : List Forest) (r : Rest) (k : ℕ → ℕ → Plan) → on_array (receiver w s.cells this) (image fs r w s) k ≡ on_own w s o (image fs r w s) k) (which : NativeId) (part : is_part which ≡ true) (vs : List Value) (fs : List Forest) (r : Rest) (d : ℕ) where
+  pub no_receiver : o ≡ None → run_native which (receiver w s.cells this) vs d (image fs r w s) ≡ throw E3 (image fs r w s)
+  no_receiver e = natives_are which part (receiver w s.cells this) vs d (image fs r w s) ∙ plan fs r (λ n len. method which n len vs d (image fs r w s)) ∙ ap (λ (p : Option OwnArray). on_own w s p (image fs r w s) (λ n len. method which n len vs d (image fs r w s))) e
+
+  pub called : (a : OwnArray) → o ≡ Some a → (is : NativeId) → which ≡ is → run_native which (receiver w s.cells this) vs d (image fs r w s) ≡ method is (number w s a) a.len vs d (image fs r w s)
+  called a e is same =
+      natives_are which part (receiver w s.cells this) vs d (image fs r w s) ∙ plan fs r (λ n len. method which n len vs d (image fs r w s)) ∙ ap (λ (p : Option OwnArray). on_own w s p (image fs r w s) (λ n len. method which n len vs d (image fs r w s))) e
+      ∙ ap (λ x. method x (number w s a) a.len vs d (image fs r w s)) same

@@ -1,0 +1,9 @@
+pub mod Cells
+pub mod Lists
+pub mod Meeting
+pub mod Arrays
+pub mod Costs
+pub mod Plans
+pub mod Fills
+pub mod Calls
+pub mod Callees

@@ -1,0 +1,111 @@
+//! The call of a native.
+ghost use Rattle.std.specs.Prelude.{◌≡◌, ◌<◌, ℕ, List, true, IfOk, OnErr};
+ghost use Rattle.js_tree.specs.Forest.{Forest};
+ghost use Rattle.store_cells.specs.Cells.{IsWidget, number_in};
+ghost use Rattle.widget_meaning.specs.Natives.{run_native};
+ghost use Rattle.js_image.specs.Image.{all_seen};
+ghost use Rattle.js_image.specs.Held.{AreFine, IsConfined, Kept};
+ghost use Rattle.native_forms.specs.Meets.{Ends, Meets};
+ghost use Rattle.native_forms.specs.Receivers.{IsReceiver, receiver};
+ghost use Rattle.list_methods.specs.Parts.{is_part};
+
+use crate::array::array_of;
+use crate::copying::{concat, slice};
+use crate::ends::{pop, push};
+use crate::over::{Calls, over};
+use code_units::{Memory, Owner};
+use js_values::{Fault, Keep, Meter, NativeOut};
+use object_store::{NativeId, Store, Value};
+use std::alloc::Global;
+
+/// Calls `concat`, `slice`, `pop`, `push`, `forEach`, `map` or `filter` of arrays for a widget as owner: `this` is the Global
+/// cell for a plain call. The answer is the row of docs/LANGUAGE.md, "Arrays"; the unit of the native
+/// was taken before. What is charged and paid comes before any change, and where fuel is wanting
+/// nothing changes. After `Memory` the widget keeps what stands in `Kept`, and nothing more is said.
+pub fn call(
+    alloc: Global,
+    which: NativeId,
+    this: &Value,
+    args: &[Value],
+    store: &mut Store,
+    meter: &mut Meter,
+    owner: Owner,
+) -> Result<NativeOut, Memory>
+    requires part { is_part which ≡ true }
+    requires widget { IsWidget owner }
+    requires confined { (fs : List Forest) × IsConfined fs (number_in owner) store.old }
+    requires receiver { IsReceiver (number_in owner) store.old.cells this.now }
+    requires args { AreFine (number_in owner) store.old.cells args.now }
+    ensures native { IfOk result (λ o. Meets (number_in owner) store.old store.new meter.old meter.new
+        (run_native which (receiver (number_in owner) store.old.cells this.now) (all_seen (number_in owner) store.old.cells args.now)) o) }
+    ensures memory { OnErr result ((fs : List Forest) → Kept fs (number_in owner) store.old store.new) }
+{
+    let Owner::Widget(w) = owner else {
+        unreachable!()
+    };
+    of_widget(alloc, which, this, args, store, meter, w)
+}
+
+// The same for a widget by its number.
+fn of_widget(
+    alloc: Global,
+    which: NativeId,
+    this: &Value,
+    args: &[Value],
+    store: &mut Store,
+    meter: &mut Meter,
+    w: u32,
+) -> Result<NativeOut, Memory>
+    requires part { is_part which ≡ true }
+    requires widget { w < 32 }
+    requires confined { (fs : List Forest) × IsConfined fs w store.old }
+    requires receiver { IsReceiver w store.old.cells this.now }
+    requires args { AreFine w store.old.cells args.now }
+    ensures native { IfOk result (λ o. Meets w store.old store.new meter.old meter.new
+        (run_native which (receiver w store.old.cells this.now) (all_seen w store.old.cells args.now)) o) }
+    ensures memory { OnErr result ((fs : List Forest) → Kept fs w store.old store.new) }
+{
+    let Some(array) = array_of(store, w, this) else {
+        return Ok(NativeOut::Throw(Fault::E3));
+    };
+    match which {
+        NativeId::ArrayConcat => concat(alloc, array, args, store, meter, w),
+        NativeId::ArraySlice => slice(alloc, array, args, store, meter, w),
+        NativeId::Pop => pop(alloc, array, args, store, meter, w),
+        NativeId::Push => push(alloc, array, args, store, meter, w),
+        NativeId::ForEach => over(
+            alloc,
+            Calls {
+                array,
+                keep: Keep::Nothing,
+            },
+            args,
+            store,
+            meter,
+            w,
+        ),
+        NativeId::Map => over(
+            alloc,
+            Calls {
+                array,
+                keep: Keep::Results,
+            },
+            args,
+            store,
+            meter,
+            w,
+        ),
+        NativeId::Filter => over(
+            alloc,
+            Calls {
+                array,
+                keep: Keep::Passing,
+            },
+            args,
+            store,
+            meter,
+            w,
+        ),
+        _ => unreachable!(),
+    }
+}

@@ -1,0 +1,131 @@
+//! `pop` and `push`.
+ghost use Rattle.std.specs.Prelude as std;
+ghost use Rattle.std.specs.Prelude.{◌≡◌, ◌+◌, ◌++◌, ◌<◌, ◌≤◌, ℕ, List, IfOk, OnErr, drop, length, pos};
+ghost use Rattle.js_tree.specs.Forest.{Forest};
+ghost use Rattle.widget_meaning.specs.Values as meaning;
+ghost use Rattle.widget_meaning.specs.NativeForms as forms;
+ghost use Rattle.widget_meaning.specs.ListChanges as changes;
+ghost use Rattle.js_image.specs.Image.{all_seen};
+ghost use Rattle.js_image.specs.Held.{AreFine, IsConfined, Kept};
+ghost use Rattle.native_forms.specs.Meets.{Ends, Meets};
+ghost use Rattle.list_methods.specs.Arrays.{IsArray, number};
+ghost use Rattle.list_methods.specs.Parts.{popped, put_last};
+
+use crate::array::{OwnArray, arg_count, number_value};
+use crate::changing::{push_all, shorten};
+use code_units::Memory;
+use js_image::{Paid, element, pay_slots};
+use js_values::{Fault, Meter, NativeOut};
+use native_forms::take;
+use object_store::{Store, Value};
+use std::alloc::Global;
+
+/// `pop()`.
+pub(crate) fn pop(
+    alloc: Global,
+    array: OwnArray,
+    args: &[Value],
+    store: &mut Store,
+    meter: &mut Meter,
+    w: u32,
+) -> Result<NativeOut, Memory>
+    requires widget { w < 32 }
+    requires array { IsArray w store.old array }
+    requires confined { (fs : List Forest) × IsConfined fs w store.old }
+    ensures native { IfOk result (λ o. Meets w store.old store.new meter.old meter.new
+        (λ d s. changes.pop (number w store.old array) array.len (all_seen w store.old.cells args.now) s) o) }
+    ensures memory { OnErr result ((fs : List Forest) → Kept fs w store.old store.new) }
+{
+    let asked = arg_count(args);
+    match take(meter, asked) {
+        Ok(()) => pop_last(alloc, array, store, w),
+        Err(_) => Ok(NativeOut::OutOfFuel),
+    }
+}
+
+fn pop_last(alloc: Global, array: OwnArray, store: &mut Store, w: u32) -> Result<NativeOut, Memory>
+    requires widget { w < 32 }
+    requires array { IsArray w store.old array }
+    requires confined { (fs : List Forest) × IsConfined fs w store.old }
+    ensures native { IfOk result (λ o. Ends w store.old store.new (λ d s. popped (number w store.old array) array.len s) o) }
+    ensures memory { OnErr result ((fs : List Forest) → Kept fs w store.old store.new) }
+{
+    if array.len == 0 {
+        return Ok(NativeOut::Value(Value::Undefined));
+    }
+    let base = Value::Ref(array.cell);
+    let last = element(store, &base, array.len - 1)?;
+    shorten(alloc, array, array.len - 1, store, w)?;
+    Ok(NativeOut::Value(last))
+}
+
+/// The largest length of an Array.
+const MOST: usize = 4294967295;
+
+/// `push(a, ...)`.
+pub(crate) fn push(
+    alloc: Global,
+    array: OwnArray,
+    args: &[Value],
+    store: &mut Store,
+    meter: &mut Meter,
+    w: u32,
+) -> Result<NativeOut, Memory>
+    requires widget { w < 32 }
+    requires array { IsArray w store.old array }
+    requires args { AreFine w store.old.cells args.now }
+    ensures native { IfOk result (λ o. Meets w store.old store.new meter.old meter.new
+        (λ d s. changes.push (number w store.old array) array.len (all_seen w store.old.cells args.now) s) o) }
+    ensures memory { OnErr result ((fs : List Forest) → Kept fs w store.old store.new) }
+{
+    let asked = arg_count(args);
+    let room = room_behind(array.len);
+    if asked > room {
+        return Ok(NativeOut::Throw(Fault::E7));
+    }
+    match take(meter, asked) {
+        Ok(()) => put_last(alloc, array, args, store, w),
+        Err(_) => Ok(NativeOut::OutOfFuel),
+    }
+}
+
+// How many elements an Array of a length has room for.
+fn room_behind(len: u32) -> usize
+    ensures { result + len ≡ 4294967295 }
+{
+    MOST - len as usize
+}
+
+// The arguments at the end.
+fn put_last(
+    alloc: Global,
+    array: OwnArray,
+    args: &[Value],
+    store: &mut Store,
+    w: u32,
+) -> Result<NativeOut, Memory>
+    requires widget { w < 32 }
+    requires array { IsArray w store.old array }
+    requires args { AreFine w store.old.cells args.now }
+    requires few { array.len + length args.now ≤ 4294967295 }
+    ensures native { IfOk result (λ o. Ends w store.old store.new
+        (λ d s. put_last (number w store.old array) array.len (all_seen w store.old.cells args.now) s) o) }
+    ensures memory { OnErr result ((fs : List Forest) → Kept fs w store.old store.new) }
+{
+    let count = count_of(args);
+    match pay_slots(store, w, count) {
+        Paid::Stop(cause) => Ok(NativeOut::Stop(cause)),
+        Paid::Done => {
+            push_all(alloc, array, args, store, w)?;
+            Ok(NativeOut::Value(number_value(array.len + count)))
+        }
+    }
+}
+
+// How many arguments there are.
+fn count_of(args: &[Value]) -> u32
+    requires { length args.now ≤ 4294967295 }
+    ensures { result ≡ length args.now }
+{
+    args.len() as u32
+}
