@@ -1,5 +1,5 @@
 -- Objects of a state, and what is changed of them.
-use Rattle.std.proofs.Common.{◌≡◌, ℕ, zero, suc, ◌+◌, ◌<◌, List, [], ◌∷◌, ◌++◌, length, refl, sym, ap, ◌∙◌, Option, Some, None, arith, append_assoc, length-append}
+use Rattle.std.proofs.Common.{◌≡◌, ℕ, zero, suc, ◌+◌, ◌<◌, List, [], ◌∷◌, ◌++◌, length, refl, sym, ap, ◌∙◌, Some, None, arith, append_assoc, length-append}
 use Rattle.std.specs.Prelude.{slice_index_or, slice_set}
 use Rattle.widget_meaning.specs.Values.{Value, Own}
 use Rattle.widget_meaning.specs.OwnState as state

@@ -1,9 +1,8 @@
 -- An Array of a widget gets elements, one after the other, or loses them.
-use Rattle.std.proofs.Common.{◌≡◌, ℕ, zero, suc, pos, ◌+◌, ◌<◌, ◌≤◌, List, [], ◌∷◌, ◌++◌, length, refl, sym, ap, ◌∙◌, subst, Option, Some, None, arith, Bool, true, false, if◌then◌else◌, take}
+use Rattle.std.proofs.Common.{◌≡◌, ℕ, zero, suc, pos, ◌+◌, ◌<◌, ◌≤◌, List, [], ◌∷◌, length, refl, sym, ap, ◌∙◌, Some, None, arith, true, if◌then◌else◌, take}
 use Rattle.std.specs.Prelude.{◌-◌, codes, get_or, nat_le, slice_index_or}
 use Rattle.std.proofs.lemmas.Bool.Decides.{nat_tests}
 use Rattle.std.proofs.lemmas.List.{length-map}
-use Rattle.code_units.specs.Indices.{index_of}
 use Rattle.js_tree.specs.Forest.{Forest}
 use Rattle.store_cells.specs.declared.value.Value.{Value as StoreValue}
 use Rattle.store_cells.specs.declared.value.Value.TheVariants as value
@@ -15,15 +14,15 @@ use Rattle.widget_meaning.specs.OwnState as state
 use Rattle.widget_meaning.specs.OwnState.{Cell, Kind, State, array_length, cell_at, kind_of, plain_object, with_cell}
 use Rattle.widget_meaning.specs.Plan.{Halt, Plan, Ret}
 use Rattle.widget_meaning.specs.Values as meaning
-use Rattle.widget_meaning.specs.Costs.{give, pay, slots_cost, throw, want}
-use Rattle.widget_meaning.specs.Properties.{cut_to, put, put_index, put_length, put_own}
+use Rattle.widget_meaning.specs.Costs.{give, pay, slots_cost, throw}
+use Rattle.widget_meaning.specs.Properties.{cut_to, put, put_own}
 use Rattle.widget_meaning.specs.NativeForms.{element}
 use Rattle.widget_meaning.specs.ListChanges.{pushed}
-use Rattle.js_image.specs.Held.{AreFine, IsFine, Kept}
+use Rattle.js_image.specs.Held.{AreFine, Kept}
 use Rattle.js_image.specs.Image.{Rest, all_seen, image, seen}
 use Rattle.js_image.specs.declared.outcome.StopCause.{StopCause}
 use Rattle.js_image.specs.Plans.{PushedAt, meant_cause}
-use Rattle.js_image.proofs.Grown.{fine_stays, seen_stays}
+use Rattle.js_image.proofs.Grown.{seen_stays}
 use Rattle.js_image.proofs.Units.{kept_then}
 use Rattle.js_values.specs.declared.outcome.NativeOut.TheVariants as native
 use Rattle.native_forms.specs.Meets.{Ends}

@@ -1,6 +1,6 @@
 -- What is left of the plans of natives, test by test.
-use Rattle.std.proofs.Common.{◌≡◌, ℕ, ℤ, zero, suc, pos, ◌+◌, ◌<◌, List, [], ◌∷◌, length, refl, sym, ap, ◌∙◌, Option, Some, None, Bool, true, false, if◌then◌else◌, take, drop}
-use Rattle.std.specs.Prelude.{◌-◌, not, slice_range, ◌||◌}
+use Rattle.std.proofs.Common.{◌≡◌, ℕ, ℤ, zero, suc, pos, List, [], ◌∷◌, length, refl, sym, ap, ◌∙◌, Some, None, Bool, true, false, if◌then◌else◌}
+use Rattle.std.specs.Prelude.{not, slice_range}
 use Rattle.std.specs.List.{list_any}
 use Rattle.code_units.specs.declared.whole.WholeRead.{WholeRead}
 use Rattle.code_units.specs.declared.whole.WholeRead.TheVariants as read

@@ -1,7 +1,6 @@
 use Rattle.std.proofs.Common.{List, subst, sym}
 use Rattle.std.specs.Prelude.{IfOk, OnErr}
 use Rattle.store_cells.specs.Cells.{number_in}
-use Rattle.code_units.specs.declared.owner.Owner.{Owner}
 use Rattle.widget_meaning.specs.Natives.{run_native}
 use Rattle.js_tree.specs.Forest.{Forest}
 use Rattle.js_image.specs.Held.{AreFine, Kept}

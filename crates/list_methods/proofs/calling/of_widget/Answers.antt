@@ -1,8 +1,6 @@
-use Rattle.std.proofs.Common.{[], refl}
 use Rattle.permitted_table.specs.declared.native.NativeId.TheVariants as native
 use Rattle.widget_meaning.specs.Natives.{run_native}
 use Rattle.js_image.specs.Image.{all_seen}
-use Rattle.js_values.specs.declared.outcome.Keep.TheVariants as keep
 use Rattle.native_forms.specs.Receivers.{receiver}
 use Rattle.native_forms.proofs.Meeting.{ok_meets_same}
 use Rattle.list_methods.specs.Arrays.{number}

@@ -1,4 +1,4 @@
-use Rattle.std.proofs.Common.{[], arith, sym, length}
+use Rattle.std.proofs.Common.{[], sym}
 use Rattle.std.proofs.lemmas.Option.{get_or_from_slice_get}
 use Rattle.js_image.proofs.Grown.{fine_stays, held_stays}
 use Rattle.js_image.proofs.Units.{kept_then}

@@ -1,9 +1,8 @@
 use Rattle.std.proofs.Common.{ap, sym, ◌∙◌, arith}
-use Rattle.widget_meaning.specs.Values.{Normal, Value}
+use Rattle.widget_meaning.specs.Values.{Normal}
 use Rattle.widget_meaning.specs.OwnState.{State}
 use Rattle.widget_meaning.specs.Plan.{Plan, Ret}
 use Rattle.widget_meaning.specs.Properties.{put}
-use Rattle.std.specs.Prelude.{codes}
 use Rattle.js_image.specs.Image.{image, seen}
 use Rattle.js_image.specs.Plans.{put_plan}
 use Rattle.list_methods.proofs.Fills.{shortened}

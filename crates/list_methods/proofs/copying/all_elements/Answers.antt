@@ -6,7 +6,6 @@ use Rattle.widget_meaning.specs.ListChanges.{array_elements}
 use Rattle.js_image.specs.Image.{all_seen, image}
 use Rattle.native_forms.proofs.Meeting.{ok_ends_same}
 use Rattle.list_methods.specs.Arrays.{number}
-use Rattle.list_methods.proofs.Meeting.{kept_here}
 use Rattle.list_methods.proofs.copying.all_elements.Goals as goal
 
 pub push_arguments-requires-clause-values : goal.push_arguments-requires-clause-values

@@ -3,7 +3,7 @@ use Rattle.std.proofs.lemmas.Result.{IfOk-weaker}
 use Rattle.widget_meaning.specs.ListChanges.{list_extra}
 use Rattle.js_image.specs.Image.{all_seen}
 use Rattle.list_methods.specs.Arrays.{number}
-use Rattle.list_methods.proofs.Meeting.{kept_here, meets_taken, meets_wanting}
+use Rattle.list_methods.proofs.Meeting.{meets_taken, meets_wanting}
 use Rattle.std.proofs.Common.{◌++◌}
 use Rattle.std.specs.List.{flat_map}
 use Rattle.widget_meaning.specs.Costs.{give}

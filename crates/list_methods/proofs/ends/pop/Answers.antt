@@ -1,4 +1,4 @@
-use Rattle.std.proofs.Common.{arith, refl, length}
+use Rattle.std.proofs.Common.{refl, length}
 use Rattle.std.proofs.lemmas.Result.{IfOk-weaker}
 use Rattle.widget_meaning.specs.ListChanges.{pop}
 use Rattle.widget_meaning.specs.Plan.{charge}

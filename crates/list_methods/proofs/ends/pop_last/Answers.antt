@@ -1,9 +1,6 @@
-use Rattle.std.proofs.Common.{[], ◌∙◌, ap, sym, subst, arith}
+use Rattle.std.proofs.Common.{[], ◌∙◌, ap, sym}
 use Rattle.widget_meaning.specs.Costs.{give}
-use Rattle.widget_meaning.specs.NativeForms.{element}
-use Rattle.widget_meaning.specs.OwnState.{cell_at}
-use Rattle.widget_meaning.specs.Values.{Undefined}
-use Rattle.js_image.specs.Image.{image, seen}
+use Rattle.js_image.specs.Image.{image}
 use Rattle.js_image.proofs.Grown.{fine_stays, seen_stays}
 use Rattle.store_cells.specs.declared.value.Value.TheVariants as value
 use Rattle.list_methods.specs.Arrays.{number}

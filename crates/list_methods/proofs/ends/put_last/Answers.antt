@@ -1,5 +1,4 @@
 use Rattle.std.proofs.Common.{[], ◌∙◌, ap, subst, sym}
-use Rattle.std.proofs.lemmas.Result.{IfOk-weaker}
 use Rattle.js_image.specs.Image.{image}
 use Rattle.js_image.specs.Plans.{paid_plan}
 use Rattle.js_image.proofs.Units.{kept_then}

@@ -1,4 +1,4 @@
-use Rattle.std.proofs.Common.{◌∙◌, ap, sym, Option, Some}
+use Rattle.std.proofs.Common.{◌∙◌, ap, sym}
 use Rattle.std.specs.Prelude.{is_some}
 use Rattle.js_image.specs.Image.{image, seen}
 use Rattle.list_methods.proofs.Callees.{callee_seen, cell_refers, function_cell}

@@ -1,4 +1,4 @@
-use Rattle.std.proofs.Common.{[], ◌≡◌, ◌∙◌, ap, arith, sym, subst, refl}
+use Rattle.std.proofs.Common.{[], ◌∙◌, ap, sym, subst, refl}
 use Rattle.std.specs.Prelude.{is_some}
 use Rattle.std.proofs.lemmas.Result.{IfOk-weaker}
 use Rattle.store_cells.specs.declared.value.Value.TheVariants as value
