@@ -1,0 +1,10 @@
+mod Paid
+mod Named
+mod Invoked
+mod Entering
+mod Pairs
+mod Declared
+mod Repeated
+mod Converted
+mod Argued
+mod Scoped

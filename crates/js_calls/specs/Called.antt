@@ -1,0 +1,108 @@
+-- What a call is to the meaning, and the names of its scope.
+use Rattle.std.specs.Prelude.{◌≡◌, ℕ, List, [], Bool, true, drop, length, if◌then◌else◌, is_some}
+use Rattle.std.specs.List.{AllByRecursion}
+use Rattle.std.specs.Option.{option_map}
+use Rattle.js_tree.specs.declared.nodes.FunId.{FunId}
+use Rattle.js_tree.specs.Plain.{Fun}
+use Rattle.js_tree.specs.Forest.{Forest, expr_at, fun_at}
+use Rattle.store_cells.specs.declared.value.Value.TheVariants as value
+use Rattle.store_cells.specs.Cells.{Cells, PlainCell}
+use Rattle.object_store.specs.Owned.{scope_number}
+use Rattle.widget_meaning.specs.OwnState.{Scope, State, lookup, scope_at}
+use Rattle.widget_meaning.specs.Plan.{Plan, Halt}
+use Rattle.widget_meaning.specs.Costs.{give, throw}
+use Rattle.widget_meaning.specs.Scopes.{without_name}
+use Rattle.widget_meaning.specs.Calls.{invoke}
+use Rattle.widget_meaning.specs.Expressions.{arguments_then}
+use Rattle.widget_meaning.specs.ListNatives.{call_each}
+use Rattle.widget_meaning.specs.BunchWrites.{each_called}
+use Rattle.js_image.specs.Image.{all_seen, image, no_rest, seen}
+use Rattle.js_image.specs.declared.outcome.Paid.{Paid}
+use Rattle.js_image.specs.declared.outcome.Paid.TheVariants as paid
+use Rattle.js_image.specs.Plans.{meant_cause, meant_fault}
+use Rattle.js_values.specs.Answers.{called}
+use Rattle.js_values.specs.declared.outcome.Keep.{Keep}
+use Rattle.js_values.specs.declared.outcome.Keep.TheVariants as keep
+use Rattle.js_values.specs.declared.outcome.NativeOut.{NativeOut}
+use Rattle.js_values.specs.declared.outcome.NativeOut.TheVariants as native
+use Rattle.js_values.specs.declared.outcome.Plan.{Plan as Calls}
+use Rattle.js_values.specs.declared.outcome.Plan.TheVariants as calls
+use Rattle.js_flow.specs.declared.job.Call.{Call}
+use Rattle.js_flow.specs.declared.frame.Argument.{Argument}
+use Rattle.js_flow.specs.declared.frame.Calling.{Calling}
+use Rattle.js_flow.specs.declared.frame.Gathering.{Gathering}
+use Rattle.js_flow.specs.declared.frame.Keep.{Keep as KeptBy}
+use Rattle.js_flow.specs.declared.frame.Keep.TheVariants as by
+use Rattle.js_flow.specs.Calls.{gathered}
+use Rattle.js_flow.specs.Parts.{arguments_of, forest_at}
+use Rattle.js_flow.specs.Views.{place_of, reference_of}
+
+-- a function of a tree; the name of a declared one is no variable of its own calls
+abbrev pub declared_at : Forest → FunId → Bool → Fun
+declared_at f id declared = if declared then without_name (fun_at f id) else fun_at f id
+
+module _ (w : ℕ) (cells : List PlainCell) where
+  -- a call, after its unit
+  abbrev pub invoked : Call → State → Plan
+  invoked c s = invoke (seen w cells c.func) (option_map (seen w cells) c.this) (all_seen w cells c.args.items) c.depth s
+
+  -- what a native gives, where the numbers of page nodes are known: its calls are made by a caller at this depth
+  abbrev pub given : (ℕ → ℕ) → ℕ → NativeOut → State → Plan
+  given node d (native.Value v) s = give (seen w cells v) s
+  given node d (native.Throw f) s = throw (meant_fault f) s
+  given node d (native.Call p) s = called (seen w cells) node d p s
+  given node d (native.Stop c) s = Halt (meant_cause c) s
+  -- no native that has its fuel answers this
+  given node d native.OutOfFuel s = give (seen w cells value.Undefined) s
+
+-- a call of which so many arguments are there: those that are left, and then the call
+abbrev pub arguments_left : List Forest → ℕ → List PlainCell → Argument → State → Plan
+arguments_left fs w cells a =
+    arguments_then (reference_of w cells a.of) (all_seen w cells a.args.items) (drop a.next (arguments_of (expr_at (forest_at fs a.place.code) a.call))) (place_of w cells a.place)
+
+module _ (w : ℕ) (cells : List PlainCell) where
+  -- the calls with the items from a number on
+  abbrev pub each_left : Calling → State → Plan
+  each_left c s = each_called (seen w cells (value.Ref c.func)) (drop c.next (all_seen w cells c.items.items)) (seen w cells c.last) c.depth s
+
+  -- the calls with the items behind those that have results
+  abbrev pub gather_left : Gathering → State → Plan
+  gather_left g s =
+      call_each (seen w cells (value.Ref g.func)) (drop (length (all_seen w cells g.results.items)) (all_seen w cells g.items.items)) (length (all_seen w cells g.results.items))
+      (all_seen w cells g.results.items) g.depth s (gathered g.keep (all_seen w cells g.items.items))
+
+-- what is kept of calls, as frames have it
+abbrev pub kept_as : Keep → KeptBy
+kept_as keep.Nothing = by.Nothing
+kept_as keep.Results = by.Results
+kept_as keep.Passing = by.Passing
+
+-- calls that ask for no handlers
+abbrev pub IsNoFire : Calls → Type 0
+IsNoFire (calls.Fire kind nodes last) = ⊥
+IsNoFire _ = Unit {0}
+
+-- an answer that js_steps carries on: no handlers are called, and fuel is not wanting
+abbrev pub IsCarried : NativeOut → Type 0
+IsCarried (native.Call p) = IsNoFire p
+IsCarried native.OutOfFuel = ⊥
+IsCarried _ = Unit {0}
+
+-- ## The scope of a call
+
+-- a scope of the widget as the meaning has it
+abbrev pub scope_in : ℕ → Cells → ℕ → Scope
+scope_in w s i = scope_at (image [] no_rest w s) (scope_number w s.cells i)
+
+-- the scope has the name
+abbrev pub IsNamed : ℕ → Cells → ℕ → List ℕ → Type 0
+IsNamed w s i x = is_some (lookup (scope_in w s i).pairs x) ≡ true
+
+-- the scope has the names
+abbrev pub AreNamed : ℕ → Cells → ℕ → List (List ℕ) → Type 0
+AreNamed w s i xs = AllByRecursion (IsNamed w s i) xs
+
+-- what is so where it was paid
+abbrev pub IfDone : Paid → Type 0 → Type 0
+IfDone paid.Done P = P
+IfDone (paid.Stop c) P = Unit {0}
