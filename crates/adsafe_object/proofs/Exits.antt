@@ -12,6 +12,7 @@ use Rattle.js_values.specs.declared.outcome.NativeOut.{NativeOut}
 use Rattle.js_values.specs.declared.outcome.NativeOut.TheVariants as native
 use Rattle.js_values.proofs.Answered.{charged_answers, free_answers, lacking_answers}
 use Rattle.native_forms.specs.Meets.{Meets}
+use Rattle.json_text.specs.Confined.{MeetsConfined}
 use Rattle.adsafe_object.specs.Ends.{EndsConfined, EndsNoted, MeetsNoted}
 use Rattle.adsafe_object.specs.Notes.{Notes, noted}
 
@@ -90,6 +91,16 @@ module _ (w waiting : ℕ) (old new : Cells) (had has : Fuel) (log : List (List 
 
   pub confined_run : (asked : Option (ℕ × ℤ)) → asked ≡ None → (p : ℕ → State → Plan) → ((d : ℕ) (s : State) → p d s ≡ plan d s) → has ≡ had → EndsConfined w old new plan o → MeetsNoted w waiting old new had has (with_timer None) (with_timer asked) p o
   confined_run asked none p e same h = noted_same w waiting old new (with_timer None) (with_timer asked) p plan o had has (λ fs r d. e d (image fs r w old)) (ends_keeps asked none same h)
+
+  -- the same of a native that asks that the widget is confined
+  pub text_run : (asked : Option (ℕ × ℤ)) → asked ≡ None → (p : ℕ → State → Plan) → ((d : ℕ) (s : State) → p d s ≡ plan d s) → MeetsConfined w old new had has plan o → MeetsNoted w waiting old new had has (with_timer None) (with_timer asked) p o
+  text_run asked none p e h = noted_same w waiting old new (with_timer None) (with_timer asked) p plan o had has (λ fs r d. e d (image fs r w old)) (subst (λ a. MeetsNoted w waiting old new had has (with_timer None) (with_timer a) plan o) (sym none) (record {
+    answer = λ fs r node d confined few. h.answer fs (noted w old.cells (with_timer None) r) node d confined;
+    fine = λ fs confined. h.fine;
+    spent = h.spent;
+    unpaid = λ f. ((h.unpaid f).0, (h.unpaid f).1, refl);
+    kept = h.kept;
+  }))
 
 -- a native that changes the log or the posts, and asks for no timer
 pub noted_run : (w waiting : ℕ) (old new : Cells) (had has : Fuel) (log more : List (List ℕ)) (posts kept : List (List ℕ × List ℕ)) (plan : ℕ → State → Plan) (o : NativeOut) (asked : Option (ℕ × ℤ)) → asked ≡ None

@@ -4,3 +4,4 @@ pub mod Lengths
 pub mod Noting
 pub mod Timing
 pub mod Lists
+pub mod Receiving

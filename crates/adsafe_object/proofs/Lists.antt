@@ -15,9 +15,11 @@ use Rattle.widget_meaning.specs.OwnState.{State, array_length, kind_of, new_arra
 use Rattle.widget_meaning.specs.Plan.{Plan, Halt}
 use Rattle.widget_meaning.specs.Costs.{cost, give, sum, with_counts}
 use Rattle.widget_meaning.specs.NativeForms.{give_texts, is_too_long, make_array, numbered_pairs}
-use Rattle.widget_meaning.specs.AdsafeNatives.{create, get_native, keys_native, later, log_native, post, remove_native, set_native}
+use Rattle.widget_meaning.specs.AdsafeNatives.{create, get_native, has_native, keys_native, later, log_native, post, remove_native, set_native}
 use Rattle.widget_meaning.specs.JsonValues.{from_json}
+use Rattle.widget_meaning.specs.JsonTexts.{to_json}
 use Rattle.widget_meaning.specs.Natives.{run_native}
+use Rattle.widget_meaning.specs.PrototypeNatives.{has_own_property}
 use Rattle.js_image.specs.Image.{all_seen, seen}
 use Rattle.js_image.specs.Held.{AreFine, IsFine}
 use Rattle.js_image.specs.declared.outcome.StopCause.TheVariants as cause
@@ -82,7 +84,16 @@ module _ (w : ℕ) (cells : List PlainCell) (args : List StoreValue) (this : Opt
     pub from_json_is : which ≡ native.FromJson → (d : ℕ) (s : State) → run which d s ≡ from_json (seen w cells a) s
     from_json_is is d s = ap (λ n. run n d s) is ∙ ap (λ v. from_json v s) (arg 0 a first)
 
+    pub has_own_is : which ≡ native.HasOwnProperty → (d : ℕ) (s : State) → run which d s ≡ has_own_property this (seen w cells a) s
+    has_own_is is d s = ap (λ n. run n d s) is ∙ ap (λ v. has_own_property this v s) (arg 0 a first)
+
+    pub to_json_is : which ≡ native.ToJson → (d : ℕ) (s : State) → run which d s ≡ to_json (seen w cells a) s
+    to_json_is is d s = ap (λ n. run n d s) is ∙ ap (λ v. to_json v s) (arg 0 a first)
+
     module _ (b : StoreValue) (second : IsNth 1 b) where
+      pub has_is : which ≡ native.Has → (d : ℕ) (s : State) → run which d s ≡ has_native (seen w cells a) (seen w cells b) s
+      has_is is d s = ap (λ n. run n d s) is ∙ (λ j. has_native (arg 0 a first j) (arg 1 b second j) s)
+
       pub get_is : which ≡ native.Get → (d : ℕ) (s : State) → run which d s ≡ get_native (seen w cells a) (seen w cells b) s
       get_is is d s = ap (λ n. run n d s) is ∙ (λ j. get_native (arg 0 a first j) (arg 1 b second j) s)
 

@@ -6,6 +6,7 @@ mod names;
 mod natives;
 mod notes;
 mod objects;
+mod owning;
 mod properties;
 mod texts;
 

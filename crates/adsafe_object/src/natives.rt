@@ -11,10 +11,11 @@ ghost use Rattle.adsafe_object.specs.Part.{is_part};
 
 use crate::notes::{later, log as log_value, post};
 use crate::objects::{create, is_array, keys};
+use crate::owning::{has, has_own_property};
 use crate::properties::{get, remove, set};
 use code_units::{Memory, Owner, Text};
 use js_values::{Meter, NativeOut};
-use json_text::from_json;
+use json_text::{from_json, to_json};
 use native_forms::nth;
 use object_store::{CellId, NativeId, Store, Value};
 use std::alloc::Global;
@@ -71,6 +72,7 @@ fn run(
 ) -> Result<NativeOut, Memory>
     requires part { is_part which ≡ true }
     requires widget { w < 32 }
+    requires receiver { IsReceiver w store.old.cells this.now }
     requires args { AreFine w store.old.cells args.now }
     requires unasked { asked.old ≡ None }
     ensures native { IfOk result (λ o.
@@ -87,6 +89,8 @@ fn run(
         NativeId::Get => get(alloc, store, w, first, second),
         NativeId::Set => set(alloc, store, w, first, second, nth(args, 2, &absent)),
         NativeId::Remove => remove(alloc, store, w, first, second),
+        NativeId::HasOwnProperty => has_own_property(alloc, store, w, this, first),
+        NativeId::Has => has(alloc, store, w, first, second),
         NativeId::Create => create(alloc, store, w, first),
         NativeId::IsArray => Ok(is_array(store, w, first)),
         NativeId::Keys => keys(alloc, store, meter, w, first),
@@ -94,6 +98,7 @@ fn run(
         NativeId::Log => log_value(alloc, store, meter, w, first, log),
         NativeId::Post => post(store, meter, w, first, second, posts),
         NativeId::FromJson => from_json(alloc, store, meter, w, first),
+        NativeId::ToJson => to_json(alloc, store, meter, w, first),
         _ => unreachable!(),
     }
 }

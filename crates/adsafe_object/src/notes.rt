@@ -60,7 +60,7 @@ pub(crate) fn log(
 }
 
 // The text of a primitive; an object has none.
-fn primitive_text(alloc: Global, v: &Value) -> Result<Option<Text>, Memory>
+pub(crate) fn primitive_text(alloc: Global, v: &Value) -> Result<Option<Text>, Memory>
     ensures { IfOk result (λ o. (w : ℕ) (cells : List PlainCell) (s : State) (k : List ℕ → Plan)
         → want_primitives (seen w cells v.now ∷ []) s (k (meaning.to_text (seen w cells v.now))) ≡ text_plan o s k) }
 {

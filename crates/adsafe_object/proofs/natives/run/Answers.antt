@@ -4,8 +4,8 @@ use Rattle.js_image.specs.Image.{image}
 use Rattle.js_image.specs.Held.{IsFine}
 use Rattle.native_forms.proofs.Meeting.{meets_free}
 use Rattle.native_forms.specs.Receivers.{receiver}
-use Rattle.adsafe_object.proofs.Exits.{confined_run, meets_run, noted_free, noted_run, noted_same}
-use Rattle.adsafe_object.proofs.Lists.{create_is, from_json_is, get_is, is_array_is, keys_is, later_is, log_is, nth_fine, post_is, remove_is, set_is}
+use Rattle.adsafe_object.proofs.Exits.{confined_run, meets_run, noted_free, noted_run, noted_same, text_run}
+use Rattle.adsafe_object.proofs.Lists.{create_is, from_json_is, get_is, has_is, has_own_is, is_array_is, keys_is, later_is, log_is, nth_fine, post_is, remove_is, set_is, to_json_is}
 use Rattle.adsafe_object.proofs.natives.run.Goals as goal
 
 pub returns-in-Get-clause-native : goal.returns-in-Get-clause-native
@@ -79,3 +79,24 @@ pub returns-in-FromJson-clause-native : goal.returns-in-FromJson-clause-native
 returns-in-FromJson-clause-native c = IfOk-weaker c.from_json.result _ _ (λ o h.
     meets_run c.args.w c.args.waiting c.args.store.now c.from_json.new.store c.args.meter.now c.from_json.new.meter c.args.log.now.items c.args.posts.now.items _ o c.args.asked.now c.requires.unasked _
     (from_json_is c.args.w c.args.store.now.cells c.args.args.now (receiver c.args.w c.args.store.now.cells c.args.this.now) c.args.which c.nth-first.result.now c.nth-first.ensures c.in-FromJson.is) h) c.from_json.ensures.native
+
+pub has-requires : goal.has-requires
+has-requires c = subst (IsFine c.args.w c.args.store.now.cells) (sym c.nth-first.ensures) (nth_fine c.args.w c.args.store.now.cells c.args.args.now 0 c.requires.args)
+
+pub returns-in-Has-clause-native : goal.returns-in-Has-clause-native
+returns-in-Has-clause-native c = IfOk-weaker c.has.result _ _ (λ o h.
+    confined_run c.args.w c.args.waiting c.args.store.now c.args.store.now c.args.meter.now c.args.meter.now c.args.log.now.items c.args.posts.now.items _ o c.args.asked.now c.requires.unasked _
+    (has_is c.args.w c.args.store.now.cells c.args.args.now (receiver c.args.w c.args.store.now.cells c.args.this.now) c.args.which c.nth-first.result.now c.nth-first.ensures c.nth-second.result.now c.nth-second.ensures c.in-Has.is) refl h) c.has.ensures
+
+pub returns-in-HasOwnProperty-clause-native : goal.returns-in-HasOwnProperty-clause-native
+returns-in-HasOwnProperty-clause-native c = IfOk-weaker c.has_own_property.result _ _ (λ o h.
+    confined_run c.args.w c.args.waiting c.args.store.now c.args.store.now c.args.meter.now c.args.meter.now c.args.log.now.items c.args.posts.now.items _ o c.args.asked.now c.requires.unasked _
+    (has_own_is c.args.w c.args.store.now.cells c.args.args.now (receiver c.args.w c.args.store.now.cells c.args.this.now) c.args.which c.nth-first.result.now c.nth-first.ensures c.in-HasOwnProperty.is) refl h) c.has_own_property.ensures
+
+pub to_json-requires-clause-value : goal.to_json-requires-clause-value
+to_json-requires-clause-value c = subst (IsFine c.args.w c.args.store.now.cells) (sym c.nth-first.ensures) (nth_fine c.args.w c.args.store.now.cells c.args.args.now 0 c.requires.args)
+
+pub returns-in-ToJson-clause-native : goal.returns-in-ToJson-clause-native
+returns-in-ToJson-clause-native c = IfOk-weaker c.to_json.result _ _ (λ o h.
+    text_run c.args.w c.args.waiting c.args.store.now c.to_json.new.store c.args.meter.now c.to_json.new.meter c.args.log.now.items c.args.posts.now.items _ o c.args.asked.now c.requires.unasked _
+    (to_json_is c.args.w c.args.store.now.cells c.args.args.now (receiver c.args.w c.args.store.now.cells c.args.this.now) c.args.which c.nth-first.result.now c.nth-first.ensures c.in-ToJson.is) h) c.to_json.ensures.native
