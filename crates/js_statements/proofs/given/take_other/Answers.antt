@@ -1,0 +1,14 @@
+use Rattle.std.proofs.Common.{subst}
+use Rattle.js_names.specs.Code.{trees_of}
+use Rattle.js_flow.specs.declared.frame.StatementFrame.{StatementFrame}
+use Rattle.js_flow.specs.Fine.{FineStatement}
+use Rattle.js_statements.proofs.given.take_other.Goals as goal
+
+pub returns-in-SwitchEnd-clause-fine : goal.returns-in-SwitchEnd-clause-fine
+returns-in-SwitchEnd-clause-fine c = c.after_switch.ensures.fine c.args.w c.args.store.now.cells c.requires.how
+
+pub returns-in-LastEnd-clause-fine : goal.returns-in-LastEnd-clause-fine
+returns-in-LastEnd-clause-fine c =
+    let fs = trees_of c.args.codes.now.items in
+    let cells = c.args.store.now.cells in
+    c.after_finally.ensures.fine c.args.w cells (subst (λ (q : StatementFrame). FineStatement fs c.args.w cells q) c.in-LastEnd.is c.requires.frame) c.requires.how
