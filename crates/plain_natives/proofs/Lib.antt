@@ -1,0 +1,4 @@
+pub mod Cuts
+pub mod Exits
+pub mod Parsing
+pub mod Small
