@@ -1,0 +1,9 @@
+pub mod Reading
+pub mod Lists
+pub mod Content
+pub mod Valued
+pub mod Once
+pub mod Documents
+pub mod Styled
+pub mod Opened
+pub mod Calls

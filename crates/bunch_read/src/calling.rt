@@ -1,0 +1,127 @@
+//! The one call of this crate.
+ghost use Rattle.std.specs.Prelude.{◌≡◌, ◌<◌, ℕ, List, Bool, Option, true, IfOk, map};
+ghost use Rattle.store_cells.specs.Cells.{IsWidget, number_in};
+ghost use Rattle.widget_meaning.specs.Natives.{run_native};
+ghost use Rattle.js_image.specs.Image.{all_seen, seen};
+ghost use Rattle.native_forms.specs.Receivers.{IsReceiver, receiver};
+ghost use Rattle.page_image.specs.Image.{number};
+ghost use Rattle.native_image.specs.Meets.{Reads};
+ghost use Rattle.native_image.specs.Sound.{AreNodes, HoldsOwn, IsSound, KeepsStore};
+ghost use Rattle.bunch_read.specs.Kinds.{is_part, method_plan};
+
+use crate::attributes::get_attribute;
+use crate::finding::{get_parent, query};
+use crate::first::{count, get_check, get_mark, get_tag_name};
+use crate::kinds::{Kind, Method, kind_of};
+use crate::styles::get_style;
+use crate::texts::{get_value, get_values};
+use code_units::{Memory, Owner};
+use event_loop::Loop;
+use js_image::Fault;
+use js_values::{Meter, NativeOut};
+use native_forms::nth;
+use native_image::receiver_of;
+use object_store::{NativeId, Store, Value};
+use page_tree::{NodeId, Page};
+use std::alloc::Global;
+
+/// A native of this crate, called by a widget: what the meaning gives at its image, for every
+/// receiver and all arguments. The Global cell as receiver stands for none. The native's unit was
+/// taken before; the call takes the extra. Where fuel is wanting nothing changes; page and loop are
+/// only read. After `Memory` too, all that the widget holds is its own, and others have what they had.
+pub fn call(
+    alloc: Global,
+    which: NativeId,
+    this: &Value,
+    args: &[Value],
+    store: &mut Store,
+    meter: &mut Meter,
+    owner: Owner,
+    page: &Page,
+    around: &Loop,
+) -> Result<NativeOut, Memory>
+    requires part { is_part which ≡ true }
+    requires widget { IsWidget owner }
+    requires sound { IsSound (number_in owner) store.old page.now around.now }
+    requires receiver { IsReceiver (number_in owner) store.old.cells this.now }
+    ensures native { IfOk result (λ o. Reads (number_in owner) store.old store.new page.now around.now meter.old meter.new
+        (run_native which (receiver (number_in owner) store.old.cells this.now) (all_seen (number_in owner) store.old.cells args.now)) o) }
+    ensures holds { HoldsOwn (number_in owner) store.new page.now around.now }
+    ensures kept { KeepsStore (number_in owner) store.old store.new }
+{
+    match owner {
+        Owner::Host => unreachable!(),
+        Owner::Widget(w) => call_of(alloc, which, this, args, store, meter, w, page, around),
+    }
+}
+
+// The same for the number of the owner.
+fn call_of(
+    alloc: Global,
+    which: NativeId,
+    this: &Value,
+    args: &[Value],
+    store: &mut Store,
+    meter: &mut Meter,
+    w: u32,
+    page: &Page,
+    around: &Loop,
+) -> Result<NativeOut, Memory>
+    requires part { is_part which ≡ true }
+    requires widget { w < 32 }
+    requires sound { IsSound w store.old page.now around.now }
+    requires receiver { IsReceiver w store.old.cells this.now }
+    ensures native { IfOk result (λ o. Reads w store.old store.new page.now around.now meter.old meter.new
+        (run_native which (receiver w store.old.cells this.now) (all_seen w store.old.cells args.now)) o) }
+    ensures holds { HoldsOwn w store.new page.now around.now }
+    ensures kept { KeepsStore w store.old store.new }
+{
+    let absent = Value::Undefined;
+    let first = nth(args, 0, &absent);
+    match kind_of(which) {
+        Kind::DomQuery => match page.root_of(Owner::Widget(w)) {
+            Some(root) => query(alloc, &[root], first, store, meter, w, page, around),
+            None => unreachable!(),
+        },
+        Kind::Method(method) => match receiver_of(alloc, store, w, page, this)? {
+            Some(list) => read(alloc, method, &list, first, store, meter, w, page, around),
+            None => Ok(NativeOut::Throw(Fault::E3)),
+        },
+        Kind::Other => unreachable!(),
+    }
+}
+
+// A method on the nodes of its receiver, with its first argument.
+fn read(
+    alloc: Global,
+    method: Method,
+    list: &[NodeId],
+    first: &Value,
+    store: &mut Store,
+    meter: &mut Meter,
+    w: u32,
+    page: &Page,
+    around: &Loop,
+) -> Result<NativeOut, Memory>
+    requires widget { w < 32 }
+    requires nodes { AreNodes page.now w list.now }
+    requires sound { IsSound w store.old page.now around.now }
+    ensures native { IfOk result (λ o. Reads w store.old store.new page.now around.now meter.old meter.new
+        (λ d s. method_plan method (map (number page.now w) list.now) (seen w store.old.cells first.now) s) o) }
+    ensures holds { HoldsOwn w store.new page.now around.now }
+    ensures kept { KeepsStore w store.old store.new }
+{
+    match method {
+        Method::Query => query(alloc, list, first, store, meter, w, page, around),
+        Method::GetValue => get_value(alloc, list, store, meter, w, page),
+        Method::GetValues => get_values(alloc, list, store, meter, w, page),
+        Method::GetStyle => get_style(alloc, list, first, store, meter, w, page),
+        Method::GetClass => get_attribute(alloc, list, b"class", store, meter, w, page),
+        Method::GetTitle => get_attribute(alloc, list, b"title", store, meter, w, page),
+        Method::GetCheck => Ok(get_check(list, meter, w, page)),
+        Method::Count => Ok(count(list, meter, w, page)),
+        Method::GetParent => get_parent(alloc, list, store, meter, w, page, around),
+        Method::GetTagName => get_tag_name(alloc, list, store, meter, w, page),
+        Method::GetMark => get_mark(alloc, list, store, meter, w, page, around),
+    }
+}

@@ -1,0 +1,313 @@
+//! Bunches that are found from those of the receiver.
+ghost use Rattle.std.specs.Prelude.{◌≡◌, ◌<◌, ◌++◌, ℕ, [], ◌∷◌, Some, true, not, IfOk, OnOk, if◌then◌else◌, length, map, nat_eq};
+ghost use Rattle.std.specs.List.{IsDistinct, filter_map, list_all};
+ghost use Rattle.query_grammar.specs.Finds.{has_number};
+ghost use Rattle.widget_meaning.specs.BunchReads as means;
+ghost use Rattle.widget_meaning.specs.OwnState.{State, kept_at};
+ghost use Rattle.widget_meaning.specs.PageForms.{once};
+ghost use Rattle.widget_meaning.specs.Queries.{finds};
+ghost use Rattle.widget_meaning.specs.Trees.{parent as meaning_parent};
+ghost use Rattle.event_image.specs.Image.{Shows};
+ghost use Rattle.event_loop.specs.Around.{focus as loop_focus};
+ghost use Rattle.js_image.specs.Image.{seen};
+ghost use Rattle.page_image.specs.Held.{OptionIn};
+ghost use Rattle.page_image.specs.Image.{forest, number, owns};
+ghost use Rattle.bunch_read.specs.Finding.{AreApart, Opens, added, begins_next};
+ghost use Rattle.native_image.specs.Meets.{Reads};
+ghost use Rattle.native_image.specs.Sound.{AreNodes, HoldsOwn, IsSound, KeepsStore};
+
+use code_units::{Memory, Owner};
+use event_image::is_protected;
+use event_loop::Loop;
+use indexmap::IndexSet;
+use js_image::Fault;
+use js_values::{Meter, NativeOut};
+use native_forms::{is_object, read_text, take};
+use native_image::give_bunch;
+use object_store::{Store, Value};
+use page_image::{made, parent};
+use page_tree::{NodeId, Page};
+use query_image::find;
+use query_lang::{Hunter, Query, QueryFault, QueryStep, read_query};
+use std::alloc::Global;
+
+// Whether the first step of a query goes to the next sibling.
+fn begins_next(query: &Query) -> bool
+    ensures { result ≡ begins_next query.now }
+{
+    match query.steps.first() {
+        Some(step) => matches!(step.hunter, Hunter::Next(_)),
+        None => false,
+    }
+}
+
+// Puts a node behind others.
+fn push(list: &mut Vec<NodeId>, node: NodeId) -> Result<(), Memory>
+    ensures { OnOk result (list.new.items ≡ list.old.items ++ node ∷ []) }
+{
+    list.push(node)?;
+    Ok(())
+}
+
+// Keeps a node that is not protected.
+fn keep_open(
+    found: &mut Vec<NodeId>,
+    node: NodeId,
+    w: u32,
+    page: &Page,
+    around: &Loop,
+) -> Result<(), Memory>
+    requires { owns page.now w node ≡ true }
+    ensures { (g : ℕ → ℕ) (s : State) → Shows page.now w g around.now s.own → OnOk result (found.new.items
+        ≡ found.old.items ++ (if not (kept_at s (number page.now w node)).is_protected then node ∷ [] else [])) }
+{
+    if is_protected(around, page, w, node) {
+        return Ok(());
+    }
+    push(found, node)
+}
+
+// The nodes that are not protected.
+fn open_nodes(
+    alloc: Global,
+    list: &[NodeId],
+    w: u32,
+    page: &Page,
+    around: &Loop,
+) -> Result<Vec<NodeId>, Memory>
+    requires { (n : ℕ) → has_number list.now n ≡ true → owns page.now w n ≡ true }
+    ensures { (g : ℕ → ℕ) (s : State) → Shows page.now w g around.now s.own → IfOk result (λ ns. Opens page.now w s list.now ns.items) }
+{
+    let mut found = Vec::new(alloc);
+    'each: for node in list {
+        keep_open(&mut found, *node, w, page, around)?;
+    }
+    Ok(found)
+}
+
+// What a query finds from nodes.
+fn found_from(
+    alloc: Global,
+    starts: &[NodeId],
+    query: &Query,
+    w: u32,
+    page: &Page,
+    around: &Loop,
+) -> Result<Vec<NodeId>, Memory>
+    requires widget { w < 32 }
+    requires starts { (n : ℕ) → has_number starts.now n ≡ true → owns page.now w n ≡ true }
+    requires apart { IsDistinct nat_eq (map (number page.now w) starts.now) }
+    requires focus { OptionIn (owns page.now w) (loop_focus around.now) }
+    ensures image { (g : ℕ → ℕ) (s : State) → Shows page.now w g around.now s.own → IfOk result (λ ns.
+        map (number page.now w) ns.items ≡ finds s (map (number page.now w) starts.now) query.now) }
+    ensures apart { IfOk result (λ ns. AreApart page.now w ns.items) }
+{
+    // In the widget's document each node stands once.
+    page.nodes_stand_once(Owner::Widget(w));
+    find(alloc, page, w, around.focus(), starts, query)
+}
+
+// What a query finds from nodes; protected ones are no starts of `+`.
+fn found(
+    alloc: Global,
+    list: &[NodeId],
+    query: &Query,
+    w: u32,
+    page: &Page,
+    around: &Loop,
+) -> Result<Vec<NodeId>, Memory>
+    requires widget { w < 32 }
+    requires nodes { AreNodes page.now w list.now }
+    requires shown { (g : ℕ → ℕ) × (s : State) × Shows page.now w g around.now s.own }
+    ensures image { (g : ℕ → ℕ) (s : State) → Shows page.now w g around.now s.own → IfOk result (λ ns.
+        map (number page.now w) ns.items ≡ finds s (means.starts s query.now (map (number page.now w) list.now)) query.now) }
+    ensures apart { IfOk result (λ ns. AreApart page.now w ns.items) }
+{
+    if begins_next(query) {
+        let starts = open_nodes(alloc, list, w, page, around)?;
+        found_from(alloc, &starts, query, w, page, around)
+    } else {
+        found_from(alloc, list, query, w, page, around)
+    }
+}
+
+// How many steps a query has.
+fn steps_len(query: &Query) -> usize
+    ensures { result ≡ length query.now }
+{
+    let steps: &[QueryStep] = &query.steps;
+    steps.len()
+}
+
+// `q` of a query that was read.
+fn find_bunch(
+    alloc: Global,
+    list: &[NodeId],
+    query: &Query,
+    store: &mut Store,
+    meter: &mut Meter,
+    w: u32,
+    page: &Page,
+    around: &Loop,
+) -> Result<NativeOut, Memory>
+    requires widget { w < 32 }
+    requires nodes { AreNodes page.now w list.now }
+    requires sound { IsSound w store.old page.now around.now }
+    ensures native { IfOk result (λ o. Reads w store.old store.new page.now around.now meter.old meter.new
+        (λ d s. means.query_steps (Some query.now) (map (number page.now w) list.now) s) o) }
+    ensures holds { HoldsOwn w store.new page.now around.now }
+    ensures kept { KeepsStore w store.old store.new }
+{
+    let extra = steps_len(query).saturating_mul(made(page, w) as usize);
+    match take(meter, extra) {
+        Ok(()) => {
+            let nodes = found(alloc, list, query, w, page, around)?;
+            give_bunch(alloc, store, w, page, nodes)
+        }
+        Err(_) => Ok(NativeOut::OutOfFuel),
+    }
+}
+
+/// `q(query)`.
+pub(crate) fn query(
+    alloc: Global,
+    list: &[NodeId],
+    text: &Value,
+    store: &mut Store,
+    meter: &mut Meter,
+    w: u32,
+    page: &Page,
+    around: &Loop,
+) -> Result<NativeOut, Memory>
+    requires widget { w < 32 }
+    requires nodes { AreNodes page.now w list.now }
+    requires sound { IsSound w store.old page.now around.now }
+    ensures native { IfOk result (λ o. Reads w store.old store.new page.now around.now meter.old meter.new
+        (λ d s. means.query (map (number page.now w) list.now) (seen w store.old.cells text.now) s) o) }
+    ensures holds { HoldsOwn w store.new page.now around.now }
+    ensures kept { KeepsStore w store.old store.new }
+{
+    if is_object(text) {
+        return Ok(NativeOut::Throw(Fault::E4));
+    }
+    let text = read_text(alloc, text)?;
+    match read_query(alloc, &text) {
+        Ok(query) => find_bunch(alloc, list, &query, store, meter, w, page, around),
+        Err(QueryFault::BadQuery { .. }) => Ok(NativeOut::Throw(Fault::E9)),
+        Err(QueryFault::Memory) => Err(Memory),
+    }
+}
+
+// Whether a node has a parent and is not protected.
+fn is_open(node: NodeId, w: u32, page: &Page, around: &Loop) -> bool
+    requires { owns page.now w node ≡ true }
+    ensures { (g : ℕ → ℕ) (s : State) → Shows page.now w g around.now s.own → result ≡ means.has_open_parent s (number page.now w node) }
+{
+    parent(page, w, node).is_some() && !is_protected(around, page, w, node)
+}
+
+// Whether each node has a parent and is not protected.
+fn all_open(list: &[NodeId], w: u32, page: &Page, around: &Loop) -> bool
+    requires { (n : ℕ) → has_number list.now n ≡ true → owns page.now w n ≡ true }
+    ensures { (g : ℕ → ℕ) (s : State) → Shows page.now w g around.now s.own
+        → result ≡ list_all (means.has_open_parent s) (map (number page.now w) list.now) }
+{
+    'each: for node in list {
+        if !is_open(*node, w, page, around) {
+            return false;
+        }
+    }
+    true
+}
+
+// Marks a node, and tells whether it was not marked before.
+fn mark_node(seen: &mut IndexSet<NodeId>, node: NodeId) -> Result<bool, Memory>
+    ensures { IfOk result (λ new. (new ≡ not (has_number seen.old.keys node))
+        × (seen.new.keys ≡ (if has_number seen.old.keys node then seen.old.keys else seen.old.keys ++ node ∷ []))) }
+{
+    Ok(seen.insert(node)?)
+}
+
+// Keeps a node that was not kept before.
+fn keep_once(
+    seen: &mut IndexSet<NodeId>,
+    found: &mut Vec<NodeId>,
+    node: NodeId,
+) -> Result<(), Memory>
+    requires { seen.old.keys ≡ found.old.items }
+    ensures found { OnOk result (found.new.items ≡ (if has_number found.old.items node then found.old.items else found.old.items ++ node ∷ [])) }
+    ensures same { OnOk result (seen.new.keys ≡ found.new.items) }
+{
+    if mark_node(seen, node)? {
+        push(found, node)
+    } else {
+        Ok(())
+    }
+}
+
+// Keeps the parent of a node, if it has one that was not kept before.
+fn keep_parent(
+    seen: &mut IndexSet<NodeId>,
+    found: &mut Vec<NodeId>,
+    node: NodeId,
+    w: u32,
+    page: &Page,
+) -> Result<(), Memory>
+    requires own { owns page.now w node ≡ true }
+    requires same { seen.old.keys ≡ found.old.items }
+    requires found { AreApart page.now w found.old.items }
+    ensures image { (s : State) → s.own.forest ≡ forest page.now w → OnOk result (map (number page.now w) found.new.items
+        ≡ added (map (number page.now w) found.old.items) (meaning_parent (number page.now w node) s.own.forest)) }
+    ensures same { OnOk result (seen.new.keys ≡ found.new.items) }
+    ensures found { OnOk result (AreApart page.now w found.new.items) }
+{
+    match parent(page, w, node) {
+        Some(above) => keep_once(seen, found, above),
+        None => Ok(()),
+    }
+}
+
+// The parents of nodes, first seen first, each once.
+fn parents(alloc: Global, list: &[NodeId], w: u32, page: &Page) -> Result<Vec<NodeId>, Memory>
+    requires { (n : ℕ) → has_number list.now n ≡ true → owns page.now w n ≡ true }
+    ensures image { (s : State) → s.own.forest ≡ forest page.now w → IfOk result (λ ns. map (number page.now w) ns.items
+        ≡ once [] (filter_map (λ n. meaning_parent n s.own.forest) (map (number page.now w) list.now))) }
+    ensures apart { IfOk result (λ ns. AreApart page.now w ns.items) }
+{
+    let mut seen = IndexSet::new(alloc);
+    let mut found = Vec::new(alloc);
+    'each: for node in list {
+        keep_parent(&mut seen, &mut found, *node, w, page)?;
+    }
+    Ok(found)
+}
+
+/// `getParent()`.
+pub(crate) fn get_parent(
+    alloc: Global,
+    list: &[NodeId],
+    store: &mut Store,
+    meter: &mut Meter,
+    w: u32,
+    page: &Page,
+    around: &Loop,
+) -> Result<NativeOut, Memory>
+    requires widget { w < 32 }
+    requires nodes { AreNodes page.now w list.now }
+    requires sound { IsSound w store.old page.now around.now }
+    ensures native { IfOk result (λ o. Reads w store.old store.new page.now around.now meter.old meter.new
+        (λ d s. means.get_parent (map (number page.now w) list.now) s) o) }
+    ensures holds { HoldsOwn w store.new page.now around.now }
+    ensures kept { KeepsStore w store.old store.new }
+{
+    if !all_open(list, w, page, around) {
+        return Ok(NativeOut::Throw(Fault::E10));
+    }
+    match take(meter, list.len()) {
+        Ok(()) => {
+            let nodes = parents(alloc, list, w, page)?;
+            give_bunch(alloc, store, w, page, nodes)
+        }
+        Err(_) => Ok(NativeOut::OutOfFuel),
+    }
+}

@@ -1,0 +1,15 @@
+//! The methods of Bunches that read, and `dom.q`.
+//!
+//! Each is the meaning's method at the widget's own state, read off the store, the page and the loop
+//! together. A method has the nodes of its receiver; `call` reads them.
+#![tactic(auto)]
+
+mod attributes;
+mod calling;
+mod finding;
+mod first;
+mod kinds;
+mod styles;
+mod texts;
+
+pub use calling::call;
