@@ -1,0 +1,4 @@
+pub mod Building
+pub mod Positions
+pub mod Shifts
+pub mod Standing
