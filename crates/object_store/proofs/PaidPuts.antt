@@ -7,7 +7,6 @@ use Rattle.keyed_names.proofs.Interning.{none_test, same_test}
 use Rattle.store_cells.specs.declared.value.Value.{Value}
 use Rattle.store_cells.specs.declared.cell.Write.{Write}
 use Rattle.store_cells.specs.declared.counts.Counts.{Counts}
-use Rattle.store_cells.specs.declared.counts.StoreFault.{StoreFault}
 use Rattle.store_cells.specs.declared.counts.StoreFault.TheVariants as fault
 use Rattle.store_cells.specs.Lists.{changed}
 use Rattle.store_cells.specs.Cells.{Cells, PlainCell, has_own, is_bunch, is_visible, writer_in}

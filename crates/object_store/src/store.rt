@@ -1,10 +1,10 @@
 //! The store.
-ghost use Rattle.std.specs.Prelude.{◌≡◌, ℕ, option_to_list, ◌+◌, ◌<◌, ◌≤◌, [], ◌∷◌, ◌++◌, None, Some, true, false, is_some, nat_eq, length, vec_len, slice_get, option_copied, IfOk, IfErr, IfSome, OnErr, OnOk, MatchOption, MatchResult, replicate};
+ghost use Rattle.std.specs.Prelude.{◌≡◌, ℕ, option_to_list, filter, map, ◌&&◌, ◌+◌, ◌<◌, ◌≤◌, [], ◌∷◌, ◌++◌, None, Some, true, false, is_some, nat_eq, length, vec_len, slice_get, option_copied, IfOk, IfErr, IfSome, OnErr, OnOk, MatchOption, MatchResult, replicate};
 ghost use Rattle.std.specs.Option.{option_and_then, option_map, option_map_or};
 ghost use Rattle.object_store.specs.Owned.{Made, SeesPut, SeesRemoved, SeesSet, is_held_by, is_of_at, is_own_scope, node_of, nodes_in, own_cell, own_paid, own_scope, owned, scope_number, SeesPaid};
 ghost use Rattle.std.specs.List.{IsDistinct, list_any};
 ghost use Rattle.std.specs.Str.{bytes_eq};
-ghost use Rattle.store_cells.specs.Arrays.{keys_of, length_in, length_name};
+ghost use Rattle.store_cells.specs.Arrays.{is_index_below, is_reference, keys_of, length_in, length_name};
 ghost use Rattle.store_cells.specs.Bunches.{IsBunch};
 ghost use Rattle.store_cells.specs.Cells.{Cells, PlainCell, chain, own_count, first_own, value_along, is_bunch_at, is_scope_at, is_visible, kind_of, function_in, native_in, node_in, proto_in, prototypes, holder, is_array, is_bunch, raw_cell, value_of};
 ghost use Rattle.store_cells.specs.Shape.{AreElements, HasPrototype, IsLinked, IsNewForm, IsRefWithin};
@@ -389,7 +389,33 @@ impl Store {
         if !held.head().form.is_array() {
             return None;
         }
-        held.element(&self.names, at)
+        held.element(at)
+    }
+
+    /// Whether an own name of a cell that is an index below a number has a reference.
+    pub fn has_reference(&self, cell: CellId, n: u32) -> bool
+        requires { cell < length self.now.cells }
+        ensures { IfSome (slice_get self.now.cells cell) (λ c.
+            result ≡ list_any (λ p. is_index_below n p.0 && is_reference p.1) c.pairs) }
+    {
+        table::cell(&self.cells, cell).has_reference(&self.names, n)
+    }
+
+    /// How many own names of a cell are indices below a number.
+    pub fn count_below(&self, cell: CellId, n: u32) -> usize
+        requires { cell < length self.now.cells }
+        ensures { IfSome (slice_get self.now.cells cell) (λ c.
+            result ≡ length (filter (λ p. is_index_below n p.0) c.pairs)) }
+    {
+        table::cell(&self.cells, cell).count_below(&self.names, n)
+    }
+
+    /// A law: the names of a cell differ.
+    pub fn names_differ(&self, cell: CellId)
+        requires { cell < length self.now.cells }
+        ensures { IfSome (slice_get self.now.cells cell) (λ c. IsDistinct bytes_eq (map (λ p. p.0) c.pairs)) }
+    {
+        table::cell(&self.cells, cell).names_differ();
     }
 
     /// The page nodes of a Bunch in their order, which differ; none exactly for a cell of another kind.
@@ -935,8 +961,7 @@ impl Store {
         let Some(n) = self.names.number(name) else {
             return Ok(true);
         };
-        let end = held.end(name);
-        table::take(&self.names, &mut self.cells, cell, name, n, end);
+        table::take(&self.names, &mut self.cells, cell, name, n);
         Ok(true)
     }
 

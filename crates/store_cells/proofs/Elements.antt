@@ -1,10 +1,10 @@
 -- The names of elements, and an Array as it grows.
-use Rattle.std.proofs.Common.{◌≡◌, ℕ, zero, suc, ◌+◌, ◌-◌, ◌*◌, ◌<◌, ◌≤◌, ◌%◌, ◌^◌, List, [], ◌∷◌, ◌++◌, length, map, slice_get, take, refl, sym, ap, ◌∙◌, subst, Option, Some, None, arith, Bool, true, false, eqb, if◌then◌else◌, is_some}
-use Rattle.std.specs.Prelude.{Result, Ok, Err, OnOk, ◌&&◌, max, nat_lt}
+use Rattle.std.proofs.Common.{◌≡◌, ℕ, zero, suc, ◌+◌, ◌<◌, ◌≤◌, ◌%◌, ◌^◌, List, [], ◌∷◌, ◌++◌, length, map, slice_get, take, refl, sym, ap, ◌∙◌, subst, Option, Some, arith, Bool, true, false, eqb, if◌then◌else◌, is_some}
+use Rattle.std.specs.Prelude.{Result, Ok, Err, OnOk, ◌&&◌, nat_lt}
 use Rattle.std.specs.Fmt.{decimal}
-use Rattle.std.specs.List.{AllByRecursion, list_all}
+use Rattle.std.specs.List.{list_all}
 use Rattle.std.specs.Map.{lookup}
-use Rattle.std.specs.Option.{option_map_or, option_and_then}
+use Rattle.std.specs.Option.{option_and_then, option_map_or}
 use Rattle.std.specs.Str.{bytes_eq}
 use Rattle.std.proofs.lemmas.Bool.Decides.{nat_tests}
 use Rattle.std.proofs.lemmas.Fmt.{decimal_by_steps, decimal_injective}
@@ -17,14 +17,14 @@ use Rattle.keyed_names.proofs.Interning.{same_test, stays, longer}
 use Rattle.store_cells.specs.declared.value.Value.{Value}
 use Rattle.store_cells.specs.declared.value.Value.TheVariants as value
 use Rattle.store_cells.specs.declared.cell.Head.{Head}
-use Rattle.code_units.specs.Indices.{index_of}
 use Rattle.store_cells.specs.Cells.{PlainCell}
-use Rattle.store_cells.specs.Arrays.{is_below, length_in, length_name, count_value, written}
+use Rattle.store_cells.specs.Arrays.{end_of, length_in, length_name, count_value, written}
 use Rattle.store_cells.specs.Born.{filled_cell}
 use Rattle.store_cells.specs.Bunches.{array_pairs, elements}
-use Rattle.store_cells.specs.Numbered.{NumberedCell, Grown, plain, named, name_at, numbered_written}
-use Rattle.store_cells.specs.Shape.{AreBelow, AreElements, AreEntries, AreRefs, AreWords, IsArrayOf, IsFine, Known}
+use Rattle.store_cells.specs.Numbered.{NumberedCell, Grown, plain, named, found_in, numbered_written}
+use Rattle.store_cells.specs.Shape.{AreElements, AreEntries, AreRefs, AreWords, IsArrayOf, IsFine, IsIndexed, Known}
 use Rattle.store_cells.proofs.Entries.{ref_more}
+use Rattle.store_cells.proofs.Indexed.{indexed_written, indexed_none, indexed_stay}
 use Rattle.store_cells.proofs.Lists.{none_some, some_same}
 use Rattle.store_cells.proofs.Look.{look, insert_named}
 use Rattle.store_cells.proofs.Writes.{count_length, length_here, named_stay, zero_within}
@@ -78,23 +78,9 @@ insert_element n count vs v is lt =
     ap (λ b. if b then (length_name, v) ∷ elements 0 vs else (length_name, count_value count) ∷ insert_entry bytes_eq (elements 0 vs) (decimal n) v) (element_length n lt)
     ∙ ap (λ es. (length_name, count_value count) ∷ es) (insert_last 0 n vs v (omega (arith, is)) lt)
 
--- elements stand below their number
-lt_true : (i n : ℕ) → i < n → nat_lt i n ≡ true
-lt_true i n lt = grind (arith, nat_tests, lt)
-
-element_below : (top k : ℕ) → k < top → top ≤ 4294967295 → is_below top (decimal k) ≡ true
-element_below top k lt le = ap (λ (o : Option ℕ). option_map_or (λ i. nat_lt i top) o true) (index_only (decimal k) k (omega (arith, lt, le)) refl) ∙ lt_true k top lt
-
-abbrev StandBelow : ℕ → List (List ℕ × Value) → Type 0
-StandBelow top ps = AllByRecursion (λ p. is_below top p.0 ≡ true) ps
-
-elements_below : (top k : ℕ) (vs : List Value) → k + length vs ≤ top → top ≤ 4294967295 → StandBelow top (elements k vs)
-elements_below top k [] le few = tt
-elements_below top k (v ∷ vs) le few = (element_below top k (omega (arith, le)) few, elements_below top (suc k) vs (omega (arith, le)) few)
-
-named_below : (names : List (List ℕ)) (top : ℕ) (es : List (ℕ × Value)) → StandBelow top (named names es) → AreBelow names top es
-named_below names top [] h = tt
-named_below names top (e ∷ es) h = (h.0, named_below names top es h.1)
+-- an element is an index
+pub element_end : (k : ℕ) → k < 4294967295 → k + 1 ≡ end_of (decimal k)
+element_end k lt = ap (λ (o : Option ℕ). option_map_or (λ i. i + 1) o 0) (sym (index_only (decimal k) k lt refl))
 
 -- known numbers
 pub known_longer : (m n : ℕ) (es : List (ℕ × Value)) → m ≤ n → Known m es → Known n es
@@ -125,6 +111,13 @@ module _ (old new : List (List ℕ)) (name : List ℕ) (n end : ℕ) (is : Inter
   reference_known (Ok u) after e = subst (λ (x : NumberedCell). Known (length new) x.entries) (sym e) (known_insert (length new) n v c.entries (known_longer (length old) (length new) c.entries (longer old new name is.table) known) is.within)
   reference_known (Err u) after e = tt
 
+  pub reference_indexed : {E : Type 0} (r : Result (Unit {0}) E) (after : NumberedCell) → OnOk r (after ≡ numbered_written n v end c) → OnOk r (end ≡ end_of name → IsIndexed old (found_in c.elements) c.entries → IsIndexed new (found_in after.elements) after.entries)
+  reference_indexed (Ok u) after e = λ is_end h.
+      let more = known_longer (length old) (length new) c.entries (longer old new name is.table) known in
+      subst (λ (x : NumberedCell). IsIndexed new (found_in x.elements) x.entries) (sym e)
+      (indexed_written new table n is.within c.elements end v c.entries more (is_end ∙ ap end_of (sym (get_or_from_slice_get new n name [] is.found))) (indexed_stay old new (stays old new name is.table) (found_in c.elements) c.entries known h))
+  reference_indexed (Err u) after e = tt
+
   pub reference_done : {E : Type 0} (r : Result (Unit {0}) E) (after : NumberedCell) → OnOk r (after ≡ numbered_written n v end c) → OnOk r (plain new after ≡ written name v (plain old c))
   reference_done (Ok u) after e =
       let p = insert_named new name n (same_test new name n table is.found) c.entries v (known_longer (length old) (length new) c.entries (longer old new name is.table) known) (get_or_from_slice_get new n name [] is.found) in
@@ -139,15 +132,15 @@ grown_then a b c g h = record {
 }
 
 -- an Array without elements
-pub array_none : (names : List (List ℕ)) (h : Head) (count : ℕ) (first c : NumberedCell) → IsTable names → AreWords names → first ≡ record { head = h; top = 0; entries = [] } → c ≡ numbered_written 0 (count_value count) 0 first → IsArrayOf names h count [] c
+pub array_none : (names : List (List ℕ)) (h : Head) (count : ℕ) (first c : NumberedCell) → IsTable names → AreWords names → first ≡ record { head = h; elements = []; entries = [] } → c ≡ numbered_written 0 (count_value count) 0 first → IsArrayOf names h count [] c
 array_none names h count first c table words is e = record {
   head = ap (λ (x : NumberedCell). x.head) here;
-  top = ap (λ (x : NumberedCell). x.top) here;
+  indexed = subst (λ (x : NumberedCell). IsIndexed names (found_in x.elements) x.entries) (sym here) (indexed_written names table 0 (zero_within names table words) [] 0 (count_value count) [] tt (ap end_of (sym (length_here names table words))) (indexed_none names));
   known = subst (λ (x : NumberedCell). Known (length names) x.entries) (sym here) (zero_within names table words, tt);
   pairs = ap (λ (x : NumberedCell). named names x.entries) here ∙ ap (λ t. (t, count_value count) ∷ []) (length_here names table words);
 }
   where
-    here : c ≡ numbered_written 0 (count_value count) 0 (record { head = h; top = 0; entries = [] })
+    here : c ≡ numbered_written 0 (count_value count) 0 (record { head = h; elements = []; entries = [] })
     here = e ∙ ap (numbered_written 0 (count_value count) 0) is
 
 -- the Array with one element more
@@ -161,14 +154,11 @@ length_take vs zero le = refl
 length_take [] (suc k) le = absurd (omega (arith, le))
 length_take (x ∷ vs) (suc k) le = ap suc (length_take vs k (omega (arith, le)))
 
-max_more : (k : ℕ) → max k (k + 1) ≡ k + 1
-max_more k = omega arith
-
-pub array_more : (old new : List (List ℕ)) (h : Head) (count : ℕ) (vs : List Value) (k : ℕ) (v : Value) (name : List ℕ) (c after : NumberedCell) → IsArrayOf old h count (take k vs) c → k < length vs → k < 2 ^ 64 → name ≡ decimal k → slice_get vs k ≡ Some v → Known (length new) after.entries → after.head ≡ c.head → after.top ≡ max c.top (k + 1) → plain new after ≡ written name v (plain old c)
+pub array_more : (old new : List (List ℕ)) (h : Head) (count : ℕ) (vs : List Value) (k : ℕ) (v : Value) (name : List ℕ) (c after : NumberedCell) → IsArrayOf old h count (take k vs) c → k < length vs → k < 2 ^ 64 → name ≡ decimal k → slice_get vs k ≡ Some v → Known (length new) after.entries → after.head ≡ c.head → IsIndexed new (found_in after.elements) after.entries → plain new after ≡ written name v (plain old c)
     → IsArrayOf new h count (take (k + 1) vs) after
-array_more old new h count vs k v name c after is lt small at found known head top done = record {
+array_more old new h count vs k v name c after is lt small at found known head indexed done = record {
   head = head ∙ is.head;
-  top = top ∙ ap (λ n. max n (k + 1)) here ∙ max_more k ∙ sym (length_take vs (k + 1) (omega (arith, lt)));
+  indexed = indexed;
   known = known;
   pairs =
       ap (λ (p : PlainCell). p.pairs) done ∙ (λ j. insert_entry bytes_eq (is.pairs j) (at j) v) ∙ insert_element k count (take k vs) v (sym (length_take vs k (omega (arith, lt)))) small
@@ -177,9 +167,6 @@ array_more old new h count vs k v name c after is lt small at found known head t
   where
     more : k + 1 ≡ suc k
     more = omega arith
-
-    here : c.top ≡ k
-    here = is.top ∙ length_take vs k (omega (arith, lt))
 
 -- a whole Array
 pub whole_array : (names : List (List ℕ)) (h : Head) (count k : ℕ) (vs : List Value) (c : NumberedCell) → length vs ≤ k → IsArrayOf names h count (take k vs) c → IsArrayOf names h count vs c
@@ -214,7 +201,7 @@ array_fine names size h count vs c table words few le refs is = record {
   entries = known_refs names (length names) size c.entries is.known (subst (AreRefs size) (sym is.pairs) (tt, refs_elements size 0 vs refs));
   array = λ a. record {
     length = ap (λ (o : Option Value). is_some (option_and_then length_in o)) (look names length_name 0 (same_test names length_name 0 table words.length) c.entries is.known ∙ ap (lookup (bytes_eq length_name)) is.pairs) ∙ ap is_some (count_length count le);
-    below = named_below names c.top c.entries (subst (λ n. StandBelow n (named names c.entries)) (sym is.top) (subst (StandBelow (length vs)) (sym is.pairs) (refl, elements_below (length vs) 0 vs (omega arith) few)));
+    indexed = is.indexed;
   };
 }
 

@@ -1,16 +1,12 @@
 -- The entries of one cell, after each change.
-use Rattle.std.proofs.Common.{◌≡◌, ℕ, ◌<◌, ◌≤◌, List, [], ◌∷◌, length, get_or, refl, sym, ap, ◌∙◌, Option, Some, None, arith, Bool, true, false, eqb, cond, if◌then◌else◌, true≢false, filter}
-use Rattle.std.specs.Prelude.{nat_lt}
-use Rattle.std.specs.Option.{option_map_or}
+use Rattle.std.proofs.Common.{◌≡◌, ℕ, ◌<◌, ◌≤◌, List, [], ◌∷◌, refl, sym, ap, ◌∙◌, Some, None, arith, Bool, true, false, eqb, cond, if◌then◌else◌, true≢false, filter}
 use Rattle.std.specs.Map.{lookup, remove_entry}
 use Rattle.std.proofs.lemmas.Bool.Decides.{nat_tests}
 use Rattle.indexmap.specs.IndexMap.{insert_entry}
 use Rattle.store_cells.specs.declared.value.Value.{Value}
 use Rattle.store_cells.specs.declared.value.Value.TheVariants as value
-use Rattle.code_units.specs.Indices.{index_of}
-use Rattle.store_cells.specs.Arrays.{is_below}
 use Rattle.store_cells.specs.Numbered.{name_at, named}
-use Rattle.store_cells.specs.Shape.{Known, AreEntries, AreBelow, IsRefWithin}
+use Rattle.store_cells.specs.Shape.{AreEntries, IsRefWithin}
 
 -- references
 pub ref_more : (m n : ℕ) (v : Value) → m ≤ n → IsRefWithin m v → IsRefWithin n v
@@ -50,50 +46,6 @@ entries_filter n size p (e ∷ es) h = by (p e) (entries_filter n size p es h.1)
     by false rest = rest
 
 -- indices
-lt_more : (i m n : ℕ) → nat_lt i m ≡ true → m ≤ n → nat_lt i n ≡ true
-lt_more i m n e le = grind (arith, nat_tests, e, le)
-
-pub below_more : (m n : ℕ) (t : List ℕ) → m ≤ n → is_below m t ≡ true → is_below n t ≡ true
-below_more m n t le h = by (index_of t) h
-  where
-    by : (o : Option ℕ) → option_map_or (λ i. nat_lt i m) o true ≡ true → option_map_or (λ i. nat_lt i n) o true ≡ true
-    by None e = refl
-    by (Some i) e = lt_more i m n e le
-
-pub below_insert : (names : List (List ℕ)) (m n k : ℕ) (v : Value) (es : List (ℕ × Value)) → m ≤ n → AreBelow names m es → is_below n (name_at names k) ≡ true → AreBelow names n (insert_entry eqb es k v)
-below_insert names m n k v [] le h new = (new, tt)
-below_insert names m n k v (e ∷ es) le h new = by (eqb k e.0) (below_insert names m n k v es le h.1 new)
-  where
-    rest_more : (es : List (ℕ × Value)) → AreBelow names m es → AreBelow names n es
-    rest_more [] h = tt
-    rest_more (e ∷ es) h = (below_more m n (name_at names e.0) le h.0, rest_more es h.1)
-
-    by : (b : Bool) → AreBelow names n (insert_entry eqb es k v) → AreBelow names n (if b then (e.0, v) ∷ es else e ∷ insert_entry eqb es k v)
-    by true rest = (below_more m n (name_at names e.0) le h.0, rest_more es h.1)
-    by false rest = (below_more m n (name_at names e.0) le h.0, rest)
-
-pub below_remove : (names : List (List ℕ)) (m k : ℕ) (es : List (ℕ × Value)) → AreBelow names m es → AreBelow names m (remove_entry (eqb k) es)
-below_remove names m k [] h = tt
-below_remove names m k (e ∷ es) h = by (eqb k e.0) (below_remove names m k es h.1)
-  where
-    by : (b : Bool) → AreBelow names m (remove_entry (eqb k) es) → AreBelow names m (cond b es (e ∷ remove_entry (eqb k) es))
-    by true rest = h.1
-    by false rest = (h.0, rest)
-
-pub below_filter : (names : List (List ℕ)) (m : ℕ) (p : ℕ × Value → Bool) (es : List (ℕ × Value)) → AreBelow names m es → AreBelow names m (filter p es)
-below_filter names m p [] h = tt
-below_filter names m p (e ∷ es) h = by (p e) (below_filter names m p es h.1)
-  where
-    by : (b : Bool) → AreBelow names m (filter p es) → AreBelow names m (cond b (e ∷ filter p es) (filter p es))
-    by true rest = (h.0, rest)
-    by false rest = rest
-
--- a table that grew
-module _ (old new : List (List ℕ)) (kept : (k : ℕ) → k < length old → get_or new k [] ≡ get_or old k []) where
-  pub below_stay : (m : ℕ) (es : List (ℕ × Value)) → Known (length old) es → AreBelow old m es → AreBelow new m es
-  below_stay m [] k h = tt
-  below_stay m (e ∷ es) k h = (ap (is_below m) (kept e.0 k.0) ∙ h.0, below_stay m es k.1 h.1)
-
 -- what is found under a number
 pub lookup_inserted : (n : ℕ) (v : Value) (es : List (ℕ × Value)) → lookup (eqb n) (insert_entry eqb es n v) ≡ Some v
 lookup_inserted n v [] = ap (λ b. cond b (Some v) None) (eqb_self n)

@@ -13,7 +13,7 @@ use Rattle.store_cells.specs.declared.value.Value.{Value}
 use Rattle.store_cells.specs.declared.cell.Head.{Head}
 use Rattle.store_cells.specs.Cells.{PlainCell, is_array}
 use Rattle.store_cells.specs.Arrays.{length_name, nodes_name}
-use Rattle.store_cells.specs.Numbered.{NumberedCell, Grown, plain, cells_of, heads, named, own_head}
+use Rattle.store_cells.specs.Numbered.{NumberedCell, Grown, plain, cells_of, heads, own_head}
 use Rattle.store_cells.specs.Shape.{AreRefs, AreWords, Grew, IsBase, IsFine, IsOrdered, Kept, Known, scope_at, scope_head}
 use Rattle.store_cells.specs.Born.{filled_cell, with_pair}
 use Rattle.store_cells.proofs.Lists.{get_within}

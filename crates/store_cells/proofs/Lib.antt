@@ -1,7 +1,6 @@
 pub mod Adds
 pub mod Closed
 pub mod Costs
-pub mod Cuts
 pub mod Elements
 pub mod Entries
 pub mod Filled
@@ -11,10 +10,10 @@ pub mod Indexed
 pub mod Interned
 pub mod Listing
 pub mod Lists
+pub mod Live
 pub mod Look
 pub mod Makes
 pub mod Places
 pub mod Plans
 pub mod Takes
-pub mod Tops
 pub mod Writes

@@ -1,9 +1,8 @@
 -- What a plan says of a write.
-use Rattle.std.proofs.Common.{◌≡◌, ℕ, ◌+◌, List, refl, sym, ap, ◌∙◌, Option, Some, None, arith, Bool, true, false, if◌then◌else◌, true≢false, length}
+use Rattle.std.proofs.Common.{◌≡◌, ℕ, ◌+◌, List, refl, sym, ap, ◌∙◌, Option, Some, None, Bool, true, false, if◌then◌else◌, true≢false, length}
 use Rattle.std.specs.Prelude.{nat_lt}
 use Rattle.std.specs.Option.{option_map, option_map_or, option_and_then}
 use Rattle.std.specs.Str.{bytes_eq}
-use Rattle.std.proofs.lemmas.Bool.Decides.{nat_tests}
 use Rattle.keyed_names.specs.Interned.{IsTable}
 use Rattle.keyed_names.proofs.Interning.{same_test}
 use Rattle.store_cells.specs.declared.value.Value.{Value}
@@ -11,7 +10,7 @@ use Rattle.store_cells.specs.declared.cell.Write.{Write}
 use Rattle.store_cells.specs.declared.cell.Write.TheVariants as write
 use Rattle.code_units.specs.Indices.{index_of}
 use Rattle.store_cells.specs.Cells.{is_array}
-use Rattle.store_cells.specs.Arrays.{is_below, length_in, length_name, length_of, count_value, written, cut, stored, placed, is_bad_length}
+use Rattle.store_cells.specs.Arrays.{end_of, length_in, length_name, length_of, count_value, written, cut, stored, placed, is_bad_length}
 use Rattle.store_cells.specs.Numbered.{NumberedCell, plain, named, plan_of, by_plan, element_plan, numbered_length}
 use Rattle.store_cells.specs.Shape.{Known, AreWords}
 use Rattle.store_cells.proofs.Lists.{none_some, some_same}
@@ -44,40 +43,37 @@ longer_same n e h = cc
 length_same : (n e : ℕ) → Some (write.Length n) ≡ Some (write.Length e) → n ≡ e
 length_same n e h = cc
 
-lt_suc : (i e : ℕ) → i + 1 ≡ e → nat_lt i e ≡ true
-lt_suc i e h = grind (arith, nat_tests, h)
-
 -- an element plan that writes under the name alone
-own_element : (len e : ℕ) (o : Option ℕ) → element_plan len o ≡ write.Own e → option_map_or (λ i. nat_lt i e) o true ≡ true
-own_element len e None h = refl
+own_element : (len e : ℕ) (o : Option ℕ) → element_plan len o ≡ write.Own e → e ≡ option_map_or (λ i. i + 1) o 0
+own_element len e None h = sym (own_same 0 e h)
 own_element len e (Some i) h = by (nat_lt i len) h
   where
-    by : (b : Bool) → (if b then write.Own (i + 1) else write.Longer (i + 1)) ≡ write.Own e → nat_lt i e ≡ true
-    by true g = lt_suc i e (own_same (i + 1) e g)
+    by : (b : Bool) → (if b then write.Own (i + 1) else write.Longer (i + 1)) ≡ write.Own e → e ≡ i + 1
+    by true g = sym (own_same (i + 1) e g)
     by false g = absurd (longer_own (i + 1) e g)
 
-longer_element : (len e : ℕ) (o : Option ℕ) → element_plan len o ≡ write.Longer e → option_map_or (λ i. nat_lt i e) o true ≡ true
+longer_element : (len e : ℕ) (o : Option ℕ) → element_plan len o ≡ write.Longer e → e ≡ option_map_or (λ i. i + 1) o 0
 longer_element len e None h = absurd (own_longer 0 e h)
 longer_element len e (Some i) h = by (nat_lt i len) h
   where
-    by : (b : Bool) → (if b then write.Own (i + 1) else write.Longer (i + 1)) ≡ write.Longer e → nat_lt i e ≡ true
+    by : (b : Bool) → (if b then write.Own (i + 1) else write.Longer (i + 1)) ≡ write.Longer e → e ≡ i + 1
     by true g = absurd (own_longer (i + 1) e g)
-    by false g = lt_suc i e (longer_same (i + 1) e g)
+    by false g = sym (longer_same (i + 1) e g)
 
 module _ (name : List ℕ) (v : Value) (c : NumberedCell) where
-  pub own_facts : (e : ℕ) → plan_of name v c ≡ Some (write.Own e) → is_array c.head.form ≡ true → (bytes_eq name length_name ≡ false) × (is_below e name ≡ true)
+  pub own_facts : (e : ℕ) → plan_of name v c ≡ Some (write.Own e) → is_array c.head.form ≡ true → (bytes_eq name length_name ≡ false) × (e ≡ end_of name)
   own_facts e h array = by (is_array c.head.form) (bytes_eq name length_name) (length_in v) h array
     where
-      by : (a b : Bool) (l : Option ℕ) → (if a then (if b then option_map (λ n. write.Length n) l else Some (element_plan (numbered_length c.entries) (index_of name))) else Some (write.Own 0)) ≡ Some (write.Own e) → a ≡ true → (b ≡ false) × (is_below e name ≡ true)
+      by : (a b : Bool) (l : Option ℕ) → (if a then (if b then option_map (λ n. write.Length n) l else Some (element_plan (numbered_length c.entries) (index_of name))) else Some (write.Own 0)) ≡ Some (write.Own e) → a ≡ true → (b ≡ false) × (e ≡ end_of name)
       by true true None g t = absurd (none_some g)
       by true true (Some n) g t = absurd (length_own n e g)
       by true false l g t = (refl, own_element (numbered_length c.entries) e (index_of name) (some_same _ _ g))
       by false b l g t = absurd (true≢false (sym t))
 
-  pub longer_facts : (e : ℕ) → plan_of name v c ≡ Some (write.Longer e) → (bytes_eq name length_name ≡ false) × (is_below e name ≡ true)
+  pub longer_facts : (e : ℕ) → plan_of name v c ≡ Some (write.Longer e) → (bytes_eq name length_name ≡ false) × (e ≡ end_of name)
   longer_facts e h = by (is_array c.head.form) (bytes_eq name length_name) (length_in v) h
     where
-      by : (a b : Bool) (l : Option ℕ) → (if a then (if b then option_map (λ n. write.Length n) l else Some (element_plan (numbered_length c.entries) (index_of name))) else Some (write.Own 0)) ≡ Some (write.Longer e) → (b ≡ false) × (is_below e name ≡ true)
+      by : (a b : Bool) (l : Option ℕ) → (if a then (if b then option_map (λ n. write.Length n) l else Some (element_plan (numbered_length c.entries) (index_of name))) else Some (write.Own 0)) ≡ Some (write.Longer e) → (b ≡ false) × (e ≡ end_of name)
       by true true None g = absurd (none_some g)
       by true true (Some n) g = absurd (length_longer n e g)
       by true false l g = (refl, longer_element (numbered_length c.entries) e (index_of name) (some_same _ _ g))

@@ -1,31 +1,23 @@
 -- A name is taken out; a variable is written.
-use Rattle.std.proofs.Common.{◌≡◌, ℕ, zero, suc, ◌<◌, List, [], ◌∷◌, length, refl, sym, ap, ◌∙◌, subst, Option, Some, None, Bool, true, false, eqb, if◌then◌else◌, not, is_some, slice_get}
+use Rattle.std.proofs.Common.{◌≡◌, ℕ, ◌<◌, List, [], length, refl, sym, ap, ◌∙◌, subst, Option, Some, Bool, true, false, eqb, if◌then◌else◌, is_some, slice_get}
 use Rattle.std.specs.Prelude.{◌&&◌}
 use Rattle.std.specs.Option.{option_map_or, option_and_then}
-use Rattle.std.specs.List.{IsDistinct, list_any, count_by}
-use Rattle.std.specs.Map.{keys_of, lookup, remove_entry}
+use Rattle.std.specs.Map.{lookup, remove_entry}
 use Rattle.std.specs.Str.{bytes_eq}
 use Rattle.std.proofs.lemmas.Option.{get_or_from_slice_get, slice_get_within}
-use Rattle.keyed_names.proofs.Interning.{same_test, none_test}
+use Rattle.keyed_names.proofs.Interning.{same_test}
 use Rattle.store_cells.specs.declared.value.Value.{Value}
-use Rattle.store_cells.specs.declared.cell.Head.{Head}
-use Rattle.store_cells.specs.declared.kind.Form.{Form}
-use Rattle.store_cells.specs.declared.counts.Counts.{Counts}
-use Rattle.store_cells.specs.declared.counts.StoreFault.TheVariants as fault
-use Rattle.store_cells.specs.Arrays.{end_of}
 use Rattle.store_cells.specs.Lists.{changed}
-use Rattle.store_cells.specs.Cells.{PlainCell, Cells, is_array, is_bunch, is_scope, holder, writer_in, widget_of, is_scope_at}
+use Rattle.store_cells.specs.Cells.{PlainCell, is_array}
 use Rattle.store_cells.specs.Arrays.{length_in, length_name, written}
-use Rattle.store_cells.specs.Numbered.{NumberedCell, plain, named, cells_of, heads, own_head, numbered_without, numbered_held, numbered_has, numbered_has_at, numbered_holder}
-use Rattle.store_cells.specs.Shape.{AreClosed, AreKnown, IsBase, IsFine, IsShape, AreRaws, IsRefWithin, Wrote, scope_at}
-use Rattle.store_cells.specs.Arrays.{without, is_length_of}
-use Rattle.store_cells.proofs.Lists.{some_same, changed_alike}
-use Rattle.store_cells.proofs.Look.{known_entries, known_cells, known_at, remove_named, remove_never, insert_named, holder_same, holder_never, climb_has}
+use Rattle.store_cells.specs.Numbered.{NumberedCell, found_in, plain, named, cells_of, heads, numbered_without, numbered_held, numbered_has, numbered_holder}
+use Rattle.store_cells.specs.Shape.{IsBase, IsFine, IsRefWithin, Wrote, scope_at}
+use Rattle.store_cells.specs.Arrays.{without}
+use Rattle.store_cells.proofs.Look.{known_entries, remove_named, insert_named, climb_has}
 use Rattle.store_cells.proofs.Entries.{entries_remove, entries_insert, lookup_removed}
-use Rattle.store_cells.proofs.Writes.{changed_base, changed_cells, changed_heads, not_length, here}
-use Rattle.store_cells.proofs.Heads.{holder_scope, scope_form, scope_no_array, scope_no_bunch, scope_same, head_at}
-use Rattle.store_cells.proofs.Closed.{closed_wrote}
-use Rattle.store_cells.proofs.Tops.{below_taken}
+use Rattle.store_cells.proofs.Writes.{changed_base, changed_cells, changed_heads, not_length}
+use Rattle.store_cells.proofs.Heads.{holder_scope, scope_form, scope_no_array}
+use Rattle.store_cells.proofs.Indexed.{indexed_remove}
 
 -- both hold, or one fails
 second_false : (a b : Bool) → (a && b) ≡ false → a ≡ true → b ≡ false
@@ -36,30 +28,25 @@ second_false false b h g = absurd (false_true g)
     false_true g = cc
 
 module _ (names : List (List ℕ)) (cs : List NumberedCell) (base : IsBase names cs) (i : ℕ) (name : List ℕ) (n : ℕ) (at : slice_get names n ≡ Some name) where
-  pub took : ((c : NumberedCell) → slice_get cs i ≡ Some c → (is_array c.head.form && bytes_eq name length_name) ≡ false) → (end : ℕ) → ((c : NumberedCell) → slice_get cs i ≡ Some c → is_array c.head.form ≡ true → end ≡ end_of name) → (x : NumberedCell) → slice_get cs i ≡ Some x → IsDistinct eqb (keys_of x.entries) → (after : List NumberedCell) → after ≡ changed cs i (numbered_without n end) → Wrote names cs names after i (without name)
-  took kept end ends x at_x distinct after e = record {
-    done = ap (cells_of names) e ∙ changed_cells names cs base i (numbered_without n end) (λ c. refl) (without name) alike;
-    base = subst (IsBase names) (sym e) (changed_base names cs base i (numbered_without n end) (λ c. refl) fine);
-    heads = ap heads e ∙ changed_heads names cs base i (numbered_without n end) (λ c. refl);
+  pub took : ((c : NumberedCell) → slice_get cs i ≡ Some c → (is_array c.head.form && bytes_eq name length_name) ≡ false) → (after : List NumberedCell) → after ≡ changed cs i (numbered_without n) → Wrote names cs names after i (without name)
+  took kept after e = record {
+    done = ap (cells_of names) e ∙ changed_cells names cs base i (numbered_without n) (λ c. refl) (without name) alike;
+    base = subst (IsBase names) (sym e) (changed_base names cs base i (numbered_without n) (λ c. refl) fine);
+    heads = ap heads e ∙ changed_heads names cs base i (numbered_without n) (λ c. refl);
   }
     where
-      differ : (c : NumberedCell) → slice_get cs i ≡ Some c → IsDistinct eqb (keys_of c.entries)
-      differ c g = subst (λ (d : NumberedCell). IsDistinct eqb (keys_of d.entries)) (some_same x c (sym at_x ∙ g)) distinct
-
-      alike : (c : NumberedCell) → slice_get cs i ≡ Some c → IsFine names (length cs) c → plain names (numbered_without n end c) ≡ without name (plain names c)
+      alike : (c : NumberedCell) → slice_get cs i ≡ Some c → IsFine names (length cs) c → plain names (numbered_without n c) ≡ without name (plain names c)
       alike c g fine =
           let p = remove_named names name n (same_test names name n base.table at) c.entries (known_entries (length names) (length cs) c.entries fine.entries) in
           (λ j. record { owner = c.head.owner; form = c.head.form; up = c.head.up; pairs = p j })
           ∙ sym (ap (λ b. let d : PlainCell = if b then plain names c else record { owner = c.head.owner; form = c.head.form; up = c.head.up; pairs = remove_entry (bytes_eq name) (named names c.entries) } in d) (kept c g))
 
-      fine : (c : NumberedCell) → slice_get cs i ≡ Some c → IsFine names (length cs) c → IsFine names (length cs) (numbered_without n end c)
+      fine : (c : NumberedCell) → slice_get cs i ≡ Some c → IsFine names (length cs) c → IsFine names (length cs) (numbered_without n c)
       fine c g h = record {
         entries = entries_remove (length names) (length cs) n c.entries h.entries;
         array = λ a. record {
           length = ap (λ (o : Option Value). is_some (option_and_then length_in o)) (lookup_removed 0 n c.entries (not_length names base.table base.words name n at (slice_get_within names n name at) (second_false (is_array c.head.form) (bytes_eq name length_name) (kept c g) a))) ∙ (h.array a).length;
-          below =
-              let known = known_entries (length names) (length cs) (remove_entry (eqb n) c.entries) (entries_remove (length names) (length cs) n c.entries h.entries) in
-              below_taken names base.table name n c.top end c.entries at (here names base.table base.words name n at (slice_get_within names n name at)) (ends c g a) known (differ c g) (h.array a).below;
+          indexed = indexed_remove names (found_in c.elements) n c.entries (h.array a).indexed;
         };
       }
 

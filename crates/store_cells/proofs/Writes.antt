@@ -1,6 +1,6 @@
 -- A write to one cell, by number and by name.
 use Rattle.std.proofs.Common.{◌≡◌, ℕ, zero, suc, ◌<◌, ◌≤◌, List, [], ◌∷◌, length, get_or, refl, sym, ap, ◌∙◌, subst, Option, Some, None, arith, Bool, true, false, eqb, if◌then◌else◌, true≢false, slice_get, is_some, filter}
-use Rattle.std.specs.Prelude.{Result, Ok, Err, OnOk, OnErr, max, nat_le, nat_lt}
+use Rattle.std.specs.Prelude.{Result, Ok, Err, OnOk, OnErr, nat_le}
 use Rattle.std.specs.Option.{option_and_then}
 use Rattle.std.specs.Map.{lookup}
 use Rattle.std.specs.Str.{bytes_eq}
@@ -16,13 +16,13 @@ use Rattle.store_cells.specs.declared.value.Value.TheVariants as value
 use Rattle.store_cells.specs.declared.cell.Write.TheVariants as write
 use Rattle.store_cells.specs.Lists.{changed}
 use Rattle.store_cells.specs.Cells.{PlainCell, is_array}
-use Rattle.store_cells.specs.Arrays.{is_below, length_in, length_name, count_value, written, cut}
-use Rattle.store_cells.specs.Numbered.{NumberedCell, plain, named, name_at, cells_of, heads, numbered_written, numbered_two, numbered_held, numbered_cut, plan_of, by_plan}
-use Rattle.store_cells.specs.Shape.{AreBelow, Known, AreKnown, AreEntries, IsFine, AreFine, AreWords, AreOrdered, IsBase, IsRefWithin, Wrote, Kept}
+use Rattle.store_cells.specs.Arrays.{end_of, is_below, length_in, length_name, count_value, written, cut}
+use Rattle.store_cells.specs.Numbered.{NumberedCell, plain, named, name_at, cells_of, found_in, heads, noted, numbered_written, numbered_two, numbered_held, numbered_cut, plan_of, by_plan}
+use Rattle.store_cells.specs.Shape.{IsIndexed, Known, AreKnown, AreEntries, IsFine, AreFine, AreWords, AreOrdered, IsBase, IsRefWithin, Wrote, Kept}
 use Rattle.store_cells.proofs.Lists.{none_some, some_same, length-changed, map-changed, map-unchanged}
 use Rattle.store_cells.proofs.Look.{known_entries, known_cells, insert_named}
-use Rattle.store_cells.proofs.Entries.{entries_more, entries_insert, entries_filter, below_more, below_insert, below_filter, below_stay, lookup_inserted, lookup_other, lookup_filter, named_filter}
-use Rattle.store_cells.proofs.Tops.{below_cut}
+use Rattle.store_cells.proofs.Entries.{entries_more, entries_insert, entries_filter, lookup_inserted, lookup_other, lookup_filter, named_filter}
+use Rattle.store_cells.proofs.Indexed.{indexed_cut, indexed_stay, indexed_written}
 use Rattle.store_cells.proofs.Plans.{own_facts, longer_facts, length_facts}
 
 pub fine_at : (names : List (List ℕ)) (size : ℕ) (cs : List NumberedCell) (i : ℕ) (c : NumberedCell) → AreFine names size cs → slice_get cs i ≡ Some c → IsFine names size c
@@ -50,7 +50,7 @@ module _ (old new : List (List ℕ)) (more : length old ≤ length new) (kept : 
     entries = entries_more (length old) (length new) size size' c.entries more le h.entries;
     array = λ a. record {
       length = (h.array a).length;
-      below = below_stay old new kept c.top c.entries (known_entries (length old) size c.entries h.entries) (h.array a).below;
+      indexed = indexed_stay old new kept (found_in c.elements) c.entries (known_entries (length old) size c.entries h.entries) (h.array a).indexed;
     };
   }
 
@@ -105,12 +105,12 @@ module _ (names : List (List ℕ)) (table : IsTable names) (words : AreWords nam
           let q : length_name ≡ name = (bytes_eq-Decides length_name (get_or names n [])).0 p ∙ here in
           absurd (true≢false (sym ((bytes_eq-Decides name length_name).1 (sym q)) ∙ differs))
 
-  pub fine_own : (size e : ℕ) (v : Value) (c : NumberedCell) → IsRefWithin size v → (is_array c.head.form ≡ true → (bytes_eq name length_name ≡ false) × (is_below e name ≡ true)) → IsFine names size c → IsFine names size (numbered_written n v e c)
+  pub fine_own : (size e : ℕ) (v : Value) (c : NumberedCell) → IsRefWithin size v → (is_array c.head.form ≡ true → (bytes_eq name length_name ≡ false) × (e ≡ end_of name)) → IsFine names size c → IsFine names size (numbered_written n v e c)
   fine_own size e v c ref facts h = record {
     entries = entries_insert (length names) size n v c.entries h.entries within ref;
     array = λ a. record {
       length = ap (λ (o : Option Value). is_some (option_and_then length_in o)) (lookup_other 0 n v c.entries (not_length (facts a).0)) ∙ (h.array a).length;
-      below = below_insert names c.top (max c.top e) n v c.entries (omega arith) (h.array a).below (ap (is_below (max c.top e)) here ∙ below_more e (max c.top e) name (omega arith) (facts a).1);
+      indexed = indexed_written names table n within c.elements e v c.entries (known_entries (length names) size c.entries h.entries) ((facts a).1 ∙ ap end_of (sym here)) (h.array a).indexed;
     };
   }
 
@@ -146,6 +146,9 @@ module _ (names : List (List ℕ)) (table : IsTable names) (words : AreWords nam
   pub length_below : (n : ℕ) → is_below n (name_at names 0) ≡ true
   length_below n = ap (is_below n) length_here
 
+  pub held_indexed : (size : ℕ) (v : Value) (c : NumberedCell) → is_array c.head.form ≡ true → IsFine names size c → IsIndexed names (found_in c.elements) (insert_entry eqb c.entries 0 v)
+  held_indexed size v c array h = indexed_written names table 0 zero_within c.elements 0 v c.entries (known_entries (length names) size c.entries h.entries) (ap end_of (sym length_here)) (h.array array).indexed
+
   pub fine_held : (size n : ℕ) (v : Value) (c : NumberedCell) → length_in v ≡ Some n → IsRefWithin size v → is_array c.head.form ≡ true → IsFine names size c → IsFine names size (numbered_cut names n (numbered_held 0 v c))
   fine_held size n v c is ref array h = record {
     entries = entries_filter (length names) size (λ e. is_below n (name_at names e.0)) (insert_entry eqb c.entries 0 v) (entries_insert (length names) size 0 v c.entries h.entries zero_within ref);
@@ -153,23 +156,13 @@ module _ (names : List (List ℕ)) (table : IsTable names) (words : AreWords nam
       length =
           ap (λ (o : Option Value). is_some (option_and_then length_in o)) (lookup_filter 0 (λ k. is_below n (name_at names k)) (insert_entry eqb c.entries 0 v) (length_below n) ∙ lookup_inserted 0 v c.entries)
           ∙ ap is_some is;
-      below = by (nat_lt n c.top);
+      indexed = indexed_cut names c.elements n (insert_entry eqb c.entries 0 v) (held_indexed size v c array h);
     };
   }
-    where
-      rest : AreBelow names n (filter (λ e. is_below n (name_at names e.0)) (insert_entry eqb c.entries 0 v))
-      rest = below_cut names n (insert_entry eqb c.entries 0 v)
-
-      by : (b : Bool) → AreBelow names (if b then n else c.top) (filter (λ e. is_below n (name_at names e.0)) (insert_entry eqb c.entries 0 v))
-      by true = rest
-      by false = below_filter names c.top (λ e. is_below n (name_at names e.0)) (insert_entry eqb c.entries 0 v) (below_insert names c.top c.top 0 v c.entries (omega arith) (h.array array).below (length_below c.top))
 
   -- a cell whose length is written may be cut
   pub held_known : (size : ℕ) (v : Value) (c : NumberedCell) → IsRefWithin size v → IsFine names size c → Known (length names) (insert_entry eqb c.entries 0 v)
   held_known size v c ref h = known_entries (length names) size (insert_entry eqb c.entries 0 v) (entries_insert (length names) size 0 v c.entries h.entries zero_within ref)
-
-  pub held_below : (size : ℕ) (v : Value) (c : NumberedCell) → is_array c.head.form ≡ true → IsFine names size c → AreBelow names c.top (insert_entry eqb c.entries 0 v)
-  held_below size v c array h = below_insert names c.top c.top 0 v c.entries (omega arith) (h.array array).below (length_below c.top)
 
   pub plain_held : (n : ℕ) (v : Value) (c : NumberedCell) → Known (length names) c.entries → plain names (numbered_cut names n (numbered_held 0 v c)) ≡ cut n (written length_name v (plain names c))
   plain_held n v c known =
@@ -179,7 +172,7 @@ module _ (names : List (List ℕ)) (table : IsTable names) (words : AreWords nam
 
   -- an element and the length
   module _ (name : List ℕ) (k : ℕ) (at : slice_get names k ≡ Some name) (within : k < length names) where
-    pub fine_two : (size e : ℕ) (v u : Value) (c : NumberedCell) → u ≡ count_value e → e ≤ 4294967295 → IsRefWithin size v → (bytes_eq name length_name ≡ false) × (is_below e name ≡ true) → IsFine names size c → IsFine names size (numbered_two k v 0 u e c)
+    pub fine_two : (size e : ℕ) (v u : Value) (c : NumberedCell) → u ≡ count_value e → e ≤ 4294967295 → IsRefWithin size v → (bytes_eq name length_name ≡ false) × (e ≡ end_of name) → IsFine names size c → IsFine names size (numbered_two k v 0 u e c)
     fine_two size e v u c count le ref facts h =
         let ref_u : IsRefWithin size u = subst (IsRefWithin size) (sym count) tt in
         let one = fine_own names table words name k at within size e v c ref (λ a. facts) h in
@@ -187,7 +180,7 @@ module _ (names : List (List ℕ)) (table : IsTable names) (words : AreWords nam
           entries = entries_insert (length names) size 0 u (insert_entry eqb c.entries k v) one.entries zero_within ref_u;
           array = λ a. record {
             length = ap (λ (o : Option Value). is_some (option_and_then length_in o)) (lookup_inserted 0 u (insert_entry eqb c.entries k v) ∙ ap Some count) ∙ ap is_some (count_length e le);
-            below = below_insert names (max c.top e) (max c.top e) 0 u (insert_entry eqb c.entries k v) (omega arith) (one.array a).below (length_below (max c.top e));
+            indexed = indexed_written names table 0 zero_within (noted e k c.elements) 0 u (insert_entry eqb c.entries k v) (known_entries (length names) size (insert_entry eqb c.entries k v) one.entries) (ap end_of (sym length_here)) (one.array a).indexed;
           };
         }
 
@@ -289,8 +282,8 @@ module _ (names : List (List ℕ)) (name : List ℕ) (cs : List NumberedCell) (b
   pub cut_known : (c after : NumberedCell) → slice_get cs i ≡ Some c → after ≡ numbered_held 0 v c → Known (length names) after.entries
   cut_known c after at e = subst (λ (x : NumberedCell). Known (length names) x.entries) (sym e) (held_known names base.table base.words (length cs) v c (not_ref v (length_facts name v c n (plan c at)).1) (fine_at names (length cs) cs i c base.fine at))
 
-  pub cut_below : (c after : NumberedCell) → slice_get cs i ≡ Some c → after ≡ numbered_held 0 v c → AreBelow names after.top after.entries
-  cut_below c after at e = subst (λ (x : NumberedCell). AreBelow names x.top x.entries) (sym e) (held_below names base.table base.words (length cs) v c (length_facts name v c n (plan c at)).0 (fine_at names (length cs) cs i c base.fine at))
+  pub cut_indexed : (c after : NumberedCell) → slice_get cs i ≡ Some c → after ≡ numbered_held 0 v c → IsIndexed names (found_in after.elements) after.entries
+  cut_indexed c after at e = subst (λ (x : NumberedCell). IsIndexed names (found_in x.elements) x.entries) (sym e) (held_indexed names base.table base.words (length cs) v c (length_facts name v c n (plan c at)).0 (fine_at names (length cs) cs i c base.fine at))
 
   pub wrote_length : (after : List NumberedCell) → after ≡ changed cs i (λ c. numbered_cut names n (numbered_held 0 v c)) → Wrote names cs names after i (by_plan (write.Length n) name v)
   wrote_length after e = record {

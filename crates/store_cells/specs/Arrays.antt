@@ -40,6 +40,15 @@ end_of name = option_map_or (λ i. i + 1) (index_of name) 0
 abbrev pub is_below : ℕ → List ℕ → Bool
 is_below n name = option_map_or (λ i. nat_lt i n) (index_of name) true
 
+-- whether a name is an index below n
+abbrev pub is_index_below : ℕ → List ℕ → Bool
+is_index_below n name = option_map_or (λ i. nat_lt i n) (index_of name) false
+
+-- whether a value refers to a cell
+abbrev pub is_reference : Value → Bool
+is_reference (value.Ref i) = true
+is_reference _ = false
+
 -- a cell after a write under a name: an own name keeps its place, and a new one goes last
 abbrev pub written : List ℕ → Value → PlainCell → PlainCell
 written name v c = record c { pairs = insert_entry bytes_eq c.pairs name v }

@@ -1,5 +1,5 @@
 -- The store as plain data: a list of cells in the order of birth, and what each owner has paid.
-use Rattle.std.specs.Prelude.{◌≡◌, ℕ, ◌-◌, ◌<◌, Bool, true, false, List, [], Option, None, Some, is_some, nat_eq, ◌&&◌, if◌then◌else◌, length, slice_get, unwrap_or}
+use Rattle.std.specs.Prelude.{ℕ, ◌-◌, ◌<◌, Bool, true, false, List, [], Option, None, Some, is_some, nat_eq, ◌&&◌, if◌then◌else◌, length, slice_get, unwrap_or}
 use Rattle.std.specs.List.{find}
 use Rattle.std.specs.Option.{option_map_or, option_and_then}
 use Rattle.std.specs.Map.{lookup}

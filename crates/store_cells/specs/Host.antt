@@ -1,6 +1,6 @@
 -- The host's cells that every store has: the Global cell, the cell of `body`, and the permitted
 -- table of prototypes, objects and natives.
-use Rattle.std.specs.Prelude.{◌≡◌, ℕ, ◌+◌, ◌<◌, ◌≤◌, List, [], ◌∷◌, ◌++◌, Option, None, Bool, true, false, map, codes, replicate, length, slice_get, nat_le, nat_lt, ◌&&◌}
+use Rattle.std.specs.Prelude.{◌≡◌, ℕ, ◌+◌, ◌<◌, ◌≤◌, List, [], ◌∷◌, ◌++◌, None, Bool, true, false, map, codes, replicate, length, slice_get, nat_le, nat_lt, ◌&&◌}
 use Rattle.std.specs.List.{list_all}
 use Rattle.std.specs.Option.{option_map, option_map_or}
 use Rattle.code_units.specs.declared.owner.Owner.{Owner}

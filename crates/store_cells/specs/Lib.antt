@@ -7,3 +7,4 @@ pub mod Costs
 pub mod Born
 pub mod Host
 pub mod Bunches
+pub mod Holes

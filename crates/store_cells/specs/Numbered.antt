@@ -1,8 +1,9 @@
 -- Cells by the numbers of their names, and what they are by name.
-use Rattle.std.specs.Prelude.{◌≡◌, ℕ, ◌+◌, ◌-◌, ◌<◌, ◌≤◌, Bool, false, List, [], ◌∷◌, Option, None, Some, is_some, max, nat_lt, nat_eq, not, ◌&&◌, if◌then◌else◌, map, length, slice_get, slice_index_or, filter, MatchOption}
+use Rattle.std.specs.Prelude.{◌≡◌, ℕ, zero, suc, ◌+◌, ◌<◌, ◌≤◌, Bool, false, List, [], ◌∷◌, Option, None, Some, is_some, nat_lt, nat_eq, not, ◌&&◌, if◌then◌else◌, map, length, slice_get, slice_index_or, filter, MatchOption}
 use Rattle.std.specs.Option.{option_map, option_map_or, option_and_then}
+use Rattle.std.specs.BTreeMap.{insert_entry as tree_insert, is_at}
+use Rattle.std.specs.Ordering.{nat_cmp}
 use Rattle.std.specs.Str.{bytes_eq}
-use Rattle.std.specs.Fmt.{decimal}
 use Rattle.std.specs.List.{list_any}
 use Rattle.std.specs.Map.{lookup, remove_entry}
 use Rattle.indexmap.specs.IndexMap.{insert_entry}
@@ -10,6 +11,7 @@ use Rattle.code_units.specs.declared.owner.Owner.TheVariants as whose
 use Rattle.store_cells.specs.declared.kind.Form.TheVariants as form
 use Rattle.store_cells.specs.declared.value.Value.{Value}
 use Rattle.store_cells.specs.declared.cell.Head.{Head}
+use Rattle.store_cells.specs.declared.pairs.TheConstants.{FIRST_HOLE}
 use Rattle.code_units.specs.Permitted.{is_permitted}
 use Rattle.store_cells.specs.Lists.{climb}
 use Rattle.store_cells.specs.Cells.{PlainCell, is_array, is_own, is_visible_form, widget_of}
@@ -18,11 +20,29 @@ use Rattle.store_cells.specs.declared.cell.Write.TheVariants as write
 use Rattle.code_units.specs.Indices.{index_of}
 use Rattle.store_cells.specs.Arrays.{is_below, count_value, length_in, length_name, written, cut}
 
--- A cell as it is kept: its fixed part, a bound on its elements, and its pairs by the numbers of their names.
+-- A cell as it is kept: its fixed part, the indices of an Array with the numbers of the names that are these, and its
+-- pairs by the numbers of their names.
 pub record NumberedCell : Type 0 where
   pub head : Head
-  pub top : ℕ
+  pub elements : List (ℕ × ℕ)
   pub entries : List (ℕ × Value)
+
+-- the number of the name that is an index
+abbrev pub found_in : List (ℕ × ℕ) → ℕ → Option ℕ
+found_in els i = lookup (is_at (nat_cmp i)) els
+
+-- the name with a number is noted as the index right before `end`, which is 0 where it is none
+abbrev pub noted : ℕ → ℕ → List (ℕ × ℕ) → List (ℕ × ℕ)
+noted zero n els = els
+noted (suc at) n els = tree_insert nat_cmp els at n
+
+-- what is noted below an index
+abbrev pub noted_below : ℕ → List (ℕ × ℕ) → List (ℕ × ℕ)
+noted_below n els = filter (λ p. nat_lt p.0 n) els
+
+-- the pairs of a table without the holes that names left, which have numbers that no name has
+abbrev pub live : List (ℕ × Value) → List (ℕ × Value)
+live es = filter (λ e. nat_lt e.0 FIRST_HOLE) es
 
 -- the name with a number
 abbrev pub name_at : List (List ℕ) → ℕ → List ℕ
@@ -73,36 +93,29 @@ own_head w h = is_own w h.owner h.form
 abbrev pub own_place : Head → Option ℕ
 own_place h = option_and_then (λ w. if is_visible_form h.form then Some h.number else None) (widget_of h.owner)
 
--- a cell after a write under a name by its number; its elements stand below `e` or its old bound
+-- a cell after a write under a name by its number, where `e` is past the index that the name is
 abbrev pub numbered_written : ℕ → Value → ℕ → NumberedCell → NumberedCell
-numbered_written n v e c = record c { top = max c.top e; entries = insert_entry nat_eq c.entries n v }
+numbered_written n v e c = record c { elements = noted e n c.elements; entries = insert_entry nat_eq c.entries n v }
 
 -- a cell after writes under two names by their numbers
 abbrev pub numbered_two : ℕ → Value → ℕ → Value → ℕ → NumberedCell → NumberedCell
 numbered_two n v m u e c =
-    record c { top = max c.top e; entries = insert_entry nat_eq (insert_entry nat_eq c.entries n v) m u }
+    record c { elements = noted e n c.elements; entries = insert_entry nat_eq (insert_entry nat_eq c.entries n v) m u }
 
 -- a cell after a write under a name that it has, by its number
 abbrev pub numbered_held : ℕ → Value → NumberedCell → NumberedCell
 numbered_held n v c = record c { entries = insert_entry nat_eq c.entries n v }
 
--- a cell after a name was taken out by its number: its bound falls where that was the element right before it
-abbrev pub numbered_without : ℕ → ℕ → NumberedCell → NumberedCell
-numbered_without n e c = record c {
-  top = if nat_eq e c.top then c.top - 1 else c.top;
-  entries = remove_entry (nat_eq n) c.entries;
-}
+-- a cell after a name was taken out by its number
+abbrev pub numbered_without : ℕ → NumberedCell → NumberedCell
+numbered_without n c = record c { entries = remove_entry (nat_eq n) c.entries }
 
 -- a cell after its elements from an index on were taken out
 abbrev pub numbered_cut : List (List ℕ) → ℕ → NumberedCell → NumberedCell
 numbered_cut names n c = record c {
-  top = if nat_lt n c.top then n else c.top;
+  elements = noted_below n c.elements;
   entries = filter (λ e. is_below n (name_at names e.0)) c.entries;
 }
-
--- a cell whose elements from an index on were taken out, where it had some
-abbrev pub numbered_below : List (List ℕ) → ℕ → NumberedCell → NumberedCell
-numbered_below names n c = record c { top = n; entries = filter (λ e. is_below n (name_at names e.0)) c.entries }
 
 -- a later table has the older one's names under their numbers
 pub record Grown (old new : List (List ℕ)) : Type 0 where
@@ -113,13 +126,9 @@ pub record Grown (old new : List (List ℕ)) : Type 0 where
 abbrev pub numbered_length : List (ℕ × Value) → ℕ
 numbered_length es = option_map_or (λ n. n) (option_and_then length_in (lookup (nat_eq 0) es)) 0
 
--- whether a name is an index
-abbrev pub is_index : ℕ → List ℕ → Bool
-is_index at name = option_map_or (λ i. nat_eq i at) (index_of name) false
-
--- what a cell has under an index
-abbrev pub numbered_element : List (List ℕ) → ℕ → List (ℕ × Value) → Option Value
-numbered_element names at es = lookup (bytes_eq (decimal at)) (named names es)
+-- what a cell has under the name that is noted as an index
+abbrev pub numbered_element : ℕ → NumberedCell → Option Value
+numbered_element at c = option_and_then (λ n. lookup (nat_eq n) c.entries) (found_in c.elements at)
 
 -- how a write under a name of an Array goes, by its length and the index that the name is
 abbrev pub element_plan : ℕ → Option ℕ → Write
@@ -158,19 +167,10 @@ is_length_in c name = is_array c.head.form && bytes_eq name length_name
 abbrev pub is_listed : NumberedCell → List ℕ → Bool
 is_listed c name = is_permitted name && not (is_length_in c name)
 
--- a name of a cell, where it is listed
-abbrev pub listed : NumberedCell → List ℕ → Option (List ℕ)
-listed c name = if is_listed c name then Some name else None
-
--- the name at a place of a cell's pairs, where it is listed
-abbrev pub numbered_key : List (List ℕ) → NumberedCell → ℕ → Option (List ℕ)
-numbered_key names c at =
-    option_and_then (λ e. option_and_then (listed c) (slice_get names e.0)) (slice_get c.entries at)
-
 -- the fixed part of the RawNode of a page node
 abbrev pub node_head : ℕ → Head
 node_head n = record { owner = whose.Host; form = form.RawNode n; up = None; links = 0; number = 0 }
 
 -- a cell as it is made
 abbrev pub first_numbered : Head → NumberedCell
-first_numbered h = record { head = h; top = 0; entries = if is_array h.form then (0, count_value 0) ∷ [] else [] }
+first_numbered h = record { head = h; elements = []; entries = if is_array h.form then (0, count_value 0) ∷ [] else [] }

@@ -1,8 +1,8 @@
 -- What every store keeps.
 use Rattle.std.specs.Prelude.{◌≡◌, ℕ, suc, ◌<◌, ◌≤◌, Bool, true, false, List, [], ◌∷◌, ◌++◌, Option, Some, is_some, nat_eq, if◌then◌else◌, length, map, position, slice_get, unwrap_or, IfSome}
 use Rattle.std.specs.Option.{option_map_or, option_and_then}
-use Rattle.std.specs.List.{AllByRecursion, IsDistinct, count_by}
-use Rattle.std.specs.Map.{keys_of, lookup}
+use Rattle.std.specs.List.{AllByRecursion, count_by}
+use Rattle.std.specs.Map.{lookup}
 use Rattle.code_units.specs.declared.owner.Owner.TheVariants as whose
 use Rattle.keyed_names.specs.Interned.{IsTable}
 use Rattle.store_cells.specs.declared.value.Value.{Value}
@@ -15,11 +15,11 @@ use Rattle.store_cells.specs.declared.counts.TheConstants.{CELL_LIMIT, SLOT_LIMI
 use Rattle.store_cells.specs.Lists.{changed, count_before}
 use Rattle.store_cells.specs.Cells.{PlainCell, kept_cells, is_bunch, is_bunch_at, is_visible_form, is_scope_at, is_scope, is_array, is_raw, widget_of, node_in, function_in}
 use Rattle.code_units.specs.Indices.{index_of}
-use Rattle.store_cells.specs.Arrays.{end_of, is_below, length_in, length_name, nodes_name, count_value}
+use Rattle.store_cells.specs.Arrays.{length_in, length_name, nodes_name, count_value}
 use Rattle.store_cells.specs.Host.{AreHost, array_prototype}
 use Rattle.store_cells.specs.Bunches.{AreBunches, elements}
 use Rattle.store_cells.specs.declared.cell.Write.{Write}
-use Rattle.store_cells.specs.Numbered.{NumberedCell, name_at, named, heads, is_length_in, numbered_holder, own_head, plan_of, cells_of}
+use Rattle.store_cells.specs.Numbered.{NumberedCell, found_in, name_at, named, heads, is_length_in, numbered_holder, own_head, plan_of, cells_of}
 
 -- a reference is to one of so many cells
 abbrev pub IsRefWithin : ℕ → Value → Type 0
@@ -38,19 +38,24 @@ Known n es = AllByRecursion (λ e. e.0 < n) es
 abbrev pub AreKnown : ℕ → List NumberedCell → Type 0
 AreKnown n cs = AllByRecursion (λ c. Known n c.entries) cs
 
--- no name of the pairs is an index from a bound on
-abbrev pub AreBelow : List (List ℕ) → ℕ → List (ℕ × Value) → Type 0
-AreBelow names top es = AllByRecursion (λ e. is_below top (name_at names e.0) ≡ true) es
+-- each name of the pairs that is an index is noted as it
+abbrev pub AreNoted : List (List ℕ) → (ℕ → Option ℕ) → List (ℕ × Value) → Type 0
+AreNoted names index es = AllByRecursion (λ e. (i : ℕ) → index_of (name_at names e.0) ≡ Some i → index i ≡ Some e.0) es
 
--- An Array has a length, and its elements stand below its bound.
-pub record IsArrayTable (names : List (List ℕ)) (top : ℕ) (entries : List (ℕ × Value)) : Type 0 where
+-- What is noted as an index is the number of its name, and each name of the pairs that is an index is noted.
+pub record IsIndexed (names : List (List ℕ)) (index : ℕ → Option ℕ) (entries : List (ℕ × Value)) : Type 0 where
+  pub named : (i n : ℕ) → index i ≡ Some n → index_of (name_at names n) ≡ Some i
+  pub noted : AreNoted names index entries
+
+-- An Array has a length, and its elements are found by their indices.
+pub record IsArrayTable (names : List (List ℕ)) (els : List (ℕ × ℕ)) (entries : List (ℕ × Value)) : Type 0 where
   pub length : is_some (option_and_then length_in (lookup (nat_eq 0) entries)) ≡ true
-  pub below : AreBelow names top entries
+  pub indexed : IsIndexed names (found_in els) entries
 
 -- A cell's names are in the table, its references exist, and an Array is one.
 pub record IsFine (names : List (List ℕ)) (size : ℕ) (c : NumberedCell) : Type 0 where
   pub entries : AreEntries (length names) size c.entries
-  pub array : is_array c.head.form ≡ true → IsArrayTable names c.top c.entries
+  pub array : is_array c.head.form ≡ true → IsArrayTable names c.elements c.entries
 
 -- each cell's names are in the table, its references exist, and each Array is one
 abbrev pub AreFine : List (List ℕ) → ℕ → List NumberedCell → Type 0
@@ -145,11 +150,6 @@ IsPlanned cs i name v plan = (c : NumberedCell) → slice_get cs i ≡ Some c �
 abbrev pub IsTakeable : List NumberedCell → ℕ → List ℕ → Type 0
 IsTakeable cs i name = (c : NumberedCell) → slice_get cs i ≡ Some c → is_length_in c name ≡ false
 
--- where the cell at a place is an Array, this is one past the index that a name is, or 0
-abbrev pub IsEndOf : List NumberedCell → ℕ → List ℕ → ℕ → Type 0
-IsEndOf cs i name end =
-    (c : NumberedCell) → slice_get cs i ≡ Some c → is_array c.head.form ≡ true → end ≡ end_of name
-
 -- what an index of the cells of page nodes says of some nodes: the places of their cells, 0 where there is none
 abbrev pub node_places : List (ℕ × ℕ) → List ℕ → List ℕ
 node_places raws nodes = map (λ n. unwrap_or (lookup (nat_eq n) raws) 0) nodes
@@ -166,15 +166,6 @@ pub record Kept (old : List (List ℕ)) (cs : List NumberedCell) (new : List (Li
   pub done : cells_of new after ≡ cells_of old cs
   pub base : IsBase new after
   pub heads : heads after ≡ heads cs
-
--- The last name, which was the element right before the top, was taken out.
-pub record IsPopped (names : List (List ℕ)) (old new : NumberedCell) : Type 0 where
-  pub head : new.head ≡ old.head
-  pub top : old.top ≡ suc new.top
-  pub last : ℕ × Value
-  pub entries : old.entries ≡ new.entries ++ last ∷ []
-  pub index : index_of (name_at names last.0) ≡ Some new.top
-  pub distinct : IsDistinct nat_eq (keys_of old.entries)
 
 -- A cell was added.
 pub record Added (old : List (List ℕ)) (cs : List NumberedCell) (new : List (List ℕ)) (after : List NumberedCell)
@@ -226,7 +217,7 @@ AreElements size vs = AllByRecursion (IsRefWithin size) vs
 -- An Array of so many elements, of which it has these.
 pub record IsArrayOf (names : List (List ℕ)) (h : Head) (count : ℕ) (vs : List Value) (c : NumberedCell) : Type 0 where
   pub head : c.head ≡ h
-  pub top : c.top ≡ length vs
+  pub indexed : IsIndexed names (found_in c.elements) c.entries
   pub known : Known (length names) c.entries
   pub pairs : named names c.entries ≡ (length_name, count_value count) ∷ elements 0 vs
 

@@ -1,21 +1,22 @@
 //! A cell by the numbers of its names.
-ghost use Rattle.std.specs.Prelude.{◌≡◌, suc, MatchOption, [], None, Some, true, is_some, nat_eq, if◌then◌else◌, OnErr, OnOk, option_copied, option_map, slice_get, IfSome, ◌<◌, ◌≤◌, ◌++◌, false, length, option_to_list, IfOk};
-ghost use Rattle.std.specs.List.{IsDistinct};
+ghost use Rattle.std.specs.Prelude.{◌≡◌, ℕ, suc, List, [], None, Some, true, false, is_some, nat_eq, if◌then◌else◌, OnErr, OnOk, option_copied, option_map, slice_get, IfSome, ◌<◌, ◌≤◌, length, filter, IfOk};
+ghost use Rattle.std.specs.List.{IsDistinct, list_any};
 ghost use Rattle.std.specs.Map.{keys_of as numbers_of, lookup};
 ghost use Rattle.std.specs.Option.{option_map_or};
-ghost use Rattle.keyed_names.specs.Interned.{IsTable};
-ghost use Rattle.code_units.specs.Indices.{index_of};
-ghost use Rattle.store_cells.specs.Arrays.{count_value, end_of, is_below, keys_of, length_in};
+ghost use Rattle.store_cells.specs.Arrays.{count_value, keys_of, length_in};
 ghost use Rattle.store_cells.specs.Cells.{is_array, is_scope, writer_in};
-ghost use Rattle.store_cells.specs.Numbered.{NumberedCell, element_plan, is_index, first_numbered, is_length_in, is_listed, name_at, node_head, numbered_below, numbered_cut, numbered_element, numbered_has, numbered_held, numbered_key, numbered_length, numbered_two, numbered_without, numbered_written, own_place, plain, plan_of};
-ghost use Rattle.store_cells.specs.Shape.{AreBelow, IsPopped, Known};
+ghost use Rattle.store_cells.specs.Holes.{is_element, is_reference_below};
+ghost use Rattle.store_cells.specs.Numbered.{NumberedCell, element_plan, first_numbered, found_in, is_length_in, is_listed, node_head, numbered_cut, numbered_element, numbered_has, numbered_held, numbered_length, numbered_two, numbered_without, numbered_written, own_place, plain, plan_of};
+ghost use Rattle.store_cells.specs.Shape.{IsIndexed, Known};
 
 use crate::kind::Form;
+use crate::pairs::{self, FIRST_HOLE};
 use crate::value::{CellId, Number, Value};
-use code_units::{Memory, Owner, Text, index_of, is_word, permitted};
+use code_units::{Memory, Owner, Text, index_of, is_word};
 use indexmap::IndexMap;
 use keyed_names::{Names, NumberKeys};
 use std::alloc::Global;
+use std::collections::BTreeMap;
 use std::marker::Model;
 
 /// What a cell never changes: whose it is, what it is, its prototype or outer scope, the number of
@@ -36,20 +37,25 @@ pub struct Maker {
     pub key: NumberKeys,
 }
 
-/// A cell. No element of an Array stands at or past its `top`.
+/// A cell: its pairs in a table with holes, and for an Array the numbers of names by the indices that
+/// these are.
 #[derive(Drop)]
 pub struct Cell {
     head: Head,
-    top: u32,
+    holes: u32,
     table: IndexMap<u32, Value, NumberKeys>,
+    elements: BTreeMap<u32, u32>,
 }
 
 impl Model for Cell {
-    ghost use Rattle.store_cells.specs.Numbered.{NumberedCell};
+    ghost use Rattle.store_cells.specs.Numbered.{NumberedCell, live};
+    ghost use Rattle.store_cells.specs.Holes.{IsFull};
 
     ghost Value = { NumberedCell };
 
-    ghost view = { λ c. record { head = c.head; top = c.top; entries = c.table.entries } };
+    ghost view = { λ c. record { head = c.head; elements = c.elements.entries; entries = live c.table.entries } };
+
+    ghost invariant = { λ c. IsFull c.holes c.table.entries };
 }
 
 /// How a write under a name goes.
@@ -98,45 +104,16 @@ fn element_plan(len: u32, index: Option<u32>) -> Write
     }
 }
 
-// The index that a name by its number is.
-fn index_at(names: &Names, k: u32) -> Option<u32>
-    ensures index { result ≡ index_of (name_at names.now k) }
-    ensures small { IfSome result (λ i. i < 4294967295) }
-{
-    let name = names.text(k)?;
-    index_of(name)
-}
-
-// Whether a name by its number is no index from `n` on.
-fn is_kept(names: &Names, k: u32, n: u32) -> bool
-    ensures { result ≡ is_below n (name_at names.now k) }
-{
-    match index_at(names, k) {
-        None => true,
-        Some(i) => i < n,
-    }
-}
-
-// Whether an index stands right before `top`.
-fn is_right_before(index: Option<u32>, top: u32) -> bool
-    requires { IfSome index (λ i. i < 4294967295) }
-    ensures { result ≡ true → MatchOption index ⊥ (λ i. top ≡ suc i) }
-{
-    match index {
-        None => false,
-        Some(i) => i + 1 == top,
-    }
-}
-
 impl Cell {
     /// A cell without pairs.
     pub fn new(maker: Maker, head: Head) -> Cell
-        ensures { result ≡ record { head = head; top = 0; entries = [] } }
+        ensures { result ≡ record { head = head; elements = []; entries = [] } }
     {
         Cell {
             head,
-            top: 0,
+            holes: 0,
             table: IndexMap::with_hasher(maker.alloc, maker.key),
+            elements: BTreeMap::new(maker.alloc),
         }
     }
 
@@ -153,7 +130,7 @@ impl Cell {
 
     /// The cell of a page node.
     pub fn of_node(maker: Maker, node: u32) -> Cell
-        ensures { result ≡ record { head = node_head node; top = 0; entries = [] } }
+        ensures { result ≡ record { head = node_head node; elements = []; entries = [] } }
     {
         Cell::new(
             maker,
@@ -229,15 +206,16 @@ impl Cell {
     pub fn value_at(&self, at: u32) -> Option<&Value>
         ensures { option_copied result ≡ option_map (λ e. e.1) (slice_get self.now.entries at) }
     {
-        Some(self.table.get_index(at as usize)?.1)
+        let place = pairs::place(&self.table, self.holes, at as usize);
+        Some(self.table.get_index(place)?.1)
     }
 
     /// The number of its own name at a place.
     pub fn number_at(&self, at: u32) -> Option<u32>
         ensures { result ≡ option_map (λ e. e.0) (slice_get self.now.entries at) }
     {
-        let (n, _value) = self.table.get_index(at as usize)?;
-        Some(*n)
+        let place = pairs::place(&self.table, self.holes, at as usize);
+        Some(*self.table.get_index(place)?.0)
     }
 
     /// The length of an Array.
@@ -251,46 +229,12 @@ impl Cell {
         }
     }
 
-    // Whether its name at a place is an index.
-    fn is_element(&self, names: &Names, place: usize, at: u32) -> bool
-        ensures { result ≡ option_map_or (λ e. is_index at (name_at names.now e.0)) (slice_get self.now.entries place) false }
+    /// What an Array has under an index.
+    pub fn element(&self, at: u32) -> Option<&Value>
+        ensures { option_copied result ≡ numbered_element at self.now }
     {
-        let Some((k, _value)) = self.table.get_index(place) else {
-            return false;
-        };
-        match index_at(names, *k) {
-            None => false,
-            Some(i) => i == at,
-        }
-    }
-
-    // Its value at a place.
-    fn value_in(&self, place: usize) -> Option<&Value>
-        ensures { option_copied result ≡ option_map (λ e. e.1) (slice_get self.now.entries place) }
-    {
-        Some(self.table.get_index(place)?.1)
-    }
-
-    /// What it has under an index. The elements of an Array that was made whole stand in order behind
-    /// its `length`.
-    pub fn element(&self, names: &Names, at: u32) -> Option<&Value>
-        requires table { IsTable names.now }
-        requires known { Known (length names.now) self.now.entries }
-        requires index { at < 4294967295 }
-        ensures { option_copied result ≡ numbered_element names.now at self.now.entries }
-    {
-        // This says that the names differ.
-        let _len = self.table.len();
-        let behind = at as usize + 1;
-        if self.is_element(names, behind, at) {
-            return self.value_in(behind);
-        }
-        for place in 0..self.table.len() {
-            if self.is_element(names, place, at) {
-                return self.value_in(place);
-            }
-        }
-        None
+        let n = *self.elements.get(&at)?;
+        self.own(n)
     }
 
     /// How a write under a name goes, none where it would be a bad length.
@@ -320,42 +264,21 @@ impl Cell {
     pub fn has(&self, n: u32) -> bool
         ensures { result ≡ is_some (lookup (nat_eq n) self.now.entries) }
     {
-        self.table.contains_key(&n)
+        pairs::has(&self.table, n)
     }
 
     /// The value under a name of its own.
     pub fn own(&self, n: u32) -> Option<&Value>
         ensures { option_copied result ≡ lookup (nat_eq n) self.now.entries }
     {
-        self.table.get(&n)
+        pairs::value(&self.table, n)
     }
 
     /// Whether a name is listed: it is permitted, and no `length` of an Array.
     pub fn is_listed(&self, name: &Text) -> bool
         ensures { result ≡ is_listed self.now name.now }
     {
-        permitted(name) && !self.is_length(name)
-    }
-
-    // The name at a place, where it is listed.
-    fn key_at<'a>(&self, names: &'a Names, at: usize) -> Option<&'a Text>
-        ensures { option_copied result ≡ numbered_key names.now self.now at }
-    {
-        let name = names.text(*self.table.get_index(at)?.0)?;
-        if self.is_listed(name) {
-            Some(name)
-        } else {
-            None
-        }
-    }
-
-    fn push_key(&self, names: &Names, at: usize, keys: &mut Vec<Text>) -> Result<(), Memory>
-        ensures { OnOk result (keys.new.items ≡ keys.old.items ++ option_to_list (numbered_key names.now self.now at)) }
-    {
-        if let Some(name) = self.key_at(names, at) {
-            keys.push(name.share()?)?;
-        }
-        Ok(())
+        pairs::is_listed(self.head.form.is_array(), name)
     }
 
     /// The listed names in order.
@@ -363,21 +286,7 @@ impl Cell {
         requires { Known (length names.now) self.now.entries }
         ensures { IfOk result (λ keys. keys.items ≡ keys_of (plain names.now self.now)) }
     {
-        let mut keys = Vec::new(alloc);
-        for at in 0..self.table.len() {
-            self.push_key(names, at, &mut keys)?;
-        }
-        Ok(keys)
-    }
-
-    fn count_key(&self, names: &Names, at: usize) -> usize
-        ensures count { result ≡ length (option_to_list (numbered_key names.now self.now at)) }
-        ensures small { result ≤ 1 }
-    {
-        match self.key_at(names, at) {
-            None => 0,
-            Some(_) => 1,
-        }
+        pairs::keys(alloc, &self.table, names, self.head.form.is_array())
     }
 
     /// How many names are listed.
@@ -385,25 +294,72 @@ impl Cell {
         requires { Known (length names.now) self.now.entries }
         ensures { result ≡ length (keys_of (plain names.now self.now)) }
     {
-        let mut count = 0;
-        for at in 0..self.table.len() {
-            count += self.count_key(names, at);
-        }
-        count
+        pairs::keys_len(&self.table, names, self.head.form.is_array())
     }
 
-    /// Writes under a name, a new one last. A name that it has needs no memory. `end` is past the
-    /// name where it is an index.
+    /// Whether an element below an index refers to a cell.
+    pub fn has_reference(&self, names: &Names, n: u32) -> bool
+        ensures { result ≡ list_any (is_reference_below names.now n) self.now.entries }
+    {
+        pairs::has_reference(&self.table, names, n)
+    }
+
+    /// How many elements stand below an index.
+    pub fn count_below(&self, names: &Names, n: u32) -> usize
+        ensures { result ≡ length (filter (is_element names.now n) self.now.entries) }
+    {
+        pairs::count_below(&self.table, names, n)
+    }
+
+    /// A law: its names differ.
+    pub fn names_differ(&self)
+        ensures { IsDistinct nat_eq (numbers_of self.now.entries) }
+    {
+        // This says that the numbers in the table differ.
+        let _len = self.table.len();
+    }
+
+    /// Writes under a name, a new one last. `end` is past the name where it is an index of an Array.
     pub fn write(&mut self, n: u32, value: Value, end: u32) -> Result<(), Memory>
         ensures ok { OnOk result (self.new ≡ numbered_written n value end self.old) }
         ensures err { OnErr result (self.new ≡ self.old) }
     {
+        if n >= FIRST_HOLE {
+            return Err(Memory);
+        }
+        if end == 0 {
+            self.write_name(n, value)
+        } else {
+            self.write_element(n, value, end - 1)
+        }
+    }
+
+    // Writes under a name that is no index of an Array. One that the cell has needs no memory.
+    fn write_name(&mut self, n: u32, value: Value) -> Result<(), Memory>
+        requires { n < FIRST_HOLE }
+        ensures ok { OnOk result (self.new ≡ numbered_written n value 0 self.old) }
+        ensures err { OnErr result (self.new ≡ self.old) }
+    {
         self.table.insert(n, value)?;
-        self.top = self.top.max(end);
         Ok(())
     }
 
-    /// Writes under two names. Either both are written, or none is.
+    // Writes under the name of an element.
+    fn write_element(&mut self, n: u32, value: Value, at: u32) -> Result<(), Memory>
+        requires { n < FIRST_HOLE }
+        ensures ok { OnOk result (self.new ≡ numbered_written n value (suc at) self.old) }
+        ensures err { OnErr result (self.new ≡ self.old) }
+    {
+        self.table.reserve(1)?;
+        pairs::note(&mut self.elements, at, n)?;
+        let Ok(_) = self.table.insert(n, value) else {
+            unreachable!()
+        };
+        Ok(())
+    }
+
+    /// Writes under the names of an element, which `end` is past, and of the length. Either both are
+    /// written, or none is.
     pub fn write_two(
         &mut self,
         n: u32,
@@ -415,14 +371,17 @@ impl Cell {
         ensures ok { OnOk result (self.new ≡ numbered_two n value m other end self.old) }
         ensures err { OnErr result (self.new ≡ self.old) }
     {
+        if n >= FIRST_HOLE || m >= FIRST_HOLE || end == 0 {
+            return Err(Memory);
+        }
         self.table.reserve(2)?;
+        pairs::note(&mut self.elements, end - 1, n)?;
         let Ok(_) = self.table.insert(n, value) else {
             unreachable!()
         };
         let Ok(_) = self.table.insert(m, other) else {
             unreachable!()
         };
-        self.top = self.top.max(end);
         Ok(())
     }
 
@@ -437,82 +396,18 @@ impl Cell {
         }
     }
 
-    /// One past the index that a name is of an Array, else 0.
-    pub fn end(&self, name: &Text) -> u32
-        ensures { result ≡ (if is_array self.now.head.form then end_of name.now else 0) }
+    /// Takes a name out. An index stays noted.
+    pub fn take(&mut self, n: u32)
+        ensures { self.new ≡ numbered_without n self.old }
     {
-        if !self.head.form.is_array() {
-            return 0;
-        }
-        match index_of(name) {
-            None => 0,
-            Some(i) => i + 1,
-        }
+        pairs::take_out(&mut self.table, &mut self.holes, n);
     }
 
-    /// Takes a name out. `end` is past it where it is an element.
-    pub fn take(&mut self, n: u32, end: u32)
-        ensures done { self.new ≡ numbered_without n end self.old }
-        ensures distinct { IsDistinct nat_eq (numbers_of self.old.entries) }
+    /// Removes the elements from `n` on, the last first.
+    pub fn cut(&mut self, n: u32)
+        ensures { (names : List (List ℕ)) → Known (length names) self.old.entries
+            → IsIndexed names (found_in self.old.elements) self.old.entries → self.new ≡ numbered_cut names n self.old }
     {
-        // This says that the names differ.
-        let _len = self.table.len();
-        let _ = self.table.shift_remove(&n);
-        if end == self.top {
-            self.top = self.top.saturating_sub(1);
-        }
-    }
-
-    // Takes out the last name, where it is the element right before the top.
-    fn pop_top(&mut self, names: &Names) -> bool
-        ensures same { result ≡ false → self.new ≡ self.old }
-        ensures popped { result ≡ true → IsPopped names.now self.old self.new }
-    {
-        // This says that the names differ.
-        let _len = self.table.len();
-        let Some((k, _v)) = self.table.last() else {
-            return false;
-        };
-        if !is_right_before(index_at(names, *k), self.top) {
-            return false;
-        }
-        let _last = self.table.pop();
-        self.top -= 1;
-        true
-    }
-
-    // Takes out elements from `n` on, as long as they stand last and right before the top.
-    fn pop_tops(&mut self, names: &Names, n: u32)
-        requires table { IsTable names.now }
-        requires known { Known (length names.now) self.old.entries }
-        requires below { AreBelow names.now self.old.top self.old.entries }
-        ensures alike { numbered_cut names.now n self.new ≡ numbered_cut names.now n self.old }
-        ensures below { AreBelow names.now self.new.top self.new.entries }
-    {
-        for _k in n..self.top {
-            if !self.pop_top(names) {
-                return;
-            }
-        }
-    }
-
-    /// Removes the elements from `n` on.
-    pub fn cut(&mut self, names: &Names, n: u32)
-        requires table { IsTable names.now }
-        requires known { Known (length names.now) self.old.entries }
-        requires below { AreBelow names.now self.old.top self.old.entries }
-        ensures { self.new ≡ numbered_cut names.now n self.old }
-    {
-        self.pop_tops(names, n);
-        if n < self.top {
-            self.retain_below(names, n);
-        }
-    }
-
-    fn retain_below(&mut self, names: &Names, n: u32)
-        ensures { self.new ≡ numbered_below names.now n self.old }
-    {
-        self.table.retain(|k, _v| is_kept(names, *k, n));
-        self.top = n;
+        pairs::cut(&mut self.elements, &mut self.table, &mut self.holes, n);
     }
 }

@@ -5,6 +5,7 @@
 pub mod cell;
 pub mod counts;
 mod kind;
+mod pairs;
 mod value;
 
 pub use kind::{CellKind, Form, FunParts};

@@ -1,5 +1,7 @@
 //! Values (ECMA-262 3rd edition, 8).
 ghost use Rattle.std.specs.Prelude.{◌≡◌, IfOk};
+ghost use Rattle.store_cells.specs.Arrays.{is_reference};
+ghost use Rattle.store_cells.specs.declared.value.Value.TheVariants.{Undefined as undefined};
 
 use code_units::{Memory, Text};
 
@@ -24,7 +26,22 @@ pub enum Value {
     Ref(CellId),
 }
 
+impl Default for Value {
+    ghost is_default = { λ v. v ≡ undefined };
+
+    fn default() -> Value {
+        Value::Undefined
+    }
+}
+
 impl Value {
+    /// Whether it refers to a cell.
+    pub fn is_reference(&self) -> bool
+        ensures { result ≡ is_reference self.now }
+    {
+        matches!(self, Value::Ref(_))
+    }
+
     /// The same value for a second holder. It copies no units.
     pub fn share(&self) -> Result<Value, Memory>
         ensures { IfOk result (λ v. v ≡ self.now) }

@@ -1,16 +1,16 @@
 //! What the store does, on its list of cells by number.
-ghost use Rattle.std.specs.Prelude.{◌≡◌, ◌+◌, ◌<◌, ◌≤◌, [], ◌∷◌, ◌++◌, None, Some, false, nat_eq, length, map, max, vec_len, slice_get, option_copied, IfOk, IfSome, OnErr, OnOk, MatchOption, true};
+ghost use Rattle.std.specs.Prelude.{◌≡◌, ◌+◌, ◌<◌, ◌≤◌, [], ◌∷◌, ◌++◌, None, Some, false, nat_eq, length, map, vec_len, slice_get, option_copied, IfOk, IfSome, OnErr, OnOk, MatchOption, true};
 ghost use Rattle.std.specs.List.{IsDistinct, fold};
 ghost use Rattle.std.specs.Map.{lookup};
 ghost use Rattle.std.specs.Str.{bytes_eq};
 ghost use Rattle.indexmap.specs.IndexMap.{insert_entry, spare};
 ghost use Rattle.keyed_names.specs.Interned.{Interns, IsTable};
-ghost use Rattle.store_cells.specs.Arrays.{without, written};
+ghost use Rattle.store_cells.specs.Arrays.{end_of, without, written};
 ghost use Rattle.store_cells.specs.Born.{filled_cell, with_pair};
 ghost use Rattle.store_cells.specs.Cells.{is_array};
 ghost use Rattle.store_cells.specs.Lists.{changed};
-ghost use Rattle.store_cells.specs.Numbered.{Grown, IsNumberOf, by_plan, heads, numbered_along, numbered_has_at, numbered_holder, numbered_own, numbered_two, numbered_written, plain};
-ghost use Rattle.store_cells.specs.Shape.{Added, AreRefs, Grew, IsBase, IsEndOf, IsFine, IsOrdered, IsPlanned, IsRefWithin, IsTakeable, IsVariable, Kept, Known, Wrote, head_on, links_at, scope_head};
+ghost use Rattle.store_cells.specs.Numbered.{Grown, IsNumberOf, by_plan, found_in, heads, numbered_along, numbered_has_at, numbered_holder, numbered_own, numbered_two, numbered_written, plain};
+ghost use Rattle.store_cells.specs.Shape.{Added, AreRefs, Grew, IsBase, IsFine, IsIndexed, IsOrdered, IsPlanned, IsRefWithin, IsTakeable, IsVariable, Kept, Known, Wrote, head_on, links_at, scope_head};
 
 use code_units::{Memory, Owner, Text};
 use indexmap::IndexMap;
@@ -186,7 +186,7 @@ fn resize(names: &Names, cells: &mut Vec<Cell>, i: CellId, name: &Text, value: V
 {
     let cell = &mut cells[i as usize];
     cell.write_held(LENGTH, value);
-    cell.cut(names, len);
+    cell.cut(len);
 }
 
 /// Writes under a name as the plan says.
@@ -217,17 +217,16 @@ pub fn write(
     }
 }
 
-/// Takes a name out of a cell. `end` is past it where it is an element.
-pub fn take(names: &Names, cells: &mut Vec<Cell>, i: CellId, name: &Text, n: u32, end: u32)
+/// Takes a name out of a cell.
+pub fn take(names: &Names, cells: &mut Vec<Cell>, i: CellId, name: &Text, n: u32)
     requires at { i < vec_len cells.old }
     requires base { IsBase names.now cells.old.items }
     requires number { slice_get names.now n ≡ Some name.now }
     requires kept { IsTakeable cells.old.items i name.now }
-    requires end { IsEndOf cells.old.items i name.now end }
     ensures { Wrote names.now cells.old.items names.now cells.new.items i (without name.now) }
 {
     let cell = &mut cells[i as usize];
-    cell.take(n, end);
+    cell.take(n);
 }
 
 /// Writes a variable that the scope at `i` has.
@@ -320,7 +319,8 @@ pub fn write_new(
     ensures table { IsTable names.new }
     ensures known { OnOk result (Known (length names.new) cell.new.entries) }
     ensures head { OnOk result (cell.new.head ≡ cell.old.head) }
-    ensures top { OnOk result (cell.new.top ≡ max cell.old.top end) }
+    ensures indexed { OnOk result (end ≡ end_of name.now → IsIndexed names.old (found_in cell.old.elements) cell.old.entries
+        → IsIndexed names.new (found_in cell.new.elements) cell.new.entries) }
     ensures done { OnOk result (plain names.new cell.new ≡ written name.now value (plain names.old cell.old)) }
 {
     let number = names.number(name);

@@ -1,12 +1,12 @@
-use Rattle.std.proofs.Common.{◌<◌, sym, ◌∙◌, ap, arith, subst, length, refl, List, if◌then◌else◌}
+use Rattle.std.proofs.Common.{◌<◌, ◌+◌, sym, ◌∙◌, ap, arith, subst, length, refl, List, if◌then◌else◌}
 use Rattle.store_cells.specs.declared.cell.Head.{Head}
 use Rattle.store_cells.specs.Numbered.{NumberedCell, heads, first_numbered, plain, own_head}
 use Rattle.store_cells.specs.declared.counts.Counts.{Counts}
 use Rattle.store_cells.specs.Cells.{is_bunch, node_in}
-use Rattle.store_cells.specs.Shape.{IsOrdered, links_at}
+use Rattle.store_cells.specs.Shape.{IsOrdered, IsFine, links_at}
 use Rattle.store_cells.specs.Born.{new_cell}
 use Rattle.store_cells.specs.Costs.{cost_refusal}
-use Rattle.store_cells.proofs.Makes.{bunch_in_store, links_in_store, scope_in_store, scopes_in_store, length_in_store, new_ordered, first_plain, added_cells, added_heads, added_closed, made_is, kept_in_store, own_visible, visible_no_node}
+use Rattle.store_cells.proofs.Makes.{first_fine, bunch_in_store, links_in_store, scope_in_store, scopes_in_store, length_in_store, new_ordered, first_plain, added_cells, added_heads, added_closed, made_is, kept_in_store, own_visible, visible_no_node}
 use Rattle.store_cells.proofs.Adds.{shape_added}
 use Rattle.object_store.proofs.store.Store.make_on.Goals as goal
 
@@ -24,6 +24,10 @@ add-requires-clause-ordered c =
     let few : links_at (heads s.inside.cells.items) c.args.up < 100 = omega (arith, c.requires.few, links_in_store c.args.self.now s.inside.names s.inside.cells.items s.inside.kept.items s.view_is s.invariant c.args.up lt) in
     let is = ap (λ (x : NumberedCell). x.head) c.in_ok-cell.ensures ∙ c.head_on-head.ensures in
     subst (λ (h : Head). IsOrdered (heads s.inside.cells.items) (length s.inside.cells.items) h) (sym is) (new_ordered s.inside.names s.inside.cells.items s.inside.kept.items s.invariant c.args.w c.args.up c.counts_of-number.result.cells c.args.form lt no_scope (bunch_in_store c.args.self.now s.inside.names s.inside.cells.items s.inside.kept.items s.view_is s.invariant c.args.up _ c.requires.unbunched) few c.requires.form.visible (scopes_in_store c.args.self.now s.inside.names s.inside.cells.items s.inside.kept.items s.view_is s.invariant _ c.requires.form.scope) c.requires.widget c.counts_of-number.ensures.cells)
+
+pub add-requires-clause-fine : goal.add-requires-clause-fine
+add-requires-clause-fine c =
+    let s = c.self in subst (λ (x : NumberedCell). IsFine s.inside.names (length s.inside.cells.items + 1) x) (sym c.in_ok-cell.ensures) (first_fine s.inside.names (length s.inside.cells.items + 1) s.invariant.base.table s.invariant.base.words c.head_on-head.result)
 
 pub returns-clause-ok : goal.returns-clause-ok
 returns-clause-ok c =

@@ -1,0 +1,352 @@
+//! The pairs of a cell: a table in order in which a name that is taken out leaves a hole, so that no
+//! pair moves, and the indices of an Array's elements.
+ghost use Rattle.std.specs.Prelude.{◌≡◌, ℕ, suc, ◌<◌, ◌≤◌, ◌++◌, List, Option, None, Some, true, false, is_some, nat_eq, length, IfOk, IfSome, MatchOption, OnErr, OnOk, filter, option_copied, option_to_list, slice_get, if◌then◌else◌, ◌&&◌};
+ghost use Rattle.std.specs.BTreeMap.{btree_map_len};
+ghost use Rattle.std.specs.List.{IsDistinct, list_any};
+ghost use Rattle.std.specs.Map.{keys_of as numbers_of, lookup, remove_entry};
+ghost use Rattle.std.specs.Option.{option_map_or};
+ghost use Rattle.keyed_names.specs.Interned.{IsTable};
+ghost use Rattle.store_cells.specs.Arrays.{is_below, is_index_below};
+ghost use Rattle.store_cells.specs.Numbered.{found_in, live, name_at, noted, noted_below};
+ghost use Rattle.store_cells.specs.Holes.{IsFull, IsNonePast, IsPoppedPast, StandsAt, is_element, is_name, is_reference_below, listed_in, listed_names, place_key};
+ghost use Rattle.store_cells.specs.Shape.{IsIndexed, Known};
+
+use crate::value::Value;
+use code_units::{Memory, Text, index_of, is_word, permitted};
+use indexmap::IndexMap;
+use keyed_names::{Names, NumberKeys};
+use std::alloc::Global;
+use std::collections::BTreeMap;
+
+/// The numbers of names are less; the others are those of holes.
+pub const FIRST_HOLE: u32 = 2_147_483_648;
+
+/// Whether a table has a name.
+pub(crate) fn has(table: &IndexMap<u32, Value, NumberKeys>, n: u32) -> bool
+    ensures { result ≡ is_some (lookup (nat_eq n) (live table.now.entries)) }
+{
+    value(table, n).is_some()
+}
+
+/// The value under a name.
+pub(crate) fn value(table: &IndexMap<u32, Value, NumberKeys>, n: u32) -> Option<&Value>
+    ensures { option_copied result ≡ lookup (nat_eq n) (live table.now.entries) }
+{
+    if n < FIRST_HOLE { table.get(&n) } else { None }
+}
+
+/// The place in the table of the pair at a place among those that are no holes.
+pub(crate) fn place(table: &IndexMap<u32, Value, NumberKeys>, holes: u32, at: usize) -> usize
+    requires { IsFull holes table.now.entries }
+    ensures { slice_get table.now.entries result ≡ slice_get (live table.now.entries) at }
+{
+    if holes == 0 {
+        at
+    } else {
+        place_behind(table, at)
+    }
+}
+
+// The same, where there are holes.
+fn place_behind(table: &IndexMap<u32, Value, NumberKeys>, at: usize) -> usize
+    ensures { slice_get table.now.entries result ≡ slice_get (live table.now.entries) at }
+{
+    let mut left = at;
+    for place in 0..table.len() {
+        if is_pair(table, place) {
+            if left == 0 {
+                return place;
+            }
+            left -= 1;
+        }
+    }
+    table.len()
+}
+
+// Whether a pair stands at a place, and no hole.
+fn is_pair(table: &IndexMap<u32, Value, NumberKeys>, place: usize) -> bool
+    ensures { result ≡ option_map_or (λ e. is_name e.0) (slice_get table.now.entries place) false }
+{
+    match table.get_index(place) {
+        None => false,
+        Some((k, _value)) => *k < FIRST_HOLE,
+    }
+}
+
+/// Whether a name is listed: it is permitted, and no `length` of an Array.
+pub(crate) fn is_listed(array: bool, name: &Text) -> bool
+    ensures { result ≡ listed_in array name.now }
+{
+    permitted(name) && !(array && is_word(name, b"length"))
+}
+
+// The name at a place, where it is listed.
+fn key_at<'a>(
+    table: &IndexMap<u32, Value, NumberKeys>,
+    names: &'a Names,
+    array: bool,
+    at: usize,
+) -> Option<&'a Text>
+    ensures { option_copied result ≡ place_key names.now array table.now.entries at }
+{
+    let (k, _value) = table.get_index(at)?;
+    let name = name_of(names, *k)?;
+    if is_listed(array, name) {
+        Some(name)
+    } else {
+        None
+    }
+}
+
+// The name with a number that is no hole's.
+fn name_of(names: &Names, k: u32) -> Option<&Text>
+    ensures { option_copied result ≡ (if is_name k then slice_get names.now k else None) }
+{
+    if k < FIRST_HOLE { names.text(k) } else { None }
+}
+
+fn push_key(
+    table: &IndexMap<u32, Value, NumberKeys>,
+    names: &Names,
+    array: bool,
+    at: usize,
+    keys: &mut Vec<Text>,
+) -> Result<(), Memory>
+    ensures { OnOk result (keys.new.items ≡ keys.old.items ++ option_to_list (place_key names.now array table.now.entries at)) }
+{
+    if let Some(name) = key_at(table, names, array, at) {
+        keys.push(name.share()?)?;
+    }
+    Ok(())
+}
+
+/// The listed names in order.
+pub(crate) fn keys(
+    alloc: Global,
+    table: &IndexMap<u32, Value, NumberKeys>,
+    names: &Names,
+    array: bool,
+) -> Result<Vec<Text>, Memory>
+    requires { Known (length names.now) (live table.now.entries) }
+    ensures { IfOk result (λ keys. keys.items ≡ listed_names names.now array (live table.now.entries)) }
+{
+    let mut keys = Vec::new(alloc);
+    for at in 0..table.len() {
+        push_key(table, names, array, at, &mut keys)?;
+    }
+    Ok(keys)
+}
+
+fn count_key(
+    table: &IndexMap<u32, Value, NumberKeys>,
+    names: &Names,
+    array: bool,
+    at: usize,
+) -> usize
+    ensures count { result ≡ length (option_to_list (place_key names.now array table.now.entries at)) }
+    ensures small { result ≤ 1 }
+{
+    match key_at(table, names, array, at) {
+        None => 0,
+        Some(_) => 1,
+    }
+}
+
+/// How many names are listed.
+pub(crate) fn keys_len(
+    table: &IndexMap<u32, Value, NumberKeys>,
+    names: &Names,
+    array: bool,
+) -> usize
+    requires { Known (length names.now) (live table.now.entries) }
+    ensures { result ≡ length (listed_names names.now array (live table.now.entries)) }
+{
+    let mut count = 0;
+    for at in 0..table.len() {
+        count += count_key(table, names, array, at);
+    }
+    count
+}
+
+// Whether the name with a number is an index below another.
+fn is_index_below(names: &Names, k: u32, n: u32) -> bool
+    ensures { result ≡ is_index_below n (name_at names.now k) }
+{
+    let Some(name) = names.text(k) else {
+        return false;
+    };
+    match index_of(name) {
+        None => false,
+        Some(i) => i < n,
+    }
+}
+
+// Whether the pair at a place is an element below an index, and refers to a cell.
+fn is_reference_at(
+    table: &IndexMap<u32, Value, NumberKeys>,
+    names: &Names,
+    n: u32,
+    place: usize,
+) -> bool
+    ensures { result ≡ option_map_or (λ e. is_name e.0 && is_reference_below names.now n e) (slice_get table.now.entries place) false }
+{
+    let Some((k, value)) = table.get_index(place) else {
+        return false;
+    };
+    *k < FIRST_HOLE && (is_index_below(names, *k, n) && value.is_reference())
+}
+
+/// Whether an element below an index refers to a cell.
+pub(crate) fn has_reference(table: &IndexMap<u32, Value, NumberKeys>, names: &Names, n: u32) -> bool
+    ensures { result ≡ list_any (is_reference_below names.now n) (live table.now.entries) }
+{
+    for place in 0..table.len() {
+        if is_reference_at(table, names, n, place) {
+            return true;
+        }
+    }
+    false
+}
+
+// How many elements below an index stand at a place: one or none.
+fn count_element(
+    table: &IndexMap<u32, Value, NumberKeys>,
+    names: &Names,
+    n: u32,
+    place: usize,
+) -> usize
+    ensures count { result ≡ (if option_map_or (λ e. is_name e.0 && is_element names.now n e) (slice_get table.now.entries place) false then 1 else 0) }
+    ensures small { result ≤ 1 }
+{
+    match table.get_index(place) {
+        Some((k, _value)) if *k < FIRST_HOLE && is_index_below(names, *k, n) => 1,
+        _ => 0,
+    }
+}
+
+/// How many elements stand below an index.
+pub(crate) fn count_below(table: &IndexMap<u32, Value, NumberKeys>, names: &Names, n: u32) -> usize
+    ensures { result ≡ length (filter (is_element names.now n) (live table.now.entries)) }
+{
+    let mut count = 0;
+    for place in 0..table.len() {
+        count += count_element(table, names, n, place);
+    }
+    count
+}
+
+/// Takes a name out. It leaves a hole, where there is memory for one and it is not the last; once more
+/// than half are holes, these are filled.
+pub(crate) fn take_out(table: &mut IndexMap<u32, Value, NumberKeys>, holes: &mut u32, n: u32)
+    requires { IsFull holes.old table.old.entries }
+    ensures full { IsFull holes.new table.new.entries }
+    ensures done { live table.new.entries ≡ remove_entry (nat_eq n) (live table.old.entries) }
+    ensures distinct { IsDistinct nat_eq (numbers_of (live table.old.entries)) }
+{
+    // This says that the numbers differ.
+    let _len = table.len();
+    if n >= FIRST_HOLE {
+        return;
+    }
+    if dig(table, n) {
+        *holes = holes.saturating_add(1);
+        fill(table, holes);
+    } else {
+        let _value = table.shift_remove(&n);
+    }
+}
+
+// Puts a hole in the place of a name that is not the last.
+fn dig(table: &mut IndexMap<u32, Value, NumberKeys>, n: u32) -> bool
+    requires { n < FIRST_HOLE }
+    ensures dug { result ≡ true → live table.new.entries ≡ remove_entry (nat_eq n) (live table.old.entries) }
+    ensures same { result ≡ false → table.new.entries ≡ table.old.entries }
+{
+    let Some(place) = place_before(table, n) else {
+        return false;
+    };
+    let hole = FIRST_HOLE + place;
+    if table.contains_key(&hole) {
+        return false;
+    }
+    let Ok(_) = table.insert(hole, Value::Undefined) else {
+        return false;
+    };
+    let _pair = table.swap_remove_index(place as usize);
+    true
+}
+
+// The place of a name that is not the last.
+fn place_before(table: &IndexMap<u32, Value, NumberKeys>, n: u32) -> Option<u32>
+    ensures at { IfSome result (StandsAt table.now.entries n) }
+    ensures distinct { IsDistinct nat_eq (numbers_of table.now.entries) }
+{
+    // This says that the numbers differ.
+    let len = table.len();
+    let place = table.get_index_of(&n)?;
+    let (k, _value) = table.get_index(place)?;
+    if *k != n || place + 1 >= len || place >= FIRST_HOLE as usize {
+        return None;
+    }
+    Some(place as u32)
+}
+
+// Fills the holes, where there are more than pairs.
+fn fill(table: &mut IndexMap<u32, Value, NumberKeys>, holes: &mut u32)
+    requires { 0 < holes.old }
+    ensures full { IsFull holes.new table.new.entries }
+    ensures same { live table.new.entries ≡ live table.old.entries }
+{
+    if *holes as usize > table.len() / 2 {
+        table.retain(|k, _value| is_name(*k));
+        *holes = 0;
+    }
+}
+
+fn is_name(k: u32) -> bool
+    ensures { result ≡ is_name k }
+{
+    k < FIRST_HOLE
+}
+
+/// Notes a name as an index.
+pub(crate) fn note(elements: &mut BTreeMap<u32, u32>, at: u32, n: u32) -> Result<(), Memory>
+    ensures ok { OnOk result (elements.new.entries ≡ noted (suc at) n elements.old.entries) }
+    ensures err { OnErr result (elements.new.entries ≡ elements.old.entries) }
+{
+    elements.insert(at, n)?;
+    Ok(())
+}
+
+// Takes out the last element, where it is one from an index on.
+fn pop_past(elements: &mut BTreeMap<u32, u32>, n: u32) -> Option<u32>
+    ensures popped { MatchOption result ((elements.new.entries ≡ elements.old.entries) × IsNonePast n elements.old.entries)
+        (λ k. IsPoppedPast n k elements.old.entries elements.new.entries) }
+    ensures less { IfSome result (λ k. btree_map_len elements.new < btree_map_len elements.old) }
+{
+    let (at, _number) = elements.last_key_value()?;
+    if *at < n {
+        return None;
+    }
+    let (_at, k) = elements.pop_last()?;
+    Some(k)
+}
+
+/// Takes out the elements from an index on, the last first.
+pub(crate) fn cut(
+    elements: &mut BTreeMap<u32, u32>,
+    table: &mut IndexMap<u32, Value, NumberKeys>,
+    holes: &mut u32,
+    n: u32,
+)
+    requires { IsFull holes.old table.old.entries }
+    ensures full { IsFull holes.new table.new.entries }
+    ensures elements { elements.new.entries ≡ noted_below n elements.old.entries }
+    ensures entries { (names : List (List ℕ)) → Known (length names) (live table.old.entries)
+        → IsIndexed names (found_in elements.old.entries) (live table.old.entries)
+        → live table.new.entries ≡ filter (λ e. is_below n (name_at names e.0)) (live table.old.entries) }
+{
+    while let Some(k) = pop_past(elements, n) {
+        take_out(table, holes, k);
+    }
+}
