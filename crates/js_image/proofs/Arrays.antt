@@ -53,6 +53,12 @@ at_test f b cells i lt h =
     let e : b ≡ f c.0 = subst (λ (x : Option PlainCell). IfSome x (λ d. b ≡ f d)) c.1 h in
     e ∙ sym (ap (λ (x : Option PlainCell). option_map_or f x false) c.1)
 
+pub at_number : (f : PlainCell → ℕ) (n : ℕ) (cells : List PlainCell) (i : ℕ) → i < length cells → IfSome (slice_get cells i) (λ c. n ≡ f c) → n ≡ option_map_or f (slice_get cells i) 0
+at_number f n cells i lt h =
+    let c = get_there cells i lt in
+    let e : n ≡ f c.0 = subst (λ (x : Option PlainCell). IfSome x (λ d. n ≡ f d)) c.1 h in
+    e ∙ sym (ap (λ (x : Option PlainCell). option_map_or f x 0) c.1)
+
 -- a frozen form is neither that of an Array nor that of a Bunch
 frozen_other : (f : Form) → is_frozen_form f ≡ true → (is_array f ≡ false) × (is_bunch f ≡ false)
 frozen_other form.Object h = (refl, refl)

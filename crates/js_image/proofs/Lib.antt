@@ -16,3 +16,4 @@ pub mod Writes
 pub mod Arrays
 pub mod ForIn
 pub mod Pushes
+pub mod Indexes

@@ -1,9 +1,11 @@
 -- Arrays and Bunches as natives ask for them, and the names that `for-in` lists.
-use Rattle.std.specs.Prelude.{ℕ, zero, suc, Bool, false, List, Option, None, Some, if◌then◌else◌, is_some, slice_get, unwrap_or}
+use Rattle.std.specs.Prelude.{IfSome, ℕ, zero, suc, ◌&&◌, filter, length, map, Bool, false, List, Option, None, Some, if◌then◌else◌, is_some, slice_get, unwrap_or}
+use Rattle.std.specs.List.{IsDistinct, list_any}
+use Rattle.std.specs.Str.{bytes_eq}
 use Rattle.std.specs.Option.{option_and_then, option_map_or}
 use Rattle.store_cells.specs.declared.value.Value.{Value}
 use Rattle.store_cells.specs.declared.value.Value.TheVariants as value
-use Rattle.store_cells.specs.Arrays.{keys_of}
+use Rattle.store_cells.specs.Arrays.{is_index_below, is_reference, keys_of}
 use Rattle.store_cells.specs.Cells.{PlainCell, own_count, proto_in, widget_of}
 use Rattle.object_store.specs.Calls.{keys_at}
 use Rattle.object_store.specs.Elements as store
@@ -32,6 +34,22 @@ stored_length cells _ = None
 abbrev pub stored_element : List PlainCell → Value → ℕ → Value
 stored_element cells (value.Ref i) at = unwrap_or (option_and_then (store.element at) (slice_get cells i)) value.Undefined
 stored_element cells _ at = value.Undefined
+
+-- whether an own name of a value that is an index below a number has a reference
+abbrev pub stored_references : List PlainCell → Value → ℕ → Bool
+stored_references cells (value.Ref i) n =
+    option_map_or (λ c. list_any (λ p. is_index_below n p.0 && is_reference p.1) c.pairs) (slice_get cells i) false
+stored_references cells _ n = false
+
+-- how many own names of a value are indices below a number
+abbrev pub stored_count : List PlainCell → Value → ℕ → ℕ
+stored_count cells (value.Ref i) n = option_map_or (λ c. length (filter (λ p. is_index_below n p.0) c.pairs)) (slice_get cells i) 0
+stored_count cells _ n = 0
+
+-- the own names of a value differ
+abbrev pub DifferAt : List PlainCell → Value → Type 0
+DifferAt cells (value.Ref i) = IfSome (slice_get cells i) (λ c. IsDistinct bytes_eq (map (λ p. p.0) c.pairs))
+DifferAt cells _ = Unit {0}
 
 -- the page nodes of a value that is a Bunch
 abbrev pub stored_nodes : List PlainCell → Value → Option (List ℕ)

@@ -1,21 +1,23 @@
 //! What natives ask of a value: an Array's length and elements, a Bunch's nodes, an own property.
-ghost use Rattle.std.specs.Prelude.{◌≡◌, ℕ, ◌<◌, List, Option, Some, IfOk, IfSome, is_some, length, map, nat_eq};
-ghost use Rattle.std.specs.List.{IsDistinct, range_with_len};
+ghost use Rattle.std.specs.Prelude.{◌≡◌, ℕ, ◌-◌, ◌<◌, List, Option, Some, IfOk, IfSome, is_some, length, map, nat_eq};
+ghost use Rattle.std.specs.List.{IsDistinct, list_any, range_with_len};
 ghost use Rattle.std.specs.Option.{option_map};
 ghost use Rattle.js_tree.specs.Forest.{Forest};
 ghost use Rattle.store_cells.specs.Shape.{IsRefWithin};
+ghost use Rattle.widget_meaning.specs.Values as meaning;
 ghost use Rattle.widget_meaning.specs.OwnState as state;
+ghost use Rattle.widget_meaning.specs.ListChanges as changes;
 ghost use Rattle.widget_meaning.specs.Plan.{Plan};
 ghost use Rattle.widget_meaning.specs.NativeForms as natives;
 ghost use Rattle.widget_meaning.specs.Properties as properties;
 ghost use Rattle.js_image.specs.Image.{Rest, all_seen, image, node_number, seen};
 ghost use Rattle.js_image.specs.Held.{AreFine, IsConfined, IsFine};
-ghost use Rattle.js_image.specs.Elements.{array_plan, own_place, stored_element, stored_length, stored_nodes, stored_own};
+ghost use Rattle.js_image.specs.Elements.{DifferAt, array_plan, own_place, stored_count, stored_element, stored_length, stored_nodes, stored_own, stored_references};
 
 use crate::laws::lawful;
 use crate::reading::shared;
 use code_units::{Memory, Text};
-use object_store::{Store, Value};
+use object_store::{CellId, Store, Value};
 use std::alloc::Global;
 
 /// The length of a value that is an Array of the widget, none exactly for all else; with it the
@@ -94,6 +96,80 @@ fn elements_of(alloc: Global, store: &Store, base: &Value, len: u32) -> Result<V
         values.push(element_of(store, base, at)?)?;
     }
     Ok(values)
+}
+
+/// Whether an element of an Array of the widget below a length is an object. It walks the pairs that
+/// the Array has, whatever the length is.
+pub fn has_objects(store: &Store, base: &Value, len: u32) -> bool
+    requires { IsRefWithin (length store.now.cells) base.now }
+    ensures { (fs : List Forest) (r : Rest) (w m : ℕ) → IsFine w store.now.cells base.now
+        → state.array_length (state.kind_of (image fs r w store.now) (seen w store.now.cells base.now)) ≡ Some m
+        → result ≡ list_any meaning.is_object
+        (natives.elements (image fs r w store.now) (own_place w store.now.cells base.now) len) }
+{
+    lawful(store);
+    references_of(store, base, len)
+}
+
+// The same by the cells of the store.
+fn references_of(store: &Store, base: &Value, len: u32) -> bool
+    requires { IsRefWithin (length store.now.cells) base.now }
+    ensures found { result ≡ stored_references store.now.cells base.now len }
+    ensures differ { DifferAt store.now.cells base.now }
+{
+    match base {
+        Value::Ref(cell) => references_in(store, *cell, len),
+        _ => false,
+    }
+}
+
+fn references_in(store: &Store, cell: CellId, len: u32) -> bool
+    requires { cell < length store.now.cells }
+    ensures found { result ≡ stored_references store.now.cells (Value.Ref cell) len }
+    ensures differ { DifferAt store.now.cells (Value.Ref cell) }
+{
+    store.names_differ(cell);
+    store.has_reference(cell, len)
+}
+
+/// How many indices below a length are no own names of an Array of the widget.
+pub fn new_indexes(store: &Store, base: &Value, len: u32) -> u32
+    requires { IsRefWithin (length store.now.cells) base.now }
+    ensures { (fs : List Forest) (r : Rest) (w m : ℕ) → IsFine w store.now.cells base.now
+        → state.array_length (state.kind_of (image fs r w store.now) (seen w store.now.cells base.now)) ≡ Some m
+        → result ≡ changes.new_indexes (state.cell_at (image fs r w store.now) (own_place w store.now.cells base.now)) len }
+{
+    lawful(store);
+    left(len, count_of(store, base, len))
+}
+
+// What is left of a count.
+fn left(len: u32, count: usize) -> u32
+    ensures { result ≡ len - count }
+{
+    if count >= len as usize {
+        0
+    } else {
+        len - count as u32
+    }
+}
+
+// How many own names of a value are indices below a length.
+fn count_of(store: &Store, base: &Value, len: u32) -> usize
+    requires { IsRefWithin (length store.now.cells) base.now }
+    ensures { result ≡ stored_count store.now.cells base.now len }
+{
+    match base {
+        Value::Ref(cell) => count_in(store, *cell, len),
+        _ => 0,
+    }
+}
+
+fn count_in(store: &Store, cell: CellId, len: u32) -> usize
+    requires { cell < length store.now.cells }
+    ensures { result ≡ stored_count store.now.cells (Value.Ref cell) len }
+{
+    store.count_below(cell, len)
 }
 
 /// The page nodes of a value that is a Bunch of the widget, in its order, none exactly for all else.
