@@ -1,5 +1,5 @@
 -- What holds of a widget in store, page and loop together, and what its calls keep.
-use Rattle.std.specs.Prelude.{◌≡◌, ◌≢◌, ℕ, ◌<◌, ◌≤◌, true, false, List, is_some, length, nat_eq}
+use Rattle.std.specs.Prelude.{◌≡◌, ℕ, ◌<◌, ◌≤◌, true, false, List, is_some, length, nat_eq}
 use Rattle.std.specs.List.{AllByRecursion, IsDistinct}
 use Rattle.js_tree.specs.Forest.{Forest}
 use Rattle.store_cells.specs.Born.{raw_place}
@@ -13,9 +13,7 @@ use Rattle.event_loop.specs.declared.around.Loop.{Loop}
 use Rattle.event_loop.specs.Around as around
 use Rattle.js_image.specs.Held.{CountsRise, HoldNodes, IsConfined}
 use Rattle.page_image.specs.Held.{OptionIn}
-use Rattle.page_image.specs.Image.{HasRoot, number, own, owns, root_of}
-use Rattle.page_image.specs.Stays.{OthersStay}
-use Rattle.native_image.specs.Image.{Parts}
+use Rattle.page_image.specs.Image.{HasRoot, owns}
 
 -- a visible cell of the widget
 abbrev pub IsOwnCell : ℕ → List PlainCell → ℕ → Type 0
@@ -51,14 +49,3 @@ pub record KeepsStore (w : ℕ) (old new : Cells) : Type 0 where
   pub grows : Grows w old.cells new.cells
   pub others : (v : ℕ) → (w ≡ v → ⊥) → owned v new ≡ owned v old
   pub counts : CountsRise (owned w old).paid (owned w new).paid
-
--- What a call keeps, also after want of memory: that of the store; what the widget holds is its own; no node goes, each has its owner and number; the trees of others stay, and the roots.
-pub record KeepsAll (w : ℕ) (old new : Parts) : Type 0 where
-  pub store : KeepsStore w old.store new.store
-  pub holds : HoldsOwn w new.store new.page new.around
-  pub owners : (v n : ℕ) → owns old.page v n ≡ true → owns new.page v n ≡ true
-  pub numbers : (v n : ℕ) → owns old.page v n ≡ true → number new.page v n ≡ number old.page v n
-  pub made : length (own old.page w) ≤ length (own new.page w)
-  pub others : (v : ℕ) → v ≢ w → own new.page v ≡ own old.page v
-  pub trees : OthersStay old.page new.page w
-  pub roots : (v : ℕ) → v < 32 → root_of new.page v ≡ root_of old.page v
