@@ -1,0 +1,45 @@
+//! Laws of the definitions.
+ghost use Rattle.std.specs.Prelude.{ℕ, List};
+ghost use Rattle.widget_meaning.specs.OwnState.{OwnState};
+ghost use Rattle.widget_meaning.specs.Items.{Item};
+ghost use Rattle.life_laws.specs.Life.{Seen};
+ghost use Rattle.pick_laws.specs.declared.entry.PickEntry.{PickEntry};
+ghost use Rattle.pick_laws.specs.declared.entry.Picked.{Picked};
+ghost use Rattle.slot_laws.specs.SlotLaws.{ItemLaws, PassLaws, RoundLaws, SlotLaws, SlotsLaws, SwapLaws};
+
+/// A pick of a slot goes from life to life, until one begins a turn or none waits.
+#[tactic(auto, using(crate::proofs::LawsHold::pass_laws))]
+pub fn picks()
+    ensures { (k : ℕ) → PassLaws k }
+{}
+
+/// What a pick of a slot keeps of the others.
+#[tactic(auto, using(crate::proofs::LawsHold::slot_laws))]
+pub fn slots()
+    ensures { (homes : List ℕ) (born w k : ℕ) (r : Picked) (cs ds : List (List ℕ)) (old new : List Seen) (js ks : List PickEntry)
+        → SlotLaws homes born w k r cs ds old new js ks }
+{}
+
+/// What is given to a slot goes to its last life, and is due there.
+#[tactic(auto, using(crate::proofs::LawsHold::item_laws))]
+pub fn items()
+    ensures { (homes : List ℕ) (born : ℕ) (cs : List (List ℕ)) (ss : List Seen) → ItemLaws homes born cs ss }
+{}
+
+/// A life that is born waits behind those of its slot, and no other life changes.
+#[tactic(auto, using(crate::proofs::LawsHold::swap_laws))]
+pub fn swaps()
+    ensures { (homes : List ℕ) (born to : ℕ) (cs : List (List ℕ)) (ss : List Seen) (x : Seen) → SwapLaws homes born to cs ss x }
+{}
+
+/// Picks of slots one after the other, with their asks, until no slot is ready.
+#[tactic(auto, using(crate::proofs::LawsHold::slots_laws))]
+pub fn settles()
+    ensures { (k : ℕ) (homes : List ℕ) → SlotsLaws k homes }
+{}
+
+/// A round hands the posts that no round has taken to their receivers; each post is taken once.
+#[tactic(auto, using(crate::proofs::LawsHold::round_laws))]
+pub fn rounds()
+    ensures { (posts : OwnState → List ℕ) (news : List (List ℕ) → ℕ → List Item) → RoundLaws posts news }
+{}
