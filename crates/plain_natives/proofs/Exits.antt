@@ -1,5 +1,5 @@
 -- The exits of natives: what is thrown, what stops, and what is given after a charge.
-use Rattle.std.proofs.Common.{◌≡◌, ℕ, ℤ, pos, List, [], ◌∷◌, Bool, true, false, Option, Some, None, refl, sym, ap, ◌∙◌, if◌then◌else◌, drop, slice_get, unwrap_or, Result, IfOk}
+use Rattle.std.proofs.Common.{◌≡◌, ℕ, ℤ, pos, List, [], ◌∷◌, true, false, Some, None, refl, sym, ap, ◌∙◌, if◌then◌else◌, drop, slice_get, unwrap_or, Result, IfOk}
 use Rattle.std.proofs.lemmas.Result.{IfOk-weaker}
 use Rattle.code_units.specs.declared.memory.Memory.{Memory}
 use Rattle.store_cells.specs.declared.value.Value.{Value as StoreValue}
@@ -16,14 +16,13 @@ use Rattle.widget_meaning.specs.OwnState.{State}
 use Rattle.widget_meaning.specs.Operators.{OpOut}
 use Rattle.widget_meaning.specs.Expressions.{result}
 use Rattle.widget_meaning.specs.Plan.{Halt, Plan, charge}
-use Rattle.widget_meaning.specs.Costs.{give, throw}
+use Rattle.widget_meaning.specs.Costs.{throw}
 use Rattle.widget_meaning.specs.NativeForms.{want_primitives, with_number_or, with_optional}
 use Rattle.js_image.specs.Image.{Rest, all_seen, image, seen}
 use Rattle.js_image.specs.Plans.{meant_cause, meant_fault}
 use Rattle.js_image.specs.declared.outcome.Fault.{Fault}
 use Rattle.js_image.specs.declared.outcome.StopCause.{StopCause}
 use Rattle.js_values.specs.Fuel.{Fuel}
-use Rattle.js_values.specs.Answers.{IsFineOut}
 use Rattle.js_values.specs.declared.outcome.NativeOut.{NativeOut}
 use Rattle.js_values.specs.declared.outcome.NativeOut.TheVariants as native
 use Rattle.native_forms.specs.Meets.{Ends, Meets}

@@ -1,4 +1,5 @@
 pub mod Cuts
 pub mod Exits
 pub mod Parsing
+pub mod PowerLaws
 pub mod Small

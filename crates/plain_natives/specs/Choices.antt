@@ -1,11 +1,22 @@
 -- Natives that differ in one function alone.
-use Rattle.std.specs.Prelude.{ℕ, ℤ, Bool, true, false, List, length, slice_range}
+use Rattle.std.specs.Prelude.{ℕ, ℤ, pos, unsigned_abs, Bool, true, false, List, length, slice_range}
+use Rattle.std.specs.Int.{int_max, int_min}
 use Rattle.std.specs.Str.{str_to_ascii_lowercase, str_to_ascii_uppercase}
 use Rattle.widget_meaning.specs.Values.{Value}
 use Rattle.widget_meaning.specs.OwnState.{State}
 use Rattle.widget_meaning.specs.Plan.{Plan}
 use Rattle.widget_meaning.specs.TextNatives.{between, substring, text_slice}
 use Rattle.widget_meaning.specs.NativeForms.{clamped, from_end}
+
+-- `abs`, or a native that gives its number
+abbrev pub changed : Bool → ℤ → ℤ
+changed true z = pos (unsigned_abs z)
+changed false z = z
+
+-- `max`, or `min`
+abbrev pub better : Bool → ℤ → ℤ → ℤ
+better true = int_max
+better false = int_min
 
 -- `toUpperCase`, or `toLowerCase`
 abbrev pub in_case : Bool → List ℕ → List ℕ

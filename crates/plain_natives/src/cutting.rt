@@ -116,8 +116,8 @@ pub fn cut(
     }
 }
 
-// The position of the end of a text.
-fn end_of(t: &Text) -> i64
+/// The position of the end of a text.
+pub(crate) fn end_of(t: &Text) -> i64
     ensures { result ≡ pos (length t.now) }
 {
     t.units().len() as i64

@@ -1,4 +1,4 @@
-//! The natives among the globals.
+//! The natives among the globals, and those of `Math`.
 
 /// A native among the listed globals.
 #[derive(Clone, Copy, Drop)]
@@ -10,4 +10,14 @@ pub enum GlobalNative {
     IsFinite,
     ParseInt,
     FromCharCode,
+}
+
+/// A native of `Math`.
+#[derive(Clone, Copy, Drop)]
+pub enum MathNative {
+    Abs,
+    Whole,
+    Max,
+    Min,
+    Pow,
 }

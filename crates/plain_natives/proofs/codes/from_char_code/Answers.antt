@@ -1,8 +1,7 @@
-use Rattle.std.proofs.Common.{ℕ, List, sym, ap, ◌∙◌, map, sum_by, true, false}
+use Rattle.std.proofs.Common.{ℕ, List, sym, ap, ◌∙◌, map, sum_by}
 use Rattle.widget_meaning.specs.Values as meaning
 use Rattle.widget_meaning.specs.Values.{to_number}
 use Rattle.widget_meaning.specs.Plan.{Halt, charge}
-use Rattle.widget_meaning.specs.Expressions.{result}
 use Rattle.widget_meaning.specs.NativeForms as forms
 use Rattle.widget_meaning.specs.GlobalNatives as globals
 use Rattle.js_image.specs.Image.{all_seen, image}

@@ -1,7 +1,6 @@
-use Rattle.std.proofs.Common.{[], ◌≡◌, ℕ, ◌+◌, ◌∷◌, List, sym, ap, ◌∙◌, map, true, false, drop}
+use Rattle.std.proofs.Common.{[], ◌≡◌, ℕ, ◌+◌, ◌∷◌, List, sym, ap, ◌∙◌, map, drop}
 use Rattle.store_cells.specs.declared.value.Value.{Value as StoreValue}
 use Rattle.widget_meaning.specs.Values.{to_number}
-use Rattle.widget_meaning.specs.Expressions.{result}
 use Rattle.widget_meaning.specs.GlobalNatives as globals
 use Rattle.js_image.specs.Image.{all_seen}
 use Rattle.native_forms.proofs.Loops.{stepped}

@@ -2,7 +2,6 @@ use Rattle.std.proofs.Common.{refl, sym, ap}
 use Rattle.store_cells.specs.declared.value.Value.TheVariants as value
 use Rattle.widget_meaning.specs.Values as meaning
 use Rattle.widget_meaning.specs.Costs.{give}
-use Rattle.widget_meaning.specs.Expressions.{result}
 use Rattle.widget_meaning.specs.GlobalNatives as globals
 use Rattle.js_image.specs.Image.{image, seen}
 use Rattle.js_values.specs.declared.outcome.NativeOut.TheVariants as native

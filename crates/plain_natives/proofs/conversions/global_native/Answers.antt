@@ -1,6 +1,5 @@
 use Rattle.std.proofs.Common.{ap, ◌∙◌, true, false, None}
 use Rattle.widget_meaning.specs.Values.{nth}
-use Rattle.widget_meaning.specs.Expressions.{result}
 use Rattle.widget_meaning.specs.GlobalNatives as globals
 use Rattle.js_image.specs.Image.{all_seen, image, seen}
 use Rattle.native_forms.proofs.Meeting.{meets_same, ok_meets_same}

@@ -1,6 +1,5 @@
 use Rattle.std.proofs.Common.{List, ap}
 use Rattle.store_cells.specs.declared.value.Value.{Value as StoreValue}
-use Rattle.widget_meaning.specs.Expressions.{result}
 use Rattle.widget_meaning.specs.GlobalNatives as globals
 use Rattle.widget_meaning.specs.Operators as operators
 use Rattle.js_image.specs.Image.{all_seen, image, seen}

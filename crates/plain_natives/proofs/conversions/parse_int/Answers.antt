@@ -1,4 +1,4 @@
-use Rattle.std.proofs.Common.{[], ◌≡◌, ℕ, ◌+◌, ◌∷◌, List, sym, ap, ◌∙◌, arith, length, false, pos}
+use Rattle.std.proofs.Common.{[], ◌≡◌, ℕ, ◌+◌, ◌∷◌, List, sym, ap, ◌∙◌, arith, length, pos}
 use Rattle.widget_meaning.specs.Values.{to_number, to_text}
 use Rattle.widget_meaning.specs.Plan.{charge}
 use Rattle.widget_meaning.specs.Expressions.{result}

@@ -4,12 +4,10 @@ use Rattle.store_cells.specs.declared.value.Value.{Value as StoreValue}
 use Rattle.widget_meaning.specs.Values as meaning
 use Rattle.widget_meaning.specs.Plan.{charge}
 use Rattle.widget_meaning.specs.Costs.{give}
-use Rattle.widget_meaning.specs.Expressions.{result}
 use Rattle.widget_meaning.specs.NativeForms as forms
 use Rattle.widget_meaning.specs.GlobalNatives as globals
 use Rattle.js_image.specs.Image.{image, seen}
 use Rattle.js_values.specs.declared.outcome.NativeOut.TheVariants as native
-use Rattle.native_forms.specs.Numbers.{counted}
 use Rattle.native_forms.proofs.Meeting.{ends_here, meets_free, meets_same, meets_zero}
 use Rattle.native_forms.proofs.Seen.{ref_is_object}
 use Rattle.plain_natives.proofs.Exits.{charged_as}

@@ -1,13 +1,11 @@
-use Rattle.std.proofs.Common.{◌≡◌, sym, ap, ◌∙◌, length, false, pos}
+use Rattle.std.proofs.Common.{◌≡◌, sym, ap, ◌∙◌, length, pos}
 use Rattle.widget_meaning.specs.Values.{to_number}
 use Rattle.widget_meaning.specs.Plan.{charge}
 use Rattle.widget_meaning.specs.Costs.{give}
-use Rattle.widget_meaning.specs.Expressions.{result}
 use Rattle.widget_meaning.specs.TextNatives as texts
 use Rattle.js_image.specs.Image.{image, seen}
 use Rattle.js_values.specs.declared.outcome.NativeOut.TheVariants as native
 use Rattle.js_image.specs.declared.outcome.StopCause.TheVariants as cause
-use Rattle.native_forms.specs.Numbers.{counted}
 use Rattle.native_forms.proofs.Meeting.{ends_here}
 use Rattle.plain_natives.proofs.Exits.{charged_as, numbered, numbered_not, stops, wants_one}
 use Rattle.plain_natives.proofs.Small.{small_fine, small_seen}

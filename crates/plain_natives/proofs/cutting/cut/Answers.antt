@@ -1,5 +1,4 @@
-use Rattle.std.proofs.Common.{◌≡◌, ℕ, sym, ap, ◌∙◌, length, false, pos}
-use Rattle.widget_meaning.specs.Expressions.{result}
+use Rattle.std.proofs.Common.{◌≡◌, ℕ, sym, ap, ◌∙◌, length, pos}
 use Rattle.widget_meaning.specs.NativeForms as forms
 use Rattle.js_image.specs.Image.{image, seen}
 use Rattle.js_image.specs.declared.outcome.StopCause.TheVariants as cause

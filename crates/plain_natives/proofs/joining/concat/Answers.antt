@@ -1,9 +1,8 @@
-use Rattle.std.proofs.Common.{◌≡◌, ℕ, ◌+◌, List, sym, ap, ◌∙◌, arith, length, false, take}
+use Rattle.std.proofs.Common.{◌≡◌, ℕ, ◌+◌, List, sym, ap, ◌∙◌, arith, length}
 use Rattle.widget_meaning.specs.Values as meaning
 use Rattle.widget_meaning.specs.Values.{to_text}
 use Rattle.widget_meaning.specs.Costs.{give}
 use Rattle.widget_meaning.specs.Costs as costs
-use Rattle.widget_meaning.specs.Expressions.{result}
 use Rattle.widget_meaning.specs.NativeForms as forms
 use Rattle.widget_meaning.specs.TextNatives as texts
 use Rattle.js_image.specs.Image.{all_seen, image}

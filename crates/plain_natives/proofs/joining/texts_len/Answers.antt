@@ -1,7 +1,6 @@
-use Rattle.std.proofs.Common.{◌≡◌, ℕ, ◌+◌, List, ap, ◌∙◌, arith, length, true, false, drop}
+use Rattle.std.proofs.Common.{◌≡◌, ℕ, ◌+◌, List, ap, ◌∙◌, arith, length, drop}
 use Rattle.store_cells.specs.declared.value.Value.{Value as StoreValue}
 use Rattle.widget_meaning.specs.Values.{to_text}
-use Rattle.widget_meaning.specs.Expressions.{result}
 use Rattle.js_image.specs.Image.{all_seen, seen}
 use Rattle.native_forms.specs.Numbers.{counted}
 use Rattle.native_forms.proofs.Loops.{counted_all, counted_more, stepped}

@@ -1,4 +1,4 @@
-use Rattle.std.proofs.Common.{◌+◌, sym, ap, ◌∙◌, arith, true, take}
+use Rattle.std.proofs.Common.{◌+◌, sym, ap, ◌∙◌, arith, take}
 use Rattle.std.proofs.Common.{◌*◌, ◌^◌, ◌≤◌, min, get_or}
 use Rattle.std.specs.Char.{digit_value}
 use Rattle.std.specs.Str.Parse.{digits_value}
