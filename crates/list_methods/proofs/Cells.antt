@@ -1,12 +1,15 @@
 -- Objects of a state, and what is changed of them.
-use Rattle.std.proofs.Common.{◌≡◌, ℕ, zero, suc, ◌+◌, ◌<◌, List, [], ◌∷◌, ◌++◌, length, refl, sym, ap, ◌∙◌, Some, None, arith, append_assoc, length-append}
-use Rattle.std.specs.Prelude.{slice_index_or, slice_set}
+use Rattle.std.proofs.Common.{◌≡◌, ℕ, zero, suc, ◌+◌, ◌<◌, List, [], ◌∷◌, ◌++◌, length, refl, sym, ap, ◌∙◌, Option, Some, None, true, filter, arith, append_assoc, length-append}
+use Rattle.std.specs.Prelude.{is_none, nat_lt, slice_index_or, slice_set}
+use Rattle.std.specs.Option.{option_map_or}
+use Rattle.code_units.specs.Indices.{index_of}
 use Rattle.widget_meaning.specs.Values.{Value, Own}
 use Rattle.widget_meaning.specs.OwnState as state
 use Rattle.widget_meaning.specs.OwnState.{Array, Cell, Kind, Pairs, State, array_length, cell_at, kind_of, plain_object, with_cell, with_own}
-use Rattle.widget_meaning.specs.Properties.{index_name}
+use Rattle.widget_meaning.specs.Properties.{cut_to, index_name, is_below}
 use Rattle.widget_meaning.specs.NativeForms.{numbered_pairs}
-use Rattle.widget_meaning.specs.ListChanges.{pushed}
+use Rattle.widget_meaning.specs.ListChanges.{pushed, with_elements}
+use Rattle.native_forms.proofs.Loops.{over_no}
 
 none_some : {A : Type 0} {a : A} → None ≡ Some a → ⊥
 none_some h = cc
@@ -77,3 +80,16 @@ pushed_none s n len h = ap (with_cell s n) (same (cell_at s n) h) ∙ put_same s
 
     same : (c : Cell) → array_length (Some c.kind) ≡ Some len → pushed c len [] ≡ c
     same c h = λ j. record c { kind = by c.kind h j; pairs = none_behind c.pairs j }
+
+-- an Array of no elements, and then of these
+below_none : (x : List ℕ) → is_below 0 true x ≡ is_none (index_of x)
+below_none x = by (index_of x)
+  where
+    by : (o : Option ℕ) → option_map_or (λ i. nat_lt i 0) o true ≡ is_none o
+    by None = refl
+    by (Some i) = over_no i 0 (omega arith)
+
+pub emptied_pushed : (c : Cell) (vs : List Value) → pushed (cut_to c 0) 0 vs ≡ with_elements c vs
+emptied_pushed c vs =
+    let size : 0 + length vs ≡ length vs = omega arith in
+    λ j. record c { kind = Array (size j); pairs = filter (λ p. below_none p.0 j) c.pairs ++ numbered_pairs 0 vs }

@@ -11,34 +11,29 @@ use Rattle.store_cells.specs.Cells.{Cells, own_count}
 use Rattle.widget_meaning.specs.Limits.{max_length}
 use Rattle.widget_meaning.specs.Values.{Value, Num, Own, Undefined, E7}
 use Rattle.widget_meaning.specs.OwnState as state
-use Rattle.widget_meaning.specs.OwnState.{Cell, Kind, State, array_length, cell_at, kind_of, plain_object, with_cell}
+use Rattle.widget_meaning.specs.OwnState.{Cell, Kind, State, array_length, cell_at, kind_of, new_array, plain_object, with_cell, with_new_cell}
 use Rattle.widget_meaning.specs.Plan.{Halt, Plan, Ret}
 use Rattle.widget_meaning.specs.Values as meaning
-use Rattle.widget_meaning.specs.Costs.{give, pay, slots_cost, throw}
+use Rattle.widget_meaning.specs.Costs.{cost, give, pay, slots_cost, sum, throw, with_counts}
 use Rattle.widget_meaning.specs.Properties.{cut_to, put, put_own}
-use Rattle.widget_meaning.specs.NativeForms.{element}
-use Rattle.widget_meaning.specs.ListChanges.{pushed}
-use Rattle.js_image.specs.Held.{AreFine, Kept}
+use Rattle.widget_meaning.specs.NativeForms.{element, make_array, numbered_pairs}
+use Rattle.widget_meaning.specs.ListChanges.{change, new_indexes, pushed, with_elements}
+use Rattle.js_image.specs.Held.{AreFine, IsFine, Kept}
 use Rattle.js_image.specs.Image.{Rest, all_seen, image, seen}
 use Rattle.js_image.specs.declared.outcome.StopCause.{StopCause}
 use Rattle.js_image.specs.Plans.{PushedAt, meant_cause}
-use Rattle.js_image.proofs.Grown.{seen_stays}
+use Rattle.js_image.proofs.Grown.{fine_stays, seen_stays}
 use Rattle.js_image.proofs.Units.{kept_then}
 use Rattle.js_values.specs.declared.outcome.NativeOut.TheVariants as native
 use Rattle.native_forms.specs.Meets.{Ends}
 use Rattle.list_methods.specs.declared.array.OwnArray.{OwnArray}
 use Rattle.list_methods.specs.Arrays.{IsArray, number}
 use Rattle.list_methods.specs.Parts.{popped, put_last}
-use Rattle.list_methods.proofs.Cells.{array_there, cell_put, pushed_more, pushed_none, put_twice}
-use Rattle.list_methods.proofs.Lists.{all_seen_stay, one_fine, seen_more}
+use Rattle.list_methods.proofs.Cells.{array_there, cell_put, emptied_pushed, pushed_more, pushed_none, put_twice}
+use Rattle.list_methods.proofs.Lists.{all_seen_stay, length_taken, one_fine, seen_more}
 use Rattle.list_methods.proofs.Arrays.{array_after, number_stays, own_stays}
-use Rattle.list_methods.proofs.Costs.{paid_heap, same_state}
+use Rattle.list_methods.proofs.Costs.{older, paid_heap, paid_state, same_state}
 use Rattle.list_methods.proofs.Meeting.{stop_ends, value_ends}
-
-length_taken : {X : Type 0} (xs : List X) (i : ℕ) → i ≤ length xs → length (take i xs) ≡ i
-length_taken xs zero h = refl
-length_taken [] (suc i) h = absurd (omega (arith, h))
-length_taken (x ∷ xs) (suc i) h = ap suc (length_taken xs i (omega (arith, h)))
 
 -- the Array with elements behind it
 abbrev pub Behind : ℕ → Cells → OwnArray → Cells → List StoreValue → Type 0
@@ -90,6 +85,36 @@ module _ (w : ℕ) (old : Cells) (a : OwnArray) (h : IsArray w old a) where
       ∙ put_twice s n d (pushed d (a.len + i) (x ∷ []))
       ∙ ap (with_cell s n) (ap (λ m. pushed d (a.len + m) (x ∷ [])) (sym size) ∙ pushed_more c a.len xs (x ∷ []) ∙ ap (pushed c a.len) (sym (seen_more w old.cells vs i v lt is)))
 
+  -- an Array that lost its elements, and got others
+  pub cut_array : (mid : Cells) (len : ℕ) → ((fs : List Forest) → Kept fs w old mid) → Cut w old a mid len → IsArray w mid (record { cell = a.cell; len = len })
+  cut_array mid len kept cut = array_after w old mid a h (kept []).grows len (λ fs r.
+      ap (λ (t : State). array_length (kind_of t (Own n))) (cut fs r) ∙ ap (λ (x : Cell). array_length (Some x.kind)) (cell_put (image fs r w old) n (cut_to (cell_at (image fs r w old) n) len) (there fs r)))
+
+  pub filled : (mid new : Cells) (vs : List StoreValue) → AreFine w old.cells vs → ((fs : List Forest) → Kept fs w old mid) → Cut w old a mid 0
+      → ((fs : List Forest) (r : Rest) → image fs r w new ≡ with_cell (image fs r w mid) (own_count w mid.cells a.cell) (pushed (cell_at (image fs r w mid) (own_count w mid.cells a.cell)) 0 (all_seen w mid.cells vs)))
+      → (fs : List Forest) (r : Rest) → image fs r w new ≡ with_cell (image fs r w old) n (with_elements (cell_at (image fs r w old) n) (all_seen w old.cells vs))
+  filled mid new vs fine kept cut done fs r =
+      let s = image fs r w old in
+      let c = cell_at s n in
+      let d = cut_to c 0 in
+      let at = number_stays w old mid a h (kept fs).grows in
+      let same = all_seen_stay w old.cells mid.cells (kept fs).grows vs fine in
+      done fs r
+      ∙ (λ j. with_cell (cut fs r j) (at j) (pushed (cell_at (cut fs r j) (at j)) 0 (same j)))
+      ∙ ap (λ (y : Cell). with_cell (with_cell s n d) n (pushed y 0 (all_seen w old.cells vs))) (cell_put s n d (there fs r))
+      ∙ put_twice s n d (pushed d 0 (all_seen w old.cells vs))
+      ∙ ap (with_cell s n) (emptied_pushed c (all_seen w old.cells vs))
+
+  -- after a new Array this one is as it was
+  pub made_array : (mid : Cells) (ts : List Value) (v : Value) → ((fs : List Forest) (r : Rest) (k : Value → State → Plan) → make_array ts 0 (image fs r w old) k ≡ k v (image fs r w mid)) → ((fs : List Forest) → Kept fs w old mid) → IsArray w mid a
+  made_array mid ts v made kept = array_after w old mid a h (kept []).grows a.len (λ fs r.
+      let s = image fs r w old in
+      let paid = sum s.own.counts (cost 0 1 (length ts) 0) in
+      let array = new_array (length ts) (numbered_pairs 0 ts) in
+      ap (λ (t : State). array_length (kind_of t (Own n))) (paid_state paid s (with_new_cell (with_counts s paid) array) (image fs r w mid) (made fs r (λ u t. Ret meaning.Normal t)))
+      ∙ ap (λ (x : Cell). array_length (Some x.kind)) (older s.own.heap n array (plain_object []) (there fs r))
+      ∙ h.len fs r)
+
   -- after a cost the Array is as it was
   module _ (mid : Cells) (kept : (fs : List Forest) → Kept fs w old mid) (cost : ℕ) (paid : (fs : List Forest) (r : Rest) (k : State → Plan) → pay (slots_cost cost) (image fs r w old) k ≡ k (image fs r w mid)) where
     same_heap : (fs : List Forest) (r : Rest) → (image fs r w mid).own.heap ≡ (image fs r w old).own.heap
@@ -97,6 +122,27 @@ module _ (w : ℕ) (old : Cells) (a : OwnArray) (h : IsArray w old a) where
 
     pub paid_array : IsArray w mid a
     paid_array = array_after w old mid a h (kept []).grows a.len (λ fs r. ap (λ hp. array_length (Some (slice_index_or hp n (plain_object [])).kind)) (same_heap fs r) ∙ h.len fs r)
+
+    -- `change`
+    pub change_ends : (new : Cells) (vs : List StoreValue) (v : StoreValue) → AreFine w old.cells vs → IsFine w old.cells v
+        → ((fs : List Forest) (r : Rest) → cost ≡ new_indexes (cell_at (image fs r w old) n) (length vs))
+        → ((fs : List Forest) → Kept fs w mid new)
+        → ((fs : List Forest) (r : Rest) → image fs r w new ≡ with_cell (image fs r w mid) (number w mid a) (with_elements (cell_at (image fs r w mid) (number w mid a)) (all_seen w mid.cells vs)))
+        → Ends w old new (λ d s. change n (all_seen w old.cells vs) (seen w old.cells v) s) (native.Value v)
+    change_ends new vs v fine one is more done = value_ends w old new (λ d s. change n (all_seen w old.cells vs) (seen w old.cells v) s) v
+        (λ fs r d.
+        let s = image fs r w old in
+        let xs = all_seen w old.cells vs in
+        let e : new_indexes (cell_at s n) (length xs) ≡ cost = ap (new_indexes (cell_at s n)) (length-map vs (seen w old.cells)) ∙ sym (is fs r) in
+        let at = number_stays w old mid a h (kept fs).grows in
+        let same = all_seen_stay w old.cells mid.cells (kept fs).grows vs fine in
+        let all = kept_then fs w old mid new (kept fs) (more fs) in
+        ap (λ m. pay (slots_cost m) s (λ t. give (seen w old.cells v) (with_cell t n (with_elements (cell_at t n) xs)))) e
+        ∙ paid fs r (λ t. give (seen w old.cells v) (with_cell t n (with_elements (cell_at t n) xs)))
+        ∙ (λ j. give (sym (seen_stays w old.cells new.cells all.grows v one) j) (with_cell (image fs r w mid) (sym at j) (with_elements (cell_at (image fs r w mid) (sym at j)) (sym same j))))
+        ∙ ap (give (seen w new.cells v)) (sym (done fs r)))
+        (fine_stays w old.cells new.cells (kept_then [] w old mid new (kept []) (more [])).grows v one)
+        (λ fs. kept_then fs w old mid new (kept fs) (more fs))
 
     -- `push`
     pub push_ends : (new : Cells) (vs : List StoreValue) (count : ℕ) → AreFine w old.cells vs → cost ≡ length vs → count ≡ a.len + length vs
@@ -119,6 +165,18 @@ module _ (w : ℕ) (old : Cells) (a : OwnArray) (h : IsArray w old a) where
 
 -- a cost that stops
 module _ (w : ℕ) (old new : Cells) (a : OwnArray) (cost : ℕ) (c : StopCause) (stops : (fs : List Forest) (r : Rest) (k : State → Plan) → pay (slots_cost cost) (image fs r w old) k ≡ Halt (meant_cause c) (image fs r w new)) (kept : (fs : List Forest) → Kept fs w old new) where
+  pub change_stops : (vs : List StoreValue) (v : StoreValue) → ((fs : List Forest) (r : Rest) → cost ≡ new_indexes (cell_at (image fs r w old) (number w old a)) (length vs))
+      → Ends w old new (λ d s. change (number w old a) (all_seen w old.cells vs) (seen w old.cells v) s) (native.Stop c)
+  change_stops vs v is = stop_ends w old new (λ d s. change (number w old a) (all_seen w old.cells vs) (seen w old.cells v) s) c
+      (λ fs r d.
+      let s = image fs r w old in
+      let n = number w old a in
+      let xs = all_seen w old.cells vs in
+      let e : new_indexes (cell_at s n) (length xs) ≡ cost = ap (new_indexes (cell_at s n)) (length-map vs (seen w old.cells)) ∙ sym (is fs r) in
+      ap (λ m. pay (slots_cost m) s (λ t. give (seen w old.cells v) (with_cell t n (with_elements (cell_at t n) xs)))) e
+      ∙ stops fs r (λ t. give (seen w old.cells v) (with_cell t n (with_elements (cell_at t n) xs))))
+      kept
+
   pub push_stops : (vs : List StoreValue) → cost ≡ length vs → Ends w old new (λ d s. put_last (number w old a) a.len (all_seen w old.cells vs) s) (native.Stop c)
   push_stops vs is = stop_ends w old new (λ d s. put_last (number w old a) a.len (all_seen w old.cells vs) s) c
       (λ fs r d.

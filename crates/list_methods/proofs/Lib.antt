@@ -7,3 +7,7 @@ pub mod Plans
 pub mod Fills
 pub mod Calls
 pub mod Callees
+pub mod Joins
+pub mod Exchanges
+pub mod Sorts
+pub mod Splices

@@ -1,7 +1,7 @@
 -- Lists of values that a widget may hold, and as it sees them.
-use Rattle.std.proofs.Common.{◌≡◌, ℕ, ℤ, zero, suc, pos, negsuc, ◌+◌, ◌<◌, ◌≤◌, List, [], ◌∷◌, ◌++◌, length, refl, sym, ap, ◌∙◌, subst, arith, append_assoc, append-nil, Some, None, Bool, true, false, if◌then◌else◌, take, drop, slice_get}
+use Rattle.std.proofs.Common.{◌≡◌, ℕ, ℤ, zero, suc, pos, negsuc, ◌+◌, ◌<◌, ◌≤◌, List, [], ◌∷◌, ◌++◌, length, refl, sym, ap, ◌∙◌, subst, arith, append_assoc, append-nil, Some, None, Bool, true, false, if◌then◌else◌, take, drop, slice_get, map, reverse}
 use Rattle.std.specs.Prelude.{◌-◌, ◌^◌, get_or, min, slice_range, sum_by, unwrap_or}
-use Rattle.std.proofs.lemmas.List.{drop-map, length-map, map-append, take-map, take_more}
+use Rattle.std.proofs.lemmas.List.{drop-map, length-map, map-append, reverse-append, take-map, take_more}
 use Rattle.std.proofs.lemmas.List.FromFn.{length-map-range_with_len}
 use Rattle.std.proofs.lemmas.List.Sums.{sum_by_push}
 use Rattle.std.specs.List.{All, AllByRecursion, flat_map}
@@ -18,7 +18,7 @@ use Rattle.object_store.specs.Grows.{Grows}
 use Rattle.widget_meaning.specs.Values.{Value as Meant, Undefined, Null, Truth, NaN, Num, Text, Own, Host}
 use Rattle.widget_meaning.specs.ListChanges.{array_elements}
 use Rattle.widget_meaning.specs.OwnState.{State, array_length, cell_at, kind_of}
-use Rattle.widget_meaning.specs.NativeForms.{element, elements, from_end}
+use Rattle.widget_meaning.specs.NativeForms.{clamped, element, elements, from_end}
 use Rattle.js_image.specs.Held.{AreFine, IsFine}
 use Rattle.js_image.specs.Elements.{own_place}
 use Rattle.js_image.specs.Image.{all_seen, meant, seen}
@@ -64,6 +64,12 @@ at_places P (x ∷ xs) h (suc k) d lt = at_places P xs h.1 k d (omega (arith, lt
 pub one_by_one : {X : Type 0} (P : X → Type 0) (xs : List X) → All P xs → AllByRecursion P xs
 one_by_one P [] h = tt
 one_by_one P (x ∷ xs) h = (h 0 x (omega arith), one_by_one P xs (λ k d lt. h (suc k) d (omega (arith, lt))))
+
+-- how long a front is
+pub length_taken : {X : Type 0} (xs : List X) (i : ℕ) → i ≤ length xs → length (take i xs) ≡ i
+length_taken xs zero h = refl
+length_taken [] (suc i) h = absurd (omega (arith, h))
+length_taken (x ∷ xs) (suc i) h = ap suc (length_taken xs i (omega (arith, h)))
 
 -- one more element of a list, as the widget sees it
 pub seen_more : (w : ℕ) (cells : List PlainCell) (xs : List Value) (i : ℕ) (v : Value) → i < length xs → v ≡ get_or xs i v → all_seen w cells (take (i + 1) xs) ≡ all_seen w cells (take i xs) ++ seen w cells v ∷ []
@@ -158,3 +164,21 @@ part_seen w cells all part a b is = ap (all_seen w cells) is ∙ sym (take-map (
 
 pub part_fine : (w : ℕ) (cells : List PlainCell) (all part : List Value) (a b : ℕ) → part ≡ slice_range all a b → AreFine w cells all → AreFine w cells part
 part_fine w cells all part a b is h = subst (AreFine w cells) (sym is) (all_taken (IsFine w cells) (b - a) (drop a all) (all_left (IsFine w cells) a all h))
+
+-- the last first
+pub reverse_map : {X Y : Type 0} (f : X → Y) (xs : List X) → reverse (map f xs) ≡ map f (reverse xs)
+reverse_map f [] = refl
+reverse_map f (x ∷ xs) =
+    reverse-append (f x ∷ []) (map f xs)
+    ∙ ap (λ l. l ++ f x ∷ []) (reverse_map f xs)
+    ∙ sym (map-append f (reverse xs) (x ∷ []))
+    ∙ ap (map f) (sym (reverse-append (x ∷ []) xs))
+
+pub all_reversed : {X : Type 0} (P : X → Type 0) (xs : List X) → AllByRecursion P xs → AllByRecursion P (reverse xs)
+all_reversed P [] h = tt
+all_reversed P (x ∷ xs) h = subst (AllByRecursion P) (sym (reverse-append (x ∷ []) xs)) (all_more P (reverse xs) (x ∷ []) (all_reversed P xs h.1) (h.0, tt))
+
+-- a position is within
+pub clamped_within : (len : ℕ) (z : ℤ) → clamped len z ≤ len
+clamped_within len (pos n) = omega arith
+clamped_within len (negsuc n) = omega arith

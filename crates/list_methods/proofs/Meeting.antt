@@ -65,6 +65,17 @@ meets_short w old new n plan had has lacks same unchanged = record {
   kept = λ fs. kept_same fs w old new unchanged;
 }
 
+-- a plan by a number that is read off the state, where the answer meets it by every number that counts alike
+pub meets_each : (w : ℕ) (old new : Cells) (n : State → ℕ) (asked : ℕ) (plan : ℕ → ℕ → State → Plan) (had has : Fuel) (o : NativeOut) → ((fs : List Forest) (r : Rest) → asked ≡ counted (n (image fs r w old))) → ((m : ℕ) → asked ≡ counted m → Meets w old new had has (plan m) o) → Meets w old new had has (λ d s. plan (n s) d s) o
+meets_each w old new n asked plan had has o is h =
+    let one = h (n (image [] no_rest w old)) (is [] no_rest) in record {
+      answer = λ fs r node d. (h (n (image fs r w old)) (is fs r)).answer fs r node d;
+      fine = one.fine;
+      spent = one.spent;
+      unpaid = one.unpaid;
+      kept = one.kept;
+    }
+
 -- what follows a change that the plan makes too
 pub ends_after : (w : ℕ) (old mid new : Cells) (p q : ℕ → State → Plan) (o : NativeOut) → ((fs : List Forest) (r : Rest) (d : ℕ) → p d (image fs r w old) ≡ q d (image fs r w mid)) → ((fs : List Forest) → Kept fs w old mid) → Ends w mid new q o → Ends w old new p o
 ends_after w old mid new p q o e kept h = record {

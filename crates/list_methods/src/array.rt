@@ -1,9 +1,11 @@
 //! Arrays of the running widget: receivers, elements, and the charge of a native.
 ghost use Rattle.std.specs.Prelude.{◌≡◌, ◌++◌, ◌<◌, ℕ, List, IfOk, IfSome, OnOk, length, nat_eq, pos, unwrap_or};
+ghost use Rattle.std.specs.List.{list_any};
 ghost use Rattle.js_tree.specs.Forest.{Forest};
 ghost use Rattle.store_cells.specs.Cells.{Cells, PlainCell};
 ghost use Rattle.store_cells.specs.Host.{global};
 ghost use Rattle.store_cells.specs.Shape.{IsRefWithin};
+ghost use Rattle.widget_meaning.specs.Values as meaning;
 ghost use Rattle.widget_meaning.specs.OwnState as state;
 ghost use Rattle.widget_meaning.specs.OwnState.{State};
 ghost use Rattle.widget_meaning.specs.Plan.{Plan, charge};
@@ -18,7 +20,7 @@ ghost use Rattle.native_forms.specs.Receivers.{IsReceiver, receiver};
 ghost use Rattle.list_methods.specs.Arrays.{IsArray, number, on_own};
 
 use code_units::Memory;
-use js_image::{array_length, elements};
+use js_image::{array_length, elements, has_objects};
 use js_values::{Meter, NativeOut};
 use native_forms::take;
 use object_store::{CellId, Number, Store, Value};
@@ -168,4 +170,13 @@ pub(crate) fn number_value(n: u32) -> Value
     ensures { result ≡ Value.Num (Number.Whole (pos n)) }
 {
     Value::Num(Number::Whole(whole(n)))
+}
+
+/// Whether an element is an object.
+pub(crate) fn holds_objects(store: &Store, w: u32, array: OwnArray) -> bool
+    requires { IsArray w store.now array }
+    ensures { (fs : List Forest) (r : Rest) → result ≡ list_any meaning.is_object (forms.elements (image fs r w store.now) (number w store.now array) array.len) }
+{
+    let base = Value::Ref(array.cell);
+    has_objects(store, &base, array.len)
 }

@@ -12,13 +12,17 @@ ghost use Rattle.list_methods.specs.Parts.{is_part};
 use crate::array::array_of;
 use crate::copying::{concat, slice};
 use crate::ends::{pop, push};
+use crate::joining::{join, to_string};
 use crate::over::{Calls, over};
+use crate::sorting::sort;
+use crate::splicing::splice;
+use crate::turning::{reverse, shift, unshift};
 use code_units::{Memory, Owner};
 use js_values::{Fault, Keep, Meter, NativeOut};
 use object_store::{NativeId, Store, Value};
 use std::alloc::Global;
 
-/// Calls `concat`, `slice`, `pop`, `push`, `forEach`, `map` or `filter` of arrays for a widget as owner: `this` is the Global
+/// Calls a native of arrays, or the `toString` of arrays, for a widget as owner: `this` is the Global
 /// cell for a plain call. The answer is the row of docs/LANGUAGE.md, "Arrays"; the unit of the native
 /// was taken before. What is charged and paid comes before any change, and where fuel is wanting
 /// nothing changes. After `Memory` the widget keeps what stands in `Kept`, and nothing more is said.
@@ -69,6 +73,13 @@ fn of_widget(
         return Ok(NativeOut::Throw(Fault::E3));
     };
     match which {
+        NativeId::ArrayToString => to_string(alloc, array, store, meter, w),
+        NativeId::Join => join(alloc, array, args, store, meter, w),
+        NativeId::Shift => shift(alloc, array, args, store, meter, w),
+        NativeId::Unshift => unshift(alloc, array, args, store, meter, w),
+        NativeId::Reverse => reverse(alloc, array, args, store, meter, w),
+        NativeId::Sort => sort(alloc, array, args, store, meter, w),
+        NativeId::Splice => splice(alloc, array, args, store, meter, w),
         NativeId::ArrayConcat => concat(alloc, array, args, store, meter, w),
         NativeId::ArraySlice => slice(alloc, array, args, store, meter, w),
         NativeId::Pop => pop(alloc, array, args, store, meter, w),

@@ -178,8 +178,13 @@ fn between(
     give_array(alloc, store, w, values, 0)
 }
 
-// The elements of a list between two places.
-fn part(alloc: Global, all: &[Value], from: usize, to: usize) -> Result<Vec<Value>, Memory>
+/// The elements of a list between two places.
+pub(crate) fn part(
+    alloc: Global,
+    all: &[Value],
+    from: usize,
+    to: usize,
+) -> Result<Vec<Value>, Memory>
     requires { to ≤ length all.now }
     ensures { IfOk result (λ vs. vs.items ≡ slice_range all.now from to) }
 {

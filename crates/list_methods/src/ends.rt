@@ -89,8 +89,8 @@ pub(crate) fn push(
     }
 }
 
-// How many elements an Array of a length has room for.
-fn room_behind(len: u32) -> usize
+/// How many elements an Array of a length has room for.
+pub(crate) fn room_behind(len: u32) -> usize
     ensures { result + len ≡ 4294967295 }
 {
     MOST - len as usize
@@ -122,8 +122,8 @@ fn put_last(
     }
 }
 
-// How many arguments there are.
-fn count_of(args: &[Value]) -> u32
+/// How many arguments there are.
+pub(crate) fn count_of(args: &[Value]) -> u32
     requires { length args.now ≤ 4294967295 }
     ensures { result ≡ length args.now }
 {

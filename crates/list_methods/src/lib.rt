@@ -6,6 +6,11 @@ mod calling;
 mod changing;
 mod copying;
 mod ends;
+mod filling;
+mod joining;
 mod over;
+mod sorting;
+mod splicing;
+mod turning;
 
 pub use calling::call;
