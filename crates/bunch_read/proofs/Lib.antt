@@ -4,6 +4,5 @@ pub mod Content
 pub mod Valued
 pub mod Once
 pub mod Documents
-pub mod Styled
 pub mod Opened
 pub mod Calls

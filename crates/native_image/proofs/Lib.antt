@@ -1,3 +1,15 @@
 pub mod Joint
 pub mod Meeting
 pub mod Nodes
+pub mod Keeping
+pub mod Charges
+pub mod Weighed
+pub mod Told
+pub mod Bundles
+pub mod Added
+pub mod Lifted
+pub mod Holding
+pub mod Working
+pub mod Lists
+pub mod Styled
+pub mod Wants

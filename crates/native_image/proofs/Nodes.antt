@@ -347,6 +347,17 @@ same_sound w old new p e l h = subst (λ (c : Cells). IsSound w c p l) (sym e) h
 pub same_kept : (w : ℕ) (old new : Cells) → new ≡ old → KeepsStore w old new
 same_kept w old new e = keeps_of w old new (λ fs. kept_same fs w old new e)
 
+-- a list of one node
+one_distinct : (n : ℕ) → IsDistinct nat_eq (n ∷ [])
+unfolding IsDistinct
+one_distinct n = (tt, tt)
+
+pub one_apart : (n : ℕ) (ns : List ℕ) → ns ≡ n ∷ [] → IsDistinct nat_eq ns
+one_apart n ns e = subst (IsDistinct nat_eq) (sym e) (one_distinct n)
+
+pub one_owned : (p : Page) (w n : ℕ) (ns : List ℕ) → ns ≡ n ∷ [] → owns p w n ≡ true → (m : ℕ) → has_number ns m ≡ true → owns p w m ≡ true
+one_owned p w n ns e h = subst (λ ms. (m : ℕ) → has_number ms m ≡ true → owns p w m ≡ true) (sym e) (has_all (owns p w) (n ∷ []) (h, tt))
+
 -- ## Receivers
 
 module _ (w : ℕ) (cells : List PlainCell) where

@@ -1,5 +1,5 @@
 -- What holds of a widget in store, page and loop together, and what its calls keep.
-use Rattle.std.specs.Prelude.{◌≡◌, ℕ, ◌<◌, ◌≤◌, true, false, List, is_some, length, nat_eq}
+use Rattle.std.specs.Prelude.{◌≡◌, ◌≢◌, ℕ, ◌<◌, ◌≤◌, true, false, List, is_some, length, nat_eq}
 use Rattle.std.specs.List.{AllByRecursion, IsDistinct}
 use Rattle.js_tree.specs.Forest.{Forest}
 use Rattle.store_cells.specs.Born.{raw_place}
@@ -13,7 +13,8 @@ use Rattle.event_loop.specs.declared.around.Loop.{Loop}
 use Rattle.event_loop.specs.Around as around
 use Rattle.js_image.specs.Held.{CountsRise, HoldNodes, IsConfined}
 use Rattle.page_image.specs.Held.{OptionIn}
-use Rattle.page_image.specs.Image.{HasRoot, owns}
+use Rattle.page_image.specs.Image.{HasRoot, number, own, owns, root_of}
+use Rattle.page_image.specs.Stays.{OthersStay}
 
 -- a visible cell of the widget
 abbrev pub IsOwnCell : ℕ → List PlainCell → ℕ → Type 0
@@ -49,3 +50,18 @@ pub record KeepsStore (w : ℕ) (old new : Cells) : Type 0 where
   pub grows : Grows w old.cells new.cells
   pub others : (v : ℕ) → (w ≡ v → ⊥) → owned v new ≡ owned v old
   pub counts : CountsRise (owned w old).paid (owned w new).paid
+
+-- What a call keeps of the page: no node goes, each has its owner and number; the trees of others stay, and the roots.
+pub record KeepsPage (w : ℕ) (old new : Page) : Type 0 where
+  pub owners : (v n : ℕ) → owns old v n ≡ true → owns new v n ≡ true
+  pub numbers : (v n : ℕ) → owns old v n ≡ true → number new v n ≡ number old v n
+  pub made : length (own old w) ≤ length (own new w)
+  pub others : (v : ℕ) → v ≢ w → own new v ≡ own old v
+  pub trees : OthersStay old new w
+  pub roots : (v : ℕ) → v < 32 → root_of new v ≡ root_of old v
+
+-- What a call keeps, also after want of memory: that of the store, that of the page, and what the widget holds is its own.
+pub record KeepsAll (w : ℕ) (s t : Cells) (p q : Page) (l : Loop) : Type 0 where
+  pub store : KeepsStore w s t
+  pub page : KeepsPage w p q
+  pub holds : HoldsOwn w t q l

@@ -1,5 +1,5 @@
 //! Bunches of a widget.
-ghost use Rattle.std.specs.Prelude.{◌≡◌, ℕ, ◌<◌, Bool, List, Option, true, IfOk, IfSome, map, nat_eq};
+ghost use Rattle.std.specs.Prelude.{◌≡◌, ℕ, ◌<◌, ◌++◌, Bool, List, [], ◌∷◌, Option, true, IfOk, OnOk, IfSome, map, nat_eq};
 ghost use Rattle.std.specs.List.{IsDistinct};
 ghost use Rattle.std.specs.Option.{option_and_then, option_map};
 ghost use Rattle.js_tree.specs.Forest.{Forest};
@@ -16,6 +16,7 @@ ghost use Rattle.query_grammar.specs.Finds.{has_number};
 ghost use Rattle.page_image.specs.Image.{number, owns};
 ghost use Rattle.native_forms.specs.Receivers.{IsReceiver, receiver};
 ghost use Rattle.native_image.specs.Image.{Outside, beside, image};
+ghost use Rattle.native_image.specs.Made.{AreBunches};
 ghost use Rattle.native_image.specs.Meets.{EndsAt};
 ghost use Rattle.native_image.specs.Sound.{AreNodes, HoldsOwn, IsSound, KeepsStore};
 
@@ -121,6 +122,71 @@ pub fn give_bunch(
         Made::Cell(id) => Ok(NativeOut::Value(Value::Ref(id))),
         Made::Stop(cause) => Ok(NativeOut::Stop(cause)),
     }
+}
+
+/// A Bunch of a node of a widget. Where it cannot be paid, it is answered like want of memory.
+pub fn bunch_of_node(
+    alloc: Global,
+    store: &mut Store,
+    w: u32,
+    page: &Page,
+    node: NodeId,
+) -> Result<Value, Memory>
+    requires widget { w < 32 }
+    requires sound { (l : Loop) × IsSound w store.old page.now l }
+    requires own { owns page.now w node ≡ true }
+    ensures made { IfOk result (λ v. (l : Loop) → HoldsOwn w store.old page.now l
+        → AreBunches w store.old store.new page.now l (number page.now w node ∷ []) (v ∷ [])) }
+    ensures sound { (l : Loop) → IsSound w store.old page.now l → IsSound w store.new page.now l }
+    ensures kept { KeepsStore w store.old store.new }
+{
+    let nodes = one_node(alloc, node)?;
+    match make_bunch(alloc, store, w, page, nodes)? {
+        Made::Cell(id) => Ok(Value::Ref(id)),
+        Made::Stop(_) => Err(Memory),
+    }
+}
+
+/// A Bunch of each of these nodes of a widget, in order. Where one cannot be paid, it is answered
+/// like want of memory.
+pub fn make_bunches(
+    alloc: Global,
+    store: &mut Store,
+    w: u32,
+    page: &Page,
+    nodes: &[NodeId],
+) -> Result<Vec<Value>, Memory>
+    requires widget { w < 32 }
+    requires sound { (l : Loop) × IsSound w store.old page.now l }
+    requires own { (n : ℕ) → has_number nodes.now n ≡ true → owns page.now w n ≡ true }
+    ensures made { IfOk result (λ vs. (l : Loop) → HoldsOwn w store.old page.now l
+        → AreBunches w store.old store.new page.now l (map (number page.now w) nodes.now) vs.items) }
+    ensures sound { (l : Loop) → IsSound w store.old page.now l → IsSound w store.new page.now l }
+    ensures kept { KeepsStore w store.old store.new }
+{
+    let mut values = Vec::new(alloc);
+    'each: for node in nodes {
+        let value = bunch_of_node(alloc, store, w, page, *node)?;
+        keep(&mut values, value)?;
+    }
+    Ok(values)
+}
+
+// A list of one node.
+fn one_node(alloc: Global, node: NodeId) -> Result<Vec<NodeId>, Memory>
+    ensures { IfOk result (λ ns. ns.items ≡ node ∷ []) }
+{
+    let mut nodes = Vec::new(alloc);
+    nodes.push(node)?;
+    Ok(nodes)
+}
+
+// Puts a value behind others.
+fn keep(values: &mut Vec<Value>, value: Value) -> Result<(), Memory>
+    ensures { OnOk result (values.new.items ≡ values.old.items ++ value ∷ []) }
+{
+    values.push(value)?;
+    Ok(())
 }
 
 // The stop of a cost that a widget cannot pay.

@@ -4,7 +4,15 @@
 #![tactic(auto)]
 
 mod bunches;
+mod charging;
 mod giving;
+mod growing;
+mod making;
+mod weighing;
 
-pub use bunches::{bunch_of, give_bunch, make_bunch, receiver_of};
+pub use bunches::{bunch_of, bunch_of_node, give_bunch, make_bunch, make_bunches, receiver_of};
+pub use charging::{Cost, begin};
 pub use giving::{give_page_text, give_plain, make_text};
+pub use growing::{add_tree, copy_tree};
+pub use making::{give_node, pay_judged};
+pub use weighing::{Bill, Due, settle, weigh};

@@ -1,7 +1,7 @@
 use Rattle.std.proofs.Common.{ap, sym, ◌∙◌}
 use Rattle.std.proofs.lemmas.Result.{IfOk-weaker}
 use Rattle.widget_meaning.specs.Styles.{style_value}
-use Rattle.bunch_read.proofs.Styled.{bad_style, style_none, style_read}
+use Rattle.native_image.proofs.Styled.{bad_style, style_none, style_read}
 use Rattle.bunch_read.proofs.styles.style_property.Goals as goal
 
 pub returns-in-Ok : goal.returns-in-Ok

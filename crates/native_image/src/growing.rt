@@ -1,0 +1,127 @@
+//! New nodes of a widget, each with its cell.
+ghost use Rattle.std.specs.Prelude.{◌≡◌, ◌<◌, ◌≤◌, ◌+◌, ℕ, List, true, length, IfOk, OnErr, OnOk};
+ghost use Rattle.plain_tree.specs.Plains.{unplaced};
+ghost use Rattle.plain_tree.specs.Trees.{size};
+ghost use Rattle.js_tree.specs.Forest.{Forest};
+ghost use Rattle.store_cells.specs.Cells.{Cells};
+ghost use Rattle.object_store.specs.Owned.{owned};
+ghost use Rattle.tree_ops.specs.Trees.{copied, numbered, subtree};
+ghost use Rattle.event_loop.specs.declared.around.Loop.{Loop};
+ghost use Rattle.js_image.specs.Held.{Kept};
+ghost use Rattle.page_image.specs.Image.{forest, number, own, owns};
+ghost use Rattle.page_image.specs.Stays.{KeepsNodes, OthersStay};
+ghost use Rattle.native_image.specs.Grown.{IsGrown};
+ghost use Rattle.native_image.specs.Sound.{HasRaw, HoldsOwn, IsSound, KeepsAll};
+
+use code_units::{Memory, Owner};
+use object_store::{NODE_LIMIT, Store};
+use page_image::made;
+use page_tree::{NodeId, Page};
+use plain_tree::Plain;
+use std::alloc::Global;
+
+// A page node gets its cell, if it has none.
+fn add_cell(alloc: Global, store: &mut Store, node: NodeId) -> Result<(), Memory>
+    ensures there { OnOk result (HasRaw store.new.cells node) }
+    ensures same { (v : ℕ) → owned v store.new ≡ owned v store.old }
+    ensures kept { (fs : List Forest) (w : ℕ) → Kept fs w store.old store.new }
+{
+    if node >= NODE_LIMIT {
+        return Err(Memory);
+    }
+    match store.add_raw(alloc, node) {
+        Ok(_) => Ok(()),
+        Err(_) => Err(Memory),
+    }
+}
+
+// So many page nodes from one on get their cells.
+fn add_cells(alloc: Global, store: &mut Store, first: NodeId, many: u32) -> Result<(), Memory>
+    ensures there { OnOk result ((n : ℕ) → first ≤ n → n < first + many → HasRaw store.new.cells n) }
+    ensures same { (v : ℕ) → owned v store.new ≡ owned v store.old }
+    ensures kept { (fs : List Forest) (w : ℕ) → Kept fs w store.old store.new }
+{
+    let Some(past) = first.checked_add(many) else {
+        return Err(Memory);
+    };
+    'each: for node in first..past {
+        add_cell(alloc, store, node)?;
+    }
+    Ok(())
+}
+
+// Adds a plain tree of a widget behind all its other trees.
+fn add_plain(alloc: Global, page: &mut Page, w: u32, plain: &Plain) -> Result<NodeId, Memory>
+    requires { w < 32 }
+    ensures grown { IfOk result (λ id. IsGrown w page.old page.new id (size (unplaced plain.now))
+        (numbered (length (own page.old w)) (unplaced plain.now))) }
+    ensures kept { OnErr result (KeepsNodes page.old page.new) }
+    ensures others { OnErr result (OthersStay page.old page.new w) }
+{
+    match page.add(alloc, Owner::Widget(w), plain) {
+        Ok(id) => Ok(id),
+        Err(_) => Err(Memory),
+    }
+}
+
+// Adds a copy of a widget's node, with all below it, behind all its other trees.
+fn copy_plain(alloc: Global, page: &mut Page, w: u32, node: NodeId) -> Result<NodeId, Memory>
+    requires { owns page.old w node ≡ true }
+    ensures grown { IfOk result (λ id. IsGrown w page.old page.new id (size (subtree (number page.old w node) (forest page.old w)))
+        (numbered (length (own page.old w)) (copied (subtree (number page.old w node) (forest page.old w))))) }
+    ensures kept { OnErr result (KeepsNodes page.old page.new) }
+    ensures others { OnErr result (OthersStay page.old page.new w) }
+{
+    match page.copy(alloc, node) {
+        Ok(id) => Ok(id),
+        Err(_) => Err(Memory),
+    }
+}
+
+/// Adds a plain tree of a widget behind all its other trees, and gives each of its nodes its cell.
+/// Where the page does not take it, it is answered like want of memory.
+pub fn add_tree(
+    alloc: Global,
+    store: &mut Store,
+    page: &mut Page,
+    w: u32,
+    plain: &Plain,
+) -> Result<NodeId, Memory>
+    requires { w < 32 }
+    ensures grown { IfOk result (λ id. IsGrown w page.old page.new id (size (unplaced plain.now))
+        (numbered (length (own page.old w)) (unplaced plain.now))) }
+    ensures sound { OnOk result ((l : Loop) → IsSound w store.old page.old l → IsSound w store.new page.new l) }
+    ensures same { (v : ℕ) → owned v store.new ≡ owned v store.old }
+    ensures store { (fs : List Forest) → Kept fs w store.old store.new }
+    ensures kept { (l : Loop) → HoldsOwn w store.old page.old l → KeepsAll w store.old store.new page.old page.new l }
+{
+    let before = made(page, w);
+    let id = add_plain(alloc, page, w, plain)?;
+    let many = made(page, w) - before;
+    add_cells(alloc, store, id, many)?;
+    Ok(id)
+}
+
+/// Adds a copy of a widget's node, with all below it and without ids, as `add_tree` does.
+pub fn copy_tree(
+    alloc: Global,
+    store: &mut Store,
+    page: &mut Page,
+    w: u32,
+    node: NodeId,
+) -> Result<NodeId, Memory>
+    requires widget { w < 32 }
+    requires own { owns page.old w node ≡ true }
+    ensures grown { IfOk result (λ id. IsGrown w page.old page.new id (size (subtree (number page.old w node) (forest page.old w)))
+        (numbered (length (own page.old w)) (copied (subtree (number page.old w node) (forest page.old w))))) }
+    ensures sound { OnOk result ((l : Loop) → IsSound w store.old page.old l → IsSound w store.new page.new l) }
+    ensures same { (v : ℕ) → owned v store.new ≡ owned v store.old }
+    ensures store { (fs : List Forest) → Kept fs w store.old store.new }
+    ensures kept { (l : Loop) → HoldsOwn w store.old page.old l → KeepsAll w store.old store.new page.old page.new l }
+{
+    let before = made(page, w);
+    let id = copy_plain(alloc, page, w, node)?;
+    let many = made(page, w) - before;
+    add_cells(alloc, store, id, many)?;
+    Ok(id)
+}
