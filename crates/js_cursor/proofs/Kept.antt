@@ -1,5 +1,5 @@
 -- Texts that are kept.
-use Rattle.std.proofs.Common.{◌≡◌, ℕ, zero, leb, suc, ◌+◌, ◌-◌, ◌<◌, ◌≤◌, List, [], ◌∷◌, ◌++◌, length, map, get_or, take, refl, ap, sym, subst, ◌∙◌, arith, length-append, length-take-le, append-nil}
+use Rattle.std.proofs.Common.{◌≡◌, ℕ, zero, leb, suc, ◌+◌, ◌<◌, ◌≤◌, List, [], ◌∷◌, ◌++◌, Option, Some, None, length, map, get_or, take, refl, ap, sym, subst, ◌∙◌, arith, length-append, length-take-le, append-nil}
 use Rattle.std.specs.Prelude.{slice_range}
 use Rattle.std.proofs.lemmas.List.{get_or_default, length-map}
 use Rattle.std.proofs.Common.{inl, inr}
@@ -13,7 +13,7 @@ use Rattle.js_tokens.specs.Value.{text_of, text_between}
 use Rattle.js_grammar.specs.Grammar.{Token}
 use Rattle.js_cursor.specs.Signs.{seen, input}
 use Rattle.js_cursor.specs.Reads.{lexeme_at}
-use Rattle.js_cursor.specs.Texts.{IsSpelled, HasText, AddsText, AreTexts}
+use Rattle.js_cursor.specs.Texts.{IsSpelled, HasText, IsKept, AddsText, AreTexts}
 
 -- a text of such a kind is its spelling
 pub spelled : (bytes : List ℕ) (t : Lexed) → IsSpelled t.kind → slice_range bytes t.from t.to ≡ text_of bytes t
@@ -27,37 +27,39 @@ spelled bytes t h = between (t.kind) h
     between kind.Str h = absurd h
     between kind.Mark h = absurd h
 
-pub has_more : (texts more : List (List ℕ)) (n : ℕ) (units : List ℕ) → HasText texts n units → HasText (texts ++ more) n units
-has_more texts more n units h = record {
-  some = h.some;
+pub has_more : (texts more : List (List ℕ)) (place : ℕ) (units : List ℕ) → HasText texts place units → HasText (texts ++ more) place units
+has_more texts more place units h = record {
   inside = omega (arith, h.inside, length-append texts more);
-  same = get_or-append texts more [] (n - 1) (omega (arith, h.some, h.inside)) ∙ h.same;
+  same = get_or-append texts more [] place h.inside ∙ h.same;
 }
 
-pub adds_none : (texts : List (List ℕ)) (units : List ℕ) → AddsText texts texts 0 units
-adds_none texts units = record { more = []; grown = sym (append-nil texts); told = λ lt. absurd (omega (arith, lt)) }
+pub kept_more : (texts more : List (List ℕ)) (place : Option ℕ) (units : List ℕ) → IsKept texts place units → IsKept (texts ++ more) place units
+kept_more texts more None units h = tt
+kept_more texts more (Some place) units h = has_more texts more place units h
 
-pub adds_kept : (texts : List (List ℕ)) (n : ℕ) (units : List ℕ) → HasText texts n units → AddsText texts texts n units
-adds_kept texts n units h = record { more = []; grown = sym (append-nil texts); told = λ lt. h }
+pub adds_none : (texts : List (List ℕ)) (units : List ℕ) → AddsText texts texts None units
+adds_none texts units = record { more = []; grown = sym (append-nil texts); told = tt }
 
-pub adds_spelled : (bytes : List ℕ) (t : Lexed) (kept texts : List (List ℕ)) (n : ℕ) → kept ≡ texts → IsSpelled t.kind → HasText kept n (slice_range bytes t.from t.to) → AddsText texts texts n (text_of bytes t)
-adds_spelled bytes t kept texts n is h has = adds_kept texts n (text_of bytes t) (subst (λ l. HasText l n (text_of bytes t)) is (subst (HasText kept n) (spelled bytes t h) has))
+pub adds_spelled : (bytes : List ℕ) (t : Lexed) (kept texts : List (List ℕ)) (place : ℕ) → kept ≡ texts → IsSpelled t.kind → HasText kept place (slice_range bytes t.from t.to) → AddsText texts texts (Some place) (text_of bytes t)
+adds_spelled bytes t kept texts place is h has = record {
+  more = [];
+  grown = sym (append-nil texts);
+  told = subst (λ l. HasText l place (text_of bytes t)) is (subst (HasText kept place) (spelled bytes t h) has);
+}
 
-pub adds_unnumbered : (texts new : List (List ℕ)) (text units : List ℕ) → new ≡ texts ++ text ∷ [] → AddsText texts new 0 units
-adds_unnumbered texts new text units is = record { more = text ∷ []; grown = is; told = λ lt. absurd (omega (arith, lt)) }
+pub adds_unplaced : (texts new : List (List ℕ)) (text units : List ℕ) → new ≡ texts ++ text ∷ [] → AddsText texts new None units
+adds_unplaced texts new text units is = record { more = text ∷ []; grown = is; told = tt }
 
-pub adds_one : (texts new : List (List ℕ)) (n : ℕ) (text units : List ℕ) → new ≡ texts ++ text ∷ [] → text ≡ units → n ≡ length new → AddsText texts new n units
-adds_one texts new n text units is same to =
+pub adds_one : (texts new : List (List ℕ)) (place : ℕ) (text units : List ℕ) → new ≡ texts ++ text ∷ [] → text ≡ units → place ≡ length texts → AddsText texts new (Some place) units
+adds_one texts new place text units is same to =
     let longer = length-append texts (text ∷ []) in
     let long : length new ≡ length (texts ++ text ∷ []) = λ i. length (is i) in
-    let place : n - 1 ≡ length texts = omega (arith, to, long, longer) in
     record {
       more = text ∷ [];
       grown = is;
-      told = λ lt. record {
-        some = lt;
-        inside = omega (arith, to);
-        same = (λ i. get_or (is i) (place i) []) ∙ get_or-append_seam texts text [] [] ∙ same;
+      told = record {
+        inside = omega (arith, to, long, longer);
+        same = (λ i. get_or (is i) (to i) []) ∙ get_or-append_seam texts text [] [] ∙ same;
       };
     }
 
@@ -68,12 +70,12 @@ texts_begin bytes ts = record { long = none ts; told = λ i t lt. absurd (omega 
     none [] = refl
     none (x ∷ l) = refl
 
-module _ (bytes : List ℕ) (ts : List Lexed) (i : ℕ) (t : Lexed) (lt : i < length ts) (is : t ≡ get_or ts i t) (numbers : List ℕ) (texts : List (List ℕ)) (h : AreTexts bytes (take i ts) numbers texts) where
-  pub texts_more : (n : ℕ) (new : List (List ℕ)) → AddsText texts new n (text_of bytes t) → AreTexts bytes (take (i + 1) ts) (numbers ++ n ∷ []) new
-  texts_more n new adds =
+module _ (bytes : List ℕ) (ts : List Lexed) (i : ℕ) (t : Lexed) (lt : i < length ts) (is : t ≡ get_or ts i t) (places : List (Option ℕ)) (texts : List (List ℕ)) (h : AreTexts bytes (take i ts) places texts) where
+  pub texts_more : (place : Option ℕ) (new : List (List ℕ)) → AddsText texts new place (text_of bytes t) → AreTexts bytes (take (i + 1) ts) (places ++ place ∷ []) new
+  texts_more place new adds =
       let front = length-take-le i ts (omega (arith, lt)) in
       let longer = length-take-le (i + 1) ts (omega (arith, lt)) in
-      let one = length-append numbers (n ∷ []) in
+      let one = length-append places (place ∷ []) in
       record { long = omega (arith, one, h.long, front, longer); told = said }
     where
       same_token : (l : List Lexed) (j : ℕ) (d e : Lexed) → j < length l → get_or l j d ≡ get_or l j e
@@ -84,27 +86,27 @@ module _ (bytes : List ℕ) (ts : List Lexed) (i : ℕ) (t : Lexed) (lt : i < le
       front : length (take i ts) ≡ i
       front = length-take-le i ts (omega (arith, lt))
 
-      old : (j : ℕ) (u : Lexed) → j < i → u ≡ get_or (take (i + 1) ts) j u → 0 < get_or (numbers ++ n ∷ []) j 0 → HasText new (get_or (numbers ++ n ∷ []) j 0) (text_of bytes u)
-      old j u before here some =
-          let same : get_or (numbers ++ n ∷ []) j 0 ≡ get_or numbers j 0 = get_or-append numbers (n ∷ []) 0 j (omega (arith, h.long, front, before)) in
+      old : (j : ℕ) (u : Lexed) → j < i → u ≡ get_or (take (i + 1) ts) j u → IsKept new (get_or (places ++ place ∷ []) j None) (text_of bytes u)
+      old j u before here =
+          let same : get_or (places ++ place ∷ []) j None ≡ get_or places j None = get_or-append places (place ∷ []) None j (omega (arith, h.long, front, before)) in
           let token : u ≡ get_or (take i ts) j u = here ∙ get_or-take (i + 1) ts j u (omega (arith, before)) ∙ sym (get_or-take i ts j u before) in
-          subst (λ m. HasText new m (text_of bytes u)) (sym same)
-          (subst (λ l. HasText l (get_or numbers j 0) (text_of bytes u)) (sym adds.grown)
-          (has_more texts adds.more (get_or numbers j 0) (text_of bytes u) (h.told j u (omega (arith, front, before)) token (subst (λ m. 0 < m) same some))))
+          subst (λ m. IsKept new m (text_of bytes u)) (sym same)
+          (subst (λ l. IsKept l (get_or places j None) (text_of bytes u)) (sym adds.grown)
+          (kept_more texts adds.more (get_or places j None) (text_of bytes u) (h.told j u (omega (arith, front, before)) token)))
 
-      last : (j : ℕ) (u : Lexed) → j ≡ i → u ≡ get_or (take (i + 1) ts) j u → 0 < get_or (numbers ++ n ∷ []) j 0 → HasText new (get_or (numbers ++ n ∷ []) j 0) (text_of bytes u)
-      last j u at here some =
-          let place : j ≡ length numbers = omega (arith, at, h.long, front) in
-          let same : get_or (numbers ++ n ∷ []) j 0 ≡ n = ap (λ k. get_or (numbers ++ n ∷ []) k 0) place ∙ get_or-append_seam numbers n [] 0 in
+      last : (j : ℕ) (u : Lexed) → j ≡ i → u ≡ get_or (take (i + 1) ts) j u → IsKept new (get_or (places ++ place ∷ []) j None) (text_of bytes u)
+      last j u at here =
+          let behind : j ≡ length places = omega (arith, at, h.long, front) in
+          let same : get_or (places ++ place ∷ []) j None ≡ place = ap (λ k. get_or (places ++ place ∷ []) k None) behind ∙ get_or-append_seam places place [] None in
           let token : u ≡ t = here ∙ get_or-take (i + 1) ts j u (omega (arith, at)) ∙ ap (λ k. get_or ts k u) at ∙ same_token ts i u t lt ∙ sym is in
-          subst (λ m. HasText new m (text_of bytes u)) (sym same) (subst (λ v. HasText new n (text_of bytes v)) (sym token) (adds.told (subst (λ m. 0 < m) same some)))
+          subst (λ m. IsKept new m (text_of bytes u)) (sym same) (subst (λ v. IsKept new place (text_of bytes v)) (sym token) adds.told)
 
-      said : (j : ℕ) (u : Lexed) → j < length (take (i + 1) ts) → u ≡ get_or (take (i + 1) ts) j u → 0 < get_or (numbers ++ n ∷ []) j 0 → HasText new (get_or (numbers ++ n ∷ []) j 0) (text_of bytes u)
-      said j u inside here some = by (leb_tells i j)
+      said : (j : ℕ) (u : Lexed) → j < length (take (i + 1) ts) → u ≡ get_or (take (i + 1) ts) j u → IsKept new (get_or (places ++ place ∷ []) j None) (text_of bytes u)
+      said j u inside here = by (leb_tells i j)
         where
-          by : ((leb i j ≡ true) × (i ≤ j)) ⊎ ((leb i j ≡ false) × (j < i)) → HasText new (get_or (numbers ++ n ∷ []) j 0) (text_of bytes u)
-          by (inl past) = last j u (omega (arith, past.1, inside, length-take-le (i + 1) ts (omega (arith, lt)))) here some
-          by (inr before) = old j u before.1 here some
+          by : ((leb i j ≡ true) × (i ≤ j)) ⊎ ((leb i j ≡ false) × (j < i)) → IsKept new (get_or (places ++ place ∷ []) j None) (text_of bytes u)
+          by (inl past) = last j u (omega (arith, past.1, inside, length-take-le (i + 1) ts (omega (arith, lt)))) here
+          by (inr before) = old j u before.1 here
 
 -- a token that stands there
 pub token_at : (ts : List Lexed) (at : ℕ) → at < length ts → (t : Lexed) × (t ≡ get_or ts at t)
@@ -117,13 +119,12 @@ seen_at f [] e d at t lt is = absurd (omega (arith, lt))
 seen_at f (x ∷ ts) e d zero t lt is = ap f (sym is)
 seen_at f (x ∷ ts) e d (suc at) t lt is = seen_at f ts e d at t (omega (arith, lt)) is
 
--- the text of a token that has a number is what the grammar sees of it
-pub has_text : (bytes : List ℕ) (ts : List Lexed) (numbers : List ℕ) (texts : List (List ℕ)) (at n : ℕ) → AreTexts bytes ts numbers texts → at < length ts → n ≡ get_or numbers at 0 → 0 < n → HasText texts n (lexeme_at (input bytes ts) at).text
-has_text bytes ts numbers texts at n h lt is some =
+-- the text of a token that has a place is what the grammar sees of it
+pub has_text : (bytes : List ℕ) (ts : List Lexed) (places : List (Option ℕ)) (texts : List (List ℕ)) (at : ℕ) → AreTexts bytes ts places texts → at < length ts → IsKept texts (get_or places at None) (lexeme_at (input bytes ts) at).text
+has_text bytes ts places texts at h lt =
     let t = token_at ts at lt in
     let same : (lexeme_at (input bytes ts) at).text ≡ text_of bytes t.0 = ap (λ x. x.1.text) (seen_at (seen bytes) ts _ _ at t.0 lt t.1) in
-    subst (λ m. HasText texts m (lexeme_at (input bytes ts) at).text) (sym is)
-    (subst (HasText texts (get_or numbers at 0)) (sym same) (h.told at t.0 lt t.1 (subst (λ m. 0 < m) is some)))
+    subst (IsKept texts (get_or places at None)) (sym same) (h.told at t.0 lt t.1)
 
 -- a token before the end of the text
 pub before_end : (bytes : List ℕ) (ts : List Lexed) (script : List Token) (at : ℕ) → input bytes ts ≡ script → at + 1 < length script → at < length ts
@@ -133,12 +134,12 @@ before_end bytes ts script at is lt =
     let many : length (map (seen bytes) ts) ≡ length ts = length-map ts (seen bytes) in
     omega (arith, lt, long, same, many)
 
--- the number that is read, and its text
-pub kept_at : (bytes : List ℕ) (ts : List Lexed) (numbers : List ℕ) (texts : List (List ℕ)) (script : List Token) (at n : ℕ) → input bytes ts ≡ script → AreTexts bytes ts numbers texts → at + 1 < length script → n ≡ get_or numbers at n → 0 < n → HasText texts n (lexeme_at script at).text
-kept_at bytes ts numbers texts script at n is h lt number some =
+-- the place that is read, and its text
+pub kept_at : (bytes : List ℕ) (ts : List Lexed) (places : List (Option ℕ)) (texts : List (List ℕ)) (script : List Token) (at place : ℕ) → input bytes ts ≡ script → AreTexts bytes ts places texts → at + 1 < length script → Some place ≡ get_or places at (Some place) → HasText texts place (lexeme_at script at).text
+kept_at bytes ts places texts script at place is h lt here =
     let before = before_end bytes ts script at is lt in
-    subst (λ s. HasText texts n (lexeme_at s at).text) is
-    (has_text bytes ts numbers texts at n h before (number ∙ get_or_default numbers at n 0 (omega (arith, before, h.long))) some)
+    subst (λ s. HasText texts place (lexeme_at s at).text) is
+    (subst (λ p. IsKept texts p (lexeme_at (input bytes ts) at).text) (sym (here ∙ get_or_default places at (Some place) None (omega (arith, before, h.long)))) (has_text bytes ts places texts at h before))
 
-pub text_read : (texts : List (List ℕ)) (n : ℕ) (units x : List ℕ) → HasText texts n units → x ≡ get_or texts (n - 1) x → x ≡ units
-text_read texts n units x h is = is ∙ get_or_default texts (n - 1) x [] (omega (arith, h.some, h.inside)) ∙ h.same
+pub text_read : (texts : List (List ℕ)) (place : ℕ) (units x : List ℕ) → HasText texts place units → x ≡ get_or texts place x → x ≡ units
+text_read texts place units x h is = is ∙ get_or_default texts place x [] h.inside ∙ h.same

@@ -1,5 +1,5 @@
 -- The texts of a script's names and numbers, of which the same are kept once.
-use Rattle.std.specs.Prelude.{◌≡◌, ℕ, ◌-◌, ◌<◌, ◌≤◌, List, [], ◌++◌, length, get_or}
+use Rattle.std.specs.Prelude.{◌≡◌, ℕ, ◌<◌, List, [], ◌++◌, length, get_or, Option, Some, None}
 use Rattle.js_tokens.specs.declared.token.Token.{Token as Lexed}
 use Rattle.js_tokens.specs.declared.token.TokenKind.{TokenKind}
 use Rattle.js_tokens.specs.declared.token.TokenKind.TheVariants as kind
@@ -11,19 +11,23 @@ IsSpelled kind.Name = Unit {0}
 IsSpelled kind.Number = Unit {0}
 IsSpelled _ = ⊥
 
--- the text of this number, counted from 1, has these units
-pub record HasText (texts : List (List ℕ)) (n : ℕ) (units : List ℕ) : Type 0 where
-  pub some : 0 < n
-  pub inside : n ≤ length texts
-  pub same : get_or texts (n - 1) [] ≡ units
+-- the text at this place has these units
+pub record HasText (texts : List (List ℕ)) (place : ℕ) (units : List ℕ) : Type 0 where
+  pub inside : place < length texts
+  pub same : get_or texts place [] ≡ units
 
--- texts are added, or none, and then the one of this number, where it is none of 0, has these units
-pub record AddsText (old new : List (List ℕ)) (n : ℕ) (units : List ℕ) : Type 0 where
+-- the text at the place, where there is one, has these units
+abbrev pub IsKept : List (List ℕ) → Option ℕ → List ℕ → Type 0
+IsKept texts None units = Unit {0}
+IsKept texts (Some place) units = HasText texts place units
+
+-- texts are added, or none, and then the one at the place, where there is one, has these units
+pub record AddsText (old new : List (List ℕ)) (place : Option ℕ) (units : List ℕ) : Type 0 where
   pub more : List (List ℕ)
   pub grown : new ≡ old ++ more
-  pub told : 0 < n → HasText new n units
+  pub told : IsKept new place units
 
--- each token has a number, and the text of that number, where it is none of 0, is its own
-pub record AreTexts (bytes : List ℕ) (ts : List Lexed) (numbers : List ℕ) (texts : List (List ℕ)) : Type 0 where
-  pub long : length numbers ≡ length ts
-  pub told : (i : ℕ) (t : Lexed) → i < length ts → t ≡ get_or ts i t → 0 < get_or numbers i 0 → HasText texts (get_or numbers i 0) (text_of bytes t)
+-- the text at the place of each token, where it has one, is its own
+pub record AreTexts (bytes : List ℕ) (ts : List Lexed) (places : List (Option ℕ)) (texts : List (List ℕ)) : Type 0 where
+  pub long : length places ≡ length ts
+  pub told : (i : ℕ) (t : Lexed) → i < length ts → t ≡ get_or ts i t → IsKept texts (get_or places i None) (text_of bytes t)

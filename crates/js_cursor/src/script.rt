@@ -34,7 +34,7 @@ impl<'a> Model for Script<'a> {
     ghost view = { λ s. input s.bytes.now s.tokens.now };
 
     ghost invariant = { λ s. IsScript s.bytes.now s.tokens.now s.signs.items ×
-        AreTexts s.bytes.now s.tokens.now s.texts.numbers.items s.texts.list.items };
+        AreTexts s.bytes.now s.tokens.now s.texts.places.items s.texts.list.items };
 }
 
 // The signs of the tokens.
@@ -104,10 +104,9 @@ impl<'a> Script<'a> {
         requires { at + 1 < length self.now }
         ensures { IfOk result (λ t. t ≡ (lexeme_at self.now at).text) }
     {
-        let number = self.texts.numbers[at] as usize;
-        if number == 0 {
-            return token_text(self.alloc, self.bytes, &self.tokens[at]);
+        match self.texts.places[at] {
+            Some(place) => self.texts.list[place as usize].share(),
+            None => token_text(self.alloc, self.bytes, &self.tokens[at]),
         }
-        self.texts.list[number - 1].share()
     }
 }

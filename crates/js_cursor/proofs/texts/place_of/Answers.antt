@@ -1,6 +1,6 @@
 use Rattle.js_tokens.proofs.Lies.{token_range}
 use Rattle.js_cursor.proofs.Kept.{adds_spelled}
-use Rattle.js_cursor.proofs.texts.number_of.Goals as goal
+use Rattle.js_cursor.proofs.texts.place_of.Goals as goal
 
 pub slice_bounds-spelling-count : goal.slice_bounds-spelling-count
 slice_bounds-spelling-count c = (token_range _ _ c.requires).0
@@ -12,4 +12,4 @@ pub slice_bounds-spelling-end : goal.slice_bounds-spelling-end
 slice_bounds-spelling-end c = (token_range _ _ c.requires).1
 
 pub returns-then-is_kept : goal.returns-then-is_kept
-returns-then-is_kept c = adds_spelled c.args.bytes.now c.args.token.now _ _ _ c.deref.ensures.value (c.is_shared.ensures c.if-not-is_shared.false) (c.is_kept.ensures c.if-is_kept.true)
+returns-then-is_kept c = adds_spelled c.args.bytes.now c.args.token.now _ _ c.in-Some.found c.deref.ensures.value (c.is_shared.ensures c.if-not-is_shared.false) (c.is_kept.ensures c.if-is_kept.true)
