@@ -136,7 +136,6 @@ fn push_end(out: &mut Vec<u8>) -> Result<(), Memory>
     Ok(out.extend_from_slice(b"}\n")?)
 }
 
-#[tactic(auto, using(crate::proofs::Parts::first_part, crate::proofs::Parts::later_part))]
 fn push_short(run: &RunText, out: &mut Vec<u8>) -> Result<(), Memory>
     ensures ok { OnOk result (out.new.items ≡ out.old.items ++ short_life run.now) }
     ensures part { AppendsPart out.old.items out.new.items (short_life run.now) }
@@ -160,7 +159,6 @@ fn push_notes<'a>(log: &'a [Text], uncaught: &'a [Text], out: &mut Vec<u8>) -> R
     push_pieces(&pieces, out)
 }
 
-#[tactic(auto, using(crate::proofs::Parts::first_part, crate::proofs::Parts::later_part))]
 fn push_ran_end(run: &RunText, out: &mut Vec<u8>) -> Result<(), Memory>
     ensures ok { OnOk result (out.new.items ≡ out.old.items ++ (run_notes run.now.log.items run.now.uncaught.items ++ line_end)) }
     ensures part { AppendsPart out.old.items out.new.items (run_notes run.now.log.items run.now.uncaught.items ++ line_end) }
@@ -169,7 +167,6 @@ fn push_ran_end(run: &RunText, out: &mut Vec<u8>) -> Result<(), Memory>
     push_end(out)
 }
 
-#[tactic(auto, using(crate::proofs::Parts::first_part, crate::proofs::Parts::later_part))]
 fn push_ran(run: &RunText, out: &mut Vec<u8>) -> Result<(), Memory>
     ensures ok { OnOk result (out.new.items ≡ out.old.items ++ ran_life run.now) }
     ensures part { AppendsPart out.old.items out.new.items (ran_life run.now) }
