@@ -1,0 +1,20 @@
+use Rattle.std.proofs.Common.{sym, ap, ◌∙◌}
+use Rattle.std.specs.Option.{option_map_or}
+use Rattle.widget_meaning.specs.Plan.{after, and_then}
+use Rattle.widget_meaning.specs.Costs.{give}
+use Rattle.widget_meaning.specs.Expressions.{operate, write}
+use Rattle.js_image.specs.Image.{image, seen}
+use Rattle.js_names.specs.Code.{trees_of}
+use Rattle.js_flow.specs.Views.{place_of, reference_of}
+use Rattle.js_forms.proofs.assigning.assign_with.Goals as goal
+
+pub returns-in-Some-clause-plan : goal.returns-in-Some-clause-plan
+returns-in-Some-clause-plan c =
+    let fs = trees_of c.args.codes.now.items in
+    let w = c.args.w in
+    let s = c.args.store.now in
+    let had = seen w s.cells c.args.to.2 in
+    let u = seen w s.cells c.args.value in
+    let p = c.args.to.3 in
+    λ r. sym (ap (λ q. and_then q (after (λ v t. write (reference_of w s.cells c.args.to.1) (place_of w s.cells p) v t (give v))))
+    (c.operator.ensures had u p.depth (image fs r w s) ∙ ap (λ o. option_map_or (λ b. operate b had u p.depth (image fs r w s)) o (give u (image fs r w s))) c.in-Some.is))

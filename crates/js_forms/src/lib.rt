@@ -1,0 +1,12 @@
+//! Expressions and targets: what each does after its unit, and with how its parts ended.
+#![tactic(auto)]
+
+mod assigning;
+mod evaluating;
+mod literals;
+mod operating;
+mod reading;
+mod taking;
+
+pub use evaluating::{eval, target};
+pub use taking::take_form;

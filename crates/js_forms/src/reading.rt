@@ -1,0 +1,185 @@
+//! Reads and writes of variables and properties, and faults.
+ghost use Rattle.std.specs.Prelude.{◌≡◌, ℕ, ◌<◌, ◌≤◌, List, IfOk};
+ghost use Rattle.store_cells.specs.Cells.{PlainCell};
+ghost use Rattle.widget_meaning.specs.Values as meaning;
+ghost use Rattle.widget_meaning.specs.Costs as costs;
+ghost use Rattle.widget_meaning.specs.Properties as properties;
+ghost use Rattle.widget_meaning.specs.Expressions as expressions;
+ghost use Rattle.js_image.specs.Image.{Rest, image, seen};
+ghost use Rattle.js_image.specs.Held.{IsConfined, IsFine, Kept};
+ghost use Rattle.js_image.specs.Plans.{meant_fault};
+ghost use Rattle.js_names.specs.Code.{trees_of};
+ghost use Rattle.js_flow.specs.Views.{place_of, reference_of};
+ghost use Rattle.js_flow.specs.Frames.{Plans};
+ghost use Rattle.js_flow.specs.Fine.{FineNext, FineReference, IsPlace};
+ghost use Rattle.js_flow.specs.Free.{next_free};
+
+use code_units::{Memory, Text};
+use js_flow::{Completion, Next, Place, Reference};
+use js_image::{Fault, Made, Written, assign, get, make_fault, put, variable};
+use js_names::Code;
+use object_store::{Store, Value};
+use std::alloc::Global;
+
+/// A fault is thrown.
+pub(crate) fn throw(
+    alloc: Global,
+    w: u32,
+    codes: &Vec<Code>,
+    store: &mut Store,
+    fault: Fault,
+) -> Result<Next, Memory>
+    requires widget { w < 32 }
+    ensures plan { IfOk result (Plans (trees_of codes.now.items) w store.old store.new
+        (costs.throw (meant_fault fault))) }
+    ensures fine { IfOk result (FineNext (trees_of codes.now.items) w store.new.cells) }
+    ensures near { IfOk result (λ n. next_free n ≤ 1) }
+    ensures kept { Kept (trees_of codes.now.items) w store.old store.new }
+{
+    match make_fault(alloc, store, w, fault)? {
+        Made::Cell(cell) => Ok(Next::Give(Completion::Throw(Value::Ref(cell)))),
+        Made::Stop(cause) => Ok(Next::Stop(cause)),
+    }
+}
+
+// Whether a value has no properties.
+fn is_nothing(value: &Value) -> bool
+    ensures { (w : ℕ) (cells : List PlainCell) → result ≡ meaning.is_nothing (seen w cells value.now) }
+{
+    matches!(value, Value::Undefined | Value::Null)
+}
+
+/// A property is read; undefined and null have none.
+pub(crate) fn read(
+    alloc: Global,
+    w: u32,
+    codes: &Vec<Code>,
+    store: &mut Store,
+    base: &Value,
+    name: &Text,
+) -> Result<Next, Memory>
+    requires widget { w < 32 }
+    requires confined { IsConfined (trees_of codes.now.items) w store.old }
+    requires held { IsFine w store.old.cells base.now }
+    ensures plan { IfOk result (Plans (trees_of codes.now.items) w store.old store.new
+        (properties.read (seen w store.old.cells base.now) name.now)) }
+    ensures fine { IfOk result (FineNext (trees_of codes.now.items) w store.new.cells) }
+    ensures near { IfOk result (λ n. next_free n ≤ 1) }
+    ensures kept { Kept (trees_of codes.now.items) w store.old store.new }
+{
+    match base {
+        Value::Undefined => throw(alloc, w, codes, store, Fault::E1),
+        Value::Null => throw(alloc, w, codes, store, Fault::E1),
+        _ => Ok(Next::Give(Completion::Is(get(store, base, name)?))),
+    }
+}
+
+/// A property as a target; undefined and null have none.
+pub(crate) fn refer(
+    alloc: Global,
+    w: u32,
+    codes: &Vec<Code>,
+    store: &mut Store,
+    base: Value,
+    name: Text,
+) -> Result<Next, Memory>
+    requires widget { w < 32 }
+    requires held { IsFine w store.old.cells base }
+    ensures plan { IfOk result (Plans (trees_of codes.now.items) w store.old store.new
+        (expressions.refer (seen w store.old.cells base) name)) }
+    ensures fine { IfOk result (FineNext (trees_of codes.now.items) w store.new.cells) }
+    ensures near { IfOk result (λ n. next_free n ≤ 1) }
+    ensures kept { Kept (trees_of codes.now.items) w store.old store.new }
+{
+    if is_nothing(&base) {
+        throw(alloc, w, codes, store, Fault::E1)
+    } else {
+        Ok(Next::Give(Completion::Refers(Reference::Property(base, name))))
+    }
+}
+
+/// What a reference has.
+pub(crate) fn referred(
+    w: u32,
+    codes: &Vec<Code>,
+    store: &Store,
+    of: &Reference,
+    place: Place,
+) -> Result<Value, Memory>
+    requires confined { IsConfined (trees_of codes.now.items) w store.now }
+    requires held { FineReference w store.now.cells of.now × IsPlace (trees_of codes.now.items) w store.now.cells place }
+    ensures found { IfOk result (λ v. (r : Rest) → seen w store.now.cells v
+        ≡ expressions.referred (reference_of w store.now.cells of.now) (place_of w store.now.cells place) (image (trees_of codes.now.items) r w store.now)) }
+    ensures fine { IfOk result (IsFine w store.now.cells) }
+{
+    match of {
+        Reference::Variable(x) => variable(store, place.scope, x),
+        Reference::Property(base, x) => get(store, base, x),
+        Reference::Found(v) => v.share(),
+    }
+}
+
+/// A write of the first value to a reference, after which the second is given.
+pub(crate) fn write(
+    alloc: Global,
+    w: u32,
+    codes: &Vec<Code>,
+    store: &mut Store,
+    to: (Reference, Place),
+    values: (Value, Value),
+) -> Result<Next, Memory>
+    requires widget { w < 32 }
+    requires confined { IsConfined (trees_of codes.now.items) w store.old }
+    requires to { FineReference w store.old.cells to.0 × IsPlace (trees_of codes.now.items) w store.old.cells to.1 }
+    requires values { IsFine w store.old.cells values.0 × IsFine w store.old.cells values.1 }
+    ensures plan { IfOk result (Plans (trees_of codes.now.items) w store.old store.new
+        (λ s. expressions.write (reference_of w store.old.cells to.0) (place_of w store.old.cells to.1) (seen w store.old.cells values.0) s (costs.give (seen w store.old.cells values.1)))) }
+    ensures fine { IfOk result (FineNext (trees_of codes.now.items) w store.new.cells) }
+    ensures near { IfOk result (λ n. next_free n ≤ 1) }
+    ensures kept { Kept (trees_of codes.now.items) w store.old store.new }
+{
+    let (of, place) = to;
+    let (value, given) = values;
+    match of {
+        Reference::Variable(x) => {
+            assign(store, w, place.scope, &x, value);
+            Ok(Next::Give(Completion::Is(given)))
+        }
+        Reference::Property(base, x) => write_property(
+            alloc,
+            w,
+            codes,
+            store,
+            (base, x),
+            (value, given),
+        ),
+        Reference::Found(_) => Ok(Next::Give(Completion::Is(given))),
+    }
+}
+
+// A write of the first value to a property, after which the second is given.
+pub(crate) fn write_property(
+    alloc: Global,
+    w: u32,
+    codes: &Vec<Code>,
+    store: &mut Store,
+    to: (Value, Text),
+    values: (Value, Value),
+) -> Result<Next, Memory>
+    requires widget { w < 32 }
+    requires to { IsFine w store.old.cells to.0 }
+    requires values { IsFine w store.old.cells values.0 × IsFine w store.old.cells values.1 }
+    ensures plan { IfOk result (Plans (trees_of codes.now.items) w store.old store.new
+        (λ s. properties.put (seen w store.old.cells to.0) to.1 (seen w store.old.cells values.0) s (costs.give (seen w store.old.cells values.1)))) }
+    ensures fine { IfOk result (FineNext (trees_of codes.now.items) w store.new.cells) }
+    ensures near { IfOk result (λ n. next_free n ≤ 1) }
+    ensures kept { Kept (trees_of codes.now.items) w store.old store.new }
+{
+    let (base, name) = to;
+    let (value, given) = values;
+    match put(store, w, &base, &name, value)? {
+        Written::Done => Ok(Next::Give(Completion::Is(given))),
+        Written::Throw(fault) => throw(alloc, w, codes, store, fault),
+        Written::Stop(cause) => Ok(Next::Stop(cause)),
+    }
+}
