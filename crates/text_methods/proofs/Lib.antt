@@ -1,0 +1,5 @@
+pub mod KindRuns
+pub mod PieceLists
+pub mod RadixLaws
+pub mod RadixPlans
+pub mod SplitPlans

@@ -1,0 +1,132 @@
+//! The one call of this crate, and the methods of texts.
+ghost use Rattle.std.specs.Prelude.{◌≡◌, ◌<◌, true, List, IfOk, OnErr};
+ghost use Rattle.js_tree.specs.Forest.{Forest};
+ghost use Rattle.store_cells.specs.Cells.{IsWidget, number_in};
+ghost use Rattle.widget_meaning.specs.NativeForms.{on_text};
+ghost use Rattle.widget_meaning.specs.Natives.{run_native};
+ghost use Rattle.js_image.specs.Image.{all_seen};
+ghost use Rattle.js_image.specs.Held.{AreFine, Kept};
+ghost use Rattle.native_forms.specs.Meets.{Meets};
+ghost use Rattle.native_forms.specs.Receivers.{IsReceiver, receiver};
+ghost use Rattle.text_methods.specs.Kinds.{is_part, text_plan};
+
+use crate::kinds::{Kind, TextNative, kind_of};
+use crate::prototypes::prototype_native;
+use crate::splitting::split;
+use code_units::{Memory, Owner, Text};
+use js_values::{Fault, Meter, NativeOut};
+use native_forms::nth;
+use object_store::{NativeId, Store, Value};
+use plain_natives::{
+    char_at, char_code_at, concat, cut, global_native, in_case, index_of, last_index_of,
+    math_native,
+};
+use std::alloc::Global;
+
+/// A native of this crate, called by a widget: what the meaning gives at the owner's image, for every
+/// receiver and all arguments that the widget may hold. The Global cell as receiver stands for none.
+/// The native's unit was taken before; the call takes the extra. Where fuel is wanting nothing
+/// changes. After `Memory` what others have, and each cell that was there, are as before.
+pub fn call(
+    alloc: Global,
+    which: NativeId,
+    this: &Value,
+    args: &[Value],
+    store: &mut Store,
+    meter: &mut Meter,
+    owner: Owner,
+) -> Result<NativeOut, Memory>
+    requires part { is_part which ≡ true }
+    requires widget { IsWidget owner }
+    requires receiver { IsReceiver (number_in owner) store.old.cells this.now }
+    requires args { AreFine (number_in owner) store.old.cells args.now }
+    ensures native { IfOk result (λ o. Meets (number_in owner) store.old store.new meter.old meter.new
+        (run_native which (receiver (number_in owner) store.old.cells this.now) (all_seen (number_in owner) store.old.cells args.now)) o) }
+    ensures memory { OnErr result ((fs : List Forest) → Kept fs (number_in owner) store.old store.new) }
+{
+    match owner {
+        Owner::Host => unreachable!(),
+        Owner::Widget(w) => call_of(alloc, which, this, args, store, meter, w),
+    }
+}
+
+// The same for the number of the owner.
+fn call_of(
+    alloc: Global,
+    which: NativeId,
+    this: &Value,
+    args: &[Value],
+    store: &mut Store,
+    meter: &mut Meter,
+    w: u32,
+) -> Result<NativeOut, Memory>
+    requires part { is_part which ≡ true }
+    requires widget { w < 32 }
+    requires receiver { IsReceiver w store.old.cells this.now }
+    requires args { AreFine w store.old.cells args.now }
+    ensures native { IfOk result (λ o. Meets w store.old store.new meter.old meter.new
+        (run_native which (receiver w store.old.cells this.now) (all_seen w store.old.cells args.now)) o) }
+    ensures memory { OnErr result ((fs : List Forest) → Kept fs w store.old store.new) }
+{
+    match kind_of(which) {
+        Kind::Global(native) => global_native(alloc, native, args, store, meter, w),
+        Kind::Math(native) => math_native(native, args, meter),
+        Kind::Prototype(native) => prototype_native(alloc, native, this, args, store, meter, w),
+        Kind::Text(native) => text_native(alloc, native, this, args, store, meter, w),
+        Kind::Other => unreachable!(),
+    }
+}
+
+// A method of texts, for any receiver.
+fn text_native(
+    alloc: Global,
+    which: TextNative,
+    this: &Value,
+    args: &[Value],
+    store: &mut Store,
+    meter: &mut Meter,
+    w: u32,
+) -> Result<NativeOut, Memory>
+    requires widget { w < 32 }
+    ensures native { IfOk result (λ o. Meets w store.old store.new meter.old meter.new
+        (λ d s. on_text (receiver w store.old.cells this.now) s (λ t. text_plan which t (all_seen w store.old.cells args.now) d s)) o) }
+    ensures memory { OnErr result ((fs : List Forest) → Kept fs w store.old store.new) }
+{
+    match this {
+        Value::Text(t) => text_method(alloc, which, t, args, store, meter, w),
+        _ => Ok(NativeOut::Throw(Fault::E3)),
+    }
+}
+
+// A method on a text.
+fn text_method(
+    alloc: Global,
+    which: TextNative,
+    t: &Text,
+    args: &[Value],
+    store: &mut Store,
+    meter: &mut Meter,
+    w: u32,
+) -> Result<NativeOut, Memory>
+    requires widget { w < 32 }
+    ensures native { IfOk result (λ o. Meets w store.old store.new meter.old meter.new
+        (text_plan which t.now (all_seen w store.old.cells args.now)) o) }
+    ensures memory { OnErr result ((fs : List Forest) → Kept fs w store.old store.new) }
+{
+    let absent = Value::Undefined;
+    let first = nth(args, 0, &absent);
+    let second = nth(args, 1, &absent);
+    match which {
+        TextNative::ToText => Ok(NativeOut::Value(Value::Text(t.share()?))),
+        TextNative::CharAt => char_at(alloc, t, first, store, meter, w),
+        TextNative::CharCodeAt => Ok(char_code_at(t, first, meter)),
+        TextNative::Concat => concat(alloc, t, args, store, meter, w),
+        TextNative::IndexOf => index_of(alloc, t, first, second, meter),
+        TextNative::LastIndexOf => last_index_of(alloc, t, first, second, meter),
+        TextNative::Slice => cut(alloc, t, true, first, second, store, meter, w),
+        TextNative::Substring => cut(alloc, t, false, first, second, store, meter, w),
+        TextNative::Split => split(alloc, t, first, store, meter, w),
+        TextNative::ToLowerCase => in_case(alloc, t, false, store, meter, w),
+        TextNative::ToUpperCase => in_case(alloc, t, true, store, meter, w),
+    }
+}
