@@ -19,12 +19,9 @@ fn takes_turns(rt: HostRuntime) -> Result<(), Fail> {
     let mut chooser = RoundRobin::new(rt.alloc(), 2)?;
     assert!(rt; answer(&mut chooser, &[1, 4]) == 0);
     assert!(rt; answer(&mut chooser, &[1, 4]) == 1);
-    assert!(rt; answer(&mut chooser, &[1]) == 0);
-    assert!(rt; chooser.asks().len() == 2);
     let list = vec![in rt.alloc(); 0, 5]?;
     let mut chooser = Listed { list, at: 0 };
     assert!(rt; answer(&mut chooser, &[0, 1]) == 0);
     assert!(rt; answer(&mut chooser, &[0, 1]) == 1);
-    assert!(rt; answer(&mut chooser, &[3]) == 0);
     Ok(())
 }

@@ -1,5 +1,5 @@
-//! Tests of single parts, with ample memory: texts, numbers and places, choosers, files and sinks,
-//! printed lines; cells that are made and written to; nodes that are added, moved, copied, given an
+//! Tests of single parts, with ample memory: texts and numbers, choosers, files and sinks, printed
+//! lines; cells that are made and written to; nodes that are added, moved, copied, given an
 //! attribute and printed; queries that find nodes of a page. Expected values come from outside.
 #![tactic(auto)]
 

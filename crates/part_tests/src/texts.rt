@@ -1,9 +1,5 @@
-//! Texts, numbers in them, and places.
-use code_units::{
-    Place, Text, TextFault, WholeRead, from_utf8_bytes, permitted, place_of, push_utf8, read_whole,
-    whole_text,
-};
-use keyed_names::{Keys, Names};
+//! Texts, and numbers in them.
+use code_units::{Text, TextFault, WholeRead, from_utf8_bytes, push_utf8, read_whole, whole_text};
 use std::alloc::Global;
 use std::test::Fail;
 
@@ -126,75 +122,5 @@ fn reads_utf8(rt: HostRuntime) -> Result<(), Fail> {
         let fault = from_utf8_bytes(rt.alloc(), bytes).err();
         assert!(rt; fault == Some(TextFault::NotUtf8 { at: bad }));
     }
-    Ok(())
-}
-
-#[test]
-fn writes_lone_surrogates(rt: HostRuntime) -> Result<(), Fail> {
-    let units = [0x61, 0xD800, 0x62, 0xDC00, 0xD83D, 0xDE00].to_vec(rt.alloc())?;
-    let mut out = Vec::new(rt.alloc());
-    push_utf8(&Text::from_units(rt.alloc(), units)?.share()?, &mut out)?;
-    assert!(rt; out.as_slice() == b"a\xef\xbf\xbdb\xef\xbf\xbd\xf0\x9f\x98\x80".as_slice());
-    Ok(())
-}
-
-// Offsets of a text of three lines, with their lines and columns.
-const PLACES: [(usize, u32, u32); 6] = [
-    (0, 1, 1),
-    (2, 1, 3),
-    (3, 2, 1),
-    (4, 3, 1),
-    (7, 3, 4),
-    (8, 4, 1),
-];
-
-#[test]
-fn gives_places(rt: HostRuntime) {
-    let bytes = b"ab\n\ncd\r\n";
-    for (offset, line, column) in PLACES {
-        assert!(rt; offset <= bytes.len());
-        let place = place_of(bytes, offset);
-        assert!(rt; place == Place { line, column }, "at {offset}");
-    }
-}
-
-const NAMES: [(&str, bool); 20] = [
-    ("", true),
-    ("a", true),
-    ("watches", true),
-    ("Eval", true),
-    ("a_b", true),
-    ("callers", true),
-    ("arguments", false),
-    ("callee", false),
-    ("caller", false),
-    ("constructor", false),
-    ("eval", false),
-    ("prototype", false),
-    ("stack", false),
-    ("unwatch", false),
-    ("valueOf", false),
-    ("watch", false),
-    ("_", false),
-    ("_a", false),
-    ("a_", false),
-    ("__proto__", false),
-];
-
-#[test]
-fn permits_names(rt: HostRuntime) -> Result<(), Fail> {
-    for (name, want) in NAMES {
-        let found = permitted(&text(rt.alloc(), name)?);
-        assert!(rt; found == want, "at {name}");
-    }
-    Ok(())
-}
-
-#[test]
-fn interns_a_name(rt: HostRuntime) -> Result<(), Fail> {
-    let mut names = Names::new(rt.alloc(), Keys::of_files(&[]))?;
-    let name = text(rt.alloc(), "a")?;
-    let number = names.intern(&name)?;
-    assert!(rt; names.number(&name) == Some(number));
     Ok(())
 }
