@@ -1,0 +1,6 @@
+pub mod Answering
+pub mod Charged
+pub mod Fronts
+pub mod Moved
+pub mod Passing
+pub mod Weights

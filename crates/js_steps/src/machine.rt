@@ -1,0 +1,414 @@
+//! The machine: one step, with its frames and its fuel.
+ghost use Rattle.std.specs.Prelude.{◌≡◌, ℕ, ◌+◌, ◌*◌, ◌-◌, ◌<◌, ◌≤◌, IfOk, IsFalse, IsTrue, List, OnOk, true, [], ◌∷◌, ◌++◌};
+ghost use Rattle.std.specs.Vec.{vec_capacity, vec_len};
+ghost use Rattle.js_tree.specs.Forest.{Forest};
+ghost use Rattle.store_cells.specs.Cells.{PlainCell};
+ghost use Rattle.widget_meaning.specs.OwnState.{State};
+ghost use Rattle.widget_meaning.specs.Plan.{and_then};
+ghost use Rattle.widget_meaning.specs.Meaning.{run_plan};
+ghost use Rattle.js_image.specs.Image.{Rest, image};
+ghost use Rattle.js_image.specs.Held.{IsConfined, Kept};
+ghost use Rattle.js_values.specs.Answers.{out_of_fuel};
+ghost use Rattle.js_names.specs.Code.{trees_of};
+ghost use Rattle.js_flow.specs.Views.{completion_of};
+ghost use Rattle.js_flow.specs.Frames.{planned, rest};
+ghost use Rattle.js_flow.specs.Fine.{FineCompletion, FineControl, FineFrames, FineJob, FineNext, FineStepped};
+ghost use Rattle.js_steps.specs.Charges.{after_charge, charge_of};
+ghost use Rattle.js_steps.specs.Unwinding.{IsAbrupt};
+ghost use Rattle.js_flow.specs.Free.{free, frames_free, next_free};
+ghost use Rattle.js_flow.specs.Todo.{Follows, IfOutOfFuel, IsGoing, IsNotFuel, Moves, after_step, is_free, todo};
+
+use crate::jobs::{begin_job, take};
+use crate::stack::{Frames, Unwound};
+use crate::task::Task;
+use code_units::Memory;
+use js_flow::{Completion, Control, Frame, Job, Next, StatementFrame, Stepped};
+use js_names::Code;
+use js_values::Meter;
+use object_store::Store;
+use std::alloc::Global;
+use std::mem;
+
+// What the task is at. The old one is dropped here alone.
+pub(crate) fn set(task: &mut Task, control: Control)
+    ensures control { task.new.control ≡ control }
+    ensures frames { task.new.frames ≡ task.old.frames }
+    ensures widget { task.new.widget ≡ task.old.widget }
+{
+    task.control = control;
+}
+
+fn take_control(task: &mut Task) -> Control
+    ensures result { result ≡ task.old.control }
+    ensures control { task.new.control ≡ Control.Over }
+    ensures frames { task.new.frames ≡ task.old.frames }
+    ensures widget { task.new.widget ≡ task.old.widget }
+{
+    mem::replace(&mut task.control, Control::Over)
+}
+
+// One more frame, for which there is room.
+fn push(task: &mut Task, frame: Frame)
+    requires room { vec_len task.old.frames.list < vec_capacity task.old.frames.list }
+    ensures control { task.new.control ≡ task.old.control }
+    ensures frames { task.new.frames.list.items ≡ task.old.frames.list.items ++ frame ∷ [] }
+    ensures room { (vec_len task.new.frames.list ≡ vec_len task.old.frames.list + 1) × (vec_capacity task.new.frames.list ≡ vec_capacity task.old.frames.list) }
+    ensures widget { task.new.widget ≡ task.old.widget }
+{
+    task.frames.list.push_reserved(frame);
+}
+
+// Room for three frames more.
+fn reserve(task: &mut Task) -> Result<(), Memory>
+    ensures control { task.new.control ≡ task.old.control }
+    ensures frames { task.new.frames.list.items ≡ task.old.frames.list.items }
+    ensures room { OnOk result (vec_len task.new.frames.list + 3 ≤ vec_capacity task.new.frames.list) }
+    ensures widget { task.new.widget ≡ task.old.widget }
+{
+    task.frames.list.reserve(3)?;
+    Ok(())
+}
+
+// What is next goes on the frames. This holds for each list of cells.
+pub(crate) fn follow(task: &mut Task, next: Next) -> Result<Stepped, Memory>
+    ensures plan { IfOk result (λ k. (fs : List Forest) (w : ℕ) (cells : List PlainCell) (s : State)
+        → after_step fs w cells k task.new.control task.new.frames.list.items s ≡ and_then (planned fs w cells next s) (rest fs w cells task.old.frames.list.items)) }
+    ensures fine { IfOk result (λ k. (fs : List Forest) (w : ℕ) (cells : List PlainCell) → FineNext fs w cells next → FineFrames fs w cells task.old.frames.list.items
+        → FineControl fs w cells task.new.control × FineFrames fs w cells task.new.frames.list.items × FineStepped fs w cells k) }
+    ensures follows { IfOk result (λ k. Follows k task.new.control × IsNotFuel k) }
+    ensures near { IfOk result (λ k. free task.new.control task.new.frames.list.items ≤ next_free next + frames_free task.old.frames.list.items) }
+    ensures widget { task.new.widget ≡ task.old.widget }
+{
+    reserve(task)?;
+    Ok(put(task, next))
+}
+
+// The same, with room for the frames.
+#[tactic(auto, using(crate::proofs::Weights::free_last))]
+fn put(task: &mut Task, next: Next) -> Stepped
+    requires room { vec_len task.old.frames.list + 3 ≤ vec_capacity task.old.frames.list }
+    ensures plan { (fs : List Forest) (w : ℕ) (cells : List PlainCell) (s : State)
+        → after_step fs w cells result task.new.control task.new.frames.list.items s ≡ and_then (planned fs w cells next s) (rest fs w cells task.old.frames.list.items) }
+    ensures fine { (fs : List Forest) (w : ℕ) (cells : List PlainCell) → FineNext fs w cells next → FineFrames fs w cells task.old.frames.list.items
+        → FineControl fs w cells task.new.control × FineFrames fs w cells task.new.frames.list.items × FineStepped fs w cells result }
+    ensures follows { Follows result task.new.control × IsNotFuel result }
+    ensures near { free task.new.control task.new.frames.list.items ≤ next_free next + frames_free task.old.frames.list.items }
+    ensures widget { task.new.widget ≡ task.old.widget }
+{
+    match next {
+        Next::Push(frame, job) => {
+            push(task, frame);
+            set(task, Control::Do(job));
+            Stepped::Went
+        }
+        Next::Push2(frame, second, job) => {
+            push(task, frame);
+            push(task, second);
+            set(task, Control::Do(job));
+            Stepped::Went
+        }
+        Next::Go(job) => {
+            set(task, Control::Do(job));
+            Stepped::Went
+        }
+        Next::Begin(frame, job) => {
+            push(task, frame);
+            set(task, Control::Begin(job));
+            Stepped::Went
+        }
+        Next::Block(frame, block, place) => {
+            push(task, frame);
+            push(task, Frame::Statement(StatementFrame::Seq(block, 0, place)));
+            set(task, Control::Give(Completion::Normal));
+            Stepped::Went
+        }
+        Next::Block2(frame, second, block, place) => {
+            push(task, frame);
+            push(task, second);
+            push(task, Frame::Statement(StatementFrame::Seq(block, 0, place)));
+            set(task, Control::Give(Completion::Normal));
+            Stepped::Went
+        }
+        Next::Run(block, place) => {
+            push(task, Frame::Statement(StatementFrame::Seq(block, 0, place)));
+            set(task, Control::Give(Completion::Normal));
+            Stepped::Went
+        }
+        Next::Give(how) => {
+            set(task, Control::Give(how));
+            Stepped::Went
+        }
+        Next::Feed(frame, second, how) => {
+            push(task, frame);
+            push(task, second);
+            set(task, Control::Give(how));
+            Stepped::Went
+        }
+        Next::Pay(frame, units) => {
+            push(task, frame);
+            set(task, Control::Pay(units));
+            Stepped::Went
+        }
+        Next::Native(native) => {
+            set(task, Control::Waits(native.depth));
+            Stepped::Native(native)
+        }
+        Next::Stop(cause) => {
+            set(task, Control::Over);
+            Stepped::Stop(cause)
+        }
+    }
+}
+
+// Whether so many units are there, which are then taken.
+fn pay(meter: &mut Meter, units: usize) -> bool
+    ensures yes { IsTrue result → (units ≤ meter.old.left) × (meter.new.left + units ≡ meter.old.left) × (meter.new.spent ≡ meter.old.spent + units) }
+    ensures no { IsFalse result → (meter.old.left < units) × (meter.new ≡ meter.old) }
+{
+    let left = meter.left();
+    if units > left as usize {
+        return false;
+    }
+    meter.take(units as u32).is_ok()
+}
+
+// The charge of what a task is at, where it has one: it is taken, or nothing changes.
+fn charge(task: &mut Task, meter: &mut Meter) -> bool
+    requires going { IsGoing task.old.control }
+    ensures free { IsTrue result → is_free task.new.control ≡ true }
+    ensures moves { IsTrue result → (fs : List Forest) (w : ℕ) (cells : List PlainCell) (s : State) → Moves (meter.old.left - meter.new.left) s
+        (todo fs w cells task.old.control task.old.frames.list.items s) (todo fs w cells task.new.control task.new.frames.list.items s) }
+    ensures held { IsTrue result → (fs : List Forest) (w : ℕ) (cells : List PlainCell) → FineControl fs w cells task.old.control × FineFrames fs w cells task.old.frames.list.items
+        → FineControl fs w cells task.new.control × FineFrames fs w cells task.new.frames.list.items }
+    ensures near { IsTrue result → 32 * meter.new.left + free task.new.control task.new.frames.list.items ≤ 32 * meter.old.left + free task.old.control task.old.frames.list.items }
+    ensures unpaid { IsFalse result → (task.new ≡ task.old) × (meter.new ≡ meter.old) × ((fs : List Forest) (w : ℕ) (cells : List PlainCell) (s : State)
+        → run_plan meter.old.left (todo fs w cells task.old.control task.old.frames.list.items s) ≡ out_of_fuel s meter.old.left) }
+    ensures spends { (meter.new.left ≤ meter.old.left) × (meter.new.left + meter.new.spent ≡ meter.old.left + meter.old.spent) }
+    ensures widget { task.new.widget ≡ task.old.widget }
+{
+    let units = cost(&task.control);
+    if !pay(meter, units) {
+        return false;
+    }
+    set_paid(task);
+    true
+}
+
+// What a task is at costs this.
+fn cost(control: &Control) -> usize
+    ensures { result ≡ charge_of control.now }
+{
+    match control {
+        Control::Do(_) => 1,
+        Control::Pay(units) => *units,
+        _ => 0,
+    }
+}
+
+// The charge was taken.
+fn set_paid(task: &mut Task)
+    requires { IsGoing task.old.control }
+    ensures control { task.new.control ≡ after_charge task.old.control }
+    ensures frames { task.new.frames ≡ task.old.frames }
+    ensures widget { task.new.widget ≡ task.old.widget }
+{
+    match take_control(task) {
+        Control::Do(job) => set(task, Control::Begin(job)),
+        Control::Pay(_) => set(task, Control::Give(Completion::Normal)),
+        Control::Begin(job) => set(task, Control::Begin(job)),
+        Control::Give(how) => set(task, Control::Give(how)),
+        _ => unreachable!(),
+    }
+}
+
+// A step at a job that has its unit.
+fn begin(
+    alloc: Global,
+    w: u32,
+    codes: &Vec<Code>,
+    store: &mut Store,
+    task: &mut Task,
+    job: Job,
+) -> Result<Stepped, Memory>
+    requires widget { w < 32 }
+    requires confined { IsConfined (trees_of codes.now.items) w store.old }
+    requires held { FineJob (trees_of codes.now.items) w store.old.cells job × FineFrames (trees_of codes.now.items) w store.old.cells task.old.frames.list.items }
+    ensures moves { let F = trees_of codes.now.items in IfOk result (λ k. (r : Rest) → Moves (0) (image F r w store.old)
+        (todo F w store.old.cells (Control.Begin job) task.old.frames.list.items (image F r w store.old))
+        (after_step F w store.new.cells k task.new.control task.new.frames.list.items (image F r w store.new))) }
+    ensures follows { IfOk result (λ k. Follows k task.new.control × IsNotFuel k) }
+    ensures held { let F = trees_of codes.now.items in IfOk result (λ k. FineControl F w store.new.cells task.new.control
+        × FineFrames F w store.new.cells task.new.frames.list.items × FineStepped F w store.new.cells k) }
+    ensures kept { Kept (trees_of codes.now.items) w store.old store.new }
+    ensures near { IfOk result (λ k. free task.new.control task.new.frames.list.items < free (Control.Begin job) task.old.frames.list.items) }
+    ensures widget { task.new.widget ≡ task.old.widget }
+{
+    let next = begin_job(alloc, w, codes, store, job)?;
+    follow(task, next)
+}
+
+// An abrupt end goes at once to the frame that takes it.
+fn unwound(frames: &mut Frames, how: Completion) -> Completion
+    ensures same { result ≡ how }
+    ensures rest { (fs : List Forest) (w : ℕ) (cells : List PlainCell) (s : State)
+        → rest fs w cells frames.new.list.items (completion_of w cells how) s ≡ rest fs w cells frames.old.list.items (completion_of w cells how) s }
+    ensures fine { (fs : List Forest) (w : ℕ) (cells : List PlainCell) → FineFrames fs w cells frames.old.list.items → FineFrames fs w cells frames.new.list.items }
+    ensures free { frames_free frames.new.list.items ≤ frames_free frames.old.list.items }
+{
+    if !is_abrupt(&how) {
+        return how;
+    }
+    match frames.unwind(how) {
+        Unwound::Resumed(how) => how,
+        Unwound::Over(how) => how,
+    }
+}
+
+// Whether an end is neither normal nor a value nor a reference.
+fn is_abrupt(how: &Completion) -> bool
+    ensures { result ≡ true → IsAbrupt how.now }
+{
+    match how {
+        Completion::Return(_) => true,
+        Completion::Break => true,
+        Completion::Continue => true,
+        Completion::Throw(_) => true,
+        _ => false,
+    }
+}
+
+// A step at a completion.
+fn give(
+    alloc: Global,
+    w: u32,
+    codes: &Vec<Code>,
+    store: &mut Store,
+    task: &mut Task,
+    how: Completion,
+) -> Result<Stepped, Memory>
+    requires over { task.old.control ≡ Control.Over }
+    requires widget { w < 32 }
+    requires confined { IsConfined (trees_of codes.now.items) w store.old }
+    requires held { FineCompletion w store.old.cells how × FineFrames (trees_of codes.now.items) w store.old.cells task.old.frames.list.items }
+    ensures moves { let F = trees_of codes.now.items in IfOk result (λ k. (r : Rest) → Moves (0) (image F r w store.old)
+        (todo F w store.old.cells (Control.Give how) task.old.frames.list.items (image F r w store.old))
+        (after_step F w store.new.cells k task.new.control task.new.frames.list.items (image F r w store.new))) }
+    ensures follows { IfOk result (λ k. Follows k task.new.control × IsNotFuel k) }
+    ensures held { let F = trees_of codes.now.items in IfOk result (λ k. FineControl F w store.new.cells task.new.control
+        × FineFrames F w store.new.cells task.new.frames.list.items × FineStepped F w store.new.cells k) }
+    ensures kept { Kept (trees_of codes.now.items) w store.old store.new }
+    ensures near { IfOk result (λ k. free task.new.control task.new.frames.list.items < free (Control.Give how) task.old.frames.list.items) }
+    ensures widget { task.new.widget ≡ task.old.widget }
+{
+    let how = unwound(&mut task.frames, how);
+    match task.frames.pop() {
+        None => Ok(Stepped::Done(how)),
+        Some(frame) => {
+            let next = take(alloc, w, codes, store, frame, how)?;
+            follow(task, next)
+        }
+    }
+}
+
+// Whether a step costs nothing.
+fn is_free(control: &Control) -> bool
+    ensures { result ≡ is_free control.now }
+{
+    matches!(control, Control::Begin(_) | Control::Give(_))
+}
+
+// A step that costs nothing.
+fn free_step(
+    alloc: Global,
+    w: u32,
+    codes: &Vec<Code>,
+    store: &mut Store,
+    task: &mut Task,
+) -> Result<Stepped, Memory>
+    requires free { is_free task.old.control ≡ true }
+    requires widget { w < 32 }
+    requires confined { IsConfined (trees_of codes.now.items) w store.old }
+    requires held { FineControl (trees_of codes.now.items) w store.old.cells task.old.control × FineFrames (trees_of codes.now.items) w store.old.cells task.old.frames.list.items }
+    ensures moves { let F = trees_of codes.now.items in IfOk result (λ k. (r : Rest) → Moves (0) (image F r w store.old)
+        (todo F w store.old.cells task.old.control task.old.frames.list.items (image F r w store.old))
+        (after_step F w store.new.cells k task.new.control task.new.frames.list.items (image F r w store.new))) }
+    ensures follows { IfOk result (λ k. Follows k task.new.control × IsNotFuel k) }
+    ensures held { let F = trees_of codes.now.items in IfOk result (λ k. FineControl F w store.new.cells task.new.control
+        × FineFrames F w store.new.cells task.new.frames.list.items × FineStepped F w store.new.cells k) }
+    ensures kept { Kept (trees_of codes.now.items) w store.old store.new }
+    ensures near { IfOk result (λ k. free task.new.control task.new.frames.list.items < free task.old.control task.old.frames.list.items) }
+    ensures widget { task.new.widget ≡ task.old.widget }
+{
+    match take_control(task) {
+        Control::Begin(job) => begin(alloc, w, codes, store, task, job),
+        Control::Give(how) => give(alloc, w, codes, store, task, how),
+        _ => unreachable!(),
+    }
+}
+
+// What costs nothing, up to a charge, a native or an end.
+fn go_on(
+    alloc: Global,
+    w: u32,
+    codes: &Vec<Code>,
+    store: &mut Store,
+    task: &mut Task,
+) -> Result<Stepped, Memory>
+    requires going { IsGoing task.old.control }
+    requires widget { w < 32 }
+    requires confined { IsConfined (trees_of codes.now.items) w store.old }
+    requires held { FineControl (trees_of codes.now.items) w store.old.cells task.old.control × FineFrames (trees_of codes.now.items) w store.old.cells task.old.frames.list.items }
+    ensures moves { let F = trees_of codes.now.items in IfOk result (λ k. (r : Rest) → Moves (0) (image F r w store.old)
+        (todo F w store.old.cells task.old.control task.old.frames.list.items (image F r w store.old))
+        (after_step F w store.new.cells k task.new.control task.new.frames.list.items (image F r w store.new))) }
+    ensures follows { IfOk result (λ k. Follows k task.new.control × IsNotFuel k) }
+    ensures held { let F = trees_of codes.now.items in IfOk result (λ k. FineControl F w store.new.cells task.new.control
+        × FineFrames F w store.new.cells task.new.frames.list.items × FineStepped F w store.new.cells k) }
+    ensures kept { Kept (trees_of codes.now.items) w store.old store.new }
+    ensures near { IfOk result (λ k. free task.new.control task.new.frames.list.items ≤ free task.old.control task.old.frames.list.items) }
+    ensures widget { task.new.widget ≡ task.old.widget }
+{
+    while is_free(&task.control) {
+        match free_step(alloc, w, codes, store, task)? {
+            Stepped::Went => {}
+            answer => return Ok(answer),
+        }
+    }
+    Ok(Stepped::Went)
+}
+
+/// One step: a charge where there is one, before all else, and then what costs nothing.
+pub(crate) fn step_for(
+    alloc: Global,
+    w: u32,
+    codes: &Vec<Code>,
+    store: &mut Store,
+    task: &mut Task,
+    meter: &mut Meter,
+) -> Result<Stepped, Memory>
+    requires going { IsGoing task.old.control }
+    requires widget { w < 32 }
+    requires confined { IsConfined (trees_of codes.now.items) w store.old }
+    requires held { FineControl (trees_of codes.now.items) w store.old.cells task.old.control × FineFrames (trees_of codes.now.items) w store.old.cells task.old.frames.list.items }
+    ensures moves { let F = trees_of codes.now.items in IfOk result (λ k. (r : Rest) → Moves (meter.old.left - meter.new.left) (image F r w store.old)
+        (todo F w store.old.cells task.old.control task.old.frames.list.items (image F r w store.old))
+        (after_step F w store.new.cells k task.new.control task.new.frames.list.items (image F r w store.new))) }
+    ensures follows { IfOk result (λ k. Follows k task.new.control) }
+    ensures held { let F = trees_of codes.now.items in IfOk result (λ k. FineControl F w store.new.cells task.new.control
+        × FineFrames F w store.new.cells task.new.frames.list.items × FineStepped F w store.new.cells k) }
+    ensures kept { Kept (trees_of codes.now.items) w store.old store.new }
+    ensures fuel { let F = trees_of codes.now.items in IfOk result (λ k. IfOutOfFuel k ((task.new ≡ task.old)
+        × (store.new ≡ store.old) × (meter.new ≡ meter.old) × ((r : Rest) → run_plan meter.old.left
+        (todo F w store.old.cells task.old.control task.old.frames.list.items (image F r w store.old)) ≡ out_of_fuel (image F r w store.old) meter.old.left))) }
+    ensures spends { (meter.new.left ≤ meter.old.left) × (meter.new.left + meter.new.spent ≡ meter.old.left + meter.old.spent) }
+    ensures near { IfOk result (λ k. IsNotFuel k → 32 * meter.new.left + free task.new.control task.new.frames.list.items < 32 * meter.old.left + free task.old.control task.old.frames.list.items) }
+    ensures widget { task.new.widget ≡ task.old.widget }
+{
+    if !charge(task, meter) {
+        return Ok(Stepped::OutOfFuel);
+    }
+    match free_step(alloc, w, codes, store, task)? {
+        Stepped::Went => go_on(alloc, w, codes, store, task),
+        answer => Ok(answer),
+    }
+}
