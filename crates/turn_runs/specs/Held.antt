@@ -9,7 +9,7 @@ use Rattle.page_image.specs.Image.{owns}
 use Rattle.js_image.specs.Held.{IsFine, IsFunOf, IsHeld}
 use Rattle.js_flow.specs.Fine.{FineCompletion, FineControl, FineFrames, FineNative}
 use Rattle.js_flow.specs.Todo.{IsGoing}
-use Rattle.js_flow.specs.declared.task.Task.{Task}
+use Rattle.js_steps.specs.declared.task.Task.{Task}
 use Rattle.native_image.specs.Sound.{IsOwnCell}
 use Rattle.turn_runs.specs.declared.level.Dispatch.{Dispatch}
 use Rattle.turn_runs.specs.declared.level.Hearing.{Hearing}
@@ -47,12 +47,12 @@ module _ (fs : List Forest) (w : ℕ) (cells : List PlainCell) (p : Page) where
     pub widget : t.widget ≡ w
     pub going : IsGoing t.control
     pub control : FineControl fs w cells t.control
-    pub frames : FineFrames fs w cells t.frames.items
+    pub frames : FineFrames fs w cells t.frames.list.items
 
   -- what a turn does
   abbrev pub FineDoing : Doing → Type 0
   FineDoing (doing.Runs t) = FineTask t.value
-  FineDoing (doing.Native t n) = (t.value.widget ≡ w) × FineFrames fs w cells t.value.frames.items × FineNative w cells n.value
+  FineDoing (doing.Native t n) = (t.value.widget ≡ w) × FineFrames fs w cells t.value.frames.list.items × FineNative w cells n.value
   FineDoing (doing.Hears h) = FineHearing w cells p h.value
   FineDoing (doing.Over o) = FineCompletion w cells o
   FineDoing (doing.Stop c) = Unit {0}

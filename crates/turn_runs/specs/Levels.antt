@@ -73,7 +73,7 @@ module _ (fs : List Forest) (w : ℕ) (cells : List PlainCell) (p : Page) where
   level_taken (level.Keeps lib x) = keeps_on w cells p lib x
   level_taken (level.Hears h n) = hears_on w cells p h.value n
   level_taken (level.Fires f n) = fires_on w cells p f.value n
-  level_taken (level.Waits t) = rest fs w cells t.value.frames.items
+  level_taken (level.Waits t) = rest fs w cells t.value.frames.list.items
 
   -- what levels have still to do, from the last down, over what comes below
   abbrev pub over : List Level → (Completion → State → Plan) → Completion → State → Plan
@@ -86,9 +86,9 @@ module _ (fs : List Forest) (w : ℕ) (cells : List PlainCell) (p : Page) where
 
   -- what a turn has still to do
   abbrev pub turn_plan : Doing → List Level → State → Plan
-  turn_plan (doing.Runs t) levels s = and_then (todo fs w cells t.value.control t.value.frames.items s) (levels_rest levels)
+  turn_plan (doing.Runs t) levels s = and_then (todo fs w cells t.value.control t.value.frames.list.items s) (levels_rest levels)
   turn_plan (doing.Native t n) levels s =
-      and_then (and_then (native_plan w cells n.value s) (rest fs w cells t.value.frames.items)) (levels_rest levels)
+      and_then (and_then (native_plan w cells n.value s) (rest fs w cells t.value.frames.list.items)) (levels_rest levels)
   turn_plan (doing.Hears h) levels s = Do (plan.Hear (hearing_of w cells p h.value)) s (levels_rest levels)
   turn_plan (doing.Over o) levels s = Ret (completion_of w cells o) s
   turn_plan (doing.Stop c) levels s = Halt (meant_cause c) s

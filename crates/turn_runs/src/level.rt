@@ -1,8 +1,9 @@
 //! What a turn does, and what waits for that to end.
 
 use code_units::Text;
-use js_flow::{Completion, NativeCall, Task};
+use js_flow::{Completion, NativeCall};
 use js_image::StopCause;
+use js_steps::Task;
 use object_store::{CellId, Value};
 use page_tree::NodeId;
 

@@ -10,5 +10,5 @@ mod searching;
 
 pub use hearing::hear;
 pub use level::{Dispatch, Doing, Firing, Heard, Hearing, Level};
-pub use opening::{call_function, open_script};
+pub use opening::open_script;
 pub use searching::{listeners, search};
