@@ -1,0 +1,4 @@
+pub mod Trees
+pub mod Tags
+pub mod Calls
+pub mod Kinds

@@ -1,0 +1,169 @@
+//! The one call of this crate.
+ghost use Rattle.std.specs.Prelude.{◌≡◌, ◌<◌, ℕ, List, Bool, Option, true, IfOk, map};
+ghost use Rattle.store_cells.specs.Cells.{IsWidget, number_in};
+ghost use Rattle.widget_meaning.specs.Natives.{run_native};
+ghost use Rattle.js_image.specs.Held.{AreFine, IsFine, IsHeld};
+ghost use Rattle.js_image.specs.Image.{all_seen, seen};
+ghost use Rattle.js_image.specs.Reads.{cell_in};
+ghost use Rattle.native_forms.specs.Receivers.{IsReceiver, receiver};
+ghost use Rattle.page_image.specs.Image.{number};
+ghost use Rattle.native_image.specs.Image.{beside};
+ghost use Rattle.native_image.specs.Meets.{MeetsAt};
+ghost use Rattle.native_image.specs.Sound.{AreNodes, IsSound, KeepsAll};
+ghost use Rattle.bunch_write.specs.Kinds.{is_part, method_plan};
+
+use crate::each::{bubble, each};
+use crate::kinds::{Kind, Method, kind_of};
+use crate::making::{dom_tag, dom_text};
+use crate::moving::{empty, remove, replace};
+use bunch_marks::{
+    blur, fire, focus, hush, listen, protect, set_check, set_class, set_enabled, set_mark,
+    set_style, set_title,
+};
+use code_units::{Memory, Owner};
+use event_loop::Loop;
+use js_image::Fault;
+use js_values::{Meter, NativeOut};
+use native_forms::nth;
+use native_image::receiver_of;
+use object_store::{CellId, NativeId, Store, Value};
+use page_tree::{NodeId, Page};
+use std::alloc::Global;
+
+/// A native of this crate, called by a widget: what the meaning gives at its image, for every
+/// receiver and all arguments. The Global cell as receiver stands for none. The native's unit was
+/// taken before; the call takes the extra. Where fuel is wanting nothing changes, and all nodes are
+/// judged before any change. After `Memory` too, all that the widget holds is its own, and others have
+/// what they had.
+pub fn call(
+    alloc: Global,
+    which: NativeId,
+    this: &Value,
+    args: &[Value],
+    store: &mut Store,
+    meter: &mut Meter,
+    owner: Owner,
+    page: &mut Page,
+    around: &mut Loop,
+    bubbled: &mut Option<bool>,
+) -> Result<NativeOut, Memory>
+    requires part { is_part which ≡ true }
+    requires widget { IsWidget owner }
+    requires sound { IsSound (number_in owner) store.old page.old around.old }
+    requires receiver { IsReceiver (number_in owner) store.old.cells this.now }
+    requires args { AreFine (number_in owner) store.old.cells args.now }
+    ensures native { IfOk result (λ o. MeetsAt (number_in owner)
+        (beside store.old page.old around.old bubbled.old) (beside store.new page.new around.new bubbled.new) meter.old meter.new
+        (run_native which (receiver (number_in owner) store.old.cells this.now) (all_seen (number_in owner) store.old.cells args.now)) o) }
+    ensures kept { KeepsAll (number_in owner) store.old store.new page.old page.new around.new }
+{
+    match owner {
+        Owner::Host => unreachable!(),
+        Owner::Widget(w) => {
+            call_of(
+                alloc, which, this, args, store, meter, w, page, around, bubbled,
+            )
+        }
+    }
+}
+
+// The same for the number of the owner.
+fn call_of(
+    alloc: Global,
+    which: NativeId,
+    this: &Value,
+    args: &[Value],
+    store: &mut Store,
+    meter: &mut Meter,
+    w: u32,
+    page: &mut Page,
+    around: &mut Loop,
+    bubbled: &mut Option<bool>,
+) -> Result<NativeOut, Memory>
+    requires part { is_part which ≡ true }
+    requires widget { w < 32 }
+    requires sound { IsSound w store.old page.old around.old }
+    requires receiver { IsReceiver w store.old.cells this.now }
+    requires args { AreFine w store.old.cells args.now }
+    ensures native { IfOk result (λ o. MeetsAt w
+        (beside store.old page.old around.old bubbled.old) (beside store.new page.new around.new bubbled.new) meter.old meter.new
+        (run_native which (receiver w store.old.cells this.now) (all_seen w store.old.cells args.now)) o) }
+    ensures kept { KeepsAll w store.old store.new page.old page.new around.new }
+{
+    let absent = Value::Undefined;
+    let first = nth(args, 0, &absent);
+    let second = nth(args, 1, &absent);
+    match kind_of(which) {
+        Kind::Bubble => Ok(bubble(bubbled)),
+        Kind::DomTag => dom_tag(alloc, first, second, store, w, page),
+        Kind::DomText => dom_text(alloc, first, store, w, page),
+        Kind::Method(method) => match receiver_of(alloc, store, w, page, this)? {
+            Some(list) => match cell_of(this) {
+                Some(cell) => change(
+                    alloc, method, &list, cell, first, second, store, meter, w, page, around,
+                ),
+                None => Ok(NativeOut::Throw(Fault::E3)),
+            },
+            None => Ok(NativeOut::Throw(Fault::E3)),
+        },
+        Kind::Other => unreachable!(),
+    }
+}
+
+// The cell to which a value refers.
+fn cell_of(v: &Value) -> Option<CellId>
+    ensures { result ≡ cell_in v.now }
+{
+    match v {
+        Value::Ref(cell) => Some(*cell),
+        _ => None,
+    }
+}
+
+// A method on the nodes of its receiver, with its first two arguments.
+fn change(
+    alloc: Global,
+    method: Method,
+    list: &[NodeId],
+    this: CellId,
+    first: &Value,
+    second: &Value,
+    store: &mut Store,
+    meter: &mut Meter,
+    w: u32,
+    page: &mut Page,
+    around: &mut Loop,
+) -> Result<NativeOut, Memory>
+    requires widget { w < 32 }
+    requires nodes { AreNodes page.old w list.now }
+    requires held { IsHeld w store.old.cells this }
+    requires first { IsFine w store.old.cells first.now }
+    requires second { IsFine w store.old.cells second.now }
+    requires sound { IsSound w store.old page.old around.old }
+    ensures native { (b : Option Bool) → IfOk result (λ o. MeetsAt w
+        (beside store.old page.old around.old b) (beside store.new page.new around.new b) meter.old meter.new
+        (λ d s. method_plan method (map (number page.old w) list.now) (seen w store.old.cells (Value.Ref this))
+        (seen w store.old.cells first.now) (seen w store.old.cells second.now) d s) o) }
+    ensures kept { KeepsAll w store.old store.new page.old page.new around.new }
+{
+    match method {
+        Method::Remove => remove(alloc, list, this, store, meter, w, page),
+        Method::Empty => Ok(empty(list, this, store, meter, w, page)),
+        Method::Replace => replace(alloc, list, first, this, store, meter, w, page),
+        Method::SetStyle => set_style(alloc, list, first, second, this, store, meter, w, page),
+        Method::SetClass => set_class(alloc, list, first, this, store, meter, w, page),
+        Method::SetTitle => set_title(alloc, list, first, this, store, meter, w, page),
+        Method::SetCheck => set_check(alloc, list, first, this, store, meter, w, page),
+        Method::SetEnabled => set_enabled(alloc, list, first, this, store, meter, w, page),
+        Method::Focus => Ok(focus(list, this, store, meter, w, page, around)),
+        Method::Blur => Ok(blur(list, this, store, meter, w, page, around)),
+        Method::Listen => listen(
+            alloc, list, first, second, this, store, meter, w, page, around,
+        ),
+        Method::Hush => hush(alloc, list, first, this, store, meter, w, page, around),
+        Method::Fire => fire(alloc, list, first, this, store, meter, w, page, around),
+        Method::Each => each(alloc, list, first, this, store, meter, w, page, around),
+        Method::SetMark => set_mark(alloc, list, first, this, store, meter, w, page, around),
+        Method::Protect => protect(alloc, list, this, store, meter, w, page, around),
+    }
+}

@@ -1,0 +1,115 @@
+//! `each`, and `bubble`.
+ghost use Rattle.std.specs.Prelude.{◌≡◌, ◌<◌, ℕ, List, [], ◌∷◌, Bool, Option, Some, IfOk, map};
+ghost use Rattle.widget_meaning.specs.BunchWrites as means;
+ghost use Rattle.widget_meaning.specs.Dispatch as dispatch;
+ghost use Rattle.widget_meaning.specs.NativeNames as names;
+ghost use Rattle.event_loop.specs.declared.around.Loop.{Loop};
+ghost use Rattle.js_image.specs.Held.{IsFine, IsHeld};
+ghost use Rattle.js_image.specs.Image.{seen};
+ghost use Rattle.js_values.specs.Fuel.{Fuel};
+ghost use Rattle.page_image.specs.Image.{number};
+ghost use Rattle.store_cells.specs.Cells.{Cells};
+ghost use Rattle.native_image.specs.Image.{beside};
+ghost use Rattle.native_image.specs.Meets.{EndsAt, MeetsAt};
+ghost use Rattle.native_image.specs.Sound.{AreNodes, IsSound, KeepsAll};
+ghost use Rattle.bunch_write.specs.Calls.{each_paid};
+
+use bunch_marks::function_of;
+use code_units::Memory;
+use event_loop::Loop;
+use js_image::Fault;
+use js_values::{Meter, NativeOut, Plan};
+use native_forms::take;
+use native_image::{Bill, make_bunches, settle, weigh};
+use object_store::{CellId, Store, Value};
+use page_tree::{NodeId, Page};
+use std::alloc::Global;
+
+// The Bunches of nodes, whose cost is judged as one, and the calls with them.
+fn calls(
+    alloc: Global,
+    list: &[NodeId],
+    func: CellId,
+    this: CellId,
+    store: &mut Store,
+    w: u32,
+    page: &Page,
+    around: &Loop,
+) -> Result<NativeOut, Memory>
+    requires widget { w < 32 }
+    requires nodes { AreNodes page.now w list.now }
+    requires held { IsHeld w store.old.cells this }
+    requires func { IsHeld w store.old.cells func }
+    requires sound { IsSound w store.old page.now around.now }
+    ensures ends { (b : Option Bool) → IfOk result (λ o.
+        EndsAt w (beside store.old page.now around.now b) (beside store.new page.now around.now b)
+        (each_paid (map (number page.now w) list.now) (seen w store.old.cells (Value.Ref func)) (seen w store.old.cells (Value.Ref this))) o) }
+    ensures kept { KeepsAll w store.old store.new page.now page.now around.now }
+{
+    let many = list.len() as u32;
+    let bill = Bill {
+        units: 0,
+        cells: many,
+        slots: 2 * many,
+        nodes: 0,
+    };
+    match weigh(store, page, w, bill) {
+        Ok(due) => {
+            let items = make_bunches(alloc, store, w, page, list)?;
+            settle(store, page, w, due)?;
+            Ok(NativeOut::Call(Plan::Each {
+                func,
+                items,
+                last: Value::Ref(this),
+            }))
+        }
+        Err(cause) => Ok(NativeOut::Stop(cause)),
+    }
+}
+
+/// `each(f)`: a call with a Bunch of each node, all made before the first call; then the Bunch is
+/// given back.
+pub(crate) fn each(
+    alloc: Global,
+    list: &[NodeId],
+    func: &Value,
+    this: CellId,
+    store: &mut Store,
+    meter: &mut Meter,
+    w: u32,
+    page: &Page,
+    around: &Loop,
+) -> Result<NativeOut, Memory>
+    requires widget { w < 32 }
+    requires nodes { AreNodes page.now w list.now }
+    requires held { IsHeld w store.old.cells this }
+    requires func { IsFine w store.old.cells func.now }
+    requires sound { IsSound w store.old page.now around.now }
+    ensures native { (b : Option Bool) → IfOk result (λ o.
+        MeetsAt w (beside store.old page.now around.now b) (beside store.new page.now around.now b) meter.old meter.new
+        (λ d s. means.write_method names.Each (map (number page.now w) list.now) (seen w store.old.cells (Value.Ref this))
+        (seen w store.old.cells func.now ∷ []) d s) o) }
+    ensures kept { KeepsAll w store.old store.new page.now page.now around.now }
+{
+    match function_of(store, func) {
+        Some(func) => match take(meter, list.len()) {
+            Ok(()) => calls(alloc, list, func, this, store, w, page, around),
+            Err(_) => Ok(NativeOut::OutOfFuel),
+        },
+        None => Ok(NativeOut::Throw(Fault::E4)),
+    }
+}
+
+/// `bubble()` marks the innermost dispatch; without one it is a fault.
+pub(crate) fn bubble(bubbled: &mut Option<bool>) -> NativeOut
+    ensures { (w : ℕ) (s : Cells) (p : Page) (l : Loop) (f : Fuel) → IsSound w s p l
+        → MeetsAt w (beside s p l bubbled.old) (beside s p l bubbled.new) f f (λ d t. dispatch.bubble t.dispatches t) result }
+{
+    match bubbled {
+        None => NativeOut::Throw(Fault::E3),
+        Some(_) => {
+            *bubbled = Some(true);
+            NativeOut::Value(Value::Undefined)
+        }
+    }
+}
