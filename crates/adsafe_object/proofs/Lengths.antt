@@ -10,11 +10,11 @@ use Rattle.store_cells.specs.declared.kind.Form.{Form}
 use Rattle.store_cells.specs.declared.kind.Form.TheVariants as form
 use Rattle.store_cells.specs.Lists.{links}
 use Rattle.store_cells.specs.Cells as cells_of
-use Rattle.store_cells.specs.Cells.{Cells, PlainCell, chain, is_bunch, is_bunch_at, is_scope, is_scope_at, is_visible, own_count, prototypes}
+use Rattle.store_cells.specs.Cells.{Cells, PlainCell, chain, is_bunch, is_bunch_at, is_scope, is_scope_at, own_count, prototypes}
 use Rattle.store_cells.specs.Host.{is_frozen_form, is_host_owner, is_permitted_cell, leads_on}
 use Rattle.object_store.specs.Calls.{IsPrototype}
 use Rattle.object_store.specs.Owned as store
-use Rattle.object_store.specs.Owned.{own_cell, own_link, visible_at}
+use Rattle.object_store.specs.Owned.{own_link, visible_at}
 use Rattle.widget_meaning.specs.Values as meaning
 use Rattle.widget_meaning.specs.OwnState.{Cell, State, new_object}
 use Rattle.widget_meaning.specs.Properties.{prototype}

@@ -12,7 +12,7 @@ use Rattle.store_cells.specs.declared.kind.CellKind.{CellKind}
 use Rattle.store_cells.specs.declared.kind.Form.{Form}
 use Rattle.store_cells.specs.declared.kind.Form.TheVariants as form
 use Rattle.store_cells.specs.Cells as cells_of
-use Rattle.store_cells.specs.Cells.{Cells, PlainCell, is_array, is_own, is_visible, is_visible_form, own_count}
+use Rattle.store_cells.specs.Cells.{Cells, PlainCell, is_array, is_visible, is_visible_form, own_count}
 use Rattle.store_cells.specs.Host.{is_frozen_form}
 use Rattle.object_store.specs.Owned as store
 use Rattle.object_store.specs.Owned.{is_of, own_kind, visible_at}

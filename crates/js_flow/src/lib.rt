@@ -14,4 +14,4 @@ pub use lists::{
     argument_at, clause_at, declaration_at, default_at, element_at, first_at, last_at, property_at,
     statement_at,
 };
-pub use task::{Control, Stepped, Task};
+pub use task::{Control, Stepped};

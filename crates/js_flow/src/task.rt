@@ -1,6 +1,5 @@
-//! A task, and what a step answers.
+//! What a task is at, and what a step answers.
 
-use crate::frame::Frame;
 use crate::job::{Completion, Job, NativeCall};
 use js_image::StopCause;
 
@@ -17,14 +16,6 @@ pub enum Control {
     Waits(u32),
     /// Nothing: the task is over.
     Over,
-}
-
-/// One call that the host makes for a widget, with its frames, the last of which is given to first.
-#[derive(Drop)]
-pub struct Task {
-    pub widget: u32,
-    pub control: Control,
-    pub frames: Vec<Frame>,
 }
 
 /// What a step answers.

@@ -29,7 +29,7 @@ use Rattle.widget_meaning.specs.Properties.{own_property}
 use Rattle.js_image.specs.Image.{Rest, all_seen, image, meant, meant_kind, meant_pairs, node_number, seen}
 use Rattle.js_image.specs.Held.{AreFine, ArePairs, IsConfined, IsFine, IsHeld}
 use Rattle.js_image.specs.Laws.{AreLawful}
-use Rattle.js_image.specs.Elements.{array_plan, own_place, stored_element, stored_length, stored_nodes, stored_own}
+use Rattle.js_image.specs.Elements.{array_plan, is_stored, own_place, stored_element, stored_length, stored_nodes, stored_own}
 use Rattle.js_image.proofs.Chains.{found_fine, leads_form, looked, looked_apart, own_is, own_nothing, visible_form}
 use Rattle.js_image.proofs.Hosts.{get_there, host_link, leads_at}
 use Rattle.js_image.proofs.Puts.{cell_there, permitted_else, shows}
@@ -53,11 +53,8 @@ at_test f b cells i lt h =
     let e : b ≡ f c.0 = subst (λ (x : Option PlainCell). IfSome x (λ d. b ≡ f d)) c.1 h in
     e ∙ sym (ap (λ (x : Option PlainCell). option_map_or f x false) c.1)
 
-pub at_number : (f : PlainCell → ℕ) (n : ℕ) (cells : List PlainCell) (i : ℕ) → i < length cells → IfSome (slice_get cells i) (λ c. n ≡ f c) → n ≡ option_map_or f (slice_get cells i) 0
-at_number f n cells i lt h =
-    let c = get_there cells i lt in
-    let e : n ≡ f c.0 = subst (λ (x : Option PlainCell). IfSome x (λ d. n ≡ f d)) c.1 h in
-    e ∙ sym (ap (λ (x : Option PlainCell). option_map_or f x 0) c.1)
+pub stored_test : (cells : List PlainCell) (i at : ℕ) → i < length cells → (o : Option Value) → IfSome (slice_get cells i) (λ c. o ≡ stored.element at c) → is_some o ≡ is_stored cells i at
+stored_test cells i at lt o h = ap is_some (at_option (stored.element at) o cells i lt h)
 
 -- a frozen form is neither that of an Array nor that of a Bunch
 frozen_other : (f : Form) → is_frozen_form f ≡ true → (is_array f ≡ false) × (is_bunch f ≡ false)

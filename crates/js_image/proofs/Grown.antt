@@ -85,13 +85,14 @@ module _ (w : ℕ) (old new : List PlainCell) (g : Grows w old new) where
 
 -- nothing changed
 pub kept_same : (fs : List Forest) (w : ℕ) (old new : Cells) → new ≡ old → Kept fs w old new
-kept_same fs w old new same = subst (λ (t : Cells). Kept fs w old t) (sym same) (record { confined = λ h. h; grows = grows_same w old.cells; others = λ v h. refl; nodes = λ p h. h; counts = rise_same (owned w old).paid })
+kept_same fs w old new same = subst (λ (t : Cells). Kept fs w old t) (sym same) (record { confined = λ h. h; grows = grows_same w old.cells; others = λ v h. refl; others_grow = λ v h. grows_same v old.cells; nodes = λ p h. h; counts = rise_same (owned w old).paid })
 
 -- counts alone changed
-pub kept_paid : (fs : List Forest) (w : ℕ) (old new : Cells) (n u : ℕ) (refusal : Option StoreFault) → IsCharged old new w n u refusal → owned w new ≡ own_paid 0 n u (owned w old) → Grows w old.cells new.cells → ((v : ℕ) → (w ≡ v → ⊥) → owned v new ≡ owned v old) → Kept fs w old new
+pub kept_paid : (fs : List Forest) (w : ℕ) (old new : Cells) (n u : ℕ) (refusal : Option StoreFault) → IsCharged old new w n u refusal → owned w new ≡ own_paid 0 n u (owned w old) → ((v : ℕ) → Grows v old.cells new.cells) → ((v : ℕ) → (w ≡ v → ⊥) → owned v new ≡ owned v old) → Kept fs w old new
 kept_paid fs w old new n u refusal charged own grows others = let same : new.cells ≡ old.cells = ap (λ (t : Cells). t.cells) charged.done in record {
   confined = λ h. subst (λ (l : List PlainCell). IsConfined fs w (record { cells = l; kept = new.kept })) (sym same) (record { each = h.each });
-  grows = grows;
+  grows = grows w;
+  others_grow = λ v apart. grows v;
   others = others;
   nodes = λ p h. hold_same p w old new (ap (λ (o : Owned). o.heap) own) h;
   counts = rise_to 0 n u (owned w old).paid (owned w new).paid (ap (λ (o : Owned). o.paid) own);

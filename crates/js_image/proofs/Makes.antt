@@ -198,11 +198,12 @@ module _ (w : ℕ) (old new : Cells) (n : NewCell) (h : IsNew w old.cells n) whe
   pub new_confined : (id : ℕ) → host_count ≤ length old.cells → IsMade old new w id n → Grows w old.cells new.cells → (fs : List Forest) → HasTree fs n → IsConfined fs w old → IsConfined fs w new
   new_confined id enough made grows fs o = confined_more fs w old new (born old.cells w n) (cells_are id made) grows (fine_born w old.cells fs new.cells grows enough n h o)
 
-  pub new_kept : (id : ℕ) → host_count ≤ length old.cells → IsMade old new w id n → Made w old new id n → Grows w old.cells new.cells → ((v : ℕ) → (w ≡ v → ⊥) → owned v new ≡ owned v old) → (fs : List Forest) → IsNewOf fs n → Kept fs w old new
+  pub new_kept : (id : ℕ) → host_count ≤ length old.cells → IsMade old new w id n → Made w old new id n → ((v : ℕ) → Grows v old.cells new.cells) → ((v : ℕ) → (w ≡ v → ⊥) → owned v new ≡ owned v old) → (fs : List Forest) → IsNewOf fs n → Kept fs w old new
   new_kept id enough made own grows others fs o = record {
-    confined = new_confined id enough made grows fs (has_tree fs n o);
-    grows = grows;
+    confined = new_confined id enough made (grows w) fs (has_tree fs n o);
+    grows = grows w;
     others = others;
+    others_grow = λ v apart. grows v;
     nodes = λ p held. hold_more p w old new (made_cells w old.cells n) (ap (λ (q : Owned). q.heap) own.seen) (pass_made p fs w old.cells n o) held;
     counts = rise_to (cells_for n) (slots_of n) 0 (owned w old).paid (owned w new).paid (ap (λ (q : Owned). q.paid) own.seen);
   }
@@ -270,11 +271,12 @@ module _ (w : ℕ) (old new : Cells) (outer : Option ℕ) (ps : List (List ℕ �
         (λ j. is_own_scope_at w (e j) (made.place j)) ∙ ap (λ (o : Option PlainCell). option_map_or (is_own_scope w) o false) (get_last old.cells (scope_cell w outer ps) []) ∙ ap (λ b. b && true) (eqb_self w),
       )
 
-  pub scope_kept : (id : ℕ) → IsMade old new w id n → Made w old new id n → made_cells w old.cells n ≡ [] → Grows w old.cells new.cells → ((v : ℕ) → (w ≡ v → ⊥) → owned v new ≡ owned v old) → IsPlaceScope w old.cells outer → ArePairs w old.cells ps → (fs : List Forest) → Kept fs w old new
+  pub scope_kept : (id : ℕ) → IsMade old new w id n → Made w old new id n → made_cells w old.cells n ≡ [] → ((v : ℕ) → Grows v old.cells new.cells) → ((v : ℕ) → (w ≡ v → ⊥) → owned v new ≡ owned v old) → IsPlaceScope w old.cells outer → ArePairs w old.cells ps → (fs : List Forest) → Kept fs w old new
   scope_kept id made own none grows others o h fs = record {
-    confined = confined_more fs w old new (scope_cell w outer ps ∷ []) (scope_cells id made) grows (scope_fine fs grows o h);
-    grows = grows;
+    confined = confined_more fs w old new (scope_cell w outer ps ∷ []) (scope_cells id made) (grows w) (scope_fine fs (grows w) o h);
+    grows = grows w;
     others = others;
+    others_grow = λ v apart. grows v;
     nodes = λ p held. hold_more p w old new (made_cells w old.cells n) (ap (λ (q : Owned). q.heap) own.seen) (subst (AllByRecursion (λ (c : OwnCell). PassNodes p c.kind)) (sym none) tt) held;
     counts = rise_to (cells_for n) (slots_of n) 0 (owned w old).paid (owned w new).paid (ap (λ (q : Owned). q.paid) own.seen);
   }

@@ -428,10 +428,11 @@ module _ (w : ℕ) (cells : List PlainCell) (x : List ℕ) (v : Value) (fine : I
       by false b = written_fine
 
 -- what a write keeps
-pub put_kept : (fs : List Forest) (w : ℕ) (old new : Cells) → AreLawful old.cells → (x : List ℕ) (v : Value) (i : ℕ) → IsHeld w old.cells i → IsFine w old.cells v → IsPut old new i x v → SeesPut w old new i x v → Grows w old.cells new.cells → ((u : ℕ) → is_of_at u old.cells i ≡ false → owned u new ≡ owned u old) → Kept fs w old new
+pub put_kept : (fs : List Forest) (w : ℕ) (old new : Cells) → AreLawful old.cells → (x : List ℕ) (v : Value) (i : ℕ) → IsHeld w old.cells i → IsFine w old.cells v → IsPut old new i x v → SeesPut w old new i x v → ((v : ℕ) → Grows v old.cells new.cells) → ((u : ℕ) → is_of_at u old.cells i ≡ false → owned u new ≡ owned u old) → Kept fs w old new
 put_kept fs w old new laws x v i held fine is sees grows others = record {
-  confined = λ h. confined_changed fs w old new i (stored x v) (ap (λ (t : Cells). t.cells) is.done) grows h (λ d at. after d (h.each i d at));
-  grows = grows;
+  confined = λ h. confined_changed fs w old new i (stored x v) (ap (λ (t : Cells). t.cells) is.done) (grows w) h (λ d at. after d (h.each i d at));
+  grows = grows w;
+  others_grow = λ v apart. grows v;
   others = λ u apart. others u (not_others w u old.cells laws i held apart);
   nodes = λ p. seen_nodes p (visible_at w old.cells i) refl;
   counts = seen_counts (visible_at w old.cells i) refl;
@@ -450,8 +451,8 @@ put_kept fs w old new laws x v i held fine is sees grows others = record {
 
     after : (d : PlainCell) → IsFineFor fs w old.cells d → IsFineFor fs w new.cells (stored x v d)
     after d h =
-        let s = stored_fine w new.cells x v (fine_stays w old.cells new.cells grows v fine) d in
-        subst (IsFineFor fs w new.cells) (sym s.1) (other_pairs fs w new.cells d s.0 s.2 (cell_stays w old.cells new.cells grows fs d h))
+        let s = stored_fine w new.cells x v (fine_stays w old.cells new.cells (grows w) v fine) d in
+        subst (IsFineFor fs w new.cells) (sym s.1) (other_pairs fs w new.cells d s.0 s.2 (cell_stays w old.cells new.cells (grows w) fs d h))
 
 -- ## Values that are no cells
 

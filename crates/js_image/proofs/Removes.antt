@@ -202,10 +202,11 @@ module _ (fs : List Forest) (r : Rest) (w : ℕ) (old : Cells) (laws : AreLawful
       by there false unseen = ap (λ a. delete a x st go) (host_link w old.cells laws i (permitted_else w old.cells i held unseen))
 
 -- what taking out keeps
-pub remove_kept : (fs : List Forest) (w : ℕ) (old new : Cells) → AreLawful old.cells → (x : List ℕ) (i : ℕ) (answer : Bool) → IsHeld w old.cells i → IsRemoved old new i x answer → SeesRemoved w old new i x → Grows w old.cells new.cells → ((u : ℕ) → is_of_at u old.cells i ≡ false → owned u new ≡ owned u old) → Kept fs w old new
+pub remove_kept : (fs : List Forest) (w : ℕ) (old new : Cells) → AreLawful old.cells → (x : List ℕ) (i : ℕ) (answer : Bool) → IsHeld w old.cells i → IsRemoved old new i x answer → SeesRemoved w old new i x → ((v : ℕ) → Grows v old.cells new.cells) → ((u : ℕ) → is_of_at u old.cells i ≡ false → owned u new ≡ owned u old) → Kept fs w old new
 remove_kept fs w old new laws x i answer held is sees grows others = record {
-  confined = λ h. confined_changed fs w old new i (without x) (ap (λ (t : Cells). t.cells) is.done) grows h (λ d at. after d (is_length_of x d) (h.each i d at));
-  grows = grows;
+  confined = λ h. confined_changed fs w old new i (without x) (ap (λ (t : Cells). t.cells) is.done) (grows w) h (λ d at. after d (is_length_of x d) (h.each i d at));
+  grows = grows w;
+  others_grow = λ v apart. grows v;
   others = λ u apart. others u (not_others w u old.cells laws i held apart);
   nodes = λ p. seen_nodes p (visible_at w old.cells i) refl;
   counts = seen_counts (visible_at w old.cells i) refl;
@@ -223,8 +224,8 @@ remove_kept fs w old new laws x i answer held is sees grows others = record {
     seen_counts false e = subst (CountsRise (owned w old).paid) (sym (ap (λ (o : Owned). o.paid) (stays e))) (rise_same (owned w old).paid)
 
     after : (d : PlainCell) (b : Bool) → IsFineFor fs w old.cells d → IsFineFor fs w new.cells (if b then d else record d { pairs = remove_entry (bytes_eq x) d.pairs })
-    after d true h = cell_stays w old.cells new.cells grows fs d h
-    after d false h = other_pairs fs w new.cells d (remove_entry (bytes_eq x) d.pairs) (λ p. removed_fine w new.cells x d.pairs p) (cell_stays w old.cells new.cells grows fs d h)
+    after d true h = cell_stays w old.cells new.cells (grows w) fs d h
+    after d false h = other_pairs fs w new.cells d (remove_entry (bytes_eq x) d.pairs) (λ p. removed_fine w new.cells x d.pairs p) (cell_stays w old.cells new.cells (grows w) fs d h)
 
 -- from a primitive nothing is taken out
 pub delete_primitive : (w : ℕ) (cells : List PlainCell) (b : Value) → cell_in b ≡ None → (x : List ℕ) (s : State) (go : Bool → State → Plan) → delete (seen w cells b) x s go ≡ go true s

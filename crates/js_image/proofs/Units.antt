@@ -112,6 +112,7 @@ kept_then fs w one two three f g = record {
   confined = λ h. g.confined (f.confined h);
   grows = grows_then w one two three f.grows g.grows;
   others = λ v apart. g.others v apart ∙ f.others v apart;
+  others_grow = λ v apart. grows_then v one two three (f.others_grow v apart) (g.others_grow v apart);
   nodes = λ p h. g.nodes p (f.nodes p h);
   counts = rise_then (owned w one).paid (owned w two).paid (owned w three).paid f.counts g.counts;
 }

@@ -99,7 +99,7 @@ module _ (fs : List Forest) (w : ℕ) (old new : Cells) (laws : AreLawful old.ce
   set_cells : (h : ℕ) → holder old.cells i x ≡ Some h → new.cells ≡ changed old.cells h (written x v)
   set_cells h e = ap (λ (t : Cells). t.cells) done ∙ ap (λ (o : Option ℕ). option_map_or (λ k. changed old.cells k (written x v)) o old.cells) e
 
-  pub set_kept : IsOwnScope w old.cells i → IsFine w old.cells v → SeesSet w old new i x v → Grows w old.cells new.cells → ((u : ℕ) → is_held_by u old.cells i x ≡ false → owned u new ≡ owned u old) → IsConfined fs w old → Kept fs w old new
+  pub set_kept : IsOwnScope w old.cells i → IsFine w old.cells v → SeesSet w old new i x v → ((v : ℕ) → Grows v old.cells new.cells) → ((u : ℕ) → is_held_by u old.cells i x ≡ false → owned u new ≡ owned u old) → IsConfined fs w old → Kept fs w old new
   set_kept own fine sees grows others confined = by (holder old.cells i x) refl
     where
       by : (o : Option ℕ) → holder old.cells i x ≡ o → Kept fs w old new
@@ -109,8 +109,9 @@ module _ (fs : List Forest) (w : ℕ) (old new : Cells) (laws : AreLawful old.ce
           let c = own_there fs no_rest w old confined laws x h a.own in
           let b : Assigned w old new h (own_set x (own_value w old.cells v)) = subst (λ (o : Option ℕ). IfSome o (λ k. is_own_scope_at w old.cells k ≡ true → Assigned w old new k (own_set x (own_value w old.cells v)))) e sees a.own.1 in
           record {
-            confined = λ k. confined_changed fs w old new h (written x v) (set_cells h e) grows k (λ d at. fine_set d at (k.each h d at));
-            grows = grows;
+            confined = λ k. confined_changed fs w old new h (written x v) (set_cells h e) (grows w) k (λ d at. fine_set d at (k.each h d at));
+            grows = grows w;
+            others_grow = λ v apart. grows v;
             others = λ u apart. others u (ap (λ (o : Option ℕ). option_map_or (is_of_at u old.cells) o false) e ∙ ap (λ (o : Option PlainCell). option_map_or (λ (d : PlainCell). is_of u d.owner) o false) c.1 ∙ not_anothers u w apart c.0 (both (is_of w c.0.owner) _ c.2).0);
             nodes = λ p. hold_same p w old new b.heap;
             counts = subst (CountsRise (owned w old).paid) (sym b.paid) (rise_same (owned w old).paid);
@@ -118,10 +119,10 @@ module _ (fs : List Forest) (w : ℕ) (old new : Cells) (laws : AreLawful old.ce
         where
           fine_set : (d : PlainCell) → slice_get old.cells h ≡ Some d → IsFineFor fs w old.cells d → IsFineFor fs w new.cells (written x v d)
           fine_set d at k =
-              let m = cell_stays w old.cells new.cells grows fs d k in
+              let m = cell_stays w old.cells new.cells (grows w) fs d k in
               record {
-                cell = λ b. record { up = (m.cell b).up; pairs = λ p. insert_fine w new.cells d.pairs x v ((m.cell b).pairs p) (fine_stays w old.cells new.cells grows v fine); fun = (m.cell b).fun };
-                scope = λ b. record { outer = (m.scope b).outer; pairs = insert_fine w new.cells d.pairs x v (m.scope b).pairs (fine_stays w old.cells new.cells grows v fine) };
+                cell = λ b. record { up = (m.cell b).up; pairs = λ p. insert_fine w new.cells d.pairs x v ((m.cell b).pairs p) (fine_stays w old.cells new.cells (grows w) v fine); fun = (m.cell b).fun };
+                scope = λ b. record { outer = (m.scope b).outer; pairs = insert_fine w new.cells d.pairs x v (m.scope b).pairs (fine_stays w old.cells new.cells (grows w) v fine) };
               }
 
   module _ (r : Rest) (confined : IsConfined fs w old) (sees : SeesSet w old new i x v) where

@@ -1,6 +1,6 @@
 -- Arrays and Bunches as natives ask for them, and the names that `for-in` lists.
 use Rattle.std.specs.Prelude.{IfSome, ℕ, zero, suc, ◌&&◌, filter, length, map, Bool, false, List, Option, None, Some, if◌then◌else◌, is_some, slice_get, unwrap_or}
-use Rattle.std.specs.List.{IsDistinct, list_any}
+use Rattle.std.specs.List.{IsDistinct, list_any, range_with_len}
 use Rattle.std.specs.Str.{bytes_eq}
 use Rattle.std.specs.Option.{option_and_then, option_map_or}
 use Rattle.store_cells.specs.declared.value.Value.{Value}
@@ -41,9 +41,13 @@ stored_references cells (value.Ref i) n =
     option_map_or (λ c. list_any (λ p. is_index_below n p.0 && is_reference p.1) c.pairs) (slice_get cells i) false
 stored_references cells _ n = false
 
--- how many own names of a value are indices below a number
+-- whether a cell has an index as an Array
+abbrev pub is_stored : List PlainCell → ℕ → ℕ → Bool
+is_stored cells i at = is_some (option_and_then (store.element at) (slice_get cells i))
+
+-- how many indices below a number are own names of a value that is an Array
 abbrev pub stored_count : List PlainCell → Value → ℕ → ℕ
-stored_count cells (value.Ref i) n = option_map_or (λ c. length (filter (λ p. is_index_below n p.0) c.pairs)) (slice_get cells i) 0
+stored_count cells (value.Ref i) n = length (filter (is_stored cells i) (range_with_len 0 n))
 stored_count cells _ n = 0
 
 -- the own names of a value differ

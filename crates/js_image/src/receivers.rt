@@ -1,5 +1,5 @@
 //! What natives ask of a value: an Array's length and elements, a Bunch's nodes, an own property.
-ghost use Rattle.std.specs.Prelude.{◌≡◌, ℕ, ◌-◌, ◌<◌, List, Option, Some, IfOk, IfSome, is_some, length, map, nat_eq};
+ghost use Rattle.std.specs.Prelude.{◌≡◌, ℕ, ◌-◌, ◌<◌, ◌≤◌, if◌then◌else◌, List, Option, Some, IfOk, IfSome, is_some, length, map, nat_eq};
 ghost use Rattle.std.specs.List.{IsDistinct, list_any, range_with_len};
 ghost use Rattle.std.specs.Option.{option_map};
 ghost use Rattle.js_tree.specs.Forest.{Forest};
@@ -12,7 +12,7 @@ ghost use Rattle.widget_meaning.specs.NativeForms as natives;
 ghost use Rattle.widget_meaning.specs.Properties as properties;
 ghost use Rattle.js_image.specs.Image.{Rest, all_seen, image, node_number, seen};
 ghost use Rattle.js_image.specs.Held.{AreFine, IsConfined, IsFine};
-ghost use Rattle.js_image.specs.Elements.{DifferAt, array_plan, own_place, stored_count, stored_element, stored_length, stored_nodes, stored_own, stored_references};
+ghost use Rattle.js_image.specs.Elements.{DifferAt, array_plan, is_stored, own_place, stored_count, stored_element, stored_length, stored_nodes, stored_own, stored_references};
 
 use crate::laws::lawful;
 use crate::reading::shared;
@@ -132,7 +132,8 @@ fn references_in(store: &Store, cell: CellId, len: u32) -> bool
     store.has_reference(cell, len)
 }
 
-/// How many indices below a length are no own names of an Array of the widget.
+/// How many indices below a length are no own names of an Array of the widget. It makes one look-up
+/// for each index.
 pub fn new_indexes(store: &Store, base: &Value, len: u32) -> u32
     requires { IsRefWithin (length store.now.cells) base.now }
     ensures { (fs : List Forest) (r : Rest) (w m : ℕ) → IsFine w store.now.cells base.now
@@ -140,24 +141,15 @@ pub fn new_indexes(store: &Store, base: &Value, len: u32) -> u32
         → result ≡ changes.new_indexes (state.cell_at (image fs r w store.now) (own_place w store.now.cells base.now)) len }
 {
     lawful(store);
-    left(len, count_of(store, base, len))
+    let count = count_of(store, base, len);
+    len.saturating_sub(count)
 }
 
-// What is left of a count.
-fn left(len: u32, count: usize) -> u32
-    ensures { result ≡ len - count }
-{
-    if count >= len as usize {
-        0
-    } else {
-        len - count as u32
-    }
-}
-
-// How many own names of a value are indices below a length.
-fn count_of(store: &Store, base: &Value, len: u32) -> usize
+// How many indices below a length are own names of a value that is an Array.
+fn count_of(store: &Store, base: &Value, len: u32) -> u32
     requires { IsRefWithin (length store.now.cells) base.now }
-    ensures { result ≡ stored_count store.now.cells base.now len }
+    ensures count { result ≡ stored_count store.now.cells base.now len }
+    ensures differ { DifferAt store.now.cells base.now }
 {
     match base {
         Value::Ref(cell) => count_in(store, *cell, len),
@@ -165,11 +157,30 @@ fn count_of(store: &Store, base: &Value, len: u32) -> usize
     }
 }
 
-fn count_in(store: &Store, cell: CellId, len: u32) -> usize
+fn count_in(store: &Store, cell: CellId, len: u32) -> u32
     requires { cell < length store.now.cells }
-    ensures { result ≡ stored_count store.now.cells (Value.Ref cell) len }
+    ensures count { result ≡ stored_count store.now.cells (Value.Ref cell) len }
+    ensures differ { DifferAt store.now.cells (Value.Ref cell) }
 {
-    store.count_below(cell, len)
+    store.names_differ(cell);
+    let mut count = 0;
+    for at in 0..len {
+        count += count_at(store, cell, at);
+    }
+    count
+}
+
+// How many names of an Array are one index: one or none.
+fn count_at(store: &Store, cell: CellId, at: u32) -> u32
+    requires cell { cell < length store.now.cells }
+    requires index { at < 4294967295 }
+    ensures count { result ≡ (if is_stored store.now.cells cell at then 1 else 0) }
+    ensures small { result ≤ 1 }
+{
+    match store.element(cell, at) {
+        None => 0,
+        Some(_) => 1,
+    }
 }
 
 /// The page nodes of a value that is a Bunch of the widget, in its order, none exactly for all else.

@@ -29,24 +29,24 @@ pub(crate) fn after_try(
     w: u32,
     codes: &Vec<Code>,
     store: &mut Store,
-    id: StmtId,
-    place: Place,
+    at: (StmtId, Place),
     how: Completion,
 ) -> Result<Next, Memory>
     requires widget { w < 32 }
-    requires place { IsStmtAt (trees_of codes.now.items) w store.old.cells id place }
+    requires place { IsStmtAt (trees_of codes.now.items) w store.old.cells at.0 at.1 }
     requires how { FineCompletion w store.old.cells how }
     ensures plan { IfOk result (Plans (trees_of codes.now.items) w store.old store.new
-        (taken (trees_of codes.now.items) w store.old.cells (Frame.Statement (StatementFrame.Caught id place)) (completion_of w store.old.cells how))) }
+        (taken (trees_of codes.now.items) w store.old.cells (Frame.Statement (StatementFrame.Caught at.0 at.1)) (completion_of w store.old.cells how))) }
     ensures fine { IfOk result (FineNext (trees_of codes.now.items) w store.new.cells) }
     ensures near { IfOk result (λ n. next_free n ≤ 2) }
     ensures kept { Kept (trees_of codes.now.items) w store.old store.new }
 {
+    let (id, place) = at;
     match how {
         Completion::Throw(value) => {
             match catch_name(tree_at(codes, place.code), id) {
                 None => Ok(Next::Give(Completion::Throw(value))),
-                Some(name) => in_catch(alloc, w, codes, store, id, name, value, place),
+                Some(name) => in_catch(alloc, w, codes, store, (id, place), (name, value)),
             }
         }
         how => Ok(Next::Give(how)),
@@ -59,20 +59,20 @@ fn in_catch(
     w: u32,
     codes: &Vec<Code>,
     store: &mut Store,
-    id: StmtId,
-    name: &Text,
-    value: Value,
-    place: Place,
+    at: (StmtId, Place),
+    caught: (&Text, Value),
 ) -> Result<Next, Memory>
     requires widget { w < 32 }
-    requires place { IsStmtAt (trees_of codes.now.items) w store.old.cells id place }
-    requires value { IsFine w store.old.cells value }
+    requires place { IsStmtAt (trees_of codes.now.items) w store.old.cells at.0 at.1 }
+    requires value { IsFine w store.old.cells caught.1 }
     ensures plan { IfOk result (Plans (trees_of codes.now.items) w store.old store.new
-        (statements.in_catch name.now (block_list (forest_at (trees_of codes.now.items) place.code) (Block.Catch id)) (seen w store.old.cells value) (place_of w store.old.cells place))) }
+        (statements.in_catch caught.0.now (block_list (forest_at (trees_of codes.now.items) at.1.code) (Block.Catch at.0)) (seen w store.old.cells caught.1) (place_of w store.old.cells at.1))) }
     ensures fine { IfOk result (FineNext (trees_of codes.now.items) w store.new.cells) }
     ensures near { IfOk result (λ n. next_free n ≤ 2) }
     ensures kept { Kept (trees_of codes.now.items) w store.old store.new }
 {
+    let (id, place) = at;
+    let (name, value) = caught;
     let pairs = vec![in alloc; (name.share()?, value)]?;
     match make_scope(alloc, store, w, place.scope, pairs)? {
         Made::Stop(cause) => Ok(Next::Stop(cause)),

@@ -81,14 +81,14 @@ fn take_value(
     match frame {
         StatementFrame::Only => Ok(Next::Give(Completion::Normal)),
         StatementFrame::Declared(id, n, place) => {
-            Ok(after_declaration(w, codes, store, id, n, value, place))
+            Ok(after_declaration(w, codes, store, (id, n, place), value))
         }
         StatementFrame::First(id, n, place) => Ok(first_from(codes, id, n, place)),
         StatementFrame::Last(id, n, place) => Ok(last_from(codes, id, n, place)),
         StatementFrame::Branch(id, place) => Ok(branch(id, &value, place)),
         StatementFrame::Test(id, place) => Ok(after_test(id, &value, place)),
         StatementFrame::ForInOver(id, place) => {
-            after_object(alloc, w, codes, store, id, value, place)
+            after_object(alloc, w, codes, store, (id, place), value)
         }
         StatementFrame::ToReturn => Ok(Next::Give(Completion::Return(value))),
         StatementFrame::ToThrow => Ok(Next::Give(Completion::Throw(value))),
@@ -130,7 +130,7 @@ fn take_other(
             Ok(after_pass(codes, w, store, names, place, how))
         }
         StatementFrame::SwitchEnd => Ok(Next::Give(after_switch(how))),
-        StatementFrame::Caught(id, place) => after_try(alloc, w, codes, store, id, place, how),
+        StatementFrame::Caught(id, place) => after_try(alloc, w, codes, store, (id, place), how),
         StatementFrame::Finally(id, place) => Ok(after_catch(codes, id, place, how)),
         StatementFrame::LastEnd(before) => Ok(Next::Give(after_finally(before, how))),
         // The others wait for a value, and pass all else on.
@@ -178,20 +178,19 @@ fn after_declaration(
     w: u32,
     codes: &Vec<Code>,
     store: &mut Store,
-    id: StmtId,
-    n: usize,
+    at: (StmtId, usize, Place),
     value: Value,
-    place: Place,
 ) -> Next
     requires confined { IsConfined (trees_of codes.now.items) w store.old }
-    requires place { IsStmtAt (trees_of codes.now.items) w store.old.cells id place }
+    requires place { IsStmtAt (trees_of codes.now.items) w store.old.cells at.0 at.2 }
     requires value { IsFine w store.old.cells value }
     ensures plan { Plans (trees_of codes.now.items) w store.old store.new
-        (taken (trees_of codes.now.items) w store.old.cells (Frame.Statement (StatementFrame.Declared id n place)) (meaning.Is (seen w store.old.cells value))) result }
+        (taken (trees_of codes.now.items) w store.old.cells (Frame.Statement (StatementFrame.Declared at.0 at.1 at.2)) (meaning.Is (seen w store.old.cells value))) result }
     ensures fine { FineNext (trees_of codes.now.items) w store.new.cells result }
     ensures near { next_free result ≤ 1 }
     ensures kept { Kept (trees_of codes.now.items) w store.old store.new }
 {
+    let (id, n, place) = at;
     match declaration_at(tree_at(codes, place.code), id, n) {
         None => Next::Give(Completion::Normal),
         Some(decl) => {

@@ -32,16 +32,15 @@ pub(crate) fn after_object(
     w: u32,
     codes: &Vec<Code>,
     store: &mut Store,
-    id: StmtId,
+    at: (StmtId, Place),
     object: Value,
-    place: Place,
 ) -> Result<Next, Memory>
     requires widget { w < 32 }
     requires confined { IsConfined (trees_of codes.now.items) w store.old }
-    requires place { IsStmtAt (trees_of codes.now.items) w store.old.cells id place }
+    requires place { IsStmtAt (trees_of codes.now.items) w store.old.cells at.0 at.1 }
     requires object { IsFine w store.old.cells object }
     ensures plan { IfOk result (λ n. Plans (trees_of codes.now.items) w store.old store.new
-        (taken (trees_of codes.now.items) w store.old.cells (Frame.Statement (StatementFrame.ForInOver id place)) (meaning.Is (seen w store.old.cells object))) n) }
+        (taken (trees_of codes.now.items) w store.old.cells (Frame.Statement (StatementFrame.ForInOver at.0 at.1)) (meaning.Is (seen w store.old.cells object))) n) }
     ensures fine { IfOk result (λ n. FineNext (trees_of codes.now.items) w store.new.cells n) }
     ensures near { IfOk result (λ n. next_free n ≤ 3) }
     ensures kept { Kept (trees_of codes.now.items) w store.old store.new }
@@ -49,7 +48,7 @@ pub(crate) fn after_object(
     match object {
         Value::Undefined => throw(alloc, w, codes, store, Fault::E1),
         Value::Null => throw(alloc, w, codes, store, Fault::E1),
-        object => over_names(alloc, w, codes, store, id, object, place),
+        object => over_names(alloc, w, codes, store, at, object),
     }
 }
 
@@ -59,19 +58,19 @@ fn over_names(
     w: u32,
     codes: &Vec<Code>,
     store: &Store,
-    id: StmtId,
+    at: (StmtId, Place),
     object: Value,
-    place: Place,
 ) -> Result<Next, Memory>
     requires confined { IsConfined (trees_of codes.now.items) w store.now }
-    requires place { IsStmtAt (trees_of codes.now.items) w store.now.cells id place }
+    requires place { IsStmtAt (trees_of codes.now.items) w store.now.cells at.0 at.1 }
     requires object { IsFine w store.now.cells object }
     requires some { meaning.is_nothing (seen w store.now.cells object) ≡ false }
     ensures plan { IfOk result (λ n. Plans (trees_of codes.now.items) w store.now store.now
-        (taken (trees_of codes.now.items) w store.now.cells (Frame.Statement (StatementFrame.ForInOver id place)) (meaning.Is (seen w store.now.cells object))) n) }
+        (taken (trees_of codes.now.items) w store.now.cells (Frame.Statement (StatementFrame.ForInOver at.0 at.1)) (meaning.Is (seen w store.now.cells object))) n) }
     ensures fine { IfOk result (λ n. FineNext (trees_of codes.now.items) w store.now.cells n) }
     ensures near { IfOk result (λ n. next_free n ≤ 3) }
 {
+    let (id, place) = at;
     let names = for_in_names(alloc, store, &object)?;
     let count = names.len();
     let listed = Box::new(

@@ -1,5 +1,5 @@
 -- What is written of a value that is an object.
-use Rattle.std.proofs.Common.{◌≡◌, ℕ, suc, ◌<◌, List, [], length, refl, sym, ap, ◌∙◌, subst, Option, Some, None, Bool, true, false, if◌then◌else◌, slice_get, is_some}
+use Rattle.std.proofs.Common.{◌≡◌, ℕ, suc, List, [], refl, sym, ap, ◌∙◌, subst, Option, Some, None, Bool, true, false, if◌then◌else◌, slice_get, is_some}
 use Rattle.std.specs.Prelude.{◌&&◌, codes}
 use Rattle.std.specs.List.{filter}
 use Rattle.std.specs.Option.{option_map_or}
@@ -11,15 +11,15 @@ use Rattle.store_cells.specs.declared.value.Number.TheVariants as number
 use Rattle.store_cells.specs.declared.kind.Form.{Form}
 use Rattle.store_cells.specs.declared.kind.Form.TheVariants as form
 use Rattle.store_cells.specs.Cells as cells_of
-use Rattle.store_cells.specs.Cells.{Cells, PlainCell, is_array, is_bunch, is_visible, is_visible_form, own_count, widget_of}
+use Rattle.store_cells.specs.Cells.{Cells, PlainCell, is_array, is_bunch, is_visible_form, own_count, widget_of}
 use Rattle.object_store.specs.Owned as store
-use Rattle.object_store.specs.Owned.{but_length, own_kind, own_pairs, visible_at}
+use Rattle.object_store.specs.Owned.{but_length, own_kind, visible_at}
 use Rattle.widget_meaning.specs.Values as meaning
 use Rattle.widget_meaning.specs.OwnState as state
 use Rattle.widget_meaning.specs.OwnState.{Cell, Kind, Pairs, State, array_length, cell_at, kind_of}
 use Rattle.widget_meaning.specs.JsonTexts.{Written, NoJson, Writer, and_write, cell_text, elements_text, members_text, value_text, write}
 use Rattle.js_image.specs.Elements.{own_place}
-use Rattle.js_image.specs.Image.{Rest, image, meant, meant_kind, meant_pairs, seen, seen_pairs}
+use Rattle.js_image.specs.Image.{Rest, image, meant, meant_kind, seen, seen_pairs}
 use Rattle.js_image.specs.Held.{ArePairs, IsConfined, IsFine, IsHeld}
 use Rattle.js_image.specs.Laws.{AreLawful}
 use Rattle.js_image.proofs.Chains.{visible_form}

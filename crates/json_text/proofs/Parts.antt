@@ -1,5 +1,5 @@
 -- How the parts of an object or an array are written one after the other.
-use Rattle.std.proofs.Common.{◌≡◌, ℕ, zero, suc, ◌+◌, ◌-◌, ◌<◌, List, [], ◌∷◌, ◌++◌, length, refl, sym, ap, ◌∙◌, subst, Option, Some, None, Bool, true, false, arith, cond, if◌then◌else◌, slice_get, drop, map, unwrap_or}
+use Rattle.std.proofs.Common.{◌≡◌, ℕ, zero, suc, ◌+◌, List, [], ◌∷◌, ◌++◌, refl, sym, ap, ◌∙◌, Option, Some, None, Bool, true, false, arith, cond, slice_get, drop, map, unwrap_or}
 use Rattle.std.specs.Prelude.{codes}
 use Rattle.std.specs.List.{filter}
 use Rattle.std.specs.Option.{option_map}
@@ -14,7 +14,6 @@ use Rattle.widget_meaning.specs.JsonTexts.{Written, Wrote, NoJson, TooLong, Writ
 use Rattle.object_store.specs.Owned.{OwnValue, own_pairs, own_value}
 use Rattle.js_image.specs.Image.{meant, seen, seen_pairs}
 use Rattle.json_text.specs.Names.{comma, name_text}
-use Rattle.json_text.specs.Steps.{meant_step}
 
 -- one after the other
 and_then_write : (x : Written) (f g : List ℕ → Written) → and_write (and_write x f) g ≡ and_write x (λ t. and_write (f t) g)

@@ -8,7 +8,7 @@ use Rattle.store_cells.specs.Cells.{PlainCell}
 use Rattle.widget_meaning.specs.Values.{Value, Undefined}
 use Rattle.widget_meaning.specs.OwnState.{Pairs, State}
 use Rattle.widget_meaning.specs.NativeForms.{element}
-use Rattle.widget_meaning.specs.JsonTexts.{Written, Wrote, NoJson, TooLong, Writer, and_write, elements_text, value_text, write}
+use Rattle.widget_meaning.specs.JsonTexts.{Written, Wrote, NoJson, and_write, elements_text, value_text, write}
 use Rattle.js_image.specs.Held.{ArePairs, IsFine}
 use Rattle.json_text.specs.Names.{comma}
 use Rattle.json_text.specs.Objects.{pairs_at}

@@ -332,11 +332,12 @@ module _ (w : ℕ) (lt : w < 32) (old new : Cells) (p : Page) (ns : Vec ℕ Glob
   pub bunch_sound : (id : ℕ) → Made w old new id (fresh.Bunch ns) → Grows w old.cells new.cells → (l : Loop) → IsSound w old p l → IsSound w new p l
   bunch_sound id made grows l sound = sound_grows w old new p l sound grows (hold_more (owns p w) w old new (made_cells w old.cells (fresh.Bunch ns)) (ap (λ (o : Owned). o.heap) made.seen) (all_of_has (owns p w) ns.items own, tt) sound.holds.bunches)
 
-  pub bunch_kept : (id : ℕ) → host_count ≤ length old.cells → IsMade old new w id (fresh.Bunch ns) → Made w old new id (fresh.Bunch ns) → Grows w old.cells new.cells → ((v : ℕ) → (w ≡ v → ⊥) → owned v new ≡ owned v old) → KeepsStore w old new
+  pub bunch_kept : (id : ℕ) → host_count ≤ length old.cells → IsMade old new w id (fresh.Bunch ns) → Made w old new id (fresh.Bunch ns) → ((v : ℕ) → Grows v old.cells new.cells) → ((v : ℕ) → (w ≡ v → ⊥) → owned v new ≡ owned v old) → KeepsStore w old new
   bunch_kept id enough made own_made grows others = record {
-    confined = λ fs. new_confined w old new (fresh.Bunch ns) h id enough made grows fs tt;
-    grows = grows;
+    confined = λ fs. new_confined w old new (fresh.Bunch ns) h id enough made (grows w) fs tt;
+    grows = grows w;
     others = others;
+    others_grow = λ v apart. grows v;
     counts = rise_to 1 (length ns.items + 1) 0 (owned w old).paid (owned w new).paid (ap (λ (o : Owned). o.paid) own_made.seen);
   }
 

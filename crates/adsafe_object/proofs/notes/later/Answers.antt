@@ -3,7 +3,7 @@ use Rattle.std.specs.Int.{w64}
 use Rattle.std.proofs.lemmas.Int.{to_z-of_z}
 use mir.Val.{SFits}
 use Rattle.widget_meaning.specs.Values as meaning
-use Rattle.widget_meaning.specs.Values.{Undefined, Value}
+use Rattle.widget_meaning.specs.Values.{Undefined}
 use Rattle.widget_meaning.specs.Costs.{give, want}
 use Rattle.widget_meaning.specs.AdsafeNatives.{later, later_in, with_timer}
 use Rattle.js_image.specs.Image.{image, seen}

@@ -1,8 +1,10 @@
-use Rattle.std.proofs.Common.{filter, length}
-use Rattle.store_cells.specs.Arrays.{is_index_below}
-use Rattle.store_cells.specs.Cells.{PlainCell}
-use Rattle.js_image.proofs.Arrays.{at_number}
+use Rattle.std.proofs.Common.{◌+◌, ◌∙◌, arith, sym}
+use Rattle.js_image.specs.Elements.{is_stored}
+use Rattle.js_image.proofs.Indexes.{one_more}
 use Rattle.js_image.proofs.receivers.count_in.Goals as goal
 
-pub returns : goal.returns
-returns c = at_number (λ (d : PlainCell). length (filter (λ p. is_index_below c.args.len p.0) d.pairs)) c.count_below.result c.args.store.now.cells c.args.cell c.requires c.count_below.ensures
+pub loop-at-preserved : goal.loop-at-preserved
+loop-at-preserved c = (
+  (λ j. c.loop-at.invariant.0 j + c.count_at-count.ensures.count j) ∙ sym (one_more (is_stored c.args.store.now.cells c.args.cell) 0 c.loop-at.at c.loop-at.at (omega arith)),
+  omega (arith, c.loop-at.invariant.1, c.count_at-count.ensures.small),
+)

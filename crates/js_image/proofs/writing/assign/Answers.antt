@@ -15,4 +15,4 @@ returns-in-Some-clause-plan c = λ fs r d confined.
 
 pub returns-in-Some-clause-kept : goal.returns-in-Some-clause-kept
 returns-in-Some-clause-kept c = λ fs confined.
-    set_kept fs c.args.w c.args.store.now c.var_set.new.self c.lawful.ensures c.args.name.now c.args.value c.in-Some.from c.var_set.ensures.done (subst (λ (o : Option ℕ). IsPlaceScope c.args.w c.args.store.now.cells o) c.in-Some.is c.requires.scope) c.requires.value (c.var_set.ensures.own c.args.w) (c.var_set.ensures.grows c.args.w) c.var_set.ensures.others confined
+    set_kept fs c.args.w c.args.store.now c.var_set.new.self c.lawful.ensures c.args.name.now c.args.value c.in-Some.from c.var_set.ensures.done (subst (λ (o : Option ℕ). IsPlaceScope c.args.w c.args.store.now.cells o) c.in-Some.is c.requires.scope) c.requires.value (c.var_set.ensures.own c.args.w) c.var_set.ensures.grows c.var_set.ensures.others confined

@@ -10,4 +10,4 @@ returns-in-Ok-clause-done c = λ fs r. pushed_at fs r c.args.w c.args.store.now 
     (λ v. subst (λ x. Changed c.args.w c.args.store.now c.put_paid.new.self c.args.array 0 (own_put x (own_value c.args.w c.args.store.now.cells c.args.value))) c.in_ok-name.ensures (c.in-Ok.ensures.own c.args.w v))
 
 pub returns-in-Ok-clause-kept : goal.returns-in-Ok-clause-kept
-returns-in-Ok-clause-kept c = λ fs. push_kept fs c.args.w c.args.store.now c.put_paid.new.self c.lawful.ensures c.in_ok-name.name c.args.value c.args.array c.requires.held c.requires.value c.in-Ok.ensures.ok (c.in-Ok.ensures.own c.args.w) (c.in-Ok.ensures.grows c.args.w) c.in-Ok.ensures.others
+returns-in-Ok-clause-kept c = λ fs. push_kept fs c.args.w c.args.store.now c.put_paid.new.self c.lawful.ensures c.in_ok-name.name c.args.value c.args.array c.requires.held c.requires.value c.in-Ok.ensures.ok (c.in-Ok.ensures.own c.args.w) c.in-Ok.ensures.grows c.in-Ok.ensures.others

@@ -14,7 +14,7 @@ returns-in-Some-clause-plan c =
     let fs = trees_of c.args.codes.now.items in
     let w = c.args.w in
     let old = c.args.store.now in
-    let p = place_of w old.cells c.args.place in
-    let caught = catch_of (stmt_at (forest_at fs c.args.place.code) c.args.id) in
-    let e = subst (λ (f : Forest). catch_of (stmt_at f c.args.id) ≡ CatchAs c.in-Some.name.now (catch_body (catch_of (stmt_at f c.args.id)))) c.tree_at.ensures c.in-Some.ensures in
+    let p = place_of w old.cells c.args.at.1 in
+    let caught = catch_of (stmt_at (forest_at fs c.args.at.1.code) c.args.at.0) in
+    let e = subst (λ (f : Forest). catch_of (stmt_at f c.args.at.0) ≡ CatchAs c.in-Some.name.now (catch_body (catch_of (stmt_at f c.args.at.0)))) c.tree_at.ensures c.in-Some.ensures in
     IfOk-weaker c.in_catch.result _ _ (λ n h. λ r. h r ∙ sym (ap (λ q. statements.caught q p (completion_of w old.cells c.args.how) (image fs r w old)) e ∙ ap (λ o. statements.caught (CatchAs c.in-Some.name.now (catch_body caught)) p (completion_of w old.cells o) (image fs r w old)) c.in-Throw.is)) c.in_catch.ensures.plan

@@ -18,14 +18,14 @@ returns-clause-plan c =
     let fs = trees_of c.args.codes.now.items in
     let w = c.args.w in
     let cells = c.args.store.now.cells in
-    let i = stmt_at (forest_at fs c.args.place.code) in
-    let p = place_of w cells c.args.place in
+    let i = stmt_at (forest_at fs c.args.at.1.code) in
+    let p = place_of w cells c.args.at.1 in
     let v = seen w cells c.args.object in
-    let b = stmt_list (loop_body (i c.args.id)) in
+    let b = stmt_list (loop_body (i c.args.at.0)) in
     λ r.
     let s = image fs r w c.args.store.now in
     let n = c.in_ok-names.ensures fs r w c.requires.confined c.requires.object in
     let k : c.len-count.result ≡ length (names_of s v) = omega (arith, c.len-count.ensures, ap length n) in
     ap (λ (u : ForInNames). charge c.len-count.result s (for_in (seen w cells u.object) (variable_of (i u.id)) (drop u.at u.names.items) (stmt_list (loop_body (i u.id))) p s)) c.in_ok-listed.ensures.ok
-    ∙ ((λ j. charge (k j) s (for_in v (variable_of (i c.args.id)) (n j) b p s))
-    ∙ sym (ap (λ (t : Bool). if t then throw E1 s else charge (length (names_of s v)) s (for_in v (variable_of (i c.args.id)) (names_of s v) b p s)) c.requires.some))
+    ∙ ((λ j. charge (k j) s (for_in v (variable_of (i c.args.at.0)) (n j) b p s))
+    ∙ sym (ap (λ (t : Bool). if t then throw E1 s else charge (length (names_of s v)) s (for_in v (variable_of (i c.args.at.0)) (names_of s v) b p s)) c.requires.some))

@@ -1,18 +1,15 @@
-use Rattle.std.proofs.Common.{◌≡◌, ℕ, suc, ◌+◌, ◌-◌, List, [], sym, ap, ◌∙◌, subst, arith, Option, Some, None, true, false, option_copied, Vec, Global}
-use Rattle.std.specs.Prelude.{codes, nat_eq}
+use Rattle.std.proofs.Common.{◌≡◌, ℕ, suc, ◌+◌, ◌-◌, [], sym, ap, ◌∙◌, subst, arith, false, option_copied, Vec, Global}
 use Rattle.std.specs.List.{filter}
 use Rattle.std.proofs.lemmas.Result.{IfOk-weaker}
-use Rattle.store_cells.specs.declared.value.Value.{Value as StoreValue}
 use Rattle.store_cells.specs.declared.value.Value.TheVariants as value
 use Rattle.code_units.specs.Permitted.{is_permitted}
 use Rattle.widget_meaning.specs.Values as meaning
 use Rattle.widget_meaning.specs.OwnState.{cell_at}
-use Rattle.widget_meaning.specs.JsonTexts.{Written, Wrote, NoJson, TooLong, and_write, elements_text, members_text, value_text, write}
+use Rattle.widget_meaning.specs.JsonTexts.{Wrote, NoJson, TooLong, and_write, members_text, value_text, write}
 use Rattle.js_image.specs.Image.{image, seen, seen_pairs}
 use Rattle.js_image.specs.Held.{IsFine}
 use Rattle.native_forms.proofs.Seen.{ref_is_object}
 use Rattle.js_image.specs.Elements.{own_place}
-use Rattle.json_text.specs.Names.{name_text}
 use Rattle.json_text.specs.Objects.{pairs_at}
 use Rattle.json_text.specs.declared.steps.Step.TheVariants as step
 use Rattle.json_text.proofs.Bodies.{array_text, object_pairs, object_refers, object_text, other_text}

@@ -1,7 +1,7 @@
-use Rattle.std.proofs.Common.{◌≡◌, ℕ, ◌+◌, ◌-◌, ◌*◌, List, [], drop, Some, true}
+use Rattle.std.proofs.Common.{◌≡◌, ℕ, ◌+◌, ◌-◌, ◌*◌, List, [], Some, true}
 use Rattle.std.specs.Prelude.{nat_eq}
 use Rattle.js_tree.specs.Forest.{Forest}
-use Rattle.widget_meaning.specs.JsonTexts.{elements_text, members_text, value_text}
+use Rattle.widget_meaning.specs.JsonTexts.{elements_text, value_text}
 use Rattle.widget_meaning.specs.OwnState.{array_length, cell_at, kind_of}
 use Rattle.js_image.specs.Elements.{own_place}
 use Rattle.js_image.specs.Image.{Rest, image, seen}

@@ -1,9 +1,8 @@
-use Rattle.std.proofs.Common.{◌≡◌, ℕ, List, [], refl, sym, ap, ◌∙◌, arith}
+use Rattle.std.proofs.Common.{ℕ, List, refl, sym, ap, ◌∙◌, arith}
 use Rattle.widget_meaning.specs.Values as meaning
-use Rattle.widget_meaning.specs.OwnState.{State}
-use Rattle.widget_meaning.specs.Plan.{Halt, Plan, charge}
+use Rattle.widget_meaning.specs.Plan.{Halt, charge}
 use Rattle.widget_meaning.specs.Costs.{throw}
-use Rattle.widget_meaning.specs.JsonTexts.{Written, Wrote, NoJson, TooLong, give_json, to_json, value_text}
+use Rattle.widget_meaning.specs.JsonTexts.{Wrote, give_json, to_json, value_text}
 use Rattle.js_image.specs.Image.{image, seen}
 use Rattle.js_image.specs.declared.outcome.Fault.TheVariants as fault
 use Rattle.js_image.specs.declared.outcome.StopCause.TheVariants as cause

@@ -28,7 +28,7 @@ pub returns-in-Ok-clause-kept : goal.returns-in-Ok-clause-kept
 returns-in-Ok-clause-kept c =
     bunch_kept c.args.w c.requires.widget c.args.store.now c.make.new.self c.args.page.now c.args.nodes c.requires.own
     (is_new c.args.w c.args.store.now c.args.page.now c.requires.sound.0 c.requires.sound.1 c.args.nodes c.requires.own c.requires.apart)
-    c.in-Ok.id c.host_stays.ensures.enough c.in-Ok.ensures.ok c.in-Ok.ensures.own (c.in-Ok.ensures.grows c.args.w) c.in-Ok.ensures.others
+    c.in-Ok.id c.host_stays.ensures.enough c.in-Ok.ensures.ok c.in-Ok.ensures.own c.in-Ok.ensures.grows c.in-Ok.ensures.others
 
 pub returns-in_ok-stop_of-in-Err-clause-plan : goal.returns-in_ok-stop_of-in-Err-clause-plan
 returns-in_ok-stop_of-in-Err-clause-plan c =
