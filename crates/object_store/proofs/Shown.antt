@@ -1,5 +1,5 @@
 -- What a cell shows: its own names, its length and its elements.
-use Rattle.std.proofs.Common.{◌≡◌, ℕ, ◌<◌, List, [], ◌∷◌, length, map, refl, sym, ap, ◌∙◌, subst, Option, Some, None, Bool, true, false, eqb, cond, if◌then◌else◌, slice_get, is_some, zero, suc, filter}
+use Rattle.std.proofs.Common.{◌≡◌, ℕ, ◌<◌, List, [], ◌∷◌, length, map, refl, sym, ap, ◌∙◌, subst, Option, Some, None, Bool, true, false, eqb, if◌then◌else◌, slice_get, is_some, zero, suc}
 use Rattle.std.specs.Prelude.{IfSome, ◌&&◌, ◌||◌}
 use Rattle.std.specs.Fmt.{decimal}
 use Rattle.std.specs.List.{AllByRecursion, IsDistinct, list_any}
@@ -17,7 +17,7 @@ use Rattle.store_cells.specs.declared.counts.Counts.{Counts}
 use Rattle.store_cells.specs.Arrays.{is_index_below, is_key, is_reference, keys_of}
 use Rattle.store_cells.specs.Cells.{Cells, PlainCell, has_own, is_array, is_bunch, value_of}
 use Rattle.store_cells.specs.Numbered.{NumberedCell, cells_of, is_listed, name_at, named, numbered_element, numbered_length, plain}
-use Rattle.store_cells.specs.Holes.{is_element, is_reference_below}
+use Rattle.store_cells.specs.Holes.{is_reference_below}
 use Rattle.store_cells.specs.Shape.{IsShape, Known}
 use Rattle.store_cells.proofs.Look.{has_same, known_at, known_cells, look_none}
 use Rattle.store_cells.proofs.Indexed.{element_named}
@@ -42,15 +42,6 @@ any_keys d name =
 any_named : (names : List (List ℕ)) (n : ℕ) (es : List (ℕ × Value)) → list_any (is_reference_below names n) es ≡ list_any (λ (p : List ℕ × Value). is_index_below n p.0 && is_reference p.1) (named names es)
 any_named names n [] = refl
 any_named names n (e ∷ es) = ap (λ b. is_reference_below names n e || b) (any_named names n es)
-
-count_named : (names : List (List ℕ)) (n : ℕ) (es : List (ℕ × Value)) → length (filter (is_element names n) es) ≡ length (filter (λ (p : List ℕ × Value). is_index_below n p.0) (named names es))
-count_named names n [] = refl
-count_named names n (e ∷ es) = by (is_element names n e) (count_named names n es)
-  where
-    by : (b : Bool) → length (filter (is_element names n) es) ≡ length (filter (λ (p : List ℕ × Value). is_index_below n p.0) (named names es))
-        → length (cond b (e ∷ filter (is_element names n) es) (filter (is_element names n) es)) ≡ length (cond b ((name_at names e.0, e.1) ∷ filter (λ (p : List ℕ × Value). is_index_below n p.0) (named names es)) (filter (λ (p : List ℕ × Value). is_index_below n p.0) (named names es)))
-    by true h = ap suc h
-    by false h = h
 
 -- names differ as their numbers do
 name_apart : (names : List (List ℕ)) → IsTable names → (k : ℕ) → k < length names → (es : List (ℕ × Value)) → Known (length names) es → AllByRecursion (λ y. eqb k y ≡ false) (keys_of_map es) → AllByRecursion (λ y. bytes_eq (name_at names k) y ≡ false) (map (λ (p : List ℕ × Value). p.0) (named names es))
@@ -117,9 +108,6 @@ module _ (s : Cells) (names : List (List ℕ)) (cs : List NumberedCell) {raws : 
   -- elements below an index
   pub shown_references : (n : ℕ) (b : Bool) → b ≡ list_any (is_reference_below names n) c.entries → IfSome (slice_get s.cells i) (λ d. b ≡ list_any (λ (p : List ℕ × Value). is_index_below n p.0 && is_reference p.1) d.pairs)
   shown_references n b e = subst (λ (x : Option PlainCell). IfSome x (λ d. b ≡ list_any (λ (p : List ℕ × Value). is_index_below n p.0 && is_reference p.1) d.pairs)) (sym here) (e ∙ any_named names n c.entries)
-
-  pub shown_count : (n m : ℕ) → m ≡ length (filter (is_element names n) c.entries) → IfSome (slice_get s.cells i) (λ d. m ≡ length (filter (λ (p : List ℕ × Value). is_index_below n p.0) d.pairs))
-  shown_count n m e = subst (λ (x : Option PlainCell). IfSome x (λ d. m ≡ length (filter (λ (p : List ℕ × Value). is_index_below n p.0) d.pairs))) (sym here) (e ∙ count_named names n c.entries)
 
   pub shown_distinct : IsDistinct eqb (keys_of_map c.entries) → IfSome (slice_get s.cells i) (λ d. IsDistinct bytes_eq (map (λ (p : List ℕ × Value). p.0) d.pairs))
   shown_distinct h = subst (λ (x : Option PlainCell). IfSome x (λ d. IsDistinct bytes_eq (map (λ (p : List ℕ × Value). p.0) d.pairs))) (sym here) (named_distinct names shape.base.table c.entries known h)

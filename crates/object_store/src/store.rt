@@ -1,14 +1,14 @@
 //! The store.
-ghost use Rattle.std.specs.Prelude.{◌≡◌, ℕ, option_to_list, filter, map, ◌&&◌, ◌+◌, ◌<◌, ◌≤◌, [], ◌∷◌, ◌++◌, None, Some, true, false, is_some, nat_eq, length, vec_len, slice_get, option_copied, IfOk, IfErr, IfSome, OnErr, OnOk, MatchOption, MatchResult, replicate};
-ghost use Rattle.std.specs.Option.{option_and_then, option_map, option_map_or};
+ghost use Rattle.std.specs.Prelude.{◌≡◌, ℕ, option_to_list, map, ◌&&◌, ◌+◌, ◌<◌, ◌≤◌, [], ◌∷◌, ◌++◌, None, Some, true, false, is_some, nat_eq, length, slice_get, option_copied, IfOk, IfErr, IfSome, OnErr, OnOk};
+ghost use Rattle.std.specs.Option.{option_and_then, option_map};
 ghost use Rattle.object_store.specs.Owned.{Made, SeesPut, SeesRemoved, SeesSet, is_held_by, is_of_at, is_own_scope, node_of, nodes_in, own_cell, own_paid, own_scope, owned, scope_number, SeesPaid};
 ghost use Rattle.std.specs.List.{IsDistinct, list_any};
 ghost use Rattle.std.specs.Str.{bytes_eq};
-ghost use Rattle.store_cells.specs.Arrays.{is_index_below, is_reference, keys_of, length_in, length_name};
+ghost use Rattle.store_cells.specs.Arrays.{is_index_below, is_reference, keys_of};
 ghost use Rattle.store_cells.specs.Bunches.{IsBunch};
-ghost use Rattle.store_cells.specs.Cells.{Cells, PlainCell, chain, own_count, first_own, value_along, is_bunch_at, is_scope_at, is_visible, kind_of, function_in, native_in, node_in, proto_in, prototypes, holder, is_array, is_bunch, raw_cell, value_of};
+ghost use Rattle.store_cells.specs.Cells.{Cells, PlainCell, chain, own_count, first_own, value_along, is_bunch_at, is_scope_at, is_visible, kind_of, function_in, native_in, node_in, proto_in, prototypes, holder, is_array, is_bunch};
 ghost use Rattle.store_cells.specs.Shape.{AreElements, HasPrototype, IsLinked, IsNewForm, IsRefWithin};
-ghost use Rattle.store_cells.specs.Host.{first_store, global, nothing_paid, host_cells, host_count, is_permitted_cell, leads_on, place_of};
+ghost use Rattle.store_cells.specs.Host.{first_store, global, host_cells, host_count, is_permitted_cell, leads_on, place_of};
 ghost use Rattle.store_cells.specs.Costs.{Refuses, cost_refusal, slots_refusal, units_refusal, whole_refusal};
 ghost use Rattle.object_store.specs.Calls.{Adds, AreFirstPairs, HasLength, HasNode, IsCharged, IsMade, IsMakeable, IsPrototype, IsPut, IsRemoved, cells_by, keys_at, make_refusal, paid_by, put_refusal, read_start, readable, remove_refusal, var_done, IsPutPaid, paid_refusal};
 ghost use Rattle.object_store.specs.Elements.{HasHidden, array_length, bunch_nodes, element, reference_in, shows_own};
@@ -399,15 +399,6 @@ impl Store {
             result ≡ list_any (λ p. is_index_below n p.0 && is_reference p.1) c.pairs) }
     {
         table::cell(&self.cells, cell).has_reference(&self.names, n)
-    }
-
-    /// How many own names of a cell are indices below a number.
-    pub fn count_below(&self, cell: CellId, n: u32) -> usize
-        requires { cell < length self.now.cells }
-        ensures { IfSome (slice_get self.now.cells cell) (λ c.
-            result ≡ length (filter (λ p. is_index_below n p.0) c.pairs)) }
-    {
-        table::cell(&self.cells, cell).count_below(&self.names, n)
     }
 
     /// A law: the names of a cell differ.

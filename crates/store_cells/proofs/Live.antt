@@ -1,5 +1,5 @@
 -- A table with holes, without them.
-use Rattle.std.proofs.Common.{◌≡◌, ℕ, zero, suc, ◌+◌, ◌-◌, ◌<◌, ◌≤◌, List, [], ◌∷◌, ◌++◌, length, get_or, set, take, drop, refl, sym, ap, ◌∙◌, subst, Option, Some, None, arith, Bool, true, false, eqb, cond, if◌then◌else◌, true≢false, slice_get, filter, is_some, length-append}
+use Rattle.std.proofs.Common.{◌≡◌, ℕ, zero, suc, ◌+◌, ◌-◌, ◌<◌, ◌≤◌, List, [], ◌∷◌, ◌++◌, length, get_or, set, take, drop, refl, sym, ap, ◌∙◌, subst, Option, Some, None, arith, Bool, true, false, eqb, cond, if◌then◌else◌, true≢false, slice_get, is_some, length-append}
 use Rattle.std.specs.Prelude.{IfSome, option_to_list, ◌&&◌, ◌||◌, unwrap_or}
 use Rattle.std.specs.List.{AllByRecursion, IsDistinct, list_any, swap_remove}
 use Rattle.std.specs.Map.{keys_of, lookup, remove_entry}
@@ -327,31 +327,3 @@ module _ (p : ℕ × Value → Bool) where
       by : (b : Bool) → (b && p e) ≡ false → false ≡ list_any p (live es) → false ≡ list_any p (cond b (e ∷ live es) (live es))
       by true g rest = rest ∙ sym (ap (λ c. c || list_any p (live es)) g)
       by false g rest = rest
-
-  counted : (es : List (ℕ × Value)) (k : ℕ) → k < length es → length (filter p (live (before (suc k) es))) ≡ length (filter p (live (before k es))) + (if Passes es k then 1 else 0)
-  counted [] k lt = absurd (omega (arith, lt))
-  counted (e ∷ es) zero lt = by (is_name e.0)
-    where
-      by : (b : Bool) → length (filter p (cond b (e ∷ []) [])) ≡ 0 + (if b && p e then 1 else 0)
-      by true = pick (p e)
-        where
-          pick : (c : Bool) → length (cond c (e ∷ []) []) ≡ 0 + (if c then 1 else 0)
-          pick true = refl
-          pick false = refl
-      by false = refl
-  counted (e ∷ es) (suc k) lt = by (is_name e.0) (counted es k (omega (arith, lt)))
-    where
-      by : (b : Bool) → length (filter p (live (before (suc k) es))) ≡ length (filter p (live (before k es))) + (if Passes es k then 1 else 0)
-          → length (filter p (cond b (e ∷ live (before (suc k) es)) (live (before (suc k) es)))) ≡ length (filter p (cond b (e ∷ live (before k es)) (live (before k es)))) + (if Passes es k then 1 else 0)
-      by true rest = pick (p e)
-        where
-          pick : (c : Bool) → length (cond c (e ∷ filter p (live (before (suc k) es))) (filter p (live (before (suc k) es)))) ≡ length (cond c (e ∷ filter p (live (before k es))) (filter p (live (before k es)))) + (if Passes es k then 1 else 0)
-          pick true = omega (arith, rest)
-          pick false = rest
-      by false rest = rest
-
-  pub counted_more : (es : List (ℕ × Value)) (k n m : ℕ) → k < length es → n ≡ length (filter p (live (before k es))) → m ≡ (if Passes es k then 1 else 0) → n + m ≡ length (filter p (live (before (k + 1) es)))
-  counted_more es k n m lt e f = let one : k + 1 ≡ suc k = omega arith in (λ j. e j + f j) ∙ sym (ap (λ i. length (filter p (live (before i es)))) one ∙ counted es k lt)
-
-  pub counted_all : (es : List (ℕ × Value)) (k n : ℕ) → length es ≡ k → n ≡ length (filter p (live (before k es))) → n ≡ length (filter p (live es))
-  counted_all es k n e h = h ∙ ap (λ i. length (filter p (live (before i es)))) (sym e) ∙ ap (λ l. length (filter p (live l))) (before_all es)

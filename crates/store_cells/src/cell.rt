@@ -1,11 +1,11 @@
 //! A cell by the numbers of its names.
-ghost use Rattle.std.specs.Prelude.{◌≡◌, ℕ, suc, List, [], None, Some, true, false, is_some, nat_eq, if◌then◌else◌, OnErr, OnOk, option_copied, option_map, slice_get, IfSome, ◌<◌, ◌≤◌, length, filter, IfOk};
+ghost use Rattle.std.specs.Prelude.{◌≡◌, ℕ, suc, List, [], None, Some, true, false, is_some, nat_eq, if◌then◌else◌, OnErr, OnOk, option_copied, option_map, slice_get, IfSome, ◌<◌, length, IfOk};
 ghost use Rattle.std.specs.List.{IsDistinct, list_any};
 ghost use Rattle.std.specs.Map.{keys_of as numbers_of, lookup};
 ghost use Rattle.std.specs.Option.{option_map_or};
 ghost use Rattle.store_cells.specs.Arrays.{count_value, keys_of, length_in};
 ghost use Rattle.store_cells.specs.Cells.{is_array, is_scope, writer_in};
-ghost use Rattle.store_cells.specs.Holes.{is_element, is_reference_below};
+ghost use Rattle.store_cells.specs.Holes.{is_reference_below};
 ghost use Rattle.store_cells.specs.Numbered.{NumberedCell, element_plan, first_numbered, found_in, is_length_in, is_listed, node_head, numbered_cut, numbered_element, numbered_has, numbered_held, numbered_length, numbered_two, numbered_without, numbered_written, own_place, plain, plan_of};
 ghost use Rattle.store_cells.specs.Shape.{IsIndexed, Known};
 
@@ -302,13 +302,6 @@ impl Cell {
         ensures { result ≡ list_any (is_reference_below names.now n) self.now.entries }
     {
         pairs::has_reference(&self.table, names, n)
-    }
-
-    /// How many elements stand below an index.
-    pub fn count_below(&self, names: &Names, n: u32) -> usize
-        ensures { result ≡ length (filter (is_element names.now n) self.now.entries) }
-    {
-        pairs::count_below(&self.table, names, n)
     }
 
     /// A law: its names differ.

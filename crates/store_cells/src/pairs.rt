@@ -5,10 +5,9 @@ ghost use Rattle.std.specs.BTreeMap.{btree_map_len};
 ghost use Rattle.std.specs.List.{IsDistinct, list_any};
 ghost use Rattle.std.specs.Map.{keys_of as numbers_of, lookup, remove_entry};
 ghost use Rattle.std.specs.Option.{option_map_or};
-ghost use Rattle.keyed_names.specs.Interned.{IsTable};
 ghost use Rattle.store_cells.specs.Arrays.{is_below, is_index_below};
 ghost use Rattle.store_cells.specs.Numbered.{found_in, live, name_at, noted, noted_below};
-ghost use Rattle.store_cells.specs.Holes.{IsFull, IsNonePast, IsPoppedPast, StandsAt, is_element, is_name, is_reference_below, listed_in, listed_names, place_key};
+ghost use Rattle.store_cells.specs.Holes.{IsFull, IsNonePast, IsPoppedPast, StandsAt, is_name, is_reference_below, listed_in, listed_names, place_key};
 ghost use Rattle.store_cells.specs.Shape.{IsIndexed, Known};
 
 use crate::value::Value;
@@ -206,33 +205,6 @@ pub(crate) fn has_reference(table: &IndexMap<u32, Value, NumberKeys>, names: &Na
         }
     }
     false
-}
-
-// How many elements below an index stand at a place: one or none.
-fn count_element(
-    table: &IndexMap<u32, Value, NumberKeys>,
-    names: &Names,
-    n: u32,
-    place: usize,
-) -> usize
-    ensures count { result ≡ (if option_map_or (λ e. is_name e.0 && is_element names.now n e) (slice_get table.now.entries place) false then 1 else 0) }
-    ensures small { result ≤ 1 }
-{
-    match table.get_index(place) {
-        Some((k, _value)) if *k < FIRST_HOLE && is_index_below(names, *k, n) => 1,
-        _ => 0,
-    }
-}
-
-/// How many elements stand below an index.
-pub(crate) fn count_below(table: &IndexMap<u32, Value, NumberKeys>, names: &Names, n: u32) -> usize
-    ensures { result ≡ length (filter (is_element names.now n) (live table.now.entries)) }
-{
-    let mut count = 0;
-    for place in 0..table.len() {
-        count += count_element(table, names, n, place);
-    }
-    count
 }
 
 /// Takes a name out. It leaves a hole, where there is memory for one and it is not the last; once more
