@@ -23,7 +23,7 @@ use object_store::{NativeId, Store, Value};
 use std::alloc::Global;
 
 /// Calls a native of arrays, or the `toString` of arrays, for a widget as owner: `this` is the Global
-/// cell for a plain call. The answer is the row of docs/LANGUAGE.md, "Arrays"; the unit of the native
+/// cell for a plain call. The answer is the row of docs/LANGUAGE.md, "Natives"; the unit of the native
 /// was taken before. What is charged and paid comes before any change, and where fuel is wanting
 /// nothing changes. After `Memory` the widget keeps what stands in `Kept`, and nothing more is said.
 pub fn call(

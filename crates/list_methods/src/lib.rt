@@ -1,4 +1,4 @@
-//! The natives of arrays (docs/LANGUAGE.md, "Arrays"), each as the meaning of scripts has it.
+//! The natives of arrays (docs/LANGUAGE.md, "Natives"), each as the meaning of scripts has it.
 #![tactic(auto)]
 
 mod array;
