@@ -207,6 +207,20 @@ own_ref w cells (value.Ref j) st k h (Some i) e = by (visible_at w cells j) refl
     by true s = ap (λ b. meant (if b then store.Own (own_count w cells j) else store.Other j)) s
     by false s = absurd (none_some (sym (ap (λ b. kind_of st (meant (if b then store.Own (own_count w cells j) else store.Other j))) s) ∙ h))
 
+-- and its cell is one of the widget's
+pub own_cell : (w : ℕ) (cells : List PlainCell) (v : Value) (st : State) (k : Kind) → kind_of st (seen w cells v) ≡ Some k → IsFine w cells v → (o : Option ℕ) → o ≡ cell_in v → IfSome o (λ i. (i < length cells) × (visible_at w cells i ≡ true))
+own_cell w cells v st k h fine None e = tt
+own_cell w cells value.Undefined st k h fine (Some i) e = absurd (none_some (sym e))
+own_cell w cells value.Null st k h fine (Some i) e = absurd (none_some (sym e))
+own_cell w cells (value.Bool b) st k h fine (Some i) e = absurd (none_some (sym e))
+own_cell w cells (value.Num n) st k h fine (Some i) e = absurd (none_some (sym e))
+own_cell w cells (value.Text t) st k h fine (Some i) e = absurd (none_some (sym e))
+own_cell w cells (value.Ref j) st k h fine (Some i) e = subst (λ n. (n < length cells) × (visible_at w cells n ≡ true)) (some_same j i (sym e)) (fine.0, by (visible_at w cells j) refl)
+  where
+    by : (b : Bool) → visible_at w cells j ≡ b → visible_at w cells j ≡ true
+    by true s = s
+    by false s = absurd (none_some (sym (ap (λ b. kind_of st (meant (if b then store.Own (own_count w cells j) else store.Other j))) s) ∙ h))
+
 -- what holds whatever is answered
 pub on_err : {A E : Type 0} {P : Type 0} (r : Result A E) → P → OnErr r P
 on_err (Ok a) p = tt

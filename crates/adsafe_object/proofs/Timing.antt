@@ -3,7 +3,7 @@ use Rattle.std.proofs.Common.{◌≡◌, ℕ, ℤ, List, length, refl, sym, subs
 use Rattle.js_tree.specs.Forest.{Forest}
 use Rattle.store_cells.specs.declared.value.Value.{Value as StoreValue}
 use Rattle.store_cells.specs.declared.value.Value.TheVariants as value
-use Rattle.store_cells.specs.Cells.{Cells, own_count}
+use Rattle.store_cells.specs.Cells.{Cells, PlainCell, own_count}
 use Rattle.widget_meaning.specs.Values as meaning
 use Rattle.widget_meaning.specs.Values.{Undefined}
 use Rattle.widget_meaning.specs.OwnState.{State}
@@ -17,6 +17,11 @@ use Rattle.js_image.proofs.Grown.{kept_same}
 use Rattle.js_values.specs.declared.outcome.NativeOut.TheVariants as native
 use Rattle.adsafe_object.specs.Ends.{EndsNoted}
 use Rattle.adsafe_object.specs.Notes.{Notes, noted}
+use Rattle.adsafe_object.specs.Timers.{AsksOwn}
+
+-- nothing is asked for
+pub unasked : (w : ℕ) (cells : List PlainCell) (asked : Option (ℕ × ℤ)) → asked ≡ None → AsksOwn w cells asked
+unasked w cells asked none = subst (AsksOwn w cells) (sym none) tt
 
 module _ (s : Cells) (w waiting : ℕ) (f ms : StoreValue) (log : List (List ℕ)) (posts : List (List ℕ × List ℕ)) where
   abbrev with_ask : Option (ℕ × ℤ) → Notes

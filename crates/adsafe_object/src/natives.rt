@@ -8,6 +8,7 @@ ghost use Rattle.js_image.specs.Held.{AreFine, Kept};
 ghost use Rattle.native_forms.specs.Receivers.{IsReceiver, receiver};
 ghost use Rattle.adsafe_object.specs.Ends.{MeetsNoted};
 ghost use Rattle.adsafe_object.specs.Part.{is_part};
+ghost use Rattle.adsafe_object.specs.Timers.{AsksOwn};
 
 use crate::notes::{later, log as log_value, post};
 use crate::objects::{create, is_array, keys};
@@ -21,7 +22,7 @@ use object_store::{CellId, NativeId, Store, Value};
 use std::alloc::Global;
 
 /// Calls a native of `ADSAFE`, or `hasOwnProperty`, whose unit was taken: the answer is the row of the
-/// language. `waiting` timers wait; what `later` asks for is left in `asked`, `log` is the widget's log,
+/// language. `waiting` timers wait; what `later` asks for is left in `asked`, with a function of the widget; `log` is the widget's log,
 /// and `posts` are the posts that it has kept, each with receiver and text.
 pub fn call(
     alloc: Global,
@@ -41,6 +42,7 @@ pub fn call(
     requires receiver { IsReceiver (number_in owner) store.old.cells this.now }
     requires args { AreFine (number_in owner) store.old.cells args.now }
     requires unasked { asked.old ≡ None }
+    ensures own { AsksOwn (number_in owner) store.new.cells asked.new }
     ensures native { IfOk result (λ o.
         MeetsNoted (number_in owner) waiting store.old store.new meter.old meter.new
         (record { log = log.old.items; posts = posts.old.items; asked = None })
@@ -75,6 +77,7 @@ fn run(
     requires receiver { IsReceiver w store.old.cells this.now }
     requires args { AreFine w store.old.cells args.now }
     requires unasked { asked.old ≡ None }
+    ensures own { AsksOwn w store.new.cells asked.new }
     ensures native { IfOk result (λ o.
         MeetsNoted w waiting store.old store.new meter.old meter.new
         (record { log = log.old.items; posts = posts.old.items; asked = None })

@@ -1,8 +1,9 @@
 //! Natives that change what is kept for a widget beside its store: the log, posts and timers.
-ghost use Rattle.std.specs.Prelude.{◌≡◌, ◌+◌, ◌<◌, ℕ, List, [], ◌∷◌, None, IfOk, IfSome, OnErr, is_some, length};
+ghost use Rattle.std.specs.Prelude.{◌≡◌, ◌+◌, ◌<◌, ℕ, List, [], ◌∷◌, None, IfOk, IfSome, OnErr, is_some, length, true};
 ghost use Rattle.js_tree.specs.Forest.{Forest};
 ghost use Rattle.store_cells.specs.Cells.{PlainCell, own_count};
 ghost use Rattle.store_cells.specs.Shape.{IsRefWithin};
+ghost use Rattle.object_store.specs.Owned.{visible_at};
 ghost use Rattle.widget_meaning.specs.OwnState.{State};
 ghost use Rattle.widget_meaning.specs.Plan.{Plan};
 ghost use Rattle.widget_meaning.specs.Properties as properties;
@@ -16,7 +17,7 @@ ghost use Rattle.js_image.specs.Reads.{cell_in};
 ghost use Rattle.js_image.specs.Plans.{paid_plan};
 ghost use Rattle.adsafe_object.specs.Ends.{EndsNoted, MeetsNoted};
 ghost use Rattle.adsafe_object.specs.Names.{text_plan};
-ghost use Rattle.adsafe_object.specs.Timers.{milliseconds};
+ghost use Rattle.adsafe_object.specs.Timers.{AsksOwn, milliseconds};
 
 use code_units::{Memory, Text};
 use js_image::{Callee, Fault, Paid, StopCause, callee, pay_units};
@@ -160,7 +161,7 @@ fn keep_post(
     }
 }
 
-/// `later(f, ms)`: asks for a timer. `waiting` timers wait already.
+/// `later(f, ms)`: asks for a timer of a function of the widget. `waiting` timers wait already.
 pub(crate) fn later(
     store: &Store,
     w: u32,
@@ -171,7 +172,8 @@ pub(crate) fn later(
 ) -> NativeOut
     requires func { IsFine w store.now.cells func.now }
     requires unasked { asked.old ≡ None }
-    ensures { (log : List (List ℕ)) (posts : List (List ℕ × List ℕ)) →
+    ensures own { AsksOwn w store.now.cells asked.new }
+    ensures native { (log : List (List ℕ)) (posts : List (List ℕ × List ℕ)) →
         EndsNoted w waiting store.now store.now
         (record { log = log; posts = posts; asked = None }) (record { log = log; posts = posts; asked = asked.new })
         (λ d s. means.later (seen w store.now.cells func.now) (seen w store.now.cells ms.now) s) result }
@@ -196,6 +198,8 @@ fn own_function(store: &Store, v: &Value) -> Option<CellId>
         → properties.is_own_function (image fs r w store.now) (seen w store.now.cells v.now) ≡ is_some result }
     ensures cell { (w : ℕ) → IsFine w store.now.cells v.now
         → IfSome result (λ i. seen w store.now.cells v.now ≡ meaning.Own (own_count w store.now.cells i)) }
+    ensures own { (w : ℕ) → IsFine w store.now.cells v.now
+        → IfSome result (λ i. (i < length store.now.cells) × (visible_at w store.now.cells i ≡ true)) }
 {
     match callee(store, v) {
         Callee::Function(_) => cell_of(v),

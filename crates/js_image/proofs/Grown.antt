@@ -1,17 +1,17 @@
 -- Values stay the same as the store grows.
-use Rattle.std.proofs.Common.{◌≡◌, ℕ, zero, suc, ◌<◌, List, [], ◌∷◌, ◌++◌, length, refl, sym, ap, ◌∙◌, subst, Option, Some, None, arith, if◌then◌else◌, slice_get}
-use Rattle.std.specs.Prelude.{IfSome, ◌||◌}
+use Rattle.std.proofs.Common.{◌≡◌, ℕ, zero, suc, ◌<◌, List, [], ◌∷◌, ◌++◌, length, refl, sym, ap, ◌∙◌, subst, Option, Some, None, arith, Bool, true, false, if◌then◌else◌, slice_get}
+use Rattle.std.specs.Prelude.{IfSome, ◌&&◌, ◌||◌, nat_eq}
 use Rattle.std.specs.List.{AllByRecursion}
-use Rattle.std.specs.Option.{option_map}
+use Rattle.std.specs.Option.{option_map, option_map_or}
 use Rattle.js_tree.specs.Forest.{Forest}
 use Rattle.store_cells.specs.declared.value.Value.{Value}
 use Rattle.store_cells.specs.declared.value.Value.TheVariants as value
 use Rattle.store_cells.specs.declared.kind.FunParts.{FunParts}
 use Rattle.store_cells.specs.declared.counts.StoreFault.{StoreFault}
-use Rattle.store_cells.specs.Cells.{Cells, PlainCell, function_in}
+use Rattle.store_cells.specs.Cells.{Cells, PlainCell, function_in, is_scope, is_visible_form, widget_of}
 use Rattle.store_cells.specs.Host.{is_permitted_cell}
 use Rattle.object_store.specs.Owned as store
-use Rattle.object_store.specs.Owned.{Owned, own_link, own_paid, own_value, owned, scope_number}
+use Rattle.object_store.specs.Owned.{Owned, is_of, own_link, own_paid, own_value, owned, scope_number}
 use Rattle.object_store.specs.Calls.{IsCharged}
 use Rattle.object_store.specs.Grows.{Grows}
 use Rattle.object_store.proofs.Growth.{grows_same}
@@ -83,9 +83,31 @@ module _ (w : ℕ) (old new : List PlainCell) (g : Grows w old new) where
     scope = λ v. record { outer = place_stays c.up (h.scope v).outer; pairs = pairs_stay c.pairs (h.scope v).pairs };
   }
 
+no_both : false ≡ true → ⊥
+no_both e = cc
+
+first_of : (a b : Bool) → (a && b) ≡ true → a ≡ true
+first_of true b h = refl
+first_of false b h = h
+
+visible_of : (v : ℕ) (o : Option ℕ) (b : Bool) → option_map_or (λ u. nat_eq u v && b) o false ≡ true → option_map_or (λ u. nat_eq u v) o false ≡ true
+visible_of v None b h = h
+visible_of v (Some u) b h = first_of (nat_eq u v) b h
+
+-- nothing is asked of a cell that is another's
+pub passed_over : (fs : List Forest) (v : ℕ) (cells : List PlainCell) (c : PlainCell) → is_of v c.owner ≡ false → IsFineFor fs v cells c
+passed_over fs v cells c h = record {
+  cell = λ k. absurd (no_both (sym h ∙ visible_of v (widget_of c.owner) (is_visible_form c.form) k));
+  scope = λ k. absurd (no_both (sym h ∙ first_of (is_of v c.owner) (is_scope c.form) k));
+}
+
+pub all_passed_over : (fs : List Forest) (v : ℕ) (cells cs : List PlainCell) → AllByRecursion (λ (c : PlainCell). is_of v c.owner ≡ false) cs → AllByRecursion (IsFineFor fs v cells) cs
+all_passed_over fs v cells [] h = tt
+all_passed_over fs v cells (c ∷ cs) h = (passed_over fs v cells c h.0, all_passed_over fs v cells cs h.1)
+
 -- nothing changed
 pub kept_same : (fs : List Forest) (w : ℕ) (old new : Cells) → new ≡ old → Kept fs w old new
-kept_same fs w old new same = subst (λ (t : Cells). Kept fs w old t) (sym same) (record { confined = λ h. h; grows = grows_same w old.cells; others = λ v h. refl; others_grow = λ v h. grows_same v old.cells; nodes = λ p h. h; counts = rise_same (owned w old).paid })
+kept_same fs w old new same = subst (λ (t : Cells). Kept fs w old t) (sym same) (record { confined = λ h. h; grows = grows_same w old.cells; others = λ v h. refl; others_grow = λ v h. grows_same v old.cells; others_confined = λ v h k. k; nodes = λ p h. h; counts = rise_same (owned w old).paid })
 
 -- counts alone changed
 pub kept_paid : (fs : List Forest) (w : ℕ) (old new : Cells) (n u : ℕ) (refusal : Option StoreFault) → IsCharged old new w n u refusal → owned w new ≡ own_paid 0 n u (owned w old) → ((v : ℕ) → Grows v old.cells new.cells) → ((v : ℕ) → (w ≡ v → ⊥) → owned v new ≡ owned v old) → Kept fs w old new
@@ -93,6 +115,7 @@ kept_paid fs w old new n u refusal charged own grows others = let same : new.cel
   confined = λ h. subst (λ (l : List PlainCell). IsConfined fs w (record { cells = l; kept = new.kept })) (sym same) (record { each = h.each });
   grows = grows w;
   others_grow = λ v apart. grows v;
+  others_confined = λ v apart h. subst (λ (l : List PlainCell). IsConfined fs v (record { cells = l; kept = new.kept })) (sym same) (record { each = h.each });
   others = others;
   nodes = λ p h. hold_same p w old new (ap (λ (o : Owned). o.heap) own) h;
   counts = rise_to 0 n u (owned w old).paid (owned w new).paid (ap (λ (o : Owned). o.paid) own);

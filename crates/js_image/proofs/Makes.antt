@@ -38,7 +38,7 @@ use Rattle.js_image.specs.Held.{AreFine, ArePairs, IsConfined, IsFine, IsFineCel
 use Rattle.js_image.specs.Plans.{IsNew, IsNewOf, IsStopOf, meant_cause, meant_new, scope_of}
 use Rattle.js_image.proofs.Nodes.{hold_more, pass_made, rise_to}
 use Rattle.js_image.proofs.Pays.{cost_plan, pay_is, stops}
-use Rattle.js_image.proofs.Grown.{confined_more, fine_stays, held_stays, pairs_stay, place_stays}
+use Rattle.js_image.proofs.Grown.{all_passed_over, confined_more, fine_stays, held_stays, pairs_stay, place_stays}
 
 false_true : false ≡ true → ⊥
 false_true h = cc
@@ -171,6 +171,24 @@ module _ (w : ℕ) (cells : List PlainCell) where
         by (fresh.ArrayWith values) h o = (fine_cell (array_cell w values.items) refl (record { up = array; pairs = λ b. (tt, elements_fine 0 values.items h); fun = tt }), tt)
         by (fresh.ScopeWith outer pairs) h o = absurd h
 
+-- what is made is no other widget's
+apart_test : (v w : ℕ) → (w ≡ v → ⊥) → eqb w v ≡ false
+apart_test v w apart = grind (arith, nat_tests, apart)
+
+born_apart : (v w : ℕ) (cells : List PlainCell) → (w ≡ v → ⊥) → (n : NewCell) → AllByRecursion (λ (c : PlainCell). is_of v c.owner ≡ false) (born cells w n)
+born_apart v w cells apart (fresh.Object proto) = (apart_test v w apart, tt)
+born_apart v w cells apart fresh.Array = (apart_test v w apart, tt)
+born_apart v w cells apart (fresh.Function code fun declared scope) = (apart_test v w apart, tt)
+born_apart v w cells apart (fresh.Scope outer names) = (apart_test v w apart, tt)
+born_apart v w cells apart (fresh.Bunch ns) = (apart_test v w apart, (refl, tt))
+born_apart v w cells apart (fresh.ObjectWith proto pairs) = (apart_test v w apart, tt)
+born_apart v w cells apart (fresh.ArrayWith values) = (apart_test v w apart, tt)
+born_apart v w cells apart (fresh.ScopeWith outer pairs) = (apart_test v w apart, tt)
+
+-- so another widget stays confined
+pub made_apart : (v w : ℕ) (old new : Cells) (id : ℕ) (n : NewCell) → (w ≡ v → ⊥) → IsMade old new w id n → Grows v old.cells new.cells → (fs : List Forest) → IsConfined fs v old → IsConfined fs v new
+made_apart v w old new id n apart made grows fs = confined_more fs v old new (born old.cells w n) (ap (λ (t : Cells). t.cells) made.done) grows (all_passed_over fs v new.cells (born old.cells w n) (born_apart v w old.cells apart n))
+
 get_last : {X : Type 0} (xs : List X) (x : X) (ys : List X) → slice_get (xs ++ x ∷ ys) (length xs) ≡ Some x
 get_last [] x ys = refl
 get_last (y ∷ xs) x ys = get_last xs x ys
@@ -204,6 +222,7 @@ module _ (w : ℕ) (old new : Cells) (n : NewCell) (h : IsNew w old.cells n) whe
     grows = grows w;
     others = others;
     others_grow = λ v apart. grows v;
+    others_confined = λ v apart. made_apart v w old new id n apart made (grows v) fs;
     nodes = λ p held. hold_more p w old new (made_cells w old.cells n) (ap (λ (q : Owned). q.heap) own.seen) (pass_made p fs w old.cells n o) held;
     counts = rise_to (cells_for n) (slots_of n) 0 (owned w old).paid (owned w new).paid (ap (λ (q : Owned). q.paid) own.seen);
   }
@@ -277,6 +296,7 @@ module _ (w : ℕ) (old new : Cells) (outer : Option ℕ) (ps : List (List ℕ �
     grows = grows w;
     others = others;
     others_grow = λ v apart. grows v;
+    others_confined = λ v apart. made_apart v w old new id n apart made (grows v) fs;
     nodes = λ p held. hold_more p w old new (made_cells w old.cells n) (ap (λ (q : Owned). q.heap) own.seen) (subst (AllByRecursion (λ (c : OwnCell). PassNodes p c.kind)) (sym none) tt) held;
     counts = rise_to (cells_for n) (slots_of n) 0 (owned w old).paid (owned w new).paid (ap (λ (q : Owned). q.paid) own.seen);
   }

@@ -19,7 +19,7 @@ use Rattle.store_cells.specs.Cells.{Cells, PlainCell, has_own, is_array, is_bunc
 use Rattle.object_store.specs.Calls.{IsPutPaid, new_refusal, paid_refusal_of}
 use Rattle.object_store.specs.Grows.{Grows}
 use Rattle.object_store.specs.Owned as store
-use Rattle.object_store.specs.Owned.{Changed, OwnCell, OwnValue, Owned, SeesPaid, but_length, is_of_at, own_cell, own_kind, own_pairs, own_placed, own_put, own_raised, own_resized, own_length, own_stored, own_value, owned, visible_at, with_own}
+use Rattle.object_store.specs.Owned.{Changed, OwnCell, OwnValue, Owned, SeesPaid, but_length, is_of, is_of_at, own_cell, own_kind, own_pairs, own_placed, own_put, own_raised, own_resized, own_length, own_stored, own_value, owned, visible_at, with_own}
 use Rattle.widget_meaning.specs.OwnState as state
 use Rattle.widget_meaning.specs.OwnState.{Cell, State, array_length, cell_at, kind_of, with_cell}
 use Rattle.widget_meaning.specs.ListChanges.{pushed}
@@ -32,7 +32,7 @@ use Rattle.js_image.proofs.Chains.{looked, looked_apart}
 use Rattle.js_image.proofs.Grown.{cell_stays, fine_stays}
 use Rattle.js_image.proofs.Hosts.{get_there}
 use Rattle.js_image.proofs.Puts.{after_change, cell_there, hosts_of, not_others, other_pairs, same_counts, shows, stored_fine}
-use Rattle.js_image.proofs.Writes.{confined_changed, insert_new}
+use Rattle.js_image.proofs.Writes.{confined_apart, confined_changed, insert_new, none_at}
 
 none_some : {A : Type 0} {a : A} → None ≡ Some a → ⊥
 none_some h = cc
@@ -147,6 +147,7 @@ push_kept fs w old new laws x v i held fine is sees grows others = record {
   confined = λ h. confined_changed fs w old new i (stored x v) (ap (λ (t : Cells). t.cells) is.done) (grows w) h (λ d at. after d (h.each i d at));
   grows = grows w;
   others_grow = λ v apart. grows v;
+  others_confined = λ u apart. confined_apart fs u old new i (stored x v) (ap (λ (t : Cells). t.cells) is.done) (grows u) (λ d at. ap (λ (e : PlainCell). is_of u e.owner) (stored_fine w old.cells x v fine d).1 ∙ none_at u old.cells i (not_others w u old.cells laws i held apart) d at);
   others = λ u apart. others u (not_others w u old.cells laws i held apart);
   nodes = λ p. seen_nodes p (visible_at w old.cells i) refl;
   counts = seen_counts (visible_at w old.cells i) refl;

@@ -48,7 +48,7 @@ use Rattle.js_image.proofs.Chains.{heap_at, looked, looked_apart, visible_form}
 use Rattle.js_image.proofs.Grown.{cell_stays, fine_stays}
 use Rattle.js_image.proofs.Hosts.{get_there, host_link, leads_at}
 use Rattle.js_image.proofs.Pays.{cost_plan, not_over, pay_is, plus_none}
-use Rattle.js_image.proofs.Writes.{confined_changed, insert_fine, insert_has, insert_new, not_anothers}
+use Rattle.js_image.proofs.Writes.{confined_apart, confined_changed, insert_fine, insert_has, insert_new, none_at, not_anothers}
 
 false_true : false ≡ true → ⊥
 false_true h = cc
@@ -433,6 +433,7 @@ put_kept fs w old new laws x v i held fine is sees grows others = record {
   confined = λ h. confined_changed fs w old new i (stored x v) (ap (λ (t : Cells). t.cells) is.done) (grows w) h (λ d at. after d (h.each i d at));
   grows = grows w;
   others_grow = λ v apart. grows v;
+  others_confined = λ u apart. confined_apart fs u old new i (stored x v) (ap (λ (t : Cells). t.cells) is.done) (grows u) (λ d at. ap (λ (e : PlainCell). is_of u e.owner) (stored_fine w old.cells x v fine d).1 ∙ none_at u old.cells i (not_others w u old.cells laws i held apart) d at);
   others = λ u apart. others u (not_others w u old.cells laws i held apart);
   nodes = λ p. seen_nodes p (visible_at w old.cells i) refl;
   counts = seen_counts (visible_at w old.cells i) refl;

@@ -19,7 +19,7 @@ use Rattle.store_cells.specs.Host.{is_permitted_cell}
 use Rattle.object_store.specs.Calls.{IsRemoved, is_closed, remove_refusal}
 use Rattle.object_store.specs.Grows.{Grows}
 use Rattle.object_store.specs.Owned as store
-use Rattle.object_store.specs.Owned.{Changed, OwnCell, OwnValue, Owned, SeesRemoved, but_length, is_of_at, own_cell, own_kind, own_link, own_pairs, own_removed, owned, visible_at}
+use Rattle.object_store.specs.Owned.{OwnCell, OwnValue, Owned, SeesRemoved, but_length, is_of, is_of_at, own_cell, own_kind, own_link, own_pairs, own_removed, owned, visible_at}
 use Rattle.widget_meaning.specs.Values as meaning
 use Rattle.widget_meaning.specs.OwnState.{Cell, State, taken_out, with_cell}
 use Rattle.widget_meaning.specs.Plan.{Plan}
@@ -34,7 +34,7 @@ use Rattle.js_image.proofs.Chains.{visible_form}
 use Rattle.js_image.proofs.Grown.{cell_stays}
 use Rattle.js_image.proofs.Hosts.{get_there, host_link}
 use Rattle.js_image.proofs.Puts.{after_change, cell_there, hosts_cell, hosts_of, not_others, other_pairs, owner_is, permitted_else, same_counts, shows}
-use Rattle.js_image.proofs.Writes.{confined_changed}
+use Rattle.js_image.proofs.Writes.{confined_apart, confined_changed, none_at}
 
 false_true : false ≡ true → ⊥
 false_true h = cc
@@ -207,6 +207,7 @@ remove_kept fs w old new laws x i answer held is sees grows others = record {
   confined = λ h. confined_changed fs w old new i (without x) (ap (λ (t : Cells). t.cells) is.done) (grows w) h (λ d at. after d (is_length_of x d) (h.each i d at));
   grows = grows w;
   others_grow = λ v apart. grows v;
+  others_confined = λ u apart. confined_apart fs u old new i (without x) (ap (λ (t : Cells). t.cells) is.done) (grows u) (λ d at. same_owner u d (is_length_of x d) ∙ none_at u old.cells i (not_others w u old.cells laws i held apart) d at);
   others = λ u apart. others u (not_others w u old.cells laws i held apart);
   nodes = λ p. seen_nodes p (visible_at w old.cells i) refl;
   counts = seen_counts (visible_at w old.cells i) refl;
@@ -214,6 +215,10 @@ remove_kept fs w old new laws x i answer held is sees grows others = record {
   where
     stays : visible_at w old.cells i ≡ false → owned w new ≡ owned w old
     stays e = others w (hosts_of w old.cells laws i held e w)
+
+    same_owner : (u : ℕ) (d : PlainCell) (b : Bool) → (let e : PlainCell = if b then d else record d { pairs = remove_entry (bytes_eq x) d.pairs } in is_of u e.owner) ≡ is_of u d.owner
+    same_owner u d true = refl
+    same_owner u d false = refl
 
     seen_nodes : (p : ℕ → Bool) (b : Bool) → visible_at w old.cells i ≡ b → HoldNodes p w old → HoldNodes p w new
     seen_nodes p true e h = hold_changed p w old new i 0 (own_removed x) (pass_removed p x) (sees e) h

@@ -16,14 +16,14 @@ use Rattle.object_store.specs.Calls.{var_done}
 use Rattle.object_store.specs.Grows.{Grows}
 use Rattle.object_store.specs.Owned.{Assigned, OwnScope, OwnValue, SeesSet, is_held_by, is_of, is_of_at, is_own_scope, is_own_scope_at, own_pairs, own_scope, own_scopes, own_set, own_value, owned, scope_number}
 use Rattle.widget_meaning.specs.OwnState as state
-use Rattle.widget_meaning.specs.OwnState.{Scope, State, replaced, scope_at, with_scope}
+use Rattle.widget_meaning.specs.OwnState.{Scope, State, replaced, with_scope}
 use Rattle.widget_meaning.specs.Scopes.{scope_having, set_in, set_pair}
 use Rattle.js_image.specs.Image.{Rest, image, meant, meant_pairs, meant_scope, no_rest, seen, state_of}
 use Rattle.js_image.specs.Held.{ArePairs, CountsRise, IsConfined, IsFine, IsFineFor, IsOwnScope, Kept}
 use Rattle.js_image.proofs.Nodes.{hold_same, rise_same}
 use Rattle.js_image.specs.Laws.{AreLawful}
 use Rattle.js_image.proofs.Chains.{heap_at, looked}
-use Rattle.js_image.proofs.Grown.{cell_stays, fine_stays, kept_same}
+use Rattle.js_image.proofs.Grown.{cell_stays, fine_stays, kept_same, passed_over}
 use Rattle.js_image.proofs.Variables.{found_scope, holds, own_there, scope_is}
 
 false_true : false ≡ true → ⊥
@@ -77,6 +77,14 @@ confined_changed fs w s t i f is g h new = record {
   each = λ k c at. changed_at s.cells i k f (IsFineFor fs w t.cells) (λ j d a. cell_stays w s.cells t.cells g fs d (h.each j d a)) new c (ap (λ (l : List PlainCell). slice_get l k) (sym is) ∙ at);
 }
 
+-- another widget stays confined, where a cell was changed that is not its own
+pub confined_apart : (fs : List Forest) (v : ℕ) (s t : Cells) (i : ℕ) (f : PlainCell → PlainCell) → t.cells ≡ changed s.cells i f → Grows v s.cells t.cells → ((c : PlainCell) → slice_get s.cells i ≡ Some c → is_of v (f c).owner ≡ false) → IsConfined fs v s → IsConfined fs v t
+confined_apart fs v s t i f is g none h = confined_changed fs v s t i f is g h (λ c at. passed_over fs v t.cells (f c) (none c at))
+
+-- the cell at a place is not a widget's
+pub none_at : (v : ℕ) (cells : List PlainCell) (i : ℕ) → is_of_at v cells i ≡ false → (c : PlainCell) → slice_get cells i ≡ Some c → is_of v c.owner ≡ false
+none_at v cells i h c at = sym (ap (λ (o : Option PlainCell). option_map_or (λ (d : PlainCell). is_of v d.owner) o false) at) ∙ h
+
 -- whose a cell of a widget is
 eqb_other : (v w : ℕ) → (w ≡ v → ⊥) → (o : Option ℕ) → option_map_or (λ u. eqb u w) o false ≡ true → option_map_or (λ u. eqb u v) o false ≡ false
 eqb_other v w apart None h = refl
@@ -112,11 +120,18 @@ module _ (fs : List Forest) (w : ℕ) (old new : Cells) (laws : AreLawful old.ce
             confined = λ k. confined_changed fs w old new h (written x v) (set_cells h e) (grows w) k (λ d at. fine_set d at (k.each h d at));
             grows = grows w;
             others_grow = λ v apart. grows v;
-            others = λ u apart. others u (ap (λ (o : Option ℕ). option_map_or (is_of_at u old.cells) o false) e ∙ ap (λ (o : Option PlainCell). option_map_or (λ (d : PlainCell). is_of u d.owner) o false) c.1 ∙ not_anothers u w apart c.0 (both (is_of w c.0.owner) _ c.2).0);
+            others_confined = λ u apart. confined_apart fs u old new h (written x v) (set_cells h e) (grows u) (none_at u old.cells h (not_here u apart));
+            others = λ u apart. others u (ap (λ (o : Option ℕ). option_map_or (is_of_at u old.cells) o false) e ∙ not_here u apart);
             nodes = λ p. hold_same p w old new b.heap;
             counts = subst (CountsRise (owned w old).paid) (sym b.paid) (rise_same (owned w old).paid);
           }
         where
+          not_here : (u : ℕ) → (w ≡ u → ⊥) → is_of_at u old.cells h ≡ false
+          not_here u apart =
+              let a = holds fs no_rest w old confined laws x i h own e in
+              let c = own_there fs no_rest w old confined laws x h a.own in
+              ap (λ (o : Option PlainCell). option_map_or (λ (d : PlainCell). is_of u d.owner) o false) c.1 ∙ not_anothers u w apart c.0 (both (is_of w c.0.owner) _ c.2).0
+
           fine_set : (d : PlainCell) → slice_get old.cells h ≡ Some d → IsFineFor fs w old.cells d → IsFineFor fs w new.cells (written x v d)
           fine_set d at k =
               let m = cell_stays w old.cells new.cells (grows w) fs d k in

@@ -43,14 +43,16 @@ module _ (fs : List Forest) (w : ℕ) (old new : Cells) (node : ℕ) where
       by None e = confined_more fs w old new (raw_cell node ∷ []) (ap (λ (c : Cells). c.cells) e.1) g (raw_fine, tt) f
       by (Some i) e = subst (λ (c : Cells). IsConfined fs w c) (sym e.1) f
 
-  pub raw_kept : (id : ℕ) → HasNode old new node id → store.Grows w old.cells new.cells → ((v : ℕ) → owned v new ≡ owned v old) → Kept fs w old new
-  raw_kept id h g same = record {
-    confined = confined_raw id h g;
-    grows = g;
-    others = λ v ne. same v;
-    nodes = λ p held. hold_same p w old new (ap (λ (o : Owned). o.heap) (same w)) held;
-    counts = subst (λ o. CountsRise (owned w old).paid o) (sym (ap (λ (o : Owned). o.paid) (same w))) (rise_same (owned w old).paid);
-  }
+pub raw_kept : (fs : List Forest) (w : ℕ) (old new : Cells) (node id : ℕ) → HasNode old new node id → ((v : ℕ) → store.Grows v old.cells new.cells) → ((v : ℕ) → owned v new ≡ owned v old) → Kept fs w old new
+raw_kept fs w old new node id h g same = record {
+  confined = confined_raw fs w old new node id h (g w);
+  grows = g w;
+  others = λ v ne. same v;
+  others_grow = λ v ne. g v;
+  others_confined = λ v ne. confined_raw fs v old new node id h (g v);
+  nodes = λ p held. hold_same p w old new (ap (λ (o : Owned). o.heap) (same w)) held;
+  counts = subst (λ o. CountsRise (owned w old).paid o) (sym (ap (λ (o : Owned). o.paid) (same w))) (rise_same (owned w old).paid);
+}
 
 -- a cell that is there stays
 pub raw_stays : (w : ℕ) (old new : List PlainCell) → store.Grows w old new → (n : ℕ) → HasRaw old n → HasRaw new n

@@ -44,6 +44,8 @@ store_then w a b c f g = record {
   confined = λ fs h. g.confined fs (f.confined fs h);
   grows = grows_next w a.cells b.cells c.cells f.grows g.grows;
   others = λ v ne. g.others v ne ∙ f.others v ne;
+  others_grow = λ v ne. grows_next v a.cells b.cells c.cells (f.others_grow v ne) (g.others_grow v ne);
+  others_confined = λ fs v ne h. g.others_confined fs v ne (f.others_confined fs v ne h);
   counts = rise_then (owned w a).paid (owned w b).paid (owned w c).paid f.counts g.counts;
 }
 

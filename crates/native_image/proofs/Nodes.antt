@@ -42,7 +42,7 @@ use Rattle.js_image.specs.declared.outcome.StopCause.{StopCause}
 use Rattle.js_image.specs.Held.{HoldNodes, IsFine, PassNodes, is_held}
 use Rattle.js_image.specs.Plans.{IsNew, IsStopOf, meant_cause}
 use Rattle.js_image.proofs.Grown.{kept_same}
-use Rattle.js_image.proofs.Makes.{new_confined, new_made, new_refused}
+use Rattle.js_image.proofs.Makes.{made_apart, new_confined, new_made, new_refused}
 use Rattle.js_image.proofs.Nodes.{hold_more, rise_to}
 use Rattle.js_image.specs.Image as joint
 use Rattle.js_image.specs.Image.{Rest, meant, meant_cell, no_rest, node_number, seen}
@@ -338,6 +338,7 @@ module _ (w : ℕ) (lt : w < 32) (old new : Cells) (p : Page) (ns : Vec ℕ Glob
     grows = grows w;
     others = others;
     others_grow = λ v apart. grows v;
+    others_confined = λ fs v apart. made_apart v w old new id (fresh.Bunch ns) apart made (grows v) fs;
     counts = rise_to 1 (length ns.items + 1) 0 (owned w old).paid (owned w new).paid (ap (λ (o : Owned). o.paid) own_made.seen);
   }
 

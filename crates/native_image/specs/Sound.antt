@@ -44,12 +44,13 @@ pub record AreNodes (p : Page) (w : ℕ) (ns : List ℕ) : Type 0 where
   pub apart : IsDistinct nat_eq ns
   pub few : length ns ≤ 16384
 
--- What a call keeps of the store: the widget stays confined, what is there stays under its numbers, others have what they had and under the numbers that it had, and no count of what the widget has paid falls.
+-- What a call keeps of the store: the widget stays confined, what is there stays under its numbers, others have what they had, under the numbers that it had, and stay confined, and no count of what the widget has paid falls.
 pub record KeepsStore (w : ℕ) (old new : Cells) : Type 0 where
   pub confined : (fs : List Forest) → IsConfined fs w old → IsConfined fs w new
   pub grows : Grows w old.cells new.cells
   pub others : (v : ℕ) → (w ≡ v → ⊥) → owned v new ≡ owned v old
   pub others_grow : (v : ℕ) → (w ≡ v → ⊥) → Grows v old.cells new.cells
+  pub others_confined : (fs : List Forest) (v : ℕ) → (w ≡ v → ⊥) → IsConfined fs v old → IsConfined fs v new
   pub counts : CountsRise (owned w old).paid (owned w new).paid
 
 -- What a call keeps of the page: no node goes, each has its owner and number; the trees of others stay, and the roots.

@@ -6,6 +6,7 @@ use Rattle.native_forms.proofs.Meeting.{meets_free}
 use Rattle.native_forms.specs.Receivers.{receiver}
 use Rattle.adsafe_object.proofs.Exits.{confined_run, meets_run, noted_free, noted_run, noted_same, text_run}
 use Rattle.adsafe_object.proofs.Lists.{create_is, from_json_is, get_is, has_is, has_own_is, is_array_is, keys_is, later_is, log_is, nth_fine, post_is, remove_is, set_is, to_json_is}
+use Rattle.adsafe_object.proofs.Timing.{unasked}
 use Rattle.adsafe_object.proofs.natives.run.Goals as goal
 
 pub returns-in-Get-clause-native : goal.returns-in-Get-clause-native
@@ -63,7 +64,7 @@ pub returns-in-Later-clause-native : goal.returns-in-Later-clause-native
 returns-in-Later-clause-native c =
     noted_same c.args.w c.args.waiting c.args.store.now c.args.store.now _ _ _ _ _ c.args.meter.now c.args.meter.now
     (λ fs r d. later_is c.args.w c.args.store.now.cells c.args.args.now (receiver c.args.w c.args.store.now.cells c.args.this.now) c.args.which c.nth-first.result.now c.nth-first.ensures c.nth-second.result.now c.nth-second.ensures c.in-Later.is d (image fs r c.args.w c.args.store.now))
-    (noted_free c.args.w c.args.waiting c.args.store.now c.args.store.now _ _ _ _ c.args.meter.now (c.later.ensures c.args.log.now.items c.args.posts.now.items))
+    (noted_free c.args.w c.args.waiting c.args.store.now c.args.store.now _ _ _ _ c.args.meter.now (c.later.ensures.native c.args.log.now.items c.args.posts.now.items))
 
 pub returns-in-Log-clause-native : goal.returns-in-Log-clause-native
 returns-in-Log-clause-native c = IfOk-weaker c.log.result _ _ (λ o h.
@@ -100,3 +101,39 @@ pub returns-in-ToJson-clause-native : goal.returns-in-ToJson-clause-native
 returns-in-ToJson-clause-native c = IfOk-weaker c.to_json.result _ _ (λ o h.
     text_run c.args.w c.args.waiting c.args.store.now c.to_json.new.store c.args.meter.now c.to_json.new.meter c.args.log.now.items c.args.posts.now.items _ o c.args.asked.now c.requires.unasked _
     (to_json_is c.args.w c.args.store.now.cells c.args.args.now (receiver c.args.w c.args.store.now.cells c.args.this.now) c.args.which c.nth-first.result.now c.nth-first.ensures c.in-ToJson.is) h) c.to_json.ensures.native
+
+pub returns-in-Get-clause-own : goal.returns-in-Get-clause-own
+returns-in-Get-clause-own c = unasked c.args.w c.args.store.now.cells c.args.asked.now c.requires.unasked
+
+pub returns-in-Set-clause-own : goal.returns-in-Set-clause-own
+returns-in-Set-clause-own c = unasked c.args.w c.set.new.store.cells c.args.asked.now c.requires.unasked
+
+pub returns-in-Remove-clause-own : goal.returns-in-Remove-clause-own
+returns-in-Remove-clause-own c = unasked c.args.w c.remove.new.store.cells c.args.asked.now c.requires.unasked
+
+pub returns-in-HasOwnProperty-clause-own : goal.returns-in-HasOwnProperty-clause-own
+returns-in-HasOwnProperty-clause-own c = unasked c.args.w c.args.store.now.cells c.args.asked.now c.requires.unasked
+
+pub returns-in-Has-clause-own : goal.returns-in-Has-clause-own
+returns-in-Has-clause-own c = unasked c.args.w c.args.store.now.cells c.args.asked.now c.requires.unasked
+
+pub returns-in-Create-clause-own : goal.returns-in-Create-clause-own
+returns-in-Create-clause-own c = unasked c.args.w c.create.new.store.cells c.args.asked.now c.requires.unasked
+
+pub returns-in-IsArray-clause-own : goal.returns-in-IsArray-clause-own
+returns-in-IsArray-clause-own c = unasked c.args.w c.args.store.now.cells c.args.asked.now c.requires.unasked
+
+pub returns-in-Keys-clause-own : goal.returns-in-Keys-clause-own
+returns-in-Keys-clause-own c = unasked c.args.w c.keys.new.store.cells c.args.asked.now c.requires.unasked
+
+pub returns-in-Log-clause-own : goal.returns-in-Log-clause-own
+returns-in-Log-clause-own c = unasked c.args.w c.log.new.store.cells c.args.asked.now c.requires.unasked
+
+pub returns-in-Post-clause-own : goal.returns-in-Post-clause-own
+returns-in-Post-clause-own c = unasked c.args.w c.post.new.store.cells c.args.asked.now c.requires.unasked
+
+pub returns-in-FromJson-clause-own : goal.returns-in-FromJson-clause-own
+returns-in-FromJson-clause-own c = unasked c.args.w c.from_json.new.store.cells c.args.asked.now c.requires.unasked
+
+pub returns-in-ToJson-clause-own : goal.returns-in-ToJson-clause-own
+returns-in-ToJson-clause-own c = unasked c.args.w c.to_json.new.store.cells c.args.asked.now c.requires.unasked

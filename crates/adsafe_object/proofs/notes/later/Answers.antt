@@ -9,25 +9,25 @@ use Rattle.widget_meaning.specs.AdsafeNatives.{later, later_in, with_timer}
 use Rattle.js_image.specs.Image.{image, seen}
 use Rattle.adsafe_object.specs.Ends.{EndsNoted}
 use Rattle.adsafe_object.proofs.Noting.{later_is, room_to, timed, too_many}
-use Rattle.adsafe_object.proofs.Timing.{refused, started}
+use Rattle.adsafe_object.proofs.Timing.{refused, started, unasked}
 use Rattle.adsafe_object.proofs.notes.later.Goals as goal
 
-pub returns-in_default : goal.returns-in_default
-returns-in_default c = λ log posts.
+pub returns-in_default-clause-native : goal.returns-in_default-clause-native
+returns-in_default-clause-native c = λ log posts.
     refused c.args.store.now c.args.w c.args.waiting c.args.func.now c.args.ms.now log posts c.args.asked.now c.requires.unasked _ (λ fs r few.
     ap (λ b. want meaning.E4 b (image fs r c.args.w c.args.store.now) (later_in (seen c.args.w c.args.store.now.cells c.args.func.now) (seen c.args.w c.args.store.now.cells c.args.ms.now) (image fs r c.args.w c.args.store.now)))
     (c.own_function.ensures.function fs r c.args.w c.requires.func ∙ ap is_some c.in_default.is))
 
-pub returns-in_default-milliseconds : goal.returns-in_default-milliseconds
-returns-in_default-milliseconds c = λ log posts.
+pub returns-in_default-milliseconds-clause-native : goal.returns-in_default-milliseconds-clause-native
+returns-in_default-milliseconds-clause-native c = λ log posts.
     refused c.args.store.now c.args.w c.args.waiting c.args.func.now c.args.ms.now log posts c.args.asked.now c.requires.unasked _ (λ fs r few.
     ap (λ b. want meaning.E4 b (image fs r c.args.w c.args.store.now) (later_in (seen c.args.w c.args.store.now.cells c.args.func.now) (seen c.args.w c.args.store.now.cells c.args.ms.now) (image fs r c.args.w c.args.store.now)))
     (c.own_function.ensures.function fs r c.args.w c.requires.func ∙ ap is_some c.in-Some.is)
     ∙ later_is (seen c.args.w c.args.store.now.cells c.args.func.now) (seen c.args.w c.args.store.now.cells c.args.ms.now) (image fs r c.args.w c.args.store.now)
     ∙ ap (λ z. timed z (seen c.args.w c.args.store.now.cells c.args.func.now) (image fs r c.args.w c.args.store.now)) (c.milliseconds.ensures c.args.w c.args.store.now.cells ∙ c.in_default-milliseconds.is))
 
-pub returns-then-waiting-ge-MOST_TIMERS : goal.returns-then-waiting-ge-MOST_TIMERS
-returns-then-waiting-ge-MOST_TIMERS c = λ log posts.
+pub returns-then-waiting-ge-MOST_TIMERS-clause-native : goal.returns-then-waiting-ge-MOST_TIMERS-clause-native
+returns-then-waiting-ge-MOST_TIMERS-clause-native c = λ log posts.
     refused c.args.store.now c.args.w c.args.waiting c.args.func.now c.args.ms.now log posts c.args.asked.now c.requires.unasked _ (λ fs r few.
     ap (λ b. want meaning.E4 b (image fs r c.args.w c.args.store.now) (later_in (seen c.args.w c.args.store.now.cells c.args.func.now) (seen c.args.w c.args.store.now.cells c.args.ms.now) (image fs r c.args.w c.args.store.now)))
     (c.own_function.ensures.function fs r c.args.w c.requires.func ∙ ap is_some c.in-Some.is)
@@ -35,8 +35,8 @@ returns-then-waiting-ge-MOST_TIMERS c = λ log posts.
     ∙ ap (λ z. timed z (seen c.args.w c.args.store.now.cells c.args.func.now) (image fs r c.args.w c.args.store.now)) (c.milliseconds.ensures c.args.w c.args.store.now.cells ∙ c.in-Some-milliseconds.is)
     ∙ too_many (seen c.args.w c.args.store.now.cells c.args.func.now) c.in-Some-milliseconds.ms (image fs r c.args.w c.args.store.now) c.args.waiting few c.if-waiting-ge-MOST_TIMERS.true)
 
-pub returns : goal.returns
-returns c = λ log posts.
+pub returns-clause-native : goal.returns-clause-native
+returns-clause-native c = λ log posts.
     let fits : SFits w64 c.in-Some-milliseconds.ms = search rules in
     subst (λ (z : ℤ). EndsNoted c.args.w c.args.waiting c.args.store.now c.args.store.now (record { log = log; posts = posts; asked = None }) (record { log = log; posts = posts; asked = Some (c.in-Some.cell, z) })
     (λ d s. later (seen c.args.w c.args.store.now.cells c.args.func.now) (seen c.args.w c.args.store.now.cells c.args.ms.now) s) _) (sym (to_z-of_z w64 c.in-Some-milliseconds.ms fits))
@@ -47,3 +47,15 @@ returns c = λ log posts.
     ∙ ap (λ z. timed z (seen c.args.w c.args.store.now.cells c.args.func.now) (image fs r c.args.w c.args.store.now)) (c.milliseconds.ensures c.args.w c.args.store.now.cells ∙ c.in-Some-milliseconds.is)
     ∙ room_to (seen c.args.w c.args.store.now.cells c.args.func.now) c.in-Some-milliseconds.ms (image fs r c.args.w c.args.store.now) c.args.waiting few c.if-waiting-ge-MOST_TIMERS.false
     ∙ ap (λ f. give Undefined (with_timer (image fs r c.args.w c.args.store.now) f c.in-Some-milliseconds.ms)) (c.in-Some.ensures.cell c.args.w c.requires.func)))
+
+pub returns-in_default-clause-own : goal.returns-in_default-clause-own
+returns-in_default-clause-own c = unasked c.args.w c.args.store.now.cells c.args.asked.now c.requires.unasked
+
+pub returns-in_default-milliseconds-clause-own : goal.returns-in_default-milliseconds-clause-own
+returns-in_default-milliseconds-clause-own c = unasked c.args.w c.args.store.now.cells c.args.asked.now c.requires.unasked
+
+pub returns-then-waiting-ge-MOST_TIMERS-clause-own : goal.returns-then-waiting-ge-MOST_TIMERS-clause-own
+returns-then-waiting-ge-MOST_TIMERS-clause-own c = unasked c.args.w c.args.store.now.cells c.args.asked.now c.requires.unasked
+
+pub returns-clause-own : goal.returns-clause-own
+returns-clause-own c = c.in-Some.ensures.own c.args.w c.requires.func

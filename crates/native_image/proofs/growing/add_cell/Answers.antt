@@ -11,7 +11,7 @@ pub returns-in-Ok-clause-there : goal.returns-in-Ok-clause-there
 returns-in-Ok-clause-there c = ap is_some c.in-Ok.ensures.found
 
 pub returns-in-Ok-clause-kept : goal.returns-in-Ok-clause-kept
-returns-in-Ok-clause-kept c = λ fs w. raw_kept fs w c.args.store.now c.add_raw.new.self c.args.node c.in-Ok.field-0 c.in-Ok.ensures.ok (c.add_raw.ensures.grows w) c.add_raw.ensures.others
+returns-in-Ok-clause-kept c = λ fs w. raw_kept fs w c.args.store.now c.add_raw.new.self c.args.node c.in-Ok.field-0 c.in-Ok.ensures.ok c.add_raw.ensures.grows c.add_raw.ensures.others
 
 pub returns-in-Err-clause-kept : goal.returns-in-Err-clause-kept
 returns-in-Err-clause-kept c = λ fs w. kept_same fs w c.args.store.now c.add_raw.new.self c.in-Err.ensures.err
