@@ -5,7 +5,7 @@ use Rattle.store_cells.specs.Cells.{PlainCell}
 use Rattle.widget_meaning.specs.Values as meaning
 use Rattle.widget_meaning.specs.OwnState.{State}
 use Rattle.widget_meaning.specs.Plan as plan
-use Rattle.widget_meaning.specs.Plan.{Plan, Ret, Do, and_then, charge, Out, OutOfFuel}
+use Rattle.widget_meaning.specs.Plan.{Plan, Do, and_then, charge, OutOfFuel}
 use Rattle.widget_meaning.specs.Meaning.{body, run_plan}
 use Rattle.widget_meaning.proofs.PlansHold.{plan_laws}
 use Rattle.js_flow.specs.declared.job.Completion.{Completion}

@@ -36,7 +36,7 @@ use Rattle.js_flow.specs.declared.frame.CallFrame.{CallFrame}
 use Rattle.js_flow.specs.declared.frame.CallFrame.TheVariants as call
 use Rattle.js_flow.specs.declared.frame.Frame.{Frame}
 use Rattle.js_flow.specs.declared.frame.Frame.TheVariants as frame
-use Rattle.js_flow.specs.Parts.{arguments_of, block_list, catch_of, clauses_of, decls_of, elements_of, else_of, finally_of, first_of, forest_at, last_of, loop_body, loop_of, properties_of, test_of, then_of, variable_of}
+use Rattle.js_flow.specs.Parts.{arguments_of, block_list, catch_of, clauses_of, decls_of, elements_of, else_of, finally_of, first_of, forest_at, last_of, loop_body, loop_of, properties_of, then_of, variable_of}
 use Rattle.js_flow.specs.Views.{completion_of, place_of, reference_of}
 use Rattle.js_flow.specs.Forms.{form_taken, property_done}
 use Rattle.js_flow.specs.Statements.{clause_tested, declared, loop_again, loop_next, statement_taken}

@@ -17,7 +17,7 @@ use Rattle.js_flow.specs.declared.job.Block.{Block}
 use Rattle.js_flow.specs.declared.job.Place.{Place}
 use Rattle.js_flow.specs.declared.frame.StatementFrame.{StatementFrame}
 use Rattle.js_flow.specs.declared.frame.StatementFrame.TheVariants as frame
-use Rattle.js_flow.specs.Parts.{block_list, catch_of, clauses_of, decls_of, else_of, finally_of, first_of, forest_at, last_of, loop_body, loop_of, test_of, then_of, variable_of}
+use Rattle.js_flow.specs.Parts.{block_list, catch_of, clauses_of, decls_of, else_of, finally_of, first_of, forest_at, last_of, loop_body, loop_of, then_of, variable_of}
 use Rattle.js_flow.specs.Views.{completion_of, place_of}
 
 -- the declaration at the head of these has its value: it is written, and then come those after it

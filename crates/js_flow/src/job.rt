@@ -5,9 +5,10 @@ use code_units::Text;
 use js_image::StopCause;
 use js_tree::{ExprId, FunId, StmtId};
 use object_store::{CellId, NativeId, Value};
+use smallvec::SmallVec;
 
-/// A list of arguments.
-pub type Args = Vec<Value>;
+/// A list of arguments, of which four lie in place.
+pub type Args = SmallVec<Value, 4>;
 
 /// Where a form is evaluated: the number of its tree, its innermost scope, and the call depth.
 #[derive(Clone, Copy, Drop)]

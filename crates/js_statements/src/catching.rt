@@ -1,11 +1,11 @@
 //! `try`: its `catch` and its `finally`.
 ghost use Rattle.std.specs.Prelude.{◌≡◌, ◌<◌, ◌≤◌, ℕ, List, IfOk, length};
 ghost use Rattle.store_cells.specs.Cells.{PlainCell};
-ghost use Rattle.js_tree.specs.Forest.{IsStmt, stmt_at};
+ghost use Rattle.js_tree.specs.Forest.{IsStmt};
 ghost use Rattle.widget_meaning.specs.OwnState.{State};
 ghost use Rattle.widget_meaning.specs.Plan.{Ret};
 ghost use Rattle.widget_meaning.specs.Statements as statements;
-ghost use Rattle.js_image.specs.Held.{IsConfined, IsFine, IsPlaceScope, Kept};
+ghost use Rattle.js_image.specs.Held.{IsFine, IsPlaceScope, Kept};
 ghost use Rattle.js_image.specs.Image.{seen};
 ghost use Rattle.js_names.specs.Code.{trees_of};
 ghost use Rattle.js_flow.specs.Parts.{block_list, forest_at};

@@ -1,12 +1,12 @@
 //! `switch`: the clause that is chosen.
-ghost use Rattle.std.specs.Prelude.{◌≡◌, ◌+◌, ◌<◌, ◌≤◌, ◌^◌, ℕ, List, MatchOption, drop, length};
+ghost use Rattle.std.specs.Prelude.{◌≡◌, ◌+◌, ◌<◌, ◌≤◌, ℕ, List, MatchOption, drop, length};
 ghost use Rattle.store_cells.specs.Cells.{PlainCell};
 ghost use Rattle.js_tree.specs.Trees.{trees};
 ghost use Rattle.js_tree.specs.Forest.{IsExpr, IsStmt, expr_at, stmt_at};
 ghost use Rattle.widget_meaning.specs.OwnState.{State};
 ghost use Rattle.widget_meaning.specs.Values as meaning;
 ghost use Rattle.widget_meaning.specs.Plan as plan;
-ghost use Rattle.widget_meaning.specs.Plan.{Do, Eval, and_then};
+ghost use Rattle.widget_meaning.specs.Plan.{Do, Eval};
 ghost use Rattle.widget_meaning.specs.Calls as calls;
 ghost use Rattle.widget_meaning.specs.Statements as statements;
 ghost use Rattle.js_image.specs.Held.{IsFine, IsPlaceScope};

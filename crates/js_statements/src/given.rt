@@ -1,5 +1,5 @@
 //! What a frame of a statement does with how its part ended.
-ghost use Rattle.std.specs.Prelude.{◌≡◌, ◌<◌, ◌≤◌, ℕ, List, IfOk, drop, length};
+ghost use Rattle.std.specs.Prelude.{◌≡◌, ◌<◌, ◌≤◌, ℕ, List, IfOk, length};
 ghost use Rattle.store_cells.specs.Cells.{PlainCell};
 ghost use Rattle.js_tree.specs.Forest.{Forest, IsStmt};
 ghost use Rattle.widget_meaning.specs.OwnState.{State};
@@ -13,9 +13,9 @@ ghost use Rattle.js_image.specs.Plans.{meant_fault};
 ghost use Rattle.js_names.specs.Code.{trees_of};
 ghost use Rattle.js_flow.specs.Parts.{IsBlock, forest_at};
 ghost use Rattle.js_flow.specs.Statements.{block_at};
-ghost use Rattle.js_flow.specs.Views.{completion_of, place_of};
+ghost use Rattle.js_flow.specs.Views.{completion_of};
 ghost use Rattle.js_flow.specs.Frames.{Plans, planned, taken};
-ghost use Rattle.js_flow.specs.Fine.{FineCompletion, FineNext, FineStatement, IsBlockAt, IsOther, IsStmtAt};
+ghost use Rattle.js_flow.specs.Fine.{FineCompletion, FineNext, FineStatement, IsOther, IsStmtAt};
 ghost use Rattle.js_flow.specs.Free.{next_free, statement_free};
 
 use crate::catching::{after_catch, after_finally, after_try};

@@ -1,5 +1,5 @@
 //! What a statement has, by its node.
-ghost use Rattle.std.specs.Prelude.{◌≡◌, ◌+◌, ◌<◌, ◌^◌, ℕ, IfOk, IsTrue, IsFalse, MatchOption, drop};
+ghost use Rattle.std.specs.Prelude.{◌≡◌, ◌+◌, ◌<◌, ◌^◌, IfOk, IsTrue, IsFalse, MatchOption, drop};
 ghost use Rattle.js_tree.specs.Trees.{trees};
 ghost use Rattle.js_tree.specs.Forest.{IsExpr, IsStmt, expr_at, stmt_at};
 ghost use Rattle.js_tree.specs.Plain as plain;

@@ -14,5 +14,5 @@ returns-clause-plan c =
     let same = c.deref_mut.ensures.value in
     IfOk-weaker c.arguments.result _ _
     (λ n h r. h r ∙ one_argument fs c.args.w s.cells (image fs r c.args.w s) c.args.a.value (record { of = q.of; args = c.push.new.self; call = q.call; next = q.next; place = q.place }) c.args.value
-    (ap (λ (q : Argument). q.of) same) (c.in_ok-push.ensures.items ∙ ap (λ (q : Argument). q.args.items ++ c.args.value ∷ []) same) (ap (λ (q : Argument). q.call) same) (ap (λ (q : Argument). q.next) same) (ap (λ (q : Argument). q.place) same))
+    (ap (λ (q : Argument). q.of) same) (c.in_ok-push.ensures.ok ∙ ap (λ (q : Argument). q.args.items ++ c.args.value ∷ []) same) (ap (λ (q : Argument). q.call) same) (ap (λ (q : Argument). q.next) same) (ap (λ (q : Argument). q.place) same))
     c.arguments.ensures.plan
