@@ -51,9 +51,14 @@ frame_free (frame.Call f) = call_free f
 abbrev pub job_free : ℕ
 job_free = 15
 
+-- what a native that is waited for may give weighs less than this
+abbrev pub native_free : ℕ
+native_free = 16
+
 -- what a job is: a target may be an expression that begins with no charge
 abbrev pub job_weight : Job → ℕ
 job_weight (job.Target e p) = 17
+job_weight (job.RunNative c) = native_free
 job_weight j = job_free
 
 -- what is next
@@ -68,7 +73,7 @@ next_free (next.Run b p) = 2
 next_free (next.Give o) = 1
 next_free (next.Feed f g o) = frame_free f + frame_free g + 1
 next_free (next.Pay f n) = frame_free f + 2
-next_free (next.Native c) = 0
+next_free (next.Native c) = native_free
 next_free (next.Stop c) = 0
 
 -- what a task is at
@@ -76,6 +81,7 @@ abbrev pub control_free : Control → ℕ
 control_free (control.Begin j) = job_weight j + 1
 control_free (control.Give o) = 1
 control_free (control.Pay n) = 2
+control_free (control.Waits d) = native_free
 control_free c = 0
 
 -- all frames together

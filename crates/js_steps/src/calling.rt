@@ -99,6 +99,7 @@ pub fn resume(
         → remaining_after F w store.new task.new k r ≡ and_then (given w store.old.cells node d out (image F r w store.old)) (rest F w store.old.cells task.old.frames.list.items)) }
     ensures stop { IfOk result (λ k. IsFuelStop k → ⊥) }
     ensures follows { IfOk result (λ k. Follows (machine k) task.new.control) }
+    ensures near { IfOk result (λ k. free task.new.control task.new.frames.list.items < free task.old.control task.old.frames.list.items) }
     ensures held { IfOk result (IsFineAfter (trees_of codes.now.items) task.old.widget store.new task.new) }
     ensures widget { task.new.widget ≡ task.old.widget }
     ensures kept { Kept (trees_of codes.now.items) task.old.widget store.old store.new }

@@ -1,4 +1,4 @@
-use Rattle.std.proofs.Common.{◌≡◌, ℕ, ap, sym, ◌∙◌}
+use Rattle.std.proofs.Common.{◌≡◌, ℕ, ◌+◌, ap, arith, sym, ◌∙◌}
 use Rattle.std.proofs.lemmas.Result.{IfOk-weaker}
 use Rattle.widget_meaning.specs.Plan.{and_then}
 use Rattle.js_image.specs.Image.{image}
@@ -6,6 +6,7 @@ use Rattle.js_names.specs.Code.{trees_of}
 use Rattle.js_calls.specs.Called.{given}
 use Rattle.js_flow.specs.declared.task.Control.TheVariants as control
 use Rattle.js_flow.specs.Frames.{rest}
+use Rattle.js_flow.specs.Free.{frames_free, free, native_free}
 use Rattle.js_flow.specs.Todo.{after_step}
 use Rattle.js_flow.proofs.Stays.{frames_fine, rest_same}
 use Rattle.js_steps.proofs.Answering.{fine_as, follows_as, none_as}
@@ -35,6 +36,12 @@ returns-clause-stop c = IfOk-weaker c.answered.result _ _ (λ k e. none_as k _ e
 
 pub returns-clause-follows : goal.returns-clause-follows
 returns-clause-follows c = IfOk-weaker c.answered.result _ _ (λ k e. follows_as k _ e _ c.in_ok-step.ensures.follows.0) c.answered.ensures
+
+pub returns-clause-near : goal.returns-clause-near
+returns-clause-near c =
+    let frames = c.args.task.now.frames.list.items in
+    let waits : free c.args.task.now.control frames ≡ native_free + frames_free frames = ap (λ k. free k frames) c.depth-at.ensures in
+    IfOk-weaker c.answered.result _ _ (λ k e. omega (arith, waits, c.in_ok-next.ensures.near, c.in_ok-step.ensures.near)) c.answered.ensures
 
 pub returns-clause-held : goal.returns-clause-held
 returns-clause-held c =
