@@ -46,7 +46,7 @@ pub(crate) fn after_try(
         Completion::Throw(value) => {
             match catch_name(tree_at(codes, place.code), id) {
                 None => Ok(Next::Give(Completion::Throw(value))),
-                Some(name) => in_catch(alloc, w, codes, store, (id, place), (name, value)),
+                Some(name) => in_catch(alloc, w, codes, store, (id, place), (name.share()?, value)),
             }
         }
         how => Ok(Next::Give(how)),
@@ -60,20 +60,19 @@ fn in_catch(
     codes: &Vec<Code>,
     store: &mut Store,
     at: (StmtId, Place),
-    caught: (&Text, Value),
+    caught: (Text, Value),
 ) -> Result<Next, Memory>
     requires widget { w < 32 }
     requires place { IsStmtAt (trees_of codes.now.items) w store.old.cells at.0 at.1 }
     requires value { IsFine w store.old.cells caught.1 }
     ensures plan { IfOk result (Plans (trees_of codes.now.items) w store.old store.new
-        (statements.in_catch caught.0.now (block_list (forest_at (trees_of codes.now.items) at.1.code) (Block.Catch at.0)) (seen w store.old.cells caught.1) (place_of w store.old.cells at.1))) }
+        (statements.in_catch caught.0 (block_list (forest_at (trees_of codes.now.items) at.1.code) (Block.Catch at.0)) (seen w store.old.cells caught.1) (place_of w store.old.cells at.1))) }
     ensures fine { IfOk result (FineNext (trees_of codes.now.items) w store.new.cells) }
     ensures near { IfOk result (λ n. next_free n ≤ 2) }
     ensures kept { Kept (trees_of codes.now.items) w store.old store.new }
 {
     let (id, place) = at;
-    let (name, value) = caught;
-    let pairs = vec![in alloc; (name.share()?, value)]?;
+    let pairs = vec![in alloc; caught]?;
     match make_scope(alloc, store, w, place.scope, pairs)? {
         Made::Stop(cause) => Ok(Next::Stop(cause)),
         Made::Cell(scope) => Ok(Next::Run(
