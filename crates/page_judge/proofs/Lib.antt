@@ -1,0 +1,4 @@
+pub mod Libs
+pub mod Slotted
+pub mod OneWidget
+pub mod Paged

@@ -1,0 +1,80 @@
+//! The page of a manifest.
+ghost use Rattle.std.specs.Prelude.{◌≡◌, ◌+◌, ◌∷◌, [], All, length, map, IfOk, OnOk};
+ghost use Rattle.manifest_reader.specs.Page.{part_of};
+ghost use Rattle.slot_check.specs.Verdicts.{sources_of, IsSmall};
+ghost use Rattle.page_spec.specs.Pages.{piece_of};
+ghost use Rattle.page_judge.specs.Runs.{named, slots_named, pieces_from, pieces};
+ghost use Rattle.page_judge.specs.Judged.{IsJudgedPage};
+
+use crate::libraries::{Accepting, accept_libraries};
+use crate::slots::{judge_slots, named_slots};
+use code_units::Memory;
+use manifest_reader::{Entry, Manifest};
+use page_spec::{PageSpec, Piece};
+use slot_check::{Refusal, SourceFile};
+use std::alloc::Global;
+
+/// The page of a manifest for a host, and the first rule that each slot breaks, where it breaks one.
+#[derive(Drop)]
+pub struct JudgedPage {
+    pub spec: PageSpec,
+    pub refusals: Vec<Option<Refusal>>,
+}
+
+/// Judges the slots of a manifest with their files, over its libraries.
+pub fn judge_page(
+    alloc: Global,
+    manifest: Manifest,
+    files: &[SourceFile],
+    libs: &[SourceFile],
+) -> Result<JudgedPage, Memory>
+    requires paired { length (slots_named (map part_of manifest.entries.items)) ≡ length files.now }
+    requires small { All IsSmall files.now }
+    requires small_libs { All IsSmall libs.now }
+    ensures { IfOk result (IsJudgedPage manifest (sources_of files.now) (sources_of libs.now)) }
+{
+    let Accepting { mut judged, kept } = accept_libraries(alloc, libs)?;
+    let names = named_slots(alloc, &manifest.entries)?;
+    let slots = judge_slots(alloc, &names, files, libs, &mut judged, &kept)?;
+    let spec = PageSpec {
+        pieces: pieces_of(alloc, manifest.entries)?,
+        libs: kept.accepted,
+        slots: slots.slots,
+        channels: manifest.channels,
+    };
+    Ok(JudgedPage {
+        spec,
+        refusals: slots.refusals,
+    })
+}
+
+// The pieces of a page, its slots numbered in order.
+fn pieces_of(alloc: Global, entries: Vec<Entry>) -> Result<Vec<Piece>, Memory>
+    ensures { IfOk result (λ all. map piece_of all.items ≡ pieces (map part_of entries.items)) }
+{
+    let mut all = Vec::with_capacity(alloc, entries.len())?;
+    let mut slots = 0;
+    'entries: for entry in entries {
+        all.push(next_piece(entry, &mut slots)?)?;
+    }
+    Ok(all)
+}
+
+// The piece of an entry behind so many slots, of which it may be one more.
+fn next_piece(entry: Entry, slots: &mut u32) -> Result<Piece, Memory>
+    ensures piece { IfOk result (λ piece. piece_of piece ∷ [] ≡ pieces_from slots.old (part_of entry ∷ [])) }
+    ensures slots { OnOk result (slots.new ≡ slots.old + length (named (part_of entry))) }
+{
+    match entry {
+        Entry::Html(content) => Ok(Piece::Html(content)),
+        Entry::Slot { .. } => {
+            // No memory holds so many slots.
+            if *slots == u32::MAX {
+                return Err(Memory);
+            }
+            let number = *slots;
+            *slots += 1;
+            Ok(Piece::Slot(number))
+        }
+    }
+}

@@ -1,0 +1,157 @@
+//! The slots of a page, each with its widget or the first rule that it breaks.
+ghost use Rattle.std.specs.Prelude.{◌≡◌, ◌<◌, ◌++◌, All, Some, length, map, get_or, IfOk, OnOk};
+ghost use Rattle.manifest_reader.specs.Page.{part_of};
+ghost use Rattle.slot_check.specs.Verdicts.{sources_of, IsSmall, AreJudged};
+ghost use Rattle.page_spec.specs.Contents.{content_of};
+ghost use Rattle.page_judge.specs.Runs.{named, slots_named, runs_over};
+ghost use Rattle.page_judge.specs.Judged.{KeepsLibraries, name_of, run_of, content_in, IsJudgedSlot, AreJudgedSlots};
+
+use crate::libraries::Kept;
+use code_units::{Memory, Text};
+use manifest_reader::Entry;
+use page_spec::{SlotContent, SlotSpec};
+use slot_check::{Libraries, Refusal, SlotFault, SourceFile, Widget, judge_slot};
+use std::alloc::Global;
+
+/// The name of a slot, and the fuel of each of its turns.
+#[derive(Drop)]
+pub struct NamedSlot {
+    pub name: Text,
+    pub fuel: u32,
+}
+
+/// A slot for a host, and the first rule that it breaks, where it breaks one.
+#[derive(Drop)]
+struct JudgedSlot {
+    slot: SlotSpec,
+    refusal: Option<Refusal>,
+}
+
+/// The slots of a page for a host, and the first rule that each breaks, where it breaks one.
+#[derive(Drop)]
+pub struct JudgedSlots {
+    pub slots: Vec<SlotSpec>,
+    pub refusals: Vec<Option<Refusal>>,
+}
+
+/// The names and the fuel of the slots of a manifest.
+pub fn named_slots(alloc: Global, entries: &[Entry]) -> Result<Vec<NamedSlot>, Memory>
+    ensures { IfOk result (λ names. map name_of names.items ≡ slots_named (map part_of entries.now)) }
+{
+    let mut names = Vec::new(alloc);
+    'entries: for entry in entries {
+        push_named(entry, &mut names)?;
+    }
+    Ok(names)
+}
+
+// Appends the name and the fuel of an entry that is a slot.
+fn push_named(entry: &Entry, names: &mut Vec<NamedSlot>) -> Result<(), Memory>
+    ensures { OnOk result (map name_of names.new.items ≡ map name_of names.old.items ++ named (part_of entry.now)) }
+{
+    match entry {
+        Entry::Html(_) => Ok(()),
+        Entry::Slot { name, fuel, .. } => {
+            names.push(NamedSlot {
+                name: name.share()?,
+                fuel: *fuel,
+            })?;
+            Ok(())
+        }
+    }
+}
+
+/// Judges slots of these names with these files, over the libraries of their manifest.
+pub fn judge_slots(
+    alloc: Global,
+    names: &[NamedSlot],
+    files: &[SourceFile],
+    libs: &[SourceFile],
+    judged: &mut Libraries,
+    kept: &Kept,
+) -> Result<JudgedSlots, Memory>
+    requires paired { length names.now ≡ length files.now }
+    requires small { All IsSmall files.now }
+    requires small_libs { All IsSmall libs.now }
+    requires judged { AreJudged (sources_of libs.now) judged.old }
+    requires kept { KeepsLibraries (sources_of libs.now) kept.now }
+    ensures { IfOk result (λ all. AreJudgedSlots kept.now.accepted.items
+        (runs_over (sources_of libs.now) (map name_of names.now) (sources_of files.now)) all.slots.items all.refusals.items) }
+{
+    let mut slots = Vec::new(alloc);
+    let mut refusals = Vec::new(alloc);
+    'names: for (i, name) in names.iter().enumerate() {
+        let one = judge_one(alloc, name, &files[i], libs, judged, kept)?;
+        slots.push(one.slot)?;
+        refusals.push(one.refusal)?;
+    }
+    Ok(JudgedSlots { slots, refusals })
+}
+
+// Judges a slot of this name with its file.
+fn judge_one(
+    alloc: Global,
+    name: &NamedSlot,
+    file: &SourceFile,
+    libs: &[SourceFile],
+    judged: &mut Libraries,
+    kept: &Kept,
+) -> Result<JudgedSlot, Memory>
+    requires small { IsSmall file.now }
+    requires small_libs { All IsSmall libs.now }
+    requires judged { AreJudged (sources_of libs.now) judged.old }
+    requires kept { KeepsLibraries (sources_of libs.now) kept.now }
+    ensures slot { IfOk result (λ one. IsJudgedSlot kept.now.accepted.items
+        (run_of name.now file.now libs.now) one.slot one.refusal) }
+    ensures judged { AreJudged (sources_of libs.now) judged.new }
+{
+    let key = name.name.share()?;
+    match judge_slot(alloc, &name.name, file, libs, judged) {
+        Ok(widget) => {
+            let content = runs(alloc, widget, kept)?;
+            Ok(judged_slot(key, name.fuel, content, None))
+        }
+        Err(SlotFault::Broken(refusal)) => {
+            Ok(judged_slot(key, name.fuel, SlotContent::Refused, Some(refusal)))
+        }
+        Err(SlotFault::Memory) => Err(Memory),
+    }
+}
+
+// A slot of this name, fuel and content, and the first rule that it breaks, where it breaks one.
+fn judged_slot(name: Text, fuel: u32, content: SlotContent, refusal: Option<Refusal>) -> JudgedSlot
+    ensures { result ≡ record { slot = record { name = name; fuel = fuel; content = content }; refusal = refusal } }
+{
+    let slot = SlotSpec {
+        name,
+        fuel,
+        content,
+    };
+    JudgedSlot { slot, refusal }
+}
+
+// What a host runs of a widget.
+fn runs(alloc: Global, widget: Widget, kept: &Kept) -> Result<SlotContent, Memory>
+    requires { All (λ place. place < length kept.now.places.items) widget.libs.items }
+    ensures { IfOk result (λ content. content_of kept.now.accepted.items content ≡ Some (content_in kept.now widget)) }
+{
+    let Widget { form, libs, script } = widget;
+    let libs = places_of(alloc, &libs, &kept.places)?;
+    Ok(SlotContent::Runs {
+        body: form.body,
+        libs,
+        script,
+    })
+}
+
+// The places of these libraries among those that were accepted.
+fn places_of(alloc: Global, libs: &[usize], places: &[u32]) -> Result<Vec<u32>, Memory>
+    requires { All (λ lib. lib < length places.now) libs.now }
+    ensures { IfOk result (λ all. all.items ≡ map (λ lib. get_or places.now lib 0) libs.now) }
+{
+    let mut all = Vec::with_capacity(alloc, libs.len())?;
+    'libs: for lib in libs {
+        all.push(places[*lib])?;
+    }
+    Ok(all)
+}
