@@ -1,0 +1,4 @@
+pub mod Parts
+pub mod Receivers
+pub mod Whole
+pub mod Started

@@ -1,0 +1,56 @@
+-- How the answers of rooms meet their plans at the whole state.
+use Rattle.std.proofs.Common.{◌≡◌, ℕ, ◌<◌, List, [], ap, subst, Bool, Option}
+use Rattle.std.specs.Prelude.{IfOk, OnErr, Result, Ok, Err}
+use Rattle.code_units.specs.declared.memory.Memory.{Memory}
+use Rattle.js_tree.specs.Forest.{Forest}
+use Rattle.store_cells.specs.Cells.{Cells}
+use Rattle.widget_meaning.specs.OwnState.{State}
+use Rattle.widget_meaning.specs.Plan.{Plan}
+use Rattle.page_tree.specs.declared.page.Page.{Page}
+use Rattle.event_loop.specs.declared.around.Loop.{Loop}
+use Rattle.js_image.specs.Held.{Kept}
+use Rattle.js_values.specs.Fuel.{Fuel}
+use Rattle.js_values.specs.declared.outcome.NativeOut.{NativeOut}
+use Rattle.native_forms.specs.Meets.{Meets}
+use Rattle.native_image.specs.Image.{Parts, beside}
+use Rattle.native_image.specs.Meets.{FiresAtOwn, MeetsAt}
+use Rattle.native_image.specs.Sound.{IsSound, KeepsAll}
+use Rattle.native_image.proofs.Joint.{keeps_of, sound_stays}
+use Rattle.native_image.proofs.Keeping.{page_same}
+use Rattle.native_image.proofs.Meeting.{meets_lift}
+use Rattle.natives.specs.Meets.{MeetsWhole}
+use Rattle.natives.specs.Reach.{Reach, with_notes}
+
+module _ (w : ℕ) (log : List (List ℕ)) (posts : List (List ℕ × List ℕ)) where
+  -- with this log and these posts
+  abbrev pub noting : Parts → Reach
+  noting h = record { parts = h; log = log; posts = posts }
+
+  -- a native that leaves log and posts
+  pub whole_at : (old new : Parts) (had has : Fuel) (plan : ℕ → State → Plan) (o : NativeOut) → MeetsAt w old new had has plan o → MeetsWhole w (noting old) (noting new) had has plan o
+  whole_at old new had has plan o m = record {
+    answer = λ fs x d confined. m.answer fs (with_notes log posts x) d;
+    fine = m.fine;
+    fires = m.fires;
+    spent = m.spent;
+    unpaid = λ f. (ap noting (m.unpaid f).0, (m.unpaid f).1);
+    sound = m.sound;
+  }
+
+  module _ (lt : w < 32) (s t : Cells) (p : Page) (l : Loop) (b : Option Bool) (sound : IsSound w s p l) (had has : Fuel) (plan : ℕ → State → Plan) where
+    -- a room that knows the store alone, and asks for no handlers
+    pub store_whole : (r q : Result NativeOut Memory) → IfOk r (Meets w s t had has plan) → IfOk q (λ o. r ≡ Ok o) → IfOk q (λ o. (v : ℕ) (h : Parts) → FiresAtOwn v h o)
+        → IfOk q (MeetsWhole w (noting (beside s p l b)) (noting (beside t p l b)) had has plan)
+    store_whole r (Err e) m same fires = tt
+    store_whole r (Ok o) m same fires =
+        whole_at (beside s p l b) (beside t p l b) had has plan o
+        (meets_lift w lt s t p l b sound had has plan o (fires w (beside t p l b)) (subst (λ u. IfOk u (Meets w s t had has plan)) same m))
+
+-- what is kept of the store, whatever is answered
+pub meets_kept : (w : ℕ) (s t : Cells) (had has : Fuel) (plan : ℕ → State → Plan) (r : Result NativeOut Memory) → IfOk r (Meets w s t had has plan) → OnErr r ((fs : List Forest) → Kept fs w s t) → (fs : List Forest) → Kept fs w s t
+meets_kept w s t had has plan (Ok o) m e = m.kept
+meets_kept w s t had has plan (Err x) m e = e
+
+-- page and loop stay
+pub store_keeps : (w : ℕ) (s t : Cells) (p : Page) (l : Loop) → IsSound w s p l → ((fs : List Forest) → Kept fs w s t) → KeepsAll w s t p p l
+store_keeps w s t p l sound k = record { store = keeps_of w s t k; page = page_same w p; holds = (sound_stays w s t p l sound (k [])).holds }

@@ -1,0 +1,193 @@
+//! The one call of a native.
+ghost use Rattle.std.specs.Prelude.{◌≡◌, ◌<◌, ℕ, Bool, List, Ok, Option, true, IfOk};
+ghost use Rattle.std.specs.Option.{option_map};
+ghost use Rattle.js_tree.specs.Forest.{Forest};
+ghost use Rattle.store_cells.specs.Host.{global};
+ghost use Rattle.widget_meaning.specs.Natives.{run_native};
+ghost use Rattle.js_flow.specs.Fine.{FineNative};
+ghost use Rattle.js_image.specs.Held.{AreFine, IsConfined};
+ghost use Rattle.js_image.specs.Image.{all_seen, seen};
+ghost use Rattle.native_forms.specs.Receivers.{IsReceiver, receiver};
+ghost use Rattle.native_image.specs.Image.{Parts};
+ghost use Rattle.native_image.specs.Meets.{FiresAtOwn};
+ghost use Rattle.native_image.specs.Sound.{IsSound, KeepsAll};
+ghost use Rattle.page_tree.specs.declared.page.Page.{Page as PageTree};
+ghost use Rattle.adsafe_object.specs.Part as adsafe;
+ghost use Rattle.natives.specs.Asked.{is_fire};
+ghost use Rattle.natives.specs.Meets.{MeetsWhole, plan_of};
+ghost use Rattle.natives.specs.Parts.{is_part};
+ghost use Rattle.natives.specs.Reach.{reach};
+
+use crate::families::{Family, room_of};
+use crate::timers::start;
+use code_units::{Memory, Owner, Text};
+use event_loop::Loop;
+use js_flow::NativeCall;
+use js_values::{Meter, NativeOut, Plan};
+use object_store::{CellId, NativeId, Store, Value};
+use page_tree::Page;
+use std::alloc::Global;
+
+/// The place of the Global cell, which stands for no receiver.
+const GLOBAL: CellId = 0;
+
+/// Calls a native for widget `w`, as `js_steps` hands it out, with its unit taken: the answer is what the
+/// meaning gives at the widget's whole state, read off the store, the page, the loop, the innermost open
+/// dispatch, the log and the kept posts (receiver and text). A timer that is started waits in the loop.
+/// The call takes the extra; where fuel is wanting nothing changes, and faults and stops are those of
+/// docs/LANGUAGE.md. Handlers are not called here: `Fire` is handed out. After `Memory` too, all that the
+/// widget holds is its own, and others have what they had.
+pub fn call(
+    alloc: Global,
+    w: u32,
+    native: &NativeCall,
+    store: &mut Store,
+    meter: &mut Meter,
+    page: &mut Page,
+    around: &mut Loop,
+    bubbled: &mut Option<bool>,
+    log: &mut Vec<Text>,
+    posts: &mut Vec<(Text, Text)>,
+) -> Result<NativeOut, Memory>
+    requires part { is_part native.now.which ≡ true }
+    requires widget { w < 32 }
+    requires confined { (fs : List Forest) × IsConfined fs w store.old }
+    requires sound { IsSound w store.old page.old around.old }
+    requires fine { FineNative w store.old.cells native.now }
+    ensures native { IfOk result (λ o. MeetsWhole w
+        (reach store.old page.old around.old bubbled.old log.old.items posts.old.items)
+        (reach store.new page.new around.new bubbled.new log.new.items posts.new.items)
+        meter.old meter.new (plan_of w store.old.cells native.now) o) }
+    ensures kept { KeepsAll w store.old store.new page.old page.new around.new }
+{
+    let plain = Value::Ref(GLOBAL);
+    let this = receiver_of(store, w, native, &plain);
+    call_on(
+        alloc, native, this, store, meter, w, page, around, bubbled, log, posts,
+    )
+}
+
+// The same with a receiver, where the Global cell stands for none.
+fn call_on(
+    alloc: Global,
+    native: &NativeCall,
+    this: &Value,
+    store: &mut Store,
+    meter: &mut Meter,
+    w: u32,
+    page: &mut Page,
+    around: &mut Loop,
+    bubbled: &mut Option<bool>,
+    log: &mut Vec<Text>,
+    posts: &mut Vec<(Text, Text)>,
+) -> Result<NativeOut, Memory>
+    requires part { is_part native.now.which ≡ true }
+    requires widget { w < 32 }
+    requires confined { (fs : List Forest) × IsConfined fs w store.old }
+    requires sound { IsSound w store.old page.old around.old }
+    requires receiver { IsReceiver w store.old.cells this.now }
+    requires args { AreFine w store.old.cells native.now.args.items }
+    ensures native { IfOk result (λ o. MeetsWhole w
+        (reach store.old page.old around.old bubbled.old log.old.items posts.old.items)
+        (reach store.new page.new around.new bubbled.new log.new.items posts.new.items)
+        meter.old meter.new (run_native native.now.which (receiver w store.old.cells this.now) (all_seen w store.old.cells native.now.args.items)) o) }
+    ensures kept { KeepsAll w store.old store.new page.old page.new around.new }
+{
+    let which = native.which;
+    let args = native.args.as_slice();
+    let owner = Owner::Widget(w);
+    match room_of(which) {
+        Family::Texts => without_fire(text_methods::call(
+            alloc, which, this, args, store, meter, owner,
+        )),
+        Family::Lists => without_fire(list_methods::call(
+            alloc, which, this, args, store, meter, owner,
+        )),
+        Family::Adsafe => adsafe_native(
+            alloc, which, this, args, store, meter, w, around, log, posts,
+        ),
+        Family::Reads => bunch_read::call(
+            alloc, which, this, args, store, meter, owner, page, around,
+        ),
+        Family::Writes => bunch_write::call(
+            alloc, which, this, args, store, meter, owner, page, around, bubbled,
+        ),
+    }
+}
+
+// The receiver of a native; of a plain call what stands for none.
+fn receiver_of<'a>(store: &Store, w: u32, native: &'a NativeCall, plain: &'a Value) -> &'a Value
+    requires plain { plain.now ≡ Value.Ref global }
+    requires fine { FineNative w store.now.cells native.now }
+    ensures receiver { IsReceiver w store.now.cells result.now }
+    ensures same { receiver w store.now.cells result.now ≡ option_map (seen w store.now.cells) native.now.this }
+{
+    store.host_stays();
+    match &native.this {
+        Some(this) => this,
+        None => plain,
+    }
+}
+
+// Whether an answer asks for handlers.
+fn is_fire(out: &NativeOut) -> bool
+    ensures { result ≡ is_fire out.now }
+{
+    matches!(out, NativeOut::Call(Plan::Fire { .. }))
+}
+
+// The answer of a native that asks for no handlers. One that asks for some never comes; it is answered
+// like want of memory.
+fn without_fire(out: Result<NativeOut, Memory>) -> Result<NativeOut, Memory>
+    ensures same { IfOk result (λ o. out ≡ Ok o) }
+    ensures fires { IfOk result (λ o. (v : ℕ) (h : Parts) → FiresAtOwn v h o) }
+{
+    let out = out?;
+    if is_fire(&out) {
+        return Err(Memory);
+    }
+    Ok(out)
+}
+
+// A native of `ADSAFE`, or `hasOwnProperty`; then the timer that it asks for is started.
+fn adsafe_native(
+    alloc: Global,
+    which: NativeId,
+    this: &Value,
+    args: &[Value],
+    store: &mut Store,
+    meter: &mut Meter,
+    w: u32,
+    around: &mut Loop,
+    log: &mut Vec<Text>,
+    posts: &mut Vec<(Text, Text)>,
+) -> Result<NativeOut, Memory>
+    requires part { adsafe.is_part which ≡ true }
+    requires widget { w < 32 }
+    requires confined { (fs : List Forest) × IsConfined fs w store.old }
+    requires receiver { IsReceiver w store.old.cells this.now }
+    requires args { AreFine w store.old.cells args.now }
+    ensures native { IfOk result (λ o. (p : PageTree) (b : Option Bool) → IsSound w store.old p around.old → MeetsWhole w
+        (reach store.old p around.old b log.old.items posts.old.items)
+        (reach store.new p around.new b log.new.items posts.new.items)
+        meter.old meter.new (run_native which (receiver w store.old.cells this.now) (all_seen w store.old.cells args.now)) o) }
+    ensures kept { (p : PageTree) → IsSound w store.old p around.old → KeepsAll w store.old store.new p p around.new }
+{
+    let waiting = around.waiting();
+    let mut asked = None;
+    let out = without_fire(adsafe_object::call(
+        alloc,
+        which,
+        this,
+        args,
+        store,
+        meter,
+        Owner::Widget(w),
+        log,
+        waiting,
+        &mut asked,
+        posts,
+    ))?;
+    start(around, asked)?;
+    Ok(out)
+}
