@@ -18,8 +18,9 @@ use Rattle.native_forms.specs.Receivers.{IsReceiver, receiver}
 use Rattle.native_forms.proofs.Seen.{nth_seen}
 use Rattle.widget_meaning.specs.Values as meaning
 use Rattle.widget_meaning.specs.NativeNames as names
-use Rattle.widget_meaning.specs.NativeNames.{Family, OfDom, OfEvent, OfWrite, family_of}
+use Rattle.widget_meaning.specs.NativeNames.{Family, OfDom, OfEvent, OfRead, OfWrite, family_of}
 use Rattle.widget_meaning.specs.Natives.{run_family, run_native}
+use Rattle.widget_meaning.specs.BunchReads.{read_native}
 use Rattle.widget_meaning.specs.BunchWrites.{write_method}
 use Rattle.widget_meaning.specs.DomNatives.{dom_native}
 use Rattle.widget_meaning.specs.Dispatch.{bubble}
@@ -40,6 +41,8 @@ not_here e = cc
 abbrev pub as_family : Kind → Family
 as_family kind.DomTag = OfDom names.DomTag
 as_family kind.DomText = OfDom names.DomText
+as_family kind.DomAppend = OfDom names.DomAppend
+as_family kind.Explode = OfRead names.Explode
 as_family kind.Bubble = OfEvent
 as_family (kind.Method m) = OfWrite (meant m)
 as_family kind.Other = OfEvent
@@ -103,15 +106,15 @@ family_is native.Post e = absurd (not_here e)
 family_is native.FromJson e = absurd (not_here e)
 family_is native.ToJson e = absurd (not_here e)
 family_is native.DomQ e = absurd (not_here e)
-family_is native.DomAppend e = absurd (not_here e)
+family_is native.DomAppend e = refl
 family_is native.DomTag e = refl
 family_is native.DomText e = refl
 family_is native.BunchQ e = absurd (not_here e)
-family_is native.BunchAppend e = absurd (not_here e)
+family_is native.BunchAppend e = refl
 family_is native.BunchRemove e = refl
 family_is native.Empty e = refl
 family_is native.Replace e = refl
-family_is native.Value e = absurd (not_here e)
+family_is native.Value e = refl
 family_is native.GetValue e = absurd (not_here e)
 family_is native.GetValues e = absurd (not_here e)
 family_is native.Style e = refl
@@ -129,7 +132,7 @@ family_is native.On e = refl
 family_is native.Off e = refl
 family_is native.Fire e = refl
 family_is native.Each e = refl
-family_is native.Explode e = absurd (not_here e)
+family_is native.Explode e = refl
 family_is native.Count e = absurd (not_here e)
 family_is native.GetParent e = absurd (not_here e)
 family_is native.GetTagName e = absurd (not_here e)
@@ -193,6 +196,12 @@ module _ (which : NativeId) (k : Kind) (here : is_here (kind_of which) ≡ true)
 
   pub text_same : k ≡ kind.DomText → run_native which this vs d s ≡ dom_native names.DomText this (u ∷ []) d s
   text_same is = native_is which k here e this vs d s ∙ ap (λ c. run_family (as_family c) this vs d s) is ∙ (λ j. dom_native names.DomText this (first j ∷ []) d s)
+
+  pub append_same : k ≡ kind.DomAppend → run_native which this vs d s ≡ dom_native names.DomAppend this (u ∷ []) d s
+  append_same is = native_is which k here e this vs d s ∙ ap (λ c. run_family (as_family c) this vs d s) is ∙ (λ j. dom_native names.DomAppend this (first j ∷ []) d s)
+
+  pub explode_same : k ≡ kind.Explode → run_native which this vs d s ≡ read_native names.Explode this vs d s
+  explode_same is = native_is which k here e this vs d s ∙ ap (λ c. run_family (as_family c) this vs d s) is
 
   -- a method of a Bunch
   pub method_same : (m : Method) → k ≡ kind.Method m → (ns : List ℕ) (b : meaning.Value) → option_and_then (λ x. state.bunch_nodes (state.kind_of s x)) this ≡ Some ns → this ≡ Some b → run_native which this vs d s ≡ method_plan m ns b u v d s

@@ -16,10 +16,14 @@ use Rattle.bunch_write.specs.declared.kinds.Kind.TheVariants as kind
 abbrev pub kind_of : NativeId → Kind
 kind_of native.DomTag = kind.DomTag
 kind_of native.DomText = kind.DomText
+kind_of native.DomAppend = kind.DomAppend
+kind_of native.Explode = kind.Explode
 kind_of native.Bubble = kind.Bubble
+kind_of native.BunchAppend = kind.Method method.Append
 kind_of native.BunchRemove = kind.Method method.Remove
 kind_of native.Empty = kind.Method method.Empty
 kind_of native.Replace = kind.Method method.Replace
+kind_of native.Value = kind.Method method.SetValue
 kind_of native.Style = kind.Method method.SetStyle
 kind_of native.Klass = kind.Method method.SetClass
 kind_of native.Title = kind.Method method.SetTitle
@@ -46,9 +50,11 @@ is_part which = is_here (kind_of which)
 
 -- each method in the meaning
 abbrev pub meant : Method → names.WriteNative
+meant method.Append = names.Append
 meant method.Remove = names.Remove
 meant method.Empty = names.Empty
 meant method.Replace = names.Replace
+meant method.SetValue = names.SetValue
 meant method.SetStyle = names.SetStyle
 meant method.SetClass = names.SetClass
 meant method.SetTitle = names.SetTitle

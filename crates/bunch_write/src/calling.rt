@@ -20,6 +20,7 @@ use bunch_marks::{
     blur, fire, focus, hush, listen, protect, set_check, set_class, set_enabled, set_mark,
     set_style, set_title,
 };
+use bunch_trees::{Receiver, append, dom_append, explode, set_value};
 use code_units::{Memory, Owner};
 use event_loop::Loop;
 use js_image::Fault;
@@ -97,6 +98,8 @@ fn call_of(
         Kind::Bubble => Ok(bubble(bubbled)),
         Kind::DomTag => dom_tag(alloc, first, second, store, w, page),
         Kind::DomText => dom_text(alloc, first, store, w, page),
+        Kind::DomAppend => dom_append(alloc, first, store, meter, w, page),
+        Kind::Explode => explode(alloc, this, store, meter, w, page),
         Kind::Method(method) => match receiver_of(alloc, store, w, page, this)? {
             Some(list) => match cell_of(this) {
                 Some(cell) => change(
@@ -146,10 +149,17 @@ fn change(
         (seen w store.old.cells first.now) (seen w store.old.cells second.now) d s) o) }
     ensures kept { KeepsAll w store.old store.new page.old page.new around.new }
 {
+    let bunch = Receiver {
+        w,
+        cell: this,
+        nodes: list,
+    };
     match method {
+        Method::Append => append(alloc, &bunch, first, store, meter, page),
         Method::Remove => remove(alloc, list, this, store, meter, w, page),
         Method::Empty => Ok(empty(list, this, store, meter, w, page)),
         Method::Replace => replace(alloc, list, first, this, store, meter, w, page),
+        Method::SetValue => set_value(alloc, &bunch, first, store, meter, page),
         Method::SetStyle => set_style(alloc, list, first, second, this, store, meter, w, page),
         Method::SetClass => set_class(alloc, list, first, this, store, meter, w, page),
         Method::SetTitle => set_title(alloc, list, first, this, store, meter, w, page),

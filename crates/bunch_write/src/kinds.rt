@@ -7,9 +7,11 @@ use object_store::NativeId;
 /// A method of Bunches that changes, or asks for calls.
 #[derive(Clone, Copy, Drop)]
 pub enum Method {
+    Append,
     Remove,
     Empty,
     Replace,
+    SetValue,
     SetStyle,
     SetClass,
     SetTitle,
@@ -30,6 +32,8 @@ pub enum Method {
 pub enum Kind {
     DomTag,
     DomText,
+    DomAppend,
+    Explode,
     Bubble,
     Method(Method),
     Other,
@@ -42,10 +46,14 @@ pub fn kind_of(which: NativeId) -> Kind
     match which {
         NativeId::DomTag => Kind::DomTag,
         NativeId::DomText => Kind::DomText,
+        NativeId::DomAppend => Kind::DomAppend,
+        NativeId::Explode => Kind::Explode,
         NativeId::Bubble => Kind::Bubble,
+        NativeId::BunchAppend => Kind::Method(Method::Append),
         NativeId::BunchRemove => Kind::Method(Method::Remove),
         NativeId::Empty => Kind::Method(Method::Empty),
         NativeId::Replace => Kind::Method(Method::Replace),
+        NativeId::Value => Kind::Method(Method::SetValue),
         NativeId::Style => Kind::Method(Method::SetStyle),
         NativeId::Klass => Kind::Method(Method::SetClass),
         NativeId::Title => Kind::Method(Method::SetTitle),

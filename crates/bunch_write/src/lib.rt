@@ -1,5 +1,6 @@
-//! The methods of Bunches that change the page's trees or make nodes, those that ask for calls, and the natives of `dom` but
-//! `dom.q`. `call` hands each native that changes to its function, those of `bunch_marks` too.
+//! The methods of Bunches that take nodes out or put them into the places of others, those that ask for calls, and the
+//! natives of `dom` that make nodes. `call` hands each native that changes to its function, those of `bunch_marks` and
+//! `bunch_trees` too.
 #![tactic(auto)]
 
 mod calling;

@@ -1,7 +1,7 @@
 //! `dom.tag` and `dom.text`: new nodes, each given in a Bunch.
 ghost use Rattle.std.specs.Prelude.{◌≡◌, ◌<◌, ℕ, List, [], ◌∷◌, Bool, Option, codes, IfOk, length, map, option_copied, option_to_list, sum_by};
 ghost use Rattle.plain_tree.specs.Plains.{unplaced};
-ghost use Rattle.plain_tree.specs.Trees.{ElementOf, End, Node, TextOf};
+ghost use Rattle.plain_tree.specs.Trees.{ElementOf, End, Node};
 ghost use Rattle.bunch_write.specs.Tags.{may_make};
 ghost use Rattle.widget_meaning.specs.DomNatives as means;
 ghost use Rattle.widget_meaning.specs.NativeNames as names;
@@ -16,6 +16,7 @@ ghost use Rattle.native_image.specs.Sound.{IsSound, KeepsAll};
 ghost use Rattle.store_cells.specs.Cells.{PlainCell};
 
 use bunch_marks::is_undefined;
+use bunch_trees::text_tree;
 use code_units::{Memory, Text};
 use js_image::{Fault, word};
 use js_values::NativeOut;
@@ -75,13 +76,6 @@ fn text_units(text: &Text) -> usize
     ensures { result ≡ counted (length text.now) }
 {
     text.units().len()
-}
-
-// A text node.
-fn text_tree(text: Text) -> Plain
-    ensures { unplaced result ≡ Node tt (TextOf text) End End }
-{
-    Plain::Text { text, at: 0 }
 }
 
 // An element with the `type` that is given.

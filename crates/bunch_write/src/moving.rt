@@ -1,6 +1,6 @@
 //! Nodes that are taken out of their places, or put into others.
 ghost use Rattle.std.specs.Prelude.{◌≡◌, ◌<◌, ℕ, List, [], ◌∷◌, Bool, Option, Some, true, IfOk, OnOk, map};
-ghost use Rattle.std.specs.List.{fold, list_all};
+ghost use Rattle.std.specs.List.{fold};
 ghost use Rattle.query_grammar.specs.Finds.{has_number};
 ghost use Rattle.widget_meaning.specs.BunchWrites as means;
 ghost use Rattle.widget_meaning.specs.NativeNames as names;
@@ -17,28 +17,15 @@ ghost use Rattle.widget_meaning.specs.Trees.{detached, moved, parent};
 ghost use Rattle.bunch_write.specs.Trees.{emptied_in, may_take, replace_plan};
 
 use bunch_marks::has_node;
+use bunch_trees::none_root;
 use code_units::Memory;
 use js_image::Fault;
 use js_values::{Meter, NativeOut};
 use native_image::{Cost, begin, bunch_of};
 use object_store::{CellId, Store, Value};
-use page_image::{detach_all, is_root, may_append, parent};
+use page_image::{detach_all, may_append, parent};
 use page_tree::{NodeId, Page};
 use std::alloc::Global;
-
-/// Whether none of these nodes is the root.
-pub(crate) fn none_root(list: &[NodeId], w: u32, page: &Page) -> bool
-    requires home { HasRoot page.now w }
-    requires own { (n : ℕ) → has_number list.now n ≡ true → owns page.now w n ≡ true }
-    ensures { result ≡ list_all means.is_no_root (map (number page.now w) list.now) }
-{
-    'each: for node in list {
-        if is_root(page, w, *node) {
-            return false;
-        }
-    }
-    true
-}
 
 /// `remove()`.
 pub(crate) fn remove(

@@ -2,6 +2,7 @@ use Rattle.std.proofs.Common.{ℕ, [], ◌∷◌, Some, map, sym, ap, ◌∙◌}
 use Rattle.std.specs.declared.vec.Vec.{Vec}
 use Rattle.std.specs.declared.alloc.Global.{Global}
 use Rattle.std.specs.Option.{option_map}
+use Rattle.widget_meaning.specs.BunchReads.{read_native}
 use Rattle.widget_meaning.specs.Dispatch.{bubble}
 use Rattle.widget_meaning.specs.DomNatives.{dom_native}
 use Rattle.widget_meaning.specs.NativeNames as names
@@ -16,7 +17,7 @@ use Rattle.native_image.proofs.Keeping.{keeps_here}
 use Rattle.native_image.proofs.Meeting.{at_same, no_outside}
 use Rattle.native_image.proofs.Working.{at_thrown, ok_at_same}
 use Rattle.bunch_write.specs.Kinds.{method_plan}
-use Rattle.bunch_write.proofs.Calls.{arg_fine, arg_seen, bubble_same, method_none, method_same, no_bunch, receiver_held, receiver_is, tag_same, text_same}
+use Rattle.bunch_write.proofs.Calls.{append_same, arg_fine, arg_seen, bubble_same, explode_same, method_none, method_same, no_bunch, receiver_held, receiver_is, tag_same, text_same}
 use Rattle.bunch_write.proofs.Receivers.{some_nodes}
 use Rattle.bunch_write.proofs.calling.call_of.Goals as goal
 
@@ -88,6 +89,55 @@ returns-in-DomText-clause-native c =
 
 pub returns-in-DomText-clause-kept : goal.returns-in-DomText-clause-kept
 returns-in-DomText-clause-kept c = c.dom_text.ensures.kept c.args.around.now c.requires.sound
+
+pub dom_append-requires-clause-sound : goal.dom_append-requires-clause-sound
+dom_append-requires-clause-sound c = (c.args.around.now, c.requires.sound)
+
+pub dom_append-requires-clause-other : goal.dom_append-requires-clause-other
+dom_append-requires-clause-other c = arg_fine c.args.w c.args.store.now.cells c.args.args.now 0 c.nth-first.result.now c.nth-first.ensures c.requires.args
+
+pub returns-in-DomAppend-clause-native : goal.returns-in-DomAppend-clause-native
+returns-in-DomAppend-clause-native c =
+    let w = c.args.w in
+    let p = c.args.page.now in
+    let l = c.args.around.now in
+    let s = c.args.store.now in
+    let h = beside s p l c.args.bubbled.now in
+    let this = receiver w s.cells c.args.this.now in
+    let vs = all_seen w s.cells c.args.args.now in
+    let u = seen w s.cells c.nth-first.result.now in
+    let v = seen w s.cells c.nth-second.result.now in
+    let first = arg_seen w s.cells c.args.args.now 0 c.nth-first.result.now c.nth-first.ensures in
+    let second = arg_seen w s.cells c.args.args.now 1 c.nth-second.result.now c.nth-second.ensures in
+    ok_at_same w h (beside c.dom_append.new.store c.dom_append.new.page l c.args.bubbled.now) (run_native c.args.which this vs) (λ d t. dom_native names.DomAppend this (u ∷ []) d t) c.dom_append.result c.args.meter.now c.dom_append.new.meter
+    (λ fs x d. append_same c.args.which c.kind_of.result c.requires.part c.kind_of.ensures this vs u v first second d (image fs x w h) c.in-DomAppend.is)
+    (c.dom_append.ensures.native l c.args.bubbled.now this c.requires.sound)
+
+pub returns-in-DomAppend-clause-kept : goal.returns-in-DomAppend-clause-kept
+returns-in-DomAppend-clause-kept c = c.dom_append.ensures.kept c.args.around.now c.requires.sound
+
+pub explode-requires-clause-sound : goal.explode-requires-clause-sound
+explode-requires-clause-sound c = (c.args.around.now, c.requires.sound)
+
+pub returns-in-Explode-clause-native : goal.returns-in-Explode-clause-native
+returns-in-Explode-clause-native c =
+    let w = c.args.w in
+    let p = c.args.page.now in
+    let l = c.args.around.now in
+    let s = c.args.store.now in
+    let h = beside s p l c.args.bubbled.now in
+    let this = receiver w s.cells c.args.this.now in
+    let vs = all_seen w s.cells c.args.args.now in
+    let u = seen w s.cells c.nth-first.result.now in
+    let v = seen w s.cells c.nth-second.result.now in
+    let first = arg_seen w s.cells c.args.args.now 0 c.nth-first.result.now c.nth-first.ensures in
+    let second = arg_seen w s.cells c.args.args.now 1 c.nth-second.result.now c.nth-second.ensures in
+    ok_at_same w h (beside c.explode.new.store p l c.args.bubbled.now) (run_native c.args.which this vs) (λ d t. read_native names.Explode this vs d t) c.explode.result c.args.meter.now c.explode.new.meter
+    (λ fs x d. explode_same c.args.which c.kind_of.result c.requires.part c.kind_of.ensures this vs u v first second d (image fs x w h) c.in-Explode.is)
+    (c.explode.ensures.native l c.args.bubbled.now vs c.requires.sound)
+
+pub returns-in-Explode-clause-kept : goal.returns-in-Explode-clause-kept
+returns-in-Explode-clause-kept c = c.explode.ensures.kept c.args.around.now c.requires.sound
 
 pub change-requires-clause-nodes : goal.change-requires-clause-nodes
 change-requires-clause-nodes c = some_nodes c.args.page.now c.args.w c.in_ok-list-in-Method.field-0 c.in-Some.list c.deref.result.now c.in-Some.is c.deref.ensures.value c.in_ok-list-in-Method.ensures.nodes

@@ -287,3 +287,41 @@ set_check-requires-clause-home c = c.requires.sound.holds.home
 
 pub set_enabled-requires-clause-home : goal.set_enabled-requires-clause-home
 set_enabled-requires-clause-home c = c.requires.sound.holds.home
+
+pub returns-in-Append-clause-native : goal.returns-in-Append-clause-native
+returns-in-Append-clause-native c = λ b.
+    let w = c.args.w in
+    let p = c.args.page.now in
+    let l = c.args.around.now in
+    let s = c.args.store.now in
+    let h = beside s p l b in
+    let ns = map (number p w) c.args.list.now in
+    let b1 = seen w s.cells (value.Ref c.args.this) in
+    let u = seen w s.cells c.args.first.now in
+    let v = seen w s.cells c.args.second.now in
+    of_method w h (beside c.append.new.store c.append.new.page l b) c.args.meter.now c.append.new.meter ns b1 u v c.append.result c.args.method method.Append c.in-Append.is (c.append.ensures.native l b c.requires.sound)
+
+pub returns-in-Append-clause-kept : goal.returns-in-Append-clause-kept
+returns-in-Append-clause-kept c = c.append.ensures.kept c.args.around.now c.requires.sound
+
+pub append-requires-clause-sound : goal.append-requires-clause-sound
+append-requires-clause-sound c = (c.args.around.now, c.requires.sound)
+
+pub returns-in-SetValue-clause-native : goal.returns-in-SetValue-clause-native
+returns-in-SetValue-clause-native c = λ b.
+    let w = c.args.w in
+    let p = c.args.page.now in
+    let l = c.args.around.now in
+    let s = c.args.store.now in
+    let h = beside s p l b in
+    let ns = map (number p w) c.args.list.now in
+    let b1 = seen w s.cells (value.Ref c.args.this) in
+    let u = seen w s.cells c.args.first.now in
+    let v = seen w s.cells c.args.second.now in
+    of_method w h (beside c.set_value.new.store c.set_value.new.page l b) c.args.meter.now c.set_value.new.meter ns b1 u v c.set_value.result c.args.method method.SetValue c.in-SetValue.is (c.set_value.ensures.native l b c.requires.sound)
+
+pub returns-in-SetValue-clause-kept : goal.returns-in-SetValue-clause-kept
+returns-in-SetValue-clause-kept c = c.set_value.ensures.kept c.args.around.now c.requires.sound
+
+pub set_value-requires-clause-sound : goal.set_value-requires-clause-sound
+set_value-requires-clause-sound c = (c.args.around.now, c.requires.sound)

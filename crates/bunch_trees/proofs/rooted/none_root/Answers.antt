@@ -4,7 +4,7 @@ use Rattle.std.specs.List.{list_all}
 use Rattle.widget_meaning.specs.BunchWrites.{is_no_root}
 use Rattle.page_image.specs.Image.{number}
 use Rattle.native_image.proofs.Lists.{all_not, element_in, mapped_whole, open_more}
-use Rattle.bunch_write.proofs.moving.none_root.Goals as goal
+use Rattle.bunch_trees.proofs.rooted.none_root.Goals as goal
 
 pub is_root-requires-clause-own : goal.is_root-requires-clause-own
 is_root-requires-clause-own c = c.requires.own _ (element_in c.args.list.now c.each.node-index c.each-test.true)

@@ -2,7 +2,7 @@ use Rattle.std.proofs.Common.{◌≡◌, map, take, true}
 use Rattle.std.specs.List.{list_all}
 use Rattle.widget_meaning.specs.BunchWrites.{is_no_root}
 use Rattle.page_image.specs.Image.{number}
-use Rattle.bunch_write.proofs.moving.none_root.Given as goal
+use Rattle.bunch_trees.proofs.rooted.none_root.Given as goal
 
 -- none of those before is the root
 abbrev pub invariant-each : goal.invariant-each

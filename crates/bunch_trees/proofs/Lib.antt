@@ -1,0 +1,11 @@
+mod Changed
+mod Counting
+mod Ending
+mod Exploded
+mod Filled
+mod Grafted
+mod Measured
+mod Numbered
+mod Roots
+mod Tagged
+mod Texts

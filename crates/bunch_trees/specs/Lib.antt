@@ -1,0 +1,4 @@
+pub mod Changes
+pub mod Values
+pub mod Appends
+pub mod Explodes

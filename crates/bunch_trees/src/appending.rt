@@ -1,0 +1,150 @@
+//! `append`.
+ghost use Rattle.std.specs.Prelude.{◌≡◌, ◌<◌, ◌*◌, ℕ, [], ◌∷◌, Bool, Option, true, IfOk, map};
+ghost use Rattle.std.specs.List.{list_all};
+ghost use Rattle.plain_tree.specs.Trees.{size};
+ghost use Rattle.query_grammar.specs.Finds.{has_number};
+ghost use Rattle.widget_meaning.specs.BunchWrites as means;
+ghost use Rattle.widget_meaning.specs.NativeNames as names;
+ghost use Rattle.widget_meaning.specs.PageForms.{tree_units};
+ghost use Rattle.event_loop.specs.declared.around.Loop.{Loop};
+ghost use Rattle.js_image.specs.Held.{IsFine, IsHeld};
+ghost use Rattle.js_image.specs.Image.{seen};
+ghost use Rattle.native_forms.specs.Numbers.{counted};
+ghost use Rattle.page_image.specs.Copies.{trees_at};
+ghost use Rattle.page_image.specs.Image.{HasRoot, forest, number, owns};
+ghost use Rattle.page_image.specs.Targets.{takes};
+ghost use Rattle.native_image.specs.Image.{beside};
+ghost use Rattle.native_image.specs.Meets.{EndsAt, MeetsAt};
+ghost use Rattle.native_image.specs.Sound.{AreNodes, IsSound, KeepsAll};
+ghost use Rattle.bunch_trees.specs.Appends.{append_nodes, append_paid};
+
+use crate::copying::append_all;
+use crate::measuring::{Extent, measure_all};
+use crate::receiver::Receiver;
+use crate::rooted::none_root;
+use code_units::Memory;
+use js_image::Fault;
+use js_values::{Meter, NativeOut};
+use native_forms::take;
+use native_image::{Bill, bunch_of, pay_judged, settle, weigh};
+use object_store::{Store, Value};
+use page_image::may_append;
+use page_tree::{NodeId, Page};
+use std::alloc::Global;
+
+// Whether each target takes all of these nodes.
+fn all_take(targets: &[NodeId], news: &[NodeId], w: u32, page: &Page) -> bool
+    requires home { HasRoot page.now w }
+    requires targets { (n : ℕ) → has_number targets.now n ≡ true → owns page.now w n ≡ true }
+    requires news { (n : ℕ) → has_number news.now n ≡ true → owns page.now w n ≡ true }
+    ensures { result ≡
+        list_all (takes (forest page.now w) (map (number page.now w) news.now)) (map (number page.now w) targets.now) }
+{
+    'each: for target in targets {
+        if !may_append(page, w, *target, news) {
+            return false;
+        }
+    }
+    true
+}
+
+// The cost is weighed, the nodes are appended, and the Bunch is given back.
+fn append_weighed(
+    alloc: Global,
+    bunch: &Receiver,
+    news: &[NodeId],
+    extent: Extent,
+    store: &mut Store,
+    page: &mut Page,
+) -> Result<NativeOut, Memory>
+    requires widget { bunch.now.w < 32 }
+    requires nodes { AreNodes page.old bunch.now.w bunch.now.nodes.now }
+    requires held { IsHeld bunch.now.w store.old.cells bunch.now.cell }
+    requires news { (n : ℕ) → has_number news.now n ≡ true → owns page.old bunch.now.w n ≡ true }
+    requires size { extent.nodes ≡ counted (size (trees_at page.old bunch.now.w news.now)) }
+    requires units { extent.units ≡ counted (tree_units (trees_at page.old bunch.now.w news.now)) }
+    requires sound { (l : Loop) × IsSound bunch.now.w store.old page.old l }
+    ensures ends { (l : Loop) (b : Option Bool) → IsSound bunch.now.w store.old page.old l → IfOk result (λ o.
+        EndsAt bunch.now.w (beside store.old page.old l b) (beside store.new page.new l b)
+        (λ d s. append_paid (map (number page.old bunch.now.w) bunch.now.nodes.now) (map (number page.old bunch.now.w) news.now)
+        (seen bunch.now.w store.old.cells (Value.Ref bunch.now.cell)) s) o) }
+    ensures kept { (l : Loop) → IsSound bunch.now.w store.old page.old l → KeepsAll bunch.now.w store.old store.new page.old page.new l }
+{
+    let copies = bunch.nodes.len().saturating_sub(1);
+    let units = copies.saturating_mul(extent.units);
+    let bill = Bill {
+        units,
+        cells: 0,
+        slots: 0,
+        nodes: copies.saturating_mul(extent.nodes),
+    };
+    match weigh(store, page, bunch.w, bill) {
+        Ok(due) => {
+            pay_judged(store, bunch.w, units as u32)?;
+            append_all(alloc, store, page, bunch.w, bunch.nodes, news)?;
+            settle(store, page, bunch.w, due)?;
+            Ok(NativeOut::Value(Value::Ref(bunch.cell)))
+        }
+        Err(cause) => Ok(NativeOut::Stop(cause)),
+    }
+}
+
+// Appends nodes of the widget.
+fn append_nodes(
+    alloc: Global,
+    bunch: &Receiver,
+    news: &[NodeId],
+    store: &mut Store,
+    meter: &mut Meter,
+    page: &mut Page,
+) -> Result<NativeOut, Memory>
+    requires widget { bunch.now.w < 32 }
+    requires nodes { AreNodes page.old bunch.now.w bunch.now.nodes.now }
+    requires held { IsHeld bunch.now.w store.old.cells bunch.now.cell }
+    requires news { (n : ℕ) → has_number news.now n ≡ true → owns page.old bunch.now.w n ≡ true }
+    requires sound { (l : Loop) × IsSound bunch.now.w store.old page.old l }
+    ensures native { (l : Loop) (b : Option Bool) → IsSound bunch.now.w store.old page.old l → IfOk result (λ o.
+        MeetsAt bunch.now.w (beside store.old page.old l b) (beside store.new page.new l b) meter.old meter.new
+        (λ d s. append_nodes (map (number page.old bunch.now.w) bunch.now.nodes.now) (map (number page.old bunch.now.w) news.now)
+        (seen bunch.now.w store.old.cells (Value.Ref bunch.now.cell)) s) o) }
+    ensures kept { (l : Loop) → IsSound bunch.now.w store.old page.old l → KeepsAll bunch.now.w store.old store.new page.old page.new l }
+{
+    if !all_take(bunch.nodes, news, bunch.w, page) {
+        return Ok(NativeOut::Throw(Fault::E10));
+    }
+    if !none_root(news, bunch.w, page) {
+        return Ok(NativeOut::Throw(Fault::E10));
+    }
+    let extent = measure_all(news, bunch.w, page);
+    match take(meter, bunch.nodes.len().saturating_mul(extent.nodes)) {
+        Ok(()) => append_weighed(alloc, bunch, news, extent, store, page),
+        Err(_) => Ok(NativeOut::OutOfFuel),
+    }
+}
+
+/// `append(b)`: the nodes of b become the last children of the last node of the Bunch, and copies of
+/// them those of the others.
+pub fn append(
+    alloc: Global,
+    bunch: &Receiver,
+    other: &Value,
+    store: &mut Store,
+    meter: &mut Meter,
+    page: &mut Page,
+) -> Result<NativeOut, Memory>
+    requires widget { bunch.now.w < 32 }
+    requires nodes { AreNodes page.old bunch.now.w bunch.now.nodes.now }
+    requires held { IsHeld bunch.now.w store.old.cells bunch.now.cell }
+    requires other { IsFine bunch.now.w store.old.cells other.now }
+    requires sound { (l : Loop) × IsSound bunch.now.w store.old page.old l }
+    ensures native { (l : Loop) (b : Option Bool) → IsSound bunch.now.w store.old page.old l → IfOk result (λ o.
+        MeetsAt bunch.now.w (beside store.old page.old l b) (beside store.new page.new l b) meter.old meter.new
+        (λ d s. means.write_method names.Append (map (number page.old bunch.now.w) bunch.now.nodes.now)
+        (seen bunch.now.w store.old.cells (Value.Ref bunch.now.cell)) (seen bunch.now.w store.old.cells other.now ∷ []) d s) o) }
+    ensures kept { (l : Loop) → IsSound bunch.now.w store.old page.old l → KeepsAll bunch.now.w store.old store.new page.old page.new l }
+{
+    match bunch_of(alloc, store, bunch.w, page, other)? {
+        Some(news) => append_nodes(alloc, bunch, &news, store, meter, page),
+        None => Ok(NativeOut::Throw(Fault::E4)),
+    }
+}

@@ -1,0 +1,143 @@
+//! The root of a widget: `dom.append`, and nodes that are not the root.
+ghost use Rattle.std.specs.Prelude.{◌≡◌, ◌<◌, ℕ, [], ◌∷◌, Bool, Option, true, IfOk, map};
+ghost use Rattle.std.specs.List.{list_all};
+ghost use Rattle.query_grammar.specs.Finds.{has_number};
+ghost use Rattle.widget_meaning.specs.BunchWrites as writes;
+ghost use Rattle.widget_meaning.specs.DomNatives as means;
+ghost use Rattle.widget_meaning.specs.NativeNames as names;
+ghost use Rattle.widget_meaning.specs.Values.{Value as Meant};
+ghost use Rattle.event_loop.specs.declared.around.Loop.{Loop};
+ghost use Rattle.js_image.specs.Held.{IsFine};
+ghost use Rattle.js_image.specs.Image.{seen};
+ghost use Rattle.page_image.specs.Image.{HasRoot, number, owns};
+ghost use Rattle.native_image.specs.Image.{beside};
+ghost use Rattle.native_image.specs.Meets.{EndsAt, MeetsAt};
+ghost use Rattle.native_image.specs.Sound.{IsSound, KeepsAll};
+ghost use Rattle.bunch_trees.specs.Appends.{root_paid, root_plan};
+
+use crate::copying::put_under;
+use crate::measuring::measure_all;
+use code_units::{Memory, Owner};
+use js_image::Fault;
+use js_values::{Meter, NativeOut};
+use native_forms::take;
+use native_image::{Bill, bunch_of, bunch_of_node, settle, weigh};
+use object_store::{Store, Value};
+use page_image::{is_root, may_append};
+use page_tree::{NodeId, Page};
+use std::alloc::Global;
+
+/// Whether none of these nodes is the root.
+pub fn none_root(list: &[NodeId], w: u32, page: &Page) -> bool
+    requires home { HasRoot page.now w }
+    requires own { (n : ℕ) → has_number list.now n ≡ true → owns page.now w n ≡ true }
+    ensures { result ≡ list_all writes.is_no_root (map (number page.now w) list.now) }
+{
+    'each: for node in list {
+        if is_root(page, w, *node) {
+            return false;
+        }
+    }
+    true
+}
+
+// The root of a widget.
+fn root_of(w: u32, page: &Page) -> NodeId
+    requires widget { w < 32 }
+    requires home { HasRoot page.now w }
+    ensures own { owns page.now w result ≡ true }
+    ensures first { number page.now w result ≡ 0 }
+{
+    match page.root_of(Owner::Widget(w)) {
+        Some(root) => root,
+        None => unreachable!(),
+    }
+}
+
+// The cost is weighed, the nodes come under the root, and a new Bunch of it is given.
+fn under_root(
+    alloc: Global,
+    news: &[NodeId],
+    root: NodeId,
+    store: &mut Store,
+    w: u32,
+    page: &mut Page,
+) -> Result<NativeOut, Memory>
+    requires widget { w < 32 }
+    requires own { owns page.old w root ≡ true }
+    requires first { number page.old w root ≡ 0 }
+    requires news { (n : ℕ) → has_number news.now n ≡ true → owns page.old w n ≡ true }
+    requires sound { (l : Loop) × IsSound w store.old page.old l }
+    ensures ends { (l : Loop) (b : Option Bool) → IsSound w store.old page.old l → IfOk result (λ o.
+        EndsAt w (beside store.old page.old l b) (beside store.new page.new l b)
+        (λ d s. root_paid (map (number page.old w) news.now) s) o) }
+    ensures kept { (l : Loop) → IsSound w store.old page.old l → KeepsAll w store.old store.new page.old page.new l }
+{
+    let bill = Bill {
+        units: 0,
+        cells: 1,
+        slots: 2,
+        nodes: 0,
+    };
+    match weigh(store, page, w, bill) {
+        Ok(due) => {
+            put_under(page, w, root, news)?;
+            let value = bunch_of_node(alloc, store, w, page, root)?;
+            settle(store, page, w, due)?;
+            Ok(NativeOut::Value(value))
+        }
+        Err(cause) => Ok(NativeOut::Stop(cause)),
+    }
+}
+
+// Appends nodes of the widget to its root.
+fn append_to_root(
+    alloc: Global,
+    news: &[NodeId],
+    store: &mut Store,
+    meter: &mut Meter,
+    w: u32,
+    page: &mut Page,
+) -> Result<NativeOut, Memory>
+    requires widget { w < 32 }
+    requires news { (n : ℕ) → has_number news.now n ≡ true → owns page.old w n ≡ true }
+    requires sound { (l : Loop) × IsSound w store.old page.old l }
+    ensures native { (l : Loop) (b : Option Bool) → IsSound w store.old page.old l → IfOk result (λ o.
+        MeetsAt w (beside store.old page.old l b) (beside store.new page.new l b) meter.old meter.new
+        (λ d s. root_plan (map (number page.old w) news.now) s) o) }
+    ensures kept { (l : Loop) → IsSound w store.old page.old l → KeepsAll w store.old store.new page.old page.new l }
+{
+    let root = root_of(w, page);
+    if !may_append(page, w, root, news) {
+        return Ok(NativeOut::Throw(Fault::E10));
+    }
+    let extent = measure_all(news, w, page);
+    match take(meter, extent.nodes) {
+        Ok(()) => under_root(alloc, news, root, store, w, page),
+        Err(_) => Ok(NativeOut::OutOfFuel),
+    }
+}
+
+/// `dom.append(b)`: the nodes of b become the last children of the root, and a new Bunch of it is
+/// given.
+pub fn dom_append(
+    alloc: Global,
+    other: &Value,
+    store: &mut Store,
+    meter: &mut Meter,
+    w: u32,
+    page: &mut Page,
+) -> Result<NativeOut, Memory>
+    requires widget { w < 32 }
+    requires other { IsFine w store.old.cells other.now }
+    requires sound { (l : Loop) × IsSound w store.old page.old l }
+    ensures native { (l : Loop) (b : Option Bool) (this : Option Meant) → IsSound w store.old page.old l → IfOk result (λ o.
+        MeetsAt w (beside store.old page.old l b) (beside store.new page.new l b) meter.old meter.new
+        (λ d s. means.dom_native names.DomAppend this (seen w store.old.cells other.now ∷ []) d s) o) }
+    ensures kept { (l : Loop) → IsSound w store.old page.old l → KeepsAll w store.old store.new page.old page.new l }
+{
+    match bunch_of(alloc, store, w, page, other)? {
+        Some(news) => append_to_root(alloc, &news, store, meter, w, page),
+        None => Ok(NativeOut::Throw(Fault::E4)),
+    }
+}

@@ -1,0 +1,204 @@
+//! `value`.
+ghost use Rattle.std.specs.Prelude.{◌≡◌, ◌<◌, ◌≤◌, ◌*◌, ℕ, [], ◌∷◌, Bool, Option, true, codes, cond, IfOk, map};
+ghost use Rattle.std.specs.List.{count_by, list_all};
+ghost use Rattle.query_grammar.specs.Finds.{has_number};
+ghost use Rattle.widget_meaning.specs.BunchWrites as means;
+ghost use Rattle.widget_meaning.specs.NativeNames as names;
+ghost use Rattle.widget_meaning.specs.OwnState.{State};
+ghost use Rattle.widget_meaning.specs.PageForms.{is_tag};
+ghost use Rattle.event_loop.specs.declared.around.Loop.{Loop};
+ghost use Rattle.js_image.specs.Held.{IsHeld};
+ghost use Rattle.js_image.specs.Image.{seen};
+ghost use Rattle.page_image.specs.Image.{forest, number, owns};
+ghost use Rattle.native_image.specs.Image.{beside};
+ghost use Rattle.native_image.specs.Meets.{EndsAt, MeetsAt};
+ghost use Rattle.native_image.specs.Sound.{AreNodes, IsSound, KeepsAll};
+ghost use Rattle.bunch_trees.specs.Values.{is_closed_tag, value_paid};
+
+use crate::receiver::Receiver;
+use crate::writing::{Given, give_all};
+use bunch_marks::{is_input, is_text_node};
+use code_units::{Memory, Text, is_word};
+use js_image::{Fault, word};
+use js_values::{Meter, NativeOut};
+use native_forms::{is_object, read_text, take, text_len};
+use native_image::{Bill, pay_judged, settle, weigh};
+use object_store::{Store, Value};
+use page_image::{depth, tag};
+use page_tree::{NodeId, Page};
+use std::alloc::Global;
+
+// Whether elements of a tag take no value.
+fn is_closed_tag(name: &Text) -> bool
+    ensures { result ≡ is_closed_tag name.now }
+{
+    is_word(name, b"br") || is_word(name, b"hr") || is_word(name, b"img")
+}
+
+// Whether a node takes no value, whatever it is.
+fn is_closed(node: NodeId, w: u32, page: &Page) -> bool
+    requires { owns page.now w node ≡ true }
+    ensures { (s : State) → s.own.forest ≡ forest page.now w
+        → result ≡ is_tag (codes "br" ∷ codes "hr" ∷ codes "img" ∷ []) s (number page.now w node) }
+{
+    match tag(page, w, node) {
+        Some(name) => is_closed_tag(name),
+        None => false,
+    }
+}
+
+// Whether a node gets a new text node for a value.
+fn gets_text(node: NodeId, text: &Text, w: u32, page: &Page) -> bool
+    requires { owns page.now w node ≡ true }
+    ensures { (s : State) → s.own.forest ≡ forest page.now w
+        → result ≡ means.has_new_text s text.now (number page.now w node) }
+{
+    if text.units().is_empty() {
+        return false;
+    }
+    !is_text_node(node, w, page) && !is_input(node, w, page)
+}
+
+// Whether a node takes a value.
+fn takes_value(node: NodeId, text: &Text, w: u32, page: &Page) -> bool
+    requires { owns page.now w node ≡ true }
+    ensures { (s : State) → s.own.forest ≡ forest page.now w
+        → result ≡ means.is_value_target s text.now (number page.now w node) }
+{
+    if is_closed(node, w, page) {
+        return false;
+    }
+    if !gets_text(node, text, w, page) {
+        return true;
+    }
+    depth(page, w, node) < 200
+}
+
+// Whether each node takes a value.
+fn all_take(nodes: &[NodeId], text: &Text, w: u32, page: &Page) -> bool
+    requires { (n : ℕ) → has_number nodes.now n ≡ true → owns page.now w n ≡ true }
+    ensures { (s : State) → s.own.forest ≡ forest page.now w
+        → result ≡ list_all (means.is_value_target s text.now) (map (number page.now w) nodes.now) }
+{
+    'each: for node in nodes {
+        if !takes_value(*node, text, w, page) {
+            return false;
+        }
+    }
+    true
+}
+
+// How many new text nodes a node gets.
+fn new_text(node: NodeId, text: &Text, w: u32, page: &Page) -> usize
+    requires { owns page.now w node ≡ true }
+    ensures one { (s : State) → s.own.forest ≡ forest page.now w
+        → result ≡ cond (means.has_new_text s text.now (number page.now w node)) 1 0 }
+    ensures few { result ≤ 1 }
+{
+    if gets_text(node, text, w, page) { 1 } else { 0 }
+}
+
+// How many there will be.
+fn new_texts(nodes: &[NodeId], text: &Text, w: u32, page: &Page) -> usize
+    requires { (n : ℕ) → has_number nodes.now n ≡ true → owns page.now w n ≡ true }
+    ensures { (s : State) → s.own.forest ≡ forest page.now w
+        → result ≡ count_by (means.has_new_text s text.now) (map (number page.now w) nodes.now) }
+{
+    let mut many: usize = 0;
+    'each: for node in nodes {
+        many += new_text(*node, text, w, page);
+    }
+    many
+}
+
+// The cost is weighed, the nodes get their value, and the Bunch is given back.
+fn value_weighed(
+    alloc: Global,
+    bunch: &Receiver,
+    text: Text,
+    store: &mut Store,
+    page: &mut Page,
+) -> Result<NativeOut, Memory>
+    requires widget { bunch.now.w < 32 }
+    requires nodes { AreNodes page.old bunch.now.w bunch.now.nodes.now }
+    requires held { IsHeld bunch.now.w store.old.cells bunch.now.cell }
+    requires sound { (l : Loop) × IsSound bunch.now.w store.old page.old l }
+    ensures ends { (l : Loop) (b : Option Bool) → IsSound bunch.now.w store.old page.old l → IfOk result (λ o.
+        EndsAt bunch.now.w (beside store.old page.old l b) (beside store.new page.new l b)
+        (λ d s. value_paid (map (number page.old bunch.now.w) bunch.now.nodes.now) text
+        (seen bunch.now.w store.old.cells (Value.Ref bunch.now.cell)) s) o) }
+    ensures kept { (l : Loop) → IsSound bunch.now.w store.old page.old l → KeepsAll bunch.now.w store.old store.new page.old page.new l }
+{
+    let units = bunch.nodes.len().saturating_mul(text_len(&text));
+    let bill = Bill {
+        units,
+        cells: 0,
+        slots: 0,
+        nodes: new_texts(bunch.nodes, &text, bunch.w, page),
+    };
+    match weigh(store, page, bunch.w, bill) {
+        Ok(due) => {
+            pay_judged(store, bunch.w, units as u32)?;
+            let name = word(alloc, b"value")?;
+            let given = Given { name, text };
+            give_all(alloc, store, page, bunch.w, bunch.nodes, &given)?;
+            settle(store, page, bunch.w, due)?;
+            Ok(NativeOut::Value(Value::Ref(bunch.cell)))
+        }
+        Err(cause) => Ok(NativeOut::Stop(cause)),
+    }
+}
+
+// Gives a value to all nodes.
+fn give_value(
+    alloc: Global,
+    bunch: &Receiver,
+    text: Text,
+    store: &mut Store,
+    meter: &mut Meter,
+    page: &mut Page,
+) -> Result<NativeOut, Memory>
+    requires widget { bunch.now.w < 32 }
+    requires nodes { AreNodes page.old bunch.now.w bunch.now.nodes.now }
+    requires held { IsHeld bunch.now.w store.old.cells bunch.now.cell }
+    requires sound { (l : Loop) × IsSound bunch.now.w store.old page.old l }
+    ensures native { (l : Loop) (b : Option Bool) → IsSound bunch.now.w store.old page.old l → IfOk result (λ o.
+        MeetsAt bunch.now.w (beside store.old page.old l b) (beside store.new page.new l b) meter.old meter.new
+        (λ d s. means.set_value (map (number page.old bunch.now.w) bunch.now.nodes.now) text
+        (seen bunch.now.w store.old.cells (Value.Ref bunch.now.cell)) s) o) }
+    ensures kept { (l : Loop) → IsSound bunch.now.w store.old page.old l → KeepsAll bunch.now.w store.old store.new page.old page.new l }
+{
+    if !all_take(bunch.nodes, &text, bunch.w, page) {
+        return Ok(NativeOut::Throw(Fault::E10));
+    }
+    match take(meter, bunch.nodes.len()) {
+        Ok(()) => value_weighed(alloc, bunch, text, store, page),
+        Err(_) => Ok(NativeOut::OutOfFuel),
+    }
+}
+
+/// `value(v)`.
+pub fn set_value(
+    alloc: Global,
+    bunch: &Receiver,
+    value: &Value,
+    store: &mut Store,
+    meter: &mut Meter,
+    page: &mut Page,
+) -> Result<NativeOut, Memory>
+    requires widget { bunch.now.w < 32 }
+    requires nodes { AreNodes page.old bunch.now.w bunch.now.nodes.now }
+    requires held { IsHeld bunch.now.w store.old.cells bunch.now.cell }
+    requires sound { (l : Loop) × IsSound bunch.now.w store.old page.old l }
+    ensures native { (l : Loop) (b : Option Bool) → IsSound bunch.now.w store.old page.old l → IfOk result (λ o.
+        MeetsAt bunch.now.w (beside store.old page.old l b) (beside store.new page.new l b) meter.old meter.new
+        (λ d s. means.write_method names.SetValue (map (number page.old bunch.now.w) bunch.now.nodes.now)
+        (seen bunch.now.w store.old.cells (Value.Ref bunch.now.cell)) (seen bunch.now.w store.old.cells value.now ∷ []) d s) o) }
+    ensures kept { (l : Loop) → IsSound bunch.now.w store.old page.old l → KeepsAll bunch.now.w store.old store.new page.old page.new l }
+{
+    if is_object(value) {
+        return Ok(NativeOut::Throw(Fault::E4));
+    }
+    let text = read_text(alloc, value)?;
+    give_value(alloc, bunch, text, store, meter, page)
+}
