@@ -1,5 +1,5 @@
--- The natives that stand, by the rooms that have them.
-use Rattle.std.specs.Prelude.{◌||◌, Bool, true, false}
+-- The rooms of natives.
+use Rattle.std.specs.Prelude.{Bool}
 use Rattle.permitted_table.specs.declared.native.NativeId.{NativeId}
 use Rattle.permitted_table.specs.declared.native.NativeId.TheVariants as native
 use Rattle.text_methods.specs.Kinds as texts
@@ -18,7 +18,7 @@ is_of family.Adsafe which = adsafe.is_part which
 is_of family.Reads which = reads.is_part which
 is_of family.Writes which = writes.is_part which
 
--- the room of a native; of one that no room has yet, the last
+-- the room of a native
 abbrev pub room_of : NativeId → Family
 room_of native.Boolean = family.Texts
 room_of native.Number = family.Texts
@@ -89,15 +89,3 @@ room_of native.GetParent = family.Reads
 room_of native.GetTagName = family.Reads
 room_of native.GetMark = family.Reads
 room_of _ = family.Writes
-
--- the natives of all rooms
-abbrev pub is_part : NativeId → Bool
-is_part which = texts.is_part which || (lists.is_part which || (adsafe.is_part which || (reads.is_part which || writes.is_part which)))
-
--- the natives of the table that no room has yet
-abbrev pub is_unbuilt : NativeId → Bool
-is_unbuilt native.DomAppend = true
-is_unbuilt native.BunchAppend = true
-is_unbuilt native.Value = true
-is_unbuilt native.Explode = true
-is_unbuilt _ = false

@@ -15,7 +15,6 @@ ghost use Rattle.page_tree.specs.declared.page.Page.{Page as PageTree};
 ghost use Rattle.adsafe_object.specs.Part as adsafe;
 ghost use Rattle.natives.specs.Asked.{is_fire};
 ghost use Rattle.natives.specs.Meets.{MeetsWhole, plan_of};
-ghost use Rattle.natives.specs.Parts.{is_part};
 ghost use Rattle.natives.specs.Reach.{reach};
 
 use crate::families::{Family, room_of};
@@ -49,7 +48,6 @@ pub fn call(
     log: &mut Vec<Text>,
     posts: &mut Vec<(Text, Text)>,
 ) -> Result<NativeOut, Memory>
-    requires part { is_part native.now.which ≡ true }
     requires widget { w < 32 }
     requires confined { (fs : List Forest) × IsConfined fs w store.old }
     requires sound { IsSound w store.old page.old around.old }
@@ -81,7 +79,6 @@ fn call_on(
     log: &mut Vec<Text>,
     posts: &mut Vec<(Text, Text)>,
 ) -> Result<NativeOut, Memory>
-    requires part { is_part native.now.which ≡ true }
     requires widget { w < 32 }
     requires confined { (fs : List Forest) × IsConfined fs w store.old }
     requires sound { IsSound w store.old page.old around.old }

@@ -1,6 +1,6 @@
 //! Which room has a native.
-ghost use Rattle.std.specs.Prelude.{◌≡◌, true, false};
-ghost use Rattle.natives.specs.Parts.{is_part, is_unbuilt, room_of};
+ghost use Rattle.std.specs.Prelude.{◌≡◌};
+ghost use Rattle.natives.specs.Parts.{room_of};
 
 use object_store::NativeId;
 
@@ -96,25 +96,3 @@ pub(crate) fn room_of(which: NativeId) -> Family
         _ => Family::Writes,
     }
 }
-
-// Whether no room has a native yet.
-fn is_unbuilt(which: NativeId) -> bool
-    ensures { result ≡ is_unbuilt which }
-{
-    matches!(
-        which,
-        NativeId::DomAppend | NativeId::BunchAppend | NativeId::Value | NativeId::Explode
-    )
-}
-
-/// Whether a native stands in a room.
-pub fn is_part(which: NativeId) -> bool
-    ensures { result ≡ true → is_part which ≡ true }
-{
-    !is_unbuilt(which)
-}
-
-/// A law: every native stands in a room, but for `append`, `value` and `explode` of Bunches and `dom.append`.
-pub fn covers(which: NativeId)
-    ensures { is_unbuilt which ≡ false → is_part which ≡ true }
-{}

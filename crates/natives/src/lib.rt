@@ -7,4 +7,3 @@ mod families;
 mod timers;
 
 pub use calling::call;
-pub use families::{Family, covers, is_part};

@@ -16,28 +16,28 @@ use Rattle.natives.proofs.Whole.{meets_kept, store_keeps, store_whole, whole_at}
 use Rattle.natives.proofs.calling.call_on.Goals as goal
 
 pub call-requires-clause-part : goal.call-requires-clause-part
-call-requires-clause-part c = subst (λ f. is_of f c.args.native.now.which ≡ true) (sym c.room_of.ensures ∙ c.in-Texts.is) (in_room c.args.native.now.which c.requires.part)
+call-requires-clause-part c = subst (λ f. is_of f c.args.native.now.which ≡ true) (sym c.room_of.ensures ∙ c.in-Texts.is) (in_room c.args.native.now.which)
 
 pub call-requires-clause-args : goal.call-requires-clause-args
 call-requires-clause-args c = subst (AreFine c.args.w c.args.store.now.cells) (sym c.as_slice-args.ensures) c.requires.args
 
 pub call-requires-in-Lists-clause-part : goal.call-requires-in-Lists-clause-part
-call-requires-in-Lists-clause-part c = subst (λ f. is_of f c.args.native.now.which ≡ true) (sym c.room_of.ensures ∙ c.in-Lists.is) (in_room c.args.native.now.which c.requires.part)
+call-requires-in-Lists-clause-part c = subst (λ f. is_of f c.args.native.now.which ≡ true) (sym c.room_of.ensures ∙ c.in-Lists.is) (in_room c.args.native.now.which)
 
 pub call-requires-in-Lists-clause-args : goal.call-requires-in-Lists-clause-args
 call-requires-in-Lists-clause-args c = subst (AreFine c.args.w c.args.store.now.cells) (sym c.as_slice-args.ensures) c.requires.args
 
 pub adsafe_native-requires-clause-part : goal.adsafe_native-requires-clause-part
-adsafe_native-requires-clause-part c = subst (λ f. is_of f c.args.native.now.which ≡ true) (sym c.room_of.ensures ∙ c.in-Adsafe.is) (in_room c.args.native.now.which c.requires.part)
+adsafe_native-requires-clause-part c = subst (λ f. is_of f c.args.native.now.which ≡ true) (sym c.room_of.ensures ∙ c.in-Adsafe.is) (in_room c.args.native.now.which)
 
 pub adsafe_native-requires-clause-args : goal.adsafe_native-requires-clause-args
 adsafe_native-requires-clause-args c = subst (AreFine c.args.w c.args.store.now.cells) (sym c.as_slice-args.ensures) c.requires.args
 
 pub call-requires-in-Reads-clause-part : goal.call-requires-in-Reads-clause-part
-call-requires-in-Reads-clause-part c = subst (λ f. is_of f c.args.native.now.which ≡ true) (sym c.room_of.ensures ∙ c.in-Reads.is) (in_room c.args.native.now.which c.requires.part)
+call-requires-in-Reads-clause-part c = subst (λ f. is_of f c.args.native.now.which ≡ true) (sym c.room_of.ensures ∙ c.in-Reads.is) (in_room c.args.native.now.which)
 
 pub call-requires-in-Writes-clause-part : goal.call-requires-in-Writes-clause-part
-call-requires-in-Writes-clause-part c = subst (λ f. is_of f c.args.native.now.which ≡ true) (sym c.room_of.ensures ∙ c.in-Writes.is) (in_room c.args.native.now.which c.requires.part)
+call-requires-in-Writes-clause-part c = subst (λ f. is_of f c.args.native.now.which ≡ true) (sym c.room_of.ensures ∙ c.in-Writes.is) (in_room c.args.native.now.which)
 
 pub call-requires-in-Writes-clause-args : goal.call-requires-in-Writes-clause-args
 call-requires-in-Writes-clause-args c = subst (AreFine c.args.w c.args.store.now.cells) (sym c.as_slice-args.ensures) c.requires.args
