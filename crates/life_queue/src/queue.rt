@@ -1,0 +1,63 @@
+//! The queue of a life, until a turn begins.
+ghost use Rattle.std.specs.Prelude.{◌≡◌, ◌+◌, ◌<◌, ◌^◌, IfOk, None, OnErr, OnOk};
+ghost use Rattle.life_laws.specs.Life.{potential};
+ghost use Rattle.life_queue.specs.Lives.{trees_in, work_of};
+ghost use Rattle.life_queue.specs.Fine.{FineLife, FineWork, KeepsLife, tally};
+ghost use Rattle.life_queue.specs.Taken.{BeginsTurn, Takes};
+
+use crate::events::take_event;
+use crate::life::{Life, Work};
+use crate::works::{take_advance, take_go, take_library, take_until};
+use code_units::Memory;
+use std::alloc::Global;
+use turn_calls::Shared;
+
+// One work.
+fn take_work(
+    alloc: Global,
+    shared: &mut Shared,
+    w: u32,
+    life: &mut Life,
+    work: Work,
+) -> Result<(), Memory>
+    requires widget { w < 32 }
+    requires rests { life.old.turn ≡ None }
+    requires fine { FineLife shared.old w life.old }
+    requires script { FineWork (trees_in shared.old) work }
+    requires room { tally shared.old w life.old + potential (work_of (trees_in shared.old) work) < 2 ^ 32 }
+    ensures taken { OnOk result (Takes shared.old shared.new w work life.old life.new) }
+    ensures kept { KeepsLife w shared.old shared.new life.old life.new }
+    ensures none { OnErr result (life.new.turn ≡ None) }
+{
+    match work {
+        Work::Library(script) => take_library(alloc, shared, w, life, &script),
+        Work::Go(script) => take_go(alloc, shared, w, life, &script),
+        Work::Event(event) => take_event(alloc, shared, w, life, event),
+        Work::Advance(ms) => take_advance(alloc, shared, w, life, ms),
+        Work::Until(turns, limit) => take_until(alloc, shared, w, life, (turns, limit)),
+    }
+}
+
+/// Works leave the queue of a life between turns until one begins a turn. It answers whether one did;
+/// else the queue is empty.
+pub fn begin_turn(
+    alloc: Global,
+    shared: &mut Shared,
+    w: u32,
+    life: &mut Life,
+) -> Result<bool, Memory>
+    requires widget { w < 32 }
+    requires rests { life.old.turn ≡ None }
+    requires fine { FineLife shared.old w life.old }
+    ensures begun { IfOk result (λ b. BeginsTurn shared.old shared.new w b life.old life.new) }
+    ensures kept { KeepsLife w shared.old shared.new life.old life.new }
+    ensures none { OnErr result (life.new.turn ≡ None) }
+{
+    'queue: while let Some(work) = life.queue.pop_front() {
+        take_work(alloc, shared, w, life, work)?;
+        if life.turn.is_some() {
+            return Ok(true);
+        }
+    }
+    Ok(false)
+}
