@@ -11,7 +11,7 @@ use std::alloc::Global;
 const WIDGET: Owner = Owner::Widget(3);
 
 /// What a call gives in a store of its own.
-pub fn answer_of_call(alloc: Global, words: &str) -> Result<String> {
+pub fn answer_of_store(alloc: Global, words: &str) -> Result<String> {
     let mut store = new_store(alloc)?;
     match words {
         "put a name on a Bunch" => closed_bunch(alloc, &mut store),
@@ -55,18 +55,18 @@ fn put(alloc: Global, store: &mut Store, cell: CellId, word: &str, z: i64) -> Re
         bail!("no such cell");
     }
     match store.put(cell, &name, Value::Num(Number::Whole(z))) {
-        Ok(()) => Ok(format!(in alloc; "written")?),
+        Ok(()) => Ok(format!(in alloc; "written\n")?),
         Err(fault) => refusal(alloc, fault),
     }
 }
 
 fn refusal(alloc: Global, fault: StoreFault) -> Result<String> {
     match fault {
-        StoreFault::Cells { kept } => Ok(format!(in alloc; "Cells, {kept} kept")?),
-        StoreFault::Slots { kept } => Ok(format!(in alloc; "Slots, {kept} kept")?),
-        StoreFault::Units { kept } => Ok(format!(in alloc; "Units, {kept} kept")?),
-        StoreFault::Closed => Ok(format!(in alloc; "Closed")?),
-        StoreFault::BadLength => Ok(format!(in alloc; "BadLength")?),
+        StoreFault::Cells { kept } => Ok(format!(in alloc; "Cells, {kept} kept\n")?),
+        StoreFault::Slots { kept } => Ok(format!(in alloc; "Slots, {kept} kept\n")?),
+        StoreFault::Units { kept } => Ok(format!(in alloc; "Units, {kept} kept\n")?),
+        StoreFault::Closed => Ok(format!(in alloc; "Closed\n")?),
+        StoreFault::BadLength => Ok(format!(in alloc; "BadLength\n")?),
         StoreFault::Memory => bail!("out of memory"),
     }
 }
@@ -90,7 +90,7 @@ fn bunch_keys(alloc: Global, store: &mut Store) -> Result<String> {
     match store.keys(alloc, bunch) {
         Ok(keys) => {
             let count = keys.len();
-            Ok(format!(in alloc; "{count} names")?)
+            Ok(format!(in alloc; "{count} names\n")?)
         }
         Err(_) => bail!("out of memory"),
     }
@@ -108,7 +108,7 @@ fn removed_length(alloc: Global, store: &mut Store) -> Result<String> {
         bail!("no such cell");
     }
     match store.remove(array, &name) {
-        Ok(removed) => Ok(format!(in alloc; "{removed}")?),
+        Ok(removed) => Ok(format!(in alloc; "{removed}\n")?),
         Err(fault) => refusal(alloc, fault),
     }
 }
@@ -124,7 +124,7 @@ fn one_raw_node(alloc: Global, store: &mut Store) -> Result<String> {
     let first = raw_node(alloc, store)?;
     let second = raw_node(alloc, store)?;
     let same = first == second;
-    Ok(format!(in alloc; "the same cell: {same}")?)
+    Ok(format!(in alloc; "the same cell: {same}\n")?)
 }
 
 fn object(alloc: Global, store: &mut Store) -> std::result::Result<CellId, StoreFault> {
@@ -145,7 +145,7 @@ fn make_objects(alloc: Global, store: &mut Store, count: u32) -> Result<()> {
 fn full_cells(alloc: Global, store: &mut Store) -> Result<String> {
     make_objects(alloc, store, CELL_LIMIT)?;
     match object(alloc, store) {
-        Ok(_) => Ok(format!(in alloc; "made")?),
+        Ok(_) => Ok(format!(in alloc; "made\n")?),
         Err(fault) => refusal(alloc, fault),
     }
 }
@@ -159,7 +159,7 @@ fn last_cell(alloc: Global, store: &mut Store) -> Result<String> {
         scope: None,
     };
     match store.make(alloc, WIDGET, function) {
-        Ok(_) => Ok(format!(in alloc; "made")?),
+        Ok(_) => Ok(format!(in alloc; "made\n")?),
         Err(fault) => refusal(alloc, fault),
     }
 }
