@@ -1,0 +1,41 @@
+-- What a stop of a task comes to.
+use Rattle.std.proofs.Common.{◌≡◌, ℕ, Box, Global, List, arith, ap, refl, subst, sym}
+use Rattle.js_tree.specs.Forest.{Forest}
+use Rattle.store_cells.specs.Cells.{Cells}
+use Rattle.widget_meaning.specs.Plan.{Plan, and_then}
+use Rattle.page_tree.specs.declared.page.Page.{Page}
+use Rattle.event_loop.specs.declared.around.Loop.{Loop}
+use Rattle.js_image.specs.declared.outcome.StopCause.{StopCause}
+use Rattle.js_flow.specs.Todo.{Follows, after_step}
+use Rattle.js_steps.specs.declared.answer.Stepped.{Stepped}
+use Rattle.js_steps.specs.declared.answer.Stepped.TheVariants as stepped
+use Rattle.js_steps.specs.declared.answer.Stop.{Stop}
+use Rattle.js_steps.specs.declared.answer.Stop.TheVariants as stop
+use Rattle.js_steps.specs.declared.task.Task.{Task}
+use Rattle.js_steps.specs.Answered.{machine}
+use Rattle.native_image.specs.Image.{Outside}
+use Rattle.turn_runs.specs.declared.level.Doing.{Doing}
+use Rattle.turn_runs.specs.declared.level.Doing.TheVariants as doing
+use Rattle.turn_runs.specs.Levels.{levels_rest}
+use Rattle.turn_calls.specs.declared.calls.Calls.{Calls}
+use Rattle.turn_calls.specs.Turns.{turn_image}
+use Rattle.turn_steps.specs.Steps.{IsFollowed}
+
+module _ (w : ℕ) (p : Page) (l : Loop) (s : Cells) (b : Calls) (task : Box Task Global) (k : Stepped) (follows : Follows (machine k) task.value.control) where
+  todo_by : (fs : List Forest) (x : Outside) → Stepped → Plan
+  todo_by fs x q = and_then (after_step fs w s.cells (machine q) task.value.control task.value.frames.list.items (turn_image fs x w s p l b.dispatches.items)) (levels_rest fs w s.cells p b.levels.items)
+
+  pub stop_followed : (q : Stop) (d : Doing) → ((c : StopCause) → q ≡ stop.Due c → d ≡ doing.Stop c) → (q ≡ stop.Fuel → d ≡ doing.Runs task) → k ≡ stepped.Stop q → IsFollowed w p l s s b b task.value k d
+  unfolding todo_by
+  stop_followed stop.Fuel d due fuel is = subst (IsFollowed w p l s s b b task.value k) (sym (fuel refl)) (record {
+    plan = λ fs x fine. ap (todo_by fs x) is;
+    fine = λ fs mine held levels. (record { widget = mine; going = subst (λ (q : Stepped). Follows (machine q) task.value.control) is follows; control = held.0.0; frames = held.0.1 }, levels);
+    short = λ e. (refl, refl);
+    near = omega arith;
+  })
+  stop_followed (stop.Due c) d due fuel is = subst (IsFollowed w p l s s b b task.value k) (sym (due c refl)) (record {
+    plan = λ fs x fine. ap (todo_by fs x) is;
+    fine = λ fs mine held levels. (tt, levels);
+    short = λ e. (refl, refl);
+    near = omega arith;
+  })

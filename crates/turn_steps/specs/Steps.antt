@@ -1,0 +1,100 @@
+-- One step of a turn.
+use Rattle.std.specs.Prelude.{◌≡◌, ℕ, ◌+◌, ◌*◌, ◌-◌, ◌<◌, ◌≤◌, Bool, List, true, false, if◌then◌else◌}
+use Rattle.js_tree.specs.Forest.{Forest}
+use Rattle.store_cells.specs.Cells.{Cells}
+use Rattle.widget_meaning.specs.Plan.{Do, Hear, Plan, and_then}
+use Rattle.widget_meaning.specs.Meaning.{run_plan}
+use Rattle.page_tree.specs.declared.page.Page.{Page}
+use Rattle.event_loop.specs.declared.around.Loop.{Loop}
+use Rattle.js_flow.specs.declared.job.Completion.{Completion}
+use Rattle.js_flow.specs.Free.{free}
+use Rattle.js_flow.specs.Todo.{Moves, after_step}
+use Rattle.js_flow.specs.Views.{completion_of}
+use Rattle.js_steps.specs.declared.answer.Stepped.{Stepped}
+use Rattle.js_steps.specs.declared.answer.Stepped.TheVariants as stepped
+use Rattle.js_steps.specs.declared.answer.Stop.TheVariants as stop
+use Rattle.js_steps.specs.declared.task.Task.{Task}
+use Rattle.js_steps.specs.Answered.{IsFineAfter, machine}
+use Rattle.js_values.specs.Answers.{out_of_fuel}
+use Rattle.js_values.specs.Fuel.{Fuel}
+use Rattle.native_image.specs.Image.{Outside}
+use Rattle.turn_runs.specs.declared.level.Doing.{Doing}
+use Rattle.turn_runs.specs.declared.level.Doing.TheVariants as doing
+use Rattle.turn_runs.specs.declared.level.Hearing.{Hearing}
+use Rattle.turn_runs.specs.Held.{FineDoing, FineHearing}
+use Rattle.turn_runs.specs.Levels.{hearing_of, levels_rest, turn_plan}
+use Rattle.turn_calls.specs.declared.calls.Calls.{Calls}
+use Rattle.turn_calls.specs.Turns.{turn_image}
+use Rattle.turn_calls.specs.Waiting.{FineLevels}
+use Rattle.turn_calls.specs.Weights.{doing_free, levels_free}
+use Rattle.turn_calls.specs.declared.turn.Shared.{Shared}
+use Rattle.turn_calls.specs.declared.turn.Turn.{Turn}
+use Rattle.turn_calls.specs.declared.turn.Widget.{Widget}
+use Rattle.turn_steps.specs.declared.moving.Moved.{Moved}
+use Rattle.turn_steps.specs.declared.moving.Step.{Step}
+use Rattle.turn_steps.specs.Turning.{FineTurn, forests, plan_in, state_in}
+
+-- whether a step wanted fuel
+abbrev pub is_fuel : Stepped → Bool
+is_fuel (stepped.Stop stop.Fuel) = true
+is_fuel k = false
+
+-- what a turn has still to do that does this
+abbrev pub doing_in : Outside → Shared → Widget → Calls → Doing → Plan
+doing_in x h v calls d = turn_plan (forests h) v.number h.store.cells h.page d calls.levels.items (state_in x h v calls.dispatches.items)
+
+-- the turn is not over
+abbrev pub is_open : Doing → Bool
+is_open (doing.Over o) = false
+is_open (doing.Stop c) = false
+is_open d = true
+
+-- what a turn may do without fuel is bounded by this
+abbrev pub near : ℕ → Doing → Calls → ℕ
+near left d calls = 64 * left + (doing_free d + levels_free calls.levels.items)
+
+-- How a call ended is given to what waits, which goes on as the turn does then, with what is the widget's; and less waits without fuel, but for a dispatch that begins.
+pub record IsGiven (w : ℕ) (p : Page) (l : Loop) (old new : Cells) (before after : Calls) (how : Completion) (d : Doing) : Type 0 where
+  pub plan : (fs : List Forest) (x : Outside) → FineLevels fs w old.cells p before.levels.items
+      → levels_rest fs w old.cells p before.levels.items (completion_of w old.cells how) (turn_image fs x w old p l before.dispatches.items)
+      ≡ turn_plan fs w new.cells p d after.levels.items (turn_image fs x w new p l after.dispatches.items)
+  pub fine : (fs : List Forest) → FineLevels fs w old.cells p before.levels.items → FineDoing fs w new.cells p d × FineLevels fs w new.cells p after.levels.items
+  pub near : doing_free d + levels_free after.levels.items ≤ levels_free before.levels.items + 1
+
+-- What a task has still to do after an answer, over what waits, is what the turn does then, over what waits then; after a want of fuel nothing changed.
+pub record IsFollowed (w : ℕ) (p : Page) (l : Loop) (old new : Cells) (before after : Calls) (t : Task) (k : Stepped) (d : Doing) : Type 0 where
+  pub plan : (fs : List Forest) (x : Outside) → FineLevels fs w old.cells p before.levels.items
+      → and_then (after_step fs w old.cells (machine k) t.control t.frames.list.items (turn_image fs x w old p l before.dispatches.items)) (levels_rest fs w old.cells p before.levels.items)
+      ≡ turn_plan fs w new.cells p d after.levels.items (turn_image fs x w new p l after.dispatches.items)
+  pub fine : (fs : List Forest) → t.widget ≡ w → IsFineAfter fs w old t k → FineLevels fs w old.cells p before.levels.items
+      → FineDoing fs w new.cells p d × FineLevels fs w new.cells p after.levels.items
+  pub short : is_fuel k ≡ true → (new ≡ old) × (after ≡ before)
+  pub near : doing_free d + levels_free after.levels.items ≤ 2 * free t.control t.frames.list.items + levels_free before.levels.items + 1
+
+-- A turn goes on by a step: for every fuel in place of what is left; what is held then is the widget's; where fuel is wanting the plan has too little of it, and else less may be done without fuel.
+pub record IsMoved (old new : Shared) (v u : Widget) (before after : Calls) (had has : Fuel) (d : Doing) (m : Moved) : Type 0 where
+  pub moves : (x : Outside) → Moves (had.left - has.left) (state_in x old v before.dispatches.items) (doing_in x old v before d) (doing_in x new u after m.doing)
+  pub spends : has.left ≤ had.left
+  pub fine : FineDoing (forests new) u.number new.store.cells new.page m.doing × FineLevels (forests new) u.number new.store.cells new.page after.levels.items
+  pub short : m.is_short ≡ true → (has.left ≡ had.left) × ((x : Outside) → run_plan had.left (doing_in x new u after m.doing) ≡ out_of_fuel (state_in x new u after.dispatches.items) had.left)
+  pub nearer : m.is_short ≡ false → near has.left m.doing after < near had.left d before
+
+-- The first handler of a dispatch is called over the level that waits for it; that costs nothing, and the call takes the unit of the dispatch.
+pub record IsBegun (w : ℕ) (before after : Calls) (h : Hearing) (d : Doing) : Type 0 where
+  pub moves : (fs : List Forest) (x : Outside) (s : Cells) (p : Page) (l : Loop) → w < 32 → FineHearing w s.cells p h
+      → let st = turn_image fs x w s p l before.dispatches.items in
+      Moves 0 st (Do (Hear (hearing_of w s.cells p h)) st (levels_rest fs w s.cells p before.levels.items))
+      (turn_plan fs w s.cells p d after.levels.items (turn_image fs x w s p l after.dispatches.items))
+  pub fine : (fs : List Forest) (s : Cells) (p : Page) → FineHearing w s.cells p h → FineLevels fs w s.cells p before.levels.items
+      → FineDoing fs w s.cells p d × FineLevels fs w s.cells p after.levels.items
+  pub near : doing_free d + levels_free after.levels.items ≤ levels_free before.levels.items
+
+-- A turn took a step, with what was left of its grant, or with nothing where it is cut.
+pub record IsStepped (old new : Shared) (v u : Widget) (t : Turn) (is_cut : Bool) (m : Step) : Type 0 where
+  pub moves : (x : Outside) → Moves (t.left - m.turn.left) (state_in x old v t.calls.dispatches.items) (plan_in x old v t) (plan_in x new u m.turn)
+  pub spends : m.turn.left ≤ t.left
+  pub cut : is_cut ≡ true → m.turn.left ≡ t.left
+  pub fine : FineTurn new u.number m.turn
+  pub short : m.is_short ≡ true → (m.turn.left ≡ t.left)
+      × ((x : Outside) → run_plan (if is_cut then 0 else t.left) (plan_in x new u m.turn) ≡ out_of_fuel (state_in x new u m.turn.calls.dispatches.items) (if is_cut then 0 else t.left))
+  pub nearer : m.is_short ≡ false → near m.turn.left m.turn.doing m.turn.calls < near t.left t.doing t.calls
