@@ -1,0 +1,9 @@
+use Rattle.std.proofs.lemmas.Result.{IfOk-weaker}
+use Rattle.page_build.proofs.Homes.{both_ok, all_away, no_raws}
+use Rattle.page_build.proofs.rooting.new_page.Goals as goal
+
+pub returns-clause-away : goal.returns-clause-away
+returns-clause-away c = both_ok c.new.result (λ p e roots w lt. all_away p e w (roots w lt)) c.new.ensures.nodes c.new.ensures.roots
+
+pub returns-clause-raws : goal.returns-clause-raws
+returns-clause-raws c = IfOk-weaker c.new.result _ _ (λ p e. no_raws p e) c.new.ensures.nodes

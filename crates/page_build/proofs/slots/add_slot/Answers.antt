@@ -1,0 +1,19 @@
+use Rattle.std.proofs.Common.{sym, subst}
+use Rattle.page_image.proofs.Results.{ok_then}
+use Rattle.page_build.specs.Homes.{IsPlaced}
+use Rattle.page_build.proofs.slots.add_slot.Goals as goal
+
+pub returns-in-Runs-clause-placed : goal.returns-in-Runs-clause-placed
+returns-in-Runs-clause-placed c = ok_then c.add_root.result _ _ (λ h. subst (IsPlaced c.add_root.new.page c.args.w) (sym c.in-Runs.is) h) c.add_root.ensures.home
+
+pub returns-in_ok-plain-in-Refused-clause-placed : goal.returns-in_ok-plain-in-Refused-clause-placed
+returns-in_ok-plain-in-Refused-clause-placed c = ok_then c.add_markup.result _ _ (λ h. subst (IsPlaced c.add_markup.new.page c.args.w) (sym c.in-Refused.is) (h c.args.w c.requires.widget c.requires.away)) c.add_markup.ensures.away
+
+pub returns-in_ok-plain-in-Refused-clause-raws : goal.returns-in_ok-plain-in-Refused-clause-raws
+returns-in_ok-plain-in-Refused-clause-raws c = ok_then c.add_markup.result _ _ (λ h. h c.args.store.now c.requires.raws) c.add_markup.ensures.raws
+
+pub returns-in_ok-plain-in-Refused-clause-others : goal.returns-in_ok-plain-in-Refused-clause-others
+returns-in_ok-plain-in-Refused-clause-others c = ok_then c.add_markup.result _ _ (λ h. λ v tree lt ne. h v tree lt) c.add_markup.ensures.home
+
+pub returns-in_ok-plain-in-Refused-clause-away : goal.returns-in_ok-plain-in-Refused-clause-away
+returns-in_ok-plain-in-Refused-clause-away c = ok_then c.add_markup.result _ _ (λ h. λ v lt ne. h v lt) c.add_markup.ensures.away

@@ -1,0 +1,95 @@
+//! Roots come under `body`.
+ghost use Rattle.std.specs.Prelude.{◌≡◌, ◌≢◌, ◌+◌, ◌<◌, ◌≤◌, ℕ, List, IfOk, OnOk};
+ghost use Rattle.plain_tree.specs.Plains.{unplaced};
+ghost use Rattle.plain_tree.specs.Trees.{PlainTrees};
+ghost use Rattle.js_tree.specs.Forest.{Forest};
+ghost use Rattle.js_image.specs.Held.{IsConfined, Kept};
+ghost use Rattle.native_image.specs.Sound.{HasRaw};
+ghost use Rattle.object_store.specs.Owned.{owned};
+ghost use Rattle.store_cells.specs.Cells.{Cells};
+ghost use Rattle.page_build.specs.Homes.{HaveRaws, IsAway, IsHome, IsOneTree};
+
+use code_units::Memory;
+use keyed_names::Keys;
+use native_image::add_tree;
+use object_store::{NODE_LIMIT, Store};
+use page_image::{adopt, made};
+use page_tree::{NodeId, Page};
+use plain_tree::Plain;
+use std::alloc::Global;
+
+/// A page without nodes of widgets.
+pub fn new_page(alloc: Global, keys: Keys) -> Result<Page, Memory>
+    ensures away { IfOk result (λ page. (w : ℕ) → w < 32 → IsAway page w) }
+    ensures raws { IfOk result (λ page. (store : Cells) → HaveRaws store page) }
+{
+    Page::new(alloc, keys)
+}
+
+// A node has its cell.
+fn add_cell(alloc: Global, store: &mut Store, node: NodeId) -> Result<(), Memory>
+    ensures there { OnOk result (HasRaw store.new.cells node) }
+    ensures same { (v : ℕ) → owned v store.new ≡ owned v store.old }
+    ensures kept { (fs : List Forest) (w : ℕ) → Kept fs w store.old store.new }
+{
+    if node >= NODE_LIMIT {
+        return Err(Memory);
+    }
+    match store.add_raw(alloc, node) {
+        Ok(_) => Ok(()),
+        Err(_) => Err(Memory),
+    }
+}
+
+// So many nodes from one on have their cells.
+fn add_cells(alloc: Global, store: &mut Store, first: NodeId, many: u32) -> Result<(), Memory>
+    ensures there { OnOk result ((n : ℕ) → first ≤ n → n < first + many → HasRaw store.new.cells n) }
+    ensures same { (v : ℕ) → owned v store.new ≡ owned v store.old }
+    ensures kept { (fs : List Forest) (w : ℕ) → Kept fs w store.old store.new }
+{
+    let Some(past) = first.checked_add(many) else {
+        return Err(Memory);
+    };
+    'each: for node in first..past {
+        add_cell(alloc, store, node)?;
+    }
+    Ok(())
+}
+
+// A law: a plain tree is one tree.
+fn one_tree(plain: &Plain)
+    ensures { IsOneTree (unplaced plain.now) }
+{
+    match plain {
+        Plain::Text { .. } => {}
+        Plain::Element { .. } => {}
+    }
+}
+
+/// A widget that has nothing of the page gets its root, behind the last child of `body`, and each of
+/// its nodes its cell. The other widgets keep what they have.
+pub fn add_root(
+    alloc: Global,
+    store: &mut Store,
+    page: &mut Page,
+    w: u32,
+    body: &Plain,
+) -> Result<(), Memory>
+    requires widget { w < 32 }
+    requires away { IsAway page.old w }
+    requires raws { HaveRaws store.old page.old }
+    ensures home { OnOk result (IsHome page.new w (unplaced body.now)) }
+    ensures raws { OnOk result (HaveRaws store.new page.new) }
+    ensures others { OnOk result ((v : ℕ) (tree : PlainTrees) → v < 32 → v ≢ w → IsHome page.old v tree → IsHome page.new v tree) }
+    ensures away { OnOk result ((v : ℕ) → v < 32 → v ≢ w → IsAway page.old v → IsAway page.new v) }
+    ensures same { (v : ℕ) → owned v store.new ≡ owned v store.old }
+    ensures confined { (fs : List Forest) (v : ℕ) → IsConfined fs v store.old → IsConfined fs v store.new }
+{
+    one_tree(body);
+    let before = made(page, w);
+    let id = add_tree(alloc, store, page, w, body)?;
+    let many = made(page, w) - before;
+    // `add_tree` says of a widget that has a root alone that its new nodes have their cells.
+    add_cells(alloc, store, id, many)?;
+    adopt(page, w, id)
+}
