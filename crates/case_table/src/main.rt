@@ -1,38 +1,26 @@
 //! Writes what comes of outside cases, which the gate compares with the file `stdout`: the tokens of
 //! scripts and their trees as text, the printed text of markup and styles, whether queries, manifests
-//! and traces are read, and where each text is refused; what running scripts log, how they end and what
-//! they spend; what calls of single parts give; and whether command lines end as is wanted. A case of
-//! the files in data/ is a JSON object (crate `test_cases`); its name stands before what is written of it.
+//! and traces are read, and where each text is refused; and whether command lines end as is wanted. A
+//! case of the files in data/ is a JSON object (crate `test_cases`); its name stands before what is
+//! written of it.
 #![tactic(auto)]
 
-mod calls;
-mod choosers;
 mod commands;
-mod given;
-mod line_calls;
 mod markup;
-mod natives;
-mod page_calls;
 mod pages;
-mod real_files;
-mod runs;
 mod scripts;
-mod store_calls;
 
 use anyhow::Result;
-use calls::answer_of_call;
 use commands::answer_of_command;
 use markup::{answer_of_markup, answer_of_query, answer_of_style};
 use pages::{answer_of_manifest, answer_of_trace};
-use real_files::are_real_files_read;
-use runs::answer_of_run;
 use scripts::{answer_of_parse, answer_of_tokens};
 use serde_json::Value;
 use std::alloc::Global;
 use std::fs;
 use test_cases::{bytes_of, text_at};
 
-// What is asked of a case: of its text, of a call, or of a command line.
+// What is asked of a case: of its text, or of a command line.
 #[derive(Clone, Copy)]
 enum Question {
     Tokens,
@@ -42,12 +30,10 @@ enum Question {
     Query,
     Manifest,
     Trace,
-    Run,
-    Call,
     Command,
 }
 
-const FILES: [(&str, Question); 14] = [
+const FILES: [(&str, Question); 12] = [
     ("tokens.jsonl", Question::Tokens),
     ("parse.jsonl", Question::Parse),
     ("markup.jsonl", Question::Markup),
@@ -55,8 +41,6 @@ const FILES: [(&str, Question); 14] = [
     ("queries.jsonl", Question::Query),
     ("manifests.jsonl", Question::Manifest),
     ("traces.jsonl", Question::Trace),
-    ("runs.jsonl", Question::Run),
-    ("calls.jsonl", Question::Call),
     ("words.jsonl", Question::Command),
     ("libraries.jsonl", Question::Command),
     ("tidied.jsonl", Question::Command),
@@ -71,8 +55,6 @@ fn main(rt: HostRuntime) -> Result<()> {
         let answers = answers(alloc, question, &cases)?;
         print!(rt; "## {file}\n{answers}")?;
     }
-    let are_read = are_real_files_read(&rt);
-    println!(rt; "## files of the machine are read: {are_read}")?;
     Ok(())
 }
 
@@ -102,8 +84,6 @@ fn answer_to(alloc: Global, question: Question, case: &Value) -> Result<String> 
         Question::Query => answer_of_query(alloc, &bytes_of(alloc, case)?),
         Question::Manifest => answer_of_manifest(alloc, &bytes_of(alloc, case)?),
         Question::Trace => answer_of_trace(alloc, &bytes_of(alloc, case)?, case),
-        Question::Run => answer_of_run(alloc, &bytes_of(alloc, case)?, case),
-        Question::Call => answer_of_call(alloc, case),
         Question::Command => answer_of_command(alloc, case),
     }
 }

@@ -3,8 +3,8 @@ use Rattle.std.proofs.lemmas.Result.{IfOk-weaker}
 use Rattle.js_image.specs.declared.outcome.Made.{Made}
 use Rattle.js_image.specs.Plans.{IsFineMade}
 use Rattle.js_names.specs.Code.{trees_of}
-use Rattle.case_table.proofs.Ready.{begun, is_fun_of}
-use Rattle.case_table.proofs.given.start.Goals as goal
+use Rattle.run_table.proofs.Ready.{begun, is_fun_of}
+use Rattle.run_table.proofs.given.start.Goals as goal
 
 pub returns-in-Cell : goal.returns-in-Cell
 returns-in-Cell c =

@@ -18,7 +18,7 @@ use Rattle.js_steps.specs.declared.answer.Stepped.{Stepped}
 use Rattle.js_steps.specs.declared.answer.Stepped.TheVariants as stepped
 use Rattle.js_steps.specs.declared.task.Task.{Task}
 use Rattle.js_steps.specs.Answered.{IsFineAfter, IsFineTask, machine}
-use Rattle.case_table.specs.Ready.{IsReady}
+use Rattle.run_table.specs.Ready.{IsReady}
 
 -- the one tree's function
 pub is_fun_of : (fs : List Forest) (fun : FunId) → (f : Forest) × (fs ≡ f ∷ []) × IsFun f fun

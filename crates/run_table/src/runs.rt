@@ -7,7 +7,7 @@ ghost use Rattle.js_names.specs.Code.{trees_of};
 ghost use Rattle.js_calls.specs.Called.{IsCarried, IsNoFire};
 ghost use Rattle.js_flow.specs.Todo.{IsWaiting};
 ghost use Rattle.js_steps.specs.Answered.{IsFineTask};
-ghost use Rattle.case_table.specs.Ready.{IsReady};
+ghost use Rattle.run_table.specs.Ready.{IsReady};
 
 use crate::given::{codes_of, fresh, function, start};
 use crate::natives::{Notes, call_native};

@@ -1,6 +1,6 @@
 use Rattle.js_names.specs.Code.{trees_of}
-use Rattle.case_table.proofs.Ready.{goes_on}
-use Rattle.case_table.proofs.runs.go_on.Goals as goal
+use Rattle.run_table.proofs.Ready.{goes_on}
+use Rattle.run_table.proofs.runs.go_on.Goals as goal
 
 pub resume-requires : goal.resume-requires
 resume-requires c = record {

@@ -4,7 +4,7 @@ ghost use Rattle.js_tree.specs.Forest.{Forest, IsExpr, IsFun, IsStmt};
 ghost use Rattle.js_tree.specs.Trees.{trees};
 ghost use Rattle.js_image.specs.Held.{IsConfined};
 ghost use Rattle.js_names.specs.Code.{trees_of};
-ghost use Rattle.case_table.specs.Ready.{IsReady};
+ghost use Rattle.run_table.specs.Ready.{IsReady};
 
 use code_units::Memory;
 use js_image::{Made, make};

@@ -1,7 +1,7 @@
 use Rattle.std.proofs.Common.{ℕ, List, refl, subst, sym, nat_eq}
 use Rattle.std.specs.List.{IsDistinct}
 use Rattle.store_cells.specs.Born.{HaveCells}
-use Rattle.case_table.proofs.store_calls.empty_bunch.Goals as goal
+use Rattle.run_table.proofs.store_calls.empty_bunch.Goals as goal
 
 pub make-requires : goal.make-requires
 unfolding IsDistinct

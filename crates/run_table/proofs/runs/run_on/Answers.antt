@@ -5,8 +5,8 @@ use Rattle.js_flow.specs.Fine.{FineNative}
 use Rattle.js_flow.specs.Todo.{IsOver}
 use Rattle.js_steps.specs.declared.answer.Stepped.{Stepped}
 use Rattle.js_steps.specs.Answered.{machine}
-use Rattle.case_table.proofs.Ready.{asks, held_on}
-use Rattle.case_table.proofs.runs.run_on.Goals as goal
+use Rattle.run_table.proofs.Ready.{asks, held_on}
+use Rattle.run_table.proofs.runs.run_on.Goals as goal
 
 pub run-requires : goal.run-requires
 run-requires c = record { going = c.requires.going; widget = c.requires.widget; confined = c.requires.confined; held = c.requires.held }
