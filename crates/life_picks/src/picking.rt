@@ -1,0 +1,107 @@
+//! A pick of a life.
+ghost use Rattle.std.specs.Prelude.{◌≡◌, ◌<◌, ◌≤◌, IfOk, None, OnErr, OnOk, Some};
+ghost use Rattle.widget_meaning.specs.OwnState.{State};
+ghost use Rattle.widget_meaning.specs.Turns.{end_turn};
+ghost use Rattle.life_queue.specs.Lives.{own_of};
+ghost use Rattle.life_queue.specs.Fine.{FineLife, KeepsLife};
+ghost use Rattle.turn_steps.specs.Turning.{FineEnd, end_of};
+ghost use Rattle.life_picks.specs.Picking.{PicksLife, spent_to};
+
+use crate::notes::note;
+use code_units::Memory;
+use js_flow::Completion;
+use life_queue::{Life, begin_turn};
+use pick_laws::Picked;
+use std::alloc::Global;
+use turn_calls::{Shared, Turn};
+use turn_steps::{Ran, TurnEnd, run_turn};
+
+// The end of a turn: what it spent is counted, a throw that was not caught is noted, and a stop is kept.
+fn close(
+    alloc: Global,
+    shared: &mut Shared,
+    life: &mut Life,
+    how: TurnEnd,
+    left: u32,
+) -> Result<(), Memory>
+    requires widget { life.old.widget.number < 32 }
+    requires rest { life.old.turn ≡ None }
+    requires left { left ≤ life.old.grant }
+    requires fine { FineLife shared.old life.old.widget.number (spent_to left life.old) }
+    requires held { FineEnd life.old.widget.number shared.old.store.cells how }
+    ensures own { OnOk result ((s : State) → s.own ≡ own_of shared.old life.old.widget.number life.old
+        → own_of shared.new life.old.widget.number life.new
+        ≡ end_turn (end_of life.old.widget.number shared.old.store.cells how) s (own_of shared.old life.old.widget.number (spent_to left life.old))) }
+    ensures fine { OnOk result (FineLife shared.new life.old.widget.number life.new) }
+    ensures kept { KeepsLife life.old.widget.number shared.old shared.new life.old life.new }
+    ensures rest { life.new.turn ≡ None }
+    ensures queue { life.new.queue ≡ life.old.queue }
+{
+    life.records.spent += u64::from(life.grant - left);
+    let w = life.widget.number;
+    match how {
+        TurnEnd::Over(Completion::Throw(value)) => note(alloc, shared, w, life, &value),
+        TurnEnd::Over(_) => Ok(()),
+        TurnEnd::Stop(stop) => {
+            life.records.stop = Some(stop);
+            Ok(())
+        }
+    }
+}
+
+// A turn of a life is carried on for so many units.
+fn go_on(
+    alloc: Global,
+    shared: &mut Shared,
+    life: &mut Life,
+    turn: Turn,
+    units: u32,
+) -> Result<Picked, Memory>
+    requires widget { life.old.widget.number < 32 }
+    requires units { 0 < units }
+    requires rest { life.old.turn ≡ None }
+    requires fine { FineLife shared.old life.old.widget.number (record life.old { turn = Some turn }) }
+    ensures picked { IfOk result (λ r. PicksLife shared.old shared.new life.old.widget.number units r (record life.old { turn = Some turn }) life.new) }
+    ensures kept { KeepsLife life.old.widget.number shared.old shared.new life.old life.new }
+    ensures none { OnErr result (life.new.turn ≡ None) }
+{
+    match run_turn(alloc, shared, &mut life.widget, turn, units)? {
+        Ran::Cut(turn) => {
+            let spent = life.records.spent + u64::from(life.grant - turn.left);
+            life.turn = Some(turn);
+            Ok(Picked::Unfinished { spent })
+        }
+        Ran::Ended(how, left) => {
+            close(alloc, shared, life, how, left)?;
+            Ok(Picked::Ended)
+        }
+    }
+}
+
+/// Carries the turn of a life on, or the first that its queue begins, until the units are spent or the
+/// turn is over. `Idle` exactly where no turn is in progress and the queue begins none; `Unfinished`
+/// exactly where the turn is not over and spent at least so many units; else `Ended`. After want of memory
+/// the turn is dropped.
+pub fn pick_life(
+    alloc: Global,
+    shared: &mut Shared,
+    life: &mut Life,
+    units: u32,
+) -> Result<Picked, Memory>
+    requires widget { life.old.widget.number < 32 }
+    requires units { 0 < units }
+    requires fine { FineLife shared.old life.old.widget.number life.old }
+    ensures picked { IfOk result (λ r. PicksLife shared.old shared.new life.old.widget.number units r life.old life.new) }
+    ensures kept { KeepsLife life.old.widget.number shared.old shared.new life.old life.new }
+    ensures none { OnErr result (life.new.turn ≡ None) }
+{
+    if let Some(turn) = life.turn.take() {
+        return go_on(alloc, shared, life, turn, units);
+    }
+    let w = life.widget.number;
+    begin_turn(alloc, shared, w, life)?;
+    match life.turn.take() {
+        Some(turn) => go_on(alloc, shared, life, turn, units),
+        None => Ok(Picked::Idle),
+    }
+}
