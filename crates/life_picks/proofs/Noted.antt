@@ -1,12 +1,12 @@
 -- A note that is kept and paid, or with which the widget stops.
-use Rattle.std.proofs.Common.{◌≡◌, ℕ, ◌+◌, ◌-◌, ◌<◌, ◌≤◌, List, [], ◌∷◌, ◌++◌, Bool, true, false, refl, sym, ap, ◌∙◌, subst, length, Option, Some, None, arith, if◌then◌else◌}
+use Rattle.std.proofs.Common.{◌≡◌, ℕ, ◌+◌, ◌-◌, ◌<◌, ◌≤◌, List, [], ◌∷◌, ◌++◌, true, false, refl, sym, ap, ◌∙◌, subst, length, Option, Some, None, arith, if◌then◌else◌}
 use Rattle.std.specs.Prelude.{nat_lt, slice_get}
 use Rattle.std.proofs.lemmas.Bool.Decides.{nat_tests}
 use Rattle.js_tree.specs.Forest.{Forest}
 use Rattle.store_cells.specs.Cells.{Cells}
 use Rattle.store_cells.specs.declared.counts.Counts.{Counts}
 use Rattle.store_cells.specs.declared.counts.TheConstants.{UNIT_LIMIT}
-use Rattle.widget_meaning.specs.Costs.{cost, pay, sum, units_cost, with_counts}
+use Rattle.widget_meaning.specs.Costs.{cost, pay, sum, units_cost}
 use Rattle.widget_meaning.specs.Limits.{max_units}
 use Rattle.widget_meaning.specs.OwnState.{OwnState, State}
 use Rattle.widget_meaning.specs.Plan.{Plan}

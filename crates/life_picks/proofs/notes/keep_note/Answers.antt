@@ -1,9 +1,6 @@
-use Rattle.std.proofs.Common.{◌≡◌, ◌<◌, ◌≤◌, ◌+◌, ◌-◌, ℕ, List, length, refl, sym, ap, ◌∙◌, subst, arith}
-use Rattle.js_tree.specs.Forest.{Forest}
+use Rattle.std.proofs.Common.{◌≡◌, ◌+◌, ◌-◌, ℕ, List, length, refl, sym, ap, ◌∙◌, subst, arith}
 use Rattle.widget_meaning.specs.Costs.{pay, units_cost}
-use Rattle.widget_meaning.specs.OwnState.{State}
-use Rattle.widget_meaning.specs.Plan.{Plan}
-use Rattle.js_image.specs.Image.{Rest, image}
+use Rattle.js_image.specs.Image.{image}
 use Rattle.life_queue.specs.Lives.{trees_in}
 use Rattle.life_queue.proofs.Keeps.{keeps_stored}
 use Rattle.life_picks.proofs.Noted.{fine_noted, keeps_noted, own_noted, stops}

@@ -1,4 +1,4 @@
-use Rattle.std.proofs.Common.{◌≡◌, ◌≤◌, ◌+◌, ◌-◌, refl, sym, ap, ◌∙◌, subst, arith, Some}
+use Rattle.std.proofs.Common.{◌+◌, ◌-◌, subst, arith, Some}
 use Rattle.life_laws.specs.Life.{fixed}
 use Rattle.turn_steps.specs.declared.turn.Ran.{Ran}
 use Rattle.turn_steps.specs.Moving.{FineRan, IsCutAt, IsEndedAt, RanTo}
