@@ -98,8 +98,8 @@ fn elements_of(alloc: Global, store: &Store, base: &Value, len: u32) -> Result<V
     Ok(values)
 }
 
-/// Whether an element of an Array of the widget below a length is an object. It walks the pairs that
-/// the Array has, whatever the length is.
+/// Whether an element of an Array of the widget below a length is an object. Where that is its length,
+/// this takes no longer for more elements.
 pub fn has_objects(store: &Store, base: &Value, len: u32) -> bool
     requires { IsRefWithin (length store.now.cells) base.now }
     ensures { (fs : List Forest) (r : Rest) (w m : ℕ) → IsFine w store.now.cells base.now

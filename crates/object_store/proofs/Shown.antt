@@ -16,9 +16,9 @@ use Rattle.store_cells.specs.declared.value.Value.{Value}
 use Rattle.store_cells.specs.declared.counts.Counts.{Counts}
 use Rattle.store_cells.specs.Arrays.{is_index_below, is_key, is_reference, keys_of}
 use Rattle.store_cells.specs.Cells.{Cells, PlainCell, has_own, is_array, is_bunch, value_of}
-use Rattle.store_cells.specs.Numbered.{NumberedCell, cells_of, is_listed, name_at, named, numbered_element, numbered_length, plain}
+use Rattle.store_cells.specs.Numbered.{NumberedCell, cells_of, found_in, is_listed, name_at, named, numbered_element, numbered_length, plain, references_in}
 use Rattle.store_cells.specs.Holes.{is_reference_below}
-use Rattle.store_cells.specs.Shape.{IsShape, Known}
+use Rattle.store_cells.specs.Shape.{IsIndexed, IsShape, Known}
 use Rattle.store_cells.proofs.Look.{has_same, known_at, known_cells, look_none}
 use Rattle.store_cells.proofs.Indexed.{element_named}
 use Rattle.store_cells.proofs.Plans.{length_alike}
@@ -125,3 +125,7 @@ module _ (s : Cells) (names : List (List ℕ)) (cs : List NumberedCell) {raws : 
 
   pub element_some : (k : ℕ) (o : Option Value) → k < 4294967295 → is_array c.head.form ≡ true → o ≡ numbered_element k c → Has k o
   element_some k o small e is = subst (λ (x : Option PlainCell). IfSome x (λ d. o ≡ element k d)) (sym here) (is ∙ element_named names shape.base.table c known ((fine_at names (length cs) cs i c shape.base.fine at).array e).indexed k small ∙ sym (ap (λ b. if b then value_of (named names c.entries) (decimal k) else None) e))
+
+  -- the elements of an Array are noted, and those that refer to cells counted
+  pub shown_counted : is_array c.head.form ≡ true → IsIndexed names (found_in c.elements) c.entries × (c.references ≡ references_in names c.entries)
+  shown_counted a = let table = (fine_at names (length cs) cs i c shape.base.fine at).array a in (table.indexed, table.counted)

@@ -18,14 +18,15 @@ use Rattle.store_cells.specs.declared.value.Value.{Value}
 use Rattle.store_cells.specs.declared.value.Value.TheVariants as value
 use Rattle.store_cells.specs.declared.cell.Head.{Head}
 use Rattle.store_cells.specs.Cells.{PlainCell}
-use Rattle.store_cells.specs.Arrays.{end_of, length_in, length_name, count_value, written}
+use Rattle.store_cells.specs.Arrays.{end_of, is_reference, length_in, length_name, count_value, written}
 use Rattle.store_cells.specs.Born.{filled_cell}
 use Rattle.store_cells.specs.Bunches.{array_pairs, elements}
-use Rattle.store_cells.specs.Numbered.{NumberedCell, Grown, plain, named, found_in, numbered_written}
+use Rattle.store_cells.specs.Numbered.{NumberedCell, Grown, element_recounted, plain, named, found_in, numbered_written, references_in, refers_at}
 use Rattle.store_cells.specs.Shape.{AreElements, AreEntries, AreRefs, AreWords, IsArrayOf, IsFine, IsIndexed, Known}
 use Rattle.store_cells.proofs.Entries.{ref_more}
 use Rattle.store_cells.proofs.Indexed.{indexed_written, indexed_none, indexed_stay}
 use Rattle.store_cells.proofs.Lists.{none_some, some_same}
+use Rattle.store_cells.proofs.Referring.{references_stay, referring_written}
 use Rattle.store_cells.proofs.Look.{look, insert_named}
 use Rattle.store_cells.proofs.Writes.{count_length, length_here, named_stay, zero_within}
 
@@ -118,6 +119,13 @@ module _ (old new : List (List ℕ)) (name : List ℕ) (n end : ℕ) (is : Inter
       (indexed_written new table n is.within c.elements end v c.entries more (is_end ∙ ap end_of (sym (get_or_from_slice_get new n name [] is.found))) (indexed_stay old new (stays old new name is.table) (found_in c.elements) c.entries known h))
   reference_indexed (Err u) after e = tt
 
+  pub reference_counted : {E : Type 0} (r : Result (Unit {0}) E) (after : NumberedCell) → OnOk r (after ≡ numbered_written n v end c) → OnOk r (end ≡ end_of name → c.references ≡ references_in old c.entries → after.references ≡ references_in new after.entries)
+  reference_counted (Ok u) after e = λ is_end h.
+      subst (λ (x : NumberedCell). x.references ≡ references_in new x.entries) (sym e)
+      (ap (element_recounted end (refers_at n c.entries) (is_reference v)) (h ∙ sym (references_stay old new (stays old new name is.table) c.entries known))
+      ∙ referring_written new n end v c.entries (is_end ∙ ap end_of (sym (get_or_from_slice_get new n name [] is.found))))
+  reference_counted (Err u) after e = tt
+
   pub reference_done : {E : Type 0} (r : Result (Unit {0}) E) (after : NumberedCell) → OnOk r (after ≡ numbered_written n v end c) → OnOk r (plain new after ≡ written name v (plain old c))
   reference_done (Ok u) after e =
       let p = insert_named new name n (same_test new name n table is.found) c.entries v (known_longer (length old) (length new) c.entries (longer old new name is.table) known) (get_or_from_slice_get new n name [] is.found) in
@@ -132,15 +140,16 @@ grown_then a b c g h = record {
 }
 
 -- an Array without elements
-pub array_none : (names : List (List ℕ)) (h : Head) (count : ℕ) (first c : NumberedCell) → IsTable names → AreWords names → first ≡ record { head = h; elements = []; entries = [] } → c ≡ numbered_written 0 (count_value count) 0 first → IsArrayOf names h count [] c
+pub array_none : (names : List (List ℕ)) (h : Head) (count : ℕ) (first c : NumberedCell) → IsTable names → AreWords names → first ≡ record { head = h; elements = []; references = 0; entries = [] } → c ≡ numbered_written 0 (count_value count) 0 first → IsArrayOf names h count [] c
 array_none names h count first c table words is e = record {
   head = ap (λ (x : NumberedCell). x.head) here;
   indexed = subst (λ (x : NumberedCell). IsIndexed names (found_in x.elements) x.entries) (sym here) (indexed_written names table 0 (zero_within names table words) [] 0 (count_value count) [] tt (ap end_of (sym (length_here names table words))) (indexed_none names));
+  counted = subst (λ (x : NumberedCell). x.references ≡ references_in names x.entries) (sym here) (referring_written names 0 0 (count_value count) [] (ap end_of (sym (length_here names table words))));
   known = subst (λ (x : NumberedCell). Known (length names) x.entries) (sym here) (zero_within names table words, tt);
   pairs = ap (λ (x : NumberedCell). named names x.entries) here ∙ ap (λ t. (t, count_value count) ∷ []) (length_here names table words);
 }
   where
-    here : c ≡ numbered_written 0 (count_value count) 0 (record { head = h; elements = []; entries = [] })
+    here : c ≡ numbered_written 0 (count_value count) 0 (record { head = h; elements = []; references = 0; entries = [] })
     here = e ∙ ap (numbered_written 0 (count_value count) 0) is
 
 -- the Array with one element more
@@ -154,11 +163,12 @@ length_take vs zero le = refl
 length_take [] (suc k) le = absurd (omega (arith, le))
 length_take (x ∷ vs) (suc k) le = ap suc (length_take vs k (omega (arith, le)))
 
-pub array_more : (old new : List (List ℕ)) (h : Head) (count : ℕ) (vs : List Value) (k : ℕ) (v : Value) (name : List ℕ) (c after : NumberedCell) → IsArrayOf old h count (take k vs) c → k < length vs → k < 2 ^ 64 → name ≡ decimal k → slice_get vs k ≡ Some v → Known (length new) after.entries → after.head ≡ c.head → IsIndexed new (found_in after.elements) after.entries → plain new after ≡ written name v (plain old c)
+pub array_more : (old new : List (List ℕ)) (h : Head) (count : ℕ) (vs : List Value) (k : ℕ) (v : Value) (name : List ℕ) (c after : NumberedCell) → IsArrayOf old h count (take k vs) c → k < length vs → k < 2 ^ 64 → name ≡ decimal k → slice_get vs k ≡ Some v → Known (length new) after.entries → after.head ≡ c.head → IsIndexed new (found_in after.elements) after.entries → after.references ≡ references_in new after.entries → plain new after ≡ written name v (plain old c)
     → IsArrayOf new h count (take (k + 1) vs) after
-array_more old new h count vs k v name c after is lt small at found known head indexed done = record {
+array_more old new h count vs k v name c after is lt small at found known head indexed counted done = record {
   head = head ∙ is.head;
   indexed = indexed;
+  counted = counted;
   known = known;
   pairs =
       ap (λ (p : PlainCell). p.pairs) done ∙ (λ j. insert_entry bytes_eq (is.pairs j) (at j) v) ∙ insert_element k count (take k vs) v (sym (length_take vs k (omega (arith, lt)))) small
@@ -202,6 +212,7 @@ array_fine names size h count vs c table words few le refs is = record {
   array = λ a. record {
     length = ap (λ (o : Option Value). is_some (option_and_then length_in o)) (look names length_name 0 (same_test names length_name 0 table words.length) c.entries is.known ∙ ap (lookup (bytes_eq length_name)) is.pairs) ∙ ap is_some (count_length count le);
     indexed = is.indexed;
+    counted = is.counted;
   };
 }
 

@@ -15,5 +15,6 @@ pub mod Look
 pub mod Makes
 pub mod Places
 pub mod Plans
+pub mod Referring
 pub mod Takes
 pub mod Writes

@@ -22,6 +22,7 @@ use Rattle.store_cells.specs.Costs.{paid}
 use Rattle.store_cells.specs.Born.{new_cell, made, raw_place}
 use Rattle.store_cells.proofs.Lists.{count_before-all, count_by-push}
 use Rattle.store_cells.proofs.Indexed.{indexed_written, indexed_none}
+use Rattle.store_cells.proofs.Referring.{referring_written}
 use Rattle.store_cells.proofs.Writes.{length_here, zero_within}
 use Rattle.store_cells.proofs.Heads.{bunch_same, head_at, some_at, links_are, scope_same}
 use Rattle.store_cells.proofs.Closed.{closed_push}
@@ -92,17 +93,18 @@ module _ (names : List (List ℕ)) (cs : List NumberedCell) (kept : List Counts)
 pub first_fine : (names : List (List ℕ)) (size : ℕ) → IsTable names → AreWords names → (h : Head) → IsFine names size (first_numbered h)
 first_fine names size table words h = record {
   entries = entries (is_array h.form);
-  array = λ a. subst (λ b. IsArrayTable names [] (if b then (0, count_value 0) ∷ [] else [])) (sym a) table_one;
+  array = λ a. subst (λ b. IsArrayTable names (record { head = h; elements = []; references = 0; entries = if b then (0, count_value 0) ∷ [] else [] })) (sym a) table_one;
 }
   where
     entries : (b : Bool) → AreEntries (length names) size (if b then (0, count_value 0) ∷ [] else [])
     entries true = ((zero_within names table words, tt), tt)
     entries false = tt
 
-    table_one : IsArrayTable names [] ((0, count_value 0) ∷ [])
+    table_one : IsArrayTable names (record { head = h; elements = []; references = 0; entries = (0, count_value 0) ∷ [] })
     table_one = record {
       length = refl;
       indexed = indexed_written names table 0 (zero_within names table words) [] 0 (count_value 0) [] tt (ap end_of (sym (length_here names table words))) (indexed_none names);
+      counted = referring_written names 0 0 (count_value 0) [] (ap end_of (sym (length_here names table words)));
     }
 
 pub first_plain : (names : List (List ℕ)) → IsTable names → AreWords names → (hs : List Head) (w number up : ℕ) (f : Form) → plain names (first_numbered (head_on hs w f up number)) ≡ new_cell w f up
@@ -171,7 +173,7 @@ module _ (s : Cells) (names : List (List ℕ)) (cs : List NumberedCell) {raws : 
     number = λ w e. absurd (false_true e);
   }
 
-  pub node_fine : (node size : ℕ) → IsFine names size (record { head = node_head node; elements = []; entries = [] })
+  pub node_fine : (node size : ℕ) → IsFine names size (record { head = node_head node; elements = []; references = 0; entries = [] })
   node_fine node size = record {
     entries = tt;
     array = λ e. absurd (false_true e);
@@ -180,7 +182,7 @@ module _ (s : Cells) (names : List (List ℕ)) (cs : List NumberedCell) {raws : 
   pub node_found_is : (node : ℕ) → lookup (eqb node) raws ≡ raw_place node s.cells
   node_found_is node = shape.nodes.found node ∙ raw_place_is names node cs ∙ ap (λ (t : Cells). raw_place node t.cells) view
 
-  pub node_shape : (after : List NumberedCell) (c : NumberedCell) (raws' : List (ℕ × ℕ)) (node id : ℕ) → c ≡ record { head = node_head node; elements = []; entries = [] } → lookup (eqb node) raws ≡ None → Added names cs names after c id → raws' ≡ insert_entry eqb raws node id → IsShape names after raws' kept
+  pub node_shape : (after : List NumberedCell) (c : NumberedCell) (raws' : List (ℕ × ℕ)) (node id : ℕ) → c ≡ record { head = node_head node; elements = []; references = 0; entries = [] } → lookup (eqb node) raws ≡ None → Added names cs names after c id → raws' ≡ insert_entry eqb raws node id → IsShape names after raws' kept
   node_shape after c raws' node id is none added e = record {
     base = added.base;
     closed = added_closed after names (plain names c) (ap (λ (d : NumberedCell). is_bunch d.head.form) is) (added_cells after c (plain names c) added.items refl);
@@ -196,13 +198,13 @@ module _ (s : Cells) (names : List (List ℕ)) (cs : List NumberedCell) {raws : 
       add_zero : (n : ℕ) → n + 0 ≡ n
       add_zero n = omega arith
 
-  pub node_done : (after : List NumberedCell) (c : NumberedCell) (node id : ℕ) → c ≡ record { head = node_head node; elements = []; entries = [] } → Added names cs names after c id → (let d : Cells = record { cells = cells_of names after; kept = kept } in d ≡ record { cells = s.cells ++ raw_cell node ∷ []; kept = s.kept })
+  pub node_done : (after : List NumberedCell) (c : NumberedCell) (node id : ℕ) → c ≡ record { head = node_head node; elements = []; references = 0; entries = [] } → Added names cs names after c id → (let d : Cells = record { cells = cells_of names after; kept = kept } in d ≡ record { cells = s.cells ++ raw_cell node ∷ []; kept = s.kept })
   node_done after c node id is added = (λ j. record { cells = added_cells after c (raw_cell node) added.items (ap (plain names) is) j; kept = kept }) ∙ ap (λ (t : Cells). let u : Cells = record { cells = t.cells ++ raw_cell node ∷ []; kept = t.kept } in u) view
 
   pub node_old : (node i : ℕ) → lookup (eqb node) raws ≡ Some i → MatchOption (raw_place node s.cells) ((i ≡ length s.cells) × (s ≡ record { cells = s.cells ++ raw_cell node ∷ []; kept = s.kept })) (λ k. (i ≡ k) × (s ≡ s))
   node_old node i e = subst (λ (o : Option ℕ). MatchOption o ((i ≡ length s.cells) × (s ≡ record { cells = s.cells ++ raw_cell node ∷ []; kept = s.kept })) (λ k. (i ≡ k) × (s ≡ s))) (sym e ∙ node_found_is node) (refl, refl)
 
-  pub node_new : (after : List NumberedCell) (c : NumberedCell) (node id : ℕ) → lookup (eqb node) raws ≡ None → c ≡ record { head = node_head node; elements = []; entries = [] } → Added names cs names after c id
+  pub node_new : (after : List NumberedCell) (c : NumberedCell) (node id : ℕ) → lookup (eqb node) raws ≡ None → c ≡ record { head = node_head node; elements = []; references = 0; entries = [] } → Added names cs names after c id
       → MatchOption (raw_place node s.cells) ((id ≡ length s.cells) × (let d : Cells = record { cells = cells_of names after; kept = kept } in d ≡ record { cells = s.cells ++ raw_cell node ∷ []; kept = s.kept })) (λ k. (id ≡ k) × (let d : Cells = record { cells = cells_of names after; kept = kept } in d ≡ s))
   node_new after c node id none is added =
       subst (λ (o : Option ℕ). MatchOption o ((id ≡ length s.cells) × (let d : Cells = record { cells = cells_of names after; kept = kept } in d ≡ record { cells = s.cells ++ raw_cell node ∷ []; kept = s.kept })) (λ k. (id ≡ k) × (let d : Cells = record { cells = cells_of names after; kept = kept } in d ≡ s))) (sym none ∙ node_found_is node) (added.place ∙ sym length_in_store, node_done after c node id is added)

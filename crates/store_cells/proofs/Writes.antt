@@ -16,13 +16,14 @@ use Rattle.store_cells.specs.declared.value.Value.TheVariants as value
 use Rattle.store_cells.specs.declared.cell.Write.TheVariants as write
 use Rattle.store_cells.specs.Lists.{changed}
 use Rattle.store_cells.specs.Cells.{PlainCell, is_array}
-use Rattle.store_cells.specs.Arrays.{end_of, is_below, length_in, length_name, count_value, written, cut}
-use Rattle.store_cells.specs.Numbered.{NumberedCell, plain, named, name_at, cells_of, found_in, heads, noted, numbered_written, numbered_two, numbered_held, numbered_cut, plan_of, by_plan}
+use Rattle.store_cells.specs.Arrays.{end_of, is_below, is_reference, length_in, length_name, count_value, written, cut}
+use Rattle.store_cells.specs.Numbered.{NumberedCell, plain, named, name_at, cells_of, element_recounted, found_in, heads, noted, numbered_written, numbered_two, numbered_held, numbered_cut, plan_of, by_plan, references_in, refers_at}
 use Rattle.store_cells.specs.Shape.{IsIndexed, Known, AreKnown, AreEntries, IsFine, AreFine, AreWords, AreOrdered, IsBase, IsRefWithin, Wrote, Kept}
 use Rattle.store_cells.proofs.Lists.{none_some, some_same, length-changed, map-changed, map-unchanged}
 use Rattle.store_cells.proofs.Look.{known_entries, known_cells, insert_named}
 use Rattle.store_cells.proofs.Entries.{entries_more, entries_insert, entries_filter, lookup_inserted, lookup_other, lookup_filter, named_filter}
 use Rattle.store_cells.proofs.Indexed.{indexed_cut, indexed_stay, indexed_written}
+use Rattle.store_cells.proofs.Referring.{references_stay, referring_written}
 use Rattle.store_cells.proofs.Plans.{own_facts, longer_facts, length_facts}
 
 pub fine_at : (names : List (List ℕ)) (size : ℕ) (cs : List NumberedCell) (i : ℕ) (c : NumberedCell) → AreFine names size cs → slice_get cs i ≡ Some c → IsFine names size c
@@ -51,6 +52,7 @@ module _ (old new : List (List ℕ)) (more : length old ≤ length new) (kept : 
     array = λ a. record {
       length = (h.array a).length;
       indexed = indexed_stay old new kept (found_in c.elements) c.entries (known_entries (length old) size c.entries h.entries) (h.array a).indexed;
+      counted = (h.array a).counted ∙ sym (references_stay old new kept c.entries (known_entries (length old) size c.entries h.entries));
     };
   }
 
@@ -111,6 +113,7 @@ module _ (names : List (List ℕ)) (table : IsTable names) (words : AreWords nam
     array = λ a. record {
       length = ap (λ (o : Option Value). is_some (option_and_then length_in o)) (lookup_other 0 n v c.entries (not_length (facts a).0)) ∙ (h.array a).length;
       indexed = indexed_written names table n within c.elements e v c.entries (known_entries (length names) size c.entries h.entries) ((facts a).1 ∙ ap end_of (sym here)) (h.array a).indexed;
+      counted = ap (element_recounted e (refers_at n c.entries) (is_reference v)) (h.array a).counted ∙ referring_written names n e v c.entries ((facts a).1 ∙ ap end_of (sym here));
     };
   }
 
@@ -157,6 +160,7 @@ module _ (names : List (List ℕ)) (table : IsTable names) (words : AreWords nam
           ap (λ (o : Option Value). is_some (option_and_then length_in o)) (lookup_filter 0 (λ k. is_below n (name_at names k)) (insert_entry eqb c.entries 0 v) (length_below n) ∙ lookup_inserted 0 v c.entries)
           ∙ ap is_some is;
       indexed = indexed_cut names c.elements n (insert_entry eqb c.entries 0 v) (held_indexed size v c array h);
+      counted = refl;
     };
   }
 
@@ -181,6 +185,7 @@ module _ (names : List (List ℕ)) (table : IsTable names) (words : AreWords nam
           array = λ a. record {
             length = ap (λ (o : Option Value). is_some (option_and_then length_in o)) (lookup_inserted 0 u (insert_entry eqb c.entries k v) ∙ ap Some count) ∙ ap is_some (count_length e le);
             indexed = indexed_written names table 0 zero_within (noted e k c.elements) 0 u (insert_entry eqb c.entries k v) (known_entries (length names) size (insert_entry eqb c.entries k v) one.entries) (ap end_of (sym length_here)) (one.array a).indexed;
+            counted = (one.array a).counted ∙ referring_written names 0 0 u (insert_entry eqb c.entries k v) (ap end_of (sym length_here));
           };
         }
 
@@ -284,6 +289,12 @@ module _ (names : List (List ℕ)) (name : List ℕ) (cs : List NumberedCell) (b
 
   pub cut_indexed : (c after : NumberedCell) → slice_get cs i ≡ Some c → after ≡ numbered_held 0 v c → IsIndexed names (found_in after.elements) after.entries
   cut_indexed c after at e = subst (λ (x : NumberedCell). IsIndexed names (found_in x.elements) x.entries) (sym e) (held_indexed names base.table base.words (length cs) v c (length_facts name v c n (plan c at)).0 (fine_at names (length cs) cs i c base.fine at))
+
+  pub cut_counted : (c after : NumberedCell) → slice_get cs i ≡ Some c → after ≡ numbered_held 0 v c → after.references ≡ references_in names after.entries
+  cut_counted c after at e = subst (λ (x : NumberedCell). x.references ≡ references_in names x.entries) (sym e) (
+      ((fine_at names (length cs) cs i c base.fine at).array (length_facts name v c n (plan c at)).0).counted
+      ∙ referring_written names 0 0 v c.entries (ap end_of (sym (length_here names base.table base.words)))
+      )
 
   pub wrote_length : (after : List NumberedCell) → after ≡ changed cs i (λ c. numbered_cut names n (numbered_held 0 v c)) → Wrote names cs names after i (by_plan (write.Length n) name v)
   wrote_length after e = record {

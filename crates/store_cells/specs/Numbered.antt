@@ -1,5 +1,5 @@
 -- Cells by the numbers of their names, and what they are by name.
-use Rattle.std.specs.Prelude.{◌≡◌, ℕ, zero, suc, ◌+◌, ◌<◌, ◌≤◌, Bool, false, List, [], ◌∷◌, Option, None, Some, is_some, nat_lt, nat_eq, not, ◌&&◌, if◌then◌else◌, map, length, slice_get, slice_index_or, filter, MatchOption}
+use Rattle.std.specs.Prelude.{◌≡◌, ℕ, zero, suc, ◌+◌, ◌-◌, ◌<◌, ◌≤◌, Bool, false, List, [], ◌∷◌, Option, None, Some, is_some, nat_lt, nat_eq, not, ◌&&◌, if◌then◌else◌, map, length, slice_get, slice_index_or, filter, MatchOption}
 use Rattle.std.specs.Option.{option_map, option_map_or, option_and_then}
 use Rattle.std.specs.BTreeMap.{insert_entry as tree_insert, is_at}
 use Rattle.std.specs.Ordering.{nat_cmp}
@@ -18,13 +18,14 @@ use Rattle.store_cells.specs.Cells.{PlainCell, is_array, is_own, is_visible_form
 use Rattle.store_cells.specs.declared.cell.Write.{Write}
 use Rattle.store_cells.specs.declared.cell.Write.TheVariants as write
 use Rattle.code_units.specs.Indices.{index_of}
-use Rattle.store_cells.specs.Arrays.{is_below, count_value, length_in, length_name, written, cut}
+use Rattle.store_cells.specs.Arrays.{is_below, is_reference, count_value, length_in, length_name, written, cut}
 
--- A cell as it is kept: its fixed part, the indices of an Array with the numbers of the names that are these, and its
--- pairs by the numbers of their names.
+-- A cell as it is kept: its fixed part, the indices of an Array with the numbers of the names that are these, how many
+-- of its elements refer to cells, and its pairs by the numbers of their names.
 pub record NumberedCell : Type 0 where
   pub head : Head
   pub elements : List (ℕ × ℕ)
+  pub references : ℕ
   pub entries : List (ℕ × Value)
 
 -- the number of the name that is an index
@@ -55,6 +56,28 @@ named names es = map (λ e. (name_at names e.0, e.1)) es
 -- a cell with its names
 abbrev pub plain : List (List ℕ) → NumberedCell → PlainCell
 plain names c = record { owner = c.head.owner; form = c.head.form; up = c.head.up; pairs = named names c.entries }
+
+-- whether a pair is an element and refers to a cell
+abbrev pub is_referring : List (List ℕ) → ℕ × Value → Bool
+is_referring names e = is_some (index_of (name_at names e.0)) && is_reference e.1
+
+-- how many elements refer to cells
+abbrev pub references_in : List (List ℕ) → List (ℕ × Value) → ℕ
+references_in names es = length (filter (is_referring names) es)
+
+-- whether the value under a name refers to a cell
+abbrev pub refers_at : ℕ → List (ℕ × Value) → Bool
+refers_at n es = option_map_or is_reference (lookup (nat_eq n) es) false
+
+-- a count after one thing that counted or not is another
+abbrev pub recounted : Bool → Bool → ℕ → ℕ
+recounted had has k = (k - (if had then 1 else 0)) + (if has then 1 else 0)
+
+-- the count of the elements that refer to cells, after the value under a name, which is an element where `e` is past its
+-- index and not 0
+abbrev pub element_recounted : ℕ → Bool → Bool → ℕ → ℕ
+element_recounted zero had has k = k
+element_recounted (suc at) had has k = recounted had has k
 
 -- the cells with their names
 abbrev pub cells_of : List (List ℕ) → List NumberedCell → List PlainCell
@@ -95,25 +118,34 @@ own_place h = option_and_then (λ w. if is_visible_form h.form then Some h.numbe
 
 -- a cell after a write under a name by its number, where `e` is past the index that the name is
 abbrev pub numbered_written : ℕ → Value → ℕ → NumberedCell → NumberedCell
-numbered_written n v e c = record c { elements = noted e n c.elements; entries = insert_entry nat_eq c.entries n v }
+numbered_written n v e c = record c {
+  elements = noted e n c.elements;
+  references = element_recounted e (refers_at n c.entries) (is_reference v) c.references;
+  entries = insert_entry nat_eq c.entries n v;
+}
 
 -- a cell after writes under two names by their numbers
 abbrev pub numbered_two : ℕ → Value → ℕ → Value → ℕ → NumberedCell → NumberedCell
-numbered_two n v m u e c =
-    record c { elements = noted e n c.elements; entries = insert_entry nat_eq (insert_entry nat_eq c.entries n v) m u }
+numbered_two n v m u e c = record (numbered_written n v e c) {
+  entries = insert_entry nat_eq (insert_entry nat_eq c.entries n v) m u;
+}
 
 -- a cell after a write under a name that it has, by its number
 abbrev pub numbered_held : ℕ → Value → NumberedCell → NumberedCell
 numbered_held n v c = record c { entries = insert_entry nat_eq c.entries n v }
 
--- a cell after a name was taken out by its number
-abbrev pub numbered_without : ℕ → NumberedCell → NumberedCell
-numbered_without n c = record c { entries = remove_entry (nat_eq n) c.entries }
+-- a cell after a name was taken out by its number, where `e` is past the index that the name is
+abbrev pub numbered_without : ℕ → ℕ → NumberedCell → NumberedCell
+numbered_without n e c = record c {
+  references = element_recounted e (refers_at n c.entries) false c.references;
+  entries = remove_entry (nat_eq n) c.entries;
+}
 
 -- a cell after its elements from an index on were taken out
 abbrev pub numbered_cut : List (List ℕ) → ℕ → NumberedCell → NumberedCell
 numbered_cut names n c = record c {
   elements = noted_below n c.elements;
+  references = references_in names (filter (λ e. is_below n (name_at names e.0)) c.entries);
   entries = filter (λ e. is_below n (name_at names e.0)) c.entries;
 }
 
@@ -173,4 +205,9 @@ node_head n = record { owner = whose.Host; form = form.RawNode n; up = None; lin
 
 -- a cell as it is made
 abbrev pub first_numbered : Head → NumberedCell
-first_numbered h = record { head = h; elements = []; entries = if is_array h.form then (0, count_value 0) ∷ [] else [] }
+first_numbered h = record {
+  head = h;
+  elements = [];
+  references = 0;
+  entries = if is_array h.form then (0, count_value 0) ∷ [] else [];
+}

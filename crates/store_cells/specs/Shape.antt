@@ -19,7 +19,7 @@ use Rattle.store_cells.specs.Arrays.{length_in, length_name, nodes_name, count_v
 use Rattle.store_cells.specs.Host.{AreHost, array_prototype}
 use Rattle.store_cells.specs.Bunches.{AreBunches, elements}
 use Rattle.store_cells.specs.declared.cell.Write.{Write}
-use Rattle.store_cells.specs.Numbered.{NumberedCell, found_in, name_at, named, heads, is_length_in, numbered_holder, own_head, plan_of, cells_of}
+use Rattle.store_cells.specs.Numbered.{NumberedCell, found_in, name_at, named, heads, is_length_in, numbered_holder, own_head, plan_of, cells_of, references_in}
 
 -- a reference is to one of so many cells
 abbrev pub IsRefWithin : ℕ → Value → Type 0
@@ -47,15 +47,16 @@ pub record IsIndexed (names : List (List ℕ)) (index : ℕ → Option ℕ) (ent
   pub named : (i n : ℕ) → index i ≡ Some n → index_of (name_at names n) ≡ Some i
   pub noted : AreNoted names index entries
 
--- An Array has a length, and its elements are found by their indices.
-pub record IsArrayTable (names : List (List ℕ)) (els : List (ℕ × ℕ)) (entries : List (ℕ × Value)) : Type 0 where
-  pub length : is_some (option_and_then length_in (lookup (nat_eq 0) entries)) ≡ true
-  pub indexed : IsIndexed names (found_in els) entries
+-- An Array has a length, its elements are found by their indices, and those that refer to cells are counted.
+pub record IsArrayTable (names : List (List ℕ)) (c : NumberedCell) : Type 0 where
+  pub length : is_some (option_and_then length_in (lookup (nat_eq 0) c.entries)) ≡ true
+  pub indexed : IsIndexed names (found_in c.elements) c.entries
+  pub counted : c.references ≡ references_in names c.entries
 
 -- A cell's names are in the table, its references exist, and an Array is one.
 pub record IsFine (names : List (List ℕ)) (size : ℕ) (c : NumberedCell) : Type 0 where
   pub entries : AreEntries (length names) size c.entries
-  pub array : is_array c.head.form ≡ true → IsArrayTable names c.elements c.entries
+  pub array : is_array c.head.form ≡ true → IsArrayTable names c
 
 -- each cell's names are in the table, its references exist, and each Array is one
 abbrev pub AreFine : List (List ℕ) → ℕ → List NumberedCell → Type 0
@@ -218,6 +219,7 @@ AreElements size vs = AllByRecursion (IsRefWithin size) vs
 pub record IsArrayOf (names : List (List ℕ)) (h : Head) (count : ℕ) (vs : List Value) (c : NumberedCell) : Type 0 where
   pub head : c.head ≡ h
   pub indexed : IsIndexed names (found_in c.elements) c.entries
+  pub counted : c.references ≡ references_in names c.entries
   pub known : Known (length names) c.entries
   pub pairs : named names c.entries ≡ (length_name, count_value count) ∷ elements 0 vs
 

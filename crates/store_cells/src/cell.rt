@@ -6,7 +6,7 @@ ghost use Rattle.std.specs.Option.{option_map_or};
 ghost use Rattle.store_cells.specs.Arrays.{count_value, keys_of, length_in};
 ghost use Rattle.store_cells.specs.Cells.{is_array, is_scope, writer_in};
 ghost use Rattle.store_cells.specs.Holes.{is_reference_below};
-ghost use Rattle.store_cells.specs.Numbered.{NumberedCell, element_plan, first_numbered, found_in, is_length_in, is_listed, node_head, numbered_cut, numbered_element, numbered_has, numbered_held, numbered_length, numbered_two, numbered_without, numbered_written, own_place, plain, plan_of};
+ghost use Rattle.store_cells.specs.Numbered.{NumberedCell, element_plan, first_numbered, found_in, is_length_in, is_listed, node_head, numbered_cut, numbered_element, numbered_has, numbered_held, numbered_length, numbered_two, numbered_without, numbered_written, own_place, plain, plan_of, references_in};
 ghost use Rattle.store_cells.specs.Shape.{IsIndexed, Known};
 
 use crate::kind::Form;
@@ -38,11 +38,12 @@ pub struct Maker {
 }
 
 /// A cell: its pairs in a table with holes, and for an Array the numbers of names by the indices that
-/// these are.
+/// these are, and how many of its elements refer to cells.
 #[derive(Drop)]
 pub struct Cell {
     head: Head,
     holes: u32,
+    references: u32,
     table: IndexMap<u32, Value, NumberKeys>,
     elements: BTreeMap<u32, u32>,
 }
@@ -53,7 +54,7 @@ impl Model for Cell {
 
     ghost Value = { NumberedCell };
 
-    ghost view = { λ c. record { head = c.head; elements = c.elements.entries; entries = live c.table.entries } };
+    ghost view = { λ c. record { head = c.head; elements = c.elements.entries; references = c.references; entries = live c.table.entries } };
 
     ghost invariant = { λ c. IsFull c.holes c.table.entries };
 }
@@ -107,11 +108,12 @@ fn element_plan(len: u32, index: Option<u32>) -> Write
 impl Cell {
     /// A cell without pairs.
     pub fn new(maker: Maker, head: Head) -> Cell
-        ensures { result ≡ record { head = head; elements = []; entries = [] } }
+        ensures { result ≡ record { head = head; elements = []; references = 0; entries = [] } }
     {
         Cell {
             head,
             holes: 0,
+            references: 0,
             table: IndexMap::with_hasher(maker.alloc, maker.key),
             elements: BTreeMap::new(maker.alloc),
         }
@@ -130,7 +132,7 @@ impl Cell {
 
     /// The cell of a page node.
     pub fn of_node(maker: Maker, node: u32) -> Cell
-        ensures { result ≡ record { head = node_head node; elements = []; entries = [] } }
+        ensures { result ≡ record { head = node_head node; elements = []; references = 0; entries = [] } }
     {
         Cell::new(
             maker,
@@ -297,11 +299,20 @@ impl Cell {
         pairs::keys_len(&self.table, names, self.head.form.is_array())
     }
 
-    /// Whether an element below an index refers to a cell.
+    /// Whether an element below an index refers to a cell. For an Array whose elements are all below
+    /// it, as they are where it is the length, this is one look at the last index and at a count.
     pub fn has_reference(&self, names: &Names, n: u32) -> bool
+        requires { is_array self.now.head.form ≡ true → IsIndexed names.now (found_in self.now.elements) self.now.entries
+            × (self.now.references ≡ references_in names.now self.now.entries) }
         ensures { result ≡ list_any (is_reference_below names.now n) self.now.entries }
     {
-        pairs::has_reference(&self.table, names, n)
+        if !self.head.form.is_array() {
+            return pairs::has_reference(&self.table, names, n);
+        }
+        if self.references == 0 {
+            return false;
+        }
+        pairs::are_below(&self.elements, n) || pairs::has_reference(&self.table, names, n)
     }
 
     /// A law: its names differ.
@@ -317,7 +328,7 @@ impl Cell {
         ensures ok { OnOk result (self.new ≡ numbered_written n value end self.old) }
         ensures err { OnErr result (self.new ≡ self.old) }
     {
-        if n >= FIRST_HOLE {
+        if n >= FIRST_HOLE || self.references == u32::MAX {
             return Err(Memory);
         }
         if end == 0 {
@@ -339,15 +350,18 @@ impl Cell {
 
     // Writes under the name of an element.
     fn write_element(&mut self, n: u32, value: Value, at: u32) -> Result<(), Memory>
-        requires { n < FIRST_HOLE }
+        requires name { n < FIRST_HOLE }
+        requires few { self.old.references < 4294967295 }
         ensures ok { OnOk result (self.new ≡ numbered_written n value (suc at) self.old) }
         ensures err { OnErr result (self.new ≡ self.old) }
     {
         self.table.reserve(1)?;
         pairs::note(&mut self.elements, at, n)?;
+        let count = pairs::recounted(&self.table, self.references, n, &value);
         let Ok(_) = self.table.insert(n, value) else {
             unreachable!()
         };
+        self.references = count;
         Ok(())
     }
 
@@ -364,17 +378,19 @@ impl Cell {
         ensures ok { OnOk result (self.new ≡ numbered_two n value m other end self.old) }
         ensures err { OnErr result (self.new ≡ self.old) }
     {
-        if n >= FIRST_HOLE || m >= FIRST_HOLE || end == 0 {
+        if n >= FIRST_HOLE || m >= FIRST_HOLE || end == 0 || self.references == u32::MAX {
             return Err(Memory);
         }
         self.table.reserve(2)?;
         pairs::note(&mut self.elements, end - 1, n)?;
+        let count = pairs::recounted(&self.table, self.references, n, &value);
         let Ok(_) = self.table.insert(n, value) else {
             unreachable!()
         };
         let Ok(_) = self.table.insert(m, other) else {
             unreachable!()
         };
+        self.references = count;
         Ok(())
     }
 
@@ -389,18 +405,28 @@ impl Cell {
         }
     }
 
-    /// Takes a name out. An index stays noted.
-    pub fn take(&mut self, n: u32)
-        ensures { self.new ≡ numbered_without n self.old }
+    /// Takes a name out. `end` is past it where it is an index, which stays noted.
+    pub fn take(&mut self, n: u32, end: u32)
+        ensures { self.new ≡ numbered_without n end self.old }
     {
+        if end != 0 {
+            pairs::discount(&self.table, &mut self.references, n);
+        }
         pairs::take_out(&mut self.table, &mut self.holes, n);
     }
 
     /// Removes the elements from `n` on, the last first.
     pub fn cut(&mut self, n: u32)
         ensures { (names : List (List ℕ)) → Known (length names) self.old.entries
-            → IsIndexed names (found_in self.old.elements) self.old.entries → self.new ≡ numbered_cut names n self.old }
+            → IsIndexed names (found_in self.old.elements) self.old.entries
+            → self.old.references ≡ references_in names self.old.entries → self.new ≡ numbered_cut names n self.old }
     {
-        pairs::cut(&mut self.elements, &mut self.table, &mut self.holes, n);
+        pairs::cut(
+            &mut self.elements,
+            &mut self.table,
+            &mut self.holes,
+            &mut self.references,
+            n,
+        );
     }
 }

@@ -5,8 +5,8 @@ ghost use Rattle.std.specs.BTreeMap.{btree_map_len};
 ghost use Rattle.std.specs.List.{IsDistinct, list_any};
 ghost use Rattle.std.specs.Map.{keys_of as numbers_of, lookup, remove_entry};
 ghost use Rattle.std.specs.Option.{option_map_or};
-ghost use Rattle.store_cells.specs.Arrays.{is_below, is_index_below};
-ghost use Rattle.store_cells.specs.Numbered.{found_in, live, name_at, noted, noted_below};
+ghost use Rattle.store_cells.specs.Arrays.{is_below, is_index_below, is_reference};
+ghost use Rattle.store_cells.specs.Numbered.{found_in, live, name_at, noted, noted_below, recounted, references_in, refers_at};
 ghost use Rattle.store_cells.specs.Holes.{IsFull, IsNonePast, IsPoppedPast, StandsAt, is_name, is_reference_below, listed_in, listed_names, place_key};
 ghost use Rattle.store_cells.specs.Shape.{IsIndexed, Known};
 
@@ -207,6 +207,53 @@ pub(crate) fn has_reference(table: &IndexMap<u32, Value, NumberKeys>, names: &Na
     false
 }
 
+// Whether the value under a name refers to a cell.
+fn refers(table: &IndexMap<u32, Value, NumberKeys>, n: u32) -> bool
+    ensures { result ≡ refers_at n (live table.now.entries) }
+{
+    match value(table, n) {
+        None => false,
+        Some(v) => v.is_reference(),
+    }
+}
+
+/// The count of the values that refer to cells, once the value under a name that is counted is this.
+pub(crate) fn recounted(
+    table: &IndexMap<u32, Value, NumberKeys>,
+    count: u32,
+    n: u32,
+    to: &Value,
+) -> u32
+    requires { count < 4294967295 }
+    ensures { result ≡ recounted (refers_at n (live table.now.entries)) (is_reference to.now) count }
+{
+    let left = if refers(table, n) {
+        count.saturating_sub(1)
+    } else {
+        count
+    };
+    if to.is_reference() { left + 1 } else { left }
+}
+
+/// The same, once the name is taken out.
+pub(crate) fn discount(table: &IndexMap<u32, Value, NumberKeys>, count: &mut u32, n: u32)
+    ensures { count.new ≡ recounted (refers_at n (live table.now.entries)) false count.old }
+{
+    if refers(table, n) {
+        *count = count.saturating_sub(1);
+    }
+}
+
+/// Whether all indices are below one; no, where none is noted.
+pub(crate) fn are_below(elements: &BTreeMap<u32, u32>, n: u32) -> bool
+    ensures { result ≡ true → IsNonePast n elements.now.entries }
+{
+    match elements.last_key_value() {
+        None => false,
+        Some((at, _number)) => *at < n,
+    }
+}
+
 /// Takes a name out. It leaves a hole, where there is memory for one and it is not the last; once more
 /// than half are holes, these are filled.
 pub(crate) fn take_out(table: &mut IndexMap<u32, Value, NumberKeys>, holes: &mut u32, n: u32)
@@ -309,16 +356,21 @@ pub(crate) fn cut(
     elements: &mut BTreeMap<u32, u32>,
     table: &mut IndexMap<u32, Value, NumberKeys>,
     holes: &mut u32,
+    count: &mut u32,
     n: u32,
 )
     requires { IsFull holes.old table.old.entries }
     ensures full { IsFull holes.new table.new.entries }
     ensures elements { elements.new.entries ≡ noted_below n elements.old.entries }
+    ensures count { (names : List (List ℕ)) → Known (length names) (live table.old.entries)
+        → IsIndexed names (found_in elements.old.entries) (live table.old.entries)
+        → count.old ≡ references_in names (live table.old.entries) → count.new ≡ references_in names (live table.new.entries) }
     ensures entries { (names : List (List ℕ)) → Known (length names) (live table.old.entries)
         → IsIndexed names (found_in elements.old.entries) (live table.old.entries)
         → live table.new.entries ≡ filter (λ e. is_below n (name_at names e.0)) (live table.old.entries) }
 {
     while let Some(k) = pop_past(elements, n) {
+        discount(table, count, k);
         take_out(table, holes, k);
     }
 }

@@ -66,7 +66,7 @@ module _ (old new : List (List ℕ)) (grown : Grown old new) (table : IsTable ne
   same_cells = cells_stay old new grown.longer grown.kept cs (known_cells old (length cs) cs base.fine)
 
   -- a Bunch and its hidden Array
-  module _ (host : AreHost (cells_of old cs)) (w number : ℕ) (refs : List ℕ) (bunch array : NumberedCell) (is_bunch : bunch ≡ record { head = head_on (heads cs) w form.Bunch bunch_prototype number; elements = []; entries = (1, value.Ref (length cs + 1)) ∷ [] }) (ordered : IsOrdered (heads cs) (length cs) (head_on (heads cs) w form.Bunch bunch_prototype number)) (few : length (map value.Ref refs) ≤ 4294967295) (under : AllUnder (length cs + 2) refs) (is_array : IsArrayOf new (hidden_head (heads cs)) (length (map value.Ref refs)) (map value.Ref refs) array) where
+  module _ (host : AreHost (cells_of old cs)) (w number : ℕ) (refs : List ℕ) (bunch array : NumberedCell) (is_bunch : bunch ≡ record { head = head_on (heads cs) w form.Bunch bunch_prototype number; elements = []; references = 0; entries = (1, value.Ref (length cs + 1)) ∷ [] }) (ordered : IsOrdered (heads cs) (length cs) (head_on (heads cs) w form.Bunch bunch_prototype number)) (few : length (map value.Ref refs) ≤ 4294967295) (under : AllUnder (length cs + 2) refs) (is_array : IsArrayOf new (hidden_head (heads cs)) (length (map value.Ref refs)) (map value.Ref refs) array) where
     one_within : 1 < length new
     one_within = get_within new 1 nodes_name words.nodes
 
@@ -144,8 +144,8 @@ module _ (old new : List (List ℕ)) (grown : Grown old new) (table : IsTable ne
         array_plain = plain_array new (hidden_head (heads cs)) (length (map value.Ref refs)) (map value.Ref refs) array refl is_array
 
 -- the Bunch by its fixed part and the place of its hidden Array
-pub bunch_is : (c : NumberedCell) (h k : Head) (a b : ℕ) → (let d : NumberedCell = record { head = h; elements = []; entries = (1, value.Ref a) ∷ [] } in c ≡ d) → h ≡ k → a ≡ b → (let d : NumberedCell = record { head = k; elements = []; entries = (1, value.Ref b) ∷ [] } in c ≡ d)
-bunch_is c h k a b e f g = e ∙ (λ j. record { head = f j; elements = []; entries = (1, value.Ref (g j)) ∷ [] })
+pub bunch_is : (c : NumberedCell) (h k : Head) (a b : ℕ) → (let d : NumberedCell = record { head = h; elements = []; references = 0; entries = (1, value.Ref a) ∷ [] } in c ≡ d) → h ≡ k → a ≡ b → (let d : NumberedCell = record { head = k; elements = []; references = 0; entries = (1, value.Ref b) ∷ [] } in c ≡ d)
+bunch_is c h k a b e f g = e ∙ (λ j. record { head = f j; elements = []; references = 0; entries = (1, value.Ref (g j)) ∷ [] })
 
 -- the node of the cell that a node has
 raw_cell_at : (cells : List PlainCell) (n i : ℕ) → raw_place n cells ≡ Some i → node_at cells i ≡ Some n

@@ -85,11 +85,11 @@ host_head up links f = record { owner = whose.Host; form = f; up = up; links = l
 
 -- a cell of the host without properties
 abbrev pub host_numbered : Option ℕ → ℕ → Form → NumberedCell
-host_numbered up links f = record { head = host_head up links f; elements = []; entries = [] }
+host_numbered up links f = record { head = host_head up links f; elements = []; references = 0; entries = [] }
 
 -- a new RawNode of a page node
 abbrev pub node_numbered : ℕ → NumberedCell
-node_numbered n = record { head = node_head n; elements = []; entries = [] }
+node_numbered n = record { head = node_head n; elements = []; references = 0; entries = [] }
 
 -- the cells of natives, each in a row with its home and its name there
 abbrev pub native_cells : {N : Type 0} → List (ℕ × N × NativeId) → List NumberedCell

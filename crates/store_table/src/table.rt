@@ -9,10 +9,10 @@ ghost use Rattle.store_cells.specs.Arrays.{end_of, without, written};
 ghost use Rattle.store_cells.specs.Born.{filled_cell, with_pair};
 ghost use Rattle.store_cells.specs.Cells.{is_array};
 ghost use Rattle.store_cells.specs.Lists.{changed};
-ghost use Rattle.store_cells.specs.Numbered.{Grown, IsNumberOf, by_plan, found_in, heads, numbered_along, numbered_has_at, numbered_holder, numbered_own, numbered_two, numbered_written, plain};
+ghost use Rattle.store_cells.specs.Numbered.{Grown, IsNumberOf, by_plan, found_in, heads, numbered_along, numbered_has_at, numbered_holder, numbered_own, numbered_two, numbered_written, plain, references_in};
 ghost use Rattle.store_cells.specs.Shape.{Added, AreRefs, Grew, IsBase, IsFine, IsIndexed, IsOrdered, IsPlanned, IsRefWithin, IsTakeable, IsVariable, Kept, Known, Wrote, head_on, links_at, scope_head};
 
-use code_units::{Memory, Owner, Text};
+use code_units::{Memory, Owner, Text, index_of};
 use indexmap::IndexMap;
 use keyed_names::{Names, NumberKeys};
 use store_cells::cell::{Cell, Head, LENGTH, Maker, Write, count_value};
@@ -226,7 +226,17 @@ pub fn take(names: &Names, cells: &mut Vec<Cell>, i: CellId, name: &Text, n: u32
     ensures { Wrote names.now cells.old.items names.now cells.new.items i (without name.now) }
 {
     let cell = &mut cells[i as usize];
-    cell.take(n);
+    cell.take(n, end_of(name));
+}
+
+// One past the index that a name is, 0 where it is none.
+fn end_of(name: &Text) -> u32
+    ensures { result ≡ end_of name.now }
+{
+    match index_of(name) {
+        None => 0,
+        Some(i) => i + 1,
+    }
 }
 
 /// Writes a variable that the scope at `i` has.
@@ -321,6 +331,8 @@ pub fn write_new(
     ensures head { OnOk result (cell.new.head ≡ cell.old.head) }
     ensures indexed { OnOk result (end ≡ end_of name.now → IsIndexed names.old (found_in cell.old.elements) cell.old.entries
         → IsIndexed names.new (found_in cell.new.elements) cell.new.entries) }
+    ensures counted { OnOk result (end ≡ end_of name.now → cell.old.references ≡ references_in names.old cell.old.entries
+        → cell.new.references ≡ references_in names.new cell.new.entries) }
     ensures done { OnOk result (plain names.new cell.new ≡ written name.now value (plain names.old cell.old)) }
 {
     let number = names.number(name);

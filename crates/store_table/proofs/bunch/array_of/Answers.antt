@@ -12,5 +12,5 @@ loop-at-preserved c =
     let ends : c.loop-at.at + 1 ≡ end_of c.in_ok-name.name = element_end c.loop-at.at (omega (arith, lt, c.requires.few)) ∙ ap end_of (sym c.in_ok-name.ensures) in (
       w.table,
       grown_then c.args.names.now c.loop-at.names c.write_new.new.names i.1 w.grown,
-      array_more c.loop-at.names c.write_new.new.names c.args.head (length c.args.values.now) c.args.values.now c.loop-at.at c.in_ok-value.value c.in_ok-name.name c.loop-at.cell c.write_new.new.cell i.2 lt small c.in_ok-name.ensures c.in_ok-value.ensures w.known w.head (w.indexed ends i.2.indexed) w.done,
+      array_more c.loop-at.names c.write_new.new.names c.args.head (length c.args.values.now) c.args.values.now c.loop-at.at c.in_ok-value.value c.in_ok-name.name c.loop-at.cell c.write_new.new.cell i.2 lt small c.in_ok-name.ensures c.in_ok-value.ensures w.known w.head (w.indexed ends i.2.indexed) (w.counted ends i.2.counted) w.done,
     )

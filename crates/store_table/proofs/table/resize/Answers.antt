@@ -2,7 +2,7 @@ use Rattle.std.proofs.Common.{refl, length, arith, ◌∙◌, ap}
 use Rattle.std.proofs.lemmas.Option.{slice_get_read}
 use Rattle.store_cells.specs.Numbered.{NumberedCell, numbered_held, numbered_cut}
 use Rattle.store_cells.proofs.Lists.{set_is}
-use Rattle.store_cells.proofs.Writes.{cut_indexed, cut_known, has_length, wrote_length}
+use Rattle.store_cells.proofs.Writes.{cut_counted, cut_indexed, cut_known, has_length, wrote_length}
 use Rattle.store_table.proofs.table.resize.Goals as goal
 
 pub write_held-requires : goal.write_held-requires
@@ -19,4 +19,5 @@ returns c =
     let at = slice_get_read cs (length cs) c.args.i x refl (omega (arith, c.requires.at, c.args.cells.now.ok.0)) c.index_mut-cell.ensures.value in
     let known = cut_known names c.args.name.now cs c.requires.base c.args.i c.args.len c.args.value c.requires.plan x c.write_held.new.self at c.write_held.ensures in
     let indexed = cut_indexed names c.args.name.now cs c.requires.base c.args.i c.args.len c.args.value c.requires.plan x c.write_held.new.self at c.write_held.ensures in
-    wrote_length names c.args.name.now cs c.requires.base c.args.i c.args.len c.args.value c.requires.plan _ (set_is cs c.args.i x c.cut.new.self (λ d. numbered_cut names c.args.len (numbered_held 0 c.args.value d)) at (c.cut.ensures names known indexed ∙ ap (λ (d : NumberedCell). numbered_cut names c.args.len d) c.write_held.ensures))
+    let counted = cut_counted names c.args.name.now cs c.requires.base c.args.i c.args.len c.args.value c.requires.plan x c.write_held.new.self at c.write_held.ensures in
+    wrote_length names c.args.name.now cs c.requires.base c.args.i c.args.len c.args.value c.requires.plan _ (set_is cs c.args.i x c.cut.new.self (λ d. numbered_cut names c.args.len (numbered_held 0 c.args.value d)) at (c.cut.ensures names known indexed counted ∙ ap (λ (d : NumberedCell). numbered_cut names c.args.len d) c.write_held.ensures))

@@ -10,4 +10,4 @@ returns c =
     let cs = c.args.cells.now.items in
     let x = c.index_mut-cell.result.now in
     let at = slice_get_read cs (length cs) c.args.i x refl (omega (arith, c.requires.at, c.args.cells.now.ok.0)) c.index_mut-cell.ensures.value in
-    took c.args.names.now cs c.requires.base c.args.i c.args.name.now c.args.n c.requires.number c.requires.kept _ (set_is cs c.args.i x c.take.new.self (numbered_without c.args.n) at c.take.ensures)
+    took c.args.names.now cs c.requires.base c.args.i c.args.name.now c.args.n c.end_of.result c.requires.number c.end_of.ensures c.requires.kept _ (set_is cs c.args.i x c.take.new.self (numbered_without c.args.n c.end_of.result) at c.take.ensures)
