@@ -6,7 +6,7 @@ ghost use Rattle.event_loop.specs.declared.around.Loop.{Loop};
 ghost use Rattle.js_image.specs.Held.{IsHeld};
 ghost use Rattle.js_image.specs.Image.{seen};
 ghost use Rattle.page_image.specs.Image.{HasRoot, forest, number, owns, relabel_in};
-ghost use Rattle.page_image.specs.Stays.{KeepsNodes, OthersStay};
+ghost use Rattle.page_image.specs.Stays.{HostStays, KeepsNodes, OthersStay};
 ghost use Rattle.page_image.specs.Targets.{is_text_at};
 ghost use Rattle.native_image.specs.Charges.{IsPrice, Price};
 ghost use Rattle.native_image.specs.Image.{beside};
@@ -56,6 +56,7 @@ fn change_node(
     ensures image { OnOk result (forest page.new w ≡ relabel_in (meant change.now) (forest page.old w) (number page.old w node)) }
     ensures kept { KeepsNodes page.old page.new }
     ensures others { OthersStay page.old page.new w }
+    ensures host { HostStays page.old page.new }
 {
     match change {
         Label::Set { name, value } => set(page, w, node, name, value),
@@ -73,6 +74,7 @@ fn set(page: &mut Page, w: u32, node: NodeId, name: &Text, value: &Text) -> Resu
         relabel_in (meant (Label.Set name.now value.now)) (forest page.old w) (number page.old w node)) }
     ensures kept { KeepsNodes page.old page.new }
     ensures others { OthersStay page.old page.new w }
+    ensures host { HostStays page.old page.new }
 {
     let value = value.share()?;
     set_attr(page, w, node, name, Some(value))
@@ -95,6 +97,7 @@ fn change_all(
         fold (relabel_in (meant change.now)) (forest page.old w) (map (number page.old w) list.now)) }
     ensures kept { KeepsNodes page.old page.new }
     ensures others { OthersStay page.old page.new w }
+    ensures host { HostStays page.old page.new }
 {
     'each: for node in list {
         change_node(alloc, *node, change, w, page)?;

@@ -10,7 +10,7 @@ ghost use Rattle.widget_meaning.specs.Trees.{moved};
 ghost use Rattle.js_image.specs.Held.{Kept};
 ghost use Rattle.page_image.specs.Copies.{AreCopied};
 ghost use Rattle.page_image.specs.Image.{HasRoot, forest, number, owns};
-ghost use Rattle.page_image.specs.Stays.{KeepsNodes, OthersStay};
+ghost use Rattle.page_image.specs.Stays.{HostStays, KeepsNodes, OthersStay};
 ghost use Rattle.native_image.specs.Sound.{HoldsOwn, IsSound, KeepsAll};
 ghost use Rattle.bunch_trees.specs.Changes.{Changes};
 
@@ -35,6 +35,7 @@ pub(crate) fn put_under(
         fold (moved (number page.old w target) None) (forest page.old w) (map (number page.old w) news.now)) }
     ensures kept { KeepsNodes page.old page.new }
     ensures others { OthersStay page.old page.new w }
+    ensures host { HostStays page.old page.new }
 {
     match page_image::append(page, w, target, news) {
         Ok(()) => Ok(()),

@@ -8,7 +8,7 @@ ghost use Rattle.event_loop.specs.declared.around.Loop.{Loop};
 ghost use Rattle.js_image.specs.Held.{IsFine, IsHeld};
 ghost use Rattle.js_image.specs.Image.{seen};
 ghost use Rattle.page_image.specs.Image.{HasRoot, forest, number, owns};
-ghost use Rattle.page_image.specs.Stays.{KeepsNodes, OthersStay};
+ghost use Rattle.page_image.specs.Stays.{HostStays, KeepsNodes, OthersStay};
 ghost use Rattle.native_image.specs.Image.{beside};
 ghost use Rattle.native_image.specs.Meets.{MeetsAt};
 ghost use Rattle.native_image.specs.Sound.{AreNodes, IsSound, KeepsAll};
@@ -67,6 +67,7 @@ fn empty_all(list: &[NodeId], w: u32, page: &mut Page)
     ensures image { forest page.new w ≡ fold emptied_in (forest page.old w) (map (number page.old w) list.now) }
     ensures kept { KeepsNodes page.old page.new }
     ensures others { OthersStay page.old page.new w }
+    ensures host { HostStays page.old page.new }
 {
     'each: for node in list {
         page_image::empty(page, w, *node);
@@ -140,6 +141,7 @@ fn put_in_place(page: &mut Page, w: u32, node: NodeId, news: &[NodeId]) -> Resul
         (number page.old w node)) }
     ensures kept { KeepsNodes page.old page.new }
     ensures others { OthersStay page.old page.new w }
+    ensures host { HostStays page.old page.new }
 {
     match page_image::replace(page, w, node, news) {
         Ok(()) => Ok(()),

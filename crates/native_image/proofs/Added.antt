@@ -17,6 +17,7 @@ use Rattle.page_nodes.specs.Owners.{same_owner}
 use Rattle.page_tree.specs.declared.page.Page.{Page}
 use Rattle.page_tree.specs.Pages.{SameRoots, copy_of, nodes}
 use Rattle.page_image.specs.Image.{forest, number, own, owns}
+use Rattle.page_image.proofs.Hosting.{added_host}
 use Rattle.page_image.proofs.Growing.{added_grows, added_image, added_number, added_others, added_owned, copied_image, copy_added, copy_size, range_long}
 use Rattle.page_image.proofs.Pages.{below_32, is_node}
 use Rattle.event_loop.specs.declared.around.Loop.{Loop}
@@ -91,6 +92,7 @@ module _ (old new : Page) (same : SameRoots old new) (w : ℕ) (lt : w < 32) (id
     mine = added_owned old new same w lt id p c;
     grows = (_, range_long (size p) _, added_grows old new same w lt id p c);
     others = added_others old new same w lt id p c;
+    host = added_host old new id (owner.Widget w) p c;
     fresh = fresh_nodes;
   }
 
@@ -109,7 +111,7 @@ module _ (w : ℕ) (lt : w < 32) (s t : Cells) (p q : Page) (id many : ℕ) (tre
   keeps_grown l h =
       let a = keeps_store w s t p l h k in
       let b = page_grows w p q g.grows.0 g.grows.2 g.others in
-      record { store = a.store; page = b; holds = holds_page w lt p q b t l a.holds }
+      record { store = a.store; page = b; host = g.host; holds = holds_page w lt p q b t l a.holds }
 
   pub sound_grown : ((n : ℕ) → id ≤ n → n < id + many → HasRaw t.cells n) → (l : Loop) → IsSound w s p l → IsSound w t q l
   sound_grown there l h = record {

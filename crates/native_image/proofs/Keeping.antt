@@ -9,7 +9,8 @@ use Rattle.object_store.specs.Owned.{OwnCell, OwnKind, owned}
 use Rattle.page_tree.specs.declared.page.Page.{Page}
 use Rattle.page_image.specs.Held.{OptionIn}
 use Rattle.page_image.specs.Image.{HasRoot, own, owns}
-use Rattle.page_image.specs.Stays.{Grows, KeepsNodes, OthersStay}
+use Rattle.page_image.specs.Stays.{Grows, HostStays, KeepsNodes, OthersStay}
+use Rattle.page_image.proofs.Hosting.{host_same, host_then}
 use Rattle.page_image.proofs.Looks.{root_owned}
 use Rattle.page_image.proofs.Pages.{is_widget}
 use Rattle.event_loop.specs.declared.around.Loop.{Loop}
@@ -53,6 +54,9 @@ store_then w a b c f g = record {
 
 pub page_same : (w : ℕ) (p : Page) → KeepsPage w p p
 page_same w p = record { owners = λ v n h. h; numbers = λ v n h. refl; made = omega arith; others = λ v ne. refl; trees = λ v lt ne. refl; roots = λ v lt. refl }
+
+pub host_here : (p : Page) → HostStays p p
+host_here p = host_same p p refl
 
 pub page_then : (w : ℕ) (p q r : Page) → KeepsPage w p q → KeepsPage w q r → KeepsPage w p r
 page_then w p q r f g = record {
@@ -149,19 +153,19 @@ sound_page w lt p q k trees s l h = record {
 
 -- nothing changed
 pub keeps_here : (w : ℕ) (s : Cells) (p : Page) (l : Loop) → HoldsOwn w s p l → KeepsAll w s s p p l
-keeps_here w s p l h = record { store = store_same w s; page = page_same w p; holds = h }
+keeps_here w s p l h = record { store = store_same w s; page = page_same w p; host = host_here p; holds = h }
 
 -- the store changed
 pub keeps_store : (w : ℕ) (s t : Cells) (p : Page) (l : Loop) → HoldsOwn w s p l → ((fs : List Forest) → Kept fs w s t) → KeepsAll w s t p p l
-keeps_store w s t p l h k = record { store = keeps_of w s t k; page = page_same w p; holds = holds_grows w s t p l h (k []).grows ((k []).nodes (owns p w) h.bunches) }
+keeps_store w s t p l h k = record { store = keeps_of w s t k; page = page_same w p; host = host_here p; holds = holds_grows w s t p l h (k []).grows ((k []).nodes (owns p w) h.bunches) }
 
 -- the store changed, and then the page
-pub keeps_paged : (w : ℕ) (lt : w < 32) (s t : Cells) (p q : Page) (l : Loop) → HoldsOwn w s p l → ((fs : List Forest) → Kept fs w s t) → KeepsNodes p q → OthersStay p q w → KeepsAll w s t p q l
-keeps_paged w lt s t p q l h k keeps trees = let g = keeps_store w s t p l h k in record { store = g.store; page = page_keeps w p q keeps trees; holds = holds_page w lt p q (page_keeps w p q keeps trees) t l g.holds }
+pub keeps_paged : (w : ℕ) (lt : w < 32) (s t : Cells) (p q : Page) (l : Loop) → HoldsOwn w s p l → ((fs : List Forest) → Kept fs w s t) → KeepsNodes p q → OthersStay p q w → HostStays p q → KeepsAll w s t p q l
+keeps_paged w lt s t p q l h k keeps trees host = let g = keeps_store w s t p l h k in record { store = g.store; page = page_keeps w p q keeps trees; host = host; holds = holds_page w lt p q (page_keeps w p q keeps trees) t l g.holds }
 
 pub keeps_then : (w : ℕ) (s t u : Cells) (p q r : Page) (k l : Loop) → KeepsAll w s t p q k → KeepsAll w t u q r l → KeepsAll w s u p r l
-keeps_then w s t u p q r k l f g = record { store = store_then w s t u f.store g.store; page = page_then w p q r f.page g.page; holds = g.holds }
+keeps_then w s t u p q r k l f g = record { store = store_then w s t u f.store g.store; page = page_then w p q r f.page g.page; host = host_then p q r f.host g.host; holds = g.holds }
 
 -- the store changed again
 pub keeps_next : (w : ℕ) (s t u : Cells) (p q : Page) (k l : Loop) → KeepsAll w s t p q k → KeepsStore w t u → HoldsOwn w u q l → KeepsAll w s u p q l
-keeps_next w s t u p q k l f g holds = record { store = store_then w s t u f.store g; page = f.page; holds = holds }
+keeps_next w s t u p q k l f g holds = record { store = store_then w s t u f.store g; page = f.page; host = f.host; holds = holds }

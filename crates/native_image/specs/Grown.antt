@@ -3,7 +3,7 @@ use Rattle.std.specs.Prelude.{◌≡◌, ℕ, ◌+◌, ◌<◌, ◌≤◌, ◌�
 use Rattle.plain_tree.specs.Trees.{Trees, beside}
 use Rattle.page_tree.specs.declared.page.Page.{Page}
 use Rattle.page_image.specs.Image.{forest, number, own, owns}
-use Rattle.page_image.specs.Stays.{GrowsBy, OthersStay}
+use Rattle.page_image.specs.Stays.{GrowsBy, OthersStay, HostStays}
 
 -- A tree of so many nodes stands behind all others of a widget: its top is this node, and all new nodes of the page are its.
 pub record IsGrown (w : ℕ) (old new : Page) (id many : ℕ) (tree : Trees ℕ) : Type 0 where
@@ -12,4 +12,5 @@ pub record IsGrown (w : ℕ) (old new : Page) (id many : ℕ) (tree : Trees ℕ)
   pub mine : owns new w id ≡ true
   pub grows : GrowsBy old new w many
   pub others : OthersStay old new w
+  pub host : HostStays old new
   pub fresh : (v n : ℕ) → owns new v n ≡ true → (owns old v n ≡ true) ⊎ ((id ≤ n) × (n < id + many))

@@ -14,7 +14,7 @@ use Rattle.event_loop.specs.Around as around
 use Rattle.js_image.specs.Held.{CountsRise, HoldNodes, IsConfined}
 use Rattle.page_image.specs.Held.{OptionIn}
 use Rattle.page_image.specs.Image.{HasRoot, number, own, owns, root_of}
-use Rattle.page_image.specs.Stays.{OthersStay}
+use Rattle.page_image.specs.Stays.{HostStays, OthersStay}
 
 -- a visible cell of the widget
 abbrev pub IsOwnCell : ℕ → List PlainCell → ℕ → Type 0
@@ -62,8 +62,9 @@ pub record KeepsPage (w : ℕ) (old new : Page) : Type 0 where
   pub trees : OthersStay old new w
   pub roots : (v : ℕ) → v < 32 → root_of new v ≡ root_of old v
 
--- What a call keeps, also after want of memory: that of the store, that of the page, and what the widget holds is its own.
+-- What a call keeps, also after want of memory: that of the store, that of the page, what the host has of the page, and what the widget holds is its own.
 pub record KeepsAll (w : ℕ) (s t : Cells) (p q : Page) (l : Loop) : Type 0 where
   pub store : KeepsStore w s t
   pub page : KeepsPage w p q
+  pub host : HostStays p q
   pub holds : HoldsOwn w t q l

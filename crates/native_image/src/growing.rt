@@ -9,7 +9,7 @@ ghost use Rattle.tree_ops.specs.Trees.{copied, numbered, subtree};
 ghost use Rattle.event_loop.specs.declared.around.Loop.{Loop};
 ghost use Rattle.js_image.specs.Held.{Kept};
 ghost use Rattle.page_image.specs.Image.{forest, number, own, owns};
-ghost use Rattle.page_image.specs.Stays.{KeepsNodes, OthersStay};
+ghost use Rattle.page_image.specs.Stays.{HostStays, KeepsNodes, OthersStay};
 ghost use Rattle.native_image.specs.Grown.{IsGrown};
 ghost use Rattle.native_image.specs.Sound.{HasRaw, HoldsOwn, IsSound, KeepsAll};
 
@@ -57,6 +57,7 @@ fn add_plain(alloc: Global, page: &mut Page, w: u32, plain: &Plain) -> Result<No
         (numbered (length (own page.old w)) (unplaced plain.now))) }
     ensures kept { OnErr result (KeepsNodes page.old page.new) }
     ensures others { OnErr result (OthersStay page.old page.new w) }
+    ensures host { OnErr result (HostStays page.old page.new) }
 {
     match page.add(alloc, Owner::Widget(w), plain) {
         Ok(id) => Ok(id),
@@ -71,6 +72,7 @@ fn copy_plain(alloc: Global, page: &mut Page, w: u32, node: NodeId) -> Result<No
         (numbered (length (own page.old w)) (copied (subtree (number page.old w node) (forest page.old w))))) }
     ensures kept { OnErr result (KeepsNodes page.old page.new) }
     ensures others { OnErr result (OthersStay page.old page.new w) }
+    ensures host { OnErr result (HostStays page.old page.new) }
 {
     match page.copy(alloc, node) {
         Ok(id) => Ok(id),

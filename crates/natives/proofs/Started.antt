@@ -36,7 +36,7 @@ use Rattle.native_image.specs.Image.{Outside, Parts, beside, dispatches_of, imag
 use Rattle.native_image.specs.Meets.{FiresAtOwn}
 use Rattle.native_image.specs.Sound.{HoldsOwn, IsOwnCell, IsSound, KeepsAll}
 use Rattle.native_image.proofs.Joint.{keeps_of, rest, sound_stays, store_lift}
-use Rattle.native_image.proofs.Keeping.{page_same}
+use Rattle.native_image.proofs.Keeping.{page_same, host_here}
 use Rattle.natives.specs.Asked.{asked_timers}
 use Rattle.natives.specs.Meets.{MeetsWhole}
 use Rattle.natives.specs.Reach.{reach, state, with_notes}
@@ -115,6 +115,7 @@ module _ (w : ℕ) (lt : w < 32) (s t : Cells) (p : Page) (old new : Loop) (same
   tried_keeps r done left k = record {
     store = keeps_of w s t k;
     page = page_same w p;
+    host = host_here p;
     holds = tried_holds w t p old new same asked mine r done left (sound_stays w s t p old sound (k [])).holds;
   }
 

@@ -16,7 +16,7 @@ use Rattle.native_image.specs.Image.{Parts, beside}
 use Rattle.native_image.specs.Meets.{FiresAtOwn, MeetsAt}
 use Rattle.native_image.specs.Sound.{IsSound, KeepsAll}
 use Rattle.native_image.proofs.Joint.{keeps_of, sound_stays}
-use Rattle.native_image.proofs.Keeping.{page_same}
+use Rattle.native_image.proofs.Keeping.{page_same, host_here}
 use Rattle.native_image.proofs.Meeting.{meets_lift}
 use Rattle.natives.specs.Meets.{MeetsWhole}
 use Rattle.natives.specs.Reach.{Reach, with_notes}
@@ -53,4 +53,4 @@ meets_kept w s t had has plan (Err x) m e = e
 
 -- page and loop stay
 pub store_keeps : (w : ℕ) (s t : Cells) (p : Page) (l : Loop) → IsSound w s p l → ((fs : List Forest) → Kept fs w s t) → KeepsAll w s t p p l
-store_keeps w s t p l sound k = record { store = keeps_of w s t k; page = page_same w p; holds = (sound_stays w s t p l sound (k [])).holds }
+store_keeps w s t p l sound k = record { store = keeps_of w s t k; page = page_same w p; host = host_here p; holds = (sound_stays w s t p l sound (k [])).holds }

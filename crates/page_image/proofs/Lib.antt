@@ -25,3 +25,4 @@ pub mod Numbering
 pub mod Rooting
 pub mod Adopting
 pub mod Refusing
+pub mod Hosting

@@ -1,6 +1,9 @@
 -- What stays where a page changes.
-use Rattle.std.specs.Prelude.{◌≡◌, ◌≢◌, ℕ, ◌<◌, List, ◌++◌, length, Some, true, false}
+use Rattle.std.specs.Prelude.{◌≡◌, ◌≢◌, ℕ, ◌<◌, ◌≤◌, List, ◌++◌, length, Some, true, false}
+use Rattle.code_units.specs.declared.owner.Owner.TheVariants as owner
+use Rattle.page_nodes.specs.Entries.{at, body, tree}
 use Rattle.page_tree.specs.declared.page.Page.{Page}
+use Rattle.page_tree.specs.Pages.{nodes}
 use Rattle.query_grammar.specs.Finds.{has_number}
 use Rattle.page_image.specs.Image.{owns, number, own, root_of, forest}
 
@@ -35,3 +38,10 @@ OthersStay old new w = (v : ℕ) → v < 32 → v ≢ w → forest new v ≡ for
 -- so many nodes come
 abbrev pub GrowsBy : Page → Page → ℕ → ℕ → Type 0
 GrowsBy old new w n = (news : List ℕ) × (length news ≡ n) × Grows old new w news
+
+-- What the host has of a page stays: `body` as it is, with the order of its children, and the trees of its other nodes.
+pub record HostStays (old new : Page) : Type 0 where
+  pub made : length (nodes old) ≤ length (nodes new)
+  pub owners : (n : ℕ) → n < length (nodes old) → (at (nodes new) n).owner ≡ (at (nodes old) n).owner
+  pub top : at (nodes new) body ≡ at (nodes old) body
+  pub trees : (n : ℕ) → n < length (nodes old) → n ≢ body → (at (nodes old) n).owner ≡ owner.Host → tree (nodes new) n ≡ tree (nodes old) n

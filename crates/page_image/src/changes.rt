@@ -1,4 +1,4 @@
-//! Changes of the page of one widget. They leave the trees of all others.
+//! Changes of the page of one widget. They leave the trees of all others, and what the host has.
 ghost use Rattle.std.specs.Prelude.{◌≡◌, ◌≢◌, ℕ, ◌<◌, List, Some, None, true, false, map, length, OnOk, OnErr, IfOk, IfErr, ◌⊎◌};
 ghost use Rattle.std.specs.List.{fold};
 ghost use Rattle.page_tree.specs.declared.fault.PageFault.TheVariants as fault;
@@ -8,7 +8,7 @@ ghost use Rattle.tree_ops.specs.Labels.{with_attribute};
 ghost use Rattle.tree_ops.specs.Trees.{relabelled};
 ghost use Rattle.widget_meaning.specs.Trees.{children, detached, moved, parent, tops};
 ghost use Rattle.page_image.specs.Image.{owns, number, forest, HasRoot, relabel_in};
-ghost use Rattle.page_image.specs.Stays.{KeepsNodes, OthersStay};
+ghost use Rattle.page_image.specs.Stays.{HostStays, KeepsNodes, OthersStay};
 ghost use Rattle.page_image.specs.Targets.{is_text_at, takes, may_come};
 
 use code_units::{Memory, Text};
@@ -23,6 +23,7 @@ pub fn detach(page: &mut Page, widget: u32, node: NodeId)
     ensures image { forest page.new widget ≡ detached (forest page.old widget) (number page.old widget node) }
     ensures kept { KeepsNodes page.old page.new }
     ensures others { OthersStay page.old page.new widget }
+    ensures host { HostStays page.old page.new }
 {
     page.detach(node);
 }
@@ -37,6 +38,7 @@ pub fn detach_all(page: &mut Page, widget: u32, list: Vec<NodeId>)
         fold detached (forest page.old widget) (map (number page.old widget) list.items) }
     ensures kept { KeepsNodes page.old page.new }
     ensures others { OthersStay page.old page.new widget }
+    ensures host { HostStays page.old page.new }
 {
     page.detach_all(list);
 }
@@ -49,6 +51,7 @@ pub fn empty(page: &mut Page, widget: u32, node: NodeId)
         (tops (children (number page.old widget node) (forest page.old widget))) }
     ensures kept { KeepsNodes page.old page.new }
     ensures others { OthersStay page.old page.new widget }
+    ensures host { HostStays page.old page.new }
 {
     page.empty(node);
 }
@@ -69,6 +72,7 @@ pub fn set_attr(
     ensures unchanged { OnErr result (forest page.new widget ≡ forest page.old widget) }
     ensures kept { KeepsNodes page.old page.new }
     ensures others { OthersStay page.old page.new widget }
+    ensures host { HostStays page.old page.new }
 {
     page.set_attr(node, name, value)
 }
@@ -82,6 +86,7 @@ pub fn set_text(page: &mut Page, widget: u32, node: NodeId, text: Text)
         relabelled (number page.old widget node) (TextOf text) (forest page.old widget) }
     ensures kept { KeepsNodes page.old page.new }
     ensures others { OthersStay page.old page.new widget }
+    ensures host { HostStays page.old page.new }
 {
     page.set_text(node, text);
 }
@@ -107,6 +112,7 @@ pub fn append(
     ensures unchanged { OnErr result (forest page.new widget ≡ forest page.old widget) }
     ensures kept { KeepsNodes page.old page.new }
     ensures others { OthersStay page.old page.new widget }
+    ensures host { HostStays page.old page.new }
 {
     page.append(target, news)
 }
@@ -128,6 +134,7 @@ pub fn replace(page: &mut Page, widget: u32, node: NodeId, news: &[NodeId]) -> R
     ensures unchanged { OnErr result (forest page.new widget ≡ forest page.old widget) }
     ensures kept { KeepsNodes page.old page.new }
     ensures others { OthersStay page.old page.new widget }
+    ensures host { HostStays page.old page.new }
 {
     page.replace(node, news)
 }

@@ -1,4 +1,5 @@
-//! New nodes of one widget. All older nodes keep their numbers, and the trees of all others stay.
+//! New nodes of one widget. All older nodes keep their numbers, and the trees of all others and what
+//! the host has stay.
 ghost use Rattle.std.specs.Prelude.{◌≡◌, ℕ, ◌+◌, ◌<◌, ◌≤◌, List, [], ◌∷◌, ◌++◌, None, true, map, length, OnOk, OnErr, IfOk, IfErr};
 ghost use Rattle.page_tree.specs.declared.fault.PageFault.{PageFault};
 ghost use Rattle.plain_tree.specs.Plains.{unplaced};
@@ -8,7 +9,7 @@ ghost use Rattle.query_grammar.specs.Finds.{has_number};
 ghost use Rattle.page_image.specs.Copies.{AreCopied, SomeCopied, trees_at, copies_of};
 ghost use Rattle.page_image.specs.Image.{owns, number, own, forest, HasRoot};
 ghost use Rattle.page_image.specs.Refusals.{RefusesTree, RefusesCopy, RefusesCopies};
-ghost use Rattle.page_image.specs.Stays.{KeepsNodes, GrowsBy, OthersStay};
+ghost use Rattle.page_image.specs.Stays.{HostStays, KeepsNodes, GrowsBy, OthersStay};
 ghost use Rattle.page_image.specs.Targets.{takes};
 
 use crate::changes::append;
@@ -29,6 +30,7 @@ pub fn add(alloc: Global, page: &mut Page, widget: u32, plain: &Plain) -> Result
     ensures unchanged { OnErr result (forest page.new widget ≡ forest page.old widget) }
     ensures kept { OnErr result (KeepsNodes page.old page.new) }
     ensures others { OthersStay page.old page.new widget }
+    ensures host { HostStays page.old page.new }
 {
     page.add(alloc, Owner::Widget(widget), plain)
 }
@@ -47,6 +49,7 @@ pub fn copy(alloc: Global, page: &mut Page, widget: u32, node: NodeId) -> Result
     ensures unchanged { OnErr result (forest page.new widget ≡ forest page.old widget) }
     ensures kept { OnErr result (KeepsNodes page.old page.new) }
     ensures others { OthersStay page.old page.new widget }
+    ensures host { HostStays page.old page.new }
 {
     page.copy(alloc, node)
 }
@@ -72,6 +75,7 @@ fn copy_all(
         (size (trees_at page.old widget nodes.now))) }
     ensures left { OnErr result (SomeCopied page.old page.new widget nodes.now) }
     ensures others { OthersStay page.old page.new widget }
+    ensures host { HostStays page.old page.new }
 {
     let mut ids = Vec::new(alloc);
     'each: for node in nodes {
@@ -102,6 +106,7 @@ pub fn append_copies(
         RefusesCopies (length (own page.old widget)) (size (trees_at page.old widget nodes.now)) f) }
     ensures left { OnErr result (SomeCopied page.old page.new widget nodes.now) }
     ensures others { OthersStay page.old page.new widget }
+    ensures host { HostStays page.old page.new }
 {
     let ids = copy_all(alloc, page, widget, nodes)?;
     append(page, widget, target, &ids)

@@ -53,7 +53,7 @@ returns-in-Ok-clause-kept c =
     let t = c.begin.new.store in
     let k = c.leave.new.around in
     let there = keeps_store w s t p l sound.holds c.begin.ensures.kept in
-    record { store = there.store; page = there.page; holds = c.leave.ensures.holds t there.holds }
+    record { store = there.store; page = there.page; host = there.host; holds = c.leave.ensures.holds t there.holds }
 
 pub returns-in-Err-clause-native : goal.returns-in-Err-clause-native
 returns-in-Err-clause-native c = λ b.

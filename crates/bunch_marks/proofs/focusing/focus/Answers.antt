@@ -68,7 +68,7 @@ returns-in-Ok-clause-kept c =
     let t = c.begin.new.store in
     let k = c.set_focus.new.self in
     let there = keeps_store w s t p l sound.holds c.begin.ensures.kept in
-    record { store = there.store; page = there.page; holds = holds_focus w t p l k (Some (get_or c.args.list.now 0 0)) (c.requires.nodes.own _ (element_in c.args.list.now 0 (omega arith))) c.set_focus.ensures.done c.set_focus.ensures.kept c.set_focus.ensures.timers there.holds }
+    record { store = there.store; page = there.page; host = there.host; holds = holds_focus w t p l k (Some (get_or c.args.list.now 0 0)) (c.requires.nodes.own _ (element_in c.args.list.now 0 (omega arith))) c.set_focus.ensures.done c.set_focus.ensures.kept c.set_focus.ensures.timers there.holds }
 
 pub returns-in-Err-clause-native : goal.returns-in-Err-clause-native
 returns-in-Err-clause-native c = λ b.

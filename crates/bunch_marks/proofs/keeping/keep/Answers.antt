@@ -50,6 +50,7 @@ returns-in_ok-change_all-in-Ok-clause-kept c =
     record {
       store = first.store;
       page = first.page;
+      host = first.host;
       holds = c.change_all.ensures.holds c.begin.new.store (fine_change c.args.w c.args.store.now.cells c.begin.new.store.cells c.args.change.now (c.begin.ensures.kept []).grows c.requires.change) first.holds;
     }
 
@@ -60,6 +61,7 @@ returns-in_err-change_all-in-Ok-clause-kept c =
     record {
       store = first.store;
       page = first.page;
+      host = first.host;
       holds = c.change_all.ensures.holds c.begin.new.store (fine_change c.args.w c.args.store.now.cells c.begin.new.store.cells c.args.change.now (c.begin.ensures.kept []).grows c.requires.change) first.holds;
     }
 

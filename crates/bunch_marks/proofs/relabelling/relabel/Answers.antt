@@ -75,10 +75,10 @@ returns-in_ok-change_all-in-Ok-clause-native c = λ l b q sound is.
     ∙ sym (forest_folded (relabel (meant how.change)) (relabel_in (meant how.change)) (relabel_is (meant how.change)) ns (image fs x w (beside t p l b)))))
 
 pub returns-in_ok-change_all-in-Ok-clause-kept : goal.returns-in_ok-change_all-in-Ok-clause-kept
-returns-in_ok-change_all-in-Ok-clause-kept c = λ l sound. keeps_paged c.args.w c.requires.widget c.args.store.now c.begin.new.store c.args.page.now c.change_all.new.page l sound.holds c.begin.ensures.kept c.change_all.ensures.kept c.change_all.ensures.others
+returns-in_ok-change_all-in-Ok-clause-kept c = λ l sound. keeps_paged c.args.w c.requires.widget c.args.store.now c.begin.new.store c.args.page.now c.change_all.new.page l sound.holds c.begin.ensures.kept c.change_all.ensures.kept c.change_all.ensures.others c.change_all.ensures.host
 
 pub returns-in_err-change_all-in-Ok-clause-kept : goal.returns-in_err-change_all-in-Ok-clause-kept
-returns-in_err-change_all-in-Ok-clause-kept c = λ l sound. keeps_paged c.args.w c.requires.widget c.args.store.now c.begin.new.store c.args.page.now c.change_all.new.page l sound.holds c.begin.ensures.kept c.change_all.ensures.kept c.change_all.ensures.others
+returns-in_err-change_all-in-Ok-clause-kept c = λ l sound. keeps_paged c.args.w c.requires.widget c.args.store.now c.begin.new.store c.args.page.now c.change_all.new.page l sound.holds c.begin.ensures.kept c.change_all.ensures.kept c.change_all.ensures.others c.change_all.ensures.host
 
 pub returns-in-Err-clause-native : goal.returns-in-Err-clause-native
 returns-in-Err-clause-native c = λ l b q sound is.

@@ -88,7 +88,7 @@ returns-clause-kept c = λ l h.
     let s = c.args.store.now in
     let t = c.copies_to.new.store in
     let k = c.copies_to.ensures.kept l h in
-    keeps_then w s t t p r q l l k (keeps_paged w c.requires.widget t t r q l k.holds (λ fs. kept_same fs w t t refl) c.put_under.ensures.kept c.put_under.ensures.others)
+    keeps_then w s t t p r q l l k (keeps_paged w c.requires.widget t t r q l k.holds (λ fs. kept_same fs w t t refl) c.put_under.ensures.kept c.put_under.ensures.others c.put_under.ensures.host)
 
 pub returns-in_err-copies_to-clause-kept : goal.returns-in_err-copies_to-clause-kept
 returns-in_err-copies_to-clause-kept c = c.copies_to.ensures.kept

@@ -44,7 +44,7 @@ returns-clause-kept c = λ l h.
     let s = c.args.store.now in
     let t = c.copy_all.new.store in
     let k = c.copy_all.ensures.kept l h in
-    keeps_then w s t t p r q l l k (keeps_paged w c.requires.widget t t r q l k.holds (λ fs. kept_same fs w t t refl) c.put_under.ensures.kept c.put_under.ensures.others)
+    keeps_then w s t t p r q l l k (keeps_paged w c.requires.widget t t r q l k.holds (λ fs. kept_same fs w t t refl) c.put_under.ensures.kept c.put_under.ensures.others c.put_under.ensures.host)
 
 pub returns-in_err-ids-clause-kept : goal.returns-in_err-ids-clause-kept
 returns-in_err-ids-clause-kept c = c.copy_all.ensures.kept

@@ -7,7 +7,7 @@ use Rattle.widget_meaning.specs.Values.{Own}
 use Rattle.page_image.specs.Image.{number}
 use Rattle.native_image.specs.Image.{beside, image}
 use Rattle.native_image.specs.Weights.{amounts}
-use Rattle.native_image.proofs.Keeping.{keeps_here, page_same}
+use Rattle.native_image.proofs.Keeping.{host_here, keeps_here, page_same}
 use Rattle.bunch_trees.proofs.exploding.explode_weighed.Goals as goal
 
 pub make_exploded-requires-clause-sound : goal.make_exploded-requires-clause-sound
@@ -35,13 +35,13 @@ returns-in_ok-settle-in-Ok-clause-ends c = λ l b sound.
     }
 
 pub returns-in_ok-settle-in-Ok-clause-kept : goal.returns-in_ok-settle-in-Ok-clause-kept
-returns-in_ok-settle-in-Ok-clause-kept c = λ l sound. record { store = c.make_exploded.ensures.kept; page = page_same c.args.w c.args.page.now; holds = (c.make_exploded.ensures.sound l sound).holds }
+returns-in_ok-settle-in-Ok-clause-kept c = λ l sound. record { store = c.make_exploded.ensures.kept; page = page_same c.args.w c.args.page.now; host = host_here c.args.page.now; holds = (c.make_exploded.ensures.sound l sound).holds }
 
 pub returns-in_err-settle-in-Ok-clause-kept : goal.returns-in_err-settle-in-Ok-clause-kept
-returns-in_err-settle-in-Ok-clause-kept c = λ l sound. record { store = c.make_exploded.ensures.kept; page = page_same c.args.w c.args.page.now; holds = (c.make_exploded.ensures.sound l sound).holds }
+returns-in_err-settle-in-Ok-clause-kept c = λ l sound. record { store = c.make_exploded.ensures.kept; page = page_same c.args.w c.args.page.now; host = host_here c.args.page.now; holds = (c.make_exploded.ensures.sound l sound).holds }
 
 pub returns-in_err-array-in-Ok-clause-kept : goal.returns-in_err-array-in-Ok-clause-kept
-returns-in_err-array-in-Ok-clause-kept c = λ l sound. record { store = c.make_exploded.ensures.kept; page = page_same c.args.w c.args.page.now; holds = (c.make_exploded.ensures.sound l sound).holds }
+returns-in_err-array-in-Ok-clause-kept c = λ l sound. record { store = c.make_exploded.ensures.kept; page = page_same c.args.w c.args.page.now; host = host_here c.args.page.now; holds = (c.make_exploded.ensures.sound l sound).holds }
 
 pub returns-in-Err-clause-ends : goal.returns-in-Err-clause-ends
 returns-in-Err-clause-ends c = λ l b sound.

@@ -49,7 +49,7 @@ returns-in_ok-settle-in-Ok-clause-kept c = λ l sound.
     let r = c.put_under.new.page in
     let s = c.args.store.now in
     let there = sound_page w c.requires.widget p r c.put_under.ensures.kept c.put_under.ensures.others s l sound in
-    keeps_next w s s c.bunch_of_node.new.store p r l l (keeps_paged w c.requires.widget s s p r l sound.holds (λ fs. kept_same fs w s s refl) c.put_under.ensures.kept c.put_under.ensures.others) c.bunch_of_node.ensures.kept (c.bunch_of_node.ensures.sound l there).holds
+    keeps_next w s s c.bunch_of_node.new.store p r l l (keeps_paged w c.requires.widget s s p r l sound.holds (λ fs. kept_same fs w s s refl) c.put_under.ensures.kept c.put_under.ensures.others c.put_under.ensures.host) c.bunch_of_node.ensures.kept (c.bunch_of_node.ensures.sound l there).holds
 
 pub returns-in_err-settle-in-Ok-clause-kept : goal.returns-in_err-settle-in-Ok-clause-kept
 returns-in_err-settle-in-Ok-clause-kept c = λ l sound.
@@ -58,7 +58,7 @@ returns-in_err-settle-in-Ok-clause-kept c = λ l sound.
     let r = c.put_under.new.page in
     let s = c.args.store.now in
     let there = sound_page w c.requires.widget p r c.put_under.ensures.kept c.put_under.ensures.others s l sound in
-    keeps_next w s s c.bunch_of_node.new.store p r l l (keeps_paged w c.requires.widget s s p r l sound.holds (λ fs. kept_same fs w s s refl) c.put_under.ensures.kept c.put_under.ensures.others) c.bunch_of_node.ensures.kept (c.bunch_of_node.ensures.sound l there).holds
+    keeps_next w s s c.bunch_of_node.new.store p r l l (keeps_paged w c.requires.widget s s p r l sound.holds (λ fs. kept_same fs w s s refl) c.put_under.ensures.kept c.put_under.ensures.others c.put_under.ensures.host) c.bunch_of_node.ensures.kept (c.bunch_of_node.ensures.sound l there).holds
 
 pub returns-in_err-value-in-Ok-clause-kept : goal.returns-in_err-value-in-Ok-clause-kept
 returns-in_err-value-in-Ok-clause-kept c = λ l sound.
@@ -67,10 +67,10 @@ returns-in_err-value-in-Ok-clause-kept c = λ l sound.
     let r = c.put_under.new.page in
     let s = c.args.store.now in
     let there = sound_page w c.requires.widget p r c.put_under.ensures.kept c.put_under.ensures.others s l sound in
-    keeps_next w s s c.bunch_of_node.new.store p r l l (keeps_paged w c.requires.widget s s p r l sound.holds (λ fs. kept_same fs w s s refl) c.put_under.ensures.kept c.put_under.ensures.others) c.bunch_of_node.ensures.kept (c.bunch_of_node.ensures.sound l there).holds
+    keeps_next w s s c.bunch_of_node.new.store p r l l (keeps_paged w c.requires.widget s s p r l sound.holds (λ fs. kept_same fs w s s refl) c.put_under.ensures.kept c.put_under.ensures.others c.put_under.ensures.host) c.bunch_of_node.ensures.kept (c.bunch_of_node.ensures.sound l there).holds
 
 pub returns-in_err-put_under-in-Ok-clause-kept : goal.returns-in_err-put_under-in-Ok-clause-kept
-returns-in_err-put_under-in-Ok-clause-kept c = λ l sound. keeps_paged c.args.w c.requires.widget c.args.store.now c.args.store.now c.args.page.now c.put_under.new.page l sound.holds (λ fs. kept_same fs c.args.w c.args.store.now c.args.store.now refl) c.put_under.ensures.kept c.put_under.ensures.others
+returns-in_err-put_under-in-Ok-clause-kept c = λ l sound. keeps_paged c.args.w c.requires.widget c.args.store.now c.args.store.now c.args.page.now c.put_under.new.page l sound.holds (λ fs. kept_same fs c.args.w c.args.store.now c.args.store.now refl) c.put_under.ensures.kept c.put_under.ensures.others c.put_under.ensures.host
 
 pub returns-in-Err-clause-ends : goal.returns-in-Err-clause-ends
 returns-in-Err-clause-ends c = λ l b sound. record {

@@ -42,10 +42,10 @@ returns-then-is_empty-clause-done c =
     (changes_page w c.requires.widget s p q c.empty.ensures.kept c.empty.ensures.others (λ ts. fold detached ts (tops (children m ts))) c.empty.ensures.image)
 
 pub returns-then-is_empty-clause-kept : goal.returns-then-is_empty-clause-kept
-returns-then-is_empty-clause-kept c = λ l h. keeps_paged c.args.w c.requires.widget c.args.store.now c.args.store.now c.args.page.now c.empty.new.page l h (λ fs. kept_same fs c.args.w c.args.store.now c.args.store.now refl) c.empty.ensures.kept c.empty.ensures.others
+returns-then-is_empty-clause-kept c = λ l h. keeps_paged c.args.w c.requires.widget c.args.store.now c.args.store.now c.args.page.now c.empty.new.page l h (λ fs. kept_same fs c.args.w c.args.store.now c.args.store.now refl) c.empty.ensures.kept c.empty.ensures.others c.empty.ensures.host
 
 pub returns-in_err-text-clause-kept : goal.returns-in_err-text-clause-kept
-returns-in_err-text-clause-kept c = λ l h. keeps_paged c.args.w c.requires.widget c.args.store.now c.args.store.now c.args.page.now c.empty.new.page l h (λ fs. kept_same fs c.args.w c.args.store.now c.args.store.now refl) c.empty.ensures.kept c.empty.ensures.others
+returns-in_err-text-clause-kept c = λ l h. keeps_paged c.args.w c.requires.widget c.args.store.now c.args.store.now c.args.page.now c.empty.new.page l h (λ fs. kept_same fs c.args.w c.args.store.now c.args.store.now refl) c.empty.ensures.kept c.empty.ensures.others c.empty.ensures.host
 
 pub returns-clause-done : goal.returns-clause-done
 returns-clause-done c =
@@ -56,7 +56,7 @@ returns-clause-done c =
     let s = c.args.store.now in
     let t = c.put_text.new.store in
     let m = number p w c.args.node in
-    let keeps : (l : Loop) → HoldsOwn w s p l → KeepsAll w s s p r l = λ l h. keeps_paged w c.requires.widget s s p r l h (λ fs. kept_same fs w s s refl) c.empty.ensures.kept c.empty.ensures.others in
+    let keeps : (l : Loop) → HoldsOwn w s p l → KeepsAll w s s p r l = λ l h. keeps_paged w c.requires.widget s s p r l h (λ fs. kept_same fs w s s refl) c.empty.ensures.kept c.empty.ensures.others c.empty.ensures.host in
     ok_then c.put_text.result _ _
     (λ e.
     changes_then w s s t p r q (λ u. emptied u m) (λ u. with_text_node m c.args.text.now u) keeps
@@ -69,5 +69,5 @@ pub returns-clause-kept : goal.returns-clause-kept
 returns-clause-kept c = λ l h.
     let w = c.args.w in
     let s = c.args.store.now in
-    let k = keeps_paged w c.requires.widget s s c.args.page.now c.empty.new.page l h (λ fs. kept_same fs w s s refl) c.empty.ensures.kept c.empty.ensures.others in
+    let k = keeps_paged w c.requires.widget s s c.args.page.now c.empty.new.page l h (λ fs. kept_same fs w s s refl) c.empty.ensures.kept c.empty.ensures.others c.empty.ensures.host in
     keeps_then w s s c.put_text.new.store c.args.page.now c.empty.new.page c.put_text.new.page l l k (c.put_text.ensures.kept l k.holds)

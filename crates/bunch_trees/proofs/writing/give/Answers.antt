@@ -54,7 +54,7 @@ returns-then-is_input-clause-done c =
     c.set_attr.ensures.image
 
 pub returns-then-is_input-clause-kept : goal.returns-then-is_input-clause-kept
-returns-then-is_input-clause-kept c = λ l h. keeps_paged c.args.w c.requires.widget c.args.store.now c.args.store.now c.args.page.now c.set_attr.new.page l h (λ fs. kept_same fs c.args.w c.args.store.now c.args.store.now refl) c.set_attr.ensures.kept c.set_attr.ensures.others
+returns-then-is_input-clause-kept c = λ l h. keeps_paged c.args.w c.requires.widget c.args.store.now c.args.store.now c.args.page.now c.set_attr.new.page l h (λ fs. kept_same fs c.args.w c.args.store.now c.args.store.now refl) c.set_attr.ensures.kept c.set_attr.ensures.others c.set_attr.ensures.host
 
 pub returns-in_err-text-clause-kept : goal.returns-in_err-text-clause-kept
 returns-in_err-text-clause-kept c = λ l h. keeps_here c.args.w c.args.store.now c.args.page.now l h
@@ -73,7 +73,7 @@ returns-then-is_text_node-clause-done c =
     (c.set_text.ensures.image ∙ ap (λ k. relabelled m (TextOf k) (forest p w)) c.in_ok-text-2.ensures))
 
 pub returns-then-is_text_node-clause-kept : goal.returns-then-is_text_node-clause-kept
-returns-then-is_text_node-clause-kept c = λ l h. keeps_paged c.args.w c.requires.widget c.args.store.now c.args.store.now c.args.page.now c.set_text.new.page l h (λ fs. kept_same fs c.args.w c.args.store.now c.args.store.now refl) c.set_text.ensures.kept c.set_text.ensures.others
+returns-then-is_text_node-clause-kept c = λ l h. keeps_paged c.args.w c.requires.widget c.args.store.now c.args.store.now c.args.page.now c.set_text.new.page l h (λ fs. kept_same fs c.args.w c.args.store.now c.args.store.now refl) c.set_text.ensures.kept c.set_text.ensures.others c.set_text.ensures.host
 
 pub returns-in_err-text-2-clause-kept : goal.returns-in_err-text-2-clause-kept
 returns-in_err-text-2-clause-kept c = λ l h. keeps_here c.args.w c.args.store.now c.args.page.now l h

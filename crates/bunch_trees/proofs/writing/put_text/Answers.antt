@@ -44,7 +44,7 @@ returns-clause-kept c = λ l h.
     let s = c.args.store.now in
     let t = c.add_tree.new.store in
     let k = c.add_tree.ensures.kept l h in
-    keeps_then w s t t p r q l l k (keeps_paged w c.requires.widget t t r q l k.holds (λ fs. kept_same fs w t t refl) c.put_under.ensures.kept c.put_under.ensures.others)
+    keeps_then w s t t p r q l l k (keeps_paged w c.requires.widget t t r q l k.holds (λ fs. kept_same fs w t t refl) c.put_under.ensures.kept c.put_under.ensures.others c.put_under.ensures.host)
 
 pub returns-in_err-id-clause-kept : goal.returns-in_err-id-clause-kept
 returns-in_err-id-clause-kept c = c.add_tree.ensures.kept

@@ -11,7 +11,7 @@ use Rattle.js_image.proofs.Grown.{held_stays, seen_stays}
 use Rattle.page_image.specs.Image.{number}
 use Rattle.native_image.specs.Image.{beside, image}
 use Rattle.native_image.specs.Weights.{amounts}
-use Rattle.native_image.proofs.Keeping.{keeps_here, page_same}
+use Rattle.native_image.proofs.Keeping.{keeps_here, page_same, host_here}
 use Rattle.bunch_write.proofs.each.calls.Goals as goal
 
 pub make_bunches-requires-clause-sound : goal.make_bunches-requires-clause-sound
@@ -51,6 +51,7 @@ pub returns-in_ok-settle-in-Ok-clause-kept : goal.returns-in_ok-settle-in-Ok-cla
 returns-in_ok-settle-in-Ok-clause-kept c = record {
   store = c.make_bunches.ensures.kept;
   page = page_same c.args.w c.args.page.now;
+  host = host_here c.args.page.now;
   holds = (c.make_bunches.ensures.sound c.args.around.now c.requires.sound).holds;
 }
 
@@ -58,6 +59,7 @@ pub returns-in_err-items-in-Ok-clause-kept : goal.returns-in_err-items-in-Ok-cla
 returns-in_err-items-in-Ok-clause-kept c = record {
   store = c.make_bunches.ensures.kept;
   page = page_same c.args.w c.args.page.now;
+  host = host_here c.args.page.now;
   holds = (c.make_bunches.ensures.sound c.args.around.now c.requires.sound).holds;
 }
 
@@ -65,6 +67,7 @@ pub returns-in_err-settle-in-Ok-clause-kept : goal.returns-in_err-settle-in-Ok-c
 returns-in_err-settle-in-Ok-clause-kept c = record {
   store = c.make_bunches.ensures.kept;
   page = page_same c.args.w c.args.page.now;
+  host = host_here c.args.page.now;
   holds = (c.make_bunches.ensures.sound c.args.around.now c.requires.sound).holds;
 }
 

@@ -1,7 +1,7 @@
 use Rattle.std.proofs.Common.{◌≡◌, map, take}
 use Rattle.std.specs.List.{fold}
 use Rattle.page_image.specs.Image.{forest, number}
-use Rattle.page_image.specs.Stays.{KeepsNodes, OthersStay}
+use Rattle.page_image.specs.Stays.{HostStays, KeepsNodes, OthersStay}
 use Rattle.bunch_write.specs.Trees.{emptied_in}
 use Rattle.bunch_write.proofs.moving.empty_all.Given as goal
 
@@ -11,4 +11,5 @@ invariant-each l = record {
   image : forest l.page l.w ≡ fold emptied_in (forest l.initial.page l.w) (map (number l.initial.page l.w) (take l.node-index l.list));
   kept : KeepsNodes l.initial.page l.page;
   others : OthersStay l.initial.page l.page l.w;
+  host : HostStays l.initial.page l.page;
 }

@@ -67,7 +67,7 @@ returns-in-Ok-clause-native c = λ l b sound.
     ∙ sym (forest_folded (λ (t : State) n. with_forest t (detached t.own.forest n)) detached (λ z n. refl) ns (image fs x w (beside t p l b)))))
 
 pub returns-in-Ok-clause-kept : goal.returns-in-Ok-clause-kept
-returns-in-Ok-clause-kept c = λ l sound. keeps_paged c.args.w c.requires.widget c.args.store.now c.begin.new.store c.args.page.now c.detach_all.new.page l sound.holds c.begin.ensures.kept c.detach_all.ensures.kept c.detach_all.ensures.others
+returns-in-Ok-clause-kept c = λ l sound. keeps_paged c.args.w c.requires.widget c.args.store.now c.begin.new.store c.args.page.now c.detach_all.new.page l sound.holds c.begin.ensures.kept c.detach_all.ensures.kept c.detach_all.ensures.others c.detach_all.ensures.host
 
 pub returns-in-Err-clause-native : goal.returns-in-Err-clause-native
 returns-in-Err-clause-native c = λ l b sound.

@@ -53,10 +53,10 @@ returns-in_ok-put_in_place-in-Ok-clause-native c = λ l b sound.
     (λ fs x. page_lift w fs x t p r l b c.put_in_place.ensures.kept ∙ ap (with_forest (image fs x w (beside t p l b))) (c.in_ok-put_in_place-in-Ok.ensures.image q above.1)))
 
 pub returns-in_ok-put_in_place-in-Ok-clause-kept : goal.returns-in_ok-put_in_place-in-Ok-clause-kept
-returns-in_ok-put_in_place-in-Ok-clause-kept c = λ l sound. keeps_paged c.args.w c.requires.widget c.args.store.now c.begin.new.store c.args.page.now c.put_in_place.new.page l sound.holds c.begin.ensures.kept c.put_in_place.ensures.kept c.put_in_place.ensures.others
+returns-in_ok-put_in_place-in-Ok-clause-kept c = λ l sound. keeps_paged c.args.w c.requires.widget c.args.store.now c.begin.new.store c.args.page.now c.put_in_place.new.page l sound.holds c.begin.ensures.kept c.put_in_place.ensures.kept c.put_in_place.ensures.others c.put_in_place.ensures.host
 
 pub returns-in_err-put_in_place-in-Ok-clause-kept : goal.returns-in_err-put_in_place-in-Ok-clause-kept
-returns-in_err-put_in_place-in-Ok-clause-kept c = λ l sound. keeps_paged c.args.w c.requires.widget c.args.store.now c.begin.new.store c.args.page.now c.put_in_place.new.page l sound.holds c.begin.ensures.kept c.put_in_place.ensures.kept c.put_in_place.ensures.others
+returns-in_err-put_in_place-in-Ok-clause-kept c = λ l sound. keeps_paged c.args.w c.requires.widget c.args.store.now c.begin.new.store c.args.page.now c.put_in_place.new.page l sound.holds c.begin.ensures.kept c.put_in_place.ensures.kept c.put_in_place.ensures.others c.put_in_place.ensures.host
 
 pub returns-in-Err-clause-native : goal.returns-in-Err-clause-native
 returns-in-Err-clause-native c = λ l b sound.

@@ -1,3 +1,4 @@
+use Rattle.page_image.proofs.Hosting.{host_same}
 use Rattle.page_image.proofs.Pages.{all_keep, all_stay, is_widget}
 use Rattle.plain_tree.specs.Plains.{unplaced}
 use Rattle.native_image.proofs.Added.{grown_of}
@@ -17,3 +18,6 @@ returns-in-Err-clause-kept c = all_keep c.args.page.now c.add.new.self c.add.ens
 
 pub returns-in-Err-clause-others : goal.returns-in-Err-clause-others
 returns-in-Err-clause-others c = λ v lt ne. all_stay c.args.page.now c.add.new.self c.add.ensures.roots c.in-Err.ensures.unchanged v lt
+
+pub returns-in-Err-clause-host : goal.returns-in-Err-clause-host
+returns-in-Err-clause-host c = host_same c.args.page.now c.add.new.self c.in-Err.ensures.unchanged

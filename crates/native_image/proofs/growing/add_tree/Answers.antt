@@ -43,4 +43,4 @@ returns-in_err-id-clause-store c = λ fs. kept_same fs c.args.w c.args.store.now
 
 pub returns-in_err-id-clause-kept : goal.returns-in_err-id-clause-kept
 returns-in_err-id-clause-kept c = λ l holds.
-    keeps_paged c.args.w c.requires c.args.store.now c.args.store.now c.args.page.now c.add_plain.new.page l holds (λ fs. kept_same fs c.args.w c.args.store.now c.args.store.now refl) c.in_err-id.ensures.kept c.in_err-id.ensures.others
+    keeps_paged c.args.w c.requires c.args.store.now c.args.store.now c.args.page.now c.add_plain.new.page l holds (λ fs. kept_same fs c.args.w c.args.store.now c.args.store.now refl) c.in_err-id.ensures.kept c.in_err-id.ensures.others c.in_err-id.ensures.host

@@ -1,4 +1,5 @@
 use Rattle.page_image.proofs.Growing.{no_host}
+use Rattle.page_image.proofs.Hosting.{host_same}
 use Rattle.page_image.proofs.Pages.{all_keep, all_stay, is_node}
 use Rattle.native_image.proofs.Added.{copied_of}
 use Rattle.native_image.proofs.growing.copy_plain.Goals as goal
@@ -17,3 +18,6 @@ returns-in-Err-clause-kept c = all_keep c.args.page.now c.copy.new.self c.copy.e
 
 pub returns-in-Err-clause-others : goal.returns-in-Err-clause-others
 returns-in-Err-clause-others c = λ v lt ne. all_stay c.args.page.now c.copy.new.self c.copy.ensures.roots c.in-Err.ensures.unchanged v lt
+
+pub returns-in-Err-clause-host : goal.returns-in-Err-clause-host
+returns-in-Err-clause-host c = host_same c.args.page.now c.copy.new.self c.in-Err.ensures.unchanged

@@ -6,7 +6,7 @@ use Rattle.js_image.specs.Image.{all_seen}
 use Rattle.native_forms.specs.Receivers.{receiver}
 use Rattle.native_image.specs.Image.{beside}
 use Rattle.native_image.specs.Meets.{MeetsAt, Reads}
-use Rattle.native_image.proofs.Keeping.{page_same}
+use Rattle.native_image.proofs.Keeping.{page_same, host_here}
 use Rattle.natives.specs.Meets.{MeetsWhole}
 use Rattle.natives.specs.Parts.{is_of}
 use Rattle.natives.specs.Reach.{reach}
@@ -129,7 +129,7 @@ returns-in-Reads-clause-native c =
     (λ o h. whole_at w log posts (beside s p l b) (beside n.store p l b) c.args.meter.now n.meter plan o (h.meets b)) c.call-in-Reads.ensures.native)
 
 pub returns-in-Reads-clause-kept : goal.returns-in-Reads-clause-kept
-returns-in-Reads-clause-kept c = record { store = c.call-in-Reads.ensures.kept; page = page_same c.args.w c.args.page.now; holds = c.call-in-Reads.ensures.holds }
+returns-in-Reads-clause-kept c = record { store = c.call-in-Reads.ensures.kept; page = page_same c.args.w c.args.page.now; host = host_here c.args.page.now; holds = c.call-in-Reads.ensures.holds }
 
 pub returns-in-Writes-clause-native : goal.returns-in-Writes-clause-native
 returns-in-Writes-clause-native c =

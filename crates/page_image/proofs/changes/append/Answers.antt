@@ -10,6 +10,7 @@ use Rattle.page_image.proofs.Calls.{are_nodes, append_image, append_keeps, appen
 use Rattle.page_image.proofs.Pages.{is_node, all_stay, below_32}
 use Rattle.page_image.proofs.Results.{ok_then, ok_both, err_then, if_err_then}
 use Rattle.page_image.proofs.Taking.{may_take}
+use Rattle.page_image.proofs.Hosting.{append_host}
 use Rattle.page_image.proofs.changes.append.Goals as goal
 
 pub append-requires-clause-target : goal.append-requires-clause-target
@@ -48,3 +49,6 @@ returns-clause-kept c = append_keeps c.args.page.now c.append.new.self c.append.
 
 pub returns-clause-others : goal.returns-clause-others
 returns-clause-others c = append_others c.args.page.now c.append.new.self c.append.ensures.roots c.args.widget c.requires.home c.args.target c.requires.target c.args.news.now c.requires.news c.append.result c.append.ensures.steps c.append.ensures.unchanged c.append.ensures.others
+
+pub returns-clause-host : goal.returns-clause-host
+returns-clause-host c = append_host c.args.page.now c.append.new.self c.args.widget c.args.target c.requires.target c.args.news.now c.requires.news c.append.result c.append.ensures.allowed c.append.ensures.steps c.append.ensures.unchanged c.append.ensures.others

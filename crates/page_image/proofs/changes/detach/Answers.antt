@@ -1,6 +1,7 @@
 use Rattle.page_image.proofs.Calls.{detach_keeps, detach_others}
 use Rattle.page_image.proofs.Pages.{is_node, detach_image, not_root}
 use Rattle.page_image.proofs.Looks.{some_same}
+use Rattle.page_image.proofs.Hosting.{detach_host}
 use Rattle.page_image.proofs.changes.detach.Goals as goal
 
 pub detach-requires-clause-node : goal.detach-requires-clause-node
@@ -17,3 +18,6 @@ returns-clause-kept c = detach_keeps c.args.page.now c.detach.new.self c.detach.
 
 pub returns-clause-others : goal.returns-clause-others
 returns-clause-others c = detach_others c.args.page.now c.detach.new.self c.detach.ensures.roots c.args.widget c.args.node c.requires.own c.detach.ensures.done c.detach.ensures.others
+
+pub returns-clause-host : goal.returns-clause-host
+returns-clause-host c = detach_host c.args.page.now c.detach.new.self c.args.widget c.args.node c.requires.own (some_same c.args.page.now c.args.widget c.args.node c.requires.home c.requires.own (not_root c.args.page.now c.args.widget c.args.node c.requires.home c.requires.no_root)) c.detach.ensures.done c.detach.ensures.others

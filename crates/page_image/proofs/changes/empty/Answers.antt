@@ -7,6 +7,7 @@ use Rattle.page_image.specs.Image.{forest}
 use Rattle.page_image.proofs.Detaching.{all_image, all_keeps, all_others, others_of_one}
 use Rattle.page_image.proofs.Looks.{child_owned, child_not_root, not_the_body, tops_at}
 use Rattle.page_image.proofs.Pages.{is_node, owner_is}
+use Rattle.page_image.proofs.Hosting.{empty_host}
 use Rattle.page_image.proofs.changes.empty.Goals as goal
 
 pub empty-requires-clause-node : goal.empty-requires-clause-node
@@ -32,3 +33,6 @@ returns-clause-others c =
     let w = c.args.widget in
     let n = c.args.node in
     all_others old c.empty.new.self c.empty.ensures.roots w (at (nodes old) n).children c.empty.ensures.steps c.requires.home (owner_is old w n c.requires.own) (child_owned old w n c.requires.own (at (nodes old) n).children refl) (others_of_one old c.empty.new.self w n c.requires.own c.empty.ensures.others)
+
+pub returns-clause-host : goal.returns-clause-host
+returns-clause-host c = empty_host c.args.page.now c.empty.new.self c.args.widget c.args.node c.requires.own c.empty.ensures.steps c.empty.ensures.others

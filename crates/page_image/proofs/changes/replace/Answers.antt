@@ -9,6 +9,7 @@ use Rattle.page_image.proofs.Calls.{are_nodes}
 use Rattle.page_image.proofs.Pages.{is_node, all_stay, below_32}
 use Rattle.page_image.proofs.Replacing.{replaced_image, replaced_allowed, replace_refused, replaced_keeps, replaced_others}
 use Rattle.page_image.proofs.Results.{ok_then, ok_both, err_then, if_err_then}
+use Rattle.page_image.proofs.Hosting.{replace_host}
 use Rattle.page_image.proofs.changes.replace.Goals as goal
 
 pub replace-requires-clause-node : goal.replace-requires-clause-node
@@ -53,3 +54,6 @@ returns-clause-kept c = replaced_keeps c.args.page.now c.replace.new.self c.repl
 
 pub returns-clause-others : goal.returns-clause-others
 returns-clause-others c = replaced_others c.args.page.now c.replace.new.self c.replace.ensures.roots c.args.widget c.requires.home c.args.node c.requires.own c.args.news.now c.requires.news c.replace.result c.replace.ensures.steps c.replace.ensures.unchanged c.replace.ensures.others
+
+pub returns-clause-host : goal.returns-clause-host
+returns-clause-host c = replace_host c.args.page.now c.replace.new.self c.args.widget c.args.node c.requires.own c.args.news.now c.requires.news c.replace.result c.replace.ensures.done c.replace.ensures.steps c.replace.ensures.unchanged c.replace.ensures.others

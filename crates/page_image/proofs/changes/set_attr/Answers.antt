@@ -7,6 +7,7 @@ use Rattle.page_image.specs.Image.{number, forest, relabel_in}
 use Rattle.page_image.proofs.Calls.{is_text_there, label_either, label_others_either}
 use Rattle.page_image.proofs.Pages.{is_node, label_image, all_stay, below_32}
 use Rattle.page_image.proofs.Results.{ok_then, err_then}
+use Rattle.page_image.proofs.Hosting.{label_host_either}
 use Rattle.page_image.proofs.changes.set_attr.Goals as goal
 
 pub set_attr-requires-clause-node : goal.set_attr-requires-clause-node
@@ -34,3 +35,6 @@ returns-clause-kept c = label_either c.args.page.now c.set_attr.new.self c.set_a
 
 pub returns-clause-others : goal.returns-clause-others
 returns-clause-others c = label_others_either c.args.page.now c.set_attr.new.self c.set_attr.ensures.roots c.args.widget c.args.node c.requires.own c.set_attr.result (with_attribute c.args.name.now c.args.value (at (nodes c.args.page.now) c.args.node).label) c.set_attr.ensures.done c.set_attr.ensures.unchanged c.set_attr.ensures.others
+
+pub returns-clause-host : goal.returns-clause-host
+returns-clause-host c = label_host_either c.args.page.now c.set_attr.new.self c.args.widget c.args.node c.requires.own c.set_attr.result (with_attribute c.args.name.now c.args.value (at (nodes c.args.page.now) c.args.node).label) c.set_attr.ensures.done c.set_attr.ensures.unchanged c.set_attr.ensures.others

@@ -7,10 +7,11 @@ use Rattle.plain_tree.specs.Trees.{beside, size}
 use Rattle.tree_ops.specs.Trees.{numbered}
 use Rattle.page_image.specs.Image.{owns, number, own, forest}
 use Rattle.page_image.specs.Refusals.{RefusesTree}
-use Rattle.page_image.specs.Stays.{KeepsNodes, GrowsBy, OthersStay}
+use Rattle.page_image.specs.Stays.{HostStays, KeepsNodes, GrowsBy, OthersStay}
 use Rattle.page_image.proofs.Growing.{added_image, added_number, added_owned, added_grows, added_others, added_refused, range_long}
 use Rattle.page_image.proofs.Pages.{is_widget, all_keep, all_stay}
 use Rattle.page_image.proofs.Results.{if_ok_then, if_err_then, err_then, if_ok_on, if_either}
+use Rattle.page_image.proofs.Hosting.{added_host, host_same}
 use Rattle.page_image.proofs.growth.add.Goals as goal
 
 pub add-requires-clause-owner : goal.add-requires-clause-owner
@@ -73,3 +74,11 @@ returns-clause-others c =
 
 pub returns-clause-kept : goal.returns-clause-kept
 returns-clause-kept c = err_then c.add.result (nodes c.add.new.self ≡ nodes c.args.page.now) (KeepsNodes c.args.page.now c.add.new.self) (all_keep c.args.page.now c.add.new.self c.add.ensures.roots) c.add.ensures.unchanged
+
+pub returns-clause-host : goal.returns-clause-host
+returns-clause-host c =
+    let old = c.args.page.now in
+    let new = c.add.new.self in
+    let p = unplaced c.args.plain.now in
+    if_either c.add.result (λ id. IsAdded (nodes old) (nodes new) id (owner.Widget c.args.widget) p) (nodes new ≡ nodes old) (HostStays old new)
+    (λ id h. added_host old new id (owner.Widget c.args.widget) p h) (host_same old new) c.add.ensures.done c.add.ensures.unchanged

@@ -13,6 +13,7 @@ use Rattle.page_image.proofs.Looks.{root_owned}
 use Rattle.page_image.proofs.Pages.{owner_is, below_32}
 use Rattle.page_image.proofs.Refusing.{copies_refused}
 use Rattle.page_image.proofs.Results.{ok_then, err_then, if_err_then}
+use Rattle.page_image.proofs.Hosting.{host_then}
 use Rattle.page_image.proofs.growth.append_copies.Goals as goal
 
 pub append-requires-clause-home : goal.append-requires-clause-home
@@ -50,3 +51,6 @@ returns-clause-left c =
     let w = c.args.widget in
     err_then c.append.result (forest new w ≡ forest mid w) (SomeCopied old new w c.args.nodes.now)
     (all_kept old mid new w c.args.nodes.now c.in_ok-ids.ids.items c.in_ok-ids.ensures.copied c.append.ensures.kept) c.append.ensures.unchanged
+
+pub returns-clause-host : goal.returns-clause-host
+returns-clause-host c = host_then c.args.page.now c.copy_all.new.page c.append.new.page c.copy_all.ensures.host c.append.ensures.host

@@ -7,10 +7,11 @@ use Rattle.plain_tree.specs.Trees.{beside, size}
 use Rattle.tree_ops.specs.Trees.{numbered, copied, subtree}
 use Rattle.page_image.specs.Image.{owns, number, own, forest}
 use Rattle.page_image.specs.Refusals.{RefusesCopy}
-use Rattle.page_image.specs.Stays.{KeepsNodes, GrowsBy, OthersStay}
+use Rattle.page_image.specs.Stays.{HostStays, KeepsNodes, GrowsBy, OthersStay}
 use Rattle.page_image.proofs.Growing.{added_image, added_number, added_owned, added_grows, added_others, copy_refused, copy_added, copy_size, copied_image, no_host, range_long}
 use Rattle.page_image.proofs.Pages.{is_node, below_32, all_keep, all_stay}
 use Rattle.page_image.proofs.Results.{if_ok_then, if_err_then, err_then, if_ok_on, if_either}
+use Rattle.page_image.proofs.Hosting.{added_host, host_same}
 use Rattle.page_image.proofs.growth.copy.Goals as goal
 
 pub copy-requires-clause-node : goal.copy-requires-clause-node
@@ -79,3 +80,11 @@ returns-clause-others c =
 
 pub returns-clause-kept : goal.returns-clause-kept
 returns-clause-kept c = err_then c.copy.result (nodes c.copy.new.self ≡ nodes c.args.page.now) (KeepsNodes c.args.page.now c.copy.new.self) (all_keep c.args.page.now c.copy.new.self c.copy.ensures.roots) c.copy.ensures.unchanged
+
+pub returns-clause-host : goal.returns-clause-host
+returns-clause-host c =
+    let old = c.args.page.now in
+    let new = c.copy.new.self in
+    let n = c.args.node in
+    if_either c.copy.result (λ id. IsAdded (nodes old) (nodes new) id (at (nodes old) n).owner (copy_of (nodes old) n)) (nodes new ≡ nodes old) (HostStays old new)
+    (λ id h. added_host old new id (at (nodes old) n).owner (copy_of (nodes old) n) h) (host_same old new) c.copy.ensures.done c.copy.ensures.unchanged
