@@ -8,7 +8,7 @@ ghost use Rattle.style_text.specs.Styles.{is_used};
 ghost use Rattle.widget_meaning.specs.BunchWrites.{styled};
 ghost use Rattle.widget_meaning.specs.Styles as means;
 ghost use Rattle.page_image.specs.Image.{HasRoot, forest, number, owns, relabel_in};
-ghost use Rattle.page_image.specs.Stays.{KeepsNodes, OthersStay};
+ghost use Rattle.page_image.specs.Stays.{HostStays, KeepsNodes, OthersStay};
 ghost use Rattle.page_image.specs.Targets.{is_text_at};
 ghost use Rattle.bunch_marks.specs.Labels.{sets_nothing};
 
@@ -184,6 +184,7 @@ pub(crate) fn restyle(
         relabel_in (styled property.now value.now) (forest page.old w) (number page.old w node)) }
     ensures kept { KeepsNodes page.old page.new }
     ensures others { OthersStay page.old page.new w }
+    ensures host { HostStays page.old page.new }
 {
     let text = restyled(
         alloc,

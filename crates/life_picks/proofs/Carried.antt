@@ -100,6 +100,7 @@ module _ (h m : Shared) (a : Life) (t : Turn) (u : Widget) (units : ℕ) (some :
     codes = codes;
     cells = record { confined = keeps.confined; grows = keeps.grows; others = keeps.others; others_grow = keeps.others_grow; others_confined = keeps.others_confined };
     page = keeps.page;
+    host = keeps.host;
     holds = subst (λ (v : Widget). HoldsOwn w m.store m.page v.around) (sym widget) keeps.holds;
     number = ap (λ (v : Widget). v.number) widget ∙ number;
     slot = slot;
@@ -257,4 +258,4 @@ module _ (h m : Shared) (w units : ℕ) (a b : Life) where
 
 -- the turn of a life has no part in what is kept
 pub keeps_turn : (w : ℕ) (h k : Shared) (a c b : Life) → c.widget.number ≡ a.widget.number → c.slot ≡ a.slot → c.accepted ≡ a.accepted → KeepsLife w h k c b → KeepsLife w h k a b
-keeps_turn w h k a c b number slot accepted keeps = record { codes = keeps.codes; cells = keeps.cells; page = keeps.page; holds = keeps.holds; number = keeps.number ∙ number; slot = keeps.slot ∙ slot; accepted = keeps.accepted ∙ accepted }
+keeps_turn w h k a c b number slot accepted keeps = record { codes = keeps.codes; cells = keeps.cells; page = keeps.page; host = keeps.host; holds = keeps.holds; number = keeps.number ∙ number; slot = keeps.slot ∙ slot; accepted = keeps.accepted ∙ accepted }

@@ -5,14 +5,15 @@ use Rattle.std.specs.declared.vec.Vec.{Vec}
 use Rattle.std.specs.declared.alloc.Global.{Global}
 use Rattle.js_tree.specs.Forest.{Forest}
 use Rattle.store_cells.specs.Cells.{Cells}
-use Rattle.page_image.specs.Stays.{KeepsNodes, OthersStay}
+use Rattle.page_image.specs.Stays.{HostStays, KeepsNodes, OthersStay}
+use Rattle.page_image.proofs.Hosting.{host_then}
 use Rattle.page_tree.specs.declared.page.Page.{Page}
 use Rattle.js_image.specs.Held.{Kept}
 use Rattle.js_names.specs.declared.code.Code.{Code}
 use Rattle.js_names.specs.Code.{trees_of}
 use Rattle.native_image.specs.Sound.{HoldsOwn, KeepsPage, KeepsStore}
 use Rattle.native_image.proofs.Joint.{holds_grows}
-use Rattle.native_image.proofs.Keeping.{grows_next, holds_page, page_keeps, page_same, page_then, sound_page}
+use Rattle.native_image.proofs.Keeping.{grows_next, holds_page, host_here, page_keeps, page_same, page_then, sound_page}
 use Rattle.object_store.proofs.Growth.{grows_same}
 use Rattle.page_image.specs.Image.{owns}
 use Rattle.turn_calls.specs.declared.turn.Shared.{Shared}
@@ -54,11 +55,12 @@ pub same_life : (a : Life) → SameLife a a
 same_life a = record { widget = refl; slot = refl; accepted = refl }
 
 -- store and page changed, and the life is the same
-pub keeps_by : (w : ℕ) (h : Shared) (t : Cells) (q : Page) (a b : Life) → KeepsCells (trees_in h) w h.store t → KeepsPage w h.page q → HoldsOwn w t q a.widget.around → SameLife a b → KeepsLife w h (record h { store = t; page = q }) a b
-keeps_by w h t q a b cells page holds same = record {
+pub keeps_by : (w : ℕ) (h : Shared) (t : Cells) (q : Page) (a b : Life) → KeepsCells (trees_in h) w h.store t → KeepsPage w h.page q → HostStays h.page q → HoldsOwn w t q a.widget.around → SameLife a b → KeepsLife w h (record h { store = t; page = q }) a b
+keeps_by w h t q a b cells page host holds same = record {
   codes = refl;
   cells = cells;
   page = page;
+  host = host;
   holds = subst (λ (v : Widget). HoldsOwn w t q v.around) (sym same.widget) holds;
   number = ap (λ (v : Widget). v.number) same.widget;
   slot = same.slot;
@@ -67,17 +69,17 @@ keeps_by w h t q a b cells page holds same = record {
 
 -- nothing changed
 pub keeps_life : (w : ℕ) (h : Shared) (a b : Life) → HoldsOwn w h.store h.page a.widget.around → SameLife a b → KeepsLife w h h a b
-keeps_life w h a b holds same = keeps_by w h h.store h.page a b (cells_same (trees_in h) w h.store) (page_same w h.page) holds same
+keeps_life w h a b holds same = keeps_by w h h.store h.page a b (cells_same (trees_in h) w h.store) (page_same w h.page) (host_here h.page) holds same
 
 -- the store changed
 pub keeps_stored : (w : ℕ) (h : Shared) (t : Cells) (a b : Life) → HoldsOwn w h.store h.page a.widget.around → Kept (trees_in h) w h.store t → SameLife a b → KeepsLife w h (record h { store = t }) a b
 keeps_stored w h t a b holds kept same =
-    keeps_by w h t h.page a b (cells_kept (trees_in h) w h.store t kept) (page_same w h.page) (holds_grows w h.store t h.page a.widget.around holds kept.grows (kept.nodes (owns h.page w) holds.bunches)) same
+    keeps_by w h t h.page a b (cells_kept (trees_in h) w h.store t kept) (page_same w h.page) (host_here h.page) (holds_grows w h.store t h.page a.widget.around holds kept.grows (kept.nodes (owns h.page w) holds.bunches)) same
 
 -- the page changed, and no node came
-pub keeps_paged : (w : ℕ) (lt : w < 32) (h : Shared) (q : Page) (a b : Life) → HoldsOwn w h.store h.page a.widget.around → KeepsNodes h.page q → OthersStay h.page q w → SameLife a b → KeepsLife w h (record h { page = q }) a b
-keeps_paged w lt h q a b holds keeps others same =
-    keeps_by w h h.store q a b (cells_same (trees_in h) w h.store) (page_keeps w h.page q keeps others) (holds_page w lt h.page q (page_keeps w h.page q keeps others) h.store a.widget.around holds) same
+pub keeps_paged : (w : ℕ) (lt : w < 32) (h : Shared) (q : Page) (a b : Life) → HoldsOwn w h.store h.page a.widget.around → KeepsNodes h.page q → OthersStay h.page q w → HostStays h.page q → SameLife a b → KeepsLife w h (record h { page = q }) a b
+keeps_paged w lt h q a b holds keeps others host same =
+    keeps_by w h h.store q a b (cells_same (trees_in h) w h.store) (page_keeps w h.page q keeps others) host (holds_page w lt h.page q (page_keeps w h.page q keeps others) h.store a.widget.around holds) same
 
 -- one call after another
 pub keeps_both : (w : ℕ) (h m k : Shared) (a b c : Life) → KeepsLife w h m a b → KeepsLife w m k b c → KeepsLife w h k a c
@@ -85,6 +87,7 @@ keeps_both w h m k a b c f g = record {
   codes = g.codes ∙ f.codes;
   cells = cells_then (trees_in h) w h.store m.store k.store f.cells (subst (λ fs. KeepsCells fs w m.store k.store) (ap (λ (cs : Vec Code Global). trees_of cs.items) f.codes) g.cells);
   page = page_then w h.page m.page k.page f.page g.page;
+  host = host_then h.page m.page k.page f.host g.host;
   holds = g.holds;
   number = g.number ∙ f.number;
   slot = g.slot ∙ f.slot;
@@ -105,4 +108,4 @@ fine_paged w lt h q a e fine keeps others = record {
 
 -- the queue of a life has no part in it
 pub keeps_queue : (w : ℕ) (h k : Shared) (a b q : Life) → KeepsLife w h k a b → KeepsLife w h k a (record b { queue = q.queue })
-keeps_queue w h k a b q keeps = record { codes = keeps.codes; cells = keeps.cells; page = keeps.page; holds = keeps.holds; number = keeps.number; slot = keeps.slot; accepted = keeps.accepted }
+keeps_queue w h k a b q keeps = record { codes = keeps.codes; cells = keeps.cells; page = keeps.page; host = keeps.host; holds = keeps.holds; number = keeps.number; slot = keeps.slot; accepted = keeps.accepted }

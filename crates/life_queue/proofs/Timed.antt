@@ -28,7 +28,7 @@ use Rattle.js_steps.specs.declared.task.Task.{Task}
 use Rattle.native_image.specs.Image.{beside}
 use Rattle.native_image.specs.Sound.{HoldsOwn, IsOwnCell, IsSound}
 use Rattle.native_image.proofs.Joint.{image_shows, rest, shown_is}
-use Rattle.native_image.proofs.Keeping.{page_same}
+use Rattle.native_image.proofs.Keeping.{host_here, page_same}
 use Rattle.life_laws.specs.Life as todo
 use Rattle.life_laws.specs.Life.{Same, potentials, started, waiting}
 use Rattle.life_laws.proofs.Begins.{until_begins, until_none, until_stopped}
@@ -160,6 +160,7 @@ module _ (h : Shared) (w : ℕ) (a : Life) (sound : IsSound w h.store h.page a.w
     codes = refl;
     cells = cells_same (trees_in h) w h.store;
     page = page_same w h.page;
+    host = host_here h.page;
     holds = subst (λ (v : Widget). HoldsOwn w h.store h.page v.around) (sym widget) timed_sound.holds;
     number = ap (λ (v : Widget). v.number) widget;
     slot = slot;

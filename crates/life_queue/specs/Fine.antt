@@ -8,6 +8,7 @@ use Rattle.object_store.specs.Grows.{Grows}
 use Rattle.object_store.specs.Owned.{owned}
 use Rattle.widget_meaning.specs.Alone.{lib}
 use Rattle.page_tree.specs.declared.page.Page.{Page}
+use Rattle.page_image.specs.Stays.{HostStays}
 use Rattle.js_image.specs.Held.{IsConfined, IsHeld}
 use Rattle.js_image.specs.Image.{seen}
 use Rattle.native_image.specs.Sound.{HoldsOwn, IsSound, KeepsPage}
@@ -75,11 +76,12 @@ pub record KeepsCells (fs : List Forest) (w : ℕ) (old new : Cells) : Type 0 wh
   pub others_grow : (v : ℕ) → (w ≡ v → ⊥) → Grows v old.cells new.cells
   pub others_confined : (v : ℕ) → (w ≡ v → ⊥) → IsConfined fs v old → IsConfined fs v new
 
--- What a call for one life keeps of all lives, also after want of memory: the scripts, what is said of the store and of the page, that what the life holds is its own, its number and its slot, and whether it was accepted.
+-- What a call for one life keeps of all lives, also after want of memory: the scripts, what is said of the store and of the page, what the host has of the page, that what the life holds is its own, its number and its slot, and whether it was accepted.
 pub record KeepsLife (w : ℕ) (h k : Shared) (a b : Life) : Type 0 where
   pub codes : k.codes ≡ h.codes
   pub cells : KeepsCells (trees_in h) w h.store k.store
   pub page : KeepsPage w h.page k.page
+  pub host : HostStays h.page k.page
   pub holds : HoldsOwn w k.store k.page b.widget.around
   pub number : b.widget.number ≡ a.widget.number
   pub slot : b.slot ≡ a.slot

@@ -9,7 +9,7 @@ ghost use Rattle.widget_meaning.specs.OwnState.{OwnState, State};
 ghost use Rattle.widget_meaning.specs.Trees.{node_at};
 ghost use Rattle.page_tree.specs.declared.page.Page.{Page as PageOf};
 ghost use Rattle.page_image.specs.Image.{HasRoot, forest, label_at, number, owns};
-ghost use Rattle.page_image.specs.Stays.{KeepsNodes, OthersStay};
+ghost use Rattle.page_image.specs.Stays.{HostStays, KeepsNodes, OthersStay};
 ghost use Rattle.event_image.specs.Image.{Shows};
 ghost use Rattle.event_loop.specs.declared.around.Loop.{Loop as LoopOf};
 ghost use Rattle.native_image.specs.Image.{Outside};
@@ -63,6 +63,7 @@ fn set_text_value(
         → with_value (label_at page.old w node) (number page.old w node) (Some text.now) o ≡ record o { forest = forest page.new w }) }
     ensures kept { KeepsNodes page.old page.new }
     ensures others { OthersStay page.old page.new w }
+    ensures host { HostStays page.old page.new }
 {
     if !is_input(page, w, node) {
         return Ok(());
@@ -85,6 +86,7 @@ fn set_value(
         → with_value (label_at page.old w node) (number page.old w node) value.now o ≡ record o { forest = forest page.new w }) }
     ensures kept { KeepsNodes page.old page.new }
     ensures others { OthersStay page.old page.new w }
+    ensures host { HostStays page.old page.new }
 {
     match value {
         Some(text) => set_text_value(alloc, page, w, node, text),

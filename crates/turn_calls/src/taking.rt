@@ -1,5 +1,5 @@
 //! What becomes of how a call ended, by what waits for it.
-ghost use Rattle.std.specs.Prelude.{◌≡◌, ℕ, ◌<◌, [], ◌∷◌, List, Option, Bool, IfOk, IfSome, None, get_or, length};
+ghost use Rattle.std.specs.Prelude.{◌≡◌, ℕ, ◌<◌, [], ◌∷◌, List, Option, IfOk, IfSome, None, get_or, length};
 ghost use Rattle.js_tree.specs.Forest.{Forest};
 ghost use Rattle.store_cells.specs.Cells.{Cells, PlainCell};
 ghost use Rattle.widget_meaning.specs.Costs as costs;

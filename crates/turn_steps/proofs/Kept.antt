@@ -4,12 +4,13 @@ use Rattle.js_tree.specs.Forest.{Forest}
 use Rattle.store_cells.specs.Cells.{Cells}
 use Rattle.page_tree.specs.declared.page.Page.{Page}
 use Rattle.page_image.specs.Image.{owns}
+use Rattle.page_image.proofs.Hosting.{host_then}
 use Rattle.event_loop.specs.declared.around.Loop.{Loop}
 use Rattle.js_image.specs.Held.{Kept}
 use Rattle.js_image.proofs.Grown.{kept_same}
 use Rattle.native_image.specs.Sound.{HoldsOwn, IsSound, KeepsAll}
 use Rattle.native_image.proofs.Joint.{holds_grows}
-use Rattle.native_image.proofs.Keeping.{grows_next, page_same, page_then}
+use Rattle.native_image.proofs.Keeping.{grows_next, host_here, page_same, page_then}
 use Rattle.turn_calls.specs.Took.{StaysSound}
 use Rattle.turn_steps.specs.Keeping.{KeepsTurn}
 
@@ -23,6 +24,7 @@ module _ (fs : List Forest) (w : ℕ) where
     others_grow = k.store.others_grow;
     others_confined = k.store.others_confined fs;
     page = k.page;
+    host = k.host;
     holds = k.holds;
   }
 
@@ -35,6 +37,7 @@ module _ (fs : List Forest) (w : ℕ) where
     others_grow = k.others_grow;
     others_confined = k.others_confined;
     page = page_same w p;
+    host = host_here p;
     holds = holds_grows w s t p l h k.grows (k.nodes (owns p w) h.bunches);
   }
 
@@ -51,6 +54,7 @@ module _ (fs : List Forest) (w : ℕ) where
     others_grow = k.kept.others_grow;
     others_confined = k.kept.others_confined fs;
     page = page_same w p;
+    host = host_here p;
     holds = (k.sound l h).holds;
   }
 
@@ -63,5 +67,6 @@ module _ (fs : List Forest) (w : ℕ) where
     others_grow = λ v ne. grows_next v s.cells t.cells u.cells (f.others_grow v ne) (g.others_grow v ne);
     others_confined = λ v ne h. g.others_confined v ne (f.others_confined v ne h);
     page = page_then w p q r f.page g.page;
+    host = host_then p q r f.host g.host;
     holds = g.holds;
   }

@@ -1,11 +1,11 @@
 //! A native that a turn carries out, and what its answer comes to.
-ghost use Rattle.std.specs.Prelude.{◌≡◌, ◌<◌, false, IfOk, List, None, OnOk, reverse, drop};
+ghost use Rattle.std.specs.Prelude.{◌≡◌, ◌<◌, false, IfOk, None, OnOk, reverse, drop};
 ghost use Rattle.js_calls.specs.Called.{IsCarried};
 ghost use Rattle.js_flow.specs.Fine.{FineFrames, FineNative};
-ghost use Rattle.js_values.specs.Answers.{IsFineOut, IsOutOfFuel};
+ghost use Rattle.js_values.specs.Answers.{IsFineOut};
 ghost use Rattle.native_image.specs.Image.{beside, dispatches_of};
 ghost use Rattle.native_image.specs.Meets.{FiresAtOwn};
-ghost use Rattle.native_image.specs.Sound.{IsSound, KeepsAll, KeepsStore};
+ghost use Rattle.native_image.specs.Sound.{KeepsAll};
 ghost use Rattle.js_values.specs.declared.outcome.NativeOut.TheVariants as native_out;
 ghost use Rattle.js_values.specs.declared.outcome.Plan.TheVariants as native_calls;
 ghost use Rattle.turn_runs.specs.Held.{FineDoing};

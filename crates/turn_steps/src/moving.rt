@@ -6,7 +6,7 @@ ghost use Rattle.js_flow.specs.Fine.{FineCompletion};
 ghost use Rattle.js_flow.specs.Todo.{Follows};
 ghost use Rattle.js_steps.specs.Answered.{IsFineAfter, machine};
 ghost use Rattle.native_image.specs.Sound.{IsSound};
-ghost use Rattle.turn_runs.specs.Held.{FineDoing, FineHearing, FineTask};
+ghost use Rattle.turn_runs.specs.Held.{FineDoing, FineTask};
 ghost use Rattle.turn_runs.specs.declared.level.Doing.TheVariants as doing;
 ghost use Rattle.turn_calls.specs.Took.{StaysSound};
 ghost use Rattle.turn_calls.specs.Waiting.{FineLevels};

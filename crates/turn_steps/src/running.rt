@@ -1,6 +1,5 @@
 //! A turn within the units of a pick.
 ghost use Rattle.std.specs.Prelude.{◌≡◌, ◌-◌, ◌<◌, ◌≤◌, IfOk, OnOk, false, true};
-ghost use Rattle.widget_meaning.specs.Meaning.{run_plan};
 ghost use Rattle.native_image.specs.Image.{Outside};
 ghost use Rattle.life_laws.specs.Life.{Fixed};
 ghost use Rattle.turn_calls.specs.declared.turn.Shared.{Shared as SharedBy};

@@ -7,7 +7,7 @@ use Rattle.page_tree.specs.Pages.{nodes}
 use Rattle.page_image.specs.Image.{forest, number, relabel_in}
 use Rattle.page_image.proofs.Looks.{label_at}
 use Rattle.page_image.proofs.Results.{ok_then}
-use Rattle.native_image.proofs.Keeping.{nodes_same}
+use Rattle.native_image.proofs.Keeping.{host_here, nodes_same}
 use Rattle.bunch_marks.proofs.Pairs.{relabel_same}
 use Rattle.bunch_marks.proofs.styles.restyle.Goals as goal
 
@@ -29,3 +29,9 @@ returns-in_err-name-clause-kept c = nodes_same c.args.page.now
 
 pub returns-in_err-text-clause-kept : goal.returns-in_err-text-clause-kept
 returns-in_err-text-clause-kept c = nodes_same c.args.page.now
+
+pub returns-in_err-name-clause-host : goal.returns-in_err-name-clause-host
+returns-in_err-name-clause-host c = host_here c.args.page.now
+
+pub returns-in_err-text-clause-host : goal.returns-in_err-text-clause-host
+returns-in_err-text-clause-host c = host_here c.args.page.now

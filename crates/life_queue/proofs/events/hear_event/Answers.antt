@@ -2,7 +2,7 @@ use Rattle.std.proofs.Common.{refl, sym, ◌∙◌, subst}
 use Rattle.widget_meaning.specs.Dispatch.{dispatch}
 use Rattle.widget_meaning.specs.Items.{event_value}
 use Rattle.page_image.specs.Image.{number}
-use Rattle.native_image.proofs.Keeping.{page_same}
+use Rattle.native_image.proofs.Keeping.{host_here, page_same}
 use Rattle.life_queue.specs.declared.life.Life.{Life}
 use Rattle.life_queue.specs.Lives.{trees_in}
 use Rattle.life_queue.specs.Fine.{KeepsLife}
@@ -25,20 +25,20 @@ hear-requires-clause-dispatch c = record { target = c.requires.own; value = (c.i
 pub returns-in_err-heard-clause-kept : goal.returns-in_err-heard-clause-kept
 returns-in_err-heard-clause-kept c =
     let h = c.args.shared.now in
-    keeps_by c.args.w h c.hear.new.store h.page c.args.life.now c.args.life.now (cells_stored (trees_in h) c.args.w h.store c.hear.new.store c.hear.ensures.kept) (page_same c.args.w h.page)
+    keeps_by c.args.w h c.hear.new.store h.page c.args.life.now c.args.life.now (cells_stored (trees_in h) c.args.w h.store c.hear.new.store c.hear.ensures.kept) (page_same c.args.w h.page) (host_here h.page)
     (c.hear.ensures.sound c.args.life.now.widget.around c.requires.fine.sound).holds (same_life c.args.life.now)
 
 pub returns-in_err-doing-clause-kept : goal.returns-in_err-doing-clause-kept
 returns-in_err-doing-clause-kept c =
     let h = c.args.shared.now in
-    keeps_by c.args.w h c.hear.new.store h.page c.args.life.now c.args.life.now (cells_stored (trees_in h) c.args.w h.store c.hear.new.store c.hear.ensures.kept) (page_same c.args.w h.page)
+    keeps_by c.args.w h c.hear.new.store h.page c.args.life.now c.args.life.now (cells_stored (trees_in h) c.args.w h.store c.hear.new.store c.hear.ensures.kept) (page_same c.args.w h.page) (host_here h.page)
     (c.hear.ensures.sound c.args.life.now.widget.around c.requires.fine.sound).holds (same_life c.args.life.now)
 
 pub returns-clause-kept : goal.returns-clause-kept
 returns-clause-kept c =
     let h = c.args.shared.now in
     subst (λ (b : Life). KeepsLife c.args.w h (record h { store = c.hear.new.store }) c.args.life.now b) (sym c.begin.ensures)
-    (keeps_by c.args.w h c.hear.new.store h.page c.args.life.now _ (cells_stored (trees_in h) c.args.w h.store c.hear.new.store c.hear.ensures.kept) (page_same c.args.w h.page)
+    (keeps_by c.args.w h c.hear.new.store h.page c.args.life.now _ (cells_stored (trees_in h) c.args.w h.store c.hear.new.store c.hear.ensures.kept) (page_same c.args.w h.page) (host_here h.page)
     (c.hear.ensures.sound c.args.life.now.widget.around c.requires.fine.sound).holds (record { widget = refl; slot = refl; accepted = refl }))
 
 pub returns-clause-starts : goal.returns-clause-starts

@@ -18,7 +18,7 @@ pub set_value-requires-clause-own : goal.set_value-requires-clause-own
 set_value-requires-clause-own c = c.requires.own
 
 pub returns-in_err-set_value-clause-kept : goal.returns-in_err-set_value-clause-kept
-returns-in_err-set_value-clause-kept c = keeps_paged c.args.w c.requires.widget c.args.shared.now c.set_value.new.page c.args.life.now c.args.life.now c.requires.fine.sound.holds c.set_value.ensures.kept c.set_value.ensures.others (same_life c.args.life.now)
+returns-in_err-set_value-clause-kept c = keeps_paged c.args.w c.requires.widget c.args.shared.now c.set_value.new.page c.args.life.now c.args.life.now c.requires.fine.sound.holds c.set_value.ensures.kept c.set_value.ensures.others c.set_value.ensures.host (same_life c.args.life.now)
 
 pub listeners-requires-clause-home : goal.listeners-requires-clause-home
 listeners-requires-clause-home c = (fine_paged c.args.w c.requires.widget c.args.shared.now c.set_value.new.page c.args.life.now c.requires.rests c.requires.fine c.set_value.ensures.kept c.set_value.ensures.others).sound.holds.home
@@ -27,7 +27,7 @@ pub listeners-requires-clause-own : goal.listeners-requires-clause-own
 listeners-requires-clause-own c = c.set_value.ensures.kept.owners c.args.w c.args.event.1 ∙ c.requires.own
 
 pub returns-in_err-listeners-clause-kept : goal.returns-in_err-listeners-clause-kept
-returns-in_err-listeners-clause-kept c = keeps_paged c.args.w c.requires.widget c.args.shared.now c.set_value.new.page c.args.life.now c.args.life.now c.requires.fine.sound.holds c.set_value.ensures.kept c.set_value.ensures.others (same_life c.args.life.now)
+returns-in_err-listeners-clause-kept c = keeps_paged c.args.w c.requires.widget c.args.shared.now c.set_value.new.page c.args.life.now c.args.life.now c.requires.fine.sound.holds c.set_value.ensures.kept c.set_value.ensures.others c.set_value.ensures.host (same_life c.args.life.now)
 
 pub hear_event-requires-clause-fine : goal.hear_event-requires-clause-fine
 hear_event-requires-clause-fine c = fine_paged c.args.w c.requires.widget c.args.shared.now c.set_value.new.page c.args.life.now c.requires.rests c.requires.fine c.set_value.ensures.kept c.set_value.ensures.others
@@ -57,7 +57,7 @@ hear_event-requires-clause-some c =
     (at_some (λ at. (owns c.set_value.new.page c.args.w at.0 ≡ true) × AllByRecursion (IsOwnCell c.args.w c.args.shared.now.store.cells) at.1.items × (0 < length at.1.items)) _ c.in-Some.at c.in-Some.is (c.in_ok-listeners.ensures.own c.args.shared.now.store fine.sound.holds)).2
 
 pub returns-in-None-clause-kept : goal.returns-in-None-clause-kept
-returns-in-None-clause-kept c = keeps_paged c.args.w c.requires.widget c.args.shared.now c.set_value.new.page c.args.life.now c.args.life.now c.requires.fine.sound.holds c.set_value.ensures.kept c.set_value.ensures.others (same_life c.args.life.now)
+returns-in-None-clause-kept c = keeps_paged c.args.w c.requires.widget c.args.shared.now c.set_value.new.page c.args.life.now c.args.life.now c.requires.fine.sound.holds c.set_value.ensures.kept c.set_value.ensures.others c.set_value.ensures.host (same_life c.args.life.now)
 
 pub returns-in-None-clause-taken : goal.returns-in-None-clause-taken
 returns-in-None-clause-taken c =
@@ -72,7 +72,7 @@ returns-in-None-clause-taken c =
 pub returns-in-Some-clause-kept : goal.returns-in-Some-clause-kept
 returns-in-Some-clause-kept c =
     keeps_both c.args.w c.args.shared.now (record c.args.shared.now { page = c.set_value.new.page }) _ c.args.life.now c.args.life.now _
-    (keeps_paged c.args.w c.requires.widget c.args.shared.now c.set_value.new.page c.args.life.now c.args.life.now c.requires.fine.sound.holds c.set_value.ensures.kept c.set_value.ensures.others (same_life c.args.life.now))
+    (keeps_paged c.args.w c.requires.widget c.args.shared.now c.set_value.new.page c.args.life.now c.args.life.now c.requires.fine.sound.holds c.set_value.ensures.kept c.set_value.ensures.others c.set_value.ensures.host (same_life c.args.life.now))
     c.hear_event.ensures.kept
 
 pub returns-in-Some-clause-taken : goal.returns-in-Some-clause-taken
