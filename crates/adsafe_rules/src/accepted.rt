@@ -29,6 +29,13 @@ impl Accepted {
         &self.tree
     }
 
+    /// The tree, for one who keeps it.
+    pub fn into_tree(self) -> Tree
+        ensures { result ≡ tree_of self }
+    {
+        self.tree
+    }
+
     /// The position at which the tree breaks no rule, with the slot's name.
     pub fn scope(&self) -> &Scope
         ensures { result.now ≡ scope_of self.now }
