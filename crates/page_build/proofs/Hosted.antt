@@ -1,13 +1,14 @@
 -- A tree of the host is added and put under `body`: what widgets have of the page stays.
-use Rattle.std.proofs.Common.{◌≡◌, ◌≢◌, ℕ, suc, ◌+◌, ◌<◌, ◌≤◌, List, [], ◌∷◌, ◌++◌, Bool, true, false, refl, sym, ap, ◌∙◌, length, cond, eqb, eq-eqb, ne_eqb, ◌&&◌, not, Option, None, Some, arith}
+use Rattle.std.proofs.Common.{◌≡◌, ◌≢◌, ℕ, suc, subst, ◌+◌, ◌<◌, ◌≤◌, List, [], ◌∷◌, ◌++◌, Bool, true, false, refl, sym, ap, ◌∙◌, length, cond, eqb, eq-eqb, ne_eqb, ◌&&◌, not, Option, None, Some, arith}
 use Rattle.std.specs.Prelude.{is_some, nat_lt, option_to_list}
 use Rattle.std.proofs.lemmas.Bool.Decides.{nat_tests}
 use Rattle.std.specs.List.{filter, range_with_len}
 use Rattle.std.proofs.lemmas.List.{append-nil}
 use Rattle.code_units.specs.declared.owner.Owner.TheVariants as owner
-use Rattle.plain_tree.specs.Trees.{PlainTrees, beside, marked, size}
+use Rattle.plain_tree.specs.Trees.{PlainTrees, beside, marked, size, unmarked}
 use Rattle.tree_ops.specs.Trees.{is_number}
 use Rattle.tree_ops.proofs.Absent.{grafted_off}
+use Rattle.tree_ops.proofs.Numbers.{numbered_shape}
 use Rattle.tree_ops.proofs.Tests.{or_left, or_right}
 use Rattle.store_cells.specs.Cells.{Cells}
 use Rattle.page_nodes.specs.Adds.{IsAdded}
@@ -23,13 +24,16 @@ use Rattle.page_tree.specs.Roots.{IsRooted}
 use Rattle.page_image.specs.Image.{forest, number, own, owns, root_of}
 use Rattle.page_image.specs.Own.{is_own, own_forest, own_nodes_from, own_number, page_forest, trees_of}
 use Rattle.page_image.proofs.Added.{filter_both, marked_in, range_none, range_same, range_split}
+use Rattle.page_image.proofs.Hosting.{added_host}
 use Rattle.page_image.proofs.Looks.{root_owned}
 use Rattle.page_image.proofs.Numbers.{number_kept, number_older}
 use Rattle.page_image.proofs.Owners.{own_nodes_same}
 use Rattle.page_image.proofs.Pages.{is_widget}
 use Rattle.page_image.proofs.Shown.{forest_own, own_is_node, own_not_body, top_own}
 use Rattle.page_image.proofs.Staying.{forest_stays}
-use Rattle.page_build.specs.Homes.{HaveRaws, IsAway, IsHome}
+use Rattle.page_build.specs.Homes.{HaveRaws, IsAway, IsHome, IsOneTree}
+use Rattle.page_build.specs.Layout.{IsLaidOut, IsMarkup, Lot, Own, each_tree}
+use Rattle.page_build.proofs.Laid.{each_one, laid_linked, laid_stays, same_plain, trees_linked}
 
 no_true : false ≡ true → ⊥
 no_true e = cc
@@ -153,3 +157,23 @@ module _ (p r q : Page) (id : ℕ) (t : PlainTrees) (same : SameRoots p r) (c : 
 
   pub all_raws : (s : Cells) → HaveRaws s p → HaveRaws s q
   all_raws s h = λ v n e. h v n (added_owners p r id t same c v n (linked_owners r q id mine d becomes v n e))
+
+  -- it stands behind the children that `body` had
+  here : IsMarkup q id t
+  here =
+      let below : id ≢ body = λ e. omega (arith, e, c.number, p.arena.sound.some) in
+      record {
+        is_in = omega (arith, c.is_in, d.kept.made);
+        below = below;
+        hosts = d.kept.owners id ∙ mine;
+        shows = ap unmarked (trees_linked r q id d id below ∙ c.here) ∙ numbered_shape id t ∙ same_plain t;
+      }
+
+  laid_behind : (lots : List Lot) → IsLaidOut p lots → IsLaidOut q (lots ++ Own t ∷ [])
+  unfolding root_of
+  laid_behind lots h =
+      laid_linked r q id d (λ v n lt e. root_stays r q id mine d becomes v lt ∙ e) (Own t) here lots
+      (laid_stays p r (added_host p r id owner.Host t c) (λ v lt. same (owner.Widget v) (is_widget v lt)) lots h)
+
+  pub all_laid : IsOneTree t → (lots : List Lot) → IsLaidOut p lots → IsLaidOut q (lots ++ each_tree t)
+  all_laid one lots h = subst (λ l. IsLaidOut q (lots ++ l)) (sym (each_one t one)) (laid_behind lots h)

@@ -1,2 +1,3 @@
 mod Homes
+pub mod Laid
 mod Hosted

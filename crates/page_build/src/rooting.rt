@@ -1,27 +1,33 @@
 //! Roots come under `body`.
-ghost use Rattle.std.specs.Prelude.{◌≡◌, ◌≢◌, ◌+◌, ◌<◌, ◌≤◌, ℕ, List, IfOk, OnOk};
+ghost use Rattle.std.specs.Prelude.{◌≡◌, ◌≢◌, ◌+◌, ◌++◌, ◌∷◌, [], ◌<◌, ◌≤◌, ℕ, List, None, true, IfOk, OnOk};
 ghost use Rattle.plain_tree.specs.Plains.{unplaced};
-ghost use Rattle.plain_tree.specs.Trees.{PlainTrees};
+ghost use Rattle.plain_tree.specs.Trees.{PlainTrees, beside};
+ghost use Rattle.query_grammar.specs.Finds.{has_number};
+ghost use Rattle.tree_ops.specs.Trees.{subtree, tops, without};
 ghost use Rattle.js_tree.specs.Forest.{Forest};
 ghost use Rattle.js_image.specs.Held.{IsConfined, Kept};
+ghost use Rattle.page_image.specs.Image.{forest, number, owns, root_of};
+ghost use Rattle.page_image.specs.Stays.{GetsRoot, OthersStay};
 ghost use Rattle.native_image.specs.Sound.{HasRaw};
 ghost use Rattle.object_store.specs.Owned.{owned};
 ghost use Rattle.store_cells.specs.Cells.{Cells};
 ghost use Rattle.page_build.specs.Homes.{HaveRaws, IsAway, IsHome, IsOneTree};
+ghost use Rattle.page_build.specs.Layout.{IsLaidOut, Lot, Root};
 
 use code_units::Memory;
 use keyed_names::Keys;
 use native_image::add_tree;
 use object_store::{NODE_LIMIT, Store};
-use page_image::{adopt, made};
+use page_image::made;
 use page_tree::{NodeId, Page};
 use plain_tree::Plain;
 use std::alloc::Global;
 
-/// A page without nodes of widgets.
+/// A page without nodes of widgets, where `body` has no children.
 pub fn new_page(alloc: Global, keys: Keys) -> Result<Page, Memory>
     ensures away { IfOk result (λ page. (w : ℕ) → w < 32 → IsAway page w) }
     ensures raws { IfOk result (λ page. (store : Cells) → HaveRaws store page) }
+    ensures laid { IfOk result (λ page. IsLaidOut page []) }
 {
     Page::new(alloc, keys)
 }
@@ -57,13 +63,28 @@ fn add_cells(alloc: Global, store: &mut Store, first: NodeId, many: u32) -> Resu
 }
 
 // A law: a plain tree is one tree.
-fn one_tree(plain: &Plain)
+pub(crate) fn one_tree(plain: &Plain)
     ensures { IsOneTree (unplaced plain.now) }
 {
     match plain {
         Plain::Text { .. } => {}
         Plain::Element { .. } => {}
     }
+}
+
+// A tree of a widget that has no root comes behind the last child of `body`, as its root.
+fn adopt(page: &mut Page, w: u32, node: NodeId) -> Result<(), Memory>
+    requires own { owns page.old w node ≡ true }
+    requires top { has_number (tops (forest page.old w)) (number page.old w node) ≡ true }
+    requires free { root_of page.old w ≡ None }
+    ensures image { OnOk result (forest page.new w ≡ beside
+        (subtree (number page.old w node) (forest page.old w))
+        (without (number page.old w node) (forest page.old w))) }
+    ensures becomes { OnOk result (GetsRoot page.old page.new w node) }
+    ensures others { OnOk result (OthersStay page.old page.new w) }
+    ensures laid { OnOk result ((lots : List Lot) → IsLaidOut page.old lots → IsLaidOut page.new (lots ++ Root w ∷ [])) }
+{
+    page.adopt(node)
 }
 
 /// A widget that has nothing of the page gets its root, behind the last child of `body`, and each of
@@ -80,6 +101,7 @@ pub fn add_root(
     requires raws { HaveRaws store.old page.old }
     ensures home { OnOk result (IsHome page.new w (unplaced body.now)) }
     ensures raws { OnOk result (HaveRaws store.new page.new) }
+    ensures laid { OnOk result ((lots : List Lot) → IsLaidOut page.old lots → IsLaidOut page.new (lots ++ Root w ∷ [])) }
     ensures others { OnOk result ((v : ℕ) (tree : PlainTrees) → v < 32 → v ≢ w → IsHome page.old v tree → IsHome page.new v tree) }
     ensures away { OnOk result ((v : ℕ) → v < 32 → v ≢ w → IsAway page.old v → IsAway page.new v) }
     ensures same { (v : ℕ) → owned v store.new ≡ owned v store.old }

@@ -1,10 +1,13 @@
 //! What the slots of a page show.
-ghost use Rattle.std.specs.Prelude.{◌≡◌, ◌≢◌, ◌<◌, ℕ, List, OnOk};
+ghost use Rattle.std.specs.Prelude.{◌≡◌, ◌≢◌, ◌++◌, ◌∷◌, [], ◌<◌, ℕ, List, None, IfOk, OnOk};
 ghost use Rattle.js_tree.specs.Forest.{Forest};
+ghost use Rattle.plain_tree.specs.Plains.{unplaced};
 ghost use Rattle.plain_tree.specs.Trees.{PlainTrees};
 ghost use Rattle.js_image.specs.Held.{IsConfined};
 ghost use Rattle.object_store.specs.Owned.{owned};
+ghost use Rattle.page_spec.specs.Pages.{root_of};
 ghost use Rattle.page_build.specs.Homes.{HaveRaws, IsAway, IsHome, IsPlaced};
+ghost use Rattle.page_build.specs.Layout.{IsLaidOut, Lot, home_of, lot_of};
 
 use crate::hosting::add_markup;
 use crate::rooting::add_root;
@@ -17,7 +20,9 @@ use plain_tree::{Attr, Plain};
 use std::alloc::Global;
 
 // An empty `div` with this `id`.
-fn empty_div(alloc: Global, name: &Text) -> Result<Plain, Memory> {
+fn empty_div(alloc: Global, name: &Text) -> Result<Plain, Memory>
+    ensures { IfOk result (λ plain. unplaced plain ≡ root_of name.now None) }
+{
     let mut attrs = Vec::new(alloc);
     let id = word(alloc, b"id")?;
     let value = name.share()?;
@@ -50,6 +55,8 @@ pub fn add_slot(
     requires raws { HaveRaws store.old page.old }
     ensures placed { OnOk result (IsPlaced page.new w slot.now.content) }
     ensures raws { OnOk result (HaveRaws store.new page.new) }
+    ensures laid { OnOk result ((lots : List Lot) → IsLaidOut page.old lots
+        → IsLaidOut page.new (lots ++ lot_of slot.now.name (home_of w slot.now.content) ∷ [])) }
     ensures others { OnOk result ((v : ℕ) (tree : PlainTrees) → v < 32 → v ≢ w → IsHome page.old v tree → IsHome page.new v tree) }
     ensures away { OnOk result ((v : ℕ) → v < 32 → v ≢ w → IsAway page.old v → IsAway page.new v) }
     ensures same { (v : ℕ) → owned v store.new ≡ owned v store.old }

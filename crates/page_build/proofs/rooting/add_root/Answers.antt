@@ -3,6 +3,7 @@ use Rattle.plain_tree.specs.Plains.{unplaced}
 use Rattle.page_image.proofs.Results.{ok_both, ok_then}
 use Rattle.native_image.proofs.Added.{so_many}
 use Rattle.page_build.proofs.Homes.{confined_all, home_is, is_free, is_top, others_away, others_home, raws_there}
+use Rattle.page_build.proofs.Laid.{laid_stays}
 use Rattle.page_build.proofs.rooting.add_root.Goals as goal
 
 pub overflow_sub-many : goal.overflow_sub-many
@@ -28,10 +29,10 @@ returns-clause-raws c = ok_then c.adopt.result _ _
     c.adopt.ensures.becomes
 
 pub returns-clause-others : goal.returns-clause-others
-returns-clause-others c = ok_then c.adopt.result _ _ (λ becomes. others_home (unplaced c.args.body.now) c.one_tree.ensures c.args.w c.requires.widget c.args.page.now c.add_tree.new.page c.requires.away c.in_ok-id.id c.in_ok-id.ensures.grown c.adopt.new.page becomes c.adopt.ensures.others) c.adopt.ensures.becomes
+returns-clause-others c = ok_both c.adopt.result _ _ _ (λ becomes others. others_home (unplaced c.args.body.now) c.one_tree.ensures c.args.w c.requires.widget c.args.page.now c.add_tree.new.page c.requires.away c.in_ok-id.id c.in_ok-id.ensures.grown c.adopt.new.page becomes others) c.adopt.ensures.becomes c.adopt.ensures.others
 
 pub returns-clause-away : goal.returns-clause-away
-returns-clause-away c = ok_then c.adopt.result _ _ (λ becomes. others_away (unplaced c.args.body.now) c.one_tree.ensures c.args.w c.requires.widget c.args.page.now c.add_tree.new.page c.requires.away c.in_ok-id.id c.in_ok-id.ensures.grown c.adopt.new.page becomes c.adopt.ensures.others) c.adopt.ensures.becomes
+returns-clause-away c = ok_both c.adopt.result _ _ _ (λ becomes others. others_away (unplaced c.args.body.now) c.one_tree.ensures c.args.w c.requires.widget c.args.page.now c.add_tree.new.page c.requires.away c.in_ok-id.id c.in_ok-id.ensures.grown c.adopt.new.page becomes others) c.adopt.ensures.becomes c.adopt.ensures.others
 
 pub returns-clause-same : goal.returns-clause-same
 returns-clause-same c = λ v. c.add_cells.ensures.same v ∙ c.add_tree.ensures.same v
@@ -47,3 +48,6 @@ returns-in_err-add_cells-clause-confined c = λ fs v h. (c.add_cells.ensures.kep
 
 pub returns-in_err-id-clause-confined : goal.returns-in_err-id-clause-confined
 returns-in_err-id-clause-confined c = λ fs v h. confined_all fs c.args.w c.args.store.now c.add_tree.new.store (c.add_tree.ensures.store fs) v h
+
+pub returns-clause-laid : goal.returns-clause-laid
+returns-clause-laid c = ok_then c.adopt.result _ _ (λ laid lots h. laid lots (laid_stays c.args.page.now c.add_tree.new.page c.in_ok-id.ensures.grown.host (c.in_ok-id.ensures.grown.grows.2).roots lots h)) c.adopt.ensures.laid

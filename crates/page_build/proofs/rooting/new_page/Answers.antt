@@ -1,5 +1,6 @@
 use Rattle.std.proofs.lemmas.Result.{IfOk-weaker}
 use Rattle.page_build.proofs.Homes.{both_ok, all_away, no_raws}
+use Rattle.page_build.proofs.Laid.{laid_none}
 use Rattle.page_build.proofs.rooting.new_page.Goals as goal
 
 pub returns-clause-away : goal.returns-clause-away
@@ -7,3 +8,6 @@ returns-clause-away c = both_ok c.new.result (λ p e roots w lt. all_away p e w 
 
 pub returns-clause-raws : goal.returns-clause-raws
 returns-clause-raws c = IfOk-weaker c.new.result _ _ (λ p e. no_raws p e) c.new.ensures.nodes
+
+pub returns-clause-laid : goal.returns-clause-laid
+returns-clause-laid c = IfOk-weaker c.new.result _ _ (λ p e. laid_none p e) c.new.ensures.nodes
