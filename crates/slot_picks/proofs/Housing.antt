@@ -1,0 +1,58 @@
+-- What holds of lives and slots after a pick.
+use Rattle.std.proofs.Common.{◌≡◌, ℕ, zero, suc, List, [], ◌∷◌, ◌++◌, length, map, refl, sym, ap, ◌∙◌, subst, arith, Some, Ok, Err}
+use Rattle.std.specs.Prelude.{IfOk, OnOk, Result, slice_get, slice_set}
+use Rattle.pick_laws.specs.declared.entry.Picked.{Picked}
+use Rattle.slot_laws.specs.Chains.{Chains, PickedIn, last_from, last_life}
+use Rattle.slot_laws.proofs.Chaining.{rest_after}
+use Rattle.slot_laws.proofs.Housing.{chains_picked, unspent_picked}
+use Rattle.slot_picks.specs.declared.crowd.Crowd.{Crowd}
+use Rattle.slot_picks.specs.declared.slots.Slot.{Slot}
+use Rattle.slot_picks.specs.Crowds.{AreHoused, FineCrowd, chains_of, seens_of}
+use Rattle.slot_picks.specs.Places.{homes_of}
+use Rattle.slot_picks.proofs.Chained.{chains_length}
+
+set_length : (cs : List (List ℕ)) (w : ℕ) (c : List ℕ) → length (slice_set cs w c) ≡ length cs
+set_length [] w c = refl
+set_length (x ∷ cs) zero c = refl
+set_length (x ∷ cs) (suc w) c = ap suc (set_length cs w c)
+
+-- ## The last life of a slot
+
+last_from_behind : (x : ℕ) (xs : List ℕ) (v : ℕ) (ys : List ℕ) → last_from x (xs ++ v ∷ ys) ≡ last_from v ys
+last_from_behind x [] v ys = refl
+last_from_behind x (y ∷ xs) v ys = last_from_behind y xs v ys
+
+last_behind : (xs : List ℕ) (v : ℕ) (ys : List ℕ) → last_life (xs ++ v ∷ ys) ≡ last_life (v ∷ ys)
+last_behind [] v ys = refl
+last_behind (x ∷ xs) v ys = last_from_behind x xs v ys
+
+lasts_set : (cs : List (List ℕ)) (w : ℕ) (lives left : List ℕ) → slice_get cs w ≡ Some lives → last_life left ≡ last_life lives → map last_life (slice_set cs w left) ≡ map last_life cs
+lasts_set [] w lives left at e = refl
+lasts_set (c ∷ cs) zero lives left at e = let same : c ≡ lives = cc in ap (λ v. v ∷ map last_life cs) (e ∙ ap last_life (sym same))
+lasts_set (c ∷ cs) (suc w) lives left at e = ap (λ vs. last_life c ∷ vs) (lasts_set cs w lives left at e)
+
+-- ## A pick
+
+module _ (w k : ℕ) (r : Picked) (c d : Crowd) (ss ts : List Slot) (p : PickedIn w k r (chains_of ss) (chains_of ts) (seens_of c) (seens_of d) c.journal.items d.journal.items) where
+  slots_picked : length ts ≡ length ss
+  slots_picked = sym (chains_length ts) ∙ (ap length p.set ∙ (set_length (chains_of ss) w p.left ∙ chains_length ss))
+
+  pub housed_picked : (born : ℕ) → FineCrowd d → homes_of d.lives.items ≡ homes_of c.lives.items → AreHoused born c ss → AreHoused born d ts
+  housed_picked born fine homes h = record {
+    crowd = fine;
+    slots = omega (arith, slots_picked, h.slots);
+    few = h.few;
+    chains = subst (λ hs. Chains hs born 0 (chains_of ts)) (sym homes) (chains_picked (homes_of c.lives.items) born w k r (chains_of ss) (chains_of ts) (seens_of c) (seens_of d) c.journal.items d.journal.items h.chains p);
+    unspent = unspent_picked (homes_of c.lives.items) born w k r (chains_of ss) (chains_of ts) (seens_of c) (seens_of d) c.journal.items d.journal.items h.chains p h.unspent;
+    joined = p.slot.joined h.joined;
+    rest = rest_after w k r (chains_of ss) (chains_of ts) (seens_of c) (seens_of d) c.journal.items d.journal.items p h.rest;
+  }
+
+  -- the last life of each slot stays
+  pub lasts_picked : map last_life (chains_of ts) ≡ map last_life (chains_of ss)
+  lasts_picked = ap (map last_life) p.set ∙ lasts_set (chains_of ss) w p.lives p.left p.at (ap last_life p.slot.left_is ∙ (sym (last_behind p.slot.ended p.slot.life p.slot.waiting) ∙ sym (ap last_life p.slot.are)))
+
+-- by the answer of the pick
+pub housed_after : {E : Type 0} (w k : ℕ) (c d : Crowd) (ss ts : List Slot) (r : Result Picked E) → IfOk r (λ x. PickedIn w k x (chains_of ss) (chains_of ts) (seens_of c) (seens_of d) c.journal.items d.journal.items) → OnOk r (FineCrowd d) → homes_of d.lives.items ≡ homes_of c.lives.items → OnOk r ((born : ℕ) → AreHoused born c ss → AreHoused born d ts)
+housed_after w k c d ss ts (Ok r) p fine homes = λ born h. housed_picked w k r c d ss ts p born fine homes h
+housed_after w k c d ss ts (Err e) p fine homes = tt

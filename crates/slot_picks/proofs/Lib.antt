@@ -1,0 +1,10 @@
+mod Others
+mod Keeping
+mod Picking
+mod Spending
+mod Looping
+mod Chained
+mod Housing
+mod Settles
+mod Quiet
+mod Busy

@@ -1,0 +1,102 @@
+use Rattle.std.proofs.Common.{◌≡◌, ◌∙◌, ◌<◌, ℕ, [], sym, ap, refl, arith, length, subst, Some}
+use Rattle.std.specs.Prelude.{slice_get}
+use Rattle.std.proofs.lemmas.Option.{slice_get_read}
+use Rattle.pick_laws.proofs.Ready.{empty_of, rises_as}
+use Rattle.pick_laws.specs.Journal.{ready_from}
+use Rattle.slot_laws.specs.Chains.{Chains}
+use Rattle.slot_laws.specs.Settled.{slot_flags}
+use Rattle.slot_laws.proofs.Settling.{all_done, slots_lighter, slots_none, slots_on}
+use Rattle.slot_picks.specs.Crowds.{AreHoused, chains_of, seens_of}
+use Rattle.slot_picks.specs.Places.{homes_of}
+use Rattle.slot_picks.proofs.Housing.{lasts_picked}
+use Rattle.slot_picks.proofs.Keeping.{keeps_here, keeps_then}
+use Rattle.slot_picks.proofs.Quiet.{only_lasts}
+use Rattle.slot_picks.proofs.Settles.{listed, slot_there, slots_below}
+use Rattle.slot_picks.proofs.settling.settle_slots.Goals as goal
+
+pub picks-init : goal.picks-init
+picks-init g c = record {
+  settled = slots_none c.args.slice (homes_of c.args.crowd.now.lives.items) (chains_of c.args.slots.now.items) (seens_of c.args.crowd.now) c.args.crowd.now.journal.items _ _;
+  housed = λ born h. h;
+  few = λ n h. h;
+  stays = keeps_here c.args.crowd.now;
+  lasts = refl;
+}
+
+pub ready_slots-requires : goal.ready_slots-requires
+ready_slots-requires g c =
+    let born = c.requires.housed.0 in
+    let h = c.picks.invariant.housed born c.requires.housed.1 in
+    record { housed = (born, subst (λ ss. AreHoused born c.picks.crowd ss) (sym c.deref.ensures.value) h) }
+
+pub returns-then-is_empty : goal.returns-then-is_empty
+returns-then-is_empty g c =
+    let born = c.requires.housed.0 in
+    let h = c.picks.invariant.housed born c.requires.housed.1 in
+    let list = listed c.picks.crowd c.in_ok-ready.ready.items c.picks.slots.items c.deref.result.now c.deref.ensures.value c.in_ok-ready.ensures in
+    let none : c.in_ok-ready.ready.items ≡ [] = empty_of c.in_ok-ready.ready.items _ c.is_empty.result c.is_empty.ensures c.if-is_empty.true c.in_ok-ready.ready.ok.0 in
+    let quiet : ready_from 0 (slot_flags (seens_of c.picks.crowd) (chains_of c.picks.slots.items)) ≡ [] = sym list ∙ none in
+    record {
+      settled = c.picks.invariant.settled;
+      done = all_done (chains_of c.picks.slots.items) (seens_of c.picks.crowd) quiet h.rest ∙ c.picks.invariant.settled.went.dues;
+      quiet = quiet;
+      lasts = only_lasts (homes_of c.picks.crowd.lives.items) born (seens_of c.picks.crowd) (chains_of c.args.slots.now.items) (chains_of c.picks.slots.items) h.chains quiet c.picks.invariant.lasts;
+      housed = c.picks.invariant.housed;
+      few = c.picks.invariant.few;
+      stays = c.picks.invariant.stays;
+    }
+
+pub next-at-requires-clause-rising : goal.next-at-requires-clause-rising
+next-at-requires-clause-rising g c =
+    let list = listed c.picks.crowd c.in_ok-ready.ready.items c.picks.slots.items c.deref.result.now c.deref.ensures.value c.in_ok-ready.ensures in
+    rises_as (slot_flags (seens_of c.picks.crowd) (chains_of c.picks.slots.items)) c.deref-in-picks.result.now (c.deref-in-picks.ensures.value ∙ list)
+
+pub next-at-requires-clause-below : goal.next-at-requires-clause-below
+next-at-requires-clause-below g c =
+    let h = c.picks.invariant.housed c.requires.housed.0 c.requires.housed.1 in
+    let list = listed c.picks.crowd c.in_ok-ready.ready.items c.picks.slots.items c.deref.result.now c.deref.ensures.value c.in_ok-ready.ensures in
+    slots_below (seens_of c.picks.crowd) c.picks.slots.items c.deref-in-picks.result.now (c.deref-in-picks.ensures.value ∙ list) h.slots
+
+pub pick_slot-requires : goal.pick_slot-requires
+pick_slot-requires g c =
+    let h = c.picks.invariant.housed c.requires.housed.0 c.requires.housed.1 in
+    let xs = c.in_ok-ready.ready.items in
+    let list = listed c.picks.crowd c.in_ok-ready.ready.items c.picks.slots.items c.deref.result.now c.deref.ensures.value c.in_ok-ready.ensures in
+    let within : c.next-at.result < length xs = omega (arith, c.next-at.ensures.within, ap (length {A = ℕ}) c.deref-in-picks.ensures.value) in
+    let at : slice_get xs c.next-at.result ≡ Some c.index-w.result.now = slice_get_read xs (length xs) c.next-at.result c.index-w.result.now refl within c.index-w.ensures in
+    record {
+      there = slot_there (seens_of c.picks.crowd) c.picks.slots.items xs c.next-at.result c.index-w.result.now list at;
+      slice = c.requires.slice;
+      housed = (c.requires.housed.0, h);
+    }
+
+pub returns-in_err-pick_slot-clause-stays : goal.returns-in_err-pick_slot-clause-stays
+returns-in_err-pick_slot-clause-stays g c = keeps_then c.args.crowd.now c.picks.crowd c.pick_slot.new.crowd c.picks.invariant.stays c.pick_slot.ensures.stays
+
+pub picks-smaller : goal.picks-smaller
+picks-smaller g c =
+    let xs = c.in_ok-ready.ready.items in
+    let list = listed c.picks.crowd c.in_ok-ready.ready.items c.picks.slots.items c.deref.result.now c.deref.ensures.value c.in_ok-ready.ensures in
+    let within : c.next-at.result < length xs = omega (arith, c.next-at.ensures.within, ap (length {A = ℕ}) c.deref-in-picks.ensures.value) in
+    let at : slice_get xs c.next-at.result ≡ Some c.index-w.result.now = slice_get_read xs (length xs) c.next-at.result c.index-w.result.now refl within c.index-w.ensures in
+    slots_lighter c.index-w.result.now c.args.slice c.in_ok-pick_slot.field-0 _ _ _ _ _ _ xs c.next-at.result c.in_ok-pick_slot.ensures.picked list at
+
+pub picks-preserved : goal.picks-preserved
+picks-preserved g c =
+    let born = c.requires.housed.0 in
+    let h = c.picks.invariant.housed born c.requires.housed.1 in
+    let homes = homes_of c.args.crowd.now.lives.items in
+    let cs = chains_of c.picks.slots.items in
+    let xs = c.in_ok-ready.ready.items in
+    let list = listed c.picks.crowd c.in_ok-ready.ready.items c.picks.slots.items c.deref.result.now c.deref.ensures.value c.in_ok-ready.ensures in
+    let within : c.next-at.result < length xs = omega (arith, c.next-at.ensures.within, ap (length {A = ℕ}) c.deref-in-picks.ensures.value) in
+    let at : slice_get xs c.next-at.result ≡ Some c.index-w.result.now = slice_get_read xs (length xs) c.next-at.result c.index-w.result.now refl within c.index-w.ensures in
+    let there = slot_there (seens_of c.picks.crowd) c.picks.slots.items xs c.next-at.result c.index-w.result.now list at in
+    let chains : Chains homes born 0 cs = subst (λ hs. Chains hs born 0 cs) c.picks.invariant.stays.homes h.chains in
+    record {
+      settled = slots_on c.args.slice c.index-w.result.now homes born (chains_of c.args.slots.now.items) cs (chains_of c.pick_slot.new.slots.items) (seens_of c.args.crowd.now) (seens_of c.picks.crowd) (seens_of c.pick_slot.new.crowd) c.args.crowd.now.journal.items c.picks.crowd.journal.items c.pick_slot.new.crowd.journal.items _ _ _ _ _ _ c.deref-in-picks.result.now c.next-at.result (omega (arith, there, h.slots)) chains c.in_ok-pick_slot.field-0 c.picks.invariant.settled c.in_ok-pick_slot.ensures.picked (c.deref-in-picks.ensures.value ∙ list) (ap (λ ys. slice_get ys c.next-at.result) c.deref-in-picks.ensures.value ∙ at) c.next-at.ensures.kept c.next-at.ensures.room;
+      housed = λ b hb. c.in_ok-pick_slot.ensures.housed b (c.picks.invariant.housed b hb);
+      few = λ n f. c.in_ok-pick_slot.ensures.few n (c.picks.invariant.few n f);
+      stays = keeps_then c.args.crowd.now c.picks.crowd c.pick_slot.new.crowd c.picks.invariant.stays c.in_ok-pick_slot.ensures.stays;
+      lasts = lasts_picked c.index-w.result.now c.args.slice c.in_ok-pick_slot.field-0 c.picks.crowd c.pick_slot.new.crowd c.picks.slots.items c.pick_slot.new.slots.items c.in_ok-pick_slot.ensures.picked ∙ c.picks.invariant.lasts;
+    }

@@ -1,0 +1,112 @@
+//! The lives of all places: one is picked, and its pick is kept.
+ghost use Rattle.std.specs.Prelude.{◌≡◌, ℕ, ◌<◌, ◌≤◌, ◌++◌, [], ◌∷◌, IfOk, OnOk, Some, true, length, slice_get};
+ghost use Rattle.life_laws.specs.Life.{Seen, image};
+ghost use Rattle.pick_laws.specs.Journal.{Kept, PickedAt, journal_room, kept};
+ghost use Rattle.turn_calls.specs.declared.turn.Shared.{Shared as SharedOf};
+ghost use Rattle.life_queue.specs.declared.life.Life.{Life as LifeOf};
+ghost use Rattle.life_queue.specs.Fine.{FineLife};
+ghost use Rattle.life_queue.specs.Lives.{life_seen};
+ghost use Rattle.slot_picks.specs.Crowds.{FewCrowd, FineCrowd, KeepsCrowd, seens_of};
+
+use code_units::Memory;
+use life_picks::pick_life;
+use life_queue::Life;
+use pick_laws::{PickEntry, Picked};
+use std::alloc::Global;
+use std::collections::VecDeque;
+use turn_calls::Shared;
+
+/// The lives of all places with all that they share, and the picks that are kept of them. The place of a
+/// life is its number as an owner.
+#[derive(Drop)]
+pub struct Crowd {
+    pub shared: Shared,
+    pub lives: Vec<Life>,
+    /// The last picks that were not idle.
+    pub journal: VecDeque<PickEntry>,
+}
+
+// How many picks are kept.
+const KEPT: usize = 65_536;
+
+// What a life has spent.
+fn spent_of(life: &Life) -> u64
+    requires fine { (h : SharedOf) × (w : ℕ) × FineLife h w life.now }
+    ensures { (h : SharedOf) (w : ℕ) → result ≡ (image (life_seen h w life.now)).spent }
+{
+    match &life.turn {
+        None => life.records.spent,
+        Some(turn) => life.records.spent + u64::from(life.grant - turn.left),
+    }
+}
+
+/// What the life in this place has spent.
+pub fn spent_at(crowd: &Crowd, v: u32) -> u64
+    requires there { v < length crowd.now.lives.items }
+    requires accepted { (l : LifeOf) → slice_get crowd.now.lives.items v ≡ Some l → l.accepted ≡ true }
+    requires fine { FineCrowd crowd.now }
+    ensures { (s : Seen) → slice_get (seens_of crowd.now) v ≡ Some s → result ≡ (image s).spent }
+{
+    spent_of(&crowd.lives[v as usize])
+}
+
+// One entry more; of a full journal the oldest is dropped.
+fn keep(journal: &mut VecDeque<PickEntry>, entry: PickEntry) -> Result<(), Memory>
+    requires { length journal.old.items ≤ journal_room }
+    ensures entry { OnOk result (journal.new.items ≡ kept (journal.old.items ++ entry ∷ [])) }
+    ensures short { length journal.new.items ≤ journal_room }
+{
+    if journal.len() >= KEPT {
+        let _oldest = journal.pop_front();
+    }
+    journal.push_back(entry)?;
+    Ok(())
+}
+
+// One life is picked.
+fn pick_one(alloc: Global, crowd: &mut Crowd, v: u32, k: u32) -> Result<Picked, Memory>
+    requires there { v < length crowd.old.lives.items }
+    requires slice { 0 < k }
+    requires accepted { (l : LifeOf) → slice_get crowd.old.lives.items v ≡ Some l → l.accepted ≡ true }
+    requires fine { FineCrowd crowd.old }
+    ensures picked { IfOk result (λ r. PickedAt v k r (seens_of crowd.old) (seens_of crowd.new)) }
+    ensures fine { OnOk result (FineCrowd crowd.new) }
+    ensures few { OnOk result ((n : ℕ) → FewCrowd n crowd.old → FewCrowd n crowd.new) }
+    ensures accepted { (l : LifeOf) → slice_get crowd.new.lives.items v ≡ Some l → l.accepted ≡ true }
+    ensures length { length crowd.new.lives.items ≡ length crowd.old.lives.items }
+    ensures journal { crowd.new.journal.items ≡ crowd.old.journal.items }
+    ensures stays { KeepsCrowd crowd.old crowd.new }
+{
+    pick_life(alloc, &mut crowd.shared, &mut crowd.lives[v as usize], k)
+}
+
+/// One place is picked, and its pick is kept. Where no file was accepted there is nothing to do.
+pub(crate) fn pick_kept(alloc: Global, crowd: &mut Crowd, v: u32, k: u32) -> Result<Picked, Memory>
+    requires there { v < length crowd.old.lives.items }
+    requires slice { 0 < k }
+    requires fine { FineCrowd crowd.old }
+    ensures kept { IfOk result (λ r. Kept v k r (seens_of crowd.old) (seens_of crowd.new) crowd.old.journal.items crowd.new.journal.items) }
+    ensures fine { OnOk result (FineCrowd crowd.new) }
+    ensures few { OnOk result ((n : ℕ) → FewCrowd n crowd.old → FewCrowd n crowd.new) }
+    ensures stays { KeepsCrowd crowd.old crowd.new }
+{
+    if !crowd.lives[v as usize].accepted {
+        return Ok(Picked::Idle);
+    }
+    let before = spent_at(crowd, v);
+    let picked = pick_one(alloc, crowd, v, k)?;
+    if let Picked::Idle = picked {
+        return Ok(picked);
+    }
+    let after = spent_at(crowd, v);
+    keep(
+        &mut crowd.journal,
+        PickEntry {
+            widget: v,
+            before,
+            after,
+            slice: k,
+        },
+    )?;
+    Ok(picked)
+}

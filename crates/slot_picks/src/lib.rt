@@ -1,0 +1,13 @@
+//! The lives of all places of a host, and the slots in which they follow on each other: one slot is picked,
+//! and picks are made until no slot is ready.
+#![tactic(auto)]
+
+mod crowd;
+mod ready;
+mod settling;
+mod slots;
+
+pub use crowd::{Crowd, spent_at};
+pub use ready::ready_slots;
+pub use settling::settle_slots;
+pub use slots::{Slot, pick_slot, present};

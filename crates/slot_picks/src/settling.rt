@@ -1,0 +1,45 @@
+//! Picks of slots, until none is ready.
+ghost use Rattle.std.specs.Prelude.{◌≡◌, ℕ, ◌<◌, OnOk, [], ◌∷◌, map};
+ghost use Rattle.life_laws.specs.Life.{due, image};
+ghost use Rattle.pick_laws.specs.Journal.{ready_from};
+ghost use Rattle.slot_laws.specs.Chains.{last_life};
+ghost use Rattle.slot_laws.specs.Settled.{SettledSlots, slot_flags};
+ghost use Rattle.slot_picks.specs.Crowds.{AreHoused, FewCrowd, KeepsCrowd, chains_of, seens_of};
+ghost use Rattle.slot_picks.specs.Places.{homes_of};
+
+use crate::crowd::Crowd;
+use crate::ready::ready_slots;
+use crate::slots::{Slot, pick_slot};
+use code_units::Memory;
+use std::alloc::Global;
+use turn_sched::Chooser;
+
+/// Slots are picked with this slice until none is ready, each by the chooser's answer to which of the ready
+/// ones is next. No swap waits then, and each life has done all that it had to do.
+pub fn settle_slots<C: Chooser>(
+    alloc: Global,
+    crowd: &mut Crowd,
+    slots: &mut Vec<Slot>,
+    chooser: &mut C,
+    slice: u32,
+) -> Result<(), Memory>
+    requires slice { 0 < slice }
+    requires housed { (born : ℕ) × AreHoused born crowd.old slots.old.items }
+    ensures settled { OnOk result (SettledSlots slice (homes_of crowd.old.lives.items) (chains_of slots.old.items) (chains_of slots.new.items) (seens_of crowd.old) (seens_of crowd.new) crowd.old.journal.items crowd.new.journal.items (C.asks chooser.old) (C.room chooser.old) (C.asks chooser.new) (C.room chooser.new)) }
+    ensures done { OnOk result (map image (seens_of crowd.new) ≡ map due (seens_of crowd.old)) }
+    ensures quiet { OnOk result (ready_from 0 (slot_flags (seens_of crowd.new) (chains_of slots.new.items)) ≡ []) }
+    ensures lasts { OnOk result (chains_of slots.new.items ≡ map (λ c. last_life c ∷ []) (chains_of slots.old.items)) }
+    ensures housed { OnOk result ((born : ℕ) → AreHoused born crowd.old slots.old.items → AreHoused born crowd.new slots.new.items) }
+    ensures few { OnOk result ((n : ℕ) → FewCrowd n crowd.old → FewCrowd n crowd.new) }
+    ensures stays { KeepsCrowd crowd.old crowd.new }
+{
+    'picks: loop {
+        let ready = ready_slots(alloc, crowd, slots)?;
+        if ready.is_empty() {
+            return Ok(());
+        }
+        let at = chooser.next(&ready);
+        let w = ready[at];
+        pick_slot(alloc, crowd, slots, w, slice)?;
+    }
+}
