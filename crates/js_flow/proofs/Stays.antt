@@ -106,7 +106,7 @@ module _ (fs : List Forest) (w : ℕ) (old new : List PlainCell) (g : Grows w ol
   form_same (form.StepTarget op p) h = λ i. step_target op (place_same p h i)
   form_same (form.StepConverted op r p) h = λ i. step_converted op (reference_same w old new g r h.0 i) (place_same p h.1 i)
   form_same (form.AssignTarget op e p) h = λ i. assign_target op (expr_at (forest_at fs p.code) e) (place_same p h.0 i)
-  form_same (form.AssignWith op r v p) h = λ i. assign_with op (reference_same w old new g r h.0 i) (seen_stays w old new g v h.1 i) (place_same p h.2 i)
+  form_same (form.AssignWith a) h = λ i. assign_with a.value.op (reference_same w old new g a.value.of h.0 i) (seen_stays w old new g a.value.has h.1 i) (place_same a.value.place h.2 i)
   form_same (form.Write r p) h = λ i. after (λ v t. write (reference_same w old new g r h.0 i) (place_same p h.1 i) v t (give v))
   form_same (form.And e p) h = λ i. and_right (expr_at (forest_at fs p.code) e) (place_same p h.0 i)
   form_same (form.Or e p) h = λ i. or_right (expr_at (forest_at fs p.code) e) (place_same p h.0 i)
@@ -129,7 +129,7 @@ module _ (fs : List Forest) (w : ℕ) (old new : List PlainCell) (g : Grows w ol
   statement_same (statement.Case v k n p) h = λ i. clause_tested (seen_stays w old new g v h.0 i) (clauses_of (stmt_at (forest_at fs p.code) k)) (drop n (clauses_of (stmt_at (forest_at fs p.code) k))) (place_same p h.1.0 i)
   statement_same (statement.Caught k p) h = λ i. caught (catch_of (stmt_at (forest_at fs p.code) k)) (place_same p h.0 i)
   statement_same (statement.Finally k p) h = λ i. finally (finally_of (stmt_at (forest_at fs p.code) k)) (place_same p h.0 i)
-  statement_same (statement.LastEnd o) h = λ i. last_end (completion_same w old new g o h i)
+  statement_same (statement.LastEnd o) h = λ i. last_end (completion_same w old new g o.value h i)
   statement_same f h = refl
 
   call_same : (f : CallFrame) → FineCallFrame fs w old f → call_taken fs w new f ≡ call_taken fs w old f
@@ -179,7 +179,7 @@ module _ (fs : List Forest) (w : ℕ) (old new : List PlainCell) (g : Grows w ol
   form_fine (form.StepTarget op p) h = place_fine p h
   form_fine (form.StepConverted op r p) h = (reference_fine w old new g r h.0, place_fine p h.1)
   form_fine (form.AssignTarget op e p) h = (place_fine p h.0, h.1)
-  form_fine (form.AssignWith op r v p) h = (reference_fine w old new g r h.0, fine_stays w old new g v h.1, place_fine p h.2)
+  form_fine (form.AssignWith a) h = (reference_fine w old new g a.value.of h.0, fine_stays w old new g a.value.has h.1, place_fine a.value.place h.2)
   form_fine (form.Write r p) h = (reference_fine w old new g r h.0, place_fine p h.1)
   form_fine (form.And e p) h = (place_fine p h.0, h.1)
   form_fine (form.Or e p) h = (place_fine p h.0, h.1)
@@ -204,7 +204,7 @@ module _ (fs : List Forest) (w : ℕ) (old new : List PlainCell) (g : Grows w ol
   statement_fine statement.SwitchEnd h = tt
   statement_fine (statement.Caught k p) h = (place_fine p h.0, h.1)
   statement_fine (statement.Finally k p) h = (place_fine p h.0, h.1)
-  statement_fine (statement.LastEnd o) h = completion_fine w old new g o h
+  statement_fine (statement.LastEnd o) h = completion_fine w old new g o.value h
 
   call_fine : (f : CallFrame) → FineCallFrame fs w old f → FineCallFrame fs w new f
   call_fine (call.Callee e p) h = (place_fine p h.0, h.1)

@@ -20,6 +20,7 @@ use Rattle.js_flow.specs.declared.job.Next.{Next}
 use Rattle.js_flow.specs.declared.job.Next.TheVariants as next
 use Rattle.js_flow.specs.declared.frame.ForInNames.{ForInNames}
 use Rattle.js_flow.specs.declared.frame.Argument.{Argument}
+use Rattle.js_flow.specs.declared.frame.Assigning.{Assigning}
 use Rattle.js_flow.specs.declared.frame.Calling.{Calling}
 use Rattle.js_flow.specs.declared.frame.Gathering.{Gathering}
 use Rattle.js_flow.specs.declared.frame.FormFrame.{FormFrame}
@@ -88,6 +89,9 @@ module _ (fs : List Forest) (w : ℕ) (cells : List PlainCell) where
   FineJob (job.Call c) = FineCall w cells c.value
   FineJob (job.RunNative c) = FineNative w cells c.value
 
+  abbrev pub FineAssigning : Assigning → Type 0
+  FineAssigning a = FineReference w cells a.of × IsFine w cells a.has × IsPlace a.place
+
   abbrev pub FineForm : FormFrame → Type 0
   FineForm (form.Dot x) = Unit {0}
   FineForm (form.TargetDot x) = Unit {0}
@@ -108,7 +112,7 @@ module _ (fs : List Forest) (w : ℕ) (cells : List PlainCell) where
   FineForm (form.StepTarget op p) = IsPlace p
   FineForm (form.StepConverted op r p) = FineReference w cells r × IsPlace p
   FineForm (form.AssignTarget op e p) = IsExprAt e p
-  FineForm (form.AssignWith op r v p) = FineReference w cells r × IsFine w cells v × IsPlace p
+  FineForm (form.AssignWith a) = FineAssigning a.value
   FineForm (form.Write r p) = FineReference w cells r × IsPlace p
   FineForm (form.And e p) = IsExprAt e p
   FineForm (form.Or e p) = IsExprAt e p
@@ -133,7 +137,7 @@ module _ (fs : List Forest) (w : ℕ) (cells : List PlainCell) where
   FineStatement statement.SwitchEnd = Unit {0}
   FineStatement (statement.Caught i p) = IsStmtAt i p
   FineStatement (statement.Finally i p) = IsStmtAt i p
-  FineStatement (statement.LastEnd o) = FineCompletion w cells o
+  FineStatement (statement.LastEnd o) = FineCompletion w cells o.value
 
   abbrev pub FineArgument : Argument → Type 0
   FineArgument a = FineReference w cells a.of × AreFine w cells a.args.items × IsExprAt a.call a.place

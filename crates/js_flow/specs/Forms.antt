@@ -48,7 +48,7 @@ module _ (fs : List Forest) (w : ℕ) (cells : List PlainCell) where
   form_taken (frame.StepTarget op p) = step_target op (place_of w cells p)
   form_taken (frame.StepConverted op r p) = step_converted op (reference_of w cells r) (place_of w cells p)
   form_taken (frame.AssignTarget op e p) = assign_target op (expr_at (forest_at fs p.code) e) (place_of w cells p)
-  form_taken (frame.AssignWith op r v p) = assign_with op (reference_of w cells r) (seen w cells v) (place_of w cells p)
+  form_taken (frame.AssignWith a) = assign_with a.value.op (reference_of w cells a.value.of) (seen w cells a.value.has) (place_of w cells a.value.place)
   form_taken (frame.Write r p) = after (λ v t. write (reference_of w cells r) (place_of w cells p) v t (give v))
   form_taken (frame.And e p) = and_right (expr_at (forest_at fs p.code) e) (place_of w cells p)
   form_taken (frame.Or e p) = or_right (expr_at (forest_at fs p.code) e) (place_of w cells p)

@@ -23,7 +23,7 @@ form_free (form.ConvertedLeft op v d) = 4
 form_free (form.Prefix op p) = 4
 form_free (form.StepTarget op p) = 4
 form_free (form.AssignTarget op e p) = 12
-form_free (form.AssignWith op r v p) = 12
+form_free (form.AssignWith a) = 12
 form_free f = 1
 
 abbrev pub statement_free : StatementFrame → ℕ

@@ -74,4 +74,4 @@ module _ (fs : List Forest) (w : ℕ) (cells : List PlainCell) where
   statement_taken frame.SwitchEnd = switch_end
   statement_taken (frame.Caught i p) = caught (catch_of (stmt_at (forest_at fs p.code) i)) (place_of w cells p)
   statement_taken (frame.Finally i p) = finally (finally_of (stmt_at (forest_at fs p.code) i)) (place_of w cells p)
-  statement_taken (frame.LastEnd o) = last_end (completion_of w cells o)
+  statement_taken (frame.LastEnd o) = last_end (completion_of w cells o.value)

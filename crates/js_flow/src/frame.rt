@@ -46,7 +46,7 @@ pub enum FormFrame {
     /// After the target of an assignment, with its right side; after that, with what the target has;
     /// after what the assignment computes.
     AssignTarget(AssignOp, ExprId, Place),
-    AssignWith(AssignOp, Reference, Value, Place),
+    AssignWith(Box<Assigning>),
     Write(Reference, Place),
     /// After the left of `&&` and of `||`, with the right, and after the condition of `? :`.
     And(ExprId, Place),
@@ -86,7 +86,7 @@ pub enum StatementFrame {
     /// After the block of a `try`, after that and its `catch`, and after its `finally`.
     Caught(StmtId, Place),
     Finally(StmtId, Place),
-    LastEnd(Completion),
+    LastEnd(Box<Completion>),
 }
 
 /// Of a call, a conversion or a native.
@@ -106,6 +106,15 @@ pub enum CallFrame {
     /// After a call of a function with one of these items.
     Each(Box<Calling>),
     Gather(Box<Gathering>),
+}
+
+/// An assignment that computes, whose right side is evaluated, with what its target has.
+#[derive(Drop)]
+pub struct Assigning {
+    pub op: AssignOp,
+    pub of: Reference,
+    pub has: Value,
+    pub place: Place,
 }
 
 /// A call whose arguments are evaluated: those that are there, and those from a number on.

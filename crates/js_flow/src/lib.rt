@@ -7,7 +7,8 @@ mod lists;
 mod task;
 
 pub use frame::{
-    Argument, CallFrame, Calling, ForInNames, FormFrame, Frame, Gathering, Keep, StatementFrame,
+    Argument, Assigning, CallFrame, Calling, ForInNames, FormFrame, Frame, Gathering, Keep,
+    StatementFrame,
 };
 pub use job::{Args, Block, Call, Completion, Job, Listed, NativeCall, Next, Place, Reference};
 pub use lists::{

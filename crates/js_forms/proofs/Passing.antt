@@ -59,7 +59,7 @@ module _ (fs : List Forest) (w : ℕ) (cells : List PlainCell) where
   passed (frame.StepTarget op p) = (omega arith, λ o s h. no_reference o s _ h)
   passed (frame.StepConverted op r p) = (omega arith, λ o s h. no_value o s _ h)
   passed (frame.AssignTarget op e p) = (omega arith, λ o s h. no_reference o s _ h)
-  passed (frame.AssignWith op r v p) = (omega arith, λ o s h. no_value o s _ h)
+  passed (frame.AssignWith a) = (omega arith, λ o s h. no_value o s _ h)
   passed (frame.Write r p) = (omega arith, λ o s h. no_value o s _ h)
   passed (frame.And e p) = (omega arith, λ o s h. no_value o s _ h)
   passed (frame.Or e p) = (omega arith, λ o s h. no_value o s _ h)

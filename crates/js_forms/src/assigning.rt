@@ -13,13 +13,13 @@ ghost use Rattle.js_names.specs.Code.{trees_of};
 ghost use Rattle.js_flow.specs.Parts.{forest_at};
 ghost use Rattle.js_flow.specs.Views.{place_of, reference_of};
 ghost use Rattle.js_flow.specs.Frames.{Plans};
-ghost use Rattle.js_flow.specs.Fine.{FineNext, FineReference, IsExprAt, IsPlace};
+ghost use Rattle.js_flow.specs.Fine.{FineAssigning, FineNext, FineReference, IsExprAt, IsPlace};
 ghost use Rattle.js_flow.specs.Free.{next_free};
 
 use crate::operating::{is_object, operate};
 use crate::reading::{referred, write};
 use code_units::{Memory, WholeRead};
-use js_flow::{CallFrame, Completion, FormFrame, Frame, Job, Next, Place, Reference};
+use js_flow::{Assigning, CallFrame, Completion, FormFrame, Frame, Job, Next, Place, Reference};
 use js_image::StopCause;
 use js_names::Code;
 use js_tree::{AssignOp, BinOp, ExprId, StepOp};
@@ -30,6 +30,7 @@ use std::alloc::Global;
 /// After the target of an assignment: its right side. What the target has is read first, where the
 /// assignment computes.
 pub(crate) fn assign_target(
+    alloc: Global,
     w: u32,
     codes: &Vec<Code>,
     store: &Store,
@@ -52,8 +53,9 @@ pub(crate) fn assign_target(
         )),
         _ => {
             let has = referred(w, codes, store, &of, place)?;
+            let assigning = Assigning { op, of, has, place };
             Ok(Next::Push(
-                Frame::Form(FormFrame::AssignWith(op, of, has, place)),
+                Frame::Form(FormFrame::AssignWith(Box::new(alloc, assigning)?)),
                 Job::Eval(e, place),
             ))
         }
@@ -81,19 +83,24 @@ pub(crate) fn assign_with(
     w: u32,
     codes: &Vec<Code>,
     store: &mut Store,
-    to: (AssignOp, Reference, Value, Place),
+    to: Assigning,
     value: Value,
 ) -> Result<Next, Memory>
     requires widget { w < 32 }
     requires confined { IsConfined (trees_of codes.now.items) w store.old }
-    requires held { FineReference w store.old.cells to.1 × IsFine w store.old.cells to.2 × IsPlace (trees_of codes.now.items) w store.old.cells to.3 × IsFine w store.old.cells value }
+    requires held { FineAssigning (trees_of codes.now.items) w store.old.cells to × IsFine w store.old.cells value }
     ensures plan { IfOk result (Plans (trees_of codes.now.items) w store.old store.new
-        (expressions.assign_with to.0 (reference_of w store.old.cells to.1) (seen w store.old.cells to.2) (place_of w store.old.cells to.3) (meaning.Is (seen w store.old.cells value)))) }
+        (expressions.assign_with to.op (reference_of w store.old.cells to.of) (seen w store.old.cells to.has) (place_of w store.old.cells to.place) (meaning.Is (seen w store.old.cells value)))) }
     ensures fine { IfOk result (FineNext (trees_of codes.now.items) w store.new.cells) }
     ensures near { IfOk result (λ n. next_free n ≤ 12) }
     ensures kept { Kept (trees_of codes.now.items) w store.old store.new }
 {
-    let (op, of, had, place) = to;
+    let Assigning {
+        op,
+        of,
+        has: had,
+        place,
+    } = to;
     match operator(op) {
         Some(op) => Ok(Next::Feed(
             Frame::Form(FormFrame::Write(of, place)),

@@ -135,14 +135,9 @@ fn take_value(
             }
             step_number(alloc, w, codes, store, (op, of, place), &value)
         }
-        FormFrame::AssignWith(op, of, had, place) => assign_with(
-            alloc,
-            w,
-            codes,
-            store,
-            (op, of, had, place),
-            value,
-        ),
+        FormFrame::AssignWith(assigning) => {
+            assign_with(alloc, w, codes, store, Box::into_inner(assigning), value)
+        }
         FormFrame::Write(of, place) => {
             let given = value.share()?;
             write(alloc, w, codes, store, (of, place), (value, given))
@@ -255,7 +250,15 @@ fn take_reference(
     match frame {
         FormFrame::Delete => delete(alloc, w, codes, store, of),
         FormFrame::StepTarget(op, place) => step_target(alloc, w, codes, store, (op, place), of),
-        FormFrame::AssignTarget(op, e, place) => assign_target(w, codes, store, op, (e, place), of),
+        FormFrame::AssignTarget(op, e, place) => assign_target(
+            alloc,
+            w,
+            codes,
+            store,
+            op,
+            (e, place),
+            of,
+        ),
         frame => Ok(pass_reference(frame, of)),
     }
 }

@@ -87,24 +87,30 @@ fn in_catch(
 }
 
 /// After the block and the `catch` of a `try`: its `finally`.
-pub(crate) fn after_catch(codes: &Vec<Code>, id: StmtId, place: Place, how: Completion) -> Next
+pub(crate) fn after_catch(
+    alloc: Global,
+    codes: &Vec<Code>,
+    id: StmtId,
+    place: Place,
+    how: Completion,
+) -> Result<Next, Memory>
     requires code { place.code < length (trees_of codes.now.items) }
     requires stmt { IsStmt (forest_at (trees_of codes.now.items) place.code) id }
-    ensures plan { (w : ℕ) (cells : List PlainCell) (s : State)
-        → planned (trees_of codes.now.items) w cells result s
-        ≡ taken (trees_of codes.now.items) w cells (Frame.Statement (StatementFrame.Finally id place)) (completion_of w cells how) s }
-    ensures fine { (w : ℕ) (cells : List PlainCell) → IsPlaceScope w cells place.scope → FineCompletion w cells how
-        → FineNext (trees_of codes.now.items) w cells result }
-    ensures near { next_free result ≤ 3 }
+    ensures plan { IfOk result (λ n. (w : ℕ) (cells : List PlainCell) (s : State)
+        → planned (trees_of codes.now.items) w cells n s
+        ≡ taken (trees_of codes.now.items) w cells (Frame.Statement (StatementFrame.Finally id place)) (completion_of w cells how) s) }
+    ensures fine { IfOk result (λ n. (w : ℕ) (cells : List PlainCell) → IsPlaceScope w cells place.scope → FineCompletion w cells how
+        → FineNext (trees_of codes.now.items) w cells n) }
+    ensures near { IfOk result (λ n. next_free n ≤ 3) }
 {
     if has_finally(tree_at(codes, place.code), id) {
-        Next::Block(
-            Frame::Statement(StatementFrame::LastEnd(how)),
+        Ok(Next::Block(
+            Frame::Statement(StatementFrame::LastEnd(Box::new(alloc, how)?)),
             Block::Finally(id),
             place,
-        )
+        ))
     } else {
-        Next::Give(how)
+        Ok(Next::Give(how))
     }
 }
 

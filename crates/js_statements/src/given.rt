@@ -95,7 +95,7 @@ fn take_value(
         StatementFrame::Switch(id, place) => Ok(begin_choice(codes, id, value, place)),
         StatementFrame::Case(of, id, n, place) => Ok(after_case(codes, id, n, of, value, place)),
         StatementFrame::Finally(id, place) => {
-            Ok(after_catch(codes, id, place, Completion::Is(value)))
+            after_catch(alloc, codes, id, place, Completion::Is(value))
         }
         // The others pass a value on.
         _ => Ok(Next::Give(Completion::Is(value))),
@@ -131,8 +131,11 @@ fn take_other(
         }
         StatementFrame::SwitchEnd => Ok(Next::Give(after_switch(how))),
         StatementFrame::Caught(id, place) => after_try(alloc, w, codes, store, (id, place), how),
-        StatementFrame::Finally(id, place) => Ok(after_catch(codes, id, place, how)),
-        StatementFrame::LastEnd(before) => Ok(Next::Give(after_finally(before, how))),
+        StatementFrame::Finally(id, place) => after_catch(alloc, codes, id, place, how),
+        StatementFrame::LastEnd(before) => Ok(Next::Give(after_finally(
+            Box::into_inner(before),
+            how,
+        ))),
         // The others wait for a value, and pass all else on.
         _ => Ok(Next::Give(how)),
     }

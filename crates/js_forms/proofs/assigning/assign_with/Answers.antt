@@ -13,8 +13,8 @@ returns-in-Some-clause-plan c =
     let fs = trees_of c.args.codes.now.items in
     let w = c.args.w in
     let s = c.args.store.now in
-    let had = seen w s.cells c.args.to.2 in
+    let had = seen w s.cells c.args.to.has in
     let u = seen w s.cells c.args.value in
-    let p = c.args.to.3 in
-    λ r. sym (ap (λ q. and_then q (after (λ v t. write (reference_of w s.cells c.args.to.1) (place_of w s.cells p) v t (give v))))
+    let p = c.args.to.place in
+    λ r. sym (ap (λ q. and_then q (after (λ v t. write (reference_of w s.cells c.args.to.of) (place_of w s.cells p) v t (give v))))
     (c.operator.ensures had u p.depth (image fs r w s) ∙ ap (λ o. option_map_or (λ b. operate b had u p.depth (image fs r w s)) o (give u (image fs r w s))) c.in-Some.is))

@@ -1,7 +1,7 @@
-use Rattle.std.proofs.Common.{subst}
+use Rattle.std.proofs.Common.{subst, sym}
 use Rattle.js_names.specs.Code.{trees_of}
 use Rattle.js_flow.specs.declared.frame.StatementFrame.{StatementFrame}
-use Rattle.js_flow.specs.Fine.{FineStatement}
+use Rattle.js_flow.specs.Fine.{FineCompletion, FineStatement}
 use Rattle.js_statements.proofs.given.take_other.Goals as goal
 
 pub returns-in-SwitchEnd-clause-fine : goal.returns-in-SwitchEnd-clause-fine
@@ -11,4 +11,5 @@ pub returns-in-LastEnd-clause-fine : goal.returns-in-LastEnd-clause-fine
 returns-in-LastEnd-clause-fine c =
     let fs = trees_of c.args.codes.now.items in
     let cells = c.args.store.now.cells in
-    c.after_finally.ensures.fine c.args.w cells (subst (λ (q : StatementFrame). FineStatement fs c.args.w cells q) c.in-LastEnd.is c.requires.frame) c.requires.how
+    let before = subst (λ (q : StatementFrame). FineStatement fs c.args.w cells q) c.in-LastEnd.is c.requires.frame in
+    c.after_finally.ensures.fine c.args.w cells (subst (FineCompletion c.args.w cells) (sym c.into_inner.ensures) before) c.requires.how
