@@ -1,5 +1,5 @@
 -- Which frames take an abrupt end, and which pass it on.
-use Rattle.std.specs.Prelude.{◌≡◌, List, [], Bool, true, false, length, slice_get, ◌-◌, IfSome, not}
+use Rattle.std.specs.Prelude.{◌≡◌, List, [], Bool, true, false, length, slice_get, ◌-◌, IsSomeAnd, not}
 use Rattle.js_flow.specs.declared.job.Completion.{Completion}
 use Rattle.js_flow.specs.declared.job.Completion.TheVariants as completion
 use Rattle.js_flow.specs.declared.frame.StatementFrame.{StatementFrame}
@@ -54,5 +54,5 @@ takes (frame.Call f) o = call_takes f o
 
 -- what unwinding came to: the last frame that is left takes the end, or none is left
 abbrev pub IsUnwound : List Frame → Completion → Unwound → Type 0
-IsUnwound frames o (unwound.Resumed p) = (p ≡ o) × IfSome (slice_get frames (length frames - 1)) (λ f. takes f o ≡ true)
+IsUnwound frames o (unwound.Resumed p) = (p ≡ o) × IsSomeAnd (slice_get frames (length frames - 1)) (λ f. takes f o ≡ true)
 IsUnwound frames o (unwound.Over p) = (p ≡ o) × (frames ≡ [])

@@ -22,7 +22,7 @@ use crate::jobs::{begin_job, take};
 use crate::stack::{Frames, Unwound};
 use crate::task::Task;
 use code_units::Memory;
-use js_flow::{Completion, Control, Frame, Job, Next, StatementFrame, Stepped};
+use js_flow::{Block, Completion, Control, Frame, Job, Next, Place, StatementFrame, Stepped};
 use js_names::Code;
 use js_values::Meter;
 use object_store::Store;
@@ -36,6 +36,65 @@ pub(crate) fn set(task: &mut Task, control: Control)
     ensures widget { task.new.widget ≡ task.old.widget }
 {
     task.control = control;
+}
+
+// Each word of a task is made in a function of its own: a function pays at its entry for all that its
+// arms may make.
+
+fn set_job(task: &mut Task, job: Job)
+    ensures control { task.new.control ≡ Control.Do job }
+    ensures frames { task.new.frames ≡ task.old.frames }
+    ensures widget { task.new.widget ≡ task.old.widget }
+{
+    set(task, Control::Do(job));
+}
+
+fn set_begun(task: &mut Task, job: Job)
+    ensures control { task.new.control ≡ Control.Begin job }
+    ensures frames { task.new.frames ≡ task.old.frames }
+    ensures widget { task.new.widget ≡ task.old.widget }
+{
+    set(task, Control::Begin(job));
+}
+
+fn set_end(task: &mut Task, how: Completion)
+    ensures control { task.new.control ≡ Control.Give how }
+    ensures frames { task.new.frames ≡ task.old.frames }
+    ensures widget { task.new.widget ≡ task.old.widget }
+{
+    set(task, Control::Give(how));
+}
+
+fn set_normal(task: &mut Task)
+    ensures control { task.new.control ≡ Control.Give Completion.Normal }
+    ensures frames { task.new.frames ≡ task.old.frames }
+    ensures widget { task.new.widget ≡ task.old.widget }
+{
+    set(task, Control::Give(Completion::Normal));
+}
+
+fn set_charge(task: &mut Task, units: usize)
+    ensures control { task.new.control ≡ Control.Pay units }
+    ensures frames { task.new.frames ≡ task.old.frames }
+    ensures widget { task.new.widget ≡ task.old.widget }
+{
+    set(task, Control::Pay(units));
+}
+
+fn set_wait(task: &mut Task, depth: u32)
+    ensures control { task.new.control ≡ Control.Waits depth }
+    ensures frames { task.new.frames ≡ task.old.frames }
+    ensures widget { task.new.widget ≡ task.old.widget }
+{
+    set(task, Control::Waits(depth));
+}
+
+fn set_over(task: &mut Task)
+    ensures control { task.new.control ≡ Control.Over }
+    ensures frames { task.new.frames ≡ task.old.frames }
+    ensures widget { task.new.widget ≡ task.old.widget }
+{
+    set(task, Control::Over);
 }
 
 fn take_control(task: &mut Task) -> Control
@@ -56,6 +115,17 @@ fn push(task: &mut Task, frame: Frame)
     ensures widget { task.new.widget ≡ task.old.widget }
 {
     task.frames.list.push_reserved(frame);
+}
+
+// One more frame, after which come the statements of a block.
+fn push_block(task: &mut Task, block: Block, place: Place)
+    requires room { vec_len task.old.frames.list < vec_capacity task.old.frames.list }
+    ensures control { task.new.control ≡ task.old.control }
+    ensures frames { task.new.frames.list.items ≡ task.old.frames.list.items ++ Frame.Statement (StatementFrame.Seq block 0 place) ∷ [] }
+    ensures room { (vec_len task.new.frames.list ≡ vec_len task.old.frames.list + 1) × (vec_capacity task.new.frames.list ≡ vec_capacity task.old.frames.list) }
+    ensures widget { task.new.widget ≡ task.old.widget }
+{
+    push(task, Frame::Statement(StatementFrame::Seq(block, 0, place)));
 }
 
 // Room for three frames more.
@@ -98,63 +168,63 @@ fn put(task: &mut Task, next: Next) -> Stepped
     match next {
         Next::Push(frame, job) => {
             push(task, frame);
-            set(task, Control::Do(job));
+            set_job(task, job);
             Stepped::Went
         }
         Next::Push2(frame, second, job) => {
             push(task, frame);
             push(task, second);
-            set(task, Control::Do(job));
+            set_job(task, job);
             Stepped::Went
         }
         Next::Go(job) => {
-            set(task, Control::Do(job));
+            set_job(task, job);
             Stepped::Went
         }
         Next::Begin(frame, job) => {
             push(task, frame);
-            set(task, Control::Begin(job));
+            set_begun(task, job);
             Stepped::Went
         }
         Next::Block(frame, block, place) => {
             push(task, frame);
-            push(task, Frame::Statement(StatementFrame::Seq(block, 0, place)));
-            set(task, Control::Give(Completion::Normal));
+            push_block(task, block, place);
+            set_normal(task);
             Stepped::Went
         }
         Next::Block2(frame, second, block, place) => {
             push(task, frame);
             push(task, second);
-            push(task, Frame::Statement(StatementFrame::Seq(block, 0, place)));
-            set(task, Control::Give(Completion::Normal));
+            push_block(task, block, place);
+            set_normal(task);
             Stepped::Went
         }
         Next::Run(block, place) => {
-            push(task, Frame::Statement(StatementFrame::Seq(block, 0, place)));
-            set(task, Control::Give(Completion::Normal));
+            push_block(task, block, place);
+            set_normal(task);
             Stepped::Went
         }
         Next::Give(how) => {
-            set(task, Control::Give(how));
+            set_end(task, how);
             Stepped::Went
         }
         Next::Feed(frame, second, how) => {
             push(task, frame);
             push(task, second);
-            set(task, Control::Give(how));
+            set_end(task, how);
             Stepped::Went
         }
         Next::Pay(frame, units) => {
             push(task, frame);
-            set(task, Control::Pay(units));
+            set_charge(task, units);
             Stepped::Went
         }
         Next::Native(native) => {
-            set(task, Control::Waits(native.depth));
+            set_wait(task, native.depth);
             Stepped::Native(native)
         }
         Next::Stop(cause) => {
-            set(task, Control::Over);
+            set_over(task);
             Stepped::Stop(cause)
         }
     }
@@ -213,10 +283,10 @@ fn set_paid(task: &mut Task)
     ensures widget { task.new.widget ≡ task.old.widget }
 {
     match take_control(task) {
-        Control::Do(job) => set(task, Control::Begin(job)),
-        Control::Pay(_) => set(task, Control::Give(Completion::Normal)),
-        Control::Begin(job) => set(task, Control::Begin(job)),
-        Control::Give(how) => set(task, Control::Give(how)),
+        Control::Do(job) => set_begun(task, job),
+        Control::Pay(_) => set_normal(task),
+        Control::Begin(job) => set_begun(task, job),
+        Control::Give(how) => set_end(task, how),
         _ => unreachable!(),
     }
 }

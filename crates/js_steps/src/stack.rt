@@ -1,5 +1,5 @@
 //! The explicit stack of a task: no form calls another by recursion.
-ghost use Rattle.std.specs.Prelude.{◌≡◌, ℕ, ◌-◌, ◌<◌, ◌≤◌, ◌++◌, List, [], ◌∷◌, IfSome, MatchOption, OnErr, OnOk, length, slice_get, suc, take, false, true};
+ghost use Rattle.std.specs.Prelude.{◌≡◌, ℕ, ◌-◌, ◌<◌, ◌≤◌, ◌++◌, List, [], ◌∷◌, IsSomeAnd, MatchOption, OnErr, OnOk, length, slice_get, suc, take, false, true};
 ghost use Rattle.js_tree.specs.Forest.{Forest};
 ghost use Rattle.store_cells.specs.Cells.{PlainCell};
 ghost use Rattle.widget_meaning.specs.OwnState.{State};
@@ -87,7 +87,7 @@ fn taking(frames: &Vec<Frame>, how: &Completion) -> usize
     ensures within { result ≤ length frames.now.items }
     ensures rest { (fs : List Forest) (w : ℕ) (cells : List PlainCell) (s : State)
         → rest fs w cells (take result frames.now.items) (completion_of w cells how.now) s ≡ rest fs w cells frames.now.items (completion_of w cells how.now) s }
-    ensures last { 0 < result → IfSome (slice_get frames.now.items (result - 1)) (λ f. takes f how.now ≡ true) }
+    ensures last { 0 < result → IsSomeAnd (slice_get frames.now.items (result - 1)) (λ f. takes f how.now ≡ true) }
 {
     let mut left = frames.len();
     'frames: while left > 0 {
@@ -103,7 +103,7 @@ fn taking(frames: &Vec<Frame>, how: &Completion) -> usize
 fn takes_at(frames: &Vec<Frame>, at: usize, how: &Completion) -> bool
     requires within { at < length frames.now.items }
     requires abrupt { IsAbrupt how.now }
-    ensures taken { result ≡ true → IfSome (slice_get frames.now.items at) (λ f. takes f how.now ≡ true) }
+    ensures taken { result ≡ true → IsSomeAnd (slice_get frames.now.items at) (λ f. takes f how.now ≡ true) }
     ensures passed { result ≡ false → (fs : List Forest) (w : ℕ) (cells : List PlainCell) (s : State)
         → rest fs w cells (take at frames.now.items) (completion_of w cells how.now) s ≡ rest fs w cells (take (suc at) frames.now.items) (completion_of w cells how.now) s }
 {

@@ -3,25 +3,25 @@ use Rattle.js_flow.proofs.Follow.{begin_by, block2_by, block_by, feed_by, pay_by
 use Rattle.js_steps.proofs.machine.put.Goals as goal
 
 pub returns-in-Push-clause-plan : goal.returns-in-Push-clause-plan
-returns-in-Push-clause-plan c = λ fs w cells s. push_by fs w cells c.args.task.now.frames.list.items _ c.in-Push.frame c.in-Push.job _ _ s c.set.ensures.control (ap (λ v. v.list.items) c.set.ensures.frames ∙ c.push.ensures.frames) c.in-Push.is
+returns-in-Push-clause-plan c = λ fs w cells s. push_by fs w cells c.args.task.now.frames.list.items _ c.in-Push.frame c.in-Push.job _ _ s c.set_job.ensures.control (ap (λ v. v.list.items) c.set_job.ensures.frames ∙ c.push.ensures.frames) c.in-Push.is
 
 pub returns-in-Push2-clause-plan : goal.returns-in-Push2-clause-plan
-returns-in-Push2-clause-plan c = λ fs w cells s. push2_by fs w cells c.args.task.now.frames.list.items _ _ c.in-Push2.frame c.in-Push2.second c.in-Push2.job _ _ s c.set-in-Push2.ensures.control c.push-in-Push2.ensures.frames (ap (λ v. v.list.items) c.set-in-Push2.ensures.frames ∙ c.push-in-Push2-2.ensures.frames) c.in-Push2.is
+returns-in-Push2-clause-plan c = λ fs w cells s. push2_by fs w cells c.args.task.now.frames.list.items _ _ c.in-Push2.frame c.in-Push2.second c.in-Push2.job _ _ s c.set_job-in-Push2.ensures.control c.push-in-Push2.ensures.frames (ap (λ v. v.list.items) c.set_job-in-Push2.ensures.frames ∙ c.push-in-Push2-2.ensures.frames) c.in-Push2.is
 
 pub returns-in-Begin-clause-plan : goal.returns-in-Begin-clause-plan
-returns-in-Begin-clause-plan c = λ fs w cells s. begin_by fs w cells c.args.task.now.frames.list.items _ c.in-Begin.frame c.in-Begin.job _ _ s c.set-in-Begin.ensures.control (ap (λ v. v.list.items) c.set-in-Begin.ensures.frames ∙ c.push-in-Begin.ensures.frames) c.in-Begin.is
+returns-in-Begin-clause-plan c = λ fs w cells s. begin_by fs w cells c.args.task.now.frames.list.items _ c.in-Begin.frame c.in-Begin.job _ _ s c.set_begun.ensures.control (ap (λ v. v.list.items) c.set_begun.ensures.frames ∙ c.push-in-Begin.ensures.frames) c.in-Begin.is
 
 pub returns-in-Block-clause-plan : goal.returns-in-Block-clause-plan
-returns-in-Block-clause-plan c = λ fs w cells s. block_by fs w cells c.args.task.now.frames.list.items _ _ c.in-Block.frame c.in-Block.block c.in-Block.place _ _ s c.set-in-Block.ensures.control c.push-in-Block.ensures.frames (ap (λ v. v.list.items) c.set-in-Block.ensures.frames ∙ c.push-in-Block-2.ensures.frames) c.in-Block.is
+returns-in-Block-clause-plan c = λ fs w cells s. block_by fs w cells c.args.task.now.frames.list.items _ _ c.in-Block.frame c.in-Block.block c.in-Block.place _ _ s c.set_normal.ensures.control c.push-in-Block.ensures.frames (ap (λ v. v.list.items) c.set_normal.ensures.frames ∙ c.push_block.ensures.frames) c.in-Block.is
 
 pub returns-in-Block2-clause-plan : goal.returns-in-Block2-clause-plan
-returns-in-Block2-clause-plan c = λ fs w cells s. block2_by fs w cells c.args.task.now.frames.list.items _ _ _ c.in-Block2.frame c.in-Block2.second c.in-Block2.block c.in-Block2.place _ _ s c.set-in-Block2.ensures.control c.push-in-Block2.ensures.frames c.push-in-Block2-2.ensures.frames (ap (λ v. v.list.items) c.set-in-Block2.ensures.frames ∙ c.push-in-Block2-3.ensures.frames) c.in-Block2.is
+returns-in-Block2-clause-plan c = λ fs w cells s. block2_by fs w cells c.args.task.now.frames.list.items _ _ _ c.in-Block2.frame c.in-Block2.second c.in-Block2.block c.in-Block2.place _ _ s c.set_normal-in-Block2.ensures.control c.push-in-Block2.ensures.frames c.push-in-Block2-2.ensures.frames (ap (λ v. v.list.items) c.set_normal-in-Block2.ensures.frames ∙ c.push_block-in-Block2.ensures.frames) c.in-Block2.is
 
 pub returns-in-Run-clause-plan : goal.returns-in-Run-clause-plan
-returns-in-Run-clause-plan c = λ fs w cells s. run_by fs w cells c.args.task.now.frames.list.items _ c.in-Run.block c.in-Run.place _ _ s c.set-in-Run.ensures.control (ap (λ v. v.list.items) c.set-in-Run.ensures.frames ∙ c.push-in-Run.ensures.frames) c.in-Run.is
+returns-in-Run-clause-plan c = λ fs w cells s. run_by fs w cells c.args.task.now.frames.list.items _ c.in-Run.block c.in-Run.place _ _ s c.set_normal-in-Run.ensures.control (ap (λ v. v.list.items) c.set_normal-in-Run.ensures.frames ∙ c.push_block-in-Run.ensures.frames) c.in-Run.is
 
 pub returns-in-Feed-clause-plan : goal.returns-in-Feed-clause-plan
-returns-in-Feed-clause-plan c = λ fs w cells s. feed_by fs w cells c.args.task.now.frames.list.items _ _ c.in-Feed.frame c.in-Feed.second c.in-Feed.how _ _ s c.set-in-Feed.ensures.control c.push-in-Feed.ensures.frames (ap (λ v. v.list.items) c.set-in-Feed.ensures.frames ∙ c.push-in-Feed-2.ensures.frames) c.in-Feed.is
+returns-in-Feed-clause-plan c = λ fs w cells s. feed_by fs w cells c.args.task.now.frames.list.items _ _ c.in-Feed.frame c.in-Feed.second c.in-Feed.how _ _ s c.set_end-in-Feed.ensures.control c.push-in-Feed.ensures.frames (ap (λ v. v.list.items) c.set_end-in-Feed.ensures.frames ∙ c.push-in-Feed-2.ensures.frames) c.in-Feed.is
 
 pub returns-in-Pay-clause-plan : goal.returns-in-Pay-clause-plan
-returns-in-Pay-clause-plan c = λ fs w cells s. pay_by fs w cells c.args.task.now.frames.list.items _ c.in-Pay.frame c.in-Pay.units _ _ s c.set-in-Pay.ensures.control (ap (λ v. v.list.items) c.set-in-Pay.ensures.frames ∙ c.push-in-Pay.ensures.frames) c.in-Pay.is
+returns-in-Pay-clause-plan c = λ fs w cells s. pay_by fs w cells c.args.task.now.frames.list.items _ c.in-Pay.frame c.in-Pay.units _ _ s c.set_charge.ensures.control (ap (λ v. v.list.items) c.set_charge.ensures.frames ∙ c.push-in-Pay.ensures.frames) c.in-Pay.is
