@@ -1,0 +1,9 @@
+mod Handing
+mod Due
+mod Numbering
+mod Fresh
+mod Objects
+mod Begun
+mod Joining
+mod Lots
+mod Growing

@@ -1,0 +1,12 @@
+//! What a host begins with: the page of its slots, the trees of their scripts, and the first life of each slot with
+//! its load turns.
+#![tactic(auto)]
+
+mod codes;
+mod laying;
+mod lives;
+mod loading;
+mod opening;
+mod queues;
+
+pub use loading::{Loaded, load_page};

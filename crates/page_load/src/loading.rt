@@ -1,0 +1,64 @@
+//! A page becomes what its host begins with.
+ghost use Rattle.std.specs.Prelude.{◌≡◌, IfOk};
+ghost use Rattle.page_load.specs.Homes.{names_of};
+ghost use Rattle.page_load.specs.Loads.{LoadsPage};
+
+use crate::codes::{library_codes, starts_of};
+use crate::laying::{Base, lay_pieces};
+use crate::lives::lives_of;
+use code_units::{Memory, Text};
+use keyed_names::Keys;
+use life_queue::Life;
+use page_spec::{PageSpec, SlotSpec};
+use std::alloc::Global;
+use turn_calls::Shared;
+
+/// What a host begins with.
+#[derive(Drop)]
+pub struct Loaded {
+    /// The store, the page, and the trees of all scripts.
+    pub shared: Shared,
+    /// Twenty lives, each at the place that is its number: the first life of each slot in order, and behind them the
+    /// rest, which are not accepted.
+    pub lives: Vec<Life>,
+    /// The names of the slots in order.
+    pub names: Vec<Text>,
+    /// The pairs of slots between which posts go.
+    pub channels: Vec<(u32, u32)>,
+}
+
+// The names of the slots.
+fn names_of(alloc: Global, slots: &[SlotSpec]) -> Result<Vec<Text>, Memory>
+    ensures { IfOk result (λ names. names.items ≡ names_of slots.now) }
+{
+    let mut names = Vec::with_capacity(alloc, slots.len())?;
+    'slots: for slot in slots {
+        names.push(slot.name.share()?)?;
+    }
+    Ok(names)
+}
+
+/// Builds the page, piece by piece, and gives each accepted widget the object `lib` and the queue of its load turns:
+/// one for each of its libraries in the order of its scripts, and that of the `go` function. All tables hash by
+/// these keys. What no judged page has is answered like want of memory: more than 16 slots, a slot that does not
+/// stand once among the pieces, in order, a library that is not there, more fuel than a turn may have.
+pub fn load_page(alloc: Global, keys: Keys, spec: PageSpec) -> Result<Loaded, Memory>
+    ensures { IfOk result (LoadsPage spec) }
+{
+    if spec.slots.len() > 16 {
+        return Err(Memory);
+    }
+    let Base { store, page } = lay_pieces(alloc, keys, &spec.pieces, &spec.slots)?;
+    let names = names_of(alloc, &spec.slots)?;
+    let many = spec.libs.len();
+    let mut codes = library_codes(alloc, spec.libs)?;
+    let starts = starts_of(alloc, &mut codes, spec.slots)?;
+    let mut shared = Shared { store, page, codes };
+    let lives = lives_of(alloc, keys, &mut shared, &starts, many)?;
+    Ok(Loaded {
+        shared,
+        lives,
+        names,
+        channels: spec.channels,
+    })
+}
