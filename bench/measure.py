@@ -1,30 +1,42 @@
 """Runs the built program and says what it took."""
 import os
+import subprocess
 import sys
 import tempfile
 
 HERE = os.path.dirname(os.path.abspath(__file__))
 PROGRAM = os.path.abspath(sys.argv[1] if len(sys.argv) > 1 else HERE + "/../crates/adhost/out/adhost")
 
+# A small process that waits for the program, so that the memory which is told is not that of this one.
+WAITS = """
+import os, resource, sys
+child = os.fork()
+if child == 0:
+    resource.setrlimit(resource.RLIMIT_CPU, (120, 120))
+    resource.setrlimit(resource.RLIMIT_AS, (8 << 30, 8 << 30))
+    os.execv(sys.argv[1], sys.argv[1:])
+_, status, used = os.wait4(child, 0)
+time = (used.ru_utime + used.ru_stime) * 1000
+print(os.waitstatus_to_exitcode(status), time, used.ru_maxrss / 1024, file=sys.stderr)
+"""
 
-def run(folder, words):
-    """The status, milliseconds of processor time, megabytes at most, and output of one run."""
-    out = tempfile.TemporaryFile()
-    child = os.fork()
-    if child == 0:
-        os.chdir(folder)
-        os.dup2(out.fileno(), 1)
-        os.execv(PROGRAM, [PROGRAM] + words)
-    _, status, used = os.wait4(child, 0)
-    out.seek(0)
-    time = (used.ru_utime + used.ru_stime) * 1000
-    return os.waitstatus_to_exitcode(status), time, used.ru_maxrss / 1024, out.read().decode()
+
+def run(folder, words, program=PROGRAM):
+    """The status, milliseconds of processor time, megabytes at most, and output of one run.
+
+    A run that takes more than 120 seconds is ended (its status is -9); one that asks for more than 8 GB
+    meets want of memory.
+    """
+    command = [sys.executable, "-S", "-E", "-c", WAITS, program] + words
+    ran = subprocess.run(command, cwd=folder, stdout=subprocess.PIPE, stderr=subprocess.PIPE)
+    status, time, memory = ran.stderr.split()[-3:]
+    return int(status), float(time), float(memory), ran.stdout.decode()
 
 
-def best(files, words, times=7):
+def best(files, words, times=7, program=PROGRAM):
     """The same over these files: the least time of some runs."""
     with tempfile.TemporaryDirectory() as folder:
         for name, text in files.items():
             with open(os.path.join(folder, name), "w") as file:
                 file.write(text)
-        return min((run(folder, words) for _ in range(times)), key=lambda result: result[1])
+        return min((run(folder, words, program) for _ in range(times)), key=lambda result: result[1])
