@@ -1,0 +1,127 @@
+-- What a host is after an item was given.
+use Rattle.std.proofs.Common.{◌≡◌, ℕ, ◌+◌, ◌/◌, ◌<◌, ◌≤◌, List, map, length, Bool, false, refl, sym, ap, ◌∙◌, subst, arith, Some}
+use Rattle.std.specs.Prelude.{slice_get, slice_index_or, ◌&&◌}
+use Rattle.std.proofs.Math.Nat.{div-le_of_le-mul}
+use Rattle.life_laws.specs.Life as todo
+use Rattle.life_laws.specs.Life.{Seen, due, image, potential}
+use Rattle.pick_laws.specs.Journal.{AllJoined}
+use Rattle.pick_laws.proofs.Given.{joined_given}
+use Rattle.slot_laws.specs.Chains.{Chains, Rest, Unspent}
+use Rattle.slot_laws.proofs.Housing.{unspent_given}
+use Rattle.turn_calls.specs.declared.turn.Shared.{Shared}
+use Rattle.life_queue.specs.declared.life.Life.{Life}
+use Rattle.life_queue.specs.Lives as lives
+use Rattle.life_queue.specs.Lives.{trees_in}
+use Rattle.life_queue.specs.Fine.{FineWork}
+use Rattle.page_spec.specs.Pages.{PagePiece}
+use Rattle.page_build.specs.Layout as layout
+use Rattle.slot_picks.specs.Places.{FewPlaces, FinePlaces, accepts_of, homes_of, seens_from}
+use Rattle.slot_picks.specs.Crowds.{FewCrowd, FineCrowd, chains_of, seens_of}
+use Rattle.widget_host.specs.declared.host.Host.{Host}
+use Rattle.widget_host.specs.declared.items.HostItem.{HostItem}
+use Rattle.widget_host.specs.declared.items.HostItem.TheVariants as host
+use Rattle.widget_host.specs.Housed.{GivesItem, IsItem, IsLaid, IsWhole, accepts, chains, given, homes, is_for, item_of, journal, most_after, reaches, rooted, seens}
+use Rattle.widget_host.specs.Feeding.{AreFed, work_of}
+use Rattle.widget_host.proofs.Lasts.{not_for}
+use Rattle.widget_host.proofs.Fed.{accepts_fed, counts_fed, dues_fed, homes_fed, images_fed, length_fed, other_fed, places_fed}
+use Rattle.widget_host.proofs.Shown.{accepts_at}
+
+-- an item as its meaning has it
+pub work_is : (h : Shared) (i : HostItem) → lives.work_of (trees_in h) (work_of i) ≡ todo.Given (item_of i)
+work_is h (host.Event to e) = refl
+work_is h (host.Advance ms) = refl
+
+script_is : (h : Shared) (i : HostItem) → FineWork (trees_in h) (work_of i)
+script_is h (host.Event to e) = tt
+script_is h (host.Advance ms) = tt
+
+-- how much an item may make
+small : (h : Shared) (i : HostItem) (n : ℕ) → IsItem i n → potential (lives.work_of (trees_in h) (work_of i)) ≤ 400000
+small h (host.Event to e) n shape = omega arith
+small h (host.Advance ms) n shape = let most : ms / 10 ≤ 6000 = div-le_of_le-mul 10 (omega (arith, shape)) in omega (arith, most)
+
+-- A host whose lives have the item, and that has counted it.
+module _ (i : HostItem) (old new : Host)
+    (shared : new.crowd.shared ≡ old.crowd.shared)
+    (same_journal : new.crowd.journal ≡ old.crowd.journal)
+    (slots : new.slots ≡ old.slots)
+    (swaps : new.swaps ≡ old.swaps)
+    (counted : new.given ≡ old.given + 1)
+    (fed : AreFed (is_for (chains_of old.slots.items) i) (work_of i) 0 old.crowd.lives.items new.crowd.lives.items)
+  where
+    seens_new : seens_of new.crowd ≡ seens_from old.crowd.shared 0 new.crowd.lives.items
+    seens_new = ap (λ (h : Shared). seens_from h 0 new.crowd.lives.items) shared
+
+    images : map image (seens_of new.crowd) ≡ map image (seens_of old.crowd)
+    images = ap (map image) seens_new ∙ images_fed (is_for (chains_of old.slots.items) i) (work_of i) old.crowd.shared 0 old.crowd.lives.items new.crowd.lives.items fed
+
+    accepted : accepts_of new.crowd.lives.items ≡ accepts_of old.crowd.lives.items
+    accepted = accepts_fed (is_for (chains_of old.slots.items) i) (work_of i) 0 old.crowd.lives.items new.crowd.lives.items fed
+
+    housed_at : homes_of new.crowd.lives.items ≡ homes_of old.crowd.lives.items
+    housed_at = homes_fed (is_for (chains_of old.slots.items) i) (work_of i) 0 old.crowd.lives.items new.crowd.lives.items fed
+
+    laid_still : (names : List (List ℕ)) (pieces : List PagePiece) → IsLaid old names pieces → IsLaid new names pieces
+    unfolding IsLaid
+    laid_still names pieces laid =
+        subst (λ (flags : List Bool). layout.IsLaid new.crowd.shared.page names (rooted flags 0 names) pieces) (sym accepted)
+        (subst (λ (h : Shared). layout.IsLaid h.page names (rooted (accepts_of old.crowd.lives.items) 0 names) pieces) (sym shared) laid)
+
+    pub gives_item : GivesItem i old new
+    unfolding seens chains homes accepts given journal
+    gives_item = record {
+      dues = ap (map due) seens_new ∙ dues_fed (is_for (chains_of old.slots.items) i) (work_of i) old.crowd.shared old i 0 old.crowd.lives.items new.crowd.lives.items (work_is old.crowd.shared i) for_it fed;
+      images = images;
+      chains = ap chains_of (ap (λ s. s.items) slots);
+      homes = housed_at;
+      accepts = λ v. ap (λ (flags : List Bool). slice_index_or flags v false) accepted;
+      given = counted;
+      journal = ap (λ j. j.items) same_journal;
+      laid = laid_still;
+    }
+      where
+        for_it : (k : ℕ) (l : Life) → slice_get old.crowd.lives.items k ≡ Some l → reaches old i (0 + k) ≡ (l.accepted && is_for (chains_of old.slots.items) i (0 + k))
+        for_it k l at =
+            let e : k ≡ 0 + k = omega arith in
+            subst (λ (n : ℕ). reaches old i n ≡ (l.accepted && is_for (chains_of old.slots.items) i n)) e (ap (λ (b : Bool). b && is_for (chains_of old.slots.items) i k) (accepts_at old.crowd.lives.items k l at))
+
+    module _ (whole : IsWhole old) (room : old.given < 4096) (shape : IsItem i (length (chains_of old.slots.items))) where
+      rest_still : Rest (chains_of old.slots.items) (seens_of new.crowd)
+      rest_still v s out at =
+          let e : v ≡ 0 + v = omega arith in
+          let none : is_for (chains_of old.slots.items) i (0 + v) ≡ false = subst (λ (n : ℕ). is_for (chains_of old.slots.items) i n ≡ false) e (not_for (homes_of old.crowd.lives.items) (16 + old.swaps) v (chains_of old.slots.items) i whole.slots.chains shape out) in
+          whole.slots.rest v s out (sym (other_fed (is_for (chains_of old.slots.items) i) (work_of i) old.crowd.shared 0 v old.crowd.lives.items new.crowd.lives.items fed none) ∙ (sym (ap (λ (ss : List Seen). slice_get ss v) seens_new) ∙ at))
+
+      crowd_still : FineCrowd new.crowd
+      crowd_still =
+          let much = small old.crowd.shared i (length (chains_of old.slots.items)) shape in
+          record {
+            places = length_fed (is_for (chains_of old.slots.items) i) (work_of i) 0 old.crowd.lives.items new.crowd.lives.items fed ∙ whole.slots.crowd.places;
+            fine = subst (λ (h : Shared). FinePlaces h 0 new.crowd.lives.items) (sym shared)
+                (places_fed (is_for (chains_of old.slots.items) i) (work_of i) old.crowd.shared 0 (most_after old.given) old.crowd.lives.items new.crowd.lives.items (script_is old.crowd.shared i) (omega (arith, much, room)) fed whole.room whole.slots.crowd.fine);
+            short = subst (λ j. length j.items ≤ 65536) (sym same_journal) whole.slots.crowd.short;
+          }
+
+      room_still : FewCrowd (most_after new.given) new.crowd
+      room_still =
+          let much = small old.crowd.shared i (length (chains_of old.slots.items)) shape in
+          subst (λ (h : Shared). FewPlaces h (most_after new.given) 0 new.crowd.lives.items) (sym shared)
+          (counts_fed (is_for (chains_of old.slots.items) i) (work_of i) old.crowd.shared 0 (most_after old.given) (most_after new.given) old.crowd.lives.items new.crowd.lives.items (omega (arith, much, counted)) fed whole.room)
+
+      pub gives_whole : IsWhole new
+      gives_whole = record {
+        slots = record {
+          crowd = crowd_still;
+          slots = subst (λ s. length s.items ≤ 16) (sym slots) whole.slots.slots;
+          few = subst (λ n. 16 + n ≤ 20) (sym swaps) whole.slots.few;
+          chains = subst (λ s. Chains (homes_of new.crowd.lives.items) (16 + new.swaps) 0 (chains_of s.items)) (sym slots)
+              (subst (λ hs. Chains hs (16 + new.swaps) 0 (chains_of old.slots.items)) (sym housed_at)
+              (subst (λ n. Chains (homes_of old.crowd.lives.items) (16 + n) 0 (chains_of old.slots.items)) (sym swaps) whole.slots.chains));
+          unspent = subst (λ n. Unspent (16 + n) (seens_of new.crowd)) (sym swaps) (unspent_given (16 + old.swaps) (seens_of old.crowd) (seens_of new.crowd) images whole.slots.unspent);
+          joined = subst (λ j. AllJoined j.items (seens_of new.crowd)) (sym same_journal) (joined_given old.crowd.journal.items (seens_of old.crowd) (seens_of new.crowd) images whole.slots.joined);
+          rest = subst (λ s. Rest (chains_of s.items) (seens_of new.crowd)) (sym slots) rest_still;
+        };
+        room = room_still;
+        given = omega (arith, counted, room);
+        swaps = subst (λ n. n ≤ 4) (sym swaps) whole.swaps;
+      }

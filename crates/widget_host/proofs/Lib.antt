@@ -1,0 +1,6 @@
+mod Lasts
+mod Fed
+mod Shown
+mod Given
+mod Staying
+mod Firsts

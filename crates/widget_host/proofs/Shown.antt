@@ -1,0 +1,153 @@
+-- What is seen of a life, and what slots show of it.
+use Rattle.std.proofs.Common.{◌≡◌, ℕ, zero, suc, ◌+◌, ◌<◌, List, [], ◌∷◌, length, Bool, true, false, refl, sym, ap, ◌∙◌, subst, arith, Option, Some, None, get_or}
+use Rattle.std.specs.Prelude.{slice_get, slice_index_or, if◌then◌else◌}
+use Rattle.std.specs.Option.{option_map}
+use Rattle.std.proofs.lemmas.List.{length-map}
+use Rattle.std.proofs.lemmas.Option.{slice_get_read}
+use Rattle.page_image.specs.Image.{forest}
+use Rattle.life_laws.specs.Life.{Going, Seen, image, shown}
+use Rattle.widget_meaning.specs.OwnState.{OwnState}
+use Rattle.turn_calls.specs.declared.turn.Shared.{Shared}
+use Rattle.life_queue.specs.declared.life.Life.{Life}
+use Rattle.life_queue.specs.Lives.{going_of, life_seen, own_of, trees_in}
+use Rattle.life_queue.specs.Fine.{FineLife}
+use Rattle.js_image.specs.Held.{IsConfined}
+use Rattle.slot_picks.specs.declared.slots.Slot.{Slot}
+use Rattle.slot_picks.specs.Crowds.{chains_of, seens_of}
+use Rattle.slot_laws.specs.Slots.{Each}
+use Rattle.slot_laws.specs.Chains.{IsChain}
+use Rattle.slot_picks.specs.Places.{FinePlaces, accepts_of, homes_of, seen_at, seens_from}
+use Rattle.page_lines.specs.Ends.{AreEnds}
+use Rattle.widget_host.specs.declared.host.Host.{Host}
+use Rattle.widget_host.specs.declared.lines.RunLine.{RunLine}
+use Rattle.widget_host.specs.Housed.{AreShown, IsHoused, IsLineOf, IsShown, IsWhole, accepts, chains, marked, present, rooted, seens, trees}
+use Rattle.widget_host.proofs.Lasts.{slot_chain, some_is}
+use Rattle.widget_host.proofs.Fed.{seen_accepted}
+
+-- ## A life by its number
+
+pub accepts_at : (ls : List Life) (k : ℕ) (l : Life) → slice_get ls k ≡ Some l → slice_index_or (accepts_of ls) k false ≡ l.accepted
+accepts_at [] k l at = cc
+accepts_at (y ∷ ls) zero l at = ap (λ (z : Life). z.accepted) (some_is y l at)
+accepts_at (y ∷ ls) (suc k) l at = accepts_at ls k l at
+
+-- the life of which this is seen
+pub life_at : (h : Shared) (v k : ℕ) (ls : List Life) (s : Seen) → slice_get (seens_from h v ls) k ≡ Some s → (l : Life) × (slice_get ls k ≡ Some l) × (seen_at h (v + k) l ≡ s)
+life_at h v k [] s at = cc
+life_at h v zero (y ∷ ls) s at = let e : v ≡ v + 0 = omega arith in (y, refl, subst (λ n. seen_at h n y ≡ s) e (some_is (seen_at h v y) s at))
+life_at h v (suc k) (y ∷ ls) s at =
+    let r = life_at h (v + 1) k ls s at in
+    let e : (v + 1) + k ≡ v + suc k = omega arith in
+    (r.0, r.1, subst (λ n. seen_at h n r.0 ≡ s) e r.2)
+
+-- and what is seen of an accepted one
+pub seen_of_life : (h : Shared) (k : ℕ) (ls : List Life) (l : Life) (s : Seen) → slice_get ls k ≡ Some l → slice_index_or (accepts_of ls) k false ≡ true → slice_get (seens_from h 0 ls) k ≡ Some s → s ≡ life_seen h k l
+seen_of_life h k ls l s at accepted there =
+    let r = life_at h 0 k ls s there in
+    let same : r.0 ≡ l = some_is r.0 l (sym r.1 ∙ at) in
+    let e : 0 + k ≡ k = omega arith in
+    sym r.2 ∙ ap (λ (y : Life). seen_at h (0 + k) y) same ∙ ap (λ n. seen_at h n l) e ∙ seen_accepted h k l (sym (accepts_at ls k l at) ∙ accepted)
+
+-- an accepted life is sound
+pub fine_at : (h : Shared) (v k : ℕ) (ls : List Life) → FinePlaces h v ls → slice_index_or (accepts_of ls) k false ≡ true → (l : Life) × FineLife h (v + k) l
+fine_at h v k [] fine is = absurd (let e = is in cc)
+fine_at h v zero (y ∷ ls) fine is = let e : v ≡ v + 0 = omega arith in (y, subst (λ n. FineLife h n y) e (fine.0 is))
+fine_at h v (suc k) (y ∷ ls) fine is =
+    let r = fine_at h (v + 1) k ls fine.1 is in
+    let e : (v + 1) + k ≡ v + suc k = omega arith in
+    (r.0, subst (λ n. FineLife h n r.0) e r.1)
+
+-- so it is confined
+pub confined_at : (h : Host) (v : ℕ) → IsHoused h → marked h ≡ false → accepts h v ≡ true → IsConfined (trees h) v h.crowd.shared.store
+unfolding IsHoused accepts trees
+confined_at h v housed unmarked accepted =
+    let e : 0 + v ≡ v = omega arith in
+    subst (λ n. IsConfined (trees_in h.crowd.shared) n h.crowd.shared.store) e (fine_at h.crowd.shared 0 v h.crowd.lives.items (housed unmarked).slots.crowd.fine accepted).1.confined
+
+-- ## What a slot shows
+
+shown_forest : (g : Option Going) (o : OwnState) → (shown g o).forest ≡ o.forest
+shown_forest None o = refl
+shown_forest (Some t) o = refl
+
+life_forest : (h : Shared) (w : ℕ) (l : Life) → (image (life_seen h w l)).forest ≡ forest h.page w
+life_forest h w l = shown_forest (option_map (going_of h w l) l.turn) (own_of h w l)
+
+module _ (h : Host) where
+  one_end : (w : ℕ) (own : OwnState) → IsShown h w (Some own) → own.forest ≡ forest h.crowd.shared.page w
+  unfolding accepts seens
+  one_end w own is =
+      let s = is.1.0 in
+      let r = life_at h.crowd.shared 0 w h.crowd.lives.items s is.1.1 in
+      ap (λ (o : OwnState). o.forest) (sym is.1.2) ∙ ap (λ (t : Seen). (image t).forest) (seen_of_life h.crowd.shared w h.crowd.lives.items r.0 s r.1 is.0 is.1.1) ∙ life_forest h.crowd.shared w r.0
+
+  -- the slots that are shown have the trees of the page
+  pub ends_shown : (w : ℕ) (names : List (List ℕ)) (ends : List (Option OwnState)) → length names ≡ length ends → AreShown h w ends
+      → AreEnds h.crowd.shared.page (rooted (accepts_of h.crowd.lives.items) w names) ends
+  unfolding accepts
+  ends_shown w [] [] e is = tt
+  ends_shown w [] (o ∷ ends) e is = absurd (omega (arith, e))
+  ends_shown w (name ∷ names) [] e is = absurd (omega (arith, e))
+  ends_shown w (name ∷ names) (None ∷ ends) e is =
+      subst (λ (b : Bool). AreEnds h.crowd.shared.page ((if b then Some w else None) ∷ rooted (accepts_of h.crowd.lives.items) (w + 1) names) (None ∷ ends)) (sym is.0)
+      (ends_shown (w + 1) names ends (omega (arith, e)) is.1)
+  ends_shown w (name ∷ names) (Some own ∷ ends) e is =
+      subst (λ (b : Bool). AreEnds h.crowd.shared.page ((if b then Some w else None) ∷ rooted (accepts_of h.crowd.lives.items) (w + 1) names) (Some own ∷ ends)) (sym is.0.0)
+      (one_end w own is.0, ends_shown (w + 1) names ends (omega (arith, e)) is.1)
+
+-- the present life of a slot
+pub present_is : (ss : List Slot) (w v : ℕ) (s : Slot) → slice_get ss w ≡ Some s → slice_get s.lives.items 0 ≡ Some v → present w (chains_of ss) ≡ v
+present_is [] w v s at first = cc
+present_is (t ∷ ss) zero v s at first = by t.lives.items (ap (λ (x : Slot). slice_get x.lives.items 0) (some_is t s at) ∙ first)
+  where
+    by : (vs : List ℕ) → slice_get vs 0 ≡ Some v → present zero (vs ∷ chains_of ss) ≡ v
+    by [] e = cc
+    by (u ∷ us) e = some_is u v e
+present_is (t ∷ ss) (suc w) v s at first = present_is ss w v s at first
+
+-- ## The present life of a slot of a host
+
+first_each : (P : ℕ → Type 0) (xs : List ℕ) (v : ℕ) → slice_get xs 0 ≡ Some v → Each P xs → P v
+first_each P [] v at ps = cc
+first_each P (x ∷ xs) v at ps = subst P (some_is x v at) ps.0
+
+module _ (h : Host) (w : ℕ) (s : Slot) (whole : IsWhole h) (there : w < length (chains h)) (is : s ≡ get_or h.slots.items w s) where
+  pub slot_there : w < length h.slots.items
+  unfolding chains
+  slot_there = omega (arith, there, length-map h.slots.items (λ (x : Slot). x.lives.items))
+
+  slot_at : slice_get h.slots.items w ≡ Some s
+  slot_at = slice_get_read h.slots.items (length h.slots.items) w s refl slot_there is
+
+  chain_of : IsChain (homes_of h.crowd.lives.items) (16 + h.swaps) (0 + w) s.lives.items
+  chain_of = slot_chain (homes_of h.crowd.lives.items) (16 + h.swaps) 0 w h.slots.items s slot_at whole.slots.chains
+
+  pub some_lives : 0 < length s.lives.items
+  some_lives = chain_of.some
+
+  module _ (v : ℕ) (first : slice_get s.lives.items 0 ≡ Some v) where
+    pub life_there : v < length h.crowd.lives.items
+    life_there = let e = first_each (λ u. u < 16 + h.swaps) s.lives.items v first chain_of.below in omega (arith, e, whole.slots.few, whole.slots.crowd.places)
+
+    pub present_at : present w (chains h) ≡ v
+    unfolding chains
+    present_at = present_is h.slots.items w v s slot_at first
+
+    module _ (accepted : accepts h (present w (chains h)) ≡ true) where
+      pub accepted_life : (l : Life) → slice_get h.crowd.lives.items v ≡ Some l → l.accepted ≡ true
+      unfolding accepts
+      accepted_life l at =
+          let flag : slice_index_or (accepts_of h.crowd.lives.items) v false ≡ true = subst (λ (n : ℕ). slice_index_or (accepts_of h.crowd.lives.items) n false ≡ true) present_at accepted in
+          sym (accepts_at h.crowd.lives.items v l at) ∙ flag
+
+      pub line_told : (r : RunLine) (l : Life) (spent : ℕ) (x : Seen) → l ≡ get_or h.crowd.lives.items v l
+          → ((y : Seen) → slice_get (seens_of h.crowd) v ≡ Some y → spent ≡ (image y).spent)
+          → ((k : Shared) (u : ℕ) → spent ≡ (image (life_seen k u l)).spent → IsLineOf r (image (life_seen k u l)))
+          → slice_get (seens h) (present w (chains h)) ≡ Some x → IsLineOf r (image x)
+      unfolding accepts seens
+      line_told r l spent x is_life spends told at =
+          let life_is : slice_get h.crowd.lives.items v ≡ Some l = slice_get_read h.crowd.lives.items (length h.crowd.lives.items) v l refl life_there is_life in
+          let here : slice_get (seens_of h.crowd) v ≡ Some x = subst (λ (n : ℕ). slice_get (seens_of h.crowd) n ≡ Some x) present_at at in
+          let flag : slice_index_or (accepts_of h.crowd.lives.items) v false ≡ true = subst (λ (n : ℕ). slice_index_or (accepts_of h.crowd.lives.items) n false ≡ true) present_at accepted in
+          let same : x ≡ life_seen h.crowd.shared v l = seen_of_life h.crowd.shared v h.crowd.lives.items l x life_is flag here in
+          subst (λ (y : Seen). IsLineOf r (image y)) (sym same) (told h.crowd.shared v (spends x here ∙ ap (λ (y : Seen). (image y).spent) same))

@@ -1,0 +1,64 @@
+use Rattle.std.proofs.Common.{◌≡◌, ◌+◌, ◌∙◌, ℕ, List, ap, arith, false, length, refl, subst, sym, true}
+use Rattle.std.proofs.lemmas.List.{length-map}
+use Rattle.slot_laws.specs.Chains.{Chains}
+use Rattle.slot_picks.specs.declared.slots.Slot.{Slot}
+use Rattle.slot_picks.specs.Crowds.{chains_of}
+use Rattle.slot_picks.specs.Places.{homes_of}
+use Rattle.widget_host.specs.Feeding.{AreFed, work_of}
+use Rattle.widget_host.specs.Housed.{IsHoused, IsItem, IsWhole, chains, given, is_for, marked}
+use Rattle.widget_host.proofs.Given.{gives_item, gives_whole}
+use Rattle.widget_host.proofs.host.Host.give.Goals as goal
+
+pub returns-then-self-clause-mark : goal.returns-then-self-clause-mark
+unfolding marked
+returns-then-self-clause-mark c = c.if-self.true
+
+pub feed_item-requires-clause-shape : goal.feed_item-requires-clause-shape
+unfolding chains
+feed_item-requires-clause-shape c =
+    let same : length (chains_of c.args.self.now.slots.items) ≡ length c.deref.result.now = length-map c.args.self.now.slots.items (λ (s : Slot). s.lives.items) ∙ ap length (sym c.deref.ensures.value) in
+    subst (λ (n : ℕ). IsItem c.args.item n) same c.requires.shape
+
+pub feed_item-requires-clause-born : goal.feed_item-requires-clause-born
+unfolding IsHoused marked
+feed_item-requires-clause-born c =
+    let whole : IsWhole c.args.self.now = c.requires.housed c.if-self.false in (
+      16 + c.args.self.now.swaps,
+      omega (arith, whole.slots.few, whole.slots.crowd.places),
+      subst (λ (ss : List Slot). Chains (homes_of c.args.self.now.crowd.lives.items) (16 + c.args.self.now.swaps) 0 (chains_of ss)) (sym c.deref.ensures.value) whole.slots.chains,
+    )
+
+pub overflow_add-self : goal.overflow_add-self
+unfolding given
+overflow_add-self c = omega (arith, c.requires.room)
+
+pub returns-in-Ok-clause-gives : goal.returns-in-Ok-clause-gives
+returns-in-Ok-clause-gives c =
+    let old = c.args.self.now in
+    gives_item c.args.item old _ refl refl refl refl refl
+    (subst (λ (ss : List Slot). AreFed (is_for (chains_of ss) c.args.item) (work_of c.args.item) 0 old.crowd.lives.items c.feed_item.new.lives.items) c.deref.ensures.value c.in-Ok.ensures)
+
+pub returns-in-Ok-clause-housed : goal.returns-in-Ok-clause-housed
+unfolding IsHoused marked chains given
+returns-in-Ok-clause-housed c =
+    let old = c.args.self.now in
+    let whole : IsWhole old = c.requires.housed c.if-self.false in
+    λ unmarked. gives_whole c.args.item old _ refl refl refl refl refl
+    (subst (λ (ss : List Slot). AreFed (is_for (chains_of ss) c.args.item) (work_of c.args.item) 0 old.crowd.lives.items c.feed_item.new.lives.items) c.deref.ensures.value c.in-Ok.ensures)
+    whole c.requires.room c.requires.shape
+
+pub returns-in-Ok-clause-marked : goal.returns-in-Ok-clause-marked
+unfolding marked
+returns-in-Ok-clause-marked c = λ is. absurd (let both : true ≡ false = sym is ∙ c.if-self.false in cc)
+
+pub returns-in-Ok-clause-unmarked : goal.returns-in-Ok-clause-unmarked
+unfolding marked
+returns-in-Ok-clause-unmarked c = c.if-self.false
+
+pub returns-in-Err-clause-housed : goal.returns-in-Err-clause-housed
+unfolding IsHoused marked
+returns-in-Err-clause-housed c = λ unmarked. absurd (let both : true ≡ false = unmarked in cc)
+
+pub returns-in-Err-clause-mark : goal.returns-in-Err-clause-mark
+unfolding marked
+returns-in-Err-clause-mark c = refl

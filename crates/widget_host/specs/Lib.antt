@@ -1,0 +1,2 @@
+pub mod Housed
+pub mod Feeding

@@ -1,0 +1,14 @@
+//! The host: one store and one page, the lives of all places, and the slots in which they follow on each
+//! other. It loads a page, is given items, picks lives, and tells what they did.
+#![tactic(auto)]
+
+mod giving;
+mod host;
+mod items;
+mod lines;
+mod loading;
+mod running;
+
+pub use host::Host;
+pub use items::HostItem;
+pub use lines::{RunLine, Stop};

@@ -1,0 +1,89 @@
+//! What a life did.
+ghost use Rattle.std.specs.Prelude.{◌≡◌, ◌<◌, ℕ, IfOk, Some, true, option_map, slice_get, length};
+ghost use Rattle.life_laws.specs.Life.{Seen, image};
+ghost use Rattle.life_queue.specs.Lives as life;
+ghost use Rattle.life_queue.specs.Lives.{life_seen};
+ghost use Rattle.turn_calls.specs.declared.turn.Shared.{Shared as SharedOf};
+ghost use Rattle.widget_host.specs.Housed.{IsHoused, IsLineOf, accepts, chains, meant_stop, present, seens};
+
+use crate::host::Host;
+use code_units::{Memory, Text};
+use js_image::StopCause;
+use life_queue::Life;
+use slot_picks::{present, spent_at};
+use std::alloc::Global;
+
+/// Why a life has stopped: a turn had no fuel left, or a limit would have been passed.
+#[derive(Clone, Copy, Drop)]
+pub enum Stop {
+    Fuel,
+    Limit(StopCause),
+}
+
+/// What a life did: its turns and the fuel that they spent, the events that led to no node and those that
+/// came after its stop, what it logged, and the throws that nothing caught.
+#[derive(Drop)]
+pub struct RunLine {
+    pub stop: Option<Stop>,
+    pub turns: u32,
+    pub spent: u64,
+    pub missed: u32,
+    pub gone: u32,
+    pub log: Vec<Text>,
+    pub uncaught: Vec<Text>,
+}
+
+// Why a life has stopped, if it has.
+fn stop_of(stop: Option<js_steps::Stop>) -> Option<Stop>
+    ensures { option_map life.meant_stop stop ≡ option_map meant_stop result }
+{
+    match stop {
+        None => None,
+        Some(js_steps::Stop::Fuel) => Some(Stop::Fuel),
+        Some(js_steps::Stop::Due(cause)) => Some(Stop::Limit(cause)),
+    }
+}
+
+// The same texts for a second holder.
+fn share_all(alloc: Global, texts: &[Text]) -> Result<Vec<Text>, Memory>
+    ensures { IfOk result (λ all. all.items ≡ texts.now) }
+{
+    let mut all = Vec::new(alloc);
+    'texts: for text in texts {
+        all.push(text.share()?)?;
+    }
+    Ok(all)
+}
+
+// What a life did that has spent so much.
+fn line_of(alloc: Global, life: &Life, spent: u64) -> Result<RunLine, Memory>
+    ensures { IfOk result (λ l. (h : SharedOf) (w : ℕ) → spent ≡ (image (life_seen h w life.now)).spent → IsLineOf l (image (life_seen h w life.now))) }
+{
+    let records = &life.records;
+    Ok(RunLine {
+        stop: stop_of(records.stop),
+        turns: records.turns,
+        spent,
+        missed: records.missed,
+        gone: records.gone,
+        log: share_all(alloc, &life.widget.log)?,
+        uncaught: share_all(alloc, &records.uncaught)?,
+    })
+}
+
+impl Host {
+    /// What the present life of a slot did.
+    pub fn line(&self, alloc: Global, w: u32) -> Result<RunLine, Memory>
+        requires housed { IsHoused self.now }
+        requires there { w < length (chains self.now) }
+        requires accepted { accepts self.now (present w (chains self.now)) ≡ true }
+        ensures { IfOk result (λ l. (s : Seen) → slice_get (seens self.now) (present w (chains self.now)) ≡ Some s → IsLineOf l (image s)) }
+    {
+        if self.marked {
+            return Err(Memory);
+        }
+        let v = present(&self.slots[w as usize].lives);
+        let spent = spent_at(&self.crowd, v);
+        line_of(alloc, &self.crowd.lives[v as usize], spent)
+    }
+}

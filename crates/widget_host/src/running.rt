@@ -1,0 +1,81 @@
+//! Picks of slots, and picks until no slot is ready.
+#![tactic(auto, unfolding(crate::specs::Housed::IsHoused, crate::specs::Housed::accepts, crate::specs::Housed::chains, crate::specs::Housed::given, crate::specs::Housed::homes, crate::specs::Housed::journal, crate::specs::Housed::marked, crate::specs::Housed::seens))]
+
+ghost use Rattle.std.specs.Prelude.{◌≡◌, ◌<◌, ◌∷◌, [], ℕ, List, IfOk, IsErr, OnErr, OnOk, false, true, length, map};
+ghost use Rattle.life_laws.specs.Life.{due, image};
+ghost use Rattle.page_spec.specs.Pages.{PagePiece};
+ghost use Rattle.pick_laws.specs.Journal.{ready_from};
+ghost use Rattle.slot_laws.specs.Chains.{PickedIn, last_life};
+ghost use Rattle.slot_laws.specs.Settled.{SettledSlots, slot_flags};
+ghost use Rattle.widget_host.specs.Housed.{IsHoused, IsLaid, accepts, chains, given, homes, journal, marked, seens};
+
+use crate::host::Host;
+use code_units::Memory;
+use pick_laws::Picked;
+use slot_picks::{pick_slot, settle_slots};
+use std::alloc::Global;
+use turn_sched::Chooser;
+
+impl Host {
+    /// Carries on the turn of a slot, or the first that the queues of its lives begin, until the units are
+    /// spent or the turn is over. Swaps that wait are taken where a life has nothing left.
+    pub fn pick(&mut self, alloc: Global, w: u32, k: u32) -> Result<Picked, Memory>
+        requires housed { IsHoused self.old }
+        requires there { w < length (chains self.old) }
+        requires slice { 0 < k }
+        ensures picked { IfOk result (λ r. PickedIn w k r (chains self.old) (chains self.new) (seens self.old) (seens self.new) (journal self.old) (journal self.new)) }
+        ensures homes { OnOk result (homes self.new ≡ homes self.old) }
+        ensures given { OnOk result (given self.new ≡ given self.old) }
+        ensures accepts { OnOk result ((v : ℕ) → accepts self.new v ≡ accepts self.old v) }
+        ensures laid { OnOk result ((names : List (List ℕ)) (pieces : List PagePiece) → IsLaid self.old names pieces → IsLaid self.new names pieces) }
+        ensures housed { IsHoused self.new }
+        ensures marked { marked self.old ≡ true → IsErr result }
+        ensures mark { OnErr result (marked self.new ≡ true) }
+        ensures unmarked { OnOk result (marked self.new ≡ false) }
+    {
+        if self.marked {
+            return Err(Memory);
+        }
+        match pick_slot(alloc, &mut self.crowd, &mut self.slots, w, k) {
+            Ok(picked) => Ok(picked),
+            Err(fault) => {
+                self.marked = true;
+                Err(fault)
+            }
+        }
+    }
+
+    /// Picks are made until no slot is ready: of the slots that are, the one that the chooser takes.
+    pub fn settle<C: Chooser>(
+        &mut self,
+        alloc: Global,
+        chooser: &mut C,
+        slice: u32,
+    ) -> Result<(), Memory>
+        requires housed { IsHoused self.old }
+        requires slice { 0 < slice }
+        ensures settled { OnOk result (SettledSlots slice (homes self.old) (chains self.old) (chains self.new) (seens self.old) (seens self.new) (journal self.old) (journal self.new) (C.asks chooser.old) (C.room chooser.old) (C.asks chooser.new) (C.room chooser.new)) }
+        ensures done { OnOk result (map image (seens self.new) ≡ map due (seens self.old)) }
+        ensures quiet { OnOk result (ready_from 0 (slot_flags (seens self.new) (chains self.new)) ≡ []) }
+        ensures chains { OnOk result (chains self.new ≡ map (λ c. last_life c ∷ []) (chains self.old)) }
+        ensures homes { OnOk result (homes self.new ≡ homes self.old) }
+        ensures given { OnOk result (given self.new ≡ given self.old) }
+        ensures accepts { OnOk result ((v : ℕ) → accepts self.new v ≡ accepts self.old v) }
+        ensures laid { OnOk result ((names : List (List ℕ)) (pieces : List PagePiece) → IsLaid self.old names pieces → IsLaid self.new names pieces) }
+        ensures housed { IsHoused self.new }
+        ensures marked { marked self.old ≡ true → IsErr result }
+        ensures mark { OnErr result (marked self.new ≡ true) }
+        ensures unmarked { OnOk result (marked self.new ≡ false) }
+    {
+        if self.marked {
+            return Err(Memory);
+        }
+        match settle_slots(alloc, &mut self.crowd, &mut self.slots, chooser, slice) {
+            Ok(()) => Ok(()),
+            Err(fault) => {
+                self.marked = true;
+                Err(fault)
+            }
+        }
+    }
+}
