@@ -25,5 +25,6 @@ fn main(rt: HostRuntime) -> ExitCode {
     }
     let mut files = RealFiles { rt: &rt, faults: 0 };
     let mut sink = RealSink { rt: &rt, faults: 0 };
-    ExitCode::from(run(rt.alloc(), &words, &mut files, &mut sink).number())
+    let mut stage = None;
+    ExitCode::from(run(rt.alloc(), &words, &mut files, &mut sink, &mut stage).number())
 }

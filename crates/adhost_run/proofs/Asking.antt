@@ -1,8 +1,8 @@
 -- Words are of one form at most, and of none where no form fits.
-use Rattle.std.proofs.Common.{◌≡◌, ℕ, List, [], ◌∷◌, codes, Option, Some, None, Bool, true, false, refl, sym, ap, subst, ◌∙◌, if◌then◌else◌}
+use Rattle.std.proofs.Common.{◌≡◌, ℕ, List, [], ◌∷◌, codes, Option, Some, None, true, refl, sym, subst, ◌∙◌, if◌then◌else◌}
 use Rattle.std.specs.Str.{bytes_eq}
 use Rattle.std.proofs.lemmas.Slice.Eq.{bytes_eq-Decides}
-use Rattle.adhost_run.specs.Request.{Request, Check, CheckLib, Tidy, Render, Replay, Audit, CheckAudit, Demo, IsCount, slice_limit, demo_limit, Asks, check, check_lib, tidy, render, replay, audit, check_audit, demo, IsForm, is_built}
+use Rattle.adhost_run.specs.Request.{Request, Check, CheckLib, Tidy, Render, Replay, Audit, CheckAudit, Demo, IsCount, slice_limit, demo_limit, Asks, check, check_lib, tidy, render, replay, audit, check_audit, demo, is_built}
 use Rattle.adhost_run.proofs.Gathered.{some_is}
 
 -- a request without its number

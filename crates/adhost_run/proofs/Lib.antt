@@ -5,7 +5,15 @@ pub mod Asking
 pub mod Pieces
 pub mod Names
 pub mod Manifests
+pub mod Stepping
+pub mod Staging
+pub mod Gotten
 pub mod Reported
 pub mod Paged
+pub mod Delivery
+pub mod Ordered
+pub mod PlayedLemmas
+pub mod PageReports
 pub mod OneAnswer
+pub mod Agreeing
 pub mod Ended

@@ -1,17 +1,22 @@
--- Bytes are one manifest, as far as it names slots and files.
-use Rattle.std.proofs.Common.{◌≡◌, ℕ, List, [], ◌∷◌, ◌++◌, map, refl, sym, ap, subst, ◌∙◌}
+-- Bytes are one manifest, as far as it names slots and files; and it has few slots, of distinct names.
+use Rattle.std.proofs.Common.{◌≡◌, ℕ, List, [], ◌∷◌, ◌++◌, map, Option, Result, Ok, Err, IfOk, refl, sym, ap, ◌∙◌}
 use Rattle.std.specs.Prelude.{string_bytes}
 use Rattle.std.specs.List.{flat_map}
-use Rattle.json_shapes.specs.declared.fault.ShapeFault.{ShapeFault}
-use Rattle.json_shapes.specs.declared.fault.ShapeFault.TheVariants as fault
+use Rattle.serde_json.specs.Data.{Data}
+use Rattle.json_shapes.specs.Each.{Each, none_left, one_each}
+use Rattle.json_shapes.specs.Json.{judged_version}
+use Rattle.manifest_shape.specs.declared.slot.PageEntry.{PageEntry}
+use Rattle.manifest_shape.specs.declared.slot.PageEntry.TheVariants as shaped
+use Rattle.manifest_shape.specs.Slots.{IsEntry, entry_names, names_in, are_slots}
+use Rattle.manifest_shape.proofs.PageLemmas.{named_entry}
 use Rattle.manifest_reader.specs.declared.entry.Entry.{Entry}
 use Rattle.manifest_reader.specs.declared.entry.Entry.TheVariants as entry
 use Rattle.manifest_reader.specs.declared.entry.Manifest.{Manifest}
-use Rattle.manifest_reader.specs.Page.{Part, Markup, Widget, part_of}
-use Rattle.manifest_reader.specs.Manifest.{IsManifest, IsManifestFault, ReadsManifest}
-use Rattle.manifest_reader.proofs.ManifestLemmas.{one_value}
+use Rattle.manifest_reader.specs.Page.{Part, Markup, Widget, part_of, IsFilled}
+use Rattle.manifest_reader.specs.Manifest.{ReadsManifest}
 use Rattle.manifest_reader.proofs.SameLemmas.{one_manifest}
-use Rattle.adhost_run.specs.Page.{texts, slot_names, slot_files, files_named}
+use Rattle.adhost_run.specs.declared.reading.Stop.{Stop}
+use Rattle.adhost_run.specs.Page.{texts, slot_names, slot_files, files_named, parts, HasSlots}
 
 -- the name and the file of a slot, of its plain data
 abbrev part_name : Part → List (List ℕ)
@@ -32,8 +37,10 @@ files_by_parts [] = refl
 files_by_parts (entry.Html content ∷ es) = files_by_parts es
 files_by_parts (entry.Slot name file fuel ∷ es) = ap (λ ns. string_bytes file ∷ ns) (files_by_parts es)
 
--- two readings name the same slots and files
+-- two readings have the same parts and channels, and name the same slots and files
 pub record SameFiles (m n : Manifest) : Type 0 where
+  pub parts : parts m ≡ parts n
+  pub channels : m.channels.items ≡ n.channels.items
   pub names : slot_names m.entries.items ≡ slot_names n.entries.items
   pub files : files_named m ≡ files_named n
 
@@ -42,15 +49,32 @@ manifest_once bytes m n a b =
     let same = one_manifest bytes m n a b in
     let files : slot_files m.entries.items ≡ slot_files n.entries.items = files_by_parts m.entries.items ∙ ap (flat_map part_file) same.entries ∙ sym (files_by_parts n.entries.items) in
     record {
+      parts = same.entries;
+      channels = same.channels;
       names = names_by_parts m.entries.items ∙ ap (flat_map part_name) same.entries ∙ sym (names_by_parts n.entries.items);
       files = ap (λ x. x ++ texts m.libs.items) files ∙ ap (λ x. slot_files n.entries.items ++ x) same.libs;
     }
 
--- bytes that are refused are no manifest
-pub no_manifest : (bytes : List ℕ) (e : ShapeFault) → IsManifestFault bytes e → (e ≡ fault.Memory → ⊥) → (m : Manifest) → ReadsManifest bytes m → ⊥
-no_manifest bytes fault.NotJson refused kept m reads = refused reads.value reads.json
-no_manifest bytes (fault.BadShape item) refused kept m reads =
-    let same = one_value bytes reads.value refused.0 reads.json refused.1 in
-    refused.2.no_manifest m (subst (λ d. IsManifest d m) same reads.is)
-no_manifest bytes (fault.TooMany items) refused kept m reads = refused
-no_manifest bytes fault.Memory refused kept m reads = kept refl
+-- the names of the slots are those in the JSON value
+names_filled : (version : ℕ) (given : Option ℕ) (ds : List Data) (es : List PageEntry) (ps : List Part) → Each (IsEntry version) ds es → Each (IsFilled given) es ps → names_in ds ≡ flat_map part_name ps
+names_filled version given ds es ps none_left none_left = refl
+names_filled version given ds es ps (one_each {x = d} {y = e} {xs = ds1} {ys = es1} is rest) (one_each {x = f} {y = p} {xs = fs1} {ys = ps1} also others) =
+    ap (λ ns. ns ++ names_in ds1) (named_entry version d e is ∙ one e p also) ∙ ap (λ ns. part_name p ++ ns) (names_filled version given ds1 es1 ps1 rest others)
+  where
+    one : (a : PageEntry) (b : Part) → IsFilled given a b → entry_names a ≡ part_name b
+    one (shaped.Html text) (Markup trees) is = refl
+    one (shaped.Html text) (Widget name file fuel) is = absurd is
+    one (shaped.Slot slot) (Markup trees) is = absurd is
+    one (shaped.Slot slot) (Widget name file fuel) is = ap (λ n. n ∷ []) (sym is.0)
+
+pub has_slots : (bytes : List ℕ) (m : Manifest) → ReadsManifest bytes m → HasSlots m
+has_slots bytes m reads =
+    let shape = reads.is.shape in
+    let whole = reads.is.is in
+    let same : slot_names m.entries.items ≡ names_in whole.page =
+    names_by_parts m.entries.items ∙ sym (names_filled (judged_version reads.value) shape.fuel whole.page shape.entries.items (parts m) whole.each reads.is.filled.entries.each) in
+    ap are_slots same ∙ whole.slots
+
+pub ok_slots : (bytes : List ℕ) (r : Result Manifest Stop) → IfOk r (ReadsManifest bytes) → IfOk r HasSlots
+ok_slots bytes (Ok m) is = has_slots bytes m is
+ok_slots bytes (Err e) is = is

@@ -1,5 +1,5 @@
 -- What calls do to files, one after the other.
-use Rattle.std.proofs.Common.{◌≡◌, ℕ, ◌≤◌, ◌<◌, ◌^◌, ◌-◌, inl, inr, List, Option, refl, ◌∙◌, arith}
+use Rattle.std.proofs.Common.{ℕ, ◌≤◌, ◌<◌, ◌^◌, ◌-◌, inl, inr, Option, refl, ◌∙◌, arith}
 use Rattle.std.proofs.lemmas.Bool.{cases_lt}
 use Rattle.host_io.specs.Files.{FileMap, Rose}
 use Rattle.adhost_run.specs.Reading.{ReadsFiles}

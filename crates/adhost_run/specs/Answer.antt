@@ -1,9 +1,11 @@
 -- What a run answers.
-use Rattle.std.specs.Prelude.{◌≡◌, ℕ, ◌<◌, ◌≤◌, List, [], length, take, Option, Some, Bool, true, false}
+use Rattle.std.specs.Prelude.{◌≡◌, ℕ, ◌<◌, ◌≤◌, List, [], map, length, take, Option, Some, None, Bool, true, false}
 use Rattle.host_io.specs.Files.{FileMap}
 use Rattle.host_io.specs.Sink.{with_bytes}
 use Rattle.manifest_reader.specs.declared.entry.Manifest.{Manifest}
-use Rattle.manifest_reader.specs.Manifest.{ReadsManifest}
+use Rattle.trace_reader.specs.declared.item.TraceItem.{TraceItem}
+use Rattle.trace_reader.specs.Said.{said}
+use Rattle.widget_meaning.specs.Alone.{Given}
 use Rattle.script_check.specs.Line.{IsLine, IsTidied}
 use Rattle.slot_check.specs.Sources.{Source}
 use Rattle.slot_check.specs.Line.{AreSlotLines}
@@ -11,8 +13,10 @@ use Rattle.adhost_run.specs.declared.ending.Status.{Status}
 use Rattle.adhost_run.specs.declared.ending.Status.TheVariants as status
 use Rattle.adhost_run.specs.declared.reports.Asked.{Asked}
 use Rattle.adhost_run.specs.declared.reports.Asked.TheVariants as asked
-use Rattle.adhost_run.specs.Request.{Request, Check, CheckLib, Tidy, Asks, IsForm, is_built}
-use Rattle.adhost_run.specs.Page.{file_limit, manifest_limit, IsRead, AreRead, IsFirstLong, files_named, HasManifest, slots_of}
+use Rattle.adhost_run.specs.Request.{Request, Check, CheckLib, Tidy, Render, Replay, Asks, IsForm, is_built}
+use Rattle.adhost_run.specs.Page.{file_limit, IsRead, AreRead, slot_names, files_named, HasManifest, slots_of, parts, runs_of, is_built_page, is_built_trace}
+use Rattle.adhost_run.specs.Steps.{Answers, Step, NoManifest, NoFiles, HasItems, NoItems, if_built}
+use Rattle.adhost_run.specs.Run.{given_by, IsReport}
 
 -- what is written of a library: its line, or its tidied text
 abbrev pub IsText : Asked → List ℕ → List ℕ → Bool → List ℕ → Type 0
@@ -29,24 +33,54 @@ pub data LibraryAnswer (files : FileMap) (what : Asked) (name : List ℕ) : Stat
   report : {source : Source} {bytes : List ℕ} (refused : Bool) → IsRead files file_limit name source → IsText what name source.bytes refused bytes → LibraryAnswer files what name (ending refused) bytes
   too_large : {file : List ℕ} → files name ≡ Some file → file_limit < length file → LibraryAnswer files what name status.TooLarge []
 
--- the files that a manifest names are there, and these are the lines of its slots
-pub record HasLines (files : FileMap) (manifest : Manifest) (refused : Bool) (bytes : List ℕ) : Type 0 where
-  pub sources : List Source
-  pub read : AreRead files file_limit (files_named manifest) sources
-  pub lines : AreSlotLines (slots_of manifest sources) refused bytes
+-- what is answered to `check` on a manifest with its files: the lines of its slots
+pub data CheckAnswer (manifest : Manifest) (sources : List Source) : Status → List ℕ → Type 0 where
+  lines : {bytes : List ℕ} (refused : Bool) → AreSlotLines (slots_of manifest sources) refused bytes → CheckAnswer manifest sources (ending refused) bytes
 
--- what is answered on the manifest of a name. The first of its files that is too large decides, if those before it are there.
-pub data PageAnswer (files : FileMap) (name : List ℕ) : Status → List ℕ → Type 0 where
-  lines : {manifest : Manifest} {bytes : List ℕ} (refused : Bool) → HasManifest files name manifest → HasLines files manifest refused bytes → PageAnswer files name (ending refused) bytes
-  long_manifest : {file : List ℕ} → files name ≡ Some file → manifest_limit < length file → PageAnswer files name status.TooLarge []
-  bad_manifest : {source : Source} → IsRead files manifest_limit name source → ((manifest : Manifest) → ¬ ReadsManifest source.bytes manifest) → PageAnswer files name status.BadManifest []
-  long_file : {manifest : Manifest} → HasManifest files name manifest → IsFirstLong files file_limit (files_named manifest) → PageAnswer files name status.TooLarge []
+-- what these items give to the page of a manifest
+abbrev pub given_to : Manifest → List TraceItem → List Given
+given_to manifest items = map (given_by (slot_names manifest.entries.items)) (map said items)
+
+-- what is answered when a page runs on these items: the lines of its slots, and the page
+pub data RunAnswer (manifest : Manifest) (sources : List Source) (items : List TraceItem) : Status → List ℕ → Type 0 where
+  page_report : {bytes : List ℕ} (refused : Bool) → IsReport (parts manifest) (runs_of manifest sources) (given_to manifest items) refused bytes → RunAnswer manifest sources items (ending refused) bytes
+
+-- the manifest of a name comes first, and then the files that it names
+abbrev pub OfManifest : FileMap → List ℕ → (Manifest → Answers) → Answers
+OfManifest files name next = Step (HasManifest files name) (NoManifest files name) next
+
+abbrev pub OfFiles : FileMap → Manifest → (List Source → Answers) → Answers
+OfFiles files manifest next = Step (AreRead files file_limit (files_named manifest)) (NoFiles files (files_named manifest)) next
+
+-- and then the trace, where one is asked for
+abbrev pub OfTrace : FileMap → Manifest → Option (List ℕ) → (List TraceItem → Answers) → Answers
+OfTrace files manifest trace next = Step (HasItems files (slot_names manifest.entries.items) trace) (NoItems files (slot_names manifest.entries.items) trace) next
+
+-- `check` of the manifest of a name
+abbrev pub PageAnswer : FileMap → List ℕ → Answers
+PageAnswer files name = OfManifest files name (λ manifest. OfFiles files manifest (CheckAnswer manifest))
+
+-- a page that runs: from its items on, from its files on, and from its manifest on
+abbrev pub FromItems : Manifest → List Source → List TraceItem → Answers
+FromItems manifest sources items = if_built (is_built_trace (map said items)) (RunAnswer manifest sources items)
+
+abbrev pub FromFiles : FileMap → Option (List ℕ) → Manifest → List Source → Answers
+FromFiles files trace manifest sources = OfTrace files manifest trace (FromItems manifest sources)
+
+abbrev pub FromManifest : FileMap → Option (List ℕ) → Manifest → Answers
+FromManifest files trace manifest = if_built (is_built_page manifest) (OfFiles files manifest (FromFiles files trace manifest))
+
+-- `render` of the manifest of a name, and `replay` of a trace
+abbrev pub ReplayAnswer : FileMap → List ℕ → Option (List ℕ) → Answers
+ReplayAnswer files name trace = OfManifest files name (FromManifest files trace)
 
 -- what is answered to a request
 pub data RequestAnswer (files : FileMap) : Request → Status → List ℕ → Type 0 where
   check : {manifest : List ℕ} {s : Status} {bytes : List ℕ} → PageAnswer files manifest s bytes → RequestAnswer files (Check manifest) s bytes
   check_lib : {file : List ℕ} {s : Status} {bytes : List ℕ} → LibraryAnswer files asked.Line file s bytes → RequestAnswer files (CheckLib file) s bytes
   tidy : {file : List ℕ} {s : Status} {bytes : List ℕ} → LibraryAnswer files asked.Tidied file s bytes → RequestAnswer files (Tidy file) s bytes
+  render : {manifest : List ℕ} {s : Status} {bytes : List ℕ} → ReplayAnswer files manifest None s bytes → RequestAnswer files (Render manifest) s bytes
+  replay : {manifest trace : List ℕ} {slice : ℕ} {s : Status} {bytes : List ℕ} → ReplayAnswer files manifest (Some trace) s bytes → RequestAnswer files (Replay manifest trace slice) s bytes
   unbuilt : {request : Request} → is_built request ≡ false → RequestAnswer files request status.Unbuilt []
 
 -- Answer: the status of the words over the files, and the bytes that are written

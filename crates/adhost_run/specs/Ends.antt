@@ -1,11 +1,14 @@
 -- Which statuses a run may end with, and when.
-use Rattle.std.specs.Prelude.{◌≡◌, ℕ, ◌<◌, ◌≤◌, List, [], length, take, Option, Bool, true, false}
+use Rattle.std.specs.Prelude.{◌≡◌, ℕ, ◌<◌, ◌≤◌, List, [], length, take, Option, IfSome, IsSomeAnd, Result, IfOk, IfErr, IsErrOf, Bool, true, false}
 use Rattle.host_io.specs.Files.{FileMap, Rose}
 use Rattle.host_io.specs.Sink.{with_bytes}
 use Rattle.adhost_run.specs.declared.reading.Stop.{Stop}
 use Rattle.adhost_run.specs.declared.reading.Stop.TheVariants as stop
 use Rattle.adhost_run.specs.declared.ending.Status.{Status}
 use Rattle.adhost_run.specs.declared.ending.Status.TheVariants as status
+use Rattle.adhost_run.specs.declared.reports.Report.{Report}
+use Rattle.adhost_run.specs.Reading.{ReadsFiles}
+use Rattle.adhost_run.specs.Steps.{Answers}
 use Rattle.adhost_run.specs.Answer.{ending, Answer}
 
 -- the exit status of the program
@@ -14,6 +17,7 @@ number_of status.Ok = 0
 number_of status.Refused = 1
 number_of status.Usage = 2
 number_of status.BadManifest = 3
+number_of status.BadTrace = 4
 number_of status.TooLarge = 5
 number_of status.ReadFault = 6
 number_of status.WriteFault = 7
@@ -58,18 +62,38 @@ pub data Written (refused : Bool) (bytes : List ℕ) (room : ℕ) (old new : Opt
   whole : new ≡ with_bytes old bytes → Written refused bytes room old new (ending refused)
   part : (count : ℕ) → room < length bytes → count ≤ length bytes → new ≡ with_bytes old (take count bytes) → Written refused bytes room old new status.WriteFault
 
--- why there is no report: the answer has none, a read failed, or there was no memory
-abbrev pub IsStop : (Status → List ℕ → Type 0) → Stop → Type 0
-IsStop IsAnswer stop.BadManifest = IsAnswer status.BadManifest []
-IsStop IsAnswer stop.TooLarge = IsAnswer status.TooLarge []
-IsStop IsAnswer stop.Unbuilt = IsAnswer status.Unbuilt []
-IsStop IsAnswer stop.ReadFault = Unit {0}
-IsStop IsAnswer stop.Memory = Unit {0}
+-- why there is no report: a status that comes so, a read that failed, or want of memory
+abbrev pub IsStop : (Status → Type 0) → Stop → Type 0
+IsStop Stops stop.BadManifest = Stops status.BadManifest
+IsStop Stops stop.BadTrace = Stops status.BadTrace
+IsStop Stops stop.TooLarge = Stops status.TooLarge
+IsStop Stops stop.Unbuilt = Stops status.Unbuilt
+IsStop Stops stop.ReadFault = Unit {0}
+IsStop Stops stop.Memory = Unit {0}
+
+-- the same of an answer, which has no bytes then
+abbrev pub IsAnswerStop : Answers → Stop → Type 0
+IsAnswerStop answer e = IsStop (λ s. answer s []) e
 
 -- the status that it ends with
 abbrev pub status_of : Stop → Status
 status_of stop.BadManifest = status.BadManifest
+status_of stop.BadTrace = status.BadTrace
 status_of stop.TooLarge = status.TooLarge
 status_of stop.ReadFault = status.ReadFault
 status_of stop.Memory = status.Memory
 status_of stop.Unbuilt = status.Unbuilt
+
+-- ## The contract of a step, and of an answer
+
+-- what a step does over files, by what it ended with. `Enough` says that each file is there to which it comes.
+pub record Stepped {F T : Type 0} (told : F → Option FileMap) (calm : F → Type 0) (faults : F → ℕ) (old new : F) (result : Result T Stop) (Gives : FileMap → T → Type 0) (Stops : FileMap → Status → Type 0) (Enough : FileMap → Type 0) : Type 0 where
+  pub gives : IfOk result (λ given. IfSome (told old) (λ m. Gives m given))
+  pub stops : IfErr result (λ e. IfSome (told old) (λ m. IsStop (Stops m) e))
+  pub reads : ReadsFiles told calm faults old new (IsErrOf result stop.ReadFault) (IsSomeAnd (told old) Enough)
+
+-- the same of a report, which is that of the answer, or there is none
+pub record Answered {F : Type 0} (told : F → Option FileMap) (calm : F → Type 0) (faults : F → ℕ) (old new : F) (result : Result Report Stop) (all : FileMap → Answers) (Enough : FileMap → Type 0) : Type 0 where
+  pub answer : IfOk result (λ r. IfSome (told old) (λ m. all m (ending r.refused) r.bytes.items))
+  pub stops : IfErr result (λ e. IfSome (told old) (λ m. IsAnswerStop (all m) e))
+  pub reads : ReadsFiles told calm faults old new (IsErrOf result stop.ReadFault) (IsSomeAnd (told old) Enough)

@@ -1,5 +1,11 @@
 pub mod Request
 pub mod Page
 pub mod Reading
+pub mod Items
+pub mod Steps
+pub mod Run
+pub mod TwoPages
 pub mod Answer
+pub mod Played
 pub mod Ends
+pub mod Stage

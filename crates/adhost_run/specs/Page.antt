@@ -1,5 +1,6 @@
--- A manifest and the files that it names.
-use Rattle.std.specs.Prelude.{◌≡◌, ℕ, ◌<◌, ◌≤◌, List, [], ◌∷◌, ◌++◌, map, length, take, drop, Some, string_bytes, String}
+-- A manifest and the files that it names, and a trace.
+use Rattle.std.specs.Prelude.{◌≡◌, ℕ, ◌<◌, ◌≤◌, List, [], ◌∷◌, ◌++◌, map, length, take, drop, Some, string_bytes, String, Bool, IsTrue, true, false, nat_eq, not}
+use Rattle.std.specs.List.{list_any}
 use Rattle.std.specs.List.{flat_map}
 use Rattle.std.specs.declared.alloc.Global.{Global}
 use Rattle.host_io.specs.Files.{FileMap}
@@ -7,8 +8,14 @@ use Rattle.manifest_reader.specs.declared.entry.Entry.{Entry}
 use Rattle.manifest_reader.specs.declared.entry.Entry.TheVariants as entry
 use Rattle.manifest_reader.specs.declared.entry.Manifest.{Manifest}
 use Rattle.manifest_reader.specs.Manifest.{ReadsManifest}
+use Rattle.manifest_reader.specs.Page.{Part, part_of}
+use Rattle.manifest_shape.specs.Slots.{are_slots}
+use Rattle.trace_reader.specs.declared.item.TraceItem.{TraceItem}
+use Rattle.trace_reader.specs.Said.{Said, an_event, an_advance, a_swap}
+use Rattle.trace_reader.specs.Trace.{ReadsTrace}
 use Rattle.slot_check.specs.Sources.{Source, Slot}
 use Rattle.slot_check.specs.Line.{slots_over}
+use Rattle.page_judge.specs.Runs.{SlotRun, slots_named, runs_over}
 
 -- the bytes of each word
 abbrev pub texts : List (String Global) → List (List ℕ)
@@ -73,3 +80,45 @@ slots_with names sources = slots_over (drop (length names) sources) names (take 
 -- the slots of a manifest, with the files that it names
 abbrev pub slots_of : Manifest → List Source → List Slot
 slots_of manifest sources = slots_with (slot_names manifest.entries.items) sources
+
+-- ## Pages that run
+
+-- the entries of a manifest as plain data
+abbrev pub parts : Manifest → List Part
+parts manifest = map part_of manifest.entries.items
+
+-- the slots of these names and this fuel with their files, which come first, and the libraries behind them
+abbrev pub runs_with : List (List ℕ × ℕ) → List Source → List SlotRun
+runs_with names sources = runs_over (drop (length names) sources) names (take (length names) sources)
+
+-- the slots of a manifest with their fuel and the files that it names
+abbrev pub runs_of : Manifest → List Source → List SlotRun
+runs_of manifest sources = runs_with (slots_named (parts manifest)) sources
+
+-- the slots of a manifest are at most 16, and no two of them have one name
+abbrev pub HasSlots : Manifest → Type 0
+HasSlots manifest = IsTrue (are_slots (slot_names manifest.entries.items))
+
+-- the pages that are built so far: those without channels
+abbrev pub is_built_page : Manifest → Bool
+is_built_page manifest = nat_eq (length manifest.channels.items) 0
+
+-- the bytes that a trace may have
+abbrev pub trace_limit : ℕ
+trace_limit = 1048576
+
+-- the file of a name is a trace of these items, for slots of these names
+pub record HasTrace (files : FileMap) (names : List (List ℕ)) (trace : List ℕ) (items : List TraceItem) : Type 0 where
+  pub source : Source
+  pub read : IsRead files trace_limit trace source
+  pub reads : ReadsTrace source.bytes names items
+
+-- an item that is another file for a slot
+abbrev pub is_swap : Said → Bool
+is_swap (an_event to kind path value) = false
+is_swap (an_advance ms) = false
+is_swap (a_swap to file) = true
+
+-- the traces that are built so far: those without swaps
+abbrev pub is_built_trace : List Said → Bool
+is_built_trace items = not (list_any is_swap items)

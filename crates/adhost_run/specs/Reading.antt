@@ -1,12 +1,12 @@
 -- What a call that reads files does, and what it needs.
-use Rattle.std.specs.Prelude.{◌≡◌, ℕ, ◌≤◌, ◌<◌, List, length, Option, Some, None, IsSome}
+use Rattle.std.specs.Prelude.{◌≡◌, ℕ, ◌≤◌, ◌<◌, List, length, true, Option, Some, None, IsSome}
 use Rattle.host_io.specs.Files.{FileMap, Rose}
 use Rattle.manifest_reader.specs.declared.entry.Manifest.{Manifest}
 use Rattle.slot_check.specs.Sources.{Source}
 use Rattle.adhost_run.specs.declared.reading.Stop.{Stop}
 use Rattle.adhost_run.specs.declared.reading.Stop.TheVariants as stop
-use Rattle.adhost_run.specs.Request.{Request, Check, CheckLib, Tidy, Asks}
-use Rattle.adhost_run.specs.Page.{file_limit, AreRead, IsFirstLong, files_named, HasManifest}
+use Rattle.adhost_run.specs.Request.{Request, Check, CheckLib, Tidy, Render, Replay, Asks}
+use Rattle.adhost_run.specs.Page.{file_limit, AreRead, IsFirstLong, files_named, HasManifest, is_built_page}
 
 -- what a call does to files, by what they tell, whether they are calm, and how many reads have failed. `Failed` says that it ended with a fault of a read, `Enough` that each file is there to which it comes.
 pub record ReadsFiles {F : Type 0} (told : F → Option FileMap) (calm : F → Type 0) (faults : F → ℕ) (old new : F) (Failed Enough : Type 0) : Type 0 where
@@ -35,11 +35,28 @@ pub record HasPageFiles (files : FileMap) (name : List ℕ) : Type 0 where
   pub manifest : IsSome (files name)
   pub named : (manifest : Manifest) → HasManifest files name manifest → ComesThrough files file_limit (files_named manifest)
 
+-- the trace that is asked for is there
+abbrev pub IsTraceThere : FileMap → Option (List ℕ) → Type 0
+IsTraceThere files None = Unit {0}
+IsTraceThere files (Some trace) = IsSome (files trace)
+
+-- so for a page that runs, from its manifest on: where it is built the work comes through the files that it names, and if they are there to the trace
+pub record HasSources (files : FileMap) (trace : Option (List ℕ)) (manifest : Manifest) : Type 0 where
+  pub named : is_built_page manifest ≡ true → ComesThrough files file_limit (files_named manifest)
+  pub traced : is_built_page manifest ≡ true → (sources : List Source) → AreRead files file_limit (files_named manifest) sources → IsTraceThere files trace
+
+-- and from its name on
+pub record HasRunFiles (files : FileMap) (name : List ℕ) (trace : Option (List ℕ)) : Type 0 where
+  pub manifest : IsSome (files name)
+  pub sources : (manifest : Manifest) → HasManifest files name manifest → HasSources files trace manifest
+
 -- each file is there to which the work on a request comes
 abbrev pub HasFilesFor : FileMap → Request → Type 0
 HasFilesFor files (Check manifest) = HasPageFiles files manifest
 HasFilesFor files (CheckLib file) = IsSome (files file)
 HasFilesFor files (Tidy file) = IsSome (files file)
+HasFilesFor files (Render manifest) = HasRunFiles files manifest None
+HasFilesFor files (Replay manifest trace slice) = HasRunFiles files manifest (Some trace)
 HasFilesFor files _ = Unit {0}
 
 -- HasFiles: each file is there to which the work comes; other words need none
@@ -49,16 +66,11 @@ HasFiles words files = (request : Request) → Asks words request → HasFilesFo
 -- a stop of a read: the file is too large, it could not be read, or there was no memory
 abbrev pub IsReadStop : Stop → Type 0
 IsReadStop stop.BadManifest = ⊥
+IsReadStop stop.BadTrace = ⊥
 IsReadStop stop.Unbuilt = ⊥
 IsReadStop _ = Unit {0}
 
--- a stop of judging a manifest
-abbrev pub IsManifestStop : Stop → Type 0
-IsManifestStop stop.BadManifest = Unit {0}
-IsManifestStop stop.Memory = Unit {0}
-IsManifestStop _ = ⊥
-
--- a stop of the work on a form that is built
+-- a stop of a form that is built whole
 abbrev pub IsBuiltStop : Stop → Type 0
 IsBuiltStop stop.Unbuilt = ⊥
 IsBuiltStop _ = Unit {0}

@@ -44,18 +44,38 @@ pub record IsForm (words : List (List ℕ)) : Type 0 where
   pub request : Request
   pub asks : Asks words request
 
--- the forms that the program answers so far
+-- the forms that the program answers so far, some of them for some pages alone
 abbrev pub is_built : Request → Bool
 is_built (Check manifest) = true
 is_built (CheckLib file) = true
 is_built (Tidy file) = true
+is_built (Render manifest) = true
+is_built (Replay manifest trace slice) = true
 is_built _ = false
+
+-- those that it answers whatever the files
+abbrev pub is_whole : Request → Bool
+is_whole (Check manifest) = true
+is_whole (CheckLib file) = true
+is_whole (Tidy file) = true
+is_whole _ = false
 
 -- the words are of one of the other forms
 pub record IsUnbuilt (words : List (List ℕ)) : Type 0 where
   pub request : Request
   pub asks : Asks words request
   pub other : is_built request ≡ false
+
+-- the words are of one that is answered whatever the files
+pub record IsWhole (words : List (List ℕ)) : Type 0 where
+  pub request : Request
+  pub asks : Asks words request
+  pub whole : is_whole request ≡ true
+
+-- the slice of a request is one
+abbrev pub IsSliced : Request → Type 0
+IsSliced (Replay manifest trace slice) = (1 ≤ slice) × (slice ≤ slice_limit)
+IsSliced request = Unit {0}
 
 -- a request of the code, by the bytes of its names
 abbrev pub request_of : CodeRequest → Request

@@ -13,7 +13,9 @@ pub enum Status {
     Usage,
     /// The bytes of the manifest are none.
     BadManifest,
-    /// A file has more bytes than its limit.
+    /// The bytes of the trace are none.
+    BadTrace,
+    /// A file has more bytes than its limit, or a trace too many items.
     TooLarge,
     /// A file could not be read.
     ReadFault,
@@ -21,7 +23,7 @@ pub enum Status {
     WriteFault,
     /// There was no memory, before anything was written.
     Memory,
-    /// The words are of a form that is not built yet.
+    /// The form of the words is not built yet, or not for such a page.
     Unbuilt,
 }
 
@@ -35,6 +37,7 @@ impl Status {
             Status::Refused => 1,
             Status::Usage => 2,
             Status::BadManifest => 3,
+            Status::BadTrace => 4,
             Status::TooLarge => 5,
             Status::ReadFault => 6,
             Status::WriteFault => 7,

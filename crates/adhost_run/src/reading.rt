@@ -18,13 +18,15 @@ pub const FILE_LIMIT: usize = 262_144;
 pub enum Stop {
     /// The bytes of the manifest are none.
     BadManifest,
-    /// A file has more bytes than its limit.
+    /// The bytes of the trace are none.
+    BadTrace,
+    /// A file has more bytes than its limit, or a trace too many items.
     TooLarge,
     /// A file could not be read.
     ReadFault,
     /// There was no memory.
     Memory,
-    /// The words are of a form that is not built yet.
+    /// The form of the words is not built yet, or not for such a page.
     Unbuilt,
 }
 

@@ -1,26 +1,33 @@
 //! The report, built whole before anything is written.
-ghost use Rattle.std.specs.Prelude.{◌≡◌, ◌<◌, ◌^◌, length, false, IfSome, IsSomeAnd, IfOk, IfErr, IsErrOf, Err};
-ghost use Rattle.host_io.specs.Files.{IsThere};
-ghost use Rattle.adhost_run.specs.Request.{request_of, is_built};
-ghost use Rattle.adhost_run.specs.Answer.{IsText, ending, LibraryAnswer, RequestAnswer};
-ghost use Rattle.adhost_run.specs.Ends.{IsStop};
-ghost use Rattle.adhost_run.specs.Reading.{ReadsFiles, HasFilesFor, IsReadStop};
+ghost use Rattle.std.specs.Prelude.{◌≡◌, ◌<◌, ◌^◌, length, true, false, IsSome, IfOk, IfErr, Err, None};
+ghost use Rattle.adhost_run.specs.Request.{request_of, is_built, is_whole, IsSliced};
+ghost use Rattle.adhost_run.specs.Answer.{IsText, LibraryAnswer, RequestAnswer};
+ghost use Rattle.adhost_run.specs.Ends.{Answered};
+ghost use Rattle.adhost_run.specs.Reading.{HasFilesFor, IsBuiltStop};
+ghost use Rattle.adhost_run.specs.Stage.{RequestLeaves, IsLeft};
 
 use crate::pages::check_page;
 use crate::reading::{FILE_LIMIT, Stop, read_file};
 use crate::request::Request;
+use crate::runs::run_page;
 use code_units::Memory;
 use host_io::Files;
 use script_check::{LibraryText, library_line, tidied_library};
 use std::alloc::Global;
+use widget_host::Host;
 
-/// What is written, and whether it names a broken rule.
+/// The slice of `render`.
+const RENDER_SLICE: u32 = 1_000_000;
+
+/// What is written, whether it names a broken rule, and the host of a page that ran.
 #[derive(Drop)]
 pub struct Report {
     /// Whether a slot or the library breaks a rule.
     pub refused: bool,
     /// The lines, or the tidied text.
     pub bytes: Vec<u8>,
+    /// The host, where a page ran.
+    pub host: Option<Host>,
 }
 
 /// What is asked of a library.
@@ -34,24 +41,26 @@ pub enum Asked {
 
 /// The report that is asked for.
 pub fn report_on<F: Files>(alloc: Global, request: &Request, files: &mut F) -> Result<Report, Stop>
-    ensures answer { IfOk result (λ r. IfSome (F.told files.old) (λ m.
-        RequestAnswer m (request_of request.now) (ending r.refused) r.bytes.items)) }
-    ensures stop { IfErr result (λ stop. IfSome (F.told files.old) (λ m.
-        IsStop (RequestAnswer m (request_of request.now)) stop)) }
-    ensures unbuilt { IsErrOf result Stop.Unbuilt → is_built (request_of request.now) ≡ false }
+    requires { IsSliced (request_of request.now) }
+    ensures answered { Answered F.told F.calm F.faults files.old files.new result
+        (λ m. RequestAnswer m (request_of request.now)) (λ m. HasFilesFor m (request_of request.now)) }
+    ensures left { IsLeft (F.told files.old) result (λ m. RequestLeaves m (request_of request.now)) }
+    ensures whole { is_whole (request_of request.now) ≡ true → IfErr result IsBuiltStop }
     ensures not_built { is_built (request_of request.now) ≡ false → result ≡ Err Stop.Unbuilt }
-    ensures reads { ReadsFiles F.told F.calm F.faults files.old files.new (IsErrOf result Stop.ReadFault)
-        (IsSomeAnd (F.told files.old) (λ m. HasFilesFor m (request_of request.now))) }
 {
     match request {
         Request::Check { manifest } => check_page(alloc, manifest, files),
         Request::CheckLib { file } => report_library(alloc, Asked::Line, file, files),
         Request::Tidy { file } => report_library(alloc, Asked::Tidied, file, files),
-        Request::Render { .. }
-        | Request::Replay { .. }
-        | Request::Audit { .. }
-        | Request::CheckAudit { .. }
-        | Request::Demo { .. } => Err(Stop::Unbuilt),
+        Request::Render { manifest } => run_page(alloc, manifest, None, RENDER_SLICE, files),
+        Request::Replay {
+            manifest,
+            trace,
+            slice,
+        } => run_page(alloc, manifest, Some(*trace), *slice, files),
+        Request::Audit { .. } | Request::CheckAudit { .. } | Request::Demo { .. } => {
+            Err(Stop::Unbuilt)
+        }
     }
 }
 
@@ -62,19 +71,17 @@ fn report_library<F: Files>(
     name: &str,
     files: &mut F,
 ) -> Result<Report, Stop>
-    ensures answer { IfOk result (λ r. IfSome (F.told files.old) (λ m.
-        LibraryAnswer m asked name.now (ending r.refused) r.bytes.items)) }
-    ensures stop { IfErr result (λ stop. IfSome (F.told files.old) (λ m.
-        IsStop (LibraryAnswer m asked name.now) stop)) }
-    ensures stops { IfErr result IsReadStop }
-    ensures reads { ReadsFiles F.told F.calm F.faults files.old files.new (IsErrOf result Stop.ReadFault)
-        (IsThere (F.told files.old) name.now) }
+    ensures answered { Answered F.told F.calm F.faults files.old files.new result
+        (λ m. LibraryAnswer m asked name.now) (λ m. IsSome (m name.now)) }
+    ensures no_host { IfOk result (λ r. r.host ≡ None) }
+    ensures built { IfErr result IsBuiltStop }
 {
     let bytes = read_file(alloc, name, FILE_LIMIT, files)?;
     let text = library_text(alloc, asked, name, &bytes)?;
     Ok(Report {
         refused: text.refused,
         bytes: text.bytes,
+        host: None,
     })
 }
 

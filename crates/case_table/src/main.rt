@@ -1,17 +1,21 @@
 //! Writes what comes of outside cases, which the gate compares with the file `stdout`: the tokens of
 //! scripts and their trees as text, the printed text of markup and styles, whether queries, manifests
-//! and traces are read, and where each text is refused; and whether command lines end as is wanted. A
-//! case of the files in data/ is a JSON object (crate `test_cases`); its name stands before what is
-//! written of it.
+//! and traces are read, and where each text is refused; and what calls of single parts give. A case of
+//! the files in data/ is a JSON object (crate `test_cases`); its name stands before what is written of
+//! it.
 #![tactic(auto)]
 
-mod commands;
+mod calls;
+mod choosers;
+mod line_calls;
 mod markup;
+mod page_calls;
 mod pages;
 mod scripts;
+mod store_calls;
 
 use anyhow::Result;
-use commands::answer_of_command;
+use calls::answer_of_call;
 use markup::{answer_of_markup, answer_of_query, answer_of_style};
 use pages::{answer_of_manifest, answer_of_trace};
 use scripts::{answer_of_parse, answer_of_tokens};
@@ -20,7 +24,7 @@ use std::alloc::Global;
 use std::fs;
 use test_cases::{bytes_of, text_at};
 
-// What is asked of a case: of its text, or of a command line.
+// What is asked of a case: of its text, or of a call.
 #[derive(Clone, Copy)]
 enum Question {
     Tokens,
@@ -30,10 +34,10 @@ enum Question {
     Query,
     Manifest,
     Trace,
-    Command,
+    Call,
 }
 
-const FILES: [(&str, Question); 12] = [
+const FILES: [(&str, Question); 8] = [
     ("tokens.jsonl", Question::Tokens),
     ("parse.jsonl", Question::Parse),
     ("markup.jsonl", Question::Markup),
@@ -41,11 +45,7 @@ const FILES: [(&str, Question); 12] = [
     ("queries.jsonl", Question::Query),
     ("manifests.jsonl", Question::Manifest),
     ("traces.jsonl", Question::Trace),
-    ("words.jsonl", Question::Command),
-    ("libraries.jsonl", Question::Command),
-    ("tidied.jsonl", Question::Command),
-    ("pages.jsonl", Question::Command),
-    ("faults.jsonl", Question::Command),
+    ("calls.jsonl", Question::Call),
 ];
 
 fn main(rt: HostRuntime) -> Result<()> {
@@ -84,6 +84,6 @@ fn answer_to(alloc: Global, question: Question, case: &Value) -> Result<String> 
         Question::Query => answer_of_query(alloc, &bytes_of(alloc, case)?),
         Question::Manifest => answer_of_manifest(alloc, &bytes_of(alloc, case)?),
         Question::Trace => answer_of_trace(alloc, &bytes_of(alloc, case)?, case),
-        Question::Command => answer_of_command(alloc, case),
+        Question::Call => answer_of_call(alloc, case),
     }
 }

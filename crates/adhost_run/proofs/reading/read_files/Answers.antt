@@ -1,4 +1,4 @@
-use Rattle.std.proofs.Common.{length, IfSome, IsSomeAnd, sym, ap, subst, arith}
+use Rattle.std.proofs.Common.{length, IfSome, IsSomeAnd, sym, ap, subst}
 use Rattle.std.proofs.lemmas.Result.{err_from_is_err_and}
 use Rattle.host_io.specs.Files.{IsThere}
 use Rattle.slot_check.specs.Verdicts.{source_of, sources_of}
@@ -7,7 +7,7 @@ use Rattle.adhost_run.specs.Reading.{IsLong, ComesThrough}
 use Rattle.adhost_run.specs.declared.reading.Stop.TheVariants as stop
 use Rattle.adhost_run.proofs.Gathered.{all_small, many_more, read_more, readable_here, read_all, no_read, none_small, long_here}
 use Rattle.adhost_run.proofs.ReadsLemmas.{reads_nothing, reads_as, reads_then}
-use Rattle.adhost_run.proofs.Paged.{again}
+use Rattle.adhost_run.proofs.Stepping.{again}
 use Rattle.adhost_run.proofs.reading.read_files.Goals as goal
 
 pub names-preserved : goal.names-preserved

@@ -1,58 +1,90 @@
-use Rattle.std.proofs.Common.{◌≡◌, true, false, ap, sym, ◌∙◌, rules, arith}
+use Rattle.std.proofs.Common.{◌≡◌, false, None, Some, refl, ap, rules, arith}
 use Rattle.std.proofs.lemmas.Grind.{common_steps}
 use Rattle.adhost_run.specs.declared.reports.Asked.TheVariants as asked
-use Rattle.adhost_run.specs.Request.{request_of, is_built}
-use Rattle.adhost_run.specs.Answer.{LibraryAnswer, PageAnswer, RequestAnswer}
-use Rattle.adhost_run.proofs.ReadsLemmas.{reads_as}
-use Rattle.adhost_run.proofs.Reported.{pass_ok, pass_err, page_in, line_in, tidied_in, page_needs, line_needs, tidied_needs, not_unbuilt, not_unread, none_built}
+use Rattle.adhost_run.specs.Request.{Check, CheckLib, Tidy, Render, Replay, request_of, is_built}
+use Rattle.adhost_run.specs.Reading.{HasFilesFor}
+use Rattle.adhost_run.specs.Answer.{LibraryAnswer, PageAnswer, ReplayAnswer, RequestAnswer}
+use Rattle.adhost_run.proofs.Staging.{none_left, as_asked}
+use Rattle.adhost_run.proofs.Stepping.{answered_as}
+use Rattle.adhost_run.proofs.Reported.{page_in, line_in, tidied_in, render_in, replay_in, needs_of, built_of, not_whole_of, not_answered}
 use Rattle.adhost_run.proofs.reports.report_on.Goals as goal
 
-pub returns-in-Check-clause-answer : goal.returns-in-Check-clause-answer
-returns-in-Check-clause-answer g c = pass_ok (λ m. PageAnswer m c.in-Check.manifest.now) (λ m. RequestAnswer m (request_of c.args.request.now)) (page_in (request_of c.args.request.now) c.in-Check.manifest.now (ap request_of c.in-Check.is)) (g.F.Files.told c.args.files.now) c.check_page.result c.check_page.ensures.answer
+pub returns-in-Check-clause-answered : goal.returns-in-Check-clause-answered
+returns-in-Check-clause-answered g c =
+    let q = request_of c.args.request.now in
+    let r = Check c.in-Check.manifest.now in
+    answered_as g.F.Files.told g.F.Files.calm g.F.Files.faults (λ m. PageAnswer m c.in-Check.manifest.now) (λ m. RequestAnswer m q) (λ m. HasFilesFor m q) (λ m. HasFilesFor m r) c.check_page.ensures.answered (page_in q c.in-Check.manifest.now (ap request_of c.in-Check.is)) (needs_of q r (ap request_of c.in-Check.is))
 
-pub returns-in-Check-clause-stop : goal.returns-in-Check-clause-stop
-returns-in-Check-clause-stop g c = pass_err (λ m. PageAnswer m c.in-Check.manifest.now) (λ m. RequestAnswer m (request_of c.args.request.now)) (page_in (request_of c.args.request.now) c.in-Check.manifest.now (ap request_of c.in-Check.is)) (g.F.Files.told c.args.files.now) c.check_page.result c.check_page.ensures.stop
-
-pub returns-in-Check-clause-unbuilt : goal.returns-in-Check-clause-unbuilt
-returns-in-Check-clause-unbuilt g c = λ is. absurd (not_unbuilt c.check_page.result c.check_page.ensures.built is)
+pub returns-in-Check-clause-whole : goal.returns-in-Check-clause-whole
+returns-in-Check-clause-whole g c = λ whole. c.check_page.ensures.built
 
 pub returns-in-Check-clause-not_built : goal.returns-in-Check-clause-not_built
-returns-in-Check-clause-not_built g c = λ none. (let is : true ≡ false = sym (ap is_built (ap request_of c.in-Check.is)) ∙ none in cc)
+returns-in-Check-clause-not_built g c = built_of (request_of c.args.request.now) (Check c.in-Check.manifest.now) (ap request_of c.in-Check.is) refl
 
-pub returns-in-Check-clause-reads : goal.returns-in-Check-clause-reads
-returns-in-Check-clause-reads g c = reads_as g.F.Files.told g.F.Files.calm g.F.Files.faults c.check_page.ensures.reads (λ failed. failed) (page_needs (g.F.Files.told c.args.files.now) (request_of c.args.request.now) c.in-Check.manifest.now (ap request_of c.in-Check.is))
+pub returns-in-CheckLib-clause-answered : goal.returns-in-CheckLib-clause-answered
+returns-in-CheckLib-clause-answered g c =
+    let q = request_of c.args.request.now in
+    let r = CheckLib c.in-CheckLib.file.now in
+    answered_as g.F.Files.told g.F.Files.calm g.F.Files.faults (λ m. LibraryAnswer m asked.Line c.in-CheckLib.file.now) (λ m. RequestAnswer m q) (λ m. HasFilesFor m q) (λ m. HasFilesFor m r) c.report_library.ensures.answered (line_in q c.in-CheckLib.file.now (ap request_of c.in-CheckLib.is)) (needs_of q r (ap request_of c.in-CheckLib.is))
 
-pub returns-in-CheckLib-clause-answer : goal.returns-in-CheckLib-clause-answer
-returns-in-CheckLib-clause-answer g c = pass_ok (λ m. LibraryAnswer m asked.Line c.in-CheckLib.file.now) (λ m. RequestAnswer m (request_of c.args.request.now)) (line_in (request_of c.args.request.now) c.in-CheckLib.file.now (ap request_of c.in-CheckLib.is)) (g.F.Files.told c.args.files.now) c.report_library.result c.report_library.ensures.answer
-
-pub returns-in-CheckLib-clause-stop : goal.returns-in-CheckLib-clause-stop
-returns-in-CheckLib-clause-stop g c = pass_err (λ m. LibraryAnswer m asked.Line c.in-CheckLib.file.now) (λ m. RequestAnswer m (request_of c.args.request.now)) (line_in (request_of c.args.request.now) c.in-CheckLib.file.now (ap request_of c.in-CheckLib.is)) (g.F.Files.told c.args.files.now) c.report_library.result c.report_library.ensures.stop
-
-pub returns-in-CheckLib-clause-unbuilt : goal.returns-in-CheckLib-clause-unbuilt
-returns-in-CheckLib-clause-unbuilt g c = λ is. absurd (not_unread c.report_library.result c.report_library.ensures.stops is)
+pub returns-in-CheckLib-clause-whole : goal.returns-in-CheckLib-clause-whole
+returns-in-CheckLib-clause-whole g c = λ whole. c.report_library.ensures.built
 
 pub returns-in-CheckLib-clause-not_built : goal.returns-in-CheckLib-clause-not_built
-returns-in-CheckLib-clause-not_built g c = λ none. (let is : true ≡ false = sym (ap is_built (ap request_of c.in-CheckLib.is)) ∙ none in cc)
+returns-in-CheckLib-clause-not_built g c = built_of (request_of c.args.request.now) (CheckLib c.in-CheckLib.file.now) (ap request_of c.in-CheckLib.is) refl
 
-pub returns-in-CheckLib-clause-reads : goal.returns-in-CheckLib-clause-reads
-returns-in-CheckLib-clause-reads g c = reads_as g.F.Files.told g.F.Files.calm g.F.Files.faults c.report_library.ensures.reads (λ failed. failed) (line_needs (g.F.Files.told c.args.files.now) (request_of c.args.request.now) c.in-CheckLib.file.now (ap request_of c.in-CheckLib.is))
+pub returns-in-Tidy-clause-answered : goal.returns-in-Tidy-clause-answered
+returns-in-Tidy-clause-answered g c =
+    let q = request_of c.args.request.now in
+    let r = Tidy c.in-Tidy.file.now in
+    answered_as g.F.Files.told g.F.Files.calm g.F.Files.faults (λ m. LibraryAnswer m asked.Tidied c.in-Tidy.file.now) (λ m. RequestAnswer m q) (λ m. HasFilesFor m q) (λ m. HasFilesFor m r) c.report_library-in-Tidy.ensures.answered (tidied_in q c.in-Tidy.file.now (ap request_of c.in-Tidy.is)) (needs_of q r (ap request_of c.in-Tidy.is))
 
-pub returns-in-Tidy-clause-answer : goal.returns-in-Tidy-clause-answer
-returns-in-Tidy-clause-answer g c = pass_ok (λ m. LibraryAnswer m asked.Tidied c.in-Tidy.file.now) (λ m. RequestAnswer m (request_of c.args.request.now)) (tidied_in (request_of c.args.request.now) c.in-Tidy.file.now (ap request_of c.in-Tidy.is)) (g.F.Files.told c.args.files.now) c.report_library-in-Tidy.result c.report_library-in-Tidy.ensures.answer
-
-pub returns-in-Tidy-clause-stop : goal.returns-in-Tidy-clause-stop
-returns-in-Tidy-clause-stop g c = pass_err (λ m. LibraryAnswer m asked.Tidied c.in-Tidy.file.now) (λ m. RequestAnswer m (request_of c.args.request.now)) (tidied_in (request_of c.args.request.now) c.in-Tidy.file.now (ap request_of c.in-Tidy.is)) (g.F.Files.told c.args.files.now) c.report_library-in-Tidy.result c.report_library-in-Tidy.ensures.stop
-
-pub returns-in-Tidy-clause-unbuilt : goal.returns-in-Tidy-clause-unbuilt
-returns-in-Tidy-clause-unbuilt g c = λ is. absurd (not_unread c.report_library-in-Tidy.result c.report_library-in-Tidy.ensures.stops is)
+pub returns-in-Tidy-clause-whole : goal.returns-in-Tidy-clause-whole
+returns-in-Tidy-clause-whole g c = λ whole. c.report_library-in-Tidy.ensures.built
 
 pub returns-in-Tidy-clause-not_built : goal.returns-in-Tidy-clause-not_built
-returns-in-Tidy-clause-not_built g c = λ none. (let is : true ≡ false = sym (ap is_built (ap request_of c.in-Tidy.is)) ∙ none in cc)
+returns-in-Tidy-clause-not_built g c = built_of (request_of c.args.request.now) (Tidy c.in-Tidy.file.now) (ap request_of c.in-Tidy.is) refl
 
-pub returns-in-Tidy-clause-reads : goal.returns-in-Tidy-clause-reads
-returns-in-Tidy-clause-reads g c = reads_as g.F.Files.told g.F.Files.calm g.F.Files.faults c.report_library-in-Tidy.ensures.reads (λ failed. failed) (tidied_needs (g.F.Files.told c.args.files.now) (request_of c.args.request.now) c.in-Tidy.file.now (ap request_of c.in-Tidy.is))
+pub returns-in-Render-clause-answered : goal.returns-in-Render-clause-answered
+returns-in-Render-clause-answered g c =
+    let q = request_of c.args.request.now in
+    let r = Render c.in-Render.manifest.now in
+    answered_as g.F.Files.told g.F.Files.calm g.F.Files.faults (λ m. ReplayAnswer m c.in-Render.manifest.now None) (λ m. RequestAnswer m q) (λ m. HasFilesFor m q) (λ m. HasFilesFor m r) c.run_page.ensures.answered (render_in q c.in-Render.manifest.now (ap request_of c.in-Render.is)) (needs_of q r (ap request_of c.in-Render.is))
 
-pub returns-in-Render-clause-stop : goal.returns-in-Render-clause-stop
-returns-in-Render-clause-stop g c =
+pub returns-in-Render-clause-whole : goal.returns-in-Render-clause-whole
+returns-in-Render-clause-whole g c = not_whole_of (request_of c.args.request.now) (Render c.in-Render.manifest.now) (ap request_of c.in-Render.is) refl
+
+pub returns-in-Render-clause-not_built : goal.returns-in-Render-clause-not_built
+returns-in-Render-clause-not_built g c = built_of (request_of c.args.request.now) (Render c.in-Render.manifest.now) (ap request_of c.in-Render.is) refl
+
+pub returns-in-Replay-clause-answered : goal.returns-in-Replay-clause-answered
+returns-in-Replay-clause-answered g c =
+    let q = request_of c.args.request.now in
+    let r = Replay c.in-Replay.manifest.now c.in-Replay.trace.now c.in-Replay.slice in
+    answered_as g.F.Files.told g.F.Files.calm g.F.Files.faults (λ m. ReplayAnswer m c.in-Replay.manifest.now (Some c.in-Replay.trace.now)) (λ m. RequestAnswer m q) (λ m. HasFilesFor m q) (λ m. HasFilesFor m r) c.run_page-in-Replay.ensures.answered (replay_in q c.in-Replay.manifest.now c.in-Replay.trace.now c.in-Replay.slice (ap request_of c.in-Replay.is)) (needs_of q r (ap request_of c.in-Replay.is))
+
+pub returns-in-Replay-clause-whole : goal.returns-in-Replay-clause-whole
+returns-in-Replay-clause-whole g c = not_whole_of (request_of c.args.request.now) (Replay c.in-Replay.manifest.now c.in-Replay.trace.now c.in-Replay.slice) (ap request_of c.in-Replay.is) refl
+
+pub returns-in-Replay-clause-not_built : goal.returns-in-Replay-clause-not_built
+returns-in-Replay-clause-not_built g c = built_of (request_of c.args.request.now) (Replay c.in-Replay.manifest.now c.in-Replay.trace.now c.in-Replay.slice) (ap request_of c.in-Replay.is) refl
+
+pub returns-in-Audit-clause-answered : goal.returns-in-Audit-clause-answered
+returns-in-Audit-clause-answered g c =
     let none : is_built (request_of c.args.request.now) ≡ false = first_of (search rules, grind (arith, common_steps)) in
-    none_built (g.F.Files.told c.args.files.now) (request_of c.args.request.now) none
+    not_answered (request_of c.args.request.now) g.F.Files.told g.F.Files.calm g.F.Files.faults none
+
+pub returns-in-Check-clause-left : goal.returns-in-Check-clause-left
+returns-in-Check-clause-left g c = none_left (request_of c.args.request.now) (Check c.in-Check.manifest.now) (g.F.Files.told c.args.files.now) c.check_page.result (ap request_of c.in-Check.is) (λ m h is. is) c.check_page.ensures.no_host
+
+pub returns-in-CheckLib-clause-left : goal.returns-in-CheckLib-clause-left
+returns-in-CheckLib-clause-left g c = none_left (request_of c.args.request.now) (CheckLib c.in-CheckLib.file.now) (g.F.Files.told c.args.files.now) c.report_library.result (ap request_of c.in-CheckLib.is) (λ m h is. is) c.report_library.ensures.no_host
+
+pub returns-in-Tidy-clause-left : goal.returns-in-Tidy-clause-left
+returns-in-Tidy-clause-left g c = none_left (request_of c.args.request.now) (Tidy c.in-Tidy.file.now) (g.F.Files.told c.args.files.now) c.report_library-in-Tidy.result (ap request_of c.in-Tidy.is) (λ m h is. is) c.report_library-in-Tidy.ensures.no_host
+
+pub returns-in-Render-clause-left : goal.returns-in-Render-clause-left
+returns-in-Render-clause-left g c = as_asked (request_of c.args.request.now) (Render c.in-Render.manifest.now) (g.F.Files.told c.args.files.now) c.run_page.result (ap request_of c.in-Render.is) c.run_page.ensures.left
+
+pub returns-in-Replay-clause-left : goal.returns-in-Replay-clause-left
+returns-in-Replay-clause-left g c = as_asked (request_of c.args.request.now) (Replay c.in-Replay.manifest.now c.in-Replay.trace.now c.in-Replay.slice) (g.F.Files.told c.args.files.now) c.run_page-in-Replay.result (ap request_of c.in-Replay.is) c.run_page-in-Replay.ensures.left

@@ -1,3 +1,0 @@
-ADSAFE.lib("m", function (lib) {
-  return function () { return this; };
-});

@@ -1,0 +1,137 @@
+-- From the steps to the answer.
+use Rattle.std.proofs.Common.{◌≡◌, ℕ, List, [], Option, Some, None, IfSome, IsSomeAnd, Result, Ok, Err, IfOk, IfErr, IsErrOf, Bool, true, false, ap, sym, subst}
+use Rattle.host_io.specs.Files.{FileMap}
+use Rattle.adhost_run.specs.declared.ending.Status.{Status}
+use Rattle.adhost_run.specs.declared.ending.Status.TheVariants as status
+use Rattle.adhost_run.specs.declared.reading.Stop.{Stop}
+use Rattle.adhost_run.specs.declared.reading.Stop.TheVariants as stop
+use Rattle.adhost_run.specs.declared.reports.Report.{Report}
+use Rattle.adhost_run.specs.Steps.{Answers, Step, gives, stops, not_built, if_built}
+use Rattle.adhost_run.specs.Answer.{ending}
+use Rattle.adhost_run.specs.Ends.{IsStop, IsAnswerStop, Stepped, Answered}
+use Rattle.adhost_run.proofs.ReadsLemmas.{reads_nothing, reads_as, reads_then}
+
+-- which errors there are
+err_is : {T : Type 0} (s t : Stop) → IsErrOf {T = T} (Err s) t → s ≡ t
+err_is s t e = cc
+
+pub again : {T U : Type 0} (s t : Stop) → IsErrOf {T = T} (Err s) t → IsErrOf {T = U} (Err s) t
+again s t e = ap Err (err_is s t e)
+
+-- what stops one thing stops another
+pub as_stop : (P Q : Status → Type 0) → ((s : Status) → P s → Q s) → (e : Stop) → IsStop P e → IsStop Q e
+as_stop P Q more stop.BadManifest is = more status.BadManifest is
+as_stop P Q more stop.BadTrace is = more status.BadTrace is
+as_stop P Q more stop.TooLarge is = more status.TooLarge is
+as_stop P Q more stop.Unbuilt is = more status.Unbuilt is
+as_stop P Q more stop.ReadFault is = tt
+as_stop P Q more stop.Memory is = tt
+
+module _ (P Q : FileMap → Status → Type 0) (more : (m : FileMap) (s : Status) → P m s → Q m s) where
+  pub told_stop : (told : Option FileMap) (e : Stop) → IfSome told (λ m. IsStop (P m) e) → IfSome told (λ m. IsStop (Q m) e)
+  told_stop None e is = is
+  told_stop (Some m) e is = as_stop (P m) (Q m) (more m) e is
+
+module _ (All Enough : FileMap → Type 0) (enough : (m : FileMap) → All m → Enough m) where
+  pub told_enough : (told : Option FileMap) → IsSomeAnd told All → IsSomeAnd told Enough
+  told_enough None has = has
+  told_enough (Some m) has = enough m has
+
+-- what is answered further on, at what a step gave
+module _ {T : Type 0} (Gives : FileMap → T → Type 0) (Stops : FileMap → Status → Type 0) (next : FileMap → T → Answers) (x : T) where
+  step_report : (told : Option FileMap) (s : Status) (b : List ℕ) → IfSome told (λ m. Gives m x) → IfSome told (λ m. next m x s b) → IfSome told (λ m. Step (Gives m) (Stops m) (next m) s b)
+  step_report None s b given is = is
+  step_report (Some m) s b given is = gives given is
+
+  pub step_ok : (told : Option FileMap) (r : Result Report Stop) → IfSome told (λ m. Gives m x) → IfOk r (λ t. IfSome told (λ m. next m x (ending t.refused) t.bytes.items)) → IfOk r (λ t. IfSome told (λ m. Step (Gives m) (Stops m) (next m) (ending t.refused) t.bytes.items))
+  step_ok told (Ok t) given is = step_report told (ending t.refused) t.bytes.items given is
+  step_ok told (Err e) given is = is
+
+  step_stop : (told : Option FileMap) (e : Stop) → IfSome told (λ m. Gives m x) → IfSome told (λ m. IsAnswerStop (next m x) e) → IfSome told (λ m. IsAnswerStop (Step (Gives m) (Stops m) (next m)) e)
+  step_stop None e given is = is
+  step_stop (Some m) e given is = as_stop (λ s. next m x s []) (λ s. Step (Gives m) (Stops m) (next m) s []) (λ s it. gives given it) e is
+
+  pub step_err : (told : Option FileMap) (r : Result Report Stop) → IfSome told (λ m. Gives m x) → IfErr r (λ e. IfSome told (λ m. IsAnswerStop (next m x) e)) → IfErr r (λ e. IfSome told (λ m. IsAnswerStop (Step (Gives m) (Stops m) (next m)) e))
+  step_err told (Ok t) given is = is
+  step_err told (Err e) given is = step_stop told e given is
+
+  pub step_enough : (All Rest : FileMap → Type 0) → ((m : FileMap) → Gives m x → All m → Rest m) → (told : Option FileMap) → IfSome told (λ m. Gives m x) → IsSomeAnd told All → IsSomeAnd told Rest
+  step_enough All Rest rest None given has = has
+  step_enough All Rest rest (Some m) given has = rest m given has
+
+pub none_stops : (told : Option FileMap) → IfSome told (λ m. Unit {0})
+none_stops None = tt
+none_stops (Some m) = tt
+
+unbuilt_stops : (told : Option FileMap) (built : Bool) (answer : FileMap → Answers) → built ≡ false → IfSome told (λ m. IsAnswerStop (if_built built (answer m)) stop.Unbuilt)
+unbuilt_stops None built answer is = tt
+unbuilt_stops (Some m) built answer is = subst (λ b. if_built b (answer m) status.Unbuilt []) (sym is) not_built
+
+told_answer : (answer : FileMap → Answers) (s : Status) (b : List ℕ) → ((m : FileMap) → answer m s b) → (told : Option FileMap) → IfSome told (λ m. answer m s b)
+told_answer answer s b is None = tt
+told_answer answer s b is (Some m) = is m
+
+module _ {F : Type 0} (told : F → Option FileMap) (calm : F → Type 0) (faults : F → ℕ) where
+  -- a step with which there is no report
+  pub stopped : {T U : Type 0} {a b : F} {e : Stop} (view : T → U) (Gives : FileMap → U → Type 0) (Stops : FileMap → Status → Type 0) (next : FileMap → U → Answers) (Enough All : FileMap → Type 0) → Stepped {T = T} told calm faults a b (Err e) (λ m x. Gives m (view x)) Stops Enough → ((m : FileMap) → All m → Enough m) → Answered told calm faults a b (Err e) (λ m. Step (Gives m) (Stops m) (next m)) All
+  stopped {T} {U} {a} {b} {e} view Gives Stops next Enough All step enough = record {
+    answer = tt;
+    stops = told_stop Stops (λ m s. Step (Gives m) (Stops m) (next m) s []) (λ m s is. stops is) (told a) e step.stops;
+    reads = reads_as told calm faults step.reads (again e stop.ReadFault) (told_enough All Enough enough (told a));
+  }
+
+  -- a step from which the work went on
+  pub went_on : {T U : Type 0} {a b c : F} {x : T} {r : Result Report Stop} (view : T → U) (Gives : FileMap → U → Type 0) (Stops : FileMap → Status → Type 0) (next : FileMap → U → Answers) (Enough All Rest : FileMap → Type 0) → Stepped told calm faults a b (Ok x) (λ m y. Gives m (view y)) Stops Enough → Answered told calm faults b c r (λ m. next m (view x)) Rest → ((m : FileMap) → All m → Enough m) → ((m : FileMap) → Gives m (view x) → All m → Rest m) → Answered told calm faults a c r (λ m. Step (Gives m) (Stops m) (next m)) All
+  went_on {T} {U} {a} {b} {c} {x} {r} view Gives Stops next Enough All Rest step behind enough rest = record {
+    answer = step_ok Gives Stops next (view x) (told a) r step.gives (subst (λ t. IfOk r (λ v. IfSome t (λ m. next m (view x) (ending v.refused) v.bytes.items))) step.reads.same behind.answer);
+    stops = step_err Gives Stops next (view x) (told a) r step.gives (subst (λ t. IfErr r (λ e. IfSome t (λ m. IsAnswerStop (next m (view x)) e))) step.reads.same behind.stops);
+    reads = reads_then told calm faults step.reads behind.reads (λ failed. failed) (told_enough All Enough enough (told a))
+        (λ all. subst (λ t. IsSomeAnd t Rest) (sym step.reads.same) (step_enough Gives Stops next (view x) All Rest rest (told a) step.gives all));
+  }
+
+  -- the work ends where it is not built
+  pub not_built_yet : {a : F} (built : Bool) (answer : FileMap → Answers) (All : FileMap → Type 0) → built ≡ false → Answered told calm faults a a (Err stop.Unbuilt) (λ m. if_built built (answer m)) All
+  not_built_yet {a} built answer All is = record {
+    answer = tt;
+    stops = unbuilt_stops (told a) built answer is;
+    reads = reads_nothing told calm faults (λ failed. (let e = failed in cc));
+  }
+
+  -- and goes on where it is
+  pub built_so : {a b : F} {r : Result Report Stop} (built : Bool) (answer : FileMap → Answers) (All : FileMap → Type 0) → built ≡ true → Answered told calm faults a b r answer All → Answered told calm faults a b r (λ m. if_built built (answer m)) All
+  built_so {a} {b} {r} built answer All is it = subst (λ x. Answered told calm faults a b r (λ m. if_built x (answer m)) All) (sym is) it
+
+  -- there was no memory
+  pub no_memory_left : {a : F} (answer : FileMap → Answers) (All : FileMap → Type 0) → Answered told calm faults a a (Err stop.Memory) answer All
+  no_memory_left {a} answer All = record {
+    answer = tt;
+    stops = none_stops (told a);
+    reads = reads_nothing told calm faults (λ failed. (let e = failed in cc));
+  }
+
+  -- there is a report
+  pub reported : {a : F} (r : Report) (answer : FileMap → Answers) (All : FileMap → Type 0) → ((m : FileMap) → answer m (ending r.refused) r.bytes.items) → Answered told calm faults a a (Ok r) answer All
+  reported {a} r answer All is = record {
+    answer = told_answer answer (ending r.refused) r.bytes.items is (told a);
+    stops = tt;
+    reads = reads_nothing told calm faults (λ failed. (let e = failed in cc));
+  }
+
+  -- the same, said of what answers more, and needs more
+  pub answered_as : {a b : F} {r : Result Report Stop} (answer other : FileMap → Answers) (All Enough : FileMap → Type 0) → Answered told calm faults a b r answer Enough → ((m : FileMap) (s : Status) (bytes : List ℕ) → answer m s bytes → other m s bytes) → ((m : FileMap) → All m → Enough m) → Answered told calm faults a b r other All
+  answered_as {a} {b} {r} answer other All Enough it more enough = record {
+    answer = ok_as r it.answer;
+    stops = err_as r it.stops;
+    reads = reads_as told calm faults it.reads (λ failed. failed) (told_enough All Enough enough (told a));
+  } where
+    report_as : (o : Option FileMap) (s : Status) (bytes : List ℕ) → IfSome o (λ m. answer m s bytes) → IfSome o (λ m. other m s bytes)
+    report_as None s bytes is = is
+    report_as (Some m) s bytes is = more m s bytes is
+
+    ok_as : (x : Result Report Stop) → IfOk x (λ t. IfSome (told a) (λ m. answer m (ending t.refused) t.bytes.items)) → IfOk x (λ t. IfSome (told a) (λ m. other m (ending t.refused) t.bytes.items))
+    ok_as (Ok t) is = report_as (told a) (ending t.refused) t.bytes.items is
+    ok_as (Err e) is = is
+
+    err_as : (x : Result Report Stop) → IfErr x (λ e. IfSome (told a) (λ m. IsAnswerStop (answer m) e)) → IfErr x (λ e. IfSome (told a) (λ m. IsAnswerStop (other m) e))
+    err_as (Ok t) is = is
+    err_as (Err e) is = told_stop (λ m s. answer m s []) (λ m s. other m s []) (λ m s it. more m s [] it) (told a) e is

@@ -1,0 +1,80 @@
+-- The host that a run leaves.
+use Rattle.std.specs.Prelude.{◌≡◌, ℕ, ◌<◌, List, [], All, length, false, Option, Some, None, Result, IfOk, IfSome}
+use Rattle.host_io.specs.Files.{FileMap}
+use Rattle.manifest_reader.specs.declared.entry.Manifest.{Manifest}
+use Rattle.trace_reader.specs.declared.item.TraceItem.{TraceItem}
+use Rattle.slot_check.specs.Sources.{Source}
+use Rattle.pick_laws.specs.declared.entry.PickEntry.{PickEntry}
+use Rattle.pick_laws.specs.Journal.{ready_from, journal_room}
+use Rattle.pick_laws.specs.Order.{InOrder}
+use Rattle.slot_laws.specs.Settled.{slot_flags}
+use Rattle.widget_meaning.specs.OwnState.{OwnState}
+use Rattle.widget_meaning.specs.Alone.{Given}
+use Rattle.page_judge.specs.Runs.{SlotRun}
+use Rattle.widget_host.specs.declared.host.Host.{Host}
+use Rattle.widget_host.specs.Housed.{IsHoused, AreShown, chains, seens, journal, given, marked, singles}
+use Rattle.adhost_run.specs.declared.reading.Stop.{Stop}
+use Rattle.adhost_run.specs.declared.reports.Report.{Report}
+use Rattle.adhost_run.specs.Request.{Request, Render, Replay, Asks}
+use Rattle.adhost_run.specs.Page.{file_limit, AreRead, HasManifest, slot_names, files_named, runs_of}
+use Rattle.adhost_run.specs.Steps.{HasItems}
+use Rattle.adhost_run.specs.Run.{AreEnds}
+use Rattle.adhost_run.specs.Answer.{given_to}
+
+-- a host that is whole and has done with so many items: no turn is in progress, every queue is empty, and each kept pick of its journal has this slice; where the journal is not full, its picks are in the order of round robin
+pub record IsSettled (slice items : ℕ) (h : Host) : Type 0 where
+  pub housed : IsHoused h
+  pub unmarked : marked h ≡ false
+  pub count : given h ≡ items
+  pub quiet : ready_from 0 (slot_flags (seens h) (chains h)) ≡ []
+  pub slices : All (λ (e : PickEntry). e.slice ≡ slice) (journal h)
+  pub order : length (journal h) < journal_room → InOrder None (journal h)
+
+-- it has all slots of a page, each with one life, and their own states are those of the answer
+pub record IsStage (runs : List SlotRun) (items : List Given) (slice : ℕ) (h : Host) : Type 0 where
+  pub settled : IsSettled slice (length items) h
+  pub slots : chains h ≡ singles 0 (length runs)
+  pub ends : List (Option OwnState)
+  pub lines : List ℕ
+  pub are : AreEnds items runs ends lines
+  pub shown : AreShown h 0 ends
+
+-- what a step gave, and what was left with it
+pub record Left {T : Type 0} (Gives : T → Type 0) (next : T → Option Host → Type 0) (h : Option Host) : Type 0 where
+  pub from : T
+  pub gave : Gives from
+  pub left : next from h
+
+-- the host of a page that ran on these items; and from its files on, from its manifest on, and from its name on
+abbrev pub IsStageOf : ℕ → Manifest → List Source → List TraceItem → Option Host → Type 0
+IsStageOf slice manifest sources items None = ⊥
+IsStageOf slice manifest sources items (Some h) = IsStage (runs_of manifest sources) (given_to manifest items) slice h
+
+abbrev pub LeftByFiles : FileMap → Option (List ℕ) → ℕ → Manifest → List Source → Option Host → Type 0
+LeftByFiles files trace slice manifest sources = Left (HasItems files (slot_names manifest.entries.items) trace) (IsStageOf slice manifest sources)
+
+abbrev pub LeftByManifest : FileMap → Option (List ℕ) → ℕ → Manifest → Option Host → Type 0
+LeftByManifest files trace slice manifest = Left (AreRead files file_limit (files_named manifest)) (LeftByFiles files trace slice manifest)
+
+abbrev pub LeftByPage : FileMap → List ℕ → Option (List ℕ) → ℕ → Option Host → Type 0
+LeftByPage files name trace slice = Left (HasManifest files name) (LeftByManifest files trace slice)
+
+-- the slice of `render`
+abbrev pub render_slice : ℕ
+render_slice = 1000000
+
+-- what a request leaves: only a page that runs leaves a host
+abbrev pub RequestLeaves : FileMap → Request → Option Host → Type 0
+RequestLeaves files (Render manifest) h = LeftByPage files manifest None render_slice h
+RequestLeaves files (Replay manifest trace slice) h = LeftByPage files manifest (Some trace) slice h
+RequestLeaves files _ h = h ≡ None
+
+-- what a run of these words leaves
+pub record Leaves (words : List (List ℕ)) (files : FileMap) (h : Option Host) : Type 0 where
+  pub request : Request
+  pub asks : Asks words request
+  pub leaves : RequestLeaves files request h
+
+-- a report has the host that is left with it
+abbrev pub IsLeft : Option FileMap → Result Report Stop → (FileMap → Option Host → Type 0) → Type 0
+IsLeft told result leaves = IfOk result (λ r. IfSome told (λ m. leaves m r.host))
