@@ -1,9 +1,7 @@
 -- Slots that agree have one widget.
-use Rattle.std.proofs.Common.{◌≡◌, ℕ, suc, List, [], ◌∷◌, true, Option, Some, None, refl, sym, ap, subst, ◌∙◌}
+use Rattle.std.proofs.Common.{◌≡◌, ℕ, suc, List, ◌∷◌, Some, None, refl, sym, ap, subst, ◌∙◌}
 use Rattle.std.specs.Prelude.{slice_get}
 use Rattle.js_tree.specs.Plain.{Stmts}
-use Rattle.plain_tree.specs.Trees.{Trees}
-use Rattle.plain_tree.specs.Plains.{Places}
 use Rattle.markup_grammar.specs.Markup.{MarkupSpells}
 use Rattle.markup_grammar.proofs.Answers as markup
 use Rattle.adsafe_rules.specs.declared.scope.Scope.TheVariants as scope

@@ -1,6 +1,8 @@
 -- Words are of one form at most, and of none where no form fits.
-use Rattle.std.proofs.Common.{◌≡◌, ℕ, List, [], ◌∷◌, codes, Option, Some, None, true, refl, sym, subst, ◌∙◌, if◌then◌else◌}
+use Rattle.std.proofs.Common.{◌≡◌, ℕ, ◌<◌, List, [], ◌∷◌, codes, Option, Some, None, true, refl, sym, ap, subst, ◌∙◌, arith, if◌then◌else◌}
+use Rattle.std.specs.Prelude.{◌^◌}
 use Rattle.std.specs.Str.{bytes_eq}
+use Rattle.std.proofs.lemmas.Fmt.{decimal_injective}
 use Rattle.std.proofs.lemmas.Slice.Eq.{bytes_eq-Decides}
 use Rattle.adhost_run.specs.Request.{Request, Check, CheckLib, Tidy, Render, Replay, Audit, CheckAudit, Demo, IsCount, slice_limit, demo_limit, Asks, check, check_lib, tidy, render, replay, audit, check_audit, demo, is_built}
 use Rattle.adhost_run.proofs.Gathered.{some_is}
@@ -85,3 +87,69 @@ module _ (form manifest trace word : List ℕ) where
 
   pub asks_audit : (n : ℕ) → bytes_eq form (codes "audit") ≡ true → IsCount slice_limit word n → Asks (form ∷ manifest ∷ trace ∷ word ∷ []) (Audit manifest trace n)
   asks_audit n is count = subst (λ f. Asks (f ∷ manifest ∷ trace ∷ word ∷ []) (Audit manifest trace n)) (sym (same_word form (codes "audit") is)) (audit count)
+
+-- ## Numbers
+
+-- the number of a request, and one with another number
+abbrev number_of : Request → ℕ
+number_of (Replay manifest trace slice) = slice
+number_of (Audit manifest trace slice) = slice
+number_of (Demo count) = count
+number_of request = 0
+
+abbrev numbered : Request → ℕ → Request
+numbered (Replay manifest trace slice) n = Replay manifest trace n
+numbered (Audit manifest trace slice) n = Audit manifest trace n
+numbered (Demo count) n = Demo n
+numbered request n = request
+
+-- the number stands as the last word
+abbrev last_word : List (List ℕ) → List ℕ
+last_word (form ∷ one ∷ []) = one
+last_word (form ∷ manifest ∷ trace ∷ slice ∷ []) = slice
+last_word words = []
+
+abbrev IsSpelled : List ℕ → Request → Type 0
+IsSpelled word (Replay manifest trace slice) = IsCount slice_limit word slice
+IsSpelled word (Audit manifest trace slice) = IsCount slice_limit word slice
+IsSpelled word (Demo count) = IsCount demo_limit word count
+IsSpelled word request = Unit {0}
+
+is_spelled : (words : List (List ℕ)) (r : Request) → Asks words r → IsSpelled (last_word words) r
+is_spelled words r check = tt
+is_spelled words r check_lib = tt
+is_spelled words r tidy = tt
+is_spelled words r render = tt
+is_spelled words r (replay count) = count
+is_spelled words r (audit count) = count
+is_spelled words r check_audit = tt
+is_spelled words r (demo count) = count
+
+one_count : (limit : ℕ) (word : List ℕ) (m n : ℕ) → limit < 2 ^ 64 → IsCount limit word m → IsCount limit word n → m ≡ n
+one_count limit word m n small a b = decimal_injective m n (omega (arith, small, a.within)) (omega (arith, small, b.within)) (sym a.spelled ∙ b.spelled)
+
+same_number : (r : Request) (n : ℕ) (word : List ℕ) → IsSpelled word r → IsSpelled word (numbered (form_of r) n) → r ≡ numbered (form_of r) n
+same_number (Check manifest) n word a b = refl
+same_number (CheckLib file) n word a b = refl
+same_number (Tidy file) n word a b = refl
+same_number (Render manifest) n word a b = refl
+same_number (Replay manifest trace slice) n word a b = ap (Replay manifest trace) (one_count slice_limit word slice n (omega arith) a b)
+same_number (Audit manifest trace slice) n word a b = ap (Audit manifest trace) (one_count slice_limit word slice n (omega arith) a b)
+same_number (CheckAudit file) n word a b = refl
+same_number (Demo count) n word a b = ap Demo (one_count demo_limit word count n (omega arith) a b)
+
+by_number : (r : Request) → r ≡ numbered (form_of r) (number_of r)
+by_number (Check manifest) = refl
+by_number (CheckLib file) = refl
+by_number (Tidy file) = refl
+by_number (Render manifest) = refl
+by_number (Replay manifest trace slice) = refl
+by_number (Audit manifest trace slice) = refl
+by_number (CheckAudit file) = refl
+by_number (Demo count) = refl
+
+-- words ask for one thing, its number included
+pub one_request : (words : List (List ℕ)) (r q : Request) → Asks words r → Asks words q → r ≡ q
+one_request words r q a b =
+    let is : q ≡ numbered (form_of r) (number_of q) = by_number q ∙ ap (λ f. numbered f (number_of q)) (sym (one_form words r q a b)) in
+    same_number r (number_of q) (last_word words) (is_spelled words r a) (subst (IsSpelled (last_word words)) is (is_spelled words q b)) ∙ sym is

@@ -36,7 +36,7 @@ form_whole (Demo count) = refl
 pub whole_as : (words : List (List ℕ)) (q : Request) → Asks words q → IsWhole words → is_whole q ≡ true
 whole_as words q asks other = sym (form_whole q) ∙ ap is_whole (one_form words q other.request asks other.asks) ∙ form_whole other.request ∙ other.whole
 
--- the slice of the words is one
+-- the slice of the words is one, and so is the number
 pub sliced : (words : List (List ℕ)) (q : Request) → Asks words q → IsSliced q
 sliced words q check = tt
 sliced words q check_lib = tt
@@ -45,7 +45,7 @@ sliced words q render = tt
 sliced words q (replay count) = (count.positive, count.within)
 sliced words q (audit count) = tt
 sliced words q check_audit = tt
-sliced words q (demo count) = tt
+sliced words q (demo count) = count.within
 
 -- and what they need is there
 pub needs : (told : Option FileMap) (words : List (List ℕ)) (q : Request) → Asks words q → IsSomeAnd told (HasFiles words) → IsSomeAnd told (λ m. HasFilesFor m q)

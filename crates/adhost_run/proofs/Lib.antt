@@ -14,6 +14,7 @@ pub mod Delivery
 pub mod Ordered
 pub mod PlayedLemmas
 pub mod PageReports
+pub mod DemoPage
 pub mod OneAnswer
 pub mod Agreeing
 pub mod Ended

@@ -19,7 +19,7 @@ use Rattle.adhost_run.specs.declared.reading.Stop.{Stop}
 use Rattle.adhost_run.specs.Page.{texts, slot_names, slot_files, files_named, parts, HasSlots}
 
 -- the name and the file of a slot, of its plain data
-abbrev part_name : Part → List (List ℕ)
+abbrev pub part_name : Part → List (List ℕ)
 part_name (Markup trees) = []
 part_name (Widget name file fuel) = name ∷ []
 
@@ -27,7 +27,7 @@ abbrev part_file : Part → List (List ℕ)
 part_file (Markup trees) = []
 part_file (Widget name file fuel) = file ∷ []
 
-names_by_parts : (es : List Entry) → slot_names es ≡ flat_map part_name (map part_of es)
+pub names_by_parts : (es : List Entry) → slot_names es ≡ flat_map part_name (map part_of es)
 names_by_parts [] = refl
 names_by_parts (entry.Html content ∷ es) = names_by_parts es
 names_by_parts (entry.Slot name file fuel ∷ es) = ap (λ ns. name ∷ ns) (names_by_parts es)

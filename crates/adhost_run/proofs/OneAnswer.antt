@@ -35,8 +35,9 @@ use Rattle.adhost_run.specs.Page.{file_limit, manifest_limit, trace_limit, IsRea
 use Rattle.adhost_run.specs.Request.{Request, Check, CheckLib, Tidy, Render, Replay, Audit, CheckAudit, Demo, is_built}
 use Rattle.adhost_run.specs.Steps.{Answers, Step, gives, stops, NoManifest, long_manifest, bad_manifest, NoFiles, long_file, NoTrace, long_trace, many_items, bad_trace, HasItems, NoItems, NotBuilt, not_built, if_built}
 use Rattle.adhost_run.specs.Run.{given_by, life_line, IsEnd, ran, refused, AreEnds, no_end, one_end, some_refused, run_name, IsReport}
-use Rattle.adhost_run.specs.Answer.{IsText, ending, LibraryAnswer, report, too_large, CheckAnswer, lines, given_to, RunAnswer, page_report, OfManifest, OfFiles, FromItems, FromFiles, FromManifest, PageAnswer, ReplayAnswer, RequestAnswer, check, check_lib, tidy, render, replay, unbuilt, Answer, of_request, usage}
-use Rattle.adhost_run.proofs.Asking.{form_of, one_form}
+use Rattle.adhost_run.specs.Answer.{IsText, ending, LibraryAnswer, report, too_large, CheckAnswer, lines, given_to, RunAnswer, page_report, OfManifest, OfFiles, FromItems, FromFiles, FromManifest, PageAnswer, ReplayAnswer, RequestAnswer, check, check_lib, tidy, render, replay, demo, unbuilt, Answer, of_request, usage}
+use Rattle.adhost_run.specs.Demo.{demo_names, demo_runs, demo_given, short_lines, DemoAnswer, short_report}
+use Rattle.adhost_run.proofs.Asking.{one_request}
 use Rattle.adhost_run.proofs.Gathered.{one_read, read_once, not_long, none_long}
 use Rattle.adhost_run.proofs.Manifests.{SameFiles, manifest_once}
 
@@ -238,6 +239,7 @@ Answering m (CheckLib file) s b = LibraryAnswer m asked.Line file s b
 Answering m (Tidy file) s b = LibraryAnswer m asked.Tidied file s b
 Answering m (Render manifest) s b = ReplayAnswer m manifest None s b
 Answering m (Replay manifest trace slice) s b = ReplayAnswer m manifest (Some trace) s b
+Answering m (Demo count) s b = DemoAnswer count s b
 Answering m _ s b = (s ≡ status.Unbuilt) × (b ≡ [])
 
 none_built : (m : FileMap) (r : Request) → is_built r ≡ false → Answering m r status.Unbuilt []
@@ -248,7 +250,7 @@ none_built m (Render manifest) is = cc
 none_built m (Replay manifest trace slice) is = cc
 none_built m (Audit manifest trace slice) is = (refl, refl)
 none_built m (CheckAudit file) is = (refl, refl)
-none_built m (Demo count) is = (refl, refl)
+none_built m (Demo count) is = cc
 
 answering : (m : FileMap) (r : Request) (s : Status) (b : List ℕ) → RequestAnswer m r s b → Answering m r s b
 answering m r s b (check answer) = answer
@@ -256,18 +258,13 @@ answering m r s b (check_lib answer) = answer
 answering m r s b (tidy answer) = answer
 answering m r s b (render answer) = answer
 answering m r s b (replay answer) = answer
+answering m r s b (demo answer) = answer
 answering m r s b (unbuilt {request = q} is) = none_built m q is
 
--- it does not depend on numbers
-by_form : (m : FileMap) (r : Request) (s : Status) (b : List ℕ) → Answering m r s b → Answering m (form_of r) s b
-by_form m (Check manifest) s b is = is
-by_form m (CheckLib file) s b is = is
-by_form m (Tidy file) s b is = is
-by_form m (Render manifest) s b is = is
-by_form m (Replay manifest trace slice) s b is = is
-by_form m (Audit manifest trace slice) s b is = is
-by_form m (CheckAudit file) s b is = is
-by_form m (Demo count) s b is = is
+-- `demo` has one answer
+demo_once : (count : ℕ) → OneAnswer (DemoAnswer count) (DemoAnswer count)
+demo_once count s t b c (short_report {ends = x} {lines = l} are flag) (short_report {ends = y} {lines = k} also other) =
+    (refl, ap (short_lines demo_names) (ends_once (demo_given count) demo_runs x y l k are also).0)
 
 same_unbuilt : (s t : Status) (b c : List ℕ) → (s ≡ status.Unbuilt) × (b ≡ []) → (t ≡ status.Unbuilt) × (c ≡ []) → (s ≡ t) × (b ≡ c)
 same_unbuilt s t b c x y = (x.0 ∙ sym y.0, x.1 ∙ sym y.1)
@@ -280,13 +277,11 @@ request_once m (Render manifest) s t b c x y = replay_once m manifest None s t b
 request_once m (Replay manifest trace slice) s t b c x y = replay_once m manifest (Some trace) s t b c x y
 request_once m (Audit manifest trace slice) s t b c x y = same_unbuilt s t b c x y
 request_once m (CheckAudit file) s t b c x y = same_unbuilt s t b c x y
-request_once m (Demo count) s t b c x y = same_unbuilt s t b c x y
+request_once m (Demo count) s t b c x y = demo_once count s t b c x y
 
 pub answer_once : (words : List (List ℕ)) (m : FileMap) (s t : Status) (b c : List ℕ) → Answer words m s b → Answer words m t c → (s ≡ t) × (b ≡ c)
 answer_once words m s t b c (of_request {request = r} asks x) (of_request {request = q} also y) =
-    let one = by_form m r s b (answering m r s b x) in
-    let other = by_form m q t c (answering m q t c y) in
-    request_once m (form_of q) s t b c (subst (λ f. Answering m f s b) (one_form words r q asks also) one) other
+    request_once m q s t b c (subst (λ f. Answering m f s b) (one_request words r q asks also) (answering m r s b x)) (answering m q t c y)
 answer_once words m s t b c (of_request {request = r} asks x) (usage none) = absurd (none (record { request = r; asks = asks }))
 answer_once words m s t b c (usage none) (of_request {request = q} asks y) = absurd (none (record { request = q; asks = asks }))
 answer_once words m s t b c (usage none) (usage also) = (refl, refl)

@@ -1,5 +1,5 @@
 -- The order of picks by round robin over slots of one life each.
-use Rattle.std.proofs.Common.{◌≡◌, ℕ, ◌+◌, ◌-◌, ◌<◌, ◌≤◌, List, [], ◌∷◌, ◌++◌, length, map, Bool, true, false, Option, Some, None, refl, sym, ap, subst, ◌∙◌, arith}
+use Rattle.std.proofs.Common.{◌≡◌, ℕ, ◌+◌, ◌-◌, ◌<◌, ◌≤◌, List, [], ◌∷◌, ◌++◌, length, map, Bool, true, false, Option, Some, None, refl, ap, subst, ◌∙◌, arith}
 use Rattle.std.specs.Prelude.{slice_get, unwrap_or, if◌then◌else◌}
 use Rattle.std.proofs.lemmas.List.{length-map, length-drop, length_push}
 use Rattle.code_units.specs.declared.owner.TheConstants.{WIDGETS}
@@ -8,7 +8,7 @@ use Rattle.turn_sched.specs.declared.chooser.Ask.{Ask}
 use Rattle.turn_sched.specs.Turns.{TakeTurns}
 use Rattle.pick_laws.specs.declared.entry.PickEntry.{PickEntry}
 use Rattle.pick_laws.specs.Journal.{journal_room, kept, keeps, ready_from}
-use Rattle.pick_laws.specs.Asked.{Entries, no_ask, with_entry, was_idle, Chosen, ready_at}
+use Rattle.pick_laws.specs.Asked.{Entries, with_entry, was_idle, Chosen, ready_at}
 use Rattle.pick_laws.specs.Order.{InOrder}
 use Rattle.pick_laws.specs.PickLaws.{page_slots}
 use Rattle.pick_laws.proofs.LawsHold.{order_law}

@@ -5,7 +5,7 @@ use Rattle.std.specs.List.{list_any}
 use Rattle.std.proofs.lemmas.List.{take_all}
 use Rattle.code_units.specs.Places.{place_at as place}
 use Rattle.trace_text.specs.declared.line.RunText.{RunText}
-use Rattle.trace_text.specs.Report.{run_members, ran_life, state_name, refused_life}
+use Rattle.trace_text.specs.Report.{run_members, ran_life, short_life, state_name, refused_life}
 use Rattle.trace_reader.specs.declared.item.TraceItem.{TraceItem}
 use Rattle.trace_reader.specs.Said.{said}
 use Rattle.slot_check.specs.declared.fault.Refusal.{Refusal}
@@ -23,7 +23,7 @@ use Rattle.widget_host.specs.declared.lines.RunLine.{RunLine}
 use Rattle.widget_host.specs.Housed.{IsHoused, IsLineOf, IsShown, AreShown, chains, seens, accepts, present, singles}
 use Rattle.adhost_run.specs.Page.{is_swap, is_built_trace}
 use Rattle.adhost_run.specs.Items.{IsFor}
-use Rattle.adhost_run.specs.Run.{life_line, IsEnd, ran, AreEnds, no_end, one_end, some_refused, run_name}
+use Rattle.adhost_run.specs.Run.{life_line, short_line, IsEnd, ran, AreEnds, no_end, one_end, some_refused, run_name}
 use Rattle.adhost_run.specs.Run as run
 use Rattle.adhost_run.specs.Played.{name_of, ended, AreDue, IsEnded, line_for, ArePaired, no_pair, one_pair, lines_of, AreTold, IsTold}
 use Rattle.adhost_run.proofs.Delivery.{some_seen, no_seen}
@@ -134,6 +134,10 @@ item_stays (y ∷ ys) (suc n) x within is built = item_stays ys n x (omega arith
 pub life_text : (t : RunText) (own : OwnState) (name : List ℕ) → t.name ≡ name → t.until ≡ None → state_name t.state ≡ run.state_word own.stop → own.turns ≡ t.turns → own.spent ≡ t.spent → own.missed ≡ t.missed → own.gone ≡ t.gone → own.log ≡ t.log.items → own.uncaught ≡ t.uncaught.items → ran_life t ≡ life_line name None own
 unfolding run_members
 life_text t own name named until state turns spent missed gone log uncaught = cc
+
+pub short_text : (t : RunText) (own : OwnState) (name : List ℕ) → t.name ≡ name → t.until ≡ None → state_name t.state ≡ run.state_word own.stop → own.turns ≡ t.turns → own.spent ≡ t.spent → own.missed ≡ t.missed → own.gone ≡ t.gone → short_life t ≡ short_line name own
+unfolding run_members
+short_text t own name named until state turns spent missed gone = cc
 
 pub even : (names : List (List ℕ)) (refusals : List (Option Refusal)) (owns : List (Option OwnState)) → ArePaired names refusals owns → (length names ≡ length refusals) × (length names ≡ length owns)
 even names refusals owns no_pair = (refl, refl)

@@ -7,10 +7,11 @@ use Rattle.adhost_run.specs.declared.reading.Stop.TheVariants as stop
 use Rattle.adhost_run.specs.declared.reports.Asked.{Asked}
 use Rattle.adhost_run.specs.declared.reports.Asked.TheVariants as asked
 use Rattle.adhost_run.specs.declared.reports.Report.{Report}
-use Rattle.adhost_run.specs.Request.{Request, Check, CheckLib, Tidy, Render, Replay, is_built, is_whole}
+use Rattle.adhost_run.specs.Request.{Request, Check, CheckLib, Tidy, Render, Replay, Demo, is_built, is_whole}
 use Rattle.adhost_run.specs.Page.{file_limit}
 use Rattle.adhost_run.specs.Reading.{ReadsFiles, IsLong, HasFilesFor, IsReadStop}
-use Rattle.adhost_run.specs.Answer.{IsText, ending, LibraryAnswer, report, too_large, PageAnswer, ReplayAnswer, RequestAnswer, check, check_lib, tidy, render, replay, unbuilt}
+use Rattle.adhost_run.specs.Answer.{IsText, ending, LibraryAnswer, report, too_large, PageAnswer, ReplayAnswer, RequestAnswer, check, check_lib, tidy, render, replay, demo, unbuilt}
+use Rattle.adhost_run.specs.Demo.{DemoAnswer}
 use Rattle.adhost_run.specs.Ends.{IsAnswerStop, Answered}
 use Rattle.adhost_run.proofs.ReadsLemmas.{reads_nothing, reads_as}
 use Rattle.adhost_run.proofs.Stepping.{again, none_stops}
@@ -64,6 +65,9 @@ module _ (q : Request) where
 
   pub replay_in : (name trace : List ℕ) (slice : ℕ) → q ≡ Replay name trace slice → (m : FileMap) (s : Status) (b : List ℕ) → ReplayAnswer m name (Some trace) s b → RequestAnswer m q s b
   replay_in name trace slice is m s b answer = subst (λ x. RequestAnswer m x s b) (sym is) (replay answer)
+
+  pub demo_in : (count : ℕ) → q ≡ Demo count → (m : FileMap) (s : Status) (b : List ℕ) → DemoAnswer count s b → RequestAnswer m q s b
+  demo_in count is m s b answer = subst (λ x. RequestAnswer m x s b) (sym is) (demo answer)
 
   -- and what it needs is what that needs
   pub needs_of : (r : Request) → q ≡ r → (m : FileMap) → HasFilesFor m q → HasFilesFor m r

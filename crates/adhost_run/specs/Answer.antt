@@ -13,10 +13,11 @@ use Rattle.adhost_run.specs.declared.ending.Status.{Status}
 use Rattle.adhost_run.specs.declared.ending.Status.TheVariants as status
 use Rattle.adhost_run.specs.declared.reports.Asked.{Asked}
 use Rattle.adhost_run.specs.declared.reports.Asked.TheVariants as asked
-use Rattle.adhost_run.specs.Request.{Request, Check, CheckLib, Tidy, Render, Replay, Asks, IsForm, is_built}
+use Rattle.adhost_run.specs.Request.{Request, Check, CheckLib, Tidy, Render, Replay, Demo, Asks, IsForm, is_built}
 use Rattle.adhost_run.specs.Page.{file_limit, IsRead, AreRead, slot_names, files_named, HasManifest, slots_of, parts, runs_of, is_built_page, is_built_trace}
 use Rattle.adhost_run.specs.Steps.{Answers, Step, NoManifest, NoFiles, HasItems, NoItems, if_built}
 use Rattle.adhost_run.specs.Run.{given_by, IsReport}
+use Rattle.adhost_run.specs.Demo.{DemoAnswer}
 
 -- what is written of a library: its line, or its tidied text
 abbrev pub IsText : Asked → List ℕ → List ℕ → Bool → List ℕ → Type 0
@@ -81,6 +82,7 @@ pub data RequestAnswer (files : FileMap) : Request → Status → List ℕ → T
   tidy : {file : List ℕ} {s : Status} {bytes : List ℕ} → LibraryAnswer files asked.Tidied file s bytes → RequestAnswer files (Tidy file) s bytes
   render : {manifest : List ℕ} {s : Status} {bytes : List ℕ} → ReplayAnswer files manifest None s bytes → RequestAnswer files (Render manifest) s bytes
   replay : {manifest trace : List ℕ} {slice : ℕ} {s : Status} {bytes : List ℕ} → ReplayAnswer files manifest (Some trace) s bytes → RequestAnswer files (Replay manifest trace slice) s bytes
+  demo : {count : ℕ} {s : Status} {bytes : List ℕ} → DemoAnswer count s bytes → RequestAnswer files (Demo count) s bytes
   unbuilt : {request : Request} → is_built request ≡ false → RequestAnswer files request status.Unbuilt []
 
 -- Answer: the status of the words over the files, and the bytes that are written

@@ -5,6 +5,7 @@ pub mod Items
 pub mod Steps
 pub mod Run
 pub mod TwoPages
+pub mod Demo
 pub mod Answer
 pub mod Played
 pub mod Ends

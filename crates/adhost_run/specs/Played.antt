@@ -16,7 +16,7 @@ use Rattle.widget_host.specs.declared.host.Host.{Host}
 use Rattle.widget_host.specs.declared.items.HostItem.{HostItem}
 use Rattle.widget_host.specs.declared.items.HostItem.TheVariants as host
 use Rattle.widget_host.specs.Housed.{IsHoused, GivesItem, AreShown, chains, seens, accepts, present, singles, IsLaid}
-use Rattle.adhost_run.specs.Run.{given_by, life_line}
+use Rattle.adhost_run.specs.Run.{given_by, life_line, some_refused}
 
 -- the name of a slot
 abbrev pub name_of : SlotSpec → List ℕ
@@ -88,6 +88,14 @@ pub record AreTold (names : List (List ℕ)) (refusals : List (Option Refusal)) 
   pub chains : chains h ≡ singles 0 (length names)
   pub shown : AreShown h 0 owns
   pub paired : ArePaired names refusals owns
+
+-- so of slots of which none is refused
+pub record AreAccepted (names : List (List ℕ)) (h : Host) (owns : List (Option OwnState)) : Type 0 where
+  pub housed : IsHoused h
+  pub chains : chains h ≡ singles 0 (length names)
+  pub shown : AreShown h 0 owns
+  pub even : length names ≡ length owns
+  pub accepted : some_refused owns ≡ false
 
 -- the life of a slot that is not refused is accepted
 abbrev pub IsTold : Option Refusal → Host → ℕ → Type 0

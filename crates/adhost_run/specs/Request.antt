@@ -51,6 +51,7 @@ is_built (CheckLib file) = true
 is_built (Tidy file) = true
 is_built (Render manifest) = true
 is_built (Replay manifest trace slice) = true
+is_built (Demo count) = true
 is_built _ = false
 
 -- those that it answers whatever the files
@@ -58,6 +59,7 @@ abbrev pub is_whole : Request → Bool
 is_whole (Check manifest) = true
 is_whole (CheckLib file) = true
 is_whole (Tidy file) = true
+is_whole (Demo count) = true
 is_whole _ = false
 
 -- the words are of one of the other forms
@@ -72,9 +74,10 @@ pub record IsWhole (words : List (List ℕ)) : Type 0 where
   pub asks : Asks words request
   pub whole : is_whole request ≡ true
 
--- the slice of a request is one
+-- the slice of a request is one, and so is its number
 abbrev pub IsSliced : Request → Type 0
 IsSliced (Replay manifest trace slice) = (1 ≤ slice) × (slice ≤ slice_limit)
+IsSliced (Demo count) = count ≤ demo_limit
 IsSliced request = Unit {0}
 
 -- a request of the code, by the bytes of its names

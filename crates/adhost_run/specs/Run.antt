@@ -42,14 +42,21 @@ state_word None = codes "live"
 state_word (Some Fuel) = codes "fuel"
 state_word (Some (PastLimit cause)) = cause_word cause
 
--- the line of a life by its own state in the end: {"widget":"..","state":"live","turns":..,"spent":..,"missed":..,"gone":..,"log":[..],"uncaught":[..]}
-abbrev pub life_line : List ℕ → Option ℕ → OwnState → List ℕ
-life_line name until o =
+-- the line of a life by its own state in the end, up to the events that it no longer took: {"widget":"..","state":"live","turns":..,"spent":..,"missed":..,"gone":..
+abbrev pub life_start : List ℕ → Option ℕ → OwnState → List ℕ
+life_start name until o =
     concat (codes "{\"widget\":\"" ∷ text_inside name ∷ codes "\"" ∷ until_member until
     ∷ codes ",\"state\":\"" ∷ state_word o.stop ∷ codes "\",\"turns\":" ∷ decimal o.turns
     ∷ codes ",\"spent\":" ∷ decimal o.spent ∷ codes ",\"missed\":" ∷ decimal o.missed
     ∷ codes ",\"gone\":" ∷ decimal o.gone ∷ [])
-    ++ (run_notes o.log o.uncaught ++ line_end)
+
+-- the whole line: ..,"log":[..],"uncaught":[..]}
+abbrev pub life_line : List ℕ → Option ℕ → OwnState → List ℕ
+life_line name until o = life_start name until o ++ (run_notes o.log o.uncaught ++ line_end)
+
+-- and the short one, without log and notes
+abbrev pub short_line : List ℕ → OwnState → List ℕ
+short_line name o = life_start name None o ++ line_end
 
 -- ## Slots
 

@@ -15,10 +15,11 @@ use Rattle.widget_host.specs.declared.host.Host.{Host}
 use Rattle.widget_host.specs.Housed.{IsHoused, AreShown, chains, seens, journal, given, marked, singles}
 use Rattle.adhost_run.specs.declared.reading.Stop.{Stop}
 use Rattle.adhost_run.specs.declared.reports.Report.{Report}
-use Rattle.adhost_run.specs.Request.{Request, Render, Replay, Asks}
+use Rattle.adhost_run.specs.Request.{Request, Render, Replay, Demo, Asks}
 use Rattle.adhost_run.specs.Page.{file_limit, AreRead, HasManifest, slot_names, files_named, runs_of}
 use Rattle.adhost_run.specs.Steps.{HasItems}
 use Rattle.adhost_run.specs.Run.{AreEnds}
+use Rattle.adhost_run.specs.Demo.{demo_runs, demo_given}
 use Rattle.adhost_run.specs.Answer.{given_to}
 
 -- a host that is whole and has done with so many items: no turn is in progress, every queue is empty, and each kept pick of its journal has this slice; where the journal is not full, its picks are in the order of round robin
@@ -59,6 +60,14 @@ LeftByManifest files trace slice manifest = Left (AreRead files file_limit (file
 abbrev pub LeftByPage : FileMap → List ℕ → Option (List ℕ) → ℕ → Option Host → Type 0
 LeftByPage files name trace slice = Left (HasManifest files name) (LeftByManifest files trace slice)
 
+-- the slice of `demo`, and the host that it leaves
+abbrev pub demo_slice : ℕ
+demo_slice = 50
+
+abbrev pub IsDemoStage : ℕ → Option Host → Type 0
+IsDemoStage count None = ⊥
+IsDemoStage count (Some h) = IsStage demo_runs (demo_given count) demo_slice h
+
 -- the slice of `render`
 abbrev pub render_slice : ℕ
 render_slice = 1000000
@@ -67,6 +76,7 @@ render_slice = 1000000
 abbrev pub RequestLeaves : FileMap → Request → Option Host → Type 0
 RequestLeaves files (Render manifest) h = LeftByPage files manifest None render_slice h
 RequestLeaves files (Replay manifest trace slice) h = LeftByPage files manifest (Some trace) slice h
+RequestLeaves files (Demo count) h = IsDemoStage count h
 RequestLeaves files _ h = h ≡ None
 
 -- what a run of these words leaves

@@ -3,6 +3,7 @@
 //! its widgets, and writes what became of them.
 #![tactic(auto)]
 
+mod demos;
 mod ending;
 mod laws;
 mod pages;

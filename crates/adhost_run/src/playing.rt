@@ -12,7 +12,7 @@ ghost use Rattle.page_spec.specs.Pages.{PagePiece, roots, page_of};
 ghost use Rattle.widget_host.specs.Housed.{IsHoused, IsLineOf, IsShown, AreShown, chains, given, present, IsLaid, meant_stop};
 ghost use Rattle.adhost_run.specs.Page.{files_named, slot_names, HasSlots, is_swap, is_built_trace};
 ghost use Rattle.adhost_run.specs.Answer.{ending, RunAnswer};
-ghost use Rattle.adhost_run.specs.Run.{life_line, state_word};
+ghost use Rattle.adhost_run.specs.Run.{life_line, short_line, state_word};
 ghost use Rattle.adhost_run.specs.Items.{IsFor, AreItems};
 ghost use Rattle.adhost_run.specs.Played.{name_of, IsPlayed, Gives, IsEnded, line_for, lines_of, AreTold, IsTold, AppendsPage};
 ghost use Rattle.adhost_run.specs.Stage.{IsSettled, IsStageOf};
@@ -68,8 +68,8 @@ pub fn play_page(
     })
 }
 
-// The keys of the host's tables, from the files that were read.
-fn keys_of(alloc: Global, sources: &[SourceFile]) -> Result<Keys, Memory> {
+/// The keys of the host's tables, from the files that were read.
+pub fn keys_of(alloc: Global, sources: &[SourceFile]) -> Result<Keys, Memory> {
     let mut files = Vec::new(alloc);
     'sources: for source in sources {
         files.push(source.bytes.as_slice())?;
@@ -77,8 +77,8 @@ fn keys_of(alloc: Global, sources: &[SourceFile]) -> Result<Keys, Memory> {
     Ok(Keys::of_files(&files))
 }
 
-// A page that is loaded, has taken these items and has settled.
-fn play(
+/// A page that is loaded, has taken these items and has settled.
+pub fn play(
     alloc: Global,
     keys: Keys,
     spec: PageSpec,
@@ -146,8 +146,8 @@ fn push_lines(
     Ok(())
 }
 
-// Whether a slot is refused.
-fn some_refused(refusals: &[Option<Refusal>]) -> bool
+/// Whether a slot is refused.
+pub fn some_refused(refusals: &[Option<Refusal>]) -> bool
     ensures { result ≡ list_any is_some refusals.now }
 {
     'refusals: for refusal in refusals {
@@ -192,9 +192,10 @@ fn refused_line(alloc: Global, name: &Text, refusal: &Refusal) -> Result<Line, M
     })
 }
 
-// What a life did, under its name.
-fn run_text(name: Text, line: RunLine) -> RunText
-    ensures { (own : OwnState) → IsLineOf line own → line_text (Line.Ran result) ≡ life_line name None own }
+/// What a life did, under its name.
+pub fn run_text(name: Text, line: RunLine) -> RunText
+    ensures whole { (own : OwnState) → IsLineOf line own → line_text (Line.Ran result) ≡ life_line name None own }
+    ensures short { (own : OwnState) → IsLineOf line own → line_text (Line.Short result) ≡ short_line name own }
 {
     RunText {
         name,

@@ -6,6 +6,7 @@ ghost use Rattle.adhost_run.specs.Ends.{Answered};
 ghost use Rattle.adhost_run.specs.Reading.{HasFilesFor, IsBuiltStop};
 ghost use Rattle.adhost_run.specs.Stage.{RequestLeaves, IsLeft};
 
+use crate::demos::demo;
 use crate::pages::check_page;
 use crate::reading::{FILE_LIMIT, Stop, read_file};
 use crate::request::Request;
@@ -58,9 +59,8 @@ pub fn report_on<F: Files>(alloc: Global, request: &Request, files: &mut F) -> R
             trace,
             slice,
         } => run_page(alloc, manifest, Some(*trace), *slice, files),
-        Request::Audit { .. } | Request::CheckAudit { .. } | Request::Demo { .. } => {
-            Err(Stop::Unbuilt)
-        }
+        Request::Demo { count } => Ok(demo(alloc, *count)?),
+        Request::Audit { .. } | Request::CheckAudit { .. } => Err(Stop::Unbuilt),
     }
 }
 

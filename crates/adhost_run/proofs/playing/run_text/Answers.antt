@@ -1,9 +1,14 @@
 use Rattle.std.proofs.Common.{None, refl, sym, ap, ◌∙◌}
 use Rattle.adhost_run.specs.Run.{state_word}
-use Rattle.adhost_run.proofs.PlayedLemmas.{life_text}
+use Rattle.adhost_run.proofs.PlayedLemmas.{life_text, short_text}
 use Rattle.adhost_run.proofs.playing.run_text.Goals as goal
 
-pub returns : goal.returns
-returns c = λ own is.
+pub returns-clause-whole : goal.returns-clause-whole
+returns-clause-whole c = λ own is.
     life_text (record { name = c.args.name; until = None; state = c.state_of.result; turns = c.args.line.turns; spent = c.args.line.spent; missed = c.args.line.missed; gone = c.args.line.gone; log = c.args.line.log; uncaught = c.args.line.uncaught }) own c.args.name
     refl refl (c.state_of.ensures ∙ ap state_word (sym is.stop)) is.turns is.spent is.missed is.gone is.log is.uncaught
+
+pub returns-clause-short : goal.returns-clause-short
+returns-clause-short c = λ own is.
+    short_text (record { name = c.args.name; until = None; state = c.state_of.result; turns = c.args.line.turns; spent = c.args.line.spent; missed = c.args.line.missed; gone = c.args.line.gone; log = c.args.line.log; uncaught = c.args.line.uncaught }) own c.args.name
+    refl refl (c.state_of.ensures ∙ ap state_word (sym is.stop)) is.turns is.spent is.missed is.gone

@@ -1,12 +1,14 @@
-use Rattle.std.proofs.Common.{◌≡◌, false, None, Some, refl, ap, rules, arith}
+use Rattle.std.proofs.Common.{◌≡◌, false, None, Some, Ok, refl, ap, subst, rules, arith}
+use Rattle.std.proofs.lemmas.Result.{err_from_is_err_and}
 use Rattle.std.proofs.lemmas.Grind.{common_steps}
 use Rattle.adhost_run.specs.declared.reports.Asked.TheVariants as asked
-use Rattle.adhost_run.specs.Request.{Check, CheckLib, Tidy, Render, Replay, request_of, is_built}
+use Rattle.adhost_run.specs.Request.{Check, CheckLib, Tidy, Render, Replay, Demo, IsSliced, request_of, is_built}
 use Rattle.adhost_run.specs.Reading.{HasFilesFor}
-use Rattle.adhost_run.specs.Answer.{LibraryAnswer, PageAnswer, ReplayAnswer, RequestAnswer}
-use Rattle.adhost_run.proofs.Staging.{none_left, as_asked}
-use Rattle.adhost_run.proofs.Stepping.{answered_as}
-use Rattle.adhost_run.proofs.Reported.{page_in, line_in, tidied_in, render_in, replay_in, needs_of, built_of, not_whole_of, not_answered}
+use Rattle.adhost_run.specs.Answer.{ending, LibraryAnswer, PageAnswer, ReplayAnswer, RequestAnswer}
+use Rattle.adhost_run.specs.Stage.{IsDemoStage}
+use Rattle.adhost_run.proofs.Staging.{none_left, as_asked, left_here}
+use Rattle.adhost_run.proofs.Stepping.{answered_as, no_memory_left, reported}
+use Rattle.adhost_run.proofs.Reported.{page_in, line_in, tidied_in, render_in, replay_in, demo_in, needs_of, built_of, not_whole_of, not_answered}
 use Rattle.adhost_run.proofs.reports.report_on.Goals as goal
 
 pub returns-in-Check-clause-answered : goal.returns-in-Check-clause-answered
@@ -88,3 +90,31 @@ returns-in-Render-clause-left g c = as_asked (request_of c.args.request.now) (Re
 
 pub returns-in-Replay-clause-left : goal.returns-in-Replay-clause-left
 returns-in-Replay-clause-left g c = as_asked (request_of c.args.request.now) (Replay c.in-Replay.manifest.now c.in-Replay.trace.now c.in-Replay.slice) (g.F.Files.told c.args.files.now) c.run_page-in-Replay.result (ap request_of c.in-Replay.is) c.run_page-in-Replay.ensures.left
+
+pub demo-requires : goal.demo-requires
+demo-requires g c = subst IsSliced (ap request_of c.in-Demo.is) c.requires
+
+pub returns-in_err-demo-in-Demo-clause-answered : goal.returns-in_err-demo-in-Demo-clause-answered
+returns-in_err-demo-in-Demo-clause-answered g c =
+    let p = err_from_is_err_and c.from_residual.result c.from_residual.ensures.1 in
+    let q = request_of c.args.request.now in
+    rw (p.1, p.2) (no_memory_left g.F.Files.told g.F.Files.calm g.F.Files.faults (λ m. RequestAnswer m q) (λ m. HasFilesFor m q))
+
+pub returns-in_err-demo-in-Demo-clause-not_built : goal.returns-in_err-demo-in-Demo-clause-not_built
+returns-in_err-demo-in-Demo-clause-not_built g c = built_of (request_of c.args.request.now) (Demo c.in-Demo.count) (ap request_of c.in-Demo.is) refl
+
+pub returns-in_ok-demo-in-Demo-clause-answered : goal.returns-in_ok-demo-in-Demo-clause-answered
+returns-in_ok-demo-in-Demo-clause-answered g c =
+    let q = request_of c.args.request.now in
+    let r = c.in_ok-demo-in-Demo.field-0 in
+    reported g.F.Files.told g.F.Files.calm g.F.Files.faults r (λ m. RequestAnswer m q) (λ m. HasFilesFor m q) (λ m. demo_in q c.in-Demo.count (ap request_of c.in-Demo.is) m (ending r.refused) r.bytes.items c.in_ok-demo-in-Demo.ensures.answer)
+
+pub returns-in_ok-demo-in-Demo-clause-not_built : goal.returns-in_ok-demo-in-Demo-clause-not_built
+returns-in_ok-demo-in-Demo-clause-not_built g c = built_of (request_of c.args.request.now) (Demo c.in-Demo.count) (ap request_of c.in-Demo.is) refl
+
+pub returns-in_ok-demo-in-Demo-clause-left : goal.returns-in_ok-demo-in-Demo-clause-left
+returns-in_ok-demo-in-Demo-clause-left g c =
+    let q = request_of c.args.request.now in
+    let r = c.in_ok-demo-in-Demo.field-0 in
+    let told = g.F.Files.told c.args.files.now in
+    as_asked q (Demo c.in-Demo.count) told (Ok r) (ap request_of c.in-Demo.is) (left_here told (λ m h. IsDemoStage c.in-Demo.count h) r.host (λ m. c.in_ok-demo-in-Demo.ensures.stage))

@@ -6,7 +6,7 @@ use Rattle.slot_check.specs.Verdicts.{sources_of}
 use Rattle.adhost_run.specs.Page.{file_limit, AreRead, files_named, is_built_page}
 use Rattle.adhost_run.specs.Reading.{ComesThrough, HasSources, IsTraceThere}
 use Rattle.adhost_run.specs.Steps.{NoFiles}
-use Rattle.adhost_run.specs.Answer.{OfFiles, FromFiles, FromManifest}
+use Rattle.adhost_run.specs.Answer.{OfFiles, FromFiles}
 use Rattle.adhost_run.specs.Ends.{Answered}
 use Rattle.adhost_run.specs.Stage.{LeftByFiles, IsLeft}
 use Rattle.adhost_run.proofs.Staging.{left_on}
