@@ -1,18 +1,30 @@
-//! A shared text of 16-bit units, which keeps no hash.
+//! A shared text of 16-bit units, which keeps no hash, and a hint where it was found last.
 ghost use Rattle.std.specs.Prelude.{◌≡◌, IfOk};
 
 use crate::feeding::feed;
 use crate::memory::Memory;
 use std::alloc::Global;
+use std::cell::Cell;
 use std::cmp::{Eq, Ord, Ordering, PartialEq, PartialOrd};
 use std::hash::{Hash, Hasher};
 use std::marker::Model;
 use std::rc::Rc;
 
+// What all holders of a text share: its units, and the number under which a table of names knows it,
+// which is a hint and promises nothing.
+#[derive(Drop)]
+struct Shared {
+    units: Vec<u16>,
+    hint: Cell<u32>,
+}
+
+// The hint of a text that was not looked up yet.
+const NO_HINT: u32 = u32::MAX;
+
 /// A shared list of 16-bit units.
 #[derive(Drop)]
 pub struct Text {
-    units: Rc<Vec<u16>>,
+    shared: Rc<Shared>,
 }
 
 impl Model for Text {
@@ -20,7 +32,7 @@ impl Model for Text {
 
     ghost Value = { List ℕ };
 
-    ghost view = { λ t. t.units.value.items };
+    ghost view = { λ t. t.shared.value.units.items };
 }
 
 impl Text {
@@ -28,8 +40,12 @@ impl Text {
     pub fn from_units(alloc: Global, units: Vec<u16>) -> Result<Text, Memory>
         ensures { IfOk result (λ t. t ≡ units.items) }
     {
+        let shared = Shared {
+            units,
+            hint: Cell::new(NO_HINT),
+        };
         Ok(Text {
-            units: Rc::new(alloc, units)?,
+            shared: Rc::new(alloc, shared)?,
         })
     }
 
@@ -38,7 +54,7 @@ impl Text {
         ensures { IfOk result (λ t. t ≡ self.now) }
     {
         Ok(Text {
-            units: self.units.clone()?,
+            shared: self.shared.clone()?,
         })
     }
 
@@ -46,7 +62,17 @@ impl Text {
     pub fn units(&self) -> &[u16]
         ensures { result.now ≡ self.now }
     {
-        self.units.as_slice()
+        self.shared.units.as_slice()
+    }
+
+    /// Where a table of names has it, as the last one to set the hint knew; any number, else.
+    pub fn hint(&self) -> u32 {
+        self.shared.hint.get()
+    }
+
+    /// Sets the hint, for all holders of the text.
+    pub fn set_hint(&self, number: u32) {
+        self.shared.hint.set(number);
     }
 }
 

@@ -1,5 +1,5 @@
 -- A name and its number.
-use Rattle.std.proofs.Common.{◌≡◌, ℕ, ◌<◌, Bool, true, false, if◌then◌else◌, is_some, eqb, List, [], ◌∷◌, ◌++◌, length, position, slice_get, Option, Some, None, get_or, refl, sym, ap, ◌∙◌, subst, inl, inr, true≢false, ◌≤◌, arith, length-append}
+use Rattle.std.proofs.Common.{◌≡◌, ℕ, ◌<◌, Bool, true, false, if◌then◌else◌, eqb, List, [], ◌∷◌, ◌++◌, length, position, slice_get, Option, Some, None, get_or, refl, sym, ap, ◌∙◌, subst, inl, inr, true≢false, ◌≤◌, arith, length-append}
 use Rattle.std.specs.List.{list_any}
 use Rattle.std.specs.Str.{bytes_eq}
 use Rattle.std.proofs.lemmas.Option.{slice_get-get_or}
@@ -21,20 +21,10 @@ found_at names name n at =
     let same : get_or names n name ≡ name = sym ((bytes_eq-Decides name (get_or names n name)).0 p.1) in
     (slice_get-get_or names n name p.0 ∙ ap Some same, p.0)
 
-pub interns_old : (keys names : List (List ℕ)) (name : List ℕ) (n : ℕ) (r : Option ℕ) → keys ≡ names → r ≡ position (bytes_eq name) keys → is_some r ≡ list_any (bytes_eq name) keys → r ≡ Some n → Interns names names name n
-interns_old keys names name n r view at has is =
-    let f = found_at names name n (ap (λ l. position (bytes_eq name) l) (sym view) ∙ sym at ∙ is) in
-    let yes : list_any (bytes_eq name) names ≡ true = ap (λ l. list_any (bytes_eq name) l) (sym view) ∙ sym has ∙ ap is_some is in
-    record {
-      table = ap (λ b. if b then names else names ++ name ∷ []) (sym yes);
-      found = f.0;
-      within = f.1;
-    }
-
-pub interns_new : (keys names new : List (List ℕ)) (name copy : List ℕ) (n : ℕ) → keys ≡ names → new ≡ interned keys copy → copy ≡ name → list_any (bytes_eq name) keys ≡ false → n ≡ length keys → Interns names new name n
+pub interns_new : (keys names new : List (List ℕ)) (name copy : List ℕ) (n : ℕ) → keys ≡ names → new ≡ interned keys copy → copy ≡ name → list_any (bytes_eq name) names ≡ false → n ≡ length keys → Interns names new name n
 interns_new keys names new name copy n view is same none len =
     let is : new ≡ interned names name = is ∙ (λ i. interned (view i) (same i)) in
-    let all : new ≡ names ++ name ∷ [] = is ∙ ap (λ b. if b then names else names ++ name ∷ []) (ap (λ l. list_any (bytes_eq name) l) (sym view) ∙ none) in
+    let all : new ≡ names ++ name ∷ [] = is ∙ ap (λ b. if b then names else names ++ name ∷ []) none in
     let len : n ≡ length names = len ∙ ap length view in
     let lt : n < length (names ++ name ∷ []) = omega (arith, length-append names (name ∷ [])) in
     let at : slice_get (names ++ name ∷ []) n ≡ Some name = slice_get-get_or (names ++ name ∷ []) n name lt ∙ ap Some (get_or_push names name name n (sym len)) in

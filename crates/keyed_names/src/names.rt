@@ -1,5 +1,5 @@
 //! Interned names.
-ghost use Rattle.std.specs.Prelude.{◌≡◌, ◌↔◌, ◌<◌, ◌^◌, [], length, IsTrue, IfOk, OnErr, Some, false, slice_get, option_copied, MatchOption};
+ghost use Rattle.std.specs.Prelude.{◌≡◌, ◌↔◌, ◌<◌, ◌^◌, [], length, IsTrue, IfOk, OnErr, Some, true, false, slice_get, option_copied, MatchOption};
 ghost use Rattle.std.specs.List.{list_any};
 ghost use Rattle.std.specs.Str.{bytes_eq};
 ghost use Rattle.keyed_names.specs.Interned.{Interns, IsTable};
@@ -48,25 +48,50 @@ impl Names {
         ensures err { OnErr result (self.new ≡ self.old) }
         ensures table { IsTable self.new }
     {
-        if let Some(n) = self.set.get_index_of(name) {
-            return Ok(n as u32);
+        if let Some(n) = self.number(name) {
+            return Ok(n);
         }
         let n = self.set.len() as u32;
         self.set.insert(name.share()?)?;
+        name.set_hint(n);
         Ok(n)
     }
 
-    /// The number of the name, none exactly where it was not interned.
-    #[tactic(auto, using(crate::proofs::Interning::found_at))]
+    /// The number of the name, none exactly where it was not interned. A text that was found before
+    /// is compared with the name that it was then, and is not hashed again.
     pub fn number(&self, name: &Text) -> Option<u32>
         ensures found { MatchOption result (list_any (bytes_eq name.now) self.now ≡ false)
             (λ n. (slice_get self.now n ≡ Some name.now) × (n < length self.now)) }
         ensures table { IsTable self.now }
     {
-        match self.set.get_index_of(name) {
-            Some(n) => Some(n as u32),
-            None => None,
+        let hint = name.hint();
+        if self.is_at(hint, name) {
+            return Some(hint);
         }
+        self.looked_up(name)
+    }
+
+    // Whether a name has a number.
+    fn is_at(&self, n: u32, name: &Text) -> bool
+        ensures found { result ≡ true → slice_get self.now n ≡ Some name.now }
+        ensures table { IsTable self.now }
+    {
+        match self.set.get_index(n as usize) {
+            Some(known) => known == name,
+            None => false,
+        }
+    }
+
+    // The number of the name by its hash, which then is its hint.
+    #[tactic(auto, using(crate::proofs::Interning::found_at))]
+    fn looked_up(&self, name: &Text) -> Option<u32>
+        ensures found { MatchOption result (list_any (bytes_eq name.now) self.now ≡ false)
+            (λ n. (slice_get self.now n ≡ Some name.now) × (n < length self.now)) }
+        ensures table { IsTable self.now }
+    {
+        let n = self.set.get_index_of(name)? as u32;
+        name.set_hint(n);
+        Some(n)
     }
 
     /// The name with a number, none exactly where no name has it.
