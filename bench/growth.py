@@ -1,4 +1,4 @@
-"""Start-up, a long loop, slices, sixteen widgets together, and growth with widgets, items and nodes."""
+"""Start-up, a long loop, slices, sixteen widgets together, and growth: widgets, items, nodes, queries, methods."""
 import shutil
 import sys
 
@@ -96,10 +96,50 @@ def growth():
                 for number in range(n))]),))
 
 
+QUERIES = {
+    "`*`": "dom.q('*')", "`i`": "dom.q('i')", "`#word`": "dom.q('#A_0')", "`>i`": "dom.q('>i')", "`/`": "dom.q('/')",
+    "`+i` of all": "b.q('+i')", "`i:first`": "dom.q('i:first')", "`i:even:rest`": "dom.q('i:even:rest')",
+}
+ONCE = {
+    "`remove`": "b.remove()", "`empty`": "b.empty()", "`append` to one": "d.append(b)",
+    "`replace` of one by all": "f.replace(b)", "`explode`": "b.explode()", "`each`": "b.each(function () { })",
+}
+AGAIN = {
+    "`value`": "b.value('')", "`klass`": "b.klass('x')", "`style`": "b.style('color', 'red')", "`mark`": "b.mark('x')",
+    "`on` and `off`": "b.on('click', go).off()", "`protect`": "b.protect()", "`getValues`": "b.getValues()",
+    "`getParent`": "b.getParent()",
+}
+
+
+def doubled_calls(name, call, times):
+    """A call on a Bunch of nearly all nodes, or a query over them, beside the same page without it."""
+    before = "var i, b = dom.q('>i'), d = dom.tag('div'), f = dom.q('#A_0'); function go() { } dom.append(d); "
+    loop = "for (i = 0; i < %d; i += 1) { %s; }" % (times, call)
+
+    def took(size):
+        markup = '<p id="A_0"></p>' + '<i></i>' * (size - 3)
+        whole, none = [ran(page([before + body], markup), times=5) for body in (loop, "")]
+        return whole[0] - none[0], whole[2][0]
+
+    sizes = [2000, 4000, 8000, 16000]
+    measured = [took(size) for size in sizes]
+    text = ", ".join("%d: %.1f ms" % (size, time) for size, (time, _) in zip(sizes, measured))
+    last = measured[-1][0] / max(measured[0][0], 2)
+    print("| %s, %d times | %s; the last is %.1f times the first | at most 20 |" % (name, times, text, last))
+    return last <= 20 and measured[-1][1]["state"] == "live" and not measured[-1][1]["uncaught"]
+
+
+def on_nodes():
+    """Queries over nodes and methods of Bunches, eight times the nodes; what takes under 2 ms counts as 2."""
+    for times, calls in (10, QUERIES), (10, AGAIN), (1, ONCE):
+        for name, call in calls.items():
+            yield doubled_calls(name, call, times)
+
+
 def main():
     print("| What | Measured | Wanted |")
     print("|---|---|---|")
-    good = [met for part in (start_up, loops, slices, together, growth) for met in part()]
+    good = [met for part in (start_up, loops, slices, together, growth, on_nodes) for met in part()]
     sys.exit(not all(good))
 
 
