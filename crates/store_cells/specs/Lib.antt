@@ -8,3 +8,4 @@ pub mod Born
 pub mod Host
 pub mod Bunches
 pub mod Holes
+pub mod Listed

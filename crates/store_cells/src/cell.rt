@@ -9,14 +9,14 @@ ghost use Rattle.store_cells.specs.Holes.{is_reference_below};
 ghost use Rattle.store_cells.specs.Numbered.{NumberedCell, element_plan, first_numbered, found_in, is_length_in, is_listed, node_head, numbered_cut, numbered_element, numbered_has, numbered_held, numbered_length, numbered_two, numbered_without, numbered_written, own_place, plain, plan_of, references_in};
 ghost use Rattle.store_cells.specs.Shape.{IsIndexed, Known};
 
+use crate::indices::Elements;
 use crate::kind::Form;
 use crate::pairs::{self, FIRST_HOLE};
 use crate::value::{CellId, Number, Value};
 use code_units::{Memory, Owner, Text, index_of, is_word};
-use indexmap::IndexMap;
 use keyed_names::{Names, NumberKeys};
+use pair_table::PairTable;
 use std::alloc::Global;
-use std::collections::BTreeMap;
 use std::marker::Model;
 
 /// What a cell never changes: whose it is, what it is, its prototype or outer scope, the number of
@@ -44,8 +44,8 @@ pub struct Cell {
     head: Head,
     holes: u32,
     references: u32,
-    table: IndexMap<u32, Value, NumberKeys>,
-    elements: BTreeMap<u32, u32>,
+    table: PairTable<Value>,
+    elements: Elements,
 }
 
 impl Model for Cell {
@@ -54,7 +54,7 @@ impl Model for Cell {
 
     ghost Value = { NumberedCell };
 
-    ghost view = { λ c. record { head = c.head; elements = c.elements.entries; references = c.references; entries = live c.table.entries } };
+    ghost view = { λ c. record { head = c.head; elements = c.elements; references = c.references; entries = live c.table.entries } };
 
     ghost invariant = { λ c. IsFull c.holes c.table.entries };
 }
@@ -114,8 +114,8 @@ impl Cell {
             head,
             holes: 0,
             references: 0,
-            table: IndexMap::with_hasher(maker.alloc, maker.key),
-            elements: BTreeMap::new(maker.alloc),
+            table: PairTable::new(maker.alloc, maker.key),
+            elements: Elements::new(maker.alloc),
         }
     }
 
@@ -235,7 +235,7 @@ impl Cell {
     pub fn element(&self, at: u32) -> Option<&Value>
         ensures { option_copied result ≡ numbered_element at self.now }
     {
-        let n = *self.elements.get(&at)?;
+        let n = self.elements.get(at)?;
         self.own(n)
     }
 
@@ -312,7 +312,7 @@ impl Cell {
         if self.references == 0 {
             return false;
         }
-        pairs::are_below(&self.elements, n) || pairs::has_reference(&self.table, names, n)
+        self.elements.are_below(n) || pairs::has_reference(&self.table, names, n)
     }
 
     /// A law: its names differ.
@@ -356,7 +356,7 @@ impl Cell {
         ensures err { OnErr result (self.new ≡ self.old) }
     {
         self.table.reserve(1)?;
-        pairs::note(&mut self.elements, at, n)?;
+        self.elements.note(at, n)?;
         let count = pairs::recounted(&self.table, self.references, n, &value);
         let Ok(_) = self.table.insert(n, value) else {
             unreachable!()
@@ -382,7 +382,7 @@ impl Cell {
             return Err(Memory);
         }
         self.table.reserve(2)?;
-        pairs::note(&mut self.elements, end - 1, n)?;
+        self.elements.note(end - 1, n)?;
         let count = pairs::recounted(&self.table, self.references, n, &value);
         let Ok(_) = self.table.insert(n, value) else {
             unreachable!()

@@ -4,6 +4,7 @@
 
 pub mod cell;
 pub mod counts;
+mod indices;
 mod kind;
 mod pairs;
 mod value;

@@ -1,41 +1,40 @@
 //! The pairs of a cell: a table in order in which a name that is taken out leaves a hole, so that no
-//! pair moves, and the indices of an Array's elements.
-ghost use Rattle.std.specs.Prelude.{◌≡◌, ℕ, suc, ◌<◌, ◌≤◌, ◌++◌, List, Option, None, Some, true, false, is_some, nat_eq, length, IfOk, IfSome, MatchOption, OnErr, OnOk, filter, option_copied, option_to_list, slice_get, if◌then◌else◌, ◌&&◌};
-ghost use Rattle.std.specs.BTreeMap.{btree_map_len};
+//! pair moves.
+ghost use Rattle.std.specs.Prelude.{◌≡◌, ℕ, ◌<◌, ◌≤◌, ◌++◌, List, Option, None, Some, true, false, is_some, nat_eq, length, IfOk, IfSome, OnOk, filter, option_copied, option_to_list, slice_get, if◌then◌else◌, ◌&&◌};
 ghost use Rattle.std.specs.List.{IsDistinct, list_any};
 ghost use Rattle.std.specs.Map.{keys_of as numbers_of, lookup, remove_entry};
 ghost use Rattle.std.specs.Option.{option_map_or};
 ghost use Rattle.store_cells.specs.Arrays.{is_below, is_index_below, is_reference};
-ghost use Rattle.store_cells.specs.Numbered.{found_in, live, name_at, noted, noted_below, recounted, references_in, refers_at};
-ghost use Rattle.store_cells.specs.Holes.{IsFull, IsNonePast, IsPoppedPast, StandsAt, is_name, is_reference_below, listed_in, listed_names, place_key};
+ghost use Rattle.store_cells.specs.Numbered.{found_in, live, name_at, noted_below, recounted, references_in, refers_at};
+ghost use Rattle.store_cells.specs.Holes.{IsFull, StandsAt, is_name, is_reference_below, listed_in, listed_names, place_key};
 ghost use Rattle.store_cells.specs.Shape.{IsIndexed, Known};
 
+use crate::indices::Elements;
 use crate::value::Value;
 use code_units::{Memory, Text, index_of, is_word, permitted};
-use indexmap::IndexMap;
-use keyed_names::{Names, NumberKeys};
+use keyed_names::Names;
+use pair_table::PairTable;
 use std::alloc::Global;
-use std::collections::BTreeMap;
 
 /// The numbers of names are less; the others are those of holes.
 pub const FIRST_HOLE: u32 = 2_147_483_648;
 
 /// Whether a table has a name.
-pub(crate) fn has(table: &IndexMap<u32, Value, NumberKeys>, n: u32) -> bool
+pub(crate) fn has(table: &PairTable<Value>, n: u32) -> bool
     ensures { result ≡ is_some (lookup (nat_eq n) (live table.now.entries)) }
 {
     value(table, n).is_some()
 }
 
 /// The value under a name.
-pub(crate) fn value(table: &IndexMap<u32, Value, NumberKeys>, n: u32) -> Option<&Value>
+pub(crate) fn value(table: &PairTable<Value>, n: u32) -> Option<&Value>
     ensures { option_copied result ≡ lookup (nat_eq n) (live table.now.entries) }
 {
-    if n < FIRST_HOLE { table.get(&n) } else { None }
+    if n < FIRST_HOLE { table.get(n) } else { None }
 }
 
 /// The place in the table of the pair at a place among those that are no holes.
-pub(crate) fn place(table: &IndexMap<u32, Value, NumberKeys>, holes: u32, at: usize) -> usize
+pub(crate) fn place(table: &PairTable<Value>, holes: u32, at: usize) -> usize
     requires { IsFull holes table.now.entries }
     ensures { slice_get table.now.entries result ≡ slice_get (live table.now.entries) at }
 {
@@ -47,7 +46,7 @@ pub(crate) fn place(table: &IndexMap<u32, Value, NumberKeys>, holes: u32, at: us
 }
 
 // The same, where there are holes.
-fn place_behind(table: &IndexMap<u32, Value, NumberKeys>, at: usize) -> usize
+fn place_behind(table: &PairTable<Value>, at: usize) -> usize
     ensures { slice_get table.now.entries result ≡ slice_get (live table.now.entries) at }
 {
     let mut left = at;
@@ -63,7 +62,7 @@ fn place_behind(table: &IndexMap<u32, Value, NumberKeys>, at: usize) -> usize
 }
 
 // Whether a pair stands at a place, and no hole.
-fn is_pair(table: &IndexMap<u32, Value, NumberKeys>, place: usize) -> bool
+fn is_pair(table: &PairTable<Value>, place: usize) -> bool
     ensures { result ≡ option_map_or (λ e. is_name e.0) (slice_get table.now.entries place) false }
 {
     match table.get_index(place) {
@@ -81,7 +80,7 @@ pub(crate) fn is_listed(array: bool, name: &Text) -> bool
 
 // The name at a place, where it is listed.
 fn key_at<'a>(
-    table: &IndexMap<u32, Value, NumberKeys>,
+    table: &PairTable<Value>,
     names: &'a Names,
     array: bool,
     at: usize,
@@ -105,7 +104,7 @@ fn name_of(names: &Names, k: u32) -> Option<&Text>
 }
 
 fn push_key(
-    table: &IndexMap<u32, Value, NumberKeys>,
+    table: &PairTable<Value>,
     names: &Names,
     array: bool,
     at: usize,
@@ -122,7 +121,7 @@ fn push_key(
 /// The listed names in order.
 pub(crate) fn keys(
     alloc: Global,
-    table: &IndexMap<u32, Value, NumberKeys>,
+    table: &PairTable<Value>,
     names: &Names,
     array: bool,
 ) -> Result<Vec<Text>, Memory>
@@ -136,12 +135,7 @@ pub(crate) fn keys(
     Ok(keys)
 }
 
-fn count_key(
-    table: &IndexMap<u32, Value, NumberKeys>,
-    names: &Names,
-    array: bool,
-    at: usize,
-) -> usize
+fn count_key(table: &PairTable<Value>, names: &Names, array: bool, at: usize) -> usize
     ensures count { result ≡ length (option_to_list (place_key names.now array table.now.entries at)) }
     ensures small { result ≤ 1 }
 {
@@ -152,11 +146,7 @@ fn count_key(
 }
 
 /// How many names are listed.
-pub(crate) fn keys_len(
-    table: &IndexMap<u32, Value, NumberKeys>,
-    names: &Names,
-    array: bool,
-) -> usize
+pub(crate) fn keys_len(table: &PairTable<Value>, names: &Names, array: bool) -> usize
     requires { Known (length names.now) (live table.now.entries) }
     ensures { result ≡ length (listed_names names.now array (live table.now.entries)) }
 {
@@ -181,12 +171,7 @@ fn is_index_below(names: &Names, k: u32, n: u32) -> bool
 }
 
 // Whether the pair at a place is an element below an index, and refers to a cell.
-fn is_reference_at(
-    table: &IndexMap<u32, Value, NumberKeys>,
-    names: &Names,
-    n: u32,
-    place: usize,
-) -> bool
+fn is_reference_at(table: &PairTable<Value>, names: &Names, n: u32, place: usize) -> bool
     ensures { result ≡ option_map_or (λ e. is_name e.0 && is_reference_below names.now n e) (slice_get table.now.entries place) false }
 {
     let Some((k, value)) = table.get_index(place) else {
@@ -196,7 +181,7 @@ fn is_reference_at(
 }
 
 /// Whether an element below an index refers to a cell.
-pub(crate) fn has_reference(table: &IndexMap<u32, Value, NumberKeys>, names: &Names, n: u32) -> bool
+pub(crate) fn has_reference(table: &PairTable<Value>, names: &Names, n: u32) -> bool
     ensures { result ≡ list_any (is_reference_below names.now n) (live table.now.entries) }
 {
     for place in 0..table.len() {
@@ -208,7 +193,7 @@ pub(crate) fn has_reference(table: &IndexMap<u32, Value, NumberKeys>, names: &Na
 }
 
 // Whether the value under a name refers to a cell.
-fn refers(table: &IndexMap<u32, Value, NumberKeys>, n: u32) -> bool
+fn refers(table: &PairTable<Value>, n: u32) -> bool
     ensures { result ≡ refers_at n (live table.now.entries) }
 {
     match value(table, n) {
@@ -218,12 +203,7 @@ fn refers(table: &IndexMap<u32, Value, NumberKeys>, n: u32) -> bool
 }
 
 /// The count of the values that refer to cells, once the value under a name that is counted is this.
-pub(crate) fn recounted(
-    table: &IndexMap<u32, Value, NumberKeys>,
-    count: u32,
-    n: u32,
-    to: &Value,
-) -> u32
+pub(crate) fn recounted(table: &PairTable<Value>, count: u32, n: u32, to: &Value) -> u32
     requires { count < 4294967295 }
     ensures { result ≡ recounted (refers_at n (live table.now.entries)) (is_reference to.now) count }
 {
@@ -236,7 +216,7 @@ pub(crate) fn recounted(
 }
 
 /// The same, once the name is taken out.
-pub(crate) fn discount(table: &IndexMap<u32, Value, NumberKeys>, count: &mut u32, n: u32)
+pub(crate) fn discount(table: &PairTable<Value>, count: &mut u32, n: u32)
     ensures { count.new ≡ recounted (refers_at n (live table.now.entries)) false count.old }
 {
     if refers(table, n) {
@@ -244,19 +224,9 @@ pub(crate) fn discount(table: &IndexMap<u32, Value, NumberKeys>, count: &mut u32
     }
 }
 
-/// Whether all indices are below one; no, where none is noted.
-pub(crate) fn are_below(elements: &BTreeMap<u32, u32>, n: u32) -> bool
-    ensures { result ≡ true → IsNonePast n elements.now.entries }
-{
-    match elements.last_key_value() {
-        None => false,
-        Some((at, _number)) => *at < n,
-    }
-}
-
 /// Takes a name out. It leaves a hole, where there is memory for one and it is not the last; once more
 /// than half are holes, these are filled.
-pub(crate) fn take_out(table: &mut IndexMap<u32, Value, NumberKeys>, holes: &mut u32, n: u32)
+pub(crate) fn take_out(table: &mut PairTable<Value>, holes: &mut u32, n: u32)
     requires { IsFull holes.old table.old.entries }
     ensures full { IsFull holes.new table.new.entries }
     ensures done { live table.new.entries ≡ remove_entry (nat_eq n) (live table.old.entries) }
@@ -271,12 +241,12 @@ pub(crate) fn take_out(table: &mut IndexMap<u32, Value, NumberKeys>, holes: &mut
         *holes = holes.saturating_add(1);
         fill(table, holes);
     } else {
-        let _value = table.shift_remove(&n);
+        table.shift_remove(n);
     }
 }
 
 // Puts a hole in the place of a name that is not the last.
-fn dig(table: &mut IndexMap<u32, Value, NumberKeys>, n: u32) -> bool
+fn dig(table: &mut PairTable<Value>, n: u32) -> bool
     requires { n < FIRST_HOLE }
     ensures dug { result ≡ true → live table.new.entries ≡ remove_entry (nat_eq n) (live table.old.entries) }
     ensures same { result ≡ false → table.new.entries ≡ table.old.entries }
@@ -285,7 +255,7 @@ fn dig(table: &mut IndexMap<u32, Value, NumberKeys>, n: u32) -> bool
         return false;
     };
     let hole = FIRST_HOLE + place;
-    if table.contains_key(&hole) {
+    if table.contains_key(hole) {
         return false;
     }
     let Ok(_) = table.insert(hole, Value::Undefined) else {
@@ -296,13 +266,13 @@ fn dig(table: &mut IndexMap<u32, Value, NumberKeys>, n: u32) -> bool
 }
 
 // The place of a name that is not the last.
-fn place_before(table: &IndexMap<u32, Value, NumberKeys>, n: u32) -> Option<u32>
+fn place_before(table: &PairTable<Value>, n: u32) -> Option<u32>
     ensures at { IfSome result (StandsAt table.now.entries n) }
     ensures distinct { IsDistinct nat_eq (numbers_of table.now.entries) }
 {
     // This says that the numbers differ.
     let len = table.len();
-    let place = table.get_index_of(&n)?;
+    let place = table.get_index_of(n)?;
     let (k, _value) = table.get_index(place)?;
     if *k != n || place + 1 >= len || place >= FIRST_HOLE as usize {
         return None;
@@ -311,65 +281,36 @@ fn place_before(table: &IndexMap<u32, Value, NumberKeys>, n: u32) -> Option<u32>
 }
 
 // Fills the holes, where there are more than pairs.
-fn fill(table: &mut IndexMap<u32, Value, NumberKeys>, holes: &mut u32)
+fn fill(table: &mut PairTable<Value>, holes: &mut u32)
     requires { 0 < holes.old }
     ensures full { IsFull holes.new table.new.entries }
     ensures same { live table.new.entries ≡ live table.old.entries }
 {
     if *holes as usize > table.len() / 2 {
-        table.retain(|k, _value| is_name(*k));
+        table.retain_below(FIRST_HOLE);
         *holes = 0;
     }
 }
 
-fn is_name(k: u32) -> bool
-    ensures { result ≡ is_name k }
-{
-    k < FIRST_HOLE
-}
-
-/// Notes a name as an index.
-pub(crate) fn note(elements: &mut BTreeMap<u32, u32>, at: u32, n: u32) -> Result<(), Memory>
-    ensures ok { OnOk result (elements.new.entries ≡ noted (suc at) n elements.old.entries) }
-    ensures err { OnErr result (elements.new.entries ≡ elements.old.entries) }
-{
-    elements.insert(at, n)?;
-    Ok(())
-}
-
-// Takes out the last element, where it is one from an index on.
-fn pop_past(elements: &mut BTreeMap<u32, u32>, n: u32) -> Option<u32>
-    ensures popped { MatchOption result ((elements.new.entries ≡ elements.old.entries) × IsNonePast n elements.old.entries)
-        (λ k. IsPoppedPast n k elements.old.entries elements.new.entries) }
-    ensures less { IfSome result (λ k. btree_map_len elements.new < btree_map_len elements.old) }
-{
-    let (at, _number) = elements.last_key_value()?;
-    if *at < n {
-        return None;
-    }
-    let (_at, k) = elements.pop_last()?;
-    Some(k)
-}
-
 /// Takes out the elements from an index on, the last first.
 pub(crate) fn cut(
-    elements: &mut BTreeMap<u32, u32>,
-    table: &mut IndexMap<u32, Value, NumberKeys>,
+    elements: &mut Elements,
+    table: &mut PairTable<Value>,
     holes: &mut u32,
     count: &mut u32,
     n: u32,
 )
     requires { IsFull holes.old table.old.entries }
     ensures full { IsFull holes.new table.new.entries }
-    ensures elements { elements.new.entries ≡ noted_below n elements.old.entries }
+    ensures elements { elements.new ≡ noted_below n elements.old }
     ensures count { (names : List (List ℕ)) → Known (length names) (live table.old.entries)
-        → IsIndexed names (found_in elements.old.entries) (live table.old.entries)
+        → IsIndexed names (found_in elements.old) (live table.old.entries)
         → count.old ≡ references_in names (live table.old.entries) → count.new ≡ references_in names (live table.new.entries) }
     ensures entries { (names : List (List ℕ)) → Known (length names) (live table.old.entries)
-        → IsIndexed names (found_in elements.old.entries) (live table.old.entries)
+        → IsIndexed names (found_in elements.old) (live table.old.entries)
         → live table.new.entries ≡ filter (λ e. is_below n (name_at names e.0)) (live table.old.entries) }
 {
-    while let Some(k) = pop_past(elements, n) {
+    while let Some(k) = elements.pop_past(n) {
         discount(table, count, k);
         take_out(table, holes, k);
     }

@@ -11,8 +11,8 @@ pub loop-k-preserved : goal.loop-k-preserved
 loop-k-preserved c =
     let n = c.args.n in
     let k = c.in-Some.k in
-    let old = c.loop-k.elements.entries in
-    let new = c.pop_past.new.elements.entries in
+    let old = c.loop-k.elements in
+    let new = c.pop_past.new.self in
     let popped = c.in-Some.ensures.popped in
     let es = live c.loop-k.table.entries in
     let done = c.take_out.ensures.done in
@@ -36,4 +36,4 @@ loop-k-preserved c =
 pub returns-clause-entries : goal.returns-clause-entries
 returns-clause-entries c = λ names known indexed.
     let i = c.loop-k.invariant.entries names known indexed in
-    none_past names c.args.n (found_in c.loop-k.elements.entries) c.in_default.ensures.popped.1.found (live c.loop-k.table.entries) i.1.noted ∙ i.2
+    none_past names c.args.n (found_in c.loop-k.elements) c.in_default.ensures.popped.1.found (live c.loop-k.table.entries) i.1.noted ∙ i.2

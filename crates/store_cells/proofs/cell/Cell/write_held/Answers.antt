@@ -20,4 +20,4 @@ returns c =
     let s = c.self.inside in
     let there : is_some (lookup (eqb c.args.n) (live s.table.entries)) ≡ true = ap (λ (x : NumberedCell). is_some (lookup (eqb c.args.n) x.entries)) c.self.view_is ∙ c.requires in
     let p = written_live c.args.n c.args.value s.table.entries c.insert.new.self.entries (held_name c.args.n s.table.entries there) c.in-Ok.ensures.entries in
-    (λ j. record { head = s.head; elements = s.elements.entries; references = s.references; entries = p j }) ∙ ap (numbered_held c.args.n c.args.value) c.self.view_is
+    (λ j. record { head = s.head; elements = s.elements; references = s.references; entries = p j }) ∙ ap (numbered_held c.args.n c.args.value) c.self.view_is

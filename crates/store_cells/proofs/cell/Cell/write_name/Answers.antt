@@ -10,4 +10,4 @@ pub returns-clause-ok : goal.returns-clause-ok
 returns-clause-ok c =
     let s = c.self.inside in
     let p = written_live c.args.n c.args.value s.table.entries c.insert.new.self.entries (name_is c.args.n c.requires) c.in_ok-insert.ensures.entries in
-    (λ j. record { head = s.head; elements = s.elements.entries; references = s.references; entries = p j }) ∙ ap (numbered_written c.args.n c.args.value 0) c.self.view_is
+    (λ j. record { head = s.head; elements = s.elements; references = s.references; entries = p j }) ∙ ap (numbered_written c.args.n c.args.value 0) c.self.view_is

@@ -1,0 +1,255 @@
+//! A table of pairs.
+ghost use Rattle.std.specs.Prelude.{◌≡◌, ◌+◌, ◌<◌, ◌≤◌, [], None, nat_eq, nat_lt, length, filter, slice_get, position, swap_remove, option_map, option_copied, is_some, IfSome, IfNone, IsOk, IfOk, OnOk, OnErr, true, false};
+ghost use Rattle.std.specs.List.{IsDistinct};
+ghost use Rattle.std.specs.Map.{keys_of, lookup, remove_entry};
+ghost use Rattle.std.specs.Map.Iter.{deref_pair};
+ghost use Rattle.indexmap.specs.IndexMap.{insert_entry, spare};
+ghost use Rattle.pair_table.specs.Storage.{HasPlaces, pairs_in};
+
+use crate::few::{FewPairs, MOST_FEW};
+use indexmap::IndexMap;
+use keyed_names::NumberKeys;
+use std::alloc::{AllocError, Global};
+use std::marker::Model;
+
+/// Pairs of a number and a value, in the order in which the numbers came.
+///
+/// Up to eight pairs stand in a list, with no room beside them at first: a table of one pair takes
+/// one allocation of its size. More stand in an `IndexMap`, which finds a number by its hash.
+#[derive(Drop)]
+pub struct PairTable<V> {
+    storage: Storage<V>,
+}
+
+/// Where the pairs stand.
+#[derive(Drop)]
+enum Storage<V> {
+    Few(FewPairs<V>, NumberKeys),
+    Many(Box<IndexMap<u32, V, NumberKeys>>),
+}
+
+impl<V> Model for PairTable<V> {
+    ghost use Rattle.pair_table.specs.Pairs.{Pairs, pairs_code};
+
+    ghost Value = { Pairs V };
+
+    ghost coded = { pairs_code V.code };
+
+    ghost use Rattle.pair_table.specs.Storage.{pairs_in};
+
+    ghost view = { λ t. pairs_in t.storage };
+}
+
+impl<V> PairTable<V> {
+    /// A table without pairs, which allocates nothing until the first one. It hashes by `key` once it
+    /// has many pairs.
+    pub fn new(alloc: Global, key: NumberKeys) -> PairTable<V>
+        ensures { result.entries ≡ [] }
+    {
+        PairTable {
+            storage: Storage::Few(FewPairs::new(alloc), key),
+        }
+    }
+
+    /// How many pairs there are. Their numbers differ.
+    pub fn len(&self) -> usize
+        ensures len { result ≡ length self.now.entries }
+        ensures distinct { IsDistinct nat_eq (keys_of self.now.entries) }
+    {
+        match &self.storage {
+            Storage::Few(few, _) => few.len(),
+            Storage::Many(map) => map.len(),
+        }
+    }
+
+    /// Whether a number is there.
+    pub fn contains_key(&self, n: u32) -> bool
+        ensures { result ≡ is_some (lookup (nat_eq n) self.now.entries) }
+    {
+        self.get(n).is_some()
+    }
+
+    /// The value under a number.
+    pub fn get(&self, n: u32) -> Option<&V>
+        ensures { option_copied result ≡ lookup (nat_eq n) self.now.entries }
+    {
+        match &self.storage {
+            Storage::Few(few, _) => few.get(n),
+            Storage::Many(map) => map.get(&n),
+        }
+    }
+
+    /// The place of a number.
+    pub fn get_index_of(&self, n: u32) -> Option<usize>
+        ensures { result ≡ position (nat_eq n) (keys_of self.now.entries) }
+    {
+        match &self.storage {
+            Storage::Few(few, _) => few.place(n),
+            Storage::Many(map) => map.get_index_of(&n),
+        }
+    }
+
+    /// The pair at a place.
+    pub fn get_index(&self, place: usize) -> Option<(&u32, &V)>
+        ensures { option_map deref_pair result ≡ slice_get self.now.entries place }
+    {
+        match &self.storage {
+            Storage::Few(few, _) => few.get_index(place),
+            Storage::Many(map) => map.get_index(place),
+        }
+    }
+}
+
+impl<V: Drop> PairTable<V> {
+    /// Makes room for so many more pairs, so that as many new numbers need no memory.
+    pub fn reserve(&mut self, additional: usize) -> Result<(), AllocError>
+        ensures entries { self.new.entries ≡ self.old.entries }
+        ensures ok { OnOk result (additional ≤ self.new.spare) }
+    {
+        if outgrows(&self.storage, additional) {
+            return self.spill(additional);
+        }
+        match &mut self.storage {
+            Storage::Few(few, _) => few.reserve(additional),
+            Storage::Many(map) => map.reserve(additional),
+        }
+    }
+
+    /// Puts a value under a number. One that is there keeps its place and needs no memory; a new one
+    /// goes last. For want of memory nothing changes.
+    pub fn insert(&mut self, n: u32, value: V) -> Result<(), AllocError>
+        ensures entries { OnOk result (self.new.entries ≡ insert_entry nat_eq self.old.entries n value) }
+        ensures err { OnErr result (self.new.entries ≡ self.old.entries) }
+        ensures absent { OnErr result (lookup (nat_eq n) self.old.entries ≡ None) }
+        ensures succeeds { 0 < self.old.spare → IsOk result }
+        ensures spare { self.old.spare ≤ self.new.spare + 1 }
+    {
+        self.make_place(n)?;
+        match &mut self.storage {
+            Storage::Few(few, _) => few.insert(n, value),
+            Storage::Many(map) => insert_in(map, n, value),
+        }
+    }
+
+    // Moves the pairs of a list that is as long as one may be into a map, where a number is new.
+    fn make_place(&mut self, n: u32) -> Result<(), AllocError>
+        ensures entries { self.new.entries ≡ self.old.entries }
+        ensures absent { OnErr result (lookup (nat_eq n) self.old.entries ≡ None) }
+        ensures succeeds { 0 < self.old.spare → IsOk result }
+        ensures room { self.old.spare ≤ self.new.spare }
+    {
+        if outgrows(&self.storage, 1) && !self.contains_key(n) {
+            return self.spill(1);
+        }
+        Ok(())
+    }
+
+    // Moves the pairs of a list into a map that has room for so many more.
+    fn spill(&mut self, additional: usize) -> Result<(), AllocError>
+        ensures entries { self.new.entries ≡ self.old.entries }
+        ensures ok { OnOk result (additional ≤ self.new.spare) }
+    {
+        match &mut self.storage {
+            Storage::Few(few, key) => {
+                let map = into_map(few, *key, additional)?;
+                self.storage = Storage::Many(map);
+                Ok(())
+            }
+            Storage::Many(map) => map.reserve(additional),
+        }
+    }
+
+    /// Takes the pair at a place out, and puts the last one into its place.
+    pub fn swap_remove_index(&mut self, place: usize) -> Option<(u32, V)>
+        ensures entry { result ≡ slice_get self.old.entries place }
+        ensures entries { IfSome result (λ p. self.new.entries ≡ swap_remove self.old.entries place p) }
+        ensures unchanged { IfNone result (self.new.entries ≡ self.old.entries) }
+    {
+        match &mut self.storage {
+            Storage::Few(few, _) => few.swap_remove_index(place),
+            Storage::Many(map) => map.swap_remove_index(place),
+        }
+    }
+
+    /// Takes a number out. The others keep their order.
+    pub fn shift_remove(&mut self, n: u32)
+        ensures { self.new.entries ≡ remove_entry (nat_eq n) self.old.entries }
+    {
+        match &mut self.storage {
+            Storage::Few(few, _) => few.shift_remove(n),
+            Storage::Many(map) => {
+                let _value = map.shift_remove(&n);
+            }
+        }
+    }
+
+    /// Keeps the pairs whose numbers are less than a bound, in their order.
+    pub fn retain_below(&mut self, bound: u32)
+        ensures { self.new.entries ≡ filter (λ e. nat_lt e.0 bound) self.old.entries }
+    {
+        match &mut self.storage {
+            Storage::Few(few, _) => few.retain_below(bound),
+            Storage::Many(map) => retain_in(map, bound),
+        }
+    }
+}
+
+// Whether the pairs stand in a list that cannot hold so many more.
+fn outgrows<V>(storage: &Storage<V>, additional: usize) -> bool
+    ensures places { result ≡ false → HasPlaces additional storage.now }
+    ensures full { result ≡ true → 0 < additional → (pairs_in storage.now).spare < additional }
+{
+    match storage {
+        Storage::Few(few, _) => {
+            let len = few.len();
+            len > MOST_FEW || additional > MOST_FEW - len
+        }
+        Storage::Many(_) => false,
+    }
+}
+
+// A map with the pairs of a list, which it has no more, and with room for so many more. For want of
+// memory the list stays.
+fn into_map<V: Drop>(
+    few: &mut FewPairs<V>,
+    key: NumberKeys,
+    additional: usize,
+) -> Result<Box<IndexMap<u32, V, NumberKeys>>, AllocError>
+    ensures entries { IfOk result (λ map. map.value.entries ≡ few.old.entries) }
+    ensures room { IfOk result (λ map. additional ≤ spare map.value) }
+    ensures err { OnErr result (few.new ≡ few.old) }
+{
+    let Some(room) = few.len().checked_add(additional) else {
+        return Err(AllocError);
+    };
+    let alloc = few.allocator();
+    let empty = IndexMap::with_capacity_and_hasher(alloc, room, key)?;
+    let mut map = Box::new(alloc, empty)?;
+    few.pour(&mut map);
+    Ok(map)
+}
+
+// Puts a value under a number into a map.
+fn insert_in<V: Drop>(
+    map: &mut IndexMap<u32, V, NumberKeys>,
+    n: u32,
+    value: V,
+) -> Result<(), AllocError>
+    ensures entries { OnOk result (map.new.entries ≡ insert_entry nat_eq map.old.entries n value) }
+    ensures err { OnErr result (map.new.entries ≡ map.old.entries) }
+    ensures absent { OnErr result (lookup (nat_eq n) map.old.entries ≡ None) }
+    ensures succeeds { 0 < spare map.old → IsOk result }
+    ensures spare { spare map.old ≤ spare map.new + 1 }
+{
+    match map.insert(n, value) {
+        Ok(_) => Ok(()),
+        Err(_) => Err(AllocError),
+    }
+}
+
+// Keeps the pairs of a map whose numbers are less than a bound.
+fn retain_in<V: Drop>(map: &mut IndexMap<u32, V, NumberKeys>, bound: u32)
+    ensures { map.new.entries ≡ filter (λ e. nat_lt e.0 bound) map.old.entries }
+{
+    map.retain(|n, _value| *n < bound);
+}
