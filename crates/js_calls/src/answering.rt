@@ -92,13 +92,9 @@ fn calls(
 
 // The text of an object, by its `toString`.
 fn text_of(cell: CellId, depth: u32) -> Next
-    ensures { result ≡ Next.Feed (Frame.Call CallFrame.TextOf) (Frame.Call (CallFrame.ToPrimitive depth)) (Completion.Is (Value.Ref cell)) }
+    ensures { result ≡ Next.Convert (Frame.Call CallFrame.TextOf) depth (Value.Ref cell) }
 {
-    Next::Feed(
-        Frame::Call(CallFrame::TextOf),
-        Frame::Call(CallFrame::ToPrimitive(depth)),
-        Completion::Is(Value::Ref(cell)),
-    )
+    Next::Convert(Frame::Call(CallFrame::TextOf), depth, Value::Ref(cell))
 }
 
 // What is kept of calls, as frames have it.

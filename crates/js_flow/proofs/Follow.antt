@@ -1,6 +1,9 @@
 -- What goes on the frames says what was planned.
 use Rattle.std.proofs.Common.{◌≡◌, ℕ, List, [], ◌∷◌, ◌++◌, refl, sym, ap, ◌∙◌}
+use Rattle.js_tree.specs.declared.nodes.BinOp.{BinOp}
+use Rattle.js_tree.specs.declared.nodes.StmtId.{StmtId}
 use Rattle.js_tree.specs.Forest.{Forest}
+use Rattle.store_cells.specs.declared.value.Value.{Value}
 use Rattle.store_cells.specs.Cells.{PlainCell}
 use Rattle.widget_meaning.specs.Values as meaning
 use Rattle.widget_meaning.specs.OwnState.{State}
@@ -10,17 +13,25 @@ use Rattle.widget_meaning.proofs.Runs.{and_then_assoc}
 use Rattle.widget_meaning.proofs.PlansHold.{plan_laws}
 use Rattle.js_flow.specs.declared.job.Place.{Place}
 use Rattle.js_flow.specs.declared.job.Block.{Block}
+use Rattle.js_flow.specs.declared.job.Block.TheVariants as block
+use Rattle.js_flow.specs.declared.job.Below.{Below}
+use Rattle.js_flow.specs.declared.job.Reference.{Reference}
 use Rattle.js_flow.specs.declared.job.Completion.{Completion}
+use Rattle.js_flow.specs.declared.job.Completion.TheVariants as completion
 use Rattle.js_flow.specs.declared.job.Completion.TheVariants.{Normal}
 use Rattle.js_flow.specs.declared.job.Job.{Job}
 use Rattle.js_flow.specs.declared.frame.Frame.{Frame}
-use Rattle.js_flow.specs.declared.frame.Frame.TheVariants.{Statement}
+use Rattle.js_flow.specs.declared.frame.Frame.TheVariants.{Call, Form, Statement}
+use Rattle.js_flow.specs.declared.frame.FormFrame.TheVariants as form
+use Rattle.js_flow.specs.declared.frame.StatementFrame.{StatementFrame}
+use Rattle.js_flow.specs.declared.frame.StatementFrame.TheVariants as statement
 use Rattle.js_flow.specs.declared.frame.StatementFrame.TheVariants.{Seq}
+use Rattle.js_flow.specs.declared.frame.CallFrame.TheVariants as call
 use Rattle.js_flow.specs.declared.job.Next.{Next}
 use Rattle.js_flow.specs.declared.job.Next.TheVariants as next
 use Rattle.js_flow.specs.declared.task.Control.{Control}
 use Rattle.js_flow.specs.declared.task.Control.TheVariants as control
-use Rattle.js_flow.specs.Views.{completion_of, job_of}
+use Rattle.js_flow.specs.Views.{completion_of, frame_below, job_of}
 use Rattle.js_flow.specs.Statements.{block_at}
 use Rattle.js_flow.specs.Frames.{over, planned, rest, taken}
 use Rattle.js_flow.specs.Todo.{todo}
@@ -36,8 +47,8 @@ module _ (fs : List Forest) (w : ℕ) (cells : List PlainCell) where
   pub at_push : (below : List Frame) (f : Frame) (j : Job) (s : State) → todo fs w cells (control.Do j) (below ++ f ∷ []) s ≡ and_then (planned fs w cells (next.Push f j) s) (rest fs w cells below)
   at_push below f j s = ap (Do (job_of fs w cells j) s) (rest_last below f)
 
-  pub at_push2 : (below : List Frame) (f g : Frame) (j : Job) (s : State) → todo fs w cells (control.Do j) ((below ++ f ∷ []) ++ g ∷ []) s ≡ and_then (planned fs w cells (next.Push2 f g j) s) (rest fs w cells below)
-  at_push2 below f g j s =
+  at_two : (below : List Frame) (f g : Frame) (j : Job) (s : State) → todo fs w cells (control.Do j) ((below ++ f ∷ []) ++ g ∷ []) s ≡ and_then (Do (job_of fs w cells j) s (λ o t. and_then (taken fs w cells g o t) (taken fs w cells f))) (rest fs w cells below)
+  at_two below f g j s =
       ap (Do (job_of fs w cells j) s) (rest_last (below ++ f ∷ []) g)
       ∙ (λ i. Do (job_of fs w cells j) s (λ o t. and_then (taken fs w cells g o t) (rest_last below f i)))
       ∙ sym (λ i. Do (job_of fs w cells j) s (λ o t. and_then_assoc (taken fs w cells g o t) (taken fs w cells f) (rest fs w cells below) i))
@@ -53,13 +64,17 @@ module _ (fs : List Forest) (w : ℕ) (cells : List PlainCell) where
       at_run (below ++ f ∷ []) b p s
       ∙ (ap (and_then (block_at fs w cells b 0 p s)) (rest_last below f) ∙ sym (and_then_assoc (block_at fs w cells b 0 p s) (taken fs w cells f) (rest fs w cells below)))
 
-  pub at_block2 : (below : List Frame) (f g : Frame) (b : Block) (p : Place) (s : State) → todo fs w cells (control.Give Normal) (((below ++ f ∷ []) ++ g ∷ []) ++ Statement (Seq b 0 p) ∷ []) s ≡ and_then (planned fs w cells (next.Block2 f g b p) s) (rest fs w cells below)
-  at_block2 below f g b p s =
-      at_block (below ++ f ∷ []) g b p s
-      ∙ (ap (and_then (and_then (block_at fs w cells b 0 p s) (taken fs w cells g))) (rest_last below f) ∙ sym (and_then_assoc (and_then (block_at fs w cells b 0 p s) (taken fs w cells g)) (taken fs w cells f) (rest fs w cells below)))
+  pub at_try : (below : List Frame) (i : StmtId) (p : Place) (s : State) → todo fs w cells (control.Give Normal) (((below ++ Statement (statement.Finally i p) ∷ []) ++ Statement (statement.Caught i p) ∷ []) ++ Statement (statement.Seq (block.Try i) 0 p) ∷ []) s ≡ and_then (planned fs w cells (next.Try i p) s) (rest fs w cells below)
+  at_try below i p s =
+      let f = Statement (statement.Finally i p) in
+      let g = Statement (statement.Caught i p) in
+      let tried = and_then (block_at fs w cells (block.Try i) 0 p s) (taken fs w cells g) in
+      at_block (below ++ f ∷ []) g (block.Try i) p s
+      ∙ (ap (and_then tried) (rest_last below f) ∙ sym (and_then_assoc tried (taken fs w cells f) (rest fs w cells below)))
 
-  pub at_feed : (below : List Frame) (f g : Frame) (o : Completion) (s : State) → todo fs w cells (control.Give o) ((below ++ f ∷ []) ++ g ∷ []) s ≡ and_then (planned fs w cells (next.Feed f g o) s) (rest fs w cells below)
-  at_feed below f g o s =
+  -- a frame is given its part at once, and what it gives goes to the one below
+  at_given : (below : List Frame) (f g : Frame) (o : Completion) (s : State) → todo fs w cells (control.Give o) ((below ++ f ∷ []) ++ g ∷ []) s ≡ and_then (and_then (taken fs w cells g (completion_of w cells o) s) (taken fs w cells f)) (rest fs w cells below)
+  at_given below f g o s =
       ap (λ k. k (completion_of w cells o) s) (rest_last (below ++ f ∷ []) g)
       ∙ (ap (and_then (taken fs w cells g (completion_of w cells o) s)) (rest_last below f) ∙ sym (and_then_assoc (taken fs w cells g (completion_of w cells o) s) (taken fs w cells f) (rest fs w cells below)))
 
@@ -72,8 +87,8 @@ module _ (fs : List Forest) (w : ℕ) (cells : List PlainCell) where
   pub push_by : (below gs : List Frame) (f : Frame) (j : Job) (x : Control) (n : Next) (s : State) → x ≡ control.Do j → gs ≡ below ++ f ∷ [] → n ≡ next.Push f j → todo fs w cells x gs s ≡ and_then (planned fs w cells n s) (rest fs w cells below)
   push_by below gs f j x n s a b c = rw (a, b, c) (at_push below f j s)
 
-  pub push2_by : (below gs hs : List Frame) (f g : Frame) (j : Job) (x : Control) (n : Next) (s : State) → x ≡ control.Do j → gs ≡ below ++ f ∷ [] → hs ≡ gs ++ g ∷ [] → n ≡ next.Push2 f g j → todo fs w cells x hs s ≡ and_then (planned fs w cells n s) (rest fs w cells below)
-  push2_by below gs hs f g j x n s a b d c = rw (a, d, b, c) (at_push2 below f g j s)
+  pub push2_by : (below gs hs : List Frame) (b : Below) (g : StatementFrame) (j : Job) (x : Control) (n : Next) (s : State) → x ≡ control.Do j → gs ≡ below ++ frame_below b ∷ [] → hs ≡ gs ++ Statement g ∷ [] → n ≡ next.Push2 b g j → todo fs w cells x hs s ≡ and_then (planned fs w cells n s) (rest fs w cells below)
+  push2_by below gs hs b g j x n s a d e c = rw (a, e, d, c) (at_two below (frame_below b) (Statement g) j s)
 
   pub begin_by : (below gs : List Frame) (f : Frame) (j : Job) (x : Control) (n : Next) (s : State) → x ≡ control.Begin j → gs ≡ below ++ f ∷ [] → n ≡ next.Begin f j → todo fs w cells x gs s ≡ and_then (planned fs w cells n s) (rest fs w cells below)
   begin_by below gs f j x n s a b c = rw (a, b, c) (at_begin below f j s)
@@ -84,11 +99,14 @@ module _ (fs : List Forest) (w : ℕ) (cells : List PlainCell) where
   pub block_by : (below gs hs : List Frame) (f : Frame) (b : Block) (p : Place) (x : Control) (n : Next) (s : State) → x ≡ control.Give Normal → gs ≡ below ++ f ∷ [] → hs ≡ gs ++ Statement (Seq b 0 p) ∷ [] → n ≡ next.Block f b p → todo fs w cells x hs s ≡ and_then (planned fs w cells n s) (rest fs w cells below)
   block_by below gs hs f b p x n s a d e c = rw (a, e, d, c) (at_block below f b p s)
 
-  pub block2_by : (below gs hs is : List Frame) (f g : Frame) (b : Block) (p : Place) (x : Control) (n : Next) (s : State) → x ≡ control.Give Normal → gs ≡ below ++ f ∷ [] → hs ≡ gs ++ g ∷ [] → is ≡ hs ++ Statement (Seq b 0 p) ∷ [] → n ≡ next.Block2 f g b p → todo fs w cells x is s ≡ and_then (planned fs w cells n s) (rest fs w cells below)
-  block2_by below gs hs is f g b p x n s a d h e c = rw (a, e, h, d, c) (at_block2 below f g b p s)
+  pub try_by : (below gs : List Frame) (i : StmtId) (p : Place) (x : Control) (n : Next) (s : State) → x ≡ control.Give Normal → gs ≡ ((below ++ Statement (statement.Finally i p) ∷ []) ++ Statement (statement.Caught i p) ∷ []) ++ Statement (statement.Seq (block.Try i) 0 p) ∷ [] → n ≡ next.Try i p → todo fs w cells x gs s ≡ and_then (planned fs w cells n s) (rest fs w cells below)
+  try_by below gs i p x n s a d c = rw (a, d, c) (at_try below i p s)
 
-  pub feed_by : (below gs hs : List Frame) (f g : Frame) (o : Completion) (x : Control) (n : Next) (s : State) → x ≡ control.Give o → gs ≡ below ++ f ∷ [] → hs ≡ gs ++ g ∷ [] → n ≡ next.Feed f g o → todo fs w cells x hs s ≡ and_then (planned fs w cells n s) (rest fs w cells below)
-  feed_by below gs hs f g o x n s a b d c = rw (a, d, b, c) (at_feed below f g o s)
+  pub convert_by : (below gs hs : List Frame) (f : Frame) (d : ℕ) (v : Value) (x : Control) (n : Next) (s : State) → x ≡ control.Give (completion.Is v) → gs ≡ below ++ f ∷ [] → hs ≡ gs ++ Call (call.ToPrimitive d) ∷ [] → n ≡ next.Convert f d v → todo fs w cells x hs s ≡ and_then (planned fs w cells n s) (rest fs w cells below)
+  convert_by below gs hs f d v x n s a b e c = rw (a, e, b, c) (at_given below f (Call (call.ToPrimitive d)) (completion.Is v) s)
+
+  pub compute_by : (below gs hs : List Frame) (r : Reference) (p : Place) (op : BinOp) (u v : Value) (x : Control) (n : Next) (s : State) → x ≡ control.Give (completion.Is v) → gs ≡ below ++ Form (form.Write r p) ∷ [] → hs ≡ gs ++ Form (form.Operate op u p.depth) ∷ [] → n ≡ next.Compute r p op u v → todo fs w cells x hs s ≡ and_then (planned fs w cells n s) (rest fs w cells below)
+  compute_by below gs hs r p op u v x n s a b e c = rw (a, e, b, c) (at_given below (Form (form.Write r p)) (Form (form.Operate op u p.depth)) (completion.Is v) s)
 
   pub pay_by : (below gs : List Frame) (f : Frame) (m : ℕ) (x : Control) (n : Next) (s : State) → x ≡ control.Pay m → gs ≡ below ++ f ∷ [] → n ≡ next.Pay f m → todo fs w cells x gs s ≡ and_then (planned fs w cells n s) (rest fs w cells below)
   pay_by below gs f m x n s a b c = rw (a, b, c) (at_pay below f m s)

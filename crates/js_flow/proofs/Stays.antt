@@ -104,7 +104,7 @@ module _ (fs : List Forest) (w : ℕ) (old new : List PlainCell) (g : Grows w ol
   form_same (form.ConvertedRight op v) h = λ i. after (λ u t. result (binary op (seen_stays w old new g v h i) u) t)
   form_same (form.Prefix op p) h = λ i. after (λ v t. unary_on op v (place_same p h i) t)
   form_same (form.StepTarget op p) h = λ i. step_target op (place_same p h i)
-  form_same (form.StepConverted op r p) h = λ i. step_converted op (reference_same w old new g r h.0 i) (place_same p h.1 i)
+  form_same (form.StepConverted op r p) h = λ i. step_converted op (reference_same w old new g r.value h.0 i) (place_same p h.1 i)
   form_same (form.AssignTarget op e p) h = λ i. assign_target op (expr_at (forest_at fs p.code) e) (place_same p h.0 i)
   form_same (form.AssignWith a) h = λ i. assign_with a.value.op (reference_same w old new g a.value.of h.0 i) (seen_stays w old new g a.value.has h.1 i) (place_same a.value.place h.2 i)
   form_same (form.Write r p) h = λ i. after (λ v t. write (reference_same w old new g r h.0 i) (place_same p h.1 i) v t (give v))
@@ -177,7 +177,7 @@ module _ (fs : List Forest) (w : ℕ) (old new : List PlainCell) (g : Grows w ol
   form_fine (form.ConvertedPrefix op) h = tt
   form_fine form.Delete h = tt
   form_fine (form.StepTarget op p) h = place_fine p h
-  form_fine (form.StepConverted op r p) h = (reference_fine w old new g r h.0, place_fine p h.1)
+  form_fine (form.StepConverted op r p) h = (reference_fine w old new g r.value h.0, place_fine p h.1)
   form_fine (form.AssignTarget op e p) h = (place_fine p h.0, h.1)
   form_fine (form.AssignWith a) h = (reference_fine w old new g a.value.of h.0, fine_stays w old new g a.value.has h.1, place_fine a.value.place h.2)
   form_fine (form.Write r p) h = (reference_fine w old new g r h.0, place_fine p h.1)

@@ -36,6 +36,7 @@ use Rattle.js_flow.specs.declared.task.Control.TheVariants as control
 use Rattle.js_flow.specs.declared.task.Stepped.{Stepped}
 use Rattle.js_flow.specs.declared.task.Stepped.TheVariants as stepped
 use Rattle.js_flow.specs.Parts.{IsBlock, forest_at}
+use Rattle.js_flow.specs.Views.{frame_below}
 
 module _ (w : ℕ) (cells : List PlainCell) where
   abbrev pub FineReference : Reference → Type 0
@@ -110,7 +111,7 @@ module _ (fs : List Forest) (w : ℕ) (cells : List PlainCell) where
   FineForm (form.ConvertedPrefix op) = Unit {0}
   FineForm form.Delete = Unit {0}
   FineForm (form.StepTarget op p) = IsPlace p
-  FineForm (form.StepConverted op r p) = FineReference w cells r × IsPlace p
+  FineForm (form.StepConverted op r p) = FineReference w cells r.value × IsPlace p
   FineForm (form.AssignTarget op e p) = IsExprAt e p
   FineForm (form.AssignWith a) = FineAssigning a.value
   FineForm (form.Write r p) = FineReference w cells r × IsPlace p
@@ -163,14 +164,15 @@ module _ (fs : List Forest) (w : ℕ) (cells : List PlainCell) where
 
   abbrev pub FineNext : Next → Type 0
   FineNext (next.Push f j) = FineFrame f × FineJob j
-  FineNext (next.Push2 f g j) = FineFrame f × FineFrame g × FineJob j
+  FineNext (next.Push2 b g j) = FineFrame (frame_below b) × FineStatement g × FineJob j
   FineNext (next.Go j) = FineJob j
   FineNext (next.Begin f j) = FineFrame f × FineJob j
   FineNext (next.Block f b p) = FineFrame f × IsBlockAt b p
-  FineNext (next.Block2 f g b p) = FineFrame f × FineFrame g × IsBlockAt b p
   FineNext (next.Run b p) = IsBlockAt b p
+  FineNext (next.Try i p) = IsStmtAt i p
   FineNext (next.Give o) = FineCompletion w cells o
-  FineNext (next.Feed f g o) = FineFrame f × FineFrame g × FineCompletion w cells o
+  FineNext (next.Convert f d v) = FineFrame f × IsFine w cells v
+  FineNext (next.Compute r p op u v) = (FineReference w cells r × IsPlace p) × IsFine w cells u × IsFine w cells v
   FineNext (next.Pay f n) = FineFrame f
   FineNext (next.Native c) = FineNative w cells c.value
   FineNext (next.Stop c) = Unit {0}

@@ -46,7 +46,7 @@ module _ (fs : List Forest) (w : ℕ) (cells : List PlainCell) where
   form_taken (frame.ConvertedPrefix op) = after (λ v t. result (unary op v) t)
   form_taken frame.Delete = delete_target
   form_taken (frame.StepTarget op p) = step_target op (place_of w cells p)
-  form_taken (frame.StepConverted op r p) = step_converted op (reference_of w cells r) (place_of w cells p)
+  form_taken (frame.StepConverted op r p) = step_converted op (reference_of w cells r.value) (place_of w cells p)
   form_taken (frame.AssignTarget op e p) = assign_target op (expr_at (forest_at fs p.code) e) (place_of w cells p)
   form_taken (frame.AssignWith a) = assign_with a.value.op (reference_of w cells a.value.of) (seen w cells a.value.has) (place_of w cells a.value.place)
   form_taken (frame.Write r p) = after (λ v t. write (reference_of w cells r) (place_of w cells p) v t (give v))

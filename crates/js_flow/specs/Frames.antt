@@ -11,12 +11,16 @@ use Rattle.widget_meaning.specs.Natives.{run_native}
 use Rattle.widget_meaning.specs.Meaning.{body}
 use Rattle.js_image.specs.Image.{Rest, all_seen, image, seen}
 use Rattle.js_image.specs.Plans.{meant_cause}
+use Rattle.js_flow.specs.declared.job.Block.TheVariants as block
 use Rattle.js_flow.specs.declared.job.NativeCall.{NativeCall}
 use Rattle.js_flow.specs.declared.job.Next.{Next}
 use Rattle.js_flow.specs.declared.job.Next.TheVariants as next
 use Rattle.js_flow.specs.declared.frame.Frame.{Frame}
 use Rattle.js_flow.specs.declared.frame.Frame.TheVariants as frame
-use Rattle.js_flow.specs.Views.{completion_of, job_of}
+use Rattle.js_flow.specs.declared.frame.FormFrame.TheVariants as form
+use Rattle.js_flow.specs.declared.frame.StatementFrame.TheVariants as statement
+use Rattle.js_flow.specs.declared.frame.CallFrame.TheVariants as call
+use Rattle.js_flow.specs.Views.{completion_of, frame_below, job_of}
 use Rattle.js_flow.specs.Forms.{form_taken}
 use Rattle.js_flow.specs.Statements.{block_at, statement_taken}
 use Rattle.js_flow.specs.Calls.{call_taken}
@@ -36,14 +40,15 @@ module _ (fs : List Forest) (w : ℕ) (cells : List PlainCell) where
   -- what is next
   abbrev pub planned : Next → State → Plan
   planned (next.Push f j) s = Do (job_of fs w cells j) s (taken f)
-  planned (next.Push2 f g j) s = Do (job_of fs w cells j) s (λ o t. and_then (taken g o t) (taken f))
+  planned (next.Push2 b g j) s = Do (job_of fs w cells j) s (λ o t. and_then (taken (frame.Statement g) o t) (taken (frame_below b)))
   planned (next.Go j) s = Do (job_of fs w cells j) s Ret
   planned (next.Begin f j) s = and_then (body (job_of fs w cells j) s) (taken f)
   planned (next.Block f b p) s = and_then (block_at fs w cells b 0 p s) (taken f)
-  planned (next.Block2 f g b p) s = and_then (and_then (block_at fs w cells b 0 p s) (taken g)) (taken f)
   planned (next.Run b p) s = block_at fs w cells b 0 p s
+  planned (next.Try i p) s = and_then (and_then (block_at fs w cells (block.Try i) 0 p s) (taken (frame.Statement (statement.Caught i p)))) (taken (frame.Statement (statement.Finally i p)))
   planned (next.Give o) s = Ret (completion_of w cells o) s
-  planned (next.Feed f g o) s = and_then (taken g (completion_of w cells o) s) (taken f)
+  planned (next.Convert f d v) s = and_then (taken (frame.Call (call.ToPrimitive d)) (meaning.Is (seen w cells v)) s) (taken f)
+  planned (next.Compute r p op u v) s = and_then (taken (frame.Form (form.Operate op u p.depth)) (meaning.Is (seen w cells v)) s) (taken (frame.Form (form.Write r p)))
   planned (next.Pay f n) s = charge n s (taken f meaning.Normal s)
   planned (next.Native c) s = native_plan w cells c.value s
   planned (next.Stop c) s = Halt (meant_cause c) s

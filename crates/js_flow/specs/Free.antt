@@ -14,6 +14,7 @@ use Rattle.js_flow.specs.declared.frame.Frame.{Frame}
 use Rattle.js_flow.specs.declared.frame.Frame.TheVariants as frame
 use Rattle.js_flow.specs.declared.task.Control.{Control}
 use Rattle.js_flow.specs.declared.task.Control.TheVariants as control
+use Rattle.js_flow.specs.Views.{frame_below}
 
 -- Each frame weighs at least what it may put in its place with no charge.
 abbrev pub form_free : FormFrame → ℕ
@@ -64,14 +65,15 @@ job_weight j = job_free
 -- what is next
 abbrev pub next_free : Next → ℕ
 next_free (next.Push f j) = frame_free f
-next_free (next.Push2 f g j) = frame_free f + frame_free g
+next_free (next.Push2 b g j) = frame_free (frame_below b) + statement_free g
 next_free (next.Go j) = 0
 next_free (next.Begin f j) = frame_free f + (job_weight j + 1)
 next_free (next.Block f b p) = frame_free f + 2
-next_free (next.Block2 f g b p) = frame_free f + frame_free g + 2
 next_free (next.Run b p) = 2
+next_free (next.Try i p) = statement_free (statement.Finally i p) + statement_free (statement.Caught i p) + 2
 next_free (next.Give o) = 1
-next_free (next.Feed f g o) = frame_free f + frame_free g + 1
+next_free (next.Convert f d v) = frame_free f + call_free (call.ToPrimitive d) + 1
+next_free (next.Compute r p op u v) = form_free (form.Write r p) + form_free (form.Operate op u p.depth) + 1
 next_free (next.Pay f n) = frame_free f + 2
 next_free (next.Native c) = native_free
 next_free (next.Stop c) = 0

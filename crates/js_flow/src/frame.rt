@@ -42,7 +42,7 @@ pub enum FormFrame {
     Delete,
     /// After the target of a step, and after the conversion of what it has.
     StepTarget(StepOp, Place),
-    StepConverted(StepOp, Reference, Place),
+    StepConverted(StepOp, Box<Reference>, Place),
     /// After the target of an assignment, with its right side; after that, with what the target has;
     /// after what the assignment computes.
     AssignTarget(AssignOp, ExprId, Place),

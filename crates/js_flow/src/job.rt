@@ -1,9 +1,9 @@
 //! Jobs, how they end, and what is next.
 
-use crate::frame::{ForInNames, Frame};
+use crate::frame::{ForInNames, Frame, StatementFrame};
 use code_units::Text;
 use js_image::StopCause;
-use js_tree::{ExprId, FunId, StmtId};
+use js_tree::{BinOp, ExprId, FunId, StmtId};
 use object_store::{CellId, NativeId, Value};
 use smallvec::SmallVec;
 
@@ -97,23 +97,34 @@ pub enum Job {
     RunNative(Box<NativeCall>),
 }
 
-/// What is next, as one node or one frame says it. Of two frames the first lies below.
+/// A frame of a statement that lies below another, where both are pushed at once.
+#[derive(Clone, Copy, Drop)]
+pub enum Below {
+    ForAgain(StmtId, Place),
+    SwitchEnd,
+}
+
+/// What is next, as one node or one frame says it. It is moved often, so what is rare is narrow.
 #[derive(Drop)]
 pub enum Next {
     /// A job, and what waits for it.
     Push(Frame, Job),
-    Push2(Frame, Frame, Job),
+    /// The same with two frames, of which the first lies below.
+    Push2(Below, StatementFrame, Job),
     Go(Job),
     /// A job that has its unit.
     Begin(Frame, Job),
     /// The statements of a block, and what waits for them.
     Block(Frame, Block, Place),
-    Block2(Frame, Frame, Block, Place),
     Run(Block, Place),
+    /// The block of a `try`, and its `catch` and its `finally`, which wait for it.
+    Try(StmtId, Place),
     /// How the form ended.
     Give(Completion),
-    /// The second frame is given this at once, and the first waits for it.
-    Feed(Frame, Frame, Completion),
+    /// The conversion of a value, by a caller at a depth, and the frame that waits for it.
+    Convert(Frame, u32, Value),
+    /// An operator on what a target has and a value; what it gives is written to the target.
+    Compute(Reference, Place, BinOp, Value, Value),
     /// A charge, and then the frame goes on.
     Pay(Frame, usize),
     /// A native, which has its unit.

@@ -10,7 +10,9 @@ pub use frame::{
     Argument, Assigning, CallFrame, Calling, ForInNames, FormFrame, Frame, Gathering, Keep,
     StatementFrame,
 };
-pub use job::{Args, Block, Call, Completion, Job, Listed, NativeCall, Next, Place, Reference};
+pub use job::{
+    Args, Below, Block, Call, Completion, Job, Listed, NativeCall, Next, Place, Reference,
+};
 pub use lists::{
     argument_at, clause_at, declaration_at, default_at, element_at, first_at, last_at, property_at,
     statement_at,

@@ -16,10 +16,11 @@ ghost use Rattle.js_flow.specs.Frames.{Plans};
 ghost use Rattle.js_flow.specs.Fine.{FineAssigning, FineNext, FineReference, IsExprAt, IsPlace};
 ghost use Rattle.js_flow.specs.Free.{next_free};
 
+use crate::handing::{convert, evaluate};
 use crate::operating::{is_object, operate};
 use crate::reading::{referred, write};
 use code_units::{Memory, WholeRead};
-use js_flow::{Assigning, CallFrame, Completion, FormFrame, Frame, Job, Next, Place, Reference};
+use js_flow::{Assigning, FormFrame, Next, Place, Reference};
 use js_image::StopCause;
 use js_names::Code;
 use js_tree::{AssignOp, BinOp, ExprId, StepOp};
@@ -47,17 +48,11 @@ pub(crate) fn assign_target(
 {
     let (e, place) = right;
     match op {
-        AssignOp::Assign => Ok(Next::Push(
-            Frame::Form(FormFrame::Write(of, place)),
-            Job::Eval(e, place),
-        )),
+        AssignOp::Assign => evaluate(FormFrame::Write(of, place), e, place),
         _ => {
             let has = referred(w, codes, store, &of, place)?;
             let assigning = Assigning { op, of, has, place };
-            Ok(Next::Push(
-                Frame::Form(FormFrame::AssignWith(Box::new(alloc, assigning)?)),
-                Job::Eval(e, place),
-            ))
+            evaluate(FormFrame::AssignWith(Box::new(alloc, assigning)?), e, place)
         }
     }
 }
@@ -102,11 +97,7 @@ pub(crate) fn assign_with(
         place,
     } = to;
     match operator(op) {
-        Some(op) => Ok(Next::Feed(
-            Frame::Form(FormFrame::Write(of, place)),
-            Frame::Form(FormFrame::Operate(op, had, place.depth)),
-            Completion::Is(value),
-        )),
+        Some(op) => Ok(Next::Compute(of, place, op, had, value)),
         None => {
             let given = value.share()?;
             write(alloc, w, codes, store, (of, place), (value, given))
@@ -135,11 +126,8 @@ pub(crate) fn step_target(
     let (op, place) = op;
     let has = referred(w, codes, store, &of, place)?;
     if is_object(&has) {
-        return Ok(Next::Feed(
-            Frame::Form(FormFrame::StepConverted(op, of, place)),
-            Frame::Call(CallFrame::ToPrimitive(place.depth)),
-            Completion::Is(has),
-        ));
+        let converted = FormFrame::StepConverted(op, Box::new(alloc, of)?, place);
+        return convert(converted, place.depth, has);
     }
     step_number(alloc, w, codes, store, (op, of, place), &has)
 }

@@ -15,9 +15,10 @@ ghost use Rattle.js_flow.specs.Frames.{Plans, planned};
 ghost use Rattle.js_flow.specs.Fine.{FineJob, FineNext, IsPlace};
 ghost use Rattle.js_flow.specs.Free.{job_free, next_free};
 
+use crate::handing::{evaluate, find, give, give_reference, reach, reach_callee};
 use crate::literals::{array, function, number, object, word_value};
 use code_units::{Memory, Text};
-use js_flow::{CallFrame, Completion, FormFrame, Frame, Job, Next, Place, Reference};
+use js_flow::{Completion, FormFrame, Job, Next, Place, Reference};
 use js_image::variable;
 use js_names::{Code, tree_at};
 use js_tree::{Expr, ExprId, UnOp};
@@ -47,10 +48,7 @@ pub fn eval(
         Expr::Object(_) => object(alloc, w, codes, store, id, place),
         Expr::Function(fun) => function(alloc, w, codes, store, *fun, place),
         Expr::Name(name) => name_value(w, codes, store, name, place),
-        Expr::Call(callee, _) => Ok(Next::Push(
-            Frame::Call(CallFrame::Callee(id, place)),
-            Job::Target(*callee, place),
-        )),
+        Expr::Call(callee, _) => reach_callee(id, *callee, place),
         node => simple(node, place),
     }
 }
@@ -83,33 +81,23 @@ fn simple(node: &Expr, place: Place) -> Result<Next, Memory>
     ensures near { IfOk result (λ n. next_free n ≤ 12) }
 {
     match node {
-        Expr::Num(text) => Ok(Next::Give(Completion::Is(number(text)))),
-        Expr::Str(text) => Ok(Next::Give(Completion::Is(Value::Text(text.share()?)))),
-        Expr::Word(word) => Ok(Next::Give(Completion::Is(word_value(*word)))),
-        Expr::Dot(e, name) => Ok(push(FormFrame::Dot(name.share()?), Job::Eval(*e, place))),
-        Expr::Sub(e, index) => Ok(push(FormFrame::SubBase(*index, place), Job::Eval(*e, place))),
-        Expr::Step(op, e) => Ok(push(FormFrame::StepTarget(*op, place), Job::Target(*e, place))),
-        Expr::Unary(UnOp::Delete, e) => Ok(push(FormFrame::Delete, Job::Target(*e, place))),
-        Expr::Unary(op, e) => Ok(push(FormFrame::Prefix(*op, place), Job::Eval(*e, place))),
-        Expr::Binary(op, a, b) => Ok(push(FormFrame::Right(*op, *b, place), Job::Eval(*a, place))),
-        Expr::And(a, b) => Ok(push(FormFrame::And(*b, place), Job::Eval(*a, place))),
-        Expr::Or(a, b) => Ok(push(FormFrame::Or(*b, place), Job::Eval(*a, place))),
-        Expr::Cond(a, b, c) => Ok(push(FormFrame::Choose(*b, *c, place), Job::Eval(*a, place))),
-        Expr::Assign(op, to, e) => Ok(push(
-            FormFrame::AssignTarget(*op, *e, place),
-            Job::Target(*to, place),
-        )),
-        Expr::New(_, _) => Ok(Next::Give(Completion::Is(Value::Undefined))),
-        Expr::Comma(_, _) => Ok(Next::Give(Completion::Is(Value::Undefined))),
+        Expr::Num(text) => give(number(text)),
+        Expr::Str(text) => give(Value::Text(text.share()?)),
+        Expr::Word(word) => give(word_value(*word)),
+        Expr::Dot(e, name) => evaluate(FormFrame::Dot(name.share()?), *e, place),
+        Expr::Sub(e, index) => evaluate(FormFrame::SubBase(*index, place), *e, place),
+        Expr::Step(op, e) => reach(FormFrame::StepTarget(*op, place), *e, place),
+        Expr::Unary(UnOp::Delete, e) => reach(FormFrame::Delete, *e, place),
+        Expr::Unary(op, e) => evaluate(FormFrame::Prefix(*op, place), *e, place),
+        Expr::Binary(op, a, b) => evaluate(FormFrame::Right(*op, *b, place), *a, place),
+        Expr::And(a, b) => evaluate(FormFrame::And(*b, place), *a, place),
+        Expr::Or(a, b) => evaluate(FormFrame::Or(*b, place), *a, place),
+        Expr::Cond(a, b, c) => evaluate(FormFrame::Choose(*b, *c, place), *a, place),
+        Expr::Assign(op, to, e) => reach(FormFrame::AssignTarget(*op, *e, place), *to, place),
+        Expr::New(_, _) => give(Value::Undefined),
+        Expr::Comma(_, _) => give(Value::Undefined),
         _ => unreachable!(),
     }
-}
-
-// A frame, and the job for which it waits.
-fn push(frame: FormFrame, job: Job) -> Next
-    ensures { result ≡ Next.Push (Frame.Form frame) job }
-{
-    Next::Push(Frame::Form(frame), job)
 }
 
 /// What a target does after its unit.
@@ -131,12 +119,9 @@ pub fn target(
     ensures kept { Kept (trees_of codes.now.items) w store.old store.new }
 {
     match tree_at(codes, place.code).expr(id) {
-        Expr::Name(name) => Ok(Next::Give(Completion::Refers(Reference::Variable(name.share()?)))),
-        Expr::Dot(e, name) => Ok(push(FormFrame::TargetDot(name.share()?), Job::Eval(*e, place))),
-        Expr::Sub(e, index) => Ok(push(
-            FormFrame::TargetSubBase(*index, place),
-            Job::Eval(*e, place),
-        )),
-        _ => Ok(Next::Begin(Frame::Form(FormFrame::Found), Job::Eval(id, place))),
+        Expr::Name(name) => give_reference(Reference::Variable(name.share()?)),
+        Expr::Dot(e, name) => evaluate(FormFrame::TargetDot(name.share()?), *e, place),
+        Expr::Sub(e, index) => evaluate(FormFrame::TargetSubBase(*index, place), *e, place),
+        _ => find(id, place),
     }
 }

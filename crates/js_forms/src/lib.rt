@@ -3,6 +3,7 @@
 
 mod assigning;
 mod evaluating;
+mod handing;
 mod literals;
 mod operating;
 mod reading;

@@ -19,9 +19,10 @@ ghost use Rattle.js_flow.specs.Frames.{Plans};
 ghost use Rattle.js_flow.specs.Fine.{FineNext, FineReference};
 ghost use Rattle.js_flow.specs.Free.{next_free};
 
+use crate::handing::convert;
 use crate::reading::throw;
 use code_units::Memory;
-use js_flow::{CallFrame, Completion, FormFrame, Frame, Next, Place, Reference};
+use js_flow::{Completion, FormFrame, Next, Place, Reference};
 use js_image::{Callee, Fault, Paid, Removed, StopCause, callee, pay_text, remove};
 use js_names::Code;
 use js_tree::{BinOp, UnOp};
@@ -136,11 +137,7 @@ pub(crate) fn operate(
         return computed(alloc, w, codes, store, op, (left, right));
     }
     if is_object(&left) {
-        return Ok(Next::Feed(
-            Frame::Form(FormFrame::ConvertedLeft(op, right, depth)),
-            Frame::Call(CallFrame::ToPrimitive(depth)),
-            Completion::Is(left),
-        ));
+        return convert(FormFrame::ConvertedLeft(op, right, depth), depth, left);
     }
     convert_right(alloc, w, codes, store, op, (left, right, depth))
 }
@@ -165,11 +162,7 @@ pub(crate) fn convert_right(
 {
     let (left, right, depth) = operands;
     if is_object(&right) {
-        return Ok(Next::Feed(
-            Frame::Form(FormFrame::ConvertedRight(op, left)),
-            Frame::Call(CallFrame::ToPrimitive(depth)),
-            Completion::Is(right),
-        ));
+        return convert(FormFrame::ConvertedRight(op, left), depth, right);
     }
     computed(alloc, w, codes, store, op, (left, right))
 }
@@ -251,11 +244,7 @@ fn convert_prefix(
 {
     let (op, depth) = op;
     if is_object(&value) {
-        return Ok(Next::Feed(
-            Frame::Form(FormFrame::ConvertedPrefix(op)),
-            Frame::Call(CallFrame::ToPrimitive(depth)),
-            Completion::Is(value),
-        ));
+        return convert(FormFrame::ConvertedPrefix(op), depth, value);
     }
     converted_prefix(w, codes, store, op, &value)
 }

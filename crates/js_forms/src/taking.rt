@@ -1,5 +1,5 @@
 //! What a frame of an expression or a target does with how its part ended.
-ghost use Rattle.std.specs.Prelude.{◌≡◌, ℕ, ◌<◌, ◌≤◌, List, IfOk};
+ghost use Rattle.std.specs.Prelude.{◌≡◌, ℕ, ◌<◌, ◌≤◌, List, IfOk, Ok};
 ghost use Rattle.js_tree.specs.Forest.{Forest};
 ghost use Rattle.store_cells.specs.Cells.{PlainCell};
 ghost use Rattle.widget_meaning.specs.Values as meaning;
@@ -17,13 +17,14 @@ ghost use Rattle.js_flow.specs.Fine.{FineCompletion, FineForm, FineNext, FineRef
 ghost use Rattle.js_flow.specs.Free.{form_free, next_free};
 
 use crate::assigning::{assign_target, assign_with, step_number, step_target};
+use crate::handing::{evaluate, give, give_reference, go, pass_on};
 use crate::literals::{element, property};
 use crate::operating::{
     computed, convert_right, converted_prefix, delete, is_object, operate, prefix,
 };
 use crate::reading::{read, refer, write};
 use code_units::{Memory, Text};
-use js_flow::{Completion, FormFrame, Frame, Job, Next, Reference};
+use js_flow::{Completion, FormFrame, Next, Reference};
 use js_names::Code;
 use js_tree::BinOp;
 use js_values::{is_true, to_text};
@@ -51,7 +52,7 @@ pub fn take_form(
     match how {
         Completion::Is(value) => take_value(alloc, w, codes, store, frame, value),
         Completion::Refers(of) => take_reference(alloc, w, codes, store, frame, of),
-        how => Ok(Next::Give(how)),
+        how => pass_on(how),
     }
 }
 
@@ -133,7 +134,14 @@ fn take_value(
             if is_object(&value) {
                 return Err(Memory);
             }
-            step_number(alloc, w, codes, store, (op, of, place), &value)
+            step_number(
+                alloc,
+                w,
+                codes,
+                store,
+                (op, Box::into_inner(of), place),
+                &value,
+            )
         }
         FormFrame::AssignWith(assigning) => {
             assign_with(alloc, w, codes, store, Box::into_inner(assigning), value)
@@ -142,56 +150,50 @@ fn take_value(
             let given = value.share()?;
             write(alloc, w, codes, store, (of, place), (value, given))
         }
-        frame => Ok(go_on(frame, value)),
+        frame => go_on(frame, value),
     }
 }
 
 // A frame that goes on with a value and leaves the store as it is.
-fn go_on(frame: FormFrame, value: Value) -> Next
+fn go_on(frame: FormFrame, value: Value) -> Result<Next, Memory>
     requires simple { GoesOn frame }
-    ensures plan { (fs : List Forest) (w : ℕ) (cells : List PlainCell) (s : State)
-        → planned fs w cells result s ≡ form_taken fs w cells frame (meaning.Is (seen w cells value)) s }
-    ensures fine { (fs : List Forest) (w : ℕ) (cells : List PlainCell) → FineForm fs w cells frame → IsFine w cells value → FineNext fs w cells result }
-    ensures near { next_free result ≤ form_free frame }
+    ensures plan { IfOk result (λ n. (fs : List Forest) (w : ℕ) (cells : List PlainCell) (s : State)
+        → planned fs w cells n s ≡ form_taken fs w cells frame (meaning.Is (seen w cells value)) s) }
+    ensures fine { IfOk result (λ n. (fs : List Forest) (w : ℕ) (cells : List PlainCell)
+        → FineForm fs w cells frame → IsFine w cells value → FineNext fs w cells n) }
+    ensures near { IfOk result (λ n. next_free n ≤ form_free frame) }
 {
     match frame {
-        FormFrame::SubBase(e, place) => Next::Push(
-            Frame::Form(FormFrame::Sub(value)),
-            Job::Eval(e, place),
-        ),
-        FormFrame::TargetSubBase(e, place) => Next::Push(
-            Frame::Form(FormFrame::TargetSub(value)),
-            Job::Eval(e, place),
-        ),
-        FormFrame::Found => Next::Give(Completion::Refers(Reference::Found(value))),
-        FormFrame::Right(op, e, place) => Next::Push(
-            Frame::Form(FormFrame::Operate(op, value, place.depth)),
-            Job::Eval(e, place),
-        ),
+        FormFrame::SubBase(e, place) => evaluate(FormFrame::Sub(value), e, place),
+        FormFrame::TargetSubBase(e, place) => evaluate(FormFrame::TargetSub(value), e, place),
+        FormFrame::Found => give_reference(Reference::Found(value)),
+        FormFrame::Right(op, e, place) => {
+            evaluate(FormFrame::Operate(op, value, place.depth), e, place)
+        }
         FormFrame::And(e, place) => {
             if is_true(&value) {
-                Next::Go(Job::Eval(e, place))
+                go(e, place)
             } else {
-                Next::Give(Completion::Is(value))
+                give(value)
             }
         }
         FormFrame::Or(e, place) => {
             if is_true(&value) {
-                Next::Give(Completion::Is(value))
+                give(value)
             } else {
-                Next::Go(Job::Eval(e, place))
+                go(e, place)
             }
         }
         FormFrame::Choose(a, b, place) => {
             if is_true(&value) {
-                Next::Go(Job::Eval(a, place))
+                go(a, place)
             } else {
-                Next::Go(Job::Eval(b, place))
+                go(b, place)
             }
         }
-        FormFrame::Delete => Next::Give(Completion::Is(value)),
-        FormFrame::StepTarget(_, _) => Next::Give(Completion::Is(value)),
-        FormFrame::AssignTarget(_, _, _) => Next::Give(Completion::Is(value)),
+        FormFrame::Delete => give(value),
+        FormFrame::StepTarget(_, _) => give(value),
+        FormFrame::AssignTarget(_, _, _) => give(value),
         _ => unreachable!(),
     }
 }
@@ -259,13 +261,13 @@ fn take_reference(
             (e, place),
             of,
         ),
-        frame => Ok(pass_reference(frame, of)),
+        frame => pass_reference(frame, of),
     }
 }
 
 // A frame that waits for no reference passes it on.
-fn pass_reference(frame: FormFrame, of: Reference) -> Next
-    ensures { result ≡ Next.Give (Completion.Refers of) }
+fn pass_reference(frame: FormFrame, of: Reference) -> Result<Next, Memory>
+    ensures { result ≡ Ok (Next.Give (Completion.Refers of)) }
 {
-    Next::Give(Completion::Refers(of))
+    give_reference(of)
 }

@@ -19,7 +19,9 @@ ghost use Rattle.js_flow.specs.Frames.{planned, taken};
 ghost use Rattle.js_flow.specs.Fine.{FineNext};
 ghost use Rattle.js_flow.specs.Free.{next_free};
 
-use js_flow::{Block, Completion, Frame, Job, Next, Place, StatementFrame, clause_at, default_at};
+use js_flow::{
+    Below, Block, Completion, Frame, Job, Next, Place, StatementFrame, clause_at, default_at,
+};
 use js_names::{Code, tree_at};
 use js_tree::{ExprId, StmtId, Tree};
 use js_values::is_same;
@@ -65,8 +67,8 @@ pub(crate) fn begin_choice(codes: &Vec<Code>, id: StmtId, value: Value, place: P
     let tree = tree_at(codes, place.code);
     match next_test(tree, id, 0) {
         Some(next) => Next::Push2(
-            Frame::Statement(StatementFrame::SwitchEnd),
-            Frame::Statement(StatementFrame::Case(value, id, next.at, place)),
+            Below::SwitchEnd,
+            StatementFrame::Case(value, id, next.at, place),
             Job::Eval(next.test, place),
         ),
         None => Next::Block(

@@ -17,9 +17,9 @@ ghost use Rattle.js_flow.specs.Free.{job_free, next_free};
 
 use crate::looping::again;
 use crate::parts::first_value;
-use js_flow::{Block, Completion, Frame, Job, Next, Place, StatementFrame, first_at};
+use js_flow::{Below, Block, Completion, Frame, Job, Next, Place, StatementFrame, first_at};
 use js_names::{Code, tree_at};
-use js_tree::{ForInit, Stmt, StmtId};
+use js_tree::{ExprId, ForInit, Stmt, StmtId};
 use object_store::Value;
 
 /// What a statement is after its unit.
@@ -53,47 +53,38 @@ fn statement(codes: &Vec<Code>, node: &Stmt, id: StmtId, place: Place) -> Next
 {
     match node {
         Stmt::Var(_) => declarations(codes, id, 0, place),
-        Stmt::Expr(e) => Next::Push(Frame::Statement(StatementFrame::Only), Job::Eval(*e, place)),
-        Stmt::If(e, _, _) => Next::Push(
-            Frame::Statement(StatementFrame::Branch(id, place)),
-            Job::Eval(*e, place),
-        ),
-        Stmt::While(e, _) => Next::Push(
-            Frame::Statement(StatementFrame::Test(id, place)),
-            Job::Eval(*e, place),
-        ),
+        Stmt::Expr(e) => push(StatementFrame::Only, *e, place),
+        Stmt::If(e, _, _) => push(StatementFrame::Branch(id, place), *e, place),
+        Stmt::While(e, _) => push(StatementFrame::Test(id, place), *e, place),
         Stmt::DoWhile(_, _) => Next::Go(Job::Pass(id, place)),
         Stmt::For(ForInit::Var(_), _, _, _) => declared_first(codes, id, place),
         Stmt::For(ForInit::List(_), _, _, _) => listed_first(codes, id, place),
-        Stmt::ForIn(_, _, e, _) => Next::Push(
-            Frame::Statement(StatementFrame::ForInOver(id, place)),
-            Job::Eval(*e, place),
-        ),
-        Stmt::Continue(_) => Next::Give(Completion::Continue),
-        Stmt::Break(_) => Next::Give(Completion::Break),
-        Stmt::Return(None) => Next::Give(Completion::Return(Value::Undefined)),
-        Stmt::Return(Some(e)) => Next::Push(
-            Frame::Statement(StatementFrame::ToReturn),
-            Job::Eval(*e, place),
-        ),
-        Stmt::Throw(e) => Next::Push(
-            Frame::Statement(StatementFrame::ToThrow),
-            Job::Eval(*e, place),
-        ),
-        Stmt::Switch(e, _) => Next::Push(
-            Frame::Statement(StatementFrame::Switch(id, place)),
-            Job::Eval(*e, place),
-        ),
-        Stmt::Try(_, _, _) => Next::Block2(
-            Frame::Statement(StatementFrame::Finally(id, place)),
-            Frame::Statement(StatementFrame::Caught(id, place)),
-            Block::Try(id),
-            place,
-        ),
+        Stmt::ForIn(_, _, e, _) => push(StatementFrame::ForInOver(id, place), *e, place),
+        Stmt::Continue(_) => give(Completion::Continue),
+        Stmt::Break(_) => give(Completion::Break),
+        Stmt::Return(None) => give(Completion::Return(Value::Undefined)),
+        Stmt::Return(Some(e)) => push(StatementFrame::ToReturn, *e, place),
+        Stmt::Throw(e) => push(StatementFrame::ToThrow, *e, place),
+        Stmt::Switch(e, _) => push(StatementFrame::Switch(id, place), *e, place),
+        Stmt::Try(_, _, _) => Next::Try(id, place),
         // No accepted tree has the others.
-        Stmt::With(_, _) => Next::Give(Completion::Normal),
-        Stmt::Label(_, _) => Next::Give(Completion::Normal),
+        Stmt::With(_, _) => give(Completion::Normal),
+        Stmt::Label(_, _) => give(Completion::Normal),
     }
+}
+
+// An expression, and the frame that waits for it.
+fn push(frame: StatementFrame, e: ExprId, place: Place) -> Next
+    ensures { result ≡ Next.Push (Frame.Statement frame) (Job.Eval e place) }
+{
+    Next::Push(Frame::Statement(frame), Job::Eval(e, place))
+}
+
+// How a statement ends at once.
+fn give(how: Completion) -> Next
+    ensures { result ≡ Next.Give how }
+{
+    Next::Give(how)
 }
 
 /// Declarations from a number of their list on, up to the first that has a first value.
@@ -130,8 +121,8 @@ fn declared_first(codes: &Vec<Code>, id: StmtId, place: Place) -> Next
 {
     match first_value(tree_at(codes, place.code), id, 0) {
         Some(valued) => Next::Push2(
-            Frame::Statement(StatementFrame::ForAgain(id, place)),
-            Frame::Statement(StatementFrame::Declared(id, valued.at, place)),
+            Below::ForAgain(id, place),
+            StatementFrame::Declared(id, valued.at, place),
             Job::Eval(valued.init, place),
         ),
         None => again(codes, id, place),
@@ -152,8 +143,8 @@ fn listed_first(codes: &Vec<Code>, id: StmtId, place: Place) -> Next
 {
     match first_at(tree_at(codes, place.code), id, 0) {
         Some(e) => Next::Push2(
-            Frame::Statement(StatementFrame::ForAgain(id, place)),
-            Frame::Statement(StatementFrame::First(id, 1, place)),
+            Below::ForAgain(id, place),
+            StatementFrame::First(id, 1, place),
             Job::Eval(e, place),
         ),
         None => again(codes, id, place),

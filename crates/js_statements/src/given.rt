@@ -1,5 +1,5 @@
 //! What a frame of a statement does with how its part ended.
-ghost use Rattle.std.specs.Prelude.{◌≡◌, ◌<◌, ◌≤◌, ℕ, List, IfOk, length};
+ghost use Rattle.std.specs.Prelude.{◌≡◌, ◌<◌, ◌≤◌, ℕ, List, IfOk, Ok, length};
 ghost use Rattle.store_cells.specs.Cells.{PlainCell};
 ghost use Rattle.js_tree.specs.Forest.{Forest, IsStmt};
 ghost use Rattle.widget_meaning.specs.OwnState.{State};
@@ -79,7 +79,7 @@ fn take_value(
     ensures kept { Kept (trees_of codes.now.items) w store.old store.new }
 {
     match frame {
-        StatementFrame::Only => Ok(Next::Give(Completion::Normal)),
+        StatementFrame::Only => pass_on(Completion::Normal),
         StatementFrame::Declared(id, n, place) => {
             Ok(after_declaration(w, codes, store, (id, n, place), value))
         }
@@ -90,15 +90,15 @@ fn take_value(
         StatementFrame::ForInOver(id, place) => {
             after_object(alloc, w, codes, store, (id, place), value)
         }
-        StatementFrame::ToReturn => Ok(Next::Give(Completion::Return(value))),
-        StatementFrame::ToThrow => Ok(Next::Give(Completion::Throw(value))),
+        StatementFrame::ToReturn => pass_on(Completion::Return(value)),
+        StatementFrame::ToThrow => pass_on(Completion::Throw(value)),
         StatementFrame::Switch(id, place) => Ok(begin_choice(codes, id, value, place)),
         StatementFrame::Case(of, id, n, place) => Ok(after_case(codes, id, n, of, value, place)),
         StatementFrame::Finally(id, place) => {
             after_catch(alloc, codes, id, place, Completion::Is(value))
         }
         // The others pass a value on.
-        _ => Ok(Next::Give(Completion::Is(value))),
+        _ => pass_on(Completion::Is(value)),
     }
 }
 
@@ -137,8 +137,15 @@ fn take_other(
             how,
         ))),
         // The others wait for a value, and pass all else on.
-        _ => Ok(Next::Give(how)),
+        _ => pass_on(how),
     }
+}
+
+// How a part ended, passed on.
+fn pass_on(how: Completion) -> Result<Next, Memory>
+    ensures { result ≡ Ok (Next.Give how) }
+{
+    Ok(Next::Give(how))
 }
 
 // After a statement of a block: those from a number on.

@@ -16,7 +16,7 @@ ghost use Rattle.js_flow.specs.Fine.{FineCompletion, FineNext, IsStmtAt};
 ghost use Rattle.js_flow.specs.Free.{next_free};
 
 use crate::parts::test_at;
-use js_flow::{Completion, Frame, Job, Next, Place, StatementFrame, first_at, last_at};
+use js_flow::{Below, Completion, Frame, Job, Next, Place, StatementFrame, first_at, last_at};
 use js_names::{Code, tree_at};
 use js_tree::StmtId;
 use js_values::is_true;
@@ -90,8 +90,8 @@ fn next_pass(codes: &Vec<Code>, id: StmtId, place: Place) -> Next
 {
     match last_at(tree_at(codes, place.code), id, 0) {
         Some(e) => Next::Push2(
-            Frame::Statement(StatementFrame::ForAgain(id, place)),
-            Frame::Statement(StatementFrame::Last(id, 1, place)),
+            Below::ForAgain(id, place),
+            StatementFrame::Last(id, 1, place),
             Job::Eval(e, place),
         ),
         None => again(codes, id, place),

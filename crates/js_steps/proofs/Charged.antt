@@ -1,5 +1,5 @@
 -- The charge of what a task is at, one kind after the other.
-use Rattle.std.proofs.Common.{◌≡◌, ℕ, ◌+◌, ◌*◌, ◌≤◌, List, refl, true, arith}
+use Rattle.std.proofs.Common.{◌≡◌, ℕ, ◌+◌, ◌*◌, ◌≤◌, List, refl, arith}
 use Rattle.js_tree.specs.Forest.{Forest}
 use Rattle.store_cells.specs.Cells.{PlainCell}
 use Rattle.widget_meaning.specs.OwnState.{State}
@@ -8,20 +8,11 @@ use Rattle.js_flow.specs.declared.task.Control.{Control}
 use Rattle.js_flow.specs.declared.task.Control.TheVariants as control
 use Rattle.js_flow.specs.Views.{job_of}
 use Rattle.js_flow.specs.Frames.{rest}
-use Rattle.js_flow.specs.Fine.{FineControl}
 use Rattle.js_flow.specs.Free.{control_free}
-use Rattle.js_flow.specs.Todo.{IsGoing, Moves, is_free, todo}
+use Rattle.js_flow.specs.Todo.{IsGoing, Moves, todo}
 use Rattle.js_flow.proofs.Moves.{job_moves, pay_moves, stays}
 use Rattle.js_steps.specs.Charges.{after_charge, charge_of}
 use Rattle.js_steps.proofs.Weights.{weight_most}
-
-pub goes_on : (c : Control) → IsGoing c → is_free (after_charge c) ≡ true
-goes_on (control.Do j) h = refl
-goes_on (control.Begin j) h = refl
-goes_on (control.Give o) h = refl
-goes_on (control.Pay n) h = refl
-goes_on (control.Waits d) h = absurd h
-goes_on control.Over h = absurd h
 
 pub lighter : (c : Control) → control_free (after_charge c) ≤ 32 * charge_of c + control_free c
 lighter (control.Do j) = omega (arith, weight_most j)
@@ -39,11 +30,3 @@ module _ (fs : List Forest) (w : ℕ) (cells : List PlainCell) where
   charged (control.Pay n) frames s h = pay_moves fs w cells n frames s _ refl
   charged (control.Waits d) frames s h = absurd h
   charged control.Over frames s h = absurd h
-
-  pub still_fine : (c : Control) → FineControl fs w cells c → FineControl fs w cells (after_charge c)
-  still_fine (control.Do j) h = h
-  still_fine (control.Begin j) h = h
-  still_fine (control.Give o) h = h
-  still_fine (control.Pay n) h = tt
-  still_fine (control.Waits d) h = tt
-  still_fine control.Over h = tt

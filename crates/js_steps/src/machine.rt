@@ -10,7 +10,7 @@ ghost use Rattle.js_image.specs.Image.{Rest, image};
 ghost use Rattle.js_image.specs.Held.{IsConfined, Kept};
 ghost use Rattle.js_values.specs.Answers.{out_of_fuel};
 ghost use Rattle.js_names.specs.Code.{trees_of};
-ghost use Rattle.js_flow.specs.Views.{completion_of};
+ghost use Rattle.js_flow.specs.Views.{completion_of, frame_below};
 ghost use Rattle.js_flow.specs.Frames.{planned, rest};
 ghost use Rattle.js_flow.specs.Fine.{FineCompletion, FineControl, FineFrames, FineJob, FineNext, FineStepped};
 ghost use Rattle.js_steps.specs.Charges.{after_charge, charge_of};
@@ -22,10 +22,14 @@ use crate::jobs::{begin_job, take};
 use crate::stack::{Frames, Unwound};
 use crate::task::Task;
 use code_units::Memory;
-use js_flow::{Block, Completion, Control, Frame, Job, Next, Place, StatementFrame, Stepped};
+use js_flow::{
+    Below, Block, CallFrame, Completion, Control, FormFrame, Frame, Job, Next, Place, Reference,
+    StatementFrame, Stepped,
+};
 use js_names::Code;
+use js_tree::{BinOp, StmtId};
 use js_values::Meter;
-use object_store::Store;
+use object_store::{Store, Value};
 use std::alloc::Global;
 use std::mem;
 
@@ -63,6 +67,14 @@ fn set_end(task: &mut Task, how: Completion)
     ensures widget { task.new.widget ≡ task.old.widget }
 {
     set(task, Control::Give(how));
+}
+
+fn set_value(task: &mut Task, value: Value)
+    ensures control { task.new.control ≡ Control.Give (Completion.Is value) }
+    ensures frames { task.new.frames ≡ task.old.frames }
+    ensures widget { task.new.widget ≡ task.old.widget }
+{
+    set(task, Control::Give(Completion::Is(value)));
 }
 
 fn set_normal(task: &mut Task)
@@ -117,6 +129,70 @@ fn push(task: &mut Task, frame: Frame)
     task.frames.list.push_reserved(frame);
 }
 
+// The same of a statement.
+fn push_statement(task: &mut Task, frame: StatementFrame)
+    requires room { vec_len task.old.frames.list < vec_capacity task.old.frames.list }
+    ensures control { task.new.control ≡ task.old.control }
+    ensures frames { task.new.frames.list.items ≡ task.old.frames.list.items ++ Frame.Statement frame ∷ [] }
+    ensures room { (vec_len task.new.frames.list ≡ vec_len task.old.frames.list + 1) × (vec_capacity task.new.frames.list ≡ vec_capacity task.old.frames.list) }
+    ensures widget { task.new.widget ≡ task.old.widget }
+{
+    push(task, Frame::Statement(frame));
+}
+
+// One that lies below another.
+fn push_below(task: &mut Task, below: Below)
+    requires room { vec_len task.old.frames.list < vec_capacity task.old.frames.list }
+    ensures control { task.new.control ≡ task.old.control }
+    ensures frames { task.new.frames.list.items ≡ task.old.frames.list.items ++ frame_below below ∷ [] }
+    ensures room { (vec_len task.new.frames.list ≡ vec_len task.old.frames.list + 1) × (vec_capacity task.new.frames.list ≡ vec_capacity task.old.frames.list) }
+    ensures widget { task.new.widget ≡ task.old.widget }
+{
+    push(task, lower(below));
+}
+
+fn lower(below: Below) -> Frame
+    ensures { result ≡ frame_below below }
+{
+    match below {
+        Below::ForAgain(id, place) => Frame::Statement(StatementFrame::ForAgain(id, place)),
+        Below::SwitchEnd => Frame::Statement(StatementFrame::SwitchEnd),
+    }
+}
+
+// The conversion of a value.
+fn push_conversion(task: &mut Task, depth: u32)
+    requires room { vec_len task.old.frames.list < vec_capacity task.old.frames.list }
+    ensures control { task.new.control ≡ task.old.control }
+    ensures frames { task.new.frames.list.items ≡ task.old.frames.list.items ++ Frame.Call (CallFrame.ToPrimitive depth) ∷ [] }
+    ensures room { (vec_len task.new.frames.list ≡ vec_len task.old.frames.list + 1) × (vec_capacity task.new.frames.list ≡ vec_capacity task.old.frames.list) }
+    ensures widget { task.new.widget ≡ task.old.widget }
+{
+    push(task, Frame::Call(CallFrame::ToPrimitive(depth)));
+}
+
+// The write of what an assignment computes.
+fn push_write(task: &mut Task, of: Reference, place: Place)
+    requires room { vec_len task.old.frames.list < vec_capacity task.old.frames.list }
+    ensures control { task.new.control ≡ task.old.control }
+    ensures frames { task.new.frames.list.items ≡ task.old.frames.list.items ++ Frame.Form (FormFrame.Write of place) ∷ [] }
+    ensures room { (vec_len task.new.frames.list ≡ vec_len task.old.frames.list + 1) × (vec_capacity task.new.frames.list ≡ vec_capacity task.old.frames.list) }
+    ensures widget { task.new.widget ≡ task.old.widget }
+{
+    push(task, Frame::Form(FormFrame::Write(of, place)));
+}
+
+// An operator, with its left operand.
+fn push_operate(task: &mut Task, op: BinOp, left: Value, depth: u32)
+    requires room { vec_len task.old.frames.list < vec_capacity task.old.frames.list }
+    ensures control { task.new.control ≡ task.old.control }
+    ensures frames { task.new.frames.list.items ≡ task.old.frames.list.items ++ Frame.Form (FormFrame.Operate op left depth) ∷ [] }
+    ensures room { (vec_len task.new.frames.list ≡ vec_len task.old.frames.list + 1) × (vec_capacity task.new.frames.list ≡ vec_capacity task.old.frames.list) }
+    ensures widget { task.new.widget ≡ task.old.widget }
+{
+    push(task, Frame::Form(FormFrame::Operate(op, left, depth)));
+}
+
 // One more frame, after which come the statements of a block.
 fn push_block(task: &mut Task, block: Block, place: Place)
     requires room { vec_len task.old.frames.list < vec_capacity task.old.frames.list }
@@ -126,6 +202,19 @@ fn push_block(task: &mut Task, block: Block, place: Place)
     ensures widget { task.new.widget ≡ task.old.widget }
 {
     push(task, Frame::Statement(StatementFrame::Seq(block, 0, place)));
+}
+
+// What waits for the block of a `try`, and its statements.
+fn push_try(task: &mut Task, id: StmtId, place: Place)
+    requires room { vec_len task.old.frames.list + 3 ≤ vec_capacity task.old.frames.list }
+    ensures control { task.new.control ≡ task.old.control }
+    ensures frames { task.new.frames.list.items ≡ ((task.old.frames.list.items ++ Frame.Statement (StatementFrame.Finally id place) ∷ [])
+        ++ Frame.Statement (StatementFrame.Caught id place) ∷ []) ++ Frame.Statement (StatementFrame.Seq (Block.Try id) 0 place) ∷ [] }
+    ensures widget { task.new.widget ≡ task.old.widget }
+{
+    push_statement(task, StatementFrame::Finally(id, place));
+    push_statement(task, StatementFrame::Caught(id, place));
+    push_block(task, Block::Try(id), place);
 }
 
 // Room for three frames more.
@@ -171,9 +260,9 @@ fn put(task: &mut Task, next: Next) -> Stepped
             set_job(task, job);
             Stepped::Went
         }
-        Next::Push2(frame, second, job) => {
-            push(task, frame);
-            push(task, second);
+        Next::Push2(below, frame, job) => {
+            push_below(task, below);
+            push_statement(task, frame);
             set_job(task, job);
             Stepped::Went
         }
@@ -192,15 +281,13 @@ fn put(task: &mut Task, next: Next) -> Stepped
             set_normal(task);
             Stepped::Went
         }
-        Next::Block2(frame, second, block, place) => {
-            push(task, frame);
-            push(task, second);
+        Next::Run(block, place) => {
             push_block(task, block, place);
             set_normal(task);
             Stepped::Went
         }
-        Next::Run(block, place) => {
-            push_block(task, block, place);
+        Next::Try(id, place) => {
+            push_try(task, id, place);
             set_normal(task);
             Stepped::Went
         }
@@ -208,10 +295,16 @@ fn put(task: &mut Task, next: Next) -> Stepped
             set_end(task, how);
             Stepped::Went
         }
-        Next::Feed(frame, second, how) => {
+        Next::Convert(frame, depth, value) => {
             push(task, frame);
-            push(task, second);
-            set_end(task, how);
+            push_conversion(task, depth);
+            set_value(task, value);
+            Stepped::Went
+        }
+        Next::Compute(of, place, op, had, value) => {
+            push_write(task, of, place);
+            push_operate(task, op, had, place.depth);
+            set_value(task, value);
             Stepped::Went
         }
         Next::Pay(frame, units) => {
@@ -242,28 +335,6 @@ fn pay(meter: &mut Meter, units: usize) -> bool
     meter.take(units as u32).is_ok()
 }
 
-// The charge of what a task is at, where it has one: it is taken, or nothing changes.
-fn charge(task: &mut Task, meter: &mut Meter) -> bool
-    requires going { IsGoing task.old.control }
-    ensures free { IsTrue result → is_free task.new.control ≡ true }
-    ensures moves { IsTrue result → (fs : List Forest) (w : ℕ) (cells : List PlainCell) (s : State) → Moves (meter.old.left - meter.new.left) s
-        (todo fs w cells task.old.control task.old.frames.list.items s) (todo fs w cells task.new.control task.new.frames.list.items s) }
-    ensures held { IsTrue result → (fs : List Forest) (w : ℕ) (cells : List PlainCell) → FineControl fs w cells task.old.control × FineFrames fs w cells task.old.frames.list.items
-        → FineControl fs w cells task.new.control × FineFrames fs w cells task.new.frames.list.items }
-    ensures near { IsTrue result → 32 * meter.new.left + free task.new.control task.new.frames.list.items ≤ 32 * meter.old.left + free task.old.control task.old.frames.list.items }
-    ensures unpaid { IsFalse result → (task.new ≡ task.old) × (meter.new ≡ meter.old) × ((fs : List Forest) (w : ℕ) (cells : List PlainCell) (s : State)
-        → run_plan meter.old.left (todo fs w cells task.old.control task.old.frames.list.items s) ≡ out_of_fuel s meter.old.left) }
-    ensures spends { (meter.new.left ≤ meter.old.left) × (meter.new.left + meter.new.spent ≡ meter.old.left + meter.old.spent) }
-    ensures widget { task.new.widget ≡ task.old.widget }
-{
-    let units = cost(&task.control);
-    if !pay(meter, units) {
-        return false;
-    }
-    set_paid(task);
-    true
-}
-
 // What a task is at costs this.
 fn cost(control: &Control) -> usize
     ensures { result ≡ charge_of control.now }
@@ -272,22 +343,6 @@ fn cost(control: &Control) -> usize
         Control::Do(_) => 1,
         Control::Pay(units) => *units,
         _ => 0,
-    }
-}
-
-// The charge was taken.
-fn set_paid(task: &mut Task)
-    requires { IsGoing task.old.control }
-    ensures control { task.new.control ≡ after_charge task.old.control }
-    ensures frames { task.new.frames ≡ task.old.frames }
-    ensures widget { task.new.widget ≡ task.old.widget }
-{
-    match take_control(task) {
-        Control::Do(job) => set_begun(task, job),
-        Control::Pay(_) => set_normal(task),
-        Control::Begin(job) => set_begun(task, job),
-        Control::Give(how) => set_end(task, how),
-        _ => unreachable!(),
     }
 }
 
@@ -416,6 +471,37 @@ fn free_step(
     }
 }
 
+// A step whose charge was taken.
+fn paid_step(
+    alloc: Global,
+    w: u32,
+    codes: &Vec<Code>,
+    store: &mut Store,
+    task: &mut Task,
+) -> Result<Stepped, Memory>
+    requires going { IsGoing task.old.control }
+    requires widget { w < 32 }
+    requires confined { IsConfined (trees_of codes.now.items) w store.old }
+    requires held { FineControl (trees_of codes.now.items) w store.old.cells task.old.control × FineFrames (trees_of codes.now.items) w store.old.cells task.old.frames.list.items }
+    ensures moves { let F = trees_of codes.now.items in IfOk result (λ k. (r : Rest) → Moves (0) (image F r w store.old)
+        (todo F w store.old.cells (after_charge task.old.control) task.old.frames.list.items (image F r w store.old))
+        (after_step F w store.new.cells k task.new.control task.new.frames.list.items (image F r w store.new))) }
+    ensures follows { IfOk result (λ k. Follows k task.new.control × IsNotFuel k) }
+    ensures held { let F = trees_of codes.now.items in IfOk result (λ k. FineControl F w store.new.cells task.new.control
+        × FineFrames F w store.new.cells task.new.frames.list.items × FineStepped F w store.new.cells k) }
+    ensures kept { Kept (trees_of codes.now.items) w store.old store.new }
+    ensures near { IfOk result (λ k. free task.new.control task.new.frames.list.items < free (after_charge task.old.control) task.old.frames.list.items) }
+    ensures widget { task.new.widget ≡ task.old.widget }
+{
+    match take_control(task) {
+        Control::Do(job) => begin(alloc, w, codes, store, task, job),
+        Control::Pay(_) => give(alloc, w, codes, store, task, Completion::Normal),
+        Control::Begin(job) => begin(alloc, w, codes, store, task, job),
+        Control::Give(how) => give(alloc, w, codes, store, task, how),
+        _ => unreachable!(),
+    }
+}
+
 // What costs nothing, up to a charge, a native or an end.
 fn go_on(
     alloc: Global,
@@ -474,10 +560,11 @@ pub(crate) fn step_for(
     ensures near { IfOk result (λ k. IsNotFuel k → 32 * meter.new.left + free task.new.control task.new.frames.list.items < 32 * meter.old.left + free task.old.control task.old.frames.list.items) }
     ensures widget { task.new.widget ≡ task.old.widget }
 {
-    if !charge(task, meter) {
+    let units = cost(&task.control);
+    if !pay(meter, units) {
         return Ok(Stepped::OutOfFuel);
     }
-    match free_step(alloc, w, codes, store, task)? {
+    match paid_step(alloc, w, codes, store, task)? {
         Stepped::Went => go_on(alloc, w, codes, store, task),
         answer => Ok(answer),
     }

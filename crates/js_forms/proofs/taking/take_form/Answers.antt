@@ -12,8 +12,8 @@ returns-in_default c =
     let w = c.args.w in
     let s = c.args.store.now in
     record {
-      plan = λ r. (passed fs w s.cells c.args.frame).1 (completion_of w s.cells c.args.how) (image fs r w s) (abrupt w s.cells c.args.how c.in_default.not-Is c.in_default.not-Refers);
-      fine = c.requires.held.1;
-      near = (passed fs w s.cells c.args.frame).0;
+      plan = rw c.pass_on.ensures (λ r. (passed fs w s.cells c.args.frame).1 (completion_of w s.cells c.args.how) (image fs r w s) (abrupt w s.cells c.args.how c.in_default.not-Is c.in_default.not-Refers));
+      fine = rw c.pass_on.ensures c.requires.held.1;
+      near = rw c.pass_on.ensures (passed fs w s.cells c.args.frame).0;
       kept = kept_same fs w s s refl;
     }
