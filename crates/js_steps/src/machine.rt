@@ -346,7 +346,7 @@ fn cost(control: &Control) -> usize
     }
 }
 
-// A step at a job that has its unit.
+// A step at a job that has its unit. What ends at once goes to the last frame.
 fn begin(
     alloc: Global,
     w: u32,
@@ -355,6 +355,7 @@ fn begin(
     task: &mut Task,
     job: Job,
 ) -> Result<Stepped, Memory>
+    requires over { task.old.control ≡ Control.Over }
     requires widget { w < 32 }
     requires confined { IsConfined (trees_of codes.now.items) w store.old }
     requires held { FineJob (trees_of codes.now.items) w store.old.cells job × FineFrames (trees_of codes.now.items) w store.old.cells task.old.frames.list.items }
@@ -368,8 +369,10 @@ fn begin(
     ensures near { IfOk result (λ k. free task.new.control task.new.frames.list.items < free (Control.Begin job) task.old.frames.list.items) }
     ensures widget { task.new.widget ≡ task.old.widget }
 {
-    let next = begin_job(alloc, w, codes, store, job)?;
-    follow(task, next)
+    match begin_job(alloc, w, codes, store, job)? {
+        Next::Give(how) => give(alloc, w, codes, store, task, how),
+        next => follow(task, next),
+    }
 }
 
 // An abrupt end goes at once to the frame that takes it.
