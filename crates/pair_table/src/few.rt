@@ -1,5 +1,5 @@
 //! Few pairs, in a plain list that is searched from its front.
-ghost use Rattle.std.specs.Prelude.{◌≡◌, ◌+◌, ◌-◌, ◌<◌, ◌≤◌, List, [], None, nat_eq, nat_lt, length, filter, slice_get, position, swap_remove, option_map, option_copied, vec_capacity, IfSome, IfNone, IsOk, OnOk, OnErr};
+ghost use Rattle.std.specs.Prelude.{◌≡◌, ◌+◌, ◌-◌, ◌<◌, ◌≤◌, ℕ, List, [], ◌∷◌, None, nat_eq, nat_lt, length, filter, slice_get, position, swap_remove, option_map, option_copied, vec_capacity, IfSome, IfNone, IsOk, OnOk, OnErr};
 ghost use Rattle.std.specs.List.{IsDistinct};
 ghost use Rattle.std.specs.Map.{keys_of, lookup, remove_entry};
 ghost use Rattle.std.specs.Map.Iter.{deref_pair};

@@ -1,5 +1,5 @@
 //! A table of pairs.
-ghost use Rattle.std.specs.Prelude.{◌≡◌, ◌+◌, ◌<◌, ◌≤◌, [], None, nat_eq, nat_lt, length, filter, slice_get, position, swap_remove, option_map, option_copied, is_some, IfSome, IfNone, IsOk, IfOk, OnOk, OnErr, true, false};
+ghost use Rattle.std.specs.Prelude.{◌≡◌, ◌+◌, ◌<◌, ◌≤◌, ℕ, List, [], ◌∷◌, None, nat_eq, nat_lt, length, filter, slice_get, position, swap_remove, option_map, option_copied, is_some, IfSome, IfNone, IsOk, IfOk, OnOk, OnErr, true, false};
 ghost use Rattle.std.specs.List.{IsDistinct};
 ghost use Rattle.std.specs.Map.{keys_of, lookup, remove_entry};
 ghost use Rattle.std.specs.Map.Iter.{deref_pair};

@@ -1,12 +1,12 @@
 //! The pairs of a cell: a table in order in which a name that is taken out leaves a hole, so that no
 //! pair moves.
-ghost use Rattle.std.specs.Prelude.{◌≡◌, ℕ, ◌<◌, ◌≤◌, ◌++◌, List, Option, None, Some, true, false, is_some, nat_eq, length, IfOk, IfSome, OnOk, filter, option_copied, option_to_list, slice_get, if◌then◌else◌, ◌&&◌};
+ghost use Rattle.std.specs.Prelude.{◌≡◌, ℕ, suc, ◌<◌, ◌≤◌, ◌++◌, List, Option, None, Some, true, false, is_some, nat_eq, length, IfOk, IfSome, MatchOption, OnErr, OnOk, filter, option_copied, option_to_list, slice_get, if◌then◌else◌, ◌&&◌};
 ghost use Rattle.std.specs.List.{IsDistinct, list_any};
 ghost use Rattle.std.specs.Map.{keys_of as numbers_of, lookup, remove_entry};
 ghost use Rattle.std.specs.Option.{option_map_or};
 ghost use Rattle.store_cells.specs.Arrays.{is_below, is_index_below, is_reference};
-ghost use Rattle.store_cells.specs.Numbered.{found_in, live, name_at, noted_below, recounted, references_in, refers_at};
-ghost use Rattle.store_cells.specs.Holes.{IsFull, StandsAt, is_name, is_reference_below, listed_in, listed_names, place_key};
+ghost use Rattle.store_cells.specs.Numbered.{found_in, live, name_at, noted, noted_below, recounted, references_in, refers_at};
+ghost use Rattle.store_cells.specs.Holes.{IsFull, IsNonePast, IsPoppedPast, StandsAt, is_name, is_reference_below, listed_in, listed_names, place_key};
 ghost use Rattle.store_cells.specs.Shape.{IsIndexed, Known};
 
 use crate::indices::Elements;
