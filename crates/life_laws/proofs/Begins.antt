@@ -10,7 +10,7 @@ use Rattle.widget_meaning.specs.Trees.{label_of, node_at}
 use Rattle.widget_meaning.specs.OwnState.{OwnState, State, Timer}
 use Rattle.widget_meaning.specs.Plan.{Plan}
 use Rattle.widget_meaning.specs.Dispatch.{nearest, dispatch}
-use Rattle.widget_meaning.specs.Turns.{begun, turn}
+use Rattle.widget_meaning.specs.Turns.{turn}
 use Rattle.widget_meaning.specs.Items.{Event, Occurs, Advance, item_at, occurs, occurs_at, if_heard, with_value, event_value, resting, timer_plan, next_due, on_due, without_timer, due_turns, unless_stopped}
 use Rattle.widget_meaning.specs.Alone.{call_parts, library_plan, go_plan, library_turn, go_turn}
 use Rattle.life_laws.specs.Life.{Seen, Turn, Work, Library, Go, Given, Until, work, opens, opening, or_else, first_of, library_opens, go_opens, heard, event_turn, timer_opens, if_live, waiting, started, Same}

@@ -1,10 +1,10 @@
 -- The laws of what a widget has still to do.
-use Rattle.std.proofs.Common.{◌≡◌, ℕ, List, true, false, sym, ap, ◌∙◌, refl, Option, Some, None}
+use Rattle.std.proofs.Common.{◌≡◌, ℕ, List, sym, ap, ◌∙◌, refl, Option, Some, None}
 use Rattle.std.specs.Prelude.{is_some}
 use Rattle.std.proofs.lemmas.Bool.{false≢true}
 use Rattle.widget_meaning.specs.Trees.{label_of}
 use Rattle.widget_meaning.specs.OwnState.{OwnState}
-use Rattle.life_laws.specs.Life.{Work, Seen, Turn, IsIdle, IsCut, IsOver}
+use Rattle.life_laws.specs.Life.{Work, Turn}
 use Rattle.life_laws.specs.LifeLaws.{WorkLaws, SameLaws, RunLaws, PickLaws}
 use Rattle.life_laws.proofs.Runs.{runs_none, runs_more, runs_ended}
 use Rattle.life_laws.proofs.Begins.{same_none, same_more, library_begins, library_passes, go_begins, go_passes, advance_begins, advance_passes, until_over, until_stopped, until_none, until_begins, event_gone, event_missed, event_unheard, event_begins, value_spent}
@@ -48,10 +48,10 @@ pub pick_laws : PickLaws
 pick_laws = record {
   idle = idle;
   cut = λ k a s t u x y z h. cut k a s t u x y z h.state h.same h.before h.after h.queue h.runs h.within h.some h.enough h.out_of_fuel;
-  over = λ k a s t u x y how o h. over k a s t u x y how o h.same h.before h.after h.queue h.runs h.within h.out h.own h.spent;
+  over = λ k a s t u x y how o h. over k a s t u x y how o h.same h.before h.after h.queue h.runs h.within h.some h.out h.own h.spent;
   cut_from = cut_from;
   over_from = over_from;
   idle_not_cut = λ k s t i c. none_or_some _ c.turn i.none c.begins;
-  idle_not_over = λ s t i v. none_or_some _ v.turn i.none v.begins;
+  idle_not_over = λ k s t i v. none_or_some _ v.turn i.none v.begins;
   cut_not_over = λ k s t c v. false≢true (sym (ap is_some v.going) ∙ c.going);
 }

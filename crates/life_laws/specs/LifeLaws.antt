@@ -1,11 +1,11 @@
 -- Laws of what a widget has still to do: its works one by one, a turn as it is run, and how a pick ends.
-use Rattle.std.specs.Prelude.{◌≡◌, ℕ, zero, suc, ◌+◌, ◌-◌, ◌*◌, ◌/◌, ◌<◌, ◌≤◌, ◌⊎◌, List, [], ◌∷◌, Option, Some, None}
+use Rattle.std.specs.Prelude.{◌≡◌, ℕ, suc, ◌+◌, ◌-◌, ◌*◌, ◌/◌, ◌<◌, ◌≤◌, ◌⊎◌, List, [], ◌∷◌, Some, None}
 use Rattle.js_tree.specs.Plain.{Stmts, Fun}
 use Rattle.widget_meaning.specs.Limits.{max_timers, min_delay}
 use Rattle.widget_meaning.specs.Values.{Stop}
 use Rattle.widget_meaning.specs.Trees.{label_of, node_at}
 use Rattle.widget_meaning.specs.OwnState.{OwnState, State, Timer}
-use Rattle.widget_meaning.specs.Plan.{End, Out, OutOfFuel}
+use Rattle.widget_meaning.specs.Plan.{End, OutOfFuel}
 use Rattle.widget_meaning.specs.Meaning.{run_plan}
 use Rattle.widget_meaning.specs.Dispatch.{nearest, dispatch}
 use Rattle.widget_meaning.specs.Items.{Event, Occurs, Advance, with_value, event_value, resting, timer_plan, next_due, without_timer}
@@ -79,6 +79,7 @@ pub record Ending (k a : ℕ) (s t u : Seen) (x : Going) (y : Turn) (how : End) 
   pub queue : u.queue ≡ t.queue
   pub runs : Runs k a (turn_at t.own x) y
   pub within : x.left ≤ t.own.grant
+  pub some : 0 < k
   pub out : run_plan y.left y.plan ≡ record { how = how; state = o; left = y.left }
   pub own : u.own ≡ closed y.fixed (y.fixed.spent + (y.fixed.grant - y.left))
       (record { how = how; state = o; left = y.left })
@@ -89,9 +90,9 @@ pub record PickLaws : Type 0 where
   pub idle : (a b : Seen) → Same a b → b.going ≡ None → b.queue ≡ [] → IsIdle a b
   pub cut : (k a : ℕ) (s t u : Seen) (x y : Going) (z : State) → Cutting k a s t u x y z → IsCut k s u
   pub over : (k a : ℕ) (s t u : Seen) (x : Going) (y : Turn) (how : End) (o : State) → Ending k a s t u x y how o
-      → IsOver s u
+      → IsOver k s u
   pub cut_from : (k : ℕ) (s t u : Seen) → Same s t → IsCut k t u → IsCut k s u
-  pub over_from : (s t u : Seen) → Same s t → IsOver t u → IsOver s u
+  pub over_from : (k : ℕ) (s t u : Seen) → Same s t → IsOver k t u → IsOver k s u
   pub idle_not_cut : (k : ℕ) (s t : Seen) → IsIdle s t → ¬ (IsCut k s t)
-  pub idle_not_over : (s t : Seen) → IsIdle s t → ¬ (IsOver s t)
-  pub cut_not_over : (k : ℕ) (s t : Seen) → IsCut k s t → ¬ (IsOver s t)
+  pub idle_not_over : (k : ℕ) (s t : Seen) → IsIdle s t → ¬ (IsOver k s t)
+  pub cut_not_over : (k : ℕ) (s t : Seen) → IsCut k s t → ¬ (IsOver k s t)

@@ -182,11 +182,11 @@ module _ (h m : Shared) (a : Life) (t : Turn) (u : Widget) (units : ℕ) (some :
         end_own : own_of k u.number b ≡ end_turn (end_of u.number m.store.cells how) (state_in (outside a) m u at.dispatches) (own_of m u.number (spent_to left moved))
         end_own = own (state_in (outside a) m u at.dispatches) refl
 
-        is_over : IsOver (life_seen h w running) (life_seen k u.number b)
+        is_over : IsOver units (life_seen h w running) (life_seen k u.number b)
         is_over =
             over units (t.left - left) (life_seen h w running) (life_seen h w running) (life_seen k u.number b) (going_of h w running t)
             (let y : TurnOf = record { fixed = fixed (own_of h w running); plan = at.last; left = left } in y) (end_of u.number m.store.cells how) (state_in (outside a) m u at.dispatches)
-            (same_none (life_seen h w running)) refl (ap (option_map (going_of k u.number b)) over_rest) end_works at.runs fine.turn.left at.out end_own
+            (same_none (life_seen h w running)) refl (ap (option_map (going_of k u.number b)) over_rest) end_works at.runs fine.turn.left some at.out end_own
             (ap (λ (o : OwnState). o.spent) end_own ∙ end_spent (end_of u.number m.store.cells how) (state_in (outside a) m u at.dispatches) (own_of m u.number (spent_to left moved)))
 
         counts : b.records.turns + (b.records.missed + b.records.gone) ≡ a.records.turns + (a.records.missed + a.records.gone)
@@ -208,7 +208,7 @@ module _ (h m : Shared) (a : Life) (t : Turn) (u : Widget) (units : ℕ) (some :
 picks_from : (k : ℕ) (r : Picked) (s t u : Seen) → Same s t → Picks k r t u → Picks k r s u
 picks_from k picked.Idle s t u same p = record { none = sym same.begins ∙ p.none; going = p.going; queue = p.queue; due = p.due ∙ same.due; spent = p.spent ∙ same.spent }
 picks_from k (picked.Unfinished n) s t u same p = (cut_from k s t u same p.0, p.1)
-picks_from k picked.Ended s t u same p = over_from s t u same p
+picks_from k picked.Ended s t u same p = over_from k s t u same p
 
 potential_some : (i : Work) → 1 ≤ potential i
 potential_some (Library ss) = omega arith

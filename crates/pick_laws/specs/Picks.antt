@@ -8,4 +8,4 @@ use Rattle.pick_laws.specs.declared.entry.Picked.TheVariants as picked
 abbrev pub Picks : ℕ → Picked → Seen → Seen → Type 0
 Picks k picked.Idle old new = IsIdle old new
 Picks k (picked.Unfinished spent) old new = IsCut k old new × (spent ≡ (image new).spent)
-Picks k picked.Ended old new = IsOver old new
+Picks k picked.Ended old new = IsOver k old new

@@ -1,5 +1,5 @@
 -- Items and swaps that are given to slots.
-use Rattle.std.proofs.Common.{◌≡◌, ◌≢◌, ℕ, zero, suc, ◌+◌, ◌-◌, ◌<◌, List, [], ◌∷◌, ◌++◌, map, length, Bool, true, false, refl, sym, ap, ◌∙◌, arith, Some, eq-eqb}
+use Rattle.std.proofs.Common.{◌≡◌, ◌≢◌, ℕ, zero, suc, ◌+◌, ◌<◌, List, [], ◌∷◌, ◌++◌, map, length, Bool, true, false, refl, sym, ap, ◌∙◌, arith, Some, eq-eqb}
 use Rattle.std.specs.Prelude.{slice_get, slice_set, nat_eq, if◌then◌else◌}
 use Rattle.life_laws.specs.Life as todo
 use Rattle.life_laws.specs.Life.{Seen, due, image}

@@ -19,7 +19,7 @@ use Rattle.pick_laws.proofs.Settling.{keeps_more, all_more, went_none, quiet}
 use Rattle.pick_laws.proofs.Asking.{chosen_more, no_more, one_less}
 use Rattle.slot_laws.specs.Slots.{has, Each, ready_of, slot_ready}
 use Rattle.slot_laws.specs.Chains.{IsChain, Chains, listed, Rest, PickedIn}
-use Rattle.slot_laws.specs.Settled.{flag, slot_flags, homed, waiting, SettledSlots}
+use Rattle.slot_laws.specs.Settled.{flag, slot_flags, homed, waiting, SettledSlots, no_pick, one_pick}
 use Rattle.slot_laws.proofs.Chaining.{out_of}
 use Rattle.slot_laws.proofs.Housing.{chain_in}
 
@@ -76,6 +76,7 @@ module _ (homes : List ℕ) (born w : ℕ) (lives : List ℕ) (home : Each (λ v
 
 pub slots_none : (k : ℕ) (homes : List ℕ) (cs : List (List ℕ)) (ss : List Seen) (js : List PickEntry) (a0 : List Ask) (r0 : ℕ) → SettledSlots k homes cs cs ss ss js js a0 r0 a0 r0
 slots_none k homes cs ss js a0 r0 = record {
+  picks = no_pick;
   went = went_none k ss js;
   chosen = record {
     asked = 0;
@@ -137,6 +138,7 @@ module _ (k w : ℕ) (homes : List ℕ) (born : ℕ) (cs0 cs ds : List (List ℕ
       let less = one_less 0 w (slot_flags mid cs) (flag (slot_ready mid p.lives)) (flag (slot_ready new p.left)) here r q in
       let same : length (ready_from 0 (slot_flags new ds)) ≡ length (ready_from 0 (slice_set (slot_flags mid cs) w (flag (slot_ready new p.left)))) = ap (λ ss. length (ready_from 0 ss)) set in
       record {
+        picks = one_pick h.picks p;
         went = record { dues = p.slot.dues ∙ h.went.dues; added = h.went.added; journal = p.slot.journal ∙ h.went.journal; slices = h.went.slices };
         chosen = subst P (append_nothing (map (homed homes) h.went.added)) (chosen_more w (slot_flags old cs0) (slot_flags mid cs) (slot_flags new ds) (flag (slot_ready mid p.lives)) (flag (slot_ready new p.left)) (map (homed homes) h.went.added) [] a0 a1 a2 r0 r1 r2 xs at h.chosen here set r (λ a t. was_idle refl (ap (ready_at 0 (slot_flags new ds)) t ∙ set_quiet w (slot_flags mid cs) (slot_flags new ds) (flag (slot_ready mid p.lives)) (flag (slot_ready new p.left)) here set q) no_ask) (omega arith) list chosen keeps room);
       }
@@ -152,6 +154,7 @@ module _ (k w : ℕ) (homes : List ℕ) (born : ℕ) (cs0 cs ds : List (List ℕ
       let more = no_more 0 w (slot_flags mid cs) (flag (slot_ready mid p.lives)) (flag (slot_ready new p.left)) here was in
       let same : length (ready_from 0 (slot_flags new ds)) ≡ length (ready_from 0 (slice_set (slot_flags mid cs) w (flag (slot_ready new p.left)))) = ap (λ ss. length (ready_from 0 ss)) set in
       record {
+        picks = one_pick h.picks p;
         went = record {
           dues = p.slot.dues ∙ h.went.dues;
           added = h.went.added ++ entry ∷ [];

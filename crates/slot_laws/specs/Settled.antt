@@ -6,9 +6,11 @@ use Rattle.widget_meaning.specs.Alone.{beginning}
 use Rattle.life_laws.specs.Life.{Seen, Until}
 use Rattle.turn_sched.specs.declared.chooser.Ask.{Ask}
 use Rattle.pick_laws.specs.declared.entry.PickEntry.{PickEntry}
+use Rattle.pick_laws.specs.declared.entry.Picked.{Picked}
 use Rattle.pick_laws.specs.Journal.{Went}
 use Rattle.pick_laws.specs.Asked.{Chosen}
 use Rattle.slot_laws.specs.Slots.{slot_ready}
+use Rattle.slot_laws.specs.Chains.{PickedIn}
 
 -- a life that is ready, or not, in the place of a slot
 abbrev pub flag : Bool → Seen
@@ -27,7 +29,13 @@ abbrev pub waiting : List (List ℕ) → ℕ
 waiting [] = 0
 waiting (c ∷ cs) = length c + waiting cs
 
--- A settle over slots: what it did, and the asks of its chooser, of slots that are ready; an entry counts for its slot.
+-- Slots were picked with this slice, one after the other, each pick from what the one before left.
+pub data PickedOn (k : ℕ) (cs : List (List ℕ)) (old : List Seen) (js : List PickEntry) : List (List ℕ) → List Seen → List PickEntry → Type 0 where
+  no_pick : PickedOn k cs old js cs old js
+  one_pick : {w : ℕ} {r : Picked} {ds es : List (List ℕ)} {mid new : List Seen} {ks ms : List PickEntry} → PickedOn k cs old js ds mid ks → PickedIn w k r ds es mid new ks ms → PickedOn k cs old js es new ms
+
+-- A settle over slots: the picks that it made, what they did together, and the asks of its chooser, of slots that are ready; an entry counts for its slot.
 pub record SettledSlots (k : ℕ) (homes : List ℕ) (cs ds : List (List ℕ)) (old new : List Seen) (js ks : List PickEntry) (asks_old : List Ask) (room_old : ℕ) (asks_new : List Ask) (room_new : ℕ) : Type 0 where
+  pub picks : PickedOn k cs old js ds new ks
   pub went : Went k old new js ks
   pub chosen : Chosen (slot_flags old cs) (slot_flags new ds) (map (homed homes) went.added) asks_old room_old asks_new room_new
