@@ -2,6 +2,7 @@
 //! are written.
 ghost use Rattle.std.specs.Prelude.{◌≡◌, ◌≤◌, ◌<◌, ◌^◌, ◌++◌, ℕ, List, length, map, option_map, All, IfOk, OnOk, Option, Some, None, IsTrue, true, false, is_some, string_bytes};
 ghost use Rattle.std.specs.List.{list_any};
+ghost use Rattle.keyed_names.specs.Keying.{AreKeysOf};
 ghost use Rattle.trace_text.specs.Report.{state_name, line_text, refused_life};
 ghost use Rattle.trace_reader.specs.Said.{said};
 ghost use Rattle.trace_reader.specs.Trace.{most_items};
@@ -68,8 +69,10 @@ pub fn play_page(
     })
 }
 
-/// The keys of the host's tables, from the files that were read.
-pub fn keys_of(alloc: Global, sources: &[SourceFile]) -> Result<Keys, Memory> {
+/// The keys of the host's tables, from the widget files and libraries that were read.
+pub fn keys_of(alloc: Global, sources: &[SourceFile]) -> Result<Keys, Memory>
+    ensures { IfOk result (AreKeysOf (map (λ s. s.bytes) (sources_of sources.now))) }
+{
     let mut files = Vec::new(alloc);
     'sources: for source in sources {
         files.push(source.bytes.as_slice())?;
