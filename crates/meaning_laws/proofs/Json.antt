@@ -1,0 +1,85 @@
+-- Reading JSON keeps what is there.
+use Rattle.serde_json.specs.Data as json
+use Rattle.std.proofs.Common.{ℕ, ◌+◌, ◌≤◌, Bool, true, false, List, length, arith}
+use Rattle.std.specs.List.{AllByRecursion, fold, list_all}
+use Rattle.std.proofs.lemmas.List.{length-append}
+use Rattle.widget_meaning.specs.Values.{Value, Text, Is, E4, E8}
+use Rattle.widget_meaning.specs.OwnState.{State, Cell, with_new_cell}
+use Rattle.widget_meaning.specs.Costs.{with_counts, give}
+use Rattle.widget_meaning.specs.JsonValues.{has_permitted_names, has_numbers, texts_in, give_read, read_value, from_json, cells_at, items_at, members_at, value_at, read_json}
+use Rattle.meaning_laws.specs.There.{Sizes, ValueIs, PairsAre, CellIs}
+use Rattle.meaning_laws.proofs.Each.{each_both}
+use Rattle.meaning_laws.proofs.Values.{null_is, truth_is, num_is, text_is, no_pairs, more_pairs, value_end}
+use Rattle.meaning_laws.proofs.Steps.{R, Keeps, ended, halted, either, charged, paid, faulted, wanted, found, lowered, plain_is}
+use Rattle.meaning_laws.proofs.Forms.{array_is, with_more, more_grows, all_born, Hosted, array_hosted, plain_hosted}
+
+module _ (m : Sizes) where
+  value_born : (n : ℕ) (d : json.Data) → n + length (cells_at n d) ≤ m.objects → ValueIs m (value_at n d)
+  value_born n json.null h = null_is m
+  value_born n (json.boolean b) h = truth_is m b
+  value_born n (json.number x) h = num_is m _
+  value_born n (json.string bs) h = text_is m _
+  value_born n (json.array ds) h = record { born = omega (arith, h) }
+  value_born n (json.object ms) h = record { born = omega (arith, h) }
+
+  mutual
+    cells_are : (n : ℕ) (d : json.Data) → n + length (cells_at n d) ≤ m.objects → AllByRecursion (CellIs m) (cells_at n d)
+    cells_are n json.null h = tt
+    cells_are n (json.boolean b) h = tt
+    cells_are n (json.number x) h = tt
+    cells_are n (json.string bs) h = tt
+    cells_are n (json.array ds) h = let i = items_are (n + 1) 0 ds (omega (arith, h)) in (array_is m _ _ i.1, i.0)
+    cells_are n (json.object ms) h = let i = members_are (n + 1) ms (omega (arith, h)) in (plain_is m _ i.1, i.0)
+
+    items_are : (n i : ℕ) (ds : json.Items) → n + length (items_at n i ds).1 ≤ m.objects → AllByRecursion (CellIs m) (items_at n i ds).1 × PairsAre m (items_at n i ds).0
+    items_are n i json.no_items h = (tt, no_pairs m)
+    items_are n i (json.item d ds) h =
+        let cs : List Cell = cells_at n d in
+        let us : List Cell = (items_at (n + length cs) (i + 1) ds).1 in
+        let k : n + length cs ≤ m.objects = omega (arith, h, length-append cs us) in
+        let r = items_are (n + length cs) (i + 1) ds (omega (arith, h, length-append cs us)) in
+        (each_both (CellIs m) cs us (cells_are n d k) r.0, more_pairs m _ _ _ (value_born n d k) r.1)
+
+    members_are : (n : ℕ) (ms : json.Members) → n + length (members_at n ms).1 ≤ m.objects → AllByRecursion (CellIs m) (members_at n ms).1 × PairsAre m (members_at n ms).0
+    members_are n json.no_members h = (tt, no_pairs m)
+    members_are n (json.member x d ms) h =
+        let cs : List Cell = cells_at n d in
+        let us : List Cell = (members_at (n + length cs) ms).1 in
+        let k : n + length cs ≤ m.objects = omega (arith, h, length-append cs us) in
+        let r = members_are (n + length cs) ms (omega (arith, h, length-append cs us)) in
+        (each_both (CellIs m) cs us (cells_are n d k) r.0, more_pairs m _ _ _ (value_born n d k) r.1)
+
+mutual
+  hosted : (n : ℕ) (d : json.Data) → AllByRecursion Hosted (cells_at n d)
+  hosted n json.null = tt
+  hosted n (json.boolean b) = tt
+  hosted n (json.number x) = tt
+  hosted n (json.string bs) = tt
+  hosted n (json.array ds) = (array_hosted _ _, items_hosted (n + 1) 0 ds)
+  hosted n (json.object ms) = (plain_hosted _, members_hosted (n + 1) ms)
+
+  items_hosted : (n i : ℕ) (ds : json.Items) → AllByRecursion Hosted (items_at n i ds).1
+  items_hosted n i json.no_items = tt
+  items_hosted n i (json.item d ds) = each_both Hosted (cells_at n d) _ (hosted n d) (items_hosted (n + length (cells_at n d)) (i + 1) ds)
+
+  members_hosted : (n : ℕ) (ms : json.Members) → AllByRecursion Hosted (members_at n ms).1
+  members_hosted n json.no_members = tt
+  members_hosted n (json.member x d ms) = each_both Hosted (cells_at n d) _ (hosted n d) (members_hosted (n + length (cells_at n d)) ms)
+
+self : (n : ℕ) → n ≤ n
+self n = omega arith
+
+module _ (m : Sizes) where
+  give_read_r : (b : Bool) (v : Value) (cs : List Cell) (ts : List (List ℕ)) (s : State) → R m s → AllByRecursion (CellIs (with_more m s (length cs))) cs → AllByRecursion Hosted cs
+      → ValueIs (with_more m s (length cs)) v → Keeps m (give_read b v cs ts s)
+  give_read_r false v cs ts s hr hc hh hv = halted m _ s hr
+  give_read_r true v cs ts s hr hc hh hv = either m _ _ _ (halted m _ s hr) (paid m _ s (λ u. give v (fold with_new_cell u cs)) hr (λ a u.
+      let n : Sizes = with_more m s (length cs) in
+      lowered m n _ (more_grows m s (length cs) hr) (ended n (Is v) (fold with_new_cell (with_counts s a) cs) (all_born m cs (with_counts s a) u hc hh) (value_end n v hv))))
+
+  pub from_json_r : (v : Value) (s : State) → R m s → Keeps m (from_json v s)
+  from_json_r (Text t) s hr = found m E4 (read_json t) s (λ d. read_value (length t) d (cells_at (length s.own.heap) d) (value_at (length s.own.heap) d) s) hr (λ d e.
+      let k : ℕ = length s.own.heap in
+      let n : Sizes = with_more m s (length (cells_at k d)) in
+      wanted m E8 (list_all (λ c. has_permitted_names c.kind c.pairs) (cells_at k d)) s _ hr (λ x. charged m _ s _ hr (give_read_r (has_numbers d) (value_at k d) (cells_at k d) (texts_in (value_at k d) (cells_at k d)) s hr (cells_are n k d (self n.objects)) (hosted k d) (value_born n k d (self n.objects)))))
+  from_json_r v s hr = search (faulted)

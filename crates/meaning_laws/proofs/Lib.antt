@@ -1,0 +1,17 @@
+pub mod Each
+pub mod Later
+pub mod Values
+pub mod Chains
+pub mod Steps
+pub mod Results
+pub mod Nodes
+pub mod Forms
+pub mod Natives
+pub mod Texts
+pub mod Lists
+pub mod Json
+pub mod Adsafe
+pub mod Page
+pub mod Jobs
+pub mod Alone
+pub mod LawsHold
