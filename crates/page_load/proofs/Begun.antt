@@ -149,6 +149,7 @@ keeps_same w h unused raws = record {
   page = refl;
   raws = raws;
   unused = record { nothing = λ v le lt. unused.nothing v (omega (arith, le)) lt; confined = unused.confined };
+  others = λ v ne. refl;
   fine = λ v a lt ne f. f;
   seen = λ v a lt ne f. refl;
 }
@@ -182,6 +183,7 @@ module _ (w : ℕ) (h k : Shared) (codes : k.codes ≡ h.codes) (page : k.page �
     page = page;
     raws = raws_here;
     unused = unused_behind w h k.store kept unused raws;
+    others = (kept []).others;
     fine = λ v a lt ne f. fine_apart w v ne lt h k l l keeps_life a f raws_here;
     seen = λ v a lt ne f. seen_apart w v ne lt h k l l keeps_life a f;
   }

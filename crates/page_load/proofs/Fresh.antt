@@ -10,7 +10,7 @@ use Rattle.store_cells.specs.Cells.{PlainCell, is_visible}
 use Rattle.store_cells.specs.Host.{entry_cell, first_store, host_cells, nothing_paid}
 use Rattle.object_store.specs.Owned.{is_own_scope, own_cell, own_scope, owned}
 use Rattle.js_image.specs.Held.{IsConfined}
-use Rattle.page_load.specs.Laying.{IsUnused, nothing_owned}
+use Rattle.page_load.specs.Laying.{HasNoCells, IsUnused, nothing_owned}
 
 -- a cell of the host is of no widget
 abbrev IsHosts : ℕ → PlainCell → Type 0
@@ -65,6 +65,10 @@ module _ (w : ℕ) where
     scopes = map (own_scope w host_cells) (no_scopes host_cells (hosts w) j);
     paid = none_paid lt j;
   }
+
+  pub first_free : HasNoCells w first_store
+  unfolding owned
+  first_free = record { heap = ap (map (own_cell w host_cells)) (no_cells host_cells (hosts w)); scopes = ap (map (own_scope w host_cells)) (no_scopes host_cells (hosts w)) }
 
 pub first_unused : IsUnused first_store 0
 first_unused = record { nothing = λ v le lt. first_nothing v lt; confined = first_confined }

@@ -1,5 +1,5 @@
 -- Lists that grow at their end: queues, trees of scripts, slots with their scripts, lives.
-use Rattle.std.proofs.Common.{◌≡◌, ℕ, zero, suc, ◌+◌, ◌<◌, ◌≤◌, List, [], ◌∷◌, ◌++◌, refl, sym, ap, ◌∙◌, subst, length, map, take, get_or, Option, None, Some, arith, ◌⊎◌, inl, inr, ⊎_elim}
+use Rattle.std.proofs.Common.{◌≡◌, ℕ, zero, suc, ◌+◌, ◌<◌, ◌≤◌, Bool, true, false, eqb, eqb-true, eq-eqb, List, [], ◌∷◌, ◌++◌, refl, sym, ap, ◌∙◌, subst, length, map, take, get_or, Option, None, Some, arith, ◌⊎◌, inl, inr, ⊎_elim}
 use Rattle.std.specs.Prelude.{Err, IfOk, Ok, OnOk, Result, slice_get, slice_index_or, ◌^◌}
 use Rattle.std.specs.List.{AllByRecursion}
 use Rattle.std.specs.Option.{option_map, option_map_or}
@@ -34,11 +34,13 @@ use Rattle.adsafe_rules.specs.Accepts.{tree_of}
 use Rattle.page_load.specs.Homes.{names_of}
 use Rattle.page_load.specs.declared.codes.Start.{Start}
 use Rattle.page_load.specs.declared.queues.Scripts.{Scripts}
-use Rattle.page_load.specs.Lives.{AreLives, BeginsWith, IsBegun, IsLifeOf, IsLifeWith, KeepsOthers, content_at}
+use Rattle.page_load.specs.Laying.{HasNoCells}
+use Rattle.page_load.specs.Lives.{AreLives, BeginsWith, IsBegun, IsLifeOf, IsLifeWith, IsNobodys, KeepsOthers, content_at}
 use Rattle.page_load.specs.Queues.{IsQueued, go_works, libraries_works, library_works, loads, program_with}
 use Rattle.page_load.specs.Starts.{AreScripts, AreStarts, IsStart, Keeps}
 use Rattle.page_spec.specs.declared.SlotContent.{SlotContent}
 use Rattle.page_spec.specs.declared.SlotContent.TheVariants as slot
+use Rattle.page_load.proofs.Lots.{no_cells}
 
 none_some : {A : Type 0} {a : A} → None ≡ Some a → ⊥
 none_some e = cc
@@ -210,6 +212,24 @@ names_all slots i le names are = are ∙ ap names_of (take_all i slots le)
 
 -- ## Lives
 
+-- where a life came, a number that is no accepted life's has no cell
+pub nobodys_more : (h k : Shared) (lives new : List Life) (w : ℕ) (b : Life) → length lives ≡ w → KeepsOthers w h k → (b.accepted ≡ false → k ≡ h) → new ≡ lives ++ b ∷ []
+    → ((v : ℕ) → IsNobodys lives v → HasNoCells v h.store) → (v : ℕ) → IsNobodys new v → HasNoCells v k.store
+nobodys_more h k lives new w b long keeps same after was v none = by (eqb w v) refl
+  where
+    no_true : false ≡ true → ⊥
+    no_true e = cc
+
+    before : HasNoCells v h.store
+    before = was v (λ a at. none a (ap (λ ls. slice_get ls v) after ∙ get_front lives (b ∷ []) v a at))
+
+    refused : w ≡ v → b.accepted ≡ false
+    refused g = none b ((λ j. slice_get (after j) ((sym g ∙ sym long) j)) ∙ get_last lives b)
+
+    by : (t : Bool) → eqb w v ≡ t → HasNoCells v k.store
+    by true e = subst (λ (m : Shared). HasNoCells v m.store) (sym (same (refused (eqb-true w v e)))) before
+    by false e = no_cells v h.store k.store (keeps.others v (λ g. no_true (sym e ∙ eq-eqb w v g))) before
+
 module _ (w many : ℕ) (h k : Shared) (keeps : KeepsOthers w h k) (v : ℕ) (lt : v < 32) (ne : w ≡ v → ⊥) where
   content_same : (s : Scripts) → content_at h v s ≡ content_at k v s
   content_same s =
@@ -257,6 +277,10 @@ loads_queued h w s codes queue same q =
     (here.fine tt, here.are)
 
 -- what holds whatever is answered
+pub all_ok : {T E : Type 0} (r : Result T E) {P : T → Type 0} → ((x : T) → P x) → IfOk r P
+all_ok (Ok x) h = h x
+all_ok (Err e) h = tt
+
 pub always_ok : {T E : Type 0} (r : Result T E) {P : Type 0} → P → OnOk r P
 always_ok (Ok x) h = h
 always_ok (Err e) h = tt

@@ -1,5 +1,5 @@
 -- What a page loads, from its lives and its slots.
-use Rattle.std.proofs.Common.{◌≡◌, ℕ, zero, suc, ◌<◌, ◌≤◌, List, [], ◌∷◌, refl, sym, ap, ◌∙◌, subst, length, map, Option, None, Some, arith}
+use Rattle.std.proofs.Common.{◌≡◌, ℕ, zero, suc, ◌+◌, ◌<◌, ◌≤◌, Bool, true, false, if◌then◌else◌, leb, leb-true, leb-false, List, [], ◌∷◌, refl, sym, ap, ◌∙◌, subst, length, map, Option, None, Some, arith}
 use Rattle.std.specs.Prelude.{slice_get, IfSome}
 use Rattle.std.specs.List.{AllByRecursion}
 use Rattle.std.specs.Option.{option_map, option_map_or}
@@ -16,7 +16,11 @@ use Rattle.adsafe_rules.specs.Accepts.{tree_of}
 use Rattle.js_names.specs.declared.code.Code.{Code}
 use Rattle.js_names.specs.Code.{tree_in}
 use Rattle.page_tree.specs.declared.page.Page.{Page}
-use Rattle.page_image.specs.Image.{forest}
+use Rattle.page_nodes.specs.Entries.{Entry}
+use Rattle.page_tree.specs.Pages.{nodes}
+use Rattle.page_image.specs.Own.{is_own, own_nodes_from}
+use Rattle.page_image.specs.Image.{forest, own, owns}
+use Rattle.page_image.proofs.Pages.{below_32}
 use Rattle.widget_meaning.specs.Alone.{Content, beginning}
 use Rattle.life_laws.specs.Life.{due, image, waiting}
 use Rattle.turn_calls.specs.declared.turn.Shared.{Shared}
@@ -34,8 +38,8 @@ use Rattle.page_load.specs.declared.codes.Start.{Start}
 use Rattle.page_load.specs.declared.loading.Loaded.{Loaded}
 use Rattle.page_load.specs.declared.queues.Scripts.{Scripts}
 use Rattle.page_load.specs.Homes.{homes_of, names_of}
-use Rattle.page_load.specs.Laying.{AreLaid}
-use Rattle.page_load.specs.Lives.{AreLives, HasTree, HaveTrees, IsBegun, IsLifeOf, IsLifeWith, content_at}
+use Rattle.page_load.specs.Laying.{AreLaid, HasNoCells}
+use Rattle.page_load.specs.Lives.{AreLives, HasTree, HaveTrees, IsBegun, IsLifeOf, IsLifeWith, IsNobodys, content_at}
 use Rattle.page_load.specs.Loads.{Begins, IsFirstLife, LoadsPage}
 use Rattle.page_load.specs.Queues.{loads, program_with}
 use Rattle.page_load.specs.Starts.{AreScripts, AreStarts, IsStart, Keeps}
@@ -89,6 +93,33 @@ trees_there ts slots starts s p are laid = λ w a at.
     let it = slot_at ts slots starts are w a at in
     tree_with ts p w it.0.content a.scripts it.2.scripts (laid.placed w it.0 (within slots w it.0 it.1) it.1)
 
+past : {X : Type 0} (xs : List X) (n : ℕ) → slice_get xs n ≡ None → length xs ≤ n
+past [] n e = omega arith
+past (x ∷ xs) zero e = absurd (none_some (sym e))
+past (x ∷ xs) (suc n) e = omega (arith, past xs n e)
+
+there : {X : Type 0} (xs : List X) (n : ℕ) → n < length xs → (x : X) × (slice_get xs n ≡ Some x)
+there [] n lt = absurd (omega (arith, lt))
+there (x ∷ xs) zero lt = (x, refl)
+there (x ∷ xs) (suc n) lt = there xs n (omega (arith, lt))
+
+-- ## Numbers beyond all owners
+
+no_true : false ≡ true → ⊥
+no_true e = cc
+
+no_node : (k : List Entry) (w a : ℕ) → ((n : ℕ) → is_own k w n ≡ false) → own_nodes_from a k w ≡ []
+no_node [] w a none = refl
+no_node (e ∷ k) w a none = ap (λ b. if b then a ∷ own_nodes_from (a + 1) k w else own_nodes_from (a + 1) k w) (none 0) ∙ no_node k w (a + 1) (λ n. none (suc n))
+
+own_beyond : (p : Page) (w : ℕ) → 32 ≤ w → own p w ≡ []
+unfolding own owns
+own_beyond p w le = no_node (nodes p) w 0 (λ n. by n (owns p w n) refl)
+  where
+    by : (n : ℕ) (b : Bool) → owns p w n ≡ b → owns p w n ≡ false
+    by n true e = absurd (omega (arith, le, below_32 p w n e))
+    by n false e = e
+
 -- ## Contents
 
 module _ (libs : List Accepted) (codes : List Code) (first : List Code) (are : map tree_in first ≡ map tree_of libs) (keeps : Keeps (map tree_in first) (map tree_in codes)) where
@@ -139,7 +170,7 @@ module _ (libs : List Accepted) (codes : List Code) (first : List Code) (are : m
 
 -- ## All
 
-module _ (spec : PageSpec) (l : Loaded) (s : Cells) (p : Page) (laid : AreLaid spec.slots.items (length spec.slots.items) s p) (first codes : List Code) (are : map tree_in first ≡ map tree_of spec.libs.items) (keeps : Keeps (map tree_in first) (map tree_in codes)) (starts : List Start) (started : AreStarts (map tree_in codes) spec.slots.items starts) (page : l.shared.page ≡ p) (its : l.shared.codes.items ≡ codes) (lives : AreLives l.shared (length spec.libs.items) starts l.lives.items) where
+module _ (spec : PageSpec) (l : Loaded) (s : Cells) (p : Page) (laid : AreLaid spec.slots.items (length spec.slots.items) s p) (first codes : List Code) (are : map tree_in first ≡ map tree_of spec.libs.items) (keeps : Keeps (map tree_in first) (map tree_in codes)) (starts : List Start) (started : AreStarts (map tree_in codes) spec.slots.items starts) (page : l.shared.page ≡ p) (its : l.shared.codes.items ≡ codes) (lives : AreLives l.shared (length spec.libs.items) starts l.lives.items) (twenty : length l.lives.items ≡ 20) (few : length spec.slots.items ≤ 16) where
   first_life : (w : ℕ) (t : SlotSpec) (a : Life) → slice_get spec.slots.items w ≡ Some t → slice_get l.lives.items w ≡ Some a → IsFirstLife l.shared w t.fuel (content_of spec.libs.items t.content) a
   first_life w t a at here =
       let it = start_at (map tree_in codes) spec.slots.items starts started w t at in
@@ -148,9 +179,25 @@ module _ (spec : PageSpec) (l : Loaded) (s : Cells) (p : Page) (laid : AreLaid s
       subst (λ f. IsFirstLife l.shared w f (content_of spec.libs.items t.content) a) it.2.fuel
       (first_is spec.libs.items codes first are keeps l.shared its w it.0.fuel a t.content it.0.scripts it.2.scripts placed life)
 
-  pub page_loads : length spec.slots.items ≤ 16 → l.names.items ≡ names_of spec.slots.items → l.channels.items ≡ spec.channels.items → length l.lives.items ≡ 20
+  refused_away : (w fuel : ℕ) (a : Life) (content : SlotContent) → IsPlaced p w content → IsFirstLife l.shared w fuel (content_of spec.libs.items content) a → a.accepted ≡ false → own p w ≡ []
+  refused_away w fuel a (slot.Runs body places script) placed life none = absurd (no_true (sym none ∙ life.accepted))
+  refused_away w fuel a slot.Refused placed life none = placed.nodes
+
+  -- a number that is no accepted life's has no node
+  nobodys_nodes : (v : ℕ) → IsNobodys l.lives.items v → own p v ≡ []
+  nobodys_nodes v none = by (slice_get spec.slots.items v) refl (leb 32 v) refl
+    where
+      by : (o : Option SlotSpec) → slice_get spec.slots.items v ≡ o → (b : Bool) → leb 32 v ≡ b → own p v ≡ []
+      by o e true g = own_beyond p v (leb-true 32 v g)
+      by None e false g = (laid.away v (past spec.slots.items v e) (leb-false 32 v g)).nodes
+      by (Some t) e false g =
+          let low = within spec.slots.items v t e in
+          let a = there l.lives.items v (omega (arith, low, few, twenty)) in
+          refused_away v t.fuel a.0 t.content (laid.placed v t low e) (first_life v t a.0 e a.1) (none a.0 a.1)
+
+  pub page_loads : l.names.items ≡ names_of spec.slots.items → l.channels.items ≡ spec.channels.items → ((v : ℕ) → IsNobodys l.lives.items v → HasNoCells v l.shared.store)
       → IsLaid p (names_of spec.slots.items) (homes_of spec.slots.items) (map piece_of spec.pieces.items) → LoadsPage spec l
-  page_loads few names channels twenty lots = record {
+  page_loads names channels free lots = record {
     few = few;
     names = names;
     channels = channels;
@@ -158,5 +205,6 @@ module _ (spec : PageSpec) (l : Loaded) (s : Cells) (p : Page) (laid : AreLaid s
     homes = λ v a at. (lives v a at).0;
     slots = first_life;
     laid = subst (λ q. IsLaid q (names_of spec.slots.items) (homes_of spec.slots.items) (map piece_of spec.pieces.items)) (sym page) lots;
+    others = λ v none. record { cells = free v none; nodes = ap (λ q. own q v) page ∙ nobodys_nodes v none };
     rest = λ v a le at. subst (λ o. IsLifeOf l.shared (length spec.libs.items) v o a) (no_start (map tree_in codes) spec.slots.items starts started v le) (lives v a at).1;
   }

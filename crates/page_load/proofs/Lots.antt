@@ -9,7 +9,7 @@ use Rattle.plain_tree.specs.declared.plain.Plain.{Plain}
 use Rattle.plain_tree.specs.Plains.{unplaced, unplaced_all}
 use Rattle.plain_tree.specs.Trees.{PlainTrees}
 use Rattle.store_cells.specs.Cells.{Cells}
-use Rattle.object_store.specs.Owned.{owned}
+use Rattle.object_store.specs.Owned.{Owned, owned}
 use Rattle.js_image.specs.Held.{IsConfined}
 use Rattle.page_nodes.proofs.Plains.{unplaced_more}
 use Rattle.page_tree.specs.declared.page.Page.{Page}
@@ -22,7 +22,7 @@ use Rattle.page_spec.specs.declared.SlotContent.TheVariants as slot
 use Rattle.page_spec.specs.declared.SlotSpec.{SlotSpec}
 use Rattle.page_spec.specs.Pages.{Place, piece_of}
 use Rattle.page_load.specs.Homes.{homes_from, names_of}
-use Rattle.page_load.specs.Laying.{AreLaid, IsUnused, slot_lots}
+use Rattle.page_load.specs.Laying.{AreLaid, HasNoCells, IsUnused, slot_lots}
 
 no_true : false ≡ true → ⊥
 no_true e = cc
@@ -92,9 +92,13 @@ within [] n x at = absurd (none_some at)
 within (y ∷ xs) zero x at = omega arith
 within (y ∷ xs) (suc n) x at = omega (arith, within xs n x at)
 
+-- who has no cell has none where what he has stays
+pub no_cells : (v : ℕ) (s t : Cells) → owned v t ≡ owned v s → HasNoCells v s → HasNoCells v t
+no_cells v s t same h = record { heap = ap (λ (o : Owned). o.heap) same ∙ h.heap; scopes = ap (λ (o : Owned). o.scopes) same ∙ h.scopes }
+
 -- nothing came yet
-pub laid_none : (slots : List SlotSpec) (s : Cells) (p : Page) → ((w : ℕ) → w < 32 → IsAway p w) → HaveRaws s p → IsUnused s 0 → AreLaid slots 0 s p
-laid_none slots s p away raws unused = record { within = omega arith; placed = λ w x lt at. absurd (omega (arith, lt)); away = λ w le lt. away w lt; raws = raws; unused = unused }
+pub laid_none : (slots : List SlotSpec) (s : Cells) (p : Page) → ((w : ℕ) → w < 32 → IsAway p w) → HaveRaws s p → IsUnused s 0 → ((w : ℕ) → HasNoCells w s) → AreLaid slots 0 s p
+laid_none slots s p away raws unused free = record { within = omega arith; placed = λ w x lt at. absurd (omega (arith, lt)); away = λ w le lt. away w lt; raws = raws; unused = unused; free = free }
 
 -- markup came
 laid_markup : (slots : List SlotSpec) (n : ℕ) (s : Cells) (p q : Page) → length slots ≤ 16
@@ -106,6 +110,7 @@ laid_markup slots n s p q few away home raws h = record {
   away = λ w le lt. away w lt (h.away w le lt);
   raws = raws s h.raws;
   unused = h.unused;
+  free = h.free;
 }
 
 pub markup_ok : (slots : List SlotSpec) (n : ℕ) (s : Cells) (p q : Page) (r : Result (Unit {0}) Memory) → length slots ≤ 16
@@ -125,6 +130,7 @@ laid_slot slots n x s t p q few at placed raws home away same confined h = recor
   away = λ w le lt. away w lt (λ e. omega (arith, e, le)) (h.away w (omega (arith, le)) lt);
   raws = raws;
   unused = record { nothing = λ v le lt. same v ∙ h.unused.nothing v le lt; confined = λ fs v. confined fs v (h.unused.confined fs v) };
+  free = λ v. no_cells v s t (same v) (h.free v);
 }
   where
     differ : (w : ℕ) → eqb w n ≡ false → w ≡ n → ⊥

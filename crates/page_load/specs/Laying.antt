@@ -24,6 +24,11 @@ pub record IsUnused (s : Cells) (first : ℕ) : Type 0 where
   pub nothing : (v : ℕ) → first ≤ v → v < 32 → owned v s ≡ nothing_owned
   pub confined : (fs : List Forest) (v : ℕ) → IsConfined fs v s
 
+-- Under this number nobody has a cell.
+pub record HasNoCells (v : ℕ) (s : Cells) : Type 0 where
+  pub heap : (owned v s).heap ≡ []
+  pub scopes : (owned v s).scopes ≡ []
+
 -- The first so many slots show what stands in them, of the other widgets nothing is on the page, and no widget has anything in the store.
 pub record AreLaid (slots : List SlotSpec) (many : ℕ) (s : Cells) (p : Page) : Type 0 where
   pub within : many ≤ length slots
@@ -31,3 +36,4 @@ pub record AreLaid (slots : List SlotSpec) (many : ℕ) (s : Cells) (p : Page) :
   pub away : (w : ℕ) → many ≤ w → w < 32 → IsAway p w
   pub raws : HaveRaws s p
   pub unused : IsUnused s 0
+  pub free : (v : ℕ) → HasNoCells v s

@@ -5,6 +5,7 @@ use Rattle.plain_tree.specs.Trees.{size}
 use Rattle.tree_ops.specs.Trees.{numbered}
 use Rattle.store_cells.specs.declared.value.Value.TheVariants as value
 use Rattle.store_cells.specs.Cells.{Cells}
+use Rattle.object_store.specs.Owned.{owned}
 use Rattle.js_image.specs.Held.{IsHeld}
 use Rattle.js_image.specs.Image.{seen}
 use Rattle.page_tree.specs.declared.page.Page.{Page}
@@ -70,12 +71,13 @@ pub record BeginsWith (h : Shared) (w grant : ℕ) (works : List todo.Work) (l :
   pub seen : (c : Content) → c.root ≡ forest h.page w → life_seen h w l ≡ waiting (beginning c grant) works
   pub few : tally h w l ≤ 2 ^ 31
 
--- What making one life keeps: the scripts and the page, that nodes have their cells, what is seen of all other lives, and that they are sound; and the widgets behind it have nothing yet.
+-- What making one life keeps: the scripts and the page, that nodes have their cells, what all others have in the store, what is seen of all other lives, and that they are sound; and the widgets behind it have nothing yet.
 pub record KeepsOthers (w : ℕ) (h k : Shared) : Type 0 where
   pub codes : k.codes ≡ h.codes
   pub page : k.page ≡ h.page
   pub raws : HaveRaws k.store k.page
   pub unused : IsUnused k.store (w + 1)
+  pub others : (v : ℕ) → (w ≡ v → ⊥) → owned v k.store ≡ owned v h.store
   pub fine : (v : ℕ) (a : Life) → v < 32 → (w ≡ v → ⊥) → FineLife h v a → FineLife k v a
   pub seen : (v : ℕ) (a : Life) → v < 32 → (w ≡ v → ⊥) → FineLife h v a → life_seen k v a ≡ life_seen h v a
 
@@ -98,6 +100,10 @@ IsLifeWith h many w fuel (Some s) l = IsBegun h many w fuel s l
 abbrev pub IsLifeOf : Shared → ℕ → ℕ → Option Start → Life → Type 0
 IsLifeOf h many w None l = l.accepted ≡ false
 IsLifeOf h many w (Some a) l = IsLifeWith h many w a.fuel a.scripts l
+
+-- no accepted life has this number
+abbrev pub IsNobodys : List Life → ℕ → Type 0
+IsNobodys lives v = (a : Life) → slice_get lives v ≡ Some a → a.accepted ≡ false
 
 -- so it is with each life, and its slot is that of its number
 abbrev pub AreLives : Shared → ℕ → List Start → List Life → Type 0

@@ -1,5 +1,8 @@
 -- What a host begins with, for the page that it loads.
-use Rattle.std.specs.Prelude.{◌≡◌, ℕ, ◌≤◌, ◌^◌, false, true, length, map, Option, None, Some, slice_get}
+use Rattle.std.specs.Prelude.{◌≡◌, ℕ, ◌≤◌, ◌^◌, [], false, true, length, map, Option, None, Some, slice_get}
+use Rattle.store_cells.specs.Cells.{Cells}
+use Rattle.page_tree.specs.declared.page.Page.{Page}
+use Rattle.page_image.specs.Image.{own}
 use Rattle.widget_meaning.specs.Alone.{Content, beginning, loaded}
 use Rattle.life_laws.specs.Life.{due, image}
 use Rattle.turn_calls.specs.declared.turn.Shared.{Shared}
@@ -12,6 +15,8 @@ use Rattle.page_spec.specs.Contents.{content_of}
 use Rattle.page_spec.specs.Pages.{piece_of}
 use Rattle.page_build.specs.Layout.{IsLaid}
 use Rattle.page_load.specs.Homes.{homes_of, names_of}
+use Rattle.page_load.specs.Laying.{HasNoCells}
+use Rattle.page_load.specs.Lives.{IsNobodys}
 use Rattle.page_load.specs.declared.loading.Loaded.{Loaded}
 
 -- A life of this widget begins: it is sound, it is as the widget begins, and when its queue is done, as the widget is after its load.
@@ -27,7 +32,12 @@ abbrev pub IsFirstLife : Shared → ℕ → ℕ → Option Content → Life → 
 IsFirstLife h w fuel None l = l.accepted ≡ false
 IsFirstLife h w fuel (Some c) l = Begins h w fuel c l
 
--- A host begins with twenty lives: the first of each slot in order, and the rest not yet born. Each life is of the slot with its number.
+-- Under this number nobody has a cell or a node.
+pub record HasNothing (v : ℕ) (s : Cells) (p : Page) : Type 0 where
+  pub cells : HasNoCells v s
+  pub nodes : own p v ≡ []
+
+-- A host begins with twenty lives: the first of each slot in order, and the rest not yet born. Each life is of the slot with its number. A number that is no accepted life's has nothing.
 pub record LoadsPage (spec : PageSpec) (l : Loaded) : Type 0 where
   pub few : length spec.slots.items ≤ 16
   pub names : l.names.items ≡ names_of spec.slots.items
@@ -37,4 +47,5 @@ pub record LoadsPage (spec : PageSpec) (l : Loaded) : Type 0 where
   pub slots : (w : ℕ) (s : SlotSpec) (a : Life) → slice_get spec.slots.items w ≡ Some s → slice_get l.lives.items w ≡ Some a
       → IsFirstLife l.shared w s.fuel (content_of spec.libs.items s.content) a
   pub laid : IsLaid l.shared.page (names_of spec.slots.items) (homes_of spec.slots.items) (map piece_of spec.pieces.items)
+  pub others : (v : ℕ) → IsNobodys l.lives.items v → HasNothing v l.shared.store l.shared.page
   pub rest : (v : ℕ) (a : Life) → length spec.slots.items ≤ v → slice_get l.lives.items v ≡ Some a → a.accepted ≡ false

@@ -1,5 +1,5 @@
 //! The first life of each slot, with its load turns.
-ghost use Rattle.std.specs.Prelude.{◌≡◌, ◌<◌, ◌≤◌, ◌^◌, [], List, IfOk, IfSome, None, OnOk, false, length, map, slice_get};
+ghost use Rattle.std.specs.Prelude.{◌≡◌, ◌<◌, ◌≤◌, ◌^◌, ℕ, [], List, IfOk, IfSome, None, OnOk, false, length, map, slice_get};
 ghost use Rattle.std.specs.List.{AllByRecursion};
 ghost use Rattle.js_tree.specs.Forest.{Forest};
 ghost use Rattle.object_store.specs.Owned.{owned};
@@ -9,8 +9,8 @@ ghost use Rattle.life_laws.specs.Life.{potentials};
 ghost use Rattle.life_queue.specs.Lives.{trees_in, work_of};
 ghost use Rattle.life_queue.specs.Fine.{FineWork, most_fuel};
 ghost use Rattle.page_build.specs.Homes.{HaveRaws};
-ghost use Rattle.page_load.specs.Laying.{IsUnused, nothing_owned};
-ghost use Rattle.page_load.specs.Lives.{AreLives, BeginsWith, HasTree, HaveTrees, IsBlank, IsLib, IsLifeOf, IsLifeWith, KeepsOthers};
+ghost use Rattle.page_load.specs.Laying.{HasNoCells, IsUnused, nothing_owned};
+ghost use Rattle.page_load.specs.Lives.{AreLives, BeginsWith, HasTree, HaveTrees, IsBlank, IsLib, IsLifeOf, IsLifeWith, IsNobodys, KeepsOthers};
 ghost use Rattle.page_load.specs.Owning.{one_object};
 
 use crate::codes::Start;
@@ -155,6 +155,7 @@ fn first_life(
     requires tree { IfSome start.now.scripts (λ s. HasTree shared.old.page w) }
     ensures slot { IfOk result (λ life. life.slot ≡ w) }
     ensures life { IfOk result (IsLifeWith shared.new many w start.now.fuel start.now.scripts) }
+    ensures same { IfOk result (λ life. life.accepted ≡ false → shared.new ≡ shared.old) }
     ensures others { OnOk result (KeepsOthers w shared.old shared.new) }
 {
     let Some(scripts) = &start.scripts else {
@@ -182,6 +183,7 @@ fn life_at(
     requires trees { HaveTrees shared.old.page starts.now }
     ensures slot { IfOk result (λ life. life.slot ≡ w) }
     ensures life { IfOk result (IsLifeOf shared.new many w (slice_get starts.now w)) }
+    ensures same { IfOk result (λ life. life.accepted ≡ false → shared.new ≡ shared.old) }
     ensures others { OnOk result (KeepsOthers w shared.old shared.new) }
 {
     let at = w as usize;
@@ -201,10 +203,12 @@ pub(crate) fn lives_of(
     many: usize,
 ) -> Result<Vec<Life>, Memory>
     requires unused { IsUnused shared.old.store 0 }
+    requires free { (v : ℕ) → HasNoCells v shared.old.store }
     requires raws { HaveRaws shared.old.store shared.old.page }
     requires trees { HaveTrees shared.old.page starts.now }
     ensures lives { IfOk result (λ lives. AreLives shared.new many starts.now lives.items) }
     ensures twenty { IfOk result (λ lives. length lives.items ≡ 20) }
+    ensures others { IfOk result (λ lives. (v : ℕ) → IsNobodys lives.items v → HasNoCells v shared.new.store) }
     ensures codes { OnOk result (shared.new.codes ≡ shared.old.codes) }
     ensures page { OnOk result (shared.new.page ≡ shared.old.page) }
 {

@@ -1,4 +1,5 @@
 mod Others
+mod Owning
 mod Keeping
 mod Picking
 mod Spending

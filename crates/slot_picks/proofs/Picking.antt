@@ -1,14 +1,15 @@
 -- A life in its place is picked.
-use Rattle.std.proofs.Common.{◌≡◌, ℕ, zero, suc, ◌+◌, ◌<◌, ◌≤◌, true, List, [], ◌∷◌, length, refl, sym, ap, ◌∙◌, subst, arith, Option, Some, Ok, Err}
-use Rattle.std.specs.Prelude.{IfOk, OnOk, Result, slice_get, slice_set}
+use Rattle.std.proofs.Common.{◌≡◌, ℕ, zero, suc, ◌+◌, ◌<◌, ◌≤◌, true, List, [], ◌∷◌, length, refl, sym, ap, ◌∙◌, subst, arith, Option, None, Some, Ok, Err}
+use Rattle.std.specs.Prelude.{IfOk, IfSome, OnErr, OnOk, Result, slice_get, slice_set}
 use Rattle.life_laws.specs.Life.{Seen, ready, weight}
 use Rattle.pick_laws.specs.declared.entry.Picked.{Picked}
 use Rattle.pick_laws.specs.Picks.{Picks}
 use Rattle.pick_laws.specs.Journal.{PickedAt}
 use Rattle.turn_calls.specs.declared.turn.Shared.{Shared}
 use Rattle.life_queue.specs.declared.life.Life.{Life}
-use Rattle.life_queue.specs.Lives.{life_seen}
-use Rattle.life_queue.specs.Fine.{FineLife, KeepsLife, tally}
+use Rattle.turn_calls.specs.declared.turn.Turn.{Turn}
+use Rattle.life_queue.specs.Lives.{life_seen, trees_in}
+use Rattle.life_queue.specs.Fine.{FineLife, FineTurn, KeepsLife, tally}
 use Rattle.life_picks.specs.Picking.{PicksLife}
 use Rattle.slot_picks.specs.Places.{FewPlaces, FinePlaces, seen_at, seens_from}
 use Rattle.slot_picks.proofs.Others.{few_at, fews_set, fines_at, fines_set, seen_life, seens_at, seens_set}
@@ -29,6 +30,11 @@ same_accepted o a l e f g = let same : a ≡ l = (let h : Some a ≡ Some l = sy
 pub on_ok : {T E : Type 0} (P : T → Type 0) (Q : Type 0) (r : Result T E) → ((x : T) → P x → Q) → IfOk r P → OnOk r Q
 on_ok P Q (Ok x) f h = f x h
 on_ok P Q (Err e) f h = tt
+
+-- the turn in progress holds its own, and after want of memory there is none
+pub turn_after : {E : Type 0} (h m : Shared) (w k : ℕ) (a b : Life) (r : Result Picked E) → IfOk r (λ x. PicksLife h m w k x a b) → OnErr r (b.turn ≡ None) → IfSome b.turn (FineTurn (trees_in m) w m.store m.page b.grant)
+turn_after h m w k a b (Ok x) picks none = picks.fine.turn
+turn_after h m w k a b (Err e) picks none = subst (λ (o : Option Turn). IfSome o (FineTurn (trees_in m) w m.store m.page b.grant)) (sym none) tt
 
 module _ (h : Shared) (v : ℕ) (ls : List Life) (a : Life) (at : slice_get ls v ≡ Some a) (accepted : a.accepted ≡ true) (all : FinePlaces h 0 ls) where
   pub fine_here : FineLife h v a

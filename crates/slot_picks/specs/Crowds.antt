@@ -1,14 +1,15 @@
 -- The lives of all places and the slots in which they follow on each other: what is seen of them, what holds, and what picks keep.
-use Rattle.std.specs.Prelude.{◌≡◌, ℕ, ◌<◌, ◌≤◌, true, List, map, length}
+use Rattle.std.specs.Prelude.{◌≡◌, ℕ, ◌<◌, ◌≤◌, true, false, List, map, length}
 use Rattle.page_tree.specs.declared.page.Page.{Page}
-use Rattle.page_image.specs.Image.{number, owns, root_of}
+use Rattle.object_store.specs.Owned.{owned}
+use Rattle.page_image.specs.Image.{number, own, owns, root_of}
 use Rattle.page_image.specs.Stays.{HostStays}
 use Rattle.life_laws.specs.Life.{Seen}
 use Rattle.pick_laws.specs.Journal.{AllJoined, journal_room}
 use Rattle.slot_laws.specs.Chains.{Chains, Rest, Unspent}
 use Rattle.slot_picks.specs.declared.crowd.Crowd.{Crowd}
 use Rattle.slot_picks.specs.declared.slots.Slot.{Slot}
-use Rattle.slot_picks.specs.Places.{FewPlaces, FinePlaces, accepts_of, homes_of, seens_from}
+use Rattle.slot_picks.specs.Places.{FewPlaces, FinePlaces, OwnPlaces, accepts_of, homes_of, is_accepted, seens_from}
 
 -- how many lives a host has places for: one for each of sixteen slots, and four more for swaps
 abbrev pub all_places : ℕ
@@ -36,6 +37,10 @@ pub record FineCrowd (c : Crowd) : Type 0 where
 abbrev pub FewCrowd : ℕ → Crowd → Type 0
 FewCrowd n c = FewPlaces c.shared n 0 c.lives.items
 
+-- each accepted life holds its own alone
+abbrev pub OwnCrowd : Crowd → Type 0
+OwnCrowd c = OwnPlaces c.shared 0 c.lives.items
+
 -- Lives and slots together: the lives of each slot are born and of no other slot, a life that is not born yet has spent nothing, the journal is that of what was spent, and a life in no slot has done all.
 pub record AreHoused (born : ℕ) (c : Crowd) (ss : List Slot) : Type 0 where
   pub crowd : FineCrowd c
@@ -53,8 +58,12 @@ pub record PageStays (old new : Page) : Type 0 where
   pub numbers : (v n : ℕ) → owns old v n ≡ true → number new v n ≡ number old v n
   pub roots : (v : ℕ) → v < 32 → root_of new v ≡ root_of old v
 
--- What picks keep of all lives, also after want of memory: the slot of each, whether its file was accepted, and what stays of the page.
+-- What picks keep of all lives, also after want of memory: the slot of each, whether its file was accepted, that it holds its own alone, the scripts, what stays of the page, and what is nobody's: a number that is no accepted life's gets no cell and no node.
 pub record KeepsCrowd (old new : Crowd) : Type 0 where
   pub homes : homes_of new.lives.items ≡ homes_of old.lives.items
   pub accepts : accepts_of new.lives.items ≡ accepts_of old.lives.items
+  pub holds : OwnCrowd old → OwnCrowd new
+  pub codes : new.shared.codes ≡ old.shared.codes
   pub page : PageStays old.shared.page new.shared.page
+  pub cells : (v : ℕ) → is_accepted old.lives.items v ≡ false → owned v new.shared.store ≡ owned v old.shared.store
+  pub nodes : (v : ℕ) → is_accepted old.lives.items v ≡ false → own new.shared.page v ≡ own old.shared.page v

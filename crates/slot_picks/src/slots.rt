@@ -5,14 +5,13 @@ ghost use Rattle.slot_laws.specs.Slots.{Each, PickedSlot, Rising};
 ghost use Rattle.slot_picks.specs.Crowds.{AreHoused, FewCrowd, FineCrowd, KeepsCrowd, chains_of, seens_of};
 
 use crate::crowd::{Crowd, pick_kept};
-use code_units::{Memory, Text};
+use code_units::Memory;
 use pick_laws::Picked;
 use std::alloc::Global;
 
-/// A slot: its name, and its lives, the present one first, then those whose swap waits.
+/// A slot: its lives, the present one first, then those whose swap waits.
 #[derive(Drop)]
 pub struct Slot {
-    pub name: Text,
     pub lives: Vec<u32>,
 }
 

@@ -17,11 +17,11 @@ use Rattle.life_queue.specs.Fine.{FineLife, FineWork, tally}
 use Rattle.slot_laws.specs.Chains.{Chains, last_life}
 use Rattle.slot_picks.specs.declared.slots.Slot.{Slot}
 use Rattle.slot_picks.specs.Crowds.{chains_of}
-use Rattle.slot_picks.specs.Places.{FewPlace, FewPlaces, FinePlace, FinePlaces, accepts_of, homes_of, seen_at, seens_from}
+use Rattle.slot_picks.specs.Places.{FewPlace, FewPlaces, FinePlace, FinePlaces, OwnPlace, OwnPlaces, accepts_of, homes_of, seen_at, seens_from}
 use Rattle.widget_host.specs.declared.host.Host.{Host}
 use Rattle.widget_host.specs.declared.items.HostItem.{HostItem}
 use Rattle.widget_host.specs.Housed.{dues_after, item_of, reaches}
-use Rattle.widget_host.specs.Feeding.{AreFed, HasMore, IsFed}
+use Rattle.widget_host.specs.Feeding.{AreFed, AreSame, HasMore, IsFed}
 use Rattle.widget_host.proofs.Lasts.{last_each, last_step, no_last_before, slot_chain, some_is}
 
 -- ## One life
@@ -168,6 +168,41 @@ module _ (f : ℕ → Bool) (x : Work) where
         ap (λ o. o ∷ map due (seens_from h (v + 1) ms)) (ap due (seen_fed h v x l m l.accepted (f v) refl a.0) ∙ due_if (l.accepted && f v) (reaches host i v) (item_of i) (seen_at h v l) this is)
         ∙ ap (λ os. (if reaches host i v then item (due (seen_at h v l)) (item_of i) else due (seen_at h v l)) ∷ os)
         (dues_fed host i (v + 1) ls ms is (λ k y at. (let g : v + suc k ≡ (v + 1) + k = omega arith in subst (λ n. reaches host i n ≡ (y.accepted && f n)) g (for_it (suc k) y at))) a.1)
+
+-- ## But for queues all is as it was
+
+pub same_here : (ls : List Life) → AreSame ls ls
+same_here [] = tt
+same_here (l ∷ ls) = (refl, same_here ls)
+
+pub same_then : (ls ms ns : List Life) → AreSame ls ms → AreSame ms ns → AreSame ls ns
+same_then [] [] [] a b = tt
+same_then [] [] (n ∷ ns) a b = absurd b
+same_then [] (m ∷ ms) ns a b = absurd a
+same_then (l ∷ ls) [] ns a b = absurd a
+same_then (l ∷ ls) (m ∷ ms) [] a b = absurd b
+same_then (l ∷ ls) (m ∷ ms) (n ∷ ns) a b = (b.0 ∙ ap (λ (y : Life). record y { queue = n.queue }) a.0, same_then ls ms ns a.1 b.1)
+
+pub same_set : (k : ℕ) (ls : List Life) (l m : Life) → slice_get ls k ≡ Some l → m ≡ record l { queue = m.queue } → AreSame ls (slice_set ls k m)
+same_set k [] l m at same = tt
+same_set zero (y ∷ ls) l m at same = (same ∙ ap (λ (z : Life). record z { queue = m.queue }) (sym (some_is y l at)), same_here ls)
+same_set (suc k) (y ∷ ls) l m at same = (refl, same_set k ls l m at same)
+
+-- what a life holds is not in its queue
+own_queue : (h : Shared) (v : ℕ) (l m : Life) → m ≡ record l { queue = m.queue } → OwnPlace h v l → OwnPlace h v m
+own_queue h v l m same was = subst (OwnPlace h v) (sym same) (λ e. record { confined = (was e).confined; holds = (was e).holds; turn = (was e).turn })
+
+pub own_same : (h : Shared) (v : ℕ) (ls ms : List Life) → AreSame ls ms → OwnPlaces h v ls → OwnPlaces h v ms
+own_same h v [] [] a own = tt
+own_same h v [] (m ∷ ms) a own = absurd a
+own_same h v (l ∷ ls) [] a own = absurd a
+own_same h v (l ∷ ls) (m ∷ ms) a own = (own_queue h v l m a.0 own.0, own_same h (v + 1) ls ms a.1 own.1)
+
+pub accepts_same : (ls ms : List Life) → AreSame ls ms → accepts_of ms ≡ accepts_of ls
+accepts_same [] [] a = refl
+accepts_same [] (m ∷ ms) a = absurd a
+accepts_same (l ∷ ls) [] a = absurd a
+accepts_same (l ∷ ls) (m ∷ ms) a = ap (λ b. b ∷ accepts_of ms) (ap (λ (y : Life). y.accepted) a.0) ∙ ap (λ bs. l.accepted ∷ bs) (accepts_same ls ms a.1)
 
 -- ## One after the other
 

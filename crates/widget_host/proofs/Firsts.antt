@@ -12,7 +12,7 @@ use Rattle.slot_laws.specs.Settled.{flag}
 use Rattle.turn_calls.specs.declared.turn.Shared.{Shared}
 use Rattle.life_queue.specs.declared.life.Life.{Life}
 use Rattle.life_queue.specs.Lives.{life_seen}
-use Rattle.slot_picks.specs.Places.{FewPlace, FewPlaces, FinePlace, FinePlaces, accepts_of, homes_of, seen_at, seens_from}
+use Rattle.slot_picks.specs.Places.{FewPlace, FewPlaces, FinePlace, FinePlaces, OwnPlaces, accepts_of, homes_of, is_accepted, seen_at, seens_from}
 use Rattle.slot_picks.specs.declared.slots.Slot.{Slot}
 use Rattle.slot_picks.specs.declared.crowd.Crowd.{Crowd}
 use Rattle.slot_picks.specs.Crowds.{AreHoused, chains_of, seens_of}
@@ -28,7 +28,7 @@ use Rattle.page_load.specs.declared.loading.Loaded.{Loaded}
 use Rattle.page_load.specs.Homes.{homes_from, names_of}
 use Rattle.page_load.specs.Loads.{Begins, IsFirstLife, LoadsPage}
 use Rattle.widget_host.specs.declared.host.Host.{Host}
-use Rattle.widget_host.specs.Housed.{IsHoused, IsLaid, Loads, LoadsSlot, accepts, chains, given, homes, journal, marked, rooted, seens, singles}
+use Rattle.widget_host.specs.Housed.{IsApart, IsHoused, IsLaid, Loads, LoadsSlot, accepts, chains, given, homes, journal, marked, rooted, seens, singles}
 
 no_true : false ≡ true → ⊥
 no_true e = cc
@@ -59,6 +59,11 @@ module _ (h : Shared) where
   few_from : (n w : ℕ) (ls : List Life) → ((v : ℕ) (a : Life) → slice_get ls v ≡ Some a → (u : ℕ) → u ≡ w + v → FewPlace h n u a) → FewPlaces h n w ls
   few_from n w [] f = tt
   few_from n w (a ∷ ls) f = (f 0 a refl w (omega arith), few_from n (w + 1) ls (λ v b at u e. f (suc v) b at u (omega (arith, e))))
+
+  -- each holds its own
+  pub own_fine : (w : ℕ) (ls : List Life) → FinePlaces h w ls → OwnPlaces h w ls
+  own_fine w [] f = tt
+  own_fine w (a ∷ ls) f = (λ e. record { confined = (f.0 e).confined; holds = (f.0 e).sound.holds; turn = (f.0 e).turn }, own_fine (w + 1) ls f.1)
 
   -- what is seen of a place is seen of its life
   life_of : (w : ℕ) (ls : List Life) (v : ℕ) (s : Seen) → slice_get (seens_from h w ls) v ≡ Some s → (a : Life) × (slice_get ls v ≡ Some a) × (s ≡ seen_at h (w + v) a)
@@ -218,11 +223,11 @@ module _ (spec : PageSpec) (l : Loaded) (loads : LoadsPage spec l) where
   home_is w (slot.Runs body libs script) b a fuel is f = ap (λ x. if x then Some w else None) (is ∙ f.accepted)
   home_is w slot.Refused b a fuel is f = ap (λ x. if x then Some w else None) (is ∙ f)
 
-  rooted_from : (slots : List SlotSpec) (w : ℕ) → ((i : ℕ) (s : SlotSpec) → slice_get slots i ≡ Some s → (u : ℕ) → u ≡ w + i → (if slice_index_or (accepts_of lives) u false then Some u else None) ≡ home_of u s.content) → rooted (accepts_of lives) w (names_of slots) ≡ homes_from w slots
+  rooted_from : (slots : List SlotSpec) (w : ℕ) → ((i : ℕ) (s : SlotSpec) → slice_get slots i ≡ Some s → (u : ℕ) → u ≡ w + i → (if slice_index_or (accepts_of lives) u false then Some u else None) ≡ home_of u s.content) → rooted (is_accepted lives) w (names_of slots) ≡ homes_from w slots
   rooted_from [] w f = refl
   rooted_from (s ∷ slots) w f = λ j. f 0 s refl w (omega arith) j ∷ rooted_from slots (w + 1) (λ i t at u e. f (suc i) t at u (omega (arith, e))) j
 
-  pub rooted_is : rooted (accepts_of lives) 0 (names_of spec.slots.items) ≡ homes_from 0 spec.slots.items
+  pub rooted_is : rooted (is_accepted lives) 0 (names_of spec.slots.items) ≡ homes_from 0 spec.slots.items
   rooted_is = rooted_from spec.slots.items 0 (λ i s at u e.
       let g : i ≡ u = omega (arith, e) in
       let r = slot_loads u s (ap (slice_get spec.slots.items) (sym g) ∙ at) in
@@ -251,9 +256,16 @@ module _ (spec : PageSpec) (l : Loaded) (loads : LoadsPage spec l) (base : Host)
     rest = rest_all spec l loads (chains_of base.slots.items) are;
   }
 
+  apart : IsApart host
+  unfolding accepts
+  apart = record {
+    own = own_fine l.shared 0 l.lives.items (fine_lives spec l loads);
+    others = λ v none. loads.others v (λ a at. sym (accepts_at spec l loads v a at) ∙ none);
+  }
+
   is_housed : IsHoused host
   unfolding IsHoused
-  is_housed = λ e. record { slots = housed; room = few_lives spec l loads; given = omega arith; swaps = omega arith }
+  is_housed = (apart, λ e. record { slots = housed; room = few_lives spec l loads; given = omega arith; swaps = omega arith })
 
   loads_slot : (w fuel : ℕ) (o : Option Content) (a : Life) → slice_get l.lives.items w ≡ Some a → slice_index_or (accepts_of l.lives.items) w false ≡ a.accepted → IsFirstLife l.shared w fuel o a → LoadsSlot host w fuel o
   unfolding accepts seens
@@ -264,6 +276,7 @@ module _ (spec : PageSpec) (l : Loaded) (loads : LoadsPage spec l) (base : Host)
   unfolding accepts chains given homes journal marked seens IsLaid
   host_loads = record {
     housed = is_housed;
+    unmarked = refl;
     twenty = seens_long l.shared 0 l.lives.items ∙ loads.twenty;
     chains = are;
     homes = homes_are spec l loads;

@@ -15,15 +15,16 @@ use Rattle.life_queue.specs.Lives.{trees_in}
 use Rattle.life_queue.specs.Fine.{FineWork}
 use Rattle.page_spec.specs.Pages.{PagePiece}
 use Rattle.page_build.specs.Layout as layout
-use Rattle.slot_picks.specs.Places.{FewPlaces, FinePlaces, accepts_of, homes_of, seens_from}
+use Rattle.page_load.specs.Loads.{HasNothing}
+use Rattle.slot_picks.specs.Places.{FewPlaces, FinePlaces, OwnPlaces, accepts_of, homes_of, is_accepted, seens_from}
 use Rattle.slot_picks.specs.Crowds.{FewCrowd, FineCrowd, chains_of, seens_of}
 use Rattle.widget_host.specs.declared.host.Host.{Host}
 use Rattle.widget_host.specs.declared.items.HostItem.{HostItem}
 use Rattle.widget_host.specs.declared.items.HostItem.TheVariants as host
-use Rattle.widget_host.specs.Housed.{GivesItem, IsItem, IsLaid, IsWhole, accepts, chains, given, homes, is_for, item_of, journal, most_after, reaches, rooted, seens}
-use Rattle.widget_host.specs.Feeding.{AreFed, work_of}
+use Rattle.widget_host.specs.Housed.{GivesItem, IsApart, IsItem, IsLaid, IsWhole, accepts, chains, given, homes, is_for, item_of, journal, most_after, reaches, rooted, seens, shared}
+use Rattle.widget_host.specs.Feeding.{AreFed, AreSame, work_of}
 use Rattle.widget_host.proofs.Lasts.{not_for}
-use Rattle.widget_host.proofs.Fed.{accepts_fed, counts_fed, dues_fed, homes_fed, images_fed, length_fed, other_fed, places_fed}
+use Rattle.widget_host.proofs.Fed.{accepts_fed, accepts_same, counts_fed, dues_fed, homes_fed, images_fed, length_fed, other_fed, own_same, places_fed}
 use Rattle.widget_host.proofs.Shown.{accepts_at}
 
 -- an item as its meaning has it
@@ -40,9 +41,19 @@ small : (h : Shared) (i : HostItem) (n : ℕ) → IsItem i n → potential (live
 small h (host.Event to e) n shape = omega arith
 small h (host.Advance ms) n shape = let most : ms / 10 ≤ 6000 = div-le_of_le-mul 10 (omega (arith, shape)) in omega (arith, most)
 
+-- A host whose lives are as they were but for their queues.
+module _ (old new : Host) (all : new.crowd.shared ≡ old.crowd.shared) (same : AreSame old.crowd.lives.items new.crowd.lives.items) (a : IsApart old) where
+  pub gives_apart : IsApart new
+  unfolding accepts
+  gives_apart = record {
+    own = subst (λ (h : Shared). OwnPlaces h 0 new.crowd.lives.items) (sym all) (own_same old.crowd.shared 0 old.crowd.lives.items new.crowd.lives.items same a.own);
+    others = λ v none. subst (λ (h : Shared). HasNothing v h.store h.page) (sym all)
+        (a.others v (ap (λ flags. slice_index_or flags v false) (sym (accepts_same old.crowd.lives.items new.crowd.lives.items same)) ∙ none));
+  }
+
 -- A host whose lives have the item, and that has counted it.
 module _ (i : HostItem) (old new : Host)
-    (shared : new.crowd.shared ≡ old.crowd.shared)
+    (all : new.crowd.shared ≡ old.crowd.shared)
     (same_journal : new.crowd.journal ≡ old.crowd.journal)
     (slots : new.slots ≡ old.slots)
     (swaps : new.swaps ≡ old.swaps)
@@ -50,7 +61,7 @@ module _ (i : HostItem) (old new : Host)
     (fed : AreFed (is_for (chains_of old.slots.items) i) (work_of i) 0 old.crowd.lives.items new.crowd.lives.items)
   where
     seens_new : seens_of new.crowd ≡ seens_from old.crowd.shared 0 new.crowd.lives.items
-    seens_new = ap (λ (h : Shared). seens_from h 0 new.crowd.lives.items) shared
+    seens_new = ap (λ (h : Shared). seens_from h 0 new.crowd.lives.items) all
 
     images : map image (seens_of new.crowd) ≡ map image (seens_of old.crowd)
     images = ap (map image) seens_new ∙ images_fed (is_for (chains_of old.slots.items) i) (work_of i) old.crowd.shared 0 old.crowd.lives.items new.crowd.lives.items fed
@@ -64,11 +75,11 @@ module _ (i : HostItem) (old new : Host)
     laid_still : (names : List (List ℕ)) (pieces : List PagePiece) → IsLaid old names pieces → IsLaid new names pieces
     unfolding IsLaid
     laid_still names pieces laid =
-        subst (λ (flags : List Bool). layout.IsLaid new.crowd.shared.page names (rooted flags 0 names) pieces) (sym accepted)
-        (subst (λ (h : Shared). layout.IsLaid h.page names (rooted (accepts_of old.crowd.lives.items) 0 names) pieces) (sym shared) laid)
+        subst (λ (flags : List Bool). layout.IsLaid new.crowd.shared.page names (rooted (λ v. slice_index_or flags v false) 0 names) pieces) (sym accepted)
+        (subst (λ (h : Shared). layout.IsLaid h.page names (rooted (is_accepted old.crowd.lives.items) 0 names) pieces) (sym all) laid)
 
     pub gives_item : GivesItem i old new
-    unfolding seens chains homes accepts given journal
+    unfolding seens chains homes accepts given journal shared
     gives_item = record {
       dues = ap (map due) seens_new ∙ dues_fed (is_for (chains_of old.slots.items) i) (work_of i) old.crowd.shared old i 0 old.crowd.lives.items new.crowd.lives.items (work_is old.crowd.shared i) for_it fed;
       images = images;
@@ -77,6 +88,7 @@ module _ (i : HostItem) (old new : Host)
       accepts = λ v. ap (λ (flags : List Bool). slice_index_or flags v false) accepted;
       given = counted;
       journal = ap (λ j. j.items) same_journal;
+      same = all;
       laid = laid_still;
     }
       where
@@ -97,7 +109,7 @@ module _ (i : HostItem) (old new : Host)
           let much = small old.crowd.shared i (length (chains_of old.slots.items)) shape in
           record {
             places = length_fed (is_for (chains_of old.slots.items) i) (work_of i) 0 old.crowd.lives.items new.crowd.lives.items fed ∙ whole.slots.crowd.places;
-            fine = subst (λ (h : Shared). FinePlaces h 0 new.crowd.lives.items) (sym shared)
+            fine = subst (λ (h : Shared). FinePlaces h 0 new.crowd.lives.items) (sym all)
                 (places_fed (is_for (chains_of old.slots.items) i) (work_of i) old.crowd.shared 0 (most_after old.given) old.crowd.lives.items new.crowd.lives.items (script_is old.crowd.shared i) (omega (arith, much, room)) fed whole.room whole.slots.crowd.fine);
             short = subst (λ j. length j.items ≤ 65536) (sym same_journal) whole.slots.crowd.short;
           }
@@ -105,7 +117,7 @@ module _ (i : HostItem) (old new : Host)
       room_still : FewCrowd (most_after new.given) new.crowd
       room_still =
           let much = small old.crowd.shared i (length (chains_of old.slots.items)) shape in
-          subst (λ (h : Shared). FewPlaces h (most_after new.given) 0 new.crowd.lives.items) (sym shared)
+          subst (λ (h : Shared). FewPlaces h (most_after new.given) 0 new.crowd.lives.items) (sym all)
           (counts_fed (is_for (chains_of old.slots.items) i) (work_of i) old.crowd.shared 0 (most_after old.given) (most_after new.given) old.crowd.lives.items new.crowd.lives.items (omega (arith, much, counted)) fed whole.room)
 
       pub gives_whole : IsWhole new

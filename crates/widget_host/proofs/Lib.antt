@@ -4,3 +4,5 @@ mod Shown
 mod Given
 mod Staying
 mod Firsts
+mod Counting
+mod Reading

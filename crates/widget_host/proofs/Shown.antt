@@ -9,18 +9,16 @@ use Rattle.life_laws.specs.Life.{Going, Seen, image, shown}
 use Rattle.widget_meaning.specs.OwnState.{OwnState}
 use Rattle.turn_calls.specs.declared.turn.Shared.{Shared}
 use Rattle.life_queue.specs.declared.life.Life.{Life}
-use Rattle.life_queue.specs.Lives.{going_of, life_seen, own_of, trees_in}
-use Rattle.life_queue.specs.Fine.{FineLife}
-use Rattle.js_image.specs.Held.{IsConfined}
+use Rattle.life_queue.specs.Lives.{going_of, life_seen, own_of}
 use Rattle.slot_picks.specs.declared.slots.Slot.{Slot}
 use Rattle.slot_picks.specs.Crowds.{chains_of, seens_of}
 use Rattle.slot_laws.specs.Slots.{Each}
 use Rattle.slot_laws.specs.Chains.{IsChain}
-use Rattle.slot_picks.specs.Places.{FinePlaces, accepts_of, homes_of, seen_at, seens_from}
+use Rattle.slot_picks.specs.Places.{FinePlace, FinePlaces, OwnPlace, OwnPlaces, accepts_of, homes_of, is_accepted, seen_at, seens_from}
 use Rattle.page_lines.specs.Ends.{AreEnds}
 use Rattle.widget_host.specs.declared.host.Host.{Host}
 use Rattle.widget_host.specs.declared.lines.RunLine.{RunLine}
-use Rattle.widget_host.specs.Housed.{AreShown, IsHoused, IsLineOf, IsShown, IsWhole, accepts, chains, marked, present, rooted, seens, trees}
+use Rattle.widget_host.specs.Housed.{AreShown, IsLineOf, IsShown, IsWhole, accepts, chains, present, rooted, seens}
 use Rattle.widget_host.proofs.Lasts.{slot_chain, some_is}
 use Rattle.widget_host.proofs.Fed.{seen_accepted}
 
@@ -48,21 +46,27 @@ seen_of_life h k ls l s at accepted there =
     let e : 0 + k ≡ k = omega arith in
     sym r.2 ∙ ap (λ (y : Life). seen_at h (0 + k) y) same ∙ ap (λ n. seen_at h n l) e ∙ seen_accepted h k l (sym (accepts_at ls k l at) ∙ accepted)
 
--- an accepted life is sound
-pub fine_at : (h : Shared) (v k : ℕ) (ls : List Life) → FinePlaces h v ls → slice_index_or (accepts_of ls) k false ≡ true → (l : Life) × FineLife h (v + k) l
-fine_at h v k [] fine is = absurd (let e = is in cc)
-fine_at h v zero (y ∷ ls) fine is = let e : v ≡ v + 0 = omega arith in (y, subst (λ n. FineLife h n y) e (fine.0 is))
-fine_at h v (suc k) (y ∷ ls) fine is =
-    let r = fine_at h (v + 1) k ls fine.1 is in
-    let e : (v + 1) + k ≡ v + suc k = omega arith in
-    (r.0, subst (λ n. FineLife h n r.0) e r.1)
+-- there is a life whose file was accepted
+pub life_accepted : (ls : List Life) (k : ℕ) → slice_index_or (accepts_of ls) k false ≡ true → (l : Life) × (slice_get ls k ≡ Some l) × (l.accepted ≡ true)
+life_accepted [] k is = absurd (let e = is in cc)
+life_accepted (y ∷ ls) zero is = (y, refl, is)
+life_accepted (y ∷ ls) (suc k) is = life_accepted ls k is
 
--- so it is confined
-pub confined_at : (h : Host) (v : ℕ) → IsHoused h → marked h ≡ false → accepts h v ≡ true → IsConfined (trees h) v h.crowd.shared.store
-unfolding IsHoused accepts trees
-confined_at h v housed unmarked accepted =
-    let e : 0 + v ≡ v = omega arith in
-    subst (λ n. IsConfined (trees_in h.crowd.shared) n h.crowd.shared.store) e (fine_at h.crowd.shared 0 v h.crowd.lives.items (housed unmarked).slots.crowd.fine accepted).1.confined
+-- it is sound
+pub fine_at : (h : Shared) (v k w : ℕ) (ls : List Life) (l : Life) → w ≡ v + k → slice_get ls k ≡ Some l → FinePlaces h v ls → FinePlace h w l
+fine_at h v k w [] l e at fine = cc
+fine_at h v zero w (y ∷ ls) l e at fine =
+    let here : v ≡ w = omega (arith, e) in
+    subst (λ n. FinePlace h n l) here (subst (FinePlace h v) (some_is y l at) fine.0)
+fine_at h v (suc k) w (y ∷ ls) l e at fine = fine_at h (v + 1) k w ls l (omega (arith, e)) at fine.1
+
+-- and holds its own
+pub own_at : (h : Shared) (v k w : ℕ) (ls : List Life) (l : Life) → w ≡ v + k → slice_get ls k ≡ Some l → OwnPlaces h v ls → OwnPlace h w l
+own_at h v k w [] l e at own = cc
+own_at h v zero w (y ∷ ls) l e at own =
+    let here : v ≡ w = omega (arith, e) in
+    subst (λ n. OwnPlace h n l) here (subst (OwnPlace h v) (some_is y l at) own.0)
+own_at h v (suc k) w (y ∷ ls) l e at own = own_at h (v + 1) k w ls l (omega (arith, e)) at own.1
 
 -- ## What a slot shows
 
@@ -83,16 +87,16 @@ module _ (h : Host) where
 
   -- the slots that are shown have the trees of the page
   pub ends_shown : (w : ℕ) (names : List (List ℕ)) (ends : List (Option OwnState)) → length names ≡ length ends → AreShown h w ends
-      → AreEnds h.crowd.shared.page (rooted (accepts_of h.crowd.lives.items) w names) ends
+      → AreEnds h.crowd.shared.page (rooted (is_accepted h.crowd.lives.items) w names) ends
   unfolding accepts
   ends_shown w [] [] e is = tt
   ends_shown w [] (o ∷ ends) e is = absurd (omega (arith, e))
   ends_shown w (name ∷ names) [] e is = absurd (omega (arith, e))
   ends_shown w (name ∷ names) (None ∷ ends) e is =
-      subst (λ (b : Bool). AreEnds h.crowd.shared.page ((if b then Some w else None) ∷ rooted (accepts_of h.crowd.lives.items) (w + 1) names) (None ∷ ends)) (sym is.0)
+      subst (λ (b : Bool). AreEnds h.crowd.shared.page ((if b then Some w else None) ∷ rooted (is_accepted h.crowd.lives.items) (w + 1) names) (None ∷ ends)) (sym is.0)
       (ends_shown (w + 1) names ends (omega (arith, e)) is.1)
   ends_shown w (name ∷ names) (Some own ∷ ends) e is =
-      subst (λ (b : Bool). AreEnds h.crowd.shared.page ((if b then Some w else None) ∷ rooted (accepts_of h.crowd.lives.items) (w + 1) names) (Some own ∷ ends)) (sym is.0.0)
+      subst (λ (b : Bool). AreEnds h.crowd.shared.page ((if b then Some w else None) ∷ rooted (is_accepted h.crowd.lives.items) (w + 1) names) (Some own ∷ ends)) (sym is.0.0)
       (one_end w own is.0, ends_shown (w + 1) names ends (omega (arith, e)) is.1)
 
 -- the present life of a slot

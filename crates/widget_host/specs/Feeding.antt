@@ -26,3 +26,9 @@ abbrev pub AreFed : (ℕ → Bool) → Work → ℕ → List Life → List Life 
 AreFed chosen x v [] [] = Unit {0}
 AreFed chosen x v (l ∷ ls) (m ∷ ms) = IsFed (l.accepted && chosen v) x l m × AreFed chosen x (v + 1) ls ms
 AreFed chosen x v _ _ = ⊥
+
+-- lives are as they were but for their queues
+abbrev pub AreSame : List Life → List Life → Type 0
+AreSame [] [] = Unit {0}
+AreSame (l ∷ ls) (m ∷ ms) = (m ≡ record l { queue = m.queue }) × AreSame ls ms
+AreSame _ _ = ⊥

@@ -1,23 +1,26 @@
 -- A host as plain data: what is seen of its lives, what holds of it, and what its calls do.
-use Rattle.std.specs.Prelude.{◌≡◌, ◌<◌, ◌≤◌, ◌+◌, ◌*◌, ◌^◌, ℕ, zero, suc, List, [], ◌∷◌, map, length, nat_eq, ◌&&◌, Bool, true, false, slice_get, slice_index_or, Option, Some, None, option_map, if◌then◌else◌}
+use Rattle.std.specs.Prelude.{◌≡◌, ◌<◌, ◌≤◌, ◌+◌, ◌*◌, ◌^◌, ℕ, zero, suc, List, [], ◌∷◌, map, length, nat_eq, ◌&&◌, Bool, true, false, slice_get, Option, Some, None, option_map, if◌then◌else◌}
 use Rattle.std.specs.List.{list_any}
 use Rattle.js_tree.specs.Forest.{Forest}
 use Rattle.js_image.specs.Plans.{meant_cause}
 use Rattle.life_laws.specs.Life.{Seen, due, image}
 use Rattle.pick_laws.specs.declared.entry.PickEntry.{PickEntry}
 use Rattle.slot_laws.specs.Chains.{last_life, last_at}
-use Rattle.slot_picks.specs.Places.{accepts_of, homes_of}
-use Rattle.slot_picks.specs.Crowds.{AreHoused, FewCrowd, chains_of, seens_of}
+use Rattle.slot_picks.specs.Places.{homes_of, is_accepted}
+use Rattle.slot_picks.specs.Crowds.{AreHoused, FewCrowd, OwnCrowd, chains_of, seens_of}
 use Rattle.widget_meaning.specs.Values as meaning
 use Rattle.widget_meaning.specs.OwnState.{OwnState}
 use Rattle.widget_meaning.specs.Items.{Item, Occurs, Advance, item}
 use Rattle.widget_meaning.specs.Alone.{Content, beginning, loaded}
+use Rattle.turn_calls.specs.declared.turn.Shared.{Shared}
+use Rattle.life_queue.specs.declared.life.Life.{Life}
 use Rattle.life_queue.specs.Lives.{event_of, trees_in}
 use Rattle.page_spec.specs.declared.PageSpec.{PageSpec}
 use Rattle.page_spec.specs.declared.SlotSpec.{SlotSpec}
 use Rattle.page_spec.specs.Contents.{content_of}
 use Rattle.page_spec.specs.Pages.{PagePiece, piece_of}
 use Rattle.page_build.specs.Layout as layout
+use Rattle.page_load.specs.Loads.{HasNothing}
 use Rattle.widget_host.specs.declared.host.Host.{Host}
 use Rattle.widget_host.specs.declared.items.HostItem.{HostItem}
 use Rattle.widget_host.specs.declared.items.HostItem.TheVariants as host
@@ -41,7 +44,15 @@ homes h = homes_of h.crowd.lives.items
 
 -- whether the file of a life was accepted
 unfoldable pub accepts : Host → ℕ → Bool
-accepts h v = slice_index_or (accepts_of h.crowd.lives.items) v false
+accepts h v = is_accepted h.crowd.lives.items v
+
+-- its lives; the place of a life is its number
+unfoldable pub lives : Host → List Life
+lives h = h.crowd.lives.items
+
+-- what all of them share: the store, the page, and the scripts
+unfoldable pub shared : Host → Shared
+shared h = h.crowd.shared
 
 -- the last picks that were not idle
 unfoldable pub journal : Host → List PickEntry
@@ -63,6 +74,11 @@ marked h = h.marked
 abbrev pub most_after : ℕ → ℕ
 most_after n = 2 ^ 31 + n * 400000
 
+-- What holds also after want of memory: each accepted life holds its own alone, and a number that is no accepted life's has no cell and no node.
+pub record IsApart (h : Host) : Type 0 where
+  pub own : OwnCrowd h.crowd
+  pub others : (v : ℕ) → accepts h v ≡ false → HasNothing v h.crowd.shared.store h.crowd.shared.page
+
 -- Its lives are in their slots, their counts have room, and each accepted one is sound (`FineLife`): it is confined, and what its turn, its queue and its loop hold is its own.
 pub record IsWhole (h : Host) : Type 0 where
   pub slots : AreHoused (16 + h.swaps) h.crowd h.slots.items
@@ -70,18 +86,18 @@ pub record IsWhole (h : Host) : Type 0 where
   pub given : h.given ≤ 4096
   pub swaps : h.swaps ≤ 4
 
--- so it is of a host unless it is marked
+-- so it is of a host: whole unless it is marked, and its lives apart
 unfoldable pub IsHoused : Host → Type 0
-IsHoused h = marked h ≡ false → IsWhole h
+IsHoused h = IsApart h × (marked h ≡ false → IsWhole h)
 
 -- who has the root of each slot from a number on: its life, if its file was accepted
-abbrev pub rooted : List Bool → ℕ → List (List ℕ) → List (Option ℕ)
-rooted flags w [] = []
-rooted flags w (name ∷ names) = (if slice_index_or flags w false then Some w else None) ∷ rooted flags (w + 1) names
+abbrev pub rooted : (ℕ → Bool) → ℕ → List (List ℕ) → List (Option ℕ)
+rooted accepted w [] = []
+rooted accepted w (name ∷ names) = (if accepted w then Some w else None) ∷ rooted accepted (w + 1) names
 
 -- its page has these pieces, and its slots have these names
 unfoldable pub IsLaid : Host → List (List ℕ) → List PagePiece → Type 0
-IsLaid h names pieces = layout.IsLaid h.crowd.shared.page names (rooted (accepts_of h.crowd.lives.items) 0 names) pieces
+IsLaid h names pieces = layout.IsLaid h.crowd.shared.page names (rooted (is_accepted h.crowd.lives.items) 0 names) pieces
 
 -- ## Items
 
@@ -118,6 +134,7 @@ pub record GivesItem (i : HostItem) (old new : Host) : Type 0 where
   pub accepts : (v : ℕ) → accepts new v ≡ accepts old v
   pub given : given new ≡ given old + 1
   pub journal : journal new ≡ journal old
+  pub same : shared new ≡ shared old
   pub laid : (names : List (List ℕ)) (pieces : List PagePiece) → IsLaid old names pieces → IsLaid new names pieces
 
 -- ## A page that is loaded
@@ -135,6 +152,7 @@ LoadsSlot h w fuel (Some c) = (accepts h w ≡ true) × ((s : Seen) → slice_ge
 -- A page was loaded, and nothing was done yet.
 pub record Loads (spec : PageSpec) (h : Host) : Type 0 where
   pub housed : IsHoused h
+  pub unmarked : marked h ≡ false
   pub twenty : length (seens h) ≡ 20
   pub chains : chains h ≡ singles 0 (length spec.slots.items)
   pub homes : (v w : ℕ) → slice_get (homes h) v ≡ Some w → w ≡ v

@@ -1,2 +1,3 @@
 pub mod Housed
 pub mod Feeding
+pub mod Shapes

@@ -5,7 +5,7 @@ ghost use Rattle.life_queue.specs.declared.life.Work.TheVariants as work;
 ghost use Rattle.slot_laws.specs.Chains.{Chains, last_life};
 ghost use Rattle.slot_picks.specs.Crowds.{chains_of};
 ghost use Rattle.slot_picks.specs.Places.{homes_of};
-ghost use Rattle.widget_host.specs.Feeding.{AreFed, IsFed, work_of};
+ghost use Rattle.widget_host.specs.Feeding.{AreFed, AreSame, IsFed, work_of};
 ghost use Rattle.widget_host.specs.Housed.{GivesItem, IsHoused, IsItem, chains, given, is_for, marked};
 
 use crate::host::Host;
@@ -24,7 +24,8 @@ fn last_of(slot: &[u32]) -> u32
 
 // A life whose file was accepted has this work more in its queue.
 fn feed(life: &mut Life, work: Work) -> Result<(), Memory>
-    ensures { OnOk result (IsFed life.old.accepted work life.old life.new) }
+    ensures fed { OnOk result (IsFed life.old.accepted work life.old life.new) }
+    ensures same { life.new ≡ record life.old { queue = life.new.queue } }
 {
     if !life.accepted {
         return Ok(());
@@ -37,7 +38,8 @@ fn feed(life: &mut Life, work: Work) -> Result<(), Memory>
 fn feed_last(lives: &mut Vec<Life>, slot: &[u32], work: Work) -> Result<(), Memory>
     requires some { 0 < length slot.now }
     requires there { last_life slot.now < length lives.old.items }
-    ensures { OnOk result (AreFed (nat_eq (last_life slot.now)) work 0 lives.old.items lives.new.items) }
+    ensures fed { OnOk result (AreFed (nat_eq (last_life slot.now)) work 0 lives.old.items lives.new.items) }
+    ensures same { AreSame lives.old.items lives.new.items }
 {
     let v = last_of(slot);
     feed(&mut lives[v as usize], work)
@@ -46,7 +48,8 @@ fn feed_last(lives: &mut Vec<Life>, slot: &[u32], work: Work) -> Result<(), Memo
 // The last life of each slot has this advance more in its queue.
 fn feed_all(lives: &mut Vec<Life>, slots: &[Slot], ms: u32) -> Result<(), Memory>
     requires born { (born : ℕ) × (born ≤ length lives.old.items) × Chains (homes_of lives.old.items) born 0 (chains_of slots.now) }
-    ensures { OnOk result (AreFed (λ v. list_any (λ c. nat_eq (last_life c) v) (chains_of slots.now)) (work.Advance ms) 0 lives.old.items lives.new.items) }
+    ensures fed { OnOk result (AreFed (λ v. list_any (λ c. nat_eq (last_life c) v) (chains_of slots.now)) (work.Advance ms) 0 lives.old.items lives.new.items) }
+    ensures same { AreSame lives.old.items lives.new.items }
 {
     'slots: for slot in slots {
         feed_last(lives, &slot.lives, Work::Advance(ms))?;
@@ -58,7 +61,8 @@ fn feed_all(lives: &mut Vec<Life>, slots: &[Slot], ms: u32) -> Result<(), Memory
 fn feed_item(lives: &mut Vec<Life>, slots: &[Slot], item: HostItem) -> Result<(), Memory>
     requires shape { IsItem item (length slots.now) }
     requires born { (born : ℕ) × (born ≤ length lives.old.items) × Chains (homes_of lives.old.items) born 0 (chains_of slots.now) }
-    ensures { OnOk result (AreFed (is_for (chains_of slots.now) item) (work_of item) 0 lives.old.items lives.new.items) }
+    ensures fed { OnOk result (AreFed (is_for (chains_of slots.now) item) (work_of item) 0 lives.old.items lives.new.items) }
+    ensures same { AreSame lives.old.items lives.new.items }
 {
     match item {
         HostItem::Event { to, event } => {

@@ -1,10 +1,16 @@
 //! A host: it loads a page, and hands out what it has.
-ghost use Rattle.std.specs.Prelude.{◌≡◌, ℕ, List, Option, ◌≤◌, IfOk, OnOk, false, length, true};
+ghost use Rattle.std.specs.Prelude.{◌≡◌, ℕ, List, Option, Some, ◌+◌, ◌≤◌, IfOk, OnOk, false, length, slice_get, true};
 ghost use Rattle.js_image.specs.Held.{IsConfined};
+ghost use Rattle.life_laws.specs.Life.{Seen, image};
+ghost use Rattle.life_queue.specs.declared.life.Life.{Life};
+ghost use Rattle.page_build.specs.Layout as layout;
+ghost use Rattle.page_image.specs.Image.{HasRoot, owns};
+ghost use Rattle.slot_picks.specs.Places.{HoldsItsOwn};
 ghost use Rattle.widget_meaning.specs.OwnState.{OwnState};
 ghost use Rattle.page_output.specs.Printing.{Prints};
 ghost use Rattle.page_spec.specs.Pages.{PagePiece, page_of, roots};
-ghost use Rattle.widget_host.specs.Housed.{AreShown, IsHoused, IsLaid, Loads, accepts, journal, marked, seens, trees};
+ghost use Rattle.widget_host.specs.Housed.{AreShown, IsHoused, IsLaid, Loads, accepts, journal, lives, marked, rooted, seens, shared, trees};
+ghost use Rattle.widget_host.specs.Shapes.{HasOneRaw, IsReadOff, cells_of_host, cells_of_widgets};
 ghost use Rattle.pick_laws.specs.Journal.{AllJoined, journal_room};
 
 use crate::loading::load_host;
@@ -41,17 +47,41 @@ impl Host {
         load_host(alloc, keys, spec)
     }
 
-    /// The cells of all widgets and of the host. Each widget is confined to its own.
+    /// The cells of all widgets and of the host, and no others. Each widget is confined to its own, also where the
+    /// host is marked. Else each node of a widget has one RawNode.
     pub fn store(&self) -> &Store
-        ensures confined { IsHoused self.now → marked self.now ≡ false → (v : ℕ) → accepts self.now v ≡ true → IsConfined (trees self.now) v result.now }
+        ensures are { result.now ≡ (shared self.now).store }
+        ensures confined { IsHoused self.now → (v : ℕ) → accepts self.now v ≡ true → IsConfined (trees self.now) v result.now }
+        ensures counted { IsHoused self.now → length result.now.cells ≡ cells_of_host result.now + cells_of_widgets result.now (length (lives self.now)) }
+        ensures raws { IsHoused self.now → marked self.now ≡ false → (v n : ℕ) → owns (shared self.now).page v n ≡ true → HasOneRaw result.now.cells n }
     {
-        &self.crowd.shared.store
+        let store = &self.crowd.shared.store;
+        store.nodes_have_one_cell();
+        store
     }
 
-    /// The page.
-    pub fn page(&self) -> &Page {
+    /// The page. Under `body` stand its own markup and the root of each accepted widget; a node that is a widget's
+    /// is that of an accepted one.
+    pub fn page(&self) -> &Page
+        ensures are { result.now ≡ (shared self.now).page }
+        ensures laid { (names : List (List ℕ)) (pieces : List PagePiece) → IsLaid self.now names pieces → layout.IsLaid result.now names (rooted (accepts self.now) 0 names) pieces }
+        ensures roots { IsHoused self.now → (v : ℕ) → accepts self.now v ≡ true → HasRoot result.now v }
+        ensures owners { IsHoused self.now → (v n : ℕ) → owns result.now v n ≡ true → accepts self.now v ≡ true }
+    {
         &self.crowd.shared.page
     }
+
+    /// A law: all that an accepted life holds is its own, also where the host is marked: what its cells lead to, the
+    /// nodes of its Bunches, what its handlers, its timers and its focus hold, and what waits in its turn.
+    pub fn widgets_hold_their_own(&self)
+        ensures { IsHoused self.now → (v : ℕ) (l : Life) → slice_get (lives self.now) v ≡ Some l → l.accepted ≡ true → HoldsItsOwn (shared self.now) v l }
+    {}
+
+    /// A law: what is seen of the objects, the scopes and the trees of an accepted life is read off the one store and
+    /// the one page.
+    pub fn images_are_read_off(&self)
+        ensures { (v : ℕ) (s : Seen) → accepts self.now v ≡ true → slice_get (seens self.now) v ≡ Some s → IsReadOff (shared self.now) v (image s) }
+    {}
 
     /// The last picks that were not idle, at most 65,536. Those of a life follow on each other, and the last
     /// ends at what the life has spent.

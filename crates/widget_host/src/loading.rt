@@ -1,10 +1,10 @@
 //! A page becomes a host.
-ghost use Rattle.std.specs.Prelude.{◌≡◌, ◌≤◌, ◌∷◌, [], IfOk, length};
+ghost use Rattle.std.specs.Prelude.{◌≡◌, ◌≤◌, ◌∷◌, [], IfOk};
 ghost use Rattle.slot_picks.specs.Crowds.{chains_of};
 ghost use Rattle.widget_host.specs.Housed.{Loads, singles};
 
 use crate::host::Host;
-use code_units::{Memory, Text};
+use code_units::Memory;
 use keyed_names::Keys;
 use page_load::{Loaded, load_page};
 use page_spec::PageSpec;
@@ -12,26 +12,23 @@ use slot_picks::{Crowd, Slot};
 use std::alloc::Global;
 use std::collections::VecDeque;
 
-// A slot of this name with one life.
-fn slot_of(alloc: Global, name: &Text, life: u32) -> Result<Slot, Memory>
+// A slot with one life.
+fn slot_of(alloc: Global, life: u32) -> Result<Slot, Memory>
     ensures { IfOk result (λ slot. slot.lives.items ≡ life ∷ []) }
 {
     let mut lives = Vec::new(alloc);
     lives.push(life)?;
-    Ok(Slot {
-        name: name.share()?,
-        lives,
-    })
+    Ok(Slot { lives })
 }
 
-// The slots of these names in order, each with the life of its number.
-fn slots_of(alloc: Global, names: &[Text]) -> Result<Vec<Slot>, Memory>
-    requires few { length names.now ≤ 16 }
-    ensures { IfOk result (λ slots. chains_of slots.items ≡ singles 0 (length names.now)) }
+// So many slots, each with the life of its number.
+fn slots_of(alloc: Global, many: usize) -> Result<Vec<Slot>, Memory>
+    requires few { many ≤ 16 }
+    ensures { IfOk result (λ slots. chains_of slots.items ≡ singles 0 many) }
 {
-    let mut slots = Vec::with_capacity(alloc, names.len())?;
-    'names: for v in 0..names.len() {
-        slots.push(slot_of(alloc, &names[v], v as u32)?)?;
+    let mut slots = Vec::with_capacity(alloc, many)?;
+    'slots: for v in 0..many {
+        slots.push(slot_of(alloc, v as u32)?)?;
     }
     Ok(slots)
 }
@@ -46,7 +43,8 @@ pub(crate) fn load_host(alloc: Global, keys: Keys, spec: PageSpec) -> Result<Hos
         names,
         channels,
     } = load_page(alloc, keys, spec)?;
-    let slots = slots_of(alloc, &names)?;
+    let many = names.len();
+    let slots = slots_of(alloc, many)?;
     Ok(Host {
         crowd: Crowd {
             shared,

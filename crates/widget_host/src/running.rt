@@ -1,15 +1,18 @@
 //! Picks of slots, and picks until no slot is ready.
-#![tactic(auto, unfolding(crate::specs::Housed::IsHoused, crate::specs::Housed::accepts, crate::specs::Housed::chains, crate::specs::Housed::given, crate::specs::Housed::homes, crate::specs::Housed::journal, crate::specs::Housed::marked, crate::specs::Housed::seens))]
+#![tactic(auto, unfolding(crate::specs::Housed::IsHoused, crate::specs::Housed::accepts, crate::specs::Housed::chains, crate::specs::Housed::given, crate::specs::Housed::homes, crate::specs::Housed::journal, crate::specs::Housed::marked, crate::specs::Housed::seens, crate::specs::Housed::shared))]
 
-ghost use Rattle.std.specs.Prelude.{◌≡◌, ◌<◌, ◌∷◌, [], ℕ, List, IfOk, IsErr, OnErr, OnOk, false, true, length, map};
+ghost use Rattle.std.specs.Prelude.{◌≡◌, ◌+◌, ◌<◌, ◌∷◌, [], ℕ, List, IfOk, IsErr, OnErr, OnOk, false, true, length, map};
 ghost use Rattle.life_laws.specs.Life.{due, image};
 ghost use Rattle.page_spec.specs.Pages.{PagePiece};
 ghost use Rattle.pick_laws.specs.Journal.{ready_from};
 ghost use Rattle.slot_laws.specs.Chains.{PickedIn, last_life};
 ghost use Rattle.slot_laws.specs.Settled.{SettledSlots, slot_flags};
-ghost use Rattle.widget_host.specs.Housed.{IsHoused, IsLaid, accepts, chains, given, homes, journal, marked, seens};
+ghost use Rattle.slot_picks.specs.Crowds.{PageStays};
+ghost use Rattle.widget_host.specs.declared.host.Host.{Host as HostOf};
+ghost use Rattle.widget_host.specs.Housed.{GivesItem, IsHoused, IsItem, IsLaid, accepts, chains, dues_after, given, homes, journal, marked, seens, shared};
 
 use crate::host::Host;
+use crate::items::HostItem;
 use code_units::Memory;
 use pick_laws::Picked;
 use slot_picks::{pick_slot, settle_slots};
@@ -28,6 +31,7 @@ impl Host {
         ensures given { OnOk result (given self.new ≡ given self.old) }
         ensures accepts { OnOk result ((v : ℕ) → accepts self.new v ≡ accepts self.old v) }
         ensures laid { OnOk result ((names : List (List ℕ)) (pieces : List PagePiece) → IsLaid self.old names pieces → IsLaid self.new names pieces) }
+        ensures page { PageStays (shared self.old).page (shared self.new).page }
         ensures housed { IsHoused self.new }
         ensures marked { marked self.old ≡ true → IsErr result }
         ensures mark { OnErr result (marked self.new ≡ true) }
@@ -62,6 +66,7 @@ impl Host {
         ensures given { OnOk result (given self.new ≡ given self.old) }
         ensures accepts { OnOk result ((v : ℕ) → accepts self.new v ≡ accepts self.old v) }
         ensures laid { OnOk result ((names : List (List ℕ)) (pieces : List PagePiece) → IsLaid self.old names pieces → IsLaid self.new names pieces) }
+        ensures page { PageStays (shared self.old).page (shared self.new).page }
         ensures housed { IsHoused self.new }
         ensures marked { marked self.old ≡ true → IsErr result }
         ensures mark { OnErr result (marked self.new ≡ true) }
@@ -77,5 +82,35 @@ impl Host {
                 Err(fault)
             }
         }
+    }
+
+    /// An item is given, and then picks are made until no slot is ready: each life shows what was due to it, with
+    /// the item where it is for it.
+    pub fn item<C: Chooser>(
+        &mut self,
+        alloc: Global,
+        item: HostItem,
+        chooser: &mut C,
+        slice: u32,
+    ) -> Result<(), Memory>
+        requires housed { IsHoused self.old }
+        requires room { given self.old < 4096 }
+        requires shape { IsItem item (length (chains self.old)) }
+        requires slice { 0 < slice }
+        ensures done { OnOk result (map image (seens self.new) ≡ dues_after self.old item 0 (map due (seens self.old))) }
+        ensures settled { OnOk result ((mid : HostOf) × GivesItem item self.old mid × SettledSlots slice (homes mid) (chains mid) (chains self.new) (seens mid) (seens self.new) (journal mid) (journal self.new) (C.asks chooser.old) (C.room chooser.old) (C.asks chooser.new) (C.room chooser.new)) }
+        ensures quiet { OnOk result (ready_from 0 (slot_flags (seens self.new) (chains self.new)) ≡ []) }
+        ensures chains { OnOk result (chains self.new ≡ map (λ c. last_life c ∷ []) (chains self.old)) }
+        ensures homes { OnOk result (homes self.new ≡ homes self.old) }
+        ensures given { OnOk result (given self.new ≡ given self.old + 1) }
+        ensures accepts { OnOk result ((v : ℕ) → accepts self.new v ≡ accepts self.old v) }
+        ensures laid { OnOk result ((names : List (List ℕ)) (pieces : List PagePiece) → IsLaid self.old names pieces → IsLaid self.new names pieces) }
+        ensures housed { IsHoused self.new }
+        ensures marked { marked self.old ≡ true → IsErr result }
+        ensures mark { OnErr result (marked self.new ≡ true) }
+        ensures unmarked { OnOk result (marked self.new ≡ false) }
+    {
+        self.give(item)?;
+        self.settle(alloc, chooser, slice)
     }
 }

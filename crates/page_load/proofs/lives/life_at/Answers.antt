@@ -3,7 +3,7 @@ use Rattle.std.specs.Prelude.{IfOk}
 use Rattle.std.proofs.lemmas.Option.{slice_get_past, slice_get_read}
 use Rattle.page_load.specs.Lives.{IsLifeOf}
 use Rattle.page_load.proofs.Begun.{keeps_same}
-use Rattle.page_load.proofs.Growing.{always_ok}
+use Rattle.page_load.proofs.Growing.{all_ok, always_ok}
 use Rattle.page_load.proofs.lives.life_at.Goals as goal
 
 pub first_life-requires-clause-tree : goal.first_life-requires-clause-tree
@@ -14,6 +14,9 @@ returns-then-at-starts-clause-life c = subst (λ o. IfOk c.no_life.result (IsLif
 
 pub returns-then-at-starts-clause-others : goal.returns-then-at-starts-clause-others
 returns-then-at-starts-clause-others c = always_ok c.no_life.result (keeps_same c.args.w c.args.shared.now c.requires.unused c.requires.raws)
+
+pub returns-then-at-starts-clause-same : goal.returns-then-at-starts-clause-same
+returns-then-at-starts-clause-same c = all_ok c.no_life.result (λ l e. refl)
 
 pub returns-clause-life : goal.returns-clause-life
 returns-clause-life c =

@@ -1,7 +1,7 @@
-use Rattle.std.proofs.Common.{◌≡◌, ◌≤◌, length}
+use Rattle.std.proofs.Common.{◌≡◌, ℕ, ◌≤◌, length}
 use Rattle.page_build.specs.Homes.{HaveRaws}
-use Rattle.page_load.specs.Laying.{IsUnused}
-use Rattle.page_load.specs.Lives.{AreLives}
+use Rattle.page_load.specs.Laying.{HasNoCells, IsUnused}
+use Rattle.page_load.specs.Lives.{AreLives, IsNobodys}
 use Rattle.page_load.proofs.lives.lives_of.Given as goal
 
 abbrev pub invariant-lives : goal.invariant-lives
@@ -13,4 +13,5 @@ invariant-lives l = record {
   page : l.shared.page ≡ l.initial.shared.page;
   raws : HaveRaws l.shared.store l.shared.page;
   unused : IsUnused l.shared.store l.w;
+  others : (v : ℕ) → IsNobodys l.lives.items v → HasNoCells v l.shared.store;
 }

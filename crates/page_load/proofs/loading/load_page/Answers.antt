@@ -19,6 +19,9 @@ lay_pieces-requires c = omega (arith, c.if-len-gt16.false, c.len.ensures, ap len
 pub lives_of-requires-clause-unused : goal.lives_of-requires-clause-unused
 lives_of-requires-clause-unused c = c.in_ok-store.ensures.laid.unused
 
+pub lives_of-requires-clause-free : goal.lives_of-requires-clause-free
+lives_of-requires-clause-free c = c.in_ok-store.ensures.laid.free
+
 pub lives_of-requires-clause-raws : goal.lives_of-requires-clause-raws
 lives_of-requires-clause-raws c = c.in_ok-store.ensures.laid.raws
 
@@ -41,6 +44,7 @@ returns c =
     c.in_ok-lives.ensures.page (ap (λ (cs : Vec Code Global). cs.items) c.in_ok-lives.ensures.codes)
     (subst (λ starts. AreLives l.shared (length c.args.spec.libs.items) starts l.lives.items) c.deref-4.ensures.value
     (subst (λ many. AreLives l.shared many c.deref-4.result.now l.lives.items) many c.in_ok-lives.ensures.lives))
-    (omega (arith, c.if-len-gt16.false, c.len.ensures, c.args.spec.slots.ok.0)) (c.in_ok-names.ensures ∙ ap names_of c.deref-3.ensures.value) refl c.in_ok-lives.ensures.twenty
+    c.in_ok-lives.ensures.twenty (omega (arith, c.if-len-gt16.false, c.len.ensures, c.args.spec.slots.ok.0))
+    (c.in_ok-names.ensures ∙ ap names_of c.deref-3.ensures.value) refl c.in_ok-lives.ensures.others
     (subst (λ pieces. IsLaidOut p (flat_map (piece_lots (slot_lots c.args.spec.slots.items)) (map piece_of pieces))) c.deref.ensures.value
     (subst (λ slots. IsLaidOut p (flat_map (piece_lots (slot_lots slots)) (map piece_of c.deref.result.now))) c.deref-2.ensures.value c.in_ok-store.ensures.lots))

@@ -4,7 +4,7 @@ use Rattle.std.proofs.lemmas.Option.{slice_get_read}
 use Rattle.pick_laws.specs.declared.entry.PickEntry.{PickEntry}
 use Rattle.pick_laws.specs.Journal.{kept}
 use Rattle.pick_laws.proofs.Crowds.{kept_with}
-use Rattle.slot_picks.proofs.Keeping.{keeps_here}
+use Rattle.slot_picks.proofs.Keeping.{keeps_here, keeps_journal}
 use Rattle.slot_picks.proofs.Picking.{same_accepted}
 use Rattle.slot_picks.proofs.Spending.{idle_kept, kept_idle}
 use Rattle.slot_picks.proofs.crowd.pick_kept.Goals as goal
@@ -34,7 +34,7 @@ pub returns-in-Idle-clause-kept : goal.returns-in-Idle-clause-kept
 returns-in-Idle-clause-kept c = kept_idle c.args.v c.args.k c.in_ok-picked.picked _ _ c.args.crowd.now.journal.items _ c.in_ok-picked.ensures.picked c.in-Idle.is c.in_ok-picked.ensures.journal
 
 pub returns-in_err-keep-clause-stays : goal.returns-in_err-keep-clause-stays
-returns-in_err-keep-clause-stays c = record { homes = c.in_ok-picked.ensures.stays.homes; accepts = c.in_ok-picked.ensures.stays.accepts; page = c.in_ok-picked.ensures.stays.page }
+returns-in_err-keep-clause-stays c = keeps_journal c.args.crowd.now c.pick_one.new.crowd _ refl refl c.in_ok-picked.ensures.stays
 
 pub returns : goal.returns
 returns c = record {
@@ -42,5 +42,5 @@ returns c = record {
       (c.in_ok-keep.ensures.entry ∙ ap (λ (js : List PickEntry). kept (js ++ record { widget = c.args.v; before = c.spent_at-before.result; after = c.spent_at-after.result; slice = c.args.k } ∷ [])) c.in_ok-picked.ensures.journal);
   fine = record { places = c.in_ok-picked.ensures.fine.places; fine = c.in_ok-picked.ensures.fine.fine; short = c.in_ok-keep.ensures.short };
   few = c.in_ok-picked.ensures.few;
-  stays = record { homes = c.in_ok-picked.ensures.stays.homes; accepts = c.in_ok-picked.ensures.stays.accepts; page = c.in_ok-picked.ensures.stays.page };
+  stays = keeps_journal c.args.crowd.now c.pick_one.new.crowd _ refl refl c.in_ok-picked.ensures.stays;
 }

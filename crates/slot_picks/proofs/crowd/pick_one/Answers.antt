@@ -1,10 +1,12 @@
-use Rattle.std.proofs.Common.{◌≡◌, ◌≤◌, ◌∙◌, refl, sym, ap, arith, Some, length}
-use Rattle.std.specs.Prelude.{slice_get}
+use Rattle.std.proofs.Common.{◌≡◌, ◌≤◌, ◌∙◌, refl, sym, ap, subst, arith, Some, length}
+use Rattle.std.specs.Prelude.{IfSome, slice_get}
 use Rattle.std.proofs.lemmas.Option.{slice_get_read}
 use Rattle.std.proofs.lemmas.Result.{IfOk-weaker}
 use Rattle.life_queue.specs.declared.life.Life.{Life}
+use Rattle.life_queue.specs.Lives.{trees_in}
+use Rattle.life_queue.specs.Fine.{FineTurn, KeepsLife}
 use Rattle.slot_picks.proofs.Keeping.{keeps_set}
-use Rattle.slot_picks.proofs.Picking.{fews_here, fine_number, fines_here, length_set, number_here, on_ok, picked_at, set_there}
+use Rattle.slot_picks.proofs.Picking.{fews_here, fine_number, fines_here, length_set, number_here, on_ok, picked_at, set_there, turn_after}
 use Rattle.slot_picks.proofs.crowd.pick_one.Goals as goal
 
 pub pick_life-requires-clause-widget : goal.pick_life-requires-clause-widget
@@ -73,7 +75,14 @@ returns-clause-length c = length_set c.args.crowd.now.lives.items c.args.v c.pic
 
 pub returns-clause-stays : goal.returns-clause-stays
 returns-clause-stays c =
+    let h = c.args.crowd.now.shared in
+    let m = c.pick_life.new.shared in
     let ls = c.args.crowd.now.lives.items in
     let a = c.index_mut.result.now in
+    let b = c.pick_life.new.life in
     let at : slice_get ls c.args.v ≡ Some a = slice_get_read ls (length ls) c.args.v a refl c.requires.there c.index_mut.ensures.value in
-    keeps_set c.args.crowd.now _ c.args.v a c.pick_life.new.life at refl c.pick_life.ensures.kept
+    let number : a.widget.number ≡ c.args.v = number_here h c.args.v ls a at (c.requires.accepted a at) c.requires.fine.fine in
+    keeps_set c.args.crowd.now _ c.args.v a b at refl (omega (arith, c.requires.fine.places)) (c.requires.accepted a at)
+    (subst (λ i. KeepsLife i h m a b) number c.pick_life.ensures.kept)
+    (subst (λ i. IfSome b.turn (FineTurn (trees_in m) i m.store m.page b.grant)) number
+    (turn_after h m a.widget.number c.args.k a b c.pick_life.result c.pick_life.ensures.picked c.pick_life.ensures.none))

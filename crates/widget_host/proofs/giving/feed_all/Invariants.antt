@@ -4,8 +4,11 @@ use Rattle.std.specs.List.{list_any}
 use Rattle.life_queue.specs.declared.life.Work.TheVariants as work
 use Rattle.slot_laws.specs.Chains.{last_life}
 use Rattle.slot_picks.specs.Crowds.{chains_of}
-use Rattle.widget_host.specs.Feeding.{AreFed}
+use Rattle.widget_host.specs.Feeding.{AreFed, AreSame}
 use Rattle.widget_host.proofs.giving.feed_all.Given as goal
 
 abbrev pub invariant-slots : goal.invariant-slots
-invariant-slots l = AreFed (λ v. list_any (λ c. nat_eq (last_life c) v) (take l.slot-index (chains_of l.slots))) (work.Advance l.ms) 0 l.initial.lives.items l.lives.items
+invariant-slots l = record {
+  fed : AreFed (λ v. list_any (λ c. nat_eq (last_life c) v) (take l.slot-index (chains_of l.slots))) (work.Advance l.ms) 0 l.initial.lives.items l.lives.items;
+  same : AreSame l.initial.lives.items l.lives.items;
+}

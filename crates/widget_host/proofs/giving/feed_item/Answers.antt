@@ -30,8 +30,8 @@ feed_last-requires-clause-there c =
     subst (λ (vs : List ℕ). last_life vs < length c.args.lives.now.items) (sym (c.deref.ensures.value ∙ ap (λ (s : Slot). s.lives.items) (sym c.index-slots-to.is)))
     (last_there (homes_of c.args.lives.now.items) c.requires.born.0 (0 + c.in-Event.to) (length c.args.lives.now.items) c.index-slots-to.result.lives.items chain c.requires.born.1)
 
-pub returns-in-Event : goal.returns-in-Event
-returns-in-Event c =
+pub returns-in-Event-clause-fed : goal.returns-in-Event-clause-fed
+returns-in-Event-clause-fed c =
     let ss = c.args.slots.now in
     let ls = c.args.lives.now.items in
     let ms = c.feed_last.new.lives.items in
@@ -40,9 +40,9 @@ returns-in-Event c =
     let last = ap last_life (c.deref.ensures.value ∙ ap (λ (s : Slot). s.lives.items) (sym c.index-slots-to.is)) ∙ sym (last_of_slot ss c.in-Event.to c.index-slots-to.result at) in
     on_ok_weaker c.feed_last.result (λ f.
     subst (λ (i : HostItem). AreFed (is_for (chains_of ss) i) (work_of i) 0 ls ms) (sym c.in-Event.is)
-    (subst (λ (v : ℕ). AreFed (nat_eq v) (work.Event c.in-Event.event) 0 ls ms) last f)) c.feed_last.ensures
+    (subst (λ (v : ℕ). AreFed (nat_eq v) (work.Event c.in-Event.event) 0 ls ms) last f)) c.feed_last.ensures.fed
 
-pub returns-in-Advance : goal.returns-in-Advance
-returns-in-Advance c =
+pub returns-in-Advance-clause-fed : goal.returns-in-Advance-clause-fed
+returns-in-Advance-clause-fed c =
     on_ok_weaker c.feed_all.result (λ f.
-    subst (λ (i : HostItem). AreFed (is_for (chains_of c.args.slots.now) i) (work_of i) 0 c.args.lives.now.items c.feed_all.new.lives.items) (sym c.in-Advance.is) f) c.feed_all.ensures
+    subst (λ (i : HostItem). AreFed (is_for (chains_of c.args.slots.now) i) (work_of i) 0 c.args.lives.now.items c.feed_all.new.lives.items) (sym c.in-Advance.is) f) c.feed_all.ensures.fed

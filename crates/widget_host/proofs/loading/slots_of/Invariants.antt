@@ -3,5 +3,5 @@ use Rattle.slot_picks.specs.Crowds.{chains_of}
 use Rattle.widget_host.specs.Housed.{singles}
 use Rattle.widget_host.proofs.loading.slots_of.Given as goal
 
-abbrev pub invariant-names : goal.invariant-names
-invariant-names l = chains_of l.slots.items ≡ singles 0 l.v
+abbrev pub invariant-slots : goal.invariant-slots
+invariant-slots l = chains_of l.slots.items ≡ singles 0 l.v

@@ -6,7 +6,7 @@ use Rattle.slot_picks.specs.Crowds.{chains_of}
 use Rattle.slot_picks.specs.Places.{homes_of}
 use Rattle.widget_host.specs.Feeding.{AreFed, work_of}
 use Rattle.widget_host.specs.Housed.{IsHoused, IsItem, IsWhole, chains, given, is_for, marked}
-use Rattle.widget_host.proofs.Given.{gives_item, gives_whole}
+use Rattle.widget_host.proofs.Given.{gives_apart, gives_item, gives_whole}
 use Rattle.widget_host.proofs.host.Host.give.Goals as goal
 
 pub returns-then-self-clause-mark : goal.returns-then-self-clause-mark
@@ -22,7 +22,7 @@ feed_item-requires-clause-shape c =
 pub feed_item-requires-clause-born : goal.feed_item-requires-clause-born
 unfolding IsHoused marked
 feed_item-requires-clause-born c =
-    let whole : IsWhole c.args.self.now = c.requires.housed c.if-self.false in (
+    let whole : IsWhole c.args.self.now = c.requires.housed.1 c.if-self.false in (
       16 + c.args.self.now.swaps,
       omega (arith, whole.slots.few, whole.slots.crowd.places),
       subst (λ (ss : List Slot). Chains (homes_of c.args.self.now.crowd.lives.items) (16 + c.args.self.now.swaps) 0 (chains_of ss)) (sym c.deref.ensures.value) whole.slots.chains,
@@ -36,16 +36,18 @@ pub returns-in-Ok-clause-gives : goal.returns-in-Ok-clause-gives
 returns-in-Ok-clause-gives c =
     let old = c.args.self.now in
     gives_item c.args.item old _ refl refl refl refl refl
-    (subst (λ (ss : List Slot). AreFed (is_for (chains_of ss) c.args.item) (work_of c.args.item) 0 old.crowd.lives.items c.feed_item.new.lives.items) c.deref.ensures.value c.in-Ok.ensures)
+    (subst (λ (ss : List Slot). AreFed (is_for (chains_of ss) c.args.item) (work_of c.args.item) 0 old.crowd.lives.items c.feed_item.new.lives.items) c.deref.ensures.value c.in-Ok.ensures.fed)
 
 pub returns-in-Ok-clause-housed : goal.returns-in-Ok-clause-housed
 unfolding IsHoused marked chains given
 returns-in-Ok-clause-housed c =
     let old = c.args.self.now in
-    let whole : IsWhole old = c.requires.housed c.if-self.false in
-    λ unmarked. gives_whole c.args.item old _ refl refl refl refl refl
-    (subst (λ (ss : List Slot). AreFed (is_for (chains_of ss) c.args.item) (work_of c.args.item) 0 old.crowd.lives.items c.feed_item.new.lives.items) c.deref.ensures.value c.in-Ok.ensures)
-    whole c.requires.room c.requires.shape
+    let whole : IsWhole old = c.requires.housed.1 c.if-self.false in (
+      gives_apart old _ refl c.in-Ok.ensures.same c.requires.housed.0,
+      λ unmarked. gives_whole c.args.item old _ refl refl refl refl refl
+          (subst (λ (ss : List Slot). AreFed (is_for (chains_of ss) c.args.item) (work_of c.args.item) 0 old.crowd.lives.items c.feed_item.new.lives.items) c.deref.ensures.value c.in-Ok.ensures.fed)
+          whole c.requires.room c.requires.shape,
+    )
 
 pub returns-in-Ok-clause-marked : goal.returns-in-Ok-clause-marked
 unfolding marked
@@ -57,7 +59,7 @@ returns-in-Ok-clause-unmarked c = c.if-self.false
 
 pub returns-in-Err-clause-housed : goal.returns-in-Err-clause-housed
 unfolding IsHoused marked
-returns-in-Err-clause-housed c = λ unmarked. absurd (let both : true ≡ false = unmarked in cc)
+returns-in-Err-clause-housed c = (gives_apart c.args.self.now _ refl c.feed_item.ensures.same c.requires.housed.0, λ unmarked. absurd (let both : true ≡ false = unmarked in cc))
 
 pub returns-in-Err-clause-mark : goal.returns-in-Err-clause-mark
 unfolding marked

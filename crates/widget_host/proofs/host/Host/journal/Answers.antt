@@ -8,8 +8,8 @@ returns-clause-are c = refl
 
 pub returns-clause-short : goal.returns-clause-short
 unfolding IsHoused journal
-returns-clause-short c = λ housed unmarked. (housed unmarked).slots.crowd.short
+returns-clause-short c = λ housed unmarked. (housed.1 unmarked).slots.crowd.short
 
 pub returns-clause-joined : goal.returns-clause-joined
 unfolding IsHoused journal seens
-returns-clause-joined c = λ housed unmarked. (housed unmarked).slots.joined
+returns-clause-joined c = λ housed unmarked. (housed.1 unmarked).slots.joined

@@ -1,5 +1,5 @@
 use Rattle.std.proofs.lemmas.Result.{on_ok_weaker}
-use Rattle.slot_picks.specs.Places.{accepts_of}
+use Rattle.slot_picks.specs.Places.{is_accepted}
 use Rattle.widget_host.specs.Housed.{IsLaid, rooted}
 use Rattle.widget_host.proofs.Shown.{ends_shown}
 use Rattle.widget_host.proofs.host.Host.print_page.Goals as goal
@@ -8,4 +8,4 @@ pub returns : goal.returns
 unfolding IsLaid
 returns c =
     on_ok_weaker c.print_page.result (λ printed names pieces ends laid shown even.
-    printed names (rooted (accepts_of c.args.self.now.crowd.lives.items) 0 names) pieces ends laid (ends_shown c.args.self.now 0 names ends even shown)) c.print_page.ensures
+    printed names (rooted (is_accepted c.args.self.now.crowd.lives.items) 0 names) pieces ends laid (ends_shown c.args.self.now 0 names ends even shown)) c.print_page.ensures

@@ -1,5 +1,20 @@
-use Rattle.widget_host.proofs.Shown.{confined_at}
+use Rattle.std.proofs.Common.{refl}
+use Rattle.widget_host.specs.Housed.{lives, shared, trees}
+use Rattle.widget_host.proofs.Reading.{confined_at, counted_at, one_raw, raw_at}
 use Rattle.widget_host.proofs.host.Host.store.Goals as goal
 
-pub returns : goal.returns
-returns c = record { confined = λ housed unmarked v accepted. confined_at c.args.self.now v housed unmarked accepted }
+pub returns-clause-are : goal.returns-clause-are
+unfolding shared
+returns-clause-are c = refl
+
+pub returns-clause-confined : goal.returns-clause-confined
+unfolding trees
+returns-clause-confined c = λ housed v is. confined_at c.args.self.now housed v is
+
+pub returns-clause-counted : goal.returns-clause-counted
+unfolding lives
+returns-clause-counted c = λ housed. counted_at c.args.self.now housed
+
+pub returns-clause-raws : goal.returns-clause-raws
+unfolding shared
+returns-clause-raws c = λ housed unmarked v n owned. one_raw c.args.self.now.crowd.shared.store.cells n c.nodes_have_one_cell.ensures (raw_at c.args.self.now housed unmarked v n owned)

@@ -1,0 +1,131 @@
+-- What can be relied on of the store and the page of a host.
+use Rattle.std.proofs.Common.{◌≡◌, ℕ, zero, suc, ◌+◌, ◌≤◌, List, [], ◌∷◌, length, Bool, true, false, refl, sym, ap, ◌∙◌, subst, arith, Option, None, Some}
+use Rattle.std.proofs.lemmas.Bool.{eqb-true}
+use Rattle.std.specs.Prelude.{slice_get, slice_index_or, is_some}
+use Rattle.std.specs.Option.{option_and_then, option_map}
+use Rattle.store_cells.specs.declared.kind.Form.{Form}
+use Rattle.store_cells.specs.declared.kind.Form.TheVariants as form
+use Rattle.store_cells.specs.Born.{raw_place}
+use Rattle.store_cells.specs.Cells.{PlainCell, form_at, is_raw, node_in}
+use Rattle.store_cells.proofs.Places.{position_at}
+use Rattle.page_image.specs.Image.{HasRoot, own, owns}
+use Rattle.page_image.proofs.Looks.{number_low}
+use Rattle.native_image.specs.Sound.{HasRaw}
+use Rattle.js_image.specs.Held.{IsConfined}
+use Rattle.life_laws.specs.Life.{Going, Seen, image, shown}
+use Rattle.turn_calls.specs.declared.turn.Shared.{Shared}
+use Rattle.life_queue.specs.declared.life.Life.{Life}
+use Rattle.life_queue.specs.Lives.{going_of, life_seen, own_of, trees_in}
+use Rattle.slot_picks.specs.Places.{HoldsItsOwn, accepts_of}
+use Rattle.widget_host.specs.declared.host.Host.{Host}
+use Rattle.widget_host.specs.Housed.{IsHoused, accepts, marked, seens}
+use Rattle.widget_host.specs.Shapes.{HasOneRaw, IsReadOff, cells_of_host, cells_of_widgets}
+use Rattle.widget_host.proofs.Lasts.{some_is}
+use Rattle.widget_host.proofs.Counting.{cells_counted}
+use Rattle.widget_host.proofs.Shown.{fine_at, life_accepted, life_at, own_at, seen_of_life}
+
+none_some : {A : Type 0} {a : A} → None ≡ Some a → ⊥
+none_some e = cc
+
+no_true : false ≡ true → ⊥
+no_true e = cc
+
+-- ## RawNodes
+
+raw_form : (n : ℕ) (f : Form) → is_raw n f ≡ true → f ≡ form.RawNode n
+raw_form n form.Object e = cc
+raw_form n form.Array e = cc
+raw_form n (form.Function p) e = cc
+raw_form n (form.Native m) e = cc
+raw_form n form.Scope e = cc
+raw_form n form.Bunch e = cc
+raw_form n (form.RawNode m) e = ap form.RawNode (sym (eqb-true n m e))
+raw_form n form.Global e = cc
+
+module _ (cells : List PlainCell) (n : ℕ) (law : (i m : ℕ) (c : PlainCell) → slice_get cells i ≡ Some c → node_in c.form ≡ Some m → raw_place m cells ≡ Some i) where
+  form_there : (i : ℕ) (c : PlainCell) → slice_get cells i ≡ Some c → form_at cells i ≡ Some c.form
+  form_there i c at = ap (option_and_then (λ (d : PlainCell). Some d.form)) at
+
+  cell_there : (i : ℕ) (f : Form) → form_at cells i ≡ Some f → (c : PlainCell) × (slice_get cells i ≡ Some c) × (c.form ≡ f)
+  cell_there i f is = by (slice_get cells i) refl is
+    where
+      by : (o : Option PlainCell) → slice_get cells i ≡ o → option_and_then (λ (d : PlainCell). Some d.form) o ≡ Some f → (c : PlainCell) × (slice_get cells i ≡ Some c) × (c.form ≡ f)
+      by None e g = absurd (none_some g)
+      by (Some c) e g = (c, e, some_is c.form f g)
+
+  found : (i : ℕ) → form_at cells i ≡ Some (form.RawNode n) → raw_place n cells ≡ Some i
+  found i is = let c = cell_there i (form.RawNode n) is in law i n c.0 c.1 (ap node_in c.2)
+
+  pub one_raw : HasRaw cells n → HasOneRaw cells n
+  one_raw has = by (raw_place n cells) refl has
+    where
+      by : (o : Option ℕ) → raw_place n cells ≡ o → is_some o ≡ true → HasOneRaw cells n
+      by None e h = absurd (no_true h)
+      by (Some i) e h =
+          let c = position_at (λ (d : PlainCell). is_raw n d.form) cells i e in
+          record {
+            place = i;
+            is = form_there i c.0 c.1 ∙ ap Some (raw_form n c.0.form c.2);
+            one = λ j is. some_is j i (sym (found j is) ∙ e);
+          }
+
+-- ## What is seen of a life
+
+read_shown : (h : Shared) (w : ℕ) (l : Life) (g : Option Going) → IsReadOff h w (shown g (own_of h w l))
+read_shown h w l None = record { heap = refl; scopes = refl; trees = refl; counts = refl }
+read_shown h w l (Some t) = record { heap = refl; scopes = refl; trees = refl; counts = refl }
+
+read_life : (h : Shared) (w : ℕ) (l : Life) → IsReadOff h w (image (life_seen h w l))
+read_life h w l = read_shown h w l (option_map (going_of h w l) l.turn)
+
+none_behind : (ls : List Life) (v : ℕ) → length ls ≤ v → slice_index_or (accepts_of ls) v false ≡ false
+none_behind [] v le = refl
+none_behind (l ∷ ls) zero le = absurd (omega (arith, le))
+none_behind (l ∷ ls) (suc v) le = none_behind ls v (omega (arith, le))
+
+module _ (h : Host) where
+  pub read_off : (v : ℕ) (s : Seen) → accepts h v ≡ true → slice_get (seens h) v ≡ Some s → IsReadOff h.crowd.shared v (image s)
+  unfolding accepts seens
+  read_off v s is at =
+      let r = life_at h.crowd.shared 0 v h.crowd.lives.items s at in
+      subst (λ (t : Seen). IsReadOff h.crowd.shared v (image t)) (sym (seen_of_life h.crowd.shared v h.crowd.lives.items r.0 s r.1 is at)) (read_life h.crowd.shared v r.0)
+
+  -- ## What each holds
+
+  module _ (housed : IsHoused h) where
+    pub holds_own : (v : ℕ) (l : Life) → slice_get h.crowd.lives.items v ≡ Some l → l.accepted ≡ true → HoldsItsOwn h.crowd.shared v l
+    unfolding IsHoused
+    holds_own v l at is = own_at h.crowd.shared 0 v v h.crowd.lives.items l (omega arith) at housed.0.own is
+
+    holds_accepted : (v : ℕ) → accepts h v ≡ true → (l : Life) × HoldsItsOwn h.crowd.shared v l
+    unfolding accepts
+    holds_accepted v is = let r = life_accepted h.crowd.lives.items v is in (r.0, holds_own v r.0 r.1 r.2)
+
+    pub confined_at : (v : ℕ) → accepts h v ≡ true → IsConfined (trees_in h.crowd.shared) v h.crowd.shared.store
+    confined_at v is = (holds_accepted v is).1.confined
+
+    pub root_at : (v : ℕ) → accepts h v ≡ true → HasRoot h.crowd.shared.page v
+    root_at v is = (holds_accepted v is).1.holds.home
+
+    -- a node is that of an accepted life
+    pub owner_at : (v n : ℕ) → owns h.crowd.shared.page v n ≡ true → accepts h v ≡ true
+    unfolding IsHoused
+    owner_at v n owned = by (accepts h v) refl
+      where
+        by : (b : Bool) → accepts h v ≡ b → b ≡ true
+        by true e = refl
+        by false e =
+            let low = number_low h.crowd.shared.page v n owned in
+            let none : length (own h.crowd.shared.page v) ≡ 0 = ap length (housed.0.others v e).nodes in
+            absurd (omega (arith, low, none))
+
+    pub raw_at : marked h ≡ false → (v n : ℕ) → owns h.crowd.shared.page v n ≡ true → HasRaw h.crowd.shared.store.cells n
+    unfolding IsHoused accepts
+    raw_at unmarked v n owned =
+        let r = life_accepted h.crowd.lives.items v (owner_at v n owned) in
+        (fine_at h.crowd.shared 0 v v h.crowd.lives.items r.0 (omega arith) r.1 (housed.1 unmarked).slots.crowd.fine r.2).sound.raws v n owned
+
+    -- the cells are the host's and those of its lives
+    pub counted_at : length h.crowd.shared.store.cells ≡ cells_of_host h.crowd.shared.store + cells_of_widgets h.crowd.shared.store (length h.crowd.lives.items)
+    unfolding IsHoused accepts
+    counted_at = cells_counted h.crowd.shared.store (length h.crowd.lives.items) (λ v le. (housed.0.others v (none_behind h.crowd.lives.items v le)).cells)

@@ -1,0 +1,34 @@
+use Rattle.std.proofs.Common.{◌≡◌, ℕ, false, true, List, [], ◌∷◌, ap, map}
+use Rattle.std.proofs.lemmas.Result.{on_ok_weaker}
+use Rattle.life_laws.specs.Life.{due, image}
+use Rattle.slot_laws.specs.Chains.{last_life}
+use Rattle.widget_host.specs.Housed.{chains, dues_after, given, homes, seens}
+use Rattle.widget_host.proofs.Staying.{accepts_then, laid_then, ok_then}
+use Rattle.widget_host.proofs.host.Host.item.Goals as goal
+
+pub returns-clause-done : goal.returns-clause-done
+returns-clause-done g c =
+    ok_then c.settle.result (map image (seens c.settle.new.self)) (map due (seens c.give.new.self)) (dues_after c.args.self.now c.args.item 0 (map due (seens c.args.self.now))) c.settle.ensures.done c.in_ok-give.ensures.gives.dues
+
+pub returns-clause-settled : goal.returns-clause-settled
+returns-clause-settled g c = on_ok_weaker c.settle.result (λ s. (c.give.new.self, c.in_ok-give.ensures.gives, s)) c.settle.ensures.settled
+
+pub returns-clause-chains : goal.returns-clause-chains
+returns-clause-chains g c =
+    let lasts : List (List ℕ) → List (List ℕ) = map (λ vs. last_life vs ∷ []) in
+    ok_then c.settle.result (chains c.settle.new.self) (lasts (chains c.give.new.self)) (lasts (chains c.args.self.now)) c.settle.ensures.chains (ap lasts c.in_ok-give.ensures.gives.chains)
+
+pub returns-clause-homes : goal.returns-clause-homes
+returns-clause-homes g c = ok_then c.settle.result (homes c.settle.new.self) (homes c.give.new.self) (homes c.args.self.now) c.settle.ensures.homes c.in_ok-give.ensures.gives.homes
+
+pub returns-clause-given : goal.returns-clause-given
+returns-clause-given g c = ok_then c.settle.result (given c.settle.new.self) (given c.give.new.self) _ c.settle.ensures.given c.in_ok-give.ensures.gives.given
+
+pub returns-clause-accepts : goal.returns-clause-accepts
+returns-clause-accepts g c = accepts_then c.args.self.now c.give.new.self c.settle.new.self c.settle.result c.settle.ensures.accepts c.in_ok-give.ensures.gives.accepts
+
+pub returns-clause-laid : goal.returns-clause-laid
+returns-clause-laid g c = laid_then c.args.self.now c.give.new.self c.settle.new.self c.settle.result c.settle.ensures.laid c.in_ok-give.ensures.gives.laid
+
+pub returns-clause-marked : goal.returns-clause-marked
+returns-clause-marked g c = λ is. absurd (let both : false ≡ true = c.in_ok-give.ensures.marked is in cc)
