@@ -16,7 +16,7 @@ CALLS = {
 
 def took(call, count):
     """Milliseconds and megabytes of so many calls."""
-    status, time, memory, _ = best({}, [call, str(count)], 7)
+    status, time, memory, _ = best({}, [call, str(count)], 5)
     if status != 0:
         raise SystemExit("%s, %d times: status %d" % (call, count, status))
     return time, memory
