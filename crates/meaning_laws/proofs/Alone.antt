@@ -1,13 +1,13 @@
 -- What is there stays there over turns, items and the load.
-use Rattle.std.proofs.Common.{ℕ, zero, suc, ◌+◌, ◌<◌, ◌≤◌, List, [], ◌∷◌, length, Bool, true, false, arith}
+use Rattle.std.proofs.Common.{ℕ, zero, suc, ◌+◌, ◌<◌, ◌≤◌, List, [], ◌∷◌, length, Bool, true, false, sym, subst, arith}
 use Rattle.std.specs.Prelude.{codes, nat_lt, nat_le, nat_eq, if◌then◌else◌, Option, Some, None, replicate, slice_get, slice_index_or}
 use Rattle.std.specs.List.{AllByRecursion, fold}
 use Rattle.std.proofs.lemmas.List.{length-replicate}
 use Rattle.js_tree.specs.Plain.{Stmts, Fun}
-use Rattle.plain_tree.specs.Trees.{Label, TextOf, ElementOf, Node, size}
+use Rattle.plain_tree.specs.Trees.{Label, TextOf, ElementOf, Node, size, height}
 use Rattle.plain_tree.specs.Trees.{End as NoTrees}
 use Rattle.tree_ops.specs.Labels.{with_attribute}
-use Rattle.widget_meaning.specs.Limits.{max_units}
+use Rattle.widget_meaning.specs.Limits.{max_units, max_node_depth}
 use Rattle.widget_meaning.specs.Values.{Normal, Is, Refers, Return, Break, Continue, Throw, Stop}
 use Rattle.widget_meaning.specs.Trees.{Trees, relabelled, label_of, node_at, child_at, first_children}
 use Rattle.widget_meaning.specs.OwnState.{OwnState, State, Timer, plain_object, nothing_kept}
@@ -20,6 +20,7 @@ use Rattle.widget_meaning.specs.Alone.{Content, alone_from, beginning, loaded, l
 use Rattle.widget_meaning.proofs.Times.{relabelled_once, times_numbered}
 use Rattle.meaning_laws.specs.There.{Sizes, sizes, ValueIs, NodeIs, OfNode, CellIs, KeptIs, IsBelow, IsShort, IsThere, JobIs, cell_in}
 use Rattle.meaning_laws.proofs.Later.{same_size}
+use Rattle.meaning_laws.proofs.Levels.{height_numbered, height_relabelled}
 use Rattle.meaning_laws.proofs.Values.{undefined_is, text_is, no_pairs}
 use Rattle.meaning_laws.proofs.Steps.{R, Stands, Keeps, ended, job, there_later, plain_is}
 use Rattle.meaning_laws.proofs.Nodes.{InTrees, page_in, tops_in}
@@ -97,6 +98,7 @@ without_r t o h = record {
   kept = h.kept;
   timers = left_are (sizes o) t.due o.timers h.timers;
   page = h.page;
+  low = h.low;
   focused = h.focused;
   lib = h.lib;
   root = h.root;
@@ -124,6 +126,7 @@ labelled o n l h = record {
   kept = h.kept;
   timers = h.timers;
   page = relabelled_once o.forest (length o.kept) n l h.page;
+  low = subst (λ x. x ≤ max_node_depth + 1) (sym (height_relabelled n l o.forest)) h.low;
   focused = h.focused;
   lib = h.lib;
   root = h.root;
@@ -220,7 +223,7 @@ libraries_r [] o h = h
 libraries_r (l ∷ ls) o h = libraries_r ls (load_library o l) (unless_r o.stop o (library_turn (call_parts l)) h (λ p k. library_r (call_parts l) p k))
 
 -- the widget before its first turn
-module _ (w : Content) (grant : ℕ) (some : 1 ≤ size w.root) where
+module _ (w : Content) (grant : ℕ) (some : 1 ≤ size w.root) (lows : height w.root ≤ max_node_depth + 1) where
   nothing_names : (n : ℕ) → KeptIs (sizes (beginning w grant)) (slice_index_or (replicate (size w.root) nothing_kept) n nothing_kept)
   nothing_names n = by (size w.root) n
     where
@@ -242,6 +245,7 @@ module _ (w : Content) (grant : ℕ) (some : 1 ≤ size w.root) where
       there = λ n h. (times_numbered n 0 w.root).past (omega (arith, h, length-replicate (size w.root) nothing_kept));
     };
     focused = tt;
+    low = subst (λ x. x ≤ max_node_depth + 1) (sym (height_numbered 0 w.root)) lows;
     lib = record { born = omega arith };
     root = record { born = omega (arith, some, length-replicate (size w.root) nothing_kept) };
   }

@@ -1,9 +1,10 @@
 -- The laws of own states hold.
-use Rattle.std.proofs.Common.{ℕ, suc, ◌+◌, ◌≤◌, arith}
+use Rattle.std.proofs.Common.{ℕ, suc, length, ◌+◌, ◌≤◌, arith}
 use Rattle.std.specs.Prelude.{[], Some}
 use Rattle.widget_meaning.specs.Limits.{max_chain}
 use Rattle.widget_meaning.specs.Alone.{loaded}
-use Rattle.meaning_laws.specs.ThereLaws.{ChainLaws, ThereLaws}
+use Rattle.widget_meaning.proofs.Ancestors.{ancestor_laws}
+use Rattle.meaning_laws.specs.ThereLaws.{ChainLaws, ThereLaws, WayLaws}
 use Rattle.meaning_laws.proofs.Chains.{all_short, read_ends, list_ends}
 use Rattle.meaning_laws.proofs.Alone.{job_keeps, items_r, loaded_r}
 
@@ -14,7 +15,7 @@ pub there_laws : ThereLaws
 there_laws = record {
   jobs = job_keeps;
   kept = items_r;
-  whole = λ w grant is h. items_r (loaded w grant) is (loaded_r w grant h);
+  whole = λ w grant is h l. items_r (loaded w grant) is (loaded_r w grant h l);
 }
 
 pub chain_laws : ChainLaws
@@ -22,3 +23,6 @@ chain_laws = record {
   reads = λ s v x more h. read_ends (suc max_chain) (suc max_chain + more) (no_fewer (suc max_chain) more) s (Some v) x (all_short s.own.heap v h.chains);
   lists = λ s v more h. list_ends (suc max_chain) (suc max_chain + more) (no_fewer (suc max_chain) more) s (Some v) [] (all_short s.own.heap v h.chains);
 }
+
+pub way_laws : WayLaws
+way_laws s o kind more h = ancestor_laws s o kind (length s.own.kept) more h.page h.low

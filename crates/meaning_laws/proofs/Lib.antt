@@ -2,6 +2,10 @@ pub mod Each
 pub mod Later
 pub mod Values
 pub mod Chains
+pub mod Levels
+pub mod Low
+pub mod Deep
+pub mod Written
 pub mod Steps
 pub mod Results
 pub mod Nodes

@@ -1,5 +1,5 @@
 -- Nodes that stand in a widget's page are there.
-use Rattle.std.proofs.Common.{◌≡◌, ℕ, zero, suc, ◌<◌, ◌≤◌, List, [], ◌∷◌, ◌++◌, Bool, true, false, refl, sym, ◌∙◌, eqb, eq-eqb, eqb-true, subst, ⊎_elim}
+use Rattle.std.proofs.Common.{◌≡◌, ℕ, zero, suc, ◌<◌, ◌≤◌, List, [], ◌∷◌, ◌++◌, Bool, true, false, refl, sym, ◌∙◌, eqb, eq-eqb, eqb-true, subst, arith, length, ⊎_elim}
 use Rattle.std.specs.Prelude.{Option, Some, None, nat_lt, nat_eq, not, if◌then◌else◌}
 use Rattle.std.specs.List.{AllByRecursion, filter, filter_map, cons_option, list_any, flat_map}
 use Rattle.std.specs.Option.{option_or}
@@ -20,13 +20,16 @@ use Rattle.widget_meaning.specs.Dispatch.{listening, here_or_above, nearest_from
 use Rattle.widget_meaning.specs.PageForms.{once}
 use Rattle.widget_meaning.proofs.Times.{none_of}
 use Rattle.meaning_laws.specs.There.{Sizes, NodeIs, NodesAre, OfNode, FunctionsAre}
-use Rattle.meaning_laws.proofs.Each.{each_filtered, each_mapped, each_both}
+use Rattle.meaning_laws.proofs.Each.{every, each_filtered, each_mapped, each_both}
 use Rattle.meaning_laws.proofs.Steps.{R}
 
 -- a predicate on each number
 abbrev pub InTrees : (ℕ → Type 0) → Trees → Type 0
 InTrees P End = Unit {0}
 InTrees P (Node n l ks ts) = P n × (InTrees P ks × InTrees P ts)
+
+less : (i m n : ℕ) → i < m → m ≤ n → i < n
+less i m n l h = omega arith
 
 no_test : false ≡ true → ⊥
 no_test e = cc
@@ -145,3 +148,7 @@ module _ (m : Sizes) (s : State) (h : R m s) where
 
   pub parents_are : (ns : List ℕ) → NodesAre m (once [] (filter_map (λ n. parent n s.own.forest) ns))
   parents_are ns = record { each = once_are [] _ tt (parents_of ns) }
+
+  -- and below how many there are now
+  pub nodes_below : (ns : List ℕ) → AllByRecursion (NodeIs m) ns → AllByRecursion (λ n. n < length s.own.kept) ns
+  nodes_below ns q = every (NodeIs m) (λ n. n < length s.own.kept) (λ n k. less n m.nodes (length s.own.kept) k.born h.wide.nodes) ns q

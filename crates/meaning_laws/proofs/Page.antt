@@ -39,7 +39,11 @@ use Rattle.widget_meaning.specs.NodeLaws.{IsPage}
 use Rattle.widget_meaning.specs.BunchWrites.{styled, with_handler, with_focus, left_focus, is_target, has_new_text, is_no_root, is_value_target}
 use Rattle.widget_meaning.proofs.Times.{relabelled_once, moved_once, detached_once, grown_once, born_once}
 use Rattle.meaning_laws.proofs.Each.{each_both, each_filtered, each_mapped, each_made, each_in_range}
-use Rattle.meaning_laws.proofs.Nodes.{query_finds, parents_are}
+use Rattle.widget_meaning.specs.Limits.{max_node_depth}
+use Rattle.meaning_laws.proofs.Levels.{low_detached, height_relabelled}
+use Rattle.meaning_laws.proofs.Low.{IsLow, MayTake, low_put, low_copies, takes_still, target_takes, targets_take, both_true}
+use Rattle.meaning_laws.proofs.Written.{IsReady, IsOpen, low_text, low_new, open_freed, open_other, ready_valued, all_ready}
+use Rattle.meaning_laws.proofs.Nodes.{query_finds, parents_are, nodes_below}
 use Rattle.meaning_laws.proofs.Steps.{stands, wants, higher, ended_at, paged, page_later, roomy, room_grows, rekept, focused}
 use Rattle.meaning_laws.proofs.Forms.{Hosted, bunch_hosted, array_hosted, all_born, with_more, more_grows, array_is, bunch_cell, bunch_is, dispatch_r, bubble_r}
 use Rattle.meaning_laws.proofs.Natives.{give_texts_r, global_native_r, make_bunch_r, math_native_r, on_bunch_r, want_function_r, want_primitives_r}
@@ -57,8 +61,8 @@ module _ (m : Sizes) where
   fold_kept f k (n ∷ ns) s hr = fold_kept f k ns (f s n) (k s n hr)
 
   -- ## The page
-  with_page : (s : State) (g : Trees) → R m s → IsPage g m.nodes → R m (with_forest s g)
-  with_page s g h q = paged m s.own.heap s.own.scopes s.own.kept s.own.timers s.own.forest s.own.focus g h q
+  with_page : (s : State) (g : Trees) → R m s → IsPage g m.nodes → IsLow g → R m (with_forest s g)
+  with_page s g h q l = paged m s.own.heap s.own.scopes s.own.kept s.own.timers s.own.forest s.own.focus g h q l
 
   all_put : (p k : ℕ) (next : Option ℕ) (ms : List ℕ) (ts : Trees) → IsPage ts k → IsPage (fold (moved p next) ts ms) k
   all_put p k next [] ts h = h
@@ -68,20 +72,25 @@ module _ (m : Sizes) where
   all_freed k [] ts h = h
   all_freed k (n ∷ ms) ts h = all_freed k ms (detached ts n) (detached_once ts k n h)
 
-  put_kept : (p : ℕ) (ms : List ℕ) (s : State) → R m s → R m (with_forest s (fold (moved p None) s.own.forest ms))
-  put_kept p ms s h = with_page s _ h (all_put p m.nodes None ms s.own.forest h.there.page)
+  all_low : (ms : List ℕ) (ts : Trees) → IsLow ts → IsLow (fold detached ts ms)
+  all_low [] ts h = h
+  all_low (n ∷ ms) ts h = all_low ms (detached ts n) (low_detached n (max_node_depth + 1) ts h)
 
-  replaced_kept : (p n : ℕ) (ms : List ℕ) (s : State) → R m s → R m (with_forest s (detached (fold (moved p (Some n)) s.own.forest ms) n))
-  replaced_kept p n ms s h = with_page s _ h (detached_once _ m.nodes n (all_put p m.nodes (Some n) ms s.own.forest h.there.page))
+  put_kept : (p : ℕ) (ms : List ℕ) (s : State) → R m s → MayTake ms s.own.forest p → R m (with_forest s (fold (moved p None) s.own.forest ms))
+  put_kept p ms s h t = with_page s _ h (all_put p m.nodes None ms s.own.forest h.there.page) (low_put p t.depth None ms s.own.forest h.there.low t.within t.each)
+
+  replaced_kept : (p n : ℕ) (ms : List ℕ) (s : State) → R m s → MayTake ms s.own.forest p → R m (with_forest s (detached (fold (moved p (Some n)) s.own.forest ms) n))
+  replaced_kept p n ms s h t = with_page s _ h (detached_once _ m.nodes n (all_put p m.nodes (Some n) ms s.own.forest h.there.page))
+      (low_detached n (max_node_depth + 1) _ (low_put p t.depth (Some n) ms s.own.forest h.there.low t.within t.each))
 
   removed_kept : (s : State) (n : ℕ) → R m s → R m (with_forest s (detached s.own.forest n))
-  removed_kept s n h = with_page s _ h (detached_once s.own.forest m.nodes n h.there.page)
+  removed_kept s n h = with_page s _ h (detached_once s.own.forest m.nodes n h.there.page) (low_detached n (max_node_depth + 1) s.own.forest h.there.low)
 
   emptied_kept : (s : State) (n : ℕ) → R m s → R m (emptied s n)
-  emptied_kept s n h = with_page s _ h (all_freed m.nodes (tops (children n s.own.forest)) s.own.forest h.there.page)
+  emptied_kept s n h = with_page s _ h (all_freed m.nodes (tops (children n s.own.forest)) s.own.forest h.there.page) (all_low (tops (children n s.own.forest)) s.own.forest h.there.low)
 
   one_label_kept : (s : State) (n : ℕ) (l : Label) → R m s → R m (with_label s n l)
-  one_label_kept s n l h = with_page s _ h (relabelled_once s.own.forest m.nodes n l h.there.page)
+  one_label_kept s n l h = with_page s _ h (relabelled_once s.own.forest m.nodes n l h.there.page) (subst (λ x. x ≤ max_node_depth + 1) (sym (height_relabelled n l s.own.forest)) h.there.low)
 
   label_kept : (l : Option Label) (n : ℕ) (f : Label → Label) (s : State) → R m s → R m (option_map_or (λ v. with_label s n (f v)) l s)
   label_kept None n f s hr = hr
@@ -118,44 +127,54 @@ module _ (m : Sizes) where
   now_page : (s : State) → R m s → IsPage s.own.forest (length s.own.kept)
   now_page s h = page_later s.own.forest m.nodes (length s.own.kept) h.wide.nodes h.there.page
 
-  room_stands : (s : State) (g : Trees) (k : ℕ) → R m s → IsPage g (length s.own.kept + k) → Stands m (with_room k (with_forest s g))
-  room_stands s g k h q = record { size = _; grows = room_grows m s.own.heap s.own.scopes s.own.kept s.own.timers s.own.forest s.own.focus k h; fine = roomy m s.own.heap s.own.scopes s.own.kept s.own.timers s.own.forest s.own.focus g k h (room_page s g k q) }
+  room_stands : (s : State) (g : Trees) (k : ℕ) → R m s → IsPage g (length s.own.kept + k) → IsLow g → Stands m (with_room k (with_forest s g))
+  room_stands s g k h q l = record { size = _; grows = room_grows m s.own.heap s.own.scopes s.own.kept s.own.timers s.own.forest s.own.focus k h; fine = roomy m s.own.heap s.own.scopes s.own.kept s.own.timers s.own.forest s.own.focus g k h (room_page s g k q) l }
 
-  copies_stand : (t : ℕ) (ms : List ℕ) (s : State) → R m s → Stands m (with_copies t ms s)
-  copies_stand t ms s h =
+  copies_stand : (t : ℕ) (ms : List ℕ) (s : State) → R m s → MayTake ms s.own.forest t → Stands m (with_copies t ms s)
+  copies_stand t ms s h k =
       let us : Trees = copied (subtrees ms s.own.forest) in
       room_stands s (grafted t None (numbered (length s.own.kept) us) s.own.forest) (size (numbered (length s.own.kept) us)) h
-      (grown_once s.own.forest us (length s.own.kept) t None (now_page s h))
+      (grown_once s.own.forest us (length s.own.kept) t None (now_page s h)) (low_copies t (length s.own.kept) ms s.own.forest h.there.low k)
 
-  text_node_stands : (n : ℕ) (t : List ℕ) (s : State) → R m s → Stands m (with_text_node n t s)
-  text_node_stands n [] s h = stands m s h
-  text_node_stands n (u ∷ us) s h =
+  text_node_stands : (n : ℕ) (t : List ℕ) (s : State) → R m s → IsOpen t n s.own.forest → Stands m (with_text_node n t s)
+  text_node_stands n [] s h w = stands m s h
+  text_node_stands n (u ∷ us) s h w =
       room_stands s (grafted n None (Node (length s.own.kept) (TextOf (u ∷ us)) End End) s.own.forest) 1 h
-      (grown_once s.own.forest (Node 0 (TextOf (u ∷ us)) End End) (length s.own.kept) n None (now_page s h))
+      (grown_once s.own.forest (Node 0 (TextOf (u ∷ us)) End End) (length s.own.kept) n None (now_page s h)) (low_text n (length s.own.kept) (u ∷ us) s.own.forest h.there.low w)
 
   node_kept : (l : Label) (s : State) → R m s → R (record { objects = m.objects; nodes = length (s.own.kept ++ replicate 1 nothing_kept) }) (with_node l s)
   node_kept l s h = roomy m s.own.heap s.own.scopes s.own.kept s.own.timers s.own.forest s.own.focus (with_detached (Node (length s.own.kept) l End End) s.own.forest) 1 h
-      (room_page s _ 1 (born_once s.own.forest (length s.own.kept) l (now_page s h)))
+      (room_page s _ 1 (born_once s.own.forest (length s.own.kept) l (now_page s h))) (low_new (length s.own.kept) l s.own.forest h.there.low)
 
-  either_stands : (b : Bool) (p q : State) → Stands m p → Stands m q → Stands m (if b then p else q)
-  either_stands true p q h k = h
-  either_stands false p q h k = k
+  -- by the label that a node has: an `input`, a text node, another element
+  valued_at : (t : List ℕ) (s : State) (n : ℕ) → R m s → IsReady t n s.own.forest → Stands m (valued t s n)
+  valued_at t s n h r = by_own (is_input s n) (is_text_node s n) refl refl
+    where
+      by_own : (b c : Bool) → is_input s n ≡ b → is_text_node s n ≡ c
+          → Stands m (if b then relabel (with_attribute (codes "value") (Some t)) s n else if c then with_label s n (TextOf t) else with_text_node n t (emptied s n))
+      by_own true c x y = stands m _ (relabel_kept (with_attribute (codes "value") (Some t)) s n h)
+      by_own false true x y = stands m _ (one_label_kept s n (TextOf t) h)
+      by_own false false x y = text_node_stands n t (emptied s n) (emptied_kept s n h) (open_freed t n (tops (children n s.own.forest)) s.own.forest (open_other t s n (h.there.page.once n) r x y))
 
-  valued_stands : (t : List ℕ) (s : State) (n : ℕ) → R m s → Stands m (valued t s n)
-  valued_stands t s n h =
-      either_stands (is_input s n) _ _ (stands m _ (relabel_kept (with_attribute (codes "value") (Some t)) s n h))
-      (either_stands (is_text_node s n) _ _ (stands m _ (one_label_kept s n (TextOf t) h)) (text_node_stands n t (emptied s n) (emptied_kept s n h)))
+appended_kept : (m : Sizes) (ns ms : List ℕ) (s : State) → R m s → AllByRecursion (MayTake ms s.own.forest) ns → NodesAre m ns → NodesAre m ms → Stands m (appended ns ms s)
+appended_kept m [] ms s h t hn hm = stands m s h
+appended_kept m (p ∷ []) ms s h t hn hm = stands m _ (put_kept m p ms s h t.0)
+appended_kept m (p ∷ q ∷ ns) ms s h t hn hm = let z : Stands m (with_copies p ms s) = copies_stand m p ms s h t.0 in
+    higher m z.size _ z.grows (appended_kept z.size (q ∷ ns) ms (with_copies p ms s) z.fine
+    (all_take (q ∷ ns) t.1 (nodes_below m s h (q ∷ ns) hn.each.1)) (nodes_later m z.size (q ∷ ns) z.grows (record { each = hn.each.1 })) (nodes_later m z.size ms z.grows hm))
+  where
+    all_take : (us : List ℕ) → AllByRecursion (MayTake ms s.own.forest) us → AllByRecursion (λ n. n < length s.own.kept) us → AllByRecursion (MayTake ms (with_copies p ms s).own.forest) us
+    all_take [] a b = tt
+    all_take (u ∷ us) a b = (takes_still u p (length s.own.kept) ms (copied (subtrees ms s.own.forest)) s.own.forest b.0 (nodes_below m s h ms hm.each) t.0 a.0, all_take us a.1 b.1)
 
-appended_kept : (m : Sizes) (ns ms : List ℕ) (s : State) → R m s → Stands m (appended ns ms s)
-appended_kept m [] ms s h = stands m s h
-appended_kept m (t ∷ []) ms s h = stands m _ (put_kept m t ms s h)
-appended_kept m (t ∷ u ∷ ts) ms s h = let z : Stands m (with_copies t ms s) = copies_stand m t ms s h in
-    higher m z.size _ z.grows (appended_kept z.size (u ∷ ts) ms (with_copies t ms s) z.fine)
-
-each_valued : (m : Sizes) (t ns : List ℕ) (s : State) → R m s → Stands m (fold (valued t) s ns)
-each_valued m t [] s h = stands m s h
-each_valued m t (n ∷ ns) s h = let z : Stands m (valued t s n) = valued_stands m t s n h in
-    higher m z.size _ z.grows (each_valued z.size t ns (valued t s n) z.fine)
+each_valued : (m : Sizes) (t ns : List ℕ) (s : State) → R m s → AllByRecursion (λ n. IsReady t n s.own.forest) ns → NodesAre m ns → Stands m (fold (valued t) s ns)
+each_valued m t [] s h r hn = stands m s h
+each_valued m t (n ∷ ns) s h r hn = let z : Stands m (valued t s n) = valued_at m t s n h r.0 in
+    higher m z.size _ z.grows (each_valued z.size t ns (valued t s n) z.fine (all_ready ns r.1 (nodes_below m s h ns hn.each.1)) (nodes_later m z.size ns z.grows (record { each = hn.each.1 })))
+  where
+    all_ready : (us : List ℕ) → AllByRecursion (λ i. IsReady t i s.own.forest) us → AllByRecursion (λ i. i < length s.own.kept) us → AllByRecursion (λ i. IsReady t i (valued t s n).own.forest) us
+    all_ready [] a b = tt
+    all_ready (u ∷ us) a b = (ready_valued t s n u b.0 a.0, all_ready us a.1 b.1)
 
 -- ## Bunches of one node each
 
@@ -256,27 +275,30 @@ alter_r m extra b s f hr hb f0 = charged m _ s _ hr (ended_at m (Is b) (f s) (f0
 pub alter_for_r : (m : Sizes) (extra units nodes : ℕ) (b : Value) (s : State) (f : State → State) → R m s → ValueIs m b → ((t : State) → R m t → Stands m (f t)) → Keeps m (alter_for extra units nodes b s f)
 alter_for_r m extra units nodes b s f hr hb f0 = charged m _ s _ hr (paid m (cost units 0 0 nodes) s (λ t. give b (f t)) hr (λ a u. ended_at m (Is b) (f (with_counts s a)) (f0 (with_counts s a) u) (λ n g. value_end n b (value_later m n b g hb))))
 
+pub append_trees_r : (m : Sizes) (ns ms : List ℕ) (us : Trees) (b : Value) (s : State) → R m s → ValueIs m b → AllByRecursion (MayTake ms s.own.forest) ns → NodesAre m ns → NodesAre m ms → Keeps m (append_trees ns ms us b s)
+append_trees_r m ns ms us b s hr hb q hn hm = charged m (length ns * size us) s _ hr (paid m (cost ((length ns - 1) * tree_units us) 0 0 ((length ns - 1) * size us)) s (λ t. give b (appended ns ms t)) hr
+    (λ a u. ended_at m (Is b) (appended ns ms (with_counts s a)) (appended_kept m ns ms (with_counts s a) u q hn hm) (λ n g. value_end n b (value_later m n b g hb))))
+
 pub alter_each_r : (m : Sizes) (f : State → ℕ → State) (ns : List ℕ) (b : Value) (s : State) → R m s → ValueIs m b → ((t : State) (n : ℕ) → R m t → R m (f t n)) → Keeps m (alter_each f ns b s)
 alter_each_r m f ns b s hr hb f0 = alter_r m (length ns) b s (λ t. fold f t ns) hr hb (λ t u. stands m _ (fold_kept m f f0 ns t u))
 
 each_change_r : (m : Sizes) (f : Kept → Kept) (ns : List ℕ) (b : Value) (s : State) → R m s → ValueIs m b → ((k : Kept) → KeptIs m k → KeptIs m (f k)) → Keeps m (alter_each (change_kept f) ns b s)
 each_change_r m f ns b s hr hb q = alter_each_r m (change_kept f) ns b s hr hb (λ t n u. changed_kept m f t n u q)
 
-pub append_trees_r : (m : Sizes) (x0 : List ℕ) (x1 : List ℕ) (x2 : Trees) (x3 : Value) (x4 : State) → R m x4 → ValueIs m x3 → Keeps m (append_trees x0 x1 x2 x3 x4)
-append_trees_r m ns ms us b s hr h3 = alter_for_r m (length ns * size us) ((length ns - 1) * tree_units us) ((length ns - 1) * size us) b s (appended ns ms) hr h3 (λ t u. appended_kept m ns ms t u)
-
-pub append_r : (m : Sizes) (x0 : List ℕ) (x1 : Value) (x2 : Value) (x3 : State) → R m x3 → ValueIs m x2 → Keeps m (append x0 x1 x2 x3)
-append_r m ns v b s hr h2 = want_bunch_r m v s _ hr (λ ms hm. wanted m E10 (list_all (is_target s ms) ns) s _ hr (λ _. wanted m E10 (list_all is_no_root ms) s _ hr (λ _. append_trees_r m ns ms (subtrees ms s.own.forest) b s hr h2)))
+pub append_r : (m : Sizes) (x0 : List ℕ) (x1 : Value) (x2 : Value) (x3 : State) → R m x3 → ValueIs m x2 → NodesAre m x0 → Keeps m (append x0 x1 x2 x3)
+append_r m ns v b s hr h2 hn = want_bunch_r m v s _ hr (λ ms hm. wanted m E10 (list_all (is_target s ms) ns) s _ hr (λ e. wanted m E10 (list_all is_no_root ms) s _ hr (λ _. append_trees_r m ns ms (subtrees ms s.own.forest) b s hr h2 (targets_take s m.nodes ms ns hr.there.page e) hn hm)))
 
 pub remove_r : (m : Sizes) (x0 : List ℕ) (x1 : Value) (x2 : State) → R m x2 → ValueIs m x1 → Keeps m (remove x0 x1 x2)
 remove_r m ns b s hr h1 = wanted m E10 (list_all is_no_root ns) s _ hr (λ _. alter_each_r m (λ t n. with_forest t (detached t.own.forest n)) ns b s hr h1 (λ t n u. removed_kept m t n u))
 
 pub replace_r : (m : Sizes) (x0 : List ℕ) (x1 : Value) (x2 : Value) (x3 : State) → R m x3 → ValueIs m x2 → NodesAre m x0 → Keeps m (replace x0 x1 x2 x3)
 replace_r m ns v b s hr h2 hn = want_one_r m ns s _ hr hn (λ n k. want_bunch_r m v s _ hr (λ ms hm. found m E10 (parent n s.own.forest) s (λ p. want E10 (not (has_number ms n) && is_target s ms p) s (alter 1 b s (λ t. with_forest t (detached (fold (moved p (Some n)) t.own.forest ms) n)))) hr (λ p e. wanted m E10 (not (has_number ms n) && is_target s ms p) s _ hr (λ x.
-    alter_r m 1 b s (λ t. with_forest t (detached (fold (moved p (Some n)) t.own.forest ms) n)) hr h2 (λ t u. stands m _ (replaced_kept m p n ms t u))))))
+    charged m 1 s _ hr (ended m (Is b) (with_forest s (detached (fold (moved p (Some n)) s.own.forest ms) n))
+    (replaced_kept m p n ms s hr (target_takes s m.nodes p ms hr.there.page (both_true (not (has_number ms n)) (is_target s ms p) x).1)) (value_end m b h2))))))
 
-pub set_value_r : (m : Sizes) (x0 : List ℕ) (x1 : List ℕ) (x2 : Value) (x3 : State) → R m x3 → ValueIs m x2 → Keeps m (set_value x0 x1 x2 x3)
-set_value_r m ns t b s hr h2 = wanted m E10 (list_all (is_value_target s t) ns) s _ hr (λ _. alter_for_r m (length ns) (length ns * length t) (count_by (has_new_text s t) ns) b s (λ u. fold (valued t) u ns) hr h2 (λ u z. each_valued m t ns u z))
+pub set_value_r : (m : Sizes) (x0 : List ℕ) (x1 : List ℕ) (x2 : Value) (x3 : State) → R m x3 → ValueIs m x2 → NodesAre m x0 → Keeps m (set_value x0 x1 x2 x3)
+set_value_r m ns t b s hr h2 hn = wanted m E10 (list_all (is_value_target s t) ns) s _ hr (λ e. charged m (length ns) s _ hr (paid m (cost (length ns * length t) 0 0 (count_by (has_new_text s t) ns)) s (λ u. give b (fold (valued t) u ns)) hr
+    (λ a u. ended_at m (Is b) (fold (valued t) (with_counts s a) ns) (each_valued m t ns (with_counts s a) u (all_ready s t ns (λ n. hr.there.page.once n) e) hn) (λ n g. value_end n b (value_later m n b g h2)))))
 
 pub set_style_r : (m : Sizes) (x0 : List ℕ) (x1 : List ℕ) (x2 : List ℕ) (x3 : Value) (x4 : State) → R m x4 → ValueIs m x3 → Keeps m (set_style x0 x1 x2 x3 x4)
 set_style_r m ns p v b s hr h3 = wanted m E4 (is_listed p && (nat_eq (length v) 0 || is_value v)) s _ hr (λ e. wanted m E10 (list_all (is_element s) ns) s _ hr (λ _. alter_for_r m (length ns) (length ns * length v) 0 b s (λ t. fold (relabel (styled p v)) t ns) hr h3 (λ t u. stands m _ (fold_kept m (relabel (styled p v)) (relabel_kept m (styled p v)) ns t u))))
@@ -324,11 +346,11 @@ each_r m ns f b d s hr h1 h2 hn = want_function_r m f s _ hr (charged m _ s _ hr
     (value_later m n f g h1) (bunch_values n (length s.own.heap) (length ns) (omega (arith, length-map ns (λ i. new_bunch (i ∷ []))))) (value_later m n b g h2)))))
 
 pub write_method_r : (m : Sizes) (x0 : WriteNative) (x1 : List ℕ) (x2 : Value) (x3 : List Value) (x4 : ℕ) (x5 : State) → R m x5 → ValueIs m x2 → ValuesAre m x3 → NodesAre m x1 → Keeps m (write_method x0 x1 x2 x3 x4 x5)
-write_method_r m Append ns b vs d s hr h2 h3 hn = append_r m ns (nth 0 vs) b s hr h2
+write_method_r m Append ns b vs d s hr h2 h3 hn = append_r m ns (nth 0 vs) b s hr h2 hn
 write_method_r m Remove ns b vs d s hr h2 h3 hn = remove_r m ns b s hr h2
 write_method_r m Empty ns b vs d s hr h2 h3 hn = alter_each_r m emptied ns b s hr h2 (emptied_kept m)
 write_method_r m Replace ns b vs d s hr h2 h3 hn = replace_r m ns (nth 0 vs) b s hr h2 hn
-write_method_r m SetValue ns b vs d s hr h2 h3 hn = wanted m E4 (not (list_any is_object (nth 0 vs ∷ []))) s _ hr (λ _. set_value_r m ns (to_text (nth 0 vs)) b s hr h2)
+write_method_r m SetValue ns b vs d s hr h2 h3 hn = wanted m E4 (not (list_any is_object (nth 0 vs ∷ []))) s _ hr (λ _. set_value_r m ns (to_text (nth 0 vs)) b s hr h2 hn)
 write_method_r m SetStyle ns b vs d s hr h2 h3 hn = wanted m E4 (not (list_any is_object (nth 0 vs ∷ nth 1 vs ∷ []))) s _ hr (λ _. set_style_r m ns (to_text (nth 0 vs)) (to_text (nth 1 vs)) b s hr h2)
 write_method_r m SetClass ns b vs d s hr h2 h3 hn = wanted m E4 (not (list_any is_object (nth 0 vs ∷ []))) s _ hr (λ _. wanted m E4 (is_plain_words (to_text (nth 0 vs))) s _ hr (λ e. set_attribute_r m ns (codes "class") (to_text (nth 0 vs)) b s hr h2))
 write_method_r m SetTitle ns b vs d s hr h2 h3 hn = wanted m E4 (not (list_any is_object (nth 0 vs ∷ []))) s _ hr (λ _. set_attribute_r m ns (codes "title") (to_text (nth 0 vs)) b s hr h2)
@@ -359,14 +381,14 @@ give_node_r m l units s hr = paid m (cost units 1 2 1) s (λ t. give (Own (lengt
 pub dom_tag_r : (m : Sizes) (x0 : List ℕ) (x1 : List (List ℕ)) (x2 : State) → R m x2 → Keeps m (dom_tag x0 x1 x2)
 dom_tag_r m tag v s hr = wanted m E4 (is_listed_tag tag && list_all is_plain_words v) s _ hr (λ e. give_node_r m _ (sum_by length v) s hr)
 
-pub append_to_root_r : (m : Sizes) (x0 : List ℕ) (x1 : State) → R m x1 → Keeps m (append_to_root x0 x1)
-append_to_root_r m ms s hr = charged m (size (subtrees ms s.own.forest)) s _ hr
+pub append_to_root_r : (m : Sizes) (x0 : List ℕ) (x1 : State) → R m x1 → MayTake x0 x1.own.forest root → Keeps m (append_to_root x0 x1)
+append_to_root_r m ms s hr ht = charged m (size (subtrees ms s.own.forest)) s _ hr
     (paid m (cost 0 1 2 0) s (λ t. give (Own (length t.own.heap)) (with_new_cell (appended (root ∷ []) ms t) (new_bunch (root ∷ [])))) hr
-    (λ a u. born_then m (new_bunch (root ∷ [])) (appended (root ∷ []) ms (with_counts s a)) give (put_kept m root ms (with_counts s a) u) (bunch_cell m _ (record { each = (hr.there.root, tt) })) tt
+    (λ a u. born_then m (new_bunch (root ∷ [])) (appended (root ∷ []) ms (with_counts s a)) give (put_kept m root ms (with_counts s a) u ht) (bunch_cell m _ (record { each = (hr.there.root, tt) })) tt
     (λ k g v y z w. ended k (Is v) y z (value_end k v w))))
 
 pub dom_append_r : (m : Sizes) (x0 : Value) (x1 : State) → R m x1 → Keeps m (dom_append x0 x1)
-dom_append_r m v s hr = want_bunch_r m v s _ hr (λ ms hm. wanted m E10 (list_all (is_target s ms) (root ∷ [])) s _ hr (λ _. append_to_root_r m ms s hr))
+dom_append_r m v s hr = want_bunch_r m v s _ hr (λ ms hm. wanted m E10 (list_all (is_target s ms) (root ∷ [])) s _ hr (λ e. append_to_root_r m ms s hr (targets_take s m.nodes ms (root ∷ []) hr.there.page e).0))
 
 pub dom_native_r : (m : Sizes) (x0 : DomNative) (x1 : Option Value) (x2 : List Value) (x3 : ℕ) (x4 : State) → R m x4 → Keeps m (dom_native x0 x1 x2 x3 x4)
 dom_native_r m DomQuery this vs d s hr = query_r m (root ∷ []) (nth 0 vs) s hr (record { each = (hr.there.root, tt) })

@@ -1,10 +1,11 @@
 -- What each state of a plan keeps: all that is named is there. The steps of which plans are made.
-use Rattle.std.proofs.Common.{◌≡◌, ℕ, zero, suc, ◌<◌, ◌≤◌, List, [], ◌∷◌, ◌++◌, length, Bool, true, false, refl, sym, subst, arith}
+use Rattle.std.proofs.Common.{◌≡◌, ℕ, zero, suc, ◌+◌, ◌<◌, ◌≤◌, List, [], ◌∷◌, ◌++◌, length, Bool, true, false, refl, sym, subst, arith}
 use Rattle.std.specs.Prelude.{Option, Some, None, nat_lt, if◌then◌else◌, slice_set, replicate}
 use Rattle.std.specs.List.{AllByRecursion}
 use Rattle.std.proofs.lemmas.List.{length-set, length-append}
 use Rattle.permitted_table.specs.declared.native.HostEntry.TheVariants as host
-use Rattle.widget_meaning.specs.Limits.{max_units, max_cells, max_slots, max_nodes, max_text, max_chain}
+use Rattle.plain_tree.specs.Trees.{height}
+use Rattle.widget_meaning.specs.Limits.{max_node_depth, max_units, max_cells, max_slots, max_nodes, max_text, max_chain}
 use Rattle.widget_meaning.specs.Values.{StopCause, Units, Cells, Slots, Nodes, LongText, Value, Own, Completion, Normal, Is, Refers, Return, Break, Continue, Throw, Reference, Fault}
 use Rattle.widget_meaning.specs.OwnState.{Amounts, State, Cell, Scope, Kept, Timer, Pairs, plain_object, nothing_kept, with_new_cell}
 use Rattle.widget_meaning.specs.Plan.{Job, Plan, Ret, Halt, Need, Tick, Do, and_then, ticks, charge, on_value, on_reference, on_normal, on_throw}
@@ -198,6 +199,7 @@ there_later m n hs cs ks ts f focus g h = record {
   kept = λ i. kept_later m n _ g (h.kept i);
   timers = every (λ t. t.func < m.objects) (λ t. t.func < n.objects) (λ t l. less t.func m.objects n.objects l g.objects) ts h.timers;
   page = page_later f m.nodes n.nodes g.nodes h.page;
+  low = h.low;
   focused = maybe_node_later m n focus g h.focused;
   lib = value_later m n (Own 0) g h.lib;
   root = node_later m n 0 g h.root;
@@ -214,6 +216,7 @@ there_born n hs cs ks ts f focus c h q below short = record {
   kept = h.kept;
   timers = h.timers;
   page = h.page;
+  low = h.low;
   focused = h.focused;
   lib = h.lib;
   root = h.root;
@@ -249,6 +252,7 @@ module _ (m : Sizes) (hs : List Cell) (cs : List Scope) (ks : List Kept) (ts : L
       kept = h.there.kept;
       timers = h.there.timers;
       page = h.there.page;
+      low = h.there.low;
       focused = h.there.focused;
       lib = h.there.lib;
       root = h.there.root;
@@ -267,6 +271,7 @@ module _ (m : Sizes) (hs : List Cell) (cs : List Scope) (ks : List Kept) (ts : L
       kept = h.there.kept;
       timers = h.there.timers;
       page = h.there.page;
+      low = h.there.low;
       focused = h.there.focused;
       lib = h.there.lib;
       root = h.there.root;
@@ -284,6 +289,7 @@ module _ (m : Sizes) (hs : List Cell) (cs : List Scope) (ks : List Kept) (ts : L
       kept = h.there.kept;
       timers = h.there.timers;
       page = h.there.page;
+      low = h.there.low;
       focused = h.there.focused;
       lib = h.there.lib;
       root = h.there.root;
@@ -292,8 +298,8 @@ module _ (m : Sizes) (hs : List Cell) (cs : List Scope) (ks : List Kept) (ts : L
   }
 
   -- another page of the same nodes
-  pub paged : (g : Trees) → Fine m hs cs ks ts f focus → IsPage g m.nodes → Fine m hs cs ks ts g focus
-  paged g h q = record {
+  pub paged : (g : Trees) → Fine m hs cs ks ts f focus → IsPage g m.nodes → height g ≤ max_node_depth + 1 → Fine m hs cs ks ts g focus
+  paged g h q l = record {
     there = record {
       objects = h.there.objects;
       older = h.there.older;
@@ -302,6 +308,7 @@ module _ (m : Sizes) (hs : List Cell) (cs : List Scope) (ks : List Kept) (ts : L
       kept = h.there.kept;
       timers = h.there.timers;
       page = q;
+      low = l;
       focused = h.there.focused;
       lib = h.there.lib;
       root = h.there.root;
@@ -313,9 +320,9 @@ module _ (m : Sizes) (hs : List Cell) (cs : List Scope) (ks : List Kept) (ts : L
   pub room_grows : (k : ℕ) → Fine m hs cs ks ts f focus → Grows m (record { objects = m.objects; nodes = length (ks ++ replicate k nothing_kept) })
   room_grows k h = record { objects = self m.objects; nodes = omega (arith, h.wide.nodes, length-append ks (replicate k nothing_kept)) }
 
-  pub roomy : (g : Trees) (k : ℕ) → Fine m hs cs ks ts f focus → IsPage g (length (ks ++ replicate k nothing_kept))
+  pub roomy : (g : Trees) (k : ℕ) → Fine m hs cs ks ts f focus → IsPage g (length (ks ++ replicate k nothing_kept)) → height g ≤ max_node_depth + 1
       → Fine (record { objects = m.objects; nodes = length (ks ++ replicate k nothing_kept) }) hs cs (ks ++ replicate k nothing_kept) ts g focus
-  roomy g k h q =
+  roomy g k h q l =
       let b : Sizes = record { objects = m.objects; nodes = length (ks ++ replicate k nothing_kept) } in
       let w : Grows m b = room_grows k h in
       let t : AreThere b hs cs ks ts f focus = there_later m b hs cs ks ts f focus w h.there in
@@ -328,6 +335,7 @@ module _ (m : Sizes) (hs : List Cell) (cs : List Scope) (ks : List Kept) (ts : L
           kept = at_room (KeptIs b) ks k nothing_kept t.kept (record { handlers = tt });
           timers = t.timers;
           page = q;
+          low = l;
           focused = t.focused;
           lib = t.lib;
           root = t.root;
@@ -346,6 +354,7 @@ module _ (m : Sizes) (hs : List Cell) (cs : List Scope) (ks : List Kept) (ts : L
       kept = at_set (λ i x. KeptIs m x) ks n k nothing_kept h.there.kept q;
       timers = h.there.timers;
       page = h.there.page;
+      low = h.there.low;
       focused = h.there.focused;
       lib = h.there.lib;
       root = h.there.root;
@@ -367,6 +376,7 @@ module _ (m : Sizes) (hs : List Cell) (cs : List Scope) (ks : List Kept) (ts : L
           kept = h.there.kept;
           timers = q;
           page = h.there.page;
+          low = h.there.low;
           focused = h.there.focused;
           lib = h.there.lib;
           root = h.there.root;
@@ -385,6 +395,7 @@ module _ (m : Sizes) (hs : List Cell) (cs : List Scope) (ks : List Kept) (ts : L
       kept = h.there.kept;
       timers = h.there.timers;
       page = h.there.page;
+      low = h.there.low;
       focused = q;
       lib = h.there.lib;
       root = h.there.root;

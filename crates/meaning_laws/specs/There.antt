@@ -1,7 +1,8 @@
 -- What is there: each object and each node that something names was born, and each prototype is older than its object.
-use Rattle.std.specs.Prelude.{ℕ, zero, suc, ◌<◌, ◌≤◌, List, [], length, Option, Some, None, slice_index_or, ⊤}
+use Rattle.std.specs.Prelude.{ℕ, zero, suc, ◌+◌, ◌<◌, ◌≤◌, List, [], length, Option, Some, None, slice_index_or, ⊤}
 use Rattle.std.specs.List.{AllByRecursion}
-use Rattle.widget_meaning.specs.Limits.{max_chain}
+use Rattle.plain_tree.specs.Trees.{height}
+use Rattle.widget_meaning.specs.Limits.{max_chain, max_node_depth}
 use Rattle.widget_meaning.specs.Values.{Value, Undefined, Null, Truth, NaN, Num, Text, Own, Host, Reference, Variable, Property, Found, Completion, Normal, Is, Refers, Return, Break, Continue, Throw}
 use Rattle.widget_meaning.specs.OwnState.{OwnState, Kind, Object, Array, Function, Bunch, Cell, Pairs, Scope, Kept, Timer, plain_object, nothing_kept}
 use Rattle.widget_meaning.specs.HostTable.{host_prototype}
@@ -130,6 +131,8 @@ pub record AreThere (m : Sizes) (hs : List Cell) (cs : List Scope) (ks : List Ke
   pub kept : (n : ℕ) → KeptIs m (slice_index_or ks n nothing_kept)
   pub timers : AllByRecursion (λ t. t.func < m.objects) ts
   pub page : IsPage f m.nodes
+  -- no tree is higher than the limit
+  pub low : height f ≤ max_node_depth + 1
   pub focused : OfNode m focus
   -- the object `lib` and the root, the first of all
   pub lib : ValueIs m (Own 0)

@@ -1,21 +1,23 @@
 -- Laws of what is there, and of chains of prototypes.
-use Rattle.std.specs.Prelude.{◌≡◌, ℕ, suc, ◌+◌, ◌≤◌, List, [], Some}
-use Rattle.plain_tree.specs.Trees.{size}
-use Rattle.widget_meaning.specs.Limits.{max_chain}
+use Rattle.std.specs.Prelude.{◌≡◌, ℕ, suc, ◌+◌, ◌≤◌, List, [], Option, Some}
+use Rattle.plain_tree.specs.Trees.{size, height}
+use Rattle.widget_meaning.specs.Limits.{max_chain, max_node_depth}
 use Rattle.widget_meaning.specs.Values.{Value}
 use Rattle.widget_meaning.specs.OwnState.{OwnState, State}
 use Rattle.widget_meaning.specs.Plan.{Job}
 use Rattle.widget_meaning.specs.Properties.{on_chain, along, names_on_chain, names_of}
+use Rattle.widget_meaning.specs.Dispatch.{nearest_from, nearest}
 use Rattle.widget_meaning.specs.Meaning.{meaning}
 use Rattle.widget_meaning.specs.Items.{Item}
 use Rattle.widget_meaning.specs.Alone.{Content, alone, alone_from}
 use Rattle.meaning_laws.specs.There.{IsThere, JobIs, sizes}
 
--- so it is at any time, of a widget that has a root
+-- so it is at any time, of a widget that has a root and whose trees are low
 pub record ThereLaws : Type 0 where
   pub jobs : (j : Job) (s : State) (g : ℕ) → IsThere s.own → JobIs (sizes s.own) j → IsThere (meaning j s g).state.own
   pub kept : (o : OwnState) (is : List Item) → IsThere o → IsThere (alone_from o is)
-  pub whole : (w : Content) (grant : ℕ) (is : List Item) → 1 ≤ size w.root → IsThere (alone w grant is)
+  pub whole : (w : Content) (grant : ℕ) (is : List Item) → 1 ≤ size w.root → height w.root ≤ max_node_depth + 1
+      → IsThere (alone w grant is)
 
 -- a walk along prototypes comes to the same with a greater bound: a read, and the names that `for-in` lists
 pub record ChainLaws : Type 0 where
@@ -23,3 +25,9 @@ pub record ChainLaws : Type 0 where
       → on_chain (suc max_chain + more) s (Some v) x ≡ along s v x
   pub lists : (s : State) (v : Value) (more : ℕ) → IsThere s.own
       → names_on_chain (suc max_chain + more) s (Some v) [] ≡ names_of s v
+
+-- and so does the way up from a node
+abbrev pub WayLaws : Type 0
+WayLaws =
+    (s : State) (o : Option ℕ) (kind : List ℕ) (more : ℕ) → IsThere s.own
+    → nearest_from (max_node_depth + 1 + more) s o kind ≡ nearest s o kind

@@ -1,5 +1,5 @@
 //! Laws of own states.
-ghost use Rattle.meaning_laws.specs.ThereLaws.{ChainLaws, ThereLaws};
+ghost use Rattle.meaning_laws.specs.ThereLaws.{ChainLaws, ThereLaws, WayLaws};
 
 /// Each object and node that a value, a scope, a Bunch, a handler or a timer names was born, and each
 /// prototype is older than the object that has it.
@@ -12,4 +12,10 @@ pub fn numbers_stand()
 #[tactic(auto, using(crate::proofs::LawsHold::chain_laws))]
 pub fn chains_end()
     ensures { ChainLaws }
+{}
+
+/// No tree of a widget's page is higher than the limit, so no way up from a node meets its bound.
+#[tactic(auto, using(crate::proofs::LawsHold::way_laws))]
+pub fn ways_end()
+    ensures { WayLaws }
 {}
