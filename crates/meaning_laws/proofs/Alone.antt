@@ -11,30 +11,42 @@ use Rattle.widget_meaning.specs.Limits.{max_units, max_node_depth}
 use Rattle.widget_meaning.specs.Values.{Normal, Is, Refers, Return, Break, Continue, Throw, Stop}
 use Rattle.widget_meaning.specs.Trees.{Trees, relabelled, label_of, node_at, child_at, first_children}
 use Rattle.widget_meaning.specs.OwnState.{OwnState, State, Timer, plain_object, nothing_kept}
-use Rattle.widget_meaning.specs.Plan.{Plan, End, Ended, Stopped, OutOfFuel, Job, Ret, Do}
+use Rattle.widget_meaning.specs.Plan.{Plan, End, Ended, Stopped, OutOfFuel, Job, Ret, Do, Out}
 use Rattle.widget_meaning.specs.Meaning.{run_plan, meaning}
 use Rattle.widget_meaning.specs.Turns.{begun, turn, end_turn, noted, note_text}
 use Rattle.widget_meaning.specs.Dispatch.{nearest, dispatch}
 use Rattle.widget_meaning.specs.Items.{Event, Item, Occurs, Advance, item, item_at, live_item, occurs, if_heard, with_value, event_value, due_turns, unless_stopped, on_due, next_due, sooner, without_due, timer_turn, timer_plan, without_timer, resting}
 use Rattle.widget_meaning.specs.Alone.{Content, alone_from, beginning, loaded, load_library, library_turn, library_plan, go_turn, go_plan, call_parts}
 use Rattle.widget_meaning.proofs.Times.{relabelled_once, times_numbered}
-use Rattle.meaning_laws.specs.There.{Sizes, sizes, ValueIs, NodeIs, OfNode, CellIs, KeptIs, IsBelow, IsShort, IsThere, JobIs, cell_in}
-use Rattle.meaning_laws.proofs.Later.{same_size}
+use Rattle.meaning_laws.specs.There.{Sizes, sizes, Grows, ValueIs, NodeIs, OfNode, CellIs, KeptIs, IsBelow, IsShort, IsThere, JobIs, cell_in, OfEnd}
+use Rattle.meaning_laws.proofs.Later.{same_size, completion_later}
 use Rattle.meaning_laws.proofs.Levels.{height_numbered, height_relabelled}
 use Rattle.meaning_laws.proofs.Values.{undefined_is, text_is, no_pairs}
-use Rattle.meaning_laws.proofs.Steps.{R, Stands, Keeps, ended, job, there_later, plain_is}
+use Rattle.meaning_laws.proofs.Steps.{R, Keeps, ended, job, there_later, plain_is}
 use Rattle.meaning_laws.proofs.Nodes.{InTrees, page_in, tops_in}
 use Rattle.meaning_laws.proofs.Forms.{dispatch_r}
-use Rattle.meaning_laws.proofs.Jobs.{run_keeps, timer_plan_r, library_plan_r, go_plan_r}
+use Rattle.meaning_laws.proofs.Jobs.{Comes, run_keeps, timer_plan_r, library_plan_r, go_plan_r}
 
 fine : (s : State) → IsThere s.own → R (sizes s.own) s
 fine s h = record { there = h; wide = same_size (sizes s.own) }
 
-at_rest : (m : Sizes) (s : State) → Stands m s → IsThere s.own
-at_rest m s h = there_later h.size (sizes s.own) s.own.heap s.own.scopes s.own.kept s.own.timers s.own.forest s.own.focus h.fine.wide h.fine.there
+at_rest : (m : Sizes) (r : Out) → Comes m r → IsThere r.state.own
+at_rest m r h = let s : State = r.state in
+    there_later h.size (sizes s.own) s.own.heap s.own.scopes s.own.kept s.own.timers s.own.forest s.own.focus h.fine.wide h.fine.there
+
+end_later : (m n : Sizes) (e : End) → Grows m n → OfEnd m e → OfEnd n e
+end_later m n (Ended o) g h = completion_later m n o g h
+end_later m n (Stopped c) g h = tt
+end_later m n OutOfFuel g h = tt
+
+comes : (j : Job) (s : State) (g : ℕ) → IsThere s.own → JobIs (sizes s.own) j → Comes (sizes s.own) (meaning j s g)
+comes j s g h q = run_keeps (sizes s.own) g (Do j s Ret) (job (sizes s.own) j s Ret (fine s h) q (λ n e o t u w. ended n o t u w))
 
 pub job_keeps : (j : Job) (s : State) (g : ℕ) → IsThere s.own → JobIs (sizes s.own) j → IsThere (meaning j s g).state.own
-job_keeps j s g h q = at_rest (sizes s.own) _ (run_keeps (sizes s.own) g (Do j s Ret) (job (sizes s.own) j s Ret (fine s h) q (λ n e o t u w. ended n o t u w)))
+job_keeps j s g h q = at_rest (sizes s.own) (meaning j s g) (comes j s g h q)
+
+pub job_ends : (j : Job) (s : State) (g : ℕ) → IsThere s.own → JobIs (sizes s.own) j → OfEnd (sizes (meaning j s g).state.own) (meaning j s g).how
+job_ends j s g h q = let c : Comes (sizes s.own) (meaning j s g) = comes j s g h q in end_later c.size (sizes (meaning j s g).state.own) (meaning j s g).how c.fine.wide c.end
 
 -- ## Turns
 
@@ -58,7 +70,7 @@ end_r OutOfFuel s o h = h
 
 turn_r : (k : State → Plan) (o : OwnState) → Keeps (sizes o) (k (begun o)) → IsThere (turn k o)
 turn_r k o f =
-    let h : IsThere (run_plan o.grant (k (begun o))).state.own = at_rest (sizes o) (run_plan o.grant (k (begun o))).state (run_keeps (sizes o) o.grant (k (begun o)) f) in
+    let h : IsThere (run_plan o.grant (k (begun o))).state.own = at_rest (sizes o) (run_plan o.grant (k (begun o))) (run_keeps (sizes o) o.grant (k (begun o)) f) in
     end_r (run_plan o.grant (k (begun o))).how (run_plan o.grant (k (begun o))).state _ h
 
 -- ## Items

@@ -175,3 +175,15 @@ list_ends (suc b) (suc c) l s (Some (Text x)) xs h = refl
 list_ends (suc b) (suc c) l s (Some (Host x)) xs h = refl
 list_ends (suc b) (suc c) l s (Some (Own n)) xs h =
     list_ends b c (one_less b c l) s (Some (cell_at s n).prototype) (listed xs (permitted_names (cell_at s n).pairs)) h
+
+none_counted : (b : ℕ) (s : State) → chain_from b s None ≡ 0
+none_counted zero s = refl
+none_counted (suc b) s = refl
+
+pub count_ends : (b c : ℕ) → b ≤ c → (s : State) (o : Option Value) → IsShort b s.own.heap o → chain_from c s o ≡ chain_from b s o
+count_ends zero c l s None h = none_counted c s
+count_ends zero c l s (Some v) h = absurd h
+count_ends (suc b) zero l s o h = absurd (not_below b l)
+count_ends (suc b) (suc c) l s None h = refl
+count_ends (suc b) (suc c) l s (Some v) h =
+    ap suc (count_ends b c (one_less b c l) s (prototype s v) (subst (IsShort b s.own.heap) (sym (same_prototype s v)) h))

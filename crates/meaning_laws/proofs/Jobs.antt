@@ -5,15 +5,15 @@ use Rattle.js_tree.specs.Plain.{Fun}
 use Rattle.permitted_table.specs.declared.native.HostEntry.TheVariants as host
 use Rattle.widget_meaning.specs.Values.{Value, Undefined, Own, Host, Is, Completion}
 use Rattle.widget_meaning.specs.OwnState.{State, Timer, new_function}
-use Rattle.widget_meaning.specs.Plan.{Plan, Ret, Halt, Need, Tick, Do, Job, Eval, Target, Exec, Pass, Call, RunNative, Hear, Out, OutOfFuel, and_then}
+use Rattle.widget_meaning.specs.Plan.{Plan, Ret, Halt, Need, Tick, Do, Job, Eval, Target, Exec, Pass, Call, RunNative, Hear, Out, End, Stopped, OutOfFuel, and_then}
 use Rattle.widget_meaning.specs.Costs.{give}
 use Rattle.widget_meaning.specs.Items.{timer_plan}
 use Rattle.widget_meaning.specs.Meaning.{body, run_plan}
 use Rattle.widget_meaning.specs.Alone.{lib, call_script, library_plan, go_plan}
-use Rattle.meaning_laws.specs.There.{Sizes, Grows, ValuesAre, CompletionIs, JobIs}
+use Rattle.meaning_laws.specs.There.{Sizes, Grows, ValuesAre, CompletionIs, JobIs, OfEnd}
 use Rattle.meaning_laws.proofs.Later.{through, values_later}
 use Rattle.meaning_laws.proofs.Values.{undefined_is, host_is, no_values, more_values, no_value, call_job, value_end}
-use Rattle.meaning_laws.proofs.Steps.{R, Stands, Keeps, ended, job, value, chain, made, higher}
+use Rattle.meaning_laws.proofs.Steps.{R, Stands, Keeps, ended, job, value, chain, made}
 use Rattle.meaning_laws.proofs.Forms.{expression_r, target_r, statement_r, pass_r, invoke_r, heard_r, put_r, function_is, own_is}
 use Rattle.meaning_laws.proofs.Page.{run_native_r}
 
@@ -43,17 +43,30 @@ module _ (m : Sizes) where
   pub timer_plan_r : (t : Timer) (s : State) → R m s → t.func < m.objects → Keeps m (timer_plan t s)
   timer_plan_r t s h l = job m _ s Ret h (call_job m (Own t.func) None [] 0 (own_is m t.func l) (no_value m) (no_values m)) (λ n g o y u q. ended n o y u q)
 
-either_state : (m : Sizes) (b : Bool) (r q : Out) → Stands m r.state → Stands m q.state → Stands m (if b then r else q).state
-either_state m true r q h k = h
-either_state m false r q h k = k
+-- how a plan ends, and in which state
+pub record Comes (m : Sizes) (r : Out) : Type 0 where
+  pub size : Sizes
+  pub grows : Grows m size
+  pub fine : R size r.state
+  pub end : OfEnd size r.how
 
-pub run_keeps : (m : Sizes) (g : ℕ) (p : Plan) → Keeps m p → Stands m (run_plan g p).state
+either_comes : (m : Sizes) (b : Bool) (r q : Out) → Comes m r → Comes m q → Comes m (if b then r else q)
+either_comes m true r q h k = h
+either_comes m false r q h k = k
+
+comes : (m : Sizes) (e : End) (s : State) (g : ℕ) → ((n : Sizes) → OfEnd n e) → Stands m s → Comes m (record { how = e; state = s; left = g })
+comes m e s g f h = record { size = h.size; grows = h.grows; fine = h.fine; end = f h.size }
+
+lower : (m n : Sizes) (r : Out) → Grows m n → Comes n r → Comes m r
+lower m n r g h = record { size = h.size; grows = through m n h.size g h.grows; fine = h.fine; end = h.end }
+
+pub run_keeps : (m : Sizes) (g : ℕ) (p : Plan) → Keeps m p → Comes m (run_plan g p)
 unfolding Keeps
-run_keeps m g (Ret o s) h = record { size = h.size; grows = h.grows; fine = h.fine }
-run_keeps m g (Halt c s) h = h
-run_keeps m g (Need c s p) h = either_state m (nat_lt g c) (record { how = OutOfFuel; state = s; left = g }) (run_plan g p) h.0 (run_keeps m g p h.1)
-run_keeps m zero (Tick s p) h = h.0
+run_keeps m g (Ret o s) h = record { size = h.size; grows = h.grows; fine = h.fine; end = h.end }
+run_keeps m g (Halt c s) h = comes m (Stopped c) s g (λ n. tt) h
+run_keeps m g (Need c s p) h = either_comes m (nat_lt g c) (record { how = OutOfFuel; state = s; left = g }) (run_plan g p) (comes m OutOfFuel s g (λ n. tt) h.0) (run_keeps m g p h.1)
+run_keeps m zero (Tick s p) h = comes m OutOfFuel s zero (λ n. tt) h.0
 run_keeps m (suc f) (Tick s p) h = run_keeps m f p h.1
-run_keeps m zero (Do j s k) h = record { size = h.0; grows = h.1.0; fine = h.1.1.0 }
+run_keeps m zero (Do j s k) h = comes m OutOfFuel s zero (λ n. tt) (record { size = h.0; grows = h.1.0; fine = h.1.1.0 })
 run_keeps m (suc f) (Do j s k) h =
-    higher m h.0 _ h.1.0 (run_keeps h.0 f (and_then (body j s) k) (chain h.0 (body j s) k (body_r h.0 j s h.1.1.0 h.1.1.1.0) h.1.1.1.1))
+    lower m h.0 _ h.1.0 (run_keeps h.0 f (and_then (body j s) k) (chain h.0 (body j s) k (body_r h.0 j s h.1.1.0 h.1.1.1.0) h.1.1.1.1))

@@ -8,7 +8,7 @@ use Rattle.widget_meaning.specs.OwnState.{OwnState, Kind, Object, Array, Functio
 use Rattle.widget_meaning.specs.HostTable.{host_prototype}
 use Rattle.widget_meaning.specs.Keeps.{no_scope}
 use Rattle.widget_meaning.specs.NodeLaws.{IsPage}
-use Rattle.widget_meaning.specs.Plan.{Loop, WhileLoop, DoLoop, ForLoop, ForInLoop, Hearing, Job, Eval, Target, Exec, Pass, Call, RunNative, Hear}
+use Rattle.widget_meaning.specs.Plan.{Loop, WhileLoop, DoLoop, ForLoop, ForInLoop, Hearing, Job, Eval, Target, Exec, Pass, Call, RunNative, Hear, End, Ended, Stopped, OutOfFuel}
 use Rattle.widget_meaning.specs.Trees.{Trees}
 
 -- ## Numbers
@@ -207,3 +207,9 @@ OfJob m (Hear h) = HearingIs m h
 -- the same, by name
 pub record JobIs (m : Sizes) (j : Job) : Type 0 where
   pub holds : OfJob m j
+
+-- what an end hands on
+abbrev pub OfEnd : Sizes → End → Type 0
+OfEnd m (Ended o) = CompletionIs m o
+OfEnd m (Stopped c) = ⊤
+OfEnd m OutOfFuel = ⊤

@@ -10,21 +10,27 @@ use Rattle.widget_meaning.specs.Dispatch.{nearest_from, nearest}
 use Rattle.widget_meaning.specs.Meaning.{meaning}
 use Rattle.widget_meaning.specs.Items.{Item}
 use Rattle.widget_meaning.specs.Alone.{Content, alone, alone_from}
-use Rattle.meaning_laws.specs.There.{IsThere, JobIs, sizes}
+use Rattle.widget_meaning.specs.AdsafeNatives.{chain_from}
+use Rattle.meaning_laws.specs.There.{IsThere, JobIs, OfEnd, sizes}
 
--- so it is at any time, of a widget that has a root and whose trees are low
+-- so it is after each job, and of what the job ends with; and at any time, of a widget that has a root and whose trees are low
 pub record ThereLaws : Type 0 where
   pub jobs : (j : Job) (s : State) (g : ℕ) → IsThere s.own → JobIs (sizes s.own) j → IsThere (meaning j s g).state.own
+  pub ends : (j : Job) (s : State) (g : ℕ) → IsThere s.own → JobIs (sizes s.own) j
+      → OfEnd (sizes (meaning j s g).state.own) (meaning j s g).how
   pub kept : (o : OwnState) (is : List Item) → IsThere o → IsThere (alone_from o is)
   pub whole : (w : Content) (grant : ℕ) (is : List Item) → 1 ≤ size w.root → height w.root ≤ max_node_depth + 1
       → IsThere (alone w grant is)
 
--- a walk along prototypes comes to the same with a greater bound: a read, and the names that `for-in` lists
+-- a walk along prototypes comes to the same with a greater bound: a read, the names that `for-in` lists, and the objects
+-- that `create` counts
 pub record ChainLaws : Type 0 where
   pub reads : (s : State) (v : Value) (x : List ℕ) (more : ℕ) → IsThere s.own
       → on_chain (suc max_chain + more) s (Some v) x ≡ along s v x
   pub lists : (s : State) (v : Value) (more : ℕ) → IsThere s.own
       → names_on_chain (suc max_chain + more) s (Some v) [] ≡ names_of s v
+  pub counts : (s : State) (v : Value) (more : ℕ) → IsThere s.own
+      → chain_from (suc max_chain + more) s (Some v) ≡ chain_from (suc max_chain) s (Some v)
 
 -- and so does the way up from a node
 abbrev pub WayLaws : Type 0
