@@ -18,4 +18,5 @@ pub mod Adsafe
 pub mod Page
 pub mod Jobs
 pub mod Alone
+pub mod Numeric
 pub mod LawsHold

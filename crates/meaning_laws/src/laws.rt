@@ -1,4 +1,5 @@
 //! Laws of own states.
+ghost use Rattle.meaning_laws.specs.NumberLaws.{NumberLaws};
 ghost use Rattle.meaning_laws.specs.ThereLaws.{ChainLaws, ThereLaws, WayLaws};
 
 /// Each object and node that a value, a scope, a Bunch, a handler or a timer names was born, and each
@@ -18,4 +19,11 @@ pub fn chains_end()
 #[tactic(auto, using(crate::proofs::LawsHold::way_laws))]
 pub fn ways_end()
     ensures { WayLaws }
+{}
+
+/// `+e`, `-e`, `e - e`, `e * e`, `e / e`, `e % e`, a step and a number end with a number or NaN where they
+/// end with a value: so the subscripts that the rules let through beside strings name a number.
+#[tactic(auto, using(crate::proofs::Numeric::number_laws))]
+pub fn numeric_forms()
+    ensures { NumberLaws }
 {}

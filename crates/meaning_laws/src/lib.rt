@@ -5,4 +5,4 @@
 
 mod laws;
 
-pub use laws::{chains_end, numbers_stand, ways_end};
+pub use laws::{chains_end, numbers_stand, numeric_forms, ways_end};
