@@ -8,11 +8,14 @@
 mod calls;
 mod choosers;
 mod line_calls;
+mod loop_calls;
 mod markup;
+mod node_calls;
 mod page_calls;
 mod pages;
 mod scripts;
 mod store_calls;
+mod text_calls;
 
 use anyhow::Result;
 use calls::answer_of_call;

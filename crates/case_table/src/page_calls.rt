@@ -25,16 +25,16 @@ pub fn answer_of_page(alloc: Global, words: &str) -> Result<String> {
     }
 }
 
-fn new_page(alloc: Global) -> Option<Page> {
+pub fn new_page(alloc: Global) -> Option<Page> {
     Page::new(alloc, Keys::of_files(&[])).ok()
 }
 
-fn text(alloc: Global, words: &str) -> Option<Text> {
+pub fn text(alloc: Global, words: &str) -> Option<Text> {
     from_utf8_bytes(alloc, words.as_bytes()).ok()
 }
 
-// Adds the last node of a piece of markup.
-fn add(alloc: Global, page: &mut Page, markup: &str) -> Option<NodeId>
+/// Adds the last node of a piece of markup.
+pub fn add(alloc: Global, page: &mut Page, markup: &str) -> Option<NodeId>
     ensures node { IfSome result (λ node. node < length (nodes page.new)) }
     ensures older { OnSome result (length (nodes page.old) ≤ length (nodes page.new)) }
 {
@@ -70,7 +70,8 @@ fn replaced(alloc: Global) -> Option<Vec<u8>> {
     printed(alloc, &page, list)
 }
 
-fn append(page: &mut Page, target: NodeId, node: NodeId) -> Option<()>
+/// Puts a node behind the last child of another.
+pub fn append(page: &mut Page, target: NodeId, node: NodeId) -> Option<()>
     requires target { target < length (nodes page.old) }
     requires node { node < length (nodes page.old) }
     ensures { OnSome result (length (nodes page.new) ≡ length (nodes page.old)) }
