@@ -9,11 +9,12 @@ use real_files::are_real_files_read;
 use run_cases::answers;
 use std::fs;
 
-const FILES: [&str; 7] = [
+const FILES: [&str; 8] = [
     "words.jsonl",
     "libraries.jsonl",
     "tidied.jsonl",
     "pages.jsonl",
+    "cuts.jsonl",
     "faults.jsonl",
     "page_runs.jsonl",
     "gadgets.jsonl",
