@@ -5,31 +5,33 @@
 //! - `fail_reads` and `fail_writes`, where there are any: the numbers of the calls that fail, from 1
 //! - `room` and `per_call`, where there are limits: the bytes that the sink takes, and those of a call
 //! - `status` and `out`: what is wanted
+//! - `journal`, where the case says: the picks that the host is to have kept that is left (module
+//!   `journals`)
+use crate::journals::{journal_of, wanted_journal};
 use adhost_run::run;
 use anyhow::{Result, bail};
 use host_io::{MemFiles, MemSink};
 use serde_json::Value;
 use std::alloc::Global;
 use test_cases::{bytes_of, list_at};
+use widget_host::Host;
 
 // The bytes that a sink may take in all, where a case does not say.
 const ROOM: u64 = 1_000_000;
 
-// How a run ended: its status, and what the sink holds.
+// How a run ended: its status, what the sink holds, and the picks that the host kept which is left,
+// where the case says any.
 #[derive(Drop, PartialEq, Eq)]
 struct Ending {
     status: u64,
     out: Vec<u8>,
+    journal: String,
 }
 
 /// Whether the command line of a case ends as is wanted.
-pub fn answer_of_command(alloc: Global, case: &Value) -> Result<String> {
+pub fn ends_as_wanted(alloc: Global, case: &Value) -> Result<bool> {
     let ends = ending_of(alloc, case)?;
-    if ends == wanted(alloc, case)? {
-        Ok(String::from_str(alloc, "as wanted\n")?)
-    } else {
-        Ok(String::from_str(alloc, "otherwise\n")?)
-    }
+    Ok(ends == wanted(alloc, case)?)
 }
 
 // How the command line of a case ends.
@@ -47,7 +49,16 @@ fn ending_of(alloc: Global, case: &Value) -> Result<Ending> {
     Ok(Ending {
         status: status.number() as u64,
         out: sink.held().to_vec(alloc)?,
+        journal: journal_left(alloc, case, &stage)?,
     })
+}
+
+// The picks that the host kept which is left, where the case says any.
+fn journal_left(alloc: Global, case: &Value, stage: &Option<Host>) -> Result<String> {
+    match stage {
+        Some(host) if case.get("journal").is_some() => journal_of(alloc, host),
+        _ => Ok(String::new(alloc)),
+    }
 }
 
 // How it is to end.
@@ -61,6 +72,7 @@ fn wanted(alloc: Global, case: &Value) -> Result<Ending> {
     Ok(Ending {
         status,
         out: bytes_of(alloc, out)?,
+        journal: wanted_journal(alloc, case)?,
     })
 }
 

@@ -1,16 +1,19 @@
-//! Runs the command lines of a table of cases, and says of each whether it ends as is wanted.
+//! Runs the command lines and the picks of a table of cases, and says of each whether it ends as is wanted.
 #![tactic(auto)]
 
 mod commands;
+mod journals;
+mod picks;
 
 use anyhow::Result;
-use commands::answer_of_command;
+use commands::ends_as_wanted;
+use picks::picks_as_wanted;
 use serde_json::Value;
 use std::alloc::Global;
 use test_cases::text_at;
 
 /// What is written of cases, each a line with a JSON object (crate `test_cases`): its name, and whether
-/// it ends as is wanted.
+/// it ends as is wanted. A case has the words of a command line, or the slots of a page that is picked.
 pub fn answers(alloc: Global, cases: &str) -> Result<String> {
     let mut answers = String::new(alloc);
     for line in cases.lines() {
@@ -23,6 +26,17 @@ pub fn answers(alloc: Global, cases: &str) -> Result<String> {
 fn named_answer(alloc: Global, line: &str) -> Result<String> {
     let case = Value::from_str(alloc, line)?;
     let name = text_at(alloc, &case, "name")?;
-    let answer = answer_of_command(alloc, &case)?;
-    Ok(format!(in alloc; "# {name}\n{answer}")?)
+    if is_as_wanted(alloc, &case)? {
+        Ok(format!(in alloc; "# {name}\nas wanted\n")?)
+    } else {
+        Ok(format!(in alloc; "# {name}\notherwise\n")?)
+    }
+}
+
+fn is_as_wanted(alloc: Global, case: &Value) -> Result<bool> {
+    if case.get("slots").is_some() {
+        picks_as_wanted(alloc, case)
+    } else {
+        ends_as_wanted(alloc, case)
+    }
 }

@@ -9,7 +9,7 @@ use real_files::are_real_files_read;
 use run_cases::answers;
 use std::fs;
 
-const FILES: [&str; 8] = [
+const FILES: [&str; 9] = [
     "words.jsonl",
     "libraries.jsonl",
     "tidied.jsonl",
@@ -18,6 +18,7 @@ const FILES: [&str; 8] = [
     "faults.jsonl",
     "page_runs.jsonl",
     "gadgets.jsonl",
+    "picks.jsonl",
 ];
 
 fn main(rt: HostRuntime) -> Result<()> {
