@@ -229,7 +229,7 @@ pub record IsIdle (old new : Seen) : Type 0 where
   pub due : due new ≡ due old
   pub spent : (image new).spent ≡ (image old).spent
 
--- the turn is not over, and spent the least units of at least k at which it can be cut
+-- the turn is not over, and spent the least units of at least k at which it can be cut; why the life has stopped, if it has, is as when the turn began
 pub record IsCut (k : ℕ) (old new : Seen) : Type 0 where
   pub turn : Turn
   pub begins : first old ≡ Some turn
@@ -238,6 +238,7 @@ pub record IsCut (k : ℕ) (old new : Seen) : Type 0 where
   pub exact : rest_of turn units ≡ units
   pub least : (h : ℕ) → k ≤ h → h < units → rest_of turn h ≢ h
   pub shows : at_of turn units ≡ stopped Fuel (image new)
+  pub stop : (image new).stop ≡ turn.fixed.stop
   pub spent : (image new).spent ≡ (image old).spent + units
   pub going : is_some new.going ≡ true
   pub due : due new ≡ due old
