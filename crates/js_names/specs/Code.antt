@@ -7,7 +7,7 @@ use Rattle.js_names.specs.declared.code.Code.{Code}
 
 -- the tree
 abbrev pub tree_in : Code → Tree
-tree_in c = c.tree
+tree_in c = c.shared.value.tree
 
 -- the plain trees of its nodes
 abbrev pub code_trees : Code → Forest
@@ -15,7 +15,7 @@ code_trees c = trees (tree_in c)
 
 -- the functions below this number have names
 abbrev pub known : Code → ℕ
-known c = length c.funs.items
+known c = length c.shared.value.funs.items
 
 -- those of several codes
 abbrev pub trees_of : List Code → List Forest

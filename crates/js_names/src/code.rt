@@ -10,14 +10,22 @@ use crate::names::{FunNames, fun_names};
 use code_units::Memory;
 use js_tree::{FunId, Tree};
 use std::alloc::Global;
+use std::rc::Rc;
 
-/// A tree with the names of the scopes of its functions, which are found once.
+// What all holders of a code share.
 #[derive(Drop)]
-pub struct Code {
+struct Shared {
     tree: Tree,
     // those of the first functions, by their numbers
     funs: Vec<FunNames>,
     ghost found: { AreFound (trees tree) funs.items },
+}
+
+/// A tree with the names of the scopes of its functions, which are found once. It may have several
+/// holders: the tree and the names are held once.
+#[derive(Drop)]
+pub struct Code {
+    shared: Rc<Shared>,
 }
 
 impl Code {
@@ -31,14 +39,26 @@ impl Code {
         ensures known { IfOk result (λ c. known c ≡ option_map_or (λ (f : FunId). f.0 + 1) fun 0) }
     {
         let funs = all_names(alloc, &tree, fun)?;
-        Ok(Code { tree, funs })
+        Ok(Code {
+            shared: Rc::new(alloc, Shared { tree, funs })?,
+        })
+    }
+
+    /// The same code for a second holder, such as another widget that names the library.
+    pub fn share(&self) -> Result<Code, Memory>
+        ensures same { IfOk result (λ c. tree_in c ≡ tree_in self.now) }
+        ensures known { IfOk result (λ c. known c ≡ known self.now) }
+    {
+        Ok(Code {
+            shared: self.shared.clone()?,
+        })
     }
 
     /// The tree.
     pub fn tree(&self) -> &Tree
         ensures { result.now ≡ tree_in self.now }
     {
-        &self.tree
+        &self.shared.tree
     }
 
     /// The names of a function; none for one that stands in no function that is handed over.
@@ -46,7 +66,7 @@ impl Code {
         ensures names { IfSome result (λ n. AreNames (fun_at (code_trees self.now) id) n.now) }
         ensures known { is_some result ≡ nat_lt id.0 (known self.now) }
     {
-        self.funs.get(id.0 as usize)
+        self.shared.funs.get(id.0 as usize)
     }
 }
 
