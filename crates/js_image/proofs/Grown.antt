@@ -107,7 +107,7 @@ all_passed_over fs v cells (c ∷ cs) h = (passed_over fs v cells c h.0, all_pas
 
 -- nothing changed
 pub kept_same : (fs : List Forest) (w : ℕ) (old new : Cells) → new ≡ old → Kept fs w old new
-kept_same fs w old new same = subst (λ (t : Cells). Kept fs w old t) (sym same) (record { confined = λ h. h; grows = grows_same w old.cells; others = λ v h. refl; others_grow = λ v h. grows_same v old.cells; others_confined = λ v h k. k; nodes = λ p h. h; counts = rise_same (owned w old).paid })
+kept_same fs w old new same = subst (λ (t : Cells). Kept fs w old t) (sym same) (record { confined = λ h. h; grows = grows_same w old.cells; others = λ v h. refl; others_grow = λ v h. grows_same v old.cells; others_confined = λ gs v h k. k; nodes = λ p h. h; counts = rise_same (owned w old).paid })
 
 -- counts alone changed
 pub kept_paid : (fs : List Forest) (w : ℕ) (old new : Cells) (n u : ℕ) (refusal : Option StoreFault) → IsCharged old new w n u refusal → owned w new ≡ own_paid 0 n u (owned w old) → ((v : ℕ) → Grows v old.cells new.cells) → ((v : ℕ) → (w ≡ v → ⊥) → owned v new ≡ owned v old) → Kept fs w old new
@@ -115,7 +115,7 @@ kept_paid fs w old new n u refusal charged own grows others = let same : new.cel
   confined = λ h. subst (λ (l : List PlainCell). IsConfined fs w (record { cells = l; kept = new.kept })) (sym same) (record { each = h.each });
   grows = grows w;
   others_grow = λ v apart. grows v;
-  others_confined = λ v apart h. subst (λ (l : List PlainCell). IsConfined fs v (record { cells = l; kept = new.kept })) (sym same) (record { each = h.each });
+  others_confined = λ gs v apart h. subst (λ (l : List PlainCell). IsConfined gs v (record { cells = l; kept = new.kept })) (sym same) (record { each = h.each });
   others = others;
   nodes = λ p h. hold_same p w old new (ap (λ (o : Owned). o.heap) own) h;
   counts = rise_to 0 n u (owned w old).paid (owned w new).paid (ap (λ (o : Owned). o.paid) own);

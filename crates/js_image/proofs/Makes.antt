@@ -222,7 +222,7 @@ module _ (w : ℕ) (old new : Cells) (n : NewCell) (h : IsNew w old.cells n) whe
     grows = grows w;
     others = others;
     others_grow = λ v apart. grows v;
-    others_confined = λ v apart. made_apart v w old new id n apart made (grows v) fs;
+    others_confined = λ gs v apart. made_apart v w old new id n apart made (grows v) gs;
     nodes = λ p held. hold_more p w old new (made_cells w old.cells n) (ap (λ (q : Owned). q.heap) own.seen) (pass_made p fs w old.cells n o) held;
     counts = rise_to (cells_for n) (slots_of n) 0 (owned w old).paid (owned w new).paid (ap (λ (q : Owned). q.paid) own.seen);
   }
@@ -296,7 +296,7 @@ module _ (w : ℕ) (old new : Cells) (outer : Option ℕ) (ps : List (List ℕ �
     grows = grows w;
     others = others;
     others_grow = λ v apart. grows v;
-    others_confined = λ v apart. made_apart v w old new id n apart made (grows v) fs;
+    others_confined = λ gs v apart. made_apart v w old new id n apart made (grows v) gs;
     nodes = λ p held. hold_more p w old new (made_cells w old.cells n) (ap (λ (q : Owned). q.heap) own.seen) (subst (AllByRecursion (λ (c : OwnCell). PassNodes p c.kind)) (sym none) tt) held;
     counts = rise_to (cells_for n) (slots_of n) 0 (owned w old).paid (owned w new).paid (ap (λ (q : Owned). q.paid) own.seen);
   }

@@ -113,7 +113,7 @@ kept_then fs w one two three f g = record {
   grows = grows_then w one two three f.grows g.grows;
   others = λ v apart. g.others v apart ∙ f.others v apart;
   others_grow = λ v apart. grows_then v one two three (f.others_grow v apart) (g.others_grow v apart);
-  others_confined = λ v apart h. g.others_confined v apart (f.others_confined v apart h);
+  others_confined = λ gs v apart h. g.others_confined gs v apart (f.others_confined gs v apart h);
   nodes = λ p h. g.nodes p (f.nodes p h);
   counts = rise_then (owned w one).paid (owned w two).paid (owned w three).paid f.counts g.counts;
 }

@@ -120,7 +120,7 @@ module _ (fs : List Forest) (w : ℕ) (old new : Cells) (laws : AreLawful old.ce
             confined = λ k. confined_changed fs w old new h (written x v) (set_cells h e) (grows w) k (λ d at. fine_set d at (k.each h d at));
             grows = grows w;
             others_grow = λ v apart. grows v;
-            others_confined = λ u apart. confined_apart fs u old new h (written x v) (set_cells h e) (grows u) (none_at u old.cells h (not_here u apart));
+            others_confined = λ gs u apart. confined_apart gs u old new h (written x v) (set_cells h e) (grows u) (none_at u old.cells h (not_here u apart));
             others = λ u apart. others u (ap (λ (o : Option ℕ). option_map_or (is_of_at u old.cells) o false) e ∙ not_here u apart);
             nodes = λ p. hold_same p w old new b.heap;
             counts = subst (CountsRise (owned w old).paid) (sym b.paid) (rise_same (owned w old).paid);

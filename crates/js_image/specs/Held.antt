@@ -81,12 +81,12 @@ CountsRise None o = Unit {0}
 CountsRise (Some a) None = ⊥
 CountsRise (Some a) (Some b) = (a.cells ≤ b.cells) × (a.slots ≤ b.slots) × (a.units ≤ b.units)
 
--- What a call keeps for the widget whose call it is: it stays confined, what is there stays under its numbers, other widgets have what they had, under the numbers that it had, and stay confined, its Bunches get no node that they did not have, and no count falls.
+-- What a call keeps for the widget whose call it is: it stays confined, what is there stays under its numbers, other widgets have what they had, under the numbers that it had, and stay confined by any trees, its Bunches get no node that they did not have, and no count falls.
 pub record Kept (fs : List Forest) (w : ℕ) (old new : Cells) : Type 0 where
   pub confined : IsConfined fs w old → IsConfined fs w new
   pub grows : Grows w old.cells new.cells
   pub others : (v : ℕ) → (w ≡ v → ⊥) → owned v new ≡ owned v old
   pub others_grow : (v : ℕ) → (w ≡ v → ⊥) → Grows v old.cells new.cells
-  pub others_confined : (v : ℕ) → (w ≡ v → ⊥) → IsConfined fs v old → IsConfined fs v new
+  pub others_confined : (gs : List Forest) (v : ℕ) → (w ≡ v → ⊥) → IsConfined gs v old → IsConfined gs v new
   pub nodes : (p : ℕ → Bool) → HoldNodes p w old → HoldNodes p w new
   pub counts : CountsRise (owned w old).paid (owned w new).paid

@@ -162,7 +162,7 @@ module _ (w v : ℕ) (ne : w ≡ v → ⊥) (lt : v < 32) (h k : Shared) (c d : 
   pub fine_apart : ((u n : ℕ) → owns k.page u n ≡ true → HasRaw k.store.cells n) → FineLife k v a
   fine_apart raws = record {
     number = fine.number;
-    confined = subst (λ fs. IsConfined fs v k.store) (sym same_trees) (keeps.cells.others_confined v ne fine.confined);
+    confined = subst (λ fs. IsConfined fs v k.store) (sym same_trees) (keeps.cells.others_confined (trees_in h) v ne fine.confined);
     sound = record { holds = holds_apart w v ne lt (trees_in h) h.store k.store h.page k.page keeps.cells keeps.page a.widget.around fine.sound.holds; raws = raws };
     lib = lib_stays v h.store k.store a (keeps.cells.others_grow v ne) fine.lib;
     works = subst (λ fs. AllByRecursion (FineWork fs) a.queue.items) (sym same_trees) fine.works;

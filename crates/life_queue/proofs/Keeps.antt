@@ -26,13 +26,13 @@ use Rattle.life_queue.specs.Fine.{FineLife, FineTurn, KeepsCells, KeepsLife}
 -- ## The store
 
 pub cells_same : (fs : List Forest) (w : ℕ) (s : Cells) → KeepsCells fs w s s
-cells_same fs w s = record { confined = λ h. h; grows = grows_same w s.cells; others = λ v ne. refl; others_grow = λ v ne. grows_same v s.cells; others_confined = λ v ne h. h }
+cells_same fs w s = record { confined = λ h. h; grows = grows_same w s.cells; others = λ v ne. refl; others_grow = λ v ne. grows_same v s.cells; others_confined = λ gs v ne h. h }
 
 pub cells_kept : (fs : List Forest) (w : ℕ) (s t : Cells) → Kept fs w s t → KeepsCells fs w s t
 cells_kept fs w s t k = record { confined = k.confined; grows = k.grows; others = k.others; others_grow = k.others_grow; others_confined = k.others_confined }
 
 pub cells_stored : (fs : List Forest) (w : ℕ) (s t : Cells) → KeepsStore w s t → KeepsCells fs w s t
-cells_stored fs w s t k = record { confined = k.confined fs; grows = k.grows; others = k.others; others_grow = k.others_grow; others_confined = k.others_confined fs }
+cells_stored fs w s t k = record { confined = k.confined fs; grows = k.grows; others = k.others; others_grow = k.others_grow; others_confined = k.others_confined }
 
 pub cells_then : (fs : List Forest) (w : ℕ) (s t u : Cells) → KeepsCells fs w s t → KeepsCells fs w t u → KeepsCells fs w s u
 cells_then fs w s t u f g = record {
@@ -40,7 +40,7 @@ cells_then fs w s t u f g = record {
   grows = grows_next w s.cells t.cells u.cells f.grows g.grows;
   others = λ v ne. g.others v ne ∙ f.others v ne;
   others_grow = λ v ne. grows_next v s.cells t.cells u.cells (f.others_grow v ne) (g.others_grow v ne);
-  others_confined = λ v ne h. g.others_confined v ne (f.others_confined v ne h);
+  others_confined = λ gs v ne h. g.others_confined gs v ne (f.others_confined gs v ne h);
 }
 
 -- ## A life

@@ -68,13 +68,13 @@ pub record FineLife (h : Shared) (w : ℕ) (l : Life) : Type 0 where
   pub turn : IfSome l.turn (FineTurn (trees_in h) w h.store h.page l.grant)
   pub counts : FineCounts h w l
 
--- What a call for widget w keeps of the store, by the trees of all scripts: the widget stays confined, what is there stays under its numbers, and other widgets have what they had and stay confined.
+-- What a call for widget w keeps of the store, by the trees of all scripts: the widget stays confined, what is there stays under its numbers, and other widgets have what they had and stay confined by any trees.
 pub record KeepsCells (fs : List Forest) (w : ℕ) (old new : Cells) : Type 0 where
   pub confined : IsConfined fs w old → IsConfined fs w new
   pub grows : Grows w old.cells new.cells
   pub others : (v : ℕ) → (w ≡ v → ⊥) → owned v new ≡ owned v old
   pub others_grow : (v : ℕ) → (w ≡ v → ⊥) → Grows v old.cells new.cells
-  pub others_confined : (v : ℕ) → (w ≡ v → ⊥) → IsConfined fs v old → IsConfined fs v new
+  pub others_confined : (gs : List Forest) (v : ℕ) → (w ≡ v → ⊥) → IsConfined gs v old → IsConfined gs v new
 
 -- What a call for one life keeps of all lives, also after want of memory: the scripts, what is said of the store and of the page, what the host has of the page, that what the life holds is its own, its number and its slot, and whether it was accepted.
 pub record KeepsLife (w : ℕ) (h k : Shared) (a b : Life) : Type 0 where

@@ -50,7 +50,7 @@ raw_kept fs w old new node id h g same = record {
   grows = g w;
   others = λ v ne. same v;
   others_grow = λ v ne. g v;
-  others_confined = λ v ne. confined_raw fs v old new node id h (g v);
+  others_confined = λ gs v ne. confined_raw gs v old new node id h (g v);
   nodes = λ p held. hold_same p w old new (ap (λ (o : Owned). o.heap) (same w)) held;
   counts = subst (λ o. CountsRise (owned w old).paid o) (sym (ap (λ (o : Owned). o.paid) (same w))) (rise_same (owned w old).paid);
 }

@@ -134,7 +134,7 @@ pub sound_stays : (w : ℕ) (s new : Cells) (p : Page) (l : Loop) → IsSound w 
 sound_stays w s new p l h k = sound_grows w s new p l h k.grows (k.nodes (owns p w) h.holds.bunches)
 
 pub keeps_of : (w : ℕ) (s new : Cells) → ((fs : List Forest) → Kept fs w s new) → KeepsStore w s new
-keeps_of w s new k = record { confined = λ fs. (k fs).confined; grows = (k []).grows; others = (k []).others; others_grow = (k []).others_grow; others_confined = λ fs. (k fs).others_confined; counts = (k []).counts }
+keeps_of w s new k = record { confined = λ fs. (k fs).confined; grows = (k []).grows; others = (k []).others; others_grow = (k []).others_grow; others_confined = (k []).others_confined; counts = (k []).counts }
 
 -- ## The page changes, and no node comes
 

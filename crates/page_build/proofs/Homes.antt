@@ -122,4 +122,4 @@ confined_all fs w s t k v h = by (eqb w v) refl
 
     by : (b : Bool) → eqb w v ≡ b → IsConfined fs v t
     by true e = let g = eqb-true w v e in subst (λ x. IsConfined fs x t) g (k.confined (subst (λ x. IsConfined fs x s) (sym g) h))
-    by false e = k.others_confined v (differ e) h
+    by false e = k.others_confined fs v (differ e) h

@@ -22,7 +22,7 @@ module _ (fs : List Forest) (w : ℕ) where
     grows = k.store.grows;
     others = k.store.others;
     others_grow = k.store.others_grow;
-    others_confined = k.store.others_confined fs;
+    others_confined = k.store.others_confined;
     page = k.page;
     host = k.host;
     holds = k.holds;
@@ -52,7 +52,7 @@ module _ (fs : List Forest) (w : ℕ) where
     grows = k.kept.grows;
     others = k.kept.others;
     others_grow = k.kept.others_grow;
-    others_confined = k.kept.others_confined fs;
+    others_confined = k.kept.others_confined;
     page = page_same w p;
     host = host_here p;
     holds = (k.sound l h).holds;
@@ -65,7 +65,7 @@ module _ (fs : List Forest) (w : ℕ) where
     grows = grows_next w s.cells t.cells u.cells f.grows g.grows;
     others = λ v ne. g.others v ne ∙ f.others v ne;
     others_grow = λ v ne. grows_next v s.cells t.cells u.cells (f.others_grow v ne) (g.others_grow v ne);
-    others_confined = λ v ne h. g.others_confined v ne (f.others_confined v ne h);
+    others_confined = λ gs v ne h. g.others_confined gs v ne (f.others_confined gs v ne h);
     page = page_then w p q r f.page g.page;
     host = host_then p q r f.host g.host;
     holds = g.holds;

@@ -10,13 +10,13 @@ use Rattle.event_loop.specs.declared.around.Loop.{Loop}
 use Rattle.js_image.specs.Held.{IsConfined}
 use Rattle.native_image.specs.Sound.{HoldsOwn, KeepsPage}
 
--- By the trees of all scripts: the widget stays confined, what is there stays under its numbers, others have what they had, under its numbers, and stay confined; of the page no node goes, and the trees of others and what the host has stay; and what the widget holds of page and loop is its own.
+-- By the trees of all scripts: the widget stays confined, what is there stays under its numbers, others have what they had, under its numbers, and stay confined by any trees; of the page no node goes, and the trees of others and what the host has stay; and what the widget holds of page and loop is its own.
 pub record KeepsTurn (fs : List Forest) (w : ℕ) (s t : Cells) (p q : Page) (l : Loop) : Type 0 where
   pub confined : IsConfined fs w s → IsConfined fs w t
   pub grows : Grows w s.cells t.cells
   pub others : (v : ℕ) → (w ≡ v → ⊥) → owned v t ≡ owned v s
   pub others_grow : (v : ℕ) → (w ≡ v → ⊥) → Grows v s.cells t.cells
-  pub others_confined : (v : ℕ) → (w ≡ v → ⊥) → IsConfined fs v s → IsConfined fs v t
+  pub others_confined : (gs : List Forest) (v : ℕ) → (w ≡ v → ⊥) → IsConfined gs v s → IsConfined gs v t
   pub page : KeepsPage w p q
   pub host : HostStays p q
   pub holds : HoldsOwn w t q l
