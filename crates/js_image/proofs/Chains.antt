@@ -146,7 +146,7 @@ visible_form w c = by (widget_of c.owner)
     by None h = absurd (false_true h)
     by (Some v) h = (both _ (is_visible_form c.form) h).1
 
-visible_no_scope : (f : Form) → is_visible_form f ≡ true → is_scope f ≡ false
+pub visible_no_scope : (f : Form) → is_visible_form f ≡ true → is_scope f ≡ false
 visible_no_scope form.Scope h = absurd (false_true h)
 visible_no_scope form.Object h = refl
 visible_no_scope form.Array h = refl

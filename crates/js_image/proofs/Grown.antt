@@ -78,6 +78,7 @@ module _ (w : ℕ) (old new : List PlainCell) (g : Grows w old new) where
     cell = λ v. record {
       up = up_stays c.up (h.cell v).up;
       pairs = λ b. pairs_stay c.pairs ((h.cell v).pairs b);
+      names = (h.cell v).names;
       fun = fun_stays fs (function_in c.form) (h.cell v).fun;
     };
     scope = λ v. record { outer = place_stays c.up (h.scope v).outer; pairs = pairs_stay c.pairs (h.scope v).pairs };

@@ -6,6 +6,7 @@ pub mod Units
 pub mod Called
 pub mod Grown
 pub mod Hosts
+mod Named
 pub mod Nodes
 pub mod Makes
 pub mod Faults

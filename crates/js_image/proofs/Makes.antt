@@ -35,7 +35,8 @@ use Rattle.widget_meaning.specs.NativeForms.{numbered_pairs}
 use Rattle.js_image.specs.declared.outcome.StopCause.{StopCause}
 use Rattle.js_image.specs.Image.{Rest, all_seen, image, meant, meant_cell, meant_counts, meant_scope, seen, seen_pairs, state_of}
 use Rattle.js_image.specs.Held.{AreFine, ArePairs, IsConfined, IsFine, IsFineCell, IsFineFor, IsFunOf, IsHeld, IsOwnScope, IsPlaceScope, Kept, PassNodes}
-use Rattle.js_image.specs.Plans.{IsNew, IsNewOf, IsStopOf, meant_cause, meant_new, scope_of}
+use Rattle.js_image.specs.Plans.{IsNew, IsNewOf, IsStopOf, begins_permitted, meant_cause, meant_new, scope_of}
+use Rattle.js_image.proofs.Named.{all_permitted, elements_permitted, length_permitted}
 use Rattle.js_image.proofs.Nodes.{hold_more, pass_made, rise_to}
 use Rattle.js_image.proofs.Pays.{cost_plan, pay_is, stops}
 use Rattle.js_image.proofs.Grown.{all_passed_over, confined_more, fine_stays, held_stays, pairs_stay, place_stays}
@@ -152,7 +153,7 @@ module _ (w : ℕ) (cells : List PlainCell) where
     elements_fine k (v ∷ vs) h = (fine_stays w cells all g v h.0, elements_fine (suc k) vs h.1)
 
     -- what is made leads to what the widget may hold
-    fine_born : host_count ≤ length cells → (n : NewCell) → IsNew w cells n → HasTree fs n → AllByRecursion (IsFineFor fs w all) (born cells w n)
+    fine_born : host_count ≤ length cells → (n : NewCell) → IsNew w cells n → HasTree fs n → begins_permitted n ≡ true → AllByRecursion (IsFineFor fs w all) (born cells w n)
     fine_born enough = by
       where
         host : (i : ℕ) → i < host_count → is_permitted_cell i ≡ true → IsHeld w all i
@@ -161,15 +162,15 @@ module _ (w : ℕ) (cells : List PlainCell) where
         array : IsHeld w all array_prototype
         array = host array_prototype (omega arith) refl
 
-        by : (n : NewCell) → IsNew w cells n → HasTree fs n → AllByRecursion (IsFineFor fs w all) (born cells w n)
-        by (fresh.Object proto) h o = (fine_cell (new_cell w form.Object proto) refl (record { up = held_stays w cells all g proto h.0; pairs = λ b. tt; fun = tt }), tt)
-        by fresh.Array h o = (fine_cell (new_cell w form.Array array_prototype) refl (record { up = array; pairs = λ b. (tt, tt); fun = tt }), tt)
-        by (fresh.Function code fun declared scope) h o = (fine_cell (new_cell w (form.Function (record { code = code; fun = fun; declared = declared; scope = scope })) function_prototype) refl (record { up = host function_prototype (omega arith) refl; pairs = λ b. tt; fun = (o, place_stays w cells all g scope h) }), tt)
-        by (fresh.Scope outer names) h o = absurd h
-        by (fresh.Bunch ns) h o = (fine_cell (bunch_cell w (length cells + 1)) refl (record { up = host bunch_prototype (omega arith) refl; pairs = λ b. absurd (false_true (sym b)); fun = tt }), (record { cell = λ v. absurd (false_true v); scope = λ s. absurd (false_true s) }, tt))
-        by (fresh.ObjectWith proto pairs) h o = (fine_cell (object_cell w proto pairs.items) refl (record { up = held_stays w cells all g proto h.0; pairs = λ b. pairs_stay w cells all g pairs.items h.3; fun = tt }), tt)
-        by (fresh.ArrayWith values) h o = (fine_cell (array_cell w values.items) refl (record { up = array; pairs = λ b. (tt, elements_fine 0 values.items h); fun = tt }), tt)
-        by (fresh.ScopeWith outer pairs) h o = absurd h
+        by : (n : NewCell) → IsNew w cells n → HasTree fs n → begins_permitted n ≡ true → AllByRecursion (IsFineFor fs w all) (born cells w n)
+        by (fresh.Object proto) h o a = (fine_cell (new_cell w form.Object proto) refl (record { up = held_stays w cells all g proto h.0; pairs = λ b. tt; names = λ b. tt; fun = tt }), tt)
+        by fresh.Array h o a = (fine_cell (new_cell w form.Array array_prototype) refl (record { up = array; pairs = λ b. (tt, tt); names = λ b. (length_permitted, tt); fun = tt }), tt)
+        by (fresh.Function code fun declared scope) h o a = (fine_cell (new_cell w (form.Function (record { code = code; fun = fun; declared = declared; scope = scope })) function_prototype) refl (record { up = host function_prototype (omega arith) refl; pairs = λ b. tt; names = λ b. tt; fun = (o, place_stays w cells all g scope h) }), tt)
+        by (fresh.Scope outer names) h o a = absurd h
+        by (fresh.Bunch ns) h o a = (fine_cell (bunch_cell w (length cells + 1)) refl (record { up = host bunch_prototype (omega arith) refl; pairs = λ b. absurd (false_true (sym b)); names = λ b. absurd (false_true (sym b)); fun = tt }), (record { cell = λ v. absurd (false_true v); scope = λ s. absurd (false_true s) }, tt))
+        by (fresh.ObjectWith proto pairs) h o a = (fine_cell (object_cell w proto pairs.items) refl (record { up = held_stays w cells all g proto h.0; pairs = λ b. pairs_stay w cells all g pairs.items h.3; names = λ b. all_permitted pairs.items a; fun = tt }), tt)
+        by (fresh.ArrayWith values) h o a = (fine_cell (array_cell w values.items) refl (record { up = array; pairs = λ b. (tt, elements_fine 0 values.items h); names = λ b. (length_permitted, elements_permitted 0 values.items); fun = tt }), tt)
+        by (fresh.ScopeWith outer pairs) h o a = absurd h
 
 -- what is made is no other widget's
 apart_test : (v w : ℕ) → (w ≡ v → ⊥) → eqb w v ≡ false
@@ -213,12 +214,12 @@ module _ (w : ℕ) (old new : Cells) (n : NewCell) (h : IsNew w old.cells n) whe
   pub new_held : (id : ℕ) → IsMade old new w id n → IsHeld w new.cells id
   new_held id made = ((visible id made).0, ap (λ b. b || is_permitted_cell id) (visible id made).1)
 
-  pub new_confined : (id : ℕ) → host_count ≤ length old.cells → IsMade old new w id n → Grows w old.cells new.cells → (fs : List Forest) → HasTree fs n → IsConfined fs w old → IsConfined fs w new
-  new_confined id enough made grows fs o = confined_more fs w old new (born old.cells w n) (cells_are id made) grows (fine_born w old.cells fs new.cells grows enough n h o)
+  pub new_confined : (id : ℕ) → host_count ≤ length old.cells → IsMade old new w id n → Grows w old.cells new.cells → (fs : List Forest) → HasTree fs n → begins_permitted n ≡ true → IsConfined fs w old → IsConfined fs w new
+  new_confined id enough made grows fs o a = confined_more fs w old new (born old.cells w n) (cells_are id made) grows (fine_born w old.cells fs new.cells grows enough n h o a)
 
-  pub new_kept : (id : ℕ) → host_count ≤ length old.cells → IsMade old new w id n → Made w old new id n → ((v : ℕ) → Grows v old.cells new.cells) → ((v : ℕ) → (w ≡ v → ⊥) → owned v new ≡ owned v old) → (fs : List Forest) → IsNewOf fs n → Kept fs w old new
-  new_kept id enough made own grows others fs o = record {
-    confined = new_confined id enough made (grows w) fs (has_tree fs n o);
+  pub new_kept : (id : ℕ) → host_count ≤ length old.cells → IsMade old new w id n → Made w old new id n → ((v : ℕ) → Grows v old.cells new.cells) → ((v : ℕ) → (w ≡ v → ⊥) → owned v new ≡ owned v old) → (fs : List Forest) → IsNewOf fs n → begins_permitted n ≡ true → Kept fs w old new
+  new_kept id enough made own grows others fs o a = record {
+    confined = new_confined id enough made (grows w) fs (has_tree fs n o) a;
     grows = grows w;
     others = others;
     others_grow = λ v apart. grows v;

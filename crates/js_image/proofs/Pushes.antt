@@ -7,6 +7,7 @@ use Rattle.std.specs.Str.{bytes_eq}
 use Rattle.std.proofs.lemmas.Slice.Eq.{bytes_eq-Decides}
 use Rattle.indexmap.specs.IndexMap.{insert_entry}
 use Rattle.code_units.specs.Indices.{index_of}
+use Rattle.code_units.specs.Permitted.{IsPermitted}
 use Rattle.code_units.proofs.Indexed.{index_only}
 use Rattle.js_tree.specs.Forest.{Forest}
 use Rattle.store_cells.specs.declared.value.Value.{Value}
@@ -142,12 +143,12 @@ module _ (fs : List Forest) (r : Rest) (w : ℕ) (old new : Cells) (i len : ℕ)
       put_last below c.0 c.1 (shows w old.cells i c.0 c.1 ∙ seen_here) (ap (λ b. array_length (kind_of st (meant (if b then store.Own n else store.Other i)))) (sym seen_here) ∙ h) (none_there (decimal len) v c.0 (sym (ap (λ (o : Option PlainCell). option_map_or (paid_refusal_of (decimal len) v) o None) c.1) ∙ is.allowed)) (sees seen_here)
 
 -- what that keeps
-pub push_kept : (fs : List Forest) (w : ℕ) (old new : Cells) → AreLawful old.cells → (x : List ℕ) (v : Value) (i : ℕ) → IsHeld w old.cells i → IsFine w old.cells v → IsPutPaid old new i x v → SeesPaid w old new i x v → ((v : ℕ) → Grows v old.cells new.cells) → ((u : ℕ) → is_of_at u old.cells i ≡ false → owned u new ≡ owned u old) → Kept fs w old new
-push_kept fs w old new laws x v i held fine is sees grows others = record {
+pub push_kept : (fs : List Forest) (w : ℕ) (old new : Cells) → AreLawful old.cells → (x : List ℕ) (v : Value) (i : ℕ) → IsHeld w old.cells i → IsFine w old.cells v → IsPermitted x → IsPutPaid old new i x v → SeesPaid w old new i x v → ((v : ℕ) → Grows v old.cells new.cells) → ((u : ℕ) → is_of_at u old.cells i ≡ false → owned u new ≡ owned u old) → Kept fs w old new
+push_kept fs w old new laws x v i held fine named is sees grows others = record {
   confined = λ h. confined_changed fs w old new i (stored x v) (ap (λ (t : Cells). t.cells) is.done) (grows w) h (λ d at. after d (h.each i d at));
   grows = grows w;
   others_grow = λ v apart. grows v;
-  others_confined = λ gs u apart. confined_apart gs u old new i (stored x v) (ap (λ (t : Cells). t.cells) is.done) (grows u) (λ d at. ap (λ (e : PlainCell). is_of u e.owner) (stored_fine w old.cells x v fine d).1 ∙ none_at u old.cells i (not_others w u old.cells laws i held apart) d at);
+  others_confined = λ gs u apart. confined_apart gs u old new i (stored x v) (ap (λ (t : Cells). t.cells) is.done) (grows u) (λ d at. ap (λ (e : PlainCell). is_of u e.owner) (stored_fine w old.cells x v fine named d).1 ∙ none_at u old.cells i (not_others w u old.cells laws i held apart) d at);
   others = λ u apart. others u (not_others w u old.cells laws i held apart);
   nodes = λ p. seen_nodes p (visible_at w old.cells i) refl;
   counts = seen_counts (visible_at w old.cells i) refl;
@@ -166,5 +167,5 @@ push_kept fs w old new laws x v i held fine is sees grows others = record {
 
     after : (d : PlainCell) → IsFineFor fs w old.cells d → IsFineFor fs w new.cells (stored x v d)
     after d h =
-        let s = stored_fine w new.cells x v (fine_stays w old.cells new.cells (grows w) v fine) d in
-        subst (IsFineFor fs w new.cells) (sym s.1) (other_pairs fs w new.cells d s.0 s.2 (cell_stays w old.cells new.cells (grows w) fs d h))
+        let s = stored_fine w new.cells x v (fine_stays w old.cells new.cells (grows w) v fine) named d in
+        subst (IsFineFor fs w new.cells) (sym s.1) (other_pairs fs w new.cells d s.0 s.2 s.3 (cell_stays w old.cells new.cells (grows w) fs d h))

@@ -1,6 +1,7 @@
 -- A write of a property, as the widget sees it.
 use Rattle.std.proofs.Common.{◌≡◌, ℕ, ◌+◌, ◌≤◌, List, [], ◌∷◌, ◌++◌, refl, sym, ap, ◌∙◌, subst, Option, Some, None, arith, Bool, true, false, cond, if◌then◌else◌, slice_get, filter, map, is_some}
 use Rattle.std.specs.Prelude.{◌&&◌, ◌||◌, pos, negsuc, nat_eq, nat_le, nat_lt, slice_set}
+use Rattle.std.specs.List.{AllByRecursion}
 use Rattle.std.specs.Option.{option_and_then, option_map, option_map_or}
 use Rattle.std.specs.Str.{bytes_eq}
 use Rattle.std.proofs.lemmas.Bool.Decides.{nat_tests}
@@ -8,6 +9,7 @@ use Rattle.std.proofs.lemmas.Option.{get_or_from_slice_get, slice_get-map}
 use Rattle.std.proofs.lemmas.Slice.Eq.{bytes_eq-Decides}
 use Rattle.indexmap.specs.IndexMap.{insert_entry}
 use Rattle.code_units.specs.Indices.{index_of}
+use Rattle.code_units.specs.Permitted.{IsPermitted}
 use Rattle.code_units.specs.declared.owner.Owner.{Owner}
 use Rattle.code_units.specs.declared.owner.Owner.TheVariants as whose
 use Rattle.js_tree.specs.Forest.{Forest}
@@ -39,7 +41,8 @@ use Rattle.widget_meaning.specs.Properties as properties
 use Rattle.widget_meaning.specs.Properties.{cut_to, put, put_index, put_length, put_own, put_pair}
 use Rattle.js_image.specs.declared.outcome.Written.{Written}
 use Rattle.js_image.specs.Image.{Rest, image, meant, meant_cell, meant_counts, meant_pairs, seen, state_of}
-use Rattle.js_image.specs.Held.{ArePairs, CountsRise, HoldNodes, IsFine, IsFineFor, IsHeld, Kept}
+use Rattle.js_image.specs.Held.{ArePairs, ArePermitted, CountsRise, HoldNodes, IsFine, IsFineFor, IsHeld, Kept}
+use Rattle.js_image.proofs.Named.{insert_permitted, length_permitted}
 use Rattle.js_image.proofs.Nodes.{hold_changed, hold_same, pass_put, rise_same, rise_to}
 use Rattle.js_image.specs.Laws.{AreLawful}
 use Rattle.js_image.specs.Plans.{IsRefusalOf, put_plan}
@@ -383,33 +386,39 @@ module _ (fs : List Forest) (r : Rest) (w : ℕ) (old : Cells) where
               ∙ (λ j. refusal_plan (sym (table_closed there.0 there.1 q) j) st (go st))
               ∙ refuses e p (put_refusal old i x v) st (go st) go is refused
 
--- pairs after some were taken out
-pub filter_fine : (w : ℕ) (cells : List PlainCell) (keep : List ℕ → Bool) (ps : List (List ℕ × Value)) → ArePairs w cells ps → ArePairs w cells (filter (λ p. keep p.0) ps)
-filter_fine w cells keep [] h = tt
-filter_fine w cells keep (p ∷ ps) h = by (keep p.0) (filter_fine w cells keep ps h.1)
+-- what holds of pairs, after some were taken out
+filter_each : (P : List ℕ × Value → Type 0) (keep : List ℕ → Bool) (ps : List (List ℕ × Value)) → AllByRecursion P ps → AllByRecursion P (filter (λ p. keep p.0) ps)
+filter_each P keep [] h = tt
+filter_each P keep (p ∷ ps) h = by (keep p.0) (filter_each P keep ps h.1)
   where
-    by : (b : Bool) → ArePairs w cells (filter (λ p. keep p.0) ps) → ArePairs w cells (cond b (p ∷ filter (λ p. keep p.0) ps) (filter (λ p. keep p.0) ps))
+    by : (b : Bool) → AllByRecursion P (filter (λ p. keep p.0) ps) → AllByRecursion P (cond b (p ∷ filter (λ p. keep p.0) ps) (filter (λ p. keep p.0) ps))
     by true g = (h.0, g)
     by false g = g
 
--- a cell with other pairs leads to what the widget may hold, if these do
-pub other_pairs : (fs : List Forest) (w : ℕ) (cells : List PlainCell) (d : PlainCell) (ps : List (List ℕ × Value)) → (ArePairs w cells d.pairs → ArePairs w cells ps) → IsFineFor fs w cells d → IsFineFor fs w cells (record d { pairs = ps })
-other_pairs fs w cells d ps fine m = record {
-  cell = λ b. record { up = (m.cell b).up; pairs = λ p. fine ((m.cell b).pairs p); fun = (m.cell b).fun };
+-- a cell with other pairs leads to what the widget may hold, if these do and their names are permitted
+pub other_pairs : (fs : List Forest) (w : ℕ) (cells : List PlainCell) (d : PlainCell) (ps : List (List ℕ × Value)) → (ArePairs w cells d.pairs → ArePairs w cells ps) → (ArePermitted d.pairs → ArePermitted ps) → IsFineFor fs w cells d → IsFineFor fs w cells (record d { pairs = ps })
+other_pairs fs w cells d ps fine named m = record {
+  cell = λ b. record { up = (m.cell b).up; pairs = λ p. fine ((m.cell b).pairs p); names = λ p. named ((m.cell b).names p); fun = (m.cell b).fun };
   scope = λ b. record { outer = (m.scope b).outer; pairs = fine (m.scope b).pairs };
 }
 
--- what a write makes of a cell: its pairs alone change, to what the widget may hold
-module _ (w : ℕ) (cells : List PlainCell) (x : List ℕ) (v : Value) (fine : IsFine w cells v) (d : PlainCell) where
+-- what a write makes of a cell: its pairs alone change, to what the widget may hold under names that are permitted
+module _ (w : ℕ) (cells : List PlainCell) (x : List ℕ) (v : Value) (fine : IsFine w cells v) (named : IsPermitted x) (d : PlainCell) where
   abbrev Repaired : PlainCell → Type 0
-  Repaired e = (ps : List (List ℕ × Value)) × (e ≡ record d { pairs = ps }) × (ArePairs w cells d.pairs → ArePairs w cells ps)
+  Repaired e = (ps : List (List ℕ × Value)) × (e ≡ record d { pairs = ps }) × (ArePairs w cells d.pairs → ArePairs w cells ps) × (ArePermitted d.pairs → ArePermitted ps)
 
   written_fine : Repaired (written x v d)
-  written_fine = (insert_entry bytes_eq d.pairs x v, refl, λ h. insert_fine w cells d.pairs x v h fine)
+  written_fine = (insert_entry bytes_eq d.pairs x v, refl, λ h. insert_fine w cells d.pairs x v h fine, λ h. insert_permitted d.pairs x v h named)
 
   resized_fine : (o : Option ℕ) → Repaired (option_map_or (λ n. cut n (written length_name v d)) o d)
-  resized_fine None = (d.pairs, refl, λ h. h)
-  resized_fine (Some n) = (filter (λ p. is_below n p.0) (insert_entry bytes_eq d.pairs length_name v), refl, λ h. filter_fine w cells (is_below n) (insert_entry bytes_eq d.pairs length_name v) (insert_fine w cells d.pairs length_name v h fine))
+  resized_fine None = (d.pairs, refl, λ h. h, λ h. h)
+  resized_fine (Some n) =
+      let ps = insert_entry bytes_eq d.pairs length_name v in (
+        filter (λ p. is_below n p.0) ps,
+        refl,
+        λ h. filter_each (λ p. IsFine w cells p.1) (is_below n) ps (insert_fine w cells d.pairs length_name v h fine),
+        λ h. filter_each (λ p. IsPermitted p.0) (is_below n) ps (insert_permitted d.pairs length_name v h length_permitted),
+      )
 
   placed_fine : (o : Option ℕ) → Repaired (placed x v d o)
   placed_fine None = written_fine
@@ -417,7 +426,13 @@ module _ (w : ℕ) (cells : List PlainCell) (x : List ℕ) (v : Value) (fine : I
     where
       by : (b : Bool) → Repaired (if b then written x v d else written length_name (count_value (i + 1)) (written x v d))
       by true = written_fine
-      by false = (insert_entry bytes_eq (insert_entry bytes_eq d.pairs x v) length_name (count_value (i + 1)), refl, λ h. insert_fine w cells (insert_entry bytes_eq d.pairs x v) length_name (count_value (i + 1)) (insert_fine w cells d.pairs x v h fine) tt)
+      by false =
+          let ps = insert_entry bytes_eq d.pairs x v in (
+            insert_entry bytes_eq ps length_name (count_value (i + 1)),
+            refl,
+            λ h. insert_fine w cells ps length_name (count_value (i + 1)) (insert_fine w cells d.pairs x v h fine) tt,
+            λ h. insert_permitted ps length_name (count_value (i + 1)) (insert_permitted d.pairs x v h named) length_permitted,
+          )
 
   pub stored_fine : Repaired (stored x v d)
   stored_fine = by (is_array d.form) (bytes_eq x length_name)
@@ -428,12 +443,12 @@ module _ (w : ℕ) (cells : List PlainCell) (x : List ℕ) (v : Value) (fine : I
       by false b = written_fine
 
 -- what a write keeps
-pub put_kept : (fs : List Forest) (w : ℕ) (old new : Cells) → AreLawful old.cells → (x : List ℕ) (v : Value) (i : ℕ) → IsHeld w old.cells i → IsFine w old.cells v → IsPut old new i x v → SeesPut w old new i x v → ((v : ℕ) → Grows v old.cells new.cells) → ((u : ℕ) → is_of_at u old.cells i ≡ false → owned u new ≡ owned u old) → Kept fs w old new
-put_kept fs w old new laws x v i held fine is sees grows others = record {
+pub put_kept : (fs : List Forest) (w : ℕ) (old new : Cells) → AreLawful old.cells → (x : List ℕ) (v : Value) (i : ℕ) → IsHeld w old.cells i → IsFine w old.cells v → IsPermitted x → IsPut old new i x v → SeesPut w old new i x v → ((v : ℕ) → Grows v old.cells new.cells) → ((u : ℕ) → is_of_at u old.cells i ≡ false → owned u new ≡ owned u old) → Kept fs w old new
+put_kept fs w old new laws x v i held fine named is sees grows others = record {
   confined = λ h. confined_changed fs w old new i (stored x v) (ap (λ (t : Cells). t.cells) is.done) (grows w) h (λ d at. after d (h.each i d at));
   grows = grows w;
   others_grow = λ v apart. grows v;
-  others_confined = λ gs u apart. confined_apart gs u old new i (stored x v) (ap (λ (t : Cells). t.cells) is.done) (grows u) (λ d at. ap (λ (e : PlainCell). is_of u e.owner) (stored_fine w old.cells x v fine d).1 ∙ none_at u old.cells i (not_others w u old.cells laws i held apart) d at);
+  others_confined = λ gs u apart. confined_apart gs u old new i (stored x v) (ap (λ (t : Cells). t.cells) is.done) (grows u) (λ d at. ap (λ (e : PlainCell). is_of u e.owner) (stored_fine w old.cells x v fine named d).1 ∙ none_at u old.cells i (not_others w u old.cells laws i held apart) d at);
   others = λ u apart. others u (not_others w u old.cells laws i held apart);
   nodes = λ p. seen_nodes p (visible_at w old.cells i) refl;
   counts = seen_counts (visible_at w old.cells i) refl;
@@ -452,8 +467,8 @@ put_kept fs w old new laws x v i held fine is sees grows others = record {
 
     after : (d : PlainCell) → IsFineFor fs w old.cells d → IsFineFor fs w new.cells (stored x v d)
     after d h =
-        let s = stored_fine w new.cells x v (fine_stays w old.cells new.cells (grows w) v fine) d in
-        subst (IsFineFor fs w new.cells) (sym s.1) (other_pairs fs w new.cells d s.0 s.2 (cell_stays w old.cells new.cells (grows w) fs d h))
+        let s = stored_fine w new.cells x v (fine_stays w old.cells new.cells (grows w) v fine) named d in
+        subst (IsFineFor fs w new.cells) (sym s.1) (other_pairs fs w new.cells d s.0 s.2 s.3 (cell_stays w old.cells new.cells (grows w) fs d h))
 
 -- ## Values that are no cells
 

@@ -1,9 +1,11 @@
 -- A property that is taken out, as the widget sees it.
 use Rattle.std.proofs.Common.{◌≡◌, ℕ, zero, suc, List, [], ◌∷◌, refl, sym, ap, ◌∙◌, Option, Some, None, Bool, true, false, cond, if◌then◌else◌, slice_get, is_some, not, subst}
 use Rattle.std.specs.Prelude.{◌&&◌}
+use Rattle.std.specs.List.{AllByRecursion}
 use Rattle.std.specs.Map.{remove_entry}
 use Rattle.std.specs.Option.{option_map, option_map_or}
 use Rattle.std.specs.Str.{bytes_eq}
+use Rattle.code_units.specs.Permitted.{IsPermitted}
 use Rattle.js_tree.specs.Forest.{Forest}
 use Rattle.store_cells.specs.declared.value.Value.{Value}
 use Rattle.store_cells.specs.declared.value.Value.TheVariants as value
@@ -26,7 +28,7 @@ use Rattle.widget_meaning.specs.Plan.{Plan}
 use Rattle.widget_meaning.specs.Costs.{throw}
 use Rattle.widget_meaning.specs.Properties.{delete, delete_own, delete_pair}
 use Rattle.js_image.specs.Image.{Rest, image, meant, meant_cell, meant_pairs, seen}
-use Rattle.js_image.specs.Held.{ArePairs, CountsRise, HoldNodes, IsFineFor, IsHeld, Kept}
+use Rattle.js_image.specs.Held.{CountsRise, HoldNodes, IsFine, IsFineFor, IsHeld, Kept}
 use Rattle.js_image.proofs.Nodes.{hold_changed, hold_same, pass_removed, rise_same, rise_to}
 use Rattle.js_image.specs.Laws.{AreLawful}
 use Rattle.js_image.specs.Reads.{cell_in}
@@ -54,11 +56,11 @@ without_meant (p ∷ ps) x = by (bytes_eq x p.0) (without_meant ps x)
     by true g = refl
     by false g = ap (λ l. (p.0, meant p.1) ∷ l) g
 
-removed_fine : (w : ℕ) (cells : List PlainCell) (x : List ℕ) (ps : List (List ℕ × Value)) → ArePairs w cells ps → ArePairs w cells (remove_entry (bytes_eq x) ps)
-removed_fine w cells x [] h = tt
-removed_fine w cells x (p ∷ ps) h = by (bytes_eq x p.0) (removed_fine w cells x ps h.1)
+removed_each : (P : List ℕ × Value → Type 0) (x : List ℕ) (ps : List (List ℕ × Value)) → AllByRecursion P ps → AllByRecursion P (remove_entry (bytes_eq x) ps)
+removed_each P x [] h = tt
+removed_each P x (p ∷ ps) h = by (bytes_eq x p.0) (removed_each P x ps h.1)
   where
-    by : (b : Bool) → ArePairs w cells (remove_entry (bytes_eq x) ps) → ArePairs w cells (cond b ps (p ∷ remove_entry (bytes_eq x) ps))
+    by : (b : Bool) → AllByRecursion P (remove_entry (bytes_eq x) ps) → AllByRecursion P (cond b ps (p ∷ remove_entry (bytes_eq x) ps))
     by true g = h.1
     by false g = (h.0, g)
 
@@ -230,7 +232,7 @@ remove_kept fs w old new laws x i answer held is sees grows others = record {
 
     after : (d : PlainCell) (b : Bool) → IsFineFor fs w old.cells d → IsFineFor fs w new.cells (if b then d else record d { pairs = remove_entry (bytes_eq x) d.pairs })
     after d true h = cell_stays w old.cells new.cells (grows w) fs d h
-    after d false h = other_pairs fs w new.cells d (remove_entry (bytes_eq x) d.pairs) (λ p. removed_fine w new.cells x d.pairs p) (cell_stays w old.cells new.cells (grows w) fs d h)
+    after d false h = other_pairs fs w new.cells d (remove_entry (bytes_eq x) d.pairs) (removed_each (λ p. IsFine w new.cells p.1) x d.pairs) (removed_each (λ p. IsPermitted p.0) x d.pairs) (cell_stays w old.cells new.cells (grows w) fs d h)
 
 -- from a primitive nothing is taken out
 pub delete_primitive : (w : ℕ) (cells : List PlainCell) (b : Value) → cell_in b ≡ None → (x : List ℕ) (s : State) (go : Bool → State → Plan) → delete (seen w cells b) x s go ≡ go true s

@@ -10,7 +10,7 @@ use Rattle.js_tree.specs.Forest.{Forest}
 use Rattle.store_cells.specs.declared.value.Value.{Value}
 use Rattle.store_cells.specs.Lists.{changed}
 use Rattle.store_cells.specs.Arrays.{written}
-use Rattle.store_cells.specs.Cells.{Cells, PlainCell, holder, value_of, widget_of}
+use Rattle.store_cells.specs.Cells.{Cells, PlainCell, holder, is_scope, value_of, widget_of}
 use Rattle.store_cells.proofs.Lists.{changed-set, map-changed}
 use Rattle.object_store.specs.Calls.{var_done}
 use Rattle.object_store.specs.Grows.{Grows}
@@ -22,7 +22,7 @@ use Rattle.js_image.specs.Image.{Rest, image, meant, meant_pairs, meant_scope, n
 use Rattle.js_image.specs.Held.{ArePairs, CountsRise, IsConfined, IsFine, IsFineFor, IsOwnScope, Kept}
 use Rattle.js_image.proofs.Nodes.{hold_same, rise_same}
 use Rattle.js_image.specs.Laws.{AreLawful}
-use Rattle.js_image.proofs.Chains.{heap_at, looked}
+use Rattle.js_image.proofs.Chains.{heap_at, looked, visible_form, visible_no_scope}
 use Rattle.js_image.proofs.Grown.{cell_stays, fine_stays, kept_same, passed_over}
 use Rattle.js_image.proofs.Variables.{found_scope, holds, own_there, scope_is}
 
@@ -132,11 +132,17 @@ module _ (fs : List Forest) (w : ℕ) (old new : Cells) (laws : AreLawful old.ce
               let c = own_there fs no_rest w old confined laws x h a.own in
               ap (λ (o : Option PlainCell). option_map_or (λ (d : PlainCell). is_of u d.owner) o false) c.1 ∙ not_anothers u w apart c.0 (both (is_of w c.0.owner) _ c.2).0
 
+          scope_form : (d : PlainCell) → slice_get old.cells h ≡ Some d → is_scope d.form ≡ true
+          scope_form d at =
+              let a = holds fs no_rest w old confined laws x i h own e in
+              let c = own_there fs no_rest w old confined laws x h a.own in
+              (both (is_of w d.owner) (is_scope d.form) (ap (is_own_scope w) (some_same d c.0 (sym at ∙ c.1)) ∙ c.2)).1
+
           fine_set : (d : PlainCell) → slice_get old.cells h ≡ Some d → IsFineFor fs w old.cells d → IsFineFor fs w new.cells (written x v d)
           fine_set d at k =
               let m = cell_stays w old.cells new.cells (grows w) fs d k in
               record {
-                cell = λ b. record { up = (m.cell b).up; pairs = λ p. insert_fine w new.cells d.pairs x v ((m.cell b).pairs p) (fine_stays w old.cells new.cells (grows w) v fine); fun = (m.cell b).fun };
+                cell = λ b. absurd (false_true (sym (visible_no_scope d.form (visible_form w d b)) ∙ scope_form d at));
                 scope = λ b. record { outer = (m.scope b).outer; pairs = insert_fine w new.cells d.pairs x v (m.scope b).pairs (fine_stays w old.cells new.cells (grows w) v fine) };
               }
 

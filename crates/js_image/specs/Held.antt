@@ -1,6 +1,7 @@
 -- What a widget may hold, and that what it holds in the store is its own.
 use Rattle.std.specs.Prelude.{◌≡◌, ℕ, ◌<◌, ◌≤◌, Bool, true, false, List, Option, None, Some, IfSome, length, slice_get, slice_index_or, ◌||◌}
 use Rattle.std.specs.List.{AllByRecursion}
+use Rattle.code_units.specs.Permitted.{IsPermitted}
 use Rattle.js_tree.specs.Forest.{Forest, no_trees, IsFun}
 use Rattle.store_cells.specs.declared.value.Value.{Value}
 use Rattle.store_cells.specs.declared.value.Value.TheVariants as value
@@ -42,14 +43,19 @@ module _ (w : ℕ) (cells : List PlainCell) where
   abbrev pub IsPlaceScope : Option ℕ → Type 0
   IsPlaceScope o = IfSome o IsOwnScope
 
+-- pairs whose names a script may use
+abbrev pub ArePermitted : List (List ℕ × Value) → Type 0
+ArePermitted ps = AllByRecursion (λ p. IsPermitted p.0) ps
+
 -- a function of one of the trees
 abbrev pub IsFunOf : List Forest → FunParts → Type 0
 IsFunOf fs p = (p.code < length fs) × IsFun (slice_index_or fs p.code no_trees) p.fun
 
--- What a visible cell of the widget leads to is the widget's: its prototype, its values, and a function's tree and scope.
+-- What a visible cell of the widget leads to is the widget's: its prototype, its values, and a function's tree and scope. Its names are those that a script may use, but for the hidden one of a Bunch.
 pub record IsFineCell (fs : List Forest) (w : ℕ) (cells : List PlainCell) (c : PlainCell) : Type 0 where
   pub up : IfSome c.up (IsHeld w cells)
   pub pairs : is_bunch c.form ≡ false → ArePairs w cells c.pairs
+  pub names : is_bunch c.form ≡ false → ArePermitted c.pairs
   pub fun : IfSome (function_in c.form) (λ p. IsFunOf fs p × IsPlaceScope w cells p.scope)
 
 -- What a scope of the widget leads to is the widget's.

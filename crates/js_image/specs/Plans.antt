@@ -1,8 +1,9 @@
 -- What a call of the store gives, as the plan that it carries out.
-use Rattle.std.specs.Prelude.{◌≡◌, ℕ, List, [], ◌∷◌, Bool, Option, codes, length, map, nat_eq, Some}
+use Rattle.std.specs.Prelude.{◌≡◌, ℕ, List, [], ◌∷◌, Bool, true, Option, codes, length, map, nat_eq, Some}
 use Rattle.std.specs.Option.{option_map}
-use Rattle.std.specs.List.{IsDistinct}
+use Rattle.std.specs.List.{IsDistinct, list_all}
 use Rattle.std.specs.Str.{bytes_eq}
+use Rattle.code_units.specs.Permitted.{is_permitted}
 use Rattle.js_tree.specs.Forest.{Forest}
 use Rattle.store_cells.specs.declared.value.Value.{Value as StoreValue}
 use Rattle.store_cells.specs.declared.value.Value.TheVariants as value
@@ -143,6 +144,11 @@ module _ (w : ℕ) (cells : List PlainCell) where
   IsNew (fresh.ObjectWith proto pairs) = IsHeld w cells proto × IsPrototype cells proto × IsDistinct bytes_eq (map (λ p. p.0) pairs.items) × ArePairs w cells pairs.items
   IsNew (fresh.ArrayWith values) = AreFine w cells values.items
   IsNew (fresh.ScopeWith outer pairs) = ⊥
+
+-- whether a script may use the names with which a new cell begins
+abbrev pub begins_permitted : NewCell → Bool
+begins_permitted (fresh.ObjectWith proto pairs) = list_all (λ p. is_permitted p.0) pairs.items
+begins_permitted _ = true
 
 -- a new cell after which all is kept: no Bunch, whose nodes are not the store's to judge, and a function of one of the trees
 abbrev pub IsNewOf : List Forest → NewCell → Type 0

@@ -1,7 +1,8 @@
 //! New cells and scopes.
 ghost use Rattle.std.specs.Prelude.{◌≡◌, ℕ, ◌<◌, List, IfOk, length, map};
-ghost use Rattle.std.specs.List.{IsDistinct};
+ghost use Rattle.std.specs.List.{IsDistinct, list_all};
 ghost use Rattle.std.specs.Str.{bytes_eq};
+ghost use Rattle.code_units.specs.Permitted.{is_permitted};
 ghost use Rattle.js_tree.specs.Forest.{Forest};
 ghost use Rattle.object_store.specs.Calls.{slots_of};
 ghost use Rattle.widget_meaning.specs.Values.{Value as Meant};
@@ -11,17 +12,18 @@ ghost use Rattle.widget_meaning.specs.Costs as costs;
 ghost use Rattle.widget_meaning.specs.NativeForms as natives;
 ghost use Rattle.js_image.specs.Image.{Rest, all_seen, image};
 ghost use Rattle.js_image.specs.Held.{AreFine, ArePairs, IsPlaceScope, Kept};
-ghost use Rattle.js_image.specs.Plans.{IsFineMade, IsNew, IsNewOf, IsScopeMade, IsStopOf, fault_values, made_plan, meant_fault, meant_new, scope_of, scope_plan};
+ghost use Rattle.js_image.specs.Plans.{IsFineMade, IsNew, IsNewOf, IsScopeMade, IsStopOf, begins_permitted, fault_values, made_plan, meant_fault, meant_new, scope_of, scope_plan};
 
 use crate::laws::lawful;
 use crate::outcome::{Fault, Made, Paid, StopCause};
 use crate::paying::pay_units;
-use code_units::{Memory, Owner, Text};
+use code_units::{Memory, Owner, Text, permitted};
 use object_store::{CellId, HostEntry, NewCell, Store, StoreFault, UNIT_LIMIT, Value};
 use std::alloc::Global;
 
 /// Makes an Object, an Array, a Function or a Bunch, with its first pairs or elements: the plan that
-/// pays for it at once, and then goes on with it.
+/// pays for it at once, and then goes on with it. An Object with a name that no accepted script can
+/// write is answered like want of memory.
 pub fn make(alloc: Global, store: &mut Store, w: u32, cell: NewCell) -> Result<Made, Memory>
     requires widget { w < 32 }
     requires held { IsNew w store.old.cells cell }
@@ -31,6 +33,9 @@ pub fn make(alloc: Global, store: &mut Store, w: u32, cell: NewCell) -> Result<M
     ensures fine { IfOk result (λ m. IsFineMade w store.new.cells m) }
     ensures kept { (fs : List Forest) → IsNewOf fs cell → Kept fs w store.old store.new }
 {
+    if !begins_permitted(&cell) {
+        return Err(Memory);
+    }
     // The host's cells are there, and what the widget has paid is within the limits.
     store.host_stays();
     let _paid = store.counts(Owner::Widget(w));
@@ -38,6 +43,22 @@ pub fn make(alloc: Global, store: &mut Store, w: u32, cell: NewCell) -> Result<M
         Ok(id) => Ok(Made::Cell(id)),
         Err(fault) => Ok(Made::Stop(stop_of(fault)?)),
     }
+}
+
+// Whether a script may use the names with which a new cell begins.
+fn begins_permitted(cell: &NewCell) -> bool
+    ensures { result ≡ begins_permitted cell.now }
+{
+    match cell {
+        NewCell::ObjectWith { pairs, .. } => all_permitted(pairs),
+        _ => true,
+    }
+}
+
+fn all_permitted(pairs: &[(Text, Value)]) -> bool
+    ensures { result ≡ list_all (λ p. is_permitted p.0) pairs.now }
+{
+    pairs.iter().all(|pair| permitted(&pair.0))
 }
 
 /// Makes an Array of these elements, and pays for so many units of texts that are made for it: the

@@ -16,7 +16,7 @@ ghost use Rattle.js_image.specs.Plans.{IsRefusalOf, put_plan, removed_plan, Push
 use crate::laws::lawful;
 use crate::outcome::{Fault, Removed, StopCause, Written};
 use crate::reading::cell_of;
-use code_units::{Memory, Owner, Text, whole_text};
+use code_units::{Memory, Owner, Text, permitted, whole_text};
 use object_store::{CellId, Store, StoreFault, Value};
 use std::alloc::Global;
 
@@ -36,7 +36,8 @@ pub fn assign(store: &mut Store, w: u32, scope: Option<CellId>, name: &Text, val
 }
 
 /// Writes a property of a value that the widget holds: the plan that pays for a new name, and then
-/// goes on; on a primitive it does nothing.
+/// goes on; on a primitive it does nothing. A name that no accepted script can write is answered like
+/// want of memory.
 pub fn put(
     store: &mut Store,
     w: u32,
@@ -74,6 +75,9 @@ fn put_in(
         ≡ put_plan p k (image fs r w store.new)) }
     ensures kept { (fs : List Forest) → Kept fs w store.old store.new }
 {
+    if !permitted(name) {
+        return Err(Memory);
+    }
     lawful(store);
     let _paid = store.counts(Owner::Widget(w));
     match store.put(cell, name, value) {

@@ -334,7 +334,7 @@ module _ (w : ℕ) (lt : w < 32) (old new : Cells) (p : Page) (ns : Vec ℕ Glob
 
   pub bunch_kept : (id : ℕ) → host_count ≤ length old.cells → IsMade old new w id (fresh.Bunch ns) → Made w old new id (fresh.Bunch ns) → ((v : ℕ) → Grows v old.cells new.cells) → ((v : ℕ) → (w ≡ v → ⊥) → owned v new ≡ owned v old) → KeepsStore w old new
   bunch_kept id enough made own_made grows others = record {
-    confined = λ fs. new_confined w old new (fresh.Bunch ns) h id enough made (grows w) fs tt;
+    confined = λ fs. new_confined w old new (fresh.Bunch ns) h id enough made (grows w) fs tt refl;
     grows = grows w;
     others = others;
     others_grow = λ v apart. grows v;

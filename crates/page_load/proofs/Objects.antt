@@ -51,4 +51,4 @@ module _ (w : ℕ) (old new : Cells) (laws : AreLawful old.cells) (proto id : �
   one_is = own.seen ∙ (λ j. own_paid 1 0 0 (record (nothing j) { heap = (nothing j).heap ++ first_cell store.Object (link j) ∷ []; scopes = (nothing j).scopes ++ [] }))
 
   pub lib_kept : ((v : ℕ) → Grows v old.cells new.cells) → ((v : ℕ) → (w ≡ v → ⊥) → owned v new ≡ owned v old) → (fs : List Forest) → Kept fs w old new
-  lib_kept grows others fs = new_kept w old new (fresh.Object proto) (held, able) id laws.enough made own grows others fs tt
+  lib_kept grows others fs = new_kept w old new (fresh.Object proto) (held, able) id laws.enough made own grows others fs tt refl
