@@ -35,7 +35,7 @@ use Rattle.life_queue.specs.declared.life.Life.{Life}
 use Rattle.turn_calls.specs.declared.turn.Turn.{Turn}
 use Rattle.turn_calls.specs.declared.turn.Shared.{Shared}
 use Rattle.life_queue.specs.Lives.{going_of, life_seen, outside, own_of, trees_in, work_of, works_of}
-use Rattle.life_queue.specs.Fine.{FineLife, FineTurn, FineWork, KeepsCells, KeepsLife}
+use Rattle.life_queue.specs.Fine.{FineLife, FineTurn, FineWork, KeepsCells}
 use Rattle.life_queue.proofs.Scripts.{lib_stays}
 use Rattle.life_queue.proofs.Waits.{doing_fine, turn_same}
 
@@ -118,25 +118,36 @@ module _ (w v : ℕ) (ne : w ≡ v → ⊥) (lt : v < 32) (trees : List Forest) 
         elsewhere = λ n e. grown.elsewhere n (off p q v (page.owners v) n e);
       }
 
--- a life, after a call for another
-module _ (w v : ℕ) (ne : w ≡ v → ⊥) (lt : v < 32) (h k : Shared) (c d : Life) (keeps : KeepsLife w h k c d) (a : Life) (fine : FineLife h v a) where
+-- the turn of widget v, after a call for widget w
+module _ (w v : ℕ) (ne : w ≡ v → ⊥) (trees : List Forest) (s t : Cells) (p q : Page) (cells : KeepsCells trees w s t) (page : KeepsPage w p q) where
+  -- what it holds stays its own, whichever trees its scripts have
+  pub turn_apart : (fs : List Forest) (grant : ℕ) (o : Option Turn) → IfSome o (FineTurn fs v s p grant) → IfSome o (FineTurn fs v t q grant)
+  turn_apart fs grant None f = tt
+  turn_apart fs grant (Some u) f = record {
+    doing = doing_fine fs v s.cells t.cells (cells.others_grow v ne) p q (page.numbers v) (page.owners v) u.doing f.doing;
+    levels = levels_fine v s.cells t.cells (cells.others_grow v ne) p q (page.numbers v) (page.owners v) fs u.calls.levels.items f.levels;
+    left = f.left;
+  }
+
+-- a life, after a call for another, whose scripts may have other trees
+module _ (w v : ℕ) (ne : w ≡ v → ⊥) (lt : v < 32) (trees : List Forest) (h k : Shared) (codes : k.codes ≡ h.codes) (cells : KeepsCells trees w h.store k.store) (page : KeepsPage w h.page k.page) (a : Life) (fine : FineLife h v a) where
   same_trees : trees_in k ≡ trees_in h
-  same_trees = ap (λ (cs : Vec Code Global). trees_of cs.items) keeps.codes
+  same_trees = ap (λ (cs : Vec Code Global). trees_of cs.items) codes
 
   own_apart : own_of k v a ≡ own_of h v a
-  own_apart = ap (λ (s : State). s.own) (image_apart w v ne lt (trees_in h) h.store k.store h.page k.page keeps.cells keeps.page a.widget.around fine.sound.holds (trees_in k) (outside a) None)
+  own_apart = ap (λ (s : State). s.own) (image_apart w v ne lt trees h.store k.store h.page k.page cells page a.widget.around fine.sound.holds (trees_in k) (outside a) None)
       ∙ ap (λ fs. (image fs (outside a) v (beside h.store h.page a.widget.around None)).own) same_trees
 
   going_apart : (t : Turn) → FineTurn (trees_in h) v h.store h.page a.grant t → going_of k v a t ≡ going_of h v a t
   going_apart t turn =
       let x = outside_of (outside a) t.calls.dispatches.items in
       let states : turn_image (trees_in k) (outside a) v k.store k.page a.widget.around t.calls.dispatches.items ≡ turn_image (trees_in h) (outside a) v h.store h.page a.widget.around t.calls.dispatches.items =
-      image_apart w v ne lt (trees_in h) h.store k.store h.page k.page keeps.cells keeps.page a.widget.around fine.sound.holds (trees_in k) x (bubbled_of t.calls.dispatches.items)
+      image_apart w v ne lt trees h.store k.store h.page k.page cells page a.widget.around fine.sound.holds (trees_in k) x (bubbled_of t.calls.dispatches.items)
       ∙ ap (λ fs. image fs x v (beside h.store h.page a.widget.around (bubbled_of t.calls.dispatches.items))) same_trees in
       let plans : turn_plan (trees_in k) v k.store.cells k.page t.doing t.calls.levels.items (turn_image (trees_in k) (outside a) v k.store k.page a.widget.around t.calls.dispatches.items)
       ≡ turn_plan (trees_in h) v h.store.cells h.page t.doing t.calls.levels.items (turn_image (trees_in h) (outside a) v h.store h.page a.widget.around t.calls.dispatches.items) =
       (λ j. turn_plan (same_trees j) v k.store.cells k.page t.doing t.calls.levels.items (states j))
-      ∙ turn_same (trees_in h) v h.store.cells k.store.cells (keeps.cells.others_grow v ne) h.page k.page (keeps.page.numbers v) t.doing t.calls.levels.items turn.doing turn.levels _ in
+      ∙ turn_same (trees_in h) v h.store.cells k.store.cells (cells.others_grow v ne) h.page k.page (page.numbers v) t.doing t.calls.levels.items turn.doing turn.levels _ in
       λ j. record { plan = plans j; left = t.left }
 
   some_going : (o : Option Turn) → IfSome o (FineTurn (trees_in h) v h.store h.page a.grant) → option_map (going_of k v a) o ≡ option_map (going_of h v a) o
@@ -150,23 +161,15 @@ module _ (w v : ℕ) (ne : w ≡ v → ⊥) (lt : v < 32) (h k : Shared) (c d : 
   pub seen_apart : life_seen k v a ≡ life_seen h v a
   seen_apart = λ j. record { own = own_apart j; going = some_going a.turn fine.turn j; queue = same_works j }
 
-  some_turn : (o : Option Turn) → IfSome o (FineTurn (trees_in h) v h.store h.page a.grant) → IfSome o (FineTurn (trees_in h) v k.store k.page a.grant)
-  some_turn None f = tt
-  some_turn (Some t) f = record {
-    doing = doing_fine (trees_in h) v h.store.cells k.store.cells (keeps.cells.others_grow v ne) h.page k.page (keeps.page.numbers v) (keeps.page.owners v) t.doing f.doing;
-    levels = levels_fine v h.store.cells k.store.cells (keeps.cells.others_grow v ne) h.page k.page (keeps.page.numbers v) (keeps.page.owners v) (trees_in h) t.calls.levels.items f.levels;
-    left = f.left;
-  }
-
   -- and it stays sound, where each node still has its cell
   pub fine_apart : ((u n : ℕ) → owns k.page u n ≡ true → HasRaw k.store.cells n) → FineLife k v a
   fine_apart raws = record {
     number = fine.number;
-    confined = subst (λ fs. IsConfined fs v k.store) (sym same_trees) (keeps.cells.others_confined (trees_in h) v ne fine.confined);
-    sound = record { holds = holds_apart w v ne lt (trees_in h) h.store k.store h.page k.page keeps.cells keeps.page a.widget.around fine.sound.holds; raws = raws };
-    lib = lib_stays v h.store k.store a (keeps.cells.others_grow v ne) fine.lib;
+    confined = subst (λ fs. IsConfined fs v k.store) (sym same_trees) (cells.others_confined (trees_in h) v ne fine.confined);
+    sound = record { holds = holds_apart w v ne lt trees h.store k.store h.page k.page cells page a.widget.around fine.sound.holds; raws = raws };
+    lib = lib_stays v h.store k.store a (cells.others_grow v ne) fine.lib;
     works = subst (λ fs. AllByRecursion (FineWork fs) a.queue.items) (sym same_trees) fine.works;
-    turn = subst (λ fs. IfSome a.turn (FineTurn fs v k.store k.page a.grant)) (sym same_trees) (some_turn a.turn fine.turn);
+    turn = subst (λ fs. IfSome a.turn (FineTurn fs v k.store k.page a.grant)) (sym same_trees) (turn_apart w v ne trees h.store k.store h.page k.page cells page (trees_in h) a.grant a.turn fine.turn);
     counts = record {
       grant = fine.counts.grant;
       spent = fine.counts.spent;

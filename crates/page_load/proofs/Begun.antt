@@ -130,7 +130,7 @@ confined_each fs w s t k v h = by (eqb w v) refl
 
     by : (b : Bool) → eqb w v ≡ b → IsConfined fs v t
     by true e = let g = eqb-true w v e in subst (λ x. IsConfined fs x t) g (k.confined (subst (λ x. IsConfined fs x s) (sym g) h))
-    by false e = k.others_confined v (differ e) h
+    by false e = k.others_confined fs v (differ e) h
 
 module _ (w : ℕ) (h : Shared) (new : Cells) (kept : (fs : List Forest) → Kept fs w h.store new) (unused : IsUnused h.store w) (raws : HaveRaws h.store h.page) where
   pub unused_behind : IsUnused new (w + 1)
@@ -184,6 +184,6 @@ module _ (w : ℕ) (h k : Shared) (codes : k.codes ≡ h.codes) (page : k.page �
     raws = raws_here;
     unused = unused_behind w h k.store kept unused raws;
     others = (kept []).others;
-    fine = λ v a lt ne f. fine_apart w v ne lt h k l l keeps_life a f raws_here;
-    seen = λ v a lt ne f. seen_apart w v ne lt h k l l keeps_life a f;
+    fine = λ v a lt ne f. fine_apart w v ne lt (trees_in h) h k codes keeps_life.cells keeps_life.page a f raws_here;
+    seen = λ v a lt ne f. seen_apart w v ne lt (trees_in h) h k codes keeps_life.cells keeps_life.page a f;
   }

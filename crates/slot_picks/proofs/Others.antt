@@ -5,7 +5,7 @@ use Rattle.life_laws.specs.Life.{Seen, potentials}
 use Rattle.slot_laws.specs.Settled.{flag}
 use Rattle.turn_calls.specs.declared.turn.Shared.{Shared}
 use Rattle.life_queue.specs.declared.life.Life.{Life}
-use Rattle.life_queue.specs.Lives.{life_seen}
+use Rattle.life_queue.specs.Lives.{life_seen, trees_in}
 use Rattle.life_queue.specs.Fine.{FineLife, KeepsLife, tally}
 use Rattle.life_queue.proofs.Apart.{fine_apart, seen_apart}
 use Rattle.slot_picks.specs.Places.{FewPlace, FewPlaces, FinePlace, FinePlaces, seen_at, seens_from}
@@ -22,15 +22,15 @@ module _ (w : ℕ) (h m : Shared) (a b : Life) (keeps : KeepsLife w h m a b) (fi
   other_seen v ne lt l was = by l.accepted refl
     where
       by : (c : Bool) → l.accepted ≡ c → seen_at m v l ≡ seen_at h v l
-      by true e = seen_life m v l e ∙ (seen_apart w v ne lt h m a b keeps l (was e) ∙ sym (seen_life h v l e))
+      by true e = seen_life m v l e ∙ (seen_apart w v ne lt (trees_in h) h m keeps.codes keeps.cells keeps.page l (was e) ∙ sym (seen_life h v l e))
       by false e = seen_none m v l e ∙ sym (seen_none h v l e)
 
   other_fine : (v : ℕ) → (w ≡ v → ⊥) → v < 32 → (l : Life) → FinePlace h v l → FinePlace m v l
-  other_fine v ne lt l was = λ e. fine_apart w v ne lt h m a b keeps l (was e) fine.sound.raws
+  other_fine v ne lt l was = λ e. fine_apart w v ne lt (trees_in h) h m keeps.codes keeps.cells keeps.page l (was e) fine.sound.raws
 
   other_few : (n v : ℕ) → (w ≡ v → ⊥) → v < 32 → (l : Life) → FinePlace h v l → FewPlace h n v l → FewPlace m n v l
   other_few n v ne lt l was few = λ e.
-      let same : tally m v l ≡ tally h v l = ap (λ (s : Seen). l.records.turns + (l.records.missed + (l.records.gone + potentials s.queue))) (seen_apart w v ne lt h m a b keeps l (was e)) in
+      let same : tally m v l ≡ tally h v l = ap (λ (s : Seen). l.records.turns + (l.records.missed + (l.records.gone + potentials s.queue))) (seen_apart w v ne lt (trees_in h) h m keeps.codes keeps.cells keeps.page l (was e)) in
       subst (λ t. t ≤ n) (sym same) (few e)
 
   fews_stay : (n v : ℕ) (ls : List Life) → w < v → v + length ls ≤ 32 → FinePlaces h v ls → FewPlaces h n v ls → FewPlaces m n v ls

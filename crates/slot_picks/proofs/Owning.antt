@@ -84,7 +84,7 @@ module _ (w : ℕ) (h m : Shared) (a b : Life) (keeps : KeepsLife w h m a b) (tu
 
   own_other : (v : ℕ) → (w ≡ v → ⊥) → v < 32 → (l : Life) → OwnPlace h v l → OwnPlace m v l
   own_other v ne lt l was = λ e. let own = was e in record {
-    confined = subst (λ fs. IsConfined fs v m.store) (sym same_trees) (keeps.cells.others_confined v ne own.confined);
+    confined = subst (λ fs. IsConfined fs v m.store) (sym same_trees) (keeps.cells.others_confined (trees_in h) v ne own.confined);
     holds = holds_apart w v ne lt (trees_in h) h.store m.store h.page m.page keeps.cells keeps.page l.widget.around own.holds;
     turn = subst (λ fs. IfSome l.turn (FineTurn fs v m.store m.page l.grant)) (sym same_trees)
         (turn_fine (trees_in h) v l.grant h.store m.store (keeps.cells.others_grow v ne) h.page m.page (keeps.page.numbers v) (keeps.page.owners v) l.turn own.turn);
