@@ -1,6 +1,7 @@
 -- What goes on the frames says what was planned.
 use Rattle.std.proofs.Common.{◌≡◌, ℕ, List, [], ◌∷◌, ◌++◌, refl, sym, ap, ◌∙◌}
 use Rattle.js_tree.specs.declared.nodes.BinOp.{BinOp}
+use Rattle.js_tree.specs.declared.nodes.ExprId.{ExprId}
 use Rattle.js_tree.specs.declared.nodes.StmtId.{StmtId}
 use Rattle.js_tree.specs.Forest.{Forest}
 use Rattle.store_cells.specs.declared.value.Value.{Value}
@@ -20,6 +21,7 @@ use Rattle.js_flow.specs.declared.job.Completion.{Completion}
 use Rattle.js_flow.specs.declared.job.Completion.TheVariants as completion
 use Rattle.js_flow.specs.declared.job.Completion.TheVariants.{Normal}
 use Rattle.js_flow.specs.declared.job.Job.{Job}
+use Rattle.js_flow.specs.declared.job.Job.TheVariants as job
 use Rattle.js_flow.specs.declared.frame.Frame.{Frame}
 use Rattle.js_flow.specs.declared.frame.Frame.TheVariants.{Call, Form, Statement}
 use Rattle.js_flow.specs.declared.frame.FormFrame.TheVariants as form
@@ -87,8 +89,8 @@ module _ (fs : List Forest) (w : ℕ) (cells : List PlainCell) where
   pub push_by : (below gs : List Frame) (f : Frame) (j : Job) (x : Control) (n : Next) (s : State) → x ≡ control.Do j → gs ≡ below ++ f ∷ [] → n ≡ next.Push f j → todo fs w cells x gs s ≡ and_then (planned fs w cells n s) (rest fs w cells below)
   push_by below gs f j x n s a b c = rw (a, b, c) (at_push below f j s)
 
-  pub push2_by : (below gs hs : List Frame) (b : Below) (g : StatementFrame) (j : Job) (x : Control) (n : Next) (s : State) → x ≡ control.Do j → gs ≡ below ++ frame_below b ∷ [] → hs ≡ gs ++ Statement g ∷ [] → n ≡ next.Push2 b g j → todo fs w cells x hs s ≡ and_then (planned fs w cells n s) (rest fs w cells below)
-  push2_by below gs hs b g j x n s a d e c = rw (a, e, d, c) (at_two below (frame_below b) (Statement g) j s)
+  pub push2_by : (below gs hs : List Frame) (b : Below) (g : StatementFrame) (e : ExprId) (p : Place) (x : Control) (n : Next) (s : State) → x ≡ control.Do (job.Eval e p) → gs ≡ below ++ frame_below b p ∷ [] → hs ≡ gs ++ Statement g ∷ [] → n ≡ next.Push2 b g e p → todo fs w cells x hs s ≡ and_then (planned fs w cells n s) (rest fs w cells below)
+  push2_by below gs hs b g e p x n s a d h c = rw (a, h, d, c) (at_two below (frame_below b p) (Statement g) (job.Eval e p) s)
 
   pub begin_by : (below gs : List Frame) (f : Frame) (j : Job) (x : Control) (n : Next) (s : State) → x ≡ control.Begin j → gs ≡ below ++ f ∷ [] → n ≡ next.Begin f j → todo fs w cells x gs s ≡ and_then (planned fs w cells n s) (rest fs w cells below)
   begin_by below gs f j x n s a b c = rw (a, b, c) (at_begin below f j s)

@@ -164,7 +164,7 @@ module _ (fs : List Forest) (w : ℕ) (cells : List PlainCell) where
 
   abbrev pub FineNext : Next → Type 0
   FineNext (next.Push f j) = FineFrame f × FineJob j
-  FineNext (next.Push2 b g j) = FineFrame (frame_below b) × FineStatement g × FineJob j
+  FineNext (next.Push2 b g e p) = FineFrame (frame_below b p) × FineStatement g × IsExprAt e p
   FineNext (next.Go j) = FineJob j
   FineNext (next.Begin f j) = FineFrame f × FineJob j
   FineNext (next.Block f b p) = FineFrame f × IsBlockAt b p

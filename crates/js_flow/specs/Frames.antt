@@ -13,6 +13,7 @@ use Rattle.js_image.specs.Image.{Rest, all_seen, image, seen}
 use Rattle.js_image.specs.Plans.{meant_cause}
 use Rattle.js_flow.specs.declared.job.Block.TheVariants as block
 use Rattle.js_flow.specs.declared.job.NativeCall.{NativeCall}
+use Rattle.js_flow.specs.declared.job.Job.TheVariants as job
 use Rattle.js_flow.specs.declared.job.Next.{Next}
 use Rattle.js_flow.specs.declared.job.Next.TheVariants as next
 use Rattle.js_flow.specs.declared.frame.Frame.{Frame}
@@ -40,7 +41,7 @@ module _ (fs : List Forest) (w : ℕ) (cells : List PlainCell) where
   -- what is next
   abbrev pub planned : Next → State → Plan
   planned (next.Push f j) s = Do (job_of fs w cells j) s (taken f)
-  planned (next.Push2 b g j) s = Do (job_of fs w cells j) s (λ o t. and_then (taken (frame.Statement g) o t) (taken (frame_below b)))
+  planned (next.Push2 b g e p) s = Do (job_of fs w cells (job.Eval e p)) s (λ o t. and_then (taken (frame.Statement g) o t) (taken (frame_below b p)))
   planned (next.Go j) s = Do (job_of fs w cells j) s Ret
   planned (next.Begin f j) s = and_then (body (job_of fs w cells j) s) (taken f)
   planned (next.Block f b p) s = and_then (block_at fs w cells b 0 p s) (taken f)

@@ -65,7 +65,7 @@ job_weight j = job_free
 -- what is next
 abbrev pub next_free : Next → ℕ
 next_free (next.Push f j) = frame_free f
-next_free (next.Push2 b g j) = frame_free (frame_below b) + statement_free g
+next_free (next.Push2 b g e p) = frame_free (frame_below b p) + statement_free g
 next_free (next.Go j) = 0
 next_free (next.Begin f j) = frame_free f + (job_weight j + 1)
 next_free (next.Block f b p) = frame_free f + 2

@@ -27,10 +27,10 @@ use Rattle.js_flow.specs.Parts.{forest_at, loop_body, loop_of, variable_of}
 abbrev pub name_at : List (List ℕ) → ℕ → List ℕ
 name_at names n = unwrap_or (slice_get names n) []
 
--- a frame that lies below another
-abbrev pub frame_below : Below → Frame
-frame_below (below.ForAgain i p) = frame.Statement (statement.ForAgain i p)
-frame_below below.SwitchEnd = frame.Statement statement.SwitchEnd
+-- a frame that lies below another at a place
+abbrev pub frame_below : Below → Place → Frame
+frame_below (below.ForAgain i) p = frame.Statement (statement.ForAgain i p)
+frame_below below.SwitchEnd p = frame.Statement statement.SwitchEnd
 
 module _ (w : ℕ) (cells : List PlainCell) where
   -- a place

@@ -97,10 +97,10 @@ pub enum Job {
     RunNative(Box<NativeCall>),
 }
 
-/// A frame of a statement that lies below another, where both are pushed at once.
+/// A frame of a statement that lies below another at the same place, where both are pushed at once.
 #[derive(Clone, Copy, Drop)]
 pub enum Below {
-    ForAgain(StmtId, Place),
+    ForAgain(StmtId),
     SwitchEnd,
 }
 
@@ -109,8 +109,8 @@ pub enum Below {
 pub enum Next {
     /// A job, and what waits for it.
     Push(Frame, Job),
-    /// The same with two frames, of which the first lies below.
-    Push2(Below, StatementFrame, Job),
+    /// An expression at a place, and two frames, of which the first lies below.
+    Push2(Below, StatementFrame, ExprId, Place),
     Go(Job),
     /// A job that has its unit.
     Begin(Frame, Job),

@@ -69,7 +69,8 @@ pub(crate) fn begin_choice(codes: &Vec<Code>, id: StmtId, value: Value, place: P
         Some(next) => Next::Push2(
             Below::SwitchEnd,
             StatementFrame::Case(value, id, next.at, place),
-            Job::Eval(next.test, place),
+            next.test,
+            place,
         ),
         None => Next::Block(
             Frame::Statement(StatementFrame::SwitchEnd),

@@ -121,9 +121,10 @@ fn declared_first(codes: &Vec<Code>, id: StmtId, place: Place) -> Next
 {
     match first_value(tree_at(codes, place.code), id, 0) {
         Some(valued) => Next::Push2(
-            Below::ForAgain(id, place),
+            Below::ForAgain(id),
             StatementFrame::Declared(id, valued.at, place),
-            Job::Eval(valued.init, place),
+            valued.init,
+            place,
         ),
         None => again(codes, id, place),
     }
@@ -143,9 +144,10 @@ fn listed_first(codes: &Vec<Code>, id: StmtId, place: Place) -> Next
 {
     match first_at(tree_at(codes, place.code), id, 0) {
         Some(e) => Next::Push2(
-            Below::ForAgain(id, place),
+            Below::ForAgain(id),
             StatementFrame::First(id, 1, place),
-            Job::Eval(e, place),
+            e,
+            place,
         ),
         None => again(codes, id, place),
     }

@@ -17,6 +17,7 @@ ghost use Rattle.js_flow.specs.Views.{completion_of};
 ghost use Rattle.js_flow.specs.Frames.{Plans, planned, taken};
 ghost use Rattle.js_flow.specs.Fine.{FineCompletion, FineNext, FineStatement, IsOther, IsStmtAt};
 ghost use Rattle.js_flow.specs.Free.{next_free, statement_free};
+ghost use Rattle.js_statements.specs.Goes.{GoesOn};
 
 use crate::catching::{after_catch, after_finally, after_try};
 use crate::choosing::{after_case, begin_choice};
@@ -79,26 +80,41 @@ fn take_value(
     ensures kept { Kept (trees_of codes.now.items) w store.old store.new }
 {
     match frame {
-        StatementFrame::Only => pass_on(Completion::Normal),
         StatementFrame::Declared(id, n, place) => {
             Ok(after_declaration(w, codes, store, (id, n, place), value))
         }
-        StatementFrame::First(id, n, place) => Ok(first_from(codes, id, n, place)),
-        StatementFrame::Last(id, n, place) => Ok(last_from(codes, id, n, place)),
-        StatementFrame::Branch(id, place) => Ok(branch(id, &value, place)),
-        StatementFrame::Test(id, place) => Ok(after_test(id, &value, place)),
         StatementFrame::ForInOver(id, place) => {
             after_object(alloc, w, codes, store, (id, place), value)
         }
-        StatementFrame::ToReturn => pass_on(Completion::Return(value)),
-        StatementFrame::ToThrow => pass_on(Completion::Throw(value)),
-        StatementFrame::Switch(id, place) => Ok(begin_choice(codes, id, value, place)),
-        StatementFrame::Case(of, id, n, place) => Ok(after_case(codes, id, n, of, value, place)),
         StatementFrame::Finally(id, place) => {
             after_catch(alloc, codes, id, place, Completion::Is(value))
         }
+        frame => Ok(go_on(w, codes, store, frame, value)),
+    }
+}
+
+// A frame that goes on with a value and leaves the store as it is.
+fn go_on(w: u32, codes: &Vec<Code>, store: &Store, frame: StatementFrame, value: Value) -> Next
+    requires frame { FineStatement (trees_of codes.now.items) w store.now.cells frame }
+    requires value { IsFine w store.now.cells value }
+    requires goes { GoesOn frame }
+    ensures plan { Plans (trees_of codes.now.items) w store.now store.now
+        (taken (trees_of codes.now.items) w store.now.cells (Frame.Statement frame) (meaning.Is (seen w store.now.cells value))) result }
+    ensures fine { FineNext (trees_of codes.now.items) w store.now.cells result }
+    ensures near { next_free result ≤ statement_free frame }
+{
+    match frame {
+        StatementFrame::Only => give(Completion::Normal),
+        StatementFrame::First(id, n, place) => first_from(codes, id, n, place),
+        StatementFrame::Last(id, n, place) => last_from(codes, id, n, place),
+        StatementFrame::Branch(id, place) => branch(id, &value, place),
+        StatementFrame::Test(id, place) => after_test(id, &value, place),
+        StatementFrame::ToReturn => give(Completion::Return(value)),
+        StatementFrame::ToThrow => give(Completion::Throw(value)),
+        StatementFrame::Switch(id, place) => begin_choice(codes, id, value, place),
+        StatementFrame::Case(of, id, n, place) => after_case(codes, id, n, of, value, place),
         // The others pass a value on.
-        _ => pass_on(Completion::Is(value)),
+        _ => give(Completion::Is(value)),
     }
 }
 
@@ -129,16 +145,20 @@ fn take_other(
         StatementFrame::ForInNext(names, place) => {
             Ok(after_pass(codes, w, store, names, place, how))
         }
-        StatementFrame::SwitchEnd => Ok(Next::Give(after_switch(how))),
+        StatementFrame::SwitchEnd => pass_on(after_switch(how)),
         StatementFrame::Caught(id, place) => after_try(alloc, w, codes, store, (id, place), how),
         StatementFrame::Finally(id, place) => after_catch(alloc, codes, id, place, how),
-        StatementFrame::LastEnd(before) => Ok(Next::Give(after_finally(
-            Box::into_inner(before),
-            how,
-        ))),
+        StatementFrame::LastEnd(before) => pass_on(after_finally(Box::into_inner(before), how)),
         // The others wait for a value, and pass all else on.
         _ => pass_on(how),
     }
+}
+
+// How a form ended.
+fn give(how: Completion) -> Next
+    ensures { result ≡ Next.Give how }
+{
+    Next::Give(how)
 }
 
 // How a part ended, passed on.
@@ -163,6 +183,19 @@ fn after_statement(codes: &Vec<Code>, block: Block, n: usize, place: Place, how:
         Completion::Normal => statements_from(codes, block, n, place),
         how => Next::Give(how),
     }
+}
+
+/// The statements of a block, which costs nothing.
+pub fn begin_block(codes: &Vec<Code>, block: Block, place: Place) -> Next
+    requires code { place.code < length (trees_of codes.now.items) }
+    requires block { IsBlock (forest_at (trees_of codes.now.items) place.code) block }
+    ensures plan { (w : ℕ) (cells : List PlainCell) (s : State)
+        → planned (trees_of codes.now.items) w cells result s ≡ block_at (trees_of codes.now.items) w cells block 0 place s }
+    ensures fine { (w : ℕ) (cells : List PlainCell) → IsPlaceScope w cells place.scope
+        → FineNext (trees_of codes.now.items) w cells result }
+    ensures near { next_free result ≤ 1 }
+{
+    statements_from(codes, block, 0, place)
 }
 
 fn statements_from(codes: &Vec<Code>, block: Block, n: usize, place: Place) -> Next

@@ -11,5 +11,5 @@ mod names;
 mod parts;
 
 pub use forms::{exec, pass};
-pub use given::take_statement;
+pub use given::{begin_block, take_statement};
 pub use names::pass_in;

@@ -90,9 +90,10 @@ fn next_pass(codes: &Vec<Code>, id: StmtId, place: Place) -> Next
 {
     match last_at(tree_at(codes, place.code), id, 0) {
         Some(e) => Next::Push2(
-            Below::ForAgain(id, place),
+            Below::ForAgain(id),
             StatementFrame::Last(id, 1, place),
-            Job::Eval(e, place),
+            e,
+            place,
         ),
         None => again(codes, id, place),
     }

@@ -3,4 +3,5 @@ pub mod Charged
 pub mod Fronts
 pub mod Moved
 pub mod Passing
+pub mod Settled
 pub mod Weights

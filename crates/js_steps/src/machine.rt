@@ -10,16 +10,14 @@ ghost use Rattle.js_image.specs.Image.{Rest, image};
 ghost use Rattle.js_image.specs.Held.{IsConfined, Kept};
 ghost use Rattle.js_values.specs.Answers.{out_of_fuel};
 ghost use Rattle.js_names.specs.Code.{trees_of};
-ghost use Rattle.js_flow.specs.Views.{completion_of, frame_below};
+ghost use Rattle.js_flow.specs.Views.{frame_below};
 ghost use Rattle.js_flow.specs.Frames.{planned, rest};
 ghost use Rattle.js_flow.specs.Fine.{FineCompletion, FineControl, FineFrames, FineJob, FineNext, FineStepped};
 ghost use Rattle.js_steps.specs.Charges.{after_charge, charge_of};
-ghost use Rattle.js_steps.specs.Unwinding.{IsAbrupt};
 ghost use Rattle.js_flow.specs.Free.{free, frames_free, next_free};
 ghost use Rattle.js_flow.specs.Todo.{Follows, IfOutOfFuel, IsGoing, IsNotFuel, Moves, after_step, is_free, todo};
 
 use crate::jobs::{begin_job, take};
-use crate::stack::{Frames, Unwound};
 use crate::task::Task;
 use code_units::Memory;
 use js_flow::{
@@ -27,7 +25,8 @@ use js_flow::{
     StatementFrame, Stepped,
 };
 use js_names::Code;
-use js_tree::{BinOp, StmtId};
+use js_statements::begin_block;
+use js_tree::{BinOp, ExprId, StmtId};
 use js_values::Meter;
 use object_store::{Store, Value};
 use std::alloc::Global;
@@ -51,6 +50,14 @@ fn set_job(task: &mut Task, job: Job)
     ensures widget { task.new.widget ≡ task.old.widget }
 {
     set(task, Control::Do(job));
+}
+
+fn set_eval(task: &mut Task, id: ExprId, place: Place)
+    ensures control { task.new.control ≡ Control.Do (Job.Eval id place) }
+    ensures frames { task.new.frames ≡ task.old.frames }
+    ensures widget { task.new.widget ≡ task.old.widget }
+{
+    set(task, Control::Do(Job::Eval(id, place)));
 }
 
 fn set_begun(task: &mut Task, job: Job)
@@ -141,21 +148,21 @@ fn push_statement(task: &mut Task, frame: StatementFrame)
 }
 
 // One that lies below another.
-fn push_below(task: &mut Task, below: Below)
+fn push_below(task: &mut Task, below: Below, place: Place)
     requires room { vec_len task.old.frames.list < vec_capacity task.old.frames.list }
     ensures control { task.new.control ≡ task.old.control }
-    ensures frames { task.new.frames.list.items ≡ task.old.frames.list.items ++ frame_below below ∷ [] }
+    ensures frames { task.new.frames.list.items ≡ task.old.frames.list.items ++ frame_below below place ∷ [] }
     ensures room { (vec_len task.new.frames.list ≡ vec_len task.old.frames.list + 1) × (vec_capacity task.new.frames.list ≡ vec_capacity task.old.frames.list) }
     ensures widget { task.new.widget ≡ task.old.widget }
 {
-    push(task, lower(below));
+    push(task, lower(below, place));
 }
 
-fn lower(below: Below) -> Frame
-    ensures { result ≡ frame_below below }
+fn lower(below: Below, place: Place) -> Frame
+    ensures { result ≡ frame_below below place }
 {
     match below {
-        Below::ForAgain(id, place) => Frame::Statement(StatementFrame::ForAgain(id, place)),
+        Below::ForAgain(id) => Frame::Statement(StatementFrame::ForAgain(id, place)),
         Below::SwitchEnd => Frame::Statement(StatementFrame::SwitchEnd),
     }
 }
@@ -260,10 +267,10 @@ fn put(task: &mut Task, next: Next) -> Stepped
             set_job(task, job);
             Stepped::Went
         }
-        Next::Push2(below, frame, job) => {
-            push_below(task, below);
+        Next::Push2(below, frame, id, place) => {
+            push_below(task, below, place);
             push_statement(task, frame);
-            set_job(task, job);
+            set_eval(task, id, place);
             Stepped::Went
         }
         Next::Go(job) => {
@@ -369,40 +376,8 @@ fn begin(
     ensures near { IfOk result (λ k. free task.new.control task.new.frames.list.items < free (Control.Begin job) task.old.frames.list.items) }
     ensures widget { task.new.widget ≡ task.old.widget }
 {
-    match begin_job(alloc, w, codes, store, job)? {
-        Next::Give(how) => give(alloc, w, codes, store, task, how),
-        next => follow(task, next),
-    }
-}
-
-// An abrupt end goes at once to the frame that takes it.
-fn unwound(frames: &mut Frames, how: Completion) -> Completion
-    ensures same { result ≡ how }
-    ensures rest { (fs : List Forest) (w : ℕ) (cells : List PlainCell) (s : State)
-        → rest fs w cells frames.new.list.items (completion_of w cells how) s ≡ rest fs w cells frames.old.list.items (completion_of w cells how) s }
-    ensures fine { (fs : List Forest) (w : ℕ) (cells : List PlainCell) → FineFrames fs w cells frames.old.list.items → FineFrames fs w cells frames.new.list.items }
-    ensures free { frames_free frames.new.list.items ≤ frames_free frames.old.list.items }
-{
-    if !is_abrupt(&how) {
-        return how;
-    }
-    match frames.unwind(how) {
-        Unwound::Resumed(how) => how,
-        Unwound::Over(how) => how,
-    }
-}
-
-// Whether an end is neither normal nor a value nor a reference.
-fn is_abrupt(how: &Completion) -> bool
-    ensures { result ≡ true → IsAbrupt how.now }
-{
-    match how {
-        Completion::Return(_) => true,
-        Completion::Break => true,
-        Completion::Continue => true,
-        Completion::Throw(_) => true,
-        _ => false,
-    }
+    let next = begin_job(alloc, w, codes, store, job)?;
+    settle(alloc, w, codes, store, task, next)
 }
 
 // A step at a completion.
@@ -428,12 +403,60 @@ fn give(
     ensures near { IfOk result (λ k. free task.new.control task.new.frames.list.items < free (Control.Give how) task.old.frames.list.items) }
     ensures widget { task.new.widget ≡ task.old.widget }
 {
-    let how = unwound(&mut task.frames, how);
+    task.frames.leave(&how);
     match task.frames.pop() {
         None => Ok(Stepped::Done(how)),
         Some(frame) => {
             let next = take(alloc, w, codes, store, frame, how)?;
-            follow(task, next)
+            settle(alloc, w, codes, store, task, next)
+        }
+    }
+}
+
+// What is next is done, as long as it is an end, which goes to the last frame, or the statements of a block.
+fn settle(
+    alloc: Global,
+    w: u32,
+    codes: &Vec<Code>,
+    store: &mut Store,
+    task: &mut Task,
+    first: Next,
+) -> Result<Stepped, Memory>
+    requires over { task.old.control ≡ Control.Over }
+    requires widget { w < 32 }
+    requires confined { IsConfined (trees_of codes.now.items) w store.old }
+    requires held { FineNext (trees_of codes.now.items) w store.old.cells first × FineFrames (trees_of codes.now.items) w store.old.cells task.old.frames.list.items }
+    ensures plan { let F = trees_of codes.now.items in IfOk result (λ k. (r : Rest)
+        → after_step F w store.new.cells k task.new.control task.new.frames.list.items (image F r w store.new)
+        ≡ and_then (planned F w store.old.cells first (image F r w store.old)) (rest F w store.old.cells task.old.frames.list.items)) }
+    ensures follows { IfOk result (λ k. Follows k task.new.control × IsNotFuel k) }
+    ensures held { let F = trees_of codes.now.items in IfOk result (λ k. FineControl F w store.new.cells task.new.control
+        × FineFrames F w store.new.cells task.new.frames.list.items × FineStepped F w store.new.cells k) }
+    ensures kept { Kept (trees_of codes.now.items) w store.old store.new }
+    ensures near { IfOk result (λ k. free task.new.control task.new.frames.list.items ≤ next_free first + frames_free task.old.frames.list.items) }
+    ensures widget { task.new.widget ≡ task.old.widget }
+{
+    let mut next = first;
+    'down: loop {
+        match next {
+            Next::Give(how) => {
+                task.frames.leave(&how);
+                match task.frames.pop() {
+                    None => return Ok(Stepped::Done(how)),
+                    Some(frame) => next = take(alloc, w, codes, store, frame, how)?,
+                }
+            }
+            Next::Run(block, place) => next = begin_block(codes, block, place),
+            Next::Block(frame, block, place) => {
+                task.frames.push(frame)?;
+                next = begin_block(codes, block, place);
+            }
+            Next::Push(frame, job) => {
+                task.frames.push(frame)?;
+                task.control = Control::Do(job);
+                return Ok(Stepped::Went);
+            }
+            other => return follow(task, other),
         }
     }
 }

@@ -79,6 +79,33 @@ impl Frames {
             Unwound::Resumed(how)
         }
     }
+
+    /// The same, of any end: one that is not abrupt leaves no frame. It is not moved.
+    #[tactic(auto, using(crate::proofs::Fronts::fine_front, crate::proofs::Fronts::free_front))]
+    pub(crate) fn leave(&mut self, how: &Completion)
+        ensures rest { (fs : List Forest) (w : ℕ) (cells : List PlainCell) (s : State)
+            → rest fs w cells self.new.list.items (completion_of w cells how.now) s ≡ rest fs w cells self.old.list.items (completion_of w cells how.now) s }
+        ensures fine { (fs : List Forest) (w : ℕ) (cells : List PlainCell) → FineFrames fs w cells self.old.list.items → FineFrames fs w cells self.new.list.items }
+        ensures free { frames_free self.new.list.items ≤ frames_free self.old.list.items }
+    {
+        if is_abrupt(how) {
+            let left = taking(&self.list, how);
+            self.list.truncate(left);
+        }
+    }
+}
+
+// Whether an end is neither normal nor a value nor a reference.
+fn is_abrupt(how: &Completion) -> bool
+    ensures { result ≡ true → IsAbrupt how.now }
+{
+    match how {
+        Completion::Return(_) => true,
+        Completion::Break => true,
+        Completion::Continue => true,
+        Completion::Throw(_) => true,
+        _ => false,
+    }
 }
 
 // How many frames are left once those above the last that takes an end are gone.

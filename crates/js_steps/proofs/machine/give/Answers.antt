@@ -1,12 +1,12 @@
 use Rattle.std.proofs.Common.{◌≡◌, ◌+◌, List, sym, ap, subst, arith, ◌∙◌}
 use Rattle.std.proofs.lemmas.Result.{IfOk-weaker}
-use Rattle.widget_meaning.specs.Plan.{Plan, Ret}
+use Rattle.widget_meaning.specs.Plan.{Plan}
 use Rattle.js_image.specs.Image.{image}
+use Rattle.js_image.proofs.Units.{kept_then}
 use Rattle.js_names.specs.Code.{trees_of}
 use Rattle.js_flow.specs.declared.frame.Frame.{Frame}
-use Rattle.js_flow.specs.declared.job.Completion.{Completion}
 use Rattle.js_flow.specs.declared.task.Control.{Control}
-use Rattle.js_flow.specs.Fine.{FineCompletion, FineControl, FineFrames}
+use Rattle.js_flow.specs.Fine.{FineControl, FineFrames}
 use Rattle.js_flow.specs.Frames.{rest}
 use Rattle.js_flow.specs.Free.{control_free, frame_free, frames_free}
 use Rattle.js_flow.specs.Todo.{Moves, after_step}
@@ -22,9 +22,8 @@ returns-in-None-clause-moves c = λ r.
     let fs = trees_of c.args.codes.now.items in
     let old = c.args.store.now in
     let s = image fs r w old in
-    stays s _ _ (sym (c.unwound-how.ensures.rest fs w old.cells s)
-    ∙ (ap (λ (l : List Frame). rest fs w old.cells l (completion_of w old.cells c.args.how) s) c.in-None.ensures.0
-    ∙ ap (λ o. Ret (completion_of w old.cells o) s) (sym c.unwound-how.ensures.same)))
+    stays s _ _ (sym (c.leave.ensures.rest fs w old.cells s)
+    ∙ ap (λ (l : List Frame). rest fs w old.cells l (completion_of w old.cells c.args.how) s) c.in-None.ensures.0)
 
 pub returns-in-None-clause-held : goal.returns-in-None-clause-held
 returns-in-None-clause-held c =
@@ -33,7 +32,7 @@ returns-in-None-clause-held c =
     let old = c.args.store.now in (
       subst (λ (q : Control). FineControl fs w old.cells q) (sym c.requires.over) tt,
       subst (λ (l : List Frame). FineFrames fs w old.cells l) (sym c.in-None.ensures.1) tt,
-      subst (λ (o : Completion). FineCompletion w old.cells o) (sym c.unwound-how.ensures.same) c.requires.held.0,
+      c.requires.held.0,
     )
 
 pub returns-in-None-clause-near : goal.returns-in-None-clause-near
@@ -44,10 +43,18 @@ take-requires-clause-held c =
     let w = c.args.w in
     let fs = trees_of c.args.codes.now.items in
     let old = c.args.store.now in
-    let fine = c.unwound-how.ensures.fine fs w old.cells c.requires.held.1 in (
-      (fine_pop fs w old.cells c.pop.new.self.list.items c.in-Some.frame (subst (λ (l : List Frame). FineFrames fs w old.cells l) c.in-Some.ensures fine)).1,
-      subst (λ (o : Completion). FineCompletion w old.cells o) (sym c.unwound-how.ensures.same) c.requires.held.0,
-    )
+    let fine = c.leave.ensures.fine fs w old.cells c.requires.held.1 in
+    ((fine_pop fs w old.cells c.pop.new.self.list.items c.in-Some.frame (subst (λ (l : List Frame). FineFrames fs w old.cells l) c.in-Some.ensures fine)).1, c.requires.held.0)
+
+pub settle-requires-clause-held : goal.settle-requires-clause-held
+settle-requires-clause-held c =
+    let w = c.args.w in
+    let fs = trees_of c.args.codes.now.items in
+    let old = c.args.store.now in
+    let below = c.pop.new.self.list.items in
+    let fine = c.leave.ensures.fine fs w old.cells c.requires.held.1 in
+    let parts = fine_pop fs w old.cells below c.in-Some.frame (subst (λ (l : List Frame). FineFrames fs w old.cells l) c.in-Some.ensures fine) in
+    (c.in_ok-next-in-Some.ensures.fine, frames_fine fs w old.cells c.take.new.store.cells c.take.ensures.kept.grows below parts.0)
 
 pub returns-in_ok-next-in-Some-clause-moves : goal.returns-in_ok-next-in-Some-clause-moves
 returns-in_ok-next-in-Some-clause-moves c =
@@ -55,30 +62,24 @@ returns-in_ok-next-in-Some-clause-moves c =
     let fs = trees_of c.args.codes.now.items in
     let old = c.args.store.now in
     let new = c.take.new.store in
-    let mid = c.unwound-how.new.frames.list.items in
+    let end = c.settle.new.store in
+    let mid = c.leave.new.self.list.items in
     let below = c.pop.new.self.list.items in
-    let fine = c.unwound-how.ensures.fine fs w old.cells c.requires.held.1 in
+    let fine = c.leave.ensures.fine fs w old.cells c.requires.held.1 in
     let parts = fine_pop fs w old.cells below c.in-Some.frame (subst (λ (l : List Frame). FineFrames fs w old.cells l) c.in-Some.ensures fine) in
-    IfOk-weaker c.follow.result _ _
+    IfOk-weaker c.settle.result _ _
     (λ k h r.
     let s = image fs r w old in
-    subst (λ (p : Plan). Moves 0 s p (after_step fs w new.cells k c.follow.new.task.control c.follow.new.task.frames.list.items (image fs r w new))) (ap (λ o. rest fs w old.cells mid (completion_of w old.cells o) s) c.unwound-how.ensures.same ∙ c.unwound-how.ensures.rest fs w old.cells s)
-    (give_moves fs w old.cells new.cells s (image fs r w new) below c.in_ok-next-in-Some.next _ (rest_same fs w old.cells new.cells c.take.ensures.kept.grows below parts.0) (h fs w new.cells (image fs r w new)) c.unwound-how.result c.in-Some.frame mid c.in-Some.ensures (c.in_ok-next-in-Some.ensures.plan r)))
-    c.follow.ensures.plan
+    subst (λ (p : Plan). Moves 0 s p (after_step fs w end.cells k c.settle.new.task.control c.settle.new.task.frames.list.items (image fs r w end))) (c.leave.ensures.rest fs w old.cells s)
+    (give_moves fs w old.cells new.cells s (image fs r w new) below c.in_ok-next-in-Some.next _ (rest_same fs w old.cells new.cells c.take.ensures.kept.grows below parts.0) (h r) c.args.how c.in-Some.frame mid c.in-Some.ensures (c.in_ok-next-in-Some.ensures.plan r)))
+    c.settle.ensures.plan
 
-pub returns-in_ok-next-in-Some-clause-held : goal.returns-in_ok-next-in-Some-clause-held
-returns-in_ok-next-in-Some-clause-held c =
-    let w = c.args.w in
-    let fs = trees_of c.args.codes.now.items in
-    let old = c.args.store.now in
-    let new = c.take.new.store in
-    let below = c.pop.new.self.list.items in
-    let fine = c.unwound-how.ensures.fine fs w old.cells c.requires.held.1 in
-    let parts = fine_pop fs w old.cells below c.in-Some.frame (subst (λ (l : List Frame). FineFrames fs w old.cells l) c.in-Some.ensures fine) in
-    IfOk-weaker c.follow.result _ _ (λ k h. h fs w new.cells c.in_ok-next-in-Some.ensures.fine (frames_fine fs w old.cells new.cells c.take.ensures.kept.grows below parts.0)) c.follow.ensures.fine
+pub returns-in_ok-next-in-Some-clause-kept : goal.returns-in_ok-next-in-Some-clause-kept
+returns-in_ok-next-in-Some-clause-kept c =
+    kept_then (trees_of c.args.codes.now.items) c.args.w c.args.store.now c.take.new.store c.settle.new.store c.take.ensures.kept c.settle.ensures.kept
 
 pub returns-in_ok-next-in-Some-clause-near : goal.returns-in_ok-next-in-Some-clause-near
 returns-in_ok-next-in-Some-clause-near c =
     let below = c.pop.new.self.list.items in
-    let e : frames_free c.unwound-how.new.frames.list.items ≡ frame_free c.in-Some.frame + frames_free below = ap frames_free c.in-Some.ensures ∙ free_last below c.in-Some.frame in
-    IfOk-weaker c.follow.result _ _ (λ k h. omega (arith, h, c.in_ok-next-in-Some.ensures.near, e, c.unwound-how.ensures.free)) c.follow.ensures.near
+    let e : frames_free c.leave.new.self.list.items ≡ frame_free c.in-Some.frame + frames_free below = ap frames_free c.in-Some.ensures ∙ free_last below c.in-Some.frame in
+    IfOk-weaker c.settle.result _ _ (λ k h. omega (arith, h, c.in_ok-next-in-Some.ensures.near, e, c.leave.ensures.free)) c.settle.ensures.near

@@ -6,7 +6,7 @@ pub returns-in-Push-clause-plan : goal.returns-in-Push-clause-plan
 returns-in-Push-clause-plan c = λ fs w cells s. push_by fs w cells c.args.task.now.frames.list.items _ c.in-Push.frame c.in-Push.job _ _ s c.set_job.ensures.control (ap (λ v. v.list.items) c.set_job.ensures.frames ∙ c.push.ensures.frames) c.in-Push.is
 
 pub returns-in-Push2-clause-plan : goal.returns-in-Push2-clause-plan
-returns-in-Push2-clause-plan c = λ fs w cells s. push2_by fs w cells c.args.task.now.frames.list.items _ _ c.in-Push2.below c.in-Push2.frame c.in-Push2.job _ _ s c.set_job-in-Push2.ensures.control c.push_below.ensures.frames (ap (λ v. v.list.items) c.set_job-in-Push2.ensures.frames ∙ c.push_statement.ensures.frames) c.in-Push2.is
+returns-in-Push2-clause-plan c = λ fs w cells s. push2_by fs w cells c.args.task.now.frames.list.items _ _ c.in-Push2.below c.in-Push2.frame c.in-Push2.id c.in-Push2.place _ _ s c.set_eval.ensures.control c.push_below.ensures.frames (ap (λ v. v.list.items) c.set_eval.ensures.frames ∙ c.push_statement.ensures.frames) c.in-Push2.is
 
 pub returns-in-Begin-clause-plan : goal.returns-in-Begin-clause-plan
 returns-in-Begin-clause-plan c = λ fs w cells s. begin_by fs w cells c.args.task.now.frames.list.items _ c.in-Begin.frame c.in-Begin.job _ _ s c.set_begun.ensures.control (ap (λ v. v.list.items) c.set_begun.ensures.frames ∙ c.push-in-Begin.ensures.frames) c.in-Begin.is
