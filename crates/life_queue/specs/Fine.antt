@@ -26,7 +26,7 @@ use Rattle.life_queue.specs.Lives.{trees_in, works_of}
 abbrev pub most_fuel : ℕ
 most_fuel = 1000000
 
--- a queued script is one of the host's
+-- a queued script is one of the life's
 abbrev pub FineWork : List Forest → Work → Type 0
 FineWork fs (work.Library c) = IsScriptOf fs c.code c.fun
 FineWork fs (work.Go c) = IsScriptOf fs c.code c.fun
@@ -68,7 +68,7 @@ pub record FineLife (h : Shared) (w : ℕ) (l : Life) : Type 0 where
   pub turn : IfSome l.turn (FineTurn (trees_in h) w h.store h.page l.grant)
   pub counts : FineCounts h w l
 
--- What a call for widget w keeps of the store, by the trees of all scripts: the widget stays confined, what is there stays under its numbers, and other widgets have what they had and stay confined by any trees.
+-- What a call for widget w keeps of the store, by the trees of its scripts: the widget stays confined, what is there stays under its numbers, and other widgets have what they had and stay confined by any trees.
 pub record KeepsCells (fs : List Forest) (w : ℕ) (old new : Cells) : Type 0 where
   pub confined : IsConfined fs w old → IsConfined fs w new
   pub grows : Grows w old.cells new.cells

@@ -72,7 +72,7 @@ abbrev pub is_input_label : Option Label → Bool
 is_input_label (Some (ElementOf tag attrs)) = bytes_eq tag (codes "input")
 is_input_label l = false
 
--- the trees of all scripts
+-- the trees of the scripts of the life whose turn it is
 abbrev pub trees_in : Shared → List Forest
 trees_in h = trees_of h.codes.items
 

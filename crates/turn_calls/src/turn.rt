@@ -8,7 +8,8 @@ use object_store::Store;
 use page_tree::Page;
 use turn_runs::Doing;
 
-/// What all widgets share: the store, the page, and the trees of their scripts, each with its names.
+/// What all widgets share, the store and the page, with the trees of the scripts of the widget whose turn it
+/// is, each with its names.
 #[derive(Drop)]
 pub struct Shared {
     pub store: Store,

@@ -10,7 +10,7 @@ use Rattle.event_loop.specs.declared.around.Loop.{Loop}
 use Rattle.js_image.specs.Held.{IsConfined}
 use Rattle.native_image.specs.Sound.{HoldsOwn, KeepsPage}
 
--- By the trees of all scripts: the widget stays confined, what is there stays under its numbers, others have what they had, under its numbers, and stay confined by any trees; of the page no node goes, and the trees of others and what the host has stay; and what the widget holds of page and loop is its own.
+-- By the trees of its scripts: the widget stays confined, what is there stays under its numbers, others have what they had, under its numbers, and stay confined by any trees; of the page no node goes, and the trees of others and what the host has stay; and what the widget holds of page and loop is its own.
 pub record KeepsTurn (fs : List Forest) (w : ℕ) (s t : Cells) (p q : Page) (l : Loop) : Type 0 where
   pub confined : IsConfined fs w s → IsConfined fs w t
   pub grows : Grows w s.cells t.cells

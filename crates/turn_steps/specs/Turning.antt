@@ -26,7 +26,7 @@ use Rattle.turn_steps.specs.declared.turn.TurnEnd.{TurnEnd}
 use Rattle.turn_steps.specs.declared.turn.TurnEnd.TheVariants as ended
 use Rattle.turn_calls.specs.declared.turn.Widget.{Widget}
 
--- the trees of all scripts
+-- the trees of the scripts of the widget whose turn it is
 abbrev pub forests : Shared → List Forest
 forests h = trees_of h.codes.items
 
