@@ -22,11 +22,23 @@ use Rattle.widget_meaning.specs.OwnState.{new_object}
 use Rattle.widget_meaning.specs.Costs.{with_counts, give}
 use Rattle.widget_meaning.specs.AdsafeNatives.{chain_from, is_prototype_kind, with_entry, with_post}
 use Rattle.meaning_laws.proofs.Chains.{counted_short}
-use Rattle.meaning_laws.proofs.Forms.{get_is, put_r, delete_r}
+use Rattle.meaning_laws.proofs.Forms.{permitted_are, get_is, put_r, delete_r}
 use Rattle.meaning_laws.proofs.Natives.{give_texts_r, want_function_r}
 use Rattle.meaning_laws.proofs.Json.{from_json_r}
-use Rattle.meaning_laws.specs.There.{Sizes, ValueIs, ValuesAre}
-use Rattle.meaning_laws.proofs.Values.{undefined_is, truth_is, text_is, nth_is, no_pairs, value_end}
+use Rattle.meaning_laws.specs.There.{Sizes, Told, ValueIs, ValuesAre}
+use Rattle.meaning_laws.specs.Texts.{IsText, AreTexts, AreNames}
+use Rattle.permitted_table.specs.declared.native.HostEntry.{HostEntry}
+use Rattle.permitted_table.specs.declared.native.HostEntry.TheVariants as host
+use Rattle.permitted_table.specs.declared.native.NativeId.TheVariants as natives
+use Rattle.widget_meaning.specs.HostTable.{host_pairs}
+use Rattle.std.proofs.Common.{refl}
+use Rattle.std.proofs.lemmas.Bool.{and_parts}
+use Rattle.meaning_laws.proofs.Units.{has_units, tested}
+use Rattle.meaning_laws.proofs.WrittenJson.{OfWritten, PairHasTexts, value_text_is}
+use Rattle.std.specs.Prelude.{◌≡◌}
+use Rattle.std.specs.List.{AllByRecursion, list_all}
+use Rattle.widget_meaning.specs.OwnState.{Pairs, cell_at}
+use Rattle.meaning_laws.proofs.Values.{told, also, text_told, undefined_is, truth_is, text_is, nth_is, no_pairs, value_end}
 use Rattle.meaning_laws.proofs.Steps.{R, Keeps, ended, halted, either, by_test, charged, paid, made, made_text, faulted, wanted, waits}
 
 timer_kept : (m : Sizes) (s : State) (f : Value) (z : ℤ) → R m s → ValueIs m f → R m (with_timer s f z)
@@ -39,41 +51,75 @@ timer_kept m s (Num x) z h q = h
 timer_kept m s (Text t) z h q = h
 timer_kept m s (Host e) z h q = h
 
-pub give_json_r : (m : Sizes) (x0 : Written) (x1 : State) → R m x1 → Keeps m (give_json x0 x1)
-give_json_r m (Wrote t) s hr = charged m _ s _ hr (made_text m t s (give (Text t)) hr (λ a u. ended m (Is (Text t)) (with_counts s a) u (value_end m _ (text_is m t))))
-give_json_r m NoJson s hr = search (faulted)
-give_json_r m TooLong s hr = charged m _ s _ hr (halted m _ s hr)
+pub give_json_r : (m : Sizes) (x0 : Written) (x1 : State) → R m x1 → Told m (OfWritten x0) → Keeps m (give_json x0 x1)
+give_json_r m (Wrote t) s hr ht = charged m _ s _ hr (made_text m t s (give (Text t)) hr (λ a u. ended m (Is (Text t)) (with_counts s a) u (value_end m _ (text_is m t ht))))
+give_json_r m NoJson s hr ht = search (faulted)
+give_json_r m TooLong s hr ht = charged m _ s _ hr (halted m _ s hr)
 
-pub to_json_r : (m : Sizes) (x0 : Value) (x1 : State) → R m x1 → Keeps m (to_json x0 x1)
-to_json_r m v s hr = give_json_r m (value_text max_nesting s v []) s hr
+-- names and values of an object
+pairs_told : (m : Sizes) (ps : Pairs) → m.texts ≡ true → AreNames ps → AllByRecursion (λ p. ValueIs m p.1) ps → AllByRecursion PairHasTexts ps
+pairs_told m [] e h k = tt
+pairs_told m (p ∷ ps) e h k = ((h.0, k.0.text.holds e), pairs_told m ps e h.1 k.1)
 
-pub want_name_r : (m : Sizes) (x0 : Value) (x1 : State) (x2 : (List ℕ → Plan)) → R m x1 → ((y0 : List ℕ) → Keeps m (x2 y0)) → Keeps m (want_name x0 x1 x2)
-want_name_r m (Text t) s k hr f0 = wanted m E8 (is_permitted t) s _ hr (λ e. f0 t)
-want_name_r m (Num z) s k hr f0 = wanted m E8 (is_permitted (to_text (Num z))) s _ hr (λ e. f0 (to_text (Num z)))
-want_name_r m v s k hr f0 = search (faulted)
+pub to_json_r : (m : Sizes) (x0 : Value) (x1 : State) → R m x1 → ValueIs m x0 → Keeps m (to_json x0 x1)
+to_json_r m v s hr hv = give_json_r m (value_text max_nesting s v []) s hr
+    (record { holds = λ e. value_text_is s (λ n. pairs_told m (cell_at s n).pairs e ((hr.there.objects n).names.holds e) (hr.there.objects n).pairs.each) max_nesting v [] (hv.text.holds e) tt })
 
-pub get_native_r : (m : Sizes) (x0 : Value) (x1 : Value) (x2 : State) → R m x2 → Keeps m (get_native x0 x1 x2)
-get_native_r m o n s hr = wanted m E4 (is_object o) s _ hr (λ e. want_name_r m n s _ hr (λ x. ended m _ s hr (value_end m _ (get_is m s o x hr))))
+pub want_name_r : (m : Sizes) (x0 : Value) (x1 : State) (x2 : (List ℕ → Plan)) → R m x1 → ValueIs m x0 → ((y0 : List ℕ) → Told m (IsText y0) → Keeps m (x2 y0)) → Keeps m (want_name x0 x1 x2)
+want_name_r m (Text t) s k hr h0 f0 = wanted m E8 (is_permitted t) s _ hr (λ e. f0 t h0.text)
+want_name_r m (Num z) s k hr h0 f0 = wanted m E8 (is_permitted (to_text (Num z))) s _ hr (λ e. f0 (to_text (Num z)) (text_told m (Num z) h0))
+want_name_r m v s k hr h0 f0 = search (faulted)
 
-pub has_native_r : (m : Sizes) (x0 : Value) (x1 : Value) (x2 : State) → R m x2 → Keeps m (has_native x0 x1 x2)
-has_native_r m o n s hr = wanted m E4 (is_object o) s _ hr (λ e. want_name_r m n s _ hr (λ x. ended m _ s hr (value_end m _ (truth_is m _))))
+pub get_native_r : (m : Sizes) (x0 : Value) (x1 : Value) (x2 : State) → R m x2 → ValueIs m x1 → Keeps m (get_native x0 x1 x2)
+get_native_r m o n s hr h1 = wanted m E4 (is_object o) s _ hr (λ e. want_name_r m n s _ hr h1 (λ x hx. ended m _ s hr (value_end m _ (get_is m s o x hr))))
 
-pub set_native_r : (m : Sizes) (x0 : Value) (x1 : Value) (x2 : Value) (x3 : State) → R m x3 → ValueIs m x2 → Keeps m (set_native x0 x1 x2 x3)
-set_native_r m o n v s hr h2 = wanted m E4 (is_object o) s _ hr (λ e. want_name_r m n s _ hr (λ x. put_r m o x v s _ hr h2 (λ t u. ended m _ t u (value_end m _ (undefined_is m)))))
+pub has_native_r : (m : Sizes) (x0 : Value) (x1 : Value) (x2 : State) → R m x2 → ValueIs m x1 → Keeps m (has_native x0 x1 x2)
+has_native_r m o n s hr h1 = wanted m E4 (is_object o) s _ hr (λ e. want_name_r m n s _ hr h1 (λ x hx. ended m _ s hr (value_end m _ (truth_is m _))))
 
-pub remove_native_r : (m : Sizes) (x0 : Value) (x1 : Value) (x2 : State) → R m x2 → Keeps m (remove_native x0 x1 x2)
-remove_native_r m o n s hr = wanted m E4 (is_object o) s _ hr (λ e. want_name_r m n s _ hr (λ x. delete_r m o x s _ hr (λ b t u. ended m _ t u (value_end m _ (undefined_is m)))))
+pub set_native_r : (m : Sizes) (x0 : Value) (x1 : Value) (x2 : Value) (x3 : State) → R m x3 → ValueIs m x1 → ValueIs m x2 → Keeps m (set_native x0 x1 x2 x3)
+set_native_r m o n v s hr h1 h2 = wanted m E4 (is_object o) s _ hr (λ e. want_name_r m n s _ hr h1 (λ x hx. put_r m o x v s _ hr hx h2 (λ t u. ended m _ t u (value_end m _ (undefined_is m)))))
+
+pub remove_native_r : (m : Sizes) (x0 : Value) (x1 : Value) (x2 : State) → R m x2 → ValueIs m x1 → Keeps m (remove_native x0 x1 x2)
+remove_native_r m o n s hr h1 = wanted m E4 (is_object o) s _ hr (λ e. want_name_r m n s _ hr h1 (λ x hx. delete_r m o x s _ hr (λ b t u. ended m _ t u (value_end m _ (undefined_is m)))))
 
 pub create_from_r : (m : Sizes) (x0 : Value) (x1 : State) → R m x1 → ValueIs m x0 → Keeps m (create_from x0 x1)
 create_from_r m o s hr h0 = by_test m _ _ _ (λ e. search (faulted)) (λ e. made m (new_object o []) 0 s give hr
-    (record { nodes = tt; prototype = h0; pairs = no_pairs m }) (counted_short max_chain s (Some o) (ltb-false max_chain (chain_from (suc max_chain) s (Some o)) e))
+    (record { kind = tt; prototype = h0; pairs = no_pairs m; names = told m tt }) (counted_short max_chain s (Some o) (ltb-false max_chain (chain_from (suc max_chain) s (Some o)) e))
     (λ n g v t u w. ended n (Is v) t u (value_end n v w)))
 
 pub create_r : (m : Sizes) (x0 : Value) (x1 : State) → R m x1 → ValueIs m x0 → Keeps m (create x0 x1)
 create_r m o s hr h0 = wanted m E4 (is_prototype_kind (kind_of s o)) s _ hr (λ e. create_from_r m o s hr h0)
 
+tested_names : (ps : Pairs) → list_all (λ p. has_units p.0) ps ≡ true → AreNames ps
+tested_names [] e = tt
+tested_names (p ∷ ps) e = let q = and_parts (has_units p.0) (list_all (λ r. has_units r.0) ps) e in (tested p.0 q.0, tested_names ps q.1)
+
+host_names : (h : HostEntry) → AreNames (host_pairs h)
+host_names (host.Native natives.String) = tested_names (host_pairs (host.Native natives.String)) refl
+host_names (host.Native w) = tt
+host_names host.ObjectPrototype = tested_names (host_pairs host.ObjectPrototype) refl
+host_names host.ArrayPrototype = tested_names (host_pairs host.ArrayPrototype) refl
+host_names host.FunctionPrototype = tested_names (host_pairs host.FunctionPrototype) refl
+host_names host.BunchPrototype = tested_names (host_pairs host.BunchPrototype) refl
+host_names host.TextPrototype = tested_names (host_pairs host.TextPrototype) refl
+host_names host.NumberPrototype = tested_names (host_pairs host.NumberPrototype) refl
+host_names host.BooleanPrototype = tested_names (host_pairs host.BooleanPrototype) refl
+host_names host.Math = tested_names (host_pairs host.Math) refl
+host_names host.Adsafe = tested_names (host_pairs host.Adsafe) refl
+host_names host.Dom = tested_names (host_pairs host.Dom) refl
+
+keys_told : (m : Sizes) (o : Value) (s : State) → R m s → Told m (AreTexts (keys s o))
+keys_told m (Own n) s hr = also m (permitted_are (cell_at s n).pairs) (hr.there.objects n).names
+keys_told m (Host h) s hr = told m (permitted_are (host_pairs h) (host_names h))
+keys_told m Undefined s hr = told m tt
+keys_told m Null s hr = told m tt
+keys_told m (Truth b) s hr = told m tt
+keys_told m NaN s hr = told m tt
+keys_told m (Num z) s hr = told m tt
+keys_told m (Text t) s hr = told m tt
+
 pub keys_native_r : (m : Sizes) (x0 : Value) (x1 : State) → R m x1 → Keeps m (keys_native x0 x1)
-keys_native_r m o s hr = wanted m E4 (is_object o) s _ hr (λ e. charged m _ s _ hr (give_texts_r m (keys s o) s hr))
+keys_native_r m o s hr = wanted m E4 (is_object o) s _ hr (λ e. charged m _ s _ hr (give_texts_r m (keys s o) s hr (keys_told m o s hr)))
 
 pub start_timer_r : (m : Sizes) (x0 : Value) (x1 : ℤ) (x2 : State) → R m x2 → ValueIs m x0 → Keeps m (start_timer x0 x1 x2)
 start_timer_r m f z s hr h0 = either m (nat_le max_timers (length s.own.timers)) _ _ (faulted m E11 s hr) (ended m _ (with_timer s f z) (timer_kept m s f z hr h0) (value_end m _ (undefined_is m)))
@@ -100,15 +146,15 @@ post_r m (Text to) (Text t) s hr = either m (nat_lt max_post (length t)) _ _ (fa
 post_r m to t s hr = search (faulted)
 
 pub adsafe_native_r : (m : Sizes) (x0 : AdsafeNative) (x1 : Option Value) (x2 : List Value) (x3 : ℕ) (x4 : State) → R m x4 → ValuesAre m x2 → Keeps m (adsafe_native x0 x1 x2 x3 x4)
-adsafe_native_r m GetProperty this vs d s hr h2 = get_native_r m (nth 0 vs) (nth 1 vs) s hr
-adsafe_native_r m SetProperty this vs d s hr h2 = set_native_r m (nth 0 vs) (nth 1 vs) (nth 2 vs) s hr (nth_is m 2 vs h2)
-adsafe_native_r m RemoveProperty this vs d s hr h2 = remove_native_r m (nth 0 vs) (nth 1 vs) s hr
-adsafe_native_r m HasProperty this vs d s hr h2 = has_native_r m (nth 0 vs) (nth 1 vs) s hr
+adsafe_native_r m GetProperty this vs d s hr h2 = get_native_r m (nth 0 vs) (nth 1 vs) s hr (nth_is m 1 vs h2)
+adsafe_native_r m SetProperty this vs d s hr h2 = set_native_r m (nth 0 vs) (nth 1 vs) (nth 2 vs) s hr (nth_is m 1 vs h2) (nth_is m 2 vs h2)
+adsafe_native_r m RemoveProperty this vs d s hr h2 = remove_native_r m (nth 0 vs) (nth 1 vs) s hr (nth_is m 1 vs h2)
+adsafe_native_r m HasProperty this vs d s hr h2 = has_native_r m (nth 0 vs) (nth 1 vs) s hr (nth_is m 1 vs h2)
 adsafe_native_r m Create this vs d s hr h2 = create_r m (nth 0 vs) s hr (nth_is m 0 vs h2)
 adsafe_native_r m IsArray this vs d s hr h2 = ended m _ s hr (value_end m _ (truth_is m _))
 adsafe_native_r m KeysOf this vs d s hr h2 = keys_native_r m (nth 0 vs) s hr
 adsafe_native_r m Later this vs d s hr h2 = later_r m (nth 0 vs) (nth 1 vs) s hr (nth_is m 0 vs h2)
 adsafe_native_r m LogValue this vs d s hr h2 = log_native_r m (nth 0 vs) s hr
 adsafe_native_r m Post this vs d s hr h2 = post_r m (nth 0 vs) (nth 1 vs) s hr
-adsafe_native_r m FromJson this vs d s hr h2 = from_json_r m (nth 0 vs) s hr
-adsafe_native_r m ToJson this vs d s hr h2 = to_json_r m (nth 0 vs) s hr
+adsafe_native_r m FromJson this vs d s hr h2 = from_json_r m (nth 0 vs) s hr (nth_is m 0 vs h2)
+adsafe_native_r m ToJson this vs d s hr h2 = to_json_r m (nth 0 vs) s hr (nth_is m 0 vs h2)

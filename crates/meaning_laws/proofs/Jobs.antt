@@ -10,8 +10,9 @@ use Rattle.widget_meaning.specs.Costs.{give}
 use Rattle.widget_meaning.specs.Items.{timer_plan}
 use Rattle.widget_meaning.specs.Meaning.{body, run_plan}
 use Rattle.widget_meaning.specs.Alone.{lib, call_script, library_plan, go_plan}
-use Rattle.meaning_laws.specs.There.{Sizes, Grows, ValuesAre, CompletionIs, JobIs, OfEnd}
-use Rattle.meaning_laws.proofs.Later.{through, values_later}
+use Rattle.meaning_laws.specs.There.{Sizes, Grows, Told, ValuesAre, CompletionIs, JobIs, OfEnd}
+use Rattle.meaning_laws.specs.Texts.{IsText, FunHasTexts}
+use Rattle.meaning_laws.proofs.Later.{told_later, through, values_later}
 use Rattle.meaning_laws.proofs.Values.{undefined_is, host_is, no_values, more_values, no_value, call_job, value_end}
 use Rattle.meaning_laws.proofs.Steps.{R, Stands, Keeps, ended, job, value, chain, made}
 use Rattle.meaning_laws.proofs.Forms.{expression_r, target_r, statement_r, pass_r, invoke_r, heard_r, put_r, function_is, own_is}
@@ -19,25 +20,25 @@ use Rattle.meaning_laws.proofs.Page.{run_native_r}
 
 module _ (m : Sizes) where
   pub body_r : (j : Job) (s : State) → R m s → JobIs m j → Keeps m (body j s)
-  body_r (Eval (tree.ExprAt at names form) p) s h q = expression_r m form p s h
-  body_r (Target (tree.ExprAt at names form) p) s h q = target_r m form p s h
-  body_r (Exec (tree.StmtAt at names form) p) s h q = statement_r m form p s h
+  body_r (Eval (tree.ExprAt at names form) p) s h q = expression_r m form p s h q.holds
+  body_r (Target (tree.ExprAt at names form) p) s h q = target_r m form p s h q.holds
+  body_r (Exec (tree.StmtAt at names form) p) s h q = statement_r m form p s h q.holds
   body_r (Pass l p) s h q = pass_r m l p s h q.holds
   body_r (Call f this vs d) s h q = invoke_r m f this vs d s h q.holds.func q.holds.receiver q.holds.arguments
   body_r (RunNative w this vs d) s h q = run_native_r m w this vs d s h q.holds.receiver q.holds.arguments
   body_r (Hear x) s h q = heard_r m x s h q.holds
 
-  pub call_script_r : (f : Fun) (vs : List Value) (s : State) (k : Completion → State → Plan) → R m s → ValuesAre m vs
+  pub call_script_r : (f : Fun) (vs : List Value) (s : State) (k : Completion → State → Plan) → R m s → Told m (FunHasTexts f) → ValuesAre m vs
       → ((n : Sizes) → Grows m n → (o : Completion) (t : State) → R n t → CompletionIs n o → Keeps n (k o t)) → Keeps m (call_script f vs s k)
-  call_script_r f vs s k h q g = made m (new_function f None) 0 s (λ v t. Do (Call v None vs 0) t k) h (function_is m f None) tt
+  call_script_r f vs s k h hf q g = made m (new_function f None) 0 s (λ v t. Do (Call v None vs 0) t k) h (function_is m f None hf) tt
       (λ n e v t u w. job n _ t k u (call_job n v None vs 0 w (no_value n) (values_later m n vs e q)) (λ l i o y z r. g l (through m n l e i) o y z r))
 
-  pub library_plan_r : (x : List ℕ) (f : Fun) (s : State) → R m s → Keeps m (library_plan x f s)
-  library_plan_r x f s h = call_script_r f (lib ∷ []) s _ h (more_values m lib [] h.there.lib (no_values m))
-      (λ n g o t u q. value n o t _ u q (λ v w. put_r n lib x v t (give Undefined) u w (λ y z. ended n (Is Undefined) y z (value_end n Undefined (undefined_is n)))))
+  pub library_plan_r : (x : List ℕ) (f : Fun) (s : State) → R m s → Told m (IsText x) → Told m (FunHasTexts f) → Keeps m (library_plan x f s)
+  library_plan_r x f s h hx hf = call_script_r f (lib ∷ []) s _ h hf (more_values m lib [] h.there.lib (no_values m))
+      (λ n g o t u q. value n o t _ u q (λ v w. put_r n lib x v t (give Undefined) u (told_later m n _ g hx) w (λ y z. ended n (Is Undefined) y z (value_end n Undefined (undefined_is n)))))
 
-  pub go_plan_r : (f : Fun) (s : State) → R m s → Keeps m (go_plan f s)
-  go_plan_r f s h = call_script_r f (Host host.Dom ∷ lib ∷ []) s Ret h (more_values m _ _ (host_is m host.Dom) (more_values m lib [] h.there.lib (no_values m)))
+  pub go_plan_r : (f : Fun) (s : State) → R m s → Told m (FunHasTexts f) → Keeps m (go_plan f s)
+  go_plan_r f s h hf = call_script_r f (Host host.Dom ∷ lib ∷ []) s Ret h hf (more_values m _ _ (host_is m host.Dom) (more_values m lib [] h.there.lib (no_values m)))
       (λ n g o t u q. ended n o t u q)
 
   pub timer_plan_r : (t : Timer) (s : State) → R m s → t.func < m.objects → Keeps m (timer_plan t s)

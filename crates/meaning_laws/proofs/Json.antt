@@ -7,47 +7,62 @@ use Rattle.widget_meaning.specs.Values.{Value, Text, Is, E4, E8}
 use Rattle.widget_meaning.specs.OwnState.{State, Cell, with_new_cell}
 use Rattle.widget_meaning.specs.Costs.{with_counts, give}
 use Rattle.widget_meaning.specs.JsonValues.{has_permitted_names, has_numbers, texts_in, give_read, read_value, from_json, cells_at, items_at, members_at, value_at, read_json}
-use Rattle.meaning_laws.specs.There.{Sizes, ValueIs, PairsAre, CellIs}
+use Rattle.meaning_laws.specs.There.{Sizes, Told, ValueIs, PairsAre, CellIs}
+use Rattle.meaning_laws.specs.Texts.{IsText, AreNames}
+use Rattle.meaning_laws.proofs.Units.{decimal_is}
+use Rattle.meaning_laws.proofs.Spelled.{AreBytes, MaybeBytes, spelled_is, utf8_bytes, content_is}
+use Rattle.meaning_laws.proofs.ReadJson.{HasStrings, ItemsHaveStrings, MembersHaveStrings, OfSome, read_is}
+use Rattle.json.specs.Text.{content, plain}
+use Rattle.code_units.specs.Utf8.{utf8_of}
+use Rattle.std.specs.Prelude.{◌≡◌, Option, Some, None}
+use Rattle.std.proofs.Common.{subst}
 use Rattle.meaning_laws.proofs.Each.{each_both}
-use Rattle.meaning_laws.proofs.Values.{null_is, truth_is, num_is, text_is, no_pairs, more_pairs, value_end}
+use Rattle.meaning_laws.proofs.Later.{told_later}
+use Rattle.meaning_laws.proofs.Values.{told, also, first, second, together, own_value, null_is, truth_is, num_is, text_is, no_pairs, more_pairs, value_end}
 use Rattle.meaning_laws.proofs.Steps.{R, Keeps, ended, halted, either, charged, paid, faulted, wanted, found, lowered, plain_is}
 use Rattle.meaning_laws.proofs.Forms.{array_is, with_more, more_grows, all_born, Hosted, array_hosted, plain_hosted}
 
 module _ (m : Sizes) where
-  value_born : (n : ℕ) (d : json.Data) → n + length (cells_at n d) ≤ m.objects → ValueIs m (value_at n d)
-  value_born n json.null h = null_is m
-  value_born n (json.boolean b) h = truth_is m b
-  value_born n (json.number x) h = num_is m _
-  value_born n (json.string bs) h = text_is m _
-  value_born n (json.array ds) h = record { born = omega (arith, h) }
-  value_born n (json.object ms) h = record { born = omega (arith, h) }
+  abbrev Strings : json.Data → Type 0
+  Strings d = Told m (HasStrings AreBytes d)
+
+  value_born : (n : ℕ) (d : json.Data) → n + length (cells_at n d) ≤ m.objects → Strings d → ValueIs m (value_at n d)
+  value_born n json.null h k = null_is m
+  value_born n (json.boolean b) h k = truth_is m b
+  value_born n (json.number x) h k = num_is m _
+  value_born n (json.string bs) h k = text_is m _ (also m (spelled_is bs) k)
+  value_born n (json.array ds) h k = own_value m n (omega (arith, h))
+  value_born n (json.object ms) h k = own_value m n (omega (arith, h))
 
   mutual
-    cells_are : (n : ℕ) (d : json.Data) → n + length (cells_at n d) ≤ m.objects → AllByRecursion (CellIs m) (cells_at n d)
-    cells_are n json.null h = tt
-    cells_are n (json.boolean b) h = tt
-    cells_are n (json.number x) h = tt
-    cells_are n (json.string bs) h = tt
-    cells_are n (json.array ds) h = let i = items_are (n + 1) 0 ds (omega (arith, h)) in (array_is m _ _ i.1, i.0)
-    cells_are n (json.object ms) h = let i = members_are (n + 1) ms (omega (arith, h)) in (plain_is m _ i.1, i.0)
+    cells_are : (n : ℕ) (d : json.Data) → n + length (cells_at n d) ≤ m.objects → Strings d → AllByRecursion (CellIs m) (cells_at n d)
+    cells_are n json.null h k = tt
+    cells_are n (json.boolean b) h k = tt
+    cells_are n (json.number x) h k = tt
+    cells_are n (json.string bs) h k = tt
+    cells_are n (json.array ds) h k = let i = items_are (n + 1) 0 ds (omega (arith, h)) k in (array_is m _ _ i.1.0 i.1.1, i.0)
+    cells_are n (json.object ms) h k = let i = members_are (n + 1) ms (omega (arith, h)) k in (plain_is m _ i.1.0 i.1.1, i.0)
 
-    items_are : (n i : ℕ) (ds : json.Items) → n + length (items_at n i ds).1 ≤ m.objects → AllByRecursion (CellIs m) (items_at n i ds).1 × PairsAre m (items_at n i ds).0
-    items_are n i json.no_items h = (tt, no_pairs m)
-    items_are n i (json.item d ds) h =
+    items_are : (n i : ℕ) (ds : json.Items) → n + length (items_at n i ds).1 ≤ m.objects → Told m (ItemsHaveStrings AreBytes ds)
+        → AllByRecursion (CellIs m) (items_at n i ds).1 × (PairsAre m (items_at n i ds).0 × Told m (AreNames (items_at n i ds).0))
+    items_are n i json.no_items h k = (tt, (no_pairs m, told m tt))
+    items_are n i (json.item d ds) h k =
         let cs : List Cell = cells_at n d in
         let us : List Cell = (items_at (n + length cs) (i + 1) ds).1 in
-        let k : n + length cs ≤ m.objects = omega (arith, h, length-append cs us) in
-        let r = items_are (n + length cs) (i + 1) ds (omega (arith, h, length-append cs us)) in
-        (each_both (CellIs m) cs us (cells_are n d k) r.0, more_pairs m _ _ _ (value_born n d k) r.1)
+        let l : n + length cs ≤ m.objects = omega (arith, h, length-append cs us) in
+        let r = items_are (n + length cs) (i + 1) ds (omega (arith, h, length-append cs us)) (second m k) in
+        (each_both (CellIs m) cs us (cells_are n d l (first m k)) r.0, (more_pairs m _ _ _ (value_born n d l (first m k)) r.1.0, together m (told m (decimal_is i)) r.1.1))
 
-    members_are : (n : ℕ) (ms : json.Members) → n + length (members_at n ms).1 ≤ m.objects → AllByRecursion (CellIs m) (members_at n ms).1 × PairsAre m (members_at n ms).0
-    members_are n json.no_members h = (tt, no_pairs m)
-    members_are n (json.member x d ms) h =
+    members_are : (n : ℕ) (ms : json.Members) → n + length (members_at n ms).1 ≤ m.objects → Told m (MembersHaveStrings AreBytes ms)
+        → AllByRecursion (CellIs m) (members_at n ms).1 × (PairsAre m (members_at n ms).0 × Told m (AreNames (members_at n ms).0))
+    members_are n json.no_members h k = (tt, (no_pairs m, told m tt))
+    members_are n (json.member x d ms) h k =
         let cs : List Cell = cells_at n d in
         let us : List Cell = (members_at (n + length cs) ms).1 in
-        let k : n + length cs ≤ m.objects = omega (arith, h, length-append cs us) in
-        let r = members_are (n + length cs) ms (omega (arith, h, length-append cs us)) in
-        (each_both (CellIs m) cs us (cells_are n d k) r.0, more_pairs m _ _ _ (value_born n d k) r.1)
+        let l : n + length cs ≤ m.objects = omega (arith, h, length-append cs us) in
+        let q : Strings d = also m (λ z. z.1.0) k in
+        let r = members_are (n + length cs) ms (omega (arith, h, length-append cs us)) (also m (λ z. z.1.1) k) in
+        (each_both (CellIs m) cs us (cells_are n d l q) r.0, (more_pairs m _ _ _ (value_born n d l q) r.1.0, together m (also m (λ z. spelled_is x z.0) k) r.1.1))
 
 mutual
   hosted : (n : ℕ) (d : json.Data) → AllByRecursion Hosted (cells_at n d)
@@ -77,9 +92,20 @@ module _ (m : Sizes) where
       let n : Sizes = with_more m s (length cs) in
       lowered m n _ (more_grows m s (length cs) hr) (ended n (Is v) (fold with_new_cell (with_counts s a) cs) (all_born m cs (with_counts s a) u hc hh) (value_end n v hv))))
 
-  pub from_json_r : (v : Value) (s : State) → R m s → Keeps m (from_json v s)
-  from_json_r (Text t) s hr = found m E4 (read_json t) s (λ d. read_value (length t) d (cells_at (length s.own.heap) d) (value_at (length s.own.heap) d) s) hr (λ d e.
+  bytes_read : (t : List ℕ) (d : json.Data) → read_json t ≡ Some d → IsText t → HasStrings AreBytes d
+  bytes_read t d e h = subst (OfSome (HasStrings AreBytes)) e (read_is AreBytes AreBytes (λ x xs q. q.1) found_is (utf8_of t) (utf8_bytes t h))
+    where
+      maybe : (o : Option (List ℕ)) → MaybeBytes o → OfSome AreBytes o
+      maybe None k = tt
+      maybe (Some u) k = k
+
+      found_is : (xs : List ℕ) → AreBytes xs → OfSome AreBytes (content plain xs)
+      found_is xs q = maybe (content plain xs) (content_is plain xs tt q)
+
+  pub from_json_r : (v : Value) (s : State) → R m s → ValueIs m v → Keeps m (from_json v s)
+  from_json_r (Text t) s hr hv = found m E4 (read_json t) s (λ d. read_value (length t) d (cells_at (length s.own.heap) d) (value_at (length s.own.heap) d) s) hr (λ d e.
       let k : ℕ = length s.own.heap in
       let n : Sizes = with_more m s (length (cells_at k d)) in
-      wanted m E8 (list_all (λ c. has_permitted_names c.kind c.pairs) (cells_at k d)) s _ hr (λ x. charged m _ s _ hr (give_read_r (has_numbers d) (value_at k d) (cells_at k d) (texts_in (value_at k d) (cells_at k d)) s hr (cells_are n k d (self n.objects)) (hosted k d) (value_born n k d (self n.objects)))))
-  from_json_r v s hr = search (faulted)
+      let z : Told n (HasStrings AreBytes d) = told_later m n _ (more_grows m s (length (cells_at k d)) hr) (also m (bytes_read t d e) hv.text) in
+      wanted m E8 (list_all (λ c. has_permitted_names c.kind c.pairs) (cells_at k d)) s _ hr (λ x. charged m _ s _ hr (give_read_r (has_numbers d) (value_at k d) (cells_at k d) (texts_in (value_at k d) (cells_at k d)) s hr (cells_are n k d (self n.objects) z) (hosted k d) (value_born n k d (self n.objects) z))))
+  from_json_r v s hr hv = search (faulted)

@@ -1,4 +1,11 @@
 pub mod Each
+pub mod Units
+pub mod Spelled
+pub mod ReadJson
+pub mod Scripts
+pub mod Styles
+pub mod Labels
+pub mod WrittenJson
 pub mod Later
 pub mod Values
 pub mod Chains

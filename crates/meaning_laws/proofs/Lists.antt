@@ -9,9 +9,12 @@ use Rattle.widget_meaning.specs.ListNatives.{join, list_concat, list_slice, call
 use Rattle.widget_meaning.specs.PrototypeNatives.{has_own_property, give_made, function_to_string, array_to_string, in_radix, number_to_string, boolean_to_string, prototype_native}
 use Rattle.std.proofs.Common.{◌<◌, ◌≤◌, length, Bool, true, false, refl, sym, ap, subst, arith, take, drop}
 use Rattle.std.specs.Prelude as std
-use Rattle.std.specs.Prelude.{None, if◌then◌else◌, zip, codes, pos, not, nat_lt, ◌-◌, slice_range}
+use Rattle.std.specs.Prelude.{int_le, unsigned_abs, negsuc, ◌%◌, ◌≡◌, None, if◌then◌else◌, zip, codes, pos, not, nat_lt, ◌-◌, slice_range}
 use Rattle.std.specs.List.{list_any, join_by}
-use Rattle.widget_meaning.specs.Limits.{max_length}
+use Rattle.widget_meaning.specs.Limits.{max_length, min_radix, max_radix}
+use Rattle.std.specs.Int.{is_negative}
+use Rattle.std.proofs.Math.Nat.{mod-lt}
+use Rattle.std.proofs.lemmas.Bool.{and_parts, leb-true}
 use Rattle.std.specs.List.{AllByRecursion}
 use Rattle.std.specs.Option.{option_map_or}
 use Rattle.std.proofs.lemmas.List.{reverse-append}
@@ -25,10 +28,12 @@ use Rattle.widget_meaning.specs.ListChanges.{list_extra, with_elements, pushed, 
 use Rattle.widget_meaning.specs.ListNatives.{kept, joined_text, separator}
 use Rattle.meaning_laws.proofs.Each.{each_both, each_filtered, each_mapped, each_piece, each_first, at_old}
 use Rattle.meaning_laws.proofs.Forms.{elements_are, write_cell, array_put, array_is}
+use Rattle.meaning_laws.specs.Texts.{IsText, OfText}
+use Rattle.meaning_laws.proofs.Units.{tested, both_texts, digits_are, joined_is, to_text_is}
 use Rattle.meaning_laws.proofs.Natives.{give_text_r, make_array_r, on_array_r, on_object_r, on_text_r, want_function_r, with_number_r, with_optional_r}
-use Rattle.meaning_laws.specs.There.{Sizes, Grows, ValueIs, ValuesAre, MaybeIs, CellIs}
+use Rattle.meaning_laws.specs.There.{Sizes, Grows, Told, ValueIs, ValuesAre, MaybeIs, CellIs}
 use Rattle.meaning_laws.proofs.Later.{same_size, through, value_later, values_later, cell_later}
-use Rattle.meaning_laws.proofs.Values.{undefined_is, truth_is, num_is, text_is, no_values, more_values, both_values, taken_values, left_values, nth_is, no_value, both_pairs, filtered_pairs, numbered_are, element_is, value_end, call_job}
+use Rattle.meaning_laws.proofs.Values.{told, both_names, filtered_names, numbered_names, undefined_is, truth_is, num_is, text_is, no_values, more_values, both_values, taken_values, left_values, nth_is, no_value, both_pairs, filtered_pairs, numbered_are, element_is, value_end, call_job}
 use Rattle.meaning_laws.proofs.Steps.{R, Keeps, ended, job, either, value, charged, paid, made_text, faulted, wanted, lowered, born, born_grows, is_born, with_one, written}
 
 less : (i m n : ℕ) → i < m → m ≤ n → i < n
@@ -69,7 +74,7 @@ module _ (m : Sizes) where
       by (Some len) = (elements_are m s n len h).each
 
   with_elements_is : (s : State) (n : ℕ) (vs : List Value) → R m s → ValuesAre m vs → CellIs m (with_elements (cell_at s n) vs)
-  with_elements_is s n vs h k = array_put m (cell_at s n) _ _ (h.there.objects n) (both_pairs m _ _ (filtered_pairs m _ _ (h.there.objects n).pairs) (numbered_are m 0 vs k))
+  with_elements_is s n vs h k = array_put m (cell_at s n) _ _ (h.there.objects n) (both_pairs m _ _ (filtered_pairs m _ _ (h.there.objects n).pairs) (numbered_are m 0 vs k)) (both_names m _ _ (filtered_names m _ _ (h.there.objects n).names) (numbered_names m 0 vs))
 
 pub change_r : (m : Sizes) (x0 : ℕ) (x1 : List Value) (x2 : Value) (x3 : State) → R m x3 → ValuesAre m x1 → ValueIs m x2 → Keeps m (change x0 x1 x2 x3)
 change_r m n vs v s hr h1 h2 = paid m _ s (λ t. give v (with_cell t n (with_elements (cell_at t n) vs))) hr (λ a u. ended m (Is v) (with_cell (with_counts s a) n (with_elements (cell_at s n) vs))
@@ -78,12 +83,12 @@ change_r m n vs v s hr h1 h2 = paid m _ s (λ t. give v (with_cell t n (with_ele
 pub pop_r : (m : Sizes) (x0 : ℕ) (x1 : ℕ) (x2 : List Value) (x3 : State) → R m x3 → Keeps m (pop x0 x1 x2 x3)
 pop_r m n zero vs s hr = charged m _ s _ hr (ended m _ s hr (value_end m _ (undefined_is m)))
 pop_r m n (suc len) vs s hr = charged m _ s _ hr (ended m _ (with_cell s n (cut_to (cell_at s n) len))
-    (write_cell m s n (cut_to (cell_at s n) len) hr (array_put m (cell_at s n) len _ (hr.there.objects n) (filtered_pairs m _ _ (hr.there.objects n).pairs)) refl)
+    (write_cell m s n (cut_to (cell_at s n) len) hr (array_put m (cell_at s n) len _ (hr.there.objects n) (filtered_pairs m _ _ (hr.there.objects n).pairs) (filtered_names m _ _ (hr.there.objects n).names)) refl)
     (value_end m _ (element_is m (cell_at s n).pairs len (hr.there.objects n).pairs)))
 
 pub push_r : (m : Sizes) (x0 : ℕ) (x1 : ℕ) (x2 : List Value) (x3 : State) → R m x3 → ValuesAre m x2 → Keeps m (push x0 x1 x2 x3)
 push_r m n len vs s hr h2 = either m (nat_lt max_length (len + length vs)) _ _ (faulted m E7 s hr) (charged m _ s _ hr (paid m _ s (λ t. give (Num (pos (len + length vs))) (with_cell t n (pushed (cell_at t n) len vs))) hr (λ a u. ended m _ (with_cell (with_counts s a) n (pushed (cell_at s n) len vs))
-    (write_cell m (with_counts s a) n (pushed (cell_at s n) len vs) u (array_put m (cell_at s n) _ _ (hr.there.objects n) (both_pairs m _ _ (hr.there.objects n).pairs (numbered_are m len vs h2))) refl)
+    (write_cell m (with_counts s a) n (pushed (cell_at s n) len vs) u (array_put m (cell_at s n) _ _ (hr.there.objects n) (both_pairs m _ _ (hr.there.objects n).pairs (numbered_are m len vs h2)) (both_names m _ _ (hr.there.objects n).names (numbered_names m len vs))) refl)
     (value_end m _ (num_is m _)))))
 
 pub shift_r : (m : Sizes) (x0 : ℕ) (x1 : ℕ) (x2 : List Value) (x3 : State) → R m x3 → Keeps m (shift x0 x1 x2 x3)
@@ -108,7 +113,7 @@ spliced_r m n vs at count new s hr h1 h4 ho =
     let taken : List Value = take count (drop at vs) in
     let left : List Value = take at vs ++ (new ++ drop (at + count) vs) in
     let c : Cell = new_array (length taken) (numbered_pairs 0 taken) in
-    let hc : CellIs m c = array_is m _ _ (numbered_are m 0 taken (taken_values m count _ (left_values m at vs h1))) in
+    let hc : CellIs m c = array_is m _ _ (numbered_are m 0 taken (taken_values m count _ (left_values m at vs h1))) (numbered_names m 0 taken) in
     let hl : ValuesAre m left = both_values m _ _ (taken_values m at vs h1) (both_values m _ _ h4 (left_values m (at + count) vs h1)) in
     paid m _ s (λ t. give (Own (length t.own.heap)) (with_cell (with_new_cell t (new_array (length taken) (numbered_pairs 0 taken))) n (with_elements (cell_at t n) left))) hr (λ a u.
     let t : State = with_counts s a in
@@ -134,8 +139,30 @@ list_concat_r m n len vs s hr h2 = charged m _ s _ hr (make_array_r m _ _ s give
     (both_values m _ _ (elements_are m s n len hr) (record { each = each_piece (ValueIs m) (ValueIs m) (array_elements s) (pieces_are m s hr) vs h2.each }))
     (λ l g v t u w. ended l (Is v) t u (value_end l v w)))
 
-pub join_r : (m : Sizes) (x0 : ℕ) (x1 : ℕ) (x2 : Value) (x3 : ℕ) (x4 : State) → R m x4 → Keeps m (join x0 x1 x2 x3 x4)
-join_r m n len x extra s hr = wanted m E4 (not (list_any is_object (x ∷ elements s n len))) s _ hr (λ _. give_text_r m extra (join_by joined_text (separator x) (elements s n len)) s hr)
+-- the text between, and those of elements
+separator_is : (v : Value) → OfText v → IsText (separator v)
+separator_is Undefined h = tested (codes ",") refl
+separator_is Null h = to_text_is Null h
+separator_is (Truth b) h = to_text_is (Truth b) h
+separator_is NaN h = to_text_is NaN h
+separator_is (Num z) h = to_text_is (Num z) h
+separator_is (Text t) h = to_text_is (Text t) h
+separator_is (Own n) h = to_text_is (Own n) h
+separator_is (Host e) h = to_text_is (Host e) h
+
+element_text_is : (v : Value) → OfText v → IsText (joined_text v)
+element_text_is Undefined h = tt
+element_text_is Null h = tt
+element_text_is (Truth b) h = to_text_is (Truth b) h
+element_text_is NaN h = to_text_is NaN h
+element_text_is (Num z) h = to_text_is (Num z) h
+element_text_is (Text t) h = to_text_is (Text t) h
+element_text_is (Own n) h = to_text_is (Own n) h
+element_text_is (Host e) h = to_text_is (Host e) h
+
+pub join_r : (m : Sizes) (x0 : ℕ) (x1 : ℕ) (x2 : Value) (x3 : ℕ) (x4 : State) → R m x4 → ValueIs m x2 → Keeps m (join x0 x1 x2 x3 x4)
+join_r m n len x extra s hr hx = wanted m E4 (not (list_any is_object (x ∷ elements s n len))) s _ hr (λ _. give_text_r m extra (join_by joined_text (separator x) (elements s n len)) s hr
+    (record { holds = λ e. joined_is (ValueIs m) joined_text (separator x) (separator_is x (hx.text.holds e)) (λ v q. element_text_is v (q.text.holds e)) (elements s n len) (elements_are m s n len hr).each }))
 
 pub list_slice_r : (m : Sizes) (x0 : ℕ) (x1 : ℕ) (x2 : Value) (x3 : Value) (x4 : ℕ) (x5 : State) → R m x5 → Keeps m (list_slice x0 x1 x2 x3 x4 x5)
 list_slice_r m n len a b extra s hr = wanted m E4 (not (list_any is_object (a ∷ b ∷ []))) s _ hr (λ _. with_number_r m (to_number a) extra s _ hr (λ x. with_optional_r m (pos len) b extra s _ hr (λ y. charged m extra s _ hr
@@ -153,7 +180,7 @@ over_r m n len f d s k hr h2 f0 = want_function_r m f s _ hr (charged m len s _ 
 
 pub list_method_r : (m : Sizes) (x0 : ListNative) (x1 : ℕ) (x2 : ℕ) (x3 : List Value) (x4 : ℕ) (x5 : State) → R m x5 → ValuesAre m x3 → ValueIs m (Own x1) → Keeps m (list_method x0 x1 x2 x3 x4 x5)
 list_method_r m ListConcat n len vs d s hr h3 ho = list_concat_r m n len vs s hr h3
-list_method_r m Join n len vs d s hr h3 ho = join_r m n len (nth 0 vs) (list_extra len vs s) s hr
+list_method_r m Join n len vs d s hr h3 ho = join_r m n len (nth 0 vs) (list_extra len vs s) s hr (nth_is m 0 vs h3)
 list_method_r m ListSlice n len vs d s hr h3 ho = list_slice_r m n len (nth 0 vs) (nth 1 vs) (list_extra len vs s) s hr
 list_method_r m ForEach n len vs d s hr h3 ho = over_r m n len (nth 0 vs) d s (λ ws t. give Undefined t) hr (nth_is m 0 vs h3) (λ l g ws t u q. ended l _ t u (value_end l _ (undefined_is l)))
 list_method_r m MapNative n len vs d s hr h3 ho = over_r m n len (nth 0 vs) d s (λ ws t. make_array ws 0 t give) hr (nth_is m 0 vs h3)
@@ -174,33 +201,59 @@ list_native_r m w this vs d s hr h1 h2 = on_array_r m this s _ hr h1 (λ n len h
 pub has_own_property_r : (m : Sizes) (x0 : Option Value) (x1 : Value) (x2 : State) → R m x2 → Keeps m (has_own_property x0 x1 x2)
 has_own_property_r m this x s hr = on_object_r m this s _ hr (λ o. wanted m E4 (not (list_any is_object (x ∷ []))) s _ hr (λ _. ended m _ s hr (value_end m _ (truth_is m _))))
 
-pub give_made_r : (m : Sizes) (x0 : List ℕ) (x1 : State) → R m x1 → Keeps m (give_made x0 x1)
-give_made_r m t s hr = made_text m t s (give (Text t)) hr (λ a u. ended m (Is (Text t)) (with_counts s a) u (value_end m _ (text_is m t)))
+pub give_made_r : (m : Sizes) (x0 : List ℕ) (x1 : State) → R m x1 → Told m (IsText x0) → Keeps m (give_made x0 x1)
+give_made_r m t s hr ht = made_text m t s (give (Text t)) hr (λ a u. ended m (Is (Text t)) (with_counts s a) u (value_end m _ (text_is m t ht)))
 
 pub function_to_string_r : (m : Sizes) (x0 : Option Value) (x1 : State) → R m x1 → Keeps m (function_to_string x0 x1)
-function_to_string_r m (Some v) s hr = wanted m E3 (is_function s v) s _ hr (λ e. give_made_r m (codes "[function]") s hr)
+function_to_string_r m (Some v) s hr = wanted m E3 (is_function s v) s _ hr (λ e. give_made_r m (codes "[function]") s hr (told m (tested (codes "[function]") refl)))
 function_to_string_r m None s hr = search (faulted)
 
 pub array_to_string_r : (m : Sizes) (x0 : ℕ) (x1 : ℕ) (x2 : State) → R m x2 → Keeps m (array_to_string x0 x1 x2)
-array_to_string_r m n len s hr = join_r m n len (Text (codes ",")) (len + 1) s hr
+array_to_string_r m n len s hr = join_r m n len (Text (codes ",")) (len + 1) s hr (text_is m _ (told m (tested (codes ",") refl)))
 
-pub in_radix_r : (m : Sizes) (x0 : Value) (x1 : Value) (x2 : State) → R m x2 → Keeps m (in_radix x0 x1 x2)
-in_radix_r m v radix s hr = wanted m E4 (not (list_any is_object (radix ∷ []))) s _ hr (λ _. with_optional_r m (pos 10) radix 0 s _ hr (λ r. wanted m E7 (is_radix r) s _ hr (λ e. give_made_r m (number_text v r) s hr)))
+low_radix : (r : ℤ) → is_radix r ≡ true → (n : ℕ) → n % unsigned_abs r < 36
+low_radix (pos r) e n =
+    let p = and_parts (int_le (pos min_radix) (pos r)) (int_le (pos r) (pos max_radix)) e in
+    below n r (leb-true min_radix r p.0) (leb-true r max_radix p.1)
+  where
+    below : (n r : ℕ) → 2 ≤ r → r ≤ 36 → n % r < 36
+    below n r l h = omega (arith, h, mod-lt n {m = r} (omega (arith, l)))
+low_radix (negsuc r) e n = absurd (no e)
+  where
+    no : false ≡ true → ⊥
+    no i = cc
+
+sign_is : (b : Bool) → IsText (if b then codes "-" else [])
+sign_is true = tested (codes "-") refl
+sign_is false = tt
+
+number_text_is : (v : Value) (r : ℤ) → is_radix r ≡ true → OfText v → IsText (number_text v r)
+number_text_is (Num z) r e h = both_texts _ _ (sign_is (is_negative z)) (digits_are (unsigned_abs r) false (low_radix r e) (unsigned_abs z))
+number_text_is Undefined r e h = to_text_is Undefined h
+number_text_is Null r e h = to_text_is Null h
+number_text_is (Truth b) r e h = to_text_is (Truth b) h
+number_text_is NaN r e h = to_text_is NaN h
+number_text_is (Text t) r e h = to_text_is (Text t) h
+number_text_is (Own n) r e h = to_text_is (Own n) h
+number_text_is (Host x) r e h = to_text_is (Host x) h
+
+pub in_radix_r : (m : Sizes) (x0 : Value) (x1 : Value) (x2 : State) → R m x2 → OfText x0 → Keeps m (in_radix x0 x1 x2)
+in_radix_r m v radix s hr hv = wanted m E4 (not (list_any is_object (radix ∷ []))) s _ hr (λ _. with_optional_r m (pos 10) radix 0 s _ hr (λ r. wanted m E7 (is_radix r) s _ hr (λ e. give_made_r m (number_text v r) s hr (told m (number_text_is v r e hv)))))
 
 pub number_to_string_r : (m : Sizes) (x0 : Option Value) (x1 : Value) (x2 : State) → R m x2 → Keeps m (number_to_string x0 x1 x2)
-number_to_string_r m (Some NaN) radix s hr = in_radix_r m NaN radix s hr
-number_to_string_r m (Some (Num z)) radix s hr = in_radix_r m (Num z) radix s hr
+number_to_string_r m (Some NaN) radix s hr = in_radix_r m NaN radix s hr tt
+number_to_string_r m (Some (Num z)) radix s hr = in_radix_r m (Num z) radix s hr tt
 number_to_string_r m this radix s hr = search (faulted)
 
 pub boolean_to_string_r : (m : Sizes) (x0 : Option Value) (x1 : State) → R m x1 → Keeps m (boolean_to_string x0 x1)
-boolean_to_string_r m (Some (Truth b)) s hr = give_made_r m (to_text (Truth b)) s hr
+boolean_to_string_r m (Some (Truth b)) s hr = give_made_r m (to_text (Truth b)) s hr (told m (to_text_is (Truth b) tt))
 boolean_to_string_r m this s hr = search (faulted)
 
 pub prototype_native_r : (m : Sizes) (x0 : PrototypeNative) (x1 : Option Value) (x2 : List Value) (x3 : ℕ) (x4 : State) → R m x4 → MaybeIs m x1 → Keeps m (prototype_native x0 x1 x2 x3 x4)
 prototype_native_r m HasOwnProperty this vs d s hr h1 = has_own_property_r m this (nth 0 vs) s hr
-prototype_native_r m ObjectToString this vs d s hr h1 = on_object_r m this s _ hr (λ o. give_made_r m (codes "[object Object]") s hr)
+prototype_native_r m ObjectToString this vs d s hr h1 = on_object_r m this s _ hr (λ o. give_made_r m (codes "[object Object]") s hr (told m (tested (codes "[object Object]") refl)))
 prototype_native_r m ArrayToString this vs d s hr h1 = on_array_r m this s _ hr h1 (λ n len ho. array_to_string_r m n len s hr)
 prototype_native_r m FunctionToString this vs d s hr h1 = function_to_string_r m this s hr
-prototype_native_r m TextToString this vs d s hr h1 = on_text_r m this s _ hr (λ t. ended m _ s hr (value_end m _ (text_is m t)))
+prototype_native_r m TextToString this vs d s hr h1 = on_text_r m this s _ hr h1 (λ t ht. ended m _ s hr (value_end m _ (text_is m t ht)))
 prototype_native_r m NumberToString this vs d s hr h1 = number_to_string_r m this (nth 0 vs) s hr
 prototype_native_r m BooleanToString this vs d s hr h1 = boolean_to_string_r m this s hr

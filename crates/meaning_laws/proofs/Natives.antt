@@ -26,10 +26,12 @@ use Rattle.std.specs.Prelude.{if◌then◌else◌}
 use Rattle.code_units.specs.Whole.{trimmed_start}
 use Rattle.std.specs.Str.Parse.{digits_value, starts_with_minus, without_leading_sign}
 use Rattle.widget_meaning.specs.MathNatives.{power}
-use Rattle.meaning_laws.proofs.Each.{each_made}
+use Rattle.std.specs.List.{AllByRecursion}
 use Rattle.meaning_laws.proofs.Forms.{result_r, to_primitive_r, bunch_is, bunch_cell, array_is}
-use Rattle.meaning_laws.specs.There.{Sizes, Grows, ValueIs, ValuesAre, MaybeIs, NodesAre}
-use Rattle.meaning_laws.proofs.Values.{truth_is, nan_is, num_is, text_is, numbered_are, value_end}
+use Rattle.meaning_laws.specs.There.{Sizes, Grows, Told, ValueIs, ValuesAre, MaybeIs, NodesAre}
+use Rattle.meaning_laws.specs.Texts.{IsText, AreTexts}
+use Rattle.meaning_laws.proofs.Units.{codes_are}
+use Rattle.meaning_laws.proofs.Values.{told, also, truth_is, nan_is, num_is, text_is, text_told, numbered_are, numbered_names, value_end}
 use Rattle.meaning_laws.proofs.Results.{GivenIs, given, leaves, number_given, truth_given, either_given, as_number_given}
 use Rattle.meaning_laws.proofs.Steps.{R, Keeps, ended, halted, either, value, chain, charged, paid, made, made_text, faulted, wanted, found, born_then}
 
@@ -65,9 +67,9 @@ want_primitives_r m vs s p hr f0 = wanted m E4 (not (list_any is_object vs)) s p
 pub want_function_r : (m : Sizes) (x0 : Value) (x1 : State) (x2 : Plan) → R m x1 → Keeps m x2 → Keeps m (want_function x0 x1 x2)
 want_function_r m f s p hr f0 = wanted m E4 (is_own_function s f) s p hr (λ e. f0)
 
-pub on_text_r : (m : Sizes) (x0 : Option Value) (x1 : State) (x2 : (List ℕ → Plan)) → R m x1 → ((y0 : List ℕ) → Keeps m (x2 y0)) → Keeps m (on_text x0 x1 x2)
-on_text_r m (Some (Text t)) s k hr f0 = f0 t
-on_text_r m this s k hr f0 = search (faulted)
+pub on_text_r : (m : Sizes) (x0 : Option Value) (x1 : State) (x2 : (List ℕ → Plan)) → R m x1 → MaybeIs m x0 → ((y0 : List ℕ) → Told m (IsText y0) → Keeps m (x2 y0)) → Keeps m (on_text x0 x1 x2)
+on_text_r m (Some (Text t)) s k hr h0 f0 = f0 t h0.value.text
+on_text_r m this s k hr h0 f0 = search (faulted)
 
 pub on_array_r : (m : Sizes) (x0 : Option Value) (x1 : State) (x2 : (ℕ → ℕ → Plan)) → R m x1 → MaybeIs m x0 → ((y0 : ℕ) (y1 : ℕ) → ValueIs m (Own y0) → Keeps m (x2 y0 y1)) → Keeps m (on_array x0 x1 x2)
 on_array_r m (Some (Own n)) s k hr h0 f0 = found m E3 (array_length (kind_of s (Own n))) s (k n) hr (λ len e. f0 n len h0.value)
@@ -85,11 +87,11 @@ with_number_or_r m z read.Left extra s k hr f0 = search (charged, halted)
 pub with_number_r : (m : Sizes) (x0 : WholeRead) (x1 : ℕ) (x2 : State) (x3 : (ℤ → Plan)) → R m x2 → ((y0 : ℤ) → Keeps m (x3 y0)) → Keeps m (with_number x0 x1 x2 x3)
 with_number_r m r extra s k hr f0 = with_number_or_r m (pos 0) r extra s k hr f0
 
-pub give_text_r : (m : Sizes) (x0 : ℕ) (x1 : List ℕ) (x2 : State) → R m x2 → Keeps m (give_text x0 x1 x2)
-give_text_r m extra t s hr = charged m _ s _ hr (made_text m t s (give (Text t)) hr (λ a u. ended m (Is (Text t)) (with_counts s a) u (value_end m _ (text_is m t))))
+pub give_text_r : (m : Sizes) (x0 : ℕ) (x1 : List ℕ) (x2 : State) → R m x2 → Told m (IsText x1) → Keeps m (give_text x0 x1 x2)
+give_text_r m extra t s hr ht = charged m _ s _ hr (made_text m t s (give (Text t)) hr (λ a u. ended m (Is (Text t)) (with_counts s a) u (value_end m _ (text_is m t ht))))
 
 pub make_array_r : (m : Sizes) (x0 : List Value) (x1 : ℕ) (x2 : State) (x3 : (Value → State → Plan)) → R m x2 → ValuesAre m x0 → ((n : Sizes) → Grows m n → (y0 : Value) (y1 : State) → R n y1 → ValueIs n y0 → Keeps n (x3 y0 y1)) → Keeps m (make_array x0 x1 x2 x3)
-make_array_r m vs units s k hr h0 f0 = paid m (cost units 1 (length vs) 0) s (λ t. k (Own (length t.own.heap)) (with_new_cell t (new_array (length vs) (numbered_pairs 0 vs)))) hr (λ a u. born_then m (new_array (length vs) (numbered_pairs 0 vs)) (with_counts s a) k u (array_is m _ _ (numbered_are m 0 vs h0)) tt f0)
+make_array_r m vs units s k hr h0 f0 = paid m (cost units 1 (length vs) 0) s (λ t. k (Own (length t.own.heap)) (with_new_cell t (new_array (length vs) (numbered_pairs 0 vs)))) hr (λ a u. born_then m (new_array (length vs) (numbered_pairs 0 vs)) (with_counts s a) k u (array_is m _ _ (numbered_are m 0 vs h0) (numbered_names m 0 vs)) tt f0)
 
 pub make_bunch_r : (m : Sizes) (x0 : List ℕ) (x1 : State) (x2 : (Value → State → Plan)) → R m x1 → NodesAre m x0 → ((n : Sizes) → Grows m n → (y0 : Value) (y1 : State) → R n y1 → ValueIs n y0 → Keeps n (x2 y0 y1)) → Keeps m (make_bunch x0 x1 x2)
 make_bunch_r m ns s k hr hn f0 = made m (new_bunch ns) _ s k hr (bunch_cell m ns hn) tt f0
@@ -98,9 +100,13 @@ pub with_optional_r : (m : Sizes) (x0 : ℤ) (x1 : Value) (x2 : ℕ) (x3 : State
 with_optional_r m z Undefined extra s k hr f0 = f0 z
 with_optional_r m z v extra s k hr f0 = with_number_r m (to_number v) extra s k hr f0
 
-pub give_texts_r : (m : Sizes) (x0 : List (List ℕ)) (x1 : State) → R m x1 → Keeps m (give_texts x0 x1)
-give_texts_r m ts s hr = either m _ _ _ (halted m _ s hr)
-    (make_array_r m (map Text ts) _ s give hr (record { each = each_made (ValueIs m) Text (λ t. text_is m t) ts }) (λ n g v t u w. ended n (Is v) t u (value_end n v w)))
+each_told : (m : Sizes) (ts : List (List ℕ)) → Told m (AreTexts ts) → AllByRecursion (ValueIs m) (map Text ts)
+each_told m [] h = tt
+each_told m (t ∷ ts) h = (text_is m t (also m (λ q. q.0) h), each_told m ts (also m (λ q. q.1) h))
+
+pub give_texts_r : (m : Sizes) (x0 : List (List ℕ)) (x1 : State) → R m x1 → Told m (AreTexts x0) → Keeps m (give_texts x0 x1)
+give_texts_r m ts s hr ht = either m _ _ _ (halted m _ s hr)
+    (make_array_r m (map Text ts) _ s give hr (record { each = each_told m ts ht }) (λ n g v t u w. ended n (Is v) t u (value_end n v w)))
 
 pub on_object_r : (m : Sizes) (x0 : Option Value) (x1 : State) (x2 : (Value → Plan)) → R m x1 → ((y0 : Value) → Keeps m (x2 y0)) → Keeps m (on_object x0 x1 x2)
 on_object_r m (Some (Own n)) s k hr f0 = f0 (Own n)
@@ -117,17 +123,17 @@ pub number_of_r : (m : Sizes) (x0 : List Value) (x1 : State) → R m x1 → Keep
 number_of_r m [] s hr = ended m _ s hr (value_end m _ (num_is m _))
 number_of_r m (v ∷ vs) s hr = of_number_r m v (λ r. as_number r (λ z. z)) s hr (λ r. as_number_given m r (λ z. z))
 
-pub text_of_primitive_r : (m : Sizes) (x0 : Value) (x1 : State) → R m x1 → Keeps m (text_of_primitive x0 x1)
-text_of_primitive_r m (Text t) s hr = ended m _ s hr (value_end m _ (text_is m t))
-text_of_primitive_r m v s hr = give_text_r m 0 (to_text v) s hr
+pub text_of_primitive_r : (m : Sizes) (x0 : Value) (x1 : State) → R m x1 → ValueIs m x0 → Keeps m (text_of_primitive x0 x1)
+text_of_primitive_r m (Text t) s hr h0 = ended m _ s hr (value_end m _ h0)
+text_of_primitive_r m v s hr h0 = give_text_r m 0 (to_text v) s hr (text_told m v h0)
 
 pub string_of_r : (m : Sizes) (x0 : Value) (x1 : ℕ) (x2 : State) → R m x2 → ValueIs m x0 → Keeps m (string_of x0 x1 x2)
 string_of_r m v d s hr h0 = either m _ _ _
-    (chain m _ _ (to_primitive_r m v d s hr h0) (λ n g o t u q. value n o t _ u q (λ w z. text_of_primitive_r n w t u)))
-    (charged m _ s _ hr (text_of_primitive_r m v s hr))
+    (chain m _ _ (to_primitive_r m v d s hr h0) (λ n g o t u q. value n o t _ u q (λ w z. text_of_primitive_r n w t u z)))
+    (charged m _ s _ hr (text_of_primitive_r m v s hr h0))
 
 pub string_native_r : (m : Sizes) (x0 : List Value) (x1 : ℕ) (x2 : State) → R m x2 → ValuesAre m x0 → Keeps m (string_native x0 x1 x2)
-string_native_r m [] d s hr h0 = give_text_r m 0 [] s hr
+string_native_r m [] d s hr h0 = give_text_r m 0 [] s hr (told m tt)
 string_native_r m (v ∷ vs) d s hr h0 = string_of_r m v d s hr h0.each.0
 
 pub parse_int_r : (m : Sizes) (x0 : Value) (x1 : Value) (x2 : State) → R m x2 → Keeps m (parse_int x0 x1 x2)
@@ -137,7 +143,7 @@ parse_int_r m v radix s hr =
     (λ z. charged m (length (to_text v) + units_read radix) s _ hr (result_r m (parsed (starts_with_minus us) (without_leading_sign us) z) s hr (parsed_given m (starts_with_minus us) (without_leading_sign us) z))))
 
 pub from_char_code_r : (m : Sizes) (x0 : List Value) (x1 : State) → R m x1 → Keeps m (from_char_code x0 x1)
-from_char_code_r m vs s hr = wanted m E4 (not (list_any is_object (vs))) s _ hr (λ _. either m (list_any has_left (map to_number vs)) _ _ (charged m (sum_by units_read vs) s _ hr (halted m _ s hr)) (give_text_r m (sum_by units_read vs) (map code_of (map to_number vs)) s hr))
+from_char_code_r m vs s hr = wanted m E4 (not (list_any is_object (vs))) s _ hr (λ _. either m (list_any has_left (map to_number vs)) _ _ (charged m (sum_by units_read vs) s _ hr (halted m _ s hr)) (give_text_r m (sum_by units_read vs) (map code_of (map to_number vs)) s hr (told m (codes_are (map to_number vs)))))
 
 pub global_native_r : (m : Sizes) (x0 : GlobalNative) (x1 : Option Value) (x2 : List Value) (x3 : ℕ) (x4 : State) → R m x4 → ValuesAre m x2 → Keeps m (global_native x0 x1 x2 x3 x4)
 global_native_r m BooleanOf this vs d s hr h2 = boolean_of_r m (nth 0 vs) s hr

@@ -12,8 +12,10 @@ use Rattle.widget_meaning.specs.Limits.{past_numbers, max_text}
 use Rattle.widget_meaning.specs.Values.{Value, Undefined, Truth, NaN, Num, Text, is_true, to_text, to_number}
 use Rattle.widget_meaning.specs.Operators.{OpOut, Gives, Leaves, TooLong, number, text, truth, of_numbers, arithmetic, is_zero, remainder, quotient, is_text, plus, is_text_before, compare, is_same, binary, as_number, unary}
 use Rattle.widget_meaning.specs.Expressions.{stepped}
-use Rattle.meaning_laws.specs.There.{Sizes, ValueIs}
-use Rattle.meaning_laws.proofs.Values.{undefined_is, truth_is, nan_is, num_is, text_is}
+use Rattle.meaning_laws.specs.There.{Sizes, Told, ValueIs}
+use Rattle.meaning_laws.specs.Texts.{IsText}
+use Rattle.meaning_laws.proofs.Units.{both_texts}
+use Rattle.meaning_laws.proofs.Values.{undefined_is, truth_is, nan_is, num_is, text_is, text_told}
 
 abbrev pub OfGiven : Sizes → OpOut → Type 0
 OfGiven m (Gives v) = ValueIs m v
@@ -41,12 +43,12 @@ module _ (m : Sizes) where
       by true = given (Num z) (num_is m z)
       by false = leaves
 
-  text_given : (t : List ℕ) → GivenIs m (text t)
-  text_given t = by (nat_lt max_text (length t))
+  text_given : (t : List ℕ) → Told m (IsText t) → GivenIs m (text t)
+  text_given t h = by (nat_lt max_text (length t))
     where
       by : (b : Bool) → GivenIs m (if b then TooLong else Gives (Text t))
       by true = too_long
-      by false = given (Text t) (text_is m t)
+      by false = given (Text t) (text_is m t h)
 
   pub truth_given : (b : Bool) → GivenIs m (truth b)
   truth_given b = given (Truth b) (truth_is m b)
@@ -70,8 +72,8 @@ module _ (m : Sizes) where
   either_given true l n h i = h
   either_given false l n h i = i
 
-  plus_given : (a b : Value) → GivenIs m (plus a b)
-  plus_given a b = either_given (is_text a || is_text b) _ _ (text_given (to_text a ++ to_text b)) (arithmetic_given a b (λ x y. number (x +ℤ y)) (λ x y. number_given (x +ℤ y)))
+  plus_given : (a b : Value) → ValueIs m a → ValueIs m b → GivenIs m (plus a b)
+  plus_given a b h k = either_given (is_text a || is_text b) _ _ (text_given (to_text a ++ to_text b) (record { holds = λ e. both_texts (to_text a) (to_text b) ((text_told m a h).holds e) ((text_told m b k).holds e) })) (arithmetic_given a b (λ x y. number (x +ℤ y)) (λ x y. number_given (x +ℤ y)))
 
   compare_given : (texts : List ℕ → List ℕ → Bool) (numbers : ℤ → ℤ → Bool) (a b : Value) → GivenIs m (compare texts numbers a b)
   compare_given texts numbers (Text t) (Text u) = truth_given (texts t u)
@@ -83,19 +85,19 @@ module _ (m : Sizes) where
   quotient_given : (x y : ℤ) → GivenIs m (quotient x y)
   quotient_given x y = either_given (is_zero y) _ _ (either_given (is_zero x) _ _ nan_given leaves) (either_given _ _ _ (given _ (num_is m _)) leaves)
 
-  pub binary_given : (op : BinOp) (a b : Value) → GivenIs m (binary op a b)
-  binary_given bin.Add a b = plus_given a b
-  binary_given bin.Sub a b = arithmetic_given a b _ (λ x y. number_given (x -ℤ y))
-  binary_given bin.Mul a b = arithmetic_given a b _ (λ x y. number_given (x *ℤ y))
-  binary_given bin.Rem a b = arithmetic_given a b remainder remainder_given
-  binary_given bin.Div a b = arithmetic_given a b quotient quotient_given
-  binary_given bin.Less a b = compare_given is_text_before int_lt a b
-  binary_given bin.Greater a b = compare_given (λ t u. is_text_before u t) (λ x y. int_lt y x) a b
-  binary_given bin.LessEqual a b = compare_given (λ t u. not (is_text_before u t)) (λ x y. not (int_lt y x)) a b
-  binary_given bin.GreaterEqual a b = compare_given (λ t u. not (is_text_before t u)) (λ x y. not (int_lt x y)) a b
-  binary_given bin.Same a b = truth_given (is_same a b)
-  binary_given bin.NotSame a b = truth_given (not (is_same a b))
-  binary_given op a b = given Undefined (undefined_is m)
+  pub binary_given : (op : BinOp) (a b : Value) → ValueIs m a → ValueIs m b → GivenIs m (binary op a b)
+  binary_given bin.Add a b h k = plus_given a b h k
+  binary_given bin.Sub a b h k = arithmetic_given a b _ (λ x y. number_given (x -ℤ y))
+  binary_given bin.Mul a b h k = arithmetic_given a b _ (λ x y. number_given (x *ℤ y))
+  binary_given bin.Rem a b h k = arithmetic_given a b remainder remainder_given
+  binary_given bin.Div a b h k = arithmetic_given a b quotient quotient_given
+  binary_given bin.Less a b h k = compare_given is_text_before int_lt a b
+  binary_given bin.Greater a b h k = compare_given (λ t u. is_text_before u t) (λ x y. int_lt y x) a b
+  binary_given bin.LessEqual a b h k = compare_given (λ t u. not (is_text_before u t)) (λ x y. not (int_lt y x)) a b
+  binary_given bin.GreaterEqual a b h k = compare_given (λ t u. not (is_text_before t u)) (λ x y. not (int_lt x y)) a b
+  binary_given bin.Same a b h k = truth_given (is_same a b)
+  binary_given bin.NotSame a b h k = truth_given (not (is_same a b))
+  binary_given op a b h k = given Undefined (undefined_is m)
 
   pub as_number_given : (r : WholeRead) (f : ℤ → ℤ) → GivenIs m (as_number r f)
   as_number_given read.NotNumber f = nan_given

@@ -1,6 +1,6 @@
 -- What each state of a plan keeps: all that is named is there. The steps of which plans are made.
 use Rattle.std.proofs.Common.{◌≡◌, ℕ, zero, suc, ◌+◌, ◌<◌, ◌≤◌, List, [], ◌∷◌, ◌++◌, length, Bool, true, false, refl, sym, subst, arith}
-use Rattle.std.specs.Prelude.{Option, Some, None, nat_lt, if◌then◌else◌, slice_set, replicate}
+use Rattle.std.specs.Prelude.{codes, Option, Some, None, nat_lt, if◌then◌else◌, slice_set, replicate}
 use Rattle.std.specs.List.{AllByRecursion}
 use Rattle.std.proofs.lemmas.List.{length-set, length-append}
 use Rattle.permitted_table.specs.declared.native.HostEntry.TheVariants as host
@@ -13,16 +13,18 @@ use Rattle.widget_meaning.specs.Costs.{sum, pay, make, make_text, throw, fault_p
 use Rattle.widget_meaning.specs.Keeps.{no_scope}
 use Rattle.widget_meaning.specs.NodeLaws.{IsPage}
 use Rattle.widget_meaning.specs.Trees.{Trees}
-use Rattle.meaning_laws.specs.There.{Sizes, Grows, IsBelow, ValueIs, PairsAre, OfNode, CellIs, KeptIs, ReferenceIs, CompletionIs, JobIs, AreThere, IsShort, cell_in}
+use Rattle.meaning_laws.specs.There.{Sizes, Grows, Told, IsBelow, ValueIs, PairsAre, OfNode, CellIs, KeptIs, ReferenceIs, CompletionIs, JobIs, AreThere, IsShort, cell_in}
+use Rattle.meaning_laws.specs.Texts.{AreNames, PageHasTexts}
+use Rattle.meaning_laws.proofs.Units.{tested, name_of_fault, message_of_fault}
 use Rattle.meaning_laws.proofs.Each.{every, at_end, at_set, at_room, each_both}
-use Rattle.meaning_laws.proofs.Later.{same_size, through, below_later, value_later, node_later, pairs_later, cell_later, kept_later, maybe_node_later}
+use Rattle.meaning_laws.proofs.Later.{same_size, through, below_later, value_later, node_later, pairs_later, cell_later, kept_later, maybe_node_later, told_later}
 use Rattle.meaning_laws.proofs.Chains.{short_born, same_prototypes, short_still}
-use Rattle.meaning_laws.proofs.Values.{text_is, host_is, no_pairs, more_pairs, throw_end}
+use Rattle.meaning_laws.proofs.Values.{told, own_value, text_is, host_is, no_pairs, more_pairs, throw_end}
 
 -- all that is named in a state is there, and at least so much was born
 pub record Fine (m : Sizes) (hs : List Cell) (cs : List Scope) (ks : List Kept) (ts : List Timer) (f : Trees) (focus : Option ℕ) : Type 0 where
   pub there : AreThere m hs cs ks ts f focus
-  pub wide : Grows m (record { objects = length hs; nodes = length ks })
+  pub wide : Grows m (record { objects = length hs; nodes = length ks; texts = m.texts })
 
 abbrev pub R : Sizes → State → Type 0
 R m s = Fine m s.own.heap s.own.scopes s.own.kept s.own.timers s.own.forest s.own.focus
@@ -180,7 +182,7 @@ far m n k h i = omega arith
 
 -- one more object
 abbrev pub with_one : Sizes → List Cell → Cell → Sizes
-with_one m hs c = record { objects = length (hs ++ c ∷ []); nodes = m.nodes }
+with_one m hs c = record { objects = length (hs ++ c ∷ []); nodes = m.nodes; texts = m.texts }
 
 pub page_later : (f : Trees) (i j : ℕ) → i ≤ j → IsPage f i → IsPage f j
 page_later f i j l h = record { once = h.once; there = λ n k. h.there n (far i j n l k) }
@@ -201,6 +203,7 @@ there_later m n hs cs ks ts f focus g h = record {
   page = page_later f m.nodes n.nodes g.nodes h.page;
   low = h.low;
   focused = maybe_node_later m n focus g h.focused;
+  labels = told_later m n _ g h.labels;
   lib = value_later m n (Own 0) g h.lib;
   root = node_later m n 0 g h.root;
 }
@@ -218,16 +221,17 @@ there_born n hs cs ks ts f focus c h q below short = record {
   page = h.page;
   low = h.low;
   focused = h.focused;
+  labels = h.labels;
   lib = h.lib;
   root = h.root;
 }
 
 module _ (m : Sizes) (hs : List Cell) (cs : List Scope) (ks : List Kept) (ts : List Timer) (f : Trees) (focus : Option ℕ) where
   pub born_grows : (c : Cell) → Fine m hs cs ks ts f focus → Grows m (with_one m hs c)
-  born_grows c h = record { objects = far m.objects (length hs) _ h.wide.objects (one_more hs c); nodes = self m.nodes }
+  born_grows c h = record { objects = far m.objects (length hs) _ h.wide.objects (one_more hs c); nodes = self m.nodes; texts = refl }
 
   pub is_born : (c : Cell) → ValueIs (with_one m hs c) (Own (length hs))
-  is_born c = record { born = newest hs c }
+  is_born c = own_value (with_one m hs c) (length hs) (newest hs c)
 
   pub born : (c : Cell) → Fine m hs cs ks ts f focus → CellIs m c → IsShort max_chain hs (Some c.prototype)
       → Fine (with_one m hs c) (hs ++ c ∷ []) cs ks ts f focus
@@ -237,7 +241,7 @@ module _ (m : Sizes) (hs : List Cell) (cs : List Scope) (ks : List Kept) (ts : L
       record {
         there = there_born b hs cs ks ts f focus c (there_later m b hs cs ks ts f focus g h.there) (cell_later m b c g q)
             (below_later m.objects (length hs) c.prototype h.wide.objects q.prototype.born) short;
-        wide = record { objects = self b.objects; nodes = h.wide.nodes };
+        wide = record { objects = self b.objects; nodes = h.wide.nodes; texts = refl };
       }
 
   -- an object is written, and has the prototype that it had
@@ -254,10 +258,11 @@ module _ (m : Sizes) (hs : List Cell) (cs : List Scope) (ks : List Kept) (ts : L
       page = h.there.page;
       low = h.there.low;
       focused = h.there.focused;
+      labels = h.there.labels;
       lib = h.there.lib;
       root = h.there.root;
     };
-    wide = record { objects = subst (λ k. m.objects ≤ k) (sym (length-set hs n c)) h.wide.objects; nodes = h.wide.nodes };
+    wide = record { objects = subst (λ k. m.objects ≤ k) (sym (length-set hs n c)) h.wide.objects; nodes = h.wide.nodes; texts = refl };
   }
 
   -- a scope comes, or gets other values
@@ -273,6 +278,7 @@ module _ (m : Sizes) (hs : List Cell) (cs : List Scope) (ks : List Kept) (ts : L
       page = h.there.page;
       low = h.there.low;
       focused = h.there.focused;
+      labels = h.there.labels;
       lib = h.there.lib;
       root = h.there.root;
     };
@@ -291,6 +297,7 @@ module _ (m : Sizes) (hs : List Cell) (cs : List Scope) (ks : List Kept) (ts : L
       page = h.there.page;
       low = h.there.low;
       focused = h.there.focused;
+      labels = h.there.labels;
       lib = h.there.lib;
       root = h.there.root;
     };
@@ -298,8 +305,8 @@ module _ (m : Sizes) (hs : List Cell) (cs : List Scope) (ks : List Kept) (ts : L
   }
 
   -- another page of the same nodes
-  pub paged : (g : Trees) → Fine m hs cs ks ts f focus → IsPage g m.nodes → height g ≤ max_node_depth + 1 → Fine m hs cs ks ts g focus
-  paged g h q l = record {
+  pub paged : (g : Trees) → Fine m hs cs ks ts f focus → IsPage g m.nodes → height g ≤ max_node_depth + 1 → Told m (PageHasTexts g) → Fine m hs cs ks ts g focus
+  paged g h q l w = record {
     there = record {
       objects = h.there.objects;
       older = h.there.older;
@@ -310,6 +317,7 @@ module _ (m : Sizes) (hs : List Cell) (cs : List Scope) (ks : List Kept) (ts : L
       page = q;
       low = l;
       focused = h.there.focused;
+      labels = w;
       lib = h.there.lib;
       root = h.there.root;
     };
@@ -317,13 +325,13 @@ module _ (m : Sizes) (hs : List Cell) (cs : List Scope) (ks : List Kept) (ts : L
   }
 
   -- new nodes
-  pub room_grows : (k : ℕ) → Fine m hs cs ks ts f focus → Grows m (record { objects = m.objects; nodes = length (ks ++ replicate k nothing_kept) })
-  room_grows k h = record { objects = self m.objects; nodes = omega (arith, h.wide.nodes, length-append ks (replicate k nothing_kept)) }
+  pub room_grows : (k : ℕ) → Fine m hs cs ks ts f focus → Grows m (record { objects = m.objects; nodes = length (ks ++ replicate k nothing_kept); texts = m.texts })
+  room_grows k h = record { objects = self m.objects; nodes = omega (arith, h.wide.nodes, length-append ks (replicate k nothing_kept)); texts = refl }
 
-  pub roomy : (g : Trees) (k : ℕ) → Fine m hs cs ks ts f focus → IsPage g (length (ks ++ replicate k nothing_kept)) → height g ≤ max_node_depth + 1
-      → Fine (record { objects = m.objects; nodes = length (ks ++ replicate k nothing_kept) }) hs cs (ks ++ replicate k nothing_kept) ts g focus
-  roomy g k h q l =
-      let b : Sizes = record { objects = m.objects; nodes = length (ks ++ replicate k nothing_kept) } in
+  pub roomy : (g : Trees) (k : ℕ) → Fine m hs cs ks ts f focus → IsPage g (length (ks ++ replicate k nothing_kept)) → height g ≤ max_node_depth + 1 → Told m (PageHasTexts g)
+      → Fine (record { objects = m.objects; nodes = length (ks ++ replicate k nothing_kept); texts = m.texts }) hs cs (ks ++ replicate k nothing_kept) ts g focus
+  roomy g k h q l v =
+      let b : Sizes = record { objects = m.objects; nodes = length (ks ++ replicate k nothing_kept); texts = m.texts } in
       let w : Grows m b = room_grows k h in
       let t : AreThere b hs cs ks ts f focus = there_later m b hs cs ks ts f focus w h.there in
       record {
@@ -332,15 +340,16 @@ module _ (m : Sizes) (hs : List Cell) (cs : List Scope) (ks : List Kept) (ts : L
           older = t.older;
           chains = t.chains;
           scopes = t.scopes;
-          kept = at_room (KeptIs b) ks k nothing_kept t.kept (record { handlers = tt });
+          kept = at_room (KeptIs b) ks k nothing_kept t.kept (record { handlers = tt; mark = told b tt });
           timers = t.timers;
           page = q;
           low = l;
           focused = t.focused;
+          labels = told_later m b _ w v;
           lib = t.lib;
           root = t.root;
         };
-        wide = record { objects = h.wide.objects; nodes = self b.nodes };
+        wide = record { objects = h.wide.objects; nodes = self b.nodes; texts = refl };
       }
 
   -- what is kept with a node is changed
@@ -356,10 +365,11 @@ module _ (m : Sizes) (hs : List Cell) (cs : List Scope) (ks : List Kept) (ts : L
       page = h.there.page;
       low = h.there.low;
       focused = h.there.focused;
+      labels = h.there.labels;
       lib = h.there.lib;
       root = h.there.root;
     };
-    wide = record { objects = h.wide.objects; nodes = subst (λ i. m.nodes ≤ i) (sym (length-set ks n k)) h.wide.nodes };
+    wide = record { objects = h.wide.objects; nodes = subst (λ i. m.nodes ≤ i) (sym (length-set ks n k)) h.wide.nodes; texts = refl };
   }
 
   -- a timer
@@ -378,6 +388,7 @@ module _ (m : Sizes) (hs : List Cell) (cs : List Scope) (ks : List Kept) (ts : L
           page = h.there.page;
           low = h.there.low;
           focused = h.there.focused;
+          labels = h.there.labels;
           lib = h.there.lib;
           root = h.there.root;
         };
@@ -397,6 +408,7 @@ module _ (m : Sizes) (hs : List Cell) (cs : List Scope) (ks : List Kept) (ts : L
       page = h.there.page;
       low = h.there.low;
       focused = q;
+      labels = h.there.labels;
       lib = h.there.lib;
       root = h.there.root;
     };
@@ -405,8 +417,8 @@ module _ (m : Sizes) (hs : List Cell) (cs : List Scope) (ks : List Kept) (ts : L
 
 module _ (m : Sizes) where
   -- an object of the host's prototypes
-  pub plain_is : (ps : Pairs) → PairsAre m ps → CellIs m (plain_object ps)
-  plain_is ps h = record { nodes = tt; prototype = host_is m host.ObjectPrototype; pairs = h }
+  pub plain_is : (ps : Pairs) → PairsAre m ps → Told m (AreNames ps) → CellIs m (plain_object ps)
+  plain_is ps h k = record { kind = tt; prototype = host_is m host.ObjectPrototype; pairs = h; names = k }
 
   pub born_then : (c : Cell) (s : State) (k : Value → State → Plan) → R m s → CellIs m c → IsShort max_chain s.own.heap (Some c.prototype)
       → ((n : Sizes) → Grows m n → (v : Value) (t : State) → R n t → ValueIs n v → Keeps n (k v t))
@@ -427,7 +439,8 @@ module _ (m : Sizes) where
   made_text x s k h f = either m (nat_lt max_text (length x)) _ _ (halted m LongText s h) (paid m (units_cost (length x)) s k h f)
 
   fault_is : (e : Fault) → CellIs m (plain_object (fault_pairs e))
-  fault_is e = plain_is (fault_pairs e) (more_pairs m _ _ _ (text_is m (fault_name e)) (more_pairs m _ _ _ (text_is m (fault_message e)) (no_pairs m)))
+  fault_is e = plain_is (fault_pairs e) (more_pairs m _ _ _ (text_is m (fault_name e) (told m (name_of_fault e))) (more_pairs m _ _ _ (text_is m (fault_message e) (told m (message_of_fault e))) (no_pairs m)))
+      (told m (tested (codes "name") refl, (tested (codes "message") refl, tt)))
 
   pub faulted : (e : Fault) (s : State) → R m s → Keeps m (throw e s)
   faulted e s h = made (plain_object (fault_pairs e)) 2 s (λ v t. Ret (Throw v) t) h (fault_is e) tt (λ n g v t u w. ended n (Throw v) t u (throw_end n v w))

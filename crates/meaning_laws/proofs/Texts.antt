@@ -3,16 +3,20 @@ use Rattle.std.specs.Prelude.{ℕ, List, Option}
 use Rattle.widget_meaning.specs.NativeNames.{TextNative, CharAt, CharCodeAt, TextConcat, IndexOf, LastIndexOf, TextSlice, Substring, Split, ToLowerCase, ToUpperCase}
 use Rattle.widget_meaning.specs.Values.{Value, Undefined}
 use Rattle.widget_meaning.specs.OwnState.{State}
-use Rattle.widget_meaning.specs.TextNatives.{char_at, char_code_at, text_concat, index_of, last_index_of, text_slice, substring, split, text_method, text_native}
-use Rattle.std.specs.Prelude.{[], ◌∷◌, ◌++◌, ◌+◌, Some, None, pos, length, not, slice_get, nat_le, slice_range}
+use Rattle.widget_meaning.specs.TextNatives.{char_at, char_code_at, text_concat, index_of, last_index_of, text_slice, substring, split, pieces, text_method, text_native}
+use Rattle.std.specs.Prelude.{sum_by, ◌≡◌, ◌<◌, true, [], ◌∷◌, ◌++◌, ◌+◌, Some, None, pos, length, not, slice_get, nat_le, slice_range}
 use Rattle.std.specs.List.{list_any, filter, flat_map, last_or}
 use Rattle.widget_meaning.specs.NativeForms.{from_end, clamped}
 use Rattle.widget_meaning.specs.Values.{Text, Is, nth, to_text, to_number, is_object, E4}
 use Rattle.widget_meaning.specs.Costs.{give}
 use Rattle.widget_meaning.specs.TextNatives.{first_code, unit_at, found, positions, between}
 use Rattle.meaning_laws.proofs.Natives.{give_text_r, give_texts_r, make_array_r, on_text_r, want_primitives_r, with_number_or_r, with_number_r, with_optional_r}
-use Rattle.meaning_laws.specs.There.{Sizes, ValueIs}
-use Rattle.meaning_laws.proofs.Values.{nan_is, num_is, text_is, no_values, more_values, value_end}
+use Rattle.meaning_laws.specs.There.{Sizes, Told, ValueIs, ValuesAre, MaybeIs}
+use Rattle.meaning_laws.specs.Texts.{IsText}
+use Rattle.meaning_laws.proofs.Units.{both_texts, range_is, unit_is, lower_text, upper_text, pieces_are, to_text_is}
+use Rattle.meaning_laws.proofs.Each.{each_piece}
+use Rattle.widget_meaning.specs.Limits.{past_units}
+use Rattle.meaning_laws.proofs.Values.{also, nan_is, num_is, text_is, no_values, more_values, value_end}
 use Rattle.meaning_laws.proofs.Steps.{R, Keeps, ended, charged, wanted}
 
 code_is : (m : Sizes) (us : List ℕ) → ValueIs m (first_code us)
@@ -23,14 +27,17 @@ place_is : (m : Sizes) (o : Option ℕ) → ValueIs m (found o)
 place_is m None = num_is m _
 place_is m (Some i) = num_is m _
 
-pub char_at_r : (m : Sizes) (x0 : List ℕ) (x1 : Value) (x2 : State) → R m x2 → Keeps m (char_at x0 x1 x2)
-char_at_r m t i s hr = wanted m E4 (not (list_any is_object (i ∷ []))) s _ hr (λ _. with_number_r m (to_number i) (length t) s _ hr (λ z. give_text_r m (length t) (unit_at t z) s hr))
+pub char_at_r : (m : Sizes) (x0 : List ℕ) (x1 : Value) (x2 : State) → R m x2 → Told m (IsText x0) → Keeps m (char_at x0 x1 x2)
+char_at_r m t i s hr ht = wanted m E4 (not (list_any is_object (i ∷ []))) s _ hr (λ _. with_number_r m (to_number i) (length t) s _ hr (λ z. give_text_r m (length t) (unit_at t z) s hr (also m (unit_is t z) ht)))
 
 pub char_code_at_r : (m : Sizes) (x0 : List ℕ) (x1 : Value) (x2 : State) → R m x2 → Keeps m (char_code_at x0 x1 x2)
 char_code_at_r m t i s hr = wanted m E4 (not (list_any is_object (i ∷ []))) s _ hr (λ _. with_number_r m (to_number i) (length t) s _ hr (λ z. charged m (length t) s _ hr (ended m _ s hr (value_end m _ (code_is m (unit_at t z))))))
 
-pub text_concat_r : (m : Sizes) (x0 : List ℕ) (x1 : List Value) (x2 : State) → R m x2 → Keeps m (text_concat x0 x1 x2)
-text_concat_r m t vs s hr = wanted m E4 (not (list_any is_object (vs))) s _ hr (λ _. give_text_r m (length t + length (flat_map to_text vs)) (t ++ flat_map to_text vs) s hr)
+texts_joined : (m : Sizes) (vs : List Value) → ValuesAre m vs → m.texts ≡ true → IsText (flat_map to_text vs)
+texts_joined m vs h e = each_piece (ValueIs m) (λ u. u < past_units) to_text (λ v q. to_text_is v (q.text.holds e)) vs h.each
+
+pub text_concat_r : (m : Sizes) (x0 : List ℕ) (x1 : List Value) (x2 : State) → R m x2 → Told m (IsText x0) → ValuesAre m x1 → Keeps m (text_concat x0 x1 x2)
+text_concat_r m t vs s hr ht hv = wanted m E4 (not (list_any is_object (vs))) s _ hr (λ _. give_text_r m (length t + length (flat_map to_text vs)) (t ++ flat_map to_text vs) s hr (record { holds = λ e. both_texts t (flat_map to_text vs) (ht.holds e) (texts_joined m vs hv e) }))
 
 pub index_of_r : (m : Sizes) (x0 : List ℕ) (x1 : Value) (x2 : Value) (x3 : State) → R m x3 → Keeps m (index_of x0 x1 x2 x3)
 index_of_r m t x from s hr = wanted m E4 (not (list_any is_object (x ∷ from ∷ []))) s _ hr (λ _. with_number_r m (to_number from) (length t + length (to_text x)) s _ hr (λ z. charged m (length t + length (to_text x)) s _ hr (ended m _ s hr (value_end m _ (place_is m (slice_get (filter (nat_le (clamped (length t) z)) (positions t (to_text x))) 0))))))
@@ -38,27 +45,27 @@ index_of_r m t x from s hr = wanted m E4 (not (list_any is_object (x ∷ from �
 pub last_index_of_r : (m : Sizes) (x0 : List ℕ) (x1 : Value) (x2 : Value) (x3 : State) → R m x3 → Keeps m (last_index_of x0 x1 x2 x3)
 last_index_of_r m t x from s hr = wanted m E4 (not (list_any is_object (x ∷ from ∷ []))) s _ hr (λ _. with_number_or_r m (pos (length t)) (to_number from) (length t + length (to_text x)) s _ hr (λ z. charged m (length t + length (to_text x)) s _ hr (ended m _ s hr (value_end m _ (place_is m (last_or None (filter (λ i. nat_le i (clamped (length t) z)) (positions t (to_text x)))))))))
 
-pub text_slice_r : (m : Sizes) (x0 : List ℕ) (x1 : Value) (x2 : Value) (x3 : State) → R m x3 → Keeps m (text_slice x0 x1 x2 x3)
-text_slice_r m t a b s hr = wanted m E4 (not (list_any is_object (a ∷ b ∷ []))) s _ hr (λ _. with_number_r m (to_number a) (length t) s _ hr (λ x. with_optional_r m (pos (length t)) b (length t) s _ hr (λ y. give_text_r m (length t) (slice_range t (from_end (length t) x) (from_end (length t) y)) s hr)))
+pub text_slice_r : (m : Sizes) (x0 : List ℕ) (x1 : Value) (x2 : Value) (x3 : State) → R m x3 → Told m (IsText x0) → Keeps m (text_slice x0 x1 x2 x3)
+text_slice_r m t a b s hr ht = wanted m E4 (not (list_any is_object (a ∷ b ∷ []))) s _ hr (λ _. with_number_r m (to_number a) (length t) s _ hr (λ x. with_optional_r m (pos (length t)) b (length t) s _ hr (λ y. give_text_r m (length t) (slice_range t (from_end (length t) x) (from_end (length t) y)) s hr (also m (range_is t (from_end (length t) x) (from_end (length t) y)) ht))))
 
-pub substring_r : (m : Sizes) (x0 : List ℕ) (x1 : Value) (x2 : Value) (x3 : State) → R m x3 → Keeps m (substring x0 x1 x2 x3)
-substring_r m t a b s hr = wanted m E4 (not (list_any is_object (a ∷ b ∷ []))) s _ hr (λ _. with_number_r m (to_number a) (length t) s _ hr (λ x. with_optional_r m (pos (length t)) b (length t) s _ hr (λ y. give_text_r m (length t) (between t (clamped (length t) x) (clamped (length t) y)) s hr)))
+pub substring_r : (m : Sizes) (x0 : List ℕ) (x1 : Value) (x2 : Value) (x3 : State) → R m x3 → Told m (IsText x0) → Keeps m (substring x0 x1 x2 x3)
+substring_r m t a b s hr ht = wanted m E4 (not (list_any is_object (a ∷ b ∷ []))) s _ hr (λ _. with_number_r m (to_number a) (length t) s _ hr (λ x. with_optional_r m (pos (length t)) b (length t) s _ hr (λ y. give_text_r m (length t) (between t (clamped (length t) x) (clamped (length t) y)) s hr (also m (range_is t _ _) ht))))
 
-pub split_r : (m : Sizes) (x0 : List ℕ) (x1 : Value) (x2 : State) → R m x2 → Keeps m (split x0 x1 x2)
-split_r m t Undefined s hr = charged m _ s _ hr (make_array_r m (Text t ∷ []) 0 s give hr (more_values m (Text t) [] (text_is m t) (no_values m)) (λ n g v u q w. ended n (Is v) u q (value_end n v w)))
-split_r m t x s hr = search (want_primitives_r, charged, give_texts_r)
+pub split_r : (m : Sizes) (x0 : List ℕ) (x1 : Value) (x2 : State) → R m x2 → Told m (IsText x0) → Keeps m (split x0 x1 x2)
+split_r m t Undefined s hr ht = charged m _ s _ hr (make_array_r m (Text t ∷ []) 0 s give hr (more_values m (Text t) [] (text_is m t ht) (no_values m)) (λ n g v u q w. ended n (Is v) u q (value_end n v w)))
+split_r m t x s hr ht = want_primitives_r m (x ∷ []) s _ hr (charged m (length t + (length (to_text x) + sum_by length (pieces (to_text x) t))) s _ hr (give_texts_r m (pieces (to_text x) t) s hr (also m (pieces_are (to_text x) t) ht)))
 
-pub text_method_r : (m : Sizes) (x0 : TextNative) (x1 : List ℕ) (x2 : List Value) (x3 : State) → R m x3 → Keeps m (text_method x0 x1 x2 x3)
-text_method_r m CharAt t vs s hr = char_at_r m t (nth 0 vs) s hr
-text_method_r m CharCodeAt t vs s hr = char_code_at_r m t (nth 0 vs) s hr
-text_method_r m TextConcat t vs s hr = text_concat_r m t vs s hr
-text_method_r m IndexOf t vs s hr = index_of_r m t (nth 0 vs) (nth 1 vs) s hr
-text_method_r m LastIndexOf t vs s hr = last_index_of_r m t (nth 0 vs) (nth 1 vs) s hr
-text_method_r m TextSlice t vs s hr = text_slice_r m t (nth 0 vs) (nth 1 vs) s hr
-text_method_r m Substring t vs s hr = substring_r m t (nth 0 vs) (nth 1 vs) s hr
-text_method_r m Split t vs s hr = split_r m t (nth 0 vs) s hr
-text_method_r m ToLowerCase t vs s hr = give_text_r m _ _ s hr
-text_method_r m ToUpperCase t vs s hr = give_text_r m _ _ s hr
+pub text_method_r : (m : Sizes) (x0 : TextNative) (x1 : List ℕ) (x2 : List Value) (x3 : State) → R m x3 → Told m (IsText x1) → ValuesAre m x2 → Keeps m (text_method x0 x1 x2 x3)
+text_method_r m CharAt t vs s hr ht hv = char_at_r m t (nth 0 vs) s hr ht
+text_method_r m CharCodeAt t vs s hr ht hv = char_code_at_r m t (nth 0 vs) s hr
+text_method_r m TextConcat t vs s hr ht hv = text_concat_r m t vs s hr ht hv
+text_method_r m IndexOf t vs s hr ht hv = index_of_r m t (nth 0 vs) (nth 1 vs) s hr
+text_method_r m LastIndexOf t vs s hr ht hv = last_index_of_r m t (nth 0 vs) (nth 1 vs) s hr
+text_method_r m TextSlice t vs s hr ht hv = text_slice_r m t (nth 0 vs) (nth 1 vs) s hr ht
+text_method_r m Substring t vs s hr ht hv = substring_r m t (nth 0 vs) (nth 1 vs) s hr ht
+text_method_r m Split t vs s hr ht hv = split_r m t (nth 0 vs) s hr ht
+text_method_r m ToLowerCase t vs s hr ht hv = give_text_r m _ _ s hr (also m (lower_text t) ht)
+text_method_r m ToUpperCase t vs s hr ht hv = give_text_r m _ _ s hr (also m (upper_text t) ht)
 
-pub text_native_r : (m : Sizes) (x0 : TextNative) (x1 : Option Value) (x2 : List Value) (x3 : State) → R m x3 → Keeps m (text_native x0 x1 x2 x3)
-text_native_r m w this vs s hr = on_text_r m this s _ hr (λ t. text_method_r m w t vs s hr)
+pub text_native_r : (m : Sizes) (x0 : TextNative) (x1 : Option Value) (x2 : List Value) (x3 : State) → R m x3 → MaybeIs m x1 → ValuesAre m x2 → Keeps m (text_native x0 x1 x2 x3)
+text_native_r m w this vs s hr h1 h2 = on_text_r m this s _ hr h1 (λ t ht. text_method_r m w t vs s hr ht h2)

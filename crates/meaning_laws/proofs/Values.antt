@@ -1,5 +1,5 @@
 -- Values that a widget comes to are there.
-use Rattle.std.proofs.Common.{◌≡◌, ℕ, zero, suc, pos, ℤ, ◌+◌, List, [], ◌∷◌, ◌++◌, length, Bool, true, false, subst, take, drop}
+use Rattle.std.proofs.Common.{◌≡◌, ◌<◌, ℕ, zero, suc, pos, ℤ, ◌+◌, List, [], ◌∷◌, ◌++◌, length, Bool, true, false, subst, take, drop}
 use Rattle.std.specs.Prelude.{Option, Some, None, if◌then◌else◌, unwrap_or}
 use Rattle.std.specs.List.{AllByRecursion, filter}
 use Rattle.std.specs.Str.{bytes_eq}
@@ -16,39 +16,61 @@ use Rattle.permitted_table.specs.Table.{Global, Leads}
 use Rattle.widget_meaning.specs.HostTable.{host_pairs, globals, global_value}
 use Rattle.permitted_table.specs.declared.native.HostEntry.TheVariants as host
 use Rattle.widget_meaning.specs.Limits.{max_chain}
-use Rattle.widget_meaning.specs.Values.{Value, Undefined, Null, Truth, NaN, Num, Text, Own, Host, Reference, Variable, Property, Found, Normal, Is, Refers, Return, Break, Continue, Throw, nth}
+use Rattle.widget_meaning.specs.Values.{Value, Undefined, Null, Truth, NaN, Num, Text, Own, Host, Reference, Variable, Property, Found, Normal, Is, Refers, Return, Break, Continue, Throw, nth, to_text}
 use Rattle.widget_meaning.specs.OwnState.{State, Kind, Object, Array, Function, Bunch, Pairs, lookup, replaced, taken_out, cell_at, scope_at, kind_of, bunch_nodes}
 use Rattle.widget_meaning.specs.Plan.{Place, Eval, Target, Exec, Pass, Call, Loop, WhileLoop, DoLoop, ForLoop, ForInLoop}
 use Rattle.widget_meaning.specs.Properties.{is_length, kind_property, own_property, prototype, or_else, on_chain, property, get}
 use Rattle.widget_meaning.specs.Scopes.{variable, value_in, scope_of, argument, first_of_name, call_scope}
 use Rattle.widget_meaning.specs.Expressions.{referred, base_of, literal, word_value}
 use Rattle.widget_meaning.specs.NativeForms.{element, elements, numbered_pairs}
-use Rattle.meaning_laws.specs.There.{Sizes, ValueIs, ValuesAre, MaybeIs, PairsAre, NodesAre, OfBunch, CellIs, ReferenceIs, CompletionIs, LoopIs, JobIs}
+use Rattle.meaning_laws.specs.There.{Sizes, Told, ValueIs, ValuesAre, MaybeIs, PairsAre, NodesAre, OfKind, CellIs, ReferenceIs, CompletionIs, LoopIs, JobIs}
+use Rattle.meaning_laws.specs.Texts.{IsText, AreTexts, AreNames, ExprHasTexts, OptionHasTexts, StmtHasTexts}
+use Rattle.meaning_laws.proofs.Units.{decimal_is, to_text_is}
 use Rattle.meaning_laws.proofs.Each.{each_both, each_taken, each_dropped, each_filtered, each_made}
 
 module _ (m : Sizes) where
+  -- ## Texts
+
+  pub told : {P : Type 0} → P → Told m P
+  told h = record { holds = λ e. h }
+
+  pub also : {P Q : Type 0} → (P → Q) → Told m P → Told m Q
+  also f h = record { holds = λ e. f (h.holds e) }
+
+  pub together : {P Q : Type 0} → Told m P → Told m Q → Told m (P × Q)
+  together h k = record { holds = λ e. (h.holds e, k.holds e) }
+
+  pub first : {P Q : Type 0} → Told m (P × Q) → Told m P
+  first h = record { holds = λ e. (h.holds e).0 }
+
+  pub second : {P Q : Type 0} → Told m (P × Q) → Told m Q
+  second h = record { holds = λ e. (h.holds e).1 }
+
   -- ## Values
 
+  pub own_value : (n : ℕ) → n < m.objects → ValueIs m (Own n)
+  own_value n h = record { born = h; text = told tt }
+
   pub undefined_is : ValueIs m Undefined
-  undefined_is = record { born = tt }
+  undefined_is = record { born = tt; text = told tt }
 
   pub null_is : ValueIs m Null
-  null_is = record { born = tt }
+  null_is = record { born = tt; text = told tt }
 
   pub truth_is : (b : Bool) → ValueIs m (Truth b)
-  truth_is b = record { born = tt }
+  truth_is b = record { born = tt; text = told tt }
 
   pub nan_is : ValueIs m NaN
-  nan_is = record { born = tt }
+  nan_is = record { born = tt; text = told tt }
 
   pub num_is : (z : ℤ) → ValueIs m (Num z)
-  num_is z = record { born = tt }
+  num_is z = record { born = tt; text = told tt }
 
-  pub text_is : (t : List ℕ) → ValueIs m (Text t)
-  text_is t = record { born = tt }
+  pub text_is : (t : List ℕ) → Told m (IsText t) → ValueIs m (Text t)
+  text_is t h = record { born = tt; text = h }
 
   pub host_is : (h : HostEntry) → ValueIs m (Host h)
-  host_is h = record { born = tt }
+  host_is h = record { born = tt; text = told tt }
 
   pub literal_is : (r : WholeRead) → ValueIs m (literal r)
   literal_is (read.Whole z) = num_is z
@@ -60,6 +82,10 @@ module _ (m : Sizes) where
   word_is word.True = truth_is true
   word_is word.False = truth_is false
   word_is word.This = undefined_is
+
+  -- the text of a primitive
+  pub text_told : (v : Value) → ValueIs m v → Told m (IsText (to_text v))
+  text_told v h = also (to_text_is v) h.text
 
   -- ## Lists of values
 
@@ -141,6 +167,43 @@ module _ (m : Sizes) where
 
   pub taken_are : (ps : Pairs) (x : List ℕ) → PairsAre m ps → PairsAre m (taken_out ps x)
   taken_are ps x k = record { each = taken_each ps x k.each }
+
+  -- the names
+
+  pub both_names : (ps qs : Pairs) → Told m (AreNames ps) → Told m (AreNames qs) → Told m (AreNames (ps ++ qs))
+  both_names ps qs h k = record { holds = λ e. each_both (λ p. IsText p.0) ps qs (h.holds e) (k.holds e) }
+
+  pub filtered_names : (t : List ℕ × Value → Bool) (ps : Pairs) → Told m (AreNames ps) → Told m (AreNames (filter t ps))
+  filtered_names t ps h = record { holds = λ e. each_filtered (λ p. IsText p.0) t ps (h.holds e) }
+
+  numbered_each : (i : ℕ) (vs : List Value) → AreNames (numbered_pairs i vs)
+  numbered_each i [] = tt
+  numbered_each i (v ∷ vs) = (decimal_is i, numbered_each (i + 1) vs)
+
+  pub numbered_names : (i : ℕ) (vs : List Value) → Told m (AreNames (numbered_pairs i vs))
+  numbered_names i vs = told (numbered_each i vs)
+
+  renamed_each : (ps : Pairs) (x : List ℕ) (v : Value) → AreNames ps → AreNames (replaced ps x v)
+  renamed_each [] x v k = tt
+  renamed_each (p ∷ ps) x v k = by (bytes_eq x p.0) (renamed_each ps x v k.1)
+    where
+      by : (b : Bool) → AreNames (replaced ps x v) → AreNames (if b then (p.0, v) ∷ ps else p ∷ replaced ps x v)
+      by true i = (k.0, k.1)
+      by false i = (k.0, i)
+
+  pub replaced_names : (ps : Pairs) (x : List ℕ) (v : Value) → Told m (AreNames ps) → Told m (AreNames (replaced ps x v))
+  replaced_names ps x v h = also (renamed_each ps x v) h
+
+  left_each : (ps : Pairs) (x : List ℕ) → AreNames ps → AreNames (taken_out ps x)
+  left_each [] x k = tt
+  left_each (p ∷ ps) x k = by (bytes_eq x p.0) (left_each ps x k.1)
+    where
+      by : (b : Bool) → AreNames (taken_out ps x) → AreNames (if b then ps else p ∷ taken_out ps x)
+      by true i = k.1
+      by false i = (k.0, i)
+
+  pub taken_names : (ps : Pairs) (x : List ℕ) → Told m (AreNames ps) → Told m (AreNames (taken_out ps x))
+  taken_names ps x h = also (left_each ps x) h
 
   found_in : (ps : Pairs) (x : List ℕ) → AllByRecursion (λ p. ValueIs m p.1) ps → MaybeIs m (lookup ps x)
   found_in [] x k = no_value
@@ -236,12 +299,12 @@ module _ (m : Sizes) where
     bunch_of (Num z) ns e = cc
     bunch_of (Text t) ns e = cc
     bunch_of (Host h) ns e = cc
-    bunch_of (Own n) ns e = by (cell_at s n).kind (objects n).nodes e
+    bunch_of (Own n) ns e = by (cell_at s n).kind (objects n).kind e
       where
         same : (us vs : List ℕ) → Some us ≡ Some vs → us ≡ vs
         same us vs e = cc
 
-        by : (k : Kind) → OfBunch m k → bunch_nodes (Some k) ≡ Some ns → NodesAre m ns
+        by : (k : Kind) → OfKind m k → bunch_nodes (Some k) ≡ Some ns → NodesAre m ns
         by Object h e = cc
         by (Array i) h e = cc
         by (Function f o) h e = cc
@@ -251,14 +314,14 @@ module _ (m : Sizes) where
 
   pub base_is : (r : Reference) → ReferenceIs m r → MaybeIs m (base_of r)
   base_is (Variable x) h = no_value
-  base_is (Property v x) h = some_value v h.value
+  base_is (Property v x) h = some_value v h.value.0
   base_is (Found v) h = no_value
 
   pub variable_is : (x : List ℕ) → ReferenceIs m (Variable x)
   variable_is x = record { value = tt }
 
-  pub property_reference : (v : Value) (x : List ℕ) → ValueIs m v → ReferenceIs m (Property v x)
-  property_reference v x h = record { value = h }
+  pub property_reference : (v : Value) (x : List ℕ) → ValueIs m v → Told m (IsText x) → ReferenceIs m (Property v x)
+  property_reference v x h k = record { value = (h, k) }
 
   pub found_reference : (v : Value) → ValueIs m v → ReferenceIs m (Found v)
   found_reference v h = record { value = h }
@@ -284,14 +347,14 @@ module _ (m : Sizes) where
   pub throw_end : (v : Value) → ValueIs m v → CompletionIs m (Throw v)
   throw_end v h = record { value = h }
 
-  pub eval_job : (e : tree.Expr) (p : Place) → JobIs m (Eval e p)
-  eval_job e p = record { holds = tt }
+  pub eval_job : (e : tree.Expr) (p : Place) → Told m (ExprHasTexts e) → JobIs m (Eval e p)
+  eval_job e p h = record { holds = h }
 
-  pub target_job : (e : tree.Expr) (p : Place) → JobIs m (Target e p)
-  target_job e p = record { holds = tt }
+  pub target_job : (e : tree.Expr) (p : Place) → Told m (ExprHasTexts e) → JobIs m (Target e p)
+  target_job e p h = record { holds = h }
 
-  pub exec_job : (i : tree.Stmt) (p : Place) → JobIs m (Exec i p)
-  exec_job i p = record { holds = tt }
+  pub exec_job : (i : tree.Stmt) (p : Place) → Told m (StmtHasTexts i) → JobIs m (Exec i p)
+  exec_job i p h = record { holds = h }
 
   pub pass_job : (l : Loop) (p : Place) → LoopIs m l → JobIs m (Pass l p)
   pass_job l p h = record { holds = h }
@@ -299,17 +362,19 @@ module _ (m : Sizes) where
   pub call_job : (f : Value) (this : Option Value) (vs : List Value) (d : ℕ) → ValueIs m f → MaybeIs m this → ValuesAre m vs → JobIs m (Call f this vs d)
   call_job f this vs d h i k = record { holds = record { func = h; receiver = i; arguments = k } }
 
-  pub while_loop : (e : tree.Expr) (b : List tree.Stmt) → LoopIs m (WhileLoop e b)
-  while_loop e b = record { value = tt }
+  pub while_loop : (e : tree.Expr) (b : List tree.Stmt) → Told m (ExprHasTexts e) → Told m (AllByRecursion StmtHasTexts b) → LoopIs m (WhileLoop e b)
+  while_loop e b h k = record { value = (h, k) }
 
-  pub do_loop : (b : List tree.Stmt) (e : tree.Expr) → LoopIs m (DoLoop b e)
-  do_loop b e = record { value = tt }
+  pub do_loop : (b : List tree.Stmt) (e : tree.Expr) → Told m (ExprHasTexts e) → Told m (AllByRecursion StmtHasTexts b) → LoopIs m (DoLoop b e)
+  do_loop b e h k = record { value = (h, k) }
 
-  pub for_loop : (test : tree.OptionalExpr) (next : List tree.Expr) (b : List tree.Stmt) → LoopIs m (ForLoop test next b)
-  for_loop test next b = record { value = tt }
+  pub for_loop : (test : tree.OptionalExpr) (next : List tree.Expr) (b : List tree.Stmt)
+      → Told m (OptionHasTexts test) → Told m (AllByRecursion ExprHasTexts next) → Told m (AllByRecursion StmtHasTexts b) → LoopIs m (ForLoop test next b)
+  for_loop test next b h i k = record { value = (h, (i, k)) }
 
-  pub for_in_loop : (v : Value) (x y : List ℕ) (ys : List (List ℕ)) (b : List tree.Stmt) → ValueIs m v → LoopIs m (ForInLoop v x y ys b)
-  for_in_loop v x y ys b h = record { value = h }
+  pub for_in_loop : (v : Value) (x y : List ℕ) (ys : List (List ℕ)) (b : List tree.Stmt)
+      → ValueIs m v → Told m (IsText y) → Told m (AreTexts ys) → Told m (AllByRecursion StmtHasTexts b) → LoopIs m (ForInLoop v x y ys b)
+  for_in_loop v x y ys b h i j k = record { value = (h, (i, (j, k))) }
 
   -- ## The scope of a call
 

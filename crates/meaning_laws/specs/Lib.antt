@@ -1,3 +1,5 @@
+pub mod Texts
 pub mod There
 pub mod ThereLaws
+pub mod TextLaws
 pub mod NumberLaws

@@ -1,5 +1,6 @@
--- What is there: each object and each node that something names was born, and each prototype is older than its object.
-use Rattle.std.specs.Prelude.{ℕ, zero, suc, ◌+◌, ◌<◌, ◌≤◌, List, [], length, Option, Some, None, slice_index_or, ⊤}
+-- What is there: each object and each node that something names was born, and each prototype is older than its object;
+-- and, where it is said of texts too, each text and each name of an object is of 16-bit units.
+use Rattle.std.specs.Prelude.{◌≡◌, Bool, true, false, ℕ, zero, suc, ◌+◌, ◌<◌, ◌≤◌, List, [], length, Option, Some, None, slice_index_or, ⊤}
 use Rattle.std.specs.List.{AllByRecursion}
 use Rattle.plain_tree.specs.Trees.{height}
 use Rattle.widget_meaning.specs.Limits.{max_chain, max_node_depth}
@@ -10,22 +11,37 @@ use Rattle.widget_meaning.specs.Keeps.{no_scope}
 use Rattle.widget_meaning.specs.NodeLaws.{IsPage}
 use Rattle.widget_meaning.specs.Plan.{Loop, WhileLoop, DoLoop, ForLoop, ForInLoop, Hearing, Job, Eval, Target, Exec, Pass, Call, RunNative, Hear, End, Ended, Stopped, OutOfFuel}
 use Rattle.widget_meaning.specs.Trees.{Trees}
+use Rattle.meaning_laws.specs.Texts.{IsText, AreTexts, OfText, AreNames, ExprHasTexts, OptionHasTexts, StmtHasTexts, FunHasTexts, PageHasTexts}
 
 -- ## Numbers
 
--- how many objects and nodes were born
+-- how many objects and nodes were born, and whether what is said is said of texts too
 pub record Sizes : Type 0 where
   pub objects : ℕ
   pub nodes : ℕ
+  pub texts : Bool
 
--- of a widget
+-- of a widget, with texts or without
+abbrev pub sizes_with : Bool → OwnState → Sizes
+sizes_with b o = record { objects = length o.heap; nodes = length o.kept; texts = b }
+
+-- without
 abbrev pub sizes : OwnState → Sizes
-sizes o = record { objects = length o.heap; nodes = length o.kept }
+sizes o = sizes_with false o
+
+-- with
+abbrev pub text_sizes : OwnState → Sizes
+text_sizes o = sizes_with true o
 
 -- no fewer of both
 pub record Grows (m n : Sizes) : Type 0 where
   pub objects : m.objects ≤ n.objects
   pub nodes : m.nodes ≤ n.nodes
+  pub texts : m.texts ≡ n.texts
+
+-- what holds of texts, where it is said of texts too
+pub record Told (m : Sizes) (P : Type 0) : Type 0 where
+  pub holds : m.texts ≡ true → P
 
 -- a value that is an object of the widget has a number below this
 abbrev pub IsBelow : ℕ → Value → Type 0
@@ -43,6 +59,7 @@ IsBelow n (Host h) = ⊤
 -- a value: its object was born
 pub record ValueIs (m : Sizes) (v : Value) : Type 0 where
   pub born : IsBelow m.objects v
+  pub text : Told m (OfText v)
 
 -- each of these values
 pub record ValuesAre (m : Sizes) (vs : List Value) : Type 0 where
@@ -78,22 +95,24 @@ OfNode m (Some n) = NodeIs m n
 pub record FunctionsAre (m : Sizes) (fs : List ℕ) : Type 0 where
   pub each : AllByRecursion (λ f. f < m.objects) fs
 
--- the nodes of a Bunch
-abbrev pub OfBunch : Sizes → Kind → Type 0
-OfBunch m Object = ⊤
-OfBunch m (Array n) = ⊤
-OfBunch m (Function f o) = ⊤
-OfBunch m (Bunch ns) = NodesAre m ns
+-- the nodes of a Bunch, the tree of a function
+abbrev pub OfKind : Sizes → Kind → Type 0
+OfKind m Object = ⊤
+OfKind m (Array n) = ⊤
+OfKind m (Function f o) = Told m (FunHasTexts f)
+OfKind m (Bunch ns) = NodesAre m ns
 
--- an object: its nodes, its prototype and its values
+-- an object: what it is, its prototype, its values and their names
 pub record CellIs (m : Sizes) (c : Cell) : Type 0 where
-  pub nodes : OfBunch m c.kind
+  pub kind : OfKind m c.kind
   pub prototype : ValueIs m c.prototype
   pub pairs : PairsAre m c.pairs
+  pub names : Told m (AreNames c.pairs)
 
--- what is kept with a node: the functions of its handlers
+-- what is kept with a node: the functions of its handlers, and its mark
 pub record KeptIs (m : Sizes) (k : Kept) : Type 0 where
   pub handlers : AllByRecursion (λ h. h.func < m.objects) k.handlers
+  pub mark : Told m (IsText k.mark)
 
 -- ## Prototypes
 
@@ -134,20 +153,29 @@ pub record AreThere (m : Sizes) (hs : List Cell) (cs : List Scope) (ks : List Ke
   -- no tree is higher than the limit
   pub low : height f ≤ max_node_depth + 1
   pub focused : OfNode m focus
+  pub labels : Told m (PageHasTexts f)
   -- the object `lib` and the root, the first of all
   pub lib : ValueIs m (Own 0)
   pub root : NodeIs m 0
 
--- of a widget by itself
+-- of a widget by itself, with texts or without
+abbrev pub IsThereWith : Bool → OwnState → Type 0
+IsThereWith b o = AreThere (sizes_with b o) o.heap o.scopes o.kept o.timers o.forest o.focus
+
+-- without
 abbrev pub IsThere : OwnState → Type 0
-IsThere o = AreThere (sizes o) o.heap o.scopes o.kept o.timers o.forest o.focus
+IsThere o = IsThereWith false o
+
+-- with: each text and each name of an object is one of 16-bit units
+abbrev pub HasTexts : OwnState → Type 0
+HasTexts o = IsThereWith true o
 
 -- ## What a job holds
 
 -- a reference
 abbrev pub OfReference : Sizes → Reference → Type 0
 OfReference m (Variable x) = ⊤
-OfReference m (Property v x) = ValueIs m v
+OfReference m (Property v x) = ValueIs m v × Told m (IsText x)
 OfReference m (Found v) = ValueIs m v
 
 -- the same, by name
@@ -168,12 +196,15 @@ OfCompletion m (Throw v) = ValueIs m v
 pub record CompletionIs (m : Sizes) (o : Completion) : Type 0 where
   pub value : OfCompletion m o
 
--- the object of a `for-in`
+-- the object and the names of a `for-in`, and the trees
 abbrev pub OfLoop : Sizes → Loop → Type 0
-OfLoop m (WhileLoop e b) = ⊤
-OfLoop m (DoLoop b e) = ⊤
-OfLoop m (ForLoop test next b) = ⊤
-OfLoop m (ForInLoop v x y ys b) = ValueIs m v
+OfLoop m (WhileLoop e b) = Told m (ExprHasTexts e) × Told m (AllByRecursion StmtHasTexts b)
+OfLoop m (DoLoop b e) = Told m (ExprHasTexts e) × Told m (AllByRecursion StmtHasTexts b)
+OfLoop m (ForLoop test next b) =
+    Told m (OptionHasTexts test) × (Told m (AllByRecursion ExprHasTexts next)
+    × Told m (AllByRecursion StmtHasTexts b))
+OfLoop m (ForInLoop v x y ys b) =
+    ValueIs m v × (Told m (IsText y) × (Told m (AreTexts ys) × Told m (AllByRecursion StmtHasTexts b)))
 
 -- the same, by name
 pub record LoopIs (m : Sizes) (l : Loop) : Type 0 where
@@ -187,6 +218,7 @@ pub record HearingIs (m : Sizes) (h : Hearing) : Type 0 where
   pub event : ValueIs m h.event
   pub first : h.first < m.objects
   pub others : FunctionsAre m h.others
+  pub kind : Told m (IsText h.kind)
 
 -- a call: the function, what it is a method of, and the arguments
 pub record CallIs (m : Sizes) (f : Value) (this : Option Value) (vs : List Value) : Type 0 where
@@ -196,9 +228,9 @@ pub record CallIs (m : Sizes) (f : Value) (this : Option Value) (vs : List Value
 
 -- what a job holds
 abbrev pub OfJob : Sizes → Job → Type 0
-OfJob m (Eval e p) = ⊤
-OfJob m (Target e p) = ⊤
-OfJob m (Exec i p) = ⊤
+OfJob m (Eval e p) = Told m (ExprHasTexts e)
+OfJob m (Target e p) = Told m (ExprHasTexts e)
+OfJob m (Exec i p) = Told m (StmtHasTexts i)
 OfJob m (Pass l p) = LoopIs m l
 OfJob m (Call f this vs d) = CallIs m f this vs
 OfJob m (RunNative w this vs d) = CallIs m Undefined this vs

@@ -1,5 +1,6 @@
 //! Laws of own states.
 ghost use Rattle.meaning_laws.specs.NumberLaws.{NumberLaws};
+ghost use Rattle.meaning_laws.specs.TextLaws.{JsonStateLaws, TextLaws};
 ghost use Rattle.meaning_laws.specs.ThereLaws.{ChainLaws, ThereLaws, WayLaws};
 
 /// Each object and node that a value, a scope, a Bunch, a handler or a timer names was born, and each
@@ -19,6 +20,19 @@ pub fn chains_end()
 #[tactic(auto, using(crate::proofs::LawsHold::way_laws))]
 pub fn ways_end()
     ensures { WayLaws }
+{}
+
+/// Each text that a widget comes to, and each name of its objects, is of 16-bit units, where those of its scripts,
+/// its subtree and its events are.
+#[tactic(auto, using(crate::proofs::LawsHold::text_laws))]
+pub fn texts_have_units()
+    ensures { TextLaws }
+{}
+
+/// In such states the laws of JSON hold with no premise on texts.
+#[tactic(auto, using(crate::proofs::LawsHold::json_state_laws))]
+pub fn json_of_states()
+    ensures { JsonStateLaws }
 {}
 
 /// `+e`, `-e`, `e - e`, `e * e`, `e / e`, `e % e`, a step and a number end with a number or NaN where they
