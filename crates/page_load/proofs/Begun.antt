@@ -13,7 +13,6 @@ use Rattle.widget_meaning.specs.OwnState.{nothing_kept}
 use Rattle.widget_meaning.specs.Alone.{Content, beginning}
 use Rattle.page_image.specs.Held.{OptionIn}
 use Rattle.page_image.specs.Image.{forest, number, own, owns}
-use Rattle.page_image.specs.Stays.{HostStays}
 use Rattle.event_loop.specs.Around as around
 use Rattle.event_loop.specs.Kept.{PlainKept}
 use Rattle.event_loop.specs.declared.around.Loop.{Loop}
@@ -24,14 +23,15 @@ use Rattle.js_image.specs.Held.{IsConfined, Kept, PassNodes}
 use Rattle.js_image.specs.Image.{meant_cell, meant_counts, meant_scope}
 use Rattle.native_image.specs.Sound.{HoldsOwn, IsOwnCell, KeepsPage}
 use Rattle.native_image.proofs.Added.{raw_stays}
-use Rattle.native_image.proofs.Keeping.{host_here, page_same}
+use Rattle.native_image.proofs.Keeping.{page_same}
 use Rattle.life_laws.specs.Life.{potentials, waiting}
 use Rattle.turn_calls.specs.declared.turn.Shared.{Shared}
 use Rattle.turn_calls.specs.declared.turn.Turn.{Turn}
 use Rattle.life_queue.specs.declared.life.Life.{Life}
 use Rattle.life_queue.specs.Lives.{going_of, life_seen, meant_stop, own_of, post_of, trees_in, work_of, works_of}
-use Rattle.life_queue.specs.Fine.{FineLife, FineTurn, FineWork, KeepsLife, held_back, most_fuel, tally}
+use Rattle.life_queue.specs.Fine.{FineLife, FineTurn, FineWork, KeepsCells, held_back, most_fuel, tally}
 use Rattle.life_queue.proofs.Apart.{fine_apart, seen_apart}
+use Rattle.slot_picks.specs.Places.{lent}
 use Rattle.page_build.specs.Homes.{HaveRaws}
 use Rattle.page_load.specs.Laying.{IsUnused}
 use Rattle.page_load.specs.Lives.{BeginsWith, HasTree, IsBlank, IsLib, KeepsOthers}
@@ -101,7 +101,7 @@ module _ (h : Shared) (w : ℕ) (l : Life) (blank : IsBlank w l.widget) (new : I
     tally_few : tally h w l ≤ 2 ^ 31
     tally_few = omega (arith, new.turns, new.missed, new.gone, few)
 
-    pub fine_is : FineLife h w l
+    fine_is : FineLife h w l
     fine_is = record {
       number = blank.number;
       confined = confined;
@@ -116,8 +116,8 @@ module _ (h : Shared) (w : ℕ) (l : Life) (blank : IsBlank w l.widget) (new : I
       };
     }
 
-    pub begins_is : l.slot ≡ w → l.accepted ≡ true → BeginsWith h w l.grant (works_of h w l) l
-    begins_is slot accepted = record { slot = slot; accepted = accepted; fine = fine_is; seen = seen_is; few = tally_few }
+    pub begins_is : l.slot ≡ w → l.accepted ≡ true → l.told ≡ 0 → BeginsWith h w l.grant (works_of h w l) l
+    begins_is slot accepted told = record { slot = slot; accepted = accepted; fine = fine_is; seen = seen_is; few = tally_few; told = told }
 
 -- ## The others
 
@@ -155,27 +155,15 @@ keeps_same w h unused raws = record {
 }
 
 -- after a life began
-module _ (w : ℕ) (h k : Shared) (codes : k.codes ≡ h.codes) (page : k.page ≡ h.page) (kept : (fs : List Forest) → Kept fs w h.store k.store) (unused : IsUnused h.store w) (raws : HaveRaws h.store h.page) (l : Life) (fine : FineLife k w l) where
+module _ (w : ℕ) (h k : Shared) (codes : k.codes ≡ h.codes) (page : k.page ≡ h.page) (kept : (fs : List Forest) → Kept fs w h.store k.store) (unused : IsUnused h.store w) (raws : HaveRaws h.store h.page) where
   raws_here : HaveRaws k.store k.page
   raws_here = subst (HaveRaws k.store) (sym page) (raws_kept w h k.store kept unused raws)
 
-  keeps_life : KeepsLife w h k l l
-  keeps_life = record {
-    codes = codes;
-    cells = record {
-      confined = (kept (trees_in h)).confined;
-      grows = (kept (trees_in h)).grows;
-      others = (kept (trees_in h)).others;
-      others_grow = (kept (trees_in h)).others_grow;
-      others_confined = (kept (trees_in h)).others_confined;
-    };
-    page = subst (KeepsPage w h.page) (sym page) (page_same w h.page);
-    host = subst (λ q. HostStays h.page q) (sym page) (host_here h.page);
-    holds = fine.sound.holds;
-    number = refl;
-    slot = refl;
-    accepted = refl;
-  }
+  cells_here : KeepsCells [] w h.store k.store
+  cells_here = let c = kept [] in record { confined = c.confined; grows = c.grows; others = c.others; others_grow = c.others_grow; others_confined = c.others_confined }
+
+  page_here : KeepsPage w h.page k.page
+  page_here = subst (KeepsPage w h.page) (sym page) (page_same w h.page)
 
   pub keeps_begun : KeepsOthers w h k
   keeps_begun = record {
@@ -184,6 +172,6 @@ module _ (w : ℕ) (h k : Shared) (codes : k.codes ≡ h.codes) (page : k.page �
     raws = raws_here;
     unused = unused_behind w h k.store kept unused raws;
     others = (kept []).others;
-    fine = λ v a lt ne f. fine_apart w v ne lt (trees_in h) h k codes keeps_life.cells keeps_life.page a f raws_here;
-    seen = λ v a lt ne f. seen_apart w v ne lt (trees_in h) h k codes keeps_life.cells keeps_life.page a f;
+    fine = λ v a lt ne f. fine_apart w v ne lt [] (lent h a) (lent k a) refl cells_here page_here a.life f raws_here;
+    seen = λ v a lt ne f. seen_apart w v ne lt [] (lent h a) (lent k a) refl cells_here page_here a.life f;
   }

@@ -1,13 +1,13 @@
 -- Lists that grow at their end: queues, trees of scripts, slots with their scripts, lives.
-use Rattle.std.proofs.Common.{◌≡◌, ℕ, zero, suc, ◌+◌, ◌<◌, ◌≤◌, Bool, true, false, eqb, eqb-true, eq-eqb, List, [], ◌∷◌, ◌++◌, refl, sym, ap, ◌∙◌, subst, length, map, take, get_or, Option, None, Some, arith, ◌⊎◌, inl, inr, ⊎_elim}
-use Rattle.std.specs.Prelude.{Err, IfOk, Ok, OnOk, Result, slice_get, slice_index_or, ◌^◌}
+use Rattle.std.proofs.Common.{◌≡◌, ℕ, zero, suc, ◌+◌, ◌<◌, ◌≤◌, Bool, true, false, eqb, eqb-true, eq-eqb, List, [], ◌∷◌, ◌++◌, refl, sym, ap, ◌∙◌, subst, length, map, take, drop, get_or, Option, None, Some, arith, ◌⊎◌, inl, inr, ⊎_elim}
+use Rattle.std.specs.Prelude.{Err, IfOk, IfSome, Ok, MatchOption, OnOk, Result, option_to_list, slice_get, slice_index_or, ◌^◌}
 use Rattle.std.specs.List.{AllByRecursion}
 use Rattle.std.specs.Option.{option_map, option_map_or}
 use Rattle.std.proofs.lemmas.Option.{get_or_from_slice_get, slice_get-map, slice_get_past, slice_get_read}
-use Rattle.code_units.specs.declared.memory.Memory.{Memory}
 use Rattle.std.specs.declared.alloc.Global.{Global}
 use Rattle.std.specs.declared.vec.Vec.{Vec}
-use Rattle.std.proofs.lemmas.List.{append-nil, append_assoc, flat_map_more, map-append, length-map, take_all, take_more}
+use Rattle.std.proofs.Math.Seq.{take-append_seam}
+use Rattle.std.proofs.lemmas.List.{append-nil, append_assoc, flat_map_more, length-append, map-append, length-map, take_all, take_more}
 use Rattle.js_tree.specs.Forest.{Forest, IsFun, fun_at, no_trees}
 use Rattle.js_tree.specs.Trees.{program_of, trees}
 use Rattle.js_tree.specs.declared.nodes.FunId.{FunId}
@@ -18,7 +18,6 @@ use Rattle.js_names.specs.Code.{code_trees, tree_in, trees_of}
 use Rattle.widget_meaning.specs.Alone.{beginning, call_parts}
 use Rattle.life_laws.specs.Life as todo
 use Rattle.life_laws.specs.Life.{waiting}
-use Rattle.page_image.specs.Image.{forest}
 use Rattle.page_tree.specs.declared.page.Page.{Page}
 use Rattle.turn_calls.specs.declared.turn.Shared.{Shared}
 use Rattle.turn_runs.specs.Held.{IsScriptOf}
@@ -26,20 +25,22 @@ use Rattle.life_queue.specs.declared.life.Life.{Life}
 use Rattle.life_queue.specs.declared.life.Script.{Script}
 use Rattle.life_queue.specs.declared.life.Work.{Work}
 use Rattle.life_queue.specs.declared.life.Work.TheVariants as work
-use Rattle.life_queue.specs.Lives.{function_of, trees_in, work_of}
+use Rattle.life_queue.specs.Lives.{function_of, work_of}
+use Rattle.slot_picks.specs.declared.crowd.Place.{Place}
 use Rattle.life_queue.specs.Fine.{FineWork}
 use Rattle.page_spec.specs.declared.SlotSpec.{SlotSpec}
 use Rattle.adsafe_rules.specs.declared.accepted.Accepted.{Accepted}
 use Rattle.adsafe_rules.specs.Accepts.{tree_of}
 use Rattle.page_load.specs.Homes.{names_of}
 use Rattle.page_load.specs.declared.codes.Start.{Start}
-use Rattle.page_load.specs.declared.queues.Scripts.{Scripts}
+use Rattle.page_load.specs.declared.codes.Scripts.{Scripts}
 use Rattle.page_load.specs.Laying.{HasNoCells}
-use Rattle.page_load.specs.Lives.{AreLives, BeginsWith, IsBegun, IsLifeOf, IsLifeWith, IsNobodys, KeepsOthers, content_at}
-use Rattle.page_load.specs.Queues.{IsQueued, go_works, libraries_works, library_works, loads, program_with}
-use Rattle.page_load.specs.Starts.{AreScripts, AreStarts, IsStart, Keeps}
+use Rattle.page_load.specs.Lives.{ArePlaces, BeginsWith, HasTree, HaveTrees, IsBegun, IsNobodys, IsPlaceOf, IsPlaceWith, KeepsOthers, content_at}
+use Rattle.page_load.specs.Queues.{IsQueued, go_works, libraries_works, library_works, loads, program_with, programs_of}
+use Rattle.page_load.specs.Starts.{AreScripts, AreStarts, IsStart}
 use Rattle.page_spec.specs.declared.SlotContent.{SlotContent}
 use Rattle.page_spec.specs.declared.SlotContent.TheVariants as slot
+use Rattle.page_load.proofs.Due.{few_loads}
 use Rattle.page_load.proofs.Lots.{no_cells}
 
 none_some : {A : Type 0} {a : A} → None ≡ Some a → ⊥
@@ -86,17 +87,48 @@ module _ (fs : List Forest) where
         fine = λ h. subst (AllByRecursion (FineWork fs)) (sym e) (all_push old (work.Go s) h is.0);
       }
 
-module _ (codes : List Code) (libs : List ℕ) (i : ℕ) where
-  libraries_more : (d : ℕ) → i < length libs → libraries_works (map (program_with codes) (take i libs)) ++ library_works (call_parts (program_with codes (get_or libs i d))) ≡ libraries_works (map (program_with codes) (take (i + 1) libs))
-  libraries_more d lt =
-      flat_map_more (λ p. library_works (call_parts p)) [] (map (program_with codes) (take i libs)) (program_with codes (get_or libs i d))
-      ∙ ap libraries_works (sym (map-append (program_with codes) (take i libs) (get_or libs i d ∷ [])) ∙ ap (map (program_with codes)) (sym (take_more libs i d lt)))
+get_front : {X : Type 0} (xs ys : List X) (n : ℕ) (x : X) → slice_get xs n ≡ Some x → slice_get (xs ++ ys) n ≡ Some x
+get_front [] ys n x at = absurd (none_some at)
+get_front (y ∷ xs) ys zero x at = at
+get_front (y ∷ xs) ys (suc n) x at = get_front xs ys n x at
 
-  pub queued_more : (fs : List Forest) (a b c : List Work) (d : ℕ) → i < length libs → IsQueued fs a b (libraries_works (map (program_with codes) (take i libs))) → IsQueued fs b c (library_works (call_parts (program_with codes (get_or libs i d)))) → IsQueued fs a c (libraries_works (map (program_with codes) (take (i + 1) libs)))
-  queued_more fs a b c d lt f g = subst (IsQueued fs a c) (libraries_more d lt) (queued_then fs a b c _ _ f g)
+get_last : {X : Type 0} (xs : List X) (x : X) → slice_get (xs ++ x ∷ []) (length xs) ≡ Some x
+get_last [] x = refl
+get_last (y ∷ xs) x = get_last xs x
 
-  pub queued_all : (fs : List Forest) (a b : List Work) → length libs ≤ i → IsQueued fs a b (libraries_works (map (program_with codes) (take i libs))) → IsQueued fs a b (libraries_works (map (program_with codes) libs))
-  queued_all fs a b le f = subst (λ ns. IsQueued fs a b (libraries_works (map (program_with codes) ns))) (take_all i libs le) f
+-- an element that is there
+there_is : {X : Type 0} (xs : List X) (n : ℕ) → n < length xs → (x : X) × (slice_get xs n ≡ Some x)
+there_is [] n lt = absurd (omega (arith, lt))
+there_is (x ∷ xs) zero lt = (x, refl)
+there_is (x ∷ xs) (suc n) lt = there_is xs n (omega (arith, lt))
+
+module _ (codes : List Code) (i : ℕ) where
+  -- one library more
+  libraries_more : i < length codes → libraries_works (programs_of (take i codes)) ++ library_works (call_parts (program_with codes i)) ≡ libraries_works (programs_of (take (i + 1) codes))
+  libraries_more lt =
+      let it = there_is codes i lt in
+      let c = it.0 in
+      let front : take (i + 1) codes ≡ take i codes ++ c ∷ [] = take_more codes i c lt ∙ ap (λ x. take i codes ++ x ∷ []) (get_or_from_slice_get codes i c c it.1) in
+      let program : program_with codes i ≡ program_of (tree_in c) = ap (λ o. option_map_or (λ (d : Code). program_of (tree_in d)) o NoStmts) it.1 in
+      ap (λ p. libraries_works (programs_of (take i codes)) ++ library_works (call_parts p)) program
+      ∙ flat_map_more (λ p. library_works (call_parts p)) [] (programs_of (take i codes)) (program_of (tree_in c))
+      ∙ ap libraries_works (sym (map-append (λ (d : Code). program_of (tree_in d)) (take i codes) (c ∷ [])) ∙ ap programs_of (sym front))
+
+  pub queued_more : (fs : List Forest) (a b c : List Work) → i < length codes → IsQueued fs a b (libraries_works (programs_of (take i codes))) → IsQueued fs b c (library_works (call_parts (program_with codes i))) → IsQueued fs a c (libraries_works (programs_of (take (i + 1) codes)))
+  queued_more fs a b c lt f g = subst (IsQueued fs a c) (libraries_more lt) (queued_then fs a b c _ _ f g)
+
+-- all but the last are libraries
+module _ (codes libs : List Code) (script : Code) (are : codes ≡ libs ++ script ∷ []) where
+  many_libs : length codes ≡ length libs + 1
+  many_libs = ap length are ∙ length-append libs (script ∷ [])
+
+  pub all_queued : (fs : List Forest) (a b c : List Work) (n : ℕ) → n + 1 ≡ length codes → IsQueued fs a b (libraries_works (programs_of (take n codes))) → IsQueued fs b c (go_works (call_parts (program_with codes n))) → IsQueued fs a c (libraries_works (programs_of libs) ++ go_works (call_parts (program_of (tree_in script))))
+  all_queued fs a b c n last f g =
+      let many : n ≡ length libs = omega (arith, last, many_libs) in
+      let front : take n codes ≡ libs = (λ j. take (many j) (are j)) ∙ take-append_seam libs (script ∷ []) in
+      let back : slice_get codes n ≡ Some script = (λ j. slice_get (are j) (many j)) ∙ get_last libs script in
+      let program : program_with codes n ≡ program_of (tree_in script) = ap (λ o. option_map_or (λ (d : Code). program_of (tree_in d)) o NoStmts) back in
+      queued_then fs a b c _ _ (subst (λ cs. IsQueued fs a b (libraries_works (programs_of cs))) front f) (subst (λ p. IsQueued fs b c (go_works (call_parts p))) program g)
 
 -- ## Scripts by number
 
@@ -127,60 +159,32 @@ module _ (codes : List Code) (n : ℕ) where
       ap call_parts program_is ∙ h.1 ∙ ap (λ f. Some (name, fun_at f fun)) (sym trees_are),
     )
 
--- places below a number
-all_below : (many : ℕ) (xs : List ℕ) (x : ℕ) → AllByRecursion (λ p. p < many) xs → x < many → AllByRecursion (λ p. p < many) (xs ++ x ∷ [])
-all_below many [] x h lt = (lt, tt)
-all_below many (y ∷ xs) x h lt = (h.0, all_below many xs x h.1 lt)
-
-pub below_more : (many : ℕ) (xs : List ℕ) (i d : ℕ) → i < length xs → AllByRecursion (λ p. p < many) (take i xs) → get_or xs i d < many → AllByRecursion (λ p. p < many) (take (i + 1) xs)
-below_more many xs i d lt h low = subst (AllByRecursion (λ p. p < many)) (sym (take_more xs i d lt)) (all_below many (take i xs) (get_or xs i d) h low)
-
-pub below_all : (many : ℕ) (xs : List ℕ) (i : ℕ) → length xs ≤ i → AllByRecursion (λ p. p < many) (take i xs) → AllByRecursion (λ p. p < many) xs
-below_all many xs i le h = subst (AllByRecursion (λ p. p < many)) (take_all i xs le) h
-
 -- ## Trees of scripts
 
-get_front : {X : Type 0} (xs ys : List X) (n : ℕ) (x : X) → slice_get xs n ≡ Some x → slice_get (xs ++ ys) n ≡ Some x
-get_front [] ys n x at = absurd (none_some at)
-get_front (y ∷ xs) ys zero x at = at
-get_front (y ∷ xs) ys (suc n) x at = get_front xs ys n x at
-
-get_last : {X : Type 0} (xs : List X) (x : X) → slice_get (xs ++ x ∷ []) (length xs) ≡ Some x
-get_last [] x = refl
-get_last (y ∷ xs) x = get_last xs x
-
-pub keeps_same : (ts : List Tree) → Keeps ts ts
-keeps_same ts = λ n t at. at
-
-pub keeps_then : (ts us vs : List Tree) → Keeps ts us → Keeps us vs → Keeps ts vs
-keeps_then ts us vs f g = λ n t at. g n t (f n t at)
-
-module _ (old new : List Code) (c : Code) (after : new ≡ old ++ c ∷ []) where
-  trees_push : map tree_in new ≡ map tree_in old ++ tree_in c ∷ []
-  trees_push = ap (map tree_in) after ∙ map-append tree_in old (c ∷ [])
-
-  pub keeps_push : Keeps (map tree_in old) (map tree_in new)
-  keeps_push = λ n t at. ap (λ l. slice_get l n) trees_push ∙ get_front (map tree_in old) (tree_in c ∷ []) n t at
-
-  pub tree_there : (n : ℕ) (t : Tree) → n ≡ length old → tree_in c ≡ t → slice_get (map tree_in new) n ≡ Some t
-  tree_there n t is same = (λ j. slice_get (trees_push j) ((is ∙ sym (length-map old tree_in)) j)) ∙ get_last (map tree_in old) (tree_in c) ∙ ap Some same
-
 pub trees_more : (libs : List Accepted) (old new : List Code) (a : Accepted) (c : Code) → map tree_in old ≡ map tree_of libs → tree_in c ≡ tree_of a → new ≡ old ++ c ∷ [] → map tree_in new ≡ map tree_of (libs ++ a ∷ [])
-trees_more libs old new a c are is after = trees_push old new c after ∙ (λ j. are j ++ is j ∷ []) ∙ sym (map-append tree_of libs (a ∷ []))
+trees_more libs old new a c are is after = ap (map tree_in) after ∙ map-append tree_in old (c ∷ []) ∙ (λ j. are j ++ is j ∷ []) ∙ sym (map-append tree_of libs (a ∷ []))
+
+-- the library at a place
+pub library_found : (libs : List Code) (n : ℕ) (a c : Code) → slice_get libs n ≡ Some a → tree_in c ≡ tree_in a → slice_get (map tree_in libs) n ≡ Some (tree_in c)
+library_found libs n a c at same = slice_get-map tree_in libs n ∙ ap (option_map tree_in) at ∙ ap Some (sym same)
+
+-- those at places, one more and all
+module _ (ts : List Tree) (places : List ℕ) (i : ℕ) where
+  pub libraries_step : (d : ℕ) (old new : List Code) (c : Code) → i < length places → map (λ (a : Code). Some (tree_in a)) old ≡ map (slice_get ts) (take i places) → slice_get ts (get_or places i d) ≡ Some (tree_in c) → new ≡ old ++ c ∷ [] → map (λ (a : Code). Some (tree_in a)) new ≡ map (slice_get ts) (take (i + 1) places)
+  libraries_step d old new c lt are is after =
+      ap (map (λ (a : Code). Some (tree_in a))) after ∙ map-append (λ (a : Code). Some (tree_in a)) old (c ∷ []) ∙ (λ j. are j ++ sym is j ∷ []) ∙ sym (map-append (slice_get ts) (take i places) (get_or places i d ∷ []))
+      ∙ ap (map (slice_get ts)) (sym (take_more places i d lt))
+
+  pub libraries_all : (codes : List Code) → length places ≤ i → map (λ (a : Code). Some (tree_in a)) codes ≡ map (slice_get ts) (take i places) → map (λ (a : Code). Some (tree_in a)) codes ≡ map (slice_get ts) places
+  libraries_all codes le are = are ∙ ap (map (slice_get ts)) (take_all i places le)
 
 -- ## Slots with their scripts
 
-scripts_kept : (ts us : List Tree) → Keeps ts us → (content : SlotContent) (s : Option Scripts) → AreScripts ts content s → AreScripts us content s
-scripts_kept ts us k (slot.Runs body libs script) None h = h
-scripts_kept ts us k (slot.Runs body libs script) (Some s) h = (h.0, k _ _ h.1)
-scripts_kept ts us k slot.Refused None h = h
-scripts_kept ts us k slot.Refused (Some s) h = h
+pub scripts_are : (ts : List Tree) (content : SlotContent) (body : _) (places : Vec ℕ Global) (script : Accepted) (s : Scripts) → content ≡ slot.Runs body places script → map (λ (c : Code). Some (tree_in c)) s.libs.items ≡ map (slice_get ts) places.items → tree_in s.script ≡ tree_of script → AreScripts ts content (Some s)
+scripts_are ts content body places script s is are last = subst (λ x. AreScripts ts x (Some s)) (sym is) (are, last)
 
-starts_kept : (ts us : List Tree) → Keeps ts us → (slots : List SlotSpec) (starts : List Start) → AreStarts ts slots starts → AreStarts us slots starts
-starts_kept ts us k [] [] h = tt
-starts_kept ts us k [] (a ∷ starts) h = absurd h
-starts_kept ts us k (s ∷ slots) [] h = absurd h
-starts_kept ts us k (s ∷ slots) (a ∷ starts) h = (record { fuel = h.0.fuel; scripts = scripts_kept ts us k s.content a.scripts h.0.scripts }, starts_kept ts us k slots starts h.1)
+pub no_scripts : (ts : List Tree) (content : SlotContent) → content ≡ slot.Refused → AreScripts ts content None
+no_scripts ts content is = subst (λ x. AreScripts ts x None) (sym is) tt
 
 starts_push : (ts : List Tree) (slots : List SlotSpec) (starts : List Start) (s : SlotSpec) (a : Start) → AreStarts ts slots starts → IsStart ts s a → AreStarts ts (slots ++ s ∷ []) (starts ++ a ∷ [])
 starts_push ts [] [] s a h is = (is, tt)
@@ -191,14 +195,8 @@ starts_push ts (t ∷ slots) (b ∷ starts) s a h is = (h.0, starts_push ts slot
 pub starts_none : (ts : List Tree) (starts : List Start) → starts ≡ [] → AreStarts ts [] starts
 starts_none ts starts e = subst (AreStarts ts []) (sym e) tt
 
-pub starts_more : (ts us : List Tree) → Keeps ts us → (slots : List SlotSpec) (starts new : List Start) (s : SlotSpec) (a : Start) → AreStarts ts slots starts → IsStart us s a → new ≡ starts ++ a ∷ [] → AreStarts us (slots ++ s ∷ []) new
-starts_more ts us k slots starts new s a h is after = subst (AreStarts us (slots ++ s ∷ [])) (sym after) (starts_push us slots starts s a (starts_kept ts us k slots starts h) is)
-
-pub scripts_are : (ts : List Tree) (content : SlotContent) (body : _) (libs : Vec ℕ Global) (script : Accepted) (code : ℕ) → content ≡ slot.Runs body libs script → slice_get ts code ≡ Some (tree_of script) → AreScripts ts content (Some (record { libs = libs; code = code }))
-scripts_are ts content body libs script code is at = subst (λ x. AreScripts ts x (Some (record { libs = libs; code = code }))) (sym is) (refl, at)
-
-pub no_scripts : (ts : List Tree) (content : SlotContent) → content ≡ slot.Refused → AreScripts ts content None
-no_scripts ts content is = subst (λ x. AreScripts ts x None) (sym is) tt
+pub starts_more : (ts : List Tree) (slots : List SlotSpec) (starts new : List Start) (s : SlotSpec) (a : Start) → AreStarts ts slots starts → IsStart ts s a → new ≡ starts ++ a ∷ [] → AreStarts ts (slots ++ s ∷ []) new
+starts_more ts slots starts new s a h is after = subst (AreStarts ts (slots ++ s ∷ [])) (sym after) (starts_push ts slots starts s a h is)
 
 -- ## Names
 
@@ -210,71 +208,69 @@ names_more slots i s lt is old new name before same after =
 pub names_all : (slots : List SlotSpec) (i : ℕ) → length slots ≤ i → (names : List (List ℕ)) → names ≡ names_of (take i slots) → names ≡ names_of slots
 names_all slots i le names are = are ∙ ap names_of (take_all i slots le)
 
--- ## Lives
+-- ## Places
 
--- where a life came, a number that is no accepted life's has no cell
-pub nobodys_more : (h k : Shared) (lives new : List Life) (w : ℕ) (b : Life) → length lives ≡ w → KeepsOthers w h k → (b.accepted ≡ false → k ≡ h) → new ≡ lives ++ b ∷ []
-    → ((v : ℕ) → IsNobodys lives v → HasNoCells v h.store) → (v : ℕ) → IsNobodys new v → HasNoCells v k.store
-nobodys_more h k lives new w b long keeps same after was v none = by (eqb w v) refl
+-- where a place came, a number that is no accepted life's has no cell
+pub nobodys_more : (h k : Shared) (places new : List Place) (w : ℕ) (b : Place) → length places ≡ w → KeepsOthers w h k → (b.life.accepted ≡ false → k ≡ h) → new ≡ places ++ b ∷ []
+    → ((v : ℕ) → IsNobodys places v → HasNoCells v h.store) → (v : ℕ) → IsNobodys new v → HasNoCells v k.store
+nobodys_more h k places new w b long keeps same after was v none = by (eqb w v) refl
   where
     no_true : false ≡ true → ⊥
     no_true e = cc
 
     before : HasNoCells v h.store
-    before = was v (λ a at. none a (ap (λ ls. slice_get ls v) after ∙ get_front lives (b ∷ []) v a at))
+    before = was v (λ a at. none a (ap (λ ps. slice_get ps v) after ∙ get_front places (b ∷ []) v a at))
 
-    refused : w ≡ v → b.accepted ≡ false
-    refused g = none b ((λ j. slice_get (after j) ((sym g ∙ sym long) j)) ∙ get_last lives b)
+    refused : w ≡ v → b.life.accepted ≡ false
+    refused g = none b ((λ j. slice_get (after j) ((sym g ∙ sym long) j)) ∙ get_last places b)
 
     by : (t : Bool) → eqb w v ≡ t → HasNoCells v k.store
     by true e = subst (λ (m : Shared). HasNoCells v m.store) (sym (same (refused (eqb-true w v e)))) before
     by false e = no_cells v h.store k.store (keeps.others v (λ g. no_true (sym e ∙ eq-eqb w v g))) before
 
-module _ (w many : ℕ) (h k : Shared) (keeps : KeepsOthers w h k) (v : ℕ) (lt : v < 32) (ne : w ≡ v → ⊥) where
-  content_same : (s : Scripts) → content_at h v s ≡ content_at k v s
-  content_same s =
-      let page : forest h.page v ≡ forest k.page v = ap (λ (p : Page). forest p v) (sym keeps.page) in
-      let codes : h.codes.items ≡ k.codes.items = ap (λ (cs : Vec Code Global). cs.items) (sym keeps.codes) in
-      λ j. record { root = page j; libraries = map (program_with (codes j)) s.libs.items; script = program_with (codes j) s.code }
-
-  begun_stays : (fuel : ℕ) (s : Scripts) (l : Life) → IsBegun h many v fuel s l → IsBegun k many v fuel s l
-  begun_stays fuel s l b = record {
+module _ (w : ℕ) (h k : Shared) (keeps : KeepsOthers w h k) (v : ℕ) (lt : v < 32) (ne : w ≡ v → ⊥) where
+  begun_stays : (fuel : ℕ) (s : Scripts) (a : Place) → IsBegun h v fuel s a → IsBegun k v fuel s a
+  begun_stays fuel s a b = record {
+    codes = b.codes;
     accepted = b.accepted;
-    fine = keeps.fine v l lt ne b.fine;
-    seen = keeps.seen v l lt ne b.fine ∙ b.seen ∙ ap (λ c. waiting (beginning c fuel) (loads c)) (content_same s);
-    few = subst (λ is. l.records.turns + (l.records.missed + (l.records.gone + todo.potentials is)) ≤ 2 ^ 31) (ap (λ (cs : Vec Code Global). map (work_of (trees_of cs.items)) l.queue.items) (sym keeps.codes)) b.few;
-    below = b.below;
+    fine = keeps.fine v a lt ne b.fine;
+    seen = keeps.seen v a lt ne b.fine ∙ b.seen ∙ ap (λ (p : Page). waiting (beginning (content_at p v s) fuel) (loads (content_at p v s))) (sym keeps.page);
+    few = b.few;
+    told = b.told;
   }
 
-  life_with_stays : (fuel : ℕ) (o : Option Scripts) (l : Life) → IsLifeWith h many v fuel o l → IsLifeWith k many v fuel o l
-  life_with_stays fuel None l i = i
-  life_with_stays fuel (Some s) l i = begun_stays fuel s l i
+  with_stays : (fuel : ℕ) (o : Option Scripts) (a : Place) → IsPlaceWith h v fuel o a → IsPlaceWith k v fuel o a
+  with_stays fuel None a i = i
+  with_stays fuel (Some s) a i = begun_stays fuel s a i
 
-  life_stays : (o : Option Start) (l : Life) → IsLifeOf h many v o l → IsLifeOf k many v o l
-  life_stays None l i = i
-  life_stays (Some a) l i = life_with_stays a.fuel a.scripts l i
+  place_stays : (o : Option Start) (a : Place) → IsPlaceOf h v o a → IsPlaceOf k v o a
+  place_stays None a i = i
+  place_stays (Some start) a i = with_stays start.fuel start.scripts a i
 
--- a life that begins with the load turns of its scripts
-pub begun_with : (h k : Shared) (w many fuel : ℕ) (s : Scripts) (works : List todo.Work) (r : Result Life Memory) → IfOk r (BeginsWith k w fuel works) → OnOk r (KeepsOthers w h k) → works ≡ loads (content_at h w s) → AllByRecursion (λ p. p < many) s.libs.items → IfOk r (IsBegun k many w fuel s)
-begun_with h k w many fuel s works (Err e) begins keeps are below = tt
-begun_with h k w many fuel s works (Ok l) begins keeps are below =
-    let codes : h.codes.items ≡ k.codes.items = ap (λ (cs : Vec Code Global). cs.items) (sym keeps.codes) in
-    let same : loads (content_at h w s) ≡ loads (content_at k w s) = λ j. libraries_works (map (program_with (codes j)) s.libs.items) ++ go_works (call_parts (program_with (codes j) s.code)) in
-    record {
-      accepted = begins.accepted;
-      fine = begins.fine;
-      seen = begins.seen (content_at k w s) refl ∙ ap (waiting (beginning (content_at k w s) fuel)) (are ∙ same);
-      few = begins.few;
-      below = below;
-    }
+-- a life begins with the load turns of these scripts
+module _ (k : Shared) (w fuel : ℕ) (s : Scripts) (codes : Vec Code Global) (queue : List Work) (are : codes.items ≡ s.libs.items ++ s.script ∷ []) (few : length codes.items ≤ 2 ^ 31)
+    (queued : (libs : List Code) (script : Code) → codes.items ≡ libs ++ script ∷ [] → IsQueued (trees_of codes.items) [] queue (libraries_works (programs_of libs) ++ go_works (call_parts (program_of (tree_in script))))) where
+  its_queue : IsQueued (trees_of codes.items) [] queue (loads (content_at k.page w s))
+  its_queue = queued s.libs.items s.script are
 
--- the load turns of these scripts
-pub loads_queued : (h : Shared) (w : ℕ) (s : Scripts) (codes : List Code) (queue : List Work) → codes ≡ h.codes.items
-    → IsQueued (trees_of codes) [] queue (libraries_works (map (program_with codes) s.libs.items) ++ go_works (call_parts (program_with codes s.code)))
-    → AllByRecursion (FineWork (trees_in h)) queue × (map (work_of (trees_in h)) queue ≡ loads (content_at h w s))
-loads_queued h w s codes queue same q =
-    let here = subst (λ cs. IsQueued (trees_of cs) [] queue (libraries_works (map (program_with cs) s.libs.items) ++ go_works (call_parts (program_with cs s.code)))) same q in
-    (here.fine tt, here.are)
+  its_potentials : todo.potentials (map (work_of (trees_of codes.items)) queue) ≤ 2 ^ 31
+  its_potentials =
+      let one = ap length are ∙ length-append s.libs.items (s.script ∷ []) in
+      omega (arith, ap todo.potentials its_queue.are, few_loads (programs_of s.libs.items) (program_of (tree_in s.script)), length-map s.libs.items (λ (c : Code). program_of (tree_in c)), one, few)
+
+  pub is_begun : (l : Life)
+      → ((cs : Vec Code Global) → AllByRecursion (FineWork (trees_of cs.items)) queue → todo.potentials (map (work_of (trees_of cs.items)) queue) ≤ 2 ^ 31 → BeginsWith (record k { codes = cs }) w fuel (map (work_of (trees_of cs.items)) queue) l)
+      → IsBegun k w fuel s (record { life = l; codes = codes })
+  is_begun l begins =
+      let b = begins codes (its_queue.fine tt) its_potentials in
+      record {
+        codes = are;
+        accepted = b.accepted;
+        fine = b.fine;
+        seen = b.seen (content_at k.page w s) refl ∙ ap (waiting (beginning (content_at k.page w s) fuel)) its_queue.are;
+        few = b.few;
+        told = b.told;
+      }
 
 -- what holds whatever is answered
 pub all_ok : {T E : Type 0} (r : Result T E) {P : T → Type 0} → ((x : T) → P x) → IfOk r P
@@ -297,18 +293,60 @@ front_or_last [] x y (suc n) at = absurd (none_some at)
 front_or_last (z ∷ xs) x y zero at = inl at
 front_or_last (z ∷ xs) x y (suc n) at = ⊎_elim (λ e. inl e) (λ e. inr (ap suc e.0, e.1)) (front_or_last xs x y n at)
 
-pub lives_none : (h : Shared) (many : ℕ) (starts : List Start) (lives : List Life) → lives ≡ [] → AreLives h many starts lives
-lives_none h many starts lives e = λ v l at. absurd (none_some (sym (ap (λ ls. slice_get ls v) e) ∙ at))
+pub places_none : (h : Shared) (starts : List Start) (places : List Place) → places ≡ [] → ArePlaces h starts places
+places_none h starts places e = λ v a at. absurd (none_some (sym (ap (λ ps. slice_get ps v) e) ∙ at))
 
-pub lives_more : (h k : Shared) (many : ℕ) (starts : List Start) (lives new : List Life) (w : ℕ) (b : Life) → length lives ≡ w → w < 20 → KeepsOthers w h k → AreLives h many starts lives → b.slot ≡ w → IsLifeOf k many w (slice_get starts w) b → new ≡ lives ++ b ∷ [] → AreLives k many starts new
-lives_more h k many starts lives new w b long few keeps are slot is after = λ v l at.
+pub places_more : (h k : Shared) (starts : List Start) (places new : List Place) (w : ℕ) (b : Place) → length places ≡ w → w < 20 → KeepsOthers w h k → ArePlaces h starts places → b.life.slot ≡ w → IsPlaceOf k w (slice_get starts w) b → new ≡ places ++ b ∷ [] → ArePlaces k starts new
+places_more h k starts places new w b long few keeps are slot is after = λ v a at.
     ⊎_elim
-    (λ e. let low = within lives v l e in (
-      (are v l e).0,
-      life_stays w many h k keeps v (omega (arith, low, long, few)) (λ g. omega (arith, g, low, long)) (slice_get starts v) l (are v l e).1,
+    (λ e. let low = within places v a e in (
+      (are v a e).0,
+      place_stays w h k keeps v (omega (arith, low, long, few)) (λ g. omega (arith, g, low, long)) (slice_get starts v) a (are v a e).1,
     ))
     (λ e. let here : w ≡ v = sym long ∙ sym e.0 in (
-      ap (λ (x : Life). x.slot) (sym e.1) ∙ slot ∙ here,
-      subst (λ x. IsLifeOf k many x (slice_get starts x) l) here (subst (IsLifeOf k many w (slice_get starts w)) e.1 is),
+      ap (λ (x : Place). x.life.slot) (sym e.1) ∙ slot ∙ here,
+      subst (λ x. IsPlaceOf k x (slice_get starts x) a) here (subst (IsPlaceOf k w (slice_get starts w)) e.1 is),
     ))
-    (front_or_last lives b l v (ap (λ ls. slice_get ls v) (sym after) ∙ at))
+    (front_or_last places b a v (ap (λ ps. slice_get ps v) (sym after) ∙ at))
+
+-- ## What is still to come
+
+-- the first of the slots that are left, and those behind it
+module _ (starts : List Start) where
+  left_at : (ss : List Start) (w : ℕ) → drop w ss ≡ [] → slice_get ss w ≡ None
+  left_at [] w e = refl
+  left_at (s ∷ ss) zero e = cc
+  left_at (s ∷ ss) (suc w) e = left_at ss w e
+
+  left_first : (ss : List Start) (w : ℕ) (s : Start) (more : List Start) → drop w ss ≡ s ∷ more → (slice_get ss w ≡ Some s) × (drop (suc w) ss ≡ more)
+  left_first [] zero s more e = cc
+  left_first [] (suc w) s more e = cc
+  left_first (t ∷ ss) zero s more e = ((let same : t ≡ s = cc in ap Some same), (let rest : ss ≡ more = cc in rest))
+  left_first (t ∷ ss) (suc w) s more e = left_first ss w s more e
+
+  none_left : (ss : List Start) (w : ℕ) → drop w ss ≡ [] → drop (suc w) ss ≡ []
+  none_left [] w e = refl
+  none_left (s ∷ ss) zero e = cc
+  none_left (s ∷ ss) (suc w) e = none_left ss w e
+
+  behind : (w : ℕ) → drop (suc w) starts ≡ drop (w + 1) starts
+  behind w = let next : suc w ≡ w + 1 = omega arith in ap (λ n. drop n starts) next
+
+  empty_is : (ss : List Start) → length ss ≡ 0 → ss ≡ []
+  empty_is [] e = refl
+  empty_is (s ∷ ss) e = absurd (omega (arith, e))
+
+  -- by what is taken
+  pub taken : (w : ℕ) (o : Option Start) (old new : List Start) (many now : ℕ) → old ≡ drop w starts → old ≡ option_to_list o ++ new → MatchOption o ((many ≡ 0) × (now ≡ 0)) (λ s. now + 1 ≡ many) → many ≡ length old → (slice_get starts w ≡ o) × (new ≡ drop (w + 1) starts)
+  taken w None old new many now here are cases long =
+      let empty : old ≡ [] = empty_is old (sym long ∙ cases.0) in
+      let none : drop w starts ≡ [] = sym here ∙ empty in
+      (left_at starts w none, sym are ∙ empty ∙ sym (none_left starts w none) ∙ behind w)
+  taken w (Some s) old new many now here are cases long =
+      let it = left_first starts w s new (sym here ∙ are) in
+      (it.0, sym it.1 ∙ behind w)
+
+-- a slot that is taken has its tree
+pub tree_left : (p : Page) (starts : List Start) (w : ℕ) (o : Option Start) → slice_get starts w ≡ o → HaveTrees p starts → IfSome o (λ a. IfSome a.scripts (λ s. HasTree p w))
+tree_left p starts w None at trees = tt
+tree_left p starts w (Some a) at trees = trees w a at

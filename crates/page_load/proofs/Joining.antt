@@ -1,15 +1,13 @@
 -- What a page loads, from its lives and its slots.
-use Rattle.std.proofs.Common.{◌≡◌, ℕ, zero, suc, ◌+◌, ◌<◌, ◌≤◌, Bool, true, false, if◌then◌else◌, leb, leb-true, leb-false, List, [], ◌∷◌, refl, sym, ap, ◌∙◌, subst, length, map, Option, None, Some, arith}
+use Rattle.std.proofs.Common.{◌≡◌, ℕ, zero, suc, ◌+◌, ◌<◌, ◌≤◌, Bool, true, false, if◌then◌else◌, leb, leb-true, leb-false, List, [], ◌∷◌, ◌++◌, refl, sym, ap, ◌∙◌, subst, length, map, Option, None, Some, arith}
 use Rattle.std.specs.Prelude.{slice_get, IfSome}
-use Rattle.std.specs.List.{AllByRecursion}
-use Rattle.std.specs.Option.{option_map, option_map_or}
+use Rattle.std.specs.Option.{option_map}
 use Rattle.std.specs.declared.alloc.Global.{Global}
 use Rattle.std.specs.declared.vec.Vec.{Vec}
 use Rattle.std.proofs.lemmas.Option.{slice_get-map}
 use Rattle.plain_tree.specs.Plains.{placed, unplaced}
 use Rattle.tree_ops.specs.Trees.{numbered}
 use Rattle.js_tree.specs.declared.tree.Tree.{Tree}
-use Rattle.js_tree.specs.Plain.{NoStmts}
 use Rattle.js_tree.specs.Trees.{program_of}
 use Rattle.adsafe_rules.specs.declared.accepted.Accepted.{Accepted}
 use Rattle.adsafe_rules.specs.Accepts.{tree_of}
@@ -24,7 +22,7 @@ use Rattle.page_image.proofs.Pages.{below_32}
 use Rattle.widget_meaning.specs.Alone.{Content, beginning}
 use Rattle.life_laws.specs.Life.{due, image, waiting}
 use Rattle.turn_calls.specs.declared.turn.Shared.{Shared}
-use Rattle.life_queue.specs.declared.life.Life.{Life}
+use Rattle.slot_picks.specs.declared.crowd.Place.{Place}
 use Rattle.page_build.specs.Homes.{IsHome, IsPlaced}
 use Rattle.page_spec.specs.declared.SlotContent.{SlotContent}
 use Rattle.page_spec.specs.declared.SlotContent.TheVariants as slot
@@ -36,13 +34,13 @@ use Rattle.page_spec.specs.Pages.{piece_of}
 use Rattle.store_cells.specs.Cells.{Cells}
 use Rattle.page_load.specs.declared.codes.Start.{Start}
 use Rattle.page_load.specs.declared.loading.Loaded.{Loaded}
-use Rattle.page_load.specs.declared.queues.Scripts.{Scripts}
+use Rattle.page_load.specs.declared.codes.Scripts.{Scripts}
 use Rattle.page_load.specs.Homes.{homes_of, names_of}
 use Rattle.page_load.specs.Laying.{AreLaid, HasNoCells}
-use Rattle.page_load.specs.Lives.{AreLives, HasTree, HaveTrees, IsBegun, IsLifeOf, IsLifeWith, IsNobodys, content_at}
-use Rattle.page_load.specs.Loads.{Begins, IsFirstLife, LoadsPage}
-use Rattle.page_load.specs.Queues.{loads, program_with}
-use Rattle.page_load.specs.Starts.{AreScripts, AreStarts, IsStart, Keeps}
+use Rattle.page_load.specs.Lives.{ArePlaces, HasTree, HaveTrees, IsBegun, IsNobodys, IsPlaceOf, IsPlaceWith, content_at}
+use Rattle.page_load.specs.Loads.{Begins, HasScripts, IsFirstLife, LoadsPage}
+use Rattle.page_load.specs.Queues.{loads, programs_of}
+use Rattle.page_load.specs.Starts.{AreScripts, AreStarts, IsStart}
 use Rattle.page_load.proofs.Due.{loads_due}
 use Rattle.page_load.proofs.Numbering.{home_tree, numbered_plain}
 
@@ -122,69 +120,82 @@ own_beyond p w le = no_node (nodes p) w 0 (λ n. by n (owns p w n) refl)
 
 -- ## Contents
 
-module _ (libs : List Accepted) (codes : List Code) (first : List Code) (are : map tree_in first ≡ map tree_of libs) (keeps : Keeps (map tree_in first) (map tree_in codes)) where
-  -- the program of a script that is there
-  program_there : (n : ℕ) (t : Tree) → slice_get (map tree_in codes) n ≡ Some t → program_with codes n ≡ program_of t
-  program_there n t at = by (slice_get codes n) (sym (slice_get-map tree_in codes n) ∙ at)
+module _ (libs : List Accepted) (first : List Code) (are : map tree_in first ≡ map tree_of libs) where
+  -- the programs of libraries, at their places
+  read_one : (t : Tree) (n : ℕ) → Some t ≡ slice_get (map tree_in first) n → program_of t ≡ program_at libs n
+  read_one t n e = by (slice_get libs n) (e ∙ ap (λ ts. slice_get ts n) are ∙ slice_get-map tree_of libs n)
     where
-      by : (o : Option Code) → option_map tree_in o ≡ Some t → option_map_or (λ (c : Code). program_of (tree_in c)) o NoStmts ≡ program_of t
-      by None e = absurd (none_some e)
-      by (Some c) e = ap program_of (some_some (tree_in c) t e)
+      by : (o : Option Accepted) → Some t ≡ option_map tree_of o → program_of t ≡ program_in o
+      by None e = absurd (none_some (sym e))
+      by (Some a) e = ap program_of (some_some t (tree_of a) e)
 
-  library_there : (n : ℕ) → n < length libs → program_with codes n ≡ program_at libs n
-  library_there n lt = by (slice_get libs n) refl
-    where
-      there : (xs : List Accepted) (i : ℕ) → i < length xs → slice_get xs i ≡ None → ⊥
-      there [] i lt e = omega (arith, lt)
-      there (x ∷ xs) zero lt e = none_some (sym e)
-      there (x ∷ xs) (suc i) lt e = there xs i (omega (arith, lt)) e
+  read_all : (cs : List Code) (ns : List ℕ) → map (λ (c : Code). Some (tree_in c)) cs ≡ map (slice_get (map tree_in first)) ns → programs_of cs ≡ map (program_at libs) ns
+  read_all [] [] e = refl
+  read_all [] (n ∷ ns) e = cc
+  read_all (c ∷ cs) [] e = cc
+  read_all (c ∷ cs) (n ∷ ns) e =
+      let here : Some (tree_in c) ≡ slice_get (map tree_in first) n = cc in
+      let more : map (λ (d : Code). Some (tree_in d)) cs ≡ map (slice_get (map tree_in first)) ns = cc in
+      λ j. read_one (tree_in c) n here j ∷ read_all cs ns more j
 
-      by : (o : Option Accepted) → slice_get libs n ≡ o → program_with codes n ≡ program_in o
-      by None e = absurd (there libs n lt e)
-      by (Some a) e = program_there n (tree_of a) (keeps n (tree_of a) (ap (λ ts. slice_get ts n) are ∙ slice_get-map tree_of libs n ∙ ap (option_map tree_of) e))
+  -- the trees of scripts, the last behind the others
+  trees_all : (cs : List Code) (last : Code) → map Some (map tree_in (cs ++ last ∷ [])) ≡ map (λ (c : Code). Some (tree_in c)) cs ++ Some (tree_in last) ∷ []
+  trees_all [] last = refl
+  trees_all (c ∷ cs) last = ap (λ ts. Some (tree_in c) ∷ ts) (trees_all cs last)
 
-  libraries_there : (ns : List ℕ) → AllByRecursion (λ n. n < length libs) ns → map (program_with codes) ns ≡ map (program_at libs) ns
-  libraries_there [] h = refl
-  libraries_there (n ∷ ns) h = λ j. library_there n h.0 j ∷ libraries_there ns h.1 j
-
-  module _ (h : Shared) (its : h.codes.items ≡ codes) (w fuel : ℕ) (l : Life) where
-    same_content : (body : _) (places : Vec ℕ Global) (script : Accepted) (s : Scripts) → (s.libs ≡ places) × (slice_get (map tree_in codes) s.code ≡ Some (tree_of script)) → IsHome h.page w (unplaced body) → AllByRecursion (λ n. n < length libs) s.libs.items
-        → content_at h w s ≡ record { root = numbered 0 (placed body); libraries = map (program_at libs) places.items; script = program_of (tree_of script) }
-    same_content body places script s is home below =
-        let programs : map (program_with h.codes.items) s.libs.items ≡ map (program_at libs) places.items =
-        ap (λ cs. map (program_with cs) s.libs.items) its ∙ libraries_there s.libs.items below ∙ ap (λ (v : Vec ℕ Global). map (program_at libs) v.items) is.0 in
-        let last : program_with h.codes.items s.code ≡ program_of (tree_of script) = ap (λ cs. program_with cs s.code) its ∙ program_there s.code (tree_of script) is.1 in
+  module _ (h : Shared) (w fuel : ℕ) (p : Place) where
+    same_content : (body : _) (places : Vec ℕ Global) (script : Accepted) (s : Scripts) → AreScripts (map tree_in first) (slot.Runs body places script) (Some s) → IsHome h.page w (unplaced body)
+        → content_at h.page w s ≡ record { root = numbered 0 (placed body); libraries = map (program_at libs) places.items; script = program_of (tree_of script) }
+    same_content body places script s is home =
+        let programs : programs_of s.libs.items ≡ map (program_at libs) places.items = read_all s.libs.items places.items is.0 in
         let root : forest h.page w ≡ numbered 0 (placed body) = home.trees ∙ numbered_plain 0 (placed body) in
-        λ j. record { root = root j; libraries = programs j; script = last j }
+        λ j. record { root = root j; libraries = programs j; script = program_of (is.1 j) }
 
-    begins : (c : Content) (s : Scripts) → content_at h w s ≡ c → IsBegun h (length libs) w fuel s l → Begins h w fuel c l
+    begins : (c : Content) (s : Scripts) → content_at h.page w s ≡ c → IsBegun h w fuel s p → Begins h w fuel c p
     begins c s same b =
         let seen = b.seen ∙ ap (λ d. waiting (beginning d fuel) (loads d)) same in
-        record { accepted = b.accepted; fine = b.fine; shows = ap image seen; comes = ap due seen ∙ loads_due c fuel; few = b.few }
+        record { accepted = b.accepted; fine = b.fine; shows = ap image seen; comes = ap due seen ∙ loads_due c fuel; few = b.few; told = b.told }
 
-    first_is : (content : SlotContent) (scripts : Option Scripts) → AreScripts (map tree_in codes) content scripts → IsPlaced h.page w content → IsLifeWith h (length libs) w fuel scripts l → IsFirstLife h w fuel (content_of libs content) l
-    first_is (slot.Runs body places script) None are placed life = absurd are
-    first_is (slot.Runs body places script) (Some s) are placed life = begins _ s (same_content body places script s are placed life.below) life
-    first_is slot.Refused None are placed life = life
-    first_is slot.Refused (Some s) are placed life = absurd are
+    first_is : (content : SlotContent) (scripts : Option Scripts) → AreScripts (map tree_in first) content scripts → IsPlaced h.page w content → IsPlaceWith h w fuel scripts p → IsFirstLife h w fuel (content_of libs content) p
+    first_is (slot.Runs body places script) None is placed place = absurd is
+    first_is (slot.Runs body places script) (Some s) is placed place = begins _ s (same_content body places script s is placed) place
+    first_is slot.Refused None is placed place = place.refused
+    first_is slot.Refused (Some s) is placed place = absurd is
+
+    -- its own scripts
+    scripts_are : (content : SlotContent) (scripts : Option Scripts) → AreScripts (map tree_in first) content scripts → IsPlaceWith h w fuel scripts p → HasScripts libs content (map tree_in p.codes.items)
+    scripts_are (slot.Runs body places script) None is place = absurd is
+    scripts_are (slot.Runs body places script) (Some s) is place =
+        let front : map (λ (c : Code). Some (tree_in c)) s.libs.items ≡ map (slice_get (map tree_of libs)) places.items = is.0 ∙ ap (λ ts. map (slice_get ts) places.items) are in
+        ap (λ (cs : List Code). map Some (map tree_in cs)) place.codes ∙ trees_all s.libs.items s.script ∙ (λ j. front j ++ Some (is.1 j) ∷ [])
+    scripts_are slot.Refused None is place = ap (map tree_in) place.codes
+    scripts_are slot.Refused (Some s) is place = absurd is
 
 -- ## All
 
-module _ (spec : PageSpec) (l : Loaded) (s : Cells) (p : Page) (laid : AreLaid spec.slots.items (length spec.slots.items) s p) (first codes : List Code) (are : map tree_in first ≡ map tree_of spec.libs.items) (keeps : Keeps (map tree_in first) (map tree_in codes)) (starts : List Start) (started : AreStarts (map tree_in codes) spec.slots.items starts) (page : l.shared.page ≡ p) (its : l.shared.codes.items ≡ codes) (lives : AreLives l.shared (length spec.libs.items) starts l.lives.items) (twenty : length l.lives.items ≡ 20) (few : length spec.slots.items ≤ 16) where
-  first_life : (w : ℕ) (t : SlotSpec) (a : Life) → slice_get spec.slots.items w ≡ Some t → slice_get l.lives.items w ≡ Some a → IsFirstLife l.shared w t.fuel (content_of spec.libs.items t.content) a
-  first_life w t a at here =
-      let it = start_at (map tree_in codes) spec.slots.items starts started w t at in
-      let life : IsLifeOf l.shared (length spec.libs.items) w (Some it.0) a = subst (λ o. IsLifeOf l.shared (length spec.libs.items) w o a) it.1 (lives w a here).1 in
-      let placed : IsPlaced l.shared.page w t.content = subst (λ q. IsPlaced q w t.content) (sym page) (laid.placed w t (within spec.slots.items w t at) at) in
-      subst (λ f. IsFirstLife l.shared w f (content_of spec.libs.items t.content) a) it.2.fuel
-      (first_is spec.libs.items codes first are keeps l.shared its w it.0.fuel a t.content it.0.scripts it.2.scripts placed life)
+module _ (spec : PageSpec) (l : Loaded) (s : Cells) (p : Page) (laid : AreLaid spec.slots.items (length spec.slots.items) s p) (first : List Code) (are : map tree_in first ≡ map tree_of spec.libs.items) (starts : List Start) (started : AreStarts (map tree_in first) spec.slots.items starts) (page : l.shared.page ≡ p) (places : ArePlaces l.shared starts l.places.items) (twenty : length l.places.items ≡ 20) (few : length spec.slots.items ≤ 16) where
+  module _ (w : ℕ) (t : SlotSpec) (a : Place) (at : slice_get spec.slots.items w ≡ Some t) (here : slice_get l.places.items w ≡ Some a) where
+    its_start : (start : Start) × IsStart (map tree_in first) t start × IsPlaceWith l.shared w start.fuel start.scripts a
+    its_start =
+        let it = start_at (map tree_in first) spec.slots.items starts started w t at in
+        (it.0, it.2, subst (λ o. IsPlaceOf l.shared w o a) it.1 (places w a here).1)
 
-  refused_away : (w fuel : ℕ) (a : Life) (content : SlotContent) → IsPlaced p w content → IsFirstLife l.shared w fuel (content_of spec.libs.items content) a → a.accepted ≡ false → own p w ≡ []
-  refused_away w fuel a (slot.Runs body places script) placed life none = absurd (no_true (sym none ∙ life.accepted))
+    first_life : IsFirstLife l.shared w t.fuel (content_of spec.libs.items t.content) a
+    first_life =
+        let it = its_start in
+        let placed : IsPlaced l.shared.page w t.content = subst (λ q. IsPlaced q w t.content) (sym page) (laid.placed w t (within spec.slots.items w t at) at) in
+        subst (λ f. IsFirstLife l.shared w f (content_of spec.libs.items t.content) a) it.1.fuel
+        (first_is spec.libs.items first are l.shared w it.0.fuel a t.content it.0.scripts it.1.scripts placed it.2)
+
+    own_scripts : HasScripts spec.libs.items t.content (map tree_in a.codes.items)
+    own_scripts = let it = its_start in scripts_are spec.libs.items first are l.shared w it.0.fuel a t.content it.0.scripts it.1.scripts it.2
+
+  refused_away : (w fuel : ℕ) (a : Place) (content : SlotContent) → IsPlaced p w content → IsFirstLife l.shared w fuel (content_of spec.libs.items content) a → a.life.accepted ≡ false → own p w ≡ []
+  refused_away w fuel a (slot.Runs body libs script) placed life none = absurd (no_true (sym none ∙ life.accepted))
   refused_away w fuel a slot.Refused placed life none = placed.nodes
 
   -- a number that is no accepted life's has no node
-  nobodys_nodes : (v : ℕ) → IsNobodys l.lives.items v → own p v ≡ []
+  nobodys_nodes : (v : ℕ) → IsNobodys l.places.items v → own p v ≡ []
   nobodys_nodes v none = by (slice_get spec.slots.items v) refl (leb 32 v) refl
     where
       by : (o : Option SlotSpec) → slice_get spec.slots.items v ≡ o → (b : Bool) → leb 32 v ≡ b → own p v ≡ []
@@ -192,19 +203,27 @@ module _ (spec : PageSpec) (l : Loaded) (s : Cells) (p : Page) (laid : AreLaid s
       by None e false g = (laid.away v (past spec.slots.items v e) (leb-false 32 v g)).nodes
       by (Some t) e false g =
           let low = within spec.slots.items v t e in
-          let a = there l.lives.items v (omega (arith, low, few, twenty)) in
+          let a = there l.places.items v (omega (arith, low, few, twenty)) in
           refused_away v t.fuel a.0 t.content (laid.placed v t low e) (first_life v t a.0 e a.1) (none a.0 a.1)
 
-  pub page_loads : l.names.items ≡ names_of spec.slots.items → l.channels.items ≡ spec.channels.items → ((v : ℕ) → IsNobodys l.lives.items v → HasNoCells v l.shared.store)
+  -- behind the last slot no life is accepted
+  unborn_behind : (v : ℕ) (a : Place) → length spec.slots.items ≤ v → slice_get l.places.items v ≡ Some a → a.life.accepted ≡ false
+  unborn_behind v a le at =
+      let unborn : IsPlaceOf l.shared v None a = subst (λ o. IsPlaceOf l.shared v o a) (no_start (map tree_in first) spec.slots.items starts started v le) (places v a at).1 in
+      unborn.refused
+
+  pub page_loads : l.names.items ≡ names_of spec.slots.items → l.channels.items ≡ spec.channels.items → l.shared.codes.items ≡ [] → ((v : ℕ) → IsNobodys l.places.items v → HasNoCells v l.shared.store)
       → IsLaid p (names_of spec.slots.items) (homes_of spec.slots.items) (map piece_of spec.pieces.items) → LoadsPage spec l
-  page_loads names channels free lots = record {
+  page_loads names channels unshared free lots = record {
     few = few;
     names = names;
     channels = channels;
     twenty = twenty;
-    homes = λ v a at. (lives v a at).0;
+    homes = λ v a at. (places v a at).0;
     slots = first_life;
+    scripts = own_scripts;
+    unshared = unshared;
     laid = subst (λ q. IsLaid q (names_of spec.slots.items) (homes_of spec.slots.items) (map piece_of spec.pieces.items)) (sym page) lots;
     others = λ v none. record { cells = free v none; nodes = ap (λ q. own q v) page ∙ nobodys_nodes v none };
-    rest = λ v a le at. subst (λ o. IsLifeOf l.shared (length spec.libs.items) v o a) (no_start (map tree_in codes) spec.slots.items starts started v le) (lives v a at).1;
+    rest = unborn_behind;
   }

@@ -1,7 +1,7 @@
 pub mod Homes
 pub mod Opening
-pub mod Queues
 pub mod Starts
+pub mod Queues
 pub mod Laying
 pub mod Owning
 pub mod Lives

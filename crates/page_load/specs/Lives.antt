@@ -1,8 +1,9 @@
--- The lives with which a host begins, while they are made.
-use Rattle.std.specs.Prelude.{◌≡◌, ℕ, ◌+◌, ◌<◌, ◌≤◌, ◌^◌, List, [], map, false, true, length, Option, None, Some, IfSome, slice_get}
-use Rattle.std.specs.List.{AllByRecursion}
+-- The places of all lives with which a host begins, while they are made.
+use Rattle.std.specs.Prelude.{◌≡◌, ℕ, ◌+◌, ◌<◌, ◌≤◌, ◌^◌, ◌++◌, List, [], ◌∷◌, false, true, length, Option, None, Some, IfSome, slice_get}
 use Rattle.plain_tree.specs.Trees.{size}
 use Rattle.tree_ops.specs.Trees.{numbered}
+use Rattle.js_tree.specs.Trees.{program_of}
+use Rattle.js_names.specs.Code.{tree_in}
 use Rattle.store_cells.specs.declared.value.Value.TheVariants as value
 use Rattle.store_cells.specs.Cells.{Cells}
 use Rattle.object_store.specs.Owned.{owned}
@@ -20,11 +21,13 @@ use Rattle.turn_calls.specs.declared.turn.Widget.{Widget}
 use Rattle.life_queue.specs.declared.life.Life.{Life}
 use Rattle.life_queue.specs.Lives.{life_seen}
 use Rattle.life_queue.specs.Fine.{FineLife, tally}
+use Rattle.slot_picks.specs.declared.crowd.Place.{Place}
+use Rattle.slot_picks.specs.Places.{lent}
 use Rattle.page_build.specs.Homes.{HaveRaws}
+use Rattle.page_load.specs.declared.codes.Scripts.{Scripts}
 use Rattle.page_load.specs.declared.codes.Start.{Start}
-use Rattle.page_load.specs.declared.queues.Scripts.{Scripts}
 use Rattle.page_load.specs.Laying.{IsUnused}
-use Rattle.page_load.specs.Queues.{loads, program_with}
+use Rattle.page_load.specs.Queues.{loads, programs_of}
 
 -- ## Before
 
@@ -39,11 +42,11 @@ abbrev pub HaveTrees : Page → List Start → Type 0
 HaveTrees p starts = (w : ℕ) (a : Start) → slice_get starts w ≡ Some a → IfSome a.scripts (λ s. HasTree p w)
 
 -- the widget with a number, by what is on the page and by these scripts
-abbrev pub content_at : Shared → ℕ → Scripts → Content
-content_at h w s = record {
-  root = forest h.page w;
-  libraries = map (program_with h.codes.items) s.libs.items;
-  script = program_with h.codes.items s.code;
+abbrev pub content_at : Page → ℕ → Scripts → Content
+content_at p w s = record {
+  root = forest p w;
+  libraries = programs_of s.libs.items;
+  script = program_of (tree_in s.script);
 }
 
 -- ## One life
@@ -63,48 +66,55 @@ pub record IsBlank (w : ℕ) (a : Widget) : Type 0 where
   pub no_log : a.log.items ≡ []
   pub no_posts : a.posts.items ≡ []
 
--- A life begins with these works.
+-- A life begins with these works, and no round has taken a post of it.
 pub record BeginsWith (h : Shared) (w grant : ℕ) (works : List todo.Work) (l : Life) : Type 0 where
   pub slot : l.slot ≡ w
   pub accepted : l.accepted ≡ true
   pub fine : FineLife h w l
   pub seen : (c : Content) → c.root ≡ forest h.page w → life_seen h w l ≡ waiting (beginning c grant) works
   pub few : tally h w l ≤ 2 ^ 31
+  pub told : l.told ≡ 0
 
--- What making one life keeps: the scripts and the page, that nodes have their cells, what all others have in the store, what is seen of all other lives, and that they are sound; and the widgets behind it have nothing yet.
+-- What making one life keeps: the page, which trees are shared, that nodes have their cells, what all others have in the store, what is seen of all other lives, and that they are sound; and the widgets behind it have nothing yet.
 pub record KeepsOthers (w : ℕ) (h k : Shared) : Type 0 where
   pub codes : k.codes ≡ h.codes
   pub page : k.page ≡ h.page
   pub raws : HaveRaws k.store k.page
   pub unused : IsUnused k.store (w + 1)
   pub others : (v : ℕ) → (w ≡ v → ⊥) → owned v k.store ≡ owned v h.store
-  pub fine : (v : ℕ) (a : Life) → v < 32 → (w ≡ v → ⊥) → FineLife h v a → FineLife k v a
-  pub seen : (v : ℕ) (a : Life) → v < 32 → (w ≡ v → ⊥) → FineLife h v a → life_seen k v a ≡ life_seen h v a
+  pub fine : (v : ℕ) (a : Place) → v < 32 → (w ≡ v → ⊥) → FineLife (lent h a) v a.life → FineLife (lent k a) v a.life
+  pub seen : (v : ℕ) (a : Place) → v < 32 → (w ≡ v → ⊥) → FineLife (lent h a) v a.life → life_seen (lent k a) v a.life ≡ life_seen (lent h a) v a.life
 
 -- ## All lives
 
--- A life of a slot with these scripts begins, over so many libraries of the page.
-pub record IsBegun (h : Shared) (many w fuel : ℕ) (s : Scripts) (l : Life) : Type 0 where
-  pub accepted : l.accepted ≡ true
-  pub fine : FineLife h w l
-  pub seen : life_seen h w l ≡ waiting (beginning (content_at h w s) fuel) (loads (content_at h w s))
-  pub few : tally h w l ≤ 2 ^ 31
-  pub below : AllByRecursion (λ place. place < many) s.libs.items
+-- A life with these scripts begins, and it has their trees.
+pub record IsBegun (h : Shared) (w fuel : ℕ) (s : Scripts) (a : Place) : Type 0 where
+  pub codes : a.codes.items ≡ s.libs.items ++ s.script ∷ []
+  pub accepted : a.life.accepted ≡ true
+  pub fine : FineLife (lent h a) w a.life
+  pub seen : life_seen (lent h a) w a.life ≡ waiting (beginning (content_at h.page w s) fuel) (loads (content_at h.page w s))
+  pub few : tally (lent h a) w a.life ≤ 2 ^ 31
+  pub told : a.life.told ≡ 0
 
--- where a slot has no scripts the life is not accepted
-abbrev pub IsLifeWith : Shared → ℕ → ℕ → ℕ → Option Scripts → Life → Type 0
-IsLifeWith h many w fuel None l = l.accepted ≡ false
-IsLifeWith h many w fuel (Some s) l = IsBegun h many w fuel s l
+-- No life is accepted in a place, and no trees are there.
+pub record IsUnborn (a : Place) : Type 0 where
+  pub refused : a.life.accepted ≡ false
+  pub codes : a.codes.items ≡ []
+
+-- where a slot has no scripts no life is accepted
+abbrev pub IsPlaceWith : Shared → ℕ → ℕ → Option Scripts → Place → Type 0
+IsPlaceWith h w fuel None a = IsUnborn a
+IsPlaceWith h w fuel (Some s) a = IsBegun h w fuel s a
 
 -- nor where there is no slot
-abbrev pub IsLifeOf : Shared → ℕ → ℕ → Option Start → Life → Type 0
-IsLifeOf h many w None l = l.accepted ≡ false
-IsLifeOf h many w (Some a) l = IsLifeWith h many w a.fuel a.scripts l
+abbrev pub IsPlaceOf : Shared → ℕ → Option Start → Place → Type 0
+IsPlaceOf h w None a = IsUnborn a
+IsPlaceOf h w (Some start) a = IsPlaceWith h w start.fuel start.scripts a
 
 -- no accepted life has this number
-abbrev pub IsNobodys : List Life → ℕ → Type 0
-IsNobodys lives v = (a : Life) → slice_get lives v ≡ Some a → a.accepted ≡ false
+abbrev pub IsNobodys : List Place → ℕ → Type 0
+IsNobodys places v = (a : Place) → slice_get places v ≡ Some a → a.life.accepted ≡ false
 
--- so it is with each life, and its slot is that of its number
-abbrev pub AreLives : Shared → ℕ → List Start → List Life → Type 0
-AreLives h many starts lives = (v : ℕ) (l : Life) → slice_get lives v ≡ Some l → (l.slot ≡ v) × IsLifeOf h many v (slice_get starts v) l
+-- so it is with each place, and the slot of its life is that of its number
+abbrev pub ArePlaces : Shared → List Start → List Place → Type 0
+ArePlaces h starts places = (v : ℕ) (a : Place) → slice_get places v ≡ Some a → (a.life.slot ≡ v) × IsPlaceOf h v (slice_get starts v) a

@@ -33,6 +33,10 @@ go_works (Some h) = todo.Go (text_with h.0 h.1) ∷ []
 abbrev pub libraries_works : List Stmts → List todo.Work
 libraries_works programs = flat_map (λ p. library_works (call_parts p)) programs
 
+-- the programs of scripts, in order
+abbrev pub programs_of : List Code → List Stmts
+programs_of cs = map (λ (c : Code). program_of (tree_in c)) cs
+
 -- all load turns of a widget
 abbrev pub loads : Content → List todo.Work
 loads c = libraries_works c.libraries ++ go_works (call_parts c.script)
@@ -41,7 +45,7 @@ loads c = libraries_works c.libraries ++ go_works (call_parts c.script)
 abbrev pub IsScriptIn : List Forest → Stmts → Option Script → Type 0
 IsScriptIn fs p o = MatchOption o (call_parts p ≡ None) (λ s. IsScriptOf fs s.code s.fun × (call_parts p ≡ Some (s.name, function_of fs s)))
 
--- These works were put behind a queue, each a script of the host's.
+-- These works were put behind a queue, each a script of these trees.
 pub record IsQueued (fs : List Forest) (old new : List Work) (works : List todo.Work) : Type 0 where
   pub are : map (work_of fs) new ≡ map (work_of fs) old ++ works
   pub fine : AllByRecursion (FineWork fs) old → AllByRecursion (FineWork fs) new

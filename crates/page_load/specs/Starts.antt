@@ -1,20 +1,18 @@
--- The slots of a page, when the trees of their scripts stand among those of the host.
-use Rattle.std.specs.Prelude.{◌≡◌, ℕ, List, [], ◌∷◌, Option, None, Some, slice_get}
+-- The slots of a page, with the trees of their scripts.
+use Rattle.std.specs.Prelude.{◌≡◌, List, [], ◌∷◌, Option, None, Some, map, slice_get}
 use Rattle.js_tree.specs.declared.tree.Tree.{Tree}
 use Rattle.adsafe_rules.specs.Accepts.{tree_of}
+use Rattle.js_names.specs.declared.code.Code.{Code}
+use Rattle.js_names.specs.Code.{tree_in}
 use Rattle.page_spec.specs.declared.SlotContent.{SlotContent}
 use Rattle.page_spec.specs.declared.SlotContent.TheVariants as slot
 use Rattle.page_spec.specs.declared.SlotSpec.{SlotSpec}
+use Rattle.page_load.specs.declared.codes.Scripts.{Scripts}
 use Rattle.page_load.specs.declared.codes.Start.{Start}
-use Rattle.page_load.specs.declared.queues.Scripts.{Scripts}
 
--- each tree keeps its number
-abbrev pub Keeps : List Tree → List Tree → Type 0
-Keeps old new = (n : ℕ) (t : Tree) → slice_get old n ≡ Some t → slice_get new n ≡ Some t
-
--- the scripts of a slot, by these trees; none of a slot that was refused
+-- the scripts of a slot, over the trees of the libraries of its page; none of a slot that was refused
 abbrev pub AreScripts : List Tree → SlotContent → Option Scripts → Type 0
-AreScripts ts (slot.Runs body libs script) (Some s) = (s.libs ≡ libs) × (slice_get ts s.code ≡ Some (tree_of script))
+AreScripts ts (slot.Runs body places script) (Some s) = (map (λ (c : Code). Some (tree_in c)) s.libs.items ≡ map (slice_get ts) places.items) × (tree_in s.script ≡ tree_of script)
 AreScripts ts slot.Refused None = Unit {0}
 AreScripts ts content scripts = ⊥
 

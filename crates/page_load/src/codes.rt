@@ -1,15 +1,23 @@
-//! The trees of all scripts, and what is known of the slots when their trees were taken.
-ghost use Rattle.std.specs.Prelude.{◌≡◌, IfOk, OnOk, Some, map, slice_get};
+//! The trees of the scripts of each slot: those of the libraries that it names, which stand once for all slots, and
+//! that of its own.
+ghost use Rattle.std.specs.Prelude.{◌≡◌, ◌++◌, [], ◌∷◌, IfOk, Some, map, slice_get};
 ghost use Rattle.adsafe_rules.specs.Accepts.{tree_of};
 ghost use Rattle.js_names.specs.Code.{tree_in};
-ghost use Rattle.page_load.specs.Starts.{AreScripts, AreStarts, IsStart, Keeps};
+ghost use Rattle.page_load.specs.Starts.{AreScripts, AreStarts, IsStart};
 
-use crate::queues::Scripts;
 use adsafe_rules::Accepted;
 use code_units::Memory;
 use js_names::Code;
 use page_spec::{SlotContent, SlotSpec};
 use std::alloc::Global;
+use std::collections::VecDeque;
+
+/// The trees of the scripts of a widget: of the libraries that it names, in their order, and of its last script.
+#[derive(Drop)]
+pub(crate) struct Scripts {
+    pub(crate) libs: Vec<Code>,
+    pub(crate) script: Code,
+}
 
 /// A slot whose page was made: its scripts, none where it was refused.
 #[derive(Drop)]
@@ -37,62 +45,76 @@ pub(crate) fn library_codes(alloc: Global, libs: Vec<Accepted>) -> Result<Vec<Co
     Ok(codes)
 }
 
-// The tree of a script comes behind the others, and has this number.
-fn push_code(alloc: Global, codes: &mut Vec<Code>, script: Accepted) -> Result<u32, Memory>
-    ensures there { IfOk result (λ n. slice_get (map tree_in codes.new.items) n ≡ Some (tree_of script)) }
-    ensures kept { OnOk result (Keeps (map tree_in codes.old.items) (map tree_in codes.new.items)) }
+// The library at a place, for one more widget.
+fn library_at(libs: &[Code], place: u32) -> Result<Code, Memory>
+    ensures { IfOk result (λ code. slice_get (map tree_in libs.now) place ≡ Some (tree_in code)) }
 {
-    // No memory holds so many.
-    if codes.len() > u32::MAX as usize {
-        return Err(Memory);
+    match libs.get(place as usize) {
+        Some(code) => code.share(),
+        None => Err(Memory),
     }
-    let number = codes.len() as u32;
-    codes.push(code_of(alloc, script)?)?;
-    Ok(number)
 }
 
-// The scripts of a slot, whose tree comes behind the others.
-fn scripts_of(
-    alloc: Global,
-    codes: &mut Vec<Code>,
-    content: SlotContent,
-) -> Result<Option<Scripts>, Memory>
-    ensures scripts { IfOk result (AreScripts (map tree_in codes.new.items) content) }
-    ensures kept { OnOk result (Keeps (map tree_in codes.old.items) (map tree_in codes.new.items)) }
+// The libraries at these places.
+fn libraries_at(alloc: Global, libs: &[Code], places: &[u32]) -> Result<Vec<Code>, Memory>
+    ensures { IfOk result (λ codes. map (λ c. Some (tree_in c)) codes.items ≡ map (slice_get (map tree_in libs.now)) places.now) }
+{
+    let mut codes = Vec::with_capacity(alloc, places.len())?;
+    'places: for place in places {
+        codes.push(library_at(libs, *place)?)?;
+    }
+    Ok(codes)
+}
+
+// The scripts of a slot, over the libraries of its page.
+fn scripts_of(alloc: Global, libs: &[Code], content: SlotContent) -> Result<Option<Scripts>, Memory>
+    ensures { IfOk result (AreScripts (map tree_in libs.now) content) }
 {
     match content {
-        SlotContent::Runs { libs, script, .. } => {
-            let code = push_code(alloc, codes, script)?;
-            Ok(Some(Scripts { libs, code }))
+        SlotContent::Runs {
+            libs: places,
+            script,
+            ..
+        } => {
+            let libs = libraries_at(alloc, libs, &places)?;
+            let script = code_of(alloc, script)?;
+            Ok(Some(Scripts { libs, script }))
         }
         SlotContent::Refused => Ok(None),
     }
 }
 
 // A slot with its scripts.
-fn start_of(alloc: Global, codes: &mut Vec<Code>, slot: SlotSpec) -> Result<Start, Memory>
-    ensures start { IfOk result (IsStart (map tree_in codes.new.items) slot) }
-    ensures kept { OnOk result (Keeps (map tree_in codes.old.items) (map tree_in codes.new.items)) }
+fn start_of(alloc: Global, libs: &[Code], slot: SlotSpec) -> Result<Start, Memory>
+    ensures { IfOk result (IsStart (map tree_in libs.now) slot) }
 {
-    let scripts = scripts_of(alloc, codes, slot.content)?;
+    let scripts = scripts_of(alloc, libs, slot.content)?;
     Ok(Start {
         fuel: slot.fuel,
         scripts,
     })
 }
 
-/// The slots with their scripts, whose trees come behind the others.
+/// The slots with their scripts, over the libraries of the page.
 pub(crate) fn starts_of(
     alloc: Global,
-    codes: &mut Vec<Code>,
+    libs: &[Code],
     slots: Vec<SlotSpec>,
-) -> Result<Vec<Start>, Memory>
-    ensures starts { IfOk result (λ starts. AreStarts (map tree_in codes.new.items) slots.items starts.items) }
-    ensures kept { OnOk result (Keeps (map tree_in codes.old.items) (map tree_in codes.new.items)) }
+) -> Result<VecDeque<Start>, Memory>
+    ensures { IfOk result (λ starts. AreStarts (map tree_in libs.now) slots.items starts.items) }
 {
-    let mut starts = Vec::with_capacity(alloc, slots.len())?;
+    let mut starts = VecDeque::new(alloc);
     'slots: for slot in slots {
-        starts.push(start_of(alloc, codes, slot)?)?;
+        starts.push_back(start_of(alloc, libs, slot)?)?;
     }
     Ok(starts)
+}
+
+/// The trees of all scripts of a widget, in their order.
+pub(crate) fn all_codes(scripts: Scripts) -> Result<Vec<Code>, Memory>
+    ensures { IfOk result (λ codes. codes.items ≡ scripts.libs.items ++ scripts.script ∷ []) }
+{
+    let mut codes = scripts.libs;
+    codes.push(scripts.script)?;
+    Ok(codes)
 }

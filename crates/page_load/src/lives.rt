@@ -1,25 +1,30 @@
-//! The first life of each slot, with its load turns.
-ghost use Rattle.std.specs.Prelude.{◌≡◌, ◌<◌, ◌≤◌, ◌^◌, ℕ, [], List, IfOk, IfSome, None, OnOk, false, length, map, slice_get};
+//! The places of all lives: the first life of each slot with its load turns, and those of which none is born.
+ghost use Rattle.std.specs.Prelude.{◌≡◌, ◌<◌, ◌≤◌, ◌^◌, ℕ, [], List, IfOk, IfSome, None, OnOk, false, length, map};
 ghost use Rattle.std.specs.List.{AllByRecursion};
+ghost use Rattle.std.specs.declared.alloc.Global.{Global as GlobalOf};
+ghost use Rattle.std.specs.declared.vec.Vec.{Vec as VecOf};
 ghost use Rattle.js_tree.specs.Forest.{Forest};
+ghost use Rattle.js_names.specs.declared.code.Code.{Code as CodeOf};
+ghost use Rattle.js_names.specs.Code.{trees_of};
 ghost use Rattle.object_store.specs.Owned.{owned};
 ghost use Rattle.js_image.specs.Held.{Kept};
 ghost use Rattle.js_image.specs.Laws.{AreLawful};
 ghost use Rattle.life_laws.specs.Life.{potentials};
-ghost use Rattle.life_queue.specs.Lives.{trees_in, work_of};
+ghost use Rattle.life_queue.specs.Lives.{work_of};
 ghost use Rattle.life_queue.specs.Fine.{FineWork, most_fuel};
 ghost use Rattle.page_build.specs.Homes.{HaveRaws};
 ghost use Rattle.page_load.specs.Laying.{HasNoCells, IsUnused, nothing_owned};
-ghost use Rattle.page_load.specs.Lives.{AreLives, BeginsWith, HasTree, HaveTrees, IsBlank, IsLib, IsLifeOf, IsLifeWith, IsNobodys, KeepsOthers};
+ghost use Rattle.page_load.specs.Lives.{ArePlaces, BeginsWith, HasTree, HaveTrees, IsBegun, IsBlank, IsLib, IsNobodys, IsPlaceOf, IsPlaceWith, IsUnborn, KeepsOthers};
 ghost use Rattle.page_load.specs.Owning.{one_object};
 
-use crate::codes::Start;
+use crate::codes::{Scripts, Start, all_codes};
 use crate::queues::load_turns;
 use code_units::{Memory, Owner};
 use event_loop::Loop;
 use keyed_names::Keys;
 use life_queue::{Life, Records, Work};
 use object_store::{CellId, HostEntry, NewCell, Store};
+use slot_picks::Place;
 use std::alloc::Global;
 use std::collections::VecDeque;
 use turn_calls::{Shared, Widget};
@@ -86,13 +91,13 @@ fn no_records(alloc: Global) -> Records
     }
 }
 
-// A life that is not accepted.
-fn no_life(alloc: Global, keys: Keys, w: u32) -> Result<Life, Memory>
-    ensures slot { IfOk result (λ life. life.slot ≡ w) }
-    ensures accepted { IfOk result (λ life. life.accepted ≡ false) }
+// A place in which no life is accepted.
+fn no_place(alloc: Global, keys: Keys, w: u32) -> Result<Place, Memory>
+    ensures slot { IfOk result (λ place. place.life.slot ≡ w) }
+    ensures unborn { IfOk result IsUnborn }
 {
     let widget = blank(alloc, keys, w)?;
-    Ok(Life {
+    let life = Life {
         slot: w,
         accepted: false,
         grant: 0,
@@ -102,10 +107,14 @@ fn no_life(alloc: Global, keys: Keys, w: u32) -> Result<Life, Memory>
         turn: None,
         queue: VecDeque::new(alloc),
         told: 0,
+    };
+    Ok(Place {
+        life,
+        codes: Vec::new(alloc),
     })
 }
 
-// A life with this grant and this queue begins.
+// A life with this grant and this queue begins, whichever trees its scripts have.
 fn begin_life(
     alloc: Global,
     keys: Keys,
@@ -119,9 +128,10 @@ fn begin_life(
     requires raws { HaveRaws shared.old.store shared.old.page }
     requires tree { HasTree shared.old.page w }
     requires grant { grant ≤ most_fuel }
-    requires fine { AllByRecursion (FineWork (trees_in shared.old)) queue.items }
-    requires few { potentials (map (work_of (trees_in shared.old)) queue.items) ≤ 2 ^ 31 }
-    ensures begins { IfOk result (BeginsWith shared.new w grant (map (work_of (trees_in shared.old)) queue.items)) }
+    ensures slot { IfOk result (λ life. life.slot ≡ w) }
+    ensures begins { IfOk result (λ life. (codes : VecOf CodeOf GlobalOf) → AllByRecursion (FineWork (trees_of codes.items)) queue.items
+        → potentials (map (work_of (trees_of codes.items)) queue.items) ≤ 2 ^ 31
+        → BeginsWith (record shared.new { codes = codes }) w grant (map (work_of (trees_of codes.items)) queue.items) life) }
     ensures others { OnOk result (KeepsOthers w shared.old shared.new) }
 {
     let widget = blank(alloc, keys, w)?;
@@ -140,81 +150,101 @@ fn begin_life(
     })
 }
 
-// The first life of a slot, over so many libraries of its page.
-fn first_life(
+// A life with this fuel and these scripts begins, with its load turns.
+fn begin_place(
     alloc: Global,
     keys: Keys,
     shared: &mut Shared,
     w: u32,
-    start: &Start,
-    many: usize,
-) -> Result<Life, Memory>
+    fuel: u32,
+    scripts: Scripts,
+) -> Result<Place, Memory>
     requires widget { w < 32 }
     requires unused { IsUnused shared.old.store w }
     requires raws { HaveRaws shared.old.store shared.old.page }
-    requires tree { IfSome start.now.scripts (λ s. HasTree shared.old.page w) }
-    ensures slot { IfOk result (λ life. life.slot ≡ w) }
-    ensures life { IfOk result (IsLifeWith shared.new many w start.now.fuel start.now.scripts) }
-    ensures same { IfOk result (λ life. life.accepted ≡ false → shared.new ≡ shared.old) }
+    requires tree { HasTree shared.old.page w }
+    ensures slot { IfOk result (λ place. place.life.slot ≡ w) }
+    ensures begun { IfOk result (IsBegun shared.new w fuel scripts) }
     ensures others { OnOk result (KeepsOthers w shared.old shared.new) }
 {
-    let Some(scripts) = &start.scripts else {
-        return no_life(alloc, keys, w);
-    };
-    if start.fuel > MOST_FUEL {
+    if fuel > MOST_FUEL {
         return Err(Memory);
     }
-    let queue = load_turns(alloc, &shared.codes, many, scripts)?;
-    begin_life(alloc, keys, shared, w, start.fuel, queue)
+    let codes = all_codes(scripts)?;
+    let queue = load_turns(alloc, &codes)?;
+    let life = begin_life(alloc, keys, shared, w, fuel, queue)?;
+    Ok(Place { life, codes })
 }
 
-// The life at a place.
-fn life_at(
+// The place of the first life of a slot.
+fn first_place(
     alloc: Global,
     keys: Keys,
     shared: &mut Shared,
     w: u32,
-    starts: &[Start],
-    many: usize,
-) -> Result<Life, Memory>
+    start: Start,
+) -> Result<Place, Memory>
     requires widget { w < 32 }
     requires unused { IsUnused shared.old.store w }
     requires raws { HaveRaws shared.old.store shared.old.page }
-    requires trees { HaveTrees shared.old.page starts.now }
-    ensures slot { IfOk result (λ life. life.slot ≡ w) }
-    ensures life { IfOk result (IsLifeOf shared.new many w (slice_get starts.now w)) }
-    ensures same { IfOk result (λ life. life.accepted ≡ false → shared.new ≡ shared.old) }
+    requires tree { IfSome start.scripts (λ s. HasTree shared.old.page w) }
+    ensures slot { IfOk result (λ place. place.life.slot ≡ w) }
+    ensures place { IfOk result (IsPlaceWith shared.new w start.fuel start.scripts) }
+    ensures same { IfOk result (λ place. place.life.accepted ≡ false → shared.new ≡ shared.old) }
     ensures others { OnOk result (KeepsOthers w shared.old shared.new) }
 {
-    let at = w as usize;
-    if at >= starts.len() {
-        return no_life(alloc, keys, w);
+    let Start { fuel, scripts } = start;
+    match scripts {
+        Some(scripts) => begin_place(alloc, keys, shared, w, fuel, scripts),
+        None => no_place(alloc, keys, w),
     }
-    first_life(alloc, keys, shared, w, &starts[at], many)
 }
 
-/// The twenty lives of a host, over so many libraries of its page: the first of each slot begins, where it was not
-/// refused, and the others are not accepted.
-pub(crate) fn lives_of(
+// A place: that of the first life of a slot, if there is one.
+fn place_of(
     alloc: Global,
     keys: Keys,
     shared: &mut Shared,
-    starts: &[Start],
-    many: usize,
-) -> Result<Vec<Life>, Memory>
+    w: u32,
+    start: Option<Start>,
+) -> Result<Place, Memory>
+    requires widget { w < 32 }
+    requires unused { IsUnused shared.old.store w }
+    requires raws { HaveRaws shared.old.store shared.old.page }
+    requires tree { IfSome start (λ a. IfSome a.scripts (λ s. HasTree shared.old.page w)) }
+    ensures slot { IfOk result (λ place. place.life.slot ≡ w) }
+    ensures place { IfOk result (IsPlaceOf shared.new w start) }
+    ensures same { IfOk result (λ place. place.life.accepted ≡ false → shared.new ≡ shared.old) }
+    ensures others { OnOk result (KeepsOthers w shared.old shared.new) }
+{
+    match start {
+        Some(start) => first_place(alloc, keys, shared, w, start),
+        None => no_place(alloc, keys, w),
+    }
+}
+
+/// The twenty places of a host: in those of its slots, which stand here in order, the first life of each begins,
+/// where it was not refused, and in the others none is accepted.
+pub(crate) fn places_of(
+    alloc: Global,
+    keys: Keys,
+    shared: &mut Shared,
+    mut starts: VecDeque<Start>,
+) -> Result<Vec<Place>, Memory>
     requires unused { IsUnused shared.old.store 0 }
     requires free { (v : ℕ) → HasNoCells v shared.old.store }
     requires raws { HaveRaws shared.old.store shared.old.page }
-    requires trees { HaveTrees shared.old.page starts.now }
-    ensures lives { IfOk result (λ lives. AreLives shared.new many starts.now lives.items) }
-    ensures twenty { IfOk result (λ lives. length lives.items ≡ 20) }
-    ensures others { IfOk result (λ lives. (v : ℕ) → IsNobodys lives.items v → HasNoCells v shared.new.store) }
+    requires trees { HaveTrees shared.old.page starts.items }
+    ensures places { IfOk result (λ places. ArePlaces shared.new starts.items places.items) }
+    ensures twenty { IfOk result (λ places. length places.items ≡ 20) }
+    ensures others { IfOk result (λ places. (v : ℕ) → IsNobodys places.items v → HasNoCells v shared.new.store) }
     ensures codes { OnOk result (shared.new.codes ≡ shared.old.codes) }
     ensures page { OnOk result (shared.new.page ≡ shared.old.page) }
 {
-    let mut lives = Vec::with_capacity(alloc, 20)?;
-    'lives: for w in 0..20 {
-        lives.push(life_at(alloc, keys, shared, w, starts, many)?)?;
+    let mut places = Vec::with_capacity(alloc, 20)?;
+    'places: for w in 0..20 {
+        let start = starts.pop_front();
+        places.push(place_of(alloc, keys, shared, w, start)?)?;
     }
-    Ok(lives)
+    Ok(places)
 }

@@ -5,22 +5,22 @@ ghost use Rattle.page_load.specs.Loads.{LoadsPage};
 
 use crate::codes::{library_codes, starts_of};
 use crate::laying::{Base, lay_pieces};
-use crate::lives::lives_of;
+use crate::lives::places_of;
 use code_units::{Memory, Text};
 use keyed_names::Keys;
-use life_queue::Life;
 use page_spec::{PageSpec, SlotSpec};
+use slot_picks::Place;
 use std::alloc::Global;
 use turn_calls::Shared;
 
 /// What a host begins with.
 #[derive(Drop)]
 pub struct Loaded {
-    /// The store, the page, and the trees of all scripts.
+    /// The store and the page. No trees are shared.
     pub shared: Shared,
-    /// Twenty lives, each at the place that is its number: the first life of each slot in order, and behind them the
-    /// rest, which are not accepted.
-    pub lives: Vec<Life>,
+    /// Twenty places, each with the life whose number it is: the first life of each slot in order, with the trees of
+    /// its own scripts, and behind them the rest, which are not accepted.
+    pub places: Vec<Place>,
     /// The names of the slots in order.
     pub names: Vec<Text>,
     /// The pairs of slots between which posts go.
@@ -38,8 +38,9 @@ fn names_of(alloc: Global, slots: &[SlotSpec]) -> Result<Vec<Text>, Memory>
     Ok(names)
 }
 
-/// Builds the page, piece by piece, and gives each accepted widget the object `lib` and the queue of its load turns:
-/// one for each of its libraries in the order of its scripts, and that of the `go` function. All tables hash by
+/// Builds the page, piece by piece, and gives each accepted widget the object `lib`, the trees of its own scripts, of
+/// which those of libraries stand once for all widgets, and the queue of its load turns: one for each of its libraries
+/// in the order of its scripts, and that of the `go` function. All tables hash by
 /// these keys. What no judged page has is answered like want of memory: more than 16 slots, a slot that does not
 /// stand once among the pieces, in order, a library that is not there, more fuel than a turn may have.
 pub fn load_page(alloc: Global, keys: Keys, spec: PageSpec) -> Result<Loaded, Memory>
@@ -50,14 +51,17 @@ pub fn load_page(alloc: Global, keys: Keys, spec: PageSpec) -> Result<Loaded, Me
     }
     let Base { store, page } = lay_pieces(alloc, keys, &spec.pieces, &spec.slots)?;
     let names = names_of(alloc, &spec.slots)?;
-    let many = spec.libs.len();
-    let mut codes = library_codes(alloc, spec.libs)?;
-    let starts = starts_of(alloc, &mut codes, spec.slots)?;
-    let mut shared = Shared { store, page, codes };
-    let lives = lives_of(alloc, keys, &mut shared, &starts, many)?;
+    let libs = library_codes(alloc, spec.libs)?;
+    let starts = starts_of(alloc, &libs, spec.slots)?;
+    let mut shared = Shared {
+        store,
+        page,
+        codes: Vec::new(alloc),
+    };
+    let places = places_of(alloc, keys, &mut shared, starts)?;
     Ok(Loaded {
         shared,
-        lives,
+        places,
         names,
         channels: spec.channels,
     })

@@ -1,9 +1,10 @@
 //! The queue of a life that begins.
-ghost use Rattle.std.specs.Prelude.{◌≡◌, ◌<◌, ◌++◌, ◌^◌, [], IfOk, OnOk, length, map, true};
-ghost use Rattle.std.specs.List.{AllByRecursion};
-ghost use Rattle.js_names.specs.Code.{trees_of};
+ghost use Rattle.std.specs.Prelude.{◌≡◌, ◌<◌, ◌≤◌, ◌++◌, ◌^◌, List, [], ◌∷◌, IfOk, OnOk, length, take};
+ghost use Rattle.js_tree.specs.Trees.{program_of};
+ghost use Rattle.js_names.specs.declared.code.Code.{Code as CodeOf};
+ghost use Rattle.js_names.specs.Code.{tree_in, trees_of};
 ghost use Rattle.widget_meaning.specs.Alone.{call_parts};
-ghost use Rattle.page_load.specs.Queues.{IsQueued, IsScriptIn, go_works, libraries_works, library_works, program_with};
+ghost use Rattle.page_load.specs.Queues.{IsQueued, IsScriptIn, go_works, libraries_works, library_works, program_with, programs_of};
 
 use crate::opening::handed;
 use code_units::Memory;
@@ -12,15 +13,8 @@ use life_queue::{Script, Work};
 use std::alloc::Global;
 use std::collections::VecDeque;
 
-/// No memory holds so many libraries of one widget.
-const MOST_LIBRARIES: usize = 0x8000_0000;
-
-/// The scripts of a widget: the places of its libraries among those of the page, and the number of its last script.
-#[derive(Drop)]
-pub(crate) struct Scripts {
-    pub(crate) libs: Vec<u32>,
-    pub(crate) code: u32,
-}
+/// No memory holds more scripts of one widget.
+const MOST_SCRIPTS: usize = 0x8000_0000;
 
 // What the script with a number hands over.
 fn script_with(codes: &[Code], n: u32) -> Result<Option<Script>, Memory>
@@ -62,46 +56,31 @@ fn push_go(codes: &[Code], n: u32, queue: &mut VecDeque<Work>) -> Result<(), Mem
     Ok(())
 }
 
-// The load turns of libraries come behind a queue.
-fn push_libraries(codes: &[Code], libs: &[u32], queue: &mut VecDeque<Work>) -> Result<(), Memory>
+// The load turns of the first so many scripts come behind a queue.
+fn push_libraries(codes: &[Code], many: u32, queue: &mut VecDeque<Work>) -> Result<(), Memory>
+    requires { many ≤ length codes.now }
     ensures { OnOk result (IsQueued (trees_of codes.now) queue.old.items queue.new.items
-        (libraries_works (map (program_with codes.now) libs.now))) }
+        (libraries_works (programs_of (take many codes.now)))) }
 {
-    'libs: for n in libs {
-        push_library(codes, *n, queue)?;
+    'libs: for n in 0..many {
+        push_library(codes, n, queue)?;
     }
     Ok(())
 }
 
-// Whether all places are below a number.
-fn are_below(places: &[u32], many: usize) -> bool
-    ensures { result ≡ true → AllByRecursion (λ place. place < many) places.now }
+/// The load turns of a widget with these scripts, of which the last is its own.
+pub(crate) fn load_turns(alloc: Global, codes: &[Code]) -> Result<VecDeque<Work>, Memory>
+    requires { 0 < length codes.now }
+    ensures queued { IfOk result (λ queue. (libs : List CodeOf) (script : CodeOf) → codes.now ≡ libs ++ script ∷ []
+        → IsQueued (trees_of codes.now) [] queue.items (libraries_works (programs_of libs) ++ go_works (call_parts (program_of (tree_in script))))) }
+    ensures few { OnOk result (length codes.now ≤ 2 ^ 31) }
 {
-    'places: for place in places {
-        if *place as usize >= many {
-            return false;
-        }
-    }
-    true
-}
-
-/// The load turns of a widget, over so many libraries of its page.
-pub(crate) fn load_turns(
-    alloc: Global,
-    codes: &[Code],
-    many: usize,
-    scripts: &Scripts,
-) -> Result<VecDeque<Work>, Memory>
-    ensures queued { IfOk result (λ queue. IsQueued (trees_of codes.now) [] queue.items
-        (libraries_works (map (program_with codes.now) scripts.now.libs.items) ++ go_works (call_parts (program_with codes.now scripts.now.code)))) }
-    ensures below { OnOk result (AllByRecursion (λ place. place < many) scripts.now.libs.items) }
-    ensures few { OnOk result (length scripts.now.libs.items < 2 ^ 31) }
-{
-    if scripts.libs.len() >= MOST_LIBRARIES || !are_below(&scripts.libs, many) {
+    if codes.len() > MOST_SCRIPTS {
         return Err(Memory);
     }
+    let last = (codes.len() - 1) as u32;
     let mut queue = VecDeque::new(alloc);
-    push_libraries(codes, &scripts.libs, &mut queue)?;
-    push_go(codes, scripts.code, &mut queue)?;
+    push_libraries(codes, last, &mut queue)?;
+    push_go(codes, last, &mut queue)?;
     Ok(queue)
 }

@@ -10,14 +10,15 @@ use Rattle.turn_calls.specs.declared.turn.Turn.{Turn}
 use Rattle.life_queue.specs.declared.life.Life.{Life}
 use Rattle.life_queue.specs.declared.life.Work.{Work}
 use Rattle.life_queue.specs.Lives.{going_of, life_seen, trees_in, work_of}
-use Rattle.slot_picks.specs.Places.{seen_at}
+use Rattle.slot_picks.specs.declared.crowd.Place.{Place}
+use Rattle.slot_picks.specs.Places.{lent, seen_at}
 use Rattle.slot_picks.proofs.Others.{seen_life, seen_none}
 
-pub ready_none : (h : Shared) (w : ℕ) (l : Life) → l.accepted ≡ false → false ≡ ready (seen_at h w l)
-ready_none h w l e = sym (ap ready (seen_none h w l e))
+pub ready_none : (h : Shared) (w : ℕ) (p : Place) → p.life.accepted ≡ false → false ≡ ready (seen_at h w p)
+ready_none h w p e = sym (ap ready (seen_none h w p e))
 
-pub ready_life : (h : Shared) (w : ℕ) (l : Life) (b : Bool) → l.accepted ≡ true → b ≡ ready (life_seen h w l) → b ≡ ready (seen_at h w l)
-ready_life h w l b e f = f ∙ sym (ap ready (seen_life h w l e))
+pub ready_life : (h : Shared) (w : ℕ) (p : Place) (b : Bool) → p.life.accepted ≡ true → b ≡ ready (life_seen (lent h p) w p.life) → b ≡ ready (seen_at h w p)
+ready_life h w p b e f = f ∙ sym (ap ready (seen_life h w p e))
 
 some_map : (o : Option Turn) (f : Turn → Going) → is_some (option_map f o) ≡ is_some o
 some_map None f = refl

@@ -37,13 +37,13 @@ module _ (w k : ℕ) (r : Picked) (c d : Crowd) (ss ts : List Slot) (p : PickedI
   slots_picked : length ts ≡ length ss
   slots_picked = sym (chains_length ts) ∙ (ap length p.set ∙ (set_length (chains_of ss) w p.left ∙ chains_length ss))
 
-  pub housed_picked : (born : ℕ) → FineCrowd d → homes_of d.lives.items ≡ homes_of c.lives.items → AreHoused born c ss → AreHoused born d ts
+  pub housed_picked : (born : ℕ) → FineCrowd d → homes_of d.places.items ≡ homes_of c.places.items → AreHoused born c ss → AreHoused born d ts
   housed_picked born fine homes h = record {
     crowd = fine;
     slots = omega (arith, slots_picked, h.slots);
     few = h.few;
-    chains = subst (λ hs. Chains hs born 0 (chains_of ts)) (sym homes) (chains_picked (homes_of c.lives.items) born w k r (chains_of ss) (chains_of ts) (seens_of c) (seens_of d) c.journal.items d.journal.items h.chains p);
-    unspent = unspent_picked (homes_of c.lives.items) born w k r (chains_of ss) (chains_of ts) (seens_of c) (seens_of d) c.journal.items d.journal.items h.chains p h.unspent;
+    chains = subst (λ hs. Chains hs born 0 (chains_of ts)) (sym homes) (chains_picked (homes_of c.places.items) born w k r (chains_of ss) (chains_of ts) (seens_of c) (seens_of d) c.journal.items d.journal.items h.chains p);
+    unspent = unspent_picked (homes_of c.places.items) born w k r (chains_of ss) (chains_of ts) (seens_of c) (seens_of d) c.journal.items d.journal.items h.chains p h.unspent;
     joined = p.slot.joined h.joined;
     rest = rest_after w k r (chains_of ss) (chains_of ts) (seens_of c) (seens_of d) c.journal.items d.journal.items p h.rest;
   }
@@ -53,6 +53,6 @@ module _ (w k : ℕ) (r : Picked) (c d : Crowd) (ss ts : List Slot) (p : PickedI
   lasts_picked = ap (map last_life) p.set ∙ lasts_set (chains_of ss) w p.lives p.left p.at (ap last_life p.slot.left_is ∙ (sym (last_behind p.slot.ended p.slot.life p.slot.waiting) ∙ sym (ap last_life p.slot.are)))
 
 -- by the answer of the pick
-pub housed_after : {E : Type 0} (w k : ℕ) (c d : Crowd) (ss ts : List Slot) (r : Result Picked E) → IfOk r (λ x. PickedIn w k x (chains_of ss) (chains_of ts) (seens_of c) (seens_of d) c.journal.items d.journal.items) → OnOk r (FineCrowd d) → homes_of d.lives.items ≡ homes_of c.lives.items → OnOk r ((born : ℕ) → AreHoused born c ss → AreHoused born d ts)
+pub housed_after : {E : Type 0} (w k : ℕ) (c d : Crowd) (ss ts : List Slot) (r : Result Picked E) → IfOk r (λ x. PickedIn w k x (chains_of ss) (chains_of ts) (seens_of c) (seens_of d) c.journal.items d.journal.items) → OnOk r (FineCrowd d) → homes_of d.places.items ≡ homes_of c.places.items → OnOk r ((born : ℕ) → AreHoused born c ss → AreHoused born d ts)
 housed_after w k c d ss ts (Ok r) p fine homes = λ born h. housed_picked w k r c d ss ts p born fine homes h
 housed_after w k c d ss ts (Err e) p fine homes = tt

@@ -12,6 +12,7 @@ use Rattle.turn_calls.specs.declared.turn.Turn.{Turn}
 use Rattle.life_queue.specs.declared.life.Life.{Life}
 use Rattle.life_queue.specs.Lives.{going_of, life_seen, own_of, trees_in}
 use Rattle.life_queue.specs.Fine.{FineLife, FineTurn, held_back}
+use Rattle.slot_picks.specs.declared.crowd.Place.{Place}
 use Rattle.slot_picks.specs.Places.{seens_from}
 use Rattle.slot_picks.proofs.Others.{seen_none, seens_at}
 
@@ -46,7 +47,7 @@ set_same (x ∷ ss) zero s e = let same : x ≡ s = cc in ap (λ y. y ∷ ss) sa
 set_same (x ∷ ss) (suc i) s e = ap (λ ys. x ∷ ys) (set_same ss i s e)
 
 -- where no file was accepted
-pub idle_kept : (h : Shared) (v k : ℕ) (ls : List Life) (a : Life) (js : List PickEntry) → slice_get ls v ≡ Some a → a.accepted ≡ false → Kept v k picked.Idle (seens_from h 0 ls) (seens_from h 0 ls) js js
+pub idle_kept : (h : Shared) (v k : ℕ) (ls : List Place) (a : Place) (js : List PickEntry) → slice_get ls v ≡ Some a → a.life.accepted ≡ false → Kept v k picked.Idle (seens_from h 0 ls) (seens_from h 0 ls) js js
 idle_kept h v k ls a js at refused =
     let here : slice_get (seens_from h 0 ls) v ≡ Some (flag false) = seens_at h 0 v v ls a (omega arith) at ∙ ap Some (seen_none h v a refused) in
     record {

@@ -1,27 +1,40 @@
 //! The lives of all places: one is picked, and its pick is kept.
-ghost use Rattle.std.specs.Prelude.{◌≡◌, ℕ, ◌<◌, ◌≤◌, ◌++◌, [], ◌∷◌, IfOk, OnOk, Some, true, length, slice_get};
+ghost use Rattle.std.specs.Prelude.{◌≡◌, ℕ, ◌<◌, ◌≤◌, ◌++◌, [], ◌∷◌, IfOk, None, OnErr, OnOk, Some, true, length, slice_get};
 ghost use Rattle.life_laws.specs.Life.{Seen, image};
 ghost use Rattle.pick_laws.specs.Journal.{Kept, PickedAt, journal_room, kept};
 ghost use Rattle.turn_calls.specs.declared.turn.Shared.{Shared as SharedOf};
-ghost use Rattle.life_queue.specs.declared.life.Life.{Life as LifeOf};
-ghost use Rattle.life_queue.specs.Fine.{FineLife};
+ghost use Rattle.life_queue.specs.Fine.{FineLife, KeepsLife};
 ghost use Rattle.life_queue.specs.Lives.{life_seen};
+ghost use Rattle.life_picks.specs.Picking.{PicksLife};
+ghost use Rattle.slot_picks.specs.declared.crowd.Place.{Place as PlaceOf};
 ghost use Rattle.slot_picks.specs.Crowds.{FewCrowd, FineCrowd, KeepsCrowd, seens_of};
+ghost use Rattle.slot_picks.specs.Places.{lent};
 
 use code_units::Memory;
+use js_names::Code;
 use life_picks::pick_life;
 use life_queue::Life;
 use pick_laws::{PickEntry, Picked};
 use std::alloc::Global;
 use std::collections::VecDeque;
+use std::mem::swap;
 use turn_calls::Shared;
 
+/// A life in its place, with the trees of its own scripts: those of the libraries that its file names, in
+/// their order, and then that of its last script.
+#[derive(Drop)]
+pub struct Place {
+    pub life: Life,
+    pub codes: Vec<Code>,
+}
+
 /// The lives of all places with all that they share, and the picks that are kept of them. The place of a
-/// life is its number as an owner.
+/// life is its number as an owner. While a life is picked, the trees of its own scripts, and no others, are
+/// lent to what is shared.
 #[derive(Drop)]
 pub struct Crowd {
     pub shared: Shared,
-    pub lives: Vec<Life>,
+    pub places: Vec<Place>,
     /// The last picks that were not idle.
     pub journal: VecDeque<PickEntry>,
 }
@@ -42,12 +55,12 @@ fn spent_of(life: &Life) -> u64
 
 /// What the life in this place has spent.
 pub fn spent_at(crowd: &Crowd, v: u32) -> u64
-    requires there { v < length crowd.now.lives.items }
-    requires accepted { (l : LifeOf) → slice_get crowd.now.lives.items v ≡ Some l → l.accepted ≡ true }
+    requires there { v < length crowd.now.places.items }
+    requires accepted { (p : PlaceOf) → slice_get crowd.now.places.items v ≡ Some p → p.life.accepted ≡ true }
     requires fine { FineCrowd crowd.now }
     ensures { (s : Seen) → slice_get (seens_of crowd.now) v ≡ Some s → result ≡ (image s).spent }
 {
-    spent_of(&crowd.lives[v as usize])
+    spent_of(&crowd.places[v as usize].life)
 }
 
 // One entry more; of a full journal the oldest is dropped.
@@ -63,26 +76,47 @@ fn keep(journal: &mut VecDeque<PickEntry>, entry: PickEntry) -> Result<(), Memor
     Ok(())
 }
 
-// One life is picked.
-fn pick_one(alloc: Global, crowd: &mut Crowd, v: u32, k: u32) -> Result<Picked, Memory>
-    requires there { v < length crowd.old.lives.items }
+// A life is picked over the trees of its own scripts.
+fn pick_lent(
+    alloc: Global,
+    shared: &mut Shared,
+    place: &mut Place,
+    k: u32,
+) -> Result<Picked, Memory>
+    requires widget { place.old.life.widget.number < 32 }
     requires slice { 0 < k }
-    requires accepted { (l : LifeOf) → slice_get crowd.old.lives.items v ≡ Some l → l.accepted ≡ true }
+    requires fine { FineLife (lent shared.old place.old) place.old.life.widget.number place.old.life }
+    ensures picked { IfOk result (λ r. PicksLife (lent shared.old place.old) (lent shared.new place.new) place.old.life.widget.number k r place.old.life place.new.life) }
+    ensures kept { KeepsLife place.old.life.widget.number (lent shared.old place.old) (lent shared.new place.new) place.old.life place.new.life }
+    ensures none { OnErr result (place.new.life.turn ≡ None) }
+    ensures rest { shared.new.codes ≡ shared.old.codes }
+{
+    swap(&mut shared.codes, &mut place.codes);
+    let picked = pick_life(alloc, shared, &mut place.life, k);
+    swap(&mut shared.codes, &mut place.codes);
+    picked
+}
+
+// The life in a place is picked.
+fn pick_one(alloc: Global, crowd: &mut Crowd, v: u32, k: u32) -> Result<Picked, Memory>
+    requires there { v < length crowd.old.places.items }
+    requires slice { 0 < k }
+    requires accepted { (p : PlaceOf) → slice_get crowd.old.places.items v ≡ Some p → p.life.accepted ≡ true }
     requires fine { FineCrowd crowd.old }
     ensures picked { IfOk result (λ r. PickedAt v k r (seens_of crowd.old) (seens_of crowd.new)) }
     ensures fine { OnOk result (FineCrowd crowd.new) }
     ensures few { OnOk result ((n : ℕ) → FewCrowd n crowd.old → FewCrowd n crowd.new) }
-    ensures accepted { (l : LifeOf) → slice_get crowd.new.lives.items v ≡ Some l → l.accepted ≡ true }
-    ensures length { length crowd.new.lives.items ≡ length crowd.old.lives.items }
+    ensures accepted { (p : PlaceOf) → slice_get crowd.new.places.items v ≡ Some p → p.life.accepted ≡ true }
+    ensures length { length crowd.new.places.items ≡ length crowd.old.places.items }
     ensures journal { crowd.new.journal.items ≡ crowd.old.journal.items }
     ensures stays { KeepsCrowd crowd.old crowd.new }
 {
-    pick_life(alloc, &mut crowd.shared, &mut crowd.lives[v as usize], k)
+    pick_lent(alloc, &mut crowd.shared, &mut crowd.places[v as usize], k)
 }
 
 /// One place is picked, and its pick is kept. Where no file was accepted there is nothing to do.
 pub(crate) fn pick_kept(alloc: Global, crowd: &mut Crowd, v: u32, k: u32) -> Result<Picked, Memory>
-    requires there { v < length crowd.old.lives.items }
+    requires there { v < length crowd.old.places.items }
     requires slice { 0 < k }
     requires fine { FineCrowd crowd.old }
     ensures kept { IfOk result (λ r. Kept v k r (seens_of crowd.old) (seens_of crowd.new) crowd.old.journal.items crowd.new.journal.items) }
@@ -90,7 +124,7 @@ pub(crate) fn pick_kept(alloc: Global, crowd: &mut Crowd, v: u32, k: u32) -> Res
     ensures few { OnOk result ((n : ℕ) → FewCrowd n crowd.old → FewCrowd n crowd.new) }
     ensures stays { KeepsCrowd crowd.old crowd.new }
 {
-    if !crowd.lives[v as usize].accepted {
+    if !crowd.places[v as usize].life.accepted {
         return Ok(Picked::Idle);
     }
     let before = spent_at(crowd, v);

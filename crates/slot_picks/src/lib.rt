@@ -7,7 +7,7 @@ mod ready;
 mod settling;
 mod slots;
 
-pub use crowd::{Crowd, spent_at};
+pub use crowd::{Crowd, Place, spent_at};
 pub use ready::ready_slots;
 pub use settling::settle_slots;
 pub use slots::{Slot, pick_slot, present};

@@ -10,7 +10,7 @@ ghost use Rattle.slot_picks.specs.declared.slots.Slot.{Slot as SlotOf};
 ghost use Rattle.slot_picks.specs.Crowds.{AreHoused, chains_of, seens_of};
 ghost use Rattle.slot_picks.specs.Places.{seen_at, seens_from};
 
-use crate::crowd::Crowd;
+use crate::crowd::{Crowd, Place};
 use crate::slots::{Slot, present};
 use code_units::Memory;
 use life_queue::Life;
@@ -24,23 +24,23 @@ fn is_busy(life: &Life) -> bool
 }
 
 // Whether there is something to do in a place.
-fn is_ready(life: &Life) -> bool
-    ensures { (h : SharedOf) (w : ℕ) → result ≡ ready (seen_at h w life.now) }
+fn is_ready(place: &Place) -> bool
+    ensures { (h : SharedOf) (w : ℕ) → result ≡ ready (seen_at h w place.now) }
 {
-    life.accepted && is_busy(life)
+    place.life.accepted && is_busy(&place.life)
 }
 
 // Whether a slot with these lives is ready.
-fn slot_is_ready(lives: &[Life], slot: &[u32]) -> bool
+fn slot_is_ready(places: &[Place], slot: &[u32]) -> bool
     requires some { 0 < length slot.now }
-    requires there { Each (λ v. v < length lives.now) slot.now }
-    ensures { (h : SharedOf) → result ≡ slot_ready (seens_from h 0 lives.now) slot.now }
+    requires there { Each (λ v. v < length places.now) slot.now }
+    ensures { (h : SharedOf) → result ≡ slot_ready (seens_from h 0 places.now) slot.now }
 {
     if slot.len() > 1 {
         return true;
     }
     let v = present(slot);
-    is_ready(&lives[v as usize])
+    is_ready(&places[v as usize])
 }
 
 // Whether this slot is ready.
@@ -49,7 +49,7 @@ fn is_ready_at(crowd: &Crowd, slots: &[Slot], w: usize) -> bool
     requires housed { (born : ℕ) × AreHoused born crowd.now slots.now }
     ensures { (s : SlotOf) → slice_get slots.now w ≡ Some s → result ≡ slot_ready (seens_of crowd.now) s.lives.items }
 {
-    slot_is_ready(&crowd.lives, &slots[w].lives)
+    slot_is_ready(&crowd.places, &slots[w].lives)
 }
 
 // A number that is ready is kept.

@@ -25,7 +25,7 @@ pub fn settle_slots<C: Chooser>(
 ) -> Result<(), Memory>
     requires slice { 0 < slice }
     requires housed { (born : ℕ) × AreHoused born crowd.old slots.old.items }
-    ensures settled { OnOk result (SettledSlots slice (homes_of crowd.old.lives.items) (chains_of slots.old.items) (chains_of slots.new.items) (seens_of crowd.old) (seens_of crowd.new) crowd.old.journal.items crowd.new.journal.items (C.asks chooser.old) (C.room chooser.old) (C.asks chooser.new) (C.room chooser.new)) }
+    ensures settled { OnOk result (SettledSlots slice (homes_of crowd.old.places.items) (chains_of slots.old.items) (chains_of slots.new.items) (seens_of crowd.old) (seens_of crowd.new) crowd.old.journal.items crowd.new.journal.items (C.asks chooser.old) (C.room chooser.old) (C.asks chooser.new) (C.room chooser.new)) }
     ensures done { OnOk result (map image (seens_of crowd.new) ≡ map due (seens_of crowd.old)) }
     ensures quiet { OnOk result (ready_from 0 (slot_flags (seens_of crowd.new) (chains_of slots.new.items)) ≡ []) }
     ensures lasts { OnOk result (chains_of slots.new.items ≡ map (λ c. last_life c ∷ []) (chains_of slots.old.items)) }

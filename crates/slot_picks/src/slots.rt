@@ -43,7 +43,7 @@ fn end_present(slot: &mut Slot)
 fn pick_along(alloc: Global, crowd: &mut Crowd, slot: &mut Slot, k: u32) -> Result<Picked, Memory>
     requires slice { 0 < k }
     requires some { 0 < length slot.old.lives.items }
-    requires there { Each (λ v. v < length crowd.old.lives.items) slot.old.lives.items }
+    requires there { Each (λ v. v < length crowd.old.places.items) slot.old.lives.items }
     requires rising { Rising slot.old.lives.items }
     requires fine { FineCrowd crowd.old }
     ensures picked { IfOk result (λ r. PickedSlot k r slot.old.lives.items (seens_of crowd.old) (seens_of crowd.new) crowd.old.journal.items crowd.new.journal.items slot.new.lives.items) }

@@ -11,7 +11,7 @@ use Rattle.slot_picks.proofs.crowd.pick_kept.Goals as goal
 
 pub returns-then-not-index-clause-kept : goal.returns-then-not-index-clause-kept
 returns-then-not-index-clause-kept c =
-    let ls = c.args.crowd.now.lives.items in
+    let ls = c.args.crowd.now.places.items in
     let at : slice_get ls c.args.v ≡ Some c.index.result.now = slice_get_read ls (length ls) c.args.v c.index.result.now refl c.requires.there c.index.ensures in
     idle_kept c.args.crowd.now.shared c.args.v c.args.k ls c.index.result.now c.args.crowd.now.journal.items at c.if-not-index.true
 
@@ -20,13 +20,13 @@ returns-then-not-index-clause-stays c = keeps_here c.args.crowd.now
 
 pub spent_at-before-requires-clause-accepted : goal.spent_at-before-requires-clause-accepted
 spent_at-before-requires-clause-accepted c =
-    let ls = c.args.crowd.now.lives.items in
+    let ls = c.args.crowd.now.places.items in
     let at : slice_get ls c.args.v ≡ Some c.index.result.now = slice_get_read ls (length ls) c.args.v c.index.result.now refl c.requires.there c.index.ensures in
     λ l e. same_accepted _ c.index.result.now l at e c.if-not-index.false
 
 pub pick_one-requires-clause-accepted : goal.pick_one-requires-clause-accepted
 pick_one-requires-clause-accepted c =
-    let ls = c.args.crowd.now.lives.items in
+    let ls = c.args.crowd.now.places.items in
     let at : slice_get ls c.args.v ≡ Some c.index.result.now = slice_get_read ls (length ls) c.args.v c.index.result.now refl c.requires.there c.index.ensures in
     λ l e. same_accepted _ c.index.result.now l at e c.if-not-index.false
 

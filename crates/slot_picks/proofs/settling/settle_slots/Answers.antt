@@ -16,7 +16,7 @@ use Rattle.slot_picks.proofs.settling.settle_slots.Goals as goal
 
 pub picks-init : goal.picks-init
 picks-init g c = record {
-  settled = slots_none c.args.slice (homes_of c.args.crowd.now.lives.items) (chains_of c.args.slots.now.items) (seens_of c.args.crowd.now) c.args.crowd.now.journal.items _ _;
+  settled = slots_none c.args.slice (homes_of c.args.crowd.now.places.items) (chains_of c.args.slots.now.items) (seens_of c.args.crowd.now) c.args.crowd.now.journal.items _ _;
   housed = λ born h. h;
   few = λ n h. h;
   stays = keeps_here c.args.crowd.now;
@@ -40,7 +40,7 @@ returns-then-is_empty g c =
       settled = c.picks.invariant.settled;
       done = all_done (chains_of c.picks.slots.items) (seens_of c.picks.crowd) quiet h.rest ∙ c.picks.invariant.settled.went.dues;
       quiet = quiet;
-      lasts = only_lasts (homes_of c.picks.crowd.lives.items) born (seens_of c.picks.crowd) (chains_of c.args.slots.now.items) (chains_of c.picks.slots.items) h.chains quiet c.picks.invariant.lasts;
+      lasts = only_lasts (homes_of c.picks.crowd.places.items) born (seens_of c.picks.crowd) (chains_of c.args.slots.now.items) (chains_of c.picks.slots.items) h.chains quiet c.picks.invariant.lasts;
       housed = c.picks.invariant.housed;
       few = c.picks.invariant.few;
       stays = c.picks.invariant.stays;
@@ -85,7 +85,7 @@ pub picks-preserved : goal.picks-preserved
 picks-preserved g c =
     let born = c.requires.housed.0 in
     let h = c.picks.invariant.housed born c.requires.housed.1 in
-    let homes = homes_of c.args.crowd.now.lives.items in
+    let homes = homes_of c.args.crowd.now.places.items in
     let cs = chains_of c.picks.slots.items in
     let xs = c.in_ok-ready.ready.items in
     let list = listed c.picks.crowd c.in_ok-ready.ready.items c.picks.slots.items c.deref.result.now c.deref.ensures.value c.in_ok-ready.ensures in

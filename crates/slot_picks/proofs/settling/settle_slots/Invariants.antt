@@ -8,7 +8,7 @@ use Rattle.slot_picks.proofs.settling.settle_slots.Given as goal
 
 abbrev pub invariant-picks : goal.invariant-picks
 invariant-picks g l = record {
-  settled : SettledSlots l.slice (homes_of l.initial.crowd.lives.items) (chains_of l.initial.slots.items) (chains_of l.slots.items) (seens_of l.initial.crowd) (seens_of l.crowd) l.initial.crowd.journal.items l.crowd.journal.items (g.C.Chooser.asks l.initial.chooser) (g.C.Chooser.room l.initial.chooser) (g.C.Chooser.asks l.chooser) (g.C.Chooser.room l.chooser);
+  settled : SettledSlots l.slice (homes_of l.initial.crowd.places.items) (chains_of l.initial.slots.items) (chains_of l.slots.items) (seens_of l.initial.crowd) (seens_of l.crowd) l.initial.crowd.journal.items l.crowd.journal.items (g.C.Chooser.asks l.initial.chooser) (g.C.Chooser.room l.initial.chooser) (g.C.Chooser.asks l.chooser) (g.C.Chooser.room l.chooser);
   housed : (born : ℕ) → AreHoused born l.initial.crowd l.initial.slots.items → AreHoused born l.crowd l.slots.items;
   few : (n : ℕ) → FewCrowd n l.initial.crowd → FewCrowd n l.crowd;
   stays : KeepsCrowd l.initial.crowd l.crowd;

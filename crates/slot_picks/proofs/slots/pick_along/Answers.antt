@@ -18,7 +18,7 @@ lives-init c = record {
 pub pick_kept-requires-clause-there : goal.pick_kept-requires-clause-there
 pick_kept-requires-clause-there c =
     let here = present_is c.deref.result.now c.lives.slot.lives.items c.present-v.result c.deref.ensures.value c.present-v.ensures in
-    let n : c.present-v.result < length c.args.crowd.now.lives.items = is_there (λ v. v < length c.args.crowd.now.lives.items) c.args.slot.now.lives.items c.lives.invariant.passed.ended c.lives.slot.lives.items (drop 1 c.lives.slot.lives.items) c.present-v.result c.requires.there c.lives.invariant.passed.are here in
+    let n : c.present-v.result < length c.args.crowd.now.places.items = is_there (λ v. v < length c.args.crowd.now.places.items) c.args.slot.now.lives.items c.lives.invariant.passed.ended c.lives.slot.lives.items (drop 1 c.lives.slot.lives.items) c.present-v.result c.requires.there c.lives.invariant.passed.are here in
     omega (arith, n, c.requires.fine.places, c.lives.invariant.fine.places)
 
 pub returns-in_default : goal.returns-in_default

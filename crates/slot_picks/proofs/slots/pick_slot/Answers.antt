@@ -12,20 +12,20 @@ pub pick_along-requires-clause-some : goal.pick_along-requires-clause-some
 pick_along-requires-clause-some c =
     let ss = c.args.slots.now.items in
     let at : slice_get ss c.args.w ≡ Some c.index_mut.result.now = slice_get_read ss (length ss) c.args.w c.index_mut.result.now refl c.requires.there c.index_mut.ensures.value in
-    (chain_of (homes_of c.args.crowd.now.lives.items) c.requires.housed.0 c.args.w ss c.index_mut.result.now at c.requires.housed.1.chains).some
+    (chain_of (homes_of c.args.crowd.now.places.items) c.requires.housed.0 c.args.w ss c.index_mut.result.now at c.requires.housed.1.chains).some
 
 pub pick_along-requires-clause-there : goal.pick_along-requires-clause-there
 pick_along-requires-clause-there c =
     let ss = c.args.slots.now.items in
     let at : slice_get ss c.args.w ≡ Some c.index_mut.result.now = slice_get_read ss (length ss) c.args.w c.index_mut.result.now refl c.requires.there c.index_mut.ensures.value in
-    each_map (λ v. v < c.requires.housed.0) (λ v. v < length c.args.crowd.now.lives.items) c.index_mut.result.now.lives.items (λ x l. omega (arith, l, c.requires.housed.1.few, c.requires.housed.1.crowd.places))
-    (chain_of (homes_of c.args.crowd.now.lives.items) c.requires.housed.0 c.args.w ss c.index_mut.result.now at c.requires.housed.1.chains).below
+    each_map (λ v. v < c.requires.housed.0) (λ v. v < length c.args.crowd.now.places.items) c.index_mut.result.now.lives.items (λ x l. omega (arith, l, c.requires.housed.1.few, c.requires.housed.1.crowd.places))
+    (chain_of (homes_of c.args.crowd.now.places.items) c.requires.housed.0 c.args.w ss c.index_mut.result.now at c.requires.housed.1.chains).below
 
 pub pick_along-requires-clause-rising : goal.pick_along-requires-clause-rising
 pick_along-requires-clause-rising c =
     let ss = c.args.slots.now.items in
     let at : slice_get ss c.args.w ≡ Some c.index_mut.result.now = slice_get_read ss (length ss) c.args.w c.index_mut.result.now refl c.requires.there c.index_mut.ensures.value in
-    (chain_of (homes_of c.args.crowd.now.lives.items) c.requires.housed.0 c.args.w ss c.index_mut.result.now at c.requires.housed.1.chains).rising
+    (chain_of (homes_of c.args.crowd.now.places.items) c.requires.housed.0 c.args.w ss c.index_mut.result.now at c.requires.housed.1.chains).rising
 
 pub pick_along-requires-clause-fine : goal.pick_along-requires-clause-fine
 pick_along-requires-clause-fine c = c.requires.housed.1.crowd
