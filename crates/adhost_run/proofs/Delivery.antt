@@ -219,14 +219,14 @@ named_within (n ∷ ns) (suc w) x there = let r = named_within ns w x there in o
 
 module _ (spec : PageSpec) (old new : Host) (i : HostItem) (gives : GivesItem i old new) (names : List (List ℕ)) (are : are_slots names ≡ true) (alone : chains old ≡ singles 0 (length names)) (its : IsFor (length names) (said_of i)) where
   one_due : (w : ℕ) (x : List ℕ) (fuel : ℕ) (gs : List Given) (o : Option Content) → slice_get names w ≡ Some x → IsDue old w (option_map (λ (c : Content). alone_on x c fuel gs) o) → IsDue new w (option_map (λ (c : Content). alone_on x c fuel (gs ++ given_by names (said_of i) ∷ [])) o)
-  one_due w x fuel gs None there is = gives.accepts w ∙ is
+  one_due w x fuel gs None there is = gives.stays.accepts w ∙ is
   one_due w x fuel gs (Some c) there is =
       let f = life_due old i (seens new) (seens old) 0 w is.1.0 gives.dues is.1.1 in
       let e : 0 + w ≡ w = omega arith in
       let b = reaches old i w in
       let came : due f.0 ≡ (if b then item (due is.1.0) (item_of i) else due is.1.0) = f.2 ∙ ap (λ n. if reaches old i n then item (due is.1.0) (item_of i) else due is.1.0) e in
       let goes = reached old i names w x are there (named_within names w x there) alone is.0 its in
-      (gives.accepts w ∙ is.0, (f.0, f.1, came ∙ ap (λ o. if b then item o (item_of i) else o) is.1.2 ∙ takes x c fuel gs (given_by names (said_of i)) b (item_of i) goes))
+      (gives.stays.accepts w ∙ is.0, (f.0, f.1, came ∙ ap (λ o. if b then item o (item_of i) else o) is.1.2 ∙ takes x c fuel gs (given_by names (said_of i)) b (item_of i) goes))
 
   dues_given : (ss : List SlotSpec) (v : ℕ) (gs : List Given) → AreFrom names v ss → AreDue old v (map (ended spec gs) ss) → AreDue new v (map (ended spec (gs ++ given_by names (said_of i) ∷ [])) ss)
   dues_given [] v gs from dues = tt

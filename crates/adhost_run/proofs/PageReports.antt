@@ -29,7 +29,7 @@ use Rattle.adhost_run.specs.Answer.{ending, given_to, RunAnswer, page_report}
 use Rattle.adhost_run.specs.Played.{name_of, ended, given_all, IsPlayed, ArePaired, lines_of, AreTold, AppendsPage}
 use Rattle.adhost_run.specs.Stage.{IsSettled, IsStage}
 use Rattle.adhost_run.proofs.Paged.{first_names, as_many_named}
-use Rattle.adhost_run.proofs.PlayedLemmas.{all_ends, all_flags, all_paired, all_names}
+use Rattle.adhost_run.proofs.PlayedLemmas.{all_ends, all_flags, all_paired, all_names, played_scripts}
 
 sources_take : (n : ℕ) (xs : List SourceFile) → sources_of (take n xs) ≡ take n (sources_of xs)
 sources_take zero xs = refl
@@ -134,6 +134,7 @@ module _ (manifest : Manifest) (sources files libs : List SourceFile) (page : Ju
         subst (λ r. IsStage r (given_to manifest all) slice h) rs (subst (λ g. IsStage runs g slice h) given (record {
           settled = subst (λ n. IsSettled slice n h) (sym items_many) settled;
           slots = played.chains ∙ ap (singles 0) (sym many);
+          scripts = played_scripts page.spec items h runs page.refusals.items played judged.slots;
           ends = owns;
           lines = lines_of (map run_name runs) page.refusals.items owns;
           are = all_ends page.spec gs runs page.spec.slots.items page.refusals.items judged.slots;

@@ -1,5 +1,7 @@
 -- What a host has done with the page and the items that it was handed, and what is written of it.
 use Rattle.std.specs.Prelude.{◌≡◌, ◌<◌, ◌+◌, ℕ, List, [], ◌∷◌, ◌++◌, map, length, string_bytes, true, false, slice_get, Option, Some, None, option_map}
+use Rattle.js_tree.specs.declared.tree.Tree.{Tree}
+use Rattle.js_tree.specs.Trees.{program_of}
 use Rattle.plain_tree.specs.Trees.{PlainTrees}
 use Rattle.page_output.specs.Printing.{Prints}
 use Rattle.trace_text.specs.Report.{refused_life, page_line}
@@ -15,7 +17,7 @@ use Rattle.page_spec.specs.Pages.{piece_of}
 use Rattle.widget_host.specs.declared.host.Host.{Host}
 use Rattle.widget_host.specs.declared.items.HostItem.{HostItem}
 use Rattle.widget_host.specs.declared.items.HostItem.TheVariants as host
-use Rattle.widget_host.specs.Housed.{IsHoused, GivesItem, AreShown, chains, seens, accepts, present, singles, IsLaid}
+use Rattle.widget_host.specs.Housed.{IsHoused, GivesItem, AreShown, chains, seens, scripts, accepts, present, singles, IsLaid}
 use Rattle.adhost_run.specs.Run.{given_by, life_line, some_refused}
 
 -- the name of a slot
@@ -30,11 +32,16 @@ ended spec given s = option_map (λ (c : Content). alone_on s.name c s.fuel give
 abbrev pub given_all : PageSpec → List Said → List Given
 given_all spec items = map (given_by (map name_of spec.slots.items)) items
 
+-- these trees are the scripts of a widget: its libraries in order, and its last script
+abbrev pub AreScriptsOf : Content → List Tree → Type 0
+AreScriptsOf c ts = map program_of ts ≡ c.libraries ++ c.script ∷ []
+
 -- the host has loaded the page, and has done with these items
 pub record IsPlayed (spec : PageSpec) (items : List Said) (h : Host) : Type 0 where
   pub housed : IsHoused h
   pub chains : chains h ≡ singles 0 (length spec.slots.items)
   pub laid : IsLaid h (map name_of spec.slots.items) (map piece_of spec.pieces.items)
+  pub scripts : (w : ℕ) (s : SlotSpec) (c : Content) → slice_get spec.slots.items w ≡ Some s → content_of spec.libs.items s.content ≡ Some c → AreScriptsOf c (scripts h w)
   pub ends : AreShown h 0 (map (ended spec (given_all spec items)) spec.slots.items)
 
 -- what the life of a slot has still to come to, if it is accepted

@@ -1,40 +1,55 @@
 -- The host that a run leaves.
-use Rattle.std.specs.Prelude.{◌≡◌, ℕ, ◌<◌, List, [], All, length, false, Option, Some, None, Result, IfOk, IfSome}
+use Rattle.std.specs.Prelude.{◌≡◌, ℕ, ◌<◌, List, [], All, length, slice_get, true, false, Option, Some, None, Result, IfOk, IfSome}
+use Rattle.js_tree.specs.declared.tree.Tree.{Tree}
 use Rattle.host_io.specs.Files.{FileMap}
 use Rattle.manifest_reader.specs.declared.entry.Manifest.{Manifest}
 use Rattle.trace_reader.specs.declared.item.TraceItem.{TraceItem}
 use Rattle.slot_check.specs.Sources.{Source}
+use Rattle.life_laws.specs.Life.{Seen}
 use Rattle.pick_laws.specs.declared.entry.PickEntry.{PickEntry}
 use Rattle.pick_laws.specs.Journal.{ready_from, journal_room}
 use Rattle.pick_laws.specs.Order.{InOrder}
-use Rattle.slot_laws.specs.Settled.{slot_flags}
+use Rattle.slot_laws.specs.Chains.{Unspent}
+use Rattle.slot_laws.specs.Settled.{PickedOn, slot_flags}
 use Rattle.widget_meaning.specs.OwnState.{OwnState}
-use Rattle.widget_meaning.specs.Alone.{Given}
+use Rattle.widget_meaning.specs.Alone.{Content, Given}
 use Rattle.page_judge.specs.Runs.{SlotRun}
+use Rattle.page_judge.specs.Widgets.{HasWidget}
 use Rattle.widget_host.specs.declared.host.Host.{Host}
-use Rattle.widget_host.specs.Housed.{IsHoused, AreShown, chains, seens, journal, given, marked, singles}
+use Rattle.widget_host.specs.Housed.{IsHoused, AreShown, accepts, chains, seens, scripts, journal, given, marked, singles}
 use Rattle.adhost_run.specs.declared.reading.Stop.{Stop}
 use Rattle.adhost_run.specs.declared.reports.Report.{Report}
 use Rattle.adhost_run.specs.Request.{Request, Render, Replay, Demo, Asks}
 use Rattle.adhost_run.specs.Page.{file_limit, AreRead, HasManifest, slot_names, files_named, runs_of}
 use Rattle.adhost_run.specs.Steps.{HasItems}
 use Rattle.adhost_run.specs.Run.{AreEnds}
+use Rattle.adhost_run.specs.Played.{AreScriptsOf}
 use Rattle.adhost_run.specs.Demo.{demo_runs, demo_given}
 use Rattle.adhost_run.specs.Answer.{given_to}
 
--- a host that is whole and has done with so many items: no turn is in progress, every queue is empty, and each kept pick of its journal has this slice; where the journal is not full, its picks are in the order of round robin
+-- a host that is whole and has done with so many items: picks of this slice, one after the other, led to it from where nothing was spent, and their entries are its journal, each with this slice; where the journal is not full, the picks are in the order of round robin; no turn is in progress, and every queue is empty
 pub record IsSettled (slice items : ℕ) (h : Host) : Type 0 where
   pub housed : IsHoused h
   pub unmarked : marked h ≡ false
   pub count : given h ≡ items
+  pub before : List Seen
+  pub unspent : Unspent 0 before
+  pub picks : PickedOn slice (chains h) before [] (chains h) (seens h) (journal h)
   pub quiet : ready_from 0 (slot_flags (seens h) (chains h)) ≡ []
   pub slices : All (λ (e : PickEntry). e.slice ≡ slice) (journal h)
   pub order : length (journal h) < journal_room → InOrder None (journal h)
 
--- it has all slots of a page, each with one life, and their own states are those of the answer
+-- a slot has its widget, and these trees are its scripts
+pub record HasScripts (run : SlotRun) (ts : List Tree) : Type 0 where
+  pub content : Content
+  pub has : HasWidget run.slot content
+  pub are : AreScriptsOf content ts
+
+-- it has all slots of a page, each with one life; the scripts of an accepted life are those of its slot's files, and the own states are those of the answer
 pub record IsStage (runs : List SlotRun) (items : List Given) (slice : ℕ) (h : Host) : Type 0 where
   pub settled : IsSettled slice (length items) h
   pub slots : chains h ≡ singles 0 (length runs)
+  pub scripts : (w : ℕ) (run : SlotRun) → slice_get runs w ≡ Some run → accepts h w ≡ true → HasScripts run (scripts h w)
   pub ends : List (Option OwnState)
   pub lines : List ℕ
   pub are : AreEnds items runs ends lines

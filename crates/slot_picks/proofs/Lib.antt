@@ -1,6 +1,6 @@
 mod Others
 mod Owning
-mod Keeping
+pub mod Keeping
 mod Picking
 mod Spending
 mod Looping

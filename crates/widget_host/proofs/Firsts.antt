@@ -4,15 +4,16 @@ use Rattle.std.specs.Prelude.{slice_get, slice_index_or, ◌^◌}
 use Rattle.std.specs.Option.{option_map}
 use Rattle.std.proofs.lemmas.Option.{get_or_from_slice_get, slice_get-map}
 use Rattle.std.proofs.lemmas.List.{length-map, map-append}
+use Rattle.widget_meaning.specs.OwnState.{OwnState}
 use Rattle.widget_meaning.specs.Alone.{Content, beginning, loaded}
 use Rattle.life_laws.specs.Life.{Seen, due, image, ready}
 use Rattle.pick_laws.specs.Journal.{AllJoined}
 use Rattle.slot_laws.specs.Chains.{Chains, Rest, Unspent, listed}
 use Rattle.slot_laws.specs.Settled.{flag}
 use Rattle.turn_calls.specs.declared.turn.Shared.{Shared}
-use Rattle.life_queue.specs.declared.life.Life.{Life}
+use Rattle.slot_picks.specs.declared.crowd.Place.{Place}
 use Rattle.life_queue.specs.Lives.{life_seen}
-use Rattle.slot_picks.specs.Places.{FewPlace, FewPlaces, FinePlace, FinePlaces, OwnPlaces, accepts_of, homes_of, is_accepted, seen_at, seens_from}
+use Rattle.slot_picks.specs.Places.{FewPlace, FewPlaces, FinePlace, FinePlaces, OwnPlaces, accepts_of, homes_of, is_accepted, lent, seen_at, seens_from}
 use Rattle.slot_picks.specs.declared.slots.Slot.{Slot}
 use Rattle.slot_picks.specs.declared.crowd.Crowd.{Crowd}
 use Rattle.slot_picks.specs.Crowds.{AreHoused, chains_of, seens_of}
@@ -26,9 +27,10 @@ use Rattle.page_spec.specs.Contents.{content_of}
 use Rattle.page_spec.specs.Pages.{piece_of}
 use Rattle.page_load.specs.declared.loading.Loaded.{Loaded}
 use Rattle.page_load.specs.Homes.{homes_from, names_of}
-use Rattle.page_load.specs.Loads.{Begins, IsFirstLife, LoadsPage}
+use Rattle.page_load.specs.Loads.{Begins, HasScripts, IsFirstLife, LoadsPage}
 use Rattle.widget_host.specs.declared.host.Host.{Host}
-use Rattle.widget_host.specs.Housed.{IsApart, IsHoused, IsLaid, Loads, LoadsSlot, accepts, chains, given, homes, journal, marked, rooted, seens, singles}
+use Rattle.widget_host.specs.Housed.{IsApart, IsHoused, IsLaid, Loads, LoadsSlot, accepts, chains, channels, given, homes, journal, marked, rooted, scripts, seens, singles, swaps}
+use Rattle.widget_host.proofs.Reading.{scripts_at}
 
 no_true : false ≡ true → ⊥
 no_true e = cc
@@ -52,21 +54,21 @@ there (x ∷ xs) (suc n) lt = there xs n (omega (arith, lt))
 -- ## Places
 
 module _ (h : Shared) where
-  fine_from : (w : ℕ) (ls : List Life) → ((v : ℕ) (a : Life) → slice_get ls v ≡ Some a → (u : ℕ) → u ≡ w + v → FinePlace h u a) → FinePlaces h w ls
+  fine_from : (w : ℕ) (ls : List Place) → ((v : ℕ) (a : Place) → slice_get ls v ≡ Some a → (u : ℕ) → u ≡ w + v → FinePlace h u a) → FinePlaces h w ls
   fine_from w [] f = tt
   fine_from w (a ∷ ls) f = (f 0 a refl w (omega arith), fine_from (w + 1) ls (λ v b at u e. f (suc v) b at u (omega (arith, e))))
 
-  few_from : (n w : ℕ) (ls : List Life) → ((v : ℕ) (a : Life) → slice_get ls v ≡ Some a → (u : ℕ) → u ≡ w + v → FewPlace h n u a) → FewPlaces h n w ls
+  few_from : (n w : ℕ) (ls : List Place) → ((v : ℕ) (a : Place) → slice_get ls v ≡ Some a → (u : ℕ) → u ≡ w + v → FewPlace h n u a) → FewPlaces h n w ls
   few_from n w [] f = tt
   few_from n w (a ∷ ls) f = (f 0 a refl w (omega arith), few_from n (w + 1) ls (λ v b at u e. f (suc v) b at u (omega (arith, e))))
 
   -- each holds its own
-  pub own_fine : (w : ℕ) (ls : List Life) → FinePlaces h w ls → OwnPlaces h w ls
+  pub own_fine : (w : ℕ) (ls : List Place) → FinePlaces h w ls → OwnPlaces h w ls
   own_fine w [] f = tt
   own_fine w (a ∷ ls) f = (λ e. record { confined = (f.0 e).confined; holds = (f.0 e).sound.holds; turn = (f.0 e).turn }, own_fine (w + 1) ls f.1)
 
   -- what is seen of a place is seen of its life
-  life_of : (w : ℕ) (ls : List Life) (v : ℕ) (s : Seen) → slice_get (seens_from h w ls) v ≡ Some s → (a : Life) × (slice_get ls v ≡ Some a) × (s ≡ seen_at h (w + v) a)
+  life_of : (w : ℕ) (ls : List Place) (v : ℕ) (s : Seen) → slice_get (seens_from h w ls) v ≡ Some s → (a : Place) × (slice_get ls v ≡ Some a) × (s ≡ seen_at h (w + v) a)
   life_of w [] v s at = absurd (none_some at)
   life_of w (a ∷ ls) zero s at = (a, refl, some_some s (seen_at h w a) (sym at) ∙ ap (λ u. seen_at h u a) (here w))
     where
@@ -79,7 +81,7 @@ module _ (h : Shared) where
       next : (w v : ℕ) → w + 1 + v ≡ w + suc v
       next w v = omega arith
 
-  pub seens_long : (w : ℕ) (ls : List Life) → length (seens_from h w ls) ≡ length ls
+  pub seens_long : (w : ℕ) (ls : List Place) → length (seens_from h w ls) ≡ length ls
   seens_long w [] = refl
   seens_long w (a ∷ ls) = ap suc (seens_long (w + 1) ls)
 
@@ -130,14 +132,14 @@ module _ (spec : PageSpec) (l : Loaded) (loads : LoadsPage spec l) where
   abbrev h : Shared
   h = l.shared
 
-  abbrev lives : List Life
-  lives = l.lives.items
+  abbrev lives : List Place
+  lives = l.places.items
 
   -- an accepted life is that of a slot with its widget
-  begun : (v : ℕ) (a : Life) → slice_get lives v ≡ Some a → a.accepted ≡ true → (s : SlotSpec) × (c : Content) × (slice_get spec.slots.items v ≡ Some s) × (content_of spec.libs.items s.content ≡ Some c) × Begins h v s.fuel c a
+  begun : (v : ℕ) (a : Place) → slice_get lives v ≡ Some a → a.life.accepted ≡ true → (s : SlotSpec) × (c : Content) × (slice_get spec.slots.items v ≡ Some s) × (content_of spec.libs.items s.content ≡ Some c) × Begins h v s.fuel c a
   begun v a at is = by (slice_get spec.slots.items v) refl
     where
-      refused : a.accepted ≡ false → ⊥
+      refused : a.life.accepted ≡ false → ⊥
       refused e = no_true (sym e ∙ is)
 
       with_content : (s : SlotSpec) → slice_get spec.slots.items v ≡ Some s → (o : Option Content) → content_of spec.libs.items s.content ≡ o → IsFirstLife h v s.fuel o a → (s : SlotSpec) × (c : Content) × (slice_get spec.slots.items v ≡ Some s) × (content_of spec.libs.items s.content ≡ Some c) × Begins h v s.fuel c a
@@ -159,32 +161,46 @@ module _ (spec : PageSpec) (l : Loaded) (loads : LoadsPage spec l) where
   pub few_lives : FewPlaces h (2 ^ 31) 0 lives
   few_lives = few_from h (2 ^ 31) 0 lives (λ v a at u e is. (let g : v ≡ u = omega (arith, e) in subst (λ x. FewPlace h (2 ^ 31) x a) g (λ y. (begun v a at y).4.few) is))
 
-  life_at : (v : ℕ) → v < 20 → (a : Life) × (slice_get lives v ≡ Some a)
+  life_at : (v : ℕ) → v < 20 → (a : Place) × (slice_get lives v ≡ Some a)
   life_at v lt = there lives v (omega (arith, lt, loads.twenty))
 
   home_at : (v : ℕ) → v < 16 → slice_get (homes_of lives) v ≡ Some v
   home_at v lt =
       let a = life_at v (omega (arith, lt)) in
-      slice_get-map (λ (x : Life). x.slot) lives v ∙ ap (option_map (λ (x : Life). x.slot)) a.1 ∙ ap Some (loads.homes v a.0 a.1)
+      slice_get-map (λ (p : Place). p.life.slot) lives v ∙ ap (option_map (λ (p : Place). p.life.slot)) a.1 ∙ ap Some (loads.homes v a.0 a.1)
 
   pub chains_are : (cs : List (List ℕ)) → cs ≡ singles 0 (length spec.slots.items) → Chains (homes_of lives) 16 0 cs
   chains_are cs are = subst (Chains (homes_of lives) 16 0) (sym are) (chains_from (homes_of lives) (length spec.slots.items) 0 (omega (arith, loads.few)) home_at)
 
   pub homes_are : (v w : ℕ) → slice_get (homes_of lives) v ≡ Some w → w ≡ v
-  homes_are v w at = by (slice_get lives v) refl (sym (slice_get-map (λ (x : Life). x.slot) lives v) ∙ at)
+  homes_are v w at = by (slice_get lives v) refl (sym (slice_get-map (λ (p : Place). p.life.slot) lives v) ∙ at)
     where
-      by : (o : Option Life) → slice_get lives v ≡ o → option_map (λ (x : Life). x.slot) o ≡ Some w → w ≡ v
+      by : (o : Option Place) → slice_get lives v ≡ o → option_map (λ (p : Place). p.life.slot) o ≡ Some w → w ≡ v
       by None e g = absurd (none_some g)
-      by (Some a) e g = some_some w a.slot (sym g) ∙ loads.homes v a e
+      by (Some a) e g = some_some w a.life.slot (sym g) ∙ loads.homes v a e
 
   -- a life that is not accepted is seen so
   unaccepted : (v : ℕ) (s : Seen) → slice_get (seens_from h 0 lives) v ≡ Some s → length spec.slots.items ≤ v → s ≡ flag false
   unaccepted v s at le =
       let r = life_of h 0 lives v s at in
-      r.2 ∙ ap (λ b. if b then life_seen h (0 + v) r.0 else flag false) (loads.rest v r.0 le r.1)
+      r.2 ∙ ap (λ b. if b then life_seen (lent h r.0) (0 + v) r.0.life else flag false) (loads.rest v r.0 le r.1)
 
   pub unspent_all : Unspent 16 (seens_from h 0 lives)
   unspent_all v s le at = ap (λ (x : Seen). (image x).spent) (unaccepted v s at (omega (arith, le, loads.few)))
+
+  -- no life has spent anything
+  pub unspent_here : Unspent 0 (seens_from h 0 lives)
+  unspent_here v s le at =
+      let r = life_of h 0 lives v s at in
+      ap (λ (x : Seen). (image x).spent) r.2 ∙ by r.0 r.1 r.0.life.accepted refl
+    where
+      by : (a : Place) → slice_get lives v ≡ Some a → (b : Bool) → a.life.accepted ≡ b → (image (seen_at h (0 + v) a)).spent ≡ 0
+      by a here false is = ap (λ b. (image (if b then life_seen (lent h a) (0 + v) a.life else flag false)).spent) is
+      by a here true is =
+          let e : 0 + v ≡ v = omega arith in
+          ap (λ n. (image (seen_at h n a)).spent) e
+          ∙ ap (λ b. (image (if b then life_seen (lent h a) v a.life else flag false)).spent) is
+          ∙ ap (λ (o : OwnState). o.spent) (begun v a here is).4.shows
 
   pub rest_all : (cs : List (List ℕ)) → cs ≡ singles 0 (length spec.slots.items) → Rest cs (seens_from h 0 lives)
   rest_all cs are v s out at = ap ready (unaccepted v s at (by (length spec.slots.items) v (ap (listed v) (sym are) ∙ out)))
@@ -200,26 +216,26 @@ module _ (spec : PageSpec) (l : Loaded) (loads : LoadsPage spec l) where
   joined_all v s at = tt
 
   -- whether the life of a slot is accepted
-  accepts_at : (v : ℕ) (a : Life) → slice_get lives v ≡ Some a → slice_index_or (accepts_of lives) v false ≡ a.accepted
-  accepts_at v a at = get_or_from_slice_get (accepts_of lives) v a.accepted false (slice_get-map (λ (x : Life). x.accepted) lives v ∙ ap (option_map (λ (x : Life). x.accepted)) at)
+  accepts_at : (v : ℕ) (a : Place) → slice_get lives v ≡ Some a → slice_index_or (accepts_of lives) v false ≡ a.life.accepted
+  accepts_at v a at = get_or_from_slice_get (accepts_of lives) v a.life.accepted false (slice_get-map (λ (p : Place). p.life.accepted) lives v ∙ ap (option_map (λ (p : Place). p.life.accepted)) at)
 
   -- what a slot loads
-  pub slot_loads : (w : ℕ) (s : SlotSpec) → slice_get spec.slots.items w ≡ Some s → (a : Life) × (slice_get lives w ≡ Some a) × (slice_index_or (accepts_of lives) w false ≡ a.accepted) × IsFirstLife h w s.fuel (content_of spec.libs.items s.content) a
+  pub slot_loads : (w : ℕ) (s : SlotSpec) → slice_get spec.slots.items w ≡ Some s → (a : Place) × (slice_get lives w ≡ Some a) × (slice_index_or (accepts_of lives) w false ≡ a.life.accepted) × IsFirstLife h w s.fuel (content_of spec.libs.items s.content) a
   slot_loads w s at =
       let a = life_at w (omega (arith, within spec.slots.items w s at, loads.few)) in
       (a.0, a.1, accepts_at w a.0 a.1, loads.slots w s a.0 at a.1)
 
   -- what is seen of it
-  pub seen_begins : (w fuel : ℕ) (c : Content) (a : Life) → slice_get lives w ≡ Some a → Begins h w fuel c a → (s : Seen) → slice_get (seens_from h 0 lives) w ≡ Some s → (image s ≡ beginning c fuel) × (due s ≡ loaded c fuel)
+  pub seen_begins : (w fuel : ℕ) (c : Content) (a : Place) → slice_get lives w ≡ Some a → Begins h w fuel c a → (s : Seen) → slice_get (seens_from h 0 lives) w ≡ Some s → (image s ≡ beginning c fuel) × (due s ≡ loaded c fuel)
   seen_begins w fuel c a at b s seen =
       let r = life_of h 0 lives w s seen in
       let e : 0 + w ≡ w = omega arith in
       let same : r.0 ≡ a = some_some r.0 a (sym r.1 ∙ at) in
-      let is : s ≡ life_seen h w a = r.2 ∙ ap (λ n. seen_at h n r.0) e ∙ ap (seen_at h w) same ∙ ap (λ x. if x then life_seen h w a else flag false) b.accepted in
+      let is : s ≡ life_seen (lent h a) w a.life = r.2 ∙ ap (λ n. seen_at h n r.0) e ∙ ap (seen_at h w) same ∙ ap (λ x. if x then life_seen (lent h a) w a.life else flag false) b.accepted in
       (ap image is ∙ b.shows, ap due is ∙ b.comes)
 
   -- whose roots the slots show
-  home_is : (w : ℕ) (content : SlotContent) (b : Bool) (a : Life) (fuel : ℕ) → b ≡ a.accepted → IsFirstLife h w fuel (content_of spec.libs.items content) a → (if b then Some w else None) ≡ home_of w content
+  home_is : (w : ℕ) (content : SlotContent) (b : Bool) (a : Place) (fuel : ℕ) → b ≡ a.life.accepted → IsFirstLife h w fuel (content_of spec.libs.items content) a → (if b then Some w else None) ≡ home_of w content
   home_is w (slot.Runs body libs script) b a fuel is f = ap (λ x. if x then Some w else None) (is ∙ f.accepted)
   home_is w slot.Refused b a fuel is f = ap (λ x. if x then Some w else None) (is ∙ f)
 
@@ -235,9 +251,9 @@ module _ (spec : PageSpec) (l : Loaded) (loads : LoadsPage spec l) where
 
 -- ## The host of a page
 
-module _ (spec : PageSpec) (l : Loaded) (loads : LoadsPage spec l) (base : Host) (none : base.crowd.journal.items ≡ []) (are : chains_of base.slots.items ≡ singles 0 (length spec.slots.items)) where
+module _ (spec : PageSpec) (l : Loaded) (loads : LoadsPage spec l) (base : Host) (none : base.crowd.journal.items ≡ []) (pairs : base.channels ≡ l.channels) (are : chains_of base.slots.items ≡ singles 0 (length spec.slots.items)) where
   abbrev crowd : Crowd
-  crowd = record base.crowd { shared = l.shared; lives = l.lives }
+  crowd = record base.crowd { shared = l.shared; places = l.places }
 
   abbrev host : Host
   host = record base { crowd = crowd; given = 0; swaps = 0; marked = false }
@@ -259,7 +275,7 @@ module _ (spec : PageSpec) (l : Loaded) (loads : LoadsPage spec l) (base : Host)
   apart : IsApart host
   unfolding accepts
   apart = record {
-    own = own_fine l.shared 0 l.lives.items (fine_lives spec l loads);
+    own = own_fine l.shared 0 l.places.items (fine_lives spec l loads);
     others = λ v none. loads.others v (λ a at. sym (accepts_at spec l loads v a at) ∙ none);
   }
 
@@ -267,21 +283,25 @@ module _ (spec : PageSpec) (l : Loaded) (loads : LoadsPage spec l) (base : Host)
   unfolding IsHoused
   is_housed = (apart, λ e. record { slots = housed; room = few_lives spec l loads; given = omega arith; swaps = omega arith })
 
-  loads_slot : (w fuel : ℕ) (o : Option Content) (a : Life) → slice_get l.lives.items w ≡ Some a → slice_index_or (accepts_of l.lives.items) w false ≡ a.accepted → IsFirstLife l.shared w fuel o a → LoadsSlot host w fuel o
+  loads_slot : (w fuel : ℕ) (o : Option Content) (a : Place) → slice_get l.places.items w ≡ Some a → slice_index_or (accepts_of l.places.items) w false ≡ a.life.accepted → IsFirstLife l.shared w fuel o a → LoadsSlot host w fuel o
   unfolding accepts seens
   loads_slot w fuel None a at is f = is ∙ f
   loads_slot w fuel (Some c) a at is f = (is ∙ f.accepted, seen_begins spec l loads w fuel c a at f)
 
   pub host_loads : Loads spec host
-  unfolding accepts chains given homes journal marked seens IsLaid
+  unfolding accepts chains channels given homes journal marked scripts seens swaps IsLaid
   host_loads = record {
     housed = is_housed;
     unmarked = refl;
-    twenty = seens_long l.shared 0 l.lives.items ∙ loads.twenty;
+    twenty = seens_long l.shared 0 l.places.items ∙ loads.twenty;
     chains = are;
     homes = homes_are spec l loads;
     slots = λ w s at. let r = slot_loads spec l loads w s at in loads_slot w s.fuel (content_of spec.libs.items s.content) r.0 r.1 r.2 r.3;
+    scripts = λ w s at. let r = slot_loads spec l loads w s at in subst (HasScripts spec.libs.items s.content) (sym (scripts_at l.places.items w r.0 r.1)) (loads.scripts w s r.0 at r.1);
+    channels = ap (λ c. c.items) pairs ∙ loads.channels;
     given = refl;
+    unspent = unspent_here spec l loads;
+    swaps = refl;
     journal = none;
     laid = subst (λ r. layout.IsLaid l.shared.page (names_of spec.slots.items) r (map piece_of spec.pieces.items)) (sym (rooted_is spec l loads)) loads.laid;
   }

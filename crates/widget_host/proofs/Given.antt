@@ -2,6 +2,7 @@
 use Rattle.std.proofs.Common.{◌≡◌, ℕ, ◌+◌, ◌/◌, ◌<◌, ◌≤◌, List, map, length, Bool, false, refl, sym, ap, ◌∙◌, subst, arith, Some}
 use Rattle.std.specs.Prelude.{slice_get, slice_index_or, ◌&&◌}
 use Rattle.std.proofs.Math.Nat.{div-le_of_le-mul}
+use Rattle.js_tree.specs.Forest.{Forest}
 use Rattle.life_laws.specs.Life as todo
 use Rattle.life_laws.specs.Life.{Seen, due, image, potential}
 use Rattle.pick_laws.specs.Journal.{AllJoined}
@@ -9,46 +10,62 @@ use Rattle.pick_laws.proofs.Given.{joined_given}
 use Rattle.slot_laws.specs.Chains.{Chains, Rest, Unspent}
 use Rattle.slot_laws.proofs.Housing.{unspent_given}
 use Rattle.turn_calls.specs.declared.turn.Shared.{Shared}
-use Rattle.life_queue.specs.declared.life.Life.{Life}
+use Rattle.slot_picks.specs.declared.crowd.Place.{Place}
 use Rattle.life_queue.specs.Lives as lives
-use Rattle.life_queue.specs.Lives.{trees_in}
 use Rattle.life_queue.specs.Fine.{FineWork}
-use Rattle.page_spec.specs.Pages.{PagePiece}
 use Rattle.page_build.specs.Layout as layout
 use Rattle.page_load.specs.Loads.{HasNothing}
-use Rattle.slot_picks.specs.Places.{FewPlaces, FinePlaces, OwnPlaces, accepts_of, homes_of, is_accepted, seens_from}
-use Rattle.slot_picks.specs.Crowds.{FewCrowd, FineCrowd, chains_of, seens_of}
+use Rattle.slot_picks.specs.Places.{FewPlaces, FinePlaces, OwnPlaces, homes_of, is_accepted, seens_from}
+use Rattle.slot_picks.specs.Crowds.{FewCrowd, FineCrowd, PageStays, chains_of, seens_of}
+use Rattle.slot_picks.proofs.Keeping.{page_here}
 use Rattle.widget_host.specs.declared.host.Host.{Host}
 use Rattle.widget_host.specs.declared.items.HostItem.{HostItem}
 use Rattle.widget_host.specs.declared.items.HostItem.TheVariants as host
-use Rattle.widget_host.specs.Housed.{GivesItem, IsApart, IsItem, IsLaid, IsWhole, accepts, chains, given, homes, is_for, item_of, journal, most_after, reaches, rooted, seens, shared}
+use Rattle.widget_host.specs.Housed.{GivesItem, IsApart, IsItem, IsLaid, IsWhole, KeepsHost, accepts, chains, channels, given, homes, is_for, item_of, journal, most_after, reaches, rooted, scripts, seens, shared, swaps}
 use Rattle.widget_host.specs.Feeding.{AreFed, AreSame, work_of}
 use Rattle.widget_host.proofs.Lasts.{not_for}
-use Rattle.widget_host.proofs.Fed.{accepts_fed, accepts_same, counts_fed, dues_fed, homes_fed, images_fed, length_fed, other_fed, own_same, places_fed}
+use Rattle.widget_host.proofs.Fed.{accepts_same, codes_same, counts_fed, dues_fed, homes_same, images_fed, length_fed, other_fed, own_same, places_fed}
 use Rattle.widget_host.proofs.Shown.{accepts_at}
+use Rattle.widget_host.proofs.Staying.{scripts_by}
 
 -- an item as its meaning has it
-pub work_is : (h : Shared) (i : HostItem) → lives.work_of (trees_in h) (work_of i) ≡ todo.Given (item_of i)
-work_is h (host.Event to e) = refl
-work_is h (host.Advance ms) = refl
+pub work_is : (i : HostItem) (fs : List Forest) → lives.work_of fs (work_of i) ≡ todo.Given (item_of i)
+work_is (host.Event to e) fs = refl
+work_is (host.Advance ms) fs = refl
 
-script_is : (h : Shared) (i : HostItem) → FineWork (trees_in h) (work_of i)
-script_is h (host.Event to e) = tt
-script_is h (host.Advance ms) = tt
+script_is : (i : HostItem) (fs : List Forest) → FineWork fs (work_of i)
+script_is (host.Event to e) fs = tt
+script_is (host.Advance ms) fs = tt
 
 -- how much an item may make
-small : (h : Shared) (i : HostItem) (n : ℕ) → IsItem i n → potential (lives.work_of (trees_in h) (work_of i)) ≤ 400000
-small h (host.Event to e) n shape = omega arith
-small h (host.Advance ms) n shape = let most : ms / 10 ≤ 6000 = div-le_of_le-mul 10 (omega (arith, shape)) in omega (arith, most)
+small : (i : HostItem) (n : ℕ) → IsItem i n → (fs : List Forest) → potential (lives.work_of fs (work_of i)) ≤ 400000
+small (host.Event to e) n shape fs = omega arith
+small (host.Advance ms) n shape fs = let most : ms / 10 ≤ 6000 = div-le_of_le-mul 10 (omega (arith, shape)) in omega (arith, most)
 
 -- A host whose lives are as they were but for their queues.
-module _ (old new : Host) (all : new.crowd.shared ≡ old.crowd.shared) (same : AreSame old.crowd.lives.items new.crowd.lives.items) (a : IsApart old) where
+module _ (old new : Host) (all : new.crowd.shared ≡ old.crowd.shared) (same : AreSame old.crowd.places.items new.crowd.places.items) (a : IsApart old) where
   pub gives_apart : IsApart new
   unfolding accepts
   gives_apart = record {
-    own = subst (λ (h : Shared). OwnPlaces h 0 new.crowd.lives.items) (sym all) (own_same old.crowd.shared 0 old.crowd.lives.items new.crowd.lives.items same a.own);
+    own = subst (λ (h : Shared). OwnPlaces h 0 new.crowd.places.items) (sym all) (own_same old.crowd.shared 0 old.crowd.places.items new.crowd.places.items same a.own);
     others = λ v none. subst (λ (h : Shared). HasNothing v h.store h.page) (sym all)
-        (a.others v (ap (λ flags. slice_index_or flags v false) (sym (accepts_same old.crowd.lives.items new.crowd.lives.items same)) ∙ none));
+        (a.others v (ap (λ flags. slice_index_or flags v false) (sym (accepts_same old.crowd.places.items new.crowd.places.items same)) ∙ none));
+  }
+
+-- what it keeps
+module _ (old new : Host) (all : new.crowd.shared ≡ old.crowd.shared) (same : AreSame old.crowd.places.items new.crowd.places.items) (pairs : new.channels ≡ old.channels) (many : new.swaps ≡ old.swaps) where
+  pub gives_keeps : KeepsHost old new
+  unfolding homes accepts scripts channels swaps shared IsLaid
+  gives_keeps = record {
+    homes = homes_same old.crowd.places.items new.crowd.places.items same;
+    accepts = λ v. ap (λ flags. slice_index_or flags v false) (accepts_same old.crowd.places.items new.crowd.places.items same);
+    scripts = λ v. ap (scripts_by v) (codes_same old.crowd.places.items new.crowd.places.items same);
+    channels = ap (λ c. c.items) pairs;
+    swaps = many;
+    page = subst (λ (h : Shared). PageStays old.crowd.shared.page h.page) (sym all) (page_here old.crowd.shared.page);
+    laid = λ names pieces laid.
+        subst (λ (flags : List Bool). layout.IsLaid new.crowd.shared.page names (rooted (λ v. slice_index_or flags v false) 0 names) pieces) (sym (accepts_same old.crowd.places.items new.crowd.places.items same))
+        (subst (λ (h : Shared). layout.IsLaid h.page names (rooted (is_accepted old.crowd.places.items) 0 names) pieces) (sym all) laid);
   }
 
 -- A host whose lives have the item, and that has counted it.
@@ -56,84 +73,75 @@ module _ (i : HostItem) (old new : Host)
     (all : new.crowd.shared ≡ old.crowd.shared)
     (same_journal : new.crowd.journal ≡ old.crowd.journal)
     (slots : new.slots ≡ old.slots)
-    (swaps : new.swaps ≡ old.swaps)
+    (many : new.swaps ≡ old.swaps)
+    (pairs : new.channels ≡ old.channels)
     (counted : new.given ≡ old.given + 1)
-    (fed : AreFed (is_for (chains_of old.slots.items) i) (work_of i) 0 old.crowd.lives.items new.crowd.lives.items)
+    (fed : AreFed (is_for (chains_of old.slots.items) i) (work_of i) 0 old.crowd.places.items new.crowd.places.items)
+    (but_queues : AreSame old.crowd.places.items new.crowd.places.items)
   where
-    seens_new : seens_of new.crowd ≡ seens_from old.crowd.shared 0 new.crowd.lives.items
-    seens_new = ap (λ (h : Shared). seens_from h 0 new.crowd.lives.items) all
+    seens_new : seens_of new.crowd ≡ seens_from old.crowd.shared 0 new.crowd.places.items
+    seens_new = ap (λ (h : Shared). seens_from h 0 new.crowd.places.items) all
 
     images : map image (seens_of new.crowd) ≡ map image (seens_of old.crowd)
-    images = ap (map image) seens_new ∙ images_fed (is_for (chains_of old.slots.items) i) (work_of i) old.crowd.shared 0 old.crowd.lives.items new.crowd.lives.items fed
+    images = ap (map image) seens_new ∙ images_fed (is_for (chains_of old.slots.items) i) (work_of i) old.crowd.shared 0 old.crowd.places.items new.crowd.places.items fed
 
-    accepted : accepts_of new.crowd.lives.items ≡ accepts_of old.crowd.lives.items
-    accepted = accepts_fed (is_for (chains_of old.slots.items) i) (work_of i) 0 old.crowd.lives.items new.crowd.lives.items fed
-
-    housed_at : homes_of new.crowd.lives.items ≡ homes_of old.crowd.lives.items
-    housed_at = homes_fed (is_for (chains_of old.slots.items) i) (work_of i) 0 old.crowd.lives.items new.crowd.lives.items fed
-
-    laid_still : (names : List (List ℕ)) (pieces : List PagePiece) → IsLaid old names pieces → IsLaid new names pieces
-    unfolding IsLaid
-    laid_still names pieces laid =
-        subst (λ (flags : List Bool). layout.IsLaid new.crowd.shared.page names (rooted (λ v. slice_index_or flags v false) 0 names) pieces) (sym accepted)
-        (subst (λ (h : Shared). layout.IsLaid h.page names (rooted (is_accepted old.crowd.lives.items) 0 names) pieces) (sym all) laid)
+    housed_at : homes_of new.crowd.places.items ≡ homes_of old.crowd.places.items
+    housed_at = homes_same old.crowd.places.items new.crowd.places.items but_queues
 
     pub gives_item : GivesItem i old new
-    unfolding seens chains homes accepts given journal shared
+    unfolding seens chains accepts given journal shared
     gives_item = record {
-      dues = ap (map due) seens_new ∙ dues_fed (is_for (chains_of old.slots.items) i) (work_of i) old.crowd.shared old i 0 old.crowd.lives.items new.crowd.lives.items (work_is old.crowd.shared i) for_it fed;
+      dues = ap (map due) seens_new ∙ dues_fed (is_for (chains_of old.slots.items) i) (work_of i) old.crowd.shared old i 0 old.crowd.places.items new.crowd.places.items (work_is i) for_it fed;
       images = images;
       chains = ap chains_of (ap (λ s. s.items) slots);
-      homes = housed_at;
-      accepts = λ v. ap (λ (flags : List Bool). slice_index_or flags v false) accepted;
       given = counted;
       journal = ap (λ j. j.items) same_journal;
       same = all;
-      laid = laid_still;
+      stays = gives_keeps old new all but_queues pairs many;
     }
       where
-        for_it : (k : ℕ) (l : Life) → slice_get old.crowd.lives.items k ≡ Some l → reaches old i (0 + k) ≡ (l.accepted && is_for (chains_of old.slots.items) i (0 + k))
+        for_it : (k : ℕ) (l : Place) → slice_get old.crowd.places.items k ≡ Some l → reaches old i (0 + k) ≡ (l.life.accepted && is_for (chains_of old.slots.items) i (0 + k))
         for_it k l at =
             let e : k ≡ 0 + k = omega arith in
-            subst (λ (n : ℕ). reaches old i n ≡ (l.accepted && is_for (chains_of old.slots.items) i n)) e (ap (λ (b : Bool). b && is_for (chains_of old.slots.items) i k) (accepts_at old.crowd.lives.items k l at))
+            subst (λ (n : ℕ). reaches old i n ≡ (l.life.accepted && is_for (chains_of old.slots.items) i n)) e (ap (λ (b : Bool). b && is_for (chains_of old.slots.items) i k) (accepts_at old.crowd.places.items k l at))
 
     module _ (whole : IsWhole old) (room : old.given < 4096) (shape : IsItem i (length (chains_of old.slots.items))) where
       rest_still : Rest (chains_of old.slots.items) (seens_of new.crowd)
       rest_still v s out at =
           let e : v ≡ 0 + v = omega arith in
-          let none : is_for (chains_of old.slots.items) i (0 + v) ≡ false = subst (λ (n : ℕ). is_for (chains_of old.slots.items) i n ≡ false) e (not_for (homes_of old.crowd.lives.items) (16 + old.swaps) v (chains_of old.slots.items) i whole.slots.chains shape out) in
-          whole.slots.rest v s out (sym (other_fed (is_for (chains_of old.slots.items) i) (work_of i) old.crowd.shared 0 v old.crowd.lives.items new.crowd.lives.items fed none) ∙ (sym (ap (λ (ss : List Seen). slice_get ss v) seens_new) ∙ at))
+          let none : is_for (chains_of old.slots.items) i (0 + v) ≡ false = subst (λ (n : ℕ). is_for (chains_of old.slots.items) i n ≡ false) e (not_for (homes_of old.crowd.places.items) (16 + old.swaps) v (chains_of old.slots.items) i whole.slots.chains shape out) in
+          whole.slots.rest v s out (sym (other_fed (is_for (chains_of old.slots.items) i) (work_of i) old.crowd.shared 0 v old.crowd.places.items new.crowd.places.items fed none) ∙ (sym (ap (λ (ss : List Seen). slice_get ss v) seens_new) ∙ at))
 
       crowd_still : FineCrowd new.crowd
       crowd_still =
-          let much = small old.crowd.shared i (length (chains_of old.slots.items)) shape in
+          let much = small i (length (chains_of old.slots.items)) shape in
           record {
-            places = length_fed (is_for (chains_of old.slots.items) i) (work_of i) 0 old.crowd.lives.items new.crowd.lives.items fed ∙ whole.slots.crowd.places;
-            fine = subst (λ (h : Shared). FinePlaces h 0 new.crowd.lives.items) (sym all)
-                (places_fed (is_for (chains_of old.slots.items) i) (work_of i) old.crowd.shared 0 (most_after old.given) old.crowd.lives.items new.crowd.lives.items (script_is old.crowd.shared i) (omega (arith, much, room)) fed whole.room whole.slots.crowd.fine);
+            places = length_fed (is_for (chains_of old.slots.items) i) (work_of i) 0 old.crowd.places.items new.crowd.places.items fed ∙ whole.slots.crowd.places;
+            fine = subst (λ (h : Shared). FinePlaces h 0 new.crowd.places.items) (sym all)
+                (places_fed (is_for (chains_of old.slots.items) i) (work_of i) old.crowd.shared 0 (most_after old.given) old.crowd.places.items new.crowd.places.items (script_is i) (λ fs. let e = much fs in omega (arith, e, room)) fed whole.room whole.slots.crowd.fine);
             short = subst (λ j. length j.items ≤ 65536) (sym same_journal) whole.slots.crowd.short;
           }
 
       room_still : FewCrowd (most_after new.given) new.crowd
       room_still =
-          let much = small old.crowd.shared i (length (chains_of old.slots.items)) shape in
-          subst (λ (h : Shared). FewPlaces h (most_after new.given) 0 new.crowd.lives.items) (sym all)
-          (counts_fed (is_for (chains_of old.slots.items) i) (work_of i) old.crowd.shared 0 (most_after old.given) (most_after new.given) old.crowd.lives.items new.crowd.lives.items (omega (arith, much, counted)) fed whole.room)
+          let much = small i (length (chains_of old.slots.items)) shape in
+          subst (λ (h : Shared). FewPlaces h (most_after new.given) 0 new.crowd.places.items) (sym all)
+          (counts_fed (is_for (chains_of old.slots.items) i) (work_of i) old.crowd.shared 0 (most_after old.given) (most_after new.given) old.crowd.places.items new.crowd.places.items (λ fs. let e = much fs in omega (arith, e, counted)) fed whole.room)
 
       pub gives_whole : IsWhole new
       gives_whole = record {
         slots = record {
           crowd = crowd_still;
           slots = subst (λ s. length s.items ≤ 16) (sym slots) whole.slots.slots;
-          few = subst (λ n. 16 + n ≤ 20) (sym swaps) whole.slots.few;
-          chains = subst (λ s. Chains (homes_of new.crowd.lives.items) (16 + new.swaps) 0 (chains_of s.items)) (sym slots)
+          few = subst (λ n. 16 + n ≤ 20) (sym many) whole.slots.few;
+          chains = subst (λ s. Chains (homes_of new.crowd.places.items) (16 + new.swaps) 0 (chains_of s.items)) (sym slots)
               (subst (λ hs. Chains hs (16 + new.swaps) 0 (chains_of old.slots.items)) (sym housed_at)
-              (subst (λ n. Chains (homes_of old.crowd.lives.items) (16 + n) 0 (chains_of old.slots.items)) (sym swaps) whole.slots.chains));
-          unspent = subst (λ n. Unspent (16 + n) (seens_of new.crowd)) (sym swaps) (unspent_given (16 + old.swaps) (seens_of old.crowd) (seens_of new.crowd) images whole.slots.unspent);
+              (subst (λ n. Chains (homes_of old.crowd.places.items) (16 + n) 0 (chains_of old.slots.items)) (sym many) whole.slots.chains));
+          unspent = subst (λ n. Unspent (16 + n) (seens_of new.crowd)) (sym many) (unspent_given (16 + old.swaps) (seens_of old.crowd) (seens_of new.crowd) images whole.slots.unspent);
           joined = subst (λ j. AllJoined j.items (seens_of new.crowd)) (sym same_journal) (joined_given old.crowd.journal.items (seens_of old.crowd) (seens_of new.crowd) images whole.slots.joined);
           rest = subst (λ s. Rest (chains_of s.items) (seens_of new.crowd)) (sym slots) rest_still;
         };
         room = room_still;
         given = omega (arith, counted, room);
-        swaps = subst (λ n. n ≤ 4) (sym swaps) whole.swaps;
+        swaps = subst (λ n. n ≤ 4) (sym many) whole.swaps;
       }

@@ -6,3 +6,4 @@ mod Staying
 mod Firsts
 mod Counting
 mod Reading
+pub mod Programs

@@ -1,8 +1,11 @@
 -- What can be relied on of the store and the page of a host.
-use Rattle.std.proofs.Common.{◌≡◌, ℕ, zero, suc, ◌+◌, ◌≤◌, List, [], ◌∷◌, length, Bool, true, false, refl, sym, ap, ◌∙◌, subst, arith, Option, None, Some}
+use Rattle.std.proofs.Common.{◌≡◌, ℕ, zero, suc, ◌+◌, ◌≤◌, List, [], ◌∷◌, length, map, Bool, true, false, refl, sym, ap, ◌∙◌, subst, arith, Option, None, Some}
 use Rattle.std.proofs.lemmas.Bool.{eqb-true}
 use Rattle.std.specs.Prelude.{slice_get, slice_index_or, is_some}
 use Rattle.std.specs.Option.{option_and_then, option_map}
+use Rattle.js_tree.specs.Trees.{trees}
+use Rattle.js_names.specs.declared.code.Code.{Code}
+use Rattle.js_names.specs.Code.{tree_in, trees_of}
 use Rattle.store_cells.specs.declared.kind.Form.{Form}
 use Rattle.store_cells.specs.declared.kind.Form.TheVariants as form
 use Rattle.store_cells.specs.Born.{raw_place}
@@ -14,14 +17,15 @@ use Rattle.native_image.specs.Sound.{HasRaw}
 use Rattle.js_image.specs.Held.{IsConfined}
 use Rattle.life_laws.specs.Life.{Going, Seen, image, shown}
 use Rattle.turn_calls.specs.declared.turn.Shared.{Shared}
-use Rattle.life_queue.specs.declared.life.Life.{Life}
-use Rattle.life_queue.specs.Lives.{going_of, life_seen, own_of, trees_in}
-use Rattle.slot_picks.specs.Places.{HoldsItsOwn, accepts_of}
+use Rattle.slot_picks.specs.declared.crowd.Place.{Place}
+use Rattle.life_queue.specs.Lives.{going_of, life_seen, own_of}
+use Rattle.slot_picks.specs.Places.{HoldsItsOwn, accepts_of, codes_of, lent}
 use Rattle.widget_host.specs.declared.host.Host.{Host}
-use Rattle.widget_host.specs.Housed.{IsHoused, accepts, marked, seens}
+use Rattle.widget_host.specs.Housed.{IsHoused, accepts, marked, own_trees, scripts, seens}
 use Rattle.widget_host.specs.Shapes.{HasOneRaw, IsReadOff, cells_of_host, cells_of_widgets}
 use Rattle.widget_host.proofs.Lasts.{some_is}
 use Rattle.widget_host.proofs.Counting.{cells_counted}
+use Rattle.widget_host.proofs.Staying.{scripts_by}
 use Rattle.widget_host.proofs.Shown.{fine_at, life_accepted, life_at, own_at, seen_of_life}
 
 none_some : {A : Type 0} {a : A} → None ≡ Some a → ⊥
@@ -71,41 +75,57 @@ module _ (cells : List PlainCell) (n : ℕ) (law : (i m : ℕ) (c : PlainCell) �
 
 -- ## What is seen of a life
 
-read_shown : (h : Shared) (w : ℕ) (l : Life) (g : Option Going) → IsReadOff h w (shown g (own_of h w l))
+read_shown : (h : Shared) (w : ℕ) (l : Place) (g : Option Going) → IsReadOff (trees_of l.codes.items) h w (shown g (own_of (lent h l) w l.life))
 read_shown h w l None = record { heap = refl; scopes = refl; trees = refl; counts = refl }
 read_shown h w l (Some t) = record { heap = refl; scopes = refl; trees = refl; counts = refl }
 
-read_life : (h : Shared) (w : ℕ) (l : Life) → IsReadOff h w (image (life_seen h w l))
-read_life h w l = read_shown h w l (option_map (going_of h w l) l.turn)
+read_life : (h : Shared) (w : ℕ) (l : Place) → IsReadOff (trees_of l.codes.items) h w (image (life_seen (lent h l) w l.life))
+read_life h w l = read_shown h w l (option_map (going_of (lent h l) w l.life) l.life.turn)
 
-none_behind : (ls : List Life) (v : ℕ) → length ls ≤ v → slice_index_or (accepts_of ls) v false ≡ false
+-- the scripts of a life
+pub scripts_at : (ls : List Place) (v : ℕ) (l : Place) → slice_get ls v ≡ Some l → scripts_by v (codes_of ls) ≡ map tree_in l.codes.items
+scripts_at [] v l at = absurd (none_some at)
+scripts_at (y ∷ ls) zero l at = ap (λ (z : Place). map tree_in z.codes.items) (some_is y l at)
+scripts_at (y ∷ ls) (suc v) l at = scripts_at ls v l at
+
+trees_each : (cs : List Code) → map trees (map tree_in cs) ≡ trees_of cs
+trees_each [] = refl
+trees_each (c ∷ cs) = ap (λ fs. trees (tree_in c) ∷ fs) (trees_each cs)
+
+none_behind : (ls : List Place) (v : ℕ) → length ls ≤ v → slice_index_or (accepts_of ls) v false ≡ false
 none_behind [] v le = refl
 none_behind (l ∷ ls) zero le = absurd (omega (arith, le))
 none_behind (l ∷ ls) (suc v) le = none_behind ls v (omega (arith, le))
 
 module _ (h : Host) where
-  pub read_off : (v : ℕ) (s : Seen) → accepts h v ≡ true → slice_get (seens h) v ≡ Some s → IsReadOff h.crowd.shared v (image s)
+  -- the trees of a life
+  trees_at : (v : ℕ) (l : Place) → slice_get h.crowd.places.items v ≡ Some l → trees_of l.codes.items ≡ own_trees h v
+  unfolding scripts
+  trees_at v l at = sym (ap (map trees) (scripts_at h.crowd.places.items v l at) ∙ trees_each l.codes.items)
+
+  pub read_off : (v : ℕ) (s : Seen) → accepts h v ≡ true → slice_get (seens h) v ≡ Some s → IsReadOff (own_trees h v) h.crowd.shared v (image s)
   unfolding accepts seens
   read_off v s is at =
-      let r = life_at h.crowd.shared 0 v h.crowd.lives.items s at in
-      subst (λ (t : Seen). IsReadOff h.crowd.shared v (image t)) (sym (seen_of_life h.crowd.shared v h.crowd.lives.items r.0 s r.1 is at)) (read_life h.crowd.shared v r.0)
+      let r = life_at h.crowd.shared 0 v h.crowd.places.items s at in
+      subst (λ fs. IsReadOff fs h.crowd.shared v (image s)) (trees_at v r.0 r.1)
+      (subst (λ (t : Seen). IsReadOff (trees_of r.0.codes.items) h.crowd.shared v (image t)) (sym (seen_of_life h.crowd.shared v h.crowd.places.items r.0 s r.1 is at)) (read_life h.crowd.shared v r.0))
 
   -- ## What each holds
 
   module _ (housed : IsHoused h) where
-    pub holds_own : (v : ℕ) (l : Life) → slice_get h.crowd.lives.items v ≡ Some l → l.accepted ≡ true → HoldsItsOwn h.crowd.shared v l
+    pub holds_own : (v : ℕ) (l : Place) → slice_get h.crowd.places.items v ≡ Some l → l.life.accepted ≡ true → HoldsItsOwn h.crowd.shared v l
     unfolding IsHoused
-    holds_own v l at is = own_at h.crowd.shared 0 v v h.crowd.lives.items l (omega arith) at housed.0.own is
+    holds_own v l at is = own_at h.crowd.shared 0 v v h.crowd.places.items l (omega arith) at housed.0.own is
 
-    holds_accepted : (v : ℕ) → accepts h v ≡ true → (l : Life) × HoldsItsOwn h.crowd.shared v l
+    holds_accepted : (v : ℕ) → accepts h v ≡ true → (l : Place) × (slice_get h.crowd.places.items v ≡ Some l) × HoldsItsOwn h.crowd.shared v l
     unfolding accepts
-    holds_accepted v is = let r = life_accepted h.crowd.lives.items v is in (r.0, holds_own v r.0 r.1 r.2)
+    holds_accepted v is = let r = life_accepted h.crowd.places.items v is in (r.0, r.1, holds_own v r.0 r.1 r.2)
 
-    pub confined_at : (v : ℕ) → accepts h v ≡ true → IsConfined (trees_in h.crowd.shared) v h.crowd.shared.store
-    confined_at v is = (holds_accepted v is).1.confined
+    pub confined_at : (v : ℕ) → accepts h v ≡ true → IsConfined (own_trees h v) v h.crowd.shared.store
+    confined_at v is = let r = holds_accepted v is in subst (λ fs. IsConfined fs v h.crowd.shared.store) (trees_at v r.0 r.1) r.2.confined
 
     pub root_at : (v : ℕ) → accepts h v ≡ true → HasRoot h.crowd.shared.page v
-    root_at v is = (holds_accepted v is).1.holds.home
+    root_at v is = (holds_accepted v is).2.holds.home
 
     -- a node is that of an accepted life
     pub owner_at : (v n : ℕ) → owns h.crowd.shared.page v n ≡ true → accepts h v ≡ true
@@ -122,10 +142,10 @@ module _ (h : Host) where
     pub raw_at : marked h ≡ false → (v n : ℕ) → owns h.crowd.shared.page v n ≡ true → HasRaw h.crowd.shared.store.cells n
     unfolding IsHoused accepts
     raw_at unmarked v n owned =
-        let r = life_accepted h.crowd.lives.items v (owner_at v n owned) in
-        (fine_at h.crowd.shared 0 v v h.crowd.lives.items r.0 (omega arith) r.1 (housed.1 unmarked).slots.crowd.fine r.2).sound.raws v n owned
+        let r = life_accepted h.crowd.places.items v (owner_at v n owned) in
+        (fine_at h.crowd.shared 0 v v h.crowd.places.items r.0 (omega arith) r.1 (housed.1 unmarked).slots.crowd.fine r.2).sound.raws v n owned
 
     -- the cells are the host's and those of its lives
-    pub counted_at : length h.crowd.shared.store.cells ≡ cells_of_host h.crowd.shared.store + cells_of_widgets h.crowd.shared.store (length h.crowd.lives.items)
+    pub counted_at : length h.crowd.shared.store.cells ≡ cells_of_host h.crowd.shared.store + cells_of_widgets h.crowd.shared.store (length h.crowd.places.items)
     unfolding IsHoused accepts
-    counted_at = cells_counted h.crowd.shared.store (length h.crowd.lives.items) (λ v le. (housed.0.others v (none_behind h.crowd.lives.items v le)).cells)
+    counted_at = cells_counted h.crowd.shared.store (length h.crowd.places.items) (λ v le. (housed.0.others v (none_behind h.crowd.places.items v le)).cells)

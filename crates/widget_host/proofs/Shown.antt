@@ -8,13 +8,13 @@ use Rattle.page_image.specs.Image.{forest}
 use Rattle.life_laws.specs.Life.{Going, Seen, image, shown}
 use Rattle.widget_meaning.specs.OwnState.{OwnState}
 use Rattle.turn_calls.specs.declared.turn.Shared.{Shared}
-use Rattle.life_queue.specs.declared.life.Life.{Life}
+use Rattle.slot_picks.specs.declared.crowd.Place.{Place}
 use Rattle.life_queue.specs.Lives.{going_of, life_seen, own_of}
 use Rattle.slot_picks.specs.declared.slots.Slot.{Slot}
 use Rattle.slot_picks.specs.Crowds.{chains_of, seens_of}
 use Rattle.slot_laws.specs.Slots.{Each}
 use Rattle.slot_laws.specs.Chains.{IsChain}
-use Rattle.slot_picks.specs.Places.{FinePlace, FinePlaces, OwnPlace, OwnPlaces, accepts_of, homes_of, is_accepted, seen_at, seens_from}
+use Rattle.slot_picks.specs.Places.{FinePlace, FinePlaces, OwnPlace, OwnPlaces, accepts_of, homes_of, is_accepted, lent, seen_at, seens_from}
 use Rattle.page_lines.specs.Ends.{AreEnds}
 use Rattle.widget_host.specs.declared.host.Host.{Host}
 use Rattle.widget_host.specs.declared.lines.RunLine.{RunLine}
@@ -24,13 +24,13 @@ use Rattle.widget_host.proofs.Fed.{seen_accepted}
 
 -- ## A life by its number
 
-pub accepts_at : (ls : List Life) (k : ℕ) (l : Life) → slice_get ls k ≡ Some l → slice_index_or (accepts_of ls) k false ≡ l.accepted
+pub accepts_at : (ls : List Place) (k : ℕ) (l : Place) → slice_get ls k ≡ Some l → slice_index_or (accepts_of ls) k false ≡ l.life.accepted
 accepts_at [] k l at = cc
-accepts_at (y ∷ ls) zero l at = ap (λ (z : Life). z.accepted) (some_is y l at)
+accepts_at (y ∷ ls) zero l at = ap (λ (z : Place). z.life.accepted) (some_is y l at)
 accepts_at (y ∷ ls) (suc k) l at = accepts_at ls k l at
 
 -- the life of which this is seen
-pub life_at : (h : Shared) (v k : ℕ) (ls : List Life) (s : Seen) → slice_get (seens_from h v ls) k ≡ Some s → (l : Life) × (slice_get ls k ≡ Some l) × (seen_at h (v + k) l ≡ s)
+pub life_at : (h : Shared) (v k : ℕ) (ls : List Place) (s : Seen) → slice_get (seens_from h v ls) k ≡ Some s → (l : Place) × (slice_get ls k ≡ Some l) × (seen_at h (v + k) l ≡ s)
 life_at h v k [] s at = cc
 life_at h v zero (y ∷ ls) s at = let e : v ≡ v + 0 = omega arith in (y, refl, subst (λ n. seen_at h n y ≡ s) e (some_is (seen_at h v y) s at))
 life_at h v (suc k) (y ∷ ls) s at =
@@ -39,21 +39,21 @@ life_at h v (suc k) (y ∷ ls) s at =
     (r.0, r.1, subst (λ n. seen_at h n r.0 ≡ s) e r.2)
 
 -- and what is seen of an accepted one
-pub seen_of_life : (h : Shared) (k : ℕ) (ls : List Life) (l : Life) (s : Seen) → slice_get ls k ≡ Some l → slice_index_or (accepts_of ls) k false ≡ true → slice_get (seens_from h 0 ls) k ≡ Some s → s ≡ life_seen h k l
+pub seen_of_life : (h : Shared) (k : ℕ) (ls : List Place) (l : Place) (s : Seen) → slice_get ls k ≡ Some l → slice_index_or (accepts_of ls) k false ≡ true → slice_get (seens_from h 0 ls) k ≡ Some s → s ≡ life_seen (lent h l) k l.life
 seen_of_life h k ls l s at accepted there =
     let r = life_at h 0 k ls s there in
     let same : r.0 ≡ l = some_is r.0 l (sym r.1 ∙ at) in
     let e : 0 + k ≡ k = omega arith in
-    sym r.2 ∙ ap (λ (y : Life). seen_at h (0 + k) y) same ∙ ap (λ n. seen_at h n l) e ∙ seen_accepted h k l (sym (accepts_at ls k l at) ∙ accepted)
+    sym r.2 ∙ ap (λ (y : Place). seen_at h (0 + k) y) same ∙ ap (λ n. seen_at h n l) e ∙ seen_accepted h k l (sym (accepts_at ls k l at) ∙ accepted)
 
 -- there is a life whose file was accepted
-pub life_accepted : (ls : List Life) (k : ℕ) → slice_index_or (accepts_of ls) k false ≡ true → (l : Life) × (slice_get ls k ≡ Some l) × (l.accepted ≡ true)
+pub life_accepted : (ls : List Place) (k : ℕ) → slice_index_or (accepts_of ls) k false ≡ true → (l : Place) × (slice_get ls k ≡ Some l) × (l.life.accepted ≡ true)
 life_accepted [] k is = absurd (let e = is in cc)
 life_accepted (y ∷ ls) zero is = (y, refl, is)
 life_accepted (y ∷ ls) (suc k) is = life_accepted ls k is
 
 -- it is sound
-pub fine_at : (h : Shared) (v k w : ℕ) (ls : List Life) (l : Life) → w ≡ v + k → slice_get ls k ≡ Some l → FinePlaces h v ls → FinePlace h w l
+pub fine_at : (h : Shared) (v k w : ℕ) (ls : List Place) (l : Place) → w ≡ v + k → slice_get ls k ≡ Some l → FinePlaces h v ls → FinePlace h w l
 fine_at h v k w [] l e at fine = cc
 fine_at h v zero w (y ∷ ls) l e at fine =
     let here : v ≡ w = omega (arith, e) in
@@ -61,7 +61,7 @@ fine_at h v zero w (y ∷ ls) l e at fine =
 fine_at h v (suc k) w (y ∷ ls) l e at fine = fine_at h (v + 1) k w ls l (omega (arith, e)) at fine.1
 
 -- and holds its own
-pub own_at : (h : Shared) (v k w : ℕ) (ls : List Life) (l : Life) → w ≡ v + k → slice_get ls k ≡ Some l → OwnPlaces h v ls → OwnPlace h w l
+pub own_at : (h : Shared) (v k w : ℕ) (ls : List Place) (l : Place) → w ≡ v + k → slice_get ls k ≡ Some l → OwnPlaces h v ls → OwnPlace h w l
 own_at h v k w [] l e at own = cc
 own_at h v zero w (y ∷ ls) l e at own =
     let here : v ≡ w = omega (arith, e) in
@@ -74,29 +74,29 @@ shown_forest : (g : Option Going) (o : OwnState) → (shown g o).forest ≡ o.fo
 shown_forest None o = refl
 shown_forest (Some t) o = refl
 
-life_forest : (h : Shared) (w : ℕ) (l : Life) → (image (life_seen h w l)).forest ≡ forest h.page w
-life_forest h w l = shown_forest (option_map (going_of h w l) l.turn) (own_of h w l)
+life_forest : (h : Shared) (w : ℕ) (l : Place) → (image (life_seen (lent h l) w l.life)).forest ≡ forest h.page w
+life_forest h w l = shown_forest (option_map (going_of (lent h l) w l.life) l.life.turn) (own_of (lent h l) w l.life)
 
 module _ (h : Host) where
   one_end : (w : ℕ) (own : OwnState) → IsShown h w (Some own) → own.forest ≡ forest h.crowd.shared.page w
   unfolding accepts seens
   one_end w own is =
       let s = is.1.0 in
-      let r = life_at h.crowd.shared 0 w h.crowd.lives.items s is.1.1 in
-      ap (λ (o : OwnState). o.forest) (sym is.1.2) ∙ ap (λ (t : Seen). (image t).forest) (seen_of_life h.crowd.shared w h.crowd.lives.items r.0 s r.1 is.0 is.1.1) ∙ life_forest h.crowd.shared w r.0
+      let r = life_at h.crowd.shared 0 w h.crowd.places.items s is.1.1 in
+      ap (λ (o : OwnState). o.forest) (sym is.1.2) ∙ ap (λ (t : Seen). (image t).forest) (seen_of_life h.crowd.shared w h.crowd.places.items r.0 s r.1 is.0 is.1.1) ∙ life_forest h.crowd.shared w r.0
 
   -- the slots that are shown have the trees of the page
   pub ends_shown : (w : ℕ) (names : List (List ℕ)) (ends : List (Option OwnState)) → length names ≡ length ends → AreShown h w ends
-      → AreEnds h.crowd.shared.page (rooted (is_accepted h.crowd.lives.items) w names) ends
+      → AreEnds h.crowd.shared.page (rooted (is_accepted h.crowd.places.items) w names) ends
   unfolding accepts
   ends_shown w [] [] e is = tt
   ends_shown w [] (o ∷ ends) e is = absurd (omega (arith, e))
   ends_shown w (name ∷ names) [] e is = absurd (omega (arith, e))
   ends_shown w (name ∷ names) (None ∷ ends) e is =
-      subst (λ (b : Bool). AreEnds h.crowd.shared.page ((if b then Some w else None) ∷ rooted (is_accepted h.crowd.lives.items) (w + 1) names) (None ∷ ends)) (sym is.0)
+      subst (λ (b : Bool). AreEnds h.crowd.shared.page ((if b then Some w else None) ∷ rooted (is_accepted h.crowd.places.items) (w + 1) names) (None ∷ ends)) (sym is.0)
       (ends_shown (w + 1) names ends (omega (arith, e)) is.1)
   ends_shown w (name ∷ names) (Some own ∷ ends) e is =
-      subst (λ (b : Bool). AreEnds h.crowd.shared.page ((if b then Some w else None) ∷ rooted (is_accepted h.crowd.lives.items) (w + 1) names) (Some own ∷ ends)) (sym is.0.0)
+      subst (λ (b : Bool). AreEnds h.crowd.shared.page ((if b then Some w else None) ∷ rooted (is_accepted h.crowd.places.items) (w + 1) names) (Some own ∷ ends)) (sym is.0.0)
       (one_end w own is.0, ends_shown (w + 1) names ends (omega (arith, e)) is.1)
 
 -- the present life of a slot
@@ -123,14 +123,14 @@ module _ (h : Host) (w : ℕ) (s : Slot) (whole : IsWhole h) (there : w < length
   slot_at : slice_get h.slots.items w ≡ Some s
   slot_at = slice_get_read h.slots.items (length h.slots.items) w s refl slot_there is
 
-  chain_of : IsChain (homes_of h.crowd.lives.items) (16 + h.swaps) (0 + w) s.lives.items
-  chain_of = slot_chain (homes_of h.crowd.lives.items) (16 + h.swaps) 0 w h.slots.items s slot_at whole.slots.chains
+  chain_of : IsChain (homes_of h.crowd.places.items) (16 + h.swaps) (0 + w) s.lives.items
+  chain_of = slot_chain (homes_of h.crowd.places.items) (16 + h.swaps) 0 w h.slots.items s slot_at whole.slots.chains
 
   pub some_lives : 0 < length s.lives.items
   some_lives = chain_of.some
 
   module _ (v : ℕ) (first : slice_get s.lives.items 0 ≡ Some v) where
-    pub life_there : v < length h.crowd.lives.items
+    pub life_there : v < length h.crowd.places.items
     life_there = let e = first_each (λ u. u < 16 + h.swaps) s.lives.items v first chain_of.below in omega (arith, e, whole.slots.few, whole.slots.crowd.places)
 
     pub present_at : present w (chains h) ≡ v
@@ -138,20 +138,20 @@ module _ (h : Host) (w : ℕ) (s : Slot) (whole : IsWhole h) (there : w < length
     present_at = present_is h.slots.items w v s slot_at first
 
     module _ (accepted : accepts h (present w (chains h)) ≡ true) where
-      pub accepted_life : (l : Life) → slice_get h.crowd.lives.items v ≡ Some l → l.accepted ≡ true
+      pub accepted_life : (l : Place) → slice_get h.crowd.places.items v ≡ Some l → l.life.accepted ≡ true
       unfolding accepts
       accepted_life l at =
-          let flag : slice_index_or (accepts_of h.crowd.lives.items) v false ≡ true = subst (λ (n : ℕ). slice_index_or (accepts_of h.crowd.lives.items) n false ≡ true) present_at accepted in
-          sym (accepts_at h.crowd.lives.items v l at) ∙ flag
+          let flag : slice_index_or (accepts_of h.crowd.places.items) v false ≡ true = subst (λ (n : ℕ). slice_index_or (accepts_of h.crowd.places.items) n false ≡ true) present_at accepted in
+          sym (accepts_at h.crowd.places.items v l at) ∙ flag
 
-      pub line_told : (r : RunLine) (l : Life) (spent : ℕ) (x : Seen) → l ≡ get_or h.crowd.lives.items v l
+      pub line_told : (r : RunLine) (l : Place) (spent : ℕ) (x : Seen) → l ≡ get_or h.crowd.places.items v l
           → ((y : Seen) → slice_get (seens_of h.crowd) v ≡ Some y → spent ≡ (image y).spent)
-          → ((k : Shared) (u : ℕ) → spent ≡ (image (life_seen k u l)).spent → IsLineOf r (image (life_seen k u l)))
+          → ((k : Shared) (u : ℕ) → spent ≡ (image (life_seen k u l.life)).spent → IsLineOf r (image (life_seen k u l.life)))
           → slice_get (seens h) (present w (chains h)) ≡ Some x → IsLineOf r (image x)
       unfolding accepts seens
       line_told r l spent x is_life spends told at =
-          let life_is : slice_get h.crowd.lives.items v ≡ Some l = slice_get_read h.crowd.lives.items (length h.crowd.lives.items) v l refl life_there is_life in
+          let life_is : slice_get h.crowd.places.items v ≡ Some l = slice_get_read h.crowd.places.items (length h.crowd.places.items) v l refl life_there is_life in
           let here : slice_get (seens_of h.crowd) v ≡ Some x = subst (λ (n : ℕ). slice_get (seens_of h.crowd) n ≡ Some x) present_at at in
-          let flag : slice_index_or (accepts_of h.crowd.lives.items) v false ≡ true = subst (λ (n : ℕ). slice_index_or (accepts_of h.crowd.lives.items) n false ≡ true) present_at accepted in
-          let same : x ≡ life_seen h.crowd.shared v l = seen_of_life h.crowd.shared v h.crowd.lives.items l x life_is flag here in
-          subst (λ (y : Seen). IsLineOf r (image y)) (sym same) (told h.crowd.shared v (spends x here ∙ ap (λ (y : Seen). (image y).spent) same))
+          let flag : slice_index_or (accepts_of h.crowd.places.items) v false ≡ true = subst (λ (n : ℕ). slice_index_or (accepts_of h.crowd.places.items) n false ≡ true) present_at accepted in
+          let same : x ≡ life_seen (lent h.crowd.shared l) v l.life = seen_of_life h.crowd.shared v h.crowd.places.items l x life_is flag here in
+          subst (λ (y : Seen). IsLineOf r (image y)) (sym same) (told (lent h.crowd.shared l) v (spends x here ∙ ap (λ (y : Seen). (image y).spent) same))

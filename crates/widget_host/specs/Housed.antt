@@ -1,26 +1,32 @@
 -- A host as plain data: what is seen of its lives, what holds of it, and what its calls do.
-use Rattle.std.specs.Prelude.{◌≡◌, ◌<◌, ◌≤◌, ◌+◌, ◌*◌, ◌^◌, ℕ, zero, suc, List, [], ◌∷◌, map, length, nat_eq, ◌&&◌, Bool, true, false, slice_get, Option, Some, None, option_map, if◌then◌else◌}
+use Rattle.std.specs.Prelude.{◌≡◌, ◌<◌, ◌≤◌, ◌+◌, ◌*◌, ◌^◌, ℕ, zero, suc, List, [], ◌∷◌, map, length, nat_eq, ◌&&◌, Bool, true, false, slice_get, slice_index_or, Option, Some, None, option_map, if◌then◌else◌}
 use Rattle.std.specs.List.{list_any}
+use Rattle.std.specs.declared.alloc.Global.{Global}
+use Rattle.std.specs.declared.vec.Vec.{Vec}
+use Rattle.js_tree.specs.declared.tree.Tree.{Tree}
 use Rattle.js_tree.specs.Forest.{Forest}
+use Rattle.js_tree.specs.Trees.{trees}
+use Rattle.js_names.specs.declared.code.Code.{Code}
+use Rattle.js_names.specs.Code.{tree_in}
 use Rattle.js_image.specs.Plans.{meant_cause}
 use Rattle.life_laws.specs.Life.{Seen, due, image}
 use Rattle.pick_laws.specs.declared.entry.PickEntry.{PickEntry}
-use Rattle.slot_laws.specs.Chains.{last_life, last_at}
-use Rattle.slot_picks.specs.Places.{homes_of, is_accepted}
-use Rattle.slot_picks.specs.Crowds.{AreHoused, FewCrowd, OwnCrowd, chains_of, seens_of}
+use Rattle.slot_laws.specs.Chains.{Unspent, last_life, last_at}
+use Rattle.slot_picks.specs.Places.{codes_of, homes_of, is_accepted}
+use Rattle.slot_picks.specs.declared.crowd.Place.{Place}
+use Rattle.slot_picks.specs.Crowds.{AreHoused, FewCrowd, OwnCrowd, PageStays, chains_of, seens_of}
 use Rattle.widget_meaning.specs.Values as meaning
 use Rattle.widget_meaning.specs.OwnState.{OwnState}
 use Rattle.widget_meaning.specs.Items.{Item, Occurs, Advance, item}
 use Rattle.widget_meaning.specs.Alone.{Content, beginning, loaded}
 use Rattle.turn_calls.specs.declared.turn.Shared.{Shared}
-use Rattle.life_queue.specs.declared.life.Life.{Life}
-use Rattle.life_queue.specs.Lives.{event_of, trees_in}
+use Rattle.life_queue.specs.Lives.{event_of}
 use Rattle.page_spec.specs.declared.PageSpec.{PageSpec}
 use Rattle.page_spec.specs.declared.SlotSpec.{SlotSpec}
 use Rattle.page_spec.specs.Contents.{content_of}
 use Rattle.page_spec.specs.Pages.{PagePiece, piece_of}
 use Rattle.page_build.specs.Layout as layout
-use Rattle.page_load.specs.Loads.{HasNothing}
+use Rattle.page_load.specs.Loads.{HasNothing, HasScripts}
 use Rattle.widget_host.specs.declared.host.Host.{Host}
 use Rattle.widget_host.specs.declared.items.HostItem.{HostItem}
 use Rattle.widget_host.specs.declared.items.HostItem.TheVariants as host
@@ -40,17 +46,17 @@ chains h = chains_of h.slots.items
 
 -- the slot of each life; of a place where none was born, the place itself
 unfoldable pub homes : Host → List ℕ
-homes h = homes_of h.crowd.lives.items
+homes h = homes_of h.crowd.places.items
 
 -- whether the file of a life was accepted
 unfoldable pub accepts : Host → ℕ → Bool
-accepts h v = is_accepted h.crowd.lives.items v
+accepts h v = is_accepted h.crowd.places.items v
 
--- its lives; the place of a life is its number
-unfoldable pub lives : Host → List Life
-lives h = h.crowd.lives.items
+-- its lives, each with the trees of its scripts; the place of a life is its number
+unfoldable pub places : Host → List Place
+places h = h.crowd.places.items
 
--- what all of them share: the store, the page, and the scripts
+-- what all of them share: the store and the page
 unfoldable pub shared : Host → Shared
 shared h = h.crowd.shared
 
@@ -58,9 +64,21 @@ shared h = h.crowd.shared
 unfoldable pub journal : Host → List PickEntry
 journal h = h.crowd.journal.items
 
--- the trees of all its scripts
-unfoldable pub trees : Host → List Forest
-trees h = trees_in h.crowd.shared
+-- the scripts of a life: those of the libraries that its file names, in order, and its last script; none where no life is
+unfoldable pub scripts : Host → ℕ → List Tree
+scripts h v = slice_index_or (map (λ (codes : Vec Code Global). map tree_in codes.items) (codes_of h.crowd.places.items)) v []
+
+-- the plain trees of their nodes
+abbrev pub own_trees : Host → ℕ → List Forest
+own_trees h v = map trees (scripts h v)
+
+-- the pairs of slots between which posts go, the sender first
+unfoldable pub channels : Host → List (ℕ × ℕ)
+channels h = h.channels.items
+
+-- how many swaps it was given
+unfoldable pub swaps : Host → ℕ
+swaps h = h.swaps
 
 -- how many items it was given
 unfoldable pub given : Host → ℕ
@@ -97,7 +115,19 @@ rooted accepted w (name ∷ names) = (if accepted w then Some w else None) ∷ r
 
 -- its page has these pieces, and its slots have these names
 unfoldable pub IsLaid : Host → List (List ℕ) → List PagePiece → Type 0
-IsLaid h names pieces = layout.IsLaid h.crowd.shared.page names (rooted (is_accepted h.crowd.lives.items) 0 names) pieces
+IsLaid h names pieces = layout.IsLaid h.crowd.shared.page names (rooted (is_accepted h.crowd.places.items) 0 names) pieces
+
+-- ## What stays
+
+-- What each call keeps, also after want of memory: the slot of each life, whether its file was accepted, and its scripts; the channels and how many swaps were given; what stays of the page, whichever life is picked (the nodes of the host and the order of the children of `body`, the owners and numbers of nodes, the roots); and of which pieces the page is made.
+pub record KeepsHost (old new : Host) : Type 0 where
+  pub homes : homes new ≡ homes old
+  pub accepts : (v : ℕ) → accepts new v ≡ accepts old v
+  pub scripts : (v : ℕ) → scripts new v ≡ scripts old v
+  pub channels : channels new ≡ channels old
+  pub swaps : swaps new ≡ swaps old
+  pub page : PageStays (shared old).page (shared new).page
+  pub laid : (names : List (List ℕ)) (pieces : List PagePiece) → IsLaid old names pieces → IsLaid new names pieces
 
 -- ## Items
 
@@ -130,12 +160,10 @@ pub record GivesItem (i : HostItem) (old new : Host) : Type 0 where
   pub dues : map due (seens new) ≡ dues_after old i 0 (map due (seens old))
   pub images : map image (seens new) ≡ map image (seens old)
   pub chains : chains new ≡ chains old
-  pub homes : homes new ≡ homes old
-  pub accepts : (v : ℕ) → accepts new v ≡ accepts old v
   pub given : given new ≡ given old + 1
   pub journal : journal new ≡ journal old
   pub same : shared new ≡ shared old
-  pub laid : (names : List (List ℕ)) (pieces : List PagePiece) → IsLaid old names pieces → IsLaid new names pieces
+  pub stays : KeepsHost old new
 
 -- ## A page that is loaded
 
@@ -157,7 +185,11 @@ pub record Loads (spec : PageSpec) (h : Host) : Type 0 where
   pub chains : chains h ≡ singles 0 (length spec.slots.items)
   pub homes : (v w : ℕ) → slice_get (homes h) v ≡ Some w → w ≡ v
   pub slots : (w : ℕ) (s : SlotSpec) → slice_get spec.slots.items w ≡ Some s → LoadsSlot h w s.fuel (content_of spec.libs.items s.content)
+  pub scripts : (w : ℕ) (s : SlotSpec) → slice_get spec.slots.items w ≡ Some s → HasScripts spec.libs.items s.content (scripts h w)
+  pub channels : channels h ≡ spec.channels.items
   pub given : given h ≡ 0
+  pub unspent : Unspent 0 (seens h)
+  pub swaps : swaps h ≡ 0
   pub journal : journal h ≡ []
   pub laid : IsLaid h (map (λ (s : SlotSpec). s.name) spec.slots.items) (map piece_of spec.pieces.items)
 

@@ -1,5 +1,6 @@
 -- What stands in the store and on the page of a host, and how what is seen of a life is read off them.
 use Rattle.std.specs.Prelude.{◌≡◌, ℕ, zero, suc, ◌+◌, Bool, List, Some, filter, is_some, length, map, not, ◌&&◌, ◌||◌}
+use Rattle.js_tree.specs.Forest.{Forest}
 use Rattle.store_cells.specs.declared.kind.Form.TheVariants as form
 use Rattle.store_cells.specs.Cells.{Cells, PlainCell, form_at, is_scope, is_visible_form, widget_of}
 use Rattle.object_store.specs.Owned.{owned}
@@ -7,7 +8,6 @@ use Rattle.widget_meaning.specs.OwnState.{OwnState}
 use Rattle.js_image.specs.Image.{meant_cell, meant_counts, meant_scope}
 use Rattle.page_image.specs.Image.{forest, own}
 use Rattle.turn_calls.specs.declared.turn.Shared.{Shared}
-use Rattle.life_queue.specs.Lives.{trees_in}
 
 -- whether a cell is a widget's: one that it sees, or one of its scopes
 abbrev pub is_widgets : PlainCell → Bool
@@ -32,9 +32,9 @@ pub record HasOneRaw (cells : List PlainCell) (n : ℕ) : Type 0 where
   pub is : form_at cells place ≡ Some (form.RawNode n)
   pub one : (i : ℕ) → form_at cells i ≡ Some (form.RawNode n) → i ≡ place
 
--- What an own state has of objects, scopes and trees is what the store and the page have of a widget.
-pub record IsReadOff (h : Shared) (v : ℕ) (o : OwnState) : Type 0 where
-  pub heap : o.heap ≡ map (meant_cell (trees_in h) (own h.page v)) (owned v h.store).heap
+-- What an own state has of objects, scopes and trees is what the store and the page have of a widget with these scripts.
+pub record IsReadOff (fs : List Forest) (h : Shared) (v : ℕ) (o : OwnState) : Type 0 where
+  pub heap : o.heap ≡ map (meant_cell fs (own h.page v)) (owned v h.store).heap
   pub scopes : o.scopes ≡ map meant_scope (owned v h.store).scopes
   pub trees : o.forest ≡ forest h.page v
   pub counts : o.counts ≡ meant_counts (length (own h.page v)) (owned v h.store).paid

@@ -2,14 +2,14 @@
 ghost use Rattle.std.specs.Prelude.{◌≡◌, ℕ, List, Option, Some, ◌+◌, ◌≤◌, IfOk, OnOk, false, length, slice_get, true};
 ghost use Rattle.js_image.specs.Held.{IsConfined};
 ghost use Rattle.life_laws.specs.Life.{Seen, image};
-ghost use Rattle.life_queue.specs.declared.life.Life.{Life};
 ghost use Rattle.page_build.specs.Layout as layout;
 ghost use Rattle.page_image.specs.Image.{HasRoot, owns};
+ghost use Rattle.slot_picks.specs.declared.crowd.Place.{Place};
 ghost use Rattle.slot_picks.specs.Places.{HoldsItsOwn};
 ghost use Rattle.widget_meaning.specs.OwnState.{OwnState};
 ghost use Rattle.page_output.specs.Printing.{Prints};
 ghost use Rattle.page_spec.specs.Pages.{PagePiece, page_of, roots};
-ghost use Rattle.widget_host.specs.Housed.{AreShown, IsHoused, IsLaid, Loads, accepts, journal, lives, marked, rooted, seens, shared, trees};
+ghost use Rattle.widget_host.specs.Housed.{AreShown, IsHoused, IsLaid, Loads, accepts, journal, marked, own_trees, places, rooted, seens, shared};
 ghost use Rattle.widget_host.specs.Shapes.{HasOneRaw, IsReadOff, cells_of_host, cells_of_widgets};
 ghost use Rattle.pick_laws.specs.Journal.{AllJoined, journal_room};
 
@@ -25,7 +25,8 @@ use std::alloc::Global;
 use std::collections::VecDeque;
 
 /// One store and one page, the lives of all places, and the slots in which they follow on each other. A
-/// host whose call wanted memory is marked: it does nothing more, and answers each later call so.
+/// host whose call wanted memory is marked: nothing of it changes any more, and each later `give`, `pick`,
+/// `settle`, `item` and `line` is answered with `Memory`. What it holds can still be read, and its page printed.
 #[derive(Drop)]
 pub struct Host {
     pub(crate) crowd: Crowd,
@@ -38,7 +39,7 @@ pub struct Host {
 }
 
 impl Host {
-    /// A page is loaded: each piece in its place, and for each widget its load turns. The keys are those of
+    /// A page is loaded: each piece in its place, and for each widget its scripts and its load turns. The keys are those of
     /// the tables that hash what a stranger chose. What no manifest asks for (more than 16 slots, a script
     /// of the wrong position) is answered like want of memory.
     pub fn load(alloc: Global, keys: Keys, spec: PageSpec) -> Result<Host, Memory>
@@ -48,11 +49,13 @@ impl Host {
     }
 
     /// The cells of all widgets and of the host, and no others. Each widget is confined to its own, also where the
-    /// host is marked. Else each node of a widget has one RawNode.
+    /// host is marked: what its cells lead to is its own, the code of each of its functions is one of its own scripts,
+    /// and the names of its cells are permitted, but for the hidden one of a Bunch. Unless the host is marked, each
+    /// node of a widget has one RawNode.
     pub fn store(&self) -> &Store
         ensures are { result.now ≡ (shared self.now).store }
-        ensures confined { IsHoused self.now → (v : ℕ) → accepts self.now v ≡ true → IsConfined (trees self.now) v result.now }
-        ensures counted { IsHoused self.now → length result.now.cells ≡ cells_of_host result.now + cells_of_widgets result.now (length (lives self.now)) }
+        ensures confined { IsHoused self.now → (v : ℕ) → accepts self.now v ≡ true → IsConfined (own_trees self.now v) v result.now }
+        ensures counted { IsHoused self.now → length result.now.cells ≡ cells_of_host result.now + cells_of_widgets result.now (length (places self.now)) }
         ensures raws { IsHoused self.now → marked self.now ≡ false → (v n : ℕ) → owns (shared self.now).page v n ≡ true → HasOneRaw result.now.cells n }
     {
         let store = &self.crowd.shared.store;
@@ -72,15 +75,15 @@ impl Host {
     }
 
     /// A law: all that an accepted life holds is its own, also where the host is marked: what its cells lead to, the
-    /// nodes of its Bunches, what its handlers, its timers and its focus hold, and what waits in its turn.
+    /// codes of its functions, the nodes of its Bunches, what its handlers, its timers and its focus hold, and what waits in its turn.
     pub fn widgets_hold_their_own(&self)
-        ensures { IsHoused self.now → (v : ℕ) (l : Life) → slice_get (lives self.now) v ≡ Some l → l.accepted ≡ true → HoldsItsOwn (shared self.now) v l }
+        ensures { IsHoused self.now → (v : ℕ) (p : Place) → slice_get (places self.now) v ≡ Some p → p.life.accepted ≡ true → HoldsItsOwn (shared self.now) v p }
     {}
 
     /// A law: what is seen of the objects, the scopes and the trees of an accepted life is read off the one store and
     /// the one page.
     pub fn images_are_read_off(&self)
-        ensures { (v : ℕ) (s : Seen) → accepts self.now v ≡ true → slice_get (seens self.now) v ≡ Some s → IsReadOff (shared self.now) v (image s) }
+        ensures { (v : ℕ) (s : Seen) → accepts self.now v ≡ true → slice_get (seens self.now) v ≡ Some s → IsReadOff (own_trees self.now v) (shared self.now) v (image s) }
     {}
 
     /// The last picks that were not idle, at most 65,536. Those of a life follow on each other, and the last

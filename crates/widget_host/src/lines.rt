@@ -84,6 +84,6 @@ impl Host {
         }
         let v = present(&self.slots[w as usize].lives);
         let spent = spent_at(&self.crowd, v);
-        line_of(alloc, &self.crowd.lives[v as usize], spent)
+        line_of(alloc, &self.crowd.places[v as usize].life, spent)
     }
 }

@@ -39,7 +39,7 @@ pub(crate) fn load_host(alloc: Global, keys: Keys, spec: PageSpec) -> Result<Hos
 {
     let Loaded {
         shared,
-        lives,
+        places,
         names,
         channels,
     } = load_page(alloc, keys, spec)?;
@@ -48,7 +48,7 @@ pub(crate) fn load_host(alloc: Global, keys: Keys, spec: PageSpec) -> Result<Hos
     Ok(Host {
         crowd: Crowd {
             shared,
-            lives,
+            places,
             journal: VecDeque::new(alloc),
         },
         slots,

@@ -1,15 +1,13 @@
 //! Picks of slots, and picks until no slot is ready.
-#![tactic(auto, unfolding(crate::specs::Housed::IsHoused, crate::specs::Housed::accepts, crate::specs::Housed::chains, crate::specs::Housed::given, crate::specs::Housed::homes, crate::specs::Housed::journal, crate::specs::Housed::marked, crate::specs::Housed::seens, crate::specs::Housed::shared))]
+#![tactic(auto, unfolding(crate::specs::Housed::IsHoused, crate::specs::Housed::chains, crate::specs::Housed::given, crate::specs::Housed::homes, crate::specs::Housed::journal, crate::specs::Housed::marked, crate::specs::Housed::seens))]
 
-ghost use Rattle.std.specs.Prelude.{◌≡◌, ◌+◌, ◌<◌, ◌∷◌, [], ℕ, List, IfOk, IsErr, OnErr, OnOk, false, true, length, map};
+ghost use Rattle.std.specs.Prelude.{◌≡◌, ◌+◌, ◌<◌, ◌∷◌, [], IfOk, IsErr, OnErr, OnOk, false, true, length, map};
 ghost use Rattle.life_laws.specs.Life.{due, image};
-ghost use Rattle.page_spec.specs.Pages.{PagePiece};
 ghost use Rattle.pick_laws.specs.Journal.{ready_from};
 ghost use Rattle.slot_laws.specs.Chains.{PickedIn, last_life};
 ghost use Rattle.slot_laws.specs.Settled.{SettledSlots, slot_flags};
-ghost use Rattle.slot_picks.specs.Crowds.{PageStays};
 ghost use Rattle.widget_host.specs.declared.host.Host.{Host as HostOf};
-ghost use Rattle.widget_host.specs.Housed.{GivesItem, IsHoused, IsItem, IsLaid, accepts, chains, dues_after, given, homes, journal, marked, seens, shared};
+ghost use Rattle.widget_host.specs.Housed.{GivesItem, IsHoused, IsItem, KeepsHost, chains, dues_after, given, homes, journal, marked, seens};
 
 use crate::host::Host;
 use crate::items::HostItem;
@@ -27,11 +25,8 @@ impl Host {
         requires there { w < length (chains self.old) }
         requires slice { 0 < k }
         ensures picked { IfOk result (λ r. PickedIn w k r (chains self.old) (chains self.new) (seens self.old) (seens self.new) (journal self.old) (journal self.new)) }
-        ensures homes { OnOk result (homes self.new ≡ homes self.old) }
         ensures given { OnOk result (given self.new ≡ given self.old) }
-        ensures accepts { OnOk result ((v : ℕ) → accepts self.new v ≡ accepts self.old v) }
-        ensures laid { OnOk result ((names : List (List ℕ)) (pieces : List PagePiece) → IsLaid self.old names pieces → IsLaid self.new names pieces) }
-        ensures page { PageStays (shared self.old).page (shared self.new).page }
+        ensures stays { KeepsHost self.old self.new }
         ensures housed { IsHoused self.new }
         ensures marked { marked self.old ≡ true → IsErr result }
         ensures mark { OnErr result (marked self.new ≡ true) }
@@ -62,11 +57,8 @@ impl Host {
         ensures done { OnOk result (map image (seens self.new) ≡ map due (seens self.old)) }
         ensures quiet { OnOk result (ready_from 0 (slot_flags (seens self.new) (chains self.new)) ≡ []) }
         ensures chains { OnOk result (chains self.new ≡ map (λ c. last_life c ∷ []) (chains self.old)) }
-        ensures homes { OnOk result (homes self.new ≡ homes self.old) }
         ensures given { OnOk result (given self.new ≡ given self.old) }
-        ensures accepts { OnOk result ((v : ℕ) → accepts self.new v ≡ accepts self.old v) }
-        ensures laid { OnOk result ((names : List (List ℕ)) (pieces : List PagePiece) → IsLaid self.old names pieces → IsLaid self.new names pieces) }
-        ensures page { PageStays (shared self.old).page (shared self.new).page }
+        ensures stays { KeepsHost self.old self.new }
         ensures housed { IsHoused self.new }
         ensures marked { marked self.old ≡ true → IsErr result }
         ensures mark { OnErr result (marked self.new ≡ true) }
@@ -101,10 +93,8 @@ impl Host {
         ensures settled { OnOk result ((mid : HostOf) × GivesItem item self.old mid × SettledSlots slice (homes mid) (chains mid) (chains self.new) (seens mid) (seens self.new) (journal mid) (journal self.new) (C.asks chooser.old) (C.room chooser.old) (C.asks chooser.new) (C.room chooser.new)) }
         ensures quiet { OnOk result (ready_from 0 (slot_flags (seens self.new) (chains self.new)) ≡ []) }
         ensures chains { OnOk result (chains self.new ≡ map (λ c. last_life c ∷ []) (chains self.old)) }
-        ensures homes { OnOk result (homes self.new ≡ homes self.old) }
         ensures given { OnOk result (given self.new ≡ given self.old + 1) }
-        ensures accepts { OnOk result ((v : ℕ) → accepts self.new v ≡ accepts self.old v) }
-        ensures laid { OnOk result ((names : List (List ℕ)) (pieces : List PagePiece) → IsLaid self.old names pieces → IsLaid self.new names pieces) }
+        ensures stays { KeepsHost self.old self.new }
         ensures housed { IsHoused self.new }
         ensures marked { marked self.old ≡ true → IsErr result }
         ensures mark { OnErr result (marked self.new ≡ true) }

@@ -2,13 +2,17 @@ use Rattle.std.proofs.Common.{◌≡◌, ◌+◌, ◌≤◌, List, [], ◌∷◌
 use Rattle.std.proofs.lemmas.Iterator.Adapters.{YieldsList-from_vec}
 use Rattle.std.proofs.lemmas.Iterator.Consumers.{YieldsList-turn, YieldsList-end}
 use Rattle.std.proofs.lemmas.List.{length-map, length_push}
+use Rattle.js_tree.specs.Trees.{program_of}
 use Rattle.trace_reader.specs.declared.item.TraceItem.{TraceItem}
 use Rattle.trace_reader.specs.Said.{said}
 use Rattle.turn_sched.specs.Turns.{RoundState, TakeTurns}
 use Rattle.pick_laws.specs.PickLaws.{page_slots}
 use Rattle.slot_laws.specs.Chains.{last_life}
+use Rattle.slot_laws.specs.Settled.{PickedOn}
+use Rattle.slot_laws.proofs.Housing.{unspent_given}
 use Rattle.page_spec.specs.Pages.{piece_of}
 use Rattle.widget_host.specs.Housed.{chains, homes, journal, seens}
+use Rattle.widget_host.proofs.Programs.{programs_are}
 use Rattle.adhost_run.specs.Items.{IsFor}
 use Rattle.adhost_run.specs.Played.{name_of, ended, given_all, AreDue}
 use Rattle.adhost_run.proofs.Delivery.{few_slots, dues_loaded, dues_more}
@@ -24,6 +28,8 @@ items-init c =
       housed = loads.housed;
       chains = loads.chains;
       laid = loads.laid;
+      scripts = programs_are c.args.spec c.in_ok-host.host loads;
+      unspent = loads.unspent;
       homes = loads.homes;
       given = loads.given;
       journal = loads.journal;
@@ -59,8 +65,10 @@ items-preserved c =
     record {
       housed = c.in_ok-give.ensures.housed;
       chains = g.gives.chains ∙ inv.chains;
-      laid = g.gives.laid (map name_of c.args.spec.slots.items) (map piece_of c.args.spec.pieces.items) inv.laid;
-      homes = λ v w at. inv.homes v w (ap (λ hs. slice_get hs v) (sym g.gives.homes) ∙ at);
+      laid = g.gives.stays.laid (map name_of c.args.spec.slots.items) (map piece_of c.args.spec.pieces.items) inv.laid;
+      scripts = λ w s a at is. ap (map program_of) (g.gives.stays.scripts w) ∙ inv.scripts w s a at is;
+      unspent = unspent_given 0 (seens c.items.host) (seens c.give.new.host) g.gives.images inv.unspent;
+      homes = λ v w at. inv.homes v w (ap (λ hs. slice_get hs v) (sym g.gives.stays.homes) ∙ at);
       given = g.gives.given ∙ ap (λ n. n + 1) inv.given ∙ sym (length_push c.items.yielded c.in-Some.item);
       journal = g.gives.journal ∙ inv.journal;
       dues = dues_more c.args.spec c.items.host c.give.new.host c.items.yielded c.in-Some.item c.requires.slots inv.chains there g inv.dues;
@@ -78,8 +86,9 @@ returns-clause-played c =
     record {
       housed = e.housed;
       chains = e.chains ∙ ap (map (λ ls. last_life ls ∷ [])) inv.chains ∙ lasts 0 (length slots);
-      laid = e.laid (map name_of slots) (map piece_of c.args.spec.pieces.items) inv.laid;
-      ends = shown_settled c.items.host c.settle.new.self 0 (map (ended c.args.spec (given_all c.args.spec (map said c.args.items.items))) slots) e.done e.accepts dues;
+      laid = e.stays.laid (map name_of slots) (map piece_of c.args.spec.pieces.items) inv.laid;
+      scripts = λ w s a at is. ap (map program_of) (e.stays.scripts w) ∙ inv.scripts w s a at is;
+      ends = shown_settled c.items.host c.settle.new.self 0 (map (ended c.args.spec (given_all c.args.spec (map said c.args.items.items))) slots) e.done e.stays.accepts dues;
     }
 
 pub returns-clause-settled : goal.returns-clause-settled
@@ -91,11 +100,16 @@ returns-clause-settled c =
     let e = c.in_ok-settle.ensures in
     let many : length (chains c.items.host) ≡ length c.args.spec.slots.items = ap length inv.chains ∙ singles_length 0 (length c.args.spec.slots.items) in
     let even : length (chains c.items.host) ≡ length (chains c.settle.new.self) = sym (ap length e.chains ∙ length-map (chains c.items.host) (λ ls. last_life ls ∷ [])) in
+    let alone : chains c.items.host ≡ chains c.settle.new.self = inv.chains ∙ sym (e.chains ∙ ap (map (λ ls. last_life ls ∷ [])) inv.chains ∙ lasts 0 (length c.args.spec.slots.items)) in
     let slots_few : length (chains c.items.host) ≤ page_slots = omega (arith, many, few_slots (map name_of c.args.spec.slots.items) c.requires.slots, length-map c.args.spec.slots.items name_of) in
     record {
       housed = e.housed;
       unmarked = e.unmarked;
       count = e.given ∙ inv.given ∙ ap length whole;
+      before = seens c.items.host;
+      unspent = inv.unspent;
+      picks = subst (λ cs. PickedOn c.args.slice cs (seens c.items.host) [] (chains c.settle.new.self) (seens c.settle.new.self) (journal c.settle.new.self)) alone
+          (subst (λ js. PickedOn c.args.slice (chains c.items.host) (seens c.items.host) js (chains c.settle.new.self) (seens c.settle.new.self) (journal c.settle.new.self)) inv.journal e.settled.picks);
       quiet = e.quiet;
       slices = all_slices c.args.slice (journal c.items.host) (journal c.settle.new.self) (seens c.items.host) (seens c.settle.new.self) inv.journal e.settled.went;
       order = λ short. in_turn (homes c.items.host) inv.homes c.args.slice (chains c.items.host) (chains c.settle.new.self) (seens c.items.host) (seens c.settle.new.self)

@@ -1,8 +1,12 @@
 use Rattle.std.proofs.Common.{◌≡◌, ℕ, [], Some, length, map, slice_get}
 use Rattle.trace_reader.specs.Said.{said}
+use Rattle.slot_laws.specs.Chains.{Unspent}
+use Rattle.widget_meaning.specs.Alone.{Content}
+use Rattle.page_spec.specs.declared.SlotSpec.{SlotSpec}
+use Rattle.page_spec.specs.Contents.{content_of}
 use Rattle.page_spec.specs.Pages.{piece_of}
-use Rattle.widget_host.specs.Housed.{IsHoused, chains, given, homes, journal, IsLaid, singles}
-use Rattle.adhost_run.specs.Played.{name_of, ended, given_all, AreDue}
+use Rattle.widget_host.specs.Housed.{IsHoused, chains, given, homes, journal, scripts, seens, IsLaid, singles}
+use Rattle.adhost_run.specs.Played.{name_of, ended, given_all, AreDue, AreScriptsOf}
 use Rattle.adhost_run.proofs.playing.play.Given as goal
 
 abbrev pub invariant-items : goal.invariant-items
@@ -10,6 +14,8 @@ invariant-items l = record {
   housed : IsHoused l.host;
   chains : chains l.host ≡ singles 0 (length l.fn.spec.slots.items);
   laid : IsLaid l.host (map name_of l.fn.spec.slots.items) (map piece_of l.fn.spec.pieces.items);
+  scripts : (w : ℕ) (s : SlotSpec) (c : Content) → slice_get l.fn.spec.slots.items w ≡ Some s → content_of l.fn.spec.libs.items s.content ≡ Some c → AreScriptsOf c (scripts l.host w);
+  unspent : Unspent 0 (seens l.host);
   homes : (v w : ℕ) → slice_get (homes l.host) v ≡ Some w → w ≡ v;
   given : given l.host ≡ length l.yielded;
   journal : journal l.host ≡ [];

@@ -9,6 +9,6 @@ use Rattle.widget_host.proofs.giving.feed_all.Given as goal
 
 abbrev pub invariant-slots : goal.invariant-slots
 invariant-slots l = record {
-  fed : AreFed (λ v. list_any (λ c. nat_eq (last_life c) v) (take l.slot-index (chains_of l.slots))) (work.Advance l.ms) 0 l.initial.lives.items l.lives.items;
-  same : AreSame l.initial.lives.items l.lives.items;
+  fed : AreFed (λ v. list_any (λ c. nat_eq (last_life c) v) (take l.slot-index (chains_of l.slots))) (work.Advance l.ms) 0 l.initial.places.items l.places.items;
+  same : AreSame l.initial.places.items l.places.items;
 }

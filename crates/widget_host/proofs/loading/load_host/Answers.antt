@@ -1,4 +1,4 @@
-use Rattle.std.proofs.Common.{◌≡◌, ap, arith, false, length, ◌∙◌}
+use Rattle.std.proofs.Common.{◌≡◌, ap, arith, false, length, refl, ◌∙◌}
 use Rattle.std.proofs.lemmas.List.{length-map}
 use Rattle.page_spec.specs.declared.SlotSpec.{SlotSpec}
 use Rattle.widget_host.specs.declared.host.Host.{Host}
@@ -12,6 +12,6 @@ slots_of-requires c = omega (arith, c.len-many.ensures, ap length c.in_ok-shared
 pub returns : goal.returns
 returns c =
     let l = c.in_ok-shared.field-0 in
-    let base : Host = record { crowd = record { shared = l.shared; lives = l.lives; journal = c.new.result }; slots = c.in_ok-slots.slots; channels = l.channels; given = 0; swaps = 0; marked = false } in
+    let base : Host = record { crowd = record { shared = l.shared; places = l.places; journal = c.new.result }; slots = c.in_ok-slots.slots; channels = l.channels; given = 0; swaps = 0; marked = false } in
     let many : c.len-many.result ≡ length c.args.spec.slots.items = omega (arith, c.len-many.ensures, ap length c.in_ok-shared.ensures.names, length-map c.args.spec.slots.items (λ (s : SlotSpec). s.name)) in
-    host_loads c.args.spec l c.in_ok-shared.ensures base c.new.ensures.items (c.in_ok-slots.ensures ∙ ap (singles 0) many)
+    host_loads c.args.spec l c.in_ok-shared.ensures base c.new.ensures.items refl (c.in_ok-slots.ensures ∙ ap (singles 0) many)

@@ -6,12 +6,16 @@ use Rattle.slot_picks.specs.Crowds.{chains_of}
 use Rattle.slot_picks.specs.Places.{homes_of}
 use Rattle.widget_host.specs.Feeding.{AreFed, work_of}
 use Rattle.widget_host.specs.Housed.{IsHoused, IsItem, IsWhole, chains, given, is_for, marked}
-use Rattle.widget_host.proofs.Given.{gives_apart, gives_item, gives_whole}
+use Rattle.widget_host.proofs.Given.{gives_apart, gives_item, gives_keeps, gives_whole}
+use Rattle.widget_host.proofs.Staying.{host_here}
 use Rattle.widget_host.proofs.host.Host.give.Goals as goal
 
 pub returns-then-self-clause-mark : goal.returns-then-self-clause-mark
 unfolding marked
 returns-then-self-clause-mark c = c.if-self.true
+
+pub returns-then-self-clause-stays : goal.returns-then-self-clause-stays
+returns-then-self-clause-stays c = host_here c.args.self.now
 
 pub feed_item-requires-clause-shape : goal.feed_item-requires-clause-shape
 unfolding chains
@@ -25,7 +29,7 @@ feed_item-requires-clause-born c =
     let whole : IsWhole c.args.self.now = c.requires.housed.1 c.if-self.false in (
       16 + c.args.self.now.swaps,
       omega (arith, whole.slots.few, whole.slots.crowd.places),
-      subst (λ (ss : List Slot). Chains (homes_of c.args.self.now.crowd.lives.items) (16 + c.args.self.now.swaps) 0 (chains_of ss)) (sym c.deref.ensures.value) whole.slots.chains,
+      subst (λ (ss : List Slot). Chains (homes_of c.args.self.now.crowd.places.items) (16 + c.args.self.now.swaps) 0 (chains_of ss)) (sym c.deref.ensures.value) whole.slots.chains,
     )
 
 pub overflow_add-self : goal.overflow_add-self
@@ -35,8 +39,11 @@ overflow_add-self c = omega (arith, c.requires.room)
 pub returns-in-Ok-clause-gives : goal.returns-in-Ok-clause-gives
 returns-in-Ok-clause-gives c =
     let old = c.args.self.now in
-    gives_item c.args.item old _ refl refl refl refl refl
-    (subst (λ (ss : List Slot). AreFed (is_for (chains_of ss) c.args.item) (work_of c.args.item) 0 old.crowd.lives.items c.feed_item.new.lives.items) c.deref.ensures.value c.in-Ok.ensures.fed)
+    gives_item c.args.item old _ refl refl refl refl refl refl
+    (subst (λ (ss : List Slot). AreFed (is_for (chains_of ss) c.args.item) (work_of c.args.item) 0 old.crowd.places.items c.feed_item.new.places.items) c.deref.ensures.value c.in-Ok.ensures.fed) c.in-Ok.ensures.same
+
+pub returns-in-Ok-clause-stays : goal.returns-in-Ok-clause-stays
+returns-in-Ok-clause-stays c = gives_keeps c.args.self.now _ refl c.in-Ok.ensures.same refl refl
 
 pub returns-in-Ok-clause-housed : goal.returns-in-Ok-clause-housed
 unfolding IsHoused marked chains given
@@ -44,8 +51,8 @@ returns-in-Ok-clause-housed c =
     let old = c.args.self.now in
     let whole : IsWhole old = c.requires.housed.1 c.if-self.false in (
       gives_apart old _ refl c.in-Ok.ensures.same c.requires.housed.0,
-      λ unmarked. gives_whole c.args.item old _ refl refl refl refl refl
-          (subst (λ (ss : List Slot). AreFed (is_for (chains_of ss) c.args.item) (work_of c.args.item) 0 old.crowd.lives.items c.feed_item.new.lives.items) c.deref.ensures.value c.in-Ok.ensures.fed)
+      λ unmarked. gives_whole c.args.item old _ refl refl refl refl refl refl
+          (subst (λ (ss : List Slot). AreFed (is_for (chains_of ss) c.args.item) (work_of c.args.item) 0 old.crowd.places.items c.feed_item.new.places.items) c.deref.ensures.value c.in-Ok.ensures.fed) c.in-Ok.ensures.same
           whole c.requires.room c.requires.shape,
     )
 
@@ -56,6 +63,9 @@ returns-in-Ok-clause-marked c = λ is. absurd (let both : true ≡ false = sym i
 pub returns-in-Ok-clause-unmarked : goal.returns-in-Ok-clause-unmarked
 unfolding marked
 returns-in-Ok-clause-unmarked c = c.if-self.false
+
+pub returns-in-Err-clause-stays : goal.returns-in-Err-clause-stays
+returns-in-Err-clause-stays c = gives_keeps c.args.self.now _ refl c.feed_item.ensures.same refl refl
 
 pub returns-in-Err-clause-housed : goal.returns-in-Err-clause-housed
 unfolding IsHoused marked

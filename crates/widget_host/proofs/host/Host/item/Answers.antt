@@ -2,8 +2,8 @@ use Rattle.std.proofs.Common.{◌≡◌, ℕ, false, true, List, [], ◌∷◌, 
 use Rattle.std.proofs.lemmas.Result.{on_ok_weaker}
 use Rattle.life_laws.specs.Life.{due, image}
 use Rattle.slot_laws.specs.Chains.{last_life}
-use Rattle.widget_host.specs.Housed.{chains, dues_after, given, homes, seens}
-use Rattle.widget_host.proofs.Staying.{accepts_then, laid_then, ok_then}
+use Rattle.widget_host.specs.Housed.{chains, dues_after, given, seens}
+use Rattle.widget_host.proofs.Staying.{host_then, ok_then}
 use Rattle.widget_host.proofs.host.Host.item.Goals as goal
 
 pub returns-clause-done : goal.returns-clause-done
@@ -18,17 +18,11 @@ returns-clause-chains g c =
     let lasts : List (List ℕ) → List (List ℕ) = map (λ vs. last_life vs ∷ []) in
     ok_then c.settle.result (chains c.settle.new.self) (lasts (chains c.give.new.self)) (lasts (chains c.args.self.now)) c.settle.ensures.chains (ap lasts c.in_ok-give.ensures.gives.chains)
 
-pub returns-clause-homes : goal.returns-clause-homes
-returns-clause-homes g c = ok_then c.settle.result (homes c.settle.new.self) (homes c.give.new.self) (homes c.args.self.now) c.settle.ensures.homes c.in_ok-give.ensures.gives.homes
-
 pub returns-clause-given : goal.returns-clause-given
 returns-clause-given g c = ok_then c.settle.result (given c.settle.new.self) (given c.give.new.self) _ c.settle.ensures.given c.in_ok-give.ensures.gives.given
 
-pub returns-clause-accepts : goal.returns-clause-accepts
-returns-clause-accepts g c = accepts_then c.args.self.now c.give.new.self c.settle.new.self c.settle.result c.settle.ensures.accepts c.in_ok-give.ensures.gives.accepts
-
-pub returns-clause-laid : goal.returns-clause-laid
-returns-clause-laid g c = laid_then c.args.self.now c.give.new.self c.settle.new.self c.settle.result c.settle.ensures.laid c.in_ok-give.ensures.gives.laid
+pub returns-clause-stays : goal.returns-clause-stays
+returns-clause-stays g c = host_then c.args.self.now c.give.new.self c.settle.new.self c.in_ok-give.ensures.stays c.settle.ensures.stays
 
 pub returns-clause-marked : goal.returns-clause-marked
 returns-clause-marked g c = λ is. absurd (let both : false ≡ true = c.in_ok-give.ensures.marked is in cc)

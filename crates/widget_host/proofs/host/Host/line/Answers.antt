@@ -36,7 +36,7 @@ pub index-requires-2 : goal.index-requires-2
 unfolding IsHoused marked
 index-requires-2 c =
     let first : slice_get c.index.result.now.lives.items 0 ≡ Some c.present-v.result = subst (λ (vs : List ℕ). slice_get vs 0 ≡ Some c.present-v.result) c.deref.ensures.value c.present-v.ensures in
-    let within : c.present-v.result < length c.args.self.now.crowd.lives.items = life_there c.args.self.now c.args.w c.index.result.now (c.requires.housed.1 c.if-self.false) c.requires.there c.index.ensures c.present-v.result first in
+    let within : c.present-v.result < length c.args.self.now.crowd.places.items = life_there c.args.self.now c.args.w c.index.result.now (c.requires.housed.1 c.if-self.false) c.requires.there c.index.ensures c.present-v.result first in
     omega (arith, within)
 
 pub returns : goal.returns

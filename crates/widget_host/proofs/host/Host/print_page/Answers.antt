@@ -8,4 +8,4 @@ pub returns : goal.returns
 unfolding IsLaid
 returns c =
     on_ok_weaker c.print_page.result (λ printed names pieces ends laid shown even.
-    printed names (rooted (is_accepted c.args.self.now.crowd.lives.items) 0 names) pieces ends laid (ends_shown c.args.self.now 0 names ends even shown)) c.print_page.ensures
+    printed names (rooted (is_accepted c.args.self.now.crowd.places.items) 0 names) pieces ends laid (ends_shown c.args.self.now 0 names ends even shown)) c.print_page.ensures

@@ -1,5 +1,5 @@
 use Rattle.std.proofs.Common.{refl}
-use Rattle.widget_host.specs.Housed.{lives, shared, trees}
+use Rattle.widget_host.specs.Housed.{places, shared}
 use Rattle.widget_host.proofs.Reading.{confined_at, counted_at, one_raw, raw_at}
 use Rattle.widget_host.proofs.host.Host.store.Goals as goal
 
@@ -8,11 +8,10 @@ unfolding shared
 returns-clause-are c = refl
 
 pub returns-clause-confined : goal.returns-clause-confined
-unfolding trees
 returns-clause-confined c = λ housed v is. confined_at c.args.self.now housed v is
 
 pub returns-clause-counted : goal.returns-clause-counted
-unfolding lives
+unfolding places
 returns-clause-counted c = λ housed. counted_at c.args.self.now housed
 
 pub returns-clause-raws : goal.returns-clause-raws
