@@ -31,7 +31,7 @@ use Rattle.permitted_table.specs.declared.native.HostEntry.{HostEntry}
 use Rattle.permitted_table.specs.declared.native.HostEntry.TheVariants as host
 use Rattle.permitted_table.specs.declared.native.NativeId.TheVariants as natives
 use Rattle.widget_meaning.specs.HostTable.{host_pairs}
-use Rattle.std.proofs.Common.{refl}
+use Rattle.std.proofs.Common.{refl, arith}
 use Rattle.std.proofs.lemmas.Bool.{and_parts}
 use Rattle.meaning_laws.proofs.Units.{has_units, tested}
 use Rattle.meaning_laws.proofs.WrittenJson.{OfWritten, PairHasTexts, value_text_is}
@@ -42,7 +42,7 @@ use Rattle.meaning_laws.proofs.Values.{told, also, text_told, undefined_is, trut
 use Rattle.meaning_laws.proofs.Steps.{R, Keeps, ended, halted, either, by_test, charged, paid, made, made_text, faulted, wanted, waits}
 
 timer_kept : (m : Sizes) (s : State) (f : Value) (z : ℤ) → R m s → ValueIs m f → R m (with_timer s f z)
-timer_kept m s (Own n) z h q = waits m s.own.heap s.own.scopes s.own.kept s.own.timers s.own.forest s.own.focus _ h q.born
+timer_kept m s (Own n) z h q = waits m s.own.heap s.own.scopes s.own.kept s.own.timers s.own.forest s.own.focus s.own.counts.slots _ h q.born
 timer_kept m s Undefined z h q = h
 timer_kept m s Null z h q = h
 timer_kept m s (Truth b) z h q = h
@@ -52,7 +52,7 @@ timer_kept m s (Text t) z h q = h
 timer_kept m s (Host e) z h q = h
 
 pub give_json_r : (m : Sizes) (x0 : Written) (x1 : State) → R m x1 → Told m (OfWritten x0) → Keeps m (give_json x0 x1)
-give_json_r m (Wrote t) s hr ht = charged m _ s _ hr (made_text m t s (give (Text t)) hr (λ a u. ended m (Is (Text t)) (with_counts s a) u (value_end m _ (text_is m t ht))))
+give_json_r m (Wrote t) s hr ht = charged m _ s _ hr (made_text m t s (give (Text t)) hr (λ a u due. ended m (Is (Text t)) (with_counts s a) u (value_end m _ (text_is m t ht))))
 give_json_r m NoJson s hr ht = search (faulted)
 give_json_r m TooLong s hr ht = charged m _ s _ hr (halted m _ s hr)
 
@@ -84,7 +84,7 @@ remove_native_r m o n s hr h1 = wanted m E4 (is_object o) s _ hr (λ e. want_nam
 
 pub create_from_r : (m : Sizes) (x0 : Value) (x1 : State) → R m x1 → ValueIs m x0 → Keeps m (create_from x0 x1)
 create_from_r m o s hr h0 = by_test m _ _ _ (λ e. search (faulted)) (λ e. made m (new_object o []) 0 s give hr
-    (record { kind = tt; prototype = h0; pairs = no_pairs m; names = told m tt }) (counted_short max_chain s (Some o) (ltb-false max_chain (chain_from (suc max_chain) s (Some o)) e))
+    (record { kind = tt; prototype = h0; pairs = no_pairs m; names = told m tt }) (counted_short max_chain s (Some o) (ltb-false max_chain (chain_from (suc max_chain) s (Some o)) e)) (record { room = omega arith; len = tt })
     (λ n g v t u w. ended n (Is v) t u (value_end n v w)))
 
 pub create_r : (m : Sizes) (x0 : Value) (x1 : State) → R m x1 → ValueIs m x0 → Keeps m (create x0 x1)
@@ -133,13 +133,13 @@ pub later_r : (m : Sizes) (x0 : Value) (x1 : Value) (x2 : State) → R m x2 → 
 later_r m f ms s hr h0 = want_function_r m f s _ hr (later_in_r m f ms s hr h0)
 
 pub log_text_r : (m : Sizes) (x0 : List ℕ) (x1 : State) → R m x1 → Keeps m (log_text x0 x1)
-log_text_r m t s hr = charged m _ s _ hr (paid m _ s (λ x. give Undefined (with_entry x t)) hr (λ a u. ended m _ (with_entry (with_counts s a) t) u (value_end m _ (undefined_is m))))
+log_text_r m t s hr = charged m _ s _ hr (paid m _ s (λ x. give Undefined (with_entry x t)) hr (λ a u due. ended m _ (with_entry (with_counts s a) t) u (value_end m _ (undefined_is m))))
 
 pub log_native_r : (m : Sizes) (x0 : Value) (x1 : State) → R m x1 → Keeps m (log_native x0 x1)
 log_native_r m v s hr = wanted m E4 (not (list_any is_object (v ∷ []))) s _ hr (λ _. log_text_r m (to_text v) s hr)
 
 pub keep_post_r : (m : Sizes) (x0 : List ℕ) (x1 : List ℕ) (x2 : State) → R m x2 → Keeps m (keep_post x0 x1 x2)
-keep_post_r m to t s hr = either m _ _ _ (ended m _ s hr (value_end m _ (truth_is m _))) (paid m _ s (λ x. give (Truth true) (with_post x to t)) hr (λ a u. ended m _ (with_post (with_counts s a) to t) u (value_end m _ (truth_is m _))))
+keep_post_r m to t s hr = either m _ _ _ (ended m _ s hr (value_end m _ (truth_is m _))) (paid m _ s (λ x. give (Truth true) (with_post x to t)) hr (λ a u due. ended m _ (with_post (with_counts s a) to t) u (value_end m _ (truth_is m _))))
 
 pub post_r : (m : Sizes) (x0 : Value) (x1 : Value) (x2 : State) → R m x2 → Keeps m (post x0 x1 x2)
 post_r m (Text to) (Text t) s hr = either m (nat_lt max_post (length t)) _ _ (faulted m E4 s hr) (charged m _ s _ hr (keep_post_r m to t s hr))

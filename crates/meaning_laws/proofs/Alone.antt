@@ -18,14 +18,14 @@ use Rattle.widget_meaning.specs.Dispatch.{nearest, dispatch}
 use Rattle.widget_meaning.specs.Items.{Event, Item, Occurs, Advance, item, item_at, live_item, occurs, if_heard, with_value, event_value, due_turns, unless_stopped, on_due, next_due, sooner, without_due, timer_turn, timer_plan, without_timer, resting}
 use Rattle.widget_meaning.specs.Alone.{Content, alone_from, beginning, loaded, load_library, library_turn, library_plan, go_turn, go_plan, call_parts}
 use Rattle.widget_meaning.proofs.Times.{relabelled_once, times_numbered}
-use Rattle.meaning_laws.specs.There.{Sizes, sizes_with, Grows, Told, ValueIs, NodeIs, OfNode, CellIs, KeptIs, IsBelow, IsShort, IsThereWith, JobIs, cell_in, OfEnd}
+use Rattle.meaning_laws.specs.There.{CellFits, Sizes, sizes_with, Grows, Told, ValueIs, NodeIs, OfNode, CellIs, KeptIs, IsBelow, IsShort, IsThereWith, JobIs, cell_in, OfEnd}
 use Rattle.meaning_laws.specs.Texts.{MaybeText, LabelHasTexts, StmtsHaveTexts, ContentHasTexts, ItemHasTexts}
 use Rattle.meaning_laws.proofs.Scripts.{PartsHaveTexts, parts_are}
 use Rattle.meaning_laws.proofs.Labels.{MaybeLabel, attribute_set, label_is, page_relabelled, page_numbered}
 use Rattle.meaning_laws.proofs.Later.{same_size, completion_later}
 use Rattle.meaning_laws.proofs.Levels.{height_numbered, height_relabelled}
 use Rattle.meaning_laws.proofs.Values.{told, own_value, undefined_is, text_is, no_pairs}
-use Rattle.meaning_laws.proofs.Steps.{R, Keeps, ended, job, there_later, plain_is}
+use Rattle.meaning_laws.proofs.Steps.{R, Keeps, ended, job, there_later, there_paid, plain_is}
 use Rattle.meaning_laws.proofs.Nodes.{InTrees, page_in, tops_in}
 use Rattle.meaning_laws.proofs.Forms.{dispatch_r}
 use Rattle.meaning_laws.proofs.Jobs.{Comes, run_keeps, timer_plan_r, library_plan_r, go_plan_r}
@@ -39,7 +39,7 @@ module _ (texts : Bool) where
 
   at_rest : (m : Sizes) (r : Out) → m.texts ≡ texts → Comes m r → IsThereWith texts r.state.own
   at_rest m r e h = let s : State = r.state in
-      there_later h.size (sizes_with texts s.own) s.own.heap s.own.scopes s.own.kept s.own.timers s.own.forest s.own.focus (wide m r e h) h.fine.there
+      there_later h.size (sizes_with texts s.own) s.own.heap s.own.scopes s.own.kept s.own.timers s.own.forest s.own.focus s.own.counts.slots (wide m r e h) h.fine.there
 
   end_later : (m n : Sizes) (e : End) → Grows m n → OfEnd m e → OfEnd n e
   end_later m n (Ended o) g h = completion_later m n o g h
@@ -62,7 +62,8 @@ module _ (texts : Bool) where
   choose false o p h k = k
 
   noted_r : (t : List ℕ) (o : OwnState) → IsThereWith texts o → IsThereWith texts (noted t o)
-  noted_r t o h = choose (nat_lt max_units (o.counts.units + (length t + 1))) _ _ h h
+  noted_r t o h = choose (nat_lt max_units (o.counts.units + (length t + 1))) _ _ h
+      (there_paid (sizes_with texts o) o.heap o.scopes o.kept o.timers o.forest o.focus o.counts.slots (o.counts.slots + 0) (omega arith) h)
 
   end_r : (e : End) (s : State) (o : OwnState) → IsThereWith texts o → IsThereWith texts (end_turn e s o)
   end_r (Ended (Throw v)) s o h = noted_r (note_text s v) o h
@@ -120,6 +121,7 @@ module _ (texts : Bool) where
     low = h.low;
     focused = h.focused;
     labels = h.labels;
+    fits = h.fits;
     lib = h.lib;
     root = h.root;
   }
@@ -149,6 +151,7 @@ module _ (texts : Bool) where
     low = subst (λ x. x ≤ max_node_depth + 1) (sym (height_relabelled n l o.forest)) h.low;
     focused = h.focused;
     labels = record { holds = λ e. page_relabelled n l o.forest (k e) (h.labels.holds e) };
+    fits = h.fits;
     lib = h.lib;
     root = h.root;
   }
@@ -268,11 +271,16 @@ module _ (texts : Bool) where
       };
       focused = tt;
       labels = record { holds = λ e. page_numbered 0 w.root (content e).page };
+      fits = λ n. plain_fits n;
       low = subst (λ x. x ≤ max_node_depth + 1) (sym (height_numbered 0 w.root)) lows;
       lib = own_value (sizes_with texts (beginning w grant)) 0 (omega arith);
       root = record { born = omega (arith, some, length-replicate (size w.root) nothing_kept) };
     }
       where
+        plain_fits : (n : ℕ) → CellFits 0 (cell_in (plain_object [] ∷ []) n)
+        plain_fits zero = record { room = omega arith; len = tt }
+        plain_fits (suc n) = record { room = omega arith; len = tt }
+
         one : (n : ℕ) → CellIs (sizes_with texts (beginning w grant)) (cell_in (plain_object [] ∷ []) n)
         one zero = plain_is (sizes_with texts (beginning w grant)) [] (no_pairs (sizes_with texts (beginning w grant))) (told (sizes_with texts (beginning w grant)) tt)
         one (suc n) = plain_is (sizes_with texts (beginning w grant)) [] (no_pairs (sizes_with texts (beginning w grant))) (told (sizes_with texts (beginning w grant)) tt)

@@ -28,6 +28,17 @@ use Rattle.std.specs.Prelude.{codes, if◌then◌else◌}
 use Rattle.std.specs.List.{AllByRecursion, fold}
 use Rattle.code_units.specs.Permitted.{is_permitted}
 use Rattle.meaning_laws.proofs.Each.{each_both, each_filtered}
+use Rattle.std.proofs.Common.{ap, ltb-true}
+use Rattle.std.specs.Prelude.{filter, max, nat_lt, ◌&&◌}
+use Rattle.std.specs.Fmt.{decimal}
+use Rattle.std.specs.Str.{bytes_eq}
+use Rattle.std.specs.Str.Parse.{digits_value}
+use Rattle.std.proofs.lemmas.Bool.{leb-true}
+use Rattle.code_units.specs.Whole.{is_numeral}
+use Rattle.code_units.specs.Indices.{index_value, index_of}
+use Rattle.widget_meaning.specs.Limits.{max_length}
+use Rattle.widget_meaning.specs.JsonBack.{HasLength}
+use Rattle.widget_meaning.specs.Properties.{is_below}
 use Rattle.std.proofs.lemmas.List.{length-append}
 use Rattle.code_units.specs.Whole.{number_in}
 use Rattle.permitted_table.specs.declared.native.NativeId.{NativeId}
@@ -43,7 +54,7 @@ use Rattle.widget_meaning.specs.Scopes.{variable, set_pair, without_name}
 use Rattle.widget_meaning.specs.Expressions.{stepped, is_post, expr_list, property_list}
 use Rattle.widget_meaning.specs.NativeForms.{elements}
 use Rattle.widget_meaning.specs.Dispatch.{nearest, event_pairs, event_cost, with_event, with_dispatch, without_dispatch, is_bubbled}
-use Rattle.meaning_laws.specs.There.{Sizes, Grows, Told, IsBelow, ValueIs, ValuesAre, MaybeIs, PairsAre, NodeIs, NodesAre, OfNode, FunctionsAre, OfKind, CellIs, ReferenceIs, CompletionIs, LoopIs, HearingIs, JobIs, IsShort, cell_in}
+use Rattle.meaning_laws.specs.There.{Sizes, Grows, Told, CellFits, IsBelow, ValueIs, ValuesAre, MaybeIs, PairsAre, NodeIs, NodesAre, OfNode, FunctionsAre, OfKind, CellIs, ReferenceIs, CompletionIs, LoopIs, HearingIs, JobIs, IsShort, cell_in}
 use Rattle.meaning_laws.specs.Texts.{IsText, AreTexts, AreNames, ExprHasTexts, FormHasTexts, OptionHasTexts, InitHasTexts, StmtHasTexts, StmtFormHasTexts, StmtsHaveTexts, BlockHasTexts, CatchHasTexts, FunHasTexts}
 use Rattle.meaning_laws.proofs.Units.{tested, decimal_is, type_is}
 use Rattle.meaning_laws.proofs.Scripts.{PropertyHasTexts, DeclHasTexts, CaseHasTexts, exprs_are, stmts_are, funs_are, properties_are, decls_are, clauses_are, unnamed, body_are, bodies_are, default_are}
@@ -51,7 +62,7 @@ use Rattle.meaning_laws.proofs.Later.{told_later, same_size, through, value_late
 use Rattle.meaning_laws.proofs.Values.{told, also, first, second, own_value, text_told, both_names, filtered_names, replaced_names, taken_names, undefined_is, null_is, truth_is, nan_is, num_is, text_is, host_is, literal_is, word_is, no_values, more_values, both_values, nth_is, no_value, some_value, no_pairs, more_pairs, both_pairs, filtered_pairs, replaced_are, taken_are, got_is, named_is, referred_of, elements_of, bunch_of, base_is, variable_is, property_reference, found_reference, normal_end, break_end, continue_end, value_end, reference_end, return_end, throw_end, eval_job, target_job, exec_job, pass_job, call_job, while_loop, do_loop, for_loop, for_in_loop, scope_of_call}
 use Rattle.meaning_laws.proofs.Results.{GivenIs, given, binary_given, unary_given, stepped_given}
 use Rattle.meaning_laws.proofs.Nodes.{OfHeard, nearest_is, parent_is}
-use Rattle.meaning_laws.proofs.Steps.{R, Holds, Keeps, ended, halted, job, either, value, reference, normal, thrown, chain, charged, paid, made, made_text, faulted, wanted, lowered, written, assigned, entered, there_later, there_born, plain_is}
+use Rattle.meaning_laws.proofs.Steps.{R, Holds, second_part, Keeps, ended, halted, job, either, value, reference, normal, thrown, chain, charged, paid, made, made_text, faulted, wanted, lowered, written, assigned, entered, there_later, there_born, plain_is}
 
 -- ## What a state has
 
@@ -71,12 +82,12 @@ module _ (m : Sizes) (s : State) where
   pub bunch_is : (v : Value) (ns : List ℕ) → R m s → bunch_nodes (kind_of s v) ≡ Some ns → NodesAre m ns
   bunch_is v ns h e = bunch_of m s h.there.objects h.there.scopes v ns e
 
-  pub write_cell : (n : ℕ) (c : Cell) → R m s → CellIs m c → c.prototype ≡ (cell_in s.own.heap n).prototype → R m (with_cell s n c)
-  write_cell n c h q e = written m s.own.heap s.own.scopes s.own.kept s.own.timers s.own.forest s.own.focus n c h q e
+  pub write_cell : (n : ℕ) (c : Cell) → R m s → CellIs m c → c.prototype ≡ (cell_in s.own.heap n).prototype → CellFits s.own.counts.slots c → R m (with_cell s n c)
+  write_cell n c h q e z = written m s.own.heap s.own.scopes s.own.kept s.own.timers s.own.forest s.own.focus s.own.counts.slots n c h q e z
 
   set_kept : (o : Option ℕ) (x : List ℕ) (v : Value) → R m s → ValueIs m v → R m (set_in s o x v)
   set_kept None x v h q = h
-  set_kept (Some i) x v h q = assigned m s.own.heap s.own.scopes s.own.kept s.own.timers s.own.forest s.own.focus i (set_pair (scope_at s i) x v) h (replaced_are m (scope_at s i).pairs x v q (h.there.scopes i))
+  set_kept (Some i) x v h q = assigned m s.own.heap s.own.scopes s.own.kept s.own.timers s.own.forest s.own.focus s.own.counts.slots i (set_pair (scope_at s i) x v) h (replaced_are m (scope_at s i).pairs x v q (h.there.scopes i))
 
   pub assign_kept : (p : Place) (x : List ℕ) (v : Value) → R m s → ValueIs m v → R m (assign s p x v)
   assign_kept p x v h q = set_kept (scope_of s p x) x v h q
@@ -165,10 +176,10 @@ pub record Hosted (c : Cell) : Type 0 where
   pub below : (k : ℕ) → IsBelow k c.prototype
   pub short : (hs : List Cell) → IsShort max_chain hs (Some c.prototype)
 
-pub all_hold : (n : Sizes) (ds : List Cell) (s : State) → Holds n s → AllByRecursion (CellIs n) ds → AllByRecursion Hosted ds → Holds n (fold with_new_cell s ds)
-all_hold n [] s h q k = h
-all_hold n (d ∷ ds) s h q k = all_hold n ds (with_new_cell s d)
-    (there_born n s.own.heap s.own.scopes s.own.kept s.own.timers s.own.forest s.own.focus d h q.0 (k.0.below (length s.own.heap)) (k.0.short s.own.heap)) q.1 k.1
+pub all_hold : (n : Sizes) (ds : List Cell) (s : State) → Holds n s → AllByRecursion (CellIs n) ds → AllByRecursion Hosted ds → AllByRecursion (CellFits s.own.counts.slots) ds → Holds n (fold with_new_cell s ds)
+all_hold n [] s h q k z = h
+all_hold n (d ∷ ds) s h q k z = all_hold n ds (with_new_cell s d)
+    (there_born n s.own.heap s.own.scopes s.own.kept s.own.timers s.own.forest s.own.focus s.own.counts.slots d h q.0 (k.0.below (length s.own.heap)) (k.0.short s.own.heap) z.0) q.1 k.1 z.1
 
 pub all_length : (ds : List Cell) (s : State) → length (fold with_new_cell s ds).own.heap ≡ length s.own.heap + length ds
 all_length [] s = omega arith
@@ -185,10 +196,10 @@ with_more m s k = record { objects = length s.own.heap + k; nodes = m.nodes; tex
 pub more_grows : (m : Sizes) (s : State) (k : ℕ) → R m s → Grows m (with_more m s k)
 more_grows m s k h = record { objects = omega (arith, h.wide.objects); nodes = omega arith; texts = refl }
 
-pub all_born : (m : Sizes) (ds : List Cell) (s : State) → R m s → AllByRecursion (CellIs (with_more m s (length ds))) ds → AllByRecursion Hosted ds
+pub all_born : (m : Sizes) (ds : List Cell) (s : State) → R m s → AllByRecursion (CellIs (with_more m s (length ds))) ds → AllByRecursion Hosted ds → AllByRecursion (CellFits s.own.counts.slots) ds
     → R (with_more m s (length ds)) (fold with_new_cell s ds)
-all_born m ds s h q k = record {
-  there = all_hold (with_more m s (length ds)) ds s (there_later m (with_more m s (length ds)) s.own.heap s.own.scopes s.own.kept s.own.timers s.own.forest s.own.focus (more_grows m s (length ds) h) h.there) q k;
+all_born m ds s h q k z = record {
+  there = all_hold (with_more m s (length ds)) ds s (there_later m (with_more m s (length ds)) s.own.heap s.own.scopes s.own.kept s.own.timers s.own.forest s.own.focus s.own.counts.slots (more_grows m s (length ds) h) h.there) q k z;
   wide = record { objects = omega (arith, all_length ds s); nodes = subst (λ x. m.nodes ≤ length x) (sym (all_kept ds s)) h.wide.nodes; texts = refl };
 }
 
@@ -211,9 +222,9 @@ event_grows m s h = more_grows m s 3 h
 pub event_is : (m : Sizes) (s : State) → ValueIs (event_size m s) (Own (length s.own.heap))
 event_is m s = own_value (event_size m s) (length s.own.heap) (omega arith)
 
-pub event_born : (m : Sizes) (s : State) (kind : List ℕ) (target node : ℕ) (value : Value) → R m s → ValueIs m value → NodeIs m target → NodeIs m node → Told m (IsText kind)
+pub event_born : (m : Sizes) (s : State) (kind : List ℕ) (target node : ℕ) (value : Value) → R m s → ValueIs m value → NodeIs m target → NodeIs m node → Told m (IsText kind) → 9 ≤ s.own.counts.slots
     → R (event_size m s) (with_event s kind target node value)
-event_born m s kind target node value h hv ht hn hk =
+event_born m s kind target node value h hv ht hn hk hl =
     let n : Sizes = event_size m s in
     let g : Grows m n = event_grows m s h in
     let k : ℕ = length s.own.heap in
@@ -224,6 +235,7 @@ event_born m s kind target node value h hv ht hn hk =
       (bunch_cell n _ (record { each = (node_later m n target g ht, tt) }), (bunch_cell n _ (record { each = (node_later m n node g hn, tt) }), tt)),
     )
     (plain_hosted _, (bunch_hosted _, (bunch_hosted _, tt)))
+    (record { room = omega (arith, hl); len = tt }, (record { room = omega arith; len = tt }, (record { room = omega arith; len = tt }, tt)))
 
 abbrev pub HeardIs : Sizes → Option (ℕ × List ℕ) → Type 0
 HeardIs m None = Unit {0}
@@ -236,47 +248,104 @@ heard_is m s h o kind q = by (nearest s o kind) (nearest_is m s h (max_node_dept
     by None k = tt
     by (Some (n, fs)) k = k
 
+-- ## Room
+
+same_room : (ps : Pairs) (x : List ℕ) (v : Value) (k : ℕ) → length ps ≤ k → length (replaced ps x v) ≤ k
+same_room ps x v k h = subst (λ n. n ≤ k) (sym (same_length ps x v)) h
+  where
+    same_length : (qs : Pairs) (x : List ℕ) (v : Value) → length (replaced qs x v) ≡ length qs
+    same_length [] x v = refl
+    same_length (q ∷ qs) x v = by (bytes_eq x q.0) (same_length qs x v)
+      where
+        by : (b : Bool) → length (replaced qs x v) ≡ length qs → length (if b then (q.0, v) ∷ qs else q ∷ replaced qs x v) ≡ length (q ∷ qs)
+        by true e = refl
+        by false e = ap suc e
+
+one_more_room : (ps : Pairs) (p : List ℕ × Value) (k n : ℕ) → length ps ≤ k → k + 1 ≤ n → length (ps ++ p ∷ []) ≤ n
+one_more_room ps p k n h l = omega (arith, h, l, length-append ps (p ∷ []))
+
+filter_length : (t : List ℕ × Value → Bool) (ps : Pairs) → length (filter t ps) ≤ length ps
+filter_length t [] = omega arith
+filter_length t (p ∷ ps) = by (t p) (filter_length t ps)
+  where
+    by : (b : Bool) → length (filter t ps) ≤ length ps → length (if b then p ∷ filter t ps else filter t ps) ≤ length (p ∷ ps)
+    by true e = omega (arith, e)
+    by false e = omega (arith, e)
+
+pub less_room : (t : List ℕ × Value → Bool) (ps : Pairs) (k : ℕ) → length ps ≤ k → length (filter t ps) ≤ k
+less_room t ps k h = omega (arith, h, filter_length t ps)
+
+taken_length : (ps : Pairs) (x : List ℕ) → length (taken_out ps x) ≤ length ps
+taken_length [] x = omega arith
+taken_length (p ∷ ps) x = by (bytes_eq x p.0) (taken_length ps x)
+  where
+    by : (b : Bool) → length (taken_out ps x) ≤ length ps → length (if b then ps else p ∷ taken_out ps x) ≤ length (p ∷ ps)
+    by true e = omega arith
+    by false e = omega (arith, e)
+
+taken_room : (ps : Pairs) (x : List ℕ) (k : ℕ) → length ps ≤ k → length (taken_out ps x) ≤ k
+taken_room ps x k h = omega (arith, h, taken_length ps x)
+
+abbrev pub IsIndex : Option ℕ → Type 0
+IsIndex None = Unit {0}
+IsIndex (Some i) = i < max_length
+
+index_is : (x : List ℕ) → IsIndex (index_of x)
+index_is x = by (is_numeral 10 x)
+  where
+    valued : (n : ℕ) (a b : Bool) → nat_lt n max_length ≡ b → IsIndex (if a && b then Some n else None)
+    valued n true true e = ltb-true n max_length e
+    valued n true false e = tt
+    valued n false b e = tt
+
+    by : (b : Bool) → IsIndex (if b then index_value x (digits_value 10 x) else None)
+    by true = valued (digits_value 10 x) (bytes_eq x (decimal (digits_value 10 x))) (nat_lt (digits_value 10 x) max_length) refl
+    by false = tt
+
+longer : (len i : ℕ) → len ≤ max_length → i < max_length → max len (i + 1) ≤ max_length
+longer len i h l = omega (arith, h, l)
+
 pub read_r : (m : Sizes) (x0 : Value) (x1 : List ℕ) (x2 : State) → R m x2 → Keeps m (read x0 x1 x2)
 read_r m Undefined x s hr = search (faulted, kept)
 read_r m Null x s hr = search (faulted, kept)
 read_r m v x s hr = ended m _ s hr (value_end m _ (get_is m s v x hr))
 
-pub put_pair_r : (m : Sizes) (x0 : Cell) (x1 : ℕ) (x2 : List ℕ) (x3 : Value) (x4 : State) (x5 : (State → Plan)) → R m x4 → Told m (IsText x2) → ValueIs m x3 → CellIs m x0 → x0.prototype ≡ (cell_in x4.own.heap x1).prototype → ((y0 : State) → R m y0 → Keeps m (x5 y0)) → Keeps m (put_pair x0 x1 x2 x3 x4 x5)
-put_pair_r m c n x v s k hr hx h3 hc he f0 = either m _ _ _
-    (f0 _ (write_cell m s n (record c { pairs = replaced c.pairs x v }) hr (cell_put m c _ hc (replaced_are m c.pairs x v h3 hc.pairs) (replaced_names m c.pairs x v hc.names)) he))
+pub put_pair_r : (m : Sizes) (x0 : Cell) (x1 : ℕ) (x2 : List ℕ) (x3 : Value) (x4 : State) (x5 : (State → Plan)) → R m x4 → Told m (IsText x2) → ValueIs m x3 → CellIs m x0 → x0.prototype ≡ (cell_in x4.own.heap x1).prototype → CellFits x4.own.counts.slots x0 → ((y0 : State) → R m y0 → Keeps m (x5 y0)) → Keeps m (put_pair x0 x1 x2 x3 x4 x5)
+put_pair_r m c n x v s k hr hx h3 hc he hz f0 = either m _ _ _
+    (f0 _ (write_cell m s n (record c { pairs = replaced c.pairs x v }) hr (cell_put m c _ hc (replaced_are m c.pairs x v h3 hc.pairs) (replaced_names m c.pairs x v hc.names)) he (record { room = same_room c.pairs x v s.own.counts.slots hz.room; len = hz.len })))
     (paid m (slots_cost 1) s (λ t. k (with_cell t n (record c { pairs = c.pairs ++ (x, v) ∷ [] }))) hr
-    (λ a u. f0 _ (write_cell m (with_counts s a) n (record c { pairs = c.pairs ++ (x, v) ∷ [] }) u (cell_put m c _ hc (both_pairs m c.pairs _ hc.pairs (more_pairs m x v [] h3 (no_pairs m))) (both_names m c.pairs _ hc.names (also m (λ q. (q, tt)) hx))) he)))
+    (λ a u due. f0 _ (write_cell m (with_counts s a) n (record c { pairs = c.pairs ++ (x, v) ∷ [] }) u (cell_put m c _ hc (both_pairs m c.pairs _ hc.pairs (more_pairs m x v [] h3 (no_pairs m))) (both_names m c.pairs _ hc.names (also m (λ q. (q, tt)) hx))) he (record { room = one_more_room c.pairs (x, v) s.own.counts.slots a.slots hz.room due.more; len = hz.len }))))
 
-pub put_index_r : (m : Sizes) (x0 : Option ℕ) (x1 : Cell) (x2 : ℕ) (x3 : ℕ) (x4 : List ℕ) (x5 : Value) (x6 : State) (x7 : (State → Plan)) → R m x6 → Told m (IsText x4) → ValueIs m x5 → CellIs m x1 → x1.prototype ≡ (cell_in x6.own.heap x3).prototype → ((y0 : State) → R m y0 → Keeps m (x7 y0)) → Keeps m (put_index x0 x1 x2 x3 x4 x5 x6 x7)
-put_index_r m None c len n x v s k hr hx h5 hc he f0 = put_pair_r m c n x v s k hr hx h5 hc he f0
-put_index_r m (Some i) c len n x v s k hr hx h5 hc he f0 = put_pair_r m _ n x v s k hr hx h5 (array_put m c _ c.pairs hc hc.pairs hc.names) he f0
+pub put_index_r : (m : Sizes) (x0 : Option ℕ) (x1 : Cell) (x2 : ℕ) (x3 : ℕ) (x4 : List ℕ) (x5 : Value) (x6 : State) (x7 : (State → Plan)) → R m x6 → Told m (IsText x4) → ValueIs m x5 → CellIs m x1 → x1.prototype ≡ (cell_in x6.own.heap x3).prototype → CellFits x6.own.counts.slots x1 → x2 ≤ max_length → IsIndex x0 → ((y0 : State) → R m y0 → Keeps m (x7 y0)) → Keeps m (put_index x0 x1 x2 x3 x4 x5 x6 x7)
+put_index_r m None c len n x v s k hr hx h5 hc he hz hl hi f0 = put_pair_r m c n x v s k hr hx h5 hc he hz f0
+put_index_r m (Some i) c len n x v s k hr hx h5 hc he hz hl hi f0 = put_pair_r m _ n x v s k hr hx h5 (array_put m c _ c.pairs hc hc.pairs hc.names) he (record { room = hz.room; len = longer len i hl hi }) f0
 
-pub put_length_r : (m : Sizes) (x0 : Value) (x1 : Cell) (x2 : ℕ) (x3 : State) (x4 : (State → Plan)) → R m x3 → CellIs m x1 → x1.prototype ≡ (cell_in x3.own.heap x2).prototype → ((y0 : State) → R m y0 → Keeps m (x4 y0)) → Keeps m (put_length x0 x1 x2 x3 x4)
-put_length_r m (Num (pos len)) c n s k hr hc he f0 = wanted m E7 _ s _ hr (λ e. f0 _ (write_cell m s n (cut_to c len) hr (array_put m c len _ hc (filtered_pairs m _ c.pairs hc.pairs) (filtered_names m _ c.pairs hc.names)) he))
-put_length_r m v c n s k hr hc he f0 = search (faulted, kept)
+pub put_length_r : (m : Sizes) (x0 : Value) (x1 : Cell) (x2 : ℕ) (x3 : State) (x4 : (State → Plan)) → R m x3 → CellIs m x1 → x1.prototype ≡ (cell_in x3.own.heap x2).prototype → CellFits x3.own.counts.slots x1 → ((y0 : State) → R m y0 → Keeps m (x4 y0)) → Keeps m (put_length x0 x1 x2 x3 x4)
+put_length_r m (Num (pos len)) c n s k hr hc he hz f0 = wanted m E7 _ s _ hr (λ e. f0 _ (write_cell m s n (cut_to c len) hr (array_put m c len _ hc (filtered_pairs m _ c.pairs hc.pairs) (filtered_names m _ c.pairs hc.names)) he (record { room = less_room (λ p. is_below len true p.0) c.pairs s.own.counts.slots hz.room; len = leb-true len max_length e })))
+put_length_r m v c n s k hr hc he hz f0 = search (faulted, kept)
 
-pub put_own_r : (m : Sizes) (x0 : Kind) (x1 : Cell) (x2 : ℕ) (x3 : List ℕ) (x4 : Value) (x5 : State) (x6 : (State → Plan)) → R m x5 → Told m (IsText x3) → ValueIs m x4 → CellIs m x1 → x1.prototype ≡ (cell_in x5.own.heap x2).prototype → ((y0 : State) → R m y0 → Keeps m (x6 y0)) → Keeps m (put_own x0 x1 x2 x3 x4 x5 x6)
-put_own_r m Object c n x v s k hr hx h4 hc he f0 = put_pair_r m c n x v s k hr hx h4 hc he f0
-put_own_r m (Function f scope) c n x v s k hr hx h4 hc he f0 = put_pair_r m c n x v s k hr hx h4 hc he f0
-put_own_r m (Array len) c n x v s k hr hx h4 hc he f0 = either m _ _ _ (put_length_r m v c n s k hr hc he f0) (put_index_r m _ c len n x v s k hr hx h4 hc he f0)
-put_own_r m (Bunch ns) c n x v s k hr hx h4 hc he f0 = search (faulted, kept)
+pub put_own_r : (m : Sizes) (x0 : Kind) (x1 : Cell) (x2 : ℕ) (x3 : List ℕ) (x4 : Value) (x5 : State) (x6 : (State → Plan)) → R m x5 → Told m (IsText x3) → ValueIs m x4 → CellIs m x1 → x1.prototype ≡ (cell_in x5.own.heap x2).prototype → CellFits x5.own.counts.slots x1 → HasLength x0 → ((y0 : State) → R m y0 → Keeps m (x6 y0)) → Keeps m (put_own x0 x1 x2 x3 x4 x5 x6)
+put_own_r m Object c n x v s k hr hx h4 hc he hz hl f0 = put_pair_r m c n x v s k hr hx h4 hc he hz f0
+put_own_r m (Function f scope) c n x v s k hr hx h4 hc he hz hl f0 = put_pair_r m c n x v s k hr hx h4 hc he hz f0
+put_own_r m (Array len) c n x v s k hr hx h4 hc he hz hl f0 = either m _ _ _ (put_length_r m v c n s k hr hc he hz f0) (put_index_r m (index_of x) c len n x v s k hr hx h4 hc he hz hl (index_is x) f0)
+put_own_r m (Bunch ns) c n x v s k hr hx h4 hc he hz hl f0 = search (faulted, kept)
 
 pub put_r : (m : Sizes) (x0 : Value) (x1 : List ℕ) (x2 : Value) (x3 : State) (x4 : (State → Plan)) → R m x3 → Told m (IsText x1) → ValueIs m x2 → ((y0 : State) → R m y0 → Keeps m (x4 y0)) → Keeps m (put x0 x1 x2 x3 x4)
-put_r m (Own n) x v s k hr hx h2 f0 = put_own_r m (cell_at s n).kind (cell_at s n) n x v s k hr hx h2 (hr.there.objects n) refl f0
+put_r m (Own n) x v s k hr hx h2 f0 = put_own_r m (cell_at s n).kind (cell_at s n) n x v s k hr hx h2 (hr.there.objects n) refl (hr.there.fits n) (hr.there.fits n).len f0
 put_r m (Host h) x v s k hr hx h2 f0 = search (faulted, kept)
 put_r m o x v s k hr hx h2 f0 = f0 s hr
 
-pub delete_pair_r : (m : Sizes) (x0 : Cell) (x1 : ℕ) (x2 : List ℕ) (x3 : State) (x4 : (Bool → State → Plan)) → R m x3 → CellIs m x0 → x0.prototype ≡ (cell_in x3.own.heap x1).prototype → ((y0 : Bool) (y1 : State) → R m y1 → Keeps m (x4 y0 y1)) → Keeps m (delete_pair x0 x1 x2 x3 x4)
-delete_pair_r m c n x s k hr hc he f0 = f0 _ _ (write_cell m s n (record c { pairs = taken_out c.pairs x }) hr (cell_put m c _ hc (taken_are m c.pairs x hc.pairs) (taken_names m c.pairs x hc.names)) he)
+pub delete_pair_r : (m : Sizes) (x0 : Cell) (x1 : ℕ) (x2 : List ℕ) (x3 : State) (x4 : (Bool → State → Plan)) → R m x3 → CellIs m x0 → x0.prototype ≡ (cell_in x3.own.heap x1).prototype → CellFits x3.own.counts.slots x0 → ((y0 : Bool) (y1 : State) → R m y1 → Keeps m (x4 y0 y1)) → Keeps m (delete_pair x0 x1 x2 x3 x4)
+delete_pair_r m c n x s k hr hc he hz f0 = f0 _ _ (write_cell m s n (record c { pairs = taken_out c.pairs x }) hr (cell_put m c _ hc (taken_are m c.pairs x hc.pairs) (taken_names m c.pairs x hc.names)) he (record { room = taken_room c.pairs x s.own.counts.slots hz.room; len = hz.len }))
 
-pub delete_own_r : (m : Sizes) (x0 : Kind) (x1 : Cell) (x2 : ℕ) (x3 : List ℕ) (x4 : State) (x5 : (Bool → State → Plan)) → R m x4 → CellIs m x1 → x1.prototype ≡ (cell_in x4.own.heap x2).prototype → ((y0 : Bool) (y1 : State) → R m y1 → Keeps m (x5 y0 y1)) → Keeps m (delete_own x0 x1 x2 x3 x4 x5)
-delete_own_r m Object c n x s k hr hc he f0 = delete_pair_r m c n x s k hr hc he f0
-delete_own_r m (Function f scope) c n x s k hr hc he f0 = delete_pair_r m c n x s k hr hc he f0
-delete_own_r m (Array len) c n x s k hr hc he f0 = either m _ _ _ (f0 false s hr) (delete_pair_r m c n x s k hr hc he f0)
-delete_own_r m (Bunch ns) c n x s k hr hc he f0 = search (faulted, kept)
+pub delete_own_r : (m : Sizes) (x0 : Kind) (x1 : Cell) (x2 : ℕ) (x3 : List ℕ) (x4 : State) (x5 : (Bool → State → Plan)) → R m x4 → CellIs m x1 → x1.prototype ≡ (cell_in x4.own.heap x2).prototype → CellFits x4.own.counts.slots x1 → ((y0 : Bool) (y1 : State) → R m y1 → Keeps m (x5 y0 y1)) → Keeps m (delete_own x0 x1 x2 x3 x4 x5)
+delete_own_r m Object c n x s k hr hc he hz f0 = delete_pair_r m c n x s k hr hc he hz f0
+delete_own_r m (Function f scope) c n x s k hr hc he hz f0 = delete_pair_r m c n x s k hr hc he hz f0
+delete_own_r m (Array len) c n x s k hr hc he hz f0 = either m _ _ _ (f0 false s hr) (delete_pair_r m c n x s k hr hc he hz f0)
+delete_own_r m (Bunch ns) c n x s k hr hc he hz f0 = search (faulted, kept)
 
 pub delete_r : (m : Sizes) (x0 : Value) (x1 : List ℕ) (x2 : State) (x3 : (Bool → State → Plan)) → R m x2 → ((y0 : Bool) (y1 : State) → R m y1 → Keeps m (x3 y0 y1)) → Keeps m (delete x0 x1 x2 x3)
-delete_r m (Own n) x s k hr f0 = delete_own_r m (cell_at s n).kind (cell_at s n) n x s k hr (hr.there.objects n) refl f0
+delete_r m (Own n) x s k hr f0 = delete_own_r m (cell_at s n).kind (cell_at s n) n x s k hr (hr.there.objects n) refl (hr.there.fits n) f0
 delete_r m (Host h) x s k hr f0 = search (faulted, kept)
 delete_r m o x s k hr f0 = f0 true s hr
 
@@ -286,7 +355,7 @@ statements_r m (i ∷ is) p s hr hq = job m _ s _ hr (exec_job m i p (first m hq
 
 pub declare_r : (m : Sizes) (x0 : List Fun) (x1 : ℕ) (x2 : State) (x3 : (State → Plan)) → R m x2 → Told m (AllByRecursion FunHasTexts x0) → ((n : Sizes) → Grows m n → (y0 : State) → R n y0 → Keeps n (x3 y0)) → Keeps m (declare x0 x1 x2 x3)
 declare_r m [] i s k hr hq f0 = f0 m (same_size m) s hr
-declare_r m (f ∷ fs) i s k hr hq f0 = made m _ 0 s _ hr (function_is m (without_name f) (Some i) (also m (λ q. unnamed f q.0) hq)) tt (λ n g v t u w. declare_r n fs i (with_variable t i (fun_name f) v) k (variable_kept n t i (fun_name f) v u w) (told_later m n _ g (second m hq))
+declare_r m (f ∷ fs) i s k hr hq f0 = made m _ 0 s _ hr (function_is m (without_name f) (Some i) (also m (λ q. unnamed f q.0) hq)) tt (record { room = omega arith; len = tt }) (λ n g v t u w. declare_r n fs i (with_variable t i (fun_name f) v) k (variable_kept n t i (fun_name f) v u w) (told_later m n _ g (second m hq))
     (λ l e y z. f0 l (through m n l g e) y z))
 
 pub call_end_r : (m : Sizes) (x0 : Completion) (x1 : State) → R m x1 → CompletionIs m x0 → Keeps m (call_end x0 x1)
@@ -305,8 +374,8 @@ pub enter_scope_r : (m : Sizes) (x0 : Fun) (x1 : Option ℕ) (x2 : Value) (x3 : 
 enter_scope_r m (tree.FunAt at names name params body funs) outer f vs d s hr h2 h3 hq =
     let c : Scope = call_scope (tree.FunAt at names name params body funs) outer f vs in
     paid m (scope_cost c) s (λ t. declare (fun_list funs) (length t.own.scopes) (with_new_scope t c) (call_body body (record { scope = Some (length t.own.scopes); depth = d }))) hr
-    (λ a u. declare_r m (fun_list funs) (length s.own.scopes) (with_new_scope (with_counts s a) c) _
-    (entered m s.own.heap s.own.scopes s.own.kept s.own.timers s.own.forest s.own.focus c u (scope_of_call m (tree.FunAt at names name params body funs) outer f vs h2 h3))
+    (λ a u due. declare_r m (fun_list funs) (length s.own.scopes) (with_new_scope (with_counts s a) c) _
+    (entered m s.own.heap s.own.scopes s.own.kept s.own.timers s.own.forest s.own.focus a.slots c u (scope_of_call m (tree.FunAt at names name params body funs) outer f vs h2 h3))
     (also m (λ q. funs_are funs q.1) hq) (λ n g t w. call_body_r n body _ t w (told_later m n _ g (first m hq))))
 
 pub enter_r : (m : Sizes) (x0 : Kind) (x1 : Value) (x2 : List Value) (x3 : ℕ) (x4 : State) → R m x4 → ValueIs m x1 → ValuesAre m x2 → OfKind m x0 → Keeps m (enter x0 x1 x2 x3 x4)
@@ -364,7 +433,7 @@ pub callee_r : (m : Sizes) (x0 : List Expr) (x1 : Place) (x2 : Completion) (x3 :
 callee_r m es p o s hr h2 hq = reference m o s _ hr h2 (λ r h. arguments_then_r m r [] es p s hr h (no_values m) hq)
 
 pub result_r : (m : Sizes) (x0 : OpOut) (x1 : State) → R m x1 → GivenIs m x0 → Keeps m (result x0 x1)
-result_r m (Gives (Text t)) s hr h0 = made_text m t s (give (Text t)) hr (λ a u. ended m (Is (Text t)) (with_counts s a) u (value_end m _ h0.value))
+result_r m (Gives (Text t)) s hr h0 = made_text m t s (give (Text t)) hr (λ a u due. ended m (Is (Text t)) (with_counts s a) u (value_end m _ h0.value))
 result_r m (Gives v) s hr h0 = ended m (Is v) s hr (value_end m v h0.value)
 result_r m Leaves s hr h0 = search (halted)
 result_r m TooLong s hr h0 = search (halted)
@@ -439,9 +508,9 @@ expression_r m (tree.Num t) p s hr hq = ended m _ s hr (value_end m _ (literal_i
 expression_r m (tree.Str t) p s hr hq = ended m _ s hr (value_end m _ (text_is m t hq))
 expression_r m (tree.Name x) p s hr hq = ended m _ s hr (value_end m _ (variable_value m s p x hr))
 expression_r m (tree.Constant w) p s hr hq = ended m _ s hr (value_end m _ (word_is m w))
-expression_r m (tree.Array es) p s hr hq = made m (new_array 0 []) 0 s _ hr (array_is m 0 [] (no_pairs m) (told m tt)) tt (λ n g v t u w. array_parts_r n v 0 (expr_list es) p t u w (told_later m n _ g (also m (exprs_are es) hq)))
-expression_r m (tree.Object qs) p s hr hq = made m (plain_object []) 0 s _ hr (plain_is m [] (no_pairs m) (told m tt)) tt (λ n g v t u w. object_parts_r n v (property_list qs) p t u w (told_later m n _ g (also m (properties_are qs) hq)))
-expression_r m (tree.Function f) p s hr hq = made m (new_function f p.scope) 0 s _ hr (function_is m f p.scope hq) tt (λ n g v t u w. ended n (Is v) t u (value_end n v w))
+expression_r m (tree.Array es) p s hr hq = made m (new_array 0 []) 0 s _ hr (array_is m 0 [] (no_pairs m) (told m tt)) tt (record { room = omega arith; len = omega arith }) (λ n g v t u w. array_parts_r n v 0 (expr_list es) p t u w (told_later m n _ g (also m (exprs_are es) hq)))
+expression_r m (tree.Object qs) p s hr hq = made m (plain_object []) 0 s _ hr (plain_is m [] (no_pairs m) (told m tt)) tt (record { room = omega arith; len = tt }) (λ n g v t u w. object_parts_r n v (property_list qs) p t u w (told_later m n _ g (also m (properties_are qs) hq)))
+expression_r m (tree.Function f) p s hr hq = made m (new_function f p.scope) 0 s _ hr (function_is m f p.scope hq) tt (record { room = omega arith; len = tt }) (λ n g v t u w. ended n (Is v) t u (value_end n v w))
 expression_r m (tree.Dot e x) p s hr hq = job m _ s _ hr (eval_job m e p (first m hq)) (λ n g o t u q. value n o t _ u q (λ v w. read_r n v x t u))
 expression_r m (tree.Sub e i) p s hr hq = job m _ s _ hr (eval_job m e p (first m hq)) (λ n g o t u q. subscript_read_r n i p o t u q (told_later m n _ g (second m hq)))
 expression_r m (tree.Call e es) p s hr hq = job m _ s _ hr (target_job m e p (first m hq)) (λ n g o t u q. callee_r n (expr_list es) p o t u q (told_later m n _ g (also m (λ r. exprs_are es r.1) hq)))
@@ -572,7 +641,7 @@ pub in_catch_r : (m : Sizes) (x0 : List ℕ) (x1 : List Stmt) (x2 : Value) (x3 :
 in_catch_r m x b v p s hr h2 hb =
     let c : Scope = record { outer = p.scope; pairs = (x, v) ∷ [] } in
     paid m (scope_cost c) s (λ t. statements b (record { scope = Some (length t.own.scopes); depth = p.depth }) (with_new_scope t c)) hr
-    (λ a u. statements_r m b _ (with_new_scope (with_counts s a) c) (entered m s.own.heap s.own.scopes s.own.kept s.own.timers s.own.forest s.own.focus c u (more_pairs m x v [] h2 (no_pairs m))) hb)
+    (λ a u due. statements_r m b _ (with_new_scope (with_counts s a) c) (entered m s.own.heap s.own.scopes s.own.kept s.own.timers s.own.forest s.own.focus a.slots c u (more_pairs m x v [] h2 (no_pairs m))) hb)
 
 pub caught_r : (m : Sizes) (x0 : Catch) (x1 : Place) (x2 : Completion) (x3 : State) → R m x3 → CompletionIs m x2 → Told m (CatchHasTexts x0) → Keeps m (caught x0 x1 x2 x3)
 caught_r m tree.NoCatch p o s hr h2 hq = search (ended, kept) depth 9 fits 4000
@@ -604,11 +673,11 @@ statement_r m (tree.Label x i) p s hr hq = search (ended, kept) depth 9 fits 400
 
 pub hear_r : (m : Sizes) (x0 : List ℕ) (x1 : ℕ) (x2 : Value) (x3 : ℕ) (x4 : ℕ) (x5 : List ℕ) (x6 : State) → R m x6 → ValueIs m x2 → NodeIs m x1 → NodeIs m x4 → FunctionsAre m x5 → Told m (IsText x0) → Keeps m (hear x0 x1 x2 x3 x4 x5 x6)
 hear_r m kind target value d node [] s hr h2 ht hn hf hk = ended m _ s hr (value_end m _ (undefined_is m))
-hear_r m kind target value d node (f ∷ fs) s hr h2 ht hn hf hk = paid m event_cost s (λ t. Do (Hear (record { kind = kind; target = target; node = node; value = value; event = Own (length t.own.heap); first = f; others = fs; depth = d })) (with_dispatch (with_event t kind target node value)) Ret) hr (λ a u.
+hear_r m kind target value d node (f ∷ fs) s hr h2 ht hn hf hk = paid m event_cost s (λ t. Do (Hear (record { kind = kind; target = target; node = node; value = value; event = Own (length t.own.heap); first = f; others = fs; depth = d })) (with_dispatch (with_event t kind target node value)) Ret) hr (λ a u due.
     let t : State = with_counts s a in
     let n : Sizes = event_size m t in
     let g : Grows m n = event_grows m t u in
-    lowered m n _ g (job n _ (with_dispatch (with_event t kind target node value)) Ret (event_born m t kind target node value u h2 ht hn hk)
+    lowered m n _ g (job n _ (with_dispatch (with_event t kind target node value)) Ret (event_born m t kind target node value u h2 ht hn hk (second_part s.own.counts.slots 9 a.slots due.more))
     (record {
       holds = record {
         target = node_later m n target g ht;

@@ -7,7 +7,7 @@ use Rattle.widget_meaning.specs.Values.{Value, Text, Is, E4, E8}
 use Rattle.widget_meaning.specs.OwnState.{State, Cell, with_new_cell}
 use Rattle.widget_meaning.specs.Costs.{with_counts, give}
 use Rattle.widget_meaning.specs.JsonValues.{has_permitted_names, has_numbers, texts_in, give_read, read_value, from_json, cells_at, items_at, members_at, value_at, read_json}
-use Rattle.meaning_laws.specs.There.{Sizes, Told, ValueIs, PairsAre, CellIs}
+use Rattle.meaning_laws.specs.There.{Sizes, Told, CellFits, ValueIs, PairsAre, CellIs}
 use Rattle.meaning_laws.specs.Texts.{IsText, AreNames}
 use Rattle.meaning_laws.proofs.Units.{decimal_is}
 use Rattle.meaning_laws.proofs.Spelled.{AreBytes, MaybeBytes, spelled_is, utf8_bytes, content_is}
@@ -18,6 +18,12 @@ use Rattle.std.specs.Prelude.{◌≡◌, Option, Some, None}
 use Rattle.std.proofs.Common.{subst}
 use Rattle.meaning_laws.proofs.Each.{each_both}
 use Rattle.meaning_laws.proofs.Later.{told_later}
+use Rattle.std.specs.Prelude.{sum_by, [], ◌∷◌}
+use Rattle.std.proofs.lemmas.List.Sums.{sum_by-cons}
+use Rattle.widget_meaning.specs.Limits.{max_slots}
+use Rattle.widget_meaning.specs.OwnState.{Kind, Object, Array, Function, Bunch}
+use Rattle.widget_meaning.specs.JsonBack.{HasLength}
+use Rattle.meaning_laws.proofs.Steps.{second_part}
 use Rattle.meaning_laws.proofs.Values.{told, also, first, second, together, own_value, null_is, truth_is, num_is, text_is, no_pairs, more_pairs, value_end}
 use Rattle.meaning_laws.proofs.Steps.{R, Keeps, ended, halted, either, charged, paid, faulted, wanted, found, lowered, plain_is}
 use Rattle.meaning_laws.proofs.Forms.{array_is, with_more, more_grows, all_born, Hosted, array_hosted, plain_hosted}
@@ -84,13 +90,59 @@ mutual
 self : (n : ℕ) → n ≤ n
 self n = omega arith
 
+-- an array has all its elements
+abbrev OfLength : Kind → ℕ → Type 0
+OfLength Object n = Unit {0}
+OfLength (Array len) n = len ≤ n
+OfLength (Function f o) n = Unit {0}
+OfLength (Bunch ns) n = Unit {0}
+
+abbrev IsFull : Cell → Type 0
+IsFull c = OfLength c.kind (length c.pairs)
+
+fits_full : (k : Kind) (n a : ℕ) → OfLength k n → n ≤ a → a ≤ max_slots → HasLength k
+fits_full Object n a h i j = tt
+fits_full (Array len) n a h i j = omega (arith, h, i, j)
+fits_full (Function f o) n a h i j = tt
+fits_full (Bunch ns) n a h i j = tt
+
+first_room : (x y a : ℕ) → x + y ≤ a → x ≤ a
+first_room x y a h = omega (arith, h)
+
+rest_room : (x y a : ℕ) → x + y ≤ a → y ≤ a
+rest_room x y a h = omega (arith, h)
+
+split_sum : (c : Cell) (cs : List Cell) (a : ℕ) → sum_by (λ d. length d.pairs) (c ∷ cs) ≤ a → length c.pairs + sum_by (λ d. length d.pairs) cs ≤ a
+split_sum c cs a h = subst (λ k. k ≤ a) (sum_by-cons (λ d. length d.pairs) c cs) h
+
+all_fit : (cs : List Cell) (a : ℕ) → AllByRecursion IsFull cs → sum_by (λ c. length c.pairs) cs ≤ a → a ≤ max_slots → AllByRecursion (CellFits a) cs
+all_fit [] a h l i = tt
+all_fit (c ∷ cs) a h l i = (record { room = first_room (length c.pairs) (sum_by (λ d. length d.pairs) cs) a (split_sum c cs a l); len = fits_full c.kind (length c.pairs) a h.0 (first_room (length c.pairs) (sum_by (λ d. length d.pairs) cs) a (split_sum c cs a l)) i }, all_fit cs a h.1 (rest_room (length c.pairs) (sum_by (λ d. length d.pairs) cs) a (split_sum c cs a l)) i)
+
+mutual
+  full : (n : ℕ) (d : json.Data) → AllByRecursion IsFull (cells_at n d)
+  full n json.null = tt
+  full n (json.boolean b) = tt
+  full n (json.number x) = tt
+  full n (json.string bs) = tt
+  full n (json.array ds) = (self (length (items_at (n + 1) 0 ds).0), items_full (n + 1) 0 ds)
+  full n (json.object ms) = (tt, members_full (n + 1) ms)
+
+  items_full : (n i : ℕ) (ds : json.Items) → AllByRecursion IsFull (items_at n i ds).1
+  items_full n i json.no_items = tt
+  items_full n i (json.item d ds) = each_both IsFull (cells_at n d) _ (full n d) (items_full (n + length (cells_at n d)) (i + 1) ds)
+
+  members_full : (n : ℕ) (ms : json.Members) → AllByRecursion IsFull (members_at n ms).1
+  members_full n json.no_members = tt
+  members_full n (json.member x d ms) = each_both IsFull (cells_at n d) _ (full n d) (members_full (n + length (cells_at n d)) ms)
+
 module _ (m : Sizes) where
-  give_read_r : (b : Bool) (v : Value) (cs : List Cell) (ts : List (List ℕ)) (s : State) → R m s → AllByRecursion (CellIs (with_more m s (length cs))) cs → AllByRecursion Hosted cs
+  give_read_r : (b : Bool) (v : Value) (cs : List Cell) (ts : List (List ℕ)) (s : State) → R m s → AllByRecursion (CellIs (with_more m s (length cs))) cs → AllByRecursion Hosted cs → AllByRecursion IsFull cs
       → ValueIs (with_more m s (length cs)) v → Keeps m (give_read b v cs ts s)
-  give_read_r false v cs ts s hr hc hh hv = halted m _ s hr
-  give_read_r true v cs ts s hr hc hh hv = either m _ _ _ (halted m _ s hr) (paid m _ s (λ u. give v (fold with_new_cell u cs)) hr (λ a u.
+  give_read_r false v cs ts s hr hc hh hf hv = halted m _ s hr
+  give_read_r true v cs ts s hr hc hh hf hv = either m _ _ _ (halted m _ s hr) (paid m _ s (λ u. give v (fold with_new_cell u cs)) hr (λ a u due.
       let n : Sizes = with_more m s (length cs) in
-      lowered m n _ (more_grows m s (length cs) hr) (ended n (Is v) (fold with_new_cell (with_counts s a) cs) (all_born m cs (with_counts s a) u hc hh) (value_end n v hv))))
+      lowered m n _ (more_grows m s (length cs) hr) (ended n (Is v) (fold with_new_cell (with_counts s a) cs) (all_born m cs (with_counts s a) u hc hh (all_fit cs a.slots hf (second_part s.own.counts.slots (sum_by (λ c. length c.pairs) cs) a.slots due.more) due.most)) (value_end n v hv))))
 
   bytes_read : (t : List ℕ) (d : json.Data) → read_json t ≡ Some d → IsText t → HasStrings AreBytes d
   bytes_read t d e h = subst (OfSome (HasStrings AreBytes)) e (read_is AreBytes AreBytes (λ x xs q. q.1) found_is (utf8_of t) (utf8_bytes t h))
@@ -107,5 +159,5 @@ module _ (m : Sizes) where
       let k : ℕ = length s.own.heap in
       let n : Sizes = with_more m s (length (cells_at k d)) in
       let z : Told n (HasStrings AreBytes d) = told_later m n _ (more_grows m s (length (cells_at k d)) hr) (also m (bytes_read t d e) hv.text) in
-      wanted m E8 (list_all (λ c. has_permitted_names c.kind c.pairs) (cells_at k d)) s _ hr (λ x. charged m _ s _ hr (give_read_r (has_numbers d) (value_at k d) (cells_at k d) (texts_in (value_at k d) (cells_at k d)) s hr (cells_are n k d (self n.objects) z) (hosted k d) (value_born n k d (self n.objects) z))))
+      wanted m E8 (list_all (λ c. has_permitted_names c.kind c.pairs) (cells_at k d)) s _ hr (λ x. charged m _ s _ hr (give_read_r (has_numbers d) (value_at k d) (cells_at k d) (texts_in (value_at k d) (cells_at k d)) s hr (cells_are n k d (self n.objects) z) (hosted k d) (full k d) (value_born n k d (self n.objects) z))))
   from_json_r v s hr hv = search (faulted)

@@ -15,7 +15,7 @@ use Rattle.meaning_laws.specs.There.{Sizes, ValueIs, HasTexts, text_sizes}
 use Rattle.meaning_laws.specs.Texts.{OfText, AreNames}
 use Rattle.meaning_laws.specs.TextLaws.{ValueHasUnits, IsWithin, NumbersFit, TextLaws, JsonStateLaws}
 use Rattle.meaning_laws.proofs.Spelled.{unit_at}
-use Rattle.meaning_laws.specs.ThereLaws.{ChainLaws, ThereLaws, WayLaws}
+use Rattle.meaning_laws.specs.ThereLaws.{ChainLaws, LengthLaws, ThereLaws, WayLaws}
 use Rattle.meaning_laws.proofs.Chains.{all_short, read_ends, list_ends, count_ends}
 use Rattle.meaning_laws.proofs.Alone.{job_keeps, job_ends, items_r, loaded_r}
 
@@ -42,6 +42,9 @@ chain_laws = record {
 
 pub way_laws : WayLaws
 way_laws s o kind more h = ancestor_laws s o kind (length s.own.kept) more h.page h.low
+
+pub length_laws : LengthLaws
+length_laws s n h = (h.fits n).len
 
 -- ## Texts
 
@@ -95,5 +98,5 @@ ordinary s v q k = ordinary_value v (value_units v (q.text.holds refl)) k.value
 pub json_state_laws : JsonStateLaws
 json_state_laws = record {
   written = λ s v t h q k e. json_laws s v t (λ n. ordinary_object s v n h k) (ordinary s v q k) e;
-  returns = λ s v t h q k c e. return_laws s v t (λ n. record { ordinary = ordinary_object s v n h k; names = (c n).0; len = (c n).1 }) (ordinary s v q k) e;
+  returns = λ s v t h q k c e. return_laws s v t (λ n. record { ordinary = ordinary_object s v n h k; names = c n; len = (h.fits n).len }) (ordinary s v q k) e;
 }

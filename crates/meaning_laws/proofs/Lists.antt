@@ -11,7 +11,17 @@ use Rattle.std.proofs.Common.{◌<◌, ◌≤◌, length, Bool, true, false, ref
 use Rattle.std.specs.Prelude as std
 use Rattle.std.specs.Prelude.{int_le, unsigned_abs, negsuc, ◌%◌, ◌≡◌, None, if◌then◌else◌, zip, codes, pos, not, nat_lt, ◌-◌, slice_range}
 use Rattle.std.specs.List.{list_any, join_by}
-use Rattle.widget_meaning.specs.Limits.{max_length, min_radix, max_radix}
+use Rattle.widget_meaning.specs.Limits.{max_length, max_slots, min_radix, max_radix}
+use Rattle.std.specs.List.{filter}
+use Rattle.std.specs.Prelude.{is_none}
+use Rattle.std.proofs.lemmas.Bool.{ltb-false}
+use Rattle.std.proofs.lemmas.List.{length-append}
+use Rattle.widget_meaning.specs.OwnState.{Pairs}
+use Rattle.widget_meaning.specs.Properties.{index_of, is_below}
+use Rattle.widget_meaning.specs.ListChanges.{new_indexes}
+use Rattle.meaning_laws.proofs.Forms.{less_room}
+use Rattle.meaning_laws.proofs.Natives.{numbered_length, numbered_fit}
+use Rattle.meaning_laws.proofs.Steps.{by_test}
 use Rattle.std.specs.Int.{is_negative}
 use Rattle.std.proofs.Math.Nat.{mod-lt}
 use Rattle.std.proofs.lemmas.Bool.{and_parts, leb-true}
@@ -31,7 +41,7 @@ use Rattle.meaning_laws.proofs.Forms.{elements_are, write_cell, array_put, array
 use Rattle.meaning_laws.specs.Texts.{IsText, OfText}
 use Rattle.meaning_laws.proofs.Units.{tested, both_texts, digits_are, joined_is, to_text_is}
 use Rattle.meaning_laws.proofs.Natives.{give_text_r, make_array_r, on_array_r, on_object_r, on_text_r, want_function_r, with_number_r, with_optional_r}
-use Rattle.meaning_laws.specs.There.{Sizes, Grows, Told, ValueIs, ValuesAre, MaybeIs, CellIs}
+use Rattle.meaning_laws.specs.There.{Sizes, Grows, Told, CellFits, ValueIs, ValuesAre, MaybeIs, CellIs}
 use Rattle.meaning_laws.proofs.Later.{same_size, through, value_later, values_later, cell_later}
 use Rattle.meaning_laws.proofs.Values.{told, both_names, filtered_names, numbered_names, undefined_is, truth_is, num_is, text_is, no_values, more_values, both_values, taken_values, left_values, nth_is, no_value, both_pairs, filtered_pairs, numbered_are, element_is, value_end, call_job}
 use Rattle.meaning_laws.proofs.Steps.{R, Keeps, ended, job, either, value, charged, paid, made_text, faulted, wanted, lowered, born, born_grows, is_born, with_one, written}
@@ -76,19 +86,46 @@ module _ (m : Sizes) where
   with_elements_is : (s : State) (n : ℕ) (vs : List Value) → R m s → ValuesAre m vs → CellIs m (with_elements (cell_at s n) vs)
   with_elements_is s n vs h k = array_put m (cell_at s n) _ _ (h.there.objects n) (both_pairs m _ _ (filtered_pairs m _ _ (h.there.objects n).pairs) (numbered_are m 0 vs k)) (both_names m _ _ (filtered_names m _ _ (h.there.objects n).names) (numbered_names m 0 vs))
 
-pub change_r : (m : Sizes) (x0 : ℕ) (x1 : List Value) (x2 : Value) (x3 : State) → R m x3 → ValuesAre m x1 → ValueIs m x2 → Keeps m (change x0 x1 x2 x3)
-change_r m n vs v s hr h1 h2 = paid m _ s (λ t. give v (with_cell t n (with_elements (cell_at t n) vs))) hr (λ a u. ended m (Is v) (with_cell (with_counts s a) n (with_elements (cell_at s n) vs))
-    (write_cell m (with_counts s a) n (with_elements (cell_at s n) vs) u (with_elements_is m s n vs hr h1) refl) (value_end m v h2))
+two_filters : (ps : Pairs) (len : ℕ) → length (filter (λ p. is_none (index_of p.0)) ps) + length (filter (λ p. is_below len false p.0) ps) ≤ length ps
+two_filters [] len = omega arith
+two_filters (p ∷ ps) len = by (index_of p.0) (two_filters ps len)
+  where
+    either : (b : Bool) → length (filter (λ q. is_none (index_of q.0)) ps) + length (filter (λ q. is_below len false q.0) ps) ≤ length ps
+        → length (filter (λ q. is_none (index_of q.0)) ps) + length (if b then p ∷ filter (λ q. is_below len false q.0) ps else filter (λ q. is_below len false q.0) ps) ≤ suc (length ps)
+    either true e = omega (arith, e)
+    either false e = omega (arith, e)
 
-pub pop_r : (m : Sizes) (x0 : ℕ) (x1 : ℕ) (x2 : List Value) (x3 : State) → R m x3 → Keeps m (pop x0 x1 x2 x3)
-pop_r m n zero vs s hr = charged m _ s _ hr (ended m _ s hr (value_end m _ (undefined_is m)))
-pop_r m n (suc len) vs s hr = charged m _ s _ hr (ended m _ (with_cell s n (cut_to (cell_at s n) len))
-    (write_cell m s n (cut_to (cell_at s n) len) hr (array_put m (cell_at s n) len _ (hr.there.objects n) (filtered_pairs m _ _ (hr.there.objects n).pairs) (filtered_names m _ _ (hr.there.objects n).names)) refl)
+    by : (o : Option ℕ) → length (filter (λ q. is_none (index_of q.0)) ps) + length (filter (λ q. is_below len false q.0) ps) ≤ length ps
+        → length (if is_none o then p ∷ filter (λ q. is_none (index_of q.0)) ps else filter (λ q. is_none (index_of q.0)) ps)
+        + length (if option_map_or (λ i. nat_lt i len) o false then p ∷ filter (λ q. is_below len false q.0) ps else filter (λ q. is_below len false q.0) ps) ≤ length (p ∷ ps)
+    by None e = omega (arith, e)
+    by (Some i) e = either (nat_lt i len) e
+
+elements_fit : (c : Cell) (vs : List Value) (k a : ℕ) → length c.pairs ≤ k → k + new_indexes c (length vs) ≤ a → a ≤ max_slots → CellFits a (with_elements c vs)
+elements_fit c vs k a h l i = record {
+  room = omega (arith, h, l, two_filters c.pairs (length vs), numbered_length 0 vs, length-append (filter (λ p. is_none (index_of p.0)) c.pairs) (numbered_pairs 0 vs));
+  len = omega (arith, h, l, i, two_filters c.pairs (length vs));
+}
+
+first_part : (k a b c : ℕ) → k + (a + b) ≤ c → k + a ≤ c
+first_part k a b c h = omega (arith, h)
+
+last_part : (k a b c : ℕ) → k + (a + b) ≤ c → k + b ≤ c
+last_part k a b c h = omega (arith, h)
+
+pub change_r : (m : Sizes) (x0 : ℕ) (x1 : List Value) (x2 : Value) (x3 : State) → R m x3 → ValuesAre m x1 → ValueIs m x2 → Keeps m (change x0 x1 x2 x3)
+change_r m n vs v s hr h1 h2 = paid m _ s (λ t. give v (with_cell t n (with_elements (cell_at t n) vs))) hr (λ a u due. ended m (Is v) (with_cell (with_counts s a) n (with_elements (cell_at s n) vs))
+    (write_cell m (with_counts s a) n (with_elements (cell_at s n) vs) u (with_elements_is m s n vs hr h1) refl (elements_fit (cell_at s n) vs s.own.counts.slots a.slots (hr.there.fits n).room due.more due.most)) (value_end m v h2))
+
+pub pop_r : (m : Sizes) (x0 : ℕ) (x1 : ℕ) (x2 : List Value) (x3 : State) → R m x3 → x1 ≤ max_length → Keeps m (pop x0 x1 x2 x3)
+pop_r m n zero vs s hr hl = charged m _ s _ hr (ended m _ s hr (value_end m _ (undefined_is m)))
+pop_r m n (suc len) vs s hr hl = charged m _ s _ hr (ended m _ (with_cell s n (cut_to (cell_at s n) len))
+    (write_cell m s n (cut_to (cell_at s n) len) hr (array_put m (cell_at s n) len _ (hr.there.objects n) (filtered_pairs m _ _ (hr.there.objects n).pairs) (filtered_names m _ _ (hr.there.objects n).names)) refl (record { room = less_room (λ p. is_below len true p.0) (cell_at s n).pairs s.own.counts.slots (hr.there.fits n).room; len = omega (arith, hl) }))
     (value_end m _ (element_is m (cell_at s n).pairs len (hr.there.objects n).pairs)))
 
 pub push_r : (m : Sizes) (x0 : ℕ) (x1 : ℕ) (x2 : List Value) (x3 : State) → R m x3 → ValuesAre m x2 → Keeps m (push x0 x1 x2 x3)
-push_r m n len vs s hr h2 = either m (nat_lt max_length (len + length vs)) _ _ (faulted m E7 s hr) (charged m _ s _ hr (paid m _ s (λ t. give (Num (pos (len + length vs))) (with_cell t n (pushed (cell_at t n) len vs))) hr (λ a u. ended m _ (with_cell (with_counts s a) n (pushed (cell_at s n) len vs))
-    (write_cell m (with_counts s a) n (pushed (cell_at s n) len vs) u (array_put m (cell_at s n) _ _ (hr.there.objects n) (both_pairs m _ _ (hr.there.objects n).pairs (numbered_are m len vs h2)) (both_names m _ _ (hr.there.objects n).names (numbered_names m len vs))) refl)
+push_r m n len vs s hr h2 = by_test m (nat_lt max_length (len + length vs)) _ _ (λ e. faulted m E7 s hr) (λ e. charged m _ s _ hr (paid m _ s (λ t. give (Num (pos (len + length vs))) (with_cell t n (pushed (cell_at t n) len vs))) hr (λ a u due. ended m _ (with_cell (with_counts s a) n (pushed (cell_at s n) len vs))
+    (write_cell m (with_counts s a) n (pushed (cell_at s n) len vs) u (array_put m (cell_at s n) _ _ (hr.there.objects n) (both_pairs m _ _ (hr.there.objects n).pairs (numbered_are m len vs h2)) (both_names m _ _ (hr.there.objects n).names (numbered_names m len vs))) refl (record { room = omega (arith, (hr.there.fits n).room, due.more, numbered_length len vs, length-append (cell_at s n).pairs (numbered_pairs len vs)); len = ltb-false max_length (len + length vs) e }))
     (value_end m _ (num_is m _)))))
 
 pub shift_r : (m : Sizes) (x0 : ℕ) (x1 : ℕ) (x2 : List Value) (x3 : State) → R m x3 → Keeps m (shift x0 x1 x2 x3)
@@ -115,16 +152,17 @@ spliced_r m n vs at count new s hr h1 h4 ho =
     let c : Cell = new_array (length taken) (numbered_pairs 0 taken) in
     let hc : CellIs m c = array_is m _ _ (numbered_are m 0 taken (taken_values m count _ (left_values m at vs h1))) (numbered_names m 0 taken) in
     let hl : ValuesAre m left = both_values m _ _ (taken_values m at vs h1) (both_values m _ _ h4 (left_values m (at + count) vs h1)) in
-    paid m _ s (λ t. give (Own (length t.own.heap)) (with_cell (with_new_cell t (new_array (length taken) (numbered_pairs 0 taken))) n (with_elements (cell_at t n) left))) hr (λ a u.
+    paid m _ s (λ t. give (Own (length t.own.heap)) (with_cell (with_new_cell t (new_array (length taken) (numbered_pairs 0 taken))) n (with_elements (cell_at t n) left))) hr (λ a u due.
     let t : State = with_counts s a in
     let k : Sizes = with_one m t.own.heap c in
-    let g : Grows m k = born_grows m s.own.heap s.own.scopes s.own.kept s.own.timers s.own.forest s.own.focus c u in
+    let g : Grows m k = born_grows m s.own.heap s.own.scopes s.own.kept s.own.timers s.own.forest s.own.focus a.slots c u in
     lowered m k _ g (ended k _ (with_cell (with_new_cell t c) n (with_elements (cell_at t n) left))
-    (written k (t.own.heap ++ c ∷ []) t.own.scopes t.own.kept t.own.timers t.own.forest t.own.focus n (with_elements (cell_at t n) left)
-    (born m s.own.heap s.own.scopes s.own.kept s.own.timers s.own.forest s.own.focus c u hc tt)
+    (written k (t.own.heap ++ c ∷ []) t.own.scopes t.own.kept t.own.timers t.own.forest t.own.focus a.slots n (with_elements (cell_at t n) left)
+    (born m s.own.heap s.own.scopes s.own.kept s.own.timers s.own.forest s.own.focus a.slots c u hc tt (numbered_fit taken s.own.counts.slots a.slots (first_part s.own.counts.slots (length taken) (new_indexes (cell_at s n) (length left)) a.slots due.more) due.most))
     (cell_later m k _ g (with_elements_is m s n left hr hl))
-    (sym (ap (λ d. d.prototype) (at_old t.own.heap c (plain_object []) n (less n m.objects (length t.own.heap) ho.born hr.wide.objects)))))
-    (value_end k _ (is_born m s.own.heap s.own.scopes s.own.kept s.own.timers s.own.forest s.own.focus c))))
+    (sym (ap (λ d. d.prototype) (at_old t.own.heap c (plain_object []) n (less n m.objects (length t.own.heap) ho.born hr.wide.objects))))
+    (elements_fit (cell_at s n) left s.own.counts.slots a.slots (hr.there.fits n).room (last_part s.own.counts.slots (length taken) (new_indexes (cell_at s n) (length left)) a.slots due.more) due.most))
+    (value_end k _ (is_born m s.own.heap s.own.scopes s.own.kept s.own.timers s.own.forest s.own.focus a.slots c))))
 
 pub splice_count_r : (m : Sizes) (x0 : ℕ) (x1 : List Value) (x2 : ℕ) (x3 : State) (x4 : (ℤ → Plan)) → R m x3 → ((y0 : ℤ) → Keeps m (x4 y0)) → Keeps m (splice_count x0 x1 x2 x3 x4)
 splice_count_r m len [] extra s k hr f0 = f0 _
@@ -178,31 +216,31 @@ call_each_r m f (v ∷ vs) i ws d s k hr h0 h1 h3 f0 = job m _ s _ hr
 pub over_r : (m : Sizes) (x0 : ℕ) (x1 : ℕ) (x2 : Value) (x3 : ℕ) (x4 : State) (x5 : (List Value → State → Plan)) → R m x4 → ValueIs m x2 → ((n : Sizes) → Grows m n → (y0 : List Value) (y1 : State) → R n y1 → ValuesAre n y0 → Keeps n (x5 y0 y1)) → Keeps m (over x0 x1 x2 x3 x4 x5)
 over_r m n len f d s k hr h2 f0 = want_function_r m f s _ hr (charged m len s _ hr (call_each_r m f (elements s n len) 0 [] d s k hr h2 (elements_are m s n len hr) (no_values m) f0))
 
-pub list_method_r : (m : Sizes) (x0 : ListNative) (x1 : ℕ) (x2 : ℕ) (x3 : List Value) (x4 : ℕ) (x5 : State) → R m x5 → ValuesAre m x3 → ValueIs m (Own x1) → Keeps m (list_method x0 x1 x2 x3 x4 x5)
-list_method_r m ListConcat n len vs d s hr h3 ho = list_concat_r m n len vs s hr h3
-list_method_r m Join n len vs d s hr h3 ho = join_r m n len (nth 0 vs) (list_extra len vs s) s hr (nth_is m 0 vs h3)
-list_method_r m ListSlice n len vs d s hr h3 ho = list_slice_r m n len (nth 0 vs) (nth 1 vs) (list_extra len vs s) s hr
-list_method_r m ForEach n len vs d s hr h3 ho = over_r m n len (nth 0 vs) d s (λ ws t. give Undefined t) hr (nth_is m 0 vs h3) (λ l g ws t u q. ended l _ t u (value_end l _ (undefined_is l)))
-list_method_r m MapNative n len vs d s hr h3 ho = over_r m n len (nth 0 vs) d s (λ ws t. make_array ws 0 t give) hr (nth_is m 0 vs h3)
+pub list_method_r : (m : Sizes) (x0 : ListNative) (x1 : ℕ) (x2 : ℕ) (x3 : List Value) (x4 : ℕ) (x5 : State) → R m x5 → ValuesAre m x3 → ValueIs m (Own x1) → x2 ≤ max_length → Keeps m (list_method x0 x1 x2 x3 x4 x5)
+list_method_r m ListConcat n len vs d s hr h3 ho hl = list_concat_r m n len vs s hr h3
+list_method_r m Join n len vs d s hr h3 ho hl = join_r m n len (nth 0 vs) (list_extra len vs s) s hr (nth_is m 0 vs h3)
+list_method_r m ListSlice n len vs d s hr h3 ho hl = list_slice_r m n len (nth 0 vs) (nth 1 vs) (list_extra len vs s) s hr
+list_method_r m ForEach n len vs d s hr h3 ho hl = over_r m n len (nth 0 vs) d s (λ ws t. give Undefined t) hr (nth_is m 0 vs h3) (λ l g ws t u q. ended l _ t u (value_end l _ (undefined_is l)))
+list_method_r m MapNative n len vs d s hr h3 ho hl = over_r m n len (nth 0 vs) d s (λ ws t. make_array ws 0 t give) hr (nth_is m 0 vs h3)
     (λ l g ws t u q. make_array_r l ws 0 t give u q (λ i e v y z w. ended i (Is v) y z (value_end i v w)))
-list_method_r m FilterNative n len vs d s hr h3 ho = over_r m n len (nth 0 vs) d s (λ ws t. make_array (kept (elements s n len) ws) 0 t give) hr (nth_is m 0 vs h3)
+list_method_r m FilterNative n len vs d s hr h3 ho hl = over_r m n len (nth 0 vs) d s (λ ws t. make_array (kept (elements s n len) ws) 0 t give) hr (nth_is m 0 vs h3)
     (λ l g ws t u q. make_array_r l (kept (elements s n len) ws) 0 t give u (chosen_are l (elements s n len) ws (values_later m l _ g (elements_are m s n len hr))) (λ i e v y z w. ended i (Is v) y z (value_end i v w)))
-list_method_r m Pop n len vs d s hr h3 ho = pop_r m n len vs s hr
-list_method_r m Push n len vs d s hr h3 ho = push_r m n len vs s hr h3
-list_method_r m Shift n len vs d s hr h3 ho = shift_r m n len vs s hr
-list_method_r m Unshift n len vs d s hr h3 ho = unshift_r m n len vs s hr h3
-list_method_r m Reverse n len vs d s hr h3 ho = reverse_r m n len vs s hr ho
-list_method_r m Sort n len vs d s hr h3 ho = sort_r m n len vs s hr ho
-list_method_r m Splice n len vs d s hr h3 ho = splice_r m n len vs s hr h3 ho
+list_method_r m Pop n len vs d s hr h3 ho hl = pop_r m n len vs s hr hl
+list_method_r m Push n len vs d s hr h3 ho hl = push_r m n len vs s hr h3
+list_method_r m Shift n len vs d s hr h3 ho hl = shift_r m n len vs s hr
+list_method_r m Unshift n len vs d s hr h3 ho hl = unshift_r m n len vs s hr h3
+list_method_r m Reverse n len vs d s hr h3 ho hl = reverse_r m n len vs s hr ho
+list_method_r m Sort n len vs d s hr h3 ho hl = sort_r m n len vs s hr ho
+list_method_r m Splice n len vs d s hr h3 ho hl = splice_r m n len vs s hr h3 ho
 
 pub list_native_r : (m : Sizes) (x0 : ListNative) (x1 : Option Value) (x2 : List Value) (x3 : ℕ) (x4 : State) → R m x4 → MaybeIs m x1 → ValuesAre m x2 → Keeps m (list_native x0 x1 x2 x3 x4)
-list_native_r m w this vs d s hr h1 h2 = on_array_r m this s _ hr h1 (λ n len ho. list_method_r m w n len vs d s hr h2 ho)
+list_native_r m w this vs d s hr h1 h2 = on_array_r m this s _ hr h1 (λ n len ho hl. list_method_r m w n len vs d s hr h2 ho hl)
 
 pub has_own_property_r : (m : Sizes) (x0 : Option Value) (x1 : Value) (x2 : State) → R m x2 → Keeps m (has_own_property x0 x1 x2)
 has_own_property_r m this x s hr = on_object_r m this s _ hr (λ o. wanted m E4 (not (list_any is_object (x ∷ []))) s _ hr (λ _. ended m _ s hr (value_end m _ (truth_is m _))))
 
 pub give_made_r : (m : Sizes) (x0 : List ℕ) (x1 : State) → R m x1 → Told m (IsText x0) → Keeps m (give_made x0 x1)
-give_made_r m t s hr ht = made_text m t s (give (Text t)) hr (λ a u. ended m (Is (Text t)) (with_counts s a) u (value_end m _ (text_is m t ht)))
+give_made_r m t s hr ht = made_text m t s (give (Text t)) hr (λ a u due. ended m (Is (Text t)) (with_counts s a) u (value_end m _ (text_is m t ht)))
 
 pub function_to_string_r : (m : Sizes) (x0 : Option Value) (x1 : State) → R m x1 → Keeps m (function_to_string x0 x1)
 function_to_string_r m (Some v) s hr = wanted m E3 (is_function s v) s _ hr (λ e. give_made_r m (codes "[function]") s hr (told m (tested (codes "[function]") refl)))
@@ -252,7 +290,7 @@ boolean_to_string_r m this s hr = search (faulted)
 pub prototype_native_r : (m : Sizes) (x0 : PrototypeNative) (x1 : Option Value) (x2 : List Value) (x3 : ℕ) (x4 : State) → R m x4 → MaybeIs m x1 → Keeps m (prototype_native x0 x1 x2 x3 x4)
 prototype_native_r m HasOwnProperty this vs d s hr h1 = has_own_property_r m this (nth 0 vs) s hr
 prototype_native_r m ObjectToString this vs d s hr h1 = on_object_r m this s _ hr (λ o. give_made_r m (codes "[object Object]") s hr (told m (tested (codes "[object Object]") refl)))
-prototype_native_r m ArrayToString this vs d s hr h1 = on_array_r m this s _ hr h1 (λ n len ho. array_to_string_r m n len s hr)
+prototype_native_r m ArrayToString this vs d s hr h1 = on_array_r m this s _ hr h1 (λ n len ho hl. array_to_string_r m n len s hr)
 prototype_native_r m FunctionToString this vs d s hr h1 = function_to_string_r m this s hr
 prototype_native_r m TextToString this vs d s hr h1 = on_text_r m this s _ hr h1 (λ t ht. ended m _ s hr (value_end m _ (text_is m t ht)))
 prototype_native_r m NumberToString this vs d s hr h1 = number_to_string_r m this (nth 0 vs) s hr

@@ -1,4 +1,8 @@
 -- What natives have in common, and those of the globals and of Math, keep what is there.
+use Rattle.std.proofs.Common.{◌≡◌, ◌≤◌, refl, ap, subst, arith}
+use Rattle.widget_meaning.specs.Limits.{max_length, max_slots}
+use Rattle.widget_meaning.specs.OwnState.{Kind, Object, Array, Function, Bunch, cell_at}
+use Rattle.widget_meaning.specs.JsonBack.{HasLength}
 use Rattle.code_units.specs.declared.whole.WholeRead.TheVariants as read
 use Rattle.std.specs.Prelude.{ℕ, ℤ, List, [], ◌∷◌, Option, Some, pos}
 use Rattle.code_units.specs.declared.whole.WholeRead.{WholeRead}
@@ -28,7 +32,7 @@ use Rattle.std.specs.Str.Parse.{digits_value, starts_with_minus, without_leading
 use Rattle.widget_meaning.specs.MathNatives.{power}
 use Rattle.std.specs.List.{AllByRecursion}
 use Rattle.meaning_laws.proofs.Forms.{result_r, to_primitive_r, bunch_is, bunch_cell, array_is}
-use Rattle.meaning_laws.specs.There.{Sizes, Grows, Told, ValueIs, ValuesAre, MaybeIs, NodesAre}
+use Rattle.meaning_laws.specs.There.{Sizes, Grows, Told, CellFits, ValueIs, ValuesAre, MaybeIs, NodesAre}
 use Rattle.meaning_laws.specs.Texts.{IsText, AreTexts}
 use Rattle.meaning_laws.proofs.Units.{codes_are}
 use Rattle.meaning_laws.proofs.Values.{told, also, truth_is, nan_is, num_is, text_is, text_told, numbered_are, numbered_names, value_end}
@@ -71,8 +75,17 @@ pub on_text_r : (m : Sizes) (x0 : Option Value) (x1 : State) (x2 : (List ℕ →
 on_text_r m (Some (Text t)) s k hr h0 f0 = f0 t h0.value.text
 on_text_r m this s k hr h0 f0 = search (faulted)
 
-pub on_array_r : (m : Sizes) (x0 : Option Value) (x1 : State) (x2 : (ℕ → ℕ → Plan)) → R m x1 → MaybeIs m x0 → ((y0 : ℕ) (y1 : ℕ) → ValueIs m (Own y0) → Keeps m (x2 y0 y1)) → Keeps m (on_array x0 x1 x2)
-on_array_r m (Some (Own n)) s k hr h0 f0 = found m E3 (array_length (kind_of s (Own n))) s (k n) hr (λ len e. f0 n len h0.value)
+long_of : (k : Kind) (len : ℕ) → HasLength k → array_length (Some k) ≡ Some len → len ≤ max_length
+long_of (Array i) len h e = subst (λ n. n ≤ max_length) (same i len e) h
+  where
+    same : (a b : ℕ) → Some a ≡ Some b → a ≡ b
+    same a b e = cc
+long_of Object len h e = cc
+long_of (Function f o) len h e = cc
+long_of (Bunch ns) len h e = cc
+
+pub on_array_r : (m : Sizes) (x0 : Option Value) (x1 : State) (x2 : (ℕ → ℕ → Plan)) → R m x1 → MaybeIs m x0 → ((y0 : ℕ) (y1 : ℕ) → ValueIs m (Own y0) → y1 ≤ max_length → Keeps m (x2 y0 y1)) → Keeps m (on_array x0 x1 x2)
+on_array_r m (Some (Own n)) s k hr h0 f0 = found m E3 (array_length (kind_of s (Own n))) s (k n) hr (λ len e. f0 n len h0.value (long_of (cell_at s n).kind len (hr.there.fits n).len e))
 on_array_r m this s k hr h0 f0 = search (faulted)
 
 pub on_bunch_r : (m : Sizes) (x0 : Option Value) (x1 : State) (x2 : (List ℕ → Plan)) → R m x1 → ((y0 : List ℕ) → NodesAre m y0 → Keeps m (x2 y0)) → Keeps m (on_bunch x0 x1 x2)
@@ -88,13 +101,20 @@ pub with_number_r : (m : Sizes) (x0 : WholeRead) (x1 : ℕ) (x2 : State) (x3 : (
 with_number_r m r extra s k hr f0 = with_number_or_r m (pos 0) r extra s k hr f0
 
 pub give_text_r : (m : Sizes) (x0 : ℕ) (x1 : List ℕ) (x2 : State) → R m x2 → Told m (IsText x1) → Keeps m (give_text x0 x1 x2)
-give_text_r m extra t s hr ht = charged m _ s _ hr (made_text m t s (give (Text t)) hr (λ a u. ended m (Is (Text t)) (with_counts s a) u (value_end m _ (text_is m t ht))))
+give_text_r m extra t s hr ht = charged m _ s _ hr (made_text m t s (give (Text t)) hr (λ a u due. ended m (Is (Text t)) (with_counts s a) u (value_end m _ (text_is m t ht))))
+
+pub numbered_length : (i : ℕ) (vs : List Value) → length (numbered_pairs i vs) ≡ length vs
+numbered_length i [] = refl
+numbered_length i (v ∷ vs) = ap suc (numbered_length (i + 1) vs)
+
+pub numbered_fit : (vs : List Value) (k a : ℕ) → k + length vs ≤ a → a ≤ max_slots → CellFits a (new_array (length vs) (numbered_pairs 0 vs))
+numbered_fit vs k a h l = record { room = omega (arith, h, numbered_length 0 vs); len = omega (arith, h, l) }
 
 pub make_array_r : (m : Sizes) (x0 : List Value) (x1 : ℕ) (x2 : State) (x3 : (Value → State → Plan)) → R m x2 → ValuesAre m x0 → ((n : Sizes) → Grows m n → (y0 : Value) (y1 : State) → R n y1 → ValueIs n y0 → Keeps n (x3 y0 y1)) → Keeps m (make_array x0 x1 x2 x3)
-make_array_r m vs units s k hr h0 f0 = paid m (cost units 1 (length vs) 0) s (λ t. k (Own (length t.own.heap)) (with_new_cell t (new_array (length vs) (numbered_pairs 0 vs)))) hr (λ a u. born_then m (new_array (length vs) (numbered_pairs 0 vs)) (with_counts s a) k u (array_is m _ _ (numbered_are m 0 vs h0) (numbered_names m 0 vs)) tt f0)
+make_array_r m vs units s k hr h0 f0 = paid m (cost units 1 (length vs) 0) s (λ t. k (Own (length t.own.heap)) (with_new_cell t (new_array (length vs) (numbered_pairs 0 vs)))) hr (λ a u due. born_then m (new_array (length vs) (numbered_pairs 0 vs)) (with_counts s a) k u (array_is m _ _ (numbered_are m 0 vs h0) (numbered_names m 0 vs)) tt (numbered_fit vs s.own.counts.slots a.slots due.more due.most) f0)
 
 pub make_bunch_r : (m : Sizes) (x0 : List ℕ) (x1 : State) (x2 : (Value → State → Plan)) → R m x1 → NodesAre m x0 → ((n : Sizes) → Grows m n → (y0 : Value) (y1 : State) → R n y1 → ValueIs n y0 → Keeps n (x2 y0 y1)) → Keeps m (make_bunch x0 x1 x2)
-make_bunch_r m ns s k hr hn f0 = made m (new_bunch ns) _ s k hr (bunch_cell m ns hn) tt f0
+make_bunch_r m ns s k hr hn f0 = made m (new_bunch ns) _ s k hr (bunch_cell m ns hn) tt (record { room = omega arith; len = tt }) f0
 
 pub with_optional_r : (m : Sizes) (x0 : ℤ) (x1 : Value) (x2 : ℕ) (x3 : State) (x4 : (ℤ → Plan)) → R m x3 → ((y0 : ℤ) → Keeps m (x4 y0)) → Keeps m (with_optional x0 x1 x2 x3 x4)
 with_optional_r m z Undefined extra s k hr f0 = f0 z

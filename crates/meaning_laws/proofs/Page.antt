@@ -42,7 +42,9 @@ use Rattle.widget_meaning.specs.NodeLaws.{IsPage}
 use Rattle.widget_meaning.specs.BunchWrites.{styled, with_handler, with_focus, left_focus, is_target, has_new_text, is_no_root, is_value_target}
 use Rattle.widget_meaning.proofs.Times.{relabelled_once, moved_once, detached_once, grown_once, born_once}
 use Rattle.meaning_laws.proofs.Each.{each_both, each_filtered, each_mapped, each_made, each_in_range}
-use Rattle.widget_meaning.specs.Limits.{max_node_depth}
+use Rattle.widget_meaning.specs.Limits.{max_node_depth, max_slots}
+use Rattle.std.proofs.Common.{zero}
+use Rattle.meaning_laws.proofs.Natives.{numbered_length}
 use Rattle.meaning_laws.proofs.Levels.{low_detached, height_relabelled}
 use Rattle.meaning_laws.proofs.Low.{IsLow, MayTake, low_put, low_copies, takes_still, target_takes, targets_take, both_true}
 use Rattle.meaning_laws.proofs.Written.{IsReady, IsOpen, low_text, low_new, open_freed, open_other, ready_valued, all_ready}
@@ -58,7 +60,7 @@ use Rattle.meaning_laws.proofs.Natives.{give_texts_r, global_native_r, make_bunc
 use Rattle.meaning_laws.proofs.Lists.{list_native_r, prototype_native_r}
 use Rattle.meaning_laws.proofs.Texts.{text_native_r}
 use Rattle.meaning_laws.proofs.Adsafe.{adsafe_native_r}
-use Rattle.meaning_laws.specs.There.{Sizes, Grows, Told, ValueIs, ValuesAre, MaybeIs, NodeIs, NodesAre, OfNode, CellIs, KeptIs}
+use Rattle.meaning_laws.specs.There.{Sizes, Grows, Told, CellFits, ValueIs, ValuesAre, MaybeIs, NodeIs, NodesAre, OfNode, CellIs, KeptIs}
 use Rattle.meaning_laws.proofs.Later.{told_later, value_later, values_later, nodes_later}
 use Rattle.meaning_laws.proofs.Values.{told, also, own_value, text_told, numbered_names, undefined_is, truth_is, num_is, text_is, no_values, more_values, nth_is, no_value, or_undefined, numbered_are, value_end, call_job}
 use Rattle.meaning_laws.proofs.Steps.{R, Stands, Keeps, ended, job, value, chain, charged, paid, made_text, faulted, wanted, found, lowered, born_then}
@@ -70,7 +72,7 @@ module _ (m : Sizes) where
 
   -- ## The page
   with_page : (s : State) (g : Trees) → R m s → IsPage g m.nodes → IsLow g → (PageHasTexts s.own.forest → PageHasTexts g) → R m (with_forest s g)
-  with_page s g h q l w = paged m s.own.heap s.own.scopes s.own.kept s.own.timers s.own.forest s.own.focus g h q l (also m w h.there.labels)
+  with_page s g h q l w = paged m s.own.heap s.own.scopes s.own.kept s.own.timers s.own.forest s.own.focus s.own.counts.slots g h q l (also m w h.there.labels)
 
   all_put : (p k : ℕ) (next : Option ℕ) (ms : List ℕ) (ts : Trees) → IsPage ts k → IsPage (fold (moved p next) ts ms) k
   all_put p k next [] ts h = h
@@ -98,7 +100,7 @@ module _ (m : Sizes) where
   emptied_kept s n h = with_page s _ h (all_freed m.nodes (tops (children n s.own.forest)) s.own.forest h.there.page) (all_low (tops (children n s.own.forest)) s.own.forest h.there.low) (page_all_freed (tops (children n s.own.forest)) s.own.forest)
 
   one_label_kept : (s : State) (n : ℕ) (l : Label) → R m s → Told m (LabelHasTexts l) → R m (with_label s n l)
-  one_label_kept s n l h k = paged m s.own.heap s.own.scopes s.own.kept s.own.timers s.own.forest s.own.focus _ h (relabelled_once s.own.forest m.nodes n l h.there.page) (subst (λ x. x ≤ max_node_depth + 1) (sym (height_relabelled n l s.own.forest)) h.there.low)
+  one_label_kept s n l h k = paged m s.own.heap s.own.scopes s.own.kept s.own.timers s.own.forest s.own.focus s.own.counts.slots _ h (relabelled_once s.own.forest m.nodes n l h.there.page) (subst (λ x. x ≤ max_node_depth + 1) (sym (height_relabelled n l s.own.forest)) h.there.low)
       (record { holds = λ e. page_relabelled n l s.own.forest (k.holds e) (h.there.labels.holds e) })
 
   label_kept : (l : Option Label) (n : ℕ) (f : Label → Label) (s : State) → R m s → Told m (MaybeLabel l) → Told m ((v : Label) → LabelHasTexts v → LabelHasTexts (f v)) → R m (option_map_or (λ v. with_label s n (f v)) l s)
@@ -134,7 +136,7 @@ module _ (m : Sizes) where
   mark_told s (n ∷ ns) hr = (hr.there.kept n).mark
 
   changed_kept : (f : Kept → Kept) (s : State) (n : ℕ) → R m s → ((k : Kept) → KeptIs m k → KeptIs m (f k)) → R m (change_kept f s n)
-  changed_kept f s n h q = rekept m s.own.heap s.own.scopes s.own.kept s.own.timers s.own.forest s.own.focus n (f (kept_at s n)) h (q (kept_at s n) (h.there.kept n))
+  changed_kept f s n h q = rekept m s.own.heap s.own.scopes s.own.kept s.own.timers s.own.forest s.own.focus s.own.counts.slots n (f (kept_at s n)) h (q (kept_at s n) (h.there.kept n))
 
   handler_kept : (t : List ℕ) (f : Value) (k : Kept) → ValueIs m f → KeptIs m k → KeptIs m (with_handler t f k)
   handler_kept t (Own i) k h q = record { handlers = each_both {A = Handler} (λ x. x.func < m.objects) k.handlers _ q.handlers (h.born, tt); mark = q.mark }
@@ -162,7 +164,7 @@ module _ (m : Sizes) where
   now_page s h = page_later s.own.forest m.nodes (length s.own.kept) h.wide.nodes h.there.page
 
   room_stands : (s : State) (g : Trees) (k : ℕ) → R m s → IsPage g (length s.own.kept + k) → IsLow g → Told m (PageHasTexts g) → Stands m (with_room k (with_forest s g))
-  room_stands s g k h q l w = record { size = _; grows = room_grows m s.own.heap s.own.scopes s.own.kept s.own.timers s.own.forest s.own.focus k h; fine = roomy m s.own.heap s.own.scopes s.own.kept s.own.timers s.own.forest s.own.focus g k h (room_page s g k q) l w }
+  room_stands s g k h q l w = record { size = _; grows = room_grows m s.own.heap s.own.scopes s.own.kept s.own.timers s.own.forest s.own.focus s.own.counts.slots k h; fine = roomy m s.own.heap s.own.scopes s.own.kept s.own.timers s.own.forest s.own.focus s.own.counts.slots g k h (room_page s g k q) l w }
 
   copies_stand : (t : ℕ) (ms : List ℕ) (s : State) → R m s → MayTake ms s.own.forest t → Stands m (with_copies t ms s)
   copies_stand t ms s h k =
@@ -179,7 +181,7 @@ module _ (m : Sizes) where
       (record { holds = λ e. page_grafted n None (Node (length s.own.kept) (TextOf (u ∷ us)) End End) s.own.forest (ht.holds e, (tt, tt)) (h.there.labels.holds e) })
 
   node_kept : (l : Label) (s : State) → R m s → Told m (LabelHasTexts l) → R (record { objects = m.objects; nodes = length (s.own.kept ++ replicate 1 nothing_kept); texts = m.texts }) (with_node l s)
-  node_kept l s h hl = roomy m s.own.heap s.own.scopes s.own.kept s.own.timers s.own.forest s.own.focus (with_detached (Node (length s.own.kept) l End End) s.own.forest) 1 h
+  node_kept l s h hl = roomy m s.own.heap s.own.scopes s.own.kept s.own.timers s.own.forest s.own.focus s.own.counts.slots (with_detached (Node (length s.own.kept) l End End) s.own.forest) 1 h
       (room_page s _ 1 (born_once s.own.forest (length s.own.kept) l (now_page s h))) (low_new (length s.own.kept) l s.own.forest h.there.low)
       (record { holds = λ e. page_behind (Node (length s.own.kept) l End End) s.own.forest (hl.holds e, (tt, tt)) (h.there.labels.holds e) })
 
@@ -231,18 +233,26 @@ bunches_are m ns h = each_mapped (NodeIs m) (CellIs m) (λ n. new_bunch (n ∷ [
 bunches_hosted : (ns : List ℕ) → AllByRecursion Hosted (bunches ns)
 bunches_hosted ns = each_made Hosted (λ n. new_bunch (n ∷ [])) (λ n. bunch_hosted (n ∷ [])) ns
 
+bunches_fit : (k : ℕ) (ns : List ℕ) → AllByRecursion (CellFits k) (bunches ns)
+bunches_fit k ns = each_made (CellFits k) (λ n. new_bunch (n ∷ [])) (λ n. record { room = omega arith; len = tt }) ns
+
 bunches_kept : (m : Sizes) (ns : List ℕ) (s : State) → R m s → NodesAre (with_more m s (length (bunches ns))) ns → R (with_more m s (length (bunches ns))) (fold with_bunch s ns)
 bunches_kept m ns s h q = subst (λ t. R (with_more m s (length (bunches ns))) t) (sym (bunches_fold ns s))
-    (all_born m (bunches ns) s h (bunches_are _ ns q) (bunches_hosted ns))
+    (all_born m (bunches ns) s h (bunches_are _ ns q) (bunches_hosted ns) (bunches_fit s.own.counts.slots ns))
 
-exploded_kept : (m : Sizes) (ns : List ℕ) (s : State) → R m s → NodesAre (with_more m s (length (bunches ns) + 1)) ns → R (with_more m s (length (bunches ns) + 1)) (exploded ns s)
-exploded_kept m ns s h q =
+range_length : (a n : ℕ) → length (range_with_len a n) ≡ n
+range_length a zero = refl
+range_length a (suc n) = ap suc (range_length (a + 1) n)
+
+exploded_kept : (m : Sizes) (ns : List ℕ) (s : State) → R m s → NodesAre (with_more m s (length (bunches ns) + 1)) ns → length ns ≤ s.own.counts.slots → length ns ≤ max_slots → R (with_more m s (length (bunches ns) + 1)) (exploded ns s)
+exploded_kept m ns s h q l z =
     let n : Sizes = with_more m s (length (bunches ns) + 1) in
     let c : Cell = new_array (length ns) (numbered_pairs 0 (bunches_from (length s.own.heap + 1) ns)) in
+    let array_fits : CellFits s.own.counts.slots c = record { room = omega (arith, l, numbered_length 0 (bunches_from (length s.own.heap + 1) ns), length-map (range_with_len (length s.own.heap + 1) (length ns)) Own, range_length (length s.own.heap + 1) (length ns)); len = omega (arith, z) } in
     let one : suc (length (bunches ns)) ≡ length (bunches ns) + 1 = omega arith in
     subst (λ t. R n t) (sym (bunches_fold ns (with_new_cell s c)))
     (subst (λ k. AllByRecursion (CellIs (with_more m s k)) (c ∷ bunches ns) → R (with_more m s k) (fold with_new_cell s (c ∷ bunches ns))) one
-    (λ e. all_born m (c ∷ bunches ns) s h e (array_hosted _ _, bunches_hosted ns))
+    (λ e. all_born m (c ∷ bunches ns) s h e (array_hosted _ _, bunches_hosted ns) (array_fits, bunches_fit s.own.counts.slots ns))
     (array_is n _ _ (numbered_are n 0 _ (bunch_values n (length s.own.heap + 1) (length ns) (omega (arith, length-map ns (λ i. new_bunch (i ∷ [])))))) (numbered_names n 0 _), bunches_are n ns q))
 
 pub want_bunch_r : (m : Sizes) (x0 : Value) (x1 : State) (x2 : (List ℕ → Plan)) → R m x1 → ((y0 : List ℕ) → NodesAre m y0 → Keeps m (x2 y0)) → Keeps m (want_bunch x0 x1 x2)
@@ -254,7 +264,7 @@ want_one_r m [] s k hr hn f0 = search (faulted)
 want_one_r m (n ∷ i ∷ ns) s k hr hn f0 = search (faulted)
 
 pub give_page_text_r : (m : Sizes) (x0 : ℕ) (x1 : List ℕ) (x2 : State) → R m x2 → Told m (IsText x1) → Keeps m (give_page_text x0 x1 x2)
-give_page_text_r m extra t s hr ht = charged m _ s _ hr (made_text m t s (give (Text t)) hr (λ a u. ended m (Is (Text t)) (with_counts s a) u (value_end m _ (text_is m t ht))))
+give_page_text_r m extra t s hr ht = charged m _ s _ hr (made_text m t s (give (Text t)) hr (λ a u due. ended m (Is (Text t)) (with_counts s a) u (value_end m _ (text_is m t ht))))
 
 pub query_steps_r : (m : Sizes) (x0 : Option (List Step)) (x1 : List ℕ) (x2 : State) → R m x2 → NodesAre m x1 → Keeps m (query_steps x0 x1 x2)
 query_steps_r m None ns s hr hn = search (faulted)
@@ -276,11 +286,17 @@ get_attribute_r m ns x s hr = give_page_text_r m _ _ s hr (first_told m s ns x h
 pub get_style_r : (m : Sizes) (x0 : List ℕ) (x1 : Value) (x2 : State) → R m x2 → Keeps m (get_style x0 x1 x2)
 get_style_r m ns p s hr = wanted m E4 (not (list_any is_object (p ∷ []))) s _ hr (λ _. wanted m E4 (is_listed (to_text p)) s _ hr (λ e. give_page_text_r m _ _ s hr (told m (style_value_is (style_pairs (first_attribute s ns (codes "style"))) (to_text p) (style_pairs_are (first_attribute s ns (codes "style")))))))
 
+third : (k n a : ℕ) → k + 3 * n ≤ a → n ≤ a
+third k n a h = omega (arith, h)
+
+far_third : (k n a : ℕ) → k + 3 * n ≤ a → a ≤ max_slots → n ≤ max_slots
+far_third k n a h l = omega (arith, h, l)
+
 pub explode_r : (m : Sizes) (x0 : List ℕ) (x1 : State) → R m x1 → NodesAre m x0 → Keeps m (explode x0 x1)
-explode_r m ns s hr hn = charged m _ s _ hr (paid m _ s (λ t. give (Own (length t.own.heap)) (exploded ns t)) hr (λ a u.
+explode_r m ns s hr hn = charged m _ s _ hr (paid m _ s (λ t. give (Own (length t.own.heap)) (exploded ns t)) hr (λ a u due.
     let n : Sizes = with_more m s (length (bunches ns) + 1) in
     let g : Grows m n = more_grows m s (length (bunches ns) + 1) hr in
-    lowered m n _ g (ended n _ (exploded ns (with_counts s a)) (exploded_kept m ns (with_counts s a) u (nodes_later m n ns g hn)) (value_end n _ (own_value n _ (omega arith))))))
+    lowered m n _ g (ended n _ (exploded ns (with_counts s a)) (exploded_kept m ns (with_counts s a) u (nodes_later m n ns g hn) (third s.own.counts.slots (length ns) a.slots due.more) (far_third s.own.counts.slots (length ns) a.slots due.more due.most)) (value_end n _ (own_value n _ (omega arith))))))
 
 pub get_parent_r : (m : Sizes) (x0 : List ℕ) (x1 : State) → R m x1 → Keeps m (get_parent x0 x1)
 get_parent_r m ns s hr = wanted m E10 (list_all (has_open_parent s) ns) s _ hr (λ _. charged m _ s _ hr (make_bunch_r m _ s give hr (parents_are m s hr ns) (λ n g v t u w. ended n (Is v) t u (value_end n v w))))
@@ -317,11 +333,11 @@ pub alter_r : (m : Sizes) (extra : ℕ) (b : Value) (s : State) (f : State → S
 alter_r m extra b s f hr hb f0 = charged m _ s _ hr (ended_at m (Is b) (f s) (f0 s hr) (λ n g. value_end n b (value_later m n b g hb)))
 
 pub alter_for_r : (m : Sizes) (extra units nodes : ℕ) (b : Value) (s : State) (f : State → State) → R m s → ValueIs m b → ((t : State) → R m t → Stands m (f t)) → Keeps m (alter_for extra units nodes b s f)
-alter_for_r m extra units nodes b s f hr hb f0 = charged m _ s _ hr (paid m (cost units 0 0 nodes) s (λ t. give b (f t)) hr (λ a u. ended_at m (Is b) (f (with_counts s a)) (f0 (with_counts s a) u) (λ n g. value_end n b (value_later m n b g hb))))
+alter_for_r m extra units nodes b s f hr hb f0 = charged m _ s _ hr (paid m (cost units 0 0 nodes) s (λ t. give b (f t)) hr (λ a u due. ended_at m (Is b) (f (with_counts s a)) (f0 (with_counts s a) u) (λ n g. value_end n b (value_later m n b g hb))))
 
 pub append_trees_r : (m : Sizes) (ns ms : List ℕ) (us : Trees) (b : Value) (s : State) → R m s → ValueIs m b → AllByRecursion (MayTake ms s.own.forest) ns → NodesAre m ns → NodesAre m ms → Keeps m (append_trees ns ms us b s)
 append_trees_r m ns ms us b s hr hb q hn hm = charged m (length ns * size us) s _ hr (paid m (cost ((length ns - 1) * tree_units us) 0 0 ((length ns - 1) * size us)) s (λ t. give b (appended ns ms t)) hr
-    (λ a u. ended_at m (Is b) (appended ns ms (with_counts s a)) (appended_kept m ns ms (with_counts s a) u q hn hm) (λ n g. value_end n b (value_later m n b g hb))))
+    (λ a u due. ended_at m (Is b) (appended ns ms (with_counts s a)) (appended_kept m ns ms (with_counts s a) u q hn hm) (λ n g. value_end n b (value_later m n b g hb))))
 
 pub alter_each_r : (m : Sizes) (f : State → ℕ → State) (ns : List ℕ) (b : Value) (s : State) → R m s → ValueIs m b → ((t : State) (n : ℕ) → R m t → R m (f t n)) → Keeps m (alter_each f ns b s)
 alter_each_r m f ns b s hr hb f0 = alter_r m (length ns) b s (λ t. fold f t ns) hr hb (λ t u. stands m _ (fold_kept m f f0 ns t u))
@@ -342,7 +358,7 @@ replace_r m ns v b s hr h2 hn = want_one_r m ns s _ hr hn (λ n k. want_bunch_r 
 
 pub set_value_r : (m : Sizes) (x0 : List ℕ) (x1 : List ℕ) (x2 : Value) (x3 : State) → R m x3 → ValueIs m x2 → NodesAre m x0 → Told m (IsText x1) → Keeps m (set_value x0 x1 x2 x3)
 set_value_r m ns t b s hr h2 hn ht = wanted m E10 (list_all (is_value_target s t) ns) s _ hr (λ e. charged m (length ns) s _ hr (paid m (cost (length ns * length t) 0 0 (count_by (has_new_text s t) ns)) s (λ u. give b (fold (valued t) u ns)) hr
-    (λ a u. ended_at m (Is b) (fold (valued t) (with_counts s a) ns) (each_valued m t ns (with_counts s a) u (all_ready s t ns (λ n. hr.there.page.once n) e) hn ht) (λ n g. value_end n b (value_later m n b g h2)))))
+    (λ a u due. ended_at m (Is b) (fold (valued t) (with_counts s a) ns) (each_valued m t ns (with_counts s a) u (all_ready s t ns (λ n. hr.there.page.once n) e) hn ht) (λ n g. value_end n b (value_later m n b g h2)))))
 
 pub set_style_r : (m : Sizes) (x0 : List ℕ) (x1 : List ℕ) (x2 : List ℕ) (x3 : Value) (x4 : State) → R m x4 → ValueIs m x3 → Told m (IsText x1) → Told m (IsText x2) → Keeps m (set_style x0 x1 x2 x3 x4)
 set_style_r m ns p v b s hr h3 hp hv = wanted m E4 (is_listed p && (nat_eq (length v) 0 || is_value v)) s _ hr (λ e. wanted m E10 (list_all (is_element s) ns) s _ hr (λ _. alter_for_r m (length ns) (length ns * length v) 0 b s (λ t. fold (relabel (styled p v)) t ns) hr h3 (λ t u. stands m _ (fold_kept m (relabel (styled p v)) (λ z n y. relabel_kept m (styled p v) z n y (record { holds = λ e l k. styled_is p v l (hp.holds e) (hv.holds e) k })) ns t u))))
@@ -359,13 +375,13 @@ set_flag_r m test ns x is_set b s hr h4 hx = wanted m E10 (list_all test ns) s _
     (λ z n y. relabel_kept m (with_attribute x (if is_set then Some x else None)) z n y (told m (λ l k. attribute_set x (if is_set then Some x else None) l (flag_is x is_set hx) k))))
 
 pub focus_r : (m : Sizes) (x0 : List ℕ) (x1 : Value) (x2 : State) → R m x2 → ValueIs m x1 → NodesAre m x0 → Keeps m (focus x0 x1 x2)
-focus_r m ns b s hr h1 hn = want_one_r m ns s _ hr hn (λ n k. alter_r m (length ns) b s (with_focus (Some n)) hr h1 (λ t u. stands m _ (focused m t.own.heap t.own.scopes t.own.kept t.own.timers t.own.forest t.own.focus (Some n) u k)))
+focus_r m ns b s hr h1 hn = want_one_r m ns s _ hr hn (λ n k. alter_r m (length ns) b s (with_focus (Some n)) hr h1 (λ t u. stands m _ (focused m t.own.heap t.own.scopes t.own.kept t.own.timers t.own.forest t.own.focus t.own.counts.slots (Some n) u k)))
 
 pub blur_r : (m : Sizes) (x0 : List ℕ) (x1 : Value) (x2 : State) → R m x2 → ValueIs m x1 → Keeps m (blur x0 x1 x2)
-blur_r m ns b s hr h1 = alter_r m (length ns) b s (λ t. with_focus (left_focus t.own.focus ns) t) hr h1 (λ t u. stands m _ (focused m t.own.heap t.own.scopes t.own.kept t.own.timers t.own.forest t.own.focus (left_focus t.own.focus ns) u (left_kept m t.own.focus ns u.there.focused)))
+blur_r m ns b s hr h1 = alter_r m (length ns) b s (λ t. with_focus (left_focus t.own.focus ns) t) hr h1 (λ t u. stands m _ (focused m t.own.heap t.own.scopes t.own.kept t.own.timers t.own.forest t.own.focus t.own.counts.slots (left_focus t.own.focus ns) u (left_kept m t.own.focus ns u.there.focused)))
 
 pub listen_r : (m : Sizes) (x0 : List ℕ) (x1 : List ℕ) (x2 : Value) (x3 : Value) (x4 : State) → R m x4 → ValueIs m x2 → ValueIs m x3 → Keeps m (listen x0 x1 x2 x3 x4)
-listen_r m ns t f b s hr h2 h3 = wanted m E4 (is_event_type t) s _ hr (λ e. want_function_r m f s _ hr (charged m _ s _ hr (paid m _ s (λ u. give b (fold (change_kept (with_handler t f)) u ns)) hr (λ a u. ended m (Is b) (fold (change_kept (with_handler t f)) (with_counts s a) ns)
+listen_r m ns t f b s hr h2 h3 = wanted m E4 (is_event_type t) s _ hr (λ e. want_function_r m f s _ hr (charged m _ s _ hr (paid m _ s (λ u. give b (fold (change_kept (with_handler t f)) u ns)) hr (λ a u due. ended m (Is b) (fold (change_kept (with_handler t f)) (with_counts s a) ns)
     (fold_kept m (change_kept (with_handler t f)) (λ z n y. changed_kept m (with_handler t f) z n y (λ k q. handler_kept m t f k h2 q)) ns (with_counts s a) u) (value_end m b h3)))))
 
 pub hush_r : (m : Sizes) (x0 : List ℕ) (x1 : Value) (x2 : Value) (x3 : State) → R m x3 → ValueIs m x2 → Keeps m (hush x0 x1 x2 x3)
@@ -388,7 +404,7 @@ each_called_r m f (v ∷ vs) b d s hr h0 h1 h2 = job m _ s _ hr (call_job m f No
     (λ n g o t u q. value n o t _ u q (λ w z. each_called_r n f vs b d t u (value_later m n f g h0) (values_later m n vs g (record { each = h1.each.1 })) (value_later m n b g h2)))
 
 pub each_r : (m : Sizes) (x0 : List ℕ) (x1 : Value) (x2 : Value) (x3 : ℕ) (x4 : State) → R m x4 → ValueIs m x1 → ValueIs m x2 → NodesAre m x0 → Keeps m (each x0 x1 x2 x3 x4)
-each_r m ns f b d s hr h1 h2 hn = want_function_r m f s _ hr (charged m _ s _ hr (paid m _ s (λ t. each_called f (bunches_from (length t.own.heap) ns) b d (fold with_bunch t ns)) hr (λ a u.
+each_r m ns f b d s hr h1 h2 hn = want_function_r m f s _ hr (charged m _ s _ hr (paid m _ s (λ t. each_called f (bunches_from (length t.own.heap) ns) b d (fold with_bunch t ns)) hr (λ a u due.
     let n : Sizes = with_more m s (length (bunches ns)) in
     let g : Grows m n = more_grows m s (length (bunches ns)) hr in
     lowered m n _ g (each_called_r n f (bunches_from (length s.own.heap) ns) b d (fold with_bunch (with_counts s a) ns) (bunches_kept m ns (with_counts s a) u (nodes_later m n ns g hn))
@@ -418,13 +434,13 @@ pub write_native_r : (m : Sizes) (x0 : WriteNative) (x1 : Option Value) (x2 : Li
 write_native_r m w this vs d s hr h1 h2 = on_bunch_r m this s _ hr (λ ns hn. write_method_r m w ns (unwrap_or this Undefined) vs d s hr (or_undefined m this h1) h2 hn)
 
 pub give_node_r : (m : Sizes) (x0 : Label) (x1 : ℕ) (x2 : State) → R m x2 → Told m (LabelHasTexts x0) → Keeps m (give_node x0 x1 x2)
-give_node_r m l units s hr hl = paid m (cost units 1 2 1) s (λ t. give (Own (length t.own.heap)) (with_new_cell (with_node l t) (new_bunch (next_node t ∷ [])))) hr (λ a u.
+give_node_r m l units s hr hl = paid m (cost units 1 2 1) s (λ t. give (Own (length t.own.heap)) (with_new_cell (with_node l t) (new_bunch (next_node t ∷ [])))) hr (λ a u due.
     let t : State = with_counts s a in
     let ks : List Kept = s.own.kept ++ replicate 1 nothing_kept in
     let n : Sizes = record { objects = m.objects; nodes = length ks; texts = m.texts } in
-    lowered m n _ (room_grows m s.own.heap s.own.scopes s.own.kept s.own.timers s.own.forest s.own.focus 1 u)
+    lowered m n _ (room_grows m s.own.heap s.own.scopes s.own.kept s.own.timers s.own.forest s.own.focus a.slots 1 u)
     (born_then n (new_bunch (length s.own.kept ∷ [])) (with_node l t) give (node_kept m l t u hl)
-    (bunch_cell n _ (record { each = (record { born = omega (arith, length-append s.own.kept (replicate 1 nothing_kept)) }, tt) })) tt
+    (bunch_cell n _ (record { each = (record { born = omega (arith, length-append s.own.kept (replicate 1 nothing_kept)) }, tt) })) tt (record { room = omega arith; len = tt })
     (λ k g v y z w. ended k (Is v) y z (value_end k v w))))
 
 pub dom_tag_r : (m : Sizes) (x0 : List ℕ) (x1 : List (List ℕ)) (x2 : State) → R m x2 → Told m (IsText x0) → Told m (AreTexts x1) → Keeps m (dom_tag x0 x1 x2)
@@ -444,7 +460,7 @@ given_told m (Host x) h = also m (λ q. (q, tt)) (text_told m (Host x) h)
 pub append_to_root_r : (m : Sizes) (x0 : List ℕ) (x1 : State) → R m x1 → MayTake x0 x1.own.forest root → Keeps m (append_to_root x0 x1)
 append_to_root_r m ms s hr ht = charged m (size (subtrees ms s.own.forest)) s _ hr
     (paid m (cost 0 1 2 0) s (λ t. give (Own (length t.own.heap)) (with_new_cell (appended (root ∷ []) ms t) (new_bunch (root ∷ [])))) hr
-    (λ a u. born_then m (new_bunch (root ∷ [])) (appended (root ∷ []) ms (with_counts s a)) give (put_kept m root ms (with_counts s a) u ht) (bunch_cell m _ (record { each = (hr.there.root, tt) })) tt
+    (λ a u due. born_then m (new_bunch (root ∷ [])) (appended (root ∷ []) ms (with_counts s a)) give (put_kept m root ms (with_counts s a) u ht) (bunch_cell m _ (record { each = (hr.there.root, tt) })) tt (record { room = omega arith; len = tt })
     (λ k g v y z w. ended k (Is v) y z (value_end k v w))))
 
 pub dom_append_r : (m : Sizes) (x0 : Value) (x1 : State) → R m x1 → Keeps m (dom_append x0 x1)

@@ -3,6 +3,7 @@ use Rattle.std.proofs.Common.{◌≡◌, ℕ, zero, suc, ◌+◌, ◌<◌, ◌�
 use Rattle.std.specs.Prelude.{codes, Option, Some, None, nat_lt, if◌then◌else◌, slice_set, replicate}
 use Rattle.std.specs.List.{AllByRecursion}
 use Rattle.std.proofs.lemmas.List.{length-set, length-append}
+use Rattle.std.proofs.lemmas.Bool.{ltb-false}
 use Rattle.permitted_table.specs.declared.native.HostEntry.TheVariants as host
 use Rattle.plain_tree.specs.Trees.{height}
 use Rattle.widget_meaning.specs.Limits.{max_node_depth, max_units, max_cells, max_slots, max_nodes, max_text, max_chain}
@@ -13,7 +14,7 @@ use Rattle.widget_meaning.specs.Costs.{sum, pay, make, make_text, throw, fault_p
 use Rattle.widget_meaning.specs.Keeps.{no_scope}
 use Rattle.widget_meaning.specs.NodeLaws.{IsPage}
 use Rattle.widget_meaning.specs.Trees.{Trees}
-use Rattle.meaning_laws.specs.There.{Sizes, Grows, Told, IsBelow, ValueIs, PairsAre, OfNode, CellIs, KeptIs, ReferenceIs, CompletionIs, JobIs, AreThere, IsShort, cell_in}
+use Rattle.meaning_laws.specs.There.{Sizes, Grows, Told, IsBelow, ValueIs, PairsAre, OfNode, CellIs, KeptIs, ReferenceIs, CompletionIs, JobIs, CellFits, AreThere, IsShort, cell_in}
 use Rattle.meaning_laws.specs.Texts.{AreNames, PageHasTexts}
 use Rattle.meaning_laws.proofs.Units.{tested, name_of_fault, message_of_fault}
 use Rattle.meaning_laws.proofs.Each.{every, at_end, at_set, at_room, each_both}
@@ -22,12 +23,12 @@ use Rattle.meaning_laws.proofs.Chains.{short_born, same_prototypes, short_still}
 use Rattle.meaning_laws.proofs.Values.{told, own_value, text_is, host_is, no_pairs, more_pairs, throw_end}
 
 -- all that is named in a state is there, and at least so much was born
-pub record Fine (m : Sizes) (hs : List Cell) (cs : List Scope) (ks : List Kept) (ts : List Timer) (f : Trees) (focus : Option ℕ) : Type 0 where
-  pub there : AreThere m hs cs ks ts f focus
+pub record Fine (m : Sizes) (hs : List Cell) (cs : List Scope) (ks : List Kept) (ts : List Timer) (f : Trees) (focus : Option ℕ) (slots : ℕ) : Type 0 where
+  pub there : AreThere m hs cs ks ts f focus slots
   pub wide : Grows m (record { objects = length hs; nodes = length ks; texts = m.texts })
 
 abbrev pub R : Sizes → State → Type 0
-R m s = Fine m s.own.heap s.own.scopes s.own.kept s.own.timers s.own.forest s.own.focus
+R m s = Fine m s.own.heap s.own.scopes s.own.kept s.own.timers s.own.forest s.own.focus s.own.counts.slots
 
 -- a state to which a plan comes, where perhaps more was born
 pub record Stands (m : Sizes) (s : State) : Type 0 where
@@ -145,6 +146,47 @@ chain m (Do j s i) k h f = (
   ),
 )
 
+pub second_part : (a b c : ℕ) → a + b ≤ c → b ≤ c
+second_part a b c h = omega (arith, h)
+
+-- what is known of counts after a cost: no fewer slots than it and those before, and no more than may be
+pub record Due (s : State) (c a : Amounts) : Type 0 where
+  pub more : s.own.counts.slots + c.slots ≤ a.slots
+  pub most : a.slots ≤ max_slots
+
+no_fewer : (a b : ℕ) → a ≤ a + b
+no_fewer a b = omega arith
+
+self_le : (n : ℕ) → n ≤ n
+self_le n = omega arith
+
+pub fits_later : (a b : ℕ) (c : Cell) → a ≤ b → CellFits a c → CellFits b c
+fits_later a b c l h = record { room = omega (arith, l, h.room); len = h.len }
+
+pub there_paid : (m : Sizes) (hs : List Cell) (cs : List Scope) (ks : List Kept) (ts : List Timer) (f : Trees) (focus : Option ℕ) (slots more : ℕ)
+    → slots ≤ more → AreThere m hs cs ks ts f focus slots → AreThere m hs cs ks ts f focus more
+there_paid m hs cs ks ts f focus slots more l h = record {
+  objects = h.objects;
+  older = h.older;
+  chains = h.chains;
+  scopes = h.scopes;
+  kept = h.kept;
+  timers = h.timers;
+  page = h.page;
+  low = h.low;
+  focused = h.focused;
+  labels = h.labels;
+  fits = λ i. fits_later slots more (cell_in hs i) l (h.fits i);
+  lib = h.lib;
+  root = h.root;
+}
+
+more_paid : (m : Sizes) (s : State) (a : Amounts) → R m s → s.own.counts.slots ≤ a.slots → R m (with_counts s a)
+more_paid m s a h l = record {
+  there = there_paid m s.own.heap s.own.scopes s.own.kept s.own.timers s.own.forest s.own.focus s.own.counts.slots a.slots l h.there;
+  wide = h.wide;
+}
+
 module _ (m : Sizes) where
   ticked : (n : ℕ) (s : State) (p : Plan) → R m s → Keeps m p → Keeps m (ticks n s p)
   unfolding Keeps
@@ -155,13 +197,14 @@ module _ (m : Sizes) where
   unfolding Keeps
   charged n s p h f = (stands m s h, ticked n s p h f)
 
-  pub paid : (c : Amounts) (s : State) (k : State → Plan) → R m s → ((a : Amounts) → R m (with_counts s a) → Keeps m (k (with_counts s a))) → Keeps m (pay c s k)
+  pub paid : (c : Amounts) (s : State) (k : State → Plan) → R m s → ((a : Amounts) → R m (with_counts s a) → Due s c a → Keeps m (k (with_counts s a))) → Keeps m (pay c s k)
   paid c s k h f =
       let b : Amounts = sum s.own.counts c in
       either m (nat_lt max_units b.units) _ _ (halted m Units s h)
       (either m (nat_lt max_cells b.cells) _ _ (halted m Cells s h)
-      (either m (nat_lt max_slots b.slots) _ _ (halted m Slots s h)
-      (either m (nat_lt max_nodes b.nodes) _ _ (halted m Nodes s h) (f b h))))
+      (by_test m (nat_lt max_slots b.slots) _ _ (λ e. halted m Slots s h) (λ e.
+      either m (nat_lt max_nodes b.nodes) _ _ (halted m Nodes s h)
+      (f b (more_paid m s b h (no_fewer s.own.counts.slots c.slots)) (record { more = self_le b.slots; most = ltb-false max_slots b.slots e })))))
 
 -- ## Objects, scopes, the page
 
@@ -189,11 +232,11 @@ page_later f i j l h = record { once = h.once; there = λ n k. h.there n (far i 
 
 -- of a state, however much was born
 abbrev pub Holds : Sizes → State → Type 0
-Holds m s = AreThere m s.own.heap s.own.scopes s.own.kept s.own.timers s.own.forest s.own.focus
+Holds m s = AreThere m s.own.heap s.own.scopes s.own.kept s.own.timers s.own.forest s.own.focus s.own.counts.slots
 
-pub there_later : (m n : Sizes) (hs : List Cell) (cs : List Scope) (ks : List Kept) (ts : List Timer) (f : Trees) (focus : Option ℕ)
-    → Grows m n → AreThere m hs cs ks ts f focus → AreThere n hs cs ks ts f focus
-there_later m n hs cs ks ts f focus g h = record {
+pub there_later : (m n : Sizes) (hs : List Cell) (cs : List Scope) (ks : List Kept) (ts : List Timer) (f : Trees) (focus : Option ℕ) (slots : ℕ)
+    → Grows m n → AreThere m hs cs ks ts f focus slots → AreThere n hs cs ks ts f focus slots
+there_later m n hs cs ks ts f focus slots g h = record {
   objects = λ i. cell_later m n _ g (h.objects i);
   older = h.older;
   chains = h.chains;
@@ -204,14 +247,15 @@ there_later m n hs cs ks ts f focus g h = record {
   low = h.low;
   focused = maybe_node_later m n focus g h.focused;
   labels = told_later m n _ g h.labels;
+  fits = h.fits;
   lib = value_later m n (Own 0) g h.lib;
   root = node_later m n 0 g h.root;
 }
 
-pub there_born : (n : Sizes) (hs : List Cell) (cs : List Scope) (ks : List Kept) (ts : List Timer) (f : Trees) (focus : Option ℕ) (c : Cell)
-    → AreThere n hs cs ks ts f focus → CellIs n c → IsBelow (length hs) c.prototype → IsShort max_chain hs (Some c.prototype)
-    → AreThere n (hs ++ c ∷ []) cs ks ts f focus
-there_born n hs cs ks ts f focus c h q below short = record {
+pub there_born : (n : Sizes) (hs : List Cell) (cs : List Scope) (ks : List Kept) (ts : List Timer) (f : Trees) (focus : Option ℕ) (slots : ℕ) (c : Cell)
+    → AreThere n hs cs ks ts f focus slots → CellIs n c → IsBelow (length hs) c.prototype → IsShort max_chain hs (Some c.prototype) → CellFits slots c
+    → AreThere n (hs ++ c ∷ []) cs ks ts f focus slots
+there_born n hs cs ks ts f focus slots c h q below short z = record {
   objects = at_end (λ i x. CellIs n x) hs c (plain_object []) h.objects q;
   older = at_end (λ i x. IsBelow i x.prototype) hs c (plain_object []) h.older below;
   chains = short_born hs c h.older h.chains below short;
@@ -222,32 +266,33 @@ there_born n hs cs ks ts f focus c h q below short = record {
   low = h.low;
   focused = h.focused;
   labels = h.labels;
+  fits = at_end (λ i x. CellFits slots x) hs c (plain_object []) h.fits z;
   lib = h.lib;
   root = h.root;
 }
 
-module _ (m : Sizes) (hs : List Cell) (cs : List Scope) (ks : List Kept) (ts : List Timer) (f : Trees) (focus : Option ℕ) where
-  pub born_grows : (c : Cell) → Fine m hs cs ks ts f focus → Grows m (with_one m hs c)
+module _ (m : Sizes) (hs : List Cell) (cs : List Scope) (ks : List Kept) (ts : List Timer) (f : Trees) (focus : Option ℕ) (slots : ℕ) where
+  pub born_grows : (c : Cell) → Fine m hs cs ks ts f focus slots → Grows m (with_one m hs c)
   born_grows c h = record { objects = far m.objects (length hs) _ h.wide.objects (one_more hs c); nodes = self m.nodes; texts = refl }
 
   pub is_born : (c : Cell) → ValueIs (with_one m hs c) (Own (length hs))
   is_born c = own_value (with_one m hs c) (length hs) (newest hs c)
 
-  pub born : (c : Cell) → Fine m hs cs ks ts f focus → CellIs m c → IsShort max_chain hs (Some c.prototype)
-      → Fine (with_one m hs c) (hs ++ c ∷ []) cs ks ts f focus
-  born c h q short =
+  pub born : (c : Cell) → Fine m hs cs ks ts f focus slots → CellIs m c → IsShort max_chain hs (Some c.prototype) → CellFits slots c
+      → Fine (with_one m hs c) (hs ++ c ∷ []) cs ks ts f focus slots
+  born c h q short z =
       let b : Sizes = with_one m hs c in
       let g : Grows m b = born_grows c h in
       record {
-        there = there_born b hs cs ks ts f focus c (there_later m b hs cs ks ts f focus g h.there) (cell_later m b c g q)
-            (below_later m.objects (length hs) c.prototype h.wide.objects q.prototype.born) short;
+        there = there_born b hs cs ks ts f focus slots c (there_later m b hs cs ks ts f focus slots g h.there) (cell_later m b c g q)
+            (below_later m.objects (length hs) c.prototype h.wide.objects q.prototype.born) short z;
         wide = record { objects = self b.objects; nodes = h.wide.nodes; texts = refl };
       }
 
   -- an object is written, and has the prototype that it had
-  pub written : (n : ℕ) (c : Cell) → Fine m hs cs ks ts f focus → CellIs m c → c.prototype ≡ (cell_in hs n).prototype
-      → Fine m (slice_set hs n c) cs ks ts f focus
-  written n c h q e = record {
+  pub written : (n : ℕ) (c : Cell) → Fine m hs cs ks ts f focus slots → CellIs m c → c.prototype ≡ (cell_in hs n).prototype → CellFits slots c
+      → Fine m (slice_set hs n c) cs ks ts f focus slots
+  written n c h q e z = record {
     there = record {
       objects = at_set (λ i x. CellIs m x) hs n c (plain_object []) h.there.objects q;
       older = λ i. subst (IsBelow i) (sym (same_prototypes hs n c e i)) (h.there.older i);
@@ -259,6 +304,7 @@ module _ (m : Sizes) (hs : List Cell) (cs : List Scope) (ks : List Kept) (ts : L
       low = h.there.low;
       focused = h.there.focused;
       labels = h.there.labels;
+      fits = at_set (λ i x. CellFits slots x) hs n c (plain_object []) h.there.fits z;
       lib = h.there.lib;
       root = h.there.root;
     };
@@ -266,7 +312,7 @@ module _ (m : Sizes) (hs : List Cell) (cs : List Scope) (ks : List Kept) (ts : L
   }
 
   -- a scope comes, or gets other values
-  pub entered : (c : Scope) → Fine m hs cs ks ts f focus → PairsAre m c.pairs → Fine m hs (cs ++ c ∷ []) ks ts f focus
+  pub entered : (c : Scope) → Fine m hs cs ks ts f focus slots → PairsAre m c.pairs → Fine m hs (cs ++ c ∷ []) ks ts f focus slots
   entered c h q = record {
     there = record {
       objects = h.there.objects;
@@ -279,13 +325,14 @@ module _ (m : Sizes) (hs : List Cell) (cs : List Scope) (ks : List Kept) (ts : L
       low = h.there.low;
       focused = h.there.focused;
       labels = h.there.labels;
+      fits = h.there.fits;
       lib = h.there.lib;
       root = h.there.root;
     };
     wide = h.wide;
   }
 
-  pub assigned : (n : ℕ) (c : Scope) → Fine m hs cs ks ts f focus → PairsAre m c.pairs → Fine m hs (slice_set cs n c) ks ts f focus
+  pub assigned : (n : ℕ) (c : Scope) → Fine m hs cs ks ts f focus slots → PairsAre m c.pairs → Fine m hs (slice_set cs n c) ks ts f focus slots
   assigned n c h q = record {
     there = record {
       objects = h.there.objects;
@@ -298,6 +345,7 @@ module _ (m : Sizes) (hs : List Cell) (cs : List Scope) (ks : List Kept) (ts : L
       low = h.there.low;
       focused = h.there.focused;
       labels = h.there.labels;
+      fits = h.there.fits;
       lib = h.there.lib;
       root = h.there.root;
     };
@@ -305,7 +353,7 @@ module _ (m : Sizes) (hs : List Cell) (cs : List Scope) (ks : List Kept) (ts : L
   }
 
   -- another page of the same nodes
-  pub paged : (g : Trees) → Fine m hs cs ks ts f focus → IsPage g m.nodes → height g ≤ max_node_depth + 1 → Told m (PageHasTexts g) → Fine m hs cs ks ts g focus
+  pub paged : (g : Trees) → Fine m hs cs ks ts f focus slots → IsPage g m.nodes → height g ≤ max_node_depth + 1 → Told m (PageHasTexts g) → Fine m hs cs ks ts g focus slots
   paged g h q l w = record {
     there = record {
       objects = h.there.objects;
@@ -318,6 +366,7 @@ module _ (m : Sizes) (hs : List Cell) (cs : List Scope) (ks : List Kept) (ts : L
       low = l;
       focused = h.there.focused;
       labels = w;
+      fits = h.there.fits;
       lib = h.there.lib;
       root = h.there.root;
     };
@@ -325,15 +374,15 @@ module _ (m : Sizes) (hs : List Cell) (cs : List Scope) (ks : List Kept) (ts : L
   }
 
   -- new nodes
-  pub room_grows : (k : ℕ) → Fine m hs cs ks ts f focus → Grows m (record { objects = m.objects; nodes = length (ks ++ replicate k nothing_kept); texts = m.texts })
+  pub room_grows : (k : ℕ) → Fine m hs cs ks ts f focus slots → Grows m (record { objects = m.objects; nodes = length (ks ++ replicate k nothing_kept); texts = m.texts })
   room_grows k h = record { objects = self m.objects; nodes = omega (arith, h.wide.nodes, length-append ks (replicate k nothing_kept)); texts = refl }
 
-  pub roomy : (g : Trees) (k : ℕ) → Fine m hs cs ks ts f focus → IsPage g (length (ks ++ replicate k nothing_kept)) → height g ≤ max_node_depth + 1 → Told m (PageHasTexts g)
-      → Fine (record { objects = m.objects; nodes = length (ks ++ replicate k nothing_kept); texts = m.texts }) hs cs (ks ++ replicate k nothing_kept) ts g focus
+  pub roomy : (g : Trees) (k : ℕ) → Fine m hs cs ks ts f focus slots → IsPage g (length (ks ++ replicate k nothing_kept)) → height g ≤ max_node_depth + 1 → Told m (PageHasTexts g)
+      → Fine (record { objects = m.objects; nodes = length (ks ++ replicate k nothing_kept); texts = m.texts }) hs cs (ks ++ replicate k nothing_kept) ts g focus slots
   roomy g k h q l v =
       let b : Sizes = record { objects = m.objects; nodes = length (ks ++ replicate k nothing_kept); texts = m.texts } in
       let w : Grows m b = room_grows k h in
-      let t : AreThere b hs cs ks ts f focus = there_later m b hs cs ks ts f focus w h.there in
+      let t : AreThere b hs cs ks ts f focus slots = there_later m b hs cs ks ts f focus slots w h.there in
       record {
         there = record {
           objects = t.objects;
@@ -346,6 +395,7 @@ module _ (m : Sizes) (hs : List Cell) (cs : List Scope) (ks : List Kept) (ts : L
           low = l;
           focused = t.focused;
           labels = told_later m b _ w v;
+          fits = t.fits;
           lib = t.lib;
           root = t.root;
         };
@@ -353,7 +403,7 @@ module _ (m : Sizes) (hs : List Cell) (cs : List Scope) (ks : List Kept) (ts : L
       }
 
   -- what is kept with a node is changed
-  pub rekept : (n : ℕ) (k : Kept) → Fine m hs cs ks ts f focus → KeptIs m k → Fine m hs cs (slice_set ks n k) ts f focus
+  pub rekept : (n : ℕ) (k : Kept) → Fine m hs cs ks ts f focus slots → KeptIs m k → Fine m hs cs (slice_set ks n k) ts f focus slots
   rekept n k h q = record {
     there = record {
       objects = h.there.objects;
@@ -366,6 +416,7 @@ module _ (m : Sizes) (hs : List Cell) (cs : List Scope) (ks : List Kept) (ts : L
       low = h.there.low;
       focused = h.there.focused;
       labels = h.there.labels;
+      fits = h.there.fits;
       lib = h.there.lib;
       root = h.there.root;
     };
@@ -373,10 +424,10 @@ module _ (m : Sizes) (hs : List Cell) (cs : List Scope) (ks : List Kept) (ts : L
   }
 
   -- a timer
-  pub waits : (t : Timer) → Fine m hs cs ks ts f focus → t.func < m.objects → Fine m hs cs ks (ts ++ t ∷ []) f focus
+  pub waits : (t : Timer) → Fine m hs cs ks ts f focus slots → t.func < m.objects → Fine m hs cs ks (ts ++ t ∷ []) f focus slots
   waits t h l = timed (ts ++ t ∷ []) h (each_both (λ x. x.func < m.objects) ts (t ∷ []) h.there.timers (l, tt))
     where
-      timed : (us : List Timer) → Fine m hs cs ks ts f focus → AllByRecursion (λ x. x.func < m.objects) us → Fine m hs cs ks us f focus
+      timed : (us : List Timer) → Fine m hs cs ks ts f focus slots → AllByRecursion (λ x. x.func < m.objects) us → Fine m hs cs ks us f focus slots
       timed us h q = record {
         there = record {
           objects = h.there.objects;
@@ -389,6 +440,7 @@ module _ (m : Sizes) (hs : List Cell) (cs : List Scope) (ks : List Kept) (ts : L
           low = h.there.low;
           focused = h.there.focused;
           labels = h.there.labels;
+          fits = h.there.fits;
           lib = h.there.lib;
           root = h.there.root;
         };
@@ -396,7 +448,7 @@ module _ (m : Sizes) (hs : List Cell) (cs : List Scope) (ks : List Kept) (ts : L
       }
 
   -- the focus
-  pub focused : (o : Option ℕ) → Fine m hs cs ks ts f focus → OfNode m o → Fine m hs cs ks ts f o
+  pub focused : (o : Option ℕ) → Fine m hs cs ks ts f focus slots → OfNode m o → Fine m hs cs ks ts f o slots
   focused o h q = record {
     there = record {
       objects = h.there.objects;
@@ -409,6 +461,7 @@ module _ (m : Sizes) (hs : List Cell) (cs : List Scope) (ks : List Kept) (ts : L
       low = h.there.low;
       focused = q;
       labels = h.there.labels;
+      fits = h.there.fits;
       lib = h.there.lib;
       root = h.there.root;
     };
@@ -420,22 +473,22 @@ module _ (m : Sizes) where
   pub plain_is : (ps : Pairs) → PairsAre m ps → Told m (AreNames ps) → CellIs m (plain_object ps)
   plain_is ps h k = record { kind = tt; prototype = host_is m host.ObjectPrototype; pairs = h; names = k }
 
-  pub born_then : (c : Cell) (s : State) (k : Value → State → Plan) → R m s → CellIs m c → IsShort max_chain s.own.heap (Some c.prototype)
+  pub born_then : (c : Cell) (s : State) (k : Value → State → Plan) → R m s → CellIs m c → IsShort max_chain s.own.heap (Some c.prototype) → CellFits s.own.counts.slots c
       → ((n : Sizes) → Grows m n → (v : Value) (t : State) → R n t → ValueIs n v → Keeps n (k v t))
       → Keeps m (k (Own (length s.own.heap)) (with_new_cell s c))
-  born_then c s k h q short f =
+  born_then c s k h q short z f =
       let n : Sizes = with_one m s.own.heap c in
-      let g : Grows m n = born_grows m s.own.heap s.own.scopes s.own.kept s.own.timers s.own.forest s.own.focus c h in
+      let g : Grows m n = born_grows m s.own.heap s.own.scopes s.own.kept s.own.timers s.own.forest s.own.focus s.own.counts.slots c h in
       lowered m n (k (Own (length s.own.heap)) (with_new_cell s c)) g
       (f n g (Own (length s.own.heap)) (with_new_cell s c)
-      (born m s.own.heap s.own.scopes s.own.kept s.own.timers s.own.forest s.own.focus c h q short)
-      (is_born m s.own.heap s.own.scopes s.own.kept s.own.timers s.own.forest s.own.focus c))
+      (born m s.own.heap s.own.scopes s.own.kept s.own.timers s.own.forest s.own.focus s.own.counts.slots c h q short z)
+      (is_born m s.own.heap s.own.scopes s.own.kept s.own.timers s.own.forest s.own.focus s.own.counts.slots c))
 
-  pub made : (c : Cell) (n : ℕ) (s : State) (k : Value → State → Plan) → R m s → CellIs m c → IsShort max_chain s.own.heap (Some c.prototype)
+  pub made : (c : Cell) (n : ℕ) (s : State) (k : Value → State → Plan) → R m s → CellIs m c → IsShort max_chain s.own.heap (Some c.prototype) → CellFits n c
       → ((n : Sizes) → Grows m n → (v : Value) (t : State) → R n t → ValueIs n v → Keeps n (k v t)) → Keeps m (make c n s k)
-  made c n s k h q short f = paid m (object_cost n) s (λ t. k (Own (length t.own.heap)) (with_new_cell t c)) h (λ a u. born_then c (with_counts s a) k u q short f)
+  made c n s k h q short z f = paid m (object_cost n) s (λ t. k (Own (length t.own.heap)) (with_new_cell t c)) h (λ a u due. born_then c (with_counts s a) k u q short (fits_later n a.slots c (second_part s.own.counts.slots n a.slots due.more) z) f)
 
-  pub made_text : (x : List ℕ) (s : State) (k : State → Plan) → R m s → ((a : Amounts) → R m (with_counts s a) → Keeps m (k (with_counts s a))) → Keeps m (make_text x s k)
+  pub made_text : (x : List ℕ) (s : State) (k : State → Plan) → R m s → ((a : Amounts) → R m (with_counts s a) → Due s (units_cost (length x)) a → Keeps m (k (with_counts s a))) → Keeps m (make_text x s k)
   made_text x s k h f = either m (nat_lt max_text (length x)) _ _ (halted m LongText s h) (paid m (units_cost (length x)) s k h f)
 
   fault_is : (e : Fault) → CellIs m (plain_object (fault_pairs e))
@@ -443,7 +496,7 @@ module _ (m : Sizes) where
       (told m (tested (codes "name") refl, (tested (codes "message") refl, tt)))
 
   pub faulted : (e : Fault) (s : State) → R m s → Keeps m (throw e s)
-  faulted e s h = made (plain_object (fault_pairs e)) 2 s (λ v t. Ret (Throw v) t) h (fault_is e) tt (λ n g v t u w. ended n (Throw v) t u (throw_end n v w))
+  faulted e s h = made (plain_object (fault_pairs e)) 2 s (λ v t. Ret (Throw v) t) h (fault_is e) tt (record { room = omega arith; len = tt }) (λ n g v t u w. ended n (Throw v) t u (throw_end n v w))
 
   pub wanted : (e : Fault) (b : Bool) (s : State) (p : Plan) → R m s → (b ≡ true → Keeps m p) → Keeps m (want e b s p)
   wanted e b s p h f = by_test m b p (throw e s) f (λ x. faulted e s h)

@@ -11,7 +11,7 @@ use Rattle.widget_meaning.specs.Items.{Item}
 use Rattle.widget_meaning.specs.Alone.{Content, alone, alone_from}
 use Rattle.widget_meaning.specs.JsonTexts.{Wrote, value_text}
 use Rattle.widget_meaning.specs.JsonLaws.{HasUnits, Back}
-use Rattle.widget_meaning.specs.JsonBack.{HasWholeNames, HasLength, Returns}
+use Rattle.widget_meaning.specs.JsonBack.{HasWholeNames, Returns}
 use Rattle.meaning_laws.specs.Texts.{ContentHasTexts, ItemHasTexts}
 use Rattle.meaning_laws.specs.There.{HasTexts, ValueIs, JobIs, OfEnd, text_sizes}
 
@@ -58,10 +58,10 @@ pub record NumbersFit (s : State) (v : Value) : Type 0 where
   pub value : IsWithin v
 
 -- in a state that has texts, of a value that it may hold, the laws of JSON ask nothing of texts: only that numbers are
--- within the numbers; and to come back, that no name has a lone surrogate and no array is too long
+-- within the numbers; and to come back, that no name has a lone surrogate
 pub record JsonStateLaws : Type 0 where
   pub written : (s : State) (v : Value) (t : List ℕ) → HasTexts s.own → ValueIs (text_sizes s.own) v → NumbersFit s v
       → value_text max_nesting s v [] ≡ Wrote t → Back s v t
   pub returns : (s : State) (v : Value) (t : List ℕ) → HasTexts s.own → ValueIs (text_sizes s.own) v → NumbersFit s v
-      → ((n : ℕ) → HasWholeNames (cell_at s n).pairs × HasLength (cell_at s n).kind)
+      → ((n : ℕ) → HasWholeNames (cell_at s n).pairs)
       → value_text max_nesting s v [] ≡ Wrote t → Returns s v t

@@ -1,5 +1,6 @@
 -- What is there: each object and each node that something names was born, and each prototype is older than its object;
--- and, where it is said of texts too, each text and each name of an object is of 16-bit units.
+-- no object has more names than slots were paid, and no array is too long; and, where it is said of texts too, each text
+-- and each name of an object is of 16-bit units.
 use Rattle.std.specs.Prelude.{◌≡◌, Bool, true, false, ℕ, zero, suc, ◌+◌, ◌<◌, ◌≤◌, List, [], length, Option, Some, None, slice_index_or, ⊤}
 use Rattle.std.specs.List.{AllByRecursion}
 use Rattle.plain_tree.specs.Trees.{height}
@@ -9,6 +10,7 @@ use Rattle.widget_meaning.specs.OwnState.{OwnState, Kind, Object, Array, Functio
 use Rattle.widget_meaning.specs.HostTable.{host_prototype}
 use Rattle.widget_meaning.specs.Keeps.{no_scope}
 use Rattle.widget_meaning.specs.NodeLaws.{IsPage}
+use Rattle.widget_meaning.specs.JsonBack.{HasLength}
 use Rattle.widget_meaning.specs.Plan.{Loop, WhileLoop, DoLoop, ForLoop, ForInLoop, Hearing, Job, Eval, Target, Exec, Pass, Call, RunNative, Hear, End, Ended, Stopped, OutOfFuel}
 use Rattle.widget_meaning.specs.Trees.{Trees}
 use Rattle.meaning_laws.specs.Texts.{IsText, AreTexts, OfText, AreNames, ExprHasTexts, OptionHasTexts, StmtHasTexts, FunHasTexts, PageHasTexts}
@@ -114,6 +116,11 @@ pub record KeptIs (m : Sizes) (k : Kept) : Type 0 where
   pub handlers : AllByRecursion (λ h. h.func < m.objects) k.handlers
   pub mark : Told m (IsText k.mark)
 
+-- an object has no more names than slots were paid, and an array is no longer than it may be
+pub record CellFits (slots : ℕ) (c : Cell) : Type 0 where
+  pub room : length c.pairs ≤ slots
+  pub len : HasLength c.kind
+
 -- ## Prototypes
 
 -- the object with a number
@@ -142,7 +149,7 @@ IsShort (suc m) hs (Some v) = IsShort m hs (prototype_in hs v)
 
 -- all that is named is there, prototypes are older than their objects, and no chain of them is longer than may be
 pub record AreThere (m : Sizes) (hs : List Cell) (cs : List Scope) (ks : List Kept) (ts : List Timer) (f : Trees)
-    (focus : Option ℕ) : Type 0 where
+    (focus : Option ℕ) (slots : ℕ) : Type 0 where
   pub objects : (n : ℕ) → CellIs m (cell_in hs n)
   pub older : (n : ℕ) → IsBelow n (cell_in hs n).prototype
   pub chains : (n : ℕ) → IsShort (suc max_chain) hs (Some (Own n))
@@ -154,13 +161,14 @@ pub record AreThere (m : Sizes) (hs : List Cell) (cs : List Scope) (ks : List Ke
   pub low : height f ≤ max_node_depth + 1
   pub focused : OfNode m focus
   pub labels : Told m (PageHasTexts f)
+  pub fits : (n : ℕ) → CellFits slots (cell_in hs n)
   -- the object `lib` and the root, the first of all
   pub lib : ValueIs m (Own 0)
   pub root : NodeIs m 0
 
 -- of a widget by itself, with texts or without
 abbrev pub IsThereWith : Bool → OwnState → Type 0
-IsThereWith b o = AreThere (sizes_with b o) o.heap o.scopes o.kept o.timers o.forest o.focus
+IsThereWith b o = AreThere (sizes_with b o) o.heap o.scopes o.kept o.timers o.forest o.focus o.counts.slots
 
 -- without
 abbrev pub IsThere : OwnState → Type 0

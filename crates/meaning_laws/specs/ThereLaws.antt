@@ -3,7 +3,8 @@ use Rattle.std.specs.Prelude.{◌≡◌, ℕ, suc, ◌+◌, ◌≤◌, List, [],
 use Rattle.plain_tree.specs.Trees.{size, height}
 use Rattle.widget_meaning.specs.Limits.{max_chain, max_node_depth}
 use Rattle.widget_meaning.specs.Values.{Value}
-use Rattle.widget_meaning.specs.OwnState.{OwnState, State}
+use Rattle.widget_meaning.specs.OwnState.{OwnState, State, cell_at}
+use Rattle.widget_meaning.specs.JsonBack.{HasLength}
 use Rattle.widget_meaning.specs.Plan.{Job}
 use Rattle.widget_meaning.specs.Properties.{on_chain, along, names_on_chain, names_of}
 use Rattle.widget_meaning.specs.Dispatch.{nearest_from, nearest}
@@ -37,3 +38,7 @@ abbrev pub WayLaws : Type 0
 WayLaws =
     (s : State) (o : Option ℕ) (kind : List ℕ) (more : ℕ) → IsThere s.own
     → nearest_from (max_node_depth + 1 + more) s o kind ≡ nearest s o kind
+
+-- no array is longer than it may be, though `splice` tests no length
+abbrev pub LengthLaws : Type 0
+LengthLaws = (s : State) (n : ℕ) → IsThere s.own → HasLength (cell_at s n).kind

@@ -1,7 +1,7 @@
 //! Laws of own states.
 ghost use Rattle.meaning_laws.specs.NumberLaws.{NumberLaws};
 ghost use Rattle.meaning_laws.specs.TextLaws.{JsonStateLaws, TextLaws};
-ghost use Rattle.meaning_laws.specs.ThereLaws.{ChainLaws, ThereLaws, WayLaws};
+ghost use Rattle.meaning_laws.specs.ThereLaws.{ChainLaws, LengthLaws, ThereLaws, WayLaws};
 
 /// Each object and node that a value, a scope, a Bunch, a handler or a timer names was born, and each
 /// prototype is older than the object that has it.
@@ -22,6 +22,13 @@ pub fn ways_end()
     ensures { WayLaws }
 {}
 
+/// No array is longer than the largest length, 2^32 - 1, also after `splice`, which tests none: no object has more
+/// names than slots were paid.
+#[tactic(auto, using(crate::proofs::LawsHold::length_laws))]
+pub fn lengths_hold()
+    ensures { LengthLaws }
+{}
+
 /// Each text that a widget comes to, and each name of its objects, is of 16-bit units, where those of its scripts,
 /// its subtree and its events are.
 #[tactic(auto, using(crate::proofs::LawsHold::text_laws))]
@@ -29,7 +36,7 @@ pub fn texts_have_units()
     ensures { TextLaws }
 {}
 
-/// In such states the laws of JSON hold with no premise on texts.
+/// In such states the laws of JSON hold with no premise on texts and lengths.
 #[tactic(auto, using(crate::proofs::LawsHold::json_state_laws))]
 pub fn json_of_states()
     ensures { JsonStateLaws }
