@@ -1,4 +1,5 @@
 -- The natives of ADSAFE keep what is there.
+use Rattle.meaning_laws.proofs.Each.{every}
 use Rattle.std.specs.Prelude.{ℕ, List, length, Option, ℤ, pos, nat_le}
 use Rattle.widget_meaning.specs.Limits.{max_timers}
 use Rattle.widget_meaning.specs.Values.{Value, Undefined, Num, Text, Own, E11}
@@ -26,14 +27,14 @@ use Rattle.meaning_laws.proofs.Forms.{permitted_are, get_is, put_r, delete_r}
 use Rattle.meaning_laws.proofs.Natives.{give_texts_r, want_function_r}
 use Rattle.meaning_laws.proofs.Json.{from_json_r}
 use Rattle.meaning_laws.specs.There.{Sizes, Told, ValueIs, ValuesAre}
-use Rattle.meaning_laws.specs.Texts.{IsText, AreTexts, AreNames}
+use Rattle.meaning_laws.specs.Texts.{AreUnits, AreAllUnits, IsText, AreTexts, AreNames}
 use Rattle.permitted_table.specs.declared.native.HostEntry.{HostEntry}
 use Rattle.permitted_table.specs.declared.native.HostEntry.TheVariants as host
 use Rattle.permitted_table.specs.declared.native.NativeId.TheVariants as natives
 use Rattle.widget_meaning.specs.HostTable.{host_pairs}
 use Rattle.std.proofs.Common.{refl, arith}
 use Rattle.std.proofs.lemmas.Bool.{and_parts}
-use Rattle.meaning_laws.proofs.Units.{has_units, tested}
+use Rattle.meaning_laws.proofs.Units.{is_text, tested, made_is}
 use Rattle.meaning_laws.proofs.WrittenJson.{OfWritten, PairHasTexts, value_text_is}
 use Rattle.std.specs.Prelude.{◌≡◌}
 use Rattle.std.specs.List.{AllByRecursion, list_all}
@@ -52,7 +53,7 @@ timer_kept m s (Text t) z h q = h
 timer_kept m s (Host e) z h q = h
 
 pub give_json_r : (m : Sizes) (x0 : Written) (x1 : State) → R m x1 → Told m (OfWritten x0) → Keeps m (give_json x0 x1)
-give_json_r m (Wrote t) s hr ht = charged m _ s _ hr (made_text m t s (give (Text t)) hr (λ a u due. ended m (Is (Text t)) (with_counts s a) u (value_end m _ (text_is m t ht))))
+give_json_r m (Wrote t) s hr ht = charged m _ s _ hr (made_text m t s (give (Text t)) hr (λ a u due e. ended m (Is (Text t)) (with_counts s a) u (value_end m _ (text_is m t (also m (λ q. made_is t q e) ht)))))
 give_json_r m NoJson s hr ht = search (faulted)
 give_json_r m TooLong s hr ht = charged m _ s _ hr (halted m _ s hr)
 
@@ -70,8 +71,8 @@ want_name_r m (Text t) s k hr h0 f0 = wanted m E8 (is_permitted t) s _ hr (λ e.
 want_name_r m (Num z) s k hr h0 f0 = wanted m E8 (is_permitted (to_text (Num z))) s _ hr (λ e. f0 (to_text (Num z)) (text_told m (Num z) h0))
 want_name_r m v s k hr h0 f0 = search (faulted)
 
-pub get_native_r : (m : Sizes) (x0 : Value) (x1 : Value) (x2 : State) → R m x2 → ValueIs m x1 → Keeps m (get_native x0 x1 x2)
-get_native_r m o n s hr h1 = wanted m E4 (is_object o) s _ hr (λ e. want_name_r m n s _ hr h1 (λ x hx. ended m _ s hr (value_end m _ (get_is m s o x hr))))
+pub get_native_r : (m : Sizes) (x0 : Value) (x1 : Value) (x2 : State) → R m x2 → ValueIs m x0 → ValueIs m x1 → Keeps m (get_native x0 x1 x2)
+get_native_r m o n s hr h0 h1 = wanted m E4 (is_object o) s _ hr (λ e. want_name_r m n s _ hr h1 (λ x hx. ended m _ s hr (value_end m _ (get_is m s o x hr h0))))
 
 pub has_native_r : (m : Sizes) (x0 : Value) (x1 : Value) (x2 : State) → R m x2 → ValueIs m x1 → Keeps m (has_native x0 x1 x2)
 has_native_r m o n s hr h1 = wanted m E4 (is_object o) s _ hr (λ e. want_name_r m n s _ hr h1 (λ x hx. ended m _ s hr (value_end m _ (truth_is m _))))
@@ -84,15 +85,15 @@ remove_native_r m o n s hr h1 = wanted m E4 (is_object o) s _ hr (λ e. want_nam
 
 pub create_from_r : (m : Sizes) (x0 : Value) (x1 : State) → R m x1 → ValueIs m x0 → Keeps m (create_from x0 x1)
 create_from_r m o s hr h0 = by_test m _ _ _ (λ e. search (faulted)) (λ e. made m (new_object o []) 0 s give hr
-    (record { kind = tt; prototype = h0; pairs = no_pairs m; names = told m tt }) (counted_short max_chain s (Some o) (ltb-false max_chain (chain_from (suc max_chain) s (Some o)) e)) (record { room = omega arith; len = tt })
+    (record { kind = tt; prototype = h0; pairs = no_pairs m; names = told m tt }) (counted_short max_chain s (Some o) (ltb-false max_chain (chain_from (suc max_chain) s (Some o)) e)) (record { room = omega arith; len = tt; count = tt })
     (λ n g v t u w. ended n (Is v) t u (value_end n v w)))
 
 pub create_r : (m : Sizes) (x0 : Value) (x1 : State) → R m x1 → ValueIs m x0 → Keeps m (create x0 x1)
 create_r m o s hr h0 = wanted m E4 (is_prototype_kind (kind_of s o)) s _ hr (λ e. create_from_r m o s hr h0)
 
-tested_names : (ps : Pairs) → list_all (λ p. has_units p.0) ps ≡ true → AreNames ps
+tested_names : (ps : Pairs) → list_all (λ p. is_text p.0) ps ≡ true → AreNames ps
 tested_names [] e = tt
-tested_names (p ∷ ps) e = let q = and_parts (has_units p.0) (list_all (λ r. has_units r.0) ps) e in (tested p.0 q.0, tested_names ps q.1)
+tested_names (p ∷ ps) e = let q = and_parts (is_text p.0) (list_all (λ r. is_text r.0) ps) e in (tested p.0 q.0, tested_names ps q.1)
 
 host_names : (h : HostEntry) → AreNames (host_pairs h)
 host_names (host.Native natives.String) = tested_names (host_pairs (host.Native natives.String)) refl
@@ -108,9 +109,12 @@ host_names host.Math = tested_names (host_pairs host.Math) refl
 host_names host.Adsafe = tested_names (host_pairs host.Adsafe) refl
 host_names host.Dom = tested_names (host_pairs host.Dom) refl
 
-keys_told : (m : Sizes) (o : Value) (s : State) → R m s → Told m (AreTexts (keys s o))
-keys_told m (Own n) s hr = also m (permitted_are (cell_at s n).pairs) (hr.there.objects n).names
-keys_told m (Host h) s hr = told m (permitted_are (host_pairs h) (host_names h))
+units_of_all : (ts : List (List ℕ)) → AreTexts ts → AreAllUnits ts
+units_of_all ts h = every IsText AreUnits (λ t q. q.0) ts h
+
+keys_told : (m : Sizes) (o : Value) (s : State) → R m s → Told m (AreAllUnits (keys s o))
+keys_told m (Own n) s hr = also m (λ q. units_of_all _ (permitted_are (cell_at s n).pairs q)) (hr.there.objects n).names
+keys_told m (Host h) s hr = told m (units_of_all _ (permitted_are (host_pairs h) (host_names h)))
 keys_told m Undefined s hr = told m tt
 keys_told m Null s hr = told m tt
 keys_told m (Truth b) s hr = told m tt
@@ -146,7 +150,7 @@ post_r m (Text to) (Text t) s hr = either m (nat_lt max_post (length t)) _ _ (fa
 post_r m to t s hr = search (faulted)
 
 pub adsafe_native_r : (m : Sizes) (x0 : AdsafeNative) (x1 : Option Value) (x2 : List Value) (x3 : ℕ) (x4 : State) → R m x4 → ValuesAre m x2 → Keeps m (adsafe_native x0 x1 x2 x3 x4)
-adsafe_native_r m GetProperty this vs d s hr h2 = get_native_r m (nth 0 vs) (nth 1 vs) s hr (nth_is m 1 vs h2)
+adsafe_native_r m GetProperty this vs d s hr h2 = get_native_r m (nth 0 vs) (nth 1 vs) s hr (nth_is m 0 vs h2) (nth_is m 1 vs h2)
 adsafe_native_r m SetProperty this vs d s hr h2 = set_native_r m (nth 0 vs) (nth 1 vs) (nth 2 vs) s hr (nth_is m 1 vs h2) (nth_is m 2 vs h2)
 adsafe_native_r m RemoveProperty this vs d s hr h2 = remove_native_r m (nth 0 vs) (nth 1 vs) s hr (nth_is m 1 vs h2)
 adsafe_native_r m HasProperty this vs d s hr h2 = has_native_r m (nth 0 vs) (nth 1 vs) s hr (nth_is m 1 vs h2)

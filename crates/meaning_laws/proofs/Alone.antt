@@ -19,7 +19,7 @@ use Rattle.widget_meaning.specs.Items.{Event, Item, Occurs, Advance, item, item_
 use Rattle.widget_meaning.specs.Alone.{Content, alone_from, beginning, loaded, load_library, library_turn, library_plan, go_turn, go_plan, call_parts}
 use Rattle.widget_meaning.proofs.Times.{relabelled_once, times_numbered}
 use Rattle.meaning_laws.specs.There.{CellFits, Sizes, sizes_with, Grows, Told, ValueIs, NodeIs, OfNode, CellIs, KeptIs, IsBelow, IsShort, IsThereWith, JobIs, cell_in, OfEnd}
-use Rattle.meaning_laws.specs.Texts.{MaybeText, LabelHasTexts, StmtsHaveTexts, ContentHasTexts, ItemHasTexts}
+use Rattle.meaning_laws.specs.Texts.{MaybeText, MaybeUnits, LabelHasTexts, StmtsHaveTexts, ContentHasTexts, ItemHasTexts}
 use Rattle.meaning_laws.proofs.Scripts.{PartsHaveTexts, parts_are}
 use Rattle.meaning_laws.proofs.Labels.{MaybeLabel, attribute_set, label_is, page_relabelled, page_numbered}
 use Rattle.meaning_laws.proofs.Later.{same_size, completion_later}
@@ -156,7 +156,11 @@ module _ (texts : Bool) where
     root = h.root;
   }
 
-  value_r : (l : Option Label) (n : ℕ) (v : Option (List ℕ)) (o : OwnState) → IsThereWith texts o → (texts ≡ true → MaybeLabel l) → (texts ≡ true → MaybeText v) → IsThereWith texts (with_value l n v o)
+  maybe_units : (o : Option (List ℕ)) → MaybeText o → MaybeUnits o
+  maybe_units None h = tt
+  maybe_units (Some t) h = h.0
+
+  value_r : (l : Option Label) (n : ℕ) (v : Option (List ℕ)) (o : OwnState) → IsThereWith texts o → (texts ≡ true → MaybeLabel l) → (texts ≡ true → MaybeUnits v) → IsThereWith texts (with_value l n v o)
   value_r None n v o h hl hv = h
   value_r (Some (TextOf t)) n v o h hl hv = h
   value_r (Some (ElementOf tag attrs)) n None o h hl hv = h
@@ -215,7 +219,7 @@ module _ (texts : Bool) where
   occurs_r e None o q h k = h
   occurs_r e (Some n) o q h k =
       let p : OwnState = with_value (label_of n o.forest) n e.value o in
-      let i : IsThereWith texts p = value_r (label_of n o.forest) n e.value o h (λ z. label_is n o.forest (h.labels.holds z)) (λ z. (k z).1) in
+      let i : IsThereWith texts p = value_r (label_of n o.forest) n e.value o h (λ z. label_is n o.forest (h.labels.holds z)) (λ z. maybe_units e.value (k z).1) in
       heard_r (nearest (resting p) (Some n) e.kind) (dispatch e.kind n (event_value e.value) 0) p i
       (dispatch_r (sizes_with texts p) e.kind n (event_value e.value) 0 (begun p) (fine (begun p) i) (event_is (sizes_with texts p) e.value (record { holds = λ z. (k z).1 }))
       (same_kept (label_of n o.forest) n e.value o n q) (record { holds = λ z. (k z).0 }))
@@ -278,8 +282,8 @@ module _ (texts : Bool) where
     }
       where
         plain_fits : (n : ℕ) → CellFits 0 (cell_in (plain_object [] ∷ []) n)
-        plain_fits zero = record { room = omega arith; len = tt }
-        plain_fits (suc n) = record { room = omega arith; len = tt }
+        plain_fits zero = record { room = omega arith; len = tt; count = tt }
+        plain_fits (suc n) = record { room = omega arith; len = tt; count = tt }
 
         one : (n : ℕ) → CellIs (sizes_with texts (beginning w grant)) (cell_in (plain_object [] ∷ []) n)
         one zero = plain_is (sizes_with texts (beginning w grant)) [] (no_pairs (sizes_with texts (beginning w grant))) (told (sizes_with texts (beginning w grant)) tt)

@@ -1,4 +1,7 @@
 -- Each form of the language keeps what is there: one lemma for what comes after each part.
+use Rattle.meaning_laws.proofs.Numbers.{OfRead, number_in_is}
+use Rattle.meaning_laws.proofs.Values.{read_told}
+use Rattle.widget_meaning.specs.Values.{to_number}
 use Rattle.js_tree.specs.Plain as tree
 use Rattle.js_tree.specs.declared.nodes.UnOp.TheVariants as un
 use Rattle.js_tree.specs.declared.nodes.AssignOp.TheVariants as assignment
@@ -67,20 +70,20 @@ use Rattle.meaning_laws.proofs.Steps.{R, Holds, second_part, Keeps, ended, halte
 -- ## What a state has
 
 module _ (m : Sizes) (s : State) where
-  pub get_is : (v : Value) (x : List ℕ) → R m s → ValueIs m (get s v x)
-  get_is v x h = got_is m s h.there.objects h.there.scopes v x
+  pub get_is : (v : Value) (x : List ℕ) → R m s → ValueIs m v → ValueIs m (get s v x)
+  get_is v x h q = got_is m s h.there.objects h.there.scopes (λ n. (h.there.fits n).len) v x q
 
   pub variable_value : (p : Place) (x : List ℕ) → R m s → ValueIs m (variable s p x)
-  variable_value p x h = named_is m s h.there.objects h.there.scopes p x
+  variable_value p x h = named_is m s h.there.objects h.there.scopes (λ n. (h.there.fits n).len) p x
 
   pub referred_is : (r : Reference) (p : Place) → R m s → ReferenceIs m r → ValueIs m (referred r p s)
-  referred_is r p h k = referred_of m s h.there.objects h.there.scopes r p k
+  referred_is r p h k = referred_of m s h.there.objects h.there.scopes (λ n. (h.there.fits n).len) r p k
 
   pub elements_are : (n len : ℕ) → R m s → ValuesAre m (elements s n len)
-  elements_are n len h = elements_of m s h.there.objects h.there.scopes n len
+  elements_are n len h = elements_of m s h.there.objects h.there.scopes (λ n. (h.there.fits n).len) n len
 
   pub bunch_is : (v : Value) (ns : List ℕ) → R m s → bunch_nodes (kind_of s v) ≡ Some ns → NodesAre m ns
-  bunch_is v ns h e = bunch_of m s h.there.objects h.there.scopes v ns e
+  bunch_is v ns h e = bunch_of m s h.there.objects h.there.scopes (λ n. (h.there.fits n).len) v ns e
 
   pub write_cell : (n : ℕ) (c : Cell) → R m s → CellIs m c → c.prototype ≡ (cell_in s.own.heap n).prototype → CellFits s.own.counts.slots c → R m (with_cell s n c)
   write_cell n c h q e z = written m s.own.heap s.own.scopes s.own.kept s.own.timers s.own.forest s.own.focus s.own.counts.slots n c h q e z
@@ -235,7 +238,7 @@ event_born m s kind target node value h hv ht hn hk hl =
       (bunch_cell n _ (record { each = (node_later m n target g ht, tt) }), (bunch_cell n _ (record { each = (node_later m n node g hn, tt) }), tt)),
     )
     (plain_hosted _, (bunch_hosted _, (bunch_hosted _, tt)))
-    (record { room = omega (arith, hl); len = tt }, (record { room = omega arith; len = tt }, (record { room = omega arith; len = tt }, tt)))
+    (record { room = omega (arith, hl); len = tt; count = tt }, (record { room = omega arith; len = tt; count = omega arith }, (record { room = omega arith; len = tt; count = omega arith }, tt)))
 
 abbrev pub HeardIs : Sizes → Option (ℕ × List ℕ) → Type 0
 HeardIs m None = Unit {0}
@@ -305,23 +308,23 @@ index_is x = by (is_numeral 10 x)
 longer : (len i : ℕ) → len ≤ max_length → i < max_length → max len (i + 1) ≤ max_length
 longer len i h l = omega (arith, h, l)
 
-pub read_r : (m : Sizes) (x0 : Value) (x1 : List ℕ) (x2 : State) → R m x2 → Keeps m (read x0 x1 x2)
-read_r m Undefined x s hr = search (faulted, kept)
-read_r m Null x s hr = search (faulted, kept)
-read_r m v x s hr = ended m _ s hr (value_end m _ (get_is m s v x hr))
+pub read_r : (m : Sizes) (x0 : Value) (x1 : List ℕ) (x2 : State) → R m x2 → ValueIs m x0 → Keeps m (read x0 x1 x2)
+read_r m Undefined x s hr h0 = search (faulted, kept)
+read_r m Null x s hr h0 = search (faulted, kept)
+read_r m v x s hr h0 = ended m _ s hr (value_end m _ (get_is m s v x hr h0))
 
 pub put_pair_r : (m : Sizes) (x0 : Cell) (x1 : ℕ) (x2 : List ℕ) (x3 : Value) (x4 : State) (x5 : (State → Plan)) → R m x4 → Told m (IsText x2) → ValueIs m x3 → CellIs m x0 → x0.prototype ≡ (cell_in x4.own.heap x1).prototype → CellFits x4.own.counts.slots x0 → ((y0 : State) → R m y0 → Keeps m (x5 y0)) → Keeps m (put_pair x0 x1 x2 x3 x4 x5)
 put_pair_r m c n x v s k hr hx h3 hc he hz f0 = either m _ _ _
-    (f0 _ (write_cell m s n (record c { pairs = replaced c.pairs x v }) hr (cell_put m c _ hc (replaced_are m c.pairs x v h3 hc.pairs) (replaced_names m c.pairs x v hc.names)) he (record { room = same_room c.pairs x v s.own.counts.slots hz.room; len = hz.len })))
+    (f0 _ (write_cell m s n (record c { pairs = replaced c.pairs x v }) hr (cell_put m c _ hc (replaced_are m c.pairs x v h3 hc.pairs) (replaced_names m c.pairs x v hc.names)) he (record { room = same_room c.pairs x v s.own.counts.slots hz.room; len = hz.len; count = hz.count })))
     (paid m (slots_cost 1) s (λ t. k (with_cell t n (record c { pairs = c.pairs ++ (x, v) ∷ [] }))) hr
-    (λ a u due. f0 _ (write_cell m (with_counts s a) n (record c { pairs = c.pairs ++ (x, v) ∷ [] }) u (cell_put m c _ hc (both_pairs m c.pairs _ hc.pairs (more_pairs m x v [] h3 (no_pairs m))) (both_names m c.pairs _ hc.names (also m (λ q. (q, tt)) hx))) he (record { room = one_more_room c.pairs (x, v) s.own.counts.slots a.slots hz.room due.more; len = hz.len }))))
+    (λ a u due. f0 _ (write_cell m (with_counts s a) n (record c { pairs = c.pairs ++ (x, v) ∷ [] }) u (cell_put m c _ hc (both_pairs m c.pairs _ hc.pairs (more_pairs m x v [] h3 (no_pairs m))) (both_names m c.pairs _ hc.names (also m (λ q. (q, tt)) hx))) he (record { room = one_more_room c.pairs (x, v) s.own.counts.slots a.slots hz.room due.more; len = hz.len; count = hz.count }))))
 
 pub put_index_r : (m : Sizes) (x0 : Option ℕ) (x1 : Cell) (x2 : ℕ) (x3 : ℕ) (x4 : List ℕ) (x5 : Value) (x6 : State) (x7 : (State → Plan)) → R m x6 → Told m (IsText x4) → ValueIs m x5 → CellIs m x1 → x1.prototype ≡ (cell_in x6.own.heap x3).prototype → CellFits x6.own.counts.slots x1 → x2 ≤ max_length → IsIndex x0 → ((y0 : State) → R m y0 → Keeps m (x7 y0)) → Keeps m (put_index x0 x1 x2 x3 x4 x5 x6 x7)
 put_index_r m None c len n x v s k hr hx h5 hc he hz hl hi f0 = put_pair_r m c n x v s k hr hx h5 hc he hz f0
-put_index_r m (Some i) c len n x v s k hr hx h5 hc he hz hl hi f0 = put_pair_r m _ n x v s k hr hx h5 (array_put m c _ c.pairs hc hc.pairs hc.names) he (record { room = hz.room; len = longer len i hl hi }) f0
+put_index_r m (Some i) c len n x v s k hr hx h5 hc he hz hl hi f0 = put_pair_r m _ n x v s k hr hx h5 (array_put m c _ c.pairs hc hc.pairs hc.names) he (record { room = hz.room; len = longer len i hl hi; count = tt }) f0
 
 pub put_length_r : (m : Sizes) (x0 : Value) (x1 : Cell) (x2 : ℕ) (x3 : State) (x4 : (State → Plan)) → R m x3 → CellIs m x1 → x1.prototype ≡ (cell_in x3.own.heap x2).prototype → CellFits x3.own.counts.slots x1 → ((y0 : State) → R m y0 → Keeps m (x4 y0)) → Keeps m (put_length x0 x1 x2 x3 x4)
-put_length_r m (Num (pos len)) c n s k hr hc he hz f0 = wanted m E7 _ s _ hr (λ e. f0 _ (write_cell m s n (cut_to c len) hr (array_put m c len _ hc (filtered_pairs m _ c.pairs hc.pairs) (filtered_names m _ c.pairs hc.names)) he (record { room = less_room (λ p. is_below len true p.0) c.pairs s.own.counts.slots hz.room; len = leb-true len max_length e })))
+put_length_r m (Num (pos len)) c n s k hr hc he hz f0 = wanted m E7 _ s _ hr (λ e. f0 _ (write_cell m s n (cut_to c len) hr (array_put m c len _ hc (filtered_pairs m _ c.pairs hc.pairs) (filtered_names m _ c.pairs hc.names)) he (record { room = less_room (λ p. is_below len true p.0) c.pairs s.own.counts.slots hz.room; len = leb-true len max_length e; count = tt })))
 put_length_r m v c n s k hr hc he hz f0 = search (faulted, kept)
 
 pub put_own_r : (m : Sizes) (x0 : Kind) (x1 : Cell) (x2 : ℕ) (x3 : List ℕ) (x4 : Value) (x5 : State) (x6 : (State → Plan)) → R m x5 → Told m (IsText x3) → ValueIs m x4 → CellIs m x1 → x1.prototype ≡ (cell_in x5.own.heap x2).prototype → CellFits x5.own.counts.slots x1 → HasLength x0 → ((y0 : State) → R m y0 → Keeps m (x6 y0)) → Keeps m (put_own x0 x1 x2 x3 x4 x5 x6)
@@ -336,7 +339,7 @@ put_r m (Host h) x v s k hr hx h2 f0 = search (faulted, kept)
 put_r m o x v s k hr hx h2 f0 = f0 s hr
 
 pub delete_pair_r : (m : Sizes) (x0 : Cell) (x1 : ℕ) (x2 : List ℕ) (x3 : State) (x4 : (Bool → State → Plan)) → R m x3 → CellIs m x0 → x0.prototype ≡ (cell_in x3.own.heap x1).prototype → CellFits x3.own.counts.slots x0 → ((y0 : Bool) (y1 : State) → R m y1 → Keeps m (x4 y0 y1)) → Keeps m (delete_pair x0 x1 x2 x3 x4)
-delete_pair_r m c n x s k hr hc he hz f0 = f0 _ _ (write_cell m s n (record c { pairs = taken_out c.pairs x }) hr (cell_put m c _ hc (taken_are m c.pairs x hc.pairs) (taken_names m c.pairs x hc.names)) he (record { room = taken_room c.pairs x s.own.counts.slots hz.room; len = hz.len }))
+delete_pair_r m c n x s k hr hc he hz f0 = f0 _ _ (write_cell m s n (record c { pairs = taken_out c.pairs x }) hr (cell_put m c _ hc (taken_are m c.pairs x hc.pairs) (taken_names m c.pairs x hc.names)) he (record { room = taken_room c.pairs x s.own.counts.slots hz.room; len = hz.len; count = hz.count }))
 
 pub delete_own_r : (m : Sizes) (x0 : Kind) (x1 : Cell) (x2 : ℕ) (x3 : List ℕ) (x4 : State) (x5 : (Bool → State → Plan)) → R m x4 → CellIs m x1 → x1.prototype ≡ (cell_in x4.own.heap x2).prototype → CellFits x4.own.counts.slots x1 → ((y0 : Bool) (y1 : State) → R m y1 → Keeps m (x5 y0 y1)) → Keeps m (delete_own x0 x1 x2 x3 x4 x5)
 delete_own_r m Object c n x s k hr hc he hz f0 = delete_pair_r m c n x s k hr hc he hz f0
@@ -355,7 +358,7 @@ statements_r m (i ∷ is) p s hr hq = job m _ s _ hr (exec_job m i p (first m hq
 
 pub declare_r : (m : Sizes) (x0 : List Fun) (x1 : ℕ) (x2 : State) (x3 : (State → Plan)) → R m x2 → Told m (AllByRecursion FunHasTexts x0) → ((n : Sizes) → Grows m n → (y0 : State) → R n y0 → Keeps n (x3 y0)) → Keeps m (declare x0 x1 x2 x3)
 declare_r m [] i s k hr hq f0 = f0 m (same_size m) s hr
-declare_r m (f ∷ fs) i s k hr hq f0 = made m _ 0 s _ hr (function_is m (without_name f) (Some i) (also m (λ q. unnamed f q.0) hq)) tt (record { room = omega arith; len = tt }) (λ n g v t u w. declare_r n fs i (with_variable t i (fun_name f) v) k (variable_kept n t i (fun_name f) v u w) (told_later m n _ g (second m hq))
+declare_r m (f ∷ fs) i s k hr hq f0 = made m _ 0 s _ hr (function_is m (without_name f) (Some i) (also m (λ q. unnamed f q.0) hq)) tt (record { room = omega arith; len = tt; count = tt }) (λ n g v t u w. declare_r n fs i (with_variable t i (fun_name f) v) k (variable_kept n t i (fun_name f) v u w) (told_later m n _ g (second m hq))
     (λ l e y z. f0 l (through m n l g e) y z))
 
 pub call_end_r : (m : Sizes) (x0 : Completion) (x1 : State) → R m x1 → CompletionIs m x0 → Keeps m (call_end x0 x1)
@@ -397,7 +400,7 @@ call_to_string_r m true f v d s hr h1 h2 = search (job, primitive_result_r, kept
 call_to_string_r m false f v d s hr h1 h2 = search (faulted, kept) depth 9 fits 4000
 
 pub to_primitive_r : (m : Sizes) (x0 : Value) (x1 : ℕ) (x2 : State) → R m x2 → ValueIs m x0 → Keeps m (to_primitive x0 x1 x2)
-to_primitive_r m v d s hr h0 = let g : ValueIs m (get s v (codes "toString")) = get_is m s v (codes "toString") hr in
+to_primitive_r m v d s hr h0 = let g : ValueIs m (get s v (codes "toString")) = get_is m s v (codes "toString") hr h0 in
     either m _ _ _ (call_to_string_r m _ _ v d s hr g h0) (ended m (Is v) s hr (value_end m v h0))
 
 pub array_parts_r : (m : Sizes) (x0 : Value) (x1 : ℕ) (x2 : List Expr) (x3 : Place) (x4 : State) → R m x4 → ValueIs m x0 → Told m (AllByRecursion ExprHasTexts x2) → Keeps m (array_parts x0 x1 x2 x3 x4)
@@ -411,7 +414,7 @@ object_parts_r m v (q ∷ qs) p s hr h0 hq = job m _ s _ hr (eval_job m q.1 p (a
     (λ y z. object_parts_r n v qs p y z (value_later m n v g h0) (told_later m n _ g (second m hq)))))
 
 pub subscript_read_r : (m : Sizes) (x0 : Expr) (x1 : Place) (x2 : Completion) (x3 : State) → R m x3 → CompletionIs m x2 → Told m (ExprHasTexts x0) → Keeps m (subscript_read x0 x1 x2 x3)
-subscript_read_r m i p o s hr h2 hq = value m o s _ hr h2 (λ b h. job m _ s _ hr (eval_job m i p hq) (λ n g u t w q. value n u t _ w q (λ v z. read_r n b (to_text v) t w)))
+subscript_read_r m i p o s hr h2 hq = value m o s _ hr h2 (λ b h. job m _ s _ hr (eval_job m i p hq) (λ n g u t w q. value n u t _ w q (λ v z. read_r n b (to_text v) t w (value_later m n b g h))))
 
 pub refer_r : (m : Sizes) (x0 : Value) (x1 : List ℕ) (x2 : State) → R m x2 → ValueIs m x0 → Told m (IsText x1) → Keeps m (refer x0 x1 x2)
 refer_r m b x s hr h0 hx = wanted m E1 _ s _ hr (λ e. ended m _ s hr (reference_end m _ (property_reference m b x h0 hx)))
@@ -433,7 +436,7 @@ pub callee_r : (m : Sizes) (x0 : List Expr) (x1 : Place) (x2 : Completion) (x3 :
 callee_r m es p o s hr h2 hq = reference m o s _ hr h2 (λ r h. arguments_then_r m r [] es p s hr h (no_values m) hq)
 
 pub result_r : (m : Sizes) (x0 : OpOut) (x1 : State) → R m x1 → GivenIs m x0 → Keeps m (result x0 x1)
-result_r m (Gives (Text t)) s hr h0 = made_text m t s (give (Text t)) hr (λ a u due. ended m (Is (Text t)) (with_counts s a) u (value_end m _ h0.value))
+result_r m (Gives (Text t)) s hr h0 = made_text m t s (give (Text t)) hr (λ a u due e. ended m (Is (Text t)) (with_counts s a) u (value_end m _ h0.value))
 result_r m (Gives v) s hr h0 = ended m (Is v) s hr (value_end m v h0.value)
 result_r m Leaves s hr h0 = search (halted)
 result_r m TooLong s hr h0 = search (halted)
@@ -449,8 +452,8 @@ binary_right_r m op b p o s hr h3 hq = search (value, job, operate_r, kept) dept
 
 pub unary_on_r : (m : Sizes) (x0 : UnOp) (x1 : Value) (x2 : Place) (x3 : State) → R m x3 → ValueIs m x1 → Keeps m (unary_on x0 x1 x2 x3)
 unary_on_r m un.TypeOf v p s hr h1 = ended m _ s hr (value_end m _ (text_is m _ (told m (type_is _ v))))
-unary_on_r m un.Not v p s hr h1 = result_r m _ s hr (unary_given m un.Not v)
-unary_on_r m op v p s hr h1 = chain m _ _ (to_primitive_r m v p.depth s hr h1) (λ n g o t u q. value n o t _ u q (λ w z. result_r n _ t u (unary_given n op w)))
+unary_on_r m un.Not v p s hr h1 = result_r m _ s hr (unary_given m un.Not v h1)
+unary_on_r m op v p s hr h1 = chain m _ _ (to_primitive_r m v p.depth s hr h1) (λ n g o t u q. value n o t _ u q (λ w z. result_r n _ t u (unary_given n op w z)))
 
 pub delete_at_r : (m : Sizes) (x0 : Reference) (x1 : State) → R m x1 → Keeps m (delete_at x0 x1)
 delete_at_r m (Property b x) s hr = search (delete_r, ended, kept) depth 9 fits 4000
@@ -465,13 +468,13 @@ step_write_r m (Gives w) op v r p s hr h0 h2 hf = write_r m r p w s _ hr hf h0.v
 step_write_r m Leaves op v r p s hr h0 h2 hf = search (halted)
 step_write_r m TooLong op v r p s hr h0 h2 hf = search (halted)
 
-pub step_number_r : (m : Sizes) (x0 : WholeRead) (x1 : StepOp) (x2 : Reference) (x3 : Place) (x4 : State) → R m x4 → ReferenceIs m x2 → Keeps m (step_number x0 x1 x2 x3 x4)
-step_number_r m (read_as.Whole z) op r p s hr hf = step_write_r m (stepped op z) op (Num z) r p s hr (stepped_given m op z) (num_is m z) hf
-step_number_r m read_as.NotNumber op r p s hr hf = step_write_r m (Gives NaN) op NaN r p s hr (given m NaN (nan_is m)) (nan_is m) hf
-step_number_r m read_as.Left op r p s hr hf = search (halted)
+pub step_number_r : (m : Sizes) (x0 : WholeRead) (x1 : StepOp) (x2 : Reference) (x3 : Place) (x4 : State) → R m x4 → ReferenceIs m x2 → Told m (OfRead x0) → Keeps m (step_number x0 x1 x2 x3 x4)
+step_number_r m (read_as.Whole z) op r p s hr hf hn = step_write_r m (stepped op z) op (Num z) r p s hr (stepped_given m op z) (num_is m z hn) hf
+step_number_r m read_as.NotNumber op r p s hr hf hn = step_write_r m (Gives NaN) op NaN r p s hr (given m NaN (nan_is m)) (nan_is m) hf
+step_number_r m read_as.Left op r p s hr hf hn = search (halted)
 
 pub step_converted_r : (m : Sizes) (x0 : StepOp) (x1 : Reference) (x2 : Place) (x3 : Completion) (x4 : State) → R m x4 → CompletionIs m x3 → ReferenceIs m x1 → Keeps m (step_converted x0 x1 x2 x3 x4)
-step_converted_r m op r p o s hr h3 hf = value m o s _ hr h3 (λ v h. step_number_r m _ op r p s hr hf)
+step_converted_r m op r p o s hr h3 hf = value m o s _ hr h3 (λ v h. step_number_r m (to_number v) op r p s hr hf (read_told m v h))
 
 pub step_target_r : (m : Sizes) (x0 : StepOp) (x1 : Place) (x2 : Completion) (x3 : State) → R m x3 → CompletionIs m x2 → Keeps m (step_target x0 x1 x2 x3)
 step_target_r m op p o s hr h2 = reference m o s _ hr h2 (λ r h. chain m _ _ (to_primitive_r m (referred r p s) p.depth s hr (referred_is m s r p hr h)) (λ n g e t u q. step_converted_r n op r p e t u q (reference_later m n r g h)))
@@ -504,14 +507,14 @@ prefix_form_r m un.Delete e p s hr hq = job m _ s _ hr (target_job m e p hq) (λ
 prefix_form_r m op e p s hr hq = job m _ s _ hr (eval_job m e p hq) (λ n g o t u q. value n o t _ u q (λ v w. unary_on_r n op v p t u w))
 
 pub expression_r : (m : Sizes) (x0 : ExprForm) (x1 : Place) (x2 : State) → R m x2 → Told m (FormHasTexts x0) → Keeps m (expression x0 x1 x2)
-expression_r m (tree.Num t) p s hr hq = ended m _ s hr (value_end m _ (literal_is m (number_in t)))
+expression_r m (tree.Num t) p s hr hq = ended m _ s hr (value_end m _ (literal_is m (number_in t) (number_in_is t)))
 expression_r m (tree.Str t) p s hr hq = ended m _ s hr (value_end m _ (text_is m t hq))
 expression_r m (tree.Name x) p s hr hq = ended m _ s hr (value_end m _ (variable_value m s p x hr))
 expression_r m (tree.Constant w) p s hr hq = ended m _ s hr (value_end m _ (word_is m w))
-expression_r m (tree.Array es) p s hr hq = made m (new_array 0 []) 0 s _ hr (array_is m 0 [] (no_pairs m) (told m tt)) tt (record { room = omega arith; len = omega arith }) (λ n g v t u w. array_parts_r n v 0 (expr_list es) p t u w (told_later m n _ g (also m (exprs_are es) hq)))
-expression_r m (tree.Object qs) p s hr hq = made m (plain_object []) 0 s _ hr (plain_is m [] (no_pairs m) (told m tt)) tt (record { room = omega arith; len = tt }) (λ n g v t u w. object_parts_r n v (property_list qs) p t u w (told_later m n _ g (also m (properties_are qs) hq)))
-expression_r m (tree.Function f) p s hr hq = made m (new_function f p.scope) 0 s _ hr (function_is m f p.scope hq) tt (record { room = omega arith; len = tt }) (λ n g v t u w. ended n (Is v) t u (value_end n v w))
-expression_r m (tree.Dot e x) p s hr hq = job m _ s _ hr (eval_job m e p (first m hq)) (λ n g o t u q. value n o t _ u q (λ v w. read_r n v x t u))
+expression_r m (tree.Array es) p s hr hq = made m (new_array 0 []) 0 s _ hr (array_is m 0 [] (no_pairs m) (told m tt)) tt (record { room = omega arith; len = omega arith; count = tt }) (λ n g v t u w. array_parts_r n v 0 (expr_list es) p t u w (told_later m n _ g (also m (exprs_are es) hq)))
+expression_r m (tree.Object qs) p s hr hq = made m (plain_object []) 0 s _ hr (plain_is m [] (no_pairs m) (told m tt)) tt (record { room = omega arith; len = tt; count = tt }) (λ n g v t u w. object_parts_r n v (property_list qs) p t u w (told_later m n _ g (also m (properties_are qs) hq)))
+expression_r m (tree.Function f) p s hr hq = made m (new_function f p.scope) 0 s _ hr (function_is m f p.scope hq) tt (record { room = omega arith; len = tt; count = tt }) (λ n g v t u w. ended n (Is v) t u (value_end n v w))
+expression_r m (tree.Dot e x) p s hr hq = job m _ s _ hr (eval_job m e p (first m hq)) (λ n g o t u q. value n o t _ u q (λ v w. read_r n v x t u w))
 expression_r m (tree.Sub e i) p s hr hq = job m _ s _ hr (eval_job m e p (first m hq)) (λ n g o t u q. subscript_read_r n i p o t u q (told_later m n _ g (second m hq)))
 expression_r m (tree.Call e es) p s hr hq = job m _ s _ hr (target_job m e p (first m hq)) (λ n g o t u q. callee_r n (expr_list es) p o t u q (told_later m n _ g (also m (λ r. exprs_are es r.1) hq)))
 expression_r m (tree.Step op e) p s hr hq = job m _ s _ hr (target_job m e p hq) (λ n g o t u q. step_target_r n op p o t u q)

@@ -31,7 +31,7 @@ module _ (m : Sizes) where
 
   pub call_script_r : (f : Fun) (vs : List Value) (s : State) (k : Completion → State → Plan) → R m s → Told m (FunHasTexts f) → ValuesAre m vs
       → ((n : Sizes) → Grows m n → (o : Completion) (t : State) → R n t → CompletionIs n o → Keeps n (k o t)) → Keeps m (call_script f vs s k)
-  call_script_r f vs s k h hf q g = made m (new_function f None) 0 s (λ v t. Do (Call v None vs 0) t k) h (function_is m f None hf) tt (record { room = omega arith; len = tt })
+  call_script_r f vs s k h hf q g = made m (new_function f None) 0 s (λ v t. Do (Call v None vs 0) t k) h (function_is m f None hf) tt (record { room = omega arith; len = tt; count = tt })
       (λ n e v t u w. job n _ t k u (call_job n v None vs 0 w (no_value n) (values_later m n vs e q)) (λ l i o y z r. g l (through m n l e i) o y z r))
 
   pub library_plan_r : (x : List ℕ) (f : Fun) (s : State) → R m s → Told m (IsText x) → Told m (FunHasTexts f) → Keeps m (library_plan x f s)

@@ -12,14 +12,14 @@ use Rattle.widget_meaning.specs.Styles.{style_pairs, with_property}
 use Rattle.widget_meaning.specs.Trees.{Trees, among, with_detached, detached, moved, first_label, label_of, subtrees}
 use Rattle.widget_meaning.specs.PageForms.{texts_of}
 use Rattle.widget_meaning.specs.BunchWrites.{with_style, styled}
-use Rattle.meaning_laws.specs.Texts.{IsText, MaybeText, LabelHasTexts, PageHasTexts}
+use Rattle.meaning_laws.specs.Texts.{AreUnits, MaybeUnits, LabelHasTexts, PageHasTexts}
 use Rattle.meaning_laws.proofs.Each.{each_filtered}
-use Rattle.meaning_laws.proofs.Units.{both_texts}
+use Rattle.meaning_laws.proofs.Units.{both_units}
 use Rattle.meaning_laws.proofs.Styles.{PairHasTexts, style_pairs_are, property_set, print_is}
 
 -- the values of attributes
 abbrev pub ValuesAreTexts : List Attribute → Type 0
-ValuesAreTexts attrs = AllByRecursion (λ a. IsText a.1) attrs
+ValuesAreTexts attrs = AllByRecursion (λ a. AreUnits a.1) attrs
 
 -- a label, if there is one
 abbrev pub MaybeLabel : Option Label → Type 0
@@ -28,7 +28,7 @@ MaybeLabel (Some l) = LabelHasTexts l
 
 -- ## Labels
 
-value_put : (x v : List ℕ) (attrs : List Attribute) → IsText v → ValuesAreTexts attrs → ValuesAreTexts (with_value x v attrs)
+value_put : (x v : List ℕ) (attrs : List Attribute) → AreUnits v → ValuesAreTexts attrs → ValuesAreTexts (with_value x v attrs)
 value_put x v [] h k = (h, tt)
 value_put x v (a ∷ attrs) h k = by (bytes_eq a.0 x) (value_put x v attrs h k.1)
   where
@@ -36,30 +36,30 @@ value_put x v (a ∷ attrs) h k = by (bytes_eq a.0 x) (value_put x v attrs h k.1
     by true i = (h, k.1)
     by false i = (k.0, i)
 
-pub attribute_set : (x : List ℕ) (v : Option (List ℕ)) (l : Label) → MaybeText v → LabelHasTexts l → LabelHasTexts (with_attribute x v l)
+pub attribute_set : (x : List ℕ) (v : Option (List ℕ)) (l : Label) → MaybeUnits v → LabelHasTexts l → LabelHasTexts (with_attribute x v l)
 attribute_set x v (TextOf t) h k = k
-attribute_set x None (ElementOf tag attrs) h k = (k.0, each_filtered {A = Attribute} (λ a. IsText a.1) (λ a. not (bytes_eq a.0 x)) attrs k.1)
+attribute_set x None (ElementOf tag attrs) h k = (k.0, each_filtered {A = Attribute} (λ a. AreUnits a.1) (λ a. not (bytes_eq a.0 x)) attrs k.1)
 attribute_set x (Some v) (ElementOf tag attrs) h k = (k.0, value_put x v attrs h k.1)
 
-value_found : (x : List ℕ) (attrs : List Attribute) → ValuesAreTexts attrs → MaybeText (value_of x attrs)
+value_found : (x : List ℕ) (attrs : List Attribute) → ValuesAreTexts attrs → MaybeUnits (value_of x attrs)
 value_found x [] h = tt
 value_found x (a ∷ attrs) h = by (bytes_eq a.0 x) (value_found x attrs h.1)
   where
-    by : (b : Bool) → MaybeText (value_of x attrs) → MaybeText (if b then Some a.1 else value_of x attrs)
+    by : (b : Bool) → MaybeUnits (value_of x attrs) → MaybeUnits (if b then Some a.1 else value_of x attrs)
     by true i = h.0
     by false i = i
 
-pub attribute_found : (x : List ℕ) (o : Option Label) → MaybeLabel o → MaybeText (option_and_then (attribute_of x) o)
+pub attribute_found : (x : List ℕ) (o : Option Label) → MaybeLabel o → MaybeUnits (option_and_then (attribute_of x) o)
 attribute_found x None h = tt
 attribute_found x (Some (TextOf t)) h = tt
 attribute_found x (Some (ElementOf tag attrs)) h = value_found x attrs h.1
 
-pub tag_found : (o : Option Label) → MaybeLabel o → MaybeText (option_and_then tag_of o)
+pub tag_found : (o : Option Label) → MaybeLabel o → MaybeUnits (option_and_then tag_of o)
 tag_found None h = tt
 tag_found (Some (TextOf t)) h = tt
 tag_found (Some (ElementOf tag attrs)) h = h.0
 
-pub or_empty : (o : Option (List ℕ)) → MaybeText o → IsText (unwrap_or o [])
+pub or_empty : (o : Option (List ℕ)) → MaybeUnits o → AreUnits (unwrap_or o [])
 or_empty None h = tt
 or_empty (Some t) h = h
 
@@ -67,17 +67,17 @@ old_pairs : (o : Option (List ℕ)) → AllByRecursion PairHasTexts (option_map_
 old_pairs None = tt
 old_pairs (Some t) = style_pairs_are t
 
-style_set : (o : Option (List ℕ)) (p v : List ℕ) (l : Label) → IsText p → IsText v → LabelHasTexts l
+style_set : (o : Option (List ℕ)) (p v : List ℕ) (l : Label) → AreUnits p → AreUnits v → LabelHasTexts l
     → LabelHasTexts (with_attribute (codes "style") (Some (print_style (with_property (option_map_or style_pairs o []) p v))) l)
 style_set o p v l hp hv h = attribute_set (codes "style") (Some _) l (print_is _ (property_set (option_map_or style_pairs o []) p v (old_pairs o) hp hv)) h
 
-styled_by : (o : Option (List ℕ)) (p v : List ℕ) (l : Label) → IsText p → IsText v → LabelHasTexts l → LabelHasTexts (with_style o p v l)
+styled_by : (o : Option (List ℕ)) (p v : List ℕ) (l : Label) → AreUnits p → AreUnits v → LabelHasTexts l → LabelHasTexts (with_style o p v l)
 styled_by None p [] l hp hv h = h
 styled_by None p (u ∷ us) l hp hv h = style_set None p (u ∷ us) l hp hv h
 styled_by (Some t) p [] l hp hv h = style_set (Some t) p [] l hp hv h
 styled_by (Some t) p (u ∷ us) l hp hv h = style_set (Some t) p (u ∷ us) l hp hv h
 
-pub styled_is : (p v : List ℕ) (l : Label) → IsText p → IsText v → LabelHasTexts l → LabelHasTexts (styled p v l)
+pub styled_is : (p v : List ℕ) (l : Label) → AreUnits p → AreUnits v → LabelHasTexts l → LabelHasTexts (styled p v l)
 styled_is p v l hp hv h = styled_by (attribute_of (codes "style") l) p v l hp hv h
 
 -- ## Trees
@@ -174,7 +174,7 @@ first_is (Node m l ks ts) h = h.0
 pub label_is : (n : ℕ) (ts : Trees) → PageHasTexts ts → MaybeLabel (label_of n ts)
 label_is n ts h = first_is (subtree n ts) (page_subtree n ts h)
 
-pub texts_are : (ts : Trees) → PageHasTexts ts → IsText (texts_of ts)
+pub texts_are : (ts : Trees) → PageHasTexts ts → AreUnits (texts_of ts)
 texts_are End h = tt
-texts_are (Node m (TextOf t) ks ts) h = both_texts t _ h.0 (both_texts (texts_of ks) (texts_of ts) (texts_are ks h.1.0) (texts_are ts h.1.1))
-texts_are (Node m (ElementOf tag attrs) ks ts) h = both_texts (texts_of ks) (texts_of ts) (texts_are ks h.1.0) (texts_are ts h.1.1)
+texts_are (Node m (TextOf t) ks ts) h = both_units t _ h.0 (both_units (texts_of ks) (texts_of ts) (texts_are ks h.1.0) (texts_are ts h.1.1))
+texts_are (Node m (ElementOf tag attrs) ks ts) h = both_units (texts_of ks) (texts_of ts) (texts_are ks h.1.0) (texts_are ts h.1.1)

@@ -8,12 +8,12 @@ use Rattle.widget_meaning.specs.Alone.{loaded}
 use Rattle.widget_meaning.proofs.Ancestors.{ancestor_laws}
 use Rattle.widget_meaning.specs.Values.{Value, Undefined, Null, Truth, NaN, Num, Text, Own, Host}
 use Rattle.widget_meaning.specs.OwnState.{State, Pairs, cell_at}
-use Rattle.widget_meaning.specs.JsonLaws.{HasUnits, IsOrdinary, AreOrdinary}
+use Rattle.widget_meaning.specs.JsonLaws.{IsOrdinary, AreOrdinary}
 use Rattle.widget_meaning.proofs.JsonHolds.{json_laws}
 use Rattle.widget_meaning.proofs.JsonReturns.{return_laws}
-use Rattle.meaning_laws.specs.There.{Sizes, ValueIs, HasTexts, text_sizes}
-use Rattle.meaning_laws.specs.Texts.{OfText, AreNames}
-use Rattle.meaning_laws.specs.TextLaws.{ValueHasUnits, IsWithin, NumbersFit, TextLaws, JsonStateLaws}
+use Rattle.meaning_laws.specs.There.{Sizes, ValueIs, HasOrdinaryValues, told_sizes}
+use Rattle.meaning_laws.specs.Texts.{IsOrdinaryValue, AreNames}
+use Rattle.meaning_laws.specs.OrdinaryLaws.{OrdinaryLaws, JsonStateLaws}
 use Rattle.meaning_laws.proofs.Spelled.{unit_at}
 use Rattle.meaning_laws.specs.ThereLaws.{ChainLaws, LengthLaws, ThereLaws, WayLaws}
 use Rattle.meaning_laws.proofs.Chains.{all_short, read_ends, list_ends, count_ends}
@@ -48,55 +48,34 @@ length_laws s n h = (h.fits n).len
 
 -- ## Texts
 
-value_units : (v : Value) → OfText v → ValueHasUnits v
-value_units Undefined h = tt
-value_units Null h = tt
-value_units (Truth b) h = tt
-value_units NaN h = tt
-value_units (Num z) h = tt
-value_units (Text t) h = unit_at t h
-value_units (Own n) h = tt
-value_units (Host e) h = tt
+ordinary_value : (v : Value) → IsOrdinaryValue v → IsOrdinary v
+ordinary_value Undefined h = tt
+ordinary_value Null h = tt
+ordinary_value (Truth b) h = tt
+ordinary_value NaN h = tt
+ordinary_value (Num z) h = h
+ordinary_value (Text t) h = unit_at t h.0
+ordinary_value (Own n) h = tt
+ordinary_value (Host e) h = tt
 
-pairs_units : (m : Sizes) (ps : Pairs) → m.texts ≡ true → AreNames ps → AllByRecursion (λ p. ValueIs m p.1) ps
-    → AllByRecursion (λ p. HasUnits p.0 × ValueHasUnits p.1) ps
-pairs_units m [] e h k = tt
-pairs_units m (p ∷ ps) e h k = ((unit_at p.0 h.0, value_units p.1 (k.0.text.holds e)), pairs_units m ps e h.1 k.1)
+ordinary_pairs : (m : Sizes) (ps : Pairs) → m.texts ≡ true → AreNames ps → AllByRecursion (λ p. ValueIs m p.1) ps → AreOrdinary ps
+ordinary_pairs m [] e h k = tt
+ordinary_pairs m (p ∷ ps) e h k = (unit_at p.0 h.0.0, ordinary_value p.1 (k.0.text.holds e), ordinary_pairs m ps e h.1 k.1)
 
-object_units : (s : State) (n : ℕ) → HasTexts s.own → AllByRecursion (λ p. HasUnits p.0 × ValueHasUnits p.1) (cell_at s n).pairs
-object_units s n h = pairs_units (text_sizes s.own) (cell_at s n).pairs refl ((h.objects n).names.holds refl) (h.objects n).pairs.each
+ordinary_object : (s : State) (n : ℕ) → HasOrdinaryValues s.own → AreOrdinary (cell_at s n).pairs
+ordinary_object s n h = ordinary_pairs (told_sizes s.own) (cell_at s n).pairs refl ((h.objects n).names.holds refl) (h.objects n).pairs.each
 
-pub text_laws : TextLaws
-text_laws = record {
+pub ordinary_laws : OrdinaryLaws
+ordinary_laws = record {
   jobs = job_keeps true;
   ends = job_ends true;
   kept = λ o is h k. items_r true o is h (λ e. k);
   whole = λ w grant is h l c k. items_r true (loaded w grant) is (loaded_r true w grant h l (λ e. c)) (λ e. k);
-  units = object_units;
+  ordinary = ordinary_object;
 }
-
-ordinary_value : (v : Value) → ValueHasUnits v → IsWithin v → IsOrdinary v
-ordinary_value Undefined h k = tt
-ordinary_value Null h k = tt
-ordinary_value (Truth b) h k = tt
-ordinary_value NaN h k = tt
-ordinary_value (Num z) h k = k
-ordinary_value (Text t) h k = h
-ordinary_value (Own n) h k = tt
-ordinary_value (Host e) h k = tt
-
-ordinary_pairs : (ps : Pairs) → AllByRecursion (λ p. HasUnits p.0 × ValueHasUnits p.1) ps → AllByRecursion (λ p. IsWithin p.1) ps → AreOrdinary ps
-ordinary_pairs [] h k = tt
-ordinary_pairs (p ∷ ps) h k = (h.0.0, ordinary_value p.1 h.0.1 k.0, ordinary_pairs ps h.1 k.1)
-
-ordinary_object : (s : State) (v : Value) (n : ℕ) → HasTexts s.own → NumbersFit s v → AreOrdinary (cell_at s n).pairs
-ordinary_object s v n h k = ordinary_pairs (cell_at s n).pairs (object_units s n h) (k.objects n)
-
-ordinary : (s : State) (v : Value) → ValueIs (text_sizes s.own) v → NumbersFit s v → IsOrdinary v
-ordinary s v q k = ordinary_value v (value_units v (q.text.holds refl)) k.value
 
 pub json_state_laws : JsonStateLaws
 json_state_laws = record {
-  written = λ s v t h q k e. json_laws s v t (λ n. ordinary_object s v n h k) (ordinary s v q k) e;
-  returns = λ s v t h q k c e. return_laws s v t (λ n. record { ordinary = ordinary_object s v n h k; names = c n; len = (h.fits n).len }) (ordinary s v q k) e;
+  written = λ s v t h q e. json_laws s v t (λ n. ordinary_object s n h) (ordinary_value v (q.text.holds refl)) e;
+  returns = λ s v t h q c e. return_laws s v t (λ n. record { ordinary = ordinary_object s n h; names = c n; len = (h.fits n).len }) (ordinary_value v (q.text.holds refl)) e;
 }

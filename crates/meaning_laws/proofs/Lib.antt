@@ -1,5 +1,7 @@
 pub mod Each
 pub mod Units
+pub mod Numbers
+pub mod Keys
 pub mod Spelled
 pub mod ReadJson
 pub mod Scripts

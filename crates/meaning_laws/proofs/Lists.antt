@@ -1,4 +1,7 @@
 -- The methods of arrays and the prototypes keep what is there.
+use Rattle.meaning_laws.proofs.Values.{also, nan_is}
+use Rattle.std.proofs.lemmas.List.FromFn.{length-map-range_with_len}
+use Rattle.widget_meaning.specs.NativeForms.{element}
 use Rattle.std.specs.Prelude.{ℕ, zero, suc, ℤ, ◌+◌, List, [], ◌∷◌, ◌++◌, Option, Some}
 use Rattle.widget_meaning.specs.Values.{Value, Undefined, Num, Truth, NaN}
 use Rattle.widget_meaning.specs.OwnState.{State}
@@ -11,7 +14,7 @@ use Rattle.std.proofs.Common.{◌<◌, ◌≤◌, length, Bool, true, false, ref
 use Rattle.std.specs.Prelude as std
 use Rattle.std.specs.Prelude.{int_le, unsigned_abs, negsuc, ◌%◌, ◌≡◌, None, if◌then◌else◌, zip, codes, pos, not, nat_lt, ◌-◌, slice_range}
 use Rattle.std.specs.List.{list_any, join_by}
-use Rattle.widget_meaning.specs.Limits.{max_length, max_slots, min_radix, max_radix}
+use Rattle.widget_meaning.specs.Limits.{max_length, past_numbers, max_slots, min_radix, max_radix}
 use Rattle.std.specs.List.{filter}
 use Rattle.std.specs.Prelude.{is_none}
 use Rattle.std.proofs.lemmas.Bool.{ltb-false}
@@ -38,8 +41,8 @@ use Rattle.widget_meaning.specs.ListChanges.{list_extra, with_elements, pushed, 
 use Rattle.widget_meaning.specs.ListNatives.{kept, joined_text, separator}
 use Rattle.meaning_laws.proofs.Each.{each_both, each_filtered, each_mapped, each_piece, each_first, at_old}
 use Rattle.meaning_laws.proofs.Forms.{elements_are, write_cell, array_put, array_is}
-use Rattle.meaning_laws.specs.Texts.{IsText, OfText}
-use Rattle.meaning_laws.proofs.Units.{tested, both_texts, digits_are, joined_is, to_text_is}
+use Rattle.meaning_laws.specs.Texts.{AreUnits, IsOrdinaryValue}
+use Rattle.meaning_laws.proofs.Units.{tested, units_tested, made_is, both_units, digits_are, joined_is, to_text_is}
 use Rattle.meaning_laws.proofs.Natives.{give_text_r, make_array_r, on_array_r, on_object_r, on_text_r, want_function_r, with_number_r, with_optional_r}
 use Rattle.meaning_laws.specs.There.{Sizes, Grows, Told, CellFits, ValueIs, ValuesAre, MaybeIs, CellIs}
 use Rattle.meaning_laws.proofs.Later.{same_size, through, value_later, values_later, cell_later}
@@ -105,6 +108,7 @@ elements_fit : (c : Cell) (vs : List Value) (k a : ℕ) → length c.pairs ≤ k
 elements_fit c vs k a h l i = record {
   room = omega (arith, h, l, two_filters c.pairs (length vs), numbered_length 0 vs, length-append (filter (λ p. is_none (index_of p.0)) c.pairs) (numbered_pairs 0 vs));
   len = omega (arith, h, l, i, two_filters c.pairs (length vs));
+  count = tt;
 }
 
 first_part : (k a b c : ℕ) → k + (a + b) ≤ c → k + a ≤ c
@@ -120,19 +124,22 @@ change_r m n vs v s hr h1 h2 = paid m _ s (λ t. give v (with_cell t n (with_ele
 pub pop_r : (m : Sizes) (x0 : ℕ) (x1 : ℕ) (x2 : List Value) (x3 : State) → R m x3 → x1 ≤ max_length → Keeps m (pop x0 x1 x2 x3)
 pop_r m n zero vs s hr hl = charged m _ s _ hr (ended m _ s hr (value_end m _ (undefined_is m)))
 pop_r m n (suc len) vs s hr hl = charged m _ s _ hr (ended m _ (with_cell s n (cut_to (cell_at s n) len))
-    (write_cell m s n (cut_to (cell_at s n) len) hr (array_put m (cell_at s n) len _ (hr.there.objects n) (filtered_pairs m _ _ (hr.there.objects n).pairs) (filtered_names m _ _ (hr.there.objects n).names)) refl (record { room = less_room (λ p. is_below len true p.0) (cell_at s n).pairs s.own.counts.slots (hr.there.fits n).room; len = omega (arith, hl) }))
+    (write_cell m s n (cut_to (cell_at s n) len) hr (array_put m (cell_at s n) len _ (hr.there.objects n) (filtered_pairs m _ _ (hr.there.objects n).pairs) (filtered_names m _ _ (hr.there.objects n).names)) refl (record { room = less_room (λ p. is_below len true p.0) (cell_at s n).pairs s.own.counts.slots (hr.there.fits n).room; len = omega (arith, hl); count = tt }))
     (value_end m _ (element_is m (cell_at s n).pairs len (hr.there.objects n).pairs)))
+
+far : (n : ℕ) → n ≤ max_length → n < past_numbers
+far n l = omega (arith, l)
 
 pub push_r : (m : Sizes) (x0 : ℕ) (x1 : ℕ) (x2 : List Value) (x3 : State) → R m x3 → ValuesAre m x2 → Keeps m (push x0 x1 x2 x3)
 push_r m n len vs s hr h2 = by_test m (nat_lt max_length (len + length vs)) _ _ (λ e. faulted m E7 s hr) (λ e. charged m _ s _ hr (paid m _ s (λ t. give (Num (pos (len + length vs))) (with_cell t n (pushed (cell_at t n) len vs))) hr (λ a u due. ended m _ (with_cell (with_counts s a) n (pushed (cell_at s n) len vs))
-    (write_cell m (with_counts s a) n (pushed (cell_at s n) len vs) u (array_put m (cell_at s n) _ _ (hr.there.objects n) (both_pairs m _ _ (hr.there.objects n).pairs (numbered_are m len vs h2)) (both_names m _ _ (hr.there.objects n).names (numbered_names m len vs))) refl (record { room = omega (arith, (hr.there.fits n).room, due.more, numbered_length len vs, length-append (cell_at s n).pairs (numbered_pairs len vs)); len = ltb-false max_length (len + length vs) e }))
-    (value_end m _ (num_is m _)))))
+    (write_cell m (with_counts s a) n (pushed (cell_at s n) len vs) u (array_put m (cell_at s n) _ _ (hr.there.objects n) (both_pairs m _ _ (hr.there.objects n).pairs (numbered_are m len vs h2)) (both_names m _ _ (hr.there.objects n).names (numbered_names m len vs))) refl (record { room = omega (arith, (hr.there.fits n).room, due.more, numbered_length len vs, length-append (cell_at s n).pairs (numbered_pairs len vs)); len = ltb-false max_length (len + length vs) e; count = tt }))
+    (value_end m _ (num_is m (pos (len + length vs)) (told m (far (len + length vs) (ltb-false max_length (len + length vs) e))))))))
 
 pub shift_r : (m : Sizes) (x0 : ℕ) (x1 : ℕ) (x2 : List Value) (x3 : State) → R m x3 → Keeps m (shift x0 x1 x2 x3)
 shift_r m n len vs s hr = charged m _ s _ hr (change_r m n _ _ s hr (left_values m 1 _ (elements_are m s n len hr)) (nth_is m 0 _ (elements_are m s n len hr)))
 
 pub unshift_r : (m : Sizes) (x0 : ℕ) (x1 : ℕ) (x2 : List Value) (x3 : State) → R m x3 → ValuesAre m x2 → Keeps m (unshift x0 x1 x2 x3)
-unshift_r m n len vs s hr h2 = either m (nat_lt max_length (len + length vs)) _ _ (faulted m E7 s hr) (charged m _ s _ hr (change_r m n _ _ s hr (both_values m vs _ h2 (elements_are m s n len hr)) (num_is m _)))
+unshift_r m n len vs s hr h2 = by_test m (nat_lt max_length (len + length vs)) _ _ (λ e. faulted m E7 s hr) (λ e. charged m _ s _ hr (change_r m n _ _ s hr (both_values m vs _ h2 (elements_are m s n len hr)) (num_is m (pos (len + length vs)) (told m (far (len + length vs) (ltb-false max_length (len + length vs) e))))))
 
 pub reverse_r : (m : Sizes) (x0 : ℕ) (x1 : ℕ) (x2 : List Value) (x3 : State) → R m x3 → ValueIs m (Own x0) → Keeps m (reverse x0 x1 x2 x3)
 reverse_r m n len vs s hr ho = charged m _ s _ hr (change_r m n _ (Own n) s hr (record { each = each_reversed (ValueIs m) (elements s n len) (elements_are m s n len hr).each }) ho)
@@ -178,25 +185,25 @@ list_concat_r m n len vs s hr h2 = charged m _ s _ hr (make_array_r m _ _ s give
     (λ l g v t u w. ended l (Is v) t u (value_end l v w)))
 
 -- the text between, and those of elements
-separator_is : (v : Value) → OfText v → IsText (separator v)
-separator_is Undefined h = tested (codes ",") refl
-separator_is Null h = to_text_is Null h
-separator_is (Truth b) h = to_text_is (Truth b) h
-separator_is NaN h = to_text_is NaN h
-separator_is (Num z) h = to_text_is (Num z) h
-separator_is (Text t) h = to_text_is (Text t) h
-separator_is (Own n) h = to_text_is (Own n) h
-separator_is (Host e) h = to_text_is (Host e) h
+separator_is : (v : Value) → IsOrdinaryValue v → AreUnits (separator v)
+separator_is Undefined h = units_tested (codes ",") refl
+separator_is Null h = (to_text_is Null h).0
+separator_is (Truth b) h = (to_text_is (Truth b) h).0
+separator_is NaN h = (to_text_is NaN h).0
+separator_is (Num z) h = (to_text_is (Num z) h).0
+separator_is (Text t) h = (to_text_is (Text t) h).0
+separator_is (Own n) h = (to_text_is (Own n) h).0
+separator_is (Host e) h = (to_text_is (Host e) h).0
 
-element_text_is : (v : Value) → OfText v → IsText (joined_text v)
+element_text_is : (v : Value) → IsOrdinaryValue v → AreUnits (joined_text v)
 element_text_is Undefined h = tt
 element_text_is Null h = tt
-element_text_is (Truth b) h = to_text_is (Truth b) h
-element_text_is NaN h = to_text_is NaN h
-element_text_is (Num z) h = to_text_is (Num z) h
-element_text_is (Text t) h = to_text_is (Text t) h
-element_text_is (Own n) h = to_text_is (Own n) h
-element_text_is (Host e) h = to_text_is (Host e) h
+element_text_is (Truth b) h = (to_text_is (Truth b) h).0
+element_text_is NaN h = (to_text_is NaN h).0
+element_text_is (Num z) h = (to_text_is (Num z) h).0
+element_text_is (Text t) h = (to_text_is (Text t) h).0
+element_text_is (Own n) h = (to_text_is (Own n) h).0
+element_text_is (Host e) h = (to_text_is (Host e) h).0
 
 pub join_r : (m : Sizes) (x0 : ℕ) (x1 : ℕ) (x2 : Value) (x3 : ℕ) (x4 : State) → R m x4 → ValueIs m x2 → Keeps m (join x0 x1 x2 x3 x4)
 join_r m n len x extra s hr hx = wanted m E4 (not (list_any is_object (x ∷ elements s n len))) s _ hr (λ _. give_text_r m extra (join_by joined_text (separator x) (elements s n len)) s hr
@@ -206,24 +213,33 @@ pub list_slice_r : (m : Sizes) (x0 : ℕ) (x1 : ℕ) (x2 : Value) (x3 : Value) (
 list_slice_r m n len a b extra s hr = wanted m E4 (not (list_any is_object (a ∷ b ∷ []))) s _ hr (λ _. with_number_r m (to_number a) extra s _ hr (λ x. with_optional_r m (pos len) b extra s _ hr (λ y. charged m extra s _ hr
     (make_array_r m (slice_range (elements s n len) (from_end len x) (from_end len y)) 0 s give hr (taken_values m _ _ (left_values m _ _ (elements_are m s n len hr))) (λ l g v t u w. ended l (Is v) t u (value_end l v w))))))
 
-pub call_each_r : (m : Sizes) (x0 : Value) (x1 : List Value) (x2 : ℕ) (x3 : List Value) (x4 : ℕ) (x5 : State) (x6 : (List Value → State → Plan)) → R m x5 → ValueIs m x0 → ValuesAre m x1 → ValuesAre m x3 → ((n : Sizes) → Grows m n → (y0 : List Value) (y1 : State) → R n y1 → ValuesAre n y0 → Keeps n (x6 y0 y1)) → Keeps m (call_each x0 x1 x2 x3 x4 x5 x6)
-call_each_r m f [] i ws d s k hr h0 h1 h3 f0 = f0 m (same_size m) ws s hr h3
-call_each_r m f (v ∷ vs) i ws d s k hr h0 h1 h3 f0 = job m _ s _ hr
-    (call_job m f None _ d h0 (no_value m) (more_values m v _ h1.each.0 (more_values m _ [] (num_is m _) (no_values m))))
-    (λ n g o t u q. value n o t _ u q (λ w z. call_each_r n f vs (i + 1) (ws ++ w ∷ []) d t k u (value_later m n f g h0) (values_later m n vs g (record { each = h1.each.1 }))
-    (both_values n ws _ (values_later m n ws g h3) (more_values n w [] z (no_values n))) (λ l e ys y r x. f0 l (through m n l g e) ys y r x)))
+before : (i n : ℕ) → i + suc n ≤ max_length → i ≤ max_length
+before i n h = omega (arith, h)
 
-pub over_r : (m : Sizes) (x0 : ℕ) (x1 : ℕ) (x2 : Value) (x3 : ℕ) (x4 : State) (x5 : (List Value → State → Plan)) → R m x4 → ValueIs m x2 → ((n : Sizes) → Grows m n → (y0 : List Value) (y1 : State) → R n y1 → ValuesAre n y0 → Keeps n (x5 y0 y1)) → Keeps m (over x0 x1 x2 x3 x4 x5)
-over_r m n len f d s k hr h2 f0 = want_function_r m f s _ hr (charged m len s _ hr (call_each_r m f (elements s n len) 0 [] d s k hr h2 (elements_are m s n len hr) (no_values m) f0))
+after_one : (i n : ℕ) → i + suc n ≤ max_length → i + 1 + n ≤ max_length
+after_one i n h = omega (arith, h)
+
+pub call_each_r : (m : Sizes) (x0 : Value) (x1 : List Value) (x2 : ℕ) (x3 : List Value) (x4 : ℕ) (x5 : State) (x6 : (List Value → State → Plan)) → R m x5 → ValueIs m x0 → ValuesAre m x1 → ValuesAre m x3 → x2 + length x1 ≤ max_length → ((n : Sizes) → Grows m n → (y0 : List Value) (y1 : State) → R n y1 → ValuesAre n y0 → Keeps n (x6 y0 y1)) → Keeps m (call_each x0 x1 x2 x3 x4 x5 x6)
+call_each_r m f [] i ws d s k hr h0 h1 h3 hi f0 = f0 m (same_size m) ws s hr h3
+call_each_r m f (v ∷ vs) i ws d s k hr h0 h1 h3 hi f0 = job m _ s _ hr
+    (call_job m f None _ d h0 (no_value m) (more_values m v _ h1.each.0 (more_values m _ [] (num_is m (pos i) (told m (far i (before i (length vs) hi)))) (no_values m))))
+    (λ n g o t u q. value n o t _ u q (λ w z. call_each_r n f vs (i + 1) (ws ++ w ∷ []) d t k u (value_later m n f g h0) (values_later m n vs g (record { each = h1.each.1 }))
+    (both_values n ws _ (values_later m n ws g h3) (more_values n w [] z (no_values n))) (after_one i (length vs) hi) (λ l e ys y r x. f0 l (through m n l g e) ys y r x)))
+
+from_none : (len n : ℕ) → n ≡ len → len ≤ max_length → 0 + n ≤ max_length
+from_none len n e l = omega (arith, e, l)
+
+pub over_r : (m : Sizes) (x0 : ℕ) (x1 : ℕ) (x2 : Value) (x3 : ℕ) (x4 : State) (x5 : (List Value → State → Plan)) → R m x4 → ValueIs m x2 → x1 ≤ max_length → ((n : Sizes) → Grows m n → (y0 : List Value) (y1 : State) → R n y1 → ValuesAre n y0 → Keeps n (x5 y0 y1)) → Keeps m (over x0 x1 x2 x3 x4 x5)
+over_r m n len f d s k hr h2 hl f0 = want_function_r m f s _ hr (charged m len s _ hr (call_each_r m f (elements s n len) 0 [] d s k hr h2 (elements_are m s n len hr) (no_values m) (from_none len _ (length-map-range_with_len (element (cell_at s n).pairs) 0 len) hl) f0))
 
 pub list_method_r : (m : Sizes) (x0 : ListNative) (x1 : ℕ) (x2 : ℕ) (x3 : List Value) (x4 : ℕ) (x5 : State) → R m x5 → ValuesAre m x3 → ValueIs m (Own x1) → x2 ≤ max_length → Keeps m (list_method x0 x1 x2 x3 x4 x5)
 list_method_r m ListConcat n len vs d s hr h3 ho hl = list_concat_r m n len vs s hr h3
 list_method_r m Join n len vs d s hr h3 ho hl = join_r m n len (nth 0 vs) (list_extra len vs s) s hr (nth_is m 0 vs h3)
 list_method_r m ListSlice n len vs d s hr h3 ho hl = list_slice_r m n len (nth 0 vs) (nth 1 vs) (list_extra len vs s) s hr
-list_method_r m ForEach n len vs d s hr h3 ho hl = over_r m n len (nth 0 vs) d s (λ ws t. give Undefined t) hr (nth_is m 0 vs h3) (λ l g ws t u q. ended l _ t u (value_end l _ (undefined_is l)))
-list_method_r m MapNative n len vs d s hr h3 ho hl = over_r m n len (nth 0 vs) d s (λ ws t. make_array ws 0 t give) hr (nth_is m 0 vs h3)
+list_method_r m ForEach n len vs d s hr h3 ho hl = over_r m n len (nth 0 vs) d s (λ ws t. give Undefined t) hr (nth_is m 0 vs h3) hl (λ l g ws t u q. ended l _ t u (value_end l _ (undefined_is l)))
+list_method_r m MapNative n len vs d s hr h3 ho hl = over_r m n len (nth 0 vs) d s (λ ws t. make_array ws 0 t give) hr (nth_is m 0 vs h3) hl
     (λ l g ws t u q. make_array_r l ws 0 t give u q (λ i e v y z w. ended i (Is v) y z (value_end i v w)))
-list_method_r m FilterNative n len vs d s hr h3 ho hl = over_r m n len (nth 0 vs) d s (λ ws t. make_array (kept (elements s n len) ws) 0 t give) hr (nth_is m 0 vs h3)
+list_method_r m FilterNative n len vs d s hr h3 ho hl = over_r m n len (nth 0 vs) d s (λ ws t. make_array (kept (elements s n len) ws) 0 t give) hr (nth_is m 0 vs h3) hl
     (λ l g ws t u q. make_array_r l (kept (elements s n len) ws) 0 t give u (chosen_are l (elements s n len) ws (values_later m l _ g (elements_are m s n len hr))) (λ i e v y z w. ended i (Is v) y z (value_end i v w)))
 list_method_r m Pop n len vs d s hr h3 ho hl = pop_r m n len vs s hr hl
 list_method_r m Push n len vs d s hr h3 ho hl = push_r m n len vs s hr h3
@@ -239,11 +255,11 @@ list_native_r m w this vs d s hr h1 h2 = on_array_r m this s _ hr h1 (λ n len h
 pub has_own_property_r : (m : Sizes) (x0 : Option Value) (x1 : Value) (x2 : State) → R m x2 → Keeps m (has_own_property x0 x1 x2)
 has_own_property_r m this x s hr = on_object_r m this s _ hr (λ o. wanted m E4 (not (list_any is_object (x ∷ []))) s _ hr (λ _. ended m _ s hr (value_end m _ (truth_is m _))))
 
-pub give_made_r : (m : Sizes) (x0 : List ℕ) (x1 : State) → R m x1 → Told m (IsText x0) → Keeps m (give_made x0 x1)
-give_made_r m t s hr ht = made_text m t s (give (Text t)) hr (λ a u due. ended m (Is (Text t)) (with_counts s a) u (value_end m _ (text_is m t ht)))
+pub give_made_r : (m : Sizes) (x0 : List ℕ) (x1 : State) → R m x1 → Told m (AreUnits x0) → Keeps m (give_made x0 x1)
+give_made_r m t s hr ht = made_text m t s (give (Text t)) hr (λ a u due e. ended m (Is (Text t)) (with_counts s a) u (value_end m _ (text_is m t (also m (λ q. made_is t q e) ht))))
 
 pub function_to_string_r : (m : Sizes) (x0 : Option Value) (x1 : State) → R m x1 → Keeps m (function_to_string x0 x1)
-function_to_string_r m (Some v) s hr = wanted m E3 (is_function s v) s _ hr (λ e. give_made_r m (codes "[function]") s hr (told m (tested (codes "[function]") refl)))
+function_to_string_r m (Some v) s hr = wanted m E3 (is_function s v) s _ hr (λ e. give_made_r m (codes "[function]") s hr (told m (units_tested (codes "[function]") refl)))
 function_to_string_r m None s hr = search (faulted)
 
 pub array_to_string_r : (m : Sizes) (x0 : ℕ) (x1 : ℕ) (x2 : State) → R m x2 → Keeps m (array_to_string x0 x1 x2)
@@ -261,37 +277,37 @@ low_radix (negsuc r) e n = absurd (no e)
     no : false ≡ true → ⊥
     no i = cc
 
-sign_is : (b : Bool) → IsText (if b then codes "-" else [])
-sign_is true = tested (codes "-") refl
+sign_is : (b : Bool) → AreUnits (if b then codes "-" else [])
+sign_is true = units_tested (codes "-") refl
 sign_is false = tt
 
-number_text_is : (v : Value) (r : ℤ) → is_radix r ≡ true → OfText v → IsText (number_text v r)
-number_text_is (Num z) r e h = both_texts _ _ (sign_is (is_negative z)) (digits_are (unsigned_abs r) false (low_radix r e) (unsigned_abs z))
-number_text_is Undefined r e h = to_text_is Undefined h
-number_text_is Null r e h = to_text_is Null h
-number_text_is (Truth b) r e h = to_text_is (Truth b) h
-number_text_is NaN r e h = to_text_is NaN h
-number_text_is (Text t) r e h = to_text_is (Text t) h
-number_text_is (Own n) r e h = to_text_is (Own n) h
-number_text_is (Host x) r e h = to_text_is (Host x) h
+number_text_is : (v : Value) (r : ℤ) → is_radix r ≡ true → IsOrdinaryValue v → AreUnits (number_text v r)
+number_text_is (Num z) r e h = both_units _ _ (sign_is (is_negative z)) (digits_are (unsigned_abs r) false (low_radix r e) (unsigned_abs z))
+number_text_is Undefined r e h = (to_text_is Undefined h).0
+number_text_is Null r e h = (to_text_is Null h).0
+number_text_is (Truth b) r e h = (to_text_is (Truth b) h).0
+number_text_is NaN r e h = (to_text_is NaN h).0
+number_text_is (Text t) r e h = (to_text_is (Text t) h).0
+number_text_is (Own n) r e h = (to_text_is (Own n) h).0
+number_text_is (Host x) r e h = (to_text_is (Host x) h).0
 
-pub in_radix_r : (m : Sizes) (x0 : Value) (x1 : Value) (x2 : State) → R m x2 → OfText x0 → Keeps m (in_radix x0 x1 x2)
-in_radix_r m v radix s hr hv = wanted m E4 (not (list_any is_object (radix ∷ []))) s _ hr (λ _. with_optional_r m (pos 10) radix 0 s _ hr (λ r. wanted m E7 (is_radix r) s _ hr (λ e. give_made_r m (number_text v r) s hr (told m (number_text_is v r e hv)))))
+pub in_radix_r : (m : Sizes) (x0 : Value) (x1 : Value) (x2 : State) → R m x2 → ValueIs m x0 → Keeps m (in_radix x0 x1 x2)
+in_radix_r m v radix s hr hv = wanted m E4 (not (list_any is_object (radix ∷ []))) s _ hr (λ _. with_optional_r m (pos 10) radix 0 s _ hr (λ r. wanted m E7 (is_radix r) s _ hr (λ e. give_made_r m (number_text v r) s hr (also m (number_text_is v r e) hv.text))))
 
-pub number_to_string_r : (m : Sizes) (x0 : Option Value) (x1 : Value) (x2 : State) → R m x2 → Keeps m (number_to_string x0 x1 x2)
-number_to_string_r m (Some NaN) radix s hr = in_radix_r m NaN radix s hr tt
-number_to_string_r m (Some (Num z)) radix s hr = in_radix_r m (Num z) radix s hr tt
-number_to_string_r m this radix s hr = search (faulted)
+pub number_to_string_r : (m : Sizes) (x0 : Option Value) (x1 : Value) (x2 : State) → R m x2 → MaybeIs m x0 → Keeps m (number_to_string x0 x1 x2)
+number_to_string_r m (Some NaN) radix s hr h1 = in_radix_r m NaN radix s hr (nan_is m)
+number_to_string_r m (Some (Num z)) radix s hr h1 = in_radix_r m (Num z) radix s hr h1.value
+number_to_string_r m this radix s hr h1 = search (faulted)
 
 pub boolean_to_string_r : (m : Sizes) (x0 : Option Value) (x1 : State) → R m x1 → Keeps m (boolean_to_string x0 x1)
-boolean_to_string_r m (Some (Truth b)) s hr = give_made_r m (to_text (Truth b)) s hr (told m (to_text_is (Truth b) tt))
+boolean_to_string_r m (Some (Truth b)) s hr = give_made_r m (to_text (Truth b)) s hr (told m (to_text_is (Truth b) tt).0)
 boolean_to_string_r m this s hr = search (faulted)
 
 pub prototype_native_r : (m : Sizes) (x0 : PrototypeNative) (x1 : Option Value) (x2 : List Value) (x3 : ℕ) (x4 : State) → R m x4 → MaybeIs m x1 → Keeps m (prototype_native x0 x1 x2 x3 x4)
 prototype_native_r m HasOwnProperty this vs d s hr h1 = has_own_property_r m this (nth 0 vs) s hr
-prototype_native_r m ObjectToString this vs d s hr h1 = on_object_r m this s _ hr (λ o. give_made_r m (codes "[object Object]") s hr (told m (tested (codes "[object Object]") refl)))
+prototype_native_r m ObjectToString this vs d s hr h1 = on_object_r m this s _ hr (λ o. give_made_r m (codes "[object Object]") s hr (told m (units_tested (codes "[object Object]") refl)))
 prototype_native_r m ArrayToString this vs d s hr h1 = on_array_r m this s _ hr h1 (λ n len ho hl. array_to_string_r m n len s hr)
 prototype_native_r m FunctionToString this vs d s hr h1 = function_to_string_r m this s hr
 prototype_native_r m TextToString this vs d s hr h1 = on_text_r m this s _ hr h1 (λ t ht. ended m _ s hr (value_end m _ (text_is m t ht)))
-prototype_native_r m NumberToString this vs d s hr h1 = number_to_string_r m this (nth 0 vs) s hr
+prototype_native_r m NumberToString this vs d s hr h1 = number_to_string_r m this (nth 0 vs) s hr h1
 prototype_native_r m BooleanToString this vs d s hr h1 = boolean_to_string_r m this s hr

@@ -1,4 +1,12 @@
 -- The natives of the page keep what is there, and so does each native.
+use Rattle.meaning_laws.proofs.Values.{text_told}
+use Rattle.meaning_laws.proofs.Units.{made_is}
+use Rattle.meaning_laws.specs.There.{OfCount}
+use Rattle.widget_meaning.specs.Limits.{past_numbers}
+use Rattle.widget_meaning.specs.Values.{E3}
+use Rattle.widget_meaning.specs.OwnState.{Kind, Object, Array, Function, Bunch, cell_at}
+use Rattle.widget_meaning.specs.NativeForms.{on_bunch}
+use Rattle.std.specs.Prelude.{pos}
 use Rattle.widget_meaning.specs.NativeForms.{numbered_pairs}
 use Rattle.std.specs.Str.{bytes_eq}
 use Rattle.std.specs.Prelude.{not, replicate, ℕ, ◌+◌, List, [], ◌∷◌, Bool, true, false, if◌then◌else◌, codes, Option, Some, None, length}
@@ -48,8 +56,8 @@ use Rattle.meaning_laws.proofs.Natives.{numbered_length}
 use Rattle.meaning_laws.proofs.Levels.{low_detached, height_relabelled}
 use Rattle.meaning_laws.proofs.Low.{IsLow, MayTake, low_put, low_copies, takes_still, target_takes, targets_take, both_true}
 use Rattle.meaning_laws.proofs.Written.{IsReady, IsOpen, low_text, low_new, open_freed, open_other, ready_valued, all_ready}
-use Rattle.meaning_laws.specs.Texts.{IsText, AreTexts, MaybeText, LabelHasTexts, PageHasTexts}
-use Rattle.meaning_laws.proofs.Units.{tested}
+use Rattle.meaning_laws.specs.Texts.{AreUnits, AreAllUnits, MaybeUnits, IsText, LabelHasTexts, PageHasTexts}
+use Rattle.meaning_laws.proofs.Units.{units_tested}
 use Rattle.widget_meaning.specs.Styles.{style_pairs}
 use Rattle.meaning_laws.proofs.Styles.{style_pairs_are, style_value_is}
 use Rattle.meaning_laws.proofs.Labels.{MaybeLabel, attribute_set, attribute_found, tag_found, or_empty, styled_is, page_grafted, page_subtree, page_behind, page_freed, page_all_freed, page_all_moved, page_relabelled, page_numbered, page_copied, page_subtrees, label_is, texts_are}
@@ -62,7 +70,7 @@ use Rattle.meaning_laws.proofs.Texts.{text_native_r}
 use Rattle.meaning_laws.proofs.Adsafe.{adsafe_native_r}
 use Rattle.meaning_laws.specs.There.{Sizes, Grows, Told, CellFits, ValueIs, ValuesAre, MaybeIs, NodeIs, NodesAre, OfNode, CellIs, KeptIs}
 use Rattle.meaning_laws.proofs.Later.{told_later, value_later, values_later, nodes_later}
-use Rattle.meaning_laws.proofs.Values.{told, also, own_value, text_told, numbered_names, undefined_is, truth_is, num_is, text_is, no_values, more_values, nth_is, no_value, or_undefined, numbered_are, value_end, call_job}
+use Rattle.meaning_laws.proofs.Values.{told, also, own_value, units_told, numbered_names, undefined_is, truth_is, num_is, text_is, no_values, more_values, nth_is, no_value, or_undefined, numbered_are, value_end, call_job}
 use Rattle.meaning_laws.proofs.Steps.{R, Stands, Keeps, ended, job, value, chain, charged, paid, made_text, faulted, wanted, found, lowered, born_then}
 
 module _ (m : Sizes) where
@@ -114,24 +122,24 @@ module _ (m : Sizes) where
   label_told : (s : State) (n : ℕ) → R m s → Told m (MaybeLabel (label_of n s.own.forest))
   label_told s n hr = also m (label_is n s.own.forest) hr.there.labels
 
-  attribute_told : (s : State) (n : ℕ) (x : List ℕ) → R m s → Told m (IsText (unwrap_or (attribute s n x) []))
+  attribute_told : (s : State) (n : ℕ) (x : List ℕ) → R m s → Told m (AreUnits (unwrap_or (attribute s n x) []))
   attribute_told s n x hr = also m (λ q. or_empty (attribute s n x) (attribute_found x (label_of n s.own.forest) q)) (label_told s n hr)
 
-  tag_told : (s : State) (n : ℕ) → R m s → Told m (IsText (tag_of s n))
+  tag_told : (s : State) (n : ℕ) → R m s → Told m (AreUnits (tag_of s n))
   tag_told s n hr = also m (λ q. or_empty _ (tag_found (label_of n s.own.forest) q)) (label_told s n hr)
 
-  value_told : (s : State) (n : ℕ) → R m s → Told m (IsText (value_of s n))
+  value_told : (s : State) (n : ℕ) → R m s → Told m (AreUnits (value_of s n))
   value_told s n hr = by (is_input s n)
     where
-      by : (b : Bool) → Told m (IsText (if b then unwrap_or (attribute s n (codes "value")) [] else texts_of (subtree n s.own.forest)))
+      by : (b : Bool) → Told m (AreUnits (if b then unwrap_or (attribute s n (codes "value")) [] else texts_of (subtree n s.own.forest)))
       by true = attribute_told s n (codes "value") hr
       by false = also m (λ q. texts_are (subtree n s.own.forest) (page_subtree n s.own.forest q)) hr.there.labels
 
-  first_told : (s : State) (ns : List ℕ) (x : List ℕ) → R m s → Told m (IsText (first_attribute s ns x))
+  first_told : (s : State) (ns : List ℕ) (x : List ℕ) → R m s → Told m (AreUnits (first_attribute s ns x))
   first_told s [] x hr = told m tt
   first_told s (n ∷ ns) x hr = attribute_told s n x hr
 
-  mark_told : (s : State) (ns : List ℕ) → R m s → Told m (IsText (first_mark s ns))
+  mark_told : (s : State) (ns : List ℕ) → R m s → Told m (AreUnits (first_mark s ns))
   mark_told s [] hr = told m tt
   mark_told s (n ∷ ns) hr = (hr.there.kept n).mark
 
@@ -173,7 +181,7 @@ module _ (m : Sizes) where
       (grown_once s.own.forest us (length s.own.kept) t None (now_page s h)) (low_copies t (length s.own.kept) ms s.own.forest h.there.low k)
       (also m (λ q. page_grafted t None (numbered (length s.own.kept) us) s.own.forest (page_numbered (length s.own.kept) us (page_copied (subtrees ms s.own.forest) (page_subtrees ms s.own.forest q))) q) h.there.labels)
 
-  text_node_stands : (n : ℕ) (t : List ℕ) (s : State) → R m s → IsOpen t n s.own.forest → Told m (IsText t) → Stands m (with_text_node n t s)
+  text_node_stands : (n : ℕ) (t : List ℕ) (s : State) → R m s → IsOpen t n s.own.forest → Told m (AreUnits t) → Stands m (with_text_node n t s)
   text_node_stands n [] s h w ht = stands m s h
   text_node_stands n (u ∷ us) s h w ht =
       room_stands s (grafted n None (Node (length s.own.kept) (TextOf (u ∷ us)) End End) s.own.forest) 1 h
@@ -186,7 +194,7 @@ module _ (m : Sizes) where
       (record { holds = λ e. page_behind (Node (length s.own.kept) l End End) s.own.forest (hl.holds e, (tt, tt)) (h.there.labels.holds e) })
 
   -- by the label that a node has: an `input`, a text node, another element
-  valued_at : (t : List ℕ) (s : State) (n : ℕ) → R m s → IsReady t n s.own.forest → Told m (IsText t) → Stands m (valued t s n)
+  valued_at : (t : List ℕ) (s : State) (n : ℕ) → R m s → IsReady t n s.own.forest → Told m (AreUnits t) → Stands m (valued t s n)
   valued_at t s n h r ht = by_own (is_input s n) (is_text_node s n) refl refl
     where
       by_own : (b c : Bool) → is_input s n ≡ b → is_text_node s n ≡ c
@@ -206,7 +214,7 @@ appended_kept m (p ∷ q ∷ ns) ms s h t hn hm = let z : Stands m (with_copies 
     all_take [] a b = tt
     all_take (u ∷ us) a b = (takes_still u p (length s.own.kept) ms (copied (subtrees ms s.own.forest)) s.own.forest b.0 (nodes_below m s h ms hm.each) t.0 a.0, all_take us a.1 b.1)
 
-each_valued : (m : Sizes) (t ns : List ℕ) (s : State) → R m s → AllByRecursion (λ n. IsReady t n s.own.forest) ns → NodesAre m ns → Told m (IsText t) → Stands m (fold (valued t) s ns)
+each_valued : (m : Sizes) (t ns : List ℕ) (s : State) → R m s → AllByRecursion (λ n. IsReady t n s.own.forest) ns → NodesAre m ns → Told m (AreUnits t) → Stands m (fold (valued t) s ns)
 each_valued m t [] s h r hn ht = stands m s h
 each_valued m t (n ∷ ns) s h r hn ht = let z : Stands m (valued t s n) = valued_at m t s n h r.0 ht in
     higher m z.size _ z.grows (each_valued z.size t ns (valued t s n) z.fine (all_ready ns r.1 (nodes_below m s h ns hn.each.1)) (nodes_later m z.size ns z.grows (record { each = hn.each.1 })) (told_later m z.size _ z.grows ht))
@@ -234,7 +242,7 @@ bunches_hosted : (ns : List ℕ) → AllByRecursion Hosted (bunches ns)
 bunches_hosted ns = each_made Hosted (λ n. new_bunch (n ∷ [])) (λ n. bunch_hosted (n ∷ [])) ns
 
 bunches_fit : (k : ℕ) (ns : List ℕ) → AllByRecursion (CellFits k) (bunches ns)
-bunches_fit k ns = each_made (CellFits k) (λ n. new_bunch (n ∷ [])) (λ n. record { room = omega arith; len = tt }) ns
+bunches_fit k ns = each_made (CellFits k) (λ n. new_bunch (n ∷ [])) (λ n. record { room = omega arith; len = tt; count = omega arith }) ns
 
 bunches_kept : (m : Sizes) (ns : List ℕ) (s : State) → R m s → NodesAre (with_more m s (length (bunches ns))) ns → R (with_more m s (length (bunches ns))) (fold with_bunch s ns)
 bunches_kept m ns s h q = subst (λ t. R (with_more m s (length (bunches ns))) t) (sym (bunches_fold ns s))
@@ -248,7 +256,7 @@ exploded_kept : (m : Sizes) (ns : List ℕ) (s : State) → R m s → NodesAre (
 exploded_kept m ns s h q l z =
     let n : Sizes = with_more m s (length (bunches ns) + 1) in
     let c : Cell = new_array (length ns) (numbered_pairs 0 (bunches_from (length s.own.heap + 1) ns)) in
-    let array_fits : CellFits s.own.counts.slots c = record { room = omega (arith, l, numbered_length 0 (bunches_from (length s.own.heap + 1) ns), length-map (range_with_len (length s.own.heap + 1) (length ns)) Own, range_length (length s.own.heap + 1) (length ns)); len = omega (arith, z) } in
+    let array_fits : CellFits s.own.counts.slots c = record { room = omega (arith, l, numbered_length 0 (bunches_from (length s.own.heap + 1) ns), length-map (range_with_len (length s.own.heap + 1) (length ns)) Own, range_length (length s.own.heap + 1) (length ns)); len = omega (arith, z); count = tt } in
     let one : suc (length (bunches ns)) ≡ length (bunches ns) + 1 = omega arith in
     subst (λ t. R n t) (sym (bunches_fold ns (with_new_cell s c)))
     (subst (λ k. AllByRecursion (CellIs (with_more m s k)) (c ∷ bunches ns) → R (with_more m s k) (fold with_new_cell s (c ∷ bunches ns))) one
@@ -263,8 +271,8 @@ want_one_r m (n ∷ []) s k hr hn f0 = f0 n hn.each.0
 want_one_r m [] s k hr hn f0 = search (faulted)
 want_one_r m (n ∷ i ∷ ns) s k hr hn f0 = search (faulted)
 
-pub give_page_text_r : (m : Sizes) (x0 : ℕ) (x1 : List ℕ) (x2 : State) → R m x2 → Told m (IsText x1) → Keeps m (give_page_text x0 x1 x2)
-give_page_text_r m extra t s hr ht = charged m _ s _ hr (made_text m t s (give (Text t)) hr (λ a u due. ended m (Is (Text t)) (with_counts s a) u (value_end m _ (text_is m t ht))))
+pub give_page_text_r : (m : Sizes) (x0 : ℕ) (x1 : List ℕ) (x2 : State) → R m x2 → Told m (AreUnits x1) → Keeps m (give_page_text x0 x1 x2)
+give_page_text_r m extra t s hr ht = charged m _ s _ hr (made_text m t s (give (Text t)) hr (λ a u due e. ended m (Is (Text t)) (with_counts s a) u (value_end m _ (text_is m t (also m (λ q. made_is t q e) ht)))))
 
 pub query_steps_r : (m : Sizes) (x0 : Option (List Step)) (x1 : List ℕ) (x2 : State) → R m x2 → NodesAre m x1 → Keeps m (query_steps x0 x1 x2)
 query_steps_r m None ns s hr hn = search (faulted)
@@ -278,7 +286,7 @@ get_value_r m [] s hr = ended m _ s hr (value_end m _ (undefined_is m))
 get_value_r m (n ∷ ns) s hr = give_page_text_r m _ _ s hr (value_told m s n hr)
 
 pub get_values_r : (m : Sizes) (x0 : List ℕ) (x1 : State) → R m x1 → Keeps m (get_values x0 x1)
-get_values_r m ns s hr = charged m _ s _ hr (give_texts_r m (map (value_of s) ns) s hr (record { holds = λ e. each_made IsText (value_of s) (λ n. (value_told m s n hr).holds e) ns }))
+get_values_r m ns s hr = charged m _ s _ hr (give_texts_r m (map (value_of s) ns) s hr (record { holds = λ e. each_made AreUnits (value_of s) (λ n. (value_told m s n hr).holds e) ns }))
 
 pub get_attribute_r : (m : Sizes) (x0 : List ℕ) (x1 : List ℕ) (x2 : State) → R m x2 → Keeps m (get_attribute x0 x1 x2)
 get_attribute_r m ns x s hr = give_page_text_r m _ _ s hr (first_told m s ns x hr)
@@ -301,33 +309,59 @@ explode_r m ns s hr hn = charged m _ s _ hr (paid m _ s (λ t. give (Own (length
 pub get_parent_r : (m : Sizes) (x0 : List ℕ) (x1 : State) → R m x1 → Keeps m (get_parent x0 x1)
 get_parent_r m ns s hr = wanted m E10 (list_all (has_open_parent s) ns) s _ hr (λ _. charged m _ s _ hr (make_bunch_r m _ s give hr (parents_are m s hr ns) (λ n g v t u w. ended n (Is v) t u (value_end n v w))))
 
-tag_text_told : (m : Sizes) (s : State) (n : ℕ) → R m s → Told m (IsText (if is_text_node s n then codes "#text" else tag_of s n))
-tag_text_told m s n hr = by (is_text_node s n)
+tag_units_told : (m : Sizes) (s : State) (n : ℕ) → R m s → Told m (AreUnits (if is_text_node s n then codes "#text" else tag_of s n))
+tag_units_told m s n hr = by (is_text_node s n)
   where
-    by : (b : Bool) → Told m (IsText (if b then codes "#text" else tag_of s n))
-    by true = told m (tested (codes "#text") refl)
+    by : (b : Bool) → Told m (AreUnits (if b then codes "#text" else tag_of s n))
+    by true = told m (units_tested (codes "#text") refl)
     by false = tag_told m s n hr
 
 pub get_tag_name_r : (m : Sizes) (x0 : List ℕ) (x1 : State) → R m x1 → Keeps m (get_tag_name x0 x1)
 get_tag_name_r m [] s hr = ended m _ s hr (value_end m _ (undefined_is m))
-get_tag_name_r m (n ∷ ns) s hr = give_page_text_r m _ _ s hr (tag_text_told m s n hr)
+get_tag_name_r m (n ∷ ns) s hr = give_page_text_r m _ _ s hr (tag_units_told m s n hr)
 
-pub read_method_r : (m : Sizes) (x0 : ReadNative) (x1 : List ℕ) (x2 : List Value) (x3 : State) → R m x3 → NodesAre m x1 → Keeps m (read_method x0 x1 x2 x3)
-read_method_r m Query ns vs s hr hn = query_r m ns (nth 0 vs) s hr hn
-read_method_r m GetValue ns vs s hr hn = get_value_r m ns s hr
-read_method_r m GetValues ns vs s hr hn = get_values_r m ns s hr
-read_method_r m GetStyle ns vs s hr hn = get_style_r m ns (nth 0 vs) s hr
-read_method_r m GetClass ns vs s hr hn = get_attribute_r m ns (codes "class") s hr
-read_method_r m GetTitle ns vs s hr hn = get_attribute_r m ns (codes "title") s hr
-read_method_r m GetCheck ns vs s hr hn = charged m _ s _ hr (ended m _ s hr (value_end m _ (truth_is m _)))
-read_method_r m Explode ns vs s hr hn = explode_r m ns s hr hn
-read_method_r m Count ns vs s hr hn = charged m _ s _ hr (ended m _ s hr (value_end m _ (num_is m _)))
-read_method_r m GetParent ns vs s hr hn = get_parent_r m ns s hr
-read_method_r m GetTagName ns vs s hr hn = get_tag_name_r m ns s hr
-read_method_r m GetMark ns vs s hr hn = give_page_text_r m _ _ s hr (mark_told m s ns hr)
+counted_number : (n : ℕ) → n ≤ max_slots → n < past_numbers
+counted_number n h = omega (arith, h)
+
+count_of : (k : Kind) (ns : List ℕ) → OfCount k → bunch_nodes (Some k) ≡ Some ns → length ns ≤ max_slots
+count_of (Bunch us) ns h e = subst (λ xs. length xs ≤ max_slots) (same us ns e) h
+  where
+    same : (xs ys : List ℕ) → Some xs ≡ Some ys → xs ≡ ys
+    same xs ys i = cc
+count_of Object ns h e = cc
+count_of (Array n) ns h e = cc
+count_of (Function f o) ns h e = cc
+
+bunch_count : (m : Sizes) (s : State) → R m s → (v : Value) (ns : List ℕ) → bunch_nodes (kind_of s v) ≡ Some ns → length ns ≤ max_slots
+bunch_count m s hr Undefined ns e = cc
+bunch_count m s hr Null ns e = cc
+bunch_count m s hr (Truth b) ns e = cc
+bunch_count m s hr NaN ns e = cc
+bunch_count m s hr (Num z) ns e = cc
+bunch_count m s hr (Text t) ns e = cc
+bunch_count m s hr (Host h) ns e = cc
+bunch_count m s hr (Own n) ns e = count_of (cell_at s n).kind ns (hr.there.fits n).count e
+
+pub read_method_r : (m : Sizes) (x0 : ReadNative) (x1 : List ℕ) (x2 : List Value) (x3 : State) → R m x3 → NodesAre m x1 → length x1 ≤ max_slots → Keeps m (read_method x0 x1 x2 x3)
+read_method_r m Query ns vs s hr hn hc = query_r m ns (nth 0 vs) s hr hn
+read_method_r m GetValue ns vs s hr hn hc = get_value_r m ns s hr
+read_method_r m GetValues ns vs s hr hn hc = get_values_r m ns s hr
+read_method_r m GetStyle ns vs s hr hn hc = get_style_r m ns (nth 0 vs) s hr
+read_method_r m GetClass ns vs s hr hn hc = get_attribute_r m ns (codes "class") s hr
+read_method_r m GetTitle ns vs s hr hn hc = get_attribute_r m ns (codes "title") s hr
+read_method_r m GetCheck ns vs s hr hn hc = charged m _ s _ hr (ended m _ s hr (value_end m _ (truth_is m _)))
+read_method_r m Explode ns vs s hr hn hc = explode_r m ns s hr hn
+read_method_r m Count ns vs s hr hn hc = charged m _ s _ hr (ended m _ s hr (value_end m _ (num_is m (pos (length ns)) (told m (counted_number (length ns) hc)))))
+read_method_r m GetParent ns vs s hr hn hc = get_parent_r m ns s hr
+read_method_r m GetTagName ns vs s hr hn hc = get_tag_name_r m ns s hr
+read_method_r m GetMark ns vs s hr hn hc = give_page_text_r m _ _ s hr (mark_told m s ns hr)
+
+read_on : (m : Sizes) (w : ReadNative) (this : Option Value) (vs : List Value) (s : State) → R m s → Keeps m (on_bunch this s (λ ns. read_method w ns vs s))
+read_on m w None vs s hr = faulted m E3 s hr
+read_on m w (Some v) vs s hr = found m E3 (bunch_nodes (kind_of s v)) s (λ ns. read_method w ns vs s) hr (λ ns e. read_method_r m w ns vs s hr (bunch_is m s v ns hr e) (bunch_count m s hr v ns e))
 
 pub read_native_r : (m : Sizes) (x0 : ReadNative) (x1 : Option Value) (x2 : List Value) (x3 : ℕ) (x4 : State) → R m x4 → Keeps m (read_native x0 x1 x2 x3 x4)
-read_native_r m w this vs d s hr = on_bunch_r m this s _ hr (λ ns hn. read_method_r m w ns vs s hr hn)
+read_native_r m w this vs d s hr = read_on m w this vs s hr
 
 pub alter_r : (m : Sizes) (extra : ℕ) (b : Value) (s : State) (f : State → State) → R m s → ValueIs m b → ((t : State) → R m t → Stands m (f t)) → Keeps m (alter extra b s f)
 alter_r m extra b s f hr hb f0 = charged m _ s _ hr (ended_at m (Is b) (f s) (f0 s hr) (λ n g. value_end n b (value_later m n b g hb)))
@@ -356,21 +390,21 @@ replace_r m ns v b s hr h2 hn = want_one_r m ns s _ hr hn (λ n k. want_bunch_r 
     charged m 1 s _ hr (ended m (Is b) (with_forest s (detached (fold (moved p (Some n)) s.own.forest ms) n))
     (replaced_kept m p n ms s hr (target_takes s m.nodes p ms hr.there.page (both_true (not (has_number ms n)) (is_target s ms p) x).1)) (value_end m b h2))))))
 
-pub set_value_r : (m : Sizes) (x0 : List ℕ) (x1 : List ℕ) (x2 : Value) (x3 : State) → R m x3 → ValueIs m x2 → NodesAre m x0 → Told m (IsText x1) → Keeps m (set_value x0 x1 x2 x3)
+pub set_value_r : (m : Sizes) (x0 : List ℕ) (x1 : List ℕ) (x2 : Value) (x3 : State) → R m x3 → ValueIs m x2 → NodesAre m x0 → Told m (AreUnits x1) → Keeps m (set_value x0 x1 x2 x3)
 set_value_r m ns t b s hr h2 hn ht = wanted m E10 (list_all (is_value_target s t) ns) s _ hr (λ e. charged m (length ns) s _ hr (paid m (cost (length ns * length t) 0 0 (count_by (has_new_text s t) ns)) s (λ u. give b (fold (valued t) u ns)) hr
     (λ a u due. ended_at m (Is b) (fold (valued t) (with_counts s a) ns) (each_valued m t ns (with_counts s a) u (all_ready s t ns (λ n. hr.there.page.once n) e) hn ht) (λ n g. value_end n b (value_later m n b g h2)))))
 
-pub set_style_r : (m : Sizes) (x0 : List ℕ) (x1 : List ℕ) (x2 : List ℕ) (x3 : Value) (x4 : State) → R m x4 → ValueIs m x3 → Told m (IsText x1) → Told m (IsText x2) → Keeps m (set_style x0 x1 x2 x3 x4)
+pub set_style_r : (m : Sizes) (x0 : List ℕ) (x1 : List ℕ) (x2 : List ℕ) (x3 : Value) (x4 : State) → R m x4 → ValueIs m x3 → Told m (AreUnits x1) → Told m (AreUnits x2) → Keeps m (set_style x0 x1 x2 x3 x4)
 set_style_r m ns p v b s hr h3 hp hv = wanted m E4 (is_listed p && (nat_eq (length v) 0 || is_value v)) s _ hr (λ e. wanted m E10 (list_all (is_element s) ns) s _ hr (λ _. alter_for_r m (length ns) (length ns * length v) 0 b s (λ t. fold (relabel (styled p v)) t ns) hr h3 (λ t u. stands m _ (fold_kept m (relabel (styled p v)) (λ z n y. relabel_kept m (styled p v) z n y (record { holds = λ e l k. styled_is p v l (hp.holds e) (hv.holds e) k })) ns t u))))
 
-pub set_attribute_r : (m : Sizes) (x0 : List ℕ) (x1 : List ℕ) (x2 : List ℕ) (x3 : Value) (x4 : State) → R m x4 → ValueIs m x3 → Told m (IsText x2) → Keeps m (set_attribute x0 x1 x2 x3 x4)
+pub set_attribute_r : (m : Sizes) (x0 : List ℕ) (x1 : List ℕ) (x2 : List ℕ) (x3 : Value) (x4 : State) → R m x4 → ValueIs m x3 → Told m (AreUnits x2) → Keeps m (set_attribute x0 x1 x2 x3 x4)
 set_attribute_r m ns x v b s hr h3 hv = wanted m E10 (list_all (is_element s) ns) s _ hr (λ _. alter_for_r m (length ns) (length ns * length v) 0 b s (λ t. fold (relabel (with_attribute x (Some v))) t ns) hr h3 (λ t u. stands m _ (fold_kept m (relabel (with_attribute x (Some v))) (λ z n y. relabel_kept m (with_attribute x (Some v)) z n y (record { holds = λ e l k. attribute_set x (Some v) l (hv.holds e) k })) ns t u)))
 
-flag_is : (x : List ℕ) (b : Bool) → IsText x → MaybeText (if b then Some x else None)
+flag_is : (x : List ℕ) (b : Bool) → AreUnits x → MaybeUnits (if b then Some x else None)
 flag_is x true h = h
 flag_is x false h = tt
 
-pub set_flag_r : (m : Sizes) (x0 : (ℕ → Bool)) (x1 : List ℕ) (x2 : List ℕ) (x3 : Bool) (x4 : Value) (x5 : State) → R m x5 → ValueIs m x4 → IsText x2 → Keeps m (set_flag x0 x1 x2 x3 x4 x5)
+pub set_flag_r : (m : Sizes) (x0 : (ℕ → Bool)) (x1 : List ℕ) (x2 : List ℕ) (x3 : Bool) (x4 : Value) (x5 : State) → R m x5 → ValueIs m x4 → AreUnits x2 → Keeps m (set_flag x0 x1 x2 x3 x4 x5)
 set_flag_r m test ns x is_set b s hr h4 hx = wanted m E10 (list_all test ns) s _ hr (λ _. alter_each_r m (relabel (with_attribute x (if is_set then Some x else None))) ns b s hr h4
     (λ z n y. relabel_kept m (with_attribute x (if is_set then Some x else None)) z n y (told m (λ l k. attribute_set x (if is_set then Some x else None) l (flag_is x is_set hx) k))))
 
@@ -415,19 +449,19 @@ write_method_r m Append ns b vs d s hr h2 h3 hn = append_r m ns (nth 0 vs) b s h
 write_method_r m Remove ns b vs d s hr h2 h3 hn = remove_r m ns b s hr h2
 write_method_r m Empty ns b vs d s hr h2 h3 hn = alter_each_r m emptied ns b s hr h2 (emptied_kept m)
 write_method_r m Replace ns b vs d s hr h2 h3 hn = replace_r m ns (nth 0 vs) b s hr h2 hn
-write_method_r m SetValue ns b vs d s hr h2 h3 hn = wanted m E4 (not (list_any is_object (nth 0 vs ∷ []))) s _ hr (λ _. set_value_r m ns (to_text (nth 0 vs)) b s hr h2 hn (text_told m (nth 0 vs) (nth_is m 0 vs h3)))
-write_method_r m SetStyle ns b vs d s hr h2 h3 hn = wanted m E4 (not (list_any is_object (nth 0 vs ∷ nth 1 vs ∷ []))) s _ hr (λ _. set_style_r m ns (to_text (nth 0 vs)) (to_text (nth 1 vs)) b s hr h2 (text_told m (nth 0 vs) (nth_is m 0 vs h3)) (text_told m (nth 1 vs) (nth_is m 1 vs h3)))
-write_method_r m SetClass ns b vs d s hr h2 h3 hn = wanted m E4 (not (list_any is_object (nth 0 vs ∷ []))) s _ hr (λ _. wanted m E4 (is_plain_words (to_text (nth 0 vs))) s _ hr (λ e. set_attribute_r m ns (codes "class") (to_text (nth 0 vs)) b s hr h2 (text_told m (nth 0 vs) (nth_is m 0 vs h3))))
-write_method_r m SetTitle ns b vs d s hr h2 h3 hn = wanted m E4 (not (list_any is_object (nth 0 vs ∷ []))) s _ hr (λ _. set_attribute_r m ns (codes "title") (to_text (nth 0 vs)) b s hr h2 (text_told m (nth 0 vs) (nth_is m 0 vs h3)))
-write_method_r m SetCheck ns b vs d s hr h2 h3 hn = set_flag_r m (is_input s) ns (codes "checked") (is_true (nth 0 vs)) b s hr h2 (tested (codes "checked") refl)
-write_method_r m SetEnabled ns b vs d s hr h2 h3 hn = set_flag_r m (is_field s) ns (codes "disabled") (not (is_true (nth 0 vs))) b s hr h2 (tested (codes "disabled") refl)
+write_method_r m SetValue ns b vs d s hr h2 h3 hn = wanted m E4 (not (list_any is_object (nth 0 vs ∷ []))) s _ hr (λ _. set_value_r m ns (to_text (nth 0 vs)) b s hr h2 hn (units_told m (nth 0 vs) (nth_is m 0 vs h3)))
+write_method_r m SetStyle ns b vs d s hr h2 h3 hn = wanted m E4 (not (list_any is_object (nth 0 vs ∷ nth 1 vs ∷ []))) s _ hr (λ _. set_style_r m ns (to_text (nth 0 vs)) (to_text (nth 1 vs)) b s hr h2 (units_told m (nth 0 vs) (nth_is m 0 vs h3)) (units_told m (nth 1 vs) (nth_is m 1 vs h3)))
+write_method_r m SetClass ns b vs d s hr h2 h3 hn = wanted m E4 (not (list_any is_object (nth 0 vs ∷ []))) s _ hr (λ _. wanted m E4 (is_plain_words (to_text (nth 0 vs))) s _ hr (λ e. set_attribute_r m ns (codes "class") (to_text (nth 0 vs)) b s hr h2 (units_told m (nth 0 vs) (nth_is m 0 vs h3))))
+write_method_r m SetTitle ns b vs d s hr h2 h3 hn = wanted m E4 (not (list_any is_object (nth 0 vs ∷ []))) s _ hr (λ _. set_attribute_r m ns (codes "title") (to_text (nth 0 vs)) b s hr h2 (units_told m (nth 0 vs) (nth_is m 0 vs h3)))
+write_method_r m SetCheck ns b vs d s hr h2 h3 hn = set_flag_r m (is_input s) ns (codes "checked") (is_true (nth 0 vs)) b s hr h2 (units_tested (codes "checked") refl)
+write_method_r m SetEnabled ns b vs d s hr h2 h3 hn = set_flag_r m (is_field s) ns (codes "disabled") (not (is_true (nth 0 vs))) b s hr h2 (units_tested (codes "disabled") refl)
 write_method_r m Focus ns b vs d s hr h2 h3 hn = focus_r m ns b s hr h2 hn
 write_method_r m Blur ns b vs d s hr h2 h3 hn = blur_r m ns b s hr h2
 write_method_r m On ns b vs d s hr h2 h3 hn = wanted m E4 (not (list_any is_object (nth 0 vs ∷ []))) s _ hr (λ _. listen_r m ns (to_text (nth 0 vs)) (nth 1 vs) b s hr (nth_is m 1 vs h3) h2)
 write_method_r m Off ns b vs d s hr h2 h3 hn = hush_r m ns (nth 0 vs) b s hr h2
 write_method_r m Fire ns b vs d s hr h2 h3 hn = wanted m E4 (not (list_any is_object (nth 0 vs ∷ []))) s _ hr (λ _. fire_r m ns (to_text (nth 0 vs)) b d s hr h2 hn (text_told m (nth 0 vs) (nth_is m 0 vs h3)))
 write_method_r m Each ns b vs d s hr h2 h3 hn = each_r m ns (nth 0 vs) b d s hr (nth_is m 0 vs h3) h2 hn
-write_method_r m SetMark ns b vs d s hr h2 h3 hn = wanted m E4 (not (list_any is_object (nth 0 vs ∷ []))) s _ hr (λ _. each_change_r m (λ k. record k { mark = to_text (nth 0 vs) }) ns b s hr h2 (λ k q. record { handlers = q.handlers; mark = (text_told m (nth 0 vs) (nth_is m 0 vs h3)) }))
+write_method_r m SetMark ns b vs d s hr h2 h3 hn = wanted m E4 (not (list_any is_object (nth 0 vs ∷ []))) s _ hr (λ _. each_change_r m (λ k. record k { mark = to_text (nth 0 vs) }) ns b s hr h2 (λ k q. record { handlers = q.handlers; mark = (units_told m (nth 0 vs) (nth_is m 0 vs h3)) }))
 write_method_r m Protect ns b vs d s hr h2 h3 hn = each_change_r m (λ k. record k { is_protected = true }) ns b s hr h2 (λ k q. record { handlers = q.handlers; mark = q.mark })
 
 pub write_native_r : (m : Sizes) (x0 : WriteNative) (x1 : Option Value) (x2 : List Value) (x3 : ℕ) (x4 : State) → R m x4 → MaybeIs m x1 → ValuesAre m x2 → Keeps m (write_native x0 x1 x2 x3 x4)
@@ -440,27 +474,27 @@ give_node_r m l units s hr hl = paid m (cost units 1 2 1) s (λ t. give (Own (le
     let n : Sizes = record { objects = m.objects; nodes = length ks; texts = m.texts } in
     lowered m n _ (room_grows m s.own.heap s.own.scopes s.own.kept s.own.timers s.own.forest s.own.focus a.slots 1 u)
     (born_then n (new_bunch (length s.own.kept ∷ [])) (with_node l t) give (node_kept m l t u hl)
-    (bunch_cell n _ (record { each = (record { born = omega (arith, length-append s.own.kept (replicate 1 nothing_kept)) }, tt) })) tt (record { room = omega arith; len = tt })
+    (bunch_cell n _ (record { each = (record { born = omega (arith, length-append s.own.kept (replicate 1 nothing_kept)) }, tt) })) tt (record { room = omega arith; len = tt; count = omega arith })
     (λ k g v y z w. ended k (Is v) y z (value_end k v w))))
 
-pub dom_tag_r : (m : Sizes) (x0 : List ℕ) (x1 : List (List ℕ)) (x2 : State) → R m x2 → Told m (IsText x0) → Told m (AreTexts x1) → Keeps m (dom_tag x0 x1 x2)
+pub dom_tag_r : (m : Sizes) (x0 : List ℕ) (x1 : List (List ℕ)) (x2 : State) → R m x2 → Told m (AreUnits x0) → Told m (AreAllUnits x1) → Keeps m (dom_tag x0 x1 x2)
 dom_tag_r m tag v s hr ht hv = wanted m E4 (is_listed_tag tag && list_all is_plain_words v) s _ hr (λ e. give_node_r m _ (sum_by length v) s hr
-    (record { holds = λ i. (ht.holds i, each_mapped {A = List ℕ} {B = Attribute} IsText (λ a. IsText a.1) (λ t. (codes "type", t)) (λ t q. q) v (hv.holds i)) }))
+    (record { holds = λ i. (ht.holds i, each_mapped {A = List ℕ} {B = Attribute} AreUnits (λ a. AreUnits a.1) (λ t. (codes "type", t)) (λ t q. q) v (hv.holds i)) }))
 
-given_told : (m : Sizes) (v : Value) → ValueIs m v → Told m (AreTexts (given_text v))
+given_told : (m : Sizes) (v : Value) → ValueIs m v → Told m (AreAllUnits (given_text v))
 given_told m Undefined h = told m tt
-given_told m Null h = also m (λ q. (q, tt)) (text_told m Null h)
-given_told m (Truth b) h = also m (λ q. (q, tt)) (text_told m (Truth b) h)
-given_told m NaN h = also m (λ q. (q, tt)) (text_told m NaN h)
-given_told m (Num z) h = also m (λ q. (q, tt)) (text_told m (Num z) h)
-given_told m (Text t) h = also m (λ q. (q, tt)) (text_told m (Text t) h)
-given_told m (Own n) h = also m (λ q. (q, tt)) (text_told m (Own n) h)
-given_told m (Host x) h = also m (λ q. (q, tt)) (text_told m (Host x) h)
+given_told m Null h = also m (λ q. (q, tt)) (units_told m Null h)
+given_told m (Truth b) h = also m (λ q. (q, tt)) (units_told m (Truth b) h)
+given_told m NaN h = also m (λ q. (q, tt)) (units_told m NaN h)
+given_told m (Num z) h = also m (λ q. (q, tt)) (units_told m (Num z) h)
+given_told m (Text t) h = also m (λ q. (q, tt)) (units_told m (Text t) h)
+given_told m (Own n) h = also m (λ q. (q, tt)) (units_told m (Own n) h)
+given_told m (Host x) h = also m (λ q. (q, tt)) (units_told m (Host x) h)
 
 pub append_to_root_r : (m : Sizes) (x0 : List ℕ) (x1 : State) → R m x1 → MayTake x0 x1.own.forest root → Keeps m (append_to_root x0 x1)
 append_to_root_r m ms s hr ht = charged m (size (subtrees ms s.own.forest)) s _ hr
     (paid m (cost 0 1 2 0) s (λ t. give (Own (length t.own.heap)) (with_new_cell (appended (root ∷ []) ms t) (new_bunch (root ∷ [])))) hr
-    (λ a u due. born_then m (new_bunch (root ∷ [])) (appended (root ∷ []) ms (with_counts s a)) give (put_kept m root ms (with_counts s a) u ht) (bunch_cell m _ (record { each = (hr.there.root, tt) })) tt (record { room = omega arith; len = tt })
+    (λ a u due. born_then m (new_bunch (root ∷ [])) (appended (root ∷ []) ms (with_counts s a)) give (put_kept m root ms (with_counts s a) u ht) (bunch_cell m _ (record { each = (hr.there.root, tt) })) tt (record { room = omega arith; len = tt; count = omega arith })
     (λ k g v y z w. ended k (Is v) y z (value_end k v w))))
 
 pub dom_append_r : (m : Sizes) (x0 : Value) (x1 : State) → R m x1 → Keeps m (dom_append x0 x1)
@@ -469,12 +503,12 @@ dom_append_r m v s hr = want_bunch_r m v s _ hr (λ ms hm. wanted m E10 (list_al
 pub dom_native_r : (m : Sizes) (x0 : DomNative) (x1 : Option Value) (x2 : List Value) (x3 : ℕ) (x4 : State) → R m x4 → ValuesAre m x2 → Keeps m (dom_native x0 x1 x2 x3 x4)
 dom_native_r m DomQuery this vs d s hr h3 = query_r m (root ∷ []) (nth 0 vs) s hr (record { each = (hr.there.root, tt) })
 dom_native_r m DomAppend this vs d s hr h3 = dom_append_r m (nth 0 vs) s hr
-dom_native_r m DomTag this vs d s hr h3 = wanted m E4 (not (list_any is_object (nth 0 vs ∷ nth 1 vs ∷ []))) s _ hr (λ _. dom_tag_r m (to_text (nth 0 vs)) (given_text (nth 1 vs)) s hr (text_told m (nth 0 vs) (nth_is m 0 vs h3)) (given_told m (nth 1 vs) (nth_is m 1 vs h3)))
-dom_native_r m DomText this vs d s hr h3 = wanted m E4 (not (list_any is_object (nth 0 vs ∷ []))) s _ hr (λ _. give_node_r m (TextOf (to_text (nth 0 vs))) (length (to_text (nth 0 vs))) s hr (text_told m (nth 0 vs) (nth_is m 0 vs h3)))
+dom_native_r m DomTag this vs d s hr h3 = wanted m E4 (not (list_any is_object (nth 0 vs ∷ nth 1 vs ∷ []))) s _ hr (λ _. dom_tag_r m (to_text (nth 0 vs)) (given_text (nth 1 vs)) s hr (units_told m (nth 0 vs) (nth_is m 0 vs h3)) (given_told m (nth 1 vs) (nth_is m 1 vs h3)))
+dom_native_r m DomText this vs d s hr h3 = wanted m E4 (not (list_any is_object (nth 0 vs ∷ []))) s _ hr (λ _. give_node_r m (TextOf (to_text (nth 0 vs))) (length (to_text (nth 0 vs))) s hr (units_told m (nth 0 vs) (nth_is m 0 vs h3)))
 
 pub run_family_r : (m : Sizes) (x0 : Family) (x1 : Option Value) (x2 : List Value) (x3 : ℕ) (x4 : State) → R m x4 → MaybeIs m x1 → ValuesAre m x2 → Keeps m (run_family x0 x1 x2 x3 x4)
 run_family_r m (OfGlobal w) this vs d s hr h1 h2 = global_native_r m w this vs d s hr h2
-run_family_r m (OfMath w) this vs d s hr h1 h2 = math_native_r m w this vs d s hr
+run_family_r m (OfMath w) this vs d s hr h1 h2 = math_native_r m w this vs d s hr h2
 run_family_r m (OfPrototype w) this vs d s hr h1 h2 = prototype_native_r m w this vs d s hr h1
 run_family_r m (OfText w) this vs d s hr h1 h2 = text_native_r m w this vs s hr h1 h2
 run_family_r m (OfList w) this vs d s hr h1 h2 = list_native_r m w this vs d s hr h1 h2

@@ -1,4 +1,7 @@
 -- What is read of JSON: the strings and the keys are contents of strings.
+use Rattle.std.proofs.Common.{◌≡◌, ◌<◌, refl, arith}
+use Rattle.std.proofs.lemmas.Bool.{eqb-true}
+use Rattle.json.specs.Word.{is_operator, is_space}
 use Rattle.std.proofs.Common.{ℕ, zero, suc, Bool, true, false, cond, List, [], ◌∷◌, length}
 use Rattle.std.specs.Prelude.{Option, Some, None, option_map, option_and_then, ⊤, ◌==◌}
 use Rattle.std.specs.List.{AllByRecursion}
@@ -22,7 +25,20 @@ abbrev pub OfSome : {A : Type 0} → (A → Type 0) → Option A → Type 0
 OfSome P None = ⊤
 OfSome P (Some a) = P a
 
--- all of a list stay where a predicate does not look
+-- a quote is ASCII
+quote_low : (x : ℕ) → class x ≡ quote → x < 128
+quote_low x = by (x == ascii.quote) (x == ascii.backslash) (is_operator x) (is_space x) refl
+  where
+    small : x ≡ ascii.quote → x < 128
+    small i = omega (arith, i)
+
+    by : (a b c d : Bool) → (x == ascii.quote) ≡ a → cond a quote (cond b backslash (cond c operator (cond d space other))) ≡ quote → x < 128
+    by true b c d i e = small (eqb-true x ascii.quote i)
+    by false true c d i e = cc
+    by false false true d i e = cc
+    by false false false true i e = cc
+    by false false false false i e = cc
+
 module _ (P : List ℕ → Type 0) where
   -- ## Tokens
 
@@ -44,7 +60,7 @@ module _ (P : List ℕ → Type 0) where
   OfLexeme colon = ⊤
 
   -- what is known of the contents of strings in bytes
-  module _ (Q : List ℕ → Type 0) (rest : (x : ℕ) (xs : List ℕ) → Q (x ∷ xs) → Q xs) (found : (xs : List ℕ) → Q xs → OfSome P (content plain xs)) where
+  module _ (Q : List ℕ → Type 0) (rest : (x : ℕ) (xs : List ℕ) → Q (x ∷ xs) → Q xs) (found : (x : ℕ) (xs : List ℕ) → x < 128 → Q (x ∷ xs) → OfSome P (content plain xs)) where
     string_is : (o : Option (List ℕ)) → OfSome P o → OfToken (string_token o)
     string_is None h = tt
     string_is (Some s) h = h
@@ -81,28 +97,28 @@ module _ (P : List ℕ → Type 0) where
         by false false false false true = tt
         by false false false false false = tt
 
-    byte_is : (m : Mode) (c : Class) (x : ℕ) (xs : List ℕ) (k : Mode → List Lexeme) → Q xs → ((n : Mode) → AllByRecursion OfLexeme (k n)) → AllByRecursion OfLexeme (lex_byte m c x xs k)
-    byte_is between quote x xs k q f = (string_is (content plain xs) (found xs q), f in_string)
-    byte_is between backslash x xs k q f = (tt, f in_word)
-    byte_is between operator x xs k q f = (operator_is x, f between)
-    byte_is between space x xs k q f = f between
-    byte_is between other x xs k q f = (word_is (x ∷ xs), f in_word)
-    byte_is in_word quote x xs k q f = f in_word
-    byte_is in_word backslash x xs k q f = f in_word
-    byte_is in_word operator x xs k q f = (operator_is x, f between)
-    byte_is in_word space x xs k q f = f between
-    byte_is in_word other x xs k q f = f in_word
-    byte_is in_string quote x xs k q f = f between
-    byte_is in_string backslash x xs k q f = f in_escape
-    byte_is in_string operator x xs k q f = f in_string
-    byte_is in_string space x xs k q f = f in_string
-    byte_is in_string other x xs k q f = f in_string
-    byte_is in_escape c x xs k q f = f in_string
+    byte_is : (m : Mode) (c : Class) (x : ℕ) (xs : List ℕ) (k : Mode → List Lexeme) → class x ≡ c → Q (x ∷ xs) → ((n : Mode) → AllByRecursion OfLexeme (k n)) → AllByRecursion OfLexeme (lex_byte m c x xs k)
+    byte_is between quote x xs k e q f = (string_is (content plain xs) (found x xs (quote_low x e) q), f in_string)
+    byte_is between backslash x xs k e q f = (tt, f in_word)
+    byte_is between operator x xs k e q f = (operator_is x, f between)
+    byte_is between space x xs k e q f = f between
+    byte_is between other x xs k e q f = (word_is (x ∷ xs), f in_word)
+    byte_is in_word quote x xs k e q f = f in_word
+    byte_is in_word backslash x xs k e q f = f in_word
+    byte_is in_word operator x xs k e q f = (operator_is x, f between)
+    byte_is in_word space x xs k e q f = f between
+    byte_is in_word other x xs k e q f = f in_word
+    byte_is in_string quote x xs k e q f = f between
+    byte_is in_string backslash x xs k e q f = f in_escape
+    byte_is in_string operator x xs k e q f = f in_string
+    byte_is in_string space x xs k e q f = f in_string
+    byte_is in_string other x xs k e q f = f in_string
+    byte_is in_escape c x xs k e q f = f in_string
 
     lexed : (m : Mode) (bs : List ℕ) → Q bs → AllByRecursion OfLexeme (lex m bs)
     unfolding lex
     lexed m [] q = tt
-    lexed m (x ∷ xs) q = byte_is m (class x) x xs (λ n. lex n xs) (rest x xs q) (λ n. lexed n xs (rest x xs q))
+    lexed m (x ∷ xs) q = byte_is m (class x) x xs (λ n. lex n xs) refl q (λ n. lexed n xs (rest x xs q))
 
     allowed : (b : Bool) (t : Token) (k : Place → List Token) (next : Place) → OfToken t → AllByRecursion OfToken (k next) → AllByRecursion OfToken (if_allowed b t k next)
     allowed true t k next h f = (h, f)
@@ -307,6 +323,6 @@ module _ (P : List ℕ → Type 0) where
   whole_is (Some p) h = last_is p.0 p.1 h.0
 
   -- the contents of strings in bytes have it, and so do all strings that are read
-  pub read_is : (Q : List ℕ → Type 0) → ((x : ℕ) (xs : List ℕ) → Q (x ∷ xs) → Q xs) → ((xs : List ℕ) → Q xs → OfSome P (content plain xs))
+  pub read_is : (Q : List ℕ → Type 0) → ((x : ℕ) (xs : List ℕ) → Q (x ∷ xs) → Q xs) → ((x : ℕ) (xs : List ℕ) → x < 128 → Q (x ∷ xs) → OfSome P (content plain xs))
       → (bs : List ℕ) → Q bs → OfSome HasStrings (read bs)
   read_is Q rest found bs q = some_then OfJson HasStrings of_json json_is _ (whole_is (value max_depth (tokens bs)) (value_read max_depth (tokens bs) (tokens_are Q rest found bs q)))

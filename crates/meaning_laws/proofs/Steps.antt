@@ -161,7 +161,7 @@ self_le : (n : ℕ) → n ≤ n
 self_le n = omega arith
 
 pub fits_later : (a b : ℕ) (c : Cell) → a ≤ b → CellFits a c → CellFits b c
-fits_later a b c l h = record { room = omega (arith, l, h.room); len = h.len }
+fits_later a b c l h = record { room = omega (arith, l, h.room); len = h.len; count = h.count }
 
 pub there_paid : (m : Sizes) (hs : List Cell) (cs : List Scope) (ks : List Kept) (ts : List Timer) (f : Trees) (focus : Option ℕ) (slots more : ℕ)
     → slots ≤ more → AreThere m hs cs ks ts f focus slots → AreThere m hs cs ks ts f focus more
@@ -488,15 +488,15 @@ module _ (m : Sizes) where
       → ((n : Sizes) → Grows m n → (v : Value) (t : State) → R n t → ValueIs n v → Keeps n (k v t)) → Keeps m (make c n s k)
   made c n s k h q short z f = paid m (object_cost n) s (λ t. k (Own (length t.own.heap)) (with_new_cell t c)) h (λ a u due. born_then c (with_counts s a) k u q short (fits_later n a.slots c (second_part s.own.counts.slots n a.slots due.more) z) f)
 
-  pub made_text : (x : List ℕ) (s : State) (k : State → Plan) → R m s → ((a : Amounts) → R m (with_counts s a) → Due s (units_cost (length x)) a → Keeps m (k (with_counts s a))) → Keeps m (make_text x s k)
-  made_text x s k h f = either m (nat_lt max_text (length x)) _ _ (halted m LongText s h) (paid m (units_cost (length x)) s k h f)
+  pub made_text : (x : List ℕ) (s : State) (k : State → Plan) → R m s → ((a : Amounts) → R m (with_counts s a) → Due s (units_cost (length x)) a → nat_lt max_text (length x) ≡ false → Keeps m (k (with_counts s a))) → Keeps m (make_text x s k)
+  made_text x s k h f = by_test m (nat_lt max_text (length x)) _ _ (λ e. halted m LongText s h) (λ e. paid m (units_cost (length x)) s k h (λ a u due. f a u due e))
 
   fault_is : (e : Fault) → CellIs m (plain_object (fault_pairs e))
   fault_is e = plain_is (fault_pairs e) (more_pairs m _ _ _ (text_is m (fault_name e) (told m (name_of_fault e))) (more_pairs m _ _ _ (text_is m (fault_message e) (told m (message_of_fault e))) (no_pairs m)))
       (told m (tested (codes "name") refl, (tested (codes "message") refl, tt)))
 
   pub faulted : (e : Fault) (s : State) → R m s → Keeps m (throw e s)
-  faulted e s h = made (plain_object (fault_pairs e)) 2 s (λ v t. Ret (Throw v) t) h (fault_is e) tt (record { room = omega arith; len = tt }) (λ n g v t u w. ended n (Throw v) t u (throw_end n v w))
+  faulted e s h = made (plain_object (fault_pairs e)) 2 s (λ v t. Ret (Throw v) t) h (fault_is e) tt (record { room = omega arith; len = tt; count = tt }) (λ n g v t u w. ended n (Throw v) t u (throw_end n v w))
 
   pub wanted : (e : Fault) (b : Bool) (s : State) (p : Plan) → R m s → (b ≡ true → Keeps m p) → Keeps m (want e b s p)
   wanted e b s p h f = by_test m b p (throw e s) f (λ x. faulted e s h)

@@ -12,13 +12,13 @@ use Rattle.style_text.proofs.Values.{value_parts}
 use Rattle.widget_meaning.specs.Limits.{past_units}
 use Rattle.widget_meaning.specs.Styles.{style_of, pairs_or_none, style_pairs, style_value, without_property, with_property}
 use Rattle.widget_meaning.proofs.TextsHold.{style_laws}
-use Rattle.meaning_laws.specs.Texts.{IsText}
+use Rattle.meaning_laws.specs.Texts.{AreUnits}
 use Rattle.meaning_laws.proofs.Each.{each_both, each_filtered, each_mapped}
-use Rattle.meaning_laws.proofs.Units.{has_units, tested, both_texts}
+use Rattle.meaning_laws.proofs.Units.{has_units, units_tested, both_units}
 
 -- a property and its value
 abbrev pub PairHasTexts : Pair → Type 0
-PairHasTexts q = IsText q.0 × IsText q.1
+PairHasTexts q = AreUnits q.0 × AreUnits q.1
 
 -- ## By the tests
 
@@ -39,22 +39,22 @@ unit_low u e =
     (low_number u (byte "#") refl)) (low_number u (byte "%") refl)) (low_number u (byte ".") refl)) (low_number u (byte ",") refl))
     (low_number u (byte "-") refl)) (low_number u (byte "!") refl)) (low_number u (byte "(") refl)) (low_number u (byte ")") refl)) (low_number u (byte "'") refl) e
 
-units_low : (us : List ℕ) → list_all is_value_unit us ≡ true → IsText us
+units_low : (us : List ℕ) → list_all is_value_unit us ≡ true → AreUnits us
 units_low [] e = tt
 units_low (u ∷ us) e = let p = and_parts (is_value_unit u) (list_all is_value_unit us) e in (unit_low u p.0, units_low us p.1)
 
-among_texts : (x : List ℕ) (ys : List (List ℕ)) → list_all has_units ys ≡ true → list_any (bytes_eq x) ys ≡ true → IsText x
+among_texts : (x : List ℕ) (ys : List (List ℕ)) → list_all has_units ys ≡ true → list_any (bytes_eq x) ys ≡ true → AreUnits x
 among_texts x [] h e = absurd (no e)
   where
     no : false ≡ true → ⊥
     no i = cc
 among_texts x (y ∷ ys) h e = let p = and_parts (has_units y) (list_all has_units ys) h in by (bytes_eq x y) refl e (among_texts x ys p.1) p.0
   where
-    by : (b : Bool) → bytes_eq x y ≡ b → (b || list_any (bytes_eq x) ys) ≡ true → (list_any (bytes_eq x) ys ≡ true → IsText x) → has_units y ≡ true → IsText x
-    by true i j f q = subst IsText (sym ((bytes_eq-Decides x y).0 i)) (tested y q)
+    by : (b : Bool) → bytes_eq x y ≡ b → (b || list_any (bytes_eq x) ys) ≡ true → (list_any (bytes_eq x) ys ≡ true → AreUnits x) → has_units y ≡ true → AreUnits x
+    by true i j f q = subst AreUnits (sym ((bytes_eq-Decides x y).0 i)) (units_tested y q)
     by false i j f q = f j
 
-listed_is : (x : List ℕ) → is_listed x ≡ true → IsText x
+listed_is : (x : List ℕ) → is_listed x ≡ true → AreUnits x
 unfolding is_listed properties
 listed_is x e = among_texts x properties refl e
 
@@ -74,22 +74,22 @@ read_pairs t (Some qs) e = pairs_are qs (style_spelled t qs ((style_laws t qs).s
 pub style_pairs_are : (t : List ℕ) → AllByRecursion PairHasTexts (style_pairs t)
 style_pairs_are t = read_pairs t (style_of t) refl
 
-pub style_value_is : (qs : List Pair) (p : List ℕ) → AllByRecursion PairHasTexts qs → IsText (style_value qs p)
+pub style_value_is : (qs : List Pair) (p : List ℕ) → AllByRecursion PairHasTexts qs → AreUnits (style_value qs p)
 style_value_is [] p h = tt
 style_value_is (q ∷ qs) p h = by (bytes_eq q.0 p) (style_value_is qs p h.1)
   where
-    by : (b : Bool) → IsText (style_value qs p) → IsText (if b then q.1 else style_value qs p)
+    by : (b : Bool) → AreUnits (style_value qs p) → AreUnits (if b then q.1 else style_value qs p)
     by true i = h.0.1
     by false i = i
 
-set_pair : (p v : List ℕ) → IsText p → IsText v → (q : Pair) → PairHasTexts q → PairHasTexts (if bytes_eq q.0 p then (p, v) else q)
+set_pair : (p v : List ℕ) → AreUnits p → AreUnits v → (q : Pair) → PairHasTexts q → PairHasTexts (if bytes_eq q.0 p then (p, v) else q)
 set_pair p v hp hv q h = by (bytes_eq q.0 p)
   where
     by : (b : Bool) → PairHasTexts (if b then (p, v) else q)
     by true = (hp, hv)
     by false = h
 
-pub property_set : (qs : List Pair) (p v : List ℕ) → AllByRecursion PairHasTexts qs → IsText p → IsText v → AllByRecursion PairHasTexts (with_property qs p v)
+pub property_set : (qs : List Pair) (p v : List ℕ) → AllByRecursion PairHasTexts qs → AreUnits p → AreUnits v → AllByRecursion PairHasTexts (with_property qs p v)
 property_set qs p v h hp hv = by (nat_eq (length v) 0) (is_used qs p)
   where
     by : (b c : Bool) → AllByRecursion PairHasTexts (if b then without_property qs p else if c then map (λ q. if bytes_eq q.0 p then (p, v) else q) qs else qs ++ (p, v) ∷ [])
@@ -97,11 +97,11 @@ property_set qs p v h hp hv = by (nat_eq (length v) 0) (is_used qs p)
     by false true = each_mapped {A = Pair} {B = Pair} PairHasTexts PairHasTexts (λ q. if bytes_eq q.0 p then (p, v) else q) (set_pair p v hp hv) qs h
     by false false = each_both {A = Pair} PairHasTexts qs ((p, v) ∷ []) h ((hp, hv), tt)
 
-one_printed : (q : Pair) → PairHasTexts q → IsText (print_pair q)
-one_printed q h = both_texts (q.0 ++ codes ": ") q.1 (both_texts q.0 (codes ": ") h.0 (tested (codes ": ") refl)) h.1
+one_printed : (q : Pair) → PairHasTexts q → AreUnits (print_pair q)
+one_printed q h = both_units (q.0 ++ codes ": ") q.1 (both_units q.0 (codes ": ") h.0 (units_tested (codes ": ") refl)) h.1
 
-pub print_is : (qs : List Pair) → AllByRecursion PairHasTexts qs → IsText (print_style qs)
+pub print_is : (qs : List Pair) → AllByRecursion PairHasTexts qs → AreUnits (print_style qs)
 unfolding print_style
 print_is [] h = tt
 print_is (q ∷ []) h = one_printed q h.0
-print_is (q ∷ r ∷ qs) h = both_texts (print_pair q ++ codes "; ") (print_style (r ∷ qs)) (both_texts (print_pair q) (codes "; ") (one_printed q h.0) (tested (codes "; ") refl)) (print_is (r ∷ qs) h.1)
+print_is (q ∷ r ∷ qs) h = both_units (print_pair q ++ codes "; ") (print_style (r ∷ qs)) (both_units (print_pair q) (codes "; ") (one_printed q h.0) (units_tested (codes "; ") refl)) (print_is (r ∷ qs) h.1)

@@ -16,7 +16,7 @@ use Rattle.permitted_table.specs.Table.{Global, Leads}
 use Rattle.widget_meaning.specs.HostTable.{host_pairs, globals, global_value}
 use Rattle.permitted_table.specs.declared.native.HostEntry.TheVariants as host
 use Rattle.widget_meaning.specs.Limits.{max_chain}
-use Rattle.widget_meaning.specs.Values.{Value, Undefined, Null, Truth, NaN, Num, Text, Own, Host, Reference, Variable, Property, Found, Normal, Is, Refers, Return, Break, Continue, Throw, nth, to_text}
+use Rattle.widget_meaning.specs.Values.{Value, Undefined, Null, Truth, NaN, Num, Text, Own, Host, Reference, Variable, Property, Found, Normal, Is, Refers, Return, Break, Continue, Throw, nth, to_text, to_number}
 use Rattle.widget_meaning.specs.OwnState.{State, Kind, Object, Array, Function, Bunch, Pairs, lookup, replaced, taken_out, cell_at, scope_at, kind_of, bunch_nodes}
 use Rattle.widget_meaning.specs.Plan.{Place, Eval, Target, Exec, Pass, Call, Loop, WhileLoop, DoLoop, ForLoop, ForInLoop}
 use Rattle.widget_meaning.specs.Properties.{is_length, kind_property, own_property, prototype, or_else, on_chain, property, get}
@@ -24,8 +24,11 @@ use Rattle.widget_meaning.specs.Scopes.{variable, value_in, scope_of, argument, 
 use Rattle.widget_meaning.specs.Expressions.{referred, base_of, literal, word_value}
 use Rattle.widget_meaning.specs.NativeForms.{element, elements, numbered_pairs}
 use Rattle.meaning_laws.specs.There.{Sizes, Told, ValueIs, ValuesAre, MaybeIs, PairsAre, NodesAre, OfKind, CellIs, ReferenceIs, CompletionIs, LoopIs, JobIs}
-use Rattle.meaning_laws.specs.Texts.{IsText, AreTexts, AreNames, ExprHasTexts, OptionHasTexts, StmtHasTexts}
+use Rattle.meaning_laws.specs.Texts.{AreUnits, IsText, AreTexts, AreNames, ExprHasTexts, OptionHasTexts, StmtHasTexts}
 use Rattle.meaning_laws.proofs.Units.{decimal_is, to_text_is}
+use Rattle.meaning_laws.proofs.Numbers.{Within, OfRead, to_number_is}
+use Rattle.widget_meaning.specs.JsonBack.{HasLength}
+use Rattle.std.proofs.Common.{arith}
 use Rattle.meaning_laws.proofs.Each.{each_both, each_taken, each_dropped, each_filtered, each_made}
 
 module _ (m : Sizes) where
@@ -63,8 +66,8 @@ module _ (m : Sizes) where
   pub nan_is : ValueIs m NaN
   nan_is = record { born = tt; text = told tt }
 
-  pub num_is : (z : ℤ) → ValueIs m (Num z)
-  num_is z = record { born = tt; text = told tt }
+  pub num_is : (z : ℤ) → Told m (Within z) → ValueIs m (Num z)
+  num_is z h = record { born = tt; text = h }
 
   pub text_is : (t : List ℕ) → Told m (IsText t) → ValueIs m (Text t)
   text_is t h = record { born = tt; text = h }
@@ -72,10 +75,10 @@ module _ (m : Sizes) where
   pub host_is : (h : HostEntry) → ValueIs m (Host h)
   host_is h = record { born = tt; text = told tt }
 
-  pub literal_is : (r : WholeRead) → ValueIs m (literal r)
-  literal_is (read.Whole z) = num_is z
-  literal_is read.NotNumber = nan_is
-  literal_is read.Left = nan_is
+  pub literal_is : (r : WholeRead) → OfRead r → ValueIs m (literal r)
+  literal_is (read.Whole z) h = num_is z (told h)
+  literal_is read.NotNumber h = nan_is
+  literal_is read.Left h = nan_is
 
   pub word_is : (w : Word) → ValueIs m (word_value w)
   word_is word.Null = null_is
@@ -86,6 +89,13 @@ module _ (m : Sizes) where
   -- the text of a primitive
   pub text_told : (v : Value) → ValueIs m v → Told m (IsText (to_text v))
   text_told v h = also (to_text_is v) h.text
+
+  pub units_told : (v : Value) → ValueIs m v → Told m (AreUnits (to_text v))
+  units_told v h = also (λ q. (to_text_is v q).0) h.text
+
+  -- the number of a primitive
+  pub read_told : (v : Value) → ValueIs m v → Told m (OfRead (to_number v))
+  read_told v h = also (to_number_is v) h.text
 
   -- ## Lists of values
 
@@ -233,15 +243,15 @@ module _ (m : Sizes) where
   -- ## Properties
 
   -- what a state holds
-  module _ (s : State) (objects : (n : ℕ) → CellIs m (cell_at s n)) (scopes : (n : ℕ) → PairsAre m (scope_at s n).pairs) where
-    kind_property_is : (k : Kind) (ps : Pairs) (x : List ℕ) → PairsAre m ps → MaybeIs m (kind_property k ps x)
-    kind_property_is Object ps x h = lookup_is ps x h
-    kind_property_is (Function f o) ps x h = lookup_is ps x h
-    kind_property_is (Bunch ns) ps x h = lookup_is ps x h
-    kind_property_is (Array n) ps x h = by (is_length x)
+  module _ (s : State) (objects : (n : ℕ) → CellIs m (cell_at s n)) (scopes : (n : ℕ) → PairsAre m (scope_at s n).pairs) (lengths : (n : ℕ) → HasLength (cell_at s n).kind) where
+    kind_property_is : (k : Kind) (ps : Pairs) (x : List ℕ) → PairsAre m ps → HasLength k → MaybeIs m (kind_property k ps x)
+    kind_property_is Object ps x h l = lookup_is ps x h
+    kind_property_is (Function f o) ps x h l = lookup_is ps x h
+    kind_property_is (Bunch ns) ps x h l = lookup_is ps x h
+    kind_property_is (Array n) ps x h l = by (is_length x)
       where
         by : (b : Bool) → MaybeIs m (if b then Some (Num (pos n)) else lookup ps x)
-        by true = some_value (Num (pos n)) (num_is (pos n))
+        by true = some_value (Num (pos n)) (num_is (pos n) (told (omega (arith, l))))
         by false = lookup_is ps x h
 
     own_property_is : (v : Value) (x : List ℕ) → MaybeIs m (own_property s v x)
@@ -251,7 +261,7 @@ module _ (m : Sizes) where
     own_property_is NaN x = no_value
     own_property_is (Num z) x = no_value
     own_property_is (Text t) x = no_value
-    own_property_is (Own n) x = kind_property_is (cell_at s n).kind (cell_at s n).pairs x (objects n).pairs
+    own_property_is (Own n) x = kind_property_is (cell_at s n).kind (cell_at s n).pairs x (objects n).pairs (lengths n)
     own_property_is (Host h) x = lookup_is (host_pairs h) x (host_pairs_are h)
 
     on_chain_is : (n : ℕ) (o : Option Value) (x : List ℕ) → MaybeIs m (on_chain n s o x)
@@ -259,22 +269,22 @@ module _ (m : Sizes) where
     on_chain_is (suc n) None x = no_value
     on_chain_is (suc n) (Some v) x = or_other (own_property s v x) (λ b. on_chain n s (prototype s v) x) (own_property_is v x) (on_chain_is n (prototype s v) x)
 
-    property_is : (v : Value) (x : List ℕ) → MaybeIs m (property s v x)
-    property_is Undefined x = no_value
-    property_is Null x = no_value
-    property_is (Truth b) x = on_chain_is (suc max_chain) (Some (Host host.BooleanPrototype)) x
-    property_is NaN x = on_chain_is (suc max_chain) (Some (Host host.NumberPrototype)) x
-    property_is (Num z) x = on_chain_is (suc max_chain) (Some (Host host.NumberPrototype)) x
-    property_is (Text t) x = by (is_length x)
+    property_is : (v : Value) (x : List ℕ) → ValueIs m v → MaybeIs m (property s v x)
+    property_is Undefined x h = no_value
+    property_is Null x h = no_value
+    property_is (Truth b) x h = on_chain_is (suc max_chain) (Some (Host host.BooleanPrototype)) x
+    property_is NaN x h = on_chain_is (suc max_chain) (Some (Host host.NumberPrototype)) x
+    property_is (Num z) x h = on_chain_is (suc max_chain) (Some (Host host.NumberPrototype)) x
+    property_is (Text t) x h = by (is_length x)
       where
         by : (b : Bool) → MaybeIs m (if b then Some (Num (pos (length t))) else on_chain (suc max_chain) s (Some (Host host.TextPrototype)) x)
-        by true = some_value (Num (pos (length t))) (num_is (pos (length t)))
+        by true = some_value (Num (pos (length t))) (num_is (pos (length t)) (also (λ q. q.1) h.text))
         by false = on_chain_is (suc max_chain) (Some (Host host.TextPrototype)) x
-    property_is (Own n) x = on_chain_is (suc max_chain) (Some (Own n)) x
-    property_is (Host h) x = on_chain_is (suc max_chain) (Some (Host h)) x
+    property_is (Own n) x h = on_chain_is (suc max_chain) (Some (Own n)) x
+    property_is (Host e) x h = on_chain_is (suc max_chain) (Some (Host e)) x
 
-    pub got_is : (v : Value) (x : List ℕ) → ValueIs m (get s v x)
-    got_is v x = or_undefined (property s v x) (property_is v x)
+    pub got_is : (v : Value) (x : List ℕ) → ValueIs m v → ValueIs m (get s v x)
+    got_is v x h = or_undefined (property s v x) (property_is v x h)
 
     value_in_is : (o : Option ℕ) (x : List ℕ) → ValueIs m (value_in s o x)
     value_in_is None x = or_undefined (lookup globals x) (lookup_is globals x globals_are)
@@ -285,7 +295,7 @@ module _ (m : Sizes) where
 
     pub referred_of : (r : Reference) (p : Place) → ReferenceIs m r → ValueIs m (referred r p s)
     referred_of (Variable x) p h = named_is p x
-    referred_of (Property v x) p h = got_is v x
+    referred_of (Property v x) p h = got_is v x h.value.0
     referred_of (Found v) p h = h.value
 
     pub elements_of : (n len : ℕ) → ValuesAre m (elements s n len)

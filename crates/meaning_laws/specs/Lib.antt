@@ -1,5 +1,5 @@
 pub mod Texts
 pub mod There
 pub mod ThereLaws
-pub mod TextLaws
+pub mod OrdinaryLaws
 pub mod NumberLaws

@@ -1,19 +1,28 @@
--- Texts of 16-bit units: in values, in scripts, in pages, in what is given to a widget.
-use Rattle.std.specs.Prelude.{ℕ, ◌<◌, List, Option, Some, None, ⊤}
+-- Ordinary values: texts of 16-bit units, and numbers within the numbers. Where texts stand in scripts, in pages and in
+-- what is given to a widget.
+use Rattle.std.specs.Prelude.{ℕ, ◌<◌, length, unsigned_abs, List, Option, Some, None, ⊤}
 use Rattle.std.specs.List.{AllByRecursion}
 use Rattle.js_tree.specs.Plain as tree
 use Rattle.js_tree.specs.Plain.{Expr, ExprForm, Exprs, OptionalExpr, Properties, Decls, ForInit, Stmt, StmtForm, Stmts, OptionalBlock, Catch, Clauses, Fun, Funs}
 use Rattle.plain_tree.specs.Trees.{Label, TextOf, ElementOf, End, Node}
-use Rattle.widget_meaning.specs.Limits.{past_units}
+use Rattle.widget_meaning.specs.Limits.{past_units, past_numbers}
 use Rattle.widget_meaning.specs.Values.{Value, Undefined, Null, Truth, NaN, Num, Text, Own, Host}
 use Rattle.widget_meaning.specs.OwnState.{Pairs}
 use Rattle.widget_meaning.specs.Trees.{Trees}
 use Rattle.widget_meaning.specs.Items.{Item, Occurs, Advance}
 use Rattle.widget_meaning.specs.Alone.{Content}
 
--- a text: each unit has 16 bits
+-- each unit has 16 bits
+abbrev pub AreUnits : List ℕ → Type 0
+AreUnits t = AllByRecursion (λ u. u < past_units) t
+
+-- a text: of such units, and shorter than the numbers are great
 abbrev pub IsText : List ℕ → Type 0
-IsText t = AllByRecursion (λ u. u < past_units) t
+IsText t = AreUnits t × (length t < past_numbers)
+
+-- units in each of these
+abbrev pub AreAllUnits : List (List ℕ) → Type 0
+AreAllUnits ts = AllByRecursion AreUnits ts
 
 -- each of these texts
 abbrev pub AreTexts : List (List ℕ) → Type 0
@@ -24,16 +33,21 @@ abbrev pub MaybeText : Option (List ℕ) → Type 0
 MaybeText None = ⊤
 MaybeText (Some t) = IsText t
 
--- a value that is a text
-abbrev pub OfText : Value → Type 0
-OfText Undefined = ⊤
-OfText Null = ⊤
-OfText (Truth b) = ⊤
-OfText NaN = ⊤
-OfText (Num z) = ⊤
-OfText (Text t) = IsText t
-OfText (Own n) = ⊤
-OfText (Host h) = ⊤
+-- units, if there are any
+abbrev pub MaybeUnits : Option (List ℕ) → Type 0
+MaybeUnits None = ⊤
+MaybeUnits (Some t) = AreUnits t
+
+-- an ordinary value: a text is one, and a number is within the numbers
+abbrev pub IsOrdinaryValue : Value → Type 0
+IsOrdinaryValue Undefined = ⊤
+IsOrdinaryValue Null = ⊤
+IsOrdinaryValue (Truth b) = ⊤
+IsOrdinaryValue NaN = ⊤
+IsOrdinaryValue (Num z) = unsigned_abs z < past_numbers
+IsOrdinaryValue (Text t) = IsText t
+IsOrdinaryValue (Own n) = ⊤
+IsOrdinaryValue (Host h) = ⊤
 
 -- each name
 abbrev pub AreNames : Pairs → Type 0
@@ -145,12 +159,12 @@ abbrev mutual
   FunsHaveTexts tree.NoFuns = ⊤
   FunsHaveTexts (tree.AndFun fs f) = FunsHaveTexts fs × FunHasTexts f
 
--- ## Pages: tags, values of attributes and text nodes are texts
+-- ## Pages: tags, values of attributes and text nodes are of 16-bit units
 
 -- a node
 abbrev pub LabelHasTexts : Label → Type 0
-LabelHasTexts (TextOf t) = IsText t
-LabelHasTexts (ElementOf tag attrs) = IsText tag × AllByRecursion (λ a. IsText a.1) attrs
+LabelHasTexts (TextOf t) = AreUnits t
+LabelHasTexts (ElementOf tag attrs) = AreUnits tag × AllByRecursion (λ a. AreUnits a.1) attrs
 
 -- each node
 abbrev pub PageHasTexts : Trees → Type 0

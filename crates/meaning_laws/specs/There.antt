@@ -1,10 +1,10 @@
 -- What is there: each object and each node that something names was born, and each prototype is older than its object;
--- no object has more names than slots were paid, and no array is too long; and, where it is said of texts too, each text
--- and each name of an object is of 16-bit units.
+-- no object has more names than slots were paid, and no array is too long; and, where it is said of texts too, each value
+-- is ordinary, and each name of an object is a text.
 use Rattle.std.specs.Prelude.{◌≡◌, Bool, true, false, ℕ, zero, suc, ◌+◌, ◌<◌, ◌≤◌, List, [], length, Option, Some, None, slice_index_or, ⊤}
 use Rattle.std.specs.List.{AllByRecursion}
 use Rattle.plain_tree.specs.Trees.{height}
-use Rattle.widget_meaning.specs.Limits.{max_chain, max_node_depth}
+use Rattle.widget_meaning.specs.Limits.{max_chain, max_node_depth, max_slots}
 use Rattle.widget_meaning.specs.Values.{Value, Undefined, Null, Truth, NaN, Num, Text, Own, Host, Reference, Variable, Property, Found, Completion, Normal, Is, Refers, Return, Break, Continue, Throw}
 use Rattle.widget_meaning.specs.OwnState.{OwnState, Kind, Object, Array, Function, Bunch, Cell, Pairs, Scope, Kept, Timer, plain_object, nothing_kept}
 use Rattle.widget_meaning.specs.HostTable.{host_prototype}
@@ -13,17 +13,17 @@ use Rattle.widget_meaning.specs.NodeLaws.{IsPage}
 use Rattle.widget_meaning.specs.JsonBack.{HasLength}
 use Rattle.widget_meaning.specs.Plan.{Loop, WhileLoop, DoLoop, ForLoop, ForInLoop, Hearing, Job, Eval, Target, Exec, Pass, Call, RunNative, Hear, End, Ended, Stopped, OutOfFuel}
 use Rattle.widget_meaning.specs.Trees.{Trees}
-use Rattle.meaning_laws.specs.Texts.{IsText, AreTexts, OfText, AreNames, ExprHasTexts, OptionHasTexts, StmtHasTexts, FunHasTexts, PageHasTexts}
+use Rattle.meaning_laws.specs.Texts.{AreUnits, IsText, AreTexts, IsOrdinaryValue, AreNames, ExprHasTexts, OptionHasTexts, StmtHasTexts, FunHasTexts, PageHasTexts}
 
 -- ## Numbers
 
--- how many objects and nodes were born, and whether what is said is said of texts too
+-- how many objects and nodes were born, and whether what is said is said of texts and numbers too
 pub record Sizes : Type 0 where
   pub objects : ℕ
   pub nodes : ℕ
   pub texts : Bool
 
--- of a widget, with texts or without
+-- of a widget, with texts and numbers or without
 abbrev pub sizes_with : Bool → OwnState → Sizes
 sizes_with b o = record { objects = length o.heap; nodes = length o.kept; texts = b }
 
@@ -32,8 +32,8 @@ abbrev pub sizes : OwnState → Sizes
 sizes o = sizes_with false o
 
 -- with
-abbrev pub text_sizes : OwnState → Sizes
-text_sizes o = sizes_with true o
+abbrev pub told_sizes : OwnState → Sizes
+told_sizes o = sizes_with true o
 
 -- no fewer of both
 pub record Grows (m n : Sizes) : Type 0 where
@@ -41,7 +41,7 @@ pub record Grows (m n : Sizes) : Type 0 where
   pub nodes : m.nodes ≤ n.nodes
   pub texts : m.texts ≡ n.texts
 
--- what holds of texts, where it is said of texts too
+-- what holds of texts and numbers, where it is said of them too
 pub record Told (m : Sizes) (P : Type 0) : Type 0 where
   pub holds : m.texts ≡ true → P
 
@@ -58,10 +58,10 @@ IsBelow n (Host h) = ⊤
 
 -- ## What is there
 
--- a value: its object was born
+-- a value: its object was born, and it is ordinary
 pub record ValueIs (m : Sizes) (v : Value) : Type 0 where
   pub born : IsBelow m.objects v
-  pub text : Told m (OfText v)
+  pub text : Told m (IsOrdinaryValue v)
 
 -- each of these values
 pub record ValuesAre (m : Sizes) (vs : List Value) : Type 0 where
@@ -114,12 +114,20 @@ pub record CellIs (m : Sizes) (c : Cell) : Type 0 where
 -- what is kept with a node: the functions of its handlers, and its mark
 pub record KeptIs (m : Sizes) (k : Kept) : Type 0 where
   pub handlers : AllByRecursion (λ h. h.func < m.objects) k.handlers
-  pub mark : Told m (IsText k.mark)
+  pub mark : Told m (AreUnits k.mark)
+
+-- a Bunch has no more nodes than slots may be paid
+abbrev pub OfCount : Kind → Type 0
+OfCount Object = ⊤
+OfCount (Array n) = ⊤
+OfCount (Function f o) = ⊤
+OfCount (Bunch ns) = length ns ≤ max_slots
 
 -- an object has no more names than slots were paid, and an array is no longer than it may be
 pub record CellFits (slots : ℕ) (c : Cell) : Type 0 where
   pub room : length c.pairs ≤ slots
   pub len : HasLength c.kind
+  pub count : OfCount c.kind
 
 -- ## Prototypes
 
@@ -166,7 +174,7 @@ pub record AreThere (m : Sizes) (hs : List Cell) (cs : List Scope) (ks : List Ke
   pub lib : ValueIs m (Own 0)
   pub root : NodeIs m 0
 
--- of a widget by itself, with texts or without
+-- of a widget by itself, with texts and numbers or without
 abbrev pub IsThereWith : Bool → OwnState → Type 0
 IsThereWith b o = AreThere (sizes_with b o) o.heap o.scopes o.kept o.timers o.forest o.focus o.counts.slots
 
@@ -174,9 +182,9 @@ IsThereWith b o = AreThere (sizes_with b o) o.heap o.scopes o.kept o.timers o.fo
 abbrev pub IsThere : OwnState → Type 0
 IsThere o = IsThereWith false o
 
--- with: each text and each name of an object is one of 16-bit units
-abbrev pub HasTexts : OwnState → Type 0
-HasTexts o = IsThereWith true o
+-- with: each value is ordinary, and each name of an object is a text
+abbrev pub HasOrdinaryValues : OwnState → Type 0
+HasOrdinaryValues o = IsThereWith true o
 
 -- ## What a job holds
 

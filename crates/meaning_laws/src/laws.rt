@@ -1,6 +1,6 @@
 //! Laws of own states.
 ghost use Rattle.meaning_laws.specs.NumberLaws.{NumberLaws};
-ghost use Rattle.meaning_laws.specs.TextLaws.{JsonStateLaws, TextLaws};
+ghost use Rattle.meaning_laws.specs.OrdinaryLaws.{JsonStateLaws, OrdinaryLaws};
 ghost use Rattle.meaning_laws.specs.ThereLaws.{ChainLaws, LengthLaws, ThereLaws, WayLaws};
 
 /// Each object and node that a value, a scope, a Bunch, a handler or a timer names was born, and each
@@ -29,14 +29,14 @@ pub fn lengths_hold()
     ensures { LengthLaws }
 {}
 
-/// Each text that a widget comes to, and each name of its objects, is of 16-bit units, where those of its scripts,
-/// its subtree and its events are.
-#[tactic(auto, using(crate::proofs::LawsHold::text_laws))]
-pub fn texts_have_units()
-    ensures { TextLaws }
+/// Each text that a widget comes to, and each name of its objects, is of 16-bit units and shorter than 2^53, where
+/// those of its scripts, its subtree and its events are; and each number is within the numbers.
+#[tactic(auto, using(crate::proofs::LawsHold::ordinary_laws))]
+pub fn values_are_ordinary()
+    ensures { OrdinaryLaws }
 {}
 
-/// In such states the laws of JSON hold with no premise on texts and lengths.
+/// In such states the laws of JSON hold with no premise on what they have, but that on lone surrogates in names.
 #[tactic(auto, using(crate::proofs::LawsHold::json_state_laws))]
 pub fn json_of_states()
     ensures { JsonStateLaws }
