@@ -61,7 +61,7 @@ pub fn to_primitive(
     ))
 }
 
-/// What a `toString` gave, which is no object.
+/// What a `toString` gave: a text or another plain value; an object is a fault.
 pub fn primitive(
     alloc: Global,
     w: u32,

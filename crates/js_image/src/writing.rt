@@ -87,7 +87,7 @@ fn put_in(
 }
 
 /// Puts an element behind the last of an Array of the widget, which has this length; the slot was paid
-/// before. What is no such Array, or has an element there, is answered like want of memory.
+/// before. An element that is there already is answered like want of memory.
 pub fn push_paid(
     alloc: Global,
     store: &mut Store,

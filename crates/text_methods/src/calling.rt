@@ -26,7 +26,7 @@ use std::alloc::Global;
 /// A native of this crate, called by a widget: what the meaning gives at the owner's image, for every
 /// receiver and all arguments that the widget may hold. The Global cell as receiver stands for none.
 /// The native's unit was taken before; the call takes the extra. Where fuel is wanting nothing
-/// changes. After `Memory` what others have, and each cell that was there, are as before.
+/// changes. After `Memory` what others have is as before, and no cell is gone.
 pub fn call(
     alloc: Global,
     which: NativeId,
