@@ -1,0 +1,9 @@
+pub mod Steps
+pub mod Forms
+pub mod Natives
+pub mod Texts
+pub mod Lists
+pub mod Json
+pub mod Adsafe
+pub mod Page
+pub mod Jobs
