@@ -1,28 +1,24 @@
 -- A widget gets its root.
-use Rattle.std.proofs.Common.{◌≡◌, Bool, subst, ◌≢◌, ℕ, zero, suc, List, ◌+◌, ◌<◌, ◌≤◌, [], ◌∷◌, true, false, refl, sym, ap, ◌∙◌, length, length-append, None, arith, eqb, eqb-true, eq-eqb, ⊎_elim}
+use Rattle.std.proofs.Common.{◌≡◌, subst, ◌≢◌, ℕ, ◌+◌, ◌<◌, [], ◌∷◌, true, sym, ap, ◌∙◌, length, length-append, None, arith}
 use Rattle.std.specs.Prelude.{Err, IfOk, Ok, Result}
 use Rattle.code_units.specs.declared.owner.Owner.TheVariants as owner
 use Rattle.plain_tree.specs.Trees.{PlainTrees, beside, size}
 use Rattle.tree_ops.specs.Trees.{numbered, subtree, tops, without}
 use Rattle.query_grammar.specs.Finds.{has_number}
-use Rattle.js_tree.specs.Forest.{Forest}
 use Rattle.store_cells.specs.Cells.{Cells}
-use Rattle.page_nodes.specs.Entries.{body_entry}
+use Rattle.page_nodes.specs.Adds.{IsAdded}
+use Rattle.page_nodes.specs.Entries.{body, body_entry}
 use Rattle.page_tree.specs.declared.page.Page.{Page}
-use Rattle.page_tree.specs.Pages.{nodes, root}
+use Rattle.page_tree.specs.Pages.{SameRoots, nodes, root}
 use Rattle.page_image.specs.Image.{forest, number, own, owns, root_of}
-use Rattle.page_image.specs.Own.{is_own, own_forest, own_nodes}
+use Rattle.page_image.specs.Own.{own_forest, own_nodes}
 use Rattle.page_image.specs.Stays.{GetsRoot, OthersStay}
 use Rattle.page_image.proofs.Looks.{root_owned}
 use Rattle.page_image.proofs.Pages.{is_widget}
-use Rattle.js_image.specs.Held.{IsConfined, Kept}
 use Rattle.native_image.specs.Grown.{IsGrown}
 use Rattle.native_image.specs.Sound.{HasRaw}
-use Rattle.native_image.proofs.Added.{raw_stays}
+use Rattle.native_image.proofs.Added.{grown_of}
 use Rattle.page_build.specs.Homes.{HaveRaws, IsAway, IsHome, IsOneTree}
-
-no_true : false ≡ true → ⊥
-no_true e = cc
 
 -- ## One tree becomes the root's
 
@@ -33,7 +29,13 @@ module _ (tree : PlainTrees) (one : IsOneTree tree) where
   alone : beside (subtree 0 (numbered 0 tree)) (without 0 (numbered 0 tree)) ≡ numbered 0 tree
   alone = ap (λ t. beside (subtree 0 (numbered 0 t)) (without 0 (numbered 0 t))) one.2 ∙ sym (ap (numbered 0) one.2)
 
-  module _ (w : ℕ) (lt : w < 32) (p0 p1 : Page) (away : IsAway p0 w) (id : ℕ) (g : IsGrown w p0 p1 id (size tree) (numbered (length (own p0 w)) tree)) where
+  module _ (w : ℕ) (lt : w < 32) (p0 p1 : Page) (away : IsAway p0 w) (id : ℕ) (roots : SameRoots p0 p1) (added : IsAdded (nodes p0) (nodes p1) id (owner.Widget w) tree) where
+    g : IsGrown w p0 p1 id (size tree) (numbered (length (own p0 w)) tree)
+    g = grown_of p0 p1 roots w lt id tree added
+
+    pub is_mine : owns p1 w id ≡ true
+    is_mine = g.mine
+
     none_before : length (own p0 w) ≡ 0
     none_before = ap length away.nodes
 
@@ -77,49 +79,20 @@ module _ (tree : PlainTrees) (one : IsOneTree tree) where
         trees = others v low ne ∙ g.others v low ne ∙ h.trees;
       }
 
-      pub raws_there : (s0 s1 s2 : Cells) → Kept [] w s0 s1 → Kept [] w s1 s2 → ((n : ℕ) → id ≤ n → n < id + size tree → HasRaw s2.cells n) → HaveRaws s0 p0 → HaveRaws s2 p2
-      raws_there s0 s1 s2 k l there h = λ v n mine.
-          ⊎_elim
-          (λ o. raw_stays w s1.cells s2.cells l.grows n (raw_stays w s0.cells s1.cells k.grows n (h v n o)))
-          (λ r. there n r.0 r.1)
-          (g.fresh v n (sym (becomes.owners v n) ∙ mine))
-
 -- ## A new page
 
-module _ (p : Page) (is : nodes p ≡ body_entry ∷ []) where
-  pub no_owned : (v n : ℕ) → owns p v n ≡ false
-  unfolding owns
-  no_owned v n = ap (λ k. is_own k v n) is ∙ by n
-    where
-      by : (n : ℕ) → is_own (body_entry ∷ []) v n ≡ false
-      by zero = refl
-      by (suc n) = refl
+pub all_away : (p : Page) → nodes p ≡ body_entry ∷ [] → (w : ℕ) → root p (owner.Widget w) ≡ None → IsAway p w
+unfolding root_of own forest
+all_away p is w free = record {
+  free = free;
+  nodes = ap (λ k. own_nodes k w) is;
+  trees = (λ j. own_forest (is j) (free j) w);
+}
 
-  pub all_away : (w : ℕ) → root p (owner.Widget w) ≡ None → IsAway p w
-  unfolding root_of own forest
-  all_away w free = record {
-    free = free;
-    nodes = ap (λ k. own_nodes k w) is;
-    trees = (λ j. own_forest (is j) (free j) w);
-  }
-
-pub no_raws : (p : Page) → nodes p ≡ body_entry ∷ [] → (s : Cells) → HaveRaws s p
-no_raws p is s = λ v n h. absurd (no_true (sym (no_owned p is v n) ∙ h))
+pub first_raws : (p : Page) → nodes p ≡ body_entry ∷ [] → (s : Cells) → HasRaw s.cells body → HaveRaws s p
+first_raws p is s top = λ n lt. (let first : body ≡ n = omega (arith, lt, ap length is) in subst (HasRaw s.cells) first top)
 
 -- two clauses of an answer together
 pub both_ok : {T E : Type 0} (r : Result T E) {P Q R : T → Type 0} → ((x : T) → P x → Q x → R x) → IfOk r P → IfOk r Q → IfOk r R
 both_ok (Ok x) f p q = f x p q
 both_ok (Err e) f p q = tt
-
--- ## The store
-
--- each widget stays confined
-pub confined_all : (fs : List Forest) (w : ℕ) (s t : Cells) → Kept fs w s t → (v : ℕ) → IsConfined fs v s → IsConfined fs v t
-confined_all fs w s t k v h = by (eqb w v) refl
-  where
-    differ : eqb w v ≡ false → w ≡ v → ⊥
-    differ e g = no_true (sym e ∙ eq-eqb w v g)
-
-    by : (b : Bool) → eqb w v ≡ b → IsConfined fs v t
-    by true e = let g = eqb-true w v e in subst (λ x. IsConfined fs x t) g (k.confined (subst (λ x. IsConfined fs x s) (sym g) h))
-    by false e = k.others_confined fs v (differ e) h

@@ -1,7 +1,6 @@
 -- A tree of the host is added and put under `body`: what widgets have of the page stays.
-use Rattle.std.proofs.Common.{◌≡◌, ◌≢◌, ℕ, suc, subst, ◌+◌, ◌<◌, ◌≤◌, List, [], ◌∷◌, ◌++◌, Bool, true, false, refl, sym, ap, ◌∙◌, length, cond, eqb, eq-eqb, ne_eqb, ◌&&◌, not, Option, None, Some, arith}
-use Rattle.std.specs.Prelude.{is_some, nat_lt, option_to_list}
-use Rattle.std.proofs.lemmas.Bool.Decides.{nat_tests}
+use Rattle.std.proofs.Common.{◌≡◌, ◌≢◌, ℕ, suc, subst, ◌+◌, ◌<◌, ◌≤◌, List, [], ◌∷◌, ◌++◌, true, false, refl, sym, ap, ◌∙◌, length, cond, eqb, eq-eqb, ne_eqb, ◌&&◌, not, Option, None, Some, arith}
+use Rattle.std.specs.Prelude.{is_some, option_to_list}
 use Rattle.std.specs.List.{filter, range_with_len}
 use Rattle.std.proofs.lemmas.List.{append-nil}
 use Rattle.code_units.specs.declared.owner.Owner.TheVariants as owner
@@ -10,7 +9,6 @@ use Rattle.tree_ops.specs.Trees.{is_number}
 use Rattle.tree_ops.proofs.Absent.{grafted_off}
 use Rattle.tree_ops.proofs.Numbers.{numbered_shape}
 use Rattle.tree_ops.proofs.Tests.{or_left, or_right}
-use Rattle.store_cells.specs.Cells.{Cells}
 use Rattle.page_nodes.specs.Adds.{IsAdded}
 use Rattle.page_nodes.specs.Entries.{Entry, IsSound, at, body, listed, tree}
 use Rattle.page_nodes.specs.Moves.{IsLinked}
@@ -31,7 +29,7 @@ use Rattle.page_image.proofs.Owners.{own_nodes_same}
 use Rattle.page_image.proofs.Pages.{is_widget}
 use Rattle.page_image.proofs.Shown.{forest_own, own_is_node, own_not_body, top_own}
 use Rattle.page_image.proofs.Staying.{forest_stays}
-use Rattle.page_build.specs.Homes.{HaveRaws, IsAway, IsHome, IsOneTree}
+use Rattle.page_build.specs.Homes.{IsAway, IsHome, IsOneTree}
 use Rattle.page_build.specs.Layout.{IsLaidOut, IsMarkup, Lot, Own, each_tree}
 use Rattle.page_build.proofs.Laid.{each_one, laid_linked, laid_stays, same_plain, trees_linked}
 
@@ -106,17 +104,6 @@ module _ (p q : Page) (id : ℕ) (t : PlainTrees) (same : SameRoots p q) (c : Is
     numbers = λ n h. number_older (nodes p) (nodes q) v c.older.long c.older.same n (omega (arith, own_is_node (nodes p) v n h));
   }
 
-  -- no widget gets a node
-  added_owners : (v n : ℕ) → owns q v n ≡ true → owns p v n ≡ true
-  unfolding owns
-  added_owners v n h = by (nat_lt n (length (nodes p))) refl
-    where
-      by : (b : Bool) → nat_lt n (length (nodes p)) ≡ b → is_own (nodes p) v n ≡ true
-      by true e = let low : n < length (nodes p) = grind (arith, nat_tests, e) in sym (ap (λ (x : Entry). same_owner x.owner (owner.Widget v)) (c.older.same n low)) ∙ h
-      by false e =
-          let high : length (nodes p) ≤ n = grind (arith, nat_tests, e) in
-          absurd (no_true (sym (ap (λ o. same_owner o (owner.Widget v)) (c.own n high (own_is_node (nodes q) v n h))) ∙ h))
-
 -- ## The tree comes under `body`
 
 module _ (p q : Page) (id : ℕ) (mine : (at (nodes p) id).owner ≡ owner.Host) (c : IsLinked (nodes p) (nodes q) body None id) (becomes : BecomesRoot p q id) where
@@ -139,10 +126,6 @@ module _ (p q : Page) (id : ℕ) (mine : (at (nodes p) id).owner ≡ owner.Host)
     numbers = λ n h. number_kept (nodes p) (nodes q) v c.kept.made c.kept.owners n;
   }
 
-  linked_owners : (v n : ℕ) → owns q v n ≡ true → owns p v n ≡ true
-  unfolding owns
-  linked_owners v n h = sym (ap (λ o. same_owner o (owner.Widget v)) (c.kept.owners n)) ∙ h
-
 -- ## Both
 
 module _ (p r q : Page) (id : ℕ) (t : PlainTrees) (same : SameRoots p r) (c : IsAdded (nodes p) (nodes r) id owner.Host t) (d : IsLinked (nodes r) (nodes q) body None id) (becomes : BecomesRoot r q id) where
@@ -154,9 +137,6 @@ module _ (p r q : Page) (id : ℕ) (t : PlainTrees) (same : SameRoots p r) (c : 
 
   pub all_home : (v : ℕ) (u : PlainTrees) → v < 32 → IsHome p v u → IsHome q v u
   all_home v u lt h = home_stays r q v lt (linked_stays r q id mine d becomes v lt) u (home_stays p r v lt (added_stays p r id t same c v lt) u h)
-
-  pub all_raws : (s : Cells) → HaveRaws s p → HaveRaws s q
-  all_raws s h = λ v n e. h v n (added_owners p r id t same c v n (linked_owners r q id mine d becomes v n e))
 
   -- it stands behind the children that `body` had
   here : IsMarkup q id t

@@ -1,3 +1,4 @@
+mod Raws
 mod Homes
 pub mod Laid
 mod Hosted

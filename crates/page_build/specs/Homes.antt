@@ -1,11 +1,12 @@
 -- Widgets on a page that is being made.
-use Rattle.std.specs.Prelude.{◌≡◌, ℕ, [], None, true, length}
+use Rattle.std.specs.Prelude.{◌≡◌, ℕ, ◌<◌, [], None, length}
 use Rattle.plain_tree.specs.Plains.{unplaced}
 use Rattle.plain_tree.specs.Trees.{End, Label, Node, PlainTrees, size}
 use Rattle.tree_ops.specs.Trees.{numbered}
 use Rattle.store_cells.specs.Cells.{Cells}
 use Rattle.page_tree.specs.declared.page.Page.{Page}
-use Rattle.page_image.specs.Image.{HasRoot, forest, own, owns, root_of}
+use Rattle.page_tree.specs.Pages.{nodes}
+use Rattle.page_image.specs.Image.{HasRoot, forest, own, root_of}
 use Rattle.native_image.specs.Sound.{HasRaw}
 use Rattle.page_spec.specs.declared.SlotContent.{SlotContent}
 use Rattle.page_spec.specs.declared.SlotContent.TheVariants as slot
@@ -26,9 +27,9 @@ pub record IsHome (p : Page) (w : ℕ) (tree : PlainTrees) : Type 0 where
 abbrev pub IsOneTree : PlainTrees → Type 0
 IsOneTree tree = (l : Label) × (ks : PlainTrees) × (tree ≡ Node tt l ks End)
 
--- each node of a widget has its cell
+-- each node of the page has its cell
 abbrev pub HaveRaws : Cells → Page → Type 0
-HaveRaws s p = (v n : ℕ) → owns p v n ≡ true → HasRaw s.cells n
+HaveRaws s p = (n : ℕ) → n < length (nodes p) → HasRaw s.cells n
 
 -- what stands in a slot is on the page: a widget's root, and of a refused one nothing
 abbrev pub IsPlaced : Page → ℕ → SlotContent → Type 0

@@ -1,13 +1,17 @@
 //! The host's own markup on the page.
-ghost use Rattle.std.specs.Prelude.{◌<◌, ◌++◌, ℕ, List, OnOk};
+ghost use Rattle.std.specs.Prelude.{◌≡◌, ◌<◌, ◌++◌, ℕ, List, OnOk};
+ghost use Rattle.js_tree.specs.Forest.{Forest};
+ghost use Rattle.js_image.specs.Held.{IsConfined};
 ghost use Rattle.plain_tree.specs.Plains.{unplaced};
 ghost use Rattle.plain_tree.specs.Trees.{PlainTrees};
-ghost use Rattle.store_cells.specs.Cells.{Cells};
+ghost use Rattle.object_store.specs.Owned.{owned};
 ghost use Rattle.page_build.specs.Homes.{HaveRaws, IsAway, IsHome};
 ghost use Rattle.page_build.specs.Layout.{IsLaidOut, Lot, each_tree};
 
+use crate::growing::add_nodes;
 use crate::rooting::one_tree;
 use code_units::{Memory, Owner};
+use object_store::Store;
 use page_nodes::room_after;
 use page_tree::Page;
 use plain_tree::Plain;
@@ -16,19 +20,25 @@ use std::alloc::Global;
 /// How many nodes of the host a page may have.
 const MOST_OF_HOST: u32 = 300_000;
 
-/// A tree of the host comes behind the last child of `body`. All widgets keep what they have.
-pub fn add_markup(alloc: Global, page: &mut Page, plain: &Plain) -> Result<(), Memory>
+/// A tree of the host comes behind the last child of `body`, and each of its nodes gets its cell. All widgets keep
+/// what they have.
+pub fn add_markup(
+    alloc: Global,
+    store: &mut Store,
+    page: &mut Page,
+    plain: &Plain,
+) -> Result<(), Memory>
     ensures away { OnOk result ((v : ℕ) → v < 32 → IsAway page.old v → IsAway page.new v) }
     ensures home { OnOk result ((v : ℕ) (tree : PlainTrees) → v < 32 → IsHome page.old v tree → IsHome page.new v tree) }
-    ensures raws { OnOk result ((s : Cells) → HaveRaws s page.old → HaveRaws s page.new) }
+    ensures raws { OnOk result (HaveRaws store.old page.old → HaveRaws store.new page.new) }
     ensures laid { OnOk result ((lots : List Lot) → IsLaidOut page.old lots → IsLaidOut page.new (lots ++ each_tree (unplaced plain.now))) }
+    ensures same { (v : ℕ) → owned v store.new ≡ owned v store.old }
+    ensures confined { (fs : List Forest) (v : ℕ) → IsConfined fs v store.old → IsConfined fs v store.new }
 {
     one_tree(plain);
     if room_after(plain, MOST_OF_HOST - page.made(Owner::Host)).is_none() {
         return Err(Memory);
     }
-    match page.add(alloc, Owner::Host, plain) {
-        Ok(id) => page.adopt(id),
-        Err(_) => Err(Memory),
-    }
+    let id = add_nodes(alloc, store, page, Owner::Host, plain)?;
+    page.adopt(id)
 }

@@ -1,6 +1,8 @@
-//! The page of widgets that are loaded: each gets its root, under the host's `body`, and each of its nodes gets its cell.
+//! The page of widgets that are loaded: each gets its root, under the host's `body`, between the host's own markup, and
+//! each node gets its cell.
 #![tactic(auto)]
 
+mod growing;
 mod hosting;
 mod rooting;
 mod slots;

@@ -1,11 +1,13 @@
 //! Roots come under `body`.
-ghost use Rattle.std.specs.Prelude.{◌≡◌, ◌≢◌, ◌+◌, ◌++◌, ◌∷◌, [], ◌<◌, ◌≤◌, ℕ, List, None, true, IfOk, OnOk};
+ghost use Rattle.std.specs.Prelude.{◌≡◌, ◌≢◌, ◌++◌, ◌∷◌, [], ◌<◌, ℕ, List, None, true, IfOk, OnOk, length};
 ghost use Rattle.plain_tree.specs.Plains.{unplaced};
 ghost use Rattle.plain_tree.specs.Trees.{PlainTrees, beside};
 ghost use Rattle.query_grammar.specs.Finds.{has_number};
 ghost use Rattle.tree_ops.specs.Trees.{subtree, tops, without};
 ghost use Rattle.js_tree.specs.Forest.{Forest};
-ghost use Rattle.js_image.specs.Held.{IsConfined, Kept};
+ghost use Rattle.js_image.specs.Held.{IsConfined};
+ghost use Rattle.page_nodes.specs.Entries.{body};
+ghost use Rattle.page_tree.specs.Pages.{nodes};
 ghost use Rattle.page_image.specs.Image.{forest, number, owns, root_of};
 ghost use Rattle.page_image.specs.Stays.{GetsRoot, OthersStay};
 ghost use Rattle.native_image.specs.Sound.{HasRaw};
@@ -14,52 +16,21 @@ ghost use Rattle.store_cells.specs.Cells.{Cells};
 ghost use Rattle.page_build.specs.Homes.{HaveRaws, IsAway, IsHome, IsOneTree};
 ghost use Rattle.page_build.specs.Layout.{IsLaidOut, Lot, Root};
 
-use code_units::Memory;
+use crate::growing::add_nodes;
+use code_units::{Memory, Owner};
 use keyed_names::Keys;
-use native_image::add_tree;
-use object_store::{NODE_LIMIT, Store};
-use page_image::made;
+use object_store::Store;
 use page_tree::{NodeId, Page};
 use plain_tree::Plain;
 use std::alloc::Global;
 
-/// A page without nodes of widgets, where `body` has no children.
+/// A page without nodes of widgets, where `body` has no children. Its only node is `body`, of which every store has the cell.
 pub fn new_page(alloc: Global, keys: Keys) -> Result<Page, Memory>
     ensures away { IfOk result (λ page. (w : ℕ) → w < 32 → IsAway page w) }
-    ensures raws { IfOk result (λ page. (store : Cells) → HaveRaws store page) }
+    ensures raws { IfOk result (λ page. (store : Cells) → HasRaw store.cells body → HaveRaws store page) }
     ensures laid { IfOk result (λ page. IsLaidOut page []) }
 {
     Page::new(alloc, keys)
-}
-
-// A node has its cell.
-fn add_cell(alloc: Global, store: &mut Store, node: NodeId) -> Result<(), Memory>
-    ensures there { OnOk result (HasRaw store.new.cells node) }
-    ensures same { (v : ℕ) → owned v store.new ≡ owned v store.old }
-    ensures kept { (fs : List Forest) (w : ℕ) → Kept fs w store.old store.new }
-{
-    if node >= NODE_LIMIT {
-        return Err(Memory);
-    }
-    match store.add_raw(alloc, node) {
-        Ok(_) => Ok(()),
-        Err(_) => Err(Memory),
-    }
-}
-
-// So many nodes from one on have their cells.
-fn add_cells(alloc: Global, store: &mut Store, first: NodeId, many: u32) -> Result<(), Memory>
-    ensures there { OnOk result ((n : ℕ) → first ≤ n → n < first + many → HasRaw store.new.cells n) }
-    ensures same { (v : ℕ) → owned v store.new ≡ owned v store.old }
-    ensures kept { (fs : List Forest) (w : ℕ) → Kept fs w store.old store.new }
-{
-    let Some(past) = first.checked_add(many) else {
-        return Err(Memory);
-    };
-    'each: for node in first..past {
-        add_cell(alloc, store, node)?;
-    }
-    Ok(())
 }
 
 // A law: a plain tree is one tree.
@@ -82,6 +53,7 @@ fn adopt(page: &mut Page, w: u32, node: NodeId) -> Result<(), Memory>
         (without (number page.old w node) (forest page.old w))) }
     ensures becomes { OnOk result (GetsRoot page.old page.new w node) }
     ensures others { OnOk result (OthersStay page.old page.new w) }
+    ensures many { OnOk result (length (nodes page.new) ≡ length (nodes page.old)) }
     ensures laid { OnOk result ((lots : List Lot) → IsLaidOut page.old lots → IsLaidOut page.new (lots ++ Root w ∷ [])) }
 {
     page.adopt(node)
@@ -98,9 +70,8 @@ pub fn add_root(
 ) -> Result<(), Memory>
     requires widget { w < 32 }
     requires away { IsAway page.old w }
-    requires raws { HaveRaws store.old page.old }
     ensures home { OnOk result (IsHome page.new w (unplaced body.now)) }
-    ensures raws { OnOk result (HaveRaws store.new page.new) }
+    ensures raws { OnOk result (HaveRaws store.old page.old → HaveRaws store.new page.new) }
     ensures laid { OnOk result ((lots : List Lot) → IsLaidOut page.old lots → IsLaidOut page.new (lots ++ Root w ∷ [])) }
     ensures others { OnOk result ((v : ℕ) (tree : PlainTrees) → v < 32 → v ≢ w → IsHome page.old v tree → IsHome page.new v tree) }
     ensures away { OnOk result ((v : ℕ) → v < 32 → v ≢ w → IsAway page.old v → IsAway page.new v) }
@@ -108,10 +79,6 @@ pub fn add_root(
     ensures confined { (fs : List Forest) (v : ℕ) → IsConfined fs v store.old → IsConfined fs v store.new }
 {
     one_tree(body);
-    let before = made(page, w);
-    let id = add_tree(alloc, store, page, w, body)?;
-    let many = made(page, w) - before;
-    // `add_tree` says of a widget that has a root alone that its new nodes have their cells.
-    add_cells(alloc, store, id, many)?;
+    let id = add_nodes(alloc, store, page, Owner::Widget(w), body)?;
     adopt(page, w, id)
 }

@@ -52,9 +52,8 @@ pub fn add_slot(
 ) -> Result<(), Memory>
     requires widget { w < 32 }
     requires away { IsAway page.old w }
-    requires raws { HaveRaws store.old page.old }
     ensures placed { OnOk result (IsPlaced page.new w slot.now.content) }
-    ensures raws { OnOk result (HaveRaws store.new page.new) }
+    ensures raws { OnOk result (HaveRaws store.old page.old → HaveRaws store.new page.new) }
     ensures laid { OnOk result ((lots : List Lot) → IsLaidOut page.old lots
         → IsLaidOut page.new (lots ++ lot_of slot.now.name (home_of w slot.now.content) ∷ [])) }
     ensures others { OnOk result ((v : ℕ) (tree : PlainTrees) → v < 32 → v ≢ w → IsHome page.old v tree → IsHome page.new v tree) }
@@ -66,7 +65,7 @@ pub fn add_slot(
         SlotContent::Runs { body, .. } => add_root(alloc, store, page, w, body),
         SlotContent::Refused => {
             let plain = empty_div(alloc, &slot.name)?;
-            add_markup(alloc, page, &plain)
+            add_markup(alloc, store, page, &plain)
         }
     }
 }

@@ -9,7 +9,7 @@ use Rattle.page_image.specs.Stays.{GetsRoot, OthersStay}
 use Rattle.page_image.proofs.Adopting.{gets_root, has_none, linked_root, root_image, root_others, top_alone}
 use Rattle.page_image.proofs.Looks.{not_the_body}
 use Rattle.page_image.proofs.Pages.{below_32, is_node}
-use Rattle.page_image.proofs.Results.{ok_both}
+use Rattle.page_image.proofs.Results.{ok_both, ok_then}
 use Rattle.page_build.specs.Layout.{IsLaidOut, Lot, Root}
 use Rattle.page_build.proofs.Laid.{laid_root}
 use Rattle.page_build.proofs.rooting.adopt.Goals as goal
@@ -52,6 +52,9 @@ returns-clause-others c =
     let n = c.args.node in
     ok_both c.adopt.result (IsLinked (nodes old) (nodes new) body None n) (BecomesRoot old new n) (OthersStay old new w)
     (λ a b. root_others old new w n c.requires.own c.requires.free (linked_root old new w n a b)) c.adopt.ensures.done c.adopt.ensures.becomes
+
+pub returns-clause-many : goal.returns-clause-many
+returns-clause-many c = ok_then c.adopt.result _ _ (λ d. d.kept.made) c.adopt.ensures.done
 
 pub returns-clause-laid : goal.returns-clause-laid
 returns-clause-laid c =

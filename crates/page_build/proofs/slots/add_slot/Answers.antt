@@ -10,9 +10,6 @@ returns-in-Runs-clause-placed c = ok_then c.add_root.result _ _ (λ h. subst (Is
 pub returns-in_ok-plain-in-Refused-clause-placed : goal.returns-in_ok-plain-in-Refused-clause-placed
 returns-in_ok-plain-in-Refused-clause-placed c = ok_then c.add_markup.result _ _ (λ h. subst (IsPlaced c.add_markup.new.page c.args.w) (sym c.in-Refused.is) (h c.args.w c.requires.widget c.requires.away)) c.add_markup.ensures.away
 
-pub returns-in_ok-plain-in-Refused-clause-raws : goal.returns-in_ok-plain-in-Refused-clause-raws
-returns-in_ok-plain-in-Refused-clause-raws c = ok_then c.add_markup.result _ _ (λ h. h c.args.store.now c.requires.raws) c.add_markup.ensures.raws
-
 pub returns-in_ok-plain-in-Refused-clause-others : goal.returns-in_ok-plain-in-Refused-clause-others
 returns-in_ok-plain-in-Refused-clause-others c = ok_then c.add_markup.result _ _ (λ h. λ v tree lt ne. h v tree lt) c.add_markup.ensures.home
 

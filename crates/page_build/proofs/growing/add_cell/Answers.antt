@@ -2,7 +2,7 @@ use Rattle.std.proofs.Common.{ap, refl}
 use Rattle.std.specs.Prelude.{is_some}
 use Rattle.js_image.proofs.Grown.{kept_same}
 use Rattle.native_image.proofs.Added.{raw_kept}
-use Rattle.page_build.proofs.rooting.add_cell.Goals as goal
+use Rattle.page_build.proofs.growing.add_cell.Goals as goal
 
 pub returns-then-node-ge-NODE_LIMIT-clause-kept : goal.returns-then-node-ge-NODE_LIMIT-clause-kept
 returns-then-node-ge-NODE_LIMIT-clause-kept c = λ fs w. kept_same fs w c.args.store.now c.args.store.now refl

@@ -2,7 +2,7 @@ use Rattle.std.proofs.Common.{[], refl, ◌∙◌, arith}
 use Rattle.js_image.proofs.Grown.{kept_same}
 use Rattle.js_image.proofs.Units.{kept_then}
 use Rattle.native_image.proofs.Added.{more_cells}
-use Rattle.page_build.proofs.rooting.add_cells.Goals as goal
+use Rattle.page_build.proofs.growing.add_cells.Goals as goal
 
 pub each-init : goal.each-init
 each-init c = record {

@@ -3,7 +3,7 @@ use Rattle.js_tree.specs.Forest.{Forest}
 use Rattle.object_store.specs.Owned.{owned}
 use Rattle.js_image.specs.Held.{Kept}
 use Rattle.native_image.specs.Sound.{HasRaw}
-use Rattle.page_build.proofs.rooting.add_cells.Given as goal
+use Rattle.page_build.proofs.growing.add_cells.Given as goal
 
 -- those before have their cells
 abbrev pub invariant-each : goal.invariant-each
