@@ -5,6 +5,8 @@ use Rattle.object_store.specs.Owned.{owned}
 use Rattle.page_tree.specs.declared.page.Page.{Page}
 use Rattle.page_image.specs.Image.{own}
 use Rattle.page_image.proofs.Hosting.{host_same, host_then}
+use Rattle.native_image.specs.Sound.{HasRaw}
+use Rattle.native_image.proofs.Added.{raw_stays}
 use Rattle.js_names.specs.Code.{trees_of}
 use Rattle.turn_calls.specs.declared.turn.Shared.{Shared}
 use Rattle.life_queue.specs.declared.life.Life.{Life}
@@ -59,7 +61,7 @@ page_kept : (w : ℕ) (h m : Shared) (a b : Life) → KeepsLife w h m a b → Pa
 page_kept w h m a b k = record { host = k.host; owners = k.page.owners; numbers = k.page.numbers; roots = k.page.roots }
 
 pub keeps_here : (c : Crowd) → KeepsCrowd c c
-keeps_here c = record { homes = refl; accepts = refl; codes = refl; holds = λ h. h; rest = refl; page = page_here c.shared.page; cells = λ v e. refl; nodes = λ v e. refl }
+keeps_here c = record { homes = refl; accepts = refl; codes = refl; holds = λ h. h; rest = refl; page = page_here c.shared.page; raws = λ n h. h; cells = λ v e. refl; nodes = λ v e. refl }
 
 pub keeps_then : (c d e : Crowd) → KeepsCrowd c d → KeepsCrowd d e → KeepsCrowd c e
 keeps_then c d e f g = record {
@@ -69,6 +71,7 @@ keeps_then c d e f g = record {
   holds = λ h. g.holds (f.holds h);
   rest = g.rest ∙ f.rest;
   page = page_then c.shared.page d.shared.page e.shared.page f.page g.page;
+  raws = λ n h. g.raws n (f.raws n h);
   cells = λ v none. g.cells v (ap (λ fs. slice_index_or fs v false) f.accepts ∙ none) ∙ f.cells v none;
   nodes = λ v none. g.nodes v (ap (λ fs. slice_index_or fs v false) f.accepts ∙ none) ∙ f.nodes v none;
 }
@@ -86,6 +89,7 @@ module _ (c d : Crowd) (v : ℕ) (a b : Place) (at : slice_get c.places.items v 
     holds = λ h. subst (λ ps. OwnPlaces d.shared 0 ps) (sym set) (owns_set v c.shared d.shared a b k turn 0 v c.places.items (omega arith) at (omega (arith, few)) h);
     rest = rest;
     page = page_kept v (lent c.shared a) (lent d.shared b) a.life b.life k;
+    raws = raw_stays v c.shared.store.cells d.shared.store.cells k.cells.grows;
     cells = λ x none. k.cells.others x (another x none);
     nodes = λ x none. k.page.others x (λ e. another x none (sym e));
   }
@@ -99,6 +103,7 @@ keeps_journal c d e same places k = record {
   holds = λ h. subst (λ ps. OwnPlaces e.shared 0 ps) (sym places) (subst (λ s. OwnPlaces s 0 d.places.items) (sym same) (k.holds h));
   rest = ap (λ (s : Shared). s.codes) same ∙ k.rest;
   page = subst (λ (s : Shared). PageStays c.shared.page s.page) (sym same) k.page;
+  raws = λ n h. subst (λ (s : Shared). HasRaw s.store.cells n) (sym same) (k.raws n h);
   cells = λ v none. ap (λ (s : Shared). owned v s.store) same ∙ k.cells v none;
   nodes = λ v none. ap (λ (s : Shared). own s.page v) same ∙ k.nodes v none;
 }

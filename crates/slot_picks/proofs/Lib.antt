@@ -1,6 +1,7 @@
 mod Others
 mod Owning
 pub mod Keeping
+mod Hosts
 mod Picking
 mod Spending
 mod Looping

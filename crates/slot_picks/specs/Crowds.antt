@@ -1,9 +1,13 @@
 -- The lives of all places and the slots in which they follow on each other: what is seen of them, what holds, and what picks keep.
 use Rattle.std.specs.Prelude.{◌≡◌, ℕ, ◌<◌, ◌≤◌, true, false, List, map, length}
+use Rattle.code_units.specs.declared.owner.Owner.TheVariants as owner
+use Rattle.page_nodes.specs.Entries.{at}
 use Rattle.page_tree.specs.declared.page.Page.{Page}
+use Rattle.page_tree.specs.Pages.{nodes}
 use Rattle.object_store.specs.Owned.{owned}
 use Rattle.page_image.specs.Image.{number, own, owns, root_of}
 use Rattle.page_image.specs.Stays.{HostStays}
+use Rattle.native_image.specs.Sound.{HasRaw}
 use Rattle.life_laws.specs.Life.{Seen}
 use Rattle.pick_laws.specs.Journal.{AllJoined, journal_room}
 use Rattle.slot_laws.specs.Chains.{Chains, Rest, Unspent}
@@ -58,7 +62,11 @@ pub record PageStays (old new : Page) : Type 0 where
   pub numbers : (v n : ℕ) → owns old v n ≡ true → number new v n ≡ number old v n
   pub roots : (v : ℕ) → v < 32 → root_of new v ≡ root_of old v
 
--- What picks keep of all lives, also after want of memory: the slot of each, whether its file was accepted, the trees of its scripts, and that it holds its own alone; which trees are shared between picks, what stays of the page, and what is nobody's: a number that is no accepted life's gets no cell and no node.
+-- The host gets no node: each that it has was there before.
+abbrev pub HostGetsNone : Page → Page → Type 0
+HostGetsNone old new = (n : ℕ) → n < length (nodes new) → (at (nodes new) n).owner ≡ owner.Host → n < length (nodes old)
+
+-- What picks keep of all lives, also after want of memory: the slot of each, whether its file was accepted, the trees of its scripts, and that it holds its own alone; which trees are shared between picks, what stays of the page, the RawNode of each page node that has one, and what is nobody's: a number that is no accepted life's gets no cell and no node.
 pub record KeepsCrowd (old new : Crowd) : Type 0 where
   pub homes : homes_of new.places.items ≡ homes_of old.places.items
   pub accepts : accepts_of new.places.items ≡ accepts_of old.places.items
@@ -66,5 +74,6 @@ pub record KeepsCrowd (old new : Crowd) : Type 0 where
   pub holds : OwnCrowd old → OwnCrowd new
   pub rest : new.shared.codes ≡ old.shared.codes
   pub page : PageStays old.shared.page new.shared.page
+  pub raws : (n : ℕ) → HasRaw old.shared.store.cells n → HasRaw new.shared.store.cells n
   pub cells : (v : ℕ) → is_accepted old.places.items v ≡ false → owned v new.shared.store ≡ owned v old.shared.store
   pub nodes : (v : ℕ) → is_accepted old.places.items v ≡ false → own new.shared.page v ≡ own old.shared.page v
