@@ -13,6 +13,7 @@ use Rattle.widget_meaning.specs.OwnState.{nothing_kept}
 use Rattle.widget_meaning.specs.Alone.{Content, beginning}
 use Rattle.page_image.specs.Held.{OptionIn}
 use Rattle.page_image.specs.Image.{forest, number, own, owns}
+use Rattle.page_image.proofs.Pages.{is_node}
 use Rattle.event_loop.specs.Around as around
 use Rattle.event_loop.specs.Kept.{PlainKept}
 use Rattle.event_loop.specs.declared.around.Loop.{Loop}
@@ -105,7 +106,7 @@ module _ (h : Shared) (w : ℕ) (l : Life) (blank : IsBlank w l.widget) (new : I
     fine_is = record {
       number = blank.number;
       confined = confined;
-      sound = record { holds = holds; raws = raws };
+      sound = record { holds = holds; raws = λ v n e. raws n (is_node h.page v n e) };
       lib = record { held = lib.held; first = lib.first };
       works = works;
       turn = subst (λ (t : Option Turn). IfSome t (FineTurn (trees_in h) w h.store h.page l.grant)) (sym new.rests) tt;
@@ -140,7 +141,7 @@ module _ (w : ℕ) (h : Shared) (new : Cells) (kept : (fs : List Forest) → Kep
   }
 
   pub raws_kept : HaveRaws new h.page
-  raws_kept = λ v n e. raw_stays w h.store.cells new.cells (kept []).grows n (raws v n e)
+  raws_kept = λ n lt. raw_stays w h.store.cells new.cells (kept []).grows n (raws n lt)
 
 -- where nothing changes
 pub keeps_same : (w : ℕ) (h : Shared) → IsUnused h.store w → HaveRaws h.store h.page → KeepsOthers w h h
@@ -172,6 +173,6 @@ module _ (w : ℕ) (h k : Shared) (codes : k.codes ≡ h.codes) (page : k.page �
     raws = raws_here;
     unused = unused_behind w h k.store kept unused raws;
     others = (kept []).others;
-    fine = λ v a lt ne f. fine_apart w v ne lt [] (lent h a) (lent k a) refl cells_here page_here a.life f raws_here;
+    fine = λ v a lt ne f. fine_apart w v ne lt [] (lent h a) (lent k a) refl cells_here page_here a.life f (λ u n e. raws_here n (is_node k.page u n e));
     seen = λ v a lt ne f. seen_apart w v ne lt [] (lent h a) (lent k a) refl cells_here page_here a.life f;
   }

@@ -9,7 +9,9 @@ use Rattle.js_tree.specs.Forest.{Forest}
 use Rattle.store_cells.specs.Cells.{PlainCell, is_visible}
 use Rattle.store_cells.specs.Host.{entry_cell, first_store, host_cells, nothing_paid}
 use Rattle.object_store.specs.Owned.{is_own_scope, own_cell, own_scope, owned}
+use Rattle.page_nodes.specs.Entries.{body}
 use Rattle.js_image.specs.Held.{IsConfined}
+use Rattle.native_image.specs.Sound.{HasRaw}
 use Rattle.page_load.specs.Laying.{HasNoCells, IsUnused, nothing_owned}
 
 -- a cell of the host is of no widget
@@ -69,6 +71,11 @@ module _ (w : ℕ) where
   pub first_free : HasNoCells w first_store
   unfolding owned
   first_free = record { heap = ap (map (own_cell w host_cells)) (no_cells host_cells (hosts w)); scopes = ap (map (own_scope w host_cells)) (no_scopes host_cells (hosts w)) }
+
+-- `body` has its cell
+pub first_body : HasRaw first_store.cells body
+unfolding host_cells
+first_body = refl
 
 pub first_unused : IsUnused first_store 0
 first_unused = record { nothing = λ v le lt. first_nothing v lt; confined = first_confined }

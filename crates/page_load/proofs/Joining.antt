@@ -23,7 +23,7 @@ use Rattle.widget_meaning.specs.Alone.{Content, beginning}
 use Rattle.life_laws.specs.Life.{due, image, waiting}
 use Rattle.turn_calls.specs.declared.turn.Shared.{Shared}
 use Rattle.slot_picks.specs.declared.crowd.Place.{Place}
-use Rattle.page_build.specs.Homes.{IsHome, IsPlaced}
+use Rattle.page_build.specs.Homes.{HaveRaws, IsHome, IsPlaced}
 use Rattle.page_spec.specs.declared.SlotContent.{SlotContent}
 use Rattle.page_spec.specs.declared.SlotContent.TheVariants as slot
 use Rattle.page_spec.specs.declared.SlotSpec.{SlotSpec}
@@ -213,8 +213,8 @@ module _ (spec : PageSpec) (l : Loaded) (s : Cells) (p : Page) (laid : AreLaid s
       unborn.refused
 
   pub page_loads : l.names.items ≡ names_of spec.slots.items → l.channels.items ≡ spec.channels.items → l.shared.codes.items ≡ [] → ((v : ℕ) → IsNobodys l.places.items v → HasNoCells v l.shared.store)
-      → IsLaid p (names_of spec.slots.items) (homes_of spec.slots.items) (map piece_of spec.pieces.items) → LoadsPage spec l
-  page_loads names channels unshared free lots = record {
+      → HaveRaws l.shared.store l.shared.page → IsLaid p (names_of spec.slots.items) (homes_of spec.slots.items) (map piece_of spec.pieces.items) → LoadsPage spec l
+  page_loads names channels unshared free raws lots = record {
     few = few;
     names = names;
     channels = channels;
@@ -223,6 +223,7 @@ module _ (spec : PageSpec) (l : Loaded) (s : Cells) (p : Page) (laid : AreLaid s
     slots = first_life;
     scripts = own_scripts;
     unshared = unshared;
+    raws = raws;
     laid = subst (λ q. IsLaid q (names_of spec.slots.items) (homes_of spec.slots.items) (map piece_of spec.pieces.items)) (sym page) lots;
     others = λ v none. record { cells = free v none; nodes = ap (λ q. own q v) page ∙ nobodys_nodes v none };
     rest = unborn_behind;

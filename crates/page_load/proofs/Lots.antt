@@ -96,28 +96,34 @@ within (y ∷ xs) (suc n) x at = omega (arith, within xs n x at)
 pub no_cells : (v : ℕ) (s t : Cells) → owned v t ≡ owned v s → HasNoCells v s → HasNoCells v t
 no_cells v s t same h = record { heap = ap (λ (o : Owned). o.heap) same ∙ h.heap; scopes = ap (λ (o : Owned). o.scopes) same ∙ h.scopes }
 
+-- who has nothing has nothing where what all have stays
+unused_stays : (s t : Cells) (first : ℕ) → ((v : ℕ) → owned v t ≡ owned v s) → ((fs : List Forest) (v : ℕ) → IsConfined fs v s → IsConfined fs v t) → IsUnused s first → IsUnused t first
+unused_stays s t first same confined h = record { nothing = λ v le lt. same v ∙ h.nothing v le lt; confined = λ fs v. confined fs v (h.confined fs v) }
+
 -- nothing came yet
 pub laid_none : (slots : List SlotSpec) (s : Cells) (p : Page) → ((w : ℕ) → w < 32 → IsAway p w) → HaveRaws s p → IsUnused s 0 → ((w : ℕ) → HasNoCells w s) → AreLaid slots 0 s p
 laid_none slots s p away raws unused free = record { within = omega arith; placed = λ w x lt at. absurd (omega (arith, lt)); away = λ w le lt. away w lt; raws = raws; unused = unused; free = free }
 
 -- markup came
-laid_markup : (slots : List SlotSpec) (n : ℕ) (s : Cells) (p q : Page) → length slots ≤ 16
-    → ((v : ℕ) → v < 32 → IsAway p v → IsAway q v) → ((v : ℕ) (tree : PlainTrees) → v < 32 → IsHome p v tree → IsHome q v tree) → ((t : Cells) → HaveRaws t p → HaveRaws t q)
-    → AreLaid slots n s p → AreLaid slots n s q
-laid_markup slots n s p q few away home raws h = record {
+laid_markup : (slots : List SlotSpec) (n : ℕ) (s t : Cells) (p q : Page) → length slots ≤ 16
+    → ((v : ℕ) → v < 32 → IsAway p v → IsAway q v) → ((v : ℕ) (tree : PlainTrees) → v < 32 → IsHome p v tree → IsHome q v tree) → (HaveRaws s p → HaveRaws t q)
+    → ((v : ℕ) → owned v t ≡ owned v s) → ((fs : List Forest) (v : ℕ) → IsConfined fs v s → IsConfined fs v t)
+    → AreLaid slots n s p → AreLaid slots n t q
+laid_markup slots n s t p q few away home raws same confined h = record {
   within = h.within;
   placed = λ w x lt at. placed_stays p q w x.content (λ tree. home w tree (omega (arith, lt, h.within, few))) (away w (omega (arith, lt, h.within, few))) (h.placed w x lt at);
   away = λ w le lt. away w lt (h.away w le lt);
-  raws = raws s h.raws;
-  unused = h.unused;
-  free = h.free;
+  raws = raws h.raws;
+  unused = unused_stays s t 0 same confined h.unused;
+  free = λ v. no_cells v s t (same v) (h.free v);
 }
 
-pub markup_ok : (slots : List SlotSpec) (n : ℕ) (s : Cells) (p q : Page) (r : Result (Unit {0}) Memory) → length slots ≤ 16
-    → OnOk r ((v : ℕ) → v < 32 → IsAway p v → IsAway q v) → OnOk r ((v : ℕ) (tree : PlainTrees) → v < 32 → IsHome p v tree → IsHome q v tree) → OnOk r ((t : Cells) → HaveRaws t p → HaveRaws t q)
-    → AreLaid slots n s p → OnOk r (AreLaid slots n s q)
-markup_ok slots n s p q (Ok x) few away home raws h = laid_markup slots n s p q few away home raws h
-markup_ok slots n s p q (Err e) few away home raws h = tt
+pub markup_ok : (slots : List SlotSpec) (n : ℕ) (s t : Cells) (p q : Page) (r : Result (Unit {0}) Memory) → length slots ≤ 16
+    → OnOk r ((v : ℕ) → v < 32 → IsAway p v → IsAway q v) → OnOk r ((v : ℕ) (tree : PlainTrees) → v < 32 → IsHome p v tree → IsHome q v tree) → OnOk r (HaveRaws s p → HaveRaws t q)
+    → OnOk r ((v : ℕ) → owned v t ≡ owned v s) → OnOk r ((fs : List Forest) (v : ℕ) → IsConfined fs v s → IsConfined fs v t)
+    → AreLaid slots n s p → OnOk r (AreLaid slots n t q)
+markup_ok slots n s t p q (Ok x) few away home raws same confined h = laid_markup slots n s t p q few away home raws same confined h
+markup_ok slots n s t p q (Err e) few away home raws same confined h = tt
 
 -- the next slot came
 pub laid_slot : (slots : List SlotSpec) (n : ℕ) (x : SlotSpec) (s t : Cells) (p q : Page) → length slots ≤ 16 → slice_get slots n ≡ Some x → IsPlaced q n x.content → HaveRaws t q
@@ -129,7 +135,7 @@ laid_slot slots n x s t p q few at placed raws home away same confined h = recor
   placed = λ w y lt there. by w y lt there (eqb w n) refl;
   away = λ w le lt. away w lt (λ e. omega (arith, e, le)) (h.away w (omega (arith, le)) lt);
   raws = raws;
-  unused = record { nothing = λ v le lt. same v ∙ h.unused.nothing v le lt; confined = λ fs v. confined fs v (h.unused.confined fs v) };
+  unused = unused_stays s t 0 same confined h.unused;
   free = λ v. no_cells v s t (same v) (h.free v);
 }
   where

@@ -20,6 +20,7 @@ use Rattle.page_spec.specs.declared.SlotContent.TheVariants as slot
 use Rattle.page_spec.specs.declared.SlotSpec.{SlotSpec}
 use Rattle.page_spec.specs.Contents.{content_of}
 use Rattle.page_spec.specs.Pages.{piece_of}
+use Rattle.page_build.specs.Homes.{HaveRaws}
 use Rattle.page_build.specs.Layout.{IsLaid}
 use Rattle.page_load.specs.Homes.{homes_of, names_of}
 use Rattle.page_load.specs.Laying.{HasNoCells}
@@ -50,7 +51,7 @@ pub record HasNothing (v : ℕ) (s : Cells) (p : Page) : Type 0 where
   pub cells : HasNoCells v s
   pub nodes : own p v ≡ []
 
--- A host begins with twenty places: the first life of each slot in order, with the trees of its own scripts, and the rest not yet born. Each life is of the slot with its number. A number that is no accepted life's has nothing. No trees are shared.
+-- A host begins with twenty places: the first life of each slot in order, with the trees of its own scripts, and the rest not yet born. Each life is of the slot with its number. A number that is no accepted life's has nothing. No trees are shared. Each node of the page, the host's own too, has its RawNode.
 pub record LoadsPage (spec : PageSpec) (l : Loaded) : Type 0 where
   pub few : length spec.slots.items ≤ 16
   pub names : l.names.items ≡ names_of spec.slots.items
@@ -62,6 +63,7 @@ pub record LoadsPage (spec : PageSpec) (l : Loaded) : Type 0 where
   pub scripts : (w : ℕ) (s : SlotSpec) (a : Place) → slice_get spec.slots.items w ≡ Some s → slice_get l.places.items w ≡ Some a
       → HasScripts spec.libs.items s.content (map tree_in a.codes.items)
   pub unshared : l.shared.codes.items ≡ []
+  pub raws : HaveRaws l.shared.store l.shared.page
   pub laid : IsLaid l.shared.page (names_of spec.slots.items) (homes_of spec.slots.items) (map piece_of spec.pieces.items)
   pub others : (v : ℕ) → IsNobodys l.places.items v → HasNothing v l.shared.store l.shared.page
   pub rest : (v : ℕ) (a : Place) → length spec.slots.items ≤ v → slice_get l.places.items v ≡ Some a → a.life.accepted ≡ false

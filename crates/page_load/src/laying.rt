@@ -3,7 +3,9 @@ ghost use Rattle.std.specs.Prelude.{◌≡◌, ◌<◌, ◌≤◌, ◌++◌, ℕ
 ghost use Rattle.std.specs.List.{flat_map};
 ghost use Rattle.plain_tree.specs.Plains.{unplaced_all};
 ghost use Rattle.plain_tree.specs.Trees.{PlainTrees};
-ghost use Rattle.store_cells.specs.Cells.{Cells};
+ghost use Rattle.js_tree.specs.Forest.{Forest};
+ghost use Rattle.js_image.specs.Held.{IsConfined};
+ghost use Rattle.object_store.specs.Owned.{owned};
 ghost use Rattle.page_build.specs.Homes.{HaveRaws, IsAway, IsHome};
 ghost use Rattle.page_build.specs.Layout.{IsLaidOut, Lot, each_tree, piece_lots};
 ghost use Rattle.page_spec.specs.Pages.{Place, piece_of};
@@ -35,15 +37,22 @@ fn new_base(alloc: Global, keys: Keys, slots: &[SlotSpec]) -> Result<Base, Memor
     Ok(Base { store, page })
 }
 
-// Trees of the host come behind the last child of `body`.
-fn lay_markup(alloc: Global, page: &mut Page, content: &[Plain]) -> Result<(), Memory>
+// Trees of the host come behind the last child of `body`, and each of their nodes gets its cell.
+fn lay_markup(
+    alloc: Global,
+    store: &mut Store,
+    page: &mut Page,
+    content: &[Plain],
+) -> Result<(), Memory>
     ensures away { OnOk result ((v : ℕ) → v < 32 → IsAway page.old v → IsAway page.new v) }
     ensures home { OnOk result ((v : ℕ) (tree : PlainTrees) → v < 32 → IsHome page.old v tree → IsHome page.new v tree) }
-    ensures raws { OnOk result ((s : Cells) → HaveRaws s page.old → HaveRaws s page.new) }
+    ensures raws { OnOk result (HaveRaws store.old page.old → HaveRaws store.new page.new) }
     ensures lots { OnOk result ((lots : List Lot) → IsLaidOut page.old lots → IsLaidOut page.new (lots ++ each_tree (unplaced_all content.now))) }
+    ensures same { OnOk result ((v : ℕ) → owned v store.new ≡ owned v store.old) }
+    ensures confined { OnOk result ((fs : List Forest) (v : ℕ) → IsConfined fs v store.old → IsConfined fs v store.new) }
 {
     'trees: for tree in content {
-        add_markup(alloc, page, tree)?;
+        add_markup(alloc, store, page, tree)?;
     }
     Ok(())
 }
@@ -92,7 +101,7 @@ fn lay_piece(
         → IsLaidOut base.new.page (lots ++ piece_lots (slot_lots slots.now) (piece_of piece.now))) }
 {
     match piece {
-        Piece::Html(content) => lay_markup(alloc, &mut base.page, content),
+        Piece::Html(content) => lay_markup(alloc, &mut base.store, &mut base.page, content),
         Piece::Slot(number) => {
             if !is_next(*number, *next, slots) {
                 return Err(Memory);

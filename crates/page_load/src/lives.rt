@@ -240,6 +240,7 @@ pub(crate) fn places_of(
     ensures others { IfOk result (λ places. (v : ℕ) → IsNobodys places.items v → HasNoCells v shared.new.store) }
     ensures codes { OnOk result (shared.new.codes ≡ shared.old.codes) }
     ensures page { OnOk result (shared.new.page ≡ shared.old.page) }
+    ensures raws { OnOk result (HaveRaws shared.new.store shared.new.page) }
 {
     let mut places = Vec::with_capacity(alloc, 20)?;
     'places: for w in 0..20 {

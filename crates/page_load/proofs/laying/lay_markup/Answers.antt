@@ -1,3 +1,4 @@
+use Rattle.std.proofs.Common.{refl, ◌∙◌}
 use Rattle.page_load.proofs.Lots.{markup_all, markup_more, markup_none}
 use Rattle.page_load.proofs.laying.lay_markup.Goals as goal
 
@@ -5,7 +6,9 @@ pub trees-init : goal.trees-init
 trees-init c = record {
   away = λ v lt h. h;
   home = λ v tree lt h. h;
-  raws = λ s h. h;
+  raws = λ h. h;
+  same = λ v. refl;
+  confined = λ fs v h. h;
   lots = λ lots h. markup_none c.args.page.now lots h;
 }
 
@@ -16,7 +19,9 @@ trees-preserved c =
     record {
       away = λ v lt h. ens.away v lt (inv.away v lt h);
       home = λ v tree lt h. ens.home v tree lt (inv.home v tree lt h);
-      raws = λ s h. ens.raws s (inv.raws s h);
+      raws = λ h. ens.raws (inv.raws h);
+      same = λ v. c.add_markup.ensures.same v ∙ inv.same v;
+      confined = λ fs v h. c.add_markup.ensures.confined fs v (inv.confined fs v h);
       lots = λ lots h. markup_more c.args.content.now c.trees.tree-index c.tree-item.result c.trees-test.true c.tree-item.is c.add_markup.new.page lots (ens.laid _ (inv.lots lots h));
     }
 

@@ -10,7 +10,7 @@ use Rattle.page_load.proofs.laying.lay_piece.Goals as goal
 pub returns-in-Html-clause-laid : goal.returns-in-Html-clause-laid
 returns-in-Html-clause-laid c =
     let e = c.lay_markup.ensures in
-    markup_ok c.args.slots.now c.args.next.now c.args.base.now.store c.args.base.now.page c.lay_markup.new.page c.lay_markup.result c.requires.few e.away e.home e.raws c.requires.laid
+    markup_ok c.args.slots.now c.args.next.now c.args.base.now.store c.lay_markup.new.store c.args.base.now.page c.lay_markup.new.page c.lay_markup.result c.requires.few e.away e.home e.raws e.same e.confined c.requires.laid
 
 pub returns-in-Html-clause-lots : goal.returns-in-Html-clause-lots
 returns-in-Html-clause-lots c =

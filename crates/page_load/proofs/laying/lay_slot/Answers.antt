@@ -13,7 +13,7 @@ pub returns-clause-laid : goal.returns-clause-laid
 returns-clause-laid c =
     let e = c.in_ok-add_slot.ensures in
     let at = slice_get_read c.args.slots.now _ c.args.next.now c.index-slots-at.result refl c.requires.there c.index-slots-at.is in
-    laid_slot c.args.slots.now c.args.next.now c.index-slots-at.result c.args.base.now.store c.add_slot.new.store c.args.base.now.page c.add_slot.new.page c.requires.few at e.placed e.raws e.others e.away c.add_slot.ensures.same c.add_slot.ensures.confined c.requires.laid
+    laid_slot c.args.slots.now c.args.next.now c.index-slots-at.result c.args.base.now.store c.add_slot.new.store c.args.base.now.page c.add_slot.new.page c.requires.few at e.placed (e.raws c.requires.laid.raws) e.others e.away c.add_slot.ensures.same c.add_slot.ensures.confined c.requires.laid
 
 pub returns-clause-lots : goal.returns-clause-lots
 returns-clause-lots c =

@@ -44,6 +44,6 @@ returns c =
     c.in_ok-libs.libs.items c.in_ok-libs.ensures starts
     (subst (λ (cs : List Code). AreStarts (map tree_in cs) c.args.spec.slots.items starts) c.deref-4.ensures.value c.in_ok-starts.ensures)
     c.in_ok-places.ensures.page c.in_ok-places.ensures.places c.in_ok-places.ensures.twenty (omega (arith, c.if-len-gt16.false, c.len.ensures, c.args.spec.slots.ok.0))
-    (c.in_ok-names.ensures ∙ ap names_of c.deref-3.ensures.value) refl (ap (λ (cs : Vec Code Global). cs.items) c.in_ok-places.ensures.codes ∙ c.new.ensures.items) c.in_ok-places.ensures.others
+    (c.in_ok-names.ensures ∙ ap names_of c.deref-3.ensures.value) refl (ap (λ (cs : Vec Code Global). cs.items) c.in_ok-places.ensures.codes ∙ c.new.ensures.items) c.in_ok-places.ensures.others c.in_ok-places.ensures.raws
     (subst (λ pieces. IsLaidOut p (flat_map (piece_lots (slot_lots c.args.spec.slots.items)) (map piece_of pieces))) c.deref.ensures.value
     (subst (λ slots. IsLaidOut p (flat_map (piece_lots (slot_lots slots)) (map piece_of c.deref.result.now))) c.deref-2.ensures.value c.in_ok-store.ensures.lots))
