@@ -1,5 +1,6 @@
 pub mod Answering
 pub mod Charged
+pub mod Ending
 pub mod Fronts
 pub mod Moved
 pub mod Passing

@@ -1,5 +1,6 @@
 -- Steps one after the other.
 use Rattle.std.proofs.Common.{◌≡◌, ℕ, ◌-◌, ◌≤◌, refl, ap, ◌∙◌, arith}
+use Rattle.std.specs.Prelude.{IfOk, Result, Ok, Err}
 use Rattle.widget_meaning.specs.OwnState.{State}
 use Rattle.widget_meaning.specs.Plan.{Plan}
 use Rattle.widget_meaning.specs.Meaning.{run_plan}
@@ -53,3 +54,8 @@ is_over stepped.Went h = h refl
 is_over (stepped.Native n) h = tt
 is_over (stepped.Done o) h = tt
 is_over (stepped.Stop c) h = tt
+
+-- two clauses of one call
+pub both : {T E : Type 0} (r : Result T E) (P Q : T → Type 0) → IfOk r P → IfOk r Q → IfOk r (λ k. P k × Q k)
+both (Ok x) P Q p q = (p, q)
+both (Err e) P Q p q = tt

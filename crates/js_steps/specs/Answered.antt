@@ -10,11 +10,12 @@ use Rattle.js_flow.specs.declared.task.Stepped.TheVariants as moved
 use Rattle.js_steps.specs.declared.task.Task.{Task}
 use Rattle.js_flow.specs.Fine.{FineControl, FineFrames, FineStepped}
 use Rattle.js_flow.specs.Todo.{after_step, todo}
+use Rattle.js_steps.specs.Ending.{EndsCall}
 use Rattle.js_steps.specs.declared.answer.Stepped.{Stepped}
 use Rattle.js_steps.specs.declared.answer.Stepped.TheVariants as stepped
 use Rattle.js_steps.specs.declared.answer.Stop.TheVariants as stop
 
--- an answer as the machine has it: a call ends by a value or by a throw; want of fuel is a stop
+-- an answer as the machine has it; want of fuel is a stop
 abbrev pub machine : Stepped → Moved
 machine stepped.Went = moved.Went
 machine (stepped.Native n) = moved.Native n
@@ -37,9 +38,9 @@ module _ (fs : List Forest) (w : ℕ) (s : Cells) (t : Task) where
   abbrev pub remaining_after : Stepped → Rest → Plan
   remaining_after k r = after_step fs w s.cells (machine k) t.control t.frames.list.items (image fs r w s)
 
-  -- what a task holds is the widget's
+  -- what a task holds is the widget's, and its call ends by a value or a throw
   abbrev pub IsFineTask : Type 0
-  IsFineTask = FineControl fs w s.cells t.control × FineFrames fs w s.cells t.frames.list.items
+  IsFineTask = FineControl fs w s.cells t.control × FineFrames fs w s.cells t.frames.list.items × EndsCall fs w s t.control t.frames.list.items
 
   -- so is what it holds after an answer, and the answer
   abbrev pub IsFineAfter : Stepped → Type 0

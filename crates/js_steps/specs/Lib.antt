@@ -1,3 +1,4 @@
 pub mod Answered
 pub mod Charges
+pub mod Ending
 pub mod Unwinding

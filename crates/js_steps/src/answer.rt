@@ -1,9 +1,9 @@
 //! What a step answers its caller.
-ghost use Rattle.std.specs.Prelude.{◌≡◌, IfOk};
+ghost use Rattle.std.specs.Prelude.{◌≡◌};
 ghost use Rattle.js_flow.specs.declared.task.Stepped.TheVariants as moved;
 ghost use Rattle.js_steps.specs.Answered.{machine};
+ghost use Rattle.js_steps.specs.Ending.{EndsSo, IsCallEnd};
 
-use code_units::Memory;
 use js_flow::{Completion, NativeCall, Stepped as Moved};
 use js_image::StopCause;
 use object_store::Value;
@@ -30,27 +30,28 @@ pub enum Stop {
     Due(StopCause),
 }
 
-/// What the machine answered. A call ends by a value or a throw; any other end, which never comes,
-/// is answered with `Memory`.
-pub(crate) fn answered(step: Moved) -> Result<Stepped, Memory>
-    ensures { IfOk result (λ k. machine k ≡ step) }
+/// What the machine answered.
+pub(crate) fn answered(step: Moved) -> Stepped
+    requires ends { EndsSo step }
+    ensures { machine result ≡ step }
 {
     match step {
-        Moved::Went => Ok(Stepped::Went),
-        Moved::Native(call) => Ok(Stepped::Native(call)),
+        Moved::Went => Stepped::Went,
+        Moved::Native(call) => Stepped::Native(call),
         Moved::Done(how) => ended(how),
-        Moved::Stop(cause) => Ok(Stepped::Stop(Stop::Due(cause))),
-        Moved::OutOfFuel => Ok(Stepped::Stop(Stop::Fuel)),
+        Moved::Stop(cause) => Stepped::Stop(Stop::Due(cause)),
+        Moved::OutOfFuel => Stepped::Stop(Stop::Fuel),
     }
 }
 
 // How a call ended.
-fn ended(how: Completion) -> Result<Stepped, Memory>
-    ensures { IfOk result (λ k. machine k ≡ moved.Done how) }
+fn ended(how: Completion) -> Stepped
+    requires end { IsCallEnd how }
+    ensures { machine result ≡ moved.Done how }
 {
     match how {
-        Completion::Is(value) => Ok(Stepped::Done(value)),
-        Completion::Throw(value) => Ok(Stepped::Threw(value)),
-        _ => Err(Memory),
+        Completion::Is(value) => Stepped::Done(value),
+        Completion::Throw(value) => Stepped::Threw(value),
+        _ => unreachable!(),
     }
 }

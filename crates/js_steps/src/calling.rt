@@ -15,6 +15,7 @@ ghost use Rattle.js_flow.specs.Frames.{rest};
 ghost use Rattle.js_flow.specs.Fine.{FineControl, FineFrames, FineStepped};
 ghost use Rattle.js_flow.specs.Free.{free};
 ghost use Rattle.js_steps.specs.Answered.{IsFineAfter, IsFineTask, IsFuelStop, machine, remaining, remaining_after};
+ghost use Rattle.js_steps.specs.Ending.{EndsCall, EndsSo};
 ghost use Rattle.js_flow.specs.Todo.{Follows, IsGoing, Moves, IfOutOfFuel, IsOver, IsWaiting, after_step, todo};
 
 use crate::answer::{Stepped, answered};
@@ -107,7 +108,7 @@ pub fn resume(
     let at = depth(task);
     let next = answer(alloc, task.widget, codes, store, out, at)?;
     let step = follow(task, next)?;
-    answered(step)
+    Ok(answered(step))
 }
 
 /// The native for which a task waits threw this value. It charges nothing.
@@ -148,7 +149,7 @@ pub fn step(
     ensures kept { Kept (trees_of codes.now.items) task.old.widget store.old store.new }
 {
     let step = step_for(alloc, task.widget, codes, store, task, meter)?;
-    answered(step)
+    Ok(answered(step))
 }
 
 /// Steps up to a native, an end or a stop: what is left to do then is what the meaning makes of the
@@ -176,7 +177,7 @@ pub fn run(
     ensures kept { Kept (trees_of codes.now.items) task.old.widget store.old store.new }
 {
     let step = run_for(alloc, task.widget, codes, store, task, meter)?;
-    answered(step)
+    Ok(answered(step))
 }
 
 // Steps up to a native, an end, a stop or want of fuel: what is left to do then is what the meaning
@@ -193,6 +194,7 @@ fn run_for(
     requires widget { w < 32 }
     requires confined { IsConfined (trees_of codes.now.items) w store.old }
     requires held { FineControl (trees_of codes.now.items) w store.old.cells task.old.control × FineFrames (trees_of codes.now.items) w store.old.cells task.old.frames.list.items }
+    requires call { EndsCall (trees_of codes.now.items) w store.old task.old.control task.old.frames.list.items }
     ensures meaning { let F = trees_of codes.now.items in IfOk result (λ k. (r : Rest)
         → run_plan meter.old.left (todo F w store.old.cells task.old.control task.old.frames.list.items (image F r w store.old))
         ≡ run_plan meter.new.left (after_step F w store.new.cells k task.new.control task.new.frames.list.items (image F r w store.new))) }
@@ -204,6 +206,7 @@ fn run_for(
     ensures follows { IfOk result (λ k. Follows k task.new.control) }
     ensures held { let F = trees_of codes.now.items in IfOk result (λ k. FineControl F w store.new.cells task.new.control
         × FineFrames F w store.new.cells task.new.frames.list.items × FineStepped F w store.new.cells k) }
+    ensures call { IfOk result (λ k. EndsCall (trees_of codes.now.items) w store.new task.new.control task.new.frames.list.items × EndsSo k) }
     ensures kept { Kept (trees_of codes.now.items) w store.old store.new }
     ensures widget { task.new.widget ≡ task.old.widget }
 {

@@ -14,7 +14,8 @@ ghost use Rattle.js_flow.specs.Views.{frame_below};
 ghost use Rattle.js_flow.specs.Frames.{planned, rest};
 ghost use Rattle.js_flow.specs.Fine.{FineCompletion, FineControl, FineFrames, FineJob, FineNext, FineStepped};
 ghost use Rattle.js_steps.specs.Charges.{after_charge, charge_of};
-ghost use Rattle.js_flow.specs.Free.{free, frames_free, next_free};
+ghost use Rattle.js_steps.specs.Ending.{EndsCall, EndsSo, IfNative, IsNative};
+ghost use Rattle.js_flow.specs.Free.{control_free, free, frames_free, native_free, next_free};
 ghost use Rattle.js_flow.specs.Todo.{Follows, IfOutOfFuel, IsGoing, IsNotFuel, Moves, after_step, is_free, todo};
 
 use crate::jobs::{begin_job, take};
@@ -244,6 +245,8 @@ pub(crate) fn follow(task: &mut Task, next: Next) -> Result<Stepped, Memory>
     ensures follows { IfOk result (λ k. Follows k task.new.control × IsNotFuel k) }
     ensures near { IfOk result (λ k. free task.new.control task.new.frames.list.items ≤ next_free next + frames_free task.old.frames.list.items) }
     ensures widget { task.new.widget ≡ task.old.widget }
+    ensures light { IfOk result (λ k. next_free next ≤ 17 → control_free task.new.control ≤ native_free) }
+    ensures native { IfOk result (λ k. IfNative k (IsNative next × (task.new.frames.list.items ≡ task.old.frames.list.items))) }
 {
     reserve(task)?;
     Ok(put(task, next))
@@ -260,6 +263,8 @@ fn put(task: &mut Task, next: Next) -> Stepped
     ensures follows { Follows result task.new.control × IsNotFuel result }
     ensures near { free task.new.control task.new.frames.list.items ≤ next_free next + frames_free task.old.frames.list.items }
     ensures widget { task.new.widget ≡ task.old.widget }
+    ensures light { next_free next ≤ 17 → control_free task.new.control ≤ native_free }
+    ensures native { IfNative result (IsNative next × (task.new.frames.list.items ≡ task.old.frames.list.items)) }
 {
     match next {
         Next::Push(frame, job) => {
@@ -366,15 +371,17 @@ fn begin(
     requires widget { w < 32 }
     requires confined { IsConfined (trees_of codes.now.items) w store.old }
     requires held { FineJob (trees_of codes.now.items) w store.old.cells job × FineFrames (trees_of codes.now.items) w store.old.cells task.old.frames.list.items }
-    ensures moves { let F = trees_of codes.now.items in IfOk result (λ k. (r : Rest) → Moves (0) (image F r w store.old)
-        (todo F w store.old.cells (Control.Begin job) task.old.frames.list.items (image F r w store.old))
-        (after_step F w store.new.cells k task.new.control task.new.frames.list.items (image F r w store.new))) }
+    ensures plan { let F = trees_of codes.now.items in IfOk result (λ k. (r : Rest)
+        → after_step F w store.new.cells k task.new.control task.new.frames.list.items (image F r w store.new)
+        ≡ todo F w store.old.cells (Control.Begin job) task.old.frames.list.items (image F r w store.old)) }
     ensures follows { IfOk result (λ k. Follows k task.new.control × IsNotFuel k) }
     ensures held { let F = trees_of codes.now.items in IfOk result (λ k. FineControl F w store.new.cells task.new.control
         × FineFrames F w store.new.cells task.new.frames.list.items × FineStepped F w store.new.cells k) }
     ensures kept { Kept (trees_of codes.now.items) w store.old store.new }
     ensures near { IfOk result (λ k. free task.new.control task.new.frames.list.items < free (Control.Begin job) task.old.frames.list.items) }
     ensures widget { task.new.widget ≡ task.old.widget }
+    ensures light { IfOk result (λ k. control_free task.new.control ≤ native_free) }
+    ensures native { IfOk result (λ k. IfNative k ((native_free < control_free (Control.Begin job)) × (task.new.frames.list.items ≡ task.old.frames.list.items))) }
 {
     let next = begin_job(alloc, w, codes, store, job)?;
     settle(alloc, w, codes, store, task, next)
@@ -393,15 +400,17 @@ fn give(
     requires widget { w < 32 }
     requires confined { IsConfined (trees_of codes.now.items) w store.old }
     requires held { FineCompletion w store.old.cells how × FineFrames (trees_of codes.now.items) w store.old.cells task.old.frames.list.items }
-    ensures moves { let F = trees_of codes.now.items in IfOk result (λ k. (r : Rest) → Moves (0) (image F r w store.old)
-        (todo F w store.old.cells (Control.Give how) task.old.frames.list.items (image F r w store.old))
-        (after_step F w store.new.cells k task.new.control task.new.frames.list.items (image F r w store.new))) }
+    ensures plan { let F = trees_of codes.now.items in IfOk result (λ k. (r : Rest)
+        → after_step F w store.new.cells k task.new.control task.new.frames.list.items (image F r w store.new)
+        ≡ todo F w store.old.cells (Control.Give how) task.old.frames.list.items (image F r w store.old)) }
     ensures follows { IfOk result (λ k. Follows k task.new.control × IsNotFuel k) }
     ensures held { let F = trees_of codes.now.items in IfOk result (λ k. FineControl F w store.new.cells task.new.control
         × FineFrames F w store.new.cells task.new.frames.list.items × FineStepped F w store.new.cells k) }
     ensures kept { Kept (trees_of codes.now.items) w store.old store.new }
     ensures near { IfOk result (λ k. free task.new.control task.new.frames.list.items < free (Control.Give how) task.old.frames.list.items) }
     ensures widget { task.new.widget ≡ task.old.widget }
+    ensures light { IfOk result (λ k. control_free task.new.control ≤ native_free) }
+    ensures native { IfOk result (λ k. IfNative k ((native_free < control_free (Control.Give how)) × (task.new.frames.list.items ≡ task.old.frames.list.items))) }
 {
     task.frames.leave(&how);
     match task.frames.pop() {
@@ -423,6 +432,7 @@ fn settle(
     first: Next,
 ) -> Result<Stepped, Memory>
     requires over { task.old.control ≡ Control.Over }
+    requires light { next_free first ≤ 17 }
     requires widget { w < 32 }
     requires confined { IsConfined (trees_of codes.now.items) w store.old }
     requires held { FineNext (trees_of codes.now.items) w store.old.cells first × FineFrames (trees_of codes.now.items) w store.old.cells task.old.frames.list.items }
@@ -435,6 +445,8 @@ fn settle(
     ensures kept { Kept (trees_of codes.now.items) w store.old store.new }
     ensures near { IfOk result (λ k. free task.new.control task.new.frames.list.items ≤ next_free first + frames_free task.old.frames.list.items) }
     ensures widget { task.new.widget ≡ task.old.widget }
+    ensures light { IfOk result (λ k. control_free task.new.control ≤ native_free) }
+    ensures native { IfOk result (λ k. IfNative k (IsNative first × (task.new.frames.list.items ≡ task.old.frames.list.items))) }
 {
     let mut next = first;
     'down: loop {
@@ -480,15 +492,17 @@ fn free_step(
     requires widget { w < 32 }
     requires confined { IsConfined (trees_of codes.now.items) w store.old }
     requires held { FineControl (trees_of codes.now.items) w store.old.cells task.old.control × FineFrames (trees_of codes.now.items) w store.old.cells task.old.frames.list.items }
-    ensures moves { let F = trees_of codes.now.items in IfOk result (λ k. (r : Rest) → Moves (0) (image F r w store.old)
-        (todo F w store.old.cells task.old.control task.old.frames.list.items (image F r w store.old))
-        (after_step F w store.new.cells k task.new.control task.new.frames.list.items (image F r w store.new))) }
+    ensures plan { let F = trees_of codes.now.items in IfOk result (λ k. (r : Rest)
+        → after_step F w store.new.cells k task.new.control task.new.frames.list.items (image F r w store.new)
+        ≡ todo F w store.old.cells task.old.control task.old.frames.list.items (image F r w store.old)) }
     ensures follows { IfOk result (λ k. Follows k task.new.control × IsNotFuel k) }
     ensures held { let F = trees_of codes.now.items in IfOk result (λ k. FineControl F w store.new.cells task.new.control
         × FineFrames F w store.new.cells task.new.frames.list.items × FineStepped F w store.new.cells k) }
     ensures kept { Kept (trees_of codes.now.items) w store.old store.new }
     ensures near { IfOk result (λ k. free task.new.control task.new.frames.list.items < free task.old.control task.old.frames.list.items) }
     ensures widget { task.new.widget ≡ task.old.widget }
+    ensures light { IfOk result (λ k. control_free task.new.control ≤ native_free) }
+    ensures native { IfOk result (λ k. IfNative k ((native_free < control_free task.old.control) × (task.new.frames.list.items ≡ task.old.frames.list.items))) }
 {
     match take_control(task) {
         Control::Begin(job) => begin(alloc, w, codes, store, task, job),
@@ -509,15 +523,17 @@ fn paid_step(
     requires widget { w < 32 }
     requires confined { IsConfined (trees_of codes.now.items) w store.old }
     requires held { FineControl (trees_of codes.now.items) w store.old.cells task.old.control × FineFrames (trees_of codes.now.items) w store.old.cells task.old.frames.list.items }
-    ensures moves { let F = trees_of codes.now.items in IfOk result (λ k. (r : Rest) → Moves (0) (image F r w store.old)
-        (todo F w store.old.cells (after_charge task.old.control) task.old.frames.list.items (image F r w store.old))
-        (after_step F w store.new.cells k task.new.control task.new.frames.list.items (image F r w store.new))) }
+    ensures plan { let F = trees_of codes.now.items in IfOk result (λ k. (r : Rest)
+        → after_step F w store.new.cells k task.new.control task.new.frames.list.items (image F r w store.new)
+        ≡ todo F w store.old.cells (after_charge task.old.control) task.old.frames.list.items (image F r w store.old)) }
     ensures follows { IfOk result (λ k. Follows k task.new.control × IsNotFuel k) }
     ensures held { let F = trees_of codes.now.items in IfOk result (λ k. FineControl F w store.new.cells task.new.control
         × FineFrames F w store.new.cells task.new.frames.list.items × FineStepped F w store.new.cells k) }
     ensures kept { Kept (trees_of codes.now.items) w store.old store.new }
     ensures near { IfOk result (λ k. free task.new.control task.new.frames.list.items < free (after_charge task.old.control) task.old.frames.list.items) }
     ensures widget { task.new.widget ≡ task.old.widget }
+    ensures light { IfOk result (λ k. control_free task.new.control ≤ native_free) }
+    ensures native { IfOk result (λ k. IfNative k ((native_free < control_free (after_charge task.old.control)) × (task.new.frames.list.items ≡ task.old.frames.list.items))) }
 {
     match take_control(task) {
         Control::Do(job) => begin(alloc, w, codes, store, task, job),
@@ -537,18 +553,21 @@ fn go_on(
     task: &mut Task,
 ) -> Result<Stepped, Memory>
     requires going { IsGoing task.old.control }
+    requires light { control_free task.old.control ≤ native_free }
     requires widget { w < 32 }
     requires confined { IsConfined (trees_of codes.now.items) w store.old }
     requires held { FineControl (trees_of codes.now.items) w store.old.cells task.old.control × FineFrames (trees_of codes.now.items) w store.old.cells task.old.frames.list.items }
-    ensures moves { let F = trees_of codes.now.items in IfOk result (λ k. (r : Rest) → Moves (0) (image F r w store.old)
-        (todo F w store.old.cells task.old.control task.old.frames.list.items (image F r w store.old))
-        (after_step F w store.new.cells k task.new.control task.new.frames.list.items (image F r w store.new))) }
+    ensures plan { let F = trees_of codes.now.items in IfOk result (λ k. (r : Rest)
+        → after_step F w store.new.cells k task.new.control task.new.frames.list.items (image F r w store.new)
+        ≡ todo F w store.old.cells task.old.control task.old.frames.list.items (image F r w store.old)) }
     ensures follows { IfOk result (λ k. Follows k task.new.control × IsNotFuel k) }
     ensures held { let F = trees_of codes.now.items in IfOk result (λ k. FineControl F w store.new.cells task.new.control
         × FineFrames F w store.new.cells task.new.frames.list.items × FineStepped F w store.new.cells k) }
     ensures kept { Kept (trees_of codes.now.items) w store.old store.new }
     ensures near { IfOk result (λ k. free task.new.control task.new.frames.list.items ≤ free task.old.control task.old.frames.list.items) }
     ensures widget { task.new.widget ≡ task.old.widget }
+    ensures light { IfOk result (λ k. control_free task.new.control ≤ native_free) }
+    ensures native { IfOk result (λ k. IfNative k ⊥) }
 {
     while is_free(&task.control) {
         match free_step(alloc, w, codes, store, task)? {
@@ -572,6 +591,7 @@ pub(crate) fn step_for(
     requires widget { w < 32 }
     requires confined { IsConfined (trees_of codes.now.items) w store.old }
     requires held { FineControl (trees_of codes.now.items) w store.old.cells task.old.control × FineFrames (trees_of codes.now.items) w store.old.cells task.old.frames.list.items }
+    requires call { EndsCall (trees_of codes.now.items) w store.old task.old.control task.old.frames.list.items }
     ensures moves { let F = trees_of codes.now.items in IfOk result (λ k. (r : Rest) → Moves (meter.old.left - meter.new.left) (image F r w store.old)
         (todo F w store.old.cells task.old.control task.old.frames.list.items (image F r w store.old))
         (after_step F w store.new.cells k task.new.control task.new.frames.list.items (image F r w store.new))) }
@@ -585,6 +605,7 @@ pub(crate) fn step_for(
     ensures spends { (meter.new.left ≤ meter.old.left) × (meter.new.left + meter.new.spent ≡ meter.old.left + meter.old.spent) }
     ensures near { IfOk result (λ k. IsNotFuel k → 32 * meter.new.left + free task.new.control task.new.frames.list.items < 32 * meter.old.left + free task.old.control task.old.frames.list.items) }
     ensures widget { task.new.widget ≡ task.old.widget }
+    ensures call { IfOk result (λ k. EndsCall (trees_of codes.now.items) w store.new task.new.control task.new.frames.list.items × EndsSo k) }
 {
     let units = cost(&task.control);
     if !pay(meter, units) {

@@ -124,7 +124,7 @@ module _ (w v : ℕ) (ne : w ≡ v → ⊥) (trees : List Forest) (s t : Cells) 
   pub turn_apart : (fs : List Forest) (grant : ℕ) (o : Option Turn) → IfSome o (FineTurn fs v s p grant) → IfSome o (FineTurn fs v t q grant)
   turn_apart fs grant None f = tt
   turn_apart fs grant (Some u) f = record {
-    doing = doing_fine fs v s.cells t.cells (cells.others_grow v ne) p q (page.numbers v) (page.owners v) u.doing f.doing;
+    doing = doing_fine fs v s t (cells.others_grow v ne) (cells.others v ne) p q (page.numbers v) (page.owners v) u.doing f.doing;
     levels = levels_fine v s.cells t.cells (cells.others_grow v ne) p q (page.numbers v) (page.owners v) fs u.calls.levels.items f.levels;
     left = f.left;
   }
@@ -147,7 +147,7 @@ module _ (w v : ℕ) (ne : w ≡ v → ⊥) (lt : v < 32) (trees : List Forest) 
       let plans : turn_plan (trees_in k) v k.store.cells k.page t.doing t.calls.levels.items (turn_image (trees_in k) (outside a) v k.store k.page a.widget.around t.calls.dispatches.items)
       ≡ turn_plan (trees_in h) v h.store.cells h.page t.doing t.calls.levels.items (turn_image (trees_in h) (outside a) v h.store h.page a.widget.around t.calls.dispatches.items) =
       (λ j. turn_plan (same_trees j) v k.store.cells k.page t.doing t.calls.levels.items (states j))
-      ∙ turn_same (trees_in h) v h.store.cells k.store.cells (cells.others_grow v ne) h.page k.page (page.numbers v) t.doing t.calls.levels.items turn.doing turn.levels _ in
+      ∙ turn_same (trees_in h) v h.store k.store (cells.others_grow v ne) (cells.others v ne) h.page k.page (page.numbers v) t.doing t.calls.levels.items turn.doing turn.levels _ in
       λ j. record { plan = plans j; left = t.left }
 
   some_going : (o : Option Turn) → IfSome o (FineTurn (trees_in h) v h.store h.page a.grant) → option_map (going_of k v a) o ≡ option_map (going_of h v a) o

@@ -102,7 +102,7 @@ module _ (h : Shared) (w : ℕ) (a : Life) (s : Cells) (p : Page) where
   pub starts : (f : State → Plan) (d : Doing) (c : Calls) (levels : List Level) (dispatches : List Bool) → c.levels.items ≡ levels → c.dispatches.items ≡ dispatches
       → Rested → tally h w a + 1 < 2 ^ 32
       → f (begun (own_of h w a)) ≡ turn_plan (trees_in h) w s.cells p d levels (turn_image (trees_in h) counted w s p a.widget.around dispatches)
-      → FineDoing (trees_in h) w s.cells p d → FineLevels (trees_in h) w s.cells p levels
+      → FineDoing (trees_in h) w s p d → FineLevels (trees_in h) w s.cells p levels
       → Starts h at w f a (begun_with a d c)
   starts f d c levels dispatches are_levels are_dispatches r room plan doing fine =
       let none : held_back a.turn ≡ 0 = ap held_back r.rest in

@@ -1,22 +1,23 @@
 -- What a turn that waits has still to do stays the same as another widget's call changes store and page, and what it holds stays its own.
-use Rattle.std.proofs.Common.{◌≡◌, ℕ, suc, List, refl, ap, true, Option, None, Some}
+use Rattle.std.proofs.Common.{◌≡◌, ◌∙◌, ℕ, suc, List, refl, ap, subst, sym, true, Option, None, Some}
 use Rattle.std.specs.Prelude.{IfSome, drop}
 use Rattle.std.specs.Option.{option_map}
 use Rattle.js_tree.specs.Lists.{stmt_list}
 use Rattle.js_tree.specs.Forest.{Forest, expr_at, stmt_at}
 use Rattle.store_cells.specs.declared.value.Value.{Value}
-use Rattle.store_cells.specs.Cells.{PlainCell}
+use Rattle.store_cells.specs.Cells.{Cells, PlainCell}
 use Rattle.object_store.specs.Grows.{Grows}
+use Rattle.object_store.specs.Owned.{owned}
 use Rattle.widget_meaning.specs.Meaning.{body}
 use Rattle.widget_meaning.specs.Natives.{run_native}
 use Rattle.widget_meaning.specs.OwnState.{State}
 use Rattle.widget_meaning.specs.Plan as plan
-use Rattle.widget_meaning.specs.Plan.{Do, Ret, and_then, charge}
+use Rattle.widget_meaning.specs.Plan.{Do, Plan, Ret, and_then, charge}
 use Rattle.widget_meaning.specs.Values as meaning
 use Rattle.page_image.specs.Image.{number, owns}
 use Rattle.page_tree.specs.declared.page.Page.{Page}
 use Rattle.js_image.specs.Held.{IsFine}
-use Rattle.js_image.specs.Image.{seen}
+use Rattle.js_image.specs.Image.{Rest, image, seen, state_of}
 use Rattle.js_image.proofs.Grown.{fine_stays, seen_stays}
 use Rattle.js_flow.specs.declared.frame.Frame.{Frame}
 use Rattle.js_flow.specs.declared.job.Job.{Job}
@@ -30,6 +31,9 @@ use Rattle.js_flow.specs.Parts.{forest_at, loop_body, loop_of, variable_of}
 use Rattle.js_flow.specs.Todo.{todo}
 use Rattle.js_flow.specs.Views.{job_of, name_at}
 use Rattle.js_flow.proofs.Stays.{all_fine, all_same, completion_fine, completion_same, frames_fine, place_fine, place_same, rest_same}
+use Rattle.end_laws.specs.Ends.{ByValue, Yields}
+use Rattle.js_steps.specs.Ending.{EndsCall}
+use Rattle.js_steps.proofs.Ending.{awaits_later}
 use Rattle.turn_runs.specs.declared.level.Doing.{Doing}
 use Rattle.turn_runs.specs.declared.level.Doing.TheVariants as doing
 use Rattle.turn_runs.specs.declared.level.Level.{Level}
@@ -91,19 +95,39 @@ module _ (fs : List Forest) (w : ℕ) (old new : List PlainCell) (g : Grows w ol
   control_fine (control.Waits d) h = tt
   control_fine control.Over h = tt
 
+module _ (fs : List Forest) (w : ℕ) (old new : Cells) (g : Grows w old.cells new.cells) (same : owned w new ≡ owned w old) where
+  -- the call of a task still ends by a value or a throw
+  goes_still : (c : Control) (frames : List Frame) → FineControl fs w old.cells c → FineFrames fs w old.cells frames → ((r : Rest) → Yields ByValue (todo fs w old.cells c frames (image fs r w old))) → (r : Rest) → Yields ByValue (todo fs w new.cells c frames (image fs r w new))
+  goes_still c frames h k a r =
+      subst (λ (x : Plan). Yields ByValue x) (sym (todo_same fs w old.cells new.cells g c frames h k (image fs r w new) ∙ ap (λ o. todo fs w old.cells c frames (state_of fs r o)) same)) (a r)
+
+  call_stays : (c : Control) (frames : List Frame) → FineControl fs w old.cells c → FineFrames fs w old.cells frames → EndsCall fs w old c frames → EndsCall fs w new c frames
+  call_stays (control.Do j) frames h k a = (goes_still (control.Do j) frames h k a.0, a.1)
+  call_stays (control.Begin j) frames h k a = (goes_still (control.Begin j) frames h k a.0, a.1)
+  call_stays (control.Give o) frames h k a = (goes_still (control.Give o) frames h k a.0, a.1)
+  call_stays (control.Pay n) frames h k a = (goes_still (control.Pay n) frames h k a.0, a.1)
+  call_stays (control.Waits d) frames h k a = awaits_later fs w old.cells new.cells g ByValue frames k a
+  call_stays control.Over frames h k a = tt
+
   module _ (p q : Page) (numbers : (n : ℕ) → owns p w n ≡ true → number q w n ≡ number p w n) where
     -- what a turn has still to do
-    pub turn_same : (d : Doing) (levels : List Level) → FineDoing fs w old p d → FineLevels fs w old p levels → (s : State) → turn_plan fs w new q d levels s ≡ turn_plan fs w old p d levels s
-    turn_same (doing.Runs t) levels h k s = λ i. and_then (todo_same t.value.control t.value.frames.list.items h.control h.frames s i) (levels_same w old new g p q numbers fs levels k i)
-    turn_same (doing.Native t n) levels h k s = λ i. and_then (and_then (native_same w old new g n.value h.2 s i) (rest_same fs w old new g t.value.frames.list.items h.1 i)) (levels_same w old new g p q numbers fs levels k i)
-    turn_same (doing.Hears e) levels h k s = λ i. Do (plan.Hear (hearing_same w old new g p q numbers e.value h i)) s (levels_same w old new g p q numbers fs levels k i)
-    turn_same (doing.Over o) levels h k s = λ i. Ret (completion_same w old new g o h i) s
+    pub turn_same : (d : Doing) (levels : List Level) → FineDoing fs w old p d → FineLevels fs w old.cells p levels → (s : State) → turn_plan fs w new.cells q d levels s ≡ turn_plan fs w old.cells p d levels s
+    turn_same (doing.Runs t) levels h k s = λ i. and_then (todo_same fs w old.cells new.cells g t.value.control t.value.frames.list.items h.control h.frames s i) (levels_same w old.cells new.cells g p q numbers fs levels k i)
+    turn_same (doing.Native t n) levels h k s = λ i. and_then (and_then (native_same w old.cells new.cells g n.value h.2 s i) (rest_same fs w old.cells new.cells g t.value.frames.list.items h.1 i)) (levels_same w old.cells new.cells g p q numbers fs levels k i)
+    turn_same (doing.Hears e) levels h k s = λ i. Do (plan.Hear (hearing_same w old.cells new.cells g p q numbers e.value h i)) s (levels_same w old.cells new.cells g p q numbers fs levels k i)
+    turn_same (doing.Over o) levels h k s = λ i. Ret (completion_same w old.cells new.cells g o h i) s
     turn_same (doing.Stop c) levels h k s = refl
 
     -- and what it holds
     pub doing_fine : ((n : ℕ) → owns p w n ≡ true → owns q w n ≡ true) → (d : Doing) → FineDoing fs w old p d → FineDoing fs w new q d
-    doing_fine owners (doing.Runs t) h = record { widget = h.widget; going = h.going; control = control_fine t.value.control h.control; frames = frames_fine fs w old new g t.value.frames.list.items h.frames }
-    doing_fine owners (doing.Native t n) h = (h.0, frames_fine fs w old new g t.value.frames.list.items h.1, native_fine w old new g n.value h.2)
-    doing_fine owners (doing.Hears e) h = hearing_fine w old new g p q numbers owners e.value h
-    doing_fine owners (doing.Over o) h = completion_fine w old new g o h
+    doing_fine owners (doing.Runs t) h = record {
+      widget = h.widget;
+      going = h.going;
+      control = control_fine fs w old.cells new.cells g t.value.control h.control;
+      frames = frames_fine fs w old.cells new.cells g t.value.frames.list.items h.frames;
+      call = call_stays t.value.control t.value.frames.list.items h.control h.frames h.call;
+    }
+    doing_fine owners (doing.Native t n) h = (h.0, frames_fine fs w old.cells new.cells g t.value.frames.list.items h.1, native_fine w old.cells new.cells g n.value h.2, awaits_later fs w old.cells new.cells g ByValue t.value.frames.list.items h.1 h.3)
+    doing_fine owners (doing.Hears e) h = hearing_fine w old.cells new.cells g p q numbers owners e.value h
+    doing_fine owners (doing.Over o) h = completion_fine w old.cells new.cells g o h
     doing_fine owners (doing.Stop c) h = tt

@@ -34,7 +34,7 @@ FineWork fs i = Unit {0}
 
 -- What a turn in progress holds is the life's, and it has no more fuel than it was granted.
 pub record FineTurn (fs : List Forest) (w : ℕ) (s : Cells) (p : Page) (grant : ℕ) (t : Turn) : Type 0 where
-  pub doing : FineDoing fs w s.cells p t.doing
+  pub doing : FineDoing fs w s p t.doing
   pub levels : FineLevels fs w s.cells p t.calls.levels.items
   pub left : t.left ≤ grant
 

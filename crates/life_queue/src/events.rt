@@ -109,8 +109,8 @@ fn opened(alloc: Global, heard: Heard) -> Result<(Doing, Calls), Memory>
     ensures plan { IfOk result (λ d. (fs : List Forest) (x : Outside) (w : ℕ) (s : Cells) (p : PageOf) (l : LoopOf)
         → heard_plan w s.cells p heard (turn_image fs x w s p l [])
         ≡ turn_plan fs w s.cells p d.0 d.1.levels.items (turn_image fs x w s p l d.1.dispatches.items)) }
-    ensures fine { IfOk result (λ d. (fs : List Forest) (w : ℕ) (cells : List PlainCell) (p : PageOf)
-        → FineHeard w cells p heard → FineDoing fs w cells p d.0 × FineLevels fs w cells p d.1.levels.items) }
+    ensures fine { IfOk result (λ d. (fs : List Forest) (w : ℕ) (s : Cells) (p : PageOf)
+        → FineHeard w s.cells p heard → FineDoing fs w s p d.0 × FineLevels fs w s.cells p d.1.levels.items) }
 {
     let mut dispatches = Vec::new(alloc);
     match heard {

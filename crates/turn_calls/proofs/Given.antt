@@ -36,7 +36,7 @@ module _ (w : ℕ) (p : Page) (l : Loop) (old new : Cells) (before after : Calls
       ap (λ (ls : List Level). levels_rest fs w old.cells p ls o s) are
       ∙ (ap (λ k. k o s) (levels_last fs w old.cells p before.levels.items level) ∙ taken.plan fs x q.1 q.0)
 
-  pub given_fine : (fs : List Forest) → FineLevels fs w old.cells p all → FineTook fs w new.cells p t × FineLevels fs w new.cells p after.levels.items
+  pub given_fine : (fs : List Forest) → FineLevels fs w old.cells p all → FineTook fs w new p t × FineLevels fs w new.cells p after.levels.items
   given_fine fs fine = let q = parts fs fine in taken.fine fs q.1 q.0
 
   pub given_near : took_free t + levels_free after.levels.items ≤ levels_free all

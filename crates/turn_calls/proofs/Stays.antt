@@ -22,6 +22,8 @@ use Rattle.js_image.specs.Held.{IsHeld}
 use Rattle.js_image.proofs.Grown.{fine_stays, held_stays, seen_stays}
 use Rattle.js_flow.proofs.Stays.{frames_fine, rest_same}
 use Rattle.native_image.specs.Sound.{IsOwnCell}
+use Rattle.end_laws.specs.Ends.{ByValue}
+use Rattle.js_steps.proofs.Ending.{awaits_later}
 use Rattle.turn_runs.specs.declared.level.Dispatch.{Dispatch}
 use Rattle.turn_runs.specs.declared.level.Hearing.{Hearing}
 use Rattle.turn_runs.specs.declared.level.Level.{Level}
@@ -108,7 +110,7 @@ module _ (w : ℕ) (old new : List PlainCell) (g : Grows w old new) (p q : Page)
     level_fine fs (level.Keeps lib x) h = held_stays w old new g lib h
     level_fine fs (level.Hears e n) h = hearing_fine e.value h
     level_fine fs (level.Fires f n) h = record { nodes = nodes_stay f.value.nodes.items h.nodes; last = fine_stays w old new g f.value.last h.last }
-    level_fine fs (level.Waits t) h = (h.0, frames_fine fs w old new g t.value.frames.list.items h.1)
+    level_fine fs (level.Waits t) h = (h.0, frames_fine fs w old new g t.value.frames.list.items h.1, awaits_later fs w old new g ByValue t.value.frames.list.items h.1 h.2)
 
     pub levels_fine : (fs : List Forest) (levels : List Level) → FineLevels fs w old p levels → FineLevels fs w new q levels
     levels_fine fs [] h = tt

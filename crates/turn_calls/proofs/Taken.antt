@@ -183,7 +183,7 @@ module _ (w : ℕ) (p : Page) (l : Loop) (old new : Cells) (before after : Calls
       → ((fs : List Forest) (x : Outside) → FineLevel fs w old.cells p level
       → level_taken fs w old.cells p level (completion_of w old.cells how) (turn_image fs x w old p l before.dispatches.items)
       ≡ took_plan fs w new.cells p t (turn_image fs x w new p l after.dispatches.items))
-      → ((fs : List Forest) → FineLevel fs w old.cells p level → FineTook fs w new.cells p t)
+      → ((fs : List Forest) → FineLevel fs w old.cells p level → FineTook fs w new p t)
       → took_free t ≤ level_free level → 0 < level_weight level → IsTaken w p l old new before after level how t
   taken_on level how t same plan fine near some = record {
     plan = λ fs x lev levels.
@@ -199,7 +199,7 @@ module _ (w : ℕ) (p : Page) (l : Loop) (old new : Cells) (before after : Calls
       → ((fs : List Forest) (x : Outside) → FineLevel fs w old.cells p level
       → level_taken fs w old.cells p level (completion_of w old.cells how) (turn_image fs x w old p l before.dispatches.items)
       ≡ and_then (took_plan fs w new.cells p t (turn_image fs x w new p l after.dispatches.items)) (level_taken fs w new.cells p next))
-      → ((fs : List Forest) → FineLevel fs w old.cells p level → FineTook fs w new.cells p t × FineLevel fs w new.cells p next)
+      → ((fs : List Forest) → FineLevel fs w old.cells p level → FineTook fs w new p t × FineLevel fs w new.cells p next)
       → took_free t + level_free next ≤ level_free level → (GivesOn t → level_weight next < level_weight level) → IsTaken w p l old new before after level how t
   taken_back level next how t more plan fine near some = record {
     plan = λ fs x lev levels.

@@ -12,8 +12,8 @@ use Rattle.js_image.specs.Image.{Rest, image as store_image}
 use Rattle.js_image.specs.Plans.{meant_cause}
 use Rattle.js_flow.specs.declared.job.Completion.{Completion}
 use Rattle.js_flow.specs.Views.{completion_of}
-use Rattle.js_flow.specs.Fine.{FineCompletion}
 use Rattle.js_flow.specs.Todo.{todo}
+use Rattle.js_steps.specs.Ending.{FineEnd}
 use Rattle.native_image.specs.Image.{Outside, beside, image}
 use Rattle.native_image.specs.Sound.{IsSound, KeepsStore}
 use Rattle.turn_calls.specs.declared.calls.Calls.{Calls}
@@ -34,12 +34,13 @@ module _ (fs : List Forest) (w : ℕ) (cells : List PlainCell) (p : Page) where
   took_plan (took.Hears h) s = Do (plan.Hear (hearing_of w cells p h.value)) (with_dispatch s) Ret
   took_plan (took.Runs t) s = todo fs w cells t.value.control t.value.frames.list.items s
 
-  -- it is the widget's
+module _ (fs : List Forest) (w : ℕ) (s : Cells) (p : Page) where
+  -- it is the widget's; a call ends by a value or a throw
   abbrev pub FineTook : Took → Type 0
-  FineTook (took.Gives o) = FineCompletion w cells o
+  FineTook (took.Gives o) = FineEnd w s.cells o
   FineTook (took.Stops c) = Unit {0}
-  FineTook (took.Hears h) = FineHearing w cells p h.value
-  FineTook (took.Runs t) = FineTask fs w cells p t.value
+  FineTook (took.Hears h) = FineHearing w s.cells p h.value
+  FineTook (took.Runs t) = FineTask fs w s p t.value
 
 -- How a call ended is given to a level. What that and all below it have still to do is what is done next, over what waits then; all that is held then is the widget's; what may be taken up without a charge does not grow; and where it goes on below, less waits.
 pub record IsTaken (w : ℕ) (p : Page) (l : Loop) (old new : Cells) (before after : Calls) (level : Level) (how : Completion) (t : Took) : Type 0 where
@@ -47,20 +48,20 @@ pub record IsTaken (w : ℕ) (p : Page) (l : Loop) (old new : Cells) (before aft
       → and_then (level_taken fs w old.cells p level (completion_of w old.cells how) (turn_image fs x w old p l before.dispatches.items)) (levels_rest fs w old.cells p before.levels.items)
       ≡ and_then (took_plan fs w new.cells p t (turn_image fs x w new p l after.dispatches.items)) (levels_rest fs w new.cells p after.levels.items)
   pub fine : (fs : List Forest) → FineLevel fs w old.cells p level → FineLevels fs w old.cells p before.levels.items
-      → FineTook fs w new.cells p t × FineLevels fs w new.cells p after.levels.items
+      → FineTook fs w new p t × FineLevels fs w new.cells p after.levels.items
   pub near : took_free t + levels_free after.levels.items ≤ level_free level + levels_free before.levels.items
   pub lighter : GivesOn t → weights after.levels.items < level_weight level + weights before.levels.items
 
 -- What is to be done at the widget's state is done next, beside page and loop.
 pub record IsNext (w : ℕ) (p : Page) (l : Loop) (old new : Cells) (before : State → Plan) (t : Took) : Type 0 where
   pub plan : (fs : List Forest) (x : Outside) (b : Option Bool) → before (image fs x w (beside old p l b)) ≡ took_plan fs w new.cells p t (image fs x w (beside new p l b))
-  pub fine : (fs : List Forest) → FineTook fs w new.cells p t
+  pub fine : (fs : List Forest) → FineTook fs w new p t
   pub near : took_free t ≡ 0
 
 -- The same at the store's image, whatever else the widget has.
 pub record IsStored (w : ℕ) (old new : Cells) (before : State → Plan) (t : Took) : Type 0 where
   pub plan : (fs : List Forest) (p : Page) (r : Rest) → before (store_image fs r w old) ≡ took_plan fs w new.cells p t (store_image fs r w new)
-  pub fine : (fs : List Forest) (p : Page) → FineTook fs w new.cells p t
+  pub fine : (fs : List Forest) (p : Page) → FineTook fs w new p t
   pub near : took_free t ≡ 0
 
 -- What is kept of the store: what is sound stays so, beside every loop.

@@ -6,7 +6,9 @@ use Rattle.store_cells.specs.Cells.{PlainCell}
 use Rattle.page_tree.specs.declared.page.Page.{Page}
 use Rattle.page_image.specs.Image.{owns}
 use Rattle.js_image.specs.Held.{IsFine, IsHeld}
+use Rattle.end_laws.specs.Ends.{ByValue}
 use Rattle.js_flow.specs.Fine.{FineFrames}
+use Rattle.js_steps.specs.Ending.{Awaits}
 use Rattle.turn_runs.specs.declared.level.Firing.{Firing}
 use Rattle.turn_runs.specs.declared.level.Level.{Level}
 use Rattle.turn_runs.specs.declared.level.Level.TheVariants as level
@@ -23,7 +25,7 @@ module _ (fs : List Forest) (w : ℕ) (cells : List PlainCell) (p : Page) where
   FineLevel (level.Keeps lib x) = IsHeld w cells lib
   FineLevel (level.Hears h n) = FineHearing w cells p h.value
   FineLevel (level.Fires f n) = FineFiring w cells p f.value
-  FineLevel (level.Waits t) = (t.value.widget ≡ w) × FineFrames fs w cells t.value.frames.list.items
+  FineLevel (level.Waits t) = (t.value.widget ≡ w) × FineFrames fs w cells t.value.frames.list.items × Awaits fs w cells ByValue t.value.frames.list.items
 
   -- all that waits
   abbrev pub FineLevels : List Level → Type 0

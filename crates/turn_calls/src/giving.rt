@@ -5,8 +5,8 @@ ghost use Rattle.store_cells.specs.Cells.{Cells};
 ghost use Rattle.widget_meaning.specs.Dispatch.{is_bubbled, without_dispatch};
 ghost use Rattle.event_loop.specs.declared.around.Loop.{Loop as LoopOf};
 ghost use Rattle.page_tree.specs.declared.page.Page.{Page as PageOf};
-ghost use Rattle.js_flow.specs.Fine.{FineCompletion};
 ghost use Rattle.js_flow.specs.Views.{completion_of};
+ghost use Rattle.js_steps.specs.Ending.{FineEnd};
 ghost use Rattle.native_image.specs.Image.{Outside};
 ghost use Rattle.native_image.specs.Sound.{IsSound, KeepsStore};
 ghost use Rattle.turn_runs.specs.Held.{FineDoing, FineHearing};
@@ -45,7 +45,7 @@ fn take_fires(
     requires widget { site.now.widget < 32 }
     requires sound { IsSound site.now.widget store.old site.now.page.now site.now.around.now }
     requires firing { FineFiring site.now.widget store.old.cells site.now.page.now at.0.value }
-    requires how { FineCompletion site.now.widget store.old.cells how }
+    requires how { FineEnd site.now.widget store.old.cells how }
     ensures taken { IfOk result (IsTaken site.now.widget site.now.page.now site.now.around.now store.old store.new calls.old calls.new (level.Fires at.0 at.1) how) }
     ensures kept { StaysSound site.now.widget site.now.page.now store.old store.new }
 {
@@ -86,7 +86,7 @@ fn take_hears(
     requires widget { site.now.widget < 32 }
     requires sound { IsSound site.now.widget store.old site.now.page.now site.now.around.now }
     requires hearing { FineHearing site.now.widget store.old.cells site.now.page.now at.0.value }
-    requires how { FineCompletion site.now.widget store.old.cells how }
+    requires how { FineEnd site.now.widget store.old.cells how }
     ensures taken { IfOk result (IsTaken site.now.widget site.now.page.now site.now.around.now store.old store.new calls.old calls.new (level.Hears at.0 at.1) how) }
     ensures kept { StaysSound site.now.widget site.now.page.now store.old store.new }
 {
@@ -117,7 +117,7 @@ fn take(
     requires widget { site.now.widget < 32 }
     requires sound { IsSound site.now.widget store.old site.now.page.now site.now.around.now }
     requires level { (fs : List Forest) × FineLevel fs site.now.widget store.old.cells site.now.page.now level }
-    requires how { FineCompletion site.now.widget store.old.cells how }
+    requires how { FineEnd site.now.widget store.old.cells how }
     ensures taken { IfOk result (IsTaken site.now.widget site.now.page.now site.now.around.now store.old store.new calls.old calls.new level how) }
     ensures kept { StaysSound site.now.widget site.now.page.now store.old store.new }
 {
@@ -141,14 +141,14 @@ pub fn give(
     requires widget { site.now.widget < 32 }
     requires sound { IsSound site.now.widget store.old site.now.page.now site.now.around.now }
     requires levels { (fs : List Forest) × FineLevels fs site.now.widget store.old.cells site.now.page.now calls.old.levels.items }
-    requires how { FineCompletion site.now.widget store.old.cells how }
+    requires how { FineEnd site.now.widget store.old.cells how }
     ensures plan { let w = site.now.widget in let p = site.now.page.now in let l = site.now.around.now in
         IfOk result (λ d. (fs : List Forest) (x : Outside) → FineLevels fs w store.old.cells p calls.old.levels.items
         → levels_rest fs w store.old.cells p calls.old.levels.items (completion_of w store.old.cells how) (turn_image fs x w store.old p l calls.old.dispatches.items)
         ≡ turn_plan fs w store.new.cells p d calls.new.levels.items (turn_image fs x w store.new p l calls.new.dispatches.items)) }
     ensures fine { let w = site.now.widget in let p = site.now.page.now in
         IfOk result (λ d. (fs : List Forest) → FineLevels fs w store.old.cells p calls.old.levels.items
-        → FineDoing fs w store.new.cells p d × FineLevels fs w store.new.cells p calls.new.levels.items) }
+        → FineDoing fs w store.new p d × FineLevels fs w store.new.cells p calls.new.levels.items) }
     ensures near { IfOk result (λ d. doing_free d + levels_free calls.new.levels.items ≤ levels_free calls.old.levels.items + 1) }
     ensures sound { (l : LoopOf) → IsSound site.now.widget store.old site.now.page.now l → IsSound site.now.widget store.new site.now.page.now l }
     ensures kept { KeepsStore site.now.widget store.old store.new }

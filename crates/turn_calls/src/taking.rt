@@ -15,10 +15,10 @@ ghost use Rattle.page_tree.specs.declared.page.Page.{Page as PageTree};
 ghost use Rattle.js_image.specs.Held.{IsFine, IsHeld, Kept};
 ghost use Rattle.js_image.specs.Plans.{meant_fault};
 ghost use Rattle.js_image.specs.Image.{Rest, image as store_image, seen};
-ghost use Rattle.js_flow.specs.Fine.{FineCompletion};
 ghost use Rattle.js_flow.specs.Free.{free};
 ghost use Rattle.js_flow.specs.Views.{completion_of};
 ghost use Rattle.js_steps.specs.Answered.{remaining};
+ghost use Rattle.js_steps.specs.Ending.{FineEnd};
 ghost use Rattle.native_image.specs.Sound.{IsSound};
 ghost use Rattle.turn_runs.specs.Held.{FineHeard, FineHearing, FineTask};
 ghost use Rattle.turn_calls.specs.Waiting.{FineFiring, FineLevel};
@@ -48,7 +48,7 @@ pub(crate) fn keeps(
 ) -> Result<Took, Memory>
     requires widget { w < 32 }
     requires lib { IsHeld w store.old.cells lib }
-    requires how { FineCompletion w store.old.cells how }
+    requires how { FineEnd w store.old.cells how }
     ensures next { IfOk result (IsStored w store.old store.new
         (after (λ v s. properties.put (seen w store.old.cells (Value.Ref lib)) name.now v s (costs.give Undefined)) (completion_of w store.old.cells how))) }
     ensures kept { (fs : List Forest) → Kept fs w store.old store.new }
@@ -98,8 +98,8 @@ fn throw(alloc: Global, store: &mut Store, w: u32, fault: Fault) -> Result<Took,
 pub(crate) fn waits(task: Box<Task>, how: Completion) -> Took
     ensures plan { (fs : List Forest) (w : ℕ) (cells : List PlainCell) (p : PageTree) (s : State)
         → level_taken fs w cells p (level.Waits task) (completion_of w cells how) s ≡ took_plan fs w cells p result s }
-    ensures fine { (fs : List Forest) (w : ℕ) (cells : List PlainCell) (p : PageTree)
-        → FineLevel fs w cells p (level.Waits task) → FineCompletion w cells how → FineTook fs w cells p result }
+    ensures fine { (fs : List Forest) (w : ℕ) (s : Cells) (p : PageTree)
+        → FineLevel fs w s.cells p (level.Waits task) → FineEnd w s.cells how → FineTook fs w s p result }
     ensures near { took_free result ≡ level_free (level.Waits task) }
 {
     let mut task = task;
@@ -135,7 +135,7 @@ pub fn call_handler(
     ensures plan { IfOk result (λ t. (fs : List Forest) (s : Cells) (p : PageTree) (r : Rest) → FineHearing w s.cells p hearing.now
         → remaining fs w s t.value r
         ≡ Do (plan.Call (Own (get_or (functions_of w s.cells p hearing.now) next 0)) None ((hearing_of w s.cells p hearing.now).event ∷ []) hearing.now.dispatch.depth) (store_image fs r w s) Ret) }
-    ensures fine { IfOk result (λ t. (fs : List Forest) (s : Cells) (p : PageTree) → FineHearing w s.cells p hearing.now → FineTask fs w s.cells p t.value) }
+    ensures fine { IfOk result (λ t. (fs : List Forest) (s : Cells) (p : PageTree) → FineHearing w s.cells p hearing.now → FineTask fs w s p t.value) }
     ensures free { IfOk result (λ t. free t.value.control t.value.frames.list.items ≡ 0) }
 {
     let call = Call {
@@ -201,8 +201,8 @@ fn again(dispatch: &Dispatch) -> Result<Dispatch, Memory>
 fn took_of(found: Option<Heard>) -> Took
     ensures plan { (fs : List Forest) (w : ℕ) (cells : List PlainCell) (p : PageTree) (s : State)
         → searched_plan w cells p found s ≡ took_plan fs w cells p result s }
-    ensures fine { (fs : List Forest) (w : ℕ) (cells : List PlainCell) (p : PageTree)
-        → IfSome found (FineHeard w cells p) → FineTook fs w cells p result }
+    ensures fine { (fs : List Forest) (w : ℕ) (s : Cells) (p : PageTree)
+        → IfSome found (FineHeard w s.cells p) → FineTook fs w s p result }
     ensures near { took_free result ≡ 0 }
 {
     match found {

@@ -3,13 +3,15 @@ use Rattle.std.specs.Prelude.{◌≡◌, ◌<◌, ℕ, List, None, false, length
 use Rattle.std.specs.List.{AllByRecursion}
 use Rattle.js_tree.specs.Forest.{Forest}
 use Rattle.js_tree.specs.declared.nodes.FunId.{FunId}
-use Rattle.store_cells.specs.Cells.{PlainCell}
+use Rattle.store_cells.specs.Cells.{Cells, PlainCell}
 use Rattle.page_tree.specs.declared.page.Page.{Page}
 use Rattle.page_image.specs.Image.{owns}
 use Rattle.js_image.specs.Held.{IsFine, IsFunOf, IsHeld}
 use Rattle.js_flow.specs.Fine.{FineCompletion, FineControl, FineFrames, FineNative}
 use Rattle.js_flow.specs.Todo.{IsGoing}
+use Rattle.end_laws.specs.Ends.{ByValue}
 use Rattle.js_steps.specs.declared.task.Task.{Task}
+use Rattle.js_steps.specs.Ending.{Awaits, EndsCall}
 use Rattle.native_image.specs.Sound.{IsOwnCell}
 use Rattle.turn_runs.specs.declared.level.Dispatch.{Dispatch}
 use Rattle.turn_runs.specs.declared.level.Hearing.{Hearing}
@@ -41,18 +43,19 @@ module _ (w : ℕ) (cells : List PlainCell) (p : Page) where
   FineHeard (heard.Calls h) = FineHearing h.value
   FineHeard (heard.Stop c) = Unit {0}
 
-module _ (fs : List Forest) (w : ℕ) (cells : List PlainCell) (p : Page) where
-  -- A task of the widget that can take a step.
+module _ (fs : List Forest) (w : ℕ) (s : Cells) (p : Page) where
+  -- A task of the widget that can take a step, and whose call ends by a value or a throw.
   pub record FineTask (t : Task) : Type 0 where
     pub widget : t.widget ≡ w
     pub going : IsGoing t.control
-    pub control : FineControl fs w cells t.control
-    pub frames : FineFrames fs w cells t.frames.list.items
+    pub control : FineControl fs w s.cells t.control
+    pub frames : FineFrames fs w s.cells t.frames.list.items
+    pub call : EndsCall fs w s t.control t.frames.list.items
 
   -- what a turn does
   abbrev pub FineDoing : Doing → Type 0
   FineDoing (doing.Runs t) = FineTask t.value
-  FineDoing (doing.Native t n) = (t.value.widget ≡ w) × FineFrames fs w cells t.value.frames.list.items × FineNative w cells n.value
-  FineDoing (doing.Hears h) = FineHearing w cells p h.value
-  FineDoing (doing.Over o) = FineCompletion w cells o
+  FineDoing (doing.Native t n) = (t.value.widget ≡ w) × FineFrames fs w s.cells t.value.frames.list.items × FineNative w s.cells n.value × Awaits fs w s.cells ByValue t.value.frames.list.items
+  FineDoing (doing.Hears h) = FineHearing w s.cells p h.value
+  FineDoing (doing.Over o) = FineCompletion w s.cells o
   FineDoing (doing.Stop c) = Unit {0}

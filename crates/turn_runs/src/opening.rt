@@ -38,7 +38,7 @@ pub fn open_script(
     ensures plan { IfOk result (λ d. (fs : List Forest) (p : Page) (r : Rest) (levels : List Level)
         → call_script (fun_at (forest_at fs code) fun) (all_seen w store.old.cells args.now) (image fs r w store.old) (levels_rest fs w store.new.cells p levels)
         ≡ turn_plan fs w store.new.cells p d levels (image fs r w store.new)) }
-    ensures fine { IfOk result (λ d. (fs : List Forest) (p : Page) → FineDoing fs w store.new.cells p d) }
+    ensures fine { IfOk result (λ d. (fs : List Forest) (p : Page) → FineDoing fs w store.new p d) }
     ensures kept { (fs : List Forest) → IsScriptOf fs code fun → Kept fs w store.old store.new }
 {
     let cell = NewCell::Function {
@@ -58,7 +58,7 @@ fn call_function(alloc: Global, w: u32, func: CellId, args: &[Value]) -> Result<
     ensures plan { IfOk result (λ t. (fs : List Forest) (s : Cells) (r : Rest)
         → remaining fs w s t.value r ≡ Do (plan.Call (seen w s.cells (Value.Ref func)) None (all_seen w s.cells args.now) 0) (image fs r w s) Ret) }
     ensures fine { IfOk result (λ t. (fs : List Forest) (s : Cells) (p : Page)
-        → IsHeld w s.cells func → AreFine w s.cells args.now → FineTask fs w s.cells p t.value) }
+        → IsHeld w s.cells func → AreFine w s.cells args.now → FineTask fs w s p t.value) }
 {
     let task = begin(alloc, w, func, args, 0)?;
     Ok(Box::new(alloc, task)?)

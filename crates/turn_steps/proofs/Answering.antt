@@ -41,7 +41,9 @@ use Rattle.js_image.specs.Image.{Rest, image as store_image}
 use Rattle.js_flow.specs.Fine.{FineFrames}
 use Rattle.js_flow.specs.Free.{frames_free, free, native_free}
 use Rattle.js_flow.specs.Todo.{after_step}
+use Rattle.end_laws.specs.Ends.{ByValue}
 use Rattle.js_steps.specs.Answered.{IsFineAfter, machine, remaining_after}
+use Rattle.js_steps.specs.Ending.{Awaits}
 use Rattle.js_steps.specs.declared.answer.Stepped.{Stepped}
 use Rattle.native_image.specs.Image.{Outside, beside}
 use Rattle.native_image.proofs.Joint.{rest as outside_rest, store_lift}
@@ -122,10 +124,10 @@ fired_levels fs w cells p below t f s =
 
 -- what waits then is the widget's
 pub fired_fine : (fs : List Forest) (w : ℕ) (cells : List PlainCell) (p : Page) (below : List Level) (t : Box Task) (f : Box Firing) (firing : Firing) (vs : List Level) → f.value ≡ firing → vs ≡ (below ++ level.Waits t ∷ []) ++ level.Fires f 0 ∷ []
-    → t.value.widget ≡ w → FineFrames fs w cells t.value.frames.list.items → FineFiring w cells p firing → FineLevels fs w cells p below → FineLevels fs w cells p vs
-fired_fine fs w cells p below t f firing vs is e same frames fine levels =
+    → t.value.widget ≡ w → FineFrames fs w cells t.value.frames.list.items → Awaits fs w cells ByValue t.value.frames.list.items → FineFiring w cells p firing → FineLevels fs w cells p below → FineLevels fs w cells p vs
+fired_fine fs w cells p below t f firing vs is e same frames awaits fine levels =
     subst (FineLevels fs w cells p) (sym e)
-    (fine_push fs w cells p (below ++ level.Waits t ∷ []) (level.Fires f 0) (fine_push fs w cells p below (level.Waits t) levels (same, frames)) (subst (FineFiring w cells p) (sym is) fine))
+    (fine_push fs w cells p (below ++ level.Waits t ∷ []) (level.Fires f 0) (fine_push fs w cells p below (level.Waits t) levels (same, frames, awaits)) (subst (FineFiring w cells p) (sym is) fine))
 
 -- ## What the answer comes to
 
@@ -140,7 +142,7 @@ module _ (old : Shared) (v : Widget) (lt : v.number < 32) (fine : FineWidget old
       → ((fs : List Forest) (x : Outside) → FineLevels fs v.number old.store.cells old.page vs
       → levels_rest fs v.number old.store.cells old.page vs (completion_of v.number old.store.cells (completion.Is value.Undefined)) (turn_image fs x v.number old.store old.page v.around before.dispatches.items)
       ≡ turn_plan fs v.number end.cells old.page d after.levels.items (turn_image fs x v.number end old.page v.around after.dispatches.items))
-      → ((fs : List Forest) → FineLevels fs v.number old.store.cells old.page vs → FineDoing fs v.number end.cells old.page d × FineLevels fs v.number end.cells old.page after.levels.items)
+      → ((fs : List Forest) → FineLevels fs v.number old.store.cells old.page vs → FineDoing fs v.number end old.page d × FineLevels fs v.number end.cells old.page after.levels.items)
       → doing_free d + levels_free after.levels.items ≤ levels_free vs + 1
       → IsAnswered old (over_store end) v before after t.value firing.depth (native.Call (calls.Fire firing.kind firing.nodes firing.last)) d
   fire_answered end t f firing vs d is e held plan holds near = record {

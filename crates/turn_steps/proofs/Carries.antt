@@ -18,7 +18,10 @@ use Rattle.js_flow.specs.Frames.{native_plan, rest}
 use Rattle.js_flow.specs.Todo.{Moves}
 use Rattle.js_flow.proofs.Stays.{frames_fine, rest_same}
 use Rattle.js_names.specs.Code.{trees_of}
+use Rattle.end_laws.specs.Ends.{ByValue}
 use Rattle.js_steps.specs.declared.task.Task.{Task}
+use Rattle.js_steps.specs.Ending.{Awaits}
+use Rattle.js_steps.proofs.Ending.{awaits_later}
 use Rattle.js_values.specs.Answers.{Goes, IsOutOfFuel, Lacks, out_of_fuel}
 use Rattle.js_values.specs.Fuel.{Fuel}
 use Rattle.js_values.specs.declared.outcome.NativeOut.{NativeOut}
@@ -85,6 +88,11 @@ module _ (old mid : Shared) (v u : Widget) (same : u.number ≡ v.number) (codes
       subst (λ n. FineFrames (forests mid) n mid.store.cells below) (sym same)
       (subst (λ fs. FineFrames fs v.number mid.store.cells below) (sym trees_same) (frames_fine (forests old) v.number old.store.cells mid.store.cells keeps.store.grows below h))
 
+  pub awaits_mid : (below : List Frame) → FineFrames (forests old) v.number old.store.cells below → Awaits (forests old) v.number old.store.cells ByValue below → Awaits (forests mid) u.number mid.store.cells ByValue below
+  awaits_mid below h a =
+      subst (λ n. Awaits (forests mid) n mid.store.cells ByValue below) (sym same)
+      (subst (λ fs. Awaits fs v.number mid.store.cells ByValue below) (sym trees_same) (awaits_later (forests old) v.number old.store.cells mid.store.cells keeps.store.grows ByValue below h a))
+
   pub levels_mid : (levels : List Level) → FineLevels (forests old) v.number old.store.cells old.page levels → FineLevels (forests mid) u.number mid.store.cells mid.page levels
   levels_mid levels h =
       subst (λ n. FineLevels (forests mid) n mid.store.cells mid.page levels) (sym same)
@@ -138,7 +146,7 @@ module _ (old mid : Shared) (v u : Widget) (same : u.number ≡ v.number) (codes
     }
 
     -- fuel is wanting, and all is as it was
-    pub wanting_moves : (after : Calls) → after.levels.items ≡ calls.levels.items → after.dispatches.items ≡ ds → is_wanting o ≡ true → FineDoing (forests old) v.number old.store.cells old.page (doing.Native t n)
+    pub wanting_moves : (after : Calls) → after.levels.items ≡ calls.levels.items → after.dispatches.items ≡ ds → is_wanting o ≡ true → FineDoing (forests old) v.number old.store old.page (doing.Native t n)
         → IsMoved old mid v u calls after had has (doing.Native t n) (record { doing = doing.Native t n; is_short = true })
     wanting_moves after ls bs want fine = record {
       moves = λ x. record {
@@ -160,9 +168,9 @@ module _ (old mid : Shared) (v u : Widget) (same : u.number ≡ v.number) (codes
         plans : (x : Outside) → doing_in x old v calls (doing.Native t n) ≡ doing_in x mid u after (doing.Native t n)
         plans x = λ j. turn_plan (sym trees_same j) (sym same j) (sym none.1 j).cells (sym none.2 j) (doing.Native t n) (sym ls j) (states x j)
 
-        doing_mid : FineDoing (forests mid) u.number mid.store.cells mid.page (doing.Native t n)
+        doing_mid : FineDoing (forests mid) u.number mid.store mid.page (doing.Native t n)
         doing_mid =
-            subst (λ fs. FineDoing fs u.number mid.store.cells mid.page (doing.Native t n)) (sym trees_same)
-            (subst (λ w. FineDoing (forests old) w mid.store.cells mid.page (doing.Native t n)) (sym same)
-            (subst (λ (c : Cells). FineDoing (forests old) v.number c.cells mid.page (doing.Native t n)) (sym none.1)
-            (subst (λ q. FineDoing (forests old) v.number old.store.cells q (doing.Native t n)) (sym none.2) fine)))
+            subst (λ fs. FineDoing fs u.number mid.store mid.page (doing.Native t n)) (sym trees_same)
+            (subst (λ w. FineDoing (forests old) w mid.store mid.page (doing.Native t n)) (sym same)
+            (subst (λ (c : Cells). FineDoing (forests old) v.number c mid.page (doing.Native t n)) (sym none.1)
+            (subst (λ q. FineDoing (forests old) v.number old.store q (doing.Native t n)) (sym none.2) fine)))

@@ -29,7 +29,7 @@ module _ (w : ℕ) (p : Page) (l : Loop) (s : Cells) (b : Calls) (task : Box Tas
   unfolding todo_by
   stop_followed stop.Fuel d due fuel is = subst (IsFollowed w p l s s b b task.value k) (sym (fuel refl)) (record {
     plan = λ fs x fine. ap (todo_by fs x) is;
-    fine = λ fs mine held levels. (record { widget = mine; going = subst (λ (q : Stepped). Follows (machine q) task.value.control) is follows; control = held.0.0; frames = held.0.1 }, levels);
+    fine = λ fs mine held levels. (record { widget = mine; going = subst (λ (q : Stepped). Follows (machine q) task.value.control) is follows; control = held.0.0; frames = held.0.1; call = held.0.2 }, levels);
     short = λ e. (refl, refl);
     near = omega arith;
   })

@@ -50,5 +50,5 @@ pub record IsAnswered (old new : Shared) (v : Widget) (before after : Calls) (t 
   pub plan : (x : Outside) →
       and_then (and_then (given v.number old.store.cells (number old.page v.number) depth o (state_in x old v before.dispatches.items)) (rest (forests old) v.number old.store.cells t.frames.list.items)) (levels_rest (forests old) v.number old.store.cells old.page before.levels.items)
       ≡ doing_in x new v after d
-  pub fine : FineDoing (forests new) v.number new.store.cells new.page d × FineLevels (forests new) v.number new.store.cells new.page after.levels.items
+  pub fine : FineDoing (forests new) v.number new.store new.page d × FineLevels (forests new) v.number new.store.cells new.page after.levels.items
   pub near : doing_free d + levels_free after.levels.items < 2 * (native_free + frames_free t.frames.list.items) + levels_free before.levels.items

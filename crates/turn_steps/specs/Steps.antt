@@ -58,7 +58,7 @@ pub record IsGiven (w : ℕ) (p : Page) (l : Loop) (old new : Cells) (before aft
   pub plan : (fs : List Forest) (x : Outside) → FineLevels fs w old.cells p before.levels.items
       → levels_rest fs w old.cells p before.levels.items (completion_of w old.cells how) (turn_image fs x w old p l before.dispatches.items)
       ≡ turn_plan fs w new.cells p d after.levels.items (turn_image fs x w new p l after.dispatches.items)
-  pub fine : (fs : List Forest) → FineLevels fs w old.cells p before.levels.items → FineDoing fs w new.cells p d × FineLevels fs w new.cells p after.levels.items
+  pub fine : (fs : List Forest) → FineLevels fs w old.cells p before.levels.items → FineDoing fs w new p d × FineLevels fs w new.cells p after.levels.items
   pub near : doing_free d + levels_free after.levels.items ≤ levels_free before.levels.items + 1
 
 -- What a task has still to do after an answer, over what waits, is what the turn does then, over what waits then; after a want of fuel nothing changed.
@@ -67,7 +67,7 @@ pub record IsFollowed (w : ℕ) (p : Page) (l : Loop) (old new : Cells) (before 
       → and_then (after_step fs w old.cells (machine k) t.control t.frames.list.items (turn_image fs x w old p l before.dispatches.items)) (levels_rest fs w old.cells p before.levels.items)
       ≡ turn_plan fs w new.cells p d after.levels.items (turn_image fs x w new p l after.dispatches.items)
   pub fine : (fs : List Forest) → t.widget ≡ w → IsFineAfter fs w old t k → FineLevels fs w old.cells p before.levels.items
-      → FineDoing fs w new.cells p d × FineLevels fs w new.cells p after.levels.items
+      → FineDoing fs w new p d × FineLevels fs w new.cells p after.levels.items
   pub short : is_fuel k ≡ true → (new ≡ old) × (after ≡ before)
   pub near : doing_free d + levels_free after.levels.items ≤ 2 * free t.control t.frames.list.items + levels_free before.levels.items + 1
 
@@ -75,7 +75,7 @@ pub record IsFollowed (w : ℕ) (p : Page) (l : Loop) (old new : Cells) (before 
 pub record IsMoved (old new : Shared) (v u : Widget) (before after : Calls) (had has : Fuel) (d : Doing) (m : Moved) : Type 0 where
   pub moves : (x : Outside) → Moves (had.left - has.left) (state_in x old v before.dispatches.items) (doing_in x old v before d) (doing_in x new u after m.doing)
   pub spends : has.left ≤ had.left
-  pub fine : FineDoing (forests new) u.number new.store.cells new.page m.doing × FineLevels (forests new) u.number new.store.cells new.page after.levels.items
+  pub fine : FineDoing (forests new) u.number new.store new.page m.doing × FineLevels (forests new) u.number new.store.cells new.page after.levels.items
   pub short : m.is_short ≡ true → (has.left ≡ had.left) × ((x : Outside) → run_plan had.left (doing_in x new u after m.doing) ≡ out_of_fuel (state_in x new u after.dispatches.items) had.left)
   pub nearer : m.is_short ≡ false → near has.left m.doing after < near had.left d before
 
@@ -86,7 +86,7 @@ pub record IsBegun (w : ℕ) (before after : Calls) (h : Hearing) (d : Doing) : 
       Moves 0 st (Do (Hear (hearing_of w s.cells p h)) st (levels_rest fs w s.cells p before.levels.items))
       (turn_plan fs w s.cells p d after.levels.items (turn_image fs x w s p l after.dispatches.items))
   pub fine : (fs : List Forest) (s : Cells) (p : Page) → FineHearing w s.cells p h → FineLevels fs w s.cells p before.levels.items
-      → FineDoing fs w s.cells p d × FineLevels fs w s.cells p after.levels.items
+      → FineDoing fs w s p d × FineLevels fs w s.cells p after.levels.items
   pub near : doing_free d + levels_free after.levels.items ≤ levels_free before.levels.items
 
 -- A turn took a step, with what was left of its grant, or with nothing where it is cut.

@@ -56,7 +56,7 @@ FineEnd w cells (ended.Stop c) = Unit {0}
 
 -- What a turn in progress holds is the widget's.
 pub record FineTurn (h : Shared) (w : ℕ) (t : Turn) : Type 0 where
-  pub doing : FineDoing (forests h) w h.store.cells h.page t.doing
+  pub doing : FineDoing (forests h) w h.store h.page t.doing
   pub levels : FineLevels (forests h) w h.store.cells h.page t.calls.levels.items
 
 -- What holds of a widget beside what all share: what it has in the store leads to what it may hold, and store, page and what is kept for it agree.

@@ -1,6 +1,8 @@
 //! A native that a turn carries out, and what its answer comes to.
 ghost use Rattle.std.specs.Prelude.{◌≡◌, ◌<◌, false, IfOk, None, OnOk, reverse, drop};
 ghost use Rattle.js_calls.specs.Called.{IsCarried};
+ghost use Rattle.end_laws.specs.Ends.{ByValue};
+ghost use Rattle.js_steps.specs.Ending.{Awaits};
 ghost use Rattle.js_flow.specs.Fine.{FineFrames, FineNative};
 ghost use Rattle.js_values.specs.Answers.{IsFineOut};
 ghost use Rattle.native_image.specs.Image.{beside, dispatches_of};
@@ -113,6 +115,7 @@ fn fire(
     requires firing { FineFiring widget.now.number shared.old.store.cells shared.old.page firing }
     requires task { task.value.widget ≡ widget.now.number }
     requires frames { FineFrames (forests shared.old) widget.now.number shared.old.store.cells task.value.frames.list.items }
+    requires awaits { Awaits (forests shared.old) widget.now.number shared.old.store.cells ByValue task.value.frames.list.items }
     requires levels { FineLevels (forests shared.old) widget.now.number shared.old.store.cells shared.old.page calls.old.levels.items }
     ensures answered { IfOk result (IsAnswered shared.old shared.new widget.now calls.old calls.new task.value firing.depth
         (native_out.Call (native_calls.Fire firing.kind firing.nodes firing.last))) }
@@ -155,6 +158,7 @@ fn resume_task(
     requires out { IsFineOut widget.now.number shared.old.store.cells answer.1 × IsCarried answer.1 }
     requires task { task.value.widget ≡ widget.now.number }
     requires frames { FineFrames (forests shared.old) widget.now.number shared.old.store.cells task.value.frames.list.items }
+    requires awaits { Awaits (forests shared.old) widget.now.number shared.old.store.cells ByValue task.value.frames.list.items }
     requires levels { FineLevels (forests shared.old) widget.now.number shared.old.store.cells shared.old.page calls.old.levels.items }
     ensures answered { IfOk result (IsAnswered shared.old shared.new widget.now calls.old calls.new task.value answer.0 answer.1) }
     ensures fine { OnOk result (FineWidget shared.new widget.now) }
@@ -191,6 +195,7 @@ fn answer(
     requires fires { FiresAtOwn widget.now.number (beside shared.old.store shared.old.page widget.now.around None) answer.1 }
     requires task { task.value.widget ≡ widget.now.number }
     requires frames { FineFrames (forests shared.old) widget.now.number shared.old.store.cells task.value.frames.list.items }
+    requires awaits { Awaits (forests shared.old) widget.now.number shared.old.store.cells ByValue task.value.frames.list.items }
     requires levels { FineLevels (forests shared.old) widget.now.number shared.old.store.cells shared.old.page calls.old.levels.items }
     ensures answered { IfOk result (IsAnswered shared.old shared.new widget.now calls.old calls.new task.value answer.0 answer.1) }
     ensures fine { OnOk result (FineWidget shared.new widget.now) }
@@ -228,7 +233,7 @@ pub(crate) fn carry(
 ) -> Result<Moved, Memory>
     requires number { widget.old.number < 32 }
     requires widget { FineWidget shared.old widget.old }
-    requires native { FineDoing (forests shared.old) widget.old.number shared.old.store.cells shared.old.page (doing.Native at.0 at.1) }
+    requires native { FineDoing (forests shared.old) widget.old.number shared.old.store shared.old.page (doing.Native at.0 at.1) }
     requires levels { FineLevels (forests shared.old) widget.old.number shared.old.store.cells shared.old.page calls.old.levels.items }
     ensures moved { IfOk result (IsMoved shared.old shared.new widget.old widget.new calls.old calls.new meter.old meter.new (doing.Native at.0 at.1)) }
     ensures fine { OnOk result (FineWidget shared.new widget.new) }

@@ -2,7 +2,7 @@
 ghost use Rattle.std.specs.Prelude.{◌≡◌, ◌<◌, ◌≤◌, IfOk, List, OnOk, if◌then◌else◌, length, true};
 ghost use Rattle.js_tree.specs.Forest.{Forest};
 ghost use Rattle.js_image.specs.declared.outcome.StopCause.{StopCause};
-ghost use Rattle.js_flow.specs.Fine.{FineCompletion};
+ghost use Rattle.js_steps.specs.Ending.{FineEnd};
 ghost use Rattle.js_flow.specs.Todo.{Follows};
 ghost use Rattle.js_steps.specs.Answered.{IsFineAfter, machine};
 ghost use Rattle.native_image.specs.Sound.{IsSound};
@@ -56,7 +56,7 @@ fn give_on(
     requires widget { site.now.widget < 32 }
     requires sound { IsSound site.now.widget store.old site.now.page.now site.now.around.now }
     requires levels { (fs : List Forest) × FineLevels fs site.now.widget store.old.cells site.now.page.now calls.old.levels.items }
-    requires how { FineCompletion site.now.widget store.old.cells how }
+    requires how { FineEnd site.now.widget store.old.cells how }
     ensures given { IfOk result (IsGiven site.now.widget site.now.page.now site.now.around.now store.old store.new calls.old calls.new how) }
     ensures kept { StaysSound site.now.widget site.now.page.now store.old store.new }
 {
@@ -112,7 +112,7 @@ fn step_task(
     requires number { widget.now.number < 32 }
     requires widget { FineWidget shared.old widget.now }
     requires levels { FineLevels (forests shared.old) widget.now.number shared.old.store.cells shared.old.page calls.old.levels.items }
-    requires task { FineTask (forests shared.old) widget.now.number shared.old.store.cells shared.old.page task.value }
+    requires task { FineTask (forests shared.old) widget.now.number shared.old.store shared.old.page task.value }
     ensures moved { IfOk result (IsMoved shared.old shared.new widget.now widget.now calls.old calls.new meter.old meter.new (doing.Runs task)) }
     ensures fine { OnOk result (FineWidget shared.new widget.now) }
     ensures kept { KeepsTurn (forests shared.old) widget.now.number shared.old.store shared.new.store shared.old.page shared.new.page widget.now.around }
@@ -152,7 +152,7 @@ fn advance(
     requires number { widget.old.number < 32 }
     requires widget { FineWidget shared.old widget.old }
     requires open { is_open doing ≡ true }
-    requires doing { FineDoing (forests shared.old) widget.old.number shared.old.store.cells shared.old.page doing }
+    requires doing { FineDoing (forests shared.old) widget.old.number shared.old.store shared.old.page doing }
     requires levels { FineLevels (forests shared.old) widget.old.number shared.old.store.cells shared.old.page calls.old.levels.items }
     ensures moved { IfOk result (IsMoved shared.old shared.new widget.old widget.new calls.old calls.new meter.old meter.new doing) }
     ensures fine { OnOk result (FineWidget shared.new widget.new) }

@@ -1,19 +1,38 @@
-use Rattle.std.proofs.Common.{◌≡◌, ℕ, ◌+◌, ap, arith, sym, ◌∙◌}
-use Rattle.std.proofs.lemmas.Result.{IfOk-weaker}
+use Rattle.std.proofs.Common.{◌≡◌, ℕ, ◌+◌, ap, arith, subst, sym, ◌∙◌}
 use Rattle.widget_meaning.specs.Plan.{and_then}
 use Rattle.js_image.specs.Image.{image}
 use Rattle.js_names.specs.Code.{trees_of}
 use Rattle.js_calls.specs.Called.{given}
+use Rattle.js_flow.specs.declared.task.Control.{Control}
 use Rattle.js_flow.specs.declared.task.Control.TheVariants as control
 use Rattle.js_flow.specs.Frames.{rest}
 use Rattle.js_flow.specs.Free.{frames_free, free, native_free}
 use Rattle.js_flow.specs.Todo.{after_step}
 use Rattle.js_flow.proofs.Stays.{frames_fine, rest_same}
 use Rattle.js_steps.proofs.Answering.{fine_as, follows_as, none_as}
+use Rattle.js_steps.specs.Ending.{EndsCall}
+use Rattle.js_steps.proofs.Ending.{given_ends_so, if_native}
+use Rattle.js_steps.proofs.Weights.{no_native}
 use Rattle.js_steps.proofs.calling.resume.Goals as goal
 
 same_depth : (d e : ℕ) → control.Waits d ≡ control.Waits e → d ≡ e
 same_depth d e h = cc
+
+pub answered-requires : goal.answered-requires
+answered-requires c =
+    let w = c.args.task.now.widget in
+    let fs = trees_of c.args.codes.now.items in
+    let old = c.args.store.now in
+    let new = c.answer.new.store in
+    let is = c.follow.new.task in
+    let frames = c.args.task.now.frames.list.items in
+    let stay = rest_same fs w old.cells new.cells c.answer.ensures.kept.grows frames c.requires.held.1 in
+    let ends = given_ends_so fs w old new is.control c.in_ok-step.step frames is.frames.list.items (λ n. n) c.depth-at.result c.args.out
+    (subst (λ (q : Control). EndsCall fs w old q frames) c.depth-at.ensures c.requires.held.2)
+    (λ r. c.in_ok-step.ensures.plan fs w new.cells (image fs r w new) ∙ (λ i. and_then (c.in_ok-next.ensures.plan (λ n. n) r i) (stay i)))
+    c.in_ok-step.ensures.follows.0 c.in_ok-step.ensures.follows.1 (c.in_ok-step.ensures.light (omega (arith, c.in_ok-next.ensures.near)))
+    (if_native c.in_ok-step.step _ _ (λ x. no_native c.in_ok-next.next c.in_ok-next.ensures.near x.0) c.in_ok-step.ensures.native) in
+    record { ends = ends.1 }
 
 pub returns-clause-plan : goal.returns-clause-plan
 returns-clause-plan c =
@@ -24,24 +43,22 @@ returns-clause-plan c =
     let is = c.follow.new.task in
     let frames = c.args.task.now.frames.list.items in
     let stay = rest_same fs w old.cells new.cells c.answer.ensures.kept.grows frames c.requires.held.1 in
-    IfOk-weaker c.answered.result _ _
-    (λ k e r node d at. ap (λ q. after_step fs w new.cells q is.control is.frames.list.items (image fs r w new)) e
+    λ r node d at. ap (λ q. after_step fs w new.cells q is.control is.frames.list.items (image fs r w new)) c.answered.ensures
     ∙ (c.in_ok-step.ensures.plan fs w new.cells (image fs r w new)
     ∙ ((λ i. and_then (c.in_ok-next.ensures.plan node r i) (stay i))
-    ∙ ap (λ (n : ℕ). and_then (given w old.cells node n c.args.out (image fs r w old)) (rest fs w old.cells frames)) (same_depth c.depth-at.result d (sym c.depth-at.ensures ∙ at)))))
-    c.answered.ensures
+    ∙ ap (λ (n : ℕ). and_then (given w old.cells node n c.args.out (image fs r w old)) (rest fs w old.cells frames)) (same_depth c.depth-at.result d (sym c.depth-at.ensures ∙ at))))
 
 pub returns-clause-stop : goal.returns-clause-stop
-returns-clause-stop c = IfOk-weaker c.answered.result _ _ (λ k e. none_as k _ e c.in_ok-step.ensures.follows.1) c.answered.ensures
+returns-clause-stop c = none_as c.answered.result _ c.answered.ensures c.in_ok-step.ensures.follows.1
 
 pub returns-clause-follows : goal.returns-clause-follows
-returns-clause-follows c = IfOk-weaker c.answered.result _ _ (λ k e. follows_as k _ e _ c.in_ok-step.ensures.follows.0) c.answered.ensures
+returns-clause-follows c = follows_as c.answered.result _ c.answered.ensures _ c.in_ok-step.ensures.follows.0
 
 pub returns-clause-near : goal.returns-clause-near
 returns-clause-near c =
     let frames = c.args.task.now.frames.list.items in
     let waits : free c.args.task.now.control frames ≡ native_free + frames_free frames = ap (λ k. free k frames) c.depth-at.ensures in
-    IfOk-weaker c.answered.result _ _ (λ k e. omega (arith, waits, c.in_ok-next.ensures.near, c.in_ok-step.ensures.near)) c.answered.ensures
+    omega (arith, waits, c.in_ok-next.ensures.near, c.in_ok-step.ensures.near)
 
 pub returns-clause-held : goal.returns-clause-held
 returns-clause-held c =
@@ -49,5 +66,13 @@ returns-clause-held c =
     let fs = trees_of c.args.codes.now.items in
     let old = c.args.store.now in
     let new = c.answer.new.store in
-    let held = c.in_ok-step.ensures.fine fs w new.cells c.in_ok-next.ensures.fine (frames_fine fs w old.cells new.cells c.answer.ensures.kept.grows c.args.task.now.frames.list.items c.requires.held.1) in
-    IfOk-weaker c.answered.result _ _ (λ k e. ((held.0, held.1), fine_as k _ e fs w new.cells held.2)) c.answered.ensures
+    let is = c.follow.new.task in
+    let frames = c.args.task.now.frames.list.items in
+    let stay = rest_same fs w old.cells new.cells c.answer.ensures.kept.grows frames c.requires.held.1 in
+    let held = c.in_ok-step.ensures.fine fs w new.cells c.in_ok-next.ensures.fine (frames_fine fs w old.cells new.cells c.answer.ensures.kept.grows frames c.requires.held.1) in
+    let ends = given_ends_so fs w old new is.control c.in_ok-step.step frames is.frames.list.items (λ n. n) c.depth-at.result c.args.out
+    (subst (λ (q : Control). EndsCall fs w old q frames) c.depth-at.ensures c.requires.held.2)
+    (λ r. c.in_ok-step.ensures.plan fs w new.cells (image fs r w new) ∙ (λ i. and_then (c.in_ok-next.ensures.plan (λ n. n) r i) (stay i)))
+    c.in_ok-step.ensures.follows.0 c.in_ok-step.ensures.follows.1 (c.in_ok-step.ensures.light (omega (arith, c.in_ok-next.ensures.near)))
+    (if_native c.in_ok-step.step _ _ (λ x. no_native c.in_ok-next.next c.in_ok-next.ensures.near x.0) c.in_ok-step.ensures.native) in
+    ((held.0, held.1, ends.0), fine_as c.answered.result _ c.answered.ensures fs w new.cells held.2)

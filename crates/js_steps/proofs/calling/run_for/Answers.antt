@@ -30,6 +30,7 @@ loop-answer-preserved c =
           (after_step fs w new.cells q is.control is.frames.list.items (image fs r w new))) c.in-Went.is (step.moves r)) step.spends.0;
       going = subst (λ (q : Stepped). Follows q is.control) c.in-Went.is step.follows;
       held = (step.held.0, step.held.1);
+      call = step.call.0;
       widget = step.widget ∙ kept.widget;
       kept = kept_then fs w c.args.store.now mid new kept.kept step.kept;
       spends = (omega (arith, step.spends.0, kept.spends.0), step.spends.1 ∙ kept.spends.1);
@@ -50,6 +51,7 @@ returns-in_default c =
       spends = (omega (arith, step.spends.0, kept.spends.0), step.spends.1 ∙ kept.spends.1);
       follows = step.follows;
       held = step.held;
+      call = step.call;
       kept = kept_then fs w c.args.store.now mid new kept.kept step.kept;
       widget = step.widget ∙ kept.widget;
     }

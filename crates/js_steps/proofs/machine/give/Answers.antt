@@ -1,6 +1,5 @@
-use Rattle.std.proofs.Common.{◌≡◌, ◌+◌, List, sym, ap, subst, arith, ◌∙◌}
+use Rattle.std.proofs.Common.{◌≡◌, ◌+◌, List, refl, sym, ap, subst, arith, ◌∙◌}
 use Rattle.std.proofs.lemmas.Result.{IfOk-weaker}
-use Rattle.widget_meaning.specs.Plan.{Plan}
 use Rattle.js_image.specs.Image.{image}
 use Rattle.js_image.proofs.Units.{kept_then}
 use Rattle.js_names.specs.Code.{trees_of}
@@ -9,21 +8,24 @@ use Rattle.js_flow.specs.declared.task.Control.{Control}
 use Rattle.js_flow.specs.Fine.{FineControl, FineFrames}
 use Rattle.js_flow.specs.Frames.{rest}
 use Rattle.js_flow.specs.Free.{control_free, frame_free, frames_free}
-use Rattle.js_flow.specs.Todo.{Moves, after_step}
 use Rattle.js_flow.specs.Views.{completion_of}
-use Rattle.js_flow.proofs.Moves.{give_moves, stays}
+use Rattle.js_flow.specs.declared.job.Next.TheVariants as next
 use Rattle.js_flow.proofs.Stays.{fine_pop, frames_fine, rest_same}
-use Rattle.js_steps.proofs.Weights.{free_last}
+use Rattle.js_steps.proofs.Ending.{if_native}
+use Rattle.js_steps.proofs.Settled.{given_on}
+use Rattle.js_steps.proofs.Weights.{frame_some, free_last, no_native}
 use Rattle.js_steps.proofs.machine.give.Goals as goal
 
-pub returns-in-None-clause-moves : goal.returns-in-None-clause-moves
-returns-in-None-clause-moves c = λ r.
+pub returns-in-None-clause-plan : goal.returns-in-None-clause-plan
+returns-in-None-clause-plan c = λ r.
     let w = c.args.w in
     let fs = trees_of c.args.codes.now.items in
     let old = c.args.store.now in
     let s = image fs r w old in
-    stays s _ _ (sym (c.leave.ensures.rest fs w old.cells s)
-    ∙ ap (λ (l : List Frame). rest fs w old.cells l (completion_of w old.cells c.args.how) s) c.in-None.ensures.0)
+    ap (λ (l : List Frame). rest fs w old.cells l (completion_of w old.cells c.args.how) s) (sym c.in-None.ensures.0) ∙ c.leave.ensures.rest fs w old.cells s
+
+pub returns-in-None-clause-light : goal.returns-in-None-clause-light
+returns-in-None-clause-light c = omega (arith, ap control_free c.requires.over)
 
 pub returns-in-None-clause-held : goal.returns-in-None-clause-held
 returns-in-None-clause-held c =
@@ -56,23 +58,29 @@ settle-requires-clause-held c =
     let parts = fine_pop fs w old.cells below c.in-Some.frame (subst (λ (l : List Frame). FineFrames fs w old.cells l) c.in-Some.ensures fine) in
     (c.in_ok-next-in-Some.ensures.fine, frames_fine fs w old.cells c.take.new.store.cells c.take.ensures.kept.grows below parts.0)
 
-pub returns-in_ok-next-in-Some-clause-moves : goal.returns-in_ok-next-in-Some-clause-moves
-returns-in_ok-next-in-Some-clause-moves c =
+pub settle-requires-clause-light : goal.settle-requires-clause-light
+settle-requires-clause-light c = omega (arith, c.in_ok-next-in-Some.ensures.near, (frame_some c.in-Some.frame).1)
+
+pub returns-in_ok-next-in-Some-clause-plan : goal.returns-in_ok-next-in-Some-clause-plan
+returns-in_ok-next-in-Some-clause-plan c =
     let w = c.args.w in
     let fs = trees_of c.args.codes.now.items in
     let old = c.args.store.now in
     let new = c.take.new.store in
-    let end = c.settle.new.store in
     let mid = c.leave.new.self.list.items in
     let below = c.pop.new.self.list.items in
     let fine = c.leave.ensures.fine fs w old.cells c.requires.held.1 in
     let parts = fine_pop fs w old.cells below c.in-Some.frame (subst (λ (l : List Frame). FineFrames fs w old.cells l) c.in-Some.ensures fine) in
     IfOk-weaker c.settle.result _ _
-    (λ k h r.
-    let s = image fs r w old in
-    subst (λ (p : Plan). Moves 0 s p (after_step fs w end.cells k c.settle.new.task.control c.settle.new.task.frames.list.items (image fs r w end))) (c.leave.ensures.rest fs w old.cells s)
-    (give_moves fs w old.cells new.cells s (image fs r w new) below c.in_ok-next-in-Some.next _ (rest_same fs w old.cells new.cells c.take.ensures.kept.grows below parts.0) (h r) c.args.how c.in-Some.frame mid c.in-Some.ensures (c.in_ok-next-in-Some.ensures.plan r)))
+    (λ k h r. h r ∙ given_on fs w old.cells new.cells (image fs r w old) (image fs r w new) c.in_ok-next-in-Some.next (next.Give c.args.how) c.args.how c.args.task.now.frames.list.items mid below c.in-Some.frame
+    refl (c.leave.ensures.rest fs w old.cells (image fs r w old)) c.in-Some.ensures (rest_same fs w old.cells new.cells c.take.ensures.kept.grows below parts.0) (c.in_ok-next-in-Some.ensures.plan r))
     c.settle.ensures.plan
+
+pub returns-in_ok-next-in-Some-clause-native : goal.returns-in_ok-next-in-Some-clause-native
+returns-in_ok-next-in-Some-clause-native c =
+    IfOk-weaker c.settle.result _ _
+    (λ k h. if_native k _ _ (λ x. absurd (no_native c.in_ok-next-in-Some.next (omega (arith, c.in_ok-next-in-Some.ensures.near, (frame_some c.in-Some.frame).1)) x.0)) h)
+    c.settle.ensures.native
 
 pub returns-in_ok-next-in-Some-clause-kept : goal.returns-in_ok-next-in-Some-clause-kept
 returns-in_ok-next-in-Some-clause-kept c =

@@ -1,10 +1,10 @@
-use Rattle.std.proofs.Common.{arith, subst, ◌∙◌}
+use Rattle.std.proofs.Common.{◌≡◌, arith, subst, ◌∙◌}
 use Rattle.js_image.specs.Image.{image}
 use Rattle.js_image.proofs.Units.{kept_then}
 use Rattle.js_names.specs.Code.{trees_of}
 use Rattle.js_flow.specs.declared.task.Stepped.{Stepped}
-use Rattle.js_flow.specs.Todo.{Follows, Moves, after_step, todo}
-use Rattle.js_steps.proofs.Moved.{then_free}
+use Rattle.js_flow.specs.Todo.{Follows, after_step, todo}
+use Rattle.js_steps.proofs.Ending.{if_native}
 use Rattle.js_steps.proofs.machine.go_on.Goals as goal
 
 pub returns-in_err-answer-clause-kept : goal.returns-in_err-answer-clause-kept
@@ -23,9 +23,8 @@ loop-alloc-preserved c =
     let kept = c.loop-alloc.invariant in
     let step = c.in_ok-answer.ensures in
     record {
-      moves = λ r. then_free 0 (image fs r w old) (image fs r w mid) _ _ _ (kept.moves r)
-          (subst (λ (q : Stepped). Moves 0 (image fs r w mid) (todo fs w mid.cells was.control was.frames.list.items (image fs r w mid))
-          (after_step fs w new.cells q is.control is.frames.list.items (image fs r w new))) c.in-Went.is (step.moves r));
+      plan = λ r. subst (λ (q : Stepped). after_step fs w new.cells q is.control is.frames.list.items (image fs r w new) ≡ todo fs w mid.cells was.control was.frames.list.items (image fs r w mid)) c.in-Went.is (step.plan r) ∙ kept.plan r;
+      light = step.light;
       going = subst (λ (q : Stepped). Follows q is.control) c.in-Went.is step.follows.0;
       held = (step.held.0, step.held.1);
       kept = kept_then fs w old mid new kept.kept step.kept;
@@ -43,7 +42,9 @@ returns-in_default c =
     let kept = c.loop-alloc.invariant in
     let step = c.in_ok-answer.ensures in
     record {
-      moves = λ r. then_free 0 (image fs r w old) (image fs r w mid) _ _ _ (kept.moves r) (step.moves r);
+      plan = λ r. step.plan r ∙ kept.plan r;
+      light = step.light;
+      native = if_native c.in_ok-answer.answer _ _ (λ x. absurd (omega (arith, x.0, kept.light))) step.native;
       follows = step.follows;
       held = step.held;
       kept = kept_then fs w old mid new kept.kept step.kept;

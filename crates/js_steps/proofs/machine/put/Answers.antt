@@ -1,5 +1,7 @@
-use Rattle.std.proofs.Common.{ap, ◌∙◌}
+use Rattle.std.proofs.Common.{ap, arith, ◌∙◌}
 use Rattle.js_flow.proofs.Follow.{begin_by, block_by, compute_by, convert_by, pay_by, push2_by, push_by, run_by, try_by}
+use Rattle.js_flow.specs.Free.{control_free, next_free}
+use Rattle.js_steps.proofs.Weights.{begun_light}
 use Rattle.js_steps.proofs.machine.put.Goals as goal
 
 pub returns-in-Push-clause-plan : goal.returns-in-Push-clause-plan
@@ -28,3 +30,6 @@ returns-in-Compute-clause-plan c = λ fs w cells s. compute_by fs w cells c.args
 
 pub returns-in-Pay-clause-plan : goal.returns-in-Pay-clause-plan
 returns-in-Pay-clause-plan c = λ fs w cells s. pay_by fs w cells c.args.task.now.frames.list.items _ c.in-Pay.frame c.in-Pay.units _ _ s c.set_charge.ensures.control (ap (λ v. v.list.items) c.set_charge.ensures.frames ∙ c.push-in-Pay.ensures.frames) c.in-Pay.is
+
+pub returns-in-Begin-clause-light : goal.returns-in-Begin-clause-light
+returns-in-Begin-clause-light c = λ h. let j = c.in-Begin.job in omega (arith, ap control_free c.set_begun.ensures.control, begun_light c.in-Begin.frame j (omega (arith, h, ap next_free c.in-Begin.is)))

@@ -14,7 +14,8 @@ use Rattle.js_flow.specs.Views.{completion_of}
 use Rattle.js_flow.proofs.Follow.{push_by}
 use Rattle.js_flow.proofs.Stays.{fine_pop, fine_push, frames_fine, rest_same}
 use Rattle.js_steps.proofs.Settled.{given_on, run_on, block_on}
-use Rattle.js_steps.proofs.Weights.{free_last}
+use Rattle.js_steps.proofs.Ending.{if_native}
+use Rattle.js_steps.proofs.Weights.{frame_some, free_last, no_native}
 use Rattle.js_steps.proofs.machine.settle.Goals as goal
 
 pub take-requires-clause-held : goal.take-requires-clause-held
@@ -52,6 +53,9 @@ returns-in-None-clause-held c =
 pub returns-in-None-clause-near : goal.returns-in-None-clause-near
 returns-in-None-clause-near c = omega (arith, ap control_free c.down.invariant.over, ap frames_free c.in-None.ensures.1)
 
+pub returns-in-None-clause-light : goal.returns-in-None-clause-light
+returns-in-None-clause-light c = omega (arith, ap control_free c.down.invariant.over)
+
 pub returns-in-Push-clause-plan : goal.returns-in-Push-clause-plan
 returns-in-Push-clause-plan c = λ r.
     let w = c.args.w in
@@ -86,6 +90,8 @@ returns-in_default c =
       kept = kept.kept;
       near = IfOk-weaker c.follow.result _ _ (λ k h. omega (arith, h, kept.near)) c.follow.ensures.near;
       widget = c.follow.ensures.widget ∙ kept.widget;
+      light = IfOk-weaker c.follow.result _ _ (λ k h. h kept.light) c.follow.ensures.light;
+      native = IfOk-weaker c.follow.result _ _ (λ k h. if_native k _ _ (λ x. let was = kept.native x.0 in (was.0, x.1 ∙ was.1)) h) c.follow.ensures.native;
     }
 
 pub down-preserved-in-Some : goal.down-preserved-in-Some
@@ -108,6 +114,8 @@ down-preserved-in-Some c =
       kept = kept_then fs w c.args.store.now old new kept.kept c.take.ensures.kept;
       widget = kept.widget;
       near = omega (arith, kept.near, ap next_free c.in-Give.is, c.in_ok-next-in-Some.ensures.near, e, c.leave.ensures.free);
+      light = omega (arith, c.in_ok-next-in-Some.ensures.near, (frame_some c.in-Some.frame).1);
+      native = λ n. absurd (no_native c.in_ok-next-in-Some.next (omega (arith, c.in_ok-next-in-Some.ensures.near, (frame_some c.in-Some.frame).1)) n);
     }
 
 pub down-smaller-in-Some : goal.down-smaller-in-Some
@@ -130,6 +138,8 @@ down-preserved-in-Run c =
       kept = kept.kept;
       widget = kept.widget;
       near = omega (arith, kept.near, ap next_free c.in-Run.is, c.begin_block-next.ensures.near);
+      light = omega (arith, c.begin_block-next.ensures.near);
+      native = λ n. absurd (no_native c.begin_block-next.result (omega (arith, c.begin_block-next.ensures.near)) n);
     }
 
 pub down-smaller-in-Run : goal.down-smaller-in-Run
@@ -151,6 +161,8 @@ down-preserved c =
       kept = kept.kept;
       widget = kept.widget;
       near = omega (arith, kept.near, ap next_free c.in-Block.is, c.begin_block-next-in-Block.ensures.near, ap frames_free all, free_last frames c.in-Block.frame);
+      light = omega (arith, c.begin_block-next-in-Block.ensures.near);
+      native = λ n. absurd (no_native c.begin_block-next-in-Block.result (omega (arith, c.begin_block-next-in-Block.ensures.near)) n);
     }
 
 pub down-smaller : goal.down-smaller

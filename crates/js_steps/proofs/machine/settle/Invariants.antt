@@ -7,6 +7,7 @@ use Rattle.js_flow.specs.declared.task.Control.TheVariants as control
 use Rattle.js_flow.specs.Fine.{FineFrames, FineNext}
 use Rattle.js_flow.specs.Frames.{planned, rest}
 use Rattle.js_flow.specs.Free.{frames_free, next_free}
+use Rattle.js_steps.specs.Ending.{IsNative}
 use Rattle.js_steps.proofs.machine.settle.Given as goal
 
 abbrev pub invariant-down : goal.invariant-down
@@ -18,6 +19,8 @@ invariant-down l =
       held : FineNext (trees_of l.codes.items) l.w l.store.cells l.next × FineFrames (trees_of l.codes.items) l.w l.store.cells l.task.frames.list.items;
       kept : Kept (trees_of l.codes.items) l.w l.initial.store l.store;
       widget : l.task.widget ≡ l.initial.task.widget;
+      light : next_free l.next ≤ 17;
+      native : IsNative l.next → IsNative l.initial.next × (l.task.frames.list.items ≡ l.initial.task.frames.list.items);
       near : next_free l.next + frames_free l.task.frames.list.items ≤ next_free l.initial.next + frames_free l.initial.task.frames.list.items;
     }
 

@@ -50,7 +50,7 @@ returns-clause-starts c =
     let f = dispatch c.args.event.0.kind (number h.page w c.args.event.1) (event_value c.args.event.0.value) 0 in
     let value = c.in_ok-seen_value.ensures w h.store.cells in
     let opened = c.in_ok-doing.ensures in
-    let held = opened.fine (trees_in h) w new.cells h.page c.in_ok-heard.ensures.fine in
+    let held = opened.fine (trees_in h) w new h.page c.in_ok-heard.ensures.fine in
     subst (λ (b : Life). Starts h (record h { store = new }) w f a b) (sym c.begin.ensures)
     (starts h w a new h.page f _ _ _ _ refl refl
     (rested_by h w a new c.requires.rests c.requires.fine c.hear.ensures.kept (c.hear.ensures.sound a.widget.around c.requires.fine.sound)) c.requires.room

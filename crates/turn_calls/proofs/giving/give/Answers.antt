@@ -63,7 +63,7 @@ levels-preserved c =
           inv.same fs x fine
           ∙ (given_next w p l mid new before c.take.new.calls c.in-Some.level c.levels.how t taken all c.in-Some.ensures.items fs x (inv.fine fs fine)
           ∙ ap (λ (q : Took). and_then (took_plan fs w new.cells p q (turn_image fs x w new p l c.take.new.calls.dispatches.items)) (levels_rest fs w new.cells p c.take.new.calls.levels.items)) c.in-Gives.is);
-      held = subst (λ (q : Took). FineTook g.0 w new.cells p q) c.in-Gives.is (given_fine w p l mid new before c.take.new.calls c.in-Some.level c.levels.how t taken all c.in-Some.ensures.items g.0 (inv.fine g.0 g.1)).0;
+      held = subst (λ (q : Took). FineTook g.0 w new p q) c.in-Gives.is (given_fine w p l mid new before c.take.new.calls c.in-Some.level c.levels.how t taken all c.in-Some.ensures.items g.0 (inv.fine g.0 g.1)).0;
       fine = λ fs h. (given_fine w p l mid new before c.take.new.calls c.in-Some.level c.levels.how t taken all c.in-Some.ensures.items fs (inv.fine fs h)).1;
       near = omega (arith, inv.near, given_near w p l mid new before c.take.new.calls c.in-Some.level c.levels.how t taken all c.in-Some.ensures.items);
       kept = sound_then w p c.args.store.now mid new inv.kept c.take.ensures.kept;
@@ -128,7 +128,7 @@ returns-in-Stops-clause-fine c = λ fs fine.
     let t = c.in_ok-next.field-0 in
     let taken = c.in_ok-next.ensures.taken in
     let f = given_fine w p l mid new before c.take.new.calls c.in-Some.level c.levels.how t taken all c.in-Some.ensures.items fs (c.levels.invariant.fine fs fine) in
-    (subst (λ (q : Took). FineTook fs w new.cells p q) c.in-Stops.is f.0, f.1)
+    (subst (λ (q : Took). FineTook fs w new p q) c.in-Stops.is f.0, f.1)
 
 pub returns-in-Stops-clause-near : goal.returns-in-Stops-clause-near
 returns-in-Stops-clause-near c =
@@ -155,7 +155,7 @@ returns-in-Runs-clause-fine c = λ fs fine.
     let t = c.in_ok-next.field-0 in
     let taken = c.in_ok-next.ensures.taken in
     let f = given_fine w p l mid new before c.take.new.calls c.in-Some.level c.levels.how t taken all c.in-Some.ensures.items fs (c.levels.invariant.fine fs fine) in
-    (subst (λ (q : Took). FineTook fs w new.cells p q) c.in-Runs.is f.0, f.1)
+    (subst (λ (q : Took). FineTook fs w new p q) c.in-Runs.is f.0, f.1)
 
 pub returns-in-Runs-clause-near : goal.returns-in-Runs-clause-near
 returns-in-Runs-clause-near c =
@@ -182,7 +182,7 @@ returns-in-Hears-clause-fine c = λ fs fine.
     let t = c.in_ok-next.field-0 in
     let taken = c.in_ok-next.ensures.taken in
     let f = given_fine w p l mid new before c.take.new.calls c.in-Some.level c.levels.how t taken all c.in-Some.ensures.items fs (c.levels.invariant.fine fs fine) in
-    (subst (λ (q : Took). FineTook fs w new.cells p q) c.in-Hears.is f.0, f.1)
+    (subst (λ (q : Took). FineTook fs w new p q) c.in-Hears.is f.0, f.1)
 
 pub returns-in-Hears-clause-near : goal.returns-in-Hears-clause-near
 returns-in-Hears-clause-near c =

@@ -45,5 +45,5 @@ returns-in-Waits-clause-taken c =
     let ds = c.args.calls.now.dispatches.items in
     taken_on w p l s s c.args.calls.now c.args.calls.now (sound_same w p s) c.args.level c.args.how c.waits.result refl
     (λ fs x lev. ap (λ (v : Level). level_taken fs w s.cells p v how (turn_image fs x w s p l ds)) c.in-Waits.is ∙ c.waits.ensures.plan fs w s.cells p (turn_image fs x w s p l ds))
-    (λ fs lev. c.waits.ensures.fine fs w s.cells p (subst (FineLevel fs w s.cells p) c.in-Waits.is lev) c.requires.how)
+    (λ fs lev. c.waits.ensures.fine fs w s p (subst (FineLevel fs w s.cells p) c.in-Waits.is lev) c.requires.how)
     (omega (arith, c.waits.ensures.near, ap level_free c.in-Waits.is)) (omega (arith, ap level_weight c.in-Waits.is))

@@ -15,6 +15,8 @@ use Rattle.js_flow.specs.Free.{free}
 use Rattle.js_flow.specs.Todo.{todo}
 use Rattle.js_steps.specs.declared.task.Task.{Task}
 use Rattle.js_steps.specs.Answered.{remaining}
+use Rattle.js_steps.specs.Ending.{EndsCall}
+use Rattle.js_steps.proofs.Ending.{call_ends}
 use Rattle.turn_runs.specs.Held.{FineTask}
 use Rattle.turn_calls.proofs.Arms.{handler_held, handler_seen}
 use Rattle.turn_calls.proofs.taking.call_handler.Goals as goal
@@ -35,12 +37,13 @@ returns-clause-fine c = λ fs s p fine.
     let w = c.args.w in
     let held = handler_held w s.cells p c.args.hearing.now c.args.next c.index.result.now c.requires c.index.ensures fine in
     let args : AreFine w s.cells (value.Ref c.args.hearing.now.event ∷ []) = (fine.event, tt) in
-    subst (λ (t : Task). FineTask fs w s.cells p t) (sym c.in_ok-new-2.ensures.ok)
+    subst (λ (t : Task). FineTask fs w s p t) (sym c.in_ok-new-2.ensures.ok)
     (record {
       widget = refl;
       going = tt;
       control = subst (FineCall w s.cells) (sym c.in_ok-new.ensures.ok) (held, tt, subst (AreFine w s.cells) (sym c.in_ok-event_args.ensures) args);
       frames = subst (FineFrames fs w s.cells) (sym c.new-2.ensures) tt;
+      call = subst (λ (f : List Frame). EndsCall fs w s (control.Do (job.Call c.in_ok-new.field-0)) f) (sym c.new-2.ensures) (call_ends fs w s c.in_ok-new.field-0);
     })
 
 pub returns-clause-free : goal.returns-clause-free

@@ -32,7 +32,7 @@ returns-clause-next c =
           ap (λ q. bubble_on q (hearing_of w cells p h) s) c.if-not-bubbled.false
           ∙ ((λ j. search_from (up j) (same j).kind (number p w (same j).target) (seen w cells (same j).value) (same j).depth s)
           ∙ (c.in_ok-found.ensures.plan fs x b ∙ c.took_of.ensures.plan fs w new.cells p (image fs x w (beside new p l b))));
-      fine = λ fs. c.took_of.ensures.fine fs w new.cells p c.in_ok-found.ensures.fine;
+      fine = λ fs. c.took_of.ensures.fine fs w new p c.in_ok-found.ensures.fine;
       near = c.took_of.ensures.near;
     }
 

@@ -34,7 +34,7 @@ returns-clause-next c =
       plan = λ fs x b.
           (λ j. search_from (Some (number p w (node j))) (sym c.in_ok-share.ensures j) (number p w (node j)) Undefined f.depth (image fs x w (beside c.args.store.now p l b)))
           ∙ (c.in_ok-found.ensures.plan fs x b ∙ c.took_of.ensures.plan fs w new.cells p (image fs x w (beside new p l b)));
-      fine = λ fs. c.took_of.ensures.fine fs w new.cells p c.in_ok-found.ensures.fine;
+      fine = λ fs. c.took_of.ensures.fine fs w new p c.in_ok-found.ensures.fine;
       near = c.took_of.ensures.near;
     }
 

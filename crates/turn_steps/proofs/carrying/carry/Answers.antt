@@ -1,11 +1,14 @@
 use Rattle.std.proofs.Common.{◌∙◌, refl, subst, sym}
 use Rattle.js_flow.specs.declared.job.NativeCall.{NativeCall}
 use Rattle.turn_steps.specs.Carrying.{IsAnswered, IsPerformed}
-use Rattle.turn_steps.proofs.Carries.{answered_moves, frames_mid, keeps_turn, levels_mid, wanting_moves}
+use Rattle.turn_steps.proofs.Carries.{answered_moves, awaits_mid, frames_mid, keeps_turn, levels_mid, wanting_moves}
 use Rattle.turn_steps.proofs.carrying.carry.Goals as goal
 
 pub answer-requires-clause-frames : goal.answer-requires-clause-frames
 answer-requires-clause-frames c = frames_mid c.args.shared.now c.perform.new.shared c.args.widget.now c.perform.new.widget c.perform.ensures.number c.perform.ensures.codes c.perform.ensures.kept c.args.at.0.value.frames.list.items c.requires.native.1
+
+pub answer-requires-clause-awaits : goal.answer-requires-clause-awaits
+answer-requires-clause-awaits c = awaits_mid c.args.shared.now c.perform.new.shared c.args.widget.now c.perform.new.widget c.perform.ensures.number c.perform.ensures.codes c.perform.ensures.kept c.args.at.0.value.frames.list.items c.requires.native.1 c.requires.native.3
 
 pub answer-requires-clause-levels : goal.answer-requires-clause-levels
 answer-requires-clause-levels c = levels_mid c.args.shared.now c.perform.new.shared c.args.widget.now c.perform.new.widget c.perform.ensures.number c.perform.ensures.codes c.perform.ensures.kept c.args.calls.now.levels.items c.requires.levels

@@ -14,7 +14,7 @@ give-requires-clause-levels c =
       F,
       fired_fine F c.args.widget.now.number h.store.cells h.page c.args.calls.now.levels.items c.args.task c.in_ok-firing.firing c.args.firing c.push-2.new.self.items c.in_ok-firing.ensures.ok
           (c.in_ok-push-2.ensures.items ∙ ap (λ (ls : List Level). ls ++ level.Fires c.in_ok-firing.firing 0 ∷ []) c.in_ok-push.ensures.items)
-          c.requires.task c.requires.frames c.requires.firing c.requires.levels,
+          c.requires.task c.requires.frames c.requires.awaits c.requires.firing c.requires.levels,
     )
 
 pub returns-clause-answered : goal.returns-clause-answered
@@ -24,7 +24,7 @@ returns-clause-answered c =
     let v = c.args.widget.now in
     let e = c.in_ok-push-2.ensures.items ∙ ap (λ (ls : List Level). ls ++ level.Fires c.in_ok-firing.firing 0 ∷ []) c.in_ok-push.ensures.items in
     fire_answered h v c.requires.number c.requires.widget c.args.calls.now c.give.new.calls c.requires.levels c.give.new.store c.args.task c.in_ok-firing.firing c.args.firing c.push-2.new.self.items c.in_ok-doing.doing c.in_ok-firing.ensures.ok e
-    (fired_fine F v.number h.store.cells h.page c.args.calls.now.levels.items c.args.task c.in_ok-firing.firing c.args.firing c.push-2.new.self.items c.in_ok-firing.ensures.ok e c.requires.task c.requires.frames c.requires.firing c.requires.levels)
+    (fired_fine F v.number h.store.cells h.page c.args.calls.now.levels.items c.args.task c.in_ok-firing.firing c.args.firing c.push-2.new.self.items c.in_ok-firing.ensures.ok e c.requires.task c.requires.frames c.requires.awaits c.requires.firing c.requires.levels)
     c.in_ok-doing.ensures.plan c.in_ok-doing.ensures.fine c.in_ok-doing.ensures.near
 
 pub returns-clause-fine : goal.returns-clause-fine

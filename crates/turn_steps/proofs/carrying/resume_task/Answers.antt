@@ -1,8 +1,9 @@
-use Rattle.std.proofs.Common.{◌<◌, ap, ◌∙◌, refl, subst}
+use Rattle.std.proofs.Common.{ℕ, ◌<◌, ap, ◌∙◌, refl, subst, sym}
+use Rattle.js_flow.specs.declared.task.Control.TheVariants as control
 use Rattle.js_flow.specs.Free.{free}
 use Rattle.js_image.specs.Held.{Kept}
 use Rattle.js_steps.specs.declared.task.Task.{Task}
-use Rattle.js_steps.specs.Answered.{IsFineAfter}
+use Rattle.js_steps.specs.Answered.{IsFineAfter, IsFineTask}
 use Rattle.native_image.proofs.Joint.{sound_grows}
 use Rattle.page_image.specs.Image.{number, owns}
 use Rattle.turn_calls.proofs.Stays.{levels_fine}
@@ -26,6 +27,14 @@ returns-in_err-stepped-clause-kept c =
     let kept = subst (λ n. Kept F n s mid) same c.resume.ensures.kept in
     let sound = sound_grows w s mid p l c.requires.widget.sound kept.grows (kept.nodes (owns p w) c.requires.widget.sound.holds.bunches) in
     keeps_kept F w s mid p l c.requires.widget.sound.holds kept
+
+pub resume-requires-clause-held : goal.resume-requires-clause-held
+resume-requires-clause-held c =
+    let F = forests c.args.shared.now in
+    let s = c.args.shared.now.store in
+    let e = waits c.deref_mut-2.result.now c.wait.new.task c.deref_mut.result.now c.args.task.value c.args.answer.0 c.deref_mut-2.ensures.value c.wait.ensures c.deref_mut.ensures.value in
+    subst (λ (t : Task). IsFineTask F t.widget s t) (sym e)
+    (subst (λ (n : ℕ). IsFineTask F n s (record c.args.task.value { control = control.Waits c.args.answer.0 })) (sym c.requires.task) (tt, c.requires.frames, c.requires.awaits))
 
 pub follow-requires-clause-sound : goal.follow-requires-clause-sound
 follow-requires-clause-sound c =

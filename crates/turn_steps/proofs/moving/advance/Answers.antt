@@ -15,13 +15,13 @@ no_true : false ≡ true → ⊥
 no_true e = cc
 
 pub step_task-requires-clause-task : goal.step_task-requires-clause-task
-step_task-requires-clause-task c = subst (λ (d : Doing). FineDoing (forests c.args.shared.now) c.args.widget.now.number c.args.shared.now.store.cells c.args.shared.now.page d) c.in-Runs.is c.requires.doing
+step_task-requires-clause-task c = subst (λ (d : Doing). FineDoing (forests c.args.shared.now) c.args.widget.now.number c.args.shared.now.store c.args.shared.now.page d) c.in-Runs.is c.requires.doing
 
 pub carry-requires-clause-native : goal.carry-requires-clause-native
-carry-requires-clause-native c = subst (λ (d : Doing). FineDoing (forests c.args.shared.now) c.args.widget.now.number c.args.shared.now.store.cells c.args.shared.now.page d) c.in-Native.is c.requires.doing
+carry-requires-clause-native c = subst (λ (d : Doing). FineDoing (forests c.args.shared.now) c.args.widget.now.number c.args.shared.now.store c.args.shared.now.page d) c.in-Native.is c.requires.doing
 
 pub begin-requires : goal.begin-requires
-begin-requires c = (subst (λ (d : Doing). FineDoing (forests c.args.shared.now) c.args.widget.now.number c.args.shared.now.store.cells c.args.shared.now.page d) c.in-Hears.is c.requires.doing).some
+begin-requires c = (subst (λ (d : Doing). FineDoing (forests c.args.shared.now) c.args.widget.now.number c.args.shared.now.store c.args.shared.now.page d) c.in-Hears.is c.requires.doing).some
 
 pub unreachable-requires : goal.unreachable-requires
 unreachable-requires c = no_true (sym (ap is_open c.in-Over.is) ∙ c.requires.open)
@@ -44,7 +44,7 @@ returns-in_ok-doing-in-Hears-clause-moved c =
     let h = c.args.shared.now in
     let v = c.args.widget.now in
     let b = c.in_ok-doing-in-Hears.ensures in
-    let fine = subst (λ (d : Doing). FineDoing (forests h) v.number h.store.cells h.page d) c.in-Hears.is c.requires.doing in
+    let fine = subst (λ (d : Doing). FineDoing (forests h) v.number h.store h.page d) c.in-Hears.is c.requires.doing in
     let none : c.args.meter.now.left - c.args.meter.now.left ≡ 0 = omega arith in record {
       moves = λ x.
           subst (λ (n : ℕ). Moves n (state_in x h v c.args.calls.now.dispatches.items) (doing_in x h v c.args.calls.now c.args.doing) (doing_in x h v c.begin.new.calls c.in_ok-doing-in-Hears.doing)) (sym none)

@@ -1,11 +1,13 @@
 use Rattle.std.proofs.Common.{◌≡◌, arith, ap, ◌∙◌, false, refl, subst, sym, true}
 use Rattle.std.proofs.lemmas.Result.{IfOk-weaker}
 use Rattle.widget_meaning.specs.Plan.{and_then}
+use Rattle.js_flow.specs.declared.task.Control.{Control}
 use Rattle.js_flow.specs.Fine.{FineStepped}
 use Rattle.js_flow.specs.Free.{free}
 use Rattle.js_flow.specs.Todo.{Follows, after_step}
 use Rattle.js_steps.specs.declared.answer.Stepped.{Stepped}
 use Rattle.js_steps.specs.Answered.{machine}
+use Rattle.js_steps.specs.Ending.{EndsCall}
 use Rattle.turn_runs.specs.Levels.{levels_rest}
 use Rattle.turn_calls.specs.Turns.{turn_image}
 use Rattle.turn_calls.proofs.Kept.{sound_same}
@@ -26,7 +28,7 @@ returns-in-Went-clause-followed c =
     let t = c.args.task.value in
     let is = c.in-Went.is in record {
       plan = λ fs x fine. ap (λ (k : Stepped). and_then (after_step fs w s.cells (machine k) t.control t.frames.list.items (turn_image fs x w s p l b.dispatches.items)) (levels_rest fs w s.cells p b.levels.items)) is;
-      fine = λ fs mine held levels. (record { widget = mine; going = subst (λ (k : Stepped). Follows (machine k) t.control) is c.requires.follows; control = held.0.0; frames = held.0.1 }, levels);
+      fine = λ fs mine held levels. (record { widget = mine; going = subst (λ (k : Stepped). Follows (machine k) t.control) is c.requires.follows; control = held.0.0; frames = held.0.1; call = held.0.2 }, levels);
       short = λ e. (refl, refl);
       near = omega arith;
     }
@@ -44,7 +46,7 @@ returns-in-Native-clause-followed c =
     let t = c.args.task.value in
     let is = c.in-Native.is in record {
       plan = λ fs x fine. ap (λ (k : Stepped). and_then (after_step fs w s.cells (machine k) t.control t.frames.list.items (turn_image fs x w s p l b.dispatches.items)) (levels_rest fs w s.cells p b.levels.items)) is;
-      fine = λ fs mine held levels. ((mine, held.0.1, subst (λ (k : Stepped). FineStepped fs w s.cells (machine k)) is held.1), levels);
+      fine = λ fs mine held levels. ((mine, held.0.1, subst (λ (k : Stepped). FineStepped fs w s.cells (machine k)) is held.1, subst (λ (q : Control). EndsCall fs w s q t.frames.list.items) (subst (λ (k : Stepped). Follows (machine k) t.control) is c.requires.follows) held.0.2), levels);
       short = λ e. (refl, refl);
       near = omega (arith, ap (λ q. free q t.frames.list.items) (subst (λ (k : Stepped). Follows (machine k) t.control) is c.requires.follows));
     }

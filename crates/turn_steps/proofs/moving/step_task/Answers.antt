@@ -34,7 +34,7 @@ step-requires-clause-held c =
     let s = c.args.shared.now.store in
     let F = forests c.args.shared.now in
     subst (λ (t : Task). IsFineTask F t.widget s t) (sym c.deref_mut.ensures.value)
-    (subst (λ (n : ℕ). IsFineTask F n s c.args.task.value) (sym c.requires.task.widget) (c.requires.task.control, c.requires.task.frames))
+    (subst (λ (n : ℕ). IsFineTask F n s c.args.task.value) (sym c.requires.task.widget) (c.requires.task.control, c.requires.task.frames, c.requires.task.call))
 
 pub follow-requires-clause-sound : goal.follow-requires-clause-sound
 follow-requires-clause-sound c =
