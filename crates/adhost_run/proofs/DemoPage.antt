@@ -28,7 +28,7 @@ use Rattle.adhost_run.specs.Items.{IsFor, AreItems}
 use Rattle.adhost_run.specs.Page.{parts, slot_names, is_swap, is_built_trace}
 use Rattle.adhost_run.specs.Run.{given_by, run_name, AreEnds, short_line, some_refused}
 use Rattle.adhost_run.specs.Demo.{demo_names, counter_of, demo_runs, next_number, demo_item, demo_from, demo_items, demo_given, short_lines, DemoAnswer, short_report}
-use Rattle.adhost_run.specs.Stage.{HasScripts, IsSettled, IsDemoStage, demo_slice}
+use Rattle.adhost_run.specs.Stage.{HasItsScripts, IsSettled, IsDemoStage, demo_slice}
 use Rattle.adhost_run.specs.Played.{name_of, ended, given_all, IsPlayed, lines_of, AreAccepted}
 use Rattle.adhost_run.proofs.Manifests.{part_name, names_by_parts}
 use Rattle.adhost_run.proofs.PlayedLemmas.{all_ends, all_flags, played_scripts, shown_at, singles_present, singles_length}
@@ -196,7 +196,7 @@ module _ (manifest : Manifest) (sources files libs : List SourceFile) (page : Ju
         record {
           settled = subst (λ n. IsSettled demo_slice n h) (sym many) settled;
           slots = played.chains ∙ ap (singles 0) slots_many;
-          scripts = subst (λ rs. (w : ℕ) (r : SlotRun) → slice_get rs w ≡ Some r → accepts h w ≡ true → HasScripts r (scripts h w)) runs_are
+          scripts = subst (λ rs. (w : ℕ) (r : SlotRun) → slice_get rs w ≡ Some r → accepts h w ≡ true → HasItsScripts r (scripts h w)) runs_are
               (played_scripts page.spec (map said items) h (runs_over (sources_of libs) (slots_named (parts manifest)) (sources_of files)) page.refusals.items played judged.slots);
           ends = shown_owns;
           lines = lines_of (map run_name (runs_over (sources_of libs) (slots_named (parts manifest)) (sources_of files))) page.refusals.items shown_owns;

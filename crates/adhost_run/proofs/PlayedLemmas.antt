@@ -26,7 +26,7 @@ use Rattle.adhost_run.specs.Items.{IsFor}
 use Rattle.adhost_run.specs.Run.{life_line, short_line, IsEnd, ran, AreEnds, no_end, one_end, some_refused, run_name}
 use Rattle.adhost_run.specs.Run as run
 use Rattle.adhost_run.specs.Played.{name_of, ended, given_all, AreDue, AreScriptsOf, IsPlayed, IsEnded, line_for, ArePaired, no_pair, one_pair, lines_of, AreTold, IsTold}
-use Rattle.adhost_run.specs.Stage.{HasScripts}
+use Rattle.adhost_run.specs.Stage.{HasItsScripts}
 use Rattle.adhost_run.proofs.Delivery.{some_seen, no_seen}
 
 -- ## Slots that were judged, when what was given is done
@@ -82,30 +82,30 @@ same_run q r e = cc
 
 module _ (spec : PageSpec) (given : List Given) (h : Host) where
   -- by the content and the refusal of a slot
-  scripts_of : (r : SlotRun) (name : List ℕ) (fuel w : ℕ) (o : Option Content) (f : Option Refusal) → IsJudged r.slot o f → IsShown h w (option_map (λ (c : Content). alone_on name c fuel given) o) → ((c : Content) → o ≡ Some c → AreScriptsOf c (scripts h w)) → accepts h w ≡ true → HasScripts r (scripts h w)
+  scripts_of : (r : SlotRun) (name : List ℕ) (fuel w : ℕ) (o : Option Content) (f : Option Refusal) → IsJudged r.slot o f → IsShown h w (option_map (λ (c : Content). alone_on name c fuel given) o) → ((c : Content) → o ≡ Some c → AreScriptsOf c (scripts h w)) → accepts h w ≡ true → HasItsScripts r (scripts h w)
   scripts_of r name fuel w content refusal (accepted {content = c} has) shown are is = record { content = c; has = has; are = are c refl }
   scripts_of r name fuel w content refusal (refused broken) shown are is = absurd (let e : true ≡ false = sym is ∙ shown in cc)
 
   all_scripts : (v : ℕ) (runs : List SlotRun) (slots : List SlotSpec) (refusals : List (Option Refusal)) → AreJudgedSlots spec.libs.items runs slots refusals → AreShown h v (map (ended spec given) slots)
       → ((i : ℕ) (s : SlotSpec) (c : Content) → slice_get slots i ≡ Some s → content_of spec.libs.items s.content ≡ Some c → AreScriptsOf c (scripts h (v + i)))
-      → (i : ℕ) (r : SlotRun) → slice_get runs i ≡ Some r → accepts h (v + i) ≡ true → HasScripts r (scripts h (v + i))
+      → (i : ℕ) (r : SlotRun) → slice_get runs i ≡ Some r → accepts h (v + i) ≡ true → HasItsScripts r (scripts h (v + i))
   all_scripts v runs slots refusals none shown are i r at is = absurd (no_run r at)
   all_scripts v runs slots refusals (more {run = q} {slot = s} {refusal = f} {runs = rs} {slots = ss} {refusals = fs} judged rest) shown are zero r at is =
       let e : v + 0 ≡ v = omega arith in
-      subst (λ x. HasScripts x (scripts h (v + 0))) (same_run q r at)
-      (subst (λ n. HasScripts q (scripts h n)) (sym e)
+      subst (λ x. HasItsScripts x (scripts h (v + 0))) (same_run q r at)
+      (subst (λ n. HasItsScripts q (scripts h n)) (sym e)
       (scripts_of q s.name s.fuel v (content_of spec.libs.items s.content) f judged.judged shown.0 (λ c g. subst (λ n. AreScriptsOf c (scripts h n)) e (are 0 s c refl g)) (subst (λ n. accepts h n ≡ true) e is)))
   all_scripts v runs slots refusals (more {run = q} {slot = s} {refusal = f} {runs = rs} {slots = ss} {refusals = fs} judged rest) shown are (suc i) r at is =
       let e : v + suc i ≡ (v + 1) + i = omega arith in
-      subst (λ n. HasScripts r (scripts h n)) (sym e)
+      subst (λ n. HasItsScripts r (scripts h n)) (sym e)
       (all_scripts (v + 1) rs ss fs rest shown.1 (λ k t c there g. let d : v + suc k ≡ (v + 1) + k = omega arith in subst (λ n. AreScriptsOf c (scripts h n)) d (are (suc k) t c there g)) i r at (subst (λ n. accepts h n ≡ true) e is))
 
 -- of the slots of a page that was played
 pub played_scripts : (spec : PageSpec) (items : List Said) (h : Host) (runs : List SlotRun) (refusals : List (Option Refusal)) → IsPlayed spec items h → AreJudgedSlots spec.libs.items runs spec.slots.items refusals
-    → (w : ℕ) (r : SlotRun) → slice_get runs w ≡ Some r → accepts h w ≡ true → HasScripts r (scripts h w)
+    → (w : ℕ) (r : SlotRun) → slice_get runs w ≡ Some r → accepts h w ≡ true → HasItsScripts r (scripts h w)
 played_scripts spec items h runs refusals played judged w r at is =
     let e : 0 + w ≡ w = omega arith in
-    subst (λ n. HasScripts r (scripts h n)) e
+    subst (λ n. HasItsScripts r (scripts h n)) e
     (all_scripts spec (given_all spec items) h 0 runs spec.slots.items refusals judged played.ends (λ i s c there g. let d : 0 + i ≡ i = omega arith in subst (λ n. AreScriptsOf c (scripts h n)) (sym d) (played.scripts i s c there g)) w r at (subst (λ n. accepts h n ≡ true) (sym e) is))
 
 -- ## Items that are given

@@ -27,7 +27,7 @@ use Rattle.adhost_run.specs.Played.{AreScriptsOf}
 use Rattle.adhost_run.specs.Demo.{demo_runs, demo_given}
 use Rattle.adhost_run.specs.Answer.{given_to}
 
--- a host that is whole and has done with so many items: picks of this slice, one after the other, led to it from where nothing was spent, and their entries are its journal, each with this slice; where the journal is not full, the picks are in the order of round robin; no turn is in progress, and every queue is empty
+-- a host that is whole and has done with so many items: picks of this slice, one after the other, led to it from where nothing was spent, and its journal has their entries, the last 65,536 of them, each with this slice; where the journal is not full, the picks are in the order of round robin; no turn is in progress, and every queue is empty
 pub record IsSettled (slice items : ℕ) (h : Host) : Type 0 where
   pub housed : IsHoused h
   pub unmarked : marked h ≡ false
@@ -40,7 +40,7 @@ pub record IsSettled (slice items : ℕ) (h : Host) : Type 0 where
   pub order : length (journal h) < journal_room → InOrder None (journal h)
 
 -- a slot has its widget, and these trees are its scripts
-pub record HasScripts (run : SlotRun) (ts : List Tree) : Type 0 where
+pub record HasItsScripts (run : SlotRun) (ts : List Tree) : Type 0 where
   pub content : Content
   pub has : HasWidget run.slot content
   pub are : AreScriptsOf content ts
@@ -49,7 +49,7 @@ pub record HasScripts (run : SlotRun) (ts : List Tree) : Type 0 where
 pub record IsStage (runs : List SlotRun) (items : List Given) (slice : ℕ) (h : Host) : Type 0 where
   pub settled : IsSettled slice (length items) h
   pub slots : chains h ≡ singles 0 (length runs)
-  pub scripts : (w : ℕ) (run : SlotRun) → slice_get runs w ≡ Some run → accepts h w ≡ true → HasScripts run (scripts h w)
+  pub scripts : (w : ℕ) (run : SlotRun) → slice_get runs w ≡ Some run → accepts h w ≡ true → HasItsScripts run (scripts h w)
   pub ends : List (Option OwnState)
   pub lines : List ℕ
   pub are : AreEnds items runs ends lines

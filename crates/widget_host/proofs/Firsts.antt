@@ -281,7 +281,7 @@ module _ (spec : PageSpec) (l : Loaded) (loads : LoadsPage spec l) (base : Host)
 
   is_housed : IsHoused host
   unfolding IsHoused
-  is_housed = (apart, λ e. record { slots = housed; room = few_lives spec l loads; given = omega arith; swaps = omega arith })
+  is_housed = (apart, λ e. record { slots = housed; room = few_lives spec l loads; raws = loads.raws; given = omega arith; swaps = omega arith })
 
   loads_slot : (w fuel : ℕ) (o : Option Content) (a : Place) → slice_get l.places.items w ≡ Some a → slice_index_or (accepts_of l.places.items) w false ≡ a.life.accepted → IsFirstLife l.shared w fuel o a → LoadsSlot host w fuel o
   unfolding accepts seens

@@ -13,6 +13,7 @@ use Rattle.turn_calls.specs.declared.turn.Shared.{Shared}
 use Rattle.slot_picks.specs.declared.crowd.Place.{Place}
 use Rattle.life_queue.specs.Lives as lives
 use Rattle.life_queue.specs.Fine.{FineWork}
+use Rattle.page_build.specs.Homes.{HaveRaws}
 use Rattle.page_build.specs.Layout as layout
 use Rattle.page_load.specs.Loads.{HasNothing}
 use Rattle.slot_picks.specs.Places.{FewPlaces, FinePlaces, OwnPlaces, homes_of, is_accepted, seens_from}
@@ -142,6 +143,7 @@ module _ (i : HostItem) (old new : Host)
           rest = subst (λ s. Rest (chains_of s.items) (seens_of new.crowd)) (sym slots) rest_still;
         };
         room = room_still;
+        raws = subst (λ (h : Shared). HaveRaws h.store h.page) (sym all) whole.raws;
         given = omega (arith, counted, room);
         swaps = subst (λ n. n ≤ 4) (sym many) whole.swaps;
       }

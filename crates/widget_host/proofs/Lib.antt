@@ -5,5 +5,6 @@ mod Given
 mod Staying
 mod Firsts
 mod Counting
+mod Raws
 mod Reading
 pub mod Programs

@@ -1,5 +1,5 @@
 -- What can be relied on of the store and the page of a host.
-use Rattle.std.proofs.Common.{◌≡◌, ℕ, zero, suc, ◌+◌, ◌≤◌, List, [], ◌∷◌, length, map, Bool, true, false, refl, sym, ap, ◌∙◌, subst, arith, Option, None, Some}
+use Rattle.std.proofs.Common.{◌≡◌, ℕ, zero, suc, ◌+◌, ◌≤◌, List, [], ◌∷◌, length, map, true, false, refl, sym, ap, ◌∙◌, subst, arith, Option, None, Some}
 use Rattle.std.proofs.lemmas.Bool.{eqb-true}
 use Rattle.std.specs.Prelude.{slice_get, slice_index_or, is_some}
 use Rattle.std.specs.Option.{option_and_then, option_map}
@@ -11,8 +11,7 @@ use Rattle.store_cells.specs.declared.kind.Form.TheVariants as form
 use Rattle.store_cells.specs.Born.{raw_place}
 use Rattle.store_cells.specs.Cells.{PlainCell, form_at, is_raw, node_in}
 use Rattle.store_cells.proofs.Places.{position_at}
-use Rattle.page_image.specs.Image.{HasRoot, own, owns}
-use Rattle.page_image.proofs.Looks.{number_low}
+use Rattle.page_image.specs.Image.{HasRoot}
 use Rattle.native_image.specs.Sound.{HasRaw}
 use Rattle.js_image.specs.Held.{IsConfined}
 use Rattle.life_laws.specs.Life.{Going, Seen, image, shown}
@@ -21,12 +20,12 @@ use Rattle.slot_picks.specs.declared.crowd.Place.{Place}
 use Rattle.life_queue.specs.Lives.{going_of, life_seen, own_of}
 use Rattle.slot_picks.specs.Places.{HoldsItsOwn, accepts_of, codes_of, lent}
 use Rattle.widget_host.specs.declared.host.Host.{Host}
-use Rattle.widget_host.specs.Housed.{IsHoused, accepts, marked, own_trees, scripts, seens}
+use Rattle.widget_host.specs.Housed.{IsHoused, accepts, own_trees, scripts, seens}
 use Rattle.widget_host.specs.Shapes.{HasOneRaw, IsReadOff, cells_of_host, cells_of_widgets}
 use Rattle.widget_host.proofs.Lasts.{some_is}
 use Rattle.widget_host.proofs.Counting.{cells_counted}
 use Rattle.widget_host.proofs.Staying.{scripts_by}
-use Rattle.widget_host.proofs.Shown.{fine_at, life_accepted, life_at, own_at, seen_of_life}
+use Rattle.widget_host.proofs.Shown.{life_accepted, life_at, own_at, seen_of_life}
 
 none_some : {A : Type 0} {a : A} → None ≡ Some a → ⊥
 none_some e = cc
@@ -126,24 +125,6 @@ module _ (h : Host) where
 
     pub root_at : (v : ℕ) → accepts h v ≡ true → HasRoot h.crowd.shared.page v
     root_at v is = (holds_accepted v is).2.holds.home
-
-    -- a node is that of an accepted life
-    pub owner_at : (v n : ℕ) → owns h.crowd.shared.page v n ≡ true → accepts h v ≡ true
-    unfolding IsHoused
-    owner_at v n owned = by (accepts h v) refl
-      where
-        by : (b : Bool) → accepts h v ≡ b → b ≡ true
-        by true e = refl
-        by false e =
-            let low = number_low h.crowd.shared.page v n owned in
-            let none : length (own h.crowd.shared.page v) ≡ 0 = ap length (housed.0.others v e).nodes in
-            absurd (omega (arith, low, none))
-
-    pub raw_at : marked h ≡ false → (v n : ℕ) → owns h.crowd.shared.page v n ≡ true → HasRaw h.crowd.shared.store.cells n
-    unfolding IsHoused accepts
-    raw_at unmarked v n owned =
-        let r = life_accepted h.crowd.places.items v (owner_at v n owned) in
-        (fine_at h.crowd.shared 0 v v h.crowd.places.items r.0 (omega arith) r.1 (housed.1 unmarked).slots.crowd.fine r.2).sound.raws v n owned
 
     -- the cells are the host's and those of its lives
     pub counted_at : length h.crowd.shared.store.cells ≡ cells_of_host h.crowd.shared.store + cells_of_widgets h.crowd.shared.store (length h.crowd.places.items)

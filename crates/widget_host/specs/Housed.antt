@@ -25,6 +25,7 @@ use Rattle.page_spec.specs.declared.PageSpec.{PageSpec}
 use Rattle.page_spec.specs.declared.SlotSpec.{SlotSpec}
 use Rattle.page_spec.specs.Contents.{content_of}
 use Rattle.page_spec.specs.Pages.{PagePiece, piece_of}
+use Rattle.page_build.specs.Homes.{HaveRaws}
 use Rattle.page_build.specs.Layout as layout
 use Rattle.page_load.specs.Loads.{HasNothing, HasScripts}
 use Rattle.widget_host.specs.declared.host.Host.{Host}
@@ -97,10 +98,11 @@ pub record IsApart (h : Host) : Type 0 where
   pub own : OwnCrowd h.crowd
   pub others : (v : ℕ) → accepts h v ≡ false → HasNothing v h.crowd.shared.store h.crowd.shared.page
 
--- Its lives are in their slots, their counts have room, and each accepted one is sound (`FineLife`): it is confined, and what its turn, its queue and its loop hold is its own.
+-- Its lives are in their slots, their counts have room, and each accepted one is sound (`FineLife`): it is confined, and what its turn, its queue and its loop hold is its own. Each node of the page has its RawNode.
 pub record IsWhole (h : Host) : Type 0 where
   pub slots : AreHoused (16 + h.swaps) h.crowd h.slots.items
   pub room : FewCrowd (most_after h.given) h.crowd
+  pub raws : HaveRaws h.crowd.shared.store h.crowd.shared.page
   pub given : h.given ≤ 4096
   pub swaps : h.swaps ≤ 4
 

@@ -1,9 +1,10 @@
 //! A host: it loads a page, and hands out what it has.
-ghost use Rattle.std.specs.Prelude.{◌≡◌, ℕ, List, Option, Some, ◌+◌, ◌≤◌, IfOk, OnOk, false, length, slice_get, true};
+ghost use Rattle.std.specs.Prelude.{◌≡◌, ℕ, List, Option, Some, ◌+◌, ◌<◌, ◌≤◌, IfOk, OnOk, false, length, slice_get, true};
 ghost use Rattle.js_image.specs.Held.{IsConfined};
 ghost use Rattle.life_laws.specs.Life.{Seen, image};
 ghost use Rattle.page_build.specs.Layout as layout;
 ghost use Rattle.page_image.specs.Image.{HasRoot, owns};
+ghost use Rattle.page_tree.specs.Pages.{nodes};
 ghost use Rattle.slot_picks.specs.declared.crowd.Place.{Place};
 ghost use Rattle.slot_picks.specs.Places.{HoldsItsOwn};
 ghost use Rattle.widget_meaning.specs.OwnState.{OwnState};
@@ -51,12 +52,12 @@ impl Host {
     /// The cells of all widgets and of the host, and no others. Each widget is confined to its own, also where the
     /// host is marked: what its cells lead to is its own, the code of each of its functions is one of its own scripts,
     /// and the names of its cells are permitted, but for the hidden one of a Bunch. Unless the host is marked, each
-    /// node of a widget has one RawNode.
+    /// node of the page, those of its own markup too, has one RawNode.
     pub fn store(&self) -> &Store
         ensures are { result.now ≡ (shared self.now).store }
         ensures confined { IsHoused self.now → (v : ℕ) → accepts self.now v ≡ true → IsConfined (own_trees self.now v) v result.now }
         ensures counted { IsHoused self.now → length result.now.cells ≡ cells_of_host result.now + cells_of_widgets result.now (length (places self.now)) }
-        ensures raws { IsHoused self.now → marked self.now ≡ false → (v n : ℕ) → owns (shared self.now).page v n ≡ true → HasOneRaw result.now.cells n }
+        ensures raws { IsHoused self.now → marked self.now ≡ false → (n : ℕ) → n < length (nodes (shared self.now).page) → HasOneRaw result.now.cells n }
     {
         let store = &self.crowd.shared.store;
         store.nodes_have_one_cell();

@@ -1,10 +1,10 @@
 //! What a life did.
-ghost use Rattle.std.specs.Prelude.{◌≡◌, ◌<◌, ℕ, IfOk, Some, true, option_map, slice_get, length};
+ghost use Rattle.std.specs.Prelude.{◌≡◌, ◌<◌, ℕ, IfOk, IsErr, Some, true, option_map, slice_get, length};
 ghost use Rattle.life_laws.specs.Life.{Seen, image};
 ghost use Rattle.life_queue.specs.Lives as life;
 ghost use Rattle.life_queue.specs.Lives.{life_seen};
 ghost use Rattle.turn_calls.specs.declared.turn.Shared.{Shared as SharedOf};
-ghost use Rattle.widget_host.specs.Housed.{IsHoused, IsLineOf, accepts, chains, meant_stop, present, seens};
+ghost use Rattle.widget_host.specs.Housed.{IsHoused, IsLineOf, accepts, chains, marked, meant_stop, present, seens};
 
 use crate::host::Host;
 use code_units::{Memory, Text};
@@ -72,12 +72,13 @@ fn line_of(alloc: Global, life: &Life, spent: u64) -> Result<RunLine, Memory>
 }
 
 impl Host {
-    /// What the present life of a slot did.
+    /// What the present life of a slot did. Where the host is marked it is answered with `Memory`.
     pub fn line(&self, alloc: Global, w: u32) -> Result<RunLine, Memory>
         requires housed { IsHoused self.now }
         requires there { w < length (chains self.now) }
         requires accepted { accepts self.now (present w (chains self.now)) ≡ true }
-        ensures { IfOk result (λ l. (s : Seen) → slice_get (seens self.now) (present w (chains self.now)) ≡ Some s → IsLineOf l (image s)) }
+        ensures line { IfOk result (λ l. (s : Seen) → slice_get (seens self.now) (present w (chains self.now)) ≡ Some s → IsLineOf l (image s)) }
+        ensures marked { marked self.now ≡ true → IsErr result }
     {
         if self.marked {
             return Err(Memory);

@@ -1,4 +1,4 @@
-use Rattle.std.proofs.Common.{◌≡◌, ◌<◌, ℕ, List, Some, arith, length, subst, sym}
+use Rattle.std.proofs.Common.{◌≡◌, ◌<◌, ◌∙◌, ℕ, List, Some, arith, false, length, subst, sym, true}
 use Rattle.std.specs.Prelude.{slice_get}
 use Rattle.std.proofs.lemmas.List.{length-map}
 use Rattle.std.proofs.lemmas.Result.{IfOk-weaker}
@@ -39,10 +39,14 @@ index-requires-2 c =
     let within : c.present-v.result < length c.args.self.now.crowd.places.items = life_there c.args.self.now c.args.w c.index.result.now (c.requires.housed.1 c.if-self.false) c.requires.there c.index.ensures c.present-v.result first in
     omega (arith, within)
 
-pub returns : goal.returns
+pub returns-clause-line : goal.returns-clause-line
 unfolding IsHoused marked
-returns c =
+returns-clause-line c =
     let first : slice_get c.index.result.now.lives.items 0 ≡ Some c.present-v.result = subst (λ (vs : List ℕ). slice_get vs 0 ≡ Some c.present-v.result) c.deref.ensures.value c.present-v.ensures in
     IfOk-weaker c.line_of.result _ _ (λ r told x at.
     line_told c.args.self.now c.args.w c.index.result.now (c.requires.housed.1 c.if-self.false) c.requires.there c.index.ensures c.present-v.result first c.requires.accepted
     r c.index-2.result.now c.spent_at-spent.result x c.index-2.ensures c.spent_at-spent.ensures told at) c.line_of.ensures
+
+pub returns-clause-marked : goal.returns-clause-marked
+unfolding marked
+returns-clause-marked c = λ is. absurd (let both : false ≡ true = sym c.if-self.false ∙ is in cc)

@@ -1,6 +1,7 @@
 use Rattle.std.proofs.Common.{refl}
-use Rattle.widget_host.specs.Housed.{IsLaid, accepts, shared}
-use Rattle.widget_host.proofs.Reading.{owner_at, root_at}
+use Rattle.widget_host.specs.Housed.{IsHoused, IsLaid, accepts, shared}
+use Rattle.widget_host.proofs.Raws.{owner_at}
+use Rattle.widget_host.proofs.Reading.{root_at}
 use Rattle.widget_host.proofs.host.Host.page.Goals as goal
 
 pub returns-clause-are : goal.returns-clause-are
@@ -15,4 +16,5 @@ pub returns-clause-roots : goal.returns-clause-roots
 returns-clause-roots c = λ housed v is. root_at c.args.self.now housed v is
 
 pub returns-clause-owners : goal.returns-clause-owners
-returns-clause-owners c = λ housed v n owned. owner_at c.args.self.now housed v n owned
+unfolding IsHoused
+returns-clause-owners c = λ housed v n owned. owner_at c.args.self.now housed.0 v n owned

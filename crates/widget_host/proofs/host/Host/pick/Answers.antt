@@ -1,5 +1,7 @@
 use Rattle.std.proofs.Common.{◌≡◌, ◌+◌, false, refl, true}
+use Rattle.widget_host.specs.declared.host.Host.{Host}
 use Rattle.widget_host.specs.Housed.{IsHoused, marked, most_after}
+use Rattle.widget_host.proofs.Raws.{own_raws, raws_stay}
 use Rattle.widget_host.proofs.Staying.{apart_stays, host_here, host_stays}
 use Rattle.widget_host.proofs.host.Host.pick.Goals as goal
 
@@ -10,14 +12,19 @@ pick_slot-requires-clause-housed c = (16 + c.args.self.now.swaps, (c.requires.ho
 pub returns-in-Ok-clause-housed : goal.returns-in-Ok-clause-housed
 unfolding IsHoused marked
 returns-in-Ok-clause-housed c =
-    let old = c.args.self.now in (
-      apart_stays old _ c.in-Ok.ensures.stays c.requires.housed.0,
-      λ unmarked. let whole = c.requires.housed.1 c.if-self.false in record {
-        slots = c.in-Ok.ensures.housed (16 + old.swaps) whole.slots;
-        room = c.in-Ok.ensures.few (most_after old.given) whole.room;
-        given = whole.given;
-        swaps = whole.swaps;
-      },
+    let old = c.args.self.now in
+    let new : Host = record old { crowd = c.pick_slot.new.crowd; slots = c.pick_slot.new.slots } in
+    let apart = apart_stays old new c.in-Ok.ensures.stays c.requires.housed.0 in (
+      apart,
+      λ unmarked. let whole = c.requires.housed.1 c.if-self.false in
+          let slots = c.in-Ok.ensures.housed (16 + old.swaps) whole.slots in
+          record {
+            slots = slots;
+            room = c.in-Ok.ensures.few (most_after old.given) whole.room;
+            raws = raws_stay old.crowd new.crowd c.in-Ok.ensures.stays c.in-Ok.ensures.host (own_raws new apart slots.crowd) whole.raws;
+            given = whole.given;
+            swaps = whole.swaps;
+          },
     )
 
 pub returns-in-Err-clause-housed : goal.returns-in-Err-clause-housed

@@ -1,6 +1,6 @@
 use Rattle.std.proofs.Common.{refl}
-use Rattle.widget_host.specs.Housed.{places, shared}
-use Rattle.widget_host.proofs.Reading.{confined_at, counted_at, one_raw, raw_at}
+use Rattle.widget_host.specs.Housed.{IsHoused, places, shared}
+use Rattle.widget_host.proofs.Reading.{confined_at, counted_at, one_raw}
 use Rattle.widget_host.proofs.host.Host.store.Goals as goal
 
 pub returns-clause-are : goal.returns-clause-are
@@ -15,5 +15,5 @@ unfolding places
 returns-clause-counted c = λ housed. counted_at c.args.self.now housed
 
 pub returns-clause-raws : goal.returns-clause-raws
-unfolding shared
-returns-clause-raws c = λ housed unmarked v n owned. one_raw c.args.self.now.crowd.shared.store.cells n c.nodes_have_one_cell.ensures (raw_at c.args.self.now housed unmarked v n owned)
+unfolding IsHoused shared
+returns-clause-raws c = λ housed unmarked n lt. one_raw c.args.self.now.crowd.shared.store.cells n c.nodes_have_one_cell.ensures ((housed.1 unmarked).raws n lt)
