@@ -1,8 +1,8 @@
 //! The program: the words of the command line, the machine's files and the standard output, handed
-//! to `run`.
+//! to `run`, by the call that gives the number of its status alone.
 #![tactic(auto)]
 
-use adhost_run::{Status, run};
+use adhost_run::{Status, exit_number};
 use host_io::{RealFiles, RealSink};
 use std::env;
 use std::io::ErrorKind;
@@ -25,6 +25,5 @@ fn main(rt: HostRuntime) -> ExitCode {
     }
     let mut files = RealFiles { rt: &rt, faults: 0 };
     let mut sink = RealSink { rt: &rt, faults: 0 };
-    let mut stage = None;
-    ExitCode::from(run(rt.alloc(), &words, &mut files, &mut sink, &mut stage).number())
+    ExitCode::from(exit_number(rt.alloc(), &words, &mut files, &mut sink))
 }

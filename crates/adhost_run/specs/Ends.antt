@@ -11,19 +11,6 @@ use Rattle.adhost_run.specs.Reading.{ReadsFiles}
 use Rattle.adhost_run.specs.Steps.{Answers}
 use Rattle.adhost_run.specs.Answer.{ending, Answer}
 
--- the exit status of the program
-abbrev pub number_of : Status → ℕ
-number_of status.Ok = 0
-number_of status.Refused = 1
-number_of status.Usage = 2
-number_of status.BadManifest = 3
-number_of status.BadTrace = 4
-number_of status.TooLarge = 5
-number_of status.ReadFault = 6
-number_of status.WriteFault = 7
-number_of status.Memory = 8
-number_of status.Unbuilt = 9
-
 -- the status is that of an answer: no fault, and no want of memory
 abbrev pub is_answer : Status → Bool
 is_answer status.ReadFault = false

@@ -1,3 +1,4 @@
+pub mod Numbers
 pub mod Request
 pub mod Page
 pub mod Reading

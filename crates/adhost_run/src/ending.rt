@@ -1,6 +1,6 @@
 //! How a run ends.
 ghost use Rattle.std.specs.Prelude.{◌≡◌};
-ghost use Rattle.adhost_run.specs.Ends.{number_of};
+ghost use Rattle.adhost_run.specs.Numbers.{number_of};
 
 /// The status of a run.
 #[derive(Clone, Copy, Debug, PartialEq, Eq)]

@@ -18,4 +18,4 @@ mod writing;
 
 pub use ending::Status;
 pub use laws::{one_answer, two_pages};
-pub use running::run;
+pub use running::{exit_number, run};

@@ -67,6 +67,18 @@ pub fn run<F: Files, S: Sink>(
     }
 }
 
+/// Does what the words ask for, as `run` does, and gives the number of the status. It has no clauses: a
+/// program that calls it is proved without all that those of `run` speak of.
+pub fn exit_number<F: Files, S: Sink>(
+    alloc: Global,
+    words: &[String],
+    files: &mut F,
+    sink: &mut S,
+) -> u8 {
+    let mut stage = None;
+    run(alloc, words, files, sink, &mut stage).number()
+}
+
 // The status that a stop ends with.
 fn status_of(stop: Stop) -> Status
     ensures { result ≡ status_of stop }
