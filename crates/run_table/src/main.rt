@@ -1,5 +1,6 @@
 //! Writes whether command lines end as is wanted, which the gate compares with the file `stdout`. The
-//! cases stand in the files in data/ (crate `run_cases`).
+//! cases stand in the files in data/ (crate `run_cases`). Then whether calls of frames give what is wanted
+//! (crate `step_cases`).
 #![tactic(auto)]
 
 mod real_files;
@@ -8,6 +9,7 @@ use anyhow::Result;
 use real_files::are_real_files_read;
 use run_cases::answers;
 use std::fs;
+use step_cases::{gives_pushed_frame, unwinds_to_the_end};
 
 const FILES: [&str; 9] = [
     "words.jsonl",
@@ -29,5 +31,10 @@ fn main(rt: HostRuntime) -> Result<()> {
     }
     let are_read = are_real_files_read(&rt);
     println!(rt; "## files of the machine are read: {are_read}")?;
+    let alloc = rt.alloc();
+    let pushed = matches!(gives_pushed_frame(alloc), Ok(true));
+    let over = unwinds_to_the_end(alloc);
+    println!(rt; "## a pushed frame is taken out: {pushed}")?;
+    println!(rt; "## a return unwinds no frames: {over}")?;
     Ok(())
 }
