@@ -7,11 +7,14 @@
 
 mod calls;
 mod choosers;
-mod finding;
 mod line_calls;
+mod loop_calls;
 mod markup;
+mod node_calls;
+mod page_calls;
 mod pages;
 mod scripts;
+mod store_calls;
 mod text_calls;
 
 use anyhow::Result;
