@@ -11,7 +11,7 @@ use Rattle.trace_reader.specs.Said.{said}
 use Rattle.manifest_shape.specs.Distinct.{distinct}
 use Rattle.manifest_shape.specs.Slots.{are_slots, most_slots}
 use Rattle.life_laws.specs.Life.{Seen, due}
-use Rattle.life_queue.specs.Lives.{event_of}
+use Rattle.widget_host.specs.life_queue.Lives.{event_of}
 use Rattle.slot_laws.specs.Chains.{last_life, last_at}
 use Rattle.widget_meaning.specs.OwnState.{OwnState}
 use Rattle.widget_meaning.specs.Items.{Item, Occurs, Advance, Event, item}

@@ -11,3 +11,5 @@ pub mod Answer
 pub mod Played
 pub mod Ends
 pub mod Stage
+-- Handed on to the crates above, which name it so.
+pub use Rattle.widget_host.specs as widget_host

@@ -19,3 +19,6 @@ mod writing;
 pub use ending::Status;
 pub use laws::{one_answer, two_pages};
 pub use running::{exit_number, run};
+
+// Handed on to the crates above, which name it so.
+pub use widget_host;

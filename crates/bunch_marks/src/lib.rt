@@ -21,3 +21,6 @@ pub use keeping::Change;
 pub use labels::{set_check, set_class, set_enabled, set_style, set_title};
 pub use listening::{hush, is_undefined, listen, protect, set_mark};
 pub use relabelling::{Label, Relabelling};
+
+// Handed on to the crates above, which name it so.
+pub use native_image;

@@ -9,3 +9,5 @@ mod Numbered
 mod Roots
 mod Tagged
 mod Texts
+-- Handed on to the crates above, which name it so.
+pub use Rattle.bunch_marks.proofs.NativeImage

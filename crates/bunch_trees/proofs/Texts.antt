@@ -22,11 +22,11 @@ use Rattle.page_image.proofs.Looks.{number_low}
 use Rattle.page_image.proofs.Pages.{owner_is}
 use Rattle.event_loop.specs.declared.around.Loop.{Loop}
 use Rattle.js_image.specs.Held.{Kept}
-use Rattle.native_image.specs.Grown.{IsGrown}
-use Rattle.native_image.specs.Image.{Outside, beside, image}
-use Rattle.native_image.specs.Sound.{HoldsOwn}
-use Rattle.native_image.proofs.Joint.{page_lift}
-use Rattle.native_image.proofs.Lifted.{tree_lift}
+use Rattle.bunch_marks.specs.native_image.Grown.{IsGrown}
+use Rattle.bunch_marks.specs.native_image.Image.{Outside, beside, image}
+use Rattle.bunch_marks.specs.native_image.Sound.{HoldsOwn}
+use Rattle.bunch_marks.proofs.NativeImage.Joint.{page_lift}
+use Rattle.bunch_marks.proofs.NativeImage.Lifted.{tree_lift}
 use Rattle.bunch_marks.proofs.Relabelled.{relabel_is}
 
 -- a new text node comes under a node

@@ -27,8 +27,8 @@ use Rattle.widget_meaning.specs.Dispatch.{bubble}
 use Rattle.widget_meaning.specs.OwnState as state
 use Rattle.widget_meaning.specs.OwnState.{State}
 use Rattle.widget_meaning.specs.Costs.{or_throw, throw}
-use Rattle.native_image.specs.Image.{Parts}
-use Rattle.native_image.specs.Meets.{MeetsAt}
+use Rattle.bunch_trees.specs.native_image.Image.{Parts}
+use Rattle.bunch_trees.specs.native_image.Meets.{MeetsAt}
 use Rattle.bunch_write.specs.declared.kinds.Method.{Method}
 use Rattle.bunch_write.specs.declared.kinds.Kind.{Kind}
 use Rattle.bunch_write.specs.declared.kinds.Kind.TheVariants as kind

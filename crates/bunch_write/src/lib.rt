@@ -10,3 +10,6 @@ mod making;
 mod moving;
 
 pub use calling::call;
+
+// Handed on to the crates above, which name it so.
+pub use bunch_trees::bunch_read;

@@ -12,8 +12,8 @@ use Rattle.event_loop.specs.declared.around.Loop.{Loop}
 use Rattle.native_image.specs.Image.{Outside, beside, image}
 use Rattle.native_image.specs.Sound.{IsSound}
 use Rattle.native_image.proofs.Joint.{image_shows}
-use Rattle.turn_runs.specs.declared.level.Heard.{Heard}
-use Rattle.turn_runs.specs.Levels.{heard_plan}
+use Rattle.turn_calls.specs.turn_runs.declared.level.Heard.{Heard}
+use Rattle.turn_calls.specs.turn_runs.Levels.{heard_plan}
 use Rattle.life_queue.specs.declared.life.Life.{Life}
 use Rattle.turn_calls.specs.declared.turn.Shared.{Shared}
 use Rattle.life_queue.specs.Lives.{own_of, trees_in}

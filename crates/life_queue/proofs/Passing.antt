@@ -12,10 +12,10 @@ use Rattle.native_image.specs.Image.{Outside}
 use Rattle.native_image.specs.Sound.{IsSound}
 use Rattle.life_laws.specs.Life.{Same, Seen, potential, potentials, started, waiting, weight}
 use Rattle.life_laws.proofs.Begins.{same_more}
-use Rattle.turn_runs.specs.declared.level.Doing.{Doing}
-use Rattle.turn_runs.specs.declared.level.Level.{Level}
-use Rattle.turn_runs.specs.Held.{FineDoing}
-use Rattle.turn_runs.specs.Levels.{turn_plan}
+use Rattle.turn_calls.specs.turn_runs.declared.level.Doing.{Doing}
+use Rattle.turn_calls.specs.turn_runs.declared.level.Level.{Level}
+use Rattle.turn_calls.specs.turn_runs.Held.{FineDoing}
+use Rattle.turn_calls.specs.turn_runs.Levels.{turn_plan}
 use Rattle.turn_calls.specs.declared.calls.Calls.{Calls}
 use Rattle.turn_calls.specs.Turns.{turn_image}
 use Rattle.turn_calls.specs.Waiting.{FineLevels}

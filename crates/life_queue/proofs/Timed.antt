@@ -23,8 +23,8 @@ use Rattle.event_loop.specs.Timers as timers
 use Rattle.event_image.specs.Image.{Shows, after_due, timer_of}
 use Rattle.event_image.proofs.States.{due_image, due_shows}
 use Rattle.js_image.specs.Image.{Rest, image as store_image, seen}
-use Rattle.js_steps.specs.Answered.{remaining}
-use Rattle.js_steps.specs.declared.task.Task.{Task}
+use Rattle.turn_calls.specs.js_steps.Answered.{remaining}
+use Rattle.turn_calls.specs.js_steps.declared.task.Task.{Task}
 use Rattle.native_image.specs.Image.{beside}
 use Rattle.native_image.specs.Sound.{HoldsOwn, IsOwnCell, IsSound}
 use Rattle.native_image.proofs.Joint.{image_shows, rest, shown_is}

@@ -32,13 +32,13 @@ use Rattle.js_flow.specs.Todo.{todo}
 use Rattle.js_flow.specs.Views.{job_of, name_at}
 use Rattle.js_flow.proofs.Stays.{all_fine, all_same, completion_fine, completion_same, frames_fine, place_fine, place_same, rest_same}
 use Rattle.end_laws.specs.Ends.{ByValue, Yields}
-use Rattle.js_steps.specs.Ending.{EndsCall}
-use Rattle.js_steps.proofs.Ending.{awaits_later}
-use Rattle.turn_runs.specs.declared.level.Doing.{Doing}
-use Rattle.turn_runs.specs.declared.level.Doing.TheVariants as doing
-use Rattle.turn_runs.specs.declared.level.Level.{Level}
-use Rattle.turn_runs.specs.Held.{FineDoing}
-use Rattle.turn_runs.specs.Levels.{turn_plan}
+use Rattle.turn_calls.specs.js_steps.Ending.{EndsCall}
+use Rattle.turn_calls.proofs.JsSteps.Ending.{awaits_later}
+use Rattle.turn_calls.specs.turn_runs.declared.level.Doing.{Doing}
+use Rattle.turn_calls.specs.turn_runs.declared.level.Doing.TheVariants as doing
+use Rattle.turn_calls.specs.turn_runs.declared.level.Level.{Level}
+use Rattle.turn_calls.specs.turn_runs.Held.{FineDoing}
+use Rattle.turn_calls.specs.turn_runs.Levels.{turn_plan}
 use Rattle.turn_calls.specs.Waiting.{FineLevels}
 use Rattle.turn_calls.proofs.Stays.{hearing_fine, hearing_same, levels_same}
 

@@ -9,8 +9,8 @@ ghost use Rattle.page_tree.specs.declared.page.Page.{Page as PageOf};
 ghost use Rattle.js_image.specs.Held.{IsHeld};
 ghost use Rattle.js_image.specs.Image.{Rest, image, seen};
 ghost use Rattle.js_image.specs.Laws.{AreLawful};
-ghost use Rattle.js_steps.specs.Answered.{remaining};
-ghost use Rattle.turn_runs.specs.Held.{FineTask};
+ghost use Rattle.turn_calls.specs.js_steps.Answered.{remaining};
+ghost use Rattle.turn_calls.specs.turn_runs.Held.{FineTask};
 ghost use Rattle.life_queue.specs.Lives.{trees_in, work_of};
 ghost use Rattle.life_queue.specs.Fine.{FineLife, FineWork, KeepsLife, tally};
 ghost use Rattle.life_queue.specs.Taken.{Takes};
@@ -19,11 +19,11 @@ ghost use Rattle.life_queue.specs.declared.life.Work.TheVariants as work;
 use crate::begins::begin;
 use crate::life::{Life, Script, Work};
 use code_units::Memory;
-use js_steps::Task;
 use object_store::{CellId, HostEntry, Store, Value};
 use std::alloc::Global;
-use turn_calls::{Calls, Shared};
-use turn_runs::{Doing, Level, open_script};
+use turn_calls::js_steps::Task;
+use turn_calls::turn_runs::{Doing, Level, open_script};
+use turn_calls::{Calls, Shared, js_steps};
 
 // The laws of the store, together.
 fn lawful(store: &Store)

@@ -4,12 +4,12 @@ use Rattle.std.proofs.lemmas.Result.{IfOk-weaker}
 use Rattle.code_units.specs.declared.memory.Memory.{Memory}
 use Rattle.js_tree.specs.Forest.{Forest}
 use Rattle.store_cells.specs.Cells.{Cells}
-use Rattle.widget_meaning.specs.OwnState.{State}
-use Rattle.widget_meaning.specs.Values.{Value as Meant}
-use Rattle.widget_meaning.specs.Plan.{Job, Plan, charge, run}
+use Rattle.js_values.specs.widget_meaning.OwnState.{State}
+use Rattle.js_values.specs.widget_meaning.Values.{Value as Meant}
+use Rattle.js_values.specs.widget_meaning.Plan.{Job, Plan, charge, run}
 use Rattle.store_cells.specs.declared.value.Value.{Value}
-use Rattle.js_image.specs.Image.{Rest, image, no_rest, seen}
-use Rattle.js_image.proofs.Grown.{kept_same}
+use Rattle.js_values.specs.js_image.Image.{Rest, image, no_rest, seen}
+use Rattle.js_values.proofs.JsImage.Grown.{kept_same}
 use Rattle.js_values.specs.Fuel.{Fuel}
 use Rattle.js_values.specs.Answers.{Answers, IsFineOut, IsOutOfFuel, Leaves}
 use Rattle.js_values.specs.declared.outcome.NativeOut.{NativeOut}

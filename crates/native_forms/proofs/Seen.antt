@@ -3,11 +3,11 @@ use Rattle.std.proofs.Common.{◌≡◌, ℕ, zero, suc, List, [], ◌∷◌, Bo
 use Rattle.store_cells.specs.declared.value.Value.{Value}
 use Rattle.store_cells.specs.declared.value.Value.TheVariants as value
 use Rattle.store_cells.specs.Cells.{PlainCell, own_count}
-use Rattle.object_store.specs.Owned as store
-use Rattle.object_store.specs.Owned.{visible_at}
-use Rattle.widget_meaning.specs.Values as meaning
-use Rattle.js_image.specs.Image.{all_seen, meant, seen}
-use Rattle.js_image.specs.Held.{AreFine}
+use Rattle.js_values.specs.object_store.Owned as store
+use Rattle.js_values.specs.object_store.Owned.{visible_at}
+use Rattle.js_values.specs.widget_meaning.Values as meaning
+use Rattle.js_values.specs.js_image.Image.{all_seen, meant, seen}
+use Rattle.js_values.specs.js_image.Held.{AreFine}
 
 -- what refers to a cell is an object
 pub ref_is_object : (w : ℕ) (cells : List PlainCell) (i : ℕ) → meaning.is_object (seen w cells (value.Ref i)) ≡ true

@@ -2,10 +2,10 @@
 use Rattle.std.specs.Prelude.{◌≡◌, ℕ, ◌+◌, List}
 use Rattle.js_tree.specs.Forest.{Forest}
 use Rattle.store_cells.specs.Cells.{Cells}
-use Rattle.widget_meaning.specs.OwnState.{State}
-use Rattle.widget_meaning.specs.Plan.{Plan}
-use Rattle.js_image.specs.Image.{Rest, image, seen}
-use Rattle.js_image.specs.Held.{Kept}
+use Rattle.js_values.specs.widget_meaning.OwnState.{State}
+use Rattle.js_values.specs.widget_meaning.Plan.{Plan}
+use Rattle.js_values.specs.js_image.Image.{Rest, image, seen}
+use Rattle.js_values.specs.js_image.Held.{Kept}
 use Rattle.js_values.specs.declared.outcome.NativeOut.{NativeOut}
 use Rattle.js_values.specs.Answers.{Answers, IsFineOut, IsOutOfFuel, Leaves}
 use Rattle.js_values.specs.Fuel.{Fuel}

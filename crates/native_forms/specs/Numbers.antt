@@ -6,7 +6,7 @@ use Rattle.js_values.specs.declared.outcome.OpOut.{OpOut}
 use Rattle.js_values.specs.declared.outcome.OpOut.TheVariants as out
 use Rattle.code_units.specs.declared.whole.WholeRead.{WholeRead}
 use Rattle.code_units.specs.declared.whole.WholeRead.TheVariants as read
-use Rattle.widget_meaning.specs.Values.{Value, Undefined, to_number}
+use Rattle.js_values.specs.widget_meaning.Values.{Value, Undefined, to_number}
 
 -- the number, NaN as this one; none where it leaves the numbers
 abbrev pub number_or : ℤ → WholeRead → Option ℤ

@@ -4,9 +4,9 @@ use Rattle.store_cells.specs.declared.value.Value.{Value as StoreValue}
 use Rattle.store_cells.specs.declared.value.Value.TheVariants as value
 use Rattle.store_cells.specs.Cells.{PlainCell}
 use Rattle.store_cells.specs.Host.{global}
-use Rattle.widget_meaning.specs.Values.{Value}
-use Rattle.js_image.specs.Held.{is_held}
-use Rattle.js_image.specs.Image.{seen}
+use Rattle.js_values.specs.widget_meaning.Values.{Value}
+use Rattle.js_values.specs.js_image.Held.{is_held}
+use Rattle.js_values.specs.js_image.Image.{seen}
 
 -- whether what is passed as a receiver is the Global cell
 abbrev pub is_plain_call : StoreValue → Bool

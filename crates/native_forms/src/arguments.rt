@@ -2,17 +2,17 @@
 ghost use Rattle.std.specs.Prelude.{◌≡◌, ℕ, List, [], ◌∷◌, IfOk, false, length, sum_by, unwrap_or, slice_get};
 ghost use Rattle.std.specs.List.{list_any};
 ghost use Rattle.store_cells.specs.Cells.{PlainCell};
-ghost use Rattle.widget_meaning.specs.Values as meaning;
-ghost use Rattle.widget_meaning.specs.GlobalNatives as globals;
-ghost use Rattle.widget_meaning.specs.NativeForms as forms;
-ghost use Rattle.js_image.specs.Image.{all_seen, seen};
+ghost use Rattle.js_values.specs.widget_meaning.Values as meaning;
+ghost use Rattle.js_values.specs.widget_meaning.GlobalNatives as globals;
+ghost use Rattle.js_values.specs.widget_meaning.NativeForms as forms;
+ghost use Rattle.js_values.specs.js_image.Image.{all_seen, seen};
 ghost use Rattle.js_values.specs.Operands.{IsPrimitive};
 ghost use Rattle.native_forms.specs.Numbers as numbers;
 ghost use Rattle.native_forms.specs.Receivers.{is_plain_call};
 
 use code_units::{Memory, Text, WholeRead};
+use js_values::object_store::{CellId, Value};
 use js_values::{number_of, to_text};
-use object_store::{CellId, Value};
 use std::alloc::Global;
 
 /// Whether a value is an object.

@@ -1,9 +1,9 @@
 //! Charges.
 ghost use Rattle.std.specs.Prelude.{◌≡◌, ◌+◌, ◌<◌, ℕ, OnErr, OnOk};
 ghost use Rattle.store_cells.specs.Cells.{Cells};
-ghost use Rattle.widget_meaning.specs.OwnState.{State};
-ghost use Rattle.widget_meaning.specs.Plan.{Plan, charge};
-ghost use Rattle.widget_meaning.specs.Expressions as expressions;
+ghost use Rattle.js_values.specs.widget_meaning.OwnState.{State};
+ghost use Rattle.js_values.specs.widget_meaning.Plan.{Plan, charge};
+ghost use Rattle.js_values.specs.widget_meaning.Expressions as expressions;
 ghost use Rattle.js_values.specs.Operands.{meant_out};
 ghost use Rattle.native_forms.specs.Meets.{Ends, Meets};
 ghost use Rattle.native_forms.specs.Numbers.{IsSmallOut, counted};

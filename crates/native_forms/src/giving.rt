@@ -2,20 +2,20 @@
 ghost use Rattle.std.specs.Prelude.{◌≡◌, ◌<◌, ℕ, List, IfOk, OnErr, length, map, sum_by};
 ghost use Rattle.std.specs.List.{list_any};
 ghost use Rattle.js_tree.specs.Forest.{Forest};
-ghost use Rattle.widget_meaning.specs.Values.{Text as Meant};
-ghost use Rattle.widget_meaning.specs.Costs as costs;
-ghost use Rattle.widget_meaning.specs.NativeForms as forms;
-ghost use Rattle.js_image.specs.Held.{AreFine, Kept};
-ghost use Rattle.js_image.specs.Image.{all_seen};
+ghost use Rattle.js_values.specs.widget_meaning.Values.{Text as Meant};
+ghost use Rattle.js_values.specs.widget_meaning.Costs as costs;
+ghost use Rattle.js_values.specs.widget_meaning.NativeForms as forms;
+ghost use Rattle.js_values.specs.js_image.Held.{AreFine, Kept};
+ghost use Rattle.js_values.specs.js_image.Image.{all_seen};
 ghost use Rattle.native_forms.specs.Meets.{Ends, Meets};
 ghost use Rattle.native_forms.specs.Numbers.{counted};
 
 use crate::arguments::text_len;
 use crate::charging::take;
 use code_units::{Memory, Text};
-use js_image::{Made, Paid, make_array, pay_text};
+use js_values::js_image::{Made, Paid, make_array, pay_text};
+use js_values::object_store::{Store, Value};
 use js_values::{Meter, NativeOut, StopCause};
-use object_store::{Store, Value};
 use std::alloc::Global;
 
 /// A text that is made costs its units, and is given.

@@ -2,9 +2,9 @@
 ghost use Rattle.std.specs.Prelude.{◌≡◌, ◌+◌, ◌<◌, ℕ, List};
 ghost use Rattle.js_tree.specs.Forest.{Forest};
 ghost use Rattle.store_cells.specs.Cells.{Cells};
-ghost use Rattle.widget_meaning.specs.OwnState.{State};
-ghost use Rattle.widget_meaning.specs.Plan.{Plan, charge};
-ghost use Rattle.js_image.specs.Image.{Rest, image};
+ghost use Rattle.js_values.specs.widget_meaning.OwnState.{State};
+ghost use Rattle.js_values.specs.widget_meaning.Plan.{Plan, charge};
+ghost use Rattle.js_values.specs.js_image.Image.{Rest, image};
 ghost use Rattle.js_values.specs.Fuel.{Fuel};
 ghost use Rattle.js_values.specs.declared.outcome.NativeOut.{NativeOut};
 ghost use Rattle.js_values.specs.declared.outcome.NativeOut.TheVariants as native;

@@ -14,3 +14,7 @@ pub use arguments::{
 pub use charging::{charged, given, take};
 pub use giving::{give_array, give_text, give_texts, give_units, make_text};
 pub use laws::meets;
+
+// Handed on to the crates above, which name it so.
+pub use js_values;
+pub use js_values::{js_image, object_store};

@@ -19,6 +19,7 @@ ghost use Rattle.natives.specs.Reach.{reach};
 
 use crate::families::{Family, room_of};
 use crate::timers::start;
+use bunch_write::bunch_read;
 use code_units::{Memory, Owner, Text};
 use event_loop::Loop;
 use js_flow::NativeCall;

@@ -8,7 +8,7 @@ ghost use Rattle.page_image.specs.Image.{owns, number, forest, root_of, is_shown
 ghost use Rattle.page_image.specs.Stays.{KeepsNodes, GetsRoot, OthersStay};
 
 use code_units::Memory;
-use page_nodes::BODY;
+use page_tree::page_nodes::BODY;
 use page_tree::{NodeId, Page, is_number};
 
 /// Whether a widget's node stands under the host's `body`, as a root does that was not swapped out.

@@ -19,15 +19,15 @@ use Rattle.widget_meaning.specs.Alone.{beginning, call_parts}
 use Rattle.life_laws.specs.Life as todo
 use Rattle.life_laws.specs.Life.{waiting}
 use Rattle.page_tree.specs.declared.page.Page.{Page}
-use Rattle.turn_calls.specs.declared.turn.Shared.{Shared}
-use Rattle.turn_runs.specs.Held.{IsScriptOf}
-use Rattle.life_queue.specs.declared.life.Life.{Life}
-use Rattle.life_queue.specs.declared.life.Script.{Script}
-use Rattle.life_queue.specs.declared.life.Work.{Work}
-use Rattle.life_queue.specs.declared.life.Work.TheVariants as work
-use Rattle.life_queue.specs.Lives.{function_of, work_of}
+use Rattle.slot_picks.specs.turn_calls.declared.turn.Shared.{Shared}
+use Rattle.slot_picks.specs.turn_runs.Held.{IsScriptOf}
+use Rattle.slot_picks.specs.life_queue.declared.life.Life.{Life}
+use Rattle.slot_picks.specs.life_queue.declared.life.Script.{Script}
+use Rattle.slot_picks.specs.life_queue.declared.life.Work.{Work}
+use Rattle.slot_picks.specs.life_queue.declared.life.Work.TheVariants as work
+use Rattle.slot_picks.specs.life_queue.Lives.{function_of, work_of}
 use Rattle.slot_picks.specs.declared.crowd.Place.{Place}
-use Rattle.life_queue.specs.Fine.{FineWork}
+use Rattle.slot_picks.specs.life_queue.Fine.{FineWork}
 use Rattle.page_spec.specs.declared.SlotSpec.{SlotSpec}
 use Rattle.adsafe_rules.specs.declared.accepted.Accepted.{Accepted}
 use Rattle.adsafe_rules.specs.Accepts.{tree_of}

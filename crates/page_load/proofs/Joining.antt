@@ -21,7 +21,7 @@ use Rattle.page_image.specs.Image.{forest, own, owns}
 use Rattle.page_image.proofs.Pages.{below_32}
 use Rattle.widget_meaning.specs.Alone.{Content, beginning}
 use Rattle.life_laws.specs.Life.{due, image, waiting}
-use Rattle.turn_calls.specs.declared.turn.Shared.{Shared}
+use Rattle.slot_picks.specs.turn_calls.declared.turn.Shared.{Shared}
 use Rattle.slot_picks.specs.declared.crowd.Place.{Place}
 use Rattle.page_build.specs.Homes.{HaveRaws, IsHome, IsPlaced}
 use Rattle.page_spec.specs.declared.SlotContent.{SlotContent}

@@ -6,3 +6,7 @@ pub mod Laying
 pub mod Owning
 pub mod Lives
 pub mod Loads
+-- Handed on to the crates above, which name it so.
+pub use Rattle.slot_picks.specs.life_queue
+pub use Rattle.slot_picks.specs as slot_picks
+pub use Rattle.slot_picks.specs.turn_calls

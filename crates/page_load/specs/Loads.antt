@@ -9,9 +9,9 @@ use Rattle.page_tree.specs.declared.page.Page.{Page}
 use Rattle.page_image.specs.Image.{own}
 use Rattle.widget_meaning.specs.Alone.{Content, beginning, loaded}
 use Rattle.life_laws.specs.Life.{due, image}
-use Rattle.turn_calls.specs.declared.turn.Shared.{Shared}
-use Rattle.life_queue.specs.Lives.{life_seen}
-use Rattle.life_queue.specs.Fine.{FineLife, tally}
+use Rattle.slot_picks.specs.turn_calls.declared.turn.Shared.{Shared}
+use Rattle.slot_picks.specs.life_queue.Lives.{life_seen}
+use Rattle.slot_picks.specs.life_queue.Fine.{FineLife, tally}
 use Rattle.slot_picks.specs.declared.crowd.Place.{Place}
 use Rattle.slot_picks.specs.Places.{lent}
 use Rattle.page_spec.specs.declared.PageSpec.{PageSpec}

@@ -10,3 +10,7 @@ mod opening;
 mod queues;
 
 pub use loading::{Loaded, load_page};
+
+// Handed on to the crates above, which name it so.
+pub use slot_picks;
+pub use slot_picks::{js_steps, life_queue};

@@ -10,8 +10,8 @@ ghost use Rattle.object_store.specs.Owned.{owned};
 ghost use Rattle.js_image.specs.Held.{Kept};
 ghost use Rattle.js_image.specs.Laws.{AreLawful};
 ghost use Rattle.life_laws.specs.Life.{potentials};
-ghost use Rattle.life_queue.specs.Lives.{work_of};
-ghost use Rattle.life_queue.specs.Fine.{FineWork, most_fuel};
+ghost use Rattle.slot_picks.specs.life_queue.Lives.{work_of};
+ghost use Rattle.slot_picks.specs.life_queue.Fine.{FineWork, most_fuel};
 ghost use Rattle.page_build.specs.Homes.{HaveRaws};
 ghost use Rattle.page_load.specs.Laying.{HasNoCells, IsUnused, nothing_owned};
 ghost use Rattle.page_load.specs.Lives.{ArePlaces, BeginsWith, HasTree, HaveTrees, IsBegun, IsBlank, IsLib, IsNobodys, IsPlaceOf, IsPlaceWith, IsUnborn, KeepsOthers};
@@ -22,12 +22,12 @@ use crate::queues::load_turns;
 use code_units::{Memory, Owner};
 use event_loop::Loop;
 use keyed_names::Keys;
-use life_queue::{Life, Records, Work};
 use object_store::{CellId, HostEntry, NewCell, Store};
 use slot_picks::Place;
+use slot_picks::life_queue::{Life, Records, Work};
+use slot_picks::turn_calls::{Shared, Widget};
 use std::alloc::Global;
 use std::collections::VecDeque;
-use turn_calls::{Shared, Widget};
 
 /// The most fuel of a turn.
 const MOST_FUEL: u32 = 1_000_000;

@@ -10,8 +10,8 @@ use code_units::{Memory, Text};
 use keyed_names::Keys;
 use page_spec::{PageSpec, SlotSpec};
 use slot_picks::Place;
+use slot_picks::turn_calls::Shared;
 use std::alloc::Global;
-use turn_calls::Shared;
 
 /// What a host begins with.
 #[derive(Drop)]

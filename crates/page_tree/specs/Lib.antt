@@ -10,3 +10,5 @@ pub mod Documents
 pub mod Roots
 pub mod Counts
 pub mod Pages
+-- Handed on to the crates above, which name it so.
+pub use Rattle.page_nodes.specs as page_nodes

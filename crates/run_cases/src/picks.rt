@@ -6,9 +6,10 @@
 //!   the list by which the host's chooser goes when it settles, and the slice
 //! - `journal`: the picks that the host is to have kept then (module `journals`)
 ghost use Rattle.std.specs.Prelude.{◌<◌, length, IfOk, OnOk};
-ghost use Rattle.widget_host.specs.Housed.{IsHoused, chains};
+ghost use Rattle.adhost_run.specs.widget_host.Housed.{IsHoused, chains};
 
 use crate::journals::{journal_of, wanted_journal};
+use adhost_run::widget_host::Host;
 use anyhow::{Result, bail};
 use code_units::Text;
 use keyed_names::Keys;
@@ -19,7 +20,6 @@ use slot_check::{Libraries, SourceFile, Widget, judge_slot};
 use std::alloc::Global;
 use test_cases::{bytes_of, list_at, text_at};
 use turn_sched::Listed;
-use widget_host::Host;
 
 // The fuel of a turn.
 const FUEL: u32 = 100_000;

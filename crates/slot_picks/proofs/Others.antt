@@ -4,10 +4,10 @@ use Rattle.std.specs.Prelude.{slice_get, slice_set}
 use Rattle.js_names.specs.Code.{trees_of}
 use Rattle.life_laws.specs.Life.{Seen, potentials}
 use Rattle.slot_laws.specs.Settled.{flag}
-use Rattle.turn_calls.specs.declared.turn.Shared.{Shared}
-use Rattle.life_queue.specs.Lives.{life_seen}
-use Rattle.life_queue.specs.Fine.{FineLife, KeepsLife, tally}
-use Rattle.life_queue.proofs.Apart.{fine_apart, seen_apart}
+use Rattle.life_picks.specs.turn_calls.declared.turn.Shared.{Shared}
+use Rattle.life_picks.specs.life_queue.Lives.{life_seen}
+use Rattle.life_picks.specs.life_queue.Fine.{FineLife, KeepsLife, tally}
+use Rattle.life_picks.proofs.LifeQueue.Apart.{fine_apart, seen_apart}
 use Rattle.slot_picks.specs.declared.crowd.Place.{Place}
 use Rattle.slot_picks.specs.Places.{FewPlace, FewPlaces, FinePlace, FinePlaces, lent, seen_at, seens_from}
 

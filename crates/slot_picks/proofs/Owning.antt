@@ -6,9 +6,9 @@ use Rattle.std.specs.declared.vec.Vec.{Vec}
 use Rattle.js_image.specs.Held.{IsConfined}
 use Rattle.js_names.specs.declared.code.Code.{Code}
 use Rattle.js_names.specs.Code.{trees_of}
-use Rattle.turn_calls.specs.declared.turn.Shared.{Shared}
-use Rattle.life_queue.specs.Fine.{FineTurn, KeepsLife}
-use Rattle.life_queue.proofs.Apart.{holds_apart, turn_apart}
+use Rattle.life_picks.specs.turn_calls.declared.turn.Shared.{Shared}
+use Rattle.life_picks.specs.life_queue.Fine.{FineTurn, KeepsLife}
+use Rattle.life_picks.proofs.LifeQueue.Apart.{holds_apart, turn_apart}
 use Rattle.slot_picks.specs.declared.crowd.Place.{Place}
 use Rattle.slot_picks.specs.Places.{OwnPlace, OwnPlaces, lent}
 

@@ -10,7 +10,7 @@ use Rattle.page_tree.specs.declared.page.Page.{Page}
 use Rattle.page_image.specs.Image.{owns}
 use Rattle.js_image.specs.Held.{IsHeld}
 use Rattle.js_image.specs.Image.{seen}
-use Rattle.native_image.specs.Sound.{IsOwnCell}
+use Rattle.turn_runs.specs.native_image.Sound.{IsOwnCell}
 use Rattle.turn_runs.specs.declared.level.Hearing.{Hearing}
 use Rattle.turn_runs.specs.Held.{FineHearing}
 use Rattle.turn_runs.specs.Levels.{functions_of}

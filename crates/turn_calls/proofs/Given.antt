@@ -7,7 +7,7 @@ use Rattle.page_tree.specs.declared.page.Page.{Page}
 use Rattle.event_loop.specs.declared.around.Loop.{Loop}
 use Rattle.js_flow.specs.declared.job.Completion.{Completion}
 use Rattle.js_flow.specs.Views.{completion_of}
-use Rattle.native_image.specs.Image.{Outside}
+use Rattle.turn_runs.specs.native_image.Image.{Outside}
 use Rattle.turn_runs.specs.declared.level.Level.{Level}
 use Rattle.turn_runs.specs.Levels.{levels_rest}
 use Rattle.turn_calls.specs.declared.calls.Calls.{Calls}

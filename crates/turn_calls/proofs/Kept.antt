@@ -4,8 +4,8 @@ use Rattle.js_tree.specs.Forest.{Forest}
 use Rattle.store_cells.specs.Cells.{Cells}
 use Rattle.page_tree.specs.declared.page.Page.{Page}
 use Rattle.js_image.specs.Held.{Kept}
-use Rattle.native_image.proofs.Joint.{keeps_of, sound_stays}
-use Rattle.native_image.proofs.Keeping.{store_same, store_then}
+use Rattle.turn_runs.proofs.NativeImage.Joint.{keeps_of, sound_stays}
+use Rattle.turn_runs.proofs.NativeImage.Keeping.{store_same, store_then}
 use Rattle.turn_calls.specs.Took.{StaysSound}
 
 -- nothing changed

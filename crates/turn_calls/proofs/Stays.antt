@@ -21,9 +21,9 @@ use Rattle.js_image.specs.Image.{meant, seen}
 use Rattle.js_image.specs.Held.{IsHeld}
 use Rattle.js_image.proofs.Grown.{fine_stays, held_stays, seen_stays}
 use Rattle.js_flow.proofs.Stays.{frames_fine, rest_same}
-use Rattle.native_image.specs.Sound.{IsOwnCell}
+use Rattle.turn_runs.specs.native_image.Sound.{IsOwnCell}
 use Rattle.end_laws.specs.Ends.{ByValue}
-use Rattle.js_steps.proofs.Ending.{awaits_later}
+use Rattle.turn_runs.proofs.JsSteps.Ending.{awaits_later}
 use Rattle.turn_runs.specs.declared.level.Dispatch.{Dispatch}
 use Rattle.turn_runs.specs.declared.level.Hearing.{Hearing}
 use Rattle.turn_runs.specs.declared.level.Level.{Level}

@@ -20,7 +20,7 @@ use Rattle.js_image.specs.Image.{seen}
 use Rattle.js_flow.specs.declared.job.Completion.{Completion as Ended}
 use Rattle.js_flow.specs.declared.job.Completion.TheVariants as completion
 use Rattle.js_flow.specs.Views.{completion_of}
-use Rattle.native_image.specs.Image.{Outside, dispatches_of}
+use Rattle.turn_runs.specs.native_image.Image.{Outside, dispatches_of}
 use Rattle.turn_runs.specs.declared.level.Firing.{Firing}
 use Rattle.turn_runs.specs.declared.level.Hearing.{Hearing}
 use Rattle.turn_runs.specs.declared.level.Level.{Level}

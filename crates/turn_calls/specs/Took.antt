@@ -13,9 +13,9 @@ use Rattle.js_image.specs.Plans.{meant_cause}
 use Rattle.js_flow.specs.declared.job.Completion.{Completion}
 use Rattle.js_flow.specs.Views.{completion_of}
 use Rattle.js_flow.specs.Todo.{todo}
-use Rattle.js_steps.specs.Ending.{FineEnd}
-use Rattle.native_image.specs.Image.{Outside, beside, image}
-use Rattle.native_image.specs.Sound.{IsSound, KeepsStore}
+use Rattle.turn_runs.specs.js_steps.Ending.{FineEnd}
+use Rattle.turn_runs.specs.native_image.Image.{Outside, beside, image}
+use Rattle.turn_runs.specs.native_image.Sound.{IsSound, KeepsStore}
 use Rattle.turn_calls.specs.declared.calls.Calls.{Calls}
 use Rattle.turn_calls.specs.declared.calls.Took.{Took}
 use Rattle.turn_calls.specs.declared.calls.Took.TheVariants as took

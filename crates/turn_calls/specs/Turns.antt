@@ -5,7 +5,7 @@ use Rattle.store_cells.specs.Cells.{Cells}
 use Rattle.widget_meaning.specs.OwnState.{State}
 use Rattle.page_tree.specs.declared.page.Page.{Page}
 use Rattle.event_loop.specs.declared.around.Loop.{Loop}
-use Rattle.native_image.specs.Image.{Outside, beside, image}
+use Rattle.turn_runs.specs.native_image.Image.{Outside, beside, image}
 
 -- what no native of the page sees: the dispatches around the innermost one among it
 abbrev pub outside_of : Outside → List Bool → Outside

@@ -8,7 +8,7 @@ use Rattle.page_image.specs.Image.{owns}
 use Rattle.js_image.specs.Held.{IsFine, IsHeld}
 use Rattle.end_laws.specs.Ends.{ByValue}
 use Rattle.js_flow.specs.Fine.{FineFrames}
-use Rattle.js_steps.specs.Ending.{Awaits}
+use Rattle.turn_runs.specs.js_steps.Ending.{Awaits}
 use Rattle.turn_runs.specs.declared.level.Firing.{Firing}
 use Rattle.turn_runs.specs.declared.level.Level.{Level}
 use Rattle.turn_runs.specs.declared.level.Level.TheVariants as level

@@ -3,8 +3,8 @@
 use event_loop::Loop;
 use js_flow::Completion;
 use js_image::StopCause;
-use js_steps::Task;
 use page_tree::Page;
+use turn_runs::js_steps::Task;
 use turn_runs::{Hearing, Level};
 
 /// Where a turn goes on: a widget by its number, the page, and what is kept for the widget beside it.

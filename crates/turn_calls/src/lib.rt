@@ -11,3 +11,7 @@ pub use calls::{Calls, Site};
 pub use giving::give;
 pub use taking::call_handler;
 pub use turn::{Shared, Turn, Widget};
+
+// Handed on to the crates above, which name it so.
+pub use turn_runs;
+pub use turn_runs::js_steps;

@@ -12,3 +12,6 @@ pub use hearing::hear;
 pub use level::{Dispatch, Doing, Firing, Heard, Hearing, Level};
 pub use opening::open_script;
 pub use searching::{listeners, search};
+
+// Handed on to the crates above, which name it so.
+pub use js_steps;

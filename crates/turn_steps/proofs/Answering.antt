@@ -23,16 +23,16 @@ use Rattle.js_flow.specs.Frames.{rest}
 use Rattle.js_flow.specs.Todo.{Moves}
 use Rattle.js_flow.specs.Views.{completion_of}
 use Rattle.js_image.specs.Image.{seen}
-use Rattle.js_steps.specs.declared.task.Task.{Task}
+use Rattle.turn_calls.specs.js_steps.declared.task.Task.{Task}
 use Rattle.js_values.specs.Answers.{Goes, Leaves}
 use Rattle.js_values.proofs.Answered.{goes_then}
 use Rattle.js_values.specs.declared.outcome.NativeOut.{NativeOut}
 use Rattle.js_values.specs.declared.outcome.NativeOut.TheVariants as native
 use Rattle.js_values.specs.declared.outcome.Plan.TheVariants as calls
-use Rattle.turn_runs.specs.declared.level.Firing.{Firing}
-use Rattle.turn_runs.specs.declared.level.Level.{Level}
-use Rattle.turn_runs.specs.declared.level.Level.TheVariants as level
-use Rattle.turn_runs.specs.Levels.{levels_rest}
+use Rattle.turn_calls.specs.turn_runs.declared.level.Firing.{Firing}
+use Rattle.turn_calls.specs.turn_runs.declared.level.Level.{Level}
+use Rattle.turn_calls.specs.turn_runs.declared.level.Level.TheVariants as level
+use Rattle.turn_calls.specs.turn_runs.Levels.{levels_rest}
 use Rattle.turn_calls.specs.Weights.{level_free, levels_free}
 use Rattle.std.specs.Global.{Box}
 use Rattle.store_cells.specs.Cells.{Cells}
@@ -42,15 +42,15 @@ use Rattle.js_flow.specs.Fine.{FineFrames}
 use Rattle.js_flow.specs.Free.{frames_free, free, native_free}
 use Rattle.js_flow.specs.Todo.{after_step}
 use Rattle.end_laws.specs.Ends.{ByValue}
-use Rattle.js_steps.specs.Answered.{IsFineAfter, machine, remaining_after}
-use Rattle.js_steps.specs.Ending.{Awaits}
-use Rattle.js_steps.specs.declared.answer.Stepped.{Stepped}
+use Rattle.turn_calls.specs.js_steps.Answered.{IsFineAfter, machine, remaining_after}
+use Rattle.turn_calls.specs.js_steps.Ending.{Awaits}
+use Rattle.turn_calls.specs.js_steps.declared.answer.Stepped.{Stepped}
 use Rattle.native_image.specs.Image.{Outside, beside}
 use Rattle.native_image.proofs.Joint.{rest as outside_rest, store_lift}
 use Rattle.natives.specs.Reach.{with_notes}
-use Rattle.turn_runs.specs.declared.level.Doing.{Doing}
-use Rattle.turn_runs.specs.Held.{FineDoing}
-use Rattle.turn_runs.specs.Levels.{turn_plan}
+use Rattle.turn_calls.specs.turn_runs.declared.level.Doing.{Doing}
+use Rattle.turn_calls.specs.turn_runs.Held.{FineDoing}
+use Rattle.turn_calls.specs.turn_runs.Levels.{turn_plan}
 use Rattle.turn_calls.specs.declared.calls.Calls.{Calls}
 use Rattle.turn_calls.specs.Turns.{bubbled_of, outside_of, turn_image}
 use Rattle.turn_calls.specs.Waiting.{FineFiring, FineLevels}

@@ -2,7 +2,7 @@
 use Rattle.std.proofs.Common.{◌≡◌, ℕ, ◌-◌, ◌≤◌, Bool, true, false, arith, refl, subst, sym}
 use Rattle.std.specs.Prelude.{if◌then◌else◌}
 use Rattle.widget_meaning.specs.Meaning.{run_plan}
-use Rattle.js_steps.specs.declared.answer.Stop.TheVariants as stop
+use Rattle.turn_calls.specs.js_steps.declared.answer.Stop.TheVariants as stop
 use Rattle.js_values.specs.Answers.{out_of_fuel}
 use Rattle.native_image.specs.Image.{Outside}
 use Rattle.life_laws.specs.Life.{Fixed, Runs}

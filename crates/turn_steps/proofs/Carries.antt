@@ -19,9 +19,9 @@ use Rattle.js_flow.specs.Todo.{Moves}
 use Rattle.js_flow.proofs.Stays.{frames_fine, rest_same}
 use Rattle.js_names.specs.Code.{trees_of}
 use Rattle.end_laws.specs.Ends.{ByValue}
-use Rattle.js_steps.specs.declared.task.Task.{Task}
-use Rattle.js_steps.specs.Ending.{Awaits}
-use Rattle.js_steps.proofs.Ending.{awaits_later}
+use Rattle.turn_calls.specs.js_steps.declared.task.Task.{Task}
+use Rattle.turn_calls.specs.js_steps.Ending.{Awaits}
+use Rattle.turn_calls.proofs.JsSteps.Ending.{awaits_later}
 use Rattle.js_values.specs.Answers.{Goes, IsOutOfFuel, Lacks, out_of_fuel}
 use Rattle.js_values.specs.Fuel.{Fuel}
 use Rattle.js_values.specs.declared.outcome.NativeOut.{NativeOut}
@@ -29,11 +29,11 @@ use Rattle.js_values.specs.declared.outcome.NativeOut.TheVariants as native
 use Rattle.native_image.specs.Image.{Outside}
 use Rattle.native_image.specs.Sound.{KeepsAll}
 use Rattle.std.specs.Global.{Box}
-use Rattle.turn_runs.specs.declared.level.Doing.{Doing}
-use Rattle.turn_runs.specs.declared.level.Doing.TheVariants as doing
-use Rattle.turn_runs.specs.declared.level.Level.{Level}
-use Rattle.turn_runs.specs.Held.{FineDoing}
-use Rattle.turn_runs.specs.Levels.{levels_rest, turn_plan}
+use Rattle.turn_calls.specs.turn_runs.declared.level.Doing.{Doing}
+use Rattle.turn_calls.specs.turn_runs.declared.level.Doing.TheVariants as doing
+use Rattle.turn_calls.specs.turn_runs.declared.level.Level.{Level}
+use Rattle.turn_calls.specs.turn_runs.Held.{FineDoing}
+use Rattle.turn_calls.specs.turn_runs.Levels.{levels_rest, turn_plan}
 use Rattle.turn_calls.specs.declared.calls.Calls.{Calls}
 use Rattle.turn_calls.specs.declared.turn.Shared.{Shared}
 use Rattle.turn_calls.specs.declared.turn.Widget.{Widget}

@@ -5,18 +5,18 @@ use Rattle.widget_meaning.specs.Plan.{and_then}
 use Rattle.js_image.specs.Held.{Kept}
 use Rattle.js_image.specs.Image.{Rest, image}
 use Rattle.js_flow.specs.Todo.{Moves, after_step}
-use Rattle.js_steps.specs.declared.answer.Stepped.{Stepped}
-use Rattle.js_steps.specs.declared.answer.Stepped.TheVariants as stepped
-use Rattle.js_steps.specs.declared.answer.Stop.TheVariants as stop
-use Rattle.js_steps.specs.declared.task.Task.{Task}
-use Rattle.js_steps.specs.Answered.{IsFuelStop, machine, remaining, remaining_after}
+use Rattle.turn_calls.specs.js_steps.declared.answer.Stepped.{Stepped}
+use Rattle.turn_calls.specs.js_steps.declared.answer.Stepped.TheVariants as stepped
+use Rattle.turn_calls.specs.js_steps.declared.answer.Stop.TheVariants as stop
+use Rattle.turn_calls.specs.js_steps.declared.task.Task.{Task}
+use Rattle.turn_calls.specs.js_steps.Answered.{IsFuelStop, machine, remaining, remaining_after}
 use Rattle.page_image.specs.Image.{owns}
 use Rattle.native_image.specs.Sound.{IsSound}
 use Rattle.native_image.specs.Image.{Outside, beside}
 use Rattle.native_image.proofs.Joint.{rest, sound_grows, store_lift}
 use Rattle.natives.specs.Reach.{with_notes}
-use Rattle.turn_runs.specs.declared.level.Doing.{Doing}
-use Rattle.turn_runs.specs.Levels.{levels_rest, turn_plan}
+use Rattle.turn_calls.specs.turn_runs.declared.level.Doing.{Doing}
+use Rattle.turn_calls.specs.turn_runs.Levels.{levels_rest, turn_plan}
 use Rattle.turn_calls.specs.declared.calls.Calls.{Calls}
 use Rattle.turn_calls.specs.declared.turn.Shared.{Shared}
 use Rattle.turn_calls.specs.declared.turn.Widget.{Widget}

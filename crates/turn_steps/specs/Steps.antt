@@ -10,19 +10,19 @@ use Rattle.js_flow.specs.declared.job.Completion.{Completion}
 use Rattle.js_flow.specs.Free.{free}
 use Rattle.js_flow.specs.Todo.{Moves, after_step}
 use Rattle.js_flow.specs.Views.{completion_of}
-use Rattle.js_steps.specs.declared.answer.Stepped.{Stepped}
-use Rattle.js_steps.specs.declared.answer.Stepped.TheVariants as stepped
-use Rattle.js_steps.specs.declared.answer.Stop.TheVariants as stop
-use Rattle.js_steps.specs.declared.task.Task.{Task}
-use Rattle.js_steps.specs.Answered.{IsFineAfter, machine}
+use Rattle.turn_calls.specs.js_steps.declared.answer.Stepped.{Stepped}
+use Rattle.turn_calls.specs.js_steps.declared.answer.Stepped.TheVariants as stepped
+use Rattle.turn_calls.specs.js_steps.declared.answer.Stop.TheVariants as stop
+use Rattle.turn_calls.specs.js_steps.declared.task.Task.{Task}
+use Rattle.turn_calls.specs.js_steps.Answered.{IsFineAfter, machine}
 use Rattle.js_values.specs.Answers.{out_of_fuel}
 use Rattle.js_values.specs.Fuel.{Fuel}
 use Rattle.native_image.specs.Image.{Outside}
-use Rattle.turn_runs.specs.declared.level.Doing.{Doing}
-use Rattle.turn_runs.specs.declared.level.Doing.TheVariants as doing
-use Rattle.turn_runs.specs.declared.level.Hearing.{Hearing}
-use Rattle.turn_runs.specs.Held.{FineDoing, FineHearing}
-use Rattle.turn_runs.specs.Levels.{hearing_of, levels_rest, turn_plan}
+use Rattle.turn_calls.specs.turn_runs.declared.level.Doing.{Doing}
+use Rattle.turn_calls.specs.turn_runs.declared.level.Doing.TheVariants as doing
+use Rattle.turn_calls.specs.turn_runs.declared.level.Hearing.{Hearing}
+use Rattle.turn_calls.specs.turn_runs.Held.{FineDoing, FineHearing}
+use Rattle.turn_calls.specs.turn_runs.Levels.{hearing_of, levels_rest, turn_plan}
 use Rattle.turn_calls.specs.declared.calls.Calls.{Calls}
 use Rattle.turn_calls.specs.Turns.{turn_image}
 use Rattle.turn_calls.specs.Waiting.{FineLevels}

@@ -10,14 +10,14 @@ use Rattle.js_image.specs.Plans.{meant_cause}
 use Rattle.js_names.specs.Code.{trees_of}
 use Rattle.js_flow.specs.Views.{completion_of}
 use Rattle.js_flow.specs.Fine.{FineCompletion}
-use Rattle.js_steps.specs.declared.answer.Stop.TheVariants as stop
+use Rattle.turn_calls.specs.js_steps.declared.answer.Stop.TheVariants as stop
 use Rattle.native_image.specs.Image.{Outside}
 use Rattle.native_image.specs.Sound.{IsSound}
 use Rattle.natives.specs.Reach.{with_notes}
 use Rattle.life_laws.specs.Life as life
 use Rattle.life_laws.specs.Life.{Fixed}
-use Rattle.turn_runs.specs.Held.{FineDoing}
-use Rattle.turn_runs.specs.Levels.{turn_plan}
+use Rattle.turn_calls.specs.turn_runs.Held.{FineDoing}
+use Rattle.turn_calls.specs.turn_runs.Levels.{turn_plan}
 use Rattle.turn_calls.specs.Turns.{turn_image}
 use Rattle.turn_calls.specs.Waiting.{FineLevels}
 use Rattle.turn_calls.specs.declared.turn.Shared.{Shared}

@@ -12,10 +12,10 @@ ghost use Rattle.turn_steps.specs.Turning.{FineEnd, FineTurn, FineWidget, forest
 use crate::moving::move_on;
 use crate::turn::{Ran, TurnEnd};
 use code_units::Memory;
-use js_steps::Stop;
 use std::alloc::Global;
+use turn_calls::js_steps::Stop;
+use turn_calls::turn_runs::Doing;
 use turn_calls::{Shared, Turn, Widget};
-use turn_runs::Doing;
 
 // Whether a turn is not over.
 fn is_open(doing: &Doing) -> bool

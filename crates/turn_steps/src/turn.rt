@@ -1,8 +1,8 @@
 //! How turns end.
 
 use js_flow::Completion;
-use js_steps::Stop;
 use turn_calls::Turn;
+use turn_calls::js_steps::Stop;
 
 /// How a turn ended: by how its last call ended, or by a stop.
 #[derive(Drop)]

@@ -10,13 +10,13 @@ use Rattle.life_laws.specs.Life.{Seen, due, image, ready}
 use Rattle.pick_laws.specs.Journal.{AllJoined}
 use Rattle.slot_laws.specs.Chains.{Chains, Rest, Unspent, listed}
 use Rattle.slot_laws.specs.Settled.{flag}
-use Rattle.turn_calls.specs.declared.turn.Shared.{Shared}
-use Rattle.slot_picks.specs.declared.crowd.Place.{Place}
-use Rattle.life_queue.specs.Lives.{life_seen}
-use Rattle.slot_picks.specs.Places.{FewPlace, FewPlaces, FinePlace, FinePlaces, OwnPlaces, accepts_of, homes_of, is_accepted, lent, seen_at, seens_from}
-use Rattle.slot_picks.specs.declared.slots.Slot.{Slot}
-use Rattle.slot_picks.specs.declared.crowd.Crowd.{Crowd}
-use Rattle.slot_picks.specs.Crowds.{AreHoused, chains_of, seens_of}
+use Rattle.page_load.specs.turn_calls.declared.turn.Shared.{Shared}
+use Rattle.page_load.specs.slot_picks.declared.crowd.Place.{Place}
+use Rattle.page_load.specs.life_queue.Lives.{life_seen}
+use Rattle.page_load.specs.slot_picks.Places.{FewPlace, FewPlaces, FinePlace, FinePlaces, OwnPlaces, accepts_of, homes_of, is_accepted, lent, seen_at, seens_from}
+use Rattle.page_load.specs.slot_picks.declared.slots.Slot.{Slot}
+use Rattle.page_load.specs.slot_picks.declared.crowd.Crowd.{Crowd}
+use Rattle.page_load.specs.slot_picks.Crowds.{AreHoused, chains_of, seens_of}
 use Rattle.page_build.specs.Layout as layout
 use Rattle.page_build.specs.Layout.{home_of}
 use Rattle.page_spec.specs.declared.SlotContent.{SlotContent}

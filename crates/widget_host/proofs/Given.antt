@@ -9,16 +9,16 @@ use Rattle.pick_laws.specs.Journal.{AllJoined}
 use Rattle.pick_laws.proofs.Given.{joined_given}
 use Rattle.slot_laws.specs.Chains.{Chains, Rest, Unspent}
 use Rattle.slot_laws.proofs.Housing.{unspent_given}
-use Rattle.turn_calls.specs.declared.turn.Shared.{Shared}
-use Rattle.slot_picks.specs.declared.crowd.Place.{Place}
-use Rattle.life_queue.specs.Lives as lives
-use Rattle.life_queue.specs.Fine.{FineWork}
+use Rattle.page_load.specs.turn_calls.declared.turn.Shared.{Shared}
+use Rattle.page_load.specs.slot_picks.declared.crowd.Place.{Place}
+use Rattle.page_load.specs.life_queue.Lives as lives
+use Rattle.page_load.specs.life_queue.Fine.{FineWork}
 use Rattle.page_build.specs.Homes.{HaveRaws}
 use Rattle.page_build.specs.Layout as layout
 use Rattle.page_load.specs.Loads.{HasNothing}
-use Rattle.slot_picks.specs.Places.{FewPlaces, FinePlaces, OwnPlaces, homes_of, is_accepted, seens_from}
-use Rattle.slot_picks.specs.Crowds.{FewCrowd, FineCrowd, PageStays, chains_of, seens_of}
-use Rattle.slot_picks.proofs.Keeping.{page_here}
+use Rattle.page_load.specs.slot_picks.Places.{FewPlaces, FinePlaces, OwnPlaces, homes_of, is_accepted, seens_from}
+use Rattle.page_load.specs.slot_picks.Crowds.{FewCrowd, FineCrowd, PageStays, chains_of, seens_of}
+use Rattle.page_load.proofs.SlotPicks.Keeping.{page_here}
 use Rattle.widget_host.specs.declared.host.Host.{Host}
 use Rattle.widget_host.specs.declared.items.HostItem.{HostItem}
 use Rattle.widget_host.specs.declared.items.HostItem.TheVariants as host

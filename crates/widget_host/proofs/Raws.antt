@@ -9,8 +9,8 @@ use Rattle.page_image.specs.Image.{own, owns}
 use Rattle.page_image.proofs.Looks.{number_low}
 use Rattle.native_image.specs.Sound.{HasRaw}
 use Rattle.page_build.specs.Homes.{HaveRaws}
-use Rattle.slot_picks.specs.declared.crowd.Crowd.{Crowd}
-use Rattle.slot_picks.specs.Crowds.{FineCrowd, HostGetsNone, KeepsCrowd}
+use Rattle.page_load.specs.slot_picks.declared.crowd.Crowd.{Crowd}
+use Rattle.page_load.specs.slot_picks.Crowds.{FineCrowd, HostGetsNone, KeepsCrowd}
 use Rattle.widget_host.specs.declared.host.Host.{Host}
 use Rattle.widget_host.specs.Housed.{IsApart, accepts}
 use Rattle.widget_host.proofs.Shown.{fine_at, life_accepted}

@@ -15,10 +15,10 @@ use Rattle.page_image.specs.Image.{HasRoot}
 use Rattle.native_image.specs.Sound.{HasRaw}
 use Rattle.js_image.specs.Held.{IsConfined}
 use Rattle.life_laws.specs.Life.{Going, Seen, image, shown}
-use Rattle.turn_calls.specs.declared.turn.Shared.{Shared}
-use Rattle.slot_picks.specs.declared.crowd.Place.{Place}
-use Rattle.life_queue.specs.Lives.{going_of, life_seen, own_of}
-use Rattle.slot_picks.specs.Places.{HoldsItsOwn, accepts_of, codes_of, lent}
+use Rattle.page_load.specs.turn_calls.declared.turn.Shared.{Shared}
+use Rattle.page_load.specs.slot_picks.declared.crowd.Place.{Place}
+use Rattle.page_load.specs.life_queue.Lives.{going_of, life_seen, own_of}
+use Rattle.page_load.specs.slot_picks.Places.{HoldsItsOwn, accepts_of, codes_of, lent}
 use Rattle.widget_host.specs.declared.host.Host.{Host}
 use Rattle.widget_host.specs.Housed.{IsHoused, accepts, own_trees, scripts, seens}
 use Rattle.widget_host.specs.Shapes.{HasOneRaw, IsReadOff, cells_of_host, cells_of_widgets}

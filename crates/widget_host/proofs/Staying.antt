@@ -10,10 +10,10 @@ use Rattle.object_store.specs.Owned.{Owned}
 use Rattle.page_build.specs.Layout as layout
 use Rattle.page_build.proofs.Laid.{laid_stays}
 use Rattle.page_spec.specs.Pages.{PagePiece}
-use Rattle.slot_picks.specs.declared.crowd.Crowd.{Crowd}
-use Rattle.slot_picks.specs.Crowds.{KeepsCrowd}
-use Rattle.slot_picks.specs.Places.{is_accepted}
-use Rattle.slot_picks.proofs.Keeping.{page_here, page_then}
+use Rattle.page_load.specs.slot_picks.declared.crowd.Crowd.{Crowd}
+use Rattle.page_load.specs.slot_picks.Crowds.{KeepsCrowd}
+use Rattle.page_load.specs.slot_picks.Places.{is_accepted}
+use Rattle.page_load.proofs.SlotPicks.Keeping.{page_here, page_then}
 use Rattle.widget_host.specs.declared.host.Host.{Host}
 use Rattle.widget_host.specs.Housed.{IsApart, IsLaid, KeepsHost, accepts, channels, homes, rooted, scripts, shared, swaps}
 

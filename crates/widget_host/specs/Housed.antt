@@ -12,15 +12,15 @@ use Rattle.js_image.specs.Plans.{meant_cause}
 use Rattle.life_laws.specs.Life.{Seen, due, image}
 use Rattle.pick_laws.specs.declared.entry.PickEntry.{PickEntry}
 use Rattle.slot_laws.specs.Chains.{Unspent, last_life, last_at}
-use Rattle.slot_picks.specs.Places.{codes_of, homes_of, is_accepted}
-use Rattle.slot_picks.specs.declared.crowd.Place.{Place}
-use Rattle.slot_picks.specs.Crowds.{AreHoused, FewCrowd, OwnCrowd, PageStays, chains_of, seens_of}
+use Rattle.page_load.specs.slot_picks.Places.{codes_of, homes_of, is_accepted}
+use Rattle.page_load.specs.slot_picks.declared.crowd.Place.{Place}
+use Rattle.page_load.specs.slot_picks.Crowds.{AreHoused, FewCrowd, OwnCrowd, PageStays, chains_of, seens_of}
 use Rattle.widget_meaning.specs.Values as meaning
 use Rattle.widget_meaning.specs.OwnState.{OwnState}
 use Rattle.widget_meaning.specs.Items.{Item, Occurs, Advance, item}
 use Rattle.widget_meaning.specs.Alone.{Content, beginning, loaded}
-use Rattle.turn_calls.specs.declared.turn.Shared.{Shared}
-use Rattle.life_queue.specs.Lives.{event_of}
+use Rattle.page_load.specs.turn_calls.declared.turn.Shared.{Shared}
+use Rattle.page_load.specs.life_queue.Lives.{event_of}
 use Rattle.page_spec.specs.declared.PageSpec.{PageSpec}
 use Rattle.page_spec.specs.declared.SlotSpec.{SlotSpec}
 use Rattle.page_spec.specs.Contents.{content_of}

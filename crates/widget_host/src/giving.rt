@@ -1,18 +1,18 @@
 //! An item goes to the lives that it is for.
 ghost use Rattle.std.specs.Prelude.{◌≡◌, ℕ, ◌<◌, ◌≤◌, IsErr, OnErr, OnOk, false, length, nat_eq, true};
 ghost use Rattle.std.specs.List.{list_any};
-ghost use Rattle.life_queue.specs.declared.life.Work.TheVariants as work;
+ghost use Rattle.page_load.specs.life_queue.declared.life.Work.TheVariants as work;
 ghost use Rattle.slot_laws.specs.Chains.{Chains, last_life};
-ghost use Rattle.slot_picks.specs.Crowds.{chains_of};
-ghost use Rattle.slot_picks.specs.Places.{homes_of};
+ghost use Rattle.page_load.specs.slot_picks.Crowds.{chains_of};
+ghost use Rattle.page_load.specs.slot_picks.Places.{homes_of};
 ghost use Rattle.widget_host.specs.Feeding.{AreFed, AreSame, IsFed, IsSame, work_of};
 ghost use Rattle.widget_host.specs.Housed.{GivesItem, IsHoused, IsItem, KeepsHost, chains, given, is_for, marked};
 
 use crate::host::Host;
 use crate::items::HostItem;
 use code_units::Memory;
-use life_queue::Work;
-use slot_picks::{Place, Slot};
+use page_load::life_queue::Work;
+use page_load::slot_picks::{Place, Slot};
 
 // The life that is last in a slot.
 fn last_of(slot: &[u32]) -> u32

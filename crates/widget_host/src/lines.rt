@@ -1,16 +1,17 @@
 //! What a life did.
 ghost use Rattle.std.specs.Prelude.{◌≡◌, ◌<◌, ℕ, IfOk, IsErr, Some, true, option_map, slice_get, length};
 ghost use Rattle.life_laws.specs.Life.{Seen, image};
-ghost use Rattle.life_queue.specs.Lives as life;
-ghost use Rattle.life_queue.specs.Lives.{life_seen};
-ghost use Rattle.turn_calls.specs.declared.turn.Shared.{Shared as SharedOf};
+ghost use Rattle.page_load.specs.life_queue.Lives as life;
+ghost use Rattle.page_load.specs.life_queue.Lives.{life_seen};
+ghost use Rattle.page_load.specs.turn_calls.declared.turn.Shared.{Shared as SharedOf};
 ghost use Rattle.widget_host.specs.Housed.{IsHoused, IsLineOf, accepts, chains, marked, meant_stop, present, seens};
 
 use crate::host::Host;
 use code_units::{Memory, Text};
 use js_image::StopCause;
-use life_queue::Life;
-use slot_picks::{present, spent_at};
+use page_load::js_steps;
+use page_load::life_queue::Life;
+use page_load::slot_picks::{present, spent_at};
 use std::alloc::Global;
 
 /// Why a life has stopped: a turn had no fuel left, or a limit would have been passed.

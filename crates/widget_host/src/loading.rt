@@ -1,14 +1,14 @@
 //! A page becomes a host.
 ghost use Rattle.std.specs.Prelude.{◌≡◌, ◌≤◌, ◌∷◌, [], IfOk};
-ghost use Rattle.slot_picks.specs.Crowds.{chains_of};
+ghost use Rattle.page_load.specs.slot_picks.Crowds.{chains_of};
 ghost use Rattle.widget_host.specs.Housed.{Loads, singles};
 
 use crate::host::Host;
 use code_units::Memory;
 use keyed_names::Keys;
+use page_load::slot_picks::{Crowd, Slot};
 use page_load::{Loaded, load_page};
 use page_spec::PageSpec;
-use slot_picks::{Crowd, Slot};
 use std::alloc::Global;
 use std::collections::VecDeque;
 

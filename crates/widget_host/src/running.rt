@@ -6,15 +6,15 @@ ghost use Rattle.life_laws.specs.Life.{due, image};
 ghost use Rattle.pick_laws.specs.Journal.{ready_from};
 ghost use Rattle.slot_laws.specs.Chains.{PickedIn, last_life};
 ghost use Rattle.slot_laws.specs.Settled.{SettledSlots, slot_flags};
-ghost use Rattle.slot_picks.specs.Crowds.{HostGetsNone};
+ghost use Rattle.page_load.specs.slot_picks.Crowds.{HostGetsNone};
 ghost use Rattle.widget_host.specs.declared.host.Host.{Host as HostOf};
 ghost use Rattle.widget_host.specs.Housed.{GivesItem, IsHoused, IsItem, KeepsHost, chains, dues_after, given, homes, journal, marked, seens, shared};
 
 use crate::host::Host;
 use crate::items::HostItem;
 use code_units::Memory;
+use page_load::slot_picks::{pick_slot, settle_slots};
 use pick_laws::Picked;
-use slot_picks::{pick_slot, settle_slots};
 use std::alloc::Global;
 use turn_sched::Chooser;
 

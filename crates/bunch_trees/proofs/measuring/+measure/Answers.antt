@@ -6,7 +6,7 @@ use Rattle.page_nodes.specs.Entries.{at}
 use Rattle.page_tree.specs.Pages.{nodes}
 use Rattle.page_image.proofs.Looks.{label_at}
 use Rattle.native_forms.specs.Numbers.{counted}
-use Rattle.native_image.proofs.Lists.{element_in, take_whole}
+use Rattle.bunch_marks.proofs.NativeImage.Lists.{element_in, take_whole}
 use Rattle.bunch_read.proofs.Content.{lower, own_tree}
 use Rattle.bunch_read.proofs.Reading.{add_counted, first_counted, more_counted}
 use Rattle.bunch_trees.specs.Appends.{label_units}

@@ -3,7 +3,7 @@ use Rattle.std.proofs.lemmas.List.Sums.{sum_by_more}
 use Rattle.plain_tree.specs.Trees.{size}
 use Rattle.widget_meaning.specs.PageForms.{tree_units}
 use Rattle.native_forms.specs.Numbers.{counted}
-use Rattle.native_image.proofs.Lists.{element_in, take_whole}
+use Rattle.bunch_marks.proofs.NativeImage.Lists.{element_in, take_whole}
 use Rattle.bunch_read.proofs.Content.{own_tree}
 use Rattle.bunch_read.proofs.Reading.{more_counted}
 use Rattle.bunch_trees.proofs.Measured.{over, sizes_are, units_are}

@@ -2,8 +2,8 @@ use Rattle.std.proofs.Common.{◌+◌, List, drop, sum_by, ◌∙◌, arith}
 use Rattle.std.proofs.lemmas.List.Sums.{sum_by-cons}
 use Rattle.store_cells.specs.declared.value.Value.{Value}
 use Rattle.std.proofs.lemmas.List.{at_drop_all}
-use Rattle.widget_meaning.specs.GlobalNatives.{units_read}
-use Rattle.js_image.specs.Image.{all_seen, seen}
+use Rattle.js_values.specs.widget_meaning.GlobalNatives.{units_read}
+use Rattle.js_values.specs.js_image.Image.{all_seen, seen}
 use Rattle.native_forms.proofs.Loops.{counted_all, counted_more, stepped}
 use Rattle.native_forms.proofs.arguments.all_units_read.Goals as goal
 

@@ -1,7 +1,7 @@
 use Rattle.std.proofs.Common.{◌≡◌, ℕ, ◌+◌, List, drop, sum_by}
 use Rattle.store_cells.specs.Cells.{PlainCell}
-use Rattle.widget_meaning.specs.GlobalNatives.{units_read}
-use Rattle.js_image.specs.Image.{all_seen}
+use Rattle.js_values.specs.widget_meaning.GlobalNatives.{units_read}
+use Rattle.js_values.specs.js_image.Image.{all_seen}
 use Rattle.native_forms.specs.Numbers.{counted}
 use Rattle.native_forms.proofs.arguments.all_units_read.Given as goal
 

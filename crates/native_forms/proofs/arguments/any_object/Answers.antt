@@ -2,8 +2,8 @@ use Rattle.std.proofs.Common.{◌+◌, drop, sym, ap, ◌∙◌}
 use Rattle.std.specs.Prelude.{◌||◌}
 use Rattle.std.specs.List.{list_any}
 use Rattle.std.proofs.lemmas.List.{at_drop_all}
-use Rattle.widget_meaning.specs.Values.{is_object}
-use Rattle.js_image.specs.Image.{all_seen}
+use Rattle.js_values.specs.widget_meaning.Values.{is_object}
+use Rattle.js_values.specs.js_image.Image.{all_seen}
 use Rattle.native_forms.proofs.Loops.{stepped}
 use Rattle.native_forms.proofs.arguments.any_object.Goals as goal
 

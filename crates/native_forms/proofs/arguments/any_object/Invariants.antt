@@ -1,8 +1,8 @@
 use Rattle.std.proofs.Common.{◌≡◌, ℕ, List, drop}
 use Rattle.std.specs.List.{list_any}
 use Rattle.store_cells.specs.Cells.{PlainCell}
-use Rattle.widget_meaning.specs.Values.{is_object}
-use Rattle.js_image.specs.Image.{all_seen}
+use Rattle.js_values.specs.widget_meaning.Values.{is_object}
+use Rattle.js_values.specs.js_image.Image.{all_seen}
 use Rattle.native_forms.proofs.arguments.any_object.Given as goal
 
 abbrev pub invariant-loop-v : goal.invariant-loop-v

@@ -2,8 +2,8 @@ use Rattle.std.proofs.Common.{◌+◌, drop, sym, ap, ◌∙◌}
 use Rattle.std.specs.Prelude.{◌||◌, nat_lt}
 use Rattle.std.specs.List.{list_any}
 use Rattle.std.proofs.lemmas.List.{at_drop_all}
-use Rattle.widget_meaning.specs.Limits.{max_text}
-use Rattle.widget_meaning.specs.NativeForms.{is_too_long}
+use Rattle.js_values.specs.widget_meaning.Limits.{max_text}
+use Rattle.js_values.specs.widget_meaning.NativeForms.{is_too_long}
 use Rattle.native_forms.proofs.Loops.{over_no, over_yes, stepped}
 use Rattle.native_forms.proofs.giving.any_long.Goals as goal
 

@@ -1,6 +1,6 @@
 use Rattle.std.proofs.Common.{◌≡◌, drop}
 use Rattle.std.specs.List.{list_any}
-use Rattle.widget_meaning.specs.NativeForms.{is_too_long}
+use Rattle.js_values.specs.widget_meaning.NativeForms.{is_too_long}
 use Rattle.native_forms.proofs.giving.any_long.Given as goal
 
 abbrev pub invariant-loop-part : goal.invariant-loop-part

@@ -1,7 +1,7 @@
 use Rattle.std.proofs.Common.{ap, ◌∙◌, subst}
-use Rattle.widget_meaning.specs.Costs.{give}
-use Rattle.js_image.specs.Image.{image}
-use Rattle.js_image.specs.Plans.{IsFineMade, made_plan}
+use Rattle.js_values.specs.widget_meaning.Costs.{give}
+use Rattle.js_values.specs.js_image.Image.{image}
+use Rattle.js_values.specs.js_image.Plans.{IsFineMade, made_plan}
 use Rattle.native_forms.proofs.giving.give_array.Goals as goal
 
 pub returns-in-Cell-clause-native : goal.returns-in-Cell-clause-native

@@ -1,6 +1,6 @@
 use Rattle.std.proofs.Common.{◌≡◌, ◌+◌, length, ap, arith}
-use Rattle.widget_meaning.specs.Values.{Text}
-use Rattle.widget_meaning.specs.Costs.{give, make_text}
+use Rattle.js_values.specs.widget_meaning.Values.{Text}
+use Rattle.js_values.specs.widget_meaning.Costs.{give, make_text}
 use Rattle.native_forms.specs.Numbers.{counted}
 use Rattle.native_forms.proofs.Meeting.{meets_charged}
 use Rattle.native_forms.proofs.giving.give_text.Goals as goal

@@ -1,13 +1,13 @@
 use Rattle.std.proofs.Common.{List, map, sum_by, length, sym, ap, ◌∙◌, subst, if◌then◌else◌}
 use Rattle.std.specs.List.{list_any}
 use Rattle.store_cells.specs.declared.value.Value.{Value}
-use Rattle.widget_meaning.specs.Values as meaning
-use Rattle.widget_meaning.specs.Plan.{Halt}
-use Rattle.widget_meaning.specs.Costs.{give}
-use Rattle.widget_meaning.specs.NativeForms.{is_too_long, make_array}
-use Rattle.widget_meaning.specs.NativeForms as forms
-use Rattle.js_image.specs.Held.{AreFine}
-use Rattle.js_image.specs.Image.{all_seen, image}
+use Rattle.js_values.specs.widget_meaning.Values as meaning
+use Rattle.js_values.specs.widget_meaning.Plan.{Halt}
+use Rattle.js_values.specs.widget_meaning.Costs.{give}
+use Rattle.js_values.specs.widget_meaning.NativeForms.{is_too_long, make_array}
+use Rattle.js_values.specs.widget_meaning.NativeForms as forms
+use Rattle.js_values.specs.js_image.Held.{AreFine}
+use Rattle.js_values.specs.js_image.Image.{all_seen, image}
 use Rattle.native_forms.proofs.Meeting.{ok_ends_same}
 use Rattle.native_forms.proofs.Seen.{texts_fine, texts_seen}
 use Rattle.native_forms.proofs.giving.give_texts.Goals as goal

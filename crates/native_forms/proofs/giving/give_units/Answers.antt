@@ -1,5 +1,5 @@
 use Rattle.std.proofs.Common.{ℕ, List, ◌∙◌, subst}
-use Rattle.widget_meaning.specs.NativeForms.{give_text}
+use Rattle.js_values.specs.widget_meaning.NativeForms.{give_text}
 use Rattle.native_forms.specs.Meets.{Meets}
 use Rattle.native_forms.proofs.giving.give_units.Goals as goal
 

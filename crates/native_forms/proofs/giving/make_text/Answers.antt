@@ -1,5 +1,5 @@
-use Rattle.widget_meaning.specs.Values.{Text}
-use Rattle.widget_meaning.specs.Costs.{give}
+use Rattle.js_values.specs.widget_meaning.Values.{Text}
+use Rattle.js_values.specs.widget_meaning.Costs.{give}
 use Rattle.native_forms.proofs.giving.make_text.Goals as goal
 
 pub returns-in-Done : goal.returns-in-Done

@@ -1,7 +1,7 @@
 use Rattle.std.proofs.Common.{None, true, refl, arith}
 use Rattle.js_names.specs.Code.{trees_of}
-use Rattle.turn_calls.specs.declared.turn.Shared.{Shared}
-use Rattle.life_queue.specs.declared.life.Life.{Life}
+use Rattle.slot_picks.specs.turn_calls.declared.turn.Shared.{Shared}
+use Rattle.slot_picks.specs.life_queue.declared.life.Life.{Life}
 use Rattle.page_load.proofs.Begun.{IsNew, begins_is, keeps_begun, raws_kept, unused_behind}
 use Rattle.page_load.proofs.lives.begin_life.Goals as goal
 

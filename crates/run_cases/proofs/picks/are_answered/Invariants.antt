@@ -1,5 +1,5 @@
 use Rattle.std.proofs.Common.{◌<◌, length}
-use Rattle.widget_host.specs.Housed.{IsHoused, chains}
+use Rattle.adhost_run.specs.widget_host.Housed.{IsHoused, chains}
 use Rattle.run_cases.proofs.picks.are_answered.Given as goal
 
 abbrev pub invariant-picks : goal.invariant-picks

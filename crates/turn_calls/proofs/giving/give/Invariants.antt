@@ -1,8 +1,8 @@
 use Rattle.std.proofs.Common.{◌≡◌, ◌≤◌, List}
 use Rattle.js_tree.specs.Forest.{Forest}
-use Rattle.js_steps.specs.Ending.{FineEnd}
+use Rattle.turn_runs.specs.js_steps.Ending.{FineEnd}
 use Rattle.js_flow.specs.Views.{completion_of}
-use Rattle.native_image.specs.Image.{Outside}
+use Rattle.turn_runs.specs.native_image.Image.{Outside}
 use Rattle.turn_calls.specs.Took.{StaysSound}
 use Rattle.turn_calls.specs.Waiting.{FineLevels}
 use Rattle.turn_runs.specs.Levels.{levels_rest}

@@ -1,8 +1,8 @@
 use Rattle.std.proofs.Common.{[], arith, ap, ◌∙◌, refl, subst}
 use Rattle.std.proofs.lemmas.Result.{IfOk-weaker}
 use Rattle.js_flow.specs.Views.{completion_of}
-use Rattle.native_image.specs.Image.{beside}
-use Rattle.native_image.proofs.Joint.{rest, store_lift}
+use Rattle.turn_runs.specs.native_image.Image.{beside}
+use Rattle.turn_runs.proofs.NativeImage.Joint.{rest, store_lift}
 use Rattle.turn_runs.specs.declared.level.Level.{Level}
 use Rattle.turn_runs.specs.Levels.{level_taken}
 use Rattle.turn_calls.specs.Took.{took_plan}

@@ -3,7 +3,7 @@ use Rattle.widget_meaning.specs.Dispatch.{bubble_on, search_from}
 use Rattle.js_image.specs.Image.{seen}
 use Rattle.widget_meaning.specs.Trees.{parent}
 use Rattle.page_image.specs.Image.{forest, number}
-use Rattle.native_image.specs.Image.{beside, image}
+use Rattle.turn_runs.specs.native_image.Image.{beside, image}
 use Rattle.turn_runs.specs.declared.level.Hearing.{Hearing}
 use Rattle.turn_runs.specs.Levels.{hearing_of}
 use Rattle.turn_calls.proofs.taking.end_dispatch.Goals as goal

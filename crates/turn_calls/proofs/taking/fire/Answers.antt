@@ -3,7 +3,7 @@ use Rattle.std.specs.Prelude.{Some, get_or}
 use Rattle.widget_meaning.specs.Values.{Undefined}
 use Rattle.widget_meaning.specs.Dispatch.{search_from}
 use Rattle.page_image.specs.Image.{number, owns}
-use Rattle.native_image.specs.Image.{beside, image}
+use Rattle.turn_runs.specs.native_image.Image.{beside, image}
 use Rattle.turn_calls.proofs.Arms.{node_own, same_at}
 use Rattle.turn_calls.proofs.taking.fire.Goals as goal
 

@@ -2,8 +2,8 @@ use Rattle.std.proofs.Common.{ℕ, ◌<◌, ap, ◌∙◌, refl, subst, sym}
 use Rattle.js_flow.specs.declared.task.Control.TheVariants as control
 use Rattle.js_flow.specs.Free.{free}
 use Rattle.js_image.specs.Held.{Kept}
-use Rattle.js_steps.specs.declared.task.Task.{Task}
-use Rattle.js_steps.specs.Answered.{IsFineAfter, IsFineTask}
+use Rattle.turn_calls.specs.js_steps.declared.task.Task.{Task}
+use Rattle.turn_calls.specs.js_steps.Answered.{IsFineAfter, IsFineTask}
 use Rattle.native_image.proofs.Joint.{sound_grows}
 use Rattle.page_image.specs.Image.{number, owns}
 use Rattle.turn_calls.proofs.Stays.{levels_fine}

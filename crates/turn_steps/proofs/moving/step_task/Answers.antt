@@ -5,13 +5,13 @@ use Rattle.js_image.specs.Held.{IsConfined, Kept}
 use Rattle.js_image.specs.Image.{Rest, image}
 use Rattle.js_flow.specs.Free.{free}
 use Rattle.js_flow.specs.Todo.{IsGoing, Moves}
-use Rattle.js_steps.specs.declared.task.Task.{Task}
-use Rattle.js_steps.specs.Answered.{IsFineAfter, IsFineTask, remaining, remaining_after}
+use Rattle.turn_calls.specs.js_steps.declared.task.Task.{Task}
+use Rattle.turn_calls.specs.js_steps.Answered.{IsFineAfter, IsFineTask, remaining, remaining_after}
 use Rattle.js_values.specs.Answers.{out_of_fuel}
 use Rattle.js_values.specs.Fuel.{Fuel}
 use Rattle.native_image.specs.Image.{Outside}
 use Rattle.natives.specs.Reach.{with_notes}
-use Rattle.turn_runs.specs.Levels.{levels_rest, turn_plan}
+use Rattle.turn_calls.specs.turn_runs.Levels.{levels_rest, turn_plan}
 use Rattle.turn_calls.specs.declared.calls.Calls.{Calls}
 use Rattle.turn_calls.specs.Turns.{turn_image}
 use Rattle.turn_steps.specs.Turning.{forests, state_in}

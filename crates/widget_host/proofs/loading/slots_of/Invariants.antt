@@ -1,5 +1,5 @@
 use Rattle.std.proofs.Common.{◌≡◌}
-use Rattle.slot_picks.specs.Crowds.{chains_of}
+use Rattle.page_load.specs.slot_picks.Crowds.{chains_of}
 use Rattle.widget_host.specs.Housed.{singles}
 use Rattle.widget_host.proofs.loading.slots_of.Given as goal
 

@@ -1,9 +1,9 @@
 use Rattle.std.proofs.Common.{◌≡◌, ◌+◌, ◌∙◌, ℕ, List, ap, arith, false, length, refl, subst, sym, true}
 use Rattle.std.proofs.lemmas.List.{length-map}
 use Rattle.slot_laws.specs.Chains.{Chains}
-use Rattle.slot_picks.specs.declared.slots.Slot.{Slot}
-use Rattle.slot_picks.specs.Crowds.{chains_of}
-use Rattle.slot_picks.specs.Places.{homes_of}
+use Rattle.page_load.specs.slot_picks.declared.slots.Slot.{Slot}
+use Rattle.page_load.specs.slot_picks.Crowds.{chains_of}
+use Rattle.page_load.specs.slot_picks.Places.{homes_of}
 use Rattle.widget_host.specs.Feeding.{AreFed, work_of}
 use Rattle.widget_host.specs.Housed.{IsHoused, IsItem, IsWhole, chains, given, is_for, marked}
 use Rattle.widget_host.proofs.Given.{gives_apart, gives_item, gives_keeps, gives_whole}

@@ -2,8 +2,8 @@ use Rattle.std.proofs.Common.{◌≡◌, ℕ, false, true, List, [], ◌∷◌, 
 use Rattle.std.proofs.lemmas.Result.{on_ok_weaker}
 use Rattle.life_laws.specs.Life.{due, image}
 use Rattle.slot_laws.specs.Chains.{last_life}
-use Rattle.turn_calls.specs.declared.turn.Shared.{Shared}
-use Rattle.slot_picks.specs.Crowds.{HostGetsNone}
+use Rattle.page_load.specs.turn_calls.declared.turn.Shared.{Shared}
+use Rattle.page_load.specs.slot_picks.Crowds.{HostGetsNone}
 use Rattle.widget_host.specs.Housed.{chains, dues_after, given, seens, shared}
 use Rattle.widget_host.proofs.Staying.{host_then, ok_then}
 use Rattle.widget_host.proofs.host.Host.item.Goals as goal

@@ -2,7 +2,7 @@ use Rattle.std.proofs.Common.{◌≡◌, ◌<◌, ◌∙◌, ℕ, List, Some, ar
 use Rattle.std.specs.Prelude.{slice_get}
 use Rattle.std.proofs.lemmas.List.{length-map}
 use Rattle.std.proofs.lemmas.Result.{IfOk-weaker}
-use Rattle.slot_picks.specs.declared.slots.Slot.{Slot}
+use Rattle.page_load.specs.slot_picks.declared.slots.Slot.{Slot}
 use Rattle.widget_host.specs.Housed.{IsHoused, chains, marked}
 use Rattle.widget_host.proofs.Shown.{accepted_life, life_there, line_told, some_lives}
 use Rattle.widget_host.proofs.host.Host.line.Goals as goal

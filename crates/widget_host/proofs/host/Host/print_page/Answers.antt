@@ -1,5 +1,5 @@
 use Rattle.std.proofs.lemmas.Result.{on_ok_weaker}
-use Rattle.slot_picks.specs.Places.{is_accepted}
+use Rattle.page_load.specs.slot_picks.Places.{is_accepted}
 use Rattle.widget_host.specs.Housed.{IsLaid, rooted}
 use Rattle.widget_host.proofs.Shown.{ends_shown}
 use Rattle.widget_host.proofs.host.Host.print_page.Goals as goal
