@@ -223,14 +223,14 @@ fn write_members(
 {
     let mut first = true;
     for at in 0..u32::MAX {
-        let Some(name) = store.name_at(cell, at) else {
+        let Some(name) = store.name_at(alloc, cell, at)? else {
             return push_word(out, b"}");
         };
         let Some(value) = store.var_at(cell, at) else {
             return Err(Memory);
         };
-        if permitted(name) {
-            let before = before_member(alloc, first, name)?;
+        if permitted(&name) {
+            let before = before_member(alloc, first, &name)?;
             match write_part(alloc, store, &before, value, m, out)? {
                 Step::Wrote => first = false,
                 Step::NoJson => return Ok(Step::NoJson),

@@ -19,8 +19,9 @@ ghost use Rattle.store_cells.specs.Born.{HaveCells, IsScopeOf, array_cell, bunch
 use code_units::{Memory, Owner, Text};
 use indexmap::IndexMap;
 use js_tree::FunId;
-use keyed_names::{Keys, Names, NumberKeys};
+use keyed_names::{Keys, NumberKeys};
 use permitted_table::{HostEntry, NativeId};
+use property_names::PropertyNames;
 use std::alloc::Global;
 use std::marker::Model;
 use store_cells::cell::{Cell, Maker};
@@ -85,7 +86,7 @@ fn reference(value: Option<&Value>) -> Option<CellId>
 /// The store: the cells of all owners, and what each widget has paid.
 #[derive(Drop)]
 pub struct Store {
-    names: Names,
+    names: PropertyNames,
     cells: Vec<Cell>,
     raws: IndexMap<u32, u32, NumberKeys>,
     kept: Vec<Counts>,
@@ -331,13 +332,15 @@ impl Store {
     }
 
     /// The name of an own pair of a cell at a place, from 0, none exactly where it has no pair there.
-    pub fn name_at(&self, cell: CellId, at: u32) -> Option<&Text>
+    pub fn name_at(&self, alloc: Global, cell: CellId, at: u32) -> Result<Option<Text>, Memory>
         requires { cell < length self.now.cells }
-        ensures { IfSome (slice_get self.now.cells cell) (λ c.
-            option_copied result ≡ option_map (λ p. p.0) (slice_get c.pairs at)) }
+        ensures { IfOk result (λ name. IfSome (slice_get self.now.cells cell) (λ c.
+            name ≡ option_map (λ p. p.0) (slice_get c.pairs at))) }
     {
-        let n = table::cell(&self.cells, cell).number_at(at)?;
-        self.names.text(n)
+        match table::cell(&self.cells, cell).number_at(at) {
+            None => Ok(None),
+            Some(n) => self.names.text(alloc, n),
+        }
     }
 
     /// Whether a cell has a name of its own; the pair of a Bunch is hidden.

@@ -7,10 +7,10 @@ use Rattle.pair_table.specs.declared.table.Storage.TheVariants.{Few, Many}
 
 -- the pairs, and the room for more
 abbrev pub pairs_in : {V : Type 0} → Storage V → Pairs V
-pairs_in (Few few key) = few
+pairs_in (Few few) = few
 pairs_in (Many map) = record { entries = map.value.entries; spare = spare map.value }
 
 -- a list has places for so many more pairs, as a map always has
 abbrev pub HasPlaces : {V : Type 0} → ℕ → Storage V → Type 0
-HasPlaces n (Few few key) = length few.entries + n ≤ 8
+HasPlaces n (Few few) = length few.entries + n ≤ 16
 HasPlaces n (Many map) = Unit {0}

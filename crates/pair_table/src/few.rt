@@ -12,7 +12,7 @@ use std::marker::Model;
 use std::mem;
 
 /// The most pairs that stand in a list.
-pub(crate) const MOST_FEW: usize = 8;
+pub(crate) const MOST_FEW: usize = 16;
 
 /// Pairs in a list. There is none before the first allocation, and the first pair alone takes room
 /// for one.
@@ -31,7 +31,7 @@ impl<V> Model for FewPairs<V> {
 
     ghost coded = { pairs_code V.code };
 
-    ghost view = { λ f. record { entries = f.list.items; spare = min (vec_capacity f.list) 8 - length f.list.items } };
+    ghost view = { λ f. record { entries = f.list.items; spare = min (vec_capacity f.list) 16 - length f.list.items } };
 
     ghost invariant = { λ f. IsDistinct nat_eq (keys_of f.list.items) };
 }
@@ -86,7 +86,7 @@ impl<V> FewPairs<V> {
     pub(crate) fn len(&self) -> usize
         ensures len { result ≡ length self.now.entries }
         ensures distinct { IsDistinct nat_eq (keys_of self.now.entries) }
-        ensures room { self.now.spare ≤ 8 - length self.now.entries }
+        ensures room { self.now.spare ≤ 16 - length self.now.entries }
     {
         self.list.len()
     }
@@ -122,14 +122,14 @@ impl<V> FewPairs<V> {
     /// Makes room for so many more pairs, where these are few then.
     pub(crate) fn reserve(&mut self, additional: usize) -> Result<(), AllocError>
         ensures entries { self.new.entries ≡ self.old.entries }
-        ensures ok { OnOk result (length self.old.entries + additional ≤ 8 → additional ≤ self.new.spare) }
+        ensures ok { OnOk result (length self.old.entries + additional ≤ 16 → additional ≤ self.new.spare) }
     {
         make_room(&mut self.list, additional)
     }
 }
 
 impl<V: Drop> FewPairs<V> {
-    /// Puts a value under a number, a new one last.
+    /// Puts a value under a number, a new one last, where there may be one more.
     pub(crate) fn insert(&mut self, n: u32, value: V) -> Result<(), AllocError>
         ensures entries { OnOk result (self.new.entries ≡ insert_entry nat_eq self.old.entries n value) }
         ensures err { OnErr result (self.new.entries ≡ self.old.entries) }
@@ -154,6 +154,9 @@ impl<V: Drop> FewPairs<V> {
         ensures succeeds { 0 < self.old.spare → IsOk result }
         ensures spare { self.old.spare ≤ self.new.spare + 1 }
     {
+        if self.list.len() >= MOST_FEW {
+            return Err(AllocError);
+        }
         make_room(&mut self.list, 1)?;
         self.list.push_reserved((n, value));
         Ok(())

@@ -14,8 +14,9 @@ use std::marker::Model;
 
 /// Pairs of a number and a value, in the order in which the numbers came.
 ///
-/// Up to eight pairs stand in a list, with no room beside them at first: a table of one pair takes
-/// one allocation of its size. More stand in an `IndexMap`, which finds a number by its hash.
+/// Up to sixteen pairs stand in a list, with no room beside them at first: a table of one pair takes
+/// one allocation of its size. More stand in an `IndexMap`, which finds a number by its hash. The key
+/// of the hash is handed over where a list may become a map, and a list keeps none.
 #[derive(Drop)]
 pub struct PairTable<V> {
     storage: Storage<V>,
@@ -24,7 +25,7 @@ pub struct PairTable<V> {
 /// Where the pairs stand.
 #[derive(Drop)]
 enum Storage<V> {
-    Few(FewPairs<V>, NumberKeys),
+    Few(FewPairs<V>),
     Many(Box<IndexMap<u32, V, NumberKeys>>),
 }
 
@@ -41,13 +42,12 @@ impl<V> Model for PairTable<V> {
 }
 
 impl<V> PairTable<V> {
-    /// A table without pairs, which allocates nothing until the first one. It hashes by `key` once it
-    /// has many pairs.
-    pub fn new(alloc: Global, key: NumberKeys) -> PairTable<V>
+    /// A table without pairs, which allocates nothing until the first one.
+    pub fn new(alloc: Global) -> PairTable<V>
         ensures { result.entries ≡ [] }
     {
         PairTable {
-            storage: Storage::Few(FewPairs::new(alloc), key),
+            storage: Storage::Few(FewPairs::new(alloc)),
         }
     }
 
@@ -57,7 +57,7 @@ impl<V> PairTable<V> {
         ensures distinct { IsDistinct nat_eq (keys_of self.now.entries) }
     {
         match &self.storage {
-            Storage::Few(few, _) => few.len(),
+            Storage::Few(few) => few.len(),
             Storage::Many(map) => map.len(),
         }
     }
@@ -74,7 +74,7 @@ impl<V> PairTable<V> {
         ensures { option_copied result ≡ lookup (nat_eq n) self.now.entries }
     {
         match &self.storage {
-            Storage::Few(few, _) => few.get(n),
+            Storage::Few(few) => few.get(n),
             Storage::Many(map) => map.get(&n),
         }
     }
@@ -84,7 +84,7 @@ impl<V> PairTable<V> {
         ensures { result ≡ position (nat_eq n) (keys_of self.now.entries) }
     {
         match &self.storage {
-            Storage::Few(few, _) => few.place(n),
+            Storage::Few(few) => few.place(n),
             Storage::Many(map) => map.get_index_of(&n),
         }
     }
@@ -94,29 +94,40 @@ impl<V> PairTable<V> {
         ensures { option_map deref_pair result ≡ slice_get self.now.entries place }
     {
         match &self.storage {
-            Storage::Few(few, _) => few.get_index(place),
+            Storage::Few(few) => few.get_index(place),
             Storage::Many(map) => map.get_index(place),
         }
     }
 }
 
 impl<V: Drop> PairTable<V> {
-    /// Makes room for so many more pairs, so that as many new numbers need no memory.
+    /// Makes room for so many more pairs, so that as many new numbers need no memory. A list has no room
+    /// past the most that it may hold (`make_places`).
     pub fn reserve(&mut self, additional: usize) -> Result<(), AllocError>
         ensures entries { self.new.entries ≡ self.old.entries }
         ensures ok { OnOk result (additional ≤ self.new.spare) }
     {
         if outgrows(&self.storage, additional) {
-            return self.spill(additional);
+            return Err(AllocError);
         }
         match &mut self.storage {
-            Storage::Few(few, _) => few.reserve(additional),
+            Storage::Few(few) => few.reserve(additional),
             Storage::Many(map) => map.reserve(additional),
         }
     }
 
+    /// Moves the pairs of a list that cannot hold so many more into a map that hashes by `key`.
+    pub fn make_places(&mut self, additional: usize, key: &NumberKeys) -> Result<(), AllocError>
+        ensures { self.new.entries ≡ self.old.entries }
+    {
+        if outgrows(&self.storage, additional) {
+            return self.spill(additional, key);
+        }
+        Ok(())
+    }
+
     /// Puts a value under a number. One that is there keeps its place and needs no memory; a new one
-    /// goes last. For want of memory nothing changes.
+    /// goes last. For want of memory, or of a place in a list (`make_places`), nothing changes.
     pub fn insert(&mut self, n: u32, value: V) -> Result<(), AllocError>
         ensures entries { OnOk result (self.new.entries ≡ insert_entry nat_eq self.old.entries n value) }
         ensures err { OnErr result (self.new.entries ≡ self.old.entries) }
@@ -124,33 +135,18 @@ impl<V: Drop> PairTable<V> {
         ensures succeeds { 0 < self.old.spare → IsOk result }
         ensures spare { self.old.spare ≤ self.new.spare + 1 }
     {
-        self.make_place(n)?;
         match &mut self.storage {
-            Storage::Few(few, _) => few.insert(n, value),
+            Storage::Few(few) => few.insert(n, value),
             Storage::Many(map) => insert_in(map, n, value),
         }
     }
 
-    // Moves the pairs of a list that is as long as one may be into a map, where a number is new.
-    fn make_place(&mut self, n: u32) -> Result<(), AllocError>
-        ensures entries { self.new.entries ≡ self.old.entries }
-        ensures absent { OnErr result (lookup (nat_eq n) self.old.entries ≡ None) }
-        ensures succeeds { 0 < self.old.spare → IsOk result }
-        ensures room { self.old.spare ≤ self.new.spare }
-    {
-        if outgrows(&self.storage, 1) && !self.contains_key(n) {
-            return self.spill(1);
-        }
-        Ok(())
-    }
-
     // Moves the pairs of a list into a map that has room for so many more.
-    fn spill(&mut self, additional: usize) -> Result<(), AllocError>
-        ensures entries { self.new.entries ≡ self.old.entries }
-        ensures ok { OnOk result (additional ≤ self.new.spare) }
+    fn spill(&mut self, additional: usize, key: &NumberKeys) -> Result<(), AllocError>
+        ensures { self.new.entries ≡ self.old.entries }
     {
         match &mut self.storage {
-            Storage::Few(few, key) => {
+            Storage::Few(few) => {
                 let map = into_map(few, *key, additional)?;
                 self.storage = Storage::Many(map);
                 Ok(())
@@ -166,7 +162,7 @@ impl<V: Drop> PairTable<V> {
         ensures unchanged { IfNone result (self.new.entries ≡ self.old.entries) }
     {
         match &mut self.storage {
-            Storage::Few(few, _) => few.swap_remove_index(place),
+            Storage::Few(few) => few.swap_remove_index(place),
             Storage::Many(map) => map.swap_remove_index(place),
         }
     }
@@ -176,7 +172,7 @@ impl<V: Drop> PairTable<V> {
         ensures { self.new.entries ≡ remove_entry (nat_eq n) self.old.entries }
     {
         match &mut self.storage {
-            Storage::Few(few, _) => few.shift_remove(n),
+            Storage::Few(few) => few.shift_remove(n),
             Storage::Many(map) => {
                 let _value = map.shift_remove(&n);
             }
@@ -188,7 +184,7 @@ impl<V: Drop> PairTable<V> {
         ensures { self.new.entries ≡ filter (λ e. nat_lt e.0 bound) self.old.entries }
     {
         match &mut self.storage {
-            Storage::Few(few, _) => few.retain_below(bound),
+            Storage::Few(few) => few.retain_below(bound),
             Storage::Many(map) => retain_in(map, bound),
         }
     }
@@ -200,7 +196,7 @@ fn outgrows<V>(storage: &Storage<V>, additional: usize) -> bool
     ensures full { result ≡ true → 0 < additional → (pairs_in storage.now).spare < additional }
 {
     match storage {
-        Storage::Few(few, _) => {
+        Storage::Few(few) => {
             let len = few.len();
             len > MOST_FEW || additional > MOST_FEW - len
         }

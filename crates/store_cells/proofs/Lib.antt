@@ -4,6 +4,7 @@ pub mod Costs
 pub mod Elements
 pub mod Entries
 pub mod Filled
+mod Gapless
 pub mod Heads
 pub mod Hosts
 pub mod Indexed

@@ -14,8 +14,9 @@ use crate::kind::Form;
 use crate::pairs::{self, FIRST_HOLE};
 use crate::value::{CellId, Number, Value};
 use code_units::{Memory, Owner, Text, index_of, is_word};
-use keyed_names::{Names, NumberKeys};
+use keyed_names::NumberKeys;
 use pair_table::PairTable;
+use property_names::PropertyNames;
 use std::alloc::Global;
 use std::marker::Model;
 
@@ -30,7 +31,7 @@ pub struct Head {
     pub number: u32,
 }
 
-/// What makes the tables of new cells: memory, and the key by which they hash.
+/// What makes cells: memory, and the key by which a table of many names hashes.
 #[derive(Clone, Copy, Drop)]
 pub struct Maker {
     pub alloc: Global,
@@ -114,9 +115,25 @@ impl Cell {
             head,
             holes: 0,
             references: 0,
-            table: PairTable::new(maker.alloc, maker.key),
+            table: PairTable::new(maker.alloc),
             elements: Elements::new(maker.alloc),
         }
+    }
+
+    /// A cell without pairs that has room for so many.
+    pub fn with_room(maker: Maker, head: Head, room: usize) -> Result<Cell, Memory>
+        ensures { IfOk result (λ c. c ≡ record { head = head; elements = []; references = 0; entries = [] }) }
+    {
+        let mut table = PairTable::new(maker.alloc);
+        table.make_places(room, &maker.key)?;
+        table.reserve(room)?;
+        Ok(Cell {
+            head,
+            holes: 0,
+            references: 0,
+            table,
+            elements: Elements::new(maker.alloc),
+        })
     }
 
     /// A cell as it is made: an Array with its length, any other without pairs.
@@ -284,7 +301,7 @@ impl Cell {
     }
 
     /// The listed names in order.
-    pub fn keys(&self, alloc: Global, names: &Names) -> Result<Vec<Text>, Memory>
+    pub fn keys(&self, alloc: Global, names: &PropertyNames) -> Result<Vec<Text>, Memory>
         requires { Known (length names.now) self.now.entries }
         ensures { IfOk result (λ keys. keys.items ≡ keys_of (plain names.now self.now)) }
     {
@@ -292,7 +309,7 @@ impl Cell {
     }
 
     /// How many names are listed.
-    pub fn keys_len(&self, names: &Names) -> usize
+    pub fn keys_len(&self, names: &PropertyNames) -> usize
         requires { Known (length names.now) self.now.entries }
         ensures { result ≡ length (keys_of (plain names.now self.now)) }
     {
@@ -301,7 +318,7 @@ impl Cell {
 
     /// Whether an element below an index refers to a cell. For an Array whose elements are all below
     /// it, as they are where it is the length, this is one look at the last index and at a count.
-    pub fn has_reference(&self, names: &Names, n: u32) -> bool
+    pub fn has_reference(&self, names: &PropertyNames, n: u32) -> bool
         requires { is_array self.now.head.form ≡ true → IsIndexed names.now (found_in self.now.elements) self.now.entries
             × (self.now.references ≡ references_in names.now self.now.entries) }
         ensures { result ≡ list_any (is_reference_below names.now n) self.now.entries }
@@ -321,6 +338,15 @@ impl Cell {
     {
         // This says that the numbers in the table differ.
         let _len = self.table.len();
+    }
+
+    /// Makes places for so many more names: a list of names that cannot hold them becomes a table that
+    /// hashes by `key`. A write of a new name wants a place.
+    pub fn make_places(&mut self, additional: usize, key: &NumberKeys) -> Result<(), Memory>
+        ensures { self.new ≡ self.old }
+    {
+        self.table.make_places(additional, key)?;
+        Ok(())
     }
 
     /// Writes under a name, a new one last. `end` is past the name where it is an index of an Array.

@@ -1,18 +1,27 @@
 //! The indices of an Array's elements.
-ghost use Rattle.std.specs.Prelude.{◌≡◌, suc, ◌<◌, [], true, length, IfSome, MatchOption, OnErr, OnOk, IfOk, ◌∷◌};
+ghost use Rattle.std.specs.Prelude.{◌≡◌, suc, ◌<◌, ◌≤◌, [], ◌∷◌, ◌++◌, None, true, length, IfNone, IfSome, MatchOption, OnErr, OnOk, IfOk};
+ghost use Rattle.store_cells.specs.Listed.{AreBelow, IsLastPast};
 ghost use Rattle.store_cells.specs.Numbered.{found_in, noted};
 ghost use Rattle.store_cells.specs.Holes.{IsNonePast, IsPoppedPast};
 
 use code_units::Memory;
+use property_names::{FIRST_INDEX, RULED};
 use std::alloc::Global;
 use std::collections::BTreeMap;
 use std::marker::Model;
 
-/// The numbers of names by the indices that these are, in a map that is made with the first one.
+/// The numbers of names by the indices that these are, in a table that is made with the first one.
 #[derive(Drop)]
 pub(crate) struct Elements {
-    map: Option<Box<BTreeMap<u32, u32>>>,
+    table: Option<Box<Indices>>,
     alloc: Global,
+}
+
+// The numbers by the indices: those below one have their numbers by rule, and others stand in a map.
+#[derive(Drop)]
+struct Indices {
+    upto: u32,
+    far: BTreeMap<u32, u32>,
 }
 
 impl Model for Elements {
@@ -21,7 +30,19 @@ impl Model for Elements {
 
     ghost Value = { List (ℕ × ℕ) };
 
-    ghost view = { λ e. listed e.map };
+    ghost view = { λ e. listed e.table };
+}
+
+impl Model for Indices {
+    ghost use Rattle.std.specs.Prelude.{◌≤◌, List, ℕ};
+    ghost use Rattle.property_names.specs.declared.names.TheConstants.{RULED};
+    ghost use Rattle.store_cells.specs.Listed.{AreFrom, joined, by_rule};
+
+    ghost Value = { List (ℕ × ℕ) };
+
+    ghost view = { λ t. joined (by_rule 0 t.upto) t.far.entries };
+
+    ghost invariant = { λ t. AreFrom t.upto t.far.entries × (t.upto ≤ RULED) };
 }
 
 impl Elements {
@@ -29,16 +50,16 @@ impl Elements {
     pub(crate) fn new(alloc: Global) -> Elements
         ensures { result ≡ [] }
     {
-        Elements { map: None, alloc }
+        Elements { table: None, alloc }
     }
 
     /// The number of the name that is an index.
     pub(crate) fn get(&self, at: u32) -> Option<u32>
         ensures { result ≡ found_in self.now at }
     {
-        match &self.map {
+        match &self.table {
             None => None,
-            Some(map) => map.get(&at).copied(),
+            Some(table) => table.get(at),
         }
     }
 
@@ -46,9 +67,9 @@ impl Elements {
     pub(crate) fn are_below(&self, n: u32) -> bool
         ensures { result ≡ true → IsNonePast n self.now }
     {
-        match &self.map {
+        match &self.table {
             None => false,
-            Some(map) => are_below(map, n),
+            Some(table) => table.are_below(n),
         }
     }
 
@@ -57,12 +78,12 @@ impl Elements {
         ensures ok { OnOk result (self.new ≡ noted (suc at) n self.old) }
         ensures err { OnErr result (self.new ≡ self.old) }
     {
-        match &mut self.map {
+        match &mut self.table {
             None => {
-                self.map = Some(first(self.alloc, at, n)?);
+                self.table = Some(first(self.alloc, at, n)?);
                 Ok(())
             }
-            Some(map) => note(map, at, n),
+            Some(table) => table.note(at, n),
         }
     }
 
@@ -71,48 +92,113 @@ impl Elements {
         ensures popped { MatchOption result ((self.new ≡ self.old) × IsNonePast n self.old) (λ k. IsPoppedPast n k self.old self.new) }
         ensures less { IfSome result (λ k. length self.new < length self.old) }
     {
-        match &mut self.map {
+        match &mut self.table {
             None => None,
-            Some(map) => pop_past(map, n),
+            Some(table) => table.pop_past(n),
         }
     }
 }
 
-// A map with its first index.
-fn first(alloc: Global, at: u32, n: u32) -> Result<Box<BTreeMap<u32, u32>>, Memory>
-    ensures { IfOk result (λ map. map.value.entries ≡ (at, n) ∷ []) }
+// A table with its first index.
+fn first(alloc: Global, at: u32, n: u32) -> Result<Box<Indices>, Memory>
+    ensures { IfOk result (λ table. table.value ≡ (at, n) ∷ []) }
 {
-    let mut map = BTreeMap::new(alloc);
-    map.insert(at, n)?;
-    Ok(Box::new(alloc, map)?)
+    let mut table = Indices::new(alloc);
+    table.note(at, n)?;
+    Ok(Box::new(alloc, table)?)
 }
 
-fn are_below(map: &BTreeMap<u32, u32>, n: u32) -> bool
-    ensures { result ≡ true → IsNonePast n map.now.entries }
+impl Indices {
+    fn new(alloc: Global) -> Indices
+        ensures { result ≡ [] }
+    {
+        Indices {
+            upto: 0,
+            far: BTreeMap::new(alloc),
+        }
+    }
+
+    fn get(&self, at: u32) -> Option<u32>
+        ensures { result ≡ found_in self.now at }
+    {
+        if at < self.upto {
+            Some(FIRST_INDEX + at)
+        } else {
+            far_at(&self.far, at)
+        }
+    }
+
+    fn are_below(&self, n: u32) -> bool
+        ensures { result ≡ true → IsNonePast n self.now }
+    {
+        if self.upto > n {
+            return false;
+        }
+        is_far_below(&self.far, n)
+    }
+
+    // An index whose number is by rule is noted in the map where it lies past a gap. None below `upto`
+    // is noted with another number.
+    fn note(&mut self, at: u32, n: u32) -> Result<(), Memory>
+        ensures ok { OnOk result (self.new ≡ noted (suc at) n self.old) }
+        ensures err { OnErr result (self.new ≡ self.old) }
+    {
+        if at < self.upto {
+            return if n == FIRST_INDEX + at { Ok(()) } else { Err(Memory) };
+        }
+        if at == self.upto && at < RULED && n == FIRST_INDEX + at && far_at(&self.far, at).is_none() {
+            self.upto += 1;
+        } else {
+            self.far.insert(at, n)?;
+        }
+        Ok(())
+    }
+
+    fn pop_past(&mut self, n: u32) -> Option<u32>
+        ensures popped { MatchOption result ((self.new ≡ self.old) × IsNonePast n self.old) (λ k. IsPoppedPast n k self.old self.new) }
+        ensures less { IfSome result (λ k. length self.new < length self.old) }
+    {
+        match pop_far(&mut self.far, n) {
+            Some(k) => Some(k),
+            None => pop_near(&mut self.upto, n),
+        }
+    }
+}
+
+fn far_at(far: &BTreeMap<u32, u32>, at: u32) -> Option<u32>
+    ensures { result ≡ found_in far.now.entries at }
 {
-    match map.last_key_value() {
-        None => false,
+    far.get(&at).copied()
+}
+
+fn is_far_below(far: &BTreeMap<u32, u32>, n: u32) -> bool
+    ensures { result ≡ true → AreBelow n far.now.entries }
+{
+    match far.last_key_value() {
+        None => true,
         Some((at, _number)) => *at < n,
     }
 }
 
-fn note(map: &mut BTreeMap<u32, u32>, at: u32, n: u32) -> Result<(), Memory>
-    ensures ok { OnOk result (map.new.entries ≡ noted (suc at) n map.old.entries) }
-    ensures err { OnErr result (map.new.entries ≡ map.old.entries) }
+// Takes out the last index of a map, where it is one from another on.
+fn pop_far(far: &mut BTreeMap<u32, u32>, n: u32) -> Option<u32>
+    ensures popped { IfSome result (λ k. IsLastPast n k far.old.entries far.new.entries) }
+    ensures same { IfNone result (far.new.entries ≡ far.old.entries) }
+    ensures below { IfNone result (AreBelow n far.old.entries) }
 {
-    map.insert(at, n)?;
-    Ok(())
-}
-
-fn pop_past(map: &mut BTreeMap<u32, u32>, n: u32) -> Option<u32>
-    ensures popped { MatchOption result ((map.new.entries ≡ map.old.entries) × IsNonePast n map.old.entries)
-        (λ k. IsPoppedPast n k map.old.entries map.new.entries) }
-    ensures less { IfSome result (λ k. length map.new.entries < length map.old.entries) }
-{
-    let (at, _number) = map.last_key_value()?;
+    let (at, _number) = far.last_key_value()?;
     if *at < n {
         return None;
     }
-    let (_at, k) = map.pop_last()?;
+    let (_at, k) = far.pop_last()?;
     Some(k)
+}
+
+// Takes out the last index by rule, where it is one from another on.
+fn pop_near(upto: &mut u32, n: u32) -> Option<u32> {
+    if *upto <= n {
+        return None;
+    }
+    *upto -= 1;
+    Some(FIRST_INDEX + *upto)
 }

@@ -11,9 +11,9 @@ ghost use Rattle.store_cells.specs.Shape.{IsIndexed, Known};
 
 use crate::indices::Elements;
 use crate::value::Value;
-use code_units::{Memory, Text, index_of, is_word, permitted};
-use keyed_names::Names;
+use code_units::{Memory, Text, is_word, permitted};
 use pair_table::PairTable;
+use property_names::PropertyNames;
 use std::alloc::Global;
 
 /// The numbers of names are less; the others are those of holes.
@@ -78,42 +78,37 @@ pub(crate) fn is_listed(array: bool, name: &Text) -> bool
     permitted(name) && !(array && is_word(name, b"length"))
 }
 
-// The name at a place, where it is listed.
-fn key_at<'a>(
+// The number of the name at a place, where it is listed.
+fn listed_at(
     table: &PairTable<Value>,
-    names: &'a Names,
+    names: &PropertyNames,
     array: bool,
     at: usize,
-) -> Option<&'a Text>
-    ensures { option_copied result ≡ place_key names.now array table.now.entries at }
+) -> Option<u32>
+    ensures { option_and_then (slice_get names.now) result ≡ place_key names.now array table.now.entries at }
 {
     let (k, _value) = table.get_index(at)?;
-    let name = name_of(names, *k)?;
-    if is_listed(array, name) {
-        Some(name)
+    if *k < FIRST_HOLE && names.is_listed(array, *k) {
+        Some(*k)
     } else {
         None
     }
 }
 
-// The name with a number that is no hole's.
-fn name_of(names: &Names, k: u32) -> Option<&Text>
-    ensures { option_copied result ≡ (if is_name k then slice_get names.now k else None) }
-{
-    if k < FIRST_HOLE { names.text(k) } else { None }
-}
-
 fn push_key(
+    alloc: Global,
     table: &PairTable<Value>,
-    names: &Names,
+    names: &PropertyNames,
     array: bool,
     at: usize,
     keys: &mut Vec<Text>,
 ) -> Result<(), Memory>
     ensures { OnOk result (keys.new.items ≡ keys.old.items ++ option_to_list (place_key names.now array table.now.entries at)) }
 {
-    if let Some(name) = key_at(table, names, array, at) {
-        keys.push(name.share()?)?;
+    if let Some(k) = listed_at(table, names, array, at) {
+        if let Some(name) = names.text(alloc, k)? {
+            keys.push(name)?;
+        }
     }
     Ok(())
 }
@@ -122,7 +117,7 @@ fn push_key(
 pub(crate) fn keys(
     alloc: Global,
     table: &PairTable<Value>,
-    names: &Names,
+    names: &PropertyNames,
     array: bool,
 ) -> Result<Vec<Text>, Memory>
     requires { Known (length names.now) (live table.now.entries) }
@@ -130,23 +125,23 @@ pub(crate) fn keys(
 {
     let mut keys = Vec::new(alloc);
     for at in 0..table.len() {
-        push_key(table, names, array, at, &mut keys)?;
+        push_key(alloc, table, names, array, at, &mut keys)?;
     }
     Ok(keys)
 }
 
-fn count_key(table: &PairTable<Value>, names: &Names, array: bool, at: usize) -> usize
+fn count_key(table: &PairTable<Value>, names: &PropertyNames, array: bool, at: usize) -> usize
     ensures count { result ≡ length (option_to_list (place_key names.now array table.now.entries at)) }
     ensures small { result ≤ 1 }
 {
-    match key_at(table, names, array, at) {
+    match listed_at(table, names, array, at) {
         None => 0,
         Some(_) => 1,
     }
 }
 
 /// How many names are listed.
-pub(crate) fn keys_len(table: &PairTable<Value>, names: &Names, array: bool) -> usize
+pub(crate) fn keys_len(table: &PairTable<Value>, names: &PropertyNames, array: bool) -> usize
     requires { Known (length names.now) (live table.now.entries) }
     ensures { result ≡ length (listed_names names.now array (live table.now.entries)) }
 {
@@ -158,20 +153,17 @@ pub(crate) fn keys_len(table: &PairTable<Value>, names: &Names, array: bool) -> 
 }
 
 // Whether the name with a number is an index below another.
-fn is_index_below(names: &Names, k: u32, n: u32) -> bool
+fn is_index_below(names: &PropertyNames, k: u32, n: u32) -> bool
     ensures { result ≡ is_index_below n (name_at names.now k) }
 {
-    let Some(name) = names.text(k) else {
-        return false;
-    };
-    match index_of(name) {
+    match names.index(k) {
         None => false,
         Some(i) => i < n,
     }
 }
 
 // Whether the pair at a place is an element below an index, and refers to a cell.
-fn is_reference_at(table: &PairTable<Value>, names: &Names, n: u32, place: usize) -> bool
+fn is_reference_at(table: &PairTable<Value>, names: &PropertyNames, n: u32, place: usize) -> bool
     ensures { result ≡ option_map_or (λ e. is_name e.0 && is_reference_below names.now n e) (slice_get table.now.entries place) false }
 {
     let Some((k, value)) = table.get_index(place) else {
@@ -181,7 +173,7 @@ fn is_reference_at(table: &PairTable<Value>, names: &Names, n: u32, place: usize
 }
 
 /// Whether an element below an index refers to a cell.
-pub(crate) fn has_reference(table: &PairTable<Value>, names: &Names, n: u32) -> bool
+pub(crate) fn has_reference(table: &PairTable<Value>, names: &PropertyNames, n: u32) -> bool
     ensures { result ≡ list_any (is_reference_below names.now n) (live table.now.entries) }
 {
     for place in 0..table.len() {

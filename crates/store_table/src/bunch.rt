@@ -15,7 +15,8 @@ use crate::host::{ARRAY_PROTOTYPE, BUNCH_PROTOTYPE};
 use crate::table::{self, OwnPlace};
 use code_units::{Memory, Owner, Text, whole_text};
 use indexmap::IndexMap;
-use keyed_names::{Names, NumberKeys};
+use keyed_names::NumberKeys;
+use property_names::PropertyNames;
 use std::alloc::{AllocError, Global};
 use store_cells::cell::{Cell, Head, LENGTH, Maker, NODES, count_value};
 use store_cells::counts::SLOT_LIMIT;
@@ -44,7 +45,7 @@ fn value_at(values: &[Value], at: usize) -> Result<Value, Memory>
 }
 
 // An Array of these elements.
-fn array_of(maker: Maker, names: &mut Names, head: Head, values: &[Value]) -> Result<Cell, Memory>
+fn array_of(maker: Maker, names: &mut PropertyNames, head: Head, values: &[Value]) -> Result<Cell, Memory>
     requires table { IsTable names.old }
     requires words { AreWords names.old }
     requires few { length values.now ≤ SLOT_LIMIT }
@@ -52,7 +53,7 @@ fn array_of(maker: Maker, names: &mut Names, head: Head, values: &[Value]) -> Re
     ensures table { IsTable names.new }
     ensures done { IfOk result (λ c. IsArrayOf names.new head (length values.now) values.now c) }
 {
-    let mut cell = Cell::new(maker, head);
+    let mut cell = Cell::with_room(maker, head, values.len() + 1)?;
     cell.write(LENGTH, count_value(values.len() as u32), 0)?;
     for at in 0..values.len() {
         let name = element_name(maker.alloc, at as u32)?;
@@ -65,7 +66,7 @@ fn array_of(maker: Maker, names: &mut Names, head: Head, values: &[Value]) -> Re
 /// Adds an Array of these elements.
 pub fn add_array(
     maker: Maker,
-    names: &mut Names,
+    names: &mut PropertyNames,
     cells: &mut Vec<Cell>,
     head: Head,
     values: &[Value],
@@ -124,7 +125,7 @@ fn bunch(maker: Maker, head: Head, array: CellId) -> Result<Cell, Memory>
 /// Adds a Bunch and then its hidden Array.
 pub fn add_bunch(
     maker: Maker,
-    names: &mut Names,
+    names: &mut PropertyNames,
     cells: &mut Vec<Cell>,
     raws: &IndexMap<u32, u32, NumberKeys>,
     place: OwnPlace,

@@ -10,8 +10,9 @@ ghost use Rattle.store_table.specs.Bare.{AreFirst, IsGiven, are_natives_within, 
 use crate::table::{self, Target};
 use code_units::{Memory, Owner, Text};
 use indexmap::IndexMap;
-use keyed_names::{Keys, Names, NumberKeys};
+use keyed_names::{Keys, NumberKeys};
 use permitted_table::{HostEntry, NativeId};
+use property_names::PropertyNames;
 use std::alloc::{AllocError, Global};
 use store_cells::cell::{Cell, Head, Maker};
 use store_cells::{CellId, Form, Number, Value};
@@ -265,20 +266,10 @@ fn bare_cells(maker: Maker, rows: &[(u32, &str, NativeId)]) -> Result<Vec<Cell>,
     Ok(cells)
 }
 
-// The two names with fixed numbers.
-fn first_names(alloc: Global, keys: Keys) -> Result<Names, Memory>
-    ensures { IfOk result (λ names. IsTable names × AreWords names) }
-{
-    let mut names = Names::new(alloc, keys)?;
-    names.intern(&text_of(alloc, "length")?)?;
-    names.intern(&text_of(alloc, "___nodes___")?)?;
-    Ok(names)
-}
-
 // Gives a cell of the host a property.
 fn give(
     alloc: Global,
-    names: &mut Names,
+    names: &mut PropertyNames,
     cells: &mut Vec<Cell>,
     home: CellId,
     name: &str,
@@ -298,7 +289,7 @@ fn give(
 
 fn give_natives(
     alloc: Global,
-    names: &mut Names,
+    names: &mut PropertyNames,
     cells: &mut Vec<Cell>,
     rows: &[(u32, &str, NativeId)],
 ) -> Result<(), Memory>
@@ -319,7 +310,7 @@ fn give_natives(
 
 fn give_references(
     alloc: Global,
-    names: &mut Names,
+    names: &mut PropertyNames,
     cells: &mut Vec<Cell>,
     rows: &[(u32, &str, CellId)],
 ) -> Result<(), Memory>
@@ -340,7 +331,7 @@ fn give_references(
 // Gives the host's cells their properties.
 fn give_all(
     alloc: Global,
-    names: &mut Names,
+    names: &mut PropertyNames,
     cells: &mut Vec<Cell>,
     rows: &[(u32, &str, NativeId)],
     references: &[(u32, &str, CellId)],
@@ -369,7 +360,7 @@ fn table_of(
     keys: Keys,
     rows: &[(u32, &str, NativeId)],
     references: &[(u32, &str, CellId)],
-) -> Result<(Names, Vec<Cell>), Memory>
+) -> Result<(PropertyNames, Vec<Cell>), Memory>
     requires forms { native_cells rows.now ≡ native_cells homed }
     requires natives { native_gifts rows.now ≡ map native_gift homed }
     requires references { references_as_gifts references.now ≡ reference_gifts }
@@ -377,7 +368,7 @@ fn table_of(
     requires fit_references { are_references_within 103 references.now ≡ true }
     ensures { IfOk result (λ r. AreFirst r.0 r.1.items) }
 {
-    let mut names = first_names(alloc, keys)?;
+    let mut names = PropertyNames::new(alloc, keys)?;
     let key = keys.for_numbers();
     let mut cells = bare_cells(Maker { alloc, key }, rows)?;
     give_all(alloc, &mut names, &mut cells, rows, references)?;
@@ -385,7 +376,7 @@ fn table_of(
 }
 
 /// The host's cells of a new store, and the table of their names, which hash by these keys.
-pub fn host_table(alloc: Global, keys: Keys) -> Result<(Names, Vec<Cell>), Memory>
+pub fn host_table(alloc: Global, keys: Keys) -> Result<(PropertyNames, Vec<Cell>), Memory>
     ensures { IfOk result (λ r. AreFirst r.0 r.1.items) }
 {
     table_of(alloc, keys, &NATIVES, &REFERENCES)

@@ -14,7 +14,8 @@ ghost use Rattle.store_cells.specs.Shape.{Added, AreRefs, Grew, IsBase, IsFine, 
 
 use code_units::{Memory, Owner, Text, index_of};
 use indexmap::IndexMap;
-use keyed_names::{Names, NumberKeys};
+use keyed_names::NumberKeys;
+use property_names::PropertyNames;
 use store_cells::cell::{Cell, Head, LENGTH, Maker, Write, count_value};
 use store_cells::{CellId, Form, Value};
 
@@ -90,7 +91,7 @@ pub fn cell(cells: &Vec<Cell>, i: CellId) -> &Cell
 }
 
 /// The number of a name, of which `number` is what the table says.
-pub fn number_or_new(names: &mut Names, number: Option<u32>, name: &Text) -> Result<u32, Memory>
+pub fn number_or_new(names: &mut PropertyNames, number: Option<u32>, name: &Text) -> Result<u32, Memory>
     requires number { IsNumberOf names.old name.now number }
     requires table { IsTable names.old }
     ensures new { IfOk result (λ n. Interns names.old names.new name.now n) }
@@ -133,9 +134,18 @@ fn write_two_at(
     cell.write_two(n, value, LENGTH, other, end)
 }
 
+// Makes the places that a write wants: an element past the length of an Array, and the length.
+fn make_places(names: &PropertyNames, cells: &mut Vec<Cell>, i: CellId) -> Result<(), Memory>
+    requires { i < vec_len cells.old }
+    ensures { cells.new.items ≡ cells.old.items }
+{
+    let cell = &mut cells[i as usize];
+    cell.make_places(2, names.key())
+}
+
 /// Writes under a name alone.
 pub fn write_own(
-    names: &mut Names,
+    names: &mut PropertyNames,
     cells: &mut Vec<Cell>,
     target: Target,
     name: &Text,
@@ -152,12 +162,13 @@ pub fn write_own(
     ensures err { OnErr result (Kept names.old cells.old.items names.new cells.new.items) }
 {
     let n = number_or_new(names, target.number, name)?;
+    make_places(names, cells, target.cell)?;
     write_at(cells, target.cell, n, value, end)
 }
 
 // Writes an element at or past the length of an Array, and the length.
 fn write_longer(
-    names: &mut Names,
+    names: &mut PropertyNames,
     cells: &mut Vec<Cell>,
     target: Target,
     name: &Text,
@@ -174,11 +185,12 @@ fn write_longer(
     ensures err { OnErr result (Kept names.old cells.old.items names.new cells.new.items) }
 {
     let n = number_or_new(names, target.number, name)?;
+    make_places(names, cells, target.cell)?;
     write_two_at(cells, target.cell, n, value, count_value(len), len)
 }
 
 // Writes under the `length` of an Array.
-fn resize(names: &Names, cells: &mut Vec<Cell>, i: CellId, name: &Text, value: Value, len: u32)
+fn resize(names: &PropertyNames, cells: &mut Vec<Cell>, i: CellId, name: &Text, value: Value, len: u32)
     requires at { i < vec_len cells.old }
     requires base { IsBase names.now cells.old.items }
     requires plan { IsPlanned cells.old.items i name.now value (Write.Length len) }
@@ -191,7 +203,7 @@ fn resize(names: &Names, cells: &mut Vec<Cell>, i: CellId, name: &Text, value: V
 
 /// Writes under a name as the plan says.
 pub fn write(
-    names: &mut Names,
+    names: &mut PropertyNames,
     cells: &mut Vec<Cell>,
     target: Target,
     name: &Text,
@@ -218,7 +230,7 @@ pub fn write(
 }
 
 /// Takes a name out of a cell.
-pub fn take(names: &Names, cells: &mut Vec<Cell>, i: CellId, name: &Text, n: u32)
+pub fn take(names: &PropertyNames, cells: &mut Vec<Cell>, i: CellId, name: &Text, n: u32)
     requires at { i < vec_len cells.old }
     requires base { IsBase names.now cells.old.items }
     requires number { slice_get names.now n ≡ Some name.now }
@@ -241,7 +253,7 @@ fn end_of(name: &Text) -> u32
 
 /// Writes a variable that the scope at `i` has.
 pub fn set_variable(
-    names: &Names,
+    names: &PropertyNames,
     cells: &mut Vec<Cell>,
     i: CellId,
     name: &Text,
@@ -273,7 +285,7 @@ pub fn push(cells: &mut Vec<Cell>, cell: Cell) -> Result<CellId, Memory>
 }
 
 /// Adds a cell.
-pub fn add(names: &Names, cells: &mut Vec<Cell>, cell: Cell) -> Result<CellId, Memory>
+pub fn add(names: &PropertyNames, cells: &mut Vec<Cell>, cell: Cell) -> Result<CellId, Memory>
     requires base { IsBase names.now cells.old.items }
     requires fine { IsFine names.now (length cells.old.items + 1) cell }
     requires ordered { IsOrdered (heads cells.old.items) (length cells.old.items) cell.head }
@@ -315,9 +327,9 @@ pub fn index_node(raws: &mut IndexMap<u32, u32, NumberKeys>, node: u32, id: Cell
     };
 }
 
-/// Writes under a name of a new cell. `end` is past it where it is an element.
+/// Writes under a name of a new cell that has a place for it. `end` is past it where it is an element.
 pub fn write_new(
-    names: &mut Names,
+    names: &mut PropertyNames,
     cell: &mut Cell,
     name: &Text,
     value: Value,
@@ -343,7 +355,7 @@ pub fn write_new(
 // A new cell with its first pairs.
 fn filled(
     maker: Maker,
-    names: &mut Names,
+    names: &mut PropertyNames,
     head: Head,
     pairs: &[(Text, Value)],
 ) -> Result<Cell, Memory>
@@ -354,7 +366,7 @@ fn filled(
     ensures head { IfOk result (λ c. c.head ≡ head) }
     ensures done { IfOk result (λ c. plain names.new c ≡ fold with_pair (filled_cell head []) pairs.now) }
 {
-    let mut cell = Cell::new(maker, head);
+    let mut cell = Cell::with_room(maker, head, pairs.len())?;
     for (name, value) in pairs {
         let value = value.share()?;
         write_new(names, &mut cell, name, value, 0)?;
@@ -365,7 +377,7 @@ fn filled(
 /// Adds a cell that is no Array, with its first pairs, whose names differ.
 pub fn add_filled(
     maker: Maker,
-    names: &mut Names,
+    names: &mut PropertyNames,
     cells: &mut Vec<Cell>,
     head: Head,
     pairs: &[(Text, Value)],

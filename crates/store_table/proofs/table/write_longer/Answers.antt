@@ -1,13 +1,19 @@
-use Rattle.std.proofs.Common.{arith}
+use Rattle.std.proofs.Common.{◌≡◌, List, ap, arith, length, subst}
+use Rattle.std.specs.Prelude.{OnErr, OnOk, vec_len}
+use Rattle.store_cells.specs.Lists.{changed}
+use Rattle.store_cells.specs.Numbered.{NumberedCell, numbered_two}
 use Rattle.store_cells.proofs.Writes.{kept_err, wrote_longer}
 use Rattle.store_table.proofs.table.write_longer.Goals as goal
 
 pub returns-clause-ok : goal.returns-clause-ok
 returns-clause-ok c =
     let is = c.in_ok-n.ensures in
-    wrote_longer c.args.names.now c.number_or_new.new.names c.args.name.now c.in_ok-n.n is.new is.table c.args.cells.now.items c.write_two_at.new.cells.items c.requires.base c.args.target.cell c.write_two_at.result c.args.value c.requires.value c.args.len c.count_value.result c.count_value.ensures (omega (arith, c.ranges.len.fits)) c.requires.plan c.write_two_at.ensures.ok
+    wrote_longer c.args.names.now c.number_or_new.new.names c.args.name.now c.in_ok-n.n is.new is.table c.args.cells.now.items c.write_two_at.new.cells.items c.requires.base c.args.target.cell c.write_two_at.result c.args.value c.requires.value c.args.len c.count_value.result c.count_value.ensures (omega (arith, c.ranges.len.fits)) c.requires.plan (subst (λ (l : List NumberedCell). OnOk c.write_two_at.result (c.write_two_at.new.cells.items ≡ changed l c.args.target.cell (numbered_two c.in_ok-n.n c.args.value 0 c.count_value.result c.args.len))) c.make_places.ensures c.write_two_at.ensures.ok)
 
 pub returns-clause-err : goal.returns-clause-err
 returns-clause-err c =
     let is = c.in_ok-n.ensures in
-    kept_err c.args.names.now c.number_or_new.new.names c.args.name.now c.in_ok-n.n is.new is.table c.args.cells.now.items c.write_two_at.new.cells.items c.requires.base c.args.target.cell c.write_two_at.result c.write_two_at.ensures.err
+    kept_err c.args.names.now c.number_or_new.new.names c.args.name.now c.in_ok-n.n is.new is.table c.args.cells.now.items c.write_two_at.new.cells.items c.requires.base c.args.target.cell c.write_two_at.result (subst (λ (l : List NumberedCell). OnErr c.write_two_at.result (c.write_two_at.new.cells.items ≡ l)) c.make_places.ensures c.write_two_at.ensures.err)
+
+pub write_two_at-requires : goal.write_two_at-requires
+write_two_at-requires c = omega (arith, c.requires.at, ap (λ (l : List NumberedCell). length l) c.make_places.ensures, c.args.cells.now.ok.0, c.make_places.new.cells.ok.0)
