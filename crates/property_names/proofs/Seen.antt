@@ -15,7 +15,7 @@ use Rattle.code_units.specs.Indices.{index_of}
 use Rattle.code_units.proofs.Indexed.{index_known, index_only}
 use Rattle.keyed_names.specs.Interned.{Interns, IsTable, interned}
 use Rattle.property_names.specs.declared.names.TheConstants.{RULED}
-use Rattle.property_names.specs.Seen.{AreOthers, HasWords, below_bound, decimals, indices, place_of, ruled_index, ruled_number, seen, shifted}
+use Rattle.property_names.specs.Seen.{AreOthers, HasWords, below_bound, decimals, first_keys, indices, place_of, ruled_index, ruled_number, seen, shifted}
 
 none_some : {A : Type 0} {a : A} → None ≡ Some a → ⊥
 none_some e = cc
@@ -218,6 +218,22 @@ seen_table keys h = record {
   small = omega (arith, seen_long keys (long_keys keys h), h.room);
 }
 
+pub table_after : (old new : List (List ℕ)) → new ≡ old → AreOthers old → IsTable (seen new)
+table_after old new same h = subst (λ k. IsTable (seen k)) (sym same) (seen_table old h)
+
+-- the first names
+first_others : AreOthers first_keys
+unfolding IsDistinct
+first_others = record {
+  table = record { distinct = ((refl, tt), (tt, tt)); small = omega (arith) };
+  words = (refl, refl);
+  others = (refl, (refl, tt));
+  room = omega (arith);
+}
+
+pub first_table : (keys : List (List ℕ)) → keys ≡ first_keys → IsTable (seen keys)
+first_table keys same = table_after first_keys keys same first_others
+
 -- a name is interned
 pub seen_push : (keys : List (List ℕ)) (name : List ℕ) → 2 ≤ length keys → seen (keys ++ name ∷ []) ≡ seen keys ++ name ∷ []
 seen_push [] name two = absurd (omega (arith, two))
@@ -283,9 +299,9 @@ number_of_none keys all name view h none absent = ap (λ l. list_any (bytes_eq n
 pub table_of : (keys all : List (List ℕ)) → seen keys ≡ all → AreOthers keys → IsTable all
 table_of keys all view h = subst IsTable view (seen_table keys h)
 
-pub on_none : {P : Type 0} {Q : ℕ → Type 0} (r : Option ℕ) → r ≡ None → P → MatchOption r P Q
-on_none None e p = p
-on_none (Some n) e p = absurd (none_some (sym e))
+pub on_none : {P : Type 0} (Q : ℕ → Type 0) (r : Option ℕ) → r ≡ None → P → MatchOption r P Q
+on_none Q None e p = p
+on_none Q (Some n) e p = absurd (none_some (sym e))
 
 -- a name that is there is interned
 pub interns_there : (all : List (List ℕ)) (name : List ℕ) (n : ℕ) → (slice_get all n ≡ Some name) × (n < length all) → Interns all all name n

@@ -25,6 +25,7 @@ pub const FIRST_INDEX: u32 = 2;
 #[derive(Drop)]
 pub struct PropertyNames {
     names: Names,
+    key: NumberKeys,
 }
 
 impl Model for PropertyNames {
@@ -116,7 +117,8 @@ fn first_names(alloc: Global, keys: Keys) -> Result<Names, Memory>
 impl PropertyNames {
     /// The names that every table has: the indices, `length` and `___nodes___`. It hashes by these keys.
     pub fn new(alloc: Global, keys: Keys) -> Result<PropertyNames, Memory>
-        ensures { IfOk result (λ names. HasWords names) }
+        ensures table { IfOk result (λ names. IsTable names) }
+        ensures words { IfOk result (λ names. HasWords names) }
     {
         let names = first_names(alloc, keys)?;
         let key = keys.for_numbers();

@@ -1,5 +1,8 @@
-use Rattle.property_names.proofs.Seen.{new_interns, new_others, new_place, seen_table}
+use Rattle.property_names.proofs.Seen.{new_interns, new_others, new_place, seen_table, table_after}
 use Rattle.property_names.proofs.names.PropertyNames.intern_new.Goals as goal
+
+pub returns-in_err-place-clause-table : goal.returns-in_err-place-clause-table
+returns-in_err-place-clause-table c = table_after c.self.inside.names c.intern.new.self c.in_err-place.ensures.err c.self.invariant
 
 pub shifted-requires : goal.shifted-requires
 shifted-requires c = new_place c.self.inside.names c.args.self.now c.intern.new.self c.args.name.now c.in_ok-place.place c.self.view_is c.self.invariant c.requires.few c.requires.absent c.in_ok-place.ensures.ok
