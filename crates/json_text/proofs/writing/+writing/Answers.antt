@@ -92,14 +92,14 @@ pub write_members-returns-in_default : goal.write_members-returns-in_default
 write_members-returns-in_default t c = IfOk-weaker c.push_word.result _ _ (λ p h. λ fs r w confined pairs.
     let s = c.args.store.now in
     h ∙ sym (ended w s.cells (value_text c.args.m (image fs r w s)) (pairs_at s.cells c.args.cell) c.loop-at.first c.loop-at.at c.loop-at.out.items
-    (pair_none s.cells c.args.cell c.loop-at.at c.in_ok-name_at.field-0 c.in_default.is c.in_ok-name_at.ensures))
+    (pair_none s.cells c.args.cell c.loop-at.at _ c.in_default.is c.in_ok-name.ensures))
     ∙ c.loop-at.invariant fs r w confined pairs) c.push_word.ensures
 
 pub write_members-returns-in-NoJson : goal.write_members-returns-in-NoJson
 write_members-returns-in-NoJson t c = λ fs r w confined pairs.
     let s = c.args.store.now in
     let ps = pairs_at s.cells c.args.cell in
-    let at = pair_there s.cells c.args.cell c.loop-at.at c.in_ok-name_at.field-0 (option_copied c.var_at.result) c.in-Some.name c.in-Some-var_at.value.now c.requires c.in-Some.is (ap option_copied c.in-Some-var_at.is) c.in_ok-name_at.ensures c.var_at.ensures in
+    let at = pair_there s.cells c.args.cell c.loop-at.at _ (option_copied c.var_at.result) c.in-Some.name c.in-Some-var_at.value.now c.requires c.in-Some.is (ap option_copied c.in-Some-var_at.is) c.in_ok-name.ensures c.var_at.ensures in
     sym (written w s.cells (value_text c.args.m (image fs r w s)) ps c.loop-at.first c.loop-at.at (c.in-Some.name, c.in-Some-var_at.value.now) c.loop-at.out.items NoJson at (sym c.permitted.ensures ∙ c.if-permitted.true)
     (step_is _ step.NoJson c.write_part.new.out.items _ c.in-NoJson.is (c.in_ok-write_part.ensures fs r w confined (pair_fine w s.cells ps c.loop-at.at (c.in-Some.name, c.in-Some-var_at.value.now) pairs at))
     ∙ ap (λ b. and_write (write c.loop-at.out.items b) (value_text c.args.m (image fs r w s) (seen w s.cells c.in-Some-var_at.value.now))) (c.deref.ensures.value ∙ c.in_ok-before.ensures)))
@@ -109,7 +109,7 @@ pub write_members-returns-in-TooLong : goal.write_members-returns-in-TooLong
 write_members-returns-in-TooLong t c = λ fs r w confined pairs.
     let s = c.args.store.now in
     let ps = pairs_at s.cells c.args.cell in
-    let at = pair_there s.cells c.args.cell c.loop-at.at c.in_ok-name_at.field-0 (option_copied c.var_at.result) c.in-Some.name c.in-Some-var_at.value.now c.requires c.in-Some.is (ap option_copied c.in-Some-var_at.is) c.in_ok-name_at.ensures c.var_at.ensures in
+    let at = pair_there s.cells c.args.cell c.loop-at.at _ (option_copied c.var_at.result) c.in-Some.name c.in-Some-var_at.value.now c.requires c.in-Some.is (ap option_copied c.in-Some-var_at.is) c.in_ok-name.ensures c.var_at.ensures in
     sym (written w s.cells (value_text c.args.m (image fs r w s)) ps c.loop-at.first c.loop-at.at (c.in-Some.name, c.in-Some-var_at.value.now) c.loop-at.out.items TooLong at (sym c.permitted.ensures ∙ c.if-permitted.true)
     (step_is _ step.TooLong c.write_part.new.out.items _ c.in-TooLong.is (c.in_ok-write_part.ensures fs r w confined (pair_fine w s.cells ps c.loop-at.at (c.in-Some.name, c.in-Some-var_at.value.now) pairs at))
     ∙ ap (λ b. and_write (write c.loop-at.out.items b) (value_text c.args.m (image fs r w s) (seen w s.cells c.in-Some-var_at.value.now))) (c.deref.ensures.value ∙ c.in_ok-before.ensures)))
@@ -120,7 +120,7 @@ write_members-loop-at-preserved t c = λ fs r w confined pairs.
     let s = c.args.store.now in
     let ps = pairs_at s.cells c.args.cell in
     let one = value_text c.args.m (image fs r w s) in
-    let at = pair_there s.cells c.args.cell c.loop-at.at c.in_ok-name_at.field-0 (option_copied c.var_at.result) c.in-Some.name c.in-Some-var_at.value.now c.requires c.in-Some.is (ap option_copied c.in-Some-var_at.is) c.in_ok-name_at.ensures c.var_at.ensures in
+    let at = pair_there s.cells c.args.cell c.loop-at.at _ (option_copied c.var_at.result) c.in-Some.name c.in-Some-var_at.value.now c.requires c.in-Some.is (ap option_copied c.in-Some-var_at.is) c.in_ok-name.ensures c.var_at.ensures in
     (elim c.if-permitted.branch [
       | write_members-then-permitted+in_ok-before+in_ok-write_part+in-Wrote b ↦
           ap (λ f. rest w s.cells one ps f (c.loop-at.at + 1) c.if-permitted.out.items) b.first-is
