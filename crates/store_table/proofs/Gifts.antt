@@ -1,6 +1,6 @@
 -- The host's cells are given their properties.
 use Rattle.std.proofs.Common.{◌≡◌, ℕ, zero, suc, ◌+◌, ◌<◌, List, [], ◌∷◌, length, map, get_or, take, refl, sym, ap, ◌∙◌, subst, Some, arith, Bool, true, false, if◌then◌else◌, slice_get}
-use Rattle.std.specs.Prelude.{◌&&◌, not, nat_lt, Result, Ok, Err, OnOk}
+use Rattle.std.specs.Prelude.{◌&&◌, not, nat_lt, Result, Ok, Err, OnErr, OnOk}
 use Rattle.std.specs.List.{list_all, fold}
 use Rattle.std.specs.Str.{bytes_eq}
 use Rattle.std.specs.Option.{option_map}
@@ -11,8 +11,8 @@ use Rattle.store_cells.specs.declared.cell.Head.{Head}
 use Rattle.store_cells.specs.declared.cell.Write.TheVariants as write
 use Rattle.code_units.specs.Indices.{index_of}
 use Rattle.store_cells.specs.Cells.{PlainCell, is_array}
-use Rattle.store_cells.specs.Arrays.{length_name, nodes_name, length_in}
-use Rattle.keyed_names.specs.Interned.{Interns, interned}
+use Rattle.store_cells.specs.Arrays.{length_name, length_in}
+use Rattle.property_names.specs.Seen.{HasWords}
 use Rattle.store_cells.specs.Shape.{AreWords}
 use Rattle.store_cells.specs.Numbered.{NumberedCell, heads, plan_of, element_plan, numbered_length}
 use Rattle.store_table.specs.Bare.{no_arrays, with_gifts}
@@ -56,17 +56,8 @@ pub lt_true : (m n : ℕ) → nat_lt m n ≡ true → m < n
 lt_true m n e = grind (arith, nat_tests, e)
 
 -- the first two names
-pub first_one : (names new : List (List ℕ)) (name : List ℕ) (n : ℕ) → names ≡ [] → Interns names new name n → new ≡ name ∷ []
-first_one names new name n e is = is.table ∙ ap (λ (l : List (List ℕ)). interned l name) e
-
-pub first_two : (names new : List (List ℕ)) (first name : List ℕ) (n : ℕ) → names ≡ first ∷ [] → first ≡ length_name → name ≡ nodes_name → Interns names new name n → new ≡ length_name ∷ nodes_name ∷ []
-first_two names new first name n e f g is = is.table ∙ (λ j. interned (e j) (g j)) ∙ ap (λ (t : List ℕ). interned (t ∷ []) nodes_name) f
-
-pub first_words : (names : List (List ℕ)) → names ≡ length_name ∷ nodes_name ∷ [] → AreWords names
-first_words names e = record {
-  length = ap (λ (l : List (List ℕ)). slice_get l 0) e;
-  nodes = ap (λ (l : List (List ℕ)). slice_get l 1) e;
-}
+pub are_words : (names : List (List ℕ)) → HasWords names → AreWords names
+are_words names has = record { length = has.0; nodes = has.1 }
 
 -- rows that fit
 pub pairs_fit : {X : Type 0} (f g : X → ℕ) (n : ℕ) (xs : List X) → list_all (λ x. nat_lt (f x) n && nat_lt (g x) n) xs ≡ true → (k : ℕ) (d : X) → k < length xs → (f (get_or xs k d) < n) × (g (get_or xs k d) < n)
@@ -89,6 +80,11 @@ fold_more g f z xs k d lt = let e : k + 1 ≡ suc k = omega arith in ap (λ n. f
 pub on_ok_then : {X E Y : Type 0} (r : Result X E) (a b d : Y) → OnOk r (a ≡ b) → b ≡ d → OnOk r (a ≡ d)
 on_ok_then (Ok x) a b d e g = e ∙ g
 on_ok_then (Err x) a b d e g = tt
+
+-- what holds in any case, where it is asked of a refusal
+pub on_err : {X E Y : Type 0} (r : Result X E) → Y → OnErr r Y
+on_err (Ok x) y = tt
+on_err (Err e) y = y
 
 -- gifts to the same cells
 pub gifts_then : (x : List PlainCell) (a b : List Gift) (y z : List PlainCell) → x ≡ with_gifts a b y → y ≡ z → x ≡ with_gifts a b z

@@ -45,7 +45,12 @@ fn value_at(values: &[Value], at: usize) -> Result<Value, Memory>
 }
 
 // An Array of these elements.
-fn array_of(maker: Maker, names: &mut PropertyNames, head: Head, values: &[Value]) -> Result<Cell, Memory>
+fn array_of(
+    maker: Maker,
+    names: &mut PropertyNames,
+    head: Head,
+    values: &[Value],
+) -> Result<Cell, Memory>
     requires table { IsTable names.old }
     requires words { AreWords names.old }
     requires few { length values.now ≤ SLOT_LIMIT }

@@ -1,10 +1,9 @@
 //! The host's cells of a new store.
 ghost use Rattle.std.specs.Prelude.{◌≡◌, ◌+◌, ◌<◌, [], ◌∷◌, ◌++◌, Some, true, map, fold, length, vec_len, IfOk, OnOk};
-ghost use Rattle.keyed_names.specs.Interned.{IsTable};
 ghost use Rattle.permitted_table.specs.Natives.{number_of};
 ghost use Rattle.store_cells.specs.Host.{first_native, place_of};
 ghost use Rattle.store_cells.specs.Numbered.{cells_of, heads};
-ghost use Rattle.store_cells.specs.Shape.{AreWords, IsBase, IsRefWithin};
+ghost use Rattle.store_cells.specs.Shape.{IsBase, IsRefWithin};
 ghost use Rattle.store_table.specs.Bare.{AreFirst, IsGiven, are_natives_within, are_references_within, bare_of, given, homed, host_numbered, native_cells, native_gift, native_gifts, no_arrays, reference_gifts, references_as_gifts, with_gifts};
 
 use crate::table::{self, Target};

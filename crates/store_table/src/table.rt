@@ -91,7 +91,11 @@ pub fn cell(cells: &Vec<Cell>, i: CellId) -> &Cell
 }
 
 /// The number of a name, of which `number` is what the table says.
-pub fn number_or_new(names: &mut PropertyNames, number: Option<u32>, name: &Text) -> Result<u32, Memory>
+pub fn number_or_new(
+    names: &mut PropertyNames,
+    number: Option<u32>,
+    name: &Text,
+) -> Result<u32, Memory>
     requires number { IsNumberOf names.old name.now number }
     requires table { IsTable names.old }
     ensures new { IfOk result (λ n. Interns names.old names.new name.now n) }
@@ -134,13 +138,18 @@ fn write_two_at(
     cell.write_two(n, value, LENGTH, other, end)
 }
 
-// Makes the places that a write wants: an element past the length of an Array, and the length.
-fn make_places(names: &PropertyNames, cells: &mut Vec<Cell>, i: CellId) -> Result<(), Memory>
+// Makes places in a cell for so many more names.
+fn make_places(
+    names: &PropertyNames,
+    cells: &mut Vec<Cell>,
+    i: CellId,
+    additional: usize,
+) -> Result<(), Memory>
     requires { i < vec_len cells.old }
     ensures { cells.new.items ≡ cells.old.items }
 {
     let cell = &mut cells[i as usize];
-    cell.make_places(2, names.key())
+    cell.make_places(additional, names.key())
 }
 
 /// Writes under a name alone.
@@ -162,7 +171,7 @@ pub fn write_own(
     ensures err { OnErr result (Kept names.old cells.old.items names.new cells.new.items) }
 {
     let n = number_or_new(names, target.number, name)?;
-    make_places(names, cells, target.cell)?;
+    make_places(names, cells, target.cell, 1)?;
     write_at(cells, target.cell, n, value, end)
 }
 
@@ -185,12 +194,19 @@ fn write_longer(
     ensures err { OnErr result (Kept names.old cells.old.items names.new cells.new.items) }
 {
     let n = number_or_new(names, target.number, name)?;
-    make_places(names, cells, target.cell)?;
+    make_places(names, cells, target.cell, 2)?;
     write_two_at(cells, target.cell, n, value, count_value(len), len)
 }
 
 // Writes under the `length` of an Array.
-fn resize(names: &PropertyNames, cells: &mut Vec<Cell>, i: CellId, name: &Text, value: Value, len: u32)
+fn resize(
+    names: &PropertyNames,
+    cells: &mut Vec<Cell>,
+    i: CellId,
+    name: &Text,
+    value: Value,
+    len: u32,
+)
     requires at { i < vec_len cells.old }
     requires base { IsBase names.now cells.old.items }
     requires plan { IsPlanned cells.old.items i name.now value (Write.Length len) }

@@ -5,7 +5,7 @@ use Rattle.store_cells.specs.Shape.{IsBase}
 use Rattle.store_cells.specs.Host.{first_native}
 use Rattle.permitted_table.specs.Natives.{number_of}
 use Rattle.store_table.specs.Bare.{bare_numbered, bare_of, no_arrays, with_gifts}
-use Rattle.store_table.proofs.Gifts.{rows_fit}
+use Rattle.store_table.proofs.Gifts.{are_words, rows_fit}
 use Rattle.store_table.proofs.Firsts.{bare_base, bare_plain, first_gifts}
 use Rattle.store_table.proofs.host.table_of.Goals as goal
 
@@ -15,7 +15,7 @@ give_all-requires-clause-size c = subst (λ (l : List NumberedCell). 0 < length 
 
 pub give_all-requires-clause-base : goal.give_all-requires-clause-base
 unfolding bare_numbered
-give_all-requires-clause-base c = subst (λ (l : List NumberedCell). IsBase c.in_ok-names.names l) (sym (c.in_ok-cells.ensures ∙ ap bare_of c.requires.forms)) (bare_base c.in_ok-names.names c.in_ok-names.ensures.0 c.in_ok-names.ensures.1)
+give_all-requires-clause-base c = subst (λ (l : List NumberedCell). IsBase c.in_ok-names.names l) (sym (c.in_ok-cells.ensures ∙ ap bare_of c.requires.forms)) (bare_base c.in_ok-names.names c.in_ok-names.ensures.table (are_words c.in_ok-names.names c.in_ok-names.ensures.words))
 
 pub give_all-requires-clause-plain : goal.give_all-requires-clause-plain
 unfolding bare_numbered

@@ -3,6 +3,7 @@ use Rattle.std.specs.Prelude.{OnErr, OnOk, vec_len}
 use Rattle.store_cells.specs.Lists.{changed}
 use Rattle.store_cells.specs.Numbered.{NumberedCell, numbered_two}
 use Rattle.store_cells.proofs.Writes.{kept_err, wrote_longer}
+use Rattle.store_table.proofs.Gifts.{on_err}
 use Rattle.store_table.proofs.table.write_longer.Goals as goal
 
 pub returns-clause-ok : goal.returns-clause-ok
@@ -17,3 +18,8 @@ returns-clause-err c =
 
 pub write_two_at-requires : goal.write_two_at-requires
 write_two_at-requires c = omega (arith, c.requires.at, ap (λ (l : List NumberedCell). length l) c.make_places.ensures, c.args.cells.now.ok.0, c.make_places.new.cells.ok.0)
+
+pub returns-in_err-make_places-clause-err : goal.returns-in_err-make_places-clause-err
+returns-in_err-make_places-clause-err c =
+    let is = c.in_ok-n.ensures in
+    kept_err c.args.names.now c.number_or_new.new.names c.args.name.now c.in_ok-n.n is.new is.table c.args.cells.now.items c.make_places.new.cells.items c.requires.base c.args.target.cell c.from_residual-in_err-make_places.result (on_err c.from_residual-in_err-make_places.result c.make_places.ensures)
