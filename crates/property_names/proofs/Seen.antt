@@ -13,9 +13,9 @@ use Rattle.std.proofs.lemmas.Option.{slice_get_within}
 use Rattle.std.proofs.lemmas.Slice.Eq.{bytes_eq-Decides}
 use Rattle.code_units.specs.Indices.{index_of}
 use Rattle.code_units.proofs.Indexed.{index_known, index_only}
-use Rattle.keyed_names.specs.Interned.{Interns, IsTable, interned}
+use Rattle.keyed_names.specs.Interned.{Interns, IsTable}
 use Rattle.property_names.specs.declared.names.TheConstants.{RULED}
-use Rattle.property_names.specs.Seen.{AreOthers, HasWords, below_bound, decimals, first_keys, indices, place_of, ruled_index, ruled_number, seen, shifted}
+use Rattle.property_names.specs.Seen.{AreOthers, below_bound, decimals, first_keys, indices, place_of, ruled_index, ruled_number, seen, shifted}
 
 none_some : {A : Type 0} {a : A} → None ≡ Some a → ⊥
 none_some e = cc

@@ -1,19 +1,19 @@
--- The indices of a list without a gap, and of a map of what lies past one.
-use Rattle.std.proofs.Common.{◌≡◌, ℕ, zero, suc, ◌+◌, ◌<◌, ◌≤◌, List, [], ◌∷◌, ◌++◌, length, length-append, get_or, set, refl, sym, ap, ◌∙◌, subst, Option, Some, None, arith, Bool, true, false, eqb, cond}
+-- The indices below the first gap, and those of a map of what lies past it.
+use Rattle.std.proofs.Common.{◌≡◌, ℕ, zero, suc, ◌+◌, ◌<◌, ◌≤◌, List, [], ◌∷◌, ◌++◌, length, length-append, refl, sym, ap, ◌∙◌, subst, Option, Some, None, arith, Bool, true, false, eqb, cond}
 use Rattle.std.specs.Prelude.{IfNone, IfSome, MatchOption, nat_lt}
 use Rattle.std.specs.BTreeMap.{insert_entry as tree_insert, is_at}
 use Rattle.std.specs.Cmp.{ranks}
 use Rattle.std.specs.declared.cmp.Ordering.{Ordering}
 use Rattle.std.specs.declared.cmp.Ordering.TheVariants.{Less, Equal, Greater}
 use Rattle.std.specs.List.{AllByRecursion}
-use Rattle.std.specs.Map.{keys_of, lookup}
+use Rattle.std.specs.Map.{keys_of}
 use Rattle.std.specs.Ordering.{MatchOrdering, is_lt, match_ordering, nat_cmp}
 use Rattle.std.proofs.lemmas.Bool.Decides.{nat_tests}
 use Rattle.std.proofs.lemmas.List.{append-nil, append_assoc}
 use Rattle.std.proofs.lemmas.Map.Keys.{ge_from_not_lt}
 use Rattle.store_cells.specs.Holes.{IsNonePast, IsPoppedPast}
 use Rattle.property_names.specs.declared.names.TheConstants.{FIRST_INDEX}
-use Rattle.store_cells.specs.Listed.{AreBelow, AreFrom, IsLastPast, by_rule, counted, joined}
+use Rattle.store_cells.specs.Listed.{AreBelow, AreFrom, AreListed, IsLastPast, IsLastRuled, IsNext, by_rule, joined}
 use Rattle.store_cells.specs.Numbered.{found_in, noted_below}
 use Rattle.store_cells.proofs.Indexed.{at_is}
 use Rattle.store_cells.proofs.Lists.{none_some}
@@ -53,56 +53,70 @@ at_other a b ne = at_is a b ∙ by (eqb a b) refl
     by true e = absurd (ne (grind (arith, nat_tests, e)))
     by false e = refl
 
--- an index of the list
-pub found_near : (k at i d : ℕ) (xs : List ℕ) (far : List (ℕ × ℕ)) → at ≡ k + i → i < length xs → found_in (counted k xs ++ far) at ≡ Some (get_or xs i d)
-found_near k at i d [] far e lt = absurd (omega (arith, lt))
-found_near k at zero d (x ∷ xs) far e lt = ap (λ b. cond b (Some x) (found_in (counted (suc k) xs ++ far) at)) (at_same at k (omega (arith, e)))
-found_near k at (suc i) d (x ∷ xs) far e lt =
-    ap (λ b. cond b (Some x) (found_in (counted (suc k) xs ++ far) at)) (at_other at k (λ same. omega (arith, e, same)))
-    ∙ found_near (suc k) at i d xs far (omega (arith, e)) (omega (arith, lt))
+-- an index by rule
+pub found_near : (k at i m : ℕ) (far : List (ℕ × ℕ)) → at ≡ k + i → i < m → found_in (by_rule k m ++ far) at ≡ Some (FIRST_INDEX + at)
+found_near k at i zero far e lt = absurd (omega (arith, lt))
+found_near k at zero (suc m) far e lt =
+    let same : k ≡ at = omega (arith, e) in
+    ap (λ b. cond b (Some (FIRST_INDEX + k)) (found_in (by_rule (suc k) m ++ far) at)) (at_same at k (sym same)) ∙ ap (λ i. Some (FIRST_INDEX + i)) same
+found_near k at (suc i) (suc m) far e lt =
+    ap (λ b. cond b (Some (FIRST_INDEX + k)) (found_in (by_rule (suc k) m ++ far) at)) (at_other at k (λ same. omega (arith, e, same)))
+    ∙ found_near (suc k) at i m far (omega (arith, e)) (omega (arith, lt))
 
--- an index past it
-pub found_far : (k at : ℕ) (xs : List ℕ) (far : List (ℕ × ℕ)) → k + length xs ≤ at → found_in (counted k xs ++ far) at ≡ found_in far at
-found_far k at [] far le = refl
-found_far k at (x ∷ xs) far le =
-    ap (λ b. cond b (Some x) (found_in (counted (suc k) xs ++ far) at)) (at_other at k (λ same. omega (arith, le, same)))
-    ∙ found_far (suc k) at xs far (omega (arith, le))
+-- an index past them
+pub found_far : (k at m : ℕ) (far : List (ℕ × ℕ)) → k + m ≤ at → found_in (by_rule k m ++ far) at ≡ found_in far at
+found_far k at zero far le = refl
+found_far k at (suc m) far le =
+    ap (λ b. cond b (Some (FIRST_INDEX + k)) (found_in (by_rule (suc k) m ++ far) at)) (at_other at k (λ same. omega (arith, le, same)))
+    ∙ found_far (suc k) at m far (omega (arith, le))
 
--- a number is written in its place
-pub set_near : (k at i n : ℕ) (xs : List ℕ) (far : List (ℕ × ℕ)) → at ≡ k + i → i < length xs → counted k (set xs i n) ++ far ≡ tree_insert nat_cmp (counted k xs ++ far) at n
-set_near k at i n [] far e lt = absurd (omega (arith, lt))
-set_near k at zero n (x ∷ xs) far e lt =
-    sym (ap (λ o. match_ordering o ((at, n) ∷ (k, x) ∷ (counted (suc k) xs ++ far)) ((k, n) ∷ (counted (suc k) xs ++ far)) ((k, x) ∷ tree_insert nat_cmp (counted (suc k) xs ++ far) at n)) (cmp_equal at k (omega (arith, e))))
-set_near k at (suc i) n (x ∷ xs) far e lt =
-    ap (λ l. (k, x) ∷ l) (set_near (suc k) at i n xs far (omega (arith, e)) (omega (arith, lt)))
-    ∙ sym (ap (λ o. match_ordering o ((at, n) ∷ (k, x) ∷ (counted (suc k) xs ++ far)) ((k, n) ∷ (counted (suc k) xs ++ far)) ((k, x) ∷ tree_insert nat_cmp (counted (suc k) xs ++ far) at n)) (cmp_greater at k (omega (arith, e))))
+-- an index is noted again
+step : (k at n m : ℕ) (far : List (ℕ × ℕ)) → k < at → (k, FIRST_INDEX + k) ∷ tree_insert nat_cmp (by_rule (suc k) m ++ far) at n ≡ tree_insert nat_cmp (by_rule k (suc m) ++ far) at n
+step k at n m far lt = sym (ap (λ o. match_ordering o ((at, n) ∷ (k, FIRST_INDEX + k) ∷ (by_rule (suc k) m ++ far)) ((k, n) ∷ (by_rule (suc k) m ++ far)) ((k, FIRST_INDEX + k) ∷ tree_insert nat_cmp (by_rule (suc k) m ++ far) at n)) (cmp_greater at k lt))
 
--- a number is noted right behind the list
+pub same_near : (k at i n m : ℕ) (far : List (ℕ × ℕ)) → at ≡ k + i → i < m → n ≡ FIRST_INDEX + at → by_rule k m ++ far ≡ tree_insert nat_cmp (by_rule k m ++ far) at n
+same_near k at i n zero far e lt is = absurd (omega (arith, lt))
+same_near k at zero n (suc m) far e lt is =
+    let same : at ≡ k = omega (arith, e) in
+    let number : FIRST_INDEX + k ≡ n = omega (arith, e, is) in
+    ap (λ x. (k, x) ∷ (by_rule (suc k) m ++ far)) number
+    ∙ sym (ap (λ o. match_ordering o ((at, n) ∷ (k, FIRST_INDEX + k) ∷ (by_rule (suc k) m ++ far)) ((k, n) ∷ (by_rule (suc k) m ++ far)) ((k, FIRST_INDEX + k) ∷ tree_insert nat_cmp (by_rule (suc k) m ++ far) at n)) (cmp_equal at k same))
+same_near k at (suc i) n (suc m) far e lt is =
+    ap (λ l. (k, FIRST_INDEX + k) ∷ l) (same_near (suc k) at i n m far (omega (arith, e)) (omega (arith, lt)) is)
+    ∙ step k at n m far (omega (arith, e))
+
+-- an index is noted right behind them
 first_far : (at n : ℕ) (far : List (ℕ × ℕ)) → AreFrom (suc at) far → (at, n) ∷ far ≡ tree_insert nat_cmp far at n
 first_far at n [] h = refl
 first_far at n (e ∷ far) h = sym (ap (λ o. match_ordering o ((at, n) ∷ e ∷ far) ((e.0, n) ∷ far) (e ∷ tree_insert nat_cmp far at n)) (cmp_less at e.0 (omega (arith, h.0))))
 
-pub push_near : (k at n : ℕ) (xs : List ℕ) (far : List (ℕ × ℕ)) → at ≡ k + length xs → AreFrom (suc at) far → counted k (xs ++ n ∷ []) ++ far ≡ tree_insert nat_cmp (counted k xs ++ far) at n
-push_near k at n [] far e h = ap (λ m. (m, n) ∷ far) (sym (omega (arith, e))) ∙ first_far at n far h
-push_near k at n (x ∷ xs) far e h =
-    ap (λ l. (k, x) ∷ l) (push_near (suc k) at n xs far (omega (arith, e)) h)
-    ∙ sym (ap (λ o. match_ordering o ((at, n) ∷ (k, x) ∷ (counted (suc k) xs ++ far)) ((k, n) ∷ (counted (suc k) xs ++ far)) ((k, x) ∷ tree_insert nat_cmp (counted (suc k) xs ++ far) at n)) (cmp_greater at k (omega (arith, e))))
+pub push_near : (k at n m : ℕ) (far : List (ℕ × ℕ)) → at ≡ k + m → n ≡ FIRST_INDEX + at → AreFrom (suc at) far → by_rule k (suc m) ++ far ≡ tree_insert nat_cmp (by_rule k m ++ far) at n
+push_near k at n zero far e is h =
+    let same : k ≡ at = omega (arith, e) in
+    let number : FIRST_INDEX + k ≡ n = omega (arith, e, is) in
+    (λ j. (same j, number j) ∷ far) ∙ first_far at n far h
+push_near k at n (suc m) far e is h =
+    ap (λ l. (k, FIRST_INDEX + k) ∷ l) (push_near (suc k) at n m far (omega (arith, e)) is h) ∙ step k at n m far (omega (arith, e))
 
--- a number is noted past it
-pub insert_far : (k at n : ℕ) (xs : List ℕ) (far : List (ℕ × ℕ)) → k + length xs ≤ at → counted k xs ++ tree_insert nat_cmp far at n ≡ tree_insert nat_cmp (counted k xs ++ far) at n
-insert_far k at n [] far le = refl
-insert_far k at n (x ∷ xs) far le =
-    ap (λ l. (k, x) ∷ l) (insert_far (suc k) at n xs far (omega (arith, le)))
-    ∙ sym (ap (λ o. match_ordering o ((at, n) ∷ (k, x) ∷ (counted (suc k) xs ++ far)) ((k, n) ∷ (counted (suc k) xs ++ far)) ((k, x) ∷ tree_insert nat_cmp (counted (suc k) xs ++ far) at n)) (cmp_greater at k (omega (arith, le))))
+-- an index is noted past them
+pub insert_far : (k at n m : ℕ) (far : List (ℕ × ℕ)) → k + m ≤ at → by_rule k m ++ tree_insert nat_cmp far at n ≡ tree_insert nat_cmp (by_rule k m ++ far) at n
+insert_far k at n zero far le = refl
+insert_far k at n (suc m) far le = ap (λ l. (k, FIRST_INDEX + k) ∷ l) (insert_far (suc k) at n m far (omega (arith, le))) ∙ step k at n m far (omega (arith, le))
 
 -- what the map keeps
-pub from_more : (m : ℕ) (far : List (ℕ × ℕ)) → AreFrom m far → found_in far m ≡ None → AreFrom (suc m) far
+from_more : (m : ℕ) (far : List (ℕ × ℕ)) → AreFrom m far → found_in far m ≡ None → AreFrom (suc m) far
 from_more m [] h none = tt
 from_more m (e ∷ far) h none = by (is_at (nat_cmp m) e.0) refl none (from_more m far h.1)
   where
     by : (b : Bool) → is_at (nat_cmp m) e.0 ≡ b → cond b (Some e.1) (found_in far m) ≡ None → (found_in far m ≡ None → AreFrom (suc m) far) → AreFrom (suc m) (e ∷ far)
     by true g some rest = absurd (none_some (sym some))
     by false g missing rest = (grind (arith, nat_tests, h.0, sym (at_is m e.0) ∙ g), rest missing)
+
+pub listed_more : (upto more at n : ℕ) (far : List (ℕ × ℕ)) → more ≡ upto + 1 → IsNext upto far at n → AreListed upto far → AreListed more far
+listed_more upto more at n far one h is = record {
+  from = subst (λ m. AreFrom m far) (sym (omega (arith, one))) (from_more upto far is.from (subst (λ i. found_in far i ≡ None) h.next h.absent));
+  ruled = omega (arith, one, h.next, h.ruled);
+}
 
 pub from_insert : (m at n : ℕ) (far : List (ℕ × ℕ)) → m ≤ at → AreFrom m far → AreFrom m (tree_insert nat_cmp far at n)
 from_insert m at n [] le h = (le, tt)
@@ -118,9 +132,9 @@ from_front m [] e h = (tt, h.0)
 from_front m (x ∷ far) e h = let rest = from_front m far e h.1 in ((h.0, rest.0), rest.1)
 
 -- all below
-pub below_join : (k m : ℕ) (xs : List ℕ) (far : List (ℕ × ℕ)) → k + length xs ≤ m → AreBelow m far → AreBelow m (counted k xs ++ far)
-below_join k m [] far le h = h
-below_join k m (x ∷ xs) far le h = (omega (arith, le), below_join (suc k) m xs far (omega (arith, le)) h)
+pub below_join : (k m b : ℕ) (far : List (ℕ × ℕ)) → k + m ≤ b → AreBelow b far → AreBelow b (by_rule k m ++ far)
+below_join k zero b far le h = h
+below_join k (suc m) b far le h = (omega (arith, le), below_join (suc k) m b far (omega (arith, le)) h)
 
 pub below_keys : (at : ℕ) (far : List (ℕ × ℕ)) → AllByRecursion (λ q. is_lt (nat_cmp at q) ≡ false) (keys_of far) → AreBelow (at + 1) far
 below_keys at [] h = tt
@@ -179,36 +193,36 @@ popped_last n at k old new e h le = subst (λ (l : List (ℕ × ℕ)). IsPoppedP
   now = λ i. found_before at k i new h;
 })
 
-counted_push : (k x : ℕ) (xs : List ℕ) → counted k (xs ++ x ∷ []) ≡ counted k xs ++ (k + length xs, x) ∷ []
-counted_push k x [] = ap (λ m. (m, x) ∷ []) (omega arith)
-counted_push k x (y ∷ xs) = ap (λ l. (k, y) ∷ l) (counted_push (suc k) x xs ∙ ap (λ m. counted (suc k) xs ++ (m, x) ∷ []) (omega arith))
-
 -- of the map
-pub popped_far : (n k : ℕ) (xs : List ℕ) (old new : List (ℕ × ℕ)) → IsLastPast n k old new → AreFrom (length xs) old → IsPoppedPast n k (joined xs old) (joined xs new)
-popped_far n k xs old new h from =
-    let parts = from_front (length xs) new (h.at, k) (subst (AreFrom (length xs)) h.last from) in
-    popped_last n h.at k (joined xs old) (joined xs new) (ap (λ l. counted 0 xs ++ l) h.last ∙ sym (append_assoc (counted 0 xs) new ((h.at, k) ∷ []))) (below_join 0 h.at xs new (omega (arith, parts.1)) h.below) h.past
+pub popped_far : (n k upto : ℕ) (old new : List (ℕ × ℕ)) → IsLastPast n k old new → AreFrom upto old → IsPoppedPast n k (joined upto old) (joined upto new)
+popped_far n k upto old new h from =
+    let parts = from_front upto new (h.at, k) (subst (AreFrom upto) h.last from) in
+    popped_last n h.at k (joined upto old) (joined upto new) (ap (λ l. by_rule 0 upto ++ l) h.last ∙ sym (append_assoc (by_rule 0 upto) new ((h.at, k) ∷ []))) (below_join 0 upto h.at new (omega (arith, parts.1)) h.below) h.past
 
--- and of the list
+-- and of those by rule
+by_push : (k m : ℕ) → by_rule k (suc m) ≡ by_rule k m ++ (k + m, FIRST_INDEX + (k + m)) ∷ []
+by_push k zero = let same : k ≡ k + 0 = omega arith in ap (λ i. (i, FIRST_INDEX + i) ∷ []) same
+by_push k (suc m) = let same : suc k + m ≡ k + suc m = omega arith in ap (λ l. (k, FIRST_INDEX + k) ∷ l) (by_push (suc k) m ∙ ap (λ i. by_rule (suc k) m ++ (i, FIRST_INDEX + i) ∷ []) same)
+
 none_else : (n m : ℕ) (far : List (ℕ × ℕ)) → AreFrom m far → AreBelow n far → n < m → far ≡ []
 none_else n m [] from below lt = refl
 none_else n m (e ∷ far) from below lt = absurd (omega (arith, from.0, below.0, lt))
 
-popped_bare : (n k : ℕ) (old new : List ℕ) → old ≡ new ++ k ∷ [] → n ≤ length new → IsPoppedPast n k (joined old []) (joined new [])
-popped_bare n k old new e le =
-    let same : 0 + length new ≡ length new = omega arith in
-    popped_last n (length new) k (joined old []) (joined new [])
-    (ap (λ l. counted 0 l ++ []) e ∙ append-nil (counted 0 (new ++ k ∷ [])) ∙ counted_push 0 k new ∙ ap (λ m. counted 0 new ++ (m, k) ∷ []) same ∙ ap (λ l. l ++ (length new, k) ∷ []) (sym (append-nil (counted 0 new))))
-    (below_join 0 (length new) new [] (omega arith) tt) le
+popped_bare : (n k old new : ℕ) → IsLastRuled n k old new → IsPoppedPast n k (joined old []) (joined new [])
+popped_bare n k old new h =
+    let same : 0 + new ≡ new = omega arith in
+    let number : FIRST_INDEX + (0 + new) ≡ k = omega (arith, h.number) in
+    popped_last n new k (joined old []) (joined new [])
+    (ap (λ m. by_rule 0 m ++ []) h.last ∙ append-nil (by_rule 0 (suc new)) ∙ by_push 0 new ∙ (λ j. by_rule 0 new ++ (same j, number j) ∷ []) ∙ ap (λ l. l ++ (new, k) ∷ []) (sym (append-nil (by_rule 0 new))))
+    (below_join 0 new new [] (omega arith) tt) h.past
 
-pub popped_near : (n : ℕ) (r : Option ℕ) (xs ys : List ℕ) (far : List (ℕ × ℕ)) → AreFrom (length xs) far → AreBelow n far
-    → IfSome r (λ k. (xs ≡ ys ++ k ∷ []) × (n ≤ length ys)) → IfNone r ((ys ≡ xs) × (length xs ≤ n))
-    → MatchOption r ((joined ys far ≡ joined xs far) × IsNonePast n (joined xs far)) (λ k. IsPoppedPast n k (joined xs far) (joined ys far))
-popped_near n None xs ys far from below some none = (ap (λ l. joined l far) none.0, none_from_end n n (joined xs far) (below_join 0 n xs far (omega (arith, none.1)) below) (omega arith))
-popped_near n (Some k) xs ys far from below some none =
-    let longer : length xs ≡ length ys + 1 = ap (λ (l : List ℕ). length l) some.0 ∙ length-append ys (k ∷ []) in
-    let bare = none_else n (length xs) far from below (omega (arith, longer, some.1)) in
-    subst (λ (l : List (ℕ × ℕ)). IsPoppedPast n k (joined xs l) (joined ys l)) (sym bare) (popped_bare n k xs ys some.0 some.1)
+pub popped_near : (n : ℕ) (r : Option ℕ) (old new : ℕ) (far : List (ℕ × ℕ)) → AreFrom old far → AreBelow n far
+    → IfSome r (λ k. IsLastRuled n k old new) → IfNone r ((new ≡ old) × (old ≤ n))
+    → MatchOption r ((joined new far ≡ joined old far) × IsNonePast n (joined old far)) (λ k. IsPoppedPast n k (joined old far) (joined new far))
+popped_near n None old new far from below some none = (ap (λ m. joined m far) none.0, none_from_end n n (joined old far) (below_join 0 old n far (omega (arith, none.1)) below) (omega arith))
+popped_near n (Some k) old new far from below some none =
+    let bare = none_else n old far from below (omega (arith, some.last, some.past)) in
+    subst (λ (l : List (ℕ × ℕ)). IsPoppedPast n k (joined old l) (joined new l)) (sym bare) (popped_bare n k old new some)
 
 -- one less is noted then
 pub popped_less : (n k : ℕ) (old new : List (ℕ × ℕ)) → IsPoppedPast n k old new → length new < length old
@@ -220,14 +234,17 @@ pub popped_fewer : (n : ℕ) (r : Option ℕ) (old new : List (ℕ × ℕ)) → 
 popped_fewer n None old new h = tt
 popped_fewer n (Some k) old new h = popped_less n k old new h
 
--- a list that is no longer leaves the map as it is
-pub from_less : (m k : ℕ) (far : List (ℕ × ℕ)) → k ≤ m → AreFrom m far → AreFrom k far
+-- the map stays as it is where fewer have their numbers by rule
+from_less : (m k : ℕ) (far : List (ℕ × ℕ)) → k ≤ m → AreFrom m far → AreFrom k far
 from_less m k [] le h = tt
 from_less m k (e ∷ far) le h = (omega (arith, le, h.0), from_less m k far le h.1)
 
-pub shorter : (n : ℕ) (r : Option ℕ) (xs ys : List ℕ) → IfSome r (λ k. (xs ≡ ys ++ k ∷ []) × (n ≤ length ys)) → IfNone r ((ys ≡ xs) × (length xs ≤ n)) → length ys ≤ length xs
-shorter n None xs ys some none = omega (arith, ap (λ (l : List ℕ). length l) none.0)
-shorter n (Some k) xs ys some none = omega (arith, ap (λ (l : List ℕ). length l) some.0 ∙ length-append ys (k ∷ []))
+pub listed_less : (n : ℕ) (r : Option ℕ) (old new : ℕ) (far : List (ℕ × ℕ)) → IfSome r (λ k. IsLastRuled n k old new) → IfNone r ((new ≡ old) × (old ≤ n)) → AreListed old far → AreListed new far
+listed_less n None old new far some none h = subst (λ m. AreListed m far) (sym none.0) h
+listed_less n (Some k) old new far some none h = record {
+  from = from_less old new far (omega (arith, some.last)) h.from;
+  ruled = omega (arith, some.last, h.ruled);
+}
 
 -- a map with no index, and bounds of one
 pub empty_far : (far : List (ℕ × ℕ)) → (0 < length far → false ≡ true) → far ≡ []
@@ -247,26 +264,3 @@ below_more m n (e ∷ far) le h = (omega (arith, le, h.0), below_more m n far le
 pub none_then : {A P : Type 0} (r : Option A) → P → IfNone r P
 none_then None p = p
 none_then (Some a) p = tt
-
--- numbers by rule
-pub by_long : (k m : ℕ) → length (by_rule k m) ≡ m
-by_long k zero = refl
-by_long k (suc m) = ap suc (by_long (suc k) m)
-
-pub by_at : (k m i d : ℕ) → i < m → get_or (by_rule k m) i d ≡ FIRST_INDEX + (k + i)
-by_at k zero i d lt = absurd (omega (arith, lt))
-by_at k (suc m) zero d lt = omega arith
-by_at k (suc m) (suc i) d lt = let same : FIRST_INDEX + (suc k + i) ≡ FIRST_INDEX + (k + suc i) = omega arith in by_at (suc k) m i d (omega (arith, lt)) ∙ same
-
-pub by_push : (k m : ℕ) → by_rule k (suc m) ≡ by_rule k m ++ (FIRST_INDEX + (k + m)) ∷ []
-by_push k zero = let same : FIRST_INDEX + k ≡ FIRST_INDEX + (k + 0) = omega arith in ap (λ n. n ∷ []) same
-by_push k (suc m) = let same : FIRST_INDEX + (suc k + m) ≡ FIRST_INDEX + (k + suc m) = omega arith in ap (λ l. (FIRST_INDEX + k) ∷ l) (by_push (suc k) m ∙ ap (λ n. by_rule (suc k) m ++ n ∷ []) same)
-
--- a number that is written where it stands
-pub same_near : (k at i n : ℕ) (xs : List ℕ) (far : List (ℕ × ℕ)) → at ≡ k + i → i < length xs → get_or xs i 0 ≡ n → counted k xs ++ far ≡ tree_insert nat_cmp (counted k xs ++ far) at n
-same_near k at i n xs far e lt is = ap (λ l. counted k l ++ far) (sym (set_same xs i n lt is)) ∙ set_near k at i n xs far e lt
-  where
-    set_same : (xs : List ℕ) (i n : ℕ) → i < length xs → get_or xs i 0 ≡ n → set xs i n ≡ xs
-    set_same [] i n lt is = absurd (omega (arith, lt))
-    set_same (x ∷ xs) zero n lt is = ap (λ y. y ∷ xs) (sym is)
-    set_same (x ∷ xs) (suc i) n lt is = ap (λ l. x ∷ l) (set_same xs i n (omega (arith, lt)) is)

@@ -1,6 +1,6 @@
 -- The elements of an Array by their indices.
 use Rattle.std.proofs.Common.{◌≡◌, ℕ, zero, suc, ◌+◌, ◌<◌, ◌≤◌, List, [], ◌∷◌, ◌++◌, length, get_or, refl, sym, ap, ◌∙◌, subst, Option, Some, None, arith, Bool, true, false, eqb, cond, if◌then◌else◌, true≢false, slice_get, filter}
-use Rattle.std.specs.Prelude.{IsSome, is_some, nat_lt}
+use Rattle.std.specs.Prelude.{nat_lt}
 use Rattle.std.specs.BTreeMap.{insert_entry as tree_insert, is_at}
 use Rattle.std.specs.Cmp.{ranks, unsigned_tied}
 use Rattle.std.specs.declared.cmp.Ordering.{Ordering}
@@ -9,10 +9,10 @@ use Rattle.std.specs.Fmt.{decimal}
 use Rattle.std.specs.List.{AllByRecursion, IsDistinct}
 use Rattle.std.specs.Map.{keys_of, lookup, remove_entry}
 use Rattle.std.specs.Option.{option_and_then, option_map_or}
-use Rattle.std.specs.Ordering.{MatchOrdering, is_lt, match_ordering, nat_cmp}
+use Rattle.std.specs.Ordering.{MatchOrdering, match_ordering, nat_cmp}
 use Rattle.std.specs.Str.{bytes_eq}
 use Rattle.std.proofs.lemmas.Bool.Decides.{nat_tests}
-use Rattle.std.proofs.lemmas.Map.Keys.{IsDistinct-head, IsDistinct-tail, ge_from_not_lt}
+use Rattle.std.proofs.lemmas.Map.Keys.{IsDistinct-head, IsDistinct-tail}
 use Rattle.std.proofs.lemmas.Option.{slice_get-get_or}
 use Rattle.std.proofs.lemmas.Slice.Eq.{bytes_eq-Decides}
 use Rattle.indexmap.specs.IndexMap.{insert_entry}
@@ -23,7 +23,7 @@ use Rattle.keyed_names.proofs.Interning.{same_test}
 use Rattle.store_cells.specs.declared.value.Value.{Value}
 use Rattle.store_cells.specs.Arrays.{end_of, is_below}
 use Rattle.store_cells.specs.Numbered.{NumberedCell, found_in, name_at, named, noted, noted_below, numbered_element}
-use Rattle.store_cells.specs.Holes.{IsNonePast, IsPoppedPast}
+use Rattle.store_cells.specs.Holes.{IsPoppedPast}
 use Rattle.store_cells.specs.Shape.{AreNoted, IsIndexed, Known}
 use Rattle.store_cells.proofs.Lists.{none_some, some_same}
 use Rattle.store_cells.proofs.Look.{look}
@@ -36,9 +36,6 @@ same_number n m e = grind (arith, nat_tests, e)
 
 eqb_self : (n : ℕ) → eqb n n ≡ true
 eqb_self n = grind (arith, nat_tests)
-
-lt_true : (m n : ℕ) → m < n → nat_lt m n ≡ true
-lt_true m n lt = grind (arith, nat_tests, lt)
 
 lt_false : (m n : ℕ) → n ≤ m → nat_lt m n ≡ false
 lt_false m n le = grind (arith, nat_tests, le)
@@ -376,15 +373,3 @@ element_named names table c known h k small = by (found_in c.elements k) refl
         let within : n < length names = index_within names names (λ i lt. refl) n k is in
         look names (name_at names n) n (same_test names (name_at names n) n table (slice_get-get_or names n [] within)) c.entries known
         ∙ ap (λ t. lookup (bytes_eq t) (named names c.entries)) (sym (index_known (name_at names n) k is).0)
-
--- the last index is less
-pub none_from : (n at : ℕ) (els : List (ℕ × ℕ)) → at < n → ((q : ℕ) → IsSome (found_in els q) → is_lt (nat_cmp at q) ≡ false) → AllByRecursion (λ q. is_lt (nat_cmp at q) ≡ false) (keys_of els) → IsNonePast n els
-none_from n at els lt greatest all = record { found = λ i le. by i le (found_in els i) refl; below = keep els all }
-  where
-    by : (i : ℕ) → n ≤ i → (o : Option ℕ) → found_in els i ≡ o → o ≡ None
-    by i le None e = refl
-    by i le (Some k) e = absurd (omega (arith, lt, le, ge_from_not_lt at i (greatest i (ap is_some e))))
-
-    keep : (els : List (ℕ × ℕ)) → AllByRecursion (λ q. is_lt (nat_cmp at q) ≡ false) (keys_of els) → noted_below n els ≡ els
-    keep [] h = refl
-    keep (e ∷ els) h = ap (λ b. cond b (e ∷ noted_below n els) (noted_below n els)) (lt_true e.0 n (omega (arith, lt, ge_from_not_lt at e.0 h.0))) ∙ ap (λ l. e ∷ l) (keep els h.1)

@@ -9,10 +9,11 @@ use Rattle.std.proofs.lemmas.Map.Keys.{IsDistinct-head, IsDistinct-tail}
 use Rattle.std.proofs.lemmas.Map.Made.{IsDistinct-keys_filter}
 use Rattle.std.proofs.lemmas.Option.{slice_get-get_or, unwrap_or-slice_get}
 use Rattle.indexmap.specs.IndexMap.{insert_entry}
+use Rattle.code_units.specs.Indices.{index_of}
 use Rattle.store_cells.specs.declared.pairs.TheConstants.{FIRST_HOLE}
 use Rattle.store_cells.specs.declared.value.Value.{Value}
 use Rattle.store_cells.specs.Numbered.{live, name_at}
-use Rattle.store_cells.specs.Holes.{IsFull, is_name, listed_in, listed_names, place_key}
+use Rattle.store_cells.specs.Holes.{IsFull, is_name, listed_in, listed_name, listed_names, place_key}
 use Rattle.store_cells.specs.Shape.{Known}
 use Rattle.store_cells.proofs.Entries.{lookup_filter}
 use Rattle.store_cells.proofs.Lists.{none_some, some_same}
@@ -103,10 +104,10 @@ pub live_distinct : (es : List (ℕ × Value)) → IsDistinct eqb (keys_of es) �
 live_distinct es h = IsDistinct-keys_filter eqb (λ e. is_name e.0) es h
 
 -- a name by its number
-pub name_none : (names : List (List ℕ)) (k : ℕ) → None ≡ slice_get names k → [] ≡ get_or names k []
+name_none : (names : List (List ℕ)) (k : ℕ) → None ≡ slice_get names k → [] ≡ get_or names k []
 name_none names k e = ap (λ (o : Option (List ℕ)). unwrap_or o []) e ∙ unwrap_or-slice_get names k []
 
-pub name_some : (names : List (List ℕ)) (k : ℕ) (t : List ℕ) → Some t ≡ slice_get names k → t ≡ get_or names k []
+name_some : (names : List (List ℕ)) (k : ℕ) (t : List ℕ) → Some t ≡ slice_get names k → t ≡ get_or names k []
 name_some names k t e = ap (λ (o : Option (List ℕ)). unwrap_or o []) e ∙ unwrap_or-slice_get names k []
 
 -- names and holes
@@ -327,3 +328,45 @@ module _ (p : ℕ × Value → Bool) where
       by : (b : Bool) → (b && p e) ≡ false → false ≡ list_any p (live es) → false ≡ list_any p (cond b (e ∷ live es) (live es))
       by true g rest = rest ∙ sym (ap (λ c. c || list_any p (live es)) g)
       by false g rest = rest
+
+-- the number of a listed name
+module _ (names : List (List ℕ)) (array : Bool) (k : ℕ) where
+  abbrev kept : List ℕ → Option (List ℕ)
+  kept name = if listed_in array name then Some name else None
+
+  named_key : k < FIRST_HOLE → listed_name names array k ≡ option_and_then kept (slice_get names k)
+  named_key lt = ap (λ b. option_and_then kept (if b then slice_get names k else None)) (name_is k lt)
+
+  pub key_hole : FIRST_HOLE ≤ k → None ≡ listed_name names array k
+  key_hole le = sym (ap (λ b. option_and_then kept (if b then slice_get names k else None)) (hole_is k le))
+
+  pub key_listed : k < FIRST_HOLE → option_map_or (listed_in array) (slice_get names k) false ≡ true → (slice_get names k ≡ listed_name names array k) × (true ≡ is_some (listed_name names array k))
+  key_listed lt h = let both = by (slice_get names k) h in (both.0 ∙ sym (named_key lt), both.1 ∙ ap is_some (sym (named_key lt)))
+    where
+      by : (o : Option (List ℕ)) → option_map_or (listed_in array) o false ≡ true → (o ≡ option_and_then kept o) × (true ≡ is_some (option_and_then kept o))
+      by None h = absurd (true≢false (sym h))
+      by (Some t) h = (sym (ap (λ b. if b then Some t else None) h), sym (ap (λ b. is_some (if b then Some t else None)) h))
+
+  pub key_unlisted : k < FIRST_HOLE → option_map_or (listed_in array) (slice_get names k) false ≡ false → None ≡ listed_name names array k
+  key_unlisted lt h = by (slice_get names k) h ∙ sym (named_key lt)
+    where
+      by : (o : Option (List ℕ)) → option_map_or (listed_in array) o false ≡ false → None ≡ option_and_then kept o
+      by None h = refl
+      by (Some t) h = sym (ap (λ b. if b then Some t else None) h)
+
+-- how many there are
+pub count_none : (o : Option (List ℕ)) → false ≡ is_some o → 0 ≡ length (option_to_list o)
+count_none None e = refl
+count_none (Some t) e = absurd (true≢false (sym e))
+
+pub count_one : (o : Option (List ℕ)) → true ≡ is_some o → 1 ≡ length (option_to_list o)
+count_one None e = absurd (true≢false e)
+count_one (Some t) e = refl
+
+-- the index of the name with a number
+pub index_by : (names : List (List ℕ)) (k : ℕ) → option_and_then index_of (slice_get names k) ≡ index_of (name_at names k)
+index_by names k = by (slice_get names k) refl
+  where
+    by : (o : Option (List ℕ)) → slice_get names k ≡ o → option_and_then index_of o ≡ index_of (name_at names k)
+    by None e = ap index_of (name_none names k (sym e))
+    by (Some t) e = ap index_of (name_some names k t (sym e))

@@ -1,6 +1,6 @@
 //! The indices of an Array's elements.
-ghost use Rattle.std.specs.Prelude.{◌≡◌, suc, ◌<◌, ◌≤◌, [], ◌∷◌, ◌++◌, None, true, length, IfNone, IfSome, MatchOption, OnErr, OnOk, IfOk};
-ghost use Rattle.store_cells.specs.Listed.{AreBelow, IsLastPast};
+ghost use Rattle.std.specs.Prelude.{◌≡◌, suc, ◌+◌, ◌<◌, ◌≤◌, [], ◌∷◌, None, true, length, IfNone, IfSome, MatchOption, OnErr, OnOk, IfOk};
+ghost use Rattle.store_cells.specs.Listed.{AreBelow, IsLastPast, IsLastRuled, IsNext};
 ghost use Rattle.store_cells.specs.Numbered.{found_in, noted};
 ghost use Rattle.store_cells.specs.Holes.{IsNonePast, IsPoppedPast};
 
@@ -17,7 +17,7 @@ pub(crate) struct Elements {
     alloc: Global,
 }
 
-// The numbers by the indices: those below one have their numbers by rule, and others stand in a map.
+// The numbers by the indices: those below `upto` have their numbers by rule, and others stand in a map.
 #[derive(Drop)]
 struct Indices {
     upto: u32,
@@ -34,15 +34,14 @@ impl Model for Elements {
 }
 
 impl Model for Indices {
-    ghost use Rattle.std.specs.Prelude.{◌≤◌, List, ℕ};
-    ghost use Rattle.property_names.specs.declared.names.TheConstants.{RULED};
-    ghost use Rattle.store_cells.specs.Listed.{AreFrom, joined, by_rule};
+    ghost use Rattle.std.specs.Prelude.{List, ℕ};
+    ghost use Rattle.store_cells.specs.Listed.{AreListed, joined};
 
     ghost Value = { List (ℕ × ℕ) };
 
-    ghost view = { λ t. joined (by_rule 0 t.upto) t.far.entries };
+    ghost view = { λ t. joined t.upto t.far.entries };
 
-    ghost invariant = { λ t. AreFrom t.upto t.far.entries × (t.upto ≤ RULED) };
+    ghost invariant = { λ t. AreListed t.upto t.far.entries };
 }
 
 impl Elements {
@@ -122,7 +121,7 @@ impl Indices {
         ensures { result ≡ found_in self.now at }
     {
         if at < self.upto {
-            Some(FIRST_INDEX + at)
+            Some(ruled_number(at))
         } else {
             far_at(&self.far, at)
         }
@@ -137,20 +136,20 @@ impl Indices {
         is_far_below(&self.far, n)
     }
 
-    // An index whose number is by rule is noted in the map where it lies past a gap. None below `upto`
-    // is noted with another number.
+    // An index below `upto` is noted already, under its number by rule and under no other.
     fn note(&mut self, at: u32, n: u32) -> Result<(), Memory>
         ensures ok { OnOk result (self.new ≡ noted (suc at) n self.old) }
         ensures err { OnErr result (self.new ≡ self.old) }
     {
         if at < self.upto {
-            return if n == FIRST_INDEX + at { Ok(()) } else { Err(Memory) };
+            check_number(at, n)?;
+            return Ok(());
         }
-        if at == self.upto && at < RULED && n == FIRST_INDEX + at && far_at(&self.far, at).is_none() {
+        if is_next(self.upto, &self.far, at, n) {
             self.upto += 1;
-        } else {
-            self.far.insert(at, n)?;
+            return Ok(());
         }
+        self.far.insert(at, n)?;
         Ok(())
     }
 
@@ -162,6 +161,42 @@ impl Indices {
             Some(k) => Some(k),
             None => pop_near(&mut self.upto, n),
         }
+    }
+}
+
+// The number by rule of an index.
+fn ruled_number(at: u32) -> u32
+    requires { at < RULED }
+    ensures { result ≡ FIRST_INDEX + at }
+{
+    FIRST_INDEX + at
+}
+
+// Whether a number is that of an index by rule.
+fn check_number(at: u32, n: u32) -> Result<(), Memory>
+    requires { at < RULED }
+    ensures { OnOk result (n ≡ FIRST_INDEX + at) }
+{
+    if n == ruled_number(at) {
+        Ok(())
+    } else {
+        Err(Memory)
+    }
+}
+
+// Whether an index is the first that is not noted, and has its number by rule.
+fn is_next(upto: u32, far: &BTreeMap<u32, u32>, at: u32, n: u32) -> bool
+    ensures { result ≡ true → IsNext upto far.now.entries at n }
+{
+    if at != upto || at >= RULED {
+        return false;
+    }
+    if n != ruled_number(at) {
+        return false;
+    }
+    match far_at(far, at) {
+        None => true,
+        Some(_) => false,
     }
 }
 
@@ -195,10 +230,14 @@ fn pop_far(far: &mut BTreeMap<u32, u32>, n: u32) -> Option<u32>
 }
 
 // Takes out the last index by rule, where it is one from another on.
-fn pop_near(upto: &mut u32, n: u32) -> Option<u32> {
+fn pop_near(upto: &mut u32, n: u32) -> Option<u32>
+    requires { upto.old ≤ RULED }
+    ensures popped { IfSome result (λ k. IsLastRuled n k upto.old upto.new) }
+    ensures same { IfNone result ((upto.new ≡ upto.old) × (upto.old ≤ n)) }
+{
     if *upto <= n {
         return None;
     }
     *upto -= 1;
-    Some(FIRST_INDEX + *upto)
+    Some(ruled_number(*upto))
 }

@@ -1,12 +1,12 @@
 //! The pairs of a cell: a table in order in which a name that is taken out leaves a hole, so that no
 //! pair moves.
-ghost use Rattle.std.specs.Prelude.{◌≡◌, ℕ, suc, ◌<◌, ◌≤◌, ◌++◌, List, Option, None, Some, true, false, is_some, nat_eq, length, IfOk, IfSome, MatchOption, OnErr, OnOk, filter, option_copied, option_to_list, slice_get, if◌then◌else◌, ◌&&◌};
+ghost use Rattle.std.specs.Prelude.{◌≡◌, ℕ, ◌<◌, ◌≤◌, ◌++◌, List, Option, None, Some, true, false, is_some, nat_eq, length, IfOk, IfSome, OnOk, filter, option_copied, option_to_list, slice_get, if◌then◌else◌, ◌&&◌};
 ghost use Rattle.std.specs.List.{IsDistinct, list_any};
 ghost use Rattle.std.specs.Map.{keys_of as numbers_of, lookup, remove_entry};
-ghost use Rattle.std.specs.Option.{option_map_or};
+ghost use Rattle.std.specs.Option.{option_and_then, option_map_or};
 ghost use Rattle.store_cells.specs.Arrays.{is_below, is_index_below, is_reference};
-ghost use Rattle.store_cells.specs.Numbered.{found_in, live, name_at, noted, noted_below, recounted, references_in, refers_at};
-ghost use Rattle.store_cells.specs.Holes.{IsFull, IsNonePast, IsPoppedPast, StandsAt, is_name, is_reference_below, listed_in, listed_names, place_key};
+ghost use Rattle.store_cells.specs.Numbered.{found_in, live, name_at, noted_below, recounted, references_in, refers_at};
+ghost use Rattle.store_cells.specs.Holes.{IsFull, StandsAt, is_name, is_reference_below, listed_in, listed_name, listed_names, place_key};
 ghost use Rattle.store_cells.specs.Shape.{IsIndexed, Known};
 
 use crate::indices::Elements;
@@ -78,20 +78,43 @@ pub(crate) fn is_listed(array: bool, name: &Text) -> bool
     permitted(name) && !(array && is_word(name, b"length"))
 }
 
+// A number, where it is that of a listed name.
+fn listed(names: &PropertyNames, array: bool, k: u32) -> Option<u32>
+    ensures name { option_and_then (slice_get names.now) result ≡ listed_name names.now array k }
+    ensures there { is_some result ≡ is_some (listed_name names.now array k) }
+{
+    if k >= FIRST_HOLE {
+        return None;
+    }
+    if names.is_listed(array, k) {
+        Some(k)
+    } else {
+        None
+    }
+}
+
 // The number of the name at a place, where it is listed.
-fn listed_at(
+fn listed_at(table: &PairTable<Value>, names: &PropertyNames, array: bool, at: usize) -> Option<u32>
+    ensures name { option_and_then (slice_get names.now) result ≡ place_key names.now array table.now.entries at }
+    ensures there { is_some result ≡ is_some (place_key names.now array table.now.entries at) }
+{
+    let (k, _value) = table.get_index(at)?;
+    listed(names, array, *k)
+}
+
+// The name at a place, where it is listed.
+fn key_at(
+    alloc: Global,
     table: &PairTable<Value>,
     names: &PropertyNames,
     array: bool,
     at: usize,
-) -> Option<u32>
-    ensures { option_and_then (slice_get names.now) result ≡ place_key names.now array table.now.entries at }
+) -> Result<Option<Text>, Memory>
+    ensures { IfOk result (λ key. key ≡ place_key names.now array table.now.entries at) }
 {
-    let (k, _value) = table.get_index(at)?;
-    if *k < FIRST_HOLE && names.is_listed(array, *k) {
-        Some(*k)
-    } else {
-        None
+    match listed_at(table, names, array, at) {
+        None => Ok(None),
+        Some(k) => names.text(alloc, k),
     }
 }
 
@@ -105,10 +128,8 @@ fn push_key(
 ) -> Result<(), Memory>
     ensures { OnOk result (keys.new.items ≡ keys.old.items ++ option_to_list (place_key names.now array table.now.entries at)) }
 {
-    if let Some(k) = listed_at(table, names, array, at) {
-        if let Some(name) = names.text(alloc, k)? {
-            keys.push(name)?;
-        }
+    if let Some(name) = key_at(alloc, table, names, array, at)? {
+        keys.push(name)?;
     }
     Ok(())
 }

@@ -1,18 +1,20 @@
-use Rattle.std.proofs.Common.{◌<◌, ◌+◌, ◌≤◌, ◌∙◌, Some, ap, arith, length, sym}
+use Rattle.std.proofs.Common.{◌+◌, ◌≤◌, ◌∙◌, Some, ap, arith, sym}
 use Rattle.store_cells.specs.Numbered.{found_in}
 use Rattle.store_cells.proofs.Gapless.{found_far, found_near}
 use Rattle.store_cells.proofs.indices.Indices.get.Goals as goal
 
-pub returns-then-at-len : goal.returns-then-at-len
-returns-then-at-len c =
-    let xs = c.self.inside.list.items in
-    let far = c.self.inside.far.entries in
-    let lt : c.args.at < length xs = omega (arith, c.if-at-len.true, c.len.ensures, c.self.inside.list.ok.0) in
-    ap Some c.index.ensures ∙ sym (found_near 0 c.args.at c.args.at c.index.result.now xs far (omega arith) lt) ∙ ap (λ l. found_in l c.args.at) c.self.view_is
+pub ruled_number-requires : goal.ruled_number-requires
+ruled_number-requires c = omega (arith, c.if-at-self.true, c.self.invariant.ruled)
 
-pub returns-else-at-len : goal.returns-else-at-len
-returns-else-at-len c =
-    let xs = c.self.inside.list.items in
-    let far = c.self.inside.far.entries in
-    let le : 0 + length xs ≤ c.args.at = omega (arith, c.if-at-len.false, c.len.ensures, c.self.inside.list.ok.0) in
-    c.far_at.ensures ∙ sym (found_far 0 c.args.at xs far le) ∙ ap (λ l. found_in l c.args.at) c.self.view_is
+pub returns-then-at-self : goal.returns-then-at-self
+returns-then-at-self c =
+    let s = c.self.inside in
+    let at = c.args.at in
+    ap Some c.ruled_number.ensures ∙ sym (found_near 0 at at s.upto s.far.entries (omega arith) c.if-at-self.true) ∙ ap (λ l. found_in l at) c.self.view_is
+
+pub returns-else-at-self : goal.returns-else-at-self
+returns-else-at-self c =
+    let s = c.self.inside in
+    let at = c.args.at in
+    let le : 0 + s.upto ≤ at = omega (arith, c.if-at-self.false) in
+    c.far_at.ensures ∙ sym (found_far 0 at s.upto s.far.entries le) ∙ ap (λ l. found_in l at) c.self.view_is
