@@ -92,7 +92,7 @@ module _ (old new : Page) (same : SameRoots old new) (w : ℕ) (lt : w < 32) (id
     mine = added_owned old new same w lt id p c;
     grows = (_, range_long (size p) _, added_grows old new same w lt id p c);
     others = added_others old new same w lt id p c;
-    host = added_host old new id (owner.Widget w) p c;
+    host = added_host old new id (owner.Widget w) p refl c;
     fresh = fresh_nodes;
   }
 

@@ -22,7 +22,6 @@ use Rattle.page_tree.specs.Roots.{IsRooted}
 use Rattle.page_image.specs.Image.{forest, number, own, owns, root_of}
 use Rattle.page_image.specs.Own.{is_own, own_forest, own_nodes_from, own_number, page_forest, trees_of}
 use Rattle.page_image.proofs.Added.{filter_both, marked_in, range_none, range_same, range_split}
-use Rattle.page_image.proofs.Hosting.{added_host}
 use Rattle.page_image.proofs.Looks.{root_owned}
 use Rattle.page_image.proofs.Numbers.{number_kept, number_older}
 use Rattle.page_image.proofs.Owners.{own_nodes_same}
@@ -31,7 +30,7 @@ use Rattle.page_image.proofs.Shown.{forest_own, own_is_node, own_not_body, top_o
 use Rattle.page_image.proofs.Staying.{forest_stays}
 use Rattle.page_build.specs.Homes.{IsAway, IsHome, IsOneTree}
 use Rattle.page_build.specs.Layout.{IsLaidOut, IsMarkup, Lot, Own, each_tree}
-use Rattle.page_build.proofs.Laid.{each_one, laid_linked, laid_stays, same_plain, trees_linked}
+use Rattle.page_build.proofs.Laid.{each_one, laid_added, laid_linked, same_plain, trees_linked}
 
 no_true : false ≡ true → ⊥
 no_true e = cc
@@ -153,7 +152,7 @@ module _ (p r q : Page) (id : ℕ) (t : PlainTrees) (same : SameRoots p r) (c : 
   unfolding root_of
   laid_behind lots h =
       laid_linked r q id d (λ v n lt e. root_stays r q id mine d becomes v lt ∙ e) (Own t) here lots
-      (laid_stays p r (added_host p r id owner.Host t c) (λ v lt. same (owner.Widget v) (is_widget v lt)) lots h)
+      (laid_added p r id owner.Host t c (λ v lt. same (owner.Widget v) (is_widget v lt)) lots h)
 
   pub all_laid : IsOneTree t → (lots : List Lot) → IsLaidOut p lots → IsLaidOut q (lots ++ each_tree t)
   all_laid one lots h = subst (λ l. IsLaidOut q (lots ++ l)) (sym (each_one t one)) (laid_behind lots h)

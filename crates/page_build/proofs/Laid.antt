@@ -1,8 +1,11 @@
 -- `body` gets a child behind those it has.
-use Rattle.std.proofs.Common.{◌≡◌, ◌≢◌, ℕ, ◌<◌, List, [], ◌∷◌, ◌++◌, Option, Some, None, refl, sym, ap, ◌∙◌, subst, arith}
+use Rattle.std.proofs.Common.{◌≡◌, ◌≢◌, ℕ, ◌<◌, ◌≤◌, List, length, [], ◌∷◌, ◌++◌, Option, Some, None, refl, sym, ap, ◌∙◌, subst, arith}
+use Rattle.code_units.specs.declared.owner.Owner.{Owner}
+use Rattle.code_units.specs.declared.owner.Owner.TheVariants as owner
 use Rattle.plain_tree.specs.Trees.{End, Node, PlainTrees, Trees, beside, unmarked}
 use Rattle.tree_ops.specs.Trees.{grafted, put_before, tops}
 use Rattle.tree_ops.proofs.Absent.{grafted_off}
+use Rattle.page_nodes.specs.Adds.{IsAdded}
 use Rattle.page_nodes.specs.Entries.{Entry, IsSound, at, body, body_entry, limit, read, tree}
 use Rattle.page_nodes.specs.Moves.{IsLinked}
 use Rattle.page_nodes.proofs.Shows.{Shows, one_more, shows_tree}
@@ -39,21 +42,32 @@ laid_none p e = record {
   laid = subst (AreLots p []) (sym (ap (λ k. (at k body).children) e)) tt;
 }
 
+-- older nodes of the host stay, and the roots
+module _ (p q : Page) (made : length (nodes p) ≤ length (nodes q)) (owners : (n : ℕ) → n < length (nodes p) → (at (nodes q) n).owner ≡ (at (nodes p) n).owner)
+    (top : at (nodes q) body ≡ at (nodes p) body) (trees : (n : ℕ) → n < length (nodes p) → n ≢ body → (at (nodes p) n).owner ≡ owner.Host → tree (nodes q) n ≡ tree (nodes p) n)
+    (roots : (v : ℕ) → v < 32 → root_of q v ≡ root_of p v) where
+  lot_stays : (lot : Lot) (n : ℕ) → IsLot p lot n → IsLot q lot n
+  lot_stays (Own own) n m = record {
+    is_in = omega (arith, m.is_in, made);
+    below = m.below;
+    hosts = owners n m.is_in ∙ m.hosts;
+    shows = ap unmarked (trees n m.is_in m.below m.hosts) ∙ m.shows;
+  }
+  lot_stays (Root v) n r = (r.0, roots v r.0 ∙ r.1)
+
+  older_stay : (lots : List Lot) → IsLaidOut p lots → IsLaidOut q lots
+  older_stay lots h = record {
+    top = ap (λ (e : Entry). e.label) top ∙ h.top;
+    laid = subst (AreLots q lots) (sym (ap (λ (e : Entry). e.children) top)) (lots_kept p q lot_stays lots (at (nodes p) body).children h.laid);
+  }
+
 -- what the host has of the page stays, and the roots
 pub laid_stays : (p q : Page) → HostStays p q → ((v : ℕ) → v < 32 → root_of q v ≡ root_of p v) → (lots : List Lot) → IsLaidOut p lots → IsLaidOut q lots
-laid_stays p q host roots lots h = record {
-  top = ap (λ (e : Entry). e.label) host.top ∙ h.top;
-  laid = subst (AreLots q lots) (sym (ap (λ (e : Entry). e.children) host.top)) (lots_kept p q stays lots (at (nodes p) body).children h.laid);
-}
-  where
-    stays : (lot : Lot) (n : ℕ) → IsLot p lot n → IsLot q lot n
-    stays (Own own) n m = record {
-      is_in = omega (arith, m.is_in, host.made);
-      below = m.below;
-      hosts = host.owners n m.is_in ∙ m.hosts;
-      shows = ap unmarked (host.trees n m.is_in m.below m.hosts) ∙ m.shows;
-    }
-    stays (Root v) n r = (r.0, roots v r.0 ∙ r.1)
+laid_stays p q host roots = older_stay p q host.made host.owners host.top host.trees roots
+
+-- a tree is added, whosever it is
+pub laid_added : (p q : Page) (id : ℕ) (o : Owner) (t : PlainTrees) → IsAdded (nodes p) (nodes q) id o t → ((v : ℕ) → v < 32 → root_of q v ≡ root_of p v) → (lots : List Lot) → IsLaidOut p lots → IsLaidOut q lots
+laid_added p q id o t c roots = older_stay p q c.older.long (λ n lt. ap (λ (e : Entry). e.owner) (c.older.same n lt)) (c.older.same body p.arena.sound.some) (λ n lt ne h. c.older.trees n lt) roots
 
 -- ## One child more
 

@@ -1,6 +1,8 @@
 -- What the host has of a page stays.
-use Rattle.std.proofs.Common.{◌≡◌, ◌≢◌, ℕ, List, [], ◌∷◌, Bool, true, false, refl, sym, ap, ◌∙◌, subst, length, cond, eqb, ne_eqb, ◌||◌, arith, Option, Some, None, ⊎_elim, Result, Ok, Err, OnOk, OnErr}
+use Rattle.std.proofs.Common.{◌≡◌, ◌≢◌, ◌<◌, ◌≤◌, ℕ, List, [], ◌∷◌, Bool, true, false, refl, sym, ap, ◌∙◌, subst, length, cond, eqb, ne_eqb, ◌||◌, arith, Option, Some, None, ⊎_elim, Result, Ok, Err, OnOk, OnErr}
+use Rattle.std.specs.Prelude.{nat_lt}
 use Rattle.std.proofs.lemmas.Bool.{cases_Bool}
+use Rattle.std.proofs.lemmas.Bool.Decides.{nat_tests}
 use Rattle.code_units.specs.declared.owner.Owner.{Owner}
 use Rattle.code_units.specs.declared.owner.Owner.TheVariants as owner
 use Rattle.plain_tree.specs.Trees.{Label, PlainTrees, Trees, End, Node}
@@ -139,6 +141,7 @@ host_same old new e = record {
   owners = λ n lt. ap (λ k. (at k n).owner) e;
   top = ap (λ k. at k body) e;
   trees = λ n lt ne h. ap (λ k. tree k n) e;
+  none_comes = λ n lt h. omega (arith, lt, ap length e);
 }
 
 pub host_then : (p q r : Page) → HostStays p q → HostStays q r → HostStays p r
@@ -147,6 +150,7 @@ host_then p q r f g = record {
   owners = λ n lt. g.owners n (omega (arith, lt, f.made)) ∙ f.owners n lt;
   top = g.top ∙ f.top;
   trees = λ n lt ne h. g.trees n (omega (arith, lt, f.made)) ne (f.owners n lt ∙ h) ∙ f.trees n lt ne h;
+  none_comes = λ n lt h. (let low = g.none_comes n lt h in f.none_comes n low (sym (g.owners n low) ∙ h));
 }
 
 -- a node of a widget that is no root does not stand under `body`
@@ -164,6 +168,7 @@ module _ (old new : Page) (w t : ℕ) (h : owns old w t ≡ true) where
     owners = λ n lt. owners n;
     top = top;
     trees = λ n lt ne e. others n ne (other_host old w t n h e);
+    none_comes = λ n lt e. omega (arith, lt, made);
   }
 
   -- a node is taken from its parent
@@ -229,13 +234,21 @@ detach_all_host old new w ns own ne c others =
       owners = λ n lt. q.owners n;
       top = body_detaches (nodes old) (nodes new) ns new.arena.sound c (λ n l. not_top old w n (own n l) (ne n l));
       trees = λ n lt nb e. others n nb (λ t l. other_host old w t n (own t (has_listed t ns ∙ l)) e);
+      none_comes = λ n lt e. omega (arith, lt, q.made);
     }
 
--- a tree is added
-pub added_host : (old new : Page) (id : ℕ) (o : Owner) (p : PlainTrees) → IsAdded (nodes old) (nodes new) id o p → HostStays old new
-added_host old new id o p c = record {
+-- a tree is added that is none of the host's
+pub added_host : (old new : Page) (id : ℕ) (o : Owner) (p : PlainTrees) → same_owner o owner.Host ≡ false → IsAdded (nodes old) (nodes new) id o p → HostStays old new
+added_host old new id o p other c = record {
   made = c.older.long;
   owners = λ n lt. ap (λ (e : Entry). e.owner) (c.older.same n lt);
   top = c.older.same body old.arena.sound.some;
   trees = λ n lt ne h. c.older.trees n lt;
+  none_comes = λ n lt h. older n lt h (nat_lt n (length (nodes old))) refl;
 }
+  where
+    older : (n : ℕ) → n < length (nodes new) → (at (nodes new) n).owner ≡ owner.Host → (b : Bool) → nat_lt n (length (nodes old)) ≡ b → n < length (nodes old)
+    older n lt h true e = grind (arith, nat_tests, e)
+    older n lt h false e =
+        let high : length (nodes old) ≤ n = grind (arith, nat_tests, e) in
+        absurd (no_true (sym other ∙ ap (λ x. same_owner x owner.Host) (sym (c.own n high lt) ∙ h)))

@@ -39,9 +39,10 @@ OthersStay old new w = (v : ℕ) → v < 32 → v ≢ w → forest new v ≡ for
 abbrev pub GrowsBy : Page → Page → ℕ → ℕ → Type 0
 GrowsBy old new w n = (news : List ℕ) × (length news ≡ n) × Grows old new w news
 
--- What the host has of a page stays: `body` as it is, with the order of its children, and the trees of its other nodes.
+-- What the host has of a page stays: `body` as it is, with the order of its children, and the trees of its other nodes; a node that comes is none of its.
 pub record HostStays (old new : Page) : Type 0 where
   pub made : length (nodes old) ≤ length (nodes new)
   pub owners : (n : ℕ) → n < length (nodes old) → (at (nodes new) n).owner ≡ (at (nodes old) n).owner
   pub top : at (nodes new) body ≡ at (nodes old) body
   pub trees : (n : ℕ) → n < length (nodes old) → n ≢ body → (at (nodes old) n).owner ≡ owner.Host → tree (nodes new) n ≡ tree (nodes old) n
+  pub none_comes : (n : ℕ) → n < length (nodes new) → (at (nodes new) n).owner ≡ owner.Host → n < length (nodes old)

@@ -1,7 +1,6 @@
 mod Others
 mod Owning
 pub mod Keeping
-mod Hosts
 mod Picking
 mod Spending
 mod Looping

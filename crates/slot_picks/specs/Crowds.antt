@@ -1,9 +1,6 @@
 -- The lives of all places and the slots in which they follow on each other: what is seen of them, what holds, and what picks keep.
 use Rattle.std.specs.Prelude.{◌≡◌, ℕ, ◌<◌, ◌≤◌, true, false, List, map, length}
-use Rattle.code_units.specs.declared.owner.Owner.TheVariants as owner
-use Rattle.page_nodes.specs.Entries.{at}
 use Rattle.page_tree.specs.declared.page.Page.{Page}
-use Rattle.page_tree.specs.Pages.{nodes}
 use Rattle.object_store.specs.Owned.{owned}
 use Rattle.page_image.specs.Image.{number, own, owns, root_of}
 use Rattle.page_image.specs.Stays.{HostStays}
@@ -61,10 +58,6 @@ pub record PageStays (old new : Page) : Type 0 where
   pub owners : (v n : ℕ) → owns old v n ≡ true → owns new v n ≡ true
   pub numbers : (v n : ℕ) → owns old v n ≡ true → number new v n ≡ number old v n
   pub roots : (v : ℕ) → v < 32 → root_of new v ≡ root_of old v
-
--- The host gets no node: each that it has was there before.
-abbrev pub HostGetsNone : Page → Page → Type 0
-HostGetsNone old new = (n : ℕ) → n < length (nodes new) → (at (nodes new) n).owner ≡ owner.Host → n < length (nodes old)
 
 -- What picks keep of all lives, also after want of memory: the slot of each, whether its file was accepted, the trees of its scripts, and that it holds its own alone; which trees are shared between picks, what stays of the page, the RawNode of each page node that has one, and what is nobody's: a number that is no accepted life's gets no cell and no node.
 pub record KeepsCrowd (old new : Crowd) : Type 0 where

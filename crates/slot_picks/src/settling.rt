@@ -4,7 +4,7 @@ ghost use Rattle.life_laws.specs.Life.{due, image};
 ghost use Rattle.pick_laws.specs.Journal.{ready_from};
 ghost use Rattle.slot_laws.specs.Chains.{last_life};
 ghost use Rattle.slot_laws.specs.Settled.{SettledSlots, slot_flags};
-ghost use Rattle.slot_picks.specs.Crowds.{AreHoused, FewCrowd, HostGetsNone, KeepsCrowd, chains_of, seens_of};
+ghost use Rattle.slot_picks.specs.Crowds.{AreHoused, FewCrowd, KeepsCrowd, chains_of, seens_of};
 ghost use Rattle.slot_picks.specs.Places.{homes_of};
 
 use crate::crowd::Crowd;
@@ -15,8 +15,7 @@ use std::alloc::Global;
 use turn_sched::Chooser;
 
 /// Slots are picked with this slice until none is ready, each by the chooser's answer to which of the ready
-/// ones is next. No swap waits then, and each life has done all that it had to do. No node
-/// of the host comes.
+/// ones is next. No swap waits then, and each life has done all that it had to do.
 pub fn settle_slots<C: Chooser>(
     alloc: Global,
     crowd: &mut Crowd,
@@ -33,7 +32,6 @@ pub fn settle_slots<C: Chooser>(
     ensures housed { OnOk result ((born : ℕ) → AreHoused born crowd.old slots.old.items → AreHoused born crowd.new slots.new.items) }
     ensures few { OnOk result ((n : ℕ) → FewCrowd n crowd.old → FewCrowd n crowd.new) }
     ensures stays { KeepsCrowd crowd.old crowd.new }
-    ensures host { OnOk result (HostGetsNone crowd.old.shared.page crowd.new.shared.page) }
 {
     'picks: loop {
         let ready = ready_slots(alloc, crowd, slots)?;

@@ -2,10 +2,10 @@
 ghost use Rattle.std.specs.Prelude.{◌≡◌, ℕ, ◌<◌, IfOk, OnOk, Some, length, slice_get, nat_lt, drop};
 ghost use Rattle.slot_laws.specs.Chains.{PickedIn};
 ghost use Rattle.slot_laws.specs.Slots.{Each, PickedSlot, Rising};
-ghost use Rattle.slot_picks.specs.Crowds.{AreHoused, FewCrowd, FineCrowd, HostGetsNone, KeepsCrowd, chains_of, seens_of};
+ghost use Rattle.slot_picks.specs.Crowds.{AreHoused, FewCrowd, FineCrowd, KeepsCrowd, chains_of, seens_of};
 
 use crate::crowd::{Crowd, pick_kept};
-use code_units::{Memory, Owner};
+use code_units::Memory;
 use pick_laws::Picked;
 use std::alloc::Global;
 
@@ -64,8 +64,9 @@ fn pick_along(alloc: Global, crowd: &mut Crowd, slot: &mut Slot, k: u32) -> Resu
     }
 }
 
-// A slot is picked, whosever the nodes are that come to the page.
-fn pick_at(
+/// Carries on the turn of a slot, or the first that the queues of its lives begin, until the units are
+/// spent or the turn is over. Swaps that wait are taken where a life has nothing left.
+pub fn pick_slot(
     alloc: Global,
     crowd: &mut Crowd,
     slots: &mut Vec<Slot>,
@@ -81,32 +82,4 @@ fn pick_at(
     ensures stays { KeepsCrowd crowd.old crowd.new }
 {
     pick_along(alloc, crowd, &mut slots[w as usize], k)
-}
-
-/// Carries on the turn of a slot, or the first that the queues of its lives begin, until the units are
-/// spent or the turn is over. Swaps that wait are taken where a life has nothing left. No node of the host comes.
-pub fn pick_slot(
-    alloc: Global,
-    crowd: &mut Crowd,
-    slots: &mut Vec<Slot>,
-    w: u32,
-    k: u32,
-) -> Result<Picked, Memory>
-    requires there { w < length slots.old.items }
-    requires slice { 0 < k }
-    requires housed { (born : ℕ) × AreHoused born crowd.old slots.old.items }
-    ensures picked { IfOk result (λ r. PickedIn w k r (chains_of slots.old.items) (chains_of slots.new.items) (seens_of crowd.old) (seens_of crowd.new) crowd.old.journal.items crowd.new.journal.items) }
-    ensures housed { OnOk result ((born : ℕ) → AreHoused born crowd.old slots.old.items → AreHoused born crowd.new slots.new.items) }
-    ensures few { OnOk result ((n : ℕ) → FewCrowd n crowd.old → FewCrowd n crowd.new) }
-    ensures stays { KeepsCrowd crowd.old crowd.new }
-    ensures host { OnOk result (HostGetsNone crowd.old.shared.page crowd.new.shared.page) }
-{
-    let before = crowd.shared.page.made(Owner::Host);
-    let picked = pick_at(alloc, crowd, slots, w, k)?;
-    let after = crowd.shared.page.made(Owner::Host);
-    // Natives make nodes of their widgets alone. Clauses below do not say it, so the count does.
-    if after != before {
-        return Err(Memory);
-    }
-    Ok(picked)
 }

@@ -6,9 +6,8 @@ ghost use Rattle.life_laws.specs.Life.{due, image};
 ghost use Rattle.pick_laws.specs.Journal.{ready_from};
 ghost use Rattle.slot_laws.specs.Chains.{PickedIn, last_life};
 ghost use Rattle.slot_laws.specs.Settled.{SettledSlots, slot_flags};
-ghost use Rattle.page_load.specs.slot_picks.Crowds.{HostGetsNone};
 ghost use Rattle.widget_host.specs.declared.host.Host.{Host as HostOf};
-ghost use Rattle.widget_host.specs.Housed.{GivesItem, IsHoused, IsItem, KeepsHost, chains, dues_after, given, homes, journal, marked, seens, shared};
+ghost use Rattle.widget_host.specs.Housed.{GivesItem, IsHoused, IsItem, KeepsHost, chains, dues_after, given, homes, journal, marked, seens};
 
 use crate::host::Host;
 use crate::items::HostItem;
@@ -28,7 +27,6 @@ impl Host {
         ensures picked { IfOk result (λ r. PickedIn w k r (chains self.old) (chains self.new) (seens self.old) (seens self.new) (journal self.old) (journal self.new)) }
         ensures given { OnOk result (given self.new ≡ given self.old) }
         ensures stays { KeepsHost self.old self.new }
-        ensures host { OnOk result (HostGetsNone (shared self.old).page (shared self.new).page) }
         ensures housed { IsHoused self.new }
         ensures marked { marked self.old ≡ true → IsErr result }
         ensures mark { OnErr result (marked self.new ≡ true) }
@@ -61,7 +59,6 @@ impl Host {
         ensures chains { OnOk result (chains self.new ≡ map (λ c. last_life c ∷ []) (chains self.old)) }
         ensures given { OnOk result (given self.new ≡ given self.old) }
         ensures stays { KeepsHost self.old self.new }
-        ensures host { OnOk result (HostGetsNone (shared self.old).page (shared self.new).page) }
         ensures housed { IsHoused self.new }
         ensures marked { marked self.old ≡ true → IsErr result }
         ensures mark { OnErr result (marked self.new ≡ true) }
@@ -98,7 +95,6 @@ impl Host {
         ensures chains { OnOk result (chains self.new ≡ map (λ c. last_life c ∷ []) (chains self.old)) }
         ensures given { OnOk result (given self.new ≡ given self.old + 1) }
         ensures stays { KeepsHost self.old self.new }
-        ensures host { OnOk result (HostGetsNone (shared self.old).page (shared self.new).page) }
         ensures housed { IsHoused self.new }
         ensures marked { marked self.old ≡ true → IsErr result }
         ensures mark { OnErr result (marked self.new ≡ true) }

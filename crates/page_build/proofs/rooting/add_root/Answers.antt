@@ -1,11 +1,10 @@
 use Rattle.code_units.specs.declared.owner.Owner.TheVariants as owner
 use Rattle.plain_tree.specs.Plains.{unplaced}
 use Rattle.page_image.specs.Image.{root_of}
-use Rattle.page_image.proofs.Hosting.{added_host}
 use Rattle.page_image.proofs.Pages.{is_widget}
 use Rattle.page_image.proofs.Results.{ok_both, ok_then}
 use Rattle.page_build.proofs.Homes.{home_is, is_free, is_mine, is_top, others_away, others_home}
-use Rattle.page_build.proofs.Laid.{laid_stays}
+use Rattle.page_build.proofs.Laid.{laid_added}
 use Rattle.page_build.proofs.Raws.{raws_same}
 use Rattle.page_build.proofs.rooting.add_root.Goals as goal
 
@@ -46,5 +45,5 @@ pub returns-clause-laid : goal.returns-clause-laid
 unfolding root_of
 returns-clause-laid c =
     ok_then c.adopt.result _ _
-    (λ laid lots h. laid lots (laid_stays c.args.page.now c.add_nodes.new.page (added_host c.args.page.now c.add_nodes.new.page c.in_ok-id.id _ _ c.in_ok-id.ensures.added) (λ v lt. c.add_nodes.ensures.roots (owner.Widget v) (is_widget v lt)) lots h))
+    (λ laid lots h. laid lots (laid_added c.args.page.now c.add_nodes.new.page c.in_ok-id.id _ _ c.in_ok-id.ensures.added (λ v lt. c.add_nodes.ensures.roots (owner.Widget v) (is_widget v lt)) lots h))
     c.adopt.ensures.laid

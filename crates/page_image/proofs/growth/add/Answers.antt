@@ -1,4 +1,4 @@
-use Rattle.std.proofs.Common.{◌≡◌, true, length}
+use Rattle.std.proofs.Common.{◌≡◌, refl, true, length}
 use Rattle.code_units.specs.declared.owner.Owner.TheVariants as owner
 use Rattle.page_tree.specs.page_nodes.Adds.{IsAdded}
 use Rattle.page_tree.specs.Pages.{nodes, RefusesAdd}
@@ -81,4 +81,4 @@ returns-clause-host c =
     let new = c.add.new.self in
     let p = unplaced c.args.plain.now in
     if_either c.add.result (λ id. IsAdded (nodes old) (nodes new) id (owner.Widget c.args.widget) p) (nodes new ≡ nodes old) (HostStays old new)
-    (λ id h. added_host old new id (owner.Widget c.args.widget) p h) (host_same old new) c.add.ensures.done c.add.ensures.unchanged
+    (λ id h. added_host old new id (owner.Widget c.args.widget) p refl h) (host_same old new) c.add.ensures.done c.add.ensures.unchanged

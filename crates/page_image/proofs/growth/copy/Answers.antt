@@ -87,4 +87,4 @@ returns-clause-host c =
     let new = c.copy.new.self in
     let n = c.args.node in
     if_either c.copy.result (λ id. IsAdded (nodes old) (nodes new) id (at (nodes old) n).owner (copy_of (nodes old) n)) (nodes new ≡ nodes old) (HostStays old new)
-    (λ id h. added_host old new id (at (nodes old) n).owner (copy_of (nodes old) n) h) (host_same old new) c.copy.ensures.done c.copy.ensures.unchanged
+    (λ id h. added_host old new id (at (nodes old) n).owner (copy_of (nodes old) n) (no_host old c.args.widget n c.requires) h) (host_same old new) c.copy.ensures.done c.copy.ensures.unchanged

@@ -9,7 +9,6 @@ use Rattle.slot_laws.proofs.Settling.{all_done, slots_lighter, slots_none, slots
 use Rattle.slot_picks.specs.Crowds.{AreHoused, chains_of, seens_of}
 use Rattle.slot_picks.specs.Places.{homes_of}
 use Rattle.slot_picks.proofs.Housing.{lasts_picked}
-use Rattle.slot_picks.proofs.Hosts.{none_then}
 use Rattle.slot_picks.proofs.Keeping.{keeps_here, keeps_then}
 use Rattle.slot_picks.proofs.Quiet.{only_lasts}
 use Rattle.slot_picks.proofs.Settles.{listed, slot_there, slots_below}
@@ -21,7 +20,6 @@ picks-init g c = record {
   housed = λ born h. h;
   few = λ n h. h;
   stays = keeps_here c.args.crowd.now;
-  host = λ n lt is. lt;
   lasts = refl;
 }
 
@@ -46,7 +44,6 @@ returns-then-is_empty g c =
       housed = c.picks.invariant.housed;
       few = c.picks.invariant.few;
       stays = c.picks.invariant.stays;
-      host = c.picks.invariant.host;
     }
 
 pub next-at-requires-clause-rising : goal.next-at-requires-clause-rising
@@ -101,6 +98,5 @@ picks-preserved g c =
       housed = λ b hb. c.in_ok-pick_slot.ensures.housed b (c.picks.invariant.housed b hb);
       few = λ n f. c.in_ok-pick_slot.ensures.few n (c.picks.invariant.few n f);
       stays = keeps_then c.args.crowd.now c.picks.crowd c.pick_slot.new.crowd c.picks.invariant.stays c.in_ok-pick_slot.ensures.stays;
-      host = none_then c.args.crowd.now.shared.page c.picks.crowd.shared.page c.pick_slot.new.crowd.shared.page c.in_ok-pick_slot.ensures.stays.page.host c.picks.invariant.host c.in_ok-pick_slot.ensures.host;
       lasts = lasts_picked c.index-w.result.now c.args.slice c.in_ok-pick_slot.field-0 c.picks.crowd c.pick_slot.new.crowd c.picks.slots.items c.pick_slot.new.slots.items c.in_ok-pick_slot.ensures.picked ∙ c.picks.invariant.lasts;
     }

@@ -2,7 +2,7 @@ use Rattle.std.proofs.Common.{◌≡◌, ℕ, ◌+◌, map}
 use Rattle.pick_laws.specs.Journal.{weights}
 use Rattle.slot_laws.specs.Chains.{last_life}
 use Rattle.slot_laws.specs.Settled.{SettledSlots, waiting}
-use Rattle.slot_picks.specs.Crowds.{AreHoused, FewCrowd, HostGetsNone, KeepsCrowd, chains_of, seens_of}
+use Rattle.slot_picks.specs.Crowds.{AreHoused, FewCrowd, KeepsCrowd, chains_of, seens_of}
 use Rattle.slot_picks.specs.Places.{homes_of}
 use Rattle.slot_picks.proofs.settling.settle_slots.Given as goal
 
@@ -12,7 +12,6 @@ invariant-picks g l = record {
   housed : (born : ℕ) → AreHoused born l.initial.crowd l.initial.slots.items → AreHoused born l.crowd l.slots.items;
   few : (n : ℕ) → FewCrowd n l.initial.crowd → FewCrowd n l.crowd;
   stays : KeepsCrowd l.initial.crowd l.crowd;
-  host : HostGetsNone l.initial.crowd.shared.page l.crowd.shared.page;
   lasts : map last_life (chains_of l.slots.items) ≡ map last_life (chains_of l.initial.slots.items);
 }
 

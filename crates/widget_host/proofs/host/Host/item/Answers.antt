@@ -1,10 +1,8 @@
-use Rattle.std.proofs.Common.{◌≡◌, ℕ, false, true, List, [], ◌∷◌, ap, map, subst}
+use Rattle.std.proofs.Common.{◌≡◌, ℕ, false, true, List, [], ◌∷◌, ap, map}
 use Rattle.std.proofs.lemmas.Result.{on_ok_weaker}
 use Rattle.life_laws.specs.Life.{due, image}
 use Rattle.slot_laws.specs.Chains.{last_life}
-use Rattle.page_load.specs.turn_calls.declared.turn.Shared.{Shared}
-use Rattle.page_load.specs.slot_picks.Crowds.{HostGetsNone}
-use Rattle.widget_host.specs.Housed.{chains, dues_after, given, seens, shared}
+use Rattle.widget_host.specs.Housed.{chains, dues_after, given, seens}
 use Rattle.widget_host.proofs.Staying.{host_then, ok_then}
 use Rattle.widget_host.proofs.host.Host.item.Goals as goal
 
@@ -28,6 +26,3 @@ returns-clause-stays g c = host_then c.args.self.now c.give.new.self c.settle.ne
 
 pub returns-clause-marked : goal.returns-clause-marked
 returns-clause-marked g c = λ is. absurd (let both : false ≡ true = c.in_ok-give.ensures.marked is in cc)
-
-pub returns-clause-host : goal.returns-clause-host
-returns-clause-host g c = on_ok_weaker c.settle.result (λ none. subst (λ (h : Shared). HostGetsNone h.page (shared c.settle.new.self).page) c.in_ok-give.ensures.gives.same none) c.settle.ensures.host

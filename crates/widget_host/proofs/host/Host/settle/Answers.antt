@@ -21,7 +21,7 @@ returns-in-Ok-clause-housed g c =
           record {
             slots = slots;
             room = c.in-Ok.ensures.few (most_after old.given) whole.room;
-            raws = raws_stay old.crowd new.crowd c.in-Ok.ensures.stays c.in-Ok.ensures.host (own_raws new apart slots.crowd) whole.raws;
+            raws = raws_stay old.crowd new.crowd c.in-Ok.ensures.stays (own_raws new apart slots.crowd) whole.raws;
             given = whole.given;
             swaps = whole.swaps;
           },
