@@ -1,4 +1,5 @@
 pub mod Parts
 pub mod Receivers
+mod Unheard
 pub mod Whole
 pub mod Started

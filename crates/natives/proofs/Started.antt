@@ -25,21 +25,22 @@ use Rattle.page_image.proofs.Kept.{all_same}
 use Rattle.object_store.specs.Grows.{Grows}
 use Rattle.js_image.specs.Held.{IsConfined, Kept}
 use Rattle.js_image.specs.Image as store
-use Rattle.js_image.specs.Image.{Rest, seen}
+use Rattle.js_image.specs.Image.{seen}
 use Rattle.js_values.specs.Answers.{Answers}
 use Rattle.js_values.specs.Fuel.{Fuel}
 use Rattle.js_values.specs.declared.outcome.NativeOut.{NativeOut}
 use Rattle.adsafe_object.specs.Ends.{MeetsNoted}
 use Rattle.adsafe_object.specs.Notes.{Notes, noted}
 use Rattle.adsafe_object.specs.Timers.{AsksOwn}
-use Rattle.native_image.specs.Image.{Outside, Parts, beside, dispatches_of, image}
-use Rattle.native_image.specs.Meets.{FiresAtOwn}
+use Rattle.native_image.specs.Image.{Outside, beside, dispatches_of, image}
 use Rattle.native_image.specs.Sound.{HoldsOwn, IsOwnCell, IsSound, KeepsAll}
 use Rattle.native_image.proofs.Joint.{keeps_of, rest, sound_stays, store_lift}
 use Rattle.native_image.proofs.Keeping.{page_same, host_here}
+use Rattle.native_image.proofs.Meeting.{no_outside}
 use Rattle.natives.specs.Asked.{asked_timers}
 use Rattle.natives.specs.Meets.{MeetsWhole}
 use Rattle.natives.specs.Reach.{reach, state, with_notes}
+use Rattle.natives.proofs.Unheard.{noted_nowhere}
 
 same_delay : (z : ℤ) → timers.delay z ≡ delay z
 same_delay (pos n) = refl
@@ -121,17 +122,17 @@ module _ (w : ℕ) (lt : w < 32) (s t : Cells) (p : Page) (old new : Loop) (same
 
   -- the answer of a native of `ADSAFE`
   pub noted_whole : (b : Option Bool) (waiting : ℕ) (log kept : List (List ℕ)) (posts sent : List (List ℕ × List ℕ)) (had has : Fuel) (plan : ℕ → State → Plan) (o : NativeOut)
-      → ((fs : List Forest) × IsConfined fs w s) → waiting ≡ length (around.timers old) → ((v : ℕ) (h : Parts) → FiresAtOwn v h o)
+      → ((fs : List Forest) × IsConfined fs w s) → waiting ≡ length (around.timers old)
       → around.timers new ≡ around.timers old ++ asked_timers (around.clock old) asked → (asked ≡ None → new ≡ old)
       → MeetsNoted w waiting s t had has (record { log = log; posts = posts; asked = None }) (record { log = kept; posts = sent; asked = asked }) plan o
       → MeetsWhole w (reach s p old b log posts) (reach t p new b kept sent) had has plan o
-  noted_whole b waiting log kept posts sent had has plan o confined many fires done unasked m = record {
+  noted_whole b waiting log kept posts sent had has plan o confined many done unasked m = record {
     answer = λ fs x d safe.
         subst (λ (u : State). Answers (seen w t.cells) (number p w) d (plan d (state fs x w (reach s p old b log posts))) (state fs x w (reach s p old b log posts)) o u had.left has.left)
         (asked_image w lt s t p old new same sound.holds (m.kept []).grows fs x b kept sent asked done)
         (m.answer fs (rest w lt x (beside s p old b)) (number p w) d safe (length-map (around.timers old) (timer_of (own_count w s.cells)) ∙ sym many));
     fine = m.fine confined.0 confined.1;
-    fires = fires w (beside t p new b);
+    fires = noted_nowhere w s t (rest w lt no_outside (beside s p old b)) had has plan o w (beside t p new b) waiting _ _ confined.0 confined.1 (length-map (around.timers old) (timer_of (own_count w s.cells)) ∙ sym many) m;
     spent = m.spent;
     unpaid = λ f.
         let u = m.unpaid f in

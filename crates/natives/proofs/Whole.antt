@@ -1,5 +1,5 @@
 -- How the answers of rooms meet their plans at the whole state.
-use Rattle.std.proofs.Common.{◌≡◌, ℕ, ◌<◌, List, [], ap, subst, Bool, Option}
+use Rattle.std.proofs.Common.{ℕ, ◌<◌, List, [], ap, Bool, Option}
 use Rattle.std.specs.Prelude.{IfOk, OnErr, Result, Ok, Err}
 use Rattle.code_units.specs.declared.memory.Memory.{Memory}
 use Rattle.js_tree.specs.Forest.{Forest}
@@ -13,13 +13,14 @@ use Rattle.js_values.specs.Fuel.{Fuel}
 use Rattle.js_values.specs.declared.outcome.NativeOut.{NativeOut}
 use Rattle.native_forms.specs.Meets.{Meets}
 use Rattle.native_image.specs.Image.{Parts, beside}
-use Rattle.native_image.specs.Meets.{FiresAtOwn, MeetsAt}
+use Rattle.native_image.specs.Meets.{MeetsAt}
 use Rattle.native_image.specs.Sound.{IsSound, KeepsAll}
-use Rattle.native_image.proofs.Joint.{keeps_of, sound_stays}
+use Rattle.native_image.proofs.Joint.{keeps_of, rest, sound_stays}
 use Rattle.native_image.proofs.Keeping.{page_same, host_here}
-use Rattle.native_image.proofs.Meeting.{meets_lift}
+use Rattle.native_image.proofs.Meeting.{meets_lift, no_outside}
 use Rattle.natives.specs.Meets.{MeetsWhole}
 use Rattle.natives.specs.Reach.{Reach, with_notes}
+use Rattle.natives.proofs.Unheard.{meets_nowhere}
 
 module _ (w : ℕ) (log : List (List ℕ)) (posts : List (List ℕ × List ℕ)) where
   -- with this log and these posts
@@ -38,13 +39,12 @@ module _ (w : ℕ) (log : List (List ℕ)) (posts : List (List ℕ × List ℕ))
   }
 
   module _ (lt : w < 32) (s t : Cells) (p : Page) (l : Loop) (b : Option Bool) (sound : IsSound w s p l) (had has : Fuel) (plan : ℕ → State → Plan) where
-    -- a room that knows the store alone, and asks for no handlers
-    pub store_whole : (r q : Result NativeOut Memory) → IfOk r (Meets w s t had has plan) → IfOk q (λ o. r ≡ Ok o) → IfOk q (λ o. (v : ℕ) (h : Parts) → FiresAtOwn v h o)
-        → IfOk q (MeetsWhole w (noting (beside s p l b)) (noting (beside t p l b)) had has plan)
-    store_whole r (Err e) m same fires = tt
-    store_whole r (Ok o) m same fires =
+    -- a room that knows the store alone
+    pub store_whole : (r : Result NativeOut Memory) → IfOk r (Meets w s t had has plan) → IfOk r (MeetsWhole w (noting (beside s p l b)) (noting (beside t p l b)) had has plan)
+    store_whole (Err e) m = tt
+    store_whole (Ok o) m =
         whole_at (beside s p l b) (beside t p l b) had has plan o
-        (meets_lift w lt s t p l b sound had has plan o (fires w (beside t p l b)) (subst (λ u. IfOk u (Meets w s t had has plan)) same m))
+        (meets_lift w lt s t p l b sound had has plan o (meets_nowhere w s t (rest w lt no_outside (beside s p l b)) had has plan o w (beside t p l b) m) m)
 
 -- what is kept of the store, whatever is answered
 pub meets_kept : (w : ℕ) (s t : Cells) (had has : Fuel) (plan : ℕ → State → Plan) (r : Result NativeOut Memory) → IfOk r (Meets w s t had has plan) → OnErr r ((fs : List Forest) → Kept fs w s t) → (fs : List Forest) → Kept fs w s t

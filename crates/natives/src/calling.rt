@@ -1,5 +1,5 @@
 //! The one call of a native.
-ghost use Rattle.std.specs.Prelude.{◌≡◌, ◌<◌, ℕ, Bool, List, Ok, Option, true, IfOk};
+ghost use Rattle.std.specs.Prelude.{◌≡◌, ◌<◌, Bool, List, Option, true, IfOk};
 ghost use Rattle.std.specs.Option.{option_map};
 ghost use Rattle.js_tree.specs.Forest.{Forest};
 ghost use Rattle.store_cells.specs.Host.{global};
@@ -8,12 +8,9 @@ ghost use Rattle.js_flow.specs.Fine.{FineNative};
 ghost use Rattle.js_image.specs.Held.{AreFine, IsConfined};
 ghost use Rattle.js_image.specs.Image.{all_seen, seen};
 ghost use Rattle.native_forms.specs.Receivers.{IsReceiver, receiver};
-ghost use Rattle.native_image.specs.Image.{Parts};
-ghost use Rattle.native_image.specs.Meets.{FiresAtOwn};
 ghost use Rattle.native_image.specs.Sound.{IsSound, KeepsAll};
 ghost use Rattle.page_tree.specs.declared.page.Page.{Page as PageTree};
 ghost use Rattle.adsafe_object.specs.Part as adsafe;
-ghost use Rattle.natives.specs.Asked.{is_fire};
 ghost use Rattle.natives.specs.Meets.{MeetsWhole, plan_of};
 ghost use Rattle.natives.specs.Reach.{reach};
 
@@ -23,7 +20,7 @@ use bunch_write::bunch_read;
 use code_units::{Memory, Owner, Text};
 use event_loop::Loop;
 use js_flow::NativeCall;
-use js_values::{Meter, NativeOut, Plan};
+use js_values::{Meter, NativeOut};
 use object_store::{CellId, NativeId, Store, Value};
 use page_tree::Page;
 use std::alloc::Global;
@@ -95,12 +92,8 @@ fn call_on(
     let args = native.args.as_slice();
     let owner = Owner::Widget(w);
     match room_of(which) {
-        Family::Texts => without_fire(text_methods::call(
-            alloc, which, this, args, store, meter, owner,
-        )),
-        Family::Lists => without_fire(list_methods::call(
-            alloc, which, this, args, store, meter, owner,
-        )),
+        Family::Texts => text_methods::call(alloc, which, this, args, store, meter, owner),
+        Family::Lists => list_methods::call(alloc, which, this, args, store, meter, owner),
         Family::Adsafe => adsafe_native(
             alloc, which, this, args, store, meter, w, around, log, posts,
         ),
@@ -125,26 +118,6 @@ fn receiver_of<'a>(store: &Store, w: u32, native: &'a NativeCall, plain: &'a Val
         Some(this) => this,
         None => plain,
     }
-}
-
-// Whether an answer asks for handlers.
-fn is_fire(out: &NativeOut) -> bool
-    ensures { result ≡ is_fire out.now }
-{
-    matches!(out, NativeOut::Call(Plan::Fire { .. }))
-}
-
-// The answer of a native that asks for no handlers. One that asks for some never comes; it is answered
-// like want of memory.
-fn without_fire(out: Result<NativeOut, Memory>) -> Result<NativeOut, Memory>
-    ensures same { IfOk result (λ o. out ≡ Ok o) }
-    ensures fires { IfOk result (λ o. (v : ℕ) (h : Parts) → FiresAtOwn v h o) }
-{
-    let out = out?;
-    if is_fire(&out) {
-        return Err(Memory);
-    }
-    Ok(out)
 }
 
 // A native of `ADSAFE`, or `hasOwnProperty`; then the timer that it asks for is started.
@@ -173,7 +146,7 @@ fn adsafe_native(
 {
     let waiting = around.waiting();
     let mut asked = None;
-    let out = without_fire(adsafe_object::call(
+    let out = adsafe_object::call(
         alloc,
         which,
         this,
@@ -185,7 +158,7 @@ fn adsafe_native(
         waiting,
         &mut asked,
         posts,
-    ))?;
+    )?;
     start(around, asked)?;
     Ok(out)
 }

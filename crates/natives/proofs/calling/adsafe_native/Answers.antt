@@ -1,7 +1,4 @@
-use Rattle.std.proofs.Common.{None, subst}
-use Rattle.std.specs.Prelude.{IfOk}
 use Rattle.widget_meaning.specs.Natives.{run_native}
-use Rattle.adsafe_object.specs.Ends.{MeetsNoted}
 use Rattle.js_image.specs.Image.{all_seen}
 use Rattle.native_forms.specs.Receivers.{receiver}
 use Rattle.natives.proofs.Started.{noted_kept, noted_whole, tried_keeps}
@@ -30,6 +27,4 @@ returns-clause-native c = λ p b sound.
     let n = c.call.new in
     let plan = run_native c.args.which (receiver w s.cells c.args.this.now) (all_seen w s.cells c.args.args.now) in
     noted_whole w c.requires.widget s n.store p c.args.around.now c.start.new.around c.start.ensures.others sound n.asked c.call.ensures.own
-    b c.waiting-waiting.result c.args.log.now.items n.log.items c.args.posts.now.items n.posts.items c.args.meter.now n.meter plan c.in_ok-out.out c.requires.confined c.waiting-waiting.ensures.exact c.in_ok-out.ensures.fires c.in_ok-start.ensures.started c.start.ensures.unasked
-    (subst (λ r. IfOk r (MeetsNoted w c.waiting-waiting.result s n.store c.args.meter.now n.meter (record { log = c.args.log.now.items; posts = c.args.posts.now.items; asked = None }) (record { log = n.log.items; posts = n.posts.items; asked = n.asked }) plan))
-    c.in_ok-out.ensures.same c.call.ensures.native)
+    b c.waiting-waiting.result c.args.log.now.items n.log.items c.args.posts.now.items n.posts.items c.args.meter.now n.meter plan c.in_ok-out.out c.requires.confined c.waiting-waiting.ensures.exact c.in_ok-start.ensures.started c.start.ensures.unasked c.in_ok-out.ensures.native

@@ -56,9 +56,8 @@ returns-in-Texts-clause-native c =
     let ws = all_seen w s.cells c.args.native.now.args.items in
     let same = ap (all_seen w s.cells) c.as_slice-args.ensures in
     let t = c.call.new.store in
-    as_called w (reach s p l b log posts) (reach t p l b log posts) c.args.meter.now c.call.new.meter c.args.native.now.which this this vs ws c.without_fire.result refl same
-    (store_whole w log posts c.requires.widget s t p l b c.requires.sound c.args.meter.now c.call.new.meter (run_native c.args.native.now.which this vs) c.call.result c.without_fire.result
-    c.call.ensures.native c.without_fire.ensures.same c.without_fire.ensures.fires)
+    as_called w (reach s p l b log posts) (reach t p l b log posts) c.args.meter.now c.call.new.meter c.args.native.now.which this this vs ws c.call.result refl same
+    (store_whole w log posts c.requires.widget s t p l b c.requires.sound c.args.meter.now c.call.new.meter (run_native c.args.native.now.which this vs) c.call.result c.call.ensures.native)
 
 pub returns-in-Texts-clause-kept : goal.returns-in-Texts-clause-kept
 returns-in-Texts-clause-kept c =
@@ -79,9 +78,8 @@ returns-in-Lists-clause-native c =
     let ws = all_seen w s.cells c.args.native.now.args.items in
     let same = ap (all_seen w s.cells) c.as_slice-args.ensures in
     let t = c.call-in-Lists.new.store in
-    as_called w (reach s p l b log posts) (reach t p l b log posts) c.args.meter.now c.call-in-Lists.new.meter c.args.native.now.which this this vs ws c.without_fire-in-Lists.result refl same
-    (store_whole w log posts c.requires.widget s t p l b c.requires.sound c.args.meter.now c.call-in-Lists.new.meter (run_native c.args.native.now.which this vs) c.call-in-Lists.result c.without_fire-in-Lists.result
-    c.call-in-Lists.ensures.native c.without_fire-in-Lists.ensures.same c.without_fire-in-Lists.ensures.fires)
+    as_called w (reach s p l b log posts) (reach t p l b log posts) c.args.meter.now c.call-in-Lists.new.meter c.args.native.now.which this this vs ws c.call-in-Lists.result refl same
+    (store_whole w log posts c.requires.widget s t p l b c.requires.sound c.args.meter.now c.call-in-Lists.new.meter (run_native c.args.native.now.which this vs) c.call-in-Lists.result c.call-in-Lists.ensures.native)
 
 pub returns-in-Lists-clause-kept : goal.returns-in-Lists-clause-kept
 returns-in-Lists-clause-kept c =
