@@ -1,5 +1,5 @@
 //! The arguments of a call from left to right, and then the call.
-ghost use Rattle.std.specs.Prelude.{◌≡◌, ℕ, ◌+◌, ◌^◌, ◌<◌, ◌≤◌, [], List, IfOk, IfSome, length};
+ghost use Rattle.std.specs.Prelude.{◌≡◌, ℕ, ◌+◌, ◌^◌, ◌<◌, ◌≤◌, [], List, IfOk, IfSome, length, OnOk, ◌∷◌};
 ghost use Rattle.std.specs.Option.{option_map};
 ghost use Rattle.js_tree.specs.Forest.{Forest, IsExpr, expr_at};
 ghost use Rattle.store_cells.specs.Cells.{PlainCell};
@@ -10,17 +10,18 @@ ghost use Rattle.widget_meaning.specs.Expressions as expressions;
 ghost use Rattle.js_image.specs.Image.{Rest, all_seen, image, seen};
 ghost use Rattle.js_image.specs.Held.{IsConfined, IsFine, Kept};
 ghost use Rattle.js_names.specs.Code.{trees_of};
-ghost use Rattle.js_flow.specs.Fine.{FineArgument, FineNext, FineReference, IsExprAt, IsPlace};
+ghost use Rattle.js_flow.specs.Fine.{FineArgument, FineLeft, FineReference, IsExprAt, IsPlace};
 ghost use Rattle.js_flow.specs.Calls.{argument_taken};
 ghost use Rattle.js_flow.specs.Frames.{Plans, planned};
-ghost use Rattle.js_flow.specs.Free.{next_free};
+ghost use Rattle.js_flow.specs.Free.{left_free};
 ghost use Rattle.js_flow.specs.Parts.{HasExpr, arguments_of, forest_at};
 ghost use Rattle.js_flow.specs.Views.{place_of, reference_of};
 ghost use Rattle.js_calls.specs.Called.{arguments_left};
+ghost use Rattle.js_flow.specs.Left.{all_frames};
 
 use crate::invoking::invoke;
 use code_units::Memory;
-use js_flow::{Args, Argument, Call, CallFrame, Frame, Job, Next, Place, Reference, argument_at};
+use js_flow::{Args, Argument, Call, CallFrame, Flow, Frame, Job, Place, Reference, argument_at};
 use js_image::{get, variable};
 use js_names::{Code, tree_at};
 use js_tree::ExprId;
@@ -29,21 +30,23 @@ use std::alloc::Global;
 
 /// After the target of a call: its arguments.
 pub fn arguments_of(
+    flow: &mut Flow,
     alloc: Global,
     w: u32,
     codes: &Vec<Code>,
     store: &mut Store,
     of: Reference,
     call: (ExprId, Place),
-) -> Result<Next, Memory>
+) -> Result<(), Memory>
     requires widget { w < 32 }
     requires confined { IsConfined (trees_of codes.now.items) w store.old }
     requires held { FineReference w store.old.cells of × IsExprAt (trees_of codes.now.items) w store.old.cells call.0 call.1 }
-    ensures plan { IfOk result (Plans (trees_of codes.now.items) w store.old store.new
-        (expressions.arguments_then (reference_of w store.old.cells of) [] (arguments_of (expr_at (forest_at (trees_of codes.now.items) call.1.code) call.0)) (place_of w store.old.cells call.1))) }
-    ensures fine { IfOk result (FineNext (trees_of codes.now.items) w store.new.cells) }
-    ensures near { IfOk result (λ n. next_free n ≤ 4) }
+    ensures plan { OnOk result (Plans (trees_of codes.now.items) w store.old store.new
+        (expressions.arguments_then (reference_of w store.old.cells of) [] (arguments_of (expr_at (forest_at (trees_of codes.now.items) call.1.code) call.0)) (place_of w store.old.cells call.1)) flow.new) }
+    ensures fine { OnOk result (FineLeft (trees_of codes.now.items) w store.new.cells flow.new) }
+    ensures near { OnOk result (left_free flow.new ≤ 4) }
     ensures kept { Kept (trees_of codes.now.items) w store.old store.new }
+    ensures below { OnOk result (flow.new.below ≡ all_frames flow.old) }
 {
     let a = Argument {
         of,
@@ -52,51 +55,55 @@ pub fn arguments_of(
         next: 0,
         place: call.1,
     };
-    arguments(alloc, w, codes, store, Box::new(alloc, a)?)
+    arguments(flow, alloc, w, codes, store, Box::new(alloc, a)?)
 }
 
 /// After an argument: those after it.
 pub fn argument(
+    flow: &mut Flow,
     alloc: Global,
     w: u32,
     codes: &Vec<Code>,
     store: &mut Store,
     a: Box<Argument>,
     value: Value,
-) -> Result<Next, Memory>
+) -> Result<(), Memory>
     requires widget { w < 32 }
     requires confined { IsConfined (trees_of codes.now.items) w store.old }
     requires held { FineArgument (trees_of codes.now.items) w store.old.cells a.value × IsFine w store.old.cells value }
-    ensures plan { IfOk result (Plans (trees_of codes.now.items) w store.old store.new
-        (argument_taken (trees_of codes.now.items) w store.old.cells a.value (meaning.Is (seen w store.old.cells value)))) }
-    ensures fine { IfOk result (FineNext (trees_of codes.now.items) w store.new.cells) }
-    ensures near { IfOk result (λ n. next_free n ≤ 4) }
+    ensures plan { OnOk result (Plans (trees_of codes.now.items) w store.old store.new
+        (argument_taken (trees_of codes.now.items) w store.old.cells a.value (meaning.Is (seen w store.old.cells value))) flow.new) }
+    ensures fine { OnOk result (FineLeft (trees_of codes.now.items) w store.new.cells flow.new) }
+    ensures near { OnOk result (left_free flow.new ≤ 4) }
     ensures kept { Kept (trees_of codes.now.items) w store.old store.new }
+    ensures below { OnOk result (flow.new.below ≡ all_frames flow.old) }
 {
     let mut a = a;
     a.args.push(value)?;
-    arguments(alloc, w, codes, store, a)
+    arguments(flow, alloc, w, codes, store, a)
 }
 
 // The arguments that are left, and then the call.
 fn arguments(
+    flow: &mut Flow,
     alloc: Global,
     w: u32,
     codes: &Vec<Code>,
     store: &mut Store,
     a: Box<Argument>,
-) -> Result<Next, Memory>
+) -> Result<(), Memory>
     requires widget { w < 32 }
     requires confined { IsConfined (trees_of codes.now.items) w store.old }
     requires held { FineArgument (trees_of codes.now.items) w store.old.cells a.value }
-    ensures plan { IfOk result (Plans (trees_of codes.now.items) w store.old store.new (arguments_left (trees_of codes.now.items) w store.old.cells a.value)) }
-    ensures fine { IfOk result (FineNext (trees_of codes.now.items) w store.new.cells) }
-    ensures near { IfOk result (λ n. next_free n ≤ 4) }
+    ensures plan { OnOk result (Plans (trees_of codes.now.items) w store.old store.new (arguments_left (trees_of codes.now.items) w store.old.cells a.value) flow.new) }
+    ensures fine { OnOk result (FineLeft (trees_of codes.now.items) w store.new.cells flow.new) }
+    ensures near { OnOk result (left_free flow.new ≤ 4) }
     ensures kept { Kept (trees_of codes.now.items) w store.old store.new }
+    ensures below { OnOk result (flow.new.below ≡ all_frames flow.old) }
 {
     match argument_left(codes, &a) {
-        Some(e) => Ok(pushed(next_of(a), e)),
-        None => called(alloc, w, codes, store, Box::into_inner(a)),
+        Some(e) => pushed(flow, next_of(a), e),
+        None => called(flow, alloc, w, codes, store, Box::into_inner(a)),
     }
 }
 
@@ -110,14 +117,15 @@ fn argument_left(codes: &Vec<Code>, a: &Argument) -> Option<ExprId>
 }
 
 // An argument, and what waits for it.
-fn pushed(a: Box<Argument>, e: ExprId) -> Next
-    ensures plan { (fs : List Forest) (w : ℕ) (cells : List PlainCell) (s : State) → planned fs w cells result s
-        ≡ Do (Eval (expr_at (forest_at fs a.value.place.code) e) (place_of w cells a.value.place)) s (argument_taken fs w cells a.value) }
-    ensures fine { (fs : List Forest) (w : ℕ) (cells : List PlainCell) → FineArgument fs w cells a.value → IsExprAt fs w cells e a.value.place → FineNext fs w cells result }
-    ensures near { next_free result ≤ 4 }
+fn pushed(flow: &mut Flow, a: Box<Argument>, e: ExprId) -> Result<(), Memory>
+    ensures plan { OnOk result ((fs : List Forest) (w : ℕ) (cells : List PlainCell) (s : State) → planned fs w cells flow.new s
+        ≡ Do (Eval (expr_at (forest_at fs a.value.place.code) e) (place_of w cells a.value.place)) s (argument_taken fs w cells a.value)) }
+    ensures fine { OnOk result ((fs : List Forest) (w : ℕ) (cells : List PlainCell) → FineArgument fs w cells a.value → IsExprAt fs w cells e a.value.place → FineLeft fs w cells flow.new) }
+    ensures near { OnOk result (left_free flow.new ≤ 4) }
+    ensures below { OnOk result (flow.new.below ≡ all_frames flow.old) }
 {
     let place = a.place;
-    Next::Push(Frame::Call(CallFrame::Argument(a)), Job::Eval(e, place))
+    flow.push(Frame::Call(CallFrame::Argument(a)), Job::Eval(e, place))
 }
 
 // The same call, at its next argument.
@@ -132,20 +140,22 @@ fn next_of(a: Box<Argument>) -> Box<Argument>
 
 // All arguments are there: the function is read and called.
 fn called(
+    flow: &mut Flow,
     alloc: Global,
     w: u32,
     codes: &Vec<Code>,
     store: &mut Store,
     a: Argument,
-) -> Result<Next, Memory>
+) -> Result<(), Memory>
     requires widget { w < 32 }
     requires confined { IsConfined (trees_of codes.now.items) w store.old }
     requires held { FineArgument (trees_of codes.now.items) w store.old.cells a }
-    ensures plan { IfOk result (Plans (trees_of codes.now.items) w store.old store.new
-        (expressions.arguments_then (reference_of w store.old.cells a.of) (all_seen w store.old.cells a.args.items) [] (place_of w store.old.cells a.place))) }
-    ensures fine { IfOk result (FineNext (trees_of codes.now.items) w store.new.cells) }
-    ensures near { IfOk result (λ n. next_free n ≤ 4) }
+    ensures plan { OnOk result (Plans (trees_of codes.now.items) w store.old store.new
+        (expressions.arguments_then (reference_of w store.old.cells a.of) (all_seen w store.old.cells a.args.items) [] (place_of w store.old.cells a.place)) flow.new) }
+    ensures fine { OnOk result (FineLeft (trees_of codes.now.items) w store.new.cells flow.new) }
+    ensures near { OnOk result (left_free flow.new ≤ 4) }
     ensures kept { Kept (trees_of codes.now.items) w store.old store.new }
+    ensures below { OnOk result (flow.new.below ≡ all_frames flow.old) }
 {
     let Argument {
         of,
@@ -160,7 +170,7 @@ fn called(
         args,
         depth: place.depth,
     };
-    invoke(alloc, w, codes, store, call)
+    invoke(flow, alloc, w, codes, store, call)
 }
 
 // What a reference has.

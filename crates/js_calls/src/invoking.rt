@@ -1,5 +1,5 @@
 //! Calls of functions and natives.
-ghost use Rattle.std.specs.Prelude.{◌≡◌, ℕ, suc, ◌<◌, ◌≤◌, List, IfOk};
+ghost use Rattle.std.specs.Prelude.{◌≡◌, ℕ, suc, ◌<◌, ◌≤◌, List, IfOk, OnOk, [], ◌∷◌};
 ghost use Rattle.std.specs.Option.{option_map};
 ghost use Rattle.js_tree.specs.Forest.{Forest};
 ghost use Rattle.store_cells.specs.Cells.{PlainCell};
@@ -14,15 +14,16 @@ ghost use Rattle.js_image.specs.Image.{all_seen, function_in, seen};
 ghost use Rattle.js_image.specs.Held.{IsConfined, IsFunOf, IsPlaceScope, Kept};
 ghost use Rattle.js_image.specs.Plans.{meant_fault};
 ghost use Rattle.js_names.specs.Code.{trees_of};
-ghost use Rattle.js_flow.specs.Fine.{FineCall, FineNext};
+ghost use Rattle.js_flow.specs.Fine.{FineCall, FineLeft};
 ghost use Rattle.js_flow.specs.Frames.{Plans, planned};
-ghost use Rattle.js_flow.specs.Free.{next_free};
+ghost use Rattle.js_flow.specs.Free.{left_free};
 ghost use Rattle.js_calls.specs.Called.{invoked};
+ghost use Rattle.js_flow.specs.Left.{all_frames};
 
 use crate::declaring::{Entered, declare};
 use crate::scoping::scope_pairs;
 use code_units::Memory;
-use js_flow::{Call, Completion, Job, NativeCall, Next};
+use js_flow::{Call, Completion, Flow, Job, NativeCall};
 use js_image::{Callee, Fault, Made, StopCause, callee, make_fault, make_scope};
 use js_names::{Code, code_at};
 use object_store::{FunParts, NativeId, Store, Value};
@@ -30,52 +31,57 @@ use std::alloc::Global;
 
 /// A call that a conversion, a native or the host makes, after its unit.
 pub fn call(
+    flow: &mut Flow,
     alloc: Global,
     w: u32,
     codes: &Vec<Code>,
     store: &mut Store,
     call: Box<Call>,
-) -> Result<Next, Memory>
+) -> Result<(), Memory>
     requires widget { w < 32 }
     requires confined { IsConfined (trees_of codes.now.items) w store.old }
     requires held { FineCall w store.old.cells call.value }
-    ensures plan { IfOk result (Plans (trees_of codes.now.items) w store.old store.new (invoked w store.old.cells call.value)) }
-    ensures fine { IfOk result (FineNext (trees_of codes.now.items) w store.new.cells) }
-    ensures near { IfOk result (λ n. next_free n ≤ 4) }
+    ensures plan { OnOk result (Plans (trees_of codes.now.items) w store.old store.new (invoked w store.old.cells call.value) flow.new) }
+    ensures fine { OnOk result (FineLeft (trees_of codes.now.items) w store.new.cells flow.new) }
+    ensures near { OnOk result (left_free flow.new ≤ 4) }
     ensures kept { Kept (trees_of codes.now.items) w store.old store.new }
+    ensures below { OnOk result (flow.new.below ≡ all_frames flow.old) }
 {
-    invoke(alloc, w, codes, store, Box::into_inner(call))
+    invoke(flow, alloc, w, codes, store, Box::into_inner(call))
 }
 
 /// The same, where a form makes the call.
 pub fn invoke(
+    flow: &mut Flow,
     alloc: Global,
     w: u32,
     codes: &Vec<Code>,
     store: &mut Store,
     call: Call,
-) -> Result<Next, Memory>
+) -> Result<(), Memory>
     requires widget { w < 32 }
     requires confined { IsConfined (trees_of codes.now.items) w store.old }
     requires held { FineCall w store.old.cells call }
-    ensures plan { IfOk result (Plans (trees_of codes.now.items) w store.old store.new (invoked w store.old.cells call)) }
-    ensures fine { IfOk result (FineNext (trees_of codes.now.items) w store.new.cells) }
-    ensures near { IfOk result (λ n. next_free n ≤ 4) }
+    ensures plan { OnOk result (Plans (trees_of codes.now.items) w store.old store.new (invoked w store.old.cells call) flow.new) }
+    ensures fine { OnOk result (FineLeft (trees_of codes.now.items) w store.new.cells flow.new) }
+    ensures near { OnOk result (left_free flow.new ≤ 4) }
     ensures kept { Kept (trees_of codes.now.items) w store.old store.new }
+    ensures below { OnOk result (flow.new.below ≡ all_frames flow.old) }
 {
     match callee(store, &call.func) {
-        Callee::Function(parts) => enter(alloc, w, codes, store, call, parts),
-        Callee::Native(which) => native(alloc, call, which),
-        Callee::Nothing => throw(alloc, w, codes, store, Fault::E2),
+        Callee::Function(parts) => enter(flow, alloc, w, codes, store, call, parts),
+        Callee::Native(which) => native(flow, alloc, call, which),
+        Callee::Nothing => throw(flow, alloc, w, codes, store, Fault::E2),
     }
 }
 
 // A native takes a unit of its own.
-fn native(alloc: Global, call: Call, which: NativeId) -> Result<Next, Memory>
-    ensures plan { IfOk result (λ n. (fs : List Forest) (w : ℕ) (cells : List PlainCell) (s : State) → planned fs w cells n s
+fn native(flow: &mut Flow, alloc: Global, call: Call, which: NativeId) -> Result<(), Memory>
+    ensures plan { OnOk result ((fs : List Forest) (w : ℕ) (cells : List PlainCell) (s : State) → planned fs w cells flow.new s
         ≡ Do (meaning.RunNative which (option_map (seen w cells) call.this) (all_seen w cells call.args.items) call.depth) s Ret) }
-    ensures fine { IfOk result (λ n. (fs : List Forest) (w : ℕ) (cells : List PlainCell) → FineCall w cells call → FineNext fs w cells n) }
-    ensures near { IfOk result (λ n. next_free n ≤ 4) }
+    ensures fine { OnOk result ((fs : List Forest) (w : ℕ) (cells : List PlainCell) → FineCall w cells call → FineLeft fs w cells flow.new) }
+    ensures near { OnOk result (left_free flow.new ≤ 4) }
+    ensures below { OnOk result (flow.new.below ≡ all_frames flow.old) }
 {
     let Call {
         this,
@@ -89,36 +95,38 @@ fn native(alloc: Global, call: Call, which: NativeId) -> Result<Next, Memory>
         args,
         depth,
     };
-    Ok(Next::Go(Job::RunNative(Box::new(alloc, native)?)))
+    Ok(flow.go(Job::RunNative(Box::new(alloc, native)?)))
 }
 
 // A function of the widget, which runs one deeper. A stop for depth comes before its scope.
 fn enter(
+    flow: &mut Flow,
     alloc: Global,
     w: u32,
     codes: &Vec<Code>,
     store: &mut Store,
     call: Call,
     parts: FunParts,
-) -> Result<Next, Memory>
+) -> Result<(), Memory>
     requires widget { w < 32 }
     requires confined { IsConfined (trees_of codes.now.items) w store.old }
     requires fun { IsFunOf (trees_of codes.now.items) parts × IsPlaceScope w store.old.cells parts.scope }
     requires held { FineCall w store.old.cells call }
-    ensures plan { IfOk result (Plans (trees_of codes.now.items) w store.old store.new
+    ensures plan { OnOk result (Plans (trees_of codes.now.items) w store.old store.new
         (calls.enter (state.Function (function_in (trees_of codes.now.items) parts.code parts.fun parts.declared) (option_map (scope_number w store.old.cells) parts.scope))
-        (seen w store.old.cells call.func) (all_seen w store.old.cells call.args.items) (suc call.depth))) }
-    ensures fine { IfOk result (FineNext (trees_of codes.now.items) w store.new.cells) }
-    ensures near { IfOk result (λ n. next_free n ≤ 4) }
+        (seen w store.old.cells call.func) (all_seen w store.old.cells call.args.items) (suc call.depth)) flow.new) }
+    ensures fine { OnOk result (FineLeft (trees_of codes.now.items) w store.new.cells flow.new) }
+    ensures near { OnOk result (left_free flow.new ≤ 4) }
     ensures kept { Kept (trees_of codes.now.items) w store.old store.new }
+    ensures below { OnOk result (flow.new.below ≡ all_frames flow.old) }
 {
     let depth = call.depth;
     if depth >= 200 {
-        return Ok(Next::Stop(StopCause::Depth));
+        return Ok(flow.stop(StopCause::Depth));
     }
     let pairs = scope_pairs(alloc, code_at(codes, parts.code), parts, &call)?;
     match make_scope(alloc, store, w, parts.scope, pairs)? {
-        Made::Stop(cause) => Ok(Next::Stop(cause)),
+        Made::Stop(cause) => Ok(flow.stop(cause)),
         Made::Cell(scope) => {
             let entered = Entered {
                 code: parts.code,
@@ -126,27 +134,29 @@ fn enter(
                 scope,
                 depth: depth + 1,
             };
-            declare(alloc, w, codes, store, entered)
+            declare(flow, alloc, w, codes, store, entered)
         }
     }
 }
 
 /// A fault is thrown.
 pub fn throw(
+    flow: &mut Flow,
     alloc: Global,
     w: u32,
     codes: &Vec<Code>,
     store: &mut Store,
     fault: Fault,
-) -> Result<Next, Memory>
+) -> Result<(), Memory>
     requires widget { w < 32 }
-    ensures plan { IfOk result (Plans (trees_of codes.now.items) w store.old store.new (costs.throw (meant_fault fault))) }
-    ensures fine { IfOk result (FineNext (trees_of codes.now.items) w store.new.cells) }
-    ensures near { IfOk result (λ n. next_free n ≤ 1) }
+    ensures plan { OnOk result (Plans (trees_of codes.now.items) w store.old store.new (costs.throw (meant_fault fault)) flow.new) }
+    ensures fine { OnOk result (FineLeft (trees_of codes.now.items) w store.new.cells flow.new) }
+    ensures near { OnOk result (left_free flow.new ≤ 1) }
     ensures kept { Kept (trees_of codes.now.items) w store.old store.new }
+    ensures below { OnOk result (flow.new.below ≡ all_frames flow.old) }
 {
     match make_fault(alloc, store, w, fault)? {
-        Made::Cell(cell) => Ok(Next::Give(Completion::Throw(Value::Ref(cell)))),
-        Made::Stop(cause) => Ok(Next::Stop(cause)),
+        Made::Cell(cell) => Ok(flow.give(Completion::Throw(Value::Ref(cell)))),
+        Made::Stop(cause) => Ok(flow.stop(cause)),
     }
 }

@@ -10,13 +10,14 @@ ghost use Rattle.js_image.specs.Image.{all_seen, seen};
 ghost use Rattle.js_image.specs.Held.{AreFine, IsFine, Kept};
 ghost use Rattle.js_names.specs.Code.{trees_of};
 ghost use Rattle.js_flow.specs.Calls.{gathered, gathering_taken};
-ghost use Rattle.js_flow.specs.Fine.{FineCalling, FineGathering, FineNext};
+ghost use Rattle.js_flow.specs.Fine.{FineCalling, FineGathering, FineLeft};
 ghost use Rattle.js_flow.specs.Frames.{Plans};
-ghost use Rattle.js_flow.specs.Free.{next_free};
+ghost use Rattle.js_flow.specs.Free.{left_free};
 ghost use Rattle.js_calls.specs.Called.{each_left, gather_left};
+ghost use Rattle.js_flow.specs.Left.{all_frames};
 
 use code_units::Memory;
-use js_flow::{Args, Call, CallFrame, Calling, Completion, Frame, Gathering, Job, Keep, Next};
+use js_flow::{Args, Call, CallFrame, Calling, Completion, Flow, Frame, Gathering, Job, Keep};
 use js_image::{Made, make_array};
 use js_names::Code;
 use js_values::is_true;
@@ -25,22 +26,24 @@ use std::alloc::Global;
 
 /// The next call with an item, or else what is given after the last.
 pub fn each(
+    flow: &mut Flow,
     alloc: Global,
     w: u32,
     codes: &Vec<Code>,
     store: &Store,
     c: Box<Calling>,
-) -> Result<Next, Memory>
+) -> Result<(), Memory>
     requires held { FineCalling w store.now.cells c.value }
-    ensures plan { IfOk result (Plans (trees_of codes.now.items) w store.now store.now (each_left w store.now.cells c.value)) }
-    ensures fine { IfOk result (FineNext (trees_of codes.now.items) w store.now.cells) }
-    ensures near { IfOk result (λ n. next_free n ≤ 1) }
+    ensures plan { OnOk result (Plans (trees_of codes.now.items) w store.now store.now (each_left w store.now.cells c.value) flow.new) }
+    ensures fine { OnOk result (FineLeft (trees_of codes.now.items) w store.now.cells flow.new) }
+    ensures near { OnOk result (left_free flow.new ≤ 1) }
+    ensures below { OnOk result (flow.new.below ≡ all_frames flow.old) }
 {
     match item_left(&c)? {
-        None => Ok(Next::Give(Completion::Is(last_of(c)))),
+        None => Ok(flow.give(Completion::Is(last_of(c)))),
         Some(item) => {
             let call = each_call(alloc, &c, item)?;
-            Ok(Next::Push(Frame::Call(CallFrame::Each(next_of(c))), Job::Call(call)))
+            flow.push(Frame::Call(CallFrame::Each(next_of(c))), Job::Call(call))
         }
     }
 }
@@ -82,24 +85,26 @@ fn next_of(c: Box<Calling>) -> Box<Calling>
 
 /// The next call with an item and its index, or else what is kept of all calls.
 pub fn gather(
+    flow: &mut Flow,
     alloc: Global,
     w: u32,
     codes: &Vec<Code>,
     store: &mut Store,
     g: Box<Gathering>,
-) -> Result<Next, Memory>
+) -> Result<(), Memory>
     requires widget { w < 32 }
     requires held { FineGathering w store.old.cells g.value }
-    ensures plan { IfOk result (Plans (trees_of codes.now.items) w store.old store.new (gather_left w store.old.cells g.value)) }
-    ensures fine { IfOk result (FineNext (trees_of codes.now.items) w store.new.cells) }
-    ensures near { IfOk result (λ n. next_free n ≤ 1) }
+    ensures plan { OnOk result (Plans (trees_of codes.now.items) w store.old store.new (gather_left w store.old.cells g.value) flow.new) }
+    ensures fine { OnOk result (FineLeft (trees_of codes.now.items) w store.new.cells flow.new) }
+    ensures near { OnOk result (left_free flow.new ≤ 1) }
     ensures kept { Kept (trees_of codes.now.items) w store.old store.new }
+    ensures below { OnOk result (flow.new.below ≡ all_frames flow.old) }
 {
     match next_item(&g)? {
-        None => keep(alloc, w, codes, store, Box::into_inner(g)),
+        None => keep(flow, alloc, w, codes, store, Box::into_inner(g)),
         Some(item) => {
             let call = gather_call(alloc, &g, item)?;
-            Ok(Next::Push(Frame::Call(CallFrame::Gather(g)), Job::Call(call)))
+            flow.push(Frame::Call(CallFrame::Gather(g)), Job::Call(call))
         }
     }
 }
@@ -130,41 +135,45 @@ fn count_of(values: &Vec<Value>) -> Value
 
 /// After a call with an item: the next.
 pub fn gathered(
+    flow: &mut Flow,
     alloc: Global,
     w: u32,
     codes: &Vec<Code>,
     store: &mut Store,
     g: Box<Gathering>,
     value: Value,
-) -> Result<Next, Memory>
+) -> Result<(), Memory>
     requires widget { w < 32 }
     requires held { FineGathering w store.old.cells g.value × IsFine w store.old.cells value }
-    ensures plan { IfOk result (Plans (trees_of codes.now.items) w store.old store.new
-        (gathering_taken (trees_of codes.now.items) w store.old.cells g.value (meaning.Is (seen w store.old.cells value)))) }
-    ensures fine { IfOk result (FineNext (trees_of codes.now.items) w store.new.cells) }
-    ensures near { IfOk result (λ n. next_free n ≤ 1) }
+    ensures plan { OnOk result (Plans (trees_of codes.now.items) w store.old store.new
+        (gathering_taken (trees_of codes.now.items) w store.old.cells g.value (meaning.Is (seen w store.old.cells value))) flow.new) }
+    ensures fine { OnOk result (FineLeft (trees_of codes.now.items) w store.new.cells flow.new) }
+    ensures near { OnOk result (left_free flow.new ≤ 1) }
     ensures kept { Kept (trees_of codes.now.items) w store.old store.new }
+    ensures below { OnOk result (flow.new.below ≡ all_frames flow.old) }
 {
     let mut g = g;
     g.results.push(value)?;
-    gather(alloc, w, codes, store, g)
+    gather(flow, alloc, w, codes, store, g)
 }
 
 // What is kept of all calls.
 fn keep(
+    flow: &mut Flow,
     alloc: Global,
     w: u32,
     codes: &Vec<Code>,
     store: &mut Store,
     g: Gathering,
-) -> Result<Next, Memory>
+) -> Result<(), Memory>
     requires widget { w < 32 }
     requires held { FineGathering w store.old.cells g }
-    ensures plan { IfOk result (Plans (trees_of codes.now.items) w store.old store.new
-        (gathered g.keep (all_seen w store.old.cells g.items.items) (all_seen w store.old.cells g.results.items))) }
-    ensures fine { IfOk result (FineNext (trees_of codes.now.items) w store.new.cells) }
-    ensures near { IfOk result (λ n. next_free n ≤ 1) }
+    ensures plan { OnOk result (Plans (trees_of codes.now.items) w store.old store.new
+        (gathered g.keep (all_seen w store.old.cells g.items.items) (all_seen w store.old.cells g.results.items)) flow.new) }
+    ensures fine { OnOk result (FineLeft (trees_of codes.now.items) w store.new.cells flow.new) }
+    ensures near { OnOk result (left_free flow.new ≤ 1) }
     ensures kept { Kept (trees_of codes.now.items) w store.old store.new }
+    ensures below { OnOk result (flow.new.below ≡ all_frames flow.old) }
 {
     let Gathering {
         items,
@@ -173,33 +182,35 @@ fn keep(
         ..
     } = g;
     match keep {
-        Keep::Nothing => Ok(Next::Give(Completion::Is(Value::Undefined))),
-        Keep::Results => new_array(alloc, w, codes, store, results),
+        Keep::Nothing => Ok(flow.give(Completion::Is(Value::Undefined))),
+        Keep::Results => new_array(flow, alloc, w, codes, store, results),
         Keep::Passing => {
             let passing = passing(alloc, &items, &results)?;
-            new_array(alloc, w, codes, store, passing)
+            new_array(flow, alloc, w, codes, store, passing)
         }
     }
 }
 
 // A new array of these elements.
 fn new_array(
+    flow: &mut Flow,
     alloc: Global,
     w: u32,
     codes: &Vec<Code>,
     store: &mut Store,
     values: Vec<Value>,
-) -> Result<Next, Memory>
+) -> Result<(), Memory>
     requires widget { w < 32 }
     requires held { AreFine w store.old.cells values.items }
-    ensures plan { IfOk result (Plans (trees_of codes.now.items) w store.old store.new (λ s. natives.make_array (all_seen w store.old.cells values.items) 0 s costs.give)) }
-    ensures fine { IfOk result (FineNext (trees_of codes.now.items) w store.new.cells) }
-    ensures near { IfOk result (λ n. next_free n ≤ 1) }
+    ensures plan { OnOk result (Plans (trees_of codes.now.items) w store.old store.new (λ s. natives.make_array (all_seen w store.old.cells values.items) 0 s costs.give) flow.new) }
+    ensures fine { OnOk result (FineLeft (trees_of codes.now.items) w store.new.cells flow.new) }
+    ensures near { OnOk result (left_free flow.new ≤ 1) }
     ensures kept { Kept (trees_of codes.now.items) w store.old store.new }
+    ensures below { OnOk result (flow.new.below ≡ all_frames flow.old) }
 {
     match make_array(alloc, store, w, values, 0)? {
-        Made::Cell(id) => Ok(Next::Give(Completion::Is(Value::Ref(id)))),
-        Made::Stop(cause) => Ok(Next::Stop(cause)),
+        Made::Cell(id) => Ok(flow.give(Completion::Is(Value::Ref(id)))),
+        Made::Stop(cause) => Ok(flow.stop(cause)),
     }
 }
 

@@ -1,5 +1,5 @@
 -- A step moves what is still to be done by its charge.
-use Rattle.std.proofs.Common.{◌≡◌, ℕ, zero, suc, ◌+◌, ◌-◌, ◌<◌, ◌≤◌, List, [], ◌∷◌, ◌++◌, refl, sym, ap, ◌∙◌, subst, arith}
+use Rattle.std.proofs.Common.{◌≡◌, ℕ, zero, suc, ◌+◌, ◌-◌, ◌<◌, ◌≤◌, List, refl, sym, ap, ◌∙◌, subst, arith}
 use Rattle.js_tree.specs.Forest.{Forest}
 use Rattle.store_cells.specs.Cells.{PlainCell}
 use Rattle.widget_meaning.specs.Values as meaning
@@ -8,15 +8,10 @@ use Rattle.widget_meaning.specs.Plan as plan
 use Rattle.widget_meaning.specs.Plan.{Plan, Do, and_then, charge, OutOfFuel}
 use Rattle.widget_meaning.specs.Meaning.{body, run_plan}
 use Rattle.widget_meaning.proofs.PlansHold.{plan_laws}
-use Rattle.js_flow.specs.declared.job.Completion.{Completion}
-use Rattle.js_flow.specs.declared.job.Job.{Job}
 use Rattle.js_flow.specs.declared.frame.Frame.{Frame}
-use Rattle.js_flow.specs.declared.job.Next.{Next}
 use Rattle.js_flow.specs.declared.task.Control.TheVariants as control
-use Rattle.js_flow.specs.Views.{completion_of, job_of}
-use Rattle.js_flow.specs.Frames.{planned, rest, taken}
+use Rattle.js_flow.specs.Frames.{rest}
 use Rattle.js_flow.specs.Todo.{Moves, todo}
-use Rattle.js_flow.proofs.Follow.{rest_last}
 
 -- after no charge and no change
 pub stays : (s : State) (p q : Plan) → p ≡ q → Moves 0 s p q
@@ -58,17 +53,6 @@ charge_moves c s p = record {
   where
     parted : (g : ℕ) → c ≤ g → g ≡ c + (g - c)
     parted g h = omega (arith, h)
-
--- what is next, after a job began or a frame was taken; the frames below stay as the store grows
-module _ (fs : List Forest) (w : ℕ) (old new : List PlainCell) (s t : State) (below : List Frame) (next : Next) (after : Plan) (stay : rest fs w new below ≡ rest fs w old below) (follows : after ≡ and_then (planned fs w new next t) (rest fs w new below)) where
-  pub do_moves : (j : Job) → planned fs w new next t ≡ body (job_of fs w old j) s → Moves 1 s (todo fs w old (control.Do j) below s) after
-  do_moves j e = job_moves (job_of fs w old j) s (rest fs w old below) after (follows ∙ (λ i. and_then (e i) (stay i)))
-
-  pub begin_moves : (j : Job) → planned fs w new next t ≡ body (job_of fs w old j) s → Moves 0 s (todo fs w old (control.Begin j) below s) after
-  begin_moves j e = stays s _ after (sym (follows ∙ (λ i. and_then (e i) (stay i))))
-
-  pub give_moves : (o : Completion) (f : Frame) (frames : List Frame) → frames ≡ below ++ f ∷ [] → planned fs w new next t ≡ taken fs w old f (completion_of w old o) s → Moves 0 s (todo fs w old (control.Give o) frames s) after
-  give_moves o f frames g e = stays s _ after (ap (λ l. rest fs w old l (completion_of w old o) s) g ∙ (ap (λ k. k (completion_of w old o) s) (rest_last fs w old below f) ∙ sym (follows ∙ (λ i. and_then (e i) (stay i)))))
 
 -- a charge that frames wait for
 pub pay_moves : (fs : List Forest) (w : ℕ) (cells : List PlainCell) (n : ℕ) (frames : List Frame) (s : State) (after : Plan) → after ≡ rest fs w cells frames meaning.Normal s → Moves n s (todo fs w cells (control.Pay n) frames s) after

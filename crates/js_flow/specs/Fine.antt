@@ -1,5 +1,5 @@
 -- What jobs and frames hold is the widget's, and their ids are of its trees.
-use Rattle.std.specs.Prelude.{◌<◌, ℕ, List, IfSome, length}
+use Rattle.std.specs.Prelude.{◌≡◌, ◌<◌, ℕ, List, [], IfSome, length}
 use Rattle.std.specs.List.{AllByRecursion}
 use Rattle.js_tree.specs.Forest.{Forest, IsExpr, IsStmt}
 use Rattle.js_tree.specs.declared.nodes.ExprId.{ExprId}
@@ -36,7 +36,12 @@ use Rattle.js_flow.specs.declared.task.Control.TheVariants as control
 use Rattle.js_flow.specs.declared.task.Stepped.{Stepped}
 use Rattle.js_flow.specs.declared.task.Stepped.TheVariants as stepped
 use Rattle.js_flow.specs.Parts.{IsBlock, forest_at}
-use Rattle.js_flow.specs.Views.{frame_below}
+use Rattle.js_flow.specs.Left.{Left, all_frames}
+
+-- only an expression begins with the unit of another
+abbrev pub IsBegun : Job → Type 0
+IsBegun (job.Eval e p) = Unit {0}
+IsBegun _ = ⊥
 
 module _ (w : ℕ) (cells : List PlainCell) where
   abbrev pub FineReference : Reference → Type 0
@@ -162,20 +167,35 @@ module _ (fs : List Forest) (w : ℕ) (cells : List PlainCell) where
   abbrev pub FineFrames : List Frame → Type 0
   FineFrames frames = AllByRecursion FineFrame frames
 
+  -- what a form leaves is neither nothing nor the end of the task
   abbrev pub FineNext : Next → Type 0
-  FineNext (next.Push f j) = FineFrame f × FineJob j
-  FineNext (next.Push2 b g e p) = FineFrame (frame_below b p) × FineStatement g × IsExprAt e p
+  FineNext next.Nothing = ⊥
   FineNext (next.Go j) = FineJob j
-  FineNext (next.Begin f j) = FineFrame f × FineJob j
-  FineNext (next.Block f b p) = FineFrame f × IsBlockAt b p
+  FineNext (next.Begin j) = FineJob j × IsBegun j
   FineNext (next.Run b p) = IsBlockAt b p
-  FineNext (next.Try i p) = IsStmtAt i p
   FineNext (next.Give o) = FineCompletion w cells o
-  FineNext (next.Convert f d v) = FineFrame f × IsFine w cells v
-  FineNext (next.Compute r p op u v) = (FineReference w cells r × IsPlace p) × IsFine w cells u × IsFine w cells v
-  FineNext (next.Pay f n) = FineFrame f
+  FineNext (next.Pay n) = Unit {0}
   FineNext (next.Native c) = FineNative w cells c.value
   FineNext (next.Stop c) = Unit {0}
+  FineNext (next.Done o) = ⊥
+
+  -- no frame waits for a native alone
+  abbrev pub FineOver : List Frame → Next → Type 0
+  FineOver above (next.Native c) = (above ≡ []) × FineNative w cells c.value
+  FineOver above n = FineNext n
+
+  -- what a form leaves
+  abbrev pub FineLeft : Left → Type 0
+  FineLeft l = FineFrames l.above × FineOver l.above l.next
+
+  -- what is next; at the end of the task no frame is left
+  abbrev pub FineLast : List Frame → Next → Type 0
+  FineLast frames (next.Done o) = (frames ≡ []) × FineCompletion w cells o
+  FineLast frames n = FineNext n
+
+  -- all frames, and what is next
+  abbrev pub FineFlow : Left → Type 0
+  FineFlow l = FineFrames (all_frames l) × FineLast (all_frames l) l.next
 
   abbrev pub FineControl : Control → Type 0
   FineControl (control.Do j) = FineJob j

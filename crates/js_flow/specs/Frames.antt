@@ -11,17 +11,13 @@ use Rattle.widget_meaning.specs.Natives.{run_native}
 use Rattle.widget_meaning.specs.Meaning.{body}
 use Rattle.js_image.specs.Image.{Rest, all_seen, image, seen}
 use Rattle.js_image.specs.Plans.{meant_cause}
-use Rattle.js_flow.specs.declared.job.Block.TheVariants as block
 use Rattle.js_flow.specs.declared.job.NativeCall.{NativeCall}
-use Rattle.js_flow.specs.declared.job.Job.TheVariants as job
 use Rattle.js_flow.specs.declared.job.Next.{Next}
 use Rattle.js_flow.specs.declared.job.Next.TheVariants as next
 use Rattle.js_flow.specs.declared.frame.Frame.{Frame}
 use Rattle.js_flow.specs.declared.frame.Frame.TheVariants as frame
-use Rattle.js_flow.specs.declared.frame.FormFrame.TheVariants as form
-use Rattle.js_flow.specs.declared.frame.StatementFrame.TheVariants as statement
-use Rattle.js_flow.specs.declared.frame.CallFrame.TheVariants as call
-use Rattle.js_flow.specs.Views.{completion_of, frame_below, job_of}
+use Rattle.js_flow.specs.Left.{Left, all_frames}
+use Rattle.js_flow.specs.Views.{completion_of, job_of}
 use Rattle.js_flow.specs.Forms.{form_taken}
 use Rattle.js_flow.specs.Statements.{block_at, statement_taken}
 use Rattle.js_flow.specs.Calls.{call_taken}
@@ -39,20 +35,25 @@ module _ (fs : List Forest) (w : ℕ) (cells : List PlainCell) where
   taken (frame.Call f) = call_taken fs w cells f
 
   -- what is next
-  abbrev pub planned : Next → State → Plan
-  planned (next.Push f j) s = Do (job_of fs w cells j) s (taken f)
-  planned (next.Push2 b g e p) s = Do (job_of fs w cells (job.Eval e p)) s (λ o t. and_then (taken (frame.Statement g) o t) (taken (frame_below b p)))
-  planned (next.Go j) s = Do (job_of fs w cells j) s Ret
-  planned (next.Begin f j) s = and_then (body (job_of fs w cells j) s) (taken f)
-  planned (next.Block f b p) s = and_then (block_at fs w cells b 0 p s) (taken f)
-  planned (next.Run b p) s = block_at fs w cells b 0 p s
-  planned (next.Try i p) s = and_then (and_then (block_at fs w cells (block.Try i) 0 p s) (taken (frame.Statement (statement.Caught i p)))) (taken (frame.Statement (statement.Finally i p)))
-  planned (next.Give o) s = Ret (completion_of w cells o) s
-  planned (next.Convert f d v) s = and_then (taken (frame.Call (call.ToPrimitive d)) (meaning.Is (seen w cells v)) s) (taken f)
-  planned (next.Compute r p op u v) s = and_then (taken (frame.Form (form.Operate op u p.depth)) (meaning.Is (seen w cells v)) s) (taken (frame.Form (form.Write r p)))
-  planned (next.Pay f n) s = charge n s (taken f meaning.Normal s)
-  planned (next.Native c) s = native_plan w cells c.value s
-  planned (next.Stop c) s = Halt (meant_cause c) s
+  abbrev pub next_plan : Next → State → Plan
+  next_plan next.Nothing s = Ret meaning.Normal s
+  next_plan (next.Go j) s = Do (job_of fs w cells j) s Ret
+  next_plan (next.Begin j) s = body (job_of fs w cells j) s
+  next_plan (next.Run b p) s = block_at fs w cells b 0 p s
+  next_plan (next.Give o) s = Ret (completion_of w cells o) s
+  next_plan (next.Pay n) s = charge n s (Ret meaning.Normal s)
+  next_plan (next.Native c) s = native_plan w cells c.value s
+  next_plan (next.Stop c) s = Halt (meant_cause c) s
+  next_plan (next.Done o) s = Ret (completion_of w cells o) s
+
+  -- a plan, and then frames, of which the last is given to first
+  abbrev pub before : List Frame → Plan → Plan
+  before [] p = p
+  before (f ∷ frames) p = and_then (before frames p) (taken f)
+
+  -- what a form leaves
+  abbrev pub planned : Left → State → Plan
+  planned l s = before l.above (next_plan l.next s)
 
   -- what frames have still to do, from the last down, over what comes below
   abbrev pub over : List Frame → (Completion → State → Plan) → Completion → State → Plan
@@ -63,6 +64,10 @@ module _ (fs : List Forest) (w : ℕ) (cells : List PlainCell) where
   abbrev pub rest : List Frame → Completion → State → Plan
   rest frames = over frames Ret
 
--- What is next, in a new store, is what was to be done in the old one, whatever else the widget has.
-abbrev pub Plans : List Forest → ℕ → Cells → Cells → (State → Plan) → Next → Type 0
-Plans fs w old new todo n = (r : Rest) → planned fs w new.cells n (image fs r w new) ≡ todo (image fs r w old)
+-- what is next, and then all frames
+abbrev pub flow_plan : List Forest → ℕ → List PlainCell → Left → State → Plan
+flow_plan fs w cells l s = and_then (next_plan fs w cells l.next s) (rest fs w cells (all_frames l))
+
+-- What a form leaves, in a new store, is what was to be done in the old one, whatever else the widget has.
+abbrev pub Plans : List Forest → ℕ → Cells → Cells → (State → Plan) → Left → Type 0
+Plans fs w old new todo l = (r : Rest) → planned fs w new.cells l (image fs r w new) ≡ todo (image fs r w old)

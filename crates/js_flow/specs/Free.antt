@@ -14,7 +14,7 @@ use Rattle.js_flow.specs.declared.frame.Frame.{Frame}
 use Rattle.js_flow.specs.declared.frame.Frame.TheVariants as frame
 use Rattle.js_flow.specs.declared.task.Control.{Control}
 use Rattle.js_flow.specs.declared.task.Control.TheVariants as control
-use Rattle.js_flow.specs.Views.{frame_below}
+use Rattle.js_flow.specs.Left.{Left, all_frames}
 
 -- Each frame weighs at least what it may put in its place with no charge.
 abbrev pub form_free : FormFrame → ℕ
@@ -64,19 +64,28 @@ job_weight j = job_free
 
 -- what is next
 abbrev pub next_free : Next → ℕ
-next_free (next.Push f j) = frame_free f
-next_free (next.Push2 b g e p) = frame_free (frame_below b p) + statement_free g
+next_free next.Nothing = 0
 next_free (next.Go j) = 0
-next_free (next.Begin f j) = frame_free f + (job_weight j + 1)
-next_free (next.Block f b p) = frame_free f + 2
+next_free (next.Begin j) = job_weight j + 1
 next_free (next.Run b p) = 2
-next_free (next.Try i p) = statement_free (statement.Finally i p) + statement_free (statement.Caught i p) + 2
 next_free (next.Give o) = 1
-next_free (next.Convert f d v) = frame_free f + call_free (call.ToPrimitive d) + 1
-next_free (next.Compute r p op u v) = form_free (form.Write r p) + form_free (form.Operate op u p.depth) + 1
-next_free (next.Pay f n) = frame_free f + 2
+next_free (next.Pay n) = 2
 next_free (next.Native c) = native_free
 next_free (next.Stop c) = 0
+next_free (next.Done o) = 0
+
+-- all frames together
+abbrev pub frames_free : List Frame → ℕ
+frames_free [] = 0
+frames_free (f ∷ frames) = frame_free f + frames_free frames
+
+-- what a form leaves
+abbrev pub left_free : Left → ℕ
+left_free l = frames_free l.above + next_free l.next
+
+-- all frames, and what is next
+abbrev pub flow_free : Left → ℕ
+flow_free l = frames_free (all_frames l) + next_free l.next
 
 -- what a task is at
 abbrev pub control_free : Control → ℕ
@@ -85,11 +94,6 @@ control_free (control.Give o) = 1
 control_free (control.Pay n) = 2
 control_free (control.Waits d) = native_free
 control_free c = 0
-
--- all frames together
-abbrev pub frames_free : List Frame → ℕ
-frames_free [] = 0
-frames_free (f ∷ frames) = frame_free f + frames_free frames
 
 -- a task
 abbrev pub free : Control → List Frame → ℕ

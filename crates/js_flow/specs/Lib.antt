@@ -3,6 +3,7 @@ pub mod Views
 pub mod Forms
 pub mod Statements
 pub mod Calls
+pub mod Left
 pub mod Frames
 pub mod Fine
 pub mod Free

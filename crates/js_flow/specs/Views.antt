@@ -13,24 +13,14 @@ use Rattle.js_flow.specs.declared.job.Reference.{Reference}
 use Rattle.js_flow.specs.declared.job.Reference.TheVariants as reference
 use Rattle.js_flow.specs.declared.job.Completion.{Completion}
 use Rattle.js_flow.specs.declared.job.Completion.TheVariants as completion
-use Rattle.js_flow.specs.declared.job.Below.{Below}
-use Rattle.js_flow.specs.declared.job.Below.TheVariants as below
 use Rattle.js_flow.specs.declared.job.Job.{Job}
 use Rattle.js_flow.specs.declared.job.Job.TheVariants as job
 use Rattle.js_flow.specs.declared.frame.ForInNames.{ForInNames}
-use Rattle.js_flow.specs.declared.frame.StatementFrame.TheVariants as statement
-use Rattle.js_flow.specs.declared.frame.Frame.{Frame}
-use Rattle.js_flow.specs.declared.frame.Frame.TheVariants as frame
 use Rattle.js_flow.specs.Parts.{forest_at, loop_body, loop_of, variable_of}
 
 -- the name at a place of a list
 abbrev pub name_at : List (List ℕ) → ℕ → List ℕ
 name_at names n = unwrap_or (slice_get names n) []
-
--- a frame that lies below another at a place
-abbrev pub frame_below : Below → Place → Frame
-frame_below (below.ForAgain i) p = frame.Statement (statement.ForAgain i p)
-frame_below below.SwitchEnd p = frame.Statement statement.SwitchEnd
 
 module _ (w : ℕ) (cells : List PlainCell) where
   -- a place

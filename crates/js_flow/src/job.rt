@@ -1,9 +1,9 @@
 //! Jobs, how they end, and what is next.
 
-use crate::frame::{ForInNames, Frame, StatementFrame};
+use crate::frame::ForInNames;
 use code_units::Text;
 use js_image::StopCause;
-use js_tree::{BinOp, ExprId, FunId, StmtId};
+use js_tree::{ExprId, FunId, StmtId};
 use object_store::{CellId, NativeId, Value};
 use smallvec::SmallVec;
 
@@ -97,37 +97,23 @@ pub enum Job {
     RunNative(Box<NativeCall>),
 }
 
-/// A frame of a statement that lies below another at the same place, where both are pushed at once.
-#[derive(Clone, Copy, Drop)]
-pub enum Below {
-    ForAgain(StmtId),
-    SwitchEnd,
-}
-
-/// What is next, as one node or one frame says it. It is moved often, so what is rare is narrow.
+/// What is next, as a form leaves it. What waits for it are the frames that the form put on a `Flow`.
 #[derive(Drop)]
 pub enum Next {
-    /// A job, and what waits for it.
-    Push(Frame, Job),
-    /// An expression at a place, and two frames, of which the first lies below.
-    Push2(Below, StatementFrame, ExprId, Place),
+    /// No form left anything yet.
+    Nothing,
     Go(Job),
     /// A job that has its unit.
-    Begin(Frame, Job),
-    /// The statements of a block, and what waits for them.
-    Block(Frame, Block, Place),
+    Begin(Job),
+    /// The statements of a block.
     Run(Block, Place),
-    /// The block of a `try`, and its `catch` and its `finally`, which wait for it.
-    Try(StmtId, Place),
     /// How the form ended.
     Give(Completion),
-    /// The conversion of a value, by a caller at a depth, and the frame that waits for it.
-    Convert(Frame, u32, Value),
-    /// An operator on what a target has and a value; what it gives is written to the target.
-    Compute(Reference, Place, BinOp, Value, Value),
-    /// A charge, and then the frame goes on.
-    Pay(Frame, usize),
+    /// A charge, after which what waits goes on.
+    Pay(usize),
     /// A native, which has its unit.
     Native(Box<NativeCall>),
     Stop(StopCause),
+    /// How the last form ended: no frame is left.
+    Done(Completion),
 }

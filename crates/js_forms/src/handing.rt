@@ -1,74 +1,100 @@
 //! What is next, each word of it made by a function of its own: a function pays at its entry for all that
 //! its arms may make, so an arm only hands on.
-ghost use Rattle.std.specs.Prelude.{◌≡◌, Ok};
+ghost use Rattle.js_flow.specs.declared.job.Next.{Next};
+ghost use Rattle.std.specs.Prelude.{◌≡◌, Ok, OnOk, [], ◌∷◌};
+ghost use Rattle.js_flow.specs.Left.{Leaves};
 
 use code_units::Memory;
-use js_flow::{CallFrame, Completion, FormFrame, Frame, Job, Next, Place, Reference};
+use js_flow::{CallFrame, Completion, Flow, FormFrame, Frame, Job, Place, Reference};
 use js_tree::ExprId;
 use object_store::Value;
 
 /// An expression, and the frame that waits for it.
-pub(crate) fn evaluate(frame: FormFrame, id: ExprId, place: Place) -> Result<Next, Memory>
-    ensures { result ≡ Ok (Next.Push (Frame.Form frame) (Job.Eval id place)) }
+pub(crate) fn evaluate(
+    flow: &mut Flow,
+    frame: FormFrame,
+    id: ExprId,
+    place: Place,
+) -> Result<(), Memory>
+    ensures { OnOk result (Leaves flow.old flow.new (Frame.Form frame ∷ []) (Next.Go (Job.Eval id place))) }
 {
-    Ok(Next::Push(Frame::Form(frame), Job::Eval(id, place)))
+    flow.push(Frame::Form(frame), Job::Eval(id, place))
 }
 
 /// A target, and the frame that waits for it.
-pub(crate) fn reach(frame: FormFrame, id: ExprId, place: Place) -> Result<Next, Memory>
-    ensures { result ≡ Ok (Next.Push (Frame.Form frame) (Job.Target id place)) }
+pub(crate) fn reach(
+    flow: &mut Flow,
+    frame: FormFrame,
+    id: ExprId,
+    place: Place,
+) -> Result<(), Memory>
+    ensures { OnOk result (Leaves flow.old flow.new (Frame.Form frame ∷ []) (Next.Go (Job.Target id place))) }
 {
-    Ok(Next::Push(Frame::Form(frame), Job::Target(id, place)))
+    flow.push(Frame::Form(frame), Job::Target(id, place))
 }
 
 /// The target of a call, and the frame that waits for it.
-pub(crate) fn reach_callee(call: ExprId, callee: ExprId, place: Place) -> Result<Next, Memory>
-    ensures { result ≡ Ok (Next.Push (Frame.Call (CallFrame.Callee call place)) (Job.Target callee place)) }
+pub(crate) fn reach_callee(
+    flow: &mut Flow,
+    call: ExprId,
+    callee: ExprId,
+    place: Place,
+) -> Result<(), Memory>
+    ensures { OnOk result (Leaves flow.old flow.new (Frame.Call (CallFrame.Callee call place) ∷ []) (Next.Go (Job.Target callee place))) }
 {
-    Ok(Next::Push(
+    flow.push(
         Frame::Call(CallFrame::Callee(call, place)),
         Job::Target(callee, place),
-    ))
+    )
 }
 
 /// An expression in the place of this one.
-pub(crate) fn go(id: ExprId, place: Place) -> Result<Next, Memory>
-    ensures { result ≡ Ok (Next.Go (Job.Eval id place)) }
+pub(crate) fn go(flow: &mut Flow, id: ExprId, place: Place) -> Result<(), Memory>
+    ensures { OnOk result (Leaves flow.old flow.new [] (Next.Go (Job.Eval id place))) }
 {
-    Ok(Next::Go(Job::Eval(id, place)))
+    Ok(flow.go(Job::Eval(id, place)))
 }
 
 /// An expression that stands where a target may be; it has the unit of the target.
-pub(crate) fn find(id: ExprId, place: Place) -> Result<Next, Memory>
-    ensures { result ≡ Ok (Next.Begin (Frame.Form FormFrame.Found) (Job.Eval id place)) }
+pub(crate) fn find(flow: &mut Flow, id: ExprId, place: Place) -> Result<(), Memory>
+    ensures { OnOk result (Leaves flow.old flow.new (Frame.Form FormFrame.Found ∷ []) (Next.Begin (Job.Eval id place))) }
 {
-    Ok(Next::Begin(Frame::Form(FormFrame::Found), Job::Eval(id, place)))
+    flow.push_begun(Frame::Form(FormFrame::Found), Job::Eval(id, place))
 }
 
 /// The conversion of an object, and the frame that waits for it.
-pub(crate) fn convert(frame: FormFrame, depth: u32, value: Value) -> Result<Next, Memory>
-    ensures { result ≡ Ok (Next.Convert (Frame.Form frame) depth value) }
+pub(crate) fn convert(
+    flow: &mut Flow,
+    frame: FormFrame,
+    depth: u32,
+    value: Value,
+) -> Result<(), Memory>
+    ensures { OnOk result (Leaves flow.old flow.new (Frame.Form frame ∷ Frame.Call (CallFrame.ToPrimitive depth) ∷ []) (Next.Give (Completion.Is value))) }
 {
-    Ok(Next::Convert(Frame::Form(frame), depth, value))
+    flow.push_given(
+        Frame::Form(frame),
+        Frame::Call(CallFrame::ToPrimitive(depth)),
+        Completion::Is(value),
+    )
 }
 
 /// A value.
-pub(crate) fn give(value: Value) -> Result<Next, Memory>
-    ensures { result ≡ Ok (Next.Give (Completion.Is value)) }
+pub(crate) fn give(flow: &mut Flow, value: Value) -> Result<(), Memory>
+    ensures { OnOk result (Leaves flow.old flow.new [] (Next.Give (Completion.Is value))) }
 {
-    Ok(Next::Give(Completion::Is(value)))
+    Ok(flow.give(Completion::Is(value)))
 }
 
 /// A reference.
-pub(crate) fn give_reference(of: Reference) -> Result<Next, Memory>
-    ensures { result ≡ Ok (Next.Give (Completion.Refers of)) }
+pub(crate) fn give_reference(flow: &mut Flow, of: Reference) -> Result<(), Memory>
+    ensures { OnOk result (Leaves flow.old flow.new [] (Next.Give (Completion.Refers of))) }
 {
-    Ok(Next::Give(Completion::Refers(of)))
+    Ok(flow.give(Completion::Refers(of)))
 }
 
 /// How a part ended, passed on.
-pub(crate) fn pass_on(how: Completion) -> Result<Next, Memory>
-    ensures { result ≡ Ok (Next.Give how) }
+pub(crate) fn pass_on(flow: &mut Flow, how: Completion) -> Result<(), Memory>
+    ensures { OnOk result (Leaves flow.old flow.new [] (Next.Give how)) }
 {
-    Ok(Next::Give(how))
+    Ok(flow.give(how))
 }

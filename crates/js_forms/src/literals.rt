@@ -1,5 +1,5 @@
 //! Literals: numbers, words, functions, and arrays and objects, which are born before their parts.
-ghost use Rattle.std.specs.Prelude.{◌≡◌, ℕ, ◌+◌, ◌<◌, ◌≤◌, List, [], IfOk, drop};
+ghost use Rattle.std.specs.Prelude.{◌≡◌, ℕ, ◌+◌, ◌<◌, ◌≤◌, List, [], IfOk, drop, OnOk, ◌∷◌};
 ghost use Rattle.js_tree.specs.Forest.{IsFun, expr_at, fun_at};
 ghost use Rattle.js_tree.specs.Plain as node;
 ghost use Rattle.store_cells.specs.Cells.{PlainCell};
@@ -16,12 +16,13 @@ ghost use Rattle.js_flow.specs.Parts.{elements_of, forest_at, properties_of};
 ghost use Rattle.js_flow.specs.Views.{place_of};
 ghost use Rattle.js_flow.specs.Forms.{form_taken};
 ghost use Rattle.js_flow.specs.Frames.{Plans, planned};
-ghost use Rattle.js_flow.specs.Fine.{FineNext, IsExprAt, IsPlace};
-ghost use Rattle.js_flow.specs.Free.{next_free};
+ghost use Rattle.js_flow.specs.Fine.{FineLeft, IsExprAt, IsPlace};
+ghost use Rattle.js_flow.specs.Free.{left_free};
+ghost use Rattle.js_flow.specs.Left.{all_frames};
 
 use crate::reading::throw;
 use code_units::{Memory, Text, WholeRead, read_whole, whole_text};
-use js_flow::{Completion, FormFrame, Frame, Job, Next, Place, element_at, property_at};
+use js_flow::{Completion, Flow, FormFrame, Frame, Job, Place, element_at, property_at};
 use js_image::{Made, Written, make, put};
 use js_names::{Code, tree_at};
 use js_tree::{ExprId, FunId, Word};
@@ -55,22 +56,24 @@ pub(crate) fn word_value(word: Word) -> Value
 
 /// A function expression.
 pub(crate) fn function(
+    flow: &mut Flow,
     alloc: Global,
     w: u32,
     codes: &Vec<Code>,
     store: &mut Store,
     fun: FunId,
     place: Place,
-) -> Result<Next, Memory>
+) -> Result<(), Memory>
     requires widget { w < 32 }
     requires confined { IsConfined (trees_of codes.now.items) w store.old }
     requires place { IsPlace (trees_of codes.now.items) w store.old.cells place }
     requires fun { IsFun (forest_at (trees_of codes.now.items) place.code) fun }
-    ensures plan { IfOk result (Plans (trees_of codes.now.items) w store.old store.new
-        (expressions.expression (node.Function (fun_at (forest_at (trees_of codes.now.items) place.code) fun)) (place_of w store.old.cells place))) }
-    ensures fine { IfOk result (FineNext (trees_of codes.now.items) w store.new.cells) }
-    ensures near { IfOk result (λ n. next_free n ≤ 1) }
+    ensures plan { OnOk result (Plans (trees_of codes.now.items) w store.old store.new
+        (expressions.expression (node.Function (fun_at (forest_at (trees_of codes.now.items) place.code) fun)) (place_of w store.old.cells place)) flow.new) }
+    ensures fine { OnOk result (FineLeft (trees_of codes.now.items) w store.new.cells flow.new) }
+    ensures near { OnOk result (left_free flow.new ≤ 1) }
     ensures kept { Kept (trees_of codes.now.items) w store.old store.new }
+    ensures below { OnOk result (flow.new.below ≡ all_frames flow.old) }
 {
     let cell = NewCell::Function {
         code: place.code,
@@ -79,77 +82,83 @@ pub(crate) fn function(
         scope: place.scope,
     };
     match make(alloc, store, w, cell)? {
-        Made::Cell(id) => Ok(Next::Give(Completion::Is(Value::Ref(id)))),
-        Made::Stop(cause) => Ok(Next::Stop(cause)),
+        Made::Cell(id) => Ok(flow.give(Completion::Is(Value::Ref(id)))),
+        Made::Stop(cause) => Ok(flow.stop(cause)),
     }
 }
 
 /// An array literal.
 pub(crate) fn array(
+    flow: &mut Flow,
     alloc: Global,
     w: u32,
     codes: &Vec<Code>,
     store: &mut Store,
     id: ExprId,
     place: Place,
-) -> Result<Next, Memory>
+) -> Result<(), Memory>
     requires widget { w < 32 }
     requires confined { IsConfined (trees_of codes.now.items) w store.old }
     requires place { IsExprAt (trees_of codes.now.items) w store.old.cells id place }
-    ensures plan { IfOk result (Plans (trees_of codes.now.items) w store.old store.new
-        (λ s. costs.make (new_array 0 []) 0 s (λ a t. expressions.array_parts a 0 (elements_of (expr_at (forest_at (trees_of codes.now.items) place.code) id)) (place_of w store.old.cells place) t))) }
-    ensures fine { IfOk result (FineNext (trees_of codes.now.items) w store.new.cells) }
-    ensures near { IfOk result (λ n. next_free n ≤ 1) }
+    ensures plan { OnOk result (Plans (trees_of codes.now.items) w store.old store.new
+        (λ s. costs.make (new_array 0 []) 0 s (λ a t. expressions.array_parts a 0 (elements_of (expr_at (forest_at (trees_of codes.now.items) place.code) id)) (place_of w store.old.cells place) t)) flow.new) }
+    ensures fine { OnOk result (FineLeft (trees_of codes.now.items) w store.new.cells flow.new) }
+    ensures near { OnOk result (left_free flow.new ≤ 1) }
     ensures kept { Kept (trees_of codes.now.items) w store.old store.new }
+    ensures below { OnOk result (flow.new.below ≡ all_frames flow.old) }
 {
     match make(alloc, store, w, NewCell::Array)? {
-        Made::Cell(cell) => Ok(elements(w, codes, store, cell, (id, 0), place)),
-        Made::Stop(cause) => Ok(Next::Stop(cause)),
+        Made::Cell(cell) => elements(flow, w, codes, store, cell, (id, 0), place),
+        Made::Stop(cause) => Ok(flow.stop(cause)),
     }
 }
 
 // The elements of an array literal from an index on.
 fn elements(
+    flow: &mut Flow,
     w: u32,
     codes: &Vec<Code>,
     store: &Store,
     array: CellId,
     from: (ExprId, usize),
     place: Place,
-) -> Next
+) -> Result<(), Memory>
     requires held { IsHeld w store.now.cells array × IsExprAt (trees_of codes.now.items) w store.now.cells from.0 place }
-    ensures plan { (s : State) → planned (trees_of codes.now.items) w store.now.cells result s
-        ≡ expressions.array_parts (seen w store.now.cells (Value.Ref array)) from.1 (drop from.1 (elements_of (expr_at (forest_at (trees_of codes.now.items) place.code) from.0))) (place_of w store.now.cells place) s }
-    ensures fine { FineNext (trees_of codes.now.items) w store.now.cells result }
-    ensures near { next_free result ≤ 1 }
+    ensures plan { OnOk result ((s : State) → planned (trees_of codes.now.items) w store.now.cells flow.new s
+        ≡ expressions.array_parts (seen w store.now.cells (Value.Ref array)) from.1 (drop from.1 (elements_of (expr_at (forest_at (trees_of codes.now.items) place.code) from.0))) (place_of w store.now.cells place) s) }
+    ensures fine { OnOk result (FineLeft (trees_of codes.now.items) w store.now.cells flow.new) }
+    ensures near { OnOk result (left_free flow.new ≤ 1) }
+    ensures below { OnOk result (flow.new.below ≡ all_frames flow.old) }
 {
     let (id, n) = from;
     match element_at(tree_at(codes, place.code), id, n) {
-        Some(e) => Next::Push(
+        Some(e) => flow.push(
             Frame::Form(FormFrame::Element(array, id, n, place)),
             Job::Eval(e, place),
         ),
-        None => Next::Give(Completion::Is(Value::Ref(array))),
+        None => Ok(flow.give(Completion::Is(Value::Ref(array)))),
     }
 }
 
 /// An element has its value.
 pub(crate) fn element(
+    flow: &mut Flow,
     alloc: Global,
     w: u32,
     codes: &Vec<Code>,
     store: &mut Store,
     at: (CellId, ExprId, usize, Place),
     value: Value,
-) -> Result<Next, Memory>
+) -> Result<(), Memory>
     requires widget { w < 32 }
     requires confined { IsConfined (trees_of codes.now.items) w store.old }
     requires held { IsHeld w store.old.cells at.0 × IsExprAt (trees_of codes.now.items) w store.old.cells at.1 at.3 × IsFine w store.old.cells value }
-    ensures plan { IfOk result (Plans (trees_of codes.now.items) w store.old store.new
-        (form_taken (trees_of codes.now.items) w store.old.cells (FormFrame.Element at.0 at.1 at.2 at.3) (meaning.Is (seen w store.old.cells value)))) }
-    ensures fine { IfOk result (FineNext (trees_of codes.now.items) w store.new.cells) }
-    ensures near { IfOk result (λ n. next_free n ≤ 1) }
+    ensures plan { OnOk result (Plans (trees_of codes.now.items) w store.old store.new
+        (form_taken (trees_of codes.now.items) w store.old.cells (FormFrame.Element at.0 at.1 at.2 at.3) (meaning.Is (seen w store.old.cells value))) flow.new) }
+    ensures fine { OnOk result (FineLeft (trees_of codes.now.items) w store.new.cells flow.new) }
+    ensures near { OnOk result (left_free flow.new ≤ 1) }
     ensures kept { Kept (trees_of codes.now.items) w store.old store.new }
+    ensures below { OnOk result (flow.new.below ≡ all_frames flow.old) }
 {
     let (array, id, n, place) = at;
     let Ok(index) = u32::try_from(n) else {
@@ -157,35 +166,37 @@ pub(crate) fn element(
     };
     let name = whole_text(alloc, i64::from(index))?;
     match put(store, w, &Value::Ref(array), &name, value)? {
-        Written::Done => Ok(elements(w, codes, store, array, (id, n + 1), place)),
-        Written::Throw(fault) => throw(alloc, w, codes, store, fault),
-        Written::Stop(cause) => Ok(Next::Stop(cause)),
+        Written::Done => elements(flow, w, codes, store, array, (id, n + 1), place),
+        Written::Throw(fault) => throw(flow, alloc, w, codes, store, fault),
+        Written::Stop(cause) => Ok(flow.stop(cause)),
     }
 }
 
 /// An object literal.
 pub(crate) fn object(
+    flow: &mut Flow,
     alloc: Global,
     w: u32,
     codes: &Vec<Code>,
     store: &mut Store,
     id: ExprId,
     place: Place,
-) -> Result<Next, Memory>
+) -> Result<(), Memory>
     requires widget { w < 32 }
     requires confined { IsConfined (trees_of codes.now.items) w store.old }
     requires place { IsExprAt (trees_of codes.now.items) w store.old.cells id place }
-    ensures plan { IfOk result (Plans (trees_of codes.now.items) w store.old store.new
-        (λ s. costs.make (plain_object []) 0 s (λ a t. expressions.object_parts a (properties_of (expr_at (forest_at (trees_of codes.now.items) place.code) id)) (place_of w store.old.cells place) t))) }
-    ensures fine { IfOk result (FineNext (trees_of codes.now.items) w store.new.cells) }
-    ensures near { IfOk result (λ n. next_free n ≤ 1) }
+    ensures plan { OnOk result (Plans (trees_of codes.now.items) w store.old store.new
+        (λ s. costs.make (plain_object []) 0 s (λ a t. expressions.object_parts a (properties_of (expr_at (forest_at (trees_of codes.now.items) place.code) id)) (place_of w store.old.cells place) t)) flow.new) }
+    ensures fine { OnOk result (FineLeft (trees_of codes.now.items) w store.new.cells flow.new) }
+    ensures near { OnOk result (left_free flow.new ≤ 1) }
     ensures kept { Kept (trees_of codes.now.items) w store.old store.new }
+    ensures below { OnOk result (flow.new.below ≡ all_frames flow.old) }
 {
     lawful(store);
     let proto = store.host(HostEntry::ObjectPrototype);
     match make(alloc, store, w, NewCell::Object(proto))? {
-        Made::Cell(cell) => Ok(properties(w, codes, store, cell, (id, 0), place)),
-        Made::Stop(cause) => Ok(Next::Stop(cause)),
+        Made::Cell(cell) => properties(flow, w, codes, store, cell, (id, 0), place),
+        Made::Stop(cause) => Ok(flow.stop(cause)),
     }
 }
 
@@ -202,54 +213,58 @@ fn lawful(store: &Store)
 
 // The properties of an object literal from one on.
 fn properties(
+    flow: &mut Flow,
     w: u32,
     codes: &Vec<Code>,
     store: &Store,
     object: CellId,
     from: (ExprId, usize),
     place: Place,
-) -> Next
+) -> Result<(), Memory>
     requires held { IsHeld w store.now.cells object × IsExprAt (trees_of codes.now.items) w store.now.cells from.0 place }
-    ensures plan { (s : State) → planned (trees_of codes.now.items) w store.now.cells result s
-        ≡ expressions.object_parts (seen w store.now.cells (Value.Ref object)) (drop from.1 (properties_of (expr_at (forest_at (trees_of codes.now.items) place.code) from.0))) (place_of w store.now.cells place) s }
-    ensures fine { FineNext (trees_of codes.now.items) w store.now.cells result }
-    ensures near { next_free result ≤ 1 }
+    ensures plan { OnOk result ((s : State) → planned (trees_of codes.now.items) w store.now.cells flow.new s
+        ≡ expressions.object_parts (seen w store.now.cells (Value.Ref object)) (drop from.1 (properties_of (expr_at (forest_at (trees_of codes.now.items) place.code) from.0))) (place_of w store.now.cells place) s) }
+    ensures fine { OnOk result (FineLeft (trees_of codes.now.items) w store.now.cells flow.new) }
+    ensures near { OnOk result (left_free flow.new ≤ 1) }
+    ensures below { OnOk result (flow.new.below ≡ all_frames flow.old) }
 {
     let (id, n) = from;
     match property_at(tree_at(codes, place.code), id, n) {
-        Some(part) => Next::Push(
+        Some(part) => flow.push(
             Frame::Form(FormFrame::Property(object, id, n, place)),
             Job::Eval(part.1, place),
         ),
-        None => Next::Give(Completion::Is(Value::Ref(object))),
+        None => Ok(flow.give(Completion::Is(Value::Ref(object)))),
     }
 }
 
 /// A property has its value.
 pub(crate) fn property(
+    flow: &mut Flow,
     alloc: Global,
     w: u32,
     codes: &Vec<Code>,
     store: &mut Store,
     at: (CellId, ExprId, usize, Place),
     value: Value,
-) -> Result<Next, Memory>
+) -> Result<(), Memory>
     requires widget { w < 32 }
     requires confined { IsConfined (trees_of codes.now.items) w store.old }
     requires held { IsHeld w store.old.cells at.0 × IsExprAt (trees_of codes.now.items) w store.old.cells at.1 at.3 × IsFine w store.old.cells value }
-    ensures plan { IfOk result (Plans (trees_of codes.now.items) w store.old store.new
-        (form_taken (trees_of codes.now.items) w store.old.cells (FormFrame.Property at.0 at.1 at.2 at.3) (meaning.Is (seen w store.old.cells value)))) }
-    ensures fine { IfOk result (FineNext (trees_of codes.now.items) w store.new.cells) }
-    ensures near { IfOk result (λ n. next_free n ≤ 1) }
+    ensures plan { OnOk result (Plans (trees_of codes.now.items) w store.old store.new
+        (form_taken (trees_of codes.now.items) w store.old.cells (FormFrame.Property at.0 at.1 at.2 at.3) (meaning.Is (seen w store.old.cells value))) flow.new) }
+    ensures fine { OnOk result (FineLeft (trees_of codes.now.items) w store.new.cells flow.new) }
+    ensures near { OnOk result (left_free flow.new ≤ 1) }
     ensures kept { Kept (trees_of codes.now.items) w store.old store.new }
+    ensures below { OnOk result (flow.new.below ≡ all_frames flow.old) }
 {
     let (object, id, n, place) = at;
     match property_at(tree_at(codes, place.code), id, n) {
         Some(part) => match put(store, w, &Value::Ref(object), &part.0, value)? {
-            Written::Done => Ok(properties(w, codes, store, object, (id, n + 1), place)),
-            Written::Throw(fault) => throw(alloc, w, codes, store, fault),
-            Written::Stop(cause) => Ok(Next::Stop(cause)),
+            Written::Done => properties(flow, w, codes, store, object, (id, n + 1), place),
+            Written::Throw(fault) => throw(flow, alloc, w, codes, store, fault),
+            Written::Stop(cause) => Ok(flow.stop(cause)),
         },
-        None => Ok(Next::Give(Completion::Is(Value::Ref(object)))),
+        None => Ok(flow.give(Completion::Is(Value::Ref(object)))),
     }
 }

@@ -1,5 +1,5 @@
 //! Operators: their operands are converted, and a joined text is paid.
-ghost use Rattle.std.specs.Prelude.{◌≡◌, ℕ, ◌<◌, ◌≤◌, List, IfOk, length, true, false};
+ghost use Rattle.std.specs.Prelude.{◌≡◌, ℕ, ◌<◌, ◌≤◌, List, IfOk, length, true, false, OnOk, [], ◌∷◌};
 ghost use Rattle.js_tree.specs.Forest.{Forest};
 ghost use Rattle.store_cells.specs.Cells.{PlainCell};
 ghost use Rattle.widget_meaning.specs.Values as meaning;
@@ -16,13 +16,14 @@ ghost use Rattle.js_values.specs.Operands.{IsOperand, IsPlainOut, IsPrefixed, Is
 ghost use Rattle.js_names.specs.Code.{trees_of};
 ghost use Rattle.js_flow.specs.Views.{place_of, reference_of};
 ghost use Rattle.js_flow.specs.Frames.{Plans};
-ghost use Rattle.js_flow.specs.Fine.{FineNext, FineReference};
-ghost use Rattle.js_flow.specs.Free.{next_free};
+ghost use Rattle.js_flow.specs.Fine.{FineLeft, FineReference};
+ghost use Rattle.js_flow.specs.Free.{left_free};
+ghost use Rattle.js_flow.specs.Left.{all_frames};
 
 use crate::handing::convert;
 use crate::reading::throw;
 use code_units::Memory;
-use js_flow::{Completion, FormFrame, Next, Place, Reference};
+use js_flow::{Completion, Flow, FormFrame, Place, Reference};
 use js_image::{Callee, Fault, Paid, Removed, StopCause, callee, pay_text, remove};
 use js_names::Code;
 use js_tree::{BinOp, UnOp};
@@ -55,162 +56,186 @@ fn is_converting(op: BinOp) -> bool
 
 /// What an operator gives: a joined text costs its units.
 pub(crate) fn result_of(
+    flow: &mut Flow,
     w: u32,
     codes: &Vec<Code>,
     store: &mut Store,
     out: OpOut,
-) -> Result<Next, Memory>
+) -> Result<(), Memory>
     requires widget { w < 32 }
     requires plain { IsPlainOut out }
-    ensures plan { IfOk result (Plans (trees_of codes.now.items) w store.old store.new
-        (expressions.result (meant_out out))) }
-    ensures fine { IfOk result (FineNext (trees_of codes.now.items) w store.new.cells) }
-    ensures near { IfOk result (λ n. next_free n ≤ 1) }
+    ensures plan { OnOk result (Plans (trees_of codes.now.items) w store.old store.new
+        (expressions.result (meant_out out)) flow.new) }
+    ensures fine { OnOk result (FineLeft (trees_of codes.now.items) w store.new.cells flow.new) }
+    ensures near { OnOk result (left_free flow.new ≤ 1) }
     ensures kept { Kept (trees_of codes.now.items) w store.old store.new }
+    ensures below { OnOk result (flow.new.below ≡ all_frames flow.old) }
 {
     match out {
-        OpOut::Is(value) => Ok(give_value(w, codes, store, value)),
-        OpOut::Left => Ok(Next::Stop(StopCause::Number)),
-        OpOut::LongText => Ok(Next::Stop(StopCause::LongText)),
+        OpOut::Is(value) => give_value(flow, w, codes, store, value),
+        OpOut::Left => Ok(flow.stop(StopCause::Number)),
+        OpOut::LongText => Ok(flow.stop(StopCause::LongText)),
     }
 }
 
 // What an operator made: a text costs its units.
-fn give_value(w: u32, codes: &Vec<Code>, store: &mut Store, value: Value) -> Next
+fn give_value(
+    flow: &mut Flow,
+    w: u32,
+    codes: &Vec<Code>,
+    store: &mut Store,
+    value: Value,
+) -> Result<(), Memory>
     requires widget { w < 32 }
     requires plain { IsPrimitive value }
-    ensures plan { Plans (trees_of codes.now.items) w store.old store.new (expressions.result (operators.Gives (plain value))) result }
-    ensures fine { FineNext (trees_of codes.now.items) w store.new.cells result }
-    ensures near { next_free result ≤ 1 }
+    ensures plan { OnOk result (Plans (trees_of codes.now.items) w store.old store.new (expressions.result (operators.Gives (plain value))) flow.new) }
+    ensures fine { OnOk result (FineLeft (trees_of codes.now.items) w store.new.cells flow.new) }
+    ensures near { OnOk result (left_free flow.new ≤ 1) }
     ensures kept { Kept (trees_of codes.now.items) w store.old store.new }
+    ensures below { OnOk result (flow.new.below ≡ all_frames flow.old) }
 {
     match value {
         Value::Text(t) => match pay_text(store, w, &t) {
-            Paid::Done => Next::Give(Completion::Is(Value::Text(t))),
-            Paid::Stop(cause) => Next::Stop(cause),
+            Paid::Done => Ok(flow.give(Completion::Is(Value::Text(t)))),
+            Paid::Stop(cause) => Ok(flow.stop(cause)),
         },
-        value => Next::Give(Completion::Is(value)),
+        value => Ok(flow.give(Completion::Is(value))),
     }
 }
 
 // An operator on two operands that need no conversion.
 pub(crate) fn computed(
+    flow: &mut Flow,
     alloc: Global,
     w: u32,
     codes: &Vec<Code>,
     store: &mut Store,
     op: BinOp,
-    operands: (Value, Value),
-) -> Result<Next, Memory>
+    left: &Value,
+    right: &Value,
+) -> Result<(), Memory>
     requires widget { w < 32 }
-    requires held { IsFine w store.old.cells operands.0 × IsFine w store.old.cells operands.1 }
-    requires operands { IsOperand op operands.0 × IsOperand op operands.1 }
-    ensures plan { IfOk result (Plans (trees_of codes.now.items) w store.old store.new
-        (expressions.result (operators.binary op (seen w store.old.cells operands.0) (seen w store.old.cells operands.1)))) }
-    ensures fine { IfOk result (FineNext (trees_of codes.now.items) w store.new.cells) }
-    ensures near { IfOk result (λ n. next_free n ≤ 1) }
+    requires held { IsFine w store.old.cells left.now × IsFine w store.old.cells right.now }
+    requires operands { IsOperand op left.now × IsOperand op right.now }
+    ensures plan { OnOk result (Plans (trees_of codes.now.items) w store.old store.new
+        (expressions.result (operators.binary op (seen w store.old.cells left.now) (seen w store.old.cells right.now))) flow.new) }
+    ensures fine { OnOk result (FineLeft (trees_of codes.now.items) w store.new.cells flow.new) }
+    ensures near { OnOk result (left_free flow.new ≤ 1) }
     ensures kept { Kept (trees_of codes.now.items) w store.old store.new }
+    ensures below { OnOk result (flow.new.below ≡ all_frames flow.old) }
 {
-    let out = binary(alloc, op, &operands.0, &operands.1)?;
-    result_of(w, codes, store, out)
+    let out = binary(alloc, op, left, right)?;
+    result_of(flow, w, codes, store, out)
 }
 
 /// An operator on two values, by a caller at a depth: objects are converted, left before right.
 pub(crate) fn operate(
+    flow: &mut Flow,
     alloc: Global,
     w: u32,
     codes: &Vec<Code>,
     store: &mut Store,
-    op: BinOp,
-    operands: (Value, Value, u32),
-) -> Result<Next, Memory>
+    op: (BinOp, u32),
+    left: &Value,
+    right: &Value,
+) -> Result<(), Memory>
     requires widget { w < 32 }
-    requires held { IsFine w store.old.cells operands.0 × IsFine w store.old.cells operands.1 }
-    ensures plan { IfOk result (Plans (trees_of codes.now.items) w store.old store.new
-        (expressions.operate op (seen w store.old.cells operands.0) (seen w store.old.cells operands.1) operands.2)) }
-    ensures fine { IfOk result (FineNext (trees_of codes.now.items) w store.new.cells) }
-    ensures near { IfOk result (λ n. next_free n ≤ 6) }
+    requires held { IsFine w store.old.cells left.now × IsFine w store.old.cells right.now }
+    ensures plan { OnOk result (Plans (trees_of codes.now.items) w store.old store.new
+        (expressions.operate op.0 (seen w store.old.cells left.now) (seen w store.old.cells right.now) op.1) flow.new) }
+    ensures fine { OnOk result (FineLeft (trees_of codes.now.items) w store.new.cells flow.new) }
+    ensures near { OnOk result (left_free flow.new ≤ 6) }
     ensures kept { Kept (trees_of codes.now.items) w store.old store.new }
+    ensures below { OnOk result (flow.new.below ≡ all_frames flow.old) }
 {
-    let (left, right, depth) = operands;
-    if !is_converting(op) {
-        return computed(alloc, w, codes, store, op, (left, right));
+    let (of, depth) = op;
+    if !is_converting(of) {
+        return computed(flow, alloc, w, codes, store, of, left, right);
     }
-    if is_object(&left) {
-        return convert(FormFrame::ConvertedLeft(op, right, depth), depth, left);
+    if is_object(left) {
+        let waits = FormFrame::ConvertedLeft(of, right.share()?, depth);
+        return convert(flow, waits, depth, left.share()?);
     }
-    convert_right(alloc, w, codes, store, op, (left, right, depth))
+    convert_right(flow, alloc, w, codes, store, op, left, right)
 }
 
 /// After the conversion of the left operand: that of the right.
 pub(crate) fn convert_right(
+    flow: &mut Flow,
     alloc: Global,
     w: u32,
     codes: &Vec<Code>,
     store: &mut Store,
-    op: BinOp,
-    operands: (Value, Value, u32),
-) -> Result<Next, Memory>
+    op: (BinOp, u32),
+    left: &Value,
+    right: &Value,
+) -> Result<(), Memory>
     requires widget { w < 32 }
-    requires held { IsFine w store.old.cells operands.0 × IsFine w store.old.cells operands.1 }
-    requires left { IsPrimitive operands.0 }
-    ensures plan { IfOk result (Plans (trees_of codes.now.items) w store.old store.new
-        (expressions.converted_left op (seen w store.old.cells operands.1) operands.2 (meaning.Is (seen w store.old.cells operands.0)))) }
-    ensures fine { IfOk result (FineNext (trees_of codes.now.items) w store.new.cells) }
-    ensures near { IfOk result (λ n. next_free n ≤ 3) }
+    requires held { IsFine w store.old.cells left.now × IsFine w store.old.cells right.now }
+    requires left { IsPrimitive left.now }
+    ensures plan { OnOk result (Plans (trees_of codes.now.items) w store.old store.new
+        (expressions.converted_left op.0 (seen w store.old.cells right.now) op.1 (meaning.Is (seen w store.old.cells left.now))) flow.new) }
+    ensures fine { OnOk result (FineLeft (trees_of codes.now.items) w store.new.cells flow.new) }
+    ensures near { OnOk result (left_free flow.new ≤ 3) }
     ensures kept { Kept (trees_of codes.now.items) w store.old store.new }
+    ensures below { OnOk result (flow.new.below ≡ all_frames flow.old) }
 {
-    let (left, right, depth) = operands;
-    if is_object(&right) {
-        return convert(FormFrame::ConvertedRight(op, left), depth, right);
+    let (of, depth) = op;
+    if is_object(right) {
+        let waits = FormFrame::ConvertedRight(of, left.share()?);
+        return convert(flow, waits, depth, right.share()?);
     }
-    computed(alloc, w, codes, store, op, (left, right))
+    computed(flow, alloc, w, codes, store, of, left, right)
 }
 
 /// A prefix operator on a value: `+` and `-` convert an object, `!` and `typeof` do not.
 pub(crate) fn prefix(
+    flow: &mut Flow,
     alloc: Global,
     w: u32,
     codes: &Vec<Code>,
     store: &mut Store,
     op: (UnOp, Place),
     value: Value,
-) -> Result<Next, Memory>
+) -> Result<(), Memory>
     requires widget { w < 32 }
     requires confined { IsConfined (trees_of codes.now.items) w store.old }
     requires held { IsFine w store.old.cells value }
-    ensures plan { IfOk result (Plans (trees_of codes.now.items) w store.old store.new
-        (expressions.unary_on op.0 (seen w store.old.cells value) (place_of w store.old.cells op.1))) }
-    ensures fine { IfOk result (FineNext (trees_of codes.now.items) w store.new.cells) }
-    ensures near { IfOk result (λ n. next_free n ≤ 4) }
+    ensures plan { OnOk result (Plans (trees_of codes.now.items) w store.old store.new
+        (expressions.unary_on op.0 (seen w store.old.cells value) (place_of w store.old.cells op.1)) flow.new) }
+    ensures fine { OnOk result (FineLeft (trees_of codes.now.items) w store.new.cells flow.new) }
+    ensures near { OnOk result (left_free flow.new ≤ 4) }
     ensures kept { Kept (trees_of codes.now.items) w store.old store.new }
+    ensures below { OnOk result (flow.new.below ≡ all_frames flow.old) }
 {
     let (op, place) = op;
     match op {
-        UnOp::TypeOf => type_of(alloc, w, codes, store, &value),
-        UnOp::Not => converted_prefix(w, codes, store, UnOp::Not, &value),
-        _ => convert_prefix(w, codes, store, (op, place.depth), value),
+        UnOp::TypeOf => type_of(flow, alloc, w, codes, store, &value),
+        UnOp::Not => converted_prefix(flow, w, codes, store, UnOp::Not, &value),
+        _ => convert_prefix(flow, w, codes, store, (op, place.depth), value),
     }
 }
 
 // The name of a value's type.
 fn type_of(
+    flow: &mut Flow,
     alloc: Global,
     w: u32,
     codes: &Vec<Code>,
     store: &mut Store,
     value: &Value,
-) -> Result<Next, Memory>
+) -> Result<(), Memory>
     requires held { IsFine w store.old.cells value.now }
-    ensures plan { IfOk result (Plans (trees_of codes.now.items) w store.old store.new
-        (λ s. costs.give (meaning.Text (operators.type_name (properties.is_function s (seen w store.old.cells value.now)) (seen w store.old.cells value.now))) s)) }
-    ensures fine { IfOk result (FineNext (trees_of codes.now.items) w store.new.cells) }
-    ensures near { IfOk result (λ n. next_free n ≤ 1) }
+    ensures plan { OnOk result (Plans (trees_of codes.now.items) w store.old store.new
+        (λ s. costs.give (meaning.Text (operators.type_name (properties.is_function s (seen w store.old.cells value.now)) (seen w store.old.cells value.now))) s) flow.new) }
+    ensures fine { OnOk result (FineLeft (trees_of codes.now.items) w store.new.cells flow.new) }
+    ensures near { OnOk result (left_free flow.new ≤ 1) }
     ensures kept { Kept (trees_of codes.now.items) w store.old store.new }
+    ensures below { OnOk result (flow.new.below ≡ all_frames flow.old) }
 {
     let function = is_function(store, value);
     let name = type_name(alloc, value, function)?;
-    Ok(Next::Give(Completion::Is(Value::Text(name))))
+    Ok(flow.give(Completion::Is(Value::Text(name))))
 }
 
 // Whether a value can be called.
@@ -228,68 +253,74 @@ fn is_function(store: &Store, value: &Value) -> bool
 
 // A prefix operator that converts its operand.
 fn convert_prefix(
+    flow: &mut Flow,
     w: u32,
     codes: &Vec<Code>,
     store: &mut Store,
     op: (UnOp, u32),
     value: Value,
-) -> Result<Next, Memory>
+) -> Result<(), Memory>
     requires widget { w < 32 }
     requires held { IsFine w store.old.cells value }
-    ensures plan { IfOk result (Plans (trees_of codes.now.items) w store.old store.new
-        (λ s. and_then (calls.to_primitive (seen w store.old.cells value) op.1 s) (after (λ v t. expressions.result (operators.unary op.0 v) t)))) }
-    ensures fine { IfOk result (FineNext (trees_of codes.now.items) w store.new.cells) }
-    ensures near { IfOk result (λ n. next_free n ≤ 3) }
+    ensures plan { OnOk result (Plans (trees_of codes.now.items) w store.old store.new
+        (λ s. and_then (calls.to_primitive (seen w store.old.cells value) op.1 s) (after (λ v t. expressions.result (operators.unary op.0 v) t))) flow.new) }
+    ensures fine { OnOk result (FineLeft (trees_of codes.now.items) w store.new.cells flow.new) }
+    ensures near { OnOk result (left_free flow.new ≤ 3) }
     ensures kept { Kept (trees_of codes.now.items) w store.old store.new }
+    ensures below { OnOk result (flow.new.below ≡ all_frames flow.old) }
 {
     let (op, depth) = op;
     if is_object(&value) {
-        return convert(FormFrame::ConvertedPrefix(op), depth, value);
+        return convert(flow, FormFrame::ConvertedPrefix(op), depth, value);
     }
-    converted_prefix(w, codes, store, op, &value)
+    converted_prefix(flow, w, codes, store, op, &value)
 }
 
 /// A prefix operator on an operand that needs no conversion.
 pub(crate) fn converted_prefix(
+    flow: &mut Flow,
     w: u32,
     codes: &Vec<Code>,
     store: &mut Store,
     op: UnOp,
     value: &Value,
-) -> Result<Next, Memory>
+) -> Result<(), Memory>
     requires widget { w < 32 }
     requires operand { IsPrefixed op value.now }
-    ensures plan { IfOk result (Plans (trees_of codes.now.items) w store.old store.new
-        (expressions.result (operators.unary op (seen w store.old.cells value.now)))) }
-    ensures fine { IfOk result (FineNext (trees_of codes.now.items) w store.new.cells) }
-    ensures near { IfOk result (λ n. next_free n ≤ 1) }
+    ensures plan { OnOk result (Plans (trees_of codes.now.items) w store.old store.new
+        (expressions.result (operators.unary op (seen w store.old.cells value.now))) flow.new) }
+    ensures fine { OnOk result (FineLeft (trees_of codes.now.items) w store.new.cells flow.new) }
+    ensures near { OnOk result (left_free flow.new ≤ 1) }
     ensures kept { Kept (trees_of codes.now.items) w store.old store.new }
+    ensures below { OnOk result (flow.new.below ≡ all_frames flow.old) }
 {
     let out = unary(op, value)?;
-    result_of(w, codes, store, out)
+    result_of(flow, w, codes, store, out)
 }
 
 /// `delete` takes a property out.
 pub(crate) fn delete(
+    flow: &mut Flow,
     alloc: Global,
     w: u32,
     codes: &Vec<Code>,
     store: &mut Store,
     of: Reference,
-) -> Result<Next, Memory>
+) -> Result<(), Memory>
     requires widget { w < 32 }
     requires held { FineReference w store.old.cells of }
-    ensures plan { IfOk result (Plans (trees_of codes.now.items) w store.old store.new
-        (expressions.delete_at (reference_of w store.old.cells of))) }
-    ensures fine { IfOk result (FineNext (trees_of codes.now.items) w store.new.cells) }
-    ensures near { IfOk result (λ n. next_free n ≤ 1) }
+    ensures plan { OnOk result (Plans (trees_of codes.now.items) w store.old store.new
+        (expressions.delete_at (reference_of w store.old.cells of)) flow.new) }
+    ensures fine { OnOk result (FineLeft (trees_of codes.now.items) w store.new.cells flow.new) }
+    ensures near { OnOk result (left_free flow.new ≤ 1) }
     ensures kept { Kept (trees_of codes.now.items) w store.old store.new }
+    ensures below { OnOk result (flow.new.below ≡ all_frames flow.old) }
 {
     match of {
         Reference::Property(base, x) => match remove(store, w, &base, &x) {
-            Removed::Done(answer) => Ok(Next::Give(Completion::Is(Value::Bool(answer)))),
-            Removed::Throw(fault) => throw(alloc, w, codes, store, fault),
+            Removed::Done(answer) => Ok(flow.give(Completion::Is(Value::Bool(answer)))),
+            Removed::Throw(fault) => throw(flow, alloc, w, codes, store, fault),
         },
-        _ => Ok(Next::Give(Completion::Is(Value::Bool(true)))),
+        _ => Ok(flow.give(Completion::Is(Value::Bool(true)))),
     }
 }

@@ -1,5 +1,5 @@
 //! Reads and writes of variables and properties, and faults.
-ghost use Rattle.std.specs.Prelude.{◌≡◌, ℕ, ◌<◌, ◌≤◌, List, IfOk};
+ghost use Rattle.std.specs.Prelude.{◌≡◌, ℕ, ◌<◌, ◌≤◌, List, IfOk, OnOk, [], ◌∷◌};
 ghost use Rattle.store_cells.specs.Cells.{PlainCell};
 ghost use Rattle.widget_meaning.specs.Values as meaning;
 ghost use Rattle.widget_meaning.specs.Costs as costs;
@@ -11,11 +11,12 @@ ghost use Rattle.js_image.specs.Plans.{meant_fault};
 ghost use Rattle.js_names.specs.Code.{trees_of};
 ghost use Rattle.js_flow.specs.Views.{place_of, reference_of};
 ghost use Rattle.js_flow.specs.Frames.{Plans};
-ghost use Rattle.js_flow.specs.Fine.{FineNext, FineReference, IsPlace};
-ghost use Rattle.js_flow.specs.Free.{next_free};
+ghost use Rattle.js_flow.specs.Fine.{FineLeft, FineReference, IsPlace};
+ghost use Rattle.js_flow.specs.Free.{left_free};
+ghost use Rattle.js_flow.specs.Left.{all_frames};
 
 use code_units::{Memory, Text};
-use js_flow::{Completion, Next, Place, Reference};
+use js_flow::{Completion, Flow, Place, Reference};
 use js_image::{Fault, Made, Written, assign, get, make_fault, put, variable};
 use js_names::Code;
 use object_store::{Store, Value};
@@ -23,22 +24,24 @@ use std::alloc::Global;
 
 /// A fault is thrown.
 pub(crate) fn throw(
+    flow: &mut Flow,
     alloc: Global,
     w: u32,
     codes: &Vec<Code>,
     store: &mut Store,
     fault: Fault,
-) -> Result<Next, Memory>
+) -> Result<(), Memory>
     requires widget { w < 32 }
-    ensures plan { IfOk result (Plans (trees_of codes.now.items) w store.old store.new
-        (costs.throw (meant_fault fault))) }
-    ensures fine { IfOk result (FineNext (trees_of codes.now.items) w store.new.cells) }
-    ensures near { IfOk result (λ n. next_free n ≤ 1) }
+    ensures plan { OnOk result (Plans (trees_of codes.now.items) w store.old store.new
+        (costs.throw (meant_fault fault)) flow.new) }
+    ensures fine { OnOk result (FineLeft (trees_of codes.now.items) w store.new.cells flow.new) }
+    ensures near { OnOk result (left_free flow.new ≤ 1) }
     ensures kept { Kept (trees_of codes.now.items) w store.old store.new }
+    ensures below { OnOk result (flow.new.below ≡ all_frames flow.old) }
 {
     match make_fault(alloc, store, w, fault)? {
-        Made::Cell(cell) => Ok(Next::Give(Completion::Throw(Value::Ref(cell)))),
-        Made::Stop(cause) => Ok(Next::Stop(cause)),
+        Made::Cell(cell) => Ok(flow.give(Completion::Throw(Value::Ref(cell)))),
+        Made::Stop(cause) => Ok(flow.stop(cause)),
     }
 }
 
@@ -51,50 +54,54 @@ fn is_nothing(value: &Value) -> bool
 
 /// A property is read; undefined and null have none.
 pub(crate) fn read(
+    flow: &mut Flow,
     alloc: Global,
     w: u32,
     codes: &Vec<Code>,
     store: &mut Store,
     base: &Value,
     name: &Text,
-) -> Result<Next, Memory>
+) -> Result<(), Memory>
     requires widget { w < 32 }
     requires confined { IsConfined (trees_of codes.now.items) w store.old }
     requires held { IsFine w store.old.cells base.now }
-    ensures plan { IfOk result (Plans (trees_of codes.now.items) w store.old store.new
-        (properties.read (seen w store.old.cells base.now) name.now)) }
-    ensures fine { IfOk result (FineNext (trees_of codes.now.items) w store.new.cells) }
-    ensures near { IfOk result (λ n. next_free n ≤ 1) }
+    ensures plan { OnOk result (Plans (trees_of codes.now.items) w store.old store.new
+        (properties.read (seen w store.old.cells base.now) name.now) flow.new) }
+    ensures fine { OnOk result (FineLeft (trees_of codes.now.items) w store.new.cells flow.new) }
+    ensures near { OnOk result (left_free flow.new ≤ 1) }
     ensures kept { Kept (trees_of codes.now.items) w store.old store.new }
+    ensures below { OnOk result (flow.new.below ≡ all_frames flow.old) }
 {
     match base {
-        Value::Undefined => throw(alloc, w, codes, store, Fault::E1),
-        Value::Null => throw(alloc, w, codes, store, Fault::E1),
-        _ => Ok(Next::Give(Completion::Is(get(store, base, name)?))),
+        Value::Undefined => throw(flow, alloc, w, codes, store, Fault::E1),
+        Value::Null => throw(flow, alloc, w, codes, store, Fault::E1),
+        _ => Ok(flow.give(Completion::Is(get(store, base, name)?))),
     }
 }
 
 /// A property as a target; undefined and null have none.
 pub(crate) fn refer(
+    flow: &mut Flow,
     alloc: Global,
     w: u32,
     codes: &Vec<Code>,
     store: &mut Store,
     base: Value,
     name: Text,
-) -> Result<Next, Memory>
+) -> Result<(), Memory>
     requires widget { w < 32 }
     requires held { IsFine w store.old.cells base }
-    ensures plan { IfOk result (Plans (trees_of codes.now.items) w store.old store.new
-        (expressions.refer (seen w store.old.cells base) name)) }
-    ensures fine { IfOk result (FineNext (trees_of codes.now.items) w store.new.cells) }
-    ensures near { IfOk result (λ n. next_free n ≤ 1) }
+    ensures plan { OnOk result (Plans (trees_of codes.now.items) w store.old store.new
+        (expressions.refer (seen w store.old.cells base) name) flow.new) }
+    ensures fine { OnOk result (FineLeft (trees_of codes.now.items) w store.new.cells flow.new) }
+    ensures near { OnOk result (left_free flow.new ≤ 1) }
     ensures kept { Kept (trees_of codes.now.items) w store.old store.new }
+    ensures below { OnOk result (flow.new.below ≡ all_frames flow.old) }
 {
     if is_nothing(&base) {
-        throw(alloc, w, codes, store, Fault::E1)
+        throw(flow, alloc, w, codes, store, Fault::E1)
     } else {
-        Ok(Next::Give(Completion::Refers(Reference::Property(base, name))))
+        Ok(flow.give(Completion::Refers(Reference::Property(base, name))))
     }
 }
 
@@ -119,67 +126,84 @@ pub(crate) fn referred(
     }
 }
 
+/// The same reference for a second holder.
+pub(crate) fn shared(of: &Reference) -> Result<Reference, Memory>
+    ensures { IfOk result (λ r. r ≡ of.now) }
+{
+    match of {
+        Reference::Variable(x) => Ok(Reference::Variable(x.share()?)),
+        Reference::Property(base, x) => Ok(Reference::Property(base.share()?, x.share()?)),
+        Reference::Found(value) => Ok(Reference::Found(value.share()?)),
+    }
+}
+
 /// A write of the first value to a reference, after which the second is given.
 pub(crate) fn write(
+    flow: &mut Flow,
     alloc: Global,
     w: u32,
     codes: &Vec<Code>,
     store: &mut Store,
-    to: (Reference, Place),
+    of: &Reference,
+    place: Place,
     values: (Value, Value),
-) -> Result<Next, Memory>
+) -> Result<(), Memory>
     requires widget { w < 32 }
     requires confined { IsConfined (trees_of codes.now.items) w store.old }
-    requires to { FineReference w store.old.cells to.0 × IsPlace (trees_of codes.now.items) w store.old.cells to.1 }
+    requires to { FineReference w store.old.cells of.now × IsPlace (trees_of codes.now.items) w store.old.cells place }
     requires values { IsFine w store.old.cells values.0 × IsFine w store.old.cells values.1 }
-    ensures plan { IfOk result (Plans (trees_of codes.now.items) w store.old store.new
-        (λ s. expressions.write (reference_of w store.old.cells to.0) (place_of w store.old.cells to.1) (seen w store.old.cells values.0) s (costs.give (seen w store.old.cells values.1)))) }
-    ensures fine { IfOk result (FineNext (trees_of codes.now.items) w store.new.cells) }
-    ensures near { IfOk result (λ n. next_free n ≤ 1) }
+    ensures plan { OnOk result (Plans (trees_of codes.now.items) w store.old store.new
+        (λ s. expressions.write (reference_of w store.old.cells of.now) (place_of w store.old.cells place) (seen w store.old.cells values.0) s (costs.give (seen w store.old.cells values.1))) flow.new) }
+    ensures fine { OnOk result (FineLeft (trees_of codes.now.items) w store.new.cells flow.new) }
+    ensures near { OnOk result (left_free flow.new ≤ 1) }
     ensures kept { Kept (trees_of codes.now.items) w store.old store.new }
+    ensures below { OnOk result (flow.new.below ≡ all_frames flow.old) }
 {
-    let (of, place) = to;
     let (value, given) = values;
     match of {
         Reference::Variable(x) => {
-            assign(store, w, place.scope, &x, value);
-            Ok(Next::Give(Completion::Is(given)))
+            assign(store, w, place.scope, x, value);
+            Ok(flow.give(Completion::Is(given)))
         }
         Reference::Property(base, x) => write_property(
+            flow,
             alloc,
             w,
             codes,
             store,
-            (base, x),
+            base,
+            x,
             (value, given),
         ),
-        Reference::Found(_) => Ok(Next::Give(Completion::Is(given))),
+        Reference::Found(_) => Ok(flow.give(Completion::Is(given))),
     }
 }
 
 // A write of the first value to a property, after which the second is given.
 pub(crate) fn write_property(
+    flow: &mut Flow,
     alloc: Global,
     w: u32,
     codes: &Vec<Code>,
     store: &mut Store,
-    to: (Value, Text),
+    base: &Value,
+    name: &Text,
     values: (Value, Value),
-) -> Result<Next, Memory>
+) -> Result<(), Memory>
     requires widget { w < 32 }
-    requires to { IsFine w store.old.cells to.0 }
+    requires to { IsFine w store.old.cells base.now }
     requires values { IsFine w store.old.cells values.0 × IsFine w store.old.cells values.1 }
-    ensures plan { IfOk result (Plans (trees_of codes.now.items) w store.old store.new
-        (λ s. properties.put (seen w store.old.cells to.0) to.1 (seen w store.old.cells values.0) s (costs.give (seen w store.old.cells values.1)))) }
-    ensures fine { IfOk result (FineNext (trees_of codes.now.items) w store.new.cells) }
-    ensures near { IfOk result (λ n. next_free n ≤ 1) }
+    ensures plan { OnOk result (Plans (trees_of codes.now.items) w store.old store.new
+        (λ s. properties.put (seen w store.old.cells base.now) name.now (seen w store.old.cells values.0) s (costs.give (seen w store.old.cells values.1))) flow.new) }
+    ensures fine { OnOk result (FineLeft (trees_of codes.now.items) w store.new.cells flow.new) }
+    ensures near { OnOk result (left_free flow.new ≤ 1) }
     ensures kept { Kept (trees_of codes.now.items) w store.old store.new }
+    ensures below { OnOk result (flow.new.below ≡ all_frames flow.old) }
 {
-    let (base, name) = to;
     let (value, given) = values;
-    match put(store, w, &base, &name, value)? {
-        Written::Done => Ok(Next::Give(Completion::Is(given))),
-        Written::Throw(fault) => throw(alloc, w, codes, store, fault),
-        Written::Stop(cause) => Ok(Next::Stop(cause)),
+    match put(store, w, base, name, value)? {
+        Written::Done => Ok(flow.give(Completion::Is(given))),
+        Written::Throw(fault) => throw(flow, alloc, w, codes, store, fault),
+        Written::Stop(cause) => Ok(flow.stop(cause)),
     }
 }

@@ -1,5 +1,6 @@
 //! What a frame of an expression or a target does with how its part ended.
-ghost use Rattle.std.specs.Prelude.{◌≡◌, ℕ, ◌<◌, ◌≤◌, List, IfOk, Ok};
+ghost use Rattle.js_flow.specs.declared.job.Next.{Next};
+ghost use Rattle.std.specs.Prelude.{◌≡◌, ℕ, ◌<◌, ◌≤◌, List, IfOk, Ok, OnOk, [], ◌∷◌};
 ghost use Rattle.js_tree.specs.Forest.{Forest};
 ghost use Rattle.store_cells.specs.Cells.{PlainCell};
 ghost use Rattle.widget_meaning.specs.Values as meaning;
@@ -13,8 +14,9 @@ ghost use Rattle.js_forms.specs.Simple.{GoesOn};
 ghost use Rattle.js_flow.specs.Views.{completion_of, reference_of};
 ghost use Rattle.js_flow.specs.Forms.{form_taken};
 ghost use Rattle.js_flow.specs.Frames.{Plans, planned};
-ghost use Rattle.js_flow.specs.Fine.{FineCompletion, FineForm, FineNext, FineReference};
-ghost use Rattle.js_flow.specs.Free.{form_free, next_free};
+ghost use Rattle.js_flow.specs.Fine.{FineCompletion, FineForm, FineLeft, FineReference};
+ghost use Rattle.js_flow.specs.Free.{form_free, left_free};
+ghost use Rattle.js_flow.specs.Left.{Leaves, all_frames};
 
 use crate::assigning::{assign_target, assign_with, step_number, step_target};
 use crate::handing::{evaluate, give, give_reference, go, pass_on};
@@ -24,7 +26,7 @@ use crate::operating::{
 };
 use crate::reading::{read, refer, write};
 use code_units::{Memory, Text};
-use js_flow::{Completion, FormFrame, Next, Reference};
+use js_flow::{Completion, Flow, FormFrame, Reference};
 use js_names::Code;
 use js_tree::BinOp;
 use js_values::{is_true, to_text};
@@ -33,167 +35,157 @@ use std::alloc::Global;
 
 /// What a frame of an expression or a target does with how its part ended.
 pub fn take_form(
+    flow: &mut Flow,
     alloc: Global,
     w: u32,
     codes: &Vec<Code>,
     store: &mut Store,
-    frame: FormFrame,
+    frame: &FormFrame,
     how: Completion,
-) -> Result<Next, Memory>
+) -> Result<(), Memory>
     requires widget { w < 32 }
     requires confined { IsConfined (trees_of codes.now.items) w store.old }
-    requires held { FineForm (trees_of codes.now.items) w store.old.cells frame × FineCompletion w store.old.cells how }
-    ensures plan { IfOk result (Plans (trees_of codes.now.items) w store.old store.new
-        (form_taken (trees_of codes.now.items) w store.old.cells frame (completion_of w store.old.cells how))) }
-    ensures fine { IfOk result (FineNext (trees_of codes.now.items) w store.new.cells) }
-    ensures near { IfOk result (λ n. next_free n ≤ form_free frame) }
+    requires held { FineForm (trees_of codes.now.items) w store.old.cells frame.now × FineCompletion w store.old.cells how }
+    ensures plan { OnOk result (Plans (trees_of codes.now.items) w store.old store.new
+        (form_taken (trees_of codes.now.items) w store.old.cells frame.now (completion_of w store.old.cells how)) flow.new) }
+    ensures fine { OnOk result (FineLeft (trees_of codes.now.items) w store.new.cells flow.new) }
+    ensures near { OnOk result (left_free flow.new ≤ form_free frame.now) }
     ensures kept { Kept (trees_of codes.now.items) w store.old store.new }
+    ensures below { OnOk result (flow.new.below ≡ all_frames flow.old) }
 {
     match how {
-        Completion::Is(value) => take_value(alloc, w, codes, store, frame, value),
-        Completion::Refers(of) => take_reference(alloc, w, codes, store, frame, of),
-        how => pass_on(how),
+        Completion::Is(value) => take_value(flow, alloc, w, codes, store, frame, value),
+        Completion::Refers(of) => take_reference(flow, alloc, w, codes, store, frame, of),
+        how => pass_on(flow, how),
     }
 }
 
 // A frame that is given a value.
 fn take_value(
+    flow: &mut Flow,
     alloc: Global,
     w: u32,
     codes: &Vec<Code>,
     store: &mut Store,
-    frame: FormFrame,
+    frame: &FormFrame,
     value: Value,
-) -> Result<Next, Memory>
+) -> Result<(), Memory>
     requires widget { w < 32 }
     requires confined { IsConfined (trees_of codes.now.items) w store.old }
-    requires held { FineForm (trees_of codes.now.items) w store.old.cells frame × IsFine w store.old.cells value }
-    ensures plan { IfOk result (Plans (trees_of codes.now.items) w store.old store.new
-        (form_taken (trees_of codes.now.items) w store.old.cells frame (meaning.Is (seen w store.old.cells value)))) }
-    ensures fine { IfOk result (FineNext (trees_of codes.now.items) w store.new.cells) }
-    ensures near { IfOk result (λ n. next_free n ≤ form_free frame) }
+    requires held { FineForm (trees_of codes.now.items) w store.old.cells frame.now × IsFine w store.old.cells value }
+    ensures plan { OnOk result (Plans (trees_of codes.now.items) w store.old store.new
+        (form_taken (trees_of codes.now.items) w store.old.cells frame.now (meaning.Is (seen w store.old.cells value))) flow.new) }
+    ensures fine { OnOk result (FineLeft (trees_of codes.now.items) w store.new.cells flow.new) }
+    ensures near { OnOk result (left_free flow.new ≤ form_free frame.now) }
     ensures kept { Kept (trees_of codes.now.items) w store.old store.new }
+    ensures below { OnOk result (flow.new.below ≡ all_frames flow.old) }
 {
     match frame {
-        FormFrame::Dot(name) => read(alloc, w, codes, store, &value, &name),
-        FormFrame::TargetDot(name) => refer(alloc, w, codes, store, value, name),
+        FormFrame::Dot(name) => read(flow, alloc, w, codes, store, &value, name),
+        FormFrame::TargetDot(name) => refer(flow, alloc, w, codes, store, value, name.share()?),
         FormFrame::Sub(base) => {
             let name = name_of(alloc, &value)?;
-            read(alloc, w, codes, store, &base, &name)
+            read(flow, alloc, w, codes, store, base, &name)
         }
         FormFrame::TargetSub(base) => {
             let name = name_of(alloc, &value)?;
-            refer(alloc, w, codes, store, base, name)
+            refer(flow, alloc, w, codes, store, base.share()?, name)
         }
-        FormFrame::Element(array, id, n, place) => element(
-            alloc,
-            w,
-            codes,
-            store,
-            (array, id, n, place),
-            value,
-        ),
-        FormFrame::Property(object, id, n, place) => property(
-            alloc,
-            w,
-            codes,
-            store,
-            (object, id, n, place),
-            value,
-        ),
-        FormFrame::Operate(op, left, depth) => operate(
-            alloc,
-            w,
-            codes,
-            store,
-            op,
-            (left, value, depth),
-        ),
+        FormFrame::Element(array, id, n, place) => {
+            let at = (*array, *id, *n, *place);
+            element(flow, alloc, w, codes, store, at, value)
+        }
+        FormFrame::Property(object, id, n, place) => {
+            let at = (*object, *id, *n, *place);
+            property(flow, alloc, w, codes, store, at, value)
+        }
+        FormFrame::Operate(op, left, depth) => {
+            operate(flow, alloc, w, codes, store, (*op, *depth), left, &value)
+        }
         FormFrame::ConvertedLeft(op, right, depth) => {
             if is_object(&value) {
                 return Err(Memory);
             }
-            convert_right(alloc, w, codes, store, op, (value, right, depth))
+            convert_right(flow, alloc, w, codes, store, (*op, *depth), &value, right)
         }
-        FormFrame::ConvertedRight(op, left) => converted_right(
-            alloc,
-            w,
-            codes,
-            store,
-            op,
-            (left, value),
-        ),
-        FormFrame::Prefix(op, place) => prefix(alloc, w, codes, store, (op, place), value),
+        FormFrame::ConvertedRight(op, left) => {
+            converted_right(flow, alloc, w, codes, store, *op, left, &value)
+        }
+        FormFrame::Prefix(op, place) => prefix(flow, alloc, w, codes, store, (*op, *place), value),
         FormFrame::ConvertedPrefix(op) => {
             if is_object(&value) {
                 return Err(Memory);
             }
-            converted_prefix(w, codes, store, op, &value)
+            converted_prefix(flow, w, codes, store, *op, &value)
         }
         FormFrame::StepConverted(op, of, place) => {
             if is_object(&value) {
                 return Err(Memory);
             }
-            step_number(
-                alloc,
-                w,
-                codes,
-                store,
-                (op, Box::into_inner(of), place),
-                &value,
-            )
+            step_number(flow, alloc, w, codes, store, (*op, *place), of, &value)
         }
-        FormFrame::AssignWith(assigning) => {
-            assign_with(alloc, w, codes, store, Box::into_inner(assigning), value)
-        }
+        FormFrame::AssignWith(assigning) => assign_with(
+            flow, alloc, w, codes, store, assigning, value,
+        ),
         FormFrame::Write(of, place) => {
             let given = value.share()?;
-            write(alloc, w, codes, store, (of, place), (value, given))
+            write(flow, alloc, w, codes, store, of, *place, (value, given))
         }
-        frame => go_on(frame, value),
+        frame => go_on(flow, frame, value),
     }
 }
 
 // A frame that goes on with a value and leaves the store as it is.
-fn go_on(frame: FormFrame, value: Value) -> Result<Next, Memory>
-    requires simple { GoesOn frame }
-    ensures plan { IfOk result (λ n. (fs : List Forest) (w : ℕ) (cells : List PlainCell) (s : State)
-        → planned fs w cells n s ≡ form_taken fs w cells frame (meaning.Is (seen w cells value)) s) }
-    ensures fine { IfOk result (λ n. (fs : List Forest) (w : ℕ) (cells : List PlainCell)
-        → FineForm fs w cells frame → IsFine w cells value → FineNext fs w cells n) }
-    ensures near { IfOk result (λ n. next_free n ≤ form_free frame) }
+fn go_on(flow: &mut Flow, frame: &FormFrame, value: Value) -> Result<(), Memory>
+    requires simple { GoesOn frame.now }
+    ensures plan { OnOk result ((fs : List Forest) (w : ℕ) (cells : List PlainCell) (s : State)
+        → planned fs w cells flow.new s ≡ form_taken fs w cells frame.now (meaning.Is (seen w cells value)) s) }
+    ensures fine { OnOk result ((fs : List Forest) (w : ℕ) (cells : List PlainCell)
+        → FineForm fs w cells frame.now → IsFine w cells value → FineLeft fs w cells flow.new) }
+    ensures near { OnOk result (left_free flow.new ≤ form_free frame.now) }
+    ensures below { OnOk result (flow.new.below ≡ all_frames flow.old) }
 {
     match frame {
-        FormFrame::SubBase(e, place) => evaluate(FormFrame::Sub(value), e, place),
-        FormFrame::TargetSubBase(e, place) => evaluate(FormFrame::TargetSub(value), e, place),
-        FormFrame::Found => give_reference(Reference::Found(value)),
+        FormFrame::SubBase(e, place) => evaluate(flow, FormFrame::Sub(value), *e, *place),
+        FormFrame::TargetSubBase(e, place) => evaluate(
+            flow,
+            FormFrame::TargetSub(value),
+            *e,
+            *place,
+        ),
+        FormFrame::Found => give_reference(flow, Reference::Found(value)),
         FormFrame::Right(op, e, place) => {
-            evaluate(FormFrame::Operate(op, value, place.depth), e, place)
+            evaluate(
+                flow,
+                FormFrame::Operate(*op, value, place.depth),
+                *e,
+                *place,
+            )
         }
         FormFrame::And(e, place) => {
             if is_true(&value) {
-                go(e, place)
+                go(flow, *e, *place)
             } else {
-                give(value)
+                give(flow, value)
             }
         }
         FormFrame::Or(e, place) => {
             if is_true(&value) {
-                give(value)
+                give(flow, value)
             } else {
-                go(e, place)
+                go(flow, *e, *place)
             }
         }
         FormFrame::Choose(a, b, place) => {
             if is_true(&value) {
-                go(a, place)
+                go(flow, *a, *place)
             } else {
-                go(b, place)
+                go(flow, *b, *place)
             }
         }
-        FormFrame::Delete => give(value),
-        FormFrame::StepTarget(_, _) => give(value),
-        FormFrame::AssignTarget(_, _, _) => give(value),
+        FormFrame::Delete => give(flow, value),
+        FormFrame::StepTarget(_, _) => give(flow, value),
+        FormFrame::AssignTarget(_, _, _) => give(flow, value),
         _ => unreachable!(),
     }
 }
@@ -210,64 +202,65 @@ fn name_of(alloc: Global, value: &Value) -> Result<Text, Memory>
 
 // An operator on two operands after their conversion.
 fn converted_right(
+    flow: &mut Flow,
     alloc: Global,
     w: u32,
     codes: &Vec<Code>,
     store: &mut Store,
     op: BinOp,
-    operands: (Value, Value),
-) -> Result<Next, Memory>
+    left: &Value,
+    right: &Value,
+) -> Result<(), Memory>
     requires widget { w < 32 }
-    requires held { IsFine w store.old.cells operands.0 × IsFine w store.old.cells operands.1 }
-    ensures plan { IfOk result (Plans (trees_of codes.now.items) w store.old store.new
-        (expressions.result (operators.binary op (seen w store.old.cells operands.0) (seen w store.old.cells operands.1)))) }
-    ensures fine { IfOk result (FineNext (trees_of codes.now.items) w store.new.cells) }
-    ensures near { IfOk result (λ n. next_free n ≤ 1) }
+    requires held { IsFine w store.old.cells left.now × IsFine w store.old.cells right.now }
+    ensures plan { OnOk result (Plans (trees_of codes.now.items) w store.old store.new
+        (expressions.result (operators.binary op (seen w store.old.cells left.now) (seen w store.old.cells right.now))) flow.new) }
+    ensures fine { OnOk result (FineLeft (trees_of codes.now.items) w store.new.cells flow.new) }
+    ensures near { OnOk result (left_free flow.new ≤ 1) }
     ensures kept { Kept (trees_of codes.now.items) w store.old store.new }
+    ensures below { OnOk result (flow.new.below ≡ all_frames flow.old) }
 {
-    if is_object(&operands.0) || is_object(&operands.1) {
+    if is_object(left) || is_object(right) {
         return Err(Memory);
     }
-    computed(alloc, w, codes, store, op, operands)
+    computed(flow, alloc, w, codes, store, op, left, right)
 }
 
 // A frame that is given a reference.
 fn take_reference(
+    flow: &mut Flow,
     alloc: Global,
     w: u32,
     codes: &Vec<Code>,
     store: &mut Store,
-    frame: FormFrame,
+    frame: &FormFrame,
     of: Reference,
-) -> Result<Next, Memory>
+) -> Result<(), Memory>
     requires widget { w < 32 }
     requires confined { IsConfined (trees_of codes.now.items) w store.old }
-    requires held { FineForm (trees_of codes.now.items) w store.old.cells frame × FineReference w store.old.cells of }
-    ensures plan { IfOk result (Plans (trees_of codes.now.items) w store.old store.new
-        (form_taken (trees_of codes.now.items) w store.old.cells frame (meaning.Refers (reference_of w store.old.cells of)))) }
-    ensures fine { IfOk result (FineNext (trees_of codes.now.items) w store.new.cells) }
-    ensures near { IfOk result (λ n. next_free n ≤ form_free frame) }
+    requires held { FineForm (trees_of codes.now.items) w store.old.cells frame.now × FineReference w store.old.cells of }
+    ensures plan { OnOk result (Plans (trees_of codes.now.items) w store.old store.new
+        (form_taken (trees_of codes.now.items) w store.old.cells frame.now (meaning.Refers (reference_of w store.old.cells of))) flow.new) }
+    ensures fine { OnOk result (FineLeft (trees_of codes.now.items) w store.new.cells flow.new) }
+    ensures near { OnOk result (left_free flow.new ≤ form_free frame.now) }
     ensures kept { Kept (trees_of codes.now.items) w store.old store.new }
+    ensures below { OnOk result (flow.new.below ≡ all_frames flow.old) }
 {
     match frame {
-        FormFrame::Delete => delete(alloc, w, codes, store, of),
-        FormFrame::StepTarget(op, place) => step_target(alloc, w, codes, store, (op, place), of),
-        FormFrame::AssignTarget(op, e, place) => assign_target(
-            alloc,
-            w,
-            codes,
-            store,
-            op,
-            (e, place),
-            of,
-        ),
-        frame => pass_reference(frame, of),
+        FormFrame::Delete => delete(flow, alloc, w, codes, store, of),
+        FormFrame::StepTarget(op, place) => {
+            step_target(flow, alloc, w, codes, store, (*op, *place), of)
+        }
+        FormFrame::AssignTarget(op, e, place) => {
+            assign_target(flow, alloc, w, codes, store, *op, (*e, *place), of)
+        }
+        frame => pass_reference(flow, frame, of),
     }
 }
 
 // A frame that waits for no reference passes it on.
-fn pass_reference(frame: FormFrame, of: Reference) -> Result<Next, Memory>
-    ensures { result ≡ Ok (Next.Give (Completion.Refers of)) }
+fn pass_reference(flow: &mut Flow, frame: &FormFrame, of: Reference) -> Result<(), Memory>
+    ensures { OnOk result (Leaves flow.old flow.new [] (Next.Give (Completion.Refers of))) }
 {
-    give_reference(of)
+    give_reference(flow, of)
 }

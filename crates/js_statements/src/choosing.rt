@@ -1,5 +1,5 @@
 //! `switch`: the clause that is chosen.
-ghost use Rattle.std.specs.Prelude.{◌≡◌, ◌+◌, ◌<◌, ◌≤◌, ℕ, List, MatchOption, drop, length};
+ghost use Rattle.std.specs.Prelude.{◌≡◌, ◌+◌, ◌<◌, ◌≤◌, ℕ, List, MatchOption, drop, length, OnOk, [], ◌∷◌};
 ghost use Rattle.store_cells.specs.Cells.{PlainCell};
 ghost use Rattle.js_tree.specs.Trees.{trees};
 ghost use Rattle.js_tree.specs.Forest.{IsExpr, IsStmt, expr_at, stmt_at};
@@ -16,12 +16,12 @@ ghost use Rattle.js_flow.specs.Parts.{clauses_of, forest_at};
 ghost use Rattle.js_flow.specs.Statements.{clause_tested};
 ghost use Rattle.js_flow.specs.Views.{place_of};
 ghost use Rattle.js_flow.specs.Frames.{planned, taken};
-ghost use Rattle.js_flow.specs.Fine.{FineNext};
-ghost use Rattle.js_flow.specs.Free.{next_free};
+ghost use Rattle.js_flow.specs.Fine.{FineLeft};
+ghost use Rattle.js_flow.specs.Free.{left_free};
+ghost use Rattle.js_flow.specs.Left.{all_frames};
 
-use js_flow::{
-    Below, Block, Completion, Frame, Job, Next, Place, StatementFrame, clause_at, default_at,
-};
+use code_units::Memory;
+use js_flow::{Block, Completion, Flow, Frame, Job, Place, StatementFrame, clause_at, default_at};
 use js_names::{Code, tree_at};
 use js_tree::{ExprId, StmtId, Tree};
 use js_values::is_same;
@@ -54,25 +54,31 @@ fn next_test(tree: &Tree, id: StmtId, from: usize) -> Option<Tested>
 }
 
 /// After the value of a `switch`: the test of its first clause that has one.
-pub(crate) fn begin_choice(codes: &Vec<Code>, id: StmtId, value: Value, place: Place) -> Next
+pub(crate) fn begin_choice(
+    flow: &mut Flow,
+    codes: &Vec<Code>,
+    id: StmtId,
+    value: Value,
+    place: Place,
+) -> Result<(), Memory>
     requires code { place.code < length (trees_of codes.now.items) }
     requires stmt { IsStmt (forest_at (trees_of codes.now.items) place.code) id }
-    ensures plan { (w : ℕ) (cells : List PlainCell) (s : State)
-        → planned (trees_of codes.now.items) w cells result s
-        ≡ taken (trees_of codes.now.items) w cells (Frame.Statement (StatementFrame.Switch id place)) (meaning.Is (seen w cells value)) s }
-    ensures fine { (w : ℕ) (cells : List PlainCell) → IsPlaceScope w cells place.scope → IsFine w cells value
-        → FineNext (trees_of codes.now.items) w cells result }
-    ensures near { next_free result ≤ 3 }
+    ensures plan { OnOk result ((w : ℕ) (cells : List PlainCell) (s : State)
+        → planned (trees_of codes.now.items) w cells flow.new s
+        ≡ taken (trees_of codes.now.items) w cells (Frame.Statement (StatementFrame.Switch id place)) (meaning.Is (seen w cells value)) s) }
+    ensures fine { OnOk result ((w : ℕ) (cells : List PlainCell) → IsPlaceScope w cells place.scope → IsFine w cells value
+        → FineLeft (trees_of codes.now.items) w cells flow.new) }
+    ensures near { OnOk result (left_free flow.new ≤ 3) }
+    ensures below { OnOk result (flow.new.below ≡ all_frames flow.old) }
 {
     let tree = tree_at(codes, place.code);
     match next_test(tree, id, 0) {
-        Some(next) => Next::Push2(
-            Below::SwitchEnd,
-            StatementFrame::Case(value, id, next.at, place),
-            next.test,
-            place,
+        Some(next) => flow.push_two(
+            Frame::Statement(StatementFrame::SwitchEnd),
+            Frame::Statement(StatementFrame::Case(value, id, next.at, place)),
+            Job::Eval(next.test, place),
         ),
-        None => Next::Block(
+        None => flow.push_run(
             Frame::Statement(StatementFrame::SwitchEnd),
             Block::Clauses(id, default_at(tree, id)),
             place,
@@ -83,46 +89,56 @@ pub(crate) fn begin_choice(codes: &Vec<Code>, id: StmtId, value: Value, place: P
 /// After the test of a clause, by its value: the clause is chosen where both are the same, or else
 /// the next test comes, or `default`.
 pub(crate) fn after_case(
+    flow: &mut Flow,
     codes: &Vec<Code>,
     id: StmtId,
     n: usize,
     value: Value,
     test: Value,
     place: Place,
-) -> Next
+) -> Result<(), Memory>
     requires code { place.code < length (trees_of codes.now.items) }
     requires stmt { IsStmt (forest_at (trees_of codes.now.items) place.code) id }
-    ensures plan { (w : ℕ) (cells : List PlainCell) (s : State) → IsFine w cells value → IsFine w cells test
-        → planned (trees_of codes.now.items) w cells result s
-        ≡ taken (trees_of codes.now.items) w cells (Frame.Statement (StatementFrame.Case value id n place)) (meaning.Is (seen w cells test)) s }
-    ensures fine { (w : ℕ) (cells : List PlainCell) → IsPlaceScope w cells place.scope → IsFine w cells value → IsFine w cells test
-        → FineNext (trees_of codes.now.items) w cells result }
-    ensures near { next_free result ≤ 2 }
+    ensures plan { OnOk result ((w : ℕ) (cells : List PlainCell) (s : State) → IsFine w cells value → IsFine w cells test
+        → planned (trees_of codes.now.items) w cells flow.new s
+        ≡ taken (trees_of codes.now.items) w cells (Frame.Statement (StatementFrame.Case value id n place)) (meaning.Is (seen w cells test)) s) }
+    ensures fine { OnOk result ((w : ℕ) (cells : List PlainCell) → IsPlaceScope w cells place.scope → IsFine w cells value → IsFine w cells test
+        → FineLeft (trees_of codes.now.items) w cells flow.new) }
+    ensures near { OnOk result (left_free flow.new ≤ 2) }
+    ensures below { OnOk result (flow.new.below ≡ all_frames flow.old) }
 {
     match clause_at(tree_at(codes, place.code), id, n) {
-        None => Next::Give(Completion::Is(test)),
-        Some(_) if is_same(&value, &test) => Next::Run(Block::Clauses(id, n), place),
-        Some(_) => other_case(codes, id, n + 1, value, place),
+        None => Ok(flow.give(Completion::Is(test))),
+        Some(_) if is_same(&value, &test) => Ok(flow.run(Block::Clauses(id, n), place)),
+        Some(_) => other_case(flow, codes, id, n + 1, value, place),
     }
 }
 
 // The next clause from a number on, or else `default`.
-fn other_case(codes: &Vec<Code>, id: StmtId, n: usize, value: Value, place: Place) -> Next
+fn other_case(
+    flow: &mut Flow,
+    codes: &Vec<Code>,
+    id: StmtId,
+    n: usize,
+    value: Value,
+    place: Place,
+) -> Result<(), Memory>
     requires code { place.code < length (trees_of codes.now.items) }
     requires stmt { IsStmt (forest_at (trees_of codes.now.items) place.code) id }
-    ensures plan { (w : ℕ) (cells : List PlainCell) (s : State) → let all = clauses_of (stmt_at (forest_at (trees_of codes.now.items) place.code) id) in
-        planned (trees_of codes.now.items) w cells result s
-        ≡ statements.choose_case (seen w cells value) all (drop n all) (place_of w cells place) s }
-    ensures fine { (w : ℕ) (cells : List PlainCell) → IsPlaceScope w cells place.scope → IsFine w cells value
-        → FineNext (trees_of codes.now.items) w cells result }
-    ensures near { next_free result ≤ 2 }
+    ensures plan { OnOk result ((w : ℕ) (cells : List PlainCell) (s : State) → let all = clauses_of (stmt_at (forest_at (trees_of codes.now.items) place.code) id) in
+        planned (trees_of codes.now.items) w cells flow.new s
+        ≡ statements.choose_case (seen w cells value) all (drop n all) (place_of w cells place) s) }
+    ensures fine { OnOk result ((w : ℕ) (cells : List PlainCell) → IsPlaceScope w cells place.scope → IsFine w cells value
+        → FineLeft (trees_of codes.now.items) w cells flow.new) }
+    ensures near { OnOk result (left_free flow.new ≤ 2) }
+    ensures below { OnOk result (flow.new.below ≡ all_frames flow.old) }
 {
     let tree = tree_at(codes, place.code);
     match next_test(tree, id, n) {
-        Some(next) => Next::Push(
+        Some(next) => flow.push(
             Frame::Statement(StatementFrame::Case(value, id, next.at, place)),
             Job::Eval(next.test, place),
         ),
-        None => Next::Run(Block::Clauses(id, default_at(tree, id)), place),
+        None => Ok(flow.run(Block::Clauses(id, default_at(tree, id)), place)),
     }
 }

@@ -12,7 +12,9 @@ use Rattle.js_flow.specs.declared.frame.StatementFrame.{StatementFrame}
 use Rattle.js_flow.specs.declared.frame.StatementFrame.TheVariants as statement
 use Rattle.js_flow.specs.declared.job.Next.{Next}
 use Rattle.js_flow.specs.declared.job.Next.TheVariants as next
-use Rattle.js_flow.specs.Free.{call_free, form_free, frame_free, frames_free, job_weight, native_free, next_free, statement_free}
+use Rattle.js_flow.specs.Fine.{IsBegun}
+use Rattle.js_flow.specs.Left.{Left}
+use Rattle.js_flow.specs.Free.{call_free, form_free, frame_free, frames_free, job_weight, left_free, native_free, next_free, statement_free}
 use Rattle.js_steps.specs.Ending.{IsNative}
 
 pub free_last : (below : List Frame) (f : Frame) → frames_free (below ++ f ∷ []) ≡ frame_free f + frames_free below
@@ -62,34 +64,35 @@ frame_some (frame.Call f) = call_some f
 -- what weighs less than a native is none
 pub no_native : (n : Next) → next_free n ≤ 15 → IsNative n → ⊥
 no_native (next.Native c) h k = absurd (omega (arith, h))
-no_native (next.Push f j) h k = k
-no_native (next.Push2 b g e p) h k = k
+no_native next.Nothing h k = k
 no_native (next.Go j) h k = k
-no_native (next.Begin f j) h k = k
-no_native (next.Block f b p) h k = k
+no_native (next.Begin j) h k = k
 no_native (next.Run b p) h k = k
-no_native (next.Try i p) h k = k
 no_native (next.Give o) h k = k
-no_native (next.Convert f d v) h k = k
-no_native (next.Compute r p op u v) h k = k
-no_native (next.Pay f n) h k = k
+no_native (next.Pay n) h k = k
 no_native (next.Stop c) h k = k
+no_native (next.Done o) h k = k
 
 pub native_weighs : (n : Next) (m : ℕ) → next_free n ≤ m → IsNative n → native_free ≤ m
 native_weighs (next.Native c) m h k = h
-native_weighs (next.Push f j) m h k = absurd k
-native_weighs (next.Push2 b g e p) m h k = absurd k
+native_weighs next.Nothing m h k = absurd k
 native_weighs (next.Go j) m h k = absurd k
-native_weighs (next.Begin f j) m h k = absurd k
-native_weighs (next.Block f b p) m h k = absurd k
+native_weighs (next.Begin j) m h k = absurd k
 native_weighs (next.Run b p) m h k = absurd k
-native_weighs (next.Try i p) m h k = absurd k
 native_weighs (next.Give o) m h k = absurd k
-native_weighs (next.Convert f d v) m h k = absurd k
-native_weighs (next.Compute r p op u v) m h k = absurd k
-native_weighs (next.Pay f n) m h k = absurd k
+native_weighs (next.Pay n) m h k = absurd k
 native_weighs (next.Stop c) m h k = absurd k
+native_weighs (next.Done o) m h k = absurd k
 
--- a job that has begun behind a frame is no native
-pub begun_light : (f : Frame) (j : Job) → frame_free f + (job_weight j + 1) ≤ 17 → job_weight j + 1 ≤ native_free
-begun_light f j h = omega (arith, h, (frame_some f).0)
+pub left_light : (l : Left) → left_free l ≤ 15 → IsNative l.next → ⊥
+left_light l h = no_native l.next (omega (arith, h))
+
+-- an expression is no native
+pub no_begun : (j : Job) → IsBegun j → native_free ≤ job_weight j → ⊥
+no_begun (job.Eval e p) h k = absurd (omega (arith, k))
+no_begun (job.Target e p) h k = h
+no_begun (job.Exec i p) h k = h
+no_begun (job.Pass i p) h k = h
+no_begun (job.PassIn l p) h k = h
+no_begun (job.Call c) h k = h
+no_begun (job.RunNative c) h k = h

@@ -19,7 +19,7 @@ ghost use Rattle.js_steps.specs.Ending.{EndsCall, EndsSo};
 ghost use Rattle.js_flow.specs.Todo.{Follows, IsGoing, Moves, IfOutOfFuel, IsOver, IsWaiting, after_step, todo};
 
 use crate::answer::{Stepped, answered};
-use crate::machine::{follow, set, step_for};
+use crate::machine::{put, set, settle, step_for, take_flow};
 use crate::stack::Frames;
 use crate::task::Task;
 use code_units::Memory;
@@ -106,8 +106,12 @@ pub fn resume(
     ensures kept { Kept (trees_of codes.now.items) task.old.widget store.old store.new }
 {
     let at = depth(task);
-    let next = answer(alloc, task.widget, codes, store, out, at)?;
-    let step = follow(task, next)?;
+    let w = task.widget;
+    let mut flow = take_flow(alloc, task);
+    set(task, Control::Over);
+    answer(&mut flow, alloc, w, codes, store, out, at)?;
+    settle(&mut flow, alloc, w, codes, store)?;
+    let step = put(task, flow);
     Ok(answered(step))
 }
 

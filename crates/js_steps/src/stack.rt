@@ -3,6 +3,7 @@ ghost use Rattle.std.specs.Prelude.{◌≡◌, ℕ, ◌-◌, ◌<◌, ◌≤◌,
 ghost use Rattle.js_tree.specs.Forest.{Forest};
 ghost use Rattle.store_cells.specs.Cells.{PlainCell};
 ghost use Rattle.widget_meaning.specs.OwnState.{State};
+ghost use Rattle.js_flow.specs.Left.{all_frames};
 ghost use Rattle.js_flow.specs.Views.{completion_of};
 ghost use Rattle.js_flow.specs.Frames.{rest};
 ghost use Rattle.js_flow.specs.Fine.{FineFrames};
@@ -10,7 +11,7 @@ ghost use Rattle.js_flow.specs.Free.{frames_free};
 ghost use Rattle.js_steps.specs.Unwinding.{IsAbrupt, IsUnwound, call_takes, ends_pass, is_break, is_throw, statement_takes, takes};
 
 use code_units::Memory;
-use js_flow::{CallFrame, Completion, Frame, StatementFrame};
+use js_flow::{CallFrame, Completion, Flow, Frame, StatementFrame};
 use std::alloc::Global;
 
 /// Frames, each of which waits for the one above it; the last is given to first.
@@ -79,19 +80,20 @@ impl Frames {
             Unwound::Resumed(how)
         }
     }
+}
 
-    /// The same, of any end: one that is not abrupt leaves no frame. It is not moved.
-    #[tactic(auto, using(crate::proofs::Fronts::fine_front, crate::proofs::Fronts::free_front))]
-    pub(crate) fn leave(&mut self, how: &Completion)
-        ensures rest { (fs : List Forest) (w : ℕ) (cells : List PlainCell) (s : State)
-            → rest fs w cells self.new.list.items (completion_of w cells how.now) s ≡ rest fs w cells self.old.list.items (completion_of w cells how.now) s }
-        ensures fine { (fs : List Forest) (w : ℕ) (cells : List PlainCell) → FineFrames fs w cells self.old.list.items → FineFrames fs w cells self.new.list.items }
-        ensures free { frames_free self.new.list.items ≤ frames_free self.old.list.items }
-    {
-        if is_abrupt(how) {
-            let left = taking(&self.list, how);
-            self.list.truncate(left);
-        }
+/// The same on a flow, of any end: one that is not abrupt leaves no frame. It is not moved.
+#[tactic(auto, using(crate::proofs::Fronts::fine_front, crate::proofs::Fronts::free_front))]
+pub(crate) fn leave(flow: &mut Flow, how: &Completion)
+    ensures next { flow.new.next ≡ flow.old.next }
+    ensures rest { (fs : List Forest) (w : ℕ) (cells : List PlainCell) (s : State)
+        → rest fs w cells (all_frames flow.new) (completion_of w cells how.now) s ≡ rest fs w cells (all_frames flow.old) (completion_of w cells how.now) s }
+    ensures fine { (fs : List Forest) (w : ℕ) (cells : List PlainCell) → FineFrames fs w cells (all_frames flow.old) → FineFrames fs w cells (all_frames flow.new) }
+    ensures free { frames_free (all_frames flow.new) ≤ frames_free (all_frames flow.old) }
+{
+    if is_abrupt(how) {
+        let left = taking(flow.frames(), how);
+        flow.truncate(left);
     }
 }
 

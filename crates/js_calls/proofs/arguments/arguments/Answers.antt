@@ -32,9 +32,11 @@ returns-in-Some-clause-plan c =
     let a = c.args.a.value in
     let has = subst (λ (q : Argument). HasExpr (forest_at fs q.place.code) (arguments_of (expr_at (forest_at fs q.place.code) q.call)) q.next (Some c.in-Some.e)) c.deref.ensures c.in-Some.ensures in
     let place = ap (λ (q : Argument). q.place) c.next_of.ensures in
-    λ r. c.pushed.ensures.plan fs w s.cells (image fs r w s)
+    IfOk-weaker c.pushed.result _ _
+    (λ k h r. h fs w s.cells (image fs r w s)
     ∙ (λ i. Do (Eval (expr_at (forest_at fs (place i).code) c.in-Some.e) (place_of w s.cells (place i))) (image fs r w s) (argument_taken fs w s.cells c.next_of.result.value))
-    ∙ next_argument fs w s.cells a (image fs r w s) c.next_of.result.value c.in-Some.e c.next_of.ensures has.2
+    ∙ next_argument fs w s.cells a (image fs r w s) c.next_of.result.value c.in-Some.e c.next_of.ensures has.2)
+    c.pushed.ensures.plan
 
 pub returns-in-Some-clause-fine : goal.returns-in-Some-clause-fine
 returns-in-Some-clause-fine c =
@@ -42,8 +44,10 @@ returns-in-Some-clause-fine c =
     let w = c.args.w in
     let cells = c.args.store.now.cells in
     let has = subst (λ (q : Argument). HasExpr (forest_at fs q.place.code) (arguments_of (expr_at (forest_at fs q.place.code) q.call)) q.next (Some c.in-Some.e)) c.deref.ensures c.in-Some.ensures in
-    c.pushed.ensures.fine fs w cells (subst (FineArgument fs w cells) (sym c.next_of.ensures) c.requires.held)
-    (subst (λ (q : Argument). IsExprAt fs w cells c.in-Some.e q.place) (sym c.next_of.ensures) (c.requires.held.2.0, has.0))
+    IfOk-weaker c.pushed.result _ _
+    (λ k h. h fs w cells (subst (FineArgument fs w cells) (sym c.next_of.ensures) c.requires.held)
+    (subst (λ (q : Argument). IsExprAt fs w cells c.in-Some.e q.place) (sym c.next_of.ensures) (c.requires.held.2.0, has.0)))
+    c.pushed.ensures.fine
 
 pub called-requires-clause-held : goal.called-requires-clause-held
 called-requires-clause-held c = subst (FineArgument (trees_of c.args.codes.now.items) c.args.w c.args.store.now.cells) (sym c.into_inner.ensures) c.requires.held

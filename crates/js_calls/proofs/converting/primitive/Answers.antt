@@ -17,4 +17,4 @@ pub returns-clause-plan : goal.returns-clause-plan
 returns-clause-plan c =
     let fs = trees_of c.args.codes.now.items in
     let s = c.args.store.now in
-    λ r. primitive_given (seen c.args.w s.cells c.args.value) (image fs r c.args.w s) (sym (c.is_object.ensures c.args.w s.cells) ∙ c.if-is_object.false)
+    rw c.give.ensures (λ r. primitive_given (seen c.args.w s.cells c.args.value) (image fs r c.args.w s) (sym (c.is_object.ensures c.args.w s.cells) ∙ c.if-is_object.false))

@@ -20,7 +20,7 @@ pub returns-then-not-is_object-clause-plan : goal.returns-then-not-is_object-cla
 returns-then-not-is_object-clause-plan c =
     let fs = trees_of c.args.codes.now.items in
     let s = c.args.store.now in
-    λ r. stays_primitive (seen c.args.w s.cells c.args.value) c.args.depth (image fs r c.args.w s) (sym (c.is_object.ensures c.args.w s.cells) ∙ c.if-not-is_object.true)
+    rw c.give.ensures (λ r. stays_primitive (seen c.args.w s.cells c.args.value) c.args.depth (image fs r c.args.w s) (sym (c.is_object.ensures c.args.w s.cells) ∙ c.if-not-is_object.true))
 
 pub returns-then-not-is_called-clause-plan : goal.returns-then-not-is_called-clause-plan
 returns-then-not-is_called-clause-plan c =
@@ -47,8 +47,10 @@ returns-clause-plan c =
     let fine = c.in_ok-func.ensures.fine fs w c.requires.confined c.requires.held in
     let object : is_object v ≡ true = sym (c.is_object.ensures w s.cells) ∙ c.if-not-is_object.false in
     let ok = c.in_ok-new.ensures.ok in
-    λ r. ap (λ j. Do j (image fs r w s) primitive_result)
+    IfOk-weaker c.push.result _ _
+    (λ k q. rw q (λ r. ap (λ j. Do j (image fs r w s) primitive_result)
     (string_job w s.cells c.in_ok-new.field-0.value c.in_ok-func.func c.args.value c.args.depth (ap (λ q. q.func) ok) (ap (λ q. q.this) ok) (ap (λ q. q.args.items) ok ∙ c.new.ensures.items) (ap (λ q. q.depth) ok))
     ∙ string_called v c.args.depth (image fs r w s) f object
     (c.in_ok-func.ensures.found fs r w c.requires.confined c.requires.held ∙ ap (get (image fs r w s) v) c.in_ok-name.ensures)
-    (sym (c.is_called.ensures fs r w fine) ∙ c.if-not-is_called.false)
+    (sym (c.is_called.ensures fs r w fine) ∙ c.if-not-is_called.false)))
+    c.push.ensures

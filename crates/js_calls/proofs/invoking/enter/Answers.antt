@@ -25,7 +25,7 @@ returns-then-depth-ge200-clause-plan c =
     let fs = trees_of c.args.codes.now.items in
     let s = c.args.store.now in
     let p = c.args.parts in
-    λ r. too_deep (function_in fs p.code p.fun p.declared) (option_map (scope_number c.args.w s.cells) p.scope) (seen c.args.w s.cells c.args.call.func) (all_seen c.args.w s.cells c.args.call.args.items) c.args.call.depth (image fs r c.args.w s) (omega arith)
+    rw c.stop.ensures (λ r. too_deep (function_in fs p.code p.fun p.declared) (option_map (scope_number c.args.w s.cells) p.scope) (seen c.args.w s.cells c.args.call.func) (all_seen c.args.w s.cells c.args.call.args.items) c.args.call.depth (image fs r c.args.w s) (omega arith))
 
 pub scope_pairs-requires : goal.scope_pairs-requires
 scope_pairs-requires c = subst (λ (f : Forest). IsFun f c.args.parts.fun) (sym c.code_at.ensures) c.requires.fun.0.1
@@ -49,9 +49,9 @@ returns-in-Stop-clause-plan c =
     let same : call_scope g o v vs ≡ scope_of w old.cells p.scope ps =
     ap (λ (t : Forest). call_scope (declared_at t p.fun p.declared) o v vs) (sym c.code_at.ensures) ∙ c.in_ok-pairs.ensures.scope w old.cells o in
     let k : ℕ → State → Plan = then_declare (funs_of at) (body_of at) (c.args.call.depth + 1) in
-    λ r. entered g (funs_of at) (body_of at) o v vs c.args.call.depth (c.args.call.depth + 1) (image fs r w old) (scope_of w old.cells p.scope ps) _ (omega arith) refl
+    rw c.stop-in-Stop.ensures (λ r. entered g (funs_of at) (body_of at) o v vs c.args.call.depth (c.args.call.depth + 1) (image fs r w old) (scope_of w old.cells p.scope ps) _ (omega arith) refl
     (declared_funs (forest_at fs p.code) p.fun p.declared) (declared_body (forest_at fs p.code) p.fun p.declared) same
-    (c.in_ok-cause.ensures.plan fs r k ∙ ap (λ m. scope_plan w mid.cells m k (image fs r w mid)) c.in-Stop.is)
+    (c.in_ok-cause.ensures.plan fs r k ∙ ap (λ m. scope_plan w mid.cells m k (image fs r w mid)) c.in-Stop.is))
 
 pub declare-requires-clause-scope : goal.declare-requires-clause-scope
 declare-requires-clause-scope c = subst (IsScopeMade c.args.w c.make_scope.new.store.cells) c.in-Cell.is c.in_ok-cause.ensures.fine

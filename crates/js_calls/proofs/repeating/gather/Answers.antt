@@ -34,9 +34,11 @@ returns-in_ok-call-in-Some-clause-plan c =
     let k = c.in_ok-call-in-Some.ensures in
     let same = c.deref-in-Some.ensures in
     let at = subst (λ (q : Gathering). slice_get q.items.items (length q.results.items) ≡ Some c.in-Some.item) c.deref.ensures (sym c.in_ok-next_item.ensures ∙ c.in-Some.is) in
-    λ r. gather_next fs c.args.w s.cells (image fs r c.args.w s) g c.in_ok-call-in-Some.call.value c.in-Some.item (length g.results.items) at refl
+    IfOk-weaker c.push.result _ _
+    (λ x q. rw q (λ r. gather_next fs c.args.w s.cells (image fs r c.args.w s) g c.in_ok-call-in-Some.call.value c.in-Some.item (length g.results.items) at refl
     (k.func ∙ ap (λ (q : Gathering). value.Ref q.func) same) k.this (k.args ∙ ap (λ (q : Gathering). c.in-Some.item ∷ (value.Num (number.Whole (pos (length q.results.items))) ∷ [])) same)
-    (k.depth ∙ ap (λ (q : Gathering). q.depth) same)
+    (k.depth ∙ ap (λ (q : Gathering). q.depth) same)))
+    c.push.ensures
 
 pub returns-in_ok-call-in-Some-clause-fine : goal.returns-in_ok-call-in-Some-clause-fine
 returns-in_ok-call-in-Some-clause-fine c =
@@ -45,7 +47,8 @@ returns-in_ok-call-in-Some-clause-fine c =
     let g = c.args.g.value in
     let k = c.in_ok-call-in-Some.ensures in
     let at = subst (λ (q : Gathering). slice_get q.items.items (length q.results.items) ≡ Some c.in-Some.item) c.deref.ensures (sym c.in_ok-next_item.ensures ∙ c.in-Some.is) in
-    let one = fine_at w cells g.items.items (length g.results.items) c.in-Some.item at c.requires.held.1 in (
-      c.requires.held,
+    let one = fine_at w cells g.items.items (length g.results.items) c.in-Some.item at c.requires.held.1 in
+    IfOk-weaker c.push.result _ _ (λ x q. rw q (
+      (c.requires.held, tt),
       fine_call w cells c.in_ok-call-in-Some.call.value g.func _ (k.func ∙ ap (λ (q : Gathering). value.Ref q.func) c.deref-in-Some.ensures) k.this k.args c.requires.held.0 (one, (tt, tt)),
-    )
+    )) c.push.ensures

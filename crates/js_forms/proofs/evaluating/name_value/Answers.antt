@@ -8,4 +8,4 @@ use Rattle.js_forms.proofs.evaluating.name_value.Goals as goal
 pub returns-clause-plan : goal.returns-clause-plan
 returns-clause-plan c =
     let fs = trees_of c.args.codes.now.items in
-    λ r. ap (λ u. Ret (meaning.Is u) (image fs r c.args.w c.args.store.now)) (c.in_ok-variable.ensures.found fs r c.args.w c.args.place.depth c.requires.confined c.requires.place.1)
+    rw c.give.ensures (λ r. ap (λ u. Ret (meaning.Is u) (image fs r c.args.w c.args.store.now)) (c.in_ok-variable.ensures.found fs r c.args.w c.args.place.depth c.requires.confined c.requires.place.1))

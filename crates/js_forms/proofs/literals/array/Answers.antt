@@ -1,4 +1,5 @@
 use Rattle.std.proofs.Common.{sym, ap, ◌∙◌}
+use Rattle.std.proofs.lemmas.Result.{IfOk-weaker}
 use Rattle.js_tree.specs.Forest.{expr_at}
 use Rattle.store_cells.specs.declared.value.Value.TheVariants as value
 use Rattle.widget_meaning.specs.Expressions as expressions
@@ -22,9 +23,10 @@ returns-in-Cell-clause-plan c =
     let list = elements_of (expr_at (forest_at fs c.args.place.code) c.args.id) in
     let k : Value → State → Plan = λ a t. expressions.array_parts a 0 list (place_of w old.cells c.args.place) t in
     let stays = place_same fs w old.cells new.cells (c.make.ensures.kept fs tt).grows c.args.place c.requires.place.0 in
-    λ r. c.elements.ensures.plan (image fs r w new)
+    IfOk-weaker c.elements.result _ _ (λ n h r. h (image fs r w new)
     ∙ (λ i. (λ (a : Value) (t : State). expressions.array_parts a 0 list (stays i) t) (seen w new.cells (value.Ref c.in-Cell.cell)) (image fs r w new))
-    ∙ sym (c.in_ok-cell.ensures.plan fs r k ∙ ap (λ m. made_plan w new.cells m k (image fs r w new)) c.in-Cell.is)
+    ∙ sym (c.in_ok-cell.ensures.plan fs r k ∙ ap (λ m. made_plan w new.cells m k (image fs r w new)) c.in-Cell.is))
+    c.elements.ensures.plan
 
 pub returns-in-Stop-clause-plan : goal.returns-in-Stop-clause-plan
 returns-in-Stop-clause-plan c =
@@ -34,4 +36,4 @@ returns-in-Stop-clause-plan c =
     let new = c.make.new.store in
     let list = elements_of (expr_at (forest_at fs c.args.place.code) c.args.id) in
     let k : Value → State → Plan = λ a t. expressions.array_parts a 0 list (place_of w old.cells c.args.place) t in
-    λ r. sym (c.in_ok-cell.ensures.plan fs r k ∙ ap (λ m. made_plan w new.cells m k (image fs r w new)) c.in-Stop.is)
+    rw c.stop.ensures (λ r. sym (c.in_ok-cell.ensures.plan fs r k ∙ ap (λ m. made_plan w new.cells m k (image fs r w new)) c.in-Stop.is))

@@ -15,5 +15,5 @@ returns-clause-plan c =
     let s = c.args.store.now in
     let no = sym (c.is_object.ensures.object w s.cells) ∙ c.if-is_object.false in
     IfOk-weaker c.computed.result _ _
-    (λ n h r. h r ∙ sym (ap (λ p. and_then p (after (λ u t. result (binary c.args.op (seen w s.cells c.args.operands.0) u) t))) (stays_primitive (seen w s.cells c.args.operands.1) c.args.operands.2 (image fs r w s) no)))
+    (λ n h r. h r ∙ sym (ap (λ p. and_then p (after (λ u t. result (binary c.args.op.0 (seen w s.cells c.args.left.now) u) t))) (stays_primitive (seen w s.cells c.args.right.now) c.args.op.1 (image fs r w s) no)))
     c.computed.ensures.plan

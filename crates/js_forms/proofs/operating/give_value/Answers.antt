@@ -15,8 +15,8 @@ returns-in-Done-clause-plan c =
     let fs = trees_of c.args.codes.now.items in
     let w = c.args.w in
     let k = give (meaning.Text c.in-Text.t) in
-    λ r. sym (ap (λ v. expressions.result (operators.Gives (plain v)) (image fs r w c.args.store.now)) c.in-Text.is
-    ∙ (c.pay_text.ensures.plan fs r k ∙ ap (λ p. paid_plan p k (image fs r w c.pay_text.new.store)) c.in-Done.is))
+    rw c.give.ensures (λ r. sym (ap (λ v. expressions.result (operators.Gives (plain v)) (image fs r w c.args.store.now)) c.in-Text.is
+    ∙ (c.pay_text.ensures.plan fs r k ∙ ap (λ p. paid_plan p k (image fs r w c.pay_text.new.store)) c.in-Done.is)))
 
 pub returns-in-Done-clause-kept : goal.returns-in-Done-clause-kept
 returns-in-Done-clause-kept c = c.pay_text.ensures.kept (trees_of c.args.codes.now.items)
@@ -26,11 +26,11 @@ returns-in-Stop-clause-plan c =
     let fs = trees_of c.args.codes.now.items in
     let w = c.args.w in
     let k = give (meaning.Text c.in-Text.t) in
-    λ r. sym (ap (λ v. expressions.result (operators.Gives (plain v)) (image fs r w c.args.store.now)) c.in-Text.is
-    ∙ (c.pay_text.ensures.plan fs r k ∙ ap (λ p. paid_plan p k (image fs r w c.pay_text.new.store)) c.in-Stop.is))
+    rw c.stop.ensures (λ r. sym (ap (λ v. expressions.result (operators.Gives (plain v)) (image fs r w c.args.store.now)) c.in-Text.is
+    ∙ (c.pay_text.ensures.plan fs r k ∙ ap (λ p. paid_plan p k (image fs r w c.pay_text.new.store)) c.in-Stop.is)))
 
 pub returns-in-Stop-clause-kept : goal.returns-in-Stop-clause-kept
 returns-in-Stop-clause-kept c = c.pay_text.ensures.kept (trees_of c.args.codes.now.items)
 
 pub returns-in_default-clause-plan : goal.returns-in_default-clause-plan
-returns-in_default-clause-plan c = λ r. given c.args.w c.args.store.now.cells c.args.value (image (trees_of c.args.codes.now.items) r c.args.w c.args.store.now) c.requires.plain c.in_default.not-Text
+returns-in_default-clause-plan c = rw c.give-in_default.ensures (λ r. given c.args.w c.args.store.now.cells c.args.value (image (trees_of c.args.codes.now.items) r c.args.w c.args.store.now) c.requires.plain c.in_default.not-Text)

@@ -13,10 +13,10 @@ returns-then-not-is_converting-clause-plan c =
     let fs = trees_of c.args.codes.now.items in
     let w = c.args.w in
     let s = c.args.store.now in
-    let v = seen w s.cells c.args.operands.0 in
-    let u = seen w s.cells c.args.operands.1 in
-    let d = c.args.operands.2 in
+    let v = seen w s.cells c.args.left.now in
+    let u = seen w s.cells c.args.right.now in
+    let d = c.args.op.1 in
     let no = sym c.is_converting.ensures.converting ∙ c.if-not-is_converting.true in
     IfOk-weaker c.computed.result _ _
-    (λ n h r. h r ∙ sym (ap (λ (b : Bool). if b then and_then (to_primitive v d (image fs r w s)) (converted_left c.args.op u d) else result (binary c.args.op v u) (image fs r w s)) no))
+    (λ n h r. h r ∙ sym (ap (λ (b : Bool). if b then and_then (to_primitive v d (image fs r w s)) (converted_left c.args.op.0 u d) else result (binary c.args.op.0 v u) (image fs r w s)) no))
     c.computed.ensures.plan

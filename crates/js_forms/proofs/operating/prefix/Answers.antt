@@ -18,4 +18,5 @@ returns-in_default c =
       fine = c.convert_prefix.ensures.fine;
       near = IfOk-weaker c.convert_prefix.result _ _ (λ n h. omega (arith, h)) c.convert_prefix.ensures.near;
       kept = c.convert_prefix.ensures.kept;
+      below = c.convert_prefix.ensures.below;
     }

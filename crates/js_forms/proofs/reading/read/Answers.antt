@@ -13,9 +13,10 @@ returns-in_ok-get-in_default c =
     let w = c.args.w in
     let s = c.args.store.now in
     record {
-      plan = λ r. ap (λ u. Ret (meaning.Is u) (image fs r w s)) (c.in_ok-get-in_default.ensures.found fs r w c.requires.confined c.requires.held)
-          ∙ sym (read_other w s.cells c.args.base.now c.args.name.now (image fs r w s) c.in_default.not-Undefined c.in_default.not-Null);
-      fine = c.in_ok-get-in_default.ensures.fine fs w c.requires.confined c.requires.held;
-      near = omega arith;
+      plan = rw c.give.ensures (λ r. ap (λ u. Ret (meaning.Is u) (image fs r w s)) (c.in_ok-get-in_default.ensures.found fs r w c.requires.confined c.requires.held)
+          ∙ sym (read_other w s.cells c.args.base.now c.args.name.now (image fs r w s) c.in_default.not-Undefined c.in_default.not-Null));
+      fine = rw c.give.ensures (tt, c.in_ok-get-in_default.ensures.fine fs w c.requires.confined c.requires.held);
+      near = rw c.give.ensures (omega arith);
       kept = kept_same fs w s s refl;
+      below = ap (λ l. l.below) c.give.ensures;
     }

@@ -16,5 +16,5 @@ returns-in-Variable-clause-plan c =
     let old = c.args.store.now in
     let new = c.assign.new.store in
     let p = seen_stays w old.cells new.cells (c.assign.ensures.kept fs c.requires.confined).grows c.args.values.1 c.requires.values.1 in
-    λ r. (λ i. Ret (meaning.Is (p i)) (c.assign.ensures.plan fs r c.args.to.1.depth c.requires.confined i))
-    ∙ sym (ap (λ t. expressions.write (reference_of w old.cells t) (place_of w old.cells c.args.to.1) (seen w old.cells c.args.values.0) (image fs r w old) (give (seen w old.cells c.args.values.1))) c.in-Variable.is)
+    rw c.give.ensures (λ r. (λ i. Ret (meaning.Is (p i)) (c.assign.ensures.plan fs r c.args.place.depth c.requires.confined i))
+    ∙ sym (ap (λ t. expressions.write (reference_of w old.cells t) (place_of w old.cells c.args.place) (seen w old.cells c.args.values.0) (image fs r w old) (give (seen w old.cells c.args.values.1))) c.in-Variable.is))

@@ -21,13 +21,13 @@ returns-in-Done-clause-plan c =
     let new = c.put.new.store in
     let k = give (seen w old.cells c.args.values.1) in
     let same = seen_stays w old.cells new.cells (c.put.ensures.kept fs).grows c.args.values.1 c.requires.values.1 in
-    λ r. ap (λ u. Ret (meaning.Is u) (image fs r w new)) same
-    ∙ sym (c.in_ok-put.ensures.plan fs r k ∙ ap (λ p. put_plan p k (image fs r w new)) c.in-Done.is)
+    rw c.give.ensures (λ r. ap (λ u. Ret (meaning.Is u) (image fs r w new)) same
+    ∙ sym (c.in_ok-put.ensures.plan fs r k ∙ ap (λ p. put_plan p k (image fs r w new)) c.in-Done.is))
 
 pub returns-in-Done-clause-fine : goal.returns-in-Done-clause-fine
 returns-in-Done-clause-fine c =
     let fs = trees_of c.args.codes.now.items in
-    fine_stays c.args.w c.args.store.now.cells c.put.new.store.cells (c.put.ensures.kept fs).grows c.args.values.1 c.requires.values.1
+    rw c.give.ensures (tt, fine_stays c.args.w c.args.store.now.cells c.put.new.store.cells (c.put.ensures.kept fs).grows c.args.values.1 c.requires.values.1)
 
 pub returns-in-Done-clause-kept : goal.returns-in-Done-clause-kept
 returns-in-Done-clause-kept c = c.put.ensures.kept (trees_of c.args.codes.now.items)

@@ -1,4 +1,5 @@
-use Rattle.std.proofs.Common.{refl}
+use Rattle.std.proofs.Common.{ap, refl}
+use Rattle.std.proofs.lemmas.Result.{IfOk-weaker}
 use Rattle.js_image.specs.Image.{image}
 use Rattle.js_image.proofs.Grown.{kept_same}
 use Rattle.js_names.specs.Code.{trees_of}
@@ -12,8 +13,10 @@ returns-in_default c =
     let w = c.args.w in
     let s = c.args.store.now in
     record {
-      plan = rw c.pass_on.ensures (λ r. (passed fs w s.cells c.args.frame).1 (completion_of w s.cells c.args.how) (image fs r w s) (abrupt w s.cells c.args.how c.in_default.not-Is c.in_default.not-Refers));
-      fine = rw c.pass_on.ensures c.requires.held.1;
-      near = rw c.pass_on.ensures (passed fs w s.cells c.args.frame).0;
+      plan = IfOk-weaker c.pass_on.result _ _
+          (λ k e. rw e (λ r. (passed fs w s.cells c.args.frame.now).1 (completion_of w s.cells c.args.how) (image fs r w s) (abrupt w s.cells c.args.how c.in_default.not-Is c.in_default.not-Refers))) c.pass_on.ensures;
+      fine = IfOk-weaker c.pass_on.result _ _ (λ k e. rw e (tt, c.requires.held.1)) c.pass_on.ensures;
+      near = IfOk-weaker c.pass_on.result _ _ (λ k e. rw e (passed fs w s.cells c.args.frame.now).0) c.pass_on.ensures;
       kept = kept_same fs w s s refl;
+      below = IfOk-weaker c.pass_on.result _ _ (λ k e. ap (λ l. l.below) e) c.pass_on.ensures;
     }

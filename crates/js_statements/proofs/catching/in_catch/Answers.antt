@@ -30,7 +30,7 @@ returns-in-Stop-clause-plan c =
     let new = c.make_scope.new.store in
     let k : ℕ → State → Plan = λ i t. calls.statements (block_list (forest_at fs c.args.at.1.code) (block.Catch c.args.at.0)) (record { scope = Some i; depth = c.args.at.1.depth }) t in
     let e : c.in_ok-pairs.pairs.items ≡ c.args.caught ∷ [] = c.in_ok-pairs.ensures.items in
-    λ r. sym (ap (λ (d : Scope). pay (scope_cost d) (image fs r w old) (λ t. k (length t.own.scopes) (with_new_scope t d))) (ap (scope_of w old.cells c.args.at.1.scope) (sym e)) ∙ (c.in_ok-cause.ensures.plan fs r k ∙ ap (λ m. scope_plan w new.cells m k (image fs r w new)) c.in-Stop.is))
+    rw c.stop.ensures (λ r. sym (ap (λ (d : Scope). pay (scope_cost d) (image fs r w old) (λ t. k (length t.own.scopes) (with_new_scope t d))) (ap (scope_of w old.cells c.args.at.1.scope) (sym e)) ∙ (c.in_ok-cause.ensures.plan fs r k ∙ ap (λ m. scope_plan w new.cells m k (image fs r w new)) c.in-Stop.is)))
 
 pub returns-in-Cell-clause-plan : goal.returns-in-Cell-clause-plan
 returns-in-Cell-clause-plan c =
@@ -40,7 +40,7 @@ returns-in-Cell-clause-plan c =
     let new = c.make_scope.new.store in
     let k : ℕ → State → Plan = λ i t. calls.statements (block_list (forest_at fs c.args.at.1.code) (block.Catch c.args.at.0)) (record { scope = Some i; depth = c.args.at.1.depth }) t in
     let e : c.in_ok-pairs.pairs.items ≡ c.args.caught ∷ [] = c.in_ok-pairs.ensures.items in
-    λ r. sym (ap (λ (d : Scope). pay (scope_cost d) (image fs r w old) (λ t. k (length t.own.scopes) (with_new_scope t d))) (ap (scope_of w old.cells c.args.at.1.scope) (sym e)) ∙ (c.in_ok-cause.ensures.plan fs r k ∙ ap (λ m. scope_plan w new.cells m k (image fs r w new)) c.in-Cell.is))
+    rw c.run.ensures (λ r. sym (ap (λ (d : Scope). pay (scope_cost d) (image fs r w old) (λ t. k (length t.own.scopes) (with_new_scope t d))) (ap (scope_of w old.cells c.args.at.1.scope) (sym e)) ∙ (c.in_ok-cause.ensures.plan fs r k ∙ ap (λ m. scope_plan w new.cells m k (image fs r w new)) c.in-Cell.is)))
 
 one : (x : List ℕ) → IsDistinct bytes_eq (x ∷ [])
 unfolding IsDistinct

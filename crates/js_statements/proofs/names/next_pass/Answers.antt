@@ -13,4 +13,4 @@ returns-in-Some-clause-fine c =
     let cells = c.args.store.now.cells in
     let fine = subst (λ (u : ForInNames). IsFine w cells u.object) (sym c.deref.ensures) c.requires.names.0 in
     let less = subst (λ (u : ForInNames). c.in-Some.at < length u.names.items) c.deref.ensures (c.in-Some.ensures fs no_rest w [] [] (record { scope = None; depth = 0 }) c.requires.confined fine).0 in
-    subst (λ (u : ForInNames). FineNames fs w cells u c.args.place × (u.at < length u.names.items)) (sym c.at_name.ensures) (c.requires.names, less)
+    rw c.go.ensures (tt, subst (λ (u : ForInNames). FineNames fs w cells u c.args.place × (u.at < length u.names.items)) (sym c.at_name.ensures) (c.requires.names, less))

@@ -1,4 +1,5 @@
 use Rattle.std.proofs.Common.{◌≡◌, drop, ap, ◌∙◌}
+use Rattle.std.proofs.lemmas.Result.{IfOk-weaker}
 use Rattle.js_tree.specs.Forest.{Forest, stmt_at}
 use Rattle.js_tree.specs.Lists.{stmt_list}
 use Rattle.widget_meaning.specs.Plan as plan
@@ -28,8 +29,10 @@ returns-clause-plan c =
     let n : c.in_ok-name.name ≡ name_at v.names.items v.at = c.in_ok-name.ensures ∙ ap (λ u. name_at u.names.items u.at) c.deref-2.ensures in
     let e = c.behind.ensures in
     let o : seen w new.cells c.behind.result.value.object ≡ seen w old.cells v.object = ap (λ u. seen w new.cells u.object) e ∙ seen_stays w old.cells new.cells grows v.object c.requires.names.0 in
-    λ r.
+    IfOk-weaker c.push_run.result _ _
+    (λ k q. rw q (λ r.
     let s : image fs r w new ≡ assign (image fs r w old) (place_of w old.cells c.args.place) (variable_of (stmt_at f v.id)) (meaning.Text (name_at v.names.items v.at)) =
     c.assign.ensures.plan fs r c.args.place.depth c.requires.confined ∙ (λ j. assign (image fs r w old) (place_of w old.cells c.args.place) (x j) (meaning.Text (n j))) in
     λ j. plan.and_then (statements (stmt_list (loop_body (stmt_at f (c.deref.ensures j).id))) (p j) (s j))
-    (for_in_next (o j) (variable_of (stmt_at f (e j).id)) (drop (e j).at (e j).names.items) (stmt_list (loop_body (stmt_at f (e j).id))) (p j))
+    (for_in_next (o j) (variable_of (stmt_at f (e j).id)) (drop (e j).at (e j).names.items) (stmt_list (loop_body (stmt_at f (e j).id))) (p j))))
+    c.push_run.ensures

@@ -1,35 +1,49 @@
-use Rattle.std.proofs.Common.{ap, arith, ◌∙◌}
-use Rattle.js_flow.proofs.Follow.{begin_by, block_by, compute_by, convert_by, pay_by, push2_by, push_by, run_by, try_by}
-use Rattle.js_flow.specs.Free.{control_free, next_free}
-use Rattle.js_steps.proofs.Weights.{begun_light}
+use Rattle.std.proofs.Common.{List, sym, ap, ◌∙◌, subst}
+use Rattle.js_flow.specs.declared.frame.Frame.{Frame}
+use Rattle.js_flow.specs.declared.job.Next.{Next}
+use Rattle.js_flow.specs.declared.job.Next.TheVariants as next
+use Rattle.js_flow.specs.declared.task.Control.{Control}
+use Rattle.js_flow.specs.Fine.{FineControl, FineFrames, FineLast}
+use Rattle.js_flow.specs.Left.{all_frames}
+use Rattle.js_steps.proofs.Settled.{put_done, put_go, put_pay, put_plan}
 use Rattle.js_steps.proofs.machine.put.Goals as goal
 
-pub returns-in-Push-clause-plan : goal.returns-in-Push-clause-plan
-returns-in-Push-clause-plan c = λ fs w cells s. push_by fs w cells c.args.task.now.frames.list.items _ c.in-Push.frame c.in-Push.job _ _ s c.set_job.ensures.control (ap (λ v. v.list.items) c.set_job.ensures.frames ∙ c.push.ensures.frames) c.in-Push.is
+pub returns-in-Go-clause-plan : goal.returns-in-Go-clause-plan
+returns-in-Go-clause-plan c = λ fs w cells s. put_go fs w cells c.args.flow _ c.in-Go.job _ s (sym c.into_parts.ensures.next ∙ c.in-Go.is) (ap (λ f. f.list.items) c.set.ensures.frames ∙ c.into_parts.ensures.frames) c.set.ensures.control
 
-pub returns-in-Push2-clause-plan : goal.returns-in-Push2-clause-plan
-returns-in-Push2-clause-plan c = λ fs w cells s. push2_by fs w cells c.args.task.now.frames.list.items _ _ c.in-Push2.below c.in-Push2.frame c.in-Push2.id c.in-Push2.place _ _ s c.set_eval.ensures.control c.push_below.ensures.frames (ap (λ v. v.list.items) c.set_eval.ensures.frames ∙ c.push_statement.ensures.frames) c.in-Push2.is
-
-pub returns-in-Begin-clause-plan : goal.returns-in-Begin-clause-plan
-returns-in-Begin-clause-plan c = λ fs w cells s. begin_by fs w cells c.args.task.now.frames.list.items _ c.in-Begin.frame c.in-Begin.job _ _ s c.set_begun.ensures.control (ap (λ v. v.list.items) c.set_begun.ensures.frames ∙ c.push-in-Begin.ensures.frames) c.in-Begin.is
-
-pub returns-in-Block-clause-plan : goal.returns-in-Block-clause-plan
-returns-in-Block-clause-plan c = λ fs w cells s. block_by fs w cells c.args.task.now.frames.list.items _ _ c.in-Block.frame c.in-Block.block c.in-Block.place _ _ s c.set_normal.ensures.control c.push-in-Block.ensures.frames (ap (λ v. v.list.items) c.set_normal.ensures.frames ∙ c.push_block.ensures.frames) c.in-Block.is
-
-pub returns-in-Run-clause-plan : goal.returns-in-Run-clause-plan
-returns-in-Run-clause-plan c = λ fs w cells s. run_by fs w cells c.args.task.now.frames.list.items _ c.in-Run.block c.in-Run.place _ _ s c.set_normal-in-Run.ensures.control (ap (λ v. v.list.items) c.set_normal-in-Run.ensures.frames ∙ c.push_block-in-Run.ensures.frames) c.in-Run.is
-
-pub returns-in-Try-clause-plan : goal.returns-in-Try-clause-plan
-returns-in-Try-clause-plan c = λ fs w cells s. try_by fs w cells c.args.task.now.frames.list.items _ c.in-Try.id c.in-Try.place _ _ s c.set_normal-in-Try.ensures.control (ap (λ v. v.list.items) c.set_normal-in-Try.ensures.frames ∙ c.push_try.ensures.frames) c.in-Try.is
-
-pub returns-in-Convert-clause-plan : goal.returns-in-Convert-clause-plan
-returns-in-Convert-clause-plan c = λ fs w cells s. convert_by fs w cells c.args.task.now.frames.list.items _ _ c.in-Convert.frame c.in-Convert.depth c.in-Convert.value _ _ s c.set_value.ensures.control c.push-in-Convert.ensures.frames (ap (λ v. v.list.items) c.set_value.ensures.frames ∙ c.push_conversion.ensures.frames) c.in-Convert.is
-
-pub returns-in-Compute-clause-plan : goal.returns-in-Compute-clause-plan
-returns-in-Compute-clause-plan c = λ fs w cells s. compute_by fs w cells c.args.task.now.frames.list.items _ _ c.in-Compute.of c.in-Compute.place c.in-Compute.op c.in-Compute.had c.in-Compute.value _ _ s c.set_value-in-Compute.ensures.control c.push_write.ensures.frames (ap (λ v. v.list.items) c.set_value-in-Compute.ensures.frames ∙ c.push_operate.ensures.frames) c.in-Compute.is
+pub returns-in-Go-clause-fine : goal.returns-in-Go-clause-fine
+returns-in-Go-clause-fine c = λ fs w cells h.
+    let p = subst (λ (n : Next). FineLast fs w cells (all_frames c.args.flow) n) (sym c.into_parts.ensures.next ∙ c.in-Go.is) h.1 in
+    (subst (λ (q : Control). FineControl fs w cells q) (sym c.set.ensures.control) p, subst (λ (l : List Frame). FineFrames fs w cells l) (sym (ap (λ f. f.list.items) c.set.ensures.frames ∙ c.into_parts.ensures.frames)) h.0, tt)
 
 pub returns-in-Pay-clause-plan : goal.returns-in-Pay-clause-plan
-returns-in-Pay-clause-plan c = λ fs w cells s. pay_by fs w cells c.args.task.now.frames.list.items _ c.in-Pay.frame c.in-Pay.units _ _ s c.set_charge.ensures.control (ap (λ v. v.list.items) c.set_charge.ensures.frames ∙ c.push-in-Pay.ensures.frames) c.in-Pay.is
+returns-in-Pay-clause-plan c = λ fs w cells s. put_pay fs w cells c.args.flow _ c.in-Pay.units _ s (sym c.into_parts.ensures.next ∙ c.in-Pay.is) (ap (λ f. f.list.items) c.set-in-Pay.ensures.frames ∙ c.into_parts.ensures.frames) c.set-in-Pay.ensures.control
 
-pub returns-in-Begin-clause-light : goal.returns-in-Begin-clause-light
-returns-in-Begin-clause-light c = λ h. let j = c.in-Begin.job in omega (arith, ap control_free c.set_begun.ensures.control, begun_light c.in-Begin.frame j (omega (arith, h, ap next_free c.in-Begin.is)))
+pub returns-in-Pay-clause-fine : goal.returns-in-Pay-clause-fine
+returns-in-Pay-clause-fine c = λ fs w cells h.
+    let p = subst (λ (n : Next). FineLast fs w cells (all_frames c.args.flow) n) (sym c.into_parts.ensures.next ∙ c.in-Pay.is) h.1 in
+    (subst (λ (q : Control). FineControl fs w cells q) (sym c.set-in-Pay.ensures.control) tt, subst (λ (l : List Frame). FineFrames fs w cells l) (sym (ap (λ f. f.list.items) c.set-in-Pay.ensures.frames ∙ c.into_parts.ensures.frames)) h.0, tt)
+
+pub returns-in-Native-clause-plan : goal.returns-in-Native-clause-plan
+returns-in-Native-clause-plan c = λ fs w cells s. put_plan fs w cells c.args.flow _ (next.Native c.in-Native.native) s (sym c.into_parts.ensures.next ∙ c.in-Native.is) (ap (λ f. f.list.items) c.set-in-Native.ensures.frames ∙ c.into_parts.ensures.frames)
+
+pub returns-in-Native-clause-fine : goal.returns-in-Native-clause-fine
+returns-in-Native-clause-fine c = λ fs w cells h.
+    let p = subst (λ (n : Next). FineLast fs w cells (all_frames c.args.flow) n) (sym c.into_parts.ensures.next ∙ c.in-Native.is) h.1 in
+    (subst (λ (q : Control). FineControl fs w cells q) (sym c.set-in-Native.ensures.control) tt, subst (λ (l : List Frame). FineFrames fs w cells l) (sym (ap (λ f. f.list.items) c.set-in-Native.ensures.frames ∙ c.into_parts.ensures.frames)) h.0, p)
+
+pub returns-in-Stop-clause-plan : goal.returns-in-Stop-clause-plan
+returns-in-Stop-clause-plan c = λ fs w cells s. put_plan fs w cells c.args.flow c.into_parts.result.0.items (next.Stop c.in-Stop.cause) s (sym c.into_parts.ensures.next ∙ c.in-Stop.is) c.into_parts.ensures.frames
+
+pub returns-in-Stop-clause-fine : goal.returns-in-Stop-clause-fine
+returns-in-Stop-clause-fine c = λ fs w cells h.
+    let p = subst (λ (n : Next). FineLast fs w cells (all_frames c.args.flow) n) (sym c.into_parts.ensures.next ∙ c.in-Stop.is) h.1 in
+    (subst (λ (q : Control). FineControl fs w cells q) (sym c.requires.over) tt, subst (λ (l : List Frame). FineFrames fs w cells l) (sym c.into_parts.ensures.frames) h.0, tt)
+
+pub returns-in-Done-clause-plan : goal.returns-in-Done-clause-plan
+returns-in-Done-clause-plan c = λ fs w cells s. put_done fs w cells c.args.flow c.in-Done.how s (sym c.into_parts.ensures.next ∙ c.in-Done.is) c.requires.settled
+
+pub returns-in-Done-clause-fine : goal.returns-in-Done-clause-fine
+returns-in-Done-clause-fine c = λ fs w cells h.
+    let p = subst (λ (n : Next). FineLast fs w cells (all_frames c.args.flow) n) (sym c.into_parts.ensures.next ∙ c.in-Done.is) h.1 in
+    (subst (λ (q : Control). FineControl fs w cells q) (sym c.requires.over) tt, subst (λ (l : List Frame). FineFrames fs w cells l) (sym c.into_parts.ensures.frames) h.0, p.1)
