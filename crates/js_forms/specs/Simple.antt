@@ -13,7 +13,6 @@ IsSimple (expr.Call e ids) = ⊥
 IsSimple _ = Unit {0}
 
 -- frames that go on with a value and leave the store as it is
-
 abbrev pub GoesOn : FormFrame → Type 0
 GoesOn (frame.SubBase e p) = Unit {0}
 GoesOn (frame.TargetSubBase e p) = Unit {0}
@@ -26,3 +25,11 @@ GoesOn frame.Delete = Unit {0}
 GoesOn (frame.StepTarget op p) = Unit {0}
 GoesOn (frame.AssignTarget op e p) = Unit {0}
 GoesOn _ = ⊥
+
+-- frames that wait for the conversion of an operand
+abbrev pub IsConversion : FormFrame → Type 0
+IsConversion (frame.ConvertedLeft op v d) = Unit {0}
+IsConversion (frame.ConvertedRight op v) = Unit {0}
+IsConversion (frame.ConvertedPrefix op) = Unit {0}
+IsConversion (frame.StepConverted op r p) = Unit {0}
+IsConversion _ = ⊥

@@ -1,5 +1,5 @@
 //! Assignments and steps.
-ghost use Rattle.std.specs.Prelude.{◌≡◌, ℕ, ◌<◌, ◌≤◌, IfOk, OnOk, [], ◌∷◌};
+ghost use Rattle.std.specs.Prelude.{◌≡◌, ℕ, ◌<◌, ◌≤◌, IfOk, OnOk};
 ghost use Rattle.js_tree.specs.Forest.{expr_at};
 ghost use Rattle.widget_meaning.specs.Values as meaning;
 ghost use Rattle.widget_meaning.specs.OwnState.{State};
@@ -42,9 +42,11 @@ pub(crate) fn assign_target(
     of: Reference,
 ) -> Result<(), Memory>
     requires confined { IsConfined (trees_of codes.now.items) w store.now }
-    requires held { FineReference w store.now.cells of × IsExprAt (trees_of codes.now.items) w store.now.cells right.0 right.1 }
+    requires held { FineReference w store.now.cells of
+        × IsExprAt (trees_of codes.now.items) w store.now.cells right.0 right.1 }
     ensures plan { OnOk result (Plans (trees_of codes.now.items) w store.now store.now
-        (expressions.assign_target op (expr_at (forest_at (trees_of codes.now.items) right.1.code) right.0) (place_of w store.now.cells right.1) (meaning.Refers (reference_of w store.now.cells of))) flow.new) }
+        (expressions.assign_target op (expr_at (forest_at (trees_of codes.now.items) right.1.code) right.0)
+        (place_of w store.now.cells right.1) (meaning.Refers (reference_of w store.now.cells of))) flow.new) }
     ensures fine { OnOk result (FineLeft (trees_of codes.now.items) w store.now.cells flow.new) }
     ensures near { OnOk result (left_free flow.new ≤ 12) }
     ensures below { OnOk result (flow.new.below ≡ all_frames flow.old) }
@@ -94,7 +96,9 @@ pub(crate) fn assign_with(
     requires confined { IsConfined (trees_of codes.now.items) w store.old }
     requires held { FineAssigning (trees_of codes.now.items) w store.old.cells to.now × IsFine w store.old.cells value }
     ensures plan { OnOk result (Plans (trees_of codes.now.items) w store.old store.new
-        (expressions.assign_with to.now.op (reference_of w store.old.cells to.now.of) (seen w store.old.cells to.now.has) (place_of w store.old.cells to.now.place) (meaning.Is (seen w store.old.cells value))) flow.new) }
+        (expressions.assign_with to.now.op (reference_of w store.old.cells to.now.of)
+        (seen w store.old.cells to.now.has) (place_of w store.old.cells to.now.place)
+        (meaning.Is (seen w store.old.cells value))) flow.new) }
     ensures fine { OnOk result (FineLeft (trees_of codes.now.items) w store.new.cells flow.new) }
     ensures near { OnOk result (left_free flow.new ≤ 12) }
     ensures kept { Kept (trees_of codes.now.items) w store.old store.new }
@@ -140,7 +144,8 @@ pub(crate) fn step_target(
     requires confined { IsConfined (trees_of codes.now.items) w store.old }
     requires held { FineReference w store.old.cells of × IsPlace (trees_of codes.now.items) w store.old.cells op.1 }
     ensures plan { OnOk result (Plans (trees_of codes.now.items) w store.old store.new
-        (expressions.step_target op.0 (place_of w store.old.cells op.1) (meaning.Refers (reference_of w store.old.cells of))) flow.new) }
+        (expressions.step_target op.0 (place_of w store.old.cells op.1)
+        (meaning.Refers (reference_of w store.old.cells of))) flow.new) }
     ensures fine { OnOk result (FineLeft (trees_of codes.now.items) w store.new.cells flow.new) }
     ensures near { OnOk result (left_free flow.new ≤ 4) }
     ensures kept { Kept (trees_of codes.now.items) w store.old store.new }
@@ -171,7 +176,8 @@ pub(crate) fn step_number(
     requires held { FineReference w store.old.cells of.now × IsPlace (trees_of codes.now.items) w store.old.cells op.1 }
     requires primitive { IsPrimitive had.now }
     ensures plan { OnOk result (Plans (trees_of codes.now.items) w store.old store.new
-        (expressions.step_number (meaning.to_number (seen w store.old.cells had.now)) op.0 (reference_of w store.old.cells of.now) (place_of w store.old.cells op.1)) flow.new) }
+        (expressions.step_number (meaning.to_number (seen w store.old.cells had.now)) op.0
+        (reference_of w store.old.cells of.now) (place_of w store.old.cells op.1)) flow.new) }
     ensures fine { OnOk result (FineLeft (trees_of codes.now.items) w store.new.cells flow.new) }
     ensures near { OnOk result (left_free flow.new ≤ 1) }
     ensures kept { Kept (trees_of codes.now.items) w store.old store.new }
@@ -248,7 +254,8 @@ fn step_write(
     requires held { FineReference w store.old.cells of.now × IsPlace (trees_of codes.now.items) w store.old.cells op.1 }
     requires plain { IsPlainOut numbers.0 }
     ensures plan { OnOk result (Plans (trees_of codes.now.items) w store.old store.new
-        (expressions.step_write (meant_out numbers.0) op.0 (plain (Value.Num numbers.1)) (reference_of w store.old.cells of.now) (place_of w store.old.cells op.1)) flow.new) }
+        (expressions.step_write (meant_out numbers.0) op.0 (plain (Value.Num numbers.1))
+        (reference_of w store.old.cells of.now) (place_of w store.old.cells op.1)) flow.new) }
     ensures fine { OnOk result (FineLeft (trees_of codes.now.items) w store.new.cells flow.new) }
     ensures near { OnOk result (left_free flow.new ≤ 1) }
     ensures kept { Kept (trees_of codes.now.items) w store.old store.new }

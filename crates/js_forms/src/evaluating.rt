@@ -1,5 +1,5 @@
 //! What each expression and each target does after its unit.
-ghost use Rattle.std.specs.Prelude.{◌≡◌, ℕ, ◌<◌, ◌≤◌, List, IfOk, OnOk, [], ◌∷◌};
+ghost use Rattle.std.specs.Prelude.{◌≡◌, ℕ, ◌<◌, ◌≤◌, List, OnOk};
 ghost use Rattle.js_tree.specs.Forest.{Forest, AreExprParts, plain_form};
 ghost use Rattle.js_tree.specs.Plain as node;
 ghost use Rattle.store_cells.specs.Cells.{PlainCell};
@@ -80,7 +80,8 @@ fn name_value(
 fn simple(flow: &mut Flow, node: &Expr, place: Place) -> Result<(), Memory>
     requires simple { IsSimple node.now }
     ensures plan { OnOk result ((w : ℕ) (cells : List PlainCell) (s : State) (fs : List Forest)
-        → planned fs w cells flow.new s ≡ expressions.expression (plain_form (forest_at fs place.code) node.now) (place_of w cells place) s) }
+        → planned fs w cells flow.new s ≡ expressions.expression (plain_form (forest_at fs place.code) node.now)
+        (place_of w cells place) s) }
     ensures fine { OnOk result ((w : ℕ) (cells : List PlainCell) (fs : List Forest)
         → IsPlace fs w cells place → AreExprParts (forest_at fs place.code) node.now → FineLeft fs w cells flow.new) }
     ensures near { OnOk result (left_free flow.new ≤ 12) }

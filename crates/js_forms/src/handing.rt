@@ -1,7 +1,7 @@
 //! What is next, each word of it made by a function of its own: a function pays at its entry for all that
 //! its arms may make, so an arm only hands on.
 ghost use Rattle.js_flow.specs.declared.job.Next.{Next};
-ghost use Rattle.std.specs.Prelude.{◌≡◌, Ok, OnOk, [], ◌∷◌};
+ghost use Rattle.std.specs.Prelude.{OnOk, [], ◌∷◌};
 ghost use Rattle.js_flow.specs.Left.{Leaves};
 
 use code_units::Memory;
@@ -10,6 +10,7 @@ use js_tree::ExprId;
 use object_store::Value;
 
 /// An expression, and the frame that waits for it.
+#[inline(always)]
 pub(crate) fn evaluate(
     flow: &mut Flow,
     frame: FormFrame,
@@ -22,6 +23,7 @@ pub(crate) fn evaluate(
 }
 
 /// A target, and the frame that waits for it.
+#[inline(always)]
 pub(crate) fn reach(
     flow: &mut Flow,
     frame: FormFrame,
@@ -34,13 +36,15 @@ pub(crate) fn reach(
 }
 
 /// The target of a call, and the frame that waits for it.
+#[inline(always)]
 pub(crate) fn reach_callee(
     flow: &mut Flow,
     call: ExprId,
     callee: ExprId,
     place: Place,
 ) -> Result<(), Memory>
-    ensures { OnOk result (Leaves flow.old flow.new (Frame.Call (CallFrame.Callee call place) ∷ []) (Next.Go (Job.Target callee place))) }
+    ensures { OnOk result (Leaves flow.old flow.new (Frame.Call (CallFrame.Callee call place) ∷ [])
+        (Next.Go (Job.Target callee place))) }
 {
     flow.push(
         Frame::Call(CallFrame::Callee(call, place)),
@@ -49,6 +53,7 @@ pub(crate) fn reach_callee(
 }
 
 /// An expression in the place of this one.
+#[inline(always)]
 pub(crate) fn go(flow: &mut Flow, id: ExprId, place: Place) -> Result<(), Memory>
     ensures { OnOk result (Leaves flow.old flow.new [] (Next.Go (Job.Eval id place))) }
 {
@@ -56,20 +61,24 @@ pub(crate) fn go(flow: &mut Flow, id: ExprId, place: Place) -> Result<(), Memory
 }
 
 /// An expression that stands where a target may be; it has the unit of the target.
+#[inline(always)]
 pub(crate) fn find(flow: &mut Flow, id: ExprId, place: Place) -> Result<(), Memory>
-    ensures { OnOk result (Leaves flow.old flow.new (Frame.Form FormFrame.Found ∷ []) (Next.Begin (Job.Eval id place))) }
+    ensures { OnOk result (Leaves flow.old flow.new (Frame.Form FormFrame.Found ∷ [])
+        (Next.Begin (Job.Eval id place))) }
 {
     flow.push_begun(Frame::Form(FormFrame::Found), Job::Eval(id, place))
 }
 
 /// The conversion of an object, and the frame that waits for it.
+#[inline(always)]
 pub(crate) fn convert(
     flow: &mut Flow,
     frame: FormFrame,
     depth: u32,
     value: Value,
 ) -> Result<(), Memory>
-    ensures { OnOk result (Leaves flow.old flow.new (Frame.Form frame ∷ Frame.Call (CallFrame.ToPrimitive depth) ∷ []) (Next.Give (Completion.Is value))) }
+    ensures { OnOk result (Leaves flow.old flow.new
+        (Frame.Form frame ∷ Frame.Call (CallFrame.ToPrimitive depth) ∷ []) (Next.Give (Completion.Is value))) }
 {
     flow.push_given(
         Frame::Form(frame),
@@ -79,6 +88,7 @@ pub(crate) fn convert(
 }
 
 /// A value.
+#[inline(always)]
 pub(crate) fn give(flow: &mut Flow, value: Value) -> Result<(), Memory>
     ensures { OnOk result (Leaves flow.old flow.new [] (Next.Give (Completion.Is value))) }
 {
@@ -86,6 +96,7 @@ pub(crate) fn give(flow: &mut Flow, value: Value) -> Result<(), Memory>
 }
 
 /// A reference.
+#[inline(always)]
 pub(crate) fn give_reference(flow: &mut Flow, of: Reference) -> Result<(), Memory>
     ensures { OnOk result (Leaves flow.old flow.new [] (Next.Give (Completion.Refers of))) }
 {
@@ -93,6 +104,7 @@ pub(crate) fn give_reference(flow: &mut Flow, of: Reference) -> Result<(), Memor
 }
 
 /// How a part ended, passed on.
+#[inline(always)]
 pub(crate) fn pass_on(flow: &mut Flow, how: Completion) -> Result<(), Memory>
     ensures { OnOk result (Leaves flow.old flow.new [] (Next.Give how)) }
 {

@@ -1,5 +1,5 @@
 //! Literals: numbers, words, functions, and arrays and objects, which are born before their parts.
-ghost use Rattle.std.specs.Prelude.{◌≡◌, ℕ, ◌+◌, ◌<◌, ◌≤◌, List, [], IfOk, drop, OnOk, ◌∷◌};
+ghost use Rattle.std.specs.Prelude.{◌≡◌, ℕ, ◌+◌, ◌<◌, ◌≤◌, List, [], drop, OnOk};
 ghost use Rattle.js_tree.specs.Forest.{IsFun, expr_at, fun_at};
 ghost use Rattle.js_tree.specs.Plain as node;
 ghost use Rattle.store_cells.specs.Cells.{PlainCell};
@@ -69,7 +69,8 @@ pub(crate) fn function(
     requires place { IsPlace (trees_of codes.now.items) w store.old.cells place }
     requires fun { IsFun (forest_at (trees_of codes.now.items) place.code) fun }
     ensures plan { OnOk result (Plans (trees_of codes.now.items) w store.old store.new
-        (expressions.expression (node.Function (fun_at (forest_at (trees_of codes.now.items) place.code) fun)) (place_of w store.old.cells place)) flow.new) }
+        (expressions.expression (node.Function (fun_at (forest_at (trees_of codes.now.items) place.code) fun))
+        (place_of w store.old.cells place)) flow.new) }
     ensures fine { OnOk result (FineLeft (trees_of codes.now.items) w store.new.cells flow.new) }
     ensures near { OnOk result (left_free flow.new ≤ 1) }
     ensures kept { Kept (trees_of codes.now.items) w store.old store.new }
@@ -101,7 +102,10 @@ pub(crate) fn array(
     requires confined { IsConfined (trees_of codes.now.items) w store.old }
     requires place { IsExprAt (trees_of codes.now.items) w store.old.cells id place }
     ensures plan { OnOk result (Plans (trees_of codes.now.items) w store.old store.new
-        (λ s. costs.make (new_array 0 []) 0 s (λ a t. expressions.array_parts a 0 (elements_of (expr_at (forest_at (trees_of codes.now.items) place.code) id)) (place_of w store.old.cells place) t)) flow.new) }
+        (λ s. costs.make (new_array 0 []) 0 s
+        (λ a t. expressions.array_parts a 0
+        (elements_of (expr_at (forest_at (trees_of codes.now.items) place.code) id))
+        (place_of w store.old.cells place) t)) flow.new) }
     ensures fine { OnOk result (FineLeft (trees_of codes.now.items) w store.new.cells flow.new) }
     ensures near { OnOk result (left_free flow.new ≤ 1) }
     ensures kept { Kept (trees_of codes.now.items) w store.old store.new }
@@ -123,9 +127,12 @@ fn elements(
     from: (ExprId, usize),
     place: Place,
 ) -> Result<(), Memory>
-    requires held { IsHeld w store.now.cells array × IsExprAt (trees_of codes.now.items) w store.now.cells from.0 place }
+    requires held { IsHeld w store.now.cells array
+        × IsExprAt (trees_of codes.now.items) w store.now.cells from.0 place }
     ensures plan { OnOk result ((s : State) → planned (trees_of codes.now.items) w store.now.cells flow.new s
-        ≡ expressions.array_parts (seen w store.now.cells (Value.Ref array)) from.1 (drop from.1 (elements_of (expr_at (forest_at (trees_of codes.now.items) place.code) from.0))) (place_of w store.now.cells place) s) }
+        ≡ expressions.array_parts (seen w store.now.cells (Value.Ref array)) from.1
+        (drop from.1 (elements_of (expr_at (forest_at (trees_of codes.now.items) place.code) from.0)))
+        (place_of w store.now.cells place) s) }
     ensures fine { OnOk result (FineLeft (trees_of codes.now.items) w store.now.cells flow.new) }
     ensures near { OnOk result (left_free flow.new ≤ 1) }
     ensures below { OnOk result (flow.new.below ≡ all_frames flow.old) }
@@ -152,9 +159,11 @@ pub(crate) fn element(
 ) -> Result<(), Memory>
     requires widget { w < 32 }
     requires confined { IsConfined (trees_of codes.now.items) w store.old }
-    requires held { IsHeld w store.old.cells at.0 × IsExprAt (trees_of codes.now.items) w store.old.cells at.1 at.3 × IsFine w store.old.cells value }
+    requires held { IsHeld w store.old.cells at.0 × IsExprAt (trees_of codes.now.items) w store.old.cells at.1 at.3
+        × IsFine w store.old.cells value }
     ensures plan { OnOk result (Plans (trees_of codes.now.items) w store.old store.new
-        (form_taken (trees_of codes.now.items) w store.old.cells (FormFrame.Element at.0 at.1 at.2 at.3) (meaning.Is (seen w store.old.cells value))) flow.new) }
+        (form_taken (trees_of codes.now.items) w store.old.cells (FormFrame.Element at.0 at.1 at.2 at.3)
+        (meaning.Is (seen w store.old.cells value))) flow.new) }
     ensures fine { OnOk result (FineLeft (trees_of codes.now.items) w store.new.cells flow.new) }
     ensures near { OnOk result (left_free flow.new ≤ 1) }
     ensures kept { Kept (trees_of codes.now.items) w store.old store.new }
@@ -186,7 +195,10 @@ pub(crate) fn object(
     requires confined { IsConfined (trees_of codes.now.items) w store.old }
     requires place { IsExprAt (trees_of codes.now.items) w store.old.cells id place }
     ensures plan { OnOk result (Plans (trees_of codes.now.items) w store.old store.new
-        (λ s. costs.make (plain_object []) 0 s (λ a t. expressions.object_parts a (properties_of (expr_at (forest_at (trees_of codes.now.items) place.code) id)) (place_of w store.old.cells place) t)) flow.new) }
+        (λ s. costs.make (plain_object []) 0 s
+        (λ a t. expressions.object_parts a
+        (properties_of (expr_at (forest_at (trees_of codes.now.items) place.code) id))
+        (place_of w store.old.cells place) t)) flow.new) }
     ensures fine { OnOk result (FineLeft (trees_of codes.now.items) w store.new.cells flow.new) }
     ensures near { OnOk result (left_free flow.new ≤ 1) }
     ensures kept { Kept (trees_of codes.now.items) w store.old store.new }
@@ -221,9 +233,12 @@ fn properties(
     from: (ExprId, usize),
     place: Place,
 ) -> Result<(), Memory>
-    requires held { IsHeld w store.now.cells object × IsExprAt (trees_of codes.now.items) w store.now.cells from.0 place }
+    requires held { IsHeld w store.now.cells object
+        × IsExprAt (trees_of codes.now.items) w store.now.cells from.0 place }
     ensures plan { OnOk result ((s : State) → planned (trees_of codes.now.items) w store.now.cells flow.new s
-        ≡ expressions.object_parts (seen w store.now.cells (Value.Ref object)) (drop from.1 (properties_of (expr_at (forest_at (trees_of codes.now.items) place.code) from.0))) (place_of w store.now.cells place) s) }
+        ≡ expressions.object_parts (seen w store.now.cells (Value.Ref object))
+        (drop from.1 (properties_of (expr_at (forest_at (trees_of codes.now.items) place.code) from.0)))
+        (place_of w store.now.cells place) s) }
     ensures fine { OnOk result (FineLeft (trees_of codes.now.items) w store.now.cells flow.new) }
     ensures near { OnOk result (left_free flow.new ≤ 1) }
     ensures below { OnOk result (flow.new.below ≡ all_frames flow.old) }
@@ -250,9 +265,11 @@ pub(crate) fn property(
 ) -> Result<(), Memory>
     requires widget { w < 32 }
     requires confined { IsConfined (trees_of codes.now.items) w store.old }
-    requires held { IsHeld w store.old.cells at.0 × IsExprAt (trees_of codes.now.items) w store.old.cells at.1 at.3 × IsFine w store.old.cells value }
+    requires held { IsHeld w store.old.cells at.0 × IsExprAt (trees_of codes.now.items) w store.old.cells at.1 at.3
+        × IsFine w store.old.cells value }
     ensures plan { OnOk result (Plans (trees_of codes.now.items) w store.old store.new
-        (form_taken (trees_of codes.now.items) w store.old.cells (FormFrame.Property at.0 at.1 at.2 at.3) (meaning.Is (seen w store.old.cells value))) flow.new) }
+        (form_taken (trees_of codes.now.items) w store.old.cells (FormFrame.Property at.0 at.1 at.2 at.3)
+        (meaning.Is (seen w store.old.cells value))) flow.new) }
     ensures fine { OnOk result (FineLeft (trees_of codes.now.items) w store.new.cells flow.new) }
     ensures near { OnOk result (left_free flow.new ≤ 1) }
     ensures kept { Kept (trees_of codes.now.items) w store.old store.new }

@@ -1,5 +1,5 @@
 //! Operators: their operands are converted, and a joined text is paid.
-ghost use Rattle.std.specs.Prelude.{◌≡◌, ℕ, ◌<◌, ◌≤◌, List, IfOk, length, true, false, OnOk, [], ◌∷◌};
+ghost use Rattle.std.specs.Prelude.{◌≡◌, ℕ, ◌<◌, ◌≤◌, List, length, true, false, OnOk};
 ghost use Rattle.js_tree.specs.Forest.{Forest};
 ghost use Rattle.store_cells.specs.Cells.{PlainCell};
 ghost use Rattle.widget_meaning.specs.Values as meaning;
@@ -24,7 +24,7 @@ use crate::handing::convert;
 use crate::reading::throw;
 use code_units::Memory;
 use js_flow::{Completion, Flow, FormFrame, Place, Reference};
-use js_image::{Callee, Fault, Paid, Removed, StopCause, callee, pay_text, remove};
+use js_image::{Callee, Paid, Removed, StopCause, callee, pay_text, remove};
 use js_names::Code;
 use js_tree::{BinOp, UnOp};
 use js_values::{OpOut, binary, type_name, unary};
@@ -88,7 +88,8 @@ fn give_value(
 ) -> Result<(), Memory>
     requires widget { w < 32 }
     requires plain { IsPrimitive value }
-    ensures plan { OnOk result (Plans (trees_of codes.now.items) w store.old store.new (expressions.result (operators.Gives (plain value))) flow.new) }
+    ensures plan { OnOk result (Plans (trees_of codes.now.items) w store.old store.new
+        (expressions.result (operators.Gives (plain value))) flow.new) }
     ensures fine { OnOk result (FineLeft (trees_of codes.now.items) w store.new.cells flow.new) }
     ensures near { OnOk result (left_free flow.new ≤ 1) }
     ensures kept { Kept (trees_of codes.now.items) w store.old store.new }
@@ -118,7 +119,8 @@ pub(crate) fn computed(
     requires held { IsFine w store.old.cells left.now × IsFine w store.old.cells right.now }
     requires operands { IsOperand op left.now × IsOperand op right.now }
     ensures plan { OnOk result (Plans (trees_of codes.now.items) w store.old store.new
-        (expressions.result (operators.binary op (seen w store.old.cells left.now) (seen w store.old.cells right.now))) flow.new) }
+        (expressions.result (operators.binary op (seen w store.old.cells left.now)
+        (seen w store.old.cells right.now))) flow.new) }
     ensures fine { OnOk result (FineLeft (trees_of codes.now.items) w store.new.cells flow.new) }
     ensures near { OnOk result (left_free flow.new ≤ 1) }
     ensures kept { Kept (trees_of codes.now.items) w store.old store.new }
@@ -174,7 +176,8 @@ pub(crate) fn convert_right(
     requires held { IsFine w store.old.cells left.now × IsFine w store.old.cells right.now }
     requires left { IsPrimitive left.now }
     ensures plan { OnOk result (Plans (trees_of codes.now.items) w store.old store.new
-        (expressions.converted_left op.0 (seen w store.old.cells right.now) op.1 (meaning.Is (seen w store.old.cells left.now))) flow.new) }
+        (expressions.converted_left op.0 (seen w store.old.cells right.now) op.1
+        (meaning.Is (seen w store.old.cells left.now))) flow.new) }
     ensures fine { OnOk result (FineLeft (trees_of codes.now.items) w store.new.cells flow.new) }
     ensures near { OnOk result (left_free flow.new ≤ 3) }
     ensures kept { Kept (trees_of codes.now.items) w store.old store.new }
@@ -227,7 +230,9 @@ fn type_of(
 ) -> Result<(), Memory>
     requires held { IsFine w store.old.cells value.now }
     ensures plan { OnOk result (Plans (trees_of codes.now.items) w store.old store.new
-        (λ s. costs.give (meaning.Text (operators.type_name (properties.is_function s (seen w store.old.cells value.now)) (seen w store.old.cells value.now))) s) flow.new) }
+        (λ s. costs.give (meaning.Text
+        (operators.type_name (properties.is_function s (seen w store.old.cells value.now))
+        (seen w store.old.cells value.now))) s) flow.new) }
     ensures fine { OnOk result (FineLeft (trees_of codes.now.items) w store.new.cells flow.new) }
     ensures near { OnOk result (left_free flow.new ≤ 1) }
     ensures kept { Kept (trees_of codes.now.items) w store.old store.new }
@@ -263,7 +268,8 @@ fn convert_prefix(
     requires widget { w < 32 }
     requires held { IsFine w store.old.cells value }
     ensures plan { OnOk result (Plans (trees_of codes.now.items) w store.old store.new
-        (λ s. and_then (calls.to_primitive (seen w store.old.cells value) op.1 s) (after (λ v t. expressions.result (operators.unary op.0 v) t))) flow.new) }
+        (λ s. and_then (calls.to_primitive (seen w store.old.cells value) op.1 s)
+        (after (λ v t. expressions.result (operators.unary op.0 v) t))) flow.new) }
     ensures fine { OnOk result (FineLeft (trees_of codes.now.items) w store.new.cells flow.new) }
     ensures near { OnOk result (left_free flow.new ≤ 3) }
     ensures kept { Kept (trees_of codes.now.items) w store.old store.new }

@@ -1,5 +1,5 @@
 //! Reads and writes of variables and properties, and faults.
-ghost use Rattle.std.specs.Prelude.{◌≡◌, ℕ, ◌<◌, ◌≤◌, List, IfOk, OnOk, [], ◌∷◌};
+ghost use Rattle.std.specs.Prelude.{◌≡◌, ℕ, ◌<◌, ◌≤◌, List, IfOk, OnOk};
 ghost use Rattle.store_cells.specs.Cells.{PlainCell};
 ghost use Rattle.widget_meaning.specs.Values as meaning;
 ghost use Rattle.widget_meaning.specs.Costs as costs;
@@ -114,9 +114,11 @@ pub(crate) fn referred(
     place: Place,
 ) -> Result<Value, Memory>
     requires confined { IsConfined (trees_of codes.now.items) w store.now }
-    requires held { FineReference w store.now.cells of.now × IsPlace (trees_of codes.now.items) w store.now.cells place }
+    requires held { FineReference w store.now.cells of.now
+        × IsPlace (trees_of codes.now.items) w store.now.cells place }
     ensures found { IfOk result (λ v. (r : Rest) → seen w store.now.cells v
-        ≡ expressions.referred (reference_of w store.now.cells of.now) (place_of w store.now.cells place) (image (trees_of codes.now.items) r w store.now)) }
+        ≡ expressions.referred (reference_of w store.now.cells of.now) (place_of w store.now.cells place)
+        (image (trees_of codes.now.items) r w store.now)) }
     ensures fine { IfOk result (IsFine w store.now.cells) }
 {
     match of {
@@ -153,7 +155,8 @@ pub(crate) fn write(
     requires to { FineReference w store.old.cells of.now × IsPlace (trees_of codes.now.items) w store.old.cells place }
     requires values { IsFine w store.old.cells values.0 × IsFine w store.old.cells values.1 }
     ensures plan { OnOk result (Plans (trees_of codes.now.items) w store.old store.new
-        (λ s. expressions.write (reference_of w store.old.cells of.now) (place_of w store.old.cells place) (seen w store.old.cells values.0) s (costs.give (seen w store.old.cells values.1))) flow.new) }
+        (λ s. expressions.write (reference_of w store.old.cells of.now) (place_of w store.old.cells place)
+        (seen w store.old.cells values.0) s (costs.give (seen w store.old.cells values.1))) flow.new) }
     ensures fine { OnOk result (FineLeft (trees_of codes.now.items) w store.new.cells flow.new) }
     ensures near { OnOk result (left_free flow.new ≤ 1) }
     ensures kept { Kept (trees_of codes.now.items) w store.old store.new }
@@ -194,7 +197,8 @@ pub(crate) fn write_property(
     requires to { IsFine w store.old.cells base.now }
     requires values { IsFine w store.old.cells values.0 × IsFine w store.old.cells values.1 }
     ensures plan { OnOk result (Plans (trees_of codes.now.items) w store.old store.new
-        (λ s. properties.put (seen w store.old.cells base.now) name.now (seen w store.old.cells values.0) s (costs.give (seen w store.old.cells values.1))) flow.new) }
+        (λ s. properties.put (seen w store.old.cells base.now) name.now (seen w store.old.cells values.0) s
+        (costs.give (seen w store.old.cells values.1))) flow.new) }
     ensures fine { OnOk result (FineLeft (trees_of codes.now.items) w store.new.cells flow.new) }
     ensures near { OnOk result (left_free flow.new ≤ 1) }
     ensures kept { Kept (trees_of codes.now.items) w store.old store.new }

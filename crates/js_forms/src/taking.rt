@@ -1,6 +1,5 @@
 //! What a frame of an expression or a target does with how its part ended.
-ghost use Rattle.js_flow.specs.declared.job.Next.{Next};
-ghost use Rattle.std.specs.Prelude.{◌≡◌, ℕ, ◌<◌, ◌≤◌, List, IfOk, Ok, OnOk, [], ◌∷◌};
+ghost use Rattle.std.specs.Prelude.{◌≡◌, ℕ, ◌<◌, ◌≤◌, List, IfOk, OnOk};
 ghost use Rattle.js_tree.specs.Forest.{Forest};
 ghost use Rattle.store_cells.specs.Cells.{PlainCell};
 ghost use Rattle.widget_meaning.specs.Values as meaning;
@@ -9,14 +8,15 @@ ghost use Rattle.widget_meaning.specs.Operators as operators;
 ghost use Rattle.widget_meaning.specs.Expressions as expressions;
 ghost use Rattle.js_image.specs.Image.{seen};
 ghost use Rattle.js_image.specs.Held.{IsConfined, IsFine, Kept};
+ghost use Rattle.js_values.specs.Operands.{IsPrimitive};
 ghost use Rattle.js_names.specs.Code.{trees_of};
-ghost use Rattle.js_forms.specs.Simple.{GoesOn};
+ghost use Rattle.js_forms.specs.Simple.{GoesOn, IsConversion};
 ghost use Rattle.js_flow.specs.Views.{completion_of, reference_of};
 ghost use Rattle.js_flow.specs.Forms.{form_taken};
 ghost use Rattle.js_flow.specs.Frames.{Plans, planned};
 ghost use Rattle.js_flow.specs.Fine.{FineCompletion, FineForm, FineLeft, FineReference};
 ghost use Rattle.js_flow.specs.Free.{form_free, left_free};
-ghost use Rattle.js_flow.specs.Left.{Leaves, all_frames};
+ghost use Rattle.js_flow.specs.Left.{all_frames};
 
 use crate::assigning::{assign_target, assign_with, step_number, step_target};
 use crate::handing::{evaluate, give, give_reference, go, pass_on};
@@ -45,9 +45,11 @@ pub fn take_form(
 ) -> Result<(), Memory>
     requires widget { w < 32 }
     requires confined { IsConfined (trees_of codes.now.items) w store.old }
-    requires held { FineForm (trees_of codes.now.items) w store.old.cells frame.now × FineCompletion w store.old.cells how }
+    requires held { FineForm (trees_of codes.now.items) w store.old.cells frame.now
+        × FineCompletion w store.old.cells how }
     ensures plan { OnOk result (Plans (trees_of codes.now.items) w store.old store.new
-        (form_taken (trees_of codes.now.items) w store.old.cells frame.now (completion_of w store.old.cells how)) flow.new) }
+        (form_taken (trees_of codes.now.items) w store.old.cells frame.now (completion_of w store.old.cells how))
+        flow.new) }
     ensures fine { OnOk result (FineLeft (trees_of codes.now.items) w store.new.cells flow.new) }
     ensures near { OnOk result (left_free flow.new ≤ form_free frame.now) }
     ensures kept { Kept (trees_of codes.now.items) w store.old store.new }
@@ -74,7 +76,8 @@ fn take_value(
     requires confined { IsConfined (trees_of codes.now.items) w store.old }
     requires held { FineForm (trees_of codes.now.items) w store.old.cells frame.now × IsFine w store.old.cells value }
     ensures plan { OnOk result (Plans (trees_of codes.now.items) w store.old store.new
-        (form_taken (trees_of codes.now.items) w store.old.cells frame.now (meaning.Is (seen w store.old.cells value))) flow.new) }
+        (form_taken (trees_of codes.now.items) w store.old.cells frame.now
+        (meaning.Is (seen w store.old.cells value))) flow.new) }
     ensures fine { OnOk result (FineLeft (trees_of codes.now.items) w store.new.cells flow.new) }
     ensures near { OnOk result (left_free flow.new ≤ form_free frame.now) }
     ensures kept { Kept (trees_of codes.now.items) w store.old store.new }
@@ -102,28 +105,11 @@ fn take_value(
         FormFrame::Operate(op, left, depth) => {
             operate(flow, alloc, w, codes, store, (*op, *depth), left, &value)
         }
-        FormFrame::ConvertedLeft(op, right, depth) => {
-            if is_object(&value) {
-                return Err(Memory);
-            }
-            convert_right(flow, alloc, w, codes, store, (*op, *depth), &value, right)
-        }
-        FormFrame::ConvertedRight(op, left) => {
-            converted_right(flow, alloc, w, codes, store, *op, left, &value)
-        }
         FormFrame::Prefix(op, place) => prefix(flow, alloc, w, codes, store, (*op, *place), value),
-        FormFrame::ConvertedPrefix(op) => {
-            if is_object(&value) {
-                return Err(Memory);
-            }
-            converted_prefix(flow, w, codes, store, *op, &value)
-        }
-        FormFrame::StepConverted(op, of, place) => {
-            if is_object(&value) {
-                return Err(Memory);
-            }
-            step_number(flow, alloc, w, codes, store, (*op, *place), of, &value)
-        }
+        FormFrame::ConvertedLeft(_, _, _) => converted(flow, alloc, w, codes, store, frame, &value),
+        FormFrame::ConvertedRight(_, _) => converted(flow, alloc, w, codes, store, frame, &value),
+        FormFrame::ConvertedPrefix(_) => converted(flow, alloc, w, codes, store, frame, &value),
+        FormFrame::StepConverted(_, _, _) => converted(flow, alloc, w, codes, store, frame, &value),
         FormFrame::AssignWith(assigning) => assign_with(
             flow, alloc, w, codes, store, assigning, value,
         ),
@@ -200,6 +186,46 @@ fn name_of(alloc: Global, value: &Value) -> Result<Text, Memory>
     }
 }
 
+// A frame that is given an operand after its conversion; no object is given.
+fn converted(
+    flow: &mut Flow,
+    alloc: Global,
+    w: u32,
+    codes: &Vec<Code>,
+    store: &mut Store,
+    frame: &FormFrame,
+    value: &Value,
+) -> Result<(), Memory>
+    requires widget { w < 32 }
+    requires confined { IsConfined (trees_of codes.now.items) w store.old }
+    requires waits { IsConversion frame.now }
+    requires held { FineForm (trees_of codes.now.items) w store.old.cells frame.now × IsFine w store.old.cells value.now }
+    ensures plan { OnOk result (Plans (trees_of codes.now.items) w store.old store.new
+        (form_taken (trees_of codes.now.items) w store.old.cells frame.now
+        (meaning.Is (seen w store.old.cells value.now))) flow.new) }
+    ensures fine { OnOk result (FineLeft (trees_of codes.now.items) w store.new.cells flow.new) }
+    ensures near { OnOk result (left_free flow.new ≤ form_free frame.now) }
+    ensures kept { Kept (trees_of codes.now.items) w store.old store.new }
+    ensures below { OnOk result (flow.new.below ≡ all_frames flow.old) }
+{
+    if is_object(value) {
+        return Err(Memory);
+    }
+    match frame {
+        FormFrame::ConvertedLeft(op, right, depth) => {
+            convert_right(flow, alloc, w, codes, store, (*op, *depth), value, right)
+        }
+        FormFrame::ConvertedRight(op, left) => {
+            converted_right(flow, alloc, w, codes, store, *op, left, value)
+        }
+        FormFrame::ConvertedPrefix(op) => converted_prefix(flow, w, codes, store, *op, value),
+        FormFrame::StepConverted(op, of, place) => {
+            step_number(flow, alloc, w, codes, store, (*op, *place), of, value)
+        }
+        _ => unreachable!(),
+    }
+}
+
 // An operator on two operands after their conversion.
 fn converted_right(
     flow: &mut Flow,
@@ -213,14 +239,16 @@ fn converted_right(
 ) -> Result<(), Memory>
     requires widget { w < 32 }
     requires held { IsFine w store.old.cells left.now × IsFine w store.old.cells right.now }
+    requires right { IsPrimitive right.now }
     ensures plan { OnOk result (Plans (trees_of codes.now.items) w store.old store.new
-        (expressions.result (operators.binary op (seen w store.old.cells left.now) (seen w store.old.cells right.now))) flow.new) }
+        (expressions.result (operators.binary op (seen w store.old.cells left.now)
+        (seen w store.old.cells right.now))) flow.new) }
     ensures fine { OnOk result (FineLeft (trees_of codes.now.items) w store.new.cells flow.new) }
     ensures near { OnOk result (left_free flow.new ≤ 1) }
     ensures kept { Kept (trees_of codes.now.items) w store.old store.new }
     ensures below { OnOk result (flow.new.below ≡ all_frames flow.old) }
 {
-    if is_object(left) || is_object(right) {
+    if is_object(left) {
         return Err(Memory);
     }
     computed(flow, alloc, w, codes, store, op, left, right)
@@ -238,9 +266,11 @@ fn take_reference(
 ) -> Result<(), Memory>
     requires widget { w < 32 }
     requires confined { IsConfined (trees_of codes.now.items) w store.old }
-    requires held { FineForm (trees_of codes.now.items) w store.old.cells frame.now × FineReference w store.old.cells of }
+    requires held { FineForm (trees_of codes.now.items) w store.old.cells frame.now
+        × FineReference w store.old.cells of }
     ensures plan { OnOk result (Plans (trees_of codes.now.items) w store.old store.new
-        (form_taken (trees_of codes.now.items) w store.old.cells frame.now (meaning.Refers (reference_of w store.old.cells of))) flow.new) }
+        (form_taken (trees_of codes.now.items) w store.old.cells frame.now
+        (meaning.Refers (reference_of w store.old.cells of))) flow.new) }
     ensures fine { OnOk result (FineLeft (trees_of codes.now.items) w store.new.cells flow.new) }
     ensures near { OnOk result (left_free flow.new ≤ form_free frame.now) }
     ensures kept { Kept (trees_of codes.now.items) w store.old store.new }
@@ -254,13 +284,6 @@ fn take_reference(
         FormFrame::AssignTarget(op, e, place) => {
             assign_target(flow, alloc, w, codes, store, *op, (*e, *place), of)
         }
-        frame => pass_reference(flow, frame, of),
+        _ => give_reference(flow, of),
     }
-}
-
-// A frame that waits for no reference passes it on.
-fn pass_reference(flow: &mut Flow, frame: &FormFrame, of: Reference) -> Result<(), Memory>
-    ensures { OnOk result (Leaves flow.old flow.new [] (Next.Give (Completion.Refers of))) }
-{
-    give_reference(flow, of)
 }

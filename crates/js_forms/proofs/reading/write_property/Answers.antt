@@ -46,5 +46,5 @@ returns-in-Throw-clause-kept c =
     let fs = trees_of c.args.codes.now.items in
     kept_then fs c.args.w c.args.store.now c.put.new.store c.throw.new.store (c.put.ensures.kept fs) c.throw.ensures.kept
 
-pub returns-clause-kept : goal.returns-clause-kept
-returns-clause-kept c = c.put.ensures.kept (trees_of c.args.codes.now.items)
+pub returns-in-Stop-clause-kept : goal.returns-in-Stop-clause-kept
+returns-in-Stop-clause-kept c = c.put.ensures.kept (trees_of c.args.codes.now.items)
