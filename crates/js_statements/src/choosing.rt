@@ -1,5 +1,5 @@
 //! `switch`: the clause that is chosen.
-ghost use Rattle.std.specs.Prelude.{◌≡◌, ◌+◌, ◌<◌, ◌≤◌, ℕ, List, MatchOption, drop, length, OnOk, [], ◌∷◌};
+ghost use Rattle.std.specs.Prelude.{◌≡◌, ◌+◌, ◌<◌, ◌≤◌, ℕ, List, MatchOption, drop, length, OnOk};
 ghost use Rattle.store_cells.specs.Cells.{PlainCell};
 ghost use Rattle.js_tree.specs.Trees.{trees};
 ghost use Rattle.js_tree.specs.Forest.{IsExpr, IsStmt, expr_at, stmt_at};

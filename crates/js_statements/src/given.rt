@@ -1,6 +1,6 @@
 //! What a frame of a statement does with how its part ended.
 ghost use Rattle.js_flow.specs.declared.job.Next.{Next};
-ghost use Rattle.std.specs.Prelude.{◌≡◌, ◌<◌, ◌≤◌, ℕ, List, IfOk, Ok, length, OnOk, [], ◌∷◌};
+ghost use Rattle.std.specs.Prelude.{◌≡◌, ◌<◌, ◌≤◌, ℕ, List, Ok, length, OnOk, []};
 ghost use Rattle.store_cells.specs.Cells.{PlainCell};
 ghost use Rattle.js_tree.specs.Forest.{Forest, IsStmt};
 ghost use Rattle.widget_meaning.specs.OwnState.{State};

@@ -1,5 +1,5 @@
 //! Loops: tests, and what comes after a body.
-ghost use Rattle.std.specs.Prelude.{◌≡◌, ℕ, ◌<◌, ◌≤◌, List, drop, length, OnOk, [], ◌∷◌};
+ghost use Rattle.std.specs.Prelude.{◌≡◌, ℕ, ◌<◌, ◌≤◌, List, drop, length, OnOk};
 ghost use Rattle.store_cells.specs.Cells.{PlainCell};
 ghost use Rattle.js_tree.specs.Forest.{Forest, IsStmt, stmt_at};
 ghost use Rattle.widget_meaning.specs.OwnState.{State};

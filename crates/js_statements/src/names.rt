@@ -1,5 +1,5 @@
 //! `for-in`: the names of an object, one pass for each that is still found.
-ghost use Rattle.std.specs.Prelude.{◌≡◌, ◌+◌, ◌<◌, ◌≤◌, ℕ, suc, List, IfOk, MatchOption, drop, length, false, OnOk, [], ◌∷◌};
+ghost use Rattle.std.specs.Prelude.{◌≡◌, ◌+◌, ◌<◌, ◌≤◌, ℕ, suc, List, IfOk, MatchOption, drop, length, false, OnOk};
 ghost use Rattle.js_tree.specs.Forest.{Forest};
 ghost use Rattle.store_cells.specs.Shape.{IsRefWithin};
 ghost use Rattle.widget_meaning.specs.Values as meaning;
