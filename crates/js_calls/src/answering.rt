@@ -1,6 +1,6 @@
 //! What a native answers, and the calls that it asks for.
 ghost use Rattle.js_flow.specs.declared.job.Next.{Next};
-ghost use Rattle.std.specs.Prelude.{◌≡◌, ℕ, ◌<◌, ◌≤◌, IfOk, OnOk, [], ◌∷◌};
+ghost use Rattle.std.specs.Prelude.{◌≡◌, ℕ, ◌<◌, ◌≤◌, OnOk, [], ◌∷◌};
 ghost use Rattle.js_image.specs.Image.{seen};
 ghost use Rattle.js_image.specs.Held.{IsConfined, Kept};
 ghost use Rattle.js_names.specs.Code.{trees_of};

@@ -1,5 +1,5 @@
 //! The arguments of a call from left to right, and then the call.
-ghost use Rattle.std.specs.Prelude.{◌≡◌, ℕ, ◌+◌, ◌^◌, ◌<◌, ◌≤◌, [], List, IfOk, IfSome, length, OnOk, ◌∷◌};
+ghost use Rattle.std.specs.Prelude.{◌≡◌, ℕ, ◌+◌, ◌^◌, ◌<◌, ◌≤◌, [], List, IfOk, IfSome, length, OnOk};
 ghost use Rattle.std.specs.Option.{option_map};
 ghost use Rattle.js_tree.specs.Forest.{Forest, IsExpr, expr_at};
 ghost use Rattle.store_cells.specs.Cells.{PlainCell};

@@ -1,5 +1,5 @@
 //! The declared functions of a function are made in the scope of its call.
-ghost use Rattle.std.specs.Prelude.{◌≡◌, ℕ, ◌<◌, ◌≤◌, List, All, IfOk, Some, length, map, option_to_list, slice_get, OnOk, [], ◌∷◌};
+ghost use Rattle.std.specs.Prelude.{◌≡◌, ℕ, ◌<◌, ◌≤◌, List, All, IfOk, Some, length, map, option_to_list, slice_get, OnOk};
 ghost use Rattle.std.specs.List.{flat_map};
 ghost use Rattle.js_tree.specs.Forest.{Forest, IsFun, fun_at};
 ghost use Rattle.js_tree.specs.Lists.{fun_list};

@@ -1,7 +1,8 @@
-use Rattle.std.proofs.Common.{◌≡◌, ℕ, length, ap, ◌∙◌}
+use Rattle.std.proofs.Common.{length, ap, ◌∙◌}
 use Rattle.std.proofs.lemmas.Result.{IfOk-weaker}
-use Rattle.widget_meaning.specs.Values.{Normal}
-use Rattle.widget_meaning.specs.Plan.{Ret}
+use Rattle.widget_meaning.specs.Costs.{give, make_text}
+use Rattle.widget_meaning.specs.Values.{Normal, Text}
+use Rattle.widget_meaning.specs.Plan.{Ret, charge}
 use Rattle.widget_meaning.proofs.PlansHold.{plan_laws}
 use Rattle.js_flow.specs.declared.frame.Frame.TheVariants.{Call}
 use Rattle.js_flow.specs.declared.frame.CallFrame.TheVariants.{MakeText}
@@ -10,4 +11,9 @@ use Rattle.js_calls.proofs.converting.made.Goals as goal
 
 pub returns-clause-plan : goal.returns-clause-plan
 returns-clause-plan c =
-    IfOk-weaker c.push_pay.result _ _ (λ k q. rw (q, c.len-units.ensures) (λ fs w cells s. plan_laws.charge_first (length c.args.t) s (Ret Normal s) (taken fs w cells (Call (MakeText c.args.t))))) c.push_pay.ensures
+    let t = c.args.t in
+    let units = c.units-units in
+    IfOk-weaker c.push_pay.result _ _
+    (λ k q. rw q (λ fs w cells s. plan_laws.charge_first (length units.result.now) s (Ret Normal s) (taken fs w cells (Call (MakeText t)))
+    ∙ ap (λ l. charge (length l) s (make_text t s (give (Text t)))) units.ensures))
+    c.push_pay.ensures
