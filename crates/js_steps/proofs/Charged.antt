@@ -1,5 +1,5 @@
 -- The charge of what a task is at, one kind after the other.
-use Rattle.std.proofs.Common.{◌≡◌, ℕ, ◌+◌, ◌*◌, ◌≤◌, List, refl, arith}
+use Rattle.std.proofs.Common.{ℕ, ◌+◌, ◌*◌, ◌≤◌, List, refl, arith}
 use Rattle.js_tree.specs.Forest.{Forest}
 use Rattle.store_cells.specs.Cells.{PlainCell}
 use Rattle.widget_meaning.specs.OwnState.{State}

@@ -1,5 +1,5 @@
 -- The call of a task ends by a value or a throw, step by step.
-use Rattle.std.proofs.Common.{◌≡◌, ℕ, zero, suc, ◌+◌, ◌<◌, ◌≤◌, List, [], map, sym, ap, subst, arith}
+use Rattle.std.proofs.Common.{◌≡◌, ℕ, zero, suc, ◌+◌, ◌<◌, ◌≤◌, List, [], map, sym, subst, arith}
 use Rattle.js_tree.specs.Forest.{Forest}
 use Rattle.store_cells.specs.declared.value.Value.TheVariants as value
 use Rattle.store_cells.specs.Cells.{Cells, PlainCell}
@@ -8,7 +8,7 @@ use Rattle.widget_meaning.specs.Values as meaning
 use Rattle.widget_meaning.specs.OwnState.{State}
 use Rattle.widget_meaning.specs.Plan as plan
 use Rattle.widget_meaning.specs.Plan.{Plan, Ret, Do, and_then, ticks, charge}
-use Rattle.end_laws.specs.Ends.{ByValue, ByReference, Anyhow, Ends, Way, Yields, way_of}
+use Rattle.end_laws.specs.Ends.{ByValue, ByReference, Ends, Way, Yields, way_of}
 use Rattle.end_laws.proofs.Steps.{chain, faulted, gave, halted, job as with_job, joined, passed, value as with_value}
 use Rattle.end_laws.proofs.Forms.{to_primitive_ends}
 use Rattle.end_laws.proofs.Natives.{make_array_ends, text_of_primitive_ends}

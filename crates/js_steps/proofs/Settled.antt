@@ -1,5 +1,5 @@
 -- What a form leaves, and then all frames that wait.
-use Rattle.std.proofs.Common.{◌≡◌, ℕ, ◌+◌, ◌≤◌, List, [], ◌∷◌, ◌++◌, Bool, true, false, refl, sym, ap, ◌∙◌, subst, arith, append-nil}
+use Rattle.std.proofs.Common.{◌≡◌, ℕ, ◌+◌, ◌≤◌, List, [], ◌∷◌, ◌++◌, true, false, refl, sym, ap, ◌∙◌, subst, arith, append-nil}
 use Rattle.js_tree.specs.Forest.{Forest}
 use Rattle.store_cells.specs.Cells.{PlainCell}
 use Rattle.widget_meaning.specs.OwnState.{State}
@@ -18,7 +18,7 @@ use Rattle.js_flow.specs.Left.{IsSettled, Leaves, Left, all_frames, is_free_next
 use Rattle.js_flow.specs.Views.{completion_of}
 use Rattle.js_flow.specs.Fine.{FineCompletion, FineFlow, FineFrames, FineLast, FineLeft, FineNext, FineOver}
 use Rattle.js_flow.specs.Frames.{flow_plan, next_plan, planned, rest}
-use Rattle.js_flow.specs.Free.{flow_free, frame_free, frames_free, left_free, native_free, next_free}
+use Rattle.js_flow.specs.Free.{flow_free, frames_free, left_free, native_free, next_free}
 use Rattle.js_flow.proofs.Follow.{left_then}
 use Rattle.js_steps.specs.Ending.{IsNative}
 use Rattle.js_steps.proofs.Weights.{native_weighs}

@@ -108,7 +108,6 @@ pub fn resume(
     let at = depth(task);
     let w = task.widget;
     let mut flow = take_flow(alloc, task);
-    set(task, Control::Over);
     answer(&mut flow, alloc, w, codes, store, out, at)?;
     settle(&mut flow, alloc, w, codes, store)?;
     let step = put(task, flow);

@@ -1,5 +1,5 @@
 //! What a job is after its unit, and what a frame does with how its part ended.
-ghost use Rattle.std.specs.Prelude.{◌<◌, ◌≤◌, IfOk, ◌≡◌, OnOk, [], ◌∷◌};
+ghost use Rattle.std.specs.Prelude.{◌≡◌, ◌<◌, ◌≤◌, OnOk, true};
 ghost use Rattle.widget_meaning.specs.Meaning.{body};
 ghost use Rattle.js_image.specs.Held.{IsConfined, Kept};
 ghost use Rattle.js_names.specs.Code.{trees_of};
@@ -8,6 +8,7 @@ ghost use Rattle.js_flow.specs.Frames.{Plans, taken};
 ghost use Rattle.js_flow.specs.Fine.{FineCompletion, FineFrame, FineJob, FineLeft};
 ghost use Rattle.js_flow.specs.Free.{frame_free, job_weight, left_free};
 ghost use Rattle.js_flow.specs.Left.{all_frames};
+ghost use Rattle.js_steps.specs.Charges.{is_of_ids};
 
 use code_units::Memory;
 use js_calls::{call, take_call};
@@ -45,6 +46,44 @@ pub(crate) fn begin_job(
         Job::Call(parts) => call(flow, alloc, w, codes, store, parts),
         Job::RunNative(native) => Ok(flow.call_native(native)),
     }
+}
+
+/// The same of a job of ids alone, which is not moved.
+pub(crate) fn begin_ids(
+    flow: &mut Flow,
+    alloc: Global,
+    w: u32,
+    codes: &Vec<Code>,
+    store: &mut Store,
+    job: &Job,
+) -> Result<(), Memory>
+    requires ids { is_of_ids job.now ≡ true }
+    requires widget { w < 32 }
+    requires confined { IsConfined (trees_of codes.now.items) w store.old }
+    requires held { FineJob (trees_of codes.now.items) w store.old.cells job.now }
+    ensures plan { OnOk result (Plans (trees_of codes.now.items) w store.old store.new (body (job_of (trees_of codes.now.items) w store.old.cells job.now)) flow.new) }
+    ensures fine { OnOk result (FineLeft (trees_of codes.now.items) w store.new.cells flow.new) }
+    ensures near { OnOk result (left_free flow.new ≤ job_weight job.now) }
+    ensures kept { Kept (trees_of codes.now.items) w store.old store.new }
+    ensures below { OnOk result (flow.new.below ≡ all_frames flow.old) }
+{
+    match job {
+        Job::Eval(id, place) => eval(flow, alloc, w, codes, store, *id, *place),
+        Job::Target(id, place) => target(flow, alloc, w, codes, store, *id, *place),
+        Job::Exec(id, place) => exec(flow, codes, *id, *place),
+        Job::Pass(id, place) => pass(flow, codes, *id, *place),
+        _ => unreachable!(),
+    }
+}
+
+/// Whether a job holds ids alone.
+pub(crate) fn is_of_ids(job: &Job) -> bool
+    ensures { result ≡ is_of_ids job.now }
+{
+    matches!(
+        job,
+        Job::Eval(_, _) | Job::Target(_, _) | Job::Exec(_, _) | Job::Pass(_, _)
+    )
 }
 
 /// What a frame does with how its part ended.

@@ -1,5 +1,5 @@
 //! The machine: one step, with its frames and its fuel.
-ghost use Rattle.std.specs.Prelude.{◌≡◌, ◌+◌, ◌*◌, ◌-◌, ◌<◌, ◌≤◌, IfOk, IsFalse, IsTrue, List, OnOk, true, length};
+ghost use Rattle.std.specs.Prelude.{◌≡◌, ℕ, ◌+◌, ◌*◌, ◌-◌, ◌<◌, ◌≤◌, IfOk, IsFalse, IsTrue, List, OnOk, true, length};
 ghost use Rattle.js_tree.specs.Forest.{Forest};
 ghost use Rattle.store_cells.specs.Cells.{PlainCell};
 ghost use Rattle.widget_meaning.specs.OwnState.{State};
@@ -14,16 +14,16 @@ ghost use Rattle.js_flow.specs.Parts.{IsBlock, forest_at};
 ghost use Rattle.js_flow.specs.Statements.{block_at};
 ghost use Rattle.js_flow.specs.Frames.{flow_plan, rest};
 ghost use Rattle.js_flow.specs.Fine.{FineCompletion, FineControl, FineFlow, FineFrames, FineJob, FineStepped};
-ghost use Rattle.js_steps.specs.Charges.{after_charge, charge_of};
+ghost use Rattle.js_steps.specs.Charges.{after_charge, charge_of, starts_in_place};
 ghost use Rattle.js_flow.specs.Free.{control_free, flow_free, free, frames_free, job_weight, native_free};
 ghost use Rattle.js_steps.specs.Ending.{EndsCall, EndsSo, IfNative, IsNative};
 ghost use Rattle.js_flow.specs.Todo.{Follows, IfOutOfFuel, IsGoing, IsNotFuel, Moves, after_step, todo};
 
-use crate::jobs::{begin_job, take};
+use crate::jobs::{begin_ids, begin_job, is_of_ids, take};
 use crate::stack::leave;
 use crate::task::Task;
 use code_units::Memory;
-use js_flow::{Block, Completion, Control, Flow, Job, Next, Place, Stepped};
+use js_flow::{Block, Completion, Control, Flow, Frame, Job, Next, Place, Stepped};
 use js_names::Code;
 use js_statements::begin_block;
 use js_values::Meter;
@@ -31,13 +31,13 @@ use object_store::Store;
 use std::alloc::Global;
 use std::mem;
 
-// What the task is at. The old one is dropped here alone.
+// What the task is at. The old one was taken out or owns nothing, so there is nothing to end.
 pub(crate) fn set(task: &mut Task, control: Control)
     ensures control { task.new.control ≡ control }
     ensures frames { task.new.frames ≡ task.old.frames }
     ensures widget { task.new.widget ≡ task.old.widget }
 {
-    task.control = control;
+    mem::forget(mem::replace(&mut task.control, control));
 }
 
 fn take_control(task: &mut Task) -> Control
@@ -61,9 +61,17 @@ pub(crate) fn take_flow(alloc: Global, task: &mut Task) -> Flow
     Flow::new(frames)
 }
 
+// The frames of the task. The list that a flow left has none, so there is nothing to end.
+fn put_frames(task: &mut Task, frames: Vec<Frame>)
+    ensures frames { task.new.frames.list.items ≡ frames.items }
+    ensures control { task.new.control ≡ task.old.control }
+    ensures widget { task.new.widget ≡ task.old.widget }
+{
+    mem::forget(mem::replace(&mut task.frames.list, frames));
+}
+
 /// The frames go back to the task, and what is next is what it is at.
 pub(crate) fn put(task: &mut Task, flow: Flow) -> Stepped
-    requires over { task.old.control ≡ Control.Over }
     requires settled { IsSettled flow flow.next }
     ensures plan { (fs : List Forest) (w : ℕ) (cells : List PlainCell) (s : State)
         → after_step fs w cells result task.new.control task.new.frames.list.items s ≡ flow_plan fs w cells flow s }
@@ -76,7 +84,7 @@ pub(crate) fn put(task: &mut Task, flow: Flow) -> Stepped
     ensures native { IfNative result (IsNative flow.next × (task.new.frames.list.items ≡ all_frames flow)) }
 {
     let (frames, next) = flow.into_parts();
-    task.frames.list = frames;
+    put_frames(task, frames);
     match next {
         Next::Go(job) => {
             set(task, Control::Do(job));
@@ -90,8 +98,14 @@ pub(crate) fn put(task: &mut Task, flow: Flow) -> Stepped
             set(task, Control::Waits(native.depth));
             Stepped::Native(native)
         }
-        Next::Stop(cause) => Stepped::Stop(cause),
-        Next::Done(how) => Stepped::Done(how),
+        Next::Stop(cause) => {
+            set(task, Control::Over);
+            Stepped::Stop(cause)
+        }
+        Next::Done(how) => {
+            set(task, Control::Over);
+            Stepped::Done(how)
+        }
         _ => unreachable!(),
     }
 }
@@ -188,6 +202,73 @@ fn give(
 
 // What a task is at, once its charge was taken.
 fn start(
+    flow: &mut Flow,
+    alloc: Global,
+    w: u32,
+    codes: &Vec<Code>,
+    store: &mut Store,
+    task: &mut Task,
+) -> Result<(), Memory>
+    requires going { IsGoing task.old.control }
+    requires widget { w < 32 }
+    requires confined { IsConfined (trees_of codes.now.items) w store.old }
+    requires held { FineControl (trees_of codes.now.items) w store.old.cells task.old.control × FineFrames (trees_of codes.now.items) w store.old.cells (all_frames flow.old) }
+    ensures plan { let F = trees_of codes.now.items in OnOk result ((r : Rest) → flow_plan F w store.new.cells flow.new (image F r w store.new)
+        ≡ todo F w store.old.cells (after_charge task.old.control) (all_frames flow.old) (image F r w store.old)) }
+    ensures fine { OnOk result (FineFlow (trees_of codes.now.items) w store.new.cells flow.new) }
+    ensures near { OnOk result (flow_free flow.new < free (after_charge task.old.control) (all_frames flow.old)) }
+    ensures native { OnOk result (IsNative flow.new.next → (native_free < control_free (after_charge task.old.control)) × (all_frames flow.new ≡ all_frames flow.old)) }
+    ensures kept { Kept (trees_of codes.now.items) w store.old store.new }
+    ensures widget { task.new.widget ≡ task.old.widget }
+{
+    if starts_in_place(&task.control) {
+        return start_in_place(flow, alloc, w, codes, store, &task.control);
+    }
+    let control = take_control(task);
+    start_taken(flow, alloc, w, codes, store, control)
+}
+
+// A job of ids alone is not moved.
+fn start_in_place(
+    flow: &mut Flow,
+    alloc: Global,
+    w: u32,
+    codes: &Vec<Code>,
+    store: &mut Store,
+    control: &Control,
+) -> Result<(), Memory>
+    requires plain { starts_in_place control.now ≡ true }
+    requires widget { w < 32 }
+    requires confined { IsConfined (trees_of codes.now.items) w store.old }
+    requires held { FineControl (trees_of codes.now.items) w store.old.cells control.now × FineFrames (trees_of codes.now.items) w store.old.cells (all_frames flow.old) }
+    ensures plan { let F = trees_of codes.now.items in OnOk result ((r : Rest) → flow_plan F w store.new.cells flow.new (image F r w store.new)
+        ≡ todo F w store.old.cells (after_charge control.now) (all_frames flow.old) (image F r w store.old)) }
+    ensures fine { OnOk result (FineFlow (trees_of codes.now.items) w store.new.cells flow.new) }
+    ensures near { OnOk result (flow_free flow.new < free (after_charge control.now) (all_frames flow.old)) }
+    ensures native { OnOk result (IsNative flow.new.next → (native_free < control_free (after_charge control.now)) × (all_frames flow.new ≡ all_frames flow.old)) }
+    ensures kept { Kept (trees_of codes.now.items) w store.old store.new }
+{
+    match control {
+        Control::Do(job) => {
+            begin_ids(flow, alloc, w, codes, store, job)?;
+            Ok(())
+        }
+        _ => unreachable!(),
+    }
+}
+
+// Whether it is a job of ids alone.
+fn starts_in_place(control: &Control) -> bool
+    ensures { result ≡ starts_in_place control.now }
+{
+    match control {
+        Control::Do(job) => is_of_ids(job),
+        _ => false,
+    }
+}
+
+// The same where it is taken out.
+fn start_taken(
     flow: &mut Flow,
     alloc: Global,
     w: u32,
@@ -291,9 +372,8 @@ fn paid_step(
     ensures light { IfOk result (λ k. control_free task.new.control ≤ native_free) }
     ensures native { IfOk result (λ k. IfNative k ((native_free < control_free (after_charge task.old.control)) × (task.new.frames.list.items ≡ task.old.frames.list.items))) }
 {
-    let control = take_control(task);
     let mut flow = take_flow(alloc, task);
-    start(&mut flow, alloc, w, codes, store, control)?;
+    start(&mut flow, alloc, w, codes, store, task)?;
     settle(&mut flow, alloc, w, codes, store)?;
     Ok(put(task, flow))
 }

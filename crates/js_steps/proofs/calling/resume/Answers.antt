@@ -1,4 +1,4 @@
-use Rattle.std.proofs.Common.{◌≡◌, ℕ, ◌+◌, List, ap, arith, sym, ◌∙◌, subst}
+use Rattle.std.proofs.Common.{◌≡◌, ℕ, ◌+◌, ap, arith, sym, ◌∙◌, subst}
 use Rattle.widget_meaning.specs.Plan.{and_then}
 use Rattle.js_image.specs.Image.{image}
 use Rattle.js_image.proofs.Units.{kept_then}
@@ -95,7 +95,7 @@ returns-clause-held c =
     ∙ plan_all fs w old.cells mid.cells c.answer.new.flow (image fs r w mid) frames _ below (c.in_ok-answer.ensures.plan (λ n. n) r) stay))
     c.put-step.ensures.follows.0 c.put-step.ensures.follows.1 c.put-step.ensures.light
     (if_native c.put-step.result _ _ (λ x. left_light c.answer.new.flow c.in_ok-answer.ensures.near (c.in_ok-settle.ensures.native x.0).0) c.put-step.ensures.native) in
-    ((held.0, held.1.0, ends.0), fine_as c.answered.result _ c.answered.ensures fs w new.cells held.1.1)
+    ((held.0, held.1, ends.0), fine_as c.answered.result _ c.answered.ensures fs w new.cells held.2)
 
 pub returns-clause-kept : goal.returns-clause-kept
 returns-clause-kept c =
