@@ -76,7 +76,8 @@ pub(crate) fn put(task: &mut Task, flow: Flow) -> Stepped
     ensures plan { (fs : List Forest) (w : ℕ) (cells : List PlainCell) (s : State)
         → after_step fs w cells result task.new.control task.new.frames.list.items s ≡ flow_plan fs w cells flow s }
     ensures fine { (fs : List Forest) (w : ℕ) (cells : List PlainCell) → FineFlow fs w cells flow
-        → FineControl fs w cells task.new.control × FineFrames fs w cells task.new.frames.list.items × FineStepped fs w cells result }
+        → FineControl fs w cells task.new.control × FineFrames fs w cells task.new.frames.list.items
+        × FineStepped fs w cells result }
     ensures follows { Follows result task.new.control × IsNotFuel result }
     ensures near { free task.new.control task.new.frames.list.items ≤ flow_free flow }
     ensures widget { task.new.widget ≡ task.old.widget }
@@ -112,7 +113,8 @@ pub(crate) fn put(task: &mut Task, flow: Flow) -> Stepped
 
 // Whether so many units are there, which are then taken.
 fn pay(meter: &mut Meter, units: usize) -> bool
-    ensures yes { IsTrue result → (units ≤ meter.old.left) × (meter.new.left + units ≡ meter.old.left) × (meter.new.spent ≡ meter.old.spent + units) }
+    ensures yes { IsTrue result → (units ≤ meter.old.left) × (meter.new.left + units ≡ meter.old.left)
+        × (meter.new.spent ≡ meter.old.spent + units) }
     ensures no { IsFalse result → (meter.old.left < units) × (meter.new ≡ meter.old) }
 {
     let left = meter.left();
@@ -144,12 +146,15 @@ fn begin(
 ) -> Result<(), Memory>
     requires widget { w < 32 }
     requires confined { IsConfined (trees_of codes.now.items) w store.old }
-    requires held { FineJob (trees_of codes.now.items) w store.old.cells job × FineFrames (trees_of codes.now.items) w store.old.cells (all_frames flow.old) }
-    ensures plan { let F = trees_of codes.now.items in OnOk result ((r : Rest) → flow_plan F w store.new.cells flow.new (image F r w store.new)
+    requires held { FineJob (trees_of codes.now.items) w store.old.cells job
+        × FineFrames (trees_of codes.now.items) w store.old.cells (all_frames flow.old) }
+    ensures plan { let F = trees_of codes.now.items in OnOk result ((r : Rest)
+        → flow_plan F w store.new.cells flow.new (image F r w store.new)
         ≡ todo F w store.old.cells (Control.Begin job) (all_frames flow.old) (image F r w store.old)) }
     ensures fine { OnOk result (FineFlow (trees_of codes.now.items) w store.new.cells flow.new) }
     ensures near { OnOk result (flow_free flow.new < free (Control.Begin job) (all_frames flow.old)) }
-    ensures native { OnOk result (IsNative flow.new.next → (native_free ≤ job_weight job) × (all_frames flow.new ≡ all_frames flow.old)) }
+    ensures native { OnOk result (IsNative flow.new.next → (native_free ≤ job_weight job)
+        × (all_frames flow.new ≡ all_frames flow.old)) }
     ensures kept { Kept (trees_of codes.now.items) w store.old store.new }
 {
     begin_job(flow, alloc, w, codes, store, job)?;
@@ -160,10 +165,12 @@ fn begin(
 fn run(flow: &mut Flow, codes: &Vec<Code>, block: Block, place: Place) -> Result<(), Memory>
     requires code { place.code < length (trees_of codes.now.items) }
     requires block { IsBlock (forest_at (trees_of codes.now.items) place.code) block }
-    ensures plan { OnOk result ((w : ℕ) (cells : List PlainCell) (s : State) → flow_plan (trees_of codes.now.items) w cells flow.new s
+    ensures plan { OnOk result ((w : ℕ) (cells : List PlainCell) (s : State)
+        → flow_plan (trees_of codes.now.items) w cells flow.new s
         ≡ and_then (block_at (trees_of codes.now.items) w cells block 0 place s) (rest (trees_of codes.now.items) w cells (all_frames flow.old))) }
     ensures fine { OnOk result ((w : ℕ) (cells : List PlainCell) → IsPlaceScope w cells place.scope
-        → FineFrames (trees_of codes.now.items) w cells (all_frames flow.old) → FineFlow (trees_of codes.now.items) w cells flow.new) }
+        → FineFrames (trees_of codes.now.items) w cells (all_frames flow.old)
+        → FineFlow (trees_of codes.now.items) w cells flow.new) }
     ensures near { OnOk result (flow_free flow.new < 2 + frames_free (all_frames flow.old)) }
     ensures native { OnOk result (IsNative flow.new.next → ⊥) }
 {
@@ -182,8 +189,10 @@ fn give(
 ) -> Result<(), Memory>
     requires widget { w < 32 }
     requires confined { IsConfined (trees_of codes.now.items) w store.old }
-    requires held { FineCompletion w store.old.cells how × FineFrames (trees_of codes.now.items) w store.old.cells (all_frames flow.old) }
-    ensures plan { let F = trees_of codes.now.items in OnOk result ((r : Rest) → flow_plan F w store.new.cells flow.new (image F r w store.new)
+    requires held { FineCompletion w store.old.cells how
+        × FineFrames (trees_of codes.now.items) w store.old.cells (all_frames flow.old) }
+    ensures plan { let F = trees_of codes.now.items in OnOk result ((r : Rest)
+        → flow_plan F w store.new.cells flow.new (image F r w store.new)
         ≡ todo F w store.old.cells (Control.Give how) (all_frames flow.old) (image F r w store.old)) }
     ensures fine { OnOk result (FineFlow (trees_of codes.now.items) w store.new.cells flow.new) }
     ensures near { OnOk result (flow_free flow.new < free (Control.Give how) (all_frames flow.old)) }
@@ -212,12 +221,15 @@ fn start(
     requires going { IsGoing task.old.control }
     requires widget { w < 32 }
     requires confined { IsConfined (trees_of codes.now.items) w store.old }
-    requires held { FineControl (trees_of codes.now.items) w store.old.cells task.old.control × FineFrames (trees_of codes.now.items) w store.old.cells (all_frames flow.old) }
-    ensures plan { let F = trees_of codes.now.items in OnOk result ((r : Rest) → flow_plan F w store.new.cells flow.new (image F r w store.new)
+    requires held { FineControl (trees_of codes.now.items) w store.old.cells task.old.control
+        × FineFrames (trees_of codes.now.items) w store.old.cells (all_frames flow.old) }
+    ensures plan { let F = trees_of codes.now.items in OnOk result ((r : Rest)
+        → flow_plan F w store.new.cells flow.new (image F r w store.new)
         ≡ todo F w store.old.cells (after_charge task.old.control) (all_frames flow.old) (image F r w store.old)) }
     ensures fine { OnOk result (FineFlow (trees_of codes.now.items) w store.new.cells flow.new) }
     ensures near { OnOk result (flow_free flow.new < free (after_charge task.old.control) (all_frames flow.old)) }
-    ensures native { OnOk result (IsNative flow.new.next → (native_free < control_free (after_charge task.old.control)) × (all_frames flow.new ≡ all_frames flow.old)) }
+    ensures native { OnOk result (IsNative flow.new.next
+        → (native_free < control_free (after_charge task.old.control)) × (all_frames flow.new ≡ all_frames flow.old)) }
     ensures kept { Kept (trees_of codes.now.items) w store.old store.new }
     ensures widget { task.new.widget ≡ task.old.widget }
 {
@@ -240,12 +252,15 @@ fn start_in_place(
     requires plain { starts_in_place control.now ≡ true }
     requires widget { w < 32 }
     requires confined { IsConfined (trees_of codes.now.items) w store.old }
-    requires held { FineControl (trees_of codes.now.items) w store.old.cells control.now × FineFrames (trees_of codes.now.items) w store.old.cells (all_frames flow.old) }
-    ensures plan { let F = trees_of codes.now.items in OnOk result ((r : Rest) → flow_plan F w store.new.cells flow.new (image F r w store.new)
+    requires held { FineControl (trees_of codes.now.items) w store.old.cells control.now
+        × FineFrames (trees_of codes.now.items) w store.old.cells (all_frames flow.old) }
+    ensures plan { let F = trees_of codes.now.items in OnOk result ((r : Rest)
+        → flow_plan F w store.new.cells flow.new (image F r w store.new)
         ≡ todo F w store.old.cells (after_charge control.now) (all_frames flow.old) (image F r w store.old)) }
     ensures fine { OnOk result (FineFlow (trees_of codes.now.items) w store.new.cells flow.new) }
     ensures near { OnOk result (flow_free flow.new < free (after_charge control.now) (all_frames flow.old)) }
-    ensures native { OnOk result (IsNative flow.new.next → (native_free < control_free (after_charge control.now)) × (all_frames flow.new ≡ all_frames flow.old)) }
+    ensures native { OnOk result (IsNative flow.new.next → (native_free < control_free (after_charge control.now))
+        × (all_frames flow.new ≡ all_frames flow.old)) }
     ensures kept { Kept (trees_of codes.now.items) w store.old store.new }
 {
     match control {
@@ -279,12 +294,15 @@ fn start_taken(
     requires going { IsGoing control }
     requires widget { w < 32 }
     requires confined { IsConfined (trees_of codes.now.items) w store.old }
-    requires held { FineControl (trees_of codes.now.items) w store.old.cells control × FineFrames (trees_of codes.now.items) w store.old.cells (all_frames flow.old) }
-    ensures plan { let F = trees_of codes.now.items in OnOk result ((r : Rest) → flow_plan F w store.new.cells flow.new (image F r w store.new)
+    requires held { FineControl (trees_of codes.now.items) w store.old.cells control
+        × FineFrames (trees_of codes.now.items) w store.old.cells (all_frames flow.old) }
+    ensures plan { let F = trees_of codes.now.items in OnOk result ((r : Rest)
+        → flow_plan F w store.new.cells flow.new (image F r w store.new)
         ≡ todo F w store.old.cells (after_charge control) (all_frames flow.old) (image F r w store.old)) }
     ensures fine { OnOk result (FineFlow (trees_of codes.now.items) w store.new.cells flow.new) }
     ensures near { OnOk result (flow_free flow.new < free (after_charge control) (all_frames flow.old)) }
-    ensures native { OnOk result (IsNative flow.new.next → (native_free < control_free (after_charge control)) × (all_frames flow.new ≡ all_frames flow.old)) }
+    ensures native { OnOk result (IsNative flow.new.next → (native_free < control_free (after_charge control))
+        × (all_frames flow.new ≡ all_frames flow.old)) }
     ensures kept { Kept (trees_of codes.now.items) w store.old store.new }
 {
     match control {
@@ -308,7 +326,8 @@ fn go_on(
     requires widget { w < 32 }
     requires confined { IsConfined (trees_of codes.now.items) w store.old }
     requires held { FineFlow (trees_of codes.now.items) w store.old.cells flow.old }
-    ensures plan { let F = trees_of codes.now.items in OnOk result ((r : Rest) → flow_plan F w store.new.cells flow.new (image F r w store.new)
+    ensures plan { let F = trees_of codes.now.items in OnOk result ((r : Rest)
+        → flow_plan F w store.new.cells flow.new (image F r w store.new)
         ≡ flow_plan F w store.old.cells flow.old (image F r w store.old)) }
     ensures fine { OnOk result (FineFlow (trees_of codes.now.items) w store.new.cells flow.new) }
     ensures near { OnOk result (flow_free flow.new < flow_free flow.old) }
@@ -334,12 +353,14 @@ pub(crate) fn settle(
     requires widget { w < 32 }
     requires confined { IsConfined (trees_of codes.now.items) w store.old }
     requires held { FineFlow (trees_of codes.now.items) w store.old.cells flow.old }
-    ensures plan { let F = trees_of codes.now.items in OnOk result ((r : Rest) → flow_plan F w store.new.cells flow.new (image F r w store.new)
+    ensures plan { let F = trees_of codes.now.items in OnOk result ((r : Rest)
+        → flow_plan F w store.new.cells flow.new (image F r w store.new)
         ≡ flow_plan F w store.old.cells flow.old (image F r w store.old)) }
     ensures fine { OnOk result (FineFlow (trees_of codes.now.items) w store.new.cells flow.new) }
     ensures near { OnOk result (flow_free flow.new ≤ flow_free flow.old) }
     ensures settled { OnOk result (IsSettled flow.new flow.new.next) }
-    ensures native { OnOk result (IsNative flow.new.next → IsNative flow.old.next × (all_frames flow.new ≡ all_frames flow.old)) }
+    ensures native { OnOk result (IsNative flow.new.next → IsNative flow.old.next
+        × (all_frames flow.new ≡ all_frames flow.old)) }
     ensures kept { Kept (trees_of codes.now.items) w store.old store.new }
 {
     'down: while flow.is_free() {
@@ -359,7 +380,8 @@ fn paid_step(
     requires going { IsGoing task.old.control }
     requires widget { w < 32 }
     requires confined { IsConfined (trees_of codes.now.items) w store.old }
-    requires held { FineControl (trees_of codes.now.items) w store.old.cells task.old.control × FineFrames (trees_of codes.now.items) w store.old.cells task.old.frames.list.items }
+    requires held { FineControl (trees_of codes.now.items) w store.old.cells task.old.control
+        × FineFrames (trees_of codes.now.items) w store.old.cells task.old.frames.list.items }
     ensures plan { let F = trees_of codes.now.items in IfOk result (λ k. (r : Rest)
         → after_step F w store.new.cells k task.new.control task.new.frames.list.items (image F r w store.new)
         ≡ todo F w store.old.cells (after_charge task.old.control) task.old.frames.list.items (image F r w store.old)) }
@@ -370,7 +392,8 @@ fn paid_step(
     ensures near { IfOk result (λ k. free task.new.control task.new.frames.list.items < free (after_charge task.old.control) task.old.frames.list.items) }
     ensures widget { task.new.widget ≡ task.old.widget }
     ensures light { IfOk result (λ k. control_free task.new.control ≤ native_free) }
-    ensures native { IfOk result (λ k. IfNative k ((native_free < control_free (after_charge task.old.control)) × (task.new.frames.list.items ≡ task.old.frames.list.items))) }
+    ensures native { IfOk result (λ k. IfNative k ((native_free < control_free (after_charge task.old.control))
+        × (task.new.frames.list.items ≡ task.old.frames.list.items))) }
 {
     let mut flow = take_flow(alloc, task);
     start(&mut flow, alloc, w, codes, store, task)?;
@@ -390,9 +413,11 @@ pub(crate) fn step_for(
     requires going { IsGoing task.old.control }
     requires widget { w < 32 }
     requires confined { IsConfined (trees_of codes.now.items) w store.old }
-    requires held { FineControl (trees_of codes.now.items) w store.old.cells task.old.control × FineFrames (trees_of codes.now.items) w store.old.cells task.old.frames.list.items }
+    requires held { FineControl (trees_of codes.now.items) w store.old.cells task.old.control
+        × FineFrames (trees_of codes.now.items) w store.old.cells task.old.frames.list.items }
     requires call { EndsCall (trees_of codes.now.items) w store.old task.old.control task.old.frames.list.items }
-    ensures moves { let F = trees_of codes.now.items in IfOk result (λ k. (r : Rest) → Moves (meter.old.left - meter.new.left) (image F r w store.old)
+    ensures moves { let F = trees_of codes.now.items in IfOk result (λ k. (r : Rest)
+        → Moves (meter.old.left - meter.new.left) (image F r w store.old)
         (todo F w store.old.cells task.old.control task.old.frames.list.items (image F r w store.old))
         (after_step F w store.new.cells k task.new.control task.new.frames.list.items (image F r w store.new))) }
     ensures follows { IfOk result (λ k. Follows k task.new.control) }
@@ -401,9 +426,12 @@ pub(crate) fn step_for(
     ensures kept { Kept (trees_of codes.now.items) w store.old store.new }
     ensures fuel { let F = trees_of codes.now.items in IfOk result (λ k. IfOutOfFuel k ((task.new ≡ task.old)
         × (store.new ≡ store.old) × (meter.new ≡ meter.old) × ((r : Rest) → run_plan meter.old.left
-        (todo F w store.old.cells task.old.control task.old.frames.list.items (image F r w store.old)) ≡ out_of_fuel (image F r w store.old) meter.old.left))) }
-    ensures spends { (meter.new.left ≤ meter.old.left) × (meter.new.left + meter.new.spent ≡ meter.old.left + meter.old.spent) }
-    ensures near { IfOk result (λ k. IsNotFuel k → 32 * meter.new.left + free task.new.control task.new.frames.list.items < 32 * meter.old.left + free task.old.control task.old.frames.list.items) }
+        (todo F w store.old.cells task.old.control task.old.frames.list.items (image F r w store.old))
+        ≡ out_of_fuel (image F r w store.old) meter.old.left))) }
+    ensures spends { (meter.new.left ≤ meter.old.left)
+        × (meter.new.left + meter.new.spent ≡ meter.old.left + meter.old.spent) }
+    ensures near { IfOk result (λ k. IsNotFuel k
+        → 32 * meter.new.left + free task.new.control task.new.frames.list.items < 32 * meter.old.left + free task.old.control task.old.frames.list.items) }
     ensures widget { task.new.widget ≡ task.old.widget }
     ensures call { IfOk result (λ k. EndsCall (trees_of codes.now.items) w store.new task.new.control task.new.frames.list.items × EndsSo k) }
 {
