@@ -17,8 +17,8 @@ returns-in_default-clause-plan c =
 pub returns-in_default-clause-fine : goal.returns-in_default-clause-fine
 returns-in_default-clause-fine c = IfOk-weaker c.go_on.result _ _ (λ n h. h (trees_of c.args.codes.now.items) c.args.w c.args.store.now.cells c.requires.held.0 c.requires.held.1) c.go_on.ensures.fine
 
-pub go_on-requires-clause-simple : goal.go_on-requires-clause-simple
-go_on-requires-clause-simple c = goes c.args.frame.now refl
+pub go_on-requires : goal.go_on-requires
+go_on-requires c = record { simple = goes c.args.frame.now refl }
   where
     goes : (f : FormFrame) → c.args.frame.now ≡ f → GoesOn f
     goes (frame.Dot x) e = absurd (c.in_default.not-Dot x e)
