@@ -6,6 +6,7 @@ ghost use Rattle.std.specs.Option.{option_and_then, option_map_or};
 ghost use Rattle.std.specs.Str.{bytes_eq};
 ghost use Rattle.code_units.specs.Indices.{index_of};
 ghost use Rattle.code_units.specs.Permitted.{is_permitted};
+ghost use Rattle.code_units.specs.Whole.{is_numeral};
 ghost use Rattle.keyed_names.specs.Interned.{Interns, IsTable};
 ghost use Rattle.property_names.specs.Seen.{HasWords, first_keys, place_of, ruled_index, ruled_number, shifted};
 
@@ -39,10 +40,24 @@ impl Model for PropertyNames {
     ghost invariant = { λ t. AreOthers t.names };
 }
 
+// Whether a name begins as an index does. Most names do not, and are looked at no further.
+#[inline]
+fn begins_with_digit(units: &[u16]) -> bool
+    ensures { result ≡ false → is_numeral 10 units.now ≡ false }
+{
+    match units.first() {
+        Some(unit) => (48..=57).contains(unit),
+        None => false,
+    }
+}
+
 // The index that a name is, where it has its number by rule.
 fn ruled(name: &Text) -> Option<u32>
     ensures { result ≡ ruled_index name.now }
 {
+    if !begins_with_digit(name.units()) {
+        return None;
+    }
     match index_of(name) {
         Some(i) if i < RULED => Some(i),
         _ => None,
