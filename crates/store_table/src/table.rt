@@ -1,5 +1,5 @@
 //! What the store does, on its list of cells by number.
-ghost use Rattle.std.specs.Prelude.{◌≡◌, ◌+◌, ◌<◌, ◌≤◌, [], ◌∷◌, ◌++◌, None, Some, false, nat_eq, length, map, vec_len, slice_get, option_copied, IfOk, IfSome, OnErr, OnOk, MatchOption, true};
+ghost use Rattle.std.specs.Prelude.{◌≡◌, ◌+◌, ◌<◌, [], ◌∷◌, ◌++◌, None, Some, false, nat_eq, length, map, vec_len, slice_get, option_copied, IfOk, IfSome, OnErr, OnOk, MatchOption, true};
 ghost use Rattle.std.specs.List.{IsDistinct, fold};
 ghost use Rattle.std.specs.Map.{lookup};
 ghost use Rattle.std.specs.Str.{bytes_eq};
@@ -9,7 +9,7 @@ ghost use Rattle.store_cells.specs.Arrays.{end_of, without, written};
 ghost use Rattle.store_cells.specs.Born.{filled_cell, with_pair};
 ghost use Rattle.store_cells.specs.Cells.{is_array};
 ghost use Rattle.store_cells.specs.Lists.{changed};
-ghost use Rattle.store_cells.specs.Numbered.{Grown, IsNumberOf, by_plan, found_in, heads, numbered_along, numbered_has_at, numbered_holder, numbered_own, numbered_two, numbered_written, plain, references_in};
+ghost use Rattle.store_cells.specs.Numbered.{Grown, IsNumberOf, by_plan, found_in, heads, numbered_along, numbered_has_at, numbered_holder, numbered_two, numbered_written, plain, references_in};
 ghost use Rattle.store_cells.specs.Shape.{Added, AreRefs, Grew, IsBase, IsFine, IsIndexed, IsOrdered, IsPlanned, IsRefWithin, IsTakeable, IsVariable, Kept, Known, Wrote, head_on, links_at, scope_head};
 
 use code_units::{Memory, Owner, Text, index_of};
@@ -72,14 +72,24 @@ pub fn holder(cells: &Vec<Cell>, from: CellId, n: u32) -> Option<CellId>
 pub fn found(cells: &Vec<Cell>, from: CellId, n: u32) -> Option<&Value>
     ensures { option_copied result ≡ numbered_along cells.now.items from n }
 {
-    let i = holder(cells, from, n)?;
-    own_at(cells, i, n)
+    found_on(cells, from, n)
 }
 
-fn own_at(cells: &Vec<Cell>, i: CellId, n: u32) -> Option<&Value>
-    ensures { option_copied result ≡ numbered_own cells.now.items n i }
+// The first value under the name, from one cell on upwards.
+#[tactic(auto, using(crate::proofs::Climb::along_none, crate::proofs::Climb::along_out, crate::proofs::Climb::along_own, crate::proofs::Climb::along_up, crate::proofs::Climb::along_over))]
+fn found_on(cells: &[Cell], from: CellId, n: u32) -> Option<&Value>
+    ensures { option_copied result ≡ numbered_along cells.now from n }
 {
-    cell_on(cells, i)?.own(n)
+    let mut at = Some(from);
+    for _k in 0..cells.len() {
+        let cell = cell_on(cells, at?)?;
+        let own = cell.own(n);
+        if own.is_some() {
+            return own;
+        }
+        at = cell.head().up;
+    }
+    None
 }
 
 /// The cell at a place.
