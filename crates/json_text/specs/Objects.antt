@@ -1,8 +1,6 @@
 -- What a value of the store is, as JSON has it.
 use Rattle.std.specs.Prelude.{ℕ, Bool, true, false, List, [], Option, None, Some, ◌&&◌, is_some, if◌then◌else◌, slice_get}
 use Rattle.std.specs.Option.{option_map_or}
-use Rattle.store_cells.specs.declared.kind.Form.{Form}
-use Rattle.store_cells.specs.declared.kind.Form.TheVariants as form
 use Rattle.store_cells.specs.declared.kind.CellKind.{CellKind}
 use Rattle.store_cells.specs.declared.kind.CellKind.TheVariants as kind
 use Rattle.store_cells.specs.declared.value.Value.{Value}

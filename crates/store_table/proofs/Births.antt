@@ -1,6 +1,6 @@
 -- A Bunch is added with its hidden Array.
 use Rattle.std.proofs.Common.{◌≡◌, ℕ, zero, suc, ◌+◌, ◌<◌, ◌≤◌, List, [], ◌∷◌, ◌++◌, length, map, refl, sym, ap, ◌∙◌, subst, Option, Some, None, arith, Bool, true, false, eqb, if◌then◌else◌, slice_get, is_some, length-append}
-use Rattle.std.specs.Prelude.{Result, Ok, Err, OnErr, ◌&&◌, unwrap_or}
+use Rattle.std.specs.Prelude.{◌&&◌, unwrap_or}
 use Rattle.std.specs.List.{IsDistinct, list_all, count_by}
 use Rattle.std.specs.Map.{lookup}
 use Rattle.std.specs.Option.{option_and_then, option_map_or}
@@ -14,11 +14,11 @@ use Rattle.store_cells.specs.declared.cell.Head.{Head}
 use Rattle.store_cells.specs.declared.counts.Counts.{Counts}
 use Rattle.store_cells.specs.Lists.{changed}
 use Rattle.store_cells.specs.Cells.{Cells, PlainCell, is_bunch, is_raw, kept_cells, node_in, prototypes}
-use Rattle.store_cells.specs.Arrays.{length_name, nodes_name, count_value}
+use Rattle.store_cells.specs.Arrays.{nodes_name}
 use Rattle.store_cells.specs.Bunches.{AreCellsOf, IsBunch, bunch_cell, hidden_array, node_at}
 use Rattle.store_cells.specs.Host.{AreHost, array_prototype, bunch_prototype, host_count}
 use Rattle.store_cells.specs.Numbered.{NumberedCell, Grown, plain, name_at, cells_of, heads, own_head}
-use Rattle.store_cells.specs.Shape.{AreClosed, AreFine, AreOrdered, AreRaws, AreWithin, AreWords, GrewBunch, IsBase, IsArrayOf, IsFine, IsOrdered, IsShape, Kept, head_on, bunch_at, hidden_head, links_at, scope_at}
+use Rattle.store_cells.specs.Shape.{AreClosed, AreFine, AreOrdered, AreRaws, AreWithin, AreWords, GrewBunch, IsBase, IsArrayOf, IsFine, IsOrdered, IsShape, head_on, bunch_at, hidden_head, links_at, scope_at}
 use Rattle.store_cells.specs.Born.{HaveCells, bunch_cells, made, node_place, raw_place}
 use Rattle.store_cells.specs.Costs.{paid}
 use Rattle.store_cells.proofs.Lists.{by_push, get_within, count_by-push, length-changed}

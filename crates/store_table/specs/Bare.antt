@@ -14,7 +14,7 @@ use Rattle.permitted_table.specs.declared.native.HostEntry.TheVariants as entry
 use Rattle.permitted_table.specs.Natives.{number_of}
 use Rattle.permitted_table.specs.Table.{Global, Leads, globals, names_of}
 use Rattle.store_cells.specs.Lists.{changed}
-use Rattle.store_cells.specs.Host.{global, global_value, body, math, adsafe, dom, string, number_prototype, boolean_prototype, text_prototype, array_prototype, bunch_prototype, first_native, object_prototype, function_prototype, host_cells, place_of}
+use Rattle.store_cells.specs.Host.{global, body, math, adsafe, dom, string, number_prototype, boolean_prototype, text_prototype, array_prototype, bunch_prototype, first_native, object_prototype, function_prototype, host_cells, place_of}
 use Rattle.store_cells.specs.Shape.{IsBase, Wrote}
 use Rattle.store_cells.specs.declared.value.Value.{Value}
 use Rattle.store_cells.specs.declared.value.Value.TheVariants as value

@@ -1,7 +1,6 @@
 use Rattle.std.proofs.Common.{◌≡◌, ℕ, suc, ◌+◌, ◌-◌, [], sym, ap, ◌∙◌, subst, arith, false, option_copied, Vec, Global}
 use Rattle.std.specs.List.{filter}
 use Rattle.std.proofs.lemmas.Result.{IfOk-weaker}
-use Rattle.store_cells.specs.declared.value.Value.TheVariants as value
 use Rattle.code_units.specs.Permitted.{is_permitted}
 use Rattle.widget_meaning.specs.Values as meaning
 use Rattle.widget_meaning.specs.OwnState.{cell_at}

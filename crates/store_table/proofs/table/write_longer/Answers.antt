@@ -1,5 +1,5 @@
 use Rattle.std.proofs.Common.{◌≡◌, List, ap, arith, length, subst}
-use Rattle.std.specs.Prelude.{OnErr, OnOk, vec_len}
+use Rattle.std.specs.Prelude.{OnErr, OnOk}
 use Rattle.store_cells.specs.Lists.{changed}
 use Rattle.store_cells.specs.Numbered.{NumberedCell, numbered_two}
 use Rattle.store_cells.proofs.Writes.{kept_err, wrote_longer}
