@@ -1,5 +1,5 @@
 -- What a call does, by what is called.
-use Rattle.std.proofs.Common.{◌≡◌, ℕ, suc, Bool, true, false, List, length, refl, ap, Option, Some, None, true≢false}
+use Rattle.std.proofs.Common.{◌≡◌, ℕ, suc, true, false, List, length, refl, ap, Option, Some, None, true≢false}
 use Rattle.permitted_table.specs.declared.native.NativeId.{NativeId}
 use Rattle.permitted_table.specs.declared.native.HostEntry.TheVariants as host
 use Rattle.widget_meaning.specs.Values.{Value, Undefined, Null, Truth, NaN, Num, Text, Own, Host, E2}
