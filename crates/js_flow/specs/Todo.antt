@@ -38,6 +38,12 @@ pub record Moves (c : ℕ) (s : State) (before after : Plan) : Type 0 where
   pub within : (g : ℕ) → c ≤ g → run_plan g before ≡ run_plan (g - c) after
   pub beyond : (g : ℕ) → g < c → run_plan g before ≡ record { how = no_fuel; state = s; left = g }
 
+-- Steps with these charges together, each of which begins below k: for every fuel in place of what is left.
+-- With less, but no less than k, some of it is left.
+pub record Strides (k c : ℕ) (before after : Plan) : Type 0 where
+  pub within : (g : ℕ) → c ≤ g → run_plan g before ≡ run_plan (g - c) after
+  pub beyond : (g : ℕ) → k ≤ g → g < c → ((run_plan g before).how ≡ no_fuel) × (0 < (run_plan g before).left)
+
 -- the task can take a step
 abbrev pub IsGoing : Control → Type 0
 IsGoing (control.Waits d) = ⊥

@@ -246,6 +246,23 @@ impl Flow {
         set(&mut self.next, Next::Done(how));
     }
 
+    /// This is next, whatever was.
+    #[inline(always)]
+    pub fn leave(&mut self, next: Next)
+        ensures { Leaves self.old self.new [] next }
+    {
+        self.below = self.frames.len();
+        set(&mut self.next, next);
+    }
+
+    /// What is next.
+    #[inline(always)]
+    pub fn next(&self) -> &Next
+        ensures { result.now ≡ self.now.next }
+    {
+        &self.next
+    }
+
     /// Whether what is next costs nothing.
     #[inline(always)]
     pub fn is_free(&self) -> bool
