@@ -92,7 +92,10 @@ strides_more k a c s p q r strides moves before = record {
 
 -- one step, whose charge begins below k, or which costs nothing
 pub strides_one : (k c : ℕ) (s : State) (p q : Plan) → Moves c s p q → (0 < k) ⊎ (c ≡ 0) → Strides k c p q
-strides_one k c s p q moves before = strides_more k 0 c s p p q (strides_none k p p refl) moves before
+strides_one k c s p q moves before = subst (λ (n : ℕ). Strides k n p q) same (strides_more k 0 c s p p q (strides_none k p p refl) moves before)
+  where
+    same : 0 + c ≡ c
+    same = omega arith
 
 -- where k units are used up, the next step costs nothing
 pub begins : (k a c : ℕ) → (k ≤ a → c ≡ 0) → (a < k) ⊎ (c ≡ 0)
