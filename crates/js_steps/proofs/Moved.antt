@@ -1,12 +1,13 @@
 -- Steps one after the other.
-use Rattle.std.proofs.Common.{◌≡◌, ℕ, ◌-◌, ◌≤◌, refl, ap, ◌∙◌, arith}
+use Rattle.std.proofs.Common.{◌≡◌, ℕ, ◌+◌, ◌-◌, ◌<◌, ◌≤◌, refl, ap, ◌∙◌, subst, arith, ◌⊎◌, inl, inr}
 use Rattle.std.specs.Prelude.{IfOk, Result, Ok, Err}
 use Rattle.widget_meaning.specs.OwnState.{State}
 use Rattle.widget_meaning.specs.Plan.{Plan}
 use Rattle.widget_meaning.specs.Meaning.{run_plan}
 use Rattle.js_flow.specs.declared.task.Stepped.{Stepped}
 use Rattle.js_flow.specs.declared.task.Stepped.TheVariants as stepped
-use Rattle.js_flow.specs.Todo.{IfOutOfFuel, IsNotFuel, IsOver, Moves}
+use Rattle.js_flow.specs.Todo.{IfOutOfFuel, IsNotFuel, IsOver, Moves, Strides}
+use Rattle.js_flow.proofs.Moves.{begins, strides_more}
 
 -- a step, and then what costs nothing
 pub then_free : (c : ℕ) (s t : State) (p q u : Plan) → Moves c s p q → Moves 0 t q u → Moves c s p u
@@ -30,6 +31,21 @@ goes l m s p q v h = v.within l (less l m) ∙ ap (λ n. run_plan n q) (back l m
 
     back : (a b : ℕ) → b ≤ a → a - (a - b) ≡ b
     back a b k = omega (arith, k)
+
+-- one step more, by what is left of i: where k units are used up, it costs nothing
+pub strides_on : (k i l m : ℕ) (s : State) (p q u : Plan) → Strides k (i - l) p q → Moves (l - m) s q u → m ≤ l → l ≤ i → (k ≤ i - l → l - m ≡ 0) → Strides k (i - m) p u
+strides_on k i l m s p q u strides moves h g f = subst (λ (n : ℕ). Strides k n p u) (sums i l m h g) (strides_more k (i - l) (l - m) s p q u strides moves (begins k (i - l) (l - m) f))
+  where
+    sums : (a b c : ℕ) → c ≤ b → b ≤ a → (a - b) + (b - c) ≡ a - c
+    sums a b c x y = omega (arith, x, y)
+
+-- a charge of some units begins before k are used up
+pub begins_before : (k a c l : ℕ) → (k ≤ a → c ≡ 0) → l < c → a < k
+begins_before k a c l f h = by (begins k a c f)
+  where
+    by : (a < k) ⊎ (c ≡ 0) → a < k
+    by (inl lt) = lt
+    by (inr z) = absurd (omega (arith, h, z))
 
 -- an answer other than want of fuel
 pub not_fuel : (k : Stepped) (P : Type 0) → IsNotFuel k → IfOutOfFuel k P

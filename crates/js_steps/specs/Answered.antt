@@ -29,6 +29,11 @@ abbrev pub IsFuelStop : Stepped → Type 0
 IsFuelStop (stepped.Stop stop.Fuel) = Unit {0}
 IsFuelStop k = ⊥
 
+-- the task goes on
+abbrev pub IsWent : Stepped → Type 0
+IsWent stepped.Went = Unit {0}
+IsWent k = ⊥
+
 module _ (fs : List Forest) (w : ℕ) (s : Cells) (t : Task) where
   -- what a task has still to do at the widget's image
   abbrev pub remaining : Rest → Plan

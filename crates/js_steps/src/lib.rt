@@ -9,7 +9,7 @@ mod stack;
 mod task;
 
 pub use answer::{Stepped, Stop};
-pub use calling::{begin, depth, raise, resume, run, step};
+pub use calling::{begin, depth, raise, resume, run, step, stride};
 pub use js_flow::{Args, NativeCall};
 pub use stack::{Frames, Unwound};
 pub use task::Task;

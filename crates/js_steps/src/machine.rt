@@ -124,8 +124,8 @@ fn pay(meter: &mut Meter, units: usize) -> bool
     meter.take(units as u32).is_ok()
 }
 
-// What a task is at costs this.
-fn cost(control: &Control) -> usize
+/// What a task is at costs this.
+pub(crate) fn cost(control: &Control) -> usize
     ensures { result ≡ charge_of control.now }
 {
     match control {
@@ -167,7 +167,8 @@ fn run(flow: &mut Flow, codes: &Vec<Code>, block: Block, place: Place) -> Result
     requires block { IsBlock (forest_at (trees_of codes.now.items) place.code) block }
     ensures plan { OnOk result ((w : ℕ) (cells : List PlainCell) (s : State)
         → flow_plan (trees_of codes.now.items) w cells flow.new s
-        ≡ and_then (block_at (trees_of codes.now.items) w cells block 0 place s) (rest (trees_of codes.now.items) w cells (all_frames flow.old))) }
+        ≡ and_then (block_at (trees_of codes.now.items) w cells block 0 place s)
+        (rest (trees_of codes.now.items) w cells (all_frames flow.old))) }
     ensures fine { OnOk result ((w : ℕ) (cells : List PlainCell) → IsPlaceScope w cells place.scope
         → FineFrames (trees_of codes.now.items) w cells (all_frames flow.old)
         → FineFlow (trees_of codes.now.items) w cells flow.new) }
@@ -389,7 +390,8 @@ fn paid_step(
     ensures held { let F = trees_of codes.now.items in IfOk result (λ k. FineControl F w store.new.cells task.new.control
         × FineFrames F w store.new.cells task.new.frames.list.items × FineStepped F w store.new.cells k) }
     ensures kept { Kept (trees_of codes.now.items) w store.old store.new }
-    ensures near { IfOk result (λ k. free task.new.control task.new.frames.list.items < free (after_charge task.old.control) task.old.frames.list.items) }
+    ensures near { IfOk result (λ k. free task.new.control task.new.frames.list.items
+        < free (after_charge task.old.control) task.old.frames.list.items) }
     ensures widget { task.new.widget ≡ task.old.widget }
     ensures light { IfOk result (λ k. control_free task.new.control ≤ native_free) }
     ensures native { IfOk result (λ k. IfNative k ((native_free < control_free (after_charge task.old.control))
@@ -428,10 +430,13 @@ pub(crate) fn step_for(
         × (store.new ≡ store.old) × (meter.new ≡ meter.old) × ((r : Rest) → run_plan meter.old.left
         (todo F w store.old.cells task.old.control task.old.frames.list.items (image F r w store.old))
         ≡ out_of_fuel (image F r w store.old) meter.old.left))) }
+    ensures short { IfOk result (λ k. IfOutOfFuel k (meter.old.left < charge_of task.old.control)) }
+    ensures charge { IfOk result (λ k. meter.old.left - meter.new.left ≤ charge_of task.old.control) }
     ensures spends { (meter.new.left ≤ meter.old.left)
         × (meter.new.left + meter.new.spent ≡ meter.old.left + meter.old.spent) }
     ensures near { IfOk result (λ k. IsNotFuel k
-        → 32 * meter.new.left + free task.new.control task.new.frames.list.items < 32 * meter.old.left + free task.old.control task.old.frames.list.items) }
+        → 32 * meter.new.left + free task.new.control task.new.frames.list.items
+        < 32 * meter.old.left + free task.old.control task.old.frames.list.items) }
     ensures widget { task.new.widget ≡ task.old.widget }
     ensures call { IfOk result (λ k. EndsCall (trees_of codes.now.items) w store.new task.new.control task.new.frames.list.items × EndsSo k) }
 {
