@@ -1,5 +1,5 @@
--- What a stop of a task comes to.
-use Rattle.std.proofs.Common.{◌≡◌, ℕ, Box, Global, List, arith, ap, refl, subst, sym}
+-- What an answer of a task comes to that leaves it as it is, or stops.
+use Rattle.std.proofs.Common.{◌≡◌, ℕ, Box, Global, List, arith, ap, false, refl, subst, sym, true}
 use Rattle.js_tree.specs.Forest.{Forest}
 use Rattle.store_cells.specs.Cells.{Cells}
 use Rattle.widget_meaning.specs.Plan.{Plan, and_then}
@@ -19,7 +19,10 @@ use Rattle.turn_calls.specs.turn_runs.declared.level.Doing.TheVariants as doing
 use Rattle.turn_calls.specs.turn_runs.Levels.{levels_rest}
 use Rattle.turn_calls.specs.declared.calls.Calls.{Calls}
 use Rattle.turn_calls.specs.Turns.{turn_image}
-use Rattle.turn_steps.specs.Steps.{IsFollowed}
+use Rattle.turn_steps.specs.Steps.{IsFollowed, is_short}
+
+no_true : false ≡ true → ⊥
+no_true e = cc
 
 module _ (w : ℕ) (p : Page) (l : Loop) (s : Cells) (b : Calls) (task : Box Task Global) (k : Stepped) (follows : Follows (machine k) task.value.control) where
   todo_by : (fs : List Forest) (x : Outside) → Stepped → Plan
@@ -30,12 +33,28 @@ module _ (w : ℕ) (p : Page) (l : Loop) (s : Cells) (b : Calls) (task : Box Tas
   stop_followed stop.Fuel d due fuel is = subst (IsFollowed w p l s s b b task.value k) (sym (fuel refl)) (record {
     plan = λ fs x fine. ap (todo_by fs x) is;
     fine = λ fs mine held levels. (record { widget = mine; going = subst (λ (q : Stepped). Follows (machine q) task.value.control) is follows; control = held.0.0; frames = held.0.1; call = held.0.2 }, levels);
-    short = λ e. (refl, refl);
     near = omega arith;
   })
   stop_followed (stop.Due c) d due fuel is = subst (IsFollowed w p l s s b b task.value k) (sym (due c refl)) (record {
     plan = λ fs x fine. ap (todo_by fs x) is;
     fine = λ fs mine held levels. (tt, levels);
-    short = λ e. (refl, refl);
     near = omega arith;
   })
+
+-- a task that wants fuel stays
+module _ (w : ℕ) (p : Page) (l : Loop) (s : Cells) (b : Calls) (task : Box Task Global) where
+  pub short_followed : (k : Stepped) → is_short k ≡ true → Follows (machine k) task.value.control → IsFollowed w p l s s b b task.value k (doing.Runs task)
+  short_followed stepped.Went e follows = record {
+    plan = λ fs x fine. refl;
+    fine = λ fs mine held levels. (record { widget = mine; going = follows; control = held.0.0; frames = held.0.1; call = held.0.2 }, levels);
+    near = omega arith;
+  }
+  short_followed (stepped.Stop stop.Fuel) e follows = record {
+    plan = λ fs x fine. refl;
+    fine = λ fs mine held levels. (record { widget = mine; going = follows; control = held.0.0; frames = held.0.1; call = held.0.2 }, levels);
+    near = omega arith;
+  }
+  short_followed (stepped.Stop (stop.Due c)) e follows = absurd (no_true e)
+  short_followed (stepped.Native n) e follows = absurd (no_true e)
+  short_followed (stepped.Done v) e follows = absurd (no_true e)
+  short_followed (stepped.Threw v) e follows = absurd (no_true e)

@@ -1,5 +1,6 @@
 mod Kept
 mod Moved
+mod Strided
 mod Stepped
 mod Followed
 mod Came

@@ -1,5 +1,5 @@
 -- A plan that goes on, over what waits.
-use Rattle.std.proofs.Common.{◌≡◌, ℕ, zero, suc, ◌-◌, List, [], ◌∷◌, sym, ap, ◌∙◌, refl, arith}
+use Rattle.std.proofs.Common.{◌≡◌, ℕ, zero, suc, ◌-◌, List, [], ◌∷◌, ap, ◌∙◌, refl, arith}
 use Rattle.std.specs.Prelude.{get_or, slice_index_or}
 use Rattle.widget_meaning.specs.Values.{Completion}
 use Rattle.widget_meaning.specs.OwnState.{State}
@@ -9,14 +9,6 @@ use Rattle.widget_meaning.specs.Compositional.{then_do}
 use Rattle.widget_meaning.proofs.Runs.{run_and_then}
 use Rattle.js_values.specs.Answers.{out_of_fuel}
 use Rattle.js_flow.specs.Todo.{Moves}
-use Rattle.life_laws.specs.Life as life
-
--- what waits for a plan does not change how it goes on
-pub moves_over : (c : ℕ) (s : State) (p q : Plan) (k : Completion → State → Plan) → Moves c s p q → Moves c s (and_then p k) (and_then q k)
-moves_over c s p q k m = record {
-  within = λ g h. run_and_then g p k ∙ (ap (λ r. then_do r k) (m.within g h) ∙ sym (run_and_then (g - c) q k));
-  beyond = λ g h. run_and_then g p k ∙ ap (λ r. then_do r k) (m.beyond g h);
-}
 
 -- the same plans, said otherwise
 pub moves_is : (c : ℕ) (s : State) (p q r t : Plan) → r ≡ p → q ≡ t → Moves c s p q → Moves c s r t
@@ -24,10 +16,6 @@ moves_is c s p q r t e f m = record {
   within = λ g h. ap (run_plan g) e ∙ (m.within g h ∙ ap (run_plan (g - c)) f);
   beyond = λ g h. ap (run_plan g) e ∙ m.beyond g h;
 }
-
--- the same record, of the laws of a life
-pub moves_life : (c : ℕ) (s : State) (p q : Plan) → Moves c s p q → life.Moves c s p q
-moves_life c s p q m = record { within = m.within; beyond = m.beyond }
 
 -- two jobs that are the same after their unit go on alike
 pub moves_alike : (s : State) (i j : Job) (k m : Completion → State → Plan) → and_then (body i s) k ≡ and_then (body j s) m → Moves 0 s (Do i s k) (Do j s m)
@@ -43,14 +31,7 @@ moves_alike s i j k m e = record { within = λ g h. alike g; beyond = λ g h. ab
         less : (n : ℕ) → suc n ≡ suc n - 0
         less n = omega arith
 
--- what has too little fuel still has, after a move that took none
-pub short_stays : (g : ℕ) (s t : State) (p q : Plan) → Moves 0 s p q → s ≡ t → run_plan g p ≡ out_of_fuel s g → run_plan g q ≡ out_of_fuel t g
-short_stays g s t p q m same e = ap (λ n. run_plan n q) (less g) ∙ (sym (m.within g (omega arith)) ∙ (e ∙ ap (λ u. out_of_fuel u g) same))
-  where
-    less : (n : ℕ) → n ≡ n - 0
-    less n = omega arith
-
--- and over what waits
+-- what has too little fuel has it over what waits too
 pub short_over : (g : ℕ) (s : State) (p : Plan) (k : Completion → State → Plan) → run_plan g p ≡ out_of_fuel s g → run_plan g (and_then p k) ≡ out_of_fuel s g
 short_over g s p k e = run_and_then g p k ∙ ap (λ r. then_do r k) e
 

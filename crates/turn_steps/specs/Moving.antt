@@ -18,9 +18,9 @@ abbrev pub IsOut : Outside → Shared → Widget → Turn → TurnEnd → Type 0
 IsOut x h v t how =
     run_plan t.left (plan_in x h v t) ≡ record { how = end_of v.number h.store.cells how; state = state_in x h v t.calls.dispatches.items; left = t.left }
 
-module _ (k : ℕ) (old new : Shared) (v u : Widget) (t : Turn) where
+module _ (k : ℕ) (old new : Shared) (v u : Widget) (t s : Turn) where
   -- The k units of a pick are used up: the turn spent at least so many, the last charge began below k, and what is next costs fuel.
-  pub record IsCutAt (f : Fixed) (x : Outside) (s : Turn) : Type 0 where
+  pub record IsCutAt (f : Fixed) (x : Outside) : Type 0 where
     pub less : s.left ≤ t.left
     pub runs : Runs k (t.left - s.left) (turn_in x old v f t) (turn_in x new u f s)
     pub enough : k ≤ t.left - s.left
@@ -34,12 +34,12 @@ module _ (k : ℕ) (old new : Shared) (v u : Widget) (t : Turn) where
     pub runs : Runs k (t.left - left) (turn_in x old v f t) (record { fixed = f; plan = last; left = left })
     pub out : run_plan left last ≡ record { how = end_of u.number new.store.cells how; state = state_in x new u dispatches; left = left }
 
-  -- what came of a turn
+  -- what came of a turn, of which this is left where it is cut
   abbrev pub RanTo : Fixed → Outside → Ran → Type 0
-  RanTo f x (ran.Cut s) = IsCutAt f x s
+  RanTo f x ran.Cut = IsCutAt f x
   RanTo f x (ran.Ended how left) = IsEndedAt f x how left
 
 -- what is held after it is the widget's
-abbrev pub FineRan : Shared → ℕ → Ran → Type 0
-FineRan h w (ran.Cut s) = FineTurn h w s
-FineRan h w (ran.Ended how left) = FineEnd w h.store.cells how
+abbrev pub FineRan : Shared → ℕ → Turn → Ran → Type 0
+FineRan h w s ran.Cut = FineTurn h w s
+FineRan h w s (ran.Ended how left) = FineEnd w h.store.cells how

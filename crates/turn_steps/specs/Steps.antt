@@ -1,5 +1,5 @@
 -- One step of a turn.
-use Rattle.std.specs.Prelude.{◌≡◌, ℕ, ◌+◌, ◌*◌, ◌-◌, ◌<◌, ◌≤◌, Bool, List, true, false, if◌then◌else◌}
+use Rattle.std.specs.Prelude.{◌≡◌, ℕ, ◌+◌, ◌*◌, ◌-◌, ◌<◌, ◌≤◌, Bool, List, true, false}
 use Rattle.js_tree.specs.Forest.{Forest}
 use Rattle.store_cells.specs.Cells.{Cells}
 use Rattle.widget_meaning.specs.Plan.{Do, Hear, Plan, and_then}
@@ -8,7 +8,7 @@ use Rattle.page_tree.specs.declared.page.Page.{Page}
 use Rattle.event_loop.specs.declared.around.Loop.{Loop}
 use Rattle.js_flow.specs.declared.job.Completion.{Completion}
 use Rattle.js_flow.specs.Free.{free}
-use Rattle.js_flow.specs.Todo.{Moves, after_step}
+use Rattle.js_flow.specs.Todo.{Moves, Strides, after_step}
 use Rattle.js_flow.specs.Views.{completion_of}
 use Rattle.turn_calls.specs.js_steps.declared.answer.Stepped.{Stepped}
 use Rattle.turn_calls.specs.js_steps.declared.answer.Stepped.TheVariants as stepped
@@ -31,13 +31,13 @@ use Rattle.turn_calls.specs.declared.turn.Shared.{Shared}
 use Rattle.turn_calls.specs.declared.turn.Turn.{Turn}
 use Rattle.turn_calls.specs.declared.turn.Widget.{Widget}
 use Rattle.turn_steps.specs.declared.moving.Moved.{Moved}
-use Rattle.turn_steps.specs.declared.moving.Step.{Step}
 use Rattle.turn_steps.specs.Turning.{FineTurn, forests, plan_in, state_in}
 
--- whether a step wanted fuel
-abbrev pub is_fuel : Stepped → Bool
-is_fuel (stepped.Stop stop.Fuel) = true
-is_fuel k = false
+-- whether what a task is at wants fuel that is not there
+abbrev pub is_short : Stepped → Bool
+is_short stepped.Went = true
+is_short (stepped.Stop stop.Fuel) = true
+is_short k = false
 
 -- what a turn has still to do that does this
 abbrev pub doing_in : Outside → Shared → Widget → Calls → Doing → Plan
@@ -48,6 +48,11 @@ abbrev pub is_open : Doing → Bool
 is_open (doing.Over o) = false
 is_open (doing.Stop c) = false
 is_open d = true
+
+-- a task takes steps
+abbrev pub runs : Doing → Bool
+runs (doing.Runs t) = true
+runs d = false
 
 -- what a turn may do without fuel is bounded by this
 abbrev pub near : ℕ → Doing → Calls → ℕ
@@ -61,14 +66,13 @@ pub record IsGiven (w : ℕ) (p : Page) (l : Loop) (old new : Cells) (before aft
   pub fine : (fs : List Forest) → FineLevels fs w old.cells p before.levels.items → FineDoing fs w new p d × FineLevels fs w new.cells p after.levels.items
   pub near : doing_free d + levels_free after.levels.items ≤ levels_free before.levels.items + 1
 
--- What a task has still to do after an answer, over what waits, is what the turn does then, over what waits then; after a want of fuel nothing changed.
+-- What a task has still to do after an answer, over what waits, is what the turn does then, over what waits then.
 pub record IsFollowed (w : ℕ) (p : Page) (l : Loop) (old new : Cells) (before after : Calls) (t : Task) (k : Stepped) (d : Doing) : Type 0 where
   pub plan : (fs : List Forest) (x : Outside) → FineLevels fs w old.cells p before.levels.items
       → and_then (after_step fs w old.cells (machine k) t.control t.frames.list.items (turn_image fs x w old p l before.dispatches.items)) (levels_rest fs w old.cells p before.levels.items)
       ≡ turn_plan fs w new.cells p d after.levels.items (turn_image fs x w new p l after.dispatches.items)
   pub fine : (fs : List Forest) → t.widget ≡ w → IsFineAfter fs w old t k → FineLevels fs w old.cells p before.levels.items
       → FineDoing fs w new p d × FineLevels fs w new.cells p after.levels.items
-  pub short : is_fuel k ≡ true → (new ≡ old) × (after ≡ before)
   pub near : doing_free d + levels_free after.levels.items ≤ 2 * free t.control t.frames.list.items + levels_free before.levels.items + 1
 
 -- A turn goes on by a step: for every fuel in place of what is left; what is held then is the widget's; where fuel is wanting the plan has too little of it, and else less may be done without fuel.
@@ -89,12 +93,11 @@ pub record IsBegun (w : ℕ) (before after : Calls) (h : Hearing) (d : Doing) : 
       → FineDoing fs w s p d × FineLevels fs w s.cells p after.levels.items
   pub near : doing_free d + levels_free after.levels.items ≤ levels_free before.levels.items
 
--- A turn took a step, with what was left of its grant, or with nothing where it is cut.
-pub record IsStepped (old new : Shared) (v u : Widget) (t : Turn) (is_cut : Bool) (m : Step) : Type 0 where
-  pub moves : (x : Outside) → Moves (t.left - m.turn.left) (state_in x old v t.calls.dispatches.items) (plan_in x old v t) (plan_in x new u m.turn)
-  pub spends : m.turn.left ≤ t.left
-  pub cut : is_cut ≡ true → m.turn.left ≡ t.left
-  pub fine : FineTurn new u.number m.turn
-  pub short : m.is_short ≡ true → (m.turn.left ≡ t.left)
-      × ((x : Outside) → run_plan (if is_cut then 0 else t.left) (plan_in x new u m.turn) ≡ out_of_fuel (state_in x new u m.turn.calls.dispatches.items) (if is_cut then 0 else t.left))
-  pub nearer : m.is_short ≡ false → near m.turn.left m.turn.doing m.turn.calls < near t.left t.doing t.calls
+-- A turn went on, each charge of it begun within so many units: what it holds then is the widget's; where fuel is wanting it has too little, of none where the units are used up and else of what is left, and else less may be done without fuel.
+pub record IsStepped (k : ℕ) (old new : Shared) (v u : Widget) (t s : Turn) (is_short : Bool) : Type 0 where
+  pub strides : (x : Outside) → Strides k (t.left - s.left) (plan_in x old v t) (plan_in x new u s)
+  pub spends : s.left ≤ t.left
+  pub fine : FineTurn new u.number s
+  pub cut : is_short ≡ true → k ≤ t.left - s.left → (x : Outside) → run_plan 0 (plan_in x new u s) ≡ out_of_fuel (state_in x new u s.calls.dispatches.items) 0
+  pub stop : is_short ≡ true → t.left - s.left < k → (x : Outside) → run_plan s.left (plan_in x new u s) ≡ out_of_fuel (state_in x new u s.calls.dispatches.items) s.left
+  pub nearer : is_short ≡ false → near s.left s.doing s.calls < near t.left t.doing t.calls

@@ -1,17 +1,19 @@
-//! One step of a turn.
-ghost use Rattle.std.specs.Prelude.{◌≡◌, ◌<◌, ◌≤◌, IfOk, List, OnOk, if◌then◌else◌, length, true};
+//! A turn goes on: a task takes its steps, a native is carried out, or a dispatch begins.
+ghost use Rattle.std.specs.Prelude.{◌≡◌, ◌<◌, ◌≤◌, IfOk, List, OnOk, false, length, true};
+ghost use Rattle.std.specs.Global.{Box as BoxOf};
 ghost use Rattle.js_tree.specs.Forest.{Forest};
 ghost use Rattle.js_image.specs.declared.outcome.StopCause.{StopCause};
 ghost use Rattle.turn_calls.specs.js_steps.Ending.{FineEnd};
 ghost use Rattle.js_flow.specs.Todo.{Follows};
 ghost use Rattle.turn_calls.specs.js_steps.Answered.{IsFineAfter, machine};
+ghost use Rattle.turn_calls.specs.js_steps.declared.task.Task.{Task as TaskOf};
 ghost use Rattle.native_image.specs.Sound.{IsSound};
 ghost use Rattle.turn_calls.specs.turn_runs.Held.{FineDoing, FineTask};
 ghost use Rattle.turn_calls.specs.turn_runs.declared.level.Doing.TheVariants as doing;
 ghost use Rattle.turn_calls.specs.Took.{StaysSound};
 ghost use Rattle.turn_calls.specs.Waiting.{FineLevels};
 ghost use Rattle.turn_steps.specs.Keeping.{KeepsTurn};
-ghost use Rattle.turn_steps.specs.Steps.{IsBegun, IsFollowed, IsGiven, IsMoved, IsStepped, is_fuel, is_open};
+ghost use Rattle.turn_steps.specs.Steps.{IsBegun, IsFollowed, IsGiven, IsMoved, IsStepped, is_open, is_short, runs};
 ghost use Rattle.turn_steps.specs.Turning.{FineTurn, FineWidget, forests};
 
 use crate::carrying::carry;
@@ -20,7 +22,8 @@ use js_flow::Completion;
 use js_values::Meter;
 use object_store::Store;
 use std::alloc::Global;
-use turn_calls::js_steps::{Stepped, Stop, Task, step};
+use std::mem;
+use turn_calls::js_steps::{Stepped, Stop, Task, stride};
 use turn_calls::turn_runs::{Doing, Hearing, Level};
 use turn_calls::{Calls, Shared, Site, Turn, Widget, call_handler, give};
 
@@ -31,18 +34,36 @@ pub(crate) struct Moved {
     pub is_short: bool,
 }
 
-/// A turn after a step, and whether the step wanted fuel that is not there.
-#[derive(Drop)]
-pub(crate) struct Step {
-    pub turn: Turn,
-    pub is_short: bool,
+// Whether what a task is at wants fuel that is not there: the units are used up, or all that was left.
+fn is_short(stepped: &Stepped) -> bool
+    ensures { result ≡ is_short stepped.now }
+{
+    matches!(stepped, Stepped::Went | Stepped::Stop(Stop::Fuel))
 }
 
-// Whether a step wanted fuel.
-fn is_fuel(stepped: &Stepped) -> bool
-    ensures { result ≡ is_fuel stepped.now }
+// What a turn does is taken out.
+pub(crate) fn take(place: &mut Doing) -> Doing
+    ensures { result ≡ place.old }
 {
-    matches!(stepped, Stepped::Stop(Stop::Fuel))
+    mem::replace(place, Doing::Over(Completion::Normal))
+}
+
+// What a turn does next. The old one was taken out, so there is nothing to end.
+fn put(place: &mut Doing, doing: Doing)
+    ensures { place.new ≡ doing }
+{
+    mem::forget(mem::replace(place, doing));
+}
+
+// The task of a turn is taken out.
+fn take_task(place: &mut Doing) -> Box<Task>
+    requires { runs place.old ≡ true }
+    ensures { (t : BoxOf TaskOf) → place.old ≡ doing.Runs t → result ≡ t }
+{
+    match take(place) {
+        Doing::Runs(task) => task,
+        _ => unreachable!(),
+    }
 }
 
 // How a call ended is given to what waits.
@@ -100,34 +121,62 @@ pub(crate) fn follow(
     }
 }
 
-// A task takes a step.
-fn step_task(
+// Whether a task takes steps.
+fn runs(doing: &Doing) -> bool
+    ensures { result ≡ runs doing.now }
+{
+    matches!(doing, Doing::Runs(_))
+}
+
+// A task is carried on in its place, for so many units of the turn's fuel; where it waits or is over, that is followed.
+fn run_task(
     alloc: Global,
     shared: &mut Shared,
     widget: &Widget,
-    calls: &mut Calls,
-    task: Box<Task>,
-    meter: &mut Meter,
-) -> Result<Moved, Memory>
+    turn: &mut Turn,
+    units: u32,
+) -> Result<bool, Memory>
     requires number { widget.now.number < 32 }
     requires widget { FineWidget shared.old widget.now }
-    requires levels { FineLevels (forests shared.old) widget.now.number shared.old.store.cells shared.old.page calls.old.levels.items }
-    requires task { FineTask (forests shared.old) widget.now.number shared.old.store shared.old.page task.value }
-    ensures moved { IfOk result (IsMoved shared.old shared.new widget.now widget.now calls.old calls.new meter.old meter.new (doing.Runs task)) }
+    requires runs { runs turn.old.doing ≡ true }
+    requires turn { FineTurn shared.old widget.now.number turn.old }
+    ensures stepped { IfOk result (IsStepped units shared.old shared.new widget.now widget.now turn.old turn.new) }
     ensures fine { OnOk result (FineWidget shared.new widget.now) }
     ensures kept { KeepsTurn (forests shared.old) widget.now.number shared.old.store shared.new.store shared.old.page shared.new.page widget.now.around }
     ensures codes { shared.new.codes ≡ shared.old.codes }
 {
-    let mut task = task;
-    let stepped = step(alloc, &shared.codes, &mut shared.store, &mut task, meter)?;
-    let is_short = is_fuel(&stepped);
+    let Doing::Runs(task) = &mut turn.doing else {
+        unreachable!()
+    };
+    let mut meter = Meter::new(turn.left, 0);
+    let stepped = stride(
+        alloc,
+        &shared.codes,
+        &mut shared.store,
+        task,
+        &mut meter,
+        units,
+    )?;
+    turn.left = meter.left();
+    if is_short(&stepped) {
+        return Ok(true);
+    }
+    let task = take_task(&mut turn.doing);
     let site = Site {
         widget: widget.number,
         page: &shared.page,
         around: &widget.around,
     };
-    let doing = follow(alloc, &mut shared.store, &site, calls, task, stepped)?;
-    Ok(Moved { doing, is_short })
+    let doing = follow(
+        alloc,
+        &mut shared.store,
+        &site,
+        &mut turn.calls,
+        task,
+        stepped,
+    )?;
+    put(&mut turn.doing, doing);
+    Ok(false)
 }
 
 // The first handler of a dispatch is called; the unit of the dispatch is that of the call.
@@ -140,7 +189,7 @@ fn begin(alloc: Global, w: u32, calls: &mut Calls, hearing: Box<Hearing>) -> Res
     Ok(Doing::Runs(task))
 }
 
-// A turn that is not over goes on.
+// A native is carried out, or the first handler of a dispatch is called.
 fn advance(
     alloc: Global,
     shared: &mut Shared,
@@ -152,6 +201,7 @@ fn advance(
     requires number { widget.old.number < 32 }
     requires widget { FineWidget shared.old widget.old }
     requires open { is_open doing ≡ true }
+    requires other { runs doing ≡ false }
     requires doing { FineDoing (forests shared.old) widget.old.number shared.old.store shared.old.page doing }
     requires levels { FineLevels (forests shared.old) widget.old.number shared.old.store.cells shared.old.page calls.old.levels.items }
     ensures moved { IfOk result (IsMoved shared.old shared.new widget.old widget.new calls.old calls.new meter.old meter.new doing) }
@@ -161,7 +211,6 @@ fn advance(
     ensures codes { shared.new.codes ≡ shared.old.codes }
 {
     match doing {
-        Doing::Runs(task) => step_task(alloc, shared, widget, calls, task, meter),
         Doing::Native(task, native) => carry(alloc, shared, widget, calls, (task, native), meter),
         Doing::Hears(hearing) => {
             let doing = begin(alloc, widget.number, calls, hearing)?;
@@ -170,53 +219,74 @@ fn advance(
                 is_short: false,
             })
         }
+        Doing::Runs(_) => unreachable!(),
         Doing::Over(_) => unreachable!(),
         Doing::Stop(_) => unreachable!(),
     }
 }
 
-// What a step may take: what is left, or nothing where the turn is cut.
-fn granted(left: u32, is_cut: bool) -> u32
-    ensures is { result ≡ (if is_cut then 0 else left) }
+// What a native may take: what is left, or nothing where the units are used up.
+fn granted(left: u32, units: u32) -> u32
+    ensures none { units ≡ 0 → result ≡ 0 }
+    ensures all { 0 < units → result ≡ left }
     ensures less { result ≤ left }
 {
-    if is_cut {
+    if units == 0 {
         return 0;
     }
     left
 }
 
-/// One step of a turn that is not over, with what is left of its grant, or with nothing where it is cut:
-/// then it goes on only by what costs nothing.
-pub(crate) fn move_on(
+// A turn in which no task takes steps, and that is not over, goes on.
+fn pass_on(
     alloc: Global,
     shared: &mut Shared,
     widget: &mut Widget,
-    turn: Turn,
-    is_cut: bool,
-) -> Result<Step, Memory>
+    turn: &mut Turn,
+    units: u32,
+) -> Result<bool, Memory>
     requires number { widget.old.number < 32 }
     requires widget { FineWidget shared.old widget.old }
-    requires open { is_open turn.doing ≡ true }
-    requires turn { FineTurn shared.old widget.old.number turn }
-    ensures stepped { IfOk result (IsStepped shared.old shared.new widget.old widget.new turn is_cut) }
+    requires open { is_open turn.old.doing ≡ true }
+    requires other { runs turn.old.doing ≡ false }
+    requires turn { FineTurn shared.old widget.old.number turn.old }
+    ensures stepped { IfOk result (IsStepped units shared.old shared.new widget.old widget.new turn.old turn.new) }
     ensures fine { OnOk result (FineWidget shared.new widget.new) }
     ensures kept { KeepsTurn (forests shared.old) widget.old.number shared.old.store shared.new.store shared.old.page shared.new.page widget.new.around }
     ensures number { widget.new.number ≡ widget.old.number }
     ensures codes { shared.new.codes ≡ shared.old.codes }
 {
-    let Turn { doing, calls, left } = turn;
-    let mut calls = calls;
-    let had = granted(left, is_cut);
+    let had = granted(turn.left, units);
     let mut meter = Meter::new(had, 0);
-    let moved = advance(alloc, shared, widget, &mut calls, doing, &mut meter)?;
-    let turn = Turn {
-        doing: moved.doing,
-        calls,
-        left: left - (had - meter.left()),
-    };
-    Ok(Step {
-        turn,
-        is_short: moved.is_short,
-    })
+    let doing = take(&mut turn.doing);
+    let moved = advance(alloc, shared, widget, &mut turn.calls, doing, &mut meter)?;
+    put(&mut turn.doing, moved.doing);
+    turn.left -= had - meter.left();
+    Ok(moved.is_short)
+}
+
+/// A turn that is not over goes on, with what is left of its grant, so that each charge begins within so
+/// many units; where they are used up, only by what costs nothing. Whether what is next wants fuel that is
+/// not there.
+pub(crate) fn move_on(
+    alloc: Global,
+    shared: &mut Shared,
+    widget: &mut Widget,
+    turn: &mut Turn,
+    units: u32,
+) -> Result<bool, Memory>
+    requires number { widget.old.number < 32 }
+    requires widget { FineWidget shared.old widget.old }
+    requires open { is_open turn.old.doing ≡ true }
+    requires turn { FineTurn shared.old widget.old.number turn.old }
+    ensures stepped { IfOk result (IsStepped units shared.old shared.new widget.old widget.new turn.old turn.new) }
+    ensures fine { OnOk result (FineWidget shared.new widget.new) }
+    ensures kept { KeepsTurn (forests shared.old) widget.old.number shared.old.store shared.new.store shared.old.page shared.new.page widget.new.around }
+    ensures number { widget.new.number ≡ widget.old.number }
+    ensures codes { shared.new.codes ≡ shared.old.codes }
+{
+    if runs(&turn.doing) {
+        return run_task(alloc, shared, widget, turn, units);
+    }
+    pass_on(alloc, shared, widget, turn, units)
 }

@@ -1,7 +1,6 @@
 //! How turns end.
 
 use js_flow::Completion;
-use turn_calls::Turn;
 use turn_calls::js_steps::Stop;
 
 /// How a turn ended: by how its last call ended, or by a stop.
@@ -15,7 +14,7 @@ pub enum TurnEnd {
 #[derive(Drop)]
 pub enum Ran {
     /// The units are used up, and what is next costs fuel.
-    Cut(Turn),
+    Cut,
     /// The turn is over, with the fuel that is left of its grant.
     Ended(TurnEnd, u32),
 }

@@ -5,7 +5,7 @@ use Rattle.natives.specs.Reach.{with_notes}
 use Rattle.turn_calls.specs.turn_runs.declared.level.Doing.{Doing}
 use Rattle.turn_calls.specs.turn_runs.Held.{FineDoing}
 use Rattle.turn_calls.specs.Weights.{doing_free}
-use Rattle.turn_steps.specs.Steps.{IsMoved, doing_in, is_open}
+use Rattle.turn_steps.specs.Steps.{IsMoved, doing_in, is_open, runs}
 use Rattle.turn_steps.specs.Turning.{forests, state_in}
 use Rattle.turn_steps.proofs.Kept.{keeps_same}
 use Rattle.turn_steps.proofs.Moved.{moves_is}
@@ -14,9 +14,6 @@ use Rattle.turn_steps.proofs.moving.advance.Goals as goal
 no_true : false ≡ true → ⊥
 no_true e = cc
 
-pub step_task-requires-clause-task : goal.step_task-requires-clause-task
-step_task-requires-clause-task c = subst (λ (d : Doing). FineDoing (forests c.args.shared.now) c.args.widget.now.number c.args.shared.now.store c.args.shared.now.page d) c.in-Runs.is c.requires.doing
-
 pub carry-requires-clause-native : goal.carry-requires-clause-native
 carry-requires-clause-native c = subst (λ (d : Doing). FineDoing (forests c.args.shared.now) c.args.widget.now.number c.args.shared.now.store c.args.shared.now.page d) c.in-Native.is c.requires.doing
 
@@ -24,15 +21,13 @@ pub begin-requires : goal.begin-requires
 begin-requires c = (subst (λ (d : Doing). FineDoing (forests c.args.shared.now) c.args.widget.now.number c.args.shared.now.store c.args.shared.now.page d) c.in-Hears.is c.requires.doing).some
 
 pub unreachable-requires : goal.unreachable-requires
-unreachable-requires c = no_true (sym (ap is_open c.in-Over.is) ∙ c.requires.open)
+unreachable-requires c = no_true (sym c.requires.other ∙ ap runs c.in-Runs.is)
+
+pub unreachable-requires-in-Over : goal.unreachable-requires-in-Over
+unreachable-requires-in-Over c = no_true (sym (ap is_open c.in-Over.is) ∙ c.requires.open)
 
 pub unreachable-requires-in-Stop : goal.unreachable-requires-in-Stop
 unreachable-requires-in-Stop c = no_true (sym (ap is_open c.in-Stop.is) ∙ c.requires.open)
-
-pub returns-in-Runs-clause-moved : goal.returns-in-Runs-clause-moved
-returns-in-Runs-clause-moved c =
-    subst (λ (d : Doing). IfOk c.step_task.result (IsMoved c.args.shared.now c.step_task.new.shared c.args.widget.now c.args.widget.now c.args.calls.now c.step_task.new.calls c.args.meter.now c.step_task.new.meter d))
-    (sym c.in-Runs.is) c.step_task.ensures.moved
 
 pub returns-in-Native-clause-moved : goal.returns-in-Native-clause-moved
 returns-in-Native-clause-moved c =

@@ -1,4 +1,4 @@
-use Rattle.std.proofs.Common.{◌≡◌, arith, ap, ◌∙◌, false, refl, subst, sym, true}
+use Rattle.std.proofs.Common.{arith, ap, ◌∙◌, subst}
 use Rattle.std.proofs.lemmas.Result.{IfOk-weaker}
 use Rattle.widget_meaning.specs.Plan.{and_then}
 use Rattle.js_flow.specs.declared.task.Control.{Control}
@@ -11,12 +11,8 @@ use Rattle.turn_calls.specs.js_steps.Ending.{EndsCall}
 use Rattle.turn_calls.specs.turn_runs.Levels.{levels_rest}
 use Rattle.turn_calls.specs.Turns.{turn_image}
 use Rattle.turn_calls.proofs.Kept.{sound_same}
-use Rattle.turn_steps.specs.Steps.{is_fuel}
 use Rattle.turn_steps.proofs.Followed.{stop_followed}
 use Rattle.turn_steps.proofs.moving.follow.Goals as goal
-
-no_true : false ≡ true → ⊥
-no_true e = cc
 
 pub returns-in-Went-clause-followed : goal.returns-in-Went-clause-followed
 returns-in-Went-clause-followed c =
@@ -29,7 +25,6 @@ returns-in-Went-clause-followed c =
     let is = c.in-Went.is in record {
       plan = λ fs x fine. ap (λ (k : Stepped). and_then (after_step fs w s.cells (machine k) t.control t.frames.list.items (turn_image fs x w s p l b.dispatches.items)) (levels_rest fs w s.cells p b.levels.items)) is;
       fine = λ fs mine held levels. (record { widget = mine; going = subst (λ (k : Stepped). Follows (machine k) t.control) is c.requires.follows; control = held.0.0; frames = held.0.1; call = held.0.2 }, levels);
-      short = λ e. (refl, refl);
       near = omega arith;
     }
 
@@ -47,7 +42,6 @@ returns-in-Native-clause-followed c =
     let is = c.in-Native.is in record {
       plan = λ fs x fine. ap (λ (k : Stepped). and_then (after_step fs w s.cells (machine k) t.control t.frames.list.items (turn_image fs x w s p l b.dispatches.items)) (levels_rest fs w s.cells p b.levels.items)) is;
       fine = λ fs mine held levels. ((mine, held.0.1, subst (λ (k : Stepped). FineStepped fs w s.cells (machine k)) is held.1, subst (λ (q : Control). EndsCall fs w s q t.frames.list.items) (subst (λ (k : Stepped). Follows (machine k) t.control) is c.requires.follows) held.0.2), levels);
-      short = λ e. (refl, refl);
       near = omega (arith, ap (λ q. free q t.frames.list.items) (subst (λ (k : Stepped). Follows (machine k) t.control) is c.requires.follows));
     }
 
@@ -73,7 +67,6 @@ returns-in-Done-clause-followed c =
     (λ d h. record {
       plan = λ fs x fine. ap (λ (k : Stepped). and_then (after_step fs w s.cells (machine k) t.control t.frames.list.items (turn_image fs x w s p l b.dispatches.items)) (levels_rest fs w s.cells p b.levels.items)) is ∙ h.plan fs x fine;
       fine = λ fs mine held levels. h.fine fs levels;
-      short = λ e. absurd (no_true (sym (ap is_fuel is) ∙ e));
       near = omega (arith, h.near);
     })
     c.give_on.ensures.given
@@ -97,7 +90,6 @@ returns-in-Threw-clause-followed c =
     (λ d h. record {
       plan = λ fs x fine. ap (λ (k : Stepped). and_then (after_step fs w s.cells (machine k) t.control t.frames.list.items (turn_image fs x w s p l b.dispatches.items)) (levels_rest fs w s.cells p b.levels.items)) is ∙ h.plan fs x fine;
       fine = λ fs mine held levels. h.fine fs levels;
-      short = λ e. absurd (no_true (sym (ap is_fuel is) ∙ e));
       near = omega (arith, h.near);
     })
     c.give_on-in-Threw.ensures.given
