@@ -1,6 +1,6 @@
 -- A turn that is carried on: it is cut, or it is over; also behind works that were taken.
-use Rattle.std.proofs.Common.{◌≡◌, ℕ, ◌<◌, ◌≤◌, ◌+◌, ◌-◌, ◌*◌, List, [], ◌∷◌, ◌++◌, Bool, true, false, not, refl, sym, ap, ◌∙◌, subst, map, arith, Option, Some, None, cond, if◌then◌else◌}
-use Rattle.std.specs.Prelude.{IfSome, ◌^◌, is_some, length, nat_lt}
+use Rattle.std.proofs.Common.{◌≡◌, ℕ, ◌<◌, ◌≤◌, ◌+◌, ◌-◌, ◌*◌, List, [], ◌∷◌, ◌++◌, Bool, true, false, not, refl, sym, ap, ◌∙◌, subst, map, arith, Option, Some, None, Ok, cond, if◌then◌else◌}
+use Rattle.std.specs.Prelude.{IfOk, IfSome, OnOk, Result, ◌^◌, is_some, length, nat_lt}
 use Rattle.std.specs.List.{AllByRecursion}
 use Rattle.std.specs.Option.{option_map}
 use Rattle.std.specs.declared.vec.Vec.{Vec}
@@ -15,7 +15,6 @@ use Rattle.widget_meaning.specs.Values as meaning
 use Rattle.widget_meaning.specs.Values.{PastLimit, Units}
 use Rattle.js_names.specs.declared.code.Code.{Code}
 use Rattle.js_names.specs.Code.{trees_of}
-use Rattle.native_image.specs.Sound.{HoldsOwn}
 use Rattle.life_laws.specs.Life.{Given, Go, Going, IsCut, IsOver, Library, Same, Seen, Turn as TurnOf, Until, Work, fixed, is_empty, potential, potentials, ready, turn_bound, turn_weight, weight}
 use Rattle.life_laws.proofs.Begins.{same_none}
 use Rattle.life_laws.proofs.Ends.{cut, cut_from, idle, over, over_from}
@@ -81,6 +80,19 @@ end_counted (Ended meaning.Continue) s o = refl
 end_counted (Stopped c) s o = refl
 end_counted OutOfFuel s o = refl
 
+-- what a run of the turn keeps, as all calls for a life do
+pub keeps_ran : (h m : Shared) (a b : Life) → KeepsTurn (forests h) a.widget.number h.store m.store h.page m.page b.widget.around → b.widget.number ≡ a.widget.number → m.codes ≡ h.codes → b.slot ≡ a.slot → b.accepted ≡ a.accepted → KeepsLife a.widget.number h m a b
+keeps_ran h m a b keeps number codes slot accepted = record {
+  codes = codes;
+  cells = record { confined = keeps.confined; grows = keeps.grows; others = keeps.others; others_grow = keeps.others_grow; others_confined = keeps.others_confined };
+  page = keeps.page;
+  host = keeps.host;
+  holds = keeps.holds;
+  number = number;
+  slot = slot;
+  accepted = accepted;
+}
+
 module _ (h m : Shared) (a : Life) (t : Turn) (u : Widget) (units : ℕ) (some : 0 < units) (keeps : KeepsTurn (forests h) a.widget.number h.store m.store h.page m.page u.around)
     (number : u.number ≡ a.widget.number) (codes : m.codes ≡ h.codes) (sound : FineWidget m u) where
   abbrev w : ℕ
@@ -94,22 +106,9 @@ module _ (h m : Shared) (a : Life) (t : Turn) (u : Widget) (units : ℕ) (some :
   abbrev pub moved : Life
   moved = record a { widget = u }
 
-  -- what the run keeps, as all calls for a life do
-  pub keeps_run : (b : Life) → b.widget ≡ u → b.slot ≡ a.slot → b.accepted ≡ a.accepted → KeepsLife w h m a b
-  keeps_run b widget slot accepted = record {
-    codes = codes;
-    cells = record { confined = keeps.confined; grows = keeps.grows; others = keeps.others; others_grow = keeps.others_grow; others_confined = keeps.others_confined };
-    page = keeps.page;
-    host = keeps.host;
-    holds = subst (λ (v : Widget). HoldsOwn w m.store m.page v.around) (sym widget) keeps.holds;
-    number = ap (λ (v : Widget). v.number) widget ∙ number;
-    slot = slot;
-    accepted = accepted;
-  }
-
-  -- and what the run and the end of the turn keep
+  -- what the run and the end of the turn keep
   pub keeps_close : (k : Shared) (b : Life) → KeepsLife u.number m k moved b → KeepsLife w h k a b
-  keeps_close k b kept = keeps_both w h m k a moved b (keeps_run moved refl refl refl) (subst (λ i. KeepsLife i m k moved b) number kept)
+  keeps_close k b kept = keeps_both w h m k a moved b (keeps_ran h m a moved keeps number codes refl refl) (subst (λ i. KeepsLife i m k moved b) number kept)
 
   same_trees : trees_in m ≡ trees_in h
   same_trees = ap (λ (cs : Vec Code Global). trees_of cs.items) codes
@@ -129,7 +128,7 @@ module _ (h m : Shared) (a : Life) (t : Turn) (u : Widget) (units : ℕ) (some :
     room_here = subst (λ is. a.records.turns + (a.records.missed + (a.records.gone + potentials is)) < 2 ^ 32) (sym same_works) fine.counts.room
 
     -- The turn is cut.
-    module _ (s : Turn) (at : IsCutAt units h m a.widget u t (fixed (own_of h w running)) (outside a) s) (held : FineTurnOf m u.number s) where
+    module _ (s : Turn) (at : IsCutAt units h m a.widget u t s (fixed (own_of h w running)) (outside a)) (held : FineTurnOf m u.number s) where
       abbrev pub cut_life : Life
       cut_life = record a { widget = u; turn = Some s }
 
@@ -160,7 +159,7 @@ module _ (h m : Shared) (a : Life) (t : Turn) (u : Widget) (units : ℕ) (some :
           }
 
     -- The turn is over.
-    module _ (how : TurnEnd) (left : ℕ) (at : IsEndedAt units h m a.widget u t (fixed (own_of h w running)) (outside a) how left) (rest : a.turn ≡ None) where
+    module _ (s : Turn) (how : TurnEnd) (left : ℕ) (at : IsEndedAt units h m a.widget u t s (fixed (own_of h w running)) (outside a) how left) (rest : a.turn ≡ None) where
       pub fine_spent : FineLife m u.number (spent_to left moved)
       fine_spent =
           let none : held_back a.turn ≡ 0 = ap held_back rest in
@@ -255,6 +254,13 @@ module _ (h m : Shared) (w units : ℕ) (a b : Life) where
       no_going : (o : Option Turn) → is_some o ≡ false → option_map (going_of m w b) o ≡ None
       no_going None e = refl
       no_going (Some t) e = absurd (no_true (sym e))
+
+-- what holds where memory was there
+pub ok_of : {T E : Type 0} (P : T → Type 0) (r : Result T E) (x : T) → r ≡ Ok x → IfOk r P → P x
+ok_of P r x e h = subst (λ q. IfOk q P) e h
+
+pub ok_on : {T E : Type 0} (Q : Type 0) (r : Result T E) (x : T) → r ≡ Ok x → OnOk r Q → Q
+ok_on Q r x e h = subst (λ q. OnOk q Q) e h
 
 -- the turn of a life has no part in what is kept
 pub keeps_turn : (w : ℕ) (h k : Shared) (a c b : Life) → c.widget.number ≡ a.widget.number → c.slot ≡ a.slot → c.accepted ≡ a.accepted → KeepsLife w h k c b → KeepsLife w h k a b

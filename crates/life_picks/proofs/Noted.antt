@@ -16,7 +16,7 @@ use Rattle.js_image.specs.Held.{Kept}
 use Rattle.js_image.specs.Image as joint
 use Rattle.js_image.specs.Image.{Rest}
 use Rattle.js_image.proofs.Units.{units_are}
-use Rattle.native_image.specs.Image.{beside, image}
+use Rattle.native_image.specs.Image.{beside}
 use Rattle.native_image.proofs.Joint.{rest, store_lift}
 use Rattle.native_image.proofs.Told.{paid_told}
 use Rattle.life_queue.specs.turn_calls.declared.turn.Shared.{Shared}

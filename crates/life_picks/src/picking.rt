@@ -1,5 +1,5 @@
 //! A pick of a life.
-ghost use Rattle.std.specs.Prelude.{◌≡◌, ◌<◌, ◌≤◌, IfOk, None, OnErr, OnOk, Some};
+ghost use Rattle.std.specs.Prelude.{◌≡◌, ◌<◌, ◌≤◌, IfOk, None, OnErr, OnOk, is_some, true};
 ghost use Rattle.widget_meaning.specs.OwnState.{State};
 ghost use Rattle.widget_meaning.specs.Turns.{end_turn};
 ghost use Rattle.life_queue.specs.Lives.{own_of};
@@ -49,29 +49,39 @@ fn close(
     }
 }
 
-// A turn of a life is carried on for so many units.
-fn go_on(
-    alloc: Global,
-    shared: &mut Shared,
-    life: &mut Life,
-    turn: Turn,
-    units: u32,
-) -> Result<Picked, Memory>
+// A turn that is over, or that cannot go on, is dropped.
+fn drop_turn(place: &mut Option<Turn>)
+    ensures { place.new ≡ None }
+{
+    *place = None;
+}
+
+// The turn of a life is carried on in its place, for so many units.
+fn go_on(alloc: Global, shared: &mut Shared, life: &mut Life, units: u32) -> Result<Picked, Memory>
     requires widget { life.old.widget.number < 32 }
     requires units { 0 < units }
-    requires rest { life.old.turn ≡ None }
-    requires fine { FineLife shared.old life.old.widget.number (record life.old { turn = Some turn }) }
-    ensures picked { IfOk result (λ r. PicksLife shared.old shared.new life.old.widget.number units r (record life.old { turn = Some turn }) life.new) }
+    requires running { is_some life.old.turn ≡ true }
+    requires fine { FineLife shared.old life.old.widget.number life.old }
+    ensures picked { IfOk result (λ r. PicksLife shared.old shared.new life.old.widget.number units r life.old life.new) }
     ensures kept { KeepsLife life.old.widget.number shared.old shared.new life.old life.new }
     ensures none { OnErr result (life.new.turn ≡ None) }
 {
-    match run_turn(alloc, shared, &mut life.widget, turn, units)? {
-        Ran::Cut(turn) => {
-            let spent = life.records.spent + u64::from(life.grant - turn.left);
-            life.turn = Some(turn);
+    let Some(turn) = &mut life.turn else {
+        unreachable!()
+    };
+    let came = run_turn(alloc, shared, &mut life.widget, turn, units);
+    let left = turn.left;
+    let Ok(ran) = came else {
+        drop_turn(&mut life.turn);
+        return Err(Memory);
+    };
+    match ran {
+        Ran::Cut => {
+            let spent = life.records.spent + u64::from(life.grant - left);
             Ok(Picked::Unfinished { spent })
         }
         Ran::Ended(how, left) => {
+            drop_turn(&mut life.turn);
             close(alloc, shared, life, how, left)?;
             Ok(Picked::Ended)
         }
@@ -95,13 +105,13 @@ pub fn pick_life(
     ensures kept { KeepsLife life.old.widget.number shared.old shared.new life.old life.new }
     ensures none { OnErr result (life.new.turn ≡ None) }
 {
-    if let Some(turn) = life.turn.take() {
-        return go_on(alloc, shared, life, turn, units);
+    if life.turn.is_some() {
+        return go_on(alloc, shared, life, units);
     }
     let w = life.widget.number;
-    begin_turn(alloc, shared, w, life)?;
-    match life.turn.take() {
-        Some(turn) => go_on(alloc, shared, life, turn, units),
-        None => Ok(Picked::Idle),
+    let begun = begin_turn(alloc, shared, w, life)?;
+    if begun {
+        return go_on(alloc, shared, life, units);
     }
+    Ok(Picked::Idle)
 }

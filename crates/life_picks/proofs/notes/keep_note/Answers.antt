@@ -1,4 +1,4 @@
-use Rattle.std.proofs.Common.{◌≡◌, ◌+◌, ◌-◌, ℕ, List, length, refl, sym, ap, ◌∙◌, subst, arith}
+use Rattle.std.proofs.Common.{◌≡◌, ◌+◌, ℕ, List, length, refl, sym, ap, ◌∙◌, subst, arith}
 use Rattle.widget_meaning.specs.Costs.{pay, units_cost}
 use Rattle.js_image.specs.Image.{image}
 use Rattle.life_queue.specs.Lives.{trees_in}
