@@ -1,13 +1,18 @@
 -- The slots that are ready, as the host finds them.
 use Rattle.std.proofs.Common.{◌≡◌, ℕ, zero, suc, ◌+◌, ◌<◌, ◌≤◌, Bool, true, false, if◌then◌else◌, List, [], ◌∷◌, ◌++◌, length, drop, get_or, refl, sym, ap, ◌∙◌, subst, arith, Option, Some}
-use Rattle.std.specs.Prelude.{slice_get}
-use Rattle.life_laws.specs.Life.{Seen, ready}
+use Rattle.std.specs.Prelude.{is_some, not, slice_get, slice_set}
+use Rattle.life_laws.specs.Life.{IsCut, Seen, image, is_empty, ready}
+use Rattle.pick_laws.specs.declared.entry.PickEntry.{PickEntry}
+use Rattle.pick_laws.specs.declared.entry.Picked.{Picked}
+use Rattle.pick_laws.specs.declared.entry.Picked.TheVariants as picked
+use Rattle.pick_laws.specs.Picks.{Picks}
 use Rattle.pick_laws.specs.Journal.{ready_from}
 use Rattle.pick_laws.proofs.Ready.{below_length}
+use Rattle.slot_laws.specs.Chains.{Chains, PickedIn}
 use Rattle.slot_laws.specs.Slots.{Each, ready_of, slot_ready}
 use Rattle.slot_laws.specs.Settled.{flag, slot_flags}
 use Rattle.slot_laws.proofs.Passing.{append_cons}
-use Rattle.slot_laws.proofs.Settling.{flags_length}
+use Rattle.slot_laws.proofs.Settling.{flags_length, ready_flag, set_is, was_at, was_ready}
 use Rattle.slot_picks.specs.declared.crowd.Crowd.{Crowd}
 use Rattle.slot_picks.specs.declared.slots.Slot.{Slot}
 use Rattle.slot_picks.specs.Crowds.{chains_of, seens_of}
@@ -68,3 +73,29 @@ slots_below ss sl xs e few k d h = let g = slot_there ss sl xs k (get_or xs k d)
 -- the slots that were found ready, as a list of these slots
 pub listed : (c : Crowd) (xs : List ℕ) (ss ts : List Slot) → ts ≡ ss → xs ≡ ready_from 0 (slot_flags (seens_of c) (chains_of ts)) → xs ≡ ready_from 0 (slot_flags (seens_of c) (chains_of ss))
 listed c xs ss ts e f = f ∙ ap (λ us. ready_from 0 (slot_flags (seens_of c) (chains_of us))) e
+
+-- ## After a pick that left its turn unfinished, the same slots are ready
+
+same_at : (fs : List Seen) (i : ℕ) (f : Seen) → slice_get fs i ≡ Some f → slice_set fs i f ≡ fs
+same_at [] i f e = refl
+same_at (x ∷ fs) zero f e = let same : x ≡ f = cc in ap (λ y. y ∷ fs) (sym same)
+same_at (x ∷ fs) (suc i) f e = ap (λ ys. x ∷ ys) (same_at fs i f e)
+
+-- its slot still is
+still_on : (ss : List Seen) (left : List ℕ) (v : ℕ) (waiting : List ℕ) (s : Seen) → left ≡ v ∷ waiting → slice_get ss v ≡ Some s → ready s ≡ true → slot_ready ss left ≡ true
+still_on ss left v [] s e at on = ap (slot_ready ss) e ∙ (ap ready_of at ∙ on)
+still_on ss left v (x ∷ xs) s e at on = ap (slot_ready ss) e
+
+in_turn : (s : Seen) → is_some s.going ≡ true → ready s ≡ true
+in_turn s e = ap (λ b. if b then true else not (is_empty s.queue)) e
+
+pub still_ready : (homes : List ℕ) (born w k n : ℕ) (r : Picked) (cs ds : List (List ℕ)) (old new : List Seen) (js ks : List PickEntry) (xs : List ℕ) (at : ℕ) → w < 32 → Chains homes born 0 cs → r ≡ picked.Unfinished n → PickedIn w k r cs ds old new js ks
+    → xs ≡ ready_from 0 (slot_flags old cs) → slice_get xs at ≡ Some w → xs ≡ ready_from 0 (slot_flags new ds)
+still_ready homes born w k n r cs ds old new js ks xs at small chains is p list chosen =
+    let flags = set_is k w homes born cs cs ds old old new js js ks [] [] [] 0 0 0 xs at small chains r p list chosen in
+    let here = was_at k w homes born cs cs ds old old new js js ks [] [] [] 0 0 0 xs at small chains r p list chosen in
+    let was : slot_ready old p.lives ≡ true = sym (ready_flag (slot_ready old p.lives)) ∙ was_ready k w homes born cs cs ds old old new js js ks [] [] [] 0 0 0 xs at small chains r p list chosen in
+    let cut : IsCut k p.slot.was p.slot.is × (n ≡ (image p.slot.is).spent) = subst (λ (q : Picked). Picks k q p.slot.was p.slot.is) is p.slot.picks in
+    let on : slot_ready new p.left ≡ true = still_on new p.left p.slot.life p.slot.waiting p.slot.is p.slot.left_is p.slot.now (in_turn p.slot.is cut.0.going) in
+    let same : slot_flags new ds ≡ slot_flags old cs = flags ∙ (ap (λ b. slice_set (slot_flags old cs) w (flag b)) (on ∙ sym was) ∙ same_at (slot_flags old cs) w (flag (slot_ready old p.lives)) here) in
+    list ∙ ap (ready_from 0) (sym same)

@@ -62,6 +62,19 @@ fn note_ready(ready: &mut Vec<u32>, w: u32, is: bool) -> Result<(), Memory>
     Ok(())
 }
 
+/// Fills a list anew with the slots that are ready, in rising order.
+pub(crate) fn fill_ready(ready: &mut Vec<u32>, crowd: &Crowd, slots: &[Slot]) -> Result<(), Memory>
+    requires housed { (born : ℕ) × AreHoused born crowd.now slots.now }
+    ensures { OnOk result (ready.new.items ≡ ready_from 0 (slot_flags (seens_of crowd.now) (chains_of slots.now))) }
+{
+    ready.clear();
+    'slots: for w in 0..slots.len() {
+        let is = is_ready_at(crowd, slots, w);
+        note_ready(ready, w as u32, is)?;
+    }
+    Ok(())
+}
+
 /// The slots that are ready, in rising order: the present life of each has a turn in progress or a queue
 /// that is not empty, or a swap waits.
 pub fn ready_slots(alloc: Global, crowd: &Crowd, slots: &[Slot]) -> Result<Vec<u32>, Memory>
@@ -69,9 +82,6 @@ pub fn ready_slots(alloc: Global, crowd: &Crowd, slots: &[Slot]) -> Result<Vec<u
     ensures { IfOk result (λ v. v.items ≡ ready_from 0 (slot_flags (seens_of crowd.now) (chains_of slots.now))) }
 {
     let mut ready = Vec::new(alloc);
-    'slots: for w in 0..slots.len() {
-        let is = is_ready_at(crowd, slots, w);
-        note_ready(&mut ready, w as u32, is)?;
-    }
+    fill_ready(&mut ready, crowd, slots)?;
     Ok(ready)
 }

@@ -1,18 +1,47 @@
 //! Picks of slots, until none is ready.
-ghost use Rattle.std.specs.Prelude.{◌≡◌, ℕ, ◌<◌, OnOk, [], ◌∷◌, map};
+ghost use Rattle.std.specs.Prelude.{◌≡◌, ℕ, ◌<◌, IfOk, OnOk, [], ◌∷◌, map, Some, slice_get};
 ghost use Rattle.life_laws.specs.Life.{due, image};
 ghost use Rattle.pick_laws.specs.Journal.{ready_from};
-ghost use Rattle.slot_laws.specs.Chains.{last_life};
+ghost use Rattle.slot_laws.specs.Chains.{PickedIn, last_life};
 ghost use Rattle.slot_laws.specs.Settled.{SettledSlots, slot_flags};
 ghost use Rattle.slot_picks.specs.Crowds.{AreHoused, FewCrowd, KeepsCrowd, chains_of, seens_of};
 ghost use Rattle.slot_picks.specs.Places.{homes_of};
 
 use crate::crowd::Crowd;
-use crate::ready::ready_slots;
+use crate::ready::{fill_ready, ready_slots};
 use crate::slots::{Slot, pick_slot};
 use code_units::Memory;
+use pick_laws::Picked;
 use std::alloc::Global;
 use turn_sched::Chooser;
+
+// One of the slots that are ready is picked, and the list is of those that are ready then: where the turn is
+// not over they are the same.
+fn pick_ready(
+    alloc: Global,
+    crowd: &mut Crowd,
+    slots: &mut Vec<Slot>,
+    ready: &mut Vec<u32>,
+    w: u32,
+    k: u32,
+) -> Result<Picked, Memory>
+    requires slice { 0 < k }
+    requires housed { (born : ℕ) × AreHoused born crowd.old slots.old.items }
+    requires list { ready.old.items ≡ ready_from 0 (slot_flags (seens_of crowd.old) (chains_of slots.old.items)) }
+    requires ready { (at : ℕ) × (slice_get ready.old.items at ≡ Some w) }
+    ensures picked { IfOk result (λ r. PickedIn w k r (chains_of slots.old.items) (chains_of slots.new.items) (seens_of crowd.old) (seens_of crowd.new) crowd.old.journal.items crowd.new.journal.items) }
+    ensures list { OnOk result (ready.new.items ≡ ready_from 0 (slot_flags (seens_of crowd.new) (chains_of slots.new.items))) }
+    ensures housed { OnOk result ((born : ℕ) → AreHoused born crowd.old slots.old.items → AreHoused born crowd.new slots.new.items) }
+    ensures few { OnOk result ((n : ℕ) → FewCrowd n crowd.old → FewCrowd n crowd.new) }
+    ensures stays { KeepsCrowd crowd.old crowd.new }
+{
+    let picked = pick_slot(alloc, crowd, slots, w, k)?;
+    if let Picked::Unfinished { .. } = picked {
+        return Ok(picked);
+    }
+    fill_ready(ready, crowd, slots)?;
+    Ok(picked)
+}
 
 /// Slots are picked with this slice until none is ready, each by the chooser's answer to which of the ready
 /// ones is next. No swap waits then, and each life has done all that it had to do.
@@ -33,13 +62,13 @@ pub fn settle_slots<C: Chooser>(
     ensures few { OnOk result ((n : ℕ) → FewCrowd n crowd.old → FewCrowd n crowd.new) }
     ensures stays { KeepsCrowd crowd.old crowd.new }
 {
+    let mut ready = ready_slots(alloc, crowd, slots)?;
     'picks: loop {
-        let ready = ready_slots(alloc, crowd, slots)?;
         if ready.is_empty() {
             return Ok(());
         }
         let at = chooser.next(&ready);
         let w = ready[at];
-        pick_slot(alloc, crowd, slots, w, slice)?;
+        pick_ready(alloc, crowd, slots, &mut ready, w, slice)?;
     }
 }

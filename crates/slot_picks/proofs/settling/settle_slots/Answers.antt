@@ -14,28 +14,27 @@ use Rattle.slot_picks.proofs.Quiet.{only_lasts}
 use Rattle.slot_picks.proofs.Settles.{listed, slot_there, slots_below}
 use Rattle.slot_picks.proofs.settling.settle_slots.Goals as goal
 
+pub ready_slots-requires : goal.ready_slots-requires
+ready_slots-requires g c =
+    let born = c.requires.housed.0 in
+    record { housed = (born, subst (λ ss. AreHoused born c.args.crowd.now ss) (sym c.deref.ensures.value) c.requires.housed.1) }
+
 pub picks-init : goal.picks-init
 picks-init g c = record {
   settled = slots_none c.args.slice (homes_of c.args.crowd.now.places.items) (chains_of c.args.slots.now.items) (seens_of c.args.crowd.now) c.args.crowd.now.journal.items _ _;
+  list = listed c.args.crowd.now c.in_ok-ready.ready.items c.args.slots.now.items c.deref.result.now c.deref.ensures.value c.in_ok-ready.ensures;
   housed = λ born h. h;
   few = λ n h. h;
   stays = keeps_here c.args.crowd.now;
   lasts = refl;
 }
 
-pub ready_slots-requires : goal.ready_slots-requires
-ready_slots-requires g c =
-    let born = c.requires.housed.0 in
-    let h = c.picks.invariant.housed born c.requires.housed.1 in
-    record { housed = (born, subst (λ ss. AreHoused born c.picks.crowd ss) (sym c.deref.ensures.value) h) }
-
 pub returns-then-is_empty : goal.returns-then-is_empty
 returns-then-is_empty g c =
     let born = c.requires.housed.0 in
     let h = c.picks.invariant.housed born c.requires.housed.1 in
-    let list = listed c.picks.crowd c.in_ok-ready.ready.items c.picks.slots.items c.deref.result.now c.deref.ensures.value c.in_ok-ready.ensures in
-    let none : c.in_ok-ready.ready.items ≡ [] = empty_of c.in_ok-ready.ready.items _ c.is_empty.result c.is_empty.ensures c.if-is_empty.true c.in_ok-ready.ready.ok.0 in
-    let quiet : ready_from 0 (slot_flags (seens_of c.picks.crowd) (chains_of c.picks.slots.items)) ≡ [] = sym list ∙ none in
+    let none : c.picks.ready.items ≡ [] = empty_of c.picks.ready.items _ c.is_empty.result c.is_empty.ensures c.if-is_empty.true c.picks.ready.ok.0 in
+    let quiet : ready_from 0 (slot_flags (seens_of c.picks.crowd) (chains_of c.picks.slots.items)) ≡ [] = sym c.picks.invariant.list ∙ none in
     record {
       settled = c.picks.invariant.settled;
       done = all_done (chains_of c.picks.slots.items) (seens_of c.picks.crowd) quiet h.rest ∙ c.picks.invariant.settled.went.dues;
@@ -47,39 +46,34 @@ returns-then-is_empty g c =
     }
 
 pub next-at-requires-clause-rising : goal.next-at-requires-clause-rising
-next-at-requires-clause-rising g c =
-    let list = listed c.picks.crowd c.in_ok-ready.ready.items c.picks.slots.items c.deref.result.now c.deref.ensures.value c.in_ok-ready.ensures in
-    rises_as (slot_flags (seens_of c.picks.crowd) (chains_of c.picks.slots.items)) c.deref-in-picks.result.now (c.deref-in-picks.ensures.value ∙ list)
+next-at-requires-clause-rising g c = rises_as (slot_flags (seens_of c.picks.crowd) (chains_of c.picks.slots.items)) c.deref-in-picks.result.now (c.deref-in-picks.ensures.value ∙ c.picks.invariant.list)
 
 pub next-at-requires-clause-below : goal.next-at-requires-clause-below
 next-at-requires-clause-below g c =
     let h = c.picks.invariant.housed c.requires.housed.0 c.requires.housed.1 in
-    let list = listed c.picks.crowd c.in_ok-ready.ready.items c.picks.slots.items c.deref.result.now c.deref.ensures.value c.in_ok-ready.ensures in
-    slots_below (seens_of c.picks.crowd) c.picks.slots.items c.deref-in-picks.result.now (c.deref-in-picks.ensures.value ∙ list) h.slots
+    slots_below (seens_of c.picks.crowd) c.picks.slots.items c.deref-in-picks.result.now (c.deref-in-picks.ensures.value ∙ c.picks.invariant.list) h.slots
 
-pub pick_slot-requires : goal.pick_slot-requires
-pick_slot-requires g c =
-    let h = c.picks.invariant.housed c.requires.housed.0 c.requires.housed.1 in
-    let xs = c.in_ok-ready.ready.items in
-    let list = listed c.picks.crowd c.in_ok-ready.ready.items c.picks.slots.items c.deref.result.now c.deref.ensures.value c.in_ok-ready.ensures in
+pub pick_ready-requires : goal.pick_ready-requires
+pick_ready-requires g c =
+    let xs = c.picks.ready.items in
     let within : c.next-at.result < length xs = omega (arith, c.next-at.ensures.within, ap (length {A = ℕ}) c.deref-in-picks.ensures.value) in
     let at : slice_get xs c.next-at.result ≡ Some c.index-w.result.now = slice_get_read xs (length xs) c.next-at.result c.index-w.result.now refl within c.index-w.ensures in
     record {
-      there = slot_there (seens_of c.picks.crowd) c.picks.slots.items xs c.next-at.result c.index-w.result.now list at;
       slice = c.requires.slice;
-      housed = (c.requires.housed.0, h);
+      housed = (c.requires.housed.0, c.picks.invariant.housed c.requires.housed.0 c.requires.housed.1);
+      list = c.picks.invariant.list;
+      ready = (c.next-at.result, at);
     }
 
-pub returns-in_err-pick_slot-clause-stays : goal.returns-in_err-pick_slot-clause-stays
-returns-in_err-pick_slot-clause-stays g c = keeps_then c.args.crowd.now c.picks.crowd c.pick_slot.new.crowd c.picks.invariant.stays c.pick_slot.ensures.stays
+pub returns-in_err-pick_ready-clause-stays : goal.returns-in_err-pick_ready-clause-stays
+returns-in_err-pick_ready-clause-stays g c = keeps_then c.args.crowd.now c.picks.crowd c.pick_ready.new.crowd c.picks.invariant.stays c.pick_ready.ensures.stays
 
 pub picks-smaller : goal.picks-smaller
 picks-smaller g c =
-    let xs = c.in_ok-ready.ready.items in
-    let list = listed c.picks.crowd c.in_ok-ready.ready.items c.picks.slots.items c.deref.result.now c.deref.ensures.value c.in_ok-ready.ensures in
+    let xs = c.picks.ready.items in
     let within : c.next-at.result < length xs = omega (arith, c.next-at.ensures.within, ap (length {A = ℕ}) c.deref-in-picks.ensures.value) in
     let at : slice_get xs c.next-at.result ≡ Some c.index-w.result.now = slice_get_read xs (length xs) c.next-at.result c.index-w.result.now refl within c.index-w.ensures in
-    slots_lighter c.index-w.result.now c.args.slice c.in_ok-pick_slot.field-0 _ _ _ _ _ _ xs c.next-at.result c.in_ok-pick_slot.ensures.picked list at
+    slots_lighter c.index-w.result.now c.args.slice c.in_ok-pick_ready.field-0 _ _ _ _ _ _ xs c.next-at.result c.in_ok-pick_ready.ensures.picked c.picks.invariant.list at
 
 pub picks-preserved : goal.picks-preserved
 picks-preserved g c =
@@ -87,16 +81,17 @@ picks-preserved g c =
     let h = c.picks.invariant.housed born c.requires.housed.1 in
     let homes = homes_of c.args.crowd.now.places.items in
     let cs = chains_of c.picks.slots.items in
-    let xs = c.in_ok-ready.ready.items in
-    let list = listed c.picks.crowd c.in_ok-ready.ready.items c.picks.slots.items c.deref.result.now c.deref.ensures.value c.in_ok-ready.ensures in
+    let xs = c.picks.ready.items in
+    let list = c.picks.invariant.list in
     let within : c.next-at.result < length xs = omega (arith, c.next-at.ensures.within, ap (length {A = ℕ}) c.deref-in-picks.ensures.value) in
     let at : slice_get xs c.next-at.result ≡ Some c.index-w.result.now = slice_get_read xs (length xs) c.next-at.result c.index-w.result.now refl within c.index-w.ensures in
     let there = slot_there (seens_of c.picks.crowd) c.picks.slots.items xs c.next-at.result c.index-w.result.now list at in
     let chains : Chains homes born 0 cs = subst (λ hs. Chains hs born 0 cs) c.picks.invariant.stays.homes h.chains in
     record {
-      settled = slots_on c.args.slice c.index-w.result.now homes born (chains_of c.args.slots.now.items) cs (chains_of c.pick_slot.new.slots.items) (seens_of c.args.crowd.now) (seens_of c.picks.crowd) (seens_of c.pick_slot.new.crowd) c.args.crowd.now.journal.items c.picks.crowd.journal.items c.pick_slot.new.crowd.journal.items _ _ _ _ _ _ c.deref-in-picks.result.now c.next-at.result (omega (arith, there, h.slots)) chains c.in_ok-pick_slot.field-0 c.picks.invariant.settled c.in_ok-pick_slot.ensures.picked (c.deref-in-picks.ensures.value ∙ list) (ap (λ ys. slice_get ys c.next-at.result) c.deref-in-picks.ensures.value ∙ at) c.next-at.ensures.kept c.next-at.ensures.room;
-      housed = λ b hb. c.in_ok-pick_slot.ensures.housed b (c.picks.invariant.housed b hb);
-      few = λ n f. c.in_ok-pick_slot.ensures.few n (c.picks.invariant.few n f);
-      stays = keeps_then c.args.crowd.now c.picks.crowd c.pick_slot.new.crowd c.picks.invariant.stays c.in_ok-pick_slot.ensures.stays;
-      lasts = lasts_picked c.index-w.result.now c.args.slice c.in_ok-pick_slot.field-0 c.picks.crowd c.pick_slot.new.crowd c.picks.slots.items c.pick_slot.new.slots.items c.in_ok-pick_slot.ensures.picked ∙ c.picks.invariant.lasts;
+      settled = slots_on c.args.slice c.index-w.result.now homes born (chains_of c.args.slots.now.items) cs (chains_of c.pick_ready.new.slots.items) (seens_of c.args.crowd.now) (seens_of c.picks.crowd) (seens_of c.pick_ready.new.crowd) c.args.crowd.now.journal.items c.picks.crowd.journal.items c.pick_ready.new.crowd.journal.items _ _ _ _ _ _ c.deref-in-picks.result.now c.next-at.result (omega (arith, there, h.slots)) chains c.in_ok-pick_ready.field-0 c.picks.invariant.settled c.in_ok-pick_ready.ensures.picked (c.deref-in-picks.ensures.value ∙ list) (ap (λ ys. slice_get ys c.next-at.result) c.deref-in-picks.ensures.value ∙ at) c.next-at.ensures.kept c.next-at.ensures.room;
+      list = c.in_ok-pick_ready.ensures.list;
+      housed = λ b hb. c.in_ok-pick_ready.ensures.housed b (c.picks.invariant.housed b hb);
+      few = λ n f. c.in_ok-pick_ready.ensures.few n (c.picks.invariant.few n f);
+      stays = keeps_then c.args.crowd.now c.picks.crowd c.pick_ready.new.crowd c.picks.invariant.stays c.pick_ready.ensures.stays;
+      lasts = lasts_picked c.index-w.result.now c.args.slice c.in_ok-pick_ready.field-0 c.picks.crowd c.pick_ready.new.crowd c.picks.slots.items c.pick_ready.new.slots.items c.in_ok-pick_ready.ensures.picked ∙ c.picks.invariant.lasts;
     }

@@ -1,0 +1,27 @@
+use Rattle.std.proofs.Common.{subst, sym, arith}
+use Rattle.slot_picks.specs.Crowds.{AreHoused, seens_of}
+use Rattle.slot_picks.specs.Places.{homes_of}
+use Rattle.slot_picks.proofs.Settles.{listed, slot_there, still_ready}
+use Rattle.slot_picks.proofs.settling.pick_ready.Goals as goal
+
+pub pick_slot-requires : goal.pick_slot-requires
+pick_slot-requires c = record {
+  there = slot_there (seens_of c.args.crowd.now) c.args.slots.now.items c.args.ready.now.items c.requires.ready.0 c.args.w c.requires.list c.requires.ready.1;
+  slice = c.requires.slice;
+  housed = c.requires.housed;
+}
+
+pub fill_ready-requires : goal.fill_ready-requires
+fill_ready-requires c =
+    let born = c.requires.housed.0 in
+    record { housed = (born, subst (λ ss. AreHoused born c.pick_slot.new.crowd ss) (sym c.deref.ensures.value) (c.in_ok-picked.ensures.housed born c.requires.housed.1)) }
+
+pub returns-in-Unfinished-clause-list : goal.returns-in-Unfinished-clause-list
+returns-in-Unfinished-clause-list c =
+    let born = c.requires.housed.0 in
+    let h = c.requires.housed.1 in
+    let there = slot_there (seens_of c.args.crowd.now) c.args.slots.now.items c.args.ready.now.items c.requires.ready.0 c.args.w c.requires.list c.requires.ready.1 in
+    still_ready (homes_of c.args.crowd.now.places.items) born c.args.w c.args.k _ c.in_ok-picked.picked _ _ _ _ _ _ c.args.ready.now.items c.requires.ready.0 (omega (arith, there, h.slots)) h.chains c.in-Unfinished.is c.in_ok-picked.ensures.picked c.requires.list c.requires.ready.1
+
+pub returns-clause-list : goal.returns-clause-list
+returns-clause-list c = listed c.pick_slot.new.crowd c.fill_ready.new.ready.items c.pick_slot.new.slots.items c.deref.result.now c.deref.ensures.value c.in_ok-fill_ready.ensures
