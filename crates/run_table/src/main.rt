@@ -1,6 +1,6 @@
 //! Writes whether command lines end as is wanted, which the gate compares with the file `stdout`. The
-//! cases stand in the files in data/ (crate `run_cases`). Then whether calls of frames give what is wanted
-//! (crate `step_cases`).
+//! cases stand in the files in data/ (crate `run_cases`). Then whether calls of frames and of tasks give
+//! what is wanted (crate `step_cases`).
 #![tactic(auto)]
 
 mod real_files;
@@ -9,7 +9,7 @@ use anyhow::Result;
 use real_files::are_real_files_read;
 use run_cases::answers;
 use std::fs;
-use step_cases::{gives_pushed_frame, unwinds_to_the_end};
+use step_cases::{Answer, ends_as_answered, gives_pushed_frame, unwinds_to_the_end};
 
 const FILES: [&str; 9] = [
     "words.jsonl",
@@ -34,7 +34,11 @@ fn main(rt: HostRuntime) -> Result<()> {
     let alloc = rt.alloc();
     let pushed = matches!(gives_pushed_frame(alloc), Ok(true));
     let over = unwinds_to_the_end(alloc);
+    let resumed = matches!(ends_as_answered(alloc, Answer::Undefined), Ok(true));
+    let raised = matches!(ends_as_answered(alloc, Answer::Throw), Ok(true));
     println!(rt; "## a pushed frame is taken out: {pushed}")?;
     println!(rt; "## a return unwinds no frames: {over}")?;
+    println!(rt; "## a call whose native gives undefined ends by it: {resumed}")?;
+    println!(rt; "## a call whose native throws 1 ends by that throw: {raised}")?;
     Ok(())
 }
