@@ -48,7 +48,7 @@ pub pick_laws : PickLaws
 pick_laws = record {
   idle = idle;
   cut = λ k a s t u x y z h. cut k a s t u x y z h.state h.same h.before h.after h.queue h.runs h.within h.some h.enough h.out_of_fuel;
-  over = λ k a s t u x y how o h. over k a s t u x y how o h.same h.before h.after h.queue h.runs h.within h.some h.out h.own h.spent;
+  over = λ k a s t u x y how o h. over k a s t u x y how o h.same h.before h.after h.queue h.runs h.within h.some h.out h.own h.spent h.fuel;
   cut_from = cut_from;
   over_from = over_from;
   idle_not_cut = λ k s t i c. none_or_some _ c.turn i.none c.begins;

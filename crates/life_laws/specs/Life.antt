@@ -243,11 +243,12 @@ pub record IsCut (k : ℕ) (old new : Seen) : Type 0 where
   pub going : is_some new.going ≡ true
   pub due : due new ≡ due old
 
--- the turn is over, and could not be cut at any units of at least k before its end
+-- the turn is over, and could not be cut at any units of at least k before its end, nor at its end
 pub record IsOver (k : ℕ) (old new : Seen) : Type 0 where
   pub turn : Turn
   pub begins : first old ≡ Some turn
   pub least : (h : ℕ) → k ≤ h → h < rest_of turn turn.left → rest_of turn h ≢ h
+  pub fuel : (run_plan turn.left turn.plan).how ≡ OutOfFuel → rest_of turn turn.left < k
   pub shows : image new ≡ at_of turn turn.left
   pub spent : (image new).spent ≡ (image old).spent + rest_of turn turn.left
   pub going : new.going ≡ None

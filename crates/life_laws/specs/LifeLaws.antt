@@ -81,6 +81,7 @@ pub record Ending (k a : ℕ) (s t u : Seen) (x : Going) (y : Turn) (how : End) 
   pub within : x.left ≤ t.own.grant
   pub some : 0 < k
   pub out : run_plan y.left y.plan ≡ record { how = how; state = o; left = y.left }
+  pub fuel : how ≡ OutOfFuel → a < k
   pub own : u.own ≡ closed y.fixed (y.fixed.spent + (y.fixed.grant - y.left))
       (record { how = how; state = o; left = y.left })
   pub spent : u.own.spent ≡ y.fixed.spent + (y.fixed.grant - y.left)

@@ -25,6 +25,9 @@ use Rattle.life_queue.specs.turn_calls.declared.turn.Shared.{Shared}
 use Rattle.life_queue.specs.turn_calls.declared.turn.Turn.{Turn}
 use Rattle.life_queue.specs.turn_calls.declared.turn.Widget.{Widget}
 use Rattle.turn_steps.specs.declared.turn.TurnEnd.{TurnEnd}
+use Rattle.turn_steps.specs.declared.turn.TurnEnd.TheVariants as ended
+use Rattle.life_queue.specs.turn_calls.js_steps.declared.answer.Stop.TheVariants as stop
+use Rattle.store_cells.specs.Cells.{PlainCell}
 use Rattle.turn_steps.specs.Keeping.{KeepsTurn}
 use Rattle.turn_steps.specs.Moving.{IsCutAt, IsEndedAt}
 use Rattle.turn_steps.specs.Turning.{FineTurn as FineTurnOf, FineWidget, end_of, forests, state_in}
@@ -38,6 +41,12 @@ use Rattle.life_picks.specs.Picking.{PicksLife, spent_to}
 
 no_true : false ≡ true → ⊥
 no_true e = cc
+
+-- a turn ends for want of fuel by that stop alone
+only_fuel : (w : ℕ) (cells : List PlainCell) (how : TurnEnd) → end_of w cells how ≡ OutOfFuel → how ≡ ended.Stop stop.Fuel
+only_fuel w cells (ended.Over o) e = cc
+only_fuel w cells (ended.Stop stop.Fuel) e = refl
+only_fuel w cells (ended.Stop (stop.Due c)) e = cc
 
 -- what ends a turn leaves what is spent
 noted_spent : (t : List ℕ) (o : OwnState) → (noted t o).spent ≡ o.spent
@@ -187,6 +196,7 @@ module _ (h m : Shared) (a : Life) (t : Turn) (u : Widget) (units : ℕ) (some :
             (let y : TurnOf = record { fixed = fixed (own_of h w running); plan = at.last; left = left } in y) (end_of u.number m.store.cells how) (state_in (outside a) m u at.dispatches)
             (same_none (life_seen h w running)) refl (ap (option_map (going_of k u.number b)) over_rest) end_works at.runs fine.turn.left some at.out end_own
             (ap (λ (o : OwnState). o.spent) end_own ∙ end_spent (end_of u.number m.store.cells how) (state_in (outside a) m u at.dispatches) (own_of m u.number (spent_to left moved)))
+            (λ e. at.fuel (only_fuel u.number m.store.cells how e))
 
         counts : b.records.turns + (b.records.missed + b.records.gone) ≡ a.records.turns + (a.records.missed + a.records.gone)
         counts = ap counted end_own ∙ end_counted (end_of u.number m.store.cells how) (state_in (outside a) m u at.dispatches) (own_of m u.number (spent_to left moved))

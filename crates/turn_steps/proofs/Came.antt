@@ -26,7 +26,7 @@ module _ (k : ℕ) (old new : Shared) (v u : Widget) (t s : Turn) (less : s.left
     ran_short f x runs none lacks = by (cases_lt (t.left - s.left) k)
       where
         by : (t.left - s.left < k) ⊎ (k ≤ t.left - s.left) → RanTo k old new v u t s f x r
-        by (inl lt) = subst (RanTo k old new v u t s f x) (sym (stops lt)) (record { last = plan_in x new u s; dispatches = s.calls.dispatches.items; less = less; runs = runs; out = lacks lt })
+        by (inl lt) = subst (RanTo k old new v u t s f x) (sym (stops lt)) (record { last = plan_in x new u s; dispatches = s.calls.dispatches.items; less = less; runs = runs; fuel = λ e. lt; out = lacks lt })
         by (inr ge) = subst (RanTo k old new v u t s f x) (sym (cut ge)) (record { less = less; runs = runs; enough = ge; out_of_fuel = none ge })
 
     pub ran_fine : FineTurn new u.number s → FineRan new u.number s r
@@ -37,7 +37,7 @@ module _ (k : ℕ) (old new : Shared) (v u : Widget) (t s : Turn) (less : s.left
         by (inr ge) = subst (FineRan new u.number s) (sym (cut ge)) fine
 
   -- the turn is over
-  pub ran_ended : (how : TurnEnd) (n : ℕ) → n ≡ s.left → (end : Turn) (f : Fixed) (x : Outside) → Runs k (t.left - s.left) (turn_in x old v f t) (turn_in x new u f s) → IsOut x new u s how → IsEndedAt k old new v u t end f x how n
-  ran_ended how n is end f x runs out =
+  pub ran_ended : (how : TurnEnd) (n : ℕ) → n ≡ s.left → (end : Turn) (f : Fixed) (x : Outside) → Runs k (t.left - s.left) (turn_in x old v f t) (turn_in x new u f s) → IsOut x new u s how → (how ≡ ended.Stop stop.Fuel → ⊥) → IsEndedAt k old new v u t end f x how n
+  ran_ended how n is end f x runs out due =
       let P : ℕ → Type 0 = λ m. IsEndedAt k old new v u t end f x how m in
-      subst P (sym is) (record { last = plan_in x new u s; dispatches = s.calls.dispatches.items; less = less; runs = runs; out = out })
+      subst P (sym is) (record { last = plan_in x new u s; dispatches = s.calls.dispatches.items; less = less; runs = runs; fuel = λ e. absurd (due e); out = out })

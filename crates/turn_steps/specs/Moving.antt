@@ -1,5 +1,5 @@
 -- A turn as it is run for the units of a pick.
-use Rattle.std.specs.Prelude.{◌≡◌, ℕ, ◌-◌, ◌≤◌, List, Bool}
+use Rattle.std.specs.Prelude.{◌≡◌, ℕ, ◌-◌, ◌<◌, ◌≤◌, List, Bool}
 use Rattle.widget_meaning.specs.Plan as plan
 use Rattle.widget_meaning.specs.Plan.{Plan}
 use Rattle.widget_meaning.specs.Meaning.{run_plan}
@@ -7,7 +7,9 @@ use Rattle.native_image.specs.Image.{Outside}
 use Rattle.life_laws.specs.Life.{Fixed, Runs}
 use Rattle.turn_calls.specs.declared.turn.Shared.{Shared}
 use Rattle.turn_calls.specs.declared.turn.Turn.{Turn}
+use Rattle.turn_calls.specs.js_steps.declared.answer.Stop.TheVariants as stop
 use Rattle.turn_steps.specs.declared.turn.TurnEnd.{TurnEnd}
+use Rattle.turn_steps.specs.declared.turn.TurnEnd.TheVariants as ended
 use Rattle.turn_steps.specs.declared.turn.Ran.{Ran}
 use Rattle.turn_steps.specs.declared.turn.Ran.TheVariants as ran
 use Rattle.turn_calls.specs.declared.turn.Widget.{Widget}
@@ -26,12 +28,13 @@ module _ (k : ℕ) (old new : Shared) (v u : Widget) (t s : Turn) where
     pub enough : k ≤ t.left - s.left
     pub out_of_fuel : run_plan 0 (plan_in x new u s) ≡ record { how = plan.OutOfFuel; state = state_in x new u s.calls.dispatches.items; left = 0 }
 
-  -- The turn is over so, with this fuel left: its last plan ends at once, at the widget's state with some dispatches open.
+  -- The turn is over so, with this fuel left: its last plan ends at once, at the widget's state with some dispatches open; for want of fuel only where the units are not used up.
   pub record IsEndedAt (f : Fixed) (x : Outside) (how : TurnEnd) (left : ℕ) : Type 0 where
     pub last : Plan
     pub dispatches : List Bool
     pub less : left ≤ t.left
     pub runs : Runs k (t.left - left) (turn_in x old v f t) (record { fixed = f; plan = last; left = left })
+    pub fuel : how ≡ ended.Stop stop.Fuel → t.left - left < k
     pub out : run_plan left last ≡ record { how = end_of u.number new.store.cells how; state = state_in x new u dispatches; left = left }
 
   -- what came of a turn, of which this is left where it is cut

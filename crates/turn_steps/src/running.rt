@@ -50,6 +50,7 @@ fn ended(turn: &mut Turn) -> TurnEnd
     ensures out { (x : Outside) (h : SharedBy) (v : WidgetOf) → IsOut x h v turn.old result }
     ensures fine { (h : SharedBy) (v : WidgetOf) → FineTurn h v.number turn.old → FineEnd v.number h.store.cells result }
     ensures left { turn.new.left ≡ turn.old.left }
+    ensures due { result ≡ TurnEnd.Stop Stop.Fuel → ⊥ }
 {
     match take(&mut turn.doing) {
         Doing::Over(how) => TurnEnd::Over(how),

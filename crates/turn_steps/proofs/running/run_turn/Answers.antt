@@ -153,7 +153,7 @@ returns-clause-ran c =
     let inv = c.steps.invariant in
     λ f x.
     ran_ended c.args.units c.args.shared.now c.steps.shared c.args.widget.now c.steps.widget c.args.turn.now c.steps.turn inv.less c.ended-how.result c.ended-how.new.turn.left c.ended-how.ensures.left c.ended-how.new.turn f x
-    (inv.runs f x) (c.ended-how.ensures.out x c.steps.shared c.steps.widget)
+    (inv.runs f x) (c.ended-how.ensures.out x c.steps.shared c.steps.widget) c.ended-how.ensures.due
 
 pub returns-clause-fine : goal.returns-clause-fine
 returns-clause-fine c = c.ended-how.ensures.fine c.steps.shared c.steps.widget (subst (λ (n : ℕ). FineTurn c.steps.shared n c.steps.turn) (sym c.steps.invariant.number) c.steps.invariant.turn)
