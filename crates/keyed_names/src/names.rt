@@ -1,5 +1,5 @@
 //! Interned names.
-ghost use Rattle.std.specs.Prelude.{◌≡◌, ◌↔◌, ◌<◌, ◌^◌, [], length, IsTrue, IfOk, OnErr, Some, true, false, slice_get, option_copied, MatchOption};
+ghost use Rattle.std.specs.Prelude.{◌≡◌, ◌↔◌, ◌<◌, ◌^◌, [], length, IsTrue, IfOk, IfSome, OnErr, Some, true, false, slice_get, option_copied, MatchOption};
 ghost use Rattle.std.specs.List.{list_any};
 ghost use Rattle.std.specs.Str.{bytes_eq};
 ghost use Rattle.keyed_names.specs.Interned.{Interns, IsTable};
@@ -64,14 +64,28 @@ impl Names {
             (λ n. (slice_get self.now n ≡ Some name.now) × (n < length self.now)) }
         ensures table { IsTable self.now }
     {
+        match self.hinted(name) {
+            Some(n) => Some(n),
+            None => self.looked_up(name),
+        }
+    }
+
+    /// The number under which the name was found last, where it has it.
+    #[inline(always)]
+    pub fn hinted(&self, name: &Text) -> Option<u32>
+        ensures found { IfSome result (λ n. (slice_get self.now n ≡ Some name.now) × (n < length self.now)) }
+        ensures table { IsTable self.now }
+    {
         let hint = name.hint();
         if self.is_at(hint, name) {
-            return Some(hint);
+            Some(hint)
+        } else {
+            None
         }
-        self.looked_up(name)
     }
 
     // Whether a name has a number.
+    #[inline(always)]
     fn is_at(&self, n: u32, name: &Text) -> bool
         ensures found { result ≡ true → slice_get self.now n ≡ Some name.now }
         ensures table { IsTable self.now }
@@ -83,6 +97,7 @@ impl Names {
     }
 
     // The number of the name by its hash, which then is its hint.
+    #[inline(never)]
     #[tactic(auto, using(crate::proofs::Interning::found_at))]
     fn looked_up(&self, name: &Text) -> Option<u32>
         ensures found { MatchOption result (list_any (bytes_eq name.now) self.now ≡ false)

@@ -37,6 +37,7 @@ impl<V> Model for FewPairs<V> {
 }
 
 // The place of a number in a list.
+#[inline(always)]
 fn place_in<V>(list: &[(u32, V)], n: u32) -> Option<usize>
     ensures { result ≡ position (λ e. nat_eq n e.0) list.now }
 {
@@ -92,6 +93,7 @@ impl<V> FewPairs<V> {
     }
 
     /// The place of a number.
+    #[inline(always)]
     pub(crate) fn place(&self, n: u32) -> Option<usize>
         ensures { result ≡ position (nat_eq n) (keys_of self.now.entries) }
     {
@@ -99,6 +101,7 @@ impl<V> FewPairs<V> {
     }
 
     /// The value under a number.
+    #[inline(always)]
     pub(crate) fn get(&self, n: u32) -> Option<&V>
         ensures { option_copied result ≡ lookup (nat_eq n) self.now.entries }
     {

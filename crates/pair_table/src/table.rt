@@ -70,12 +70,13 @@ impl<V> PairTable<V> {
     }
 
     /// The value under a number.
+    #[inline(always)]
     pub fn get(&self, n: u32) -> Option<&V>
         ensures { option_copied result ≡ lookup (nat_eq n) self.now.entries }
     {
         match &self.storage {
             Storage::Few(few) => few.get(n),
-            Storage::Many(map) => map.get(&n),
+            Storage::Many(map) => get_in(map, n),
         }
     }
 
@@ -188,6 +189,14 @@ impl<V: Drop> PairTable<V> {
             Storage::Many(map) => retain_in(map, bound),
         }
     }
+}
+
+// The value under a number in a map.
+#[inline(never)]
+fn get_in<V>(map: &IndexMap<u32, V, NumberKeys>, n: u32) -> Option<&V>
+    ensures { option_copied result ≡ lookup (nat_eq n) map.now.entries }
+{
+    map.get(&n)
 }
 
 // Whether the pairs stand in a list that cannot hold so many more.

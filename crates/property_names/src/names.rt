@@ -76,6 +76,7 @@ fn ruled_at(n: u32) -> Option<u32>
 }
 
 // The number of the interned name at a place.
+#[inline(always)]
 fn shifted(place: u32) -> u32
     requires { place < RULED }
     ensures { result ≡ shifted place }
@@ -168,12 +169,26 @@ impl PropertyNames {
 
     /// The number of the name, none exactly where it is none of these. An index below the bound is
     /// not hashed.
+    #[inline(always)]
     pub fn number(&self, name: &Text) -> Option<u32>
         ensures found { MatchOption result (list_any (bytes_eq name.now) self.now ≡ false)
             (λ n. (slice_get self.now n ≡ Some name.now) × (n < length self.now)) }
         ensures table { IsTable self.now }
     {
         // To read the field opens what the type keeps.
+        let _names = &self.names;
+        match self.names.hinted(name) {
+            Some(place) => Some(shifted(place)),
+            None => self.looked_up(name),
+        }
+    }
+
+    // The number of a name that was not found before.
+    #[inline(never)]
+    fn looked_up(&self, name: &Text) -> Option<u32>
+        ensures { MatchOption result (list_any (bytes_eq name.now) self.now ≡ false)
+            (λ n. (slice_get self.now n ≡ Some name.now) × (n < length self.now)) }
+    {
         let _names = &self.names;
         match ruled(name) {
             Some(i) => Some(FIRST_INDEX + i),
