@@ -1,5 +1,5 @@
 //! Few pairs, in a plain list that is searched from its front.
-ghost use Rattle.std.specs.Prelude.{◌≡◌, ◌+◌, ◌-◌, ◌<◌, ◌≤◌, ℕ, List, [], ◌∷◌, None, nat_eq, nat_lt, length, filter, slice_get, position, swap_remove, option_map, option_copied, vec_capacity, IfSome, IfNone, IsOk, OnOk, OnErr};
+ghost use Rattle.std.specs.Prelude.{◌≡◌, ◌+◌, ◌-◌, ◌<◌, ◌≤◌, ℕ, List, [], ◌∷◌, None, Some, nat_eq, nat_lt, length, filter, slice_get, position, swap_remove, option_map, option_copied, vec_capacity, IfSome, IfNone, IsOk, OnOk, OnErr};
 ghost use Rattle.std.specs.List.{IsDistinct};
 ghost use Rattle.std.specs.Map.{keys_of, lookup, remove_entry};
 ghost use Rattle.std.specs.Map.Iter.{deref_pair};
@@ -83,6 +83,15 @@ impl<V> FewPairs<V> {
         }
     }
 
+    /// These pairs, whose numbers differ.
+    #[inline(always)]
+    pub(crate) fn of_list(list: Vec<(u32, V)>) -> FewPairs<V>
+        requires { IsDistinct nat_eq (keys_of list.items) }
+        ensures { result.entries ≡ list.items }
+    {
+        FewPairs { list }
+    }
+
     /// How many pairs there are. Their numbers differ, and the room ends where they are no longer few.
     pub(crate) fn len(&self) -> usize
         ensures len { result ≡ length self.now.entries }
@@ -109,6 +118,26 @@ impl<V> FewPairs<V> {
         Some(&self.list[place].1)
     }
 
+    /// The value under a number, which is looked for at one place first, and the place where it was found.
+    #[inline(always)]
+    pub(crate) fn get_near(&self, n: u32, near: usize) -> Option<(&V, usize)>
+        ensures { option_map (λ p. p.0.now) result ≡ lookup (nat_eq n) self.now.entries }
+    {
+        match self.list.get(near) {
+            Some(pair) if pair.0 == n => Some((&pair.1, near)),
+            _ => self.get_far(n),
+        }
+    }
+
+    // The same by a search.
+    #[inline(always)]
+    fn get_far(&self, n: u32) -> Option<(&V, usize)>
+        ensures { option_map (λ p. p.0.now) result ≡ lookup (nat_eq n) self.now.entries }
+    {
+        let place = self.place(n)?;
+        Some((&self.list[place].1, place))
+    }
+
     /// The pair at a place.
     pub(crate) fn get_index(&self, place: usize) -> Option<(&u32, &V)>
         ensures { option_map deref_pair result ≡ slice_get self.now.entries place }
@@ -132,6 +161,16 @@ impl<V> FewPairs<V> {
 }
 
 impl<V: Drop> FewPairs<V> {
+    /// Puts a value under a number that is at a place.
+    #[inline(always)]
+    pub(crate) fn set(&mut self, n: u32, place: usize, value: V)
+        requires { position (nat_eq n) (keys_of self.old.entries) ≡ Some place }
+        ensures { self.new.entries ≡ insert_entry nat_eq self.old.entries n value }
+    {
+        let _n = n;
+        self.list[place].1 = value;
+    }
+
     /// Puts a value under a number, a new one last, where there may be one more.
     pub(crate) fn insert(&mut self, n: u32, value: V) -> Result<(), AllocError>
         ensures entries { OnOk result (self.new.entries ≡ insert_entry nat_eq self.old.entries n value) }

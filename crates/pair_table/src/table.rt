@@ -1,5 +1,5 @@
 //! A table of pairs.
-ghost use Rattle.std.specs.Prelude.{◌≡◌, ◌+◌, ◌<◌, ◌≤◌, ℕ, List, [], ◌∷◌, None, nat_eq, nat_lt, length, filter, slice_get, position, swap_remove, option_map, option_copied, is_some, IfSome, IfNone, IsOk, IfOk, OnOk, OnErr, true, false};
+ghost use Rattle.std.specs.Prelude.{◌≡◌, ◌+◌, ◌<◌, ◌≤◌, ℕ, List, [], ◌∷◌, None, Some, nat_eq, nat_lt, length, filter, slice_get, position, swap_remove, option_map, option_copied, is_some, IfSome, IfNone, IsOk, IfOk, OnOk, OnErr, true, false};
 ghost use Rattle.std.specs.List.{IsDistinct};
 ghost use Rattle.std.specs.Map.{keys_of, lookup, remove_entry};
 ghost use Rattle.std.specs.Map.Iter.{deref_pair};
@@ -51,6 +51,17 @@ impl<V> PairTable<V> {
         }
     }
 
+    /// These few pairs, whose numbers differ.
+    #[inline(always)]
+    pub fn of_few(list: Vec<(u32, V)>) -> PairTable<V>
+        requires { IsDistinct nat_eq (keys_of list.items) }
+        ensures { result.entries ≡ list.items }
+    {
+        PairTable {
+            storage: Storage::Few(FewPairs::of_list(list)),
+        }
+    }
+
     /// How many pairs there are. Their numbers differ.
     pub fn len(&self) -> usize
         ensures len { result ≡ length self.now.entries }
@@ -90,6 +101,18 @@ impl<V> PairTable<V> {
         }
     }
 
+    /// The value under a number, if any, which is looked for at one place first, and the place where it was
+    /// found; none where this is not seen at once.
+    #[inline(always)]
+    pub fn quick_get(&self, n: u32, near: usize) -> Option<Option<(&V, usize)>>
+        ensures { IfSome result (λ o. option_map (λ p. p.0.now) o ≡ lookup (nat_eq n) self.now.entries) }
+    {
+        match &self.storage {
+            Storage::Few(few) => Some(few.get_near(n, near)),
+            Storage::Many(map) => near_in(map, n, near),
+        }
+    }
+
     /// The pair at a place.
     pub fn get_index(&self, place: usize) -> Option<(&u32, &V)>
         ensures { option_map deref_pair result ≡ slice_get self.now.entries place }
@@ -102,6 +125,18 @@ impl<V> PairTable<V> {
 }
 
 impl<V: Drop> PairTable<V> {
+    /// Puts a value under a number that is at a place.
+    #[inline(always)]
+    pub fn set(&mut self, n: u32, place: usize, value: V)
+        requires { position (nat_eq n) (keys_of self.old.entries) ≡ Some place }
+        ensures { self.new.entries ≡ insert_entry nat_eq self.old.entries n value }
+    {
+        match &mut self.storage {
+            Storage::Few(few) => few.set(n, place, value),
+            Storage::Many(map) => set_in(map, n, place, value),
+        }
+    }
+
     /// Makes room for so many more pairs, so that as many new numbers need no memory. A list has no room
     /// past the most that it may hold (`make_places`).
     pub fn reserve(&mut self, additional: usize) -> Result<(), AllocError>
@@ -199,6 +234,21 @@ fn get_in<V>(map: &IndexMap<u32, V, NumberKeys>, n: u32) -> Option<&V>
     map.get(&n)
 }
 
+// The value under a number in a map, where it stands at a place.
+#[inline(always)]
+fn near_in<V>(
+    map: &IndexMap<u32, V, NumberKeys>,
+    n: u32,
+    near: usize,
+) -> Option<Option<(&V, usize)>>
+    ensures { IfSome result (λ o. option_map (λ p. p.0.now) o ≡ lookup (nat_eq n) map.now.entries) }
+{
+    match map.get_index(near) {
+        Some((k, value)) if *k == n => Some(Some((value, near))),
+        _ => None,
+    }
+}
+
 // Whether the pairs stand in a list that cannot hold so many more.
 fn outgrows<V>(storage: &Storage<V>, additional: usize) -> bool
     ensures places { result ≡ false → HasPlaces additional storage.now }
@@ -249,6 +299,19 @@ fn insert_in<V: Drop>(
     match map.insert(n, value) {
         Ok(_) => Ok(()),
         Err(_) => Err(AllocError),
+    }
+}
+
+// Puts a value under a number that a map has.
+#[inline(never)]
+fn set_in<V: Drop>(map: &mut IndexMap<u32, V, NumberKeys>, n: u32, place: usize, value: V)
+    requires { position (nat_eq n) (keys_of map.old.entries) ≡ Some place }
+    ensures { map.new.entries ≡ insert_entry nat_eq map.old.entries n value }
+{
+    let _place = place;
+    match map.insert(n, value) {
+        Ok(_) => {}
+        Err(_) => unreachable!(),
     }
 }
 
