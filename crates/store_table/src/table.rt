@@ -306,7 +306,8 @@ pub fn push(cells: &mut Vec<Cell>, cell: Cell) -> Result<CellId, Memory>
         return Err(Memory);
     }
     let id = cells.len() as u32;
-    cells.push(cell)?;
+    cells.reserve(1)?;
+    cells.push_reserved(cell);
     Ok(id)
 }
 
