@@ -59,6 +59,22 @@ fn property_of_text(store: &Store, t: &Text, name: &Text) -> Result<Value, Memor
     }
 }
 
+/// The first own property along the prototypes of a cell, where it stands; none for an `undefined` that
+/// stands nowhere.
+pub fn property_at<'a>(store: &'a Store, cell: CellId, name: &Text) -> Option<&'a Value>
+    requires { cell < length store.now.cells }
+    ensures found { (fs : List Forest) (r : Rest) (w : ℕ) → IsConfined fs w store.now
+        → IsFine w store.now.cells (Value.Ref cell)
+        → seen w store.now.cells (unwrap_or (option_copied result) Value.Undefined)
+        ≡ properties.get (image fs r w store.now) (seen w store.now.cells (Value.Ref cell)) name.now }
+    ensures fine { (fs : List Forest) (w : ℕ) → IsConfined fs w store.now → IsFine w store.now.cells (Value.Ref cell)
+        → IsFine w store.now.cells (unwrap_or (option_copied result) Value.Undefined) }
+{
+    lawful(store);
+    let _links = store.chain(cell);
+    store.get(cell, name)
+}
+
 // The first own property along the prototypes of a cell, of which there are at most 100.
 fn property_of(store: &Store, cell: CellId, name: &Text) -> Result<Value, Memory>
     requires { cell < length store.now.cells }
@@ -187,18 +203,31 @@ pub fn variable(store: &Store, scope: Option<CellId>, name: &Text) -> Result<Val
     ensures fine { IfOk result (λ v. (fs : List Forest) (w : ℕ)
         → IsConfined fs w store.now → IsPlaceScope w store.now.cells scope → IsFine w store.now.cells v) }
 {
+    shared(variable_at(store, scope, name))
+}
+
+/// The same value where it stands; none for an `undefined` that stands nowhere.
+pub fn variable_at<'a>(store: &'a Store, scope: Option<CellId>, name: &Text) -> Option<&'a Value>
+    requires { IfSome scope (λ i. i < length store.now.cells) }
+    ensures found { (fs : List Forest) (r : Rest) (w d : ℕ)
+        → IsConfined fs w store.now → IsPlaceScope w store.now.cells scope
+        → seen w store.now.cells (unwrap_or (option_copied result) Value.Undefined) ≡ scopes.variable (image fs r w store.now)
+        (record { scope = option_map (scope_number w store.now.cells) scope; depth = d }) name.now }
+    ensures fine { (fs : List Forest) (w : ℕ) → IsConfined fs w store.now → IsPlaceScope w store.now.cells scope
+        → IsFine w store.now.cells (unwrap_or (option_copied result) Value.Undefined) }
+{
     lawful(store);
-    value_of(store, scope, name)
+    value_at(store, scope, name)
 }
 
 // The value of a variable, or else of a listed global.
-fn value_of(store: &Store, scope: Option<CellId>, name: &Text) -> Result<Value, Memory>
+fn value_at<'a>(store: &'a Store, scope: Option<CellId>, name: &Text) -> Option<&'a Value>
     requires { IfSome scope (λ i. i < length store.now.cells) }
-    ensures { IfOk result (λ v. v ≡ stored_value store.now.cells scope name.now) }
+    ensures { unwrap_or (option_copied result) Value.Undefined ≡ stored_value store.now.cells scope name.now }
 {
     match in_scopes(store, scope, name) {
         None => shown(store.get(store.global(), name)),
-        Some(value) => value.share(),
+        Some(value) => Some(value),
     }
 }
 
@@ -213,20 +242,12 @@ fn in_scopes<'a>(store: &'a Store, scope: Option<CellId>, name: &Text) -> Option
     }
 }
 
-// A global for a second holder; the cell of `body` is hidden.
-fn shown(found: Option<&Value>) -> Result<Value, Memory>
-    ensures { IfOk result (λ v. v ≡ shown_global (option_copied found.entry)) }
+// A global; the cell of `body` is hidden.
+fn shown<'a>(found: Option<&'a Value>) -> Option<&'a Value>
+    ensures { unwrap_or (option_copied result) Value.Undefined ≡ shown_global (option_copied found.entry) }
 {
-    match found {
-        None => Ok(Value::Undefined),
-        Some(v) => {
-            if is_body(v) {
-                Ok(Value::Undefined)
-            } else {
-                v.share()
-            }
-        }
-    }
+    let value = found?;
+    if is_body(value) { None } else { Some(value) }
 }
 
 fn is_body(v: &Value) -> bool
