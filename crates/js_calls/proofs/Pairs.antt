@@ -8,7 +8,7 @@ use Rattle.store_cells.specs.Cells.{PlainCell}
 use Rattle.widget_meaning.specs.Values as meaning
 use Rattle.js_image.specs.Image.{all_seen, seen, seen_pairs}
 use Rattle.js_image.specs.Held.{AreFine, ArePairs, IsFine}
-use Rattle.js_names.specs.declared.names.ScopeName.{ScopeName}
+use Rattle.js_tree.specs.declared.nodes.ScopeName.{ScopeName}
 use Rattle.js_names.specs.Names.{argument_at, first_pairs}
 
 pub seen_push : (w : ℕ) (cells : List PlainCell) (ps : List (List ℕ × Value)) (x : List ℕ) (v : Value) → seen_pairs w cells (ps ++ (x, v) ∷ []) ≡ seen_pairs w cells ps ++ (x, seen w cells v) ∷ []

@@ -7,7 +7,7 @@ use Rattle.js_tree.specs.Forest.{Forest, plain_fun, stmts_at}
 use Rattle.widget_meaning.specs.Properties.{is_listed}
 use Rattle.widget_meaning.specs.Scopes.{distinct, stmts_vars}
 use Rattle.js_names.specs.declared.names.FunNames.{FunNames}
-use Rattle.js_names.specs.declared.names.ScopeName.{ScopeName}
+use Rattle.js_tree.specs.declared.nodes.ScopeName.{ScopeName}
 use Rattle.js_names.specs.Hoisting.{fun_texts}
 use Rattle.js_names.specs.Names.{AreNames, ArePlaced, last_place, unlisted}
 use Rattle.js_names.proofs.Hoisted.{texts_at}

@@ -10,7 +10,7 @@ use Rattle.std.proofs.lemmas.List.{length-take, take_more, map-append}
 use Rattle.js_tree.specs.Plain.{FunAt, NoStmts, NoFuns}
 use Rattle.js_tree.specs.Forest.{Forest, fun_at}
 use Rattle.js_names.specs.declared.names.FunNames.{FunNames}
-use Rattle.js_names.specs.declared.names.ScopeName.{ScopeName}
+use Rattle.js_tree.specs.declared.nodes.ScopeName.{ScopeName}
 use Rattle.js_names.specs.Names.{AreNames, ArePlaced, last_place}
 use Rattle.js_names.specs.Found.{AreFound}
 

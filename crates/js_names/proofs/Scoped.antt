@@ -11,7 +11,7 @@ use Rattle.widget_meaning.specs.Values.{Value, Undefined, nth}
 use Rattle.widget_meaning.specs.Properties.{is_listed}
 use Rattle.widget_meaning.specs.Scopes.{argument, call_scope, distinct, first_of_name, other_names, without_name}
 use Rattle.js_names.specs.declared.names.FunNames.{FunNames}
-use Rattle.js_names.specs.declared.names.ScopeName.{ScopeName}
+use Rattle.js_tree.specs.declared.nodes.ScopeName.{ScopeName}
 use Rattle.js_names.specs.Names.{AreNames, ArePlaced, argument_at, first_pairs, last_place, own_pairs, unlisted}
 use Rattle.js_names.proofs.Listed.{apart, distinct_append, each_listed, eq_self, eq_turned, listed_once, none_apart}
 

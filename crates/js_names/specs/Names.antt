@@ -9,7 +9,7 @@ use Rattle.widget_meaning.specs.OwnState.{Pairs}
 use Rattle.widget_meaning.specs.Properties.{is_listed}
 use Rattle.widget_meaning.specs.Scopes.{distinct, other_names}
 use Rattle.js_names.specs.declared.names.FunNames.{FunNames}
-use Rattle.js_names.specs.declared.names.ScopeName.{ScopeName}
+use Rattle.js_tree.specs.declared.nodes.ScopeName.{ScopeName}
 
 -- the parameters of a function
 abbrev pub params_of : Fun → List (List ℕ)

@@ -10,9 +10,8 @@ ghost use Rattle.widget_meaning.specs.Scopes.{distinct};
 ghost use Rattle.js_names.specs.Hoisting.{fun_texts};
 ghost use Rattle.js_names.specs.Names.{ArePlaced, if_new, last_place, unlisted};
 
-use crate::names::ScopeName;
 use code_units::{Memory, Text};
-use js_tree::{FunId, Tree};
+use js_tree::{FunId, ScopeName, Tree};
 use std::alloc::Global;
 use std::collections::{BTreeMap, BTreeSet};
 

@@ -11,4 +11,4 @@ mod names;
 pub use code::Code;
 pub use codes::{code_at, tree_at};
 pub use laws::scopes_of_calls;
-pub use names::{FunNames, ScopeName, fun_names};
+pub use names::{FunNames, fun_names};

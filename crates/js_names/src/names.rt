@@ -7,15 +7,8 @@ ghost use Rattle.js_names.specs.Names.{AreNames};
 use crate::gathering::{add_all, add_funs, each_once, last_places, unlisted, with_places};
 use crate::hoisting::hoist;
 use code_units::{Memory, Text};
-use js_tree::{FunId, Tree};
+use js_tree::{FunId, ScopeName, Tree};
 use std::alloc::Global;
-
-/// A name of a call's scope, with the place of the argument that is its first value.
-#[derive(Drop)]
-pub struct ScopeName {
-    pub text: Text,
-    pub argument: Option<usize>,
-}
 
 /// The names of the scope of a call of a function: parameters, `var` names and declared functions,
 /// each once; and the function's own name, where it is none of these.

@@ -7,7 +7,7 @@ mod tree;
 
 pub use laws::{lists_agree, parts_agree, parts_are_in, sizes_fall};
 pub use nodes::{
-    AssignOp, BinOp, Clause, Decl, Expr, ExprId, ForInit, Fun, FunId, Part, StepOp, Stmt, StmtId,
-    UnOp, Word,
+    AssignOp, BinOp, Clause, Decl, Expr, ExprId, ForInit, Fun, FunId, Part, ScopeName, StepOp,
+    Stmt, StmtId, UnOp, Word,
 };
 pub use tree::Tree;

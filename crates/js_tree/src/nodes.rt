@@ -162,6 +162,14 @@ pub struct Fun {
     pub at: usize,
 }
 
+/// A name of the scope of a call (ECMA-262 3rd edition, 10.1.3), with the place of the argument that is its
+/// first value.
+#[derive(Drop)]
+pub struct ScopeName {
+    pub text: Text,
+    pub argument: Option<usize>,
+}
+
 /// A node of any kind, by its number.
 #[derive(Clone, Copy, PartialEq, Eq, Drop)]
 pub enum Part {

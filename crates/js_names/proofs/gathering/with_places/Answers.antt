@@ -2,7 +2,7 @@ use Rattle.std.proofs.Common.{◌≡◌, ◌+◌, ◌∙◌, sym, subst, map, ta
 use Rattle.std.specs.BTreeMap.{get}
 use Rattle.std.specs.Ordering.{nat_cmp}
 use Rattle.std.specs.Cmp.Lexicographic.{slice_cmp}
-use Rattle.js_names.specs.declared.names.ScopeName.{ScopeName}
+use Rattle.js_tree.specs.declared.nodes.ScopeName.{ScopeName}
 use Rattle.js_names.specs.Names.{ArePlaced}
 use Rattle.js_names.proofs.Placed.{placed_push, texts_push}
 use Rattle.js_names.proofs.gathering.with_places.Goals as goal
