@@ -7,4 +7,4 @@ mod store;
 pub use permitted_table::{HostEntry, NativeId};
 pub use store::{NewCell, Store, own_numbers};
 pub use store_cells::counts::{CELL_LIMIT, Counts, NODE_LIMIT, SLOT_LIMIT, StoreFault, UNIT_LIMIT};
-pub use store_cells::{CellId, CellKind, Form, FunParts, Number, Value};
+pub use store_cells::{CellId, CellKind, FirstNames, Form, FunParts, Number, Value};

@@ -5,6 +5,7 @@ pub mod Numbered
 pub mod Shape
 pub mod Costs
 pub mod Born
+pub mod First
 pub mod Host
 pub mod Bunches
 pub mod Holes

@@ -4,10 +4,12 @@
 
 pub mod cell;
 pub mod counts;
+mod first;
 mod indices;
 mod kind;
 mod pairs;
 mod value;
 
+pub use first::FirstNames;
 pub use kind::{CellKind, Form, FunParts};
 pub use value::{CellId, Number, Value};
