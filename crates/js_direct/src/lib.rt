@@ -1,0 +1,11 @@
+//! Forms that are carried out in place: frames are made only where one is suspended.
+#![tactic(auto)]
+
+mod calls;
+mod forms;
+mod going;
+mod run;
+mod statements;
+mod targets;
+
+pub use going::{go, is_direct};

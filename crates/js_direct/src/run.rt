@@ -1,0 +1,183 @@
+//! What forms share while they are carried out, and how they end.
+ghost use Rattle.std.specs.Prelude.{◌≡◌, ℕ, ◌<◌, ◌++◌, ◌∷◌, [], IfOk, List};
+ghost use Rattle.js_tree.specs.Forest.{Forest};
+ghost use Rattle.store_cells.specs.Cells.{Cells};
+ghost use Rattle.widget_meaning.specs.OwnState.{State};
+ghost use Rattle.widget_meaning.specs.Plan.{Do, Halt, Plan, Ret};
+ghost use Rattle.widget_meaning.specs.Costs as costs;
+ghost use Rattle.js_image.specs.Held.{Kept};
+ghost use Rattle.js_image.specs.Plans.{meant_cause, meant_fault};
+ghost use Rattle.js_names.specs.Code.{trees_of};
+ghost use Rattle.js_flow.specs.Fine.{FineJob, FineLeft};
+ghost use Rattle.js_flow.specs.Frames.{Plans};
+ghost use Rattle.js_flow.specs.Free.{left_free, native_free};
+ghost use Rattle.js_flow.specs.Views.{job_of};
+ghost use Rattle.js_direct.specs.Comes.{Comes, IsLeft, IsReady, ended_as};
+
+use code_units::Memory;
+use js_flow::{Completion, Flow, Frame, Job, Next};
+use js_image::{Fault, StopCause};
+use js_names::Code;
+use object_store::{Store, Value};
+use std::alloc::Global;
+use std::mem;
+
+/// How many forms may stand in each other before they are left to frames.
+pub(crate) const DEEP: u32 = 64;
+
+/// Where forms are carried out: what stays the same while they run.
+#[derive(Drop)]
+pub(crate) struct Site<'a> {
+    pub alloc: Global,
+    pub widget: u32,
+    pub codes: &'a Vec<Code>,
+}
+
+/// What is left to run with, and what is suspended.
+#[derive(Drop)]
+pub(crate) struct Run {
+    /// The units that may still be taken.
+    pub units: u32,
+    /// The frames of forms that are suspended, the innermost first.
+    pub waits: Vec<Frame>,
+    /// What is next, where a form is suspended.
+    pub next: Next,
+}
+
+/// How a form ended; its value is at the place that its caller gave.
+#[derive(Clone, Copy, PartialEq, Eq, Debug, Drop)]
+pub(crate) enum Ended {
+    Normal,
+    Is,
+    Return,
+    Break,
+    Continue,
+    Threw,
+    /// It is suspended.
+    Left,
+}
+
+/// A value at a place that owns nothing.
+#[inline(always)]
+pub(crate) fn set_value(out: &mut Value, value: Value)
+    ensures { out.new ≡ value }
+{
+    mem::forget(mem::replace(out, value));
+}
+
+/// The value of a place, which then has none.
+#[inline(always)]
+pub(crate) fn take_value(out: &mut Value) -> Value
+    ensures taken { result ≡ out.old }
+    ensures left { out.new ≡ Value.Undefined }
+{
+    mem::replace(out, Value::Undefined)
+}
+
+/// No value at a place.
+#[inline(always)]
+pub(crate) fn clear(out: &mut Value)
+    ensures { out.new ≡ Value.Undefined }
+{
+    *out = Value::Undefined;
+}
+
+/// What is next, whatever was: it owned nothing, or was taken out.
+#[inline(always)]
+fn set_next(run: &mut Run, next: Next)
+    ensures next { run.new.next ≡ next }
+    ensures waits { run.new.waits ≡ run.old.waits }
+    ensures units { run.new.units ≡ run.old.units }
+{
+    mem::forget(mem::replace(&mut run.next, next));
+}
+
+/// One frame more waits.
+#[cold]
+#[inline(never)]
+pub(crate) fn wait(run: &mut Run, frame: Frame) -> Result<Ended, Memory>
+    ensures left { IfOk result (λ how. how ≡ Ended.Left) }
+    ensures waits { IfOk result (λ how. run.new.waits.items ≡ run.old.waits.items ++ frame ∷ []) }
+    ensures next { IfOk result (λ how. run.new.next ≡ run.old.next) }
+    ensures units { IfOk result (λ how. run.new.units ≡ run.old.units) }
+{
+    run.waits.push(frame)?;
+    Ok(Ended::Left)
+}
+
+/// A job is next.
+#[cold]
+#[inline(never)]
+pub(crate) fn leave_job(run: &mut Run, job: Job) -> Result<Ended, Memory>
+    requires waits { run.old.waits.items ≡ [] }
+    ensures comes { IfOk result (λ how. (fs : List Forest) (w : ℕ) (s : Cells) (v : Value)
+        → FineJob fs w s.cells job → Comes fs w s s 0 (λ t. Do (job_of fs w s.cells job) t Ret) run.old run.new how v) }
+    ensures left { IfOk result (λ how. how ≡ Ended.Left) }
+    ensures units { IfOk result (λ how. run.new.units ≡ run.old.units) }
+{
+    set_next(run, Next::Go(job));
+    Ok(Ended::Left)
+}
+
+/// The call stops.
+#[cold]
+#[inline(never)]
+pub(crate) fn stop(run: &mut Run, cause: StopCause) -> Result<Ended, Memory>
+    requires waits { run.old.waits.items ≡ [] }
+    ensures comes { IfOk result (λ how. (fs : List Forest) (w : ℕ) (s : Cells) (v : Value)
+        → Comes fs w s s 0 (λ t. Halt (meant_cause cause) t) run.old run.new how v) }
+    ensures left { IfOk result (λ how. how ≡ Ended.Left) }
+    ensures units { IfOk result (λ how. run.new.units ≡ run.old.units) }
+{
+    set_next(run, Next::Stop(cause));
+    Ok(Ended::Left)
+}
+
+/// A fault is thrown.
+#[cold]
+#[inline(never)]
+pub(crate) fn throw(
+    site: &Site,
+    run: &mut Run,
+    store: &mut Store,
+    fault: Fault,
+    out: &mut Value,
+) -> Result<Ended, Memory>
+    requires ready { IsReady (trees_of site.now.codes.now.items) site.now.widget store.old run.old }
+    ensures comes { IfOk result (λ how. Comes (trees_of site.now.codes.now.items) site.now.widget store.old store.new 1
+        (costs.throw (meant_fault fault)) run.old run.new how out.new) }
+    ensures thrown { IfOk result (λ how. how ≡ Ended.Is → ⊥) }
+    ensures kept { Kept (trees_of site.now.codes.now.items) site.now.widget store.old store.new }
+{
+    Err(Memory)
+}
+
+/// What a form left on a flow of its own: how it ended, or else what waits.
+#[cold]
+#[inline(never)]
+pub(crate) fn handed(run: &mut Run, flow: Flow, out: &mut Value) -> Result<Ended, Memory>
+    requires below { flow.below ≡ [] }
+    requires waits { run.old.waits.items ≡ [] }
+    ensures comes { IfOk result (λ how. (fs : List Forest) (w : ℕ) (old s : Cells) (p : State → Plan)
+        → Plans fs w old s p flow → FineLeft fs w s.cells flow → left_free flow < native_free
+        → Comes fs w old s (left_free flow) p run.old run.new how out.new) }
+    ensures units { IfOk result (λ how. run.new.units ≡ run.old.units) }
+{
+    Err(Memory)
+}
+
+/// How a form ended, as frames take it.
+pub(crate) fn completion(how: Ended, out: Value) -> Completion
+    requires { IsLeft how → ⊥ }
+    ensures { result ≡ ended_as how out }
+{
+    match how {
+        Ended::Normal => Completion::Normal,
+        Ended::Is => Completion::Is(out),
+        Ended::Return => Completion::Return(out),
+        Ended::Break => Completion::Break,
+        Ended::Continue => Completion::Continue,
+        Ended::Threw => Completion::Throw(out),
+        Ended::Left => unreachable!(),
+    }
+}
