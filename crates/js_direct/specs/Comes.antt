@@ -39,10 +39,10 @@ abbrev pub target_as : Ended → Reference → Value → Completion
 target_as ended.Is r v = completion.Refers r
 target_as how r v = ended_as how v
 
--- it is suspended
-abbrev pub IsLeft : Ended → Type 0
-IsLeft ended.Left = Unit {0}
-IsLeft _ = ⊥
+-- it ended
+abbrev pub IsEnd : Ended → Type 0
+IsEnd ended.Left = ⊥
+IsEnd _ = Unit {0}
 
 -- a native is next
 abbrev pub IsNative : Next → Type 0

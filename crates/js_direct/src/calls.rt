@@ -30,7 +30,7 @@ pub(crate) fn call_on(
     requires held { IsExprAt (trees_of site.now.codes.now.items) site.now.widget store.old.cells id place.now
         × IsExprAt (trees_of site.now.codes.now.items) site.now.widget store.old.cells to place.now }
     ensures comes { let F = trees_of site.now.codes.now.items in let w = site.now.widget in
-        IfOk result (λ how. Comes F w store.old store.new 31
+        IfOk result (λ how. Comes F w store.old store.new 30
         (λ s. Do (job_of F w store.old.cells (Job.Target to place.now)) s
         (taken F w store.old.cells (Frame.Call (CallFrame.Callee id place.now))))
         run.old run.new how out.new) }

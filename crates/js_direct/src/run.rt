@@ -1,5 +1,5 @@
 //! What forms share while they are carried out, and how they end.
-ghost use Rattle.std.specs.Prelude.{◌≡◌, ℕ, ◌<◌, ◌++◌, ◌∷◌, [], IfOk, List};
+ghost use Rattle.std.specs.Prelude.{◌≡◌, ℕ, ◌+◌, ◌<◌, ◌++◌, ◌∷◌, [], IfOk, List};
 ghost use Rattle.js_tree.specs.Forest.{Forest};
 ghost use Rattle.store_cells.specs.Cells.{Cells};
 ghost use Rattle.widget_meaning.specs.OwnState.{State};
@@ -8,15 +8,15 @@ ghost use Rattle.widget_meaning.specs.Costs as costs;
 ghost use Rattle.js_image.specs.Held.{Kept};
 ghost use Rattle.js_image.specs.Plans.{meant_cause, meant_fault};
 ghost use Rattle.js_names.specs.Code.{trees_of};
-ghost use Rattle.js_flow.specs.Fine.{FineJob, FineLeft};
-ghost use Rattle.js_flow.specs.Frames.{Plans};
-ghost use Rattle.js_flow.specs.Free.{left_free, native_free};
+ghost use Rattle.js_flow.specs.Fine.{FineFrames, FineJob, FineLeft};
+ghost use Rattle.js_flow.specs.Frames.{Plans, before, next_plan};
+ghost use Rattle.js_flow.specs.Free.{frames_free, left_free, native_free, next_free};
 ghost use Rattle.js_flow.specs.Views.{job_of};
-ghost use Rattle.js_direct.specs.Comes.{Comes, IsLeft, IsReady, ended_as};
+ghost use Rattle.js_direct.specs.Comes.{Comes, FineWith, IsEnd, IsReady, ended_as};
 
 use code_units::Memory;
 use js_flow::{Completion, Flow, Frame, Job, Next};
-use js_image::{Fault, StopCause};
+use js_image::{Fault, Made, StopCause, make_fault};
 use js_names::Code;
 use object_store::{Store, Value};
 use std::alloc::Global;
@@ -149,7 +149,13 @@ pub(crate) fn throw(
     ensures thrown { IfOk result (λ how. how ≡ Ended.Is → ⊥) }
     ensures kept { Kept (trees_of site.now.codes.now.items) site.now.widget store.old store.new }
 {
-    Err(Memory)
+    match make_fault(site.alloc, store, site.widget, fault)? {
+        Made::Cell(cell) => {
+            *out = Value::Ref(cell);
+            Ok(Ended::Threw)
+        }
+        Made::Stop(cause) => stop(run, cause),
+    }
 }
 
 /// What a form left on a flow of its own: how it ended, or else what waits.
@@ -163,12 +169,63 @@ pub(crate) fn handed(run: &mut Run, flow: Flow, out: &mut Value) -> Result<Ended
         → Comes fs w old s (left_free flow) p run.old run.new how out.new) }
     ensures units { IfOk result (λ how. run.new.units ≡ run.old.units) }
 {
-    Err(Memory)
+    let (frames, next) = flow.into_parts();
+    if frames.is_empty() {
+        return Ok(given(run, next, out));
+    }
+    suspended(run, frames, next)
+}
+
+// What is next where no frame waits: an end, or else what is suspended.
+fn given(run: &mut Run, next: Next, out: &mut Value) -> Ended
+    requires waits { run.old.waits.items ≡ [] }
+    ensures comes { (fs : List Forest) (w : ℕ) (s : Cells) → FineWith fs w s.cells next
+        → Comes fs w s s (next_free next) (next_plan fs w s.cells next) run.old run.new result out.new }
+    ensures units { run.new.units ≡ run.old.units }
+{
+    match next {
+        Next::Give(Completion::Is(value)) => {
+            *out = value;
+            Ended::Is
+        }
+        Next::Give(Completion::Return(value)) => {
+            *out = value;
+            Ended::Return
+        }
+        Next::Give(Completion::Throw(value)) => {
+            *out = value;
+            Ended::Threw
+        }
+        Next::Give(Completion::Normal) => Ended::Normal,
+        Next::Give(Completion::Break) => Ended::Break,
+        Next::Give(Completion::Continue) => Ended::Continue,
+        next => {
+            set_next(run, next);
+            Ended::Left
+        }
+    }
+}
+
+// Frames wait, of which the last is given to first.
+fn suspended(run: &mut Run, frames: Vec<Frame>, next: Next) -> Result<Ended, Memory>
+    requires waits { run.old.waits.items ≡ [] }
+    ensures comes { IfOk result (λ how. (fs : List Forest) (w : ℕ) (s : Cells) (v : Value)
+        → FineWith fs w s.cells next → FineFrames fs w s.cells frames.items
+        → Comes fs w s s (frames_free frames.items + next_free next)
+        (λ t. before fs w s.cells frames.items (next_plan fs w s.cells next t)) run.old run.new how v) }
+    ensures units { IfOk result (λ how. run.new.units ≡ run.old.units) }
+{
+    let mut frames = frames;
+    set_next(run, next);
+    'frames: while let Some(frame) = frames.pop() {
+        run.waits.push(frame)?;
+    }
+    Ok(Ended::Left)
 }
 
 /// How a form ended, as frames take it.
 pub(crate) fn completion(how: Ended, out: Value) -> Completion
-    requires { IsLeft how → ⊥ }
+    requires { IsEnd how }
     ensures { result ≡ ended_as how out }
 {
     match how {

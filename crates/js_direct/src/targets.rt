@@ -54,7 +54,7 @@ pub(crate) fn assign_on(
     requires held { IsExprAt (trees_of site.now.codes.now.items) site.now.widget store.old.cells parts.0 place.now
         × IsExprAt (trees_of site.now.codes.now.items) site.now.widget store.old.cells parts.1 place.now }
     ensures comes { let F = trees_of site.now.codes.now.items in let w = site.now.widget in
-        IfOk result (λ how. Comes F w store.old store.new 31
+        IfOk result (λ how. Comes F w store.old store.new 30
         (λ s. Do (job_of F w store.old.cells (Job.Target parts.0 place.now)) s
         (taken F w store.old.cells (Frame.Form (FormFrame.AssignTarget op parts.1 place.now))))
         run.old run.new how out.new) }
@@ -77,7 +77,7 @@ pub(crate) fn step_on(
     requires ready { IsReady (trees_of site.now.codes.now.items) site.now.widget store.old run.old }
     requires held { IsExprAt (trees_of site.now.codes.now.items) site.now.widget store.old.cells to place.now }
     ensures comes { let F = trees_of site.now.codes.now.items in let w = site.now.widget in
-        IfOk result (λ how. Comes F w store.old store.new 31
+        IfOk result (λ how. Comes F w store.old store.new 30
         (λ s. Do (job_of F w store.old.cells (Job.Target to place.now)) s
         (taken F w store.old.cells (Frame.Form (FormFrame.StepTarget op place.now))))
         run.old run.new how out.new) }
