@@ -1,5 +1,5 @@
 -- A part is carried out, and then what waits for it.
-use Rattle.std.proofs.Common.{◌≡◌, ℕ, suc, ◌+◌, ◌*◌, ◌-◌, ◌≤◌, List, [], ◌∷◌, ◌++◌, refl, sym, ap, ◌∙◌, subst, arith}
+use Rattle.std.proofs.Common.{◌≡◌, ℕ, suc, ◌+◌, ◌*◌, ◌-◌, ◌<◌, ◌≤◌, List, [], ◌∷◌, ◌++◌, refl, sym, ap, ◌∙◌, subst, arith}
 use Rattle.js_tree.specs.Forest.{Forest}
 use Rattle.store_cells.specs.Cells.{Cells, PlainCell}
 use Rattle.object_store.specs.Grows.{Grows}
@@ -12,9 +12,10 @@ use Rattle.js_image.specs.Image.{Rest, image}
 use Rattle.js_flow.specs.declared.frame.Frame.{Frame}
 use Rattle.js_flow.specs.declared.job.Completion.{Completion}
 use Rattle.js_flow.specs.declared.job.Next.{Next}
-use Rattle.js_flow.specs.Frames.{next_plan, taken}
-use Rattle.js_flow.specs.Fine.{FineCompletion, FineFrame, FineFrames}
-use Rattle.js_flow.specs.Free.{frame_free, frames_free, next_free}
+use Rattle.js_flow.specs.declared.job.Next.TheVariants as next
+use Rattle.js_flow.specs.Frames.{before, next_plan, taken}
+use Rattle.js_flow.specs.Fine.{FineCompletion, FineFrame, FineFrames, FineOver}
+use Rattle.js_flow.specs.Free.{frame_free, frames_free, native_free, next_free}
 use Rattle.js_flow.specs.Views.{completion_of}
 use Rattle.js_flow.proofs.Stays.{completion_fine, completion_same, frame_fine, frame_same}
 use Rattle.js_direct.specs.declared.run.Ended.{Ended}
@@ -25,7 +26,7 @@ use Rattle.js_direct.specs.Comes.{ComesTo, FineCame, FineWith, IsEnd, came, came
 use Rattle.js_direct.proofs.Reducing.{after_each, begins, counts, ends, paid, starts, under}
 
 module _ (fs : List Forest) (w : ℕ) (cells : List PlainCell) where
-  came_end : (how : Ended) (o : Completion) (r : Run) (s : State) → IsEnd how → came fs w cells how o r s ≡ Ret (completion_of w cells o) s
+  pub came_end : (how : Ended) (o : Completion) (r : Run) (s : State) → IsEnd how → came fs w cells how o r s ≡ Ret (completion_of w cells o) s
   came_end ended.Left o r s h = absurd h
   came_end ended.Normal o r s h = refl
   came_end ended.Is o r s h = refl
@@ -35,17 +36,41 @@ module _ (fs : List Forest) (w : ℕ) (cells : List PlainCell) where
   came_end ended.Threw o r s h = refl
 
   -- a frame at the end of what waits
-  outward_last : (frames : List Frame) (f : Frame) (o : meaning.Completion) (s : State) → outward fs w cells (frames ++ f ∷ []) o s ≡ and_then (outward fs w cells frames o s) (taken fs w cells f)
+  pub outward_last : (frames : List Frame) (f : Frame) (o : meaning.Completion) (s : State) → outward fs w cells (frames ++ f ∷ []) o s ≡ and_then (outward fs w cells frames o s) (taken fs w cells f)
   outward_last [] f o s = and_then_ret (taken fs w cells f o s)
   outward_last (g ∷ frames) f o s =
       (λ i. and_then (taken fs w cells g o s) (λ a t. outward_last frames f a t i))
       ∙ sym (and_then_assoc (taken fs w cells g o s) (outward fs w cells frames) (taken fs w cells f))
 
-  fine_last : (frames : List Frame) (f : Frame) → FineFrames fs w cells frames → FineFrame fs w cells f → FineFrames fs w cells (frames ++ f ∷ [])
+  -- the innermost frame is taken from the end
+  pub before_last : (frames : List Frame) (f : Frame) (p : Plan) → before fs w cells (frames ++ f ∷ []) p ≡ before fs w cells frames (and_then p (taken fs w cells f))
+  before_last [] f p = refl
+  before_last (g ∷ frames) f p = ap (λ q. and_then q (taken fs w cells g)) (before_last frames f p)
+
+  pub outward_none : (p : Plan) → p ≡ and_then p (outward fs w cells [])
+  outward_none p = sym (and_then_ret p)
+
+  -- one frame more waits
+  pub outward_more : (frames : List Frame) (f : Frame) (p : Plan) → and_then (and_then p (outward fs w cells frames)) (taken fs w cells f) ≡ and_then p (outward fs w cells (frames ++ f ∷ []))
+  outward_more frames f p = and_then_assoc p (outward fs w cells frames) (taken fs w cells f) ∙ (λ i. and_then p (λ o s. sym (outward_last frames f o s) i))
+
+  -- what a form leaves, where it is no native
+  pub fine_with : (above : List Frame) (n : Next) → FineOver fs w cells above n → next_free n < native_free → FineWith fs w cells n
+  fine_with above (next.Native c) h l = absurd (omega (arith, l))
+  fine_with above next.Nothing h l = h
+  fine_with above (next.Go j) h l = h
+  fine_with above (next.Begin j) h l = h
+  fine_with above (next.Run b p) h l = h
+  fine_with above (next.Give o) h l = h
+  fine_with above (next.Pay n) h l = h
+  fine_with above (next.Stop c) h l = h
+  fine_with above (next.Done o) h l = h
+
+  pub fine_last : (frames : List Frame) (f : Frame) → FineFrames fs w cells frames → FineFrame fs w cells f → FineFrames fs w cells (frames ++ f ∷ [])
   fine_last [] f h k = (k, tt)
   fine_last (g ∷ frames) f h k = (h.0, fine_last frames f h.1 k)
 
-free_last : (frames : List Frame) (f : Frame) → frames_free (frames ++ f ∷ []) ≡ frames_free frames + frame_free f
+pub free_last : (frames : List Frame) (f : Frame) → frames_free (frames ++ f ∷ []) ≡ frames_free frames + frame_free f
 free_last [] f = omega arith
 free_last (g ∷ frames) f = ap (λ n. frame_free g + n) (free_last frames f) ∙ (omega arith)
 
@@ -124,6 +149,28 @@ module _ (fs : List Forest) (w : ℕ) where
     reduces = λ r. counts 0 (had.units - has.units) _ _ (omega (arith, units)) (plan r ∙ sym (came_end fs w t.cells how o has (image fs r w t) end));
     fine = fine_end fs w t.cells how o has end fine none;
     near = omega (arith, units, le, free_end fs w how has end);
+  }
+
+  -- what costs nothing was done first
+  pub before_it : (s t : Cells) (n m : ℕ) (p q : State → Plan) (had has : Run) (how : Ended) (o : Completion) → ((r : Rest) → p (image fs r w s) ≡ q (image fs r w t))
+      → ComesTo fs w t t n q had has how o → n ≤ m → ComesTo fs w s t m p had has how o
+  before_it s t n m p q had has how o plan comes le = record {
+    units = comes.units;
+    reduces = λ r. starts (had.units - has.units) _ _ _ (plan r) (comes.reduces r);
+    fine = comes.fine;
+    near = omega (arith, comes.near, le);
+  }
+
+  -- frames wait, and no unit was paid
+  pub suspends : (s : Cells) (n : ℕ) (p : State → Plan) (had has : Run) (o : Completion) (m : Next) → has.units ≡ had.units → has.next ≡ m
+      → ((x : State) → p x ≡ and_then (next_plan fs w s.cells m x) (outward fs w s.cells has.waits.items)) → FineWith fs w s.cells m → FineFrames fs w s.cells has.waits.items
+      → next_free m + frames_free has.waits.items ≤ n → ComesTo fs w s s n p had has ended.Left o
+  suspends s n p had has o m units next plan fine frames le = record {
+    units = omega (arith, units);
+    reduces = λ r. counts 0 (had.units - has.units) _ _ (omega (arith, units))
+        (plan (image fs r w s) ∙ (λ i. and_then (next_plan fs w s.cells (sym next i) (image fs r w s)) (outward fs w s.cells has.waits.items)));
+    fine = (subst (λ (k : Next). FineWith fs w s.cells k) (sym next) fine, frames);
+    near = omega (arith, units, le, ap next_free next);
   }
 
   -- a form is suspended at once, and no unit was paid

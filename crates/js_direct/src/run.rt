@@ -1,5 +1,5 @@
 //! What forms share while they are carried out, and how they end.
-ghost use Rattle.std.specs.Prelude.{◌≡◌, ℕ, ◌+◌, ◌<◌, ◌++◌, ◌∷◌, [], IfOk, List};
+ghost use Rattle.std.specs.Prelude.{◌≡◌, ℕ, ◌+◌, ◌<◌, ◌++◌, ◌∷◌, [], IfOk, IsTrue, List, MatchOption};
 ghost use Rattle.js_tree.specs.Forest.{Forest};
 ghost use Rattle.store_cells.specs.Cells.{Cells};
 ghost use Rattle.widget_meaning.specs.OwnState.{State};
@@ -8,10 +8,10 @@ ghost use Rattle.widget_meaning.specs.Costs as costs;
 ghost use Rattle.js_image.specs.Held.{Kept};
 ghost use Rattle.js_image.specs.Plans.{meant_cause, meant_fault};
 ghost use Rattle.js_names.specs.Code.{trees_of};
-ghost use Rattle.js_flow.specs.Fine.{FineFrames, FineJob, FineLeft};
+ghost use Rattle.js_flow.specs.Fine.{FineCompletion, FineFrames, FineJob, FineLeft};
 ghost use Rattle.js_flow.specs.Frames.{Plans, before, next_plan};
 ghost use Rattle.js_flow.specs.Free.{frames_free, left_free, native_free, next_free};
-ghost use Rattle.js_flow.specs.Views.{job_of};
+ghost use Rattle.js_flow.specs.Views.{completion_of, job_of};
 ghost use Rattle.js_direct.specs.Comes.{Comes, FineWith, IsEnd, IsReady, ended_as};
 
 use code_units::Memory;
@@ -170,10 +170,17 @@ pub(crate) fn handed(run: &mut Run, flow: Flow, out: &mut Value) -> Result<Ended
     ensures units { IfOk result (λ how. run.new.units ≡ run.old.units) }
 {
     let (frames, next) = flow.into_parts();
-    if frames.is_empty() {
+    if is_none(&frames) {
         return Ok(given(run, next, out));
     }
     suspended(run, frames, next)
+}
+
+// Whether there are no frames.
+fn is_none(frames: &Vec<Frame>) -> bool
+    ensures { IsTrue result → frames.now.items ≡ [] }
+{
+    frames.is_empty()
 }
 
 // What is next where no frame waits: an end, or else what is suspended.
@@ -184,26 +191,49 @@ fn given(run: &mut Run, next: Next, out: &mut Value) -> Ended
     ensures units { run.new.units ≡ run.old.units }
 {
     match next {
-        Next::Give(Completion::Is(value)) => {
-            *out = value;
-            Ended::Is
-        }
-        Next::Give(Completion::Return(value)) => {
-            *out = value;
-            Ended::Return
-        }
-        Next::Give(Completion::Throw(value)) => {
-            *out = value;
-            Ended::Threw
-        }
-        Next::Give(Completion::Normal) => Ended::Normal,
-        Next::Give(Completion::Break) => Ended::Break,
-        Next::Give(Completion::Continue) => Ended::Continue,
+        Next::Give(how) => given_end(run, how, out),
         next => {
             set_next(run, next);
             Ended::Left
         }
     }
+}
+
+// An end as a form tells it; a reference is left to frames.
+fn given_end(run: &mut Run, how: Completion, out: &mut Value) -> Ended
+    requires waits { run.old.waits.items ≡ [] }
+    ensures comes { (fs : List Forest) (w : ℕ) (s : Cells) → FineCompletion w s.cells how
+        → Comes fs w s s 1 (λ t. Ret (completion_of w s.cells how) t) run.old run.new result out.new }
+    ensures units { run.new.units ≡ run.old.units }
+{
+    match how {
+        Completion::Is(value) => {
+            *out = value;
+            Ended::Is
+        }
+        Completion::Return(value) => {
+            *out = value;
+            Ended::Return
+        }
+        Completion::Throw(value) => {
+            *out = value;
+            Ended::Threw
+        }
+        Completion::Normal => Ended::Normal,
+        Completion::Break => Ended::Break,
+        Completion::Continue => Ended::Continue,
+        Completion::Refers(of) => {
+            set_next(run, Next::Give(Completion::Refers(of)));
+            Ended::Left
+        }
+    }
+}
+
+// The last frame is taken out; none where there is none.
+fn last(frames: &mut Vec<Frame>) -> Option<Frame>
+    ensures { MatchOption result ((frames.old.items ≡ []) × (frames.new.items ≡ [])) (λ f. frames.old.items ≡ frames.new.items ++ f ∷ []) }
+{
+    frames.pop()
 }
 
 // Frames wait, of which the last is given to first.
@@ -217,7 +247,7 @@ fn suspended(run: &mut Run, frames: Vec<Frame>, next: Next) -> Result<Ended, Mem
 {
     let mut frames = frames;
     set_next(run, next);
-    'frames: while let Some(frame) = frames.pop() {
+    'frames: while let Some(frame) = last(&mut frames) {
         run.waits.push(frame)?;
     }
     Ok(Ended::Left)
