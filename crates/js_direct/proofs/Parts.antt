@@ -1,5 +1,6 @@
 -- A part is carried out, and then what waits for it.
-use Rattle.std.proofs.Common.{◌≡◌, ℕ, suc, ◌+◌, ◌*◌, ◌-◌, ◌<◌, ◌≤◌, List, [], ◌∷◌, ◌++◌, refl, sym, ap, ◌∙◌, subst, arith}
+use Rattle.std.proofs.Common.{◌≡◌, ℕ, suc, ◌+◌, ◌*◌, ◌-◌, ◌<◌, ◌≤◌, List, [], ◌∷◌, ◌++◌, refl, sym, ap, ◌∙◌, subst, arith, append-nil, true}
+use Rattle.std.specs.Prelude.{IfOk, Result, Ok, Err}
 use Rattle.js_tree.specs.Forest.{Forest}
 use Rattle.store_cells.specs.Cells.{Cells, PlainCell}
 use Rattle.object_store.specs.Grows.{Grows}
@@ -13,16 +14,18 @@ use Rattle.js_flow.specs.declared.frame.Frame.{Frame}
 use Rattle.js_flow.specs.declared.job.Completion.{Completion}
 use Rattle.js_flow.specs.declared.job.Next.{Next}
 use Rattle.js_flow.specs.declared.job.Next.TheVariants as next
-use Rattle.js_flow.specs.Frames.{before, next_plan, taken}
-use Rattle.js_flow.specs.Fine.{FineCompletion, FineFrame, FineFrames, FineOver}
-use Rattle.js_flow.specs.Free.{frame_free, frames_free, native_free, next_free}
+use Rattle.js_flow.specs.Frames.{before, flow_plan, next_plan, rest, taken}
+use Rattle.js_flow.specs.Left.{Leaves, Left, all_frames}
+use Rattle.js_flow.specs.Fine.{FineCompletion, FineFlow, FineFrame, FineFrames, FineLast, FineNext, FineOver}
+use Rattle.js_flow.specs.Free.{flow_free, frame_free, frames_free, native_free, next_free}
 use Rattle.js_flow.specs.Views.{completion_of}
 use Rattle.js_flow.proofs.Stays.{completion_fine, completion_same, frame_fine, frame_same}
 use Rattle.js_direct.specs.declared.run.Ended.{Ended}
 use Rattle.js_direct.specs.declared.run.Ended.TheVariants as ended
 use Rattle.js_direct.specs.declared.run.Run.{Run}
 use Rattle.js_direct.specs.Reduces.{Reduces}
-use Rattle.js_direct.specs.Comes.{ComesTo, FineCame, FineWith, IsEnd, came, came_free, outward}
+use Rattle.js_direct.specs.Comes.{ComesTo, FineCame, FineWith, IsEnd, IsNative, came, came_free, outward}
+use Rattle.js_direct.specs.Going.{is_direct}
 use Rattle.js_direct.proofs.Reducing.{after_each, begins, counts, ends, paid, starts, under}
 
 module _ (fs : List Forest) (w : ℕ) (cells : List PlainCell) where
@@ -214,3 +217,69 @@ module _ (fs : List Forest) (w : ℕ) where
     fine = comes.fine;
     near = omega (arith, one, comes.near, le);
   }
+
+  pub more : (s t : Cells) (n m : ℕ) (p : State → Plan) (had has : Run) (how : Ended) (o : Completion) → ComesTo fs w s t n p had has how o → n ≤ m → ComesTo fs w s t m p had has how o
+  more s t n m p had has how o comes le = record { units = comes.units; reduces = comes.reduces; fine = comes.fine; near = omega (arith, comes.near, le) }
+
+-- ## What is left on a flow
+
+-- two clauses of one call
+pub both_ok : {T E : Type 0} (r : Result T E) (P Q : T → Type 0) → IfOk r P → IfOk r Q → IfOk r (λ k. P k × Q k)
+both_ok (Ok x) P Q p q = (p, q)
+both_ok (Err e) P Q p q = tt
+
+module _ (fs : List Forest) (w : ℕ) (cells : List PlainCell) where
+  pub left_all : (l m : Left) (n : Next) (s : State) → Leaves m l [] n → flow_plan fs w cells l s ≡ and_then (next_plan fs w cells n s) (rest fs w cells (all_frames m))
+  left_all l m n s e = ap (λ k. flow_plan fs w cells k s) e ∙ ap (λ (x : List Frame). and_then (next_plan fs w cells n s) (rest fs w cells x)) (append-nil (all_frames m))
+
+  fine_next_of : (n : Next) → FineWith fs w cells n → FineNext fs w cells n
+  fine_next_of (next.Native c) h = absurd h
+  fine_next_of next.Nothing h = h
+  fine_next_of (next.Go j) h = h
+  fine_next_of (next.Begin j) h = h
+  fine_next_of (next.Run b p) h = h
+  fine_next_of (next.Give o) h = h
+  fine_next_of (next.Pay n) h = h
+  fine_next_of (next.Stop c) h = h
+  fine_next_of (next.Done o) h = h
+
+  fine_last_of : (frames : List Frame) (n : Next) → FineNext fs w cells n → FineLast fs w cells frames n
+  fine_last_of frames next.Nothing h = h
+  fine_last_of frames (next.Go j) h = h
+  fine_last_of frames (next.Begin j) h = h
+  fine_last_of frames (next.Run b p) h = h
+  fine_last_of frames (next.Give o) h = h
+  fine_last_of frames (next.Pay n) h = h
+  fine_last_of frames (next.Native c) h = h
+  fine_last_of frames (next.Stop c) h = h
+  fine_last_of frames (next.Done o) h = absurd h
+
+  pub left_fine : (l m : Left) (n : Next) → Leaves m l [] n → FineFrames fs w cells (all_frames m) → FineWith fs w cells n → FineFlow fs w cells l
+  left_fine l m n e h k =
+      subst (λ (x : Left). FineFlow fs w cells x) (sym e)
+      (subst (λ (x : List Frame). FineFrames fs w cells x) (sym (append-nil (all_frames m))) h, fine_last_of (all_frames m ++ []) n (fine_next_of n k))
+
+  pub direct_fine : (frames : List Frame) (n : Next) → is_direct n ≡ true → FineLast fs w cells frames n → FineNext fs w cells n
+  direct_fine frames next.Nothing e h = h
+  direct_fine frames (next.Go j) e h = h
+  direct_fine frames (next.Begin j) e h = h
+  direct_fine frames (next.Run b p) e h = h
+  direct_fine frames (next.Give o) e h = h
+  direct_fine frames (next.Pay n) e h = h
+  direct_fine frames (next.Native c) e h = h
+  direct_fine frames (next.Stop c) e h = h
+  direct_fine frames (next.Done o) e h = cc
+
+  pub no_native : (n : Next) → FineWith fs w cells n → IsNative n → ⊥
+  no_native (next.Native c) h x = h
+  no_native next.Nothing h x = x
+  no_native (next.Go j) h x = x
+  no_native (next.Begin j) h x = x
+  no_native (next.Run b p) h x = x
+  no_native (next.Give o) h x = x
+  no_native (next.Pay n) h x = x
+  no_native (next.Stop c) h x = x
+  no_native (next.Done o) h x = x
+
+pub left_free_all : (l m : Left) (n : Next) → Leaves m l [] n → flow_free l ≡ frames_free (all_frames m) + next_free n
+left_free_all l m n e = ap flow_free e ∙ ap (λ (x : List Frame). frames_free x + next_free n) (append-nil (all_frames m))

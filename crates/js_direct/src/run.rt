@@ -229,8 +229,8 @@ fn given_end(run: &mut Run, how: Completion, out: &mut Value) -> Ended
     }
 }
 
-// The last frame is taken out; none where there is none.
-fn last(frames: &mut Vec<Frame>) -> Option<Frame>
+/// The last frame is taken out; none where there is none.
+pub(crate) fn last(frames: &mut Vec<Frame>) -> Option<Frame>
     ensures { MatchOption result ((frames.old.items ≡ []) × (frames.new.items ≡ [])) (λ f. frames.old.items ≡ frames.new.items ++ f ∷ []) }
 {
     frames.pop()
