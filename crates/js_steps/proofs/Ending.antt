@@ -52,12 +52,12 @@ unfolding Yields
 unticked zero s p h = h
 unticked (suc n) s p h = unticked n s p h
 
-uncharged : (n : ℕ) (s : State) (p : Plan) → Yields ByValue (charge n s p) → Yields ByValue p
+pub uncharged : (n : ℕ) (s : State) (p : Plan) → Yields ByValue (charge n s p) → Yields ByValue p
 unfolding Yields
 uncharged n s p h = unticked n s p h
 
 -- what comes after a job
-after_job : (j : plan.Job) (s : State) (k : meaning.Completion → State → Plan) → Yields ByValue (Do j s k) → (o : meaning.Completion) (t : State) → Ends (way_of j) o → Yields ByValue (k o t)
+pub after_job : (j : plan.Job) (s : State) (k : meaning.Completion → State → Plan) → Yields ByValue (Do j s k) → (o : meaning.Completion) (t : State) → Ends (way_of j) o → Yields ByValue (k o t)
 unfolding Yields
 after_job j s k h = h
 
@@ -116,7 +116,7 @@ module _ (fs : List Forest) (w : ℕ) where
   awaits_later old new g way frames fine h = λ o t e. subst (λ (k : meaning.Completion → State → Plan). Yields ByValue (k o t)) (sym (rest_same fs w old new g frames fine)) (h o t e)
 
   -- a job that may be a native is awaited by what takes a value or a throw
-  heavy : (cells : List PlainCell) (j : Job) (frames : List Frame) → native_free ≤ job_weight j → ((o : meaning.Completion) (t : State) → Ends (way_of (job_of fs w cells j)) o → Yields ByValue (rest fs w cells frames o t)) → Awaits fs w cells ByValue frames
+  pub heavy : (cells : List PlainCell) (j : Job) (frames : List Frame) → native_free ≤ job_weight j → ((o : meaning.Completion) (t : State) → Ends (way_of (job_of fs w cells j)) o → Yields ByValue (rest fs w cells frames o t)) → Awaits fs w cells ByValue frames
   heavy cells (job.Target e p) frames n h = λ o t k. h o t (of_reference o k)
   heavy cells (job.RunNative c) frames n h = h
   heavy cells (job.Eval e p) frames n h = absurd (omega (arith, n))
@@ -125,7 +125,7 @@ module _ (fs : List Forest) (w : ℕ) where
   heavy cells (job.PassIn l p) frames n h = absurd (omega (arith, n))
   heavy cells (job.Call c) frames n h = absurd (omega (arith, n))
 
-  less_one : (m n : ℕ) → m < n + 1 → m ≤ n
+  pub less_one : (m n : ℕ) → m < n + 1 → m ≤ n
   less_one m n h = omega (arith, h)
 
   -- a native that is asked for is awaited so

@@ -5,4 +5,5 @@ pub mod Fronts
 pub mod Moved
 pub mod Passing
 pub mod Settled
+pub mod Tolls
 pub mod Weights

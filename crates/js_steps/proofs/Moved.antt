@@ -1,5 +1,5 @@
 -- Steps one after the other.
-use Rattle.std.proofs.Common.{◌≡◌, ℕ, ◌+◌, ◌-◌, ◌<◌, ◌≤◌, refl, ap, ◌∙◌, subst, arith, ◌⊎◌, inl, inr}
+use Rattle.std.proofs.Common.{◌≡◌, ℕ, ◌+◌, ◌-◌, ◌≤◌, refl, ap, ◌∙◌, subst, arith}
 use Rattle.std.specs.Prelude.{IfOk, Result, Ok, Err}
 use Rattle.widget_meaning.specs.OwnState.{State}
 use Rattle.widget_meaning.specs.Plan.{Plan}
@@ -38,14 +38,6 @@ strides_on k i l m s p q u strides moves h g f = subst (λ (n : ℕ). Strides k 
   where
     sums : (a b c : ℕ) → c ≤ b → b ≤ a → (a - b) + (b - c) ≡ a - c
     sums a b c x y = omega (arith, x, y)
-
--- a charge of some units begins before k are used up
-pub begins_before : (k a c l : ℕ) → (k ≤ a → c ≡ 0) → l < c → a < k
-begins_before k a c l f h = by (begins k a c f)
-  where
-    by : (a < k) ⊎ (c ≡ 0) → a < k
-    by (inl lt) = lt
-    by (inr z) = absurd (omega (arith, h, z))
 
 -- an answer other than want of fuel
 pub not_fuel : (k : Stepped) (P : Type 0) → IsNotFuel k → IfOutOfFuel k P

@@ -1,4 +1,5 @@
 pub mod Answered
 pub mod Charges
 pub mod Ending
+pub mod Tolls
 pub mod Unwinding

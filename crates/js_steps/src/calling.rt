@@ -1,5 +1,5 @@
 //! Whole calls: how they begin, what natives give them, and how they end.
-ghost use Rattle.std.specs.Prelude.{◌≡◌, ℕ, ◌+◌, ◌*◌, ◌-◌, ◌<◌, ◌≤◌, IfOk, IsFalse, IsTrue, List, None};
+ghost use Rattle.std.specs.Prelude.{◌≡◌, ℕ, ◌+◌, ◌*◌, ◌-◌, ◌<◌, ◌≤◌, IfOk, List, None};
 ghost use Rattle.js_tree.specs.Forest.{Forest};
 ghost use Rattle.store_cells.specs.Cells.{Cells};
 ghost use Rattle.widget_meaning.specs.Values as meaning;
@@ -15,13 +15,13 @@ ghost use Rattle.js_flow.specs.Frames.{rest};
 ghost use Rattle.js_flow.specs.Fine.{FineControl, FineFrames, FineStepped};
 ghost use Rattle.js_flow.specs.Free.{free};
 ghost use Rattle.js_steps.specs.Answered.{IsFineAfter, IsFineTask, IsFuelStop, IsWent, machine, remaining, remaining_after};
-ghost use Rattle.js_steps.specs.Charges.{charge_of};
 ghost use Rattle.js_steps.specs.Ending.{EndsCall, EndsSo};
 ghost use Rattle.js_flow.specs.Todo.{Follows, IsGoing, Moves, Strides, IfOutOfFuel, IsOver, IsWaiting, after_step, todo};
 
 use crate::answer::{Stepped, answered};
-use crate::machine::{cost, put, set, settle, step_for, take_flow};
+use crate::machine::{put, put_halted, set, settle, step_for, take_control, take_flow};
 use crate::stack::Frames;
+use crate::strides::{carry_on, resumed};
 use crate::task::Task;
 use code_units::Memory;
 use js_calls::answer;
@@ -203,22 +203,12 @@ pub fn stride(
     ensures kept { Kept (trees_of codes.now.items) task.old.widget store.old store.new }
 {
     let w = task.widget;
-    let start = meter.left();
-    'steps: while !is_used(&task.control, start - meter.left(), units) {
-        match step_for(alloc, w, codes, store, task, meter)? {
-            Moved::Went => {}
-            answer => return Ok(answered(answer)),
-        }
-    }
-    Ok(Stepped::Went)
-}
-
-// Whether so many units are used up, and what the task is at costs fuel.
-fn is_used(control: &Control, spent: u32, units: u32) -> bool
-    ensures yes { IsTrue result → (units ≤ spent) × (0 < charge_of control.now) }
-    ensures no { IsFalse result → units ≤ spent → charge_of control.now ≡ 0 }
-{
-    spent >= units && cost(control) > 0
+    let mut flow = take_flow(alloc, task);
+    let control = take_control(task);
+    resumed(&mut flow, alloc, w, codes, store, control)?;
+    let halt = carry_on(&mut flow, alloc, w, codes, store, meter, units)?;
+    let step = put_halted(task, flow, halt);
+    Ok(answered(step))
 }
 
 /// Steps up to a native, an end or a stop: what is left to do then is what the meaning makes of the

@@ -6,6 +6,7 @@ mod calling;
 mod jobs;
 mod machine;
 mod stack;
+mod strides;
 mod task;
 
 pub use answer::{Stepped, Stop};

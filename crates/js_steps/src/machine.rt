@@ -1,7 +1,7 @@
 //! The machine: one step, with its frames and its fuel.
 ghost use Rattle.std.specs.Prelude.{◌≡◌, ℕ, ◌+◌, ◌*◌, ◌-◌, ◌<◌, ◌≤◌, IfOk, IsFalse, IsTrue, List, OnOk, true, length};
 ghost use Rattle.js_tree.specs.Forest.{Forest};
-ghost use Rattle.store_cells.specs.Cells.{PlainCell};
+ghost use Rattle.store_cells.specs.Cells.{Cells, PlainCell};
 ghost use Rattle.widget_meaning.specs.OwnState.{State};
 ghost use Rattle.widget_meaning.specs.Plan.{and_then};
 ghost use Rattle.widget_meaning.specs.Meaning.{run_plan};
@@ -17,10 +17,12 @@ ghost use Rattle.js_flow.specs.Fine.{FineCompletion, FineControl, FineFlow, Fine
 ghost use Rattle.js_steps.specs.Charges.{after_charge, charge_of, starts_in_place};
 ghost use Rattle.js_flow.specs.Free.{control_free, flow_free, free, frames_free, job_weight, native_free};
 ghost use Rattle.js_steps.specs.Ending.{EndsCall, EndsSo, IfNative, IsNative};
-ghost use Rattle.js_flow.specs.Todo.{Follows, IfOutOfFuel, IsGoing, IsNotFuel, Moves, after_step, todo};
+ghost use Rattle.js_steps.specs.Tolls.{Answers, EndsFlow, IsHalted, IsRunning};
+ghost use Rattle.js_flow.specs.Todo.{Follows, IfOutOfFuel, IsGoing, IsNotFuel, IsOver, Moves, after_step, todo};
 
 use crate::jobs::{begin_ids, begin_job, is_of_ids, take};
 use crate::stack::leave;
+use crate::strides::Toll;
 use crate::task::Task;
 use code_units::Memory;
 use js_flow::{Block, Completion, Control, Flow, Frame, Job, Next, Place, Stepped};
@@ -40,7 +42,7 @@ pub(crate) fn set(task: &mut Task, control: Control)
     mem::forget(mem::replace(&mut task.control, control));
 }
 
-fn take_control(task: &mut Task) -> Control
+pub(crate) fn take_control(task: &mut Task) -> Control
     ensures result { result ≡ task.old.control }
     ensures control { task.new.control ≡ Control.Over }
     ensures frames { task.new.frames ≡ task.old.frames }
@@ -83,6 +85,8 @@ pub(crate) fn put(task: &mut Task, flow: Flow) -> Stepped
     ensures widget { task.new.widget ≡ task.old.widget }
     ensures light { control_free task.new.control ≤ native_free }
     ensures native { IfNative result (IsNative flow.next × (task.new.frames.list.items ≡ all_frames flow)) }
+    ensures went { IsRunning flow.next → result ≡ Stepped.Went }
+    ensures over { (IsRunning flow.next → ⊥) → IsOver result }
 {
     let (frames, next) = flow.into_parts();
     put_frames(task, frames);
@@ -111,8 +115,36 @@ pub(crate) fn put(task: &mut Task, flow: Flow) -> Stepped
     }
 }
 
-// Whether so many units are there, which are then taken.
-fn pay(meter: &mut Meter, units: usize) -> bool
+/// The same of a flow on which no more steps are taken: want of fuel is answered where it ended them.
+pub(crate) fn put_halted(task: &mut Task, flow: Flow, halt: Toll) -> Stepped
+    requires settled { IsSettled flow flow.next }
+    requires halted { IsHalted flow.next halt }
+    ensures answers { Answers halt result }
+    ensures plan { (fs : List Forest) (w : ℕ) (cells : List PlainCell) (s : State)
+        → after_step fs w cells result task.new.control task.new.frames.list.items s ≡ flow_plan fs w cells flow s }
+    ensures todo { IsRunning flow.next → (fs : List Forest) (w : ℕ) (cells : List PlainCell) (s : State)
+        → todo fs w cells task.new.control task.new.frames.list.items s ≡ flow_plan fs w cells flow s }
+    ensures fine { (fs : List Forest) (w : ℕ) (cells : List PlainCell) → FineFlow fs w cells flow
+        → FineControl fs w cells task.new.control × FineFrames fs w cells task.new.frames.list.items
+        × FineStepped fs w cells result }
+    ensures follows { Follows result task.new.control }
+    ensures near { free task.new.control task.new.frames.list.items ≤ flow_free flow }
+    ensures widget { task.new.widget ≡ task.old.widget }
+    ensures call { (fs : List Forest) (w : ℕ) (s : Cells) → EndsFlow fs w s flow
+        → EndsCall fs w s task.new.control task.new.frames.list.items × EndsSo result }
+{
+    let step = put(task, flow);
+    match halt {
+        Toll::Short => {
+            mem::forget(step);
+            Stepped::OutOfFuel
+        }
+        _ => step,
+    }
+}
+
+/// Whether so many units are there, which are then taken.
+pub(crate) fn pay(meter: &mut Meter, units: usize) -> bool
     ensures yes { IsTrue result → (units ≤ meter.old.left) × (meter.new.left + units ≡ meter.old.left)
         × (meter.new.spent ≡ meter.old.spent + units) }
     ensures no { IsFalse result → (meter.old.left < units) × (meter.new ≡ meter.old) }
@@ -124,8 +156,8 @@ fn pay(meter: &mut Meter, units: usize) -> bool
     meter.take(units as u32).is_ok()
 }
 
-/// What a task is at costs this.
-pub(crate) fn cost(control: &Control) -> usize
+// What a task is at costs this.
+fn cost(control: &Control) -> usize
     ensures { result ≡ charge_of control.now }
 {
     match control {
@@ -135,8 +167,8 @@ pub(crate) fn cost(control: &Control) -> usize
     }
 }
 
-// A job that has its unit.
-fn begin(
+/// A job that has its unit.
+pub(crate) fn begin(
     flow: &mut Flow,
     alloc: Global,
     w: u32,
@@ -161,8 +193,13 @@ fn begin(
     Ok(())
 }
 
-// The statements of a block.
-fn run(flow: &mut Flow, codes: &Vec<Code>, block: Block, place: Place) -> Result<(), Memory>
+/// The statements of a block.
+pub(crate) fn run(
+    flow: &mut Flow,
+    codes: &Vec<Code>,
+    block: Block,
+    place: Place,
+) -> Result<(), Memory>
     requires code { place.code < length (trees_of codes.now.items) }
     requires block { IsBlock (forest_at (trees_of codes.now.items) place.code) block }
     ensures plan { OnOk result ((w : ℕ) (cells : List PlainCell) (s : State)
@@ -179,8 +216,8 @@ fn run(flow: &mut Flow, codes: &Vec<Code>, block: Block, place: Place) -> Result
     Ok(())
 }
 
-// An end goes to the last frame, once those that pass it on are gone.
-fn give(
+/// An end goes to the last frame, once those that pass it on are gone.
+pub(crate) fn give(
     flow: &mut Flow,
     alloc: Global,
     w: u32,
@@ -430,8 +467,6 @@ pub(crate) fn step_for(
         × (store.new ≡ store.old) × (meter.new ≡ meter.old) × ((r : Rest) → run_plan meter.old.left
         (todo F w store.old.cells task.old.control task.old.frames.list.items (image F r w store.old))
         ≡ out_of_fuel (image F r w store.old) meter.old.left))) }
-    ensures short { IfOk result (λ k. IfOutOfFuel k (meter.old.left < charge_of task.old.control)) }
-    ensures charge { IfOk result (λ k. meter.old.left - meter.new.left ≤ charge_of task.old.control) }
     ensures spends { (meter.new.left ≤ meter.old.left)
         × (meter.new.left + meter.new.spent ≡ meter.old.left + meter.old.spent) }
     ensures near { IfOk result (λ k. IsNotFuel k

@@ -1,109 +1,135 @@
-use Rattle.std.proofs.Common.{◌≡◌, ℕ, ◌-◌, ◌<◌, ◌≤◌, refl, sym, ap, subst, ◌∙◌, arith}
+use Rattle.std.proofs.Common.{◌≡◌, ◌-◌, List, sym, ap, subst, ◌∙◌, arith}
 use Rattle.widget_meaning.specs.Plan.{Plan}
 use Rattle.widget_meaning.specs.Meaning.{run_plan}
 use Rattle.js_image.specs.Image.{image}
-use Rattle.js_image.proofs.Grown.{kept_same}
 use Rattle.js_image.proofs.Units.{kept_then}
-use Rattle.js_values.specs.Answers.{out_of_fuel}
 use Rattle.js_names.specs.Code.{trees_of}
-use Rattle.js_flow.specs.declared.task.Stepped.{Stepped}
-use Rattle.js_flow.specs.Todo.{Follows, IsNotFuel, Moves, Strides, after_step}
-use Rattle.js_flow.proofs.Moves.{strides_none}
-use Rattle.js_steps.specs.Answered.{remaining}
-use Rattle.js_steps.specs.Charges.{charge_of}
-use Rattle.js_steps.proofs.Answering.{fine_as, follows_as, fuel_as, other_as, went_as}
-use Rattle.js_steps.proofs.Charged.{charged}
-use Rattle.js_steps.proofs.Moved.{begins_before, strides_on}
+use Rattle.js_flow.specs.declared.frame.Frame.{Frame}
+use Rattle.js_flow.specs.declared.task.Control.{Control}
+use Rattle.js_flow.specs.Fine.{FineControl, FineFrames}
+use Rattle.js_flow.specs.Frames.{flow_plan}
+use Rattle.js_flow.specs.Free.{free}
+use Rattle.js_flow.specs.Left.{all_frames}
+use Rattle.js_flow.specs.Todo.{IsGoing, Strides, after_step, todo}
+use Rattle.js_steps.specs.Answered.{machine}
+use Rattle.js_steps.specs.Ending.{EndsCall}
+use Rattle.js_steps.proofs.Answering.{fine_as, follows_as}
+use Rattle.js_steps.proofs.Tolls.{at_cut, at_over, at_short, ends_at_rest, flow_moves, halt_settled, halted, resumed_ends}
 use Rattle.js_steps.proofs.calling.stride.Goals as goal
 
-pub steps-init : goal.steps-init
-steps-init c =
+pub resumed-requires-clause-going : goal.resumed-requires-clause-going
+resumed-requires-clause-going c = subst (λ (q : Control). IsGoing q) (sym (c.take_control-control.ensures.result ∙ c.take_flow-flow.ensures.control)) c.requires.going
+
+pub resumed-requires-clause-held : goal.resumed-requires-clause-held
+resumed-requires-clause-held c =
+    let w = c.args.task.now.widget in
+    let fs = trees_of c.args.codes.now.items in
+    let cells = c.args.store.now.cells in
+    let at = c.take_control-control.ensures.result ∙ c.take_flow-flow.ensures.control in (
+      subst (λ (q : Control). FineControl fs w cells q) (sym at) c.requires.held.0,
+      subst (λ (l : List Frame). FineFrames fs w cells l) (sym c.take_flow-flow.ensures.frames) c.requires.held.1,
+    )
+
+pub carry_on-requires-clause-call : goal.carry_on-requires-clause-call
+carry_on-requires-clause-call c =
     let w = c.args.task.now.widget in
     let fs = trees_of c.args.codes.now.items in
     let old = c.args.store.now in
-    let i = c.args.meter.now.left in
-    let none : 0 ≡ i - i = omega arith in
-    record {
-      strides = λ r. subst (λ (n : ℕ). Strides c.args.units n (remaining fs w old c.args.task.now r) (remaining fs w old c.args.task.now r)) none (strides_none c.args.units _ _ refl);
-      going = c.requires.going;
-      held = c.requires.held;
-      near = omega arith;
-      widget = refl;
-      kept = kept_same fs w old old refl;
-      spends = (omega arith, refl);
-    }
+    let at = c.take_control-control.ensures.result ∙ c.take_flow-flow.ensures.control in
+    let frames = all_frames c.take_flow-flow.result in
+    let call = subst (λ (q : Control). EndsCall fs w old q frames) (sym at) (subst (λ (l : List Frame). EndsCall fs w old c.args.task.now.control l) (sym c.take_flow-flow.ensures.frames) c.requires.held.2) in
+    resumed_ends fs w old c.resumed.new.store c.take_control-control.result frames c.resumed.new.flow (subst (λ (q : Control). IsGoing q) (sym at) c.requires.going) call
+    c.in_ok-resumed.ensures.plan c.in_ok-resumed.ensures.native
 
-pub steps-preserved : goal.steps-preserved
-steps-preserved c =
-    let w = c.args.task.now.widget in
-    let fs = trees_of c.args.codes.now.items in
-    let mid = c.steps.store in
-    let new = c.step_for.new.store in
-    let is = c.step_for.new.task in
-    let i = c.args.meter.now.left in
-    let had = c.steps.meter.left in
-    let has = c.step_for.new.meter.left in
-    let kept = c.steps.invariant in
-    let step = c.in_ok-answer.ensures in
-    record {
-      strides = λ r. strides_on c.args.units i had has (image fs r w mid) _ _ _ (kept.strides r)
-          (subst (λ (q : Stepped). Moves (had - has) (image fs r w mid) (remaining fs w mid c.steps.task r)
-          (after_step fs w new.cells q is.control is.frames.list.items (image fs r w new))) c.in-Went.is (step.moves r)) step.spends.0 kept.spends.0
-          (λ u. omega (arith, step.charge, c.is_used.ensures.no c.steps-test.true (omega (arith, u, c.left.ensures.value, c.left-start.ensures.value))));
-      going = subst (λ (q : Stepped). Follows q is.control) c.in-Went.is step.follows;
-      held = (step.held.0, step.held.1, step.call.0);
-      near = omega (arith, kept.near, step.near (subst (λ (q : Stepped). IsNotFuel q) (sym c.in-Went.is) tt));
-      widget = step.widget ∙ kept.widget;
-      kept = kept_then fs w c.args.store.now mid new kept.kept step.kept;
-      spends = (omega (arith, step.spends.0, kept.spends.0), step.spends.1 ∙ kept.spends.1);
-    }
+pub put_halted-step-requires-clause-settled : goal.put_halted-step-requires-clause-settled
+put_halted-step-requires-clause-settled c =
+    halt_settled c.args.units (c.args.meter.now.left - c.carry_on.new.meter.left) c.carry_on.new.meter.left (trees_of c.args.codes.now.items) c.args.task.now.widget c.carry_on.new.store.cells
+    c.carry_on.new.flow c.in_ok-halt.halt c.in_ok-halt.ensures.fine c.in_ok-halt.ensures.halts
 
-pub returns-in_err-answer-clause-kept : goal.returns-in_err-answer-clause-kept
-returns-in_err-answer-clause-kept c =
-    kept_then (trees_of c.args.codes.now.items) c.args.task.now.widget c.args.store.now c.steps.store c.step_for.new.store c.steps.invariant.kept c.step_for.ensures.kept
+pub put_halted-step-requires-clause-halted : goal.put_halted-step-requires-clause-halted
+put_halted-step-requires-clause-halted c =
+    halted c.args.units (c.args.meter.now.left - c.carry_on.new.meter.left) c.carry_on.new.meter.left c.carry_on.new.flow.next c.in_ok-halt.halt c.in_ok-halt.ensures.halts
 
 pub answered-requires : goal.answered-requires
-answered-requires c = record { ends = c.in_ok-answer.ensures.call.1 }
+answered-requires c = record { ends = (c.put_halted-step.ensures.call (trees_of c.args.codes.now.items) c.args.task.now.widget c.carry_on.new.store c.in_ok-halt.ensures.call).1 }
+
+pub returns-clause-strides : goal.returns-clause-strides
+returns-clause-strides c = λ r.
+    let w = c.args.task.now.widget in
+    let fs = trees_of c.args.codes.now.items in
+    let old = c.args.store.now in
+    let new = c.carry_on.new.store in
+    let is = c.put_halted-step.new.task in
+    let spent = c.args.meter.now.left - c.carry_on.new.meter.left in
+    let at = c.take_control-control.ensures.result ∙ c.take_flow-flow.ensures.control in
+    let before = c.in_ok-resumed.ensures.plan r ∙ (λ j. todo fs w old.cells (at j) (c.take_flow-flow.ensures.frames j) (image fs r w old)) in
+    let after = ap (λ q. after_step fs w new.cells q is.control is.frames.list.items (image fs r w new)) c.answered.ensures ∙ c.put_halted-step.ensures.plan fs w new.cells (image fs r w new) in
+    subst (λ (p : Plan). Strides c.args.units spent p (after_step fs w new.cells (machine c.answered.result) is.control is.frames.list.items (image fs r w new))) before
+    (subst (λ (q : Plan). Strides c.args.units spent (flow_plan fs w c.resumed.new.store.cells c.resumed.new.flow (image fs r w c.resumed.new.store)) q) (sym after) (c.in_ok-halt.ensures.strides r))
 
 pub returns-clause-cut : goal.returns-clause-cut
 returns-clause-cut c = λ t.
     let w = c.args.task.now.widget in
     let fs = trees_of c.args.codes.now.items in
-    let mid = c.steps.store in
-    let task = c.steps.task in
-    let used = c.is_used.ensures.yes c.steps-test.false in (
-      omega (arith, used.0, c.left.ensures.value, c.left-start.ensures.value),
-      λ r. (charged fs w mid.cells task.control task.frames.list.items (image fs r w mid) c.steps.invariant.going).beyond 0 used.1,
-    )
+    let new = c.carry_on.new.store in
+    let l = c.carry_on.new.flow in
+    let left = c.carry_on.new.meter.left in
+    let x = at_cut c.args.units (c.args.meter.now.left - left) left l.next c.answered.result c.put_halted-step.result c.answered.ensures c.in_ok-halt.halt c.in_ok-halt.ensures.halts c.put_halted-step.ensures.answers t in
+    (x.1, λ r. ap (run_plan 0) (c.put_halted-step.ensures.todo x.0 fs w new.cells (image fs r w new)) ∙ (flow_moves fs w new.cells l (image fs r w new)).beyond 0 x.2)
 
-pub returns-in_default : goal.returns-in_default
-returns-in_default c =
+pub returns-clause-fuel : goal.returns-clause-fuel
+returns-clause-fuel c = λ t.
     let w = c.args.task.now.widget in
     let fs = trees_of c.args.codes.now.items in
-    let mid = c.steps.store in
-    let new = c.step_for.new.store in
-    let is = c.step_for.new.task in
-    let i = c.args.meter.now.left in
-    let had = c.steps.meter.left in
-    let has = c.step_for.new.meter.left in
-    let kept = c.steps.invariant in
-    let step = c.in_ok-answer.ensures in
-    let e = c.answered.ensures in
-    let none : c.args.units ≤ i - had → charge_of c.steps.task.control ≡ 0 = λ u. c.is_used.ensures.no c.steps-test.true (omega (arith, u, c.left.ensures.value, c.left-start.ensures.value)) in
-    record {
-      strides = λ r. subst (λ (p : Plan). Strides c.args.units (i - has) (remaining fs w c.args.store.now c.args.task.now r) p)
-          (sym (ap (λ q. after_step fs w new.cells q is.control is.frames.list.items (image fs r w new)) e))
-          (strides_on c.args.units i had has (image fs r w mid) _ _ _ (kept.strides r) (step.moves r) step.spends.0 kept.spends.0 (λ u. omega (arith, step.charge, none u)));
-      cut = λ t. absurd (went_as c.answered.result _ e c.in_default.not-Went t);
-      fuel = λ t.
-          let x = fuel_as c.answered.result _ e _ step.fuel t in (
-            subst (λ (n : ℕ). i - n < c.args.units) (ap (λ m. m.left) (sym x.2)) (begins_before c.args.units (i - had) _ had none (fuel_as c.answered.result _ e _ step.short t)),
-            λ r. (λ j. run_plan (x.2 j).left (remaining fs w (x.1 j) (x.0 j) r)) ∙ (x.3 r ∙ sym (λ j. out_of_fuel (image fs r w (x.1 j)) (x.2 j).left)),
-          );
-      near = λ o f. omega (arith, kept.near, other_as c.answered.result _ e _ step.near f);
-      follows = follows_as c.answered.result _ e _ step.follows;
-      held = ((step.held.0, step.held.1, step.call.0), fine_as c.answered.result _ e fs w new.cells step.held.2);
-      spends = (omega (arith, step.spends.0, kept.spends.0), step.spends.1 ∙ kept.spends.1);
-      widget = step.widget ∙ kept.widget;
-      kept = kept_then fs w c.args.store.now mid new kept.kept step.kept;
-    }
+    let new = c.carry_on.new.store in
+    let l = c.carry_on.new.flow in
+    let left = c.carry_on.new.meter.left in
+    let x = at_short c.args.units (c.args.meter.now.left - left) left l.next c.answered.result c.put_halted-step.result c.answered.ensures c.in_ok-halt.halt c.in_ok-halt.ensures.halts c.put_halted-step.ensures.answers t in
+    (x.1, λ r. ap (run_plan left) (c.put_halted-step.ensures.todo x.0 fs w new.cells (image fs r w new)) ∙ (flow_moves fs w new.cells l (image fs r w new)).beyond left x.2)
+
+pub returns-clause-near : goal.returns-clause-near
+returns-clause-near c = λ o f.
+    let w = c.args.task.now.widget in
+    let fs = trees_of c.args.codes.now.items in
+    let l = c.carry_on.new.flow in
+    let left = c.carry_on.new.meter.left in
+    let at = c.take_control-control.ensures.result ∙ c.take_flow-flow.ensures.control in
+    let was = c.args.task.now in
+    let over = at_over c.args.units (c.args.meter.now.left - left) left l.next c.answered.result c.put_halted-step.result c.answered.ensures c.in_ok-halt.halt c.in_ok-halt.ensures.halts c.put_halted-step.ensures.answers o f in
+    let same : free c.take_control-control.result (all_frames c.take_flow-flow.result) ≡ free was.control was.frames.list.items = λ j. free (at j) (c.take_flow-flow.ensures.frames j) in
+    omega (
+      arith,
+      c.in_ok-halt.ensures.near,
+      c.in_ok-resumed.ensures.near,
+      c.put_halted-step.ensures.near,
+      same,
+      ends_at_rest fs w c.carry_on.new.store.cells (all_frames l) l.next c.in_ok-halt.ensures.fine.1 over,
+    )
+
+pub returns-clause-follows : goal.returns-clause-follows
+returns-clause-follows c = follows_as c.answered.result _ c.answered.ensures _ c.put_halted-step.ensures.follows
+
+pub returns-clause-held : goal.returns-clause-held
+returns-clause-held c =
+    let w = c.args.task.now.widget in
+    let fs = trees_of c.args.codes.now.items in
+    let new = c.carry_on.new.store in
+    let fine = c.put_halted-step.ensures.fine fs w new.cells c.in_ok-halt.ensures.fine in
+    ((fine.0, fine.1, (c.put_halted-step.ensures.call fs w new c.in_ok-halt.ensures.call).0), fine_as c.answered.result _ c.answered.ensures fs w new.cells fine.2)
+
+pub returns-clause-widget : goal.returns-clause-widget
+returns-clause-widget c = c.put_halted-step.ensures.widget ∙ (c.take_control-control.ensures.widget ∙ c.take_flow-flow.ensures.widget)
+
+pub returns-clause-kept : goal.returns-clause-kept
+returns-clause-kept c =
+    kept_then (trees_of c.args.codes.now.items) c.args.task.now.widget c.args.store.now c.resumed.new.store c.carry_on.new.store c.resumed.ensures.kept c.carry_on.ensures.kept
+
+pub returns-in_err-halt-clause-kept : goal.returns-in_err-halt-clause-kept
+returns-in_err-halt-clause-kept c =
+    kept_then (trees_of c.args.codes.now.items) c.args.task.now.widget c.args.store.now c.resumed.new.store c.carry_on.new.store c.resumed.ensures.kept c.carry_on.ensures.kept
+
+pub returns-in_err-halt-clause-widget : goal.returns-in_err-halt-clause-widget
+returns-in_err-halt-clause-widget c = c.take_control-control.ensures.widget ∙ c.take_flow-flow.ensures.widget
+
+pub returns-in_err-resumed-clause-widget : goal.returns-in_err-resumed-clause-widget
+returns-in_err-resumed-clause-widget c = c.take_control-control.ensures.widget ∙ c.take_flow-flow.ensures.widget

@@ -1,0 +1,171 @@
+//! Many steps on one flow.
+ghost use Rattle.std.specs.Prelude.{◌≡◌, ◌+◌, ◌*◌, ◌-◌, ◌<◌, ◌≤◌, IfOk, IsFalse, IsTrue, OnOk};
+ghost use Rattle.js_image.specs.Image.{Rest, image};
+ghost use Rattle.js_image.specs.Held.{IsConfined, Kept};
+ghost use Rattle.js_names.specs.Code.{trees_of};
+ghost use Rattle.js_flow.specs.Left.{all_frames};
+ghost use Rattle.js_flow.specs.Frames.{flow_plan};
+ghost use Rattle.js_flow.specs.Fine.{FineControl, FineFlow, FineFrames};
+ghost use Rattle.js_flow.specs.Free.{control_free, flow_free, free, native_free, next_free};
+ghost use Rattle.js_flow.specs.Todo.{IsGoing, Strides, todo};
+ghost use Rattle.js_steps.specs.Ending.{IsNative};
+ghost use Rattle.js_steps.specs.Tolls.{EndsFlow, Halts, IsRunning, IsTolled, at_rest, paid, paid_next};
+
+use crate::machine::{begin, give, pay, run};
+use code_units::Memory;
+use js_flow::{Completion, Control, Flow, Next};
+use js_names::Code;
+use js_values::Meter;
+use object_store::Store;
+use std::alloc::Global;
+
+/// What came of a charge.
+#[derive(Drop)]
+pub(crate) enum Toll {
+    /// It was paid.
+    Paid,
+    /// The units are used up.
+    Cut,
+    /// It is more than is left.
+    Short,
+    /// There is none: a native, a stop or an end is next.
+    Over,
+}
+
+// Whether so many units are used up before a charge.
+#[inline(always)]
+fn is_used(charge: usize, spent: u32, units: u32) -> bool
+    ensures yes { IsTrue result → (units ≤ spent) × (0 < charge) }
+    ensures no { IsFalse result → units ≤ spent → charge ≡ 0 }
+{
+    charge > 0 && spent >= units
+}
+
+// A charge is paid where it begins below so many units.
+fn charged(meter: &mut Meter, charge: usize, first: u32, units: u32) -> Toll
+    requires first { meter.old.left ≤ first }
+    ensures { IsTolled units first meter.old meter.new (Next.Pay charge) result }
+{
+    if is_used(charge, first - meter.left(), units) {
+        return Toll::Cut;
+    }
+    if pay(meter, charge) {
+        Toll::Paid
+    } else {
+        Toll::Short
+    }
+}
+
+// The charge of what is next is paid where it begins below so many units.
+#[inline(always)]
+fn pay_next(next: &Next, meter: &mut Meter, first: u32, units: u32) -> Toll
+    requires first { meter.old.left ≤ first }
+    ensures { IsTolled units first meter.old meter.new next.now result }
+{
+    match next {
+        Next::Begin(_) => Toll::Paid,
+        Next::Run(_, _) => Toll::Paid,
+        Next::Give(_) => Toll::Paid,
+        Next::Go(_) => charged(meter, 1, first, units),
+        Next::Pay(charge) => charged(meter, *charge, first, units),
+        _ => Toll::Over,
+    }
+}
+
+// What is next is done, once its charge was taken.
+fn go(
+    flow: &mut Flow,
+    alloc: Global,
+    w: u32,
+    codes: &Vec<Code>,
+    store: &mut Store,
+) -> Result<(), Memory>
+    requires running { IsRunning flow.old.next }
+    requires widget { w < 32 }
+    requires confined { IsConfined (trees_of codes.now.items) w store.old }
+    requires held { FineFlow (trees_of codes.now.items) w store.old.cells flow.old }
+    ensures plan { let F = trees_of codes.now.items in OnOk result ((r : Rest)
+        → flow_plan F w store.new.cells flow.new (image F r w store.new)
+        ≡ flow_plan F w store.old.cells (paid flow.old) (image F r w store.old)) }
+    ensures fine { OnOk result (FineFlow (trees_of codes.now.items) w store.new.cells flow.new) }
+    ensures near { OnOk result (flow_free flow.new < flow_free (paid flow.old)) }
+    ensures native { OnOk result (IsNative flow.new.next → (native_free < next_free (paid_next flow.old.next))
+        × (all_frames flow.new ≡ all_frames flow.old)) }
+    ensures kept { Kept (trees_of codes.now.items) w store.old store.new }
+{
+    match flow.take_next() {
+        Next::Go(job) => begin(flow, alloc, w, codes, store, job),
+        Next::Begin(job) => begin(flow, alloc, w, codes, store, job),
+        Next::Run(block, place) => run(flow, codes, block, place),
+        Next::Give(how) => give(flow, alloc, w, codes, store, how),
+        Next::Pay(_) => give(flow, alloc, w, codes, store, Completion::Normal),
+        _ => unreachable!(),
+    }
+}
+
+/// What is next is done, and so on, while charges begin below so many units.
+pub(crate) fn carry_on(
+    flow: &mut Flow,
+    alloc: Global,
+    w: u32,
+    codes: &Vec<Code>,
+    store: &mut Store,
+    meter: &mut Meter,
+    units: u32,
+) -> Result<Toll, Memory>
+    requires widget { w < 32 }
+    requires confined { IsConfined (trees_of codes.now.items) w store.old }
+    requires held { FineFlow (trees_of codes.now.items) w store.old.cells flow.old }
+    requires call { EndsFlow (trees_of codes.now.items) w store.old flow.old }
+    ensures strides { let F = trees_of codes.now.items in IfOk result (λ t. (r : Rest)
+        → Strides units (meter.old.left - meter.new.left)
+        (flow_plan F w store.old.cells flow.old (image F r w store.old))
+        (flow_plan F w store.new.cells flow.new (image F r w store.new))) }
+    ensures halts { IfOk result (λ t. Halts units (meter.old.left - meter.new.left) meter.new.left flow.new.next t) }
+    ensures fine { IfOk result (λ t. FineFlow (trees_of codes.now.items) w store.new.cells flow.new) }
+    ensures call { IfOk result (λ t. EndsFlow (trees_of codes.now.items) w store.new flow.new) }
+    ensures near { IfOk result (λ t. 32 * meter.new.left + flow_free flow.new + at_rest flow.new.next
+        ≤ 32 * meter.old.left + flow_free flow.old + at_rest flow.old.next) }
+    ensures spends { (meter.new.left ≤ meter.old.left)
+        × (meter.new.left + meter.new.spent ≡ meter.old.left + meter.old.spent) }
+    ensures kept { Kept (trees_of codes.now.items) w store.old store.new }
+{
+    let first = meter.left();
+    'steps: loop {
+        match pay_next(flow.next(), meter, first, units) {
+            Toll::Paid => go(flow, alloc, w, codes, store)?,
+            halt => return Ok(halt),
+        }
+    }
+}
+
+/// What a task is at is next on its flow.
+pub(crate) fn resumed(
+    flow: &mut Flow,
+    alloc: Global,
+    w: u32,
+    codes: &Vec<Code>,
+    store: &mut Store,
+    control: Control,
+) -> Result<(), Memory>
+    requires going { IsGoing control }
+    requires widget { w < 32 }
+    requires confined { IsConfined (trees_of codes.now.items) w store.old }
+    requires held { FineControl (trees_of codes.now.items) w store.old.cells control
+        × FineFrames (trees_of codes.now.items) w store.old.cells (all_frames flow.old) }
+    ensures plan { let F = trees_of codes.now.items in OnOk result ((r : Rest)
+        → flow_plan F w store.new.cells flow.new (image F r w store.new)
+        ≡ todo F w store.old.cells control (all_frames flow.old) (image F r w store.old)) }
+    ensures fine { OnOk result (FineFlow (trees_of codes.now.items) w store.new.cells flow.new) }
+    ensures near { OnOk result (flow_free flow.new + at_rest flow.new.next ≤ free control (all_frames flow.old)) }
+    ensures native { OnOk result (IsNative flow.new.next → native_free < control_free control) }
+    ensures kept { Kept (trees_of codes.now.items) w store.old store.new }
+{
+    match control {
+        Control::Do(job) => Ok(flow.leave(Next::Go(job))),
+        Control::Begin(job) => begin(flow, alloc, w, codes, store, job),
+        Control::Give(how) => Ok(flow.leave(Next::Give(how))),
+        Control::Pay(units) => Ok(flow.leave(Next::Pay(units))),
+        _ => unreachable!(),
+    }
+}
