@@ -1,13 +1,14 @@
 -- Steps one after the other.
-use Rattle.std.proofs.Common.{◌≡◌, ℕ, ◌+◌, ◌-◌, ◌≤◌, refl, ap, ◌∙◌, subst, arith}
+use Rattle.std.proofs.Common.{◌≡◌, ℕ, ◌+◌, ◌-◌, ◌<◌, ◌≤◌, refl, sym, ap, ◌∙◌, subst, arith, ◌⊎◌, inl, inr}
+use Rattle.std.proofs.lemmas.Bool.{cases_lt}
 use Rattle.std.specs.Prelude.{IfOk, Result, Ok, Err}
 use Rattle.widget_meaning.specs.OwnState.{State}
-use Rattle.widget_meaning.specs.Plan.{Plan}
+use Rattle.widget_meaning.specs.Plan.{Out, OutOfFuel, Plan}
 use Rattle.widget_meaning.specs.Meaning.{run_plan}
 use Rattle.js_flow.specs.declared.task.Stepped.{Stepped}
 use Rattle.js_flow.specs.declared.task.Stepped.TheVariants as stepped
 use Rattle.js_flow.specs.Todo.{IfOutOfFuel, IsNotFuel, IsOver, Moves, Strides}
-use Rattle.js_flow.proofs.Moves.{begins, strides_more}
+use Rattle.js_flow.proofs.Moves.{begins, strides_one}
 
 -- a step, and then what costs nothing
 pub then_free : (c : ℕ) (s t : State) (p q u : Plan) → Moves c s p q → Moves 0 t q u → Moves c s p u
@@ -32,12 +33,36 @@ goes l m s p q v h = v.within l (less l m) ∙ ap (λ n. run_plan n q) (back l m
     back : (a b : ℕ) → b ≤ a → a - (a - b) ≡ b
     back a b k = omega (arith, k)
 
--- one step more, by what is left of i: where k units are used up, it costs nothing
-pub strides_on : (k i l m : ℕ) (s : State) (p q u : Plan) → Strides k (i - l) p q → Moves (l - m) s q u → m ≤ l → l ≤ i → (k ≤ i - l → l - m ≡ 0) → Strides k (i - m) p u
-strides_on k i l m s p q u strides moves h g f = subst (λ (n : ℕ). Strides k n p u) (sums i l m h g) (strides_more k (i - l) (l - m) s p q u strides moves (begins k (i - l) (l - m) f))
+-- steps below k, and then steps below what is left of k
+strides_then : (k a c : ℕ) (p q u : Plan) → Strides k a p q → Strides (k - a) c q u → Strides k (a + c) p u
+strides_then k a c p q u one two = record {
+  within = λ g h. one.within g (omega arith) ∙ (two.within (g - a) (omega arith) ∙ ap (λ n. run_plan n u) (twice g));
+  beyond = λ g l m. by g l m (cases_lt g a);
+}
+  where
+    twice : (g : ℕ) → (g - a) - c ≡ g - (a + c)
+    twice g = omega arith
+
+    by : (g : ℕ) → k ≤ g → g < a + c → (g < a) ⊎ (a ≤ g) → ((run_plan g p).how ≡ OutOfFuel) × (0 < (run_plan g p).left)
+    by g l m (inl lt) = one.beyond g l lt
+    by g l m (inr ge) =
+        let P : Out → Type 0 = λ o. (o.how ≡ OutOfFuel) × (0 < o.left) in
+        subst P (sym (one.within g ge)) (two.beyond (g - a) (omega arith) (omega arith))
+
+-- by what is left of i
+pub strides_on : (k i l m : ℕ) (p q u : Plan) → Strides k (i - l) p q → Strides (k - (i - l)) (l - m) q u → m ≤ l → l ≤ i → Strides k (i - m) p u
+strides_on k i l m p q u one two h g = subst (λ (n : ℕ). Strides k n p u) (sums i l m h g) (strides_then k (i - l) (l - m) p q u one two)
   where
     sums : (a b c : ℕ) → c ≤ b → b ≤ a → (a - b) + (b - c) ≡ a - c
     sums a b c x y = omega (arith, x, y)
+
+-- one step, whose charge begins below k, or which costs nothing, by what is left of i
+pub strides_next : (k i l m : ℕ) (s : State) (p q : Plan) → Moves (l - m) s p q → (k ≤ i - l → l - m ≡ 0) → Strides (k - (i - l)) (l - m) p q
+strides_next k i l m s p q moves f = strides_one (k - (i - l)) (l - m) s p q moves (begins_in (begins k (i - l) (l - m) f))
+  where
+    begins_in : (i - l < k) ⊎ (l - m ≡ 0) → (0 < k - (i - l)) ⊎ (l - m ≡ 0)
+    begins_in (inl lt) = inl (omega (arith, lt))
+    begins_in (inr z) = inr z
 
 -- an answer other than want of fuel
 pub not_fuel : (k : Stepped) (P : Type 0) → IsNotFuel k → IfOutOfFuel k P

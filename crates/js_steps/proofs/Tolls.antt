@@ -27,6 +27,9 @@ use Rattle.js_flow.specs.Left.{IsSettled, Leaves, Left, all_frames}
 use Rattle.js_flow.specs.Todo.{IsGoing, IsNotFuel, IsOver, Moves, todo}
 use Rattle.js_flow.specs.Views.{job_of}
 use Rattle.js_flow.proofs.Moves.{charge_moves, job_moves, stays}
+use Rattle.js_direct.specs.Comes.{IsNative as InPlace}
+use Rattle.js_direct.specs.Reduces.{Reduces}
+use Rattle.js_direct.proofs.Reducing.{yields}
 use Rattle.js_steps.specs.Answered.{IsFuelStop, IsWent, machine}
 use Rattle.js_steps.specs.Ending.{Awaits, EndsCall, IsNative}
 use Rattle.js_steps.specs.Tolls.{Answers, EndsFlow, Halts, IsHalted, IsRunning, IsTolled, at_rest, next_charge, paid, paid_next}
@@ -271,3 +274,20 @@ module _ (fs : List Forest) (w : ℕ) where
   resumed_ends old new c frames m g h plan native =
       let e = going_ends old c frames g h in
       (λ r. subst (λ (p : Plan). Yields ByValue p) (sym (plan r)) (e.0 r), λ x. absurd (omega (arith, native x, e.1)))
+
+  -- what is next was carried out in place
+  pub reduced_ends : (old new : Cells) (l m : Left) (c : ℕ) → EndsFlow fs w old l
+      → ((r : Rest) → Reduces c (flow_plan fs w old.cells l (image fs r w old)) (flow_plan fs w new.cells m (image fs r w new))) → (IsNative m.next → ⊥) → EndsFlow fs w new m
+  reduced_ends old new l m c ends plan native = (λ r. yields ByValue c _ _ (plan r) (ends.0 r), λ x. absurd (native x))
+
+-- what is next is no native, as it is told in place
+pub no_native_next : (n : Next) → (InPlace n → ⊥) → IsNative n → ⊥
+no_native_next (next.Native c) h x = h x
+no_native_next next.Nothing h x = x
+no_native_next (next.Go j) h x = x
+no_native_next (next.Begin j) h x = x
+no_native_next (next.Run b p) h x = x
+no_native_next (next.Give o) h x = x
+no_native_next (next.Pay n) h x = x
+no_native_next (next.Stop c) h x = x
+no_native_next (next.Done o) h x = x
