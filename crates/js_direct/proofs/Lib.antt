@@ -1,2 +1,4 @@
+pub mod FormFrames
 pub mod Parts
 pub mod Reducing
+pub mod Values

@@ -1,3 +1,4 @@
 pub mod Comes
 pub mod Going
 pub mod Reduces
+pub mod Prefixes

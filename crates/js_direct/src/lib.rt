@@ -4,6 +4,10 @@
 mod calls;
 mod forms;
 mod going;
+mod leaves;
+mod literals;
+mod operators;
+mod properties;
 mod run;
 mod statements;
 mod targets;

@@ -1,0 +1,21 @@
+use Rattle.std.proofs.Common.{sym, ap, refl, arith}
+use Rattle.js_tree.specs.Plain as node
+use Rattle.widget_meaning.specs.Expressions.{expression}
+use Rattle.widget_meaning.specs.Plan.{Ret}
+use Rattle.widget_meaning.specs.Values as meaning
+use Rattle.js_image.specs.Image.{image}
+use Rattle.js_names.specs.Code.{trees_of}
+use Rattle.js_flow.specs.Views.{place_of}
+use Rattle.js_direct.proofs.FormFrames.{gives_value}
+use Rattle.js_direct.proofs.leaves.number_on.Goals as goal
+
+pub returns : goal.returns
+returns c =
+    let fs = trees_of c.args.site.now.codes.now.items in
+    let w = c.args.site.now.widget in
+    let s = c.args.store.now in
+    let p = place_of w s.cells c.args.place.now in
+    record {
+      comes = λ run none. gives_value fs w s s 30 (expression (node.Num c.args.text.now) p) run c.number.result none
+          (λ r. sym (ap (λ u. Ret (meaning.Is u) (image fs r w s)) (c.number.ensures.value w s.cells))) (c.number.ensures.fine w s.cells) (omega arith);
+    }

@@ -1,0 +1,100 @@
+use Rattle.std.proofs.Common.{◌≡◌, ℕ, List, [], ◌∷◌, ◌++◌, subst, arith}
+use Rattle.std.specs.Prelude.{IfOk}
+use Rattle.std.proofs.lemmas.Result.{IfOk-weaker}
+use Rattle.widget_meaning.specs.OwnState.{State}
+use Rattle.widget_meaning.specs.Plan.{Plan, Ret, Do}
+use Rattle.js_image.proofs.Units.{kept_then}
+use Rattle.js_names.specs.Code.{trees_of}
+use Rattle.js_flow.specs.Views.{job_of}
+use Rattle.js_flow.specs.declared.job.Job.TheVariants as job
+use Rattle.js_flow.specs.declared.frame.Frame.TheVariants as frame
+use Rattle.js_flow.specs.declared.frame.FormFrame.TheVariants as form
+use Rattle.js_direct.specs.declared.run.Ended.{Ended}
+use Rattle.js_direct.specs.Comes.{ended_as}
+use Rattle.js_direct.proofs.FormFrames.{frame_waits, value_fine, value_passes, value_ready, value_then}
+use Rattle.js_direct.proofs.properties.dot_on.Goals as goal
+
+pub read_on-requires-clause-ready : goal.read_on-requires-clause-ready
+read_on-requires-clause-ready c =
+    let fs = trees_of c.args.site.now.codes.now.items in
+    let w = c.args.site.now.widget in
+    let old = c.args.store.now in
+    let mid = c.eval_on.new.store in
+    let p : State → Plan = λ s. Do (job_of fs w old.cells (job.Eval c.args.e c.args.place.now)) s Ret in
+    let had = c.args.run.now in
+    let has = c.eval_on.new.run in
+    let how = c.in_ok-how.how in
+    let out = c.eval_on.new.out in
+    let part = c.in_ok-how.ensures.comes in
+    let kept = c.in_ok-how.ensures.kept in
+    value_ready fs w old mid 0 p had has how (ended_as how out) part c.in-Is.is kept c.requires.ready
+
+pub read_on-requires-clause-held : goal.read_on-requires-clause-held
+read_on-requires-clause-held c =
+    let fs = trees_of c.args.site.now.codes.now.items in
+    let w = c.args.site.now.widget in
+    let old = c.args.store.now in
+    let mid = c.eval_on.new.store in
+    let p : State → Plan = λ s. Do (job_of fs w old.cells (job.Eval c.args.e c.args.place.now)) s Ret in
+    let had = c.args.run.now in
+    let has = c.eval_on.new.run in
+    let how = c.in_ok-how.how in
+    let out = c.eval_on.new.out in
+    let part = c.in_ok-how.ensures.comes in
+    let kept = c.in_ok-how.ensures.kept in
+    value_fine fs w old mid 0 p had has how out part c.in-Is.is
+
+pub returns-in-Is-clause-comes : goal.returns-in-Is-clause-comes
+returns-in-Is-clause-comes c =
+    let fs = trees_of c.args.site.now.codes.now.items in
+    let w = c.args.site.now.widget in
+    let old = c.args.store.now in
+    let mid = c.eval_on.new.store in
+    let p : State → Plan = λ s. Do (job_of fs w old.cells (job.Eval c.args.e c.args.place.now)) s Ret in
+    let had = c.args.run.now in
+    let has = c.eval_on.new.run in
+    let how = c.in_ok-how.how in
+    let out = c.eval_on.new.out in
+    let part = c.in_ok-how.ensures.comes in
+    let kept = c.in_ok-how.ensures.kept in
+    (IfOk-weaker c.read_on.result _ _
+    (λ h x. value_then fs w old mid c.read_on.new.store 0 1 30 p (form.Dot c.args.name.now) had has c.read_on.new.run how h out _ part c.in-Is.is kept tt x (omega arith))
+    c.read_on.ensures.comes)
+
+pub returns-in-Is-clause-kept : goal.returns-in-Is-clause-kept
+returns-in-Is-clause-kept c =
+    kept_then (trees_of c.args.site.now.codes.now.items) c.args.site.now.widget c.args.store.now c.eval_on.new.store c.read_on.new.store c.in_ok-how.ensures.kept c.read_on.ensures.kept
+
+pub returns-in_ok-share-in-Left-clause-comes : goal.returns-in_ok-share-in-Left-clause-comes
+returns-in_ok-share-in-Left-clause-comes c =
+    let fs = trees_of c.args.site.now.codes.now.items in
+    let w = c.args.site.now.widget in
+    let old = c.args.store.now in
+    let mid = c.eval_on.new.store in
+    let p : State → Plan = λ s. Do (job_of fs w old.cells (job.Eval c.args.e c.args.place.now)) s Ret in
+    let had = c.args.run.now in
+    let has = c.eval_on.new.run in
+    let how = c.in_ok-how.how in
+    let out = c.eval_on.new.out in
+    let part = c.in_ok-how.ensures.comes in
+    let kept = c.in_ok-how.ensures.kept in
+    (frame_waits fs w c.wait.result old mid 0 30 p (frame.Form (form.Dot c.args.name.now)) had has c.wait.new.run how (ended_as how out) (λ (h : Ended). ended_as h out) part c.in-Left.is kept tt (omega arith)
+    c.wait.ensures.left (subst (λ (x : List ℕ). IfOk c.wait.result (λ h. c.wait.new.run.waits.items ≡ has.waits.items ++ frame.Form (form.Dot x) ∷ [])) c.in_ok-share-in-Left.ensures c.wait.ensures.waits) c.wait.ensures.next c.wait.ensures.units)
+
+pub returns-in_default : goal.returns-in_default
+returns-in_default c =
+    let fs = trees_of c.args.site.now.codes.now.items in
+    let w = c.args.site.now.widget in
+    let old = c.args.store.now in
+    let mid = c.eval_on.new.store in
+    let p : State → Plan = λ s. Do (job_of fs w old.cells (job.Eval c.args.e c.args.place.now)) s Ret in
+    let had = c.args.run.now in
+    let has = c.eval_on.new.run in
+    let how = c.in_ok-how.how in
+    let out = c.eval_on.new.out in
+    let part = c.in_ok-how.ensures.comes in
+    let kept = c.in_ok-how.ensures.kept in
+    record {
+      comes = (value_passes fs w old mid 0 30 p (form.Dot c.args.name.now) had has how out part c.in_default.not-Is c.in_default.not-Left kept tt (omega arith));
+      kept = kept;
+    }

@@ -1,0 +1,111 @@
+//! Names and literals.
+ghost use Rattle.std.specs.Prelude.{◌≡◌, ℕ, List, [], IfOk};
+ghost use Rattle.code_units.specs.Whole.{number_in};
+ghost use Rattle.js_tree.specs.Plain as node;
+ghost use Rattle.store_cells.specs.Cells.{PlainCell};
+ghost use Rattle.widget_meaning.specs.Expressions as expressions;
+ghost use Rattle.js_image.specs.Image.{seen};
+ghost use Rattle.js_image.specs.Held.{IsConfined, IsFine};
+ghost use Rattle.js_names.specs.Code.{trees_of};
+ghost use Rattle.js_flow.specs.Fine.{IsPlace};
+ghost use Rattle.js_flow.specs.Views.{place_of};
+ghost use Rattle.js_direct.specs.Comes.{Comes};
+ghost use Rattle.js_direct.specs.declared.run.Run.{Run};
+
+use crate::run::{Ended, Site};
+use code_units::{Memory, Text, WholeRead, read_whole};
+use js_flow::Place;
+use js_image::variable;
+use js_tree::Word;
+use object_store::{Number, Store, Value};
+
+/// The value of a name.
+pub(crate) fn name_on(
+    site: &Site,
+    store: &Store,
+    name: &Text,
+    place: &Place,
+    out: &mut Value,
+) -> Result<Ended, Memory>
+    requires confined { IsConfined (trees_of site.now.codes.now.items) site.now.widget store.now }
+    requires place { IsPlace (trees_of site.now.codes.now.items) site.now.widget store.now.cells place.now }
+    ensures comes { let F = trees_of site.now.codes.now.items in let w = site.now.widget in
+        IfOk result (λ how. (run : Run) → run.waits.items ≡ [] → Comes F w store.now store.now 30
+        (expressions.expression (node.Name name.now) (place_of w store.now.cells place.now)) run run how out.new) }
+{
+    *out = variable(store, place.scope, name)?;
+    Ok(Ended::Is)
+}
+
+/// The value of a number.
+pub(crate) fn number_on(
+    site: &Site,
+    store: &Store,
+    text: &Text,
+    place: &Place,
+    out: &mut Value,
+) -> Result<Ended, Memory>
+    ensures comes { let F = trees_of site.now.codes.now.items in let w = site.now.widget in
+        IfOk result (λ how. (run : Run) → run.waits.items ≡ [] → Comes F w store.now store.now 30
+        (expressions.expression (node.Num text.now) (place_of w store.now.cells place.now)) run run how out.new) }
+{
+    *out = number(text);
+    Ok(Ended::Is)
+}
+
+/// The value of a text.
+pub(crate) fn text_on(
+    site: &Site,
+    store: &Store,
+    text: &Text,
+    place: &Place,
+    out: &mut Value,
+) -> Result<Ended, Memory>
+    ensures comes { let F = trees_of site.now.codes.now.items in let w = site.now.widget in
+        IfOk result (λ how. (run : Run) → run.waits.items ≡ [] → Comes F w store.now store.now 30
+        (expressions.expression (node.Str text.now) (place_of w store.now.cells place.now)) run run how out.new) }
+{
+    *out = Value::Text(text.share()?);
+    Ok(Ended::Is)
+}
+
+/// The value of a word.
+pub(crate) fn word_on(
+    site: &Site,
+    store: &Store,
+    word: Word,
+    place: &Place,
+    out: &mut Value,
+) -> Result<Ended, Memory>
+    ensures comes { let F = trees_of site.now.codes.now.items in let w = site.now.widget in
+        IfOk result (λ how. (run : Run) → run.waits.items ≡ [] → Comes F w store.now store.now 30
+        (expressions.expression (node.Constant word) (place_of w store.now.cells place.now)) run run how out.new) }
+{
+    *out = word_value(word);
+    Ok(Ended::Is)
+}
+
+// The value of a number literal.
+fn number(text: &Text) -> Value
+    ensures value { (w : ℕ) (cells : List PlainCell) → seen w cells result ≡ expressions.literal (number_in text.now) }
+    ensures fine { (w : ℕ) (cells : List PlainCell) → IsFine w cells result }
+{
+    match read_whole(text) {
+        WholeRead::Whole(z) => Value::Num(Number::Whole(z)),
+        WholeRead::NotNumber => Value::Num(Number::NaN),
+        WholeRead::Left => Value::Num(Number::NaN),
+    }
+}
+
+// The value of a word literal.
+fn word_value(word: Word) -> Value
+    ensures value { (w : ℕ) (cells : List PlainCell) → seen w cells result ≡ expressions.word_value word }
+    ensures fine { (w : ℕ) (cells : List PlainCell) → IsFine w cells result }
+{
+    match word {
+        Word::Null => Value::Null,
+        Word::True => Value::Bool(true),
+        Word::False => Value::Bool(false),
+        Word::This => Value::Undefined,
+    }
+}

@@ -1,0 +1,473 @@
+//! Operators, and choices by the truth of a first part.
+ghost use Rattle.std.specs.Prelude.{◌≡◌, ℕ, ◌<◌, List, IfOk, false, true};
+ghost use Rattle.store_cells.specs.Cells.{PlainCell};
+ghost use Rattle.widget_meaning.specs.Expressions as expressions;
+ghost use Rattle.widget_meaning.specs.Operators as operators;
+ghost use Rattle.widget_meaning.specs.Values as meaning;
+ghost use Rattle.widget_meaning.specs.Plan.{Do};
+ghost use Rattle.js_image.specs.Image.{seen};
+ghost use Rattle.js_image.specs.Held.{IsFine, Kept};
+ghost use Rattle.js_names.specs.Code.{trees_of};
+ghost use Rattle.js_values.specs.Operands.{IsOperand, IsPlainOut, IsPrefixed, IsPrimitive, meant_out, plain};
+ghost use Rattle.js_flow.specs.Fine.{FineForm, IsExprAt, IsPlace};
+ghost use Rattle.js_flow.specs.Free.{form_free, native_free};
+ghost use Rattle.js_flow.specs.Frames.{taken};
+ghost use Rattle.js_flow.specs.Views.{job_of};
+ghost use Rattle.js_direct.specs.Comes.{Comes, IsReady};
+ghost use Rattle.js_direct.specs.Prefixes.{is_plain_prefix};
+
+use crate::forms::eval_on;
+use crate::run::{Ended, Run, Site, clear, handed, stop, take_value, wait};
+use code_units::Memory;
+use js_flow::{Completion, Flow, FormFrame, Frame, Job, Place};
+use js_forms::take_form;
+use js_image::{Paid, StopCause, pay_text};
+use js_tree::{BinOp, ExprId, UnOp};
+use js_values::{OpOut, binary, is_true, unary};
+use object_store::{Store, Value};
+
+/// An operator on two expressions.
+pub(crate) fn binary_on(
+    site: &Site,
+    run: &mut Run,
+    store: &mut Store,
+    op: BinOp,
+    parts: (ExprId, ExprId),
+    place: &Place,
+    deep: u32,
+    out: &mut Value,
+) -> Result<Ended, Memory>
+    requires ready { IsReady (trees_of site.now.codes.now.items) site.now.widget store.old run.old }
+    requires held { IsExprAt (trees_of site.now.codes.now.items) site.now.widget store.old.cells parts.0 place.now
+        × IsExprAt (trees_of site.now.codes.now.items) site.now.widget store.old.cells parts.1 place.now }
+    ensures comes { let F = trees_of site.now.codes.now.items in let w = site.now.widget in
+        IfOk result (λ how. Comes F w store.old store.new 30
+        (λ s. Do (job_of F w store.old.cells (Job.Eval parts.0 place.now)) s
+        (taken F w store.old.cells (Frame.Form (FormFrame.Right op parts.1 place.now))))
+        run.old run.new how out.new) }
+    ensures kept { Kept (trees_of site.now.codes.now.items) site.now.widget store.old store.new }
+{
+    match eval_on(site, run, store, parts.0, place, deep, out)? {
+        Ended::Is => right_on(site, run, store, op, parts.1, place, deep, out),
+        Ended::Left => wait(run, Frame::Form(FormFrame::Right(op, parts.1, *place))),
+        how => Ok(how),
+    }
+}
+
+// The right operand of the left one that is at the place.
+fn right_on(
+    site: &Site,
+    run: &mut Run,
+    store: &mut Store,
+    op: BinOp,
+    e: ExprId,
+    place: &Place,
+    deep: u32,
+    out: &mut Value,
+) -> Result<Ended, Memory>
+    requires ready { IsReady (trees_of site.now.codes.now.items) site.now.widget store.old run.old }
+    requires held { IsExprAt (trees_of site.now.codes.now.items) site.now.widget store.old.cells e place.now
+        × IsFine site.now.widget store.old.cells out.old }
+    ensures comes { let F = trees_of site.now.codes.now.items in let w = site.now.widget in
+        IfOk result (λ how. Comes F w store.old store.new 8
+        (taken F w store.old.cells (Frame.Form (FormFrame.Right op e place.now)) (meaning.Is (seen w store.old.cells out.old)))
+        run.old run.new how out.new) }
+    ensures kept { Kept (trees_of site.now.codes.now.items) site.now.widget store.old store.new }
+{
+    let left = take_value(out);
+    match eval_on(site, run, store, e, place, deep, out)? {
+        Ended::Is => operate_on(site, run, store, op, &left, place.depth, out),
+        Ended::Left => wait(run, Frame::Form(FormFrame::Operate(op, left, place.depth))),
+        how => Ok(how),
+    }
+}
+
+/// An operator on a left value and the one at the place.
+pub(crate) fn operate_on(
+    site: &Site,
+    run: &mut Run,
+    store: &mut Store,
+    op: BinOp,
+    left: &Value,
+    depth: u32,
+    out: &mut Value,
+) -> Result<Ended, Memory>
+    requires ready { IsReady (trees_of site.now.codes.now.items) site.now.widget store.old run.old }
+    requires held { IsFine site.now.widget store.old.cells left.now
+        × IsFine site.now.widget store.old.cells out.old }
+    ensures comes { let F = trees_of site.now.codes.now.items in let w = site.now.widget in
+        IfOk result (λ how. Comes F w store.old store.new 8
+        (expressions.operate op (seen w store.old.cells left.now) (seen w store.old.cells out.old) depth)
+        run.old run.new how out.new) }
+    ensures kept { Kept (trees_of site.now.codes.now.items) site.now.widget store.old store.new }
+{
+    if is_ready(op, left, out) {
+        let found = binary(site.alloc, op, left, out)?;
+        return result_on(site, run, store, found, out);
+    }
+    operate_by_frames(site, run, store, op, left, depth, out)
+}
+
+// The same by frames, where an object is converted.
+#[cold]
+#[inline(never)]
+fn operate_by_frames(
+    site: &Site,
+    run: &mut Run,
+    store: &mut Store,
+    op: BinOp,
+    left: &Value,
+    depth: u32,
+    out: &mut Value,
+) -> Result<Ended, Memory>
+    requires ready { IsReady (trees_of site.now.codes.now.items) site.now.widget store.old run.old }
+    requires held { IsFine site.now.widget store.old.cells left.now
+        × IsFine site.now.widget store.old.cells out.old }
+    ensures comes { let F = trees_of site.now.codes.now.items in let w = site.now.widget in
+        IfOk result (λ how. Comes F w store.old store.new 8
+        (expressions.operate op (seen w store.old.cells left.now) (seen w store.old.cells out.old) depth)
+        run.old run.new how out.new) }
+    ensures kept { Kept (trees_of site.now.codes.now.items) site.now.widget store.old store.new }
+{
+    let frame = FormFrame::Operate(op, left.share()?, depth);
+    taken_by_frames(site, run, store, &frame, out)
+}
+
+/// What a frame does with the value at the place, by frames.
+#[cold]
+#[inline(never)]
+pub(crate) fn taken_by_frames(
+    site: &Site,
+    run: &mut Run,
+    store: &mut Store,
+    frame: &FormFrame,
+    out: &mut Value,
+) -> Result<Ended, Memory>
+    requires ready { IsReady (trees_of site.now.codes.now.items) site.now.widget store.old run.old }
+    requires held { FineForm (trees_of site.now.codes.now.items) site.now.widget store.old.cells frame.now
+        × IsFine site.now.widget store.old.cells out.old }
+    requires light { form_free frame.now < native_free }
+    ensures comes { let F = trees_of site.now.codes.now.items in let w = site.now.widget in
+        IfOk result (λ how. Comes F w store.old store.new (form_free frame.now)
+        (taken F w store.old.cells (Frame.Form frame.now) (meaning.Is (seen w store.old.cells out.old)))
+        run.old run.new how out.new) }
+    ensures kept { Kept (trees_of site.now.codes.now.items) site.now.widget store.old store.new }
+{
+    let value = take_value(out);
+    let mut flow = Flow::new(Vec::new(site.alloc));
+    take_form(
+        &mut flow,
+        site.alloc,
+        site.widget,
+        site.codes,
+        store,
+        frame,
+        Completion::Is(value),
+    )?;
+    handed(run, flow, out)
+}
+
+// Whether no operand is converted.
+fn is_ready(op: BinOp, left: &Value, right: &Value) -> bool
+    ensures { result ≡ true → IsOperand op left.now × IsOperand op right.now }
+{
+    match op {
+        BinOp::Same => true,
+        BinOp::NotSame => true,
+        _ => !is_object(left) && !is_object(right),
+    }
+}
+
+/// Whether a value is an object.
+pub(crate) fn is_object(value: &Value) -> bool
+    ensures object { (w : ℕ) (cells : List PlainCell) → result ≡ meaning.is_object (seen w cells value.now) }
+    ensures primitive { result ≡ false → IsPrimitive value.now }
+{
+    match value {
+        Value::Ref(_) => true,
+        _ => false,
+    }
+}
+
+// What an operator gives.
+fn result_on(
+    site: &Site,
+    run: &mut Run,
+    store: &mut Store,
+    found: OpOut,
+    out: &mut Value,
+) -> Result<Ended, Memory>
+    requires ready { IsReady (trees_of site.now.codes.now.items) site.now.widget store.old run.old }
+    requires plain { IsPlainOut found }
+    ensures comes { let F = trees_of site.now.codes.now.items in let w = site.now.widget in
+        IfOk result (λ how. Comes F w store.old store.new 1
+        (expressions.result (meant_out found))
+        run.old run.new how out.new) }
+    ensures kept { Kept (trees_of site.now.codes.now.items) site.now.widget store.old store.new }
+{
+    match found {
+        OpOut::Is(value) => made_on(site, run, store, value, out),
+        OpOut::Left => stop(run, StopCause::Number),
+        OpOut::LongText => stop(run, StopCause::LongText),
+    }
+}
+
+// What an operator made: a text costs its units.
+fn made_on(
+    site: &Site,
+    run: &mut Run,
+    store: &mut Store,
+    value: Value,
+    out: &mut Value,
+) -> Result<Ended, Memory>
+    requires ready { IsReady (trees_of site.now.codes.now.items) site.now.widget store.old run.old }
+    requires plain { IsPrimitive value }
+    ensures comes { let F = trees_of site.now.codes.now.items in let w = site.now.widget in
+        IfOk result (λ how. Comes F w store.old store.new 1
+        (expressions.result (operators.Gives (plain value)))
+        run.old run.new how out.new) }
+    ensures kept { Kept (trees_of site.now.codes.now.items) site.now.widget store.old store.new }
+{
+    match value {
+        Value::Text(t) => match pay_text(store, site.widget, &t) {
+            Paid::Done => {
+                *out = Value::Text(t);
+                Ok(Ended::Is)
+            }
+            Paid::Stop(cause) => stop(run, cause),
+        },
+        value => {
+            *out = value;
+            Ok(Ended::Is)
+        }
+    }
+}
+
+/// `&&`.
+pub(crate) fn and_on(
+    site: &Site,
+    run: &mut Run,
+    store: &mut Store,
+    parts: (ExprId, ExprId),
+    place: &Place,
+    deep: u32,
+    out: &mut Value,
+) -> Result<Ended, Memory>
+    requires ready { IsReady (trees_of site.now.codes.now.items) site.now.widget store.old run.old }
+    requires held { IsExprAt (trees_of site.now.codes.now.items) site.now.widget store.old.cells parts.0 place.now
+        × IsExprAt (trees_of site.now.codes.now.items) site.now.widget store.old.cells parts.1 place.now }
+    ensures comes { let F = trees_of site.now.codes.now.items in let w = site.now.widget in
+        IfOk result (λ how. Comes F w store.old store.new 30
+        (λ s. Do (job_of F w store.old.cells (Job.Eval parts.0 place.now)) s
+        (taken F w store.old.cells (Frame.Form (FormFrame.And parts.1 place.now))))
+        run.old run.new how out.new) }
+    ensures kept { Kept (trees_of site.now.codes.now.items) site.now.widget store.old store.new }
+{
+    match eval_on(site, run, store, parts.0, place, deep, out)? {
+        Ended::Is => and_right(site, run, store, parts.1, place, deep, out),
+        Ended::Left => wait(run, Frame::Form(FormFrame::And(parts.1, *place))),
+        how => Ok(how),
+    }
+}
+
+// The right of `&&`, where the left one, which is at the place, does not decide.
+fn and_right(
+    site: &Site,
+    run: &mut Run,
+    store: &mut Store,
+    e: ExprId,
+    place: &Place,
+    deep: u32,
+    out: &mut Value,
+) -> Result<Ended, Memory>
+    requires ready { IsReady (trees_of site.now.codes.now.items) site.now.widget store.old run.old }
+    requires held { IsExprAt (trees_of site.now.codes.now.items) site.now.widget store.old.cells e place.now
+        × IsFine site.now.widget store.old.cells out.old }
+    ensures comes { let F = trees_of site.now.codes.now.items in let w = site.now.widget in
+        IfOk result (λ how. Comes F w store.old store.new 1
+        (taken F w store.old.cells (Frame.Form (FormFrame.And e place.now)) (meaning.Is (seen w store.old.cells out.old)))
+        run.old run.new how out.new) }
+    ensures kept { Kept (trees_of site.now.codes.now.items) site.now.widget store.old store.new }
+{
+    if !is_true(out) {
+        return Ok(Ended::Is);
+    }
+    clear(out);
+    eval_on(site, run, store, e, place, deep, out)
+}
+
+/// `||`.
+pub(crate) fn or_on(
+    site: &Site,
+    run: &mut Run,
+    store: &mut Store,
+    parts: (ExprId, ExprId),
+    place: &Place,
+    deep: u32,
+    out: &mut Value,
+) -> Result<Ended, Memory>
+    requires ready { IsReady (trees_of site.now.codes.now.items) site.now.widget store.old run.old }
+    requires held { IsExprAt (trees_of site.now.codes.now.items) site.now.widget store.old.cells parts.0 place.now
+        × IsExprAt (trees_of site.now.codes.now.items) site.now.widget store.old.cells parts.1 place.now }
+    ensures comes { let F = trees_of site.now.codes.now.items in let w = site.now.widget in
+        IfOk result (λ how. Comes F w store.old store.new 30
+        (λ s. Do (job_of F w store.old.cells (Job.Eval parts.0 place.now)) s
+        (taken F w store.old.cells (Frame.Form (FormFrame.Or parts.1 place.now))))
+        run.old run.new how out.new) }
+    ensures kept { Kept (trees_of site.now.codes.now.items) site.now.widget store.old store.new }
+{
+    match eval_on(site, run, store, parts.0, place, deep, out)? {
+        Ended::Is => or_right(site, run, store, parts.1, place, deep, out),
+        Ended::Left => wait(run, Frame::Form(FormFrame::Or(parts.1, *place))),
+        how => Ok(how),
+    }
+}
+
+// The right of `||`, where the left one, which is at the place, does not decide.
+fn or_right(
+    site: &Site,
+    run: &mut Run,
+    store: &mut Store,
+    e: ExprId,
+    place: &Place,
+    deep: u32,
+    out: &mut Value,
+) -> Result<Ended, Memory>
+    requires ready { IsReady (trees_of site.now.codes.now.items) site.now.widget store.old run.old }
+    requires held { IsExprAt (trees_of site.now.codes.now.items) site.now.widget store.old.cells e place.now
+        × IsFine site.now.widget store.old.cells out.old }
+    ensures comes { let F = trees_of site.now.codes.now.items in let w = site.now.widget in
+        IfOk result (λ how. Comes F w store.old store.new 1
+        (taken F w store.old.cells (Frame.Form (FormFrame.Or e place.now)) (meaning.Is (seen w store.old.cells out.old)))
+        run.old run.new how out.new) }
+    ensures kept { Kept (trees_of site.now.codes.now.items) site.now.widget store.old store.new }
+{
+    if is_true(out) {
+        return Ok(Ended::Is);
+    }
+    clear(out);
+    eval_on(site, run, store, e, place, deep, out)
+}
+
+/// `? :`.
+pub(crate) fn choose_on(
+    site: &Site,
+    run: &mut Run,
+    store: &mut Store,
+    parts: (ExprId, ExprId, ExprId),
+    place: &Place,
+    deep: u32,
+    out: &mut Value,
+) -> Result<Ended, Memory>
+    requires ready { IsReady (trees_of site.now.codes.now.items) site.now.widget store.old run.old }
+    requires held { IsExprAt (trees_of site.now.codes.now.items) site.now.widget store.old.cells parts.0 place.now
+        × IsExprAt (trees_of site.now.codes.now.items) site.now.widget store.old.cells parts.1 place.now
+        × IsExprAt (trees_of site.now.codes.now.items) site.now.widget store.old.cells parts.2 place.now }
+    ensures comes { let F = trees_of site.now.codes.now.items in let w = site.now.widget in
+        IfOk result (λ how. Comes F w store.old store.new 30
+        (λ s. Do (job_of F w store.old.cells (Job.Eval parts.0 place.now)) s
+        (taken F w store.old.cells (Frame.Form (FormFrame.Choose parts.1 parts.2 place.now))))
+        run.old run.new how out.new) }
+    ensures kept { Kept (trees_of site.now.codes.now.items) site.now.widget store.old store.new }
+{
+    match eval_on(site, run, store, parts.0, place, deep, out)? {
+        Ended::Is => chosen_on(site, run, store, (parts.1, parts.2), place, deep, out),
+        Ended::Left => wait(
+            run,
+            Frame::Form(FormFrame::Choose(parts.1, parts.2, *place)),
+        ),
+        how => Ok(how),
+    }
+}
+
+// What the condition that is at the place chooses.
+fn chosen_on(
+    site: &Site,
+    run: &mut Run,
+    store: &mut Store,
+    parts: (ExprId, ExprId),
+    place: &Place,
+    deep: u32,
+    out: &mut Value,
+) -> Result<Ended, Memory>
+    requires ready { IsReady (trees_of site.now.codes.now.items) site.now.widget store.old run.old }
+    requires held { IsExprAt (trees_of site.now.codes.now.items) site.now.widget store.old.cells parts.0 place.now
+        × IsExprAt (trees_of site.now.codes.now.items) site.now.widget store.old.cells parts.1 place.now
+        × IsFine site.now.widget store.old.cells out.old }
+    ensures comes { let F = trees_of site.now.codes.now.items in let w = site.now.widget in
+        IfOk result (λ how. Comes F w store.old store.new 1
+        (taken F w store.old.cells (Frame.Form (FormFrame.Choose parts.0 parts.1 place.now)) (meaning.Is (seen w store.old.cells out.old)))
+        run.old run.new how out.new) }
+    ensures kept { Kept (trees_of site.now.codes.now.items) site.now.widget store.old store.new }
+{
+    if is_true(out) {
+        clear(out);
+        return eval_on(site, run, store, parts.0, place, deep, out);
+    }
+    clear(out);
+    eval_on(site, run, store, parts.1, place, deep, out)
+}
+
+/// A prefix operator that takes a value.
+pub(crate) fn unary_on(
+    site: &Site,
+    run: &mut Run,
+    store: &mut Store,
+    op: UnOp,
+    e: ExprId,
+    place: &Place,
+    deep: u32,
+    out: &mut Value,
+) -> Result<Ended, Memory>
+    requires ready { IsReady (trees_of site.now.codes.now.items) site.now.widget store.old run.old }
+    requires held { IsExprAt (trees_of site.now.codes.now.items) site.now.widget store.old.cells e place.now }
+    ensures comes { let F = trees_of site.now.codes.now.items in let w = site.now.widget in
+        IfOk result (λ how. Comes F w store.old store.new 30
+        (λ s. Do (job_of F w store.old.cells (Job.Eval e place.now)) s
+        (taken F w store.old.cells (Frame.Form (FormFrame.Prefix op place.now))))
+        run.old run.new how out.new) }
+    ensures kept { Kept (trees_of site.now.codes.now.items) site.now.widget store.old store.new }
+{
+    match eval_on(site, run, store, e, place, deep, out)? {
+        Ended::Is => prefix_on(site, run, store, op, place, out),
+        Ended::Left => wait(run, Frame::Form(FormFrame::Prefix(op, *place))),
+        how => Ok(how),
+    }
+}
+
+// A prefix operator on the value at the place.
+fn prefix_on(
+    site: &Site,
+    run: &mut Run,
+    store: &mut Store,
+    op: UnOp,
+    place: &Place,
+    out: &mut Value,
+) -> Result<Ended, Memory>
+    requires ready { IsReady (trees_of site.now.codes.now.items) site.now.widget store.old run.old }
+    requires held { IsPlace (trees_of site.now.codes.now.items) site.now.widget store.old.cells place.now
+        × IsFine site.now.widget store.old.cells out.old }
+    ensures comes { let F = trees_of site.now.codes.now.items in let w = site.now.widget in
+        IfOk result (λ how. Comes F w store.old store.new 4
+        (taken F w store.old.cells (Frame.Form (FormFrame.Prefix op place.now)) (meaning.Is (seen w store.old.cells out.old)))
+        run.old run.new how out.new) }
+    ensures kept { Kept (trees_of site.now.codes.now.items) site.now.widget store.old store.new }
+{
+    if is_prefix_ready(op, out) {
+        let found = unary(op, out)?;
+        return result_on(site, run, store, found, out);
+    }
+    taken_by_frames(site, run, store, &FormFrame::Prefix(op, *place), out)
+}
+
+// Whether `!`, `+` or `-` is on an operand that is not converted.
+fn is_prefix_ready(op: UnOp, value: &Value) -> bool
+    ensures { result ≡ true → (is_plain_prefix op ≡ true) × IsPrefixed op value.now }
+{
+    match op {
+        UnOp::Not => true,
+        UnOp::Plus => !is_object(value),
+        UnOp::Minus => !is_object(value),
+        _ => false,
+    }
+}

@@ -1,0 +1,189 @@
+//! Properties: a base, its subscript, and the read.
+ghost use Rattle.std.specs.Prelude.{◌≡◌, ℕ, ◌<◌, List, IfOk};
+ghost use Rattle.store_cells.specs.Cells.{PlainCell};
+ghost use Rattle.widget_meaning.specs.Properties as properties;
+ghost use Rattle.widget_meaning.specs.Values as meaning;
+ghost use Rattle.widget_meaning.specs.Plan.{Do};
+ghost use Rattle.js_image.specs.Image.{seen};
+ghost use Rattle.js_image.specs.Held.{IsFine, Kept};
+ghost use Rattle.js_names.specs.Code.{trees_of};
+ghost use Rattle.js_flow.specs.Fine.{IsExprAt};
+ghost use Rattle.js_flow.specs.Frames.{taken};
+ghost use Rattle.js_flow.specs.Views.{job_of};
+ghost use Rattle.js_direct.specs.Comes.{Comes, IsReady};
+
+use crate::forms::eval_on;
+use crate::run::{Ended, Run, Site, take_value, throw, wait};
+use code_units::{Memory, Text};
+use js_flow::{FormFrame, Frame, Job, Place};
+use js_image::{Fault, get};
+use js_tree::ExprId;
+use js_values::to_text;
+use object_store::{Store, Value};
+use std::alloc::Global;
+
+/// A property by its name.
+pub(crate) fn dot_on(
+    site: &Site,
+    run: &mut Run,
+    store: &mut Store,
+    e: ExprId,
+    name: &Text,
+    place: &Place,
+    deep: u32,
+    out: &mut Value,
+) -> Result<Ended, Memory>
+    requires ready { IsReady (trees_of site.now.codes.now.items) site.now.widget store.old run.old }
+    requires held { IsExprAt (trees_of site.now.codes.now.items) site.now.widget store.old.cells e place.now }
+    ensures comes { let F = trees_of site.now.codes.now.items in let w = site.now.widget in
+        IfOk result (λ how. Comes F w store.old store.new 30
+        (λ s. Do (job_of F w store.old.cells (Job.Eval e place.now)) s
+        (taken F w store.old.cells (Frame.Form (FormFrame.Dot name.now))))
+        run.old run.new how out.new) }
+    ensures kept { Kept (trees_of site.now.codes.now.items) site.now.widget store.old store.new }
+{
+    match eval_on(site, run, store, e, place, deep, out)? {
+        Ended::Is => read_on(site, run, store, name, out),
+        Ended::Left => wait(run, Frame::Form(FormFrame::Dot(name.share()?))),
+        how => Ok(how),
+    }
+}
+
+// A property of the value at the place.
+fn read_on(
+    site: &Site,
+    run: &mut Run,
+    store: &mut Store,
+    name: &Text,
+    out: &mut Value,
+) -> Result<Ended, Memory>
+    requires ready { IsReady (trees_of site.now.codes.now.items) site.now.widget store.old run.old }
+    requires held { IsFine site.now.widget store.old.cells out.old }
+    ensures comes { let F = trees_of site.now.codes.now.items in let w = site.now.widget in
+        IfOk result (λ how. Comes F w store.old store.new 1
+        (properties.read (seen w store.old.cells out.old) name.now)
+        run.old run.new how out.new) }
+    ensures kept { Kept (trees_of site.now.codes.now.items) site.now.widget store.old store.new }
+{
+    let base = take_value(out);
+    property_on(site, run, store, &base, name, out)
+}
+
+// A property of a value; undefined and null have none.
+fn property_on(
+    site: &Site,
+    run: &mut Run,
+    store: &mut Store,
+    base: &Value,
+    name: &Text,
+    out: &mut Value,
+) -> Result<Ended, Memory>
+    requires ready { IsReady (trees_of site.now.codes.now.items) site.now.widget store.old run.old }
+    requires held { IsFine site.now.widget store.old.cells base.now }
+    ensures comes { let F = trees_of site.now.codes.now.items in let w = site.now.widget in
+        IfOk result (λ how. Comes F w store.old store.new 1
+        (properties.read (seen w store.old.cells base.now) name.now)
+        run.old run.new how out.new) }
+    ensures kept { Kept (trees_of site.now.codes.now.items) site.now.widget store.old store.new }
+{
+    match base {
+        Value::Undefined => throw(site, run, store, Fault::E1, out),
+        Value::Null => throw(site, run, store, Fault::E1, out),
+        _ => {
+            *out = get(store, base, name)?;
+            Ok(Ended::Is)
+        }
+    }
+}
+
+/// A property by a subscript.
+pub(crate) fn sub_on(
+    site: &Site,
+    run: &mut Run,
+    store: &mut Store,
+    parts: (ExprId, ExprId),
+    place: &Place,
+    deep: u32,
+    out: &mut Value,
+) -> Result<Ended, Memory>
+    requires ready { IsReady (trees_of site.now.codes.now.items) site.now.widget store.old run.old }
+    requires held { IsExprAt (trees_of site.now.codes.now.items) site.now.widget store.old.cells parts.0 place.now
+        × IsExprAt (trees_of site.now.codes.now.items) site.now.widget store.old.cells parts.1 place.now }
+    ensures comes { let F = trees_of site.now.codes.now.items in let w = site.now.widget in
+        IfOk result (λ how. Comes F w store.old store.new 30
+        (λ s. Do (job_of F w store.old.cells (Job.Eval parts.0 place.now)) s
+        (taken F w store.old.cells (Frame.Form (FormFrame.SubBase parts.1 place.now))))
+        run.old run.new how out.new) }
+    ensures kept { Kept (trees_of site.now.codes.now.items) site.now.widget store.old store.new }
+{
+    match eval_on(site, run, store, parts.0, place, deep, out)? {
+        Ended::Is => subscript_on(site, run, store, parts.1, place, deep, out),
+        Ended::Left => wait(run, Frame::Form(FormFrame::SubBase(parts.1, *place))),
+        how => Ok(how),
+    }
+}
+
+// The subscript of the base that is at the place.
+fn subscript_on(
+    site: &Site,
+    run: &mut Run,
+    store: &mut Store,
+    index: ExprId,
+    place: &Place,
+    deep: u32,
+    out: &mut Value,
+) -> Result<Ended, Memory>
+    requires ready { IsReady (trees_of site.now.codes.now.items) site.now.widget store.old run.old }
+    requires held { IsExprAt (trees_of site.now.codes.now.items) site.now.widget store.old.cells index place.now
+        × IsFine site.now.widget store.old.cells out.old }
+    ensures comes { let F = trees_of site.now.codes.now.items in let w = site.now.widget in
+        IfOk result (λ how. Comes F w store.old store.new 1
+        (taken F w store.old.cells (Frame.Form (FormFrame.SubBase index place.now)) (meaning.Is (seen w store.old.cells out.old)))
+        run.old run.new how out.new) }
+    ensures kept { Kept (trees_of site.now.codes.now.items) site.now.widget store.old store.new }
+{
+    let base = take_value(out);
+    match eval_on(site, run, store, index, place, deep, out)? {
+        Ended::Is => named_on(site, run, store, &base, out),
+        Ended::Left => wait(run, Frame::Form(FormFrame::Sub(base))),
+        how => Ok(how),
+    }
+}
+
+// A property of a base, by the subscript at the place.
+fn named_on(
+    site: &Site,
+    run: &mut Run,
+    store: &mut Store,
+    base: &Value,
+    out: &mut Value,
+) -> Result<Ended, Memory>
+    requires ready { IsReady (trees_of site.now.codes.now.items) site.now.widget store.old run.old }
+    requires held { IsFine site.now.widget store.old.cells base.now
+        × IsFine site.now.widget store.old.cells out.old }
+    ensures comes { let F = trees_of site.now.codes.now.items in let w = site.now.widget in
+        IfOk result (λ how. Comes F w store.old store.new 1
+        (taken F w store.old.cells (Frame.Form (FormFrame.Sub base.now)) (meaning.Is (seen w store.old.cells out.old)))
+        run.old run.new how out.new) }
+    ensures kept { Kept (trees_of site.now.codes.now.items) site.now.widget store.old store.new }
+{
+    let name = name_of(site.alloc, out)?;
+    property_on(site, run, store, base, &name, out)
+}
+
+/// The name of a property by its subscript; an object has no text.
+pub(crate) fn name_of(alloc: Global, value: &Value) -> Result<Text, Memory>
+    ensures { IfOk result (λ t. (w : ℕ) (cells : List PlainCell) → t ≡ meaning.to_text (seen w cells value.now)) }
+{
+    match value {
+        Value::Ref(_) => Text::from_units(alloc, Vec::new(alloc)),
+        _ => to_text(alloc, value),
+    }
+}
+
+/// Whether a value has no properties.
+pub(crate) fn is_nothing(value: &Value) -> bool
+    ensures { (w : ℕ) (cells : List PlainCell) → result ≡ meaning.is_nothing (seen w cells value.now) }
+{
+    matches!(value, Value::Undefined | Value::Null)
+}
