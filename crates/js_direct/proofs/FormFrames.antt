@@ -42,7 +42,7 @@ other_target ended.Break of v h = refl
 other_target ended.Continue of v h = refl
 other_target ended.Threw of v h = refl
 
-other_end : (how : Ended) → (how ≡ ended.Left → ⊥) → IsEnd how
+pub other_end : (how : Ended) → (how ≡ ended.Left → ⊥) → IsEnd how
 other_end ended.Left h = h refl
 other_end ended.Is h = tt
 other_end ended.Normal h = tt
@@ -51,7 +51,7 @@ other_end ended.Break h = tt
 other_end ended.Continue h = tt
 other_end ended.Threw h = tt
 
-other_abrupt : (w : ℕ) (cells : List PlainCell) (how : Ended) (v : Value) → (how ≡ ended.Is → ⊥) → IsAbrupt (completion_of w cells (ended_as how v))
+pub other_abrupt : (w : ℕ) (cells : List PlainCell) (how : Ended) (v : Value) → (how ≡ ended.Is → ⊥) → IsAbrupt (completion_of w cells (ended_as how v))
 other_abrupt w cells ended.Is v h = h refl
 other_abrupt w cells ended.Left v h = tt
 other_abrupt w cells ended.Normal v h = tt
@@ -145,6 +145,10 @@ module _ (fs : List Forest) (w : ℕ) where
   pub gives_at : (s : Cells) (n : ℕ) (p : State → Plan) (had : Run) (of at : Reference) (v : Value) → at ≡ of → had.waits.items ≡ []
       → ((r : Rest) → p (image fs r w s) ≡ Ret (meaning.Refers (reference_of w s.cells of)) (image fs r w s)) → FineReference w s.cells of → 1 ≤ n → Reaches fs w s s n p had had ended.Is at v
   gives_at s n p had of at v same none plan fine le = subst (λ (x : Reference). Reaches fs w s s n p had had ended.Is x v) (sym same) (gives fs w s s n p had had ended.Is (completion.Refers of) tt refl none plan fine le)
+
+  pub reaches_at : (s : Cells) (n : ℕ) (p : State → Plan) (had : Run) (how : Ended) (of at : Reference) (v : Value) → how ≡ ended.Is → at ≡ of → had.waits.items ≡ []
+      → ((r : Rest) → p (image fs r w s) ≡ Ret (meaning.Refers (reference_of w s.cells of)) (image fs r w s)) → FineReference w s.cells of → 1 ≤ n → Reaches fs w s s n p had had how at v
+  reaches_at s n p had how of at v is same none plan fine le = subst (λ (h : Ended). Reaches fs w s s n p had had h at v) (sym is) (gives_at s n p had of at v same none plan fine le)
 
   -- a change of the store first
   pub after_store : (s t u : Cells) (n : ℕ) (p q : State → Plan) (had has : Run) (how : Ended) (o : Completion)

@@ -84,7 +84,7 @@ pub(crate) fn clear(out: &mut Value)
 
 /// What is next, whatever was: it owned nothing, or was taken out.
 #[inline(always)]
-fn set_next(run: &mut Run, next: Next)
+pub(crate) fn set_next(run: &mut Run, next: Next)
     ensures next { run.new.next ≡ next }
     ensures waits { run.new.waits ≡ run.old.waits }
     ensures units { run.new.units ≡ run.old.units }

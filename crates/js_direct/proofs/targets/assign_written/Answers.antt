@@ -1,0 +1,74 @@
+use Rattle.std.proofs.Common.{◌≡◌, [], ◌∷◌, ◌++◌, subst, arith}
+use Rattle.std.proofs.lemmas.Result.{IfOk-weaker}
+use Rattle.js_names.specs.Code.{trees_of}
+use Rattle.std.specs.Prelude.{IfOk}
+use Rattle.widget_meaning.specs.Plan.{Do, Ret}
+use Rattle.js_image.proofs.Units.{kept_then}
+use Rattle.js_flow.specs.declared.frame.Frame.TheVariants as frame
+use Rattle.js_flow.specs.declared.frame.FormFrame.TheVariants as form
+use Rattle.js_flow.specs.declared.job.Job.TheVariants as job
+use Rattle.js_flow.specs.declared.job.Reference.{Reference}
+use Rattle.js_flow.specs.Views.{job_of}
+use Rattle.js_flow.proofs.Stays.{place_fine, reference_fine}
+use Rattle.js_direct.specs.Comes.{ended_as}
+use Rattle.js_direct.proofs.FormFrames.{frame_waits, value_fine, value_passes, value_ready, value_then}
+use Rattle.js_direct.proofs.targets.assign_written.Goals as goal
+
+pub write_value-requires-clause-ready : goal.write_value-requires-clause-ready
+write_value-requires-clause-ready c =
+    let fs = trees_of c.args.site.now.codes.now.items in
+    let w = c.args.site.now.widget in
+    let s = c.args.store.now in
+    value_ready fs w s c.eval_on.new.store 0 (λ t. Do (job_of fs w s.cells (job.Eval c.args.e c.args.place.now)) t Ret) c.args.run.now c.eval_on.new.run c.in_ok-other.other _ c.in_ok-other.ensures.comes c.in-Is.is c.eval_on.ensures.kept c.requires.ready
+
+pub write_value-requires-clause-to : goal.write_value-requires-clause-to
+write_value-requires-clause-to c =
+    let fs = trees_of c.args.site.now.codes.now.items in
+    let w = c.args.site.now.widget in
+    let s = c.args.store.now in (
+      reference_fine w s.cells c.eval_on.new.store.cells c.eval_on.ensures.kept.grows c.args.of.now c.requires.held.1,
+      place_fine fs w s.cells c.eval_on.new.store.cells c.eval_on.ensures.kept.grows c.args.place.now c.requires.held.0.0,
+    )
+
+pub write_value-requires-clause-value : goal.write_value-requires-clause-value
+write_value-requires-clause-value c =
+    let fs = trees_of c.args.site.now.codes.now.items in
+    let w = c.args.site.now.widget in
+    let s = c.args.store.now in
+    value_fine fs w s c.eval_on.new.store 0 (λ t. Do (job_of fs w s.cells (job.Eval c.args.e c.args.place.now)) t Ret) c.args.run.now c.eval_on.new.run c.in_ok-other.other c.eval_on.new.out c.in_ok-other.ensures.comes c.in-Is.is
+
+pub returns-in-Is-clause-comes : goal.returns-in-Is-clause-comes
+returns-in-Is-clause-comes c =
+    let fs = trees_of c.args.site.now.codes.now.items in
+    let w = c.args.site.now.widget in
+    let s = c.args.store.now in
+    IfOk-weaker c.write_value.result _ _
+    (λ how h. value_then fs w s c.eval_on.new.store c.write_value.new.store 0 1 1 (λ t. Do (job_of fs w s.cells (job.Eval c.args.e c.args.place.now)) t Ret) (form.Write c.args.of.now c.args.place.now) c.args.run.now c.eval_on.new.run c.write_value.new.run c.in_ok-other.other how c.eval_on.new.out (ended_as how c.write_value.new.out)
+    c.in_ok-other.ensures.comes c.in-Is.is c.eval_on.ensures.kept (c.requires.held.1, c.requires.held.0.0) h (omega arith))
+    c.write_value.ensures.comes
+
+pub returns-in-Is-clause-kept : goal.returns-in-Is-clause-kept
+returns-in-Is-clause-kept c =
+    let fs = trees_of c.args.site.now.codes.now.items in
+    let w = c.args.site.now.widget in
+    let s = c.args.store.now in
+    kept_then fs w s c.eval_on.new.store c.write_value.new.store c.eval_on.ensures.kept c.write_value.ensures.kept
+
+pub returns-in-Left-clause-comes : goal.returns-in-Left-clause-comes
+returns-in-Left-clause-comes c =
+    let fs = trees_of c.args.site.now.codes.now.items in
+    let w = c.args.site.now.widget in
+    let s = c.args.store.now in
+    frame_waits fs w c.wait.result s c.eval_on.new.store 0 1 (λ t. Do (job_of fs w s.cells (job.Eval c.args.e c.args.place.now)) t Ret) (frame.Form (form.Write c.args.of.now c.args.place.now)) c.args.run.now c.eval_on.new.run c.wait.new.run c.in_ok-other.other (ended_as c.in_ok-other.other c.eval_on.new.out) (λ h. ended_as h c.eval_on.new.out)
+    c.in_ok-other.ensures.comes c.in-Left.is c.eval_on.ensures.kept (c.requires.held.1, c.requires.held.0.0) (omega arith) c.wait.ensures.left
+    (subst (λ (x : Reference). IfOk c.wait.result (λ h. c.wait.new.run.waits.items ≡ c.eval_on.new.run.waits.items ++ frame.Form (form.Write x c.args.place.now) ∷ [])) c.take_reference.ensures c.wait.ensures.waits) c.wait.ensures.next c.wait.ensures.units
+
+pub returns-in_default : goal.returns-in_default
+returns-in_default c =
+    let fs = trees_of c.args.site.now.codes.now.items in
+    let w = c.args.site.now.widget in
+    let s = c.args.store.now in
+    record {
+      comes = value_passes fs w s c.eval_on.new.store 0 1 (λ t. Do (job_of fs w s.cells (job.Eval c.args.e c.args.place.now)) t Ret) (form.Write c.args.of.now c.args.place.now) c.args.run.now c.eval_on.new.run c.in_ok-other.other c.eval_on.new.out c.in_ok-other.ensures.comes c.in_default.not-Is c.in_default.not-Left c.eval_on.ensures.kept (c.requires.held.1, c.requires.held.0.0) (omega arith);
+      kept = c.eval_on.ensures.kept;
+    }
