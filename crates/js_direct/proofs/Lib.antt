@@ -1,4 +1,5 @@
 pub mod FormFrames
+pub mod Lists
 pub mod Parts
 pub mod Reaching
 pub mod Reducing

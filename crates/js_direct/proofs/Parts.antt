@@ -1,5 +1,5 @@
 -- A part is carried out, and then what waits for it.
-use Rattle.std.proofs.Common.{◌≡◌, ℕ, suc, ◌+◌, ◌*◌, ◌-◌, ◌<◌, ◌≤◌, List, [], ◌∷◌, ◌++◌, refl, sym, ap, ◌∙◌, subst, arith, append-nil, true}
+use Rattle.std.proofs.Common.{◌≡◌, ℕ, suc, ◌+◌, ◌-◌, ◌<◌, ◌≤◌, List, [], ◌∷◌, ◌++◌, refl, sym, ap, ◌∙◌, subst, arith, append-nil, true}
 use Rattle.std.specs.Prelude.{IfOk, Result, Ok, Err}
 use Rattle.js_tree.specs.Forest.{Forest}
 use Rattle.store_cells.specs.Cells.{Cells, PlainCell}
@@ -19,14 +19,13 @@ use Rattle.js_flow.specs.Left.{Leaves, Left, all_frames}
 use Rattle.js_flow.specs.Fine.{FineCompletion, FineFlow, FineFrame, FineFrames, FineLast, FineNext, FineOver}
 use Rattle.js_flow.specs.Free.{flow_free, frame_free, frames_free, native_free, next_free}
 use Rattle.js_flow.specs.Views.{completion_of}
-use Rattle.js_flow.proofs.Stays.{completion_fine, completion_same, frame_fine, frame_same}
+use Rattle.js_flow.proofs.Stays.{frame_fine, frame_same}
 use Rattle.js_direct.specs.declared.run.Ended.{Ended}
 use Rattle.js_direct.specs.declared.run.Ended.TheVariants as ended
 use Rattle.js_direct.specs.declared.run.Run.{Run}
-use Rattle.js_direct.specs.Reduces.{Reduces}
 use Rattle.js_direct.specs.Comes.{ComesTo, FineCame, FineWith, IsEnd, IsNative, came, came_free, outward}
 use Rattle.js_direct.specs.Going.{is_direct}
-use Rattle.js_direct.proofs.Reducing.{after_each, begins, counts, ends, paid, starts, under}
+use Rattle.js_direct.proofs.Reducing.{after_each, counts, ends, paid, starts, under}
 
 module _ (fs : List Forest) (w : ℕ) (cells : List PlainCell) where
   pub came_end : (how : Ended) (o : Completion) (r : Run) (s : State) → IsEnd how → came fs w cells how o r s ≡ Ret (completion_of w cells o) s

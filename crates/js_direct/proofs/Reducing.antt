@@ -1,5 +1,5 @@
 -- Plans that go on by paying for their jobs.
-use Rattle.std.proofs.Common.{◌≡◌, ℕ, zero, suc, ◌+◌, ◌-◌, ◌<◌, ◌≤◌, refl, sym, ap, ◌∙◌, subst, arith}
+use Rattle.std.proofs.Common.{◌≡◌, ℕ, zero, suc, ◌+◌, ◌-◌, ◌≤◌, refl, sym, ap, ◌∙◌, subst, arith}
 use Rattle.widget_meaning.specs.Values as meaning
 use Rattle.widget_meaning.specs.OwnState.{State}
 use Rattle.widget_meaning.specs.Plan.{Plan, Job, Do, and_then}
@@ -9,7 +9,7 @@ use Rattle.end_laws.specs.Ends.{Ends, Way, Yields, way_of}
 use Rattle.end_laws.proofs.Jobs.{body_ends}
 use Rattle.end_laws.proofs.Steps.{joined}
 use Rattle.js_flow.specs.Todo.{Strides}
-use Rattle.js_direct.specs.Reduces.{Begins, Reduces}
+use Rattle.js_direct.specs.Reduces.{Reduces}
 
 pub starts : (c : ℕ) (p q r : Plan) → p ≡ q → Reduces c q r → Reduces c p r
 starts c p q r e h = subst (λ (x : Plan). Reduces c x r) (sym e) h

@@ -1,6 +1,5 @@
 -- Values of the store, as the meaning has them.
-use Rattle.std.proofs.Common.{◌≡◌, ℕ, Bool, true, false, List, length, refl, ap, ◌∙◌, if◌then◌else◌}
-use Rattle.std.specs.Prelude.{codes}
+use Rattle.std.proofs.Common.{◌≡◌, ℕ, Bool, true, false, List, refl, ap, ◌∙◌, if◌then◌else◌}
 use Rattle.js_tree.specs.declared.nodes.BinOp.{BinOp}
 use Rattle.js_tree.specs.declared.nodes.BinOp.TheVariants as bin
 use Rattle.js_tree.specs.declared.nodes.UnOp.{UnOp}
@@ -11,12 +10,12 @@ use Rattle.store_cells.specs.declared.value.Number.TheVariants as number
 use Rattle.store_cells.specs.Cells.{PlainCell}
 use Rattle.widget_meaning.specs.OwnState.{State}
 use Rattle.widget_meaning.specs.Operators as operators
-use Rattle.widget_meaning.specs.Plan.{Place, Ret, after, and_then}
+use Rattle.widget_meaning.specs.Plan.{Place, after, and_then}
 use Rattle.widget_meaning.specs.Expressions.{converted_left, is_converting, operate, result, unary_on}
 use Rattle.widget_meaning.specs.Calls.{to_primitive}
 use Rattle.widget_meaning.specs.Values as meaning
 use Rattle.js_image.specs.Image.{seen}
-use Rattle.js_values.specs.Operands.{IsOperand, IsPrefixed, IsPrimitive, plain}
+use Rattle.js_values.specs.Operands.{IsOperand, IsPrefixed, IsPrimitive}
 use Rattle.js_forms.proofs.Values.{stays_primitive}
 use Rattle.js_direct.specs.Prefixes.{is_plain_prefix}
 

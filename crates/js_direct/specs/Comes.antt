@@ -11,7 +11,6 @@ use Rattle.js_image.specs.Held.{IsConfined}
 use Rattle.js_flow.specs.declared.frame.Frame.{Frame}
 use Rattle.js_flow.specs.declared.job.Completion.{Completion}
 use Rattle.js_flow.specs.declared.job.Completion.TheVariants as completion
-use Rattle.js_flow.specs.declared.job.Job.TheVariants as job
 use Rattle.js_flow.specs.declared.job.Next.{Next}
 use Rattle.js_flow.specs.declared.job.Next.TheVariants as next
 use Rattle.js_flow.specs.declared.job.Reference.{Reference}

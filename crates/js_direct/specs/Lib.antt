@@ -2,3 +2,4 @@ pub mod Comes
 pub mod Going
 pub mod Reduces
 pub mod Prefixes
+pub mod Goes

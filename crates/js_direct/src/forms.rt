@@ -14,9 +14,11 @@ ghost use Rattle.js_flow.specs.Parts.{forest_at};
 ghost use Rattle.js_flow.specs.Views.{job_of, place_of};
 ghost use Rattle.js_direct.specs.Comes.{Comes, IsReady};
 
+use crate::arrays::array_on;
 use crate::calls::call_on;
 use crate::leaves::{name_on, number_on, text_on, word_on};
 use crate::literals::function_on;
+use crate::objects::object_on;
 use crate::operators::{and_on, binary_on, choose_on, or_on, unary_on};
 use crate::properties::{dot_on, sub_on};
 use crate::run::{Ended, Run, Site, handed};
@@ -108,6 +110,8 @@ fn form_more(
         Expr::Cond(a, b, c) => choose_on(site, run, store, (*a, *b, *c), place, deep, out),
         Expr::Unary(op, e) => unary_form(site, run, store, id, (*op, *e), place, deep, out),
         Expr::Function(fun) => function_on(site, run, store, *fun, place, out),
+        Expr::Array(_) => array_on(site, run, store, id, place, deep, out),
+        Expr::Object(_) => object_on(site, run, store, id, place, deep, out),
         _ => by_frames(site, run, store, id, place, out),
     }
 }

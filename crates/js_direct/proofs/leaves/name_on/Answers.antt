@@ -1,4 +1,4 @@
-use Rattle.std.proofs.Common.{sym, ap, refl, arith}
+use Rattle.std.proofs.Common.{sym, ap, arith}
 use Rattle.js_tree.specs.Plain as node
 use Rattle.widget_meaning.specs.Expressions.{expression}
 use Rattle.widget_meaning.specs.Plan.{Ret}

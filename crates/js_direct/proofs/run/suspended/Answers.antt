@@ -1,8 +1,8 @@
-use Rattle.std.proofs.Common.{◌≡◌, ◌∷◌, [], ◌++◌, List, refl, sym, ap, ◌∙◌, subst, arith}
+use Rattle.std.proofs.Common.{List, sym, ap, ◌∙◌, subst, arith}
 use Rattle.widget_meaning.specs.Plan.{and_then}
 use Rattle.js_flow.specs.declared.frame.Frame.{Frame}
-use Rattle.js_flow.specs.Fine.{FineFrame, FineFrames}
-use Rattle.js_flow.specs.Frames.{before, next_plan, taken}
+use Rattle.js_flow.specs.Fine.{FineFrames}
+use Rattle.js_flow.specs.Frames.{before, next_plan}
 use Rattle.js_flow.specs.Free.{frames_free}
 use Rattle.js_flow.proofs.Stays.{fine_pop}
 use Rattle.js_direct.specs.Comes.{outward}
