@@ -53,6 +53,7 @@ pub(crate) fn eval_on(
 }
 
 /// An expression, after its unit.
+#[inline(always)]
 pub(crate) fn form_on(
     site: &Site,
     run: &mut Run,

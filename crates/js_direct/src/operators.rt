@@ -27,6 +27,7 @@ use js_values::{OpOut, binary, is_true, unary};
 use object_store::{Store, Value};
 
 /// An operator on two expressions.
+#[inline(never)]
 pub(crate) fn binary_on(
     site: &Site,
     run: &mut Run,

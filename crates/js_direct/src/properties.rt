@@ -23,6 +23,7 @@ use object_store::{Store, Value};
 use std::alloc::Global;
 
 /// A property by its name.
+#[inline(never)]
 pub(crate) fn dot_on(
     site: &Site,
     run: &mut Run,
