@@ -1,5 +1,6 @@
 pub mod Comes
-pub mod Going
-pub mod Reduces
-pub mod Prefixes
 pub mod Goes
+pub mod Going
+pub mod Prefixes
+pub mod Reduces
+pub mod Towards
