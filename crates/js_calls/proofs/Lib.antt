@@ -1,10 +1,10 @@
 mod Paid
 mod Named
-mod Invoked
+pub mod Invoked
 mod Entering
 mod Pairs
 mod Declared
 mod Repeated
 mod Converted
-mod Argued
+pub mod Argued
 mod Scoped

@@ -12,7 +12,7 @@ use Rattle.widget_meaning.specs.OwnState.{Scope, State, lookup, scope_at}
 use Rattle.widget_meaning.specs.Plan.{Plan, Halt}
 use Rattle.widget_meaning.specs.Costs.{give, throw}
 use Rattle.widget_meaning.specs.Scopes.{without_name}
-use Rattle.widget_meaning.specs.Calls.{invoke}
+use Rattle.widget_meaning.specs.Calls.{call_body, invoke}
 use Rattle.widget_meaning.specs.Expressions.{arguments_then}
 use Rattle.widget_meaning.specs.ListNatives.{call_each}
 use Rattle.widget_meaning.specs.BunchWrites.{each_called}
@@ -34,8 +34,12 @@ use Rattle.js_flow.specs.declared.frame.Gathering.{Gathering}
 use Rattle.js_flow.specs.declared.frame.Keep.{Keep as KeptBy}
 use Rattle.js_flow.specs.declared.frame.Keep.TheVariants as by
 use Rattle.js_flow.specs.Calls.{gathered}
-use Rattle.js_flow.specs.Parts.{arguments_of, forest_at}
+use Rattle.js_flow.specs.declared.job.Block.TheVariants as block
+use Rattle.js_flow.specs.Fine.{IsBlockAt}
+use Rattle.js_flow.specs.Parts.{arguments_of, body_of, forest_at}
 use Rattle.js_flow.specs.Views.{place_of, reference_of}
+use Rattle.js_calls.specs.declared.declaring.Entry.{Entry}
+use Rattle.js_calls.specs.declared.declaring.Entry.TheVariants as entry
 
 -- a function of a tree; the name of a declared one is no variable of its own calls
 abbrev pub declared_at : Forest → FunId → Bool → Fun
@@ -106,3 +110,16 @@ AreNamed w s i xs = AllByRecursion (IsNamed w s i) xs
 abbrev pub IfDone : Paid → Type 0 → Type 0
 IfDone paid.Done P = P
 IfDone (paid.Stop c) P = Unit {0}
+
+-- ## A function that was entered
+
+module _ (fs : List Forest) (w : ℕ) (cells : List PlainCell) (id : FunId) where
+  -- its body, or the stop
+  abbrev pub entry_plan : Entry → State → Plan
+  entry_plan (entry.Body p) s = call_body (body_of (fun_at (forest_at fs p.code) id)) (place_of w cells p) s
+  entry_plan (entry.Stop c) s = Halt (meant_cause c) s
+
+  -- it runs at a place of the widget
+  abbrev pub FineEntry : Entry → Type 0
+  FineEntry (entry.Body p) = IsBlockAt fs w cells (block.Body id) p
+  FineEntry (entry.Stop c) = Unit {0}

@@ -1,5 +1,5 @@
 //! The declared functions of a function are made in the scope of its call.
-ghost use Rattle.std.specs.Prelude.{◌≡◌, ℕ, ◌<◌, ◌≤◌, List, All, IfOk, Some, length, map, option_to_list, slice_get, OnOk};
+ghost use Rattle.std.specs.Prelude.{◌≡◌, ℕ, ◌<◌, List, All, IfOk, Some, length, map, option_to_list, slice_get};
 ghost use Rattle.std.specs.List.{flat_map};
 ghost use Rattle.js_tree.specs.Forest.{Forest, IsFun, fun_at};
 ghost use Rattle.js_tree.specs.Lists.{fun_list};
@@ -14,16 +14,12 @@ ghost use Rattle.js_image.specs.Held.{IsConfined, IsFine, IsOwnScope, Kept};
 ghost use Rattle.js_image.specs.Plans.{paid_plan};
 ghost use Rattle.js_names.specs.Code.{trees_of};
 ghost use Rattle.js_names.specs.Hoisting.{fun_texts};
-ghost use Rattle.js_flow.specs.Fine.{FineLeft};
-ghost use Rattle.js_flow.specs.Frames.{Plans};
-ghost use Rattle.js_flow.specs.Free.{left_free};
 ghost use Rattle.js_flow.specs.Parts.{body_of, forest_at, funs_of};
-ghost use Rattle.js_calls.specs.Called.{AreNamed, IfDone, IsNamed};
-ghost use Rattle.js_flow.specs.Left.{all_frames};
+ghost use Rattle.js_calls.specs.Called.{AreNamed, FineEntry, IfDone, IsNamed, entry_plan};
 
 use code_units::{Memory, Text};
-use js_flow::{Block, CallFrame, Flow, Frame, Place};
-use js_image::{Made, Paid, assign, make};
+use js_flow::Place;
+use js_image::{Made, Paid, StopCause, assign, make};
 use js_names::{Code, tree_at};
 use js_tree::{FunId, lists_agree};
 use object_store::{CellId, NewCell, Store, Value};
@@ -38,6 +34,14 @@ pub struct Entered {
     pub depth: u32,
 }
 
+/// What comes when a function was entered.
+#[derive(Clone, Copy, Drop)]
+pub enum Entry {
+    /// Its body, which runs here.
+    Body(Place),
+    Stop(StopCause),
+}
+
 // Where its body runs.
 fn place_in(e: Entered) -> Place
     ensures { result ≡ record { code = e.code; scope = Some e.scope; depth = e.depth } }
@@ -49,39 +53,32 @@ fn place_in(e: Entered) -> Place
     }
 }
 
-/// Its declared functions are made in order of the text, and then its body runs.
+/// Its declared functions are made in order of the text. What comes then is its body.
 pub fn declare(
-    flow: &mut Flow,
     alloc: Global,
     w: u32,
     codes: &Vec<Code>,
     store: &mut Store,
     e: Entered,
-) -> Result<(), Memory>
+) -> Result<Entry, Memory>
     requires widget { w < 32 }
     requires confined { IsConfined (trees_of codes.now.items) w store.old }
     requires code { e.code < length (trees_of codes.now.items) }
     requires fun { IsFun (forest_at (trees_of codes.now.items) e.code) e.fun }
     requires scope { IsOwnScope w store.old.cells e.scope }
     requires named { AreNamed w store.old e.scope (flat_map fun_name (fun_list (funs_of (fun_at (forest_at (trees_of codes.now.items) e.code) e.fun)))) }
-    ensures plan { OnOk result (Plans (trees_of codes.now.items) w store.old store.new (λ s.
-        calls.declare (fun_list (funs_of (fun_at (forest_at (trees_of codes.now.items) e.code) e.fun))) (scope_number w store.old.cells e.scope) s
-        (calls.call_body (body_of (fun_at (forest_at (trees_of codes.now.items) e.code) e.fun)) (record { scope = Some (scope_number w store.old.cells e.scope); depth = e.depth }))) flow.new) }
-    ensures fine { OnOk result (FineLeft (trees_of codes.now.items) w store.new.cells flow.new) }
-    ensures near { OnOk result (left_free flow.new ≤ 4) }
+    ensures plan { IfOk result (λ p. (r : Rest) → entry_plan (trees_of codes.now.items) w store.new.cells e.fun p (image (trees_of codes.now.items) r w store.new)
+        ≡ calls.declare (fun_list (funs_of (fun_at (forest_at (trees_of codes.now.items) e.code) e.fun))) (scope_number w store.old.cells e.scope) (image (trees_of codes.now.items) r w store.old)
+        (calls.call_body (body_of (fun_at (forest_at (trees_of codes.now.items) e.code) e.fun)) (record { scope = Some (scope_number w store.old.cells e.scope); depth = e.depth }))) }
+    ensures fine { IfOk result (FineEntry (trees_of codes.now.items) w store.new.cells e.fun) }
     ensures kept { Kept (trees_of codes.now.items) w store.old store.new }
-    ensures below { OnOk result (flow.new.below ≡ all_frames flow.old) }
 {
     lists_agree();
     let tree = tree_at(codes, e.code);
     let node = tree.fun(e.fun);
     match declare_all(alloc, w, codes, store, &node.funs, e)? {
-        Paid::Stop(cause) => Ok(flow.stop(cause)),
-        Paid::Done => flow.push_run(
-            Frame::Call(CallFrame::CallEnd),
-            Block::Body(e.fun),
-            place_in(e),
-        ),
+        Paid::Stop(cause) => Ok(Entry::Stop(cause)),
+        Paid::Done => Ok(Entry::Body(place_in(e))),
     }
 }
 

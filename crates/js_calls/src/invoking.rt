@@ -1,5 +1,5 @@
 //! Calls of functions and natives.
-ghost use Rattle.std.specs.Prelude.{◌≡◌, ℕ, suc, ◌<◌, ◌≤◌, List, OnOk};
+ghost use Rattle.std.specs.Prelude.{◌≡◌, ℕ, suc, ◌<◌, ◌≤◌, List, IfOk, OnOk};
 ghost use Rattle.std.specs.Option.{option_map};
 ghost use Rattle.js_tree.specs.Forest.{Forest};
 ghost use Rattle.store_cells.specs.Cells.{PlainCell};
@@ -10,20 +10,20 @@ ghost use Rattle.widget_meaning.specs.Plan as meaning;
 ghost use Rattle.widget_meaning.specs.Plan.{Do, Ret};
 ghost use Rattle.widget_meaning.specs.Calls as calls;
 ghost use Rattle.widget_meaning.specs.Costs as costs;
-ghost use Rattle.js_image.specs.Image.{all_seen, function_in, seen};
+ghost use Rattle.js_image.specs.Image.{Rest, all_seen, function_in, image, seen};
 ghost use Rattle.js_image.specs.Held.{IsConfined, IsFunOf, IsPlaceScope, Kept};
 ghost use Rattle.js_image.specs.Plans.{meant_fault};
 ghost use Rattle.js_names.specs.Code.{trees_of};
 ghost use Rattle.js_flow.specs.Fine.{FineCall, FineLeft};
 ghost use Rattle.js_flow.specs.Frames.{Plans, planned};
 ghost use Rattle.js_flow.specs.Free.{left_free};
-ghost use Rattle.js_calls.specs.Called.{invoked};
+ghost use Rattle.js_calls.specs.Called.{FineEntry, entry_plan, invoked};
 ghost use Rattle.js_flow.specs.Left.{all_frames};
 
-use crate::declaring::{Entered, declare};
+use crate::declaring::{Entered, Entry, declare};
 use crate::scoping::scope_pairs;
 use code_units::Memory;
-use js_flow::{Call, Completion, Flow, Job, NativeCall};
+use js_flow::{Block, Call, CallFrame, Completion, Flow, Frame, Job, NativeCall};
 use js_image::{Callee, Fault, Made, StopCause, callee, make_fault, make_scope};
 use js_names::{Code, code_at};
 use object_store::{FunParts, NativeId, Store, Value};
@@ -98,7 +98,7 @@ fn native(flow: &mut Flow, alloc: Global, call: Call, which: NativeId) -> Result
     Ok(flow.go(Job::RunNative(Box::new(alloc, native)?)))
 }
 
-// A function of the widget, which runs one deeper. A stop for depth comes before its scope.
+// A function of the widget, which runs one deeper.
 fn enter(
     flow: &mut Flow,
     alloc: Global,
@@ -120,13 +120,43 @@ fn enter(
     ensures kept { Kept (trees_of codes.now.items) w store.old store.new }
     ensures below { OnOk result (flow.new.below ≡ all_frames flow.old) }
 {
+    match entered(alloc, w, codes, store, &call, parts)? {
+        Entry::Stop(cause) => Ok(flow.stop(cause)),
+        Entry::Body(place) => flow.push_run(
+            Frame::Call(CallFrame::CallEnd),
+            Block::Body(parts.fun),
+            place,
+        ),
+    }
+}
+
+/// A function of the widget is entered: its scope is made, and then its declared functions. It runs one deeper than
+/// its caller; a stop for depth comes before its scope.
+pub fn entered(
+    alloc: Global,
+    w: u32,
+    codes: &Vec<Code>,
+    store: &mut Store,
+    call: &Call,
+    parts: FunParts,
+) -> Result<Entry, Memory>
+    requires widget { w < 32 }
+    requires confined { IsConfined (trees_of codes.now.items) w store.old }
+    requires fun { IsFunOf (trees_of codes.now.items) parts × IsPlaceScope w store.old.cells parts.scope }
+    requires held { FineCall w store.old.cells call.now }
+    ensures plan { IfOk result (λ e. (r : Rest) → entry_plan (trees_of codes.now.items) w store.new.cells parts.fun e (image (trees_of codes.now.items) r w store.new)
+        ≡ calls.enter (state.Function (function_in (trees_of codes.now.items) parts.code parts.fun parts.declared) (option_map (scope_number w store.old.cells) parts.scope))
+        (seen w store.old.cells call.now.func) (all_seen w store.old.cells call.now.args.items) (suc call.now.depth) (image (trees_of codes.now.items) r w store.old)) }
+    ensures fine { IfOk result (FineEntry (trees_of codes.now.items) w store.new.cells parts.fun) }
+    ensures kept { Kept (trees_of codes.now.items) w store.old store.new }
+{
     let depth = call.depth;
     if depth >= 200 {
-        return Ok(flow.stop(StopCause::Depth));
+        return Ok(Entry::Stop(StopCause::Depth));
     }
-    let pairs = scope_pairs(alloc, code_at(codes, parts.code), parts, &call)?;
+    let pairs = scope_pairs(alloc, code_at(codes, parts.code), parts, call)?;
     match make_scope(alloc, store, w, parts.scope, pairs)? {
-        Made::Stop(cause) => Ok(flow.stop(cause)),
+        Made::Stop(cause) => Ok(Entry::Stop(cause)),
         Made::Cell(scope) => {
             let entered = Entered {
                 code: parts.code,
@@ -134,7 +164,7 @@ fn enter(
                 scope,
                 depth: depth + 1,
             };
-            declare(flow, alloc, w, codes, store, entered)
+            declare(alloc, w, codes, store, entered)
         }
     }
 }

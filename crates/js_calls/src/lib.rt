@@ -11,5 +11,6 @@ mod scoping;
 mod taking;
 
 pub use answering::answer;
-pub use invoking::call;
+pub use declaring::Entry;
+pub use invoking::{call, entered};
 pub use taking::take_call;

@@ -1,5 +1,4 @@
 use Rattle.std.proofs.Common.{◌≡◌, Some, sym, subst, ap, ◌∙◌, map}
-use Rattle.std.proofs.lemmas.Result.{IfOk-weaker}
 use Rattle.std.specs.Prelude.{All}
 use Rattle.std.specs.List.{flat_map}
 use Rattle.js_tree.specs.Forest.{Forest, IsFun, fun_at}
@@ -51,7 +50,7 @@ returns-in-Stop-clause-plan c =
     let list = subst (λ (f : Forest). fun_list (funs_of (fun_at f e.fun)) ≡ map (fun_at f) node.funs.items) c.tree_at-tree.ensures
     (funs_are t node (fun_names (fun_at t e.fun)) (fun_at t e.fun) c.fun-node.ensures.same (c.lists_agree.ensures.funs t node.funs.items)) in
     let k : State → Plan = call_body (body_of (fun_at f e.fun)) (record { scope = Some i; depth = e.depth }) in
-    rw c.stop.ensures (λ r. sym (ap (λ l. declare l i (image fs r w old) k) list ∙ c.in_ok-cause.ensures.plan r k ∙ ap (λ p. paid_plan p k (image fs r w new)) c.in-Stop.is))
+    λ r. sym (ap (λ l. declare l i (image fs r w old) k) list ∙ c.in_ok-cause.ensures.plan r k ∙ ap (λ p. paid_plan p k (image fs r w new)) c.in-Stop.is)
 
 pub returns-in-Done-clause-plan : goal.returns-in-Done-clause-plan
 returns-in-Done-clause-plan c =
@@ -67,8 +66,6 @@ returns-in-Done-clause-plan c =
     let list = subst (λ (f : Forest). fun_list (funs_of (fun_at f e.fun)) ≡ map (fun_at f) node.funs.items) c.tree_at-tree.ensures
     (funs_are t node (fun_names (fun_at t e.fun)) (fun_at t e.fun) c.fun-node.ensures.same (c.lists_agree.ensures.funs t node.funs.items)) in
     let k : State → Plan = call_body (body_of (fun_at f e.fun)) (record { scope = Some i; depth = e.depth }) in
-    IfOk-weaker c.push_run.result _ _
-    (λ x q. rw q (λ r. ap (λ (p : Place). and_then (block_at fs w new.cells (block.Body e.fun) 0 p (image fs r w new)) call_end) c.place_in.ensures
+    λ r. ap (λ (p : Place). and_then (block_at fs w new.cells (block.Body e.fun) 0 p (image fs r w new)) call_end) c.place_in.ensures
     ∙ ap (λ n. and_then (statements (block_list f (block.Body e.fun)) (record { scope = Some n; depth = e.depth }) (image fs r w new)) call_end) (c.declare_all.ensures.kept.grows.scope e.scope c.requires.scope.0)
-    ∙ sym (ap (λ l. declare l i (image fs r w old) k) list ∙ c.in_ok-cause.ensures.plan r k ∙ ap (λ p. paid_plan p k (image fs r w new)) c.in-Done.is)))
-    c.push_run.ensures
+    ∙ sym (ap (λ l. declare l i (image fs r w old) k) list ∙ c.in_ok-cause.ensures.plan r k ∙ ap (λ p. paid_plan p k (image fs r w new)) c.in-Done.is)
