@@ -1,3 +1,4 @@
+pub mod Arguing
 pub mod FormFrames
 pub mod Lists
 pub mod Loops
