@@ -1,5 +1,5 @@
 -- Parts of a statement one after the other: what is still to be done.
-use Rattle.std.proofs.Common.{◌≡◌, ◌⊎◌, inl, inr, ℕ, suc, ◌+◌, ◌*◌, ◌-◌, ◌≤◌, List, [], ◌∷◌, ◌++◌, refl, sym, ap, ◌∙◌, subst, arith}
+use Rattle.std.proofs.Common.{◌≡◌, ◌⊎◌, inl, inr, ℕ, ◌+◌, ◌-◌, ◌≤◌, List, [], ◌∷◌, ◌++◌, refl, sym, ap, ◌∙◌, subst, arith}
 use Rattle.std.specs.Prelude.{Bool, true, false, if◌then◌else◌, MatchOption, IfOk, Option, None, Some, Result, Ok, Err}
 use Rattle.js_tree.specs.Forest.{Forest, stmt_at}
 use Rattle.store_cells.specs.Cells.{Cells, PlainCell}
@@ -28,10 +28,9 @@ use Rattle.js_flow.proofs.Stays.{frame_same}
 use Rattle.js_direct.specs.declared.run.Ended.{Ended}
 use Rattle.js_direct.specs.declared.run.Ended.TheVariants as ended
 use Rattle.js_direct.specs.declared.run.Run.{Run}
-use Rattle.js_direct.specs.Reduces.{Reduces}
 use Rattle.js_direct.specs.Comes.{Comes, ComesTo, FineCame, IsEnd, IsReady, came, ended_as}
 use Rattle.js_direct.specs.Towards.{Passes, Towards}
-use Rattle.js_direct.proofs.Reducing.{after_each, begins, counts, ends, paid, starts, under}
+use Rattle.js_direct.proofs.Reducing.{after_each, begins, counts, ends, starts, under}
 use Rattle.js_direct.proofs.Loops.{continued, next_is}
 use Rattle.js_direct.proofs.Parts.{gives, part_passes, part_then, part_waits}
 

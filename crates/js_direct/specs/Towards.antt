@@ -1,5 +1,5 @@
 -- What is still to be done once a part of it was carried out.
-use Rattle.std.specs.Prelude.{◌≡◌, ℕ, ◌-◌, ◌≤◌, ◌<◌, List, Option, MatchOption}
+use Rattle.std.specs.Prelude.{ℕ, ◌-◌, ◌≤◌, List, Option, MatchOption}
 use Rattle.js_tree.specs.Forest.{Forest}
 use Rattle.js_tree.specs.Plain.{Expr, Stmt}
 use Rattle.store_cells.specs.Cells.{Cells}

@@ -1,10 +1,7 @@
-use Rattle.std.proofs.Common.{◌≡◌, ℕ, ◌∷◌, ◌+◌, [], drop, refl, sym, ap, ◌∙◌, subst, arith}
-use Rattle.std.proofs.lemmas.Result.{IfOk-weaker}
+use Rattle.std.proofs.Common.{◌≡◌, ◌∷◌, drop, refl, ap, subst, arith}
 use Rattle.js_tree.specs.Forest.{stmt_at}
 use Rattle.widget_meaning.specs.OwnState.{State}
 use Rattle.widget_meaning.specs.Plan.{Plan, Ret, Do, and_then}
-use Rattle.widget_meaning.specs.Values as meaning
-use Rattle.js_image.specs.Image.{seen}
 use Rattle.js_image.proofs.Units.{kept_then}
 use Rattle.js_names.specs.Code.{trees_of}
 use Rattle.js_flow.specs.Parts.{IsBlock, block_list}
@@ -19,7 +16,6 @@ use Rattle.js_flow.specs.declared.frame.StatementFrame.TheVariants as statement
 use Rattle.js_flow.proofs.Stays.{place_fine}
 use Rattle.js_direct.specs.declared.run.Ended.TheVariants as ended
 use Rattle.js_direct.specs.Comes.{ended_as}
-use Rattle.js_direct.proofs.Parts.{part_then}
 use Rattle.js_direct.proofs.Sequels.{as_is, end_ready, other_normal, part_next, planned, towards_each, towards_then, waits_then}
 use Rattle.js_direct.proofs.statements.block_on.Goals as goal
 

@@ -1,4 +1,4 @@
-use Rattle.std.proofs.Common.{◌≡◌, ◌∷◌, ◌+◌, ◌-◌, [], drop, sym, ap, ◌∙◌, subst}
+use Rattle.std.proofs.Common.{◌≡◌, ◌∷◌, ◌+◌, [], drop, sym, ap, ◌∙◌, subst}
 use Rattle.js_tree.specs.Forest.{Forest, optional_at, stmt_at}
 use Rattle.widget_meaning.specs.Statements as statements
 use Rattle.js_image.specs.Image.{image, seen}

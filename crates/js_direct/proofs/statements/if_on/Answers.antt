@@ -1,14 +1,13 @@
-use Rattle.std.proofs.Common.{◌≡◌, ℕ, ◌∷◌, ◌+◌, [], drop, refl, sym, ap, ◌∙◌, subst, arith}
+use Rattle.std.proofs.Common.{refl, arith}
 use Rattle.std.proofs.lemmas.Result.{IfOk-weaker}
 use Rattle.js_tree.specs.Forest.{stmt_at}
 use Rattle.widget_meaning.specs.OwnState.{State}
-use Rattle.widget_meaning.specs.Plan.{Plan, Ret, Do, after}
+use Rattle.widget_meaning.specs.Plan.{Plan, Ret, Do}
 use Rattle.widget_meaning.specs.Values as meaning
 use Rattle.widget_meaning.specs.Statements.{branch}
-use Rattle.js_image.specs.Image.{seen}
 use Rattle.js_image.proofs.Units.{kept_then}
 use Rattle.js_names.specs.Code.{trees_of}
-use Rattle.js_flow.specs.Parts.{else_of, forest_at, loop_of, then_of}
+use Rattle.js_flow.specs.Parts.{else_of, forest_at, then_of}
 use Rattle.js_flow.specs.Views.{job_of, place_of}
 use Rattle.js_flow.specs.declared.job.Job.TheVariants as job
 use Rattle.js_flow.specs.declared.frame.Frame.TheVariants as frame
@@ -17,7 +16,7 @@ use Rattle.js_flow.proofs.Stays.{place_fine}
 use Rattle.js_direct.specs.declared.run.Ended.TheVariants as ended
 use Rattle.js_direct.specs.Comes.{ended_as}
 use Rattle.js_direct.proofs.Parts.{part_then}
-use Rattle.js_direct.proofs.Sequels.{as_is, end_is, end_ready, other_value, waits_ok}
+use Rattle.js_direct.proofs.Sequels.{as_is, end_ready, other_value, waits_ok}
 use Rattle.js_direct.proofs.statements.if_on.Goals as goal
 
 pub branch_on-requires-clause-ready : goal.branch_on-requires-clause-ready
