@@ -1,5 +1,5 @@
 //! Targets, assignments and steps, carried out in place.
-ghost use Rattle.std.specs.Prelude.{◌≡◌, ℕ, ◌<◌, ◌++◌, [], ◌∷◌, if◌then◌else◌, IfOk, List};
+ghost use Rattle.std.specs.Prelude.{◌≡◌, ℕ, ◌<◌, ◌++◌, ◌+ℤ◌, ◌-ℤ◌, pos, [], ◌∷◌, if◌then◌else◌, IfOk, IfSome, List};
 ghost use Rattle.std.specs.Option.{option_map_or};
 ghost use Rattle.js_tree.specs.Forest.{Forest};
 ghost use Rattle.store_cells.specs.Cells.{Cells};
@@ -9,6 +9,7 @@ ghost use Rattle.widget_meaning.specs.Costs as costs;
 ghost use Rattle.widget_meaning.specs.Properties as properties;
 ghost use Rattle.widget_meaning.specs.Calls as calls;
 ghost use Rattle.widget_meaning.specs.Expressions as expressions;
+ghost use Rattle.widget_meaning.specs.Operators as operators;
 ghost use Rattle.widget_meaning.specs.Meaning.{body};
 ghost use Rattle.widget_meaning.specs.Plan.{Do, Ret, and_then};
 ghost use Rattle.js_image.specs.Image.{Rest, image, seen};
@@ -30,9 +31,8 @@ use js_flow::{Assigning, CallFrame, Completion, FormFrame, Frame, Job, Next, Pla
 use js_image::{Fault, StopCause, Written, assign, get, put, variable};
 use js_names::tree_at;
 use js_tree::{AssignOp, BinOp, Expr, ExprId, StepOp};
-use js_values::{OpOut, binary, number_of};
+use js_values::{OpOut, number_of};
 use object_store::{Number, Store, Value};
-use std::alloc::Global;
 use std::mem;
 
 /// A target, before its unit: its reference at a place.
@@ -269,6 +269,7 @@ fn refer_by(
 }
 
 // An expression that stands where a target may be; it has the unit of the target.
+#[inline(never)]
 fn found_target(
     site: &Site,
     run: &mut Run,
@@ -466,6 +467,8 @@ fn assign_name(
 }
 
 // A write to a variable waits.
+#[cold]
+#[inline(never)]
 fn wait_write(run: &mut Run, name: &Text, place: &Place) -> Result<Ended, Memory>
     ensures left { IfOk result (λ how. how ≡ Ended.Left) }
     ensures waits { IfOk result (λ how. run.new.waits.items
@@ -502,6 +505,7 @@ fn write_name(
 }
 
 // An assignment to any target.
+#[inline(never)]
 fn assign_any(
     site: &Site,
     run: &mut Run,
@@ -550,12 +554,22 @@ fn assign_reached(
 {
     match target_on(site, run, store, parts.0, place, deep, of, out)? {
         Ended::Is => assign_value(site, run, store, op, parts.1, place, deep, of, out),
-        Ended::Left => wait(
-            run,
-            Frame::Form(FormFrame::AssignTarget(op, parts.1, *place)),
-        ),
+        Ended::Left => wait_target(run, op, parts.1, place),
         other => Ok(other),
     }
+}
+
+// The right side waits for the target.
+#[cold]
+#[inline(never)]
+fn wait_target(run: &mut Run, op: AssignOp, e: ExprId, place: &Place) -> Result<Ended, Memory>
+    ensures left { IfOk result (λ how. how ≡ Ended.Left) }
+    ensures waits { IfOk result (λ how. run.new.waits.items
+        ≡ run.old.waits.items ++ Frame.Form (FormFrame.AssignTarget op e place.now) ∷ []) }
+    ensures next { IfOk result (λ how. run.new.next ≡ run.old.next) }
+    ensures units { IfOk result (λ how. run.new.units ≡ run.old.units) }
+{
+    wait(run, Frame::Form(FormFrame::AssignTarget(op, e, *place)))
 }
 
 // The right side of an assignment to a reference.
@@ -609,12 +623,23 @@ fn assign_written(
 {
     match eval_on(site, run, store, e, place, deep, out)? {
         Ended::Is => write_value(site, run, store, of, place, out),
-        Ended::Left => wait(
-            run,
-            Frame::Form(FormFrame::Write(take_reference(of), *place)),
-        ),
+        Ended::Left => wait_written(run, of, place),
         other => Ok(other),
     }
+}
+
+// A write to a reference waits.
+#[cold]
+#[inline(never)]
+fn wait_written(run: &mut Run, of: &mut Reference, place: &Place) -> Result<Ended, Memory>
+    ensures left { IfOk result (λ how. how ≡ Ended.Left) }
+    ensures waits { IfOk result (λ how. run.new.waits.items
+        ≡ run.old.waits.items ++ Frame.Form (FormFrame.Write of.old place.now) ∷ []) }
+    ensures next { IfOk result (λ how. run.new.next ≡ run.old.next) }
+    ensures units { IfOk result (λ how. run.new.units ≡ run.old.units) }
+{
+    let reference = take_reference(of);
+    wait(run, Frame::Form(FormFrame::Write(reference, *place)))
 }
 
 // The value at the place is written to a reference.
@@ -641,6 +666,7 @@ fn write_value(
 }
 
 // The right side of an assignment that computes: what the target has is read first.
+#[inline(never)]
 fn assign_computed(
     site: &Site,
     run: &mut Run,
@@ -784,10 +810,7 @@ fn compute_by(
     let place = to.place;
     match operate_on(site, run, store, op, &to.has, place.depth, out)? {
         Ended::Is => write_value(site, run, store, &to.of, &place, out),
-        Ended::Left => wait(
-            run,
-            Frame::Form(FormFrame::Write(take_reference(&mut to.of), place)),
-        ),
+        Ended::Left => wait_written(run, &mut to.of, &place),
         other => Ok(other),
     }
 }
@@ -809,6 +832,39 @@ pub(crate) fn step_on(
         IfOk result (λ how. Comes F w store.old store.new 30
         (λ s. Do (job_of F w store.old.cells (Job.Target to place.now)) s
         (taken F w store.old.cells (Frame.Form (FormFrame.StepTarget op place.now))))
+        run.old run.new how out.new) }
+    ensures kept { Kept (trees_of site.now.codes.now.items) site.now.widget store.old store.new }
+{
+    if run.units == 0 {
+        return step_any(site, run, store, op, to, place, deep, out);
+    }
+    match tree_at(site.codes, place.code).expr(to) {
+        Expr::Name(name) => {
+            run.units -= 1;
+            step_name(site, run, store, op, name, place, out)
+        }
+        _ => step_any(site, run, store, op, to, place, deep, out),
+    }
+}
+
+// A step of any target.
+#[inline(never)]
+fn step_any(
+    site: &Site,
+    run: &mut Run,
+    store: &mut Store,
+    op: StepOp,
+    to: ExprId,
+    place: &Place,
+    deep: u32,
+    out: &mut Value,
+) -> Result<Ended, Memory>
+    requires ready { IsReady (trees_of site.now.codes.now.items) site.now.widget store.old run.old }
+    requires held { IsExprAt (trees_of site.now.codes.now.items) site.now.widget store.old.cells to place.now }
+    ensures comes { let F = trees_of site.now.codes.now.items in let w = site.now.widget in
+        IfOk result (λ how. Comes F w store.old store.new 30
+        (λ s. Do (job_of F w store.old.cells (Job.Target to place.now)) s
+        (form_taken F w store.old.cells (FormFrame.StepTarget op place.now)))
         run.old run.new how out.new) }
     ensures kept { Kept (trees_of site.now.codes.now.items) site.now.widget store.old store.new }
 {
@@ -844,6 +900,78 @@ fn step_reached(
     }
 }
 
+// A step of a variable, whose target has its unit.
+fn step_name(
+    site: &Site,
+    run: &mut Run,
+    store: &mut Store,
+    op: StepOp,
+    name: &Text,
+    place: &Place,
+    out: &mut Value,
+) -> Result<Ended, Memory>
+    requires ready { IsReady (trees_of site.now.codes.now.items) site.now.widget store.old run.old }
+    requires held { IsPlace (trees_of site.now.codes.now.items) site.now.widget store.old.cells place.now }
+    ensures comes { let F = trees_of site.now.codes.now.items in let w = site.now.widget in
+        IfOk result (λ how. Comes F w store.old store.new 4
+        (form_taken F w store.old.cells (FormFrame.StepTarget op place.now)
+        (meaning.Refers (meaning.Variable name.now)))
+        run.old run.new how out.new) }
+    ensures kept { Kept (trees_of site.now.codes.now.items) site.now.widget store.old store.new }
+{
+    let has = variable(store, place.scope, name)?;
+    set_value(out, has);
+    match whole_at(out) {
+        Some(z) => step_whole(site, run, store, op, name, place, z, out),
+        None => {
+            let mut of = Reference::Variable(name.share()?);
+            step_has(site, run, store, op, place, &mut of, out)
+        }
+    }
+}
+
+// The whole number that a value is.
+fn whole_at(value: &Value) -> Option<i64>
+    ensures { IfSome result (λ z. value.now ≡ Value.Num (Number.Whole z)) }
+{
+    match value {
+        Value::Num(Number::Whole(z)) => Some(*z),
+        _ => None,
+    }
+}
+
+// A step of a variable that has a whole number.
+fn step_whole(
+    site: &Site,
+    run: &mut Run,
+    store: &mut Store,
+    op: StepOp,
+    name: &Text,
+    place: &Place,
+    z: i64,
+    out: &mut Value,
+) -> Result<Ended, Memory>
+    requires ready { IsReady (trees_of site.now.codes.now.items) site.now.widget store.old run.old }
+    requires held { IsPlace (trees_of site.now.codes.now.items) site.now.widget store.old.cells place.now }
+    ensures comes { let F = trees_of site.now.codes.now.items in let w = site.now.widget in
+        IfOk result (λ how. Comes F w store.old store.new 1
+        (expressions.step_write (expressions.stepped op z) op (meaning.Num z) (meaning.Variable name.now)
+        (place_of w store.old.cells place.now))
+        run.old run.new how out.new) }
+    ensures kept { Kept (trees_of site.now.codes.now.items) site.now.widget store.old store.new }
+{
+    match stepped(op, z) {
+        OpOut::Is(value) => {
+            let given = given_number(op, Number::Whole(z), &value)?;
+            set_value(out, given);
+            assign(store, site.widget, place.scope, name, value);
+            Ok(Ended::Is)
+        }
+        OpOut::Left => stop(run, StopCause::Number),
+        OpOut::LongText => stop(run, StopCause::LongText),
+    }
+}
+
 // A step of a reference: what it has is converted.
 fn step_target(
     site: &Site,
@@ -865,6 +993,30 @@ fn step_target(
 {
     let has = referred(site, store, of, place)?;
     set_value(out, has);
+    step_has(site, run, store, op, place, of, out)
+}
+
+// A step of a reference that has the value at the place.
+fn step_has(
+    site: &Site,
+    run: &mut Run,
+    store: &mut Store,
+    op: StepOp,
+    place: &Place,
+    of: &mut Reference,
+    out: &mut Value,
+) -> Result<Ended, Memory>
+    requires ready { IsReady (trees_of site.now.codes.now.items) site.now.widget store.old run.old }
+    requires held { FineReference site.now.widget store.old.cells of.old
+        × IsPlace (trees_of site.now.codes.now.items) site.now.widget store.old.cells place.now }
+    requires value { IsFine site.now.widget store.old.cells out.old }
+    ensures comes { let F = trees_of site.now.codes.now.items in let w = site.now.widget in
+        IfOk result (λ how. Comes F w store.old store.new 4
+        (λ s. and_then (calls.to_primitive (seen w store.old.cells out.old) place.now.depth s)
+        (expressions.step_converted op (reference_of w store.old.cells of.old) (place_of w store.old.cells place.now)))
+        run.old run.new how out.new) }
+    ensures kept { Kept (trees_of site.now.codes.now.items) site.now.widget store.old store.new }
+{
     if is_object(out) {
         return convert_step(site, run, op, place, of, out);
     }
@@ -872,6 +1024,8 @@ fn step_target(
 }
 
 // An object is converted before the step.
+#[cold]
+#[inline(never)]
 fn convert_step(
     site: &Site,
     run: &mut Run,
@@ -898,6 +1052,7 @@ fn convert_step(
 }
 
 // A step of the primitive at the place.
+#[inline(never)]
 fn step_number(
     site: &Site,
     run: &mut Run,
@@ -920,7 +1075,7 @@ fn step_number(
 {
     match number_of(out) {
         WholeRead::Whole(z) => {
-            let sum = stepped(site.alloc, op, z)?;
+            let sum = stepped(op, z);
             step_write(
                 site,
                 run,
@@ -941,25 +1096,52 @@ fn step_number(
 }
 
 // The number after a step.
-fn stepped(alloc: Global, op: StepOp, z: i64) -> Result<OpOut, Memory>
-    ensures value { IfOk result (λ o. meant_out o ≡ expressions.stepped op z) }
-    ensures plain { IfOk result IsPlainOut }
+fn stepped(op: StepOp, z: i64) -> OpOut
+    ensures value { meant_out result ≡ expressions.stepped op z }
+    ensures plain { IsPlainOut result }
 {
-    let one = whole(1);
-    let number = whole(z);
     match op {
-        StepOp::PreInc => binary(alloc, BinOp::Add, &number, &one),
-        StepOp::PostInc => binary(alloc, BinOp::Add, &number, &one),
-        StepOp::PreDec => binary(alloc, BinOp::Sub, &number, &one),
-        StepOp::PostDec => binary(alloc, BinOp::Sub, &number, &one),
+        StepOp::PreInc => one_more(z),
+        StepOp::PostInc => one_more(z),
+        StepOp::PreDec => one_less(z),
+        StepOp::PostDec => one_less(z),
     }
 }
 
-fn whole(z: i64) -> Value
-    ensures { result ≡ Value.Num (Number.Whole z) }
+fn one_more(z: i64) -> OpOut
+    ensures value { meant_out result ≡ operators.number (z +ℤ pos 1) }
+    ensures plain { IsPlainOut result }
 {
-    Value::Num(Number::Whole(z))
+    match z.checked_add(1) {
+        Some(next) => {
+            if next.unsigned_abs() < LIMIT {
+                OpOut::Is(Value::Num(Number::Whole(next)))
+            } else {
+                OpOut::Left
+            }
+        }
+        None => OpOut::Left,
+    }
 }
+
+fn one_less(z: i64) -> OpOut
+    ensures value { meant_out result ≡ operators.number (z -ℤ pos 1) }
+    ensures plain { IsPlainOut result }
+{
+    match z.checked_sub(1) {
+        Some(next) => {
+            if next.unsigned_abs() < LIMIT {
+                OpOut::Is(Value::Num(Number::Whole(next)))
+            } else {
+                OpOut::Left
+            }
+        }
+        None => OpOut::Left,
+    }
+}
+
+// The first number past the numbers.
+const LIMIT: u64 = 1 << 53;
 
 // Whether a step gives the number before it.
 fn is_post(op: StepOp) -> bool

@@ -49,8 +49,8 @@ returns-in-Left-clause-comes c =
     let fs = trees_of c.args.site.now.codes.now.items in
     let w = c.args.site.now.widget in
     let s = c.args.store.now in
-    frame_waits fs w c.wait.result s c.target_on.new.store 0 30 (λ t. Do (job_of fs w s.cells (job.Target c.args.parts.0 c.args.place.now)) t Ret) (frame.Form (form.AssignTarget c.args.op c.args.parts.1 c.args.place.now)) c.args.run.now c.target_on.new.run c.wait.new.run c.in_ok-other.other (target_as c.in_ok-other.other c.target_on.new.of c.target_on.new.out) (λ h. ended_as h c.target_on.new.out)
-    c.in_ok-other.ensures.comes c.in-Left.is c.target_on.ensures.kept c.requires.held.1 (omega arith) c.wait.ensures.left c.wait.ensures.waits c.wait.ensures.next c.wait.ensures.units
+    frame_waits fs w c.wait_target.result s c.target_on.new.store 0 30 (λ t. Do (job_of fs w s.cells (job.Target c.args.parts.0 c.args.place.now)) t Ret) (frame.Form (form.AssignTarget c.args.op c.args.parts.1 c.args.place.now)) c.args.run.now c.target_on.new.run c.wait_target.new.run c.in_ok-other.other (target_as c.in_ok-other.other c.target_on.new.of c.target_on.new.out) (λ h. ended_as h c.target_on.new.out)
+    c.in_ok-other.ensures.comes c.in-Left.is c.target_on.ensures.kept c.requires.held.1 (omega arith) c.wait_target.ensures.left c.wait_target.ensures.waits c.wait_target.ensures.next c.wait_target.ensures.units
 
 pub returns-in_default : goal.returns-in_default
 returns-in_default c =

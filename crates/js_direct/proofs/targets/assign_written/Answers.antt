@@ -1,13 +1,11 @@
-use Rattle.std.proofs.Common.{◌≡◌, [], ◌∷◌, ◌++◌, subst, arith}
+use Rattle.std.proofs.Common.{arith}
 use Rattle.std.proofs.lemmas.Result.{IfOk-weaker}
 use Rattle.js_names.specs.Code.{trees_of}
-use Rattle.std.specs.Prelude.{IfOk}
 use Rattle.widget_meaning.specs.Plan.{Do, Ret}
 use Rattle.js_image.proofs.Units.{kept_then}
 use Rattle.js_flow.specs.declared.frame.Frame.TheVariants as frame
 use Rattle.js_flow.specs.declared.frame.FormFrame.TheVariants as form
 use Rattle.js_flow.specs.declared.job.Job.TheVariants as job
-use Rattle.js_flow.specs.declared.job.Reference.{Reference}
 use Rattle.js_flow.specs.Views.{job_of}
 use Rattle.js_flow.proofs.Stays.{place_fine, reference_fine}
 use Rattle.js_direct.specs.Comes.{ended_as}
@@ -59,9 +57,8 @@ returns-in-Left-clause-comes c =
     let fs = trees_of c.args.site.now.codes.now.items in
     let w = c.args.site.now.widget in
     let s = c.args.store.now in
-    frame_waits fs w c.wait.result s c.eval_on.new.store 0 1 (λ t. Do (job_of fs w s.cells (job.Eval c.args.e c.args.place.now)) t Ret) (frame.Form (form.Write c.args.of.now c.args.place.now)) c.args.run.now c.eval_on.new.run c.wait.new.run c.in_ok-other.other (ended_as c.in_ok-other.other c.eval_on.new.out) (λ h. ended_as h c.eval_on.new.out)
-    c.in_ok-other.ensures.comes c.in-Left.is c.eval_on.ensures.kept (c.requires.held.1, c.requires.held.0.0) (omega arith) c.wait.ensures.left
-    (subst (λ (x : Reference). IfOk c.wait.result (λ h. c.wait.new.run.waits.items ≡ c.eval_on.new.run.waits.items ++ frame.Form (form.Write x c.args.place.now) ∷ [])) c.take_reference.ensures c.wait.ensures.waits) c.wait.ensures.next c.wait.ensures.units
+    frame_waits fs w c.wait_written.result s c.eval_on.new.store 0 1 (λ t. Do (job_of fs w s.cells (job.Eval c.args.e c.args.place.now)) t Ret) (frame.Form (form.Write c.args.of.now c.args.place.now)) c.args.run.now c.eval_on.new.run c.wait_written.new.run c.in_ok-other.other (ended_as c.in_ok-other.other c.eval_on.new.out) (λ h. ended_as h c.eval_on.new.out)
+    c.in_ok-other.ensures.comes c.in-Left.is c.eval_on.ensures.kept (c.requires.held.1, c.requires.held.0.0) (omega arith) c.wait_written.ensures.left c.wait_written.ensures.waits c.wait_written.ensures.next c.wait_written.ensures.units
 
 pub returns-in_default : goal.returns-in_default
 returns-in_default c =

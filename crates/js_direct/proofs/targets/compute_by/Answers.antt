@@ -1,13 +1,11 @@
-use Rattle.std.proofs.Common.{◌≡◌, [], ◌∷◌, ◌++◌, subst, arith}
+use Rattle.std.proofs.Common.{arith}
 use Rattle.std.proofs.lemmas.Result.{IfOk-weaker}
 use Rattle.js_names.specs.Code.{trees_of}
-use Rattle.std.specs.Prelude.{IfOk}
 use Rattle.widget_meaning.specs.Expressions.{operate}
 use Rattle.js_image.specs.Image.{seen}
 use Rattle.js_image.proofs.Units.{kept_then}
 use Rattle.js_flow.specs.declared.frame.Frame.TheVariants as frame
 use Rattle.js_flow.specs.declared.frame.FormFrame.TheVariants as form
-use Rattle.js_flow.specs.declared.job.Reference.{Reference}
 use Rattle.js_flow.proofs.Stays.{place_fine, reference_fine}
 use Rattle.js_direct.specs.Comes.{ended_as}
 use Rattle.js_direct.proofs.FormFrames.{frame_waits, value_fine, value_passes, value_ready, value_then}
@@ -58,9 +56,8 @@ returns-in-Left-clause-comes c =
     let fs = trees_of c.args.site.now.codes.now.items in
     let w = c.args.site.now.widget in
     let s = c.args.store.now in
-    frame_waits fs w c.wait.result s c.operate_on.new.store 8 12 (operate c.args.op (seen w s.cells c.args.to.now.has) (seen w s.cells c.args.out.now) c.args.to.now.place.depth) (frame.Form (form.Write c.args.to.now.of c.args.to.now.place)) c.args.run.now c.operate_on.new.run c.wait.new.run c.in_ok-other.other (ended_as c.in_ok-other.other c.operate_on.new.out) (λ h. ended_as h c.operate_on.new.out)
-    c.in_ok-other.ensures.comes c.in-Left.is c.operate_on.ensures.kept (c.requires.held.0.0, c.requires.held.0.2) (omega arith) c.wait.ensures.left
-    (subst (λ (x : Reference). IfOk c.wait.result (λ h. c.wait.new.run.waits.items ≡ c.operate_on.new.run.waits.items ++ frame.Form (form.Write x c.args.to.now.place) ∷ [])) c.take_reference.ensures c.wait.ensures.waits) c.wait.ensures.next c.wait.ensures.units
+    frame_waits fs w c.wait_written.result s c.operate_on.new.store 8 12 (operate c.args.op (seen w s.cells c.args.to.now.has) (seen w s.cells c.args.out.now) c.args.to.now.place.depth) (frame.Form (form.Write c.args.to.now.of c.args.to.now.place)) c.args.run.now c.operate_on.new.run c.wait_written.new.run c.in_ok-other.other (ended_as c.in_ok-other.other c.operate_on.new.out) (λ h. ended_as h c.operate_on.new.out)
+    c.in_ok-other.ensures.comes c.in-Left.is c.operate_on.ensures.kept (c.requires.held.0.0, c.requires.held.0.2) (omega arith) c.wait_written.ensures.left c.wait_written.ensures.waits c.wait_written.ensures.next c.wait_written.ensures.units
 
 pub returns-in_default : goal.returns-in_default
 returns-in_default c =

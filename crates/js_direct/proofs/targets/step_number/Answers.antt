@@ -21,10 +21,10 @@ step_write-requires-clause-plain c =
     let fs = trees_of c.args.site.now.codes.now.items in
     let w = c.args.site.now.widget in
     let s = c.args.store.now in
-    c.in_ok-sum-in-Whole.ensures.plain
+    c.stepped-sum.ensures.plain
 
-pub returns-in_ok-sum-in-Whole-clause-comes : goal.returns-in_ok-sum-in-Whole-clause-comes
-returns-in_ok-sum-in-Whole-clause-comes c =
+pub returns-in-Whole-clause-comes : goal.returns-in-Whole-clause-comes
+returns-in-Whole-clause-comes c =
     let fs = trees_of c.args.site.now.codes.now.items in
     let w = c.args.site.now.widget in
     let s = c.args.store.now in
@@ -37,8 +37,8 @@ returns-in_ok-sum-in-Whole-clause-comes c =
     let near = to_z w64 (of_z w64 z) in
     let same : near ≡ z = search rules in
     IfOk-weaker c.step_write.result _ _
-    (λ how h. instead fs w s c.step_write.new.store 1 1 (step_write (meant_out c.in_ok-sum-in-Whole.sum) c.args.op (meaning.Num near) of pl) (p (meaning.to_number (seen w s.cells v))) c.args.run.now c.step_write.new.run how (ended_as how c.step_write.new.out) h
-    (λ r. ap (λ (x : WholeRead). p x (image fs r w s)) (read ∙ c.in-Whole.is) ∙ (ap (λ y. step_write (stepped c.args.op y) c.args.op (meaning.Num y) of pl (image fs r w s)) (sym same) ∙ ap (λ q. step_write q c.args.op (meaning.Num near) of pl (image fs r w s)) (sym c.in_ok-sum-in-Whole.ensures.value))) (omega arith))
+    (λ how h. instead fs w s c.step_write.new.store 1 1 (step_write (meant_out c.stepped-sum.result) c.args.op (meaning.Num near) of pl) (p (meaning.to_number (seen w s.cells v))) c.args.run.now c.step_write.new.run how (ended_as how c.step_write.new.out) h
+    (λ r. ap (λ (x : WholeRead). p x (image fs r w s)) (read ∙ c.in-Whole.is) ∙ (ap (λ y. step_write (stepped c.args.op y) c.args.op (meaning.Num y) of pl (image fs r w s)) (sym same) ∙ ap (λ q. step_write q c.args.op (meaning.Num near) of pl (image fs r w s)) (sym c.stepped-sum.ensures.value))) (omega arith))
     c.step_write.ensures.comes
 
 pub returns-in-NotNumber-clause-comes : goal.returns-in-NotNumber-clause-comes

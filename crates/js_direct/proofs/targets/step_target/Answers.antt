@@ -5,45 +5,20 @@ use Rattle.store_cells.specs.declared.value.Value.{Value}
 use Rattle.widget_meaning.specs.Values as meaning
 use Rattle.widget_meaning.specs.Plan.{and_then}
 use Rattle.widget_meaning.specs.Calls.{to_primitive}
-use Rattle.widget_meaning.specs.Expressions.{step_converted, step_number, step_target}
+use Rattle.widget_meaning.specs.Expressions.{step_converted, step_target}
 use Rattle.js_image.specs.Image.{image, seen}
 use Rattle.js_image.specs.Held.{IsFine}
 use Rattle.js_flow.specs.Views.{place_of, reference_of}
-use Rattle.js_forms.proofs.Values.{stays_primitive}
 use Rattle.js_direct.specs.Comes.{ended_as}
 use Rattle.js_direct.proofs.FormFrames.{instead}
 use Rattle.js_direct.proofs.targets.step_target.Goals as goal
 
-pub convert_step-requires : goal.convert_step-requires
-convert_step-requires c =
+pub step_has-requires-clause-value : goal.step_has-requires-clause-value
+step_has-requires-clause-value c =
     let fs = trees_of c.args.site.now.codes.now.items in
     let w = c.args.site.now.widget in
     let s = c.args.store.now in
-    c.requires.ready.2
-
-pub returns-then-is_object-clause-comes : goal.returns-then-is_object-clause-comes
-returns-then-is_object-clause-comes c =
-    let fs = trees_of c.args.site.now.codes.now.items in
-    let w = c.args.site.now.widget in
-    let s = c.args.store.now in
-    let has = c.set_value.new.out in
-    let same = c.set_value.ensures in
-    let pl = place_of w s.cells c.args.place.now in
-    let of = reference_of w s.cells c.args.of.now in
-    let d = c.args.place.now.depth in
-    let fine = subst (λ (v : Value). IsFine w s.cells v) (sym same) c.in_ok-has.ensures.fine in
-    IfOk-weaker c.convert_step.result _ _
-    (λ how h. instead fs w s s 4 4 (λ t. and_then (to_primitive (seen w s.cells has) d t) (step_converted c.args.op of pl)) (step_target c.args.op pl (meaning.Refers of)) c.args.run.now c.convert_step.new.run how (ended_as how c.convert_step.new.out)
-    (h fs w s fine c.requires.held.0 c.requires.held.1)
-    (λ r. ap (λ u. and_then (to_primitive u d (image fs r w s)) (step_converted c.args.op of pl)) (sym (c.in_ok-has.ensures.found r) ∙ ap (seen w s.cells) (sym same))) (omega arith))
-    c.convert_step.ensures
-
-pub step_number-requires-clause-primitive : goal.step_number-requires-clause-primitive
-step_number-requires-clause-primitive c =
-    let fs = trees_of c.args.site.now.codes.now.items in
-    let w = c.args.site.now.widget in
-    let s = c.args.store.now in
-    c.is_object.ensures.primitive c.if-is_object.false
+    subst (λ (v : Value). IsFine w s.cells v) (sym c.set_value.ensures) c.in_ok-has.ensures.fine
 
 pub returns-clause-comes : goal.returns-clause-comes
 returns-clause-comes c =
@@ -51,13 +26,11 @@ returns-clause-comes c =
     let w = c.args.site.now.widget in
     let s = c.args.store.now in
     let has = c.set_value.new.out in
-    let same = c.set_value.ensures in
     let pl = place_of w s.cells c.args.place.now in
     let of = reference_of w s.cells c.args.of.now in
     let d = c.args.place.now.depth in
-    let no = sym (c.is_object.ensures.object w s.cells) ∙ c.if-is_object.false in
-    IfOk-weaker c.step_number.result _ _
-    (λ how h. instead fs w s c.step_number.new.store 1 4 (step_number (meaning.to_number (seen w s.cells has)) c.args.op of pl) (step_target c.args.op pl (meaning.Refers of)) c.args.run.now c.step_number.new.run how (ended_as how c.step_number.new.out) h
-    (λ r. ap (λ u. and_then (to_primitive u d (image fs r w s)) (step_converted c.args.op of pl)) (sym (c.in_ok-has.ensures.found r) ∙ ap (seen w s.cells) (sym same))
-    ∙ ap (λ q. and_then q (step_converted c.args.op of pl)) (stays_primitive (seen w s.cells has) d (image fs r w s) no)) (omega arith))
-    c.step_number.ensures.comes
+    let k = step_converted c.args.op of pl in
+    IfOk-weaker c.step_has.result _ _
+    (λ how h. instead fs w s c.step_has.new.store 4 4 (λ t. and_then (to_primitive (seen w s.cells has) d t) k) (step_target c.args.op pl (meaning.Refers of)) c.args.run.now c.step_has.new.run how (ended_as how c.step_has.new.out) h
+    (λ r. ap (λ u. and_then (to_primitive u d (image fs r w s)) k) (sym (c.in_ok-has.ensures.found r) ∙ ap (seen w s.cells) (sym c.set_value.ensures))) (omega arith))
+    c.step_has.ensures.comes

@@ -1,5 +1,4 @@
 use Rattle.std.proofs.Common.{sym, ◌∙◌, arith}
-use Rattle.std.proofs.lemmas.Result.{IfOk-weaker}
 use Rattle.js_names.specs.Code.{trees_of}
 use Rattle.widget_meaning.specs.Values as meaning
 use Rattle.widget_meaning.specs.Plan.{Ret}
