@@ -109,6 +109,7 @@ fn arguments_on(
 }
 
 // An argument of a call, none where all are there.
+#[inline(always)]
 fn argument_left(codes: &Vec<Code>, place: &Place, call: ExprId, n: usize) -> Option<ExprId>
     requires code { place.now.code < length (trees_of codes.now.items) }
     requires call { IsExpr (forest_at (trees_of codes.now.items) place.now.code) call }
@@ -140,6 +141,7 @@ fn unfinished(
 }
 
 // All arguments are there: the function of a call, and what it is a method of.
+#[inline(always)]
 fn set_callee(
     site: &Site,
     store: &Store,
@@ -164,6 +166,7 @@ fn set_callee(
 }
 
 // What a call of a reference is a method of.
+#[inline(always)]
 fn base_of(of: Reference) -> Option<Value>
     ensures base { (w : ℕ) (s : Cells) → option_map (seen w s.cells) result ≡ expressions.base_of (reference_of w s.cells of) }
     ensures fine { (w : ℕ) (s : Cells) → FineReference w s.cells of → IfSome result (IsFine w s.cells) }
@@ -251,6 +254,7 @@ fn enter_on(
 }
 
 // The body of a function that was entered.
+#[inline(always)]
 fn body_on(
     site: &Site,
     run: &mut Run,
@@ -275,6 +279,7 @@ fn body_on(
 }
 
 // How a call ends, by how its body ended.
+#[inline(always)]
 fn call_end(how: Ended, out: &mut Value) -> Ended
     requires { IsEnd how }
     ensures ended { IsEnd result }
