@@ -13,5 +13,6 @@ mod properties;
 mod run;
 mod statements;
 mod targets;
+mod wholes;
 
 pub use going::{go, is_direct};

@@ -18,6 +18,7 @@ ghost use Rattle.js_direct.specs.Prefixes.{is_plain_prefix};
 
 use crate::forms::eval_on;
 use crate::run::{Ended, Run, Site, clear, handed, stop, take_value, wait};
+use crate::wholes::of_wholes;
 use code_units::Memory;
 use js_flow::{Completion, Flow, FormFrame, Frame, Job, Place};
 use js_forms::take_form;
@@ -102,6 +103,10 @@ pub(crate) fn operate_on(
         run.old run.new how out.new) }
     ensures kept { Kept (trees_of site.now.codes.now.items) site.now.widget store.old store.new }
 {
+    if let Some(value) = of_wholes(op, left, out) {
+        *out = value;
+        return Ok(Ended::Is);
+    }
     if is_ready(op, left, out) {
         let found = binary(site.alloc, op, left, out)?;
         return result_on(site, run, store, found, out);

@@ -4,7 +4,7 @@ use Rattle.widget_meaning.specs.Expressions.{operate, result}
 use Rattle.js_image.specs.Image.{image, seen}
 use Rattle.js_values.specs.Operands.{meant_out}
 use Rattle.js_names.specs.Code.{trees_of}
-use Rattle.js_direct.proofs.FormFrames.{instead}
+use Rattle.js_direct.proofs.FormFrames.{gives_value, instead}
 use Rattle.js_direct.proofs.Values.{operated}
 use Rattle.js_direct.proofs.operators.operate_on.Goals as goal
 
@@ -21,3 +21,11 @@ returns-then-is_ready-clause-comes c =
     (λ r. operated c.args.op w old.cells a b c.args.depth (image fs r w old) ready.0 ready.1
     ∙ sym (ap (λ o. result o (image fs r w old)) (c.in_ok-found.ensures.value w old.cells c.requires.held.0 c.requires.held.1))) (omega arith))
     c.result_on.ensures.comes
+
+pub returns-in-Some-clause-comes : goal.returns-in-Some-clause-comes
+returns-in-Some-clause-comes c =
+    let fs = trees_of c.args.site.now.codes.now.items in
+    let w = c.args.site.now.widget in
+    let s = c.args.store.now in
+    gives_value fs w s s 8 (operate c.args.op (seen w s.cells c.args.left.now) (seen w s.cells c.args.out.now) c.args.depth) c.args.run.now c.in-Some.value c.requires.ready.2
+    (λ r. c.in-Some.ensures.gives w s.cells c.args.depth (image fs r w s)) (c.in-Some.ensures.fine w s.cells) (omega arith)

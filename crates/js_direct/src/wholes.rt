@@ -1,0 +1,94 @@
+//! Operators on two whole numbers, as most operands are: their results are made here, without the type that
+//! tells every outcome.
+ghost use Rattle.std.specs.Prelude.{◌≡◌, ◌+ℤ◌, ◌-ℤ◌, ℕ, List, IfSome};
+ghost use Rattle.store_cells.specs.Cells.{PlainCell};
+ghost use Rattle.widget_meaning.specs.OwnState.{State};
+ghost use Rattle.widget_meaning.specs.Operators as operators;
+ghost use Rattle.widget_meaning.specs.Expressions as expressions;
+ghost use Rattle.widget_meaning.specs.Plan.{Ret};
+ghost use Rattle.widget_meaning.specs.Values as meaning;
+ghost use Rattle.js_image.specs.Image.{seen};
+ghost use Rattle.js_image.specs.Held.{IsFine};
+
+use js_tree::BinOp;
+use object_store::{Number, Value};
+
+// Past the largest number of the language.
+const LIMIT: u64 = 1 << 53;
+
+/// What an operator gives on two whole numbers, where it is a number or a truth value that is soon found;
+/// none where it is looked for otherwise.
+#[inline(always)]
+pub(crate) fn of_wholes(op: BinOp, left: &Value, right: &Value) -> Option<Value>
+    ensures gives { IfSome result (λ v. (w : ℕ) (cells : List PlainCell) (d : ℕ) (s : State)
+        → expressions.operate op (seen w cells left.now) (seen w cells right.now) d s
+        ≡ Ret (meaning.Is (seen w cells v)) s) }
+    ensures fine { IfSome result (λ v. (w : ℕ) (cells : List PlainCell) → IsFine w cells v) }
+{
+    let x = whole_in(left)?;
+    let y = whole_in(right)?;
+    on_wholes(op, x, y)
+}
+
+// The whole number that a value is.
+#[inline(always)]
+fn whole_in(value: &Value) -> Option<i64>
+    ensures { IfSome result (λ z. value.now ≡ Value.Num (Number.Whole z)) }
+{
+    match value {
+        Value::Num(Number::Whole(z)) => Some(*z),
+        _ => None,
+    }
+}
+
+fn on_wholes(op: BinOp, x: i64, y: i64) -> Option<Value>
+    ensures gives { IfSome result (λ v. (w : ℕ) (cells : List PlainCell) (d : ℕ) (s : State)
+        → expressions.operate op (meaning.Num x) (meaning.Num y) d s ≡ Ret (meaning.Is (seen w cells v)) s) }
+    ensures fine { IfSome result (λ v. (w : ℕ) (cells : List PlainCell) → IsFine w cells v) }
+{
+    match op {
+        BinOp::Add => sum(x, y),
+        BinOp::Sub => difference(x, y),
+        BinOp::Less => Some(Value::Bool(x < y)),
+        BinOp::Greater => Some(Value::Bool(y < x)),
+        BinOp::LessEqual => Some(Value::Bool(!(y < x))),
+        BinOp::GreaterEqual => Some(Value::Bool(!(x < y))),
+        BinOp::Same => Some(Value::Bool(x == y)),
+        BinOp::NotSame => Some(Value::Bool(x != y)),
+        _ => None,
+    }
+}
+
+// The sum of two numbers, where it is a number.
+fn sum(x: i64, y: i64) -> Option<Value>
+    ensures { IfSome result (λ v. (v ≡ Value.Num (Number.Whole (x +ℤ y)))
+        × (operators.number (x +ℤ y) ≡ operators.Gives (meaning.Num (x +ℤ y)))) }
+{
+    match x.checked_add(y) {
+        Some(z) => {
+            if z.unsigned_abs() < LIMIT {
+                Some(Value::Num(Number::Whole(z)))
+            } else {
+                None
+            }
+        }
+        None => None,
+    }
+}
+
+// The difference of two numbers, where it is a number.
+fn difference(x: i64, y: i64) -> Option<Value>
+    ensures { IfSome result (λ v. (v ≡ Value.Num (Number.Whole (x -ℤ y)))
+        × (operators.number (x -ℤ y) ≡ operators.Gives (meaning.Num (x -ℤ y)))) }
+{
+    match x.checked_sub(y) {
+        Some(z) => {
+            if z.unsigned_abs() < LIMIT {
+                Some(Value::Num(Number::Whole(z)))
+            } else {
+                None
+            }
+        }
+        None => None,
+    }
+}
