@@ -1,5 +1,5 @@
 //! Calls, carried out in place.
-ghost use Rattle.std.specs.Prelude.{◌≡◌, ℕ, suc, ◌<◌, List, [], IfOk, IfSome, OnOk, length};
+ghost use Rattle.std.specs.Prelude.{◌≡◌, ℕ, suc, ◌<◌, ◌++◌, ◌∷◌, List, [], IfOk, IfSome, OnOk, length};
 ghost use Rattle.std.specs.Option.{option_map};
 ghost use Rattle.js_tree.specs.Forest.{Forest, IsExpr, expr_at, fun_at};
 ghost use Rattle.store_cells.specs.Cells.{Cells};
@@ -60,9 +60,21 @@ pub(crate) fn call_on(
     let mut of = Reference::Found(Value::Undefined);
     match target_on(site, run, store, to, place, deep, &mut of, out)? {
         Ended::Is => arguments_on(site, run, store, id, of, place, deep, out),
-        Ended::Left => wait(run, Frame::Call(CallFrame::Callee(id, *place))),
+        Ended::Left => wait_callee(run, id, place),
         other => Ok(other),
     }
+}
+
+// A call waits for its target.
+#[cold]
+#[inline(never)]
+fn wait_callee(run: &mut Run, id: ExprId, place: &Place) -> Result<Ended, Memory>
+    ensures left { IfOk result (λ how. how ≡ Ended.Left) }
+    ensures waits { IfOk result (λ how. run.new.waits.items ≡ run.old.waits.items ++ Frame.Call (CallFrame.Callee id place.now) ∷ []) }
+    ensures next { IfOk result (λ how. run.new.next ≡ run.old.next) }
+    ensures units { IfOk result (λ how. run.new.units ≡ run.old.units) }
+{
+    wait(run, Frame::Call(CallFrame::Callee(id, *place)))
 }
 
 // The arguments of a call from left to right, and then the call.
@@ -99,7 +111,7 @@ fn arguments_on(
             Ended::Is => call.args.push(take_value(out))?,
             Ended::Left => {
                 let a = unfinished(site.alloc, of, call, (id, n), place)?;
-                return wait(run, Frame::Call(CallFrame::Argument(a)));
+                return wait_argument(run, a);
             }
             other => return Ok(other),
         }
@@ -138,6 +150,18 @@ fn unfinished(
         place: *place,
     };
     Ok(Box::new(alloc, a)?)
+}
+
+// It waits.
+#[cold]
+#[inline(never)]
+fn wait_argument(run: &mut Run, a: Box<Argument>) -> Result<Ended, Memory>
+    ensures left { IfOk result (λ how. how ≡ Ended.Left) }
+    ensures waits { IfOk result (λ how. run.new.waits.items ≡ run.old.waits.items ++ Frame.Call (CallFrame.Argument a) ∷ []) }
+    ensures next { IfOk result (λ how. run.new.next ≡ run.old.next) }
+    ensures units { IfOk result (λ how. run.new.units ≡ run.old.units) }
+{
+    wait(run, Frame::Call(CallFrame::Argument(a)))
 }
 
 // All arguments are there: the function of a call, and what it is a method of.
@@ -273,9 +297,21 @@ fn body_on(
     ensures kept { Kept (trees_of site.now.codes.now.items) site.now.widget store.old store.new }
 {
     match block_on(site, run, store, Block::Body(fun), place, deep, out)? {
-        Ended::Left => wait(run, Frame::Call(CallFrame::CallEnd)),
+        Ended::Left => wait_end(run),
         how => Ok(call_end(how, out)),
     }
+}
+
+// A call waits for the end of its body.
+#[cold]
+#[inline(never)]
+fn wait_end(run: &mut Run) -> Result<Ended, Memory>
+    ensures left { IfOk result (λ how. how ≡ Ended.Left) }
+    ensures waits { IfOk result (λ how. run.new.waits.items ≡ run.old.waits.items ++ Frame.Call CallFrame.CallEnd ∷ []) }
+    ensures next { IfOk result (λ how. run.new.next ≡ run.old.next) }
+    ensures units { IfOk result (λ how. run.new.units ≡ run.old.units) }
+{
+    wait(run, Frame::Call(CallFrame::CallEnd))
 }
 
 // How a call ends, by how its body ended.

@@ -50,8 +50,8 @@ returns-in-Left-clause-comes c =
     let fs = trees_of c.args.site.now.codes.now.items in
     let w = c.args.site.now.widget in
     waits_there fs w c.args.store.now c.arguments.store c.args.run.now c.arguments.run _ _ c.arguments.invariant.argued c.in-Some.e c.in-Some.ensures.2
-    c.wait.result c.eval_on.new.store c.eval_on.new.run c.wait.new.run c.in_ok-other.other (ended_as c.in_ok-other.other c.eval_on.new.out) (λ how. ended_as how c.eval_on.new.out) c.in_ok-a-in-Left.a
-    c.in_ok-other.ensures.comes c.in-Left.is c.eval_on.ensures.kept c.in_ok-a-in-Left.ensures c.wait.ensures.left c.wait.ensures.waits c.wait.ensures.next c.wait.ensures.units
+    c.wait_argument.result c.eval_on.new.store c.eval_on.new.run c.wait_argument.new.run c.in_ok-other.other (ended_as c.in_ok-other.other c.eval_on.new.out) (λ how. ended_as how c.eval_on.new.out) c.in_ok-a-in-Left.a
+    c.in_ok-other.ensures.comes c.in-Left.is c.eval_on.ensures.kept c.in_ok-a-in-Left.ensures c.wait_argument.ensures.left c.wait_argument.ensures.waits c.wait_argument.ensures.next c.wait_argument.ensures.units
 
 pub returns-in_default-2 : goal.returns-in_default-2
 returns-in_default-2 c =

@@ -19,9 +19,9 @@ returns-in-Left-clause-comes c =
     let old = c.args.store.now in
     let new = c.block_on.new.store in
     let p : State → Plan = block_at fs w old.cells (block.Body c.args.fun) 0 c.args.place.now in
-    frame_waits fs w c.wait.result old new 1 4 p (frame.Call call.CallEnd) c.args.run.now c.block_on.new.run c.wait.new.run c.in_ok-how.how
+    frame_waits fs w c.wait_end.result old new 1 4 p (frame.Call call.CallEnd) c.args.run.now c.block_on.new.run c.wait_end.new.run c.in_ok-how.how
     (ended_as c.in_ok-how.how c.block_on.new.out) (λ how. ended_as how c.block_on.new.out)
-    c.in_ok-how.ensures.comes c.in-Left.is c.block_on.ensures.kept tt (omega arith) c.wait.ensures.left c.wait.ensures.waits c.wait.ensures.next c.wait.ensures.units
+    c.in_ok-how.ensures.comes c.in-Left.is c.block_on.ensures.kept tt (omega arith) c.wait_end.ensures.left c.wait_end.ensures.waits c.wait_end.ensures.next c.wait_end.ensures.units
 
 pub returns-in_default : goal.returns-in_default
 returns-in_default c =

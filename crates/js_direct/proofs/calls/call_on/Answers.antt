@@ -54,9 +54,9 @@ returns-in-Left-clause-comes c =
     let old = c.args.store.now in
     let mid = c.target_on.new.store in
     let p : State → Plan = λ s. Do (job_of fs w old.cells (job.Target c.args.to c.args.place.now)) s Ret in
-    frame_waits fs w c.wait.result old mid 0 30 p (frame.Call (call.Callee c.args.id c.args.place.now)) c.args.run.now c.target_on.new.run c.wait.new.run c.in_ok-other.other
+    frame_waits fs w c.wait_callee.result old mid 0 30 p (frame.Call (call.Callee c.args.id c.args.place.now)) c.args.run.now c.target_on.new.run c.wait_callee.new.run c.in_ok-other.other
     (target_as c.in_ok-other.other c.target_on.new.of c.target_on.new.out) (λ how. ended_as how c.target_on.new.out)
-    c.in_ok-other.ensures.comes c.in-Left.is c.target_on.ensures.kept c.requires.held.0 (omega arith) c.wait.ensures.left c.wait.ensures.waits c.wait.ensures.next c.wait.ensures.units
+    c.in_ok-other.ensures.comes c.in-Left.is c.target_on.ensures.kept c.requires.held.0 (omega arith) c.wait_callee.ensures.left c.wait_callee.ensures.waits c.wait_callee.ensures.next c.wait_callee.ensures.units
 
 pub returns-in_default : goal.returns-in_default
 returns-in_default c =
