@@ -19,7 +19,7 @@ use Rattle.widget_meaning.specs.Calls.{to_primitive}
 use Rattle.widget_meaning.specs.Expressions.{expression, step_converted, target}
 use Rattle.widget_meaning.specs.Meaning.{body}
 use Rattle.widget_meaning.proofs.Runs.{and_then_ret}
-use Rattle.js_image.specs.Image.{Rest, image, seen}
+use Rattle.js_image.specs.Image.{image, seen}
 use Rattle.js_image.specs.Held.{IsFine}
 use Rattle.js_values.specs.Operands.{IsPrimitive, plain}
 use Rattle.js_flow.specs.declared.frame.Frame.{Frame}

@@ -25,6 +25,7 @@ use js_tree::ExprId;
 use object_store::{CellId, NewCell, Store, Value};
 
 /// An array literal.
+#[cycle(direct)]
 pub(crate) fn array_on(
     site: &Site,
     run: &mut Run,
@@ -50,6 +51,7 @@ pub(crate) fn array_on(
 }
 
 // The elements of an array that is there.
+#[cycle(direct)]
 fn elements_on(
     site: &Site,
     run: &mut Run,
@@ -82,6 +84,7 @@ fn elements_on(
 }
 
 // One element: where it is a value, it is put into the array.
+#[cycle(direct)]
 fn element_on(
     site: &Site,
     run: &mut Run,

@@ -37,6 +37,7 @@ use std::alloc::Global;
 
 /// A call, after its unit.
 #[inline(never)]
+#[cycle(direct)]
 pub(crate) fn call_on(
     site: &Site,
     run: &mut Run,
@@ -79,6 +80,7 @@ fn wait_callee(run: &mut Run, id: ExprId, place: &Place) -> Result<Ended, Memory
 
 // The arguments of a call from left to right, and then the call.
 #[inline(never)]
+#[cycle(direct)]
 fn arguments_on(
     site: &Site,
     run: &mut Run,
@@ -203,6 +205,7 @@ fn base_of(of: Reference) -> Option<Value>
 
 /// A call that has its function and its arguments, after its unit.
 #[inline(always)]
+#[cycle(direct)]
 pub(crate) fn invoke_on(
     site: &Site,
     run: &mut Run,
@@ -252,6 +255,7 @@ fn native_on(alloc: Global, run: &mut Run, call: Call, which: NativeId) -> Resul
 
 // A function of the widget, which runs one deeper.
 #[inline(never)]
+#[cycle(direct)]
 fn enter_on(
     site: &Site,
     run: &mut Run,
@@ -279,6 +283,7 @@ fn enter_on(
 
 // The body of a function that was entered.
 #[inline(always)]
+#[cycle(direct)]
 fn body_on(
     site: &Site,
     run: &mut Run,

@@ -21,7 +21,7 @@ use crate::literals::function_on;
 use crate::objects::object_on;
 use crate::operators::{and_on, binary_on, choose_on, or_on, unary_on};
 use crate::properties::{dot_on, sub_on};
-use crate::run::{Ended, Run, Site, handed};
+use crate::run::{Ended, Run, Site, handed, leave_job};
 use crate::targets::{assign_on, step_on};
 use code_units::Memory;
 use js_flow::{Flow, Job, Place};
@@ -31,6 +31,7 @@ use js_tree::{Expr, ExprId, UnOp};
 use object_store::{Store, Value};
 
 /// An expression, before its unit.
+#[cycle(direct)]
 pub(crate) fn eval_on(
     site: &Site,
     run: &mut Run,
@@ -49,11 +50,16 @@ pub(crate) fn eval_on(
     ensures paid { IfOk result (λ how. 0 < run.old.units → 0 < deep → run.new.units < run.old.units) }
     ensures kept { Kept (trees_of site.now.codes.now.items) site.now.widget store.old store.new }
 {
-    Err(Memory)
+    if run.units == 0 || deep == 0 {
+        return leave_job(run, Job::Eval(id, *place));
+    }
+    run.units -= 1;
+    form_on(site, run, store, id, place, deep - 1, out)
 }
 
 /// An expression, after its unit.
 #[inline(always)]
+#[cycle(direct)]
 pub(crate) fn form_on(
     site: &Site,
     run: &mut Run,
@@ -87,6 +93,7 @@ pub(crate) fn form_on(
 
 // The rarer forms.
 #[inline(never)]
+#[cycle(direct)]
 fn form_more(
     site: &Site,
     run: &mut Run,
@@ -118,6 +125,7 @@ fn form_more(
 }
 
 // A prefix operator: `delete` takes a target, and is left to frames.
+#[cycle(direct)]
 fn unary_form(
     site: &Site,
     run: &mut Run,

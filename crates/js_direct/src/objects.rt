@@ -26,6 +26,7 @@ use js_tree::ExprId;
 use object_store::{CellId, HostEntry, NewCell, Store, Value};
 
 /// An object literal.
+#[cycle(direct)]
 pub(crate) fn object_on(
     site: &Site,
     run: &mut Run,
@@ -53,6 +54,7 @@ pub(crate) fn object_on(
 }
 
 // The properties of an object that is there.
+#[cycle(direct)]
 fn properties_on(
     site: &Site,
     run: &mut Run,
@@ -85,6 +87,7 @@ fn properties_on(
 }
 
 // One property: where it is a value, it is put into the object.
+#[cycle(direct)]
 fn property_part_on(
     site: &Site,
     run: &mut Run,

@@ -29,6 +29,7 @@ use object_store::{Store, Value};
 
 /// An operator on two expressions.
 #[inline(never)]
+#[cycle(direct)]
 pub(crate) fn binary_on(
     site: &Site,
     run: &mut Run,
@@ -57,6 +58,7 @@ pub(crate) fn binary_on(
 }
 
 // The right operand of the left one that is at the place.
+#[cycle(direct)]
 fn right_on(
     site: &Site,
     run: &mut Run,
@@ -250,6 +252,7 @@ fn made_on(
 }
 
 /// `&&`.
+#[cycle(direct)]
 pub(crate) fn and_on(
     site: &Site,
     run: &mut Run,
@@ -277,6 +280,7 @@ pub(crate) fn and_on(
 }
 
 // The right of `&&`, where the left one, which is at the place, does not decide.
+#[cycle(direct)]
 fn and_right(
     site: &Site,
     run: &mut Run,
@@ -303,6 +307,7 @@ fn and_right(
 }
 
 /// `||`.
+#[cycle(direct)]
 pub(crate) fn or_on(
     site: &Site,
     run: &mut Run,
@@ -330,6 +335,7 @@ pub(crate) fn or_on(
 }
 
 // The right of `||`, where the left one, which is at the place, does not decide.
+#[cycle(direct)]
 fn or_right(
     site: &Site,
     run: &mut Run,
@@ -356,6 +362,7 @@ fn or_right(
 }
 
 /// `? :`.
+#[cycle(direct)]
 pub(crate) fn choose_on(
     site: &Site,
     run: &mut Run,
@@ -387,6 +394,7 @@ pub(crate) fn choose_on(
 }
 
 // What the condition that is at the place chooses.
+#[cycle(direct)]
 fn chosen_on(
     site: &Site,
     run: &mut Run,
@@ -415,6 +423,7 @@ fn chosen_on(
 }
 
 /// A prefix operator that takes a value.
+#[cycle(direct)]
 pub(crate) fn unary_on(
     site: &Site,
     run: &mut Run,

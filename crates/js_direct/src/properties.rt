@@ -24,6 +24,7 @@ use std::alloc::Global;
 
 /// A property by its name.
 #[inline(never)]
+#[cycle(direct)]
 pub(crate) fn dot_on(
     site: &Site,
     run: &mut Run,
@@ -98,6 +99,7 @@ fn property_on(
 }
 
 /// A property by a subscript.
+#[cycle(direct)]
 pub(crate) fn sub_on(
     site: &Site,
     run: &mut Run,
@@ -125,6 +127,7 @@ pub(crate) fn sub_on(
 }
 
 // The subscript of the base that is at the place.
+#[cycle(direct)]
 fn subscript_on(
     site: &Site,
     run: &mut Run,

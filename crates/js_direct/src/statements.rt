@@ -50,6 +50,7 @@ pub(crate) enum Part {
 }
 
 /// A statement, before its unit.
+#[cycle(direct)]
 pub(crate) fn exec_on(
     site: &Site,
     run: &mut Run,
@@ -68,10 +69,15 @@ pub(crate) fn exec_on(
     ensures paid { IfOk result (λ how. 0 < run.old.units → 0 < deep → run.new.units < run.old.units) }
     ensures kept { Kept (trees_of site.now.codes.now.items) site.now.widget store.old store.new }
 {
-    Err(Memory)
+    if run.units == 0 || deep == 0 {
+        return leave_job(run, Job::Exec(id, *place));
+    }
+    run.units -= 1;
+    begun_on(site, run, store, id, place, deep - 1, out)
 }
 
 // The same, which has its unit.
+#[cycle(direct)]
 fn begun_on(
     site: &Site,
     run: &mut Run,
@@ -94,6 +100,7 @@ fn begun_on(
 }
 
 // The same by its node.
+#[cycle(direct)]
 fn statement_on(
     site: &Site,
     run: &mut Run,
@@ -165,6 +172,7 @@ fn by_frames(
 }
 
 // An expression, with whose value a statement ends.
+#[cycle(direct)]
 fn ending_on(
     site: &Site,
     run: &mut Run,
@@ -221,6 +229,7 @@ fn ended_after(after: After, out: &mut Value) -> Ended
 }
 
 // An `if`.
+#[cycle(direct)]
 fn if_on(
     site: &Site,
     run: &mut Run,
@@ -249,6 +258,7 @@ fn if_on(
 }
 
 // A branch, by the value at the place.
+#[cycle(direct)]
 fn branch_on(
     site: &Site,
     run: &mut Run,
@@ -277,6 +287,7 @@ fn branch_on(
 }
 
 // A `for` whose first part declares variables.
+#[cycle(direct)]
 fn declared_on(
     site: &Site,
     run: &mut Run,
@@ -303,6 +314,7 @@ fn declared_on(
 }
 
 // A `for` whose first part is a list of expressions.
+#[cycle(direct)]
 fn listed_on(
     site: &Site,
     run: &mut Run,
@@ -329,6 +341,7 @@ fn listed_on(
 }
 
 // The test of a loop, and then its passes.
+#[cycle(direct)]
 fn again_on(
     site: &Site,
     run: &mut Run,
@@ -353,6 +366,7 @@ fn again_on(
 }
 
 // The test of a loop: none where another pass is next.
+#[cycle(direct)]
 fn test_on(
     site: &Site,
     run: &mut Run,
@@ -393,6 +407,7 @@ fn test_at(tree: &Tree, id: StmtId) -> Option<ExprId>
 }
 
 // The same of a test.
+#[cycle(direct)]
 fn tested_on(
     site: &Site,
     run: &mut Run,
@@ -432,6 +447,7 @@ fn over(out: &mut Value) -> Option<Ended>
 }
 
 /// Passes of a loop, before the unit of the first.
+#[cycle(direct)]
 pub(crate) fn passes_on(
     site: &Site,
     run: &mut Run,
@@ -459,6 +475,7 @@ pub(crate) fn passes_on(
 }
 
 // A pass: none where another one is next.
+#[cycle(direct)]
 fn pass_on(
     site: &Site,
     run: &mut Run,
@@ -489,6 +506,7 @@ fn pass_on(
 }
 
 // The last part of a loop, and then its test; a `while` and a `do` have no last part.
+#[cycle(direct)]
 fn next_on(
     site: &Site,
     run: &mut Run,
@@ -516,6 +534,7 @@ fn next_on(
 }
 
 // The expressions of a part of a `for`.
+#[cycle(direct)]
 fn expressions_on(
     site: &Site,
     run: &mut Run,
@@ -568,6 +587,7 @@ fn waiting_in(part: Part, id: StmtId, n: usize, place: &Place) -> StatementFrame
 }
 
 // Declarations, of which those with a first value get it.
+#[cycle(direct)]
 fn declarations_on(
     site: &Site,
     run: &mut Run,
@@ -642,6 +662,7 @@ fn declare(site: &Site, store: &mut Store, id: StmtId, at: usize, place: &Place,
 }
 
 /// The statements of a block, which costs nothing.
+#[cycle(direct)]
 pub(crate) fn block_on(
     site: &Site,
     run: &mut Run,

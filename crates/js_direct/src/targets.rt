@@ -25,7 +25,7 @@ ghost use Rattle.js_direct.specs.Comes.{Comes, IsReady, Reaches};
 use crate::forms::{eval_on, form_on};
 use crate::operators::{is_object, operate_on};
 use crate::properties::{is_nothing, name_of};
-use crate::run::{Ended, Run, Site, set_next, set_value, stop, take_value, throw, wait};
+use crate::run::{Ended, Run, Site, leave_job, set_next, set_value, stop, take_value, throw, wait};
 use code_units::{Memory, Text, WholeRead};
 use js_flow::{Assigning, CallFrame, Completion, FormFrame, Frame, Job, Next, Place, Reference};
 use js_image::{Fault, StopCause, Written, assign, get, put, variable};
@@ -36,6 +36,7 @@ use object_store::{Number, Store, Value};
 use std::mem;
 
 /// A target, before its unit: its reference at a place.
+#[cycle(direct)]
 pub(crate) fn target_on(
     site: &Site,
     run: &mut Run,
@@ -55,10 +56,16 @@ pub(crate) fn target_on(
     ensures paid { IfOk result (λ how. 0 < run.old.units → 0 < deep → run.new.units < run.old.units) }
     ensures kept { Kept (trees_of site.now.codes.now.items) site.now.widget store.old store.new }
 {
-    Err(Memory)
+    // (use crate::run::leave_job)
+    if run.units == 0 || deep == 0 {
+        return leave_job(run, Job::Target(id, *place));
+    }
+    run.units -= 1;
+    target_of(site, run, store, id, place, deep - 1, of, out)
 }
 
 // The same, which has its unit.
+#[cycle(direct)]
 fn target_of(
     site: &Site,
     run: &mut Run,
@@ -112,6 +119,7 @@ fn take_reference(of: &mut Reference) -> Reference
 }
 
 // A property by its name: the base is evaluated.
+#[cycle(direct)]
 fn dot_target(
     site: &Site,
     run: &mut Run,
@@ -165,6 +173,7 @@ fn refer_on(
 }
 
 // A property by its subscript: the base is evaluated, and then the subscript.
+#[cycle(direct)]
 fn sub_target(
     site: &Site,
     run: &mut Run,
@@ -193,6 +202,7 @@ fn sub_target(
 }
 
 // The subscript of the base at the place.
+#[cycle(direct)]
 fn index_target(
     site: &Site,
     run: &mut Run,
@@ -218,6 +228,7 @@ fn index_target(
 }
 
 // The same with the base at a place of its own.
+#[cycle(direct)]
 fn index_of_target(
     site: &Site,
     run: &mut Run,
@@ -270,6 +281,7 @@ fn refer_by(
 
 // An expression that stands where a target may be; it has the unit of the target.
 #[inline(never)]
+#[cycle(direct)]
 fn found_target(
     site: &Site,
     run: &mut Run,
@@ -381,6 +393,7 @@ fn put_on(
 }
 
 /// An assignment, after its unit.
+#[cycle(direct)]
 pub(crate) fn assign_on(
     site: &Site,
     run: &mut Run,
@@ -408,6 +421,7 @@ pub(crate) fn assign_on(
 }
 
 // An assignment that computes nothing.
+#[cycle(direct)]
 fn assign_plain(
     site: &Site,
     run: &mut Run,
@@ -440,6 +454,7 @@ fn assign_plain(
 }
 
 // An assignment to a variable, whose target has its unit.
+#[cycle(direct)]
 fn assign_name(
     site: &Site,
     run: &mut Run,
@@ -506,6 +521,7 @@ fn write_name(
 
 // An assignment to any target.
 #[inline(never)]
+#[cycle(direct)]
 fn assign_any(
     site: &Site,
     run: &mut Run,
@@ -531,6 +547,7 @@ fn assign_any(
 }
 
 // The same with a place for the reference of the target.
+#[cycle(direct)]
 fn assign_reached(
     site: &Site,
     run: &mut Run,
@@ -573,6 +590,7 @@ fn wait_target(run: &mut Run, op: AssignOp, e: ExprId, place: &Place) -> Result<
 }
 
 // The right side of an assignment to a reference.
+#[cycle(direct)]
 fn assign_value(
     site: &Site,
     run: &mut Run,
@@ -601,6 +619,7 @@ fn assign_value(
 }
 
 // The right side, which is written as it is.
+#[cycle(direct)]
 fn assign_written(
     site: &Site,
     run: &mut Run,
@@ -667,6 +686,7 @@ fn write_value(
 
 // The right side of an assignment that computes: what the target has is read first.
 #[inline(never)]
+#[cycle(direct)]
 fn assign_computed(
     site: &Site,
     run: &mut Run,
@@ -699,6 +719,7 @@ fn assign_computed(
 }
 
 // The right side, with what the target has.
+#[cycle(direct)]
 fn assign_with(
     site: &Site,
     run: &mut Run,
@@ -816,6 +837,7 @@ fn compute_by(
 }
 
 /// A step, after its unit.
+#[cycle(direct)]
 pub(crate) fn step_on(
     site: &Site,
     run: &mut Run,
@@ -849,6 +871,7 @@ pub(crate) fn step_on(
 
 // A step of any target.
 #[inline(never)]
+#[cycle(direct)]
 fn step_any(
     site: &Site,
     run: &mut Run,
@@ -873,6 +896,7 @@ fn step_any(
 }
 
 // The same with a place for the reference of the target.
+#[cycle(direct)]
 fn step_reached(
     site: &Site,
     run: &mut Run,
