@@ -8,7 +8,7 @@ use Rattle.store_cells.specs.Lists.{changed}
 use Rattle.store_cells.specs.Cells.{Cells, PlainCell, holder, is_bunch, is_raw, is_scope, raw_cell}
 use Rattle.store_cells.specs.Arrays.{stored, without, written}
 use Rattle.store_cells.specs.Born.{raw_place}
-use Rattle.object_store.specs.Calls.{IsCharged, IsMade, IsPut, IsRemoved, born, put_done, remove_done, unit_cost, var_done}
+use Rattle.object_store.specs.Calls.{Adds, IsCharged, IsMade, IsPut, IsRemoved, born, cells_for, put_done, remove_done, slots_of, unit_cost, var_done}
 use Rattle.object_store.specs.Owned.{is_of, is_own_scope}
 use Rattle.object_store.specs.Grows.{Grows}
 use Rattle.object_store.specs.declared.store.NewCell.{NewCell}
@@ -110,9 +110,12 @@ module _ (s : Cells) (w : ℕ) where
       by None = grows_same w s.cells
       by (Some h) = grows_changed w (written name u) (λ c. refl) (λ c. refl) s.cells h
 
+  pub adds_grow : {E : Type 0} (v : ℕ) (more : List PlainCell) (c n : ℕ) (r : Result ℕ E) (t : Cells) → IfOk r (λ id. Adds s t v id more c n) → OnErr r (t ≡ s) → Grows w s.cells t.cells
+  adds_grow v more c n (Ok id) t ok err = subst (λ (d : Cells). Grows w s.cells d.cells) (sym ok.done) (grows_more w s.cells more)
+  adds_grow v more c n (Err x) t ok err = grows_back w s t err
+
   pub make_grows : {E : Type 0} (v : ℕ) (n : NewCell) (r : Result ℕ E) (t : Cells) → IfOk r (λ id. IsMade s t v id n) → OnErr r (t ≡ s) → Grows w s.cells t.cells
-  make_grows v n (Ok id) t ok err = subst (λ (d : Cells). Grows w s.cells d.cells) (sym ok.done) (grows_more w s.cells (born s.cells v n))
-  make_grows v n (Err x) t ok err = grows_back w s t err
+  make_grows v n r t ok err = adds_grow v (born s.cells v n) (cells_for n) (slots_of n) r t ok err
 
   pub node_grows : {E : Type 0} (node : ℕ) (r : Result ℕ E) (t : Cells) → IfOk r (λ id. MatchOption (raw_place node s.cells) ((id ≡ length s.cells) × (t ≡ record { cells = s.cells ++ raw_cell node ∷ []; kept = s.kept })) (λ i. (id ≡ i) × (t ≡ s))) → OnErr r (t ≡ s) → Grows w s.cells t.cells
   node_grows node (Ok id) t ok err = by (raw_place node s.cells) ok

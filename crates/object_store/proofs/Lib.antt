@@ -1,3 +1,4 @@
+pub mod Adding
 pub mod BunchNodes
 pub mod Chains
 pub mod Charges

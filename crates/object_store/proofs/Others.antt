@@ -24,8 +24,8 @@ use Rattle.store_cells.specs.Arrays.{cut, extended, is_bad_length, length_in, le
 use Rattle.store_cells.specs.Host.{array_prototype, function_prototype}
 use Rattle.store_cells.specs.Bunches.{AreBunches, IsBunch}
 use Rattle.store_cells.specs.Shape.{IsLinked}
-use Rattle.object_store.specs.Calls.{IsCharged, IsMade, IsPut, IsRemoved, born, cells_for, kept_after, make_done, put_done, put_refusal, remove_done, remove_refusal, slots_for, slots_of, unit_cost, var_done}
-use Rattle.store_cells.specs.Born.{array_cell, new_cell, object_cell, raw_place, scope_cell, unset}
+use Rattle.object_store.specs.Calls.{Adds, IsCharged, IsMade, IsPut, IsRemoved, born, cells_for, kept_after, make_done, put_done, put_refusal, remove_done, remove_refusal, slots_for, slots_of, unit_cost, var_done}
+use Rattle.store_cells.specs.Born.{array_cell, made, new_cell, object_cell, raw_place, scope_cell, unset}
 use Rattle.store_cells.specs.Costs.{cost_refusal, paid}
 use Rattle.store_cells.specs.Arrays.{is_length_of, without}
 use Rattle.object_store.specs.Owned.{is_of, is_of_at, own_cells, own_scopes, owned}
@@ -263,6 +263,11 @@ module _ (s : Cells) (links : (i : ℕ) (c : PlainCell) → slice_get s.cells i 
 
     pub make_others : (n : NewCell) → owned v (make_done s w n) ≡ owned v s
     make_others n = others_grown v s.cells (born s.cells w n) links bunches s.kept (make_done s w n).kept (born_others n) (changed_apart s.kept w v (paid (cells_for n) (slots_of n) 0) apart)
+
+    -- a scope with its first pairs
+    pub scope_others : {E : Type 0} (outer : Option ℕ) (ps : List (List ℕ × Value)) (n : ℕ) (r : Result ℕ E) (t : Cells) → IfOk r (λ id. Adds s t w id (scope_cell w outer ps ∷ []) 0 n) → OnErr r (t ≡ s) → owned v t ≡ owned v s
+    scope_others outer ps n (Ok id) t ok err = ap (owned v) ok.done ∙ others_grown v s.cells (scope_cell w outer ps ∷ []) links bunches s.kept (made s w (scope_cell w outer ps ∷ []) 0 n).kept (one_other (scope_cell w outer ps) refl) (changed_apart s.kept w v (paid 0 n 0) apart)
+    scope_others outer ps n (Err x) t ok err = ap (owned v) err
 
     pub make_seen : {E : Type 0} (n : NewCell) (r : Result ℕ E) (t : Cells) → IfOk r (λ id. IsMade s t w id n) → OnErr r (t ≡ s) → owned v t ≡ owned v s
     make_seen n (Ok id) t ok err = ap (owned v) ok.done ∙ make_others n

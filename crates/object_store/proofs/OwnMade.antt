@@ -29,16 +29,16 @@ use Rattle.store_cells.specs.Bunches.{IsBunch, array_pairs, bunch_cell, elements
 use Rattle.store_cells.specs.Host.{array_prototype, bunch_prototype, function_prototype, is_frozen_form, is_host_owner, is_permitted_cell, is_permitted_value, leads_on}
 use Rattle.store_cells.specs.Shape.{AreElements, AreRefs, IsLinked}
 use Rattle.store_cells.specs.Costs.{cost_refusal, kept_slots, paid}
-use Rattle.store_cells.specs.Born.{HaveCells, array_cell, bunch_cells, new_cell, node_place, object_cell, scope_cell, unset}
-use Rattle.object_store.specs.Calls.{IsCharged, IsMade, IsMakeable, born, cells_for, make_done, slots_of, unit_cost}
-use Rattle.object_store.specs.Owned.{Made, OwnCell, OwnKind, OwnValue, filled_own, first_cell, first_scope, is_own_scope, made_cells, made_scopes, own_cell, own_cells, own_link, own_made, own_paid, own_pairs, own_scope, own_scopes, owned, scope_number, visible_at}
+use Rattle.store_cells.specs.Born.{HaveCells, IsScopeOf, array_cell, bunch_cells, made, new_cell, node_place, object_cell, scope_cell, unset}
+use Rattle.object_store.specs.Calls.{Adds, IsCharged, IsMade, IsMakeable, born, cells_for, make_done, slots_of, unit_cost}
+use Rattle.object_store.specs.Owned.{Made, OwnCell, OwnKind, OwnValue, ScopeMade, filled_own, first_cell, first_scope, is_own_scope, made_cells, made_scopes, own_cell, own_cells, own_link, own_made, own_paid, own_pairs, own_scope, own_scoped, own_scopes, owned, scope_number, visible_at}
 use Rattle.store_cells.proofs.Lists.{changed_here, count_before-all, count_before-append}
 use Rattle.store_table.proofs.Births.{places_lead}
 use Rattle.store_cells.proofs.Closed.{cells_of_older}
 use Rattle.store_cells.proofs.Elements.{element_length, refs_elements}
 use Rattle.store_cells.proofs.Writes.{count_length}
 use Rattle.object_store.proofs.Others.{bunches}
-use Rattle.object_store.proofs.Views.{nodes_are, numbers_older, owned_grown, pairs_same, scope_same, value_same}
+use Rattle.object_store.proofs.Views.{append_none, nodes_are, numbers_older, owned_grown, pairs_same, scope_same, value_same}
 
 false_true : false ≡ true → ⊥
 false_true g = cc
@@ -134,12 +134,21 @@ module _ (w : ℕ) (cells : List PlainCell) where
   bound_seen : (more : List PlainCell) (outer : Option ℕ) (ps : List (List ℕ × Value)) → IfSome outer (λ k. k < length cells) → AreRefs (length cells) ps → own_scope w (cells ++ more) (scope_cell w outer ps) ≡ record { outer = option_map (scope_number w cells) outer; pairs = own_pairs w cells ps }
   bound_seen more outer ps lt refs = λ j. record { outer = scope_same w (length cells) (cells ++ more) cells (numbers_older w cells more) outer lt j; pairs = pairs_seen more ps refs j }
 
-  elements_seen : (more : List PlainCell) (vs : List Value) → AreElements (length cells) vs → length vs ≤ 4294967295 → own_link w (cells ++ more) array_prototype ≡ OwnValue.Other array_prototype → own_cell w (cells ++ more) (array_cell w vs) ≡ filled_own (OwnKind.Array (length vs)) (OwnValue.Other array_prototype) (own_pairs w cells (elements 0 vs))
-  elements_seen more vs refs few link = λ j. filled_own (OwnKind.Array (whole_length vs few j)) (link j) ((ap (own_pairs w (cells ++ more)) (whole_shown vs few) ∙ pairs_seen more (elements 0 vs) (refs_elements (length cells) 0 vs refs)) j)
-
   within : (o : Option ℕ) → IfSome o (λ k. (k < length cells) × (is_scope_at cells k ≡ true)) → IfSome o (λ k. k < length cells)
   within None h = tt
   within (Some k) h = h.0
+
+  -- a scope with its first pairs is no visible cell, and one of the scopes
+  bound_cells : (outer : Option ℕ) (ps : List (List ℕ × Value)) → own_cells w (cells ++ scope_cell w outer ps ∷ []) (scope_cell w outer ps ∷ []) ≡ []
+  bound_cells outer ps = ap (λ b. map (own_cell w (cells ++ scope_cell w outer ps ∷ [])) (if b && false then (scope_cell w outer ps) ∷ [] else [])) (eqb_self w)
+
+  bound_scopes : (outer : Option ℕ) (ps : List (List ℕ × Value)) → IsScopeOf cells outer → AreRefs (length cells) ps → own_scopes w (cells ++ scope_cell w outer ps ∷ []) (scope_cell w outer ps ∷ []) ≡ (record { outer = option_map (scope_number w cells) outer; pairs = own_pairs w cells ps }) ∷ []
+  bound_scopes outer ps scope refs =
+      let c = scope_cell w outer ps in
+      ap (λ b. map (own_scope w (cells ++ c ∷ [])) (if b && true then c ∷ [] else [])) (eqb_self w) ∙ ap (λ x. x ∷ []) (bound_seen (c ∷ []) outer ps (within outer scope) refs)
+
+  elements_seen : (more : List PlainCell) (vs : List Value) → AreElements (length cells) vs → length vs ≤ 4294967295 → own_link w (cells ++ more) array_prototype ≡ OwnValue.Other array_prototype → own_cell w (cells ++ more) (array_cell w vs) ≡ filled_own (OwnKind.Array (length vs)) (OwnValue.Other array_prototype) (own_pairs w cells (elements 0 vs))
+  elements_seen more vs refs few link = λ j. filled_own (OwnKind.Array (whole_length vs few j)) (link j) ((ap (own_pairs w (cells ++ more)) (whole_shown vs few) ∙ pairs_seen more (elements 0 vs) (refs_elements (length cells) 0 vs refs)) j)
 
   -- it counts for its widget, as a visible cell or as a scope
   visible_seen : (all : List PlainCell) (f : Form) (up : ℕ) (d : OwnCell) → is_visible_form f ≡ true → own_cell w all (new_cell w f up) ≡ d → own_cells w all (new_cell w f up ∷ []) ≡ d ∷ []
@@ -179,7 +188,7 @@ module _ (w : ℕ) (cells : List PlainCell) where
   cells_born (fresh.ArrayWith values) fit few hosts =
       let c = array_cell w values.items in
       whole_seen (cells ++ c ∷ []) c _ (mine form.Array refl) (elements_seen (c ∷ []) values.items fit few (host_link w (cells ++ c ∷ []) array_prototype (hosts array_prototype refl)))
-  cells_born (fresh.ScopeWith outer pairs) fit few hosts = ap (λ b. map (own_cell w (cells ++ scope_cell w outer pairs.items ∷ [])) (if b && false then (scope_cell w outer pairs.items) ∷ [] else [])) (eqb_self w)
+  cells_born (fresh.ScopeWith outer pairs) fit few hosts = bound_cells outer pairs.items
   cells_born (fresh.Bunch nodes) fit few hosts =
       let all = cells ++ bunch_cells cells w nodes.items in
       ap (λ b. map (own_cell w all) (if b && true then (bunch_cell w (length cells + 1)) ∷ [] else [])) (eqb_self w) ∙ ap (λ x. x ∷ []) (bunch_seen nodes.items fit.0 fit.1 (host_link w all bunch_prototype (hosts bunch_prototype refl)))
@@ -195,9 +204,7 @@ module _ (w : ℕ) (cells : List PlainCell) where
       ap (λ b. map (own_scope w (cells ++ c ∷ [])) (if b && true then c ∷ [] else [])) (eqb_self w) ∙ ap (λ x. x ∷ []) (scope_seen (c ∷ []) outer names.items (within outer fit.0))
   scopes_born (fresh.ObjectWith proto pairs) fit = let c = object_cell w proto pairs.items in unscoped (cells ++ c ∷ []) c not_scope
   scopes_born (fresh.ArrayWith values) fit = let c = array_cell w values.items in unscoped (cells ++ c ∷ []) c not_scope
-  scopes_born (fresh.ScopeWith outer pairs) fit =
-      let c = scope_cell w outer pairs.items in
-      ap (λ b. map (own_scope w (cells ++ c ∷ [])) (if b && true then c ∷ [] else [])) (eqb_self w) ∙ ap (λ x. x ∷ []) (bound_seen (c ∷ []) outer pairs.items (within outer fit.0) fit.1.refs)
+  scopes_born (fresh.ScopeWith outer pairs) fit = bound_scopes outer pairs.items fit.0 fit.1.refs
   scopes_born (fresh.Bunch nodes) fit = ap (λ b. map (own_scope w (cells ++ bunch_cells cells w nodes.items)) (if b && false then (bunch_cell w (length cells + 1)) ∷ [] else [])) (eqb_self w)
 
 -- how many a widget has
@@ -244,6 +251,32 @@ module _ (s : Cells) (links : (i : ℕ) (c : PlainCell) → slice_get s.cells i 
       let m = make_own (slots_few s.kept w (cells_for n) (slots_of n) ok.paid) (subst (λ (d : Cells). AreHosts w s.cells d.cells) ok.done hosts) in
       subst (λ (d : Cells). Made w s d id n) (sym ok.done) (subst (λ k. Made w s (make_done s w n) k n) (sym ok.place) m)
   make_own_seen (Err x) t hosts ok = tt
+
+-- `make_call_scope`
+module _ (s : Cells) (links : (i : ℕ) (c : PlainCell) → slice_get s.cells i ≡ Some c → IsLinked s.cells i c) (bunches_each : (i : ℕ) (c : PlainCell) → slice_get s.cells i ≡ Some c → is_bunch c.form ≡ true → IsBunch s.cells c) (w : ℕ) (outer : Option ℕ) (ps : List (List ℕ × Value)) (scope : IsScopeOf s.cells outer) (refs : AreRefs (length s.cells) ps) where
+  abbrev more : List PlainCell
+  more = scope_cell w outer ps ∷ []
+
+  abbrev done : Cells
+  done = made s w more 0 (length ps + 1)
+
+  scope_own : owned w done ≡ own_scoped w s outer ps
+  unfolding owned
+  scope_own =
+      let p = ap (λ l. own_cells w s.cells s.cells ++ l) (bound_cells w s.cells outer ps) ∙ append_none (own_cells w s.cells s.cells) in
+      let q = ap (λ l. own_scopes w s.cells s.cells ++ l) (bound_scopes w s.cells outer ps scope refs) in
+      owned_grown w s.cells more links (bunches s links bunches_each) s.kept done.kept ∙ (λ j. record { heap = p j; scopes = q j; paid = changed_here s.kept w (paid 0 (length ps + 1) 0) j })
+
+  scope_number_own : scope_number w done.cells (length s.cells) ≡ length (owned w s).scopes
+  unfolding owned
+  scope_number_own = count_before-append (is_own_scope w) s.cells more (length s.cells) (omega arith) ∙ count_before-all (is_own_scope w) s.cells ∙ sym (count_scopes w s.cells s.cells)
+
+  pub scope_own_seen : {E : Type 0} (r : Result ℕ E) (t : Cells) → IfOk r (λ id. Adds s t w id (scope_cell w outer ps ∷ []) 0 (length ps + 1)) → IfOk r (λ id. ScopeMade w s t id outer ps)
+  scope_own_seen (Ok id) t ok = record {
+    seen = ap (owned w) ok.done ∙ scope_own;
+    scope = (λ j. scope_number w (ok.done j).cells (ok.place j)) ∙ scope_number_own;
+  }
+  scope_own_seen (Err x) t ok = tt
 
 -- `charge_units` and `charge_slots`
 module _ (s : Cells) (w slots units : ℕ) where

@@ -1,11 +1,13 @@
 -- What each call of the store does, and when it refuses.
-use Rattle.std.specs.Prelude.{◌≡◌, ℕ, ◌+◌, ◌<◌, Bool, true, false, List, [], ◌∷◌, ◌++◌, Option, None, Some, is_some, if◌then◌else◌, nat_eq, not, length, slice_get, map, filter, MatchOption}
+use Rattle.std.specs.Prelude.{◌≡◌, ℕ, ◌+◌, ◌^◌, ◌<◌, ℤ, ◌+ℤ◌, unsigned_abs, nat_lt, Bool, true, false, List, [], ◌∷◌, ◌++◌, Option, None, Some, is_some, if◌then◌else◌, nat_eq, not, length, slice_get, map, filter, MatchOption}
 use Rattle.std.specs.List.{IsDistinct}
 use Rattle.std.specs.Option.{option_map_or, option_and_then}
 use Rattle.std.specs.Str.{bytes_eq}
 use Rattle.code_units.specs.declared.owner.Owner.{Owner}
 use Rattle.code_units.specs.declared.owner.Owner.TheVariants as whose
 use Rattle.store_cells.specs.declared.value.Value.{Value}
+use Rattle.store_cells.specs.declared.value.Value.TheVariants as value
+use Rattle.store_cells.specs.declared.value.Number.TheVariants as number
 use Rattle.store_cells.specs.declared.kind.Form.TheVariants as form
 use Rattle.store_cells.specs.declared.kind.FunParts.{FunParts}
 use Rattle.store_cells.specs.declared.counts.Counts.{Counts}
@@ -14,7 +16,7 @@ use Rattle.store_cells.specs.declared.counts.StoreFault.TheVariants as fault
 use Rattle.object_store.specs.declared.store.NewCell.{NewCell}
 use Rattle.object_store.specs.declared.store.NewCell.TheVariants as new
 use Rattle.store_cells.specs.Lists.{changed}
-use Rattle.store_cells.specs.Cells.{Cells, PlainCell, chain, has_own, holder, is_bunch, is_bunch_at, is_scope_at, is_visible, prototypes, raw_cell, value_of, writer_in}
+use Rattle.store_cells.specs.Cells.{Cells, PlainCell, chain, first_own, has_own, holder, is_bunch, is_bunch_at, is_scope_at, is_visible, prototypes, raw_cell, value_of, writer_in}
 use Rattle.store_cells.specs.Arrays.{is_bad_length, is_length_of, keys_of, length_in, length_name, stored, without, written}
 use Rattle.store_cells.specs.Shape.{AreElements, AreRefs}
 use Rattle.store_cells.specs.Costs.{cost_refusal, paid}
@@ -114,6 +116,16 @@ abbrev pub var_done : Cells → ℕ → List ℕ → Value → Cells
 var_done s i name v = record s {
   cells = option_map_or (λ h. changed s.cells h (written name v)) (holder s.cells i name) s.cells;
 }
+
+-- whether a whole number is one of the language, from -(2^53-1) to 2^53-1
+abbrev pub is_number : ℤ → Bool
+is_number z = nat_lt (unsigned_abs z) (2 ^ 53)
+
+-- A variable had a whole number z, and has its sum with another, which is a number of the language.
+pub record IsAdded (old new : Cells) (from : ℕ) (name : List ℕ) (by z : ℤ) : Type 0 where
+  pub before : first_own name (chain old.cells from) ≡ Some (value.Num (number.Whole z))
+  pub within : is_number (z +ℤ by) ≡ true
+  pub done : new ≡ var_done old from name (value.Num (number.Whole (z +ℤ by)))
 
 -- the store after `charge_slots` or `charge_units`: a widget paid so many slots and text units
 abbrev pub unit_cost : Cells → ℕ → ℕ → ℕ → Cells

@@ -263,6 +263,17 @@ pub record Made (w : ℕ) (old new : Cells) (i : ℕ) (n : NewCell) : Type 0 whe
   pub number : own_count w new.cells i ≡ length (owned w old).heap
   pub scope : scope_number w new.cells i ≡ length (owned w old).scopes
 
+-- what a widget has after `make_call_scope`: the scope comes last, and its cost is paid
+abbrev pub own_scoped : ℕ → Cells → Option ℕ → List (List ℕ × Value) → Owned
+own_scoped w s outer pairs = own_paid 0 (length pairs + 1) 0 (record (owned w s) {
+  scopes = (owned w s).scopes ++ (record { outer = option_map (scope_number w s.cells) outer; pairs = own_pairs w s.cells pairs }) ∷ [];
+})
+
+-- A widget sees the scope that it made with its first pairs, and paid, and nothing else; it has the next number.
+pub record ScopeMade (w : ℕ) (old new : Cells) (i : ℕ) (outer : Option ℕ) (pairs : List (List ℕ × Value)) : Type 0 where
+  pub seen : owned w new ≡ own_scoped w old outer pairs
+  pub scope : scope_number w new.cells i ≡ length (owned w old).scopes
+
 -- what a widget sees of a `put` into one of its cells
 abbrev pub SeesPut : ℕ → Cells → Cells → ℕ → List ℕ → Value → Type 0
 SeesPut w old new i name v =

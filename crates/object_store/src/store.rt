@@ -1,7 +1,7 @@
 //! The store.
-ghost use Rattle.std.specs.Prelude.{◌≡◌, ℕ, option_to_list, map, ◌&&◌, ◌+◌, ◌<◌, ◌≤◌, [], ◌∷◌, ◌++◌, None, Some, true, false, is_some, nat_eq, length, slice_get, option_copied, IfOk, IfErr, IfSome, OnErr, OnOk};
+ghost use Rattle.std.specs.Prelude.{◌≡◌, ℕ, option_to_list, map, ◌&&◌, ◌+◌, ◌+ℤ◌, ◌<◌, ◌≤◌, [], ◌∷◌, ◌++◌, None, Some, true, false, is_some, nat_eq, length, slice_get, option_copied, IfOk, IfErr, IfSome, IfNone, OnErr, OnOk};
 ghost use Rattle.std.specs.Option.{option_and_then, option_map};
-ghost use Rattle.object_store.specs.Owned.{Made, SeesPut, SeesRemoved, SeesSet, is_held_by, is_of_at, is_own_scope, node_of, nodes_in, own_cell, own_paid, own_scope, owned, scope_number, SeesPaid};
+ghost use Rattle.object_store.specs.Owned.{Made, SeesPut, SeesRemoved, SeesSet, is_held_by, is_of_at, is_own_scope, node_of, nodes_in, own_cell, own_paid, own_scope, owned, scope_number, ScopeMade, SeesPaid};
 ghost use Rattle.std.specs.List.{IsDistinct, list_any};
 ghost use Rattle.std.specs.Str.{bytes_eq};
 ghost use Rattle.store_cells.specs.Arrays.{is_index_below, is_reference, keys_of};
@@ -10,15 +10,16 @@ ghost use Rattle.store_cells.specs.Cells.{Cells, PlainCell, chain, own_count, fi
 ghost use Rattle.store_cells.specs.Shape.{AreElements, HasPrototype, IsLinked, IsNewForm, IsRefWithin};
 ghost use Rattle.store_cells.specs.Host.{first_store, global, host_cells, host_count, is_permitted_cell, leads_on, place_of};
 ghost use Rattle.store_cells.specs.Costs.{Refuses, cost_refusal, slots_refusal, units_refusal, whole_refusal};
-ghost use Rattle.object_store.specs.Calls.{Adds, AreFirstPairs, HasLength, HasNode, IsCharged, IsMade, IsMakeable, IsPrototype, IsPut, IsRemoved, cells_by, keys_at, make_refusal, paid_by, put_refusal, read_start, readable, remove_refusal, var_done, IsPutPaid, paid_refusal};
+ghost use Rattle.object_store.specs.Calls.{Adds, AreFirstPairs, HasLength, IsAdded, is_number, HasNode, IsCharged, IsMade, IsMakeable, IsPrototype, IsPut, IsRemoved, cells_by, keys_at, make_refusal, paid_by, put_refusal, read_start, readable, remove_refusal, var_done, IsPutPaid, paid_refusal};
 ghost use Rattle.object_store.specs.Elements.{HasHidden, array_length, bunch_nodes, element, reference_in, shows_own};
 ghost use Rattle.object_store.specs.Grows.{Grows};
 ghost use Rattle.store_cells.specs.Cells.{own_number_of, IsOwner, IsWidget, number_in};
+ghost use Rattle.store_cells.specs.First.{first_value, first_values, placed_values};
 ghost use Rattle.store_cells.specs.Born.{HaveCells, IsScopeOf, array_cell, bunch_cells, new_cell, object_cell, raw_place, scope_cell, unset};
 
 use code_units::{Memory, Owner, Text};
 use indexmap::IndexMap;
-use js_tree::FunId;
+use js_tree::{FunId, ScopeName};
 use keyed_names::{Keys, NumberKeys};
 use permitted_table::{HostEntry, NativeId};
 use property_names::PropertyNames;
@@ -29,7 +30,7 @@ use store_cells::counts::{
     self, CELL_LIMIT, Counts, NODE_LIMIT, NOTHING_PAID, SLOT_LIMIT, StoreFault, UNIT_LIMIT,
     first_counts,
 };
-use store_cells::{CellId, CellKind, Form, FunParts, Value};
+use store_cells::{CellId, CellKind, FirstNames, Form, FunParts, Number, Value};
 use store_table::table::{OwnPlace, Target};
 use store_table::{bunch, host, table};
 
@@ -71,6 +72,72 @@ fn unset(alloc: Global, names: &[Text]) -> Result<Vec<(Text, Value)>, Memory>
         pairs.push((name.share()?, Value::Undefined))?;
     }
     Ok(pairs)
+}
+
+// The names of the scope of a call with their first values.
+fn first_pairs(alloc: Global, first: &FirstNames) -> Result<Vec<(Text, Value)>, Memory>
+    ensures { IfOk result (λ pairs. pairs.items ≡ first_values first.now) }
+{
+    let mut pairs = placed(alloc, first.names, first.args)?;
+    if let Some(own) = first.own {
+        pairs.push((own.share()?, first.func.share()?))?;
+    }
+    Ok(pairs)
+}
+
+// The names with the arguments at their places.
+fn placed(alloc: Global, names: &[ScopeName], args: &[Value]) -> Result<Vec<(Text, Value)>, Memory>
+    ensures { IfOk result (λ pairs. pairs.items ≡ placed_values names.now args.now) }
+{
+    let mut pairs = Vec::new(alloc);
+    for name in names {
+        pairs.push((name.text.share()?, first_value(args, name.argument)?))?;
+    }
+    Ok(pairs)
+}
+
+// The argument at a place.
+fn first_value(args: &[Value], place: Option<usize>) -> Result<Value, Memory>
+    ensures { IfOk result (λ v. v ≡ first_value place args.now) }
+{
+    match place {
+        None => Ok(Value::Undefined),
+        Some(k) => match args.get(k) {
+            None => Ok(Value::Undefined),
+            Some(value) => value.share(),
+        },
+    }
+}
+
+// Past the largest number of the language.
+const PAST_NUMBERS: u64 = 1 << 53;
+
+// The whole number that a value is.
+#[inline(always)]
+fn whole_in(value: Option<&Value>) -> Option<i64>
+    ensures { IfSome result (λ z. option_copied value.entry ≡ Some (Value.Num (Number.Whole z))) }
+{
+    match value? {
+        Value::Num(Number::Whole(z)) => Some(*z),
+        _ => None,
+    }
+}
+
+// The sum of two whole numbers, where it is a number of the language.
+#[inline(always)]
+fn whole_sum(x: i64, y: i64) -> Option<i64>
+    ensures { IfSome result (λ z. (z ≡ x +ℤ y) × (is_number (x +ℤ y) ≡ true)) }
+{
+    match x.checked_add(y) {
+        Some(z) => {
+            if z.unsigned_abs() < PAST_NUMBERS {
+                Some(z)
+            } else {
+                None
+            }
+        }
+        None => None,
+    }
 }
 
 // The cell to which a value refers.
@@ -484,6 +551,7 @@ impl Store {
 
     /// The value of a variable: that of the innermost scope that has the name, none exactly where
     /// none has it.
+    #[inline(always)]
     pub fn var_get(&self, scope: CellId, name: &Text) -> Option<&Value>
         requires { scope < length self.now.cells }
         ensures { option_copied result ≡ first_own name.now (chain self.now.cells scope) }
@@ -494,6 +562,7 @@ impl Store {
     /// The first own value under a name, from the cell on along its prototypes (ECMA-262 3rd
     /// edition, 8.6.2.1); of a Bunch, whose own pair is hidden, from its prototype on. None exactly
     /// where no such cell has the name.
+    #[inline(always)]
     pub fn get(&self, cell: CellId, name: &Text) -> Option<&Value>
         requires { cell < length self.now.cells }
         ensures { option_copied result ≡ first_own name.now (readable self.now.cells cell) }
@@ -503,6 +572,7 @@ impl Store {
     }
 
     // The cell at which a read begins.
+    #[inline(always)]
     fn read_start(&self, cell: CellId) -> Option<CellId>
         requires { cell < length self.now.cells }
         ensures start { result ≡ read_start self.now.cells cell }
@@ -717,6 +787,56 @@ impl Store {
         // This law says that the prototypes are the host's.
         self.permitted_leads_on();
         made
+    }
+
+    /// Makes the scope of a call: one slot, and one more for each name. `Slots` comes exactly where the
+    /// widget's kept count plus the cost passes the limit.
+    #[inline(always)]
+    pub fn make_call_scope(
+        &mut self,
+        alloc: Global,
+        w: u32,
+        outer: Option<CellId>,
+        first: &FirstNames,
+    ) -> Result<CellId, StoreFault>
+        requires widget { w < 32 }
+        requires outer { IsScopeOf self.old.cells outer }
+        requires pairs { AreFirstPairs self.old.cells (first_values first.now) }
+        ensures ok { IfOk result (λ id. Adds self.old self.new w id
+            (scope_cell w outer (first_values first.now) ∷ []) 0 (length (first_values first.now) + 1)) }
+        ensures err { IfErr result (λ e. Refuses e (cost_refusal self.old.kept w 0 (length (first_values first.now) + 1))) }
+        ensures same { OnErr result (self.new ≡ self.old) }
+
+        // The widget sees the scope, and another has what it had.
+        ensures own { IfOk result (λ id. ScopeMade w self.old self.new id outer (first_values first.now)) }
+        ensures others { (v : ℕ) → (w ≡ v → ⊥) → owned v self.new ≡ owned v self.old }
+        ensures grows { (v : ℕ) → Grows v self.old.cells self.new.cells }
+    {
+        // These laws say that what other cells lead to stays.
+        self.links_are_older();
+        self.bunches_have_nodes();
+        self.call_scope_in(alloc, w, outer, first)
+    }
+
+    // `make_call_scope`, without what widgets see of it.
+    #[inline(always)]
+    fn call_scope_in(
+        &mut self,
+        alloc: Global,
+        w: u32,
+        outer: Option<CellId>,
+        first: &FirstNames,
+    ) -> Result<CellId, StoreFault>
+        requires widget { w < 32 }
+        requires outer { IsScopeOf self.old.cells outer }
+        requires pairs { AreFirstPairs self.old.cells (first_values first.now) }
+        ensures ok { IfOk result (λ id. Adds self.old self.new w id
+            (scope_cell w outer (first_values first.now) ∷ []) 0 (length (first_values first.now) + 1)) }
+        ensures err { IfErr result (λ e. Refuses e (cost_refusal self.old.kept w 0 (length (first_values first.now) + 1))) }
+        ensures same { OnErr result (self.new ≡ self.old) }
+    {
+        let pairs = first_pairs(alloc, first)?;
+        self.make_scope(alloc, w, outer, &pairs)
     }
 
     // `make`, without what widgets see of it.
@@ -960,6 +1080,7 @@ impl Store {
     }
 
     /// Writes a variable in the innermost scope that has the name; false exactly where none has it.
+    #[inline(always)]
     pub fn var_set(&mut self, scope: CellId, name: &Text, value: Value) -> bool
         requires at { scope < length self.old.cells }
         requires scope { is_scope_at self.old.cells scope ≡ true }
@@ -980,6 +1101,7 @@ impl Store {
     }
 
     // `var_set`, without what widgets see of it.
+    #[inline(always)]
     fn set_in(&mut self, scope: CellId, name: &Text, value: Value) -> bool
         requires at { scope < length self.old.cells }
         requires scope { is_scope_at self.old.cells scope ≡ true }
@@ -997,6 +1119,46 @@ impl Store {
         true
     }
 
+    /// Adds to a whole number that a variable has, where the sum is a number of the language; its number
+    /// before. Else nothing changes.
+    #[inline(always)]
+    pub fn var_add(&mut self, scope: CellId, name: &Text, by: i64) -> Option<i64>
+        requires at { scope < length self.old.cells }
+        requires scope { is_scope_at self.old.cells scope ≡ true }
+        ensures some { IfSome result (λ z. IsAdded self.old self.new scope name.now by z) }
+        ensures none { IfNone result (self.new ≡ self.old) }
+
+        // Its widget sees the write, and another has what it had.
+        ensures own { IfSome result (λ z. (w : ℕ)
+            → SeesSet w self.old self.new scope name.now (Value.Num (Number.Whole (z +ℤ by)))) }
+        ensures others { (w : ℕ) → is_held_by w self.old.cells scope name.now ≡ false
+            → owned w self.new ≡ owned w self.old }
+        ensures grows { (w : ℕ) → Grows w self.old.cells self.new.cells }
+    {
+        // These laws say that what other cells lead to stays.
+        self.links_are_older();
+        self.bunches_have_nodes();
+        self.add_in(scope, name, by)
+    }
+
+    // `var_add`, without what widgets see of it.
+    #[inline(always)]
+    fn add_in(&mut self, scope: CellId, name: &Text, by: i64) -> Option<i64>
+        requires at { scope < length self.old.cells }
+        requires scope { is_scope_at self.old.cells scope ≡ true }
+        ensures some { IfSome result (λ z. IsAdded self.old self.new scope name.now by z) }
+        ensures none { IfNone result (self.new ≡ self.old) }
+    {
+        let n = self.names.number(name)?;
+        let i = table::holder(&self.cells, scope, n)?;
+        let z = whole_in(table::cell(&self.cells, i).own(n))?;
+        let sum = whole_sum(z, by)?;
+        let value = Value::Num(Number::Whole(sum));
+        table::set_variable(&self.names, &mut self.cells, i, name, n, value);
+        Some(z)
+    }
+
+    #[inline(always)]
     fn get_along(&self, cell: CellId, name: &Text) -> Option<&Value>
         requires { cell < length self.now.cells }
         ensures { option_copied result ≡ value_along self.now.cells cell name.now }
