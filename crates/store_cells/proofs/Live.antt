@@ -117,6 +117,11 @@ name_is n lt = grind (arith, nat_tests, lt)
 pub hole_is : (n : ℕ) → FIRST_HOLE ≤ n → is_name n ≡ false
 hole_is n le = grind (arith, nat_tests, le)
 
+-- pairs of names have no holes
+pub known_live : (es : List (ℕ × Value)) → Known FIRST_HOLE es → live es ≡ es
+known_live [] h = refl
+known_live (e ∷ es) h = ap (λ b. cond b (e ∷ live es) (live es)) (name_is e.0 h.0) ∙ ap (λ l. e ∷ l) (known_live es h.1)
+
 -- a name that is there
 pub held_name : (n : ℕ) (es : List (ℕ × Value)) → is_some (lookup (eqb n) (live es)) ≡ true → is_name n ≡ true
 held_name n es h = by (is_name n) refl

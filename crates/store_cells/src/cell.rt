@@ -120,6 +120,22 @@ impl Cell {
         }
     }
 
+    /// A cell of these few pairs, whose numbers differ and are those of names.
+    #[inline(always)]
+    pub fn of_few(maker: Maker, head: Head, list: Vec<(u32, Value)>) -> Cell
+        requires distinct { IsDistinct nat_eq (numbers_of list.items) }
+        requires names { Known FIRST_HOLE list.items }
+        ensures { result ≡ record { head = head; elements = []; references = 0; entries = list.items } }
+    {
+        Cell {
+            head,
+            holes: 0,
+            references: 0,
+            table: PairTable::of_few(list),
+            elements: Elements::new(maker.alloc),
+        }
+    }
+
     /// A cell without pairs that has room for so many.
     pub fn with_room(maker: Maker, head: Head, room: usize) -> Result<Cell, Memory>
         ensures { IfOk result (λ c. c ≡ record { head = head; elements = []; references = 0; entries = [] }) }
@@ -164,6 +180,7 @@ impl Cell {
     }
 
     /// What it never changes.
+    #[inline(always)]
     pub fn head(&self) -> Head
         ensures { result ≡ self.now.head }
     {
@@ -280,6 +297,7 @@ impl Cell {
     }
 
     /// Whether it has a name of its own.
+    #[inline(always)]
     pub fn has(&self, n: u32) -> bool
         ensures { result ≡ is_some (lookup (nat_eq n) self.now.entries) }
     {
@@ -287,6 +305,7 @@ impl Cell {
     }
 
     /// The value under a name of its own.
+    #[inline(always)]
     pub fn own(&self, n: u32) -> Option<&Value>
         ensures { option_copied result ≡ lookup (nat_eq n) self.now.entries }
     {

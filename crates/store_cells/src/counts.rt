@@ -80,6 +80,7 @@ pub fn widget(owner: Owner) -> u32
 }
 
 /// What a widget has paid.
+#[inline(always)]
 pub fn counts_of(kept: &Vec<Counts>, w: u32) -> Counts
     ensures cells { result.cells ≡ kept_cells kept.now.items w }
     ensures slots { result.slots ≡ kept_slots kept.now.items w }
@@ -92,6 +93,7 @@ pub fn counts_of(kept: &Vec<Counts>, w: u32) -> Counts
 }
 
 /// Whether a widget can pay for cells and for so many slots; then how many slots these are.
+#[inline(always)]
 pub fn afford(kept: &Vec<Counts>, w: u32, cells: u32, slots: usize) -> Result<u32, StoreFault>
     ensures ok { OnOk result (cost_refusal kept.now.items w cells slots ≡ None) }
     ensures err { IfErr result (λ e. cost_refusal kept.now.items w cells slots ≡ Some e) }
@@ -128,6 +130,7 @@ pub fn afford_all(kept: &Vec<Counts>, w: u32, cost: Counts) -> Result<(), StoreF
 }
 
 /// Counts what a widget pays.
+#[inline(always)]
 pub fn pay(kept: &mut Vec<Counts>, w: u32, cells: u32, slots: u32)
     requires cells { kept_cells kept.old.items w + cells ≤ CELL_LIMIT }
     requires slots { kept_slots kept.old.items w + slots ≤ SLOT_LIMIT }

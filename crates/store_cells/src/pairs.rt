@@ -20,6 +20,7 @@ use std::alloc::Global;
 pub const FIRST_HOLE: u32 = 2_147_483_648;
 
 /// Whether a table has a name.
+#[inline(always)]
 pub(crate) fn has(table: &PairTable<Value>, n: u32) -> bool
     ensures { result ≡ is_some (lookup (nat_eq n) (live table.now.entries)) }
 {
@@ -27,6 +28,7 @@ pub(crate) fn has(table: &PairTable<Value>, n: u32) -> bool
 }
 
 /// The value under a name.
+#[inline(always)]
 pub(crate) fn value(table: &PairTable<Value>, n: u32) -> Option<&Value>
     ensures { option_copied result ≡ lookup (nat_eq n) (live table.now.entries) }
 {
