@@ -4,4 +4,5 @@
 
 pub mod bunch;
 pub mod host;
+pub mod scopes;
 pub mod table;

@@ -38,6 +38,7 @@ pub const MOST: usize = 1 << 31;
 
 // The first cell that has the name, from one cell on upwards.
 #[tactic(auto, using(crate::proofs::Climb::climb_none, crate::proofs::Climb::climb_more, crate::proofs::Climb::climb_over))]
+#[inline(always)]
 fn holder_on(cells: &[Cell], from: CellId, n: u32) -> Option<CellId>
     ensures { result ≡ numbered_holder cells.now from n }
 {
@@ -53,6 +54,7 @@ fn holder_on(cells: &[Cell], from: CellId, n: u32) -> Option<CellId>
     None
 }
 
+#[inline(always)]
 fn cell_on(cells: &[Cell], i: CellId) -> Option<&Cell>
     ensures { MatchOption result (slice_get cells.now i ≡ None) (λ c. slice_get cells.now i ≡ Some c.now) }
 {
@@ -60,6 +62,7 @@ fn cell_on(cells: &[Cell], i: CellId) -> Option<&Cell>
 }
 
 /// The first cell that has the name, from one cell on upwards.
+#[inline(always)]
 pub fn holder(cells: &Vec<Cell>, from: CellId, n: u32) -> Option<CellId>
     ensures first { result ≡ numbered_holder cells.now.items from n }
     ensures held { IfSome result (λ i. numbered_has_at cells.now.items i (Some n) ≡ true) }
@@ -69,6 +72,7 @@ pub fn holder(cells: &Vec<Cell>, from: CellId, n: u32) -> Option<CellId>
 }
 
 /// The first value under the name, from one cell on upwards.
+#[inline(always)]
 pub fn found(cells: &Vec<Cell>, from: CellId, n: u32) -> Option<&Value>
     ensures { option_copied result ≡ numbered_along cells.now.items from n }
 {
@@ -77,6 +81,7 @@ pub fn found(cells: &Vec<Cell>, from: CellId, n: u32) -> Option<&Value>
 
 // The first value under the name, from one cell on upwards.
 #[tactic(auto, using(crate::proofs::Climb::along_none, crate::proofs::Climb::along_out, crate::proofs::Climb::along_own, crate::proofs::Climb::along_up, crate::proofs::Climb::along_over))]
+#[inline(always)]
 fn found_on(cells: &[Cell], from: CellId, n: u32) -> Option<&Value>
     ensures { option_copied result ≡ numbered_along cells.now from n }
 {
@@ -278,6 +283,7 @@ fn end_of(name: &Text) -> u32
 }
 
 /// Writes a variable that the scope at `i` has.
+#[inline(always)]
 pub fn set_variable(
     names: &PropertyNames,
     cells: &mut Vec<Cell>,
@@ -423,6 +429,7 @@ pub fn add_filled(
 }
 
 /// The fixed part of a widget's new scope.
+#[inline(always)]
 pub fn scope_head(w: u32, outer: Option<CellId>) -> Head
     ensures { result ≡ scope_head w outer }
 {
