@@ -10,6 +10,7 @@ mod Named
 pub mod Nodes
 pub mod Makes
 pub mod Faults
+mod Firsts
 pub mod Chains
 pub mod Variables
 pub mod Found

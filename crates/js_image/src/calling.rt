@@ -24,6 +24,7 @@ pub fn callee(store: &Store, value: &Value) -> Callee
 }
 
 // The same by the cells of the store.
+#[inline(always)]
 fn callee_of(store: &Store, value: &Value) -> Callee
     requires { IsRefWithin (length store.now.cells) value.now }
     ensures { result ≡ stored_callee store.now.cells value.now }
@@ -35,6 +36,7 @@ fn callee_of(store: &Store, value: &Value) -> Callee
 }
 
 // What a cell is.
+#[inline(always)]
 fn callee_at(store: &Store, cell: CellId) -> Callee
     requires { cell < length store.now.cells }
     ensures { result ≡ callee_at store.now.cells cell }
@@ -44,6 +46,7 @@ fn callee_at(store: &Store, cell: CellId) -> Callee
     callee_by(parts, native)
 }
 
+#[inline(always)]
 fn callee_by(parts: Option<FunParts>, native: Option<NativeId>) -> Callee
     ensures { result ≡ callee_by parts native }
 {

@@ -14,7 +14,7 @@ mod writing;
 
 pub use calling::callee;
 pub use listing::for_in_names;
-pub use making::{make, make_array, make_fault, make_scope, word};
+pub use making::{make, make_array, make_call_scope, make_fault, make_scope, word};
 pub use outcome::{Callee, Fault, Made, Paid, Removed, StopCause, Written};
 pub use paying::{pay_slots, pay_text, pay_units};
 pub use reading::{get, is_found, keys, keys_len, property_at, variable, variable_at};

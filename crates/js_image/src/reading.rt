@@ -61,6 +61,7 @@ fn property_of_text(store: &Store, t: &Text, name: &Text) -> Result<Value, Memor
 
 /// The first own property along the prototypes of a cell, where it stands; none for an `undefined` that
 /// stands nowhere.
+#[inline(never)]
 pub fn property_at<'a>(store: &'a Store, cell: CellId, name: &Text) -> Option<&'a Value>
     requires { cell < length store.now.cells }
     ensures found { (fs : List Forest) (r : Rest) (w : ℕ) → IsConfined fs w store.now
@@ -207,6 +208,7 @@ pub fn variable(store: &Store, scope: Option<CellId>, name: &Text) -> Result<Val
 }
 
 /// The same value where it stands; none for an `undefined` that stands nowhere.
+#[inline(never)]
 pub fn variable_at<'a>(store: &'a Store, scope: Option<CellId>, name: &Text) -> Option<&'a Value>
     requires { IfSome scope (λ i. i < length store.now.cells) }
     ensures found { (fs : List Forest) (r : Rest) (w d : ℕ)
@@ -221,6 +223,7 @@ pub fn variable_at<'a>(store: &'a Store, scope: Option<CellId>, name: &Text) -> 
 }
 
 // The value of a variable, or else of a listed global.
+#[inline(always)]
 fn value_at<'a>(store: &'a Store, scope: Option<CellId>, name: &Text) -> Option<&'a Value>
     requires { IfSome scope (λ i. i < length store.now.cells) }
     ensures { unwrap_or (option_copied result) Value.Undefined ≡ stored_value store.now.cells scope name.now }
@@ -232,6 +235,7 @@ fn value_at<'a>(store: &'a Store, scope: Option<CellId>, name: &Text) -> Option<
 }
 
 // The value of a variable of a scope or of those around it.
+#[inline(always)]
 fn in_scopes<'a>(store: &'a Store, scope: Option<CellId>, name: &Text) -> Option<&'a Value>
     requires { IfSome scope (λ i. i < length store.now.cells) }
     ensures { option_copied result ≡ stored_variable store.now.cells scope name.now }
