@@ -4,3 +4,4 @@ pub mod Climb
 pub mod Firsts
 pub mod Gifts
 pub mod Protos
+pub mod Scoped

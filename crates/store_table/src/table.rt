@@ -106,6 +106,7 @@ pub fn cell(cells: &Vec<Cell>, i: CellId) -> &Cell
 }
 
 /// The number of a name, of which `number` is what the table says.
+#[inline(always)]
 pub fn number_or_new(
     names: &mut PropertyNames,
     number: Option<u32>,
