@@ -1,6 +1,6 @@
 -- Cells that are made with their first pairs.
-use Rattle.std.proofs.Common.{◌≡◌, ℕ, ◌+◌, ◌<◌, List, [], ◌∷◌, length, map, refl, sym, ap, ◌∙◌, subst, Option, None, arith, false, eqb, if◌then◌else◌}
-use Rattle.std.specs.Prelude.{Result, IfOk, IfErr}
+use Rattle.std.proofs.Common.{◌≡◌, ℕ, ◌+◌, ◌<◌, List, [], ◌∷◌, length, map, refl, sym, ap, ◌∙◌, subst, Option, None, Some, ◌++◌, arith, false, eqb, if◌then◌else◌, length-append}
+use Rattle.std.specs.Prelude.{Result, IfOk, IfErr, option_to_list}
 use Rattle.std.specs.List.{IsDistinct}
 use Rattle.std.specs.Str.{bytes_eq}
 use Rattle.std.proofs.lemmas.List.{length-map}
@@ -16,6 +16,8 @@ use Rattle.store_cells.specs.Numbered.{NumberedCell, cells_of, heads, own_head, 
 use Rattle.store_cells.specs.Shape.{AreElements, AreRefs, AreWithin, Grew, IsOrdered, IsShape, head_on, links_at}
 use Rattle.store_cells.specs.Costs.{Refuses, cost_refusal, paid}
 use Rattle.store_cells.specs.Born.{scope_cell, unset}
+use Rattle.store_cells.specs.First.{first_value, own_value, placed_values}
+use Rattle.js_tree.specs.declared.nodes.ScopeName.{ScopeName}
 use Rattle.object_store.specs.Calls.{Adds, AreFirstPairs}
 use Rattle.store_cells.specs.declared.kind.Form.TheVariants as form
 use Rattle.store_cells.proofs.Adds.{shape_added}
@@ -45,6 +47,17 @@ unset_adds r old new w outer names ps e ok =
 
 pub unset_refuses : {X : Type 0} (r : Result X StoreFault) (kept : List Counts) (w : ℕ) (names : List (List ℕ)) (ps : List (List ℕ × Value)) → ps ≡ unset names → IfErr r (λ e. Refuses e (cost_refusal kept w 0 (length ps + 1))) → IfErr r (λ e. Refuses e (cost_refusal kept w 0 (length names + 1)))
 unset_refuses r kept w names ps e err = subst (λ n. IfErr r (λ e. Refuses e (cost_refusal kept w 0 (n + 1)))) (ap (λ (l : List (List ℕ × Value)). length l) e ∙ length-map names (λ name. (name, value.Undefined))) err
+
+-- the slots of the scope of a call
+module _ (names : List ScopeName) (vs : List Value) (own : Option (List ℕ)) (f : Value) (many : ℕ) (len : many ≡ length names) where
+  slots_of : (o : Option (List ℕ)) → length (placed_values names vs ++ own_value o f) ≡ length names + length (option_to_list o)
+  slots_of o = length-append (placed_values names vs) (own_value o f) ∙ (λ j. length-map {B = List ℕ × Value} names (λ n. (n.text, first_value n.argument vs)) j + length-map {B = List ℕ × Value} (option_to_list o) (λ x. (x, f)) j)
+
+  pub slots_none : own ≡ None → many + 1 ≡ length (placed_values names vs ++ own_value own f) + 1
+  slots_none e = omega (arith, len, ap (λ (o : Option (List ℕ)). length (placed_values names vs ++ own_value o f)) e ∙ slots_of None)
+
+  pub slots_own : (name : List ℕ) → own ≡ Some name → many + 2 ≡ length (placed_values names vs ++ own_value own f) + 1
+  slots_own name e = omega (arith, len, ap (λ (o : Option (List ℕ)). length (placed_values names vs ++ own_value o f)) e ∙ slots_of (Some name))
 
 -- what a store becomes
 module _ (s : Cells) (names : List (List ℕ)) (cs : List NumberedCell) {raws : List (ℕ × ℕ)} (kept : List Counts) (view : (let c : Cells = record { cells = cells_of names cs; kept = kept } in c ≡ s)) (shape : IsShape names cs raws kept) where

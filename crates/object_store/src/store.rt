@@ -14,12 +14,12 @@ ghost use Rattle.object_store.specs.Calls.{Adds, AreFirstPairs, HasLength, IsAdd
 ghost use Rattle.object_store.specs.Elements.{HasHidden, array_length, bunch_nodes, element, reference_in, shows_own};
 ghost use Rattle.object_store.specs.Grows.{Grows};
 ghost use Rattle.store_cells.specs.Cells.{own_number_of, IsOwner, IsWidget, number_in};
-ghost use Rattle.store_cells.specs.First.{first_value, first_values, placed_values};
+ghost use Rattle.store_cells.specs.First.{first_values};
 ghost use Rattle.store_cells.specs.Born.{HaveCells, IsScopeOf, array_cell, bunch_cells, new_cell, object_cell, raw_place, scope_cell, unset};
 
 use code_units::{Memory, Owner, Text};
 use indexmap::IndexMap;
-use js_tree::{FunId, ScopeName};
+use js_tree::FunId;
 use keyed_names::{Keys, NumberKeys};
 use permitted_table::{HostEntry, NativeId};
 use property_names::PropertyNames;
@@ -32,7 +32,7 @@ use store_cells::counts::{
 };
 use store_cells::{CellId, CellKind, FirstNames, Form, FunParts, Number, Value};
 use store_table::table::{OwnPlace, Target};
-use store_table::{bunch, host, table};
+use store_table::{bunch, host, scopes, table};
 
 /// What is to be made: an Object on its prototype, an Array, a Function, a Scope with its names, or a
 /// Bunch of page nodes; or, paid in one, an Object or a Scope with its first pairs, or an Array with
@@ -74,38 +74,14 @@ fn unset(alloc: Global, names: &[Text]) -> Result<Vec<(Text, Value)>, Memory>
     Ok(pairs)
 }
 
-// The names of the scope of a call with their first values.
-fn first_pairs(alloc: Global, first: &FirstNames) -> Result<Vec<(Text, Value)>, Memory>
-    ensures { IfOk result (λ pairs. pairs.items ≡ first_values first.now) }
+// The slots of the scope of a call: one, and one more for each name.
+#[inline(always)]
+fn call_slots(first: &FirstNames) -> usize
+    ensures { result ≡ length (first_values first.now) + 1 }
 {
-    let mut pairs = placed(alloc, first.names, first.args)?;
-    if let Some(own) = first.own {
-        pairs.push((own.share()?, first.func.share()?))?;
-    }
-    Ok(pairs)
-}
-
-// The names with the arguments at their places.
-fn placed(alloc: Global, names: &[ScopeName], args: &[Value]) -> Result<Vec<(Text, Value)>, Memory>
-    ensures { IfOk result (λ pairs. pairs.items ≡ placed_values names.now args.now) }
-{
-    let mut pairs = Vec::new(alloc);
-    for name in names {
-        pairs.push((name.text.share()?, first_value(args, name.argument)?))?;
-    }
-    Ok(pairs)
-}
-
-// The argument at a place.
-fn first_value(args: &[Value], place: Option<usize>) -> Result<Value, Memory>
-    ensures { IfOk result (λ v. v ≡ first_value place args.now) }
-{
-    match place {
-        None => Ok(Value::Undefined),
-        Some(k) => match args.get(k) {
-            None => Ok(Value::Undefined),
-            Some(value) => value.share(),
-        },
+    match first.own {
+        None => first.names.len() + 1,
+        Some(_) => first.names.len() + 2,
     }
 }
 
@@ -835,8 +811,15 @@ impl Store {
         ensures err { IfErr result (λ e. Refuses e (cost_refusal self.old.kept w 0 (length (first_values first.now) + 1))) }
         ensures same { OnErr result (self.new ≡ self.old) }
     {
-        let pairs = first_pairs(alloc, first)?;
-        self.make_scope(alloc, w, outer, &pairs)
+        let slots = counts::afford(&self.kept, w, 0, call_slots(first))?;
+        let head = table::scope_head(w, outer);
+        let maker = Maker {
+            alloc,
+            key: self.key,
+        };
+        let id = scopes::add_scope(maker, &mut self.names, &mut self.cells, head, first)?;
+        counts::pay(&mut self.kept, w, 0, slots);
+        Ok(id)
     }
 
     // `make`, without what widgets see of it.
