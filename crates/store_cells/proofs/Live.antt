@@ -1,6 +1,7 @@
 -- A table with holes, without them.
-use Rattle.std.proofs.Common.{◌≡◌, ℕ, zero, suc, ◌+◌, ◌-◌, ◌<◌, ◌≤◌, List, [], ◌∷◌, ◌++◌, length, get_or, set, take, drop, refl, sym, ap, ◌∙◌, subst, Option, Some, None, arith, Bool, true, false, eqb, cond, if◌then◌else◌, true≢false, slice_get, is_some, length-append}
+use Rattle.std.proofs.Common.{◌≡◌, ℕ, zero, suc, ◌+◌, ◌-◌, ◌<◌, ◌≤◌, List, [], ◌∷◌, ◌++◌, length, get_or, set, take, drop, refl, sym, ap, ◌∙◌, subst, Option, Some, None, arith, Bool, true, false, eqb, cond, if◌then◌else◌, true≢false, slice_get, is_some, length-append, position}
 use Rattle.std.specs.Prelude.{IfSome, option_to_list, ◌&&◌, ◌||◌, unwrap_or}
+use Rattle.std.specs.Cmp.{nat_eq_equiv}
 use Rattle.std.specs.List.{AllByRecursion, IsDistinct, list_any, swap_remove}
 use Rattle.std.specs.Map.{keys_of, lookup, remove_entry}
 use Rattle.std.specs.Option.{option_and_then, option_map, option_map_or}
@@ -9,6 +10,8 @@ use Rattle.std.proofs.lemmas.Map.Keys.{IsDistinct-head, IsDistinct-tail}
 use Rattle.std.proofs.lemmas.Map.Made.{IsDistinct-keys_filter}
 use Rattle.std.proofs.lemmas.Option.{slice_get-get_or, unwrap_or-slice_get}
 use Rattle.indexmap.specs.IndexMap.{insert_entry}
+use Rattle.indexmap.proofs.MapLemmas.{index-first, some_index}
+use Rattle.indexmap.proofs.RemoveLemmas.{own_first}
 use Rattle.code_units.specs.Indices.{index_of}
 use Rattle.store_cells.specs.declared.pairs.TheConstants.{FIRST_HOLE}
 use Rattle.store_cells.specs.declared.value.Value.{Value}
@@ -116,6 +119,13 @@ name_is n lt = grind (arith, nat_tests, lt)
 
 pub hole_is : (n : ℕ) → FIRST_HOLE ≤ n → is_name n ≡ false
 hole_is n le = grind (arith, nat_tests, le)
+
+-- a name that stands at a place
+pub stands_first : (n k place : ℕ) (v : Value) (es : List (ℕ × Value)) → IsDistinct eqb (keys_of es) → slice_get es place ≡ Some (k, v) → eqb k n ≡ true → position (eqb n) (keys_of es) ≡ Some place
+stands_first n k place v es distinct at same = index-first (eqb n) es place (own_first eqb nat_eq_equiv es place n v distinct (at ∙ ap (λ m. Some (m, v)) (same_number k n same)))
+
+pub place_held : (n : ℕ) (o : Option ℕ) (es : List (ℕ × Value)) → is_name n ≡ true → o ≡ position (eqb n) (keys_of es) → is_some o ≡ is_some (lookup (eqb n) (live es))
+place_held n o es name is = ap is_some is ∙ some_index (eqb n) es ∙ ap is_some (live_lookup n es name)
 
 -- pairs of names have no holes
 pub known_live : (es : List (ℕ × Value)) → Known FIRST_HOLE es → live es ≡ es

@@ -312,6 +312,14 @@ impl Cell {
         pairs::value(&self.table, n)
     }
 
+    /// Where its table has a name of its own. A name stays where it is till one is taken out.
+    #[inline(always)]
+    pub fn place_of(&self, n: u32) -> Option<usize>
+        ensures { is_some result ≡ is_some (lookup (nat_eq n) self.now.entries) }
+    {
+        pairs::place_of(&self.table, n)
+    }
+
     /// Whether a name is listed: it is permitted, and no `length` of an Array.
     pub fn is_listed(&self, name: &Text) -> bool
         ensures { result ≡ is_listed self.now name.now }
@@ -447,6 +455,19 @@ impl Cell {
         match self.table.insert(n, value) {
             Ok(_) => {}
             Err(_) => unreachable!(),
+        }
+    }
+
+    /// Writes under a name that it has, which is looked for at one place of its table first.
+    #[inline(always)]
+    pub fn write_near(&mut self, n: u32, near: usize, value: Value)
+        requires { is_some (lookup (nat_eq n) self.old.entries) ≡ true }
+        ensures { self.new ≡ numbered_held n value self.old }
+    {
+        if pairs::stands_at(&self.table, n, near) {
+            self.table.set(n, near, value);
+        } else {
+            self.write_held(n, value);
         }
     }
 

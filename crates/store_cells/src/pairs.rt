@@ -1,6 +1,6 @@
 //! The pairs of a cell: a table in order in which a name that is taken out leaves a hole, so that no
 //! pair moves.
-ghost use Rattle.std.specs.Prelude.{◌≡◌, ℕ, ◌<◌, ◌≤◌, ◌++◌, List, Option, None, Some, true, false, is_some, nat_eq, length, IfOk, IfSome, OnOk, filter, option_copied, option_to_list, slice_get, if◌then◌else◌, ◌&&◌};
+ghost use Rattle.std.specs.Prelude.{◌≡◌, ℕ, ◌<◌, ◌≤◌, ◌++◌, List, Option, None, Some, true, false, is_some, nat_eq, length, IfOk, IfSome, OnOk, filter, option_copied, option_to_list, position, slice_get, if◌then◌else◌, ◌&&◌};
 ghost use Rattle.std.specs.List.{IsDistinct, list_any};
 ghost use Rattle.std.specs.Map.{keys_of as numbers_of, lookup, remove_entry};
 ghost use Rattle.std.specs.Option.{option_and_then, option_map_or};
@@ -33,6 +33,31 @@ pub(crate) fn value(table: &PairTable<Value>, n: u32) -> Option<&Value>
     ensures { option_copied result ≡ lookup (nat_eq n) (live table.now.entries) }
 {
     if n < FIRST_HOLE { table.get(n) } else { None }
+}
+
+/// The place of a name in the table.
+#[inline(always)]
+pub(crate) fn place_of(table: &PairTable<Value>, n: u32) -> Option<usize>
+    ensures { is_some result ≡ is_some (lookup (nat_eq n) (live table.now.entries)) }
+{
+    if n < FIRST_HOLE {
+        table.get_index_of(n)
+    } else {
+        None
+    }
+}
+
+/// Whether a number stands at a place in the table.
+#[inline(always)]
+pub(crate) fn stands_at(table: &PairTable<Value>, n: u32, place: usize) -> bool
+    ensures { result ≡ true → position (nat_eq n) (numbers_of table.now.entries) ≡ Some place }
+{
+    // This says that the numbers differ.
+    let _len = table.len();
+    match table.get_index(place) {
+        Some((k, _value)) => *k == n,
+        None => false,
+    }
 }
 
 /// The place in the table of the pair at a place among those that are no holes.
