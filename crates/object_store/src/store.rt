@@ -1095,10 +1095,10 @@ impl Store {
         let Some(n) = self.names.number(name) else {
             return false;
         };
-        let Some(i) = table::holder(&self.cells, scope, n) else {
+        let Some(spot) = table::holder(&self.cells, scope, n) else {
             return false;
         };
-        table::set_variable(&self.names, &mut self.cells, i, name, n, value);
+        table::set_variable(&self.names, &mut self.cells, spot, name, n, value);
         true
     }
 
@@ -1133,11 +1133,11 @@ impl Store {
         ensures none { IfNone result (self.new ≡ self.old) }
     {
         let n = self.names.number(name)?;
-        let i = table::holder(&self.cells, scope, n)?;
-        let z = whole_in(table::cell(&self.cells, i).own(n))?;
+        let spot = table::holder(&self.cells, scope, n)?;
+        let z = whole_in(table::cell(&self.cells, spot.cell).own(n))?;
         let sum = whole_sum(z, by)?;
         let value = Value::Num(Number::Whole(sum));
-        table::set_variable(&self.names, &mut self.cells, i, name, n, value);
+        table::set_variable(&self.names, &mut self.cells, spot, name, n, value);
         Some(z)
     }
 

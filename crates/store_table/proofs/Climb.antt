@@ -1,10 +1,12 @@
 -- Steps of a climb, for a loop that makes them.
 use Rattle.std.proofs.Common.{◌≡◌, ℕ, zero, suc, ◌+◌, ◌-◌, ◌<◌, List, refl, ap, ◌∙◌, Option, Some, None, arith, Bool, if◌then◌else◌, is_some, nat_eq, slice_get}
 use Rattle.std.specs.Map.{lookup}
-use Rattle.std.specs.Option.{option_and_then, option_map_or}
+use Rattle.std.specs.Prelude.{IfSome}
+use Rattle.std.specs.Option.{option_and_then, option_map, option_map_or}
 use Rattle.store_cells.specs.Lists.{climb}
 use Rattle.store_cells.specs.Numbered.{NumberedCell, numbered_has, numbered_own}
 use Rattle.store_cells.specs.declared.value.Value.{Value}
+use Rattle.store_table.specs.declared.table.Spot.{Spot}
 
 module _ {X : Type 0} (has : X → Bool) (up : X → Option ℕ) where
   pub climb_none : (n : ℕ) (xs : List X) → climb has up n xs None ≡ None
@@ -45,3 +47,8 @@ module _ (cs : List NumberedCell) (n : ℕ) where
 
   pub along_over : (f : ℕ) (at : Option ℕ) → f ≡ 0 → along_in f at ≡ None
   along_over f at e = ap (option_and_then (numbered_own cs n)) (climb_over (numbered_has n) (λ c. c.head.up) f cs at e)
+
+-- what is said of the cell of a spot
+pub at_spot : (P : ℕ → Type 0) (o : Option Spot) → IfSome (option_map (λ s. s.cell) o) P → IfSome o (λ s. P s.cell)
+at_spot P None h = h
+at_spot P (Some s) h = h

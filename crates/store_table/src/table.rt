@@ -1,5 +1,5 @@
 //! What the store does, on its list of cells by number.
-ghost use Rattle.std.specs.Prelude.{◌≡◌, ◌+◌, ◌<◌, [], ◌∷◌, ◌++◌, None, Some, false, nat_eq, length, map, vec_len, slice_get, option_copied, IfOk, IfSome, OnErr, OnOk, MatchOption, true};
+ghost use Rattle.std.specs.Prelude.{◌≡◌, ◌+◌, ◌<◌, [], ◌∷◌, ◌++◌, None, Some, false, nat_eq, length, map, vec_len, slice_get, option_copied, option_map, IfOk, IfSome, OnErr, OnOk, MatchOption, true};
 ghost use Rattle.std.specs.List.{IsDistinct, fold};
 ghost use Rattle.std.specs.Map.{lookup};
 ghost use Rattle.std.specs.Str.{bytes_eq};
@@ -36,18 +36,25 @@ pub struct OwnPlace {
 /// How many names, and how many cells, a store may have.
 pub const MOST: usize = 1 << 31;
 
+/// Where a variable was found: the cell, and a place in its table that is looked at first.
+#[derive(Clone, Copy, Drop)]
+pub struct Spot {
+    pub cell: CellId,
+    pub near: usize,
+}
+
 // The first cell that has the name, from one cell on upwards.
 #[tactic(auto, using(crate::proofs::Climb::climb_none, crate::proofs::Climb::climb_more, crate::proofs::Climb::climb_over))]
 #[inline(always)]
-fn holder_on(cells: &[Cell], from: CellId, n: u32) -> Option<CellId>
-    ensures { result ≡ numbered_holder cells.now from n }
+fn holder_on(cells: &[Cell], from: CellId, n: u32) -> Option<Spot>
+    ensures { option_map (λ s. s.cell) result ≡ numbered_holder cells.now from n }
 {
     let mut at = Some(from);
     for _k in 0..cells.len() {
         let i = at?;
         let cell = cell_on(cells, i)?;
-        if cell.has(n) {
-            return Some(i);
+        if let Some(near) = cell.place_of(n) {
+            return Some(Spot { cell: i, near });
         }
         at = cell.head().up;
     }
@@ -61,12 +68,12 @@ fn cell_on(cells: &[Cell], i: CellId) -> Option<&Cell>
     cells.get(i as usize)
 }
 
-/// The first cell that has the name, from one cell on upwards.
+/// The first cell that has the name, from one cell on upwards, and where it has it.
 #[inline(always)]
-pub fn holder(cells: &Vec<Cell>, from: CellId, n: u32) -> Option<CellId>
-    ensures first { result ≡ numbered_holder cells.now.items from n }
-    ensures held { IfSome result (λ i. numbered_has_at cells.now.items i (Some n) ≡ true) }
-    ensures within { IfSome result (λ i. i < vec_len cells.now) }
+pub fn holder(cells: &Vec<Cell>, from: CellId, n: u32) -> Option<Spot>
+    ensures first { option_map (λ s. s.cell) result ≡ numbered_holder cells.now.items from n }
+    ensures held { IfSome result (λ s. numbered_has_at cells.now.items s.cell (Some n) ≡ true) }
+    ensures within { IfSome result (λ s. s.cell < vec_len cells.now) }
 {
     holder_on(cells, from, n)
 }
@@ -283,25 +290,25 @@ fn end_of(name: &Text) -> u32
     }
 }
 
-/// Writes a variable that the scope at `i` has.
+/// Writes a variable where it was found.
 #[inline(always)]
 pub fn set_variable(
     names: &PropertyNames,
     cells: &mut Vec<Cell>,
-    i: CellId,
+    spot: Spot,
     name: &Text,
     n: u32,
     value: Value,
 )
-    requires at { i < vec_len cells.old }
+    requires at { spot.cell < vec_len cells.old }
     requires base { IsBase names.now cells.old.items }
     requires number { (slice_get names.now n ≡ Some name.now) × (n < length names.now) }
-    requires variable { IsVariable cells.old.items n i }
+    requires variable { IsVariable cells.old.items n spot.cell }
     requires value { IsRefWithin (length cells.old.items) value }
-    ensures { Wrote names.now cells.old.items names.now cells.new.items i (written name.now value) }
+    ensures { Wrote names.now cells.old.items names.now cells.new.items spot.cell (written name.now value) }
 {
-    let cell = &mut cells[i as usize];
-    cell.write_held(n, value);
+    let cell = &mut cells[spot.cell as usize];
+    cell.write_near(n, spot.near, value);
 }
 
 /// Puts a cell last.

@@ -5,14 +5,14 @@ use Rattle.store_cells.proofs.Lists.{set_is}
 use Rattle.store_cells.proofs.Takes.{has_variable, wrote_variable}
 use Rattle.store_table.proofs.table.set_variable.Goals as goal
 
-pub write_held-requires : goal.write_held-requires
-write_held-requires c =
+pub write_near-requires : goal.write_near-requires
+write_near-requires c =
     let cs = c.args.cells.now.items in
     let x = c.index_mut-cell.result.now in
-    has_variable c.args.names.now cs c.requires.base c.requires.variable.from c.args.i c.requires.variable.scope c.args.name.now c.args.n c.requires.number.0 c.requires.number.1 c.requires.variable.found x (slice_get_read cs (length cs) c.args.i x refl (omega (arith, c.requires.at, c.args.cells.now.ok.0)) c.index_mut-cell.ensures.value)
+    has_variable c.args.names.now cs c.requires.base c.requires.variable.from c.args.spot.cell c.requires.variable.scope c.args.name.now c.args.n c.requires.number.0 c.requires.number.1 c.requires.variable.found x (slice_get_read cs (length cs) c.args.spot.cell x refl (omega (arith, c.requires.at, c.args.cells.now.ok.0)) c.index_mut-cell.ensures.value)
 
 pub returns : goal.returns
 returns c =
     let cs = c.args.cells.now.items in
     let x = c.index_mut-cell.result.now in
-    wrote_variable c.args.names.now cs c.requires.base c.requires.variable.from c.args.i c.requires.variable.scope c.args.name.now c.args.n c.requires.number.0 c.requires.number.1 c.requires.variable.found c.args.value c.requires.value _ (set_is cs c.args.i x c.write_held.new.self (numbered_held c.args.n c.args.value) (slice_get_read cs (length cs) c.args.i x refl (omega (arith, c.requires.at, c.args.cells.now.ok.0)) c.index_mut-cell.ensures.value) c.write_held.ensures)
+    wrote_variable c.args.names.now cs c.requires.base c.requires.variable.from c.args.spot.cell c.requires.variable.scope c.args.name.now c.args.n c.requires.number.0 c.requires.number.1 c.requires.variable.found c.args.value c.requires.value _ (set_is cs c.args.spot.cell x c.write_near.new.self (numbered_held c.args.n c.args.value) (slice_get_read cs (length cs) c.args.spot.cell x refl (omega (arith, c.requires.at, c.args.cells.now.ok.0)) c.index_mut-cell.ensures.value) c.write_near.ensures)
