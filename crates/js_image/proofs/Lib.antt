@@ -10,11 +10,11 @@ mod Named
 pub mod Nodes
 pub mod Makes
 pub mod Faults
-mod Firsts
 pub mod Chains
 pub mod Variables
 pub mod Found
 pub mod Writes
+mod Sums
 pub mod Arrays
 pub mod ForIn
 pub mod Pushes

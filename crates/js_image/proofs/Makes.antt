@@ -1,5 +1,5 @@
 -- What is made, as the widget sees it.
-use Rattle.std.proofs.Common.{◌≡◌, ℕ, suc, ◌+◌, ◌<◌, ◌≤◌, List, [], ◌∷◌, ◌++◌, length, refl, sym, ap, ◌∙◌, subst, Option, Some, None, arith, Bool, true, false, eqb, if◌then◌else◌, slice_get, map}
+use Rattle.std.proofs.Common.{◌≡◌, ℕ, Global, Vec, suc, ◌+◌, ◌<◌, ◌≤◌, List, [], ◌∷◌, ◌++◌, length, refl, sym, ap, ◌∙◌, subst, Option, Some, None, arith, Bool, true, false, eqb, if◌then◌else◌, slice_get, map}
 use Rattle.std.specs.Prelude.{◌||◌, ◌&&◌}
 use Rattle.std.specs.Fmt.{decimal}
 use Rattle.std.specs.List.{AllByRecursion}
@@ -22,10 +22,10 @@ use Rattle.store_cells.specs.Host.{array_prototype, bunch_prototype, function_pr
 use Rattle.store_cells.specs.Shape.{AreElements, AreRefs, IsRefWithin}
 use Rattle.object_store.specs.declared.store.NewCell.{NewCell}
 use Rattle.object_store.specs.declared.store.NewCell.TheVariants as fresh
-use Rattle.object_store.specs.Calls.{IsMade, IsMakeable, born, cells_for, make_refusal, slots_of}
+use Rattle.object_store.specs.Calls.{Adds, IsMade, IsMakeable, born, cells_for, make_refusal, slots_of}
 use Rattle.object_store.specs.Grows.{Grows}
 use Rattle.object_store.specs.Owned as store
-use Rattle.object_store.specs.Owned.{Made, OwnCell, Owned, filled_own, first_cell, is_of, is_own_scope, is_own_scope_at, made_cells, made_scopes, own_link, own_made, own_pairs, own_value, owned, scope_number, visible_at}
+use Rattle.object_store.specs.Owned.{Made, OwnCell, Owned, ScopeMade, filled_own, first_cell, is_of, is_own_scope, is_own_scope_at, made_cells, made_scopes, own_link, own_made, own_paid, own_pairs, own_scoped, own_value, owned, scope_number, visible_at}
 use Rattle.object_store.proofs.Views.{append_none}
 use Rattle.widget_meaning.specs.Values as meaning
 use Rattle.widget_meaning.specs.OwnState.{Cell, Scope, State, new_array, with_new_cell, with_new_scope}
@@ -34,10 +34,10 @@ use Rattle.widget_meaning.specs.Costs.{make, pay, scope_cost, slots_cost, with_c
 use Rattle.widget_meaning.specs.NativeForms.{numbered_pairs}
 use Rattle.js_image.specs.declared.outcome.StopCause.{StopCause}
 use Rattle.js_image.specs.Image.{Rest, all_seen, image, meant, meant_cell, meant_counts, meant_scope, seen, seen_pairs, state_of}
-use Rattle.js_image.specs.Held.{AreFine, ArePairs, IsConfined, IsFine, IsFineCell, IsFineFor, IsFunOf, IsHeld, IsOwnScope, IsPlaceScope, Kept, PassNodes}
+use Rattle.js_image.specs.Held.{AreFine, ArePairs, IsConfined, IsFine, IsFineCell, IsFineFor, IsFunOf, IsHeld, IsOwnScope, IsPlaceScope, Kept}
 use Rattle.js_image.specs.Plans.{IsNew, IsNewOf, IsStopOf, begins_permitted, meant_cause, meant_new, scope_of}
 use Rattle.js_image.proofs.Named.{all_permitted, elements_permitted, length_permitted}
-use Rattle.js_image.proofs.Nodes.{hold_more, pass_made, rise_to}
+use Rattle.js_image.proofs.Nodes.{hold_more, hold_same, pass_made, rise_to}
 use Rattle.js_image.proofs.Pays.{cost_plan, pay_is, stops}
 use Rattle.js_image.proofs.Grown.{all_passed_over, confined_more, fine_stays, held_stays, pairs_stay, place_stays}
 
@@ -270,8 +270,11 @@ module _ (w : ℕ) (old new : Cells) (n : NewCell) (h : IsNew w old.cells n) whe
     new_refused e c is refused same go =
         paid_first go ∙ stops e c (make_refusal old w n) st _ is refused ∙ ap (λ s. Halt (meant_cause c) (image fs r w s)) (sym same)
 
--- a scope that is made
-module _ (w : ℕ) (old new : Cells) (outer : Option ℕ) (ps : List (List ℕ × StoreValue)) (n : NewCell) (born_is : born old.cells w n ≡ scope_cell w outer ps ∷ []) where
+-- a scope that is made with its first pairs
+module _ (w : ℕ) (old new : Cells) (outer : Option ℕ) (ps : List (List ℕ × StoreValue)) where
+  abbrev pub IsAdded : ℕ → Type 0
+  IsAdded id = Adds old new w id (scope_cell w outer ps ∷ []) 0 (length ps + 1)
+
   scope_fine : (fs : List Forest) → Grows w old.cells new.cells → IsPlaceScope w old.cells outer → ArePairs w old.cells ps → AllByRecursion (IsFineFor fs w new.cells) (scope_cell w outer ps ∷ [])
   scope_fine fs g o h = (
     record {
@@ -281,28 +284,43 @@ module _ (w : ℕ) (old new : Cells) (outer : Option ℕ) (ps : List (List ℕ �
     tt,
   )
 
-  scope_cells : (id : ℕ) → IsMade old new w id n → new.cells ≡ old.cells ++ scope_cell w outer ps ∷ []
-  scope_cells id made = ap (λ (t : Cells). t.cells) made.done ∙ ap (λ l. old.cells ++ l) born_is
+  scope_cells : (id : ℕ) → IsAdded id → new.cells ≡ old.cells ++ scope_cell w outer ps ∷ []
+  scope_cells id added = ap (λ (t : Cells). t.cells) added.done
 
-  pub scope_held : (id : ℕ) → IsMade old new w id n → IsOwnScope w new.cells id
-  scope_held id made =
-      let e = scope_cells id made in (
-        subst (λ (l : List PlainCell). id < length l) (sym e) (subst (λ i. i < length (old.cells ++ scope_cell w outer ps ∷ [])) (sym made.place) (longer old.cells (scope_cell w outer ps) [])),
-        (λ j. is_own_scope_at w (e j) (made.place j)) ∙ ap (λ (o : Option PlainCell). option_map_or (is_own_scope w) o false) (get_last old.cells (scope_cell w outer ps) []) ∙ ap (λ b. b && true) (eqb_self w),
+  pub scope_held : (id : ℕ) → IsAdded id → IsOwnScope w new.cells id
+  scope_held id added =
+      let e = scope_cells id added in (
+        subst (λ (l : List PlainCell). id < length l) (sym e) (subst (λ i. i < length (old.cells ++ scope_cell w outer ps ∷ [])) (sym added.place) (longer old.cells (scope_cell w outer ps) [])),
+        (λ j. is_own_scope_at w (e j) (added.place j)) ∙ ap (λ (o : Option PlainCell). option_map_or (is_own_scope w) o false) (get_last old.cells (scope_cell w outer ps) []) ∙ ap (λ b. b && true) (eqb_self w),
       )
 
-  pub scope_kept : (id : ℕ) → IsMade old new w id n → Made w old new id n → made_cells w old.cells n ≡ [] → ((v : ℕ) → Grows v old.cells new.cells) → ((v : ℕ) → (w ≡ v → ⊥) → owned v new ≡ owned v old) → IsPlaceScope w old.cells outer → ArePairs w old.cells ps → (fs : List Forest) → Kept fs w old new
-  scope_kept id made own none grows others o h fs = record {
-    confined = confined_more fs w old new (scope_cell w outer ps ∷ []) (scope_cells id made) (grows w) (scope_fine fs (grows w) o h);
+  -- so another widget stays confined
+  scope_apart : (v : ℕ) (id : ℕ) → (w ≡ v → ⊥) → IsAdded id → Grows v old.cells new.cells → (fs : List Forest) → IsConfined fs v old → IsConfined fs v new
+  scope_apart v id apart added grows fs = confined_more fs v old new (scope_cell w outer ps ∷ []) (scope_cells id added) grows (all_passed_over fs v new.cells (scope_cell w outer ps ∷ []) (apart_test v w apart, tt))
+
+  pub scope_kept : (id : ℕ) → IsAdded id → ScopeMade w old new id outer ps → ((v : ℕ) → Grows v old.cells new.cells) → ((v : ℕ) → (w ≡ v → ⊥) → owned v new ≡ owned v old) → IsPlaceScope w old.cells outer → ArePairs w old.cells ps → (fs : List Forest) → Kept fs w old new
+  scope_kept id added own grows others o h fs = record {
+    confined = confined_more fs w old new (scope_cell w outer ps ∷ []) (scope_cells id added) (grows w) (scope_fine fs (grows w) o h);
     grows = grows w;
     others = others;
     others_grow = λ v apart. grows v;
-    others_confined = λ gs v apart. made_apart v w old new id n apart made (grows v) gs;
-    nodes = λ p held. hold_more p w old new (made_cells w old.cells n) (ap (λ (q : Owned). q.heap) own.seen) (subst (AllByRecursion (λ (c : OwnCell). PassNodes p c.kind)) (sym none) tt) held;
-    counts = rise_to (cells_for n) (slots_of n) 0 (owned w old).paid (owned w new).paid (ap (λ (q : Owned). q.paid) own.seen);
+    others_confined = λ gs v apart. scope_apart v id apart added (grows v) gs;
+    nodes = λ p. hold_same p w old new (ap (λ (q : Owned). q.heap) own.seen);
+    counts = rise_to 0 (length ps + 1) 0 (owned w old).paid (owned w new).paid (ap (λ (q : Owned). q.paid) own.seen);
   }
 
-  module _ (no_cells : made_cells w old.cells n ≡ []) (its : made_scopes w old.cells n ≡ (record { outer = option_map (scope_number w old.cells) outer; pairs = own_pairs w old.cells ps }) ∷ []) (none : cells_for n ≡ 0) (slots : slots_of n ≡ length ps + 1) (fs : List Forest) (r : Rest) (k : Counts) (at : slice_get old.kept w ≡ Some k) (units : k.units ≤ UNIT_LIMIT) where
+  -- what `make` says of it
+  pub scope_seen : (id : ℕ) (pairs : Vec (List ℕ × StoreValue) Global) → pairs.items ≡ ps → Made w old new id (fresh.ScopeWith outer pairs) → ScopeMade w old new id outer ps
+  scope_seen id pairs same made = record {
+    seen = made.seen ∙ (λ j. own_paid 0 (length (same j) + 1) 0 (record {
+      heap = append_none (owned w old).heap j;
+      scopes = (owned w old).scopes ++ (record { outer = option_map (scope_number w old.cells) outer; pairs = own_pairs w old.cells (same j) }) ∷ [];
+      paid = (owned w old).paid;
+    }));
+    scope = made.scope;
+  }
+
+  module _ (fs : List Forest) (r : Rest) (k : Counts) (at : slice_get old.kept w ≡ Some k) (units : k.units ≤ UNIT_LIMIT) where
     abbrev scope_st : State
     scope_st = image fs r w old
 
@@ -312,11 +330,13 @@ module _ (w : ℕ) (old new : Cells) (outer : Option ℕ) (ps : List (List ℕ �
     abbrev new_scope : Scope
     new_scope = scope_of w old.cells outer ps
 
-    scope_state : state_of fs r (own_made w old n) ≡ with_new_scope (with_counts scope_st (meant_counts nodes_paid (Some (paid 0 (length ps + 1) 0 k)))) new_scope
+    abbrev after_paid : State
+    after_paid = with_counts scope_st (meant_counts nodes_paid (Some (paid 0 (length ps + 1) 0 k)))
+
+    scope_state : state_of fs r (own_scoped w old outer ps) ≡ with_new_scope after_paid new_scope
     unfolding owned
     scope_state =
-        (λ j. state_of fs r (record { heap = (owned w old).heap ++ no_cells j; scopes = (owned w old).scopes ++ its j; paid = option_map (paid (none j) (slots j) 0) (at j) }))
-        ∙ (λ j. state_of fs r (record { heap = append_none (owned w old).heap j; scopes = (owned w old).scopes ++ (record { outer = option_map (scope_number w old.cells) outer; pairs = own_pairs w old.cells ps }) ∷ []; paid = Some (paid 0 (length ps + 1) 0 k) }))
+        (λ j. state_of fs r (record { heap = (owned w old).heap; scopes = (owned w old).scopes ++ (record { outer = option_map (scope_number w old.cells) outer; pairs = own_pairs w old.cells ps }) ∷ []; paid = option_map (paid 0 (length ps + 1) 0) (at j) }))
         ∙ ap (λ l. with_counts (record scope_st { own = record scope_st.own { scopes = l } }) (meant_counts nodes_paid (Some (paid 0 (length ps + 1) 0 k)))) (map-append meant_scope (owned w old).scopes ((record { outer = option_map (scope_number w old.cells) outer; pairs = own_pairs w old.cells ps }) ∷ []))
 
     same_slots : 1 + length new_scope.pairs ≡ length ps + 1
@@ -325,21 +345,19 @@ module _ (w : ℕ) (old new : Cells) (outer : Option ℕ) (ps : List (List ℕ �
         turned : (l : ℕ) → 1 + l ≡ l + 1
         turned l = omega arith
 
-    scope_paid : (go : ℕ → State → Plan) → pay (scope_cost new_scope) scope_st (λ t. go (length t.own.scopes) (with_new_scope t new_scope)) ≡ cost_plan (make_refusal old w n) scope_st (go (length scope_st.own.scopes) (with_new_scope (with_counts scope_st (meant_counts nodes_paid (Some (paid 0 (length ps + 1) 0 k)))) new_scope))
+    scope_paid : (go : ℕ → State → Plan) → pay (scope_cost new_scope) scope_st (λ t. go (length t.own.scopes) (with_new_scope t new_scope)) ≡ cost_plan (cost_refusal old.kept w 0 (length ps + 1)) scope_st (go (length scope_st.own.scopes) (with_new_scope after_paid new_scope))
     scope_paid go =
         ap (λ l. pay (slots_cost l) scope_st (λ t. go (length t.own.scopes) (with_new_scope t new_scope))) same_slots
         ∙ pay_is fs r w old k at units 0 (length ps + 1) (λ t. go (length t.own.scopes) (with_new_scope t new_scope))
-        ∙ (λ j. cost_plan (cost_refusal old.kept w (sym none j) (sym slots j)) scope_st (go (length scope_st.own.scopes) (with_new_scope (with_counts scope_st (meant_counts nodes_paid (Some (paid 0 (length ps + 1) 0 k)))) new_scope)))
 
-    pub scope_made : (id : ℕ) → IsMade old new w id n → Made w old new id n → (go : ℕ → State → Plan) → pay (scope_cost new_scope) scope_st (λ t. go (length t.own.scopes) (with_new_scope t new_scope)) ≡ go (scope_number w new.cells id) (image fs r w new)
-    scope_made id made own go =
-        let t = with_counts scope_st (meant_counts nodes_paid (Some (paid 0 (length ps + 1) 0 k))) in
+    pub scope_made : (id : ℕ) → IsAdded id → ScopeMade w old new id outer ps → (go : ℕ → State → Plan) → pay (scope_cost new_scope) scope_st (λ t. go (length t.own.scopes) (with_new_scope t new_scope)) ≡ go (scope_number w new.cells id) (image fs r w new)
+    scope_made id added own go =
         let number : length scope_st.own.scopes ≡ scope_number w new.cells id = length-map (owned w old).scopes meant_scope ∙ sym own.scope in
-        let after : with_new_scope t new_scope ≡ image fs r w new = sym (ap (state_of fs r) own.seen ∙ scope_state) in
+        let after : with_new_scope after_paid new_scope ≡ image fs r w new = sym (ap (state_of fs r) own.seen ∙ scope_state) in
         scope_paid go
-        ∙ ap (λ o. cost_plan o scope_st (go (length scope_st.own.scopes) (with_new_scope t new_scope))) made.paid
+        ∙ ap (λ o. cost_plan o scope_st (go (length scope_st.own.scopes) (with_new_scope after_paid new_scope))) added.paid
         ∙ (λ j. go (number j) (after j))
 
-    pub scope_refused : (e : StoreFault) (c : StopCause) → IsStopOf e c → Refuses e (make_refusal old w n) → new ≡ old → (go : ℕ → State → Plan) → pay (scope_cost new_scope) scope_st (λ t. go (length t.own.scopes) (with_new_scope t new_scope)) ≡ Halt (meant_cause c) (image fs r w new)
+    pub scope_refused : (e : StoreFault) (c : StopCause) → IsStopOf e c → Refuses e (cost_refusal old.kept w 0 (length ps + 1)) → new ≡ old → (go : ℕ → State → Plan) → pay (scope_cost new_scope) scope_st (λ t. go (length t.own.scopes) (with_new_scope t new_scope)) ≡ Halt (meant_cause c) (image fs r w new)
     scope_refused e c is refused same go =
-        scope_paid go ∙ stops e c (make_refusal old w n) scope_st _ is refused ∙ ap (λ s. Halt (meant_cause c) (image fs r w s)) (sym same)
+        scope_paid go ∙ stops e c (cost_refusal old.kept w 0 (length ps + 1)) scope_st _ is refused ∙ ap (λ s. Halt (meant_cause c) (image fs r w s)) (sym same)

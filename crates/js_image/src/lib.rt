@@ -21,7 +21,7 @@ pub use reading::{get, is_found, keys, keys_len, property_at, variable, variable
 pub use receivers::{
     array_length, bunch_nodes, element, elements, has_objects, has_own, new_indexes,
 };
-pub use writing::{assign, push_paid, put, remove};
+pub use writing::{add_to, assign, push_paid, put, remove};
 
 // Handed on to the crates above, which name it so.
 pub use object_store;

@@ -4,7 +4,7 @@ ghost use Rattle.std.specs.List.{IsDistinct, list_all};
 ghost use Rattle.std.specs.Str.{bytes_eq};
 ghost use Rattle.code_units.specs.Permitted.{is_permitted};
 ghost use Rattle.js_tree.specs.Forest.{Forest};
-ghost use Rattle.store_cells.specs.First.{first_value, first_values, placed_values};
+ghost use Rattle.store_cells.specs.First.{first_values};
 ghost use Rattle.object_store.specs.Calls.{slots_of};
 ghost use Rattle.widget_meaning.specs.Values.{Value as Meant};
 ghost use Rattle.widget_meaning.specs.OwnState.{State, plain_object, with_new_scope};
@@ -18,9 +18,7 @@ ghost use Rattle.js_image.specs.Plans.{IsFineMade, IsNew, IsNewOf, IsScopeMade, 
 use crate::laws::lawful;
 use crate::outcome::{Fault, Made, Paid, StopCause};
 use crate::paying::pay_units;
-use crate::reading::shared;
 use code_units::{Memory, Owner, Text, permitted};
-use js_tree::ScopeName;
 use object_store::{CellId, FirstNames, HostEntry, NewCell, Store, StoreFault, UNIT_LIMIT, Value};
 use std::alloc::Global;
 
@@ -155,43 +153,10 @@ pub fn make_call_scope(
     ensures fine { IfOk result (λ m. IsScopeMade w store.new.cells m) }
     ensures kept { (fs : List Forest) → Kept fs w store.old store.new }
 {
-    let pairs = first_pairs(alloc, first)?;
-    make_scope(alloc, store, w, outer, pairs)
-}
-
-// The names of a call's scope with their first values.
-fn first_pairs(alloc: Global, first: &FirstNames) -> Result<Vec<(Text, Value)>, Memory>
-    ensures { IfOk result (λ ps. ps.items ≡ first_values first.now) }
-{
-    let mut pairs = placed_pairs(alloc, first.names, first.args)?;
-    if let Some(own) = first.own {
-        pairs.push((own.share()?, first.func.share()?))?;
-    }
-    Ok(pairs)
-}
-
-// Names with the arguments at their places.
-fn placed_pairs(
-    alloc: Global,
-    names: &Vec<ScopeName>,
-    args: &[Value],
-) -> Result<Vec<(Text, Value)>, Memory>
-    ensures { IfOk result (λ ps. ps.items ≡ placed_values names.now.items args.now) }
-{
-    let mut pairs = Vec::with_capacity(alloc, names.len())?;
-    'names: for name in names {
-        pairs.push((name.text.share()?, argument(args, name.argument)?))?;
-    }
-    Ok(pairs)
-}
-
-// The argument at a place, undefined where there is none.
-fn argument(args: &[Value], place: Option<usize>) -> Result<Value, Memory>
-    ensures { IfOk result (λ v. v ≡ first_value place args.now) }
-{
-    match place {
-        None => Ok(Value::Undefined),
-        Some(k) => shared(args.get(k)),
+    let _paid = store.counts(Owner::Widget(w));
+    match store.make_call_scope(alloc, w, outer, first) {
+        Ok(id) => Ok(Made::Cell(id)),
+        Err(fault) => Ok(Made::Stop(stop_of(fault)?)),
     }
 }
 
@@ -223,6 +188,8 @@ fn fault_pairs(alloc: Global, fault: Fault) -> Result<Vec<(Text, Value)>, Memory
 }
 
 // The stop of a cost that a widget cannot pay.
+#[cold]
+#[inline(never)]
 fn stop_of(fault: StoreFault) -> Result<StopCause, Memory>
     ensures { IfOk result (λ c. IsStopOf fault c) }
 {

@@ -1,10 +1,12 @@
 //! What is written to the store.
-ghost use Rattle.std.specs.Prelude.{◌≡◌, ℕ, ◌<◌, Bool, List, IfOk, OnOk};
+ghost use Rattle.std.specs.Prelude.{◌≡◌, ℕ, ◌+ℤ◌, ◌<◌, Bool, true, List, IfOk, IfNone, IfSome, OnOk, nat_lt, unsigned_abs};
 ghost use Rattle.std.specs.Fmt.{decimal};
 ghost use Rattle.std.specs.Option.{option_map};
 ghost use Rattle.store_cells.specs.Cells.{own_count};
 ghost use Rattle.js_tree.specs.Forest.{Forest};
 ghost use Rattle.object_store.specs.Owned.{scope_number};
+ghost use Rattle.widget_meaning.specs.Limits.{past_numbers};
+ghost use Rattle.widget_meaning.specs.Values as meaning;
 ghost use Rattle.widget_meaning.specs.OwnState.{State};
 ghost use Rattle.widget_meaning.specs.Plan.{Plan};
 ghost use Rattle.widget_meaning.specs.Properties as properties;
@@ -32,6 +34,28 @@ pub fn assign(store: &mut Store, w: u32, scope: Option<CellId>, name: &Text, val
     lawful(store);
     if let Some(from) = scope {
         store.var_set(from, name, value);
+    }
+}
+
+/// Adds to the whole number that a variable has, where the sum is within the numbers; the number before. None where the
+/// variable has no whole number, is none of a scope, or the sum leaves the numbers; then nothing changes.
+#[inline(never)]
+pub fn add_to(store: &mut Store, w: u32, scope: Option<CellId>, name: &Text, by: i64) -> Option<i64>
+    requires scope { IsPlaceScope w store.old.cells scope }
+    ensures had { IfSome result (λ z. (fs : List Forest) (r : Rest) (d : ℕ) → IsConfined fs w store.old
+        → scopes.variable (image fs r w store.old)
+        (record { scope = option_map (scope_number w store.old.cells) scope; depth = d }) name.now ≡ meaning.Num z) }
+    ensures within { IfSome result (λ z. nat_lt (unsigned_abs (z +ℤ by)) past_numbers ≡ true) }
+    ensures plan { IfSome result (λ z. (fs : List Forest) (r : Rest) (d : ℕ) → IsConfined fs w store.old
+        → image fs r w store.new ≡ scopes.assign (image fs r w store.old)
+        (record { scope = option_map (scope_number w store.old.cells) scope; depth = d }) name.now (meaning.Num (z +ℤ by))) }
+    ensures none { IfNone result (store.new ≡ store.old) }
+    ensures kept { (fs : List Forest) → IsConfined fs w store.old → Kept fs w store.old store.new }
+{
+    lawful(store);
+    match scope {
+        None => None,
+        Some(from) => store.var_add(from, name, by),
     }
 }
 

@@ -1,4 +1,4 @@
-use Rattle.std.proofs.Common.{ap, arith, ◌≤◌}
+use Rattle.std.proofs.Common.{ap, arith}
 use Rattle.std.specs.Prelude.{unwrap_or}
 use Rattle.store_cells.specs.declared.value.Value.TheVariants as value
 use Rattle.js_image.proofs.Found.{read_found}
