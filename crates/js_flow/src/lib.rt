@@ -14,7 +14,7 @@ pub use frame::{
 };
 pub use job::{Args, Block, Call, Completion, Job, Listed, NativeCall, Next, Place, Reference};
 pub use lists::{
-    argument_at, clause_at, declaration_at, default_at, element_at, first_at, last_at, property_at,
-    statement_at,
+    argument_at, clause_at, declaration_at, default_at, element_at, first_at, has_directive,
+    last_at, property_at, statement_at,
 };
 pub use task::{Control, Stepped};

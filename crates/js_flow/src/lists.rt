@@ -241,8 +241,9 @@ fn body_at(tree: &Tree, id: FunId, n: usize) -> Option<StmtId>
     stmt_id(&tree.fun(id).body, n)
 }
 
-// Whether the body of a function begins with its directive.
-fn has_directive(tree: &Tree, id: FunId) -> bool
+/// Whether the body of a function begins with its directive, which is no statement of it then (`"use strict";`).
+#[inline(always)]
+pub fn has_directive(tree: &Tree, id: FunId) -> bool
     requires { IsFun (trees tree.now) id }
     ensures yes { IsTrue result → let l = stmt_list (body_of (fun_at (trees tree.now) id)) in without_directive l ≡ drop 1 l }
     ensures no { IsFalse result → let l = stmt_list (body_of (fun_at (trees tree.now) id)) in without_directive l ≡ l }
