@@ -2,9 +2,10 @@
 ghost use Rattle.std.specs.Prelude.{◌≡◌, ℕ, ◌<◌, ◌≤◌, List, Option, IfOk, IfSome, is_some, pos, length, ◌||◌, option_copied, unwrap_or};
 ghost use Rattle.std.specs.Option.{option_map};
 ghost use Rattle.js_tree.specs.Forest.{Forest};
-ghost use Rattle.store_cells.specs.Cells.{prototypes};
-ghost use Rattle.store_cells.specs.Host.{text_prototype};
+ghost use Rattle.store_cells.specs.Cells.{first_own, prototypes};
+ghost use Rattle.store_cells.specs.Host.{global, text_prototype};
 ghost use Rattle.store_cells.specs.Shape.{IsRefWithin};
+ghost use Rattle.object_store.specs.Calls.{readable};
 ghost use Rattle.object_store.specs.Owned.{scope_number};
 ghost use Rattle.widget_meaning.specs.Properties as properties;
 ghost use Rattle.widget_meaning.specs.Scopes as scopes;
@@ -229,7 +230,7 @@ fn value_at<'a>(store: &'a Store, scope: Option<CellId>, name: &Text) -> Option<
     ensures { unwrap_or (option_copied result) Value.Undefined ≡ stored_value store.now.cells scope name.now }
 {
     match in_scopes(store, scope, name) {
-        None => shown(store.get(store.global(), name)),
+        None => global_at(store, name),
         Some(value) => Some(value),
     }
 }
@@ -244,6 +245,14 @@ fn in_scopes<'a>(store: &'a Store, scope: Option<CellId>, name: &Text) -> Option
         None => None,
         Some(from) => store.var_get(from, name),
     }
+}
+
+// The value of a listed global.
+#[inline(never)]
+fn global_at<'a>(store: &'a Store, name: &Text) -> Option<&'a Value>
+    ensures { unwrap_or (option_copied result) Value.Undefined ≡ shown_global (first_own name.now (readable store.now.cells global)) }
+{
+    shown(store.get(store.global(), name))
 }
 
 // A global; the cell of `body` is hidden.
