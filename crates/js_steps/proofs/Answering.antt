@@ -1,15 +1,16 @@
 -- What the machine answered is what the caller is answered.
-use Rattle.std.proofs.Common.{◌≡◌, ℕ, List, sym, subst}
+use Rattle.std.proofs.Common.{◌≡◌, ℕ, List, refl, sym, subst, ◌∙◌}
 use Rattle.js_tree.specs.Forest.{Forest}
 use Rattle.store_cells.specs.Cells.{PlainCell}
 use Rattle.js_flow.specs.declared.task.Control.{Control}
 use Rattle.js_flow.specs.declared.task.Stepped.{Stepped as Moved}
+use Rattle.js_flow.specs.declared.task.Stepped.TheVariants as moved
 use Rattle.js_flow.specs.Fine.{FineStepped}
 use Rattle.js_flow.specs.Todo.{Follows, IfOutOfFuel, IsNotFuel, IsOver}
 use Rattle.js_steps.specs.declared.answer.Stepped.{Stepped}
 use Rattle.js_steps.specs.declared.answer.Stepped.TheVariants as stepped
 use Rattle.js_steps.specs.declared.answer.Stop.TheVariants as stop
-use Rattle.js_steps.specs.Answered.{IsFuelStop, machine}
+use Rattle.js_steps.specs.Answered.{IsFuelStop, IsWent, machine}
 
 -- want of fuel, and what is none, is the same to both
 if_fuel : (k : Stepped) (P : Type 0) → IfOutOfFuel (machine k) P → IsFuelStop k → P
@@ -36,7 +37,18 @@ no_stop (stepped.Threw v) h f = f
 no_stop (stepped.Stop stop.Fuel) h f = h
 no_stop (stepped.Stop (stop.Due c)) h f = f
 
+is_went : (k : Stepped) → IsWent k → machine k ≡ moved.Went
+is_went stepped.Went h = refl
+is_went (stepped.Native n) h = absurd h
+is_went (stepped.Done v) h = absurd h
+is_went (stepped.Threw v) h = absurd h
+is_went (stepped.Stop c) h = absurd h
+
 module _ (k : Stepped) (m : Moved) (e : machine k ≡ m) where
+  -- the task does not go on
+  pub went_as : (m ≡ moved.Went → ⊥) → IsWent k → ⊥
+  went_as h t = h (sym e ∙ is_went k t)
+
   pub fuel_as : (P : Type 0) → IfOutOfFuel m P → IsFuelStop k → P
   fuel_as P h = if_fuel k P (subst (λ (q : Moved). IfOutOfFuel q P) (sym e) h)
 

@@ -64,6 +64,14 @@ strides_next k i l m s p q moves f = strides_one (k - (i - l)) (l - m) s p q mov
     begins_in (inl lt) = inl (omega (arith, lt))
     begins_in (inr z) = inr z
 
+-- a charge of some units begins before k are used up
+pub begins_before : (k a c l : ℕ) → (k ≤ a → c ≡ 0) → l < c → a < k
+begins_before k a c l f h = by (begins k a c f)
+  where
+    by : (a < k) ⊎ (c ≡ 0) → a < k
+    by (inl lt) = lt
+    by (inr z) = absurd (omega (arith, h, z))
+
 -- an answer other than want of fuel
 pub not_fuel : (k : Stepped) (P : Type 0) → IsNotFuel k → IfOutOfFuel k P
 not_fuel stepped.OutOfFuel P h = absurd h

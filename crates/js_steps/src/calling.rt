@@ -19,9 +19,9 @@ ghost use Rattle.js_steps.specs.Ending.{EndsCall, EndsSo};
 ghost use Rattle.js_flow.specs.Todo.{Follows, IsGoing, Moves, Strides, IfOutOfFuel, IsOver, IsWaiting, after_step, todo};
 
 use crate::answer::{Stepped, answered};
-use crate::machine::{put, put_halted, set, settle, step_for, take_control, take_flow};
+use crate::machine::{cost, put, put_halted, set, settle, step_for, take_control, take_flow};
 use crate::stack::Frames;
-use crate::strides::{carry_on, resumed};
+use crate::strides::{carry_on, is_used, resumed};
 use crate::task::Task;
 use code_units::Memory;
 use js_calls::answer;
@@ -171,6 +171,91 @@ pub fn step(
 /// answered exactly where these units are used up and what is next costs fuel. After `Stop(Fuel)` the
 /// rest may be asked again.
 pub fn stride(
+    alloc: Global,
+    codes: &Vec<Code>,
+    store: &mut Store,
+    task: &mut Task,
+    meter: &mut Meter,
+    units: u32,
+) -> Result<Stepped, Memory>
+    requires going { IsGoing task.old.control }
+    requires widget { task.old.widget < 32 }
+    requires confined { IsConfined (trees_of codes.now.items) task.old.widget store.old }
+    requires held { IsFineTask (trees_of codes.now.items) task.old.widget store.old task.old }
+    ensures strides { let F = trees_of codes.now.items in let w = task.old.widget in
+        IfOk result (λ k. (r : Rest) → Strides units (meter.old.left - meter.new.left)
+        (remaining F w store.old task.old r) (remaining_after F w store.new task.new k r)) }
+    ensures cut { let F = trees_of codes.now.items in let w = task.old.widget in
+        IfOk result (λ k. IsWent k → (units ≤ meter.old.left - meter.new.left)
+        × ((r : Rest) → run_plan 0 (remaining F w store.new task.new r) ≡ out_of_fuel (image F r w store.new) 0)) }
+    ensures fuel { let F = trees_of codes.now.items in let w = task.old.widget in
+        IfOk result (λ k. IsFuelStop k → (meter.old.left - meter.new.left < units)
+        × ((r : Rest) → run_plan meter.new.left (remaining F w store.new task.new r)
+        ≡ out_of_fuel (image F r w store.new) meter.new.left)) }
+    ensures near { IfOk result (λ k. IsOver (machine k) → (IsFuelStop k → ⊥)
+        → 32 * meter.new.left + free task.new.control task.new.frames.list.items
+        < 32 * meter.old.left + free task.old.control task.old.frames.list.items) }
+    ensures follows { IfOk result (λ k. Follows (machine k) task.new.control) }
+    ensures held { IfOk result (IsFineAfter (trees_of codes.now.items) task.old.widget store.new task.new) }
+    ensures spends { (meter.new.left ≤ meter.old.left)
+        × (meter.new.left + meter.new.spent ≡ meter.old.left + meter.old.spent) }
+    ensures widget { task.new.widget ≡ task.old.widget }
+    ensures kept { Kept (trees_of codes.now.items) task.old.widget store.old store.new }
+{
+    if units < 2 {
+        stride_by_steps(alloc, codes, store, task, meter, units)
+    } else {
+        stride_on_flow(alloc, codes, store, task, meter, units)
+    }
+}
+
+// The same by steps, each of which takes the frames of the task and puts them back.
+fn stride_by_steps(
+    alloc: Global,
+    codes: &Vec<Code>,
+    store: &mut Store,
+    task: &mut Task,
+    meter: &mut Meter,
+    units: u32,
+) -> Result<Stepped, Memory>
+    requires going { IsGoing task.old.control }
+    requires widget { task.old.widget < 32 }
+    requires confined { IsConfined (trees_of codes.now.items) task.old.widget store.old }
+    requires held { IsFineTask (trees_of codes.now.items) task.old.widget store.old task.old }
+    ensures strides { let F = trees_of codes.now.items in let w = task.old.widget in
+        IfOk result (λ k. (r : Rest) → Strides units (meter.old.left - meter.new.left)
+        (remaining F w store.old task.old r) (remaining_after F w store.new task.new k r)) }
+    ensures cut { let F = trees_of codes.now.items in let w = task.old.widget in
+        IfOk result (λ k. IsWent k → (units ≤ meter.old.left - meter.new.left)
+        × ((r : Rest) → run_plan 0 (remaining F w store.new task.new r) ≡ out_of_fuel (image F r w store.new) 0)) }
+    ensures fuel { let F = trees_of codes.now.items in let w = task.old.widget in
+        IfOk result (λ k. IsFuelStop k → (meter.old.left - meter.new.left < units)
+        × ((r : Rest) → run_plan meter.new.left (remaining F w store.new task.new r)
+        ≡ out_of_fuel (image F r w store.new) meter.new.left)) }
+    ensures near { IfOk result (λ k. IsOver (machine k) → (IsFuelStop k → ⊥)
+        → 32 * meter.new.left + free task.new.control task.new.frames.list.items
+        < 32 * meter.old.left + free task.old.control task.old.frames.list.items) }
+    ensures follows { IfOk result (λ k. Follows (machine k) task.new.control) }
+    ensures held { IfOk result (IsFineAfter (trees_of codes.now.items) task.old.widget store.new task.new) }
+    ensures spends { (meter.new.left ≤ meter.old.left)
+        × (meter.new.left + meter.new.spent ≡ meter.old.left + meter.old.spent) }
+    ensures widget { task.new.widget ≡ task.old.widget }
+    ensures kept { Kept (trees_of codes.now.items) task.old.widget store.old store.new }
+{
+    let w = task.widget;
+    let start = meter.left();
+    'steps: while !is_used(cost(&task.control), start - meter.left(), units) {
+        match step_for(alloc, w, codes, store, task, meter)? {
+            Moved::Went => {}
+            answer => return Ok(answered(answer)),
+        }
+    }
+    Ok(Stepped::Went)
+}
+
+// The same on one flow over all steps, in place where that can be.
+#[inline(never)]
+fn stride_on_flow(
     alloc: Global,
     codes: &Vec<Code>,
     store: &mut Store,

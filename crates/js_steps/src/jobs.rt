@@ -87,6 +87,7 @@ pub(crate) fn is_of_ids(job: &Job) -> bool
 }
 
 /// What a frame does with how its part ended.
+#[inline(always)]
 pub(crate) fn take(
     flow: &mut Flow,
     alloc: Global,

@@ -156,8 +156,8 @@ pub(crate) fn pay(meter: &mut Meter, units: usize) -> bool
     meter.take(units as u32).is_ok()
 }
 
-// What a task is at costs this.
-fn cost(control: &Control) -> usize
+/// What a task is at costs this.
+pub(crate) fn cost(control: &Control) -> usize
     ensures { result ≡ charge_of control.now }
 {
     match control {
@@ -467,6 +467,8 @@ pub(crate) fn step_for(
         × (store.new ≡ store.old) × (meter.new ≡ meter.old) × ((r : Rest) → run_plan meter.old.left
         (todo F w store.old.cells task.old.control task.old.frames.list.items (image F r w store.old))
         ≡ out_of_fuel (image F r w store.old) meter.old.left))) }
+    ensures short { IfOk result (λ k. IfOutOfFuel k (meter.old.left < charge_of task.old.control)) }
+    ensures charge { IfOk result (λ k. meter.old.left - meter.new.left ≤ charge_of task.old.control) }
     ensures spends { (meter.new.left ≤ meter.old.left)
         × (meter.new.left + meter.new.spent ≡ meter.old.left + meter.old.spent) }
     ensures near { IfOk result (λ k. IsNotFuel k

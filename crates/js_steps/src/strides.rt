@@ -42,9 +42,9 @@ pub(crate) struct Bound {
     pub units: u32,
 }
 
-// Whether so many units are used up before a charge.
+/// Whether so many units are used up before a charge.
 #[inline(always)]
-fn is_used(charge: usize, spent: u32, units: u32) -> bool
+pub(crate) fn is_used(charge: usize, spent: u32, units: u32) -> bool
     ensures yes { IsTrue result → (units ≤ spent) × (0 < charge) }
     ensures no { IsFalse result → units ≤ spent → charge ≡ 0 }
 {

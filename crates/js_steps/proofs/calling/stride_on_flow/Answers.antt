@@ -15,7 +15,7 @@ use Rattle.js_steps.specs.Answered.{machine}
 use Rattle.js_steps.specs.Ending.{EndsCall}
 use Rattle.js_steps.proofs.Answering.{fine_as, follows_as}
 use Rattle.js_steps.proofs.Tolls.{at_cut, at_over, at_short, ends_at_rest, flow_moves, halt_settled, halted, resumed_ends}
-use Rattle.js_steps.proofs.calling.stride.Goals as goal
+use Rattle.js_steps.proofs.calling.stride_on_flow.Goals as goal
 
 pub resumed-requires-clause-going : goal.resumed-requires-clause-going
 resumed-requires-clause-going c = subst (λ (q : Control). IsGoing q) (sym (c.take_control-control.ensures.result ∙ c.take_flow-flow.ensures.control)) c.requires.going
