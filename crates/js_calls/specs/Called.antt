@@ -1,17 +1,18 @@
 -- What a call is to the meaning, and the names of its scope.
-use Rattle.std.specs.Prelude.{◌≡◌, ℕ, List, [], Bool, true, drop, length, if◌then◌else◌, is_some}
+use Rattle.std.specs.Prelude.{◌≡◌, ℕ, List, [], ◌++◌, Bool, true, Option, None, drop, length, if◌then◌else◌, is_some}
 use Rattle.std.specs.List.{AllByRecursion}
 use Rattle.std.specs.Option.{option_map}
 use Rattle.js_tree.specs.declared.nodes.FunId.{FunId}
 use Rattle.js_tree.specs.Plain.{Fun}
 use Rattle.js_tree.specs.Forest.{Forest, expr_at, fun_at}
 use Rattle.store_cells.specs.declared.value.Value.TheVariants as value
+use Rattle.store_cells.specs.declared.kind.FunParts.{FunParts}
 use Rattle.store_cells.specs.Cells.{Cells, PlainCell}
 use Rattle.object_store.specs.Owned.{scope_number}
 use Rattle.widget_meaning.specs.OwnState.{Scope, State, lookup, scope_at}
 use Rattle.widget_meaning.specs.Plan.{Plan, Halt}
 use Rattle.widget_meaning.specs.Costs.{give, throw}
-use Rattle.widget_meaning.specs.Scopes.{without_name}
+use Rattle.widget_meaning.specs.Scopes.{call_scope, without_name}
 use Rattle.widget_meaning.specs.Calls.{call_body, invoke}
 use Rattle.widget_meaning.specs.Expressions.{arguments_then}
 use Rattle.widget_meaning.specs.ListNatives.{call_each}
@@ -20,6 +21,8 @@ use Rattle.js_image.specs.Image.{all_seen, image, no_rest, seen}
 use Rattle.js_image.specs.declared.outcome.Paid.{Paid}
 use Rattle.js_image.specs.declared.outcome.Paid.TheVariants as paid
 use Rattle.js_image.specs.Plans.{meant_cause, meant_fault}
+use Rattle.js_names.specs.declared.names.FunNames.{FunNames}
+use Rattle.js_names.specs.Names.{first_pairs, own_pairs}
 use Rattle.js_values.specs.Answers.{called}
 use Rattle.js_values.specs.declared.outcome.Keep.{Keep}
 use Rattle.js_values.specs.declared.outcome.Keep.TheVariants as keep
@@ -40,6 +43,7 @@ use Rattle.js_flow.specs.Parts.{arguments_of, body_of, forest_at}
 use Rattle.js_flow.specs.Views.{place_of, reference_of}
 use Rattle.js_calls.specs.declared.declaring.Entry.{Entry}
 use Rattle.js_calls.specs.declared.declaring.Entry.TheVariants as entry
+use Rattle.js_calls.specs.declared.invoking.Called.{Called}
 
 -- a function of a tree; the name of a declared one is no variable of its own calls
 abbrev pub declared_at : Forest → FunId → Bool → Fun
@@ -93,6 +97,23 @@ IsCarried native.OutOfFuel = ⊥
 IsCarried _ = Unit {0}
 
 -- ## The scope of a call
+
+-- the own name of a function that its calls have: a declared one has none
+abbrev pub own_called : Bool → Option (List ℕ) → Option (List ℕ)
+own_called declared own = if declared then None else own
+
+module _ (w : ℕ) (cells : List PlainCell) where
+  -- the scope of a call of a function of a tree
+  abbrev pub scope_called : Forest → FunParts → Called → Scope
+  scope_called f p c =
+      call_scope (declared_at f p.fun p.declared) (option_map (scope_number w cells) p.scope) (seen w cells c.func.now) (all_seen w cells c.args.now)
+
+  -- the same by the names of the function
+  abbrev pub named_scope : FunNames → FunParts → Called → Scope
+  named_scope n p c = record {
+    outer = option_map (scope_number w cells) p.scope;
+    pairs = first_pairs n.names.items (all_seen w cells c.args.now) ++ own_pairs (own_called p.declared n.own) (seen w cells c.func.now);
+  }
 
 -- a scope of the widget as the meaning has it
 abbrev pub scope_in : ℕ → Cells → ℕ → Scope

@@ -43,6 +43,7 @@ pub enum Entry {
 }
 
 // Where its body runs.
+#[inline(always)]
 fn place_in(e: Entered) -> Place
     ensures { result ≡ record { code = e.code; scope = Some e.scope; depth = e.depth } }
 {
@@ -54,6 +55,7 @@ fn place_in(e: Entered) -> Place
 }
 
 /// Its declared functions are made in order of the text. What comes then is its body.
+#[inline(always)]
 pub fn declare(
     alloc: Global,
     w: u32,
@@ -76,6 +78,9 @@ pub fn declare(
     lists_agree();
     let tree = tree_at(codes, e.code);
     let node = tree.fun(e.fun);
+    if node.funs.len() == 0 {
+        return Ok(Entry::Body(place_in(e)));
+    }
     match declare_all(alloc, w, codes, store, &node.funs, e)? {
         Paid::Stop(cause) => Ok(Entry::Stop(cause)),
         Paid::Done => Ok(Entry::Body(place_in(e))),
@@ -83,6 +88,7 @@ pub fn declare(
 }
 
 // Functions one after the other.
+#[inline(never)]
 fn declare_all(
     alloc: Global,
     w: u32,

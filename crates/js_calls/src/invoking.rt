@@ -11,7 +11,7 @@ ghost use Rattle.widget_meaning.specs.Plan.{Do, Ret};
 ghost use Rattle.widget_meaning.specs.Calls as calls;
 ghost use Rattle.widget_meaning.specs.Costs as costs;
 ghost use Rattle.js_image.specs.Image.{Rest, all_seen, function_in, image, seen};
-ghost use Rattle.js_image.specs.Held.{IsConfined, IsFunOf, IsPlaceScope, Kept};
+ghost use Rattle.js_image.specs.Held.{AreFine, IsConfined, IsFine, IsFunOf, IsPlaceScope, Kept};
 ghost use Rattle.js_image.specs.Plans.{meant_fault};
 ghost use Rattle.js_names.specs.Code.{trees_of};
 ghost use Rattle.js_flow.specs.Fine.{FineCall, FineLeft};
@@ -21,10 +21,10 @@ ghost use Rattle.js_calls.specs.Called.{FineEntry, entry_plan, invoked};
 ghost use Rattle.js_flow.specs.Left.{all_frames};
 
 use crate::declaring::{Entered, Entry, declare};
-use crate::scoping::scope_pairs;
+use crate::scoping::open_scope;
 use code_units::Memory;
 use js_flow::{Block, Call, CallFrame, Completion, Flow, Frame, Job, NativeCall};
-use js_image::{Callee, Fault, Made, StopCause, callee, make_fault, make_scope};
+use js_image::{Callee, Fault, Made, StopCause, callee, make_fault};
 use js_names::{Code, code_at};
 use object_store::{FunParts, NativeId, Store, Value};
 use std::alloc::Global;
@@ -120,7 +120,12 @@ fn enter(
     ensures kept { Kept (trees_of codes.now.items) w store.old store.new }
     ensures below { OnOk result (flow.new.below ≡ all_frames flow.old) }
 {
-    match entered(alloc, w, codes, store, &call, parts)? {
+    let called = Called {
+        func: &call.func,
+        args: call.args.as_slice(),
+        depth: call.depth,
+    };
+    match entered(alloc, w, codes, store, &called, parts)? {
         Entry::Stop(cause) => Ok(flow.stop(cause)),
         Entry::Body(place) => flow.push_run(
             Frame::Call(CallFrame::CallEnd),
@@ -130,23 +135,32 @@ fn enter(
     }
 }
 
+/// A function that is called with its arguments, by a caller at a depth.
+#[derive(Clone, Copy, Drop)]
+pub struct Called<'a> {
+    pub func: &'a Value,
+    pub args: &'a [Value],
+    pub depth: u32,
+}
+
 /// A function of the widget is entered: its scope is made, and then its declared functions. It runs one deeper than
 /// its caller; a stop for depth comes before its scope.
+#[inline(always)]
 pub fn entered(
     alloc: Global,
     w: u32,
     codes: &Vec<Code>,
     store: &mut Store,
-    call: &Call,
+    call: &Called,
     parts: FunParts,
 ) -> Result<Entry, Memory>
     requires widget { w < 32 }
     requires confined { IsConfined (trees_of codes.now.items) w store.old }
     requires fun { IsFunOf (trees_of codes.now.items) parts × IsPlaceScope w store.old.cells parts.scope }
-    requires held { FineCall w store.old.cells call.now }
+    requires held { IsFine w store.old.cells call.now.func.now × AreFine w store.old.cells call.now.args.now }
     ensures plan { IfOk result (λ e. (r : Rest) → entry_plan (trees_of codes.now.items) w store.new.cells parts.fun e (image (trees_of codes.now.items) r w store.new)
         ≡ calls.enter (state.Function (function_in (trees_of codes.now.items) parts.code parts.fun parts.declared) (option_map (scope_number w store.old.cells) parts.scope))
-        (seen w store.old.cells call.now.func) (all_seen w store.old.cells call.now.args.items) (suc call.now.depth) (image (trees_of codes.now.items) r w store.old)) }
+        (seen w store.old.cells call.now.func.now) (all_seen w store.old.cells call.now.args.now) (suc call.now.depth) (image (trees_of codes.now.items) r w store.old)) }
     ensures fine { IfOk result (FineEntry (trees_of codes.now.items) w store.new.cells parts.fun) }
     ensures kept { Kept (trees_of codes.now.items) w store.old store.new }
 {
@@ -154,8 +168,7 @@ pub fn entered(
     if depth >= 200 {
         return Ok(Entry::Stop(StopCause::Depth));
     }
-    let pairs = scope_pairs(alloc, code_at(codes, parts.code), parts, call)?;
-    match make_scope(alloc, store, w, parts.scope, pairs)? {
+    match open_scope(alloc, w, store, code_at(codes, parts.code), parts, call)? {
         Made::Stop(cause) => Ok(Entry::Stop(cause)),
         Made::Cell(scope) => {
             let entered = Entered {

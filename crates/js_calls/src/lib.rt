@@ -12,5 +12,5 @@ mod taking;
 
 pub use answering::answer;
 pub use declaring::Entry;
-pub use invoking::{call, entered};
+pub use invoking::{Called, call, entered};
 pub use taking::take_call;

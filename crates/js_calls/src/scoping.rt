@@ -1,126 +1,115 @@
-//! The names of a call's scope with their first values.
-ghost use Rattle.std.specs.Prelude.{◌≡◌, ℕ, ◌++◌, [], List, Option, Some, IfOk, if◌then◌else◌, map, option_to_list};
+//! The scope of a call, with the names of its function and their first values.
+ghost use Rattle.std.specs.Prelude.{◌≡◌, ℕ, ◌<◌, ◌++◌, List, Option, None, IfOk, if◌then◌else◌, length, map, option_to_list};
 ghost use Rattle.std.specs.List.{IsDistinct};
 ghost use Rattle.std.specs.Str.{bytes_eq};
-ghost use Rattle.js_tree.specs.Forest.{IsFun};
-ghost use Rattle.store_cells.specs.Cells.{PlainCell};
-ghost use Rattle.widget_meaning.specs.Scopes.{call_scope};
-ghost use Rattle.js_image.specs.Image.{all_seen, seen, seen_pairs};
-ghost use Rattle.js_image.specs.Held.{AreFine, ArePairs, IsFine};
+ghost use Rattle.js_tree.specs.Forest.{Forest, IsFun};
+ghost use Rattle.widget_meaning.specs.Costs as costs;
+ghost use Rattle.widget_meaning.specs.OwnState.{State, with_new_scope};
+ghost use Rattle.widget_meaning.specs.Plan.{Plan};
+ghost use Rattle.js_image.specs.Image.{Rest, image};
+ghost use Rattle.js_image.specs.Held.{AreFine, IsFine, IsPlaceScope, Kept};
+ghost use Rattle.js_image.specs.Plans.{IsScopeMade, scope_plan};
 ghost use Rattle.js_names.specs.Code.{code_trees};
-ghost use Rattle.js_names.specs.Names.{argument_at, first_pairs, own_pairs};
-ghost use Rattle.js_calls.specs.Called.{declared_at};
+ghost use Rattle.js_calls.specs.Called.{named_scope, own_called, scope_called};
 
+use crate::invoking::Called;
 use code_units::{Memory, Text};
-use js_flow::{Args, Call};
+use js_image::{Made, make_call_scope};
 use js_names::{Code, FunNames, fun_names, scopes_of_calls};
-use object_store::{FunParts, Value};
+use object_store::{FirstNames, FunParts, Store};
 use std::alloc::Global;
 
-/// The names of the scope of a call of a function, each once, with their first values.
-pub fn scope_pairs(
+/// The scope of a call is made in that of its function: the names of the function, each once, with their first values.
+#[inline(always)]
+pub fn open_scope(
     alloc: Global,
+    w: u32,
+    store: &mut Store,
     code: &Code,
     parts: FunParts,
-    call: &Call,
-) -> Result<Vec<(Text, Value)>, Memory>
-    requires { IsFun (code_trees code.now) parts.fun }
-    ensures scope { IfOk result (λ ps. (w : ℕ) (cells : List PlainCell) (o : Option ℕ)
-        → call_scope (declared_at (code_trees code.now) parts.fun parts.declared) o (seen w cells call.now.func) (all_seen w cells call.now.args.items)
-        ≡ record { outer = o; pairs = seen_pairs w cells ps.items }) }
-    ensures names { IfOk result (λ ps. IsDistinct bytes_eq (map (λ p. p.0) ps.items)) }
-    ensures fine { IfOk result (λ ps. (w : ℕ) (cells : List PlainCell)
-        → IsFine w cells call.now.func → AreFine w cells call.now.args.items → ArePairs w cells ps.items) }
+    call: &Called,
+) -> Result<Made, Memory>
+    requires widget { w < 32 }
+    requires fun { IsFun (code_trees code.now) parts.fun }
+    requires outer { IsPlaceScope w store.old.cells parts.scope }
+    requires held { IsFine w store.old.cells call.now.func.now × AreFine w store.old.cells call.now.args.now }
+    ensures plan { IfOk result (λ m. (fs : List Forest) (r : Rest) (k : ℕ → State → Plan)
+        → let c = scope_called w store.old.cells (code_trees code.now) parts call.now in
+        costs.pay (costs.scope_cost c) (image fs r w store.old) (λ t. k (length t.own.scopes) (with_new_scope t c))
+        ≡ scope_plan w store.new.cells m k (image fs r w store.new)) }
+    ensures fine { IfOk result (IsScopeMade w store.new.cells) }
+    ensures kept { (fs : List Forest) → Kept fs w store.old store.new }
 {
     scopes_of_calls();
     match code.names(parts.fun) {
-        Some(names) => pairs_of(alloc, names, parts.declared, call),
-        None => {
-            let names = fun_names(alloc, code.tree(), parts.fun)?;
-            pairs_of(alloc, &names, parts.declared, call)
-        }
+        Some(names) => scope_with(alloc, w, store, names, parts, call),
+        None => found_scope(alloc, w, store, code, parts, call),
     }
 }
 
-// The same by the names that were found.
-fn pairs_of(
+// The same where the names of the function are not kept.
+#[cold]
+#[inline(never)]
+fn found_scope(
     alloc: Global,
+    w: u32,
+    store: &mut Store,
+    code: &Code,
+    parts: FunParts,
+    call: &Called,
+) -> Result<Made, Memory>
+    requires widget { w < 32 }
+    requires fun { IsFun (code_trees code.now) parts.fun }
+    requires outer { IsPlaceScope w store.old.cells parts.scope }
+    requires held { IsFine w store.old.cells call.now.func.now × AreFine w store.old.cells call.now.args.now }
+    ensures plan { IfOk result (λ m. (fs : List Forest) (r : Rest) (k : ℕ → State → Plan)
+        → let c = scope_called w store.old.cells (code_trees code.now) parts call.now in
+        costs.pay (costs.scope_cost c) (image fs r w store.old) (λ t. k (length t.own.scopes) (with_new_scope t c))
+        ≡ scope_plan w store.new.cells m k (image fs r w store.new)) }
+    ensures fine { IfOk result (IsScopeMade w store.new.cells) }
+    ensures kept { (fs : List Forest) → Kept fs w store.old store.new }
+{
+    scopes_of_calls();
+    let names = fun_names(alloc, code.tree(), parts.fun)?;
+    scope_with(alloc, w, store, &names, parts, call)
+}
+
+// The same by the names of the function.
+#[inline(always)]
+fn scope_with(
+    alloc: Global,
+    w: u32,
+    store: &mut Store,
     names: &FunNames,
-    declared: bool,
-    call: &Call,
-) -> Result<Vec<(Text, Value)>, Memory>
-    ensures pairs { IfOk result (λ ps. (w : ℕ) (cells : List PlainCell)
-        → seen_pairs w cells ps.items ≡ first_pairs names.now.names.items (all_seen w cells call.now.args.items)
-        ++ (if declared then [] else own_pairs names.now.own (seen w cells call.now.func))) }
-    ensures names { IfOk result (λ ps. map (λ p. p.0) ps.items
-        ≡ map (λ x. x.text) names.now.names.items ++ (if declared then [] else option_to_list names.now.own)) }
-    ensures fine { IfOk result (λ ps. (w : ℕ) (cells : List PlainCell)
-        → IsFine w cells call.now.func → AreFine w cells call.now.args.items → ArePairs w cells ps.items) }
+    parts: FunParts,
+    call: &Called,
+) -> Result<Made, Memory>
+    requires widget { w < 32 }
+    requires names { IsDistinct bytes_eq (map (λ x. x.text) names.now.names.items ++ option_to_list names.now.own) }
+    requires outer { IsPlaceScope w store.old.cells parts.scope }
+    requires held { IsFine w store.old.cells call.now.func.now × AreFine w store.old.cells call.now.args.now }
+    ensures plan { IfOk result (λ m. (fs : List Forest) (r : Rest) (k : ℕ → State → Plan)
+        → let c = named_scope w store.old.cells names.now parts call.now in
+        costs.pay (costs.scope_cost c) (image fs r w store.old) (λ t. k (length t.own.scopes) (with_new_scope t c))
+        ≡ scope_plan w store.new.cells m k (image fs r w store.new)) }
+    ensures fine { IfOk result (IsScopeMade w store.new.cells) }
+    ensures kept { (fs : List Forest) → Kept fs w store.old store.new }
 {
-    let pairs = first_pairs(alloc, names, &call.args)?;
-    if declared {
-        return Ok(pairs);
-    }
-    with_own(pairs, &names.own, &call.func)
+    let none = None;
+    let first = FirstNames {
+        names: &names.names,
+        own: own_name(names, parts.declared, &none),
+        func: call.func,
+        args: call.args,
+    };
+    make_call_scope(alloc, store, w, parts.scope, &first)
 }
 
-// The names with their arguments.
-fn first_pairs(alloc: Global, names: &FunNames, args: &Args) -> Result<Vec<(Text, Value)>, Memory>
-    ensures pairs { IfOk result (λ ps. (w : ℕ) (cells : List PlainCell)
-        → seen_pairs w cells ps.items ≡ first_pairs names.now.names.items (all_seen w cells args.now.items)) }
-    ensures names { IfOk result (λ ps. map (λ p. p.0) ps.items ≡ map (λ x. x.text) names.now.names.items) }
-    ensures fine { IfOk result (λ ps. (w : ℕ) (cells : List PlainCell) → AreFine w cells args.now.items → ArePairs w cells ps.items) }
+// The own name of a function that its calls have: a declared one has none.
+#[inline(always)]
+fn own_name<'a>(names: &'a FunNames, declared: bool, none: &'a Option<Text>) -> &'a Option<Text>
+    requires { none.now ≡ None }
+    ensures { result.now ≡ own_called declared names.now.own }
 {
-    // The own name, and all others.
-    let mut pairs = Vec::with_capacity(alloc, names.names.len() + 1)?;
-    'names: for name in &names.names {
-        pairs.push((name.text.share()?, argument(args, name.argument)?))?;
-    }
-    Ok(pairs)
-}
-
-// The function under its own name behind them.
-fn with_own(
-    pairs: Vec<(Text, Value)>,
-    own: &Option<Text>,
-    func: &Value,
-) -> Result<Vec<(Text, Value)>, Memory>
-    ensures pairs { IfOk result (λ ps. (w : ℕ) (cells : List PlainCell)
-        → seen_pairs w cells ps.items ≡ seen_pairs w cells pairs.items ++ own_pairs own.now (seen w cells func.now)) }
-    ensures names { IfOk result (λ ps. map (λ p. p.0) ps.items ≡ map (λ p. p.0) pairs.items ++ option_to_list own.now) }
-    ensures fine { IfOk result (λ ps. (w : ℕ) (cells : List PlainCell)
-        → IsFine w cells func.now → ArePairs w cells pairs.items → ArePairs w cells ps.items) }
-{
-    let mut pairs = pairs;
-    match own {
-        None => Ok(pairs),
-        Some(name) => {
-            pairs.push((name.share()?, func.share()?))?;
-            Ok(pairs)
-        }
-    }
-}
-
-// The argument at a place.
-fn argument(args: &Args, place: Option<usize>) -> Result<Value, Memory>
-    ensures seen { IfOk result (λ v. (w : ℕ) (cells : List PlainCell)
-        → seen w cells v ≡ argument_at place (all_seen w cells args.now.items)) }
-    ensures fine { IfOk result (λ v. (w : ℕ) (cells : List PlainCell) → AreFine w cells args.now.items → IsFine w cells v) }
-{
-    match place {
-        None => Ok(Value::Undefined),
-        Some(k) => shared(args.as_slice(), k),
-    }
-}
-
-// The value at a place, undefined where there is none.
-fn shared(values: &[Value], k: usize) -> Result<Value, Memory>
-    ensures seen { IfOk result (λ v. (w : ℕ) (cells : List PlainCell)
-        → seen w cells v ≡ argument_at (Some k) (all_seen w cells values.now)) }
-    ensures fine { IfOk result (λ v. (w : ℕ) (cells : List PlainCell) → AreFine w cells values.now → IsFine w cells v) }
-{
-    match values.get(k) {
-        None => Ok(Value::Undefined),
-        Some(v) => v.share(),
-    }
+    if declared { none } else { &names.own }
 }
