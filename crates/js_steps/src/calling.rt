@@ -21,7 +21,7 @@ ghost use Rattle.js_flow.specs.Todo.{Follows, IsGoing, Moves, Strides, IfOutOfFu
 use crate::answer::{Stepped, answered};
 use crate::machine::{cost, put, put_halted, set, settle, step_for, take_control, take_flow};
 use crate::stack::Frames;
-use crate::strides::{carry_on, is_used, resumed};
+use crate::strides::{FEW, carry_on, is_used, resumed};
 use crate::task::Task;
 use code_units::Memory;
 use js_calls::answer;
@@ -202,7 +202,7 @@ pub fn stride(
     ensures widget { task.new.widget ≡ task.old.widget }
     ensures kept { Kept (trees_of codes.now.items) task.old.widget store.old store.new }
 {
-    if units < 2 {
+    if units < FEW {
         stride_by_steps(alloc, codes, store, task, meter, units)
     } else {
         stride_on_flow(alloc, codes, store, task, meter, units)

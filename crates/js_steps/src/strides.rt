@@ -22,6 +22,9 @@ use js_values::Meter;
 use object_store::Store;
 use std::alloc::Global;
 
+/// Below so many units steps cost less: a form in place would soon be suspended.
+pub(crate) const FEW: u32 = 4;
+
 /// What came of a charge.
 #[derive(Drop)]
 pub(crate) enum Toll {
@@ -131,12 +134,12 @@ fn go(
     }
 }
 
-// Whether what is next is carried out in place, where so many units may be spent: one alone is a step.
+// Whether what is next is carried out in place, where so many units may be spent.
 #[inline(always)]
 fn is_in_place(next: &Next, units: u32) -> bool
     ensures { IsTrue result → (0 < units) × (is_direct next.now ≡ true) }
 {
-    units > 1 && is_direct(next)
+    units >= FEW && is_direct(next)
 }
 
 // What is next is carried out in place, by no more than these units.
