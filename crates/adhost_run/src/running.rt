@@ -14,6 +14,7 @@ use crate::request::parse;
 use crate::writing::write_report;
 use host_io::{Files, Sink};
 use std::alloc::Global;
+use std::mem;
 use widget_host::Host;
 
 /// Does what the words ask for, over the files, and writes the report to the sink. What a run
@@ -67,8 +68,9 @@ pub fn run<F: Files, S: Sink>(
     }
 }
 
-/// Does what the words ask for, as `run` does, and gives the number of the status. It has no clauses: a
-/// program that calls it is proved without all that those of `run` speak of.
+/// Does what the words ask for, as `run` does, and gives the number of the status, for a program that ends
+/// with it: the host is left to the system, and not taken apart. It has no clauses: a program that calls it
+/// is proved without all that those of `run` speak of.
 pub fn exit_number<F: Files, S: Sink>(
     alloc: Global,
     words: &[String],
@@ -76,7 +78,9 @@ pub fn exit_number<F: Files, S: Sink>(
     sink: &mut S,
 ) -> u8 {
     let mut stage = None;
-    run(alloc, words, files, sink, &mut stage).number()
+    let status = run(alloc, words, files, sink, &mut stage);
+    mem::forget(stage);
+    status.number()
 }
 
 // The status that a stop ends with.
