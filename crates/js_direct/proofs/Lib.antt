@@ -1,5 +1,7 @@
+pub mod Adding
 pub mod Arguing
 pub mod FormFrames
+pub mod Handing
 pub mod Lists
 pub mod Loops
 pub mod Parts

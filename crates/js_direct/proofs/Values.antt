@@ -10,13 +10,14 @@ use Rattle.store_cells.specs.declared.value.Number.TheVariants as number
 use Rattle.store_cells.specs.Cells.{PlainCell}
 use Rattle.widget_meaning.specs.OwnState.{State}
 use Rattle.widget_meaning.specs.Operators as operators
-use Rattle.widget_meaning.specs.Plan.{Place, after, and_then}
+use Rattle.widget_meaning.specs.Plan.{Place, Ret, after, and_then}
 use Rattle.widget_meaning.specs.Expressions.{converted_left, is_converting, operate, result, unary_on}
 use Rattle.widget_meaning.specs.Calls.{to_primitive}
+use Rattle.widget_meaning.specs.Properties as properties
 use Rattle.widget_meaning.specs.Values as meaning
 use Rattle.js_image.specs.Image.{seen}
 use Rattle.js_values.specs.Operands.{IsOperand, IsPrefixed, IsPrimitive}
-use Rattle.js_forms.proofs.Values.{stays_primitive}
+use Rattle.js_forms.proofs.Values.{read_other, stays_primitive}
 use Rattle.js_direct.specs.Prefixes.{is_plain_prefix}
 
 -- a primitive is no object
@@ -68,3 +69,13 @@ prefixed un.BitNot w cells v p s e h = absurd (no e)
   where
     no : false ≡ true → ⊥
     no x = cc
+
+-- a property of a cell
+pub read_cell : (w : ℕ) (cells : List PlainCell) (i : ℕ) (name : List ℕ) (s : State) → properties.read (seen w cells (value.Ref i)) name s ≡ Ret (meaning.Is (properties.get s (seen w cells (value.Ref i)) name)) s
+read_cell w cells i name s = read_other w cells (value.Ref i) name s (λ e. none e) (λ e. null e)
+  where
+    none : value.Ref i ≡ value.Undefined → ⊥
+    none e = cc
+
+    null : value.Ref i ≡ value.Null → ⊥
+    null e = cc

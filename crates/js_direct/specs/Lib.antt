@@ -1,6 +1,9 @@
+pub mod Argues
 pub mod Comes
 pub mod Goes
 pub mod Going
+pub mod Hands
+pub mod Listed
 pub mod Prefixes
 pub mod Reduces
 pub mod Towards

@@ -1,5 +1,6 @@
 //! Array literals, which are born before their elements.
 ghost use Rattle.std.specs.Prelude.{◌≡◌, ◌+◌, ◌<◌, [], ◌∷◌, drop, IfOk};
+ghost use Rattle.js_tree.specs.Trees.{trees};
 ghost use Rattle.js_tree.specs.Forest.{expr_at};
 ghost use Rattle.widget_meaning.specs.OwnState.{State, new_array};
 ghost use Rattle.widget_meaning.specs.Plan.{Plan};
@@ -16,36 +17,36 @@ ghost use Rattle.js_direct.specs.Comes.{Comes, IsReady};
 ghost use Rattle.js_direct.specs.Goes.{GoesOn};
 
 use crate::forms::eval_on;
-use crate::run::{Ended, Run, Site, stop, take_value, throw, wait};
+use crate::run::{Ended, Here, Run, Site, stop, take_value, throw, wait};
 use code_units::{Memory, whole_text};
-use js_flow::{FormFrame, Frame, Place, element_at};
+use js_flow::{FormFrame, Frame, element_at};
 use js_image::{Made, Written, make, put};
-use js_names::tree_at;
 use js_tree::ExprId;
 use object_store::{CellId, NewCell, Store, Value};
 
 /// An array literal.
 #[cycle(direct)]
 pub(crate) fn array_on(
-    site: &Site,
+    here: &Here,
     run: &mut Run,
     store: &mut Store,
     id: ExprId,
-    place: &Place,
     deep: u32,
     out: &mut Value,
 ) -> Result<Ended, Memory>
-    requires ready { IsReady (trees_of site.now.codes.now.items) site.now.widget store.old run.old }
-    requires held { IsExprAt (trees_of site.now.codes.now.items) site.now.widget store.old.cells id place.now }
-    ensures comes { let F = trees_of site.now.codes.now.items in let w = site.now.widget in
+    requires ready { IsReady (trees_of here.now.site.now.codes.now.items) here.now.site.now.widget store.old run.old }
+    requires held { IsExprAt (trees_of here.now.site.now.codes.now.items) here.now.site.now.widget store.old.cells id
+        here.now.at }
+    requires tree { trees here.now.tree.now ≡ forest_at (trees_of here.now.site.now.codes.now.items) here.now.at.code }
+    ensures comes { let F = trees_of here.now.site.now.codes.now.items in let w = here.now.site.now.widget in
         IfOk result (λ how. Comes F w store.old store.new 30
         (λ s. costs.make (new_array 0 []) 0 s (λ a t. expressions.array_parts a 0
-        (elements_of (expr_at (forest_at F place.now.code) id)) (place_of w store.old.cells place.now) t))
+        (elements_of (expr_at (forest_at F here.now.at.code) id)) (place_of w store.old.cells here.now.at) t))
         run.old run.new how out.new) }
-    ensures kept { Kept (trees_of site.now.codes.now.items) site.now.widget store.old store.new }
+    ensures kept { Kept (trees_of here.now.site.now.codes.now.items) here.now.site.now.widget store.old store.new }
 {
-    match make(site.alloc, store, site.widget, NewCell::Array)? {
-        Made::Cell(array) => elements_on(site, run, store, array, id, place, deep, out),
+    match make(here.site.alloc, store, here.site.widget, NewCell::Array)? {
+        Made::Cell(array) => elements_on(here, run, store, array, id, deep, out),
         Made::Stop(cause) => stop(run, cause),
     }
 }
@@ -53,28 +54,29 @@ pub(crate) fn array_on(
 // The elements of an array that is there.
 #[cycle(direct)]
 fn elements_on(
-    site: &Site,
+    here: &Here,
     run: &mut Run,
     store: &mut Store,
     array: CellId,
     id: ExprId,
-    place: &Place,
     deep: u32,
     out: &mut Value,
 ) -> Result<Ended, Memory>
-    requires ready { IsReady (trees_of site.now.codes.now.items) site.now.widget store.old run.old }
-    requires held { IsHeld site.now.widget store.old.cells array
-        × IsExprAt (trees_of site.now.codes.now.items) site.now.widget store.old.cells id place.now }
-    ensures comes { let F = trees_of site.now.codes.now.items in let w = site.now.widget in
+    requires ready { IsReady (trees_of here.now.site.now.codes.now.items) here.now.site.now.widget store.old run.old }
+    requires held { IsHeld here.now.site.now.widget store.old.cells array
+        × IsExprAt (trees_of here.now.site.now.codes.now.items) here.now.site.now.widget store.old.cells id
+        here.now.at }
+    requires tree { trees here.now.tree.now ≡ forest_at (trees_of here.now.site.now.codes.now.items) here.now.at.code }
+    ensures comes { let F = trees_of here.now.site.now.codes.now.items in let w = here.now.site.now.widget in
         IfOk result (λ how. Comes F w store.old store.new 1
         (expressions.array_parts (seen w store.old.cells (Value.Ref array)) 0
-        (elements_of (expr_at (forest_at F place.now.code) id)) (place_of w store.old.cells place.now))
+        (elements_of (expr_at (forest_at F here.now.at.code) id)) (place_of w store.old.cells here.now.at))
         run.old run.new how out.new) }
-    ensures kept { Kept (trees_of site.now.codes.now.items) site.now.widget store.old store.new }
+    ensures kept { Kept (trees_of here.now.site.now.codes.now.items) here.now.site.now.widget store.old store.new }
 {
     let mut n = 0;
-    'elements: while let Some(e) = element_at(tree_at(site.codes, place.code), id, n) {
-        match element_on(site, run, store, (array, id, n, e), place, deep, out)? {
+    'elements: while let Some(e) = element_at(here.tree, id, n) {
+        match element_on(here, run, store, (array, id, n, e), deep, out)? {
             Ended::Is => n += 1,
             how => return Ok(how),
         }
@@ -86,37 +88,41 @@ fn elements_on(
 // One element: where it is a value, it is put into the array.
 #[cycle(direct)]
 fn element_on(
-    site: &Site,
+    here: &Here,
     run: &mut Run,
     store: &mut Store,
     at: (CellId, ExprId, usize, ExprId),
-    place: &Place,
     deep: u32,
     out: &mut Value,
 ) -> Result<Ended, Memory>
-    requires ready { IsReady (trees_of site.now.codes.now.items) site.now.widget store.old run.old }
-    requires held { IsHeld site.now.widget store.old.cells at.0
-        × IsExprAt (trees_of site.now.codes.now.items) site.now.widget store.old.cells at.1 place.now
-        × IsExprAt (trees_of site.now.codes.now.items) site.now.widget store.old.cells at.3 place.now }
-    requires there { let f = forest_at (trees_of site.now.codes.now.items) place.now.code in
+    requires ready { IsReady (trees_of here.now.site.now.codes.now.items) here.now.site.now.widget store.old run.old }
+    requires held { IsHeld here.now.site.now.widget store.old.cells at.0
+        × IsExprAt (trees_of here.now.site.now.codes.now.items) here.now.site.now.widget store.old.cells at.1
+        here.now.at
+        × IsExprAt (trees_of here.now.site.now.codes.now.items) here.now.site.now.widget store.old.cells at.3
+        here.now.at }
+    requires there { let f = forest_at (trees_of here.now.site.now.codes.now.items) here.now.at.code in
         drop at.2 (elements_of (expr_at f at.1)) ≡ expr_at f at.3 ∷ drop (at.2 + 1) (elements_of (expr_at f at.1)) }
-    ensures goes { let F = trees_of site.now.codes.now.items in let w = site.now.widget in
-        let list = elements_of (expr_at (forest_at F place.now.code) at.1) in
+    requires tree { trees here.now.tree.now ≡ forest_at (trees_of here.now.site.now.codes.now.items) here.now.at.code }
+    ensures goes { let F = trees_of here.now.site.now.codes.now.items in let w = here.now.site.now.widget in
+        let list = elements_of (expr_at (forest_at F here.now.at.code) at.1) in
         IfOk result (λ how. how ≡ Ended.Is → GoesOn F w store.old store.new
-        (expressions.array_parts (seen w store.old.cells (Value.Ref at.0)) at.2 (drop at.2 list) (place_of w store.old.cells place.now))
+        (expressions.array_parts (seen w store.old.cells (Value.Ref at.0)) at.2 (drop at.2 list)
+        (place_of w store.old.cells here.now.at))
         (expressions.array_parts (seen w store.new.cells (Value.Ref at.0)) (at.2 + 1) (drop (at.2 + 1) list)
-        (place_of w store.new.cells place.now)) run.old run.new) }
-    ensures comes { let F = trees_of site.now.codes.now.items in let w = site.now.widget in
-        let list = elements_of (expr_at (forest_at F place.now.code) at.1) in
+        (place_of w store.new.cells here.now.at)) run.old run.new) }
+    ensures comes { let F = trees_of here.now.site.now.codes.now.items in let w = here.now.site.now.widget in
+        let list = elements_of (expr_at (forest_at F here.now.at.code) at.1) in
         IfOk result (λ how. (how ≡ Ended.Is → ⊥) → Comes F w store.old store.new 1
-        (expressions.array_parts (seen w store.old.cells (Value.Ref at.0)) at.2 (drop at.2 list) (place_of w store.old.cells place.now))
+        (expressions.array_parts (seen w store.old.cells (Value.Ref at.0)) at.2 (drop at.2 list)
+        (place_of w store.old.cells here.now.at))
         run.old run.new how out.new) }
-    ensures kept { Kept (trees_of site.now.codes.now.items) site.now.widget store.old store.new }
+    ensures kept { Kept (trees_of here.now.site.now.codes.now.items) here.now.site.now.widget store.old store.new }
 {
     let (array, id, n, e) = at;
-    match eval_on(site, run, store, e, place, deep, out)? {
-        Ended::Is => put_element(site, run, store, array, n, out),
-        Ended::Left => wait(run, Frame::Form(FormFrame::Element(array, id, n, *place))),
+    match eval_on(here, run, store, e, deep, out)? {
+        Ended::Is => put_element(here.site, run, store, array, n, out),
+        Ended::Left => wait(run, Frame::Form(FormFrame::Element(array, id, n, here.at))),
         how => Ok(how),
     }
 }
@@ -134,7 +140,8 @@ fn put_element(
     requires held { IsHeld site.now.widget store.old.cells array × IsFine site.now.widget store.old.cells out.old }
     ensures done { let F = trees_of site.now.codes.now.items in let w = site.now.widget in
         IfOk result (λ how. how ≡ Ended.Is → (run.new ≡ run.old) × ((r : Rest) (k : State → Plan)
-        → properties.put (seen w store.old.cells (Value.Ref array)) (properties.index_name n) (seen w store.old.cells out.old)
+        → properties.put (seen w store.old.cells (Value.Ref array)) (properties.index_name n)
+        (seen w store.old.cells out.old)
         (image F r w store.old) k ≡ k (image F r w store.new))) }
     ensures comes { let F = trees_of site.now.codes.now.items in let w = site.now.widget in
         IfOk result (λ how. (how ≡ Ended.Is → ⊥) → (k : State → Plan) → Comes F w store.old store.new 1

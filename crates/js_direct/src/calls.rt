@@ -1,6 +1,7 @@
 //! Calls, carried out in place.
-ghost use Rattle.std.specs.Prelude.{◌≡◌, ℕ, suc, ◌<◌, ◌++◌, ◌∷◌, List, [], IfOk, IfSome, OnOk, length};
+ghost use Rattle.std.specs.Prelude.{◌≡◌, ℕ, suc, ◌+◌, ◌++◌, ◌∷◌, List, [], IfOk, IfSome, OnOk, length};
 ghost use Rattle.std.specs.Option.{option_map};
+ghost use Rattle.js_tree.specs.Trees.{trees};
 ghost use Rattle.js_tree.specs.Forest.{Forest, IsExpr, expr_at, fun_at};
 ghost use Rattle.store_cells.specs.Cells.{Cells};
 ghost use Rattle.object_store.specs.Owned.{scope_number};
@@ -10,202 +11,517 @@ ghost use Rattle.widget_meaning.specs.OwnState as state;
 ghost use Rattle.widget_meaning.specs.OwnState.{State};
 ghost use Rattle.widget_meaning.specs.Plan as meaning;
 ghost use Rattle.widget_meaning.specs.Plan.{Do, Ret};
-ghost use Rattle.js_image.specs.Image.{Rest, all_seen, function_in, image, seen};
-ghost use Rattle.js_image.specs.Held.{IsConfined, IsFine, IsFunOf, IsPlaceScope, Kept};
+ghost use Rattle.widget_meaning.specs.Values as values;
+ghost use Rattle.js_image.specs.Image.{all_seen, function_in, seen};
+ghost use Rattle.js_image.specs.Held.{AreFine, IsFine, IsFunOf, IsPlaceScope, Kept};
 ghost use Rattle.js_names.specs.Code.{trees_of};
 ghost use Rattle.js_calls.specs.Called.{invoked};
 ghost use Rattle.js_flow.specs.Fine.{FineCall, FineCompletion, FineReference, IsBlockAt, IsExprAt, IsPlace};
 ghost use Rattle.js_flow.specs.Frames.{taken};
 ghost use Rattle.js_flow.specs.Parts.{HasExpr, arguments_of, body_of, forest_at};
 ghost use Rattle.js_flow.specs.Views.{completion_of, job_of, place_of, reference_of};
+ghost use Rattle.js_direct.specs.Argues.{Argues, HandsArgument, WaitsFor};
+ghost use Rattle.js_direct.specs.Hands.{HandsOn};
 ghost use Rattle.js_direct.specs.Comes.{Comes, IsEnd, IsReady, ended_as};
 
-use crate::forms::eval_on;
-use crate::run::{Ended, Run, Site, clear, leave_job, set_value, stop, take_value, throw, wait};
-use crate::statements::block_on;
+use crate::blocks::block_on;
+use crate::forms::operand_on;
+use crate::run::{
+    Ended, Here, Run, Site, clear, leave_job, share_to, stop, take_value, throw, wait,
+};
 use crate::targets::{referred, target_on};
-use code_units::Memory;
-use js_calls::{Entry, entered};
+use code_units::{Memory, Text};
+use js_calls::{Called, Entry, entered};
 use js_flow::{
     Args, Argument, Block, Call, CallFrame, Frame, Job, NativeCall, Place, Reference, argument_at,
 };
-use js_image::{Callee, Fault, callee};
-use js_names::{Code, tree_at};
-use js_tree::{ExprId, FunId};
+use js_image::{Callee, Fault, callee, variable_at};
+use js_names::tree_at;
+use js_tree::{Expr, ExprId, FunId};
 use object_store::{FunParts, NativeId, Store, Value};
 use std::alloc::Global;
+use std::mem;
 
 /// A call, after its unit.
 #[inline(never)]
 #[cycle(direct)]
 pub(crate) fn call_on(
-    site: &Site,
+    here: &Here,
     run: &mut Run,
     store: &mut Store,
     id: ExprId,
     to: ExprId,
-    place: &Place,
     deep: u32,
     out: &mut Value,
 ) -> Result<Ended, Memory>
-    requires ready { IsReady (trees_of site.now.codes.now.items) site.now.widget store.old run.old }
-    requires held { IsExprAt (trees_of site.now.codes.now.items) site.now.widget store.old.cells id place.now
-        × IsExprAt (trees_of site.now.codes.now.items) site.now.widget store.old.cells to place.now }
-    ensures comes { let F = trees_of site.now.codes.now.items in let w = site.now.widget in
+    requires ready { IsReady (trees_of here.now.site.now.codes.now.items) here.now.site.now.widget store.old run.old }
+    requires held { IsExprAt (trees_of here.now.site.now.codes.now.items) here.now.site.now.widget store.old.cells id
+        here.now.at
+        × IsExprAt (trees_of here.now.site.now.codes.now.items) here.now.site.now.widget store.old.cells to
+        here.now.at }
+    requires tree { trees here.now.tree.now ≡ forest_at (trees_of here.now.site.now.codes.now.items) here.now.at.code }
+    ensures comes { let F = trees_of here.now.site.now.codes.now.items in let w = here.now.site.now.widget in
         IfOk result (λ how. Comes F w store.old store.new 30
-        (λ s. Do (job_of F w store.old.cells (Job.Target to place.now)) s
-        (taken F w store.old.cells (Frame.Call (CallFrame.Callee id place.now))))
+        (λ s. Do (job_of F w store.old.cells (Job.Target to here.now.at)) s
+        (taken F w store.old.cells (Frame.Call (CallFrame.Callee id here.now.at))))
         run.old run.new how out.new) }
-    ensures kept { Kept (trees_of site.now.codes.now.items) site.now.widget store.old store.new }
+    ensures kept { Kept (trees_of here.now.site.now.codes.now.items) here.now.site.now.widget store.old store.new }
 {
-    let mut of = Reference::Found(Value::Undefined);
-    match target_on(site, run, store, to, place, deep, &mut of, out)? {
-        Ended::Is => arguments_on(site, run, store, id, of, place, deep, out),
-        Ended::Left => wait_callee(run, id, place),
-        other => Ok(other),
+    if run.units == 0 {
+        return call_any(here, run, store, id, to, deep, out);
+    }
+    match here.tree.expr(to) {
+        Expr::Name(name) => {
+            run.units -= 1;
+            call_name(here, run, store, id, name, deep, out)
+        }
+        _ => call_any(here, run, store, id, to, deep, out),
     }
 }
 
-// A call waits for its target.
-#[cold]
-#[inline(never)]
-fn wait_callee(run: &mut Run, id: ExprId, place: &Place) -> Result<Ended, Memory>
-    ensures left { IfOk result (λ how. how ≡ Ended.Left) }
-    ensures waits { IfOk result (λ how. run.new.waits.items ≡ run.old.waits.items ++ Frame.Call (CallFrame.Callee id place.now) ∷ []) }
-    ensures next { IfOk result (λ how. run.new.next ≡ run.old.next) }
-    ensures units { IfOk result (λ how. run.new.units ≡ run.old.units) }
-{
-    wait(run, Frame::Call(CallFrame::Callee(id, *place)))
-}
-
-// The arguments of a call from left to right, and then the call.
-#[inline(never)]
+// A call of a variable, whose target has its unit: it is read when the arguments are there.
+#[inline(always)]
 #[cycle(direct)]
-fn arguments_on(
-    site: &Site,
+fn call_name(
+    here: &Here,
     run: &mut Run,
     store: &mut Store,
     id: ExprId,
-    of: Reference,
-    place: &Place,
+    name: &Text,
     deep: u32,
     out: &mut Value,
 ) -> Result<Ended, Memory>
-    requires ready { IsReady (trees_of site.now.codes.now.items) site.now.widget store.old run.old }
-    requires held { IsExprAt (trees_of site.now.codes.now.items) site.now.widget store.old.cells id place.now
-        × FineReference site.now.widget store.old.cells of }
-    ensures comes { let F = trees_of site.now.codes.now.items in let w = site.now.widget in
-        IfOk result (λ how. Comes F w store.old store.new 4
-        (expressions.arguments_then (reference_of w store.old.cells of) [] (arguments_of (expr_at (forest_at F place.now.code) id)) (place_of w store.old.cells place.now))
+    requires ready { IsReady (trees_of here.now.site.now.codes.now.items) here.now.site.now.widget store.old run.old }
+    requires held { IsExprAt (trees_of here.now.site.now.codes.now.items) here.now.site.now.widget store.old.cells id
+        here.now.at }
+    requires tree { trees here.now.tree.now ≡ forest_at (trees_of here.now.site.now.codes.now.items) here.now.at.code }
+    ensures comes { let F = trees_of here.now.site.now.codes.now.items in let w = here.now.site.now.widget in
+        IfOk result (λ how. Comes F w store.old store.new 5
+        (expressions.arguments_then (values.Variable name.now) []
+        (arguments_of (expr_at (forest_at F here.now.at.code) id)) (place_of w store.old.cells here.now.at))
         run.old run.new how out.new) }
-    ensures kept { Kept (trees_of site.now.codes.now.items) site.now.widget store.old store.new }
+    ensures kept { Kept (trees_of here.now.site.now.codes.now.items) here.now.site.now.widget store.old store.new }
 {
-    let mut call = Call {
-        func: Value::Undefined,
-        this: None,
-        args: Args::new(site.alloc),
-        depth: place.depth,
-    };
+    let mut func = Value::Undefined;
+    let mut args = Args::new(here.site.alloc);
+    called_name(here, run, store, id, name, &mut func, &mut args, deep, out)
+}
+
+// The same with places for the function and its arguments: what owns these has one exit.
+#[inline(always)]
+#[cycle(direct)]
+fn called_name(
+    here: &Here,
+    run: &mut Run,
+    store: &mut Store,
+    id: ExprId,
+    name: &Text,
+    func: &mut Value,
+    args: &mut Args,
+    deep: u32,
+    out: &mut Value,
+) -> Result<Ended, Memory>
+    requires ready { IsReady (trees_of here.now.site.now.codes.now.items) here.now.site.now.widget store.old run.old }
+    requires held { IsExprAt (trees_of here.now.site.now.codes.now.items) here.now.site.now.widget store.old.cells id
+        here.now.at }
+    requires tree { trees here.now.tree.now ≡ forest_at (trees_of here.now.site.now.codes.now.items) here.now.at.code }
+    requires none { args.old.items ≡ [] }
+    ensures comes { let F = trees_of here.now.site.now.codes.now.items in let w = here.now.site.now.widget in
+        IfOk result (λ how. Comes F w store.old store.new 5
+        (expressions.arguments_then (values.Variable name.now) []
+        (arguments_of (expr_at (forest_at F here.now.at.code) id)) (place_of w store.old.cells here.now.at))
+        run.old run.new how out.new) }
+    ensures kept { Kept (trees_of here.now.site.now.codes.now.items) here.now.site.now.widget store.old store.new }
+{
+    match arguments_on(here, run, store, id, args, deep, out)? {
+        Ended::Is => variable_on(here, run, store, name, func, args, deep, out),
+        how => hand_named(here, run, how, name, args, id),
+    }
+}
+
+// A call of any target.
+#[inline(never)]
+#[cycle(direct)]
+fn call_any(
+    here: &Here,
+    run: &mut Run,
+    store: &mut Store,
+    id: ExprId,
+    to: ExprId,
+    deep: u32,
+    out: &mut Value,
+) -> Result<Ended, Memory>
+    requires ready { IsReady (trees_of here.now.site.now.codes.now.items) here.now.site.now.widget store.old run.old }
+    requires held { IsExprAt (trees_of here.now.site.now.codes.now.items) here.now.site.now.widget store.old.cells id
+        here.now.at
+        × IsExprAt (trees_of here.now.site.now.codes.now.items) here.now.site.now.widget store.old.cells to
+        here.now.at }
+    requires tree { trees here.now.tree.now ≡ forest_at (trees_of here.now.site.now.codes.now.items) here.now.at.code }
+    ensures comes { let F = trees_of here.now.site.now.codes.now.items in let w = here.now.site.now.widget in
+        IfOk result (λ how. Comes F w store.old store.new 30
+        (λ s. Do (job_of F w store.old.cells (Job.Target to here.now.at)) s
+        (taken F w store.old.cells (Frame.Call (CallFrame.Callee id here.now.at))))
+        run.old run.new how out.new) }
+    ensures kept { Kept (trees_of here.now.site.now.codes.now.items) here.now.site.now.widget store.old store.new }
+{
+    let mut of = Reference::Found(Value::Undefined);
+    called_any(here, run, store, id, to, &mut of, deep, out)
+}
+
+// The same with a place for its reference.
+#[inline(always)]
+#[cycle(direct)]
+fn called_any(
+    here: &Here,
+    run: &mut Run,
+    store: &mut Store,
+    id: ExprId,
+    to: ExprId,
+    of: &mut Reference,
+    deep: u32,
+    out: &mut Value,
+) -> Result<Ended, Memory>
+    requires ready { IsReady (trees_of here.now.site.now.codes.now.items) here.now.site.now.widget store.old run.old }
+    requires held { IsExprAt (trees_of here.now.site.now.codes.now.items) here.now.site.now.widget store.old.cells id
+        here.now.at
+        × IsExprAt (trees_of here.now.site.now.codes.now.items) here.now.site.now.widget store.old.cells to
+        here.now.at }
+    requires tree { trees here.now.tree.now ≡ forest_at (trees_of here.now.site.now.codes.now.items) here.now.at.code }
+    ensures comes { let F = trees_of here.now.site.now.codes.now.items in let w = here.now.site.now.widget in
+        IfOk result (λ how. Comes F w store.old store.new 30
+        (λ s. Do (job_of F w store.old.cells (Job.Target to here.now.at)) s
+        (taken F w store.old.cells (Frame.Call (CallFrame.Callee id here.now.at))))
+        run.old run.new how out.new) }
+    ensures kept { Kept (trees_of here.now.site.now.codes.now.items) here.now.site.now.widget store.old store.new }
+{
+    match target_on(here, run, store, to, deep, of, out)? {
+        Ended::Is => reached_on(here, run, store, id, of, deep, out),
+        how => hand_callee(run, how, id, &here.at),
+    }
+}
+
+// The end of a target that is no reference.
+#[cold]
+#[inline(never)]
+fn hand_callee(run: &mut Run, how: Ended, id: ExprId, place: &Place) -> Result<Ended, Memory>
+    ensures { IfOk result (λ h. HandsOn run.old run.new how h (Frame.Call (CallFrame.Callee id place.now))) }
+{
+    match how {
+        Ended::Left => wait(run, Frame::Call(CallFrame::Callee(id, *place))),
+        how => Ok(how),
+    }
+}
+
+// The arguments of a call of a reference, which has its value when they are there.
+#[inline(always)]
+#[cycle(direct)]
+fn reached_on(
+    here: &Here,
+    run: &mut Run,
+    store: &mut Store,
+    id: ExprId,
+    of: &mut Reference,
+    deep: u32,
+    out: &mut Value,
+) -> Result<Ended, Memory>
+    requires ready { IsReady (trees_of here.now.site.now.codes.now.items) here.now.site.now.widget store.old run.old }
+    requires held { IsExprAt (trees_of here.now.site.now.codes.now.items) here.now.site.now.widget store.old.cells id
+        here.now.at
+        × FineReference here.now.site.now.widget store.old.cells of.old }
+    requires tree { trees here.now.tree.now ≡ forest_at (trees_of here.now.site.now.codes.now.items) here.now.at.code }
+    ensures comes { let F = trees_of here.now.site.now.codes.now.items in let w = here.now.site.now.widget in
+        IfOk result (λ how. Comes F w store.old store.new 5
+        (expressions.arguments_then (reference_of w store.old.cells of.old) []
+        (arguments_of (expr_at (forest_at F here.now.at.code) id)) (place_of w store.old.cells here.now.at))
+        run.old run.new how out.new) }
+    ensures kept { Kept (trees_of here.now.site.now.codes.now.items) here.now.site.now.widget store.old store.new }
+{
+    let mut args = Args::new(here.site.alloc);
+    method_on(here, run, store, id, of, &mut args, deep, out)
+}
+
+// The same with a place for them.
+#[inline(always)]
+#[cycle(direct)]
+fn method_on(
+    here: &Here,
+    run: &mut Run,
+    store: &mut Store,
+    id: ExprId,
+    of: &mut Reference,
+    args: &mut Args,
+    deep: u32,
+    out: &mut Value,
+) -> Result<Ended, Memory>
+    requires ready { IsReady (trees_of here.now.site.now.codes.now.items) here.now.site.now.widget store.old run.old }
+    requires held { IsExprAt (trees_of here.now.site.now.codes.now.items) here.now.site.now.widget store.old.cells id
+        here.now.at
+        × FineReference here.now.site.now.widget store.old.cells of.old }
+    requires tree { trees here.now.tree.now ≡ forest_at (trees_of here.now.site.now.codes.now.items) here.now.at.code }
+    requires none { args.old.items ≡ [] }
+    ensures comes { let F = trees_of here.now.site.now.codes.now.items in let w = here.now.site.now.widget in
+        IfOk result (λ how. Comes F w store.old store.new 5
+        (expressions.arguments_then (reference_of w store.old.cells of.old) []
+        (arguments_of (expr_at (forest_at F here.now.at.code) id)) (place_of w store.old.cells here.now.at))
+        run.old run.new how out.new) }
+    ensures kept { Kept (trees_of here.now.site.now.codes.now.items) here.now.site.now.widget store.old store.new }
+{
+    match arguments_on(here, run, store, id, args, deep, out)? {
+        Ended::Is => referred_on(here, run, store, of, args, deep, out),
+        how => hand_argument(here, run, how, of, args, id),
+    }
+}
+
+// The arguments of a call from left to right, whatever is called.
+#[inline(always)]
+#[cycle(direct)]
+fn arguments_on(
+    here: &Here,
+    run: &mut Run,
+    store: &mut Store,
+    id: ExprId,
+    args: &mut Args,
+    deep: u32,
+    out: &mut Value,
+) -> Result<Ended, Memory>
+    requires ready { IsReady (trees_of here.now.site.now.codes.now.items) here.now.site.now.widget store.old run.old }
+    requires held { IsExprAt (trees_of here.now.site.now.codes.now.items) here.now.site.now.widget store.old.cells id
+        here.now.at }
+    requires tree { trees here.now.tree.now ≡ forest_at (trees_of here.now.site.now.codes.now.items) here.now.at.code }
+    requires none { args.old.items ≡ [] }
+    ensures comes { let F = trees_of here.now.site.now.codes.now.items in let w = here.now.site.now.widget in
+        IfOk result (λ how. Argues F w (arguments_of (expr_at (forest_at F here.now.at.code) id))
+        (place_of w store.old.cells here.now.at) store.old store.new args.new.items run.old run.new how out.new) }
+    ensures kept { Kept (trees_of here.now.site.now.codes.now.items) here.now.site.now.widget store.old store.new }
+{
     let mut n = 0;
-    'arguments: while let Some(e) = argument_left(site.codes, place, id, n) {
+    'arguments: while let Some(e) = argument_left(here, id, n) {
         n += 1;
-        match eval_on(site, run, store, e, place, deep, out)? {
-            Ended::Is => call.args.push(take_value(out))?,
-            Ended::Left => {
-                let a = unfinished(site.alloc, of, call, (id, n), place)?;
-                return wait_argument(run, a);
-            }
+        match operand_on(here, run, store, e, deep, out)? {
+            Ended::Is => put_argument(args, out)?,
             other => return Ok(other),
         }
     }
-    set_callee(site, store, &mut call, of, place)?;
-    invoke_on(site, run, store, call, deep, out)
+    Ok(Ended::Is)
 }
 
 // An argument of a call, none where all are there.
 #[inline(always)]
-fn argument_left(codes: &Vec<Code>, place: &Place, call: ExprId, n: usize) -> Option<ExprId>
-    requires code { place.now.code < length (trees_of codes.now.items) }
-    requires call { IsExpr (forest_at (trees_of codes.now.items) place.now.code) call }
-    ensures { let f = forest_at (trees_of codes.now.items) place.now.code in HasExpr f (arguments_of (expr_at f call)) n result }
+fn argument_left(here: &Here, call: ExprId, n: usize) -> Option<ExprId>
+    requires call { IsExpr (forest_at (trees_of here.now.site.now.codes.now.items) here.now.at.code) call }
+    requires tree { trees here.now.tree.now ≡ forest_at (trees_of here.now.site.now.codes.now.items) here.now.at.code }
+    ensures { let f = forest_at (trees_of here.now.site.now.codes.now.items) here.now.at.code in HasExpr f
+        (arguments_of (expr_at f call)) n result }
 {
-    argument_at(tree_at(codes, place.code), call, n)
+    argument_at(here.tree, call, n)
 }
 
-// A call that waits for an argument; so many are known then.
+// One argument more.
+#[inline(always)]
+fn put_argument(args: &mut Args, out: &mut Value) -> Result<(), Memory>
+    ensures { OnOk result (args.new.items ≡ args.old.items ++ out.old ∷ []) }
+{
+    args.reserve(1)?;
+    args.push_reserved(take_value(out));
+    Ok(())
+}
+
+// A call waits for an argument behind those that are there, which it takes along.
 #[cold]
 #[inline(never)]
-fn unfinished(
+fn wait_argument(
     alloc: Global,
-    of: Reference,
-    call: Call,
-    next: (ExprId, usize),
+    run: &mut Run,
+    of: &mut Reference,
+    args: &mut Args,
+    id: ExprId,
     place: &Place,
-) -> Result<Box<Argument>, Memory>
-    ensures { IfOk result (λ a. a.value ≡ record { of = of; args = call.args; call = next.0; next = next.1; place = place.now }) }
+) -> Result<Ended, Memory>
+    ensures { IfOk result (λ how. WaitsFor run.old run.new how (record {
+      of = of.old;
+      args = args.old;
+      call = id;
+      next = length args.old.items + 1;
+      place = place.now;
+    })) }
 {
+    let of = mem::replace(of, Reference::Found(Value::Undefined));
+    let args = mem::replace(args, Args::new(alloc));
+    let Some(next) = args.len().checked_add(1) else {
+        return Err(Memory);
+    };
     let a = Argument {
         of,
-        args: call.args,
-        call: next.0,
-        next: next.1,
+        args,
+        call: id,
+        next,
         place: *place,
     };
-    Ok(Box::new(alloc, a)?)
+    wait(run, Frame::Call(CallFrame::Argument(Box::new(alloc, a)?)))
 }
 
-// It waits.
+// The end of an argument that is no value.
 #[cold]
 #[inline(never)]
-fn wait_argument(run: &mut Run, a: Box<Argument>) -> Result<Ended, Memory>
-    ensures left { IfOk result (λ how. how ≡ Ended.Left) }
-    ensures waits { IfOk result (λ how. run.new.waits.items ≡ run.old.waits.items ++ Frame.Call (CallFrame.Argument a) ∷ []) }
-    ensures next { IfOk result (λ how. run.new.next ≡ run.old.next) }
-    ensures units { IfOk result (λ how. run.new.units ≡ run.old.units) }
+fn hand_argument(
+    here: &Here,
+    run: &mut Run,
+    how: Ended,
+    of: &mut Reference,
+    args: &mut Args,
+    id: ExprId,
+) -> Result<Ended, Memory>
+    ensures { IfOk result (λ h. HandsArgument run.old run.new how h (record {
+      of = of.old;
+      args = args.old;
+      call = id;
+      next = length args.old.items + 1;
+      place = here.now.at;
+    })) }
 {
-    wait(run, Frame::Call(CallFrame::Argument(a)))
+    match how {
+        Ended::Left => wait_argument(here.site.alloc, run, of, args, id, &here.at),
+        how => Ok(how),
+    }
 }
 
-// All arguments are there: the function of a call, and what it is a method of.
-#[inline(always)]
-fn set_callee(
-    site: &Site,
-    store: &Store,
-    call: &mut Call,
-    of: Reference,
-    place: &Place,
-) -> Result<(), Memory>
-    requires confined { IsConfined (trees_of site.now.codes.now.items) site.now.widget store.now }
-    requires held { FineReference site.now.widget store.now.cells of
-        × IsPlace (trees_of site.now.codes.now.items) site.now.widget store.now.cells place.now }
-    ensures func { let F = trees_of site.now.codes.now.items in let w = site.now.widget in
-        OnOk result ((r : Rest) → seen w store.now.cells call.new.func
-        ≡ expressions.referred (reference_of w store.now.cells of) (place_of w store.now.cells place.now) (image F r w store.now)) }
-    ensures this { OnOk result ((w : ℕ) (s : Cells) → option_map (seen w s.cells) call.new.this ≡ expressions.base_of (reference_of w s.cells of)) }
-    ensures args { OnOk result (call.new.args ≡ call.old.args) }
-    ensures depth { OnOk result (call.new.depth ≡ call.old.depth) }
-    ensures fine { OnOk result (IsFine site.now.widget store.now.cells call.new.func × IfSome call.new.this (IsFine site.now.widget store.now.cells)) }
+// The same in a call of a variable.
+#[cold]
+#[inline(never)]
+fn hand_named(
+    here: &Here,
+    run: &mut Run,
+    how: Ended,
+    name: &Text,
+    args: &mut Args,
+    id: ExprId,
+) -> Result<Ended, Memory>
+    ensures { IfOk result (λ h. HandsArgument run.old run.new how h (record {
+      of = Reference.Variable name.now;
+      args = args.old;
+      call = id;
+      next = length args.old.items + 1;
+      place = here.now.at;
+    })) }
 {
-    set_value(&mut call.func, referred(site, store, &of, place)?);
-    call.this = base_of(of);
-    Ok(())
+    match how {
+        Ended::Left => wait_named(here, run, name, args, id),
+        how => Ok(how),
+    }
+}
+
+// A call of a variable waits for an argument.
+fn wait_named(
+    here: &Here,
+    run: &mut Run,
+    name: &Text,
+    args: &mut Args,
+    id: ExprId,
+) -> Result<Ended, Memory>
+    ensures { IfOk result (λ how. WaitsFor run.old run.new how (record {
+      of = Reference.Variable name.now;
+      args = args.old;
+      call = id;
+      next = length args.old.items + 1;
+      place = here.now.at;
+    })) }
+{
+    let mut of = Reference::Variable(name.share()?);
+    wait_argument(here.site.alloc, run, &mut of, args, id, &here.at)
+}
+
+// A variable is called: its arguments are there.
+#[inline(always)]
+#[cycle(direct)]
+fn variable_on(
+    here: &Here,
+    run: &mut Run,
+    store: &mut Store,
+    name: &Text,
+    func: &mut Value,
+    args: &mut Args,
+    deep: u32,
+    out: &mut Value,
+) -> Result<Ended, Memory>
+    requires ready { IsReady (trees_of here.now.site.now.codes.now.items) here.now.site.now.widget store.old run.old }
+    requires held { IsPlace (trees_of here.now.site.now.codes.now.items) here.now.site.now.widget store.old.cells
+        here.now.at
+        × AreFine here.now.site.now.widget store.old.cells args.old.items }
+    ensures comes { let F = trees_of here.now.site.now.codes.now.items in let w = here.now.site.now.widget in
+        IfOk result (λ how. Comes F w store.old store.new 4
+        (expressions.arguments_then (values.Variable name.now) (all_seen w store.old.cells args.old.items) []
+        (place_of w store.old.cells here.now.at))
+        run.old run.new how out.new) }
+    ensures kept { Kept (trees_of here.now.site.now.codes.now.items) here.now.site.now.widget store.old store.new }
+{
+    share_to(variable_at(store, here.at.scope, name), func)?;
+    let mut this = None;
+    value_on(
+        here.site,
+        run,
+        store,
+        func,
+        &mut this,
+        args,
+        here.at.depth,
+        deep,
+        out,
+    )
+}
+
+// What a reference has is called: its arguments are there.
+#[inline(always)]
+#[cycle(direct)]
+fn referred_on(
+    here: &Here,
+    run: &mut Run,
+    store: &mut Store,
+    of: &mut Reference,
+    args: &mut Args,
+    deep: u32,
+    out: &mut Value,
+) -> Result<Ended, Memory>
+    requires ready { IsReady (trees_of here.now.site.now.codes.now.items) here.now.site.now.widget store.old run.old }
+    requires held { IsPlace (trees_of here.now.site.now.codes.now.items) here.now.site.now.widget store.old.cells
+        here.now.at
+        × FineReference here.now.site.now.widget store.old.cells of.old
+        × AreFine here.now.site.now.widget store.old.cells args.old.items }
+    ensures comes { let F = trees_of here.now.site.now.codes.now.items in let w = here.now.site.now.widget in
+        IfOk result (λ how. Comes F w store.old store.new 4
+        (expressions.arguments_then (reference_of w store.old.cells of.old)
+        (all_seen w store.old.cells args.old.items) [] (place_of w store.old.cells here.now.at))
+        run.old run.new how out.new) }
+    ensures kept { Kept (trees_of here.now.site.now.codes.now.items) here.now.site.now.widget store.old store.new }
+{
+    let func = referred(here, store, of)?;
+    let mut this = take_base(of);
+    value_far(
+        here.site,
+        run,
+        store,
+        &func,
+        &mut this,
+        args,
+        here.at.depth,
+        deep,
+        out,
+    )
 }
 
 // What a call of a reference is a method of.
 #[inline(always)]
-fn base_of(of: Reference) -> Option<Value>
-    ensures base { (w : ℕ) (s : Cells) → option_map (seen w s.cells) result ≡ expressions.base_of (reference_of w s.cells of) }
-    ensures fine { (w : ℕ) (s : Cells) → FineReference w s.cells of → IfSome result (IsFine w s.cells) }
+fn take_base(of: &mut Reference) -> Option<Value>
+    ensures base { (w : ℕ) (s : Cells) → option_map (seen w s.cells) result ≡ expressions.base_of
+        (reference_of w s.cells of.old) }
+    ensures fine { (w : ℕ) (s : Cells) → FineReference w s.cells of.old → IfSome result (IsFine w s.cells) }
 {
-    match of {
+    match mem::replace(of, Reference::Found(Value::Undefined)) {
         Reference::Property(base, _) => Some(base),
         _ => None,
     }
 }
 
 /// A call that has its function and its arguments, after its unit.
-#[inline(always)]
-#[cycle(direct)]
 pub(crate) fn invoke_on(
     site: &Site,
     run: &mut Run,
@@ -222,28 +538,106 @@ pub(crate) fn invoke_on(
         run.old run.new how out.new) }
     ensures kept { Kept (trees_of site.now.codes.now.items) site.now.widget store.old store.new }
 {
-    match callee(store, &call.func) {
-        Callee::Function(parts) => enter_on(site, run, store, &call, parts, deep, out),
-        Callee::Native(which) => native_on(site.alloc, run, call, which),
+    let mut call = call;
+    value_far(
+        site,
+        run,
+        store,
+        &call.func,
+        &mut call.this,
+        &mut call.args,
+        call.depth,
+        deep,
+        out,
+    )
+}
+
+// The same as `value_on`, apart.
+#[inline(never)]
+#[cycle(direct)]
+fn value_far(
+    site: &Site,
+    run: &mut Run,
+    store: &mut Store,
+    func: &Value,
+    this: &mut Option<Value>,
+    args: &mut Args,
+    depth: u32,
+    deep: u32,
+    out: &mut Value,
+) -> Result<Ended, Memory>
+    requires ready { IsReady (trees_of site.now.codes.now.items) site.now.widget store.old run.old }
+    requires held { IsFine site.now.widget store.old.cells func.now
+        × IfSome this.old (IsFine site.now.widget store.old.cells)
+        × AreFine site.now.widget store.old.cells args.old.items }
+    ensures comes { let F = trees_of site.now.codes.now.items in let w = site.now.widget in
+        IfOk result (λ how. Comes F w store.old store.new 4
+        (calls.invoke (seen w store.old.cells func.now) (option_map (seen w store.old.cells) this.old)
+        (all_seen w store.old.cells args.old.items) depth)
+        run.old run.new how out.new) }
+    ensures kept { Kept (trees_of site.now.codes.now.items) site.now.widget store.old store.new }
+{
+    value_on(site, run, store, func, this, args, depth, deep, out)
+}
+
+// A value is called, which may be a method of another one, with its arguments. A native takes these along.
+#[inline(always)]
+#[cycle(direct)]
+fn value_on(
+    site: &Site,
+    run: &mut Run,
+    store: &mut Store,
+    func: &Value,
+    this: &mut Option<Value>,
+    args: &mut Args,
+    depth: u32,
+    deep: u32,
+    out: &mut Value,
+) -> Result<Ended, Memory>
+    requires ready { IsReady (trees_of site.now.codes.now.items) site.now.widget store.old run.old }
+    requires held { IsFine site.now.widget store.old.cells func.now
+        × IfSome this.old (IsFine site.now.widget store.old.cells)
+        × AreFine site.now.widget store.old.cells args.old.items }
+    ensures comes { let F = trees_of site.now.codes.now.items in let w = site.now.widget in
+        IfOk result (λ how. Comes F w store.old store.new 4
+        (calls.invoke (seen w store.old.cells func.now) (option_map (seen w store.old.cells) this.old)
+        (all_seen w store.old.cells args.old.items) depth)
+        run.old run.new how out.new) }
+    ensures kept { Kept (trees_of site.now.codes.now.items) site.now.widget store.old store.new }
+{
+    match callee(store, func) {
+        Callee::Function(parts) => {
+            let call = Called {
+                func: &*func,
+                args: args.as_slice(),
+                depth,
+            };
+            enter_on(site, run, store, &call, parts, deep, out)
+        }
+        Callee::Native(which) => native_on(site.alloc, run, this, args, depth, which),
         Callee::Nothing => throw(site, run, store, Fault::E2, out),
     }
 }
 
 // A native takes a unit of its own.
 #[inline(never)]
-fn native_on(alloc: Global, run: &mut Run, call: Call, which: NativeId) -> Result<Ended, Memory>
+fn native_on(
+    alloc: Global,
+    run: &mut Run,
+    this: &mut Option<Value>,
+    args: &mut Args,
+    depth: u32,
+    which: NativeId,
+) -> Result<Ended, Memory>
     requires waits { run.old.waits.items ≡ [] }
     ensures comes { IfOk result (λ how. (fs : List Forest) (w : ℕ) (s : Cells) (v : Value)
-        → FineCall w s.cells call → Comes fs w s s 0
-        (λ t. Do (meaning.RunNative which (option_map (seen w s.cells) call.this) (all_seen w s.cells call.args.items) call.depth) t Ret)
+        → IfSome this.old (IsFine w s.cells) → AreFine w s.cells args.old.items → Comes fs w s s 0
+        (λ t. Do (meaning.RunNative which (option_map (seen w s.cells) this.old)
+        (all_seen w s.cells args.old.items) depth) t Ret)
         run.old run.new how v) }
 {
-    let Call {
-        this,
-        args,
-        depth,
-        ..
-    } = call;
+    let this = mem::replace(this, None);
+    let args = mem::replace(args, Args::new(alloc));
     let native = NativeCall {
         which,
         this,
@@ -254,30 +648,41 @@ fn native_on(alloc: Global, run: &mut Run, call: Call, which: NativeId) -> Resul
 }
 
 // A function of the widget, which runs one deeper.
-#[inline(never)]
+#[inline(always)]
 #[cycle(direct)]
 fn enter_on(
     site: &Site,
     run: &mut Run,
     store: &mut Store,
-    call: &Call,
+    call: &Called,
     parts: FunParts,
     deep: u32,
     out: &mut Value,
 ) -> Result<Ended, Memory>
     requires ready { IsReady (trees_of site.now.codes.now.items) site.now.widget store.old run.old }
-    requires fun { IsFunOf (trees_of site.now.codes.now.items) parts × IsPlaceScope site.now.widget store.old.cells parts.scope }
-    requires held { FineCall site.now.widget store.old.cells call.now }
+    requires fun { IsFunOf (trees_of site.now.codes.now.items) parts
+        × IsPlaceScope site.now.widget store.old.cells parts.scope }
+    requires held { IsFine site.now.widget store.old.cells call.now.func.now
+        × AreFine site.now.widget store.old.cells call.now.args.now }
     ensures comes { let F = trees_of site.now.codes.now.items in let w = site.now.widget in
         IfOk result (λ how. Comes F w store.old store.new 4
-        (calls.enter (state.Function (function_in F parts.code parts.fun parts.declared) (option_map (scope_number w store.old.cells) parts.scope))
-        (seen w store.old.cells call.now.func) (all_seen w store.old.cells call.now.args.items) (suc call.now.depth))
+        (calls.enter (state.Function (function_in F parts.code parts.fun parts.declared)
+        (option_map (scope_number w store.old.cells) parts.scope))
+        (seen w store.old.cells call.now.func.now) (all_seen w store.old.cells call.now.args.now)
+        (suc call.now.depth))
         run.old run.new how out.new) }
     ensures kept { Kept (trees_of site.now.codes.now.items) site.now.widget store.old store.new }
 {
     match entered(site.alloc, site.widget, site.codes, store, call, parts)? {
         Entry::Stop(cause) => stop(run, cause),
-        Entry::Body(place) => body_on(site, run, store, parts.fun, &place, deep, out),
+        Entry::Body(place) => {
+            let here = Here {
+                site: &*site,
+                tree: tree_at(site.codes, place.code),
+                at: place,
+            };
+            body_on(&here, run, store, parts.fun, deep, out)
+        }
     }
 }
 
@@ -285,23 +690,24 @@ fn enter_on(
 #[inline(always)]
 #[cycle(direct)]
 fn body_on(
-    site: &Site,
+    here: &Here,
     run: &mut Run,
     store: &mut Store,
     fun: FunId,
-    place: &Place,
     deep: u32,
     out: &mut Value,
 ) -> Result<Ended, Memory>
-    requires ready { IsReady (trees_of site.now.codes.now.items) site.now.widget store.old run.old }
-    requires held { IsBlockAt (trees_of site.now.codes.now.items) site.now.widget store.old.cells (Block.Body fun) place.now }
-    ensures comes { let F = trees_of site.now.codes.now.items in let w = site.now.widget in
+    requires ready { IsReady (trees_of here.now.site.now.codes.now.items) here.now.site.now.widget store.old run.old }
+    requires held { IsBlockAt (trees_of here.now.site.now.codes.now.items) here.now.site.now.widget store.old.cells
+        (Block.Body fun) here.now.at }
+    requires tree { trees here.now.tree.now ≡ forest_at (trees_of here.now.site.now.codes.now.items) here.now.at.code }
+    ensures comes { let F = trees_of here.now.site.now.codes.now.items in let w = here.now.site.now.widget in
         IfOk result (λ how. Comes F w store.old store.new 4
-        (calls.call_body (body_of (fun_at (forest_at F place.now.code) fun)) (place_of w store.old.cells place.now))
+        (calls.call_body (body_of (fun_at (forest_at F here.now.at.code) fun)) (place_of w store.old.cells here.now.at))
         run.old run.new how out.new) }
-    ensures kept { Kept (trees_of site.now.codes.now.items) site.now.widget store.old store.new }
+    ensures kept { Kept (trees_of here.now.site.now.codes.now.items) here.now.site.now.widget store.old store.new }
 {
-    match block_on(site, run, store, Block::Body(fun), place, deep, out)? {
+    match block_on(here, run, store, Block::Body(fun), deep, out)? {
         Ended::Left => wait_end(run),
         how => Ok(call_end(how, out)),
     }
@@ -312,7 +718,8 @@ fn body_on(
 #[inline(never)]
 fn wait_end(run: &mut Run) -> Result<Ended, Memory>
     ensures left { IfOk result (λ how. how ≡ Ended.Left) }
-    ensures waits { IfOk result (λ how. run.new.waits.items ≡ run.old.waits.items ++ Frame.Call CallFrame.CallEnd ∷ []) }
+    ensures waits { IfOk result (λ how. run.new.waits.items
+        ≡ run.old.waits.items ++ Frame.Call CallFrame.CallEnd ∷ []) }
     ensures next { IfOk result (λ how. run.new.next ≡ run.old.next) }
     ensures units { IfOk result (λ how. run.new.units ≡ run.old.units) }
 {
@@ -324,8 +731,10 @@ fn wait_end(run: &mut Run) -> Result<Ended, Memory>
 fn call_end(how: Ended, out: &mut Value) -> Ended
     requires { IsEnd how }
     ensures ended { IsEnd result }
-    ensures end { (w : ℕ) (s : Cells) (t : State) → calls.call_end (completion_of w s.cells (ended_as how out.old)) t ≡ Ret (completion_of w s.cells (ended_as result out.new)) t }
-    ensures fine { (w : ℕ) (s : Cells) → FineCompletion w s.cells (ended_as how out.old) → FineCompletion w s.cells (ended_as result out.new) }
+    ensures end { (w : ℕ) (s : Cells) (t : State) → calls.call_end (completion_of w s.cells (ended_as how out.old)) t
+        ≡ Ret (completion_of w s.cells (ended_as result out.new)) t }
+    ensures fine { (w : ℕ) (s : Cells) → FineCompletion w s.cells (ended_as how out.old) → FineCompletion w s.cells
+        (ended_as result out.new) }
 {
     match how {
         Ended::Threw => Ended::Threw,

@@ -1,5 +1,5 @@
 //! What is next on a flow, carried out in place.
-ghost use Rattle.std.specs.Prelude.{◌≡◌, ℕ, ◌+◌, ◌*◌, ◌-◌, ◌<◌, ◌≤◌, [], ◌∷◌, ◌++◌, IfOk, List, OnOk, true};
+ghost use Rattle.std.specs.Prelude.{◌≡◌, ℕ, ◌+◌, ◌*◌, ◌-◌, ◌<◌, ◌≤◌, IfOk, List, OnOk, true};
 ghost use Rattle.js_tree.specs.Forest.{Forest};
 ghost use Rattle.store_cells.specs.Cells.{Cells, PlainCell};
 ghost use Rattle.widget_meaning.specs.OwnState.{State};
@@ -8,7 +8,7 @@ ghost use Rattle.widget_meaning.specs.Plan.{Do, Plan, Ret, and_then};
 ghost use Rattle.js_image.specs.Image.{Rest, image};
 ghost use Rattle.js_image.specs.Held.{IsConfined, Kept};
 ghost use Rattle.js_names.specs.Code.{trees_of};
-ghost use Rattle.js_flow.specs.Fine.{FineCall, FineCompletion, FineFlow, FineFrames, FineJob, FineNext, IsBlockAt, IsExprAt, IsStmtAt};
+ghost use Rattle.js_flow.specs.Fine.{FineCall, FineFlow, FineFrames, FineJob, FineNext, IsBlockAt, IsExprAt, IsStmtAt};
 ghost use Rattle.js_flow.specs.Frames.{flow_plan, next_plan, rest};
 ghost use Rattle.js_flow.specs.Free.{flow_free, frames_free, next_free};
 ghost use Rattle.js_flow.specs.Left.{all_frames};
@@ -18,14 +18,16 @@ ghost use Rattle.js_direct.specs.Comes.{Comes, ComesTo, FineCame, FineWith, IsNa
 ghost use Rattle.js_direct.specs.Going.{end_of, how_of, is_direct, is_direct_job};
 ghost use Rattle.js_direct.specs.Reduces.{Reduces};
 
+use crate::blocks::block_on;
 use crate::calls::invoke_on;
 use crate::forms::eval_on;
-use crate::run::{DEEP, Ended, Run, Site, completion, last};
-use crate::statements::{block_on, exec_on, passes_on};
+use crate::looping::passes_on;
+use crate::run::{DEEP, Ended, Here, Run, Site, completion, last};
+use crate::statements::exec_on;
 use crate::targets::target_on;
 use code_units::Memory;
 use js_flow::{Block, Call, Completion, Flow, Frame, Job, Next, Place, Reference};
-use js_names::Code;
+use js_names::{Code, tree_at};
 use js_tree::{ExprId, StmtId};
 use object_store::{Store, Value};
 use std::alloc::Global;
@@ -89,12 +91,18 @@ fn run_form(
     requires ready { IsReady (trees_of site.now.codes.now.items) site.now.widget store.old run.old }
     requires held { IsExprAt (trees_of site.now.codes.now.items) site.now.widget store.old.cells id place }
     ensures comes { let F = trees_of site.now.codes.now.items in let w = site.now.widget in
-        IfOk result (λ o. ComesTo F w store.old store.new 0 (λ s. Do (job_of F w store.old.cells (Job.Eval id place)) s Ret) run.old run.new (how_of o) (end_of o)) }
+        IfOk result (λ o. ComesTo F w store.old store.new 0
+        (λ s. Do (job_of F w store.old.cells (Job.Eval id place)) s Ret) run.old run.new (how_of o) (end_of o)) }
     ensures paid { IfOk result (λ o. 0 < run.old.units → run.new.units < run.old.units) }
     ensures kept { Kept (trees_of site.now.codes.now.items) site.now.widget store.old store.new }
 {
     let mut out = Value::Undefined;
-    let how = eval_on(site, run, store, id, &place, DEEP, &mut out)?;
+    let here = Here {
+        site,
+        tree: tree_at(site.codes, place.code),
+        at: place,
+    };
+    let how = eval_on(&here, run, store, id, DEEP, &mut out)?;
     Ok(came(how, out))
 }
 
@@ -109,13 +117,19 @@ fn run_target(
     requires ready { IsReady (trees_of site.now.codes.now.items) site.now.widget store.old run.old }
     requires held { IsExprAt (trees_of site.now.codes.now.items) site.now.widget store.old.cells id place }
     ensures comes { let F = trees_of site.now.codes.now.items in let w = site.now.widget in
-        IfOk result (λ o. ComesTo F w store.old store.new 0 (λ s. Do (job_of F w store.old.cells (Job.Target id place)) s Ret) run.old run.new (how_of o) (end_of o)) }
+        IfOk result (λ o. ComesTo F w store.old store.new 0
+        (λ s. Do (job_of F w store.old.cells (Job.Target id place)) s Ret) run.old run.new (how_of o) (end_of o)) }
     ensures paid { IfOk result (λ o. 0 < run.old.units → run.new.units < run.old.units) }
     ensures kept { Kept (trees_of site.now.codes.now.items) site.now.widget store.old store.new }
 {
     let mut out = Value::Undefined;
     let mut of = Reference::Found(Value::Undefined);
-    let how = target_on(site, run, store, id, &place, DEEP, &mut of, &mut out)?;
+    let here = Here {
+        site,
+        tree: tree_at(site.codes, place.code),
+        at: place,
+    };
+    let how = target_on(&here, run, store, id, DEEP, &mut of, &mut out)?;
     Ok(reached(how, of, out))
 }
 
@@ -130,12 +144,18 @@ fn run_statement(
     requires ready { IsReady (trees_of site.now.codes.now.items) site.now.widget store.old run.old }
     requires held { IsStmtAt (trees_of site.now.codes.now.items) site.now.widget store.old.cells id place }
     ensures comes { let F = trees_of site.now.codes.now.items in let w = site.now.widget in
-        IfOk result (λ o. ComesTo F w store.old store.new 0 (λ s. Do (job_of F w store.old.cells (Job.Exec id place)) s Ret) run.old run.new (how_of o) (end_of o)) }
+        IfOk result (λ o. ComesTo F w store.old store.new 0
+        (λ s. Do (job_of F w store.old.cells (Job.Exec id place)) s Ret) run.old run.new (how_of o) (end_of o)) }
     ensures paid { IfOk result (λ o. 0 < run.old.units → run.new.units < run.old.units) }
     ensures kept { Kept (trees_of site.now.codes.now.items) site.now.widget store.old store.new }
 {
     let mut out = Value::Undefined;
-    let how = exec_on(site, run, store, id, &place, DEEP, &mut out)?;
+    let here = Here {
+        site,
+        tree: tree_at(site.codes, place.code),
+        at: place,
+    };
+    let how = exec_on(&here, run, store, id, DEEP, &mut out)?;
     Ok(came(how, out))
 }
 
@@ -150,12 +170,18 @@ fn run_passes(
     requires ready { IsReady (trees_of site.now.codes.now.items) site.now.widget store.old run.old }
     requires held { IsStmtAt (trees_of site.now.codes.now.items) site.now.widget store.old.cells id place }
     ensures comes { let F = trees_of site.now.codes.now.items in let w = site.now.widget in
-        IfOk result (λ o. ComesTo F w store.old store.new 0 (λ s. Do (job_of F w store.old.cells (Job.Pass id place)) s Ret) run.old run.new (how_of o) (end_of o)) }
+        IfOk result (λ o. ComesTo F w store.old store.new 0
+        (λ s. Do (job_of F w store.old.cells (Job.Pass id place)) s Ret) run.old run.new (how_of o) (end_of o)) }
     ensures paid { IfOk result (λ o. 0 < run.old.units → run.new.units < run.old.units) }
     ensures kept { Kept (trees_of site.now.codes.now.items) site.now.widget store.old store.new }
 {
     let mut out = Value::Undefined;
-    let how = passes_on(site, run, store, id, &place, DEEP, &mut out)?;
+    let here = Here {
+        site,
+        tree: tree_at(site.codes, place.code),
+        at: place,
+    };
+    let how = passes_on(&here, run, store, id, DEEP, &mut out)?;
     Ok(came(how, out))
 }
 
@@ -170,7 +196,8 @@ fn run_call(
     requires held { FineCall site.now.widget store.old.cells call.value }
     requires units { 0 < run.old.units }
     ensures comes { let F = trees_of site.now.codes.now.items in let w = site.now.widget in
-        IfOk result (λ o. ComesTo F w store.old store.new 0 (λ s. Do (job_of F w store.old.cells (Job.Call call)) s Ret) run.old run.new (how_of o) (end_of o)) }
+        IfOk result (λ o. ComesTo F w store.old store.new 0
+        (λ s. Do (job_of F w store.old.cells (Job.Call call)) s Ret) run.old run.new (how_of o) (end_of o)) }
     ensures paid { IfOk result (λ o. 0 < run.old.units → run.new.units < run.old.units) }
     ensures kept { Kept (trees_of site.now.codes.now.items) site.now.widget store.old store.new }
 {
@@ -191,11 +218,17 @@ fn run_block(
     requires ready { IsReady (trees_of site.now.codes.now.items) site.now.widget store.old run.old }
     requires held { IsBlockAt (trees_of site.now.codes.now.items) site.now.widget store.old.cells block place }
     ensures comes { let F = trees_of site.now.codes.now.items in let w = site.now.widget in
-        IfOk result (λ o. ComesTo F w store.old store.new 1 (block_at F w store.old.cells block 0 place) run.old run.new (how_of o) (end_of o)) }
+        IfOk result (λ o. ComesTo F w store.old store.new 1
+        (block_at F w store.old.cells block 0 place) run.old run.new (how_of o) (end_of o)) }
     ensures kept { Kept (trees_of site.now.codes.now.items) site.now.widget store.old store.new }
 {
     let mut out = Value::Undefined;
-    let how = block_on(site, run, store, block, &place, DEEP, &mut out)?;
+    let here = Here {
+        site,
+        tree: tree_at(site.codes, place.code),
+        at: place,
+    };
+    let how = block_on(&here, run, store, block, DEEP, &mut out)?;
     Ok(came(how, out))
 }
 
@@ -211,7 +244,8 @@ fn run_job(
     requires units { 0 < run.old.units }
     requires direct { is_direct_job job ≡ true }
     ensures comes { let F = trees_of site.now.codes.now.items in let w = site.now.widget in
-        IfOk result (λ o. ComesTo F w store.old store.new 0 (λ s. Do (job_of F w store.old.cells (job)) s Ret) run.old run.new (how_of o) (end_of o)) }
+        IfOk result (λ o. ComesTo F w store.old store.new 0
+        (λ s. Do (job_of F w store.old.cells (job)) s Ret) run.old run.new (how_of o) (end_of o)) }
     ensures paid { IfOk result (λ o. 0 < run.old.units → run.new.units < run.old.units) }
     ensures kept { Kept (trees_of site.now.codes.now.items) site.now.widget store.old store.new }
 {
@@ -237,8 +271,10 @@ fn run_next(
     requires units { 0 < run.old.units }
     requires direct { is_direct next ≡ true }
     ensures comes { let F = trees_of site.now.codes.now.items in let w = site.now.widget in
-        IfOk result (λ o. ComesTo F w store.old store.new 1 (next_plan F w store.old.cells next) run.old run.new (how_of o) (end_of o)) }
-    ensures near { IfOk result (λ o. came_free (trees_of site.now.codes.now.items) site.now.widget (how_of o) run.new + 32 * run.new.units
+        IfOk result (λ o. ComesTo F w store.old store.new 1 (next_plan F w store.old.cells next) run.old run.new
+        (how_of o) (end_of o)) }
+    ensures near { IfOk result (λ o. came_free (trees_of site.now.codes.now.items) site.now.widget
+        (how_of o) run.new + 32 * run.new.units
         < 32 * run.old.units + next_free next) }
     ensures kept { Kept (trees_of site.now.codes.now.items) site.now.widget store.old store.new }
 {
@@ -252,10 +288,12 @@ fn run_next(
 // Frames that wait go onto the flow, the innermost last.
 fn put_frames(flow: &mut Flow, waits: Vec<Frame>) -> Result<(), Memory>
     ensures plan { OnOk result ((fs : List Forest) (w : ℕ) (cells : List PlainCell) (o : meaning.Completion) (s : State)
-        → rest fs w cells (all_frames flow.new) o s ≡ and_then (outward fs w cells waits.items o s) (rest fs w cells (all_frames flow.old))) }
+        → rest fs w cells (all_frames flow.new) o s ≡ and_then (outward fs w cells waits.items o s)
+        (rest fs w cells (all_frames flow.old))) }
     ensures fine { OnOk result ((fs : List Forest) (w : ℕ) (cells : List PlainCell) → FineFrames fs w cells waits.items
         → FineFrames fs w cells (all_frames flow.old) → FineFrames fs w cells (all_frames flow.new)) }
-    ensures free { OnOk result (frames_free (all_frames flow.new) ≡ frames_free (all_frames flow.old) + frames_free waits.items) }
+    ensures free { OnOk result (frames_free (all_frames flow.new) ≡ frames_free
+        (all_frames flow.old) + frames_free waits.items) }
 {
     let mut waits = waits;
     'frames: while let Some(frame) = last(&mut waits) {
@@ -267,11 +305,14 @@ fn put_frames(flow: &mut Flow, waits: Vec<Frame>) -> Result<(), Memory>
 // The same, and this is next.
 fn put_waits(flow: &mut Flow, waits: Vec<Frame>, next: Next) -> Result<(), Memory>
     ensures plan { OnOk result ((fs : List Forest) (w : ℕ) (cells : List PlainCell) (s : State)
-        → flow_plan fs w cells flow.new s ≡ and_then (and_then (next_plan fs w cells next s) (outward fs w cells waits.items))
+        → flow_plan fs w cells flow.new s ≡ and_then (and_then (next_plan fs w cells next s)
+        (outward fs w cells waits.items))
         (rest fs w cells (all_frames flow.old))) }
     ensures fine { OnOk result ((fs : List Forest) (w : ℕ) (cells : List PlainCell) → FineWith fs w cells next
-        → FineFrames fs w cells waits.items → FineFrames fs w cells (all_frames flow.old) → FineFlow fs w cells flow.new) }
-    ensures free { OnOk result (flow_free flow.new ≡ frames_free (all_frames flow.old) + frames_free waits.items + next_free next) }
+        → FineFrames fs w cells waits.items → FineFrames fs w cells (all_frames flow.old)
+        → FineFlow fs w cells flow.new) }
+    ensures free { OnOk result (flow_free flow.new ≡ frames_free
+        (all_frames flow.old) + frames_free waits.items + next_free next) }
     ensures next { OnOk result (flow.new.next ≡ next) }
 {
     put_frames(flow, waits)?;
@@ -283,10 +324,13 @@ fn put_run(flow: &mut Flow, run: Run, how: Option<Completion>) -> Result<(), Mem
     ensures plan { OnOk result ((fs : List Forest) (w : ℕ) (cells : List PlainCell) (s : State)
         → flow_plan fs w cells flow.new s ≡ and_then (came fs w cells (how_of how) (end_of how) run s)
         (rest fs w cells (all_frames flow.old))) }
-    ensures fine { OnOk result ((fs : List Forest) (w : ℕ) (cells : List PlainCell) → FineCame fs w cells (how_of how) (end_of how) run
+    ensures fine { OnOk result ((fs : List Forest) (w : ℕ) (cells : List PlainCell) → FineCame fs w cells (how_of how)
+        (end_of how) run
         → FineFrames fs w cells (all_frames flow.old) → FineFlow fs w cells flow.new) }
-    ensures free { OnOk result ((fs : List Forest) (w : ℕ) → flow_free flow.new ≡ frames_free (all_frames flow.old) + came_free fs w (how_of how) run) }
-    ensures native { OnOk result ((fs : List Forest) (w : ℕ) (cells : List PlainCell) → FineCame fs w cells (how_of how) (end_of how) run → IsNative flow.new.next → ⊥) }
+    ensures free { OnOk result ((fs : List Forest) (w : ℕ) → flow_free flow.new ≡ frames_free
+        (all_frames flow.old) + came_free fs w (how_of how) run) }
+    ensures native { OnOk result ((fs : List Forest) (w : ℕ) (cells : List PlainCell) → FineCame fs w cells
+        (how_of how) (end_of how) run → IsNative flow.new.next → ⊥) }
 {
     match how {
         Some(how) => Ok(flow.give(how)),

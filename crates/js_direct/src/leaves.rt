@@ -12,42 +12,41 @@ ghost use Rattle.js_flow.specs.Views.{place_of};
 ghost use Rattle.js_direct.specs.Comes.{Comes};
 ghost use Rattle.js_direct.specs.declared.run.Run.{Run};
 
-use crate::run::{Ended, Site};
+use crate::run::{Ended, Here, share_to};
 use code_units::{Memory, Text, WholeRead, read_whole};
-use js_flow::Place;
-use js_image::variable;
+use js_image::variable_at;
 use js_tree::Word;
 use object_store::{Number, Store, Value};
 
-/// The value of a name.
+/// The value of a name; the place owns nothing.
+#[inline(always)]
 pub(crate) fn name_on(
-    site: &Site,
+    here: &Here,
     store: &Store,
     name: &Text,
-    place: &Place,
     out: &mut Value,
 ) -> Result<Ended, Memory>
-    requires confined { IsConfined (trees_of site.now.codes.now.items) site.now.widget store.now }
-    requires place { IsPlace (trees_of site.now.codes.now.items) site.now.widget store.now.cells place.now }
-    ensures comes { let F = trees_of site.now.codes.now.items in let w = site.now.widget in
+    requires confined { IsConfined (trees_of here.now.site.now.codes.now.items) here.now.site.now.widget store.now }
+    requires place { IsPlace (trees_of here.now.site.now.codes.now.items) here.now.site.now.widget store.now.cells
+        here.now.at }
+    ensures comes { let F = trees_of here.now.site.now.codes.now.items in let w = here.now.site.now.widget in
         IfOk result (λ how. (run : Run) → run.waits.items ≡ [] → Comes F w store.now store.now 30
-        (expressions.expression (node.Name name.now) (place_of w store.now.cells place.now)) run run how out.new) }
+        (expressions.expression (node.Name name.now) (place_of w store.now.cells here.now.at)) run run how out.new) }
 {
-    *out = variable(store, place.scope, name)?;
+    share_to(variable_at(store, here.at.scope, name), out)?;
     Ok(Ended::Is)
 }
 
 /// The value of a number.
 pub(crate) fn number_on(
-    site: &Site,
+    here: &Here,
     store: &Store,
     text: &Text,
-    place: &Place,
     out: &mut Value,
 ) -> Result<Ended, Memory>
-    ensures comes { let F = trees_of site.now.codes.now.items in let w = site.now.widget in
+    ensures comes { let F = trees_of here.now.site.now.codes.now.items in let w = here.now.site.now.widget in
         IfOk result (λ how. (run : Run) → run.waits.items ≡ [] → Comes F w store.now store.now 30
-        (expressions.expression (node.Num text.now) (place_of w store.now.cells place.now)) run run how out.new) }
+        (expressions.expression (node.Num text.now) (place_of w store.now.cells here.now.at)) run run how out.new) }
 {
     *out = number(text);
     Ok(Ended::Is)
@@ -55,15 +54,14 @@ pub(crate) fn number_on(
 
 /// The value of a text.
 pub(crate) fn text_on(
-    site: &Site,
+    here: &Here,
     store: &Store,
     text: &Text,
-    place: &Place,
     out: &mut Value,
 ) -> Result<Ended, Memory>
-    ensures comes { let F = trees_of site.now.codes.now.items in let w = site.now.widget in
+    ensures comes { let F = trees_of here.now.site.now.codes.now.items in let w = here.now.site.now.widget in
         IfOk result (λ how. (run : Run) → run.waits.items ≡ [] → Comes F w store.now store.now 30
-        (expressions.expression (node.Str text.now) (place_of w store.now.cells place.now)) run run how out.new) }
+        (expressions.expression (node.Str text.now) (place_of w store.now.cells here.now.at)) run run how out.new) }
 {
     *out = Value::Text(text.share()?);
     Ok(Ended::Is)
@@ -71,15 +69,14 @@ pub(crate) fn text_on(
 
 /// The value of a word.
 pub(crate) fn word_on(
-    site: &Site,
+    here: &Here,
     store: &Store,
     word: Word,
-    place: &Place,
     out: &mut Value,
 ) -> Result<Ended, Memory>
-    ensures comes { let F = trees_of site.now.codes.now.items in let w = site.now.widget in
+    ensures comes { let F = trees_of here.now.site.now.codes.now.items in let w = here.now.site.now.widget in
         IfOk result (λ how. (run : Run) → run.waits.items ≡ [] → Comes F w store.now store.now 30
-        (expressions.expression (node.Constant word) (place_of w store.now.cells place.now)) run run how out.new) }
+        (expressions.expression (node.Constant word) (place_of w store.now.cells here.now.at)) run run how out.new) }
 {
     *out = word_value(word);
     Ok(Ended::Is)

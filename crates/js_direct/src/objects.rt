@@ -1,5 +1,6 @@
 //! Object literals, which are born before their properties.
 ghost use Rattle.std.specs.Prelude.{◌≡◌, ◌+◌, ◌<◌, [], ◌∷◌, drop, IfOk};
+ghost use Rattle.js_tree.specs.Trees.{trees};
 ghost use Rattle.js_tree.specs.Forest.{expr_at};
 ghost use Rattle.widget_meaning.specs.OwnState.{State, plain_object};
 ghost use Rattle.widget_meaning.specs.Plan.{Plan};
@@ -17,38 +18,43 @@ ghost use Rattle.js_direct.specs.Comes.{Comes, IsReady};
 ghost use Rattle.js_direct.specs.Goes.{GoesOn};
 
 use crate::forms::eval_on;
-use crate::run::{Ended, Run, Site, stop, take_value, throw, wait};
+use crate::run::{Ended, Here, Run, Site, stop, take_value, throw, wait};
 use code_units::{Memory, Text};
-use js_flow::{FormFrame, Frame, Place, property_at};
+use js_flow::{FormFrame, Frame, property_at};
 use js_image::{Made, Written, make, put};
-use js_names::tree_at;
 use js_tree::ExprId;
 use object_store::{CellId, HostEntry, NewCell, Store, Value};
 
 /// An object literal.
 #[cycle(direct)]
 pub(crate) fn object_on(
-    site: &Site,
+    here: &Here,
     run: &mut Run,
     store: &mut Store,
     id: ExprId,
-    place: &Place,
     deep: u32,
     out: &mut Value,
 ) -> Result<Ended, Memory>
-    requires ready { IsReady (trees_of site.now.codes.now.items) site.now.widget store.old run.old }
-    requires held { IsExprAt (trees_of site.now.codes.now.items) site.now.widget store.old.cells id place.now }
-    ensures comes { let F = trees_of site.now.codes.now.items in let w = site.now.widget in
+    requires ready { IsReady (trees_of here.now.site.now.codes.now.items) here.now.site.now.widget store.old run.old }
+    requires held { IsExprAt (trees_of here.now.site.now.codes.now.items) here.now.site.now.widget store.old.cells id
+        here.now.at }
+    requires tree { trees here.now.tree.now ≡ forest_at (trees_of here.now.site.now.codes.now.items) here.now.at.code }
+    ensures comes { let F = trees_of here.now.site.now.codes.now.items in let w = here.now.site.now.widget in
         IfOk result (λ how. Comes F w store.old store.new 30
         (λ s. costs.make (plain_object []) 0 s (λ a t. expressions.object_parts a
-        (properties_of (expr_at (forest_at F place.now.code) id)) (place_of w store.old.cells place.now) t))
+        (properties_of (expr_at (forest_at F here.now.at.code) id)) (place_of w store.old.cells here.now.at) t))
         run.old run.new how out.new) }
-    ensures kept { Kept (trees_of site.now.codes.now.items) site.now.widget store.old store.new }
+    ensures kept { Kept (trees_of here.now.site.now.codes.now.items) here.now.site.now.widget store.old store.new }
 {
     lawful(store);
     let proto = store.host(HostEntry::ObjectPrototype);
-    match make(site.alloc, store, site.widget, NewCell::Object(proto))? {
-        Made::Cell(object) => properties_on(site, run, store, object, id, place, deep, out),
+    match make(
+        here.site.alloc,
+        store,
+        here.site.widget,
+        NewCell::Object(proto),
+    )? {
+        Made::Cell(object) => properties_on(here, run, store, object, id, deep, out),
         Made::Stop(cause) => stop(run, cause),
     }
 }
@@ -56,28 +62,29 @@ pub(crate) fn object_on(
 // The properties of an object that is there.
 #[cycle(direct)]
 fn properties_on(
-    site: &Site,
+    here: &Here,
     run: &mut Run,
     store: &mut Store,
     object: CellId,
     id: ExprId,
-    place: &Place,
     deep: u32,
     out: &mut Value,
 ) -> Result<Ended, Memory>
-    requires ready { IsReady (trees_of site.now.codes.now.items) site.now.widget store.old run.old }
-    requires held { IsHeld site.now.widget store.old.cells object
-        × IsExprAt (trees_of site.now.codes.now.items) site.now.widget store.old.cells id place.now }
-    ensures comes { let F = trees_of site.now.codes.now.items in let w = site.now.widget in
+    requires ready { IsReady (trees_of here.now.site.now.codes.now.items) here.now.site.now.widget store.old run.old }
+    requires held { IsHeld here.now.site.now.widget store.old.cells object
+        × IsExprAt (trees_of here.now.site.now.codes.now.items) here.now.site.now.widget store.old.cells id
+        here.now.at }
+    requires tree { trees here.now.tree.now ≡ forest_at (trees_of here.now.site.now.codes.now.items) here.now.at.code }
+    ensures comes { let F = trees_of here.now.site.now.codes.now.items in let w = here.now.site.now.widget in
         IfOk result (λ how. Comes F w store.old store.new 1
         (expressions.object_parts (seen w store.old.cells (Value.Ref object))
-        (properties_of (expr_at (forest_at F place.now.code) id)) (place_of w store.old.cells place.now))
+        (properties_of (expr_at (forest_at F here.now.at.code) id)) (place_of w store.old.cells here.now.at))
         run.old run.new how out.new) }
-    ensures kept { Kept (trees_of site.now.codes.now.items) site.now.widget store.old store.new }
+    ensures kept { Kept (trees_of here.now.site.now.codes.now.items) here.now.site.now.widget store.old store.new }
 {
     let mut n = 0;
-    'properties: while let Some(part) = property_at(tree_at(site.codes, place.code), id, n) {
-        match property_part_on(site, run, store, (object, id, n), part, place, deep, out)? {
+    'properties: while let Some(part) = property_at(here.tree, id, n) {
+        match property_part_on(here, run, store, (object, id, n), part, deep, out)? {
             Ended::Is => n += 1,
             how => return Ok(how),
         }
@@ -89,39 +96,46 @@ fn properties_on(
 // One property: where it is a value, it is put into the object.
 #[cycle(direct)]
 fn property_part_on(
-    site: &Site,
+    here: &Here,
     run: &mut Run,
     store: &mut Store,
     at: (CellId, ExprId, usize),
     part: &(Text, ExprId),
-    place: &Place,
     deep: u32,
     out: &mut Value,
 ) -> Result<Ended, Memory>
-    requires ready { IsReady (trees_of site.now.codes.now.items) site.now.widget store.old run.old }
-    requires held { IsHeld site.now.widget store.old.cells at.0
-        × IsExprAt (trees_of site.now.codes.now.items) site.now.widget store.old.cells at.1 place.now
-        × IsExprAt (trees_of site.now.codes.now.items) site.now.widget store.old.cells part.now.1 place.now }
-    requires there { let f = forest_at (trees_of site.now.codes.now.items) place.now.code in
+    requires ready { IsReady (trees_of here.now.site.now.codes.now.items) here.now.site.now.widget store.old run.old }
+    requires held { IsHeld here.now.site.now.widget store.old.cells at.0
+        × IsExprAt (trees_of here.now.site.now.codes.now.items) here.now.site.now.widget store.old.cells at.1
+        here.now.at
+        × IsExprAt (trees_of here.now.site.now.codes.now.items) here.now.site.now.widget store.old.cells part.now.1
+        here.now.at }
+    requires there { let f = forest_at (trees_of here.now.site.now.codes.now.items) here.now.at.code in
         drop at.2 (properties_of (expr_at f at.1))
         ≡ (part.now.0, expr_at f part.now.1) ∷ drop (at.2 + 1) (properties_of (expr_at f at.1)) }
-    ensures goes { let F = trees_of site.now.codes.now.items in let w = site.now.widget in
-        let list = properties_of (expr_at (forest_at F place.now.code) at.1) in
+    requires tree { trees here.now.tree.now ≡ forest_at (trees_of here.now.site.now.codes.now.items) here.now.at.code }
+    ensures goes { let F = trees_of here.now.site.now.codes.now.items in let w = here.now.site.now.widget in
+        let list = properties_of (expr_at (forest_at F here.now.at.code) at.1) in
         IfOk result (λ how. how ≡ Ended.Is → GoesOn F w store.old store.new
-        (expressions.object_parts (seen w store.old.cells (Value.Ref at.0)) (drop at.2 list) (place_of w store.old.cells place.now))
+        (expressions.object_parts (seen w store.old.cells (Value.Ref at.0)) (drop at.2 list)
+        (place_of w store.old.cells here.now.at))
         (expressions.object_parts (seen w store.new.cells (Value.Ref at.0)) (drop (at.2 + 1) list)
-        (place_of w store.new.cells place.now)) run.old run.new) }
-    ensures comes { let F = trees_of site.now.codes.now.items in let w = site.now.widget in
-        let list = properties_of (expr_at (forest_at F place.now.code) at.1) in
+        (place_of w store.new.cells here.now.at)) run.old run.new) }
+    ensures comes { let F = trees_of here.now.site.now.codes.now.items in let w = here.now.site.now.widget in
+        let list = properties_of (expr_at (forest_at F here.now.at.code) at.1) in
         IfOk result (λ how. (how ≡ Ended.Is → ⊥) → Comes F w store.old store.new 1
-        (expressions.object_parts (seen w store.old.cells (Value.Ref at.0)) (drop at.2 list) (place_of w store.old.cells place.now))
+        (expressions.object_parts (seen w store.old.cells (Value.Ref at.0)) (drop at.2 list)
+        (place_of w store.old.cells here.now.at))
         run.old run.new how out.new) }
-    ensures kept { Kept (trees_of site.now.codes.now.items) site.now.widget store.old store.new }
+    ensures kept { Kept (trees_of here.now.site.now.codes.now.items) here.now.site.now.widget store.old store.new }
 {
     let (object, id, n) = at;
-    match eval_on(site, run, store, part.1, place, deep, out)? {
-        Ended::Is => put_property(site, run, store, object, &part.0, out),
-        Ended::Left => wait(run, Frame::Form(FormFrame::Property(object, id, n, *place))),
+    match eval_on(here, run, store, part.1, deep, out)? {
+        Ended::Is => put_property(here.site, run, store, object, &part.0, out),
+        Ended::Left => wait(
+            run,
+            Frame::Form(FormFrame::Property(object, id, n, here.at)),
+        ),
         how => Ok(how),
     }
 }

@@ -1,5 +1,6 @@
 //! Operators, and choices by the truth of a first part.
 ghost use Rattle.std.specs.Prelude.{◌≡◌, ℕ, ◌<◌, List, IfOk, false, true};
+ghost use Rattle.js_tree.specs.Trees.{trees};
 ghost use Rattle.store_cells.specs.Cells.{PlainCell};
 ghost use Rattle.widget_meaning.specs.Expressions as expressions;
 ghost use Rattle.widget_meaning.specs.Operators as operators;
@@ -7,17 +8,19 @@ ghost use Rattle.widget_meaning.specs.Values as meaning;
 ghost use Rattle.widget_meaning.specs.Plan.{Do};
 ghost use Rattle.js_image.specs.Image.{seen};
 ghost use Rattle.js_image.specs.Held.{IsFine, Kept};
-ghost use Rattle.js_names.specs.Code.{trees_of};
 ghost use Rattle.js_values.specs.Operands.{IsOperand, IsPlainOut, IsPrefixed, IsPrimitive, meant_out, plain};
+ghost use Rattle.js_names.specs.Code.{trees_of};
+ghost use Rattle.js_flow.specs.Parts.{forest_at};
 ghost use Rattle.js_flow.specs.Fine.{FineForm, IsExprAt, IsPlace};
 ghost use Rattle.js_flow.specs.Free.{form_free, native_free};
 ghost use Rattle.js_flow.specs.Frames.{taken};
 ghost use Rattle.js_flow.specs.Views.{job_of};
+ghost use Rattle.js_direct.specs.Hands.{HandsOn};
 ghost use Rattle.js_direct.specs.Comes.{Comes, IsReady};
 ghost use Rattle.js_direct.specs.Prefixes.{is_plain_prefix};
 
-use crate::forms::eval_on;
-use crate::run::{Ended, Run, Site, clear, handed, stop, take_value, wait};
+use crate::forms::{eval_on, operand_on};
+use crate::run::{Ended, Here, Run, Site, clear, handed, stop, take_value, wait};
 use crate::wholes::of_wholes;
 use code_units::Memory;
 use js_flow::{Completion, Flow, FormFrame, Frame, Job, Place};
@@ -31,62 +34,132 @@ use object_store::{Store, Value};
 #[inline(never)]
 #[cycle(direct)]
 pub(crate) fn binary_on(
-    site: &Site,
+    here: &Here,
     run: &mut Run,
     store: &mut Store,
     op: BinOp,
     parts: (ExprId, ExprId),
-    place: &Place,
     deep: u32,
     out: &mut Value,
 ) -> Result<Ended, Memory>
-    requires ready { IsReady (trees_of site.now.codes.now.items) site.now.widget store.old run.old }
-    requires held { IsExprAt (trees_of site.now.codes.now.items) site.now.widget store.old.cells parts.0 place.now
-        × IsExprAt (trees_of site.now.codes.now.items) site.now.widget store.old.cells parts.1 place.now }
-    ensures comes { let F = trees_of site.now.codes.now.items in let w = site.now.widget in
+    requires ready { IsReady (trees_of here.now.site.now.codes.now.items) here.now.site.now.widget store.old run.old }
+    requires held { IsExprAt (trees_of here.now.site.now.codes.now.items) here.now.site.now.widget store.old.cells
+        parts.0 here.now.at
+        × IsExprAt (trees_of here.now.site.now.codes.now.items) here.now.site.now.widget store.old.cells parts.1
+        here.now.at }
+    requires tree { trees here.now.tree.now ≡ forest_at (trees_of here.now.site.now.codes.now.items) here.now.at.code }
+    ensures comes { let F = trees_of here.now.site.now.codes.now.items in let w = here.now.site.now.widget in
         IfOk result (λ how. Comes F w store.old store.new 30
-        (λ s. Do (job_of F w store.old.cells (Job.Eval parts.0 place.now)) s
-        (taken F w store.old.cells (Frame.Form (FormFrame.Right op parts.1 place.now))))
+        (λ s. Do (job_of F w store.old.cells (Job.Eval parts.0 here.now.at)) s
+        (taken F w store.old.cells (Frame.Form (FormFrame.Right op parts.1 here.now.at))))
         run.old run.new how out.new) }
-    ensures kept { Kept (trees_of site.now.codes.now.items) site.now.widget store.old store.new }
+    ensures kept { Kept (trees_of here.now.site.now.codes.now.items) here.now.site.now.widget store.old store.new }
 {
-    match eval_on(site, run, store, parts.0, place, deep, out)? {
-        Ended::Is => right_on(site, run, store, op, parts.1, place, deep, out),
-        Ended::Left => wait(run, Frame::Form(FormFrame::Right(op, parts.1, *place))),
+    match operand_on(here, run, store, parts.0, deep, out)? {
+        Ended::Is => right_on(here, run, store, op, parts.1, deep, out),
+        how => hand_right(run, how, op, parts.1, &here.at),
+    }
+}
+
+// The end of the left operand that is no value.
+#[cold]
+#[inline(never)]
+fn hand_right(
+    run: &mut Run,
+    how: Ended,
+    op: BinOp,
+    e: ExprId,
+    place: &Place,
+) -> Result<Ended, Memory>
+    ensures { IfOk result (λ h. HandsOn run.old run.new how h (Frame.Form (FormFrame.Right op e place.now))) }
+{
+    match how {
+        Ended::Left => wait(run, Frame::Form(FormFrame::Right(op, e, *place))),
         how => Ok(how),
     }
 }
 
 // The right operand of the left one that is at the place.
+#[inline(always)]
 #[cycle(direct)]
 fn right_on(
-    site: &Site,
+    here: &Here,
     run: &mut Run,
     store: &mut Store,
     op: BinOp,
     e: ExprId,
-    place: &Place,
     deep: u32,
     out: &mut Value,
 ) -> Result<Ended, Memory>
-    requires ready { IsReady (trees_of site.now.codes.now.items) site.now.widget store.old run.old }
-    requires held { IsExprAt (trees_of site.now.codes.now.items) site.now.widget store.old.cells e place.now
-        × IsFine site.now.widget store.old.cells out.old }
-    ensures comes { let F = trees_of site.now.codes.now.items in let w = site.now.widget in
+    requires ready { IsReady (trees_of here.now.site.now.codes.now.items) here.now.site.now.widget store.old run.old }
+    requires held { IsExprAt (trees_of here.now.site.now.codes.now.items) here.now.site.now.widget store.old.cells e
+        here.now.at
+        × IsFine here.now.site.now.widget store.old.cells out.old }
+    requires tree { trees here.now.tree.now ≡ forest_at (trees_of here.now.site.now.codes.now.items) here.now.at.code }
+    ensures comes { let F = trees_of here.now.site.now.codes.now.items in let w = here.now.site.now.widget in
         IfOk result (λ how. Comes F w store.old store.new 8
-        (taken F w store.old.cells (Frame.Form (FormFrame.Right op e place.now)) (meaning.Is (seen w store.old.cells out.old)))
+        (taken F w store.old.cells (Frame.Form (FormFrame.Right op e here.now.at))
+        (meaning.Is (seen w store.old.cells out.old)))
         run.old run.new how out.new) }
-    ensures kept { Kept (trees_of site.now.codes.now.items) site.now.widget store.old store.new }
+    ensures kept { Kept (trees_of here.now.site.now.codes.now.items) here.now.site.now.widget store.old store.new }
 {
-    let left = take_value(out);
-    match eval_on(site, run, store, e, place, deep, out)? {
-        Ended::Is => operate_on(site, run, store, op, &left, place.depth, out),
-        Ended::Left => wait(run, Frame::Form(FormFrame::Operate(op, left, place.depth))),
+    let mut left = take_value(out);
+    operand_with(here, run, store, op, e, deep, &mut left, out)
+}
+
+// The same with the left operand at a place of its own.
+#[inline(always)]
+#[cycle(direct)]
+fn operand_with(
+    here: &Here,
+    run: &mut Run,
+    store: &mut Store,
+    op: BinOp,
+    e: ExprId,
+    deep: u32,
+    left: &mut Value,
+    out: &mut Value,
+) -> Result<Ended, Memory>
+    requires ready { IsReady (trees_of here.now.site.now.codes.now.items) here.now.site.now.widget store.old run.old }
+    requires held { IsExprAt (trees_of here.now.site.now.codes.now.items) here.now.site.now.widget store.old.cells e
+        here.now.at × IsFine here.now.site.now.widget store.old.cells left.old }
+    requires tree { trees here.now.tree.now ≡ forest_at (trees_of here.now.site.now.codes.now.items) here.now.at.code }
+    ensures comes { let F = trees_of here.now.site.now.codes.now.items in let w = here.now.site.now.widget in
+        IfOk result (λ how. Comes F w store.old store.new 8
+        (taken F w store.old.cells (Frame.Form (FormFrame.Right op e here.now.at))
+        (meaning.Is (seen w store.old.cells left.old)))
+        run.old run.new how out.new) }
+    ensures kept { Kept (trees_of here.now.site.now.codes.now.items) here.now.site.now.widget store.old store.new }
+{
+    match operand_on(here, run, store, e, deep, out)? {
+        Ended::Is => operate_on(here.site, run, store, op, left, here.at.depth, out),
+        how => hand_operate(run, how, op, left, here.at.depth),
+    }
+}
+
+// The end of the right operand that is no value.
+#[cold]
+#[inline(never)]
+fn hand_operate(
+    run: &mut Run,
+    how: Ended,
+    op: BinOp,
+    left: &mut Value,
+    depth: u32,
+) -> Result<Ended, Memory>
+    ensures { IfOk result (λ h. HandsOn run.old run.new how h (Frame.Form (FormFrame.Operate op left.old depth))) }
+{
+    match how {
+        Ended::Left => wait(
+            run,
+            Frame::Form(FormFrame::Operate(op, take_value(left), depth)),
+        ),
         how => Ok(how),
     }
 }
 
 /// An operator on a left value and the one at the place.
+#[inline(always)]
 pub(crate) fn operate_on(
     site: &Site,
     run: &mut Run,
@@ -109,6 +182,29 @@ pub(crate) fn operate_on(
         *out = value;
         return Ok(Ended::Is);
     }
+    operate_any(site, run, store, op, left, depth, out)
+}
+
+// The same of any values.
+#[inline(never)]
+fn operate_any(
+    site: &Site,
+    run: &mut Run,
+    store: &mut Store,
+    op: BinOp,
+    left: &Value,
+    depth: u32,
+    out: &mut Value,
+) -> Result<Ended, Memory>
+    requires ready { IsReady (trees_of site.now.codes.now.items) site.now.widget store.old run.old }
+    requires held { IsFine site.now.widget store.old.cells left.now
+        × IsFine site.now.widget store.old.cells out.old }
+    ensures comes { let F = trees_of site.now.codes.now.items in let w = site.now.widget in
+        IfOk result (λ how. Comes F w store.old store.new 8
+        (expressions.operate op (seen w store.old.cells left.now) (seen w store.old.cells out.old) depth)
+        run.old run.new how out.new) }
+    ensures kept { Kept (trees_of site.now.codes.now.items) site.now.widget store.old store.new }
+{
     if is_ready(op, left, out) {
         let found = binary(site.alloc, op, left, out)?;
         return result_on(site, run, store, found, out);
@@ -254,27 +350,29 @@ fn made_on(
 /// `&&`.
 #[cycle(direct)]
 pub(crate) fn and_on(
-    site: &Site,
+    here: &Here,
     run: &mut Run,
     store: &mut Store,
     parts: (ExprId, ExprId),
-    place: &Place,
     deep: u32,
     out: &mut Value,
 ) -> Result<Ended, Memory>
-    requires ready { IsReady (trees_of site.now.codes.now.items) site.now.widget store.old run.old }
-    requires held { IsExprAt (trees_of site.now.codes.now.items) site.now.widget store.old.cells parts.0 place.now
-        × IsExprAt (trees_of site.now.codes.now.items) site.now.widget store.old.cells parts.1 place.now }
-    ensures comes { let F = trees_of site.now.codes.now.items in let w = site.now.widget in
+    requires ready { IsReady (trees_of here.now.site.now.codes.now.items) here.now.site.now.widget store.old run.old }
+    requires held { IsExprAt (trees_of here.now.site.now.codes.now.items) here.now.site.now.widget store.old.cells
+        parts.0 here.now.at
+        × IsExprAt (trees_of here.now.site.now.codes.now.items) here.now.site.now.widget store.old.cells parts.1
+        here.now.at }
+    requires tree { trees here.now.tree.now ≡ forest_at (trees_of here.now.site.now.codes.now.items) here.now.at.code }
+    ensures comes { let F = trees_of here.now.site.now.codes.now.items in let w = here.now.site.now.widget in
         IfOk result (λ how. Comes F w store.old store.new 30
-        (λ s. Do (job_of F w store.old.cells (Job.Eval parts.0 place.now)) s
-        (taken F w store.old.cells (Frame.Form (FormFrame.And parts.1 place.now))))
+        (λ s. Do (job_of F w store.old.cells (Job.Eval parts.0 here.now.at)) s
+        (taken F w store.old.cells (Frame.Form (FormFrame.And parts.1 here.now.at))))
         run.old run.new how out.new) }
-    ensures kept { Kept (trees_of site.now.codes.now.items) site.now.widget store.old store.new }
+    ensures kept { Kept (trees_of here.now.site.now.codes.now.items) here.now.site.now.widget store.old store.new }
 {
-    match eval_on(site, run, store, parts.0, place, deep, out)? {
-        Ended::Is => and_right(site, run, store, parts.1, place, deep, out),
-        Ended::Left => wait(run, Frame::Form(FormFrame::And(parts.1, *place))),
+    match eval_on(here, run, store, parts.0, deep, out)? {
+        Ended::Is => and_right(here, run, store, parts.1, deep, out),
+        Ended::Left => wait(run, Frame::Form(FormFrame::And(parts.1, here.at))),
         how => Ok(how),
     }
 }
@@ -282,54 +380,58 @@ pub(crate) fn and_on(
 // The right of `&&`, where the left one, which is at the place, does not decide.
 #[cycle(direct)]
 fn and_right(
-    site: &Site,
+    here: &Here,
     run: &mut Run,
     store: &mut Store,
     e: ExprId,
-    place: &Place,
     deep: u32,
     out: &mut Value,
 ) -> Result<Ended, Memory>
-    requires ready { IsReady (trees_of site.now.codes.now.items) site.now.widget store.old run.old }
-    requires held { IsExprAt (trees_of site.now.codes.now.items) site.now.widget store.old.cells e place.now
-        × IsFine site.now.widget store.old.cells out.old }
-    ensures comes { let F = trees_of site.now.codes.now.items in let w = site.now.widget in
+    requires ready { IsReady (trees_of here.now.site.now.codes.now.items) here.now.site.now.widget store.old run.old }
+    requires held { IsExprAt (trees_of here.now.site.now.codes.now.items) here.now.site.now.widget store.old.cells e
+        here.now.at
+        × IsFine here.now.site.now.widget store.old.cells out.old }
+    requires tree { trees here.now.tree.now ≡ forest_at (trees_of here.now.site.now.codes.now.items) here.now.at.code }
+    ensures comes { let F = trees_of here.now.site.now.codes.now.items in let w = here.now.site.now.widget in
         IfOk result (λ how. Comes F w store.old store.new 1
-        (taken F w store.old.cells (Frame.Form (FormFrame.And e place.now)) (meaning.Is (seen w store.old.cells out.old)))
+        (taken F w store.old.cells (Frame.Form (FormFrame.And e here.now.at))
+        (meaning.Is (seen w store.old.cells out.old)))
         run.old run.new how out.new) }
-    ensures kept { Kept (trees_of site.now.codes.now.items) site.now.widget store.old store.new }
+    ensures kept { Kept (trees_of here.now.site.now.codes.now.items) here.now.site.now.widget store.old store.new }
 {
     if !is_true(out) {
         return Ok(Ended::Is);
     }
     clear(out);
-    eval_on(site, run, store, e, place, deep, out)
+    eval_on(here, run, store, e, deep, out)
 }
 
 /// `||`.
 #[cycle(direct)]
 pub(crate) fn or_on(
-    site: &Site,
+    here: &Here,
     run: &mut Run,
     store: &mut Store,
     parts: (ExprId, ExprId),
-    place: &Place,
     deep: u32,
     out: &mut Value,
 ) -> Result<Ended, Memory>
-    requires ready { IsReady (trees_of site.now.codes.now.items) site.now.widget store.old run.old }
-    requires held { IsExprAt (trees_of site.now.codes.now.items) site.now.widget store.old.cells parts.0 place.now
-        × IsExprAt (trees_of site.now.codes.now.items) site.now.widget store.old.cells parts.1 place.now }
-    ensures comes { let F = trees_of site.now.codes.now.items in let w = site.now.widget in
+    requires ready { IsReady (trees_of here.now.site.now.codes.now.items) here.now.site.now.widget store.old run.old }
+    requires held { IsExprAt (trees_of here.now.site.now.codes.now.items) here.now.site.now.widget store.old.cells
+        parts.0 here.now.at
+        × IsExprAt (trees_of here.now.site.now.codes.now.items) here.now.site.now.widget store.old.cells parts.1
+        here.now.at }
+    requires tree { trees here.now.tree.now ≡ forest_at (trees_of here.now.site.now.codes.now.items) here.now.at.code }
+    ensures comes { let F = trees_of here.now.site.now.codes.now.items in let w = here.now.site.now.widget in
         IfOk result (λ how. Comes F w store.old store.new 30
-        (λ s. Do (job_of F w store.old.cells (Job.Eval parts.0 place.now)) s
-        (taken F w store.old.cells (Frame.Form (FormFrame.Or parts.1 place.now))))
+        (λ s. Do (job_of F w store.old.cells (Job.Eval parts.0 here.now.at)) s
+        (taken F w store.old.cells (Frame.Form (FormFrame.Or parts.1 here.now.at))))
         run.old run.new how out.new) }
-    ensures kept { Kept (trees_of site.now.codes.now.items) site.now.widget store.old store.new }
+    ensures kept { Kept (trees_of here.now.site.now.codes.now.items) here.now.site.now.widget store.old store.new }
 {
-    match eval_on(site, run, store, parts.0, place, deep, out)? {
-        Ended::Is => or_right(site, run, store, parts.1, place, deep, out),
-        Ended::Left => wait(run, Frame::Form(FormFrame::Or(parts.1, *place))),
+    match eval_on(here, run, store, parts.0, deep, out)? {
+        Ended::Is => or_right(here, run, store, parts.1, deep, out),
+        Ended::Left => wait(run, Frame::Form(FormFrame::Or(parts.1, here.at))),
         how => Ok(how),
     }
 }
@@ -337,57 +439,62 @@ pub(crate) fn or_on(
 // The right of `||`, where the left one, which is at the place, does not decide.
 #[cycle(direct)]
 fn or_right(
-    site: &Site,
+    here: &Here,
     run: &mut Run,
     store: &mut Store,
     e: ExprId,
-    place: &Place,
     deep: u32,
     out: &mut Value,
 ) -> Result<Ended, Memory>
-    requires ready { IsReady (trees_of site.now.codes.now.items) site.now.widget store.old run.old }
-    requires held { IsExprAt (trees_of site.now.codes.now.items) site.now.widget store.old.cells e place.now
-        × IsFine site.now.widget store.old.cells out.old }
-    ensures comes { let F = trees_of site.now.codes.now.items in let w = site.now.widget in
+    requires ready { IsReady (trees_of here.now.site.now.codes.now.items) here.now.site.now.widget store.old run.old }
+    requires held { IsExprAt (trees_of here.now.site.now.codes.now.items) here.now.site.now.widget store.old.cells e
+        here.now.at
+        × IsFine here.now.site.now.widget store.old.cells out.old }
+    requires tree { trees here.now.tree.now ≡ forest_at (trees_of here.now.site.now.codes.now.items) here.now.at.code }
+    ensures comes { let F = trees_of here.now.site.now.codes.now.items in let w = here.now.site.now.widget in
         IfOk result (λ how. Comes F w store.old store.new 1
-        (taken F w store.old.cells (Frame.Form (FormFrame.Or e place.now)) (meaning.Is (seen w store.old.cells out.old)))
+        (taken F w store.old.cells (Frame.Form (FormFrame.Or e here.now.at))
+        (meaning.Is (seen w store.old.cells out.old)))
         run.old run.new how out.new) }
-    ensures kept { Kept (trees_of site.now.codes.now.items) site.now.widget store.old store.new }
+    ensures kept { Kept (trees_of here.now.site.now.codes.now.items) here.now.site.now.widget store.old store.new }
 {
     if is_true(out) {
         return Ok(Ended::Is);
     }
     clear(out);
-    eval_on(site, run, store, e, place, deep, out)
+    eval_on(here, run, store, e, deep, out)
 }
 
 /// `? :`.
 #[cycle(direct)]
 pub(crate) fn choose_on(
-    site: &Site,
+    here: &Here,
     run: &mut Run,
     store: &mut Store,
     parts: (ExprId, ExprId, ExprId),
-    place: &Place,
     deep: u32,
     out: &mut Value,
 ) -> Result<Ended, Memory>
-    requires ready { IsReady (trees_of site.now.codes.now.items) site.now.widget store.old run.old }
-    requires held { IsExprAt (trees_of site.now.codes.now.items) site.now.widget store.old.cells parts.0 place.now
-        × IsExprAt (trees_of site.now.codes.now.items) site.now.widget store.old.cells parts.1 place.now
-        × IsExprAt (trees_of site.now.codes.now.items) site.now.widget store.old.cells parts.2 place.now }
-    ensures comes { let F = trees_of site.now.codes.now.items in let w = site.now.widget in
+    requires ready { IsReady (trees_of here.now.site.now.codes.now.items) here.now.site.now.widget store.old run.old }
+    requires held { IsExprAt (trees_of here.now.site.now.codes.now.items) here.now.site.now.widget store.old.cells
+        parts.0 here.now.at
+        × IsExprAt (trees_of here.now.site.now.codes.now.items) here.now.site.now.widget store.old.cells parts.1
+        here.now.at
+        × IsExprAt (trees_of here.now.site.now.codes.now.items) here.now.site.now.widget store.old.cells parts.2
+        here.now.at }
+    requires tree { trees here.now.tree.now ≡ forest_at (trees_of here.now.site.now.codes.now.items) here.now.at.code }
+    ensures comes { let F = trees_of here.now.site.now.codes.now.items in let w = here.now.site.now.widget in
         IfOk result (λ how. Comes F w store.old store.new 30
-        (λ s. Do (job_of F w store.old.cells (Job.Eval parts.0 place.now)) s
-        (taken F w store.old.cells (Frame.Form (FormFrame.Choose parts.1 parts.2 place.now))))
+        (λ s. Do (job_of F w store.old.cells (Job.Eval parts.0 here.now.at)) s
+        (taken F w store.old.cells (Frame.Form (FormFrame.Choose parts.1 parts.2 here.now.at))))
         run.old run.new how out.new) }
-    ensures kept { Kept (trees_of site.now.codes.now.items) site.now.widget store.old store.new }
+    ensures kept { Kept (trees_of here.now.site.now.codes.now.items) here.now.site.now.widget store.old store.new }
 {
-    match eval_on(site, run, store, parts.0, place, deep, out)? {
-        Ended::Is => chosen_on(site, run, store, (parts.1, parts.2), place, deep, out),
+    match eval_on(here, run, store, parts.0, deep, out)? {
+        Ended::Is => chosen_on(here, run, store, (parts.1, parts.2), deep, out),
         Ended::Left => wait(
             run,
-            Frame::Form(FormFrame::Choose(parts.1, parts.2, *place)),
+            Frame::Form(FormFrame::Choose(parts.1, parts.2, here.at)),
         ),
         how => Ok(how),
     }
@@ -396,83 +503,88 @@ pub(crate) fn choose_on(
 // What the condition that is at the place chooses.
 #[cycle(direct)]
 fn chosen_on(
-    site: &Site,
+    here: &Here,
     run: &mut Run,
     store: &mut Store,
     parts: (ExprId, ExprId),
-    place: &Place,
     deep: u32,
     out: &mut Value,
 ) -> Result<Ended, Memory>
-    requires ready { IsReady (trees_of site.now.codes.now.items) site.now.widget store.old run.old }
-    requires held { IsExprAt (trees_of site.now.codes.now.items) site.now.widget store.old.cells parts.0 place.now
-        × IsExprAt (trees_of site.now.codes.now.items) site.now.widget store.old.cells parts.1 place.now
-        × IsFine site.now.widget store.old.cells out.old }
-    ensures comes { let F = trees_of site.now.codes.now.items in let w = site.now.widget in
+    requires ready { IsReady (trees_of here.now.site.now.codes.now.items) here.now.site.now.widget store.old run.old }
+    requires held { IsExprAt (trees_of here.now.site.now.codes.now.items) here.now.site.now.widget store.old.cells
+        parts.0 here.now.at
+        × IsExprAt (trees_of here.now.site.now.codes.now.items) here.now.site.now.widget store.old.cells parts.1
+        here.now.at
+        × IsFine here.now.site.now.widget store.old.cells out.old }
+    requires tree { trees here.now.tree.now ≡ forest_at (trees_of here.now.site.now.codes.now.items) here.now.at.code }
+    ensures comes { let F = trees_of here.now.site.now.codes.now.items in let w = here.now.site.now.widget in
         IfOk result (λ how. Comes F w store.old store.new 1
-        (taken F w store.old.cells (Frame.Form (FormFrame.Choose parts.0 parts.1 place.now)) (meaning.Is (seen w store.old.cells out.old)))
+        (taken F w store.old.cells (Frame.Form (FormFrame.Choose parts.0 parts.1 here.now.at))
+        (meaning.Is (seen w store.old.cells out.old)))
         run.old run.new how out.new) }
-    ensures kept { Kept (trees_of site.now.codes.now.items) site.now.widget store.old store.new }
+    ensures kept { Kept (trees_of here.now.site.now.codes.now.items) here.now.site.now.widget store.old store.new }
 {
     if is_true(out) {
         clear(out);
-        return eval_on(site, run, store, parts.0, place, deep, out);
+        return eval_on(here, run, store, parts.0, deep, out);
     }
     clear(out);
-    eval_on(site, run, store, parts.1, place, deep, out)
+    eval_on(here, run, store, parts.1, deep, out)
 }
 
 /// A prefix operator that takes a value.
 #[cycle(direct)]
 pub(crate) fn unary_on(
-    site: &Site,
+    here: &Here,
     run: &mut Run,
     store: &mut Store,
     op: UnOp,
     e: ExprId,
-    place: &Place,
     deep: u32,
     out: &mut Value,
 ) -> Result<Ended, Memory>
-    requires ready { IsReady (trees_of site.now.codes.now.items) site.now.widget store.old run.old }
-    requires held { IsExprAt (trees_of site.now.codes.now.items) site.now.widget store.old.cells e place.now }
-    ensures comes { let F = trees_of site.now.codes.now.items in let w = site.now.widget in
+    requires ready { IsReady (trees_of here.now.site.now.codes.now.items) here.now.site.now.widget store.old run.old }
+    requires held { IsExprAt (trees_of here.now.site.now.codes.now.items) here.now.site.now.widget store.old.cells e
+        here.now.at }
+    requires tree { trees here.now.tree.now ≡ forest_at (trees_of here.now.site.now.codes.now.items) here.now.at.code }
+    ensures comes { let F = trees_of here.now.site.now.codes.now.items in let w = here.now.site.now.widget in
         IfOk result (λ how. Comes F w store.old store.new 30
-        (λ s. Do (job_of F w store.old.cells (Job.Eval e place.now)) s
-        (taken F w store.old.cells (Frame.Form (FormFrame.Prefix op place.now))))
+        (λ s. Do (job_of F w store.old.cells (Job.Eval e here.now.at)) s
+        (taken F w store.old.cells (Frame.Form (FormFrame.Prefix op here.now.at))))
         run.old run.new how out.new) }
-    ensures kept { Kept (trees_of site.now.codes.now.items) site.now.widget store.old store.new }
+    ensures kept { Kept (trees_of here.now.site.now.codes.now.items) here.now.site.now.widget store.old store.new }
 {
-    match eval_on(site, run, store, e, place, deep, out)? {
-        Ended::Is => prefix_on(site, run, store, op, place, out),
-        Ended::Left => wait(run, Frame::Form(FormFrame::Prefix(op, *place))),
+    match eval_on(here, run, store, e, deep, out)? {
+        Ended::Is => prefix_on(here, run, store, op, out),
+        Ended::Left => wait(run, Frame::Form(FormFrame::Prefix(op, here.at))),
         how => Ok(how),
     }
 }
 
 // A prefix operator on the value at the place.
 fn prefix_on(
-    site: &Site,
+    here: &Here,
     run: &mut Run,
     store: &mut Store,
     op: UnOp,
-    place: &Place,
     out: &mut Value,
 ) -> Result<Ended, Memory>
-    requires ready { IsReady (trees_of site.now.codes.now.items) site.now.widget store.old run.old }
-    requires held { IsPlace (trees_of site.now.codes.now.items) site.now.widget store.old.cells place.now
-        × IsFine site.now.widget store.old.cells out.old }
-    ensures comes { let F = trees_of site.now.codes.now.items in let w = site.now.widget in
+    requires ready { IsReady (trees_of here.now.site.now.codes.now.items) here.now.site.now.widget store.old run.old }
+    requires held { IsPlace (trees_of here.now.site.now.codes.now.items) here.now.site.now.widget store.old.cells
+        here.now.at
+        × IsFine here.now.site.now.widget store.old.cells out.old }
+    ensures comes { let F = trees_of here.now.site.now.codes.now.items in let w = here.now.site.now.widget in
         IfOk result (λ how. Comes F w store.old store.new 4
-        (taken F w store.old.cells (Frame.Form (FormFrame.Prefix op place.now)) (meaning.Is (seen w store.old.cells out.old)))
+        (taken F w store.old.cells (Frame.Form (FormFrame.Prefix op here.now.at))
+        (meaning.Is (seen w store.old.cells out.old)))
         run.old run.new how out.new) }
-    ensures kept { Kept (trees_of site.now.codes.now.items) site.now.widget store.old store.new }
+    ensures kept { Kept (trees_of here.now.site.now.codes.now.items) here.now.site.now.widget store.old store.new }
 {
     if is_prefix_ready(op, out) {
         let found = unary(op, out)?;
-        return result_on(site, run, store, found, out);
+        return result_on(here.site, run, store, found, out);
     }
-    taken_by_frames(site, run, store, &FormFrame::Prefix(op, *place), out)
+    taken_by_frames(here.site, run, store, &FormFrame::Prefix(op, here.at), out)
 }
 
 // Whether `!`, `+` or `-` is on an operand that is not converted.

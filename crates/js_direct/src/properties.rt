@@ -1,5 +1,6 @@
 //! Properties: a base, its subscript, and the read.
-ghost use Rattle.std.specs.Prelude.{◌≡◌, ℕ, ◌<◌, List, IfOk};
+ghost use Rattle.std.specs.Prelude.{◌≡◌, ℕ, ◌<◌, List, IfOk, MatchOption};
+ghost use Rattle.js_tree.specs.Trees.{trees};
 ghost use Rattle.store_cells.specs.Cells.{PlainCell};
 ghost use Rattle.widget_meaning.specs.Properties as properties;
 ghost use Rattle.widget_meaning.specs.Values as meaning;
@@ -7,52 +8,104 @@ ghost use Rattle.widget_meaning.specs.Plan.{Do};
 ghost use Rattle.js_image.specs.Image.{seen};
 ghost use Rattle.js_image.specs.Held.{IsFine, Kept};
 ghost use Rattle.js_names.specs.Code.{trees_of};
+ghost use Rattle.js_flow.specs.Parts.{forest_at};
 ghost use Rattle.js_flow.specs.Fine.{IsExprAt};
 ghost use Rattle.js_flow.specs.Frames.{taken};
 ghost use Rattle.js_flow.specs.Views.{job_of};
+ghost use Rattle.js_direct.specs.Hands.{HandsOn};
 ghost use Rattle.js_direct.specs.Comes.{Comes, IsReady};
 
-use crate::forms::eval_on;
-use crate::run::{Ended, Run, Site, take_value, throw, wait};
+use crate::forms::{eval_on, operand_on};
+use crate::run::{Ended, Here, Run, Site, clear, share_to, take_value, throw, wait};
 use code_units::{Memory, Text};
-use js_flow::{FormFrame, Frame, Job, Place};
-use js_image::{Fault, get};
+use js_flow::{FormFrame, Frame, Job};
+use js_image::{Fault, get, property_at};
 use js_tree::ExprId;
 use js_values::to_text;
-use object_store::{Store, Value};
+use object_store::{CellId, Store, Value};
 use std::alloc::Global;
 
 /// A property by its name.
 #[inline(never)]
 #[cycle(direct)]
 pub(crate) fn dot_on(
-    site: &Site,
+    here: &Here,
     run: &mut Run,
     store: &mut Store,
     e: ExprId,
     name: &Text,
-    place: &Place,
     deep: u32,
     out: &mut Value,
 ) -> Result<Ended, Memory>
-    requires ready { IsReady (trees_of site.now.codes.now.items) site.now.widget store.old run.old }
-    requires held { IsExprAt (trees_of site.now.codes.now.items) site.now.widget store.old.cells e place.now }
-    ensures comes { let F = trees_of site.now.codes.now.items in let w = site.now.widget in
+    requires ready { IsReady (trees_of here.now.site.now.codes.now.items) here.now.site.now.widget store.old run.old }
+    requires held { IsExprAt (trees_of here.now.site.now.codes.now.items) here.now.site.now.widget store.old.cells e
+        here.now.at }
+    requires tree { trees here.now.tree.now ≡ forest_at (trees_of here.now.site.now.codes.now.items) here.now.at.code }
+    ensures comes { let F = trees_of here.now.site.now.codes.now.items in let w = here.now.site.now.widget in
         IfOk result (λ how. Comes F w store.old store.new 30
-        (λ s. Do (job_of F w store.old.cells (Job.Eval e place.now)) s
+        (λ s. Do (job_of F w store.old.cells (Job.Eval e here.now.at)) s
         (taken F w store.old.cells (Frame.Form (FormFrame.Dot name.now))))
         run.old run.new how out.new) }
-    ensures kept { Kept (trees_of site.now.codes.now.items) site.now.widget store.old store.new }
+    ensures kept { Kept (trees_of here.now.site.now.codes.now.items) here.now.site.now.widget store.old store.new }
 {
-    match eval_on(site, run, store, e, place, deep, out)? {
-        Ended::Is => read_on(site, run, store, name, out),
+    match operand_on(here, run, store, e, deep, out)? {
+        Ended::Is => read_on(here.site, run, store, name, out),
+        how => hand_dot(run, how, name),
+    }
+}
+
+// The end of the base that is no value.
+#[cold]
+#[inline(never)]
+fn hand_dot(run: &mut Run, how: Ended, name: &Text) -> Result<Ended, Memory>
+    ensures { IfOk result (λ h. HandsOn run.old run.new how h (Frame.Form (FormFrame.Dot name.now))) }
+{
+    match how {
         Ended::Left => wait(run, Frame::Form(FormFrame::Dot(name.share()?))),
         how => Ok(how),
     }
 }
 
 // A property of the value at the place.
+#[inline(always)]
 fn read_on(
+    site: &Site,
+    run: &mut Run,
+    store: &mut Store,
+    name: &Text,
+    out: &mut Value,
+) -> Result<Ended, Memory>
+    requires ready { IsReady (trees_of site.now.codes.now.items) site.now.widget store.old run.old }
+    requires held { IsFine site.now.widget store.old.cells out.old }
+    ensures comes { let F = trees_of site.now.codes.now.items in let w = site.now.widget in
+        IfOk result (λ how. Comes F w store.old store.new 1
+        (properties.read (seen w store.old.cells out.old) name.now)
+        run.old run.new how out.new) }
+    ensures kept { Kept (trees_of site.now.codes.now.items) site.now.widget store.old store.new }
+{
+    match cell_at(out) {
+        Some(cell) => {
+            share_to(property_at(store, cell, name), out)?;
+            Ok(Ended::Is)
+        }
+        None => read_any(site, run, store, name, out),
+    }
+}
+
+// The cell that a value is.
+#[inline(always)]
+fn cell_at(value: &Value) -> Option<CellId>
+    ensures { MatchOption result ((i : ℕ) → value.now ≡ Value.Ref i → ⊥) (λ i. value.now ≡ Value.Ref i) }
+{
+    match value {
+        Value::Ref(cell) => Some(*cell),
+        _ => None,
+    }
+}
+
+// A property of any value at the place.
+#[inline(never)]
+fn read_any(
     site: &Site,
     run: &mut Run,
     store: &mut Store,
@@ -71,7 +124,7 @@ fn read_on(
     property_on(site, run, store, &base, name, out)
 }
 
-// A property of a value; undefined and null have none.
+// A property of a value; undefined and null have none. The place owns nothing.
 fn property_on(
     site: &Site,
     run: &mut Run,
@@ -91,6 +144,10 @@ fn property_on(
     match base {
         Value::Undefined => throw(site, run, store, Fault::E1, out),
         Value::Null => throw(site, run, store, Fault::E1, out),
+        Value::Ref(cell) => {
+            share_to(property_at(store, *cell, name), out)?;
+            Ok(Ended::Is)
+        }
         _ => {
             *out = get(store, base, name)?;
             Ok(Ended::Is)
@@ -101,27 +158,29 @@ fn property_on(
 /// A property by a subscript.
 #[cycle(direct)]
 pub(crate) fn sub_on(
-    site: &Site,
+    here: &Here,
     run: &mut Run,
     store: &mut Store,
     parts: (ExprId, ExprId),
-    place: &Place,
     deep: u32,
     out: &mut Value,
 ) -> Result<Ended, Memory>
-    requires ready { IsReady (trees_of site.now.codes.now.items) site.now.widget store.old run.old }
-    requires held { IsExprAt (trees_of site.now.codes.now.items) site.now.widget store.old.cells parts.0 place.now
-        × IsExprAt (trees_of site.now.codes.now.items) site.now.widget store.old.cells parts.1 place.now }
-    ensures comes { let F = trees_of site.now.codes.now.items in let w = site.now.widget in
+    requires ready { IsReady (trees_of here.now.site.now.codes.now.items) here.now.site.now.widget store.old run.old }
+    requires held { IsExprAt (trees_of here.now.site.now.codes.now.items) here.now.site.now.widget store.old.cells
+        parts.0 here.now.at
+        × IsExprAt (trees_of here.now.site.now.codes.now.items) here.now.site.now.widget store.old.cells parts.1
+        here.now.at }
+    requires tree { trees here.now.tree.now ≡ forest_at (trees_of here.now.site.now.codes.now.items) here.now.at.code }
+    ensures comes { let F = trees_of here.now.site.now.codes.now.items in let w = here.now.site.now.widget in
         IfOk result (λ how. Comes F w store.old store.new 30
-        (λ s. Do (job_of F w store.old.cells (Job.Eval parts.0 place.now)) s
-        (taken F w store.old.cells (Frame.Form (FormFrame.SubBase parts.1 place.now))))
+        (λ s. Do (job_of F w store.old.cells (Job.Eval parts.0 here.now.at)) s
+        (taken F w store.old.cells (Frame.Form (FormFrame.SubBase parts.1 here.now.at))))
         run.old run.new how out.new) }
-    ensures kept { Kept (trees_of site.now.codes.now.items) site.now.widget store.old store.new }
+    ensures kept { Kept (trees_of here.now.site.now.codes.now.items) here.now.site.now.widget store.old store.new }
 {
-    match eval_on(site, run, store, parts.0, place, deep, out)? {
-        Ended::Is => subscript_on(site, run, store, parts.1, place, deep, out),
-        Ended::Left => wait(run, Frame::Form(FormFrame::SubBase(parts.1, *place))),
+    match eval_on(here, run, store, parts.0, deep, out)? {
+        Ended::Is => subscript_on(here, run, store, parts.1, deep, out),
+        Ended::Left => wait(run, Frame::Form(FormFrame::SubBase(parts.1, here.at))),
         how => Ok(how),
     }
 }
@@ -129,26 +188,28 @@ pub(crate) fn sub_on(
 // The subscript of the base that is at the place.
 #[cycle(direct)]
 fn subscript_on(
-    site: &Site,
+    here: &Here,
     run: &mut Run,
     store: &mut Store,
     index: ExprId,
-    place: &Place,
     deep: u32,
     out: &mut Value,
 ) -> Result<Ended, Memory>
-    requires ready { IsReady (trees_of site.now.codes.now.items) site.now.widget store.old run.old }
-    requires held { IsExprAt (trees_of site.now.codes.now.items) site.now.widget store.old.cells index place.now
-        × IsFine site.now.widget store.old.cells out.old }
-    ensures comes { let F = trees_of site.now.codes.now.items in let w = site.now.widget in
+    requires ready { IsReady (trees_of here.now.site.now.codes.now.items) here.now.site.now.widget store.old run.old }
+    requires held { IsExprAt (trees_of here.now.site.now.codes.now.items) here.now.site.now.widget store.old.cells
+        index here.now.at
+        × IsFine here.now.site.now.widget store.old.cells out.old }
+    requires tree { trees here.now.tree.now ≡ forest_at (trees_of here.now.site.now.codes.now.items) here.now.at.code }
+    ensures comes { let F = trees_of here.now.site.now.codes.now.items in let w = here.now.site.now.widget in
         IfOk result (λ how. Comes F w store.old store.new 1
-        (taken F w store.old.cells (Frame.Form (FormFrame.SubBase index place.now)) (meaning.Is (seen w store.old.cells out.old)))
+        (taken F w store.old.cells (Frame.Form (FormFrame.SubBase index here.now.at))
+        (meaning.Is (seen w store.old.cells out.old)))
         run.old run.new how out.new) }
-    ensures kept { Kept (trees_of site.now.codes.now.items) site.now.widget store.old store.new }
+    ensures kept { Kept (trees_of here.now.site.now.codes.now.items) here.now.site.now.widget store.old store.new }
 {
     let base = take_value(out);
-    match eval_on(site, run, store, index, place, deep, out)? {
-        Ended::Is => named_on(site, run, store, &base, out),
+    match eval_on(here, run, store, index, deep, out)? {
+        Ended::Is => named_on(here.site, run, store, &base, out),
         Ended::Left => wait(run, Frame::Form(FormFrame::Sub(base))),
         how => Ok(how),
     }
@@ -172,6 +233,7 @@ fn named_on(
     ensures kept { Kept (trees_of site.now.codes.now.items) site.now.widget store.old store.new }
 {
     let name = name_of(site.alloc, out)?;
+    clear(out);
     property_on(site, run, store, base, &name, out)
 }
 

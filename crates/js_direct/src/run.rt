@@ -1,5 +1,5 @@
 //! What forms share while they are carried out, and how they end.
-ghost use Rattle.std.specs.Prelude.{◌≡◌, ℕ, ◌+◌, ◌<◌, ◌++◌, ◌∷◌, [], IfOk, IsTrue, List, MatchOption};
+ghost use Rattle.std.specs.Prelude.{OnOk, ◌≡◌, ℕ, ◌+◌, ◌<◌, ◌++◌, ◌∷◌, [], IfOk, IsTrue, List, MatchOption, option_copied, unwrap_or};
 ghost use Rattle.js_tree.specs.Forest.{Forest};
 ghost use Rattle.store_cells.specs.Cells.{Cells};
 ghost use Rattle.widget_meaning.specs.OwnState.{State};
@@ -15,9 +15,10 @@ ghost use Rattle.js_flow.specs.Views.{completion_of, job_of};
 ghost use Rattle.js_direct.specs.Comes.{Comes, FineWith, IsEnd, IsReady, ended_as};
 
 use code_units::Memory;
-use js_flow::{Completion, Flow, Frame, Job, Next};
+use js_flow::{Completion, Flow, Frame, Job, Next, Place};
 use js_image::{Fault, Made, StopCause, make_fault};
 use js_names::Code;
+use js_tree::Tree;
 use object_store::{Store, Value};
 use std::alloc::Global;
 use std::mem;
@@ -31,6 +32,14 @@ pub(crate) struct Site<'a> {
     pub alloc: Global,
     pub widget: u32,
     pub codes: &'a Vec<Code>,
+}
+
+/// Where a form stands: its tree, and the place that it runs at.
+#[derive(Drop)]
+pub(crate) struct Here<'a> {
+    pub site: &'a Site<'a>,
+    pub tree: &'a Tree,
+    pub at: Place,
 }
 
 /// What is left to run with, and what is suspended.
@@ -65,6 +74,29 @@ pub(crate) fn set_value(out: &mut Value, value: Value)
     mem::forget(mem::replace(out, value));
 }
 
+/// What was found, for a second holder, at a place that owns nothing: `undefined` where nothing was.
+#[inline(always)]
+pub(crate) fn share_to(found: Option<&Value>, out: &mut Value) -> Result<(), Memory>
+    ensures { OnOk result (out.new ≡ unwrap_or (option_copied found.entry) Value.Undefined) }
+{
+    match found {
+        None => set_value(out, Value::Undefined),
+        Some(Value::Num(z)) => set_value(out, Value::Num(*z)),
+        Some(Value::Ref(cell)) => set_value(out, Value::Ref(*cell)),
+        Some(value) => return share_any(value, out),
+    }
+    Ok(())
+}
+
+// The same of any value.
+#[inline(never)]
+fn share_any(value: &Value, out: &mut Value) -> Result<(), Memory>
+    ensures { OnOk result (out.new ≡ value.now) }
+{
+    set_value(out, value.share()?);
+    Ok(())
+}
+
 /// The value of a place, which then has none.
 #[inline(always)]
 pub(crate) fn take_value(out: &mut Value) -> Value
@@ -92,6 +124,16 @@ pub(crate) fn set_next(run: &mut Run, next: Next)
     mem::forget(mem::replace(&mut run.next, next));
 }
 
+// A frame is put last, without a copy.
+#[inline(always)]
+fn push_frame(frames: &mut Vec<Frame>, frame: Frame) -> Result<(), Memory>
+    ensures items { OnOk result (frames.new.items ≡ frames.old.items ++ frame ∷ []) }
+{
+    frames.reserve(1)?;
+    frames.push_reserved(frame);
+    Ok(())
+}
+
 /// One frame more waits.
 #[cold]
 #[inline(never)]
@@ -101,7 +143,7 @@ pub(crate) fn wait(run: &mut Run, frame: Frame) -> Result<Ended, Memory>
     ensures next { IfOk result (λ how. run.new.next ≡ run.old.next) }
     ensures units { IfOk result (λ how. run.new.units ≡ run.old.units) }
 {
-    run.waits.push(frame)?;
+    push_frame(&mut run.waits, frame)?;
     Ok(Ended::Left)
 }
 
@@ -231,7 +273,8 @@ fn given_end(run: &mut Run, how: Completion, out: &mut Value) -> Ended
 
 /// The last frame is taken out; none where there is none.
 pub(crate) fn last(frames: &mut Vec<Frame>) -> Option<Frame>
-    ensures { MatchOption result ((frames.old.items ≡ []) × (frames.new.items ≡ [])) (λ f. frames.old.items ≡ frames.new.items ++ f ∷ []) }
+    ensures { MatchOption result ((frames.old.items ≡ []) × (frames.new.items ≡ []))
+        (λ f. frames.old.items ≡ frames.new.items ++ f ∷ []) }
 {
     frames.pop()
 }
@@ -248,7 +291,7 @@ fn suspended(run: &mut Run, frames: Vec<Frame>, next: Next) -> Result<Ended, Mem
     let mut frames = frames;
     set_next(run, next);
     'frames: while let Some(frame) = last(&mut frames) {
-        run.waits.push(frame)?;
+        push_frame(&mut run.waits, frame)?;
     }
     Ok(Ended::Left)
 }

@@ -41,6 +41,7 @@ fn whole_in(value: &Value) -> Option<i64>
     }
 }
 
+#[inline(always)]
 fn on_wholes(op: BinOp, x: i64, y: i64) -> Option<Value>
     ensures gives { IfSome result (λ v. (w : ℕ) (cells : List PlainCell) (d : ℕ) (s : State)
         → expressions.operate op (meaning.Num x) (meaning.Num y) d s ≡ Ret (meaning.Is (seen w cells v)) s) }
@@ -60,6 +61,7 @@ fn on_wholes(op: BinOp, x: i64, y: i64) -> Option<Value>
 }
 
 // The sum of two numbers, where it is a number.
+#[inline(always)]
 fn sum(x: i64, y: i64) -> Option<Value>
     ensures { IfSome result (λ v. (v ≡ Value.Num (Number.Whole (x +ℤ y)))
         × (operators.number (x +ℤ y) ≡ operators.Gives (meaning.Num (x +ℤ y)))) }
@@ -77,6 +79,7 @@ fn sum(x: i64, y: i64) -> Option<Value>
 }
 
 // The difference of two numbers, where it is a number.
+#[inline(always)]
 fn difference(x: i64, y: i64) -> Option<Value>
     ensures { IfSome result (λ v. (v ≡ Value.Num (Number.Whole (x -ℤ y)))
         × (operators.number (x -ℤ y) ≡ operators.Gives (meaning.Num (x -ℤ y)))) }

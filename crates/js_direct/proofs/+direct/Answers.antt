@@ -1,20 +1,20 @@
-use Rattle.std.proofs.Common.{rules, List, [], ap, arith, drop, refl, subst, sym, ℕ, ◌++◌, ◌+◌, ◌-◌, ◌∙◌, ◌∷◌, ◌≡◌}
+use Rattle.std.proofs.Common.{rules, List, None, [], ap, arith, drop, length, refl, subst, suc, sym, ℕ, ◌++◌, ◌+◌, ◌-◌, ◌∙◌, ◌∷◌, ◌≡◌}
 use Rattle.std.proofs.lemmas.Result.{IfOk-weaker}
-use Rattle.js_tree.specs.Forest.{Forest, expr_at, plain_form, stmt_at}
+use Rattle.js_tree.specs.Forest.{Forest, IsStmt, expr_at, plain_form, stmt_at}
 use Rattle.widget_meaning.specs.Costs.{make}
-use Rattle.widget_meaning.specs.Expressions.{array_parts, assign_with, object_parts, refer, target}
-use Rattle.widget_meaning.specs.OwnState.{State, new_array, new_object, plain_object}
+use Rattle.widget_meaning.specs.Expressions.{arguments_then, array_parts, assign_with, base_of, callee, expression, object_parts, refer, target}
+use Rattle.widget_meaning.specs.OwnState.{Function, State, new_array, new_object, plain_object}
 use Rattle.widget_meaning.specs.Plan.{Do, Eval, Halt, Plan, Ret, after, and_then}
 use Rattle.widget_meaning.specs.Values.{Value}
-use Rattle.js_image.specs.Image.{all_seen, image, seen}
+use Rattle.js_image.specs.Image.{all_seen, function_in, image, seen}
 use Rattle.js_image.specs.Plans.{made_plan, meant_cause}
 use Rattle.js_image.proofs.Units.{kept_then}
 use Rattle.js_names.specs.Code.{trees_of}
-use Rattle.js_flow.specs.Parts.{IsBlock, block_list, decls_of, elements_of, else_of, forest_at, loop_of, properties_of, then_of}
+use Rattle.js_flow.specs.Parts.{HasStmt, IsBlock, arguments_of, block_list, decls_of, elements_of, else_of, forest_at, loop_of, properties_of, then_of}
 use Rattle.js_flow.specs.Views.{completion_of, job_of, place_of, reference_of}
 use Rattle.js_flow.proofs.Stays.{place_fine, place_same, reference_fine, reference_same}
 use Rattle.js_direct.proofs.Lists.{before_then, goes_both, goes_then, left_no_value, part_goes}
-use Rattle.js_direct.proofs.Parts.{before_it, more, part_passes, part_then, part_waits, unit_first}
+use Rattle.js_direct.proofs.Parts.{before_it, gives, more, part_passes, part_then, part_waits, unit_first}
 use Rattle.js_image.proofs.Grown.{fine_stays, held_stays, kept_same, seen_stays}
 use Rattle.js_image.specs.Held.{AreFine, IsFine, IsHeld}
 use Rattle.js_flow.specs.Fine.{FineAssigning, FineFrame, FineReference, IsExprAt}
@@ -22,55 +22,60 @@ use Rattle.js_flow.specs.Frames.{taken}
 use Rattle.js_direct.specs.declared.run.Ended.{Ended}
 use Rattle.js_direct.specs.Comes.{Comes, ended_as, target_as}
 use Rattle.js_direct.proofs.FormFrames.{after_store, both_ok, ends_target, expr_stays, frame_waits, gives_at, instead, not_value, other_end, reaches_at, target_ends, target_fine, target_then, value_fine, value_passes, value_ready, value_then}
-use Rattle.js_direct.proofs.Arguing.{all_there, callee_passes, callee_there, fewer, none_there, one_there, part_ends, passes_there, refused, waits_there}
-use Rattle.std.specs.Option.{option_map}
-use Rattle.js_calls.specs.Called.{FineEntry, entry_plan, invoked}
-use Rattle.js_calls.proofs.Invoked.{fine_within, function_called, native_called, nothing_called}
-use Rattle.widget_meaning.specs.Calls.{call_end, statements as statements_2}
-use Rattle.js_flow.specs.Statements.{block_at, declared, loop_again, loop_next}
-use Rattle.widget_meaning.specs.Meaning.{body}
-use Rattle.widget_meaning.proofs.Runs.{and_then_ret}
-use Rattle.js_image.proofs.Hosts.{entry_link}
+use Rattle.js_tree.specs.declared.nodes.AssignOp.{AssignOp}
 use Rattle.js_flow.specs.Forms.{form_taken, property_done}
-use Rattle.std.specs.Prelude.{IfOk, Option}
-use Rattle.store_cells.specs.declared.value.Value.{Value as Value2}
-use Rattle.js_direct.specs.Towards.{Passes, Towards, frame_after, frame_in, part_of}
-use Rattle.js_direct.proofs.Loops.{after_fine, after_free, after_taken, again_normal, loop_broken, loop_other, part_fine, part_free, part_taken, pass_is}
-use Rattle.js_direct.proofs.Sequels.{as_is, end_fine, end_ready, is_end, loop_passes, other_normal, other_value, part_done, part_gives, part_next, passes_paid, passes_then, planned, round, stays, tested, towards_each, towards_paid, towards_then, unit_paid, waits_ok, waits_then}
-use Rattle.widget_meaning.specs.Statements.{branch}
-use Rattle.js_direct.specs.declared.run.Run.{Run}
-use Rattle.js_direct.proofs.Reaching.{at_eval, at_target, found_form, goes_on, goes_past, less_one, no_value, parts_at}
 use Rattle.js_tree.specs.Trees.{trees}
 use Rattle.js_tree.specs.declared.nodes.Expr.{Expr}
-use Rattle.js_tree.specs.declared.nodes.AssignOp.{AssignOp}
+use Rattle.js_direct.proofs.Reaching.{at_eval, at_target, found_form, goes_on, goes_past, less_one, no_value, parts_at}
+use Rattle.js_direct.proofs.Handing.{hand_form, hand_ok, hands, passes_normal, passes_value}
 use Rattle.js_flow.specs.declared.job.Reference.{Reference}
 use Rattle.store_cells.specs.Cells.{PlainCell}
 use Rattle.js_flow.specs.declared.frame.Assigning.{Assigning}
+use Rattle.js_flow.specs.Statements.{block_at, declared, loop_again, loop_next}
+use Rattle.widget_meaning.specs.Calls.{call_end, enter, invoke, statements}
+use Rattle.js_direct.proofs.Sequels.{as_is, end_fine, end_ready, is_end, loop_passes, other_normal, other_value, part_done, part_gives, part_next, passes_paid, passes_then, planned, round, stays, tested, towards_each, towards_paid, towards_then, unit_paid, waits_ok, waits_then}
+use Rattle.js_flow.proofs.Listing.{listed}
+use Rattle.std.specs.Prelude.{IfOk, Option}
+use Rattle.js_tree.specs.declared.nodes.StmtId.{StmtId}
+use Rattle.js_direct.proofs.Arguing.{all_there, argued_hands, argued_then, argued_waits_none, callee_hands, callee_there, counted, fewer, more_at, none_there, one_there, other_there, part_ends, refused}
+use Rattle.std.specs.Option.{option_map}
+use Rattle.store_cells.specs.declared.value.Value.{Value as Value2}
+use Rattle.object_store.specs.Owned.{scope_number}
+use Rattle.js_calls.proofs.Invoked.{fine_within, function_called, native_called, nothing_called}
+use Rattle.js_calls.specs.Called.{FineEntry, entry_plan}
+use Rattle.widget_meaning.specs.Meaning.{body}
+use Rattle.widget_meaning.proofs.Runs.{and_then_ret}
+use Rattle.js_direct.specs.Towards.{Passes, Towards, frame_after, frame_in, part_of}
+use Rattle.js_direct.specs.declared.run.Run.{Run}
+use Rattle.js_direct.proofs.Loops.{after_fine, after_free, after_taken, again_normal, loop_broken, loop_other, part_fine, part_free, part_taken, pass_is}
+use Rattle.js_image.proofs.Hosts.{entry_link}
+use Rattle.widget_meaning.specs.Statements.{branch}
 use Rattle.store_cells.specs.declared.value.Value.TheVariants as value
 use Rattle.js_flow.specs.declared.job.Job.TheVariants as job
 use Rattle.js_flow.specs.declared.frame.Frame.TheVariants as frame
 use Rattle.js_flow.specs.declared.frame.FormFrame.TheVariants as form
+use Rattle.js_tree.specs.declared.nodes.AssignOp.TheVariants as assignment
+use Rattle.js_flow.specs.declared.job.Reference.TheVariants as reference
+use Rattle.widget_meaning.specs.Values as meaning
+use Rattle.js_flow.specs.declared.frame.StatementFrame.TheVariants as statement
+use Rattle.js_direct.specs.declared.run.Ended.TheVariants as ended
 use Rattle.js_flow.specs.declared.frame.CallFrame.TheVariants as call
 use Rattle.js_flow.specs.declared.job.Block.TheVariants as block
-use Rattle.permitted_table.specs.declared.native.HostEntry.TheVariants as entry
-use Rattle.widget_meaning.specs.Values as meaning
-use Rattle.js_direct.specs.declared.run.Ended.TheVariants as ended
-use Rattle.js_flow.specs.declared.frame.StatementFrame.TheVariants as statement
-use Rattle.widget_meaning.specs.Statements as statements
+use Rattle.js_tree.specs.Plain as node
+use Rattle.widget_meaning.specs.Statements as statements_2
 use Rattle.js_direct.specs.declared.statements.Part.TheVariants as part
+use Rattle.permitted_table.specs.declared.native.HostEntry.TheVariants as entry
 use Rattle.widget_meaning.specs.Plan as plan
 use Rattle.js_tree.specs.declared.nodes.Expr.TheVariants as expr
-use Rattle.js_flow.specs.declared.job.Reference.TheVariants as reference
-use Rattle.js_tree.specs.declared.nodes.AssignOp.TheVariants as assignment
 use Rattle.js_direct.proofs.+direct.Goals as goal
 
 pub arrays::array_on-returns-in-Cell-clause-comes : goal.arrays::array_on-returns-in-Cell-clause-comes
 arrays::array_on-returns-in-Cell-clause-comes t c =
-    let fs = trees_of c.args.site.now.codes.now.items in
-    let w = c.args.site.now.widget in
+    let fs = trees_of c.args.here.now.site.now.codes.now.items in
+    let w = c.args.here.now.site.now.widget in
     let old = c.args.store.now in
     let mid = c.make.new.store in
-    let place = c.args.place.now in
+    let place = c.args.here.now.at in
     let list = elements_of (expr_at (forest_at fs place.code) c.args.id) in
     let k : Value → State → Plan = λ a t. array_parts a 0 list (place_of w old.cells place) t in
     let todo : State → Plan = λ s. make (new_array 0 []) 0 s k in
@@ -84,11 +89,11 @@ arrays::array_on-returns-in-Cell-clause-comes t c =
 
 pub arrays::array_on-returns-in-Stop-clause-comes : goal.arrays::array_on-returns-in-Stop-clause-comes
 arrays::array_on-returns-in-Stop-clause-comes t c =
-    let fs = trees_of c.args.site.now.codes.now.items in
-    let w = c.args.site.now.widget in
+    let fs = trees_of c.args.here.now.site.now.codes.now.items in
+    let w = c.args.here.now.site.now.widget in
     let old = c.args.store.now in
     let new = c.make.new.store in
-    let place = c.args.place.now in
+    let place = c.args.here.now.at in
     let list = elements_of (expr_at (forest_at fs place.code) c.args.id) in
     let k : Value → State → Plan = λ a t. array_parts a 0 list (place_of w old.cells place) t in
     IfOk-weaker c.stop.result _ _
@@ -99,17 +104,17 @@ arrays::array_on-returns-in-Stop-clause-comes t c =
 
 pub arrays::array_on-returns-in-Cell-clause-kept : goal.arrays::array_on-returns-in-Cell-clause-kept
 arrays::array_on-returns-in-Cell-clause-kept t c =
-    let fs = trees_of c.args.site.now.codes.now.items in
-    kept_then fs c.args.site.now.widget c.args.store.now c.make.new.store c.elements_on.new.store (c.make.ensures.kept fs tt) c.elements_on.ensures.kept
+    let fs = trees_of c.args.here.now.site.now.codes.now.items in
+    kept_then fs c.args.here.now.site.now.widget c.args.store.now c.make.new.store c.elements_on.new.store (c.make.ensures.kept fs tt) c.elements_on.ensures.kept
 
 pub arrays::elements_on-returns-in_err-how-clause-kept : goal.arrays::elements_on-returns-in_err-how-clause-kept
 arrays::elements_on-returns-in_err-how-clause-kept t c =
-    kept_then (trees_of c.args.site.now.codes.now.items) c.args.site.now.widget c.args.store.now c.elements.store c.element_on.new.store c.elements.invariant.kept c.element_on.ensures.kept
+    kept_then (trees_of c.args.here.now.site.now.codes.now.items) c.args.here.now.site.now.widget c.args.store.now c.elements.store c.element_on.new.store c.elements.invariant.kept c.element_on.ensures.kept
 
 pub arrays::elements_on-elements-preserved : goal.arrays::elements_on-elements-preserved
 arrays::elements_on-elements-preserved t c =
-    let fs = trees_of c.args.site.now.codes.now.items in
-    let w = c.args.site.now.widget in
+    let fs = trees_of c.args.here.now.site.now.codes.now.items in
+    let w = c.args.here.now.site.now.widget in
     let old = c.args.store.now in
     let mid = c.elements.store in
     let new = c.element_on.new.store in
@@ -121,15 +126,15 @@ arrays::elements_on-elements-preserved t c =
       ready = (was.ready.0, step.kept.confined was.ready.1, next.none);
       held = (
         held_stays w mid.cells new.cells step.kept.grows c.args.array was.held.0,
-        (place_fine fs w mid.cells new.cells step.kept.grows c.args.place.now was.held.1.0, was.held.1.1),
+        (place_fine fs w mid.cells new.cells step.kept.grows c.args.here.now.at was.held.1.0, was.held.1.1),
       );
       kept = kept_then fs w old mid new was.kept step.kept;
     }
 
 pub arrays::elements_on-returns-in_default-2 : goal.arrays::elements_on-returns-in_default-2
 arrays::elements_on-returns-in_default-2 t c =
-    let fs = trees_of c.args.site.now.codes.now.items in
-    let w = c.args.site.now.widget in
+    let fs = trees_of c.args.here.now.site.now.codes.now.items in
+    let w = c.args.here.now.site.now.widget in
     let old = c.args.store.now in
     let mid = c.elements.store in
     let new = c.element_on.new.store in
@@ -142,11 +147,11 @@ arrays::elements_on-returns-in_default-2 t c =
 
 pub arrays::element_on-put_element-requires-clause-ready : goal.arrays::element_on-put_element-requires-clause-ready
 arrays::element_on-put_element-requires-clause-ready t c =
-    let fs = trees_of c.args.site.now.codes.now.items in
-    let w = c.args.site.now.widget in
+    let fs = trees_of c.args.here.now.site.now.codes.now.items in
+    let w = c.args.here.now.site.now.widget in
     let old = c.args.store.now in
     let mid = c.eval_on.new.store in
-    let place = c.args.place.now in
+    let place = c.args.here.now.at in
     let p : State → Plan = λ s. Do (job_of fs w old.cells (job.Eval c.args.at.3 place)) s Ret in
     let had = c.args.run.now in
     let has = c.eval_on.new.run in
@@ -158,11 +163,11 @@ arrays::element_on-put_element-requires-clause-ready t c =
 
 pub arrays::element_on-put_element-requires-clause-held : goal.arrays::element_on-put_element-requires-clause-held
 arrays::element_on-put_element-requires-clause-held t c =
-    let fs = trees_of c.args.site.now.codes.now.items in
-    let w = c.args.site.now.widget in
+    let fs = trees_of c.args.here.now.site.now.codes.now.items in
+    let w = c.args.here.now.site.now.widget in
     let old = c.args.store.now in
     let mid = c.eval_on.new.store in
-    let place = c.args.place.now in
+    let place = c.args.here.now.at in
     let p : State → Plan = λ s. Do (job_of fs w old.cells (job.Eval c.args.at.3 place)) s Ret in
     let had = c.args.run.now in
     let has = c.eval_on.new.run in
@@ -174,11 +179,11 @@ arrays::element_on-put_element-requires-clause-held t c =
 
 pub arrays::element_on-returns-in-Is-clause-goes : goal.arrays::element_on-returns-in-Is-clause-goes
 arrays::element_on-returns-in-Is-clause-goes t c =
-    let fs = trees_of c.args.site.now.codes.now.items in
-    let w = c.args.site.now.widget in
+    let fs = trees_of c.args.here.now.site.now.codes.now.items in
+    let w = c.args.here.now.site.now.widget in
     let old = c.args.store.now in
     let mid = c.eval_on.new.store in
-    let place = c.args.place.now in
+    let place = c.args.here.now.at in
     let p : State → Plan = λ s. Do (job_of fs w old.cells (job.Eval c.args.at.3 place)) s Ret in
     let had = c.args.run.now in
     let has = c.eval_on.new.run in
@@ -207,11 +212,11 @@ arrays::element_on-returns-in-Is-clause-goes t c =
 
 pub arrays::element_on-returns-in-Is-clause-comes : goal.arrays::element_on-returns-in-Is-clause-comes
 arrays::element_on-returns-in-Is-clause-comes t c =
-    let fs = trees_of c.args.site.now.codes.now.items in
-    let w = c.args.site.now.widget in
+    let fs = trees_of c.args.here.now.site.now.codes.now.items in
+    let w = c.args.here.now.site.now.widget in
     let old = c.args.store.now in
     let mid = c.eval_on.new.store in
-    let place = c.args.place.now in
+    let place = c.args.here.now.at in
     let p : State → Plan = λ s. Do (job_of fs w old.cells (job.Eval c.args.at.3 place)) s Ret in
     let had = c.args.run.now in
     let has = c.eval_on.new.run in
@@ -236,18 +241,18 @@ arrays::element_on-returns-in-Is-clause-comes t c =
 
 pub arrays::element_on-returns-in-Is-clause-kept : goal.arrays::element_on-returns-in-Is-clause-kept
 arrays::element_on-returns-in-Is-clause-kept t c =
-    kept_then (trees_of c.args.site.now.codes.now.items) c.args.site.now.widget c.args.store.now c.eval_on.new.store c.put_element.new.store c.in_ok-how.ensures.kept c.put_element.ensures.kept
+    kept_then (trees_of c.args.here.now.site.now.codes.now.items) c.args.here.now.site.now.widget c.args.store.now c.eval_on.new.store c.put_element.new.store c.in_ok-how.ensures.kept c.put_element.ensures.kept
 
 pub arrays::element_on-returns-in-Left-clause-goes : goal.arrays::element_on-returns-in-Left-clause-goes
 arrays::element_on-returns-in-Left-clause-goes t c = IfOk-weaker c.wait.result _ _ (λ h x t. absurd (left_no_value h x t)) c.wait.ensures.left
 
 pub arrays::element_on-returns-in-Left-clause-comes : goal.arrays::element_on-returns-in-Left-clause-comes
 arrays::element_on-returns-in-Left-clause-comes t c =
-    let fs = trees_of c.args.site.now.codes.now.items in
-    let w = c.args.site.now.widget in
+    let fs = trees_of c.args.here.now.site.now.codes.now.items in
+    let w = c.args.here.now.site.now.widget in
     let old = c.args.store.now in
     let mid = c.eval_on.new.store in
-    let place = c.args.place.now in
+    let place = c.args.here.now.at in
     let p : State → Plan = λ s. Do (job_of fs w old.cells (job.Eval c.args.at.3 place)) s Ret in
     let had = c.args.run.now in
     let has = c.eval_on.new.run in
@@ -269,11 +274,11 @@ arrays::element_on-returns-in-Left-clause-comes t c =
 
 pub arrays::element_on-returns-in_default : goal.arrays::element_on-returns-in_default
 arrays::element_on-returns-in_default t c =
-    let fs = trees_of c.args.site.now.codes.now.items in
-    let w = c.args.site.now.widget in
+    let fs = trees_of c.args.here.now.site.now.codes.now.items in
+    let w = c.args.here.now.site.now.widget in
     let old = c.args.store.now in
     let mid = c.eval_on.new.store in
-    let place = c.args.place.now in
+    let place = c.args.here.now.at in
     let p : State → Plan = λ s. Do (job_of fs w old.cells (job.Eval c.args.at.3 place)) s Ret in
     let had = c.args.run.now in
     let has = c.eval_on.new.run in
@@ -296,265 +301,987 @@ arrays::element_on-returns-in_default t c =
       kept = kept;
     }
 
-pub calls::call_on-arguments_on-requires : goal.calls::call_on-arguments_on-requires
-calls::call_on-arguments_on-requires t c = (
+pub assigning::assign_on-returns-in-Assign-clause-comes : goal.assigning::assign_on-returns-in-Assign-clause-comes
+assigning::assign_on-returns-in-Assign-clause-comes t c =
+    let fs = trees_of c.args.here.now.site.now.codes.now.items in
+    let w = c.args.here.now.site.now.widget in
+    let s = c.args.store.now in
+    let j = job_of fs w s.cells (job.Target c.args.parts.0 c.args.here.now.at) in
+    let p = λ (o : AssignOp) (t : State). Do j t (form_taken fs w s.cells (form.AssignTarget o c.args.parts.1 c.args.here.now.at)) in
+    IfOk-weaker c.assign_plain.result _ _
+    (λ how h. instead fs w s c.assign_plain.new.store 30 30 (p assignment.Assign) (p c.args.op) c.args.run.now c.assign_plain.new.run how (ended_as how c.assign_plain.new.out) h
+    (λ r. ap (λ (o : AssignOp). p o (image fs r w s)) c.in-Assign.is) (omega arith))
+    c.assign_plain.ensures.comes
+
+pub assigning::assign_plain-returns-in-Name-clause-comes : goal.assigning::assign_plain-returns-in-Name-clause-comes
+assigning::assign_plain-returns-in-Name-clause-comes t c =
+    let fs = trees_of c.args.here.now.site.now.codes.now.items in
+    let w = c.args.here.now.site.now.widget in
+    let s = c.args.store.now in
+    let code = c.args.here.now.at.code in
+    let f = trees c.args.here.now.tree.now in
+    let node = c.expr.result.now in
+    let here = c.requires.tree in
+    let pl = place_of w s.cells c.args.here.now.at in
+    let j = job_of fs w s.cells (job.Target c.args.parts.0 c.args.here.now.at) in
+    let k = form_taken fs w s.cells (form.AssignTarget assignment.Assign c.args.parts.1 c.args.here.now.at) in
+    let p = λ (t : State). Do (job_of fs w s.cells (job.Eval c.args.parts.1 c.args.here.now.at)) t (form_taken fs w s.cells (form.Write (reference.Variable c.in-Name.name) c.args.here.now.at)) in
+    IfOk-weaker c.assign_name.result _ _
+    (λ how h. unit_first fs w s c.assign_name.new.store 1 30 j p k c.args.run.now (record c.args.run.now { units = c.args.run.now.units - 1 }) c.assign_name.new.run how (ended_as how c.assign_name.new.out) (less_one c.args.run.now.units c.if-run-eq0.false)
+    (λ x. ap (λ q. and_then q k) (at_target fs code f c.args.parts.0 node here c.expr.ensures.same pl x ∙ ap (λ (e : Expr). target (plain_form (forest_at fs code) e) pl x) c.in-Name.is)) h (omega arith))
+    c.assign_name.ensures.comes
+
+pub assigning::assign_name-write_name-requires-clause-ready : goal.assigning::assign_name-write_name-requires-clause-ready
+assigning::assign_name-write_name-requires-clause-ready t c =
+    let fs = trees_of c.args.here.now.site.now.codes.now.items in
+    let w = c.args.here.now.site.now.widget in
+    let s = c.args.store.now in
+    value_ready fs w s c.operand_on.new.store 0 (λ t. Do (job_of fs w s.cells (job.Eval c.args.e c.args.here.now.at)) t Ret) c.args.run.now c.operand_on.new.run c.in_ok-other.other _ c.in_ok-other.ensures.comes c.in-Is.is c.operand_on.ensures.kept c.requires.ready
+
+pub assigning::assign_name-write_name-requires-clause-to : goal.assigning::assign_name-write_name-requires-clause-to
+assigning::assign_name-write_name-requires-clause-to t c =
+    let fs = trees_of c.args.here.now.site.now.codes.now.items in
+    let w = c.args.here.now.site.now.widget in
+    let s = c.args.store.now in
+    place_fine fs w s.cells c.operand_on.new.store.cells c.operand_on.ensures.kept.grows c.args.here.now.at c.requires.held.0
+
+pub assigning::assign_name-write_name-requires-clause-value : goal.assigning::assign_name-write_name-requires-clause-value
+assigning::assign_name-write_name-requires-clause-value t c =
+    let fs = trees_of c.args.here.now.site.now.codes.now.items in
+    let w = c.args.here.now.site.now.widget in
+    let s = c.args.store.now in
+    value_fine fs w s c.operand_on.new.store 0 (λ t. Do (job_of fs w s.cells (job.Eval c.args.e c.args.here.now.at)) t Ret) c.args.run.now c.operand_on.new.run c.in_ok-other.other c.operand_on.new.out c.in_ok-other.ensures.comes c.in-Is.is
+
+pub assigning::assign_name-returns-in-Is-clause-comes : goal.assigning::assign_name-returns-in-Is-clause-comes
+assigning::assign_name-returns-in-Is-clause-comes t c =
+    let fs = trees_of c.args.here.now.site.now.codes.now.items in
+    let w = c.args.here.now.site.now.widget in
+    let s = c.args.store.now in
+    IfOk-weaker c.write_name.result _ _
+    (λ how h. value_then fs w s c.operand_on.new.store c.write_name.new.store 0 1 1 (λ t. Do (job_of fs w s.cells (job.Eval c.args.e c.args.here.now.at)) t Ret) (form.Write (reference.Variable c.args.name.now) c.args.here.now.at) c.args.run.now c.operand_on.new.run c.operand_on.new.run c.in_ok-other.other how c.operand_on.new.out (ended_as how c.operand_on.new.out)
+    c.in_ok-other.ensures.comes c.in-Is.is c.operand_on.ensures.kept (tt, c.requires.held.0) h (omega arith))
+    c.write_name.ensures.comes
+
+pub assigning::assign_name-returns-in-Is-clause-kept : goal.assigning::assign_name-returns-in-Is-clause-kept
+assigning::assign_name-returns-in-Is-clause-kept t c =
+    let fs = trees_of c.args.here.now.site.now.codes.now.items in
+    let w = c.args.here.now.site.now.widget in
+    let s = c.args.store.now in
+    kept_then fs w s c.operand_on.new.store c.write_name.new.store c.operand_on.ensures.kept c.write_name.ensures.kept
+
+pub assigning::assign_name-returns-in_default-clause-comes : goal.assigning::assign_name-returns-in_default-clause-comes
+assigning::assign_name-returns-in_default-clause-comes t c =
+    let fs = trees_of c.args.here.now.site.now.codes.now.items in
+    let w = c.args.here.now.site.now.widget in
+    let s = c.args.store.now in
+    hand_form fs w c.hand_write.result s c.operand_on.new.store 0 1 (λ t. Do (job_of fs w s.cells (job.Eval c.args.e c.args.here.now.at)) t Ret) (form.Write (reference.Variable c.args.name.now) c.args.here.now.at) c.args.run.now c.operand_on.new.run c.hand_write.new.run c.in_ok-other.other c.operand_on.new.out
+    c.in_ok-other.ensures.comes c.in_default.not-Is c.operand_on.ensures.kept (tt, c.requires.held.0) (omega arith) c.hand_write.ensures
+
+pub assigning::assign_reached-assign_value-requires : goal.assigning::assign_reached-assign_value-requires
+assigning::assign_reached-assign_value-requires t c = (
   search rules,
   (
     (
-        let fs = trees_of c.args.site.now.codes.now.items in
-        let w = c.args.site.now.widget in
-        let old = c.args.store.now in
-        let p : State → Plan = λ s. Do (job_of fs w old.cells (job.Target c.args.to c.args.place.now)) s Ret in
-        value_ready fs w old c.target_on.new.store 0 p c.args.run.now c.target_on.new.run c.in_ok-other.other (target_as c.in_ok-other.other c.target_on.new.of c.target_on.new.out) c.in_ok-other.ensures.comes c.in-Is.is c.target_on.ensures.kept c.requires.ready
+        let fs = trees_of c.args.here.now.site.now.codes.now.items in
+        let w = c.args.here.now.site.now.widget in
+        let s = c.args.store.now in
+        value_ready fs w s c.target_on.new.store 0 (λ t. Do (job_of fs w s.cells (job.Target c.args.parts.0 c.args.here.now.at)) t Ret) c.args.run.now c.target_on.new.run c.in_ok-other.other _ c.in_ok-other.ensures.comes c.in-Is.is c.target_on.ensures.kept c.requires.ready
         ),
     (
-        let fs = trees_of c.args.site.now.codes.now.items in
-        let w = c.args.site.now.widget in
-        let old = c.args.store.now in
-        let p : State → Plan = λ s. Do (job_of fs w old.cells (job.Target c.args.to c.args.place.now)) s Ret in (
-          expr_stays fs w old.cells c.target_on.new.store.cells c.target_on.ensures.kept.grows c.args.id c.args.place.now c.requires.held.0,
-          target_fine fs w old c.target_on.new.store 0 p c.args.run.now c.target_on.new.run c.in_ok-other.other c.target_on.new.of c.target_on.new.out c.in_ok-other.ensures.comes c.in-Is.is,
-        )
-        ),
+      (
+          let fs = trees_of c.args.here.now.site.now.codes.now.items in
+          let w = c.args.here.now.site.now.widget in
+          let s = c.args.store.now in (
+            expr_stays fs w s.cells c.target_on.new.store.cells c.target_on.ensures.kept.grows c.args.parts.1 c.args.here.now.at c.requires.held.1,
+            target_fine fs w s c.target_on.new.store 0 (λ t. Do (job_of fs w s.cells (job.Target c.args.parts.0 c.args.here.now.at)) t Ret) c.args.run.now c.target_on.new.run c.in_ok-other.other c.target_on.new.of c.target_on.new.out c.in_ok-other.ensures.comes c.in-Is.is,
+          )
+          ),
+      c.requires.tree,
+    ),
   ),
 )
 
-pub calls::call_on-returns-in-Is-clause-comes : goal.calls::call_on-returns-in-Is-clause-comes
-calls::call_on-returns-in-Is-clause-comes t c =
-    let fs = trees_of c.args.site.now.codes.now.items in
-    let w = c.args.site.now.widget in
-    let old = c.args.store.now in
-    let mid = c.target_on.new.store in
-    let p : State → Plan = λ s. Do (job_of fs w old.cells (job.Target c.args.to c.args.place.now)) s Ret in
-    IfOk-weaker c.arguments_on.result _ _
-    (λ how h. callee_there fs w old mid p c.args.run.now c.target_on.new.run _ c.target_on.new.of c.target_on.new.out c.args.id c.args.place.now c.requires.held.0 c.target_on.ensures.kept
-    c.in_ok-other.ensures.comes c.arguments_on.new.store c.arguments_on.new.run how (ended_as how c.arguments_on.new.out) c.in-Is.is h)
-    c.arguments_on.ensures.comes
+pub assigning::assign_reached-returns-in-Is-clause-comes : goal.assigning::assign_reached-returns-in-Is-clause-comes
+assigning::assign_reached-returns-in-Is-clause-comes t c =
+    let fs = trees_of c.args.here.now.site.now.codes.now.items in
+    let w = c.args.here.now.site.now.widget in
+    let s = c.args.store.now in
+    IfOk-weaker c.assign_value.result _ _
+    (λ how h. target_then fs w s c.target_on.new.store c.assign_value.new.store 0 12 30 (λ t. Do (job_of fs w s.cells (job.Target c.args.parts.0 c.args.here.now.at)) t Ret) (form.AssignTarget c.args.op c.args.parts.1 c.args.here.now.at) c.args.run.now c.target_on.new.run c.assign_value.new.run c.in_ok-other.other how c.target_on.new.of c.target_on.new.out (ended_as how c.assign_value.new.out)
+    c.in_ok-other.ensures.comes c.in-Is.is c.target_on.ensures.kept c.requires.held.1 h (omega arith))
+    c.assign_value.ensures.comes
 
-pub calls::call_on-returns-in-Is-clause-kept : goal.calls::call_on-returns-in-Is-clause-kept
-calls::call_on-returns-in-Is-clause-kept t c =
-    kept_then (trees_of c.args.site.now.codes.now.items) c.args.site.now.widget c.args.store.now c.target_on.new.store c.arguments_on.new.store c.target_on.ensures.kept c.arguments_on.ensures.kept
+pub assigning::assign_reached-returns-in-Is-clause-kept : goal.assigning::assign_reached-returns-in-Is-clause-kept
+assigning::assign_reached-returns-in-Is-clause-kept t c =
+    let fs = trees_of c.args.here.now.site.now.codes.now.items in
+    let w = c.args.here.now.site.now.widget in
+    let s = c.args.store.now in
+    kept_then fs w s c.target_on.new.store c.assign_value.new.store c.target_on.ensures.kept c.assign_value.ensures.kept
 
-pub calls::call_on-returns-in-Left-clause-comes : goal.calls::call_on-returns-in-Left-clause-comes
-calls::call_on-returns-in-Left-clause-comes t c =
-    let fs = trees_of c.args.site.now.codes.now.items in
-    let w = c.args.site.now.widget in
-    let old = c.args.store.now in
-    let mid = c.target_on.new.store in
-    let p : State → Plan = λ s. Do (job_of fs w old.cells (job.Target c.args.to c.args.place.now)) s Ret in
-    frame_waits fs w c.wait_callee.result old mid 0 30 p (frame.Call (call.Callee c.args.id c.args.place.now)) c.args.run.now c.target_on.new.run c.wait_callee.new.run c.in_ok-other.other
-    (target_as c.in_ok-other.other c.target_on.new.of c.target_on.new.out) (λ how. ended_as how c.target_on.new.out)
-    c.in_ok-other.ensures.comes c.in-Left.is c.target_on.ensures.kept c.requires.held.0 (omega arith) c.wait_callee.ensures.left c.wait_callee.ensures.waits c.wait_callee.ensures.next c.wait_callee.ensures.units
+pub assigning::assign_reached-returns-in-Left-clause-comes : goal.assigning::assign_reached-returns-in-Left-clause-comes
+assigning::assign_reached-returns-in-Left-clause-comes t c =
+    let fs = trees_of c.args.here.now.site.now.codes.now.items in
+    let w = c.args.here.now.site.now.widget in
+    let s = c.args.store.now in
+    frame_waits fs w c.wait_target.result s c.target_on.new.store 0 30 (λ t. Do (job_of fs w s.cells (job.Target c.args.parts.0 c.args.here.now.at)) t Ret) (frame.Form (form.AssignTarget c.args.op c.args.parts.1 c.args.here.now.at)) c.args.run.now c.target_on.new.run c.wait_target.new.run c.in_ok-other.other (target_as c.in_ok-other.other c.target_on.new.of c.target_on.new.out) (λ h. ended_as h c.target_on.new.out)
+    c.in_ok-other.ensures.comes c.in-Left.is c.target_on.ensures.kept c.requires.held.1 (omega arith) c.wait_target.ensures.left c.wait_target.ensures.waits c.wait_target.ensures.next c.wait_target.ensures.units
 
-pub calls::call_on-returns-in_default : goal.calls::call_on-returns-in_default
-calls::call_on-returns-in_default t c =
-    let fs = trees_of c.args.site.now.codes.now.items in
-    let w = c.args.site.now.widget in
-    let old = c.args.store.now in
-    let mid = c.target_on.new.store in
-    let p : State → Plan = λ s. Do (job_of fs w old.cells (job.Target c.args.to c.args.place.now)) s Ret in
+pub assigning::assign_reached-returns-in_default : goal.assigning::assign_reached-returns-in_default
+assigning::assign_reached-returns-in_default t c =
+    let fs = trees_of c.args.here.now.site.now.codes.now.items in
+    let w = c.args.here.now.site.now.widget in
+    let s = c.args.store.now in
     record {
-      comes = callee_passes fs w old mid p c.args.run.now c.target_on.new.run c.in_ok-other.other c.target_on.new.of c.target_on.new.out c.args.id c.args.place.now c.requires.held.0 c.target_on.ensures.kept
-          c.in_ok-other.ensures.comes c.in_default.not-Left c.in_default.not-Is;
+      comes = value_passes fs w s c.target_on.new.store 0 30 (λ t. Do (job_of fs w s.cells (job.Target c.args.parts.0 c.args.here.now.at)) t Ret) (form.AssignTarget c.args.op c.args.parts.1 c.args.here.now.at) c.args.run.now c.target_on.new.run c.in_ok-other.other c.target_on.new.out
+          (target_ends fs w s c.target_on.new.store 0 (λ t. Do (job_of fs w s.cells (job.Target c.args.parts.0 c.args.here.now.at)) t Ret) c.args.run.now c.target_on.new.run c.in_ok-other.other c.target_on.new.of c.target_on.new.out c.in_ok-other.ensures.comes c.in_default.not-Is) c.in_default.not-Is c.in_default.not-Left c.target_on.ensures.kept c.requires.held.1 (omega arith);
       kept = c.target_on.ensures.kept;
     }
 
-pub calls::call_on-target_on-requires : goal.calls::call_on-target_on-requires
-calls::call_on-target_on-requires t c = (
+pub assigning::assign_value-returns-in-Assign-clause-comes : goal.assigning::assign_value-returns-in-Assign-clause-comes
+assigning::assign_value-returns-in-Assign-clause-comes t c =
+    let fs = trees_of c.args.here.now.site.now.codes.now.items in
+    let w = c.args.here.now.site.now.widget in
+    let s = c.args.store.now in
+    let p = λ (o : AssignOp) (t : State). form_taken fs w s.cells (form.AssignTarget o c.args.e c.args.here.now.at) (meaning.Refers (reference_of w s.cells c.args.of.now)) t in
+    IfOk-weaker c.assign_written.result _ _
+    (λ how h. instead fs w s c.assign_written.new.store 1 12 (p assignment.Assign) (p c.args.op) c.args.run.now c.assign_written.new.run how (ended_as how c.assign_written.new.out) h
+    (λ r. ap (λ (o : AssignOp). p o (image fs r w s)) c.in-Assign.is) (omega arith))
+    c.assign_written.ensures.comes
+
+pub assigning::assign_written-write_value-requires-clause-ready : goal.assigning::assign_written-write_value-requires-clause-ready
+assigning::assign_written-write_value-requires-clause-ready t c =
+    let fs = trees_of c.args.here.now.site.now.codes.now.items in
+    let w = c.args.here.now.site.now.widget in
+    let s = c.args.store.now in
+    value_ready fs w s c.eval_on.new.store 0 (λ t. Do (job_of fs w s.cells (job.Eval c.args.e c.args.here.now.at)) t Ret) c.args.run.now c.eval_on.new.run c.in_ok-other.other _ c.in_ok-other.ensures.comes c.in-Is.is c.eval_on.ensures.kept c.requires.ready
+
+pub assigning::assign_written-write_value-requires-clause-to : goal.assigning::assign_written-write_value-requires-clause-to
+assigning::assign_written-write_value-requires-clause-to t c =
+    let fs = trees_of c.args.here.now.site.now.codes.now.items in
+    let w = c.args.here.now.site.now.widget in
+    let s = c.args.store.now in (
+      reference_fine w s.cells c.eval_on.new.store.cells c.eval_on.ensures.kept.grows c.args.of.now c.requires.held.1,
+      place_fine fs w s.cells c.eval_on.new.store.cells c.eval_on.ensures.kept.grows c.args.here.now.at c.requires.held.0.0,
+    )
+
+pub assigning::assign_written-write_value-requires-clause-value : goal.assigning::assign_written-write_value-requires-clause-value
+assigning::assign_written-write_value-requires-clause-value t c =
+    let fs = trees_of c.args.here.now.site.now.codes.now.items in
+    let w = c.args.here.now.site.now.widget in
+    let s = c.args.store.now in
+    value_fine fs w s c.eval_on.new.store 0 (λ t. Do (job_of fs w s.cells (job.Eval c.args.e c.args.here.now.at)) t Ret) c.args.run.now c.eval_on.new.run c.in_ok-other.other c.eval_on.new.out c.in_ok-other.ensures.comes c.in-Is.is
+
+pub assigning::assign_written-returns-in-Is-clause-comes : goal.assigning::assign_written-returns-in-Is-clause-comes
+assigning::assign_written-returns-in-Is-clause-comes t c =
+    let fs = trees_of c.args.here.now.site.now.codes.now.items in
+    let w = c.args.here.now.site.now.widget in
+    let s = c.args.store.now in
+    IfOk-weaker c.write_value.result _ _
+    (λ how h. value_then fs w s c.eval_on.new.store c.write_value.new.store 0 1 1 (λ t. Do (job_of fs w s.cells (job.Eval c.args.e c.args.here.now.at)) t Ret) (form.Write c.args.of.now c.args.here.now.at) c.args.run.now c.eval_on.new.run c.write_value.new.run c.in_ok-other.other how c.eval_on.new.out (ended_as how c.write_value.new.out)
+    c.in_ok-other.ensures.comes c.in-Is.is c.eval_on.ensures.kept (c.requires.held.1, c.requires.held.0.0) h (omega arith))
+    c.write_value.ensures.comes
+
+pub assigning::assign_written-returns-in-Is-clause-kept : goal.assigning::assign_written-returns-in-Is-clause-kept
+assigning::assign_written-returns-in-Is-clause-kept t c =
+    let fs = trees_of c.args.here.now.site.now.codes.now.items in
+    let w = c.args.here.now.site.now.widget in
+    let s = c.args.store.now in
+    kept_then fs w s c.eval_on.new.store c.write_value.new.store c.eval_on.ensures.kept c.write_value.ensures.kept
+
+pub assigning::assign_written-returns-in-Left-clause-comes : goal.assigning::assign_written-returns-in-Left-clause-comes
+assigning::assign_written-returns-in-Left-clause-comes t c =
+    let fs = trees_of c.args.here.now.site.now.codes.now.items in
+    let w = c.args.here.now.site.now.widget in
+    let s = c.args.store.now in
+    frame_waits fs w c.wait_written.result s c.eval_on.new.store 0 1 (λ t. Do (job_of fs w s.cells (job.Eval c.args.e c.args.here.now.at)) t Ret) (frame.Form (form.Write c.args.of.now c.args.here.now.at)) c.args.run.now c.eval_on.new.run c.wait_written.new.run c.in_ok-other.other (ended_as c.in_ok-other.other c.eval_on.new.out) (λ h. ended_as h c.eval_on.new.out)
+    c.in_ok-other.ensures.comes c.in-Left.is c.eval_on.ensures.kept (c.requires.held.1, c.requires.held.0.0) (omega arith) c.wait_written.ensures.left c.wait_written.ensures.waits c.wait_written.ensures.next c.wait_written.ensures.units
+
+pub assigning::assign_written-returns-in_default : goal.assigning::assign_written-returns-in_default
+assigning::assign_written-returns-in_default t c =
+    let fs = trees_of c.args.here.now.site.now.codes.now.items in
+    let w = c.args.here.now.site.now.widget in
+    let s = c.args.store.now in
+    record {
+      comes = value_passes fs w s c.eval_on.new.store 0 1 (λ t. Do (job_of fs w s.cells (job.Eval c.args.e c.args.here.now.at)) t Ret) (form.Write c.args.of.now c.args.here.now.at) c.args.run.now c.eval_on.new.run c.in_ok-other.other c.eval_on.new.out c.in_ok-other.ensures.comes c.in_default.not-Is c.in_default.not-Left c.eval_on.ensures.kept (c.requires.held.1, c.requires.held.0.0) (omega arith);
+      kept = c.eval_on.ensures.kept;
+    }
+
+pub assigning::assign_computed-assign_with-requires : goal.assigning::assign_computed-assign_with-requires
+assigning::assign_computed-assign_with-requires t c = (
   search rules,
   (
-    (c.requires.ready),
-    (c.requires.held.1),
+    search rules,
+    (
+      ((c.requires.held.0, c.requires.held.1, c.in_ok-has.ensures.fine)),
+      c.requires.tree,
+    ),
   ),
 )
 
-pub calls::call_on-returns-in_err-other-clause-comes : goal.calls::call_on-returns-in_err-other-clause-comes
-calls::call_on-returns-in_err-other-clause-comes t c = refused c.from_residual.result _ c.from_residual.ensures.0
+pub assigning::assign_computed-returns-clause-comes : goal.assigning::assign_computed-returns-clause-comes
+assigning::assign_computed-returns-clause-comes t c =
+    let fs = trees_of c.args.here.now.site.now.codes.now.items in
+    let w = c.args.here.now.site.now.widget in
+    let s = c.args.store.now in
+    let j = job_of fs w s.cells (job.Eval c.args.e c.args.here.now.at) in
+    let pl = place_of w s.cells c.args.here.now.at in
+    let of = reference_of w s.cells c.args.of.now in
+    IfOk-weaker c.assign_with.result _ _
+    (λ how h. instead fs w s c.assign_with.new.store 12 12 (λ t. Do j t (assign_with c.args.op of (seen w s.cells c.in_ok-has.has) pl))
+    (form_taken fs w s.cells (form.AssignTarget c.args.op c.args.e c.args.here.now.at) (meaning.Refers of)) c.args.run.now c.assign_with.new.run how (ended_as how c.assign_with.new.out) h
+    (λ r. (λ i. Do j (image fs r w s) (assign_with c.args.op of (sym (c.in_ok-has.ensures.found r) i) pl))) (omega arith))
+    c.assign_with.ensures.comes
 
-pub calls::call_on-returns-in_err-other-clause-kept : goal.calls::call_on-returns-in_err-other-clause-kept
-calls::call_on-returns-in_err-other-clause-kept t c = c.target_on.ensures.kept
+pub assigning::assign_with-compute_on-requires-clause-ready : goal.assigning::assign_with-compute_on-requires-clause-ready
+assigning::assign_with-compute_on-requires-clause-ready t c =
+    let fs = trees_of c.args.here.now.site.now.codes.now.items in
+    let w = c.args.here.now.site.now.widget in
+    let s = c.args.store.now in
+    value_ready fs w s c.eval_on.new.store 0 (λ t. Do (job_of fs w s.cells (job.Eval c.args.by.1 c.args.here.now.at)) t Ret) c.args.run.now c.eval_on.new.run c.in_ok-other.other _ c.in_ok-other.ensures.comes c.in-Is.is c.eval_on.ensures.kept c.requires.ready
 
-pub calls::call_on-returns-in-Left-clause-kept : goal.calls::call_on-returns-in-Left-clause-kept
-calls::call_on-returns-in-Left-clause-kept t c = c.target_on.ensures.kept
+pub assigning::assign_with-compute_on-requires-clause-held : goal.assigning::assign_with-compute_on-requires-clause-held
+assigning::assign_with-compute_on-requires-clause-held t c =
+    let fs = trees_of c.args.here.now.site.now.codes.now.items in
+    let w = c.args.here.now.site.now.widget in
+    let s = c.args.store.now in
+    let to : Assigning = record { op = c.args.by.0; of = c.args.of.now; has = c.args.has.now; place = c.args.here.now.at } in
+    let t = c.eval_on.new.store in
+    let g = c.eval_on.ensures.kept.grows in
+    let held : FineAssigning fs w s.cells to = (c.requires.held.1, c.requires.held.2, c.requires.held.0.0) in (
+      reference_fine w s.cells t.cells g to.of held.0,
+      fine_stays w s.cells t.cells g to.has held.1,
+      value_fine fs w s t 0 (λ t. Do (job_of fs w s.cells (job.Eval c.args.by.1 c.args.here.now.at)) t Ret) c.args.run.now c.eval_on.new.run c.in_ok-other.other c.eval_on.new.out c.in_ok-other.ensures.comes c.in-Is.is,
+    )
+
+pub assigning::assign_with-compute_on-requires-clause-place : goal.assigning::assign_with-compute_on-requires-clause-place
+assigning::assign_with-compute_on-requires-clause-place t c =
+    place_fine (trees_of c.args.here.now.site.now.codes.now.items) c.args.here.now.site.now.widget c.args.store.now.cells c.eval_on.new.store.cells c.eval_on.ensures.kept.grows c.args.here.now.at c.requires.held.0.0
+
+pub assigning::assign_with-returns-in-Is-clause-comes : goal.assigning::assign_with-returns-in-Is-clause-comes
+assigning::assign_with-returns-in-Is-clause-comes t c =
+    let fs = trees_of c.args.here.now.site.now.codes.now.items in
+    let w = c.args.here.now.site.now.widget in
+    let s = c.args.store.now in
+    let to : Assigning = record { op = c.args.by.0; of = c.args.of.now; has = c.args.has.now; place = c.args.here.now.at } in
+    let t = c.eval_on.new.store in
+    let g = c.eval_on.ensures.kept.grows in
+    let held : FineAssigning fs w s.cells to = (c.requires.held.1, c.requires.held.2, c.requires.held.0.0) in
+    let k = λ (x : List PlainCell). assign_with to.op (reference_of w x to.of) (seen w x to.has) (place_of w x to.place) in
+    IfOk-weaker c.compute_on.result _ _
+    (λ how h. goes_on fs w s t c.compute_on.new.store 0 12 12 (λ t. Do (job_of fs w s.cells (job.Eval c.args.by.1 c.args.here.now.at)) t Ret) (k s.cells) (k t.cells) c.args.run.now c.eval_on.new.run c.compute_on.new.run c.in_ok-other.other how c.eval_on.new.out (ended_as how c.compute_on.new.out)
+    c.in_ok-other.ensures.comes c.in-Is.is (λ i. assign_with to.op (sym (reference_same w s.cells t.cells g to.of held.0) i) (sym (seen_stays w s.cells t.cells g to.has held.1) i) (sym (place_same fs w s.cells t.cells g to.place held.2) i)) h (omega arith))
+    c.compute_on.ensures.comes
+
+pub assigning::assign_with-returns-in-Is-clause-kept : goal.assigning::assign_with-returns-in-Is-clause-kept
+assigning::assign_with-returns-in-Is-clause-kept t c =
+    let fs = trees_of c.args.here.now.site.now.codes.now.items in
+    let w = c.args.here.now.site.now.widget in
+    let s = c.args.store.now in
+    kept_then fs w s c.eval_on.new.store c.compute_on.new.store c.eval_on.ensures.kept c.compute_on.ensures.kept
+
+pub assigning::assign_with-returns-in_ok-boxed-in-Left-clause-comes : goal.assigning::assign_with-returns-in_ok-boxed-in-Left-clause-comes
+assigning::assign_with-returns-in_ok-boxed-in-Left-clause-comes t c =
+    let fs = trees_of c.args.here.now.site.now.codes.now.items in
+    let w = c.args.here.now.site.now.widget in
+    let s = c.args.store.now in
+    let to : Assigning = record { op = c.args.by.0; of = c.args.of.now; has = c.args.has.now; place = c.args.here.now.at } in
+    let t = c.eval_on.new.store in
+    let g = c.eval_on.ensures.kept.grows in
+    let held : FineAssigning fs w s.cells to = (c.requires.held.1, c.requires.held.2, c.requires.held.0.0) in
+    let b = c.in_ok-boxed-in-Left.boxed in
+    let same = c.in_ok-boxed-in-Left.ensures in
+    let j = job_of fs w s.cells (job.Eval c.args.by.1 c.args.here.now.at) in
+    let k = λ (a : Assigning). assign_with a.op (reference_of w s.cells a.of) (seen w s.cells a.has) (place_of w s.cells a.place) in
+    IfOk-weaker c.wait.result _ _
+    (λ how h. instead fs w s t 12 12 (λ x. Do j x (k b.value)) (λ x. Do j x (k to)) c.args.run.now c.wait.new.run how (ended_as how c.eval_on.new.out) h
+    (λ r. ap (λ (a : Assigning). Do j (image fs r w s) (k a)) (sym same)) (omega arith))
+    (frame_waits fs w c.wait.result s t 0 12 (λ t. Do (job_of fs w s.cells (job.Eval c.args.by.1 c.args.here.now.at)) t Ret) (frame.Form (form.AssignWith b)) c.args.run.now c.eval_on.new.run c.wait.new.run c.in_ok-other.other (ended_as c.in_ok-other.other c.eval_on.new.out) (λ h. ended_as h c.eval_on.new.out)
+    c.in_ok-other.ensures.comes c.in-Left.is c.eval_on.ensures.kept (subst (λ (a : Assigning). FineAssigning fs w s.cells a) (sym same) held) (omega arith) c.wait.ensures.left c.wait.ensures.waits c.wait.ensures.next c.wait.ensures.units)
+
+pub assigning::assign_with-returns-in_default : goal.assigning::assign_with-returns-in_default
+assigning::assign_with-returns-in_default t c =
+    let fs = trees_of c.args.here.now.site.now.codes.now.items in
+    let w = c.args.here.now.site.now.widget in
+    let s = c.args.store.now in
+    let to : Assigning = record { op = c.args.by.0; of = c.args.of.now; has = c.args.has.now; place = c.args.here.now.at } in
+    let t = c.eval_on.new.store in
+    let g = c.eval_on.ensures.kept.grows in
+    let held : FineAssigning fs w s.cells to = (c.requires.held.1, c.requires.held.2, c.requires.held.0.0) in
+    let k = λ (x : List PlainCell). assign_with to.op (reference_of w x to.of) (seen w x to.has) (place_of w x to.place) in
+    record {
+      comes = goes_past fs w s t 0 12 (λ t. Do (job_of fs w s.cells (job.Eval c.args.by.1 c.args.here.now.at)) t Ret) (k s.cells) c.args.run.now c.eval_on.new.run c.in_ok-other.other c.eval_on.new.out c.in_ok-other.ensures.comes c.in_default.not-Is c.in_default.not-Left (λ o x h. no_value o x _ h) (omega arith);
+      kept = c.eval_on.ensures.kept;
+    }
+
+pub blocks::list_on-returns-in_err-how-clause-kept : goal.blocks::list_on-returns-in_err-how-clause-kept
+blocks::list_on-returns-in_err-how-clause-kept t c =
+    kept_then (trees_of c.args.here.now.site.now.codes.now.items) c.args.here.now.site.now.widget c.args.store.now c.list.store c.exec_on.new.store c.list.invariant.1 c.in_err-how.ensures.kept
+
+pub blocks::list_on-list-preserved : goal.blocks::list_on-list-preserved
+blocks::list_on-list-preserved t c =
+    let fs = trees_of c.args.here.now.site.now.codes.now.items in
+    let w = c.args.here.now.site.now.widget in
+    let s0 = c.args.store.now in
+    let s1 = c.list.store in
+    let s2 = c.exec_on.new.store in
+    let p : State → Plan = λ s. Do (job_of fs w s1.cells (job.Exec c.in-Some.id c.args.here.now.at)) s Ret in
+    let q : State → Plan = block_at fs w s1.cells c.args.block c.list.n c.args.here.now.at in
+    let start : State → Plan = block_at fs w s0.cells c.args.block 0 c.args.here.now.at in
+    let f = (frame.Statement (statement.Seq c.args.block (c.list.n + 1) c.args.here.now.at)) in
+    let inv = c.list.invariant in
+    let kept = c.in_ok-how.ensures.kept in
+    let how = c.in_ok-how.how in
+    let out = c.exec_on.new.out in
+    let held : FineFrame fs w s1.cells f = inv.2 in
+    let g = forest_at fs c.args.here.now.at.code in
+    let has = subst (λ (o : Option StmtId). HasStmt g (block_list g c.args.block) c.list.n o) c.in-Some.is (listed (stmt_at g) (IsStmt g) c.args.list.now.items c.list.n (block_list g c.args.block) c.requires.list.0 c.requires.list.1 c.statement_in.result c.statement_in.ensures.value c.statement_in.ensures.room) in
+    let listed = has.2 in
+    let plan : (s : State) → q s ≡ and_then (p s) (taken fs w s1.cells f) = λ s. ap (λ l. statements l (place_of w s1.cells c.args.here.now.at) s) listed in
+    let one = as_is fs w s1 s2 0 p c.list.run c.exec_on.new.run how ended.Normal out c.in-Normal.is c.in_ok-how.ensures.comes in (
+      towards_each fs w s0 s1 s2 start q (block_at fs w s2.cells c.args.block (c.list.n + 1) c.args.here.now.at) c.args.run.now c.list.run c.exec_on.new.run inv.0
+          (part_next fs w s1 s2 0 q p (block_at fs w s2.cells c.args.block (c.list.n + 1) c.args.here.now.at) f c.list.run c.exec_on.new.run ended.Normal (ended_as ended.Normal out) plan one tt kept.grows held (end_ready fs w s1 s2 0 p c.list.run c.exec_on.new.run ended.Normal (ended_as ended.Normal out) one tt inv.0.ready kept) (λ r. refl)),
+      kept_then fs w s0 s1 s2 inv.1 kept,
+      (place_fine fs w s1.cells s2.cells kept.grows c.args.here.now.at held.0, held.1),
+    )
+
+pub blocks::list_on-returns-in_default-2 : goal.blocks::list_on-returns-in_default-2
+blocks::list_on-returns-in_default-2 t c =
+    let fs = trees_of c.args.here.now.site.now.codes.now.items in
+    let w = c.args.here.now.site.now.widget in
+    let s0 = c.args.store.now in
+    let s1 = c.list.store in
+    let s2 = c.exec_on.new.store in
+    let p : State → Plan = λ s. Do (job_of fs w s1.cells (job.Exec c.in-Some.id c.args.here.now.at)) s Ret in
+    let q : State → Plan = block_at fs w s1.cells c.args.block c.list.n c.args.here.now.at in
+    let start : State → Plan = block_at fs w s0.cells c.args.block 0 c.args.here.now.at in
+    let f = (frame.Statement (statement.Seq c.args.block (c.list.n + 1) c.args.here.now.at)) in
+    let inv = c.list.invariant in
+    let kept = c.in_ok-how.ensures.kept in
+    let how = c.in_ok-how.how in
+    let out = c.exec_on.new.out in
+    let held : FineFrame fs w s1.cells f = inv.2 in
+    let g = forest_at fs c.args.here.now.at.code in
+    let has = subst (λ (o : Option StmtId). HasStmt g (block_list g c.args.block) c.list.n o) c.in-Some.is (listed (stmt_at g) (IsStmt g) c.args.list.now.items c.list.n (block_list g c.args.block) c.requires.list.0 c.requires.list.1 c.statement_in.result c.statement_in.ensures.value c.statement_in.ensures.room) in
+    let listed = has.2 in
+    let plan : (s : State) → q s ≡ and_then (p s) (taken fs w s1.cells f) = λ s. ap (λ l. statements l (place_of w s1.cells c.args.here.now.at) s) listed in
+    record {
+      comes = IfOk-weaker c.hand_rest.result _ _
+          (λ h x. towards_then fs w s0 s1 s2 1 1 start q c.args.run.now c.list.run c.hand_rest.new.run h (ended_as h out) inv.0 (planned fs w s1 s2 1 q _ c.list.run c.hand_rest.new.run h (ended_as h out) plan x) (omega arith))
+          (hand_ok fs w c.hand_rest.result s1 s2 0 1 p f c.list.run c.exec_on.new.run c.hand_rest.new.run how out c.in_ok-how.ensures.comes
+          (passes_normal fs w s2.cells f how out (λ t. block_at fs w s2.cells c.args.block (c.list.n + 1) c.args.here.now.at t) c.in_default-2.not-Normal (λ o t. refl)) kept held (omega arith) c.hand_rest.ensures);
+      kept = kept_then fs w s0 s1 s2 inv.1 kept;
+    }
+
+pub blocks::list_on-returns-clause-comes : goal.blocks::list_on-returns-clause-comes
+blocks::list_on-returns-clause-comes t c =
+    let fs = trees_of c.args.here.now.site.now.codes.now.items in
+    let w = c.args.here.now.site.now.widget in
+    let s0 = c.args.store.now in
+    let s1 = c.list.store in
+    let g = forest_at fs c.args.here.now.at.code in
+    let l = block_list g c.args.block in
+    let q : State → Plan = block_at fs w s1.cells c.args.block c.list.n c.args.here.now.at in
+    let start : State → Plan = block_at fs w s0.cells c.args.block 0 c.args.here.now.at in
+    let inv = c.list.invariant in
+    let none = subst (λ (o : Option StmtId). HasStmt g l c.list.n o) c.in_default.is (listed (stmt_at g) (IsStmt g) c.args.list.now.items c.list.n l c.requires.list.0 c.requires.list.1 c.statement_in.result c.statement_in.ensures.value c.statement_in.ensures.room) in
+    towards_then fs w s0 s1 s1 1 1 start q c.args.run.now c.list.run c.list.run ended.Normal (ended_as ended.Normal c.list.out) inv.0
+    (gives fs w s1 s1 1 q c.list.run c.list.run ended.Normal (ended_as ended.Normal c.list.out) tt refl inv.0.ready.2 (λ r. ap (λ x. statements x (place_of w s1.cells c.args.here.now.at) (image fs r w s1)) none) tt (omega arith)) (omega arith)
+
+pub blocks::any_on-returns-in_err-how-clause-kept : goal.blocks::any_on-returns-in_err-how-clause-kept
+blocks::any_on-returns-in_err-how-clause-kept t c =
+    kept_then (trees_of c.args.here.now.site.now.codes.now.items) c.args.here.now.site.now.widget c.args.store.now c.list.store c.exec_on.new.store c.list.invariant.1 c.in_err-how.ensures.kept
+
+pub blocks::any_on-list-preserved : goal.blocks::any_on-list-preserved
+blocks::any_on-list-preserved t c =
+    let fs = trees_of c.args.here.now.site.now.codes.now.items in
+    let w = c.args.here.now.site.now.widget in
+    let s0 = c.args.store.now in
+    let s1 = c.list.store in
+    let s2 = c.exec_on.new.store in
+    let p : State → Plan = λ s. Do (job_of fs w s1.cells (job.Exec c.in-Some.listed.id c.args.here.now.at)) s Ret in
+    let q : State → Plan = block_at fs w s1.cells c.list.at c.list.n c.args.here.now.at in
+    let start : State → Plan = block_at fs w s0.cells c.args.block 0 c.args.here.now.at in
+    let f = (frame.Statement (statement.Seq c.in-Some.listed.block c.in-Some.listed.next c.args.here.now.at)) in
+    let inv = c.list.invariant in
+    let kept = c.in_ok-how.ensures.kept in
+    let how = c.in_ok-how.how in
+    let out = c.exec_on.new.out in
+    let held : FineFrame fs w s1.cells f = (inv.2.0, subst (λ g. IsBlock g c.in-Some.listed.block) c.requires.tree c.in-Some.ensures.1) in
+    let listed = subst (λ g. drop c.list.n (block_list g c.list.at) ≡ stmt_at g c.in-Some.listed.id ∷ drop c.in-Some.listed.next (block_list g c.in-Some.listed.block)) c.requires.tree c.in-Some.ensures.2 in
+    let plan : (s : State) → q s ≡ and_then (p s) (taken fs w s1.cells f) = λ s. ap (λ l. statements l (place_of w s1.cells c.args.here.now.at) s) listed in
+    let one = as_is fs w s1 s2 0 p c.list.run c.exec_on.new.run how ended.Normal out c.in-Normal.is c.in_ok-how.ensures.comes in (
+      towards_each fs w s0 s1 s2 start q (block_at fs w s2.cells c.in-Some.listed.block c.in-Some.listed.next c.args.here.now.at) c.args.run.now c.list.run c.exec_on.new.run inv.0
+          (part_next fs w s1 s2 0 q p (block_at fs w s2.cells c.in-Some.listed.block c.in-Some.listed.next c.args.here.now.at) f c.list.run c.exec_on.new.run ended.Normal (ended_as ended.Normal out) plan one tt kept.grows held (end_ready fs w s1 s2 0 p c.list.run c.exec_on.new.run ended.Normal (ended_as ended.Normal out) one tt inv.0.ready kept) (λ r. refl)),
+      kept_then fs w s0 s1 s2 inv.1 kept,
+      (place_fine fs w s1.cells s2.cells kept.grows c.args.here.now.at held.0, held.1),
+    )
+
+pub blocks::any_on-returns-in-Left-clause-comes : goal.blocks::any_on-returns-in-Left-clause-comes
+blocks::any_on-returns-in-Left-clause-comes t c =
+    let fs = trees_of c.args.here.now.site.now.codes.now.items in
+    let w = c.args.here.now.site.now.widget in
+    let s0 = c.args.store.now in
+    let s1 = c.list.store in
+    let s2 = c.exec_on.new.store in
+    let p : State → Plan = λ s. Do (job_of fs w s1.cells (job.Exec c.in-Some.listed.id c.args.here.now.at)) s Ret in
+    let q : State → Plan = block_at fs w s1.cells c.list.at c.list.n c.args.here.now.at in
+    let start : State → Plan = block_at fs w s0.cells c.args.block 0 c.args.here.now.at in
+    let f = (frame.Statement (statement.Seq c.in-Some.listed.block c.in-Some.listed.next c.args.here.now.at)) in
+    let inv = c.list.invariant in
+    let kept = c.in_ok-how.ensures.kept in
+    let how = c.in_ok-how.how in
+    let out = c.exec_on.new.out in
+    let held : FineFrame fs w s1.cells f = (inv.2.0, subst (λ g. IsBlock g c.in-Some.listed.block) c.requires.tree c.in-Some.ensures.1) in
+    let listed = subst (λ g. drop c.list.n (block_list g c.list.at) ≡ stmt_at g c.in-Some.listed.id ∷ drop c.in-Some.listed.next (block_list g c.in-Some.listed.block)) c.requires.tree c.in-Some.ensures.2 in
+    let plan : (s : State) → q s ≡ and_then (p s) (taken fs w s1.cells f) = λ s. ap (λ l. statements l (place_of w s1.cells c.args.here.now.at) s) listed in
+    let one = as_is fs w s1 s2 0 p c.list.run c.exec_on.new.run how ended.Left out c.in-Left.is c.in_ok-how.ensures.comes in
+    waits_then fs w c.wait_rest.result s0 s1 s2 0 1 1 start q p f c.args.run.now c.list.run c.exec_on.new.run c.wait_rest.new.run ended.Left (ended_as ended.Left out) _ inv.0 plan one refl kept.grows held
+    c.wait_rest.ensures.left c.wait_rest.ensures.waits c.wait_rest.ensures.next c.wait_rest.ensures.units (omega arith) (omega arith)
+
+pub blocks::any_on-returns-in-Left-clause-kept : goal.blocks::any_on-returns-in-Left-clause-kept
+blocks::any_on-returns-in-Left-clause-kept t c =
+    let fs = trees_of c.args.here.now.site.now.codes.now.items in
+    let w = c.args.here.now.site.now.widget in
+    let s0 = c.args.store.now in
+    let s1 = c.list.store in
+    let s2 = c.exec_on.new.store in
+    let p : State → Plan = λ s. Do (job_of fs w s1.cells (job.Exec c.in-Some.listed.id c.args.here.now.at)) s Ret in
+    let q : State → Plan = block_at fs w s1.cells c.list.at c.list.n c.args.here.now.at in
+    let start : State → Plan = block_at fs w s0.cells c.args.block 0 c.args.here.now.at in
+    let f = (frame.Statement (statement.Seq c.in-Some.listed.block c.in-Some.listed.next c.args.here.now.at)) in
+    let inv = c.list.invariant in
+    let kept = c.in_ok-how.ensures.kept in
+    let how = c.in_ok-how.how in
+    let out = c.exec_on.new.out in
+    let held : FineFrame fs w s1.cells f = (inv.2.0, subst (λ g. IsBlock g c.in-Some.listed.block) c.requires.tree c.in-Some.ensures.1) in
+    let listed = subst (λ g. drop c.list.n (block_list g c.list.at) ≡ stmt_at g c.in-Some.listed.id ∷ drop c.in-Some.listed.next (block_list g c.in-Some.listed.block)) c.requires.tree c.in-Some.ensures.2 in
+    let plan : (s : State) → q s ≡ and_then (p s) (taken fs w s1.cells f) = λ s. ap (λ l. statements l (place_of w s1.cells c.args.here.now.at) s) listed in
+    kept_then fs w s0 s1 s2 inv.1 kept
+
+pub blocks::any_on-returns-in_default-2 : goal.blocks::any_on-returns-in_default-2
+blocks::any_on-returns-in_default-2 t c =
+    let fs = trees_of c.args.here.now.site.now.codes.now.items in
+    let w = c.args.here.now.site.now.widget in
+    let s0 = c.args.store.now in
+    let s1 = c.list.store in
+    let s2 = c.exec_on.new.store in
+    let p : State → Plan = λ s. Do (job_of fs w s1.cells (job.Exec c.in-Some.listed.id c.args.here.now.at)) s Ret in
+    let q : State → Plan = block_at fs w s1.cells c.list.at c.list.n c.args.here.now.at in
+    let start : State → Plan = block_at fs w s0.cells c.args.block 0 c.args.here.now.at in
+    let f = (frame.Statement (statement.Seq c.in-Some.listed.block c.in-Some.listed.next c.args.here.now.at)) in
+    let inv = c.list.invariant in
+    let kept = c.in_ok-how.ensures.kept in
+    let how = c.in_ok-how.how in
+    let out = c.exec_on.new.out in
+    let held : FineFrame fs w s1.cells f = (inv.2.0, subst (λ g. IsBlock g c.in-Some.listed.block) c.requires.tree c.in-Some.ensures.1) in
+    let listed = subst (λ g. drop c.list.n (block_list g c.list.at) ≡ stmt_at g c.in-Some.listed.id ∷ drop c.in-Some.listed.next (block_list g c.in-Some.listed.block)) c.requires.tree c.in-Some.ensures.2 in
+    let plan : (s : State) → q s ≡ and_then (p s) (taken fs w s1.cells f) = λ s. ap (λ l. statements l (place_of w s1.cells c.args.here.now.at) s) listed in
+    record {
+      comes = towards_then fs w s0 s1 s2 1 1 start q c.args.run.now c.list.run c.exec_on.new.run how (ended_as how out) inv.0
+          (planned fs w s1 s2 1 q _ c.list.run c.exec_on.new.run how (ended_as how out) plan (other_normal fs w s1 s2 0 1 p f (λ t. block_at fs w s2.cells c.in-Some.listed.block c.in-Some.listed.next c.args.here.now.at t) c.list.run c.exec_on.new.run how out c.in_ok-how.ensures.comes c.in_default-2.not-Normal c.in_default-2.not-Left kept.grows held (λ o t. refl) (omega arith))) (omega arith);
+      kept = kept_then fs w s0 s1 s2 inv.1 kept;
+    }
+
+pub calls::call_on-returns-in-Name-clause-comes : goal.calls::call_on-returns-in-Name-clause-comes
+calls::call_on-returns-in-Name-clause-comes t c =
+    let fs = trees_of c.args.here.now.site.now.codes.now.items in
+    let w = c.args.here.now.site.now.widget in
+    let s = c.args.store.now in
+    let code = c.args.here.now.at.code in
+    let f = trees c.args.here.now.tree.now in
+    let node = c.expr.result.now in
+    let pl = place_of w s.cells c.args.here.now.at in
+    let j = job_of fs w s.cells (job.Target c.args.to c.args.here.now.at) in
+    let es = arguments_of (expr_at (forest_at fs code) c.args.id) in
+    let k = callee es pl in
+    let p = arguments_then (meaning.Variable c.in-Name.name) [] es pl in
+    IfOk-weaker c.call_name.result _ _
+    (λ how h. unit_first fs w s c.call_name.new.store 5 30 j p k c.args.run.now (record c.args.run.now { units = c.args.run.now.units - 1 }) c.call_name.new.run how (ended_as how c.call_name.new.out) (less_one c.args.run.now.units c.if-run-eq0.false)
+    (λ x. ap (λ q. and_then q k) (at_target fs code f c.args.to node c.requires.tree c.expr.ensures.same pl x ∙ ap (λ (e : Expr). target (plain_form (forest_at fs code) e) pl x) c.in-Name.is)) h (omega arith))
+    c.call_name.ensures.comes
+
+pub calls::called_name-arguments_on-requires : goal.calls::called_name-arguments_on-requires
+calls::called_name-arguments_on-requires t c = (
+  search rules,
+  (
+    (c.requires.ready),
+    (
+      (c.requires.held),
+      (
+        c.requires.tree,
+        (c.requires.none),
+      ),
+    ),
+  ),
+)
+
+pub calls::called_name-variable_on-requires : goal.calls::called_name-variable_on-requires
+calls::called_name-variable_on-requires t c = (
+  search rules,
+  (
+    (
+        let fs = trees_of c.args.here.now.site.now.codes.now.items in
+        let w = c.args.here.now.site.now.widget in
+        let old = c.args.store.now in
+        let mid = c.arguments_on.new.store in
+        let at = c.args.here.now.at in
+        let es = arguments_of (expr_at (forest_at fs at.code) c.args.id) in
+        let p = place_of w old.cells at in
+        let vs = c.arguments_on.new.args.items in
+        (c.requires.ready.0, c.arguments_on.ensures.kept.confined c.requires.ready.1, argued_waits_none fs w es p old mid vs c.args.run.now c.arguments_on.new.run c.in_ok-how.how c.arguments_on.new.out c.in_ok-how.ensures.comes c.in-Is.is)
+        ),
+    (
+        let fs = trees_of c.args.here.now.site.now.codes.now.items in
+        let w = c.args.here.now.site.now.widget in
+        let old = c.args.store.now in
+        let mid = c.arguments_on.new.store in
+        let at = c.args.here.now.at in
+        let es = arguments_of (expr_at (forest_at fs at.code) c.args.id) in
+        let p = place_of w old.cells at in
+        let vs = c.arguments_on.new.args.items in
+        (place_fine fs w old.cells mid.cells c.arguments_on.ensures.kept.grows at c.requires.held.0, c.in_ok-how.ensures.comes.all)
+        ),
+  ),
+)
+
+pub calls::called_name-returns-in-Is-clause-comes : goal.calls::called_name-returns-in-Is-clause-comes
+calls::called_name-returns-in-Is-clause-comes t c =
+    let fs = trees_of c.args.here.now.site.now.codes.now.items in
+    let w = c.args.here.now.site.now.widget in
+    let old = c.args.store.now in
+    let mid = c.arguments_on.new.store in
+    let at = c.args.here.now.at in
+    let es = arguments_of (expr_at (forest_at fs at.code) c.args.id) in
+    let p = place_of w old.cells at in
+    let vs = c.arguments_on.new.args.items in
+    IfOk-weaker c.variable_on.result _ _
+    (λ how h. argued_then fs w es p old mid vs c.args.run.now c.arguments_on.new.run c.in_ok-how.how c.arguments_on.new.out c.in_ok-how.ensures.comes (meaning.Variable c.args.name.now) (meaning.Variable c.args.name.now) (place_of w mid.cells at) c.variable_on.new.store c.variable_on.new.run how (ended_as how c.variable_on.new.out) c.in-Is.is (refl) (place_same fs w old.cells mid.cells c.arguments_on.ensures.kept.grows at c.requires.held.0) h)
+    c.variable_on.ensures.comes
+
+pub calls::called_name-returns-in-Is-clause-kept : goal.calls::called_name-returns-in-Is-clause-kept
+calls::called_name-returns-in-Is-clause-kept t c =
+    let fs = trees_of c.args.here.now.site.now.codes.now.items in
+    let w = c.args.here.now.site.now.widget in
+    kept_then fs w c.args.store.now c.arguments_on.new.store c.variable_on.new.store c.arguments_on.ensures.kept c.variable_on.ensures.kept
+
+pub calls::called_name-returns-in_default-clause-comes : goal.calls::called_name-returns-in_default-clause-comes
+calls::called_name-returns-in_default-clause-comes t c =
+    let fs = trees_of c.args.here.now.site.now.codes.now.items in
+    let w = c.args.here.now.site.now.widget in
+    let old = c.args.store.now in
+    let mid = c.arguments_on.new.store in
+    let at = c.args.here.now.at in
+    let es = arguments_of (expr_at (forest_at fs at.code) c.args.id) in
+    let p = place_of w old.cells at in
+    let vs = c.arguments_on.new.args.items in
+    argued_hands fs w es p old mid vs c.args.run.now c.arguments_on.new.run c.in_ok-how.how c.arguments_on.new.out c.in_ok-how.ensures.comes
+    (meaning.Variable c.args.name.now) (record { of = reference.Variable c.args.name.now; args = c.arguments_on.new.args; call = c.args.id; next = length c.arguments_on.new.args.items + 1; place = at }) (refl) refl refl refl (place_same fs w old.cells mid.cells c.arguments_on.ensures.kept.grows at c.requires.held.0)
+    (tt) (place_fine fs w old.cells mid.cells c.arguments_on.ensures.kept.grows at c.requires.held.0, c.requires.held.1) c.hand_named.result c.hand_named.new.run c.in_default.not-Is c.hand_named.ensures
+
+pub calls::called_name-returns-in_default-clause-kept : goal.calls::called_name-returns-in_default-clause-kept
+calls::called_name-returns-in_default-clause-kept t c = c.arguments_on.ensures.kept
+
+pub calls::called_name-returns-in_err-how-clause-comes : goal.calls::called_name-returns-in_err-how-clause-comes
+calls::called_name-returns-in_err-how-clause-comes t c = refused c.from_residual.result _ c.from_residual.ensures.0
+
+pub calls::called_name-returns-in_err-how-clause-kept : goal.calls::called_name-returns-in_err-how-clause-kept
+calls::called_name-returns-in_err-how-clause-kept t c = c.arguments_on.ensures.kept
+
+pub calls::called_any-reached_on-requires : goal.calls::called_any-reached_on-requires
+calls::called_any-reached_on-requires t c = (
+  search rules,
+  (
+    (
+        let fs = trees_of c.args.here.now.site.now.codes.now.items in
+        let w = c.args.here.now.site.now.widget in
+        let old = c.args.store.now in
+        let p : State → Plan = λ s. Do (job_of fs w old.cells (job.Target c.args.to c.args.here.now.at)) s Ret in
+        value_ready fs w old c.target_on.new.store 0 p c.args.run.now c.target_on.new.run c.in_ok-how.how (target_as c.in_ok-how.how c.target_on.new.of c.target_on.new.out) c.in_ok-how.ensures.comes c.in-Is.is c.target_on.ensures.kept c.requires.ready
+        ),
+    (
+      (
+          let fs = trees_of c.args.here.now.site.now.codes.now.items in
+          let w = c.args.here.now.site.now.widget in
+          let old = c.args.store.now in
+          let p : State → Plan = λ s. Do (job_of fs w old.cells (job.Target c.args.to c.args.here.now.at)) s Ret in (
+            expr_stays fs w old.cells c.target_on.new.store.cells c.target_on.ensures.kept.grows c.args.id c.args.here.now.at c.requires.held.0,
+            target_fine fs w old c.target_on.new.store 0 p c.args.run.now c.target_on.new.run c.in_ok-how.how c.target_on.new.of c.target_on.new.out c.in_ok-how.ensures.comes c.in-Is.is,
+          )
+          ),
+      c.requires.tree,
+    ),
+  ),
+)
+
+pub calls::called_any-returns-in-Is-clause-comes : goal.calls::called_any-returns-in-Is-clause-comes
+calls::called_any-returns-in-Is-clause-comes t c =
+    let fs = trees_of c.args.here.now.site.now.codes.now.items in
+    let w = c.args.here.now.site.now.widget in
+    let old = c.args.store.now in
+    let mid = c.target_on.new.store in
+    let p : State → Plan = λ s. Do (job_of fs w old.cells (job.Target c.args.to c.args.here.now.at)) s Ret in
+    IfOk-weaker c.reached_on.result _ _
+    (λ how h. callee_there fs w old mid p c.args.run.now c.target_on.new.run _ c.target_on.new.of c.target_on.new.out c.args.id c.args.here.now.at c.requires.held.0 c.target_on.ensures.kept
+    c.in_ok-how.ensures.comes c.reached_on.new.store c.reached_on.new.run how (ended_as how c.reached_on.new.out) c.in-Is.is h)
+    c.reached_on.ensures.comes
+
+pub calls::called_any-returns-in-Is-clause-kept : goal.calls::called_any-returns-in-Is-clause-kept
+calls::called_any-returns-in-Is-clause-kept t c =
+    kept_then (trees_of c.args.here.now.site.now.codes.now.items) c.args.here.now.site.now.widget c.args.store.now c.target_on.new.store c.reached_on.new.store c.target_on.ensures.kept c.reached_on.ensures.kept
+
+pub calls::called_any-returns-in_default-clause-comes : goal.calls::called_any-returns-in_default-clause-comes
+calls::called_any-returns-in_default-clause-comes t c =
+    let fs = trees_of c.args.here.now.site.now.codes.now.items in
+    let w = c.args.here.now.site.now.widget in
+    let old = c.args.store.now in
+    let mid = c.target_on.new.store in
+    let p : State → Plan = λ s. Do (job_of fs w old.cells (job.Target c.args.to c.args.here.now.at)) s Ret in
+    callee_hands fs w old mid p c.args.run.now c.target_on.new.run c.in_ok-how.how c.target_on.new.of c.target_on.new.out c.args.id c.args.here.now.at c.requires.held.0 c.target_on.ensures.kept
+    c.in_ok-how.ensures.comes c.hand_callee.result c.hand_callee.new.run c.in_default.not-Is c.hand_callee.ensures
+
+pub calls::called_any-returns-in_default-clause-kept : goal.calls::called_any-returns-in_default-clause-kept
+calls::called_any-returns-in_default-clause-kept t c = c.target_on.ensures.kept
+
+pub calls::called_any-target_on-requires : goal.calls::called_any-target_on-requires
+calls::called_any-target_on-requires t c = (
+  search rules,
+  (
+    (c.requires.ready),
+    (
+      (c.requires.held.1),
+      c.requires.tree,
+    ),
+  ),
+)
+
+pub calls::called_any-returns-in_err-how-clause-comes : goal.calls::called_any-returns-in_err-how-clause-comes
+calls::called_any-returns-in_err-how-clause-comes t c = refused c.from_residual.result _ c.from_residual.ensures.0
+
+pub calls::called_any-returns-in_err-how-clause-kept : goal.calls::called_any-returns-in_err-how-clause-kept
+calls::called_any-returns-in_err-how-clause-kept t c = c.target_on.ensures.kept
+
+pub calls::method_on-arguments_on-requires : goal.calls::method_on-arguments_on-requires
+calls::method_on-arguments_on-requires t c = (
+  search rules,
+  (
+    (c.requires.ready),
+    (
+      (c.requires.held.0),
+      (
+        c.requires.tree,
+        (c.requires.none),
+      ),
+    ),
+  ),
+)
+
+pub calls::method_on-referred_on-requires : goal.calls::method_on-referred_on-requires
+calls::method_on-referred_on-requires t c = (
+  search rules,
+  (
+    (
+        let fs = trees_of c.args.here.now.site.now.codes.now.items in
+        let w = c.args.here.now.site.now.widget in
+        let old = c.args.store.now in
+        let mid = c.arguments_on.new.store in
+        let at = c.args.here.now.at in
+        let es = arguments_of (expr_at (forest_at fs at.code) c.args.id) in
+        let p = place_of w old.cells at in
+        let vs = c.arguments_on.new.args.items in
+        (c.requires.ready.0, c.arguments_on.ensures.kept.confined c.requires.ready.1, argued_waits_none fs w es p old mid vs c.args.run.now c.arguments_on.new.run c.in_ok-how.how c.arguments_on.new.out c.in_ok-how.ensures.comes c.in-Is.is)
+        ),
+    (
+        let fs = trees_of c.args.here.now.site.now.codes.now.items in
+        let w = c.args.here.now.site.now.widget in
+        let old = c.args.store.now in
+        let mid = c.arguments_on.new.store in
+        let at = c.args.here.now.at in
+        let es = arguments_of (expr_at (forest_at fs at.code) c.args.id) in
+        let p = place_of w old.cells at in
+        let vs = c.arguments_on.new.args.items in
+        (place_fine fs w old.cells mid.cells c.arguments_on.ensures.kept.grows at c.requires.held.0.0, reference_fine w old.cells mid.cells c.arguments_on.ensures.kept.grows c.args.of.now c.requires.held.1, c.in_ok-how.ensures.comes.all)
+        ),
+  ),
+)
+
+pub calls::method_on-returns-in-Is-clause-comes : goal.calls::method_on-returns-in-Is-clause-comes
+calls::method_on-returns-in-Is-clause-comes t c =
+    let fs = trees_of c.args.here.now.site.now.codes.now.items in
+    let w = c.args.here.now.site.now.widget in
+    let old = c.args.store.now in
+    let mid = c.arguments_on.new.store in
+    let at = c.args.here.now.at in
+    let es = arguments_of (expr_at (forest_at fs at.code) c.args.id) in
+    let p = place_of w old.cells at in
+    let vs = c.arguments_on.new.args.items in
+    IfOk-weaker c.referred_on.result _ _
+    (λ how h. argued_then fs w es p old mid vs c.args.run.now c.arguments_on.new.run c.in_ok-how.how c.arguments_on.new.out c.in_ok-how.ensures.comes (reference_of w old.cells c.args.of.now) (reference_of w mid.cells c.args.of.now) (place_of w mid.cells at) c.referred_on.new.store c.referred_on.new.run how (ended_as how c.referred_on.new.out) c.in-Is.is (reference_same w old.cells mid.cells c.arguments_on.ensures.kept.grows c.args.of.now c.requires.held.1) (place_same fs w old.cells mid.cells c.arguments_on.ensures.kept.grows at c.requires.held.0.0) h)
+    c.referred_on.ensures.comes
+
+pub calls::method_on-returns-in-Is-clause-kept : goal.calls::method_on-returns-in-Is-clause-kept
+calls::method_on-returns-in-Is-clause-kept t c =
+    let fs = trees_of c.args.here.now.site.now.codes.now.items in
+    let w = c.args.here.now.site.now.widget in
+    kept_then fs w c.args.store.now c.arguments_on.new.store c.referred_on.new.store c.arguments_on.ensures.kept c.referred_on.ensures.kept
+
+pub calls::method_on-returns-in_default-clause-comes : goal.calls::method_on-returns-in_default-clause-comes
+calls::method_on-returns-in_default-clause-comes t c =
+    let fs = trees_of c.args.here.now.site.now.codes.now.items in
+    let w = c.args.here.now.site.now.widget in
+    let old = c.args.store.now in
+    let mid = c.arguments_on.new.store in
+    let at = c.args.here.now.at in
+    let es = arguments_of (expr_at (forest_at fs at.code) c.args.id) in
+    let p = place_of w old.cells at in
+    let vs = c.arguments_on.new.args.items in
+    argued_hands fs w es p old mid vs c.args.run.now c.arguments_on.new.run c.in_ok-how.how c.arguments_on.new.out c.in_ok-how.ensures.comes
+    (reference_of w old.cells c.args.of.now) (record { of = c.args.of.now; args = c.arguments_on.new.args; call = c.args.id; next = length c.arguments_on.new.args.items + 1; place = at }) (reference_same w old.cells mid.cells c.arguments_on.ensures.kept.grows c.args.of.now c.requires.held.1) refl refl refl (place_same fs w old.cells mid.cells c.arguments_on.ensures.kept.grows at c.requires.held.0.0)
+    (reference_fine w old.cells mid.cells c.arguments_on.ensures.kept.grows c.args.of.now c.requires.held.1) (place_fine fs w old.cells mid.cells c.arguments_on.ensures.kept.grows at c.requires.held.0.0, c.requires.held.0.1) c.hand_argument.result c.hand_argument.new.run c.in_default.not-Is c.hand_argument.ensures
+
+pub calls::method_on-returns-in_default-clause-kept : goal.calls::method_on-returns-in_default-clause-kept
+calls::method_on-returns-in_default-clause-kept t c = c.arguments_on.ensures.kept
+
+pub calls::method_on-returns-in_err-how-clause-comes : goal.calls::method_on-returns-in_err-how-clause-comes
+calls::method_on-returns-in_err-how-clause-comes t c = refused c.from_residual.result _ c.from_residual.ensures.0
+
+pub calls::method_on-returns-in_err-how-clause-kept : goal.calls::method_on-returns-in_err-how-clause-kept
+calls::method_on-returns-in_err-how-clause-kept t c = c.arguments_on.ensures.kept
 
 pub calls::arguments_on-arguments-init : goal.calls::arguments_on-arguments-init
 calls::arguments_on-arguments-init t c =
-    let fs = trees_of c.args.site.now.codes.now.items in
+    let fs = trees_of c.args.here.now.site.now.codes.now.items in
+    let w = c.args.here.now.site.now.widget in
+    let old = c.args.store.now in
+    let es = arguments_of (expr_at (forest_at fs c.args.here.now.at.code) c.args.id) in
     record {
-      argued = none_there fs c.args.site.now.widget c.args.store.now c.args.run.now _ c.new.ensures.items refl c.requires.held.1 c.requires.held.0 c.requires.ready.2;
-      depth = refl;
+      argued = none_there fs w es (place_of w old.cells c.args.here.now.at) old c.args.args.now.items c.args.run.now c.requires.none c.requires.ready.2;
+      kept = kept_same fs w old old refl;
+      counted = sym (ap length c.requires.none);
     }
 
 pub calls::arguments_on-arguments-preserved : goal.calls::arguments_on-arguments-preserved
 calls::arguments_on-arguments-preserved t c =
-    let fs = trees_of c.args.site.now.codes.now.items in
-    let w = c.args.site.now.widget in
+    let fs = trees_of c.args.here.now.site.now.codes.now.items in
+    let w = c.args.here.now.site.now.widget in
+    let old = c.args.store.now in
+    let cur = c.arguments.store in
+    let at = c.args.here.now.at in
+    let es = arguments_of (expr_at (forest_at fs at.code) c.args.id) in
+    let p = place_of w old.cells at in
+    let vs = c.arguments.args.items in
     record {
-      argued = one_there fs w c.args.store.now c.arguments.store c.args.run.now c.arguments.run _ _ c.arguments.invariant.argued c.in-Some.e c.in-Some.ensures.2
-          c.eval_on.new.store c.eval_on.new.run c.in_ok-other.other _ c.eval_on.new.out c.in_ok-other.ensures.comes c.in-Is.is c.eval_on.ensures.kept
-          refl (c.in_ok-push-in-Is.ensures.ok ∙ ap (λ v. c.arguments.call.args.items ++ v ∷ []) c.take_value.ensures.taken) refl refl refl;
-      depth = c.arguments.invariant.depth;
+      argued = one_there fs w es p old cur vs c.args.run.now c.arguments.run at c.in-Some.e c.arguments.invariant.argued
+          (place_same fs w old.cells cur.cells c.arguments.invariant.kept.grows at c.requires.held.0) (more_at es c.arguments.n vs _ c.arguments.invariant.counted c.in-Some.ensures.2)
+          c.operand_on.new.store c.put_argument.new.args.items c.operand_on.new.run c.in_ok-other.other c.operand_on.new.out c.in_ok-other.ensures.comes c.in-Is.is c.operand_on.ensures.kept.grows c.in_ok-put_argument-in-Is.ensures;
+      kept = kept_then fs w old cur c.operand_on.new.store c.arguments.invariant.kept c.operand_on.ensures.kept;
+      counted = counted c.arguments.n vs c.put_argument.new.args.items c.operand_on.new.out c.arguments.invariant.counted c.in_ok-put_argument-in-Is.ensures;
     }
 
 pub calls::arguments_on-arguments-smaller : goal.calls::arguments_on-arguments-smaller
 calls::arguments_on-arguments-smaller t c = fewer _ _ c.arguments.n _ c.in-Some.ensures.2
 
-pub calls::arguments_on-returns-in_err-other-clause-kept : goal.calls::arguments_on-returns-in_err-other-clause-kept
-calls::arguments_on-returns-in_err-other-clause-kept t c =
-    kept_then (trees_of c.args.site.now.codes.now.items) c.args.site.now.widget c.args.store.now c.arguments.store c.eval_on.new.store c.arguments.invariant.argued.kept c.eval_on.ensures.kept
+pub calls::arguments_on-argument_left-requires-clause-call : goal.calls::arguments_on-argument_left-requires-clause-call
+calls::arguments_on-argument_left-requires-clause-call t c = c.requires.held.1
 
-pub calls::arguments_on-returns-in_err-push-in-Is-clause-kept : goal.calls::arguments_on-returns-in_err-push-in-Is-clause-kept
-calls::arguments_on-returns-in_err-push-in-Is-clause-kept t c =
-    kept_then (trees_of c.args.site.now.codes.now.items) c.args.site.now.widget c.args.store.now c.arguments.store c.eval_on.new.store c.arguments.invariant.argued.kept c.eval_on.ensures.kept
-
-pub calls::arguments_on-returns-in_err-a-in-Left-clause-kept : goal.calls::arguments_on-returns-in_err-a-in-Left-clause-kept
-calls::arguments_on-returns-in_err-a-in-Left-clause-kept t c =
-    kept_then (trees_of c.args.site.now.codes.now.items) c.args.site.now.widget c.args.store.now c.arguments.store c.eval_on.new.store c.arguments.invariant.argued.kept c.eval_on.ensures.kept
-
-pub calls::arguments_on-returns-in-Left-clause-kept : goal.calls::arguments_on-returns-in-Left-clause-kept
-calls::arguments_on-returns-in-Left-clause-kept t c =
-    kept_then (trees_of c.args.site.now.codes.now.items) c.args.site.now.widget c.args.store.now c.arguments.store c.eval_on.new.store c.arguments.invariant.argued.kept c.eval_on.ensures.kept
-
-pub calls::arguments_on-returns-in-Left-clause-comes : goal.calls::arguments_on-returns-in-Left-clause-comes
-calls::arguments_on-returns-in-Left-clause-comes t c =
-    let fs = trees_of c.args.site.now.codes.now.items in
-    let w = c.args.site.now.widget in
-    waits_there fs w c.args.store.now c.arguments.store c.args.run.now c.arguments.run _ _ c.arguments.invariant.argued c.in-Some.e c.in-Some.ensures.2
-    c.wait_argument.result c.eval_on.new.store c.eval_on.new.run c.wait_argument.new.run c.in_ok-other.other (ended_as c.in_ok-other.other c.eval_on.new.out) (λ how. ended_as how c.eval_on.new.out) c.in_ok-a-in-Left.a
-    c.in_ok-other.ensures.comes c.in-Left.is c.eval_on.ensures.kept c.in_ok-a-in-Left.ensures c.wait_argument.ensures.left c.wait_argument.ensures.waits c.wait_argument.ensures.next c.wait_argument.ensures.units
+pub calls::arguments_on-operand_on-requires : goal.calls::arguments_on-operand_on-requires
+calls::arguments_on-operand_on-requires t c = (
+  search rules,
+  (
+    ((c.requires.ready.0, c.arguments.invariant.kept.confined c.requires.ready.1, c.arguments.invariant.argued.waits)),
+    (
+      (
+          let fs = trees_of c.args.here.now.site.now.codes.now.items in
+          let w = c.args.here.now.site.now.widget in
+          (place_fine fs w c.args.store.now.cells c.arguments.store.cells c.arguments.invariant.kept.grows c.args.here.now.at c.requires.held.0, c.in-Some.ensures.0)
+          ),
+      c.requires.tree,
+    ),
+  ),
+)
 
 pub calls::arguments_on-returns-in_default-2 : goal.calls::arguments_on-returns-in_default-2
 calls::arguments_on-returns-in_default-2 t c =
-    let fs = trees_of c.args.site.now.codes.now.items in
-    let w = c.args.site.now.widget in
+    let fs = trees_of c.args.here.now.site.now.codes.now.items in
+    let w = c.args.here.now.site.now.widget in
+    let old = c.args.store.now in
+    let cur = c.arguments.store in
+    let at = c.args.here.now.at in
+    let es = arguments_of (expr_at (forest_at fs at.code) c.args.id) in
+    let p = place_of w old.cells at in
+    let vs = c.arguments.args.items in
     record {
-      comes = passes_there fs w c.args.store.now c.arguments.store c.args.run.now c.arguments.run _ _ c.arguments.invariant.argued c.in-Some.e c.in-Some.ensures.2
-          c.eval_on.new.store c.eval_on.new.run c.in_ok-other.other c.eval_on.new.out c.in_ok-other.ensures.comes c.in_default-2.not-Left c.in_default-2.not-Is;
-      kept = kept_then fs w c.args.store.now c.arguments.store c.eval_on.new.store c.arguments.invariant.argued.kept c.eval_on.ensures.kept;
+      comes = other_there fs w es p old cur vs c.args.run.now c.arguments.run at c.in-Some.e c.arguments.invariant.argued
+          (place_same fs w old.cells cur.cells c.arguments.invariant.kept.grows at c.requires.held.0) (more_at es c.arguments.n vs _ c.arguments.invariant.counted c.in-Some.ensures.2)
+          c.operand_on.new.store vs c.operand_on.new.run c.in_ok-other.other c.operand_on.new.out c.in_ok-other.ensures.comes c.in_default-2.not-Is c.operand_on.ensures.kept.grows refl;
+      kept = kept_then fs w old cur c.operand_on.new.store c.arguments.invariant.kept c.operand_on.ensures.kept;
     }
 
-pub calls::arguments_on-returns-clause-comes : goal.calls::arguments_on-returns-clause-comes
-calls::arguments_on-returns-clause-comes t c =
-    let fs = trees_of c.args.site.now.codes.now.items in
-    let w = c.args.site.now.widget in
-    IfOk-weaker c.invoke_on.result _ _
-    (λ how h. all_there fs w c.args.store.now c.arguments.store c.args.run.now c.arguments.run _ _ c.arguments.invariant.argued c.in_default.ensures
-    c.invoke_on.new.store c.invoke_on.new.run how (ended_as how c.invoke_on.new.out) c.set_callee.new.call c.in_ok-set_callee.ensures.func (c.in_ok-set_callee.ensures.this w c.arguments.store)
-    (ap (λ a. a.items) c.in_ok-set_callee.ensures.args) (c.in_ok-set_callee.ensures.depth ∙ c.arguments.invariant.depth) h)
-    c.invoke_on.ensures.comes
+pub calls::arguments_on-returns-in_err-other-clause-kept : goal.calls::arguments_on-returns-in_err-other-clause-kept
+calls::arguments_on-returns-in_err-other-clause-kept t c =
+    let fs = trees_of c.args.here.now.site.now.codes.now.items in
+    let w = c.args.here.now.site.now.widget in
+    kept_then fs w c.args.store.now c.arguments.store c.operand_on.new.store c.arguments.invariant.kept c.operand_on.ensures.kept
 
-pub calls::arguments_on-returns-clause-kept : goal.calls::arguments_on-returns-clause-kept
-calls::arguments_on-returns-clause-kept t c =
-    kept_then (trees_of c.args.site.now.codes.now.items) c.args.site.now.widget c.args.store.now c.arguments.store c.invoke_on.new.store c.arguments.invariant.argued.kept c.invoke_on.ensures.kept
-
-pub calls::arguments_on-argument_left-requires-clause-code : goal.calls::arguments_on-argument_left-requires-clause-code
-calls::arguments_on-argument_left-requires-clause-code t c = c.arguments.invariant.argued.fine.2.0.0
-
-pub calls::arguments_on-argument_left-requires-clause-call : goal.calls::arguments_on-argument_left-requires-clause-call
-calls::arguments_on-argument_left-requires-clause-call t c = c.arguments.invariant.argued.fine.2.1
-
-pub calls::arguments_on-eval_on-requires : goal.calls::arguments_on-eval_on-requires
-calls::arguments_on-eval_on-requires t c = (
-  search rules,
-  (
-    ((c.requires.ready.0, c.arguments.invariant.argued.kept.confined c.requires.ready.1, c.arguments.invariant.argued.waits)),
-    ((c.arguments.invariant.argued.fine.2.0, c.in-Some.ensures.0)),
-  ),
-)
-
-pub calls::arguments_on-set_callee-requires-clause-confined : goal.calls::arguments_on-set_callee-requires-clause-confined
-calls::arguments_on-set_callee-requires-clause-confined t c = c.arguments.invariant.argued.kept.confined c.requires.ready.1
-
-pub calls::arguments_on-set_callee-requires-clause-held : goal.calls::arguments_on-set_callee-requires-clause-held
-calls::arguments_on-set_callee-requires-clause-held t c = (c.arguments.invariant.argued.fine.0, c.arguments.invariant.argued.fine.2.0)
-
-pub calls::arguments_on-returns-in_err-set_callee-clause-kept : goal.calls::arguments_on-returns-in_err-set_callee-clause-kept
-calls::arguments_on-returns-in_err-set_callee-clause-kept t c = c.arguments.invariant.argued.kept
-
-pub calls::arguments_on-invoke_on-requires : goal.calls::arguments_on-invoke_on-requires
-calls::arguments_on-invoke_on-requires t c = (
-  search rules,
-  (
-    ((c.requires.ready.0, c.arguments.invariant.argued.kept.confined c.requires.ready.1, c.arguments.invariant.argued.waits)),
-    ((c.in_ok-set_callee.ensures.fine.0, c.in_ok-set_callee.ensures.fine.1, subst (AreFine c.args.site.now.widget c.arguments.store.cells) (sym (ap (λ a. a.items) c.in_ok-set_callee.ensures.args)) c.arguments.invariant.argued.fine.1)),
-  ),
-)
+pub calls::arguments_on-returns-in_err-put_argument-in-Is-clause-kept : goal.calls::arguments_on-returns-in_err-put_argument-in-Is-clause-kept
+calls::arguments_on-returns-in_err-put_argument-in-Is-clause-kept t c =
+    let fs = trees_of c.args.here.now.site.now.codes.now.items in
+    let w = c.args.here.now.site.now.widget in
+    kept_then fs w c.args.store.now c.arguments.store c.operand_on.new.store c.arguments.invariant.kept c.operand_on.ensures.kept
 
 pub calls::arguments_on-returns-in_err-other-clause-comes : goal.calls::arguments_on-returns-in_err-other-clause-comes
 calls::arguments_on-returns-in_err-other-clause-comes t c = refused c.from_residual.result _ c.from_residual.ensures.0
 
-pub calls::arguments_on-returns-in_err-set_callee-clause-comes : goal.calls::arguments_on-returns-in_err-set_callee-clause-comes
-calls::arguments_on-returns-in_err-set_callee-clause-comes t c = refused c.from_residual-in_err-set_callee.result _ c.from_residual-in_err-set_callee.ensures.0
+pub calls::arguments_on-returns-in_err-put_argument-in-Is-clause-comes : goal.calls::arguments_on-returns-in_err-put_argument-in-Is-clause-comes
+calls::arguments_on-returns-in_err-put_argument-in-Is-clause-comes t c = refused c.from_residual-in_err-put_argument-in-Is.result _ c.from_residual-in_err-put_argument-in-Is.ensures.0
 
-pub calls::arguments_on-returns-in_err-push-in-Is-clause-comes : goal.calls::arguments_on-returns-in_err-push-in-Is-clause-comes
-calls::arguments_on-returns-in_err-push-in-Is-clause-comes t c = refused c.from_residual-in_err-push-in-Is.result _ c.from_residual-in_err-push-in-Is.ensures.0
+pub calls::arguments_on-returns-clause-comes : goal.calls::arguments_on-returns-clause-comes
+calls::arguments_on-returns-clause-comes t c =
+    let fs = trees_of c.args.here.now.site.now.codes.now.items in
+    let w = c.args.here.now.site.now.widget in
+    let old = c.args.store.now in
+    let cur = c.arguments.store in
+    let at = c.args.here.now.at in
+    let es = arguments_of (expr_at (forest_at fs at.code) c.args.id) in
+    let p = place_of w old.cells at in
+    let vs = c.arguments.args.items in
+    all_there fs w es p old cur vs c.args.run.now c.arguments.run _ c.arguments.invariant.argued (subst (λ (k : ℕ). drop k es ≡ []) c.arguments.invariant.counted c.in_default.ensures)
 
-pub calls::arguments_on-returns-in_err-a-in-Left-clause-comes : goal.calls::arguments_on-returns-in_err-a-in-Left-clause-comes
-calls::arguments_on-returns-in_err-a-in-Left-clause-comes t c = refused c.from_residual-in_err-a-in-Left.result _ c.from_residual-in_err-a-in-Left.ensures.0
+pub calls::arguments_on-returns-clause-kept : goal.calls::arguments_on-returns-clause-kept
+calls::arguments_on-returns-clause-kept t c = c.arguments.invariant.kept
 
-pub calls::invoke_on-callee-requires : goal.calls::invoke_on-callee-requires
-calls::invoke_on-callee-requires t c = fine_within c.args.site.now.widget c.args.store.now.cells c.args.call.func c.requires.held.0
+pub calls::variable_on-value_on-requires : goal.calls::variable_on-value_on-requires
+calls::variable_on-value_on-requires t c = (
+  search rules,
+  (
+    search rules,
+    (
+        let fs = trees_of c.args.here.now.site.now.codes.now.items in
+        let w = c.args.here.now.site.now.widget in
+        let s = c.args.store.now in
+        (subst (IsFine w s.cells) (sym c.in_ok-share_to.ensures) (c.variable_at.ensures.fine fs w c.requires.ready.1 c.requires.held.0.1), tt, c.requires.held.1)
+        ),
+  ),
+)
 
-pub calls::invoke_on-returns-in-Function-clause-comes : goal.calls::invoke_on-returns-in-Function-clause-comes
-calls::invoke_on-returns-in-Function-clause-comes t c =
+pub calls::variable_on-returns-clause-comes : goal.calls::variable_on-returns-clause-comes
+calls::variable_on-returns-clause-comes t c =
+    let fs = trees_of c.args.here.now.site.now.codes.now.items in
+    let w = c.args.here.now.site.now.widget in
+    let s = c.args.store.now in
+    let func = c.share_to.new.out in
+    let vs = all_seen w s.cells c.args.args.now.items in
+    let d = c.args.here.now.at.depth in
+    let pl = place_of w s.cells c.args.here.now.at in
+    IfOk-weaker c.value_on.result _ _
+    (λ how h. after_store fs w s s c.value_on.new.store 4 (invoke (seen w s.cells func) None vs d) (arguments_then (meaning.Variable c.args.name.now) vs [] pl) c.args.run.now c.value_on.new.run how (ended_as how c.value_on.new.out) h
+    (λ r. ap (λ u. invoke u None vs d (image fs r w s)) (sym (ap (seen w s.cells) c.in_ok-share_to.ensures ∙ c.variable_at.ensures.found fs r w d c.requires.ready.1 c.requires.held.0.1))))
+    c.value_on.ensures.comes
+
+pub calls::referred_on-value_far-requires : goal.calls::referred_on-value_far-requires
+calls::referred_on-value_far-requires t c = (
+  search rules,
+  (
+    search rules,
+    (
+        let fs = trees_of c.args.here.now.site.now.codes.now.items in
+        let w = c.args.here.now.site.now.widget in
+        let s = c.args.store.now in
+        (c.in_ok-func.ensures.fine, c.take_base-this.ensures.fine w s c.requires.held.1, c.requires.held.2)
+        ),
+  ),
+)
+
+pub calls::referred_on-returns-clause-comes : goal.calls::referred_on-returns-clause-comes
+calls::referred_on-returns-clause-comes t c =
+    let fs = trees_of c.args.here.now.site.now.codes.now.items in
+    let w = c.args.here.now.site.now.widget in
+    let s = c.args.store.now in
+    let func = c.in_ok-func.func in
+    let this = option_map (seen w s.cells) c.take_base-this.result in
+    let vs = all_seen w s.cells c.args.args.now.items in
+    let d = c.args.here.now.at.depth in
+    let pl = place_of w s.cells c.args.here.now.at in
+    let of = reference_of w s.cells c.args.of.now in
+    IfOk-weaker c.value_far.result _ _
+    (λ how h. after_store fs w s s c.value_far.new.store 4 (invoke (seen w s.cells func) this vs d) (arguments_then of vs [] pl) c.args.run.now c.value_far.new.run how (ended_as how c.value_far.new.out) h
+    (λ r. ap (λ u. invoke u (base_of of) vs d (image fs r w s)) (sym (c.in_ok-func.ensures.found r)) ∙ ap (λ b. invoke (seen w s.cells func) b vs d (image fs r w s)) (sym (c.take_base-this.ensures.base w s))))
+    c.value_far.ensures.comes
+
+pub calls::value_on-callee-requires : goal.calls::value_on-callee-requires
+calls::value_on-callee-requires t c = fine_within c.args.site.now.widget c.args.store.now.cells c.args.func.now c.requires.held.0
+
+pub calls::value_on-returns-in-Function-clause-comes : goal.calls::value_on-returns-in-Function-clause-comes
+calls::value_on-returns-in-Function-clause-comes t c =
     let fs = trees_of c.args.site.now.codes.now.items in
     let w = c.args.site.now.widget in
     let s = c.args.store.now in
-    let call = c.args.call in
+    let func = seen w s.cells c.args.func.now in
+    let this = option_map (seen w s.cells) c.args.this.now in
+    let vs = all_seen w s.cells c.args.args.now.items in
+    let d = c.args.depth in
+    let f = c.in-Function.parts in
+    let kind = Function (function_in fs f.code f.fun f.declared) (option_map (scope_number w s.cells) f.scope) in
     IfOk-weaker c.enter_on.result _ _
-    (λ how h. after_store fs w s s c.enter_on.new.store 4 _ (invoked w s.cells call) c.args.run.now c.enter_on.new.run how (ended_as how c.enter_on.new.out) h
-    (λ r. function_called (image fs r w s) (option_map (seen w s.cells) call.this) (all_seen w s.cells call.args.items) call.depth (seen w s.cells call.func) _ (c.in-Function.ensures.called fs r w c.requires.held.0)))
+    (λ how h. after_store fs w s s c.enter_on.new.store 4 _ (invoke func this vs d) c.args.run.now c.enter_on.new.run how (ended_as how c.enter_on.new.out) h
+    (λ r. function_called (image fs r w s) this vs d func kind (c.in-Function.ensures.called fs r w c.requires.held.0)
+    ∙ ap (λ (l : List Value2). enter kind func (all_seen w s.cells l) (suc d) (image fs r w s)) (sym c.as_slice.ensures)))
     c.enter_on.ensures.comes
 
-pub calls::invoke_on-returns-in-Native-clause-comes : goal.calls::invoke_on-returns-in-Native-clause-comes
-calls::invoke_on-returns-in-Native-clause-comes t c =
+pub calls::value_on-returns-in-Native-clause-comes : goal.calls::value_on-returns-in-Native-clause-comes
+calls::value_on-returns-in-Native-clause-comes t c =
     let fs = trees_of c.args.site.now.codes.now.items in
     let w = c.args.site.now.widget in
     let s = c.args.store.now in
-    let call = c.args.call in
+    let func = seen w s.cells c.args.func.now in
+    let this = option_map (seen w s.cells) c.args.this.now in
+    let vs = all_seen w s.cells c.args.args.now.items in
+    let d = c.args.depth in
     IfOk-weaker c.native_on.result _ _
-    (λ how h. before_it fs w s s 0 4 (invoked w s.cells call) _ c.args.run.now c.native_on.new.run how (ended_as how c.args.out.now)
-    (λ r. native_called (image fs r w s) (option_map (seen w s.cells) call.this) (all_seen w s.cells call.args.items) call.depth (seen w s.cells call.func) c.in-Native.which (c.in-Native.ensures.called fs r w c.requires.held.0))
-    (h fs w s c.args.out.now c.requires.held) (omega arith))
+    (λ how h. before_it fs w s s 0 4 (invoke func this vs d) _ c.args.run.now c.native_on.new.run how (ended_as how c.args.out.now)
+    (λ r. native_called (image fs r w s) this vs d func c.in-Native.which (c.in-Native.ensures.called fs r w c.requires.held.0))
+    (h fs w s c.args.out.now c.requires.held.1 c.requires.held.2) (omega arith))
     c.native_on.ensures.comes
 
-pub calls::invoke_on-returns-in-Nothing-clause-comes : goal.calls::invoke_on-returns-in-Nothing-clause-comes
-calls::invoke_on-returns-in-Nothing-clause-comes t c =
+pub calls::value_on-returns-in-Nothing-clause-comes : goal.calls::value_on-returns-in-Nothing-clause-comes
+calls::value_on-returns-in-Nothing-clause-comes t c =
     let fs = trees_of c.args.site.now.codes.now.items in
     let w = c.args.site.now.widget in
     let s = c.args.store.now in
-    let call = c.args.call in
+    let func = seen w s.cells c.args.func.now in
+    let this = option_map (seen w s.cells) c.args.this.now in
+    let vs = all_seen w s.cells c.args.args.now.items in
+    let d = c.args.depth in
     IfOk-weaker c.throw.result _ _
-    (λ how h. after_store fs w s s c.throw.new.store 4 _ (invoked w s.cells call) c.args.run.now c.throw.new.run how (ended_as how c.throw.new.out) (more fs w s c.throw.new.store 1 4 _ c.args.run.now c.throw.new.run how (ended_as how c.throw.new.out) h (omega arith))
-    (λ r. nothing_called (image fs r w s) (option_map (seen w s.cells) call.this) (all_seen w s.cells call.args.items) call.depth (seen w s.cells call.func) (c.in-Nothing.ensures.called fs r w c.requires.held.0)))
+    (λ how h. after_store fs w s s c.throw.new.store 4 _ (invoke func this vs d) c.args.run.now c.throw.new.run how (ended_as how c.throw.new.out) (more fs w s c.throw.new.store 1 4 _ c.args.run.now c.throw.new.run how (ended_as how c.throw.new.out) h (omega arith))
+    (λ r. nothing_called (image fs r w s) this vs d func (c.in-Nothing.ensures.called fs r w c.requires.held.0)))
     c.throw.ensures.comes
 
-pub calls::invoke_on-enter_on-requires : goal.calls::invoke_on-enter_on-requires
-calls::invoke_on-enter_on-requires t c = (
+pub calls::value_on-enter_on-requires : goal.calls::value_on-enter_on-requires
+calls::value_on-enter_on-requires t c = (
   search rules,
   (
     (c.requires.ready),
     (
       (c.in-Function.ensures.fine (trees_of c.args.site.now.codes.now.items) c.args.site.now.widget c.requires.ready.1 c.requires.held.0),
-      (c.requires.held),
+      ((c.requires.held.0, subst (AreFine c.args.site.now.widget c.args.store.now.cells) (sym c.as_slice.ensures) c.requires.held.2)),
     ),
   ),
 )
 
-pub calls::invoke_on-native_on-requires : goal.calls::invoke_on-native_on-requires
-calls::invoke_on-native_on-requires t c = record { waits = c.requires.ready.2 }
+pub calls::value_on-native_on-requires : goal.calls::value_on-native_on-requires
+calls::value_on-native_on-requires t c = record { waits = c.requires.ready.2 }
 
-pub calls::invoke_on-throw-requires : goal.calls::invoke_on-throw-requires
-calls::invoke_on-throw-requires t c = record { ready = c.requires.ready }
+pub calls::value_on-throw-requires : goal.calls::value_on-throw-requires
+calls::value_on-throw-requires t c = record { ready = c.requires.ready }
 
-pub calls::invoke_on-returns-in-Function-clause-kept : goal.calls::invoke_on-returns-in-Function-clause-kept
-calls::invoke_on-returns-in-Function-clause-kept t c = c.enter_on.ensures.kept
+pub calls::value_on-returns-in-Function-clause-kept : goal.calls::value_on-returns-in-Function-clause-kept
+calls::value_on-returns-in-Function-clause-kept t c = c.enter_on.ensures.kept
 
-pub calls::invoke_on-returns-in-Native-clause-kept : goal.calls::invoke_on-returns-in-Native-clause-kept
-calls::invoke_on-returns-in-Native-clause-kept t c = kept_same (trees_of c.args.site.now.codes.now.items) c.args.site.now.widget c.args.store.now c.args.store.now refl
+pub calls::value_on-returns-in-Native-clause-kept : goal.calls::value_on-returns-in-Native-clause-kept
+calls::value_on-returns-in-Native-clause-kept t c = kept_same (trees_of c.args.site.now.codes.now.items) c.args.site.now.widget c.args.store.now c.args.store.now refl
 
-pub calls::invoke_on-returns-in-Nothing-clause-kept : goal.calls::invoke_on-returns-in-Nothing-clause-kept
-calls::invoke_on-returns-in-Nothing-clause-kept t c = c.throw.ensures.kept
+pub calls::value_on-returns-in-Nothing-clause-kept : goal.calls::value_on-returns-in-Nothing-clause-kept
+calls::value_on-returns-in-Nothing-clause-kept t c = c.throw.ensures.kept
 
 pub calls::enter_on-returns-in-Stop-clause-comes : goal.calls::enter_on-returns-in-Stop-clause-comes
 calls::enter_on-returns-in-Stop-clause-comes t c =
@@ -572,7 +1299,10 @@ calls::enter_on-body_on-requires t c = (
   search rules,
   (
     ((c.requires.ready.0, c.entered.ensures.kept.confined c.requires.ready.1, c.requires.ready.2)),
-    (subst (FineEntry (trees_of c.args.site.now.codes.now.items) c.args.site.now.widget c.entered.new.store.cells c.args.parts.fun) c.in-Body.is c.in_ok-cause.ensures.fine),
+    (
+      (subst (FineEntry (trees_of c.args.site.now.codes.now.items) c.args.site.now.widget c.entered.new.store.cells c.args.parts.fun) c.in-Body.is c.in_ok-cause.ensures.fine),
+      search rules,
+    ),
   ),
 )
 
@@ -616,22 +1346,22 @@ calls::enter_on-returns-in-Stop-clause-kept t c = c.entered.ensures.kept
 
 pub calls::body_on-returns-in-Left-clause-comes : goal.calls::body_on-returns-in-Left-clause-comes
 calls::body_on-returns-in-Left-clause-comes t c =
-    let fs = trees_of c.args.site.now.codes.now.items in
-    let w = c.args.site.now.widget in
+    let fs = trees_of c.args.here.now.site.now.codes.now.items in
+    let w = c.args.here.now.site.now.widget in
     let old = c.args.store.now in
     let new = c.block_on.new.store in
-    let p : State → Plan = block_at fs w old.cells (block.Body c.args.fun) 0 c.args.place.now in
+    let p : State → Plan = block_at fs w old.cells (block.Body c.args.fun) 0 c.args.here.now.at in
     frame_waits fs w c.wait_end.result old new 1 4 p (frame.Call call.CallEnd) c.args.run.now c.block_on.new.run c.wait_end.new.run c.in_ok-how.how
     (ended_as c.in_ok-how.how c.block_on.new.out) (λ how. ended_as how c.block_on.new.out)
     c.in_ok-how.ensures.comes c.in-Left.is c.block_on.ensures.kept tt (omega arith) c.wait_end.ensures.left c.wait_end.ensures.waits c.wait_end.ensures.next c.wait_end.ensures.units
 
 pub calls::body_on-returns-in_default : goal.calls::body_on-returns-in_default
 calls::body_on-returns-in_default t c =
-    let fs = trees_of c.args.site.now.codes.now.items in
-    let w = c.args.site.now.widget in
+    let fs = trees_of c.args.here.now.site.now.codes.now.items in
+    let w = c.args.here.now.site.now.widget in
     let old = c.args.store.now in
     let new = c.block_on.new.store in
-    let p : State → Plan = block_at fs w old.cells (block.Body c.args.fun) 0 c.args.place.now in
+    let p : State → Plan = block_at fs w old.cells (block.Body c.args.fun) 0 c.args.here.now.at in
     record {
       comes = part_ends fs w old new 1 4 p call_end c.args.run.now c.block_on.new.run c.in_ok-how.how c.call_end.result (ended_as c.in_ok-how.how c.block_on.new.out) (ended_as c.call_end.result c.call_end.new.out)
           c.in_ok-how.ensures.comes (other_end c.in_ok-how.how c.in_default.not-Left) c.call_end.ensures.ended (c.call_end.ensures.end w new) (c.call_end.ensures.fine w new) (omega arith);
@@ -643,7 +1373,10 @@ calls::body_on-block_on-requires t c = (
   search rules,
   (
     (c.requires.ready),
-    (c.requires.held),
+    (
+      (c.requires.held),
+      c.requires.tree,
+    ),
   ),
 )
 
@@ -661,21 +1394,42 @@ calls::body_on-call_end-requires t c = other_end c.in_ok-how.how c.in_default.no
 
 pub forms::eval_on-returns-clause-comes : goal.forms::eval_on-returns-clause-comes
 forms::eval_on-returns-clause-comes t c =
-    let fs = trees_of c.args.site.now.codes.now.items in
-    let w = c.args.site.now.widget in
+    let fs = trees_of c.args.here.now.site.now.codes.now.items in
+    let w = c.args.here.now.site.now.widget in
     let old = c.args.store.now in
     let new = c.form_on.new.store in
-    let j = job_of fs w old.cells (job.Eval c.args.id c.args.place.now) in
+    let j = job_of fs w old.cells (job.Eval c.args.id c.args.here.now.at) in
     IfOk-weaker c.form_on.result _ _
     (λ how h. unit_first fs w old new 30 0 j (body j) Ret c.args.run.now _ c.form_on.new.run how _ (omega (arith, c.if-run-eq0.false)) (λ x. and_then_ret (body j x)) h (omega arith))
     c.form_on.ensures.comes
 
+pub forms::operand_on-name_on-requires-clause-confined : goal.forms::operand_on-name_on-requires-clause-confined
+forms::operand_on-name_on-requires-clause-confined t c = c.requires.ready.1
+
+pub forms::operand_on-name_on-requires-clause-place : goal.forms::operand_on-name_on-requires-clause-place
+forms::operand_on-name_on-requires-clause-place t c = c.requires.held.0
+
+pub forms::operand_on-returns-in-Name-clause-comes : goal.forms::operand_on-returns-in-Name-clause-comes
+forms::operand_on-returns-in-Name-clause-comes t c =
+    let fs = trees_of c.args.here.now.site.now.codes.now.items in
+    let w = c.args.here.now.site.now.widget in
+    let s = c.args.store.now in
+    let code = c.args.here.now.at.code in
+    let f = trees c.args.here.now.tree.now in
+    let pl = place_of w s.cells c.args.here.now.at in
+    let j = job_of fs w s.cells (job.Eval c.args.id c.args.here.now.at) in
+    let has = record c.args.run.now { units = c.args.run.now.units - 1 } in
+    IfOk-weaker c.name_on.result _ _
+    (λ how h. unit_first fs w s s 30 0 j (expression (node.Name c.in-Name.name) pl) Ret c.args.run.now has has how (ended_as how c.name_on.new.out) (less_one c.args.run.now.units c.if-run-eq0.false)
+    (λ x. and_then_ret (body j x) ∙ at_eval fs code f c.args.id c.expr.result.now c.requires.tree c.expr.ensures.same pl x ∙ ap (λ (e : Expr). expression (plain_form (forest_at fs code) e) pl x) c.in-Name.is) (h has c.requires.ready.2) (omega arith))
+    c.name_on.ensures.comes
+
 pub forms::unary_form-returns-clause-comes : goal.forms::unary_form-returns-clause-comes
 forms::unary_form-returns-clause-comes t c =
-    let fs = trees_of c.args.site.now.codes.now.items in
-    let w = c.args.site.now.widget in
+    let fs = trees_of c.args.here.now.site.now.codes.now.items in
+    let w = c.args.here.now.site.now.widget in
     let old = c.args.store.now in
-    let place = c.args.place.now in
+    let place = c.args.here.now.at in
     let todo : State → Plan = λ s. Do (job_of fs w old.cells (job.Eval c.args.parts.1 place)) s (taken fs w old.cells (frame.Form (form.Prefix c.args.parts.0 place))) in
     IfOk-weaker c.unary_on.result _ _
     (λ h x. instead fs w old c.unary_on.new.store 30 30 todo (body (job_of fs w old.cells (job.Eval c.args.id place))) c.args.run.now c.unary_on.new.run h _ x
@@ -683,13 +1437,442 @@ forms::unary_form-returns-clause-comes t c =
     ∙ c.takes_target.ensures c.if-takes_target.false (expr_at (forest_at fs place.code) c.args.parts.1) (place_of w old.cells place) (image fs r w old)) (omega arith))
     c.unary_on.ensures.comes
 
+pub looping::again_on-returns-in-None-clause-comes : goal.looping::again_on-returns-in-None-clause-comes
+looping::again_on-returns-in-None-clause-comes t c =
+    let fs = trees_of c.args.here.now.site.now.codes.now.items in
+    let w = c.args.here.now.site.now.widget in
+    let s0 = c.args.store.now in
+    let s1 = c.test_on.new.store in
+    let s2 = c.passes_by.new.store in
+    let start : State → Plan = taken fs w s0.cells (frame.Statement (statement.ForAgain c.args.id c.args.here.now.at)) meaning.Normal in
+    let again : State → Plan = λ s. Do (job_of fs w s1.cells (job.Pass c.args.id c.args.here.now.at)) s Ret in
+    let done : Towards fs w s0 s1 start again c.args.run.now c.test_on.new.run = subst (λ (e : Option Ended). Passes fs w s0 s1 1 start again c.args.run.now c.test_on.new.run e c.test_on.new.out) c.in-None.is c.in_ok-test_on.ensures.passes in
+    IfOk-weaker c.passes_by.result _ _ (λ h x. towards_then fs w s0 s1 s2 0 1 start again c.args.run.now c.test_on.new.run c.passes_by.new.run h (ended_as h c.passes_by.new.out) done x (omega arith)) c.passes_by.ensures.comes
+
+pub looping::again_on-returns-in-None-clause-kept : goal.looping::again_on-returns-in-None-clause-kept
+looping::again_on-returns-in-None-clause-kept t c =
+    let fs = trees_of c.args.here.now.site.now.codes.now.items in
+    let w = c.args.here.now.site.now.widget in
+    let s0 = c.args.store.now in
+    let s1 = c.test_on.new.store in
+    let s2 = c.passes_by.new.store in
+    let start : State → Plan = taken fs w s0.cells (frame.Statement (statement.ForAgain c.args.id c.args.here.now.at)) meaning.Normal in
+    let again : State → Plan = λ s. Do (job_of fs w s1.cells (job.Pass c.args.id c.args.here.now.at)) s Ret in
+    kept_then fs w s0 s1 s2 c.in_ok-test_on.ensures.kept c.passes_by.ensures.kept
+
+pub looping::tested_on-returns-in-Is-clause-passes : goal.looping::tested_on-returns-in-Is-clause-passes
+looping::tested_on-returns-in-Is-clause-passes t c =
+    let fs = trees_of c.args.here.now.site.now.codes.now.items in
+    let w = c.args.here.now.site.now.widget in
+    let old = c.args.store.now in
+    let mid = c.operand_on.new.store in
+    let p : State → Plan = λ s. Do (job_of fs w old.cells (job.Eval c.args.e c.args.here.now.at)) s Ret in
+    let had = c.args.run.now in
+    let has = c.operand_on.new.run in
+    let how = c.in_ok-how.how in
+    let out = c.operand_on.new.out in
+    let part = c.in_ok-how.ensures.comes in
+    let kept = c.in_ok-how.ensures.kept in
+    let f = (frame.Statement (statement.Test c.args.id c.args.here.now.at)) in
+    let again : State → Plan = λ s. Do (job_of fs w mid.cells (job.Pass c.args.id c.args.here.now.at)) s Ret in
+    let one = as_is fs w old mid 0 p had has how ended.Is out c.in-Is.is part in
+    tested fs w c.over.result old mid p again c.args.id c.args.here.now.at had has out _ one kept.grows c.requires.held.0 (end_ready fs w old mid 0 p had has ended.Is (ended_as ended.Is out) one tt c.requires.ready kept) (c.over.ensures w mid.cells) (λ s. refl)
+
+pub looping::tested_on-returns-in_ok-hand_test-in_default-clause-passes : goal.looping::tested_on-returns-in_ok-hand_test-in_default-clause-passes
+looping::tested_on-returns-in_ok-hand_test-in_default-clause-passes t c =
+    let fs = trees_of c.args.here.now.site.now.codes.now.items in
+    let w = c.args.here.now.site.now.widget in
+    let old = c.args.store.now in
+    let mid = c.operand_on.new.store in
+    let p : State → Plan = λ s. Do (job_of fs w old.cells (job.Eval c.args.e c.args.here.now.at)) s Ret in
+    let had = c.args.run.now in
+    let has = c.operand_on.new.run in
+    let how = c.in_ok-how.how in
+    let out = c.operand_on.new.out in
+    let part = c.in_ok-how.ensures.comes in
+    let kept = c.in_ok-how.ensures.kept in
+    let f = (frame.Statement (statement.Test c.args.id c.args.here.now.at)) in
+    let again : State → Plan = λ s. Do (job_of fs w mid.cells (job.Pass c.args.id c.args.here.now.at)) s Ret in
+    let t = c.in_ok-hand_test-in_default in
+    hands fs w old mid 0 1 p f had has c.hand_test.new.run t.field-0 out how part
+    (passes_value fs w mid.cells f how out (λ v t. statements_2.loop_test (loop_of (stmt_at (forest_at fs c.args.here.now.at.code) c.args.id)) (place_of w mid.cells c.args.here.now.at) (meaning.Is v) t) c.in_default.not-Is (λ o t. refl)) kept c.requires.held.0 (omega arith) t.ensures
+
+pub looping::passes_by-returns-in_err-how-clause-kept : goal.looping::passes_by-returns-in_err-how-clause-kept
+looping::passes_by-returns-in_err-how-clause-kept t c =
+    let fs = trees_of c.args.here.now.site.now.codes.now.items in
+    let w = c.args.here.now.site.now.widget in
+    let s0 = c.args.store.now in
+    let s1 = c.passes.store in
+    let s2 = c.pass_on.new.store in
+    let start : State → Plan = λ s. Do (job_of fs w s0.cells (job.Pass c.args.id c.args.here.now.at)) s Ret in
+    let again : State → Plan = λ s. Do (job_of fs w s1.cells (job.Pass c.args.id c.args.here.now.at)) s Ret in
+    let more : State → Plan = λ s. Do (job_of fs w s2.cells (job.Pass c.args.id c.args.here.now.at)) s Ret in
+    let inv = c.passes.invariant in
+    kept_then fs w s0 s1 s2 inv.1 c.in_err-how.ensures.kept
+
+pub looping::passes_by-returns-in-Some-clause-comes : goal.looping::passes_by-returns-in-Some-clause-comes
+looping::passes_by-returns-in-Some-clause-comes t c =
+    let fs = trees_of c.args.here.now.site.now.codes.now.items in
+    let w = c.args.here.now.site.now.widget in
+    let s0 = c.args.store.now in
+    let s1 = c.passes.store in
+    let s2 = c.pass_on.new.store in
+    let start : State → Plan = λ s. Do (job_of fs w s0.cells (job.Pass c.args.id c.args.here.now.at)) s Ret in
+    let again : State → Plan = λ s. Do (job_of fs w s1.cells (job.Pass c.args.id c.args.here.now.at)) s Ret in
+    let more : State → Plan = λ s. Do (job_of fs w s2.cells (job.Pass c.args.id c.args.here.now.at)) s Ret in
+    let inv = c.passes.invariant in
+    towards_then fs w s0 s1 s2 0 0 start again c.args.run.now c.passes.run c.pass_on.new.run c.in-Some.how (ended_as c.in-Some.how c.pass_on.new.out) inv.0
+    (subst (λ (e : Option Ended). Passes fs w s1 s2 0 again more c.passes.run c.pass_on.new.run e c.pass_on.new.out) c.in-Some.is c.in_ok-how.ensures.passes) (omega arith)
+
+pub looping::passes_by-returns-in-Some-clause-kept : goal.looping::passes_by-returns-in-Some-clause-kept
+looping::passes_by-returns-in-Some-clause-kept t c =
+    let fs = trees_of c.args.here.now.site.now.codes.now.items in
+    let w = c.args.here.now.site.now.widget in
+    let s0 = c.args.store.now in
+    let s1 = c.passes.store in
+    let s2 = c.pass_on.new.store in
+    let start : State → Plan = λ s. Do (job_of fs w s0.cells (job.Pass c.args.id c.args.here.now.at)) s Ret in
+    let again : State → Plan = λ s. Do (job_of fs w s1.cells (job.Pass c.args.id c.args.here.now.at)) s Ret in
+    let more : State → Plan = λ s. Do (job_of fs w s2.cells (job.Pass c.args.id c.args.here.now.at)) s Ret in
+    let inv = c.passes.invariant in
+    kept_then fs w s0 s1 s2 inv.1 c.in_ok-how.ensures.kept
+
+pub looping::passes_by-passes-preserved : goal.looping::passes_by-passes-preserved
+looping::passes_by-passes-preserved t c =
+    let fs = trees_of c.args.here.now.site.now.codes.now.items in
+    let w = c.args.here.now.site.now.widget in
+    let s0 = c.args.store.now in
+    let s1 = c.passes.store in
+    let s2 = c.pass_on.new.store in
+    let start : State → Plan = λ s. Do (job_of fs w s0.cells (job.Pass c.args.id c.args.here.now.at)) s Ret in
+    let again : State → Plan = λ s. Do (job_of fs w s1.cells (job.Pass c.args.id c.args.here.now.at)) s Ret in
+    let more : State → Plan = λ s. Do (job_of fs w s2.cells (job.Pass c.args.id c.args.here.now.at)) s Ret in
+    let inv = c.passes.invariant in
+    let kept = c.in_ok-how.ensures.kept in (
+      towards_each fs w s0 s1 s2 start again more c.args.run.now c.passes.run c.pass_on.new.run inv.0
+          (subst (λ (e : Option Ended). Passes fs w s1 s2 0 again more c.passes.run c.pass_on.new.run e c.pass_on.new.out) c.in_default.is c.in_ok-how.ensures.passes),
+      kept_then fs w s0 s1 s2 inv.1 kept,
+      (place_fine fs w s1.cells s2.cells kept.grows c.args.here.now.at inv.2.0, inv.2.1),
+    )
+
+pub looping::pass_on-returns-in-Normal-clause-passes : goal.looping::pass_on-returns-in-Normal-clause-passes
+looping::pass_on-returns-in-Normal-clause-passes t c =
+    let fs = trees_of c.args.here.now.site.now.codes.now.items in
+    let w = c.args.here.now.site.now.widget in
+    let old = c.args.store.now in
+    let mid = c.looped_on.new.store in
+    let had = c.args.run.now in
+    let paid : Run = record { units = had.units - 1; waits = had.waits; next = had.next } in
+    let has = c.looped_on.new.run in
+    let out = c.looped_on.new.out in
+    let i = stmt_at (forest_at fs c.args.here.now.at.code) c.args.id in
+    let l = place_of w old.cells c.args.here.now.at in
+    let j = job_of fs w old.cells (job.Pass c.args.id c.args.here.now.at) in
+    let f = frame.Statement (statement.LoopNext c.args.id c.args.here.now.at) in
+    let p : State → Plan = block_at fs w old.cells (block.Loop c.args.id) 0 c.args.here.now.at in
+    let both : State → Plan = λ s. and_then (p s) (taken fs w old.cells f) in
+    let first : Towards fs w old old (λ s. Do j s Ret) both had paid = unit_paid fs w old j both had paid c.requires.ready (omega (arith, c.requires.unit)) (λ x. and_then_ret (body j x) ∙ pass_is i l x) in
+    let given = c.in_ok-how.ensures.comes in
+    let kept = c.in_ok-how.ensures.kept in
+    let how = c.in_ok-how.how in
+    let done = towards_each fs w old old mid _ _ _ had paid has first (round fs w old mid p c.args.id c.args.here.now.at paid has how out given c.in-Normal.is c.requires.ready kept c.requires.held) in
+    IfOk-weaker c.next_on.result _ _ (λ o x. passes_paid fs w o old mid c.next_on.new.store 2 0 _ _ _ had has c.next_on.new.run c.next_on.new.out done x (omega (arith, given.units, c.requires.unit)) (omega arith)) c.next_on.ensures.passes
+
+pub looping::pass_on-returns-in-Normal-clause-kept : goal.looping::pass_on-returns-in-Normal-clause-kept
+looping::pass_on-returns-in-Normal-clause-kept t c =
+    let fs = trees_of c.args.here.now.site.now.codes.now.items in
+    let w = c.args.here.now.site.now.widget in
+    let old = c.args.store.now in
+    let mid = c.looped_on.new.store in
+    let had = c.args.run.now in
+    let paid : Run = record { units = had.units - 1; waits = had.waits; next = had.next } in
+    let has = c.looped_on.new.run in
+    let out = c.looped_on.new.out in
+    let i = stmt_at (forest_at fs c.args.here.now.at.code) c.args.id in
+    let l = place_of w old.cells c.args.here.now.at in
+    let j = job_of fs w old.cells (job.Pass c.args.id c.args.here.now.at) in
+    let f = frame.Statement (statement.LoopNext c.args.id c.args.here.now.at) in
+    let p : State → Plan = block_at fs w old.cells (block.Loop c.args.id) 0 c.args.here.now.at in
+    let both : State → Plan = λ s. and_then (p s) (taken fs w old.cells f) in
+    let first : Towards fs w old old (λ s. Do j s Ret) both had paid = unit_paid fs w old j both had paid c.requires.ready (omega (arith, c.requires.unit)) (λ x. and_then_ret (body j x) ∙ pass_is i l x) in
+    let given = c.in_ok-how.ensures.comes in
+    let kept = c.in_ok-how.ensures.kept in
+    let how = c.in_ok-how.how in
+    kept_then fs w old mid c.next_on.new.store kept c.next_on.ensures.kept
+
+pub looping::pass_on-returns-in-Break-clause-passes : goal.looping::pass_on-returns-in-Break-clause-passes
+looping::pass_on-returns-in-Break-clause-passes t c =
+    let fs = trees_of c.args.here.now.site.now.codes.now.items in
+    let w = c.args.here.now.site.now.widget in
+    let old = c.args.store.now in
+    let mid = c.looped_on.new.store in
+    let had = c.args.run.now in
+    let paid : Run = record { units = had.units - 1; waits = had.waits; next = had.next } in
+    let has = c.looped_on.new.run in
+    let out = c.looped_on.new.out in
+    let i = stmt_at (forest_at fs c.args.here.now.at.code) c.args.id in
+    let l = place_of w old.cells c.args.here.now.at in
+    let j = job_of fs w old.cells (job.Pass c.args.id c.args.here.now.at) in
+    let f = frame.Statement (statement.LoopNext c.args.id c.args.here.now.at) in
+    let p : State → Plan = block_at fs w old.cells (block.Loop c.args.id) 0 c.args.here.now.at in
+    let both : State → Plan = λ s. and_then (p s) (taken fs w old.cells f) in
+    let first : Towards fs w old old (λ s. Do j s Ret) both had paid = unit_paid fs w old j both had paid c.requires.ready (omega (arith, c.requires.unit)) (λ x. and_then_ret (body j x) ∙ pass_is i l x) in
+    let given = c.in_ok-how.ensures.comes in
+    let kept = c.in_ok-how.ensures.kept in
+    let how = c.in_ok-how.how in
+    let one = as_is fs w old mid 1 p paid has how ended.Break out c.in-Break.is given in
+    towards_paid fs w old old mid 1 0 (λ s. Do j s Ret) both had paid has ended.Normal (ended_as ended.Normal out)
+    first (part_gives fs w old mid 1 1 both p f paid has has ended.Break ended.Normal (ended_as ended.Break out) (ended_as ended.Normal out) (λ s. refl) one tt kept.grows c.requires.held tt refl
+    (λ r. loop_broken (loop_of i) (place_of w mid.cells c.args.here.now.at) (image fs r w mid)) tt (omega arith)) (omega (arith, c.requires.unit)) (omega arith)
+
+pub looping::pass_on-returns-in_ok-wait_next-in-Left-clause-passes : goal.looping::pass_on-returns-in_ok-wait_next-in-Left-clause-passes
+looping::pass_on-returns-in_ok-wait_next-in-Left-clause-passes t c =
+    let fs = trees_of c.args.here.now.site.now.codes.now.items in
+    let w = c.args.here.now.site.now.widget in
+    let old = c.args.store.now in
+    let mid = c.looped_on.new.store in
+    let had = c.args.run.now in
+    let paid : Run = record { units = had.units - 1; waits = had.waits; next = had.next } in
+    let has = c.looped_on.new.run in
+    let out = c.looped_on.new.out in
+    let i = stmt_at (forest_at fs c.args.here.now.at.code) c.args.id in
+    let l = place_of w old.cells c.args.here.now.at in
+    let j = job_of fs w old.cells (job.Pass c.args.id c.args.here.now.at) in
+    let f = frame.Statement (statement.LoopNext c.args.id c.args.here.now.at) in
+    let p : State → Plan = block_at fs w old.cells (block.Loop c.args.id) 0 c.args.here.now.at in
+    let both : State → Plan = λ s. and_then (p s) (taken fs w old.cells f) in
+    let first : Towards fs w old old (λ s. Do j s Ret) both had paid = unit_paid fs w old j both had paid c.requires.ready (omega (arith, c.requires.unit)) (λ x. and_then_ret (body j x) ∙ pass_is i l x) in
+    let given = c.in_ok-how.ensures.comes in
+    let kept = c.in_ok-how.ensures.kept in
+    let how = c.in_ok-how.how in
+    let one = as_is fs w old mid 1 p paid has how ended.Left out c.in-Left.is given in
+    towards_paid fs w old old mid 5 0 (λ s. Do j s Ret) both had paid c.wait_next.new.run c.in_ok-wait_next-in-Left.field-0 (ended_as c.in_ok-wait_next-in-Left.field-0 out)
+    first (
+    part_waits fs w old mid 1 5 p f paid has c.wait_next.new.run ended.Left c.in_ok-wait_next-in-Left.field-0 (ended_as ended.Left out) (ended_as c.in_ok-wait_next-in-Left.field-0 out) one refl kept.grows c.requires.held
+    c.in_ok-wait_next-in-Left.ensures.units c.in_ok-wait_next-in-Left.ensures.next c.in_ok-wait_next-in-Left.ensures.waits c.in_ok-wait_next-in-Left.ensures.left (omega arith)
+    ) (omega (arith, c.requires.unit)) (omega arith)
+
+pub looping::pass_on-returns-in_default-clause-passes : goal.looping::pass_on-returns-in_default-clause-passes
+looping::pass_on-returns-in_default-clause-passes t c =
+    let fs = trees_of c.args.here.now.site.now.codes.now.items in
+    let w = c.args.here.now.site.now.widget in
+    let old = c.args.store.now in
+    let mid = c.looped_on.new.store in
+    let had = c.args.run.now in
+    let paid : Run = record { units = had.units - 1; waits = had.waits; next = had.next } in
+    let has = c.looped_on.new.run in
+    let out = c.looped_on.new.out in
+    let i = stmt_at (forest_at fs c.args.here.now.at.code) c.args.id in
+    let l = place_of w old.cells c.args.here.now.at in
+    let j = job_of fs w old.cells (job.Pass c.args.id c.args.here.now.at) in
+    let f = frame.Statement (statement.LoopNext c.args.id c.args.here.now.at) in
+    let p : State → Plan = block_at fs w old.cells (block.Loop c.args.id) 0 c.args.here.now.at in
+    let both : State → Plan = λ s. and_then (p s) (taken fs w old.cells f) in
+    let first : Towards fs w old old (λ s. Do j s Ret) both had paid = unit_paid fs w old j both had paid c.requires.ready (omega (arith, c.requires.unit)) (λ x. and_then_ret (body j x) ∙ pass_is i l x) in
+    let given = c.in_ok-how.ensures.comes in
+    let kept = c.in_ok-how.ensures.kept in
+    let how = c.in_ok-how.how in
+    towards_paid fs w old old mid 1 0 (λ s. Do j s Ret) both had paid has how (ended_as how out)
+    first (part_passes fs w old mid 1 1 p f paid has how (ended_as how out) given (is_end how c.in_default.not-Left) kept.grows c.requires.held
+    (λ t. loop_other (loop_of i) (place_of w mid.cells c.args.here.now.at) (completion_of w mid.cells (ended_as how out)) t
+    ∙ loop_passes w mid.cells out t how (loop_next (loop_of i) (place_of w mid.cells c.args.here.now.at) meaning.Normal t) c.in_default.not-Normal c.in_default.not-Continue c.in_default.not-Break c.in_default.not-Left) (omega arith)) (omega (arith, c.requires.unit)) (omega arith)
+
+pub looping::next_on-returns-in-Normal-clause-passes : goal.looping::next_on-returns-in-Normal-clause-passes
+looping::next_on-returns-in-Normal-clause-passes t c =
+    let fs = trees_of c.args.here.now.site.now.codes.now.items in
+    let w = c.args.here.now.site.now.widget in
+    let old = c.args.store.now in
+    let mid = c.expressions_on.new.store in
+    let had = c.args.run.now in
+    let has = c.expressions_on.new.run in
+    let how = c.in_ok-how.how in
+    let out = c.expressions_on.new.out in
+    let given = c.in_ok-how.ensures.comes in
+    let kept = c.in_ok-how.ensures.kept in
+    let i = stmt_at (forest_at fs c.args.here.now.at.code) c.args.id in
+    let p : State → Plan = statements_2.expressions (part_of part.Last i) (place_of w old.cells c.args.here.now.at) in
+    let f = frame.Statement (statement.ForAgain c.args.id c.args.here.now.at) in
+    let one = as_is fs w old mid 1 p had has how ended.Normal out c.in-Normal.is given in
+    let done = part_done fs w old mid 1 p (taken fs w mid.cells f meaning.Normal) f had has ended.Normal (ended_as ended.Normal out) one tt kept.grows c.requires.held (end_ready fs w old mid 1 p had has ended.Normal (ended_as ended.Normal out) one tt c.requires.ready kept) (λ r. refl) in
+    IfOk-weaker c.test_on.result _ _ (λ o x. passes_then fs w o old mid c.test_on.new.store 1 2 _ _ _ had has c.test_on.new.run _ done x (omega arith)) c.test_on.ensures.passes
+
+pub looping::next_on-returns-in-Normal-clause-kept : goal.looping::next_on-returns-in-Normal-clause-kept
+looping::next_on-returns-in-Normal-clause-kept t c =
+    let fs = trees_of c.args.here.now.site.now.codes.now.items in
+    let w = c.args.here.now.site.now.widget in
+    let old = c.args.store.now in
+    let mid = c.expressions_on.new.store in
+    let had = c.args.run.now in
+    let has = c.expressions_on.new.run in
+    let how = c.in_ok-how.how in
+    let out = c.expressions_on.new.out in
+    let given = c.in_ok-how.ensures.comes in
+    let kept = c.in_ok-how.ensures.kept in
+    let i = stmt_at (forest_at fs c.args.here.now.at.code) c.args.id in
+    let p : State → Plan = statements_2.expressions (part_of part.Last i) (place_of w old.cells c.args.here.now.at) in
+    let f = frame.Statement (statement.ForAgain c.args.id c.args.here.now.at) in
+    kept_then fs w old mid c.test_on.new.store kept c.test_on.ensures.kept
+
+pub looping::next_on-returns-in_ok-wait_again-in-Left-clause-passes : goal.looping::next_on-returns-in_ok-wait_again-in-Left-clause-passes
+looping::next_on-returns-in_ok-wait_again-in-Left-clause-passes t c =
+    let fs = trees_of c.args.here.now.site.now.codes.now.items in
+    let w = c.args.here.now.site.now.widget in
+    let old = c.args.store.now in
+    let mid = c.expressions_on.new.store in
+    let had = c.args.run.now in
+    let has = c.expressions_on.new.run in
+    let how = c.in_ok-how.how in
+    let out = c.expressions_on.new.out in
+    let given = c.in_ok-how.ensures.comes in
+    let kept = c.in_ok-how.ensures.kept in
+    let i = stmt_at (forest_at fs c.args.here.now.at.code) c.args.id in
+    let p : State → Plan = statements_2.expressions (part_of part.Last i) (place_of w old.cells c.args.here.now.at) in
+    let f = frame.Statement (statement.ForAgain c.args.id c.args.here.now.at) in
+    let one = as_is fs w old mid 1 p had has how ended.Left out c.in-Left.is given in
+    part_waits fs w old mid 1 2 p f had has c.wait_again.new.run ended.Left c.in_ok-wait_again-in-Left.field-0 (ended_as ended.Left out) (ended_as c.in_ok-wait_again-in-Left.field-0 out) one refl kept.grows c.requires.held
+    c.in_ok-wait_again-in-Left.ensures.units c.in_ok-wait_again-in-Left.ensures.next c.in_ok-wait_again-in-Left.ensures.waits c.in_ok-wait_again-in-Left.ensures.left (omega arith)
+
+pub looping::next_on-returns-in_default : goal.looping::next_on-returns-in_default
+looping::next_on-returns-in_default t c =
+    let fs = trees_of c.args.here.now.site.now.codes.now.items in
+    let w = c.args.here.now.site.now.widget in
+    let old = c.args.store.now in
+    let mid = c.expressions_on.new.store in
+    let had = c.args.run.now in
+    let has = c.expressions_on.new.run in
+    let how = c.in_ok-how.how in
+    let out = c.expressions_on.new.out in
+    let given = c.in_ok-how.ensures.comes in
+    let kept = c.in_ok-how.ensures.kept in
+    let i = stmt_at (forest_at fs c.args.here.now.at.code) c.args.id in
+    let p : State → Plan = statements_2.expressions (part_of part.Last i) (place_of w old.cells c.args.here.now.at) in
+    let f = frame.Statement (statement.ForAgain c.args.id c.args.here.now.at) in
+    record {
+      passes = other_normal fs w old mid 1 2 p f (λ t. loop_again (loop_of i) (place_of w mid.cells c.args.here.now.at) meaning.Normal t) had has how out given c.in_default.not-Normal c.in_default.not-Left kept.grows c.requires.held (again_normal (loop_of i) (place_of w mid.cells c.args.here.now.at)) (omega arith);
+      kept = kept;
+    }
+
+pub looping::expressions_on-returns-in_err-how-clause-kept : goal.looping::expressions_on-returns-in_err-how-clause-kept
+looping::expressions_on-returns-in_err-how-clause-kept t c =
+    let fs = trees_of c.args.here.now.site.now.codes.now.items in
+    let w = c.args.here.now.site.now.widget in
+    kept_then fs w c.args.store.now c.list.store c.eval_on.new.store c.list.invariant.1 c.in_err-how.ensures.kept
+
+pub looping::expressions_on-list-preserved : goal.looping::expressions_on-list-preserved
+looping::expressions_on-list-preserved t c =
+    let fs = trees_of c.args.here.now.site.now.codes.now.items in
+    let w = c.args.here.now.site.now.widget in
+    let s0 = c.args.store.now in
+    let s1 = c.list.store in
+    let s2 = c.eval_on.new.store in
+    let i = stmt_at (forest_at fs c.args.here.now.at.code) c.args.id in
+    let es = part_of c.args.part i in
+    let p : State → Plan = λ s. Do (job_of fs w s1.cells (job.Eval c.in-Some.e c.args.here.now.at)) s Ret in
+    let q : State → Plan = statements_2.expressions (drop c.list.n es) (place_of w s1.cells c.args.here.now.at) in
+    let start : State → Plan = statements_2.expressions es (place_of w s0.cells c.args.here.now.at) in
+    let goes : State → Plan = statements_2.expressions (drop (c.list.n + 1) es) (place_of w s2.cells c.args.here.now.at) in
+    let f = (frame.Statement (frame_in c.args.part c.args.id (c.list.n + 1) c.args.here.now.at)) in
+    let inv = c.list.invariant in
+    let kept = c.in_ok-how.ensures.kept in
+    let how = c.in_ok-how.how in
+    let out = c.eval_on.new.out in
+    let held : FineFrame fs w s1.cells f = part_fine fs w s1.cells c.args.part c.args.id (c.list.n + 1) c.args.here.now.at inv.2 in
+    let listed = subst (λ (g : Forest). drop c.list.n (part_of c.args.part (stmt_at g c.args.id)) ≡ expr_at g c.in-Some.e ∷ drop (c.list.n + 1) (part_of c.args.part (stmt_at g c.args.id))) c.requires.tree c.in-Some.ensures.2 in
+    let plan : (s : State) → q s ≡ and_then (p s) (taken fs w s1.cells f) = λ s. ap (λ l. statements_2.expressions l (place_of w s1.cells c.args.here.now.at) s) listed
+    ∙ sym (λ k. Do (job_of fs w s1.cells (job.Eval c.in-Some.e c.args.here.now.at)) s (λ o t. part_taken fs w s1.cells c.args.part c.args.id (c.list.n + 1) c.args.here.now.at o t k)) in
+    let one = as_is fs w s1 s2 0 p c.list.run c.eval_on.new.run how ended.Is out c.in-Is.is c.in_ok-how.ensures.comes in (
+      towards_each fs w s0 s1 s2 start q goes c.args.run.now c.list.run c.eval_on.new.run inv.0
+          (part_next fs w s1 s2 0 q p goes f c.list.run c.eval_on.new.run ended.Is (ended_as ended.Is out) plan one tt kept.grows held (end_ready fs w s1 s2 0 p c.list.run c.eval_on.new.run ended.Is (ended_as ended.Is out) one tt inv.0.ready kept)
+          (λ r. part_taken fs w s2.cells c.args.part c.args.id (c.list.n + 1) c.args.here.now.at (completion_of w s2.cells (ended_as ended.Is out)) (image fs r w s2))),
+      kept_then fs w s0 s1 s2 inv.1 kept,
+      (place_fine fs w s1.cells s2.cells kept.grows c.args.here.now.at inv.2.0, inv.2.1),
+    )
+
+pub looping::expressions_on-returns-in-Left-clause-comes : goal.looping::expressions_on-returns-in-Left-clause-comes
+looping::expressions_on-returns-in-Left-clause-comes t c =
+    let fs = trees_of c.args.here.now.site.now.codes.now.items in
+    let w = c.args.here.now.site.now.widget in
+    let s0 = c.args.store.now in
+    let s1 = c.list.store in
+    let s2 = c.eval_on.new.store in
+    let i = stmt_at (forest_at fs c.args.here.now.at.code) c.args.id in
+    let es = part_of c.args.part i in
+    let p : State → Plan = λ s. Do (job_of fs w s1.cells (job.Eval c.in-Some.e c.args.here.now.at)) s Ret in
+    let q : State → Plan = statements_2.expressions (drop c.list.n es) (place_of w s1.cells c.args.here.now.at) in
+    let start : State → Plan = statements_2.expressions es (place_of w s0.cells c.args.here.now.at) in
+    let goes : State → Plan = statements_2.expressions (drop (c.list.n + 1) es) (place_of w s2.cells c.args.here.now.at) in
+    let f = (frame.Statement (frame_in c.args.part c.args.id (c.list.n + 1) c.args.here.now.at)) in
+    let inv = c.list.invariant in
+    let kept = c.in_ok-how.ensures.kept in
+    let how = c.in_ok-how.how in
+    let out = c.eval_on.new.out in
+    let held : FineFrame fs w s1.cells f = part_fine fs w s1.cells c.args.part c.args.id (c.list.n + 1) c.args.here.now.at inv.2 in
+    let listed = subst (λ (g : Forest). drop c.list.n (part_of c.args.part (stmt_at g c.args.id)) ≡ expr_at g c.in-Some.e ∷ drop (c.list.n + 1) (part_of c.args.part (stmt_at g c.args.id))) c.requires.tree c.in-Some.ensures.2 in
+    let plan : (s : State) → q s ≡ and_then (p s) (taken fs w s1.cells f) = λ s. ap (λ l. statements_2.expressions l (place_of w s1.cells c.args.here.now.at) s) listed
+    ∙ sym (λ k. Do (job_of fs w s1.cells (job.Eval c.in-Some.e c.args.here.now.at)) s (λ o t. part_taken fs w s1.cells c.args.part c.args.id (c.list.n + 1) c.args.here.now.at o t k)) in
+    let one = as_is fs w s1 s2 0 p c.list.run c.eval_on.new.run how ended.Left out c.in-Left.is c.in_ok-how.ensures.comes in
+    waits_then fs w c.wait_part.result s0 s1 s2 0 1 1 start q p f c.args.run.now c.list.run c.eval_on.new.run c.wait_part.new.run ended.Left (ended_as ended.Left out) _ inv.0 plan one refl kept.grows held
+    c.wait_part.ensures.left c.wait_part.ensures.waits c.wait_part.ensures.next c.wait_part.ensures.units (omega (arith, part_free c.args.part c.args.id (c.list.n + 1) c.args.here.now.at)) (omega arith)
+
+pub looping::expressions_on-returns-in-Left-clause-kept : goal.looping::expressions_on-returns-in-Left-clause-kept
+looping::expressions_on-returns-in-Left-clause-kept t c =
+    let fs = trees_of c.args.here.now.site.now.codes.now.items in
+    let w = c.args.here.now.site.now.widget in
+    let s0 = c.args.store.now in
+    let s1 = c.list.store in
+    let s2 = c.eval_on.new.store in
+    let i = stmt_at (forest_at fs c.args.here.now.at.code) c.args.id in
+    let es = part_of c.args.part i in
+    let p : State → Plan = λ s. Do (job_of fs w s1.cells (job.Eval c.in-Some.e c.args.here.now.at)) s Ret in
+    let q : State → Plan = statements_2.expressions (drop c.list.n es) (place_of w s1.cells c.args.here.now.at) in
+    let start : State → Plan = statements_2.expressions es (place_of w s0.cells c.args.here.now.at) in
+    let goes : State → Plan = statements_2.expressions (drop (c.list.n + 1) es) (place_of w s2.cells c.args.here.now.at) in
+    let f = (frame.Statement (frame_in c.args.part c.args.id (c.list.n + 1) c.args.here.now.at)) in
+    let inv = c.list.invariant in
+    let kept = c.in_ok-how.ensures.kept in
+    let how = c.in_ok-how.how in
+    let out = c.eval_on.new.out in
+    let held : FineFrame fs w s1.cells f = part_fine fs w s1.cells c.args.part c.args.id (c.list.n + 1) c.args.here.now.at inv.2 in
+    let listed = subst (λ (g : Forest). drop c.list.n (part_of c.args.part (stmt_at g c.args.id)) ≡ expr_at g c.in-Some.e ∷ drop (c.list.n + 1) (part_of c.args.part (stmt_at g c.args.id))) c.requires.tree c.in-Some.ensures.2 in
+    let plan : (s : State) → q s ≡ and_then (p s) (taken fs w s1.cells f) = λ s. ap (λ l. statements_2.expressions l (place_of w s1.cells c.args.here.now.at) s) listed
+    ∙ sym (λ k. Do (job_of fs w s1.cells (job.Eval c.in-Some.e c.args.here.now.at)) s (λ o t. part_taken fs w s1.cells c.args.part c.args.id (c.list.n + 1) c.args.here.now.at o t k)) in
+    kept_then fs w s0 s1 s2 inv.1 kept
+
+pub looping::expressions_on-returns-in_default-2 : goal.looping::expressions_on-returns-in_default-2
+looping::expressions_on-returns-in_default-2 t c =
+    let fs = trees_of c.args.here.now.site.now.codes.now.items in
+    let w = c.args.here.now.site.now.widget in
+    let s0 = c.args.store.now in
+    let s1 = c.list.store in
+    let s2 = c.eval_on.new.store in
+    let i = stmt_at (forest_at fs c.args.here.now.at.code) c.args.id in
+    let es = part_of c.args.part i in
+    let p : State → Plan = λ s. Do (job_of fs w s1.cells (job.Eval c.in-Some.e c.args.here.now.at)) s Ret in
+    let q : State → Plan = statements_2.expressions (drop c.list.n es) (place_of w s1.cells c.args.here.now.at) in
+    let start : State → Plan = statements_2.expressions es (place_of w s0.cells c.args.here.now.at) in
+    let goes : State → Plan = statements_2.expressions (drop (c.list.n + 1) es) (place_of w s2.cells c.args.here.now.at) in
+    let f = (frame.Statement (frame_in c.args.part c.args.id (c.list.n + 1) c.args.here.now.at)) in
+    let inv = c.list.invariant in
+    let kept = c.in_ok-how.ensures.kept in
+    let how = c.in_ok-how.how in
+    let out = c.eval_on.new.out in
+    let held : FineFrame fs w s1.cells f = part_fine fs w s1.cells c.args.part c.args.id (c.list.n + 1) c.args.here.now.at inv.2 in
+    let listed = subst (λ (g : Forest). drop c.list.n (part_of c.args.part (stmt_at g c.args.id)) ≡ expr_at g c.in-Some.e ∷ drop (c.list.n + 1) (part_of c.args.part (stmt_at g c.args.id))) c.requires.tree c.in-Some.ensures.2 in
+    let plan : (s : State) → q s ≡ and_then (p s) (taken fs w s1.cells f) = λ s. ap (λ l. statements_2.expressions l (place_of w s1.cells c.args.here.now.at) s) listed
+    ∙ sym (λ k. Do (job_of fs w s1.cells (job.Eval c.in-Some.e c.args.here.now.at)) s (λ o t. part_taken fs w s1.cells c.args.part c.args.id (c.list.n + 1) c.args.here.now.at o t k)) in
+    record {
+      comes = towards_then fs w s0 s1 s2 1 1 start q c.args.run.now c.list.run c.eval_on.new.run how (ended_as how out) inv.0
+          (planned fs w s1 s2 1 q _ c.list.run c.eval_on.new.run how (ended_as how out) plan (other_value fs w s1 s2 0 1 p f (λ v t. goes t) c.list.run c.eval_on.new.run how out c.in_ok-how.ensures.comes c.in_default-2.not-Is c.in_default-2.not-Left kept.grows held (part_taken fs w s2.cells c.args.part c.args.id (c.list.n + 1) c.args.here.now.at) (omega arith))) (omega arith);
+      kept = kept_then fs w s0 s1 s2 inv.1 kept;
+    }
+
 pub objects::object_on-returns-in-Cell-clause-comes : goal.objects::object_on-returns-in-Cell-clause-comes
 objects::object_on-returns-in-Cell-clause-comes t c =
-    let fs = trees_of c.args.site.now.codes.now.items in
-    let w = c.args.site.now.widget in
+    let fs = trees_of c.args.here.now.site.now.codes.now.items in
+    let w = c.args.here.now.site.now.widget in
     let old = c.args.store.now in
     let mid = c.make.new.store in
-    let place = c.args.place.now in
+    let place = c.args.here.now.at in
     let list = properties_of (expr_at (forest_at fs place.code) c.args.id) in
     let e : seen w old.cells (value.Ref c.host-proto.result) ≡ meaning.Host entry.ObjectPrototype = ap (λ i. seen w old.cells (value.Ref i)) c.host-proto.ensures.place ∙ entry_link w old.cells c.lawful.ensures entry.ObjectPrototype in
     let k : Value → State → Plan = λ a t. object_parts a list (place_of w old.cells place) t in
@@ -704,11 +1887,11 @@ objects::object_on-returns-in-Cell-clause-comes t c =
 
 pub objects::object_on-returns-in-Stop-clause-comes : goal.objects::object_on-returns-in-Stop-clause-comes
 objects::object_on-returns-in-Stop-clause-comes t c =
-    let fs = trees_of c.args.site.now.codes.now.items in
-    let w = c.args.site.now.widget in
+    let fs = trees_of c.args.here.now.site.now.codes.now.items in
+    let w = c.args.here.now.site.now.widget in
     let old = c.args.store.now in
     let new = c.make.new.store in
-    let place = c.args.place.now in
+    let place = c.args.here.now.at in
     let list = properties_of (expr_at (forest_at fs place.code) c.args.id) in
     let e : seen w old.cells (value.Ref c.host-proto.result) ≡ meaning.Host entry.ObjectPrototype = ap (λ i. seen w old.cells (value.Ref i)) c.host-proto.ensures.place ∙ entry_link w old.cells c.lawful.ensures entry.ObjectPrototype in
     let k : Value → State → Plan = λ a t. object_parts a list (place_of w old.cells place) t in
@@ -720,17 +1903,17 @@ objects::object_on-returns-in-Stop-clause-comes t c =
 
 pub objects::object_on-returns-in-Cell-clause-kept : goal.objects::object_on-returns-in-Cell-clause-kept
 objects::object_on-returns-in-Cell-clause-kept t c =
-    let fs = trees_of c.args.site.now.codes.now.items in
-    kept_then fs c.args.site.now.widget c.args.store.now c.make.new.store c.properties_on.new.store (c.make.ensures.kept fs tt) c.properties_on.ensures.kept
+    let fs = trees_of c.args.here.now.site.now.codes.now.items in
+    kept_then fs c.args.here.now.site.now.widget c.args.store.now c.make.new.store c.properties_on.new.store (c.make.ensures.kept fs tt) c.properties_on.ensures.kept
 
 pub objects::properties_on-returns-in_err-how-clause-kept : goal.objects::properties_on-returns-in_err-how-clause-kept
 objects::properties_on-returns-in_err-how-clause-kept t c =
-    kept_then (trees_of c.args.site.now.codes.now.items) c.args.site.now.widget c.args.store.now c.properties.store c.property_part_on.new.store c.properties.invariant.kept c.property_part_on.ensures.kept
+    kept_then (trees_of c.args.here.now.site.now.codes.now.items) c.args.here.now.site.now.widget c.args.store.now c.properties.store c.property_part_on.new.store c.properties.invariant.kept c.property_part_on.ensures.kept
 
 pub objects::properties_on-properties-preserved : goal.objects::properties_on-properties-preserved
 objects::properties_on-properties-preserved t c =
-    let fs = trees_of c.args.site.now.codes.now.items in
-    let w = c.args.site.now.widget in
+    let fs = trees_of c.args.here.now.site.now.codes.now.items in
+    let w = c.args.here.now.site.now.widget in
     let old = c.args.store.now in
     let mid = c.properties.store in
     let new = c.property_part_on.new.store in
@@ -742,15 +1925,15 @@ objects::properties_on-properties-preserved t c =
       ready = (was.ready.0, step.kept.confined was.ready.1, next.none);
       held = (
         held_stays w mid.cells new.cells step.kept.grows c.args.object was.held.0,
-        (place_fine fs w mid.cells new.cells step.kept.grows c.args.place.now was.held.1.0, was.held.1.1),
+        (place_fine fs w mid.cells new.cells step.kept.grows c.args.here.now.at was.held.1.0, was.held.1.1),
       );
       kept = kept_then fs w old mid new was.kept step.kept;
     }
 
 pub objects::properties_on-returns-in_default-2 : goal.objects::properties_on-returns-in_default-2
 objects::properties_on-returns-in_default-2 t c =
-    let fs = trees_of c.args.site.now.codes.now.items in
-    let w = c.args.site.now.widget in
+    let fs = trees_of c.args.here.now.site.now.codes.now.items in
+    let w = c.args.here.now.site.now.widget in
     let old = c.args.store.now in
     let mid = c.properties.store in
     let new = c.property_part_on.new.store in
@@ -763,11 +1946,11 @@ objects::properties_on-returns-in_default-2 t c =
 
 pub objects::property_part_on-put_property-requires-clause-ready : goal.objects::property_part_on-put_property-requires-clause-ready
 objects::property_part_on-put_property-requires-clause-ready t c =
-    let fs = trees_of c.args.site.now.codes.now.items in
-    let w = c.args.site.now.widget in
+    let fs = trees_of c.args.here.now.site.now.codes.now.items in
+    let w = c.args.here.now.site.now.widget in
     let old = c.args.store.now in
     let mid = c.eval_on.new.store in
-    let place = c.args.place.now in
+    let place = c.args.here.now.at in
     let p : State → Plan = λ s. Do (job_of fs w old.cells (job.Eval c.args.part.now.1 place)) s Ret in
     let had = c.args.run.now in
     let has = c.eval_on.new.run in
@@ -779,11 +1962,11 @@ objects::property_part_on-put_property-requires-clause-ready t c =
 
 pub objects::property_part_on-put_property-requires-clause-held : goal.objects::property_part_on-put_property-requires-clause-held
 objects::property_part_on-put_property-requires-clause-held t c =
-    let fs = trees_of c.args.site.now.codes.now.items in
-    let w = c.args.site.now.widget in
+    let fs = trees_of c.args.here.now.site.now.codes.now.items in
+    let w = c.args.here.now.site.now.widget in
     let old = c.args.store.now in
     let mid = c.eval_on.new.store in
-    let place = c.args.place.now in
+    let place = c.args.here.now.at in
     let p : State → Plan = λ s. Do (job_of fs w old.cells (job.Eval c.args.part.now.1 place)) s Ret in
     let had = c.args.run.now in
     let has = c.eval_on.new.run in
@@ -795,11 +1978,11 @@ objects::property_part_on-put_property-requires-clause-held t c =
 
 pub objects::property_part_on-returns-in-Is-clause-goes : goal.objects::property_part_on-returns-in-Is-clause-goes
 objects::property_part_on-returns-in-Is-clause-goes t c =
-    let fs = trees_of c.args.site.now.codes.now.items in
-    let w = c.args.site.now.widget in
+    let fs = trees_of c.args.here.now.site.now.codes.now.items in
+    let w = c.args.here.now.site.now.widget in
     let old = c.args.store.now in
     let mid = c.eval_on.new.store in
-    let place = c.args.place.now in
+    let place = c.args.here.now.at in
     let p : State → Plan = λ s. Do (job_of fs w old.cells (job.Eval c.args.part.now.1 place)) s Ret in
     let had = c.args.run.now in
     let has = c.eval_on.new.run in
@@ -830,11 +2013,11 @@ objects::property_part_on-returns-in-Is-clause-goes t c =
 
 pub objects::property_part_on-returns-in-Is-clause-comes : goal.objects::property_part_on-returns-in-Is-clause-comes
 objects::property_part_on-returns-in-Is-clause-comes t c =
-    let fs = trees_of c.args.site.now.codes.now.items in
-    let w = c.args.site.now.widget in
+    let fs = trees_of c.args.here.now.site.now.codes.now.items in
+    let w = c.args.here.now.site.now.widget in
     let old = c.args.store.now in
     let mid = c.eval_on.new.store in
-    let place = c.args.place.now in
+    let place = c.args.here.now.at in
     let p : State → Plan = λ s. Do (job_of fs w old.cells (job.Eval c.args.part.now.1 place)) s Ret in
     let had = c.args.run.now in
     let has = c.eval_on.new.run in
@@ -862,18 +2045,18 @@ objects::property_part_on-returns-in-Is-clause-comes t c =
 
 pub objects::property_part_on-returns-in-Is-clause-kept : goal.objects::property_part_on-returns-in-Is-clause-kept
 objects::property_part_on-returns-in-Is-clause-kept t c =
-    kept_then (trees_of c.args.site.now.codes.now.items) c.args.site.now.widget c.args.store.now c.eval_on.new.store c.put_property.new.store c.in_ok-how.ensures.kept c.put_property.ensures.kept
+    kept_then (trees_of c.args.here.now.site.now.codes.now.items) c.args.here.now.site.now.widget c.args.store.now c.eval_on.new.store c.put_property.new.store c.in_ok-how.ensures.kept c.put_property.ensures.kept
 
 pub objects::property_part_on-returns-in-Left-clause-goes : goal.objects::property_part_on-returns-in-Left-clause-goes
 objects::property_part_on-returns-in-Left-clause-goes t c = IfOk-weaker c.wait.result _ _ (λ h x t. absurd (left_no_value h x t)) c.wait.ensures.left
 
 pub objects::property_part_on-returns-in-Left-clause-comes : goal.objects::property_part_on-returns-in-Left-clause-comes
 objects::property_part_on-returns-in-Left-clause-comes t c =
-    let fs = trees_of c.args.site.now.codes.now.items in
-    let w = c.args.site.now.widget in
+    let fs = trees_of c.args.here.now.site.now.codes.now.items in
+    let w = c.args.here.now.site.now.widget in
     let old = c.args.store.now in
     let mid = c.eval_on.new.store in
-    let place = c.args.place.now in
+    let place = c.args.here.now.at in
     let p : State → Plan = λ s. Do (job_of fs w old.cells (job.Eval c.args.part.now.1 place)) s Ret in
     let had = c.args.run.now in
     let has = c.eval_on.new.run in
@@ -896,11 +2079,11 @@ objects::property_part_on-returns-in-Left-clause-comes t c =
 
 pub objects::property_part_on-returns-in_default : goal.objects::property_part_on-returns-in_default
 objects::property_part_on-returns-in_default t c =
-    let fs = trees_of c.args.site.now.codes.now.items in
-    let w = c.args.site.now.widget in
+    let fs = trees_of c.args.here.now.site.now.codes.now.items in
+    let w = c.args.here.now.site.now.widget in
     let old = c.args.store.now in
     let mid = c.eval_on.new.store in
-    let place = c.args.place.now in
+    let place = c.args.here.now.at in
     let p : State → Plan = λ s. Do (job_of fs w old.cells (job.Eval c.args.part.now.1 place)) s Ret in
     let had = c.args.run.now in
     let has = c.eval_on.new.run in
@@ -929,195 +2112,174 @@ operators::binary_on-right_on-requires t c = (
   search rules,
   (
     (
-        let fs = trees_of c.args.site.now.codes.now.items in
-        let w = c.args.site.now.widget in
+        let fs = trees_of c.args.here.now.site.now.codes.now.items in
+        let w = c.args.here.now.site.now.widget in
         let old = c.args.store.now in
-        let mid = c.eval_on.new.store in
-        let p : State → Plan = λ s. Do (job_of fs w old.cells (job.Eval c.args.parts.0 c.args.place.now)) s Ret in
+        let mid = c.operand_on.new.store in
+        let p : State → Plan = λ s. Do (job_of fs w old.cells (job.Eval c.args.parts.0 c.args.here.now.at)) s Ret in
         let had = c.args.run.now in
-        let has = c.eval_on.new.run in
+        let has = c.operand_on.new.run in
         let how = c.in_ok-how.how in
-        let out = c.eval_on.new.out in
+        let out = c.operand_on.new.out in
         let part = c.in_ok-how.ensures.comes in
         let kept = c.in_ok-how.ensures.kept in
         value_ready fs w old mid 0 p had has how (ended_as how out) part c.in-Is.is kept c.requires.ready
         ),
     (
-        let fs = trees_of c.args.site.now.codes.now.items in
-        let w = c.args.site.now.widget in
-        let old = c.args.store.now in
-        let mid = c.eval_on.new.store in
-        let p : State → Plan = λ s. Do (job_of fs w old.cells (job.Eval c.args.parts.0 c.args.place.now)) s Ret in
-        let had = c.args.run.now in
-        let has = c.eval_on.new.run in
-        let how = c.in_ok-how.how in
-        let out = c.eval_on.new.out in
-        let part = c.in_ok-how.ensures.comes in
-        let kept = c.in_ok-how.ensures.kept in
-        ((place_fine fs w old.cells mid.cells kept.grows c.args.place.now c.requires.held.1.0, c.requires.held.1.1), value_fine fs w old mid 0 p had has how out part c.in-Is.is)
-        ),
+      (
+          let fs = trees_of c.args.here.now.site.now.codes.now.items in
+          let w = c.args.here.now.site.now.widget in
+          let old = c.args.store.now in
+          let mid = c.operand_on.new.store in
+          let p : State → Plan = λ s. Do (job_of fs w old.cells (job.Eval c.args.parts.0 c.args.here.now.at)) s Ret in
+          let had = c.args.run.now in
+          let has = c.operand_on.new.run in
+          let how = c.in_ok-how.how in
+          let out = c.operand_on.new.out in
+          let part = c.in_ok-how.ensures.comes in
+          let kept = c.in_ok-how.ensures.kept in
+          ((place_fine fs w old.cells mid.cells kept.grows c.args.here.now.at c.requires.held.1.0, c.requires.held.1.1), value_fine fs w old mid 0 p had has how out part c.in-Is.is)
+          ),
+      c.requires.tree,
+    ),
   ),
 )
 
 pub operators::binary_on-returns-in-Is-clause-comes : goal.operators::binary_on-returns-in-Is-clause-comes
 operators::binary_on-returns-in-Is-clause-comes t c =
-    let fs = trees_of c.args.site.now.codes.now.items in
-    let w = c.args.site.now.widget in
+    let fs = trees_of c.args.here.now.site.now.codes.now.items in
+    let w = c.args.here.now.site.now.widget in
     let old = c.args.store.now in
-    let mid = c.eval_on.new.store in
-    let p : State → Plan = λ s. Do (job_of fs w old.cells (job.Eval c.args.parts.0 c.args.place.now)) s Ret in
+    let mid = c.operand_on.new.store in
+    let p : State → Plan = λ s. Do (job_of fs w old.cells (job.Eval c.args.parts.0 c.args.here.now.at)) s Ret in
     let had = c.args.run.now in
-    let has = c.eval_on.new.run in
+    let has = c.operand_on.new.run in
     let how = c.in_ok-how.how in
-    let out = c.eval_on.new.out in
+    let out = c.operand_on.new.out in
     let part = c.in_ok-how.ensures.comes in
     let kept = c.in_ok-how.ensures.kept in
     (IfOk-weaker c.right_on.result _ _
-    (λ h x. value_then fs w old mid c.right_on.new.store 0 8 30 p (form.Right c.args.op c.args.parts.1 c.args.place.now) had has c.right_on.new.run how h out _ part c.in-Is.is kept c.requires.held.1 x (omega arith))
+    (λ h x. value_then fs w old mid c.right_on.new.store 0 8 30 p (form.Right c.args.op c.args.parts.1 c.args.here.now.at) had has c.right_on.new.run how h out _ part c.in-Is.is kept c.requires.held.1 x (omega arith))
     c.right_on.ensures.comes)
 
 pub operators::binary_on-returns-in-Is-clause-kept : goal.operators::binary_on-returns-in-Is-clause-kept
 operators::binary_on-returns-in-Is-clause-kept t c =
-    kept_then (trees_of c.args.site.now.codes.now.items) c.args.site.now.widget c.args.store.now c.eval_on.new.store c.right_on.new.store c.in_ok-how.ensures.kept c.right_on.ensures.kept
+    kept_then (trees_of c.args.here.now.site.now.codes.now.items) c.args.here.now.site.now.widget c.args.store.now c.operand_on.new.store c.right_on.new.store c.in_ok-how.ensures.kept c.right_on.ensures.kept
 
-pub operators::binary_on-returns-in-Left-clause-comes : goal.operators::binary_on-returns-in-Left-clause-comes
-operators::binary_on-returns-in-Left-clause-comes t c =
-    let fs = trees_of c.args.site.now.codes.now.items in
-    let w = c.args.site.now.widget in
+pub operators::binary_on-returns-in_default-clause-comes : goal.operators::binary_on-returns-in_default-clause-comes
+operators::binary_on-returns-in_default-clause-comes t c =
+    let fs = trees_of c.args.here.now.site.now.codes.now.items in
+    let w = c.args.here.now.site.now.widget in
     let old = c.args.store.now in
-    let mid = c.eval_on.new.store in
-    let p : State → Plan = λ s. Do (job_of fs w old.cells (job.Eval c.args.parts.0 c.args.place.now)) s Ret in
+    let mid = c.operand_on.new.store in
+    let p : State → Plan = λ s. Do (job_of fs w old.cells (job.Eval c.args.parts.0 c.args.here.now.at)) s Ret in
     let had = c.args.run.now in
-    let has = c.eval_on.new.run in
+    let has = c.operand_on.new.run in
     let how = c.in_ok-how.how in
-    let out = c.eval_on.new.out in
+    let out = c.operand_on.new.out in
     let part = c.in_ok-how.ensures.comes in
     let kept = c.in_ok-how.ensures.kept in
-    (frame_waits fs w c.wait.result old mid 0 30 p (frame.Form (form.Right c.args.op c.args.parts.1 c.args.place.now)) had has c.wait.new.run how (ended_as how out) (λ (h : Ended). ended_as h out) part c.in-Left.is kept c.requires.held.1 (omega arith)
-    c.wait.ensures.left c.wait.ensures.waits c.wait.ensures.next c.wait.ensures.units)
+    hand_form fs w c.hand_right.result old mid 0 30 p (form.Right c.args.op c.args.parts.1 c.args.here.now.at) had has c.hand_right.new.run how out part c.in_default.not-Is kept c.requires.held.1 (omega arith) c.hand_right.ensures
 
-pub operators::binary_on-returns-in_default : goal.operators::binary_on-returns-in_default
-operators::binary_on-returns-in_default t c =
-    let fs = trees_of c.args.site.now.codes.now.items in
-    let w = c.args.site.now.widget in
-    let old = c.args.store.now in
-    let mid = c.eval_on.new.store in
-    let p : State → Plan = λ s. Do (job_of fs w old.cells (job.Eval c.args.parts.0 c.args.place.now)) s Ret in
-    let had = c.args.run.now in
-    let has = c.eval_on.new.run in
-    let how = c.in_ok-how.how in
-    let out = c.eval_on.new.out in
-    let part = c.in_ok-how.ensures.comes in
-    let kept = c.in_ok-how.ensures.kept in
-    record {
-      comes = (value_passes fs w old mid 0 30 p (form.Right c.args.op c.args.parts.1 c.args.place.now) had has how out part c.in_default.not-Is c.in_default.not-Left kept c.requires.held.1 (omega arith));
-      kept = kept;
-    }
+pub operators::right_on-operand_with-requires : goal.operators::right_on-operand_with-requires
+operators::right_on-operand_with-requires t c = (
+  search rules,
+  (
+    search rules,
+    (
+      ((c.requires.held.0, subst (λ (b : Value2). IsFine c.args.here.now.site.now.widget c.args.store.now.cells b) (sym c.take_value-left.ensures.taken) c.requires.held.1)),
+      c.requires.tree,
+    ),
+  ),
+)
 
-pub operators::right_on-operate_on-requires-clause-ready : goal.operators::right_on-operate_on-requires-clause-ready
-operators::right_on-operate_on-requires-clause-ready t c =
-    let fs = trees_of c.args.site.now.codes.now.items in
-    let w = c.args.site.now.widget in
+pub operators::right_on-returns-clause-comes : goal.operators::right_on-returns-clause-comes
+operators::right_on-returns-clause-comes t c =
+    let fs = trees_of c.args.here.now.site.now.codes.now.items in
+    let w = c.args.here.now.site.now.widget in
     let old = c.args.store.now in
-    let mid = c.eval_on.new.store in
-    let p : State → Plan = λ s. Do (job_of fs w old.cells (job.Eval c.args.e c.args.place.now)) s Ret in
+    IfOk-weaker c.operand_with.result _ _
+    (λ how x. subst (λ (b : Value2). Comes fs w old c.operand_with.new.store 8 (taken fs w old.cells (frame.Form (form.Right c.args.op c.args.e c.args.here.now.at)) (meaning.Is (seen w old.cells b))) c.args.run.now c.operand_with.new.run how c.operand_with.new.out) c.take_value-left.ensures.taken x)
+    c.operand_with.ensures.comes
+
+pub operators::operand_with-operate_on-requires-clause-ready : goal.operators::operand_with-operate_on-requires-clause-ready
+operators::operand_with-operate_on-requires-clause-ready t c =
+    let fs = trees_of c.args.here.now.site.now.codes.now.items in
+    let w = c.args.here.now.site.now.widget in
+    let old = c.args.store.now in
+    let mid = c.operand_on.new.store in
+    let p : State → Plan = λ s. Do (job_of fs w old.cells (job.Eval c.args.e c.args.here.now.at)) s Ret in
     let had = c.args.run.now in
-    let has = c.eval_on.new.run in
+    let has = c.operand_on.new.run in
     let how = c.in_ok-how.how in
-    let out = c.eval_on.new.out in
+    let out = c.operand_on.new.out in
     let part = c.in_ok-how.ensures.comes in
     let kept = c.in_ok-how.ensures.kept in
     value_ready fs w old mid 0 p had has how (ended_as how out) part c.in-Is.is kept c.requires.ready
 
-pub operators::right_on-operate_on-requires-clause-held : goal.operators::right_on-operate_on-requires-clause-held
-operators::right_on-operate_on-requires-clause-held t c =
-    let fs = trees_of c.args.site.now.codes.now.items in
-    let w = c.args.site.now.widget in
+pub operators::operand_with-operate_on-requires-clause-held : goal.operators::operand_with-operate_on-requires-clause-held
+operators::operand_with-operate_on-requires-clause-held t c =
+    let fs = trees_of c.args.here.now.site.now.codes.now.items in
+    let w = c.args.here.now.site.now.widget in
     let old = c.args.store.now in
-    let mid = c.eval_on.new.store in
-    let p : State → Plan = λ s. Do (job_of fs w old.cells (job.Eval c.args.e c.args.place.now)) s Ret in
+    let mid = c.operand_on.new.store in
+    let p : State → Plan = λ s. Do (job_of fs w old.cells (job.Eval c.args.e c.args.here.now.at)) s Ret in
     let had = c.args.run.now in
-    let has = c.eval_on.new.run in
+    let has = c.operand_on.new.run in
     let how = c.in_ok-how.how in
-    let out = c.eval_on.new.out in
+    let out = c.operand_on.new.out in
     let part = c.in_ok-how.ensures.comes in
     let kept = c.in_ok-how.ensures.kept in
-    (fine_stays w old.cells mid.cells kept.grows c.take_value-left.result (subst (λ (b : Value2). IsFine w old.cells b) (sym c.take_value-left.ensures.taken) c.requires.held.1), value_fine fs w old mid 0 p had has how out part c.in-Is.is)
+    (fine_stays w old.cells mid.cells kept.grows c.args.left.now c.requires.held.1, value_fine fs w old mid 0 p had has how out part c.in-Is.is)
 
-pub operators::right_on-returns-in-Is-clause-comes : goal.operators::right_on-returns-in-Is-clause-comes
-operators::right_on-returns-in-Is-clause-comes t c =
-    let fs = trees_of c.args.site.now.codes.now.items in
-    let w = c.args.site.now.widget in
+pub operators::operand_with-returns-in-Is-clause-comes : goal.operators::operand_with-returns-in-Is-clause-comes
+operators::operand_with-returns-in-Is-clause-comes t c =
+    let fs = trees_of c.args.here.now.site.now.codes.now.items in
+    let w = c.args.here.now.site.now.widget in
     let old = c.args.store.now in
-    let mid = c.eval_on.new.store in
-    let p : State → Plan = λ s. Do (job_of fs w old.cells (job.Eval c.args.e c.args.place.now)) s Ret in
+    let mid = c.operand_on.new.store in
+    let p : State → Plan = λ s. Do (job_of fs w old.cells (job.Eval c.args.e c.args.here.now.at)) s Ret in
     let had = c.args.run.now in
-    let has = c.eval_on.new.run in
+    let has = c.operand_on.new.run in
     let how = c.in_ok-how.how in
-    let out = c.eval_on.new.out in
+    let out = c.operand_on.new.out in
     let part = c.in_ok-how.ensures.comes in
     let kept = c.in_ok-how.ensures.kept in
-    let is = c.take_value-left.ensures.taken in
-    let fine = subst (λ (b : Value2). IsFine w old.cells b) (sym is) c.requires.held.1 in
-    subst (λ (b : Value2). IfOk c.operate_on.result (λ h. Comes fs w old c.operate_on.new.store 8 (λ s. taken fs w old.cells (frame.Form (form.Right c.args.op c.args.e c.args.place.now)) (meaning.Is (seen w old.cells b)) s) had c.operate_on.new.run h c.operate_on.new.out)) is
+    let fine = c.requires.held.1 in
     (IfOk-weaker c.operate_on.result _ _
-    (λ h x. value_then fs w old mid c.operate_on.new.store 0 8 8 p (form.Operate c.args.op c.take_value-left.result c.args.place.now.depth) had has c.operate_on.new.run how h out _ part c.in-Is.is kept fine x (omega arith))
+    (λ h x. value_then fs w old mid c.operate_on.new.store 0 8 8 p (form.Operate c.args.op c.args.left.now c.args.here.now.at.depth) had has c.operate_on.new.run how h out _ part c.in-Is.is kept fine x (omega arith))
     c.operate_on.ensures.comes)
 
-pub operators::right_on-returns-in-Is-clause-kept : goal.operators::right_on-returns-in-Is-clause-kept
-operators::right_on-returns-in-Is-clause-kept t c =
-    kept_then (trees_of c.args.site.now.codes.now.items) c.args.site.now.widget c.args.store.now c.eval_on.new.store c.operate_on.new.store c.in_ok-how.ensures.kept c.operate_on.ensures.kept
+pub operators::operand_with-returns-in-Is-clause-kept : goal.operators::operand_with-returns-in-Is-clause-kept
+operators::operand_with-returns-in-Is-clause-kept t c =
+    kept_then (trees_of c.args.here.now.site.now.codes.now.items) c.args.here.now.site.now.widget c.args.store.now c.operand_on.new.store c.operate_on.new.store c.in_ok-how.ensures.kept c.operate_on.ensures.kept
 
-pub operators::right_on-returns-in-Left-clause-comes : goal.operators::right_on-returns-in-Left-clause-comes
-operators::right_on-returns-in-Left-clause-comes t c =
-    let fs = trees_of c.args.site.now.codes.now.items in
-    let w = c.args.site.now.widget in
+pub operators::operand_with-returns-in_default-clause-comes : goal.operators::operand_with-returns-in_default-clause-comes
+operators::operand_with-returns-in_default-clause-comes t c =
+    let fs = trees_of c.args.here.now.site.now.codes.now.items in
+    let w = c.args.here.now.site.now.widget in
     let old = c.args.store.now in
-    let mid = c.eval_on.new.store in
-    let p : State → Plan = λ s. Do (job_of fs w old.cells (job.Eval c.args.e c.args.place.now)) s Ret in
+    let mid = c.operand_on.new.store in
+    let p : State → Plan = λ s. Do (job_of fs w old.cells (job.Eval c.args.e c.args.here.now.at)) s Ret in
     let had = c.args.run.now in
-    let has = c.eval_on.new.run in
+    let has = c.operand_on.new.run in
     let how = c.in_ok-how.how in
-    let out = c.eval_on.new.out in
+    let out = c.operand_on.new.out in
     let part = c.in_ok-how.ensures.comes in
     let kept = c.in_ok-how.ensures.kept in
-    let is = c.take_value-left.ensures.taken in
-    let fine = subst (λ (b : Value2). IsFine w old.cells b) (sym is) c.requires.held.1 in
-    subst (λ (b : Value2). IfOk c.wait.result (λ h. Comes fs w old mid 8 (λ s. taken fs w old.cells (frame.Form (form.Right c.args.op c.args.e c.args.place.now)) (meaning.Is (seen w old.cells b)) s) had c.wait.new.run h out)) is
-    (frame_waits fs w c.wait.result old mid 0 8 p (frame.Form (form.Operate c.args.op c.take_value-left.result c.args.place.now.depth)) had has c.wait.new.run how (ended_as how out) (λ (h : Ended). ended_as h out) part c.in-Left.is kept fine (omega arith)
-    c.wait.ensures.left c.wait.ensures.waits c.wait.ensures.next c.wait.ensures.units)
-
-pub operators::right_on-returns-in_default : goal.operators::right_on-returns-in_default
-operators::right_on-returns-in_default t c =
-    let fs = trees_of c.args.site.now.codes.now.items in
-    let w = c.args.site.now.widget in
-    let old = c.args.store.now in
-    let mid = c.eval_on.new.store in
-    let p : State → Plan = λ s. Do (job_of fs w old.cells (job.Eval c.args.e c.args.place.now)) s Ret in
-    let had = c.args.run.now in
-    let has = c.eval_on.new.run in
-    let how = c.in_ok-how.how in
-    let out = c.eval_on.new.out in
-    let part = c.in_ok-how.ensures.comes in
-    let kept = c.in_ok-how.ensures.kept in
-    let is = c.take_value-left.ensures.taken in
-    let fine = subst (λ (b : Value2). IsFine w old.cells b) (sym is) c.requires.held.1 in
-    record {
-      comes = subst (λ (b : Value2). Comes fs w old mid 8 (λ s. taken fs w old.cells (frame.Form (form.Right c.args.op c.args.e c.args.place.now)) (meaning.Is (seen w old.cells b)) s) had has how out) is
-          (value_passes fs w old mid 0 8 p (form.Operate c.args.op c.take_value-left.result c.args.place.now.depth) had has how out part c.in_default.not-Is c.in_default.not-Left kept fine (omega arith));
-      kept = kept;
-    }
+    let fine = c.requires.held.1 in
+    hand_form fs w c.hand_operate.result old mid 0 8 p (form.Operate c.args.op c.args.left.now c.args.here.now.at.depth) had has c.hand_operate.new.run how out part c.in_default.not-Is kept fine (omega arith) c.hand_operate.ensures
 
 pub operators::and_on-and_right-requires : goal.operators::and_on-and_right-requires
 operators::and_on-and_right-requires t c = (
   search rules,
   (
     (
-        let fs = trees_of c.args.site.now.codes.now.items in
-        let w = c.args.site.now.widget in
+        let fs = trees_of c.args.here.now.site.now.codes.now.items in
+        let w = c.args.here.now.site.now.widget in
         let old = c.args.store.now in
         let mid = c.eval_on.new.store in
-        let p : State → Plan = λ s. Do (job_of fs w old.cells (job.Eval c.args.parts.0 c.args.place.now)) s Ret in
+        let p : State → Plan = λ s. Do (job_of fs w old.cells (job.Eval c.args.parts.0 c.args.here.now.at)) s Ret in
         let had = c.args.run.now in
         let has = c.eval_on.new.run in
         let how = c.in_ok-how.how in
@@ -1127,29 +2289,32 @@ operators::and_on-and_right-requires t c = (
         value_ready fs w old mid 0 p had has how (ended_as how out) part c.in-Is.is kept c.requires.ready
         ),
     (
-        let fs = trees_of c.args.site.now.codes.now.items in
-        let w = c.args.site.now.widget in
-        let old = c.args.store.now in
-        let mid = c.eval_on.new.store in
-        let p : State → Plan = λ s. Do (job_of fs w old.cells (job.Eval c.args.parts.0 c.args.place.now)) s Ret in
-        let had = c.args.run.now in
-        let has = c.eval_on.new.run in
-        let how = c.in_ok-how.how in
-        let out = c.eval_on.new.out in
-        let part = c.in_ok-how.ensures.comes in
-        let kept = c.in_ok-how.ensures.kept in
-        ((place_fine fs w old.cells mid.cells kept.grows c.args.place.now c.requires.held.1.0, c.requires.held.1.1), value_fine fs w old mid 0 p had has how out part c.in-Is.is)
-        ),
+      (
+          let fs = trees_of c.args.here.now.site.now.codes.now.items in
+          let w = c.args.here.now.site.now.widget in
+          let old = c.args.store.now in
+          let mid = c.eval_on.new.store in
+          let p : State → Plan = λ s. Do (job_of fs w old.cells (job.Eval c.args.parts.0 c.args.here.now.at)) s Ret in
+          let had = c.args.run.now in
+          let has = c.eval_on.new.run in
+          let how = c.in_ok-how.how in
+          let out = c.eval_on.new.out in
+          let part = c.in_ok-how.ensures.comes in
+          let kept = c.in_ok-how.ensures.kept in
+          ((place_fine fs w old.cells mid.cells kept.grows c.args.here.now.at c.requires.held.1.0, c.requires.held.1.1), value_fine fs w old mid 0 p had has how out part c.in-Is.is)
+          ),
+      c.requires.tree,
+    ),
   ),
 )
 
 pub operators::and_on-returns-in-Is-clause-comes : goal.operators::and_on-returns-in-Is-clause-comes
 operators::and_on-returns-in-Is-clause-comes t c =
-    let fs = trees_of c.args.site.now.codes.now.items in
-    let w = c.args.site.now.widget in
+    let fs = trees_of c.args.here.now.site.now.codes.now.items in
+    let w = c.args.here.now.site.now.widget in
     let old = c.args.store.now in
     let mid = c.eval_on.new.store in
-    let p : State → Plan = λ s. Do (job_of fs w old.cells (job.Eval c.args.parts.0 c.args.place.now)) s Ret in
+    let p : State → Plan = λ s. Do (job_of fs w old.cells (job.Eval c.args.parts.0 c.args.here.now.at)) s Ret in
     let had = c.args.run.now in
     let has = c.eval_on.new.run in
     let how = c.in_ok-how.how in
@@ -1157,36 +2322,36 @@ operators::and_on-returns-in-Is-clause-comes t c =
     let part = c.in_ok-how.ensures.comes in
     let kept = c.in_ok-how.ensures.kept in
     (IfOk-weaker c.and_right.result _ _
-    (λ h x. value_then fs w old mid c.and_right.new.store 0 1 30 p (form.And c.args.parts.1 c.args.place.now) had has c.and_right.new.run how h out _ part c.in-Is.is kept c.requires.held.1 x (omega arith))
+    (λ h x. value_then fs w old mid c.and_right.new.store 0 1 30 p (form.And c.args.parts.1 c.args.here.now.at) had has c.and_right.new.run how h out _ part c.in-Is.is kept c.requires.held.1 x (omega arith))
     c.and_right.ensures.comes)
 
 pub operators::and_on-returns-in-Is-clause-kept : goal.operators::and_on-returns-in-Is-clause-kept
 operators::and_on-returns-in-Is-clause-kept t c =
-    kept_then (trees_of c.args.site.now.codes.now.items) c.args.site.now.widget c.args.store.now c.eval_on.new.store c.and_right.new.store c.in_ok-how.ensures.kept c.and_right.ensures.kept
+    kept_then (trees_of c.args.here.now.site.now.codes.now.items) c.args.here.now.site.now.widget c.args.store.now c.eval_on.new.store c.and_right.new.store c.in_ok-how.ensures.kept c.and_right.ensures.kept
 
 pub operators::and_on-returns-in-Left-clause-comes : goal.operators::and_on-returns-in-Left-clause-comes
 operators::and_on-returns-in-Left-clause-comes t c =
-    let fs = trees_of c.args.site.now.codes.now.items in
-    let w = c.args.site.now.widget in
+    let fs = trees_of c.args.here.now.site.now.codes.now.items in
+    let w = c.args.here.now.site.now.widget in
     let old = c.args.store.now in
     let mid = c.eval_on.new.store in
-    let p : State → Plan = λ s. Do (job_of fs w old.cells (job.Eval c.args.parts.0 c.args.place.now)) s Ret in
+    let p : State → Plan = λ s. Do (job_of fs w old.cells (job.Eval c.args.parts.0 c.args.here.now.at)) s Ret in
     let had = c.args.run.now in
     let has = c.eval_on.new.run in
     let how = c.in_ok-how.how in
     let out = c.eval_on.new.out in
     let part = c.in_ok-how.ensures.comes in
     let kept = c.in_ok-how.ensures.kept in
-    (frame_waits fs w c.wait.result old mid 0 30 p (frame.Form (form.And c.args.parts.1 c.args.place.now)) had has c.wait.new.run how (ended_as how out) (λ (h : Ended). ended_as h out) part c.in-Left.is kept c.requires.held.1 (omega arith)
+    (frame_waits fs w c.wait.result old mid 0 30 p (frame.Form (form.And c.args.parts.1 c.args.here.now.at)) had has c.wait.new.run how (ended_as how out) (λ (h : Ended). ended_as h out) part c.in-Left.is kept c.requires.held.1 (omega arith)
     c.wait.ensures.left c.wait.ensures.waits c.wait.ensures.next c.wait.ensures.units)
 
 pub operators::and_on-returns-in_default : goal.operators::and_on-returns-in_default
 operators::and_on-returns-in_default t c =
-    let fs = trees_of c.args.site.now.codes.now.items in
-    let w = c.args.site.now.widget in
+    let fs = trees_of c.args.here.now.site.now.codes.now.items in
+    let w = c.args.here.now.site.now.widget in
     let old = c.args.store.now in
     let mid = c.eval_on.new.store in
-    let p : State → Plan = λ s. Do (job_of fs w old.cells (job.Eval c.args.parts.0 c.args.place.now)) s Ret in
+    let p : State → Plan = λ s. Do (job_of fs w old.cells (job.Eval c.args.parts.0 c.args.here.now.at)) s Ret in
     let had = c.args.run.now in
     let has = c.eval_on.new.run in
     let how = c.in_ok-how.how in
@@ -1194,7 +2359,7 @@ operators::and_on-returns-in_default t c =
     let part = c.in_ok-how.ensures.comes in
     let kept = c.in_ok-how.ensures.kept in
     record {
-      comes = (value_passes fs w old mid 0 30 p (form.And c.args.parts.1 c.args.place.now) had has how out part c.in_default.not-Is c.in_default.not-Left kept c.requires.held.1 (omega arith));
+      comes = (value_passes fs w old mid 0 30 p (form.And c.args.parts.1 c.args.here.now.at) had has how out part c.in_default.not-Is c.in_default.not-Left kept c.requires.held.1 (omega arith));
       kept = kept;
     }
 
@@ -1203,11 +2368,11 @@ operators::or_on-or_right-requires t c = (
   search rules,
   (
     (
-        let fs = trees_of c.args.site.now.codes.now.items in
-        let w = c.args.site.now.widget in
+        let fs = trees_of c.args.here.now.site.now.codes.now.items in
+        let w = c.args.here.now.site.now.widget in
         let old = c.args.store.now in
         let mid = c.eval_on.new.store in
-        let p : State → Plan = λ s. Do (job_of fs w old.cells (job.Eval c.args.parts.0 c.args.place.now)) s Ret in
+        let p : State → Plan = λ s. Do (job_of fs w old.cells (job.Eval c.args.parts.0 c.args.here.now.at)) s Ret in
         let had = c.args.run.now in
         let has = c.eval_on.new.run in
         let how = c.in_ok-how.how in
@@ -1217,29 +2382,32 @@ operators::or_on-or_right-requires t c = (
         value_ready fs w old mid 0 p had has how (ended_as how out) part c.in-Is.is kept c.requires.ready
         ),
     (
-        let fs = trees_of c.args.site.now.codes.now.items in
-        let w = c.args.site.now.widget in
-        let old = c.args.store.now in
-        let mid = c.eval_on.new.store in
-        let p : State → Plan = λ s. Do (job_of fs w old.cells (job.Eval c.args.parts.0 c.args.place.now)) s Ret in
-        let had = c.args.run.now in
-        let has = c.eval_on.new.run in
-        let how = c.in_ok-how.how in
-        let out = c.eval_on.new.out in
-        let part = c.in_ok-how.ensures.comes in
-        let kept = c.in_ok-how.ensures.kept in
-        ((place_fine fs w old.cells mid.cells kept.grows c.args.place.now c.requires.held.1.0, c.requires.held.1.1), value_fine fs w old mid 0 p had has how out part c.in-Is.is)
-        ),
+      (
+          let fs = trees_of c.args.here.now.site.now.codes.now.items in
+          let w = c.args.here.now.site.now.widget in
+          let old = c.args.store.now in
+          let mid = c.eval_on.new.store in
+          let p : State → Plan = λ s. Do (job_of fs w old.cells (job.Eval c.args.parts.0 c.args.here.now.at)) s Ret in
+          let had = c.args.run.now in
+          let has = c.eval_on.new.run in
+          let how = c.in_ok-how.how in
+          let out = c.eval_on.new.out in
+          let part = c.in_ok-how.ensures.comes in
+          let kept = c.in_ok-how.ensures.kept in
+          ((place_fine fs w old.cells mid.cells kept.grows c.args.here.now.at c.requires.held.1.0, c.requires.held.1.1), value_fine fs w old mid 0 p had has how out part c.in-Is.is)
+          ),
+      c.requires.tree,
+    ),
   ),
 )
 
 pub operators::or_on-returns-in-Is-clause-comes : goal.operators::or_on-returns-in-Is-clause-comes
 operators::or_on-returns-in-Is-clause-comes t c =
-    let fs = trees_of c.args.site.now.codes.now.items in
-    let w = c.args.site.now.widget in
+    let fs = trees_of c.args.here.now.site.now.codes.now.items in
+    let w = c.args.here.now.site.now.widget in
     let old = c.args.store.now in
     let mid = c.eval_on.new.store in
-    let p : State → Plan = λ s. Do (job_of fs w old.cells (job.Eval c.args.parts.0 c.args.place.now)) s Ret in
+    let p : State → Plan = λ s. Do (job_of fs w old.cells (job.Eval c.args.parts.0 c.args.here.now.at)) s Ret in
     let had = c.args.run.now in
     let has = c.eval_on.new.run in
     let how = c.in_ok-how.how in
@@ -1247,36 +2415,36 @@ operators::or_on-returns-in-Is-clause-comes t c =
     let part = c.in_ok-how.ensures.comes in
     let kept = c.in_ok-how.ensures.kept in
     (IfOk-weaker c.or_right.result _ _
-    (λ h x. value_then fs w old mid c.or_right.new.store 0 1 30 p (form.Or c.args.parts.1 c.args.place.now) had has c.or_right.new.run how h out _ part c.in-Is.is kept c.requires.held.1 x (omega arith))
+    (λ h x. value_then fs w old mid c.or_right.new.store 0 1 30 p (form.Or c.args.parts.1 c.args.here.now.at) had has c.or_right.new.run how h out _ part c.in-Is.is kept c.requires.held.1 x (omega arith))
     c.or_right.ensures.comes)
 
 pub operators::or_on-returns-in-Is-clause-kept : goal.operators::or_on-returns-in-Is-clause-kept
 operators::or_on-returns-in-Is-clause-kept t c =
-    kept_then (trees_of c.args.site.now.codes.now.items) c.args.site.now.widget c.args.store.now c.eval_on.new.store c.or_right.new.store c.in_ok-how.ensures.kept c.or_right.ensures.kept
+    kept_then (trees_of c.args.here.now.site.now.codes.now.items) c.args.here.now.site.now.widget c.args.store.now c.eval_on.new.store c.or_right.new.store c.in_ok-how.ensures.kept c.or_right.ensures.kept
 
 pub operators::or_on-returns-in-Left-clause-comes : goal.operators::or_on-returns-in-Left-clause-comes
 operators::or_on-returns-in-Left-clause-comes t c =
-    let fs = trees_of c.args.site.now.codes.now.items in
-    let w = c.args.site.now.widget in
+    let fs = trees_of c.args.here.now.site.now.codes.now.items in
+    let w = c.args.here.now.site.now.widget in
     let old = c.args.store.now in
     let mid = c.eval_on.new.store in
-    let p : State → Plan = λ s. Do (job_of fs w old.cells (job.Eval c.args.parts.0 c.args.place.now)) s Ret in
+    let p : State → Plan = λ s. Do (job_of fs w old.cells (job.Eval c.args.parts.0 c.args.here.now.at)) s Ret in
     let had = c.args.run.now in
     let has = c.eval_on.new.run in
     let how = c.in_ok-how.how in
     let out = c.eval_on.new.out in
     let part = c.in_ok-how.ensures.comes in
     let kept = c.in_ok-how.ensures.kept in
-    (frame_waits fs w c.wait.result old mid 0 30 p (frame.Form (form.Or c.args.parts.1 c.args.place.now)) had has c.wait.new.run how (ended_as how out) (λ (h : Ended). ended_as h out) part c.in-Left.is kept c.requires.held.1 (omega arith)
+    (frame_waits fs w c.wait.result old mid 0 30 p (frame.Form (form.Or c.args.parts.1 c.args.here.now.at)) had has c.wait.new.run how (ended_as how out) (λ (h : Ended). ended_as h out) part c.in-Left.is kept c.requires.held.1 (omega arith)
     c.wait.ensures.left c.wait.ensures.waits c.wait.ensures.next c.wait.ensures.units)
 
 pub operators::or_on-returns-in_default : goal.operators::or_on-returns-in_default
 operators::or_on-returns-in_default t c =
-    let fs = trees_of c.args.site.now.codes.now.items in
-    let w = c.args.site.now.widget in
+    let fs = trees_of c.args.here.now.site.now.codes.now.items in
+    let w = c.args.here.now.site.now.widget in
     let old = c.args.store.now in
     let mid = c.eval_on.new.store in
-    let p : State → Plan = λ s. Do (job_of fs w old.cells (job.Eval c.args.parts.0 c.args.place.now)) s Ret in
+    let p : State → Plan = λ s. Do (job_of fs w old.cells (job.Eval c.args.parts.0 c.args.here.now.at)) s Ret in
     let had = c.args.run.now in
     let has = c.eval_on.new.run in
     let how = c.in_ok-how.how in
@@ -1284,7 +2452,7 @@ operators::or_on-returns-in_default t c =
     let part = c.in_ok-how.ensures.comes in
     let kept = c.in_ok-how.ensures.kept in
     record {
-      comes = (value_passes fs w old mid 0 30 p (form.Or c.args.parts.1 c.args.place.now) had has how out part c.in_default.not-Is c.in_default.not-Left kept c.requires.held.1 (omega arith));
+      comes = (value_passes fs w old mid 0 30 p (form.Or c.args.parts.1 c.args.here.now.at) had has how out part c.in_default.not-Is c.in_default.not-Left kept c.requires.held.1 (omega arith));
       kept = kept;
     }
 
@@ -1293,11 +2461,11 @@ operators::choose_on-chosen_on-requires t c = (
   search rules,
   (
     (
-        let fs = trees_of c.args.site.now.codes.now.items in
-        let w = c.args.site.now.widget in
+        let fs = trees_of c.args.here.now.site.now.codes.now.items in
+        let w = c.args.here.now.site.now.widget in
         let old = c.args.store.now in
         let mid = c.eval_on.new.store in
-        let p : State → Plan = λ s. Do (job_of fs w old.cells (job.Eval c.args.parts.0 c.args.place.now)) s Ret in
+        let p : State → Plan = λ s. Do (job_of fs w old.cells (job.Eval c.args.parts.0 c.args.here.now.at)) s Ret in
         let had = c.args.run.now in
         let has = c.eval_on.new.run in
         let how = c.in_ok-how.how in
@@ -1307,29 +2475,32 @@ operators::choose_on-chosen_on-requires t c = (
         value_ready fs w old mid 0 p had has how (ended_as how out) part c.in-Is.is kept c.requires.ready
         ),
     (
-        let fs = trees_of c.args.site.now.codes.now.items in
-        let w = c.args.site.now.widget in
-        let old = c.args.store.now in
-        let mid = c.eval_on.new.store in
-        let p : State → Plan = λ s. Do (job_of fs w old.cells (job.Eval c.args.parts.0 c.args.place.now)) s Ret in
-        let had = c.args.run.now in
-        let has = c.eval_on.new.run in
-        let how = c.in_ok-how.how in
-        let out = c.eval_on.new.out in
-        let part = c.in_ok-how.ensures.comes in
-        let kept = c.in_ok-how.ensures.kept in
-        ((place_fine fs w old.cells mid.cells kept.grows c.args.place.now c.requires.held.1.0, c.requires.held.1.1), (place_fine fs w old.cells mid.cells kept.grows c.args.place.now c.requires.held.2.0, c.requires.held.2.1), value_fine fs w old mid 0 p had has how out part c.in-Is.is)
-        ),
+      (
+          let fs = trees_of c.args.here.now.site.now.codes.now.items in
+          let w = c.args.here.now.site.now.widget in
+          let old = c.args.store.now in
+          let mid = c.eval_on.new.store in
+          let p : State → Plan = λ s. Do (job_of fs w old.cells (job.Eval c.args.parts.0 c.args.here.now.at)) s Ret in
+          let had = c.args.run.now in
+          let has = c.eval_on.new.run in
+          let how = c.in_ok-how.how in
+          let out = c.eval_on.new.out in
+          let part = c.in_ok-how.ensures.comes in
+          let kept = c.in_ok-how.ensures.kept in
+          ((place_fine fs w old.cells mid.cells kept.grows c.args.here.now.at c.requires.held.1.0, c.requires.held.1.1), (place_fine fs w old.cells mid.cells kept.grows c.args.here.now.at c.requires.held.2.0, c.requires.held.2.1), value_fine fs w old mid 0 p had has how out part c.in-Is.is)
+          ),
+      c.requires.tree,
+    ),
   ),
 )
 
 pub operators::choose_on-returns-in-Is-clause-comes : goal.operators::choose_on-returns-in-Is-clause-comes
 operators::choose_on-returns-in-Is-clause-comes t c =
-    let fs = trees_of c.args.site.now.codes.now.items in
-    let w = c.args.site.now.widget in
+    let fs = trees_of c.args.here.now.site.now.codes.now.items in
+    let w = c.args.here.now.site.now.widget in
     let old = c.args.store.now in
     let mid = c.eval_on.new.store in
-    let p : State → Plan = λ s. Do (job_of fs w old.cells (job.Eval c.args.parts.0 c.args.place.now)) s Ret in
+    let p : State → Plan = λ s. Do (job_of fs w old.cells (job.Eval c.args.parts.0 c.args.here.now.at)) s Ret in
     let had = c.args.run.now in
     let has = c.eval_on.new.run in
     let how = c.in_ok-how.how in
@@ -1337,36 +2508,36 @@ operators::choose_on-returns-in-Is-clause-comes t c =
     let part = c.in_ok-how.ensures.comes in
     let kept = c.in_ok-how.ensures.kept in
     (IfOk-weaker c.chosen_on.result _ _
-    (λ h x. value_then fs w old mid c.chosen_on.new.store 0 1 30 p (form.Choose c.args.parts.1 c.args.parts.2 c.args.place.now) had has c.chosen_on.new.run how h out _ part c.in-Is.is kept (c.requires.held.1, c.requires.held.2) x (omega arith))
+    (λ h x. value_then fs w old mid c.chosen_on.new.store 0 1 30 p (form.Choose c.args.parts.1 c.args.parts.2 c.args.here.now.at) had has c.chosen_on.new.run how h out _ part c.in-Is.is kept (c.requires.held.1, c.requires.held.2) x (omega arith))
     c.chosen_on.ensures.comes)
 
 pub operators::choose_on-returns-in-Is-clause-kept : goal.operators::choose_on-returns-in-Is-clause-kept
 operators::choose_on-returns-in-Is-clause-kept t c =
-    kept_then (trees_of c.args.site.now.codes.now.items) c.args.site.now.widget c.args.store.now c.eval_on.new.store c.chosen_on.new.store c.in_ok-how.ensures.kept c.chosen_on.ensures.kept
+    kept_then (trees_of c.args.here.now.site.now.codes.now.items) c.args.here.now.site.now.widget c.args.store.now c.eval_on.new.store c.chosen_on.new.store c.in_ok-how.ensures.kept c.chosen_on.ensures.kept
 
 pub operators::choose_on-returns-in-Left-clause-comes : goal.operators::choose_on-returns-in-Left-clause-comes
 operators::choose_on-returns-in-Left-clause-comes t c =
-    let fs = trees_of c.args.site.now.codes.now.items in
-    let w = c.args.site.now.widget in
+    let fs = trees_of c.args.here.now.site.now.codes.now.items in
+    let w = c.args.here.now.site.now.widget in
     let old = c.args.store.now in
     let mid = c.eval_on.new.store in
-    let p : State → Plan = λ s. Do (job_of fs w old.cells (job.Eval c.args.parts.0 c.args.place.now)) s Ret in
+    let p : State → Plan = λ s. Do (job_of fs w old.cells (job.Eval c.args.parts.0 c.args.here.now.at)) s Ret in
     let had = c.args.run.now in
     let has = c.eval_on.new.run in
     let how = c.in_ok-how.how in
     let out = c.eval_on.new.out in
     let part = c.in_ok-how.ensures.comes in
     let kept = c.in_ok-how.ensures.kept in
-    (frame_waits fs w c.wait.result old mid 0 30 p (frame.Form (form.Choose c.args.parts.1 c.args.parts.2 c.args.place.now)) had has c.wait.new.run how (ended_as how out) (λ (h : Ended). ended_as h out) part c.in-Left.is kept (c.requires.held.1, c.requires.held.2) (omega arith)
+    (frame_waits fs w c.wait.result old mid 0 30 p (frame.Form (form.Choose c.args.parts.1 c.args.parts.2 c.args.here.now.at)) had has c.wait.new.run how (ended_as how out) (λ (h : Ended). ended_as h out) part c.in-Left.is kept (c.requires.held.1, c.requires.held.2) (omega arith)
     c.wait.ensures.left c.wait.ensures.waits c.wait.ensures.next c.wait.ensures.units)
 
 pub operators::choose_on-returns-in_default : goal.operators::choose_on-returns-in_default
 operators::choose_on-returns-in_default t c =
-    let fs = trees_of c.args.site.now.codes.now.items in
-    let w = c.args.site.now.widget in
+    let fs = trees_of c.args.here.now.site.now.codes.now.items in
+    let w = c.args.here.now.site.now.widget in
     let old = c.args.store.now in
     let mid = c.eval_on.new.store in
-    let p : State → Plan = λ s. Do (job_of fs w old.cells (job.Eval c.args.parts.0 c.args.place.now)) s Ret in
+    let p : State → Plan = λ s. Do (job_of fs w old.cells (job.Eval c.args.parts.0 c.args.here.now.at)) s Ret in
     let had = c.args.run.now in
     let has = c.eval_on.new.run in
     let how = c.in_ok-how.how in
@@ -1374,17 +2545,17 @@ operators::choose_on-returns-in_default t c =
     let part = c.in_ok-how.ensures.comes in
     let kept = c.in_ok-how.ensures.kept in
     record {
-      comes = (value_passes fs w old mid 0 30 p (form.Choose c.args.parts.1 c.args.parts.2 c.args.place.now) had has how out part c.in_default.not-Is c.in_default.not-Left kept (c.requires.held.1, c.requires.held.2) (omega arith));
+      comes = (value_passes fs w old mid 0 30 p (form.Choose c.args.parts.1 c.args.parts.2 c.args.here.now.at) had has how out part c.in_default.not-Is c.in_default.not-Left kept (c.requires.held.1, c.requires.held.2) (omega arith));
       kept = kept;
     }
 
 pub operators::unary_on-prefix_on-requires-clause-ready : goal.operators::unary_on-prefix_on-requires-clause-ready
 operators::unary_on-prefix_on-requires-clause-ready t c =
-    let fs = trees_of c.args.site.now.codes.now.items in
-    let w = c.args.site.now.widget in
+    let fs = trees_of c.args.here.now.site.now.codes.now.items in
+    let w = c.args.here.now.site.now.widget in
     let old = c.args.store.now in
     let mid = c.eval_on.new.store in
-    let p : State → Plan = λ s. Do (job_of fs w old.cells (job.Eval c.args.e c.args.place.now)) s Ret in
+    let p : State → Plan = λ s. Do (job_of fs w old.cells (job.Eval c.args.e c.args.here.now.at)) s Ret in
     let had = c.args.run.now in
     let has = c.eval_on.new.run in
     let how = c.in_ok-how.how in
@@ -1395,26 +2566,26 @@ operators::unary_on-prefix_on-requires-clause-ready t c =
 
 pub operators::unary_on-prefix_on-requires-clause-held : goal.operators::unary_on-prefix_on-requires-clause-held
 operators::unary_on-prefix_on-requires-clause-held t c =
-    let fs = trees_of c.args.site.now.codes.now.items in
-    let w = c.args.site.now.widget in
+    let fs = trees_of c.args.here.now.site.now.codes.now.items in
+    let w = c.args.here.now.site.now.widget in
     let old = c.args.store.now in
     let mid = c.eval_on.new.store in
-    let p : State → Plan = λ s. Do (job_of fs w old.cells (job.Eval c.args.e c.args.place.now)) s Ret in
+    let p : State → Plan = λ s. Do (job_of fs w old.cells (job.Eval c.args.e c.args.here.now.at)) s Ret in
     let had = c.args.run.now in
     let has = c.eval_on.new.run in
     let how = c.in_ok-how.how in
     let out = c.eval_on.new.out in
     let part = c.in_ok-how.ensures.comes in
     let kept = c.in_ok-how.ensures.kept in
-    (place_fine fs w old.cells mid.cells kept.grows c.args.place.now c.requires.held.0, value_fine fs w old mid 0 p had has how out part c.in-Is.is)
+    (place_fine fs w old.cells mid.cells kept.grows c.args.here.now.at c.requires.held.0, value_fine fs w old mid 0 p had has how out part c.in-Is.is)
 
 pub operators::unary_on-returns-in-Is-clause-comes : goal.operators::unary_on-returns-in-Is-clause-comes
 operators::unary_on-returns-in-Is-clause-comes t c =
-    let fs = trees_of c.args.site.now.codes.now.items in
-    let w = c.args.site.now.widget in
+    let fs = trees_of c.args.here.now.site.now.codes.now.items in
+    let w = c.args.here.now.site.now.widget in
     let old = c.args.store.now in
     let mid = c.eval_on.new.store in
-    let p : State → Plan = λ s. Do (job_of fs w old.cells (job.Eval c.args.e c.args.place.now)) s Ret in
+    let p : State → Plan = λ s. Do (job_of fs w old.cells (job.Eval c.args.e c.args.here.now.at)) s Ret in
     let had = c.args.run.now in
     let has = c.eval_on.new.run in
     let how = c.in_ok-how.how in
@@ -1422,36 +2593,36 @@ operators::unary_on-returns-in-Is-clause-comes t c =
     let part = c.in_ok-how.ensures.comes in
     let kept = c.in_ok-how.ensures.kept in
     (IfOk-weaker c.prefix_on.result _ _
-    (λ h x. value_then fs w old mid c.prefix_on.new.store 0 4 30 p (form.Prefix c.args.op c.args.place.now) had has c.prefix_on.new.run how h out _ part c.in-Is.is kept c.requires.held.0 x (omega arith))
+    (λ h x. value_then fs w old mid c.prefix_on.new.store 0 4 30 p (form.Prefix c.args.op c.args.here.now.at) had has c.prefix_on.new.run how h out _ part c.in-Is.is kept c.requires.held.0 x (omega arith))
     c.prefix_on.ensures.comes)
 
 pub operators::unary_on-returns-in-Is-clause-kept : goal.operators::unary_on-returns-in-Is-clause-kept
 operators::unary_on-returns-in-Is-clause-kept t c =
-    kept_then (trees_of c.args.site.now.codes.now.items) c.args.site.now.widget c.args.store.now c.eval_on.new.store c.prefix_on.new.store c.in_ok-how.ensures.kept c.prefix_on.ensures.kept
+    kept_then (trees_of c.args.here.now.site.now.codes.now.items) c.args.here.now.site.now.widget c.args.store.now c.eval_on.new.store c.prefix_on.new.store c.in_ok-how.ensures.kept c.prefix_on.ensures.kept
 
 pub operators::unary_on-returns-in-Left-clause-comes : goal.operators::unary_on-returns-in-Left-clause-comes
 operators::unary_on-returns-in-Left-clause-comes t c =
-    let fs = trees_of c.args.site.now.codes.now.items in
-    let w = c.args.site.now.widget in
+    let fs = trees_of c.args.here.now.site.now.codes.now.items in
+    let w = c.args.here.now.site.now.widget in
     let old = c.args.store.now in
     let mid = c.eval_on.new.store in
-    let p : State → Plan = λ s. Do (job_of fs w old.cells (job.Eval c.args.e c.args.place.now)) s Ret in
+    let p : State → Plan = λ s. Do (job_of fs w old.cells (job.Eval c.args.e c.args.here.now.at)) s Ret in
     let had = c.args.run.now in
     let has = c.eval_on.new.run in
     let how = c.in_ok-how.how in
     let out = c.eval_on.new.out in
     let part = c.in_ok-how.ensures.comes in
     let kept = c.in_ok-how.ensures.kept in
-    (frame_waits fs w c.wait.result old mid 0 30 p (frame.Form (form.Prefix c.args.op c.args.place.now)) had has c.wait.new.run how (ended_as how out) (λ (h : Ended). ended_as h out) part c.in-Left.is kept c.requires.held.0 (omega arith)
+    (frame_waits fs w c.wait.result old mid 0 30 p (frame.Form (form.Prefix c.args.op c.args.here.now.at)) had has c.wait.new.run how (ended_as how out) (λ (h : Ended). ended_as h out) part c.in-Left.is kept c.requires.held.0 (omega arith)
     c.wait.ensures.left c.wait.ensures.waits c.wait.ensures.next c.wait.ensures.units)
 
 pub operators::unary_on-returns-in_default : goal.operators::unary_on-returns-in_default
 operators::unary_on-returns-in_default t c =
-    let fs = trees_of c.args.site.now.codes.now.items in
-    let w = c.args.site.now.widget in
+    let fs = trees_of c.args.here.now.site.now.codes.now.items in
+    let w = c.args.here.now.site.now.widget in
     let old = c.args.store.now in
     let mid = c.eval_on.new.store in
-    let p : State → Plan = λ s. Do (job_of fs w old.cells (job.Eval c.args.e c.args.place.now)) s Ret in
+    let p : State → Plan = λ s. Do (job_of fs w old.cells (job.Eval c.args.e c.args.here.now.at)) s Ret in
     let had = c.args.run.now in
     let has = c.eval_on.new.run in
     let how = c.in_ok-how.how in
@@ -1459,51 +2630,51 @@ operators::unary_on-returns-in_default t c =
     let part = c.in_ok-how.ensures.comes in
     let kept = c.in_ok-how.ensures.kept in
     record {
-      comes = (value_passes fs w old mid 0 30 p (form.Prefix c.args.op c.args.place.now) had has how out part c.in_default.not-Is c.in_default.not-Left kept c.requires.held.0 (omega arith));
+      comes = (value_passes fs w old mid 0 30 p (form.Prefix c.args.op c.args.here.now.at) had has how out part c.in_default.not-Is c.in_default.not-Left kept c.requires.held.0 (omega arith));
       kept = kept;
     }
 
 pub properties::dot_on-read_on-requires-clause-ready : goal.properties::dot_on-read_on-requires-clause-ready
 properties::dot_on-read_on-requires-clause-ready t c =
-    let fs = trees_of c.args.site.now.codes.now.items in
-    let w = c.args.site.now.widget in
+    let fs = trees_of c.args.here.now.site.now.codes.now.items in
+    let w = c.args.here.now.site.now.widget in
     let old = c.args.store.now in
-    let mid = c.eval_on.new.store in
-    let p : State → Plan = λ s. Do (job_of fs w old.cells (job.Eval c.args.e c.args.place.now)) s Ret in
+    let mid = c.operand_on.new.store in
+    let p : State → Plan = λ s. Do (job_of fs w old.cells (job.Eval c.args.e c.args.here.now.at)) s Ret in
     let had = c.args.run.now in
-    let has = c.eval_on.new.run in
+    let has = c.operand_on.new.run in
     let how = c.in_ok-how.how in
-    let out = c.eval_on.new.out in
+    let out = c.operand_on.new.out in
     let part = c.in_ok-how.ensures.comes in
     let kept = c.in_ok-how.ensures.kept in
     value_ready fs w old mid 0 p had has how (ended_as how out) part c.in-Is.is kept c.requires.ready
 
 pub properties::dot_on-read_on-requires-clause-held : goal.properties::dot_on-read_on-requires-clause-held
 properties::dot_on-read_on-requires-clause-held t c =
-    let fs = trees_of c.args.site.now.codes.now.items in
-    let w = c.args.site.now.widget in
+    let fs = trees_of c.args.here.now.site.now.codes.now.items in
+    let w = c.args.here.now.site.now.widget in
     let old = c.args.store.now in
-    let mid = c.eval_on.new.store in
-    let p : State → Plan = λ s. Do (job_of fs w old.cells (job.Eval c.args.e c.args.place.now)) s Ret in
+    let mid = c.operand_on.new.store in
+    let p : State → Plan = λ s. Do (job_of fs w old.cells (job.Eval c.args.e c.args.here.now.at)) s Ret in
     let had = c.args.run.now in
-    let has = c.eval_on.new.run in
+    let has = c.operand_on.new.run in
     let how = c.in_ok-how.how in
-    let out = c.eval_on.new.out in
+    let out = c.operand_on.new.out in
     let part = c.in_ok-how.ensures.comes in
     let kept = c.in_ok-how.ensures.kept in
     value_fine fs w old mid 0 p had has how out part c.in-Is.is
 
 pub properties::dot_on-returns-in-Is-clause-comes : goal.properties::dot_on-returns-in-Is-clause-comes
 properties::dot_on-returns-in-Is-clause-comes t c =
-    let fs = trees_of c.args.site.now.codes.now.items in
-    let w = c.args.site.now.widget in
+    let fs = trees_of c.args.here.now.site.now.codes.now.items in
+    let w = c.args.here.now.site.now.widget in
     let old = c.args.store.now in
-    let mid = c.eval_on.new.store in
-    let p : State → Plan = λ s. Do (job_of fs w old.cells (job.Eval c.args.e c.args.place.now)) s Ret in
+    let mid = c.operand_on.new.store in
+    let p : State → Plan = λ s. Do (job_of fs w old.cells (job.Eval c.args.e c.args.here.now.at)) s Ret in
     let had = c.args.run.now in
-    let has = c.eval_on.new.run in
+    let has = c.operand_on.new.run in
     let how = c.in_ok-how.how in
-    let out = c.eval_on.new.out in
+    let out = c.operand_on.new.out in
     let part = c.in_ok-how.ensures.comes in
     let kept = c.in_ok-how.ensures.kept in
     (IfOk-weaker c.read_on.result _ _
@@ -1512,52 +2683,33 @@ properties::dot_on-returns-in-Is-clause-comes t c =
 
 pub properties::dot_on-returns-in-Is-clause-kept : goal.properties::dot_on-returns-in-Is-clause-kept
 properties::dot_on-returns-in-Is-clause-kept t c =
-    kept_then (trees_of c.args.site.now.codes.now.items) c.args.site.now.widget c.args.store.now c.eval_on.new.store c.read_on.new.store c.in_ok-how.ensures.kept c.read_on.ensures.kept
+    kept_then (trees_of c.args.here.now.site.now.codes.now.items) c.args.here.now.site.now.widget c.args.store.now c.operand_on.new.store c.read_on.new.store c.in_ok-how.ensures.kept c.read_on.ensures.kept
 
-pub properties::dot_on-returns-in_ok-share-in-Left-clause-comes : goal.properties::dot_on-returns-in_ok-share-in-Left-clause-comes
-properties::dot_on-returns-in_ok-share-in-Left-clause-comes t c =
-    let fs = trees_of c.args.site.now.codes.now.items in
-    let w = c.args.site.now.widget in
+pub properties::dot_on-returns-in_default-clause-comes : goal.properties::dot_on-returns-in_default-clause-comes
+properties::dot_on-returns-in_default-clause-comes t c =
+    let fs = trees_of c.args.here.now.site.now.codes.now.items in
+    let w = c.args.here.now.site.now.widget in
     let old = c.args.store.now in
-    let mid = c.eval_on.new.store in
-    let p : State → Plan = λ s. Do (job_of fs w old.cells (job.Eval c.args.e c.args.place.now)) s Ret in
+    let mid = c.operand_on.new.store in
+    let p : State → Plan = λ s. Do (job_of fs w old.cells (job.Eval c.args.e c.args.here.now.at)) s Ret in
     let had = c.args.run.now in
-    let has = c.eval_on.new.run in
+    let has = c.operand_on.new.run in
     let how = c.in_ok-how.how in
-    let out = c.eval_on.new.out in
+    let out = c.operand_on.new.out in
     let part = c.in_ok-how.ensures.comes in
     let kept = c.in_ok-how.ensures.kept in
-    (frame_waits fs w c.wait.result old mid 0 30 p (frame.Form (form.Dot c.args.name.now)) had has c.wait.new.run how (ended_as how out) (λ (h : Ended). ended_as h out) part c.in-Left.is kept tt (omega arith)
-    c.wait.ensures.left (subst (λ (x : List ℕ). IfOk c.wait.result (λ h. c.wait.new.run.waits.items ≡ has.waits.items ++ frame.Form (form.Dot x) ∷ [])) c.in_ok-share-in-Left.ensures c.wait.ensures.waits) c.wait.ensures.next c.wait.ensures.units)
-
-pub properties::dot_on-returns-in_default : goal.properties::dot_on-returns-in_default
-properties::dot_on-returns-in_default t c =
-    let fs = trees_of c.args.site.now.codes.now.items in
-    let w = c.args.site.now.widget in
-    let old = c.args.store.now in
-    let mid = c.eval_on.new.store in
-    let p : State → Plan = λ s. Do (job_of fs w old.cells (job.Eval c.args.e c.args.place.now)) s Ret in
-    let had = c.args.run.now in
-    let has = c.eval_on.new.run in
-    let how = c.in_ok-how.how in
-    let out = c.eval_on.new.out in
-    let part = c.in_ok-how.ensures.comes in
-    let kept = c.in_ok-how.ensures.kept in
-    record {
-      comes = (value_passes fs w old mid 0 30 p (form.Dot c.args.name.now) had has how out part c.in_default.not-Is c.in_default.not-Left kept tt (omega arith));
-      kept = kept;
-    }
+    hand_form fs w c.hand_dot.result old mid 0 30 p (form.Dot c.args.name.now) had has c.hand_dot.new.run how out part c.in_default.not-Is kept tt (omega arith) c.hand_dot.ensures
 
 pub properties::sub_on-subscript_on-requires : goal.properties::sub_on-subscript_on-requires
 properties::sub_on-subscript_on-requires t c = (
   search rules,
   (
     (
-        let fs = trees_of c.args.site.now.codes.now.items in
-        let w = c.args.site.now.widget in
+        let fs = trees_of c.args.here.now.site.now.codes.now.items in
+        let w = c.args.here.now.site.now.widget in
         let old = c.args.store.now in
         let mid = c.eval_on.new.store in
-        let p : State → Plan = λ s. Do (job_of fs w old.cells (job.Eval c.args.parts.0 c.args.place.now)) s Ret in
+        let p : State → Plan = λ s. Do (job_of fs w old.cells (job.Eval c.args.parts.0 c.args.here.now.at)) s Ret in
         let had = c.args.run.now in
         let has = c.eval_on.new.run in
         let how = c.in_ok-how.how in
@@ -1567,29 +2719,32 @@ properties::sub_on-subscript_on-requires t c = (
         value_ready fs w old mid 0 p had has how (ended_as how out) part c.in-Is.is kept c.requires.ready
         ),
     (
-        let fs = trees_of c.args.site.now.codes.now.items in
-        let w = c.args.site.now.widget in
-        let old = c.args.store.now in
-        let mid = c.eval_on.new.store in
-        let p : State → Plan = λ s. Do (job_of fs w old.cells (job.Eval c.args.parts.0 c.args.place.now)) s Ret in
-        let had = c.args.run.now in
-        let has = c.eval_on.new.run in
-        let how = c.in_ok-how.how in
-        let out = c.eval_on.new.out in
-        let part = c.in_ok-how.ensures.comes in
-        let kept = c.in_ok-how.ensures.kept in
-        ((place_fine fs w old.cells mid.cells kept.grows c.args.place.now c.requires.held.1.0, c.requires.held.1.1), value_fine fs w old mid 0 p had has how out part c.in-Is.is)
-        ),
+      (
+          let fs = trees_of c.args.here.now.site.now.codes.now.items in
+          let w = c.args.here.now.site.now.widget in
+          let old = c.args.store.now in
+          let mid = c.eval_on.new.store in
+          let p : State → Plan = λ s. Do (job_of fs w old.cells (job.Eval c.args.parts.0 c.args.here.now.at)) s Ret in
+          let had = c.args.run.now in
+          let has = c.eval_on.new.run in
+          let how = c.in_ok-how.how in
+          let out = c.eval_on.new.out in
+          let part = c.in_ok-how.ensures.comes in
+          let kept = c.in_ok-how.ensures.kept in
+          ((place_fine fs w old.cells mid.cells kept.grows c.args.here.now.at c.requires.held.1.0, c.requires.held.1.1), value_fine fs w old mid 0 p had has how out part c.in-Is.is)
+          ),
+      c.requires.tree,
+    ),
   ),
 )
 
 pub properties::sub_on-returns-in-Is-clause-comes : goal.properties::sub_on-returns-in-Is-clause-comes
 properties::sub_on-returns-in-Is-clause-comes t c =
-    let fs = trees_of c.args.site.now.codes.now.items in
-    let w = c.args.site.now.widget in
+    let fs = trees_of c.args.here.now.site.now.codes.now.items in
+    let w = c.args.here.now.site.now.widget in
     let old = c.args.store.now in
     let mid = c.eval_on.new.store in
-    let p : State → Plan = λ s. Do (job_of fs w old.cells (job.Eval c.args.parts.0 c.args.place.now)) s Ret in
+    let p : State → Plan = λ s. Do (job_of fs w old.cells (job.Eval c.args.parts.0 c.args.here.now.at)) s Ret in
     let had = c.args.run.now in
     let has = c.eval_on.new.run in
     let how = c.in_ok-how.how in
@@ -1597,36 +2752,36 @@ properties::sub_on-returns-in-Is-clause-comes t c =
     let part = c.in_ok-how.ensures.comes in
     let kept = c.in_ok-how.ensures.kept in
     (IfOk-weaker c.subscript_on.result _ _
-    (λ h x. value_then fs w old mid c.subscript_on.new.store 0 1 30 p (form.SubBase c.args.parts.1 c.args.place.now) had has c.subscript_on.new.run how h out _ part c.in-Is.is kept c.requires.held.1 x (omega arith))
+    (λ h x. value_then fs w old mid c.subscript_on.new.store 0 1 30 p (form.SubBase c.args.parts.1 c.args.here.now.at) had has c.subscript_on.new.run how h out _ part c.in-Is.is kept c.requires.held.1 x (omega arith))
     c.subscript_on.ensures.comes)
 
 pub properties::sub_on-returns-in-Is-clause-kept : goal.properties::sub_on-returns-in-Is-clause-kept
 properties::sub_on-returns-in-Is-clause-kept t c =
-    kept_then (trees_of c.args.site.now.codes.now.items) c.args.site.now.widget c.args.store.now c.eval_on.new.store c.subscript_on.new.store c.in_ok-how.ensures.kept c.subscript_on.ensures.kept
+    kept_then (trees_of c.args.here.now.site.now.codes.now.items) c.args.here.now.site.now.widget c.args.store.now c.eval_on.new.store c.subscript_on.new.store c.in_ok-how.ensures.kept c.subscript_on.ensures.kept
 
 pub properties::sub_on-returns-in-Left-clause-comes : goal.properties::sub_on-returns-in-Left-clause-comes
 properties::sub_on-returns-in-Left-clause-comes t c =
-    let fs = trees_of c.args.site.now.codes.now.items in
-    let w = c.args.site.now.widget in
+    let fs = trees_of c.args.here.now.site.now.codes.now.items in
+    let w = c.args.here.now.site.now.widget in
     let old = c.args.store.now in
     let mid = c.eval_on.new.store in
-    let p : State → Plan = λ s. Do (job_of fs w old.cells (job.Eval c.args.parts.0 c.args.place.now)) s Ret in
+    let p : State → Plan = λ s. Do (job_of fs w old.cells (job.Eval c.args.parts.0 c.args.here.now.at)) s Ret in
     let had = c.args.run.now in
     let has = c.eval_on.new.run in
     let how = c.in_ok-how.how in
     let out = c.eval_on.new.out in
     let part = c.in_ok-how.ensures.comes in
     let kept = c.in_ok-how.ensures.kept in
-    (frame_waits fs w c.wait.result old mid 0 30 p (frame.Form (form.SubBase c.args.parts.1 c.args.place.now)) had has c.wait.new.run how (ended_as how out) (λ (h : Ended). ended_as h out) part c.in-Left.is kept c.requires.held.1 (omega arith)
+    (frame_waits fs w c.wait.result old mid 0 30 p (frame.Form (form.SubBase c.args.parts.1 c.args.here.now.at)) had has c.wait.new.run how (ended_as how out) (λ (h : Ended). ended_as h out) part c.in-Left.is kept c.requires.held.1 (omega arith)
     c.wait.ensures.left c.wait.ensures.waits c.wait.ensures.next c.wait.ensures.units)
 
 pub properties::sub_on-returns-in_default : goal.properties::sub_on-returns-in_default
 properties::sub_on-returns-in_default t c =
-    let fs = trees_of c.args.site.now.codes.now.items in
-    let w = c.args.site.now.widget in
+    let fs = trees_of c.args.here.now.site.now.codes.now.items in
+    let w = c.args.here.now.site.now.widget in
     let old = c.args.store.now in
     let mid = c.eval_on.new.store in
-    let p : State → Plan = λ s. Do (job_of fs w old.cells (job.Eval c.args.parts.0 c.args.place.now)) s Ret in
+    let p : State → Plan = λ s. Do (job_of fs w old.cells (job.Eval c.args.parts.0 c.args.here.now.at)) s Ret in
     let had = c.args.run.now in
     let has = c.eval_on.new.run in
     let how = c.in_ok-how.how in
@@ -1634,17 +2789,17 @@ properties::sub_on-returns-in_default t c =
     let part = c.in_ok-how.ensures.comes in
     let kept = c.in_ok-how.ensures.kept in
     record {
-      comes = (value_passes fs w old mid 0 30 p (form.SubBase c.args.parts.1 c.args.place.now) had has how out part c.in_default.not-Is c.in_default.not-Left kept c.requires.held.1 (omega arith));
+      comes = (value_passes fs w old mid 0 30 p (form.SubBase c.args.parts.1 c.args.here.now.at) had has how out part c.in_default.not-Is c.in_default.not-Left kept c.requires.held.1 (omega arith));
       kept = kept;
     }
 
 pub properties::subscript_on-named_on-requires-clause-ready : goal.properties::subscript_on-named_on-requires-clause-ready
 properties::subscript_on-named_on-requires-clause-ready t c =
-    let fs = trees_of c.args.site.now.codes.now.items in
-    let w = c.args.site.now.widget in
+    let fs = trees_of c.args.here.now.site.now.codes.now.items in
+    let w = c.args.here.now.site.now.widget in
     let old = c.args.store.now in
     let mid = c.eval_on.new.store in
-    let p : State → Plan = λ s. Do (job_of fs w old.cells (job.Eval c.args.index c.args.place.now)) s Ret in
+    let p : State → Plan = λ s. Do (job_of fs w old.cells (job.Eval c.args.index c.args.here.now.at)) s Ret in
     let had = c.args.run.now in
     let has = c.eval_on.new.run in
     let how = c.in_ok-how.how in
@@ -1655,11 +2810,11 @@ properties::subscript_on-named_on-requires-clause-ready t c =
 
 pub properties::subscript_on-named_on-requires-clause-held : goal.properties::subscript_on-named_on-requires-clause-held
 properties::subscript_on-named_on-requires-clause-held t c =
-    let fs = trees_of c.args.site.now.codes.now.items in
-    let w = c.args.site.now.widget in
+    let fs = trees_of c.args.here.now.site.now.codes.now.items in
+    let w = c.args.here.now.site.now.widget in
     let old = c.args.store.now in
     let mid = c.eval_on.new.store in
-    let p : State → Plan = λ s. Do (job_of fs w old.cells (job.Eval c.args.index c.args.place.now)) s Ret in
+    let p : State → Plan = λ s. Do (job_of fs w old.cells (job.Eval c.args.index c.args.here.now.at)) s Ret in
     let had = c.args.run.now in
     let has = c.eval_on.new.run in
     let how = c.in_ok-how.how in
@@ -1670,11 +2825,11 @@ properties::subscript_on-named_on-requires-clause-held t c =
 
 pub properties::subscript_on-returns-in-Is-clause-comes : goal.properties::subscript_on-returns-in-Is-clause-comes
 properties::subscript_on-returns-in-Is-clause-comes t c =
-    let fs = trees_of c.args.site.now.codes.now.items in
-    let w = c.args.site.now.widget in
+    let fs = trees_of c.args.here.now.site.now.codes.now.items in
+    let w = c.args.here.now.site.now.widget in
     let old = c.args.store.now in
     let mid = c.eval_on.new.store in
-    let p : State → Plan = λ s. Do (job_of fs w old.cells (job.Eval c.args.index c.args.place.now)) s Ret in
+    let p : State → Plan = λ s. Do (job_of fs w old.cells (job.Eval c.args.index c.args.here.now.at)) s Ret in
     let had = c.args.run.now in
     let has = c.eval_on.new.run in
     let how = c.in_ok-how.how in
@@ -1683,22 +2838,22 @@ properties::subscript_on-returns-in-Is-clause-comes t c =
     let kept = c.in_ok-how.ensures.kept in
     let is = c.take_value-base.ensures.taken in
     let fine = subst (λ (b : Value2). IsFine w old.cells b) (sym is) c.requires.held.1 in
-    subst (λ (b : Value2). IfOk c.named_on.result (λ h. Comes fs w old c.named_on.new.store 1 (λ s. taken fs w old.cells (frame.Form (form.SubBase c.args.index c.args.place.now)) (meaning.Is (seen w old.cells b)) s) had c.named_on.new.run h c.named_on.new.out)) is
+    subst (λ (b : Value2). IfOk c.named_on.result (λ h. Comes fs w old c.named_on.new.store 1 (λ s. taken fs w old.cells (frame.Form (form.SubBase c.args.index c.args.here.now.at)) (meaning.Is (seen w old.cells b)) s) had c.named_on.new.run h c.named_on.new.out)) is
     (IfOk-weaker c.named_on.result _ _
     (λ h x. value_then fs w old mid c.named_on.new.store 0 1 1 p (form.Sub c.take_value-base.result) had has c.named_on.new.run how h out _ part c.in-Is.is kept fine x (omega arith))
     c.named_on.ensures.comes)
 
 pub properties::subscript_on-returns-in-Is-clause-kept : goal.properties::subscript_on-returns-in-Is-clause-kept
 properties::subscript_on-returns-in-Is-clause-kept t c =
-    kept_then (trees_of c.args.site.now.codes.now.items) c.args.site.now.widget c.args.store.now c.eval_on.new.store c.named_on.new.store c.in_ok-how.ensures.kept c.named_on.ensures.kept
+    kept_then (trees_of c.args.here.now.site.now.codes.now.items) c.args.here.now.site.now.widget c.args.store.now c.eval_on.new.store c.named_on.new.store c.in_ok-how.ensures.kept c.named_on.ensures.kept
 
 pub properties::subscript_on-returns-in-Left-clause-comes : goal.properties::subscript_on-returns-in-Left-clause-comes
 properties::subscript_on-returns-in-Left-clause-comes t c =
-    let fs = trees_of c.args.site.now.codes.now.items in
-    let w = c.args.site.now.widget in
+    let fs = trees_of c.args.here.now.site.now.codes.now.items in
+    let w = c.args.here.now.site.now.widget in
     let old = c.args.store.now in
     let mid = c.eval_on.new.store in
-    let p : State → Plan = λ s. Do (job_of fs w old.cells (job.Eval c.args.index c.args.place.now)) s Ret in
+    let p : State → Plan = λ s. Do (job_of fs w old.cells (job.Eval c.args.index c.args.here.now.at)) s Ret in
     let had = c.args.run.now in
     let has = c.eval_on.new.run in
     let how = c.in_ok-how.how in
@@ -1707,17 +2862,17 @@ properties::subscript_on-returns-in-Left-clause-comes t c =
     let kept = c.in_ok-how.ensures.kept in
     let is = c.take_value-base.ensures.taken in
     let fine = subst (λ (b : Value2). IsFine w old.cells b) (sym is) c.requires.held.1 in
-    subst (λ (b : Value2). IfOk c.wait.result (λ h. Comes fs w old mid 1 (λ s. taken fs w old.cells (frame.Form (form.SubBase c.args.index c.args.place.now)) (meaning.Is (seen w old.cells b)) s) had c.wait.new.run h out)) is
+    subst (λ (b : Value2). IfOk c.wait.result (λ h. Comes fs w old mid 1 (λ s. taken fs w old.cells (frame.Form (form.SubBase c.args.index c.args.here.now.at)) (meaning.Is (seen w old.cells b)) s) had c.wait.new.run h out)) is
     (frame_waits fs w c.wait.result old mid 0 1 p (frame.Form (form.Sub c.take_value-base.result)) had has c.wait.new.run how (ended_as how out) (λ (h : Ended). ended_as h out) part c.in-Left.is kept fine (omega arith)
     c.wait.ensures.left c.wait.ensures.waits c.wait.ensures.next c.wait.ensures.units)
 
 pub properties::subscript_on-returns-in_default : goal.properties::subscript_on-returns-in_default
 properties::subscript_on-returns-in_default t c =
-    let fs = trees_of c.args.site.now.codes.now.items in
-    let w = c.args.site.now.widget in
+    let fs = trees_of c.args.here.now.site.now.codes.now.items in
+    let w = c.args.here.now.site.now.widget in
     let old = c.args.store.now in
     let mid = c.eval_on.new.store in
-    let p : State → Plan = λ s. Do (job_of fs w old.cells (job.Eval c.args.index c.args.place.now)) s Ret in
+    let p : State → Plan = λ s. Do (job_of fs w old.cells (job.Eval c.args.index c.args.here.now.at)) s Ret in
     let had = c.args.run.now in
     let has = c.eval_on.new.run in
     let how = c.in_ok-how.how in
@@ -1727,33 +2882,33 @@ properties::subscript_on-returns-in_default t c =
     let is = c.take_value-base.ensures.taken in
     let fine = subst (λ (b : Value2). IsFine w old.cells b) (sym is) c.requires.held.1 in
     record {
-      comes = subst (λ (b : Value2). Comes fs w old mid 1 (λ s. taken fs w old.cells (frame.Form (form.SubBase c.args.index c.args.place.now)) (meaning.Is (seen w old.cells b)) s) had has how out) is
+      comes = subst (λ (b : Value2). Comes fs w old mid 1 (λ s. taken fs w old.cells (frame.Form (form.SubBase c.args.index c.args.here.now.at)) (meaning.Is (seen w old.cells b)) s) had has how out) is
           (value_passes fs w old mid 0 1 p (form.Sub c.take_value-base.result) had has how out part c.in_default.not-Is c.in_default.not-Left kept fine (omega arith));
       kept = kept;
     }
 
 pub statements::exec_on-returns-clause-comes : goal.statements::exec_on-returns-clause-comes
 statements::exec_on-returns-clause-comes t c =
-    let fs = trees_of c.args.site.now.codes.now.items in
-    let w = c.args.site.now.widget in
+    let fs = trees_of c.args.here.now.site.now.codes.now.items in
+    let w = c.args.here.now.site.now.widget in
     let old = c.args.store.now in
     let new = c.begun_on.new.store in
-    let j = job_of fs w old.cells (job.Exec c.args.id c.args.place.now) in
+    let j = job_of fs w old.cells (job.Exec c.args.id c.args.here.now.at) in
     IfOk-weaker c.begun_on.result _ _
     (λ how h. unit_first fs w old new 30 0 j (body j) Ret c.args.run.now _ c.begun_on.new.run how _ (omega (arith, c.if-run-eq0.false)) (λ x. and_then_ret (body j x)) h (omega arith))
     c.begun_on.ensures.comes
 
 pub statements::ending_on-returns-in-Is-clause-comes : goal.statements::ending_on-returns-in-Is-clause-comes
 statements::ending_on-returns-in-Is-clause-comes t c =
-    let fs = trees_of c.args.site.now.codes.now.items in
-    let w = c.args.site.now.widget in
+    let fs = trees_of c.args.here.now.site.now.codes.now.items in
+    let w = c.args.here.now.site.now.widget in
     let old = c.args.store.now in
-    let mid = c.eval_on.new.store in
-    let p : State → Plan = λ s. Do (job_of fs w old.cells (job.Eval c.args.e c.args.place.now)) s Ret in
+    let mid = c.operand_on.new.store in
+    let p : State → Plan = λ s. Do (job_of fs w old.cells (job.Eval c.args.e c.args.here.now.at)) s Ret in
     let had = c.args.run.now in
-    let has = c.eval_on.new.run in
+    let has = c.operand_on.new.run in
     let how = c.in_ok-how.how in
-    let out = c.eval_on.new.out in
+    let out = c.operand_on.new.out in
     let part = c.in_ok-how.ensures.comes in
     let kept = c.in_ok-how.ensures.kept in
     let f = frame.Statement (frame_after c.args.after) in
@@ -1761,152 +2916,114 @@ statements::ending_on-returns-in-Is-clause-comes t c =
     part_gives fs w old mid 0 30 _ p f had has has ended.Is c.ended_after.result (ended_as ended.Is out) (ended_as c.ended_after.result c.ended_after.new.out) (λ s. refl) one tt kept.grows (after_fine fs w old.cells c.args.after) c.ended_after.ensures.how refl
     (λ r. c.ended_after.ensures.plan fs w mid.cells (image fs r w mid)) (c.ended_after.ensures.fine w mid.cells (end_fine fs w old mid 0 p had has ended.Is (ended_as ended.Is out) one tt)) (omega arith)
 
-pub statements::ending_on-returns-in-Left-clause-comes : goal.statements::ending_on-returns-in-Left-clause-comes
-statements::ending_on-returns-in-Left-clause-comes t c =
-    let fs = trees_of c.args.site.now.codes.now.items in
-    let w = c.args.site.now.widget in
+pub statements::ending_on-returns-in_default-clause-comes : goal.statements::ending_on-returns-in_default-clause-comes
+statements::ending_on-returns-in_default-clause-comes t c =
+    let fs = trees_of c.args.here.now.site.now.codes.now.items in
+    let w = c.args.here.now.site.now.widget in
     let old = c.args.store.now in
-    let mid = c.eval_on.new.store in
-    let p : State → Plan = λ s. Do (job_of fs w old.cells (job.Eval c.args.e c.args.place.now)) s Ret in
+    let mid = c.operand_on.new.store in
+    let p : State → Plan = λ s. Do (job_of fs w old.cells (job.Eval c.args.e c.args.here.now.at)) s Ret in
     let had = c.args.run.now in
-    let has = c.eval_on.new.run in
+    let has = c.operand_on.new.run in
     let how = c.in_ok-how.how in
-    let out = c.eval_on.new.out in
+    let out = c.operand_on.new.out in
     let part = c.in_ok-how.ensures.comes in
     let kept = c.in_ok-how.ensures.kept in
     let f = frame.Statement (frame_after c.args.after) in
-    let one = as_is fs w old mid 0 p had has how ended.Left out c.in-Left.is part in
-    waits_ok fs w c.wait.result old mid 0 30 p f had has c.wait.new.run ended.Left (ended_as ended.Left out) out one refl kept.grows (after_fine fs w old.cells c.args.after)
-    c.wait.ensures.left (IfOk-weaker c.wait.result _ _ (λ h x. x ∙ ap (λ g. has.waits.items ++ frame.Statement g ∷ []) c.waiting.ensures) c.wait.ensures.waits) c.wait.ensures.next c.wait.ensures.units (omega (arith, after_free c.args.after))
-
-pub statements::ending_on-returns-in_default : goal.statements::ending_on-returns-in_default
-statements::ending_on-returns-in_default t c =
-    let fs = trees_of c.args.site.now.codes.now.items in
-    let w = c.args.site.now.widget in
-    let old = c.args.store.now in
-    let mid = c.eval_on.new.store in
-    let p : State → Plan = λ s. Do (job_of fs w old.cells (job.Eval c.args.e c.args.place.now)) s Ret in
-    let had = c.args.run.now in
-    let has = c.eval_on.new.run in
-    let how = c.in_ok-how.how in
-    let out = c.eval_on.new.out in
-    let part = c.in_ok-how.ensures.comes in
-    let kept = c.in_ok-how.ensures.kept in
-    let f = frame.Statement (frame_after c.args.after) in
-    record {
-      comes = other_value fs w old mid 0 30 p f (λ v t. taken fs w mid.cells f (meaning.Is v) t) had has how out part c.in_default.not-Is c.in_default.not-Left kept.grows (after_fine fs w old.cells c.args.after) (after_taken fs w mid.cells c.args.after) (omega arith);
-      kept = kept;
-    }
+    hand_ok fs w c.hand_ending.result old mid 0 30 p f had has c.hand_ending.new.run how out part (passes_value fs w mid.cells f how out (λ v t. taken fs w mid.cells f (meaning.Is v) t) c.in_default.not-Is (after_taken fs w mid.cells c.args.after)) kept (after_fine fs w old.cells c.args.after) (omega (arith, after_free c.args.after)) c.hand_ending.ensures
 
 pub statements::if_on-branch_on-requires : goal.statements::if_on-branch_on-requires
 statements::if_on-branch_on-requires t c = (
   search rules,
   (
     (
-        let fs = trees_of c.args.site.now.codes.now.items in
-        let w = c.args.site.now.widget in
+        let fs = trees_of c.args.here.now.site.now.codes.now.items in
+        let w = c.args.here.now.site.now.widget in
         let old = c.args.store.now in
-        let mid = c.eval_on.new.store in
-        let p : State → Plan = λ s. Do (job_of fs w old.cells (job.Eval c.args.e c.args.place.now)) s Ret in
+        let mid = c.operand_on.new.store in
+        let p : State → Plan = λ s. Do (job_of fs w old.cells (job.Eval c.args.e c.args.here.now.at)) s Ret in
         let had = c.args.run.now in
-        let has = c.eval_on.new.run in
+        let has = c.operand_on.new.run in
         let how = c.in_ok-how.how in
-        let out = c.eval_on.new.out in
+        let out = c.operand_on.new.out in
         let part = c.in_ok-how.ensures.comes in
         let kept = c.in_ok-how.ensures.kept in
         let one = as_is fs w old mid 0 p had has how ended.Is out c.in-Is.is part in
         end_ready fs w old mid 0 p had has ended.Is (ended_as ended.Is out) one tt c.requires.ready kept
         ),
     (
-        let fs = trees_of c.args.site.now.codes.now.items in
-        let w = c.args.site.now.widget in
-        let old = c.args.store.now in
-        let mid = c.eval_on.new.store in
-        let p : State → Plan = λ s. Do (job_of fs w old.cells (job.Eval c.args.e c.args.place.now)) s Ret in
-        let had = c.args.run.now in
-        let has = c.eval_on.new.run in
-        let how = c.in_ok-how.how in
-        let out = c.eval_on.new.out in
-        let part = c.in_ok-how.ensures.comes in
-        let kept = c.in_ok-how.ensures.kept in
-        (place_fine fs w old.cells mid.cells kept.grows c.args.place.now c.requires.held.0.0, c.requires.held.0.1)
-        ),
+      (
+          let fs = trees_of c.args.here.now.site.now.codes.now.items in
+          let w = c.args.here.now.site.now.widget in
+          let old = c.args.store.now in
+          let mid = c.operand_on.new.store in
+          let p : State → Plan = λ s. Do (job_of fs w old.cells (job.Eval c.args.e c.args.here.now.at)) s Ret in
+          let had = c.args.run.now in
+          let has = c.operand_on.new.run in
+          let how = c.in_ok-how.how in
+          let out = c.operand_on.new.out in
+          let part = c.in_ok-how.ensures.comes in
+          let kept = c.in_ok-how.ensures.kept in
+          (place_fine fs w old.cells mid.cells kept.grows c.args.here.now.at c.requires.held.0.0, c.requires.held.0.1)
+          ),
+      c.requires.tree,
+    ),
   ),
 )
 
 pub statements::if_on-returns-in-Is-clause-comes : goal.statements::if_on-returns-in-Is-clause-comes
 statements::if_on-returns-in-Is-clause-comes t c =
-    let fs = trees_of c.args.site.now.codes.now.items in
-    let w = c.args.site.now.widget in
+    let fs = trees_of c.args.here.now.site.now.codes.now.items in
+    let w = c.args.here.now.site.now.widget in
     let old = c.args.store.now in
-    let mid = c.eval_on.new.store in
-    let p : State → Plan = λ s. Do (job_of fs w old.cells (job.Eval c.args.e c.args.place.now)) s Ret in
+    let mid = c.operand_on.new.store in
+    let p : State → Plan = λ s. Do (job_of fs w old.cells (job.Eval c.args.e c.args.here.now.at)) s Ret in
     let had = c.args.run.now in
-    let has = c.eval_on.new.run in
+    let has = c.operand_on.new.run in
     let how = c.in_ok-how.how in
-    let out = c.eval_on.new.out in
+    let out = c.operand_on.new.out in
     let part = c.in_ok-how.ensures.comes in
     let kept = c.in_ok-how.ensures.kept in
     let one = as_is fs w old mid 0 p had has how ended.Is out c.in-Is.is part in
     IfOk-weaker c.branch_on.result _ _
-    (λ h x. part_then fs w old mid c.branch_on.new.store 0 1 30 p (frame.Statement (statement.Branch c.args.id c.args.place.now)) had has c.branch_on.new.run ended.Is h (ended_as ended.Is out) (ended_as h c.branch_on.new.out) one tt kept.grows c.requires.held.0 x (omega arith))
+    (λ h x. part_then fs w old mid c.branch_on.new.store 0 1 30 p (frame.Statement (statement.Branch c.args.id c.args.here.now.at)) had has c.branch_on.new.run ended.Is h (ended_as ended.Is out) (ended_as h c.branch_on.new.out) one tt kept.grows c.requires.held.0 x (omega arith))
     c.branch_on.ensures.comes
 
 pub statements::if_on-returns-in-Is-clause-kept : goal.statements::if_on-returns-in-Is-clause-kept
 statements::if_on-returns-in-Is-clause-kept t c =
-    let fs = trees_of c.args.site.now.codes.now.items in
-    let w = c.args.site.now.widget in
+    let fs = trees_of c.args.here.now.site.now.codes.now.items in
+    let w = c.args.here.now.site.now.widget in
     let old = c.args.store.now in
-    let mid = c.eval_on.new.store in
-    let p : State → Plan = λ s. Do (job_of fs w old.cells (job.Eval c.args.e c.args.place.now)) s Ret in
+    let mid = c.operand_on.new.store in
+    let p : State → Plan = λ s. Do (job_of fs w old.cells (job.Eval c.args.e c.args.here.now.at)) s Ret in
     let had = c.args.run.now in
-    let has = c.eval_on.new.run in
+    let has = c.operand_on.new.run in
     let how = c.in_ok-how.how in
-    let out = c.eval_on.new.out in
+    let out = c.operand_on.new.out in
     let part = c.in_ok-how.ensures.comes in
     let kept = c.in_ok-how.ensures.kept in
     kept_then fs w old mid c.branch_on.new.store kept c.branch_on.ensures.kept
 
-pub statements::if_on-returns-in-Left-clause-comes : goal.statements::if_on-returns-in-Left-clause-comes
-statements::if_on-returns-in-Left-clause-comes t c =
-    let fs = trees_of c.args.site.now.codes.now.items in
-    let w = c.args.site.now.widget in
+pub statements::if_on-returns-in_default-clause-comes : goal.statements::if_on-returns-in_default-clause-comes
+statements::if_on-returns-in_default-clause-comes t c =
+    let fs = trees_of c.args.here.now.site.now.codes.now.items in
+    let w = c.args.here.now.site.now.widget in
     let old = c.args.store.now in
-    let mid = c.eval_on.new.store in
-    let p : State → Plan = λ s. Do (job_of fs w old.cells (job.Eval c.args.e c.args.place.now)) s Ret in
+    let mid = c.operand_on.new.store in
+    let p : State → Plan = λ s. Do (job_of fs w old.cells (job.Eval c.args.e c.args.here.now.at)) s Ret in
     let had = c.args.run.now in
-    let has = c.eval_on.new.run in
+    let has = c.operand_on.new.run in
     let how = c.in_ok-how.how in
-    let out = c.eval_on.new.out in
+    let out = c.operand_on.new.out in
     let part = c.in_ok-how.ensures.comes in
     let kept = c.in_ok-how.ensures.kept in
-    let one = as_is fs w old mid 0 p had has how ended.Left out c.in-Left.is part in
-    waits_ok fs w c.wait.result old mid 0 30 p (frame.Statement (statement.Branch c.args.id c.args.place.now)) had has c.wait.new.run ended.Left (ended_as ended.Left out) out one refl kept.grows c.requires.held.0
-    c.wait.ensures.left c.wait.ensures.waits c.wait.ensures.next c.wait.ensures.units (omega arith)
-
-pub statements::if_on-returns-in_default : goal.statements::if_on-returns-in_default
-statements::if_on-returns-in_default t c =
-    let fs = trees_of c.args.site.now.codes.now.items in
-    let w = c.args.site.now.widget in
-    let old = c.args.store.now in
-    let mid = c.eval_on.new.store in
-    let p : State → Plan = λ s. Do (job_of fs w old.cells (job.Eval c.args.e c.args.place.now)) s Ret in
-    let had = c.args.run.now in
-    let has = c.eval_on.new.run in
-    let how = c.in_ok-how.how in
-    let out = c.eval_on.new.out in
-    let part = c.in_ok-how.ensures.comes in
-    let kept = c.in_ok-how.ensures.kept in
-    let i = stmt_at (forest_at fs c.args.place.now.code) c.args.id in
-    record {
-      comes = other_value fs w old mid 0 30 p (frame.Statement (statement.Branch c.args.id c.args.place.now)) (λ v t. branch (then_of i) (else_of i) (place_of w mid.cells c.args.place.now) (meaning.Is v) t) had has how out part c.in_default.not-Is c.in_default.not-Left kept.grows c.requires.held.0 (λ o t. refl) (omega arith);
-      kept = kept;
-    }
+    let i = stmt_at (forest_at fs c.args.here.now.at.code) c.args.id in
+    hand_ok fs w c.hand_branch.result old mid 0 30 p (frame.Statement (statement.Branch c.args.id c.args.here.now.at)) had has c.hand_branch.new.run how out part (passes_value fs w mid.cells (frame.Statement (statement.Branch c.args.id c.args.here.now.at)) how out (λ v t. branch (then_of i) (else_of i) (place_of w mid.cells c.args.here.now.at) (meaning.Is v) t) c.in_default.not-Is (λ o t. refl)) kept c.requires.held.0 (omega arith) c.hand_branch.ensures
 
 pub statements::declared_on-returns-in-Normal-clause-comes : goal.statements::declared_on-returns-in-Normal-clause-comes
 statements::declared_on-returns-in-Normal-clause-comes t c =
-    let fs = trees_of c.args.site.now.codes.now.items in
-    let w = c.args.site.now.widget in
+    let fs = trees_of c.args.here.now.site.now.codes.now.items in
+    let w = c.args.here.now.site.now.widget in
     let old = c.args.store.now in
     let mid = c.declarations_on.new.store in
     let had = c.args.run.now in
@@ -1915,17 +3032,17 @@ statements::declared_on-returns-in-Normal-clause-comes t c =
     let out = c.declarations_on.new.out in
     let given = c.in_ok-how.ensures.comes in
     let kept = c.in_ok-how.ensures.kept in
-    let i = stmt_at (forest_at fs c.args.place.now.code) c.args.id in
-    let p : State → Plan = statements.declarations (decls_of i) (place_of w old.cells c.args.place.now) in
-    let f = frame.Statement (statement.ForAgain c.args.id c.args.place.now) in
+    let i = stmt_at (forest_at fs c.args.here.now.at.code) c.args.id in
+    let p : State → Plan = statements_2.declarations (decls_of i) (place_of w old.cells c.args.here.now.at) in
+    let f = frame.Statement (statement.ForAgain c.args.id c.args.here.now.at) in
     let one = as_is fs w old mid 1 p had has how ended.Normal out c.in-Normal.is given in
     let done = part_done fs w old mid 1 p (taken fs w mid.cells f meaning.Normal) f had has ended.Normal (ended_as ended.Normal out) one tt kept.grows c.requires.held (end_ready fs w old mid 1 p had has ended.Normal (ended_as ended.Normal out) one tt c.requires.ready kept) (λ r. refl) in
     IfOk-weaker c.again_on.result _ _ (λ h x. towards_then fs w old mid c.again_on.new.store 1 30 _ _ had has c.again_on.new.run h _ done x (omega arith)) c.again_on.ensures.comes
 
 pub statements::declared_on-returns-in-Normal-clause-kept : goal.statements::declared_on-returns-in-Normal-clause-kept
 statements::declared_on-returns-in-Normal-clause-kept t c =
-    let fs = trees_of c.args.site.now.codes.now.items in
-    let w = c.args.site.now.widget in
+    let fs = trees_of c.args.here.now.site.now.codes.now.items in
+    let w = c.args.here.now.site.now.widget in
     let old = c.args.store.now in
     let mid = c.declarations_on.new.store in
     let had = c.args.run.now in
@@ -1934,15 +3051,15 @@ statements::declared_on-returns-in-Normal-clause-kept t c =
     let out = c.declarations_on.new.out in
     let given = c.in_ok-how.ensures.comes in
     let kept = c.in_ok-how.ensures.kept in
-    let i = stmt_at (forest_at fs c.args.place.now.code) c.args.id in
-    let p : State → Plan = statements.declarations (decls_of i) (place_of w old.cells c.args.place.now) in
-    let f = frame.Statement (statement.ForAgain c.args.id c.args.place.now) in
+    let i = stmt_at (forest_at fs c.args.here.now.at.code) c.args.id in
+    let p : State → Plan = statements_2.declarations (decls_of i) (place_of w old.cells c.args.here.now.at) in
+    let f = frame.Statement (statement.ForAgain c.args.id c.args.here.now.at) in
     kept_then fs w old mid c.again_on.new.store kept c.again_on.ensures.kept
 
 pub statements::declared_on-returns-in-Left-clause-comes : goal.statements::declared_on-returns-in-Left-clause-comes
 statements::declared_on-returns-in-Left-clause-comes t c =
-    let fs = trees_of c.args.site.now.codes.now.items in
-    let w = c.args.site.now.widget in
+    let fs = trees_of c.args.here.now.site.now.codes.now.items in
+    let w = c.args.here.now.site.now.widget in
     let old = c.args.store.now in
     let mid = c.declarations_on.new.store in
     let had = c.args.run.now in
@@ -1951,17 +3068,17 @@ statements::declared_on-returns-in-Left-clause-comes t c =
     let out = c.declarations_on.new.out in
     let given = c.in_ok-how.ensures.comes in
     let kept = c.in_ok-how.ensures.kept in
-    let i = stmt_at (forest_at fs c.args.place.now.code) c.args.id in
-    let p : State → Plan = statements.declarations (decls_of i) (place_of w old.cells c.args.place.now) in
-    let f = frame.Statement (statement.ForAgain c.args.id c.args.place.now) in
+    let i = stmt_at (forest_at fs c.args.here.now.at.code) c.args.id in
+    let p : State → Plan = statements_2.declarations (decls_of i) (place_of w old.cells c.args.here.now.at) in
+    let f = frame.Statement (statement.ForAgain c.args.id c.args.here.now.at) in
     let one = as_is fs w old mid 1 p had has how ended.Left out c.in-Left.is given in
-    waits_ok fs w c.wait.result old mid 1 30 p f had has c.wait.new.run ended.Left (ended_as ended.Left out) out one refl kept.grows c.requires.held
-    c.wait.ensures.left c.wait.ensures.waits c.wait.ensures.next c.wait.ensures.units (omega arith)
+    waits_ok fs w c.wait_again.result old mid 1 30 p f had has c.wait_again.new.run ended.Left (ended_as ended.Left out) out one refl kept.grows c.requires.held
+    c.wait_again.ensures.left c.wait_again.ensures.waits c.wait_again.ensures.next c.wait_again.ensures.units (omega arith)
 
 pub statements::declared_on-returns-in_default : goal.statements::declared_on-returns-in_default
 statements::declared_on-returns-in_default t c =
-    let fs = trees_of c.args.site.now.codes.now.items in
-    let w = c.args.site.now.widget in
+    let fs = trees_of c.args.here.now.site.now.codes.now.items in
+    let w = c.args.here.now.site.now.widget in
     let old = c.args.store.now in
     let mid = c.declarations_on.new.store in
     let had = c.args.run.now in
@@ -1970,18 +3087,18 @@ statements::declared_on-returns-in_default t c =
     let out = c.declarations_on.new.out in
     let given = c.in_ok-how.ensures.comes in
     let kept = c.in_ok-how.ensures.kept in
-    let i = stmt_at (forest_at fs c.args.place.now.code) c.args.id in
-    let p : State → Plan = statements.declarations (decls_of i) (place_of w old.cells c.args.place.now) in
-    let f = frame.Statement (statement.ForAgain c.args.id c.args.place.now) in
+    let i = stmt_at (forest_at fs c.args.here.now.at.code) c.args.id in
+    let p : State → Plan = statements_2.declarations (decls_of i) (place_of w old.cells c.args.here.now.at) in
+    let f = frame.Statement (statement.ForAgain c.args.id c.args.here.now.at) in
     record {
-      comes = other_normal fs w old mid 1 30 p f (λ t. loop_again (loop_of i) (place_of w mid.cells c.args.place.now) meaning.Normal t) had has how out given c.in_default.not-Normal c.in_default.not-Left kept.grows c.requires.held (again_normal (loop_of i) (place_of w mid.cells c.args.place.now)) (omega arith);
+      comes = other_normal fs w old mid 1 30 p f (λ t. loop_again (loop_of i) (place_of w mid.cells c.args.here.now.at) meaning.Normal t) had has how out given c.in_default.not-Normal c.in_default.not-Left kept.grows c.requires.held (again_normal (loop_of i) (place_of w mid.cells c.args.here.now.at)) (omega arith);
       kept = kept;
     }
 
 pub statements::listed_on-returns-in-Normal-clause-comes : goal.statements::listed_on-returns-in-Normal-clause-comes
 statements::listed_on-returns-in-Normal-clause-comes t c =
-    let fs = trees_of c.args.site.now.codes.now.items in
-    let w = c.args.site.now.widget in
+    let fs = trees_of c.args.here.now.site.now.codes.now.items in
+    let w = c.args.here.now.site.now.widget in
     let old = c.args.store.now in
     let mid = c.expressions_on.new.store in
     let had = c.args.run.now in
@@ -1990,17 +3107,17 @@ statements::listed_on-returns-in-Normal-clause-comes t c =
     let out = c.expressions_on.new.out in
     let given = c.in_ok-how.ensures.comes in
     let kept = c.in_ok-how.ensures.kept in
-    let i = stmt_at (forest_at fs c.args.place.now.code) c.args.id in
-    let p : State → Plan = statements.expressions (part_of part.First i) (place_of w old.cells c.args.place.now) in
-    let f = frame.Statement (statement.ForAgain c.args.id c.args.place.now) in
+    let i = stmt_at (forest_at fs c.args.here.now.at.code) c.args.id in
+    let p : State → Plan = statements_2.expressions (part_of part.First i) (place_of w old.cells c.args.here.now.at) in
+    let f = frame.Statement (statement.ForAgain c.args.id c.args.here.now.at) in
     let one = as_is fs w old mid 1 p had has how ended.Normal out c.in-Normal.is given in
     let done = part_done fs w old mid 1 p (taken fs w mid.cells f meaning.Normal) f had has ended.Normal (ended_as ended.Normal out) one tt kept.grows c.requires.held (end_ready fs w old mid 1 p had has ended.Normal (ended_as ended.Normal out) one tt c.requires.ready kept) (λ r. refl) in
     IfOk-weaker c.again_on.result _ _ (λ h x. towards_then fs w old mid c.again_on.new.store 1 30 _ _ had has c.again_on.new.run h _ done x (omega arith)) c.again_on.ensures.comes
 
 pub statements::listed_on-returns-in-Normal-clause-kept : goal.statements::listed_on-returns-in-Normal-clause-kept
 statements::listed_on-returns-in-Normal-clause-kept t c =
-    let fs = trees_of c.args.site.now.codes.now.items in
-    let w = c.args.site.now.widget in
+    let fs = trees_of c.args.here.now.site.now.codes.now.items in
+    let w = c.args.here.now.site.now.widget in
     let old = c.args.store.now in
     let mid = c.expressions_on.new.store in
     let had = c.args.run.now in
@@ -2009,15 +3126,15 @@ statements::listed_on-returns-in-Normal-clause-kept t c =
     let out = c.expressions_on.new.out in
     let given = c.in_ok-how.ensures.comes in
     let kept = c.in_ok-how.ensures.kept in
-    let i = stmt_at (forest_at fs c.args.place.now.code) c.args.id in
-    let p : State → Plan = statements.expressions (part_of part.First i) (place_of w old.cells c.args.place.now) in
-    let f = frame.Statement (statement.ForAgain c.args.id c.args.place.now) in
+    let i = stmt_at (forest_at fs c.args.here.now.at.code) c.args.id in
+    let p : State → Plan = statements_2.expressions (part_of part.First i) (place_of w old.cells c.args.here.now.at) in
+    let f = frame.Statement (statement.ForAgain c.args.id c.args.here.now.at) in
     kept_then fs w old mid c.again_on.new.store kept c.again_on.ensures.kept
 
 pub statements::listed_on-returns-in-Left-clause-comes : goal.statements::listed_on-returns-in-Left-clause-comes
 statements::listed_on-returns-in-Left-clause-comes t c =
-    let fs = trees_of c.args.site.now.codes.now.items in
-    let w = c.args.site.now.widget in
+    let fs = trees_of c.args.here.now.site.now.codes.now.items in
+    let w = c.args.here.now.site.now.widget in
     let old = c.args.store.now in
     let mid = c.expressions_on.new.store in
     let had = c.args.run.now in
@@ -2026,17 +3143,17 @@ statements::listed_on-returns-in-Left-clause-comes t c =
     let out = c.expressions_on.new.out in
     let given = c.in_ok-how.ensures.comes in
     let kept = c.in_ok-how.ensures.kept in
-    let i = stmt_at (forest_at fs c.args.place.now.code) c.args.id in
-    let p : State → Plan = statements.expressions (part_of part.First i) (place_of w old.cells c.args.place.now) in
-    let f = frame.Statement (statement.ForAgain c.args.id c.args.place.now) in
+    let i = stmt_at (forest_at fs c.args.here.now.at.code) c.args.id in
+    let p : State → Plan = statements_2.expressions (part_of part.First i) (place_of w old.cells c.args.here.now.at) in
+    let f = frame.Statement (statement.ForAgain c.args.id c.args.here.now.at) in
     let one = as_is fs w old mid 1 p had has how ended.Left out c.in-Left.is given in
-    waits_ok fs w c.wait.result old mid 1 30 p f had has c.wait.new.run ended.Left (ended_as ended.Left out) out one refl kept.grows c.requires.held
-    c.wait.ensures.left c.wait.ensures.waits c.wait.ensures.next c.wait.ensures.units (omega arith)
+    waits_ok fs w c.wait_again.result old mid 1 30 p f had has c.wait_again.new.run ended.Left (ended_as ended.Left out) out one refl kept.grows c.requires.held
+    c.wait_again.ensures.left c.wait_again.ensures.waits c.wait_again.ensures.next c.wait_again.ensures.units (omega arith)
 
 pub statements::listed_on-returns-in_default : goal.statements::listed_on-returns-in_default
 statements::listed_on-returns-in_default t c =
-    let fs = trees_of c.args.site.now.codes.now.items in
-    let w = c.args.site.now.widget in
+    let fs = trees_of c.args.here.now.site.now.codes.now.items in
+    let w = c.args.here.now.site.now.widget in
     let old = c.args.store.now in
     let mid = c.expressions_on.new.store in
     let had = c.args.run.now in
@@ -2045,734 +3162,260 @@ statements::listed_on-returns-in_default t c =
     let out = c.expressions_on.new.out in
     let given = c.in_ok-how.ensures.comes in
     let kept = c.in_ok-how.ensures.kept in
-    let i = stmt_at (forest_at fs c.args.place.now.code) c.args.id in
-    let p : State → Plan = statements.expressions (part_of part.First i) (place_of w old.cells c.args.place.now) in
-    let f = frame.Statement (statement.ForAgain c.args.id c.args.place.now) in
+    let i = stmt_at (forest_at fs c.args.here.now.at.code) c.args.id in
+    let p : State → Plan = statements_2.expressions (part_of part.First i) (place_of w old.cells c.args.here.now.at) in
+    let f = frame.Statement (statement.ForAgain c.args.id c.args.here.now.at) in
     record {
-      comes = other_normal fs w old mid 1 30 p f (λ t. loop_again (loop_of i) (place_of w mid.cells c.args.place.now) meaning.Normal t) had has how out given c.in_default.not-Normal c.in_default.not-Left kept.grows c.requires.held (again_normal (loop_of i) (place_of w mid.cells c.args.place.now)) (omega arith);
+      comes = other_normal fs w old mid 1 30 p f (λ t. loop_again (loop_of i) (place_of w mid.cells c.args.here.now.at) meaning.Normal t) had has how out given c.in_default.not-Normal c.in_default.not-Left kept.grows c.requires.held (again_normal (loop_of i) (place_of w mid.cells c.args.here.now.at)) (omega arith);
       kept = kept;
-    }
-
-pub statements::again_on-returns-in-None-clause-comes : goal.statements::again_on-returns-in-None-clause-comes
-statements::again_on-returns-in-None-clause-comes t c =
-    let fs = trees_of c.args.site.now.codes.now.items in
-    let w = c.args.site.now.widget in
-    let s0 = c.args.store.now in
-    let s1 = c.test_on.new.store in
-    let s2 = c.passes_on.new.store in
-    let start : State → Plan = taken fs w s0.cells (frame.Statement (statement.ForAgain c.args.id c.args.place.now)) meaning.Normal in
-    let again : State → Plan = λ s. Do (job_of fs w s1.cells (job.Pass c.args.id c.args.place.now)) s Ret in
-    let done : Towards fs w s0 s1 start again c.args.run.now c.test_on.new.run = subst (λ (e : Option Ended). Passes fs w s0 s1 1 start again c.args.run.now c.test_on.new.run e c.test_on.new.out) c.in-None.is c.in_ok-test_on.ensures.passes in
-    IfOk-weaker c.passes_on.result _ _ (λ h x. towards_then fs w s0 s1 s2 0 1 start again c.args.run.now c.test_on.new.run c.passes_on.new.run h (ended_as h c.passes_on.new.out) done x (omega arith)) c.passes_on.ensures.comes
-
-pub statements::again_on-returns-in-None-clause-kept : goal.statements::again_on-returns-in-None-clause-kept
-statements::again_on-returns-in-None-clause-kept t c =
-    let fs = trees_of c.args.site.now.codes.now.items in
-    let w = c.args.site.now.widget in
-    let s0 = c.args.store.now in
-    let s1 = c.test_on.new.store in
-    let s2 = c.passes_on.new.store in
-    let start : State → Plan = taken fs w s0.cells (frame.Statement (statement.ForAgain c.args.id c.args.place.now)) meaning.Normal in
-    let again : State → Plan = λ s. Do (job_of fs w s1.cells (job.Pass c.args.id c.args.place.now)) s Ret in
-    kept_then fs w s0 s1 s2 c.in_ok-test_on.ensures.kept c.passes_on.ensures.kept
-
-pub statements::tested_on-returns-in-Is-clause-passes : goal.statements::tested_on-returns-in-Is-clause-passes
-statements::tested_on-returns-in-Is-clause-passes t c =
-    let fs = trees_of c.args.site.now.codes.now.items in
-    let w = c.args.site.now.widget in
-    let old = c.args.store.now in
-    let mid = c.eval_on.new.store in
-    let p : State → Plan = λ s. Do (job_of fs w old.cells (job.Eval c.args.e c.args.place.now)) s Ret in
-    let had = c.args.run.now in
-    let has = c.eval_on.new.run in
-    let how = c.in_ok-how.how in
-    let out = c.eval_on.new.out in
-    let part = c.in_ok-how.ensures.comes in
-    let kept = c.in_ok-how.ensures.kept in
-    let f = (frame.Statement (statement.Test c.args.id c.args.place.now)) in
-    let again : State → Plan = λ s. Do (job_of fs w mid.cells (job.Pass c.args.id c.args.place.now)) s Ret in
-    let one = as_is fs w old mid 0 p had has how ended.Is out c.in-Is.is part in
-    tested fs w c.over.result old mid p again c.args.id c.args.place.now had has out _ one kept.grows c.requires.held.0 (end_ready fs w old mid 0 p had has ended.Is (ended_as ended.Is out) one tt c.requires.ready kept) (c.over.ensures w mid.cells) (λ s. refl)
-
-pub statements::tested_on-returns-in_ok-wait-in-Left-clause-passes : goal.statements::tested_on-returns-in_ok-wait-in-Left-clause-passes
-statements::tested_on-returns-in_ok-wait-in-Left-clause-passes t c =
-    let fs = trees_of c.args.site.now.codes.now.items in
-    let w = c.args.site.now.widget in
-    let old = c.args.store.now in
-    let mid = c.eval_on.new.store in
-    let p : State → Plan = λ s. Do (job_of fs w old.cells (job.Eval c.args.e c.args.place.now)) s Ret in
-    let had = c.args.run.now in
-    let has = c.eval_on.new.run in
-    let how = c.in_ok-how.how in
-    let out = c.eval_on.new.out in
-    let part = c.in_ok-how.ensures.comes in
-    let kept = c.in_ok-how.ensures.kept in
-    let f = (frame.Statement (statement.Test c.args.id c.args.place.now)) in
-    let again : State → Plan = λ s. Do (job_of fs w mid.cells (job.Pass c.args.id c.args.place.now)) s Ret in
-    let one = as_is fs w old mid 0 p had has how ended.Left out c.in-Left.is part in
-    part_waits fs w old mid 0 1 p f had has c.wait.new.run ended.Left c.in_ok-wait-in-Left.field-0 (ended_as ended.Left out) (ended_as c.in_ok-wait-in-Left.field-0 out) one refl kept.grows c.requires.held.0
-    c.in_ok-wait-in-Left.ensures.units c.in_ok-wait-in-Left.ensures.next c.in_ok-wait-in-Left.ensures.waits c.in_ok-wait-in-Left.ensures.left (omega arith)
-
-pub statements::tested_on-returns-in_default : goal.statements::tested_on-returns-in_default
-statements::tested_on-returns-in_default t c =
-    let fs = trees_of c.args.site.now.codes.now.items in
-    let w = c.args.site.now.widget in
-    let old = c.args.store.now in
-    let mid = c.eval_on.new.store in
-    let p : State → Plan = λ s. Do (job_of fs w old.cells (job.Eval c.args.e c.args.place.now)) s Ret in
-    let had = c.args.run.now in
-    let has = c.eval_on.new.run in
-    let how = c.in_ok-how.how in
-    let out = c.eval_on.new.out in
-    let part = c.in_ok-how.ensures.comes in
-    let kept = c.in_ok-how.ensures.kept in
-    let f = (frame.Statement (statement.Test c.args.id c.args.place.now)) in
-    let again : State → Plan = λ s. Do (job_of fs w mid.cells (job.Pass c.args.id c.args.place.now)) s Ret in
-    record {
-      passes = other_value fs w old mid 0 1 p f (λ v t. statements.loop_test (loop_of (stmt_at (forest_at fs c.args.place.now.code) c.args.id)) (place_of w mid.cells c.args.place.now) (meaning.Is v) t) had has how out part c.in_default.not-Is c.in_default.not-Left kept.grows c.requires.held.0 (λ o t. refl) (omega arith);
-      kept = kept;
-    }
-
-pub statements::passes_on-returns-in_err-how-clause-kept : goal.statements::passes_on-returns-in_err-how-clause-kept
-statements::passes_on-returns-in_err-how-clause-kept t c =
-    let fs = trees_of c.args.site.now.codes.now.items in
-    let w = c.args.site.now.widget in
-    let s0 = c.args.store.now in
-    let s1 = c.passes.store in
-    let s2 = c.pass_on.new.store in
-    let start : State → Plan = λ s. Do (job_of fs w s0.cells (job.Pass c.args.id c.args.place.now)) s Ret in
-    let again : State → Plan = λ s. Do (job_of fs w s1.cells (job.Pass c.args.id c.args.place.now)) s Ret in
-    let more : State → Plan = λ s. Do (job_of fs w s2.cells (job.Pass c.args.id c.args.place.now)) s Ret in
-    let inv = c.passes.invariant in
-    kept_then fs w s0 s1 s2 inv.1 c.in_err-how.ensures.kept
-
-pub statements::passes_on-returns-in-Some-clause-comes : goal.statements::passes_on-returns-in-Some-clause-comes
-statements::passes_on-returns-in-Some-clause-comes t c =
-    let fs = trees_of c.args.site.now.codes.now.items in
-    let w = c.args.site.now.widget in
-    let s0 = c.args.store.now in
-    let s1 = c.passes.store in
-    let s2 = c.pass_on.new.store in
-    let start : State → Plan = λ s. Do (job_of fs w s0.cells (job.Pass c.args.id c.args.place.now)) s Ret in
-    let again : State → Plan = λ s. Do (job_of fs w s1.cells (job.Pass c.args.id c.args.place.now)) s Ret in
-    let more : State → Plan = λ s. Do (job_of fs w s2.cells (job.Pass c.args.id c.args.place.now)) s Ret in
-    let inv = c.passes.invariant in
-    towards_then fs w s0 s1 s2 0 0 start again c.args.run.now c.passes.run c.pass_on.new.run c.in-Some.how (ended_as c.in-Some.how c.pass_on.new.out) inv.0
-    (subst (λ (e : Option Ended). Passes fs w s1 s2 0 again more c.passes.run c.pass_on.new.run e c.pass_on.new.out) c.in-Some.is c.in_ok-how.ensures.passes) (omega arith)
-
-pub statements::passes_on-returns-in-Some-clause-kept : goal.statements::passes_on-returns-in-Some-clause-kept
-statements::passes_on-returns-in-Some-clause-kept t c =
-    let fs = trees_of c.args.site.now.codes.now.items in
-    let w = c.args.site.now.widget in
-    let s0 = c.args.store.now in
-    let s1 = c.passes.store in
-    let s2 = c.pass_on.new.store in
-    let start : State → Plan = λ s. Do (job_of fs w s0.cells (job.Pass c.args.id c.args.place.now)) s Ret in
-    let again : State → Plan = λ s. Do (job_of fs w s1.cells (job.Pass c.args.id c.args.place.now)) s Ret in
-    let more : State → Plan = λ s. Do (job_of fs w s2.cells (job.Pass c.args.id c.args.place.now)) s Ret in
-    let inv = c.passes.invariant in
-    kept_then fs w s0 s1 s2 inv.1 c.in_ok-how.ensures.kept
-
-pub statements::passes_on-passes-preserved : goal.statements::passes_on-passes-preserved
-statements::passes_on-passes-preserved t c =
-    let fs = trees_of c.args.site.now.codes.now.items in
-    let w = c.args.site.now.widget in
-    let s0 = c.args.store.now in
-    let s1 = c.passes.store in
-    let s2 = c.pass_on.new.store in
-    let start : State → Plan = λ s. Do (job_of fs w s0.cells (job.Pass c.args.id c.args.place.now)) s Ret in
-    let again : State → Plan = λ s. Do (job_of fs w s1.cells (job.Pass c.args.id c.args.place.now)) s Ret in
-    let more : State → Plan = λ s. Do (job_of fs w s2.cells (job.Pass c.args.id c.args.place.now)) s Ret in
-    let inv = c.passes.invariant in
-    let kept = c.in_ok-how.ensures.kept in (
-      towards_each fs w s0 s1 s2 start again more c.args.run.now c.passes.run c.pass_on.new.run inv.0
-          (subst (λ (e : Option Ended). Passes fs w s1 s2 0 again more c.passes.run c.pass_on.new.run e c.pass_on.new.out) c.in_default.is c.in_ok-how.ensures.passes),
-      kept_then fs w s0 s1 s2 inv.1 kept,
-      (place_fine fs w s1.cells s2.cells kept.grows c.args.place.now inv.2.0, inv.2.1),
-    )
-
-pub statements::pass_on-returns-in-Normal-clause-passes : goal.statements::pass_on-returns-in-Normal-clause-passes
-statements::pass_on-returns-in-Normal-clause-passes t c =
-    let fs = trees_of c.args.site.now.codes.now.items in
-    let w = c.args.site.now.widget in
-    let old = c.args.store.now in
-    let mid = c.block_on.new.store in
-    let had = c.args.run.now in
-    let paid : Run = record { units = had.units - 1; waits = had.waits; next = had.next } in
-    let has = c.block_on.new.run in
-    let out = c.block_on.new.out in
-    let i = stmt_at (forest_at fs c.args.place.now.code) c.args.id in
-    let l = place_of w old.cells c.args.place.now in
-    let j = job_of fs w old.cells (job.Pass c.args.id c.args.place.now) in
-    let f = frame.Statement (statement.LoopNext c.args.id c.args.place.now) in
-    let p : State → Plan = block_at fs w old.cells (block.Loop c.args.id) 0 c.args.place.now in
-    let both : State → Plan = λ s. and_then (p s) (taken fs w old.cells f) in
-    let first : Towards fs w old old (λ s. Do j s Ret) both had paid = unit_paid fs w old j both had paid c.requires.ready (omega (arith, c.requires.unit)) (λ x. and_then_ret (body j x) ∙ pass_is i l x) in
-    let given = c.in_ok-how.ensures.comes in
-    let kept = c.in_ok-how.ensures.kept in
-    let how = c.in_ok-how.how in
-    let done = towards_each fs w old old mid _ _ _ had paid has first (round fs w old mid p c.args.id c.args.place.now paid has how out given c.in-Normal.is c.requires.ready kept c.requires.held) in
-    IfOk-weaker c.next_on.result _ _ (λ o x. passes_paid fs w o old mid c.next_on.new.store 2 0 _ _ _ had has c.next_on.new.run c.next_on.new.out done x (omega (arith, given.units, c.requires.unit)) (omega arith)) c.next_on.ensures.passes
-
-pub statements::pass_on-returns-in-Normal-clause-kept : goal.statements::pass_on-returns-in-Normal-clause-kept
-statements::pass_on-returns-in-Normal-clause-kept t c =
-    let fs = trees_of c.args.site.now.codes.now.items in
-    let w = c.args.site.now.widget in
-    let old = c.args.store.now in
-    let mid = c.block_on.new.store in
-    let had = c.args.run.now in
-    let paid : Run = record { units = had.units - 1; waits = had.waits; next = had.next } in
-    let has = c.block_on.new.run in
-    let out = c.block_on.new.out in
-    let i = stmt_at (forest_at fs c.args.place.now.code) c.args.id in
-    let l = place_of w old.cells c.args.place.now in
-    let j = job_of fs w old.cells (job.Pass c.args.id c.args.place.now) in
-    let f = frame.Statement (statement.LoopNext c.args.id c.args.place.now) in
-    let p : State → Plan = block_at fs w old.cells (block.Loop c.args.id) 0 c.args.place.now in
-    let both : State → Plan = λ s. and_then (p s) (taken fs w old.cells f) in
-    let first : Towards fs w old old (λ s. Do j s Ret) both had paid = unit_paid fs w old j both had paid c.requires.ready (omega (arith, c.requires.unit)) (λ x. and_then_ret (body j x) ∙ pass_is i l x) in
-    let given = c.in_ok-how.ensures.comes in
-    let kept = c.in_ok-how.ensures.kept in
-    let how = c.in_ok-how.how in
-    kept_then fs w old mid c.next_on.new.store kept c.next_on.ensures.kept
-
-pub statements::pass_on-returns-in-Break-clause-passes : goal.statements::pass_on-returns-in-Break-clause-passes
-statements::pass_on-returns-in-Break-clause-passes t c =
-    let fs = trees_of c.args.site.now.codes.now.items in
-    let w = c.args.site.now.widget in
-    let old = c.args.store.now in
-    let mid = c.block_on.new.store in
-    let had = c.args.run.now in
-    let paid : Run = record { units = had.units - 1; waits = had.waits; next = had.next } in
-    let has = c.block_on.new.run in
-    let out = c.block_on.new.out in
-    let i = stmt_at (forest_at fs c.args.place.now.code) c.args.id in
-    let l = place_of w old.cells c.args.place.now in
-    let j = job_of fs w old.cells (job.Pass c.args.id c.args.place.now) in
-    let f = frame.Statement (statement.LoopNext c.args.id c.args.place.now) in
-    let p : State → Plan = block_at fs w old.cells (block.Loop c.args.id) 0 c.args.place.now in
-    let both : State → Plan = λ s. and_then (p s) (taken fs w old.cells f) in
-    let first : Towards fs w old old (λ s. Do j s Ret) both had paid = unit_paid fs w old j both had paid c.requires.ready (omega (arith, c.requires.unit)) (λ x. and_then_ret (body j x) ∙ pass_is i l x) in
-    let given = c.in_ok-how.ensures.comes in
-    let kept = c.in_ok-how.ensures.kept in
-    let how = c.in_ok-how.how in
-    let one = as_is fs w old mid 1 p paid has how ended.Break out c.in-Break.is given in
-    towards_paid fs w old old mid 1 0 (λ s. Do j s Ret) both had paid has ended.Normal (ended_as ended.Normal out)
-    first (part_gives fs w old mid 1 1 both p f paid has has ended.Break ended.Normal (ended_as ended.Break out) (ended_as ended.Normal out) (λ s. refl) one tt kept.grows c.requires.held tt refl
-    (λ r. loop_broken (loop_of i) (place_of w mid.cells c.args.place.now) (image fs r w mid)) tt (omega arith)) (omega (arith, c.requires.unit)) (omega arith)
-
-pub statements::pass_on-returns-in_ok-wait-in-Left-clause-passes : goal.statements::pass_on-returns-in_ok-wait-in-Left-clause-passes
-statements::pass_on-returns-in_ok-wait-in-Left-clause-passes t c =
-    let fs = trees_of c.args.site.now.codes.now.items in
-    let w = c.args.site.now.widget in
-    let old = c.args.store.now in
-    let mid = c.block_on.new.store in
-    let had = c.args.run.now in
-    let paid : Run = record { units = had.units - 1; waits = had.waits; next = had.next } in
-    let has = c.block_on.new.run in
-    let out = c.block_on.new.out in
-    let i = stmt_at (forest_at fs c.args.place.now.code) c.args.id in
-    let l = place_of w old.cells c.args.place.now in
-    let j = job_of fs w old.cells (job.Pass c.args.id c.args.place.now) in
-    let f = frame.Statement (statement.LoopNext c.args.id c.args.place.now) in
-    let p : State → Plan = block_at fs w old.cells (block.Loop c.args.id) 0 c.args.place.now in
-    let both : State → Plan = λ s. and_then (p s) (taken fs w old.cells f) in
-    let first : Towards fs w old old (λ s. Do j s Ret) both had paid = unit_paid fs w old j both had paid c.requires.ready (omega (arith, c.requires.unit)) (λ x. and_then_ret (body j x) ∙ pass_is i l x) in
-    let given = c.in_ok-how.ensures.comes in
-    let kept = c.in_ok-how.ensures.kept in
-    let how = c.in_ok-how.how in
-    let one = as_is fs w old mid 1 p paid has how ended.Left out c.in-Left.is given in
-    towards_paid fs w old old mid 5 0 (λ s. Do j s Ret) both had paid c.wait.new.run c.in_ok-wait-in-Left.field-0 (ended_as c.in_ok-wait-in-Left.field-0 out)
-    first (
-    part_waits fs w old mid 1 5 p f paid has c.wait.new.run ended.Left c.in_ok-wait-in-Left.field-0 (ended_as ended.Left out) (ended_as c.in_ok-wait-in-Left.field-0 out) one refl kept.grows c.requires.held
-    c.in_ok-wait-in-Left.ensures.units c.in_ok-wait-in-Left.ensures.next c.in_ok-wait-in-Left.ensures.waits c.in_ok-wait-in-Left.ensures.left (omega arith)
-    ) (omega (arith, c.requires.unit)) (omega arith)
-
-pub statements::pass_on-returns-in_default-clause-passes : goal.statements::pass_on-returns-in_default-clause-passes
-statements::pass_on-returns-in_default-clause-passes t c =
-    let fs = trees_of c.args.site.now.codes.now.items in
-    let w = c.args.site.now.widget in
-    let old = c.args.store.now in
-    let mid = c.block_on.new.store in
-    let had = c.args.run.now in
-    let paid : Run = record { units = had.units - 1; waits = had.waits; next = had.next } in
-    let has = c.block_on.new.run in
-    let out = c.block_on.new.out in
-    let i = stmt_at (forest_at fs c.args.place.now.code) c.args.id in
-    let l = place_of w old.cells c.args.place.now in
-    let j = job_of fs w old.cells (job.Pass c.args.id c.args.place.now) in
-    let f = frame.Statement (statement.LoopNext c.args.id c.args.place.now) in
-    let p : State → Plan = block_at fs w old.cells (block.Loop c.args.id) 0 c.args.place.now in
-    let both : State → Plan = λ s. and_then (p s) (taken fs w old.cells f) in
-    let first : Towards fs w old old (λ s. Do j s Ret) both had paid = unit_paid fs w old j both had paid c.requires.ready (omega (arith, c.requires.unit)) (λ x. and_then_ret (body j x) ∙ pass_is i l x) in
-    let given = c.in_ok-how.ensures.comes in
-    let kept = c.in_ok-how.ensures.kept in
-    let how = c.in_ok-how.how in
-    towards_paid fs w old old mid 1 0 (λ s. Do j s Ret) both had paid has how (ended_as how out)
-    first (part_passes fs w old mid 1 1 p f paid has how (ended_as how out) given (is_end how c.in_default.not-Left) kept.grows c.requires.held
-    (λ t. loop_other (loop_of i) (place_of w mid.cells c.args.place.now) (completion_of w mid.cells (ended_as how out)) t
-    ∙ loop_passes w mid.cells out t how (loop_next (loop_of i) (place_of w mid.cells c.args.place.now) meaning.Normal t) c.in_default.not-Normal c.in_default.not-Continue c.in_default.not-Break c.in_default.not-Left) (omega arith)) (omega (arith, c.requires.unit)) (omega arith)
-
-pub statements::next_on-returns-in-Normal-clause-passes : goal.statements::next_on-returns-in-Normal-clause-passes
-statements::next_on-returns-in-Normal-clause-passes t c =
-    let fs = trees_of c.args.site.now.codes.now.items in
-    let w = c.args.site.now.widget in
-    let old = c.args.store.now in
-    let mid = c.expressions_on.new.store in
-    let had = c.args.run.now in
-    let has = c.expressions_on.new.run in
-    let how = c.in_ok-how.how in
-    let out = c.expressions_on.new.out in
-    let given = c.in_ok-how.ensures.comes in
-    let kept = c.in_ok-how.ensures.kept in
-    let i = stmt_at (forest_at fs c.args.place.now.code) c.args.id in
-    let p : State → Plan = statements.expressions (part_of part.Last i) (place_of w old.cells c.args.place.now) in
-    let f = frame.Statement (statement.ForAgain c.args.id c.args.place.now) in
-    let one = as_is fs w old mid 1 p had has how ended.Normal out c.in-Normal.is given in
-    let done = part_done fs w old mid 1 p (taken fs w mid.cells f meaning.Normal) f had has ended.Normal (ended_as ended.Normal out) one tt kept.grows c.requires.held (end_ready fs w old mid 1 p had has ended.Normal (ended_as ended.Normal out) one tt c.requires.ready kept) (λ r. refl) in
-    IfOk-weaker c.test_on.result _ _ (λ o x. passes_then fs w o old mid c.test_on.new.store 1 2 _ _ _ had has c.test_on.new.run _ done x (omega arith)) c.test_on.ensures.passes
-
-pub statements::next_on-returns-in-Normal-clause-kept : goal.statements::next_on-returns-in-Normal-clause-kept
-statements::next_on-returns-in-Normal-clause-kept t c =
-    let fs = trees_of c.args.site.now.codes.now.items in
-    let w = c.args.site.now.widget in
-    let old = c.args.store.now in
-    let mid = c.expressions_on.new.store in
-    let had = c.args.run.now in
-    let has = c.expressions_on.new.run in
-    let how = c.in_ok-how.how in
-    let out = c.expressions_on.new.out in
-    let given = c.in_ok-how.ensures.comes in
-    let kept = c.in_ok-how.ensures.kept in
-    let i = stmt_at (forest_at fs c.args.place.now.code) c.args.id in
-    let p : State → Plan = statements.expressions (part_of part.Last i) (place_of w old.cells c.args.place.now) in
-    let f = frame.Statement (statement.ForAgain c.args.id c.args.place.now) in
-    kept_then fs w old mid c.test_on.new.store kept c.test_on.ensures.kept
-
-pub statements::next_on-returns-in_ok-wait-in-Left-clause-passes : goal.statements::next_on-returns-in_ok-wait-in-Left-clause-passes
-statements::next_on-returns-in_ok-wait-in-Left-clause-passes t c =
-    let fs = trees_of c.args.site.now.codes.now.items in
-    let w = c.args.site.now.widget in
-    let old = c.args.store.now in
-    let mid = c.expressions_on.new.store in
-    let had = c.args.run.now in
-    let has = c.expressions_on.new.run in
-    let how = c.in_ok-how.how in
-    let out = c.expressions_on.new.out in
-    let given = c.in_ok-how.ensures.comes in
-    let kept = c.in_ok-how.ensures.kept in
-    let i = stmt_at (forest_at fs c.args.place.now.code) c.args.id in
-    let p : State → Plan = statements.expressions (part_of part.Last i) (place_of w old.cells c.args.place.now) in
-    let f = frame.Statement (statement.ForAgain c.args.id c.args.place.now) in
-    let one = as_is fs w old mid 1 p had has how ended.Left out c.in-Left.is given in
-    part_waits fs w old mid 1 2 p f had has c.wait.new.run ended.Left c.in_ok-wait-in-Left.field-0 (ended_as ended.Left out) (ended_as c.in_ok-wait-in-Left.field-0 out) one refl kept.grows c.requires.held
-    c.in_ok-wait-in-Left.ensures.units c.in_ok-wait-in-Left.ensures.next c.in_ok-wait-in-Left.ensures.waits c.in_ok-wait-in-Left.ensures.left (omega arith)
-
-pub statements::next_on-returns-in_default : goal.statements::next_on-returns-in_default
-statements::next_on-returns-in_default t c =
-    let fs = trees_of c.args.site.now.codes.now.items in
-    let w = c.args.site.now.widget in
-    let old = c.args.store.now in
-    let mid = c.expressions_on.new.store in
-    let had = c.args.run.now in
-    let has = c.expressions_on.new.run in
-    let how = c.in_ok-how.how in
-    let out = c.expressions_on.new.out in
-    let given = c.in_ok-how.ensures.comes in
-    let kept = c.in_ok-how.ensures.kept in
-    let i = stmt_at (forest_at fs c.args.place.now.code) c.args.id in
-    let p : State → Plan = statements.expressions (part_of part.Last i) (place_of w old.cells c.args.place.now) in
-    let f = frame.Statement (statement.ForAgain c.args.id c.args.place.now) in
-    record {
-      passes = other_normal fs w old mid 1 2 p f (λ t. loop_again (loop_of i) (place_of w mid.cells c.args.place.now) meaning.Normal t) had has how out given c.in_default.not-Normal c.in_default.not-Left kept.grows c.requires.held (again_normal (loop_of i) (place_of w mid.cells c.args.place.now)) (omega arith);
-      kept = kept;
-    }
-
-pub statements::expressions_on-returns-in_err-how-clause-kept : goal.statements::expressions_on-returns-in_err-how-clause-kept
-statements::expressions_on-returns-in_err-how-clause-kept t c =
-    let fs = trees_of c.args.site.now.codes.now.items in
-    let w = c.args.site.now.widget in
-    kept_then fs w c.args.store.now c.list.store c.eval_on.new.store c.list.invariant.1 c.in_err-how.ensures.kept
-
-pub statements::expressions_on-list-preserved : goal.statements::expressions_on-list-preserved
-statements::expressions_on-list-preserved t c =
-    let fs = trees_of c.args.site.now.codes.now.items in
-    let w = c.args.site.now.widget in
-    let s0 = c.args.store.now in
-    let s1 = c.list.store in
-    let s2 = c.eval_on.new.store in
-    let i = stmt_at (forest_at fs c.args.place.now.code) c.args.id in
-    let es = part_of c.args.part i in
-    let p : State → Plan = λ s. Do (job_of fs w s1.cells (job.Eval c.in-Some.e c.args.place.now)) s Ret in
-    let q : State → Plan = statements.expressions (drop c.list.n es) (place_of w s1.cells c.args.place.now) in
-    let start : State → Plan = statements.expressions es (place_of w s0.cells c.args.place.now) in
-    let goes : State → Plan = statements.expressions (drop (c.list.n + 1) es) (place_of w s2.cells c.args.place.now) in
-    let f = (frame.Statement (frame_in c.args.part c.args.id (c.list.n + 1) c.args.place.now)) in
-    let inv = c.list.invariant in
-    let kept = c.in_ok-how.ensures.kept in
-    let how = c.in_ok-how.how in
-    let out = c.eval_on.new.out in
-    let held : FineFrame fs w s1.cells f = part_fine fs w s1.cells c.args.part c.args.id (c.list.n + 1) c.args.place.now inv.2 in
-    let listed = subst (λ (g : Forest). drop c.list.n (part_of c.args.part (stmt_at g c.args.id)) ≡ expr_at g c.in-Some.e ∷ drop (c.list.n + 1) (part_of c.args.part (stmt_at g c.args.id))) c.tree_at.ensures c.in-Some.ensures.2 in
-    let plan : (s : State) → q s ≡ and_then (p s) (taken fs w s1.cells f) = λ s. ap (λ l. statements.expressions l (place_of w s1.cells c.args.place.now) s) listed
-    ∙ sym (λ k. Do (job_of fs w s1.cells (job.Eval c.in-Some.e c.args.place.now)) s (λ o t. part_taken fs w s1.cells c.args.part c.args.id (c.list.n + 1) c.args.place.now o t k)) in
-    let one = as_is fs w s1 s2 0 p c.list.run c.eval_on.new.run how ended.Is out c.in-Is.is c.in_ok-how.ensures.comes in (
-      towards_each fs w s0 s1 s2 start q goes c.args.run.now c.list.run c.eval_on.new.run inv.0
-          (part_next fs w s1 s2 0 q p goes f c.list.run c.eval_on.new.run ended.Is (ended_as ended.Is out) plan one tt kept.grows held (end_ready fs w s1 s2 0 p c.list.run c.eval_on.new.run ended.Is (ended_as ended.Is out) one tt inv.0.ready kept)
-          (λ r. part_taken fs w s2.cells c.args.part c.args.id (c.list.n + 1) c.args.place.now (completion_of w s2.cells (ended_as ended.Is out)) (image fs r w s2))),
-      kept_then fs w s0 s1 s2 inv.1 kept,
-      (place_fine fs w s1.cells s2.cells kept.grows c.args.place.now inv.2.0, inv.2.1),
-    )
-
-pub statements::expressions_on-returns-in-Left-clause-comes : goal.statements::expressions_on-returns-in-Left-clause-comes
-statements::expressions_on-returns-in-Left-clause-comes t c =
-    let fs = trees_of c.args.site.now.codes.now.items in
-    let w = c.args.site.now.widget in
-    let s0 = c.args.store.now in
-    let s1 = c.list.store in
-    let s2 = c.eval_on.new.store in
-    let i = stmt_at (forest_at fs c.args.place.now.code) c.args.id in
-    let es = part_of c.args.part i in
-    let p : State → Plan = λ s. Do (job_of fs w s1.cells (job.Eval c.in-Some.e c.args.place.now)) s Ret in
-    let q : State → Plan = statements.expressions (drop c.list.n es) (place_of w s1.cells c.args.place.now) in
-    let start : State → Plan = statements.expressions es (place_of w s0.cells c.args.place.now) in
-    let goes : State → Plan = statements.expressions (drop (c.list.n + 1) es) (place_of w s2.cells c.args.place.now) in
-    let f = (frame.Statement (frame_in c.args.part c.args.id (c.list.n + 1) c.args.place.now)) in
-    let inv = c.list.invariant in
-    let kept = c.in_ok-how.ensures.kept in
-    let how = c.in_ok-how.how in
-    let out = c.eval_on.new.out in
-    let held : FineFrame fs w s1.cells f = part_fine fs w s1.cells c.args.part c.args.id (c.list.n + 1) c.args.place.now inv.2 in
-    let listed = subst (λ (g : Forest). drop c.list.n (part_of c.args.part (stmt_at g c.args.id)) ≡ expr_at g c.in-Some.e ∷ drop (c.list.n + 1) (part_of c.args.part (stmt_at g c.args.id))) c.tree_at.ensures c.in-Some.ensures.2 in
-    let plan : (s : State) → q s ≡ and_then (p s) (taken fs w s1.cells f) = λ s. ap (λ l. statements.expressions l (place_of w s1.cells c.args.place.now) s) listed
-    ∙ sym (λ k. Do (job_of fs w s1.cells (job.Eval c.in-Some.e c.args.place.now)) s (λ o t. part_taken fs w s1.cells c.args.part c.args.id (c.list.n + 1) c.args.place.now o t k)) in
-    let one = as_is fs w s1 s2 0 p c.list.run c.eval_on.new.run how ended.Left out c.in-Left.is c.in_ok-how.ensures.comes in
-    waits_then fs w c.wait.result s0 s1 s2 0 1 1 start q p f c.args.run.now c.list.run c.eval_on.new.run c.wait.new.run ended.Left (ended_as ended.Left out) _ inv.0 plan one refl kept.grows held
-    c.wait.ensures.left (IfOk-weaker c.wait.result _ _ (λ h x. x ∙ ap (λ g. c.eval_on.new.run.waits.items ++ frame.Statement g ∷ []) c.waiting_in.ensures) c.wait.ensures.waits) c.wait.ensures.next c.wait.ensures.units (omega (arith, part_free c.args.part c.args.id (c.list.n + 1) c.args.place.now)) (omega arith)
-
-pub statements::expressions_on-returns-in-Left-clause-kept : goal.statements::expressions_on-returns-in-Left-clause-kept
-statements::expressions_on-returns-in-Left-clause-kept t c =
-    let fs = trees_of c.args.site.now.codes.now.items in
-    let w = c.args.site.now.widget in
-    let s0 = c.args.store.now in
-    let s1 = c.list.store in
-    let s2 = c.eval_on.new.store in
-    let i = stmt_at (forest_at fs c.args.place.now.code) c.args.id in
-    let es = part_of c.args.part i in
-    let p : State → Plan = λ s. Do (job_of fs w s1.cells (job.Eval c.in-Some.e c.args.place.now)) s Ret in
-    let q : State → Plan = statements.expressions (drop c.list.n es) (place_of w s1.cells c.args.place.now) in
-    let start : State → Plan = statements.expressions es (place_of w s0.cells c.args.place.now) in
-    let goes : State → Plan = statements.expressions (drop (c.list.n + 1) es) (place_of w s2.cells c.args.place.now) in
-    let f = (frame.Statement (frame_in c.args.part c.args.id (c.list.n + 1) c.args.place.now)) in
-    let inv = c.list.invariant in
-    let kept = c.in_ok-how.ensures.kept in
-    let how = c.in_ok-how.how in
-    let out = c.eval_on.new.out in
-    let held : FineFrame fs w s1.cells f = part_fine fs w s1.cells c.args.part c.args.id (c.list.n + 1) c.args.place.now inv.2 in
-    let listed = subst (λ (g : Forest). drop c.list.n (part_of c.args.part (stmt_at g c.args.id)) ≡ expr_at g c.in-Some.e ∷ drop (c.list.n + 1) (part_of c.args.part (stmt_at g c.args.id))) c.tree_at.ensures c.in-Some.ensures.2 in
-    let plan : (s : State) → q s ≡ and_then (p s) (taken fs w s1.cells f) = λ s. ap (λ l. statements.expressions l (place_of w s1.cells c.args.place.now) s) listed
-    ∙ sym (λ k. Do (job_of fs w s1.cells (job.Eval c.in-Some.e c.args.place.now)) s (λ o t. part_taken fs w s1.cells c.args.part c.args.id (c.list.n + 1) c.args.place.now o t k)) in
-    kept_then fs w s0 s1 s2 inv.1 kept
-
-pub statements::expressions_on-returns-in_default-2 : goal.statements::expressions_on-returns-in_default-2
-statements::expressions_on-returns-in_default-2 t c =
-    let fs = trees_of c.args.site.now.codes.now.items in
-    let w = c.args.site.now.widget in
-    let s0 = c.args.store.now in
-    let s1 = c.list.store in
-    let s2 = c.eval_on.new.store in
-    let i = stmt_at (forest_at fs c.args.place.now.code) c.args.id in
-    let es = part_of c.args.part i in
-    let p : State → Plan = λ s. Do (job_of fs w s1.cells (job.Eval c.in-Some.e c.args.place.now)) s Ret in
-    let q : State → Plan = statements.expressions (drop c.list.n es) (place_of w s1.cells c.args.place.now) in
-    let start : State → Plan = statements.expressions es (place_of w s0.cells c.args.place.now) in
-    let goes : State → Plan = statements.expressions (drop (c.list.n + 1) es) (place_of w s2.cells c.args.place.now) in
-    let f = (frame.Statement (frame_in c.args.part c.args.id (c.list.n + 1) c.args.place.now)) in
-    let inv = c.list.invariant in
-    let kept = c.in_ok-how.ensures.kept in
-    let how = c.in_ok-how.how in
-    let out = c.eval_on.new.out in
-    let held : FineFrame fs w s1.cells f = part_fine fs w s1.cells c.args.part c.args.id (c.list.n + 1) c.args.place.now inv.2 in
-    let listed = subst (λ (g : Forest). drop c.list.n (part_of c.args.part (stmt_at g c.args.id)) ≡ expr_at g c.in-Some.e ∷ drop (c.list.n + 1) (part_of c.args.part (stmt_at g c.args.id))) c.tree_at.ensures c.in-Some.ensures.2 in
-    let plan : (s : State) → q s ≡ and_then (p s) (taken fs w s1.cells f) = λ s. ap (λ l. statements.expressions l (place_of w s1.cells c.args.place.now) s) listed
-    ∙ sym (λ k. Do (job_of fs w s1.cells (job.Eval c.in-Some.e c.args.place.now)) s (λ o t. part_taken fs w s1.cells c.args.part c.args.id (c.list.n + 1) c.args.place.now o t k)) in
-    record {
-      comes = towards_then fs w s0 s1 s2 1 1 start q c.args.run.now c.list.run c.eval_on.new.run how (ended_as how out) inv.0
-          (planned fs w s1 s2 1 q _ c.list.run c.eval_on.new.run how (ended_as how out) plan (other_value fs w s1 s2 0 1 p f (λ v t. goes t) c.list.run c.eval_on.new.run how out c.in_ok-how.ensures.comes c.in_default-2.not-Is c.in_default-2.not-Left kept.grows held (part_taken fs w s2.cells c.args.part c.args.id (c.list.n + 1) c.args.place.now) (omega arith))) (omega arith);
-      kept = kept_then fs w s0 s1 s2 inv.1 kept;
     }
 
 pub statements::declarations_on-returns-in_err-how-clause-kept : goal.statements::declarations_on-returns-in_err-how-clause-kept
 statements::declarations_on-returns-in_err-how-clause-kept t c =
-    let fs = trees_of c.args.site.now.codes.now.items in
-    let w = c.args.site.now.widget in
+    let fs = trees_of c.args.here.now.site.now.codes.now.items in
+    let w = c.args.here.now.site.now.widget in
     kept_then fs w c.args.store.now c.list.store c.eval_on.new.store c.list.invariant.1 c.in_err-how.ensures.kept
 
 pub statements::declarations_on-declare-requires-clause-confined : goal.statements::declarations_on-declare-requires-clause-confined
 statements::declarations_on-declare-requires-clause-confined t c =
-    let fs = trees_of c.args.site.now.codes.now.items in
-    let w = c.args.site.now.widget in
+    let fs = trees_of c.args.here.now.site.now.codes.now.items in
+    let w = c.args.here.now.site.now.widget in
     let s0 = c.args.store.now in
     let s1 = c.list.store in
     let s2 = c.eval_on.new.store in
-    let ds = decls_of (stmt_at (forest_at fs c.args.place.now.code) c.args.id) in
+    let ds = decls_of (stmt_at (forest_at fs c.args.here.now.at.code) c.args.id) in
     let at = c.in-Some.valued.at in
-    let p : State → Plan = λ s. Do (job_of fs w s1.cells (job.Eval c.in-Some.valued.init c.args.place.now)) s Ret in
-    let q : State → Plan = statements.declarations (drop c.list.n ds) (place_of w s1.cells c.args.place.now) in
-    let start : State → Plan = statements.declarations ds (place_of w s0.cells c.args.place.now) in
-    let f = frame.Statement (statement.Declared c.args.id at c.args.place.now) in
+    let p : State → Plan = λ s. Do (job_of fs w s1.cells (job.Eval c.in-Some.valued.init c.args.here.now.at)) s Ret in
+    let q : State → Plan = statements_2.declarations (drop c.list.n ds) (place_of w s1.cells c.args.here.now.at) in
+    let start : State → Plan = statements_2.declarations ds (place_of w s0.cells c.args.here.now.at) in
+    let f = frame.Statement (statement.Declared c.args.id at c.args.here.now.at) in
     let inv = c.list.invariant in
     let kept = c.in_ok-how.ensures.kept in
     let how = c.in_ok-how.how in
     let out = c.eval_on.new.out in
     let plan : (s : State) → q s ≡ and_then (p s) (taken fs w s1.cells f) =
-    subst (λ (g : Forest). (x : plan.Place) (s : State) → statements.declarations (drop c.list.n (decls_of (stmt_at g c.args.id))) x s ≡ Do (Eval (expr_at g c.in-Some.valued.init) x) s (after (λ u t. declared (drop at (decls_of (stmt_at g c.args.id))) x u t))) c.tree_at.ensures c.in-Some.ensures.2 (place_of w s1.cells c.args.place.now) in
+    subst (λ (g : Forest). (x : plan.Place) (s : State) → statements_2.declarations (drop c.list.n (decls_of (stmt_at g c.args.id))) x s ≡ Do (Eval (expr_at g c.in-Some.valued.init) x) s (after (λ u t. declared (drop at (decls_of (stmt_at g c.args.id))) x u t))) c.requires.tree c.in-Some.ensures.2 (place_of w s1.cells c.args.here.now.at) in
     kept.confined inv.0.ready.1
 
 pub statements::declarations_on-declare-requires-clause-held : goal.statements::declarations_on-declare-requires-clause-held
 statements::declarations_on-declare-requires-clause-held t c =
-    let fs = trees_of c.args.site.now.codes.now.items in
-    let w = c.args.site.now.widget in
+    let fs = trees_of c.args.here.now.site.now.codes.now.items in
+    let w = c.args.here.now.site.now.widget in
     let s0 = c.args.store.now in
     let s1 = c.list.store in
     let s2 = c.eval_on.new.store in
-    let ds = decls_of (stmt_at (forest_at fs c.args.place.now.code) c.args.id) in
+    let ds = decls_of (stmt_at (forest_at fs c.args.here.now.at.code) c.args.id) in
     let at = c.in-Some.valued.at in
-    let p : State → Plan = λ s. Do (job_of fs w s1.cells (job.Eval c.in-Some.valued.init c.args.place.now)) s Ret in
-    let q : State → Plan = statements.declarations (drop c.list.n ds) (place_of w s1.cells c.args.place.now) in
-    let start : State → Plan = statements.declarations ds (place_of w s0.cells c.args.place.now) in
-    let f = frame.Statement (statement.Declared c.args.id at c.args.place.now) in
+    let p : State → Plan = λ s. Do (job_of fs w s1.cells (job.Eval c.in-Some.valued.init c.args.here.now.at)) s Ret in
+    let q : State → Plan = statements_2.declarations (drop c.list.n ds) (place_of w s1.cells c.args.here.now.at) in
+    let start : State → Plan = statements_2.declarations ds (place_of w s0.cells c.args.here.now.at) in
+    let f = frame.Statement (statement.Declared c.args.id at c.args.here.now.at) in
     let inv = c.list.invariant in
     let kept = c.in_ok-how.ensures.kept in
     let how = c.in_ok-how.how in
     let out = c.eval_on.new.out in
     let plan : (s : State) → q s ≡ and_then (p s) (taken fs w s1.cells f) =
-    subst (λ (g : Forest). (x : plan.Place) (s : State) → statements.declarations (drop c.list.n (decls_of (stmt_at g c.args.id))) x s ≡ Do (Eval (expr_at g c.in-Some.valued.init) x) s (after (λ u t. declared (drop at (decls_of (stmt_at g c.args.id))) x u t))) c.tree_at.ensures c.in-Some.ensures.2 (place_of w s1.cells c.args.place.now) in
+    subst (λ (g : Forest). (x : plan.Place) (s : State) → statements_2.declarations (drop c.list.n (decls_of (stmt_at g c.args.id))) x s ≡ Do (Eval (expr_at g c.in-Some.valued.init) x) s (after (λ u t. declared (drop at (decls_of (stmt_at g c.args.id))) x u t))) c.requires.tree c.in-Some.ensures.2 (place_of w s1.cells c.args.here.now.at) in
     let one = as_is fs w s1 s2 0 p c.list.run c.eval_on.new.run how ended.Is out c.in-Is.is c.in_ok-how.ensures.comes in
-    ((place_fine fs w s1.cells s2.cells kept.grows c.args.place.now inv.2.0, inv.2.1), subst (λ v. IsFine w s2.cells v) (sym c.take_value.ensures.taken) (end_fine fs w s1 s2 0 p c.list.run c.eval_on.new.run ended.Is (ended_as ended.Is out) one tt))
+    ((place_fine fs w s1.cells s2.cells kept.grows c.args.here.now.at inv.2.0, inv.2.1), subst (λ v. IsFine w s2.cells v) (sym c.take_value.ensures.taken) (end_fine fs w s1 s2 0 p c.list.run c.eval_on.new.run ended.Is (ended_as ended.Is out) one tt))
 
 pub statements::declarations_on-list-preserved : goal.statements::declarations_on-list-preserved
 statements::declarations_on-list-preserved t c =
-    let fs = trees_of c.args.site.now.codes.now.items in
-    let w = c.args.site.now.widget in
+    let fs = trees_of c.args.here.now.site.now.codes.now.items in
+    let w = c.args.here.now.site.now.widget in
     let s0 = c.args.store.now in
     let s1 = c.list.store in
     let s2 = c.eval_on.new.store in
-    let ds = decls_of (stmt_at (forest_at fs c.args.place.now.code) c.args.id) in
+    let ds = decls_of (stmt_at (forest_at fs c.args.here.now.at.code) c.args.id) in
     let at = c.in-Some.valued.at in
-    let p : State → Plan = λ s. Do (job_of fs w s1.cells (job.Eval c.in-Some.valued.init c.args.place.now)) s Ret in
-    let q : State → Plan = statements.declarations (drop c.list.n ds) (place_of w s1.cells c.args.place.now) in
-    let start : State → Plan = statements.declarations ds (place_of w s0.cells c.args.place.now) in
-    let f = frame.Statement (statement.Declared c.args.id at c.args.place.now) in
+    let p : State → Plan = λ s. Do (job_of fs w s1.cells (job.Eval c.in-Some.valued.init c.args.here.now.at)) s Ret in
+    let q : State → Plan = statements_2.declarations (drop c.list.n ds) (place_of w s1.cells c.args.here.now.at) in
+    let start : State → Plan = statements_2.declarations ds (place_of w s0.cells c.args.here.now.at) in
+    let f = frame.Statement (statement.Declared c.args.id at c.args.here.now.at) in
     let inv = c.list.invariant in
     let kept = c.in_ok-how.ensures.kept in
     let how = c.in_ok-how.how in
     let out = c.eval_on.new.out in
     let plan : (s : State) → q s ≡ and_then (p s) (taken fs w s1.cells f) =
-    subst (λ (g : Forest). (x : plan.Place) (s : State) → statements.declarations (drop c.list.n (decls_of (stmt_at g c.args.id))) x s ≡ Do (Eval (expr_at g c.in-Some.valued.init) x) s (after (λ u t. declared (drop at (decls_of (stmt_at g c.args.id))) x u t))) c.tree_at.ensures c.in-Some.ensures.2 (place_of w s1.cells c.args.place.now) in
+    subst (λ (g : Forest). (x : plan.Place) (s : State) → statements_2.declarations (drop c.list.n (decls_of (stmt_at g c.args.id))) x s ≡ Do (Eval (expr_at g c.in-Some.valued.init) x) s (after (λ u t. declared (drop at (decls_of (stmt_at g c.args.id))) x u t))) c.requires.tree c.in-Some.ensures.2 (place_of w s1.cells c.args.here.now.at) in
     let one = as_is fs w s1 s2 0 p c.list.run c.eval_on.new.run how ended.Is out c.in-Is.is c.in_ok-how.ensures.comes in
     let s3 = c.declare.new.store in
     let ready = end_ready fs w s1 s2 0 p c.list.run c.eval_on.new.run ended.Is (ended_as ended.Is out) one tt inv.0.ready kept in
     let last = c.declare.ensures.kept in
-    let done : State → Plan = λ s. declared (drop at ds) (place_of w s2.cells c.args.place.now) (seen w s2.cells out) s in
-    let goes : State → Plan = statements.declarations (drop (at + 1) ds) (place_of w s3.cells c.args.place.now) in (
+    let done : State → Plan = λ s. declared (drop at ds) (place_of w s2.cells c.args.here.now.at) (seen w s2.cells out) s in
+    let goes : State → Plan = statements_2.declarations (drop (at + 1) ds) (place_of w s3.cells c.args.here.now.at) in (
       towards_each fs w s0 s2 s3 start done goes c.args.run.now c.eval_on.new.run c.eval_on.new.run
           (towards_each fs w s0 s1 s2 start q done c.args.run.now c.list.run c.eval_on.new.run inv.0
           (part_next fs w s1 s2 0 q p done f c.list.run c.eval_on.new.run ended.Is (ended_as ended.Is out) plan one tt kept.grows inv.2 ready (λ r. refl)))
           (stays fs w s2 s3 done goes c.eval_on.new.run c.eval_on.new.run (ready.0, last.confined ready.1, ready.2) refl
-          (λ r. sym (ap (λ v. declared (drop at ds) (place_of w s2.cells c.args.place.now) (seen w s2.cells v) (image fs r w s2)) c.take_value.ensures.taken) ∙ c.declare.ensures.plan r)),
+          (λ r. sym (ap (λ v. declared (drop at ds) (place_of w s2.cells c.args.here.now.at) (seen w s2.cells v) (image fs r w s2)) c.take_value.ensures.taken) ∙ c.declare.ensures.plan r)),
       kept_then fs w s0 s2 s3 (kept_then fs w s0 s1 s2 inv.1 kept) last,
-      (place_fine fs w s2.cells s3.cells last.grows c.args.place.now (place_fine fs w s1.cells s2.cells kept.grows c.args.place.now inv.2.0), inv.2.1),
+      (place_fine fs w s2.cells s3.cells last.grows c.args.here.now.at (place_fine fs w s1.cells s2.cells kept.grows c.args.here.now.at inv.2.0), inv.2.1),
     )
 
 pub statements::declarations_on-returns-in-Left-clause-comes : goal.statements::declarations_on-returns-in-Left-clause-comes
 statements::declarations_on-returns-in-Left-clause-comes t c =
-    let fs = trees_of c.args.site.now.codes.now.items in
-    let w = c.args.site.now.widget in
+    let fs = trees_of c.args.here.now.site.now.codes.now.items in
+    let w = c.args.here.now.site.now.widget in
     let s0 = c.args.store.now in
     let s1 = c.list.store in
     let s2 = c.eval_on.new.store in
-    let ds = decls_of (stmt_at (forest_at fs c.args.place.now.code) c.args.id) in
+    let ds = decls_of (stmt_at (forest_at fs c.args.here.now.at.code) c.args.id) in
     let at = c.in-Some.valued.at in
-    let p : State → Plan = λ s. Do (job_of fs w s1.cells (job.Eval c.in-Some.valued.init c.args.place.now)) s Ret in
-    let q : State → Plan = statements.declarations (drop c.list.n ds) (place_of w s1.cells c.args.place.now) in
-    let start : State → Plan = statements.declarations ds (place_of w s0.cells c.args.place.now) in
-    let f = frame.Statement (statement.Declared c.args.id at c.args.place.now) in
+    let p : State → Plan = λ s. Do (job_of fs w s1.cells (job.Eval c.in-Some.valued.init c.args.here.now.at)) s Ret in
+    let q : State → Plan = statements_2.declarations (drop c.list.n ds) (place_of w s1.cells c.args.here.now.at) in
+    let start : State → Plan = statements_2.declarations ds (place_of w s0.cells c.args.here.now.at) in
+    let f = frame.Statement (statement.Declared c.args.id at c.args.here.now.at) in
     let inv = c.list.invariant in
     let kept = c.in_ok-how.ensures.kept in
     let how = c.in_ok-how.how in
     let out = c.eval_on.new.out in
     let plan : (s : State) → q s ≡ and_then (p s) (taken fs w s1.cells f) =
-    subst (λ (g : Forest). (x : plan.Place) (s : State) → statements.declarations (drop c.list.n (decls_of (stmt_at g c.args.id))) x s ≡ Do (Eval (expr_at g c.in-Some.valued.init) x) s (after (λ u t. declared (drop at (decls_of (stmt_at g c.args.id))) x u t))) c.tree_at.ensures c.in-Some.ensures.2 (place_of w s1.cells c.args.place.now) in
+    subst (λ (g : Forest). (x : plan.Place) (s : State) → statements_2.declarations (drop c.list.n (decls_of (stmt_at g c.args.id))) x s ≡ Do (Eval (expr_at g c.in-Some.valued.init) x) s (after (λ u t. declared (drop at (decls_of (stmt_at g c.args.id))) x u t))) c.requires.tree c.in-Some.ensures.2 (place_of w s1.cells c.args.here.now.at) in
     let one = as_is fs w s1 s2 0 p c.list.run c.eval_on.new.run how ended.Left out c.in-Left.is c.in_ok-how.ensures.comes in
-    waits_then fs w c.wait.result s0 s1 s2 0 1 1 start q p f c.args.run.now c.list.run c.eval_on.new.run c.wait.new.run ended.Left (ended_as ended.Left out) _ inv.0 plan one refl kept.grows inv.2
-    c.wait.ensures.left c.wait.ensures.waits c.wait.ensures.next c.wait.ensures.units (omega arith) (omega arith)
+    waits_then fs w c.wait_declared.result s0 s1 s2 0 1 1 start q p f c.args.run.now c.list.run c.eval_on.new.run c.wait_declared.new.run ended.Left (ended_as ended.Left out) _ inv.0 plan one refl kept.grows inv.2
+    c.wait_declared.ensures.left c.wait_declared.ensures.waits c.wait_declared.ensures.next c.wait_declared.ensures.units (omega arith) (omega arith)
 
 pub statements::declarations_on-returns-in-Left-clause-kept : goal.statements::declarations_on-returns-in-Left-clause-kept
 statements::declarations_on-returns-in-Left-clause-kept t c =
-    let fs = trees_of c.args.site.now.codes.now.items in
-    let w = c.args.site.now.widget in
+    let fs = trees_of c.args.here.now.site.now.codes.now.items in
+    let w = c.args.here.now.site.now.widget in
     let s0 = c.args.store.now in
     let s1 = c.list.store in
     let s2 = c.eval_on.new.store in
-    let ds = decls_of (stmt_at (forest_at fs c.args.place.now.code) c.args.id) in
+    let ds = decls_of (stmt_at (forest_at fs c.args.here.now.at.code) c.args.id) in
     let at = c.in-Some.valued.at in
-    let p : State → Plan = λ s. Do (job_of fs w s1.cells (job.Eval c.in-Some.valued.init c.args.place.now)) s Ret in
-    let q : State → Plan = statements.declarations (drop c.list.n ds) (place_of w s1.cells c.args.place.now) in
-    let start : State → Plan = statements.declarations ds (place_of w s0.cells c.args.place.now) in
-    let f = frame.Statement (statement.Declared c.args.id at c.args.place.now) in
+    let p : State → Plan = λ s. Do (job_of fs w s1.cells (job.Eval c.in-Some.valued.init c.args.here.now.at)) s Ret in
+    let q : State → Plan = statements_2.declarations (drop c.list.n ds) (place_of w s1.cells c.args.here.now.at) in
+    let start : State → Plan = statements_2.declarations ds (place_of w s0.cells c.args.here.now.at) in
+    let f = frame.Statement (statement.Declared c.args.id at c.args.here.now.at) in
     let inv = c.list.invariant in
     let kept = c.in_ok-how.ensures.kept in
     let how = c.in_ok-how.how in
     let out = c.eval_on.new.out in
     let plan : (s : State) → q s ≡ and_then (p s) (taken fs w s1.cells f) =
-    subst (λ (g : Forest). (x : plan.Place) (s : State) → statements.declarations (drop c.list.n (decls_of (stmt_at g c.args.id))) x s ≡ Do (Eval (expr_at g c.in-Some.valued.init) x) s (after (λ u t. declared (drop at (decls_of (stmt_at g c.args.id))) x u t))) c.tree_at.ensures c.in-Some.ensures.2 (place_of w s1.cells c.args.place.now) in
+    subst (λ (g : Forest). (x : plan.Place) (s : State) → statements_2.declarations (drop c.list.n (decls_of (stmt_at g c.args.id))) x s ≡ Do (Eval (expr_at g c.in-Some.valued.init) x) s (after (λ u t. declared (drop at (decls_of (stmt_at g c.args.id))) x u t))) c.requires.tree c.in-Some.ensures.2 (place_of w s1.cells c.args.here.now.at) in
     kept_then fs w s0 s1 s2 inv.1 kept
 
 pub statements::declarations_on-returns-in_default-2 : goal.statements::declarations_on-returns-in_default-2
 statements::declarations_on-returns-in_default-2 t c =
-    let fs = trees_of c.args.site.now.codes.now.items in
-    let w = c.args.site.now.widget in
+    let fs = trees_of c.args.here.now.site.now.codes.now.items in
+    let w = c.args.here.now.site.now.widget in
     let s0 = c.args.store.now in
     let s1 = c.list.store in
     let s2 = c.eval_on.new.store in
-    let ds = decls_of (stmt_at (forest_at fs c.args.place.now.code) c.args.id) in
+    let ds = decls_of (stmt_at (forest_at fs c.args.here.now.at.code) c.args.id) in
     let at = c.in-Some.valued.at in
-    let p : State → Plan = λ s. Do (job_of fs w s1.cells (job.Eval c.in-Some.valued.init c.args.place.now)) s Ret in
-    let q : State → Plan = statements.declarations (drop c.list.n ds) (place_of w s1.cells c.args.place.now) in
-    let start : State → Plan = statements.declarations ds (place_of w s0.cells c.args.place.now) in
-    let f = frame.Statement (statement.Declared c.args.id at c.args.place.now) in
+    let p : State → Plan = λ s. Do (job_of fs w s1.cells (job.Eval c.in-Some.valued.init c.args.here.now.at)) s Ret in
+    let q : State → Plan = statements_2.declarations (drop c.list.n ds) (place_of w s1.cells c.args.here.now.at) in
+    let start : State → Plan = statements_2.declarations ds (place_of w s0.cells c.args.here.now.at) in
+    let f = frame.Statement (statement.Declared c.args.id at c.args.here.now.at) in
     let inv = c.list.invariant in
     let kept = c.in_ok-how.ensures.kept in
     let how = c.in_ok-how.how in
     let out = c.eval_on.new.out in
     let plan : (s : State) → q s ≡ and_then (p s) (taken fs w s1.cells f) =
-    subst (λ (g : Forest). (x : plan.Place) (s : State) → statements.declarations (drop c.list.n (decls_of (stmt_at g c.args.id))) x s ≡ Do (Eval (expr_at g c.in-Some.valued.init) x) s (after (λ u t. declared (drop at (decls_of (stmt_at g c.args.id))) x u t))) c.tree_at.ensures c.in-Some.ensures.2 (place_of w s1.cells c.args.place.now) in
+    subst (λ (g : Forest). (x : plan.Place) (s : State) → statements_2.declarations (drop c.list.n (decls_of (stmt_at g c.args.id))) x s ≡ Do (Eval (expr_at g c.in-Some.valued.init) x) s (after (λ u t. declared (drop at (decls_of (stmt_at g c.args.id))) x u t))) c.requires.tree c.in-Some.ensures.2 (place_of w s1.cells c.args.here.now.at) in
     record {
       comes = towards_then fs w s0 s1 s2 1 1 start q c.args.run.now c.list.run c.eval_on.new.run how (ended_as how out) inv.0
-          (planned fs w s1 s2 1 q _ c.list.run c.eval_on.new.run how (ended_as how out) plan (other_value fs w s1 s2 0 1 p f (λ v t. declared (drop at ds) (place_of w s2.cells c.args.place.now) v t) c.list.run c.eval_on.new.run how out c.in_ok-how.ensures.comes c.in_default-2.not-Is c.in_default-2.not-Left kept.grows inv.2 (λ o t. refl) (omega arith))) (omega arith);
+          (planned fs w s1 s2 1 q _ c.list.run c.eval_on.new.run how (ended_as how out) plan (other_value fs w s1 s2 0 1 p f (λ v t. declared (drop at ds) (place_of w s2.cells c.args.here.now.at) v t) c.list.run c.eval_on.new.run how out c.in_ok-how.ensures.comes c.in_default-2.not-Is c.in_default-2.not-Left kept.grows inv.2 (λ o t. refl) (omega arith))) (omega arith);
       kept = kept_then fs w s0 s1 s2 inv.1 kept;
     }
 
-pub statements::block_on-returns-in_err-how-clause-kept : goal.statements::block_on-returns-in_err-how-clause-kept
-statements::block_on-returns-in_err-how-clause-kept t c =
-    kept_then (trees_of c.args.site.now.codes.now.items) c.args.site.now.widget c.args.store.now c.list.store c.exec_on.new.store c.list.invariant.1 c.in_err-how.ensures.kept
+pub stepping::step_on-returns-in-Name-clause-comes : goal.stepping::step_on-returns-in-Name-clause-comes
+stepping::step_on-returns-in-Name-clause-comes t c =
+    let fs = trees_of c.args.here.now.site.now.codes.now.items in
+    let w = c.args.here.now.site.now.widget in
+    let s = c.args.store.now in
+    let code = c.args.here.now.at.code in
+    let f = trees c.args.here.now.tree.now in
+    let node = c.expr.result.now in
+    let here = c.requires.tree in
+    let pl = place_of w s.cells c.args.here.now.at in
+    let j = job_of fs w s.cells (job.Target c.args.to c.args.here.now.at) in
+    let k = form_taken fs w s.cells (form.StepTarget c.args.op c.args.here.now.at) in
+    let p = k (meaning.Refers (meaning.Variable c.in-Name.name)) in
+    IfOk-weaker c.step_name.result _ _
+    (λ how h. unit_first fs w s c.step_name.new.store 4 30 j p k c.args.run.now (record c.args.run.now { units = c.args.run.now.units - 1 }) c.step_name.new.run how (ended_as how c.step_name.new.out) (less_one c.args.run.now.units c.if-run-eq0.false)
+    (λ x. ap (λ q. and_then q k) (at_target fs code f c.args.to node here c.expr.ensures.same pl x ∙ ap (λ (e : Expr). target (plain_form (forest_at fs code) e) pl x) c.in-Name.is)) h (omega arith))
+    c.step_name.ensures.comes
 
-pub statements::block_on-list-preserved : goal.statements::block_on-list-preserved
-statements::block_on-list-preserved t c =
-    let fs = trees_of c.args.site.now.codes.now.items in
-    let w = c.args.site.now.widget in
-    let s0 = c.args.store.now in
-    let s1 = c.list.store in
-    let s2 = c.exec_on.new.store in
-    let p : State → Plan = λ s. Do (job_of fs w s1.cells (job.Exec c.in-Some.listed.id c.args.place.now)) s Ret in
-    let q : State → Plan = block_at fs w s1.cells c.list.at c.list.n c.args.place.now in
-    let start : State → Plan = block_at fs w s0.cells c.args.block 0 c.args.place.now in
-    let f = (frame.Statement (statement.Seq c.in-Some.listed.block c.in-Some.listed.next c.args.place.now)) in
-    let inv = c.list.invariant in
-    let kept = c.in_ok-how.ensures.kept in
-    let how = c.in_ok-how.how in
-    let out = c.exec_on.new.out in
-    let held : FineFrame fs w s1.cells f = (inv.2.0, subst (λ g. IsBlock g c.in-Some.listed.block) c.tree_at.ensures c.in-Some.ensures.1) in
-    let listed = subst (λ g. drop c.list.n (block_list g c.list.at) ≡ stmt_at g c.in-Some.listed.id ∷ drop c.in-Some.listed.next (block_list g c.in-Some.listed.block)) c.tree_at.ensures c.in-Some.ensures.2 in
-    let plan : (s : State) → q s ≡ and_then (p s) (taken fs w s1.cells f) = λ s. ap (λ l. statements_2 l (place_of w s1.cells c.args.place.now) s) listed in
-    let one = as_is fs w s1 s2 0 p c.list.run c.exec_on.new.run how ended.Normal out c.in-Normal.is c.in_ok-how.ensures.comes in (
-      towards_each fs w s0 s1 s2 start q (block_at fs w s2.cells c.in-Some.listed.block c.in-Some.listed.next c.args.place.now) c.args.run.now c.list.run c.exec_on.new.run inv.0
-          (part_next fs w s1 s2 0 q p (block_at fs w s2.cells c.in-Some.listed.block c.in-Some.listed.next c.args.place.now) f c.list.run c.exec_on.new.run ended.Normal (ended_as ended.Normal out) plan one tt kept.grows held (end_ready fs w s1 s2 0 p c.list.run c.exec_on.new.run ended.Normal (ended_as ended.Normal out) one tt inv.0.ready kept) (λ r. refl)),
-      kept_then fs w s0 s1 s2 inv.1 kept,
-      (place_fine fs w s1.cells s2.cells kept.grows c.args.place.now held.0, held.1),
+pub stepping::step_reached-step_target-requires-clause-ready : goal.stepping::step_reached-step_target-requires-clause-ready
+stepping::step_reached-step_target-requires-clause-ready t c =
+    let fs = trees_of c.args.here.now.site.now.codes.now.items in
+    let w = c.args.here.now.site.now.widget in
+    let s = c.args.store.now in
+    value_ready fs w s c.target_on.new.store 0 (λ t. Do (job_of fs w s.cells (job.Target c.args.to c.args.here.now.at)) t Ret) c.args.run.now c.target_on.new.run c.in_ok-other.other _ c.in_ok-other.ensures.comes c.in-Is.is c.target_on.ensures.kept c.requires.ready
+
+pub stepping::step_reached-step_target-requires-clause-held : goal.stepping::step_reached-step_target-requires-clause-held
+stepping::step_reached-step_target-requires-clause-held t c =
+    let fs = trees_of c.args.here.now.site.now.codes.now.items in
+    let w = c.args.here.now.site.now.widget in
+    let s = c.args.store.now in (
+      target_fine fs w s c.target_on.new.store 0 (λ t. Do (job_of fs w s.cells (job.Target c.args.to c.args.here.now.at)) t Ret) c.args.run.now c.target_on.new.run c.in_ok-other.other c.target_on.new.of c.target_on.new.out c.in_ok-other.ensures.comes c.in-Is.is,
+      place_fine fs w s.cells c.target_on.new.store.cells c.target_on.ensures.kept.grows c.args.here.now.at c.requires.held.0,
     )
 
-pub statements::block_on-returns-in-Left-clause-comes : goal.statements::block_on-returns-in-Left-clause-comes
-statements::block_on-returns-in-Left-clause-comes t c =
-    let fs = trees_of c.args.site.now.codes.now.items in
-    let w = c.args.site.now.widget in
-    let s0 = c.args.store.now in
-    let s1 = c.list.store in
-    let s2 = c.exec_on.new.store in
-    let p : State → Plan = λ s. Do (job_of fs w s1.cells (job.Exec c.in-Some.listed.id c.args.place.now)) s Ret in
-    let q : State → Plan = block_at fs w s1.cells c.list.at c.list.n c.args.place.now in
-    let start : State → Plan = block_at fs w s0.cells c.args.block 0 c.args.place.now in
-    let f = (frame.Statement (statement.Seq c.in-Some.listed.block c.in-Some.listed.next c.args.place.now)) in
-    let inv = c.list.invariant in
-    let kept = c.in_ok-how.ensures.kept in
-    let how = c.in_ok-how.how in
-    let out = c.exec_on.new.out in
-    let held : FineFrame fs w s1.cells f = (inv.2.0, subst (λ g. IsBlock g c.in-Some.listed.block) c.tree_at.ensures c.in-Some.ensures.1) in
-    let listed = subst (λ g. drop c.list.n (block_list g c.list.at) ≡ stmt_at g c.in-Some.listed.id ∷ drop c.in-Some.listed.next (block_list g c.in-Some.listed.block)) c.tree_at.ensures c.in-Some.ensures.2 in
-    let plan : (s : State) → q s ≡ and_then (p s) (taken fs w s1.cells f) = λ s. ap (λ l. statements_2 l (place_of w s1.cells c.args.place.now) s) listed in
-    let one = as_is fs w s1 s2 0 p c.list.run c.exec_on.new.run how ended.Left out c.in-Left.is c.in_ok-how.ensures.comes in
-    waits_then fs w c.wait.result s0 s1 s2 0 1 1 start q p f c.args.run.now c.list.run c.exec_on.new.run c.wait.new.run ended.Left (ended_as ended.Left out) _ inv.0 plan one refl kept.grows held
-    c.wait.ensures.left c.wait.ensures.waits c.wait.ensures.next c.wait.ensures.units (omega arith) (omega arith)
+pub stepping::step_reached-returns-in-Is-clause-comes : goal.stepping::step_reached-returns-in-Is-clause-comes
+stepping::step_reached-returns-in-Is-clause-comes t c =
+    let fs = trees_of c.args.here.now.site.now.codes.now.items in
+    let w = c.args.here.now.site.now.widget in
+    let s = c.args.store.now in
+    IfOk-weaker c.step_target.result _ _
+    (λ how h. target_then fs w s c.target_on.new.store c.step_target.new.store 0 4 30 (λ t. Do (job_of fs w s.cells (job.Target c.args.to c.args.here.now.at)) t Ret) (form.StepTarget c.args.op c.args.here.now.at) c.args.run.now c.target_on.new.run c.step_target.new.run c.in_ok-other.other how c.target_on.new.of c.target_on.new.out (ended_as how c.step_target.new.out)
+    c.in_ok-other.ensures.comes c.in-Is.is c.target_on.ensures.kept c.requires.held.0 h (omega arith))
+    c.step_target.ensures.comes
 
-pub statements::block_on-returns-in-Left-clause-kept : goal.statements::block_on-returns-in-Left-clause-kept
-statements::block_on-returns-in-Left-clause-kept t c =
-    let fs = trees_of c.args.site.now.codes.now.items in
-    let w = c.args.site.now.widget in
-    let s0 = c.args.store.now in
-    let s1 = c.list.store in
-    let s2 = c.exec_on.new.store in
-    let p : State → Plan = λ s. Do (job_of fs w s1.cells (job.Exec c.in-Some.listed.id c.args.place.now)) s Ret in
-    let q : State → Plan = block_at fs w s1.cells c.list.at c.list.n c.args.place.now in
-    let start : State → Plan = block_at fs w s0.cells c.args.block 0 c.args.place.now in
-    let f = (frame.Statement (statement.Seq c.in-Some.listed.block c.in-Some.listed.next c.args.place.now)) in
-    let inv = c.list.invariant in
-    let kept = c.in_ok-how.ensures.kept in
-    let how = c.in_ok-how.how in
-    let out = c.exec_on.new.out in
-    let held : FineFrame fs w s1.cells f = (inv.2.0, subst (λ g. IsBlock g c.in-Some.listed.block) c.tree_at.ensures c.in-Some.ensures.1) in
-    let listed = subst (λ g. drop c.list.n (block_list g c.list.at) ≡ stmt_at g c.in-Some.listed.id ∷ drop c.in-Some.listed.next (block_list g c.in-Some.listed.block)) c.tree_at.ensures c.in-Some.ensures.2 in
-    let plan : (s : State) → q s ≡ and_then (p s) (taken fs w s1.cells f) = λ s. ap (λ l. statements_2 l (place_of w s1.cells c.args.place.now) s) listed in
-    kept_then fs w s0 s1 s2 inv.1 kept
+pub stepping::step_reached-returns-in-Is-clause-kept : goal.stepping::step_reached-returns-in-Is-clause-kept
+stepping::step_reached-returns-in-Is-clause-kept t c =
+    let fs = trees_of c.args.here.now.site.now.codes.now.items in
+    let w = c.args.here.now.site.now.widget in
+    let s = c.args.store.now in
+    kept_then fs w s c.target_on.new.store c.step_target.new.store c.target_on.ensures.kept c.step_target.ensures.kept
 
-pub statements::block_on-returns-in_default-2 : goal.statements::block_on-returns-in_default-2
-statements::block_on-returns-in_default-2 t c =
-    let fs = trees_of c.args.site.now.codes.now.items in
-    let w = c.args.site.now.widget in
-    let s0 = c.args.store.now in
-    let s1 = c.list.store in
-    let s2 = c.exec_on.new.store in
-    let p : State → Plan = λ s. Do (job_of fs w s1.cells (job.Exec c.in-Some.listed.id c.args.place.now)) s Ret in
-    let q : State → Plan = block_at fs w s1.cells c.list.at c.list.n c.args.place.now in
-    let start : State → Plan = block_at fs w s0.cells c.args.block 0 c.args.place.now in
-    let f = (frame.Statement (statement.Seq c.in-Some.listed.block c.in-Some.listed.next c.args.place.now)) in
-    let inv = c.list.invariant in
-    let kept = c.in_ok-how.ensures.kept in
-    let how = c.in_ok-how.how in
-    let out = c.exec_on.new.out in
-    let held : FineFrame fs w s1.cells f = (inv.2.0, subst (λ g. IsBlock g c.in-Some.listed.block) c.tree_at.ensures c.in-Some.ensures.1) in
-    let listed = subst (λ g. drop c.list.n (block_list g c.list.at) ≡ stmt_at g c.in-Some.listed.id ∷ drop c.in-Some.listed.next (block_list g c.in-Some.listed.block)) c.tree_at.ensures c.in-Some.ensures.2 in
-    let plan : (s : State) → q s ≡ and_then (p s) (taken fs w s1.cells f) = λ s. ap (λ l. statements_2 l (place_of w s1.cells c.args.place.now) s) listed in
+pub stepping::step_reached-returns-in-Left-clause-comes : goal.stepping::step_reached-returns-in-Left-clause-comes
+stepping::step_reached-returns-in-Left-clause-comes t c =
+    let fs = trees_of c.args.here.now.site.now.codes.now.items in
+    let w = c.args.here.now.site.now.widget in
+    let s = c.args.store.now in
+    frame_waits fs w c.wait.result s c.target_on.new.store 0 30 (λ t. Do (job_of fs w s.cells (job.Target c.args.to c.args.here.now.at)) t Ret) (frame.Form (form.StepTarget c.args.op c.args.here.now.at)) c.args.run.now c.target_on.new.run c.wait.new.run c.in_ok-other.other (target_as c.in_ok-other.other c.target_on.new.of c.target_on.new.out) (λ h. ended_as h c.target_on.new.out)
+    c.in_ok-other.ensures.comes c.in-Left.is c.target_on.ensures.kept c.requires.held.0 (omega arith) c.wait.ensures.left c.wait.ensures.waits c.wait.ensures.next c.wait.ensures.units
+
+pub stepping::step_reached-returns-in_default : goal.stepping::step_reached-returns-in_default
+stepping::step_reached-returns-in_default t c =
+    let fs = trees_of c.args.here.now.site.now.codes.now.items in
+    let w = c.args.here.now.site.now.widget in
+    let s = c.args.store.now in
     record {
-      comes = towards_then fs w s0 s1 s2 1 1 start q c.args.run.now c.list.run c.exec_on.new.run how (ended_as how out) inv.0
-          (planned fs w s1 s2 1 q _ c.list.run c.exec_on.new.run how (ended_as how out) plan (other_normal fs w s1 s2 0 1 p f (λ t. block_at fs w s2.cells c.in-Some.listed.block c.in-Some.listed.next c.args.place.now t) c.list.run c.exec_on.new.run how out c.in_ok-how.ensures.comes c.in_default-2.not-Normal c.in_default-2.not-Left kept.grows held (λ o t. refl) (omega arith))) (omega arith);
-      kept = kept_then fs w s0 s1 s2 inv.1 kept;
+      comes = value_passes fs w s c.target_on.new.store 0 30 (λ t. Do (job_of fs w s.cells (job.Target c.args.to c.args.here.now.at)) t Ret) (form.StepTarget c.args.op c.args.here.now.at) c.args.run.now c.target_on.new.run c.in_ok-other.other c.target_on.new.out
+          (target_ends fs w s c.target_on.new.store 0 (λ t. Do (job_of fs w s.cells (job.Target c.args.to c.args.here.now.at)) t Ret) c.args.run.now c.target_on.new.run c.in_ok-other.other c.target_on.new.of c.target_on.new.out c.in_ok-other.ensures.comes c.in_default.not-Is) c.in_default.not-Is c.in_default.not-Left c.target_on.ensures.kept c.requires.held.0 (omega arith);
+      kept = c.target_on.ensures.kept;
     }
 
 pub targets::target_on-returns-then-run-eq0-clause-comes : goal.targets::target_on-returns-then-run-eq0-clause-comes
 targets::target_on-returns-then-run-eq0-clause-comes t c =
-    let fs = trees_of c.args.site.now.codes.now.items in
-    let w = c.args.site.now.widget in
+    let fs = trees_of c.args.here.now.site.now.codes.now.items in
+    let w = c.args.here.now.site.now.widget in
     let s = c.args.store.now in
-    let p = λ (t : State). Do (job_of fs w s.cells (job.Target c.args.id c.args.place.now)) t Ret in
+    let p = λ (t : State). Do (job_of fs w s.cells (job.Target c.args.id c.args.here.now.at)) t Ret in
     IfOk-weaker c.leave_job.result _ _
     (λ how h. ends_target fs w s s 0 p c.args.run.now c.leave_job.new.run how c.args.of.now c.args.out.now (h.0 fs w s c.args.out.now c.requires.held) (not_value how h.1))
     (both_ok c.leave_job.result _ _ c.leave_job.ensures.comes c.leave_job.ensures.left)
 
 pub targets::target_on-returns-clause-comes : goal.targets::target_on-returns-clause-comes
 targets::target_on-returns-clause-comes t c =
-    let fs = trees_of c.args.site.now.codes.now.items in
-    let w = c.args.site.now.widget in
+    let fs = trees_of c.args.here.now.site.now.codes.now.items in
+    let w = c.args.here.now.site.now.widget in
     let s = c.args.store.now in
-    let j = job_of fs w s.cells (job.Target c.args.id c.args.place.now) in
+    let j = job_of fs w s.cells (job.Target c.args.id c.args.here.now.at) in
     IfOk-weaker c.target_of.result _ _
     (λ how h. unit_first fs w s c.target_of.new.store 31 0 j (body j) Ret c.args.run.now (record c.args.run.now { units = c.args.run.now.units - 1 }) c.target_of.new.run how (target_as how c.target_of.new.of c.target_of.new.out) (less_one c.args.run.now.units c.if-run-eq0.false) (λ x. and_then_ret (body j x)) h (omega arith))
     c.target_of.ensures.comes
 
 pub targets::target_on-returns-clause-paid : goal.targets::target_on-returns-clause-paid
 targets::target_on-returns-clause-paid t c =
-    let fs = trees_of c.args.site.now.codes.now.items in
-    let w = c.args.site.now.widget in
+    let fs = trees_of c.args.here.now.site.now.codes.now.items in
+    let w = c.args.here.now.site.now.widget in
     let s = c.args.store.now in
     IfOk-weaker c.target_of.result _ _ (λ how h some deep. omega (arith, h.units, some)) c.target_of.ensures.comes
 
@@ -2782,16 +3425,19 @@ targets::target_of-dot_target-requires t c = (
   (
     search rules,
     (
-        let fs = trees_of c.args.site.now.codes.now.items in
-        let w = c.args.site.now.widget in
-        let s = c.args.store.now in
-        let code = c.args.place.now.code in
-        let f = trees c.tree_at.result.now in
-        let node = c.expr.result.now in
-        let here = c.tree_at.ensures in
-        let pl = place_of w s.cells c.args.place.now in
-        (c.requires.held.0, parts_at fs code f node (expr.Dot c.in-Dot.e c.in-Dot.name) here c.in-Dot.is c.expr.ensures.parts)
-        ),
+      (
+          let fs = trees_of c.args.here.now.site.now.codes.now.items in
+          let w = c.args.here.now.site.now.widget in
+          let s = c.args.store.now in
+          let code = c.args.here.now.at.code in
+          let f = trees c.args.here.now.tree.now in
+          let node = c.expr.result.now in
+          let here = c.requires.tree in
+          let pl = place_of w s.cells c.args.here.now.at in
+          (c.requires.held.0, parts_at fs code f node (expr.Dot c.in-Dot.e c.in-Dot.name) here c.in-Dot.is c.expr.ensures.parts)
+          ),
+      c.requires.tree,
+    ),
   ),
 )
 
@@ -2801,79 +3447,82 @@ targets::target_of-sub_target-requires t c = (
   (
     search rules,
     (
-        let fs = trees_of c.args.site.now.codes.now.items in
-        let w = c.args.site.now.widget in
-        let s = c.args.store.now in
-        let code = c.args.place.now.code in
-        let f = trees c.tree_at.result.now in
-        let node = c.expr.result.now in
-        let here = c.tree_at.ensures in
-        let pl = place_of w s.cells c.args.place.now in
-        let parts = parts_at fs code f node (expr.Sub c.in-Sub.e c.in-Sub.index) here c.in-Sub.is c.expr.ensures.parts in
-        ((c.requires.held.0, parts.0), (c.requires.held.0, parts.1))
-        ),
+      (
+          let fs = trees_of c.args.here.now.site.now.codes.now.items in
+          let w = c.args.here.now.site.now.widget in
+          let s = c.args.store.now in
+          let code = c.args.here.now.at.code in
+          let f = trees c.args.here.now.tree.now in
+          let node = c.expr.result.now in
+          let here = c.requires.tree in
+          let pl = place_of w s.cells c.args.here.now.at in
+          let parts = parts_at fs code f node (expr.Sub c.in-Sub.e c.in-Sub.index) here c.in-Sub.is c.expr.ensures.parts in
+          ((c.requires.held.0, parts.0), (c.requires.held.0, parts.1))
+          ),
+      c.requires.tree,
+    ),
   ),
 )
 
 pub targets::target_of-returns-in-Name-clause-comes : goal.targets::target_of-returns-in-Name-clause-comes
 targets::target_of-returns-in-Name-clause-comes t c =
-    let fs = trees_of c.args.site.now.codes.now.items in
-    let w = c.args.site.now.widget in
+    let fs = trees_of c.args.here.now.site.now.codes.now.items in
+    let w = c.args.here.now.site.now.widget in
     let s = c.args.store.now in
-    let code = c.args.place.now.code in
-    let f = trees c.tree_at.result.now in
+    let code = c.args.here.now.at.code in
+    let f = trees c.args.here.now.tree.now in
     let node = c.expr.result.now in
-    let here = c.tree_at.ensures in
-    let pl = place_of w s.cells c.args.place.now in
+    let here = c.requires.tree in
+    let pl = place_of w s.cells c.args.here.now.at in
     IfOk-weaker c.name_target.result _ _
-    (λ how h. reaches_at fs w s 31 (body (job_of fs w s.cells (job.Target c.args.id c.args.place.now))) c.args.run.now how (reference.Variable c.in-Name.name) c.name_target.new.of c.args.out.now h.0 h.1 c.requires.ready.2
+    (λ how h. reaches_at fs w s 31 (body (job_of fs w s.cells (job.Target c.args.id c.args.here.now.at))) c.args.run.now how (reference.Variable c.in-Name.name) c.name_target.new.of c.args.out.now h.0 h.1 c.requires.ready.2
     (λ r. at_target fs code f c.args.id node here c.expr.ensures.same pl (image fs r w s) ∙ ap (λ (e : Expr). target (plain_form (forest_at fs code) e) pl (image fs r w s)) c.in-Name.is) tt (omega arith))
     (both_ok c.name_target.result _ _ c.name_target.ensures.is c.name_target.ensures.place)
 
 pub targets::target_of-returns-in-Dot-clause-comes : goal.targets::target_of-returns-in-Dot-clause-comes
 targets::target_of-returns-in-Dot-clause-comes t c =
-    let fs = trees_of c.args.site.now.codes.now.items in
-    let w = c.args.site.now.widget in
+    let fs = trees_of c.args.here.now.site.now.codes.now.items in
+    let w = c.args.here.now.site.now.widget in
     let s = c.args.store.now in
-    let code = c.args.place.now.code in
-    let f = trees c.tree_at.result.now in
+    let code = c.args.here.now.at.code in
+    let f = trees c.args.here.now.tree.now in
     let node = c.expr.result.now in
-    let here = c.tree_at.ensures in
-    let pl = place_of w s.cells c.args.place.now in
+    let here = c.requires.tree in
+    let pl = place_of w s.cells c.args.here.now.at in
     IfOk-weaker c.dot_target.result _ _
-    (λ how h. instead fs w s c.dot_target.new.store 31 31 (λ t. Do (job_of fs w s.cells (job.Eval c.in-Dot.e c.args.place.now)) t (form_taken fs w s.cells (form.TargetDot c.in-Dot.name))) (body (job_of fs w s.cells (job.Target c.args.id c.args.place.now))) c.args.run.now c.dot_target.new.run how (target_as how c.dot_target.new.of c.dot_target.new.out) h
+    (λ how h. instead fs w s c.dot_target.new.store 31 31 (λ t. Do (job_of fs w s.cells (job.Eval c.in-Dot.e c.args.here.now.at)) t (form_taken fs w s.cells (form.TargetDot c.in-Dot.name))) (body (job_of fs w s.cells (job.Target c.args.id c.args.here.now.at))) c.args.run.now c.dot_target.new.run how (target_as how c.dot_target.new.of c.dot_target.new.out) h
     (λ r. at_target fs code f c.args.id node here c.expr.ensures.same pl (image fs r w s) ∙ ap (λ (e : Expr). target (plain_form (forest_at fs code) e) pl (image fs r w s)) c.in-Dot.is) (omega arith))
     c.dot_target.ensures.comes
 
 pub targets::target_of-returns-in-Sub-clause-comes : goal.targets::target_of-returns-in-Sub-clause-comes
 targets::target_of-returns-in-Sub-clause-comes t c =
-    let fs = trees_of c.args.site.now.codes.now.items in
-    let w = c.args.site.now.widget in
+    let fs = trees_of c.args.here.now.site.now.codes.now.items in
+    let w = c.args.here.now.site.now.widget in
     let s = c.args.store.now in
-    let code = c.args.place.now.code in
-    let f = trees c.tree_at.result.now in
+    let code = c.args.here.now.at.code in
+    let f = trees c.args.here.now.tree.now in
     let node = c.expr.result.now in
-    let here = c.tree_at.ensures in
-    let pl = place_of w s.cells c.args.place.now in
+    let here = c.requires.tree in
+    let pl = place_of w s.cells c.args.here.now.at in
     IfOk-weaker c.sub_target.result _ _
-    (λ how h. instead fs w s c.sub_target.new.store 31 31 (λ t. Do (job_of fs w s.cells (job.Eval c.in-Sub.e c.args.place.now)) t (form_taken fs w s.cells (form.TargetSubBase c.in-Sub.index c.args.place.now))) (body (job_of fs w s.cells (job.Target c.args.id c.args.place.now))) c.args.run.now c.sub_target.new.run how (target_as how c.sub_target.new.of c.sub_target.new.out) h
+    (λ how h. instead fs w s c.sub_target.new.store 31 31 (λ t. Do (job_of fs w s.cells (job.Eval c.in-Sub.e c.args.here.now.at)) t (form_taken fs w s.cells (form.TargetSubBase c.in-Sub.index c.args.here.now.at))) (body (job_of fs w s.cells (job.Target c.args.id c.args.here.now.at))) c.args.run.now c.sub_target.new.run how (target_as how c.sub_target.new.of c.sub_target.new.out) h
     (λ r. at_target fs code f c.args.id node here c.expr.ensures.same pl (image fs r w s) ∙ ap (λ (e : Expr). target (plain_form (forest_at fs code) e) pl (image fs r w s)) c.in-Sub.is) (omega arith))
     c.sub_target.ensures.comes
 
 pub targets::target_of-returns-in_default : goal.targets::target_of-returns-in_default
 targets::target_of-returns-in_default t c =
-    let fs = trees_of c.args.site.now.codes.now.items in
-    let w = c.args.site.now.widget in
+    let fs = trees_of c.args.here.now.site.now.codes.now.items in
+    let w = c.args.here.now.site.now.widget in
     let s = c.args.store.now in
-    let code = c.args.place.now.code in
-    let f = trees c.tree_at.result.now in
+    let code = c.args.here.now.at.code in
+    let f = trees c.args.here.now.tree.now in
     let node = c.expr.result.now in
-    let here = c.tree_at.ensures in
-    let pl = place_of w s.cells c.args.place.now in
+    let here = c.requires.tree in
+    let pl = place_of w s.cells c.args.here.now.at in
     let k = form_taken fs w s.cells form.Found in
     record {
       comes = IfOk-weaker c.found_target.result _ _
-          (λ how h. instead fs w s c.found_target.new.store 31 31 (λ t. and_then (body (job_of fs w s.cells (job.Eval c.args.id c.args.place.now)) t) k) (body (job_of fs w s.cells (job.Target c.args.id c.args.place.now))) c.args.run.now c.found_target.new.run how (target_as how c.found_target.new.of c.found_target.new.out) h
+          (λ how h. instead fs w s c.found_target.new.store 31 31 (λ t. and_then (body (job_of fs w s.cells (job.Eval c.args.id c.args.here.now.at)) t) k) (body (job_of fs w s.cells (job.Target c.args.id c.args.here.now.at))) c.args.run.now c.found_target.new.run how (target_as how c.found_target.new.of c.found_target.new.out) h
           (λ r. at_target fs code f c.args.id node here c.expr.ensures.same pl (image fs r w s)
           ∙ (found_form (forest_at fs code) node pl (image fs r w s) c.in_default.not-Name c.in_default.not-Dot c.in_default.not-Sub
           ∙ ap (λ q. and_then q k) (sym (at_eval fs code f c.args.id node here c.expr.ensures.same pl (image fs r w s))))) (omega arith))
@@ -2883,27 +3532,27 @@ targets::target_of-returns-in_default t c =
 
 pub targets::dot_target-refer_on-requires-clause-ready : goal.targets::dot_target-refer_on-requires-clause-ready
 targets::dot_target-refer_on-requires-clause-ready t c =
-    let fs = trees_of c.args.site.now.codes.now.items in
-    let w = c.args.site.now.widget in
+    let fs = trees_of c.args.here.now.site.now.codes.now.items in
+    let w = c.args.here.now.site.now.widget in
     let s = c.args.store.now in
-    value_ready fs w s c.eval_on.new.store 0 (λ t. Do (job_of fs w s.cells (job.Eval c.args.e c.args.place.now)) t Ret) c.args.run.now c.eval_on.new.run c.in_ok-other.other _ c.in_ok-other.ensures.comes c.in-Is.is c.eval_on.ensures.kept c.requires.ready
+    value_ready fs w s c.eval_on.new.store 0 (λ t. Do (job_of fs w s.cells (job.Eval c.args.e c.args.here.now.at)) t Ret) c.args.run.now c.eval_on.new.run c.in_ok-other.other _ c.in_ok-other.ensures.comes c.in-Is.is c.eval_on.ensures.kept c.requires.ready
 
 pub targets::dot_target-refer_on-requires-clause-held : goal.targets::dot_target-refer_on-requires-clause-held
 targets::dot_target-refer_on-requires-clause-held t c =
-    let fs = trees_of c.args.site.now.codes.now.items in
-    let w = c.args.site.now.widget in
+    let fs = trees_of c.args.here.now.site.now.codes.now.items in
+    let w = c.args.here.now.site.now.widget in
     let s = c.args.store.now in
-    value_fine fs w s c.eval_on.new.store 0 (λ t. Do (job_of fs w s.cells (job.Eval c.args.e c.args.place.now)) t Ret) c.args.run.now c.eval_on.new.run c.in_ok-other.other c.eval_on.new.out c.in_ok-other.ensures.comes c.in-Is.is
+    value_fine fs w s c.eval_on.new.store 0 (λ t. Do (job_of fs w s.cells (job.Eval c.args.e c.args.here.now.at)) t Ret) c.args.run.now c.eval_on.new.run c.in_ok-other.other c.eval_on.new.out c.in_ok-other.ensures.comes c.in-Is.is
 
 pub targets::dot_target-returns-in_ok-share-in-Is-clause-comes : goal.targets::dot_target-returns-in_ok-share-in-Is-clause-comes
 targets::dot_target-returns-in_ok-share-in-Is-clause-comes t c =
-    let fs = trees_of c.args.site.now.codes.now.items in
-    let w = c.args.site.now.widget in
+    let fs = trees_of c.args.here.now.site.now.codes.now.items in
+    let w = c.args.here.now.site.now.widget in
     let s = c.args.store.now in
     let t = c.eval_on.new.store in
     let v = seen w t.cells c.eval_on.new.out in
     IfOk-weaker c.refer_on.result _ _
-    (λ how h. value_then fs w s t c.refer_on.new.store 0 1 31 (λ t. Do (job_of fs w s.cells (job.Eval c.args.e c.args.place.now)) t Ret) (form.TargetDot c.args.name.now) c.args.run.now c.eval_on.new.run c.refer_on.new.run c.in_ok-other.other how c.eval_on.new.out (target_as how c.refer_on.new.of c.refer_on.new.out)
+    (λ how h. value_then fs w s t c.refer_on.new.store 0 1 31 (λ t. Do (job_of fs w s.cells (job.Eval c.args.e c.args.here.now.at)) t Ret) (form.TargetDot c.args.name.now) c.args.run.now c.eval_on.new.run c.refer_on.new.run c.in_ok-other.other how c.eval_on.new.out (target_as how c.refer_on.new.of c.refer_on.new.out)
     c.in_ok-other.ensures.comes c.in-Is.is c.eval_on.ensures.kept tt
     (instead fs w t c.refer_on.new.store 1 1 (refer v c.in_ok-share-in-Is.field-0) (refer v c.args.name.now) c.eval_on.new.run c.refer_on.new.run how (target_as how c.refer_on.new.of c.refer_on.new.out) h
     (λ r. ap (λ (x : List ℕ). refer v x (image fs r w t)) (sym c.in_ok-share-in-Is.ensures)) (omega arith)) (omega arith))
@@ -2911,28 +3560,28 @@ targets::dot_target-returns-in_ok-share-in-Is-clause-comes t c =
 
 pub targets::dot_target-returns-in_ok-share-in-Is-clause-kept : goal.targets::dot_target-returns-in_ok-share-in-Is-clause-kept
 targets::dot_target-returns-in_ok-share-in-Is-clause-kept t c =
-    let fs = trees_of c.args.site.now.codes.now.items in
-    let w = c.args.site.now.widget in
+    let fs = trees_of c.args.here.now.site.now.codes.now.items in
+    let w = c.args.here.now.site.now.widget in
     let s = c.args.store.now in
     kept_then fs w s c.eval_on.new.store c.refer_on.new.store c.eval_on.ensures.kept c.refer_on.ensures.kept
 
 pub targets::dot_target-returns-in_ok-share-in-Left-clause-comes : goal.targets::dot_target-returns-in_ok-share-in-Left-clause-comes
 targets::dot_target-returns-in_ok-share-in-Left-clause-comes t c =
-    let fs = trees_of c.args.site.now.codes.now.items in
-    let w = c.args.site.now.widget in
+    let fs = trees_of c.args.here.now.site.now.codes.now.items in
+    let w = c.args.here.now.site.now.widget in
     let s = c.args.store.now in
-    frame_waits fs w c.wait.result s c.eval_on.new.store 0 31 (λ t. Do (job_of fs w s.cells (job.Eval c.args.e c.args.place.now)) t Ret) (frame.Form (form.TargetDot c.args.name.now)) c.args.run.now c.eval_on.new.run c.wait.new.run c.in_ok-other.other (ended_as c.in_ok-other.other c.eval_on.new.out) (λ h. target_as h c.args.of.now c.eval_on.new.out)
+    frame_waits fs w c.wait.result s c.eval_on.new.store 0 31 (λ t. Do (job_of fs w s.cells (job.Eval c.args.e c.args.here.now.at)) t Ret) (frame.Form (form.TargetDot c.args.name.now)) c.args.run.now c.eval_on.new.run c.wait.new.run c.in_ok-other.other (ended_as c.in_ok-other.other c.eval_on.new.out) (λ h. target_as h c.args.of.now c.eval_on.new.out)
     c.in_ok-other.ensures.comes c.in-Left.is c.eval_on.ensures.kept tt (omega arith) c.wait.ensures.left
     (subst (λ (x : List ℕ). IfOk c.wait.result (λ h. c.wait.new.run.waits.items ≡ c.eval_on.new.run.waits.items ++ frame.Form (form.TargetDot x) ∷ [])) c.in_ok-share-in-Left.ensures c.wait.ensures.waits) c.wait.ensures.next c.wait.ensures.units
 
 pub targets::dot_target-returns-in_default : goal.targets::dot_target-returns-in_default
 targets::dot_target-returns-in_default t c =
-    let fs = trees_of c.args.site.now.codes.now.items in
-    let w = c.args.site.now.widget in
+    let fs = trees_of c.args.here.now.site.now.codes.now.items in
+    let w = c.args.here.now.site.now.widget in
     let s = c.args.store.now in
     record {
-      comes = ends_target fs w s c.eval_on.new.store 31 (λ t. and_then (Do (job_of fs w s.cells (job.Eval c.args.e c.args.place.now)) t Ret) (form_taken fs w s.cells (form.TargetDot c.args.name.now))) c.args.run.now c.eval_on.new.run c.in_ok-other.other c.args.of.now c.eval_on.new.out
-          (value_passes fs w s c.eval_on.new.store 0 31 (λ t. Do (job_of fs w s.cells (job.Eval c.args.e c.args.place.now)) t Ret) (form.TargetDot c.args.name.now) c.args.run.now c.eval_on.new.run c.in_ok-other.other c.eval_on.new.out c.in_ok-other.ensures.comes c.in_default.not-Is c.in_default.not-Left c.eval_on.ensures.kept tt (omega arith)) c.in_default.not-Is;
+      comes = ends_target fs w s c.eval_on.new.store 31 (λ t. and_then (Do (job_of fs w s.cells (job.Eval c.args.e c.args.here.now.at)) t Ret) (form_taken fs w s.cells (form.TargetDot c.args.name.now))) c.args.run.now c.eval_on.new.run c.in_ok-other.other c.args.of.now c.eval_on.new.out
+          (value_passes fs w s c.eval_on.new.store 0 31 (λ t. Do (job_of fs w s.cells (job.Eval c.args.e c.args.here.now.at)) t Ret) (form.TargetDot c.args.name.now) c.args.run.now c.eval_on.new.run c.in_ok-other.other c.eval_on.new.out c.in_ok-other.ensures.comes c.in_default.not-Is c.in_default.not-Left c.eval_on.ensures.kept tt (omega arith)) c.in_default.not-Is;
       kept = c.eval_on.ensures.kept;
     }
 
@@ -2941,55 +3590,58 @@ targets::sub_target-index_target-requires t c = (
   search rules,
   (
     (
-        let fs = trees_of c.args.site.now.codes.now.items in
-        let w = c.args.site.now.widget in
+        let fs = trees_of c.args.here.now.site.now.codes.now.items in
+        let w = c.args.here.now.site.now.widget in
         let s = c.args.store.now in
-        value_ready fs w s c.eval_on.new.store 0 (λ t. Do (job_of fs w s.cells (job.Eval c.args.parts.0 c.args.place.now)) t Ret) c.args.run.now c.eval_on.new.run c.in_ok-other.other _ c.in_ok-other.ensures.comes c.in-Is.is c.eval_on.ensures.kept c.requires.ready
+        value_ready fs w s c.eval_on.new.store 0 (λ t. Do (job_of fs w s.cells (job.Eval c.args.parts.0 c.args.here.now.at)) t Ret) c.args.run.now c.eval_on.new.run c.in_ok-other.other _ c.in_ok-other.ensures.comes c.in-Is.is c.eval_on.ensures.kept c.requires.ready
         ),
     (
-        let fs = trees_of c.args.site.now.codes.now.items in
-        let w = c.args.site.now.widget in
-        let s = c.args.store.now in (
-          expr_stays fs w s.cells c.eval_on.new.store.cells c.eval_on.ensures.kept.grows c.args.parts.1 c.args.place.now c.requires.held.1,
-          value_fine fs w s c.eval_on.new.store 0 (λ t. Do (job_of fs w s.cells (job.Eval c.args.parts.0 c.args.place.now)) t Ret) c.args.run.now c.eval_on.new.run c.in_ok-other.other c.eval_on.new.out c.in_ok-other.ensures.comes c.in-Is.is,
-        )
-        ),
+      (
+          let fs = trees_of c.args.here.now.site.now.codes.now.items in
+          let w = c.args.here.now.site.now.widget in
+          let s = c.args.store.now in (
+            expr_stays fs w s.cells c.eval_on.new.store.cells c.eval_on.ensures.kept.grows c.args.parts.1 c.args.here.now.at c.requires.held.1,
+            value_fine fs w s c.eval_on.new.store 0 (λ t. Do (job_of fs w s.cells (job.Eval c.args.parts.0 c.args.here.now.at)) t Ret) c.args.run.now c.eval_on.new.run c.in_ok-other.other c.eval_on.new.out c.in_ok-other.ensures.comes c.in-Is.is,
+          )
+          ),
+      c.requires.tree,
+    ),
   ),
 )
 
 pub targets::sub_target-returns-in-Is-clause-comes : goal.targets::sub_target-returns-in-Is-clause-comes
 targets::sub_target-returns-in-Is-clause-comes t c =
-    let fs = trees_of c.args.site.now.codes.now.items in
-    let w = c.args.site.now.widget in
+    let fs = trees_of c.args.here.now.site.now.codes.now.items in
+    let w = c.args.here.now.site.now.widget in
     let s = c.args.store.now in
     IfOk-weaker c.index_target.result _ _
-    (λ how h. value_then fs w s c.eval_on.new.store c.index_target.new.store 0 1 31 (λ t. Do (job_of fs w s.cells (job.Eval c.args.parts.0 c.args.place.now)) t Ret) (form.TargetSubBase c.args.parts.1 c.args.place.now) c.args.run.now c.eval_on.new.run c.index_target.new.run c.in_ok-other.other how c.eval_on.new.out (target_as how c.index_target.new.of c.index_target.new.out)
+    (λ how h. value_then fs w s c.eval_on.new.store c.index_target.new.store 0 1 31 (λ t. Do (job_of fs w s.cells (job.Eval c.args.parts.0 c.args.here.now.at)) t Ret) (form.TargetSubBase c.args.parts.1 c.args.here.now.at) c.args.run.now c.eval_on.new.run c.index_target.new.run c.in_ok-other.other how c.eval_on.new.out (target_as how c.index_target.new.of c.index_target.new.out)
     c.in_ok-other.ensures.comes c.in-Is.is c.eval_on.ensures.kept c.requires.held.1 h (omega arith))
     c.index_target.ensures.comes
 
 pub targets::sub_target-returns-in-Is-clause-kept : goal.targets::sub_target-returns-in-Is-clause-kept
 targets::sub_target-returns-in-Is-clause-kept t c =
-    let fs = trees_of c.args.site.now.codes.now.items in
-    let w = c.args.site.now.widget in
+    let fs = trees_of c.args.here.now.site.now.codes.now.items in
+    let w = c.args.here.now.site.now.widget in
     let s = c.args.store.now in
     kept_then fs w s c.eval_on.new.store c.index_target.new.store c.eval_on.ensures.kept c.index_target.ensures.kept
 
 pub targets::sub_target-returns-in-Left-clause-comes : goal.targets::sub_target-returns-in-Left-clause-comes
 targets::sub_target-returns-in-Left-clause-comes t c =
-    let fs = trees_of c.args.site.now.codes.now.items in
-    let w = c.args.site.now.widget in
+    let fs = trees_of c.args.here.now.site.now.codes.now.items in
+    let w = c.args.here.now.site.now.widget in
     let s = c.args.store.now in
-    frame_waits fs w c.wait.result s c.eval_on.new.store 0 31 (λ t. Do (job_of fs w s.cells (job.Eval c.args.parts.0 c.args.place.now)) t Ret) (frame.Form (form.TargetSubBase c.args.parts.1 c.args.place.now)) c.args.run.now c.eval_on.new.run c.wait.new.run c.in_ok-other.other (ended_as c.in_ok-other.other c.eval_on.new.out) (λ h. target_as h c.args.of.now c.eval_on.new.out)
+    frame_waits fs w c.wait.result s c.eval_on.new.store 0 31 (λ t. Do (job_of fs w s.cells (job.Eval c.args.parts.0 c.args.here.now.at)) t Ret) (frame.Form (form.TargetSubBase c.args.parts.1 c.args.here.now.at)) c.args.run.now c.eval_on.new.run c.wait.new.run c.in_ok-other.other (ended_as c.in_ok-other.other c.eval_on.new.out) (λ h. target_as h c.args.of.now c.eval_on.new.out)
     c.in_ok-other.ensures.comes c.in-Left.is c.eval_on.ensures.kept c.requires.held.1 (omega arith) c.wait.ensures.left c.wait.ensures.waits c.wait.ensures.next c.wait.ensures.units
 
 pub targets::sub_target-returns-in_default : goal.targets::sub_target-returns-in_default
 targets::sub_target-returns-in_default t c =
-    let fs = trees_of c.args.site.now.codes.now.items in
-    let w = c.args.site.now.widget in
+    let fs = trees_of c.args.here.now.site.now.codes.now.items in
+    let w = c.args.here.now.site.now.widget in
     let s = c.args.store.now in
     record {
-      comes = ends_target fs w s c.eval_on.new.store 31 (λ t. and_then (Do (job_of fs w s.cells (job.Eval c.args.parts.0 c.args.place.now)) t Ret) (form_taken fs w s.cells (form.TargetSubBase c.args.parts.1 c.args.place.now))) c.args.run.now c.eval_on.new.run c.in_ok-other.other c.args.of.now c.eval_on.new.out
-          (value_passes fs w s c.eval_on.new.store 0 31 (λ t. Do (job_of fs w s.cells (job.Eval c.args.parts.0 c.args.place.now)) t Ret) (form.TargetSubBase c.args.parts.1 c.args.place.now) c.args.run.now c.eval_on.new.run c.in_ok-other.other c.eval_on.new.out c.in_ok-other.ensures.comes c.in_default.not-Is c.in_default.not-Left c.eval_on.ensures.kept c.requires.held.1 (omega arith)) c.in_default.not-Is;
+      comes = ends_target fs w s c.eval_on.new.store 31 (λ t. and_then (Do (job_of fs w s.cells (job.Eval c.args.parts.0 c.args.here.now.at)) t Ret) (form_taken fs w s.cells (form.TargetSubBase c.args.parts.1 c.args.here.now.at))) c.args.run.now c.eval_on.new.run c.in_ok-other.other c.args.of.now c.eval_on.new.out
+          (value_passes fs w s c.eval_on.new.store 0 31 (λ t. Do (job_of fs w s.cells (job.Eval c.args.parts.0 c.args.here.now.at)) t Ret) (form.TargetSubBase c.args.parts.1 c.args.here.now.at) c.args.run.now c.eval_on.new.run c.in_ok-other.other c.eval_on.new.out c.in_ok-other.ensures.comes c.in_default.not-Is c.in_default.not-Left c.eval_on.ensures.kept c.requires.held.1 (omega arith)) c.in_default.not-Is;
       kept = c.eval_on.ensures.kept;
     }
 
@@ -2999,490 +3651,108 @@ targets::index_target-index_of_target-requires t c = (
   (
     search rules,
     (
-        let fs = trees_of c.args.site.now.codes.now.items in
-        let w = c.args.site.now.widget in
-        let s = c.args.store.now in
-        (c.requires.held.0, subst (λ (v : Value2). IsFine w s.cells v) (sym c.take_value-base.ensures.taken) c.requires.held.1)
-        ),
+      (
+          let fs = trees_of c.args.here.now.site.now.codes.now.items in
+          let w = c.args.here.now.site.now.widget in
+          let s = c.args.store.now in
+          (c.requires.held.0, subst (λ (v : Value2). IsFine w s.cells v) (sym c.take_value-base.ensures.taken) c.requires.held.1)
+          ),
+      c.requires.tree,
+    ),
   ),
 )
 
 pub targets::index_target-returns-clause-comes : goal.targets::index_target-returns-clause-comes
 targets::index_target-returns-clause-comes t c =
-    let fs = trees_of c.args.site.now.codes.now.items in
-    let w = c.args.site.now.widget in
+    let fs = trees_of c.args.here.now.site.now.codes.now.items in
+    let w = c.args.here.now.site.now.widget in
     let s = c.args.store.now in
     IfOk-weaker c.index_of_target.result _ _
-    (λ how h. instead fs w s c.index_of_target.new.store 1 1 (λ t. Do (job_of fs w s.cells (job.Eval c.args.index c.args.place.now)) t (form_taken fs w s.cells (form.TargetSub c.take_value-base.result)))
-    (λ t. Do (job_of fs w s.cells (job.Eval c.args.index c.args.place.now)) t (form_taken fs w s.cells (form.TargetSub c.args.out.now))) c.args.run.now c.index_of_target.new.run how (target_as how c.index_of_target.new.of c.index_of_target.new.out) h
-    (λ r. ap (λ (v : Value2). Do (job_of fs w s.cells (job.Eval c.args.index c.args.place.now)) (image fs r w s) (form_taken fs w s.cells (form.TargetSub v))) (sym c.take_value-base.ensures.taken)) (omega arith))
+    (λ how h. instead fs w s c.index_of_target.new.store 1 1 (λ t. Do (job_of fs w s.cells (job.Eval c.args.index c.args.here.now.at)) t (form_taken fs w s.cells (form.TargetSub c.take_value-base.result)))
+    (λ t. Do (job_of fs w s.cells (job.Eval c.args.index c.args.here.now.at)) t (form_taken fs w s.cells (form.TargetSub c.args.out.now))) c.args.run.now c.index_of_target.new.run how (target_as how c.index_of_target.new.of c.index_of_target.new.out) h
+    (λ r. ap (λ (v : Value2). Do (job_of fs w s.cells (job.Eval c.args.index c.args.here.now.at)) (image fs r w s) (form_taken fs w s.cells (form.TargetSub v))) (sym c.take_value-base.ensures.taken)) (omega arith))
     c.index_of_target.ensures.comes
 
 pub targets::index_of_target-refer_by-requires-clause-ready : goal.targets::index_of_target-refer_by-requires-clause-ready
 targets::index_of_target-refer_by-requires-clause-ready t c =
-    let fs = trees_of c.args.site.now.codes.now.items in
-    let w = c.args.site.now.widget in
+    let fs = trees_of c.args.here.now.site.now.codes.now.items in
+    let w = c.args.here.now.site.now.widget in
     let s = c.args.store.now in
-    value_ready fs w s c.eval_on.new.store 0 (λ t. Do (job_of fs w s.cells (job.Eval c.args.index c.args.place.now)) t Ret) c.args.run.now c.eval_on.new.run c.in_ok-other.other _ c.in_ok-other.ensures.comes c.in-Is.is c.eval_on.ensures.kept c.requires.ready
+    value_ready fs w s c.eval_on.new.store 0 (λ t. Do (job_of fs w s.cells (job.Eval c.args.index c.args.here.now.at)) t Ret) c.args.run.now c.eval_on.new.run c.in_ok-other.other _ c.in_ok-other.ensures.comes c.in-Is.is c.eval_on.ensures.kept c.requires.ready
 
 pub targets::index_of_target-refer_by-requires-clause-held : goal.targets::index_of_target-refer_by-requires-clause-held
 targets::index_of_target-refer_by-requires-clause-held t c =
-    let fs = trees_of c.args.site.now.codes.now.items in
-    let w = c.args.site.now.widget in
+    let fs = trees_of c.args.here.now.site.now.codes.now.items in
+    let w = c.args.here.now.site.now.widget in
     let s = c.args.store.now in
     fine_stays w s.cells c.eval_on.new.store.cells c.eval_on.ensures.kept.grows c.args.base.now c.requires.held.1
 
 pub targets::index_of_target-returns-in-Is-clause-comes : goal.targets::index_of_target-returns-in-Is-clause-comes
 targets::index_of_target-returns-in-Is-clause-comes t c =
-    let fs = trees_of c.args.site.now.codes.now.items in
-    let w = c.args.site.now.widget in
+    let fs = trees_of c.args.here.now.site.now.codes.now.items in
+    let w = c.args.here.now.site.now.widget in
     let s = c.args.store.now in
     IfOk-weaker c.refer_by.result _ _
-    (λ how h. value_then fs w s c.eval_on.new.store c.refer_by.new.store 0 1 1 (λ t. Do (job_of fs w s.cells (job.Eval c.args.index c.args.place.now)) t Ret) (form.TargetSub c.args.base.now) c.args.run.now c.eval_on.new.run c.refer_by.new.run c.in_ok-other.other how c.eval_on.new.out (target_as how c.refer_by.new.of c.refer_by.new.out)
+    (λ how h. value_then fs w s c.eval_on.new.store c.refer_by.new.store 0 1 1 (λ t. Do (job_of fs w s.cells (job.Eval c.args.index c.args.here.now.at)) t Ret) (form.TargetSub c.args.base.now) c.args.run.now c.eval_on.new.run c.refer_by.new.run c.in_ok-other.other how c.eval_on.new.out (target_as how c.refer_by.new.of c.refer_by.new.out)
     c.in_ok-other.ensures.comes c.in-Is.is c.eval_on.ensures.kept c.requires.held.1 h (omega arith))
     c.refer_by.ensures.comes
 
 pub targets::index_of_target-returns-in-Is-clause-kept : goal.targets::index_of_target-returns-in-Is-clause-kept
 targets::index_of_target-returns-in-Is-clause-kept t c =
-    let fs = trees_of c.args.site.now.codes.now.items in
-    let w = c.args.site.now.widget in
+    let fs = trees_of c.args.here.now.site.now.codes.now.items in
+    let w = c.args.here.now.site.now.widget in
     let s = c.args.store.now in
     kept_then fs w s c.eval_on.new.store c.refer_by.new.store c.eval_on.ensures.kept c.refer_by.ensures.kept
 
 pub targets::index_of_target-returns-in-Left-clause-comes : goal.targets::index_of_target-returns-in-Left-clause-comes
 targets::index_of_target-returns-in-Left-clause-comes t c =
-    let fs = trees_of c.args.site.now.codes.now.items in
-    let w = c.args.site.now.widget in
+    let fs = trees_of c.args.here.now.site.now.codes.now.items in
+    let w = c.args.here.now.site.now.widget in
     let s = c.args.store.now in
-    frame_waits fs w c.wait.result s c.eval_on.new.store 0 1 (λ t. Do (job_of fs w s.cells (job.Eval c.args.index c.args.place.now)) t Ret) (frame.Form (form.TargetSub c.args.base.now)) c.args.run.now c.eval_on.new.run c.wait.new.run c.in_ok-other.other (ended_as c.in_ok-other.other c.eval_on.new.out) (λ h. target_as h c.args.of.now c.eval_on.new.out)
+    frame_waits fs w c.wait.result s c.eval_on.new.store 0 1 (λ t. Do (job_of fs w s.cells (job.Eval c.args.index c.args.here.now.at)) t Ret) (frame.Form (form.TargetSub c.args.base.now)) c.args.run.now c.eval_on.new.run c.wait.new.run c.in_ok-other.other (ended_as c.in_ok-other.other c.eval_on.new.out) (λ h. target_as h c.args.of.now c.eval_on.new.out)
     c.in_ok-other.ensures.comes c.in-Left.is c.eval_on.ensures.kept c.requires.held.1 (omega arith) c.wait.ensures.left
     (subst (λ (v : Value2). IfOk c.wait.result (λ h. c.wait.new.run.waits.items ≡ c.eval_on.new.run.waits.items ++ frame.Form (form.TargetSub v) ∷ [])) c.take_value.ensures.taken c.wait.ensures.waits) c.wait.ensures.next c.wait.ensures.units
 
 pub targets::index_of_target-returns-in_default : goal.targets::index_of_target-returns-in_default
 targets::index_of_target-returns-in_default t c =
-    let fs = trees_of c.args.site.now.codes.now.items in
-    let w = c.args.site.now.widget in
+    let fs = trees_of c.args.here.now.site.now.codes.now.items in
+    let w = c.args.here.now.site.now.widget in
     let s = c.args.store.now in
     record {
-      comes = ends_target fs w s c.eval_on.new.store 1 (λ t. and_then (Do (job_of fs w s.cells (job.Eval c.args.index c.args.place.now)) t Ret) (form_taken fs w s.cells (form.TargetSub c.args.base.now))) c.args.run.now c.eval_on.new.run c.in_ok-other.other c.args.of.now c.eval_on.new.out
-          (value_passes fs w s c.eval_on.new.store 0 1 (λ t. Do (job_of fs w s.cells (job.Eval c.args.index c.args.place.now)) t Ret) (form.TargetSub c.args.base.now) c.args.run.now c.eval_on.new.run c.in_ok-other.other c.eval_on.new.out c.in_ok-other.ensures.comes c.in_default.not-Is c.in_default.not-Left c.eval_on.ensures.kept c.requires.held.1 (omega arith)) c.in_default.not-Is;
+      comes = ends_target fs w s c.eval_on.new.store 1 (λ t. and_then (Do (job_of fs w s.cells (job.Eval c.args.index c.args.here.now.at)) t Ret) (form_taken fs w s.cells (form.TargetSub c.args.base.now))) c.args.run.now c.eval_on.new.run c.in_ok-other.other c.args.of.now c.eval_on.new.out
+          (value_passes fs w s c.eval_on.new.store 0 1 (λ t. Do (job_of fs w s.cells (job.Eval c.args.index c.args.here.now.at)) t Ret) (form.TargetSub c.args.base.now) c.args.run.now c.eval_on.new.run c.in_ok-other.other c.eval_on.new.out c.in_ok-other.ensures.comes c.in_default.not-Is c.in_default.not-Left c.eval_on.ensures.kept c.requires.held.1 (omega arith)) c.in_default.not-Is;
       kept = c.eval_on.ensures.kept;
     }
 
 pub targets::found_target-returns-in-Is-clause-comes : goal.targets::found_target-returns-in-Is-clause-comes
 targets::found_target-returns-in-Is-clause-comes t c =
-    let fs = trees_of c.args.site.now.codes.now.items in
-    let w = c.args.site.now.widget in
+    let fs = trees_of c.args.here.now.site.now.codes.now.items in
+    let w = c.args.here.now.site.now.widget in
     let s = c.args.store.now in
     let t = c.form_on.new.store in
     let v = c.form_on.new.out in
     let same = c.set_reference.ensures ∙ ap reference.Found c.take_value.ensures.taken in
-    value_then fs w s t t 30 1 31 (body (job_of fs w s.cells (job.Eval c.args.id c.args.place.now))) form.Found c.args.run.now c.form_on.new.run c.form_on.new.run c.in_ok-other.other ended.Is v (target_as ended.Is c.set_reference.new.of c.take_value.new.out)
+    value_then fs w s t t 30 1 31 (body (job_of fs w s.cells (job.Eval c.args.id c.args.here.now.at))) form.Found c.args.run.now c.form_on.new.run c.form_on.new.run c.in_ok-other.other ended.Is v (target_as ended.Is c.set_reference.new.of c.take_value.new.out)
     c.in_ok-other.ensures.comes c.in-Is.is c.form_on.ensures.kept tt
     (gives_at fs w t 1 (λ x. Ret (meaning.Refers (meaning.Found (seen w t.cells v))) x) c.form_on.new.run (reference.Found v) c.set_reference.new.of c.take_value.new.out same
-    (value_ready fs w s t 30 (body (job_of fs w s.cells (job.Eval c.args.id c.args.place.now))) c.args.run.now c.form_on.new.run c.in_ok-other.other (ended_as c.in_ok-other.other v) c.in_ok-other.ensures.comes c.in-Is.is c.form_on.ensures.kept c.requires.ready).2
-    (λ r. refl) (value_fine fs w s t 30 (body (job_of fs w s.cells (job.Eval c.args.id c.args.place.now))) c.args.run.now c.form_on.new.run c.in_ok-other.other v c.in_ok-other.ensures.comes c.in-Is.is) (omega arith)) (omega arith)
+    (value_ready fs w s t 30 (body (job_of fs w s.cells (job.Eval c.args.id c.args.here.now.at))) c.args.run.now c.form_on.new.run c.in_ok-other.other (ended_as c.in_ok-other.other v) c.in_ok-other.ensures.comes c.in-Is.is c.form_on.ensures.kept c.requires.ready).2
+    (λ r. refl) (value_fine fs w s t 30 (body (job_of fs w s.cells (job.Eval c.args.id c.args.here.now.at))) c.args.run.now c.form_on.new.run c.in_ok-other.other v c.in_ok-other.ensures.comes c.in-Is.is) (omega arith)) (omega arith)
 
 pub targets::found_target-returns-in-Left-clause-comes : goal.targets::found_target-returns-in-Left-clause-comes
 targets::found_target-returns-in-Left-clause-comes t c =
-    let fs = trees_of c.args.site.now.codes.now.items in
-    let w = c.args.site.now.widget in
+    let fs = trees_of c.args.here.now.site.now.codes.now.items in
+    let w = c.args.here.now.site.now.widget in
     let s = c.args.store.now in
-    frame_waits fs w c.wait.result s c.form_on.new.store 30 31 (body (job_of fs w s.cells (job.Eval c.args.id c.args.place.now))) (frame.Form (form.Found)) c.args.run.now c.form_on.new.run c.wait.new.run c.in_ok-other.other (ended_as c.in_ok-other.other c.form_on.new.out) (λ h. target_as h c.args.of.now c.form_on.new.out)
+    frame_waits fs w c.wait.result s c.form_on.new.store 30 31 (body (job_of fs w s.cells (job.Eval c.args.id c.args.here.now.at))) (frame.Form (form.Found)) c.args.run.now c.form_on.new.run c.wait.new.run c.in_ok-other.other (ended_as c.in_ok-other.other c.form_on.new.out) (λ h. target_as h c.args.of.now c.form_on.new.out)
     c.in_ok-other.ensures.comes c.in-Left.is c.form_on.ensures.kept tt (omega arith) c.wait.ensures.left c.wait.ensures.waits c.wait.ensures.next c.wait.ensures.units
 
 pub targets::found_target-returns-in_default : goal.targets::found_target-returns-in_default
 targets::found_target-returns-in_default t c =
-    let fs = trees_of c.args.site.now.codes.now.items in
-    let w = c.args.site.now.widget in
+    let fs = trees_of c.args.here.now.site.now.codes.now.items in
+    let w = c.args.here.now.site.now.widget in
     let s = c.args.store.now in
     record {
-      comes = ends_target fs w s c.form_on.new.store 31 (λ t. and_then ((body (job_of fs w s.cells (job.Eval c.args.id c.args.place.now))) t) (form_taken fs w s.cells (form.Found))) c.args.run.now c.form_on.new.run c.in_ok-other.other c.args.of.now c.form_on.new.out
-          (value_passes fs w s c.form_on.new.store 30 31 (body (job_of fs w s.cells (job.Eval c.args.id c.args.place.now))) (form.Found) c.args.run.now c.form_on.new.run c.in_ok-other.other c.form_on.new.out c.in_ok-other.ensures.comes c.in_default.not-Is c.in_default.not-Left c.form_on.ensures.kept tt (omega arith)) c.in_default.not-Is;
+      comes = ends_target fs w s c.form_on.new.store 31 (λ t. and_then ((body (job_of fs w s.cells (job.Eval c.args.id c.args.here.now.at))) t) (form_taken fs w s.cells (form.Found))) c.args.run.now c.form_on.new.run c.in_ok-other.other c.args.of.now c.form_on.new.out
+          (value_passes fs w s c.form_on.new.store 30 31 (body (job_of fs w s.cells (job.Eval c.args.id c.args.here.now.at))) (form.Found) c.args.run.now c.form_on.new.run c.in_ok-other.other c.form_on.new.out c.in_ok-other.ensures.comes c.in_default.not-Is c.in_default.not-Left c.form_on.ensures.kept tt (omega arith)) c.in_default.not-Is;
       kept = c.form_on.ensures.kept;
-    }
-
-pub targets::assign_on-returns-in-Assign-clause-comes : goal.targets::assign_on-returns-in-Assign-clause-comes
-targets::assign_on-returns-in-Assign-clause-comes t c =
-    let fs = trees_of c.args.site.now.codes.now.items in
-    let w = c.args.site.now.widget in
-    let s = c.args.store.now in
-    let j = job_of fs w s.cells (job.Target c.args.parts.0 c.args.place.now) in
-    let p = λ (o : AssignOp) (t : State). Do j t (form_taken fs w s.cells (form.AssignTarget o c.args.parts.1 c.args.place.now)) in
-    IfOk-weaker c.assign_plain.result _ _
-    (λ how h. instead fs w s c.assign_plain.new.store 30 30 (p assignment.Assign) (p c.args.op) c.args.run.now c.assign_plain.new.run how (ended_as how c.assign_plain.new.out) h
-    (λ r. ap (λ (o : AssignOp). p o (image fs r w s)) c.in-Assign.is) (omega arith))
-    c.assign_plain.ensures.comes
-
-pub targets::assign_plain-returns-in-Name-clause-comes : goal.targets::assign_plain-returns-in-Name-clause-comes
-targets::assign_plain-returns-in-Name-clause-comes t c =
-    let fs = trees_of c.args.site.now.codes.now.items in
-    let w = c.args.site.now.widget in
-    let s = c.args.store.now in
-    let code = c.args.place.now.code in
-    let f = trees c.tree_at.result.now in
-    let node = c.expr.result.now in
-    let here = c.tree_at.ensures in
-    let pl = place_of w s.cells c.args.place.now in
-    let j = job_of fs w s.cells (job.Target c.args.parts.0 c.args.place.now) in
-    let k = form_taken fs w s.cells (form.AssignTarget assignment.Assign c.args.parts.1 c.args.place.now) in
-    let p = λ (t : State). Do (job_of fs w s.cells (job.Eval c.args.parts.1 c.args.place.now)) t (form_taken fs w s.cells (form.Write (reference.Variable c.in-Name.name) c.args.place.now)) in
-    IfOk-weaker c.assign_name.result _ _
-    (λ how h. unit_first fs w s c.assign_name.new.store 1 30 j p k c.args.run.now (record c.args.run.now { units = c.args.run.now.units - 1 }) c.assign_name.new.run how (ended_as how c.assign_name.new.out) (less_one c.args.run.now.units c.if-run-eq0.false)
-    (λ x. ap (λ q. and_then q k) (at_target fs code f c.args.parts.0 node here c.expr.ensures.same pl x ∙ ap (λ (e : Expr). target (plain_form (forest_at fs code) e) pl x) c.in-Name.is)) h (omega arith))
-    c.assign_name.ensures.comes
-
-pub targets::assign_name-write_name-requires-clause-ready : goal.targets::assign_name-write_name-requires-clause-ready
-targets::assign_name-write_name-requires-clause-ready t c =
-    let fs = trees_of c.args.site.now.codes.now.items in
-    let w = c.args.site.now.widget in
-    let s = c.args.store.now in
-    value_ready fs w s c.eval_on.new.store 0 (λ t. Do (job_of fs w s.cells (job.Eval c.args.e c.args.place.now)) t Ret) c.args.run.now c.eval_on.new.run c.in_ok-other.other _ c.in_ok-other.ensures.comes c.in-Is.is c.eval_on.ensures.kept c.requires.ready
-
-pub targets::assign_name-write_name-requires-clause-to : goal.targets::assign_name-write_name-requires-clause-to
-targets::assign_name-write_name-requires-clause-to t c =
-    let fs = trees_of c.args.site.now.codes.now.items in
-    let w = c.args.site.now.widget in
-    let s = c.args.store.now in
-    place_fine fs w s.cells c.eval_on.new.store.cells c.eval_on.ensures.kept.grows c.args.place.now c.requires.held.0
-
-pub targets::assign_name-write_name-requires-clause-value : goal.targets::assign_name-write_name-requires-clause-value
-targets::assign_name-write_name-requires-clause-value t c =
-    let fs = trees_of c.args.site.now.codes.now.items in
-    let w = c.args.site.now.widget in
-    let s = c.args.store.now in
-    value_fine fs w s c.eval_on.new.store 0 (λ t. Do (job_of fs w s.cells (job.Eval c.args.e c.args.place.now)) t Ret) c.args.run.now c.eval_on.new.run c.in_ok-other.other c.eval_on.new.out c.in_ok-other.ensures.comes c.in-Is.is
-
-pub targets::assign_name-returns-in-Is-clause-comes : goal.targets::assign_name-returns-in-Is-clause-comes
-targets::assign_name-returns-in-Is-clause-comes t c =
-    let fs = trees_of c.args.site.now.codes.now.items in
-    let w = c.args.site.now.widget in
-    let s = c.args.store.now in
-    IfOk-weaker c.write_name.result _ _
-    (λ how h. value_then fs w s c.eval_on.new.store c.write_name.new.store 0 1 1 (λ t. Do (job_of fs w s.cells (job.Eval c.args.e c.args.place.now)) t Ret) (form.Write (reference.Variable c.args.name.now) c.args.place.now) c.args.run.now c.eval_on.new.run c.eval_on.new.run c.in_ok-other.other how c.eval_on.new.out (ended_as how c.eval_on.new.out)
-    c.in_ok-other.ensures.comes c.in-Is.is c.eval_on.ensures.kept (tt, c.requires.held.0) h (omega arith))
-    c.write_name.ensures.comes
-
-pub targets::assign_name-returns-in-Is-clause-kept : goal.targets::assign_name-returns-in-Is-clause-kept
-targets::assign_name-returns-in-Is-clause-kept t c =
-    let fs = trees_of c.args.site.now.codes.now.items in
-    let w = c.args.site.now.widget in
-    let s = c.args.store.now in
-    kept_then fs w s c.eval_on.new.store c.write_name.new.store c.eval_on.ensures.kept c.write_name.ensures.kept
-
-pub targets::assign_name-returns-in-Left-clause-comes : goal.targets::assign_name-returns-in-Left-clause-comes
-targets::assign_name-returns-in-Left-clause-comes t c =
-    let fs = trees_of c.args.site.now.codes.now.items in
-    let w = c.args.site.now.widget in
-    let s = c.args.store.now in
-    frame_waits fs w c.wait_write.result s c.eval_on.new.store 0 1 (λ t. Do (job_of fs w s.cells (job.Eval c.args.e c.args.place.now)) t Ret) (frame.Form (form.Write (reference.Variable c.args.name.now) c.args.place.now)) c.args.run.now c.eval_on.new.run c.wait_write.new.run c.in_ok-other.other (ended_as c.in_ok-other.other c.eval_on.new.out) (λ h. ended_as h c.eval_on.new.out)
-    c.in_ok-other.ensures.comes c.in-Left.is c.eval_on.ensures.kept (tt, c.requires.held.0) (omega arith) c.wait_write.ensures.left c.wait_write.ensures.waits c.wait_write.ensures.next c.wait_write.ensures.units
-
-pub targets::assign_name-returns-in_default : goal.targets::assign_name-returns-in_default
-targets::assign_name-returns-in_default t c =
-    let fs = trees_of c.args.site.now.codes.now.items in
-    let w = c.args.site.now.widget in
-    let s = c.args.store.now in
-    record {
-      comes = value_passes fs w s c.eval_on.new.store 0 1 (λ t. Do (job_of fs w s.cells (job.Eval c.args.e c.args.place.now)) t Ret) (form.Write (reference.Variable c.args.name.now) c.args.place.now) c.args.run.now c.eval_on.new.run c.in_ok-other.other c.eval_on.new.out c.in_ok-other.ensures.comes c.in_default.not-Is c.in_default.not-Left c.eval_on.ensures.kept (tt, c.requires.held.0) (omega arith);
-      kept = c.eval_on.ensures.kept;
-    }
-
-pub targets::assign_reached-assign_value-requires : goal.targets::assign_reached-assign_value-requires
-targets::assign_reached-assign_value-requires t c = (
-  search rules,
-  (
-    (
-        let fs = trees_of c.args.site.now.codes.now.items in
-        let w = c.args.site.now.widget in
-        let s = c.args.store.now in
-        value_ready fs w s c.target_on.new.store 0 (λ t. Do (job_of fs w s.cells (job.Target c.args.parts.0 c.args.place.now)) t Ret) c.args.run.now c.target_on.new.run c.in_ok-other.other _ c.in_ok-other.ensures.comes c.in-Is.is c.target_on.ensures.kept c.requires.ready
-        ),
-    (
-        let fs = trees_of c.args.site.now.codes.now.items in
-        let w = c.args.site.now.widget in
-        let s = c.args.store.now in (
-          expr_stays fs w s.cells c.target_on.new.store.cells c.target_on.ensures.kept.grows c.args.parts.1 c.args.place.now c.requires.held.1,
-          target_fine fs w s c.target_on.new.store 0 (λ t. Do (job_of fs w s.cells (job.Target c.args.parts.0 c.args.place.now)) t Ret) c.args.run.now c.target_on.new.run c.in_ok-other.other c.target_on.new.of c.target_on.new.out c.in_ok-other.ensures.comes c.in-Is.is,
-        )
-        ),
-  ),
-)
-
-pub targets::assign_reached-returns-in-Is-clause-comes : goal.targets::assign_reached-returns-in-Is-clause-comes
-targets::assign_reached-returns-in-Is-clause-comes t c =
-    let fs = trees_of c.args.site.now.codes.now.items in
-    let w = c.args.site.now.widget in
-    let s = c.args.store.now in
-    IfOk-weaker c.assign_value.result _ _
-    (λ how h. target_then fs w s c.target_on.new.store c.assign_value.new.store 0 12 30 (λ t. Do (job_of fs w s.cells (job.Target c.args.parts.0 c.args.place.now)) t Ret) (form.AssignTarget c.args.op c.args.parts.1 c.args.place.now) c.args.run.now c.target_on.new.run c.assign_value.new.run c.in_ok-other.other how c.target_on.new.of c.target_on.new.out (ended_as how c.assign_value.new.out)
-    c.in_ok-other.ensures.comes c.in-Is.is c.target_on.ensures.kept c.requires.held.1 h (omega arith))
-    c.assign_value.ensures.comes
-
-pub targets::assign_reached-returns-in-Is-clause-kept : goal.targets::assign_reached-returns-in-Is-clause-kept
-targets::assign_reached-returns-in-Is-clause-kept t c =
-    let fs = trees_of c.args.site.now.codes.now.items in
-    let w = c.args.site.now.widget in
-    let s = c.args.store.now in
-    kept_then fs w s c.target_on.new.store c.assign_value.new.store c.target_on.ensures.kept c.assign_value.ensures.kept
-
-pub targets::assign_reached-returns-in-Left-clause-comes : goal.targets::assign_reached-returns-in-Left-clause-comes
-targets::assign_reached-returns-in-Left-clause-comes t c =
-    let fs = trees_of c.args.site.now.codes.now.items in
-    let w = c.args.site.now.widget in
-    let s = c.args.store.now in
-    frame_waits fs w c.wait_target.result s c.target_on.new.store 0 30 (λ t. Do (job_of fs w s.cells (job.Target c.args.parts.0 c.args.place.now)) t Ret) (frame.Form (form.AssignTarget c.args.op c.args.parts.1 c.args.place.now)) c.args.run.now c.target_on.new.run c.wait_target.new.run c.in_ok-other.other (target_as c.in_ok-other.other c.target_on.new.of c.target_on.new.out) (λ h. ended_as h c.target_on.new.out)
-    c.in_ok-other.ensures.comes c.in-Left.is c.target_on.ensures.kept c.requires.held.1 (omega arith) c.wait_target.ensures.left c.wait_target.ensures.waits c.wait_target.ensures.next c.wait_target.ensures.units
-
-pub targets::assign_reached-returns-in_default : goal.targets::assign_reached-returns-in_default
-targets::assign_reached-returns-in_default t c =
-    let fs = trees_of c.args.site.now.codes.now.items in
-    let w = c.args.site.now.widget in
-    let s = c.args.store.now in
-    record {
-      comes = value_passes fs w s c.target_on.new.store 0 30 (λ t. Do (job_of fs w s.cells (job.Target c.args.parts.0 c.args.place.now)) t Ret) (form.AssignTarget c.args.op c.args.parts.1 c.args.place.now) c.args.run.now c.target_on.new.run c.in_ok-other.other c.target_on.new.out
-          (target_ends fs w s c.target_on.new.store 0 (λ t. Do (job_of fs w s.cells (job.Target c.args.parts.0 c.args.place.now)) t Ret) c.args.run.now c.target_on.new.run c.in_ok-other.other c.target_on.new.of c.target_on.new.out c.in_ok-other.ensures.comes c.in_default.not-Is) c.in_default.not-Is c.in_default.not-Left c.target_on.ensures.kept c.requires.held.1 (omega arith);
-      kept = c.target_on.ensures.kept;
-    }
-
-pub targets::assign_value-returns-in-Assign-clause-comes : goal.targets::assign_value-returns-in-Assign-clause-comes
-targets::assign_value-returns-in-Assign-clause-comes t c =
-    let fs = trees_of c.args.site.now.codes.now.items in
-    let w = c.args.site.now.widget in
-    let s = c.args.store.now in
-    let p = λ (o : AssignOp) (t : State). form_taken fs w s.cells (form.AssignTarget o c.args.e c.args.place.now) (meaning.Refers (reference_of w s.cells c.args.of.now)) t in
-    IfOk-weaker c.assign_written.result _ _
-    (λ how h. instead fs w s c.assign_written.new.store 1 12 (p assignment.Assign) (p c.args.op) c.args.run.now c.assign_written.new.run how (ended_as how c.assign_written.new.out) h
-    (λ r. ap (λ (o : AssignOp). p o (image fs r w s)) c.in-Assign.is) (omega arith))
-    c.assign_written.ensures.comes
-
-pub targets::assign_written-write_value-requires-clause-ready : goal.targets::assign_written-write_value-requires-clause-ready
-targets::assign_written-write_value-requires-clause-ready t c =
-    let fs = trees_of c.args.site.now.codes.now.items in
-    let w = c.args.site.now.widget in
-    let s = c.args.store.now in
-    value_ready fs w s c.eval_on.new.store 0 (λ t. Do (job_of fs w s.cells (job.Eval c.args.e c.args.place.now)) t Ret) c.args.run.now c.eval_on.new.run c.in_ok-other.other _ c.in_ok-other.ensures.comes c.in-Is.is c.eval_on.ensures.kept c.requires.ready
-
-pub targets::assign_written-write_value-requires-clause-to : goal.targets::assign_written-write_value-requires-clause-to
-targets::assign_written-write_value-requires-clause-to t c =
-    let fs = trees_of c.args.site.now.codes.now.items in
-    let w = c.args.site.now.widget in
-    let s = c.args.store.now in (
-      reference_fine w s.cells c.eval_on.new.store.cells c.eval_on.ensures.kept.grows c.args.of.now c.requires.held.1,
-      place_fine fs w s.cells c.eval_on.new.store.cells c.eval_on.ensures.kept.grows c.args.place.now c.requires.held.0.0,
-    )
-
-pub targets::assign_written-write_value-requires-clause-value : goal.targets::assign_written-write_value-requires-clause-value
-targets::assign_written-write_value-requires-clause-value t c =
-    let fs = trees_of c.args.site.now.codes.now.items in
-    let w = c.args.site.now.widget in
-    let s = c.args.store.now in
-    value_fine fs w s c.eval_on.new.store 0 (λ t. Do (job_of fs w s.cells (job.Eval c.args.e c.args.place.now)) t Ret) c.args.run.now c.eval_on.new.run c.in_ok-other.other c.eval_on.new.out c.in_ok-other.ensures.comes c.in-Is.is
-
-pub targets::assign_written-returns-in-Is-clause-comes : goal.targets::assign_written-returns-in-Is-clause-comes
-targets::assign_written-returns-in-Is-clause-comes t c =
-    let fs = trees_of c.args.site.now.codes.now.items in
-    let w = c.args.site.now.widget in
-    let s = c.args.store.now in
-    IfOk-weaker c.write_value.result _ _
-    (λ how h. value_then fs w s c.eval_on.new.store c.write_value.new.store 0 1 1 (λ t. Do (job_of fs w s.cells (job.Eval c.args.e c.args.place.now)) t Ret) (form.Write c.args.of.now c.args.place.now) c.args.run.now c.eval_on.new.run c.write_value.new.run c.in_ok-other.other how c.eval_on.new.out (ended_as how c.write_value.new.out)
-    c.in_ok-other.ensures.comes c.in-Is.is c.eval_on.ensures.kept (c.requires.held.1, c.requires.held.0.0) h (omega arith))
-    c.write_value.ensures.comes
-
-pub targets::assign_written-returns-in-Is-clause-kept : goal.targets::assign_written-returns-in-Is-clause-kept
-targets::assign_written-returns-in-Is-clause-kept t c =
-    let fs = trees_of c.args.site.now.codes.now.items in
-    let w = c.args.site.now.widget in
-    let s = c.args.store.now in
-    kept_then fs w s c.eval_on.new.store c.write_value.new.store c.eval_on.ensures.kept c.write_value.ensures.kept
-
-pub targets::assign_written-returns-in-Left-clause-comes : goal.targets::assign_written-returns-in-Left-clause-comes
-targets::assign_written-returns-in-Left-clause-comes t c =
-    let fs = trees_of c.args.site.now.codes.now.items in
-    let w = c.args.site.now.widget in
-    let s = c.args.store.now in
-    frame_waits fs w c.wait_written.result s c.eval_on.new.store 0 1 (λ t. Do (job_of fs w s.cells (job.Eval c.args.e c.args.place.now)) t Ret) (frame.Form (form.Write c.args.of.now c.args.place.now)) c.args.run.now c.eval_on.new.run c.wait_written.new.run c.in_ok-other.other (ended_as c.in_ok-other.other c.eval_on.new.out) (λ h. ended_as h c.eval_on.new.out)
-    c.in_ok-other.ensures.comes c.in-Left.is c.eval_on.ensures.kept (c.requires.held.1, c.requires.held.0.0) (omega arith) c.wait_written.ensures.left c.wait_written.ensures.waits c.wait_written.ensures.next c.wait_written.ensures.units
-
-pub targets::assign_written-returns-in_default : goal.targets::assign_written-returns-in_default
-targets::assign_written-returns-in_default t c =
-    let fs = trees_of c.args.site.now.codes.now.items in
-    let w = c.args.site.now.widget in
-    let s = c.args.store.now in
-    record {
-      comes = value_passes fs w s c.eval_on.new.store 0 1 (λ t. Do (job_of fs w s.cells (job.Eval c.args.e c.args.place.now)) t Ret) (form.Write c.args.of.now c.args.place.now) c.args.run.now c.eval_on.new.run c.in_ok-other.other c.eval_on.new.out c.in_ok-other.ensures.comes c.in_default.not-Is c.in_default.not-Left c.eval_on.ensures.kept (c.requires.held.1, c.requires.held.0.0) (omega arith);
-      kept = c.eval_on.ensures.kept;
-    }
-
-pub targets::assign_computed-assign_with-requires : goal.targets::assign_computed-assign_with-requires
-targets::assign_computed-assign_with-requires t c = (
-  search rules,
-  (
-    search rules,
-    (
-        let fs = trees_of c.args.site.now.codes.now.items in
-        let w = c.args.site.now.widget in
-        let s = c.args.store.now in
-        (c.requires.held.0, (subst (λ (x : Reference). FineReference w s.cells x) (sym c.take_reference.ensures) c.requires.held.1, c.in_ok-has.ensures.fine, c.requires.held.0.0))
-        ),
-  ),
-)
-
-pub targets::assign_computed-returns-clause-comes : goal.targets::assign_computed-returns-clause-comes
-targets::assign_computed-returns-clause-comes t c =
-    let fs = trees_of c.args.site.now.codes.now.items in
-    let w = c.args.site.now.widget in
-    let s = c.args.store.now in
-    let j = job_of fs w s.cells (job.Eval c.args.e c.args.place.now) in
-    let pl = place_of w s.cells c.args.place.now in
-    IfOk-weaker c.assign_with.result _ _
-    (λ how h. instead fs w s c.assign_with.new.store 12 12 (λ t. Do j t (assign_with c.args.op (reference_of w s.cells c.take_reference.result) (seen w s.cells c.in_ok-has.has) pl))
-    (form_taken fs w s.cells (form.AssignTarget c.args.op c.args.e c.args.place.now) (meaning.Refers (reference_of w s.cells c.args.of.now))) c.args.run.now c.assign_with.new.run how (ended_as how c.assign_with.new.out) h
-    (λ r. (λ i. Do j (image fs r w s) (assign_with c.args.op (reference_of w s.cells (sym c.take_reference.ensures i)) (sym (c.in_ok-has.ensures.found r) i) pl))) (omega arith))
-    c.assign_with.ensures.comes
-
-pub targets::assign_with-compute_on-requires-clause-ready : goal.targets::assign_with-compute_on-requires-clause-ready
-targets::assign_with-compute_on-requires-clause-ready t c =
-    let fs = trees_of c.args.site.now.codes.now.items in
-    let w = c.args.site.now.widget in
-    let s = c.args.store.now in
-    value_ready fs w s c.eval_on.new.store 0 (λ t. Do (job_of fs w s.cells (job.Eval c.args.e c.args.to.now.place)) t Ret) c.args.run.now c.eval_on.new.run c.in_ok-other.other _ c.in_ok-other.ensures.comes c.in-Is.is c.eval_on.ensures.kept c.requires.ready
-
-pub targets::assign_with-compute_on-requires-clause-held : goal.targets::assign_with-compute_on-requires-clause-held
-targets::assign_with-compute_on-requires-clause-held t c =
-    let fs = trees_of c.args.site.now.codes.now.items in
-    let w = c.args.site.now.widget in
-    let s = c.args.store.now in
-    let to = c.args.to.now in
-    let t = c.eval_on.new.store in
-    let g = c.eval_on.ensures.kept.grows in
-    let held = c.requires.held.1 in (
-      (reference_fine w s.cells t.cells g to.of held.0, fine_stays w s.cells t.cells g to.has held.1, place_fine fs w s.cells t.cells g to.place held.2),
-      value_fine fs w s t 0 (λ t. Do (job_of fs w s.cells (job.Eval c.args.e c.args.to.now.place)) t Ret) c.args.run.now c.eval_on.new.run c.in_ok-other.other c.eval_on.new.out c.in_ok-other.ensures.comes c.in-Is.is,
-    )
-
-pub targets::assign_with-returns-in-Is-clause-comes : goal.targets::assign_with-returns-in-Is-clause-comes
-targets::assign_with-returns-in-Is-clause-comes t c =
-    let fs = trees_of c.args.site.now.codes.now.items in
-    let w = c.args.site.now.widget in
-    let s = c.args.store.now in
-    let to = c.args.to.now in
-    let t = c.eval_on.new.store in
-    let g = c.eval_on.ensures.kept.grows in
-    let held = c.requires.held.1 in
-    let k = λ (x : List PlainCell). assign_with to.op (reference_of w x to.of) (seen w x to.has) (place_of w x to.place) in
-    IfOk-weaker c.compute_on.result _ _
-    (λ how h. goes_on fs w s t c.compute_on.new.store 0 12 12 (λ t. Do (job_of fs w s.cells (job.Eval c.args.e c.args.to.now.place)) t Ret) (k s.cells) (k t.cells) c.args.run.now c.eval_on.new.run c.compute_on.new.run c.in_ok-other.other how c.eval_on.new.out (ended_as how c.compute_on.new.out)
-    c.in_ok-other.ensures.comes c.in-Is.is (λ i. assign_with to.op (sym (reference_same w s.cells t.cells g to.of held.0) i) (sym (seen_stays w s.cells t.cells g to.has held.1) i) (sym (place_same fs w s.cells t.cells g to.place held.2) i)) h (omega arith))
-    c.compute_on.ensures.comes
-
-pub targets::assign_with-returns-in-Is-clause-kept : goal.targets::assign_with-returns-in-Is-clause-kept
-targets::assign_with-returns-in-Is-clause-kept t c =
-    let fs = trees_of c.args.site.now.codes.now.items in
-    let w = c.args.site.now.widget in
-    let s = c.args.store.now in
-    kept_then fs w s c.eval_on.new.store c.compute_on.new.store c.eval_on.ensures.kept c.compute_on.ensures.kept
-
-pub targets::assign_with-returns-in_ok-boxed-in-Left-clause-comes : goal.targets::assign_with-returns-in_ok-boxed-in-Left-clause-comes
-targets::assign_with-returns-in_ok-boxed-in-Left-clause-comes t c =
-    let fs = trees_of c.args.site.now.codes.now.items in
-    let w = c.args.site.now.widget in
-    let s = c.args.store.now in
-    let to = c.args.to.now in
-    let t = c.eval_on.new.store in
-    let g = c.eval_on.ensures.kept.grows in
-    let held = c.requires.held.1 in
-    let b = c.in_ok-boxed-in-Left.boxed in
-    let same = c.in_ok-boxed-in-Left.ensures.ok ∙ c.take_assigning.ensures in
-    let j = job_of fs w s.cells (job.Eval c.args.e c.args.to.now.place) in
-    let k = λ (a : Assigning). assign_with a.op (reference_of w s.cells a.of) (seen w s.cells a.has) (place_of w s.cells a.place) in
-    IfOk-weaker c.wait.result _ _
-    (λ how h. instead fs w s t 12 12 (λ x. Do j x (k b.value)) (λ x. Do j x (k to)) c.args.run.now c.wait.new.run how (ended_as how c.eval_on.new.out) h
-    (λ r. ap (λ (a : Assigning). Do j (image fs r w s) (k a)) (sym same)) (omega arith))
-    (frame_waits fs w c.wait.result s t 0 12 (λ t. Do (job_of fs w s.cells (job.Eval c.args.e c.args.to.now.place)) t Ret) (frame.Form (form.AssignWith b)) c.args.run.now c.eval_on.new.run c.wait.new.run c.in_ok-other.other (ended_as c.in_ok-other.other c.eval_on.new.out) (λ h. ended_as h c.eval_on.new.out)
-    c.in_ok-other.ensures.comes c.in-Left.is c.eval_on.ensures.kept (subst (λ (a : Assigning). FineAssigning fs w s.cells a) (sym same) held) (omega arith) c.wait.ensures.left c.wait.ensures.waits c.wait.ensures.next c.wait.ensures.units)
-
-pub targets::assign_with-returns-in_default : goal.targets::assign_with-returns-in_default
-targets::assign_with-returns-in_default t c =
-    let fs = trees_of c.args.site.now.codes.now.items in
-    let w = c.args.site.now.widget in
-    let s = c.args.store.now in
-    let to = c.args.to.now in
-    let t = c.eval_on.new.store in
-    let g = c.eval_on.ensures.kept.grows in
-    let held = c.requires.held.1 in
-    let k = λ (x : List PlainCell). assign_with to.op (reference_of w x to.of) (seen w x to.has) (place_of w x to.place) in
-    record {
-      comes = goes_past fs w s t 0 12 (λ t. Do (job_of fs w s.cells (job.Eval c.args.e c.args.to.now.place)) t Ret) (k s.cells) c.args.run.now c.eval_on.new.run c.in_ok-other.other c.eval_on.new.out c.in_ok-other.ensures.comes c.in_default.not-Is c.in_default.not-Left (λ o x h. no_value o x _ h) (omega arith);
-      kept = c.eval_on.ensures.kept;
-    }
-
-pub targets::step_on-returns-in-Name-clause-comes : goal.targets::step_on-returns-in-Name-clause-comes
-targets::step_on-returns-in-Name-clause-comes t c =
-    let fs = trees_of c.args.site.now.codes.now.items in
-    let w = c.args.site.now.widget in
-    let s = c.args.store.now in
-    let code = c.args.place.now.code in
-    let f = trees c.tree_at.result.now in
-    let node = c.expr.result.now in
-    let here = c.tree_at.ensures in
-    let pl = place_of w s.cells c.args.place.now in
-    let j = job_of fs w s.cells (job.Target c.args.to c.args.place.now) in
-    let k = form_taken fs w s.cells (form.StepTarget c.args.op c.args.place.now) in
-    let p = k (meaning.Refers (meaning.Variable c.in-Name.name)) in
-    IfOk-weaker c.step_name.result _ _
-    (λ how h. unit_first fs w s c.step_name.new.store 4 30 j p k c.args.run.now (record c.args.run.now { units = c.args.run.now.units - 1 }) c.step_name.new.run how (ended_as how c.step_name.new.out) (less_one c.args.run.now.units c.if-run-eq0.false)
-    (λ x. ap (λ q. and_then q k) (at_target fs code f c.args.to node here c.expr.ensures.same pl x ∙ ap (λ (e : Expr). target (plain_form (forest_at fs code) e) pl x) c.in-Name.is)) h (omega arith))
-    c.step_name.ensures.comes
-
-pub targets::step_reached-step_target-requires-clause-ready : goal.targets::step_reached-step_target-requires-clause-ready
-targets::step_reached-step_target-requires-clause-ready t c =
-    let fs = trees_of c.args.site.now.codes.now.items in
-    let w = c.args.site.now.widget in
-    let s = c.args.store.now in
-    value_ready fs w s c.target_on.new.store 0 (λ t. Do (job_of fs w s.cells (job.Target c.args.to c.args.place.now)) t Ret) c.args.run.now c.target_on.new.run c.in_ok-other.other _ c.in_ok-other.ensures.comes c.in-Is.is c.target_on.ensures.kept c.requires.ready
-
-pub targets::step_reached-step_target-requires-clause-held : goal.targets::step_reached-step_target-requires-clause-held
-targets::step_reached-step_target-requires-clause-held t c =
-    let fs = trees_of c.args.site.now.codes.now.items in
-    let w = c.args.site.now.widget in
-    let s = c.args.store.now in (
-      target_fine fs w s c.target_on.new.store 0 (λ t. Do (job_of fs w s.cells (job.Target c.args.to c.args.place.now)) t Ret) c.args.run.now c.target_on.new.run c.in_ok-other.other c.target_on.new.of c.target_on.new.out c.in_ok-other.ensures.comes c.in-Is.is,
-      place_fine fs w s.cells c.target_on.new.store.cells c.target_on.ensures.kept.grows c.args.place.now c.requires.held.0,
-    )
-
-pub targets::step_reached-returns-in-Is-clause-comes : goal.targets::step_reached-returns-in-Is-clause-comes
-targets::step_reached-returns-in-Is-clause-comes t c =
-    let fs = trees_of c.args.site.now.codes.now.items in
-    let w = c.args.site.now.widget in
-    let s = c.args.store.now in
-    IfOk-weaker c.step_target.result _ _
-    (λ how h. target_then fs w s c.target_on.new.store c.step_target.new.store 0 4 30 (λ t. Do (job_of fs w s.cells (job.Target c.args.to c.args.place.now)) t Ret) (form.StepTarget c.args.op c.args.place.now) c.args.run.now c.target_on.new.run c.step_target.new.run c.in_ok-other.other how c.target_on.new.of c.target_on.new.out (ended_as how c.step_target.new.out)
-    c.in_ok-other.ensures.comes c.in-Is.is c.target_on.ensures.kept c.requires.held.0 h (omega arith))
-    c.step_target.ensures.comes
-
-pub targets::step_reached-returns-in-Is-clause-kept : goal.targets::step_reached-returns-in-Is-clause-kept
-targets::step_reached-returns-in-Is-clause-kept t c =
-    let fs = trees_of c.args.site.now.codes.now.items in
-    let w = c.args.site.now.widget in
-    let s = c.args.store.now in
-    kept_then fs w s c.target_on.new.store c.step_target.new.store c.target_on.ensures.kept c.step_target.ensures.kept
-
-pub targets::step_reached-returns-in-Left-clause-comes : goal.targets::step_reached-returns-in-Left-clause-comes
-targets::step_reached-returns-in-Left-clause-comes t c =
-    let fs = trees_of c.args.site.now.codes.now.items in
-    let w = c.args.site.now.widget in
-    let s = c.args.store.now in
-    frame_waits fs w c.wait.result s c.target_on.new.store 0 30 (λ t. Do (job_of fs w s.cells (job.Target c.args.to c.args.place.now)) t Ret) (frame.Form (form.StepTarget c.args.op c.args.place.now)) c.args.run.now c.target_on.new.run c.wait.new.run c.in_ok-other.other (target_as c.in_ok-other.other c.target_on.new.of c.target_on.new.out) (λ h. ended_as h c.target_on.new.out)
-    c.in_ok-other.ensures.comes c.in-Left.is c.target_on.ensures.kept c.requires.held.0 (omega arith) c.wait.ensures.left c.wait.ensures.waits c.wait.ensures.next c.wait.ensures.units
-
-pub targets::step_reached-returns-in_default : goal.targets::step_reached-returns-in_default
-targets::step_reached-returns-in_default t c =
-    let fs = trees_of c.args.site.now.codes.now.items in
-    let w = c.args.site.now.widget in
-    let s = c.args.store.now in
-    record {
-      comes = value_passes fs w s c.target_on.new.store 0 30 (λ t. Do (job_of fs w s.cells (job.Target c.args.to c.args.place.now)) t Ret) (form.StepTarget c.args.op c.args.place.now) c.args.run.now c.target_on.new.run c.in_ok-other.other c.target_on.new.out
-          (target_ends fs w s c.target_on.new.store 0 (λ t. Do (job_of fs w s.cells (job.Target c.args.to c.args.place.now)) t Ret) c.args.run.now c.target_on.new.run c.in_ok-other.other c.target_on.new.of c.target_on.new.out c.in_ok-other.ensures.comes c.in_default.not-Is) c.in_default.not-Is c.in_default.not-Left c.target_on.ensures.kept c.requires.held.0 (omega arith);
-      kept = c.target_on.ensures.kept;
     }

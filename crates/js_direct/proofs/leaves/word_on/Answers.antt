@@ -11,10 +11,10 @@ use Rattle.js_direct.proofs.leaves.word_on.Goals as goal
 
 pub returns : goal.returns
 returns c =
-    let fs = trees_of c.args.site.now.codes.now.items in
-    let w = c.args.site.now.widget in
+    let fs = trees_of c.args.here.now.site.now.codes.now.items in
+    let w = c.args.here.now.site.now.widget in
     let s = c.args.store.now in
-    let p = place_of w s.cells c.args.place.now in
+    let p = place_of w s.cells c.args.here.now.at in
     record {
       comes = λ run none. gives_value fs w s s 30 (expression (node.Constant c.args.word) p) run c.word_value.result none
           (λ r. sym (ap (λ u. Ret (meaning.Is u) (image fs r w s)) (c.word_value.ensures.value w s.cells))) (c.word_value.ensures.fine w s.cells) (omega arith);

@@ -17,22 +17,22 @@ use Rattle.js_direct.proofs.literals.function_on.Goals as goal
 
 pub returns-in-Cell-clause-comes : goal.returns-in-Cell-clause-comes
 returns-in-Cell-clause-comes c =
-    let fs = trees_of c.args.site.now.codes.now.items in
-    let w = c.args.site.now.widget in
+    let fs = trees_of c.args.here.now.site.now.codes.now.items in
+    let w = c.args.here.now.site.now.widget in
     let old = c.args.store.now in
     let new = c.make.new.store in
-    let place = c.args.place.now in
+    let place = c.args.here.now.at in
     gives_value fs w old new 30 (expression (node.Function (fun_at (forest_at fs place.code) c.args.fun)) (place_of w old.cells place)) c.args.run.now (value.Ref c.in-Cell.id) c.requires.ready.2
     (λ r. c.in_ok-id.ensures.plan fs r give ∙ ap (λ m. made_plan w new.cells m give (image fs r w new)) c.in-Cell.is)
     (rw c.in-Cell.is at c.in_ok-id.ensures.fine) (omega arith)
 
 pub returns-in-Stop-clause-comes : goal.returns-in-Stop-clause-comes
 returns-in-Stop-clause-comes c =
-    let fs = trees_of c.args.site.now.codes.now.items in
-    let w = c.args.site.now.widget in
+    let fs = trees_of c.args.here.now.site.now.codes.now.items in
+    let w = c.args.here.now.site.now.widget in
     let old = c.args.store.now in
     let new = c.make.new.store in
-    let place = c.args.place.now in
+    let place = c.args.here.now.at in
     IfOk-weaker c.stop.result _ _
     (λ h x. before_it fs w old new 0 30 (expression (node.Function (fun_at (forest_at fs place.code) c.args.fun)) (place_of w old.cells place)) (λ t. Halt (meant_cause c.in-Stop.cause) t) c.args.run.now c.stop.new.run h _
     (λ r. c.in_ok-id.ensures.plan fs r give ∙ ap (λ m. made_plan w new.cells m give (image fs r w new)) c.in-Stop.is)

@@ -11,11 +11,11 @@ use Rattle.js_direct.proofs.operators.prefix_on.Goals as goal
 
 pub returns-then-is_prefix_ready-clause-comes : goal.returns-then-is_prefix_ready-clause-comes
 returns-then-is_prefix_ready-clause-comes c =
-    let fs = trees_of c.args.site.now.codes.now.items in
-    let w = c.args.site.now.widget in
+    let fs = trees_of c.args.here.now.site.now.codes.now.items in
+    let w = c.args.here.now.site.now.widget in
     let old = c.args.store.now in
     let v = c.args.out.now in
-    let p = place_of w old.cells c.args.place.now in
+    let p = place_of w old.cells c.args.here.now.at in
     let ready = c.is_prefix_ready.ensures c.if-is_prefix_ready.true in
     IfOk-weaker c.result_on.result _ _
     (λ h x. instead fs w old c.result_on.new.store 1 4 (result (meant_out c.in_ok-found.found)) (unary_on c.args.op (seen w old.cells v) p) c.args.run.now c.result_on.new.run h _ x

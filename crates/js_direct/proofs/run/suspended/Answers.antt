@@ -26,7 +26,7 @@ frames-preserved c =
     let f = c.in-Some.frame in
     let below = c.last.new.frames.items in
     let popped = c.in-Some.ensures in
-    let pushed = c.in_ok-push.ensures.items in
+    let pushed = c.in_ok-push_frame.ensures.items in
     record {
       plan = λ fs w cells p. kept.plan fs w cells p
           ∙ ((λ i. before fs w cells (popped i) (and_then p (outward fs w cells c.frames.run.waits.items)))

@@ -13,10 +13,10 @@ use Rattle.js_direct.proofs.statements.by_frames.Goals as goal
 
 pub returns-clause-comes : goal.returns-clause-comes
 returns-clause-comes c =
-    let fs = trees_of c.args.site.now.codes.now.items in
-    let w = c.args.site.now.widget in
+    let fs = trees_of c.args.here.now.site.now.codes.now.items in
+    let w = c.args.here.now.site.now.widget in
     let old = c.args.store.now in
-    let p : State → Plan = body (job_of fs w old.cells (job.Exec c.args.id c.args.place.now)) in
+    let p : State → Plan = body (job_of fs w old.cells (job.Exec c.args.id c.args.here.now.at)) in
     let left = c.in_ok-exec.ensures in
     IfOk-weaker c.handed.result _ _ (λ h x. weigh fs w old old (left_free c.exec.new.flow) 30 p c.args.run.now c.handed.new.run h _
     (x fs w old old p (λ r. left.plan w old.cells (image fs r w old)) (left.fine w old.cells c.requires.held.0.1) (omega (arith, left.near))) (omega (arith, left.near))) c.handed.ensures.comes

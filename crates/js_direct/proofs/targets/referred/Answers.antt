@@ -8,10 +8,10 @@ use Rattle.js_direct.proofs.targets.referred.Goals as goal
 
 pub returns-in-Variable-clause-found : goal.returns-in-Variable-clause-found
 returns-in-Variable-clause-found c =
-    let fs = trees_of c.args.site.now.codes.now.items in
-    let w = c.args.site.now.widget in
+    let fs = trees_of c.args.here.now.site.now.codes.now.items in
+    let w = c.args.here.now.site.now.widget in
     let s = c.args.store.now in
     IfOk-weaker c.variable.result _ _
-    (λ v h r. h fs r w c.args.place.now.depth c.requires.confined c.requires.held.1.1
-    ∙ sym (ap (λ q. expressions.referred (reference_of w s.cells q) (place_of w s.cells c.args.place.now) (image fs r w s)) c.in-Variable.is))
+    (λ v h r. h fs r w c.args.here.now.at.depth c.requires.confined c.requires.held.1.1
+    ∙ sym (ap (λ q. expressions.referred (reference_of w s.cells q) (place_of w s.cells c.args.here.now.at) (image fs r w s)) c.in-Variable.is))
     c.variable.ensures.found
