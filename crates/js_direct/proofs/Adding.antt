@@ -1,6 +1,6 @@
 -- A step of a variable that has a whole number.
 use Rattle.std.proofs.Common.{◌≡◌, ℕ, ℤ, List, ap, ◌∙◌, true, Bool, if◌then◌else◌}
-use Rattle.std.specs.Prelude.{◌+ℤ◌, nat_lt, unsigned_abs}
+use Rattle.std.specs.Prelude.{nat_lt, unsigned_abs}
 use Rattle.js_tree.specs.declared.nodes.StepOp.{StepOp}
 use Rattle.widget_meaning.specs.Limits.{past_numbers}
 use Rattle.widget_meaning.specs.Values as meaning

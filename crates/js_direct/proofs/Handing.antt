@@ -12,6 +12,7 @@ use Rattle.js_image.specs.Held.{IsFine, Kept}
 use Rattle.js_flow.specs.declared.frame.Frame.{Frame}
 use Rattle.js_flow.specs.declared.frame.Frame.TheVariants as frame
 use Rattle.js_flow.specs.declared.frame.FormFrame.{FormFrame}
+use Rattle.js_flow.specs.declared.job.Reference.{Reference}
 use Rattle.js_flow.specs.Forms.{form_taken}
 use Rattle.js_flow.specs.Frames.{taken}
 use Rattle.js_flow.specs.Fine.{FineForm, FineFrame}
@@ -21,9 +22,9 @@ use Rattle.js_forms.proofs.Passing.{passed}
 use Rattle.js_direct.specs.declared.run.Ended.{Ended}
 use Rattle.js_direct.specs.declared.run.Ended.TheVariants as ended
 use Rattle.js_direct.specs.declared.run.Run.{Run}
-use Rattle.js_direct.specs.Comes.{Comes, IsEnd, ended_as}
+use Rattle.js_direct.specs.Comes.{Comes, IsEnd, Reaches, ended_as}
 use Rattle.js_direct.specs.Hands.{HandsOn}
-use Rattle.js_direct.proofs.FormFrames.{gives_value, other_abrupt}
+use Rattle.js_direct.proofs.FormFrames.{ends_target, gives_value, other_abrupt}
 use Rattle.js_direct.proofs.Parts.{part_passes, part_waits}
 use Rattle.js_direct.proofs.Sequels.{normal_passes, value_passes}
 
@@ -49,6 +50,11 @@ handed_same had how f not_it = record {
   units = refl;
   none = λ n. refl;
 }
+
+-- what is said of a value is said of the place that it was put at
+pub placed_ok : {E : Type 0} (result : Result Ended E) (P : Ended → Value → Type 0) (v at : Value) → IfOk result (λ h. at ≡ v) → IfOk result (λ h. P h v) → IfOk result (λ h. P h at)
+placed_ok (Ok h) P v at same given = subst (λ (x : Value). P h x) (sym same) given
+placed_ok (Err e) P v at same given = tt
 
 -- an end is no suspension
 apart_left : (how : Ended) → IsEnd how → how ≡ ended.Left → ⊥
@@ -116,3 +122,13 @@ module _ (fs : List Forest) (w : ℕ) where
       → Comes fs w s s n p had had ended.Is at
   is_shared s n p had v at same none plan fine le =
       subst (λ (x : Value). Comes fs w s s n p had had ended.Is x) (sym same) (gives_value fs w s s n p had v none plan fine le)
+
+  -- no value, where the frame of a target waits
+  pub hand_target : {E : Type 0} (result : Result Ended E) (s0 s1 : Cells) (n0 n : ℕ) (p : State → Plan) (f : FormFrame) (had mid has : Run) (how : Ended) (of : Reference) (v : Value)
+      → Comes fs w s0 s1 n0 p had mid how v → (how ≡ ended.Is → ⊥) → Kept fs w s0 s1 → FineForm fs w s0.cells f → n0 + form_free f ≤ n
+      → IfOk result (λ h. HandsOn mid has how h (frame.Form f))
+      → IfOk result (λ h. Reaches fs w s0 s1 n (λ s. and_then (p s) (form_taken fs w s0.cells f)) had has h of v)
+  hand_target (Ok h) s0 s1 n0 n p f had mid has how of v one not_it kept fine le hand =
+      ends_target fs w s0 s1 n (λ s. and_then (p s) (form_taken fs w s0.cells f)) had has h of v
+      (hand_form {E = ⊥} (Ok h) s0 s1 n0 n p f had mid has how v one not_it kept fine le hand) (λ e. not_it (sym hand.is ∙ e))
+  hand_target (Err e) s0 s1 n0 n p f had mid has how of v one not_it kept fine le hand = tt

@@ -1,14 +1,13 @@
 -- Parts of a list, one after the other.
-use Rattle.std.proofs.Common.{◌≡◌, ℕ, ◌+◌, ◌-◌, ◌≤◌, List, [], refl, sym, ◌∙◌, subst, arith}
+use Rattle.std.proofs.Common.{◌≡◌, ℕ, ◌+◌, ◌-◌, ◌≤◌, List, sym, ◌∙◌, subst, arith}
 use Rattle.js_tree.specs.Forest.{Forest}
 use Rattle.store_cells.specs.declared.value.Value.{Value}
 use Rattle.store_cells.specs.Cells.{Cells}
 use Rattle.object_store.specs.Grows.{Grows}
 use Rattle.widget_meaning.specs.Values as meaning
 use Rattle.widget_meaning.specs.OwnState.{State}
-use Rattle.widget_meaning.specs.Plan.{Plan, Ret, and_then}
+use Rattle.widget_meaning.specs.Plan.{Plan, and_then}
 use Rattle.js_image.specs.Image.{Rest, image, seen}
-use Rattle.js_image.specs.Held.{IsFine}
 use Rattle.js_flow.specs.declared.frame.Frame.{Frame}
 use Rattle.js_flow.specs.declared.job.Completion.{Completion}
 use Rattle.js_flow.specs.Frames.{taken}
@@ -20,7 +19,6 @@ use Rattle.js_direct.specs.declared.run.Run.{Run}
 use Rattle.js_direct.specs.Comes.{Comes, ComesTo}
 use Rattle.js_direct.specs.Goes.{GoesOn}
 use Rattle.js_direct.proofs.Reducing.{after_each, counts, ends, starts, under}
-use Rattle.js_direct.proofs.FormFrames.{gives_value}
 
 no_both : ended.Left ≡ ended.Is → ⊥
 no_both e = cc
@@ -40,9 +38,6 @@ module _ (fs : List Forest) (w : ℕ) where
     near = omega (arith, comes.near, le);
   }
 
-  pub goes_none : (s : Cells) (p : State → Plan) (had : Run) → had.waits.items ≡ [] → GoesOn fs w s s p p had had
-  goes_none s p had none = record { units = omega arith; reduces = λ r. counts 0 (had.units - had.units) _ _ (omega arith) refl; none = none }
-
   pub goes_both : (s t u : Cells) (p q x : State → Plan) (had mid has : Run) → GoesOn fs w s t p q had mid → GoesOn fs w t u q x mid has → GoesOn fs w s u p x had has
   goes_both s t u p q x had mid has one two = record {
     units = omega (arith, one.units, two.units);
@@ -59,11 +54,6 @@ module _ (fs : List Forest) (w : ℕ) where
     fine = two.fine;
     near = omega (arith, one.units, two.near);
   }
-
-  -- all parts are done
-  pub goes_end : (s t : Cells) (p q : State → Plan) (had has : Run) (v : Value) → GoesOn fs w s t p q had has → ((r : Rest) → q (image fs r w t) ≡ Ret (meaning.Is (seen w t.cells v)) (image fs r w t)) → IsFine w t.cells v
-      → Comes fs w s t 1 p had has ended.Is v
-  goes_end s t p q had has v one last fine = goes_then s t t 1 p q had has has ended.Is _ one (gives_value fs w t t 1 q has v one.none last fine (omega arith))
 
   -- a part has a value, and its frame does what costs nothing
   pub part_goes : (s0 s1 s2 : Cells) (p q u : State → Plan) (f : Frame) (had mid has : Run) (how : Ended) (v : Value) → Comes fs w s0 s1 0 p had mid how v → how ≡ ended.Is → Grows w s0.cells s1.cells → FineFrame fs w s0.cells f

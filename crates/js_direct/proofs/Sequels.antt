@@ -45,9 +45,6 @@ is_end ended.Continue h = tt
 is_end ended.Threw h = tt
 is_end ended.Left h = h refl
 
-pub end_is : (how e : Ended) → how ≡ e → IsEnd e → IsEnd how
-end_is how e h k = subst IsEnd (sym h) k
-
 module _ (w : ℕ) (cells : List PlainCell) (v : Value) (s : State) where
   -- a frame that waits for a value passes all else
   pub value_passes : (how : Ended) (k : meaning.Value → Plan) → (how ≡ ended.Is → ⊥) → (how ≡ ended.Left → ⊥) → on_value (completion_of w cells (ended_as how v)) s k ≡ Ret (completion_of w cells (ended_as how v)) s

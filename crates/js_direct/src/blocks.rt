@@ -1,10 +1,8 @@
 //! The statements of blocks, carried out in place.
-ghost use Rattle.std.specs.Prelude.{All, map, ◌≡◌, ℕ, ◌<◌, ◌+◌, ◌^◌, IfOk, List, true, false, [], ◌∷◌, ◌++◌, IfSome, IsFalse, option_copied, slice_get};
+ghost use Rattle.std.specs.Prelude.{◌≡◌, ◌<◌, ◌+◌, ◌^◌, IfOk, [], ◌∷◌, ◌++◌, IfSome, option_copied, slice_get};
 ghost use Rattle.js_tree.specs.Plain.{stmt_place, stmt_names};
-ghost use Rattle.js_tree.specs.Plain as plain;
 ghost use Rattle.js_tree.specs.Trees.{trees};
-ghost use Rattle.js_tree.specs.Forest.{IsExpr, IsStmt, expr_at, stmt_at, IsFun, AreStmtParts, plain_stmt};
-ghost use Rattle.widget_meaning.specs.Calls.{without_directive};
+ghost use Rattle.js_tree.specs.Forest.{IsStmt, stmt_at, IsFun, AreStmtParts, plain_stmt};
 ghost use Rattle.widget_meaning.specs.Meaning.{body};
 ghost use Rattle.js_image.specs.Held.{Kept};
 ghost use Rattle.js_names.specs.Code.{trees_of};
@@ -158,6 +156,7 @@ pub(crate) fn list_on(
         n += 1;
         match exec_on(here, run, store, id, deep, out)? {
             Ended::Normal => {}
+            Ended::Return => return Ok(Ended::Return),
             how => return hand_rest(run, how, block, n, &here.at),
         }
     }

@@ -19,7 +19,7 @@ ghost use Rattle.js_direct.specs.Going.{end_of, how_of, is_direct, is_direct_job
 ghost use Rattle.js_direct.specs.Reduces.{Reduces};
 
 use crate::blocks::block_on;
-use crate::calls::invoke_on;
+use crate::entering::invoke_on;
 use crate::forms::eval_on;
 use crate::looping::passes_on;
 use crate::run::{DEEP, Ended, Here, Run, Site, completion, last};

@@ -1,10 +1,17 @@
 //! Forms that are carried out in place: frames are made only where one is suspended.
+//!
+//! Each function is handed where its form stands (`Here`), what it may spend and what waits (`Run`), the
+//! store, how many forms may still stand in it (`deep`), and the place of its value (`out`), which owns
+//! nothing. It tells how the form ended (`Ended`); the value is at the place then. Where a part of a form is
+//! suspended, the frame that waits for it is put behind what waits (`wait`): so the frames come out as the
+//! other crates would have made them.
 #![tactic(auto)]
 
 mod arrays;
 mod assigning;
 mod blocks;
 mod calls;
+mod entering;
 mod forms;
 mod going;
 mod leaves;

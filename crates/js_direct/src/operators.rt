@@ -55,13 +55,43 @@ pub(crate) fn binary_on(
         run.old run.new how out.new) }
     ensures kept { Kept (trees_of here.now.site.now.codes.now.items) here.now.site.now.widget store.old store.new }
 {
-    match operand_on(here, run, store, parts.0, deep, out)? {
-        Ended::Is => right_on(here, run, store, op, parts.1, deep, out),
-        how => hand_right(run, how, op, parts.1, &here.at),
+    let mut left = Value::Undefined;
+    binary_with(here, run, store, op, parts, deep, &mut left, out)
+}
+
+// The same with a place for the left operand.
+#[inline(always)]
+#[cycle(direct)]
+fn binary_with(
+    here: &Here,
+    run: &mut Run,
+    store: &mut Store,
+    op: BinOp,
+    parts: (ExprId, ExprId),
+    deep: u32,
+    left: &mut Value,
+    out: &mut Value,
+) -> Result<Ended, Memory>
+    requires ready { IsReady (trees_of here.now.site.now.codes.now.items) here.now.site.now.widget store.old run.old }
+    requires held { IsExprAt (trees_of here.now.site.now.codes.now.items) here.now.site.now.widget store.old.cells
+        parts.0 here.now.at
+        × IsExprAt (trees_of here.now.site.now.codes.now.items) here.now.site.now.widget store.old.cells parts.1
+        here.now.at }
+    requires tree { trees here.now.tree.now ≡ forest_at (trees_of here.now.site.now.codes.now.items) here.now.at.code }
+    ensures comes { let F = trees_of here.now.site.now.codes.now.items in let w = here.now.site.now.widget in
+        IfOk result (λ how. Comes F w store.old store.new 30
+        (λ s. Do (job_of F w store.old.cells (Job.Eval parts.0 here.now.at)) s
+        (taken F w store.old.cells (Frame.Form (FormFrame.Right op parts.1 here.now.at))))
+        run.old run.new how out.new) }
+    ensures kept { Kept (trees_of here.now.site.now.codes.now.items) here.now.site.now.widget store.old store.new }
+{
+    match operand_on(here, run, store, parts.0, deep, left)? {
+        Ended::Is => right_on(here, run, store, op, parts.1, deep, left, out),
+        how => hand_right(run, how, op, parts.1, &here.at, left, out),
     }
 }
 
-// The end of the left operand that is no value.
+// The end of the left operand that is no value; what it threw is at the place then.
 #[cold]
 #[inline(never)]
 fn hand_right(
@@ -70,47 +100,23 @@ fn hand_right(
     op: BinOp,
     e: ExprId,
     place: &Place,
+    left: &mut Value,
+    out: &mut Value,
 ) -> Result<Ended, Memory>
-    ensures { IfOk result (λ h. HandsOn run.old run.new how h (Frame.Form (FormFrame.Right op e place.now))) }
+    ensures hands { IfOk result (λ h. HandsOn run.old run.new how h (Frame.Form (FormFrame.Right op e place.now))) }
+    ensures value { IfOk result (λ h. out.new ≡ left.old) }
 {
+    *out = take_value(left);
     match how {
         Ended::Left => wait(run, Frame::Form(FormFrame::Right(op, e, *place))),
         how => Ok(how),
     }
 }
 
-// The right operand of the left one that is at the place.
+// The right operand of a left one.
 #[inline(always)]
 #[cycle(direct)]
 fn right_on(
-    here: &Here,
-    run: &mut Run,
-    store: &mut Store,
-    op: BinOp,
-    e: ExprId,
-    deep: u32,
-    out: &mut Value,
-) -> Result<Ended, Memory>
-    requires ready { IsReady (trees_of here.now.site.now.codes.now.items) here.now.site.now.widget store.old run.old }
-    requires held { IsExprAt (trees_of here.now.site.now.codes.now.items) here.now.site.now.widget store.old.cells e
-        here.now.at
-        × IsFine here.now.site.now.widget store.old.cells out.old }
-    requires tree { trees here.now.tree.now ≡ forest_at (trees_of here.now.site.now.codes.now.items) here.now.at.code }
-    ensures comes { let F = trees_of here.now.site.now.codes.now.items in let w = here.now.site.now.widget in
-        IfOk result (λ how. Comes F w store.old store.new 8
-        (taken F w store.old.cells (Frame.Form (FormFrame.Right op e here.now.at))
-        (meaning.Is (seen w store.old.cells out.old)))
-        run.old run.new how out.new) }
-    ensures kept { Kept (trees_of here.now.site.now.codes.now.items) here.now.site.now.widget store.old store.new }
-{
-    let mut left = take_value(out);
-    operand_with(here, run, store, op, e, deep, &mut left, out)
-}
-
-// The same with the left operand at a place of its own.
-#[inline(always)]
-#[cycle(direct)]
-fn operand_with(
     here: &Here,
     run: &mut Run,
     store: &mut Store,
@@ -372,7 +378,18 @@ pub(crate) fn and_on(
 {
     match eval_on(here, run, store, parts.0, deep, out)? {
         Ended::Is => and_right(here, run, store, parts.1, deep, out),
-        Ended::Left => wait(run, Frame::Form(FormFrame::And(parts.1, here.at))),
+        how => hand_and(run, how, parts.1, &here.at),
+    }
+}
+
+// The end of the left of `&&` that is no value.
+#[cold]
+#[inline(never)]
+fn hand_and(run: &mut Run, how: Ended, e: ExprId, place: &Place) -> Result<Ended, Memory>
+    ensures { IfOk result (λ h. HandsOn run.old run.new how h (Frame.Form (FormFrame.And e place.now))) }
+{
+    match how {
+        Ended::Left => wait(run, Frame::Form(FormFrame::And(e, *place))),
         how => Ok(how),
     }
 }
@@ -431,7 +448,18 @@ pub(crate) fn or_on(
 {
     match eval_on(here, run, store, parts.0, deep, out)? {
         Ended::Is => or_right(here, run, store, parts.1, deep, out),
-        Ended::Left => wait(run, Frame::Form(FormFrame::Or(parts.1, here.at))),
+        how => hand_or(run, how, parts.1, &here.at),
+    }
+}
+
+// The end of the left of `||` that is no value.
+#[cold]
+#[inline(never)]
+fn hand_or(run: &mut Run, how: Ended, e: ExprId, place: &Place) -> Result<Ended, Memory>
+    ensures { IfOk result (λ h. HandsOn run.old run.new how h (Frame.Form (FormFrame.Or e place.now))) }
+{
+    match how {
+        Ended::Left => wait(run, Frame::Form(FormFrame::Or(e, *place))),
         how => Ok(how),
     }
 }
@@ -492,9 +520,26 @@ pub(crate) fn choose_on(
 {
     match eval_on(here, run, store, parts.0, deep, out)? {
         Ended::Is => chosen_on(here, run, store, (parts.1, parts.2), deep, out),
+        how => hand_choose(run, how, (parts.1, parts.2), &here.at),
+    }
+}
+
+// The end of the condition that is no value.
+#[cold]
+#[inline(never)]
+fn hand_choose(
+    run: &mut Run,
+    how: Ended,
+    parts: (ExprId, ExprId),
+    place: &Place,
+) -> Result<Ended, Memory>
+    ensures { IfOk result (λ h. HandsOn run.old run.new how h
+        (Frame.Form (FormFrame.Choose parts.0 parts.1 place.now))) }
+{
+    match how {
         Ended::Left => wait(
             run,
-            Frame::Form(FormFrame::Choose(parts.1, parts.2, here.at)),
+            Frame::Form(FormFrame::Choose(parts.0, parts.1, *place)),
         ),
         how => Ok(how),
     }
@@ -556,7 +601,18 @@ pub(crate) fn unary_on(
 {
     match eval_on(here, run, store, e, deep, out)? {
         Ended::Is => prefix_on(here, run, store, op, out),
-        Ended::Left => wait(run, Frame::Form(FormFrame::Prefix(op, here.at))),
+        how => hand_prefix(run, how, op, &here.at),
+    }
+}
+
+// The end of the operand that is no value.
+#[cold]
+#[inline(never)]
+fn hand_prefix(run: &mut Run, how: Ended, op: UnOp, place: &Place) -> Result<Ended, Memory>
+    ensures { IfOk result (λ h. HandsOn run.old run.new how h (Frame.Form (FormFrame.Prefix op place.now))) }
+{
+    match how {
+        Ended::Left => wait(run, Frame::Form(FormFrame::Prefix(op, *place))),
         how => Ok(how),
     }
 }

@@ -18,7 +18,7 @@ ghost use Rattle.js_direct.specs.Comes.{Comes, IsReady};
 use crate::forms::{eval_on, operand_on};
 use crate::run::{Ended, Here, Run, Site, clear, share_to, take_value, throw, wait};
 use code_units::{Memory, Text};
-use js_flow::{FormFrame, Frame, Job};
+use js_flow::{FormFrame, Frame, Job, Place};
 use js_image::{Fault, get, property_at};
 use js_tree::ExprId;
 use js_values::to_text;
@@ -180,7 +180,18 @@ pub(crate) fn sub_on(
 {
     match eval_on(here, run, store, parts.0, deep, out)? {
         Ended::Is => subscript_on(here, run, store, parts.1, deep, out),
-        Ended::Left => wait(run, Frame::Form(FormFrame::SubBase(parts.1, here.at))),
+        how => hand_base(run, how, parts.1, &here.at),
+    }
+}
+
+// The end of the base that is no value, where a subscript follows.
+#[cold]
+#[inline(never)]
+fn hand_base(run: &mut Run, how: Ended, e: ExprId, place: &Place) -> Result<Ended, Memory>
+    ensures { IfOk result (λ h. HandsOn run.old run.new how h (Frame.Form (FormFrame.SubBase e place.now))) }
+{
+    match how {
+        Ended::Left => wait(run, Frame::Form(FormFrame::SubBase(e, *place))),
         how => Ok(how),
     }
 }

@@ -34,11 +34,13 @@ pub(crate) struct Site<'a> {
     pub codes: &'a Vec<Code>,
 }
 
-/// Where a form stands: its tree, and the place that it runs at.
+/// Where a form stands.
 #[derive(Drop)]
 pub(crate) struct Here<'a> {
     pub site: &'a Site<'a>,
+    /// The tree of the place's code.
     pub tree: &'a Tree,
+    /// Its code, scope and depth, as frames hold them.
     pub at: Place,
 }
 

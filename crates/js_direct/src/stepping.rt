@@ -1,5 +1,5 @@
 //! Steps, carried out in place.
-ghost use Rattle.std.specs.Prelude.{◌≡◌, ℕ, ◌<◌, ◌+ℤ◌, ◌-ℤ◌, pos, [], if◌then◌else◌, IfOk, IfSome, List, nat_lt, unsigned_abs, ℤ, true};
+ghost use Rattle.std.specs.Prelude.{◌≡◌, ℕ, ◌<◌, ◌+ℤ◌, ◌-ℤ◌, pos, [], if◌then◌else◌, IfOk, List, nat_lt, unsigned_abs, ℤ, true};
 ghost use Rattle.js_tree.specs.Trees.{trees};
 ghost use Rattle.js_tree.specs.Forest.{Forest};
 ghost use Rattle.store_cells.specs.Cells.{Cells, PlainCell};
@@ -18,6 +18,7 @@ ghost use Rattle.js_flow.specs.Fine.{FineReference, IsExprAt, IsPlace};
 ghost use Rattle.js_flow.specs.Forms.{form_taken};
 ghost use Rattle.js_flow.specs.Frames.{taken};
 ghost use Rattle.js_flow.specs.Views.{job_of, place_of, reference_of};
+ghost use Rattle.js_direct.specs.Hands.{HandsOn};
 ghost use Rattle.js_direct.specs.Comes.{Comes, IsReady};
 
 use crate::operators::is_object;
@@ -25,7 +26,7 @@ use crate::run::{Ended, Here, Run, set_next, set_value, stop, take_value, wait};
 use crate::targets::{referred, take_reference, target_on};
 use crate::writing::write_on;
 use code_units::{Memory, Text, WholeRead};
-use js_flow::{CallFrame, Completion, FormFrame, Frame, Job, Next, Reference};
+use js_flow::{CallFrame, Completion, FormFrame, Frame, Job, Next, Place, Reference};
 use js_image::{StopCause, add_to, variable};
 use js_tree::{Expr, ExprId, StepOp};
 use js_values::{OpOut, number_of};
@@ -118,8 +119,19 @@ fn step_reached(
 {
     match target_on(here, run, store, to, deep, of, out)? {
         Ended::Is => step_target(here, run, store, op, of, out),
-        Ended::Left => wait(run, Frame::Form(FormFrame::StepTarget(op, here.at))),
-        other => Ok(other),
+        other => hand_step(run, other, op, &here.at),
+    }
+}
+
+// The end of the target that is no reference.
+#[cold]
+#[inline(never)]
+fn hand_step(run: &mut Run, how: Ended, op: StepOp, place: &Place) -> Result<Ended, Memory>
+    ensures { IfOk result (λ h. HandsOn run.old run.new how h (Frame.Form (FormFrame.StepTarget op place.now))) }
+{
+    match how {
+        Ended::Left => wait(run, Frame::Form(FormFrame::StepTarget(op, *place))),
+        how => Ok(how),
     }
 }
 

@@ -12,13 +12,14 @@ ghost use Rattle.js_flow.specs.Parts.{forest_at};
 ghost use Rattle.js_flow.specs.Fine.{FineReference, IsExprAt, IsPlace};
 ghost use Rattle.js_flow.specs.Forms.{form_taken};
 ghost use Rattle.js_flow.specs.Views.{job_of, place_of, reference_of};
+ghost use Rattle.js_direct.specs.Hands.{HandsOn};
 ghost use Rattle.js_direct.specs.Comes.{IsReady, Reaches};
 
 use crate::forms::{eval_on, form_on};
 use crate::properties::{is_nothing, name_of};
 use crate::run::{Ended, Here, Run, Site, leave_job, take_value, throw, wait};
 use code_units::{Memory, Text};
-use js_flow::{FormFrame, Frame, Job, Reference};
+use js_flow::{FormFrame, Frame, Job, Place, Reference};
 use js_image::{Fault, get, variable};
 use js_tree::{Expr, ExprId};
 use object_store::{Store, Value};
@@ -133,8 +134,19 @@ fn dot_target(
 {
     match eval_on(here, run, store, e, deep, out)? {
         Ended::Is => refer_on(here.site, run, store, name.share()?, of, out),
+        other => hand_dot(run, other, name),
+    }
+}
+
+// The end of the base that is no value, where a name follows.
+#[cold]
+#[inline(never)]
+fn hand_dot(run: &mut Run, how: Ended, name: &Text) -> Result<Ended, Memory>
+    ensures { IfOk result (λ h. HandsOn run.old run.new how h (Frame.Form (FormFrame.TargetDot name.now))) }
+{
+    match how {
         Ended::Left => wait(run, Frame::Form(FormFrame::TargetDot(name.share()?))),
-        other => Ok(other),
+        how => Ok(how),
     }
 }
 
@@ -189,8 +201,19 @@ fn sub_target(
 {
     match eval_on(here, run, store, parts.0, deep, out)? {
         Ended::Is => index_target(here, run, store, parts.1, deep, of, out),
-        Ended::Left => wait(run, Frame::Form(FormFrame::TargetSubBase(parts.1, here.at))),
-        other => Ok(other),
+        other => hand_base(run, other, parts.1, &here.at),
+    }
+}
+
+// The end of the base that is no value.
+#[cold]
+#[inline(never)]
+fn hand_base(run: &mut Run, how: Ended, e: ExprId, place: &Place) -> Result<Ended, Memory>
+    ensures { IfOk result (λ h. HandsOn run.old run.new how h (Frame.Form (FormFrame.TargetSubBase e place.now))) }
+{
+    match how {
+        Ended::Left => wait(run, Frame::Form(FormFrame::TargetSubBase(e, *place))),
+        how => Ok(how),
     }
 }
 

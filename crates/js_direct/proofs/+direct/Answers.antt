@@ -17,7 +17,7 @@ use Rattle.js_direct.proofs.Lists.{before_then, goes_both, goes_then, left_no_va
 use Rattle.js_direct.proofs.Parts.{before_it, gives, more, part_passes, part_then, part_waits, unit_first}
 use Rattle.js_image.proofs.Grown.{fine_stays, held_stays, kept_same, seen_stays}
 use Rattle.js_image.specs.Held.{AreFine, IsFine, IsHeld}
-use Rattle.js_flow.specs.Fine.{FineAssigning, FineFrame, FineReference, IsExprAt}
+use Rattle.js_flow.specs.Fine.{FineAssigning, FineFrame, IsExprAt}
 use Rattle.js_flow.specs.Frames.{taken}
 use Rattle.js_direct.specs.declared.run.Ended.{Ended}
 use Rattle.js_direct.specs.Comes.{Comes, ended_as, target_as}
@@ -27,8 +27,7 @@ use Rattle.js_flow.specs.Forms.{form_taken, property_done}
 use Rattle.js_tree.specs.Trees.{trees}
 use Rattle.js_tree.specs.declared.nodes.Expr.{Expr}
 use Rattle.js_direct.proofs.Reaching.{at_eval, at_target, found_form, goes_on, goes_past, less_one, no_value, parts_at}
-use Rattle.js_direct.proofs.Handing.{hand_form, hand_ok, hands, passes_normal, passes_value}
-use Rattle.js_flow.specs.declared.job.Reference.{Reference}
+use Rattle.js_direct.proofs.Handing.{hand_form, hand_ok, hand_target, hands, passes_normal, passes_value, placed_ok}
 use Rattle.store_cells.specs.Cells.{PlainCell}
 use Rattle.js_flow.specs.declared.frame.Assigning.{Assigning}
 use Rattle.js_flow.specs.Statements.{block_at, declared, loop_again, loop_next}
@@ -687,6 +686,35 @@ blocks::list_on-returns-clause-comes t c =
     towards_then fs w s0 s1 s1 1 1 start q c.args.run.now c.list.run c.list.run ended.Normal (ended_as ended.Normal c.list.out) inv.0
     (gives fs w s1 s1 1 q c.list.run c.list.run ended.Normal (ended_as ended.Normal c.list.out) tt refl inv.0.ready.2 (λ r. ap (λ x. statements x (place_of w s1.cells c.args.here.now.at) (image fs r w s1)) none) tt (omega arith)) (omega arith)
 
+pub blocks::list_on-returns-in-Return-clause-comes : goal.blocks::list_on-returns-in-Return-clause-comes
+blocks::list_on-returns-in-Return-clause-comes t c =
+    let fs = trees_of c.args.here.now.site.now.codes.now.items in
+    let w = c.args.here.now.site.now.widget in
+    let s0 = c.args.store.now in
+    let s1 = c.list.store in
+    let s2 = c.exec_on.new.store in
+    let p : State → Plan = λ s. Do (job_of fs w s1.cells (job.Exec c.in-Some.id c.args.here.now.at)) s Ret in
+    let q : State → Plan = block_at fs w s1.cells c.args.block c.list.n c.args.here.now.at in
+    let start : State → Plan = block_at fs w s0.cells c.args.block 0 c.args.here.now.at in
+    let f = (frame.Statement (statement.Seq c.args.block (c.list.n + 1) c.args.here.now.at)) in
+    let inv = c.list.invariant in
+    let kept = c.in_ok-how.ensures.kept in
+    let how = c.in_ok-how.how in
+    let out = c.exec_on.new.out in
+    let held : FineFrame fs w s1.cells f = inv.2 in
+    let g = forest_at fs c.args.here.now.at.code in
+    let has = subst (λ (o : Option StmtId). HasStmt g (block_list g c.args.block) c.list.n o) c.in-Some.is (listed (stmt_at g) (IsStmt g) c.args.list.now.items c.list.n (block_list g c.args.block) c.requires.list.0 c.requires.list.1 c.statement_in.result c.statement_in.ensures.value c.statement_in.ensures.room) in
+    let listed = has.2 in
+    let plan : (s : State) → q s ≡ and_then (p s) (taken fs w s1.cells f) = λ s. ap (λ l. statements l (place_of w s1.cells c.args.here.now.at) s) listed in
+    let one = as_is fs w s1 s2 0 p c.list.run c.exec_on.new.run how ended.Return out c.in-Return.is c.in_ok-how.ensures.comes in
+    towards_then fs w s0 s1 s2 1 1 start q c.args.run.now c.list.run c.exec_on.new.run ended.Return (ended_as ended.Return out) inv.0
+    (planned fs w s1 s2 1 q _ c.list.run c.exec_on.new.run ended.Return (ended_as ended.Return out) plan
+    (part_passes fs w s1 s2 0 1 p f c.list.run c.exec_on.new.run ended.Return (ended_as ended.Return out) one tt kept.grows held (λ t. refl) (omega arith))) (omega arith)
+
+pub blocks::list_on-returns-in-Return-clause-kept : goal.blocks::list_on-returns-in-Return-clause-kept
+blocks::list_on-returns-in-Return-clause-kept t c =
+    kept_then (trees_of c.args.here.now.site.now.codes.now.items) c.args.here.now.site.now.widget c.args.store.now c.list.store c.exec_on.new.store c.list.invariant.1 c.in_ok-how.ensures.kept
+
 pub blocks::any_on-returns-in_err-how-clause-kept : goal.blocks::any_on-returns-in_err-how-clause-kept
 blocks::any_on-returns-in_err-how-clause-kept t c =
     kept_then (trees_of c.args.here.now.site.now.codes.now.items) c.args.here.now.site.now.widget c.args.store.now c.list.store c.exec_on.new.store c.list.invariant.1 c.in_err-how.ensures.kept
@@ -1207,11 +1235,11 @@ calls::referred_on-returns-clause-comes t c =
     (λ r. ap (λ u. invoke u (base_of of) vs d (image fs r w s)) (sym (c.in_ok-func.ensures.found r)) ∙ ap (λ b. invoke (seen w s.cells func) b vs d (image fs r w s)) (sym (c.take_base-this.ensures.base w s))))
     c.value_far.ensures.comes
 
-pub calls::value_on-callee-requires : goal.calls::value_on-callee-requires
-calls::value_on-callee-requires t c = fine_within c.args.site.now.widget c.args.store.now.cells c.args.func.now c.requires.held.0
+pub entering::value_on-callee-requires : goal.entering::value_on-callee-requires
+entering::value_on-callee-requires t c = fine_within c.args.site.now.widget c.args.store.now.cells c.args.func.now c.requires.held.0
 
-pub calls::value_on-returns-in-Function-clause-comes : goal.calls::value_on-returns-in-Function-clause-comes
-calls::value_on-returns-in-Function-clause-comes t c =
+pub entering::value_on-returns-in-Function-clause-comes : goal.entering::value_on-returns-in-Function-clause-comes
+entering::value_on-returns-in-Function-clause-comes t c =
     let fs = trees_of c.args.site.now.codes.now.items in
     let w = c.args.site.now.widget in
     let s = c.args.store.now in
@@ -1227,8 +1255,8 @@ calls::value_on-returns-in-Function-clause-comes t c =
     ∙ ap (λ (l : List Value2). enter kind func (all_seen w s.cells l) (suc d) (image fs r w s)) (sym c.as_slice.ensures)))
     c.enter_on.ensures.comes
 
-pub calls::value_on-returns-in-Native-clause-comes : goal.calls::value_on-returns-in-Native-clause-comes
-calls::value_on-returns-in-Native-clause-comes t c =
+pub entering::value_on-returns-in-Native-clause-comes : goal.entering::value_on-returns-in-Native-clause-comes
+entering::value_on-returns-in-Native-clause-comes t c =
     let fs = trees_of c.args.site.now.codes.now.items in
     let w = c.args.site.now.widget in
     let s = c.args.store.now in
@@ -1242,8 +1270,8 @@ calls::value_on-returns-in-Native-clause-comes t c =
     (h fs w s c.args.out.now c.requires.held.1 c.requires.held.2) (omega arith))
     c.native_on.ensures.comes
 
-pub calls::value_on-returns-in-Nothing-clause-comes : goal.calls::value_on-returns-in-Nothing-clause-comes
-calls::value_on-returns-in-Nothing-clause-comes t c =
+pub entering::value_on-returns-in-Nothing-clause-comes : goal.entering::value_on-returns-in-Nothing-clause-comes
+entering::value_on-returns-in-Nothing-clause-comes t c =
     let fs = trees_of c.args.site.now.codes.now.items in
     let w = c.args.site.now.widget in
     let s = c.args.store.now in
@@ -1256,8 +1284,8 @@ calls::value_on-returns-in-Nothing-clause-comes t c =
     (λ r. nothing_called (image fs r w s) this vs d func (c.in-Nothing.ensures.called fs r w c.requires.held.0)))
     c.throw.ensures.comes
 
-pub calls::value_on-enter_on-requires : goal.calls::value_on-enter_on-requires
-calls::value_on-enter_on-requires t c = (
+pub entering::value_on-enter_on-requires : goal.entering::value_on-enter_on-requires
+entering::value_on-enter_on-requires t c = (
   search rules,
   (
     (c.requires.ready),
@@ -1268,23 +1296,23 @@ calls::value_on-enter_on-requires t c = (
   ),
 )
 
-pub calls::value_on-native_on-requires : goal.calls::value_on-native_on-requires
-calls::value_on-native_on-requires t c = record { waits = c.requires.ready.2 }
+pub entering::value_on-native_on-requires : goal.entering::value_on-native_on-requires
+entering::value_on-native_on-requires t c = record { waits = c.requires.ready.2 }
 
-pub calls::value_on-throw-requires : goal.calls::value_on-throw-requires
-calls::value_on-throw-requires t c = record { ready = c.requires.ready }
+pub entering::value_on-throw-requires : goal.entering::value_on-throw-requires
+entering::value_on-throw-requires t c = record { ready = c.requires.ready }
 
-pub calls::value_on-returns-in-Function-clause-kept : goal.calls::value_on-returns-in-Function-clause-kept
-calls::value_on-returns-in-Function-clause-kept t c = c.enter_on.ensures.kept
+pub entering::value_on-returns-in-Function-clause-kept : goal.entering::value_on-returns-in-Function-clause-kept
+entering::value_on-returns-in-Function-clause-kept t c = c.enter_on.ensures.kept
 
-pub calls::value_on-returns-in-Native-clause-kept : goal.calls::value_on-returns-in-Native-clause-kept
-calls::value_on-returns-in-Native-clause-kept t c = kept_same (trees_of c.args.site.now.codes.now.items) c.args.site.now.widget c.args.store.now c.args.store.now refl
+pub entering::value_on-returns-in-Native-clause-kept : goal.entering::value_on-returns-in-Native-clause-kept
+entering::value_on-returns-in-Native-clause-kept t c = kept_same (trees_of c.args.site.now.codes.now.items) c.args.site.now.widget c.args.store.now c.args.store.now refl
 
-pub calls::value_on-returns-in-Nothing-clause-kept : goal.calls::value_on-returns-in-Nothing-clause-kept
-calls::value_on-returns-in-Nothing-clause-kept t c = c.throw.ensures.kept
+pub entering::value_on-returns-in-Nothing-clause-kept : goal.entering::value_on-returns-in-Nothing-clause-kept
+entering::value_on-returns-in-Nothing-clause-kept t c = c.throw.ensures.kept
 
-pub calls::enter_on-returns-in-Stop-clause-comes : goal.calls::enter_on-returns-in-Stop-clause-comes
-calls::enter_on-returns-in-Stop-clause-comes t c =
+pub entering::enter_on-returns-in-Stop-clause-comes : goal.entering::enter_on-returns-in-Stop-clause-comes
+entering::enter_on-returns-in-Stop-clause-comes t c =
     let fs = trees_of c.args.site.now.codes.now.items in
     let w = c.args.site.now.widget in
     let mid = c.entered.new.store in
@@ -1294,8 +1322,8 @@ calls::enter_on-returns-in-Stop-clause-comes t c =
     (h fs w mid c.args.out.now) (omega arith))
     c.stop.ensures.comes
 
-pub calls::enter_on-body_on-requires : goal.calls::enter_on-body_on-requires
-calls::enter_on-body_on-requires t c = (
+pub entering::enter_on-body_on-requires : goal.entering::enter_on-body_on-requires
+entering::enter_on-body_on-requires t c = (
   search rules,
   (
     ((c.requires.ready.0, c.entered.ensures.kept.confined c.requires.ready.1, c.requires.ready.2)),
@@ -1306,8 +1334,8 @@ calls::enter_on-body_on-requires t c = (
   ),
 )
 
-pub calls::enter_on-returns-in-Body-clause-comes : goal.calls::enter_on-returns-in-Body-clause-comes
-calls::enter_on-returns-in-Body-clause-comes t c =
+pub entering::enter_on-returns-in-Body-clause-comes : goal.entering::enter_on-returns-in-Body-clause-comes
+entering::enter_on-returns-in-Body-clause-comes t c =
     let fs = trees_of c.args.site.now.codes.now.items in
     let w = c.args.site.now.widget in
     let mid = c.entered.new.store in
@@ -1316,36 +1344,36 @@ calls::enter_on-returns-in-Body-clause-comes t c =
     (λ r. sym (ap (λ e. entry_plan fs w mid.cells c.args.parts.fun e (image fs r w mid)) (sym c.in-Body.is) ∙ c.in_ok-cause.ensures.plan r)))
     c.body_on.ensures.comes
 
-pub calls::enter_on-returns-in-Body-clause-kept : goal.calls::enter_on-returns-in-Body-clause-kept
-calls::enter_on-returns-in-Body-clause-kept t c =
+pub entering::enter_on-returns-in-Body-clause-kept : goal.entering::enter_on-returns-in-Body-clause-kept
+entering::enter_on-returns-in-Body-clause-kept t c =
     kept_then (trees_of c.args.site.now.codes.now.items) c.args.site.now.widget c.args.store.now c.entered.new.store c.body_on.new.store c.entered.ensures.kept c.body_on.ensures.kept
 
-pub calls::enter_on-entered-requires-clause-widget : goal.calls::enter_on-entered-requires-clause-widget
-calls::enter_on-entered-requires-clause-widget t c = c.requires.ready.0
+pub entering::enter_on-entered-requires-clause-widget : goal.entering::enter_on-entered-requires-clause-widget
+entering::enter_on-entered-requires-clause-widget t c = c.requires.ready.0
 
-pub calls::enter_on-entered-requires-clause-confined : goal.calls::enter_on-entered-requires-clause-confined
-calls::enter_on-entered-requires-clause-confined t c = c.requires.ready.1
+pub entering::enter_on-entered-requires-clause-confined : goal.entering::enter_on-entered-requires-clause-confined
+entering::enter_on-entered-requires-clause-confined t c = c.requires.ready.1
 
-pub calls::enter_on-entered-requires-clause-fun : goal.calls::enter_on-entered-requires-clause-fun
-calls::enter_on-entered-requires-clause-fun t c = c.requires.fun
+pub entering::enter_on-entered-requires-clause-fun : goal.entering::enter_on-entered-requires-clause-fun
+entering::enter_on-entered-requires-clause-fun t c = c.requires.fun
 
-pub calls::enter_on-entered-requires-clause-held : goal.calls::enter_on-entered-requires-clause-held
-calls::enter_on-entered-requires-clause-held t c = c.requires.held
+pub entering::enter_on-entered-requires-clause-held : goal.entering::enter_on-entered-requires-clause-held
+entering::enter_on-entered-requires-clause-held t c = c.requires.held
 
-pub calls::enter_on-returns-in_err-cause-clause-comes : goal.calls::enter_on-returns-in_err-cause-clause-comes
-calls::enter_on-returns-in_err-cause-clause-comes t c = refused c.from_residual.result _ c.from_residual.ensures.0
+pub entering::enter_on-returns-in_err-cause-clause-comes : goal.entering::enter_on-returns-in_err-cause-clause-comes
+entering::enter_on-returns-in_err-cause-clause-comes t c = refused c.from_residual.result _ c.from_residual.ensures.0
 
-pub calls::enter_on-returns-in_err-cause-clause-kept : goal.calls::enter_on-returns-in_err-cause-clause-kept
-calls::enter_on-returns-in_err-cause-clause-kept t c = c.entered.ensures.kept
+pub entering::enter_on-returns-in_err-cause-clause-kept : goal.entering::enter_on-returns-in_err-cause-clause-kept
+entering::enter_on-returns-in_err-cause-clause-kept t c = c.entered.ensures.kept
 
-pub calls::enter_on-stop-requires : goal.calls::enter_on-stop-requires
-calls::enter_on-stop-requires t c = record { waits = c.requires.ready.2 }
+pub entering::enter_on-stop-requires : goal.entering::enter_on-stop-requires
+entering::enter_on-stop-requires t c = record { waits = c.requires.ready.2 }
 
-pub calls::enter_on-returns-in-Stop-clause-kept : goal.calls::enter_on-returns-in-Stop-clause-kept
-calls::enter_on-returns-in-Stop-clause-kept t c = c.entered.ensures.kept
+pub entering::enter_on-returns-in-Stop-clause-kept : goal.entering::enter_on-returns-in-Stop-clause-kept
+entering::enter_on-returns-in-Stop-clause-kept t c = c.entered.ensures.kept
 
-pub calls::body_on-returns-in-Left-clause-comes : goal.calls::body_on-returns-in-Left-clause-comes
-calls::body_on-returns-in-Left-clause-comes t c =
+pub entering::body_on-returns-in-Left-clause-comes : goal.entering::body_on-returns-in-Left-clause-comes
+entering::body_on-returns-in-Left-clause-comes t c =
     let fs = trees_of c.args.here.now.site.now.codes.now.items in
     let w = c.args.here.now.site.now.widget in
     let old = c.args.store.now in
@@ -1355,8 +1383,8 @@ calls::body_on-returns-in-Left-clause-comes t c =
     (ended_as c.in_ok-how.how c.block_on.new.out) (λ how. ended_as how c.block_on.new.out)
     c.in_ok-how.ensures.comes c.in-Left.is c.block_on.ensures.kept tt (omega arith) c.wait_end.ensures.left c.wait_end.ensures.waits c.wait_end.ensures.next c.wait_end.ensures.units
 
-pub calls::body_on-returns-in_default : goal.calls::body_on-returns-in_default
-calls::body_on-returns-in_default t c =
+pub entering::body_on-returns-in_default : goal.entering::body_on-returns-in_default
+entering::body_on-returns-in_default t c =
     let fs = trees_of c.args.here.now.site.now.codes.now.items in
     let w = c.args.here.now.site.now.widget in
     let old = c.args.store.now in
@@ -1368,8 +1396,8 @@ calls::body_on-returns-in_default t c =
       kept = c.block_on.ensures.kept;
     }
 
-pub calls::body_on-block_on-requires : goal.calls::body_on-block_on-requires
-calls::body_on-block_on-requires t c = (
+pub entering::body_on-block_on-requires : goal.entering::body_on-block_on-requires
+entering::body_on-block_on-requires t c = (
   search rules,
   (
     (c.requires.ready),
@@ -1380,17 +1408,17 @@ calls::body_on-block_on-requires t c = (
   ),
 )
 
-pub calls::body_on-returns-in_err-how-clause-comes : goal.calls::body_on-returns-in_err-how-clause-comes
-calls::body_on-returns-in_err-how-clause-comes t c = refused c.from_residual.result _ c.from_residual.ensures.0
+pub entering::body_on-returns-in_err-how-clause-comes : goal.entering::body_on-returns-in_err-how-clause-comes
+entering::body_on-returns-in_err-how-clause-comes t c = refused c.from_residual.result _ c.from_residual.ensures.0
 
-pub calls::body_on-returns-in_err-how-clause-kept : goal.calls::body_on-returns-in_err-how-clause-kept
-calls::body_on-returns-in_err-how-clause-kept t c = c.block_on.ensures.kept
+pub entering::body_on-returns-in_err-how-clause-kept : goal.entering::body_on-returns-in_err-how-clause-kept
+entering::body_on-returns-in_err-how-clause-kept t c = c.block_on.ensures.kept
 
-pub calls::body_on-returns-in-Left-clause-kept : goal.calls::body_on-returns-in-Left-clause-kept
-calls::body_on-returns-in-Left-clause-kept t c = c.block_on.ensures.kept
+pub entering::body_on-returns-in-Left-clause-kept : goal.entering::body_on-returns-in-Left-clause-kept
+entering::body_on-returns-in-Left-clause-kept t c = c.block_on.ensures.kept
 
-pub calls::body_on-call_end-requires : goal.calls::body_on-call_end-requires
-calls::body_on-call_end-requires t c = other_end c.in_ok-how.how c.in_default.not-Left
+pub entering::body_on-call_end-requires : goal.entering::body_on-call_end-requires
+entering::body_on-call_end-requires t c = other_end c.in_ok-how.how c.in_default.not-Left
 
 pub forms::eval_on-returns-clause-comes : goal.forms::eval_on-returns-clause-comes
 forms::eval_on-returns-clause-comes t c =
@@ -2107,8 +2135,8 @@ objects::property_part_on-returns-in_default t c =
       kept = kept;
     }
 
-pub operators::binary_on-right_on-requires : goal.operators::binary_on-right_on-requires
-operators::binary_on-right_on-requires t c = (
+pub operators::binary_with-right_on-requires : goal.operators::binary_with-right_on-requires
+operators::binary_with-right_on-requires t c = (
   search rules,
   (
     (
@@ -2145,8 +2173,8 @@ operators::binary_on-right_on-requires t c = (
   ),
 )
 
-pub operators::binary_on-returns-in-Is-clause-comes : goal.operators::binary_on-returns-in-Is-clause-comes
-operators::binary_on-returns-in-Is-clause-comes t c =
+pub operators::binary_with-returns-in-Is-clause-comes : goal.operators::binary_with-returns-in-Is-clause-comes
+operators::binary_with-returns-in-Is-clause-comes t c =
     let fs = trees_of c.args.here.now.site.now.codes.now.items in
     let w = c.args.here.now.site.now.widget in
     let old = c.args.store.now in
@@ -2162,12 +2190,12 @@ operators::binary_on-returns-in-Is-clause-comes t c =
     (λ h x. value_then fs w old mid c.right_on.new.store 0 8 30 p (form.Right c.args.op c.args.parts.1 c.args.here.now.at) had has c.right_on.new.run how h out _ part c.in-Is.is kept c.requires.held.1 x (omega arith))
     c.right_on.ensures.comes)
 
-pub operators::binary_on-returns-in-Is-clause-kept : goal.operators::binary_on-returns-in-Is-clause-kept
-operators::binary_on-returns-in-Is-clause-kept t c =
+pub operators::binary_with-returns-in-Is-clause-kept : goal.operators::binary_with-returns-in-Is-clause-kept
+operators::binary_with-returns-in-Is-clause-kept t c =
     kept_then (trees_of c.args.here.now.site.now.codes.now.items) c.args.here.now.site.now.widget c.args.store.now c.operand_on.new.store c.right_on.new.store c.in_ok-how.ensures.kept c.right_on.ensures.kept
 
-pub operators::binary_on-returns-in_default-clause-comes : goal.operators::binary_on-returns-in_default-clause-comes
-operators::binary_on-returns-in_default-clause-comes t c =
+pub operators::binary_with-returns-in_default-clause-comes : goal.operators::binary_with-returns-in_default-clause-comes
+operators::binary_with-returns-in_default-clause-comes t c =
     let fs = trees_of c.args.here.now.site.now.codes.now.items in
     let w = c.args.here.now.site.now.widget in
     let old = c.args.store.now in
@@ -2179,31 +2207,11 @@ operators::binary_on-returns-in_default-clause-comes t c =
     let out = c.operand_on.new.out in
     let part = c.in_ok-how.ensures.comes in
     let kept = c.in_ok-how.ensures.kept in
-    hand_form fs w c.hand_right.result old mid 0 30 p (form.Right c.args.op c.args.parts.1 c.args.here.now.at) had has c.hand_right.new.run how out part c.in_default.not-Is kept c.requires.held.1 (omega arith) c.hand_right.ensures
+    placed_ok c.hand_right.result (λ h v. Comes fs w old mid 30 (λ s. and_then (p s) (form_taken fs w old.cells (form.Right c.args.op c.args.parts.1 c.args.here.now.at))) had c.hand_right.new.run h v) out c.hand_right.new.out c.hand_right.ensures.value
+    (hand_form fs w c.hand_right.result old mid 0 30 p (form.Right c.args.op c.args.parts.1 c.args.here.now.at) had has c.hand_right.new.run how out part c.in_default.not-Is kept c.requires.held.1 (omega arith) c.hand_right.ensures.hands)
 
-pub operators::right_on-operand_with-requires : goal.operators::right_on-operand_with-requires
-operators::right_on-operand_with-requires t c = (
-  search rules,
-  (
-    search rules,
-    (
-      ((c.requires.held.0, subst (λ (b : Value2). IsFine c.args.here.now.site.now.widget c.args.store.now.cells b) (sym c.take_value-left.ensures.taken) c.requires.held.1)),
-      c.requires.tree,
-    ),
-  ),
-)
-
-pub operators::right_on-returns-clause-comes : goal.operators::right_on-returns-clause-comes
-operators::right_on-returns-clause-comes t c =
-    let fs = trees_of c.args.here.now.site.now.codes.now.items in
-    let w = c.args.here.now.site.now.widget in
-    let old = c.args.store.now in
-    IfOk-weaker c.operand_with.result _ _
-    (λ how x. subst (λ (b : Value2). Comes fs w old c.operand_with.new.store 8 (taken fs w old.cells (frame.Form (form.Right c.args.op c.args.e c.args.here.now.at)) (meaning.Is (seen w old.cells b))) c.args.run.now c.operand_with.new.run how c.operand_with.new.out) c.take_value-left.ensures.taken x)
-    c.operand_with.ensures.comes
-
-pub operators::operand_with-operate_on-requires-clause-ready : goal.operators::operand_with-operate_on-requires-clause-ready
-operators::operand_with-operate_on-requires-clause-ready t c =
+pub operators::right_on-operate_on-requires-clause-ready : goal.operators::right_on-operate_on-requires-clause-ready
+operators::right_on-operate_on-requires-clause-ready t c =
     let fs = trees_of c.args.here.now.site.now.codes.now.items in
     let w = c.args.here.now.site.now.widget in
     let old = c.args.store.now in
@@ -2217,8 +2225,8 @@ operators::operand_with-operate_on-requires-clause-ready t c =
     let kept = c.in_ok-how.ensures.kept in
     value_ready fs w old mid 0 p had has how (ended_as how out) part c.in-Is.is kept c.requires.ready
 
-pub operators::operand_with-operate_on-requires-clause-held : goal.operators::operand_with-operate_on-requires-clause-held
-operators::operand_with-operate_on-requires-clause-held t c =
+pub operators::right_on-operate_on-requires-clause-held : goal.operators::right_on-operate_on-requires-clause-held
+operators::right_on-operate_on-requires-clause-held t c =
     let fs = trees_of c.args.here.now.site.now.codes.now.items in
     let w = c.args.here.now.site.now.widget in
     let old = c.args.store.now in
@@ -2232,8 +2240,8 @@ operators::operand_with-operate_on-requires-clause-held t c =
     let kept = c.in_ok-how.ensures.kept in
     (fine_stays w old.cells mid.cells kept.grows c.args.left.now c.requires.held.1, value_fine fs w old mid 0 p had has how out part c.in-Is.is)
 
-pub operators::operand_with-returns-in-Is-clause-comes : goal.operators::operand_with-returns-in-Is-clause-comes
-operators::operand_with-returns-in-Is-clause-comes t c =
+pub operators::right_on-returns-in-Is-clause-comes : goal.operators::right_on-returns-in-Is-clause-comes
+operators::right_on-returns-in-Is-clause-comes t c =
     let fs = trees_of c.args.here.now.site.now.codes.now.items in
     let w = c.args.here.now.site.now.widget in
     let old = c.args.store.now in
@@ -2250,12 +2258,12 @@ operators::operand_with-returns-in-Is-clause-comes t c =
     (λ h x. value_then fs w old mid c.operate_on.new.store 0 8 8 p (form.Operate c.args.op c.args.left.now c.args.here.now.at.depth) had has c.operate_on.new.run how h out _ part c.in-Is.is kept fine x (omega arith))
     c.operate_on.ensures.comes)
 
-pub operators::operand_with-returns-in-Is-clause-kept : goal.operators::operand_with-returns-in-Is-clause-kept
-operators::operand_with-returns-in-Is-clause-kept t c =
+pub operators::right_on-returns-in-Is-clause-kept : goal.operators::right_on-returns-in-Is-clause-kept
+operators::right_on-returns-in-Is-clause-kept t c =
     kept_then (trees_of c.args.here.now.site.now.codes.now.items) c.args.here.now.site.now.widget c.args.store.now c.operand_on.new.store c.operate_on.new.store c.in_ok-how.ensures.kept c.operate_on.ensures.kept
 
-pub operators::operand_with-returns-in_default-clause-comes : goal.operators::operand_with-returns-in_default-clause-comes
-operators::operand_with-returns-in_default-clause-comes t c =
+pub operators::right_on-returns-in_default-clause-comes : goal.operators::right_on-returns-in_default-clause-comes
+operators::right_on-returns-in_default-clause-comes t c =
     let fs = trees_of c.args.here.now.site.now.codes.now.items in
     let w = c.args.here.now.site.now.widget in
     let old = c.args.store.now in
@@ -2329,8 +2337,8 @@ pub operators::and_on-returns-in-Is-clause-kept : goal.operators::and_on-returns
 operators::and_on-returns-in-Is-clause-kept t c =
     kept_then (trees_of c.args.here.now.site.now.codes.now.items) c.args.here.now.site.now.widget c.args.store.now c.eval_on.new.store c.and_right.new.store c.in_ok-how.ensures.kept c.and_right.ensures.kept
 
-pub operators::and_on-returns-in-Left-clause-comes : goal.operators::and_on-returns-in-Left-clause-comes
-operators::and_on-returns-in-Left-clause-comes t c =
+pub operators::and_on-returns-in_default-clause-comes : goal.operators::and_on-returns-in_default-clause-comes
+operators::and_on-returns-in_default-clause-comes t c =
     let fs = trees_of c.args.here.now.site.now.codes.now.items in
     let w = c.args.here.now.site.now.widget in
     let old = c.args.store.now in
@@ -2342,26 +2350,7 @@ operators::and_on-returns-in-Left-clause-comes t c =
     let out = c.eval_on.new.out in
     let part = c.in_ok-how.ensures.comes in
     let kept = c.in_ok-how.ensures.kept in
-    (frame_waits fs w c.wait.result old mid 0 30 p (frame.Form (form.And c.args.parts.1 c.args.here.now.at)) had has c.wait.new.run how (ended_as how out) (λ (h : Ended). ended_as h out) part c.in-Left.is kept c.requires.held.1 (omega arith)
-    c.wait.ensures.left c.wait.ensures.waits c.wait.ensures.next c.wait.ensures.units)
-
-pub operators::and_on-returns-in_default : goal.operators::and_on-returns-in_default
-operators::and_on-returns-in_default t c =
-    let fs = trees_of c.args.here.now.site.now.codes.now.items in
-    let w = c.args.here.now.site.now.widget in
-    let old = c.args.store.now in
-    let mid = c.eval_on.new.store in
-    let p : State → Plan = λ s. Do (job_of fs w old.cells (job.Eval c.args.parts.0 c.args.here.now.at)) s Ret in
-    let had = c.args.run.now in
-    let has = c.eval_on.new.run in
-    let how = c.in_ok-how.how in
-    let out = c.eval_on.new.out in
-    let part = c.in_ok-how.ensures.comes in
-    let kept = c.in_ok-how.ensures.kept in
-    record {
-      comes = (value_passes fs w old mid 0 30 p (form.And c.args.parts.1 c.args.here.now.at) had has how out part c.in_default.not-Is c.in_default.not-Left kept c.requires.held.1 (omega arith));
-      kept = kept;
-    }
+    hand_form fs w c.hand_and.result old mid 0 30 p (form.And c.args.parts.1 c.args.here.now.at) had has c.hand_and.new.run how out part c.in_default.not-Is kept c.requires.held.1 (omega arith) c.hand_and.ensures
 
 pub operators::or_on-or_right-requires : goal.operators::or_on-or_right-requires
 operators::or_on-or_right-requires t c = (
@@ -2422,8 +2411,8 @@ pub operators::or_on-returns-in-Is-clause-kept : goal.operators::or_on-returns-i
 operators::or_on-returns-in-Is-clause-kept t c =
     kept_then (trees_of c.args.here.now.site.now.codes.now.items) c.args.here.now.site.now.widget c.args.store.now c.eval_on.new.store c.or_right.new.store c.in_ok-how.ensures.kept c.or_right.ensures.kept
 
-pub operators::or_on-returns-in-Left-clause-comes : goal.operators::or_on-returns-in-Left-clause-comes
-operators::or_on-returns-in-Left-clause-comes t c =
+pub operators::or_on-returns-in_default-clause-comes : goal.operators::or_on-returns-in_default-clause-comes
+operators::or_on-returns-in_default-clause-comes t c =
     let fs = trees_of c.args.here.now.site.now.codes.now.items in
     let w = c.args.here.now.site.now.widget in
     let old = c.args.store.now in
@@ -2435,26 +2424,7 @@ operators::or_on-returns-in-Left-clause-comes t c =
     let out = c.eval_on.new.out in
     let part = c.in_ok-how.ensures.comes in
     let kept = c.in_ok-how.ensures.kept in
-    (frame_waits fs w c.wait.result old mid 0 30 p (frame.Form (form.Or c.args.parts.1 c.args.here.now.at)) had has c.wait.new.run how (ended_as how out) (λ (h : Ended). ended_as h out) part c.in-Left.is kept c.requires.held.1 (omega arith)
-    c.wait.ensures.left c.wait.ensures.waits c.wait.ensures.next c.wait.ensures.units)
-
-pub operators::or_on-returns-in_default : goal.operators::or_on-returns-in_default
-operators::or_on-returns-in_default t c =
-    let fs = trees_of c.args.here.now.site.now.codes.now.items in
-    let w = c.args.here.now.site.now.widget in
-    let old = c.args.store.now in
-    let mid = c.eval_on.new.store in
-    let p : State → Plan = λ s. Do (job_of fs w old.cells (job.Eval c.args.parts.0 c.args.here.now.at)) s Ret in
-    let had = c.args.run.now in
-    let has = c.eval_on.new.run in
-    let how = c.in_ok-how.how in
-    let out = c.eval_on.new.out in
-    let part = c.in_ok-how.ensures.comes in
-    let kept = c.in_ok-how.ensures.kept in
-    record {
-      comes = (value_passes fs w old mid 0 30 p (form.Or c.args.parts.1 c.args.here.now.at) had has how out part c.in_default.not-Is c.in_default.not-Left kept c.requires.held.1 (omega arith));
-      kept = kept;
-    }
+    hand_form fs w c.hand_or.result old mid 0 30 p (form.Or c.args.parts.1 c.args.here.now.at) had has c.hand_or.new.run how out part c.in_default.not-Is kept c.requires.held.1 (omega arith) c.hand_or.ensures
 
 pub operators::choose_on-chosen_on-requires : goal.operators::choose_on-chosen_on-requires
 operators::choose_on-chosen_on-requires t c = (
@@ -2515,8 +2485,8 @@ pub operators::choose_on-returns-in-Is-clause-kept : goal.operators::choose_on-r
 operators::choose_on-returns-in-Is-clause-kept t c =
     kept_then (trees_of c.args.here.now.site.now.codes.now.items) c.args.here.now.site.now.widget c.args.store.now c.eval_on.new.store c.chosen_on.new.store c.in_ok-how.ensures.kept c.chosen_on.ensures.kept
 
-pub operators::choose_on-returns-in-Left-clause-comes : goal.operators::choose_on-returns-in-Left-clause-comes
-operators::choose_on-returns-in-Left-clause-comes t c =
+pub operators::choose_on-returns-in_default-clause-comes : goal.operators::choose_on-returns-in_default-clause-comes
+operators::choose_on-returns-in_default-clause-comes t c =
     let fs = trees_of c.args.here.now.site.now.codes.now.items in
     let w = c.args.here.now.site.now.widget in
     let old = c.args.store.now in
@@ -2528,26 +2498,7 @@ operators::choose_on-returns-in-Left-clause-comes t c =
     let out = c.eval_on.new.out in
     let part = c.in_ok-how.ensures.comes in
     let kept = c.in_ok-how.ensures.kept in
-    (frame_waits fs w c.wait.result old mid 0 30 p (frame.Form (form.Choose c.args.parts.1 c.args.parts.2 c.args.here.now.at)) had has c.wait.new.run how (ended_as how out) (λ (h : Ended). ended_as h out) part c.in-Left.is kept (c.requires.held.1, c.requires.held.2) (omega arith)
-    c.wait.ensures.left c.wait.ensures.waits c.wait.ensures.next c.wait.ensures.units)
-
-pub operators::choose_on-returns-in_default : goal.operators::choose_on-returns-in_default
-operators::choose_on-returns-in_default t c =
-    let fs = trees_of c.args.here.now.site.now.codes.now.items in
-    let w = c.args.here.now.site.now.widget in
-    let old = c.args.store.now in
-    let mid = c.eval_on.new.store in
-    let p : State → Plan = λ s. Do (job_of fs w old.cells (job.Eval c.args.parts.0 c.args.here.now.at)) s Ret in
-    let had = c.args.run.now in
-    let has = c.eval_on.new.run in
-    let how = c.in_ok-how.how in
-    let out = c.eval_on.new.out in
-    let part = c.in_ok-how.ensures.comes in
-    let kept = c.in_ok-how.ensures.kept in
-    record {
-      comes = (value_passes fs w old mid 0 30 p (form.Choose c.args.parts.1 c.args.parts.2 c.args.here.now.at) had has how out part c.in_default.not-Is c.in_default.not-Left kept (c.requires.held.1, c.requires.held.2) (omega arith));
-      kept = kept;
-    }
+    hand_form fs w c.hand_choose.result old mid 0 30 p (form.Choose c.args.parts.1 c.args.parts.2 c.args.here.now.at) had has c.hand_choose.new.run how out part c.in_default.not-Is kept (c.requires.held.1, c.requires.held.2) (omega arith) c.hand_choose.ensures
 
 pub operators::unary_on-prefix_on-requires-clause-ready : goal.operators::unary_on-prefix_on-requires-clause-ready
 operators::unary_on-prefix_on-requires-clause-ready t c =
@@ -2600,8 +2551,8 @@ pub operators::unary_on-returns-in-Is-clause-kept : goal.operators::unary_on-ret
 operators::unary_on-returns-in-Is-clause-kept t c =
     kept_then (trees_of c.args.here.now.site.now.codes.now.items) c.args.here.now.site.now.widget c.args.store.now c.eval_on.new.store c.prefix_on.new.store c.in_ok-how.ensures.kept c.prefix_on.ensures.kept
 
-pub operators::unary_on-returns-in-Left-clause-comes : goal.operators::unary_on-returns-in-Left-clause-comes
-operators::unary_on-returns-in-Left-clause-comes t c =
+pub operators::unary_on-returns-in_default-clause-comes : goal.operators::unary_on-returns-in_default-clause-comes
+operators::unary_on-returns-in_default-clause-comes t c =
     let fs = trees_of c.args.here.now.site.now.codes.now.items in
     let w = c.args.here.now.site.now.widget in
     let old = c.args.store.now in
@@ -2613,26 +2564,7 @@ operators::unary_on-returns-in-Left-clause-comes t c =
     let out = c.eval_on.new.out in
     let part = c.in_ok-how.ensures.comes in
     let kept = c.in_ok-how.ensures.kept in
-    (frame_waits fs w c.wait.result old mid 0 30 p (frame.Form (form.Prefix c.args.op c.args.here.now.at)) had has c.wait.new.run how (ended_as how out) (λ (h : Ended). ended_as h out) part c.in-Left.is kept c.requires.held.0 (omega arith)
-    c.wait.ensures.left c.wait.ensures.waits c.wait.ensures.next c.wait.ensures.units)
-
-pub operators::unary_on-returns-in_default : goal.operators::unary_on-returns-in_default
-operators::unary_on-returns-in_default t c =
-    let fs = trees_of c.args.here.now.site.now.codes.now.items in
-    let w = c.args.here.now.site.now.widget in
-    let old = c.args.store.now in
-    let mid = c.eval_on.new.store in
-    let p : State → Plan = λ s. Do (job_of fs w old.cells (job.Eval c.args.e c.args.here.now.at)) s Ret in
-    let had = c.args.run.now in
-    let has = c.eval_on.new.run in
-    let how = c.in_ok-how.how in
-    let out = c.eval_on.new.out in
-    let part = c.in_ok-how.ensures.comes in
-    let kept = c.in_ok-how.ensures.kept in
-    record {
-      comes = (value_passes fs w old mid 0 30 p (form.Prefix c.args.op c.args.here.now.at) had has how out part c.in_default.not-Is c.in_default.not-Left kept c.requires.held.0 (omega arith));
-      kept = kept;
-    }
+    hand_form fs w c.hand_prefix.result old mid 0 30 p (form.Prefix c.args.op c.args.here.now.at) had has c.hand_prefix.new.run how out part c.in_default.not-Is kept c.requires.held.0 (omega arith) c.hand_prefix.ensures
 
 pub properties::dot_on-read_on-requires-clause-ready : goal.properties::dot_on-read_on-requires-clause-ready
 properties::dot_on-read_on-requires-clause-ready t c =
@@ -2759,8 +2691,8 @@ pub properties::sub_on-returns-in-Is-clause-kept : goal.properties::sub_on-retur
 properties::sub_on-returns-in-Is-clause-kept t c =
     kept_then (trees_of c.args.here.now.site.now.codes.now.items) c.args.here.now.site.now.widget c.args.store.now c.eval_on.new.store c.subscript_on.new.store c.in_ok-how.ensures.kept c.subscript_on.ensures.kept
 
-pub properties::sub_on-returns-in-Left-clause-comes : goal.properties::sub_on-returns-in-Left-clause-comes
-properties::sub_on-returns-in-Left-clause-comes t c =
+pub properties::sub_on-returns-in_default-clause-comes : goal.properties::sub_on-returns-in_default-clause-comes
+properties::sub_on-returns-in_default-clause-comes t c =
     let fs = trees_of c.args.here.now.site.now.codes.now.items in
     let w = c.args.here.now.site.now.widget in
     let old = c.args.store.now in
@@ -2772,26 +2704,7 @@ properties::sub_on-returns-in-Left-clause-comes t c =
     let out = c.eval_on.new.out in
     let part = c.in_ok-how.ensures.comes in
     let kept = c.in_ok-how.ensures.kept in
-    (frame_waits fs w c.wait.result old mid 0 30 p (frame.Form (form.SubBase c.args.parts.1 c.args.here.now.at)) had has c.wait.new.run how (ended_as how out) (λ (h : Ended). ended_as h out) part c.in-Left.is kept c.requires.held.1 (omega arith)
-    c.wait.ensures.left c.wait.ensures.waits c.wait.ensures.next c.wait.ensures.units)
-
-pub properties::sub_on-returns-in_default : goal.properties::sub_on-returns-in_default
-properties::sub_on-returns-in_default t c =
-    let fs = trees_of c.args.here.now.site.now.codes.now.items in
-    let w = c.args.here.now.site.now.widget in
-    let old = c.args.store.now in
-    let mid = c.eval_on.new.store in
-    let p : State → Plan = λ s. Do (job_of fs w old.cells (job.Eval c.args.parts.0 c.args.here.now.at)) s Ret in
-    let had = c.args.run.now in
-    let has = c.eval_on.new.run in
-    let how = c.in_ok-how.how in
-    let out = c.eval_on.new.out in
-    let part = c.in_ok-how.ensures.comes in
-    let kept = c.in_ok-how.ensures.kept in
-    record {
-      comes = (value_passes fs w old mid 0 30 p (form.SubBase c.args.parts.1 c.args.here.now.at) had has how out part c.in_default.not-Is c.in_default.not-Left kept c.requires.held.1 (omega arith));
-      kept = kept;
-    }
+    hand_form fs w c.hand_base.result old mid 0 30 p (form.SubBase c.args.parts.1 c.args.here.now.at) had has c.hand_base.new.run how out part c.in_default.not-Is kept c.requires.held.1 (omega arith) c.hand_base.ensures
 
 pub properties::subscript_on-named_on-requires-clause-ready : goal.properties::subscript_on-named_on-requires-clause-ready
 properties::subscript_on-named_on-requires-clause-ready t c =
@@ -3373,24 +3286,13 @@ stepping::step_reached-returns-in-Is-clause-kept t c =
     let s = c.args.store.now in
     kept_then fs w s c.target_on.new.store c.step_target.new.store c.target_on.ensures.kept c.step_target.ensures.kept
 
-pub stepping::step_reached-returns-in-Left-clause-comes : goal.stepping::step_reached-returns-in-Left-clause-comes
-stepping::step_reached-returns-in-Left-clause-comes t c =
+pub stepping::step_reached-returns-in_default-clause-comes : goal.stepping::step_reached-returns-in_default-clause-comes
+stepping::step_reached-returns-in_default-clause-comes t c =
     let fs = trees_of c.args.here.now.site.now.codes.now.items in
     let w = c.args.here.now.site.now.widget in
     let s = c.args.store.now in
-    frame_waits fs w c.wait.result s c.target_on.new.store 0 30 (λ t. Do (job_of fs w s.cells (job.Target c.args.to c.args.here.now.at)) t Ret) (frame.Form (form.StepTarget c.args.op c.args.here.now.at)) c.args.run.now c.target_on.new.run c.wait.new.run c.in_ok-other.other (target_as c.in_ok-other.other c.target_on.new.of c.target_on.new.out) (λ h. ended_as h c.target_on.new.out)
-    c.in_ok-other.ensures.comes c.in-Left.is c.target_on.ensures.kept c.requires.held.0 (omega arith) c.wait.ensures.left c.wait.ensures.waits c.wait.ensures.next c.wait.ensures.units
-
-pub stepping::step_reached-returns-in_default : goal.stepping::step_reached-returns-in_default
-stepping::step_reached-returns-in_default t c =
-    let fs = trees_of c.args.here.now.site.now.codes.now.items in
-    let w = c.args.here.now.site.now.widget in
-    let s = c.args.store.now in
-    record {
-      comes = value_passes fs w s c.target_on.new.store 0 30 (λ t. Do (job_of fs w s.cells (job.Target c.args.to c.args.here.now.at)) t Ret) (form.StepTarget c.args.op c.args.here.now.at) c.args.run.now c.target_on.new.run c.in_ok-other.other c.target_on.new.out
-          (target_ends fs w s c.target_on.new.store 0 (λ t. Do (job_of fs w s.cells (job.Target c.args.to c.args.here.now.at)) t Ret) c.args.run.now c.target_on.new.run c.in_ok-other.other c.target_on.new.of c.target_on.new.out c.in_ok-other.ensures.comes c.in_default.not-Is) c.in_default.not-Is c.in_default.not-Left c.target_on.ensures.kept c.requires.held.0 (omega arith);
-      kept = c.target_on.ensures.kept;
-    }
+    hand_form fs w c.hand_step.result s c.target_on.new.store 0 30 (λ t. Do (job_of fs w s.cells (job.Target c.args.to c.args.here.now.at)) t Ret) (form.StepTarget c.args.op c.args.here.now.at) c.args.run.now c.target_on.new.run c.hand_step.new.run c.in_ok-other.other c.target_on.new.out
+    (target_ends fs w s c.target_on.new.store 0 (λ t. Do (job_of fs w s.cells (job.Target c.args.to c.args.here.now.at)) t Ret) c.args.run.now c.target_on.new.run c.in_ok-other.other c.target_on.new.of c.target_on.new.out c.in_ok-other.ensures.comes c.in_default.not-Is) c.in_default.not-Is c.target_on.ensures.kept c.requires.held.0 (omega arith) c.hand_step.ensures
 
 pub targets::target_on-returns-then-run-eq0-clause-comes : goal.targets::target_on-returns-then-run-eq0-clause-comes
 targets::target_on-returns-then-run-eq0-clause-comes t c =
@@ -3565,25 +3467,12 @@ targets::dot_target-returns-in_ok-share-in-Is-clause-kept t c =
     let s = c.args.store.now in
     kept_then fs w s c.eval_on.new.store c.refer_on.new.store c.eval_on.ensures.kept c.refer_on.ensures.kept
 
-pub targets::dot_target-returns-in_ok-share-in-Left-clause-comes : goal.targets::dot_target-returns-in_ok-share-in-Left-clause-comes
-targets::dot_target-returns-in_ok-share-in-Left-clause-comes t c =
+pub targets::dot_target-returns-in_default-clause-comes : goal.targets::dot_target-returns-in_default-clause-comes
+targets::dot_target-returns-in_default-clause-comes t c =
     let fs = trees_of c.args.here.now.site.now.codes.now.items in
     let w = c.args.here.now.site.now.widget in
     let s = c.args.store.now in
-    frame_waits fs w c.wait.result s c.eval_on.new.store 0 31 (λ t. Do (job_of fs w s.cells (job.Eval c.args.e c.args.here.now.at)) t Ret) (frame.Form (form.TargetDot c.args.name.now)) c.args.run.now c.eval_on.new.run c.wait.new.run c.in_ok-other.other (ended_as c.in_ok-other.other c.eval_on.new.out) (λ h. target_as h c.args.of.now c.eval_on.new.out)
-    c.in_ok-other.ensures.comes c.in-Left.is c.eval_on.ensures.kept tt (omega arith) c.wait.ensures.left
-    (subst (λ (x : List ℕ). IfOk c.wait.result (λ h. c.wait.new.run.waits.items ≡ c.eval_on.new.run.waits.items ++ frame.Form (form.TargetDot x) ∷ [])) c.in_ok-share-in-Left.ensures c.wait.ensures.waits) c.wait.ensures.next c.wait.ensures.units
-
-pub targets::dot_target-returns-in_default : goal.targets::dot_target-returns-in_default
-targets::dot_target-returns-in_default t c =
-    let fs = trees_of c.args.here.now.site.now.codes.now.items in
-    let w = c.args.here.now.site.now.widget in
-    let s = c.args.store.now in
-    record {
-      comes = ends_target fs w s c.eval_on.new.store 31 (λ t. and_then (Do (job_of fs w s.cells (job.Eval c.args.e c.args.here.now.at)) t Ret) (form_taken fs w s.cells (form.TargetDot c.args.name.now))) c.args.run.now c.eval_on.new.run c.in_ok-other.other c.args.of.now c.eval_on.new.out
-          (value_passes fs w s c.eval_on.new.store 0 31 (λ t. Do (job_of fs w s.cells (job.Eval c.args.e c.args.here.now.at)) t Ret) (form.TargetDot c.args.name.now) c.args.run.now c.eval_on.new.run c.in_ok-other.other c.eval_on.new.out c.in_ok-other.ensures.comes c.in_default.not-Is c.in_default.not-Left c.eval_on.ensures.kept tt (omega arith)) c.in_default.not-Is;
-      kept = c.eval_on.ensures.kept;
-    }
+    hand_target fs w c.hand_dot.result s c.eval_on.new.store 0 31 (λ t. Do (job_of fs w s.cells (job.Eval c.args.e c.args.here.now.at)) t Ret) (form.TargetDot c.args.name.now) c.args.run.now c.eval_on.new.run c.hand_dot.new.run c.in_ok-other.other c.args.of.now c.eval_on.new.out c.in_ok-other.ensures.comes c.in_default.not-Is c.eval_on.ensures.kept tt (omega arith) c.hand_dot.ensures
 
 pub targets::sub_target-index_target-requires : goal.targets::sub_target-index_target-requires
 targets::sub_target-index_target-requires t c = (
@@ -3626,24 +3515,12 @@ targets::sub_target-returns-in-Is-clause-kept t c =
     let s = c.args.store.now in
     kept_then fs w s c.eval_on.new.store c.index_target.new.store c.eval_on.ensures.kept c.index_target.ensures.kept
 
-pub targets::sub_target-returns-in-Left-clause-comes : goal.targets::sub_target-returns-in-Left-clause-comes
-targets::sub_target-returns-in-Left-clause-comes t c =
+pub targets::sub_target-returns-in_default-clause-comes : goal.targets::sub_target-returns-in_default-clause-comes
+targets::sub_target-returns-in_default-clause-comes t c =
     let fs = trees_of c.args.here.now.site.now.codes.now.items in
     let w = c.args.here.now.site.now.widget in
     let s = c.args.store.now in
-    frame_waits fs w c.wait.result s c.eval_on.new.store 0 31 (λ t. Do (job_of fs w s.cells (job.Eval c.args.parts.0 c.args.here.now.at)) t Ret) (frame.Form (form.TargetSubBase c.args.parts.1 c.args.here.now.at)) c.args.run.now c.eval_on.new.run c.wait.new.run c.in_ok-other.other (ended_as c.in_ok-other.other c.eval_on.new.out) (λ h. target_as h c.args.of.now c.eval_on.new.out)
-    c.in_ok-other.ensures.comes c.in-Left.is c.eval_on.ensures.kept c.requires.held.1 (omega arith) c.wait.ensures.left c.wait.ensures.waits c.wait.ensures.next c.wait.ensures.units
-
-pub targets::sub_target-returns-in_default : goal.targets::sub_target-returns-in_default
-targets::sub_target-returns-in_default t c =
-    let fs = trees_of c.args.here.now.site.now.codes.now.items in
-    let w = c.args.here.now.site.now.widget in
-    let s = c.args.store.now in
-    record {
-      comes = ends_target fs w s c.eval_on.new.store 31 (λ t. and_then (Do (job_of fs w s.cells (job.Eval c.args.parts.0 c.args.here.now.at)) t Ret) (form_taken fs w s.cells (form.TargetSubBase c.args.parts.1 c.args.here.now.at))) c.args.run.now c.eval_on.new.run c.in_ok-other.other c.args.of.now c.eval_on.new.out
-          (value_passes fs w s c.eval_on.new.store 0 31 (λ t. Do (job_of fs w s.cells (job.Eval c.args.parts.0 c.args.here.now.at)) t Ret) (form.TargetSubBase c.args.parts.1 c.args.here.now.at) c.args.run.now c.eval_on.new.run c.in_ok-other.other c.eval_on.new.out c.in_ok-other.ensures.comes c.in_default.not-Is c.in_default.not-Left c.eval_on.ensures.kept c.requires.held.1 (omega arith)) c.in_default.not-Is;
-      kept = c.eval_on.ensures.kept;
-    }
+    hand_target fs w c.hand_base.result s c.eval_on.new.store 0 31 (λ t. Do (job_of fs w s.cells (job.Eval c.args.parts.0 c.args.here.now.at)) t Ret) (form.TargetSubBase c.args.parts.1 c.args.here.now.at) c.args.run.now c.eval_on.new.run c.hand_base.new.run c.in_ok-other.other c.args.of.now c.eval_on.new.out c.in_ok-other.ensures.comes c.in_default.not-Is c.eval_on.ensures.kept c.requires.held.1 (omega arith) c.hand_base.ensures
 
 pub targets::index_target-index_of_target-requires : goal.targets::index_target-index_of_target-requires
 targets::index_target-index_of_target-requires t c = (

@@ -143,17 +143,17 @@ decreases-calls::variable_on l = 16 * l.deep + 6
 abbrev pub decreases-calls::referred_on : goal.decreases-calls::referred_on
 decreases-calls::referred_on l = 16 * l.deep + 7
 
-abbrev pub decreases-calls::value_far : goal.decreases-calls::value_far
-decreases-calls::value_far l = 16 * l.deep + 6
+abbrev pub decreases-entering::value_far : goal.decreases-entering::value_far
+decreases-entering::value_far l = 16 * l.deep + 6
 
-abbrev pub decreases-calls::value_on : goal.decreases-calls::value_on
-decreases-calls::value_on l = 16 * l.deep + 5
+abbrev pub decreases-entering::value_on : goal.decreases-entering::value_on
+decreases-entering::value_on l = 16 * l.deep + 5
 
-abbrev pub decreases-calls::enter_on : goal.decreases-calls::enter_on
-decreases-calls::enter_on l = 16 * l.deep + 4
+abbrev pub decreases-entering::enter_on : goal.decreases-entering::enter_on
+decreases-entering::enter_on l = 16 * l.deep + 4
 
-abbrev pub decreases-calls::body_on : goal.decreases-calls::body_on
-decreases-calls::body_on l = 16 * l.deep + 3
+abbrev pub decreases-entering::body_on : goal.decreases-entering::body_on
+decreases-entering::body_on l = 16 * l.deep + 3
 
 abbrev pub decreases-forms::eval_on : goal.decreases-forms::eval_on
 decreases-forms::eval_on l = 16 * l.deep + 0
@@ -248,11 +248,11 @@ decreases-objects::property_part_on l = 16 * l.deep + 1
 abbrev pub decreases-operators::binary_on : goal.decreases-operators::binary_on
 decreases-operators::binary_on l = 16 * l.deep + 4
 
-abbrev pub decreases-operators::right_on : goal.decreases-operators::right_on
-decreases-operators::right_on l = 16 * l.deep + 3
+abbrev pub decreases-operators::binary_with : goal.decreases-operators::binary_with
+decreases-operators::binary_with l = 16 * l.deep + 3
 
-abbrev pub decreases-operators::operand_with : goal.decreases-operators::operand_with
-decreases-operators::operand_with l = 16 * l.deep + 2
+abbrev pub decreases-operators::right_on : goal.decreases-operators::right_on
+decreases-operators::right_on l = 16 * l.deep + 2
 
 abbrev pub decreases-operators::and_on : goal.decreases-operators::and_on
 decreases-operators::and_on l = 16 * l.deep + 2

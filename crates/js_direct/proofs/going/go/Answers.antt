@@ -1,16 +1,16 @@
-use Rattle.std.proofs.Common.{◌≡◌, ◌-◌, List, refl, sym, ap, ◌∙◌, subst, arith}
+use Rattle.std.proofs.Common.{◌-◌, List, sym, ap, ◌∙◌, subst, arith}
 use Rattle.widget_meaning.specs.Plan.{and_then}
 use Rattle.js_image.specs.Image.{image}
 use Rattle.js_names.specs.Code.{trees_of}
 use Rattle.js_flow.specs.declared.frame.Frame.{Frame}
 use Rattle.js_flow.specs.declared.job.Next.{Next}
 use Rattle.js_flow.specs.Fine.{FineFrames, FineNext}
-use Rattle.js_flow.specs.Frames.{flow_plan, next_plan, rest}
+use Rattle.js_flow.specs.Frames.{next_plan, rest}
 use Rattle.js_flow.specs.Free.{frames_free, next_free}
 use Rattle.js_flow.specs.Left.{all_frames}
 use Rattle.js_flow.proofs.Stays.{frames_fine, rest_same}
 use Rattle.js_direct.specs.Comes.{came}
-use Rattle.js_direct.specs.Going.{end_of, how_of, is_direct}
+use Rattle.js_direct.specs.Going.{end_of, how_of}
 use Rattle.js_direct.proofs.Parts.{direct_fine}
 use Rattle.js_direct.proofs.Reducing.{ends, starts, under}
 use Rattle.js_direct.proofs.going.go.Goals as goal

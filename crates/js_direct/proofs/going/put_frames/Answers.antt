@@ -1,4 +1,4 @@
-use Rattle.std.proofs.Common.{◌≡◌, ◌+◌, ◌∷◌, [], ◌++◌, List, sym, ap, ◌∙◌, subst, arith}
+use Rattle.std.proofs.Common.{List, sym, ap, ◌∙◌, subst, arith}
 use Rattle.widget_meaning.specs.Plan.{and_then}
 use Rattle.widget_meaning.proofs.Runs.{and_then_assoc}
 use Rattle.js_flow.specs.declared.frame.Frame.{Frame}

@@ -1,9 +1,6 @@
-use Rattle.std.proofs.Common.{◌≡◌, ℕ, sym, ap, ◌∙◌, subst, arith}
-use Rattle.std.specs.Prelude.{List, Option}
+use Rattle.std.proofs.Common.{sym, ap, ◌∙◌, subst, arith}
+use Rattle.std.specs.Prelude.{Option}
 use Rattle.std.proofs.lemmas.Result.{IfOk-weaker}
-use Rattle.js_tree.specs.Forest.{Forest}
-use Rattle.store_cells.specs.Cells.{PlainCell}
-use Rattle.widget_meaning.specs.OwnState.{State}
 use Rattle.widget_meaning.specs.Plan.{and_then}
 use Rattle.js_flow.specs.declared.job.Completion.{Completion}
 use Rattle.js_flow.specs.declared.job.Next.{Next}

@@ -1,4 +1,4 @@
-use Rattle.std.proofs.Common.{◌≡◌, true, sym, subst}
+use Rattle.std.proofs.Common.{sym, subst}
 use Rattle.std.specs.Prelude.{IfOk}
 use Rattle.widget_meaning.specs.Plan.{Do, Ret}
 use Rattle.js_names.specs.Code.{trees_of}

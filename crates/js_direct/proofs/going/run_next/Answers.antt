@@ -3,7 +3,6 @@ use Rattle.std.specs.Prelude.{IfOk}
 use Rattle.std.proofs.lemmas.Result.{IfOk-weaker}
 use Rattle.js_names.specs.Code.{trees_of}
 use Rattle.js_flow.specs.declared.job.Next.{Next}
-use Rattle.js_flow.specs.declared.job.Next.TheVariants as next
 use Rattle.js_flow.specs.Fine.{FineNext}
 use Rattle.js_flow.specs.Frames.{next_plan}
 use Rattle.js_flow.specs.Free.{next_free}

@@ -1,7 +1,7 @@
 use Rattle.std.proofs.Common.{◌≡◌, ℤ, rules, sym, ap, subst, ◌∙◌, arith}
 use mir.Val.{of_z, to_z}
 use mir.Syntax.{w64}
-use Rattle.std.specs.Prelude.{◌+ℤ◌, IfOk, if◌then◌else◌, nat_lt, unsigned_abs}
+use Rattle.std.specs.Prelude.{◌+ℤ◌, if◌then◌else◌, nat_lt, unsigned_abs}
 use Rattle.std.proofs.lemmas.Result.{IfOk-weaker}
 use Rattle.store_cells.specs.declared.value.Value.{Value}
 use Rattle.store_cells.specs.Cells.{Cells}

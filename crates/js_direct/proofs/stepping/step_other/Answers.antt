@@ -1,14 +1,11 @@
-use Rattle.std.proofs.Common.{◌≡◌, ℕ, ℤ, List, sym, ap, subst, ◌∙◌, arith, rules}
+use Rattle.std.proofs.Common.{ℕ, List, sym, ap, subst, ◌∙◌, arith}
 use Rattle.std.proofs.lemmas.Result.{IfOk-weaker}
 use Rattle.js_names.specs.Code.{trees_of}
-use mir.Val.{of_z, to_z}
-use mir.Syntax.{w64}
 use Rattle.store_cells.specs.declared.value.Value.{Value}
 use Rattle.widget_meaning.specs.Values as meaning
-use Rattle.widget_meaning.specs.OwnState.{State}
 use Rattle.widget_meaning.specs.Plan.{and_then}
 use Rattle.widget_meaning.specs.Calls.{to_primitive}
-use Rattle.widget_meaning.specs.Expressions.{step_converted, step_target, step_write, stepped}
+use Rattle.widget_meaning.specs.Expressions.{step_converted, step_target}
 use Rattle.js_image.specs.Image.{image, seen}
 use Rattle.js_image.specs.Held.{IsFine}
 use Rattle.js_flow.specs.Views.{place_of}
