@@ -118,26 +118,6 @@ impl<V> FewPairs<V> {
         Some(&self.list[place].1)
     }
 
-    /// The value under a number, which is looked for at one place first, and the place where it was found.
-    #[inline(always)]
-    pub(crate) fn get_near(&self, n: u32, near: usize) -> Option<(&V, usize)>
-        ensures { option_map (λ p. p.0.now) result ≡ lookup (nat_eq n) self.now.entries }
-    {
-        match self.list.get(near) {
-            Some(pair) if pair.0 == n => Some((&pair.1, near)),
-            _ => self.get_far(n),
-        }
-    }
-
-    // The same by a search.
-    #[inline(always)]
-    fn get_far(&self, n: u32) -> Option<(&V, usize)>
-        ensures { option_map (λ p. p.0.now) result ≡ lookup (nat_eq n) self.now.entries }
-    {
-        let place = self.place(n)?;
-        Some((&self.list[place].1, place))
-    }
-
     /// The pair at a place.
     pub(crate) fn get_index(&self, place: usize) -> Option<(&u32, &V)>
         ensures { option_map deref_pair result ≡ slice_get self.now.entries place }

@@ -92,24 +92,13 @@ impl<V> PairTable<V> {
     }
 
     /// The place of a number.
+    #[inline(always)]
     pub fn get_index_of(&self, n: u32) -> Option<usize>
         ensures { result ≡ position (nat_eq n) (keys_of self.now.entries) }
     {
         match &self.storage {
             Storage::Few(few) => few.place(n),
-            Storage::Many(map) => map.get_index_of(&n),
-        }
-    }
-
-    /// The value under a number, if any, which is looked for at one place first, and the place where it was
-    /// found; none where this is not seen at once.
-    #[inline(always)]
-    pub fn quick_get(&self, n: u32, near: usize) -> Option<Option<(&V, usize)>>
-        ensures { IfSome result (λ o. option_map (λ p. p.0.now) o ≡ lookup (nat_eq n) self.now.entries) }
-    {
-        match &self.storage {
-            Storage::Few(few) => Some(few.get_near(n, near)),
-            Storage::Many(map) => near_in(map, n, near),
+            Storage::Many(map) => place_in(map, n),
         }
     }
 
@@ -226,27 +215,20 @@ impl<V: Drop> PairTable<V> {
     }
 }
 
+// The place of a number in a map.
+#[inline(never)]
+fn place_in<V>(map: &IndexMap<u32, V, NumberKeys>, n: u32) -> Option<usize>
+    ensures { result ≡ position (nat_eq n) (keys_of map.now.entries) }
+{
+    map.get_index_of(&n)
+}
+
 // The value under a number in a map.
 #[inline(never)]
 fn get_in<V>(map: &IndexMap<u32, V, NumberKeys>, n: u32) -> Option<&V>
     ensures { option_copied result ≡ lookup (nat_eq n) map.now.entries }
 {
     map.get(&n)
-}
-
-// The value under a number in a map, where it stands at a place.
-#[inline(always)]
-fn near_in<V>(
-    map: &IndexMap<u32, V, NumberKeys>,
-    n: u32,
-    near: usize,
-) -> Option<Option<(&V, usize)>>
-    ensures { IfSome result (λ o. option_map (λ p. p.0.now) o ≡ lookup (nat_eq n) map.now.entries) }
-{
-    match map.get_index(near) {
-        Some((k, value)) if *k == n => Some(Some((value, near))),
-        _ => None,
-    }
 }
 
 // Whether the pairs stand in a list that cannot hold so many more.
