@@ -162,7 +162,7 @@ def taken(setup, step, markup):
     while True:
         time, line = once(passes)
         units = line["spent"] - first["spent"]
-        if time - start > 150 or first["spent"] + 4 * units > FUEL or passes > 4096 or line["state"] != "live":
+        if time - start > 150 or first["spent"] + 4 * units > FUEL or passes > 65536 or line["state"] != "live":
             return passes, time - start, units, line["state"]
         passes *= 4
 

@@ -33,20 +33,29 @@ def loops():
     yield row("200,000 passes without a body, %d units" % plain[2][0]["spent"], plain[0])
     yield row("200,000 passes with a call, two reads, two sums, %d units" % parts[2][0]["spent"], parts[0], 190)
     yield plain[2][0]["state"] == parts[2][0]["state"] == "live"
-    node = shutil.which("node")
-    if node:
-        files = {"empty.js": "", "loop.js": "(function () { %s }());" % (LOOP % 2000000)}
-        empty, loop = [best(files, ["--jitless", file], 5, node)[1] for file in ("empty.js", "loop.js")]
-        yield row("200,000 such passes by node --jitless, without its start", (loop - empty) / 10)
+    yield from others()
+
+
+def others():
+    """The same passes by other interpreters that are installed, without their start."""
+    for name, words in ("mujs", []), ("node", ["--jitless"]):
+        program = shutil.which(name)
+        if program:
+            many = LOOP % 2000000
+            files = {"empty.js": "", "program.js": many, "function.js": "(function () { %s }());" % many}
+            empty, *times = [best(files, words + [file], 5, program)[1] for file in files]
+            for where, time in zip(("as a program", "in a function"), times):
+                yield row("200,000 such passes by %s, %s" % (" ".join([name] + words), where), (time - empty) / 10)
 
 
 def slices():
-    """The same bytes and nearly the same time at each slice."""
+    """The same bytes at each slice, and from 50 units on nearly the same time: what is cut has its own price."""
     files = page(["var i; for (i = 200000; i; i--) { }"] * 2)
-    whole = ran(files, [], 1000000, 3)
-    for slice in 1, 7, 1000:
-        cut = ran(files, [], slice, 3)
-        yield row("slice %d beside slice 1,000,000" % slice, cut[0] / whole[0], 2, "times")
+    whole = ran(files, [], 1000000, 5)
+    for slice in 1, 7, 50, 1000:
+        cut = ran(files, [], slice, 5)
+        yield row("slice %d: the time" % slice, cut[0])
+        yield row("slice %d beside slice 1,000,000" % slice, cut[0] / whole[0], 2 if slice >= 50 else None, "times")
         yield cut[2] == whole[2]
 
 
