@@ -135,7 +135,7 @@ pub record NewRoot (k m : List Entry) (roots : List (Option ℕ)) (n : ℕ) : Ty
   pub parents : (x p : ℕ) → (at m x).parent ≡ Some p → ((n ≡ x) × (body ≡ p)) ⊎ ((at k x).parent ≡ Some p)
   pub is_in : n < length k
   pub top : (at k n).parent ≡ None
-  pub free : (r : ℕ) → same_owner (at k n).owner owner.Host ≡ false → root_in roots (at k n).owner ≡ Some r → ⊥
+  pub free : (r : ℕ) → same_owner (at k n).owner owner.Host ≡ false → root_in roots (at k n).owner ≡ Some r → r ≡ n
 
 none_some : (p : ℕ) → ◌≡◌ {A = Option ℕ} None (Some p) → ⊥
 none_some p h = cc
@@ -165,7 +165,7 @@ rooted_new k m roots after n r g set =
           let old : root_in roots (at k x).owner ≡ Some x = r.under x h v in
           root_other n (at m n).owner (at m x).owner (root_in roots) (λ same.
           let e : (at k x).owner ≡ (at k n).owner = sym (g.owners x) ∙ same ∙ own in
-          g.free x (ap (λ p. same_owner p owner.Host) (sym e) ∙ v) (ap (root_in roots) (sym e) ∙ old))
+          none_some body (sym g.top ∙ ap (λ y. (at k y).parent) (sym (g.free x (ap (λ p. same_owner p owner.Host) (sym e) ∙ v) (ap (root_in roots) (sym e) ∙ old))) ∙ h))
           ∙ ap (root_in roots) (g.owners x) ∙ old)
           (g.parents x body u);
     }
@@ -187,17 +187,30 @@ new_linked k b m roots n e lt top free l =
       parents = λ x p u. linked_parent x n p (eqb x n) (at k x).parent refl (sym (linked.parents x) ∙ u);
       is_in = lt;
       top = top;
-      free = free_of roots (at k n).owner free;
+      free = λ r h e. absurd (free_of roots (at k n).owner free r h e);
     }
 
-pub new_swapped : (k m : List Entry) (roots : List (Option ℕ)) (old n : ℕ) → n < length k → (at k n).parent ≡ None → root_in roots (at k n).owner ≡ None → IsSwapped k m old n → NewRoot k m roots n
+-- a root that stands under nothing
+pub new_apart : (k : List Entry) (roots : List (Option ℕ)) (n : ℕ) → n < length k → (at k n).parent ≡ None
+    → ((r : ℕ) → same_owner (at k n).owner owner.Host ≡ false → root_in roots (at k n).owner ≡ Some r → r ≡ n) → NewRoot k k roots n
+new_apart k roots n lt top free = record {
+  made = refl;
+  owners = λ x. refl;
+  parents = λ x p u. inr u;
+  is_in = lt;
+  top = top;
+  free = free;
+}
+
+pub new_swapped : (k m : List Entry) (roots : List (Option ℕ)) (old n : ℕ) → n < length k → (at k n).parent ≡ None
+    → ((r : ℕ) → same_owner (at k n).owner owner.Host ≡ false → root_in roots (at k n).owner ≡ Some r → r ≡ n) → IsSwapped k m old n → NewRoot k m roots n
 new_swapped k m roots old n lt top free c = record {
   made = c.kept.made;
   owners = c.kept.owners;
   parents = λ x p u. linked_parent x n p (eqb x n) (at k x).parent refl (not_none p (eqb x old) (cond (eqb x n) (Some body) (at k x).parent) (sym (c.parents x) ∙ u));
   is_in = lt;
   top = top;
-  free = λ r _ e. none_some r (sym free ∙ e);
+  free = free;
 }
 
 pub rooted_relabelled : (k m : List Entry) (roots : List (Option ℕ)) (n : ℕ) (l : Label) → IsRooted k roots → IsRelabelled k m n l → IsRooted m roots

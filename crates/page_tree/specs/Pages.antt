@@ -124,6 +124,10 @@ HasNone roots (owner.Widget w) = root_in roots (owner.Widget w) ≡ None
 abbrev pub HasNoRoot : Page → Owner → Type 0
 HasNoRoot p o = HasNone p.roots o
 
+-- a node may be its owner's root: a widget has no other
+abbrev pub MayBeRoot : Page → ℕ → Type 0
+MayBeRoot p n = (r : ℕ) → same_owner (at (nodes p) n).owner owner.Host ≡ false → root p (at (nodes p) n).owner ≡ Some r → r ≡ n
+
 -- the root of each owner, where a widget's node becomes its owner's root
 abbrev pub root_after : ℕ → Owner → (Owner → Option ℕ) → Owner → Option ℕ
 root_after n o root p = if same_owner p o && not (same_owner o owner.Host) then Some n else root p

@@ -85,7 +85,7 @@ fn is_leaf(content: &Content) -> bool
 }
 
 impl Page {
-    ghost use Rattle.page_tree.specs.Pages.{nodes, root, AreNoRoots, IsInside, IsNotInside, IsLow, IsTooDeep, SomeNode, MayPutAll, RefusesAll, RefusesPut, MayReplace, RefusesReplaceFirst, RefusesReplace, Replaces, ReplaceSteps, HasNoRoot, root_after, IsReplaced, MayAdd, RefusesAdd, RefusesCopy, copy_of, HasHostRoom, SameRoots, BecomesRoot, IsRoot};
+    ghost use Rattle.page_tree.specs.Pages.{nodes, root, AreNoRoots, IsInside, IsNotInside, IsLow, IsTooDeep, SomeNode, MayPutAll, RefusesAll, RefusesPut, MayReplace, RefusesReplaceFirst, RefusesReplace, Replaces, ReplaceSteps, HasNoRoot, MayBeRoot, root_after, IsReplaced, MayAdd, RefusesAdd, RefusesCopy, copy_of, HasHostRoom, SameRoots, BecomesRoot, IsRoot};
 
     /// The page of the host's `body` alone. Its table of ids hashes by these keys.
     pub fn new(alloc: Global, keys: Keys) -> Result<Page, Memory>
@@ -383,15 +383,27 @@ impl Page {
         Ok(())
     }
 
-    /// Puts a tree without a parent, of an owner that has no root, in the place of a root under
-    /// `body`, which then has no parent. The tree becomes its owner's root. It takes no memory.
+    /// Makes a tree without a parent the root of its owner, a widget that has no other. It stands under
+    /// nothing yet.
+    pub fn make_root(&mut self, node: NodeId)
+        requires node { node < length (nodes self.old) }
+        requires top { (at (nodes self.old) node).parent ≡ None }
+        requires free { MayBeRoot self.old node }
+        ensures same { nodes self.new ≡ nodes self.old }
+        ensures becomes { BecomesRoot self.old self.new node }
+    {
+        Page::set_root(&mut self.roots, self.arena.owner(node), node);
+    }
+
+    /// Puts a tree without a parent in the place of a child of `body`, which then has no parent: a tree of
+    /// the host, or one of a widget that has no other root, whose root it becomes. It takes no memory.
     pub fn swap_root(&mut self, old: NodeId, new: NodeId)
         requires old { old < length (nodes self.old) }
         requires new { new < length (nodes self.old) }
-        requires is_root { root self.old (at (nodes self.old) old).owner ≡ Some old }
+        requires other { new ≢ body }
         requires under { (at (nodes self.old) old).parent ≡ Some body }
         requires top { (at (nodes self.old) new).parent ≡ None }
-        requires free { root self.old (at (nodes self.old) new).owner ≡ None }
+        requires free { MayBeRoot self.old new }
         ensures done { IsSwapped (nodes self.old) (nodes self.new) old new }
         ensures others { OthersStay (nodes self.old) (nodes self.new) old }
         ensures becomes { BecomesRoot self.old self.new new }
