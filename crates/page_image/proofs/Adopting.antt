@@ -1,21 +1,17 @@
 -- A tree becomes the root's, of pages.
 use Rattle.std.proofs.Common.{◌≡◌, ◌≢◌, ℕ, ◌<◌, List, [], ◌∷◌, Bool, true, false, refl, sym, ap, ◌∙◌, map, length, cond, eqb, eqb-true, eq-eqb, ne_eqb, ◌&&◌, not, Option, Some, None, ⊎_elim}
 use Rattle.std.specs.Prelude.{is_some}
-use Rattle.std.proofs.lemmas.Bool.{and_parts, or_cases, cases_Bool}
+use Rattle.std.proofs.lemmas.Bool.{and_parts, or_cases}
 use Rattle.code_units.specs.declared.owner.Owner.{Owner}
 use Rattle.code_units.specs.declared.owner.Owner.TheVariants as owner
 use Rattle.plain_tree.specs.Trees.{beside}
-use Rattle.tree_ops.specs.Trees.{has, is_number, subtree, without, tops}
+use Rattle.tree_ops.specs.Trees.{is_number, subtree, without, tops}
 use Rattle.tree_ops.proofs.Absent.{grafted_off}
 use Rattle.tree_ops.proofs.Tests.{or_left, or_right}
 use Rattle.page_tree.specs.page_nodes.Entries.{Entry, at, body, listed, tree}
-use Rattle.page_tree.specs.page_nodes.Moves.{IsLinked, IsSwapped}
+use Rattle.page_tree.specs.page_nodes.Moves.{IsLinked}
 use Rattle.page_tree.specs.page_nodes.Owners.{same_owner, root_in}
-use Rattle.page_tree.specs.page_nodes.Trees.{pruned}
 use Rattle.page_tree.proofs.PageNodes.Owners.{same_is}
-use Rattle.page_tree.proofs.PageNodes.Put.{pruned_off}
-use Rattle.page_tree.proofs.PageNodes.Shows.{shows_tree}
-use Rattle.page_tree.proofs.PageNodes.Upward.{has_parent}
 use Rattle.page_tree.proofs.PageNodes.Walk.{without_body}
 use Rattle.page_tree.specs.declared.page.Page.{Page}
 use Rattle.page_tree.specs.Documents as page
@@ -32,7 +28,6 @@ use Rattle.page_image.proofs.Pages.{owner_is, is_widget, one_owner}
 use Rattle.page_image.proofs.Rooting.{forest_rooted}
 use Rattle.page_image.proofs.Shown.{tops_shown, kept_passes, forest_shown, top_own, own_not_body}
 use Rattle.page_image.proofs.Staying.{forest_stays}
-use Rattle.page_image.proofs.Steps.{pruned_self}
 
 no_true : false ≡ true → ⊥
 no_true e = cc
@@ -78,10 +73,6 @@ module _ (p : Page) (w n : ℕ) (h : owns p w n ≡ true) (free : root_of p w �
       none_at : (o : Owner) → o ≡ owner.Widget w → HasNone p.roots o
       none_at owner.Host e = tt
       none_at (owner.Widget v) e = ap (root_in p.roots) e ∙ free
-
-  pub no_root : root p (at (nodes p) n).owner ≡ None
-  unfolding owns root_of
-  no_root = ap (root p) (same_is (at (nodes p) n).owner (owner.Widget w) h) ∙ free
 
 -- ## A new root
 
@@ -144,7 +135,7 @@ module _ (old new : Page) (w n : ℕ) (h : owns old w n ≡ true) (free : root_o
       (λ x e off. c.parents v x e (away v x ne e) off)
       (λ x e. c.trees x (own_not_body (nodes old) old.arena.sound v x e))
 
--- ## The two calls
+-- ## The call
 
 pub linked_root : (old new : Page) (w n : ℕ) → IsLinked (nodes old) (nodes new) body None n → BecomesRoot old new n → NewRoot old new w n
 linked_root old new w n c b = record {
@@ -158,72 +149,6 @@ linked_root old new w n c b = record {
 pub linked_shown : (old new : Page) (n : ℕ) → IsLinked (nodes old) (nodes new) body None n → is_shown new n ≡ true
 unfolding is_shown
 linked_shown old new n c = ap (is_number body) (c.parents n ∙ ap (λ t. cond t (Some body) (at (nodes old) n).parent) (eq-eqb n n refl))
-
--- where the root of another widget stands under `body`
-module _ (old : Page) (v o : ℕ) (lt : v < 32) (is : root_of old v ≡ Some o) where
-  pub root_own : owns old v o ≡ true
-  unfolding owns root_of
-  root_own = old.rooted.own (owner.Widget v) o (is_widget v lt) is
-
-  pub root_there : root old (at (nodes old) o).owner ≡ Some o
-  unfolding root_of
-  root_there = ap (root old) (same_is (at (nodes old) o).owner (owner.Widget v) (old.rooted.own (owner.Widget v) o (is_widget v lt) is)) ∙ is
-
-pub parent_body : (p : Page) (o : ℕ) → is_shown p o ≡ true → (at (nodes p) o).parent ≡ Some body
-unfolding is_shown
-parent_body p o e = of (at (nodes p) o).parent e
-  where
-    of : (u : Option ℕ) → is_number body u ≡ true → u ≡ Some body
-    of None g = absurd (no_true g)
-    of (Some q) g = ap Some (sym (eqb-true body q g))
-
-module _ (old new : Page) (w n v o : ℕ) (h : owns old w n ≡ true) (free : root_of old w ≡ None) (lt : v < 32) (is : root_of old v ≡ Some o) (shown : is_shown old o ≡ true) (c : IsSwapped (nodes old) (nodes new) o n) (b : BecomesRoot old new n) where
-  -- the root stands in no other tree than its own and that of `body`
-  not_there : (x : ℕ) → x ≢ body → x ≢ o → has o (tree (nodes old) x) ≡ false
-  not_there x nb ne = ⊎_elim
-      (λ e. ⊎_elim
-      (λ l. absurd (⊎_elim (λ g. ne (eqb-true x o g)) no_true (or_cases (eqb x o) false l)))
-      (λ q. absurd (no_true (sym (without_body (nodes old) old.arena.sound x nb) ∙ ap (λ y. has y (tree (nodes old) x)) (some_is body (q.0) (sym (parent_body old o shown) ∙ q.1)) ∙ q.2)))
-      (has_parent (nodes old) old.arena.sound o (x ∷ []) (tree (nodes old) x) (shows_tree (nodes old) old.arena.sound x) e))
-      (λ e. e)
-      (cases_Bool (has o (tree (nodes old) x)))
-
-  cut_same : (x : ℕ) → x ≢ body → pruned o (tree (nodes old) x) ≡ tree (nodes old) x
-  cut_same x nb = ⊎_elim
-      (λ e. let same : x ≡ o = eqb-true x o e in ap (λ y. pruned o (tree (nodes old) y)) same ∙ pruned_self (nodes old) old.arena.sound o ∙ ap (tree (nodes old)) (sym same))
-      (λ e. pruned_off o (tree (nodes old) x) (not_there x nb (λ g. no_true (sym e ∙ eq-eqb x o g))))
-      (cases_Bool (eqb x o))
-
-  -- a root is a root
-  not_old : (u x : ℕ) → owns old u x ≡ true → is_number x (root_of old u) ≡ false → x ≢ o
-  not_old u x e off g = ⊎_elim
-      (λ t. no_true (sym off ∙ ap (λ y. is_number x (root_of old y)) (eqb-true u v t) ∙ ap (is_number x) is ∙ eq-eqb x o g))
-      (λ t. no_true (sym (one_owner old v u o (λ y. no_true (sym t ∙ eq-eqb u v (sym y))) (root_own old v o lt is)) ∙ ap (owns old u) (sym g) ∙ e))
-      (cases_Bool (eqb u v))
-
-  pub swapped_root : NewRoot old new w n
-  swapped_root = record {
-    made = c.kept.made;
-    owners = c.kept.owners;
-    parents = λ u x e ne off. ap is_some (c.parents x
-        ∙ ap (λ t. cond t None (cond (eqb x n) (Some body) (at (nodes old) x).parent)) (ne_eqb x o (not_old u x e off))
-        ∙ ap (λ t. cond t (Some body) (at (nodes old) x).parent) (ne_eqb x n ne));
-    trees = λ x nb. c.trees x ∙ ap (pruned o) (grafted_off body (Some o) (tree (nodes old) n) (tree (nodes old) x) (without_body (nodes old) old.arena.sound x nb)) ∙ cut_same x nb;
-    roots = b;
-  }
-
-  -- the two are not one
-  two : n ≢ o
-  two e = none_some o (sym free ∙ ap (root_of old) (one (root_own old v o lt is)) ∙ is)
-    where
-      one : owns old v o ≡ true → w ≡ v
-      one g = ⊎_elim (λ t. eqb-true w v t) (λ t. absurd (no_true (sym (one_owner old v w o (λ y. no_true (sym t ∙ eq-eqb w v (sym y))) g) ∙ ap (owns old w) (sym e) ∙ h))) (cases_Bool (eqb w v))
-
-  pub swapped_shown : is_shown new n ≡ true
-  unfolding is_shown
-  swapped_shown = ap (is_number body) (c.parents n
-      ∙ ap (λ t. cond t None (cond (eqb n n) (Some body) (at (nodes old) n).parent)) (ne_eqb n o two)
-      ∙ ap (λ t. cond t (Some body) (at (nodes old) n).parent) (eq-eqb n n refl))
 
 pub shown_is : (p : Page) (n : ℕ) (u : Option ℕ) (b : Bool) → u ≡ (at (nodes p) n).parent → b ≡ is_number body u → b ≡ is_shown p n
 unfolding is_shown

@@ -17,4 +17,4 @@ pub use laws::{kept_by_number, numbers_agree, numbers_stay};
 pub use reads::{
     attr_of_word, children, content, depth, is_root, made, may_append, parent, tag, text,
 };
-pub use roots::{adopt, is_shown, swap_root};
+pub use roots::{adopt, is_shown};

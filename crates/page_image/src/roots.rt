@@ -36,23 +36,3 @@ pub fn adopt(page: &mut Page, widget: u32, node: NodeId) -> Result<(), Memory>
 {
     page.adopt(node)
 }
-
-/// Puts a tree of a widget that has no root in the place of another widget's root under the host's
-/// `body`: it becomes the root's, the first of the widget's trees. The other widget keeps its root
-/// and its trees, which are no longer shown. It takes no memory.
-pub fn swap_root(page: &mut Page, widget: u32, node: NodeId, other: u32, old: NodeId)
-    requires own { owns page.old widget node ≡ true }
-    requires top { has_number (tops (forest page.old widget)) (number page.old widget node) ≡ true }
-    requires free { root_of page.old widget ≡ None }
-    requires other { other < 32 }
-    requires is_root { root_of page.old other ≡ Some old }
-    requires is_shown { is_shown page.old old ≡ true }
-    ensures image { forest page.new widget ≡ beside
-        (subtree (number page.old widget node) (forest page.old widget))
-        (without (number page.old widget node) (forest page.old widget)) }
-    ensures becomes { GetsRoot page.old page.new widget node }
-    ensures shown { is_shown page.new node ≡ true }
-    ensures others { OthersStay page.old page.new widget }
-{
-    page.swap_root(old, node);
-}
