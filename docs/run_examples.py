@@ -1,0 +1,180 @@
+#!/usr/bin/env python3
+"""Runs the examples of API.md and PITFALLS.md and compares what they do with what the pages say.
+
+    docs/run_examples.py [PROGRAM [PAGE ..]]
+
+PROGRAM is the built program; without it the script `adhost` at the root of the repository is run. The pages
+are those beside this script, or those that are named. The last line counts the examples. The status is 0
+where all do what their page says, and 1 where one does not; each such one is told, with the page and the line.
+
+An example of a page is one of these.
+
+- Behind an expression in backticks, `gives`, `throws` or `stops` and what comes, in backticks too. What comes
+  is written as ADSAFE.toJson writes it where it is a text, an array or an object, and as ADSAFE.log does where
+  it is another primitive; E1 to E12; or the state that stops the widget. Before the expression statements may
+  stand, each with `; ` behind it. A `\\|` stands for `|`, as in a table.
+- A block ```js. It is the body of the function of ADSAFE.go. A comment in it says what it does:
+  `// logs TEXT` an entry of the log, in order; `// notes TEXT` an uncaught note; `// stops STATE` the state that
+  ends the widget; `// spends N` the fuel of the whole run. What a comment does not say must not happen, but for
+  the fuel. Behind the block may stand ```json items, the items of the trace, and ```html page, what is then
+  within the widget's root. Before it may stand ```js lib, the text of a library that the widget names.
+- A block ```html markup, the markup of the widget in all examples that follow, up to the next such block.
+"""
+
+import json
+import os
+import re
+import subprocess
+import sys
+import tempfile
+
+HERE = os.path.dirname(os.path.abspath(__file__))
+FAULTS = {
+    "E1": "no property of undefined or null", "E2": "not a function", "E3": "bad receiver",
+    "E4": "bad argument", "E5": "closed object", "E6": "no primitive value", "E7": "bad length",
+    "E8": "bad name", "E9": "bad query", "E10": "bad place in the page", "E11": "too many timers",
+    "E12": "chain too long",
+}
+SHORT = re.compile(r"`([^`]+)` (gives|throws|stops) `([^`]+)`")
+MARK = re.compile(r"//\s(logs|notes|stops|spends)(?:\s(.*))?$")
+SHOW = """    function show(v) {
+        return typeof v === "string" || (typeof v === "object" && v !== null) ? ADSAFE.toJson(v) : v;
+    }
+"""
+
+
+class Example:
+    """A widget, what it is given, and what its page says of it."""
+
+    def __init__(self, at, markup, body):
+        self.at, self.markup, self.body = at, markup, body
+        self.libs, self.items, self.page = [], [], None
+        self.log, self.notes, self.state, self.spent = [], [], "live", None
+
+    def files(self):
+        """The files of the example, by name."""
+        libs = {re.search(r'ADSAFE\.lib\("(\w+)"', text)[1] + ".js": text for text in self.libs}
+        scripts = "".join(f'<script src="{name}"></script>\n' for name in libs)
+        scripts = '<script>ADSAFE.id("API_");</script>\n' + scripts if libs else ""
+        widget = (f'<div id="API_">{self.markup}{scripts}<script>\nADSAFE.go("API_", function (dom, lib) {{\n'
+                  f'{self.body}}});\n</script></div>\n')
+        page = {"version": 1, "page": [{"widget": "API_", "file": "api.html"}], "libs": list(libs)}
+        trace = {"version": 1, "items": self.items}
+        return {"m.json": json.dumps(page), "t.json": json.dumps(trace), "api.html": widget, **libs}
+
+    def faults(self, status, out):
+        """What differs between the report and what is said of it."""
+        lines = [json.loads(line) for line in out.splitlines()]
+        if status != 0 or len(lines) != 2 or "state" not in lines[0]:
+            return [f"status {status}, {out.strip()}"]
+        line, page = lines[0], lines[1]["page"]
+        said = [("state", self.state, line["state"]), ("log", self.log, line["log"]),
+                ("uncaught", self.notes, line["uncaught"])]
+        if self.spent is not None:
+            said.append(("spent", self.spent, line["spent"]))
+        if self.page is not None:
+            inside = re.fullmatch(r'<body><div id="API_"[^>]*>(.*)</div></body>', page, re.S)[1]
+            said.append(("page", self.page.strip(), inside.strip()))
+        return [f"{what}: said {wanted!r}, is {found!r}" for what, wanted, found in said if wanted != found]
+
+
+def of_block(at, markup, text):
+    """The example of a block ```js."""
+    example = Example(at, markup, text)
+    for line in text.splitlines():
+        mark = MARK.search(line)
+        what, said = (mark[1], mark[2] or "") if mark else ("", "")
+        if what == "logs":
+            example.log.append(said)
+        elif what == "notes":
+            example.notes.append(said)
+        elif what == "stops":
+            example.state = said
+        elif what == "spends":
+            example.spent = int(said)
+    return example
+
+
+def parted(text):
+    """Statements and the expression behind them, which begins behind the last `; ` outside of braces."""
+    begins, deep = 0, 0
+    for at, char in enumerate(text):
+        deep += (char == "{") - (char == "}")
+        if deep == 0 and text.startswith("; ", at):
+            begins = at + 2
+    return text[:begins], text[begins:]
+
+
+def of_short(at, markup, text, what, comes):
+    """The example of an expression in backticks."""
+    text, comes = text.replace("\\|", "|"), comes.replace("\\|", "|")
+    before, expression = parted(text)
+    body = f"    ADSAFE.log(show({expression}));\n"
+    if what == "throws":
+        body = f"    try {{\n    {body}    }} catch (fault) {{\n        ADSAFE.log(fault.message);\n    }}\n"
+    example = Example(at, markup, f"{SHOW}    {before}\n{body}")
+    if what == "stops":
+        example.state = comes
+    else:
+        example.log = [FAULTS[comes] if what == "throws" else comes]
+    return example
+
+
+def examples_of(page):
+    """The examples of a page, in order."""
+    with open(page, encoding="utf-8") as file:
+        lines = file.read().splitlines()
+    found, markup, libs, kind, block = [], "<p>hi</p>", [], None, []
+    for number, line in enumerate(lines, 1):
+        at = f"{os.path.relpath(page)}:{number}"
+        if kind is None and line.startswith("```"):
+            kind, block = line[3:].strip(), []
+        elif kind is None:
+            found += [of_short(at, markup, *it) for it in SHORT.findall(line)]
+        elif line != "```":
+            block.append(line)
+        else:
+            text = "\n".join(block) + "\n"
+            if kind == "html markup":
+                markup = "\n" + text
+            elif kind == "js lib":
+                libs.append(text)
+            elif kind == "js":
+                found.append(of_block(at, markup, text))
+                found[-1].libs, libs = libs, []
+            elif kind == "json items":
+                found[-1].items = [{"to": "API_", **it} if "event" in it else it for it in json.loads(text)]
+            elif kind == "html page":
+                found[-1].page = text
+            kind = None
+    return found
+
+
+def run(program, example):
+    """The status and the output of the program on an example."""
+    with tempfile.TemporaryDirectory() as folder:
+        for name, text in example.files().items():
+            with open(f"{folder}/{name}", "w", encoding="utf-8") as file:
+                file.write(text)
+        words = [program, "replay", "m.json", "t.json", "1000"]
+        ended = subprocess.run(words, cwd=folder, stdout=subprocess.PIPE)
+        return ended.returncode, ended.stdout.decode()
+
+
+def main(program, pages):
+    """Runs all examples, tells those that differ, and gives the status."""
+    examples = [it for page in pages for it in examples_of(page)]
+    bad = 0
+    for example in examples:
+        faults = example.faults(*run(program, example))
+        bad += bool(faults)
+        for fault in faults:
+            print(f"{example.at}: {fault}\n{example.body}")
+    print(f"{len(examples)} examples, {bad} of them not as their page says")
+    return 1 if bad or not examples else 0
+
+
+if __name__ == "__main__":
+    PROGRAM = os.path.abspath(sys.argv[1]) if len(sys.argv) > 1 else f"{HERE}/../adhost"
+    PAGES = sys.argv[2:] or [f"{HERE}/API.md", f"{HERE}/PITFALLS.md"]
+    sys.exit(main(PROGRAM, PAGES))
