@@ -1,0 +1,4 @@
+mod Parts
+mod Lines
+mod Leaks
+mod Walking

@@ -1,0 +1,3 @@
+pub mod Appended
+pub mod Certs
+pub mod Walks

@@ -1,0 +1,15 @@
+//! Certificates of reach: what each widget of a page can get at, as lines of text.
+//!
+//! docs/CERTIFICATES.md says what a certificate is and how it is written; `specs/Certs.antt` has the
+//! same as definitions, and `specs/Walks.antt` what it shows.
+#![tactic(auto)]
+
+mod cert;
+mod confining;
+mod laws;
+mod printing;
+
+pub use cert::{Block, CellRow, Cert, Ref, RowKind};
+pub use confining::confined;
+pub use laws::{raw_is_not_confined, walks_stay};
+pub use printing::print_cert;
