@@ -1,6 +1,7 @@
 /*
- * Decimals, kept as whole numbers of their last place: with 2 places 12.50 is 1250. What is no decimal, or
- * would leave the numbers, is NaN, so no text and no amount ends the widget. Places are 0 to 15.
+ * Decimals, kept as whole numbers of their last place: with 2 places 12.50 is 1250. What is no decimal, has
+ * over 64 characters or would leave the numbers is NaN, so no text and no amount ends the widget. Places are
+ * 0 to 15.
  */
 ADSAFE.lib("decimal", function (lib) {
     "use strict";
@@ -24,18 +25,23 @@ ADSAFE.lib("decimal", function (lib) {
         return rest.length > 16 || (rest.length === 16 && rest > String(most)) ? NaN : Number(rest);
     }
     function zeros(n) {
-        return "0000000000000000".slice(0, n);
+        return "0000000000000000".slice(0, Math.max(n, 0));
     }
     // The number of a decimal such as -12.5; NaN where it has more than these places.
     function read(text, places) {
-        var from = text.charAt(0) === "-" || text.charAt(0) === "+" ? 1 : 0, dot = digitsEnd(text, from), end = dot, n;
+        var from = text.charAt(0) === "-" || text.charAt(0) === "+" ? 1 : 0, dot, end, n;
+        if (text.length > 64) {
+            return NaN;
+        }
+        dot = digitsEnd(text, from);
+        end = dot;
         if (text.charAt(dot) === ".") {
             end = digitsEnd(text, dot + 1);
         }
         if (end < text.length || end === from || end - dot - 1 > places || (end === dot + 1 && dot === from)) {
             return NaN;
         }
-        n = whole(text.slice(from, dot) + text.slice(dot + 1, end) + zeros(places - Math.max(end - dot - 1, 0)));
+        n = whole(text.slice(from, dot) + text.slice(dot + 1, end) + zeros(end > dot ? places - (end - dot - 1) : places));
         return text.charAt(0) === "-" ? -n : n;
     }
     // A number as a decimal with just these places.
@@ -50,11 +56,11 @@ ADSAFE.lib("decimal", function (lib) {
     }
     // a / b as a whole number, halves away from 0; NaN for b 0.
     function divide(a, b) {
-        var rest = Math.abs(a % b), whole = (a - a % b) / b;
+        var rest = Math.abs(a % b), quotient = (a - a % b) / b;
         if (rest >= Math.abs(b) - rest) {
-            whole += a < 0 === b < 0 ? 1 : -1;
+            quotient += (a < 0) === (b < 0) ? 1 : -1;
         }
-        return whole;
+        return quotient;
     }
     // a * b with so many places dropped.
     function times(a, b, drop) {
@@ -66,7 +72,7 @@ ADSAFE.lib("decimal", function (lib) {
     }
     function plus(a, b) {
         var room = most - Math.abs(a);
-        return a < 0 === b < 0 && Math.abs(b) > room ? NaN : a + b;
+        return (a < 0) === (b < 0) && Math.abs(b) > room ? NaN : a + b;
     }
     return {
         read: read,

@@ -86,12 +86,15 @@ ADSAFE.lib("more", function (lib) {
     // The whole number that a text of digits is; NaN where it is none, or has over 15 of them.
     more.whole = function (text) {
         var i;
+        if (text.length === 0 || text.length > 15) {
+            return NaN;
+        }
         for (i = 0; i < text.length; i += 1) {
             if (text.charAt(i) < "0" || text.charAt(i) > "9") {
                 return NaN;
             }
         }
-        return text.length > 0 && text.length < 16 ? Number(text) : NaN;
+        return Number(text);
     };
     return more;
 });
