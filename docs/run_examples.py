@@ -1,5 +1,5 @@
 #!/usr/bin/env python3
-"""Runs the examples of API.md and PITFALLS.md and compares what they do with what the pages say.
+"""Runs the examples of API.md, PITFALLS.md, RULES.md and rules.tsv and compares what they do with what is said.
 
     docs/run_examples.py [PROGRAM [PAGE ..]]
 
@@ -19,6 +19,8 @@ An example of a page is one of these.
   the fuel. Behind the block may stand ```json items, the items of the trace, and ```html page, what is then
   within the widget's root. Before it may stand ```js lib, the text of a library that the widget names.
 - A block ```html markup, the markup of the widget in all examples that follow, up to the next such block.
+- A row `| RULE | WRITTEN | TOLD AT | WRITE |` of RULES.md: what is written breaks the rule, at a place where
+  the text goes on with TOLD AT, and what to write is accepted. And the last column of rules.tsv is accepted.
 """
 
 import json
@@ -36,6 +38,7 @@ FAULTS = {
     "E12": "chain too long",
 }
 SHORT = re.compile(r"`([^`]+)` (gives|throws|stops) `([^`]+)`")
+CODE = re.compile(r"``\s(.+?)\s``|`([^`]+)`")
 MARK = re.compile(r"//\s(logs|notes|stops|spends)(?:\s(.*))?$")
 SHOW = """    function show(v) {
         return typeof v === "string" || (typeof v === "object" && v !== null) ? ADSAFE.toJson(v) : v;
@@ -62,6 +65,10 @@ class Example:
         trace = {"version": 1, "items": self.items}
         return {"m.json": json.dumps(page), "t.json": json.dumps(trace), "api.html": widget, **libs}
 
+    def words(self):
+        """The words of the command line."""
+        return ["replay", "m.json", "t.json", "1000"]
+
     def faults(self, status, out):
         """What differs between the report and what is said of it."""
         lines = [json.loads(line) for line in out.splitlines()]
@@ -76,6 +83,66 @@ class Example:
             inside = re.fullmatch(r'<body><div id="API_"[^>]*>(.*)</div></body>', page, re.S)[1]
             said.append(("page", self.page.strip(), inside.strip()))
         return [f"{what}: said {wanted!r}, is {found!r}" for what, wanted, found in said if wanted != found]
+
+
+class Judged:
+    """A library or a widget that breaks a rule, or none, with what stands where it is told."""
+
+    def __init__(self, at, body, rule, told, is_whole=False):
+        self.at, self.body, self.rule, self.told = at, body, rule, told
+        self.is_library = body.startswith("ADSAFE.lib(") if is_whole else rule[0] == "A"
+        markup, script = ("", f" {body} ") if body.startswith("ADSAFE.log(") else (body, " ")
+        if is_whole:
+            self.text = body
+        elif self.is_library:
+            self.text = f'ADSAFE.lib("m", function (lib) {{\n{body}\n}});\n'
+        else:
+            self.text = f'<div id="A_">{markup}<script>ADSAFE.go("A_", function (dom, lib) {{{script}}});</script></div>'
+
+    def files(self):
+        """The files of the example, by name."""
+        if self.is_library:
+            return {"m.js": self.text}
+        page = {"version": 1, "page": [{"widget": "A_", "file": "a.html"}], "libs": ["m.js"]}
+        return {"m.json": json.dumps(page), "a.html": self.text, "m.js": 'ADSAFE.lib("m", function (lib) { });'}
+
+    def words(self):
+        """The words of the command line."""
+        return ["check-lib", "m.js"] if self.is_library else ["check", "m.json"]
+
+    def faults(self, status, out):
+        """What differs between the line and what is said of it."""
+        line = json.loads(out)
+        if self.told is None:
+            return [] if line.get("accepted") else [f"is refused: {out.strip()}"]
+        if line.get("refused") != self.rule:
+            return [f"said {self.rule}: {out.strip()}"]
+        row, column = line["at"]
+        found = "\n".join(self.text.split("\n")[row - 1:]).encode()[column - 1:].decode()
+        return [] if found.startswith(self.told) else [f"said at {self.told!r}, is at {found!r}"]
+
+
+def code(cell):
+    """The first code in a cell."""
+    found = CODE.search(cell)
+    return found[1] or found[2]
+
+
+def of_row(at, row):
+    """The examples of a row of a table of RULES.md: what is written, and what to write."""
+    rule, written, told, write = [cell.strip() for cell in row.strip("|").split(" | ")]
+    found = [Judged(at, code(written), rule, code(told))]
+    if write.startswith("`"):
+        found.append(Judged(at, code(write), rule, None))
+    return found
+
+
+def of_list(page):
+    """The examples of rules.tsv."""
+    with open(page, encoding="utf-8") as file:
+        rows = [line.rstrip("\n").split("\t") for line in file]
+    return [Judged(f"{os.path.relpath(page)}:{number}", row[-1], row[0], None, True)
+            for number, row in enumerate(rows[1:], 2)]
 
 
 def of_block(at, markup, text):
@@ -122,14 +189,19 @@ def of_short(at, markup, text, what, comes):
 
 def examples_of(page):
     """The examples of a page, in order."""
+    if page.endswith(".tsv"):
+        return of_list(page)
     with open(page, encoding="utf-8") as file:
         lines = file.read().splitlines()
-    found, markup, libs, kind, block = [], "<p>hi</p>", [], None, []
+    found, markup, libs, kind, block, in_table = [], "<p>hi</p>", [], None, [], False
     for number, line in enumerate(lines, 1):
         at = f"{os.path.relpath(page)}:{number}"
         if kind is None and line.startswith("```"):
             kind, block = line[3:].strip(), []
+        elif kind is None and re.match(r"\| [AM]\d\d \| .* \| .* \| ", line) and in_table:
+            found += of_row(at, line)
         elif kind is None:
+            in_table = line.startswith("| Rule | Written |") or (in_table and line.startswith("|"))
             found += [of_short(at, markup, *it) for it in SHORT.findall(line)]
         elif line != "```":
             block.append(line)
@@ -156,8 +228,7 @@ def run(program, example):
         for name, text in example.files().items():
             with open(f"{folder}/{name}", "w", encoding="utf-8") as file:
                 file.write(text)
-        words = [program, "replay", "m.json", "t.json", "1000"]
-        ended = subprocess.run(words, cwd=folder, stdout=subprocess.PIPE)
+        ended = subprocess.run([program, *example.words()], cwd=folder, stdout=subprocess.PIPE)
         return ended.returncode, ended.stdout.decode()
 
 
@@ -176,5 +247,5 @@ def main(program, pages):
 
 if __name__ == "__main__":
     PROGRAM = os.path.abspath(sys.argv[1]) if len(sys.argv) > 1 else f"{HERE}/../adhost"
-    PAGES = sys.argv[2:] or [f"{HERE}/API.md", f"{HERE}/PITFALLS.md"]
+    PAGES = sys.argv[2:] or [f"{HERE}/{name}" for name in ("API.md", "PITFALLS.md", "RULES.md", "rules.tsv")]
     sys.exit(main(PROGRAM, PAGES))
