@@ -1,11 +1,12 @@
 #!/usr/bin/env python3
 """Runs the examples of API.md, PITFALLS.md, RULES.md and rules.tsv and compares what they do with what is said.
 
-    docs/run_examples.py [PROGRAM [PAGE ..]]
+    docs/run_examples.py [--try | PROGRAM] [PAGE ..]
 
-PROGRAM is the built program; without it the script `adhost` at the root of the repository is run. The pages
-are those beside this script, or those that are named. The last line counts the examples. The status is 0
-where all do what their page says, and 1 where one does not; each such one is told, with the page and the line.
+Without a word the script `adhost` at the root of the repository is run; with `--try` the program that it
+builds without any proof; else PROGRAM, a built program. The pages are those beside this script, or those that
+are named. The last line counts the examples. The status is 0 where all do what their page says, and 1 where
+one does not; each such one is told, with the page and the line.
 
 An example of a page is one of these.
 
@@ -23,6 +24,7 @@ An example of a page is one of these.
   the text goes on with TOLD AT, and what to write is accepted. And the last column of rules.tsv is accepted.
 """
 
+import glob
 import json
 import os
 import re
@@ -232,6 +234,15 @@ def run(program, example):
         return ended.returncode, ended.stdout.decode()
 
 
+def program_of(word):
+    """The program that a word of the command line means, by its path."""
+    script = os.path.abspath(f"{HERE}/../adhost")
+    if word != "--try":
+        return os.path.abspath(word) if word else script
+    subprocess.run([script, "--try", "check-lib", f"{HERE}/../examples/gives-back.js"], check=True)
+    return glob.glob(os.path.abspath(f"{HERE}/../crates/adhost/out/unproved-*"))[0]
+
+
 def main(program, pages):
     """Runs all examples, tells those that differ, and gives the status."""
     examples = [it for page in pages for it in examples_of(page)]
@@ -246,6 +257,6 @@ def main(program, pages):
 
 
 if __name__ == "__main__":
-    PROGRAM = os.path.abspath(sys.argv[1]) if len(sys.argv) > 1 else f"{HERE}/../adhost"
-    PAGES = sys.argv[2:] or [f"{HERE}/{name}" for name in ("API.md", "PITFALLS.md", "RULES.md", "rules.tsv")]
-    sys.exit(main(PROGRAM, PAGES))
+    WORDS = sys.argv[1:] or [""]
+    PAGES = WORDS[1:] or [f"{HERE}/{name}" for name in ("API.md", "PITFALLS.md", "RULES.md", "rules.tsv")]
+    sys.exit(main(program_of(WORDS[0]), PAGES))

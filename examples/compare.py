@@ -1,10 +1,10 @@
 #!/usr/bin/env python3
 """Runs the examples of this folder and compares what is written, byte for byte, with what stands here.
 
-    examples/compare.py [PROGRAM]
+    examples/compare.py [--try | PROGRAM]
 
-PROGRAM is the built program; without it the script `adhost` at the root of the repository is run. The status
-is 0 where all agree. Compared are the stored outputs (*.jsonl), the lines of README.md with the file or the
+Without a word the script `adhost` at the root of the repository is run; with `--try` the program that it
+builds without any proof; else PROGRAM, a built program. The status is 0 where all agree. Compared are the stored outputs (*.jsonl), the lines of README.md with the file or the
 page that stands in the same row, and the logs of lib/ with those that lib/expected.py reckons.
 """
 
@@ -15,6 +15,9 @@ import subprocess
 import sys
 
 HERE = os.path.dirname(os.path.abspath(__file__))
+sys.path.insert(0, f"{HERE}/../docs")
+from run_examples import program_of  # noqa: E402
+
 GADGETS = ["banner", "calc", "clock", "form", "tip", "todo"]
 
 
@@ -80,4 +83,4 @@ def main(program):
 
 
 if __name__ == "__main__":
-    sys.exit(main(os.path.abspath(sys.argv[1]) if len(sys.argv) > 1 else f"{HERE}/../adhost"))
+    sys.exit(main(program_of(sys.argv[1] if len(sys.argv) > 1 else "")))
