@@ -99,7 +99,8 @@ class Judged:
         elif self.is_library:
             self.text = f'ADSAFE.lib("m", function (lib) {{\n{body}\n}});\n'
         else:
-            self.text = f'<div id="A_">{markup}<script>ADSAFE.go("A_", function (dom, lib) {{{script}}});</script></div>'
+            script = f'ADSAFE.go("A_", function (dom, lib) {{{script}}});'
+            self.text = f'<div id="A_">{markup}<script>{script}</script></div>'
 
     def files(self):
         """The files of the example, by name."""

@@ -4,8 +4,9 @@
     examples/compare.py [--try | PROGRAM]
 
 Without a word the script `adhost` at the root of the repository is run; with `--try` the program that it
-builds without any proof; else PROGRAM, a built program. The status is 0 where all agree. Compared are the stored outputs (*.jsonl), the lines of README.md with the file or the
-page that stands in the same row, and the logs of lib/ with those that lib/expected.py reckons.
+builds without any proof; else PROGRAM, a built program. The status is 0 where all agree. Compared are the
+stored outputs (*.jsonl), the lines of README.md with the file or the page that stands in the same row, and the
+logs of lib/ with those that lib/expected.py reckons.
 """
 
 import json

@@ -29,7 +29,7 @@ ADSAFE.lib("decimal", function (lib) {
     }
     // The number of a decimal such as -12.5; NaN where it has more than these places.
     function read(text, places) {
-        var from = text.charAt(0) === "-" || text.charAt(0) === "+" ? 1 : 0, dot, end, n;
+        var from = text.charAt(0) === "-" || text.charAt(0) === "+" ? 1 : 0, dot, end, digits, n;
         if (text.length > 64) {
             return NaN;
         }
@@ -41,7 +41,8 @@ ADSAFE.lib("decimal", function (lib) {
         if (end < text.length || end === from || end - dot - 1 > places || (end === dot + 1 && dot === from)) {
             return NaN;
         }
-        n = whole(text.slice(from, dot) + text.slice(dot + 1, end) + zeros(end > dot ? places - (end - dot - 1) : places));
+        digits = text.slice(from, dot) + text.slice(dot + 1, end);
+        n = whole(digits + zeros(end > dot ? places - (end - dot - 1) : places));
         return text.charAt(0) === "-" ? -n : n;
     }
     // A number as a decimal with just these places.
