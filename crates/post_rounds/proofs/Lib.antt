@@ -1,0 +1,9 @@
+pub mod Tests
+pub mod Receiving
+pub mod Delivering
+pub mod Members
+pub mod Listing
+pub mod Coming
+pub mod Dropping
+pub mod Counting
+pub mod LawsHold
