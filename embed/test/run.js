@@ -101,7 +101,7 @@ async function main() {
     await browser.close();
     server.close();
     console.log(`${PAGES} random pages, each with two updates; ${sum.nodes} elements`);
-    console.log(`By the browser's parser ${sum.parserDiffers} have another tree, ${sum.parserLeaves} text outside a slot.`);
+    console.log(`The browser's parser: ${sum.parserDiffers} have another tree, ${sum.parserLeaves} text out of a slot`);
     console.log(`\n${rows}`);
     expect(fs.readFileSync(path.join(__dirname, "../README.md"), "utf8").includes(rows), "README.md has another table");
     wrong.forEach(text => console.error(`wrong: ${text}`));
