@@ -189,6 +189,14 @@ function misuse() {
     return isRefused(form) && isRefused(box(), { link: [] }) ? [] : ["a container in a form, or an option of no name"];
 }
 
+// The value that a field has by itself, or that was typed, never becomes an attribute.
+function ownValues() {
+    const view = AdhostView.render(box(), page('<input type="checkbox" value="a"><input type="text">'));
+    box().querySelector("[type=text]").value = "typed";
+    view.update(page('<input type="checkbox"><input type="checkbox">'));
+    return box().querySelector("[value]") ? [box().innerHTML] : [];
+}
+
 // An update leaves alone what a reader did, until the page says otherwise.
 const fields = (first, value, ticked, more, text) => page(`${first}<input id="A_t" type="text"${value}>`
     + `<input id="A_c" type="checkbox"${ticked}><textarea id="A_a">${text}</textarea>`
@@ -222,5 +230,5 @@ function updates() {
     return wrong;
 }
 
-return { refusals, spellings, options, picture, misuse, typing, updates };
+return { refusals, spellings, options, picture, misuse, ownValues, typing, updates };
 })();

@@ -60,7 +60,7 @@ async function randomPages(tab, page) {
 
 async function checks(tab, page) {
     await tab.open(page);
-    for (const name of ["refusals", "spellings", "options", "misuse"])
+    for (const name of ["refusals", "spellings", "options", "misuse", "ownValues"])
         for (const what of await tab.evaluate(`Checks.${name}()`)) expect(false, `${name}: ${what}`);
     await tab.evaluate("Checks.typing()");
     await tab.send("Input.insertText", { text: "tea" });
