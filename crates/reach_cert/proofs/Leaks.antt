@@ -6,7 +6,7 @@ use Rattle.reach_cert.specs.declared.cert.Block.{Block}
 use Rattle.reach_cert.specs.declared.cert.CellRow.{CellRow}
 use Rattle.reach_cert.specs.declared.cert.Ref.{Ref}
 use Rattle.reach_cert.specs.Certs.{Row, Slot, Refused, Shown, HeldLine, EndLine, row_of, slot_of, cell_lines, slot_lines, cert_lines}
-use Rattle.reach_cert.specs.Walks.{some_leaves, slot_leaks, leaks, first_from, first_leak}
+use Rattle.reach_cert.specs.Walks.{some_leaves, slot_leaks, first_from, first_leak}
 
 pub first_there : (xs ys : List Bool) (n k : ℕ) → first_from n xs ≡ Some k → first_from n (xs ++ ys) ≡ Some k
 first_there [] ys n k e = cc

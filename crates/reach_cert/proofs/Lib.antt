@@ -1,4 +1,13 @@
-mod Parts
-mod Lines
+mod CellLines
+mod Complete
+mod Ends
+mod Exact
 mod Leaks
+mod Letters
+mod Numbers
+mod Parts
+mod Refs
+mod Sound
+mod Spelled
+mod Steps
 mod Walking

@@ -1,15 +1,15 @@
 -- The theorem of reach.
-use Rattle.std.proofs.Common.{◌≡◌, ℕ, zero, suc, ◌<◌, Bool, true, false, ◌&&◌, ◌||◌, not, List, [], ◌∷◌, ◌++◌, map, length, refl, subst, append_assoc, arith, Option, Some, None, nat_lt, ltb-true, lit<}
+use Rattle.std.proofs.Common.{◌≡◌, ℕ, zero, suc, Bool, true, false, ◌&&◌, ◌||◌, not, List, [], ◌∷◌, ◌++◌, map, length, refl, subst, append_assoc, Some, None, nat_lt, ltb-true, lit<}
 use Rattle.std.specs.Prelude.{slice_get}
-use Rattle.std.specs.List.{Contains, AllByRecursion, flat_map, list_any}
+use Rattle.std.specs.List.{Contains, AllByRecursion, flat_map}
 use Rattle.std.specs.Str.{bytes_eq}
 use Rattle.std.proofs.lemmas.List.Elements.{All-contains, All-from_recursion}
 use Rattle.std.proofs.lemmas.Slice.Eq.{bytes_eq-Decides}
 use Rattle.reach_cert.specs.declared.cert.Ref.{Ref}
 use Rattle.reach_cert.specs.declared.cert.Ref.TheVariants.{Host, Raw, Global, Cell}
 use Rattle.reach_cert.specs.declared.cert.RowKind.TheVariants.{Object}
-use Rattle.reach_cert.specs.Certs.{Row, Slot, Refused, Shown}
-use Rattle.reach_cert.specs.Walks.{HasWidget, Leads, begins, goes_on, HasCell, IsOwn, leaves, some_leaves, slot_leaks, leaks, first_from, first_leak, IsConfined}
+use Rattle.reach_cert.specs.Certs.{Row, Slot, Shown}
+use Rattle.reach_cert.specs.Walks.{HasWidget, Leads, begins, goes_on, IsOwn, leaves, some_leaves, slot_leaks, leaks, first_from, first_leak, IsConfined}
 
 -- ## No line leaks
 

@@ -6,10 +6,16 @@
 
 mod cert;
 mod confining;
+mod fault;
 mod laws;
+mod lines;
 mod printing;
+mod reading;
+mod words;
 
 pub use cert::{Block, CellRow, Cert, Ref, RowKind};
 pub use confining::confined;
+pub use fault::CertFault;
 pub use laws::{raw_is_not_confined, walks_stay};
 pub use printing::print_cert;
+pub use reading::read_cert;

@@ -1,4 +1,4 @@
-use Rattle.std.proofs.Common.{refl, sym, ◌∙◌}
+use Rattle.std.proofs.Common.{refl, sym}
 use Rattle.reach_cert.proofs.Leaks.{row_leaks, held_leaks, none_leaks}
 use Rattle.reach_cert.proofs.confining.shown_leak.Goals as goal
 

@@ -1,6 +1,6 @@
 use Rattle.std.proofs.Common.{◌++◌, ◌∙◌, ap}
 use Rattle.reach_cert.proofs.Parts.{on_err, grown, more_item, all_items}
-use Rattle.reach_cert.proofs.Lines.{block_text, block_texts}
+use Rattle.reach_cert.proofs.CellLines.{block_text, block_texts}
 use Rattle.reach_cert.proofs.printing.push_blocks.Goals as goal
 
 pub returns-in_err-push_block-clause-err : goal.returns-in_err-push_block-clause-err

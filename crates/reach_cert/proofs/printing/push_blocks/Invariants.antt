@@ -1,6 +1,6 @@
 use Rattle.std.proofs.Common.{◌≡◌, ◌++◌, take}
 use Rattle.std.specs.List.{flat_map}
-use Rattle.reach_cert.proofs.Lines.{block_text}
+use Rattle.reach_cert.proofs.CellLines.{block_text}
 use Rattle.reach_cert.proofs.printing.push_blocks.Given as goal
 
 abbrev pub invariant-each : goal.invariant-each

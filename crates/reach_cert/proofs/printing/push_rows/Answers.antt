@@ -1,5 +1,5 @@
 use Rattle.reach_cert.proofs.Parts.{on_err, grown}
-use Rattle.reach_cert.proofs.Lines.{more_rows, all_rows}
+use Rattle.reach_cert.proofs.CellLines.{more_rows, all_rows}
 use Rattle.reach_cert.proofs.printing.push_rows.Goals as goal
 
 pub returns-in_err-push_row-clause-err : goal.returns-in_err-push_row-clause-err

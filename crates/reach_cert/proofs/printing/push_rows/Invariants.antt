@@ -1,7 +1,7 @@
 use Rattle.std.proofs.Common.{◌≡◌, ◌++◌}
 use Rattle.std.specs.List.{flat_map}
 use Rattle.reach_cert.specs.Certs.{line_text}
-use Rattle.reach_cert.proofs.Lines.{lines_to}
+use Rattle.reach_cert.proofs.CellLines.{lines_to}
 use Rattle.reach_cert.proofs.printing.push_rows.Given as goal
 
 abbrev pub invariant-each : goal.invariant-each

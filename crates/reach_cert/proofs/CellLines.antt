@@ -5,7 +5,7 @@ use Rattle.std.proofs.lemmas.List.Concat.{flat_map-append}
 use Rattle.std.specs.List.{flat_map}
 use Rattle.reach_cert.specs.declared.cert.Block.{Block}
 use Rattle.reach_cert.specs.declared.cert.CellRow.{CellRow}
-use Rattle.reach_cert.specs.Certs.{Slot, Line, CellLine, row_of, slot_of, line_text, cell_lines, slot_lines}
+use Rattle.reach_cert.specs.Certs.{Line, CellLine, row_of, slot_of, line_text, cell_lines, slot_lines}
 
 -- the lines of the first cells
 abbrev pub lines_to : ℕ → List CellRow → ℕ → List Line

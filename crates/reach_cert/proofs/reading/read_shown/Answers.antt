@@ -1,0 +1,20 @@
+use Rattle.std.proofs.Common.{[], map, ◌∙◌}
+use Rattle.reach_cert.specs.Certs.{row_of}
+use Rattle.reach_cert.specs.Machine.{Inside}
+use Rattle.reach_cert.proofs.Steps.{later_both, fewer_later, carried, if_err}
+use Rattle.reach_cert.proofs.reading.read_shown.Goals as goal
+
+pub returns-in_err-cells-clause-fault : goal.returns-in_err-cells-clause-fault
+returns-in_err-cells-clause-fault c = if_err _ _ _ c.from_residual.ensures.1 c.in_err-cells.ensures.fault
+
+pub returns-in_err-held-clause-fault : goal.returns-in_err-held-clause-fault
+returns-in_err-held-clause-fault c =
+    if_err _ _ _ c.from_residual-in_err-held.ensures.1
+    (λ slots. carried (Inside slots c.args.name []) (Inside slots c.args.name (map row_of c.in_ok-cells.cells.items)) c.args.lines.now c.read_cells.new.lines (c.in_ok-cells.ensures.read slots) _ c.in_ok-cells.ensures.later
+    (c.in_err-held.ensures.fault slots c.args.name (map row_of c.in_ok-cells.cells.items) c.in_ok-cells.ensures.none))
+
+pub returns-clause-read : goal.returns-clause-read
+returns-clause-read c = λ slots. c.in_ok-cells.ensures.read slots ∙ c.in_ok-held.ensures.read slots c.args.name (map row_of c.in_ok-cells.cells.items) c.in_ok-cells.ensures.none
+
+pub returns-clause-later : goal.returns-clause-later
+returns-clause-later c = later_both _ _ _ c.in_ok-cells.ensures.later (fewer_later _ _ c.in_ok-held.ensures.later)
