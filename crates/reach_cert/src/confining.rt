@@ -1,7 +1,8 @@
 //! Whether a certificate is confined.
-ghost use Rattle.std.specs.Prelude.{◌≡◌, ◌+◌, ◌<◌, ◌^◌, map, length, MatchResult, Some};
+ghost use Rattle.std.specs.Prelude.{◌≡◌, ℕ, ◌+◌, ◌<◌, ◌^◌, List, map, length, MatchResult, OnOk, Some};
+ghost use Rattle.reach_cert.specs.declared.cert.Ref.{Ref};
 ghost use Rattle.reach_cert.specs.Certs.{Shown, plain, row_of, slot_of, slot_lines, cert_lines};
-ghost use Rattle.reach_cert.specs.Walks.{leaves, some_leaves, slot_leaks, first_from, first_leak, IsConfined};
+ghost use Rattle.reach_cert.specs.Walks.{leaves, some_leaves, slot_leaks, first_from, first_leak, IsConfined, Leads, IsOwn};
 
 use crate::cert::{Block, CellRow, Cert, Ref};
 use code_units::Text;
@@ -82,10 +83,12 @@ fn line_count(block: &Block) -> usize
 /// takes no memory.
 ///
 /// Of a confined certificate each walk from a widget's `held` line stays on `host` and on that
-/// widget's own cell lines (`walks_stay`).
+/// widget's own cell lines.
 pub fn confined(cert: &Cert) -> Result<(), u32>
     requires { length (cert_lines (plain cert.now)) < 4294967295 }
-    ensures { MatchResult result (λ _. IsConfined (plain cert.now)) (λ line. first_leak (plain cert.now) ≡ Some line) }
+    ensures line { MatchResult result (λ _. IsConfined (plain cert.now)) (λ line. first_leak (plain cert.now) ≡ Some line) }
+    ensures walks { OnOk result ((name : List ℕ) (target : Ref) →
+        Leads (plain cert.now) name target → IsOwn (plain cert.now) name target) }
 {
     let mut line = 2;
     'each: for block in &cert.blocks {

@@ -8,7 +8,7 @@ ghost use Rattle.reach_cert.specs.Walks.{Leads, IsOwn, IsConfined};
 /// stays on `host` and on that widget's own cell lines.
 pub fn walks_stay()
     ensures { (slots : List Slot) → IsConfined slots →
-        (name : List ℕ) (ref : Ref) → Leads slots name ref → IsOwn slots name ref }
+        (name : List ℕ) (target : Ref) → Leads slots name target → IsOwn slots name target }
 {}
 
 /// A certificate is not confined where some walk meets a node of the page itself, or the Global

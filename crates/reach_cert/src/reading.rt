@@ -84,8 +84,13 @@ fn fresh_name(alloc: Global, blocks: &[Block], word: &[u8]) -> Result<Option<Tex
     Ok(Some(text_of(alloc, word)?))
 }
 
-// The lines of cells, up to the first that is none.
-fn read_cells(alloc: Global, own: &Text, lines: &mut Lines) -> Result<Vec<CellRow>, CertFault>
+// The lines of cells, up to the first that is none. `others` are names that are shared.
+fn read_cells(
+    alloc: Global,
+    own: &Text,
+    others: &mut Vec<Text>,
+    lines: &mut Lines,
+) -> Result<Vec<CellRow>, CertFault>
     ensures read { IfOk result (λ cells. (slots : List Slot) →
         goes (Inside slots own.now []) lines.old.lines ≡ goes (Inside slots own.now (map row_of cells.items)) lines.new.lines) }
     ensures none { IfOk result (λ cells. cell_text (length (map row_of cells.items)) lines.new.lines ≡ None) }
@@ -94,7 +99,7 @@ fn read_cells(alloc: Global, own: &Text, lines: &mut Lines) -> Result<Vec<CellRo
 {
     let mut cells = Vec::new(alloc);
     'each: while let Some(text) = cell_text(cells.len(), lines) {
-        let Some(row) = read_row(alloc, own, text)? else {
+        let Some(row) = read_row(alloc, own, others, text)? else {
             return Err(lines.fault());
         };
         cells.push(row)?;
@@ -104,7 +109,12 @@ fn read_cells(alloc: Global, own: &Text, lines: &mut Lines) -> Result<Vec<CellRo
 }
 
 // The line of what a widget holds, where it is no line of its next cell.
-fn read_held(alloc: Global, own: &Text, lines: &mut Lines) -> Result<Vec<Ref>, CertFault>
+fn read_held(
+    alloc: Global,
+    own: &Text,
+    others: &mut Vec<Text>,
+    lines: &mut Lines,
+) -> Result<Vec<Ref>, CertFault>
     ensures read { IfOk result (λ held. (slots : List Slot) (name : List ℕ) (rows : List Row) → cell_text (length rows) lines.old.lines ≡ None →
         goes (Inside slots name rows) lines.old.lines ≡ goes (Between (slots ++ Shown name rows held.items ∷ [])) lines.new.lines) }
     ensures later { OnOk result (Fewer lines.old lines.new) }
@@ -114,7 +124,7 @@ fn read_held(alloc: Global, own: &Text, lines: &mut Lines) -> Result<Vec<Ref>, C
     let Some(text) = text_behind(b"held", lines) else {
         return Err(lines.fault());
     };
-    let Some(held) = read_refs(alloc, own, text)? else {
+    let Some(held) = read_refs(alloc, own, others, text)? else {
         return Err(lines.fault());
     };
     lines.advance();
@@ -127,8 +137,9 @@ fn read_shown(alloc: Global, name: Text, lines: &mut Lines) -> Result<Block, Cer
     ensures later { OnOk result (Later lines.old lines.new) }
     ensures fault { IfErr result (λ e. (slots : List Slot) → Refuses (Inside slots name []) lines.old e) }
 {
-    let cells = read_cells(alloc, &name, lines)?;
-    let held = read_held(alloc, &name, lines)?;
+    let mut others = Vec::new(alloc);
+    let cells = read_cells(alloc, &name, &mut others, lines)?;
+    let held = read_held(alloc, &name, &mut others, lines)?;
     Ok(Block::Rows { name, cells, held })
 }
 

@@ -1,5 +1,5 @@
 //! The words of a line.
-ghost use Rattle.std.specs.Prelude.{◌≡◌, ℕ, ◌<◌, ◌≤◌, ◌^◌, length, decimal, IfOk, option_map};
+ghost use Rattle.std.specs.Prelude.{◌≡◌, ℕ, ◌<◌, ◌≤◌, ◌^◌, length, decimal, IfOk, IfSome, option_map};
 ghost use Rattle.std.specs.List.{list_all, position};
 ghost use Rattle.reach_cert.specs.Certs.{row_of};
 ghost use Rattle.reach_cert.specs.Shape.{is_capital, is_name};
@@ -12,6 +12,9 @@ use std::alloc::Global;
 
 // The bytes that the longest name has.
 const LONGEST_NAME: usize = 32;
+
+// The names of other widgets that are kept to be shared: as many as a certificate may have slots.
+const MOST_KEPT: usize = 16;
 
 // The first number past the numbers of cells.
 const LIMIT: u64 = 1 << 32;
@@ -90,8 +93,25 @@ pub fn text_of(alloc: Global, word: &[u8]) -> Result<Text, Memory>
     Text::from_units(alloc, units)
 }
 
-// The name that a word is; the widget's own name is shared.
-fn read_name(alloc: Global, own: &Text, word: &[u8]) -> Result<Option<Text>, Memory>
+// A kept name that the word is.
+fn kept_name<'a>(names: &'a [Text], word: &[u8]) -> Option<&'a Text>
+    ensures { IfSome result (λ name. name.now ≡ word.now) }
+{
+    'each: for name in names {
+        if spells(name.units(), word) {
+            return Some(name);
+        }
+    }
+    None
+}
+
+// The name that a word is. The widget's own is shared, and so are the first other ones.
+fn read_name(
+    alloc: Global,
+    own: &Text,
+    others: &mut Vec<Text>,
+    word: &[u8],
+) -> Result<Option<Text>, Memory>
     ensures { IfOk result (λ name. name ≡ name_in word.now) }
 {
     if !is_name(word) {
@@ -100,7 +120,14 @@ fn read_name(alloc: Global, own: &Text, word: &[u8]) -> Result<Option<Text>, Mem
     if spells(own.units(), word) {
         return Ok(Some(own.share()?));
     }
-    Ok(Some(text_of(alloc, word)?))
+    if let Some(name) = kept_name(others, word) {
+        return Ok(Some(name.share()?));
+    }
+    let name = text_of(alloc, word)?;
+    if others.len() < MOST_KEPT {
+        others.push(name.share()?)?;
+    }
+    Ok(Some(name))
 }
 
 // The value of decimal digits, or the limit where it is larger; for other bytes any number.
@@ -126,13 +153,18 @@ pub fn number_in(word: &[u8]) -> Option<u32>
     }
 }
 
-fn read_cell(alloc: Global, own: &Text, word: &[u8]) -> Result<Option<Ref>, Memory>
+fn read_cell(
+    alloc: Global,
+    own: &Text,
+    others: &mut Vec<Text>,
+    word: &[u8],
+) -> Result<Option<Ref>, Memory>
     ensures { IfOk result (λ target. target ≡ cell_at word.now (position is_colon word.now)) }
 {
     let Some(colon) = colon_in(word) else {
         return Ok(None);
     };
-    let Some(name) = read_name(alloc, own, &word[..colon])? else {
+    let Some(name) = read_name(alloc, own, others, &word[..colon])? else {
         return Ok(None);
     };
     match number_in(&word[colon + 1..]) {
@@ -142,7 +174,12 @@ fn read_cell(alloc: Global, own: &Text, word: &[u8]) -> Result<Option<Ref>, Memo
 }
 
 #[tactic(auto, unfolding(crate::specs::Words::ref_in))]
-fn read_ref(alloc: Global, own: &Text, word: &[u8]) -> Result<Option<Ref>, Memory>
+fn read_ref(
+    alloc: Global,
+    own: &Text,
+    others: &mut Vec<Text>,
+    word: &[u8],
+) -> Result<Option<Ref>, Memory>
     ensures { IfOk result (λ target. target ≡ ref_in word.now) }
 {
     if word == b"host".as_slice() {
@@ -154,23 +191,28 @@ fn read_ref(alloc: Global, own: &Text, word: &[u8]) -> Result<Option<Ref>, Memor
     if word == b"global".as_slice() {
         return Ok(Some(Ref::Global));
     }
-    read_cell(alloc, own, word)
+    read_cell(alloc, own, others, word)
 }
 
 fn space_count(text: &[u8]) -> usize {
     text.iter().filter(|byte| is_space(byte)).count()
 }
 
-/// The references of a text in which a space stands before each. Names that are the widget's own are
-/// shared.
-pub fn read_refs(alloc: Global, own: &Text, text: &[u8]) -> Result<Option<Vec<Ref>>, Memory>
+/// The references of a text in which a space stands before each. The widget's own name is shared, and
+/// so are the names of others, of which the first are kept.
+pub fn read_refs(
+    alloc: Global,
+    own: &Text,
+    others: &mut Vec<Text>,
+    text: &[u8],
+) -> Result<Option<Vec<Ref>>, Memory>
     ensures { IfOk result (λ refs. option_map (λ v. v.items) refs ≡ refs_in text.now) }
 {
     let mut refs = Vec::with_capacity(alloc, space_count(text))?;
     let mut rest = text;
     'each: while let Some(more) = behind(b" ", rest) {
         let end = word_end(more);
-        let Some(target) = read_ref(alloc, own, &more[..end])? else {
+        let Some(target) = read_ref(alloc, own, others, &more[..end])? else {
             return Ok(None);
         };
         refs.push(target)?;
@@ -202,14 +244,19 @@ fn kind_in(word: &[u8]) -> Option<RowKind>
 
 /// The row of a text that begins with its kind.
 #[tactic(auto, unfolding(crate::specs::Words::row_in))]
-pub fn read_row(alloc: Global, own: &Text, text: &[u8]) -> Result<Option<CellRow>, Memory>
+pub fn read_row(
+    alloc: Global,
+    own: &Text,
+    others: &mut Vec<Text>,
+    text: &[u8],
+) -> Result<Option<CellRow>, Memory>
     ensures { IfOk result (λ row. option_map row_of row ≡ row_in text.now) }
 {
     let end = word_end(text);
     let Some(kind) = kind_in(&text[..end]) else {
         return Ok(None);
     };
-    match read_refs(alloc, own, &text[end..])? {
+    match read_refs(alloc, own, others, &text[end..])? {
         Some(refs) => Ok(Some(CellRow { kind, refs })),
         None => Ok(None),
     }
