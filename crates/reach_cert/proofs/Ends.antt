@@ -39,9 +39,6 @@ end_none bytes e = omega (arith, at_none is_feed bytes e)
 abbrev IsFirst : List ℕ → ℕ → Type 0
 IsFirst bytes n = lines_of bytes ≡ take n bytes ∷ lines_of (drop n bytes)
 
-onto_line : (b : ℕ) (bytes : List ℕ) → (bytes ≡ [] → ⊥) → IsFirst bytes (line_end bytes) → onto_first b (lines_of bytes) ≡ (b ∷ take (line_end bytes) bytes) ∷ lines_of (drop (line_end bytes) bytes)
-onto_line b bytes some e = ap (onto_first b) e
-
 first_by : (b : ℕ) (bytes : List ℕ) → (c : Bool) → (b == 10) ≡ c → ((bytes ≡ [] → ⊥) → IsFirst bytes (line_end bytes)) → IsFirst (b ∷ bytes) (line_end (b ∷ bytes))
 first_by b bytes true e more =
     let one : line_end (b ∷ bytes) ≡ 1 = rw e (omega arith) in

@@ -11,7 +11,7 @@ use Rattle.reach_cert.specs.declared.fault.CertFault.{CertFault}
 use Rattle.reach_cert.specs.declared.fault.CertFault.TheVariants as fault
 use Rattle.reach_cert.specs.Certs.{Row, Slot, Refused, Shown, Line, HeldLine, EndLine, cell_lines, slot_lines, cert_lines, line_words, line_text, cert_text}
 use Rattle.reach_cert.specs.Machine.{Start, step, done, goes, Refuses}
-use Rattle.reach_cert.specs.Shape.{is_slot, is_row, IsCert, SpellsCert, lines_of, IsCertFault}
+use Rattle.reach_cert.specs.Shape.{IsBadLine, is_slot, is_row, IsCert, SpellsCert, lines_of, IsCertFault}
 use Rattle.reach_cert.proofs.Complete.{complete, parts}
 use Rattle.reach_cert.proofs.Letters.{AllFit, is_line, line_fits}
 use Rattle.reach_cert.proofs.Sound.{sound, closable, texts}
@@ -135,3 +135,11 @@ only_cert bytes slots others c is s = plain.one_tree step done Start SpellsCert 
 pub matched : {A : Type 0} (r : Result A CertFault) (P R : A → Type 0) (Q S : CertFault → Type 0) → ((x : A) → P x → R x) → ((e : CertFault) → Q e → S e) → IfOk r P → IfErr r Q → MatchResult r R S
 matched (Ok x) P R Q S f g p q = f x p
 matched (Err e) P R Q S f g p q = g e q
+
+-- ## One answer
+
+pub same_line : (bytes : List ℕ) (line other : ℕ) → IsBadLine bytes line → IsBadLine bytes other → line ≡ other
+same_line bytes line other a b = a.1 ∙ ap suc (plain.one_place SpellsCert (lines_of bytes) (a.0) (b.0) (a.2) (b.2)) ∙ sym (b.1)
+
+pub not_both : (bytes : List ℕ) (line : ℕ) (slots : List Slot) → IsBadLine bytes line → IsCert slots → cert_text slots ≡ bytes → ⊥
+not_both bytes line slots bad c is = plain.no_tree SpellsCert (lines_of bytes) (bad.0) slots (bad.2) (subst (λ b. SpellsCert (lines_of b) slots) is (spells slots c))

@@ -6,7 +6,7 @@ use Rattle.reach_cert.specs.declared.cert.Block.{Block}
 use Rattle.reach_cert.specs.declared.cert.CellRow.{CellRow}
 use Rattle.reach_cert.specs.declared.cert.Ref.{Ref}
 use Rattle.reach_cert.specs.Certs.{Row, Slot, Refused, Shown, HeldLine, EndLine, row_of, slot_of, cell_lines, slot_lines, cert_lines}
-use Rattle.reach_cert.specs.Walks.{some_leaves, slot_leaks, first_from, first_leak}
+use Rattle.reach_cert.specs.Walks.{leaks, some_leaves, slot_leaks, first_from, first_leak}
 
 pub first_there : (xs ys : List Bool) (n k : ℕ) → first_from n xs ≡ Some k → first_from n (xs ++ ys) ≡ Some k
 first_there [] ys n k e = cc
@@ -74,6 +74,10 @@ slots_judged (slot ∷ slots) = omega (arith, length-append (slot_lines slot) (f
 pub lines_count : (slots : List Slot) → length (cert_lines slots) ≡ 2 + length (flat_map slot_leaks slots)
 lines_count slots = omega (arith, length-append (flat_map slot_lines slots) (EndLine ∷ []), slots_judged slots)
 
+-- and as many judgements
+pub judged_each : (slots : List Slot) → length (leaks slots) ≡ length (cert_lines slots)
+judged_each slots = omega (arith, length-append (flat_map slot_leaks slots) (false ∷ []), lines_count slots)
+
 abbrev pub left : List Block → ℕ → List Bool
 left blocks i = flat_map slot_leaks (map slot_of (drop i blocks))
 
@@ -100,9 +104,6 @@ module _ (blocks : List Block) (i : ℕ) (block : Block) (within : i < length bl
 
   parted : (line : ℕ) → first_from line (left blocks i ++ false ∷ []) ≡ first_from line (here ++ (left blocks (i + 1) ++ false ∷ []))
   parted line = ap (λ l. first_from line (l ++ false ∷ [])) split ∙ ap (first_from line) (append_assoc here (left blocks (i + 1)) (false ∷ []))
-
-  pub few_here : (line : ℕ) → line + length (left blocks i) < 4294967295 → line + length here < 4294967295
-  few_here line few = omega (arith, split_size, few)
 
   pub few_left : (line count : ℕ) → count ≡ length here → line + length (left blocks i) < 4294967295 → line + count + length (left blocks (i + 1)) < 4294967295
   few_left line count e few = omega (arith, split_size, few, e)

@@ -1,15 +1,13 @@
 -- The bytes of names, numbers, references and lines.
-use Rattle.std.proofs.Common.{◌≡◌, ℕ, ◌+◌, ◌-◌, ◌^◌, ◌<◌, ◌≤◌, Bool, true, false, ◌&&◌, List, [], ◌∷◌, ◌++◌, length, take, get_or, refl, sym, ap, ◌∙◌, subst, arith, nat_eq, nat_le, nat_lt}
-use Rattle.std.specs.Prelude.{◌==◌}
+use Rattle.std.proofs.Common.{◌≡◌, ℕ, ◌+◌, ◌-◌, ◌^◌, ◌<◌, ◌≤◌, Bool, true, ◌&&◌, List, [], ◌∷◌, ◌++◌, length, take, get_or, refl, sym, ap, ◌∙◌, subst, arith, nat_eq, nat_le, nat_lt}
 use Rattle.std.specs.Fmt.{decimal}
-use Rattle.std.specs.List.{AllByRecursion, All, list_all}
+use Rattle.std.specs.List.{AllByRecursion, list_all}
 use Rattle.std.specs.Str.{IsAscii}
 use Rattle.std.specs.Str.Parse.{AllDigits}
 use Rattle.std.proofs.lemmas.Bool.{eqb-true}
 use Rattle.std.proofs.lemmas.Bool.Decides.{nat_tests}
 use Rattle.std.proofs.lemmas.Fmt.{decimal_is_IsNumeral}
 use Rattle.std.proofs.lemmas.List.{take_all, take_more}
-use Rattle.std.proofs.lemmas.List.Elements.{All-from_recursion}
 use Rattle.std.proofs.lemmas.Str.{IsUtf8-from_ascii}
 use Rattle.std.proofs.lemmas.Str.Ascii.{IsAscii-nil, IsAscii-cons}
 use Rattle.std.proofs.lemmas.Str.Parse.{digit_from_value}
@@ -42,14 +40,6 @@ wider low high low' high' l h (b ∷ bytes) f = (record { from = omega (arith, l
 pub fit_both : (low high : ℕ) (xs ys : List ℕ) → AllFit low high xs → AllFit low high ys → AllFit low high (xs ++ ys)
 fit_both low high [] ys f g = g
 fit_both low high (x ∷ xs) ys f g = (f.0, fit_both low high xs ys (f.1) g)
-
--- words with no byte below a number have not this byte
-pub misses : (byte low high : ℕ) (bytes : List ℕ) → byte < low → AllFit low high bytes → All (λ b. (b == byte) ≡ false) bytes
-misses byte low high bytes lt f = All-from_recursion (λ b. (b == byte) ≡ false) bytes (each bytes f)
-  where
-    each : (xs : List ℕ) → AllFit low high xs → AllByRecursion (λ b. (b == byte) ≡ false) xs
-    each [] g = tt
-    each (x ∷ xs) g = (let other : byte < x = omega (arith, lt, g.0.from) in grind (arith, nat_tests), each xs (g.1))
 
 -- ## Names
 

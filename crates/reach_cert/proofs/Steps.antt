@@ -66,9 +66,6 @@ later_none a = record { fewer = omega arith; same = refl }
 pub later_both : (a b c : Ahead) → Later a b → Later b c → Later a c
 later_both a b c f g = record { fewer = omega (arith, f.fewer, g.fewer); same = g.same ∙ f.same }
 
-pub fewer_both : (a b c : Ahead) → Later a b → Fewer b c → Fewer a c
-fewer_both a b c f g = record { fewer = omega (arith, f.fewer, g.fewer); same = g.same ∙ f.same }
-
 pub fewer_then : (a b c : Ahead) → Fewer a b → Later b c → Fewer a c
 fewer_then a b c f g = record { fewer = omega (arith, f.fewer, g.fewer); same = g.same ∙ f.same }
 

@@ -77,9 +77,6 @@ module _ (slots : List Slot) (confined : IsConfined slots) where
   slots_hold = each_slot slots (false ∷ []) (no_first 1 (leaks slots) confined).1
 
   module _ (name : List ℕ) (rows : List Row) (held : List Ref) (there : HasWidget slots name rows held) where
-    abbrev Stay : List Ref → Type 0
-    Stay refs = some_leaves name (length rows) refs ≡ false
-
     lines_hold : AllFalse (map (λ row. some_leaves name (length rows) row.refs) rows ++ some_leaves name (length rows) held ∷ [])
     lines_hold = (contained (λ slot. AllFalse (slot_leaks slot)) slots (Shown name rows held) slots_hold there).1
 

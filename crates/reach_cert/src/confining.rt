@@ -1,7 +1,7 @@
 //! Whether a certificate is confined.
 ghost use Rattle.std.specs.Prelude.{◌≡◌, ℕ, ◌+◌, ◌<◌, ◌^◌, List, map, length, MatchResult, OnOk, Some};
 ghost use Rattle.reach_cert.specs.declared.cert.Ref.{Ref};
-ghost use Rattle.reach_cert.specs.Certs.{Shown, plain, row_of, slot_of, slot_lines, cert_lines};
+ghost use Rattle.reach_cert.specs.Certs.{Shown, plain, row_of, slot_of, cert_lines};
 ghost use Rattle.reach_cert.specs.Walks.{leaves, some_leaves, slot_leaks, first_from, first_leak, IsConfined, Leads, IsOwn};
 
 use crate::cert::{Block, CellRow, Cert, Ref};

@@ -1,8 +1,9 @@
-//! What a confined certificate shows.
-ghost use Rattle.std.specs.Prelude.{ℕ, List};
+//! What certificates show, and what their definitions come to.
+ghost use Rattle.std.specs.Prelude.{◌≡◌, ℕ, List, length};
 ghost use Rattle.reach_cert.specs.declared.cert.Ref.{Ref};
-ghost use Rattle.reach_cert.specs.Certs.{Slot};
-ghost use Rattle.reach_cert.specs.Walks.{Leads, IsOwn, IsConfined};
+ghost use Rattle.reach_cert.specs.Certs.{Slot, cert_lines, cert_text};
+ghost use Rattle.reach_cert.specs.Shape.{IsCert, IsBadLine};
+ghost use Rattle.reach_cert.specs.Walks.{Leads, IsOwn, IsConfined, leaks};
 
 /// The theorem of reach: where a certificate is confined, every walk from a widget's `held` line
 /// stays on `host` and on that widget's own cell lines.
@@ -17,4 +18,16 @@ pub fn raw_is_not_confined()
     ensures raw { (slots : List Slot) (name : List ℕ) → Leads slots name Ref.Raw → ¬ (IsConfined slots) }
     ensures global { (slots : List Slot) (name : List ℕ) → Leads slots name Ref.Global → ¬ (IsConfined slots) }
     ensures some { (slots : List Slot) × (name : List ℕ) × Leads slots name Ref.Raw }
+{}
+
+/// Each line of a certificate is judged, so the place of a judgement is that of its line.
+pub fn each_line_is_judged()
+    ensures { (slots : List Slot) → length (leaks slots) ≡ length (cert_lines slots) }
+{}
+
+/// Bytes are the text of one certificate of the stated shape at most, or are refused at one line.
+pub fn one_answer()
+    ensures one_cert { (slots others : List Slot) → IsCert slots → IsCert others → cert_text slots ≡ cert_text others → slots ≡ others }
+    ensures one_line { (bytes : List ℕ) (line other : ℕ) → IsBadLine bytes line → IsBadLine bytes other → line ≡ other }
+    ensures no_cert { (bytes : List ℕ) (line : ℕ) (slots : List Slot) → IsBadLine bytes line → IsCert slots → ¬ (cert_text slots ≡ bytes) }
 {}

@@ -1,9 +1,8 @@
 //! The text of a certificate.
-ghost use Rattle.std.specs.Prelude.{◌≡◌, ℕ, ◌∷◌, ◌++◌, List, map, codes, decimal, OnOk, OnErr};
+ghost use Rattle.std.specs.Prelude.{◌≡◌, ◌++◌, map, decimal, OnOk, OnErr};
 ghost use Rattle.std.specs.List.{flat_map};
-ghost use Rattle.code_units.specs.Utf8.{utf8_of};
 ghost use Rattle.reach_cert.specs.Appended.{Grows};
-ghost use Rattle.reach_cert.specs.Certs.{Head, EndLine, RefusedLine, WidgetLine, CellLine, HeldLine, Shown, kind_word, ref_word, spaced_ref, refs_text, row_of, slot_of, plain, line_text, cell_lines, slot_lines, cert_text};
+ghost use Rattle.reach_cert.specs.Certs.{RefusedLine, WidgetLine, CellLine, HeldLine, Shown, kind_word, ref_word, spaced_ref, refs_text, row_of, slot_of, plain, line_text, cell_lines, slot_lines, cert_text};
 
 use crate::cert::{Block, CellRow, Cert, Ref, RowKind};
 use code_units::{Memory, Text, push_utf8};

@@ -3,7 +3,7 @@ ghost use Rattle.std.specs.Prelude.{◌≡◌, ℕ, ◌<◌, ◌≤◌, ◌^◌,
 ghost use Rattle.std.specs.List.{list_all, position};
 ghost use Rattle.reach_cert.specs.Certs.{row_of};
 ghost use Rattle.reach_cert.specs.Shape.{is_capital, is_name};
-ghost use Rattle.reach_cert.specs.Words.{IsSlice, behind, is_space, is_colon, word_end, name_in, number_in, cell_at, cell_of, ref_in, refs_in, kind_in, row_in, cell_behind};
+ghost use Rattle.reach_cert.specs.Words.{IsSlice, behind, is_space, is_colon, word_end, name_in, number_in, cell_at, ref_in, refs_in, kind_in, row_in, cell_behind};
 
 use crate::cert::{CellRow, Ref, RowKind};
 use code_units::{Memory, Text, spells};
