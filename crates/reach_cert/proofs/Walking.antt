@@ -1,5 +1,5 @@
 -- The theorem of reach.
-use Rattle.std.proofs.Common.{◌≡◌, ℕ, zero, suc, Bool, true, false, ◌&&◌, ◌||◌, not, List, [], ◌∷◌, ◌++◌, map, length, refl, subst, append_assoc, Some, None, nat_lt, ltb-true, lit<}
+use Rattle.std.proofs.Common.{◌≡◌, ℕ, zero, suc, Bool, true, false, ◌&&◌, ◌||◌, not, List, [], ◌∷◌, ◌++◌, map, length, refl, sym, subst, append_assoc, Some, None, nat_lt, ltb-true, lit<}
 use Rattle.std.specs.Prelude.{slice_get}
 use Rattle.std.specs.List.{Contains, AllByRecursion, flat_map}
 use Rattle.std.specs.Str.{bytes_eq}
@@ -8,8 +8,8 @@ use Rattle.std.proofs.lemmas.Slice.Eq.{bytes_eq-Decides}
 use Rattle.reach_cert.specs.declared.cert.Ref.{Ref}
 use Rattle.reach_cert.specs.declared.cert.Ref.TheVariants.{Host, Raw, Global, Cell}
 use Rattle.reach_cert.specs.declared.cert.RowKind.TheVariants.{Object}
-use Rattle.reach_cert.specs.Certs.{Row, Slot, Shown}
-use Rattle.reach_cert.specs.Walks.{HasWidget, Leads, begins, goes_on, IsOwn, leaves, some_leaves, slot_leaks, leaks, first_from, first_leak, IsConfined}
+use Rattle.reach_cert.specs.Certs.{Row, Slot, Refused, Shown}
+use Rattle.reach_cert.specs.Walks.{HasWidget, Leads, begins, goes_on, IsOwn, leaves, some_leaves, slot_leaks, leaks, first_from, first_leak, IsConfined, KeepsIn}
 
 -- ## No line leaks
 
@@ -97,6 +97,50 @@ module _ (slots : List Slot) (confined : IsConfined slots) where
   walks_stay name ref (goes_on {other = other} {number = number} {rows = rows} {held = held} {row = row} walk there at c) =
       let own_cell = walks_stay name (Cell other number) walk in
       subst (λ n. IsOwn slots n ref) (own_cell.0) (row_stays other rows held there number row ref at c)
+
+-- ## Confined where each slot keeps in
+
+joined : {X : Type 0} (P : X → Type 0) (xs ys : List X) → AllByRecursion P xs → AllByRecursion P ys → AllByRecursion P (xs ++ ys)
+joined P [] ys h g = g
+joined P (x ∷ xs) ys h g = (h.0, joined P xs ys (h.1) g)
+
+mapped : {X Y : Type 0} (P : Y → Type 0) (f : X → Y) (xs : List X) → AllByRecursion (λ x. P (f x)) xs → AllByRecursion P (map f xs)
+mapped P f [] h = tt
+mapped P f (x ∷ xs) h = (h.0, mapped P f xs (h.1))
+
+none_first : (n : ℕ) (xs : List Bool) → AllFalse xs → first_from n xs ≡ None
+none_first n [] h = refl
+none_first n (b ∷ xs) h = rw (h.0) (none_first (suc n) xs (h.1))
+
+lines_false : (slot : Slot) → KeepsIn slot → AllFalse (slot_leaks slot)
+lines_false (Refused name) k = (refl, tt)
+lines_false (Shown name rows held) k =
+    let f : Row → Bool = λ row. some_leaves name (length rows) row.refs in
+    (refl, joined (λ leak. leak ≡ false) (map f rows) (some_leaves name (length rows) held ∷ []) (mapped (λ leak. leak ≡ false) f rows (k.0)) (k.1, tt))
+
+slots_false : (slots : List Slot) → AllByRecursion KeepsIn slots → AllFalse (flat_map slot_leaks slots ++ false ∷ [])
+slots_false [] h = (refl, tt)
+slots_false (slot ∷ slots) h =
+    subst AllFalse (sym (append_assoc (slot_leaks slot) (flat_map slot_leaks slots) (false ∷ [])))
+    (joined (λ leak. leak ≡ false) (slot_leaks slot) (flat_map slot_leaks slots ++ false ∷ []) (lines_false slot (h.0)) (slots_false slots (h.1)))
+
+pub kept_is_confined : (slots : List Slot) → AllByRecursion KeepsIn slots → IsConfined slots
+unfolding first_leak
+kept_is_confined slots h = none_first 1 (leaks slots) (refl, slots_false slots h)
+
+keeps : (slot : Slot) → AllFalse (slot_leaks slot) → KeepsIn slot
+keeps (Refused name) h = tt
+keeps (Shown name rows held) h =
+    let f : Row → Bool = λ row. some_leaves name (length rows) row.refs in
+    let last = some_leaves name (length rows) held ∷ [] in
+    (unmapped (λ leak. leak ≡ false) f rows (front (λ leak. leak ≡ false) (map f rows) last (h.1)), (back (λ leak. leak ≡ false) (map f rows) last (h.1)).0)
+
+all_keep : (slots : List Slot) → AllByRecursion (λ slot. AllFalse (slot_leaks slot)) slots → AllByRecursion KeepsIn slots
+all_keep [] h = tt
+all_keep (slot ∷ slots) h = (keeps slot (h.0), all_keep slots (h.1))
+
+pub confined_is_kept : (slots : List Slot) → IsConfined slots → AllByRecursion KeepsIn slots
+confined_is_kept slots confined = all_keep slots (slots_hold slots confined)
 
 -- ## A walk to a node
 

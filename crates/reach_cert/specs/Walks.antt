@@ -1,6 +1,6 @@
 -- What a certificate shows: where the walks over it lead, and when it is confined.
 use Rattle.std.specs.Prelude.{◌≡◌, ℕ, suc, ◌<◌, Bool, true, false, ◌&&◌, not, List, [], ◌∷◌, ◌++◌, map, length, nat_lt, Option, Some, None, slice_get, if◌then◌else◌}
-use Rattle.std.specs.List.{Contains, flat_map, list_any}
+use Rattle.std.specs.List.{AllByRecursion, Contains, flat_map, list_any}
 use Rattle.std.specs.Str.{bytes_eq}
 use Rattle.reach_cert.specs.declared.cert.Ref.{Ref}
 use Rattle.reach_cert.specs.declared.cert.Ref.TheVariants.{Host, Raw, Global, Cell}
@@ -70,3 +70,9 @@ first_leak slots = first_from 1 (leaks slots)
 -- no line has one
 abbrev pub IsConfined : List Slot → Type 0
 IsConfined slots = first_leak slots ≡ None
+
+-- no line of the slot has one
+abbrev pub KeepsIn : Slot → Type 0
+KeepsIn (Refused name) = Unit {0}
+KeepsIn (Shown name rows held) =
+    AllByRecursion (λ row. some_leaves name (length rows) row.refs ≡ false) rows × (some_leaves name (length rows) held ≡ false)

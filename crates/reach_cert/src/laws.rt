@@ -1,9 +1,10 @@
 //! What certificates show, and what their definitions come to.
-ghost use Rattle.std.specs.Prelude.{◌≡◌, ℕ, List, length};
+ghost use Rattle.std.specs.Prelude.{◌≡◌, ◌↔◌, ℕ, List, length};
+ghost use Rattle.std.specs.List.{AllByRecursion};
 ghost use Rattle.reach_cert.specs.declared.cert.Ref.{Ref};
 ghost use Rattle.reach_cert.specs.Certs.{Slot, cert_lines, cert_text};
 ghost use Rattle.reach_cert.specs.Shape.{IsCert, IsBadLine};
-ghost use Rattle.reach_cert.specs.Walks.{Leads, IsOwn, IsConfined, leaks};
+ghost use Rattle.reach_cert.specs.Walks.{Leads, IsOwn, IsConfined, KeepsIn, leaks};
 
 /// The theorem of reach: where a certificate is confined, every walk from a widget's `held` line
 /// stays on `host` and on that widget's own cell lines.
@@ -18,6 +19,12 @@ pub fn raw_is_not_confined()
     ensures raw { (slots : List Slot) (name : List ℕ) → Leads slots name Ref.Raw → ¬ (IsConfined slots) }
     ensures global { (slots : List Slot) (name : List ℕ) → Leads slots name Ref.Global → ¬ (IsConfined slots) }
     ensures some { (slots : List Slot) × (name : List ℕ) × Leads slots name Ref.Raw }
+{}
+
+/// A certificate is confined exactly where no line of any of its slots has a reference that is neither
+/// `host` nor a cell line of the same slot.
+pub fn each_slot_keeps_in()
+    ensures { (slots : List Slot) → IsConfined slots ↔ AllByRecursion KeepsIn slots }
 {}
 
 /// Each line of a certificate is judged, so the place of a judgement is that of its line.
