@@ -1,0 +1,8 @@
+pub mod Stepping
+pub mod Gathered
+pub mod Names
+pub mod Manifests
+pub mod Shapes
+pub mod Pieces
+pub mod Telling
+pub mod Answering
