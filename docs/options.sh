@@ -25,7 +25,7 @@ ends() {
 
 holds "--help" ends 0 --help
 holds "--help tells each form" [ "$(grep -c '^  [a-z-]* [A-Z]' "$work/out")" -eq 6 ]
-holds "--help tells each option" [ "$(grep -c '^  --' "$work/out")" -eq 3 ]
+holds "--help tells each option" [ "$(grep -c '^  --' "$work/out")" -eq 4 ]
 holds "no words" ends 2
 holds "no words write nothing" [ ! -s "$work/out" ]
 holds "an option that is none" ends 2 --no
@@ -40,6 +40,38 @@ holds "--try with a file that is missing" ends 6 --try check none.json
 holds "its status is told" grep -q "^adhost: status 6: " "$work/err"
 holds "--try of a slot that is refused" ends 1 --try check-lib ../returns-this.js
 holds "its line" [ "$(cat "$work/out")" = '{"file":"../returns-this.js","refused":"A04","at":[2,31]}' ]
+
+# Of each file that is refused, and of its line by check-lib or check: the same place and rule, the
+# words of docs/rules.tsv, and the mark under the place of a line that is as it stands in the file.
+holds "--explain" ends 1 --try --explain ../returns-this.js
+cat >"$work/told" <<'END'
+../returns-this.js:2:31: A04: this stands
+  return function () { return this; };
+                              ^
+instead: hand the object over
+END
+holds "--explain tells place, line and rule" cmp -s "$work/out" "$work/told"
+cd "$top/examples/refused" || exit 1
+for file in *.js *.json; do
+    case $file in
+        *.js) form=check-lib ;;
+        *.json) form=check ;;
+    esac
+    holds "$form of $file" ends 1 --try $form "$file"
+    wanted=$(jq -r 'select(.refused) | "\(.file):\(.at[0]):\(.at[1]): \(.refused): "' "$work/out")
+    holds "--explain of $file" ends 1 --try --explain "$file"
+    words=$(awk -F'\t' -v rule="${file%.*}" '$1 == rule { print $2; print "instead: " $5 }' ../../docs/rules.tsv)
+    holds "its rule and words of $file" [ "$(sed -n '1p;4p' "$work/out")" = "$wanted$words" ]
+done
+cd "$top/examples/gadgets" || exit 1
+holds "--explain of a page that breaks no rule" ends 0 --try --explain m.json t.json
+holds "it says so" [ "$(cat "$work/out")" = "no rule is broken" ]
+holds "--explain of a missing file" ends 6 --try --explain none.json
+holds "it names the file" grep -q "^none.json: there is no such file" "$work/out"
+holds "--explain of a trace in the manifest's place" ends 3 --try --explain t.json
+holds "it tells what is wanted" grep -q '^wanted: {"version"' "$work/out"
+holds "--explain of a manifest in the trace's place" ends 4 --try --explain m.json m.json
+holds "--explain of no form" ends 2 --try --explain a b c
 
 holds "--html" ends 0 --try --html replay m.json t.json 50
 { echo '<!doctype html><meta charset="utf-8">'; tail -n 1 replay.jsonl | jq -r .page; } >"$work/page"

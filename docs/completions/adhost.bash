@@ -3,15 +3,16 @@
 _adhost() {
     local word=${COMP_WORDS[COMP_CWORD]} form= at=0 i
     for ((i = 1; i < COMP_CWORD; i++)); do
-        if [[ ${COMP_WORDS[i]} != --* ]]; then
-            form=${COMP_WORDS[i]} at=$i
+        if [[ ${COMP_WORDS[i]} == --explain || ${COMP_WORDS[i]} != --* ]]; then
+            form=${COMP_WORDS[i]#--} at=$i
             break
         fi
     done
     COMPREPLY=()
     case $form:$((COMP_CWORD - at)) in
+        explain:*) mapfile -t COMPREPLY < <(compgen -f -X '!*.js*' -- "$word") ;;
         :*)
-            COMPREPLY=($(compgen -W "check check-lib tidy render replay demo --help --html --try --version" -- "$word"))
+            COMPREPLY=($(compgen -W "check check-lib tidy render replay demo --explain --help --html --try --version" -- "$word"))
             compopt +o plusdirs
             ;;
         check:1 | render:1 | replay:[12]) mapfile -t COMPREPLY < <(compgen -f -X '!*.json' -- "$word") ;;

@@ -1,0 +1,3 @@
+ADSAFE.lib("m", function (lib) {
+    return function (a, b) { return a == b; };
+});
