@@ -58,10 +58,10 @@ for file in *.js *.json; do
         *.json) form=check ;;
     esac
     holds "$form of $file" ends 1 --try $form "$file"
-    wanted=$(jq -r 'select(.refused) | "\(.file):\(.at[0]):\(.at[1]): \(.refused): "' "$work/out")
+    head=$(jq -r 'select(.refused) | "\(.file):\(.at[0]):\(.at[1]): \(.refused): "' "$work/out")
     holds "--explain of $file" ends 1 --try --explain "$file"
     words=$(awk -F'\t' -v rule="${file%.*}" '$1 == rule { print $2; print "instead: " $5 }' ../../docs/rules.tsv)
-    holds "its rule and words of $file" [ "$(sed -n '1p;4p' "$work/out")" = "$wanted$words" ]
+    holds "its rule and words of $file" [ "$(sed -n '1p;4p' "$work/out")" = "$head$words" ]
 done
 cd "$top/examples/gadgets" || exit 1
 holds "--explain of a page that breaks no rule" ends 0 --try --explain m.json t.json
