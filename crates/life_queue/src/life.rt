@@ -57,6 +57,4 @@ pub struct Life {
     pub records: Records,
     pub turn: Option<Turn>,
     pub queue: VecDeque<Work>,
-    /// How many of its posts rounds have taken.
-    pub told: usize,
 }

@@ -1,18 +1,15 @@
 -- The laws of slots.
 use Rattle.std.proofs.Common.{ℕ, List, refl, arith}
-use Rattle.widget_meaning.specs.OwnState.{OwnState}
-use Rattle.widget_meaning.specs.Items.{Item}
 use Rattle.life_laws.specs.Life.{Seen}
 use Rattle.pick_laws.specs.declared.entry.PickEntry.{PickEntry}
 use Rattle.pick_laws.specs.declared.entry.Picked.{Picked}
-use Rattle.slot_laws.specs.SlotLaws.{ItemLaws, PassLaws, RoundLaws, SlotLaws, SlotsLaws, SwapLaws}
+use Rattle.slot_laws.specs.SlotLaws.{ItemLaws, PassLaws, SlotLaws, SlotsLaws, SwapLaws}
 use Rattle.slot_laws.proofs.Passing.{passed_none, passed_on, slot_picked}
 use Rattle.slot_laws.proofs.Along.{first_picked, none_picked, other_slots}
 use Rattle.slot_laws.proofs.Chaining.{rest_after}
 use Rattle.slot_laws.proofs.Housing.{chains_picked, joined_swap, others_in, rest_swap, unspent_given, unspent_picked, unspent_swap}
 use Rattle.slot_laws.proofs.Giving.{chains_join, gives_advance, gives_event}
 use Rattle.slot_laws.proofs.Settling.{all_done, slots_lighter, slots_none, slots_on}
-use Rattle.slot_laws.proofs.Feeding.{fewer, round_step}
 
 pub pass_laws : (k : ℕ) → PassLaws k
 pass_laws k = record {
@@ -55,6 +52,3 @@ slots_laws k homes = record {
   lighter = λ w r cs ds mid new ks ms xs at p list chosen. slots_lighter w k r cs ds mid new ks ms xs at p list chosen;
   done = all_done;
 }
-
-pub round_laws : (posts : OwnState → List ℕ) (news : List (List ℕ) → ℕ → List Item) → RoundLaws posts news
-round_laws posts news = record { step = round_step posts news; fewer = fewer posts news }

@@ -4,5 +4,4 @@ pub mod Housing
 pub mod Along
 pub mod Giving
 pub mod Settling
-pub mod Feeding
 pub mod LawsHold

@@ -1,8 +1,7 @@
--- Laws of slots of lives: picks, items and swaps that are given, many picks one after the other, and a round of posts.
+-- Laws of slots of lives: picks, items and swaps that are given, and many picks one after the other.
 use Rattle.std.specs.Prelude.{◌≡◌, ◌≢◌, ℕ, ◌+◌, ◌<◌, ◌≤◌, true, List, [], ◌∷◌, map, length, slice_get, slice_set, Some, None}
-use Rattle.widget_meaning.specs.OwnState.{OwnState}
 use Rattle.widget_meaning.specs.Items as items
-use Rattle.widget_meaning.specs.Items.{Event, Item}
+use Rattle.widget_meaning.specs.Items.{Event}
 use Rattle.code_units.specs.declared.owner.TheConstants.{WIDGETS}
 use Rattle.life_laws.specs.Life as todo
 use Rattle.life_laws.specs.Life.{Seen, Turn, due, first, image}
@@ -15,7 +14,6 @@ use Rattle.pick_laws.specs.Journal.{AllJoined, Kept, on_at, queued, ready_from, 
 use Rattle.slot_laws.specs.Slots.{PickedSlot, Passed, Rising, first_along, has}
 use Rattle.slot_laws.specs.Chains.{Chains, Gives, PickedIn, Rest, To, ToAll, Unspent, joins, last_at, queued_along}
 use Rattle.slot_laws.specs.Settled.{SettledSlots, slot_flags, waiting}
-use Rattle.slot_laws.specs.Rounds.{Between, Fed, Few, count, fresh, handed_from, may_come, read_on, round, round_from, unread}
 
 -- a pick of a slot, life by life: none yet; one that is idle passes, and the next is present; else it is the slot's pick, also where none waits
 pub record PassLaws (k : ℕ) : Type 0 where
@@ -67,11 +65,3 @@ pub record SlotsLaws (k : ℕ) (homes : List ℕ) : Type 0 where
       → PickedIn w k r cs ds mid new ks ms → xs ≡ ready_from 0 (slot_flags mid cs) → slice_get xs at ≡ Some w
       → weights new + waiting ds < weights mid + waiting cs
   pub done : (cs : List (List ℕ)) (ss : List Seen) → ready_from 0 (slot_flags ss cs) ≡ [] → Rest cs ss → map image ss ≡ map due ss
-
--- a round of posts, and how many posts may still come
-pub record RoundLaws (posts : OwnState → List ℕ) (news : List (List ℕ) → ℕ → List Item) : Type 0 where
-  pub step : (fs : List Fed) (ss us : List Seen) (ts : List ℕ) → Between posts news fs ss ts → map image ss ≡ map due ss
-      → map image us ≡ map due (handed_from posts news (unread posts news ss ts) 0 ss)
-      → Between posts news (round posts news fs) us (read_on posts news ss ts)
-  pub fewer : (ps : List (List ℕ)) (n : ℕ) (fs : List Fed) → Few posts news fs
-      → may_come posts news (round_from posts news ps n fs) + count posts news (fresh posts news fs) ≡ may_come posts news fs

@@ -1,11 +1,9 @@
 //! Laws of the definitions.
 ghost use Rattle.std.specs.Prelude.{ℕ, List};
-ghost use Rattle.widget_meaning.specs.OwnState.{OwnState};
-ghost use Rattle.widget_meaning.specs.Items.{Item};
 ghost use Rattle.life_laws.specs.Life.{Seen};
 ghost use Rattle.pick_laws.specs.declared.entry.PickEntry.{PickEntry};
 ghost use Rattle.pick_laws.specs.declared.entry.Picked.{Picked};
-ghost use Rattle.slot_laws.specs.SlotLaws.{ItemLaws, PassLaws, RoundLaws, SlotLaws, SlotsLaws, SwapLaws};
+ghost use Rattle.slot_laws.specs.SlotLaws.{ItemLaws, PassLaws, SlotLaws, SlotsLaws, SwapLaws};
 
 /// A pick of a slot goes from life to life, until one begins a turn or none waits.
 #[tactic(auto, using(crate::proofs::LawsHold::pass_laws))]
@@ -36,10 +34,4 @@ pub fn swaps()
 #[tactic(auto, using(crate::proofs::LawsHold::slots_laws))]
 pub fn settles()
     ensures { (k : ℕ) (homes : List ℕ) → SlotsLaws k homes }
-{}
-
-/// A round hands the posts that no round has taken to their receivers; each post is taken once.
-#[tactic(auto, using(crate::proofs::LawsHold::round_laws))]
-pub fn rounds()
-    ensures { (posts : OwnState → List ℕ) (news : List (List ℕ) → ℕ → List Item) → RoundLaws posts news }
 {}
