@@ -1,8 +1,9 @@
 -- A tree of the host is added and put under `body`: what widgets have of the page stays.
-use Rattle.std.proofs.Common.{◌≡◌, ◌≢◌, ℕ, suc, subst, ◌+◌, ◌<◌, ◌≤◌, List, [], ◌∷◌, ◌++◌, true, false, refl, sym, ap, ◌∙◌, length, cond, eqb, eq-eqb, ne_eqb, ◌&&◌, not, Option, None, Some, arith}
-use Rattle.std.specs.Prelude.{is_some, option_to_list}
+use Rattle.std.proofs.Common.{◌≡◌, ◌≢◌, ℕ, zero, suc, subst, ◌+◌, ◌<◌, ◌≤◌, List, [], ◌∷◌, ◌++◌, Bool, true, false, refl, sym, ap, ◌∙◌, length, cond, eqb, eq-eqb, ne_eqb, ◌&&◌, not, Option, None, Some, arith}
+use Rattle.std.specs.Prelude.{is_some, nat_lt, option_to_list}
 use Rattle.std.specs.List.{filter, range_with_len}
-use Rattle.std.proofs.lemmas.List.{append-nil}
+use Rattle.std.proofs.lemmas.List.{append-nil, get_or_past}
+use Rattle.std.proofs.lemmas.Bool.Decides.{nat_tests}
 use Rattle.code_units.specs.declared.owner.Owner.TheVariants as owner
 use Rattle.plain_tree.specs.Trees.{PlainTrees, beside, marked, size, unmarked}
 use Rattle.tree_ops.specs.Trees.{is_number}
@@ -10,7 +11,7 @@ use Rattle.tree_ops.proofs.Absent.{grafted_off}
 use Rattle.tree_ops.proofs.Numbers.{numbered_shape}
 use Rattle.tree_ops.proofs.Tests.{or_left, or_right}
 use Rattle.page_nodes.specs.Adds.{IsAdded}
-use Rattle.page_nodes.specs.Entries.{Entry, IsSound, at, body, listed, tree}
+use Rattle.page_nodes.specs.Entries.{Entry, IsSound, at, body, listed, no_entry, tree}
 use Rattle.page_nodes.specs.Moves.{IsLinked}
 use Rattle.page_nodes.specs.Owners.{is_owner, root_in, same_owner}
 use Rattle.page_nodes.proofs.Walk.{without_body}
@@ -29,8 +30,9 @@ use Rattle.page_image.proofs.Pages.{is_widget}
 use Rattle.page_image.proofs.Shown.{forest_own, own_is_node, own_not_body, top_own}
 use Rattle.page_image.proofs.Staying.{forest_stays}
 use Rattle.page_build.specs.Homes.{IsAway, IsHome, IsOneTree}
-use Rattle.page_build.specs.Layout.{IsLaidOut, IsMarkup, Lot, Own, each_tree}
-use Rattle.page_build.proofs.Laid.{each_one, laid_added, laid_linked, same_plain, trees_linked}
+use Rattle.page_build.specs.Layout.{IsLaidOut, IsLot, IsMarkup, Lot, Own, Spot, each_tree}
+use Rattle.page_build.specs.Standing.{HostJoins, IsStanding}
+use Rattle.page_build.proofs.Laid.{each_one, it_stands, laid_behind, lots_stay, same_plain, standing_stay, trees_linked}
 
 no_true : false ≡ true → ⊥
 no_true e = cc
@@ -66,6 +68,21 @@ own_kept (d ∷ k) [] v a le same new = absurd (omega (arith, le))
 own_kept (d ∷ k) (c ∷ m) v a le same new =
     ap (λ o. cond (same_owner o (owner.Widget v)) (a ∷ own_nodes_from (a + 1) m v) (own_nodes_from (a + 1) m v)) (same 0 (omega arith))
     ∙ ap (λ l. cond (same_owner d.owner (owner.Widget v)) (a ∷ l) l) (own_kept k m v (a + 1) (omega (arith, le)) (λ x lt. same (suc x) (omega (arith, lt))) (λ x le lt. new (suc x) (omega (arith, le)) (omega (arith, lt))))
+
+number_none : (m : List Entry) (v : ℕ) → ((x : ℕ) → x < length m → is_own m v x ≡ false) → (n : ℕ) → own_number m v n ≡ 0
+number_none [] v h n = refl
+number_none (e ∷ m) v h zero = refl
+number_none (e ∷ m) v h (suc n) =
+    let rest = number_none m v (λ x lt. h (suc x) (omega (arith, lt))) n in
+    ap (λ b. cond b 1 0 + own_number m v n) (h 0 (omega arith)) ∙ (let none : 0 + own_number m v n ≡ 0 = omega (arith, rest) in none)
+
+number_all_kept : (k m : List Entry) (v : ℕ) → length k ≤ length m → ((x : ℕ) → x < length k → (at m x).owner ≡ (at k x).owner) → ((x : ℕ) → length k ≤ x → x < length m → is_own m v x ≡ false) → (n : ℕ) → own_number m v n ≡ own_number k v n
+number_all_kept [] m v le same new n = number_none m v (λ x lt. new x (omega arith) lt) n
+number_all_kept (d ∷ k) [] v le same new n = absurd (omega (arith, le))
+number_all_kept (d ∷ k) (c ∷ m) v le same new zero = refl
+number_all_kept (d ∷ k) (c ∷ m) v le same new (suc n) =
+    ap (λ o. cond (same_owner o (owner.Widget v)) 1 0 + own_number m v n) (same 0 (omega arith))
+    ∙ ap (λ i. cond (same_owner d.owner (owner.Widget v)) 1 0 + i) (number_all_kept k m v (omega (arith, le)) (λ x lt. same (suc x) (omega (arith, lt))) (λ x le lt. new (suc x) (omega (arith, le)) (omega (arith, lt))) n)
 
 module _ (k : List Entry) (s : IsSound k) (roots : List (Option ℕ)) (rooted : IsRooted k roots) (v : ℕ) (r : Option ℕ) (is : is_owner (owner.Widget v) ≡ true) (root : root_in roots (owner.Widget v) ≡ r) (m : List Entry) (id : ℕ) (p : PlainTrees) (c : IsAdded k m id owner.Host p) where
   new_other : (x : ℕ) → length k ≤ x → x < length m → is_own m v x ≡ false
@@ -103,6 +120,37 @@ module _ (p q : Page) (id : ℕ) (t : PlainTrees) (same : SameRoots p q) (c : Is
     numbers = λ n h. number_older (nodes p) (nodes q) v c.older.long c.older.same n (omega (arith, own_is_node (nodes p) v n h));
   }
 
+  -- and so does all that widgets have
+  at_past : (k : List Entry) (v x : ℕ) → length k ≤ x → is_own k v x ≡ false
+  at_past k v x le = ap (λ (e : Entry). same_owner e.owner (owner.Widget v)) (get_or_past k x no_entry le)
+
+  own_same : (v x : ℕ) → is_own (nodes q) v x ≡ is_own (nodes p) v x
+  own_same v x = by (nat_lt x (length (nodes p))) (nat_lt x (length (nodes q))) refl refl
+    where
+      by : (a b : Bool) → nat_lt x (length (nodes p)) ≡ a → nat_lt x (length (nodes q)) ≡ b → is_own (nodes q) v x ≡ is_own (nodes p) v x
+      by true b e f = let low : x < length (nodes p) = grind (arith, nat_tests, e) in ap (λ (e : Entry). same_owner e.owner (owner.Widget v)) (c.older.same x low)
+      by false true e f =
+          let high : length (nodes p) ≤ x = grind (arith, nat_tests, e) in
+          let low : x < length (nodes q) = grind (arith, nat_tests, f) in
+          ap (λ o. same_owner o (owner.Widget v)) (c.own x high low) ∙ sym (at_past (nodes p) v x high)
+      by false false e f =
+          let high : length (nodes p) ≤ x = grind (arith, nat_tests, e) in
+          let past : length (nodes q) ≤ x = grind (arith, nat_tests, f) in
+          at_past (nodes q) v x past ∙ sym (at_past (nodes p) v x high)
+
+  pub host_joins : HostJoins p q
+  unfolding root_of own forest owns number
+  host_joins = record {
+    older = c.older;
+    kept = record {
+      owners = own_same;
+      numbers = λ v n. number_all_kept (nodes p) (nodes q) v c.older.long (λ x lt. ap (λ (e : Entry). e.owner) (c.older.same x lt)) (λ x le lt. ap (λ o. same_owner o (owner.Widget v)) (c.own x le lt)) n;
+      nodes = λ v. own_kept (nodes p) (nodes q) v 0 c.older.long (λ x l. ap (λ (e : Entry). e.owner) (c.older.same x l)) (λ x le l. ap (λ o. same_owner o (owner.Widget v)) (c.own x le l));
+      roots = λ v lt. same (owner.Widget v) (is_widget v lt);
+    };
+    trees = λ v lt. (added_stays v lt).trees;
+  }
+
 -- ## The tree comes under `body`
 
 module _ (p q : Page) (id : ℕ) (mine : (at (nodes p) id).owner ≡ owner.Host) (c : IsLinked (nodes p) (nodes q) body None id) (becomes : BecomesRoot p q id) where
@@ -138,7 +186,7 @@ module _ (p r q : Page) (id : ℕ) (t : PlainTrees) (same : SameRoots p r) (c : 
   all_home v u lt h = home_stays r q v lt (linked_stays r q id mine d becomes v lt) u (home_stays p r v lt (added_stays p r id t same c v lt) u h)
 
   -- it stands behind the children that `body` had
-  here : IsMarkup q id t
+  pub here : IsMarkup q id t
   here =
       let below : id ≢ body = λ e. omega (arith, e, c.number, p.arena.sound.some) in
       record {
@@ -148,11 +196,25 @@ module _ (p r q : Page) (id : ℕ) (t : PlainTrees) (same : SameRoots p r) (c : 
         shows = ap unmarked (trees_linked r q id d id below ∙ c.here) ∙ numbered_shape id t ∙ same_plain t;
       }
 
-  laid_behind : (lots : List Lot) → IsLaidOut p lots → IsLaidOut q (lots ++ Own t ∷ [])
+  first : (v n : ℕ) → v < 32 → root_of p v ≡ Some n → root_of r v ≡ Some n
   unfolding root_of
-  laid_behind lots h =
-      laid_linked r q id d (λ v n lt e. root_stays r q id mine d becomes v lt ∙ e) (Own t) here lots
-      (laid_added p r id owner.Host t c (λ v lt. same (owner.Widget v) (is_widget v lt)) lots h)
+  first v n lt e = same (owner.Widget v) (is_widget v lt) ∙ e
+
+  then : (v n : ℕ) → v < 32 → root_of r v ≡ Some n → root_of q v ≡ Some n
+  unfolding root_of
+  then v n lt e = root_stays r q id mine d becomes v lt ∙ e
+
+  pub spot_behind : (lots : List Lot) → IsLaidOut p lots → IsLaidOut q (lots ++ Spot id ∷ [])
+  spot_behind lots h = laid_behind p r q id owner.Host t c d first then (Spot id) refl lots h
 
   pub all_laid : IsOneTree t → (lots : List Lot) → IsLaidOut p lots → IsLaidOut q (lots ++ each_tree t)
-  all_laid one lots h = subst (λ l. IsLaidOut q (lots ++ l)) (sym (each_one t one)) (laid_behind lots h)
+  all_laid one lots h = subst (λ l. IsLaidOut q (lots ++ l)) (sym (each_one t one)) (laid_behind p r q id owner.Host t c d first then (Own t) here lots h)
+
+  pub all_lots : (lot : Lot) (n : ℕ) → IsLot p lot n → IsLot q lot n
+  all_lots lot n h = lots_stay p r q id owner.Host t c d first then lot n h
+
+  pub all_standing : (n : ℕ) → IsStanding p n → IsStanding q n
+  all_standing n h = standing_stay p r q id owner.Host t c d first then n h
+
+  pub here_stands : IsStanding q id
+  here_stands = it_stands p r q id owner.Host t c d first then

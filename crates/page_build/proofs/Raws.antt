@@ -50,3 +50,7 @@ module _ (s t : Cells) (kept : (fs : List Forest) (w : ℕ) → Kept fs w s t) (
 -- no node came
 pub raws_same : (s : Cells) (p q : Page) → length (nodes q) ≡ length (nodes p) → HaveRaws s p → HaveRaws s q
 raws_same s p q many h = λ n lt. h n (omega (arith, lt, many))
+
+-- none came, and cells did
+pub raws_more : (s t : Cells) → ((fs : List Forest) (w : ℕ) → Kept fs w s t) → (p q : Page) → nodes q ≡ nodes p → HaveRaws s p → HaveRaws t q
+raws_more s t kept p q e h = λ n lt. raw_stays 0 s.cells t.cells (kept [] 0).grows n (h n (omega (arith, lt, ap length e)))

@@ -12,10 +12,11 @@ use Rattle.page_spec.specs.Pages.{PagePiece, Place, Trees}
 use Rattle.page_spec.specs.declared.SlotContent.{SlotContent}
 use Rattle.page_spec.specs.declared.SlotContent.TheVariants as slot
 
--- what stands at a place under `body`: a tree of the host's own, or the root of a widget
+-- what stands at a place under `body`: a tree of the host's own, the root of a widget, or just this node
 pub data Lot : Type 0 where
   Own : PlainTrees → Lot
   Root : ℕ → Lot
+  Spot : ℕ → Lot
 
 -- A node of the host, other than `body`, with this tree.
 pub record IsMarkup (p : Page) (n : ℕ) (own : PlainTrees) : Type 0 where
@@ -28,6 +29,7 @@ pub record IsMarkup (p : Page) (n : ℕ) (own : PlainTrees) : Type 0 where
 abbrev pub IsLot : Page → Lot → ℕ → Type 0
 IsLot p (Own own) n = IsMarkup p n own
 IsLot p (Root w) n = (w < 32) × (root_of p w ≡ Some n)
+IsLot p (Spot m) n = n ≡ m
 
 -- nodes are what is to stand there, in order
 abbrev pub AreLots : Page → List Lot → List ℕ → Type 0

@@ -1,5 +1,5 @@
 //! New nodes of a page, each with its cell.
-ghost use Rattle.std.specs.Prelude.{◌≡◌, ◌+◌, ◌<◌, ◌≤◌, ℕ, List, true, IfOk, OnOk};
+ghost use Rattle.std.specs.Prelude.{◌≡◌, ◌+◌, ◌<◌, ◌≤◌, ℕ, List, true, IfOk, OnErr, OnOk};
 ghost use Rattle.plain_tree.specs.Plains.{unplaced};
 ghost use Rattle.js_tree.specs.Forest.{Forest};
 ghost use Rattle.js_image.specs.Held.{Kept};
@@ -31,8 +31,13 @@ fn add_cell(alloc: Global, store: &mut Store, node: NodeId) -> Result<(), Memory
     }
 }
 
-// So many nodes from one on have their cells.
-fn add_cells(alloc: Global, store: &mut Store, first: NodeId, many: u32) -> Result<(), Memory>
+/// So many nodes from one on have their cells.
+pub(crate) fn add_cells(
+    alloc: Global,
+    store: &mut Store,
+    first: NodeId,
+    many: u32,
+) -> Result<(), Memory>
     ensures there { OnOk result ((n : ℕ) → first ≤ n → n < first + many → HasRaw store.new.cells n) }
     ensures same { (v : ℕ) → owned v store.new ≡ owned v store.old }
     ensures kept { (fs : List Forest) (w : ℕ) → Kept fs w store.old store.new }
@@ -46,11 +51,17 @@ fn add_cells(alloc: Global, store: &mut Store, first: NodeId, many: u32) -> Resu
     Ok(())
 }
 
-// A tree of an owner comes, without a parent.
-fn add_plain(alloc: Global, page: &mut Page, owner: Owner, plain: &Plain) -> Result<NodeId, Memory>
+/// A tree of an owner comes, without a parent. Where memory is wanted no node comes.
+pub(crate) fn add_plain(
+    alloc: Global,
+    page: &mut Page,
+    owner: Owner,
+    plain: &Plain,
+) -> Result<NodeId, Memory>
     requires owner { is_owner owner ≡ true }
     requires room { HasHostRoom (nodes page.old) owner (unplaced plain.now) }
     ensures added { IfOk result (λ id. IsAdded (nodes page.old) (nodes page.new) id owner (unplaced plain.now)) }
+    ensures unchanged { OnErr result (nodes page.new ≡ nodes page.old) }
     ensures roots { SameRoots page.old page.new }
 {
     match page.add(alloc, owner, plain) {

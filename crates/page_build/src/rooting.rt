@@ -1,5 +1,5 @@
 //! Roots come under `body`.
-ghost use Rattle.std.specs.Prelude.{◌≡◌, ◌≢◌, ◌++◌, ◌∷◌, [], ◌<◌, ℕ, List, None, true, IfOk, OnOk, length};
+ghost use Rattle.std.specs.Prelude.{◌≡◌, ◌≢◌, ◌++◌, ◌∷◌, [], ◌<◌, ℕ, List, None, Some, true, IfOk, OnOk, length};
 ghost use Rattle.plain_tree.specs.Plains.{unplaced};
 ghost use Rattle.plain_tree.specs.Trees.{PlainTrees, beside};
 ghost use Rattle.query_grammar.specs.Finds.{has_number};
@@ -7,6 +7,7 @@ ghost use Rattle.tree_ops.specs.Trees.{subtree, tops, without};
 ghost use Rattle.js_tree.specs.Forest.{Forest};
 ghost use Rattle.js_image.specs.Held.{IsConfined};
 ghost use Rattle.page_nodes.specs.Entries.{body};
+ghost use Rattle.page_nodes.specs.Moves.{IsLinked};
 ghost use Rattle.page_tree.specs.Pages.{nodes};
 ghost use Rattle.page_image.specs.Image.{forest, number, owns, root_of};
 ghost use Rattle.page_image.specs.Stays.{GetsRoot, OthersStay};
@@ -14,7 +15,8 @@ ghost use Rattle.native_image.specs.Sound.{HasRaw};
 ghost use Rattle.object_store.specs.Owned.{owned};
 ghost use Rattle.store_cells.specs.Cells.{Cells};
 ghost use Rattle.page_build.specs.Homes.{HaveRaws, IsAway, IsHome, IsOneTree};
-ghost use Rattle.page_build.specs.Layout.{IsLaidOut, Lot, Root};
+ghost use Rattle.page_build.specs.Layout.{IsLaidOut, IsLot, Lot, Spot};
+ghost use Rattle.page_build.specs.Standing.{IsStanding};
 
 use crate::growing::add_nodes;
 use code_units::{Memory, Owner};
@@ -54,25 +56,29 @@ fn adopt(page: &mut Page, w: u32, node: NodeId) -> Result<(), Memory>
     ensures becomes { OnOk result (GetsRoot page.old page.new w node) }
     ensures others { OnOk result (OthersStay page.old page.new w) }
     ensures many { OnOk result (length (nodes page.new) ≡ length (nodes page.old)) }
-    ensures laid { OnOk result ((lots : List Lot) → IsLaidOut page.old lots → IsLaidOut page.new (lots ++ Root w ∷ [])) }
+    ensures linked { OnOk result (IsLinked (nodes page.old) (nodes page.new) body None node) }
 {
     page.adopt(node)
 }
 
 /// A widget that has nothing of the page gets its root, behind the last child of `body`, and each of
-/// its nodes its cell. The other widgets keep what they have.
+/// its nodes its cell. The other widgets keep what they have, and all that stood under `body` stands there.
 pub fn add_root(
     alloc: Global,
     store: &mut Store,
     page: &mut Page,
     w: u32,
     body: &Plain,
-) -> Result<(), Memory>
+) -> Result<NodeId, Memory>
     requires widget { w < 32 }
     requires away { IsAway page.old w }
     ensures home { OnOk result (IsHome page.new w (unplaced body.now)) }
     ensures raws { OnOk result (HaveRaws store.old page.old → HaveRaws store.new page.new) }
-    ensures laid { OnOk result ((lots : List Lot) → IsLaidOut page.old lots → IsLaidOut page.new (lots ++ Root w ∷ [])) }
+    ensures laid { IfOk result (λ n. (lots : List Lot) → IsLaidOut page.old lots → IsLaidOut page.new (lots ++ Spot n ∷ [])) }
+    ensures root { IfOk result (λ n. root_of page.new w ≡ Some n) }
+    ensures stands { IfOk result (IsStanding page.new) }
+    ensures lots { OnOk result ((lot : Lot) (n : ℕ) → IsLot page.old lot n → IsLot page.new lot n) }
+    ensures standing { OnOk result ((n : ℕ) → IsStanding page.old n → IsStanding page.new n) }
     ensures others { OnOk result ((v : ℕ) (tree : PlainTrees) → v < 32 → v ≢ w → IsHome page.old v tree → IsHome page.new v tree) }
     ensures away { OnOk result ((v : ℕ) → v < 32 → v ≢ w → IsAway page.old v → IsAway page.new v) }
     ensures same { (v : ℕ) → owned v store.new ≡ owned v store.old }
@@ -80,5 +86,6 @@ pub fn add_root(
 {
     one_tree(body);
     let id = add_nodes(alloc, store, page, Owner::Widget(w), body)?;
-    adopt(page, w, id)
+    adopt(page, w, id)?;
+    Ok(id)
 }

@@ -7,7 +7,8 @@ ghost use Rattle.js_image.specs.Held.{IsConfined};
 ghost use Rattle.object_store.specs.Owned.{owned};
 ghost use Rattle.page_spec.specs.Pages.{root_of};
 ghost use Rattle.page_build.specs.Homes.{HaveRaws, IsAway, IsHome, IsPlaced};
-ghost use Rattle.page_build.specs.Layout.{IsLaidOut, Lot, home_of, lot_of};
+ghost use Rattle.page_build.specs.Layout.{IsLaidOut, IsLot, Lot, Spot, home_of, lot_of};
+ghost use Rattle.page_build.specs.Standing.{IsStanding};
 
 use crate::hosting::add_markup;
 use crate::rooting::add_root;
@@ -15,12 +16,12 @@ use code_units::{Memory, Text};
 use js_image::word;
 use object_store::Store;
 use page_spec::{SlotContent, SlotSpec};
-use page_tree::Page;
+use page_tree::{NodeId, Page};
 use plain_tree::{Attr, Plain};
 use std::alloc::Global;
 
-// An empty `div` with this `id`.
-fn empty_div(alloc: Global, name: &Text) -> Result<Plain, Memory>
+/// An empty `div` with this `id`.
+pub(crate) fn empty_div(alloc: Global, name: &Text) -> Result<Plain, Memory>
     ensures { IfOk result (λ plain. unplaced plain ≡ root_of name.now None) }
 {
     let mut attrs = Vec::new(alloc);
@@ -42,20 +43,23 @@ fn empty_div(alloc: Global, name: &Text) -> Result<Plain, Memory>
 }
 
 /// What stands in the slot of a widget comes behind the last child of `body`: its root, or where it
-/// was refused an empty `div` of the host with the name of the slot as `id`.
+/// was refused an empty `div` of the host with the name of the slot as `id`. It gives this node.
 pub fn add_slot(
     alloc: Global,
     store: &mut Store,
     page: &mut Page,
     w: u32,
     slot: &SlotSpec,
-) -> Result<(), Memory>
+) -> Result<NodeId, Memory>
     requires widget { w < 32 }
     requires away { IsAway page.old w }
     ensures placed { OnOk result (IsPlaced page.new w slot.now.content) }
     ensures raws { OnOk result (HaveRaws store.old page.old → HaveRaws store.new page.new) }
-    ensures laid { OnOk result ((lots : List Lot) → IsLaidOut page.old lots
-        → IsLaidOut page.new (lots ++ lot_of slot.now.name (home_of w slot.now.content) ∷ [])) }
+    ensures laid { IfOk result (λ n. (lots : List Lot) → IsLaidOut page.old lots → IsLaidOut page.new (lots ++ Spot n ∷ [])) }
+    ensures lot { IfOk result (IsLot page.new (lot_of slot.now.name (home_of w slot.now.content))) }
+    ensures stands { IfOk result (IsStanding page.new) }
+    ensures lots { OnOk result ((lot : Lot) (n : ℕ) → IsLot page.old lot n → IsLot page.new lot n) }
+    ensures standing { OnOk result ((n : ℕ) → IsStanding page.old n → IsStanding page.new n) }
     ensures others { OnOk result ((v : ℕ) (tree : PlainTrees) → v < 32 → v ≢ w → IsHome page.old v tree → IsHome page.new v tree) }
     ensures away { OnOk result ((v : ℕ) → v < 32 → v ≢ w → IsAway page.old v → IsAway page.new v) }
     ensures same { (v : ℕ) → owned v store.new ≡ owned v store.old }

@@ -15,7 +15,7 @@ use Rattle.page_image.specs.Image.{forest, root_of}
 use Rattle.page_image.specs.Own.{own_forest, own_number}
 use Rattle.page_spec.specs.Pages as pages
 use Rattle.page_spec.specs.Pages.{PagePiece, page_of, roots, shown}
-use Rattle.page_build.specs.Layout.{AreLots, IsLaid, IsLot, Lot, Own, Root, each_tree, lots_of, piece_lots}
+use Rattle.page_build.specs.Layout.{AreLots, IsLaid, IsLot, Lot, Own, Root, Spot, each_tree, lots_of, piece_lots}
 use Rattle.page_lines.specs.Ends.{AreEnds}
 
 unmarked_marked : (f : ℕ → ℕ) (ts : Trees ℕ) → unmarked (marked f ts) ≡ unmarked ts
@@ -46,6 +46,7 @@ module _ (p : Page) where
   abbrev lot_shows : Lot → PlainTrees
   lot_shows (Own own) = own
   lot_shows (Root w) = unmarked (child_at 0 (forest p w))
+  lot_shows (Spot n) = unmarked (tree (nodes p) n)
 
   abbrev all_show : List Lot → PlainTrees
   all_show lots = joined (map lot_shows lots)
@@ -59,6 +60,7 @@ module _ (p : Page) where
   one_shown : (lot : Lot) (n : ℕ) → IsLot p lot n → unmarked (tree (nodes p) n) ≡ lot_shows lot
   one_shown (Own own) n h = h.shows
   one_shown (Root w) n h = root_shown w n h.1
+  one_shown (Spot m) n h = ap (λ x. unmarked (tree (nodes p) x)) h
 
   lots_shown : (lots : List Lot) (ns : List ℕ) → AreLots p lots ns → unmarked (joined (map (tree (nodes p)) ns)) ≡ all_show lots
   lots_shown [] [] h = refl

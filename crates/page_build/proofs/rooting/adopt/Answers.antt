@@ -1,4 +1,4 @@
-use Rattle.std.proofs.Common.{◌≡◌, List, [], ◌∷◌, ◌++◌, None}
+use Rattle.std.proofs.Common.{◌≡◌, None}
 use Rattle.plain_tree.specs.Trees.{beside}
 use Rattle.tree_ops.specs.Trees.{subtree, without}
 use Rattle.page_nodes.specs.Entries.{body}
@@ -8,10 +8,8 @@ use Rattle.page_image.specs.Image.{forest, number}
 use Rattle.page_image.specs.Stays.{GetsRoot, OthersStay}
 use Rattle.page_image.proofs.Adopting.{gets_root, has_none, linked_root, root_image, root_others, top_alone}
 use Rattle.page_image.proofs.Looks.{not_the_body}
-use Rattle.page_image.proofs.Pages.{below_32, is_node}
+use Rattle.page_image.proofs.Pages.{is_node}
 use Rattle.page_image.proofs.Results.{ok_both, ok_then}
-use Rattle.page_build.specs.Layout.{IsLaidOut, Lot, Root}
-use Rattle.page_build.proofs.Laid.{laid_root}
 use Rattle.page_build.proofs.rooting.adopt.Goals as goal
 
 pub adopt-requires-clause-node : goal.adopt-requires-clause-node
@@ -55,12 +53,3 @@ returns-clause-others c =
 
 pub returns-clause-many : goal.returns-clause-many
 returns-clause-many c = ok_then c.adopt.result _ _ (λ d. d.kept.made) c.adopt.ensures.done
-
-pub returns-clause-laid : goal.returns-clause-laid
-returns-clause-laid c =
-    let old = c.args.page.now in
-    let new = c.adopt.new.self in
-    let w = c.args.w in
-    let n = c.args.node in
-    ok_both c.adopt.result (IsLinked (nodes old) (nodes new) body None n) (BecomesRoot old new n) ((lots : List Lot) → IsLaidOut old lots → IsLaidOut new (lots ++ Root w ∷ []))
-    (λ a b. laid_root old new w n (below_32 old w n c.requires.own) c.requires.free a (gets_root old new w n c.requires.own c.requires.free (linked_root old new w n a b))) c.adopt.ensures.done c.adopt.ensures.becomes
