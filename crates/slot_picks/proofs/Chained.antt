@@ -1,11 +1,7 @@
 -- The lives of slots, as the host has them.
 use Rattle.std.proofs.Common.{◌≡◌, ℕ, zero, suc, List, [], ◌∷◌, length, refl, ap, arith, Some}
 use Rattle.std.specs.Prelude.{slice_get, slice_set}
-use Rattle.life_laws.specs.Life.{Seen}
-use Rattle.pick_laws.specs.declared.entry.PickEntry.{PickEntry}
-use Rattle.pick_laws.specs.declared.entry.Picked.{Picked}
-use Rattle.slot_laws.specs.Chains.{Chains, IsChain, PickedIn}
-use Rattle.slot_laws.specs.Slots.{PickedSlot}
+use Rattle.slot_laws.specs.Chains.{Chains, IsChain}
 use Rattle.slot_laws.proofs.Housing.{chain_in}
 use Rattle.slot_picks.specs.declared.slots.Slot.{Slot}
 use Rattle.slot_picks.specs.Crowds.{chains_of}
@@ -27,13 +23,3 @@ chains_set (x ∷ ss) (suc i) s = ap (λ cs. x.lives.items ∷ cs) (chains_set s
 -- the chain of a slot
 pub chain_of : (homes : List ℕ) (born i : ℕ) (ss : List Slot) (s : Slot) → slice_get ss i ≡ Some s → Chains homes born 0 (chains_of ss) → IsChain homes born i s.lives.items
 chain_of homes born i ss s at all = chain_in homes born 0 i i (chains_of ss) s.lives.items (omega arith) (chains_at ss i s at) all
-
--- a pick of a slot is one of all
-pub picked_in : (w k : ℕ) (r : Picked) (ss : List Slot) (s t : Slot) (old new : List Seen) (js ks : List PickEntry) → slice_get ss w ≡ Some s → PickedSlot k r s.lives.items old new js ks t.lives.items → PickedIn w k r (chains_of ss) (chains_of (slice_set ss w t)) old new js ks
-picked_in w k r ss s t old new js ks at h = record {
-  lives = s.lives.items;
-  left = t.lives.items;
-  at = chains_at ss w s at;
-  set = chains_set ss w t;
-  slot = h;
-}

@@ -1,6 +1,6 @@
 -- What holds of lives and slots after a pick.
-use Rattle.std.proofs.Common.{◌≡◌, ℕ, zero, suc, List, [], ◌∷◌, ◌++◌, length, map, refl, sym, ap, ◌∙◌, subst, arith, Some, Ok, Err}
-use Rattle.std.specs.Prelude.{IfOk, OnOk, Result, slice_get, slice_set}
+use Rattle.std.proofs.Common.{◌≡◌, ℕ, zero, suc, List, [], ◌∷◌, ◌++◌, length, map, refl, sym, ap, ◌∙◌, subst, arith, Some}
+use Rattle.std.specs.Prelude.{slice_get, slice_set}
 use Rattle.pick_laws.specs.declared.entry.Picked.{Picked}
 use Rattle.slot_laws.specs.Chains.{Chains, PickedIn, last_from, last_life}
 use Rattle.slot_laws.proofs.Chaining.{rest_after}
@@ -51,8 +51,3 @@ module _ (w k : ℕ) (r : Picked) (c d : Crowd) (ss ts : List Slot) (p : PickedI
   -- the last life of each slot stays
   pub lasts_picked : map last_life (chains_of ts) ≡ map last_life (chains_of ss)
   lasts_picked = ap (map last_life) p.set ∙ lasts_set (chains_of ss) w p.lives p.left p.at (ap last_life p.slot.left_is ∙ (sym (last_behind p.slot.ended p.slot.life p.slot.waiting) ∙ sym (ap last_life p.slot.are)))
-
--- by the answer of the pick
-pub housed_after : {E : Type 0} (w k : ℕ) (c d : Crowd) (ss ts : List Slot) (r : Result Picked E) → IfOk r (λ x. PickedIn w k x (chains_of ss) (chains_of ts) (seens_of c) (seens_of d) c.journal.items d.journal.items) → OnOk r (FineCrowd d) → homes_of d.places.items ≡ homes_of c.places.items → OnOk r ((born : ℕ) → AreHoused born c ss → AreHoused born d ts)
-housed_after w k c d ss ts (Ok r) p fine homes = λ born h. housed_picked w k r c d ss ts p born fine homes h
-housed_after w k c d ss ts (Err e) p fine homes = tt

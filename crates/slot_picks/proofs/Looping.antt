@@ -1,13 +1,18 @@
 -- The loop over the lives of a slot.
-use Rattle.std.proofs.Common.{◌≡◌, ℕ, suc, ◌<◌, List, [], ◌∷◌, ◌++◌, length, Bool, true, false, sym, ap, ◌∙◌, subst, arith, Some, None, drop, refl, lt-ltb}
-use Rattle.std.specs.Prelude.{slice_get, nat_lt}
+use Rattle.std.proofs.Common.{◌≡◌, ℕ, zero, suc, ◌<◌, List, [], ◌∷◌, ◌++◌, length, Bool, true, false, sym, ap, ◌∙◌, subst, arith, Some, None, drop, refl, lt-ltb}
+use Rattle.std.specs.Prelude.{slice_get, slice_index_or, slice_set, nat_lt}
 use Rattle.life_laws.specs.Life.{Seen}
 use Rattle.pick_laws.specs.declared.entry.PickEntry.{PickEntry}
 use Rattle.pick_laws.specs.declared.entry.Picked.{Picked}
 use Rattle.pick_laws.specs.declared.entry.Picked.TheVariants as picked
-use Rattle.pick_laws.specs.Journal.{Kept, journal_after}
+use Rattle.pick_laws.specs.Journal.{Kept, journal_after, on_at}
+use Rattle.slot_laws.specs.Chains.{Chains, IsChain}
 use Rattle.slot_laws.specs.Slots.{Each, Passed, PickedSlot, Rising}
+use Rattle.slot_laws.proofs.Housing.{chain_in}
 use Rattle.slot_laws.proofs.Passing.{each_mid, passed_on, slot_picked}
+use Rattle.slot_picks.specs.declared.slots.Slot.{Slot}
+use Rattle.slot_picks.specs.Crowds.{chains_of}
+use Rattle.slot_picks.proofs.Chained.{chains_length}
 
 pub present_is : (ds cur : List ℕ) (v : ℕ) → ds ≡ cur → slice_get ds 0 ≡ Some v → cur ≡ v ∷ drop 1 cur
 present_is ds [] v e f = let g : slice_get ds 0 ≡ None = ap (λ xs. slice_get xs 0) e in cc
@@ -33,6 +38,60 @@ slot_on k r lives old mid new js is ks cur next v rising h e f p i same n =
 pub same_journal : (r : Picked) (e : PickEntry) (js ks : List PickEntry) → r ≡ picked.Idle → ks ≡ journal_after r e js → ks ≡ js
 same_journal r e js ks i h = h ∙ ap (λ x. journal_after x e js) i
 
+-- ## The lives of a slot
+
+-- the lives of the slot with a number
+abbrev pub lives_at : ℕ → List Slot → List ℕ
+lives_at w ss = slice_index_or (chains_of ss) w []
+
+pub lives_here : (w : ℕ) (ss : List Slot) (s : Slot) → slice_get ss w ≡ Some s → lives_at w ss ≡ s.lives.items
+lives_here w [] s e = cc
+lives_here zero (x ∷ ss) s e = let same : x ≡ s = cc in ap (λ (y : Slot). y.lives.items) same
+lives_here (suc w) (x ∷ ss) s e = lives_here w ss s e
+
+get_at : (cs : List (List ℕ)) (w : ℕ) → w < length cs → slice_get cs w ≡ Some (slice_index_or cs w [])
+get_at [] w lt = absurd (omega (arith, lt))
+get_at (c ∷ cs) zero lt = refl
+get_at (c ∷ cs) (suc w) lt = get_at cs w (omega (arith, lt))
+
+pub lives_there : (w : ℕ) (ss : List Slot) → w < length ss → slice_get (chains_of ss) w ≡ Some (lives_at w ss)
+lives_there w ss lt = get_at (chains_of ss) w (omega (arith, lt, chains_length ss))
+
+set_here : (cs : List (List ℕ)) (w : ℕ) → cs ≡ slice_set cs w (slice_index_or cs w [])
+set_here [] w = refl
+set_here (c ∷ cs) zero = refl
+set_here (c ∷ cs) (suc w) = ap (λ ds. c ∷ ds) (set_here cs w)
+
+pub chain_there : (homes : List ℕ) (born w : ℕ) (ss : List Slot) → w < length ss → Chains homes born 0 (chains_of ss) → IsChain homes born w (lives_at w ss)
+chain_there homes born w ss lt h = chain_in homes born 0 w w (chains_of ss) (lives_at w ss) (omega arith) (lives_there w ss lt) h
+
+-- no pick yet
+pub chains_here : (w : ℕ) (ss : List Slot) → chains_of ss ≡ slice_set (chains_of ss) w (lives_at w ss)
+chains_here w ss = set_here (chains_of ss) w
+
+on_is : (cs : List (List ℕ)) (w : ℕ) → on_at w (drop 1) cs ≡ slice_set cs w (drop 1 (slice_index_or cs w []))
+on_is [] w = refl
+on_is (c ∷ cs) zero = refl
+on_is (c ∷ cs) (suc w) = ap (λ ds. c ∷ ds) (on_is cs w)
+
+set_get : (cs : List (List ℕ)) (w : ℕ) (c : List ℕ) → w < length cs → slice_index_or (slice_set cs w c) w [] ≡ c
+set_get [] w c lt = absurd (omega (arith, lt))
+set_get (x ∷ cs) zero c lt = refl
+set_get (x ∷ cs) (suc w) c lt = set_get cs w c (omega (arith, lt))
+
+set_twice : (cs : List (List ℕ)) (w : ℕ) (c e : List ℕ) → slice_set (slice_set cs w c) w e ≡ slice_set cs w e
+set_twice [] w c e = refl
+set_twice (x ∷ cs) zero c e = refl
+set_twice (x ∷ cs) (suc w) c e = ap (λ ds. x ∷ ds) (set_twice cs w c e)
+
+-- the slot has a life less
+pub lives_next : (w : ℕ) (ss ts : List Slot) → w < length ss → chains_of ts ≡ on_at w (drop 1) (chains_of ss) → lives_at w ts ≡ drop 1 (lives_at w ss)
+lives_next w ss ts lt e = ap (λ cs. slice_index_or cs w []) (e ∙ on_is (chains_of ss) w) ∙ set_get (chains_of ss) w (drop 1 (lives_at w ss)) (omega (arith, lt, chains_length ss))
+
+pub chains_next : (w : ℕ) (rs ss ts : List Slot) → w < length ss → chains_of ts ≡ on_at w (drop 1) (chains_of ss) → chains_of ss ≡ slice_set (chains_of rs) w (lives_at w ss) → chains_of ts ≡ slice_set (chains_of rs) w (lives_at w ts)
+chains_next w rs ss ts lt e f =
+    e ∙ on_is (chains_of ss) w ∙ ap (λ cs. slice_set cs w (drop 1 (lives_at w ss))) f ∙ set_twice (chains_of rs) w (lives_at w ss) (drop 1 (lives_at w ss)) ∙ ap (slice_set (chains_of rs) w) (sym (lives_next w ss ts lt e))
+
 pub one_left : (ds cur : List ℕ) (b : Bool) → ds ≡ cur → b ≡ nat_lt 1 (length ds) → b ≡ false → drop 1 cur ≡ []
 one_left ds [] b e f g = refl
 one_left ds (x ∷ []) b e f g = refl
@@ -42,3 +101,12 @@ pub more_left : (ds cur next : List ℕ) (b : Bool) → ds ≡ cur → b ≡ nat
 more_left ds [] next b e f g n = let m : nat_lt 1 (length ds) ≡ false = ap (λ xs. nat_lt 1 (length xs)) e in cc
 more_left ds (x ∷ []) next b e f g n = let m : nat_lt 1 (length ds) ≡ false = ap (λ xs. nat_lt 1 (length xs)) e in cc
 more_left ds (x ∷ y ∷ zs) next b e f g n = let m : length next ≡ suc (length zs) = ap length n in omega arith
+
+pub two_left : (ds cur : List ℕ) (b : Bool) → ds ≡ cur → b ≡ nat_lt 1 (length ds) → b ≡ true → 1 < length cur
+two_left ds [] b e f g = let m : nat_lt 1 (length ds) ≡ false = ap (λ xs. nat_lt 1 (length xs)) e in cc
+two_left ds (x ∷ []) b e f g = let m : nat_lt 1 (length ds) ≡ false = ap (λ xs. nat_lt 1 (length xs)) e in cc
+two_left ds (x ∷ y ∷ zs) b e f g = omega arith
+
+pub shorter : (xs ys : List ℕ) → ys ≡ drop 1 xs → 0 < length xs → length ys < length xs
+shorter [] ys e lt = absurd (omega (arith, lt))
+shorter (x ∷ xs) ys e lt = let same : length ys ≡ length xs = ap length e in omega (arith, same)

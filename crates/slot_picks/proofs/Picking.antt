@@ -42,10 +42,10 @@ turn_after h m w k a b (Err e) picks none = subst (λ (o : Option Turn). IfSome 
 
 -- the trees of a life go where they were lent, and come back
 module _ (w : ℕ) (s m : Shared) (p : Place) (b : Life) (lentto back came : Vec Code Global) (there : lentto ≡ p.codes) (here : came ≡ m.codes) where
-  pub kept_lent : KeepsLife w (record s { codes = lentto }) m p.life b → KeepsLife w (lent s p) (lent (record m { codes = back }) (record { life = b; codes = came })) p.life b
+  pub kept_lent : KeepsLife w (record s { codes = lentto }) m p.life b → KeepsLife w (lent s p) (lent (record m { codes = back }) (record { life = b; codes = came; root = p.root; told = p.told })) p.life b
   kept_lent k = subst (λ cs. KeepsLife w (lent s p) (record m { codes = cs }) p.life b) (sym here) (subst (λ cs. KeepsLife w (record s { codes = cs }) m p.life b) there k)
 
-  pub picks_lent : (k : ℕ) (r : Picked) → PicksLife (record s { codes = lentto }) m w k r p.life b → PicksLife (lent s p) (lent (record m { codes = back }) (record { life = b; codes = came })) w k r p.life b
+  pub picks_lent : (k : ℕ) (r : Picked) → PicksLife (record s { codes = lentto }) m w k r p.life b → PicksLife (lent s p) (lent (record m { codes = back }) (record { life = b; codes = came; root = p.root; told = p.told })) w k r p.life b
   picks_lent k r h = subst (λ cs. PicksLife (lent s p) (record m { codes = cs }) w k r p.life b) (sym here) (subst (λ cs. PicksLife (record s { codes = cs }) m w k r p.life b) there h)
 
 module _ (h : Shared) (v : ℕ) (ls : List Place) (a : Place) (at : slice_get ls v ≡ Some a) (accepted : a.life.accepted ≡ true) (all : FinePlaces h 0 ls) where
@@ -83,7 +83,7 @@ module _ (h : Shared) (v : ℕ) (ls : List Place) (a : Place) (at : slice_get ls
       was = seen_at h v a;
       is = seen_at m v b;
       at = seens_at h 0 v v ls a (omega arith) at;
-      set = seens_set v h m a b keeps picked.fine 0 v ls (omega arith) within room all;
+      set = seens_set v a.codes.items h m keeps.cells keeps.page (λ _. picked.fine.sound.raws) b 0 v ls (omega arith) within room all;
       picks = subst (λ (s : Seen). Picks k r s (seen_at m v b)) (sym was_is) (subst (λ (s : Seen). Picks k r (life_seen (lent h a) v a.life) s) (sym is_is) picked.picks);
       lighter = λ e. subst (λ (s : Seen). weight (seen_at m v b) < weight s) (sym was_is) (subst (λ (s : Seen). weight s < weight (life_seen (lent h a) v a.life)) (sym is_is) (picked.lighter (ap ready (sym was_is) ∙ e)));
     }
@@ -92,7 +92,7 @@ module _ (h : Shared) (v : ℕ) (ls : List Place) (a : Place) (at : slice_get ls
     fews_here n was =
         let before : tally (lent h a) v a.life ≤ n = few_at h n 0 v v ls a (omega arith) at was accepted in
         let after : tally (lent m b) v b.life ≤ tally (lent h a) v a.life = picked.counted in
-        fews_set v h m a b keeps picked.fine n 0 v ls (omega arith) room all was (omega (arith, before, after))
+        fews_set v a.codes.items h m keeps.cells keeps.page (λ _. picked.fine.sound.raws) b n 0 v ls (omega arith) room all was (omega (arith, before, after))
 
     pub fines_here : FinePlaces m 0 (slice_set ls v b)
-    fines_here = fines_set v h m a b keeps picked.fine 0 v ls (omega arith) room all
+    fines_here = fines_set v a.codes.items h m keeps.cells keeps.page (λ _. picked.fine.sound.raws) b 0 v ls (omega arith) room all picked.fine

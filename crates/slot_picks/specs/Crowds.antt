@@ -1,16 +1,24 @@
--- The lives of all places and the slots in which they follow on each other: what is seen of them, what holds, and what picks keep.
-use Rattle.std.specs.Prelude.{◌≡◌, ℕ, ◌<◌, ◌≤◌, true, false, List, map, length}
+-- The lives of all places and the slots in which they follow on each other: what is seen of them, what holds, what stands in the slots, and what picks keep.
+use Rattle.std.specs.Prelude.{◌≡◌, ◌≢◌, ℕ, ◌<◌, ◌≤◌, Bool, true, false, List, [], ◌∷◌, map, length, nat_eq, slice_get, slice_index_or, Some, None}
+use Rattle.std.specs.List.{list_any}
+use Rattle.std.specs.declared.alloc.Global.{Global}
+use Rattle.std.specs.declared.vec.Vec.{Vec}
+use Rattle.page_tree.specs.page_nodes.Entries.{body}
 use Rattle.page_tree.specs.declared.page.Page.{Page}
 use Rattle.object_store.specs.Owned.{owned}
 use Rattle.page_image.specs.Image.{number, own, owns, root_of}
 use Rattle.page_image.specs.Stays.{HostStays}
+use Rattle.page_build.specs.Layout.{IsLot, lot_of}
+use Rattle.page_build.specs.Standing.{AreSpots, IsSpare, IsStanding, PagePasses}
 use Rattle.native_image.specs.Sound.{HasRaw}
 use Rattle.life_laws.specs.Life.{Seen}
+use Rattle.pick_laws.specs.declared.entry.Picked.{Picked}
 use Rattle.pick_laws.specs.Journal.{AllJoined, journal_room}
-use Rattle.slot_laws.specs.Chains.{Chains, Rest, Unspent}
+use Rattle.slot_laws.specs.Chains.{Chains, PickedIn, Rest, Unspent, listed}
 use Rattle.slot_picks.specs.declared.crowd.Crowd.{Crowd}
+use Rattle.slot_picks.specs.declared.crowd.Place.{Place}
 use Rattle.slot_picks.specs.declared.slots.Slot.{Slot}
-use Rattle.slot_picks.specs.Places.{FewPlaces, FinePlaces, OwnPlaces, accepts_of, codes_of, homes_of, is_accepted, seens_from}
+use Rattle.slot_picks.specs.Places.{FewPlaces, FinePlaces, OwnPlaces, accepts_of, codes_of, homes_of, is_accepted, roots_of, seens_from, told_of}
 
 -- how many lives a host has places for: one for each of sixteen slots, and four more for swaps
 abbrev pub all_places : ℕ
@@ -59,14 +67,74 @@ pub record PageStays (old new : Page) : Type 0 where
   pub numbers : (v n : ℕ) → owns old v n ≡ true → number new v n ≡ number old v n
   pub roots : (v : ℕ) → v < 32 → root_of new v ≡ root_of old v
 
--- What picks keep of all lives, also after want of memory: the slot of each, whether its file was accepted, the trees of its scripts, and that it holds its own alone; which trees are shared between picks, what stays of the page, the RawNode of each page node that has one, and what is nobody's: a number that is no accepted life's gets no cell and no node.
-pub record KeepsCrowd (old new : Crowd) : Type 0 where
+-- What is kept of all lives, also after want of memory: the slot of each, the node that stands there for it, how many of its posts rounds have taken, whether its file was accepted, the trees of its scripts, and that it holds its own alone; which trees are shared between picks, the RawNode of each page node that has one, and what is nobody's: a number that is no accepted life's gets no cell and no node.
+pub record KeepsLives (old new : Crowd) : Type 0 where
   pub homes : homes_of new.places.items ≡ homes_of old.places.items
+  pub roots : roots_of new.places.items ≡ roots_of old.places.items
+  pub told : told_of new.places.items ≡ told_of old.places.items
   pub accepts : accepts_of new.places.items ≡ accepts_of old.places.items
   pub codes : codes_of new.places.items ≡ codes_of old.places.items
   pub holds : OwnCrowd old → OwnCrowd new
   pub rest : new.shared.codes ≡ old.shared.codes
-  pub page : PageStays old.shared.page new.shared.page
   pub raws : (n : ℕ) → HasRaw old.shared.store.cells n → HasRaw new.shared.store.cells n
   pub cells : (v : ℕ) → is_accepted old.places.items v ≡ false → owned v new.shared.store ≡ owned v old.shared.store
   pub nodes : (v : ℕ) → is_accepted old.places.items v ≡ false → own new.shared.page v ≡ own old.shared.page v
+
+-- A pick of one life keeps this and what stays of the page.
+pub record KeepsCrowd (old new : Crowd) : Type 0 where
+  pub lives : KeepsLives old new
+  pub page : PageStays old.shared.page new.shared.page
+
+-- ## What stands in the slots
+
+-- the life that is present
+abbrev pub present_of : List ℕ → ℕ
+present_of [] = 0
+present_of (v ∷ vs) = v
+
+-- whether a life is present in its slot
+abbrev pub is_present : ℕ → List (List ℕ) → Bool
+is_present v cs = list_any (λ c. nat_eq (present_of c) v) cs
+
+-- the node that stands in each slot: that of the life that is present
+abbrev pub spots_of : Crowd → List Slot → List ℕ
+spots_of c ss = map (λ lives. slice_index_or (roots_of c.places.items) (present_of lives) body) (chains_of ss)
+
+-- The lives of each slot are there, and of no other slot. The node of each life: the root of an accepted one, and else an empty `div` of the host with the slot's name as `id`. No two lives have one node, and each life of a slot has one; a place where no life was born has `body` in its stead. The nodes of the lives that are present stand in the slots, under `body`; those of the lives that wait or have ended stand under nothing. It holds also after want of memory.
+pub record AreStanding (c : Crowd) (ss : List Slot) : Type 0 where
+  pub born : ℕ
+  pub few : born ≤ length c.places.items
+  pub chains : Chains (homes_of c.places.items) born 0 (chains_of ss)
+  pub roots : (v : ℕ) (a : Place) → slice_get c.places.items v ≡ Some a → a.life.accepted ≡ true → root_of c.shared.page v ≡ Some a.root
+  pub divs : (v : ℕ) (a : Place) (s : Slot) → slice_get c.places.items v ≡ Some a → a.life.accepted ≡ false → a.root ≢ body
+      → slice_get ss a.life.slot ≡ Some s → IsLot c.shared.page (lot_of s.name None) a.root
+  pub nodes : (v : ℕ) (a : Place) → slice_get c.places.items v ≡ Some a → listed v (chains_of ss) ≡ true → a.root ≢ body
+  pub apart : (v u : ℕ) (a b : Place) → slice_get c.places.items v ≡ Some a → slice_get c.places.items u ≡ Some b → a.root ≢ body → a.root ≡ b.root → v ≡ u
+  pub stand : (w v : ℕ) (a : Place) → slice_get (map present_of (chains_of ss)) w ≡ Some v → slice_get c.places.items v ≡ Some a → IsStanding c.shared.page a.root
+  pub spare : (v : ℕ) (a : Place) → slice_get c.places.items v ≡ Some a → a.root ≢ body → is_present v (chains_of ss) ≡ false → IsSpare c.shared.page a.root
+  pub spots : AreSpots c.shared.page (spots_of c ss)
+
+-- What picks of slots keep, also after want of memory: what is kept of all lives; the name of each slot, and the fuel of its turns; what stays of the page, where other nodes may stand in the slots; and that in each slot stands the node of the life that is present.
+pub record KeepsSlots (c d : Crowd) (ss ts : List Slot) : Type 0 where
+  pub lives : KeepsLives c d
+  pub names : map (λ (s : Slot). s.name) ts ≡ map (λ (s : Slot). s.name) ss
+  pub fuels : map (λ (s : Slot). s.fuel) ts ≡ map (λ (s : Slot). s.fuel) ss
+  pub page : PagePasses c.shared.page d.shared.page (spots_of c ss) (spots_of d ts)
+  pub standing : AreStanding c ss → AreStanding d ts
+
+-- ## Picks one after the other
+
+-- Slots were picked with this slice, one after the other, each pick from what the one before left; and after each, in the store and on the page as they were then, each accepted life held its own alone.
+pub data PicksOn (k : ℕ) (c : Crowd) (ss : Vec Slot Global) : Crowd → Vec Slot Global → Type 0 where
+  no_pick : PicksOn k c ss c ss
+  one_pick : {w : ℕ} {r : Picked} {d e : Crowd} {ts us : Vec Slot Global} → PicksOn k c ss d ts
+      → PickedIn w k r (chains_of ts.items) (chains_of us.items) (seens_of d) (seens_of e) d.journal.items e.journal.items
+      → OwnCrowd e → PicksOn k c ss e us
+
+-- Such picks were made, also where memory was wanted in the end; else they led to this crowd and these slots.
+pub record PicksUntil (k : ℕ) (c : Crowd) (ss : Vec Slot Global) (ended : Bool) (d : Crowd) (ts : Vec Slot Global) : Type 0 where
+  pub crowd : Crowd
+  pub slots : Vec Slot Global
+  pub picks : PicksOn k c ss crowd slots
+  pub crowd_is : ended ≡ true → d ≡ crowd
+  pub slots_are : ended ≡ true → ts ≡ slots

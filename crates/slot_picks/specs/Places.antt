@@ -63,6 +63,14 @@ FewPlaces h n w (p ∷ ps) = FewPlace h n w p × FewPlaces h n (w + 1) ps
 abbrev pub homes_of : List Place → List ℕ
 homes_of ps = map (λ (p : Place). p.life.slot) ps
 
+-- the node that stands for each life in its slot
+abbrev pub roots_of : List Place → List ℕ
+roots_of ps = map (λ (p : Place). p.root) ps
+
+-- how many posts of each rounds have taken
+abbrev pub told_of : List Place → List ℕ
+told_of ps = map (λ (p : Place). p.told) ps
+
 -- the trees of the scripts of each
 abbrev pub codes_of : List Place → List (Vec Code Global)
 codes_of ps = map (λ (p : Place). p.codes) ps

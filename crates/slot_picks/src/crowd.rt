@@ -15,6 +15,7 @@ use js_names::Code;
 use life_picks::life_queue::Life;
 use life_picks::pick_life;
 use life_picks::turn_calls::Shared;
+use page_tree::NodeId;
 use pick_laws::{PickEntry, Picked};
 use std::alloc::Global;
 use std::collections::VecDeque;
@@ -26,6 +27,11 @@ use std::mem::swap;
 pub struct Place {
     pub life: Life,
     pub codes: Vec<Code>,
+    /// The node that stands for it in its slot: its root, or where its file was refused an empty `div` of the
+    /// host. `body` where no life was born.
+    pub root: NodeId,
+    /// How many of its posts rounds have taken.
+    pub told: u32,
 }
 
 /// The lives of all places with all that they share, and the picks that are kept of them. The place of a
@@ -90,6 +96,8 @@ fn pick_lent(
     ensures kept { KeepsLife place.old.life.widget.number (lent shared.old place.old) (lent shared.new place.new) place.old.life place.new.life }
     ensures none { OnErr result (place.new.life.turn ≡ None) }
     ensures rest { shared.new.codes ≡ shared.old.codes }
+    ensures root { place.new.root ≡ place.old.root }
+    ensures told { place.new.told ≡ place.old.told }
 {
     swap(&mut shared.codes, &mut place.codes);
     let picked = pick_life(alloc, shared, &mut place.life, k);

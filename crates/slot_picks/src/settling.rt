@@ -1,10 +1,10 @@
 //! Picks of slots, until none is ready.
-ghost use Rattle.std.specs.Prelude.{◌≡◌, ℕ, ◌<◌, IfOk, OnOk, [], ◌∷◌, map, Some, slice_get};
+ghost use Rattle.std.specs.Prelude.{◌≡◌, ℕ, ◌<◌, IfOk, OnOk, [], ◌∷◌, is_ok, map, Some, slice_get};
 ghost use Rattle.life_laws.specs.Life.{due, image};
 ghost use Rattle.pick_laws.specs.Journal.{ready_from};
 ghost use Rattle.slot_laws.specs.Chains.{PickedIn, last_life};
 ghost use Rattle.slot_laws.specs.Settled.{SettledSlots, slot_flags};
-ghost use Rattle.slot_picks.specs.Crowds.{AreHoused, FewCrowd, KeepsCrowd, chains_of, seens_of};
+ghost use Rattle.slot_picks.specs.Crowds.{AreHoused, AreStanding, FewCrowd, KeepsSlots, PicksUntil, chains_of, seens_of};
 ghost use Rattle.slot_picks.specs.Places.{homes_of};
 
 use crate::crowd::Crowd;
@@ -27,13 +27,14 @@ fn pick_ready(
 ) -> Result<Picked, Memory>
     requires slice { 0 < k }
     requires housed { (born : ℕ) × AreHoused born crowd.old slots.old.items }
+    requires standing { AreStanding crowd.old slots.old.items }
     requires list { ready.old.items ≡ ready_from 0 (slot_flags (seens_of crowd.old) (chains_of slots.old.items)) }
     requires ready { (at : ℕ) × (slice_get ready.old.items at ≡ Some w) }
     ensures picked { IfOk result (λ r. PickedIn w k r (chains_of slots.old.items) (chains_of slots.new.items) (seens_of crowd.old) (seens_of crowd.new) crowd.old.journal.items crowd.new.journal.items) }
     ensures list { OnOk result (ready.new.items ≡ ready_from 0 (slot_flags (seens_of crowd.new) (chains_of slots.new.items))) }
     ensures housed { OnOk result ((born : ℕ) → AreHoused born crowd.old slots.old.items → AreHoused born crowd.new slots.new.items) }
     ensures few { OnOk result ((n : ℕ) → FewCrowd n crowd.old → FewCrowd n crowd.new) }
-    ensures stays { KeepsCrowd crowd.old crowd.new }
+    ensures stays { KeepsSlots crowd.old crowd.new slots.old.items slots.new.items }
 {
     let picked = pick_slot(alloc, crowd, slots, w, k)?;
     if let Picked::Unfinished { .. } = picked {
@@ -54,13 +55,15 @@ pub fn settle_slots<C: Chooser>(
 ) -> Result<(), Memory>
     requires slice { 0 < slice }
     requires housed { (born : ℕ) × AreHoused born crowd.old slots.old.items }
+    requires standing { AreStanding crowd.old slots.old.items }
     ensures settled { OnOk result (SettledSlots slice (homes_of crowd.old.places.items) (chains_of slots.old.items) (chains_of slots.new.items) (seens_of crowd.old) (seens_of crowd.new) crowd.old.journal.items crowd.new.journal.items (C.asks chooser.old) (C.room chooser.old) (C.asks chooser.new) (C.room chooser.new)) }
+    ensures passes { PicksUntil slice crowd.old slots.old (is_ok result) crowd.new slots.new }
     ensures done { OnOk result (map image (seens_of crowd.new) ≡ map due (seens_of crowd.old)) }
     ensures quiet { OnOk result (ready_from 0 (slot_flags (seens_of crowd.new) (chains_of slots.new.items)) ≡ []) }
     ensures lasts { OnOk result (chains_of slots.new.items ≡ map (λ c. last_life c ∷ []) (chains_of slots.old.items)) }
     ensures housed { OnOk result ((born : ℕ) → AreHoused born crowd.old slots.old.items → AreHoused born crowd.new slots.new.items) }
     ensures few { OnOk result ((n : ℕ) → FewCrowd n crowd.old → FewCrowd n crowd.new) }
-    ensures stays { KeepsCrowd crowd.old crowd.new }
+    ensures stays { KeepsSlots crowd.old crowd.new slots.old.items slots.new.items }
 {
     let mut ready = ready_slots(alloc, crowd, slots)?;
     'picks: loop {

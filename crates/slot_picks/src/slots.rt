@@ -1,17 +1,22 @@
 //! The lives of a slot, and a pick of one slot.
 ghost use Rattle.std.specs.Prelude.{◌≡◌, ℕ, ◌<◌, IfOk, OnOk, Some, length, slice_get, nat_lt, drop};
+ghost use Rattle.pick_laws.specs.Journal.{on_at};
 ghost use Rattle.slot_laws.specs.Chains.{PickedIn};
-ghost use Rattle.slot_laws.specs.Slots.{Each, PickedSlot, Rising};
-ghost use Rattle.slot_picks.specs.Crowds.{AreHoused, FewCrowd, FineCrowd, KeepsCrowd, chains_of, seens_of};
+ghost use Rattle.slot_picks.specs.declared.slots.Slot.{Slot as SlotOf};
+ghost use Rattle.slot_picks.specs.Crowds.{AreHoused, AreStanding, FewCrowd, FineCrowd, KeepsSlots, chains_of, seens_of};
 
 use crate::crowd::{Crowd, pick_kept};
-use code_units::Memory;
+use code_units::{Memory, Text};
+use page_build::swap_stands;
 use pick_laws::Picked;
 use std::alloc::Global;
 
-/// A slot: its lives, the present one first, then those whose swap waits.
+/// A slot: its name, the fuel of each turn of its lives, and its lives, the present one first, then those
+/// whose swap waits.
 #[derive(Drop)]
 pub struct Slot {
+    pub name: Text,
+    pub fuel: u32,
     pub lives: Vec<u32>,
 }
 
@@ -30,42 +35,41 @@ fn waits(lives: &[u32]) -> bool
     lives.len() > 1
 }
 
-// The present life ends.
-fn end_present(slot: &mut Slot)
+// The present life of a slot ends.
+fn end_present(slot: &mut Slot) -> u32
     requires { 0 < length slot.old.lives.items }
-    ensures { slot.new.lives.items ≡ drop 1 slot.old.lives.items }
+    ensures ended { slice_get slot.old.lives.items 0 ≡ Some result }
+    ensures lives { slot.new.lives.items ≡ drop 1 slot.old.lives.items }
+    ensures name { slot.new.name ≡ slot.old.name }
+    ensures fuel { slot.new.fuel ≡ slot.old.fuel }
 {
-    let _ended = slot.lives.remove(0);
+    slot.lives.remove(0)
 }
 
-// The present life is picked. Where it begins nothing and a swap waits, the swap is taken, and the next
-// life is picked.
-fn pick_along(alloc: Global, crowd: &mut Crowd, slot: &mut Slot, k: u32) -> Result<Picked, Memory>
-    requires slice { 0 < k }
-    requires some { 0 < length slot.old.lives.items }
-    requires there { Each (λ v. v < length crowd.old.places.items) slot.old.lives.items }
-    requires rising { Rising slot.old.lives.items }
+// The present life of a slot ends, and the one whose swap waits is present: its node comes in the place of
+// the old one. Nothing is seen of it in any life.
+fn take_swap(crowd: &mut Crowd, slots: &mut Vec<Slot>, w: u32)
+    requires there { w < length slots.old.items }
+    requires waits { (s : SlotOf) → slice_get slots.old.items w ≡ Some s → 1 < length s.lives.items }
     requires fine { FineCrowd crowd.old }
-    ensures picked { IfOk result (λ r. PickedSlot k r slot.old.lives.items (seens_of crowd.old) (seens_of crowd.new) crowd.old.journal.items crowd.new.journal.items slot.new.lives.items) }
-    ensures fine { OnOk result (FineCrowd crowd.new) }
-    ensures few { OnOk result ((n : ℕ) → FewCrowd n crowd.old → FewCrowd n crowd.new) }
-    ensures stays { KeepsCrowd crowd.old crowd.new }
+    requires standing { AreStanding crowd.old slots.old.items }
+    ensures seens { seens_of crowd.new ≡ seens_of crowd.old }
+    ensures journal { crowd.new.journal.items ≡ crowd.old.journal.items }
+    ensures chains { chains_of slots.new.items ≡ on_at w (drop 1) (chains_of slots.old.items) }
+    ensures fine { FineCrowd crowd.new }
+    ensures few { (n : ℕ) → FewCrowd n crowd.old → FewCrowd n crowd.new }
+    ensures stays { KeepsSlots crowd.old crowd.new slots.old.items slots.new.items }
 {
-    'lives: loop {
-        let v = present(&slot.lives);
-        let picked = pick_kept(alloc, crowd, v, k)?;
-        let Picked::Idle = picked else {
-            return Ok(picked);
-        };
-        if !waits(&slot.lives) {
-            return Ok(picked);
-        }
-        end_present(slot);
-    }
+    let ended = end_present(&mut slots[w as usize]);
+    let next = present(&slots[w as usize].lives);
+    let old = crowd.places[ended as usize].root;
+    let new = crowd.places[next as usize].root;
+    swap_stands(&mut crowd.shared.page, old, new);
 }
 
 /// Carries on the turn of a slot, or the first that the queues of its lives begin, until the units are
-/// spent or the turn is over. Swaps that wait are taken where a life has nothing left.
+/// spent or the turn is over. Swaps that wait are taken where a life has nothing left; no memory is wanted
+/// for that.
 pub fn pick_slot(
     alloc: Global,
     crowd: &mut Crowd,
@@ -76,10 +80,21 @@ pub fn pick_slot(
     requires there { w < length slots.old.items }
     requires slice { 0 < k }
     requires housed { (born : ℕ) × AreHoused born crowd.old slots.old.items }
+    requires standing { AreStanding crowd.old slots.old.items }
     ensures picked { IfOk result (λ r. PickedIn w k r (chains_of slots.old.items) (chains_of slots.new.items) (seens_of crowd.old) (seens_of crowd.new) crowd.old.journal.items crowd.new.journal.items) }
     ensures housed { OnOk result ((born : ℕ) → AreHoused born crowd.old slots.old.items → AreHoused born crowd.new slots.new.items) }
     ensures few { OnOk result ((n : ℕ) → FewCrowd n crowd.old → FewCrowd n crowd.new) }
-    ensures stays { KeepsCrowd crowd.old crowd.new }
+    ensures stays { KeepsSlots crowd.old crowd.new slots.old.items slots.new.items }
 {
-    pick_along(alloc, crowd, &mut slots[w as usize], k)
+    'lives: loop {
+        let v = present(&slots[w as usize].lives);
+        let picked = pick_kept(alloc, crowd, v, k)?;
+        let Picked::Idle = picked else {
+            return Ok(picked);
+        };
+        if !waits(&slots[w as usize].lives) {
+            return Ok(picked);
+        }
+        take_swap(crowd, slots, w);
+    }
 }

@@ -9,6 +9,7 @@ pick_slot-requires c = record {
   there = slot_there (seens_of c.args.crowd.now) c.args.slots.now.items c.args.ready.now.items c.requires.ready.0 c.args.w c.requires.list c.requires.ready.1;
   slice = c.requires.slice;
   housed = c.requires.housed;
+  standing = c.requires.standing;
 }
 
 pub fill_ready-requires : goal.fill_ready-requires

@@ -6,12 +6,13 @@ use Rattle.pick_laws.specs.Journal.{ready_from}
 use Rattle.slot_laws.specs.Chains.{Chains}
 use Rattle.slot_laws.specs.Settled.{slot_flags}
 use Rattle.slot_laws.proofs.Settling.{all_done, slots_lighter, slots_none, slots_on}
-use Rattle.slot_picks.specs.Crowds.{AreHoused, chains_of, seens_of}
+use Rattle.slot_picks.specs.Crowds.{AreHoused, chains_of, no_pick, one_pick, seens_of}
 use Rattle.slot_picks.specs.Places.{homes_of}
 use Rattle.slot_picks.proofs.Housing.{lasts_picked}
-use Rattle.slot_picks.proofs.Keeping.{keeps_here, keeps_then}
+use Rattle.slot_picks.proofs.Owning.{owns_fine}
 use Rattle.slot_picks.proofs.Quiet.{only_lasts}
 use Rattle.slot_picks.proofs.Settles.{listed, slot_there, slots_below}
+use Rattle.slot_picks.proofs.Slotted.{picks_stop, slots_here, slots_then}
 use Rattle.slot_picks.proofs.settling.settle_slots.Goals as goal
 
 pub ready_slots-requires : goal.ready_slots-requires
@@ -25,7 +26,8 @@ picks-init g c = record {
   list = listed c.args.crowd.now c.in_ok-ready.ready.items c.args.slots.now.items c.deref.result.now c.deref.ensures.value c.in_ok-ready.ensures;
   housed = λ born h. h;
   few = λ n h. h;
-  stays = keeps_here c.args.crowd.now;
+  picks = no_pick;
+  stays = slots_here c.args.crowd.now c.args.slots.now.items;
   lasts = refl;
 }
 
@@ -37,6 +39,7 @@ returns-then-is_empty g c =
     let quiet : ready_from 0 (slot_flags (seens_of c.picks.crowd) (chains_of c.picks.slots.items)) ≡ [] = sym c.picks.invariant.list ∙ none in
     record {
       settled = c.picks.invariant.settled;
+      passes = record { crowd = c.picks.crowd; slots = c.picks.slots; picks = c.picks.invariant.picks; crowd_is = λ e. refl; slots_are = λ e. refl };
       done = all_done (chains_of c.picks.slots.items) (seens_of c.picks.crowd) quiet h.rest ∙ c.picks.invariant.settled.went.dues;
       quiet = quiet;
       lasts = only_lasts (homes_of c.picks.crowd.places.items) born (seens_of c.picks.crowd) (chains_of c.args.slots.now.items) (chains_of c.picks.slots.items) h.chains quiet c.picks.invariant.lasts;
@@ -61,12 +64,19 @@ pick_ready-requires g c =
     record {
       slice = c.requires.slice;
       housed = (c.requires.housed.0, c.picks.invariant.housed c.requires.housed.0 c.requires.housed.1);
+      standing = c.picks.invariant.stays.standing c.requires.standing;
       list = c.picks.invariant.list;
       ready = (c.next-at.result, at);
     }
 
 pub returns-in_err-pick_ready-clause-stays : goal.returns-in_err-pick_ready-clause-stays
-returns-in_err-pick_ready-clause-stays g c = keeps_then c.args.crowd.now c.picks.crowd c.pick_ready.new.crowd c.picks.invariant.stays c.pick_ready.ensures.stays
+returns-in_err-pick_ready-clause-stays g c = slots_then c.args.crowd.now c.picks.crowd c.pick_ready.new.crowd c.args.slots.now.items c.picks.slots.items c.pick_ready.new.slots.items c.picks.invariant.stays c.pick_ready.ensures.stays
+
+pub returns-in_err-pick_ready-clause-passes : goal.returns-in_err-pick_ready-clause-passes
+returns-in_err-pick_ready-clause-passes g c = picks_stop c.args.slice c.args.crowd.now c.picks.crowd _ c.args.slots.now c.picks.slots _ c.from_residual-in_err-pick_ready.result c.from_residual-in_err-pick_ready.ensures.0 c.picks.invariant.picks
+
+pub returns-in_err-ready-clause-passes : goal.returns-in_err-ready-clause-passes
+returns-in_err-ready-clause-passes g c = picks_stop c.args.slice c.args.crowd.now c.args.crowd.now _ c.args.slots.now c.args.slots.now _ c.from_residual.result c.from_residual.ensures.0 no_pick
 
 pub picks-smaller : goal.picks-smaller
 picks-smaller g c =
@@ -86,12 +96,13 @@ picks-preserved g c =
     let within : c.next-at.result < length xs = omega (arith, c.next-at.ensures.within, ap (length {A = ℕ}) c.deref-in-picks.ensures.value) in
     let at : slice_get xs c.next-at.result ≡ Some c.index-w.result.now = slice_get_read xs (length xs) c.next-at.result c.index-w.result.now refl within c.index-w.ensures in
     let there = slot_there (seens_of c.picks.crowd) c.picks.slots.items xs c.next-at.result c.index-w.result.now list at in
-    let chains : Chains homes born 0 cs = subst (λ hs. Chains hs born 0 cs) c.picks.invariant.stays.homes h.chains in
+    let chains : Chains homes born 0 cs = subst (λ hs. Chains hs born 0 cs) c.picks.invariant.stays.lives.homes h.chains in
     record {
       settled = slots_on c.args.slice c.index-w.result.now homes born (chains_of c.args.slots.now.items) cs (chains_of c.pick_ready.new.slots.items) (seens_of c.args.crowd.now) (seens_of c.picks.crowd) (seens_of c.pick_ready.new.crowd) c.args.crowd.now.journal.items c.picks.crowd.journal.items c.pick_ready.new.crowd.journal.items _ _ _ _ _ _ c.deref-in-picks.result.now c.next-at.result (omega (arith, there, h.slots)) chains c.in_ok-pick_ready.field-0 c.picks.invariant.settled c.in_ok-pick_ready.ensures.picked (c.deref-in-picks.ensures.value ∙ list) (ap (λ ys. slice_get ys c.next-at.result) c.deref-in-picks.ensures.value ∙ at) c.next-at.ensures.kept c.next-at.ensures.room;
       list = c.in_ok-pick_ready.ensures.list;
       housed = λ b hb. c.in_ok-pick_ready.ensures.housed b (c.picks.invariant.housed b hb);
       few = λ n f. c.in_ok-pick_ready.ensures.few n (c.picks.invariant.few n f);
-      stays = keeps_then c.args.crowd.now c.picks.crowd c.pick_ready.new.crowd c.picks.invariant.stays c.pick_ready.ensures.stays;
+      picks = one_pick c.picks.invariant.picks c.in_ok-pick_ready.ensures.picked (owns_fine c.pick_ready.new.crowd.shared 0 c.pick_ready.new.crowd.places.items (c.in_ok-pick_ready.ensures.housed born h).crowd.fine);
+      stays = slots_then c.args.crowd.now c.picks.crowd c.pick_ready.new.crowd c.args.slots.now.items c.picks.slots.items c.pick_ready.new.slots.items c.picks.invariant.stays c.pick_ready.ensures.stays;
       lasts = lasts_picked c.index-w.result.now c.args.slice c.in_ok-pick_ready.field-0 c.picks.crowd c.pick_ready.new.crowd c.picks.slots.items c.pick_ready.new.slots.items c.in_ok-pick_ready.ensures.picked ∙ c.picks.invariant.lasts;
     }
