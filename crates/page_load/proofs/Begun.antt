@@ -1,9 +1,13 @@
 -- A life whose widget has its tree and the object `lib` begins.
-use Rattle.std.proofs.Common.{◌≡◌, ℕ, ◌+◌, ◌≤◌, List, [], ◌∷◌, Bool, true, false, refl, sym, ap, ◌∙◌, subst, length, map, replicate, Option, None, arith, eqb, eqb-true, eq-eqb}
+use Rattle.std.proofs.Common.{◌≡◌, ℕ, ◌+◌, ◌≤◌, List, [], ◌∷◌, Bool, true, false, refl, sym, ap, ◌∙◌, subst, length, map, replicate, Option, arith, eqb, eqb-true, eq-eqb}
+use Rattle.std.proofs.lemmas.List.{length-append, length-map}
 use Rattle.std.specs.Prelude.{IfSome, ◌^◌}
 use Rattle.std.specs.List.{AllByRecursion}
 use Rattle.std.specs.Option.{option_map}
 use Rattle.js_tree.specs.Forest.{Forest}
+use Rattle.js_tree.specs.Trees.{program_of}
+use Rattle.js_names.specs.declared.code.Code.{Code}
+use Rattle.js_names.specs.Code.{tree_in, trees_of}
 use Rattle.plain_tree.specs.Trees.{size}
 use Rattle.tree_ops.specs.Trees.{numbered}
 use Rattle.store_cells.specs.Cells.{Cells, own_count}
@@ -12,8 +16,9 @@ use Rattle.query_grammar.specs.Renumbering.{renumbered}
 use Rattle.widget_meaning.specs.OwnState.{nothing_kept}
 use Rattle.widget_meaning.specs.Alone.{Content, beginning}
 use Rattle.page_image.specs.Held.{OptionIn}
-use Rattle.page_image.specs.Image.{forest, number, own, owns}
+use Rattle.page_image.specs.Image.{HasRoot, forest, number, own, owns}
 use Rattle.page_image.proofs.Pages.{is_node}
+use Rattle.page_tree.specs.declared.page.Page.{Page}
 use Rattle.event_loop.specs.Around as around
 use Rattle.event_loop.specs.Kept.{PlainKept}
 use Rattle.event_loop.specs.declared.around.Loop.{Loop}
@@ -28,15 +33,20 @@ use Rattle.native_image.proofs.Keeping.{page_same}
 use Rattle.life_laws.specs.Life.{potentials, waiting}
 use Rattle.slot_picks.specs.turn_calls.declared.turn.Shared.{Shared}
 use Rattle.slot_picks.specs.turn_calls.declared.turn.Turn.{Turn}
+use Rattle.slot_picks.specs.turn_calls.declared.turn.Widget.{Widget}
 use Rattle.slot_picks.specs.life_queue.declared.life.Life.{Life}
 use Rattle.slot_picks.specs.life_queue.Lives.{going_of, life_seen, meant_stop, own_of, post_of, trees_in, work_of, works_of}
 use Rattle.slot_picks.specs.life_queue.Fine.{FineLife, FineTurn, FineWork, KeepsCells, held_back, most_fuel, tally}
 use Rattle.slot_picks.proofs.LifeQueue.Apart.{fine_apart, seen_apart}
+use Rattle.slot_picks.specs.declared.crowd.Place.{Place}
 use Rattle.slot_picks.specs.Places.{lent}
 use Rattle.page_build.specs.Homes.{HaveRaws}
 use Rattle.page_load.specs.Laying.{IsUnused}
-use Rattle.page_load.specs.Lives.{BeginsWith, HasTree, IsBlank, IsLib, KeepsOthers}
+use Rattle.page_load.specs.declared.codes.Scripts.{Scripts}
+use Rattle.page_load.specs.Lives.{HasTree, IsBegun, IsBlank, IsLib, IsNew, IsReady, KeepsOthers, content_at}
+use Rattle.page_load.specs.Queues.{programs_of}
 use Rattle.page_load.specs.Owning.{one_object}
+use Rattle.page_load.proofs.Due.{few_loads}
 
 no_true : false ≡ true → ⊥
 no_true e = cc
@@ -46,17 +56,18 @@ none_kept : (l : Loop) (g : ℕ → ℕ) → ((n : ℕ) → around.kept l n ≡ 
 none_kept l g none [] = refl
 none_kept l g none (n ∷ ns) = λ j. kept_of g (none n j) ∷ none_kept l g none ns j
 
--- ## The life
+-- what a life holds that has done nothing
+pub holds_with : (w : ℕ) (s : Cells) (p : Page) (a : Widget) → IsBlank w a → HasRoot p w → AllByRecursion (λ (c : OwnCell). PassNodes (owns p w) c.kind) (owned w s).heap → HoldsOwn w s p a.around
+holds_with w s p a blank home bunches = record {
+  home = home;
+  bunches = bunches;
+  handlers = λ n. subst (λ (k : PlainKept). AllByRecursion (λ e. IsOwnCell w s.cells e.1) k.handlers) (sym (blank.kept_none n)) tt;
+  timers = subst (AllByRecursion (λ (t : Timer). IsOwnCell w s.cells t.func)) (sym blank.no_timers) tt;
+  focus = subst (OptionIn (owns p w)) (sym blank.no_focus) tt;
+  elsewhere = λ n e. blank.kept_none n;
+}
 
--- Nothing is recorded of it, and no turn is in progress.
-pub record IsNew (l : Life) : Type 0 where
-  pub uncaught : l.records.uncaught.items ≡ []
-  pub turns : l.records.turns ≡ 0
-  pub spent : l.records.spent ≡ 0
-  pub missed : l.records.missed ≡ 0
-  pub gone : l.records.gone ≡ 0
-  pub stop : l.records.stop ≡ None
-  pub rests : l.turn ≡ None
+-- ## The life
 
 module _ (h : Shared) (w : ℕ) (l : Life) (blank : IsBlank w l.widget) (new : IsNew l) (tree : HasTree h.page w) (one : owned w h.store ≡ one_object) where
   own_is : (c : Content) → c.root ≡ forest h.page w → own_of h w l ≡ beginning c l.grant
@@ -88,25 +99,18 @@ module _ (h : Shared) (w : ℕ) (l : Life) (blank : IsBlank w l.widget) (new : I
   seen_is : (c : Content) → c.root ≡ forest h.page w → life_seen h w l ≡ waiting (beginning c l.grant) (works_of h w l)
   seen_is c root = λ j. record { own = own_is c root j; going = option_map (going_of h w l) (new.rests j); queue = works_of h w l }
 
-  holds : HoldsOwn w h.store h.page l.widget.around
-  holds = record {
-    home = tree.home;
-    bunches = subst (λ (o : Owned). AllByRecursion (λ (c : OwnCell). PassNodes (owns h.page w) c.kind) o.heap) (sym one) (tt, tt);
-    handlers = λ n. subst (λ (k : PlainKept). AllByRecursion (λ e. IsOwnCell w h.store.cells e.1) k.handlers) (sym (blank.kept_none n)) tt;
-    timers = subst (AllByRecursion (λ (t : Timer). IsOwnCell w h.store.cells t.func)) (sym blank.no_timers) tt;
-    focus = subst (OptionIn (owns h.page w)) (sym blank.no_focus) tt;
-    elsewhere = λ n e. blank.kept_none n;
-  }
-
   module _ (confined : IsConfined (trees_in h) w h.store) (raws : HaveRaws h.store h.page) (lib : IsLib w h.store l.lib) (grant : l.grant ≤ most_fuel) (works : AllByRecursion (FineWork (trees_in h)) l.queue.items) (few : potentials (map (work_of (trees_in h)) l.queue.items) ≤ 2 ^ 31) where
-    tally_few : tally h w l ≤ 2 ^ 31
+    pub tally_few : tally h w l ≤ 2 ^ 31
     tally_few = omega (arith, new.turns, new.missed, new.gone, few)
 
-    fine_is : FineLife h w l
+    pub fine_is : FineLife h w l
     fine_is = record {
       number = blank.number;
       confined = confined;
-      sound = record { holds = holds; raws = λ v n e. raws n (is_node h.page v n e) };
+      sound = record {
+        holds = holds_with w h.store h.page l.widget blank tree.home (subst (λ (o : Owned). AllByRecursion (λ (c : OwnCell). PassNodes (owns h.page w) c.kind) o.heap) (sym one) (tt, tt));
+        raws = λ v n e. raws n (is_node h.page v n e);
+      };
       lib = record { held = lib.held; first = lib.first };
       works = works;
       turn = subst (λ (t : Option Turn). IfSome t (FineTurn (trees_in h) w h.store h.page l.grant)) (sym new.rests) tt;
@@ -117,8 +121,34 @@ module _ (h : Shared) (w : ℕ) (l : Life) (blank : IsBlank w l.widget) (new : I
       };
     }
 
-    pub begins_is : l.slot ≡ w → l.accepted ≡ true → l.told ≡ 0 → BeginsWith h w l.grant (works_of h w l) l
-    begins_is slot accepted told = record { slot = slot; accepted = accepted; fine = fine_is; seen = seen_is; few = tally_few; told = told }
+-- with the object `lib`, a slot and a node that stands there
+abbrev pub seated : ℕ → ℕ → ℕ → Place → Place
+seated lib to root a = record a { life = record a.life { slot = to; lib = lib }; root = root }
+
+-- a life that is ready begins where it has its tree and the object `lib`
+module _ (h : Shared) (w fuel : ℕ) (s : Scripts) (a : Place) (ready : IsReady w fuel s a) (lib to root : ℕ) where
+  its_potentials : potentials (map (work_of (trees_of a.codes.items)) a.life.queue.items) ≤ 2 ^ 31
+  its_potentials =
+      let one = ap length ready.codes ∙ length-append s.libs.items (s.script ∷ []) in
+      omega (arith, ap potentials ready.queue.are, few_loads (programs_of s.libs.items) (program_of (tree_in s.script)), length-map s.libs.items (λ (c : Code). program_of (tree_in c)), one, ready.many)
+
+  its_new : IsNew (seated lib to root a).life
+  its_new = let n = ready.life.new in record { uncaught = n.uncaught; turns = n.turns; spent = n.spent; missed = n.missed; gone = n.gone; stop = n.stop; rests = n.rests }
+
+  pub begun_is : HasTree h.page w → owned w h.store ≡ one_object → IsConfined (trees_of a.codes.items) w h.store → HaveRaws h.store h.page → IsLib w h.store lib → fuel ≤ most_fuel → IsBegun h w fuel s (seated lib to root a)
+  begun_is tree one confined raws is few =
+      let b = seated lib to root a in
+      let k = lent h b in
+      let c = content_at h.page w s in
+      let grant : a.life.grant ≤ most_fuel = omega (arith, ready.life.granted, few) in
+      let works : AllByRecursion (FineWork (trees_of a.codes.items)) a.life.queue.items = ready.queue.fine tt in
+      record {
+        codes = ready.codes;
+        accepted = ready.life.accepted;
+        fine = fine_is k w b.life ready.life.blank its_new tree one confined raws is grant works its_potentials;
+        seen = seen_is k w b.life ready.life.blank its_new tree one c refl ∙ (λ j. waiting (beginning c (ready.life.granted j)) (ready.queue.are j));
+        few = tally_few k w b.life ready.life.blank its_new tree one confined raws is grant works its_potentials;
+      }
 
 -- ## The others
 

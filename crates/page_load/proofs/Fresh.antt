@@ -12,7 +12,7 @@ use Rattle.object_store.specs.Owned.{is_own_scope, own_cell, own_scope, owned}
 use Rattle.page_nodes.specs.Entries.{body}
 use Rattle.js_image.specs.Held.{IsConfined}
 use Rattle.native_image.specs.Sound.{HasRaw}
-use Rattle.page_load.specs.Laying.{HasNoCells, IsUnused, nothing_owned}
+use Rattle.page_load.specs.Laying.{HasNoCells, IsBare, IsUnused, nothing_owned}
 
 -- a cell of the host is of no widget
 abbrev IsHosts : ℕ → PlainCell → Type 0
@@ -68,9 +68,12 @@ module _ (w : ℕ) where
     paid = none_paid lt j;
   }
 
-  pub first_free : HasNoCells w first_store
+  first_free : HasNoCells w first_store
   unfolding owned
   first_free = record { heap = ap (map (own_cell w host_cells)) (no_cells host_cells (hosts w)); scopes = ap (map (own_scope w host_cells)) (no_scopes host_cells (hosts w)) }
+
+  pub first_bare : IsBare w first_store
+  first_bare = record { cells = first_free; unpaid = first_nothing }
 
 -- `body` has its cell
 pub first_body : HasRaw first_store.cells body

@@ -8,6 +8,7 @@ use Rattle.std.specs.declared.alloc.Global.{Global}
 use Rattle.std.specs.declared.vec.Vec.{Vec}
 use Rattle.std.proofs.Math.Seq.{take-append_seam}
 use Rattle.std.proofs.lemmas.List.{append-nil, append_assoc, flat_map_more, length-append, map-append, length-map, take_all, take_more}
+use Rattle.plain_tree.specs.declared.plain.Plain.{Plain}
 use Rattle.js_tree.specs.Forest.{Forest, IsFun, fun_at, no_trees}
 use Rattle.js_tree.specs.Trees.{program_of, trees}
 use Rattle.js_tree.specs.declared.nodes.FunId.{FunId}
@@ -18,6 +19,7 @@ use Rattle.js_names.specs.Code.{code_trees, tree_in, trees_of}
 use Rattle.widget_meaning.specs.Alone.{beginning, call_parts}
 use Rattle.life_laws.specs.Life as todo
 use Rattle.life_laws.specs.Life.{waiting}
+use Rattle.page_nodes.specs.Entries.{body}
 use Rattle.page_tree.specs.declared.page.Page.{Page}
 use Rattle.slot_picks.specs.turn_calls.declared.turn.Shared.{Shared}
 use Rattle.slot_picks.specs.turn_runs.Held.{IsScriptOf}
@@ -27,27 +29,36 @@ use Rattle.slot_picks.specs.life_queue.declared.life.Work.{Work}
 use Rattle.slot_picks.specs.life_queue.declared.life.Work.TheVariants as work
 use Rattle.slot_picks.specs.life_queue.Lives.{function_of, work_of}
 use Rattle.slot_picks.specs.declared.crowd.Place.{Place}
-use Rattle.slot_picks.specs.life_queue.Fine.{FineWork}
+use Rattle.slot_picks.specs.declared.slots.Slot.{Slot}
+use Rattle.slot_picks.specs.Crowds.{chains_of}
+use Rattle.slot_picks.specs.life_queue.Fine.{FineWork, most_fuel}
 use Rattle.page_spec.specs.declared.SlotSpec.{SlotSpec}
 use Rattle.adsafe_rules.specs.declared.accepted.Accepted.{Accepted}
 use Rattle.adsafe_rules.specs.Accepts.{tree_of}
-use Rattle.page_load.specs.Homes.{names_of}
+use Rattle.page_load.specs.Homes.{fuels_of, names_of}
+use Rattle.page_load.specs.Loads.{HaveFewFuel, singles}
 use Rattle.page_load.specs.declared.codes.Start.{Start}
 use Rattle.page_load.specs.declared.codes.Scripts.{Scripts}
-use Rattle.page_load.specs.Laying.{HasNoCells}
-use Rattle.page_load.specs.Lives.{ArePlaces, BeginsWith, HasTree, HaveTrees, IsBegun, IsNobodys, IsPlaceOf, IsPlaceWith, KeepsOthers, content_at}
+use Rattle.page_load.specs.Laying.{IsBare}
+use Rattle.page_load.specs.Lives.{ArePlaces, HasTree, HaveRoots, HaveTrees, IsBegun, IsIn, IsNewLife, IsNobodys, IsPlaceOf, IsPlaceWith, IsReady, IsUnborn, KeepsOthers, content_at}
 use Rattle.page_load.specs.Queues.{IsQueued, go_works, libraries_works, library_works, loads, program_with, programs_of}
-use Rattle.page_load.specs.Starts.{AreScripts, AreStarts, IsStart}
+use Rattle.page_load.specs.Starts.{AreScripts, AreScriptsAt, AreStarts, IsStart}
 use Rattle.page_spec.specs.declared.SlotContent.{SlotContent}
 use Rattle.page_spec.specs.declared.SlotContent.TheVariants as slot
-use Rattle.page_load.proofs.Due.{few_loads}
-use Rattle.page_load.proofs.Lots.{no_cells}
+use Rattle.page_load.proofs.Lots.{bare_stays}
 
 none_some : {A : Type 0} {a : A} → None ≡ Some a → ⊥
 none_some e = cc
 
 some_some : {A : Type 0} (a b : A) → Some a ≡ Some b → a ≡ b
 some_some a b e = cc
+
+-- where an element of a longer list stands
+front_or_last : {X : Type 0} (xs : List X) (x y : X) (n : ℕ) → slice_get (xs ++ x ∷ []) n ≡ Some y → (slice_get xs n ≡ Some y) ⊎ ((n ≡ length xs) × (x ≡ y))
+front_or_last [] x y zero at = inr (refl, some_some x y at)
+front_or_last [] x y (suc n) at = absurd (none_some at)
+front_or_last (z ∷ xs) x y zero at = inl at
+front_or_last (z ∷ xs) x y (suc n) at = ⊎_elim (λ e. inl e) (λ e. inr (ap suc e.0, e.1)) (front_or_last xs x y n at)
 
 -- ## Queues
 
@@ -180,8 +191,8 @@ module _ (ts : List Tree) (places : List ℕ) (i : ℕ) where
 
 -- ## Slots with their scripts
 
-pub scripts_are : (ts : List Tree) (content : SlotContent) (body : _) (places : Vec ℕ Global) (script : Accepted) (s : Scripts) → content ≡ slot.Runs body places script → map (λ (c : Code). Some (tree_in c)) s.libs.items ≡ map (slice_get ts) places.items → tree_in s.script ≡ tree_of script → AreScripts ts content (Some s)
-scripts_are ts content body places script s is are last = subst (λ x. AreScripts ts x (Some s)) (sym is) (are, last)
+pub scripts_are : (ts : List Tree) (content : SlotContent) (tree : Plain) (places : Vec ℕ Global) (script : Accepted) (s : Scripts) → content ≡ slot.Runs tree places script → AreScriptsAt ts places.items script s → AreScripts ts content (Some s)
+scripts_are ts content tree places script s is are = subst (λ x. AreScripts ts x (Some s)) (sym is) are
 
 pub no_scripts : (ts : List Tree) (content : SlotContent) → content ≡ slot.Refused → AreScripts ts content None
 no_scripts ts content is = subst (λ x. AreScripts ts x None) (sym is) tt
@@ -198,35 +209,71 @@ starts_none ts starts e = subst (AreStarts ts []) (sym e) tt
 pub starts_more : (ts : List Tree) (slots : List SlotSpec) (starts new : List Start) (s : SlotSpec) (a : Start) → AreStarts ts slots starts → IsStart ts s a → new ≡ starts ++ a ∷ [] → AreStarts ts (slots ++ s ∷ []) new
 starts_more ts slots starts new s a h is after = subst (AreStarts ts (slots ++ s ∷ [])) (sym after) (starts_push ts slots starts s a h is)
 
--- ## Names
+-- ## Slots
 
-pub names_more : (slots : List SlotSpec) (i : ℕ) (s : SlotSpec) → i < length slots → s ≡ get_or slots i s → (old new : List (List ℕ)) (name : List ℕ) → old ≡ names_of (take i slots) → name ≡ s.name → new ≡ old ++ name ∷ [] → new ≡ names_of (take (i + 1) slots)
-names_more slots i s lt is old new name before same after =
-    after ∙ (λ j. before j ++ same j ∷ []) ∙ sym (map-append (λ (x : SlotSpec). x.name) (take i slots) (s ∷ []))
-    ∙ ap names_of (sym (take_more slots i s lt ∙ ap (λ x. take i slots ++ x ∷ []) (sym is)))
+slots_take : (specs : List SlotSpec) (i : ℕ) (x : SlotSpec) → i < length specs → x ≡ get_or specs i x → take (i + 1) specs ≡ take i specs ++ x ∷ []
+slots_take specs i x lt is = take_more specs i x lt ∙ ap (λ y. take i specs ++ y ∷ []) (sym is)
 
-pub names_all : (slots : List SlotSpec) (i : ℕ) → length slots ≤ i → (names : List (List ℕ)) → names ≡ names_of (take i slots) → names ≡ names_of slots
-names_all slots i le names are = are ∙ ap names_of (take_all i slots le)
+pub names_more : (specs : List SlotSpec) (i : ℕ) (x : SlotSpec) → i < length specs → x ≡ get_or specs i x → (old new : List Slot) (s : Slot) → map (λ (t : Slot). t.name) old ≡ names_of (take i specs) → s.name ≡ x.name → new ≡ old ++ s ∷ [] → map (λ (t : Slot). t.name) new ≡ names_of (take (i + 1) specs)
+names_more specs i x lt is old new s before same after =
+    ap (map (λ (t : Slot). t.name)) after ∙ map-append (λ (t : Slot). t.name) old (s ∷ []) ∙ (λ j. before j ++ same j ∷ []) ∙ sym (map-append (λ (t : SlotSpec). t.name) (take i specs) (x ∷ []))
+    ∙ ap names_of (sym (slots_take specs i x lt is))
+
+pub fuels_more : (specs : List SlotSpec) (i : ℕ) (x : SlotSpec) → i < length specs → x ≡ get_or specs i x → (old new : List Slot) (s : Slot) → map (λ (t : Slot). t.fuel) old ≡ fuels_of (take i specs) → s.fuel ≡ x.fuel → new ≡ old ++ s ∷ [] → map (λ (t : Slot). t.fuel) new ≡ fuels_of (take (i + 1) specs)
+fuels_more specs i x lt is old new s before same after =
+    ap (map (λ (t : Slot). t.fuel)) after ∙ map-append (λ (t : Slot). t.fuel) old (s ∷ []) ∙ (λ j. before j ++ same j ∷ []) ∙ sym (map-append (λ (t : SlotSpec). t.fuel) (take i specs) (x ∷ []))
+    ∙ ap fuels_of (sym (slots_take specs i x lt is))
+
+pub specs_all : (specs : List SlotSpec) (i : ℕ) → length specs ≤ i → take i specs ≡ specs
+specs_all specs i le = take_all i specs le
+
+pub few_none : (slots : List Slot) → slots ≡ [] → HaveFewFuel slots
+few_none slots e = λ w s at. absurd (none_some (sym (ap (λ ss. slice_get ss w) e) ∙ at))
+
+pub few_more : (old new : List Slot) (s : Slot) → HaveFewFuel old → s.fuel ≤ most_fuel → new ≡ old ++ s ∷ [] → HaveFewFuel new
+few_more old new s few here after = λ w t at.
+    ⊎_elim (λ e. few w t e) (λ e. subst (λ (x : Slot). x.fuel ≤ most_fuel) e.1 here) (front_or_last old s t w (ap (λ ss. slice_get ss w) (sym after) ∙ at))
+
+singles_more : (v n : ℕ) → singles v n ++ ((v + n) ∷ []) ∷ [] ≡ singles v (n + 1)
+singles_more v zero = ap (λ x. (x ∷ []) ∷ []) (here v)
+  where
+    here : (v : ℕ) → v + 0 ≡ v
+    here v = omega arith
+singles_more v (suc n) =
+    ap (λ x. (v ∷ []) ∷ (singles (v + 1) n ++ (x ∷ []) ∷ [])) (next v n) ∙ ap (λ cs. (v ∷ []) ∷ cs) (singles_more (v + 1) n) ∙ ap (singles v) (past n)
+  where
+    next : (v n : ℕ) → v + suc n ≡ (v + 1) + n
+    next v n = omega arith
+
+    past : (n : ℕ) → suc (n + 1) ≡ suc n + 1
+    past n = omega arith
+
+pub chains_more : (old new : List Slot) (n : ℕ) (s : Slot) → chains_of old ≡ singles 0 n → s.lives.items ≡ n ∷ [] → new ≡ old ++ s ∷ [] → chains_of new ≡ singles 0 (n + 1)
+chains_more old new n s are its after =
+    ap chains_of after ∙ map-append (λ (x : Slot). x.lives.items) old (s ∷ []) ∙ (λ j. are j ++ its j ∷ []) ∙ ap (λ x. singles 0 n ++ (x ∷ []) ∷ []) (here n) ∙ singles_more 0 n
+  where
+    here : (n : ℕ) → n ≡ 0 + n
+    here n = omega arith
 
 -- ## Places
 
 -- where a place came, a number that is no accepted life's has no cell
 pub nobodys_more : (h k : Shared) (places new : List Place) (w : ℕ) (b : Place) → length places ≡ w → KeepsOthers w h k → (b.life.accepted ≡ false → k ≡ h) → new ≡ places ++ b ∷ []
-    → ((v : ℕ) → IsNobodys places v → HasNoCells v h.store) → (v : ℕ) → IsNobodys new v → HasNoCells v k.store
+    → ((v : ℕ) → IsNobodys places v → IsBare v h.store) → (v : ℕ) → IsNobodys new v → IsBare v k.store
 nobodys_more h k places new w b long keeps same after was v none = by (eqb w v) refl
   where
     no_true : false ≡ true → ⊥
     no_true e = cc
 
-    before : HasNoCells v h.store
+    before : IsBare v h.store
     before = was v (λ a at. none a (ap (λ ps. slice_get ps v) after ∙ get_front places (b ∷ []) v a at))
 
     refused : w ≡ v → b.life.accepted ≡ false
     refused g = none b ((λ j. slice_get (after j) ((sym g ∙ sym long) j)) ∙ get_last places b)
 
-    by : (t : Bool) → eqb w v ≡ t → HasNoCells v k.store
-    by true e = subst (λ (m : Shared). HasNoCells v m.store) (sym (same (refused (eqb-true w v e)))) before
-    by false e = no_cells v h.store k.store (keeps.others v (λ g. no_true (sym e ∙ eq-eqb w v g))) before
+    by : (t : Bool) → eqb w v ≡ t → IsBare v k.store
+    by true e = subst (λ (m : Shared). IsBare v m.store) (sym (same (refused (eqb-true w v e)))) before
+    by false e = bare_stays v h.store k.store (keeps.others v (λ g. no_true (sym e ∙ eq-eqb w v g))) before
 
 module _ (w : ℕ) (h k : Shared) (keeps : KeepsOthers w h k) (v : ℕ) (lt : v < 32) (ne : w ≡ v → ⊥) where
   begun_stays : (fuel : ℕ) (s : Scripts) (a : Place) → IsBegun h v fuel s a → IsBegun k v fuel s a
@@ -236,7 +283,6 @@ module _ (w : ℕ) (h k : Shared) (keeps : KeepsOthers w h k) (v : ℕ) (lt : v 
     fine = keeps.fine v a lt ne b.fine;
     seen = keeps.seen v a lt ne b.fine ∙ b.seen ∙ ap (λ (p : Page). waiting (beginning (content_at p v s) fuel) (loads (content_at p v s))) (sym keeps.page);
     few = b.few;
-    told = b.told;
   }
 
   with_stays : (fuel : ℕ) (o : Option Scripts) (a : Place) → IsPlaceWith h v fuel o a → IsPlaceWith k v fuel o a
@@ -247,30 +293,17 @@ module _ (w : ℕ) (h k : Shared) (keeps : KeepsOthers w h k) (v : ℕ) (lt : v 
   place_stays None a i = i
   place_stays (Some start) a i = with_stays start.fuel start.scripts a i
 
--- a life begins with the load turns of these scripts
-module _ (k : Shared) (w fuel : ℕ) (s : Scripts) (codes : Vec Code Global) (queue : List Work) (are : codes.items ≡ s.libs.items ++ s.script ∷ []) (few : length codes.items ≤ 2 ^ 31)
-    (queued : (libs : List Code) (script : Code) → codes.items ≡ libs ++ script ∷ [] → IsQueued (trees_of codes.items) [] queue (libraries_works (programs_of libs) ++ go_works (call_parts (program_of (tree_in script))))) where
-  its_queue : IsQueued (trees_of codes.items) [] queue (loads (content_at k.page w s))
-  its_queue = queued s.libs.items s.script are
-
-  its_potentials : todo.potentials (map (work_of (trees_of codes.items)) queue) ≤ 2 ^ 31
-  its_potentials =
-      let one = ap length are ∙ length-append s.libs.items (s.script ∷ []) in
-      omega (arith, ap todo.potentials its_queue.are, few_loads (programs_of s.libs.items) (program_of (tree_in s.script)), length-map s.libs.items (λ (c : Code). program_of (tree_in c)), one, few)
-
-  pub is_begun : (l : Life)
-      → ((cs : Vec Code Global) → AllByRecursion (FineWork (trees_of cs.items)) queue → todo.potentials (map (work_of (trees_of cs.items)) queue) ≤ 2 ^ 31 → BeginsWith (record k { codes = cs }) w fuel (map (work_of (trees_of cs.items)) queue) l)
-      → IsBegun k w fuel s (record { life = l; codes = codes })
-  is_begun l begins =
-      let b = begins codes (its_queue.fine tt) its_potentials in
-      record {
-        codes = are;
-        accepted = b.accepted;
-        fine = b.fine;
-        seen = b.seen (content_at k.page w s) refl ∙ ap (waiting (beginning (content_at k.page w s) fuel)) its_queue.are;
-        few = b.few;
-        told = b.told;
-      }
+-- a new life with these trees and these load turns is ready
+pub place_ready : (w fuel : ℕ) (s : Scripts) (codes : Vec Code Global) (cs : List Code) → cs ≡ codes.items → codes.items ≡ s.libs.items ++ s.script ∷ [] → length cs ≤ 2 ^ 31 → (queue : List Work)
+    → ((libs : List Code) (script : Code) → cs ≡ libs ++ script ∷ [] → IsQueued (trees_of cs) [] queue (libraries_works (programs_of libs) ++ go_works (call_parts (program_of (tree_in script)))))
+    → (l : Life) → IsNewLife w fuel l → l.queue.items ≡ queue → (root told : ℕ) → IsReady w fuel s (record { life = l; codes = codes; root = root; told = told })
+place_ready w fuel s codes cs same are few queue queued l new its root told = record {
+  codes = are;
+  many = subst (λ (xs : List Code). length xs ≤ 2 ^ 31) same few;
+  life = new;
+  queue = subst (λ (xs : List Code). IsQueued (trees_of xs) [] l.queue.items (libraries_works (programs_of s.libs.items) ++ go_works (call_parts (program_of (tree_in s.script))))) same
+      (subst (λ q. IsQueued (trees_of cs) [] q (libraries_works (programs_of s.libs.items) ++ go_works (call_parts (program_of (tree_in s.script))))) (sym its) (queued s.libs.items s.script (same ∙ are)));
+}
 
 -- what holds whatever is answered
 pub all_ok : {T E : Type 0} (r : Result T E) {P : T → Type 0} → ((x : T) → P x) → IfOk r P
@@ -286,17 +319,10 @@ within [] n x at = absurd (none_some at)
 within (y ∷ xs) zero x at = omega arith
 within (y ∷ xs) (suc n) x at = omega (arith, within xs n x at)
 
--- where an element of a longer list stands
-front_or_last : {X : Type 0} (xs : List X) (x y : X) (n : ℕ) → slice_get (xs ++ x ∷ []) n ≡ Some y → (slice_get xs n ≡ Some y) ⊎ ((n ≡ length xs) × (x ≡ y))
-front_or_last [] x y zero at = inr (refl, some_some x y at)
-front_or_last [] x y (suc n) at = absurd (none_some at)
-front_or_last (z ∷ xs) x y zero at = inl at
-front_or_last (z ∷ xs) x y (suc n) at = ⊎_elim (λ e. inl e) (λ e. inr (ap suc e.0, e.1)) (front_or_last xs x y n at)
-
 pub places_none : (h : Shared) (starts : List Start) (places : List Place) → places ≡ [] → ArePlaces h starts places
 places_none h starts places e = λ v a at. absurd (none_some (sym (ap (λ ps. slice_get ps v) e) ∙ at))
 
-pub places_more : (h k : Shared) (starts : List Start) (places new : List Place) (w : ℕ) (b : Place) → length places ≡ w → w < 20 → KeepsOthers w h k → ArePlaces h starts places → b.life.slot ≡ w → IsPlaceOf k w (slice_get starts w) b → new ≡ places ++ b ∷ [] → ArePlaces k starts new
+pub places_more : (h k : Shared) (starts : List Start) (places new : List Place) (w : ℕ) (b : Place) → length places ≡ w → w < 20 → KeepsOthers w h k → ArePlaces h starts places → IsIn w b → IsPlaceOf k w (slice_get starts w) b → new ≡ places ++ b ∷ [] → ArePlaces k starts new
 places_more h k starts places new w b long few keeps are slot is after = λ v a at.
     ⊎_elim
     (λ e. let low = within places v a e in (
@@ -304,10 +330,39 @@ places_more h k starts places new w b long few keeps are slot is after = λ v a 
       place_stays w h k keeps v (omega (arith, low, long, few)) (λ g. omega (arith, g, low, long)) (slice_get starts v) a (are v a e).1,
     ))
     (λ e. let here : w ≡ v = sym long ∙ sym e.0 in (
-      ap (λ (x : Place). x.life.slot) (sym e.1) ∙ slot ∙ here,
+      subst (λ x. IsIn x a) here (subst (IsIn w) e.1 slot),
       subst (λ x. IsPlaceOf k x (slice_get starts x) a) here (subst (IsPlaceOf k w (slice_get starts w)) e.1 is),
     ))
     (front_or_last places b a v (ap (λ ps. slice_get ps v) (sym after) ∙ at))
+
+pub roots_none : (roots : List ℕ) (places : List Place) → places ≡ [] → HaveRoots roots places
+roots_none roots places e = λ v a at. absurd (none_some (sym (ap (λ ps. slice_get ps v) e) ∙ at))
+
+pub roots_more : (roots : List ℕ) (places new : List Place) (w : ℕ) (b : Place) → length places ≡ w → HaveRoots roots places → b.root ≡ slice_index_or roots w body → new ≡ places ++ b ∷ [] → HaveRoots roots new
+roots_more roots places new w b long are is after = λ v a at.
+    ⊎_elim
+    (λ e. are v a e)
+    (λ e. ap (λ (x : Place). x.root) (sym e.1) ∙ is ∙ ap (λ x. slice_index_or roots x body) (sym long ∙ sym e.0))
+    (front_or_last places b a v (ap (λ ps. slice_get ps v) (sym after) ∙ at))
+
+-- a place with another node that stands for it
+module _ (h : Shared) (w n : ℕ) (a : Place) where
+  pub in_rooted : IsIn w a → IsIn w (record a { root = n })
+  in_rooted i = record { slot = i.slot; told = i.told }
+
+  begun_rooted : (fuel : ℕ) (s : Scripts) → IsBegun h w fuel s a → IsBegun h w fuel s (record a { root = n })
+  begun_rooted fuel s b = record { codes = b.codes; accepted = b.accepted; fine = b.fine; seen = b.seen; few = b.few }
+
+  unborn_rooted : IsUnborn a → IsUnborn (record a { root = n })
+  unborn_rooted u = record { refused = u.refused; codes = u.codes }
+
+  with_rooted : (fuel : ℕ) (o : Option Scripts) → IsPlaceWith h w fuel o a → IsPlaceWith h w fuel o (record a { root = n })
+  with_rooted fuel None i = unborn_rooted i
+  with_rooted fuel (Some s) i = begun_rooted fuel s i
+
+  pub rooted : (o : Option Start) → IsPlaceOf h w o a → IsPlaceOf h w o (record a { root = n })
+  rooted None i = unborn_rooted i
+  rooted (Some start) i = with_rooted start.fuel start.scripts i
 
 -- ## What is still to come
 

@@ -1,10 +1,12 @@
 mod Handing
 mod Due
 mod Numbering
+mod Spots
 mod Fresh
 mod Objects
 mod Begun
-mod Joining
+mod Whole
+mod Arriving
 mod Lots
 mod Growing
 -- Handed on to the crates above, which name it so.

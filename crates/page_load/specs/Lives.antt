@@ -1,20 +1,20 @@
 -- The places of all lives with which a host begins, while they are made.
-use Rattle.std.specs.Prelude.{◌≡◌, ℕ, ◌+◌, ◌<◌, ◌≤◌, ◌^◌, ◌++◌, List, [], ◌∷◌, false, true, length, Option, None, Some, IfSome, slice_get}
+use Rattle.std.specs.Prelude.{◌≡◌, ℕ, ◌+◌, ◌<◌, ◌≤◌, ◌^◌, ◌++◌, List, [], ◌∷◌, false, true, length, Option, None, Some, IfSome, slice_get, slice_index_or}
 use Rattle.plain_tree.specs.Trees.{size}
 use Rattle.tree_ops.specs.Trees.{numbered}
 use Rattle.js_tree.specs.Trees.{program_of}
-use Rattle.js_names.specs.Code.{tree_in}
+use Rattle.js_names.specs.Code.{tree_in, trees_of}
 use Rattle.store_cells.specs.declared.value.Value.TheVariants as value
 use Rattle.store_cells.specs.Cells.{Cells}
 use Rattle.object_store.specs.Owned.{owned}
 use Rattle.js_image.specs.Held.{IsHeld}
 use Rattle.js_image.specs.Image.{seen}
+use Rattle.page_nodes.specs.Entries.{body}
 use Rattle.page_tree.specs.declared.page.Page.{Page}
 use Rattle.page_image.specs.Image.{HasRoot, forest, own}
 use Rattle.event_loop.specs.Around.{clock, focus, kept, timers}
 use Rattle.event_loop.specs.Kept.{nothing}
-use Rattle.widget_meaning.specs.Alone.{Content, beginning, lib}
-use Rattle.life_laws.specs.Life as todo
+use Rattle.widget_meaning.specs.Alone.{Content, beginning, call_parts, lib}
 use Rattle.life_laws.specs.Life.{waiting}
 use Rattle.slot_picks.specs.turn_calls.declared.turn.Shared.{Shared}
 use Rattle.slot_picks.specs.turn_calls.declared.turn.Widget.{Widget}
@@ -27,7 +27,7 @@ use Rattle.page_build.specs.Homes.{HaveRaws}
 use Rattle.page_load.specs.declared.codes.Scripts.{Scripts}
 use Rattle.page_load.specs.declared.codes.Start.{Start}
 use Rattle.page_load.specs.Laying.{IsUnused}
-use Rattle.page_load.specs.Queues.{loads, programs_of}
+use Rattle.page_load.specs.Queues.{IsQueued, go_works, libraries_works, loads, programs_of}
 
 -- ## Before
 
@@ -66,14 +66,29 @@ pub record IsBlank (w : ℕ) (a : Widget) : Type 0 where
   pub no_log : a.log.items ≡ []
   pub no_posts : a.posts.items ≡ []
 
--- A life begins with these works, and no round has taken a post of it.
-pub record BeginsWith (h : Shared) (w grant : ℕ) (works : List todo.Work) (l : Life) : Type 0 where
-  pub slot : l.slot ≡ w
+-- Nothing is recorded of a life, and no turn is in progress.
+pub record IsNew (l : Life) : Type 0 where
+  pub uncaught : l.records.uncaught.items ≡ []
+  pub turns : l.records.turns ≡ 0
+  pub spent : l.records.spent ≡ 0
+  pub missed : l.records.missed ≡ 0
+  pub gone : l.records.gone ≡ 0
+  pub stop : l.records.stop ≡ None
+  pub rests : l.turn ≡ None
+
+-- An accepted life that has done nothing.
+pub record IsNewLife (w grant : ℕ) (l : Life) : Type 0 where
   pub accepted : l.accepted ≡ true
-  pub fine : FineLife h w l
-  pub seen : (c : Content) → c.root ≡ forest h.page w → life_seen h w l ≡ waiting (beginning c grant) works
-  pub few : tally h w l ≤ 2 ^ 31
-  pub told : l.told ≡ 0
+  pub granted : l.grant ≡ grant
+  pub blank : IsBlank w l.widget
+  pub new : IsNew l
+
+-- A new life with the trees of these scripts, and their load turns in its queue.
+pub record IsReady (w fuel : ℕ) (s : Scripts) (a : Place) : Type 0 where
+  pub codes : a.codes.items ≡ s.libs.items ++ s.script ∷ []
+  pub many : length a.codes.items ≤ 2 ^ 31
+  pub life : IsNewLife w fuel a.life
+  pub queue : IsQueued (trees_of a.codes.items) [] a.life.queue.items (libraries_works (programs_of s.libs.items) ++ go_works (call_parts (program_of (tree_in s.script))))
 
 -- What making one life keeps: the page, which trees are shared, that nodes have their cells, what all others have in the store, what is seen of all other lives, and that they are sound; and the widgets behind it have nothing yet.
 pub record KeepsOthers (w : ℕ) (h k : Shared) : Type 0 where
@@ -94,7 +109,11 @@ pub record IsBegun (h : Shared) (w fuel : ℕ) (s : Scripts) (a : Place) : Type 
   pub fine : FineLife (lent h a) w a.life
   pub seen : life_seen (lent h a) w a.life ≡ waiting (beginning (content_at h.page w s) fuel) (loads (content_at h.page w s))
   pub few : tally (lent h a) w a.life ≤ 2 ^ 31
-  pub told : a.life.told ≡ 0
+
+-- The life of a place is of this slot, and no round has taken a post of it.
+pub record IsIn (w : ℕ) (a : Place) : Type 0 where
+  pub slot : a.life.slot ≡ w
+  pub told : a.told ≡ 0
 
 -- No life is accepted in a place, and no trees are there.
 pub record IsUnborn (a : Place) : Type 0 where
@@ -115,6 +134,10 @@ IsPlaceOf h w (Some start) a = IsPlaceWith h w start.fuel start.scripts a
 abbrev pub IsNobodys : List Place → ℕ → Type 0
 IsNobodys places v = (a : Place) → slice_get places v ≡ Some a → a.life.accepted ≡ false
 
--- so it is with each place, and the slot of its life is that of its number
+-- the node that stands for each life in its slot is one of these; behind them it is `body`
+abbrev pub HaveRoots : List ℕ → List Place → Type 0
+HaveRoots roots places = (v : ℕ) (a : Place) → slice_get places v ≡ Some a → a.root ≡ slice_index_or roots v body
+
+-- so it is with each place
 abbrev pub ArePlaces : Shared → List Start → List Place → Type 0
-ArePlaces h starts places = (v : ℕ) (a : Place) → slice_get places v ≡ Some a → (a.life.slot ≡ v) × IsPlaceOf h v (slice_get starts v) a
+ArePlaces h starts places = (v : ℕ) (a : Place) → slice_get places v ≡ Some a → IsIn v a × IsPlaceOf h v (slice_get starts v) a

@@ -1,6 +1,7 @@
 -- The slots of a page, with the trees of their scripts.
-use Rattle.std.specs.Prelude.{◌≡◌, List, [], ◌∷◌, Option, None, Some, map, slice_get}
+use Rattle.std.specs.Prelude.{◌≡◌, ℕ, List, [], ◌∷◌, Option, None, Some, map, slice_get}
 use Rattle.js_tree.specs.declared.tree.Tree.{Tree}
+use Rattle.adsafe_rules.specs.declared.accepted.Accepted.{Accepted}
 use Rattle.adsafe_rules.specs.Accepts.{tree_of}
 use Rattle.js_names.specs.declared.code.Code.{Code}
 use Rattle.js_names.specs.Code.{tree_in}
@@ -10,9 +11,14 @@ use Rattle.page_spec.specs.declared.SlotSpec.{SlotSpec}
 use Rattle.page_load.specs.declared.codes.Scripts.{Scripts}
 use Rattle.page_load.specs.declared.codes.Start.{Start}
 
--- the scripts of a slot, over the trees of the libraries of its page; none of a slot that was refused
+-- The scripts of a widget, over the trees of the libraries of its page.
+pub record AreScriptsAt (ts : List Tree) (places : List ℕ) (script : Accepted) (s : Scripts) : Type 0 where
+  pub libs : map (λ (c : Code). Some (tree_in c)) s.libs.items ≡ map (slice_get ts) places
+  pub last : tree_in s.script ≡ tree_of script
+
+-- the scripts of a slot; none of one that was refused
 abbrev pub AreScripts : List Tree → SlotContent → Option Scripts → Type 0
-AreScripts ts (slot.Runs body places script) (Some s) = (map (λ (c : Code). Some (tree_in c)) s.libs.items ≡ map (slice_get ts) places.items) × (tree_in s.script ≡ tree_of script)
+AreScripts ts (slot.Runs body places script) (Some s) = AreScriptsAt ts places.items script s
 AreScripts ts slot.Refused None = Unit {0}
 AreScripts ts content scripts = ⊥
 

@@ -3,7 +3,7 @@
 ghost use Rattle.std.specs.Prelude.{◌≡◌, ◌++◌, [], ◌∷◌, IfOk, Some, map, slice_get};
 ghost use Rattle.adsafe_rules.specs.Accepts.{tree_of};
 ghost use Rattle.js_names.specs.Code.{tree_in};
-ghost use Rattle.page_load.specs.Starts.{AreScripts, AreStarts, IsStart};
+ghost use Rattle.page_load.specs.Starts.{AreScripts, AreScriptsAt, AreStarts, IsStart};
 
 use adsafe_rules::Accepted;
 use code_units::Memory;
@@ -66,6 +66,20 @@ fn libraries_at(alloc: Global, libs: &[Code], places: &[u32]) -> Result<Vec<Code
     Ok(codes)
 }
 
+/// The scripts of a widget, over the libraries of its page.
+pub(crate) fn scripts_with(
+    alloc: Global,
+    libs: &[Code],
+    places: &[u32],
+    script: Accepted,
+) -> Result<Scripts, Memory>
+    ensures { IfOk result (AreScriptsAt (map tree_in libs.now) places.now script) }
+{
+    let libs = libraries_at(alloc, libs, places)?;
+    let script = code_of(alloc, script)?;
+    Ok(Scripts { libs, script })
+}
+
 // The scripts of a slot, over the libraries of its page.
 fn scripts_of(alloc: Global, libs: &[Code], content: SlotContent) -> Result<Option<Scripts>, Memory>
     ensures { IfOk result (AreScripts (map tree_in libs.now) content) }
@@ -76,9 +90,8 @@ fn scripts_of(alloc: Global, libs: &[Code], content: SlotContent) -> Result<Opti
             script,
             ..
         } => {
-            let libs = libraries_at(alloc, libs, &places)?;
-            let script = code_of(alloc, script)?;
-            Ok(Some(Scripts { libs, script }))
+            let scripts = scripts_with(alloc, libs, &places, script)?;
+            Ok(Some(scripts))
         }
         SlotContent::Refused => Ok(None),
     }

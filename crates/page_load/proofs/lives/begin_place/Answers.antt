@@ -1,26 +1,24 @@
-use Rattle.std.proofs.Common.{◌≡◌, ◌≤◌, ◌++◌, [], ◌∷◌, ◌∙◌, List, ap, arith, length, subst}
-use Rattle.std.specs.Prelude.{◌^◌}
-use Rattle.std.proofs.lemmas.List.{length_push}
-use Rattle.js_tree.specs.Trees.{program_of}
-use Rattle.js_names.specs.declared.code.Code.{Code}
-use Rattle.js_names.specs.Code.{tree_in, trees_of}
-use Rattle.widget_meaning.specs.Alone.{call_parts}
-use Rattle.page_load.specs.Queues.{IsQueued, go_works, libraries_works, programs_of}
-use Rattle.page_load.proofs.Growing.{is_begun}
+use Rattle.std.proofs.Common.{arith, refl}
+use Rattle.js_names.specs.Code.{trees_of}
+use Rattle.slot_picks.specs.turn_calls.declared.turn.Shared.{Shared}
+use Rattle.page_load.proofs.Begun.{begun_is, keeps_begun, raws_kept, unused_behind}
 use Rattle.page_load.proofs.lives.begin_place.Goals as goal
 
-pub load_turns-requires : goal.load_turns-requires
-load_turns-requires c =
-    let long = length_push c.args.scripts.libs.items c.args.scripts.script in
-    omega (arith, ap (length {A = Code}) (c.deref.ensures.value ∙ c.in_ok-codes.ensures), long)
-
-pub begin_life-requires-clause-grant : goal.begin_life-requires-clause-grant
-begin_life-requires-clause-grant c = omega (arith, c.if-fuel-gt-MOST_FUEL.false)
+pub make_lib-requires-clause-nothing : goal.make_lib-requires-clause-nothing
+make_lib-requires-clause-nothing c = c.requires.unused.nothing c.args.w (omega arith) c.requires.widget
 
 pub returns-clause-begun : goal.returns-clause-begun
 returns-clause-begun c =
-    let queue = c.in_ok-queue.queue.items in
-    is_begun c.begin_life.new.shared c.args.w c.args.fuel c.args.scripts c.in_ok-codes.codes queue c.in_ok-codes.ensures
-    (subst (λ (cs : List Code). length cs ≤ 2 ^ 31) c.deref.ensures.value c.in_ok-queue.ensures.few)
-    (subst (λ (cs : List Code). (libs : List Code) (script : Code) → cs ≡ libs ++ script ∷ [] → IsQueued (trees_of cs) [] queue (libraries_works (programs_of libs) ++ go_works (call_parts (program_of (tree_in script))))) c.deref.ensures.value c.in_ok-queue.ensures.queued)
-    c.in_ok-life.life c.in_ok-life.ensures.begins
+    let h : Shared = c.args.shared.now in
+    let k : Shared = record h { store = c.make_lib.new.store } in
+    let a = c.in_ok-place.place in
+    let kept = c.in_ok-lib.ensures.kept in
+    begun_is k c.args.w c.args.fuel c.args.scripts a c.in_ok-place.ensures.ready c.in_ok-lib.lib a.life.slot a.root c.requires.tree c.in_ok-lib.ensures.one
+    ((unused_behind c.args.w h k.store kept c.requires.unused c.requires.raws).confined (trees_of a.codes.items) c.args.w)
+    (raws_kept c.args.w h k.store kept c.requires.unused c.requires.raws)
+    c.in_ok-lib.ensures.lib (omega (arith, c.if-fuel-gt-MOST_FUEL.false))
+
+pub returns-clause-others : goal.returns-clause-others
+returns-clause-others c =
+    let h : Shared = c.args.shared.now in
+    keeps_begun c.args.w h (record h { store = c.make_lib.new.store }) refl refl c.in_ok-lib.ensures.kept c.requires.unused c.requires.raws

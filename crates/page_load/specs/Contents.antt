@@ -1,0 +1,30 @@
+-- What stands in a slot, over the trees of the libraries of its page.
+use Rattle.std.specs.Prelude.{◌≡◌, ℕ, ◌++◌, List, [], ◌∷◌, map, Option, None, Some, slice_get}
+use Rattle.std.specs.Option.{option_map_or}
+use Rattle.plain_tree.specs.Plains.{placed}
+use Rattle.tree_ops.specs.Trees.{numbered}
+use Rattle.js_tree.specs.Plain.{NoStmts, Stmts}
+use Rattle.js_tree.specs.declared.tree.Tree.{Tree}
+use Rattle.js_tree.specs.Trees.{program_of}
+use Rattle.adsafe_rules.specs.Accepts.{tree_of}
+use Rattle.widget_meaning.specs.Alone.{Content}
+use Rattle.page_spec.specs.declared.SlotContent.{SlotContent}
+use Rattle.page_spec.specs.declared.SlotContent.TheVariants as slot
+
+-- the program of the library at a place
+abbrev pub program_there : List Tree → ℕ → Stmts
+program_there ts place = option_map_or program_of (slice_get ts place) NoStmts
+
+-- the widget of a slot; none where it is refused. Over the trees of accepted libraries it is their `content_of`
+abbrev pub content_in : List Tree → SlotContent → Option Content
+content_in ts (slot.Runs body places script) = Some (record {
+  root = numbered 0 (placed body);
+  libraries = map (program_there ts) places.items;
+  script = program_of (tree_of script);
+})
+content_in ts slot.Refused = None
+
+-- the scripts of a slot: those of the libraries that it names, each there, in their order, and then its last script; none where it is refused
+abbrev pub HasScriptsIn : List Tree → SlotContent → List Tree → Type 0
+HasScriptsIn ts (slot.Runs body places script) own = map Some own ≡ map (slice_get ts) places.items ++ Some (tree_of script) ∷ []
+HasScriptsIn ts slot.Refused own = own ≡ []
