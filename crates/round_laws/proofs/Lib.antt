@@ -1,0 +1,4 @@
+pub mod Rounding
+pub mod Ending
+pub mod Parting
+pub mod LawsHold
