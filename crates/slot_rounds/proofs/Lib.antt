@@ -1,0 +1,11 @@
+pub mod More
+pub mod Feeding
+pub mod Untold
+pub mod Queues
+pub mod Lasts
+pub mod Rounds
+pub mod Gathering
+pub mod Seen
+pub mod Taken
+pub mod Sound
+pub mod Looping

@@ -1,0 +1,6 @@
+use Rattle.std.proofs.Common.{◌≡◌, map, take}
+use Rattle.page_load.specs.slot_picks.declared.slots.Slot.{Slot}
+use Rattle.slot_rounds.proofs.posting.all_names.Given as goal
+
+abbrev pub invariant-slots : goal.invariant-slots
+invariant-slots l = l.names.items ≡ map (λ (s : Slot). s.name) (take l.slot-index l.slots)

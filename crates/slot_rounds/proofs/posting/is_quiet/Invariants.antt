@@ -1,0 +1,10 @@
+use Rattle.std.proofs.Common.{◌≡◌, ◌<◌, ℕ, List, [], Some, map, true}
+use Rattle.std.specs.Prelude.{slice_get, slice_index_or}
+use Rattle.post_rounds.specs.Events.{values}
+use Rattle.slot_laws.specs.Chains.{last_life}
+use Rattle.page_load.specs.slot_picks.Crowds.{chains_of}
+use Rattle.page_load.specs.slot_picks.Places.{is_accepted}
+use Rattle.slot_rounds.proofs.posting.is_quiet.Given as goal
+
+abbrev pub invariant-slots : goal.invariant-slots
+invariant-slots l = (w : ℕ) (c : List ℕ) → w < l.w → slice_get (chains_of l.slots) w ≡ Some c → is_accepted l.places (last_life c) ≡ true → slice_index_or (map (λ x. values x.items) l.events) w [] ≡ []

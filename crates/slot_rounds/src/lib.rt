@@ -1,0 +1,11 @@
+//! One round of posts over the lives of slots.
+#![tactic(auto)]
+
+mod delivering;
+mod giving;
+mod posting;
+
+pub use delivering::deliver_posts;
+
+// Handed on to the crates above, which name it so.
+pub use page_load;
