@@ -10,15 +10,15 @@ use Rattle.life_laws.specs.Life as todo
 use Rattle.life_laws.specs.Life.{Seen, due, image, potential, potentials}
 use Rattle.pick_laws.specs.Journal.{queued}
 use Rattle.pick_laws.proofs.Given.{due_queued}
-use Rattle.page_load.specs.turn_calls.declared.turn.Shared.{Shared}
-use Rattle.page_load.specs.slot_picks.declared.crowd.Place.{Place}
-use Rattle.page_load.specs.life_queue.declared.life.Work.{Work}
-use Rattle.page_load.specs.life_queue.Lives.{life_seen, trees_in, work_of, works_of}
-use Rattle.page_load.specs.life_queue.Fine.{FineLife, FineWork, tally}
+use Rattle.slot_rounds.specs.page_load.turn_calls.declared.turn.Shared.{Shared}
+use Rattle.slot_rounds.specs.page_load.slot_picks.declared.crowd.Place.{Place}
+use Rattle.slot_rounds.specs.page_load.life_queue.declared.life.Work.{Work}
+use Rattle.slot_rounds.specs.page_load.life_queue.Lives.{life_seen, trees_in, work_of, works_of}
+use Rattle.slot_rounds.specs.page_load.life_queue.Fine.{FineLife, FineWork, tally}
 use Rattle.slot_laws.specs.Chains.{Chains, last_life}
-use Rattle.page_load.specs.slot_picks.declared.slots.Slot.{Slot}
-use Rattle.page_load.specs.slot_picks.Crowds.{chains_of}
-use Rattle.page_load.specs.slot_picks.Places.{FewPlace, FewPlaces, FinePlace, FinePlaces, OwnPlace, OwnPlaces, accepts_of, codes_of, homes_of, lent, seen_at, seens_from}
+use Rattle.slot_rounds.specs.page_load.slot_picks.declared.slots.Slot.{Slot}
+use Rattle.slot_rounds.specs.page_load.slot_picks.Crowds.{chains_of}
+use Rattle.slot_rounds.specs.page_load.slot_picks.Places.{FewPlace, FewPlaces, FinePlace, FinePlaces, lent, seen_at, seens_from, told_of}
 use Rattle.widget_host.specs.declared.host.Host.{Host}
 use Rattle.widget_host.specs.declared.items.HostItem.{HostItem}
 use Rattle.widget_host.specs.Housed.{dues_after, item_of, reaches}
@@ -183,31 +183,12 @@ same_set k [] l m at same = tt
 same_set zero (y ∷ ls) l m at same = (same ∙ ap (λ (z : Place). queued_in z m) (sym (some_is y l at)), same_here ls)
 same_set (suc k) (y ∷ ls) l m at same = (refl, same_set k ls l m at same)
 
--- what a life holds is not in its queue
-own_queue : (h : Shared) (v : ℕ) (l m : Place) → IsSame l m → OwnPlace h v l → OwnPlace h v m
-own_queue h v l m same was = subst (OwnPlace h v) (sym same) (λ e. record { confined = (was e).confined; holds = (was e).holds; turn = (was e).turn })
-
-pub own_same : (h : Shared) (v : ℕ) (ls ms : List Place) → AreSame ls ms → OwnPlaces h v ls → OwnPlaces h v ms
-own_same h v [] [] a own = tt
-own_same h v [] (m ∷ ms) a own = absurd a
-own_same h v (l ∷ ls) [] a own = absurd a
-own_same h v (l ∷ ls) (m ∷ ms) a own = (own_queue h v l m a.0 own.0, own_same h (v + 1) ls ms a.1 own.1)
-
--- what does not look at queues stays
-kept_same : {A : Type 0} (f : Place → A) → ((l m : Place) → IsSame l m → f m ≡ f l) → (ls ms : List Place) → AreSame ls ms → map f ms ≡ map f ls
-kept_same f stays [] [] a = refl
-kept_same f stays [] (m ∷ ms) a = absurd a
-kept_same f stays (l ∷ ls) [] a = absurd a
-kept_same f stays (l ∷ ls) (m ∷ ms) a = ap (λ x. x ∷ map f ms) (stays l m a.0) ∙ ap (λ xs. f l ∷ xs) (kept_same f stays ls ms a.1)
-
-pub homes_same : (ls ms : List Place) → AreSame ls ms → homes_of ms ≡ homes_of ls
-homes_same = kept_same (λ (p : Place). p.life.slot) (λ l m e. ap (λ (p : Place). p.life.slot) e)
-
-pub accepts_same : (ls ms : List Place) → AreSame ls ms → accepts_of ms ≡ accepts_of ls
-accepts_same = kept_same (λ (p : Place). p.life.accepted) (λ l m e. ap (λ (p : Place). p.life.accepted) e)
-
-pub codes_same : (ls ms : List Place) → AreSame ls ms → codes_of ms ≡ codes_of ls
-codes_same = kept_same (λ (p : Place). p.codes) (λ l m e. ap (λ (p : Place). p.codes) e)
+-- how many posts were taken stays
+pub told_same : (ls ms : List Place) → AreSame ls ms → told_of ms ≡ told_of ls
+told_same [] [] a = refl
+told_same [] (m ∷ ms) a = absurd a
+told_same (l ∷ ls) [] a = absurd a
+told_same (l ∷ ls) (m ∷ ms) a = ap (λ x. x ∷ told_of ms) (ap (λ (p : Place). p.told) a.0) ∙ ap (λ xs. l.told ∷ xs) (told_same ls ms a.1)
 
 -- ## One after the other
 

@@ -1,36 +1,36 @@
 -- The first lives of a page are housed.
-use Rattle.std.proofs.Common.{◌≡◌, ℕ, zero, suc, ◌+◌, ◌<◌, ◌≤◌, List, [], ◌∷◌, ◌++◌, Bool, true, false, refl, sym, ap, ◌∙◌, subst, length, map, Option, None, Some, arith, if◌then◌else◌, eqb, eq-eqb, leb, leb-true, leb-false}
+use Rattle.std.proofs.Common.{◌≡◌, ℕ, zero, suc, ◌+◌, ◌<◌, ◌≤◌, List, [], ◌∷◌, Bool, true, false, refl, sym, ap, ◌∙◌, subst, length, map, Option, None, Some, arith, if◌then◌else◌, eqb, eq-eqb, leb, leb-true, leb-false}
 use Rattle.std.specs.Prelude.{slice_get, slice_index_or, ◌^◌}
 use Rattle.std.specs.Option.{option_map}
 use Rattle.std.proofs.lemmas.Option.{get_or_from_slice_get, slice_get-map}
-use Rattle.std.proofs.lemmas.List.{length-map, map-append}
+use Rattle.std.proofs.lemmas.List.{length-map}
 use Rattle.widget_meaning.specs.OwnState.{OwnState}
 use Rattle.widget_meaning.specs.Alone.{Content, beginning, loaded}
 use Rattle.life_laws.specs.Life.{Seen, due, image, ready}
 use Rattle.pick_laws.specs.Journal.{AllJoined}
 use Rattle.slot_laws.specs.Chains.{Chains, Rest, Unspent, listed}
 use Rattle.slot_laws.specs.Settled.{flag}
-use Rattle.page_load.specs.turn_calls.declared.turn.Shared.{Shared}
-use Rattle.page_load.specs.slot_picks.declared.crowd.Place.{Place}
-use Rattle.page_load.specs.life_queue.Lives.{life_seen}
-use Rattle.page_load.specs.slot_picks.Places.{FewPlace, FewPlaces, FinePlace, FinePlaces, OwnPlaces, accepts_of, homes_of, is_accepted, lent, seen_at, seens_from}
-use Rattle.page_load.specs.slot_picks.declared.slots.Slot.{Slot}
-use Rattle.page_load.specs.slot_picks.declared.crowd.Crowd.{Crowd}
-use Rattle.page_load.specs.slot_picks.Crowds.{AreHoused, chains_of, seens_of}
-use Rattle.page_build.specs.Layout as layout
-use Rattle.page_build.specs.Layout.{home_of}
-use Rattle.page_spec.specs.declared.SlotContent.{SlotContent}
-use Rattle.page_spec.specs.declared.SlotContent.TheVariants as slot
+use Rattle.slot_rounds.specs.page_load.turn_calls.declared.turn.Shared.{Shared}
+use Rattle.slot_rounds.specs.page_load.slot_picks.declared.crowd.Place.{Place}
+use Rattle.slot_rounds.specs.page_load.life_queue.Lives.{life_seen}
+use Rattle.slot_rounds.specs.page_load.slot_picks.Places.{FewPlace, FewPlaces, FinePlace, FinePlaces, OwnPlaces, accepts_of, codes_of, homes_of, lent, roots_of, seen_at, seens_from, told_of}
+use Rattle.slot_rounds.specs.page_load.slot_picks.declared.slots.Slot.{Slot}
+use Rattle.slot_rounds.specs.page_load.slot_picks.declared.crowd.Crowd.{Crowd}
+use Rattle.slot_rounds.specs.page_load.slot_picks.Crowds.{AreHoused, AreStanding, FewCrowd, OwnCrowd, chains_of, seens_of, spots_of}
+use Rattle.page_build.specs.Homes.{HaveRaws}
+use Rattle.page_build.specs.Standing.{HavePlaces, IsLaidBy}
+use Rattle.page_tree.specs.page_nodes.Entries.{body}
+use Rattle.js_names.specs.Code.{tree_in}
 use Rattle.page_spec.specs.declared.PageSpec.{PageSpec}
 use Rattle.page_spec.specs.declared.SlotSpec.{SlotSpec}
 use Rattle.page_spec.specs.Contents.{content_of}
 use Rattle.page_spec.specs.Pages.{piece_of}
-use Rattle.page_load.specs.declared.loading.Loaded.{Loaded}
-use Rattle.page_load.specs.Homes.{homes_from, names_of}
-use Rattle.page_load.specs.Loads.{Begins, HasScripts, IsFirstLife, LoadsPage}
+use Rattle.slot_rounds.specs.page_load.declared.loading.Loaded.{Loaded}
+use Rattle.slot_rounds.specs.page_load.Loads.{Begins, HasNothing, HasScripts, IsFirstLife, LoadsPage, singles}
 use Rattle.widget_host.specs.declared.host.Host.{Host}
-use Rattle.widget_host.specs.Housed.{IsApart, IsHoused, IsLaid, Loads, LoadsSlot, accepts, chains, channels, given, homes, journal, marked, rooted, scripts, seens, singles, swaps}
+use Rattle.widget_host.specs.Housed.{IsApart, IsHoused, IsLaid, Loads, LoadsLife, accepts, chains, channels, ends, fuels, given, homes, journal, libraries, marked, most_after, names, scripts, seens, spots, sum_of, swaps, told}
 use Rattle.widget_host.proofs.Reading.{scripts_at}
+use Rattle.widget_host.proofs.Staying.{scripts_by}
 
 no_true : false ≡ true → ⊥
 no_true e = cc
@@ -50,6 +50,17 @@ there : {X : Type 0} (xs : List X) (n : ℕ) → n < length xs → (x : X) × (s
 there [] n lt = absurd (omega (arith, lt))
 there (x ∷ xs) zero lt = (x, refl)
 there (x ∷ xs) (suc n) lt = there xs n (omega (arith, lt))
+
+-- a list has nothing at a place behind it
+get_or_none : {A : Type 0} (xs : List A) (n : ℕ) (d : A) → slice_get xs n ≡ None → slice_index_or xs n d ≡ d
+get_or_none [] n d e = refl
+get_or_none (x ∷ xs) zero d e = absurd (none_some (sym e))
+get_or_none (x ∷ xs) (suc n) d e = get_or_none xs n d e
+
+-- no posts at all
+none_told : (ns : List ℕ) → ((v n : ℕ) → slice_get ns v ≡ Some n → n ≡ 0) → sum_of ns ≡ 0
+none_told [] f = refl
+none_told (n ∷ ns) f = let here = f 0 n refl in let more = none_told ns (λ v m at. f (suc v) m at) in omega (arith, here, more)
 
 -- ## Places
 
@@ -87,31 +98,9 @@ module _ (h : Shared) where
 
 -- ## Slots
 
-singles_more : (v n : ℕ) → singles v n ++ ((v + n) ∷ []) ∷ [] ≡ singles v (n + 1)
-singles_more v zero = ap (λ x. (x ∷ []) ∷ []) (here v)
-  where
-    here : (v : ℕ) → v + 0 ≡ v
-    here v = omega arith
-singles_more v (suc n) =
-    ap (λ x. (v ∷ []) ∷ (singles (v + 1) n ++ (x ∷ []) ∷ [])) (next v n) ∙ ap (λ cs. (v ∷ []) ∷ cs) (singles_more (v + 1) n) ∙ ap (singles v) (past n)
-  where
-    next : (v n : ℕ) → v + suc n ≡ v + 1 + n
-    next v n = omega arith
-
-    past : (n : ℕ) → suc (n + 1) ≡ suc n + 1
-    past n = omega arith
-
 singles_long : (n v : ℕ) → length (singles v n) ≡ n
 singles_long zero v = refl
 singles_long (suc n) v = ap suc (singles_long n (v + 1))
-
--- one slot more
-pub slots_more : (old new : List Slot) (n : ℕ) (s : Slot) → chains_of old ≡ singles 0 n → s.lives.items ≡ n ∷ [] → new ≡ old ++ s ∷ [] → chains_of new ≡ singles 0 (n + 1)
-slots_more old new n s are its after =
-    ap chains_of after ∙ map-append (λ (x : Slot). x.lives.items) old (s ∷ []) ∙ (λ j. are j ++ its j ∷ []) ∙ ap (λ x. singles 0 n ++ (x ∷ []) ∷ []) (here n) ∙ singles_more 0 n
-  where
-    here : (n : ℕ) → n ≡ 0 + n
-    here n = omega arith
 
 -- a life of one of them is in its slot
 listed_one : (n w v : ℕ) → w ≤ v → v < w + n → listed v (singles w n) ≡ true
@@ -130,10 +119,10 @@ chains_from homes (suc n) w le at = (record { some = omega arith; rising = (tt, 
 
 module _ (spec : PageSpec) (l : Loaded) (loads : LoadsPage spec l) where
   abbrev h : Shared
-  h = l.shared
+  h = l.crowd.shared
 
   abbrev lives : List Place
-  lives = l.places.items
+  lives = l.crowd.places.items
 
   -- an accepted life is that of a slot with its widget
   begun : (v : ℕ) (a : Place) → slice_get lives v ≡ Some a → a.life.accepted ≡ true → (s : SlotSpec) × (c : Content) × (slice_get spec.slots.items v ≡ Some s) × (content_of spec.libs.items s.content ≡ Some c) × Begins h v s.fuel c a
@@ -152,7 +141,7 @@ module _ (spec : PageSpec) (l : Loaded) (loads : LoadsPage spec l) where
       past (x ∷ xs) (suc n) e = omega (arith, past xs n e)
 
       by : (o : Option SlotSpec) → slice_get spec.slots.items v ≡ o → (s : SlotSpec) × (c : Content) × (slice_get spec.slots.items v ≡ Some s) × (content_of spec.libs.items s.content ≡ Some c) × Begins h v s.fuel c a
-      by None e = absurd (refused (loads.rest v a (past spec.slots.items v e) at))
+      by None e = absurd (refused (loads.rest v a (past spec.slots.items v e) at).0)
       by (Some s) e = with_content s e (content_of spec.libs.items s.content) refl (loads.slots v s a e at)
 
   pub fine_lives : FinePlaces h 0 lives
@@ -183,7 +172,7 @@ module _ (spec : PageSpec) (l : Loaded) (loads : LoadsPage spec l) where
   unaccepted : (v : ℕ) (s : Seen) → slice_get (seens_from h 0 lives) v ≡ Some s → length spec.slots.items ≤ v → s ≡ flag false
   unaccepted v s at le =
       let r = life_of h 0 lives v s at in
-      r.2 ∙ ap (λ b. if b then life_seen (lent h r.0) (0 + v) r.0.life else flag false) (loads.rest v r.0 le r.1)
+      r.2 ∙ ap (λ b. if b then life_seen (lent h r.0) (0 + v) r.0.life else flag false) (loads.rest v r.0 le r.1).0
 
   pub unspent_all : Unspent 16 (seens_from h 0 lives)
   unspent_all v s le at = ap (λ (x : Seen). (image x).spent) (unaccepted v s at (omega (arith, le, loads.few)))
@@ -234,74 +223,123 @@ module _ (spec : PageSpec) (l : Loaded) (loads : LoadsPage spec l) where
       let is : s ≡ life_seen (lent h a) w a.life = r.2 ∙ ap (λ n. seen_at h n r.0) e ∙ ap (seen_at h w) same ∙ ap (λ x. if x then life_seen (lent h a) w a.life else flag false) b.accepted in
       (ap image is ∙ b.shows, ap due is ∙ b.comes)
 
-  -- whose roots the slots show
-  home_is : (w : ℕ) (content : SlotContent) (b : Bool) (a : Place) (fuel : ℕ) → b ≡ a.life.accepted → IsFirstLife h w fuel (content_of spec.libs.items content) a → (if b then Some w else None) ≡ home_of w content
-  home_is w (slot.Runs body libs script) b a fuel is f = ap (λ x. if x then Some w else None) (is ∙ f.accepted)
-  home_is w slot.Refused b a fuel is f = ap (λ x. if x then Some w else None) (is ∙ f)
+  -- where no life is born yet
+  pub free_here : (v : ℕ) → length spec.slots.items ≤ v → (slice_index_or (accepts_of lives) v false ≡ false) × (slice_index_or (roots_of lives) v body ≡ body) × (slice_index_or (told_of lives) v 0 ≡ 0)
+  free_here v le = by (slice_get lives v) refl
+    where
+      none_at : {A : Type 0} (f : Place → A) (d : A) → slice_get lives v ≡ None → slice_index_or (map f lives) v d ≡ d
+      none_at f d e = get_or_none (map f lives) v d (slice_get-map f lives v ∙ ap (option_map f) e)
 
-  rooted_from : (slots : List SlotSpec) (w : ℕ) → ((i : ℕ) (s : SlotSpec) → slice_get slots i ≡ Some s → (u : ℕ) → u ≡ w + i → (if slice_index_or (accepts_of lives) u false then Some u else None) ≡ home_of u s.content) → rooted (is_accepted lives) w (names_of slots) ≡ homes_from w slots
-  rooted_from [] w f = refl
-  rooted_from (s ∷ slots) w f = λ j. f 0 s refl w (omega arith) j ∷ rooted_from slots (w + 1) (λ i t at u e. f (suc i) t at u (omega (arith, e))) j
+      some_at : {A : Type 0} (f : Place → A) (d : A) (a : Place) → slice_get lives v ≡ Some a → slice_index_or (map f lives) v d ≡ f a
+      some_at f d a e = get_or_from_slice_get (map f lives) v (f a) d (slice_get-map f lives v ∙ ap (option_map f) e)
 
-  pub rooted_is : rooted (is_accepted lives) 0 (names_of spec.slots.items) ≡ homes_from 0 spec.slots.items
-  rooted_is = rooted_from spec.slots.items 0 (λ i s at u e.
-      let g : i ≡ u = omega (arith, e) in
-      let r = slot_loads u s (ap (slice_get spec.slots.items) (sym g) ∙ at) in
-      home_is u s.content (slice_index_or (accepts_of lives) u false) r.0 s.fuel r.2 r.3)
+      by : (o : Option Place) → slice_get lives v ≡ o → (slice_index_or (accepts_of lives) v false ≡ false) × (slice_index_or (roots_of lives) v body ≡ body) × (slice_index_or (told_of lives) v 0 ≡ 0)
+      by None e = (none_at (λ (p : Place). p.life.accepted) false e, none_at (λ (p : Place). p.root) body e, none_at (λ (p : Place). p.told) 0 e)
+      by (Some a) e = let r = loads.rest v a le e in (some_at (λ (p : Place). p.life.accepted) false a e ∙ r.0, some_at (λ (p : Place). p.root) body a e ∙ r.1, some_at (λ (p : Place). p.told) 0 a e ∙ loads.told v a e)
+
+  -- no post was taken
+  pub untold : (v n : ℕ) → slice_get (told_of lives) v ≡ Some n → n ≡ 0
+  untold v n at = by (slice_get lives v) refl (sym (slice_get-map (λ (p : Place). p.told) lives v) ∙ at)
+    where
+      by : (o : Option Place) → slice_get lives v ≡ o → option_map (λ (p : Place). p.told) o ≡ Some n → n ≡ 0
+      by None e g = absurd (none_some g)
+      by (Some a) e g = some_some n a.told (sym g) ∙ loads.told v a e
 
 -- ## The host of a page
 
-module _ (spec : PageSpec) (l : Loaded) (loads : LoadsPage spec l) (base : Host) (none : base.crowd.journal.items ≡ []) (pairs : base.channels ≡ l.channels) (are : chains_of base.slots.items ≡ singles 0 (length spec.slots.items)) where
-  abbrev crowd : Crowd
-  crowd = record base.crowd { shared = l.shared; places = l.places }
+module _ (spec : PageSpec) (l : Loaded) (loads : LoadsPage spec l) (host : Host) (crowd_is : host.crowd ≡ l.crowd) (slots_are : host.slots ≡ l.slots) (libs_are : host.libs ≡ l.libs) (pairs : host.channels ≡ l.channels) (fresh : host.ends.items ≡ []) (none_given : host.given ≡ 0) (is_unmarked : host.marked ≡ false) where
+  are : chains_of host.slots.items ≡ singles 0 (length spec.slots.items)
+  are = ap (λ s. chains_of s.items) slots_are ∙ loads.chains
 
-  abbrev host : Host
-  host = record base { crowd = crowd; given = 0; swaps = 0; marked = false }
+  no_swaps : swaps host ≡ 0
+  unfolding ends
+  no_swaps = ap length fresh
 
-  slots_few : length base.slots.items ≤ 16
-  slots_few = omega (arith, length-map base.slots.items (λ (s : Slot). s.lives.items), ap length are, singles_long (length spec.slots.items) 0, loads.few)
-
-  housed : AreHoused 16 crowd base.slots.items
+  housed : AreHoused 16 l.crowd l.slots.items
   housed = record {
-    crowd = record { places = loads.twenty; fine = fine_lives spec l loads; short = omega (arith, ap length none) };
-    slots = slots_few;
+    crowd = record { places = loads.twenty; fine = fine_lives spec l loads; short = omega (arith, ap length loads.journal) };
+    slots = omega (arith, length-map l.slots.items (λ (s : Slot). s.lives.items), ap length loads.chains, singles_long (length spec.slots.items) 0, loads.few);
     few = omega arith;
-    chains = chains_are spec l loads (chains_of base.slots.items) are;
+    chains = chains_are spec l loads (chains_of l.slots.items) loads.chains;
     unspent = unspent_all spec l loads;
-    joined = subst (λ js. AllJoined js (seens_of crowd)) (sym none) (joined_all spec l loads);
-    rest = rest_all spec l loads (chains_of base.slots.items) are;
+    joined = subst (λ js. AllJoined js (seens_of l.crowd)) (sym loads.journal) (joined_all spec l loads);
+    rest = rest_all spec l loads (chains_of l.slots.items) loads.chains;
   }
 
   apart : IsApart host
   unfolding accepts
   apart = record {
-    own = own_fine l.shared 0 l.places.items (fine_lives spec l loads);
-    others = λ v none. loads.others v (λ a at. sym (accepts_at spec l loads v a at) ∙ none);
+    twenty = ap (λ (c : Crowd). length c.places.items) crowd_is ∙ loads.twenty;
+    own = subst OwnCrowd (sym crowd_is) (own_fine l.crowd.shared 0 l.crowd.places.items (fine_lives spec l loads));
+    others = λ v none. subst (λ (c : Crowd). HasNothing v c.shared.store c.shared.page) (sym crowd_is)
+        (loads.others v (λ a at. sym (accepts_at spec l loads v a at) ∙ (ap (λ (c : Crowd). slice_index_or (accepts_of c.places.items) v false) (sym crowd_is) ∙ none)));
+    standing = subst (λ (c : Crowd). AreStanding c host.slots.items) (sym crowd_is) (subst (λ s. AreStanding l.crowd s.items) (sym slots_are) loads.standing);
   }
 
-  is_housed : IsHoused host
-  unfolding IsHoused
-  is_housed = (apart, λ e. record { slots = housed; room = few_lives spec l loads; raws = loads.raws; given = omega arith; swaps = omega arith })
+  told_none : sum_of (told_of host.crowd.places.items) ≡ 0
+  told_none = none_told (told_of host.crowd.places.items) (λ v n at. untold spec l loads v n (ap (λ (c : Crowd). slice_get (told_of c.places.items) v) (sym crowd_is) ∙ at))
 
-  loads_slot : (w fuel : ℕ) (o : Option Content) (a : Place) → slice_get l.places.items w ≡ Some a → slice_index_or (accepts_of l.places.items) w false ≡ a.life.accepted → IsFirstLife l.shared w fuel o a → LoadsSlot host w fuel o
+  bound : 2 ^ 31 ≡ most_after host.given + sum_of (told_of host.crowd.places.items)
+  bound = omega (arith, ap most_after none_given, told_none)
+
+  is_housed : IsHoused host
+  unfolding IsHoused accepts fuels told
+  is_housed = (
+    apart,
+    λ e. record {
+      slots = subst (λ n. AreHoused (16 + n) host.crowd host.slots.items) (sym no_swaps) (subst (λ (c : Crowd). AreHoused 16 c host.slots.items) (sym crowd_is) (subst (λ s. AreHoused 16 l.crowd s.items) (sym slots_are) housed));
+      room = subst (λ n. FewCrowd n host.crowd) bound (subst (FewCrowd (2 ^ 31)) (sym crowd_is) (few_lives spec l loads));
+      told = λ v n at. let z = untold spec l loads v n (ap (λ (c : Crowd). slice_get (told_of c.places.items) v) (sym crowd_is) ∙ at) in omega (arith, z);
+      raws = subst (λ (c : Crowd). HaveRaws c.shared.store c.shared.page) (sym crowd_is) loads.raws;
+      given = omega (arith, none_given);
+      swaps = omega (arith, no_swaps);
+      fuels = λ w n at. fuels_few (λ u s. loads.fuel u s) w n (ap (λ ss. slice_get (map (λ (s : Slot). s.fuel) ss.items) w) (sym slots_are) ∙ at);
+      free = λ v past.
+          let f = free_here spec l loads v (omega (arith, past, no_swaps, loads.few)) in
+          (ap (λ (c : Crowd). slice_index_or (accepts_of c.places.items) v false) crowd_is ∙ f.0, ap (λ (c : Crowd). slice_index_or (roots_of c.places.items) v body) crowd_is ∙ f.1, ap (λ (c : Crowd). slice_index_or (told_of c.places.items) v 0) crowd_is ∙ f.2);
+    },
+  )
+    where
+      fuels_few : ((u : ℕ) (s : Slot) → slice_get l.slots.items u ≡ Some s → s.fuel ≤ 1000000) → (w n : ℕ) → slice_get (map (λ (s : Slot). s.fuel) l.slots.items) w ≡ Some n → n ≤ 1000000
+      fuels_few few w n at = by (slice_get l.slots.items w) refl (sym (slice_get-map (λ (s : Slot). s.fuel) l.slots.items w) ∙ at)
+        where
+          by : (o : Option Slot) → slice_get l.slots.items w ≡ o → option_map (λ (s : Slot). s.fuel) o ≡ Some n → n ≤ 1000000
+          by None e g = absurd (none_some g)
+          by (Some s) e g = subst (λ m. m ≤ 1000000) (some_some s.fuel n g) (few w s e)
+
+  loads_life : (w fuel : ℕ) (o : Option Content) (a : Place) → slice_get l.crowd.places.items w ≡ Some a → slice_index_or (accepts_of l.crowd.places.items) w false ≡ a.life.accepted → IsFirstLife l.crowd.shared w fuel o a → LoadsLife host w fuel o
   unfolding accepts seens
-  loads_slot w fuel None a at is f = is ∙ f
-  loads_slot w fuel (Some c) a at is f = (is ∙ f.accepted, seen_begins spec l loads w fuel c a at f)
+  loads_life w fuel None a at is f = ap (λ (c : Crowd). slice_index_or (accepts_of c.places.items) w false) crowd_is ∙ is ∙ f
+  loads_life w fuel (Some c) a at is f = (
+    ap (λ (c : Crowd). slice_index_or (accepts_of c.places.items) w false) crowd_is ∙ is ∙ f.accepted,
+    λ s there. seen_begins spec l loads w fuel c a at f s (ap (λ (k : Crowd). slice_get (seens_of k) w) (sym crowd_is) ∙ there),
+  )
 
   pub host_loads : Loads spec host
-  unfolding accepts chains channels given homes journal marked scripts seens swaps IsLaid
+  unfolding accepts chains channels ends fuels given homes journal libraries marked names scripts seens spots told IsLaid
   host_loads = record {
     housed = is_housed;
-    unmarked = refl;
-    twenty = seens_long l.shared 0 l.places.items ∙ loads.twenty;
+    unmarked = is_unmarked;
+    twenty = ap (λ (c : Crowd). length (seens_of c)) crowd_is ∙ seens_long l.crowd.shared 0 l.crowd.places.items ∙ loads.twenty;
     chains = are;
-    homes = homes_are spec l loads;
-    slots = λ w s at. let r = slot_loads spec l loads w s at in loads_slot w s.fuel (content_of spec.libs.items s.content) r.0 r.1 r.2 r.3;
-    scripts = λ w s at. let r = slot_loads spec l loads w s at in subst (HasScripts spec.libs.items s.content) (sym (scripts_at l.places.items w r.0 r.1)) (loads.scripts w s r.0 at r.1);
+    homes = λ v w at. homes_are spec l loads v w (ap (λ (c : Crowd). slice_get (homes_of c.places.items) v) (sym crowd_is) ∙ at);
+    slots = λ w s at. let r = slot_loads spec l loads w s at in loads_life w s.fuel (content_of spec.libs.items s.content) r.0 r.1 r.2 r.3;
+    none_else = λ v le. ap (λ (c : Crowd). slice_index_or (accepts_of c.places.items) v false) crowd_is ∙ (free_here spec l loads v le).0;
+    scripts = λ w s at. let r = slot_loads spec l loads w s at in
+        subst (HasScripts spec.libs.items s.content) (sym (ap (λ (c : Crowd). scripts_by w (codes_of c.places.items)) crowd_is ∙ scripts_at l.crowd.places.items w r.0 r.1)) (loads.scripts w s r.0 at r.1);
     channels = ap (λ c. c.items) pairs ∙ loads.channels;
-    given = refl;
-    unspent = unspent_here spec l loads;
-    swaps = refl;
-    journal = none;
-    laid = subst (λ r. layout.IsLaid l.shared.page (names_of spec.slots.items) r (map piece_of spec.pieces.items)) (sym (rooted_is spec l loads)) loads.laid;
+    libraries = ap (λ c. map tree_in c.items) libs_are ∙ loads.libs;
+    names = ap (λ s. map (λ (x : Slot). x.name) s.items) slots_are ∙ loads.names;
+    fuels = ap (λ s. map (λ (x : Slot). x.fuel) s.items) slots_are ∙ loads.fuels;
+    told = λ v n at. untold spec l loads v n (ap (λ (c : Crowd). slice_get (told_of c.places.items) v) (sym crowd_is) ∙ at);
+    given = none_given;
+    unspent = subst (λ (c : Crowd). Unspent 0 (seens_of c)) (sym crowd_is) (unspent_here spec l loads);
+    ends = fresh;
+    journal = ap (λ (c : Crowd). c.journal.items) crowd_is ∙ loads.journal;
+    laid = (
+      sym (ap (λ s. map (λ (x : Slot). x.name) s.items) slots_are ∙ loads.names),
+      subst (λ n. HavePlaces n (map piece_of spec.pieces.items)) (sym (length-map spec.slots.items (λ (s : SlotSpec). s.name))) loads.places,
+      subst (λ (c : Crowd). IsLaidBy c.shared.page (spots_of c host.slots.items) (map piece_of spec.pieces.items)) (sym crowd_is)
+          (subst (λ s. IsLaidBy l.crowd.shared.page (spots_of l.crowd s.items) (map piece_of spec.pieces.items)) (sym slots_are) loads.laid),
+    );
   }

@@ -9,25 +9,26 @@ use Rattle.pick_laws.specs.Journal.{AllJoined}
 use Rattle.pick_laws.proofs.Given.{joined_given}
 use Rattle.slot_laws.specs.Chains.{Chains, Rest, Unspent}
 use Rattle.slot_laws.proofs.Housing.{unspent_given}
-use Rattle.page_load.specs.turn_calls.declared.turn.Shared.{Shared}
-use Rattle.page_load.specs.slot_picks.declared.crowd.Place.{Place}
-use Rattle.page_load.specs.life_queue.Lives as lives
-use Rattle.page_load.specs.life_queue.Fine.{FineWork}
+use Rattle.slot_rounds.specs.page_load.turn_calls.declared.turn.Shared.{Shared}
+use Rattle.slot_rounds.specs.page_load.slot_picks.declared.crowd.Place.{Place}
+use Rattle.slot_rounds.specs.page_load.life_queue.Lives as lives
+use Rattle.slot_rounds.specs.page_load.life_queue.Fine.{FineWork}
 use Rattle.page_build.specs.Homes.{HaveRaws}
-use Rattle.page_build.specs.Layout as layout
-use Rattle.page_load.specs.Loads.{HasNothing}
-use Rattle.page_load.specs.slot_picks.Places.{FewPlaces, FinePlaces, OwnPlaces, homes_of, is_accepted, seens_from}
-use Rattle.page_load.specs.slot_picks.Crowds.{FewCrowd, FineCrowd, PageStays, chains_of, seens_of}
-use Rattle.page_load.proofs.SlotPicks.Keeping.{page_here}
+use Rattle.page_tree.specs.page_nodes.Entries.{body}
+use Rattle.slot_rounds.specs.page_load.slot_picks.Places.{FewPlaces, FinePlaces, homes_of, seens_from, told_of}
+use Rattle.slot_rounds.specs.page_load.slot_picks.declared.slots.Slot.{Slot}
+use Rattle.slot_rounds.specs.page_load.slot_picks.Crowds.{FewCrowd, FineCrowd, KeepsSlots, chains_of, seens_of}
 use Rattle.widget_host.specs.declared.host.Host.{Host}
 use Rattle.widget_host.specs.declared.items.HostItem.{HostItem}
 use Rattle.widget_host.specs.declared.items.HostItem.TheVariants as host
-use Rattle.widget_host.specs.Housed.{GivesItem, IsApart, IsItem, IsLaid, IsWhole, KeepsHost, accepts, chains, channels, given, homes, is_for, item_of, journal, most_after, reaches, rooted, scripts, seens, shared, swaps}
+use Rattle.widget_host.specs.Housed.{GivesItem, IsItem, IsWhole, accepts, chains, ends, fuels, given, is_for, item_of, journal, most_after, reaches, seens, shared, sum_of, swaps, told}
 use Rattle.widget_host.specs.Feeding.{AreFed, AreSame, work_of}
 use Rattle.widget_host.proofs.Lasts.{not_for}
-use Rattle.widget_host.proofs.Fed.{accepts_same, codes_same, counts_fed, dues_fed, homes_same, images_fed, length_fed, other_fed, own_same, places_fed}
+use Rattle.widget_host.proofs.Fed.{counts_fed, dues_fed, images_fed, length_fed, other_fed, places_fed, told_same}
+use Rattle.widget_host.proofs.Alike.{accepts_alike, are_alike, homes_alike, roots_alike}
+use Rattle.widget_host.proofs.Same.{slots_same}
 use Rattle.widget_host.proofs.Shown.{accepts_at}
-use Rattle.widget_host.proofs.Staying.{scripts_by}
+use Rattle.widget_host.proofs.Staying.{host_stays}
 
 -- an item as its meaning has it
 pub work_is : (i : HostItem) (fs : List Forest) → lives.work_of fs (work_of i) ≡ todo.Given (item_of i)
@@ -43,38 +44,18 @@ small : (i : HostItem) (n : ℕ) → IsItem i n → (fs : List Forest) → poten
 small (host.Event to e) n shape fs = omega arith
 small (host.Advance ms) n shape fs = let most : ms / 10 ≤ 6000 = div-le_of_le-mul 10 (omega (arith, shape)) in omega (arith, most)
 
--- A host whose lives are as they were but for their queues.
-module _ (old new : Host) (all : new.crowd.shared ≡ old.crowd.shared) (same : AreSame old.crowd.places.items new.crowd.places.items) (a : IsApart old) where
-  pub gives_apart : IsApart new
-  unfolding accepts
-  gives_apart = record {
-    own = subst (λ (h : Shared). OwnPlaces h 0 new.crowd.places.items) (sym all) (own_same old.crowd.shared 0 old.crowd.places.items new.crowd.places.items same a.own);
-    others = λ v none. subst (λ (h : Shared). HasNothing v h.store h.page) (sym all)
-        (a.others v (ap (λ flags. slice_index_or flags v false) (sym (accepts_same old.crowd.places.items new.crowd.places.items same)) ∙ none));
-  }
-
--- what it keeps
-module _ (old new : Host) (all : new.crowd.shared ≡ old.crowd.shared) (same : AreSame old.crowd.places.items new.crowd.places.items) (pairs : new.channels ≡ old.channels) (many : new.swaps ≡ old.swaps) where
-  pub gives_keeps : KeepsHost old new
-  unfolding homes accepts scripts channels swaps shared IsLaid
-  gives_keeps = record {
-    homes = homes_same old.crowd.places.items new.crowd.places.items same;
-    accepts = λ v. ap (λ flags. slice_index_or flags v false) (accepts_same old.crowd.places.items new.crowd.places.items same);
-    scripts = λ v. ap (scripts_by v) (codes_same old.crowd.places.items new.crowd.places.items same);
-    channels = ap (λ c. c.items) pairs;
-    swaps = many;
-    page = subst (λ (h : Shared). PageStays old.crowd.shared.page h.page) (sym all) (page_here old.crowd.shared.page);
-    laid = λ names pieces laid.
-        subst (λ (flags : List Bool). layout.IsLaid new.crowd.shared.page names (rooted (λ v. slice_index_or flags v false) 0 names) pieces) (sym (accepts_same old.crowd.places.items new.crowd.places.items same))
-        (subst (λ (h : Shared). layout.IsLaid h.page names (rooted (is_accepted old.crowd.places.items) 0 names) pieces) (sym all) laid);
-  }
+-- A host whose lives are as they were but for their queues keeps what picks keep.
+module _ (old new : Host) (all : new.crowd.shared ≡ old.crowd.shared) (same : AreSame old.crowd.places.items new.crowd.places.items) (slots : new.slots ≡ old.slots) where
+  pub gives_slots : KeepsSlots old.crowd new.crowd old.slots.items new.slots.items
+  gives_slots = subst (λ s. KeepsSlots old.crowd new.crowd old.slots.items s.items) (sym slots) (slots_same old.crowd new.crowd all (are_alike old.crowd.places.items new.crowd.places.items same) old.slots.items (told_same old.crowd.places.items new.crowd.places.items same))
 
 -- A host whose lives have the item, and that has counted it.
 module _ (i : HostItem) (old new : Host)
     (all : new.crowd.shared ≡ old.crowd.shared)
     (same_journal : new.crowd.journal ≡ old.crowd.journal)
     (slots : new.slots ≡ old.slots)
-    (many : new.swaps ≡ old.swaps)
+    (over : new.ends ≡ old.ends)
+    (libs : new.libs ≡ old.libs)
     (pairs : new.channels ≡ old.channels)
     (counted : new.given ≡ old.given + 1)
     (fed : AreFed (is_for (chains_of old.slots.items) i) (work_of i) 0 old.crowd.places.items new.crowd.places.items)
@@ -87,7 +68,7 @@ module _ (i : HostItem) (old new : Host)
     images = ap (map image) seens_new ∙ images_fed (is_for (chains_of old.slots.items) i) (work_of i) old.crowd.shared 0 old.crowd.places.items new.crowd.places.items fed
 
     housed_at : homes_of new.crowd.places.items ≡ homes_of old.crowd.places.items
-    housed_at = homes_same old.crowd.places.items new.crowd.places.items but_queues
+    housed_at = homes_alike old.crowd.places.items new.crowd.places.items (are_alike old.crowd.places.items new.crowd.places.items but_queues)
 
     pub gives_item : GivesItem i old new
     unfolding seens chains accepts given journal shared
@@ -98,7 +79,7 @@ module _ (i : HostItem) (old new : Host)
       given = counted;
       journal = ap (λ j. j.items) same_journal;
       same = all;
-      stays = gives_keeps old new all but_queues pairs many;
+      stays = host_stays old new (gives_slots old new all but_queues slots) pairs libs over;
     }
       where
         for_it : (k : ℕ) (l : Place) → slice_get old.crowd.places.items k ≡ Some l → reaches old i (0 + k) ≡ (l.life.accepted && is_for (chains_of old.slots.items) i (0 + k))
@@ -106,44 +87,60 @@ module _ (i : HostItem) (old new : Host)
             let e : k ≡ 0 + k = omega arith in
             subst (λ (n : ℕ). reaches old i n ≡ (l.life.accepted && is_for (chains_of old.slots.items) i n)) e (ap (λ (b : Bool). b && is_for (chains_of old.slots.items) i k) (accepts_at old.crowd.places.items k l at))
 
-    module _ (whole : IsWhole old) (room : old.given < 4096) (shape : IsItem i (length (chains_of old.slots.items))) where
+    module _ (whole : IsWhole old) (few_told : sum_of (told_of old.crowd.places.items) ≤ 5120) (room : old.given < 4096) (shape : IsItem i (length (chains_of old.slots.items))) where
+      many : swaps new ≡ swaps old
+      unfolding ends
+      many = ap (λ e. length e.items) over
+
+      told_here : sum_of (told_of new.crowd.places.items) ≡ sum_of (told_of old.crowd.places.items)
+      told_here = ap sum_of (told_same old.crowd.places.items new.crowd.places.items but_queues)
+
       rest_still : Rest (chains_of old.slots.items) (seens_of new.crowd)
       rest_still v s out at =
           let e : v ≡ 0 + v = omega arith in
-          let none : is_for (chains_of old.slots.items) i (0 + v) ≡ false = subst (λ (n : ℕ). is_for (chains_of old.slots.items) i n ≡ false) e (not_for (homes_of old.crowd.places.items) (16 + old.swaps) v (chains_of old.slots.items) i whole.slots.chains shape out) in
+          let none : is_for (chains_of old.slots.items) i (0 + v) ≡ false = subst (λ (n : ℕ). is_for (chains_of old.slots.items) i n ≡ false) e (not_for (homes_of old.crowd.places.items) (16 + swaps old) v (chains_of old.slots.items) i whole.slots.chains shape out) in
           whole.slots.rest v s out (sym (other_fed (is_for (chains_of old.slots.items) i) (work_of i) old.crowd.shared 0 v old.crowd.places.items new.crowd.places.items fed none) ∙ (sym (ap (λ (ss : List Seen). slice_get ss v) seens_new) ∙ at))
 
       crowd_still : FineCrowd new.crowd
+      unfolding told
       crowd_still =
           let much = small i (length (chains_of old.slots.items)) shape in
           record {
             places = length_fed (is_for (chains_of old.slots.items) i) (work_of i) 0 old.crowd.places.items new.crowd.places.items fed ∙ whole.slots.crowd.places;
             fine = subst (λ (h : Shared). FinePlaces h 0 new.crowd.places.items) (sym all)
-                (places_fed (is_for (chains_of old.slots.items) i) (work_of i) old.crowd.shared 0 (most_after old.given) old.crowd.places.items new.crowd.places.items (script_is i) (λ fs. let e = much fs in omega (arith, e, room)) fed whole.room whole.slots.crowd.fine);
+                (places_fed (is_for (chains_of old.slots.items) i) (work_of i) old.crowd.shared 0 (most_after old.given + sum_of (told_of old.crowd.places.items)) old.crowd.places.items new.crowd.places.items (script_is i) (λ fs. let e = much fs in omega (arith, e, room, few_told)) fed whole.room whole.slots.crowd.fine);
             short = subst (λ j. length j.items ≤ 65536) (sym same_journal) whole.slots.crowd.short;
           }
 
-      room_still : FewCrowd (most_after new.given) new.crowd
+      room_still : FewCrowd (most_after new.given + sum_of (told_of new.crowd.places.items)) new.crowd
+      unfolding told
       room_still =
           let much = small i (length (chains_of old.slots.items)) shape in
-          subst (λ (h : Shared). FewPlaces h (most_after new.given) 0 new.crowd.places.items) (sym all)
-          (counts_fed (is_for (chains_of old.slots.items) i) (work_of i) old.crowd.shared 0 (most_after old.given) (most_after new.given) old.crowd.places.items new.crowd.places.items (λ fs. let e = much fs in omega (arith, e, counted)) fed whole.room)
+          let after : ℕ = most_after new.given + sum_of (told_of new.crowd.places.items) in
+          subst (λ (h : Shared). FewPlaces h after 0 new.crowd.places.items) (sym all)
+          (counts_fed (is_for (chains_of old.slots.items) i) (work_of i) old.crowd.shared 0 (most_after old.given + sum_of (told_of old.crowd.places.items)) after old.crowd.places.items new.crowd.places.items (λ fs. let e = much fs in omega (arith, e, counted, told_here)) fed whole.room)
 
       pub gives_whole : IsWhole new
+      unfolding accepts ends fuels told
       gives_whole = record {
         slots = record {
           crowd = crowd_still;
           slots = subst (λ s. length s.items ≤ 16) (sym slots) whole.slots.slots;
           few = subst (λ n. 16 + n ≤ 20) (sym many) whole.slots.few;
-          chains = subst (λ s. Chains (homes_of new.crowd.places.items) (16 + new.swaps) 0 (chains_of s.items)) (sym slots)
-              (subst (λ hs. Chains hs (16 + new.swaps) 0 (chains_of old.slots.items)) (sym housed_at)
+          chains = subst (λ s. Chains (homes_of new.crowd.places.items) (16 + swaps new) 0 (chains_of s.items)) (sym slots)
+              (subst (λ hs. Chains hs (16 + swaps new) 0 (chains_of old.slots.items)) (sym housed_at)
               (subst (λ n. Chains (homes_of old.crowd.places.items) (16 + n) 0 (chains_of old.slots.items)) (sym many) whole.slots.chains));
-          unspent = subst (λ n. Unspent (16 + n) (seens_of new.crowd)) (sym many) (unspent_given (16 + old.swaps) (seens_of old.crowd) (seens_of new.crowd) images whole.slots.unspent);
+          unspent = subst (λ n. Unspent (16 + n) (seens_of new.crowd)) (sym many) (unspent_given (16 + swaps old) (seens_of old.crowd) (seens_of new.crowd) images whole.slots.unspent);
           joined = subst (λ j. AllJoined j.items (seens_of new.crowd)) (sym same_journal) (joined_given old.crowd.journal.items (seens_of old.crowd) (seens_of new.crowd) images whole.slots.joined);
           rest = subst (λ s. Rest (chains_of s.items) (seens_of new.crowd)) (sym slots) rest_still;
         };
         room = room_still;
         raws = subst (λ (h : Shared). HaveRaws h.store h.page) (sym all) whole.raws;
+        told = λ v n at. whole.told v n (ap (λ ns. slice_get ns v) (sym (told_same old.crowd.places.items new.crowd.places.items but_queues)) ∙ at);
         given = omega (arith, counted, room);
         swaps = subst (λ n. n ≤ 4) (sym many) whole.swaps;
+        fuels = λ w n at. whole.fuels w n (ap (λ ns. slice_get ns w) (ap (λ s. map (λ (x : Slot). x.fuel) s.items) (sym slots)) ∙ at);
+        free = λ v past.
+            let f = whole.free v (subst (λ n. 16 + n ≤ v) many past) in
+            (ap (λ flags. slice_index_or flags v false) (accepts_alike old.crowd.places.items new.crowd.places.items (are_alike old.crowd.places.items new.crowd.places.items but_queues)) ∙ f.0, ap (λ ns. slice_index_or ns v body) (roots_alike old.crowd.places.items new.crowd.places.items (are_alike old.crowd.places.items new.crowd.places.items but_queues)) ∙ f.1, ap (λ ns. slice_index_or ns v 0) (told_same old.crowd.places.items new.crowd.places.items but_queues) ∙ f.2);
       }

@@ -4,8 +4,8 @@ use Rattle.std.specs.Prelude.{slice_get, nat_eq, if◌then◌else◌, ◌||◌}
 use Rattle.std.specs.List.{list_any}
 use Rattle.slot_laws.specs.Slots.{Each, has}
 use Rattle.slot_laws.specs.Chains.{Chains, IsChain, last_at, last_from, last_life, listed}
-use Rattle.page_load.specs.slot_picks.declared.slots.Slot.{Slot}
-use Rattle.page_load.specs.slot_picks.Crowds.{chains_of}
+use Rattle.slot_rounds.specs.page_load.slot_picks.declared.slots.Slot.{Slot}
+use Rattle.slot_rounds.specs.page_load.slot_picks.Crowds.{chains_of}
 use Rattle.widget_host.specs.declared.items.HostItem.{HostItem}
 use Rattle.widget_host.specs.declared.items.HostItem.TheVariants as host
 use Rattle.widget_host.specs.Housed.{IsItem, is_for}
@@ -96,7 +96,7 @@ not_last_at homes born k v w [] h within out = absurd (omega (arith, within))
 not_last_at homes born k v zero (c ∷ cs) h within out = not_last v c h.0.some (both_no (has v c) (listed v cs) out).0
 not_last_at homes born k v (suc w) (c ∷ cs) h within out = not_last_at homes born (k + 1) v w cs h.1 (omega (arith, within)) (both_no (has v c) (listed v cs) out).1
 
-not_last_any : (homes : List ℕ) (born k v : ℕ) (cs : List (List ℕ)) → Chains homes born k cs → listed v cs ≡ false → list_any (λ c. nat_eq (last_life c) v) cs ≡ false
+pub not_last_any : (homes : List ℕ) (born k v : ℕ) (cs : List (List ℕ)) → Chains homes born k cs → listed v cs ≡ false → list_any (λ c. nat_eq (last_life c) v) cs ≡ false
 not_last_any homes born k v [] h out = refl
 not_last_any homes born k v (c ∷ cs) h out =
     let b = both_no (has v c) (listed v cs) out in

@@ -1,7 +1,17 @@
 mod Lasts
 mod Fed
 mod Shown
+mod Stands
 mod Given
+mod Sets
+mod Born
+mod Bearing
+mod Alike
+mod Same
+mod Rounding
+mod Ways
+mod Passed
+mod Whole
 mod Staying
 mod Firsts
 mod Counting

@@ -1,5 +1,5 @@
 -- Each node of the page keeps its RawNode, and those that come have theirs.
-use Rattle.std.proofs.Common.{◌≡◌, ℕ, ◌<◌, Bool, true, false, refl, ap, ◌∙◌, length, arith, eq-eqb}
+use Rattle.std.proofs.Common.{◌≡◌, ℕ, ◌<◌, List, Bool, true, false, refl, ap, ◌∙◌, length, arith, eq-eqb}
 use Rattle.code_units.specs.declared.owner.Owner.{Owner}
 use Rattle.code_units.specs.declared.owner.Owner.TheVariants as owner
 use Rattle.page_nodes.specs.Entries.{at}
@@ -9,8 +9,9 @@ use Rattle.page_image.specs.Image.{own, owns}
 use Rattle.page_image.proofs.Looks.{number_low}
 use Rattle.native_image.specs.Sound.{HasRaw}
 use Rattle.page_build.specs.Homes.{HaveRaws}
-use Rattle.page_load.specs.slot_picks.declared.crowd.Crowd.{Crowd}
-use Rattle.page_load.specs.slot_picks.Crowds.{FineCrowd, KeepsCrowd}
+use Rattle.slot_rounds.specs.page_load.slot_picks.declared.crowd.Crowd.{Crowd}
+use Rattle.slot_rounds.specs.page_load.slot_picks.declared.slots.Slot.{Slot}
+use Rattle.slot_rounds.specs.page_load.slot_picks.Crowds.{FineCrowd, KeepsSlots}
 use Rattle.widget_host.specs.declared.host.Host.{Host}
 use Rattle.widget_host.specs.Housed.{IsApart, accepts}
 use Rattle.widget_host.proofs.Shown.{fine_at, life_accepted}
@@ -35,10 +36,10 @@ module _ (h : Host) (apart : IsApart h) where
       (fine_at h.crowd.shared 0 v v h.crowd.places.items r.0 (omega arith) r.1 crowd.fine r.2).sound.raws v n owned
 
 -- those of the host were there before
-module _ (c d : Crowd) (keeps : KeepsCrowd c d) (mine : (v n : ℕ) → owns d.shared.page v n ≡ true → HasRaw d.shared.store.cells n) (h : HaveRaws c.shared.store c.shared.page) where
+module _ (c d : Crowd) (ss ts : List Slot) (keeps : KeepsSlots c d ss ts) (mine : (v n : ℕ) → owns d.shared.page v n ≡ true → HasRaw d.shared.store.cells n) (h : HaveRaws c.shared.store c.shared.page) where
   raw_by : (n : ℕ) → n < length (nodes d.shared.page) → (o : Owner) → (at (nodes d.shared.page) n).owner ≡ o → HasRaw d.shared.store.cells n
   unfolding owns
-  raw_by n lt owner.Host is = keeps.raws n (h n (keeps.page.host.none_comes n lt is))
+  raw_by n lt owner.Host is = keeps.lives.raws n (h n (keeps.page.host.none_comes n lt is))
   raw_by n lt (owner.Widget v) is = mine v n (ap (λ o. same_owner o (owner.Widget v)) is ∙ eq-eqb v v refl)
 
   pub raws_stay : HaveRaws d.shared.store d.shared.page

@@ -1,7 +1,7 @@
 -- What can be relied on of the store and the page of a host.
 use Rattle.std.proofs.Common.{◌≡◌, ℕ, zero, suc, ◌+◌, ◌≤◌, List, [], ◌∷◌, length, map, true, false, refl, sym, ap, ◌∙◌, subst, arith, Option, None, Some}
 use Rattle.std.proofs.lemmas.Bool.{eqb-true}
-use Rattle.std.specs.Prelude.{slice_get, slice_index_or, is_some}
+use Rattle.std.specs.Prelude.{slice_get, slice_index_or, is_some, IfSome}
 use Rattle.std.specs.Option.{option_and_then, option_map}
 use Rattle.js_tree.specs.Trees.{trees}
 use Rattle.js_names.specs.declared.code.Code.{Code}
@@ -15,17 +15,19 @@ use Rattle.page_image.specs.Image.{HasRoot}
 use Rattle.native_image.specs.Sound.{HasRaw}
 use Rattle.js_image.specs.Held.{IsConfined}
 use Rattle.life_laws.specs.Life.{Going, Seen, image, shown}
-use Rattle.page_load.specs.turn_calls.declared.turn.Shared.{Shared}
-use Rattle.page_load.specs.slot_picks.declared.crowd.Place.{Place}
-use Rattle.page_load.specs.life_queue.Lives.{going_of, life_seen, own_of}
-use Rattle.page_load.specs.slot_picks.Places.{HoldsItsOwn, accepts_of, codes_of, lent}
+use Rattle.slot_rounds.specs.page_load.turn_calls.declared.turn.Shared.{Shared}
+use Rattle.slot_rounds.specs.page_load.slot_picks.declared.crowd.Place.{Place}
+use Rattle.slot_rounds.specs.page_load.turn_calls.declared.turn.Turn.{Turn}
+use Rattle.slot_rounds.specs.page_load.life_queue.Fine.{FineTurn}
+use Rattle.slot_rounds.specs.page_load.life_queue.Lives.{going_of, life_seen, own_of, trees_in}
+use Rattle.slot_rounds.specs.page_load.slot_picks.Places.{HoldsItsOwn, accepts_of, codes_of, lent}
 use Rattle.widget_host.specs.declared.host.Host.{Host}
-use Rattle.widget_host.specs.Housed.{IsHoused, accepts, own_trees, scripts, seens}
+use Rattle.widget_host.specs.Housed.{IsHoused, IsWhole, accepts, own_trees, scripts, seens}
 use Rattle.widget_host.specs.Shapes.{HasOneRaw, IsReadOff, cells_of_host, cells_of_widgets}
 use Rattle.widget_host.proofs.Lasts.{some_is}
 use Rattle.widget_host.proofs.Counting.{cells_counted}
 use Rattle.widget_host.proofs.Staying.{scripts_by}
-use Rattle.widget_host.proofs.Shown.{life_accepted, life_at, own_at, seen_of_life}
+use Rattle.widget_host.proofs.Shown.{fine_at, life_accepted, life_at, own_at, seen_of_life}
 
 none_some : {A : Type 0} {a : A} → None ≡ Some a → ⊥
 none_some e = cc
@@ -130,3 +132,11 @@ module _ (h : Host) where
     pub counted_at : length h.crowd.shared.store.cells ≡ cells_of_host h.crowd.shared.store + cells_of_widgets h.crowd.shared.store (length h.crowd.places.items)
     unfolding IsHoused accepts
     counted_at = cells_counted h.crowd.shared.store (length h.crowd.places.items) (λ v le. (housed.0.others v (none_behind h.crowd.places.items v le)).cells)
+
+-- a turn has no more fuel left than it was granted
+pub grant_kept : (h : Host) → IsWhole h → (v : ℕ) (l : Place) → slice_get h.crowd.places.items v ≡ Some l → l.life.accepted ≡ true → IfSome l.life.turn (λ t. t.left ≤ l.life.grant)
+grant_kept h whole v l at is = left_few l.life.turn (fine_at h.crowd.shared 0 v v h.crowd.places.items l (omega arith) at whole.slots.crowd.fine is).turn
+  where
+    left_few : (o : Option Turn) → IfSome o (FineTurn (trees_in (lent h.crowd.shared l)) v h.crowd.shared.store h.crowd.shared.page l.life.grant) → IfSome o (λ t. t.left ≤ l.life.grant)
+    left_few None f = tt
+    left_few (Some t) f = f.left

@@ -7,18 +7,18 @@ use Rattle.std.proofs.lemmas.Option.{slice_get_read}
 use Rattle.page_image.specs.Image.{forest}
 use Rattle.life_laws.specs.Life.{Going, Seen, image, shown}
 use Rattle.widget_meaning.specs.OwnState.{OwnState}
-use Rattle.page_load.specs.turn_calls.declared.turn.Shared.{Shared}
-use Rattle.page_load.specs.slot_picks.declared.crowd.Place.{Place}
-use Rattle.page_load.specs.life_queue.Lives.{going_of, life_seen, own_of}
-use Rattle.page_load.specs.slot_picks.declared.slots.Slot.{Slot}
-use Rattle.page_load.specs.slot_picks.Crowds.{chains_of, seens_of}
-use Rattle.slot_laws.specs.Slots.{Each}
+use Rattle.slot_rounds.specs.page_load.turn_calls.declared.turn.Shared.{Shared}
+use Rattle.slot_rounds.specs.page_load.slot_picks.declared.crowd.Crowd.{Crowd}
+use Rattle.slot_rounds.specs.page_load.slot_picks.declared.crowd.Place.{Place}
+use Rattle.slot_rounds.specs.page_load.life_queue.Lives.{going_of, life_seen, own_of}
+use Rattle.slot_rounds.specs.page_load.slot_picks.declared.slots.Slot.{Slot}
+use Rattle.slot_rounds.specs.page_load.slot_picks.Crowds.{chains_of, present_of, seens_of}
 use Rattle.slot_laws.specs.Chains.{IsChain}
-use Rattle.page_load.specs.slot_picks.Places.{FinePlace, FinePlaces, OwnPlace, OwnPlaces, accepts_of, homes_of, is_accepted, lent, seen_at, seens_from}
+use Rattle.slot_rounds.specs.page_load.slot_picks.Places.{FinePlace, FinePlaces, OwnPlace, OwnPlaces, accepts_of, homes_of, is_accepted, lent, seen_at, seens_from}
 use Rattle.page_lines.specs.Ends.{AreEnds}
 use Rattle.widget_host.specs.declared.host.Host.{Host}
 use Rattle.widget_host.specs.declared.lines.RunLine.{RunLine}
-use Rattle.widget_host.specs.Housed.{AreShown, IsLineOf, IsShown, IsWhole, accepts, chains, present, rooted, seens}
+use Rattle.widget_host.specs.Housed.{AreShown, IsLineOf, IsShown, IsWhole, accepts, chains, present, rooted, seens, swaps}
 use Rattle.widget_host.proofs.Lasts.{slot_chain, some_is}
 use Rattle.widget_host.proofs.Fed.{seen_accepted}
 
@@ -86,18 +86,18 @@ module _ (h : Host) where
       ap (λ (o : OwnState). o.forest) (sym is.1.2) ∙ ap (λ (t : Seen). (image t).forest) (seen_of_life h.crowd.shared w h.crowd.places.items r.0 s r.1 is.0 is.1.1) ∙ life_forest h.crowd.shared w r.0
 
   -- the slots that are shown have the trees of the page
-  pub ends_shown : (w : ℕ) (names : List (List ℕ)) (ends : List (Option OwnState)) → length names ≡ length ends → AreShown h w ends
-      → AreEnds h.crowd.shared.page (rooted (is_accepted h.crowd.places.items) w names) ends
+  pub ends_shown : (cs : List (List ℕ)) (ends : List (Option OwnState)) → AreShown h cs ends
+      → AreEnds h.crowd.shared.page (rooted (is_accepted h.crowd.places.items) cs) ends
   unfolding accepts
-  ends_shown w [] [] e is = tt
-  ends_shown w [] (o ∷ ends) e is = absurd (omega (arith, e))
-  ends_shown w (name ∷ names) [] e is = absurd (omega (arith, e))
-  ends_shown w (name ∷ names) (None ∷ ends) e is =
-      subst (λ (b : Bool). AreEnds h.crowd.shared.page ((if b then Some w else None) ∷ rooted (is_accepted h.crowd.places.items) (w + 1) names) (None ∷ ends)) (sym is.0)
-      (ends_shown (w + 1) names ends (omega (arith, e)) is.1)
-  ends_shown w (name ∷ names) (Some own ∷ ends) e is =
-      subst (λ (b : Bool). AreEnds h.crowd.shared.page ((if b then Some w else None) ∷ rooted (is_accepted h.crowd.places.items) (w + 1) names) (Some own ∷ ends)) (sym is.0.0)
-      (one_end w own is.0, ends_shown (w + 1) names ends (omega (arith, e)) is.1)
+  ends_shown [] [] is = tt
+  ends_shown [] (o ∷ ends) is = absurd is
+  ends_shown (c ∷ cs) [] is = absurd is
+  ends_shown (c ∷ cs) (None ∷ ends) is =
+      subst (λ (b : Bool). AreEnds h.crowd.shared.page ((if b then Some (present_of c) else None) ∷ rooted (is_accepted h.crowd.places.items) cs) (None ∷ ends)) (sym is.0)
+      (ends_shown cs ends is.1)
+  ends_shown (c ∷ cs) (Some own ∷ ends) is =
+      subst (λ (b : Bool). AreEnds h.crowd.shared.page ((if b then Some (present_of c) else None) ∷ rooted (is_accepted h.crowd.places.items) cs) (Some own ∷ ends)) (sym is.0.0)
+      (one_end (present_of c) own is.0, ends_shown cs ends is.1)
 
 -- the present life of a slot
 pub present_is : (ss : List Slot) (w v : ℕ) (s : Slot) → slice_get ss w ≡ Some s → slice_get s.lives.items 0 ≡ Some v → present w (chains_of ss) ≡ v
@@ -111,9 +111,10 @@ present_is (t ∷ ss) (suc w) v s at first = present_is ss w v s at first
 
 -- ## The present life of a slot of a host
 
-first_each : (P : ℕ → Type 0) (xs : List ℕ) (v : ℕ) → slice_get xs 0 ≡ Some v → Each P xs → P v
-first_each P [] v at ps = cc
-first_each P (x ∷ xs) v at ps = subst P (some_is x v at) ps.0
+within : {X : Type 0} (xs : List X) (n : ℕ) (x : X) → slice_get xs n ≡ Some x → n < length xs
+within [] n x at = cc
+within (y ∷ xs) zero x at = omega arith
+within (y ∷ xs) (suc n) x at = omega (arith, within xs n x at)
 
 module _ (h : Host) (w : ℕ) (s : Slot) (whole : IsWhole h) (there : w < length (chains h)) (is : s ≡ get_or h.slots.items w s) where
   pub slot_there : w < length h.slots.items
@@ -123,35 +124,30 @@ module _ (h : Host) (w : ℕ) (s : Slot) (whole : IsWhole h) (there : w < length
   slot_at : slice_get h.slots.items w ≡ Some s
   slot_at = slice_get_read h.slots.items (length h.slots.items) w s refl slot_there is
 
-  chain_of : IsChain (homes_of h.crowd.places.items) (16 + h.swaps) (0 + w) s.lives.items
-  chain_of = slot_chain (homes_of h.crowd.places.items) (16 + h.swaps) 0 w h.slots.items s slot_at whole.slots.chains
+  chain_of : IsChain (homes_of h.crowd.places.items) (16 + swaps h) (0 + w) s.lives.items
+  chain_of = slot_chain (homes_of h.crowd.places.items) (16 + swaps h) 0 w h.slots.items s slot_at whole.slots.chains
 
   pub some_lives : 0 < length s.lives.items
   some_lives = chain_of.some
 
-  module _ (v : ℕ) (first : slice_get s.lives.items 0 ≡ Some v) where
-    pub life_there : v < length h.crowd.places.items
-    life_there = let e = first_each (λ u. u < 16 + h.swaps) s.lives.items v first chain_of.below in omega (arith, e, whole.slots.few, whole.slots.crowd.places)
+  pub present_at : (v : ℕ) → slice_get s.lives.items 0 ≡ Some v → present w (chains h) ≡ v
+  unfolding chains
+  present_at v first = present_is h.slots.items w v s slot_at first
 
-    pub present_at : present w (chains h) ≡ v
-    unfolding chains
-    present_at = present_is h.slots.items w v s slot_at first
+-- ## The line of a life
 
-    module _ (accepted : accepts h (present w (chains h)) ≡ true) where
-      pub accepted_life : (l : Place) → slice_get h.crowd.places.items v ≡ Some l → l.life.accepted ≡ true
-      unfolding accepts
-      accepted_life l at =
-          let flag : slice_index_or (accepts_of h.crowd.places.items) v false ≡ true = subst (λ (n : ℕ). slice_index_or (accepts_of h.crowd.places.items) n false ≡ true) present_at accepted in
-          sym (accepts_at h.crowd.places.items v l at) ∙ flag
+module _ (c : Crowd) (v : ℕ) (is : is_accepted c.places.items v ≡ true) where
+  pub life_there : v < length c.places.items
+  life_there = let r = life_accepted c.places.items v is in within c.places.items v r.0 r.1
 
-      pub line_told : (r : RunLine) (l : Place) (spent : ℕ) (x : Seen) → l ≡ get_or h.crowd.places.items v l
-          → ((y : Seen) → slice_get (seens_of h.crowd) v ≡ Some y → spent ≡ (image y).spent)
-          → ((k : Shared) (u : ℕ) → spent ≡ (image (life_seen k u l.life)).spent → IsLineOf r (image (life_seen k u l.life)))
-          → slice_get (seens h) (present w (chains h)) ≡ Some x → IsLineOf r (image x)
-      unfolding accepts seens
-      line_told r l spent x is_life spends told at =
-          let life_is : slice_get h.crowd.places.items v ≡ Some l = slice_get_read h.crowd.places.items (length h.crowd.places.items) v l refl life_there is_life in
-          let here : slice_get (seens_of h.crowd) v ≡ Some x = subst (λ (n : ℕ). slice_get (seens_of h.crowd) n ≡ Some x) present_at at in
-          let flag : slice_index_or (accepts_of h.crowd.places.items) v false ≡ true = subst (λ (n : ℕ). slice_index_or (accepts_of h.crowd.places.items) n false ≡ true) present_at accepted in
-          let same : x ≡ life_seen (lent h.crowd.shared l) v l.life = seen_of_life h.crowd.shared v h.crowd.places.items l x life_is flag here in
-          subst (λ (y : Seen). IsLineOf r (image y)) (sym same) (told (lent h.crowd.shared l) v (spends x here ∙ ap (λ (y : Seen). (image y).spent) same))
+  pub life_is : (l : Place) → slice_get c.places.items v ≡ Some l → l.life.accepted ≡ true
+  life_is l at = sym (accepts_at c.places.items v l at) ∙ is
+
+  pub line_told : (r : RunLine) (l : Place) (spent : ℕ) (x : Seen) → l ≡ get_or c.places.items v l
+      → ((y : Seen) → slice_get (seens_of c) v ≡ Some y → spent ≡ (image y).spent)
+      → ((k : Shared) (u : ℕ) → spent ≡ (image (life_seen k u l.life)).spent → IsLineOf r (image (life_seen k u l.life)))
+      → slice_get (seens_of c) v ≡ Some x → IsLineOf r (image x)
+  line_told r l spent x is_life spends told here =
+      let at : slice_get c.places.items v ≡ Some l = slice_get_read c.places.items (length c.places.items) v l refl life_there is_life in
+      let same : x ≡ life_seen (lent c.shared l) v l.life = seen_of_life c.shared v c.places.items l x at is here in
+      subst (λ (y : Seen). IsLineOf r (image y)) (sym same) (told (lent c.shared l) v (spends x here ∙ ap (λ (y : Seen). (image y).spent) same))

@@ -1,5 +1,5 @@
 -- A host as plain data: what is seen of its lives, what holds of it, and what its calls do.
-use Rattle.std.specs.Prelude.{◌≡◌, ◌<◌, ◌≤◌, ◌+◌, ◌*◌, ◌^◌, ℕ, zero, suc, List, [], ◌∷◌, map, length, nat_eq, ◌&&◌, Bool, true, false, slice_get, slice_index_or, Option, Some, None, option_map, if◌then◌else◌}
+use Rattle.std.specs.Prelude.{◌≡◌, ◌≢◌, ◌<◌, ◌≤◌, ◌+◌, ◌*◌, ◌^◌, ◌++◌, ℕ, zero, suc, List, [], ◌∷◌, map, length, nat_eq, ◌&&◌, Bool, true, false, slice_get, slice_set, slice_index_or, Option, Some, None, option_map, if◌then◌else◌}
 use Rattle.std.specs.List.{list_any}
 use Rattle.std.specs.declared.alloc.Global.{Global}
 use Rattle.std.specs.declared.vec.Vec.{Vec}
@@ -9,25 +9,34 @@ use Rattle.js_tree.specs.Trees.{trees}
 use Rattle.js_names.specs.declared.code.Code.{Code}
 use Rattle.js_names.specs.Code.{tree_in}
 use Rattle.js_image.specs.Plans.{meant_cause}
+use Rattle.adsafe_rules.specs.Accepts.{tree_of}
 use Rattle.life_laws.specs.Life.{Seen, due, image}
+use Rattle.page_tree.specs.page_nodes.Entries.{body}
 use Rattle.pick_laws.specs.declared.entry.PickEntry.{PickEntry}
-use Rattle.slot_laws.specs.Chains.{Unspent, last_life, last_at}
-use Rattle.page_load.specs.slot_picks.Places.{codes_of, homes_of, is_accepted}
-use Rattle.page_load.specs.slot_picks.declared.crowd.Place.{Place}
-use Rattle.page_load.specs.slot_picks.Crowds.{AreHoused, FewCrowd, OwnCrowd, PageStays, chains_of, seens_of}
+use Rattle.pick_laws.specs.declared.entry.Picked.{Picked}
+use Rattle.pick_laws.specs.Journal.{on_at}
+use Rattle.slot_laws.specs.Chains.{PickedIn, Unspent, joins, last_life, last_at}
+use Rattle.slot_rounds.specs.page_load.slot_picks.Places.{HoldsItsOwn, codes_of, homes_of, is_accepted, roots_of, told_of}
+use Rattle.slot_rounds.specs.page_load.slot_picks.declared.crowd.Place.{Place}
+use Rattle.slot_rounds.specs.page_load.slot_picks.declared.slots.Slot.{Slot}
+use Rattle.slot_rounds.specs.page_load.slot_picks.Crowds.{AreHoused, AreStanding, FewCrowd, OwnCrowd, chains_of, present_of, seens_of, spots_of}
+use Rattle.widget_meaning.specs.Limits.{max_posts}
 use Rattle.widget_meaning.specs.Values as meaning
 use Rattle.widget_meaning.specs.OwnState.{OwnState}
 use Rattle.widget_meaning.specs.Items.{Item, Occurs, Advance, item}
 use Rattle.widget_meaning.specs.Alone.{Content, beginning, loaded}
-use Rattle.page_load.specs.turn_calls.declared.turn.Shared.{Shared}
-use Rattle.page_load.specs.life_queue.Lives.{event_of}
+use Rattle.slot_rounds.specs.page_load.turn_calls.declared.turn.Shared.{Shared}
+use Rattle.slot_rounds.specs.page_load.life_queue.Lives.{event_of}
 use Rattle.page_spec.specs.declared.PageSpec.{PageSpec}
+use Rattle.page_spec.specs.declared.SlotContent.{SlotContent}
 use Rattle.page_spec.specs.declared.SlotSpec.{SlotSpec}
 use Rattle.page_spec.specs.Contents.{content_of}
 use Rattle.page_spec.specs.Pages.{PagePiece, piece_of}
 use Rattle.page_build.specs.Homes.{HaveRaws}
-use Rattle.page_build.specs.Layout as layout
-use Rattle.page_load.specs.Loads.{HasNothing, HasScripts}
+use Rattle.page_build.specs.Standing.{HavePlaces, IsLaidBy, PagePasses}
+use Rattle.slot_rounds.specs.page_load.Contents.{HasScriptsIn, content_in}
+use Rattle.slot_rounds.specs.page_load.Joining.{PageJoins}
+use Rattle.slot_rounds.specs.page_load.Loads.{HasNothing, HasScripts, singles}
 use Rattle.widget_host.specs.declared.host.Host.{Host}
 use Rattle.widget_host.specs.declared.items.HostItem.{HostItem}
 use Rattle.widget_host.specs.declared.items.HostItem.TheVariants as host
@@ -77,9 +86,33 @@ own_trees h v = map trees (scripts h v)
 unfoldable pub channels : Host → List (ℕ × ℕ)
 channels h = h.channels.items
 
+-- the name of each slot
+unfoldable pub names : Host → List (List ℕ)
+names h = map (λ (s : Slot). s.name) h.slots.items
+
+-- the fuel of each turn of the lives of a slot
+unfoldable pub fuels : Host → List ℕ
+fuels h = map (λ (s : Slot). s.fuel) h.slots.items
+
+-- the libraries of the page, each as its tree
+unfoldable pub libraries : Host → List Tree
+libraries h = map tree_in h.libs.items
+
+-- the node that stands in each slot: that of the life that is present
+unfoldable pub spots : Host → List ℕ
+spots h = spots_of h.crowd h.slots.items
+
+-- the life that each swap that was given ends, in order
+unfoldable pub ends : Host → List ℕ
+ends h = h.ends.items
+
 -- how many swaps it was given
-unfoldable pub swaps : Host → ℕ
-swaps h = h.swaps
+abbrev pub swaps : Host → ℕ
+swaps h = length (ends h)
+
+-- how many posts of a life rounds have taken
+unfoldable pub told : Host → List ℕ
+told h = told_of h.crowd.places.items
 
 -- how many items it was given
 unfoldable pub given : Host → ℕ
@@ -93,43 +126,78 @@ marked h = h.marked
 abbrev pub most_after : ℕ → ℕ
 most_after n = 2 ^ 31 + n * 400000
 
--- What holds also after want of memory: each accepted life holds its own alone, and a number that is no accepted life's has no cell and no node.
+-- the sum of some numbers
+abbrev pub sum_of : List ℕ → ℕ
+sum_of [] = 0
+sum_of (n ∷ ns) = n + sum_of ns
+
+-- What holds also after want of memory: each accepted life holds its own alone, and a number that is no accepted life's has no cell and no node; in each slot stands the node of its present life.
 pub record IsApart (h : Host) : Type 0 where
+  pub twenty : length h.crowd.places.items ≡ 20
   pub own : OwnCrowd h.crowd
   pub others : (v : ℕ) → accepts h v ≡ false → HasNothing v h.crowd.shared.store h.crowd.shared.page
+  pub standing : AreStanding h.crowd h.slots.items
 
--- Its lives are in their slots, their counts have room, and each accepted one is sound (`FineLife`): it is confined, and what its turn, its queue and its loop hold is its own. Each node of the page has its RawNode.
+-- Its lives are in their slots, their counts have room, and each accepted one is sound (`FineLife`): it is confined, and what its turn, its queue and its loop hold is its own. Each node of the page has its RawNode. Where no life was born yet the place is free.
 pub record IsWhole (h : Host) : Type 0 where
-  pub slots : AreHoused (16 + h.swaps) h.crowd h.slots.items
-  pub room : FewCrowd (most_after h.given) h.crowd
+  pub slots : AreHoused (16 + swaps h) h.crowd h.slots.items
+  pub room : FewCrowd (most_after h.given + sum_of (told h)) h.crowd
   pub raws : HaveRaws h.crowd.shared.store h.crowd.shared.page
+  pub free : (v : ℕ) → 16 + swaps h ≤ v → (accepts h v ≡ false) × (slice_index_or (roots_of h.crowd.places.items) v body ≡ body) × (slice_index_or (told h) v 0 ≡ 0)
+  pub told : (v n : ℕ) → slice_get (told h) v ≡ Some n → n ≤ max_posts
+  pub fuels : (w n : ℕ) → slice_get (fuels h) w ≡ Some n → n ≤ 1000000
   pub given : h.given ≤ 4096
-  pub swaps : h.swaps ≤ 4
+  pub swaps : swaps h ≤ 4
 
 -- so it is of a host: whole unless it is marked, and its lives apart
 unfoldable pub IsHoused : Host → Type 0
 IsHoused h = IsApart h × (marked h ≡ false → IsWhole h)
 
--- who has the root of each slot from a number on: its life, if its file was accepted
-abbrev pub rooted : (ℕ → Bool) → ℕ → List (List ℕ) → List (Option ℕ)
-rooted accepted w [] = []
-rooted accepted w (name ∷ names) = (if accepted w then Some w else None) ∷ rooted accepted (w + 1) names
+-- each accepted life holds its own alone, in the store and on the page as they are
+abbrev pub HoldAll : Host → Type 0
+HoldAll h = (v : ℕ) (p : Place) → slice_get (places h) v ≡ Some p → p.life.accepted ≡ true → HoldsItsOwn (shared h) v p
 
--- its page has these pieces, and its slots have these names
+-- who has the root in each slot: its present life, if its file was accepted
+abbrev pub rooted : (ℕ → Bool) → List (List ℕ) → List (Option ℕ)
+rooted accepted cs = map (λ c. if accepted (present_of c) then Some (present_of c) else None) cs
+
+-- its slots have these names, and its page these pieces, among them each slot
 unfoldable pub IsLaid : Host → List (List ℕ) → List PagePiece → Type 0
-IsLaid h names pieces = layout.IsLaid h.crowd.shared.page names (rooted (is_accepted h.crowd.places.items) 0 names) pieces
+IsLaid h xs pieces = (xs ≡ names h) × HavePlaces (length xs) pieces × IsLaidBy h.crowd.shared.page (spots h) pieces
 
 -- ## What stays
 
--- What each call keeps, also after want of memory: the slot of each life, whether its file was accepted, and its scripts; the channels and how many swaps were given; what stays of the page, whichever life is picked (the nodes of the host and the order of the children of `body`, the owners and numbers of nodes, the roots); and of which pieces the page is made.
+-- What no call changes, also after want of memory: the channels, the libraries, the names of the slots and their fuel.
+pub record KeepsPlan (old new : Host) : Type 0 where
+  pub channels : channels new ≡ channels old
+  pub libraries : libraries new ≡ libraries old
+  pub names : names new ≡ names old
+  pub fuels : fuels new ≡ fuels old
+
+-- What each call but `give_swap` keeps, also after want of memory: that; the slot of each life, whether its file was accepted, and its scripts; the swaps that were given; what stays of the page, whichever slots are picked: the nodes of the host and the order of the children of `body`, among which in each slot stands the node of its present life (`PagePasses`), the owners and numbers of nodes, the roots; and of which pieces the page is made.
 pub record KeepsHost (old new : Host) : Type 0 where
+  pub plan : KeepsPlan old new
   pub homes : homes new ≡ homes old
   pub accepts : (v : ℕ) → accepts new v ≡ accepts old v
   pub scripts : (v : ℕ) → scripts new v ≡ scripts old v
-  pub channels : channels new ≡ channels old
-  pub swaps : swaps new ≡ swaps old
-  pub page : PageStays (shared old).page (shared new).page
-  pub laid : (names : List (List ℕ)) (pieces : List PagePiece) → IsLaid old names pieces → IsLaid new names pieces
+  pub ends : ends new ≡ ends old
+  pub page : PagePasses (shared old).page (shared new).page (spots old) (spots new)
+  pub laid : (xs : List (List ℕ)) (pieces : List PagePiece) → IsLaid old xs pieces → IsLaid new xs pieces
+
+-- ## Picks one after the other
+
+-- Slots were picked with this slice, one after the other, each pick from what the one before left; and after each, in the store and on the page as they were then, each accepted life held its own alone.
+pub data Passes (k : ℕ) (old : Host) : Host → Type 0 where
+  no_pick : Passes k old old
+  one_pick : {w : ℕ} {r : Picked} {mid new : Host} → Passes k old mid
+      → PickedIn w k r (chains mid) (chains new) (seens mid) (seens new) (journal mid) (journal new)
+      → HoldAll new → Passes k old new
+
+-- Such picks were made, also where memory was wanted in the end; else they led to this host.
+pub record PassesUntil (k : ℕ) (old : Host) (ended : Bool) (new : Host) : Type 0 where
+  pub last : Host
+  pub picks : Passes k old last
+  pub is : ended ≡ true → new ≡ last
 
 -- ## Items
 
@@ -167,17 +235,43 @@ pub record GivesItem (i : HostItem) (old new : Host) : Type 0 where
   pub same : shared new ≡ shared old
   pub stays : KeepsHost old new
 
+-- ## Swaps
+
+-- a life with this widget has it to load; one that was refused has none
+abbrev pub LoadsLife : Host → ℕ → ℕ → Option Content → Type 0
+LoadsLife h v fuel None = accepts h v ≡ false
+LoadsLife h v fuel (Some c) = (accepts h v ≡ true) × ((s : Seen) → slice_get (seens h) v ≡ Some s → (image s ≡ beginning c fuel) × (due s ≡ loaded c fuel))
+
+-- the number of the life that the next swap begins
+abbrev pub newborn : Host → ℕ
+newborn h = 16 + swaps h
+
+-- A life with this content was born behind the last one of a slot, which it will end. What is seen of each other life stays.
+pub record BearsLife (to : ℕ) (content : SlotContent) (old new : Host) : Type 0 where
+  pub ends : ends new ≡ ends old ++ last_at to (chains old) ∷ []
+  pub chains : chains new ≡ on_at to (joins (newborn old)) (chains old)
+  pub homes : homes new ≡ slice_set (homes old) (newborn old) to
+  pub life : LoadsLife new (newborn old) (slice_index_or (fuels old) to 0) (content_in (libraries old) content)
+  pub scripts : HasScriptsIn (libraries old) content (scripts new (newborn old))
+  pub told : told new ≡ slice_set (told old) (newborn old) 0
+  pub seens : (v : ℕ) → v ≢ newborn old → slice_get (seens new) v ≡ slice_get (seens old) v
+  pub journal : journal new ≡ journal old
+
+-- A swap of a slot was given: its life was born.
+pub record GivesSwap (to : ℕ) (content : SlotContent) (old new : Host) : Type 0 where
+  pub life : BearsLife to content old new
+  pub given : given new ≡ given old + 1
+
+-- What `give_swap` keeps, also after want of memory: what no call changes; of each other life whether it was accepted and its scripts; what stands in each slot, the children of `body` and what else the host had on the page; and of which pieces the page is made.
+pub record KeepsOthers (old new : Host) : Type 0 where
+  pub plan : KeepsPlan old new
+  pub accepts : (v : ℕ) → v ≢ newborn old → accepts new v ≡ accepts old v
+  pub scripts : (v : ℕ) → v ≢ newborn old → scripts new v ≡ scripts old v
+  pub spots : spots new ≡ spots old
+  pub page : PageJoins (newborn old) (shared old).page (shared new).page
+  pub laid : (xs : List (List ℕ)) (pieces : List PagePiece) → IsLaid old xs pieces → IsLaid new xs pieces
+
 -- ## A page that is loaded
-
--- slots from a number on, each with one life
-abbrev pub singles : ℕ → ℕ → List (List ℕ)
-singles v zero = []
-singles v (suc n) = (v ∷ []) ∷ singles (v + 1) n
-
--- a slot with this widget has it to load; one that was refused has none
-abbrev pub LoadsSlot : Host → ℕ → ℕ → Option Content → Type 0
-LoadsSlot h w fuel None = accepts h w ≡ false
-LoadsSlot h w fuel (Some c) = (accepts h w ≡ true) × ((s : Seen) → slice_get (seens h) w ≡ Some s → (image s ≡ beginning c fuel) × (due s ≡ loaded c fuel))
 
 -- A page was loaded, and nothing was done yet.
 pub record Loads (spec : PageSpec) (h : Host) : Type 0 where
@@ -186,23 +280,23 @@ pub record Loads (spec : PageSpec) (h : Host) : Type 0 where
   pub twenty : length (seens h) ≡ 20
   pub chains : chains h ≡ singles 0 (length spec.slots.items)
   pub homes : (v w : ℕ) → slice_get (homes h) v ≡ Some w → w ≡ v
-  pub slots : (w : ℕ) (s : SlotSpec) → slice_get spec.slots.items w ≡ Some s → LoadsSlot h w s.fuel (content_of spec.libs.items s.content)
+  pub slots : (w : ℕ) (s : SlotSpec) → slice_get spec.slots.items w ≡ Some s → LoadsLife h w s.fuel (content_of spec.libs.items s.content)
+  pub none_else : (v : ℕ) → length spec.slots.items ≤ v → accepts h v ≡ false
   pub scripts : (w : ℕ) (s : SlotSpec) → slice_get spec.slots.items w ≡ Some s → HasScripts spec.libs.items s.content (scripts h w)
   pub channels : channels h ≡ spec.channels.items
+  pub libraries : libraries h ≡ map tree_of spec.libs.items
+  pub names : names h ≡ map (λ (s : SlotSpec). s.name) spec.slots.items
+  pub fuels : fuels h ≡ map (λ (s : SlotSpec). s.fuel) spec.slots.items
+  pub told : (v n : ℕ) → slice_get (told h) v ≡ Some n → n ≡ 0
   pub given : given h ≡ 0
   pub unspent : Unspent 0 (seens h)
-  pub swaps : swaps h ≡ 0
+  pub ends : ends h ≡ []
   pub journal : journal h ≡ []
   pub laid : IsLaid h (map (λ (s : SlotSpec). s.name) spec.slots.items) (map piece_of spec.pieces.items)
 
 -- ## What is told of a host
 
--- the present life of a slot
-abbrev pub present_of : List ℕ → ℕ
-present_of [] = 0
-present_of (v ∷ vs) = v
-
--- of the slot with a number
+-- the present life of the slot with a number
 abbrev pub present : ℕ → List (List ℕ) → ℕ
 present w [] = 0
 present zero (c ∷ cs) = present_of c
@@ -223,12 +317,13 @@ pub record IsLineOf (l : RunLine) (own : OwnState) : Type 0 where
   pub log : own.log ≡ l.log.items
   pub uncaught : own.uncaught ≡ l.uncaught.items
 
--- a slot shows this own state, or none where its file was refused
+-- a life shows this own state, or none where its file was refused
 abbrev pub IsShown : Host → ℕ → Option OwnState → Type 0
-IsShown h w None = accepts h w ≡ false
-IsShown h w (Some own) = (accepts h w ≡ true) × ((s : Seen) × (slice_get (seens h) w ≡ Some s) × (image s ≡ own))
+IsShown h v None = accepts h v ≡ false
+IsShown h v (Some own) = (accepts h v ≡ true) × ((s : Seen) × (slice_get (seens h) v ≡ Some s) × (image s ≡ own))
 
--- so of slots from a number on
-abbrev pub AreShown : Host → ℕ → List (Option OwnState) → Type 0
-AreShown h w [] = Unit {0}
-AreShown h w (e ∷ es) = IsShown h w e × AreShown h (w + 1) es
+-- so does the present life of each of these slots
+abbrev pub AreShown : Host → List (List ℕ) → List (Option OwnState) → Type 0
+AreShown h [] [] = Unit {0}
+AreShown h (c ∷ cs) (e ∷ es) = IsShown h (present_of c) e × AreShown h cs es
+AreShown h _ _ = ⊥

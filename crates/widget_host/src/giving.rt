@@ -1,21 +1,21 @@
 //! An item goes to the lives that it is for.
 ghost use Rattle.std.specs.Prelude.{◌≡◌, ℕ, ◌<◌, ◌≤◌, IsErr, OnErr, OnOk, false, length, nat_eq, true};
 ghost use Rattle.std.specs.List.{list_any};
-ghost use Rattle.page_load.specs.life_queue.declared.life.Work.TheVariants as work;
+ghost use Rattle.slot_rounds.specs.page_load.life_queue.declared.life.Work.TheVariants as work;
 ghost use Rattle.slot_laws.specs.Chains.{Chains, last_life};
-ghost use Rattle.page_load.specs.slot_picks.Crowds.{chains_of};
-ghost use Rattle.page_load.specs.slot_picks.Places.{homes_of};
+ghost use Rattle.slot_rounds.specs.page_load.slot_picks.Crowds.{chains_of};
+ghost use Rattle.slot_rounds.specs.page_load.slot_picks.Places.{homes_of};
 ghost use Rattle.widget_host.specs.Feeding.{AreFed, AreSame, IsFed, IsSame, work_of};
 ghost use Rattle.widget_host.specs.Housed.{GivesItem, IsHoused, IsItem, KeepsHost, chains, given, is_for, marked};
 
 use crate::host::Host;
 use crate::items::HostItem;
 use code_units::Memory;
-use page_load::life_queue::Work;
-use page_load::slot_picks::{Place, Slot};
+use slot_rounds::page_load::life_queue::Work;
+use slot_rounds::page_load::slot_picks::{Place, Slot};
 
-// The life that is last in a slot.
-fn last_of(slot: &[u32]) -> u32
+/// The life that is last in a slot.
+pub(crate) fn last_of(slot: &[u32]) -> u32
     requires { 0 < length slot.now }
     ensures { result ≡ last_life slot.now }
 {
@@ -82,7 +82,7 @@ impl Host {
         ensures gives { OnOk result (GivesItem item self.old self.new) }
         ensures stays { KeepsHost self.old self.new }
         ensures housed { IsHoused self.new }
-        ensures marked { marked self.old ≡ true → IsErr result }
+        ensures marked { marked self.old ≡ true → IsErr result × (self.new ≡ self.old) }
         ensures mark { OnErr result (marked self.new ≡ true) }
         ensures unmarked { OnOk result (marked self.new ≡ false) }
     {

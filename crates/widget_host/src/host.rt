@@ -1,41 +1,50 @@
 //! A host: it loads a page, and hands out what it has.
-ghost use Rattle.std.specs.Prelude.{◌≡◌, ℕ, List, Option, Some, ◌+◌, ◌<◌, ◌≤◌, IfOk, OnOk, false, length, slice_get, true};
+ghost use Rattle.std.specs.Prelude.{◌≡◌, ℕ, List, None, Option, Some, ◌+◌, ◌<◌, ◌≤◌, IfOk, IfSome, OnErr, OnOk, false, if◌then◌else◌, length, slice_get, true};
 ghost use Rattle.js_image.specs.Held.{IsConfined};
 ghost use Rattle.life_laws.specs.Life.{Seen, image};
 ghost use Rattle.page_build.specs.Layout as layout;
-ghost use Rattle.page_image.specs.Image.{HasRoot, owns};
+ghost use Rattle.page_image.specs.Image.{HasRoot, owns, root_of};
+ghost use Rattle.page_tree.specs.page_nodes.Entries.{at, body};
 ghost use Rattle.page_tree.specs.Pages.{nodes};
-ghost use Rattle.page_load.specs.slot_picks.declared.crowd.Place.{Place};
-ghost use Rattle.page_load.specs.slot_picks.Places.{HoldsItsOwn};
+ghost use Rattle.slot_rounds.specs.page_load.slot_picks.Crowds.{is_present};
+ghost use Rattle.slot_rounds.specs.page_load.slot_picks.declared.crowd.Place.{Place};
+ghost use Rattle.slot_rounds.specs.page_load.slot_picks.Places.{HoldsItsOwn};
 ghost use Rattle.widget_meaning.specs.OwnState.{OwnState};
-ghost use Rattle.page_output.specs.Printing.{Prints};
+ghost use Rattle.page_output.specs.Printing.{Prints, PrintsPart};
 ghost use Rattle.page_spec.specs.Pages.{PagePiece, page_of, roots};
-ghost use Rattle.widget_host.specs.Housed.{AreShown, IsHoused, IsLaid, Loads, accepts, journal, marked, own_trees, places, rooted, seens, shared};
+ghost use Rattle.widget_host.specs.Housed.{AreShown, IsHoused, IsLaid, Loads, accepts, chains, journal, marked, own_trees, places, rooted, seens, shared};
 ghost use Rattle.widget_host.specs.Shapes.{HasOneRaw, IsReadOff, cells_of_host, cells_of_widgets};
 ghost use Rattle.pick_laws.specs.Journal.{AllJoined, journal_room};
 
 use crate::loading::load_host;
 use code_units::Memory;
+use js_names::Code;
 use keyed_names::Keys;
 use object_store::Store;
-use page_load::slot_picks::{Crowd, Slot};
 use page_spec::PageSpec;
 use page_tree::Page;
 use pick_laws::PickEntry;
+use slot_rounds::page_load::slot_picks::{Crowd, Slot};
 use std::alloc::Global;
 use std::collections::VecDeque;
 
 /// One store and one page, the lives of all places, and the slots in which they follow on each other. A
-/// host whose call wanted memory is marked: nothing of it changes any more, and each later `give`, `pick`,
-/// `settle`, `item` and `line` is answered with `Memory`. What it holds can still be read, and its page printed.
+/// host whose call wanted memory is marked: nothing of it changes any more, and each later `give`, `give_swap`,
+/// `pick`, `settle`, `item`, `rounds`, `line` and `retired` is answered with `Memory`. What it holds can still be
+/// read, and its page printed.
 #[derive(Drop)]
 pub struct Host {
     pub(crate) crowd: Crowd,
     pub(crate) slots: Vec<Slot>,
+    /// The libraries of the page, for the contents of swaps.
+    pub(crate) libs: Vec<Code>,
+    /// The keys of the tables of lives to come.
+    pub(crate) keys: Keys,
     /// Who hears whose posts, by the numbers of both slots, the sender first.
     pub(crate) channels: Vec<(u32, u32)>,
     pub(crate) given: u32,
-    pub(crate) swaps: u32,
+    /// The life that each swap that was given ends, in order.
+    pub(crate) ends: Vec<u32>,
     pub(crate) marked: bool,
 }
 
@@ -64,12 +73,15 @@ impl Host {
         store
     }
 
-    /// The page. Under `body` stand its own markup and the root of each accepted widget; a node that is a widget's
-    /// is that of an accepted one.
+    /// The page. Under `body` stand its own markup and what stands in each slot: the root of its present life, or an
+    /// empty `div` where that was refused. The root of a life that has ended, or whose swap waits, has no parent. A node
+    /// that is a widget's is that of an accepted one.
     pub fn page(&self) -> &Page
         ensures are { result.now ≡ (shared self.now).page }
-        ensures laid { (names : List (List ℕ)) (pieces : List PagePiece) → IsLaid self.now names pieces → layout.IsLaid result.now names (rooted (accepts self.now) 0 names) pieces }
+        ensures laid { IsHoused self.now → (names : List (List ℕ)) (pieces : List PagePiece) → IsLaid self.now names pieces → layout.IsLaid result.now names (rooted (accepts self.now) (chains self.now)) pieces }
         ensures roots { IsHoused self.now → (v : ℕ) → accepts self.now v ≡ true → HasRoot result.now v }
+        ensures stand { IsHoused self.now → (v : ℕ) (p : Place) → slice_get (places self.now) v ≡ Some p → p.life.accepted ≡ true
+            → (root_of result.now v ≡ Some p.root) × ((at (nodes result.now) p.root).parent ≡ (if is_present v (chains self.now) then Some body else None)) }
         ensures owners { IsHoused self.now → (v n : ℕ) → owns result.now v n ≡ true → accepts self.now v ≡ true }
     {
         &self.crowd.shared.page
@@ -97,11 +109,21 @@ impl Host {
         &self.crowd.journal
     }
 
-    /// The text of the page is appended: its own markup, and the root of each slot.
+    /// A law: a turn in progress has no more fuel left than a turn of its life is granted, so that no turn spends more.
+    pub fn turns_keep_to_their_grant(&self)
+        ensures { IsHoused self.now → marked self.now ≡ false → (v : ℕ) (p : Place) → slice_get (places self.now) v ≡ Some p → p.life.accepted ≡ true
+            → IfSome p.life.turn (λ t. t.left ≤ p.life.grant) }
+    {}
+
+    /// The text of the page is appended: its own markup, and in each slot the root of its present life. `Memory` leaves
+    /// a prefix of that text appended.
     pub fn print_page(&self, alloc: Global, out: &mut Vec<u8>) -> Result<(), Memory>
-        ensures { OnOk result ((names : List (List ℕ)) (pieces : List PagePiece) (ends : List (Option OwnState))
-            → IsLaid self.now names pieces → AreShown self.now 0 ends → length names ≡ length ends
+        ensures ok { OnOk result (IsHoused self.now → (names : List (List ℕ)) (pieces : List PagePiece) (ends : List (Option OwnState))
+            → IsLaid self.now names pieces → AreShown self.now (chains self.now) ends
             → Prints (page_of pieces (roots names ends)) out.old.items out.new.items) }
+        ensures part { OnErr result (IsHoused self.now → (names : List (List ℕ)) (pieces : List PagePiece) (ends : List (Option OwnState))
+            → IsLaid self.now names pieces → AreShown self.now (chains self.now) ends
+            → PrintsPart (page_of pieces (roots names ends)) out.old.items out.new.items) }
     {
         page_lines::print_page(alloc, &self.crowd.shared.page, out)
     }

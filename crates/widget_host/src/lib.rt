@@ -7,7 +7,9 @@ mod host;
 mod items;
 mod lines;
 mod loading;
+mod rounds;
 mod running;
+mod swapping;
 
 pub use host::Host;
 pub use items::HostItem;

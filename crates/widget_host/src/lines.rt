@@ -1,17 +1,20 @@
 //! What a life did.
-ghost use Rattle.std.specs.Prelude.{◌≡◌, ◌<◌, ℕ, IfOk, IsErr, Some, true, option_map, slice_get, length};
+ghost use Rattle.std.specs.Prelude.{◌≡◌, ◌<◌, ℕ, IfOk, IsErr, Some, true, option_map, slice_get, slice_index_or, length, false};
 ghost use Rattle.life_laws.specs.Life.{Seen, image};
-ghost use Rattle.page_load.specs.life_queue.Lives as life;
-ghost use Rattle.page_load.specs.life_queue.Lives.{life_seen};
-ghost use Rattle.page_load.specs.turn_calls.declared.turn.Shared.{Shared as SharedOf};
-ghost use Rattle.widget_host.specs.Housed.{IsHoused, IsLineOf, accepts, chains, marked, meant_stop, present, seens};
+ghost use Rattle.slot_laws.specs.Chains.{listed};
+ghost use Rattle.slot_rounds.specs.page_load.slot_picks.Crowds.{FineCrowd, seens_of};
+ghost use Rattle.slot_rounds.specs.page_load.slot_picks.Places.{is_accepted};
+ghost use Rattle.slot_rounds.specs.page_load.life_queue.Lives as life;
+ghost use Rattle.slot_rounds.specs.page_load.life_queue.Lives.{life_seen};
+ghost use Rattle.slot_rounds.specs.page_load.turn_calls.declared.turn.Shared.{Shared as SharedOf};
+ghost use Rattle.widget_host.specs.Housed.{IsHoused, IsLineOf, accepts, chains, ends, marked, meant_stop, present, seens, swaps};
 
 use crate::host::Host;
 use code_units::{Memory, Text};
 use js_image::StopCause;
-use page_load::js_steps;
-use page_load::life_queue::Life;
-use page_load::slot_picks::{present, spent_at};
+use slot_rounds::page_load::js_steps;
+use slot_rounds::page_load::life_queue::Life;
+use slot_rounds::page_load::slot_picks::{Crowd, present, spent_at};
 use std::alloc::Global;
 
 /// Why a life has stopped: a turn had no fuel left, or a limit would have been passed.
@@ -72,6 +75,17 @@ fn line_of(alloc: Global, life: &Life, spent: u64) -> Result<RunLine, Memory>
     })
 }
 
+// What the life with a number did.
+fn line_at(alloc: Global, crowd: &Crowd, v: u32) -> Result<RunLine, Memory>
+    requires there { v < length crowd.now.places.items }
+    requires accepted { is_accepted crowd.now.places.items v ≡ true }
+    requires fine { FineCrowd crowd.now }
+    ensures { IfOk result (λ l. (s : Seen) → slice_get (seens_of crowd.now) v ≡ Some s → IsLineOf l (image s)) }
+{
+    let spent = spent_at(crowd, v);
+    line_of(alloc, &crowd.places[v as usize].life, spent)
+}
+
 impl Host {
     /// What the present life of a slot did. Where the host is marked it is answered with `Memory`.
     pub fn line(&self, alloc: Global, w: u32) -> Result<RunLine, Memory>
@@ -85,7 +99,22 @@ impl Host {
             return Err(Memory);
         }
         let v = present(&self.slots[w as usize].lives);
-        let spent = spent_at(&self.crowd, v);
-        line_of(alloc, &self.crowd.places[v as usize].life, spent)
+        line_at(alloc, &self.crowd, v)
+    }
+
+    /// What the life did that the swap with a number, counted from 0, has ended: one that was taken, of a life whose
+    /// file was accepted. Where the host is marked it is answered with `Memory`.
+    pub fn retired(&self, alloc: Global, i: u32) -> Result<RunLine, Memory>
+        requires housed { IsHoused self.now }
+        requires given { i < swaps self.now }
+        requires taken { listed (slice_index_or (ends self.now) i 0) (chains self.now) ≡ false }
+        requires accepted { accepts self.now (slice_index_or (ends self.now) i 0) ≡ true }
+        ensures line { IfOk result (λ l. (s : Seen) → slice_get (seens self.now) (slice_index_or (ends self.now) i 0) ≡ Some s → IsLineOf l (image s)) }
+        ensures marked { marked self.now ≡ true → IsErr result }
+    {
+        if self.marked {
+            return Err(Memory);
+        }
+        line_at(alloc, &self.crowd, self.ends[i as usize])
     }
 }

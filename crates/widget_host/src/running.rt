@@ -1,19 +1,19 @@
 //! Picks of slots, and picks until no slot is ready.
-#![tactic(auto, unfolding(crate::specs::Housed::IsHoused, crate::specs::Housed::chains, crate::specs::Housed::given, crate::specs::Housed::homes, crate::specs::Housed::journal, crate::specs::Housed::marked, crate::specs::Housed::seens, crate::specs::Housed::shared))]
+#![tactic(auto, unfolding(crate::specs::Housed::IsHoused, crate::specs::Housed::chains, crate::specs::Housed::given, crate::specs::Housed::homes, crate::specs::Housed::journal, crate::specs::Housed::marked, crate::specs::Housed::seens, crate::specs::Housed::shared, crate::specs::Housed::told))]
 
-ghost use Rattle.std.specs.Prelude.{◌≡◌, ◌+◌, ◌<◌, ◌∷◌, [], IfOk, IsErr, OnErr, OnOk, false, true, length, map};
+ghost use Rattle.std.specs.Prelude.{◌≡◌, ◌+◌, ◌<◌, ◌∷◌, [], IfOk, IsErr, OnErr, OnOk, false, true, is_ok, length, map};
 ghost use Rattle.life_laws.specs.Life.{due, image};
 ghost use Rattle.pick_laws.specs.Journal.{ready_from};
 ghost use Rattle.slot_laws.specs.Chains.{PickedIn, last_life};
 ghost use Rattle.slot_laws.specs.Settled.{SettledSlots, slot_flags};
 ghost use Rattle.widget_host.specs.declared.host.Host.{Host as HostOf};
-ghost use Rattle.widget_host.specs.Housed.{GivesItem, IsHoused, IsItem, KeepsHost, chains, dues_after, given, homes, journal, marked, seens};
+ghost use Rattle.widget_host.specs.Housed.{GivesItem, IsHoused, IsItem, KeepsHost, Passes, PassesUntil, chains, dues_after, given, homes, journal, marked, seens, told};
 
 use crate::host::Host;
 use crate::items::HostItem;
 use code_units::Memory;
-use page_load::slot_picks::{pick_slot, settle_slots};
 use pick_laws::Picked;
+use slot_rounds::page_load::slot_picks::{pick_slot, settle_slots};
 use std::alloc::Global;
 use turn_sched::Chooser;
 
@@ -26,9 +26,10 @@ impl Host {
         requires slice { 0 < k }
         ensures picked { IfOk result (λ r. PickedIn w k r (chains self.old) (chains self.new) (seens self.old) (seens self.new) (journal self.old) (journal self.new)) }
         ensures given { OnOk result (given self.new ≡ given self.old) }
+        ensures told { told self.new ≡ told self.old }
         ensures stays { KeepsHost self.old self.new }
         ensures housed { IsHoused self.new }
-        ensures marked { marked self.old ≡ true → IsErr result }
+        ensures marked { marked self.old ≡ true → IsErr result × (self.new ≡ self.old) }
         ensures mark { OnErr result (marked self.new ≡ true) }
         ensures unmarked { OnOk result (marked self.new ≡ false) }
     {
@@ -54,13 +55,15 @@ impl Host {
         requires housed { IsHoused self.old }
         requires slice { 0 < slice }
         ensures settled { OnOk result (SettledSlots slice (homes self.old) (chains self.old) (chains self.new) (seens self.old) (seens self.new) (journal self.old) (journal self.new) (C.asks chooser.old) (C.room chooser.old) (C.asks chooser.new) (C.room chooser.new)) }
+        ensures passes { PassesUntil slice self.old (is_ok result) self.new }
         ensures done { OnOk result (map image (seens self.new) ≡ map due (seens self.old)) }
         ensures quiet { OnOk result (ready_from 0 (slot_flags (seens self.new) (chains self.new)) ≡ []) }
         ensures chains { OnOk result (chains self.new ≡ map (λ c. last_life c ∷ []) (chains self.old)) }
         ensures given { OnOk result (given self.new ≡ given self.old) }
+        ensures told { told self.new ≡ told self.old }
         ensures stays { KeepsHost self.old self.new }
         ensures housed { IsHoused self.new }
-        ensures marked { marked self.old ≡ true → IsErr result }
+        ensures marked { marked self.old ≡ true → IsErr result × (self.new ≡ self.old) × (chooser.new ≡ chooser.old) }
         ensures mark { OnErr result (marked self.new ≡ true) }
         ensures unmarked { OnOk result (marked self.new ≡ false) }
     {
@@ -91,12 +94,13 @@ impl Host {
         requires slice { 0 < slice }
         ensures done { OnOk result (map image (seens self.new) ≡ dues_after self.old item 0 (map due (seens self.old))) }
         ensures settled { OnOk result ((mid : HostOf) × GivesItem item self.old mid × SettledSlots slice (homes mid) (chains mid) (chains self.new) (seens mid) (seens self.new) (journal mid) (journal self.new) (C.asks chooser.old) (C.room chooser.old) (C.asks chooser.new) (C.room chooser.new)) }
+        ensures passes { OnOk result ((mid : HostOf) × GivesItem item self.old mid × Passes slice mid self.new) }
         ensures quiet { OnOk result (ready_from 0 (slot_flags (seens self.new) (chains self.new)) ≡ []) }
         ensures chains { OnOk result (chains self.new ≡ map (λ c. last_life c ∷ []) (chains self.old)) }
         ensures given { OnOk result (given self.new ≡ given self.old + 1) }
         ensures stays { KeepsHost self.old self.new }
         ensures housed { IsHoused self.new }
-        ensures marked { marked self.old ≡ true → IsErr result }
+        ensures marked { marked self.old ≡ true → IsErr result × (self.new ≡ self.old) × (chooser.new ≡ chooser.old) }
         ensures mark { OnErr result (marked self.new ≡ true) }
         ensures unmarked { OnOk result (marked self.new ≡ false) }
     {

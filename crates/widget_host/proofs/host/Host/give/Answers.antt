@@ -1,13 +1,16 @@
-use Rattle.std.proofs.Common.{◌≡◌, ◌+◌, ◌∙◌, ℕ, List, ap, arith, false, length, refl, subst, sym, true}
+use Rattle.std.proofs.Common.{◌≡◌, ◌≤◌, ◌+◌, ◌∙◌, ℕ, List, ap, arith, false, length, refl, subst, sym, true}
 use Rattle.std.proofs.lemmas.List.{length-map}
 use Rattle.slot_laws.specs.Chains.{Chains}
-use Rattle.page_load.specs.slot_picks.declared.slots.Slot.{Slot}
-use Rattle.page_load.specs.slot_picks.Crowds.{chains_of}
-use Rattle.page_load.specs.slot_picks.Places.{homes_of}
+use Rattle.slot_rounds.specs.page_load.slot_picks.declared.slots.Slot.{Slot}
+use Rattle.slot_rounds.specs.page_load.slot_picks.Crowds.{chains_of}
+use Rattle.slot_rounds.specs.page_load.slot_picks.declared.crowd.Place.{Place}
+use Rattle.slot_rounds.specs.page_load.slot_picks.Places.{homes_of, told_of}
+use Rattle.widget_host.specs.declared.host.Host.{Host}
 use Rattle.widget_host.specs.Feeding.{AreFed, work_of}
-use Rattle.widget_host.specs.Housed.{IsHoused, IsItem, IsWhole, chains, given, is_for, marked}
-use Rattle.widget_host.proofs.Given.{gives_apart, gives_item, gives_keeps, gives_whole}
-use Rattle.widget_host.proofs.Staying.{host_here}
+use Rattle.widget_host.specs.Housed.{IsHoused, IsItem, IsWhole, chains, given, is_for, marked, sum_of, swaps, told}
+use Rattle.widget_host.proofs.Given.{gives_item, gives_slots, gives_whole}
+use Rattle.widget_host.proofs.Staying.{apart_stays, host_here, host_stays}
+use Rattle.widget_host.proofs.Whole.{sum_few}
 use Rattle.widget_host.proofs.host.Host.give.Goals as goal
 
 pub returns-then-self-clause-mark : goal.returns-then-self-clause-mark
@@ -27,9 +30,9 @@ pub feed_item-requires-clause-born : goal.feed_item-requires-clause-born
 unfolding IsHoused marked
 feed_item-requires-clause-born c =
     let whole : IsWhole c.args.self.now = c.requires.housed.1 c.if-self.false in (
-      16 + c.args.self.now.swaps,
+      16 + swaps c.args.self.now,
       omega (arith, whole.slots.few, whole.slots.crowd.places),
-      subst (λ (ss : List Slot). Chains (homes_of c.args.self.now.crowd.places.items) (16 + c.args.self.now.swaps) 0 (chains_of ss)) (sym c.deref.ensures.value) whole.slots.chains,
+      subst (λ (ss : List Slot). Chains (homes_of c.args.self.now.crowd.places.items) (16 + swaps c.args.self.now) 0 (chains_of ss)) (sym c.deref.ensures.value) whole.slots.chains,
     )
 
 pub overflow_add-self : goal.overflow_add-self
@@ -39,21 +42,28 @@ overflow_add-self c = omega (arith, c.requires.room)
 pub returns-in-Ok-clause-gives : goal.returns-in-Ok-clause-gives
 returns-in-Ok-clause-gives c =
     let old = c.args.self.now in
-    gives_item c.args.item old _ refl refl refl refl refl refl
+    gives_item c.args.item old _ refl refl refl refl refl refl refl
     (subst (λ (ss : List Slot). AreFed (is_for (chains_of ss) c.args.item) (work_of c.args.item) 0 old.crowd.places.items c.feed_item.new.places.items) c.deref.ensures.value c.in-Ok.ensures.fed) c.in-Ok.ensures.same
 
 pub returns-in-Ok-clause-stays : goal.returns-in-Ok-clause-stays
-returns-in-Ok-clause-stays c = gives_keeps c.args.self.now _ refl c.in-Ok.ensures.same refl refl
+returns-in-Ok-clause-stays c =
+    let old = c.args.self.now in
+    let new : Host = record old { crowd = record old.crowd { places = c.feed_item.new.places }; given = old.given + 1 } in
+    host_stays old new (gives_slots old new refl c.in-Ok.ensures.same refl) refl refl refl
 
 pub returns-in-Ok-clause-housed : goal.returns-in-Ok-clause-housed
-unfolding IsHoused marked chains given
+unfolding IsHoused marked chains given told
 returns-in-Ok-clause-housed c =
     let old = c.args.self.now in
-    let whole : IsWhole old = c.requires.housed.1 c.if-self.false in (
-      gives_apart old _ refl c.in-Ok.ensures.same c.requires.housed.0,
-      λ unmarked. gives_whole c.args.item old _ refl refl refl refl refl refl
+    let new : Host = record old { crowd = record old.crowd { places = c.feed_item.new.places }; given = old.given + 1 } in
+    let whole : IsWhole old = c.requires.housed.1 c.if-self.false in
+    let twenty : length (told_of old.crowd.places.items) ≡ 20 = length-map old.crowd.places.items (λ (p : Place). p.told) ∙ whole.slots.crowd.places in
+    let sum = sum_few (told_of old.crowd.places.items) whole.told in
+    let few_told : sum_of (told_of old.crowd.places.items) ≤ 5120 = omega (arith, twenty, sum) in (
+      apart_stays old new (gives_slots old new refl c.in-Ok.ensures.same refl) c.requires.housed.0,
+      λ unmarked. gives_whole c.args.item old new refl refl refl refl refl refl refl
           (subst (λ (ss : List Slot). AreFed (is_for (chains_of ss) c.args.item) (work_of c.args.item) 0 old.crowd.places.items c.feed_item.new.places.items) c.deref.ensures.value c.in-Ok.ensures.fed) c.in-Ok.ensures.same
-          whole c.requires.room c.requires.shape,
+          whole few_told c.requires.room c.requires.shape,
     )
 
 pub returns-in-Ok-clause-marked : goal.returns-in-Ok-clause-marked
@@ -65,11 +75,23 @@ unfolding marked
 returns-in-Ok-clause-unmarked c = c.if-self.false
 
 pub returns-in-Err-clause-stays : goal.returns-in-Err-clause-stays
-returns-in-Err-clause-stays c = gives_keeps c.args.self.now _ refl c.feed_item.ensures.same refl refl
+returns-in-Err-clause-stays c =
+    let old = c.args.self.now in
+    let new : Host = record old { crowd = record old.crowd { places = c.feed_item.new.places }; marked = true } in
+    host_stays old new (gives_slots old new refl c.feed_item.ensures.same refl) refl refl refl
 
 pub returns-in-Err-clause-housed : goal.returns-in-Err-clause-housed
 unfolding IsHoused marked
-returns-in-Err-clause-housed c = (gives_apart c.args.self.now _ refl c.feed_item.ensures.same c.requires.housed.0, λ unmarked. absurd (let both : true ≡ false = unmarked in cc))
+returns-in-Err-clause-housed c =
+    let old = c.args.self.now in
+    let new : Host = record old { crowd = record old.crowd { places = c.feed_item.new.places }; marked = true } in (
+      apart_stays old new (gives_slots old new refl c.feed_item.ensures.same refl) c.requires.housed.0,
+      λ unmarked. absurd (let both : true ≡ false = unmarked in cc),
+    )
+
+pub returns-in-Err-clause-marked : goal.returns-in-Err-clause-marked
+unfolding marked
+returns-in-Err-clause-marked c = λ is. absurd (let both : true ≡ false = sym is ∙ c.if-self.false in cc)
 
 pub returns-in-Err-clause-mark : goal.returns-in-Err-clause-mark
 unfolding marked

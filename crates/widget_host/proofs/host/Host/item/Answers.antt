@@ -3,6 +3,7 @@ use Rattle.std.proofs.lemmas.Result.{on_ok_weaker}
 use Rattle.life_laws.specs.Life.{due, image}
 use Rattle.slot_laws.specs.Chains.{last_life}
 use Rattle.widget_host.specs.Housed.{chains, dues_after, given, seens}
+use Rattle.widget_host.proofs.Passed.{item_passes}
 use Rattle.widget_host.proofs.Staying.{host_then, ok_then}
 use Rattle.widget_host.proofs.host.Host.item.Goals as goal
 
@@ -25,4 +26,7 @@ pub returns-clause-stays : goal.returns-clause-stays
 returns-clause-stays g c = host_then c.args.self.now c.give.new.self c.settle.new.self c.in_ok-give.ensures.stays c.settle.ensures.stays
 
 pub returns-clause-marked : goal.returns-clause-marked
-returns-clause-marked g c = λ is. absurd (let both : false ≡ true = c.in_ok-give.ensures.marked is in cc)
+returns-clause-marked g c = λ is. absurd (let both : false ≡ true = (c.in_ok-give.ensures.marked is).0 in cc)
+
+pub returns-clause-passes : goal.returns-clause-passes
+returns-clause-passes g c = item_passes c.args.slice c.args.item c.args.self.now c.give.new.self c.settle.new.self c.settle.result c.in_ok-give.ensures.gives c.settle.ensures.passes

@@ -2,9 +2,11 @@ use Rattle.std.proofs.Common.{◌≡◌, ◌<◌, ◌∙◌, ℕ, List, Some, ar
 use Rattle.std.specs.Prelude.{slice_get}
 use Rattle.std.proofs.lemmas.List.{length-map}
 use Rattle.std.proofs.lemmas.Result.{IfOk-weaker}
-use Rattle.page_load.specs.slot_picks.declared.slots.Slot.{Slot}
-use Rattle.widget_host.specs.Housed.{IsHoused, chains, marked}
-use Rattle.widget_host.proofs.Shown.{accepted_life, life_there, line_told, some_lives}
+use Rattle.slot_rounds.specs.page_load.slot_picks.Places.{is_accepted}
+use Rattle.slot_rounds.specs.page_load.slot_picks.declared.slots.Slot.{Slot}
+use Rattle.slot_rounds.specs.page_load.slot_picks.Crowds.{seens_of}
+use Rattle.widget_host.specs.Housed.{IsHoused, accepts, chains, marked, present, seens}
+use Rattle.widget_host.proofs.Shown.{life_there, present_at, some_lives}
 use Rattle.widget_host.proofs.host.Host.line.Goals as goal
 
 pub index-requires : goal.index-requires
@@ -16,36 +18,30 @@ unfolding IsHoused marked
 present-v-requires c =
     subst (λ (vs : List ℕ). 0 < length vs) (sym c.deref.ensures.value) (some_lives c.args.self.now c.args.w c.index.result.now (c.requires.housed.1 c.if-self.false) c.requires.there c.index.ensures)
 
-pub spent_at-spent-requires-clause-there : goal.spent_at-spent-requires-clause-there
-unfolding IsHoused marked
-spent_at-spent-requires-clause-there c =
+pub line_at-requires-clause-accepted : goal.line_at-requires-clause-accepted
+unfolding IsHoused marked accepts
+line_at-requires-clause-accepted c =
     let first : slice_get c.index.result.now.lives.items 0 ≡ Some c.present-v.result = subst (λ (vs : List ℕ). slice_get vs 0 ≡ Some c.present-v.result) c.deref.ensures.value c.present-v.ensures in
-    life_there c.args.self.now c.args.w c.index.result.now (c.requires.housed.1 c.if-self.false) c.requires.there c.index.ensures c.present-v.result first
+    subst (λ v. is_accepted c.args.self.now.crowd.places.items v ≡ true) (present_at c.args.self.now c.args.w c.index.result.now (c.requires.housed.1 c.if-self.false) c.requires.there c.index.ensures c.present-v.result first) c.requires.accepted
 
-pub spent_at-spent-requires-clause-accepted : goal.spent_at-spent-requires-clause-accepted
-unfolding IsHoused marked
-spent_at-spent-requires-clause-accepted c =
+pub line_at-requires-clause-there : goal.line_at-requires-clause-there
+unfolding IsHoused marked accepts
+line_at-requires-clause-there c =
     let first : slice_get c.index.result.now.lives.items 0 ≡ Some c.present-v.result = subst (λ (vs : List ℕ). slice_get vs 0 ≡ Some c.present-v.result) c.deref.ensures.value c.present-v.ensures in
-    accepted_life c.args.self.now c.args.w c.index.result.now (c.requires.housed.1 c.if-self.false) c.requires.there c.index.ensures c.present-v.result first c.requires.accepted
+    life_there c.args.self.now.crowd c.present-v.result
+    (subst (λ v. is_accepted c.args.self.now.crowd.places.items v ≡ true) (present_at c.args.self.now c.args.w c.index.result.now (c.requires.housed.1 c.if-self.false) c.requires.there c.index.ensures c.present-v.result first) c.requires.accepted)
 
-pub spent_at-spent-requires-clause-fine : goal.spent_at-spent-requires-clause-fine
+pub line_at-requires-clause-fine : goal.line_at-requires-clause-fine
 unfolding IsHoused marked
-spent_at-spent-requires-clause-fine c = (c.requires.housed.1 c.if-self.false).slots.crowd
-
-pub index-requires-2 : goal.index-requires-2
-unfolding IsHoused marked
-index-requires-2 c =
-    let first : slice_get c.index.result.now.lives.items 0 ≡ Some c.present-v.result = subst (λ (vs : List ℕ). slice_get vs 0 ≡ Some c.present-v.result) c.deref.ensures.value c.present-v.ensures in
-    let within : c.present-v.result < length c.args.self.now.crowd.places.items = life_there c.args.self.now c.args.w c.index.result.now (c.requires.housed.1 c.if-self.false) c.requires.there c.index.ensures c.present-v.result first in
-    omega (arith, within)
+line_at-requires-clause-fine c = (c.requires.housed.1 c.if-self.false).slots.crowd
 
 pub returns-clause-line : goal.returns-clause-line
-unfolding IsHoused marked
+unfolding IsHoused marked seens
 returns-clause-line c =
     let first : slice_get c.index.result.now.lives.items 0 ≡ Some c.present-v.result = subst (λ (vs : List ℕ). slice_get vs 0 ≡ Some c.present-v.result) c.deref.ensures.value c.present-v.ensures in
-    IfOk-weaker c.line_of.result _ _ (λ r told x at.
-    line_told c.args.self.now c.args.w c.index.result.now (c.requires.housed.1 c.if-self.false) c.requires.there c.index.ensures c.present-v.result first c.requires.accepted
-    r c.index-2.result.now c.spent_at-spent.result x c.index-2.ensures c.spent_at-spent.ensures told at) c.line_of.ensures
+    let same : present c.args.w (chains c.args.self.now) ≡ c.present-v.result = present_at c.args.self.now c.args.w c.index.result.now (c.requires.housed.1 c.if-self.false) c.requires.there c.index.ensures c.present-v.result first in
+    IfOk-weaker c.line_at.result _ _ (λ r told x at.
+    told x (subst (λ v. slice_get (seens_of c.args.self.now.crowd) v ≡ Some x) same at)) c.line_at.ensures
 
 pub returns-clause-marked : goal.returns-clause-marked
 unfolding marked

@@ -1,13 +1,17 @@
 use Rattle.std.proofs.Common.{◌≡◌, ◌+◌, false, refl, true}
 use Rattle.widget_host.specs.declared.host.Host.{Host}
-use Rattle.widget_host.specs.Housed.{IsHoused, marked, most_after}
-use Rattle.widget_host.proofs.Raws.{own_raws, raws_stay}
+use Rattle.widget_host.specs.Housed.{IsHoused, marked, swaps}
 use Rattle.widget_host.proofs.Staying.{apart_stays, host_here, host_stays}
+use Rattle.widget_host.proofs.Whole.{whole_stays}
 use Rattle.widget_host.proofs.host.Host.pick.Goals as goal
 
 pub pick_slot-requires-clause-housed : goal.pick_slot-requires-clause-housed
 unfolding IsHoused marked
-pick_slot-requires-clause-housed c = (16 + c.args.self.now.swaps, (c.requires.housed.1 c.if-self.false).slots)
+pick_slot-requires-clause-housed c = (16 + swaps c.args.self.now, (c.requires.housed.1 c.if-self.false).slots)
+
+pub pick_slot-requires-clause-standing : goal.pick_slot-requires-clause-standing
+unfolding IsHoused
+pick_slot-requires-clause-standing c = c.requires.housed.0.standing
 
 pub returns-in-Ok-clause-housed : goal.returns-in-Ok-clause-housed
 unfolding IsHoused marked
@@ -17,14 +21,7 @@ returns-in-Ok-clause-housed c =
     let apart = apart_stays old new c.in-Ok.ensures.stays c.requires.housed.0 in (
       apart,
       λ unmarked. let whole = c.requires.housed.1 c.if-self.false in
-          let slots = c.in-Ok.ensures.housed (16 + old.swaps) whole.slots in
-          record {
-            slots = slots;
-            room = c.in-Ok.ensures.few (most_after old.given) whole.room;
-            raws = raws_stay old.crowd new.crowd c.in-Ok.ensures.stays (own_raws new apart slots.crowd) whole.raws;
-            given = whole.given;
-            swaps = whole.swaps;
-          },
+          whole_stays old new c.in-Ok.ensures.stays apart refl refl (c.in-Ok.ensures.housed (16 + swaps old) whole.slots) c.in-Ok.ensures.few whole,
     )
 
 pub returns-in-Err-clause-housed : goal.returns-in-Err-clause-housed
@@ -35,7 +32,7 @@ pub returns-then-self-clause-stays : goal.returns-then-self-clause-stays
 returns-then-self-clause-stays c = host_here c.args.self.now
 
 pub returns-in-Ok-clause-stays : goal.returns-in-Ok-clause-stays
-returns-in-Ok-clause-stays c = host_stays c.args.self.now _ c.in-Ok.ensures.stays refl refl
+returns-in-Ok-clause-stays c = host_stays c.args.self.now _ c.in-Ok.ensures.stays refl refl refl
 
 pub returns-in-Err-clause-stays : goal.returns-in-Err-clause-stays
-returns-in-Err-clause-stays c = host_stays c.args.self.now _ c.pick_slot.ensures.stays refl refl
+returns-in-Err-clause-stays c = host_stays c.args.self.now _ c.pick_slot.ensures.stays refl refl refl
