@@ -22,7 +22,8 @@ use Rattle.page_spec.specs.Contents.{content_of}
 use Rattle.widget_host.specs.declared.host.Host.{Host}
 use Rattle.widget_host.specs.declared.items.HostItem.{HostItem}
 use Rattle.widget_host.specs.declared.items.HostItem.TheVariants as host
-use Rattle.widget_host.specs.Housed.{Loads, LoadsSlot, GivesItem, chains, seens, accepts, singles, reaches, dues_after, item_of}
+use Rattle.widget_host.specs.page_load.Loads.{singles}
+use Rattle.widget_host.specs.Housed.{Loads, LoadsLife, GivesItem, chains, seens, accepts, reaches, dues_after, item_of}
 use Rattle.adhost_run.specs.Items.{IsFor}
 use Rattle.adhost_run.specs.Run.{given_by}
 use Rattle.adhost_run.specs.Played.{name_of, ended, given_all, IsDue, AreDue, said_of, Gives}
@@ -253,18 +254,18 @@ seen_there (s ∷ ss) zero some = (s, refl)
 seen_there (s ∷ ss) (suc w) some = seen_there ss w (omega (arith, some))
 
 pub dues_loaded : (spec : PageSpec) (h : Host) → are_slots (map name_of spec.slots.items) ≡ true → Loads spec h → AreDue h 0 (map (ended spec []) spec.slots.items)
-dues_loaded spec h named loads = by spec.slots.items 0 (omega (arith, few)) (λ w s there. let e : w ≡ 0 + w = omega arith in subst (λ n. LoadsSlot h n s.fuel (content_of spec.libs.items s.content)) e (loads.slots w s there)) where
+dues_loaded spec h named loads = by spec.slots.items 0 (omega (arith, few)) (λ w s there. let e : w ≡ 0 + w = omega arith in subst (λ n. LoadsLife h n s.fuel (content_of spec.libs.items s.content)) e (loads.slots w s there)) where
   few : length spec.slots.items ≤ most_slots
   few = let r = few_slots (map name_of spec.slots.items) named in omega (arith, r, length-map spec.slots.items name_of)
 
-  one : (w : ℕ) (name : List ℕ) (fuel : ℕ) (o : Option Content) → w < most_slots → LoadsSlot h w fuel o → IsDue h w (option_map (λ (c : Content). alone_on name c fuel []) o)
+  one : (w : ℕ) (name : List ℕ) (fuel : ℕ) (o : Option Content) → w < most_slots → LoadsLife h w fuel o → IsDue h w (option_map (λ (c : Content). alone_on name c fuel []) o)
   one w name fuel None within is = is
   one w name fuel (Some c) within is = let s = seen_there (seens h) w (omega (arith, loads.twenty, within)) in (is.0, (s.0, s.1, (is.1 s.0 s.1).1))
 
-  by : (ss : List SlotSpec) (v : ℕ) → v + length ss ≤ most_slots → ((w : ℕ) (s : SlotSpec) → slice_get ss w ≡ Some s → LoadsSlot h (v + w) s.fuel (content_of spec.libs.items s.content)) → AreDue h v (map (ended spec []) ss)
+  by : (ss : List SlotSpec) (v : ℕ) → v + length ss ≤ most_slots → ((w : ℕ) (s : SlotSpec) → slice_get ss w ≡ Some s → LoadsLife h (v + w) s.fuel (content_of spec.libs.items s.content)) → AreDue h v (map (ended spec []) ss)
   by [] v less are = tt
   by (s ∷ ss) v less are =
       let e : v + 0 ≡ v = omega arith in (
-        one v s.name s.fuel (content_of spec.libs.items s.content) (omega (arith, less)) (subst (λ n. LoadsSlot h n s.fuel (content_of spec.libs.items s.content)) e (are 0 s refl)),
-        by ss (v + 1) (omega (arith, less)) (λ w t there. let f : v + suc w ≡ (v + 1) + w = omega arith in subst (λ n. LoadsSlot h n t.fuel (content_of spec.libs.items t.content)) f (are (suc w) t there)),
+        one v s.name s.fuel (content_of spec.libs.items s.content) (omega (arith, less)) (subst (λ n. LoadsLife h n s.fuel (content_of spec.libs.items s.content)) e (are 0 s refl)),
+        by ss (v + 1) (omega (arith, less)) (λ w t there. let f : v + suc w ≡ (v + 1) + w = omega arith in subst (λ n. LoadsLife h n t.fuel (content_of spec.libs.items t.content)) f (are (suc w) t there)),
       )

@@ -11,27 +11,28 @@ use Rattle.trace_reader.specs.declared.item.TraceItem.{TraceItem}
 use Rattle.trace_reader.specs.Said.{Said, an_event, an_advance, said}
 use Rattle.manifest_shape.specs.Slots.{are_slots}
 use Rattle.manifest_reader.specs.declared.entry.Manifest.{Manifest}
-use Rattle.manifest_reader.specs.Page.{Part, Widget, usual_fuel}
+use Rattle.manifest_reader.specs.Page.{Widget, usual_fuel}
 use Rattle.slot_check.specs.declared.sources.SourceFile.{SourceFile}
 use Rattle.slot_check.specs.Sources.{Source}
 use Rattle.slot_check.specs.Verdicts.{source_of, sources_of, IsSmall}
 use Rattle.life_laws.specs.Life.{Seen, image}
 use Rattle.widget_meaning.specs.OwnState.{OwnState}
 use Rattle.page_judge.specs.declared.page.JudgedPage.{JudgedPage}
-use Rattle.page_judge.specs.Runs.{SlotRun, slots_named, runs_over}
-use Rattle.page_judge.specs.Judged.{IsJudgedPage}
+use Rattle.page_judge.specs.Runs.{SlotRun, slots_named, runs_over, pieces}
+use Rattle.page_judge.specs.Judged.{IsJudgedPage, AreJudgedSlots}
 use Rattle.widget_host.specs.declared.host.Host.{Host}
 use Rattle.widget_host.specs.declared.lines.RunLine.{RunLine}
-use Rattle.widget_host.specs.Housed.{IsLineOf, IsShown, seens, scripts, chains, accepts, present, singles}
+use Rattle.widget_host.specs.page_load.Loads.{singles}
+use Rattle.widget_host.specs.Housed.{IsLaid, IsLineOf, IsShown, seens, scripts, chains, accepts, present}
 use Rattle.adhost_run.specs.declared.ending.Status.TheVariants as status
 use Rattle.adhost_run.specs.Items.{IsFor, AreItems}
 use Rattle.adhost_run.specs.Page.{parts, slot_names, is_swap, is_built_trace}
 use Rattle.adhost_run.specs.Run.{given_by, run_name, AreEnds, short_line, some_refused}
-use Rattle.adhost_run.specs.Demo.{demo_names, counter_of, demo_runs, next_number, demo_item, demo_from, demo_items, demo_given, short_lines, DemoAnswer, short_report}
+use Rattle.adhost_run.specs.Demo.{demo_names, counter_of, demo_runs, demo_part, demo_parts, next_number, demo_item, demo_from, demo_items, demo_given, short_lines, DemoAnswer, short_report}
 use Rattle.adhost_run.specs.Stage.{HasItsScripts, IsSettled, IsDemoStage, demo_slice}
 use Rattle.adhost_run.specs.Played.{name_of, ended, given_all, IsPlayed, lines_of, AreAccepted}
 use Rattle.adhost_run.proofs.Manifests.{part_name, names_by_parts}
-use Rattle.adhost_run.proofs.PlayedLemmas.{all_ends, all_flags, played_scripts, shown_at, singles_present, singles_length}
+use Rattle.adhost_run.proofs.PlayedLemmas.{all_ends, all_flags, played_scripts, shown_all, shown_at, singles_present, singles_length}
 use Rattle.adhost_run.proofs.PageReports.{spec_names}
 
 -- ## Items
@@ -114,12 +115,6 @@ small_files files are = all_short files (ap (list_all (λ (s : Source). nat_lt (
 
 -- ## Slots
 
-abbrev demo_part : List ℕ → Part
-demo_part name = Widget name [] usual_fuel
-
-abbrev pub demo_parts : List Part
-demo_parts = map demo_part demo_names
-
 -- a name is its units
 name_units : (c : ℕ) → c < 128 → units_of (87 ∷ c ∷ 95 ∷ []) ≡ 87 ∷ c ∷ 95 ∷ []
 name_units c small = units_of-ascii (87 ∷ c ∷ 95 ∷ []) (IsAscii-cons 87 (c ∷ 95 ∷ []) (omega arith) (IsAscii-cons c (95 ∷ []) small (IsAscii-cons 95 [] (omega arith) IsAscii-nil)))
@@ -190,18 +185,29 @@ module _ (manifest : Manifest) (sources files libs : List SourceFile) (page : Ju
         let text : bytes ≡ short_lines demo_names shown_owns = written shown_owns accepted ∙ ap (λ o. o ++ short_lines names shown_owns) empty ∙ ap (λ ns. short_lines ns shown_owns) names_are in
         subst (DemoAnswer count status.Ok) (sym text) (short_report ends_are none_refused)
 
-    pub demo_staged : IsSettled demo_slice (length items) h → IsDemoStage count (Some h)
-    demo_staged settled =
-        let many : length (demo_given count) ≡ length items = length-map (demo_items count) (given_by demo_names) ∙ sym (ap length items_are) ∙ length-map items said in
+    pub demo_staged : manifest.channels.items ≡ [] → IsSettled page.spec (map said items) demo_slice h → IsDemoStage count (Some h)
+    demo_staged alone settled =
         record {
-          settled = subst (λ n. IsSettled demo_slice n h) (sym many) settled;
+          spec = page.spec;
+          page = record {
+            refusals = page.refusals.items;
+            slots = subst (λ rs. AreJudgedSlots page.spec.libs.items rs page.spec.slots.items page.refusals.items) runs_are judged.slots;
+            laid = judged.pieces ∙ ap pieces parts_are;
+            channels = judged.channels ∙ alone;
+          };
+          said = map said items;
+          gave = ap (map (given_by demo_names)) items_are;
+          settled = settled;
           slots = played.chains ∙ ap (singles 0) slots_many;
+          laid = subst (λ ns. IsLaid h ns (pieces demo_parts)) slots_are (subst (IsLaid h (map name_of page.spec.slots.items)) (judged.pieces ∙ ap pieces parts_are) played.laid);
+          channels = played.channels ∙ judged.channels ∙ alone;
+          none_else = λ v past. let p : 16 ≤ v = past in played.none_else v (omega (arith, p, slots_many));
           scripts = subst (λ rs. (w : ℕ) (r : SlotRun) → slice_get rs w ≡ Some r → accepts h w ≡ true → HasItsScripts r (scripts h w)) runs_are
               (played_scripts page.spec (map said items) h (runs_over (sources_of libs) (slots_named (parts manifest)) (sources_of files)) page.refusals.items played judged.slots);
           ends = shown_owns;
           lines = lines_of (map run_name (runs_over (sources_of libs) (slots_named (parts manifest)) (sources_of files))) page.refusals.items shown_owns;
           are = ends_are;
-          shown = played.ends;
+          shown = shown_all h (length page.spec.slots.items) shown_owns played.chains (length-map page.spec.slots.items (ended page.spec (given_all page.spec (map said items)))) played.ends;
         }
 
 -- ## Short lines

@@ -22,14 +22,15 @@ use Rattle.page_judge.specs.declared.page.JudgedPage.{JudgedPage}
 use Rattle.page_judge.specs.Runs.{SlotRun, slots_named, runs_over, pieces}
 use Rattle.page_judge.specs.Judged.{IsJudgedPage, AreJudgedSlots, none, more}
 use Rattle.widget_host.specs.declared.host.Host.{Host}
-use Rattle.widget_host.specs.Housed.{AreShown, IsLaid, singles}
+use Rattle.widget_host.specs.page_load.Loads.{singles}
+use Rattle.widget_host.specs.Housed.{AreShown, IsLaid, chains}
 use Rattle.adhost_run.specs.Page.{slot_names, parts, runs_of, HasSlots}
 use Rattle.adhost_run.specs.Run.{given_by, run_name, IsReport}
 use Rattle.adhost_run.specs.Answer.{ending, given_to, RunAnswer, page_report}
 use Rattle.adhost_run.specs.Played.{name_of, ended, given_all, IsPlayed, ArePaired, lines_of, AreTold, AppendsPage}
 use Rattle.adhost_run.specs.Stage.{IsSettled, IsStage}
 use Rattle.adhost_run.proofs.Paged.{first_names, as_many_named}
-use Rattle.adhost_run.proofs.PlayedLemmas.{all_ends, all_flags, all_paired, all_names, played_scripts}
+use Rattle.adhost_run.proofs.PlayedLemmas.{all_ends, all_flags, all_paired, all_names, played_scripts, shown_all}
 
 sources_take : (n : ℕ) (xs : List SourceFile) → sources_of (take n xs) ≡ take n (sources_of xs)
 sources_take zero xs = refl
@@ -90,14 +91,14 @@ module _ (manifest : Manifest) (sources files libs : List SourceFile) (page : Ju
       paired = subst (λ ns. ArePaired ns page.refusals.items owns) names_are (all_paired page.spec gs runs page.spec.slots.items page.refusals.items judged.slots);
     }
 
-    owns_many : length names ≡ length owns
-    owns_many = sym spec_many ∙ sym (length-map page.spec.slots.items (ended page.spec gs))
+    all_shown : AreShown h (chains h) owns
+    all_shown = shown_all h (length page.spec.slots.items) owns played.chains (length-map page.spec.slots.items (ended page.spec gs)) played.ends
 
     -- the report
-    pub report_of : (refused : Bool) (old mid new : List ℕ) → refused ≡ list_any is_some page.refusals.items → old ≡ [] → ((os : List (Option OwnState)) → AreTold names page.refusals.items h os → mid ≡ old ++ lines_of names page.refusals.items os) → ((ns : List (List ℕ)) (ps : List PagePiece) (os : List (Option OwnState)) → IsLaid h ns ps → AreShown h 0 os → length ns ≡ length os → AppendsPage (page_of ps (roots ns os)) mid new) → IsReport (parts manifest) runs (map (given_by names) items) refused new
+    pub report_of : (refused : Bool) (old mid new : List ℕ) → refused ≡ list_any is_some page.refusals.items → old ≡ [] → ((os : List (Option OwnState)) → AreTold names page.refusals.items h os → mid ≡ old ++ lines_of names page.refusals.items os) → ((ns : List (List ℕ)) (ps : List PagePiece) (os : List (Option OwnState)) → IsLaid h ns ps → AreShown h (chains h) os → AppendsPage (page_of ps (roots ns os)) mid new) → IsReport (parts manifest) runs (map (given_by names) items) refused new
     report_of refused old mid new flag empty written shown =
         let pieces_are = map piece_of page.spec.pieces.items in
-        let page_is = shown (map name_of page.spec.slots.items) pieces_are owns played.laid played.ends (ap length spec_names ∙ owns_many) in
+        let page_is = shown (map name_of page.spec.slots.items) pieces_are owns played.laid all_shown in
         let given : gs ≡ map (given_by names) items = ap (λ ns. map (given_by ns) items) spec_names in
         let lines = lines_of (map run_name runs) page.refusals.items owns in
         let same : lines ≡ lines_of names page.refusals.items owns = ap (λ ns. lines_of ns page.refusals.items owns) names_are in
@@ -122,7 +123,7 @@ module _ (manifest : Manifest) (sources files libs : List SourceFile) (page : Ju
         page_report refused (subst (λ r. IsReport (parts manifest) r (given_to manifest all) refused bytes) rs (subst (λ g. IsReport (parts manifest) runs g refused bytes) given report))
 
     -- and the host
-    pub staged : (slice : ℕ) (all : List TraceItem) → items ≡ map said all → files ≡ take (length names) sources → libs ≡ drop (length names) sources → IsSettled slice (length all) h → IsStage (runs_of manifest (sources_of sources)) (given_to manifest all) slice h
+    pub staged : (slice : ℕ) (all : List TraceItem) → items ≡ map said all → files ≡ take (length names) sources → libs ≡ drop (length names) sources → IsSettled page.spec items slice h → IsStage (parts manifest) manifest.channels.items (runs_of manifest (sources_of sources)) (given_to manifest all) slice h
     staged slice all are front back settled =
         let count : length names ≡ length (slots_named (parts manifest)) = ap length named ∙ sym (as_many_named manifest.entries.items) in
         let fs : sources_of files ≡ take (length (slots_named (parts manifest))) (sources_of sources) = ap sources_of front ∙ sources_take (length names) sources ∙ ap (λ n. take n (sources_of sources)) count in
@@ -130,13 +131,19 @@ module _ (manifest : Manifest) (sources files libs : List SourceFile) (page : Ju
         let rs : runs ≡ runs_of manifest (sources_of sources) = ap (λ l. runs_over l (slots_named (parts manifest)) (sources_of files)) ls ∙ ap (runs_over (drop (length (slots_named (parts manifest))) (sources_of sources)) (slots_named (parts manifest))) fs in
         let given : gs ≡ given_to manifest all = ap (λ ns. map (given_by ns) items) (spec_names ∙ named) ∙ ap (map (given_by (slot_names manifest.entries.items))) are in
         let many : length runs ≡ length page.spec.slots.items = sym (length-map runs run_name) ∙ ap length names_are ∙ sym spec_many in
-        let items_many : length gs ≡ length all = length-map items (given_by (map name_of page.spec.slots.items)) ∙ ap length are ∙ length-map all said in
-        subst (λ r. IsStage r (given_to manifest all) slice h) rs (subst (λ g. IsStage runs g slice h) given (record {
-          settled = subst (λ n. IsSettled slice n h) (sym items_many) settled;
+        subst (λ r. IsStage (parts manifest) manifest.channels.items r (given_to manifest all) slice h) rs (subst (λ g. IsStage (parts manifest) manifest.channels.items runs g slice h) given (record {
+          spec = page.spec;
+          page = record { refusals = page.refusals.items; slots = judged.slots; laid = judged.pieces; channels = judged.channels };
+          said = items;
+          gave = ap (λ ns. map (given_by ns) items) (names_are ∙ sym spec_names);
+          settled = settled;
           slots = played.chains ∙ ap (singles 0) (sym many);
+          laid = subst (λ ns. IsLaid h ns (pieces (parts manifest))) (spec_names ∙ sym names_are) (subst (IsLaid h (map name_of page.spec.slots.items)) judged.pieces played.laid);
+          channels = played.channels ∙ judged.channels;
+          none_else = λ v past. played.none_else v (omega (arith, past, many));
           scripts = played_scripts page.spec items h runs page.refusals.items played judged.slots;
           ends = owns;
           lines = lines_of (map run_name runs) page.refusals.items owns;
           are = all_ends page.spec gs runs page.spec.slots.items page.refusals.items judged.slots;
-          shown = played.ends;
+          shown = all_shown;
         }))

@@ -20,12 +20,13 @@ use Rattle.page_judge.specs.Runs.{SlotRun}
 use Rattle.page_judge.specs.Judged.{IsJudged, accepted, refused, AreJudgedSlots, none, more}
 use Rattle.widget_host.specs.declared.host.Host.{Host}
 use Rattle.widget_host.specs.declared.lines.RunLine.{RunLine}
-use Rattle.widget_host.specs.Housed.{IsHoused, IsLineOf, IsShown, AreShown, chains, seens, scripts, accepts, present, singles}
+use Rattle.widget_host.specs.page_load.Loads.{singles}
+use Rattle.widget_host.specs.Housed.{IsHoused, IsLineOf, IsShown, AreShown, chains, seens, scripts, accepts, present}
 use Rattle.adhost_run.specs.Page.{is_swap, is_built_trace}
 use Rattle.adhost_run.specs.Items.{IsFor}
 use Rattle.adhost_run.specs.Run.{life_line, short_line, IsEnd, ran, AreEnds, no_end, one_end, some_refused, run_name}
 use Rattle.adhost_run.specs.Run as run
-use Rattle.adhost_run.specs.Played.{name_of, ended, given_all, AreDue, AreScriptsOf, IsPlayed, IsEnded, line_for, ArePaired, no_pair, one_pair, lines_of, AreTold, IsTold}
+use Rattle.adhost_run.specs.Played.{name_of, ended, given_all, AreDue, AreShownFrom, AreScriptsOf, IsPlayed, IsEnded, line_for, ArePaired, no_pair, one_pair, lines_of, AreTold, IsTold}
 use Rattle.adhost_run.specs.Stage.{HasItsScripts}
 use Rattle.adhost_run.proofs.Delivery.{some_seen, no_seen}
 
@@ -86,7 +87,7 @@ module _ (spec : PageSpec) (given : List Given) (h : Host) where
   scripts_of r name fuel w content refusal (accepted {content = c} has) shown are is = record { content = c; has = has; are = are c refl }
   scripts_of r name fuel w content refusal (refused broken) shown are is = absurd (let e : true ≡ false = sym is ∙ shown in cc)
 
-  all_scripts : (v : ℕ) (runs : List SlotRun) (slots : List SlotSpec) (refusals : List (Option Refusal)) → AreJudgedSlots spec.libs.items runs slots refusals → AreShown h v (map (ended spec given) slots)
+  all_scripts : (v : ℕ) (runs : List SlotRun) (slots : List SlotSpec) (refusals : List (Option Refusal)) → AreJudgedSlots spec.libs.items runs slots refusals → AreShownFrom h v (map (ended spec given) slots)
       → ((i : ℕ) (s : SlotSpec) (c : Content) → slice_get slots i ≡ Some s → content_of spec.libs.items s.content ≡ Some c → AreScriptsOf c (scripts h (v + i)))
       → (i : ℕ) (r : SlotRun) → slice_get runs i ≡ Some r → accepts h (v + i) ≡ true → HasItsScripts r (scripts h (v + i))
   all_scripts v runs slots refusals none shown are i r at is = absurd (no_run r at)
@@ -129,12 +130,16 @@ at_same (a ∷ xs) (b ∷ bs) (suc w) y same there = at_same xs bs w y (tails (i
   tails : (o p : OwnState) (os ps : List OwnState) → o ∷ os ≡ p ∷ ps → os ≡ ps
   tails o p os ps e = cc
 
-pub shown_settled : (old new : Host) (w : ℕ) (es : List (Option OwnState)) → map image (seens new) ≡ map due (seens old) → ((v : ℕ) → accepts new v ≡ accepts old v) → AreDue old w es → AreShown new w es
+pub shown_settled : (old new : Host) (w : ℕ) (es : List (Option OwnState)) → map image (seens new) ≡ map due (seens old) → ((v : ℕ) → accepts new v ≡ accepts old v) → AreDue old w es → AreShownFrom new w es
 shown_settled old new w [] same takes_in are = tt
 shown_settled old new w (None ∷ es) same takes_in are = (takes_in w ∙ are.0, shown_settled old new (w + 1) es same takes_in are.1)
 shown_settled old new w (Some own ∷ es) same takes_in are =
     let x = at_same (seens new) (seens old) w are.0.1.0 same are.0.1.1 in
     ((takes_in w ∙ are.0.0, (x.0, x.1, x.2 ∙ are.0.1.2)), shown_settled old new (w + 1) es same takes_in are.1)
+
+-- of slots of one life each they are those of all
+pub shown_all : (h : Host) (n : ℕ) (owns : List (Option OwnState)) → chains h ≡ singles 0 n → length owns ≡ n → AreShownFrom h 0 owns → AreShown h (chains h) owns
+shown_all h n owns alone many are = subst (λ cs. AreShown h cs owns) (ap (singles 0) many ∙ sym alone) are
 
 -- each slot has its one life still
 pub lasts : (v n : ℕ) → map (λ c. last_life c ∷ []) (singles v n) ≡ singles v n
@@ -186,7 +191,7 @@ own_at names refusals owns i f no_pair within is = absurd (omega arith)
 own_at names refusals owns zero f (one_pair {own = o} here rest) within is = (o, refl, subst (λ x. IsEnded x o) (sym is) here)
 own_at names refusals owns (suc i) f (one_pair {names = ns} {refusals = fs} {owns = os} here rest) within is = own_at ns fs os i f rest (omega arith) is
 
-pub shown_at : (h : Host) (v : ℕ) (owns : List (Option OwnState)) (i : ℕ) (own : Option OwnState) → AreShown h v owns → slice_get owns i ≡ Some own → IsShown h (v + i) own
+pub shown_at : (h : Host) (v : ℕ) (owns : List (Option OwnState)) (i : ℕ) (own : Option OwnState) → AreShownFrom h v owns → slice_get owns i ≡ Some own → IsShown h (v + i) own
 shown_at h v [] i own are there = absurd (none_own own there) where
   none_own : (o : Option OwnState) → None ≡ Some o → ⊥
   none_own o e = cc

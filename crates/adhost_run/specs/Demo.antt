@@ -2,7 +2,7 @@
 use Rattle.std.specs.Prelude.{◌≡◌, ℕ, zero, suc, ◌+◌, ◌*◌, ◌/◌, ◌%◌, ◌^◌, List, [], ◌∷◌, ◌++◌, map, codes, nat_eq, if◌then◌else◌, Option, Some, None, false}
 use Rattle.std.specs.List.{flat_map}
 use Rattle.trace_reader.specs.Said.{Said, an_event, an_advance}
-use Rattle.manifest_reader.specs.Page.{usual_fuel}
+use Rattle.manifest_reader.specs.Page.{Part, Widget, usual_fuel}
 use Rattle.slot_check.specs.Sources.{Source}
 use Rattle.page_judge.specs.Runs.{SlotRun}
 use Rattle.widget_meaning.specs.OwnState.{OwnState}
@@ -44,6 +44,13 @@ demo_run name = record { slot = record { name = name; file = counter_of name; li
 
 abbrev pub demo_runs : List SlotRun
 demo_runs = map demo_run demo_names
+
+-- its parts: the slots alone, without a file's name
+abbrev pub demo_part : List ℕ → Part
+demo_part name = Widget name [] usual_fuel
+
+abbrev pub demo_parts : List Part
+demo_parts = map demo_part demo_names
 
 -- the number behind a number
 abbrev pub next_number : ℕ → ℕ

@@ -1,5 +1,5 @@
 -- What a host has done with the page and the items that it was handed, and what is written of it.
-use Rattle.std.specs.Prelude.{◌≡◌, ◌<◌, ◌+◌, ℕ, List, [], ◌∷◌, ◌++◌, map, length, string_bytes, true, false, slice_get, Option, Some, None, option_map}
+use Rattle.std.specs.Prelude.{◌≡◌, ◌<◌, ◌≤◌, ◌+◌, ℕ, List, [], ◌∷◌, ◌++◌, map, length, string_bytes, true, false, slice_get, Option, Some, None, option_map}
 use Rattle.js_tree.specs.declared.tree.Tree.{Tree}
 use Rattle.js_tree.specs.Trees.{program_of}
 use Rattle.plain_tree.specs.Trees.{PlainTrees}
@@ -17,7 +17,8 @@ use Rattle.page_spec.specs.Pages.{piece_of}
 use Rattle.widget_host.specs.declared.host.Host.{Host}
 use Rattle.widget_host.specs.declared.items.HostItem.{HostItem}
 use Rattle.widget_host.specs.declared.items.HostItem.TheVariants as host
-use Rattle.widget_host.specs.Housed.{IsHoused, GivesItem, AreShown, chains, seens, scripts, accepts, present, singles, IsLaid}
+use Rattle.widget_host.specs.page_load.Loads.{singles}
+use Rattle.widget_host.specs.Housed.{IsHoused, GivesItem, AreShown, chains, channels, seens, scripts, accepts, present, IsLaid}
 use Rattle.adhost_run.specs.Run.{given_by, life_line, some_refused}
 
 -- the name of a slot
@@ -36,13 +37,19 @@ given_all spec items = map (given_by (map name_of spec.slots.items)) items
 abbrev pub AreScriptsOf : Content → List Tree → Type 0
 AreScriptsOf c ts = map program_of ts ≡ c.libraries ++ c.script ∷ []
 
+-- slots from a number on, each with one life, show these own states
+abbrev pub AreShownFrom : Host → ℕ → List (Option OwnState) → Type 0
+AreShownFrom h v owns = AreShown h (singles v (length owns)) owns
+
 -- the host has loaded the page, and has done with these items
 pub record IsPlayed (spec : PageSpec) (items : List Said) (h : Host) : Type 0 where
   pub housed : IsHoused h
   pub chains : chains h ≡ singles 0 (length spec.slots.items)
   pub laid : IsLaid h (map name_of spec.slots.items) (map piece_of spec.pieces.items)
+  pub channels : channels h ≡ spec.channels.items
+  pub none_else : (v : ℕ) → length spec.slots.items ≤ v → accepts h v ≡ false
   pub scripts : (w : ℕ) (s : SlotSpec) (c : Content) → slice_get spec.slots.items w ≡ Some s → content_of spec.libs.items s.content ≡ Some c → AreScriptsOf c (scripts h w)
-  pub ends : AreShown h 0 (map (ended spec (given_all spec items)) spec.slots.items)
+  pub ends : AreShownFrom h 0 (map (ended spec (given_all spec items)) spec.slots.items)
 
 -- what the life of a slot has still to come to, if it is accepted
 abbrev pub IsDue : Host → ℕ → Option OwnState → Type 0
@@ -64,6 +71,11 @@ pub record Gives (i : Said) (old new : Host) : Type 0 where
   pub item : HostItem
   pub said : said_of item ≡ i
   pub gives : GivesItem item old new
+
+-- these were given, one after the other
+pub data GivesAll (old : Host) : List Said → Host → Type 0 where
+  no_item : GivesAll old [] old
+  one_item : {items : List Said} {i : Said} {mid new : Host} → GivesAll old items mid → Gives i mid new → GivesAll old (items ++ i ∷ []) new
 
 -- ## What is written
 
@@ -93,14 +105,14 @@ lines_of _ _ _ = []
 pub record AreTold (names : List (List ℕ)) (refusals : List (Option Refusal)) (h : Host) (owns : List (Option OwnState)) : Type 0 where
   pub housed : IsHoused h
   pub chains : chains h ≡ singles 0 (length names)
-  pub shown : AreShown h 0 owns
+  pub shown : AreShownFrom h 0 owns
   pub paired : ArePaired names refusals owns
 
 -- so of slots of which none is refused
 pub record AreAccepted (names : List (List ℕ)) (h : Host) (owns : List (Option OwnState)) : Type 0 where
   pub housed : IsHoused h
   pub chains : chains h ≡ singles 0 (length names)
-  pub shown : AreShown h 0 owns
+  pub shown : AreShownFrom h 0 owns
   pub even : length names ≡ length owns
   pub accepted : some_refused owns ≡ false
 

@@ -76,7 +76,8 @@ pub fn demo(alloc: Global, count: u32) -> Result<Report, Memory>
 
 // A page of slots of these names.
 fn demo_page(alloc: Global, names: &[&str]) -> Result<Manifest, Memory>
-    ensures { IfOk result (λ m. parts m ≡ map (λ n. Widget (units_of n.now) [] usual_fuel) names.now) }
+    ensures parts { IfOk result (λ m. parts m ≡ map (λ n. Widget (units_of n.now) [] usual_fuel) names.now) }
+    ensures channels { IfOk result (λ m. m.channels.items ≡ []) }
 {
     let mut entries = Vec::new(alloc);
     'names: for name in names {

@@ -93,7 +93,7 @@ pub fn play(
     requires no_swaps { is_built_trace (map said items.items) ≡ true }
     requires slots { IsTrue (are_slots (map name_of spec.slots.items)) }
     ensures played { IfOk result (IsPlayed spec (map said items.items)) }
-    ensures settled { IfOk result (IsSettled slice (length items.items)) }
+    ensures settled { IfOk result (IsSettled spec (map said items.items) slice) }
 {
     let mut host = Host::load(alloc, keys, spec)?;
     'items: for item in items {
@@ -234,7 +234,7 @@ fn state_of(stop: Option<Stop>) -> State
 fn push_page(alloc: Global, host: &Host, out: &mut Vec<u8>) -> Result<(), Memory>
     requires { IsHoused host.now }
     ensures { OnOk result ((names : List (List ℕ)) (pieces : List PagePiece) (owns : List (Option OwnState)) → IsLaid host.now names pieces →
-        AreShown host.now 0 owns → length names ≡ length owns → AppendsPage (page_of pieces (roots names owns)) out.old.items out.new.items) }
+        AreShown host.now (chains host.now) owns → AppendsPage (page_of pieces (roots names owns)) out.old.items out.new.items) }
 {
     let mut text = Vec::new(alloc);
     host.print_page(alloc, &mut text)?;

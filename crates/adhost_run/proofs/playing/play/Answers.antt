@@ -1,7 +1,7 @@
-use Rattle.std.proofs.Common.{◌≡◌, ◌+◌, ◌≤◌, List, [], ◌∷◌, None, length, map, slice_get, ap, sym, subst, ◌∙◌, arith}
+use Rattle.std.proofs.Common.{◌≡◌, ◌+◌, ◌≤◌, List, [], ◌∷◌, None, length, map, slice_get, refl, ap, sym, subst, ◌∙◌, arith}
 use Rattle.std.proofs.lemmas.Iterator.Adapters.{YieldsList-from_vec}
 use Rattle.std.proofs.lemmas.Iterator.Consumers.{YieldsList-turn, YieldsList-end}
-use Rattle.std.proofs.lemmas.List.{length-map, length_push}
+use Rattle.std.proofs.lemmas.List.{length-map, length_push, map-append}
 use Rattle.js_tree.specs.Trees.{program_of}
 use Rattle.trace_reader.specs.declared.item.TraceItem.{TraceItem}
 use Rattle.trace_reader.specs.Said.{said}
@@ -11,10 +11,10 @@ use Rattle.slot_laws.specs.Chains.{last_life}
 use Rattle.slot_laws.specs.Settled.{PickedOn}
 use Rattle.slot_laws.proofs.Housing.{unspent_given}
 use Rattle.page_spec.specs.Pages.{piece_of}
-use Rattle.widget_host.specs.Housed.{chains, homes, journal, seens}
+use Rattle.widget_host.specs.Housed.{Passes, chains, homes, journal, seens}
 use Rattle.widget_host.proofs.Programs.{programs_are}
 use Rattle.adhost_run.specs.Items.{IsFor}
-use Rattle.adhost_run.specs.Played.{name_of, ended, given_all, AreDue}
+use Rattle.adhost_run.specs.Played.{name_of, ended, given_all, AreDue, GivesAll, no_item, one_item}
 use Rattle.adhost_run.proofs.Delivery.{few_slots, dues_loaded, dues_more}
 use Rattle.adhost_run.proofs.Ordered.{in_turn}
 use Rattle.adhost_run.proofs.PlayedLemmas.{item_for, item_stays, shown_settled, lasts, singles_length, same_items}
@@ -28,6 +28,9 @@ items-init c =
       housed = loads.housed;
       chains = loads.chains;
       laid = loads.laid;
+      channels = loads.channels;
+      none_else = loads.none_else;
+      gives = (c.in_ok-host.host, loads, no_item);
       scripts = programs_are c.args.spec c.in_ok-host.host loads;
       unspent = loads.unspent;
       homes = loads.homes;
@@ -66,6 +69,9 @@ items-preserved c =
       housed = c.in_ok-give.ensures.housed;
       chains = g.gives.chains ∙ inv.chains;
       laid = g.gives.stays.laid (map name_of c.args.spec.slots.items) (map piece_of c.args.spec.pieces.items) inv.laid;
+      channels = g.gives.stays.plan.channels ∙ inv.channels;
+      none_else = λ v past. g.gives.stays.accepts v ∙ inv.none_else v past;
+      gives = (inv.gives.0, inv.gives.1, subst (λ is. GivesAll inv.gives.0 is c.give.new.host) (sym (map-append said c.items.yielded (c.in-Some.item ∷ []))) (one_item inv.gives.2 g));
       scripts = λ w s a at is. ap (map program_of) (g.gives.stays.scripts w) ∙ inv.scripts w s a at is;
       unspent = unspent_given 0 (seens c.items.host) (seens c.give.new.host) g.gives.images inv.unspent;
       homes = λ v w at. inv.homes v w (ap (λ hs. slice_get hs v) (sym g.gives.stays.homes) ∙ at);
@@ -87,6 +93,8 @@ returns-clause-played c =
       housed = e.housed;
       chains = e.chains ∙ ap (map (λ ls. last_life ls ∷ [])) inv.chains ∙ lasts 0 (length slots);
       laid = e.stays.laid (map name_of slots) (map piece_of c.args.spec.pieces.items) inv.laid;
+      channels = e.stays.plan.channels ∙ inv.channels;
+      none_else = λ v past. e.stays.accepts v ∙ inv.none_else v past;
       scripts = λ w s a at is. ap (map program_of) (e.stays.scripts w) ∙ inv.scripts w s a at is;
       ends = shown_settled c.items.host c.settle.new.self 0 (map (ended c.args.spec (given_all c.args.spec (map said c.args.items.items))) slots) e.done e.stays.accepts dues;
     }
@@ -105,9 +113,13 @@ returns-clause-settled c =
     record {
       housed = e.housed;
       unmarked = e.unmarked;
-      count = e.given ∙ inv.given ∙ ap length whole;
-      before = seens c.items.host;
+      count = e.given ∙ inv.given ∙ ap length whole ∙ sym (length-map c.args.items.items said);
+      first = inv.gives.0;
+      loads = inv.gives.1;
+      before = c.items.host;
+      gives = subst (λ (xs : List TraceItem). GivesAll inv.gives.0 (map said xs) c.items.host) whole inv.gives.2;
       unspent = inv.unspent;
+      passes = subst (Passes c.args.slice c.items.host) (sym (e.passes.is refl)) e.passes.picks;
       picks = subst (λ cs. PickedOn c.args.slice cs (seens c.items.host) [] (chains c.settle.new.self) (seens c.settle.new.self) (journal c.settle.new.self)) alone
           (subst (λ js. PickedOn c.args.slice (chains c.items.host) (seens c.items.host) js (chains c.settle.new.self) (seens c.settle.new.self) (journal c.settle.new.self)) inv.journal e.settled.picks);
       quiet = e.quiet;

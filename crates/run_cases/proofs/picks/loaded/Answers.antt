@@ -1,6 +1,6 @@
 use Rattle.std.proofs.Common.{◌≡◌, ◌+◌, ℕ, zero, suc, length, refl, ap, arith}
 use Rattle.std.proofs.lemmas.Bool.Decides.{nat_tests}
-use Rattle.adhost_run.specs.widget_host.Housed.{singles}
+use Rattle.adhost_run.specs.widget_host.page_load.Loads.{singles}
 use Rattle.run_cases.proofs.picks.loaded.Goals as goal
 
 pub slice_bounds-of_files-end : goal.slice_bounds-of_files-end
