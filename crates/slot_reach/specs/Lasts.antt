@@ -1,0 +1,67 @@
+-- The certificate of all slots, each by its last life.
+use Rattle.std.specs.Prelude.{◌≡◌, ℕ, zero, suc, ◌++◌, true, false, List, [], ◌∷◌, Option, None, Some, if◌then◌else◌, length, map, nat_eq, slice_get}
+use Rattle.std.specs.Option.{option_and_then, option_map_or}
+use Rattle.slot_laws.specs.Chains.{last_life}
+use Rattle.slot_picks.specs.declared.crowd.Crowd.{Crowd}
+use Rattle.slot_picks.specs.declared.crowd.Place.{Place}
+use Rattle.slot_picks.specs.declared.slots.Slot.{Slot}
+use Rattle.life_laws.specs.Life.{Seen, image}
+use Rattle.slot_picks.specs.life_queue.Lives.{life_seen}
+use Rattle.slot_picks.specs.Places.{is_accepted, lent}
+use Rattle.slot_picks.specs.Crowds.{seens_of}
+use Rattle.slot_picks.specs.turn_calls.declared.turn.Shared.{Shared}
+use Rattle.reach_cert.specs.Certs as cert
+use Rattle.widget_meaning.specs.OwnState.{OwnState}
+use Rattle.store_reach.specs.Reads.{read_slot}
+
+-- the name of the slot in which a life is the last one, if there is one
+abbrev pub name_in : List Slot → ℕ → Option (List ℕ)
+name_in [] v = None
+name_in (s ∷ ss) v = if nat_eq (last_life s.lives.items) v then Some s.name else name_in ss v
+
+-- the names of the first so many lives
+abbrev pub names_before : List Slot → ℕ → List (Option (List ℕ))
+names_before ss zero = []
+names_before ss (suc v) = names_before ss v ++ name_in ss v ∷ []
+
+-- what is read of a life, of a slot with this name
+abbrev pub life_read : List (Option (List ℕ)) → Shared → List ℕ → ℕ → Place → cert.Slot
+life_read names h name v p = if p.life.accepted then read_slot names h.store.cells name v h.page p.life.widget.around else cert.Refused name
+
+-- what is read of a slot: its last life, under its name
+abbrev pub slot_read : List (Option (List ℕ)) → Crowd → Slot → cert.Slot
+slot_read names c s = option_map_or (life_read names c.shared s.name (last_life s.lives.items)) (slice_get c.places.items (last_life s.lives.items)) (cert.Refused s.name)
+
+-- the certificate of all slots
+unfoldable pub reached : Crowd → List Slot → List cert.Slot
+reached c ss = map (slot_read (names_before ss (length c.places.items)) c) ss
+
+-- ## Own states
+
+-- the own state that is seen of a life, none where its file was refused
+abbrev pub state_at : Shared → ℕ → Place → Option OwnState
+state_at h v p = if p.life.accepted then Some (image (life_seen (lent h p) v p.life)) else None
+
+-- a slot's name, and the own state of its last life
+abbrev pub state_in : Crowd → Slot → List ℕ × Option OwnState
+state_in c s = (s.name, option_and_then (state_at c.shared (last_life s.lives.items)) (slice_get c.places.items (last_life s.lives.items)))
+
+-- those of all slots
+unfoldable pub states : Crowd → List Slot → List (List ℕ × Option OwnState)
+states c ss = map (state_in c) ss
+
+-- the last life of a slot shows this own state, or none where its file was refused
+abbrev pub IsLast : Crowd → Slot → Option OwnState → Type 0
+IsLast c s None = is_accepted c.places.items (last_life s.lives.items) ≡ false
+IsLast c s (Some o) = (is_accepted c.places.items (last_life s.lives.items) ≡ true) × ((x : Seen) × (slice_get (seens_of c) (last_life s.lives.items) ≡ Some x) × (image x ≡ o))
+
+-- so do those of these slots
+abbrev pub AreLast : Crowd → List Slot → List (Option OwnState) → Type 0
+AreLast c [] [] = Unit {0}
+AreLast c (s ∷ ss) (e ∷ es) = IsLast c s e × AreLast c ss es
+AreLast c _ _ = ⊥
+
+-- each slot's name with one of these
+abbrev pub named_ends : List Slot → List (Option OwnState) → List (List ℕ × Option OwnState)
+named_ends (s ∷ ss) (e ∷ es) = (s.name, e) ∷ named_ends ss es
+named_ends _ _ = []

@@ -1,0 +1,9 @@
+//! The certificate of reach of all slots, each by its last life.
+#![tactic(auto)]
+
+mod laws;
+mod names;
+mod slots;
+
+pub use laws::lasts_are_told;
+pub use slots::reach;

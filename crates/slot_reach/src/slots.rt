@@ -1,0 +1,100 @@
+//! The blocks of all slots.
+ghost use Rattle.std.specs.Prelude.{◌≡◌, IfOk, length, map};
+ghost use Rattle.reach_cert.specs.Certs.{plain, slot_of};
+ghost use Rattle.reach_cert.specs.Walks.{IsConfined};
+ghost use Rattle.slot_picks.specs.Crowds.{AreStanding, OwnCrowd};
+ghost use Rattle.slot_reach.specs.Lasts.{life_read, reached, slot_read, states};
+ghost use Rattle.state_reach.specs.States.{cert_of_states};
+
+use crate::names::{last_of, name_all};
+use code_units::{Memory, Text};
+use reach_cert::{Block, Cert, each_slot_keeps_in};
+use slot_picks::turn_calls::Shared;
+use slot_picks::{Crowd, Place, Slot};
+use state_reach::{names_all_differ, states_are_read};
+use std::alloc::Global;
+use store_reach::{own_stays, read_block};
+
+// The block of a life, of a slot with this name.
+fn read_life(
+    alloc: Global,
+    shared: &Shared,
+    names: &[Option<Text>],
+    name: &Text,
+    v: u32,
+    place: &Place,
+) -> Result<Block, Memory>
+    ensures { IfOk result (λ b. slot_of b ≡ life_read names.now shared.now name.now v place.now) }
+{
+    if !place.life.accepted {
+        return Ok(Block::Refused(name.share()?));
+    }
+    read_block(
+        alloc,
+        &shared.store,
+        names,
+        name,
+        v,
+        &shared.page,
+        &place.life.widget.around,
+    )
+}
+
+// The block of a slot.
+fn read_slot(
+    alloc: Global,
+    crowd: &Crowd,
+    names: &[Option<Text>],
+    slot: &Slot,
+) -> Result<Block, Memory>
+    ensures { IfOk result (λ b. slot_of b ≡ slot_read names.now crowd.now slot.now) }
+{
+    let v = last_of(&slot.lives);
+    match crowd.places.get(v as usize) {
+        Some(place) => read_life(alloc, &crowd.shared, names, &slot.name, v, place),
+        None => Ok(Block::Refused(slot.name.share()?)),
+    }
+}
+
+// The blocks of all slots.
+fn read_slots(
+    alloc: Global,
+    crowd: &Crowd,
+    names: &[Option<Text>],
+    slots: &[Slot],
+) -> Result<Vec<Block>, Memory>
+    ensures { IfOk result (λ blocks. map slot_of blocks.items ≡ map (slot_read names.now crowd.now) slots.now) }
+{
+    let mut blocks = Vec::new(alloc);
+    'each: for slot in slots {
+        blocks.push(read_slot(alloc, crowd, names, slot)?)?;
+    }
+    Ok(blocks)
+}
+
+// How many lives there are places for.
+fn count(crowd: &Crowd) -> Result<u32, Memory>
+    ensures { IfOk result (λ n. n ≡ length crowd.now.places.items) }
+{
+    match u32::try_from(crowd.places.len()) {
+        Ok(many) => Ok(many),
+        Err(_) => Err(Memory),
+    }
+}
+
+/// The certificate of reach of all slots, read off the store, the page and what lives hold beside them: each slot
+/// with its last life. Each reference is told by the cell to which it leads, whoever that belongs to. Where each life
+/// holds its own, this is the certificate of the own states of these lives, and it is confined.
+pub fn reach(alloc: Global, crowd: &Crowd, slots: &[Slot]) -> Result<Cert, Memory>
+    ensures read { IfOk result (λ cert. plain cert ≡ reached crowd.now slots.now) }
+    ensures states { IfOk result (λ cert. OwnCrowd crowd.now → AreStanding crowd.now slots.now → plain cert ≡ cert_of_states (states crowd.now slots.now)) }
+    ensures confined { IfOk result (λ cert. OwnCrowd crowd.now → AreStanding crowd.now slots.now → IsConfined (plain cert)) }
+{
+    names_all_differ(&crowd.shared.store)?;
+    states_are_read(&crowd.shared.store);
+    own_stays(&crowd.shared.store);
+    each_slot_keeps_in();
+    let names = name_all(alloc, slots, count(crowd)?)?;
+    let blocks = read_slots(alloc, crowd, &names, slots)?;
+    Ok(Cert { blocks })
+}

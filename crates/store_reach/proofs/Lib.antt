@@ -1,0 +1,4 @@
+mod Counted
+mod Steps
+mod Nodes
+pub mod Owning
