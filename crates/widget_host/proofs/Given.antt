@@ -71,10 +71,11 @@ module _ (i : HostItem) (old new : Host)
     housed_at = homes_alike old.crowd.places.items new.crowd.places.items (are_alike old.crowd.places.items new.crowd.places.items but_queues)
 
     pub gives_item : GivesItem i old new
-    unfolding seens chains accepts given journal shared
+    unfolding seens chains accepts given journal shared told
     gives_item = record {
       dues = ap (map due) seens_new ∙ dues_fed (is_for (chains_of old.slots.items) i) (work_of i) old.crowd.shared old i 0 old.crowd.places.items new.crowd.places.items (work_is i) for_it fed;
       images = images;
+      told = told_same old.crowd.places.items new.crowd.places.items but_queues;
       chains = ap chains_of (ap (λ s. s.items) slots);
       given = counted;
       journal = ap (λ j. j.items) same_journal;

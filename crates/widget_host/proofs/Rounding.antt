@@ -314,8 +314,8 @@ module _ (old new : Host) (all : new.crowd.shared ≡ old.crowd.shared) (slots :
     others_then false r v out = ap (λ ss. slice_get ss v) (seens_still r.1)
     others_then true r v out = others_now few_told r.1 v out
 
-  pub seens_then : (d : Bool) → Round d → d ≡ false → seens_of new.crowd ≡ seens_of old.crowd
-  seens_then false r is = seens_still r.1
+  pub seens_then : (d : Bool) → Round d → d ≡ false → (seens_of new.crowd ≡ seens_of old.crowd) × (told_of new.crowd.places.items ≡ told_of ps)
+  seens_then false r is = (seens_still r.1, ap told_of r.1)
   seens_then true r is = cc
 
   pub listed_then : (d : Bool) → Round d → d ≡ true → old.channels.items ≢ []

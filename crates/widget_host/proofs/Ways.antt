@@ -109,14 +109,15 @@ module _ (k : ℕ) (first mid new : Host) (way : OnWay k first mid) where
       one (Some g) h = (same (last_life c) ∙ h.0, λ s at. h.1 s (sym (ap (λ ss. slice_get ss (last_life c)) seen) ∙ at))
 
   -- a round that delivers nothing ends it
-  pub way_ended : HasDone mid → Delivers false mid new → seens new ≡ seens mid → chains new ≡ chains mid → KeepsHost mid new
-      → (fs : List (Option Fed)) → AreFed first fs → (gs : List (Option Fed)) × RoundsTo (channels first) (names first) fs gs × AreFedShown new (chains new) gs
+  pub way_ended : HasDone mid → Delivers false mid new → seens new ≡ seens mid → told new ≡ told mid → chains new ≡ chains mid → KeepsHost mid new
+      → (fs : List (Option Fed)) → AreFed first fs → (gs : List (Option Fed)) × RoundsTo (channels first) (names first) fs gs × AreFed new gs × AreFedShown new (chains new) gs
   unfolding seens told
-  way_ended done delivers seen same stays fs f =
+  way_ended done delivers seen taken same stays fs f =
       let g = way.fed fs f in
       let quiet = delivers g.0 g.2 done in (
         g.0,
         g.1 g.0 (ended (subst (λ ns. IsQuiet (channels first) ns g.0) way.stays.plan.names (subst (λ cs. IsQuiet cs (names mid) g.0) way.stays.plan.channels quiet))),
+        subst (λ cs. feeding.AreFed (accepts new) (seens new) (told new) cs g.0) (sym same) (fed_stays (accepts mid) (accepts new) stays.accepts (seens mid) (seens new) (told mid) (told new) (ap (map due) seen) taken (chains mid) g.0 g.2),
         subst (λ cs. AreFedShown new cs g.0) (sym same) (shown_by (chains mid) g.0 stays.accepts seen
             (shown_all (accepts mid) (seens mid) (told mid) done (chains mid) g.0 g.2)),
       )

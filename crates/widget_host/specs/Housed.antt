@@ -229,6 +229,7 @@ dues_after h i v (o ∷ os) = (if reaches h i v then item o (item_of i) else o) 
 pub record GivesItem (i : HostItem) (old new : Host) : Type 0 where
   pub dues : map due (seens new) ≡ dues_after old i 0 (map due (seens old))
   pub images : map image (seens new) ≡ map image (seens old)
+  pub told : told new ≡ told old
   pub chains : chains new ≡ chains old
   pub given : given new ≡ given old + 1
   pub journal : journal new ≡ journal old

@@ -1,12 +1,13 @@
 //! An item goes to the lives that it is for.
-ghost use Rattle.std.specs.Prelude.{◌≡◌, ℕ, ◌<◌, ◌≤◌, IsErr, OnErr, OnOk, false, length, nat_eq, true};
+ghost use Rattle.std.specs.Prelude.{◌≡◌, ℕ, ◌<◌, ◌≤◌, IsErr, OnErr, OnOk, false, length, map, nat_eq, true};
 ghost use Rattle.std.specs.List.{list_any};
+ghost use Rattle.life_laws.specs.Life.{image};
 ghost use Rattle.slot_rounds.specs.page_load.life_queue.declared.life.Work.TheVariants as work;
 ghost use Rattle.slot_laws.specs.Chains.{Chains, last_life};
 ghost use Rattle.slot_rounds.specs.page_load.slot_picks.Crowds.{chains_of};
 ghost use Rattle.slot_rounds.specs.page_load.slot_picks.Places.{homes_of};
 ghost use Rattle.widget_host.specs.Feeding.{AreFed, AreSame, IsFed, IsSame, work_of};
-ghost use Rattle.widget_host.specs.Housed.{GivesItem, IsHoused, IsItem, KeepsHost, chains, given, is_for, marked};
+ghost use Rattle.widget_host.specs.Housed.{GivesItem, IsHoused, IsItem, KeepsHost, chains, given, is_for, journal, marked, seens, shared, told};
 
 use crate::host::Host;
 use crate::items::HostItem;
@@ -80,6 +81,11 @@ impl Host {
         requires room { given self.old < 4096 }
         requires shape { IsItem item (length (chains self.old)) }
         ensures gives { OnOk result (GivesItem item self.old self.new) }
+        ensures images { map image (seens self.new) ≡ map image (seens self.old) }
+        ensures told { told self.new ≡ told self.old }
+        ensures chains { chains self.new ≡ chains self.old }
+        ensures journal { journal self.new ≡ journal self.old }
+        ensures same { shared self.new ≡ shared self.old }
         ensures stays { KeepsHost self.old self.new }
         ensures housed { IsHoused self.new }
         ensures marked { marked self.old ≡ true → IsErr result × (self.new ≡ self.old) }

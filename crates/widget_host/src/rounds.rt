@@ -28,7 +28,7 @@ impl Host {
         requires unmarked { marked self.old ≡ false }
         requires names { IsDistinct bytes_eq (names self.old) }
         ensures delivers { IfOk result (λ delivered. Delivers delivered self.old self.new) }
-        ensures still { IfOk result (λ delivered. delivered ≡ false → seens self.new ≡ seens self.old) }
+        ensures still { IfOk result (λ delivered. delivered ≡ false → (seens self.new ≡ seens self.old) × (told self.new ≡ told self.old)) }
         ensures more { IfOk result (λ delivered. delivered ≡ true → sum_of (told self.old) < sum_of (told self.new)) }
         ensures listed { IfOk result (λ delivered. delivered ≡ true → channels self.old ≢ []) }
         ensures images { OnOk result (map image (seens self.new) ≡ map image (seens self.old)) }
@@ -66,7 +66,7 @@ impl Host {
         requires names { IsDistinct bytes_eq (names self.old) }
         requires slice { 0 < slice }
         ensures rounds { OnOk result ((fs : List (Option Fed)) → AreFed self.old fs
-            → (gs : List (Option Fed)) × RoundsTo (channels self.old) (names self.old) fs gs × AreFedShown self.new (chains self.new) gs) }
+            → (gs : List (Option Fed)) × RoundsTo (channels self.old) (names self.old) fs gs × AreFed self.new gs × AreFedShown self.new (chains self.new) gs) }
         ensures ended { OnOk result ((v : ℕ) (s t : Seen) → is_last v (chains self.old) ≡ false
             → slice_get (seens self.old) v ≡ Some s → slice_get (seens self.new) v ≡ Some t → image t ≡ due s) }
         ensures settled { OnOk result (channels self.old ≡ [] → SettledSlots slice (homes self.old) (chains self.old) (chains self.new) (seens self.old) (seens self.new) (journal self.old) (journal self.new) (C.asks chooser.old) (C.room chooser.old) (C.asks chooser.new) (C.room chooser.new)) }

@@ -98,6 +98,7 @@ impl Host {
         ensures quiet { OnOk result (ready_from 0 (slot_flags (seens self.new) (chains self.new)) ≡ []) }
         ensures chains { OnOk result (chains self.new ≡ map (λ c. last_life c ∷ []) (chains self.old)) }
         ensures given { OnOk result (given self.new ≡ given self.old + 1) }
+        ensures told { OnOk result (told self.new ≡ told self.old) }
         ensures stays { KeepsHost self.old self.new }
         ensures housed { IsHoused self.new }
         ensures marked { marked self.old ≡ true → IsErr result × (self.new ≡ self.old) × (chooser.new ≡ chooser.old) }

@@ -7,7 +7,9 @@ use Rattle.slot_rounds.specs.page_load.slot_picks.declared.crowd.Place.{Place}
 use Rattle.slot_rounds.specs.page_load.slot_picks.Places.{homes_of, told_of}
 use Rattle.widget_host.specs.declared.host.Host.{Host}
 use Rattle.widget_host.specs.Feeding.{AreFed, work_of}
-use Rattle.widget_host.specs.Housed.{IsHoused, IsItem, IsWhole, chains, given, is_for, marked, sum_of, swaps, told}
+use Rattle.widget_host.specs.Housed.{IsHoused, IsItem, IsWhole, chains, given, is_for, journal, marked, seens, shared, sum_of, swaps, told}
+use Rattle.widget_host.proofs.Alike.{are_alike, images_alike}
+use Rattle.widget_host.proofs.Fed.{told_same}
 use Rattle.widget_host.proofs.Given.{gives_item, gives_slots, gives_whole}
 use Rattle.widget_host.proofs.Staying.{apart_stays, host_here, host_stays}
 use Rattle.widget_host.proofs.Whole.{sum_few}
@@ -96,3 +98,43 @@ returns-in-Err-clause-marked c = λ is. absurd (let both : true ≡ false = sym 
 pub returns-in-Err-clause-mark : goal.returns-in-Err-clause-mark
 unfolding marked
 returns-in-Err-clause-mark c = refl
+
+pub returns-in-Ok-clause-images : goal.returns-in-Ok-clause-images
+unfolding seens
+returns-in-Ok-clause-images c = images_alike c.args.self.now.crowd.shared 0 c.args.self.now.crowd.places.items c.feed_item.new.places.items (are_alike c.args.self.now.crowd.places.items c.feed_item.new.places.items c.in-Ok.ensures.same)
+
+pub returns-in-Ok-clause-told : goal.returns-in-Ok-clause-told
+unfolding told
+returns-in-Ok-clause-told c = told_same c.args.self.now.crowd.places.items c.feed_item.new.places.items c.in-Ok.ensures.same
+
+pub returns-in-Ok-clause-chains : goal.returns-in-Ok-clause-chains
+unfolding chains
+returns-in-Ok-clause-chains c = refl
+
+pub returns-in-Ok-clause-journal : goal.returns-in-Ok-clause-journal
+unfolding journal
+returns-in-Ok-clause-journal c = refl
+
+pub returns-in-Ok-clause-same : goal.returns-in-Ok-clause-same
+unfolding shared
+returns-in-Ok-clause-same c = refl
+
+pub returns-in-Err-clause-images : goal.returns-in-Err-clause-images
+unfolding seens
+returns-in-Err-clause-images c = images_alike c.args.self.now.crowd.shared 0 c.args.self.now.crowd.places.items c.feed_item.new.places.items (are_alike c.args.self.now.crowd.places.items c.feed_item.new.places.items c.feed_item.ensures.same)
+
+pub returns-in-Err-clause-told : goal.returns-in-Err-clause-told
+unfolding told
+returns-in-Err-clause-told c = told_same c.args.self.now.crowd.places.items c.feed_item.new.places.items c.feed_item.ensures.same
+
+pub returns-in-Err-clause-chains : goal.returns-in-Err-clause-chains
+unfolding chains
+returns-in-Err-clause-chains c = refl
+
+pub returns-in-Err-clause-journal : goal.returns-in-Err-clause-journal
+unfolding journal
+returns-in-Err-clause-journal c = refl
+
+pub returns-in-Err-clause-same : goal.returns-in-Err-clause-same
+unfolding shared
+returns-in-Err-clause-same c = refl

@@ -40,9 +40,9 @@ returns-then-not-branch-clause-rounds g c =
     let way = way_settled c.args.slice c.args.self.now c.rounds.self c.settle.new.self c.rounds.invariant.way e.settled.went.dues e.chains c.settle.ensures.told e.given c.settle.ensures.stays e.passes in
     let done = settled_shows (seens c.rounds.self) (seens c.settle.new.self) e.done e.settled.went.dues in
     let none : c.in_ok-deliver.field-0 ≡ false = c.if-not-branch.true in
-    let still : seens c.deliver.new.self ≡ seens c.settle.new.self = c.in_ok-deliver.ensures.still none in
+    let still : seens c.deliver.new.self ≡ seens c.settle.new.self = (c.in_ok-deliver.ensures.still none).0 in
     way_ended c.args.slice c.args.self.now c.settle.new.self c.deliver.new.self way done (subst (λ b. Delivers b c.settle.new.self c.deliver.new.self) none c.in_ok-deliver.ensures.delivers)
-    still c.deliver.ensures.chains c.deliver.ensures.stays
+    still (c.in_ok-deliver.ensures.still none).1 c.deliver.ensures.chains c.deliver.ensures.stays
 
 pub returns-then-not-branch-clause-ended : goal.returns-then-not-branch-clause-ended
 returns-then-not-branch-clause-ended g c =
@@ -50,7 +50,7 @@ returns-then-not-branch-clause-ended g c =
     let way = way_settled c.args.slice c.args.self.now c.rounds.self c.settle.new.self c.rounds.invariant.way e.settled.went.dues e.chains c.settle.ensures.told e.given c.settle.ensures.stays e.passes in
     let done = settled_shows (seens c.rounds.self) (seens c.settle.new.self) e.done e.settled.went.dues in
     let none : c.in_ok-deliver.field-0 ≡ false = c.if-not-branch.true in
-    let still : seens c.deliver.new.self ≡ seens c.settle.new.self = c.in_ok-deliver.ensures.still none in
+    let still : seens c.deliver.new.self ≡ seens c.settle.new.self = (c.in_ok-deliver.ensures.still none).0 in
     way_others c.args.slice c.args.self.now c.settle.new.self c.deliver.new.self way done still
 
 pub returns-then-not-branch-clause-passes : goal.returns-then-not-branch-clause-passes
@@ -63,7 +63,7 @@ pub returns-then-not-branch-clause-settled : goal.returns-then-not-branch-clause
 returns-then-not-branch-clause-settled g c =
     let e = c.in_ok-settle.ensures in
     let none : c.in_ok-deliver.field-0 ≡ false = c.if-not-branch.true in
-    let still : seens c.deliver.new.self ≡ seens c.settle.new.self = c.in_ok-deliver.ensures.still none in
+    let still : seens c.deliver.new.self ≡ seens c.settle.new.self = (c.in_ok-deliver.ensures.still none).0 in
     λ empty.
     let first = c.rounds.invariant.only empty in
     let at_first = settled_from c.args.slice c.args.self.now c.rounds.self c.settle.new.self (g.C.Chooser.asks c.rounds.chooser) (g.C.Chooser.room c.rounds.chooser) (g.C.Chooser.asks c.args.chooser.now) (g.C.Chooser.room c.args.chooser.now) _ _
