@@ -1,4 +1,9 @@
+pub mod Lists
+pub mod Heights
 pub mod Libs
 pub mod Slotted
+pub mod Swapped
 pub mod OneWidget
 pub mod Paged
+pub mod Fitting
+pub mod Loads

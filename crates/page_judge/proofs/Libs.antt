@@ -1,15 +1,16 @@
 -- The accepted libraries of a manifest, one by one.
-use Rattle.std.proofs.Common.{◌≡◌, ℕ, zero, suc, ◌<◌, ◌≤◌, ◌+◌, List, [], ◌∷◌, ◌++◌, length, take, map, get_or, All, Option, Some, None, refl, sym, ap, subst, ◌∙◌, arith, inl, inr}
+use Rattle.std.proofs.Common.{◌≡◌, ℕ, zero, suc, ◌<◌, ◌≤◌, ◌+◌, List, [], ◌∷◌, ◌++◌, length, take, map, get_or, All, Some, None, refl, sym, ap, subst, ◌∙◌, arith}
 use Rattle.std.specs.Prelude.{slice_get}
-use Rattle.std.proofs.lemmas.List.{length_push, take_all}
+use Rattle.std.proofs.lemmas.List.{length_push}
 use Rattle.std.proofs.lemmas.List.Elements.{All-push}
-use Rattle.std.proofs.lemmas.Option.{slice_get_within, slice_get-get_or}
+use Rattle.std.proofs.lemmas.Option.{slice_get_within}
 use Rattle.js_tree.specs.Plain.{Stmts}
 use Rattle.js_tree.specs.Trees.{program_of}
 use Rattle.adsafe_rules.specs.declared.accepted.Accepted.{Accepted}
 use Rattle.adsafe_rules.specs.declared.scope.Scope.TheVariants as scope
-use Rattle.adsafe_rules.specs.Accepts.{tree_of, scope_of}
-use Rattle.script_check.specs.Script.{IsScript, LibFirst}
+use Rattle.adsafe_rules.specs.Accepts.{tree_of}
+use Rattle.adsafe_rules.specs.Program.{IsClean}
+use Rattle.script_check.specs.Script.{LibFirst}
 use Rattle.script_check.specs.Verdict.{IsAccepted}
 use Rattle.script_check.proofs.Written.{script_of}
 use Rattle.script_check.proofs.Verdicts.{not_clean}
@@ -20,9 +21,9 @@ use Rattle.slot_check.specs.Slot.{AreClean}
 use Rattle.slot_check.specs.Slot as slots
 use Rattle.slot_check.specs.Verdicts.{source_of, sources_of, IsKnown, AreKnown, no_library, one_library}
 use Rattle.slot_check.proofs.Judging.{sources_more}
-use Rattle.page_spec.specs.Contents.{program_at, program_in}
-use Rattle.page_judge.specs.declared.libraries.Kept.{Kept}
-use Rattle.page_judge.specs.Judged.{IsKept, AreKept, none, more, KeepsLibraries, KeepsOne}
+use Rattle.page_spec.specs.Contents.{program_at}
+use Rattle.page_judge.specs.Judged.{IsKept, AreKept, none, more, KeepsOne}
+use Rattle.page_judge.proofs.Lists.{all_more}
 use Rattle.page_judge.proofs.OneWidget.{one_script}
 
 -- ## At a place
@@ -49,15 +50,17 @@ programs_kept accepted libs places names at programs are (slots.more {place = n}
     let here = (kept_at accepted libs places n l are is.there).program p script in
     ap (λ x. x ∷ map (program_at accepted) (map (λ lib. get_or places lib 0) ats)) here ∙ ap (λ xs. p ∷ xs) (programs_kept accepted libs places ns ats ps are rest)
 
+-- and stand within them
+pub places_kept : (accepted : List Accepted) (libs : List Source) (places : List ℕ) (names : List (List ℕ)) (at : List ℕ) (programs : List Stmts) → AreKept accepted libs places → AreClean libs names at programs → All (λ p. p < length accepted) (map (λ lib. get_or places lib 0) at)
+places_kept accepted libs places names at programs are slots.none = λ k d within. absurd (omega (arith, within))
+places_kept accepted libs places names at programs are (slots.more {place = n} {lib = l} {program = p} {names = ns} {places = ats} {programs = ps} is script rest) =
+    all_more (λ q. q < length accepted) (get_or places n 0) (map (λ lib. get_or places lib 0) ats) ((kept_at accepted libs places n l are is.there).within p script) (places_kept accepted libs places ns ats ps are rest)
+
 -- each of them has a place
 pub clean_within : (libs : List Source) (names : List (List ℕ)) (at : List ℕ) (programs : List Stmts) (many : ℕ) → many ≡ length libs → AreClean libs names at programs → All (λ n. n < many) at
 clean_within libs names at programs many same slots.none = λ k d within. absurd (omega arith)
 clean_within libs names at programs many same (slots.more {place = n} {lib = l} {names = ns} {places = ats} {programs = ps} is script rest) =
-    all_more (omega (arith, same, slice_get_within libs n l is.there)) (clean_within libs ns ats ps many same rest)
-  where
-    all_more : n < many → All (λ m. m < many) ats → All (λ m. m < many) (n ∷ ats)
-    all_more here others zero d within = here
-    all_more here others (suc k) d within = others k d (omega (arith, within))
+    all_more (λ m. m < many) n ats (omega (arith, same, slice_get_within libs n l is.there)) (clean_within libs ns ats ps many same rest)
 
 -- ## One more
 
@@ -85,8 +88,12 @@ kept_more libs i lib shown old new places grown place within is same before one 
 pub none_kept : (accepted : List Accepted) (places : List ℕ) → places ≡ [] → AreKept accepted [] places
 none_kept accepted places is = subst (AreKept accepted []) (sym is) none
 
-pub none_positioned : (accepted : List Accepted) → accepted ≡ [] → All (λ a. scope_of a ≡ scope.Lib) accepted
-none_positioned accepted is = subst (All (λ a. scope_of a ≡ scope.Lib)) (sym is) (λ k d within. absurd (omega arith))
+-- breaks no rule as a library
+abbrev pub IsCleanLib : Accepted → Type 0
+IsCleanLib a = IsClean (program_of (tree_of a)) scope.Lib
+
+pub none_clean : (accepted : List Accepted) → accepted ≡ [] → All IsCleanLib accepted
+none_clean accepted is = subst (All IsCleanLib) (sym is) (λ k d within. absurd (omega arith))
 
 push_known : (libs : List Source) (lib : Source) (ks : List Known) (k : Known) → AreKnown libs ks → IsKnown lib.bytes k → AreKnown (libs ++ lib ∷ []) (ks ++ k ∷ [])
 push_known libs lib ks k no_library is = one_library is no_library
@@ -110,7 +117,7 @@ module _ (library : List ℕ) (old new : List Accepted) where
       within = λ p script. absurd (not_clean library scope.Lib rule at first (record { program = p; script = script }));
       program = λ p script. absurd (not_clean library scope.Lib rule at first (record { program = p; script = script }));
     };
-    positioned = λ all. subst (All (λ a. scope_of a ≡ scope.Lib)) (sym same) all;
+    clean = λ all. subst (All IsCleanLib) (sym same) all;
   }
 
   behind : (xs : List Accepted) (a : Accepted) → program_at (xs ++ a ∷ []) (length xs) ≡ program_of (tree_of a)
@@ -131,5 +138,5 @@ module _ (library : List ℕ) (old new : List Accepted) where
       within = λ p script. omega (arith, ap length after, length_push old a);
       program = λ p script. ap (λ xs. program_at xs (length old)) after ∙ behind old a ∙ one_script library scope.Lib (program_of (tree_of a)) p (script_of library scope.Lib a is) script;
     };
-    positioned = λ all. subst (All (λ b. scope_of b ≡ scope.Lib)) (sym after) (All-push (λ b. scope_of b ≡ scope.Lib) old a all is.holds.positioned);
+    clean = λ all. subst (All IsCleanLib) (sym after) (All-push IsCleanLib old a all (script_of library scope.Lib a is).clean);
   }

@@ -1,7 +1,6 @@
 -- A slot has one widget.
 use Rattle.std.proofs.Common.{◌≡◌, ℕ, List, ◌∷◌, Some, refl, sym, ap, subst, ◌∙◌}
 use Rattle.exact_refusals.specs.Places.{HasTree}
-use Rattle.js_tokens.specs.declared.token.Token.{Token as Lexed}
 use Rattle.js_tokens.proofs.Answer.{one_reading}
 use Rattle.js_tree.specs.Plain.{Stmts}
 use Rattle.js_grammar.specs.Grammar.{IsProgram}
@@ -12,7 +11,7 @@ use Rattle.adsafe_rules.specs.declared.scope.Scope.TheVariants as scope
 use Rattle.plain_tree.specs.Trees.{Trees}
 use Rattle.plain_tree.specs.Plains.{Places}
 use Rattle.markup_grammar.proofs.Answers as markup
-use Rattle.script_check.specs.Script.{Reads, IsScript}
+use Rattle.script_check.specs.Script.{IsScript}
 use Rattle.trace_text.specs.declared.line.Rule.{Rule}
 use Rattle.slot_check.specs.Sources.{Source, Slot, script_text, IsLibrary}
 use Rattle.slot_check.specs.Slot.{AreClean, none, more, SlotFirst, IsWidget, IsCleanSlot, named_libs, last_span}

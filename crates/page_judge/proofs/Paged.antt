@@ -1,11 +1,10 @@
 -- The pieces of a page, one by one.
-use Rattle.std.proofs.Common.{◌≡◌, ℕ, ◌+◌, List, [], ◌∷◌, ◌++◌, length, map, refl, sym, ap, ◌∙◌, arith, length-append}
+use Rattle.std.proofs.Common.{◌≡◌, ℕ, ◌+◌, List, [], ◌∷◌, ◌++◌, length, map, sym, ap, ◌∙◌, arith, length-append}
 use Rattle.std.proofs.lemmas.List.{map-append, flat_map_more}
 use Rattle.manifest_reader.specs.declared.entry.Entry.{Entry}
-use Rattle.manifest_reader.specs.declared.entry.Entry.TheVariants as entry
 use Rattle.manifest_reader.specs.Page.{Part, Markup, Widget, part_of}
 use Rattle.page_spec.specs.declared.Piece.{Piece}
-use Rattle.page_spec.specs.Pages.{PagePiece, piece_of}
+use Rattle.page_spec.specs.Pages.{piece_of}
 use Rattle.page_judge.specs.Runs.{named, slots_named, pieces_from, pieces}
 
 -- the pieces behind these begin with the number behind them

@@ -1,7 +1,7 @@
 -- The slots of a page, one by one.
-use Rattle.std.proofs.Common.{◌≡◌, ℕ, suc, ◌<◌, ◌≤◌, ◌+◌, List, [], ◌∷◌, ◌++◌, length, take, map, get_or, All, Option, Some, None, Result, Ok, Err, IfOk, refl, sym, ap, subst, ◌∙◌, arith, length-take}
-use Rattle.std.specs.List.{flat_map}
+use Rattle.std.proofs.Common.{◌≡◌, ℕ, ◌<◌, ◌≤◌, ◌+◌, ◌^◌, List, [], ◌∷◌, ◌++◌, length, take, map, get_or, All, Option, Some, None, refl, sym, ap, subst, ◌∙◌, arith, length-take}
 use Rattle.std.proofs.lemmas.List.{length-map, map-append, take_more, take_all, flat_map_more}
+use Rattle.std.proofs.lemmas.List.Elements.{All-push}
 use Rattle.js_tree.specs.Trees.{program_of}
 use Rattle.plain_tree.specs.Plains.{placed}
 use Rattle.tree_ops.specs.Trees.{numbered}
@@ -14,21 +14,23 @@ use Rattle.slot_check.specs.declared.fault.SlotFault.{SlotFault}
 use Rattle.slot_check.specs.declared.fault.SlotFault.TheVariants as fault
 use Rattle.slot_check.specs.declared.sources.SourceFile.{SourceFile}
 use Rattle.slot_check.specs.declared.verdict.Widget.{Widget}
-use Rattle.slot_check.specs.Sources.{Source, Slot}
+use Rattle.slot_check.specs.Sources.{Source, Slot, keys_of}
 use Rattle.slot_check.specs.Slot.{named_libs}
-use Rattle.slot_check.specs.Verdicts.{source_of, sources_of, slot_of, IsAcceptedWidget, IsRefused, Refuses}
+use Rattle.slot_check.specs.Verdicts.{source_of, sources_of, IsAcceptedWidget, IsRefused, Refuses}
 use Rattle.slot_check.proofs.Judging.{sources_more}
 use Rattle.page_spec.specs.declared.SlotContent.{SlotContent}
+use Rattle.page_spec.specs.declared.SlotContent.TheVariants as slot
 use Rattle.page_spec.specs.declared.SlotSpec.{SlotSpec}
 use Rattle.page_spec.specs.Contents.{program_at, content_of}
-use Rattle.widget_meaning.specs.Alone.{Content}
+use Rattle.page_spec.specs.Loadable.{IsLoadableWidget, IsSwapLoadable}
+use Rattle.page_judge.specs.declared.contents.JudgedContent.{JudgedContent}
 use Rattle.page_judge.specs.declared.libraries.Kept.{Kept}
-use Rattle.page_judge.specs.declared.slots.JudgedSlot.{JudgedSlot}
 use Rattle.page_judge.specs.declared.slots.NamedSlot.{NamedSlot}
 use Rattle.page_judge.specs.Runs.{SlotRun, named, slots_named, runs_over}
 use Rattle.page_judge.specs.Widgets.{widget, HasWidget}
 use Rattle.page_judge.specs.Judged.{KeepsLibraries, name_of, run_of, content_in, IsJudged, accepted, refused, IsJudgedSlot, AreJudgedSlots, none, more}
-use Rattle.page_judge.proofs.Libs.{as_many, programs_kept, clean_within}
+use Rattle.page_judge.proofs.Heights.{widget_low, widget_few}
+use Rattle.page_judge.proofs.Libs.{as_many, programs_kept, places_kept, clean_within}
 
 -- ## Names
 
@@ -68,15 +70,36 @@ module _ (kept : Kept) (slot : Slot) (w : Widget) (keeps : KeepsLibraries slot.l
             ∙ ap (λ libs. record { root = (widget is.file is.programs script).root; libraries = libs; script = script }) programs;
       }
 
+  -- and a host may load it
+  pub widget_loadable : (libs at places : List ℕ) → libs ≡ map (λ lib. get_or places lib 0) at → at ≡ w.libs.items → places ≡ kept.places.items → length at < 2 ^ 31 → IsLoadableWidget (length kept.accepted.items) slot.name w.form.body libs w.script
+  widget_loadable libs at places are same also small =
+      let all : libs ≡ map (λ lib. get_or kept.places.items lib 0) w.libs.items = are ∙ ap (λ ps. map (λ lib. get_or ps lib 0) at) also ∙ ap (map (λ lib. get_or kept.places.items lib 0)) same in
+      record {
+        low = widget_low slot.name (keys_of slot.libs) slot.file.bytes is.file w.form.body is.form.body is.is.has.spelled;
+        few = widget_few slot.name (keys_of slot.libs) slot.file.bytes is.file w.form.body is.form.body is.is.has.good;
+        there = subst (All (λ p. p < length kept.accepted.items)) (sym all) (places_kept kept.accepted.items slot.libs kept.places.items (named_libs is.file) w.libs.items is.programs keeps.each is.is.libs);
+        numbered = omega (arith, small, ap length are, length-map at (λ lib. get_or places lib 0));
+        clean = is.is.last.clean;
+      }
+
   pub accepted_slot : (content : SlotContent) → content_of kept.accepted.items content ≡ Some (content_in kept w) → IsJudged slot (content_of kept.accepted.items content) None
   accepted_slot content same = subst (λ c. IsJudged slot c None) (sym same) (accepted widget_in)
 
 pub refused_slot : (slot : Slot) (f : SlotFault) (refusal : Refusal) → Refuses (IsRefused slot) f → f ≡ fault.Broken refusal → IsJudged slot None (Some refusal)
 refused_slot slot f refusal refuses same = refused (subst (Refuses (IsRefused slot)) same refuses)
 
--- a slot with what was judged of it
-pub judged_is : (libs : List Accepted) (run : SlotRun) (name : List ℕ) (content : SlotContent) (refusal : Option Refusal) (judged : JudgedSlot) → name ≡ run.slot.name → judged ≡ record { slot = record { name = name; fuel = run.fuel; content = content }; refusal = refusal } → IsJudged run.slot (content_of libs content) refusal → IsJudgedSlot libs run judged.slot judged.refusal
-judged_is libs run name content refusal judged named same is = subst (λ (j : JudgedSlot). IsJudgedSlot libs run j.slot j.refusal) (sym same) (record { name = named; fuel = refl; judged = is })
+-- ## Contents
+
+module _ (judged : JudgedContent) (refusal : Refusal) (is : judged ≡ record { content = slot.Refused; refusal = Some refusal }) where
+  pub judged_refused : (libs : List Accepted) (s : Slot) (f : SlotFault) → Refuses (IsRefused s) f → f ≡ fault.Broken refusal → IsJudged s (content_of libs judged.content) judged.refusal
+  judged_refused libs s f refuses same = subst (λ (j : JudgedContent). IsJudged s (content_of libs j.content) j.refusal) (sym is) (refused_slot s f refusal refuses same)
+
+  pub refused_fits : (many : ℕ) (name : List ℕ) → IsSwapLoadable many name judged.content
+  refused_fits many name = subst (λ (j : JudgedContent). IsSwapLoadable many name j.content) (sym is) tt
+
+-- a slot with what was judged of its file
+pub judged_is : (libs : List Accepted) (run : SlotRun) (name : List ℕ) (content : SlotContent) (refusal : Option Refusal) → name ≡ run.slot.name → IsJudged run.slot (content_of libs content) refusal → IsJudgedSlot libs run (record { name = name; fuel = run.fuel; content = content }) refusal
+judged_is libs run name content refusal named is = record { name = named; fuel = refl; judged = is }
 
 -- ## All slots
 
@@ -116,3 +139,12 @@ slots_all scripts libs names files i slots refusals same past judged =
     let ns = take_all i names past in
     let fs = take_all i files (omega arith) in
     subst (λ f. AreJudgedSlots scripts (runs_over libs (map name_of names) (sources_of f)) slots refusals) fs (subst (λ n. AreJudgedSlots scripts (runs_over libs (map name_of n) (sources_of (take i files))) slots refusals) ns judged)
+
+-- ## What a host may load
+
+-- of one slot more
+pub loadable_more : (many : ℕ) (slots grown : List SlotSpec) (slot : SlotSpec) → All (λ (s : SlotSpec). IsSwapLoadable many s.name s.content) slots → IsSwapLoadable many slot.name slot.content → grown ≡ slots ++ slot ∷ [] → All (λ (s : SlotSpec). IsSwapLoadable many s.name s.content) grown
+loadable_more many slots grown slot before this after = subst (All (λ (s : SlotSpec). IsSwapLoadable many s.name s.content)) (sym after) (All-push (λ (s : SlotSpec). IsSwapLoadable many s.name s.content) slots slot before this)
+
+pub none_loadable : (many : ℕ) (slots : List SlotSpec) → slots ≡ [] → All (λ (s : SlotSpec). IsSwapLoadable many s.name s.content) slots
+none_loadable many slots is = subst (All (λ (s : SlotSpec). IsSwapLoadable many s.name s.content)) (sym is) (λ k d within. absurd (omega (arith, within)))

@@ -6,7 +6,8 @@ use Rattle.plain_tree.specs.Plains.{placed}
 use Rattle.tree_ops.specs.Trees.{numbered}
 use Rattle.adsafe_rules.specs.declared.accepted.Accepted.{Accepted}
 use Rattle.adsafe_rules.specs.declared.scope.Scope.TheVariants as scope
-use Rattle.adsafe_rules.specs.Accepts.{tree_of, scope_of}
+use Rattle.adsafe_rules.specs.Accepts.{tree_of}
+use Rattle.adsafe_rules.specs.Program.{IsClean}
 use Rattle.manifest_reader.specs.declared.entry.Manifest.{Manifest}
 use Rattle.manifest_reader.specs.Page.{part_of}
 use Rattle.script_check.specs.Script.{IsScript}
@@ -16,13 +17,14 @@ use Rattle.slot_check.specs.declared.verdict.Widget.{Widget}
 use Rattle.slot_check.specs.Sources.{Source, Slot}
 use Rattle.slot_check.specs.Verdicts.{slot_of, IsRefused}
 use Rattle.widget_meaning.specs.Alone.{Content}
+use Rattle.page_spec.specs.declared.SlotContent.{SlotContent}
 use Rattle.page_spec.specs.declared.SlotSpec.{SlotSpec}
 use Rattle.page_spec.specs.Contents.{program_at, content_of}
 use Rattle.page_spec.specs.Pages.{piece_of}
 use Rattle.page_judge.specs.declared.libraries.Kept.{Kept}
 use Rattle.page_judge.specs.declared.slots.NamedSlot.{NamedSlot}
 use Rattle.page_judge.specs.declared.page.JudgedPage.{JudgedPage}
-use Rattle.page_judge.specs.Runs.{SlotRun, slots_named, runs_over, pieces}
+use Rattle.page_judge.specs.Runs.{SlotRun, slots_named, runs_over, swap_runs, pieces}
 use Rattle.page_judge.specs.Widgets.{HasWidget}
 
 -- ## Libraries
@@ -40,16 +42,20 @@ pub data AreKept (accepted : List Accepted) : List Source → List ℕ → Type 
 -- the accepted libraries of a manifest, and their places
 pub record KeepsLibraries (libs : List Source) (kept : Kept) : Type 0 where
   pub each : AreKept kept.accepted.items libs kept.places.items
-  pub positioned : All (λ a. scope_of a ≡ scope.Lib) kept.accepted.items
+  pub clean : All (λ a. IsClean (program_of (tree_of a)) scope.Lib) kept.accepted.items
 
 -- one library more was judged: those that were accepted stay, and it is behind them if it breaks no rule
 pub record KeepsOne (library : List ℕ) (old new : List Accepted) : Type 0 where
   pub longer : length old ≤ length new
   pub stay : (place : ℕ) → place < length old → program_at new place ≡ program_at old place
   pub one : IsKept new library (length old)
-  pub positioned : All (λ a. scope_of a ≡ scope.Lib) old → All (λ a. scope_of a ≡ scope.Lib) new
+  pub clean : All (λ a. IsClean (program_of (tree_of a)) scope.Lib) old → All (λ a. IsClean (program_of (tree_of a)) scope.Lib) new
 
 -- ## Slots
+
+-- the name of a slot
+abbrev pub key_of : NamedSlot → List ℕ
+key_of slot = slot.name
 
 -- the name and the fuel of a slot
 abbrev pub name_of : NamedSlot → List ℕ × ℕ
@@ -83,10 +89,22 @@ pub data AreJudgedSlots (libs : List Accepted) : List SlotRun → List SlotSpec 
   none : AreJudgedSlots libs [] [] []
   more : {run : SlotRun} {slot : SlotSpec} {refusal : Option Refusal} {runs : List SlotRun} {slots : List SlotSpec} {refusals : List (Option Refusal)} → IsJudgedSlot libs run slot refusal → AreJudgedSlots libs runs slots refusals → AreJudgedSlots libs (run ∷ runs) (slot ∷ slots) (refusal ∷ refusals)
 
+-- ## Swaps
+
+-- the contents that the files of swaps bring, in order
+pub data AreJudgedSwaps (libs : List Accepted) : List SlotRun → List SlotContent → List (Option Refusal) → Type 0 where
+  no_swap : AreJudgedSwaps libs [] [] []
+  one_swap : {run : SlotRun} {content : SlotContent} {refusal : Option Refusal} {runs : List SlotRun} {contents : List SlotContent} {refusals : List (Option Refusal)} → IsJudged run.slot (content_of libs content) refusal → AreJudgedSwaps libs runs contents refusals → AreJudgedSwaps libs (run ∷ runs) (content ∷ contents) (refusal ∷ refusals)
+
 -- ## Pages
 
--- the page of a manifest over its files
-pub record IsJudgedPage (manifest : Manifest) (files libs : List Source) (page : JudgedPage) : Type 0 where
+-- the slots of a manifest with their files, over its libraries
+abbrev pub runs_in : Manifest → List Source → List Source → List SlotRun
+runs_in manifest files libs = runs_over libs (slots_named (map part_of manifest.entries.items)) files
+
+-- the page of a manifest over its files, and what swaps bring, each with the number of its slot and its file
+pub record IsJudgedPage (manifest : Manifest) (files libs : List Source) (swapped : List (ℕ × Source)) (page : JudgedPage) : Type 0 where
   pub pieces : map piece_of page.spec.pieces.items ≡ pieces (map part_of manifest.entries.items)
-  pub slots : AreJudgedSlots page.spec.libs.items (runs_over libs (slots_named (map part_of manifest.entries.items)) files) page.spec.slots.items page.refusals.items
+  pub slots : AreJudgedSlots page.spec.libs.items (runs_in manifest files libs) page.spec.slots.items page.refusals.items
+  pub swaps : AreJudgedSwaps page.spec.libs.items (swap_runs (runs_in manifest files libs) swapped) page.swaps.contents.items page.swaps.refusals.items
   pub channels : page.spec.channels.items ≡ manifest.channels.items

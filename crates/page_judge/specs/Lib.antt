@@ -1,3 +1,4 @@
 pub mod Runs
 pub mod Widgets
+pub mod Fits
 pub mod Judged

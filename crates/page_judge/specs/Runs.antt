@@ -1,5 +1,5 @@
 -- The slots of a page with what they run on.
-use Rattle.std.specs.Prelude.{ℕ, ◌+◌, List, [], ◌∷◌}
+use Rattle.std.specs.Prelude.{ℕ, ◌+◌, List, [], ◌∷◌, Option, option_map, filter_map, slice_get}
 use Rattle.std.specs.List.{flat_map}
 use Rattle.plain_tree.specs.Trees.{unmarked}
 use Rattle.manifest_reader.specs.Page.{Part, Markup, Widget}
@@ -25,6 +25,19 @@ abbrev pub runs_over : List Source → List (List ℕ × ℕ) → List Source �
 runs_over libs (n ∷ ns) (file ∷ files) =
     record { slot = record { name = n.0; file = file; libs = libs }; fuel = n.1 } ∷ runs_over libs ns files
 runs_over libs _ _ = []
+
+-- a slot with another file
+abbrev pub with_file : SlotRun → Source → SlotRun
+with_file run file =
+    record { slot = record { name = run.slot.name; file = file; libs = run.slot.libs }; fuel = run.fuel }
+
+-- the run of a swap, which has the number of its slot and its file: that slot with this file
+abbrev pub swap_run : List SlotRun → ℕ × Source → Option SlotRun
+swap_run runs swap = option_map (λ run. with_file run swap.1) (slice_get runs swap.0)
+
+-- the runs of swaps, in order
+abbrev pub swap_runs : List SlotRun → List (ℕ × Source) → List SlotRun
+swap_runs runs swaps = filter_map (swap_run runs) swaps
 
 -- the pieces of a page, its slots numbered from n on
 abbrev pub pieces_from : ℕ → List Part → List PagePiece

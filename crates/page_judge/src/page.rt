@@ -1,41 +1,68 @@
-//! The page of a manifest.
-ghost use Rattle.std.specs.Prelude.{◌≡◌, ◌+◌, ◌∷◌, [], All, length, map, IfOk, OnOk};
+//! The page of a manifest, and what the swaps of a trace bring.
+ghost use Rattle.std.specs.Prelude.{◌≡◌, ◌+◌, ◌<◌, ◌∷◌, [], All, length, map, IfOk, OnOk};
+ghost use Rattle.std.specs.List.{zip};
 ghost use Rattle.manifest_reader.specs.Page.{part_of};
 ghost use Rattle.slot_check.specs.Verdicts.{sources_of, IsSmall};
 ghost use Rattle.page_spec.specs.Pages.{piece_of};
+ghost use Rattle.page_spec.specs.Loadable.{IsLoadable, AreLoadableSwaps, names_of};
 ghost use Rattle.page_judge.specs.Runs.{named, slots_named, pieces_from, pieces};
+ghost use Rattle.page_judge.specs.Fits.{IsFit};
 ghost use Rattle.page_judge.specs.Judged.{IsJudgedPage};
 
-use crate::libraries::{Accepting, accept_libraries};
+use crate::libraries::accept_libraries;
 use crate::slots::{judge_slots, named_slots};
+use crate::swaps::{JudgedSwaps, judge_swaps};
 use code_units::Memory;
 use manifest_reader::{Entry, Manifest};
 use page_spec::{PageSpec, Piece};
 use slot_check::{Refusal, SourceFile};
 use std::alloc::Global;
 
-/// The page of a manifest for a host, and the first rule that each slot breaks, where it breaks one.
+/// The page of a manifest for a host, and the first rule that each slot breaks, where it breaks one; and
+/// the same of the swaps of a trace.
 #[derive(Drop)]
 pub struct JudgedPage {
     pub spec: PageSpec,
     pub refusals: Vec<Option<Refusal>>,
+    pub swaps: JudgedSwaps,
 }
 
-/// Judges the slots of a manifest with their files, over its libraries.
+/// Judges the slots of a manifest with their files, over its libraries, and the files of swaps, each
+/// for the slot of its number and over the same libraries. A host may load the page and what the
+/// swaps bring.
 pub fn judge_page(
     alloc: Global,
     manifest: Manifest,
     files: &[SourceFile],
     libs: &[SourceFile],
+    swap_slots: &[u32],
+    swap_files: &[SourceFile],
 ) -> Result<JudgedPage, Memory>
+    requires fit { IsFit manifest }
     requires paired { length (slots_named (map part_of manifest.entries.items)) ≡ length files.now }
     requires small { All IsSmall files.now }
     requires small_libs { All IsSmall libs.now }
-    ensures { IfOk result (IsJudgedPage manifest (sources_of files.now) (sources_of libs.now)) }
+    requires swaps { length swap_slots.now ≡ length swap_files.now }
+    requires there { All (λ to. to < length files.now) swap_slots.now }
+    requires small_swaps { All IsSmall swap_files.now }
+    ensures page { IfOk result (IsJudgedPage manifest (sources_of files.now) (sources_of libs.now) (zip swap_slots.now (sources_of swap_files.now))) }
+    ensures loadable { IfOk result (λ page. IsLoadable page.spec) }
+    ensures swaps { IfOk result (λ page. AreLoadableSwaps (length page.spec.libs.items) (names_of page.spec) swap_slots.now page.swaps.contents.items) }
 {
-    let Accepting { mut judged, kept } = accept_libraries(alloc, libs)?;
+    let all = accept_libraries(alloc, libs)?;
+    let mut judged = all.judged;
+    let kept = all.kept;
     let names = named_slots(alloc, &manifest.entries)?;
     let slots = judge_slots(alloc, &names, files, libs, &mut judged, &kept)?;
+    let swaps = judge_swaps(
+        alloc,
+        &names,
+        swap_slots,
+        swap_files,
+        libs,
+        &mut judged,
+        &kept,
+    )?;
     let spec = PageSpec {
         pieces: pieces_of(alloc, manifest.entries)?,
         libs: kept.accepted,
@@ -45,6 +72,7 @@ pub fn judge_page(
     Ok(JudgedPage {
         spec,
         refusals: slots.refusals,
+        swaps,
     })
 }
 

@@ -1,16 +1,18 @@
 //! The slots of a page, each with its widget or the first rule that it breaks.
-ghost use Rattle.std.specs.Prelude.{◌≡◌, ◌<◌, ◌++◌, All, Some, length, map, get_or, IfOk, OnOk};
+ghost use Rattle.std.specs.Prelude.{◌≡◌, ◌++◌, All, length, map, IfOk, OnOk};
 ghost use Rattle.manifest_reader.specs.Page.{part_of};
 ghost use Rattle.slot_check.specs.Verdicts.{sources_of, IsSmall, AreJudged};
-ghost use Rattle.page_spec.specs.Contents.{content_of};
+ghost use Rattle.page_spec.specs.declared.SlotSpec.{SlotSpec as SlotSpecOf};
+ghost use Rattle.page_spec.specs.Loadable.{IsSwapLoadable};
 ghost use Rattle.page_judge.specs.Runs.{named, slots_named, runs_over};
-ghost use Rattle.page_judge.specs.Judged.{KeepsLibraries, name_of, run_of, content_in, IsJudgedSlot, AreJudgedSlots};
+ghost use Rattle.page_judge.specs.Judged.{KeepsLibraries, name_of, run_of, IsJudgedSlot, AreJudgedSlots};
 
+use crate::contents::judge_content;
 use crate::libraries::Kept;
 use code_units::{Memory, Text};
 use manifest_reader::Entry;
-use page_spec::{SlotContent, SlotSpec};
-use slot_check::{Libraries, Refusal, SlotFault, SourceFile, Widget, judge_slot};
+use page_spec::SlotSpec;
+use slot_check::{Libraries, Refusal, SourceFile};
 use std::alloc::Global;
 
 /// The name of a slot, and the fuel of each of its turns.
@@ -75,8 +77,10 @@ pub fn judge_slots(
     requires small_libs { All IsSmall libs.now }
     requires judged { AreJudged (sources_of libs.now) judged.old }
     requires kept { KeepsLibraries (sources_of libs.now) kept.now }
-    ensures { IfOk result (λ all. AreJudgedSlots kept.now.accepted.items
+    ensures slots { IfOk result (λ all. AreJudgedSlots kept.now.accepted.items
         (runs_over (sources_of libs.now) (map name_of names.now) (sources_of files.now)) all.slots.items all.refusals.items) }
+    ensures loadable { IfOk result (λ all. All (λ (s : SlotSpecOf). IsSwapLoadable (length kept.now.accepted.items) s.name s.content) all.slots.items) }
+    ensures judged { OnOk result (AreJudged (sources_of libs.now) judged.new) }
 {
     let mut slots = Vec::new(alloc);
     let mut refusals = Vec::new(alloc);
@@ -103,55 +107,17 @@ fn judge_one(
     requires kept { KeepsLibraries (sources_of libs.now) kept.now }
     ensures slot { IfOk result (λ one. IsJudgedSlot kept.now.accepted.items
         (run_of name.now file.now libs.now) one.slot one.refusal) }
+    ensures loadable { IfOk result (λ one. IsSwapLoadable (length kept.now.accepted.items) name.now.name one.slot.content) }
     ensures judged { AreJudged (sources_of libs.now) judged.new }
 {
     let key = name.name.share()?;
-    match judge_slot(alloc, &name.name, file, libs, judged) {
-        Ok(widget) => {
-            let content = runs(alloc, widget, kept)?;
-            Ok(judged_slot(key, name.fuel, content, None))
-        }
-        Err(SlotFault::Broken(refusal)) => {
-            Ok(judged_slot(key, name.fuel, SlotContent::Refused, Some(refusal)))
-        }
-        Err(SlotFault::Memory) => Err(Memory),
-    }
-}
-
-// A slot of this name, fuel and content, and the first rule that it breaks, where it breaks one.
-fn judged_slot(name: Text, fuel: u32, content: SlotContent, refusal: Option<Refusal>) -> JudgedSlot
-    ensures { result ≡ record { slot = record { name = name; fuel = fuel; content = content }; refusal = refusal } }
-{
-    let slot = SlotSpec {
-        name,
-        fuel,
-        content,
-    };
-    JudgedSlot { slot, refusal }
-}
-
-// What a host runs of a widget.
-fn runs(alloc: Global, widget: Widget, kept: &Kept) -> Result<SlotContent, Memory>
-    requires { All (λ place. place < length kept.now.places.items) widget.libs.items }
-    ensures { IfOk result (λ content. content_of kept.now.accepted.items content ≡ Some (content_in kept.now widget)) }
-{
-    let Widget { form, libs, script } = widget;
-    let libs = places_of(alloc, &libs, &kept.places)?;
-    Ok(SlotContent::Runs {
-        body: form.body,
-        libs,
-        script,
+    let one = judge_content(alloc, &name.name, file, libs, judged, kept)?;
+    Ok(JudgedSlot {
+        slot: SlotSpec {
+            name: key,
+            fuel: name.fuel,
+            content: one.content,
+        },
+        refusal: one.refusal,
     })
-}
-
-// The places of these libraries among those that were accepted.
-fn places_of(alloc: Global, libs: &[usize], places: &[u32]) -> Result<Vec<u32>, Memory>
-    requires { All (λ lib. lib < length places.now) libs.now }
-    ensures { IfOk result (λ all. all.items ≡ map (λ lib. get_or places.now lib 0) libs.now) }
-{
-    let mut all = Vec::with_capacity(alloc, libs.len())?;
-    'libs: for lib in libs {
-        all.push(places[*lib])?;
-    }
-    Ok(all)
 }

@@ -1,6 +1,8 @@
 use Rattle.std.proofs.Common.{◌≡◌, All, take}
 use Rattle.adsafe_rules.specs.declared.scope.Scope.TheVariants as scope
-use Rattle.adsafe_rules.specs.Accepts.{scope_of}
+use Rattle.js_tree.specs.Trees.{program_of}
+use Rattle.adsafe_rules.specs.Accepts.{tree_of}
+use Rattle.adsafe_rules.specs.Program.{IsClean}
 use Rattle.slot_check.specs.Sources.{keys_of}
 use Rattle.slot_check.specs.Verdicts.{sources_of, AreKnown}
 use Rattle.page_judge.specs.Judged.{AreKept}
@@ -11,5 +13,5 @@ invariant-libs l = record {
   keyed : l.keys.items ≡ keys_of (sources_of (take l.lib-index l.libs));
   known : AreKnown (sources_of (take l.lib-index l.libs)) l.known.items;
   kept : AreKept l.accepted.items (sources_of (take l.lib-index l.libs)) l.places.items;
-  positioned : All (λ a. scope_of a ≡ scope.Lib) l.accepted.items;
+  clean : All (λ a. IsClean (program_of (tree_of a)) scope.Lib) l.accepted.items;
 }

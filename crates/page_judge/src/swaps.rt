@@ -1,0 +1,55 @@
+//! What the files of swaps bring.
+ghost use Rattle.std.specs.Prelude.{◌≡◌, ◌<◌, All, List, length, map, IfOk};
+ghost use Rattle.std.specs.List.{zip};
+ghost use Rattle.slot_check.specs.Sources.{Source};
+ghost use Rattle.slot_check.specs.Verdicts.{sources_of, IsSmall, AreJudged};
+ghost use Rattle.page_spec.specs.Loadable.{AreLoadableSwaps};
+ghost use Rattle.page_judge.specs.Runs.{runs_over, swap_runs};
+ghost use Rattle.page_judge.specs.Judged.{KeepsLibraries, AreJudgedSwaps, name_of, key_of};
+
+use crate::contents::judge_content;
+use crate::libraries::Kept;
+use crate::slots::NamedSlot;
+use code_units::Memory;
+use page_spec::SlotContent;
+use slot_check::{Libraries, Refusal, SourceFile};
+use std::alloc::Global;
+
+/// What each swap brings into its slot, and the first rule that it breaks there, where it breaks one.
+#[derive(Drop)]
+pub struct JudgedSwaps {
+    pub contents: Vec<SlotContent>,
+    pub refusals: Vec<Option<Refusal>>,
+}
+
+/// Judges the files of swaps, each for the slot of its number among these, over the libraries of
+/// their manifest.
+pub fn judge_swaps(
+    alloc: Global,
+    names: &[NamedSlot],
+    slots: &[u32],
+    files: &[SourceFile],
+    libs: &[SourceFile],
+    judged: &mut Libraries,
+    kept: &Kept,
+) -> Result<JudgedSwaps, Memory>
+    requires paired { length slots.now ≡ length files.now }
+    requires there { All (λ to. to < length names.now) slots.now }
+    requires small { All IsSmall files.now }
+    requires small_libs { All IsSmall libs.now }
+    requires judged { AreJudged (sources_of libs.now) judged.old }
+    requires kept { KeepsLibraries (sources_of libs.now) kept.now }
+    ensures judged { IfOk result (λ all. (own : List Source) → length own ≡ length names.now → AreJudgedSwaps kept.now.accepted.items
+        (swap_runs (runs_over (sources_of libs.now) (map name_of names.now) own) (zip slots.now (sources_of files.now))) all.contents.items all.refusals.items) }
+    ensures loadable { IfOk result (λ all. AreLoadableSwaps (length kept.now.accepted.items) (map key_of names.now) slots.now all.contents.items) }
+{
+    let mut contents = Vec::new(alloc);
+    let mut refusals = Vec::new(alloc);
+    'swaps: for (i, to) in slots.iter().enumerate() {
+        let slot = &names[*to as usize];
+        let one = judge_content(alloc, &slot.name, &files[i], libs, judged, kept)?;
+        contents.push(one.content)?;
+        refusals.push(one.refusal)?;
+    }
+    Ok(JudgedSwaps { contents, refusals })
+}
