@@ -1,14 +1,19 @@
 //! Writes what calls of the small crates give, which the gate compares with the file `stdout`: what each
-//! slot gets of a round of posts, as the units of its events, and the lives of each slot.
+//! slot gets of a round of posts, as the units of its events; the lives of each slot; and which of the outside
+//! cases in data/ are certificates of reach, and confined.
 #![tactic(auto)]
 
 ghost use Rattle.std.specs.Prelude.{◌≡◌, IfOk};
 
+mod certificates;
+
 use anyhow::{Result, bail};
+use certificates::verdicts;
 use code_units::{Memory, Text, push_ascii};
 use life_split::{LifeItem, lives};
 use post_rounds::{Post, PostEvent, round};
 use std::alloc::Global;
+use std::fs;
 
 fn main(rt: HostRuntime) -> Result<()> {
     let alloc = rt.alloc();
@@ -24,6 +29,9 @@ fn main(rt: HostRuntime) -> Result<()> {
         bail!("out of memory");
     };
     println!(rt; "# three lives\n{lives:?}")?;
+    let cases = fs::read_to_string(&rt, "certificates.jsonl")?;
+    let verdicts = verdicts(alloc, &cases)?;
+    print!(rt; "# certificates\n{verdicts}")?;
     Ok(())
 }
 

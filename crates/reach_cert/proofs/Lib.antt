@@ -11,3 +11,4 @@ mod Sound
 mod Spelled
 mod Steps
 mod Walking
+mod Shaped

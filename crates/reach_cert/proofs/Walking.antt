@@ -58,7 +58,7 @@ none_leave name count (ref ∷ refs) e = by (leaves name count ref) (some_leaves
 
 -- ## What does not leave is the widget's own
 
-both_hold : (a b : Bool) → not (a && b) ≡ false → (a ≡ true) × (b ≡ true)
+pub both_hold : (a b : Bool) → not (a && b) ≡ false → (a ≡ true) × (b ≡ true)
 both_hold true true e = (refl, refl)
 both_hold true false e = cc
 both_hold false b e = cc

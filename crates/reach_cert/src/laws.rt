@@ -1,9 +1,10 @@
 //! What certificates show, and what their definitions come to.
-ghost use Rattle.std.specs.Prelude.{◌≡◌, ◌↔◌, ℕ, List, length};
-ghost use Rattle.std.specs.List.{AllByRecursion};
+ghost use Rattle.std.specs.Prelude.{◌≡◌, ◌<◌, ◌≤◌, ◌↔◌, ℕ, List, length, map, true};
+ghost use Rattle.std.specs.List.{AllByRecursion, IsDistinct, list_all};
+ghost use Rattle.std.specs.Str.{bytes_eq};
 ghost use Rattle.reach_cert.specs.declared.cert.Ref.{Ref};
 ghost use Rattle.reach_cert.specs.Certs.{Slot, cert_lines, cert_text};
-ghost use Rattle.reach_cert.specs.Shape.{IsCert, IsBadLine};
+ghost use Rattle.reach_cert.specs.Shape.{IsCert, IsBadLine, is_name, slot_name};
 ghost use Rattle.reach_cert.specs.Walks.{Leads, IsOwn, IsConfined, KeepsIn, leaks};
 
 /// The theorem of reach: where a certificate is confined, every walk from a widget's `held` line
@@ -25,6 +26,13 @@ pub fn raw_is_not_confined()
 /// `host` nor a cell line of the same slot.
 pub fn each_slot_keeps_in()
     ensures { (slots : List Slot) → IsConfined slots ↔ AllByRecursion KeepsIn slots }
+{}
+
+/// A confined certificate of at most 16 slots is of the stated shape, where their names are names of slots and differ.
+pub fn confined_has_shape()
+    ensures { (slots : List Slot) → IsConfined slots → length slots ≤ 16 →
+        list_all is_name (map slot_name slots) ≡ true → IsDistinct bytes_eq (map slot_name slots) →
+        length (cert_lines slots) < 4294967295 → IsCert slots }
 {}
 
 /// Each line of a certificate is judged, so the place of a judgement is that of its line.

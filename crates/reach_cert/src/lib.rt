@@ -17,7 +17,8 @@ pub use cert::{Block, CellRow, Cert, Ref, RowKind};
 pub use confining::confined;
 pub use fault::CertFault;
 pub use laws::{
-    each_line_is_judged, each_slot_keeps_in, one_answer, raw_is_not_confined, walks_stay,
+    confined_has_shape, each_line_is_judged, each_slot_keeps_in, one_answer, raw_is_not_confined,
+    walks_stay,
 };
 pub use printing::print_cert;
 pub use reading::read_cert;
