@@ -23,6 +23,7 @@ use Rattle.js_image.proofs.Grown.{kept_same}
 use Rattle.native_image.proofs.Added.{raw_stays}
 use Rattle.life_laws.specs.Life.{Seen, potentials}
 use Rattle.slot_laws.specs.Settled.{flag}
+use Rattle.slot_laws.proofs.Passing.{get_other}
 use Rattle.slot_picks.specs.turn_calls.declared.turn.Shared.{Shared}
 use Rattle.slot_picks.specs.turn_calls.declared.turn.Turn.{Turn}
 use Rattle.slot_picks.specs.life_queue.Fine.{FineLife, FineTurn, KeepsCells, most_fuel, tally}
@@ -32,7 +33,7 @@ use Rattle.slot_picks.specs.declared.crowd.Crowd.{Crowd}
 use Rattle.slot_picks.specs.declared.crowd.Place.{Place}
 use Rattle.slot_picks.specs.declared.slots.Slot.{Slot}
 use Rattle.slot_picks.specs.Places.{FewPlace, FewPlaces, FinePlace, FinePlaces, OwnPlace, OwnPlaces, is_accepted, lent, seen_at, seens_from}
-use Rattle.slot_picks.specs.Crowds.{FineCrowd}
+use Rattle.slot_picks.specs.Crowds.{FineCrowd, seens_of}
 use Rattle.page_build.specs.Homes.{HaveRaws, IsAway, IsHome}
 use Rattle.page_build.specs.Layout.{IsLot, lot_of}
 use Rattle.page_build.specs.Standing.{HostJoins, IsSamePage, IsSpare, Joins}
@@ -311,6 +312,9 @@ module _ (v : ℕ) (c d : Crowd) (b : Place) (set : d.places.items ≡ slice_set
     nothing = λ u none. by u none (eqb u v) refl;
     raws = raws;
     page = page;
+    seens = λ u ne.
+        ap (λ ls. slice_get (seens_from d.shared 0 ls) u) set
+        ∙ (ap (λ ss. slice_get ss u) (seens_set v c.shared d.shared (cells_kept v c.shared.store d.shared.store kept) page raws b 0 v c.places.items at_v below fine.fine) ∙ get_other (seens_of c) v u (seen_at d.shared v b) (λ e. ne (sym e)));
   }
     where
       by : (u : ℕ) → is_accepted d.places.items u ≡ false → (t : Bool) → eqb u v ≡ t → HasNothing u c.shared.store c.shared.page → HasNothing u d.shared.store d.shared.page

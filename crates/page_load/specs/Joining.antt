@@ -44,7 +44,7 @@ pub record PageJoins (v : ℕ) (p q : Page) : Type 0 where
   pub lots : (lot : Lot) (n : ℕ) → IsLot p lot n → IsLot q lot n
   pub spots : (spots : List ℕ) → AreSpots p spots → AreSpots q spots
 
--- What the coming of a life keeps, also after want of memory: all other places, the picks that are kept and which trees are shared; that each accepted life holds its own alone; what all others have in the store; that a number that is no accepted life's has nothing; that each node has its RawNode; and what stays of the page.
+-- What the coming of a life keeps, also after want of memory: all other places, the picks that are kept and which trees are shared; that each accepted life holds its own alone; what all others have in the store; that a number that is no accepted life's has nothing; that each node has its RawNode; what stays of the page; and what is seen of all other lives.
 pub record KeepsRest (v : ℕ) (c d : Crowd) : Type 0 where
   pub place : Place
   pub places : d.places.items ≡ slice_set c.places.items v place
@@ -55,6 +55,7 @@ pub record KeepsRest (v : ℕ) (c d : Crowd) : Type 0 where
   pub nothing : (u : ℕ) → is_accepted d.places.items u ≡ false → HasNothing u c.shared.store c.shared.page → HasNothing u d.shared.store d.shared.page
   pub raws : HaveRaws d.shared.store d.shared.page
   pub page : PageJoins v c.shared.page d.shared.page
+  pub seens : (u : ℕ) → u ≢ v → slice_get (seens_of d) u ≡ slice_get (seens_of c) u
 
 -- Where memory was wanted no life came, or one that is accepted, whose root stands under nothing.
 pub data HasSeat (v : ℕ) (c d : Crowd) : Type 0 where

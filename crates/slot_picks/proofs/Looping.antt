@@ -1,17 +1,19 @@
 -- The loop over the lives of a slot.
-use Rattle.std.proofs.Common.{◌≡◌, ℕ, zero, suc, ◌<◌, List, [], ◌∷◌, ◌++◌, length, Bool, true, false, sym, ap, ◌∙◌, subst, arith, Some, None, drop, refl, lt-ltb}
-use Rattle.std.specs.Prelude.{slice_get, slice_index_or, slice_set, nat_lt}
+use Rattle.std.proofs.Common.{◌≡◌, ◌≢◌, ℕ, zero, suc, ◌<◌, List, [], ◌∷◌, ◌++◌, length, Bool, true, false, sym, ap, ◌∙◌, subst, arith, Some, None, drop, refl, lt-ltb, eq-eqb}
+use Rattle.std.specs.Prelude.{slice_get, slice_index_or, slice_set, nat_eq, nat_lt, if◌then◌else◌}
 use Rattle.life_laws.specs.Life.{Seen}
 use Rattle.pick_laws.specs.declared.entry.PickEntry.{PickEntry}
 use Rattle.pick_laws.specs.declared.entry.Picked.{Picked}
 use Rattle.pick_laws.specs.declared.entry.Picked.TheVariants as picked
 use Rattle.pick_laws.specs.Journal.{Kept, journal_after, on_at}
 use Rattle.slot_laws.specs.Chains.{Chains, IsChain}
-use Rattle.slot_laws.specs.Slots.{Each, Passed, PickedSlot, Rising}
+use Rattle.slot_laws.specs.Slots.{Each, has, Passed, PickedSlot, Rising}
 use Rattle.slot_laws.proofs.Housing.{chain_in}
-use Rattle.slot_laws.proofs.Passing.{each_mid, passed_on, slot_picked}
+use Rattle.slot_laws.proofs.Chaining.{out_of}
+use Rattle.slot_laws.proofs.Passing.{each_mid, has_append, passed_on, slot_picked}
+use Rattle.slot_picks.specs.declared.crowd.Crowd.{Crowd}
 use Rattle.slot_picks.specs.declared.slots.Slot.{Slot}
-use Rattle.slot_picks.specs.Crowds.{chains_of}
+use Rattle.slot_picks.specs.Crowds.{KeepsBeside, chains_of, seens_of}
 use Rattle.slot_picks.proofs.Chained.{chains_length}
 
 pub present_is : (ds cur : List ℕ) (v : ℕ) → ds ≡ cur → slice_get ds 0 ≡ Some v → cur ≡ v ∷ drop 1 cur
@@ -110,3 +112,38 @@ two_left ds (x ∷ y ∷ zs) b e f g = omega arith
 pub shorter : (xs ys : List ℕ) → ys ≡ drop 1 xs → 0 < length xs → length ys < length xs
 shorter [] ys e lt = absurd (omega (arith, lt))
 shorter (x ∷ xs) ys e lt = let same : length ys ≡ length xs = ap length e in omega (arith, same)
+
+-- ## Beside the slot
+
+chain_other : (cs : List (List ℕ)) (w u : ℕ) (c : List ℕ) → w ≢ u → slice_get (slice_set cs w c) u ≡ slice_get cs u
+chain_other [] w u c ne = refl
+chain_other (x ∷ cs) zero zero c ne = absurd (ne refl)
+chain_other (x ∷ cs) zero (suc u) c ne = refl
+chain_other (x ∷ cs) (suc w) zero c ne = refl
+chain_other (x ∷ cs) (suc w) (suc u) c ne = chain_other cs w u c (λ e. ne (ap suc e))
+
+both_no : (a b : Bool) → (if a then true else b) ≡ false → (a ≡ false) × (b ≡ false)
+both_no true b e = cc
+both_no false b e = (refl, e)
+
+not_it : (v u : ℕ) → has u (v ∷ []) ≡ false → u ≢ v
+not_it v u e same =
+    let one : nat_eq v u ≡ false = (both_no (nat_eq v u) false e).0 in
+    let other : nat_eq v u ≡ true = eq-eqb v u (sym same) in
+    cc
+
+-- lives of the slot were ended, and then its present one was picked
+pub beside_slot : (w v : ℕ) (c d e : Crowd) (ss ts : List Slot) (js : List PickEntry) → Passed (lives_at w ss) (seens_of c) (seens_of d) js (lives_at w ts) → chains_of ts ≡ slice_set (chains_of ss) w (lives_at w ts)
+    → lives_at w ts ≡ v ∷ drop 1 (lives_at w ts) → ((u : ℕ) → u ≢ v → slice_get (seens_of e) u ≡ slice_get (seens_of d) u) → KeepsBeside w c e ss ts
+beside_slot w v c d e ss ts js passed set here others = record {
+  slots = λ u ne. ap (λ cs. slice_get cs u) set ∙ chain_other (chains_of ss) w u (lives_at w ts) (λ e. ne (sym e));
+  own = record { ended = passed.ended; are = passed.are };
+  lives = λ u out.
+      (let none = out_of u (lives_at w ss) passed.ended v (drop 1 (lives_at w ts)) (passed.are ∙ ap (λ xs. passed.ended ++ xs) here) out in
+      let parts = both_no (has u passed.ended) (has u (v ∷ [])) (sym (has_append u passed.ended (v ∷ [])) ∙ none) in
+      others u (not_it v u parts.1) ∙ passed.others u parts.0);
+}
+
+-- nothing was done
+pub beside_here : (w : ℕ) (c : Crowd) (ss : List Slot) → KeepsBeside w c c ss ss
+beside_here w c ss = record { slots = λ u ne. refl; own = record { ended = []; are = refl }; lives = λ v out. refl }

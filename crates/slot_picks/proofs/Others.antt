@@ -39,8 +39,7 @@ pub off_behind : (w v : ℕ) (ls : List Place) → w ≡ v → IsOff w (v + 1) l
 off_behind w v ls here = λ i lt e. absurd (omega (arith, here, e))
 
 -- a call for one number of a widget changed store and page
-module _ (w : ℕ) (codes : List Code) (h m : Shared) (cells : KeepsCells (trees_of codes) w h.store m.store) (page : KeepsPage w h.page m.page)
-    (raws : AllHaveCells h → AllHaveCells m) where
+module _ (w : ℕ) (codes : List Code) (h m : Shared) (cells : KeepsCells (trees_of codes) w h.store m.store) (page : KeepsPage w h.page m.page) where
   other_seen : (v : ℕ) → (w ≡ v → ⊥) → v < 32 → (l : Place) → FinePlace h v l → seen_at m v l ≡ seen_at h v l
   other_seen v ne lt l was = by l.life.accepted refl
     where
@@ -48,20 +47,7 @@ module _ (w : ℕ) (codes : List Code) (h m : Shared) (cells : KeepsCells (trees
       by true e = seen_life m v l e ∙ (seen_apart w v ne lt (trees_of codes) (lent h l) (lent m l) refl cells page l.life (was e) ∙ sym (seen_life h v l e))
       by false e = seen_none m v l e ∙ sym (seen_none h v l e)
 
-  other_fine : (v : ℕ) → (w ≡ v → ⊥) → v < 32 → (l : Place) → FinePlace h v l → FinePlace m v l
-  other_fine v ne lt l was = λ e. let f = was e in fine_apart w v ne lt (trees_of codes) (lent h l) (lent m l) refl cells page l.life f (raws f.sound.raws)
-
-  other_few : (n v : ℕ) → (w ≡ v → ⊥) → v < 32 → (l : Place) → FinePlace h v l → FewPlace h n v l → FewPlace m n v l
-  other_few n v ne lt l was few = λ e.
-      let same : tally (lent m l) v l.life ≡ tally (lent h l) v l.life = ap (λ (s : Seen). l.life.records.turns + (l.life.records.missed + (l.life.records.gone + potentials s.queue))) (seen_apart w v ne lt (trees_of codes) (lent h l) (lent m l) refl cells page l.life (was e)) in
-      subst (λ t. t ≤ n) (sym same) (few e)
-
   -- places from one on, of which none has that number
-  pub fews_stay : (n v : ℕ) (ls : List Place) → IsOff w v ls → v + length ls ≤ 32 → FinePlaces h v ls → FewPlaces h n v ls → FewPlaces m n v ls
-  fews_stay n v [] off few f t = tt
-  fews_stay n v (l ∷ ls) off few f t =
-      (other_few n v (off_here w v l ls off) (omega (arith, few)) l f.0 t.0, fews_stay n (v + 1) ls (off_next w v l ls off) (omega (arith, few)) f.1 t.1)
-
   pub seens_stay : (v : ℕ) (ls : List Place) → IsOff w v ls → v + length ls ≤ 32 → FinePlaces h v ls → seens_from m v ls ≡ seens_from h v ls
   seens_stay v [] off few f = refl
   seens_stay v (l ∷ ls) off few f =
@@ -69,36 +55,52 @@ module _ (w : ℕ) (codes : List Code) (h m : Shared) (cells : KeepsCells (trees
       let more : seens_from m (v + 1) ls ≡ seens_from h (v + 1) ls = seens_stay (v + 1) ls (off_next w v l ls off) (omega (arith, few)) f.1 in
       λ j. here j ∷ more j
 
-  pub fines_stay : (v : ℕ) (ls : List Place) → IsOff w v ls → v + length ls ≤ 32 → FinePlaces h v ls → FinePlaces m v ls
-  fines_stay v [] off few f = tt
-  fines_stay v (l ∷ ls) off few f =
-      (other_fine v (off_here w v l ls off) (omega (arith, few)) l f.0, fines_stay (v + 1) ls (off_next w v l ls off) (omega (arith, few)) f.1)
-
   -- all places, with another in the place of this number
-  module _ (b : Place) where
-    pub fews_set : (n v i : ℕ) (ls : List Place) → w ≡ v + i → v + length ls ≤ 32 → FinePlaces h v ls → FewPlaces h n v ls → tally (lent m b) w b.life ≤ n → FewPlaces m n v (slice_set ls i b)
-    fews_set n v i [] e few f t here = tt
-    fews_set n v zero (l ∷ ls) e few f t here =
-        (λ g. subst (λ u. tally (lent m b) u b.life ≤ n) (let same : w ≡ v = omega (arith, e) in same) here, fews_stay n (v + 1) ls (off_behind w v ls (omega (arith, e))) (omega (arith, few)) f.1 t.1)
-    fews_set n v (suc i) (l ∷ ls) e few f t here =
-        (other_few n v (λ g. absurd (omega (arith, e, g))) (omega (arith, few)) l f.0 t.0, fews_set n (v + 1) i ls (omega (arith, e)) (omega (arith, few)) f.1 t.1 here)
+  pub seens_set : (b : Place) (v i : ℕ) (ls : List Place) → w ≡ v + i → i < length ls → v + length ls ≤ 32 → FinePlaces h v ls → seens_from m v (slice_set ls i b) ≡ slice_set (seens_from h v ls) i (seen_at m w b)
+  seens_set b v i [] e within few f = absurd (omega (arith, within))
+  seens_set b v zero (l ∷ ls) e within few f =
+      let here : v ≡ w = omega (arith, e) in
+      let more : seens_from m (v + 1) ls ≡ seens_from h (v + 1) ls = seens_stay (v + 1) ls (off_behind w v ls (omega (arith, e))) (omega (arith, few)) f.1 in
+      λ j. seen_at m (here j) b ∷ more j
+  seens_set b v (suc i) (l ∷ ls) e within few f =
+      let here : seen_at m v l ≡ seen_at h v l = other_seen v (λ g. absurd (omega (arith, e, g))) (omega (arith, few)) l f.0 in
+      let more : seens_from m (v + 1) (slice_set ls i b) ≡ slice_set (seens_from h (v + 1) ls) i (seen_at m w b) = seens_set b (v + 1) i ls (omega (arith, e)) (omega (arith, within)) (omega (arith, few)) f.1 in
+      λ j. here j ∷ more j
 
-    pub seens_set : (v i : ℕ) (ls : List Place) → w ≡ v + i → i < length ls → v + length ls ≤ 32 → FinePlaces h v ls → seens_from m v (slice_set ls i b) ≡ slice_set (seens_from h v ls) i (seen_at m w b)
-    seens_set v i [] e within few f = absurd (omega (arith, within))
-    seens_set v zero (l ∷ ls) e within few f =
-        let here : v ≡ w = omega (arith, e) in
-        let more : seens_from m (v + 1) ls ≡ seens_from h (v + 1) ls = seens_stay (v + 1) ls (off_behind w v ls (omega (arith, e))) (omega (arith, few)) f.1 in
-        λ j. seen_at m (here j) b ∷ more j
-    seens_set v (suc i) (l ∷ ls) e within few f =
-        let here : seen_at m v l ≡ seen_at h v l = other_seen v (λ g. absurd (omega (arith, e, g))) (omega (arith, few)) l f.0 in
-        let more : seens_from m (v + 1) (slice_set ls i b) ≡ slice_set (seens_from h (v + 1) ls) i (seen_at m w b) = seens_set (v + 1) i ls (omega (arith, e)) (omega (arith, within)) (omega (arith, few)) f.1 in
-        λ j. here j ∷ more j
+  -- where each node has its cell still
+  module _ (raws : AllHaveCells h → AllHaveCells m) where
+    other_fine : (v : ℕ) → (w ≡ v → ⊥) → v < 32 → (l : Place) → FinePlace h v l → FinePlace m v l
+    other_fine v ne lt l was = λ e. let f = was e in fine_apart w v ne lt (trees_of codes) (lent h l) (lent m l) refl cells page l.life f (raws f.sound.raws)
 
-    pub fines_set : (v i : ℕ) (ls : List Place) → w ≡ v + i → v + length ls ≤ 32 → FinePlaces h v ls → FineLife (lent m b) w b.life → FinePlaces m v (slice_set ls i b)
-    fines_set v i [] e few f fine = tt
-    fines_set v zero (l ∷ ls) e few f fine = (λ g. subst (λ u. FineLife (lent m b) u b.life) (let here : w ≡ v = omega (arith, e) in here) fine, fines_stay (v + 1) ls (off_behind w v ls (omega (arith, e))) (omega (arith, few)) f.1)
-    fines_set v (suc i) (l ∷ ls) e few f fine =
-        (other_fine v (λ g. absurd (omega (arith, e, g))) (omega (arith, few)) l f.0, fines_set (v + 1) i ls (omega (arith, e)) (omega (arith, few)) f.1 fine)
+    other_few : (n v : ℕ) → (w ≡ v → ⊥) → v < 32 → (l : Place) → FinePlace h v l → FewPlace h n v l → FewPlace m n v l
+    other_few n v ne lt l was few = λ e.
+        let same : tally (lent m l) v l.life ≡ tally (lent h l) v l.life = ap (λ (s : Seen). l.life.records.turns + (l.life.records.missed + (l.life.records.gone + potentials s.queue))) (seen_apart w v ne lt (trees_of codes) (lent h l) (lent m l) refl cells page l.life (was e)) in
+        subst (λ t. t ≤ n) (sym same) (few e)
+
+    pub fews_stay : (n v : ℕ) (ls : List Place) → IsOff w v ls → v + length ls ≤ 32 → FinePlaces h v ls → FewPlaces h n v ls → FewPlaces m n v ls
+    fews_stay n v [] off few f t = tt
+    fews_stay n v (l ∷ ls) off few f t =
+        (other_few n v (off_here w v l ls off) (omega (arith, few)) l f.0 t.0, fews_stay n (v + 1) ls (off_next w v l ls off) (omega (arith, few)) f.1 t.1)
+
+    pub fines_stay : (v : ℕ) (ls : List Place) → IsOff w v ls → v + length ls ≤ 32 → FinePlaces h v ls → FinePlaces m v ls
+    fines_stay v [] off few f = tt
+    fines_stay v (l ∷ ls) off few f =
+        (other_fine v (off_here w v l ls off) (omega (arith, few)) l f.0, fines_stay (v + 1) ls (off_next w v l ls off) (omega (arith, few)) f.1)
+
+    -- all places, with another in the place of this number
+    module _ (b : Place) where
+      pub fews_set : (n v i : ℕ) (ls : List Place) → w ≡ v + i → v + length ls ≤ 32 → FinePlaces h v ls → FewPlaces h n v ls → tally (lent m b) w b.life ≤ n → FewPlaces m n v (slice_set ls i b)
+      fews_set n v i [] e few f t here = tt
+      fews_set n v zero (l ∷ ls) e few f t here =
+          (λ g. subst (λ u. tally (lent m b) u b.life ≤ n) (let same : w ≡ v = omega (arith, e) in same) here, fews_stay n (v + 1) ls (off_behind w v ls (omega (arith, e))) (omega (arith, few)) f.1 t.1)
+      fews_set n v (suc i) (l ∷ ls) e few f t here =
+          (other_few n v (λ g. absurd (omega (arith, e, g))) (omega (arith, few)) l f.0 t.0, fews_set n (v + 1) i ls (omega (arith, e)) (omega (arith, few)) f.1 t.1 here)
+
+      pub fines_set : (v i : ℕ) (ls : List Place) → w ≡ v + i → v + length ls ≤ 32 → FinePlaces h v ls → FineLife (lent m b) w b.life → FinePlaces m v (slice_set ls i b)
+      fines_set v i [] e few f fine = tt
+      fines_set v zero (l ∷ ls) e few f fine = (λ g. subst (λ u. FineLife (lent m b) u b.life) (let here : w ≡ v = omega (arith, e) in here) fine, fines_stay (v + 1) ls (off_behind w v ls (omega (arith, e))) (omega (arith, few)) f.1)
+      fines_set v (suc i) (l ∷ ls) e few f fine =
+          (other_fine v (λ g. absurd (omega (arith, e, g))) (omega (arith, few)) l f.0, fines_set (v + 1) i ls (omega (arith, e)) (omega (arith, few)) f.1 fine)
 
 -- a place of the list
 pub seens_at : (h : Shared) (v w i : ℕ) (ls : List Place) (l : Place) → w ≡ v + i → slice_get ls i ≡ Some l → slice_get (seens_from h v ls) i ≡ Some (seen_at h w l)

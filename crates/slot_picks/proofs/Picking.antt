@@ -1,5 +1,5 @@
 -- A life in its place is picked.
-use Rattle.std.proofs.Common.{◌≡◌, ℕ, zero, suc, ◌+◌, ◌<◌, ◌≤◌, true, List, [], ◌∷◌, length, refl, sym, ap, ◌∙◌, subst, arith, Option, None, Some, Ok, Err}
+use Rattle.std.proofs.Common.{◌≡◌, ◌≢◌, ℕ, zero, suc, ◌+◌, ◌<◌, ◌≤◌, true, List, [], ◌∷◌, length, refl, sym, ap, ◌∙◌, subst, arith, Option, None, Some, Ok, Err}
 use Rattle.std.specs.Prelude.{IfOk, IfSome, OnErr, OnOk, Result, slice_get, slice_set}
 use Rattle.std.specs.declared.alloc.Global.{Global}
 use Rattle.std.specs.declared.vec.Vec.{Vec}
@@ -14,6 +14,7 @@ use Rattle.life_picks.specs.turn_calls.declared.turn.Turn.{Turn}
 use Rattle.life_picks.specs.life_queue.Lives.{life_seen, trees_in}
 use Rattle.life_picks.specs.life_queue.Fine.{FineLife, FineTurn, KeepsLife, tally}
 use Rattle.life_picks.specs.Picking.{PicksLife}
+use Rattle.slot_laws.proofs.Passing.{get_other}
 use Rattle.slot_picks.specs.declared.crowd.Place.{Place}
 use Rattle.slot_picks.specs.Places.{FewPlaces, FinePlaces, lent, seen_at, seens_from}
 use Rattle.slot_picks.proofs.Others.{few_at, fews_set, fines_at, fines_set, seen_life, seens_at, seens_set}
@@ -34,6 +35,10 @@ same_accepted o a l e f g = let same : a ≡ l = (let h : Some a ≡ Some l = sy
 pub on_ok : {T E : Type 0} (P : T → Type 0) (Q : Type 0) (r : Result T E) → ((x : T) → P x → Q) → IfOk r P → OnOk r Q
 on_ok P Q (Ok x) f h = f x h
 on_ok P Q (Err e) f h = tt
+
+pub on_err : {T E P : Type 0} (r : Result T E) → P → OnErr r P
+on_err (Ok x) p = tt
+on_err (Err e) p = p
 
 -- the turn in progress holds its own, and after want of memory there is none
 pub turn_after : {E : Type 0} (h m : Shared) (w k : ℕ) (a b : Life) (r : Result Picked E) → IfOk r (λ x. PicksLife h m w k x a b) → OnErr r (b.turn ≡ None) → IfSome b.turn (FineTurn (trees_in m) w m.store m.page b.grant)
@@ -59,18 +64,32 @@ module _ (h : Shared) (v : ℕ) (ls : List Place) (a : Place) (at : slice_get ls
   pub fine_number : FineLife (lent h a) a.life.widget.number a.life
   fine_number = subst (λ i. FineLife (lent h a) i a.life) (sym number_here) fine_here
 
-  module _ (m : Shared) (k : ℕ) (b : Place) (within : v < length ls) (few : length ls ≤ 32) (r : Picked) (kept : KeepsLife a.life.widget.number (lent h a) (lent m b) a.life b.life) (picks : PicksLife (lent h a) (lent m b) a.life.widget.number k r a.life b.life) where
+  module _ (m : Shared) (b : Place) (within : v < length ls) (few : length ls ≤ 32) (kept : KeepsLife a.life.widget.number (lent h a) (lent m b) a.life b.life) where
     room : 0 + length ls ≤ 32
     room = omega (arith, few)
 
     keeps : KeepsLife v (lent h a) (lent m b) a.life b.life
     keeps = subst (λ i. KeepsLife i (lent h a) (lent m b) a.life b.life) number_here kept
 
+    seens_here : seens_from m 0 (slice_set ls v b) ≡ slice_set (seens_from h 0 ls) v (seen_at m v b)
+    seens_here = seens_set v a.codes.items h m keeps.cells keeps.page b 0 v ls (omega arith) within room all
+
+    -- what is seen of others stays, also after want of memory
+    pub others_seen : (u : ℕ) → u ≢ v → slice_get (seens_from m 0 (slice_set ls v b)) u ≡ slice_get (seens_from h 0 ls) u
+    others_seen u ne = ap (λ ss. slice_get ss u) seens_here ∙ get_other (seens_from h 0 ls) v u (seen_at m v b) (λ e. ne (sym e))
+
+  module _ (m : Shared) (k : ℕ) (b : Place) (within : v < length ls) (few : length ls ≤ 32) (r : Picked) (kept : KeepsLife a.life.widget.number (lent h a) (lent m b) a.life b.life) (picks : PicksLife (lent h a) (lent m b) a.life.widget.number k r a.life b.life) where
+    keeps_at : KeepsLife v (lent h a) (lent m b) a.life b.life
+    keeps_at = keeps m b within few kept
+
+    room_at : 0 + length ls ≤ 32
+    room_at = room m b within few kept
+
     picked : PicksLife (lent h a) (lent m b) v k r a.life b.life
     picked = subst (λ i. PicksLife (lent h a) (lent m b) i k r a.life b.life) number_here picks
 
     there : b.life.accepted ≡ true
-    there = keeps.accepted ∙ accepted
+    there = keeps_at.accepted ∙ accepted
 
     was_is : seen_at h v a ≡ life_seen (lent h a) v a.life
     was_is = seen_life h v a accepted
@@ -83,7 +102,7 @@ module _ (h : Shared) (v : ℕ) (ls : List Place) (a : Place) (at : slice_get ls
       was = seen_at h v a;
       is = seen_at m v b;
       at = seens_at h 0 v v ls a (omega arith) at;
-      set = seens_set v a.codes.items h m keeps.cells keeps.page (λ _. picked.fine.sound.raws) b 0 v ls (omega arith) within room all;
+      set = seens_here m b within few kept;
       picks = subst (λ (s : Seen). Picks k r s (seen_at m v b)) (sym was_is) (subst (λ (s : Seen). Picks k r (life_seen (lent h a) v a.life) s) (sym is_is) picked.picks);
       lighter = λ e. subst (λ (s : Seen). weight (seen_at m v b) < weight s) (sym was_is) (subst (λ (s : Seen). weight s < weight (life_seen (lent h a) v a.life)) (sym is_is) (picked.lighter (ap ready (sym was_is) ∙ e)));
     }
@@ -92,7 +111,7 @@ module _ (h : Shared) (v : ℕ) (ls : List Place) (a : Place) (at : slice_get ls
     fews_here n was =
         let before : tally (lent h a) v a.life ≤ n = few_at h n 0 v v ls a (omega arith) at was accepted in
         let after : tally (lent m b) v b.life ≤ tally (lent h a) v a.life = picked.counted in
-        fews_set v a.codes.items h m keeps.cells keeps.page (λ _. picked.fine.sound.raws) b n 0 v ls (omega arith) room all was (omega (arith, before, after))
+        fews_set v a.codes.items h m keeps_at.cells keeps_at.page (λ _. picked.fine.sound.raws) b n 0 v ls (omega arith) room_at all was (omega (arith, before, after))
 
     pub fines_here : FinePlaces m 0 (slice_set ls v b)
-    fines_here = fines_set v a.codes.items h m keeps.cells keeps.page (λ _. picked.fine.sound.raws) b 0 v ls (omega arith) room all picked.fine
+    fines_here = fines_set v a.codes.items h m keeps_at.cells keeps_at.page (λ _. picked.fine.sound.raws) b 0 v ls (omega arith) room_at all picked.fine

@@ -41,7 +41,7 @@ module _ (c : Crowd) (q : Page) (nodes : KeepsNodes c.shared.page q) (trees : (v
   off = λ i lt e. absurd (omega (arith, lt, e, fine.places))
 
   pub swap_seens : seens_of d ≡ seens_of c
-  swap_seens = seens_stay 31 [] c.shared d.shared cells page raws 0 c.places.items off (omega (arith, fine.places)) fine.fine
+  swap_seens = seens_stay 31 [] c.shared d.shared cells page 0 c.places.items off (omega (arith, fine.places)) fine.fine
 
   pub swap_fine : FineCrowd d
   swap_fine = record { places = fine.places; fine = fines_stay 31 [] c.shared d.shared cells page raws 0 c.places.items off (omega (arith, fine.places)) fine.fine; short = fine.short }

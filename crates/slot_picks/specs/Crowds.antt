@@ -15,6 +15,7 @@ use Rattle.life_laws.specs.Life.{Seen}
 use Rattle.pick_laws.specs.declared.entry.Picked.{Picked}
 use Rattle.pick_laws.specs.Journal.{AllJoined, journal_room}
 use Rattle.slot_laws.specs.Chains.{Chains, PickedIn, Rest, Unspent, listed}
+use Rattle.slot_laws.specs.Slots.{IsTail, has}
 use Rattle.slot_picks.specs.declared.crowd.Crowd.{Crowd}
 use Rattle.slot_picks.specs.declared.crowd.Place.{Place}
 use Rattle.slot_picks.specs.declared.slots.Slot.{Slot}
@@ -122,6 +123,12 @@ pub record KeepsSlots (c d : Crowd) (ss ts : List Slot) : Type 0 where
   pub page : PagePasses c.shared.page d.shared.page (spots_of c ss) (spots_of d ts)
   pub standing : AreStanding c ss → AreStanding d ts
 
+-- What a pick of the slot with a number keeps beside it, also after want of memory: the lives of each other slot, and what is seen of each life that is none of this slot's. Of its own lives the first ones may have ended.
+pub record KeepsBeside (w : ℕ) (c d : Crowd) (ss ts : List Slot) : Type 0 where
+  pub slots : (u : ℕ) → u ≢ w → slice_get (chains_of ts) u ≡ slice_get (chains_of ss) u
+  pub own : IsTail (slice_index_or (chains_of ss) w []) (slice_index_or (chains_of ts) w [])
+  pub lives : (v : ℕ) → has v (slice_index_or (chains_of ss) w []) ≡ false → slice_get (seens_of d) v ≡ slice_get (seens_of c) v
+
 -- ## Picks one after the other
 
 -- Slots were picked with this slice, one after the other, each pick from what the one before left; and after each, in the store and on the page as they were then, each accepted life held its own alone.
@@ -131,10 +138,17 @@ pub data PicksOn (k : ℕ) (c : Crowd) (ss : Vec Slot Global) : Crowd → Vec Sl
       → PickedIn w k r (chains_of ts.items) (chains_of us.items) (seens_of d) (seens_of e) d.journal.items e.journal.items
       → OwnCrowd e → PicksOn k c ss e us
 
--- Such picks were made, also where memory was wanted in the end; else they led to this crowd and these slots.
+-- Memory was wanted: the journal is as it was, and so is all beside one slot.
+pub record WantsMemory (c d : Crowd) (ss ts : List Slot) : Type 0 where
+  pub slot : ℕ
+  pub journal : d.journal.items ≡ c.journal.items
+  pub beside : KeepsBeside slot c d ss ts
+
+-- Such picks were made, and led to this crowd and these slots; or memory was wanted after them.
 pub record PicksUntil (k : ℕ) (c : Crowd) (ss : Vec Slot Global) (ended : Bool) (d : Crowd) (ts : Vec Slot Global) : Type 0 where
   pub crowd : Crowd
   pub slots : Vec Slot Global
   pub picks : PicksOn k c ss crowd slots
   pub crowd_is : ended ≡ true → d ≡ crowd
   pub slots_are : ended ≡ true → ts ≡ slots
+  pub wanted : ended ≡ false → WantsMemory crowd d slots.items ts.items

@@ -1,5 +1,5 @@
 //! The lives of all places: one is picked, and its pick is kept.
-ghost use Rattle.std.specs.Prelude.{◌≡◌, ℕ, ◌<◌, ◌≤◌, ◌++◌, [], ◌∷◌, IfOk, None, OnErr, OnOk, Some, true, length, slice_get};
+ghost use Rattle.std.specs.Prelude.{◌≡◌, ◌≢◌, ℕ, ◌<◌, ◌≤◌, ◌++◌, [], ◌∷◌, IfOk, None, OnErr, OnOk, Some, true, length, slice_get};
 ghost use Rattle.life_laws.specs.Life.{Seen, image};
 ghost use Rattle.pick_laws.specs.Journal.{Kept, PickedAt, journal_room, kept};
 ghost use Rattle.life_picks.specs.turn_calls.declared.turn.Shared.{Shared as SharedOf};
@@ -69,17 +69,19 @@ pub fn spent_at(crowd: &Crowd, v: u32) -> u64
     spent_of(&crowd.places[v as usize].life)
 }
 
-// One entry more; of a full journal the oldest is dropped.
+// One entry more; of a full journal the oldest is dropped, and no memory is wanted.
 fn keep(journal: &mut VecDeque<PickEntry>, entry: PickEntry) -> Result<(), Memory>
     requires { length journal.old.items ≤ journal_room }
     ensures entry { OnOk result (journal.new.items ≡ kept (journal.old.items ++ entry ∷ [])) }
     ensures short { length journal.new.items ≤ journal_room }
+    ensures still { OnErr result (journal.new.items ≡ journal.old.items) }
 {
-    if journal.len() >= KEPT {
-        let _oldest = journal.pop_front();
+    if journal.len() < KEPT {
+        journal.push_back(entry)?;
+        return Ok(());
     }
-    journal.push_back(entry)?;
-    Ok(())
+    let _oldest = journal.pop_front();
+    Ok(journal.push_back(entry)?)
 }
 
 // A life is picked over the trees of its own scripts.
@@ -117,12 +119,14 @@ fn pick_one(alloc: Global, crowd: &mut Crowd, v: u32, k: u32) -> Result<Picked, 
     ensures accepted { (p : PlaceOf) → slice_get crowd.new.places.items v ≡ Some p → p.life.accepted ≡ true }
     ensures length { length crowd.new.places.items ≡ length crowd.old.places.items }
     ensures journal { crowd.new.journal.items ≡ crowd.old.journal.items }
+    ensures others { (u : ℕ) → u ≢ v → slice_get (seens_of crowd.new) u ≡ slice_get (seens_of crowd.old) u }
     ensures stays { KeepsCrowd crowd.old crowd.new }
 {
     pick_lent(alloc, &mut crowd.shared, &mut crowd.places[v as usize], k)
 }
 
-/// One place is picked, and its pick is kept. Where no file was accepted there is nothing to do.
+/// One place is picked, and its pick is kept. Where no file was accepted there is nothing to do. `Memory` keeps no
+/// pick.
 pub(crate) fn pick_kept(alloc: Global, crowd: &mut Crowd, v: u32, k: u32) -> Result<Picked, Memory>
     requires there { v < length crowd.old.places.items }
     requires slice { 0 < k }
@@ -130,6 +134,8 @@ pub(crate) fn pick_kept(alloc: Global, crowd: &mut Crowd, v: u32, k: u32) -> Res
     ensures kept { IfOk result (λ r. Kept v k r (seens_of crowd.old) (seens_of crowd.new) crowd.old.journal.items crowd.new.journal.items) }
     ensures fine { OnOk result (FineCrowd crowd.new) }
     ensures few { OnOk result ((n : ℕ) → FewCrowd n crowd.old → FewCrowd n crowd.new) }
+    ensures others { (u : ℕ) → u ≢ v → slice_get (seens_of crowd.new) u ≡ slice_get (seens_of crowd.old) u }
+    ensures still { OnErr result (crowd.new.journal.items ≡ crowd.old.journal.items) }
     ensures stays { KeepsCrowd crowd.old crowd.new }
 {
     if !crowd.places[v as usize].life.accepted {

@@ -1,5 +1,5 @@
 //! Picks of slots, until none is ready.
-ghost use Rattle.std.specs.Prelude.{◌≡◌, ℕ, ◌<◌, IfOk, OnOk, [], ◌∷◌, is_ok, map, Some, slice_get};
+ghost use Rattle.std.specs.Prelude.{◌≡◌, ℕ, ◌<◌, IfOk, OnErr, OnOk, [], ◌∷◌, false, is_ok, map, Some, slice_get};
 ghost use Rattle.life_laws.specs.Life.{due, image};
 ghost use Rattle.pick_laws.specs.Journal.{ready_from};
 ghost use Rattle.slot_laws.specs.Chains.{PickedIn, last_life};
@@ -34,6 +34,7 @@ fn pick_ready(
     ensures list { OnOk result (ready.new.items ≡ ready_from 0 (slot_flags (seens_of crowd.new) (chains_of slots.new.items))) }
     ensures housed { OnOk result ((born : ℕ) → AreHoused born crowd.old slots.old.items → AreHoused born crowd.new slots.new.items) }
     ensures few { OnOk result ((n : ℕ) → FewCrowd n crowd.old → FewCrowd n crowd.new) }
+    ensures stops { OnErr result (PicksUntil k crowd.old slots.old false crowd.new slots.new) }
     ensures stays { KeepsSlots crowd.old crowd.new slots.old.items slots.new.items }
 {
     let picked = pick_slot(alloc, crowd, slots, w, k)?;
@@ -45,7 +46,8 @@ fn pick_ready(
 }
 
 /// Slots are picked with this slice until none is ready, each by the chooser's answer to which of the ready
-/// ones is next. No swap waits then, and each life has done all that it had to do.
+/// ones is next. No swap waits then, and each life has done all that it had to do. `Memory` leaves the journal, and
+/// beside one slot all, as the picks before left it.
 pub fn settle_slots<C: Chooser>(
     alloc: Global,
     crowd: &mut Crowd,

@@ -1,9 +1,9 @@
 //! The lives of a slot, and a pick of one slot.
-ghost use Rattle.std.specs.Prelude.{◌≡◌, ℕ, ◌<◌, IfOk, OnOk, Some, length, slice_get, nat_lt, drop};
+ghost use Rattle.std.specs.Prelude.{◌≡◌, ℕ, ◌<◌, IfOk, OnErr, OnOk, Some, length, slice_get, nat_lt, drop};
 ghost use Rattle.pick_laws.specs.Journal.{on_at};
 ghost use Rattle.slot_laws.specs.Chains.{PickedIn};
 ghost use Rattle.slot_picks.specs.declared.slots.Slot.{Slot as SlotOf};
-ghost use Rattle.slot_picks.specs.Crowds.{AreHoused, AreStanding, FewCrowd, FineCrowd, KeepsSlots, chains_of, seens_of};
+ghost use Rattle.slot_picks.specs.Crowds.{AreHoused, AreStanding, FewCrowd, FineCrowd, KeepsBeside, KeepsSlots, chains_of, seens_of};
 
 use crate::crowd::{Crowd, pick_kept};
 use code_units::{Memory, Text};
@@ -69,7 +69,7 @@ fn take_swap(crowd: &mut Crowd, slots: &mut Vec<Slot>, w: u32)
 
 /// Carries on the turn of a slot, or the first that the queues of its lives begin, until the units are
 /// spent or the turn is over. Swaps that wait are taken where a life has nothing left; no memory is wanted
-/// for that.
+/// for that. `Memory` leaves the journal, and beside the slot all, as it was.
 pub fn pick_slot(
     alloc: Global,
     crowd: &mut Crowd,
@@ -84,6 +84,8 @@ pub fn pick_slot(
     ensures picked { IfOk result (λ r. PickedIn w k r (chains_of slots.old.items) (chains_of slots.new.items) (seens_of crowd.old) (seens_of crowd.new) crowd.old.journal.items crowd.new.journal.items) }
     ensures housed { OnOk result ((born : ℕ) → AreHoused born crowd.old slots.old.items → AreHoused born crowd.new slots.new.items) }
     ensures few { OnOk result ((n : ℕ) → FewCrowd n crowd.old → FewCrowd n crowd.new) }
+    ensures beside { KeepsBeside w crowd.old crowd.new slots.old.items slots.new.items }
+    ensures still { OnErr result (crowd.new.journal.items ≡ crowd.old.journal.items) }
     ensures stays { KeepsSlots crowd.old crowd.new slots.old.items slots.new.items }
 {
     'lives: loop {

@@ -1,12 +1,11 @@
 -- Settling and rounds, one after the other.
 use Rattle.std.proofs.Common.{◌≡◌, ℕ, zero, suc, Bool, true, false, List, [], ◌∷◌, ◌++◌, map, refl, sym, ap, ◌∙◌, arith, Option, Some, None}
 use Rattle.std.specs.Prelude.{slice_get, nat_eq, if◌then◌else◌, ◌||◌}
-use Rattle.std.specs.List.{list_any}
 use Rattle.std.specs.Option.{option_map}
 use Rattle.life_laws.specs.Life.{Seen, due, image}
 use Rattle.slot_laws.specs.Chains.{last_life}
 use Rattle.round_laws.specs.Fed.{Fed}
-use Rattle.slot_rounds.specs.Feeding.{AreFed, AreShown, IsLastFed, IsLastShown, events_for, gets, given_events, with_more}
+use Rattle.slot_rounds.specs.Feeding.{AreFed, AreShown, IsLastFed, IsLastShown, events_for, gets, given_events, is_last, with_more}
 use Rattle.slot_rounds.proofs.More.{given_none, more_at, some_is}
 
 -- what two lists show in the same way, by number
@@ -79,19 +78,25 @@ no_left : (a b : Bool) → (a || b) ≡ false → (a ≡ false) × (b ≡ false)
 no_left true b e = cc
 no_left false b e = (refl, e)
 
-no_events : (cs : List (List ℕ)) (es : List (List (List ℕ))) (v : ℕ) → list_any (λ c. nat_eq (last_life c) v) cs ≡ false → events_for cs es v ≡ []
+no_events : (cs : List (List ℕ)) (es : List (List (List ℕ))) (v : ℕ) → is_last v cs ≡ false → events_for cs es v ≡ []
 no_events [] es v out = refl
 no_events (c ∷ cs) [] v out = refl
 no_events (c ∷ cs) (e ∷ es) v out =
-    let both = no_left (nat_eq (last_life c) v) (list_any (λ d. nat_eq (last_life d) v) cs) out in
+    let both = no_left (nat_eq (last_life c) v) (is_last v cs) out in
     ap (λ b. (if b then e else []) ++ events_for cs es v) both.0 ∙ no_events cs es v both.1
 
 gets_none : (b : Bool) (vs : List (List ℕ)) → vs ≡ [] → (if b then vs else []) ≡ []
 gets_none true vs e = e
 gets_none false vs e = refl
 
+-- what is none of theirs is not that of one slot
+pub not_last : (v i : ℕ) (cs : List (List ℕ)) (c : List ℕ) → slice_get cs i ≡ Some c → is_last v cs ≡ false → nat_eq (last_life c) v ≡ false
+not_last v i [] c at out = cc
+not_last v zero (d ∷ cs) c at out = ap (λ x. nat_eq (last_life x) v) (sym (some_is d c at)) ∙ (no_left (nat_eq (last_life d) v) (is_last v cs) out).0
+not_last v (suc i) (d ∷ cs) c at out = not_last v i cs c at (no_left (nat_eq (last_life d) v) (is_last v cs) out).1
+
 -- one of these is as it was
-pub others_stay : (accepts : ℕ → Bool) (cs : List (List ℕ)) (es : List (List (List ℕ))) (ss : List Seen) (v : ℕ) → list_any (λ c. nat_eq (last_life c) v) cs ≡ false
+pub others_stay : (accepts : ℕ → Bool) (cs : List (List ℕ)) (es : List (List (List ℕ))) (ss : List Seen) (v : ℕ) → is_last v cs ≡ false
     → slice_get (with_more (gets accepts cs es) 0 ss) v ≡ slice_get ss v
 others_stay accepts cs es ss v out =
     more_at (gets accepts cs es) 0 v v ss (omega arith) ∙ (ap (λ vs. option_map (given_events vs) (slice_get ss v)) (gets_none (accepts v) (events_for cs es v) (no_events cs es v out)) ∙ nothing (slice_get ss v))
@@ -100,6 +105,6 @@ others_stay accepts cs es ss v out =
     nothing None = refl
     nothing (Some s) = ap Some (given_none s)
 
-pub last_of_lasts : (v : ℕ) (cs : List (List ℕ)) → list_any (λ c. nat_eq (last_life c) v) (map (λ c. last_life c ∷ []) cs) ≡ list_any (λ c. nat_eq (last_life c) v) cs
+pub last_of_lasts : (v : ℕ) (cs : List (List ℕ)) → is_last v (map (λ c. last_life c ∷ []) cs) ≡ is_last v cs
 last_of_lasts v [] = refl
 last_of_lasts v (c ∷ cs) = ap (λ b. nat_eq (last_life c) v || b) (last_of_lasts v cs)

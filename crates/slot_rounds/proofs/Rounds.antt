@@ -1,5 +1,5 @@
 -- A round that lives are given slot by slot.
-use Rattle.std.proofs.Common.{◌≡◌, ℕ, zero, suc, ◌+◌, ◌<◌, ◌≤◌, ◌^◌, Bool, true, false, List, [], ◌∷◌, ◌++◌, length, take, slice_set, refl, sym, ap, ◌∙◌, subst, arith, Some, ne_eqb, eq-eqb}
+use Rattle.std.proofs.Common.{◌≡◌, ◌≢◌, ℕ, zero, suc, ◌+◌, ◌<◌, ◌≤◌, ◌^◌, Bool, true, false, List, [], ◌∷◌, ◌++◌, length, take, slice_set, refl, sym, ap, ◌∙◌, subst, arith, Some, ne_eqb, eq-eqb}
 use Rattle.std.specs.Prelude.{slice_get, nat_eq, if◌then◌else◌}
 use Rattle.std.proofs.lemmas.List.{append-nil, take_all}
 use Rattle.slot_laws.specs.Chains.{last_life}
@@ -31,6 +31,17 @@ pub alike_set : (k : ℕ) (ls : List Place) (l m : Place) → slice_get ls k ≡
 alike_set k [] l m at same = tt
 alike_set zero (y ∷ ls) l m at same = (subst (λ (z : Place). IsAlike z m) (sym (some_is y l at)) same, alike_here ls)
 alike_set (suc k) (y ∷ ls) l m at same = (refl, alike_set k ls l m at same)
+
+-- the others are as they were
+pub set_other : (k v : ℕ) (ls : List Place) (m : Place) → k ≢ v → slice_get (slice_set ls k m) v ≡ slice_get ls v
+set_other k v [] m ne = refl
+set_other zero zero (l ∷ ls) m ne = absurd (ne refl)
+set_other zero (suc v) (l ∷ ls) m ne = refl
+set_other (suc k) zero (l ∷ ls) m ne = refl
+set_other (suc k) (suc v) (l ∷ ls) m ne = set_other k v ls m (λ e. ne (ap suc e))
+
+pub differ : (k v : ℕ) → nat_eq k v ≡ false → k ≢ v
+differ k v ne e = let same : nat_eq k v ≡ true = eq-eqb k v e in cc
 
 pub length_alike : (ls ms : List Place) → AreAlike ls ms → length ms ≡ length ls
 length_alike [] [] a = refl

@@ -2,6 +2,7 @@
 use Rattle.std.proofs.Common.{◌≡◌, ℕ, zero, suc, ◌+◌, ◌<◌, Bool, true, false, List, [], ◌∷◌, ◌++◌, map, length, drop, take, refl, sym, ap, ◌∙◌, subst, arith, Option, Some, None}
 use Rattle.std.specs.Prelude.{slice_get, slice_index_or, if◌then◌else◌}
 use Rattle.std.specs.List.{range_with_len}
+use Rattle.std.specs.Option.{option_map}
 use Rattle.std.proofs.lemmas.List.{map-append, take-map}
 use Rattle.js_tree.specs.Forest.{Forest}
 use Rattle.widget_meaning.specs.Limits.{max_posts}
@@ -21,8 +22,8 @@ use Rattle.page_load.specs.life_queue.Lives as lives
 use Rattle.page_load.specs.life_queue.Lives.{life_seen, outside, trees_in, work_of}
 use Rattle.page_load.specs.slot_picks.declared.crowd.Place.{Place}
 use Rattle.page_load.specs.slot_picks.Places.{is_accepted, lent, seen_at, seens_from, told_of}
-use Rattle.slot_rounds.specs.Feeding.{AreFed, AreStill, IsLastFed, counts_for, events_for, fresh_lasts, gets, given_events, posts_seen, told_more, with_more}
-use Rattle.slot_rounds.specs.Posting.{AreEvents, Delivers, GivesRound, HasRound, HaveRound, IsEvent, IsRound, IsSettled, WereGiven, fresh_of_life, fresh_of_lasts, post_in}
+use Rattle.slot_rounds.specs.Feeding.{AreFed, AreStill, Delivers, HaveDone, IsLastFed, counts_for, events_for, fresh_lasts, gets, given_events, posts_seen, told_more, with_more}
+use Rattle.slot_rounds.specs.Posting.{AreAlike, AreEvents, GivesRound, HasRound, HaveRound, IsAlike, IsEvent, IsRound, WereGiven, fresh_of_life, fresh_of_lasts, post_in}
 use Rattle.slot_rounds.proofs.More.{given_none}
 use Rattle.slot_rounds.proofs.Feeding.{fresh_same, quiet_still, read_at, round_fed, still_quiet}
 use Rattle.slot_rounds.proofs.Gathering.{get_within, map_get, map_twice}
@@ -100,6 +101,31 @@ accepted_at (m ∷ ls) zero l at = ap (λ (p : Place). p.life.accepted) (same m 
     same m l e = cc
 accepted_at (m ∷ ls) (suc k) l at = accepted_at ls k l at
 
+-- ## Lives that are as they were but for queues and taken posts
+
+image_alike : (h : Shared) (v : ℕ) (l m : Place) → IsAlike l m → image (seen_at h v m) ≡ image (seen_at h v l)
+image_alike h v l m alike = ap (λ (p : Place). image (seen_at h v p)) alike ∙ by l.life.accepted refl
+  where
+    by : (b : Bool) → l.life.accepted ≡ b → image (seen_at h v (record l { life = record l.life { queue = m.life.queue }; told = m.told })) ≡ image (seen_at h v l)
+    by true is = ap image (seen_accepted h v (record l { life = record l.life { queue = m.life.queue }; told = m.told }) is) ∙ sym (ap image (seen_accepted h v l is))
+    by false is = ap image (seen_refused h v (record l { life = record l.life { queue = m.life.queue }; told = m.told }) is) ∙ sym (ap image (seen_refused h v l is))
+
+-- show what they did
+pub images_alike : (h : Shared) (v : ℕ) (ls ms : List Place) → AreAlike ls ms → map image (seens_from h v ms) ≡ map image (seens_from h v ls)
+images_alike h v [] [] a = refl
+images_alike h v [] (m ∷ ms) a = absurd a
+images_alike h v (l ∷ ls) [] a = absurd a
+images_alike h v (l ∷ ls) (m ∷ ms) a = let head = image_alike h v l m a.0 in let later = images_alike h (v + 1) ls ms a.1 in λ i. head i ∷ later i
+
+seen_of : (h : Shared) (v k : ℕ) (ls : List Place) → slice_get (seens_from h v ls) k ≡ option_map (seen_at h (v + k)) (slice_get ls k)
+seen_of h v k [] = refl
+seen_of h v zero (l ∷ ls) = let e : v ≡ v + 0 = omega arith in ap (λ u. Some (seen_at h u l)) e
+seen_of h v (suc k) (l ∷ ls) = let e : (v + 1) + k ≡ v + suc k = omega arith in seen_of h (v + 1) k ls ∙ ap (λ u. option_map (seen_at h u) (slice_get ls k)) e
+
+-- and one that is as it was is seen so
+pub seen_same : (h : Shared) (k : ℕ) (ls ms : List Place) → slice_get ms k ≡ slice_get ls k → slice_get (seens_from h 0 ms) k ≡ slice_get (seens_from h 0 ls) k
+seen_same h k ls ms e = seen_of h 0 k ms ∙ (ap (option_map (seen_at h (0 + k))) e ∙ sym (seen_of h 0 k ls))
+
 -- ## Fresh posts
 
 shown_posts : (t : Option Going) (o : OwnState) → posts_of (shown t o) ≡ posts_of o
@@ -161,7 +187,7 @@ news_at channels names ps w within =
     map_get (news channels names ps) (range_with_len 0 (length names)) w (0 + w) (get_range 0 (length names) w within) ∙ ap (λ u. Some (news channels names ps u)) e
 
 module _ (channels : List (ℕ × ℕ)) (names : List (List ℕ)) (cs : List (List ℕ)) (old new : List Place) (homes : List ℕ) (born : ℕ) (chains : Chains homes born 0 cs) (slots : length names ≡ length cs)
-    (h : Shared) (fs : List (Option Fed)) (settled : IsSettled h old) (given : WereGiven h cs old fs) where
+    (h : Shared) (fs : List (Option Fed)) (settled : HaveDone (seens_from h 0 old)) (given : WereGiven h cs old fs) where
   fresh_are : fresh_of_lasts old cs ≡ fresh fs
   fresh_are = fresh_seen h old cs ∙ fresh_same (is_accepted old) (seens_from h 0 old) (told_of old) (λ v n at. told_there h 0 v n old at) settled cs fs given
 
@@ -175,7 +201,7 @@ module _ (channels : List (ℕ × ℕ)) (names : List (List ℕ)) (cs : List (Li
       let same : i ≡ w = omega (arith, e) in
       subst (λ n. news channels names (fresh fs) n ≡ []) same (sym (read_at (all_news channels names (fresh_of_lasts old cs)) i (news channels names (fresh fs) i) (news_are i c at)) ∙ still i c at is)
 
-  quiet_delivers : AreStill (is_accepted old) cs (all_news channels names (fresh_of_lasts old cs)) → new ≡ old → Delivers false channels names h cs new fs
+  quiet_delivers : AreStill (is_accepted old) cs (all_news channels names (fresh_of_lasts old cs)) → new ≡ old → Delivers false channels names fs (WereGiven h cs new)
   quiet_delivers still same = (
     still_quiet (is_accepted old) (seens_from h 0 old) (told_of old) channels names (fresh fs) 0 cs fs given (no_news still),
     subst (λ (ps : List Place). WereGiven h cs ps fs) (sym same) given,
@@ -200,7 +226,7 @@ module _ (channels : List (ℕ × ℕ)) (names : List (List ℕ)) (cs : List (Li
       (subst (λ (ss : List Seen). AreFed (is_accepted old) ss (told_more (counts_for cs (map length (fresh fs))) 0 (told_of old)) cs (round channels names fs)) (sym seen) fed_then))
 
   loud_delivers : (AreStill (is_accepted old) cs (all_news channels names (fresh_of_lasts old cs)) → ⊥)
-      → HaveRound (events_for cs (all_news channels names (fresh_of_lasts old cs))) (counts_for cs (map length (fresh_of_lasts old cs))) 0 old new → Delivers true channels names h cs new fs
+      → HaveRound (events_for cs (all_news channels names (fresh_of_lasts old cs))) (counts_for cs (map length (fresh_of_lasts old cs))) 0 old new → Delivers true channels names fs (WereGiven h cs new)
   loud_delivers loud r = (λ quiet. loud (quiet_is_still quiet), given_more r)
 
 -- a round over the lives of places is one of what the last lives were given

@@ -1,10 +1,15 @@
 -- Rounds of posts over what is seen of all lives: what the last lives of slots were given, and what a round gives them.
 use Rattle.std.specs.Prelude.{◌≡◌, ℕ, ◌+◌, ◌++◌, Bool, true, false, if◌then◌else◌, List, [], ◌∷◌, drop, map, nat_eq, Option, None, Some, slice_get, slice_index_or}
+use Rattle.std.specs.List.{list_any}
 use Rattle.life_laws.specs.Life.{Seen, Work, due, image}
 use Rattle.life_laws.specs.Life as todo
 use Rattle.slot_laws.specs.Chains.{last_life}
 use Rattle.post_rounds.specs.declared.posts.Post.{Post}
-use Rattle.round_laws.specs.Fed.{Fed, event_of, posts_of, state}
+use Rattle.round_laws.specs.Fed.{Fed, IsQuiet, event_of, posts_of, round, state}
+
+-- each life has done all that it had
+abbrev pub HaveDone : List Seen → Type 0
+HaveDone ss = (v : ℕ) (s : Seen) → slice_get ss v ≡ Some s → image s ≡ due s
 
 -- ## What slots were given
 
@@ -37,6 +42,15 @@ AreShown accepts ss (c ∷ cs) (f ∷ fs) = IsLastShown accepts ss (last_life c)
 AreShown accepts ss _ _ = ⊥
 
 -- ## What a round gives
+
+-- what a call that delivers a round, or nothing where the round is quiet, makes of what the last lives were given
+abbrev pub Delivers : Bool → List (ℕ × ℕ) → List (List ℕ) → List (Option Fed) → (List (Option Fed) → Type 0) → Type 0
+Delivers false channels names fs WereGiven = IsQuiet channels names fs × WereGiven fs
+Delivers true channels names fs WereGiven = (IsQuiet channels names fs → ⊥) × WereGiven (round channels names fs)
+
+-- a life is the last one of some slot
+abbrev pub is_last : ℕ → List (List ℕ) → Bool
+is_last v cs = list_any (λ c. nat_eq (last_life c) v) cs
 
 -- the posts that are seen of a life
 abbrev pub posts_seen : Option Seen → List Post

@@ -4,8 +4,7 @@ use Rattle.post_rounds.specs.declared.posts.Post.{Post}
 use Rattle.post_rounds.specs.News.{all_news}
 use Rattle.widget_meaning.specs.Items.{Occurs}
 use Rattle.widget_meaning.specs.Limits.{max_posts}
-use Rattle.round_laws.specs.Fed.{Fed, IsQuiet, event_of, round}
-use Rattle.life_laws.specs.Life.{Seen, due, image}
+use Rattle.round_laws.specs.Fed.{Fed, event_of}
 use Rattle.slot_laws.specs.Chains.{last_life}
 use Rattle.page_load.specs.life_queue.declared.life.Work.{Work}
 use Rattle.page_load.specs.life_queue.declared.life.Work.TheVariants as work
@@ -13,7 +12,7 @@ use Rattle.page_load.specs.life_queue.Lives as lives
 use Rattle.page_load.specs.slot_picks.declared.crowd.Place.{Place}
 use Rattle.page_load.specs.turn_calls.declared.turn.Shared.{Shared}
 use Rattle.page_load.specs.slot_picks.Places.{is_accepted, seens_from, told_of}
-use Rattle.slot_rounds.specs.Feeding.{AreFed, AreStill, counts_for, events_for}
+use Rattle.slot_rounds.specs.Feeding.{AreFed, AreStill, Delivers, HaveDone, counts_for, events_for}
 
 -- a kept post, by receiver and text
 abbrev pub post_in : List ℕ × List ℕ → Post
@@ -78,20 +77,11 @@ IsRound true channels names cs old new =
     (AreStill (is_accepted old) cs (all_news channels names (fresh_of_lasts old cs)) → ⊥)
     × HaveRound (events_for cs (all_news channels names (fresh_of_lasts old cs))) (counts_for cs (map length (fresh_of_lasts old cs))) 0 old new
 
--- nothing waits in any life
-abbrev pub IsSettled : Shared → List Place → Type 0
-IsSettled h ps = (v : ℕ) (s : Seen) → slice_get (seens_from h 0 ps) v ≡ Some s → image s ≡ due s
-
 -- the last lives of slots were given this
 abbrev pub WereGiven : Shared → List (List ℕ) → List Place → List (Option Fed) → Type 0
 WereGiven h cs ps fs = AreFed (is_accepted ps) (seens_from h 0 ps) (told_of ps) cs fs
 
--- what the last lives were given with what the call delivered: a round, or nothing where the round is quiet
-abbrev pub Delivers : Bool → List (ℕ × ℕ) → List (List ℕ) → Shared → List (List ℕ) → List Place → List (Option Fed) → Type 0
-Delivers false channels names h cs new fs = IsQuiet channels names fs × WereGiven h cs new fs
-Delivers true channels names h cs new fs = (IsQuiet channels names fs → ⊥) × WereGiven h cs new (round channels names fs)
-
--- Lives that were given so much, and have settled, are given one round more.
+-- Lives that were given so much, and have done it, are given one round more.
 abbrev pub GivesRound : Bool → List (ℕ × ℕ) → List (List ℕ) → List (List ℕ) → List Place → List Place → Type 0
 GivesRound delivered channels names cs old new =
-    (h : Shared) (fs : List (Option Fed)) → IsSettled h old → WereGiven h cs old fs → Delivers delivered channels names h cs new fs
+    (h : Shared) (fs : List (Option Fed)) → HaveDone (seens_from h 0 old) → WereGiven h cs old fs → Delivers delivered channels names fs (WereGiven h cs new)

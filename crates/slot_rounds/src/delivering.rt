@@ -1,13 +1,15 @@
 //! One round of posts.
-ghost use Rattle.std.specs.Prelude.{◌≡◌, ◌<◌, ◌≤◌, ℕ, IfOk, OnOk, Some, length, map, slice_get, true};
+ghost use Rattle.std.specs.Prelude.{◌≡◌, ◌<◌, ◌≤◌, ℕ, IfOk, OnOk, Some, false, length, map, slice_get, true};
 ghost use Rattle.std.specs.List.{IsDistinct};
 ghost use Rattle.std.specs.Str.{bytes_eq};
+ghost use Rattle.life_laws.specs.Life.{image};
 ghost use Rattle.slot_laws.specs.Chains.{Chains};
 ghost use Rattle.page_load.specs.slot_picks.Crowds.{chains_of};
-ghost use Rattle.page_load.specs.slot_picks.Places.{homes_of, told_of};
+ghost use Rattle.page_load.specs.slot_picks.Places.{homes_of, seens_from, told_of};
 ghost use Rattle.page_load.specs.slot_picks.declared.slots.Slot.{Slot as SlotOf};
+ghost use Rattle.page_load.specs.turn_calls.declared.turn.Shared.{Shared};
 ghost use Rattle.widget_meaning.specs.Limits.{max_posts};
-ghost use Rattle.slot_rounds.specs.Feeding.{sum_of};
+ghost use Rattle.slot_rounds.specs.Feeding.{is_last, sum_of};
 ghost use Rattle.slot_rounds.specs.Posting.{AreAlike, GivesRound, IsRound};
 
 use crate::giving::give_slots;
@@ -20,8 +22,8 @@ use std::alloc::Global;
 /// One round: each post of the last life of a slot that no round has taken, to a slot to which a channel leads from
 /// it, is an event for the last life there, behind all that waits; then all these posts are taken. A life whose file
 /// was refused makes no post and is told of none. Answers whether a life was told of a post; if not, nothing changes.
-/// The channels are pairs of numbers of slots, sender first. `Memory` leaves events in some queues, and posts taken
-/// of some lives.
+/// The channels are pairs of numbers of slots, sender first. `Memory` leaves events in some queues of last lives, and
+/// posts taken of some; what lives did stays, and all of one that is the last of no slot.
 pub fn deliver_posts(
     alloc: Global,
     places: &mut Vec<Place>,
@@ -37,6 +39,8 @@ pub fn deliver_posts(
     ensures kept { OnOk result ((v n : ℕ) → slice_get (told_of places.new.items) v ≡ Some n → n ≤ max_posts) }
     ensures more { IfOk result (λ delivered. delivered ≡ true → sum_of (told_of places.old.items) < sum_of (told_of places.new.items)) }
     ensures alike { AreAlike places.old.items places.new.items }
+    ensures images { (h : Shared) → map image (seens_from h 0 places.new.items) ≡ map image (seens_from h 0 places.old.items) }
+    ensures others { (v : ℕ) → is_last v (chains_of slots.now) ≡ false → slice_get places.new.items v ≡ slice_get places.old.items v }
 {
     let fresh = all_fresh(alloc, places, slots)?;
     let names = all_names(alloc, slots)?;

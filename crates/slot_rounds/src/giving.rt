@@ -1,10 +1,10 @@
 //! The events of a round go to the last lives of slots.
-ghost use Rattle.std.specs.Prelude.{◌≡◌, ◌+◌, ◌<◌, ◌≤◌, ◌^◌, ℕ, [], OnOk, Some, codes, if◌then◌else◌, length, map, nat_eq, slice_get};
+ghost use Rattle.std.specs.Prelude.{◌≡◌, ◌+◌, ◌<◌, ◌≤◌, ◌^◌, ℕ, [], OnOk, Some, codes, false, if◌then◌else◌, length, map, nat_eq, slice_get};
 ghost use Rattle.post_rounds.specs.Events.{values};
 ghost use Rattle.slot_laws.specs.Chains.{Chains, last_life};
 ghost use Rattle.page_load.specs.slot_picks.Crowds.{chains_of};
 ghost use Rattle.page_load.specs.slot_picks.Places.{homes_of, told_of};
-ghost use Rattle.slot_rounds.specs.Feeding.{counts_for, events_for, sum_of};
+ghost use Rattle.slot_rounds.specs.Feeding.{counts_for, events_for, is_last, sum_of};
 ghost use Rattle.page_load.specs.slot_picks.declared.crowd.Place.{Place as PlaceOf};
 ghost use Rattle.slot_rounds.specs.Posting.{AreAlike, HasEvents, HasRound, HaveRound, IsAlike};
 
@@ -75,6 +75,7 @@ fn give_slot(
     requires room { (p : PlaceOf) → slice_get places.old.items (last_life slot.now) ≡ Some p → p.told + taken < 2 ^ 32 }
     ensures given { OnOk result (HaveRound (λ u. if nat_eq (last_life slot.now) u then values events.now else []) (λ u. if nat_eq (last_life slot.now) u then taken else 0) 0 places.old.items places.new.items) }
     ensures alike { AreAlike places.old.items places.new.items }
+    ensures others { (v : ℕ) → nat_eq (last_life slot.now) v ≡ false → slice_get places.new.items v ≡ slice_get places.old.items v }
 {
     let v = last_of(slot);
     give_place(alloc, &mut places[v as usize], kind, events, taken)
@@ -96,6 +97,7 @@ pub(crate) fn give_slots(
     requires room { (v n : ℕ) → slice_get (told_of places.old.items) v ≡ Some n → n + sum_of (map (λ x. length x.items) fresh.now) < 2 ^ 32 }
     ensures given { OnOk result (HaveRound (events_for (chains_of slots.now) (map (λ x. values x.items) events.now)) (counts_for (chains_of slots.now) (map (λ x. length x.items) fresh.now)) 0 places.old.items places.new.items) }
     ensures alike { AreAlike places.old.items places.new.items }
+    ensures others { (v : ℕ) → is_last v (chains_of slots.now) ≡ false → slice_get places.new.items v ≡ slice_get places.old.items v }
 {
     'slots: for w in 0..slots.len() {
         let taken = fresh[w].len() as u32;

@@ -5,7 +5,7 @@ use Rattle.pick_laws.specs.declared.entry.PickEntry.{PickEntry}
 use Rattle.pick_laws.specs.Journal.{kept}
 use Rattle.pick_laws.proofs.Crowds.{kept_with}
 use Rattle.slot_picks.proofs.Keeping.{keeps_here, keeps_journal}
-use Rattle.slot_picks.proofs.Picking.{same_accepted}
+use Rattle.slot_picks.proofs.Picking.{on_err, same_accepted}
 use Rattle.slot_picks.proofs.Spending.{idle_kept, kept_idle}
 use Rattle.slot_picks.proofs.crowd.pick_kept.Goals as goal
 
@@ -36,11 +36,16 @@ returns-in-Idle-clause-kept c = kept_idle c.args.v c.args.k c.in_ok-picked.picke
 pub returns-in_err-keep-clause-stays : goal.returns-in_err-keep-clause-stays
 returns-in_err-keep-clause-stays c = keeps_journal c.args.crowd.now c.pick_one.new.crowd _ refl refl c.in_ok-picked.ensures.stays
 
+pub returns-in_err-keep-clause-still : goal.returns-in_err-keep-clause-still
+returns-in_err-keep-clause-still c = on_err c.from_residual-in_err-keep.result (c.in_err-keep.ensures.still ∙ c.in_ok-picked.ensures.journal)
+
 pub returns : goal.returns
 returns c = record {
   kept = kept_with c.args.v c.args.k c.in_ok-picked.picked _ _ c.args.crowd.now.journal.items _ c.spent_at-before.result c.spent_at-after.result c.in_ok-picked.ensures.picked c.spent_at-before.ensures c.spent_at-after.ensures c.in_default.not-Idle
       (c.in_ok-keep.ensures.entry ∙ ap (λ (js : List PickEntry). kept (js ++ record { widget = c.args.v; before = c.spent_at-before.result; after = c.spent_at-after.result; slice = c.args.k } ∷ [])) c.in_ok-picked.ensures.journal);
   fine = record { places = c.in_ok-picked.ensures.fine.places; fine = c.in_ok-picked.ensures.fine.fine; short = c.in_ok-keep.ensures.short };
   few = c.in_ok-picked.ensures.few;
+  others = c.in_ok-picked.ensures.others;
+  still = tt;
   stays = keeps_journal c.args.crowd.now c.pick_one.new.crowd _ refl refl c.in_ok-picked.ensures.stays;
 }

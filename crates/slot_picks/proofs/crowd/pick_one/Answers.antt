@@ -7,7 +7,7 @@ use Rattle.life_picks.specs.life_queue.Fine.{FineTurn, KeepsLife}
 use Rattle.slot_picks.specs.declared.crowd.Place.{Place}
 use Rattle.slot_picks.specs.Places.{lent}
 use Rattle.slot_picks.proofs.Keeping.{keeps_set}
-use Rattle.slot_picks.proofs.Picking.{fews_here, fine_number, fines_here, length_set, number_here, on_ok, picked_at, set_there, turn_after}
+use Rattle.slot_picks.proofs.Picking.{fews_here, fine_number, fines_here, length_set, number_here, on_ok, others_seen, picked_at, set_there, turn_after}
 use Rattle.slot_picks.proofs.crowd.pick_one.Goals as goal
 
 pub pick_lent-requires-clause-widget : goal.pick_lent-requires-clause-widget
@@ -73,6 +73,15 @@ returns-clause-accepted c =
 
 pub returns-clause-length : goal.returns-clause-length
 returns-clause-length c = length_set c.args.crowd.now.places.items c.args.v c.pick_lent.new.place
+
+pub returns-clause-others : goal.returns-clause-others
+returns-clause-others c =
+    let h = c.args.crowd.now.shared in
+    let ls = c.args.crowd.now.places.items in
+    let a = c.index_mut.result.now in
+    let at : slice_get ls c.args.v ≡ Some a = slice_get_read ls (length ls) c.args.v a refl c.requires.there c.index_mut.ensures.value in
+    let few : length ls ≤ 32 = omega (arith, c.requires.fine.places) in
+    others_seen h c.args.v ls a at (c.requires.accepted a at) c.requires.fine.fine c.pick_lent.new.shared c.pick_lent.new.place c.requires.there few c.pick_lent.ensures.kept
 
 pub returns-clause-stays : goal.returns-clause-stays
 returns-clause-stays c =

@@ -1,7 +1,10 @@
 use Rattle.std.proofs.Common.{subst, sym, arith}
-use Rattle.slot_picks.specs.Crowds.{AreHoused, seens_of}
+use Rattle.slot_picks.specs.Crowds.{AreHoused, no_pick, one_pick, seens_of}
 use Rattle.slot_picks.specs.Places.{homes_of}
+use Rattle.slot_picks.proofs.Owning.{owns_fine}
+use Rattle.slot_picks.proofs.Picking.{on_err}
 use Rattle.slot_picks.proofs.Settles.{listed, slot_there, still_ready}
+use Rattle.slot_picks.proofs.Slotted.{picks_stop, wants_here}
 use Rattle.slot_picks.proofs.settling.pick_ready.Goals as goal
 
 pub pick_slot-requires : goal.pick_slot-requires
@@ -26,3 +29,15 @@ returns-in-Unfinished-clause-list c =
 
 pub returns-clause-list : goal.returns-clause-list
 returns-clause-list c = listed c.pick_slot.new.crowd c.fill_ready.new.ready.items c.pick_slot.new.slots.items c.deref.result.now c.deref.ensures.value c.in_ok-fill_ready.ensures
+
+pub returns-in_err-picked-clause-stops : goal.returns-in_err-picked-clause-stops
+returns-in_err-picked-clause-stops c =
+    on_err c.from_residual.result
+    (picks_stop c.args.k c.args.crowd.now c.args.crowd.now c.pick_slot.new.crowd c.args.slots.now c.args.slots.now c.pick_slot.new.slots no_pick (record { slot = c.args.w; journal = c.in_err-picked.ensures.still; beside = c.pick_slot.ensures.beside }))
+
+pub returns-in_err-fill_ready-clause-stops : goal.returns-in_err-fill_ready-clause-stops
+returns-in_err-fill_ready-clause-stops c =
+    let d = c.pick_slot.new.crowd in
+    let ts = c.pick_slot.new.slots in
+    let own = owns_fine d.shared 0 d.places.items (c.in_ok-picked.ensures.housed c.requires.housed.0 c.requires.housed.1).crowd.fine in
+    on_err c.from_residual-in_err-fill_ready.result (picks_stop c.args.k c.args.crowd.now d d c.args.slots.now ts ts (one_pick no_pick c.in_ok-picked.ensures.picked own) (wants_here d ts.items))

@@ -12,7 +12,7 @@ use Rattle.slot_picks.proofs.Housing.{lasts_picked}
 use Rattle.slot_picks.proofs.Owning.{owns_fine}
 use Rattle.slot_picks.proofs.Quiet.{only_lasts}
 use Rattle.slot_picks.proofs.Settles.{listed, slot_there, slots_below}
-use Rattle.slot_picks.proofs.Slotted.{picks_stop, slots_here, slots_then}
+use Rattle.slot_picks.proofs.Slotted.{picks_more, picks_stop, picks_whole, slots_here, slots_then, wants_here}
 use Rattle.slot_picks.proofs.settling.settle_slots.Goals as goal
 
 pub ready_slots-requires : goal.ready_slots-requires
@@ -39,7 +39,7 @@ returns-then-is_empty g c =
     let quiet : ready_from 0 (slot_flags (seens_of c.picks.crowd) (chains_of c.picks.slots.items)) ≡ [] = sym c.picks.invariant.list ∙ none in
     record {
       settled = c.picks.invariant.settled;
-      passes = record { crowd = c.picks.crowd; slots = c.picks.slots; picks = c.picks.invariant.picks; crowd_is = λ e. refl; slots_are = λ e. refl };
+      passes = picks_whole c.args.slice c.args.crowd.now c.picks.crowd c.args.slots.now c.picks.slots c.picks.invariant.picks;
       done = all_done (chains_of c.picks.slots.items) (seens_of c.picks.crowd) quiet h.rest ∙ c.picks.invariant.settled.went.dues;
       quiet = quiet;
       lasts = only_lasts (homes_of c.picks.crowd.places.items) born (seens_of c.picks.crowd) (chains_of c.args.slots.now.items) (chains_of c.picks.slots.items) h.chains quiet c.picks.invariant.lasts;
@@ -73,10 +73,12 @@ pub returns-in_err-pick_ready-clause-stays : goal.returns-in_err-pick_ready-clau
 returns-in_err-pick_ready-clause-stays g c = slots_then c.args.crowd.now c.picks.crowd c.pick_ready.new.crowd c.args.slots.now.items c.picks.slots.items c.pick_ready.new.slots.items c.picks.invariant.stays c.pick_ready.ensures.stays
 
 pub returns-in_err-pick_ready-clause-passes : goal.returns-in_err-pick_ready-clause-passes
-returns-in_err-pick_ready-clause-passes g c = picks_stop c.args.slice c.args.crowd.now c.picks.crowd _ c.args.slots.now c.picks.slots _ c.from_residual-in_err-pick_ready.result c.from_residual-in_err-pick_ready.ensures.0 c.picks.invariant.picks
+returns-in_err-pick_ready-clause-passes g c = picks_more c.args.slice c.args.crowd.now c.picks.crowd _ c.args.slots.now c.picks.slots _ c.from_residual-in_err-pick_ready.result c.from_residual-in_err-pick_ready.ensures.0 c.picks.invariant.picks c.in_err-pick_ready.ensures.stops
 
 pub returns-in_err-ready-clause-passes : goal.returns-in_err-ready-clause-passes
-returns-in_err-ready-clause-passes g c = picks_stop c.args.slice c.args.crowd.now c.args.crowd.now _ c.args.slots.now c.args.slots.now _ c.from_residual.result c.from_residual.ensures.0 no_pick
+returns-in_err-ready-clause-passes g c =
+    picks_more c.args.slice c.args.crowd.now c.args.crowd.now _ c.args.slots.now c.args.slots.now _ c.from_residual.result c.from_residual.ensures.0 no_pick
+    (picks_stop c.args.slice c.args.crowd.now c.args.crowd.now c.args.crowd.now c.args.slots.now c.args.slots.now c.args.slots.now no_pick (wants_here c.args.crowd.now c.args.slots.now.items))
 
 pub picks-smaller : goal.picks-smaller
 picks-smaller g c =

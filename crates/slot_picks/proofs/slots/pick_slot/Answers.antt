@@ -8,7 +8,8 @@ use Rattle.slot_laws.proofs.Passing.{passed_none}
 use Rattle.slot_picks.specs.Crowds.{chains_of, seens_of}
 use Rattle.slot_picks.specs.Places.{homes_of}
 use Rattle.slot_picks.proofs.Housing.{housed_picked}
-use Rattle.slot_picks.proofs.Looping.{chain_there, chains_here, chains_next, is_there, lives_at, lives_here, lives_next, lives_there, more_left, one_left, present_is, same_journal, shorter, slot_done, slot_on, two_left}
+use Rattle.slot_picks.proofs.Looping.{beside_slot, chain_there, chains_here, chains_next, is_there, lives_at, lives_here, lives_next, lives_there, more_left, one_left, present_is, same_journal, shorter, slot_done, slot_on, two_left}
+use Rattle.slot_picks.proofs.Picking.{on_err}
 use Rattle.slot_picks.proofs.Slotted.{names_many, slots_here, slots_picked, slots_then}
 use Rattle.slot_picks.proofs.slots.pick_slot.Goals as goal
 
@@ -73,6 +74,22 @@ returns-in_err-picked-clause-stays c =
     let inv = c.lives.invariant in
     slots_then c.args.crowd.now c.lives.crowd c.pick_kept.new.crowd ss0 ss ss inv.stays (slots_picked c.lives.crowd c.pick_kept.new.crowd ss (omega (arith, inv.fine.places)) c.pick_kept.ensures.stays)
 
+pub returns-in_err-picked-clause-beside : goal.returns-in_err-picked-clause-beside
+returns-in_err-picked-clause-beside c =
+    let ss0 = c.args.slots.now.items in
+    let w = c.args.w in
+    let ss = c.lives.slots.items in
+    let inv = c.lives.invariant in
+    let lt : w < length ss = omega (arith, c.requires.there, names_many ss0 ss inv.stays.names) in
+    let s = c.index.result.now in
+    let at : slice_get ss w ≡ Some s = slice_get_read ss (length ss) w s refl lt c.index.ensures in
+    let is : c.deref.result.now ≡ lives_at w ss = c.deref.ensures.value ∙ sym (lives_here w ss s at) in
+    let here = present_is c.deref.result.now (lives_at w ss) c.present-v.result is c.present-v.ensures in
+    beside_slot w c.present-v.result c.args.crowd.now c.lives.crowd c.pick_kept.new.crowd ss0 ss c.args.crowd.now.journal.items inv.passed inv.chains here c.pick_kept.ensures.others
+
+pub returns-in_err-picked-clause-still : goal.returns-in_err-picked-clause-still
+returns-in_err-picked-clause-still c = on_err c.from_residual.result (c.in_err-picked.ensures.still ∙ c.lives.invariant.journal)
+
 pub returns-in_default : goal.returns-in_default
 returns-in_default c =
     let ss0 = c.args.slots.now.items in
@@ -98,6 +115,8 @@ returns-in_default c =
       picked = picked;
       housed = λ born h. housed_picked w c.args.k c.in_ok-picked.picked c.args.crowd.now c.pick_kept.new.crowd ss0 ss picked born c.in_ok-picked.ensures.fine stays.lives.homes h;
       few = λ n h. c.in_ok-picked.ensures.few n (inv.few n h);
+      beside = beside_slot w v c.args.crowd.now c.lives.crowd c.pick_kept.new.crowd ss0 ss c.args.crowd.now.journal.items inv.passed inv.chains here c.in_ok-picked.ensures.others;
+      still = tt;
       stays = stays;
     }
 
@@ -129,6 +148,8 @@ returns-then-not-waits c =
       picked = picked;
       housed = λ born h. housed_picked w c.args.k c.in_ok-picked.picked c.args.crowd.now c.pick_kept.new.crowd ss0 ss picked born c.in_ok-picked.ensures.fine stays.lives.homes h;
       few = λ n h. c.in_ok-picked.ensures.few n (inv.few n h);
+      beside = beside_slot w v c.args.crowd.now c.lives.crowd c.pick_kept.new.crowd ss0 ss c.args.crowd.now.journal.items inv.passed inv.chains here c.in_ok-picked.ensures.others;
+      still = tt;
       stays = stays;
     }
 

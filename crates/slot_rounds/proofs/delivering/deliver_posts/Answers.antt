@@ -17,7 +17,7 @@ use Rattle.slot_rounds.specs.Feeding.{AreStill, sum_of}
 use Rattle.slot_rounds.specs.Posting.{fresh_of_lasts}
 use Rattle.slot_rounds.proofs.Gathering.{events_length, false_true, few_taken, fresh_length, loud_round, map_twice, quiet_round}
 use Rattle.slot_rounds.proofs.Rounds.{alike_here}
-use Rattle.slot_rounds.proofs.Seen.{gives_round}
+use Rattle.slot_rounds.proofs.Seen.{gives_round, images_alike}
 use Rattle.slot_rounds.proofs.Taken.{keeps_round, takes_more}
 use Rattle.slot_rounds.proofs.delivering.deliver_posts.Goals as goal
 
@@ -148,3 +148,45 @@ pub returns-clause-more : goal.returns-clause-more
 returns-clause-more c = λ e.
     (let ss = c.args.slots.now in
     takes_more c.args.channels.now (map (λ (s : Slot). s.name) ss) (chains_of ss) c.args.places.now.items c.give_slots.new.places.items c.requires.born.0 c.requires.born.2 c.requires.born.1 (returns-clause-round c))
+
+pub returns-in_err-fresh-clause-images : goal.returns-in_err-fresh-clause-images
+returns-in_err-fresh-clause-images c = λ h. refl
+
+pub returns-in_err-fresh-clause-others : goal.returns-in_err-fresh-clause-others
+returns-in_err-fresh-clause-others c = λ v out. refl
+
+pub returns-in_err-names-clause-images : goal.returns-in_err-names-clause-images
+returns-in_err-names-clause-images c = λ h. refl
+
+pub returns-in_err-names-clause-others : goal.returns-in_err-names-clause-others
+returns-in_err-names-clause-others c = λ v out. refl
+
+pub returns-in_err-events-clause-images : goal.returns-in_err-events-clause-images
+returns-in_err-events-clause-images c = λ h. refl
+
+pub returns-in_err-events-clause-others : goal.returns-in_err-events-clause-others
+returns-in_err-events-clause-others c = λ v out. refl
+
+pub returns-then-is_quiet-clause-images : goal.returns-then-is_quiet-clause-images
+returns-then-is_quiet-clause-images c = λ h. refl
+
+pub returns-then-is_quiet-clause-others : goal.returns-then-is_quiet-clause-others
+returns-then-is_quiet-clause-others c = λ v out. refl
+
+pub returns-in_err-kind-clause-images : goal.returns-in_err-kind-clause-images
+returns-in_err-kind-clause-images c = λ h. refl
+
+pub returns-in_err-kind-clause-others : goal.returns-in_err-kind-clause-others
+returns-in_err-kind-clause-others c = λ v out. refl
+
+pub returns-in_err-give_slots-clause-images : goal.returns-in_err-give_slots-clause-images
+returns-in_err-give_slots-clause-images c = λ h. images_alike h 0 c.args.places.now.items c.give_slots.new.places.items c.give_slots.ensures.alike
+
+pub returns-in_err-give_slots-clause-others : goal.returns-in_err-give_slots-clause-others
+returns-in_err-give_slots-clause-others c = c.give_slots.ensures.others
+
+pub returns-clause-images : goal.returns-clause-images
+returns-clause-images c = λ h. images_alike h 0 c.args.places.now.items c.give_slots.new.places.items c.give_slots.ensures.alike
+
+pub returns-clause-others : goal.returns-clause-others
+returns-clause-others c = c.give_slots.ensures.others

@@ -4,7 +4,7 @@ use Rattle.std.proofs.lemmas.Option.{slice_get_read}
 use Rattle.std.proofs.lemmas.Result.{on_ok_weaker}
 use Rattle.post_rounds.specs.Events.{values}
 use Rattle.slot_rounds.specs.Posting.{HaveRound}
-use Rattle.slot_rounds.proofs.Rounds.{alike_set, one_round}
+use Rattle.slot_rounds.proofs.Rounds.{alike_set, differ, one_round, set_other}
 use Rattle.slot_rounds.proofs.giving.give_slot.Goals as goal
 
 pub last_of-v-requires : goal.last_of-v-requires
@@ -36,3 +36,6 @@ returns-clause-alike c =
     let within : c.last_of-v.result < length ls = subst (λ (v : ℕ). v < length ls) (sym c.last_of-v.ensures) c.requires.there in
     let at : slice_get ls c.last_of-v.result ≡ Some c.index_mut.result.now = slice_get_read ls (length ls) c.last_of-v.result c.index_mut.result.now refl within c.index_mut.ensures.value in
     alike_set c.last_of-v.result ls c.index_mut.result.now c.give_place.new.place at c.give_place.ensures.alike
+
+pub returns-clause-others : goal.returns-clause-others
+returns-clause-others c = λ v ne. set_other c.last_of-v.result v c.args.places.now.items c.give_place.new.place (differ c.last_of-v.result v (ap (λ n. nat_eq n v) c.last_of-v.ensures ∙ ne))

@@ -13,12 +13,13 @@ use Rattle.page_load.specs.slot_picks.Crowds.{chains_of}
 use Rattle.page_load.specs.slot_picks.Places.{homes_of}
 use Rattle.slot_rounds.specs.Feeding.{events_for}
 use Rattle.slot_rounds.proofs.Gathering.{map_get, some_get}
+use Rattle.slot_rounds.proofs.Looping.{not_last}
 use Rattle.slot_rounds.proofs.Lasts.{chain_get, slot_some, slot_there}
 use Rattle.slot_rounds.proofs.Rounds.{alike_here, alike_then, all_slots, few_here, length_alike, no_slot, room_then, slot_round}
 use Rattle.slot_rounds.proofs.giving.give_slots.Goals as goal
 
 pub slots-init : goal.slots-init
-slots-init c = record { given = no_slot c.args.places.now.items; alike = alike_here c.args.places.now.items }
+slots-init c = record { given = no_slot c.args.places.now.items; alike = alike_here c.args.places.now.items; others = λ v out. refl }
 
 pub bounds-fresh-w : goal.bounds-fresh-w
 bounds-fresh-w c = subst (λ (n : ℕ). c.slots.w < n) (sym c.requires.fresh) c.slots-test.true
@@ -77,6 +78,13 @@ give_slot-requires-clause-room c = λ p there.
 pub returns-in_err-give_slot-clause-alike : goal.returns-in_err-give_slot-clause-alike
 returns-in_err-give_slot-clause-alike c = alike_then c.args.places.now.items c.slots.places.items c.give_slot.new.places.items c.slots.invariant.alike c.give_slot.ensures.alike
 
+pub returns-in_err-give_slot-clause-others : goal.returns-in_err-give_slot-clause-others
+returns-in_err-give_slot-clause-others c =
+    let ss = c.args.slots.now in
+    let at : slice_get ss c.slots.w ≡ Some c.index-slots-w.result = slice_get_read ss (length ss) c.slots.w c.index-slots-w.result refl c.slots-test.true c.index-slots-w.is in
+    let list : c.deref.result.now ≡ c.index-slots-w.result.lives.items = c.deref.ensures.value ∙ ap (λ (s : Slot). s.lives.items) (sym c.index-slots-w.is) in
+    λ v out. c.give_slot.ensures.others v (not_last v c.slots.w (chains_of ss) c.deref.result.now (chain_get ss c.slots.w c.index-slots-w.result at ∙ ap Some (sym list)) out) ∙ c.slots.invariant.others v out
+
 pub slots-preserved : goal.slots-preserved
 slots-preserved c =
     let ls = c.args.places.now.items in
@@ -100,6 +108,7 @@ slots-preserved c =
           (map_get (λ (x : Vec PostEvent Global). values x.items) es c.slots.w c.index-events-w.result event ∙ ap (λ (xs : List PostEvent). Some (values xs)) (sym told_list))
           count c.slots.invariant.given c.in_ok-give_slot.ensures.given;
       alike = alike_then ls ms c.give_slot.new.places.items c.slots.invariant.alike c.give_slot.ensures.alike;
+      others = λ v out. c.give_slot.ensures.others v (not_last v c.slots.w (chains_of ss) c.deref.result.now (chain_get ss c.slots.w c.index-slots-w.result at ∙ ap Some (sym list)) out) ∙ c.slots.invariant.others v out;
     }
 
 pub returns-clause-given : goal.returns-clause-given
@@ -115,3 +124,6 @@ returns-clause-given c =
 
 pub returns-clause-alike : goal.returns-clause-alike
 returns-clause-alike c = c.slots.invariant.alike
+
+pub returns-clause-others : goal.returns-clause-others
+returns-clause-others c = c.slots.invariant.others
