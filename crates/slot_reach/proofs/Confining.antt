@@ -11,21 +11,21 @@ use Rattle.native_image.specs.Sound.{HoldsOwn}
 use Rattle.page_tree.specs.declared.page.Page.{Page}
 use Rattle.reach_cert.specs.Certs as cert
 use Rattle.slot_laws.specs.Chains.{last_life}
-use Rattle.slot_picks.specs.declared.crowd.Crowd.{Crowd}
-use Rattle.slot_picks.specs.declared.crowd.Place.{Place}
-use Rattle.slot_picks.specs.declared.slots.Slot.{Slot}
-use Rattle.slot_picks.specs.turn_calls.declared.turn.Shared.{Shared}
-use Rattle.slot_picks.specs.Crowds.{AreStanding, OwnCrowd}
-use Rattle.slot_picks.specs.Places.{HoldsItsOwn, OwnPlaces, homes_of}
+use Rattle.slot_rounds.specs.page_load.slot_picks.declared.crowd.Crowd.{Crowd}
+use Rattle.slot_rounds.specs.page_load.slot_picks.declared.crowd.Place.{Place}
+use Rattle.slot_rounds.specs.page_load.slot_picks.declared.slots.Slot.{Slot}
+use Rattle.slot_rounds.specs.page_load.slot_picks.turn_calls.declared.turn.Shared.{Shared}
+use Rattle.slot_rounds.specs.page_load.slot_picks.Crowds.{AreStanding, OwnCrowd}
+use Rattle.slot_rounds.specs.page_load.slot_picks.Places.{HoldsItsOwn, OwnPlaces, homes_of}
 use Rattle.reach_cert.specs.Walks.{KeepsIn}
 use Rattle.store_reach.specs.Reads.{read_slot}
 use Rattle.native_image.specs.Image.{Outside, beside, image}
 use Rattle.js_names.specs.Code.{trees_of}
 use Rattle.life_laws.specs.Life as todo
 use Rattle.life_laws.specs.Life.{Going}
-use Rattle.slot_picks.specs.life_queue.Lives.{life_seen, outside}
+use Rattle.slot_rounds.specs.page_load.slot_picks.life_queue.Lives.{life_seen, outside}
 use Rattle.widget_meaning.specs.OwnState.{OwnState}
-use Rattle.slot_picks.specs.Places.{lent}
+use Rattle.slot_rounds.specs.page_load.slot_picks.Places.{lent}
 use Rattle.state_reach.specs.Differ.{AllDiffer}
 use Rattle.state_reach.specs.States.{cert_of_states, slot_of_state, state_slot}
 use Rattle.slot_reach.specs.Lasts.{life_read, names_before, reached, slot_read, state_at, state_in, states}
@@ -120,6 +120,6 @@ module _ (c : Crowd) (ss : List Slot) (law : Law c.shared) (own : OwnCrowd c) (s
   slots_stay = all_got KeepsIn (slot_read names c) ss slot_stays
 
 -- the certificate, by the names that were found
-pub reached_is : (c : Crowd) (ss : List Slot) (found : List (Option (List ℕ))) → found ≡ names_before ss (length c.places.items) → map (slot_read found c) ss ≡ reached c ss
+pub read_is : (c : Crowd) (ss : List Slot) (read : List cert.Slot) (found made : List (Option (List ℕ))) (count : ℕ) → read ≡ map (slot_read found c) ss → found ≡ made → made ≡ names_before ss count → count ≡ length c.places.items → read ≡ reached c ss
 unfolding reached
-reached_is c ss found e = ap (λ ns. map (slot_read ns c) ss) e
+read_is c ss read found made count is same named all = is ∙ ap (λ ns. map (slot_read ns c) ss) (same ∙ named ∙ ap (names_before ss) all)

@@ -1,18 +1,19 @@
 -- Own states of last lives, by what is seen of lives.
 use Rattle.std.proofs.Common.{◌≡◌, ℕ, zero, suc, ◌+◌, List, [], ◌∷◌, refl, sym, ap, ◌∙◌, arith, true, false, Option, Some, None, if◌then◌else◌, slice_get}
+use Rattle.std.specs.List.{zip}
 use Rattle.std.specs.Option.{option_and_then}
 use Rattle.store_cells.proofs.Lists.{none_some, some_same}
 use Rattle.life_laws.specs.Life.{Seen, image}
 use Rattle.slot_laws.specs.Chains.{last_life}
 use Rattle.slot_laws.specs.Settled.{flag}
-use Rattle.slot_picks.specs.declared.crowd.Crowd.{Crowd}
-use Rattle.slot_picks.specs.declared.crowd.Place.{Place}
-use Rattle.slot_picks.specs.declared.slots.Slot.{Slot}
-use Rattle.slot_picks.specs.life_queue.Lives.{life_seen}
-use Rattle.slot_picks.specs.turn_calls.declared.turn.Shared.{Shared}
-use Rattle.slot_picks.specs.Places.{is_accepted, lent, seen_at, seens_from}
+use Rattle.slot_rounds.specs.page_load.slot_picks.declared.crowd.Crowd.{Crowd}
+use Rattle.slot_rounds.specs.page_load.slot_picks.declared.crowd.Place.{Place}
+use Rattle.slot_rounds.specs.page_load.slot_picks.declared.slots.Slot.{Slot}
+use Rattle.slot_rounds.specs.page_load.slot_picks.life_queue.Lives.{life_seen}
+use Rattle.slot_rounds.specs.page_load.slot_picks.turn_calls.declared.turn.Shared.{Shared}
+use Rattle.slot_rounds.specs.page_load.slot_picks.Places.{is_accepted, lent, seen_at, seens_from}
 use Rattle.widget_meaning.specs.OwnState.{OwnState}
-use Rattle.slot_reach.specs.Lasts.{AreLast, IsLast, named_ends, state_at, states}
+use Rattle.slot_reach.specs.Lasts.{AreLast, IsLast, names_of, state_at, states}
 
 seen_of : (h : Shared) (w k : ℕ) (ps : List Place) (x : Seen) → slice_get (seens_from h w ps) k ≡ Some x → (p : Place) × (slice_get ps k ≡ Some p) × (seen_at h (w + k) p ≡ x)
 seen_of h w k [] x e = absurd (none_some e)
@@ -45,7 +46,7 @@ end_is c s (Some o) h =
     ∙ ap (λ b. if b then Some (image (life_seen (lent c.shared p) v p.life)) else None) accepted
     ∙ ap (λ x. Some (image x)) same ∙ ap Some h.1.2
 
-pub ends_are : (c : Crowd) (ss : List Slot) (ends : List (Option OwnState)) → AreLast c ss ends → states c ss ≡ named_ends ss ends
+pub ends_are : (c : Crowd) (ss : List Slot) (ends : List (Option OwnState)) → AreLast c ss ends → states c ss ≡ zip (names_of ss) ends
 unfolding states
 ends_are c [] [] h = refl
 ends_are c [] (e ∷ es) h = absurd h

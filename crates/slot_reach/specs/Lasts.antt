@@ -1,16 +1,19 @@
 -- The certificate of all slots, each by its last life.
-use Rattle.std.specs.Prelude.{◌≡◌, ℕ, zero, suc, ◌++◌, true, false, List, [], ◌∷◌, Option, None, Some, if◌then◌else◌, length, map, nat_eq, slice_get}
+use Rattle.std.specs.Prelude.{◌≡◌, ◌≤◌, ℕ, zero, suc, ◌++◌, true, false, List, [], ◌∷◌, Option, None, Some, if◌then◌else◌, length, map, nat_eq, slice_get}
+use Rattle.std.specs.List.{IsDistinct, list_all}
 use Rattle.std.specs.Option.{option_and_then, option_map_or}
+use Rattle.std.specs.Str.{bytes_eq}
 use Rattle.slot_laws.specs.Chains.{last_life}
-use Rattle.slot_picks.specs.declared.crowd.Crowd.{Crowd}
-use Rattle.slot_picks.specs.declared.crowd.Place.{Place}
-use Rattle.slot_picks.specs.declared.slots.Slot.{Slot}
+use Rattle.slot_rounds.specs.page_load.slot_picks.declared.crowd.Crowd.{Crowd}
+use Rattle.slot_rounds.specs.page_load.slot_picks.declared.crowd.Place.{Place}
+use Rattle.slot_rounds.specs.page_load.slot_picks.declared.slots.Slot.{Slot}
 use Rattle.life_laws.specs.Life.{Seen, image}
-use Rattle.slot_picks.specs.life_queue.Lives.{life_seen}
-use Rattle.slot_picks.specs.Places.{is_accepted, lent}
-use Rattle.slot_picks.specs.Crowds.{seens_of}
-use Rattle.slot_picks.specs.turn_calls.declared.turn.Shared.{Shared}
+use Rattle.slot_rounds.specs.page_load.slot_picks.life_queue.Lives.{life_seen}
+use Rattle.slot_rounds.specs.page_load.slot_picks.Places.{is_accepted, lent}
+use Rattle.slot_rounds.specs.page_load.slot_picks.Crowds.{seens_of}
+use Rattle.slot_rounds.specs.page_load.slot_picks.turn_calls.declared.turn.Shared.{Shared}
 use Rattle.reach_cert.specs.Certs as cert
+use Rattle.reach_cert.specs.Shape.{is_name}
 use Rattle.widget_meaning.specs.OwnState.{OwnState}
 use Rattle.store_reach.specs.Reads.{read_slot}
 
@@ -36,6 +39,20 @@ slot_read names c s = option_map_or (life_read names c.shared s.name (last_life 
 unfoldable pub reached : Crowd → List Slot → List cert.Slot
 reached c ss = map (slot_read (names_before ss (length c.places.items)) c) ss
 
+-- ## Names and numbers of slots
+
+-- the names of slots
+abbrev pub names_of : List Slot → List (List ℕ)
+names_of ss = map (λ (s : Slot). s.name) ss
+
+-- they are names of slots, and no two are one
+abbrev pub AreNames : List (List ℕ) → Type 0
+AreNames names = (list_all is_name names ≡ true) × IsDistinct bytes_eq names
+
+-- there are at most 16 slots, and places for at most 32 lives
+abbrev pub AreFew : Crowd → List Slot → Type 0
+AreFew c ss = (length c.places.items ≤ 32) × (length ss ≤ 16)
+
 -- ## Own states
 
 -- the own state that is seen of a life, none where its file was refused
@@ -60,8 +77,3 @@ abbrev pub AreLast : Crowd → List Slot → List (Option OwnState) → Type 0
 AreLast c [] [] = Unit {0}
 AreLast c (s ∷ ss) (e ∷ es) = IsLast c s e × AreLast c ss es
 AreLast c _ _ = ⊥
-
--- each slot's name with one of these
-abbrev pub named_ends : List Slot → List (Option OwnState) → List (List ℕ × Option OwnState)
-named_ends (s ∷ ss) (e ∷ es) = (s.name, e) ∷ named_ends ss es
-named_ends _ _ = []

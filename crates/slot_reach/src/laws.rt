@@ -1,12 +1,13 @@
 //! Own states of last lives.
 ghost use Rattle.std.specs.Prelude.{◌≡◌, List, Option};
-ghost use Rattle.slot_picks.specs.declared.crowd.Crowd.{Crowd};
-ghost use Rattle.slot_picks.specs.declared.slots.Slot.{Slot};
-ghost use Rattle.slot_reach.specs.Lasts.{AreLast, named_ends, states};
+ghost use Rattle.std.specs.List.{zip};
+ghost use Rattle.slot_rounds.specs.page_load.slot_picks.declared.crowd.Crowd.{Crowd};
+ghost use Rattle.slot_rounds.specs.page_load.slot_picks.declared.slots.Slot.{Slot};
+ghost use Rattle.slot_reach.specs.Lasts.{AreLast, names_of, states};
 ghost use Rattle.widget_meaning.specs.OwnState.{OwnState};
 
 /// A law: where the last lives of slots show these own states, they are what a certificate is told by, each under its
 /// slot's name.
 pub fn lasts_are_told()
-    ensures { (c : Crowd) (ss : List Slot) (ends : List (Option OwnState)) → AreLast c ss ends → states c ss ≡ named_ends ss ends }
+    ensures { (c : Crowd) (ss : List Slot) (ends : List (Option OwnState)) → AreLast c ss ends → states c ss ≡ zip (names_of ss) ends }
 {}

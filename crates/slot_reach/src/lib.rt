@@ -1,9 +1,13 @@
 //! The certificate of reach of all slots, each by its last life.
 #![tactic(auto)]
 
+mod few;
 mod laws;
 mod names;
 mod slots;
 
 pub use laws::lasts_are_told;
 pub use slots::reach;
+
+// Handed on to the crates above, which name it so.
+pub use slot_rounds;

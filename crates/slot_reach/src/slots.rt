@@ -1,16 +1,18 @@
 //! The blocks of all slots.
-ghost use Rattle.std.specs.Prelude.{◌≡◌, IfOk, length, map};
-ghost use Rattle.reach_cert.specs.Certs.{plain, slot_of};
+ghost use Rattle.std.specs.Prelude.{◌≡◌, ◌<◌, IfOk, length, map};
+ghost use Rattle.reach_cert.specs.Certs.{cert_lines, plain, slot_of};
+ghost use Rattle.reach_cert.specs.Shape.{IsCert, slot_name};
 ghost use Rattle.reach_cert.specs.Walks.{IsConfined};
-ghost use Rattle.slot_picks.specs.Crowds.{AreStanding, OwnCrowd};
-ghost use Rattle.slot_reach.specs.Lasts.{life_read, reached, slot_read, states};
+ghost use Rattle.slot_rounds.specs.page_load.slot_picks.Crowds.{AreStanding, OwnCrowd};
+ghost use Rattle.slot_reach.specs.Lasts.{AreFew, AreNames, life_read, names_of, reached, slot_read, states};
 ghost use Rattle.state_reach.specs.States.{cert_of_states};
 
+use crate::few::cells_are_few;
 use crate::names::{last_of, name_all};
 use code_units::{Memory, Text};
-use reach_cert::{Block, Cert, each_slot_keeps_in};
-use slot_picks::turn_calls::Shared;
-use slot_picks::{Crowd, Place, Slot};
+use reach_cert::{Block, Cert, confined_has_shape, each_slot_keeps_in};
+use slot_rounds::page_load::slot_picks::turn_calls::Shared;
+use slot_rounds::page_load::slot_picks::{Crowd, Place, Slot};
 use state_reach::{names_all_differ, states_are_read};
 use std::alloc::Global;
 use store_reach::{own_stays, read_block};
@@ -84,16 +86,22 @@ fn count(crowd: &Crowd) -> Result<u32, Memory>
 
 /// The certificate of reach of all slots, read off the store, the page and what lives hold beside them: each slot
 /// with its last life. Each reference is told by the cell to which it leads, whoever that belongs to. Where each life
-/// holds its own, this is the certificate of the own states of these lives, and it is confined.
+/// holds its own, this is the certificate of the own states of these lives, and it is confined. Of at most 16 slots it has
+/// few lines; and it is of the stated shape where the slots have names of slots, so that its text is read as it.
 pub fn reach(alloc: Global, crowd: &Crowd, slots: &[Slot]) -> Result<Cert, Memory>
     ensures read { IfOk result (λ cert. plain cert ≡ reached crowd.now slots.now) }
     ensures states { IfOk result (λ cert. OwnCrowd crowd.now → AreStanding crowd.now slots.now → plain cert ≡ cert_of_states (states crowd.now slots.now)) }
     ensures confined { IfOk result (λ cert. OwnCrowd crowd.now → AreStanding crowd.now slots.now → IsConfined (plain cert)) }
+    ensures names { IfOk result (λ cert. map slot_name (plain cert) ≡ names_of slots.now) }
+    ensures few { IfOk result (λ cert. AreStanding crowd.now slots.now → AreFew crowd.now slots.now → length (cert_lines (plain cert)) < 4294967295) }
+    ensures shape { IfOk result (λ cert. OwnCrowd crowd.now → AreStanding crowd.now slots.now → AreFew crowd.now slots.now → AreNames (names_of slots.now) → IsCert (plain cert)) }
 {
     names_all_differ(&crowd.shared.store)?;
     states_are_read(&crowd.shared.store);
     own_stays(&crowd.shared.store);
+    cells_are_few(&crowd.shared.store);
     each_slot_keeps_in();
+    confined_has_shape();
     let names = name_all(alloc, slots, count(crowd)?)?;
     let blocks = read_slots(alloc, crowd, &names, slots)?;
     Ok(Cert { blocks })
