@@ -1,14 +1,10 @@
 -- Lives that are as they were but for their queues and for how many of their posts were taken.
 use Rattle.std.proofs.Common.{◌≡◌, ℕ, zero, suc, ◌+◌, Bool, true, false, List, [], ◌∷◌, map, refl, sym, ap, ◌∙◌, subst, Some}
 use Rattle.std.specs.Prelude.{slice_get}
-use Rattle.slot_rounds.specs.page_load.turn_calls.declared.turn.Shared.{Shared}
-use Rattle.slot_rounds.specs.page_load.slot_picks.declared.crowd.Place.{Place}
-use Rattle.slot_rounds.specs.page_load.slot_picks.Places.{OwnPlace, OwnPlaces, accepts_of, codes_of, homes_of, lent, roots_of, seen_at, seens_from}
-use Rattle.slot_rounds.specs.page_load.life_queue.Lives.{life_seen}
-use Rattle.life_laws.specs.Life.{image}
-use Rattle.slot_laws.specs.Settled.{flag}
-use Rattle.slot_rounds.specs.Posting.{AreAlike, IsAlike}
-use Rattle.slot_rounds.proofs.Seen.{seen_accepted}
+use Rattle.slot_reach.specs.slot_rounds.page_load.turn_calls.declared.turn.Shared.{Shared}
+use Rattle.slot_reach.specs.slot_rounds.page_load.slot_picks.declared.crowd.Place.{Place}
+use Rattle.slot_reach.specs.slot_rounds.page_load.slot_picks.Places.{OwnPlace, OwnPlaces, accepts_of, codes_of, homes_of, roots_of}
+use Rattle.slot_reach.specs.slot_rounds.Posting.{AreAlike, IsAlike}
 use Rattle.widget_host.specs.Feeding.{AreSame, IsSame}
 
 is_alike : (l m : Place) → IsSame l m → IsAlike l m
@@ -57,22 +53,3 @@ was_at [] (n ∷ ms) a v m at = absurd a
 was_at (l ∷ ls) [] a v m at = absurd a
 was_at (l ∷ ls) (n ∷ ms) a zero m at = let same : n ≡ m = cc in (l, refl, subst (IsAlike l) same a.0)
 was_at (l ∷ ls) (n ∷ ms) a (suc v) m at = was_at ls ms a.1 v m at
-
-seen_refused : (h : Shared) (v : ℕ) (l : Place) → l.life.accepted ≡ false → seen_at h v l ≡ flag false
-seen_refused h v l is = rw is refl
-
--- what was done is not in these
-image_alike : (h : Shared) (v : ℕ) (l m : Place) → IsAlike l m → image (seen_at h v m) ≡ image (seen_at h v l)
-image_alike h v l m alike = by l.life.accepted refl
-  where
-    by : (b : Bool) → l.life.accepted ≡ b → image (seen_at h v m) ≡ image (seen_at h v l)
-    by true is =
-        ap image (seen_accepted h v m (ap (λ (p : Place). p.life.accepted) alike ∙ is))
-        ∙ (ap (λ (p : Place). image (life_seen (lent h p) v p.life)) alike ∙ sym (ap image (seen_accepted h v l is)))
-    by false is = ap image (seen_refused h v m (ap (λ (p : Place). p.life.accepted) alike ∙ is)) ∙ sym (ap image (seen_refused h v l is))
-
-pub images_alike : (h : Shared) (v : ℕ) (ls ms : List Place) → AreAlike ls ms → map image (seens_from h v ms) ≡ map image (seens_from h v ls)
-images_alike h v [] [] a = refl
-images_alike h v [] (m ∷ ms) a = absurd a
-images_alike h v (l ∷ ls) [] a = absurd a
-images_alike h v (l ∷ ls) (m ∷ ms) a = ap (λ o. o ∷ map image (seens_from h (v + 1) ms)) (image_alike h v l m a.0) ∙ ap (λ os. image (seen_at h v l) ∷ os) (images_alike h (v + 1) ls ms a.1)

@@ -1,6 +1,8 @@
 -- A host in which a life was born.
 use Rattle.std.proofs.Common.{◌≡◌, ◌≢◌, ◌≤◌, ℕ, ◌+◌, ◌<◌, ◌++◌, List, [], ◌∷◌, map, length, Bool, true, false, refl, sym, ap, ◌∙◌, subst, arith, Option, Some, None, if◌then◌else◌, inr, ⊎_elim}
 use Rattle.std.specs.Prelude.{Err, Ok, OnErr, OnOk, Result, slice_get, slice_set, slice_index_or}
+use Rattle.std.specs.List.{IsDistinct}
+use Rattle.std.specs.Str.{bytes_eq}
 use Rattle.std.specs.declared.alloc.Global.{Global}
 use Rattle.std.specs.declared.vec.Vec.{Vec}
 use Rattle.std.proofs.lemmas.List.{length-append, length-map}
@@ -21,24 +23,25 @@ use Rattle.page_image.specs.Image.{root_of}
 use Rattle.page_build.specs.Layout.{IsLot, lot_of}
 use Rattle.page_build.specs.Standing.{IsLaidBy}
 use Rattle.page_build.proofs.Stands.{laid_older}
-use Rattle.slot_rounds.specs.page_load.slot_picks.declared.crowd.Crowd.{Crowd}
-use Rattle.slot_rounds.specs.page_load.slot_picks.declared.crowd.Place.{Place}
-use Rattle.slot_rounds.specs.page_load.slot_picks.declared.slots.Slot.{Slot}
-use Rattle.slot_rounds.specs.page_load.slot_picks.Crowds.{AreHoused, AreStanding, FewCrowd, chains_of, present_of, seens_of, spots_of}
-use Rattle.slot_rounds.specs.page_load.slot_picks.Places.{FewPlaces, accepts_of, codes_of, homes_of, is_accepted, lent, roots_of, seen_at, told_of}
-use Rattle.slot_rounds.specs.page_load.turn_calls.declared.turn.Shared.{Shared}
-use Rattle.slot_rounds.specs.page_load.life_queue.Lives.{life_seen}
-use Rattle.slot_rounds.specs.page_load.Contents.{HasScriptsIn, content_in}
-use Rattle.slot_rounds.specs.page_load.Joining.{Comes, HasSeat, IsFree, KeepsRest, PageJoins, came, none_came}
-use Rattle.slot_rounds.specs.page_load.Loads.{HasNothing, IsFirstLife}
+use Rattle.slot_reach.specs.slot_rounds.Feeding.{sum_of}
+use Rattle.slot_reach.specs.slot_rounds.page_load.slot_picks.declared.crowd.Crowd.{Crowd}
+use Rattle.slot_reach.specs.slot_rounds.page_load.slot_picks.declared.crowd.Place.{Place}
+use Rattle.slot_reach.specs.slot_rounds.page_load.slot_picks.declared.slots.Slot.{Slot}
+use Rattle.slot_reach.specs.slot_rounds.page_load.slot_picks.Crowds.{AreHoused, AreStanding, FewCrowd, chains_of, present_of, seens_of, spots_of}
+use Rattle.slot_reach.specs.slot_rounds.page_load.slot_picks.Places.{FewPlaces, accepts_of, codes_of, homes_of, is_accepted, lent, roots_of, seen_at, told_of}
+use Rattle.slot_reach.specs.slot_rounds.page_load.turn_calls.declared.turn.Shared.{Shared}
+use Rattle.slot_reach.specs.slot_rounds.page_load.life_queue.Lives.{life_seen}
+use Rattle.slot_reach.specs.slot_rounds.page_load.Contents.{HasScriptsIn, content_in}
+use Rattle.slot_reach.specs.slot_rounds.page_load.Joining.{Comes, HasSeat, IsFree, KeepsRest, PageJoins, came, none_came}
+use Rattle.slot_reach.specs.slot_rounds.page_load.Loads.{HasNothing, IsFirstLife}
 use Rattle.page_build.proofs.Coming.{same_joins}
 use Rattle.page_tree.specs.declared.page.Page.{Page}
 use Rattle.page_spec.specs.declared.SlotContent.{SlotContent}
 use Rattle.page_spec.specs.Pages.{PagePiece}
 use Rattle.widget_host.specs.declared.host.Host.{Host}
-use Rattle.widget_host.specs.Housed.{BearsLife, IsApart, IsLaid, IsWhole, KeepsOthers, LoadsLife, accepts, chains, channels, ends, fuels, homes, journal, libraries, most_after, names, newborn, scripts, seens, shared, spots, sum_of, swaps, told}
+use Rattle.widget_host.specs.Housed.{BearsLife, IsApart, IsLaid, IsWhole, KeepsOthers, LoadsLife, accepts, chains, channels, ends, fuels, homes, journal, libraries, most_after, names, newborn, scripts, seens, shared, spots, swaps, told}
 use Rattle.widget_host.proofs.Born.{IsSeated, chains_else, joined_listed, joined_present, same_or, spots_now, standing_born, standing_still}
-use Rattle.widget_host.proofs.Sets.{get_else, get_here, index_else, index_here, map_set, none_some, set_long, set_same, some_is, within}
+use Rattle.widget_host.proofs.Sets.{get_here, index_else, index_here, map_set, none_some, set_long, set_same, some_is, within}
 use Rattle.widget_host.proofs.Firsts.{seens_long}
 use Rattle.widget_host.proofs.Lasts.{last_of_slot}
 use Rattle.widget_host.proofs.Shown.{accepts_at}
@@ -76,12 +79,13 @@ module _ (old new : Host) (apart : IsApart old) (whole : IsWhole old) (keeps : K
   was_none u none = ⊎_elim (λ e. ap (is_accepted old.crowd.places.items) e ∙ free_flag) (λ ne. sym (flag_else u ne) ∙ none) (same_or u v)
 
   pub apart_born : AreStanding new.crowd new.slots.items → IsApart new
-  unfolding accepts
+  unfolding accepts names
   apart_born standing = record {
     twenty = ap length keeps.places ∙ set_long old.crowd.places.items v keeps.place ∙ apart.twenty;
     own = keeps.holds apart.own;
     others = λ u none. keeps.nothing u none (apart.others u (was_none u none));
     standing = standing;
+    distinct = subst (IsDistinct bytes_eq) (sym names_same) apart.distinct;
   }
 
   spots_here : spots_of new.crowd new.slots.items ≡ spots_of old.crowd old.slots.items
@@ -98,13 +102,15 @@ module _ (old new : Host) (apart : IsApart old) (whole : IsWhole old) (keeps : K
   )
 
   pub others_kept : KeepsOthers old new
-  unfolding accepts scripts channels names fuels libraries spots shared
+  unfolding accepts scripts channels names fuels journal libraries seens spots shared
   others_kept = record {
     plan = record { channels = ap (λ c. c.items) pairs; libraries = ap (λ (c : Vec Code Global). map tree_in c.items) libs; names = names_same; fuels = fuels_same };
+    seens = keeps.seens;
     accepts = λ u ne. flag_else u ne;
     scripts = λ u ne.
         ap (λ cs. scripts_by u cs) (ap codes_of keeps.places ∙ map_set (λ (p : Place). p.codes) old.crowd.places.items v keeps.place)
         ∙ scripts_else (codes_of old.crowd.places.items) u keeps.place.codes ne;
+    journal = ap (λ j. j.items) keeps.journal;
     spots = spots_here;
     page = keeps.page;
     laid = laid_here;
@@ -224,7 +230,7 @@ module _ (old new : Host) (to : ℕ) (content : SlotContent) (slot : Slot) (is_s
   fuel_is = get_or_from_slice_get (map (λ (s : Slot). s.fuel) old.slots.items) to slot.fuel 0 (slice_get-map (λ (s : Slot). s.fuel) old.slots.items to ∙ ap (option_map (λ (s : Slot). s.fuel)) is_slot)
 
   pub life_born : BearsLife to content old new
-  unfolding chains ends fuels homes journal libraries scripts seens told
+  unfolding chains ends fuels homes libraries scripts told
   life_born = record {
     ends = ends_are;
     chains = joined;
@@ -232,8 +238,6 @@ module _ (old new : Host) (to : ℕ) (content : SlotContent) (slot : Slot) (is_s
     life = subst (λ fuel. LoadsLife new n fuel (content_in (map tree_in old.libs.items) content)) (sym fuel_is) (loads_of slot.fuel (content_in (map tree_in old.libs.items) content) c.life);
     scripts = subst (HasScriptsIn (map tree_in old.libs.items) content) (sym (ap (λ ps. scripts_by n (codes_of ps)) c.places ∙ scripts_at (slice_set old.crowd.places.items n c.place) n c.place (get_here old.crowd.places.items n c.place here))) c.scripts;
     told = told_now;
-    seens = λ u ne. ap (λ ss. slice_get ss u) c.seens ∙ get_else (seens_of old.crowd) n u (seen_at new.crowd.shared n c.place) ne;
-    journal = ap (λ j. j.items) keeps.journal;
   }
 
 -- ## The calls
@@ -358,12 +362,12 @@ module _ (old mid : Host) (n : ℕ) (m : Bool) where
   after = record mid { given = n; marked = m }
 
   pub apart_with : IsApart mid → IsApart after
-  unfolding accepts
-  apart_with a = record { twenty = a.twenty; own = a.own; others = a.others; standing = a.standing }
+  unfolding accepts names
+  apart_with a = record { twenty = a.twenty; own = a.own; others = a.others; standing = a.standing; distinct = a.distinct }
 
   pub others_with : KeepsOthers old mid → KeepsOthers old after
-  unfolding accepts channels fuels libraries names scripts shared spots IsLaid
-  others_with k = record { plan = record { channels = k.plan.channels; libraries = k.plan.libraries; names = k.plan.names; fuels = k.plan.fuels }; accepts = k.accepts; scripts = k.scripts; spots = k.spots; page = k.page; laid = k.laid }
+  unfolding accepts channels fuels journal libraries names scripts seens shared spots IsLaid
+  others_with k = record { plan = record { channels = k.plan.channels; libraries = k.plan.libraries; names = k.plan.names; fuels = k.plan.fuels }; seens = k.seens; accepts = k.accepts; scripts = k.scripts; journal = k.journal; spots = k.spots; page = k.page; laid = k.laid }
 
   loads_with : (fuel : ℕ) (o : Option Content) → LoadsLife mid (newborn old) fuel o → LoadsLife after (newborn old) fuel o
   unfolding accepts seens
@@ -371,8 +375,8 @@ module _ (old mid : Host) (n : ℕ) (m : Bool) where
   loads_with fuel (Some c) l = l
 
   pub life_with : (to : ℕ) (content : SlotContent) → BearsLife to content old mid → BearsLife to content old after
-  unfolding accepts chains ends homes journal scripts seens told
-  life_with to content b = record { ends = b.ends; chains = b.chains; homes = b.homes; life = loads_with (slice_index_or (fuels old) to 0) (content_in (libraries old) content) b.life; scripts = b.scripts; told = b.told; seens = b.seens; journal = b.journal }
+  unfolding accepts chains ends homes scripts told
+  life_with to content b = record { ends = b.ends; chains = b.chains; homes = b.homes; life = loads_with (slice_index_or (fuels old) to 0) (content_in (libraries old) content) b.life; scripts = b.scripts; told = b.told }
 
 pub whole_counted : (h : Host) (m : Bool) → IsWhole h → h.given < 4096 → IsWhole (record h { given = h.given + 1; marked = m })
 unfolding accepts ends fuels told
@@ -406,4 +410,4 @@ joins_here v p = record {
 -- a host keeps what it has
 pub others_here : (h : Host) → KeepsOthers h h
 unfolding shared
-others_here h = record { plan = plan_here h; accepts = λ v ne. refl; scripts = λ v ne. refl; spots = refl; page = joins_here (newborn h) (shared h).page; laid = λ xs pieces laid. laid }
+others_here h = record { plan = plan_here h; seens = λ v ne. refl; accepts = λ v ne. refl; scripts = λ v ne. refl; journal = refl; spots = refl; page = joins_here (newborn h) (shared h).page; laid = λ xs pieces laid. laid }

@@ -1,6 +1,8 @@
 -- The first lives of a page are housed.
 use Rattle.std.proofs.Common.{◌≡◌, ℕ, zero, suc, ◌+◌, ◌<◌, ◌≤◌, List, [], ◌∷◌, Bool, true, false, refl, sym, ap, ◌∙◌, subst, length, map, Option, None, Some, arith, if◌then◌else◌, eqb, eq-eqb, leb, leb-true, leb-false}
 use Rattle.std.specs.Prelude.{slice_get, slice_index_or, ◌^◌}
+use Rattle.std.specs.List.{IsDistinct}
+use Rattle.std.specs.Str.{bytes_eq}
 use Rattle.std.specs.Option.{option_map}
 use Rattle.std.proofs.lemmas.Option.{get_or_from_slice_get, slice_get-map}
 use Rattle.std.proofs.lemmas.List.{length-map}
@@ -10,13 +12,13 @@ use Rattle.life_laws.specs.Life.{Seen, due, image, ready}
 use Rattle.pick_laws.specs.Journal.{AllJoined}
 use Rattle.slot_laws.specs.Chains.{Chains, Rest, Unspent, listed}
 use Rattle.slot_laws.specs.Settled.{flag}
-use Rattle.slot_rounds.specs.page_load.turn_calls.declared.turn.Shared.{Shared}
-use Rattle.slot_rounds.specs.page_load.slot_picks.declared.crowd.Place.{Place}
-use Rattle.slot_rounds.specs.page_load.life_queue.Lives.{life_seen}
-use Rattle.slot_rounds.specs.page_load.slot_picks.Places.{FewPlace, FewPlaces, FinePlace, FinePlaces, OwnPlaces, accepts_of, codes_of, homes_of, lent, roots_of, seen_at, seens_from, told_of}
-use Rattle.slot_rounds.specs.page_load.slot_picks.declared.slots.Slot.{Slot}
-use Rattle.slot_rounds.specs.page_load.slot_picks.declared.crowd.Crowd.{Crowd}
-use Rattle.slot_rounds.specs.page_load.slot_picks.Crowds.{AreHoused, AreStanding, FewCrowd, OwnCrowd, chains_of, seens_of, spots_of}
+use Rattle.slot_reach.specs.slot_rounds.page_load.turn_calls.declared.turn.Shared.{Shared}
+use Rattle.slot_reach.specs.slot_rounds.page_load.slot_picks.declared.crowd.Place.{Place}
+use Rattle.slot_reach.specs.slot_rounds.page_load.life_queue.Lives.{life_seen}
+use Rattle.slot_reach.specs.slot_rounds.page_load.slot_picks.Places.{FewPlace, FewPlaces, FinePlace, FinePlaces, OwnPlaces, accepts_of, codes_of, homes_of, lent, roots_of, seen_at, seens_from, told_of}
+use Rattle.slot_reach.specs.slot_rounds.page_load.slot_picks.declared.slots.Slot.{Slot}
+use Rattle.slot_reach.specs.slot_rounds.page_load.slot_picks.declared.crowd.Crowd.{Crowd}
+use Rattle.slot_reach.specs.slot_rounds.page_load.slot_picks.Crowds.{AreHoused, AreStanding, FewCrowd, OwnCrowd, chains_of, seens_of, spots_of}
 use Rattle.page_build.specs.Homes.{HaveRaws}
 use Rattle.page_build.specs.Standing.{HavePlaces, IsLaidBy}
 use Rattle.page_tree.specs.page_nodes.Entries.{body}
@@ -24,11 +26,13 @@ use Rattle.js_names.specs.Code.{tree_in}
 use Rattle.page_spec.specs.declared.PageSpec.{PageSpec}
 use Rattle.page_spec.specs.declared.SlotSpec.{SlotSpec}
 use Rattle.page_spec.specs.Contents.{content_of}
+use Rattle.page_spec.specs.Loadable.{names_of}
 use Rattle.page_spec.specs.Pages.{piece_of}
-use Rattle.slot_rounds.specs.page_load.declared.loading.Loaded.{Loaded}
-use Rattle.slot_rounds.specs.page_load.Loads.{Begins, HasNothing, HasScripts, IsFirstLife, LoadsPage, singles}
+use Rattle.slot_reach.specs.slot_rounds.Feeding.{sum_of}
+use Rattle.slot_reach.specs.slot_rounds.page_load.declared.loading.Loaded.{Loaded}
+use Rattle.slot_reach.specs.slot_rounds.page_load.Loads.{Begins, HasNothing, HasScripts, IsFirstLife, LoadsPage, singles}
 use Rattle.widget_host.specs.declared.host.Host.{Host}
-use Rattle.widget_host.specs.Housed.{IsApart, IsHoused, IsLaid, Loads, LoadsLife, accepts, chains, channels, ends, fuels, given, homes, journal, libraries, marked, most_after, names, scripts, seens, spots, sum_of, swaps, told}
+use Rattle.widget_host.specs.Housed.{IsApart, IsHoused, IsLaid, Loads, LoadsLife, accepts, chains, channels, ends, fuels, given, homes, journal, libraries, marked, most_after, names, scripts, seens, spots, swaps, told}
 use Rattle.widget_host.proofs.Reading.{scripts_at}
 use Rattle.widget_host.proofs.Staying.{scripts_by}
 
@@ -247,7 +251,7 @@ module _ (spec : PageSpec) (l : Loaded) (loads : LoadsPage spec l) where
 
 -- ## The host of a page
 
-module _ (spec : PageSpec) (l : Loaded) (loads : LoadsPage spec l) (host : Host) (crowd_is : host.crowd ≡ l.crowd) (slots_are : host.slots ≡ l.slots) (libs_are : host.libs ≡ l.libs) (pairs : host.channels ≡ l.channels) (fresh : host.ends.items ≡ []) (none_given : host.given ≡ 0) (is_unmarked : host.marked ≡ false) where
+module _ (spec : PageSpec) (l : Loaded) (loads : LoadsPage spec l) (host : Host) (crowd_is : host.crowd ≡ l.crowd) (slots_are : host.slots ≡ l.slots) (libs_are : host.libs ≡ l.libs) (pairs : host.channels ≡ l.channels) (fresh : host.ends.items ≡ []) (apart_names : IsDistinct bytes_eq (names_of spec)) (none_given : host.given ≡ 0) (is_unmarked : host.marked ≡ false) where
   are : chains_of host.slots.items ≡ singles 0 (length spec.slots.items)
   are = ap (λ s. chains_of s.items) slots_are ∙ loads.chains
 
@@ -266,6 +270,10 @@ module _ (spec : PageSpec) (l : Loaded) (loads : LoadsPage spec l) (host : Host)
     rest = rest_all spec l loads (chains_of l.slots.items) loads.chains;
   }
 
+  distinct_here : IsDistinct bytes_eq (names host)
+  unfolding names
+  distinct_here = subst (IsDistinct bytes_eq) (sym (ap (λ s. map (λ (x : Slot). x.name) s.items) slots_are ∙ loads.names)) apart_names
+
   apart : IsApart host
   unfolding accepts
   apart = record {
@@ -274,6 +282,7 @@ module _ (spec : PageSpec) (l : Loaded) (loads : LoadsPage spec l) (host : Host)
     others = λ v none. subst (λ (c : Crowd). HasNothing v c.shared.store c.shared.page) (sym crowd_is)
         (loads.others v (λ a at. sym (accepts_at spec l loads v a at) ∙ (ap (λ (c : Crowd). slice_index_or (accepts_of c.places.items) v false) (sym crowd_is) ∙ none)));
     standing = subst (λ (c : Crowd). AreStanding c host.slots.items) (sym crowd_is) (subst (λ s. AreStanding l.crowd s.items) (sym slots_are) loads.standing);
+    distinct = distinct_here;
   }
 
   told_none : sum_of (told_of host.crowd.places.items) ≡ 0
@@ -329,6 +338,7 @@ module _ (spec : PageSpec) (l : Loaded) (loads : LoadsPage spec l) (host : Host)
         subst (HasScripts spec.libs.items s.content) (sym (ap (λ (c : Crowd). scripts_by w (codes_of c.places.items)) crowd_is ∙ scripts_at l.crowd.places.items w r.0 r.1)) (loads.scripts w s r.0 at r.1);
     channels = ap (λ c. c.items) pairs ∙ loads.channels;
     libraries = ap (λ c. map tree_in c.items) libs_are ∙ loads.libs;
+    apart = distinct_here;
     names = ap (λ s. map (λ (x : Slot). x.name) s.items) slots_are ∙ loads.names;
     fuels = ap (λ s. map (λ (x : Slot). x.fuel) s.items) slots_are ∙ loads.fuels;
     told = λ v n at. untold spec l loads v n (ap (λ (c : Crowd). slice_get (told_of c.places.items) v) (sym crowd_is) ∙ at);

@@ -9,19 +9,20 @@ use Rattle.pick_laws.specs.Journal.{AllJoined}
 use Rattle.pick_laws.proofs.Given.{joined_given}
 use Rattle.slot_laws.specs.Chains.{Chains, Rest, Unspent}
 use Rattle.slot_laws.proofs.Housing.{unspent_given}
-use Rattle.slot_rounds.specs.page_load.turn_calls.declared.turn.Shared.{Shared}
-use Rattle.slot_rounds.specs.page_load.slot_picks.declared.crowd.Place.{Place}
-use Rattle.slot_rounds.specs.page_load.life_queue.Lives as lives
-use Rattle.slot_rounds.specs.page_load.life_queue.Fine.{FineWork}
+use Rattle.slot_reach.specs.slot_rounds.page_load.turn_calls.declared.turn.Shared.{Shared}
+use Rattle.slot_reach.specs.slot_rounds.page_load.slot_picks.declared.crowd.Place.{Place}
+use Rattle.slot_reach.specs.slot_rounds.page_load.life_queue.Lives as lives
+use Rattle.slot_reach.specs.slot_rounds.page_load.life_queue.Fine.{FineWork}
 use Rattle.page_build.specs.Homes.{HaveRaws}
 use Rattle.page_tree.specs.page_nodes.Entries.{body}
-use Rattle.slot_rounds.specs.page_load.slot_picks.Places.{FewPlaces, FinePlaces, homes_of, seens_from, told_of}
-use Rattle.slot_rounds.specs.page_load.slot_picks.declared.slots.Slot.{Slot}
-use Rattle.slot_rounds.specs.page_load.slot_picks.Crowds.{FewCrowd, FineCrowd, KeepsSlots, chains_of, seens_of}
+use Rattle.slot_reach.specs.slot_rounds.page_load.slot_picks.Places.{FewPlaces, FinePlaces, homes_of, seens_from, told_of}
+use Rattle.slot_reach.specs.slot_rounds.page_load.slot_picks.declared.slots.Slot.{Slot}
+use Rattle.slot_reach.specs.slot_rounds.page_load.slot_picks.Crowds.{FewCrowd, FineCrowd, KeepsSlots, chains_of, seens_of}
+use Rattle.slot_reach.specs.slot_rounds.Feeding.{sum_of}
 use Rattle.widget_host.specs.declared.host.Host.{Host}
 use Rattle.widget_host.specs.declared.items.HostItem.{HostItem}
 use Rattle.widget_host.specs.declared.items.HostItem.TheVariants as host
-use Rattle.widget_host.specs.Housed.{GivesItem, IsItem, IsWhole, accepts, chains, ends, fuels, given, is_for, item_of, journal, most_after, reaches, seens, shared, sum_of, swaps, told}
+use Rattle.widget_host.specs.Housed.{GivesItem, IsItem, IsWhole, accepts, chains, ends, fuels, given, is_for, item_of, journal, most_after, reaches, seens, shared, swaps, told}
 use Rattle.widget_host.specs.Feeding.{AreFed, AreSame, work_of}
 use Rattle.widget_host.proofs.Lasts.{not_for}
 use Rattle.widget_host.proofs.Fed.{counts_fed, dues_fed, images_fed, length_fed, other_fed, places_fed, told_same}

@@ -9,6 +9,7 @@ mod Bearing
 mod Alike
 mod Same
 mod Rounding
+mod Lived
 mod Ways
 mod Passed
 mod Whole
@@ -18,3 +19,4 @@ mod Counting
 mod Raws
 mod Reading
 pub mod Programs
+pub mod Reached

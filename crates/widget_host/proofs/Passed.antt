@@ -1,15 +1,14 @@
 -- The picks of a settle, as a host has them.
-use Rattle.std.proofs.Common.{◌≡◌, ℕ, Bool, true, refl, sym, ap, ◌∙◌, subst, arith}
-use Rattle.std.specs.Prelude.{Err, Ok, OnOk, Result, is_ok}
+use Rattle.std.proofs.Common.{◌≡◌, ℕ, Bool, false, true, [], refl, sym, ap, ◌∙◌, subst, arith}
+use Rattle.std.specs.Prelude.{Err, IsErr, Ok, Result, is_ok}
 use Rattle.std.specs.declared.alloc.Global.{Global}
 use Rattle.std.specs.declared.vec.Vec.{Vec}
-use Rattle.slot_rounds.specs.page_load.slot_picks.declared.crowd.Crowd.{Crowd}
-use Rattle.slot_rounds.specs.page_load.slot_picks.declared.slots.Slot.{Slot}
-use Rattle.slot_rounds.specs.page_load.slot_picks.Crowds as crowds
-use Rattle.slot_rounds.specs.page_load.slot_picks.Crowds.{OwnCrowd, PicksOn, PicksUntil}
+use Rattle.slot_reach.specs.slot_rounds.page_load.slot_picks.declared.crowd.Crowd.{Crowd}
+use Rattle.slot_reach.specs.slot_rounds.page_load.slot_picks.declared.slots.Slot.{Slot}
+use Rattle.slot_reach.specs.slot_rounds.page_load.slot_picks.Crowds as crowds
+use Rattle.slot_reach.specs.slot_rounds.page_load.slot_picks.Crowds.{OwnCrowd, PicksOn, PicksUntil}
 use Rattle.widget_host.specs.declared.host.Host.{Host}
-use Rattle.widget_host.specs.declared.items.HostItem.{HostItem}
-use Rattle.widget_host.specs.Housed.{GivesItem, HoldAll, Passes, PassesUntil, chains, journal, no_pick, one_pick, places, seens, shared}
+use Rattle.widget_host.specs.Housed.{HoldAll, KeepsBeside, Passes, PassesUntil, WantsMemory, chains, journal, no_pick, one_pick, places, seens, shared}
 use Rattle.widget_host.proofs.Shown.{own_at}
 
 -- a host with this crowd and these slots
@@ -21,20 +20,33 @@ pub holds_all : (h : Host) → OwnCrowd h.crowd → HoldAll h
 unfolding places shared
 holds_all h own v p at is = own_at h.crowd.shared 0 v v h.crowd.places.items p (omega arith) at own is
 
+-- what stays beside a slot
+pub beside_kept : (w : ℕ) (old new : Host) → crowds.KeepsBeside w old.crowd new.crowd old.slots.items new.slots.items → KeepsBeside w old new
+unfolding chains seens
+beside_kept w old new b = record { slots = b.slots; own = b.own; lives = b.lives }
+
+pub beside_here : (w : ℕ) (h : Host) → KeepsBeside w h h
+beside_here w h = record { slots = λ u ne. refl; own = record { ended = []; are = refl }; lives = λ v out. refl }
+
+pub wants_here : (h : Host) → WantsMemory h h
+wants_here h = record { slot = 0; journal = refl; beside = beside_here 0 h }
+
 module _ (k : ℕ) (h : Host) where
   passes_on : {d : Crowd} {ts : Vec Slot Global} → PicksOn k h.crowd h.slots d ts → Passes k h (with h d ts)
   unfolding chains journal seens
   passes_on crowds.no_pick = no_pick
   passes_on (crowds.one_pick {e = e} {us = us} picks one own) = one_pick (passes_on picks) one (holds_all (with h e us) own)
 
-  pub passes_until : (ended : Bool) (d : Crowd) (ts : Vec Slot Global) (new : Host) → (ended ≡ true → new ≡ with h d ts) → PicksUntil k h.crowd h.slots ended d ts → PassesUntil k h ended new
-  passes_until ended d ts new is p = record {
+  pub passes_until : (ended : Bool) (new : Host) → (ended ≡ true → new ≡ with h new.crowd new.slots) → PicksUntil k h.crowd h.slots ended new.crowd new.slots → PassesUntil k h ended new
+  unfolding journal
+  passes_until ended new is p = record {
     last = with h p.crowd p.slots;
     picks = passes_on p.picks;
-    is = λ e. is e ∙ ap (λ c. with h c ts) (p.crowd_is e) ∙ ap (with h p.crowd) (p.slots_are e);
+    is = λ e. is e ∙ ap (λ c. with h c new.slots) (p.crowd_is e) ∙ ap (with h p.crowd) (p.slots_are e);
+    wanted = λ e. let w = p.wanted e in record { slot = w.slot; journal = w.journal; beside = beside_kept w.slot (with h p.crowd p.slots) new w.beside };
   }
 
--- after an item was given
-pub item_passes : {E : Type 0} (k : ℕ) (i : HostItem) (old mid new : Host) {T : Type 0} (r : Result T E) → GivesItem i old mid → PassesUntil k mid (is_ok r) new → OnOk r ((m : Host) × GivesItem i old m × Passes k m new)
-item_passes k i old mid new (Ok u) gives p = (mid, gives, subst (Passes k mid) (sym (p.is refl)) p.picks)
-item_passes k i old mid new (Err e) gives p = tt
+-- what was refused is not Ok
+pub err_not_ok : {T E : Type 0} (r : Result T E) → IsErr r → is_ok r ≡ false
+err_not_ok (Ok x) err = absurd (let both : false ≡ true = err in cc)
+err_not_ok (Err x) err = refl

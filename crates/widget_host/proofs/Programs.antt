@@ -12,7 +12,7 @@ use Rattle.page_spec.specs.declared.SlotContent.{SlotContent}
 use Rattle.page_spec.specs.declared.SlotContent.TheVariants as slot
 use Rattle.page_spec.specs.declared.SlotSpec.{SlotSpec}
 use Rattle.page_spec.specs.Contents.{content_of, program_at}
-use Rattle.slot_rounds.specs.page_load.Loads.{HasScripts}
+use Rattle.slot_reach.specs.slot_rounds.page_load.Loads.{HasScripts}
 use Rattle.widget_host.specs.declared.host.Host.{Host}
 use Rattle.widget_host.specs.Housed.{Loads, scripts}
 

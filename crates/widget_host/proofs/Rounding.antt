@@ -1,7 +1,8 @@
 -- A round of posts in a host.
-use Rattle.std.proofs.Common.{◌≡◌, ◌≢◌, ℕ, zero, suc, ◌+◌, ◌<◌, ◌≤◌, Bool, true, false, List, [], ◌∷◌, map, length, refl, sym, ap, ◌∙◌, subst, arith, Some, ne_eqb}
+use Rattle.std.proofs.Common.{◌≡◌, ◌≢◌, ℕ, zero, suc, ◌+◌, ◌<◌, ◌≤◌, Bool, true, false, List, [], ◌∷◌, map, length, refl, sym, ap, ◌∙◌, subst, arith, Option, Some, ne_eqb}
 use Rattle.std.specs.Prelude.{slice_get, slice_index_or, nat_eq, if◌then◌else◌, ◌||◌}
-use Rattle.std.specs.List.{range_with_len}
+use Rattle.std.specs.List.{IsDistinct, range_with_len}
+use Rattle.std.specs.Str.{bytes_eq}
 use Rattle.std.proofs.lemmas.List.{length-map}
 use Rattle.js_names.specs.declared.code.Code.{Code}
 use Rattle.js_names.specs.Code.{tree_in}
@@ -15,31 +16,35 @@ use Rattle.post_rounds.specs.News.{all_news, news, news_from}
 use Rattle.page_build.specs.Homes.{HaveRaws}
 use Rattle.page_build.specs.Standing.{IsLaidBy, PagePasses}
 use Rattle.page_tree.specs.page_nodes.Entries.{body}
-use Rattle.round_laws.specs.Fed.{round}
+use Rattle.round_laws.specs.Fed.{Fed, round}
 use Rattle.slot_laws.specs.Chains.{Chains, Rest, Unspent, last_life}
 use Rattle.slot_laws.proofs.Housing.{unspent_given}
-use Rattle.slot_rounds.specs.page_load.turn_calls.declared.turn.Shared.{Shared}
-use Rattle.slot_rounds.specs.page_load.Loads.{HasNothing}
-use Rattle.slot_rounds.specs.page_load.slot_picks.declared.crowd.Place.{Place}
-use Rattle.slot_rounds.specs.page_load.slot_picks.declared.slots.Slot.{Slot}
-use Rattle.slot_rounds.specs.page_load.slot_picks.Places.{FewPlaces, FinePlaces, OwnPlaces, homes_of, is_accepted, seens_from, told_of}
-use Rattle.slot_rounds.specs.page_load.slot_picks.Crowds.{AreStanding, FewCrowd, FineCrowd, KeepsSlots, chains_of, seens_of, spots_of}
-use Rattle.slot_rounds.specs.Feeding as feeding
-use Rattle.slot_rounds.specs.Feeding.{counts_for, events_for, gets, told_more, with_more}
-use Rattle.slot_rounds.specs.Posting.{AreAlike, GivesRound, HaveRound, IsRound, fresh_of_lasts}
-use Rattle.slot_rounds.proofs.Taken.{few_news, sum_taken}
-use Rattle.slot_rounds.proofs.Looping.{others_stay}
-use Rattle.slot_rounds.proofs.Seen.{seens_round, told_round}
-use Rattle.slot_rounds.proofs.Sound.{counts_round, few_events, images_more, long_round, places_round}
+use Rattle.slot_reach.specs.slot_rounds.page_load.turn_calls.declared.turn.Shared.{Shared}
+use Rattle.slot_reach.specs.slot_rounds.page_load.Loads.{HasNothing}
+use Rattle.slot_reach.specs.slot_rounds.page_load.slot_picks.declared.crowd.Place.{Place}
+use Rattle.slot_reach.specs.slot_rounds.page_load.slot_picks.declared.slots.Slot.{Slot}
+use Rattle.slot_reach.specs.slot_rounds.page_load.slot_picks.Places.{FewPlaces, FinePlaces, OwnPlaces, homes_of, is_accepted, seens_from, told_of}
+use Rattle.slot_reach.specs.slot_rounds.page_load.slot_picks.Crowds.{AreStanding, FewCrowd, FineCrowd, KeepsSlots, chains_of, seens_of, spots_of}
+use Rattle.slot_reach.specs.slot_rounds.Feeding as feeding
+use Rattle.slot_reach.specs.slot_rounds.Feeding.{Delivers, HaveDone, counts_for, events_for, gets, is_last, sum_of, told_more, with_more}
+use Rattle.slot_reach.specs.slot_rounds.Posting.{AreAlike, GivesRound, HaveRound, IsRound, WereGiven, fresh_of_lasts}
+use Rattle.slot_reach.proofs.SlotRounds.Taken.{few_news, sum_taken}
+use Rattle.slot_reach.proofs.SlotRounds.Looping.{others_stay}
+use Rattle.slot_reach.proofs.SlotRounds.Seen.{seens_round, told_round}
+use Rattle.slot_reach.proofs.SlotRounds.Sound.{counts_round, few_events, images_more, long_round, places_round}
 use Rattle.widget_host.specs.declared.host.Host.{Host}
-use Rattle.widget_host.specs.Housed.{IsApart, IsLaid, IsWhole, KeepsHost, accepts, chains, channels, ends, fuels, homes, libraries, most_after, names, scripts, seens, shared, spots, sum_of, swaps, told}
-use Rattle.widget_host.specs.Rounds.{Delivers, is_last}
+use Rattle.widget_host.specs.Housed.{IsApart, IsLaid, IsWhole, KeepsHost, accepts, chains, channels, ends, fuels, homes, libraries, most_after, names, scripts, seens, shared, spots, swaps, told}
+use Rattle.widget_host.specs.Rounds.{AreFed}
 use Rattle.widget_host.proofs.Alike.{accepts_alike, codes_alike, homes_alike, own_alike, roots_alike}
 use Rattle.widget_host.proofs.Lasts.{last_each, not_last_any}
 use Rattle.widget_host.proofs.Same.{passes_same, slots_same, spots_same, standing_same}
 use Rattle.widget_host.proofs.Shown.{accepts_at}
 use Rattle.widget_host.proofs.Staying.{scripts_by}
 use Rattle.widget_host.proofs.Whole.{sum_few, whole_stays}
+
+-- what a round is to what lives were given
+abbrev pub GivesPosts : Bool → Host → Host → Type 0
+GivesPosts d old new = (fs : List (Option Fed)) → AreFed old fs → HaveDone (seens old) → Delivers d (channels old) (names old) fs (AreFed new)
 
 -- ## What stays
 
@@ -69,20 +74,17 @@ module _ (old new : Host) (all : new.crowd.shared ≡ old.crowd.shared) (alike :
   }
 
   pub apart_alike : IsApart old → IsApart new
-  unfolding accepts
+  unfolding accepts names
   apart_alike a = record {
     twenty = sym (length-map new.crowd.places.items (λ (p : Place). p.life.slot)) ∙ ap length (homes_alike old.crowd.places.items new.crowd.places.items alike) ∙ length-map old.crowd.places.items (λ (p : Place). p.life.slot) ∙ a.twenty;
     own = subst (λ (h : Shared). OwnPlaces h 0 new.crowd.places.items) (sym all) (own_alike old.crowd.shared 0 old.crowd.places.items new.crowd.places.items alike a.own);
     others = λ v none. subst (λ (h : Shared). HasNothing v h.store h.page) (sym all)
         (a.others v (ap (λ flags. slice_index_or flags v false) (sym (accepts_alike old.crowd.places.items new.crowd.places.items alike)) ∙ none));
     standing = subst (λ s. AreStanding new.crowd s.items) (sym slots) (standing_same old.crowd new.crowd all alike old.slots.items a.standing);
+    distinct = subst (λ s. IsDistinct bytes_eq (map (λ (x : Slot). x.name) s.items)) (sym slots) a.distinct;
   }
 
--- ## Sums
-
-sums_same : (ns : List ℕ) → feeding.sum_of ns ≡ sum_of ns
-sums_same [] = refl
-sums_same (n ∷ ns) = ap (λ k. n + k) (sums_same ns)
+-- ## Few events
 
 -- no text is longer than each
 few_range : (f : ℕ → List (List ℕ)) (m : ℕ) → ((w : ℕ) → length (f w) ≤ m) → (a n i : ℕ) (e : List (List ℕ)) → slice_get (map f (range_with_len a n)) i ≡ Some e → length e ≤ m
@@ -157,7 +159,7 @@ module _ (old new : Host) (all : new.crowd.shared ≡ old.crowd.shared) (slots :
   counts = counts_for cs (map length posts)
 
   abbrev taken : ℕ
-  taken = feeding.sum_of (map length posts)
+  taken = sum_of (map length posts)
 
   small : (v : ℕ) → length (events_for cs given_events v) ≤ taken
   small v = few_events hs born 0 taken v cs given_events whole.slots.chains
@@ -172,10 +174,10 @@ module _ (old new : Host) (all : new.crowd.shared ≡ old.crowd.shared) (slots :
         ∙ seens_round old.crowd.shared (is_accepted ps) (events_for cs given_events) counts 0 ps new.crowd.places.items
         (λ k l at. (let e : k ≡ 0 + k = omega arith in subst (λ u. is_accepted ps u ≡ l.life.accepted) e (accepts_at ps k l at))) r
 
-    pub images_now : map image (seens_of new.crowd) ≡ map image (seens_of old.crowd)
+    images_now : map image (seens_of new.crowd) ≡ map image (seens_of old.crowd)
     images_now = ap (map image) seens_now ∙ images_more (gets (is_accepted ps) cs given_events) 0 (seens_of old.crowd)
 
-    pub others_now : (v : ℕ) → is_last v cs ≡ false → slice_get (seens_of new.crowd) v ≡ slice_get (seens_of old.crowd) v
+    others_now : (v : ℕ) → is_last v cs ≡ false → slice_get (seens_of new.crowd) v ≡ slice_get (seens_of old.crowd) v
     others_now v out = ap (λ ss. slice_get ss v) seens_now ∙ others_stay (is_accepted ps) cs given_events (seens_of old.crowd) v out
 
     sum_now : sum_of (told_of new.crowd.places.items) ≡ sum_of (told_of ps) + taken
@@ -183,10 +185,8 @@ module _ (old new : Host) (all : new.crowd.shared ≡ old.crowd.shared) (slots :
         let long : length (map length posts) ≡ length cs = length-map posts length ∙ length-map cs _ in
         let twenty : length (told_of ps) ≡ 20 = length-map ps (λ (p : Place). p.told) ∙ whole.slots.crowd.places in
         let sum = sum_taken (told_of ps) cs (map length posts) long (λ i c at. (let e = lasts_there hs born 0 i cs c whole.slots.chains at in omega (arith, e, twenty, whole.slots.few))) in
-        let a = sums_same (told_of new.crowd.places.items) in
-        let b = sums_same (told_of ps) in
-        let c : feeding.sum_of (told_of new.crowd.places.items) ≡ feeding.sum_of (told_more counts 0 (told_of ps)) = ap feeding.sum_of told_now in
-        omega (arith, sum, a, b, c)
+        let c : sum_of (told_of new.crowd.places.items) ≡ sum_of (told_more counts 0 (told_of ps)) = ap sum_of told_now in
+        omega (arith, sum, c)
 
     rest_now : Rest cs (seens_of new.crowd)
     rest_now v s out at = whole.slots.rest v s out (sym (others_now v (not_last_any hs born 0 v cs whole.slots.chains out)) ∙ at)
@@ -291,28 +291,21 @@ module _ (old new : Host) (all : new.crowd.shared ≡ old.crowd.shared) (slots :
   listed_now r none = r.0 (λ w c at yes. none_range (news old.channels.items listed_names posts) (λ u. ap (λ pairs. news_from pairs listed_names u 0 posts) none ∙ no_news listed_names u 0 posts) 0 (length listed_names) w)
 
   -- what it is to what lives were given
-  pub delivers_now : (d : Bool) → GivesRound d old.channels.items listed_names cs ps new.crowd.places.items → Delivers d old new
+  fed_now : (gs : List (Option Fed)) → WereGiven old.crowd.shared cs new.crowd.places.items gs → AreFed new gs
+  unfolding accepts chains seens told
+  fed_now gs given =
+      subst (λ s. feeding.AreFed (is_accepted new.crowd.places.items) (seens_of new.crowd) (told_of new.crowd.places.items) (chains_of s.items) gs) (sym slots)
+      (subst (λ (h : Shared). feeding.AreFed (is_accepted new.crowd.places.items) (seens_from h 0 new.crowd.places.items) (told_of new.crowd.places.items) cs gs) (sym all) given)
+
+  pub delivers_now : (d : Bool) → GivesRound d old.channels.items listed_names cs ps new.crowd.places.items → GivesPosts d old new
   unfolding accepts chains channels names seens told
-  delivers_now false g = λ fs fed done. (g old.crowd.shared fs done fed).0
-  delivers_now true g = λ fs fed done. (
-    (g old.crowd.shared fs done fed).0,
-    subst (λ s. feeding.AreFed (is_accepted new.crowd.places.items) (seens_of new.crowd) (told_of new.crowd.places.items) (chains_of s.items) (round old.channels.items listed_names fs)) (sym slots)
-        (subst (λ (h : Shared). feeding.AreFed (is_accepted new.crowd.places.items) (seens_from h 0 new.crowd.places.items) (told_of new.crowd.places.items) cs (round old.channels.items listed_names fs)) (sym all)
-        (g old.crowd.shared fs done fed).1),
-  )
+  delivers_now false g = λ fs fed done. (let d = g old.crowd.shared fs done fed in (d.0, fed_now fs d.1))
+  delivers_now true g = λ fs fed done. (let d = g old.crowd.shared fs done fed in (d.0, fed_now (round old.channels.items listed_names fs) d.1))
 
   module _ (few_told : (v n : ℕ) → slice_get (told_of new.crowd.places.items) v ≡ Some n → n ≤ 256) where
     pub whole_then : (d : Bool) → Round d → new.crowd.journal ≡ old.crowd.journal → new.ends ≡ old.ends → new.given ≡ old.given → IsApart new → IsWhole new
     whole_then false r kept over counted apart = whole_still r.1 kept over counted apart
     whole_then true r kept over counted apart = whole_now few_told r.1 kept over counted
-
-    pub images_then : (d : Bool) → Round d → map image (seens_of new.crowd) ≡ map image (seens_of old.crowd)
-    images_then false r = ap (map image) (seens_still r.1)
-    images_then true r = images_now few_told r.1
-
-    pub others_then : (d : Bool) → Round d → (v : ℕ) → is_last v cs ≡ false → slice_get (seens_of new.crowd) v ≡ slice_get (seens_of old.crowd) v
-    others_then false r v out = ap (λ ss. slice_get ss v) (seens_still r.1)
-    others_then true r v out = others_now few_told r.1 v out
 
   pub seens_then : (d : Bool) → Round d → d ≡ false → (seens_of new.crowd ≡ seens_of old.crowd) × (told_of new.crowd.places.items ≡ told_of ps)
   seens_then false r is = (seens_still r.1, ap told_of r.1)
@@ -329,7 +322,3 @@ module _ (old new : Host) (all : new.crowd.shared ≡ old.crowd.shared) (slots :
   pub given_as : (d : Bool) (ss : List Slot) (pairs : List (ℕ × ℕ)) → ss ≡ old.slots.items → pairs ≡ old.channels.items → GivesRound d pairs (map (λ (s : Slot). s.name) ss) (chains_of ss) ps new.crowd.places.items
       → GivesRound d old.channels.items listed_names cs ps new.crowd.places.items
   given_as d ss pairs e f g = subst (λ qs. GivesRound d qs listed_names cs ps new.crowd.places.items) f (subst (λ ts. GivesRound d pairs (map (λ (s : Slot). s.name) ts) (chains_of ts) ps new.crowd.places.items) e g)
-
--- sums as the call has them
-pub more_as : (ms ns : List ℕ) → feeding.sum_of ms < feeding.sum_of ns → sum_of ms < sum_of ns
-more_as ms ns h = let a = sums_same ms in let b = sums_same ns in omega (arith, h, a, b)

@@ -18,11 +18,11 @@ use Rattle.page_build.specs.Layout as layout
 use Rattle.page_build.specs.Standing.{AreLotsOf}
 use Rattle.page_build.proofs.Pieces.{laid_by}
 use Rattle.page_spec.specs.Pages.{PagePiece}
-use Rattle.slot_rounds.specs.page_load.slot_picks.declared.crowd.Crowd.{Crowd}
-use Rattle.slot_rounds.specs.page_load.slot_picks.declared.crowd.Place.{Place}
-use Rattle.slot_rounds.specs.page_load.slot_picks.declared.slots.Slot.{Slot}
-use Rattle.slot_rounds.specs.page_load.slot_picks.Crowds.{AreStanding, chains_of, is_present, present_of, spots_of}
-use Rattle.slot_rounds.specs.page_load.slot_picks.Places.{homes_of, is_accepted, roots_of}
+use Rattle.slot_reach.specs.slot_rounds.page_load.slot_picks.declared.crowd.Crowd.{Crowd}
+use Rattle.slot_reach.specs.slot_rounds.page_load.slot_picks.declared.crowd.Place.{Place}
+use Rattle.slot_reach.specs.slot_rounds.page_load.slot_picks.declared.slots.Slot.{Slot}
+use Rattle.slot_reach.specs.slot_rounds.page_load.slot_picks.Crowds.{AreStanding, chains_of, is_present, present_of, spots_of}
+use Rattle.slot_reach.specs.slot_rounds.page_load.slot_picks.Places.{homes_of, is_accepted, roots_of}
 use Rattle.widget_host.specs.declared.host.Host.{Host}
 use Rattle.widget_host.specs.Housed.{IsApart, IsLaid, accepts, chains, names, rooted, spots}
 use Rattle.widget_host.proofs.Shown.{accepts_at}

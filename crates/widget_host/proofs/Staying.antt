@@ -1,6 +1,8 @@
 -- What picks keep, as a host has it.
 use Rattle.std.proofs.Common.{◌≡◌, ℕ, List, [], map, length, false, refl, sym, ap, ◌∙◌, subst}
 use Rattle.std.specs.Prelude.{Err, Ok, OnOk, Result, slice_index_or}
+use Rattle.std.specs.List.{IsDistinct}
+use Rattle.std.specs.Str.{bytes_eq}
 use Rattle.std.specs.declared.alloc.Global.{Global}
 use Rattle.std.specs.declared.vec.Vec.{Vec}
 use Rattle.std.proofs.lemmas.List.{length-map}
@@ -14,11 +16,11 @@ use Rattle.page_build.proofs.Pieces.{laid_passes}
 use Rattle.page_build.proofs.Passing.{pages_here, pages_then}
 use Rattle.page_build.specs.Standing.{HavePlaces}
 use Rattle.page_spec.specs.Pages.{PagePiece}
-use Rattle.slot_rounds.specs.page_load.slot_picks.declared.crowd.Crowd.{Crowd}
-use Rattle.slot_rounds.specs.page_load.slot_picks.declared.crowd.Place.{Place}
-use Rattle.slot_rounds.specs.page_load.slot_picks.declared.slots.Slot.{Slot}
-use Rattle.slot_rounds.specs.page_load.slot_picks.Crowds.{KeepsSlots, chains_of, spots_of}
-use Rattle.slot_rounds.specs.page_load.slot_picks.Places.{is_accepted}
+use Rattle.slot_reach.specs.slot_rounds.page_load.slot_picks.declared.crowd.Crowd.{Crowd}
+use Rattle.slot_reach.specs.slot_rounds.page_load.slot_picks.declared.crowd.Place.{Place}
+use Rattle.slot_reach.specs.slot_rounds.page_load.slot_picks.declared.slots.Slot.{Slot}
+use Rattle.slot_reach.specs.slot_rounds.page_load.slot_picks.Crowds.{KeepsSlots, chains_of, spots_of}
+use Rattle.slot_reach.specs.slot_rounds.page_load.slot_picks.Places.{is_accepted}
 use Rattle.widget_host.specs.declared.host.Host.{Host}
 use Rattle.widget_host.specs.Housed.{IsApart, IsLaid, KeepsHost, KeepsPlan, accepts, channels, ends, fuels, homes, libraries, names, scripts, shared, spots}
 
@@ -29,7 +31,7 @@ module _ (old new : Host) (k : KeepsSlots old.crowd new.crowd old.slots.items ne
   was_none v none = ap (λ flags. slice_index_or flags v false) (sym k.lives.accepts) ∙ none
 
   pub apart_stays : IsApart new
-  unfolding accepts
+  unfolding accepts names
   apart_stays = record {
     twenty = sym (length-map new.crowd.places.items (λ (p : Place). p.life.slot)) ∙ ap length k.lives.homes ∙ length-map old.crowd.places.items (λ (p : Place). p.life.slot) ∙ a.twenty;
     own = k.lives.holds a.own;
@@ -46,6 +48,7 @@ module _ (old new : Host) (k : KeepsSlots old.crowd new.crowd old.slots.items ne
           away = λ low. away_by new.crowd.shared.page v low (k.page.roots v low ∙ (before.away low).free) nodes;
         };
     standing = k.standing a.standing;
+    distinct = subst (IsDistinct bytes_eq) (sym k.names) a.distinct;
   }
 
 -- the scripts of the life at a place, by the codes of all

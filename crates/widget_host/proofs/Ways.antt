@@ -1,26 +1,26 @@
 -- A host that settles and delivers posts in turn.
-use Rattle.std.proofs.Common.{◌≡◌, ℕ, zero, suc, true, false, List, [], ◌∷◌, map, refl, sym, ap, ◌∙◌, subst, Option, Some, None}
+use Rattle.std.proofs.Common.{◌≡◌, ℕ, zero, suc, Bool, true, false, List, [], ◌∷◌, map, refl, sym, ap, ◌∙◌, subst, Option, Some, None}
 use Rattle.std.specs.Prelude.{Err, IsErr, Ok, Result, is_ok, slice_get}
+use Rattle.std.specs.Option.{option_map}
 use Rattle.life_laws.specs.Life.{Seen, due, image}
-use Rattle.round_laws.specs.Fed.{Fed, IsQuiet, RoundsTo, again, ended, round}
+use Rattle.round_laws.specs.Fed.{Fed, IsQuiet, RoundsTo, again, ended, round, state}
 use Rattle.slot_laws.specs.Chains.{last_life}
 use Rattle.slot_laws.specs.Settled.{SettledSlots}
 use Rattle.turn_sched.specs.declared.chooser.Ask.{Ask}
-use Rattle.slot_rounds.specs.Feeding as feeding
-use Rattle.slot_rounds.specs.Feeding.{IsLastShown}
-use Rattle.slot_rounds.proofs.Looping.{fed_lasts, fed_stays, last_of_lasts, shown_all}
+use Rattle.slot_reach.specs.slot_rounds.Feeding as feeding
+use Rattle.slot_reach.specs.slot_rounds.Feeding.{HaveDone, IsLastShown, is_last}
+use Rattle.slot_reach.proofs.SlotRounds.Looping.{fed_lasts, fed_stays, last_of_lasts, shown_all}
 use Rattle.widget_host.specs.declared.host.Host.{Host}
 use Rattle.widget_host.specs.Housed as housed
-use Rattle.widget_host.specs.Housed.{HoldAll, KeepsHost, Passes, PassesUntil, accepts, chains, channels, given, homes, journal, names, seens, told}
-use Rattle.widget_host.specs.Rounds.{AreFed, AreFedShown, Delivers, HasDone, PassesRounds, is_last, no_pass, one_pick, one_round}
+use Rattle.widget_host.specs.Housed.{AreShown, HoldAll, KeepsHost, Passes, PassesUntil, WantsMemory, accepts, chains, channels, given, homes, journal, names, seens, told}
+use Rattle.widget_host.specs.Rounds.{AreFed, PassesRounds, StepWantsMemory, in_pick, no_pass, one_pick, one_round}
 use Rattle.widget_host.proofs.Lasts.{some_is}
+use Rattle.widget_host.proofs.Lived.{lasts_of, lasts_shown}
+use Rattle.widget_host.proofs.Passed.{wants_here}
+use Rattle.widget_host.proofs.Rounding.{GivesPosts}
 use Rattle.widget_host.proofs.Staying.{host_here, host_then}
 
--- each slot with its last life alone
-abbrev pub lasts_of : List (List ℕ) → List (List ℕ)
-lasts_of cs = map (λ c. last_life c ∷ []) cs
-
-lasts_twice : (cs : List (List ℕ)) → lasts_of (lasts_of cs) ≡ lasts_of cs
+pub lasts_twice : (cs : List (List ℕ)) → lasts_of (lasts_of cs) ≡ lasts_of cs
 lasts_twice [] = refl
 lasts_twice (c ∷ cs) = ap (λ ds. (last_life c ∷ []) ∷ ds) (lasts_twice cs)
 
@@ -64,6 +64,17 @@ due_at (s ∷ ss) (u ∷ ts) (suc v) t e at = due_at ss ts v t (tails s u ss ts 
 same_lasts : (first cur : Host) → lasts_of (chains cur) ≡ lasts_of (chains first) → (v : ℕ) → is_last v (chains cur) ≡ is_last v (chains first)
 same_lasts first cur e v = sym (last_of_lasts v (chains cur)) ∙ ap (is_last v) e ∙ last_of_lasts v (chains first)
 
+-- the same is shown
+shown_stays : (was is : ℕ → Bool) → ((v : ℕ) → is v ≡ was v) → (ss ts : List Seen) → ts ≡ ss → (cs : List (List ℕ)) (fs : List (Option Fed)) → feeding.AreShown was ss cs fs → feeding.AreShown is ts cs fs
+shown_stays was is same ss ts seen [] [] h = tt
+shown_stays was is same ss ts seen [] (f ∷ fs) h = absurd h
+shown_stays was is same ss ts seen (c ∷ cs) [] h = absurd h
+shown_stays was is same ss ts seen (c ∷ cs) (f ∷ fs) h = (one f h.0, shown_stays was is same ss ts seen cs fs h.1)
+  where
+    one : (g : Option Fed) → IsLastShown was ss (last_life c) g → IsLastShown is ts (last_life c) g
+    one None h = same (last_life c) ∙ h
+    one (Some g) h = (same (last_life c) ∙ h.0, λ s at. h.1 s (sym (ap (λ us. slice_get us (last_life c)) seen) ∙ at))
+
 module _ (k : ℕ) (first mid new : Host) (way : OnWay k first mid) where
   -- picks until no slot is ready
   pub way_settled : map due (seens new) ≡ map due (seens mid) → chains new ≡ lasts_of (chains mid) → told new ≡ told mid → given new ≡ given mid → KeepsHost mid new → PassesUntil k mid true new → OnWay k first new
@@ -82,7 +93,7 @@ module _ (k : ℕ) (first mid new : Host) (way : OnWay k first mid) where
   }
 
   -- a round that delivers something
-  pub way_delivered : HasDone mid → Delivers true mid new → map image (seens new) ≡ map image (seens mid)
+  pub way_delivered : HaveDone (seens mid) → GivesPosts true mid new → map image (seens new) ≡ map image (seens mid)
       → ((v : ℕ) → is_last v (chains mid) ≡ false → slice_get (seens new) v ≡ slice_get (seens mid) v)
       → chains new ≡ chains mid → journal new ≡ journal mid → given new ≡ given mid → HoldAll new → KeepsHost mid new → OnWay k first new
   way_delivered done delivers images others same kept counted holds stays = record {
@@ -98,37 +109,31 @@ module _ (k : ℕ) (first mid new : Host) (way : OnWay k first mid) where
     given = counted ∙ way.given;
   }
 
-  shown_by : (cs : List (List ℕ)) (fs : List (Option Fed)) → ((v : ℕ) → accepts new v ≡ accepts mid v) → seens new ≡ seens mid → AreFedShown mid cs fs → AreFedShown new cs fs
-  shown_by [] [] same seen h = tt
-  shown_by [] (f ∷ fs) same seen h = absurd h
-  shown_by (c ∷ cs) [] same seen h = absurd h
-  shown_by (c ∷ cs) (f ∷ fs) same seen h = (one f h.0, shown_by cs fs same seen h.1)
-    where
-      one : (g : Option Fed) → IsLastShown (accepts mid) (seens mid) (last_life c) g → IsLastShown (accepts new) (seens new) (last_life c) g
-      one None h = same (last_life c) ∙ h
-      one (Some g) h = (same (last_life c) ∙ h.0, λ s at. h.1 s (sym (ap (λ ss. slice_get ss (last_life c)) seen) ∙ at))
-
   -- a round that delivers nothing ends it
-  pub way_ended : HasDone mid → Delivers false mid new → seens new ≡ seens mid → told new ≡ told mid → chains new ≡ chains mid → KeepsHost mid new
-      → (fs : List (Option Fed)) → AreFed first fs → (gs : List (Option Fed)) × RoundsTo (channels first) (names first) fs gs × AreFed new gs × AreFedShown new (chains new) gs
-  unfolding seens told
-  way_ended done delivers seen taken same stays fs f =
+  pub way_ended : HaveDone (seens mid) → GivesPosts false mid new → seens new ≡ seens mid → chains new ≡ chains mid → lasts_of (chains mid) ≡ chains mid → KeepsHost mid new
+      → (fs : List (Option Fed)) → AreFed first fs → (gs : List (Option Fed)) × RoundsTo (channels first) (names first) fs gs × AreFed new gs × AreShown new (chains new) (map (option_map state) gs)
+  way_ended done delivers seen same alone stays fs f =
       let g = way.fed fs f in
-      let quiet = delivers g.0 g.2 done in (
+      let posts = delivers g.0 g.2 done in (
         g.0,
-        g.1 g.0 (ended (subst (λ ns. IsQuiet (channels first) ns g.0) way.stays.plan.names (subst (λ cs. IsQuiet cs (names mid) g.0) way.stays.plan.channels quiet))),
-        subst (λ cs. feeding.AreFed (accepts new) (seens new) (told new) cs g.0) (sym same) (fed_stays (accepts mid) (accepts new) stays.accepts (seens mid) (seens new) (told mid) (told new) (ap (map due) seen) taken (chains mid) g.0 g.2),
-        subst (λ cs. AreFedShown new cs g.0) (sym same) (shown_by (chains mid) g.0 stays.accepts seen
-            (shown_all (accepts mid) (seens mid) (told mid) done (chains mid) g.0 g.2)),
+        g.1 g.0 (ended (subst (λ ns. IsQuiet (channels first) ns g.0) way.stays.plan.names (subst (λ cs. IsQuiet cs (names mid) g.0) way.stays.plan.channels posts.0))),
+        posts.1,
+        subst (λ cs. AreShown new cs (map (option_map state) g.0)) (alone ∙ sym same)
+            (lasts_shown new (chains mid) g.0 (shown_stays (accepts mid) (accepts new) stays.accepts (seens mid) (seens new) seen (chains mid) g.0 (shown_all (accepts mid) (seens mid) (told mid) done (chains mid) g.0 g.2))),
       )
 
-  pub way_others : HasDone mid → seens new ≡ seens mid → (v : ℕ) (s t : Seen) → is_last v (chains first) ≡ false → slice_get (seens first) v ≡ Some s → slice_get (seens new) v ≡ Some t → image t ≡ due s
+  pub way_others : HaveDone (seens mid) → seens new ≡ seens mid → (v : ℕ) (s t : Seen) → is_last v (chains first) ≡ false → slice_get (seens first) v ≡ Some s → slice_get (seens new) v ≡ Some t → image t ≡ due s
   way_others done seen v s t out a b = let at : slice_get (seens mid) v ≡ Some t = sym (ap (λ ss. slice_get ss v) seen) ∙ b in done v t at ∙ way.ended v s t out a at
 
 -- what was refused is not Ok
 pub err_stops : {T E : Type 0} (A : Type 0) (r : Result T E) → IsErr r → is_ok r ≡ true → A
 err_stops A (Ok x) err ok = absurd (let both : false ≡ true = err in cc)
 err_stops A (Err x) err ok = absurd (let both : false ≡ true = ok in cc)
+
+-- where a settle was refused memory was wanted in one of its picks
+pub pick_wants : (ended : Bool) (last new : Host) → (ended ≡ true → new ≡ last) → (ended ≡ false → WantsMemory last new) → StepWantsMemory last new
+pick_wants true last new is wants = subst (StepWantsMemory last) (sym (is refl)) (in_pick (wants_here last))
+pick_wants false last new is wants = in_pick (wants refl)
 
 -- what was settled from a host that is the first one
 pub settled_from : (k : ℕ) (first cur mid : Host) (asks : List Ask) (room : ℕ) (asks_first : List Ask) (room_first : ℕ) (asks_new : List Ask) (room_new : ℕ) → cur ≡ first → asks ≡ asks_first → room ≡ room_first

@@ -1,6 +1,7 @@
 -- A host as plain data: what is seen of its lives, what holds of it, and what its calls do.
 use Rattle.std.specs.Prelude.{◌≡◌, ◌≢◌, ◌<◌, ◌≤◌, ◌+◌, ◌*◌, ◌^◌, ◌++◌, ℕ, zero, suc, List, [], ◌∷◌, map, length, nat_eq, ◌&&◌, Bool, true, false, slice_get, slice_set, slice_index_or, Option, Some, None, option_map, if◌then◌else◌}
-use Rattle.std.specs.List.{list_any}
+use Rattle.std.specs.List.{IsDistinct, list_any}
+use Rattle.std.specs.Str.{bytes_eq}
 use Rattle.std.specs.declared.alloc.Global.{Global}
 use Rattle.std.specs.declared.vec.Vec.{Vec}
 use Rattle.js_tree.specs.declared.tree.Tree.{Tree}
@@ -15,18 +16,20 @@ use Rattle.page_tree.specs.page_nodes.Entries.{body}
 use Rattle.pick_laws.specs.declared.entry.PickEntry.{PickEntry}
 use Rattle.pick_laws.specs.declared.entry.Picked.{Picked}
 use Rattle.pick_laws.specs.Journal.{on_at}
+use Rattle.slot_laws.specs.Slots.{IsTail, has}
 use Rattle.slot_laws.specs.Chains.{PickedIn, Unspent, joins, last_life, last_at}
-use Rattle.slot_rounds.specs.page_load.slot_picks.Places.{HoldsItsOwn, codes_of, homes_of, is_accepted, roots_of, told_of}
-use Rattle.slot_rounds.specs.page_load.slot_picks.declared.crowd.Place.{Place}
-use Rattle.slot_rounds.specs.page_load.slot_picks.declared.slots.Slot.{Slot}
-use Rattle.slot_rounds.specs.page_load.slot_picks.Crowds.{AreHoused, AreStanding, FewCrowd, OwnCrowd, chains_of, present_of, seens_of, spots_of}
+use Rattle.slot_reach.specs.slot_rounds.Feeding.{sum_of}
+use Rattle.slot_reach.specs.slot_rounds.page_load.slot_picks.Places.{HoldsItsOwn, codes_of, homes_of, is_accepted, roots_of, told_of}
+use Rattle.slot_reach.specs.slot_rounds.page_load.slot_picks.declared.crowd.Place.{Place}
+use Rattle.slot_reach.specs.slot_rounds.page_load.slot_picks.declared.slots.Slot.{Slot}
+use Rattle.slot_reach.specs.slot_rounds.page_load.slot_picks.Crowds.{AreHoused, AreStanding, FewCrowd, OwnCrowd, chains_of, present_of, seens_of, spots_of}
 use Rattle.widget_meaning.specs.Limits.{max_posts}
 use Rattle.widget_meaning.specs.Values as meaning
 use Rattle.widget_meaning.specs.OwnState.{OwnState}
 use Rattle.widget_meaning.specs.Items.{Item, Occurs, Advance, item}
 use Rattle.widget_meaning.specs.Alone.{Content, beginning, loaded}
-use Rattle.slot_rounds.specs.page_load.turn_calls.declared.turn.Shared.{Shared}
-use Rattle.slot_rounds.specs.page_load.life_queue.Lives.{event_of}
+use Rattle.slot_reach.specs.slot_rounds.page_load.turn_calls.declared.turn.Shared.{Shared}
+use Rattle.slot_reach.specs.slot_rounds.page_load.life_queue.Lives.{event_of}
 use Rattle.page_spec.specs.declared.PageSpec.{PageSpec}
 use Rattle.page_spec.specs.declared.SlotContent.{SlotContent}
 use Rattle.page_spec.specs.declared.SlotSpec.{SlotSpec}
@@ -34,9 +37,9 @@ use Rattle.page_spec.specs.Contents.{content_of}
 use Rattle.page_spec.specs.Pages.{PagePiece, piece_of}
 use Rattle.page_build.specs.Homes.{HaveRaws}
 use Rattle.page_build.specs.Standing.{HavePlaces, IsLaidBy, PagePasses}
-use Rattle.slot_rounds.specs.page_load.Contents.{HasScriptsIn, content_in}
-use Rattle.slot_rounds.specs.page_load.Joining.{PageJoins}
-use Rattle.slot_rounds.specs.page_load.Loads.{HasNothing, HasScripts, singles}
+use Rattle.slot_reach.specs.slot_rounds.page_load.Contents.{HasScriptsIn, content_in}
+use Rattle.slot_reach.specs.slot_rounds.page_load.Joining.{PageJoins}
+use Rattle.slot_reach.specs.slot_rounds.page_load.Loads.{HasNothing, HasScripts, singles}
 use Rattle.widget_host.specs.declared.host.Host.{Host}
 use Rattle.widget_host.specs.declared.items.HostItem.{HostItem}
 use Rattle.widget_host.specs.declared.items.HostItem.TheVariants as host
@@ -126,17 +129,13 @@ marked h = h.marked
 abbrev pub most_after : ℕ → ℕ
 most_after n = 2 ^ 31 + n * 400000
 
--- the sum of some numbers
-abbrev pub sum_of : List ℕ → ℕ
-sum_of [] = 0
-sum_of (n ∷ ns) = n + sum_of ns
-
--- What holds also after want of memory: each accepted life holds its own alone, and a number that is no accepted life's has no cell and no node; in each slot stands the node of its present life.
+-- What holds also after want of memory: each accepted life holds its own alone, and a number that is no accepted life's has no cell and no node; in each slot stands the node of its present life; no two slots have one name.
 pub record IsApart (h : Host) : Type 0 where
   pub twenty : length h.crowd.places.items ≡ 20
   pub own : OwnCrowd h.crowd
   pub others : (v : ℕ) → accepts h v ≡ false → HasNothing v h.crowd.shared.store h.crowd.shared.page
   pub standing : AreStanding h.crowd h.slots.items
+  pub distinct : IsDistinct bytes_eq (names h)
 
 -- Its lives are in their slots, their counts have room, and each accepted one is sound (`FineLife`): it is confined, and what its turn, its queue and its loop hold is its own. Each node of the page has its RawNode. Where no life was born yet the place is free.
 pub record IsWhole (h : Host) : Type 0 where
@@ -184,6 +183,12 @@ pub record KeepsHost (old new : Host) : Type 0 where
   pub page : PagePasses (shared old).page (shared new).page (spots old) (spots new)
   pub laid : (xs : List (List ℕ)) (pieces : List PagePiece) → IsLaid old xs pieces → IsLaid new xs pieces
 
+-- What a pick of the slot with a number keeps beside it, also after want of memory: the lives of each other slot, and what is seen of each life that is none of this slot's. Of its own lives the first ones may have ended.
+pub record KeepsBeside (w : ℕ) (old new : Host) : Type 0 where
+  pub slots : (u : ℕ) → u ≢ w → slice_get (chains new) u ≡ slice_get (chains old) u
+  pub own : IsTail (slice_index_or (chains old) w []) (slice_index_or (chains new) w [])
+  pub lives : (v : ℕ) → has v (slice_index_or (chains old) w []) ≡ false → slice_get (seens new) v ≡ slice_get (seens old) v
+
 -- ## Picks one after the other
 
 -- Slots were picked with this slice, one after the other, each pick from what the one before left; and after each, in the store and on the page as they were then, each accepted life held its own alone.
@@ -193,11 +198,18 @@ pub data Passes (k : ℕ) (old : Host) : Host → Type 0 where
       → PickedIn w k r (chains mid) (chains new) (seens mid) (seens new) (journal mid) (journal new)
       → HoldAll new → Passes k old new
 
--- Such picks were made, also where memory was wanted in the end; else they led to this host.
+-- Memory was wanted in a pick of a slot: the picks that are kept stay, and so does all beside the slot.
+pub record WantsMemory (old new : Host) : Type 0 where
+  pub slot : ℕ
+  pub journal : journal new ≡ journal old
+  pub beside : KeepsBeside slot old new
+
+-- Such picks were made, and led to this host; or memory was wanted after them.
 pub record PassesUntil (k : ℕ) (old : Host) (ended : Bool) (new : Host) : Type 0 where
   pub last : Host
   pub picks : Passes k old last
   pub is : ended ≡ true → new ≡ last
+  pub wanted : ended ≡ false → WantsMemory last new
 
 -- ## Items
 
@@ -236,6 +248,11 @@ pub record GivesItem (i : HostItem) (old new : Host) : Type 0 where
   pub same : shared new ≡ shared old
   pub stays : KeepsHost old new
 
+-- It was given, and then picks with this slice were made; or memory was wanted to queue it, and no pick was made.
+pub data ItemPasses (k : ℕ) (i : HostItem) (old : Host) (ended : Bool) (new : Host) : Type 0 where
+  queued : {mid : Host} → GivesItem i old mid → PassesUntil k mid ended new → ItemPasses k i old ended new
+  unqueued : ended ≡ false → map image (seens new) ≡ map image (seens old) → journal new ≡ journal old → shared new ≡ shared old → ItemPasses k i old ended new
+
 -- ## Swaps
 
 -- a life with this widget has it to load; one that was refused has none
@@ -247,7 +264,7 @@ LoadsLife h v fuel (Some c) = (accepts h v ≡ true) × ((s : Seen) → slice_ge
 abbrev pub newborn : Host → ℕ
 newborn h = 16 + swaps h
 
--- A life with this content was born behind the last one of a slot, which it will end. What is seen of each other life stays.
+-- A life with this content was born behind the last one of a slot, which it will end.
 pub record BearsLife (to : ℕ) (content : SlotContent) (old new : Host) : Type 0 where
   pub ends : ends new ≡ ends old ++ last_at to (chains old) ∷ []
   pub chains : chains new ≡ on_at to (joins (newborn old)) (chains old)
@@ -255,22 +272,23 @@ pub record BearsLife (to : ℕ) (content : SlotContent) (old new : Host) : Type 
   pub life : LoadsLife new (newborn old) (slice_index_or (fuels old) to 0) (content_in (libraries old) content)
   pub scripts : HasScriptsIn (libraries old) content (scripts new (newborn old))
   pub told : told new ≡ slice_set (told old) (newborn old) 0
-  pub seens : (v : ℕ) → v ≢ newborn old → slice_get (seens new) v ≡ slice_get (seens old) v
-  pub journal : journal new ≡ journal old
 
--- A swap of a slot was given: its life was born.
-pub record GivesSwap (to : ℕ) (content : SlotContent) (old new : Host) : Type 0 where
-  pub life : BearsLife to content old new
-  pub given : given new ≡ given old + 1
-
--- What `give_swap` keeps, also after want of memory: what no call changes; of each other life whether it was accepted and its scripts; what stands in each slot, the children of `body` and what else the host had on the page; and of which pieces the page is made.
+-- What `give_swap` keeps, also after want of memory: what no call changes; of each other life what is seen of it, whether it was accepted and its scripts; the picks that are kept; what stands in each slot, the children of `body` and what else the host had on the page; and of which pieces the page is made.
 pub record KeepsOthers (old new : Host) : Type 0 where
   pub plan : KeepsPlan old new
+  pub seens : (v : ℕ) → v ≢ newborn old → slice_get (seens new) v ≡ slice_get (seens old) v
   pub accepts : (v : ℕ) → v ≢ newborn old → accepts new v ≡ accepts old v
   pub scripts : (v : ℕ) → v ≢ newborn old → scripts new v ≡ scripts old v
+  pub journal : journal new ≡ journal old
   pub spots : spots new ≡ spots old
   pub page : PageJoins (newborn old) (shared old).page (shared new).page
   pub laid : (xs : List (List ℕ)) (pieces : List PagePiece) → IsLaid old xs pieces → IsLaid new xs pieces
+
+-- A swap of a slot was given: its life was born, and nothing else changes.
+pub record GivesSwap (to : ℕ) (content : SlotContent) (old new : Host) : Type 0 where
+  pub life : BearsLife to content old new
+  pub given : given new ≡ given old + 1
+  pub stays : KeepsOthers old new
 
 -- ## A page that is loaded
 
@@ -286,6 +304,7 @@ pub record Loads (spec : PageSpec) (h : Host) : Type 0 where
   pub scripts : (w : ℕ) (s : SlotSpec) → slice_get spec.slots.items w ≡ Some s → HasScripts spec.libs.items s.content (scripts h w)
   pub channels : channels h ≡ spec.channels.items
   pub libraries : libraries h ≡ map tree_of spec.libs.items
+  pub apart : IsDistinct bytes_eq (names h)
   pub names : names h ≡ map (λ (s : SlotSpec). s.name) spec.slots.items
   pub fuels : fuels h ≡ map (λ (s : SlotSpec). s.fuel) spec.slots.items
   pub told : (v n : ℕ) → slice_get (told h) v ≡ Some n → n ≡ 0

@@ -6,11 +6,12 @@ ghost use Rattle.page_build.specs.Layout as layout;
 ghost use Rattle.page_image.specs.Image.{HasRoot, owns, root_of};
 ghost use Rattle.page_tree.specs.page_nodes.Entries.{at, body};
 ghost use Rattle.page_tree.specs.Pages.{nodes};
-ghost use Rattle.slot_rounds.specs.page_load.slot_picks.Crowds.{is_present};
-ghost use Rattle.slot_rounds.specs.page_load.slot_picks.declared.crowd.Place.{Place};
-ghost use Rattle.slot_rounds.specs.page_load.slot_picks.Places.{HoldsItsOwn};
+ghost use Rattle.slot_reach.specs.slot_rounds.page_load.slot_picks.Crowds.{is_present};
+ghost use Rattle.slot_reach.specs.slot_rounds.page_load.slot_picks.declared.crowd.Place.{Place};
+ghost use Rattle.slot_reach.specs.slot_rounds.page_load.slot_picks.Places.{HoldsItsOwn};
 ghost use Rattle.widget_meaning.specs.OwnState.{OwnState};
 ghost use Rattle.page_output.specs.Printing.{Prints, PrintsPart};
+ghost use Rattle.page_spec.specs.Loadable.{IsLoadable};
 ghost use Rattle.page_spec.specs.Pages.{PagePiece, page_of, roots};
 ghost use Rattle.widget_host.specs.Housed.{AreShown, IsHoused, IsLaid, Loads, accepts, chains, journal, marked, own_trees, places, rooted, seens, shared};
 ghost use Rattle.widget_host.specs.Shapes.{HasOneRaw, IsReadOff, cells_of_host, cells_of_widgets};
@@ -24,13 +25,13 @@ use object_store::Store;
 use page_spec::PageSpec;
 use page_tree::Page;
 use pick_laws::PickEntry;
-use slot_rounds::page_load::slot_picks::{Crowd, Slot};
+use slot_reach::slot_rounds::page_load::slot_picks::{Crowd, Slot};
 use std::alloc::Global;
 use std::collections::VecDeque;
 
 /// One store and one page, the lives of all places, and the slots in which they follow on each other. A
 /// host whose call wanted memory is marked: nothing of it changes any more, and each later `give`, `give_swap`,
-/// `pick`, `settle`, `item`, `rounds`, `line` and `retired` is answered with `Memory`. What it holds can still be
+/// `pick`, `settle`, `item`, `rounds`, `line`, `retired` and `reach` is answered with `Memory`. What it holds can still be
 /// read, and its page printed.
 #[derive(Drop)]
 pub struct Host {
@@ -50,9 +51,9 @@ pub struct Host {
 
 impl Host {
     /// A page is loaded: each piece in its place, and for each widget its scripts and its load turns. The keys are those of
-    /// the tables that hash what a stranger chose. What no manifest asks for (more than 16 slots, a script
-    /// of the wrong position) is answered like want of memory.
+    /// the tables that hash what a stranger chose.
     pub fn load(alloc: Global, keys: Keys, spec: PageSpec) -> Result<Host, Memory>
+        requires loadable { IsLoadable spec }
         ensures { IfOk result (Loads spec) }
     {
         load_host(alloc, keys, spec)

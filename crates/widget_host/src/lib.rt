@@ -5,12 +5,15 @@
 mod giving;
 mod host;
 mod items;
+mod laws;
 mod lines;
 mod loading;
+mod reaching;
 mod rounds;
 mod running;
 mod swapping;
 
 pub use host::Host;
 pub use items::HostItem;
+pub use laws::{given_lives, loaded_lives, swapped_lives};
 pub use lines::{RunLine, Stop};

@@ -1,17 +1,18 @@
 //! A slot gets another file: its next life is born, and waits for its turn in the slot.
-ghost use Rattle.std.specs.Prelude.{◌≡◌, ◌<◌, ℕ, IsErr, OnErr, OnOk, false, length, map, true};
+ghost use Rattle.std.specs.Prelude.{◌≡◌, ◌<◌, ℕ, IsErr, List, OnErr, OnOk, Some, false, length, map, slice_get, true};
+ghost use Rattle.page_spec.specs.Loadable.{IsSwapLoadable};
 ghost use Rattle.pick_laws.specs.Journal.{on_at};
 ghost use Rattle.slot_laws.specs.Chains.{joins};
-ghost use Rattle.slot_rounds.specs.page_load.slot_picks.declared.slots.Slot.{Slot as SlotOf};
-ghost use Rattle.slot_rounds.specs.page_load.slot_picks.Crowds.{chains_of};
-ghost use Rattle.widget_host.specs.Housed.{BearsLife, GivesSwap, IsApart, IsHoused, IsWhole, KeepsOthers, chains, given, marked, swaps};
+ghost use Rattle.slot_reach.specs.slot_rounds.page_load.slot_picks.declared.slots.Slot.{Slot as SlotOf};
+ghost use Rattle.slot_reach.specs.slot_rounds.page_load.slot_picks.Crowds.{chains_of};
+ghost use Rattle.widget_host.specs.Housed.{BearsLife, GivesSwap, IsApart, IsHoused, IsWhole, KeepsOthers, chains, given, libraries, marked, names, swaps};
 
 use crate::giving::last_of;
 use crate::host::Host;
 use code_units::Memory;
 use page_spec::SlotContent;
-use slot_rounds::page_load::slot_picks::Slot;
-use slot_rounds::page_load::{Coming, add_life};
+use slot_reach::slot_rounds::page_load::slot_picks::Slot;
+use slot_reach::slot_rounds::page_load::{Coming, add_life};
 use std::alloc::Global;
 
 // A life waits behind those of a slot.
@@ -51,13 +52,15 @@ impl Host {
 
     /// A swap is queued for a slot: from then on what is given to the slot is for a life of this content, which
     /// waits until the one before it has nothing left to do. Its nodes, its cells and its load turns are made now, so
-    /// that no memory is wanted when it takes its place. Where the content is refused the slot is refused then.
-    /// `Memory` drops the content and marks the host.
+    /// that no memory is wanted when it takes its place. Where the content is refused the slot is refused then. It is
+    /// one that `load` would take for the slot, over the libraries that were loaded. `Memory` drops it and marks the
+    /// host.
     pub fn give_swap(&mut self, alloc: Global, to: u32, content: SlotContent) -> Result<(), Memory>
         requires housed { IsHoused self.old }
         requires there { to < length (chains self.old) }
         requires room { given self.old < 4096 }
         requires few { swaps self.old < 4 }
+        requires loadable { (name : List ℕ) → slice_get (names self.old) to ≡ Some name → IsSwapLoadable (length (libraries self.old)) name content }
         ensures gives { OnOk result (GivesSwap to content self.old self.new) }
         ensures stays { KeepsOthers self.old self.new }
         ensures housed { IsHoused self.new }

@@ -1,17 +1,19 @@
-use Rattle.std.proofs.Common.{List, map, refl, subst, sym, true}
+use Rattle.std.proofs.Common.{◌∙◌, List, ap, map, refl, subst, sym, true}
 use Rattle.std.specs.List.{IsDistinct}
 use Rattle.std.specs.Str.{bytes_eq}
-use Rattle.slot_rounds.specs.page_load.slot_picks.declared.slots.Slot.{Slot}
-use Rattle.slot_rounds.specs.page_load.slot_picks.Places.{told_of}
+use Rattle.slot_reach.specs.slot_rounds.page_load.slot_picks.declared.slots.Slot.{Slot}
+use Rattle.slot_reach.specs.slot_rounds.page_load.slot_picks.Crowds.{chains_of}
+use Rattle.slot_reach.specs.slot_rounds.Feeding.{is_last}
+use Rattle.slot_reach.proofs.SlotRounds.Seen.{seen_same}
 use Rattle.widget_host.specs.declared.host.Host.{Host}
 use Rattle.widget_host.specs.Housed.{chains, channels, names, seens, told}
 use Rattle.widget_host.proofs.Passed.{holds_all}
-use Rattle.widget_host.proofs.Rounding.{apart_alike, delivers_now, given_as, host_alike, images_then, listed_then, more_as, others_then, round_as, whole_then}
+use Rattle.widget_host.proofs.Rounding.{apart_alike, delivers_now, given_as, host_alike, listed_then, round_as, whole_then}
 use Rattle.widget_host.proofs.host.Host.deliver.Goals as goal
 
 pub deliver_posts-requires-clause-apart : goal.deliver_posts-requires-clause-apart
 unfolding names
-deliver_posts-requires-clause-apart c = subst (λ (ss : List Slot). IsDistinct bytes_eq (map (λ (s : Slot). s.name) ss)) (sym c.deref.ensures.value) c.requires.names
+deliver_posts-requires-clause-apart c = subst (λ (ss : List Slot). IsDistinct bytes_eq (map (λ (s : Slot). s.name) ss)) (sym c.deref.ensures.value) c.requires.apart.distinct
 
 pub deliver_posts-requires-clause-told : goal.deliver_posts-requires-clause-told
 unfolding told
@@ -26,7 +28,7 @@ returns-in-Ok-clause-delivers c =
 
 pub returns-in-Ok-clause-more : goal.returns-in-Ok-clause-more
 unfolding told
-returns-in-Ok-clause-more c = λ some. more_as (told_of c.args.self.now.crowd.places.items) (told_of c.deliver_posts.new.places.items) (c.in-Ok.ensures.more some)
+returns-in-Ok-clause-more c = c.in-Ok.ensures.more
 
 pub returns-in-Ok-clause-listed : goal.returns-in-Ok-clause-listed
 unfolding channels
@@ -38,19 +40,23 @@ returns-in-Ok-clause-listed c =
 
 pub returns-in-Ok-clause-images : goal.returns-in-Ok-clause-images
 unfolding seens
-returns-in-Ok-clause-images c =
-    let old = c.args.self.now in
-    let new : Host = record old { crowd = record old.crowd { places = c.deliver_posts.new.places } } in
-    images_then old new refl refl c.in-Ok.ensures.alike c.requires.whole c.in-Ok.ensures.kept c.in-Ok.delivered
-    (round_as old new refl refl c.in-Ok.ensures.alike c.requires.whole c.in-Ok.delivered _ _ c.deref.ensures.value c.deref-2.ensures.value c.in-Ok.ensures.round)
+returns-in-Ok-clause-images c = c.deliver_posts.ensures.images c.args.self.now.crowd.shared
+
+pub returns-in-Err-clause-images : goal.returns-in-Err-clause-images
+unfolding seens
+returns-in-Err-clause-images c = c.deliver_posts.ensures.images c.args.self.now.crowd.shared
 
 pub returns-in-Ok-clause-others : goal.returns-in-Ok-clause-others
 unfolding seens chains
-returns-in-Ok-clause-others c =
-    let old = c.args.self.now in
-    let new : Host = record old { crowd = record old.crowd { places = c.deliver_posts.new.places } } in
-    others_then old new refl refl c.in-Ok.ensures.alike c.requires.whole c.in-Ok.ensures.kept c.in-Ok.delivered
-    (round_as old new refl refl c.in-Ok.ensures.alike c.requires.whole c.in-Ok.delivered _ _ c.deref.ensures.value c.deref-2.ensures.value c.in-Ok.ensures.round)
+returns-in-Ok-clause-others c = λ v out.
+    seen_same c.args.self.now.crowd.shared v c.args.self.now.crowd.places.items c.deliver_posts.new.places.items
+    (c.deliver_posts.ensures.others v (ap (λ (ss : List Slot). is_last v (chains_of ss)) c.deref.ensures.value ∙ out))
+
+pub returns-in-Err-clause-others : goal.returns-in-Err-clause-others
+unfolding seens chains
+returns-in-Err-clause-others c = λ v out.
+    seen_same c.args.self.now.crowd.shared v c.args.self.now.crowd.places.items c.deliver_posts.new.places.items
+    (c.deliver_posts.ensures.others v (ap (λ (ss : List Slot). is_last v (chains_of ss)) c.deref.ensures.value ∙ out))
 
 pub returns-in-Ok-clause-whole : goal.returns-in-Ok-clause-whole
 returns-in-Ok-clause-whole c =

@@ -1,14 +1,16 @@
 use Rattle.std.proofs.Common.{◌≡◌, ◌≤◌, ◌+◌, ◌∙◌, ℕ, List, ap, arith, false, length, refl, subst, sym, true}
 use Rattle.std.proofs.lemmas.List.{length-map}
 use Rattle.slot_laws.specs.Chains.{Chains}
-use Rattle.slot_rounds.specs.page_load.slot_picks.declared.slots.Slot.{Slot}
-use Rattle.slot_rounds.specs.page_load.slot_picks.Crowds.{chains_of}
-use Rattle.slot_rounds.specs.page_load.slot_picks.declared.crowd.Place.{Place}
-use Rattle.slot_rounds.specs.page_load.slot_picks.Places.{homes_of, told_of}
+use Rattle.slot_reach.specs.slot_rounds.page_load.slot_picks.declared.slots.Slot.{Slot}
+use Rattle.slot_reach.specs.slot_rounds.page_load.slot_picks.Crowds.{chains_of}
+use Rattle.slot_reach.specs.slot_rounds.page_load.slot_picks.declared.crowd.Place.{Place}
+use Rattle.slot_reach.specs.slot_rounds.page_load.slot_picks.Places.{homes_of, told_of}
+use Rattle.slot_reach.specs.slot_rounds.Feeding.{sum_of}
+use Rattle.slot_reach.proofs.SlotRounds.Seen.{images_alike}
 use Rattle.widget_host.specs.declared.host.Host.{Host}
 use Rattle.widget_host.specs.Feeding.{AreFed, work_of}
-use Rattle.widget_host.specs.Housed.{IsHoused, IsItem, IsWhole, chains, given, is_for, journal, marked, seens, shared, sum_of, swaps, told}
-use Rattle.widget_host.proofs.Alike.{are_alike, images_alike}
+use Rattle.widget_host.specs.Housed.{IsHoused, IsItem, IsWhole, chains, given, is_for, journal, marked, seens, shared, swaps, told}
+use Rattle.widget_host.proofs.Alike.{are_alike}
 use Rattle.widget_host.proofs.Fed.{told_same}
 use Rattle.widget_host.proofs.Given.{gives_item, gives_slots, gives_whole}
 use Rattle.widget_host.proofs.Staying.{apart_stays, host_here, host_stays}

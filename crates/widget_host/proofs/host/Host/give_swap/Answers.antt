@@ -27,6 +27,7 @@ unfolding given
 returns-in-Ok-clause-gives c = record {
   life = life_with c.args.self.now c.bear.new.self (c.bear.new.self.given + 1) c.bear.new.self.marked c.args.to c.args.content c.in-Ok.ensures.life;
   given = ap (λ n. n + 1) c.bear.ensures.given;
+  stays = others_with c.args.self.now c.bear.new.self (c.bear.new.self.given + 1) c.bear.new.self.marked c.in-Ok.ensures.stays;
 }
 
 pub returns-in-Ok-clause-stays : goal.returns-in-Ok-clause-stays

@@ -2,8 +2,8 @@ use Rattle.std.proofs.Common.{◌≡◌, ℕ, false, true, List, [], ◌∷◌, 
 use Rattle.std.proofs.lemmas.Result.{on_ok_weaker}
 use Rattle.life_laws.specs.Life.{due, image}
 use Rattle.slot_laws.specs.Chains.{last_life}
-use Rattle.widget_host.specs.Housed.{chains, dues_after, given, seens}
-use Rattle.widget_host.proofs.Passed.{item_passes}
+use Rattle.widget_host.specs.Housed.{chains, dues_after, given, queued, seens, unqueued}
+use Rattle.widget_host.proofs.Passed.{err_not_ok}
 use Rattle.widget_host.proofs.Staying.{host_then, ok_then}
 use Rattle.widget_host.proofs.host.Host.item.Goals as goal
 
@@ -29,4 +29,7 @@ pub returns-clause-marked : goal.returns-clause-marked
 returns-clause-marked g c = λ is. absurd (let both : false ≡ true = (c.in_ok-give.ensures.marked is).0 in cc)
 
 pub returns-clause-passes : goal.returns-clause-passes
-returns-clause-passes g c = item_passes c.args.slice c.args.item c.args.self.now c.give.new.self c.settle.new.self c.settle.result c.in_ok-give.ensures.gives c.settle.ensures.passes
+returns-clause-passes g c = queued c.in_ok-give.ensures.gives c.settle.ensures.passes
+
+pub returns-in_err-give-clause-passes : goal.returns-in_err-give-clause-passes
+returns-in_err-give-clause-passes g c = unqueued (err_not_ok c.from_residual.result c.from_residual.ensures.0) c.give.ensures.images c.give.ensures.journal c.give.ensures.same

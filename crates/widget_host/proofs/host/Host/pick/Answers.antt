@@ -1,6 +1,7 @@
 use Rattle.std.proofs.Common.{◌≡◌, ◌+◌, false, refl, true}
 use Rattle.widget_host.specs.declared.host.Host.{Host}
-use Rattle.widget_host.specs.Housed.{IsHoused, marked, swaps}
+use Rattle.widget_host.specs.Housed.{IsHoused, journal, marked, swaps}
+use Rattle.widget_host.proofs.Passed.{beside_here, beside_kept}
 use Rattle.widget_host.proofs.Staying.{apart_stays, host_here, host_stays}
 use Rattle.widget_host.proofs.Whole.{whole_stays}
 use Rattle.widget_host.proofs.host.Host.pick.Goals as goal
@@ -36,3 +37,16 @@ returns-in-Ok-clause-stays c = host_stays c.args.self.now _ c.in-Ok.ensures.stay
 
 pub returns-in-Err-clause-stays : goal.returns-in-Err-clause-stays
 returns-in-Err-clause-stays c = host_stays c.args.self.now _ c.pick_slot.ensures.stays refl refl refl
+
+pub returns-then-self-clause-beside : goal.returns-then-self-clause-beside
+returns-then-self-clause-beside c = beside_here c.args.w c.args.self.now
+
+pub returns-in-Ok-clause-beside : goal.returns-in-Ok-clause-beside
+returns-in-Ok-clause-beside c = beside_kept c.args.w c.args.self.now _ c.pick_slot.ensures.beside
+
+pub returns-in-Err-clause-beside : goal.returns-in-Err-clause-beside
+returns-in-Err-clause-beside c = beside_kept c.args.w c.args.self.now _ c.pick_slot.ensures.beside
+
+pub returns-in-Err-clause-journal : goal.returns-in-Err-clause-journal
+unfolding journal
+returns-in-Err-clause-journal c = c.in-Err.ensures.still

@@ -1,10 +1,13 @@
-use Rattle.std.proofs.Common.{◌≡◌, ◌∙◌, ap, arith, false, refl, subst, true}
-use Rattle.slot_rounds.proofs.Looping.{settled_shows}
-use Rattle.widget_host.specs.Housed.{IsHoused, marked, seens, sum_of, told}
-use Rattle.widget_host.specs.Rounds.{Delivers, one_round}
+use Rattle.std.proofs.Common.{◌≡◌, ◌∙◌, ap, arith, false, refl, subst, sym, true}
+use Rattle.slot_reach.proofs.SlotRounds.Looping.{settled_shows}
+use Rattle.slot_reach.specs.slot_rounds.Feeding.{sum_of}
+use Rattle.widget_host.specs.Housed.{IsHoused, chains, marked, seens, told}
+use Rattle.widget_host.specs.Rounds.{in_round, one_round}
+use Rattle.widget_host.proofs.Rounding.{GivesPosts}
 use Rattle.widget_host.proofs.Rounding.{told_few}
 use Rattle.widget_host.proofs.Staying.{host_then}
-use Rattle.widget_host.proofs.Ways.{err_stops, rounds_then, settled_from, settled_to, way_delivered, way_ended, way_here, way_others, way_settled}
+use Rattle.widget_host.proofs.Lived.{are_retired, lasts_of}
+use Rattle.widget_host.proofs.Ways.{err_stops, lasts_twice, pick_wants, rounds_then, settled_from, settled_to, way_delivered, way_ended, way_here, way_others, way_settled}
 use Rattle.widget_host.proofs.host.Host.rounds.Goals as goal
 
 pub rounds-init : goal.rounds-init
@@ -22,17 +25,23 @@ returns-then-not-branch-clause-stays g c =
     host_then c.args.self.now c.settle.new.self c.deliver.new.self (host_then c.args.self.now c.rounds.self c.settle.new.self c.rounds.invariant.way.stays c.settle.ensures.stays) c.deliver.ensures.stays
 
 pub returns-in_err-settle-clause-passes : goal.returns-in_err-settle-clause-passes
-returns-in_err-settle-clause-passes g c = (
-  c.settle.ensures.passes.last,
-  rounds_then c.args.slice c.args.self.now c.rounds.self c.settle.ensures.passes.last c.rounds.invariant.way.passes c.settle.ensures.passes.picks,
-  err_stops _ c.from_residual.result c.from_residual.ensures.0,
-)
+returns-in_err-settle-clause-passes g c = let p = c.settle.ensures.passes in record {
+  last = p.last;
+  passes = rounds_then c.args.slice c.args.self.now c.rounds.self p.last c.rounds.invariant.way.passes p.picks;
+  is = err_stops _ c.from_residual.result c.from_residual.ensures.0;
+  wanted = λ e. pick_wants _ p.last c.settle.new.self p.is p.wanted;
+}
 
 pub returns-in_err-deliver-clause-passes : goal.returns-in_err-deliver-clause-passes
 returns-in_err-deliver-clause-passes g c =
     let e = c.in_ok-settle.ensures in
     let way = way_settled c.args.slice c.args.self.now c.rounds.self c.settle.new.self c.rounds.invariant.way e.settled.went.dues e.chains c.settle.ensures.told e.given c.settle.ensures.stays e.passes in
-    (c.settle.new.self, way.passes, err_stops _ c.from_residual-in_err-deliver.result c.from_residual-in_err-deliver.ensures.0)
+    record {
+      last = c.settle.new.self;
+      passes = way.passes;
+      is = err_stops _ c.from_residual-in_err-deliver.result c.from_residual-in_err-deliver.ensures.0;
+      wanted = λ x. in_round (record { journal = c.deliver.ensures.journal; images = c.deliver.ensures.images; others = c.deliver.ensures.others });
+    }
 
 pub returns-then-not-branch-clause-rounds : goal.returns-then-not-branch-clause-rounds
 returns-then-not-branch-clause-rounds g c =
@@ -41,8 +50,8 @@ returns-then-not-branch-clause-rounds g c =
     let done = settled_shows (seens c.rounds.self) (seens c.settle.new.self) e.done e.settled.went.dues in
     let none : c.in_ok-deliver.field-0 ≡ false = c.if-not-branch.true in
     let still : seens c.deliver.new.self ≡ seens c.settle.new.self = (c.in_ok-deliver.ensures.still none).0 in
-    way_ended c.args.slice c.args.self.now c.settle.new.self c.deliver.new.self way done (subst (λ b. Delivers b c.settle.new.self c.deliver.new.self) none c.in_ok-deliver.ensures.delivers)
-    still (c.in_ok-deliver.ensures.still none).1 c.deliver.ensures.chains c.deliver.ensures.stays
+    way_ended c.args.slice c.args.self.now c.settle.new.self c.deliver.new.self way done (subst (λ b. GivesPosts b c.settle.new.self c.deliver.new.self) none c.in_ok-deliver.ensures.delivers)
+    still c.deliver.ensures.chains (ap lasts_of e.chains ∙ lasts_twice (chains c.rounds.self) ∙ sym e.chains) c.deliver.ensures.stays
 
 pub returns-then-not-branch-clause-ended : goal.returns-then-not-branch-clause-ended
 returns-then-not-branch-clause-ended g c =
@@ -53,11 +62,23 @@ returns-then-not-branch-clause-ended g c =
     let still : seens c.deliver.new.self ≡ seens c.settle.new.self = (c.in_ok-deliver.ensures.still none).0 in
     way_others c.args.slice c.args.self.now c.settle.new.self c.deliver.new.self way done still
 
+pub returns-then-not-branch-clause-retired : goal.returns-then-not-branch-clause-retired
+returns-then-not-branch-clause-retired g c = λ es all.
+    let e = c.in_ok-settle.ensures in
+    let way = way_settled c.args.slice c.args.self.now c.rounds.self c.settle.new.self c.rounds.invariant.way e.settled.went.dues e.chains c.settle.ensures.told e.given c.settle.ensures.stays e.passes in
+    let lasts = c.deliver.ensures.chains ∙ e.chains ∙ c.rounds.invariant.way.lasts in
+    are_retired c.args.self.now c.deliver.new.self (host_then c.args.self.now c.settle.new.self c.deliver.new.self way.stays c.deliver.ensures.stays) lasts (returns-then-not-branch-clause-ended g c) es all
+
 pub returns-then-not-branch-clause-passes : goal.returns-then-not-branch-clause-passes
 returns-then-not-branch-clause-passes g c =
     let e = c.in_ok-settle.ensures in
     let way = way_settled c.args.slice c.args.self.now c.rounds.self c.settle.new.self c.rounds.invariant.way e.settled.went.dues e.chains c.settle.ensures.told e.given c.settle.ensures.stays e.passes in
-    (c.deliver.new.self, one_round way.passes c.in_ok-deliver.ensures.images c.deliver.ensures.journal c.deliver.ensures.holds, λ e. refl)
+    record {
+      last = c.deliver.new.self;
+      passes = one_round way.passes c.deliver.ensures.images c.deliver.ensures.journal c.deliver.ensures.holds;
+      is = λ x. refl;
+      wanted = λ x. absurd (let both : true ≡ false = x in cc);
+    }
 
 pub returns-then-not-branch-clause-settled : goal.returns-then-not-branch-clause-settled
 returns-then-not-branch-clause-settled g c =
@@ -88,8 +109,8 @@ rounds-preserved g c =
     let some : c.in_ok-deliver.field-0 ≡ true = c.if-not-branch.false in
     record {
       housed = (c.deliver.ensures.apart, λ unmarked. c.in_ok-deliver.ensures.whole);
-      way = way_delivered c.args.slice c.args.self.now c.settle.new.self c.deliver.new.self way done (subst (λ b. Delivers b c.settle.new.self c.deliver.new.self) some c.in_ok-deliver.ensures.delivers)
-          c.in_ok-deliver.ensures.images c.in_ok-deliver.ensures.others c.deliver.ensures.chains c.deliver.ensures.journal c.deliver.ensures.given c.deliver.ensures.holds c.deliver.ensures.stays;
+      way = way_delivered c.args.slice c.args.self.now c.settle.new.self c.deliver.new.self way done (subst (λ b. GivesPosts b c.settle.new.self c.deliver.new.self) some c.in_ok-deliver.ensures.delivers)
+          c.deliver.ensures.images c.deliver.ensures.others c.deliver.ensures.chains c.deliver.ensures.journal c.deliver.ensures.given c.deliver.ensures.holds c.deliver.ensures.stays;
       first = λ m. absurd (let both : false ≡ true = (e.marked (ap marked (c.rounds.invariant.first m).0 ∙ m)).0 in cc);
       only = λ empty. absurd (c.in_ok-deliver.ensures.listed some (way.stays.plan.channels ∙ empty));
     }

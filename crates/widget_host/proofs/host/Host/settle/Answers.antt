@@ -1,9 +1,9 @@
 use Rattle.std.proofs.Common.{◌≡◌, ◌+◌, ap, false, refl, subst, true}
 use Rattle.std.specs.Prelude.{is_ok}
-use Rattle.slot_rounds.specs.page_load.slot_picks.Crowds.{PicksUntil}
+use Rattle.slot_reach.specs.slot_rounds.page_load.slot_picks.Crowds.{PicksUntil}
 use Rattle.widget_host.specs.declared.host.Host.{Host}
 use Rattle.widget_host.specs.Housed.{IsHoused, marked, no_pick, swaps}
-use Rattle.widget_host.proofs.Passed.{passes_until}
+use Rattle.widget_host.proofs.Passed.{passes_until, wants_here}
 use Rattle.widget_host.proofs.Staying.{apart_stays, host_here, host_stays}
 use Rattle.widget_host.proofs.Whole.{whole_stays}
 use Rattle.widget_host.proofs.host.Host.settle.Goals as goal
@@ -41,13 +41,13 @@ pub returns-in-Err-clause-stays : goal.returns-in-Err-clause-stays
 returns-in-Err-clause-stays g c = host_stays c.args.self.now _ c.settle_slots.ensures.stays refl refl refl
 
 pub returns-then-self-clause-passes : goal.returns-then-self-clause-passes
-returns-then-self-clause-passes g c = record { last = c.args.self.now; picks = no_pick; is = λ e. refl }
+returns-then-self-clause-passes g c = record { last = c.args.self.now; picks = no_pick; is = λ e. refl; wanted = λ e. wants_here c.args.self.now }
 
 pub returns-in-Ok-clause-passes : goal.returns-in-Ok-clause-passes
-returns-in-Ok-clause-passes g c = passes_until c.args.slice c.args.self.now true c.settle_slots.new.crowd c.settle_slots.new.slots _ (λ e. refl) c.in-Ok.ensures.passes
+returns-in-Ok-clause-passes g c = passes_until c.args.slice c.args.self.now true _ (λ e. refl) c.in-Ok.ensures.passes
 
 pub returns-in-Err-clause-passes : goal.returns-in-Err-clause-passes
 returns-in-Err-clause-passes g c =
     let ended : is_ok c.settle_slots.result ≡ false = ap is_ok c.in-Err.is in
-    passes_until c.args.slice c.args.self.now false c.settle_slots.new.crowd c.settle_slots.new.slots _ (λ e. absurd (let both : false ≡ true = e in cc))
+    passes_until c.args.slice c.args.self.now false _ (λ e. absurd (let both : false ≡ true = e in cc))
     (subst (λ b. PicksUntil c.args.slice c.args.self.now.crowd c.args.self.now.slots b c.settle_slots.new.crowd c.settle_slots.new.slots) ended c.settle_slots.ensures.passes)
