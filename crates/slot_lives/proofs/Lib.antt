@@ -1,0 +1,9 @@
+pub mod Cuts
+pub mod Growing
+pub mod Alike
+pub mod LawsHold
+pub mod Others
+pub mod Naming
+pub mod OneOutcome
+pub mod Ending
+pub mod Agreeing

@@ -1,0 +1,9 @@
+pub mod Lives
+pub mod LifeLaws
+pub mod OtherSlots
+pub mod Names
+pub mod Lines
+pub mod Ends
+pub mod Outcome
+pub mod EndLaws
+pub mod TwoPages
