@@ -1,0 +1,9 @@
+pub mod Counting
+pub mod Gathered
+pub mod ReadsLemmas
+pub mod Asking
+pub mod Names
+pub mod Manifests
+pub mod Stepping
+pub mod Gotten
+pub mod Coming
