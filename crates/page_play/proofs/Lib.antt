@@ -1,0 +1,16 @@
+mod Begun
+mod Chained
+mod Scripted
+mod Born
+mod Given
+mod Ordered
+mod Ended
+mod Swapping
+mod Matching
+mod Living
+mod Outcomes
+mod LawsHold
+mod Telling
+mod Finding
+mod Reporting
+mod Giving

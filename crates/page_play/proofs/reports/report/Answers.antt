@@ -1,0 +1,8 @@
+use Rattle.page_play.proofs.Reporting.{found_told, all_reported}
+use Rattle.page_play.proofs.reports.report.Goals as goal
+
+pub tell-requires : goal.tell-requires
+tell-requires c = record { told = found_told c.args.findings.now c.args.host.now c.requires }
+
+pub returns : goal.returns
+returns c = all_reported c.args.findings.now c.args.host.now c.tell.result c.tell.ensures

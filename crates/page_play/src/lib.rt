@@ -1,0 +1,18 @@
+//! A page is loaded, takes its items and settles; and then what its lives did is written, with the page or
+//! as its certificate of reach.
+#![tactic(auto)]
+
+mod findings;
+mod laws;
+mod lines;
+mod playing;
+mod reports;
+
+pub use findings::{Findings, Swaps, find_swaps, some_refused};
+pub use laws::plays_come_to;
+pub use lines::run_text;
+pub use playing::play;
+pub use reports::{certificate, report};
+// Handed on to the crates above.
+pub use slot_lives;
+pub use widget_host;
