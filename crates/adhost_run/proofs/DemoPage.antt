@@ -1,39 +1,41 @@
 -- The page of `demo`: it is what its definitions say, and its slots are accepted or there is no report.
-use Rattle.std.proofs.Common.{◌≡◌, ℕ, zero, suc, ◌+◌, ◌-◌, ◌<◌, ◌≤◌, List, [], ◌∷◌, ◌++◌, length, take, map, get_or, All, Bool, true, false, not, if◌then◌else◌, Option, Some, None, refl, sym, ap, subst, ◌∙◌, arith, append_assoc, append-nil}
-use Rattle.std.specs.Prelude.{slice_get, is_some, nat_lt, nat_eq, ◌||◌, ◌&&◌, ◌%◌, ◌/◌, ◌^◌, codes}
-use Rattle.std.specs.List.{AllByRecursion, list_any, list_all, flat_map}
+use Rattle.std.proofs.Common.{◌≡◌, ℕ, zero, suc, ◌+◌, ◌-◌, ◌<◌, ◌≤◌, List, [], ◌∷◌, ◌++◌, length, take, map, get_or, All, Bool, true, false, if◌then◌else◌, Option, Some, None, refl, sym, ap, subst, ◌∙◌, arith, append_assoc, append-nil, length-append}
+use Rattle.std.specs.Prelude.{slice_get, nat_lt, nat_eq, sum_by, ◌||◌, ◌&&◌, ◌%◌, ◌/◌, ◌^◌, codes}
+use Rattle.std.specs.List.{AllByRecursion, IsDistinct, list_all, flat_map}
 use Rattle.std.proofs.lemmas.List.{length-map, take_all}
 use Rattle.std.proofs.lemmas.Str.Ascii.{IsAscii-nil, IsAscii-cons}
 use Rattle.std.proofs.lemmas.Bool.Decides.{nat_tests}
 use Rattle.code_units.specs.Utf8.{units_of}
 use Rattle.code_units.proofs.Utf8Laws.{units_of-ascii}
+use Rattle.plain_tree.specs.Trees.{height}
 use Rattle.trace_reader.specs.declared.item.TraceItem.{TraceItem}
 use Rattle.trace_reader.specs.Said.{Said, an_event, an_advance, said}
-use Rattle.manifest_shape.specs.Slots.{are_slots}
 use Rattle.manifest_reader.specs.declared.entry.Manifest.{Manifest}
-use Rattle.manifest_reader.specs.Page.{Widget, usual_fuel}
+use Rattle.manifest_reader.specs.Page.{Widget, usual_fuel, nodes_of}
 use Rattle.slot_check.specs.declared.sources.SourceFile.{SourceFile}
 use Rattle.slot_check.specs.Sources.{Source}
 use Rattle.slot_check.specs.Verdicts.{source_of, sources_of, IsSmall}
 use Rattle.life_laws.specs.Life.{Seen, image}
 use Rattle.widget_meaning.specs.OwnState.{OwnState}
-use Rattle.page_judge.specs.declared.page.JudgedPage.{JudgedPage}
-use Rattle.page_judge.specs.Runs.{SlotRun, slots_named, runs_over, pieces}
-use Rattle.page_judge.specs.Judged.{IsJudgedPage, AreJudgedSlots}
-use Rattle.widget_host.specs.declared.host.Host.{Host}
-use Rattle.widget_host.specs.declared.lines.RunLine.{RunLine}
-use Rattle.widget_host.specs.page_load.Loads.{singles}
-use Rattle.widget_host.specs.Housed.{IsLaid, IsLineOf, IsShown, seens, scripts, chains, accepts, present}
-use Rattle.adhost_run.specs.declared.ending.Status.TheVariants as status
-use Rattle.adhost_run.specs.Items.{IsFor, AreItems}
-use Rattle.adhost_run.specs.Page.{parts, slot_names, is_swap, is_built_trace}
-use Rattle.adhost_run.specs.Run.{given_by, run_name, AreEnds, short_line, some_refused}
-use Rattle.adhost_run.specs.Demo.{demo_names, counter_of, demo_runs, demo_part, demo_parts, next_number, demo_item, demo_from, demo_items, demo_given, short_lines, DemoAnswer, short_report}
-use Rattle.adhost_run.specs.Stage.{HasItsScripts, IsSettled, IsDemoStage, demo_slice}
-use Rattle.adhost_run.specs.Played.{name_of, ended, given_all, IsPlayed, lines_of, AreAccepted}
-use Rattle.adhost_run.proofs.Manifests.{part_name, names_by_parts}
-use Rattle.adhost_run.proofs.PlayedLemmas.{all_ends, all_flags, played_scripts, shown_all, shown_at, singles_present, singles_length}
-use Rattle.adhost_run.proofs.PageReports.{spec_names}
+use Rattle.page_spec.specs.Loadable.{most_high, most_fuel, same_channel}
+use Rattle.page_judge.specs.Fits.{AreFit, IsFit, markup_of}
+use Rattle.page_judge.specs.Runs.{slots_named}
+use Rattle.slot_lives.specs.Lines.{short_line}
+use Rattle.slot_lives.specs.Ends.{end_of, run_name, some_refused}
+use Rattle.slot_lives.specs.Outcome.{ComeTo, Outcome, last_lives}
+use Rattle.page_play.specs.widget_host.declared.host.Host.{Host}
+use Rattle.page_play.specs.widget_host.declared.lines.RunLine.{RunLine}
+use Rattle.page_play.specs.widget_host.Housed.{IsLineOf, IsShown, AreShown, seens, chains, accepts, present}
+use Rattle.run_steps.specs.declared.ending.Status.TheVariants as status
+use Rattle.run_steps.specs.Items.{IsFor, AreItems}
+use Rattle.run_steps.specs.Page.{parts, slot_names, slot_files, files_named, files_swapped, swap_file, texts}
+use Rattle.adhost_run.specs.declared.playing.Ran.{Ran}
+use Rattle.adhost_run.specs.Page.{runs_with, runs_of}
+use Rattle.adhost_run.specs.Demo.{demo_names, counter_of, demo_runs, demo_part, demo_parts, next_number, demo_item, demo_from, demo_items, short_lines, AreAccepted, DemoAnswer, short_report}
+use Rattle.adhost_run.specs.Ran.{IsRan}
+use Rattle.adhost_run.specs.Stage.{IsStage, IsDemoStage, demo_slice}
+use Rattle.run_steps.proofs.Manifests.{part_name, names_by_parts}
+use Rattle.adhost_run.proofs.Paged.{slots_even}
 
 -- ## Items
 
@@ -65,9 +67,9 @@ item_for x i = by (nat_eq (i % 7) 0) where
   by true = omega arith
   by false = omega arith
 
-no_swap : (x i : ℕ) → is_swap (demo_item x i) ≡ false
+no_swap : (x i : ℕ) → swap_file (demo_item x i) ≡ []
 no_swap x i = by (nat_eq (i % 7) 0) where
-  by : (b : Bool) → is_swap (if b then an_advance 20 else an_event ((x / 65536) % 16) (codes "click") (3 ∷ []) None) ≡ false
+  by : (b : Bool) → swap_file (if b then an_advance 20 else an_event ((x / 65536) % 16) (codes "click") (3 ∷ []) None) ≡ []
   by true = refl
   by false = refl
 
@@ -79,15 +81,15 @@ all_for : (x i k : ℕ) → All (IsFor 16) (demo_from x i k)
 all_for x i zero = λ n d within. absurd (omega (arith, within))
 all_for x i (suc k) = all_more (demo_item (next_number x) i) (demo_from (next_number x) (i + 1) k) (item_for (next_number x) i) (all_for (next_number x) (i + 1) k)
 
-none_swap : (x i k : ℕ) → list_any is_swap (demo_from x i k) ≡ false
+none_swap : (x i k : ℕ) → files_swapped (demo_from x i k) ≡ []
 none_swap x i zero = refl
-none_swap x i (suc k) = ap (λ b. b || list_any is_swap (demo_from (next_number x) (i + 1) k)) (no_swap (next_number x) i) ∙ none_swap (next_number x) (i + 1) k
+none_swap x i (suc k) = ap (λ fs. fs ++ files_swapped (demo_from (next_number x) (i + 1) k)) (no_swap (next_number x) i) ∙ none_swap (next_number x) (i + 1) k
 
 pub demo_for : (count : ℕ) (items : List Said) → count ≤ 4096 → items ≡ demo_items count → AreItems 16 items
-demo_for count items few are = subst (AreItems 16) (sym are) (record { few = omega (arith, from_many count 1 count, few); each = all_for count 1 count })
+demo_for count items few are = subst (AreItems 16) (sym are) (record { few = omega (arith, from_many count 1 count, few); each = all_for count 1 count; swaps = omega (arith, ap length (none_swap count 1 count)) })
 
-pub demo_built : (count : ℕ) (items : List Said) → items ≡ demo_items count → is_built_trace items ≡ true
-demo_built count items are = ap is_built_trace are ∙ ap not (none_swap count 1 count)
+pub demo_unswapped : (count : ℕ) (items : List Said) → items ≡ demo_items count → files_swapped items ≡ []
+demo_unswapped count items are = ap files_swapped are ∙ none_swap count 1 count
 
 -- ## Files
 
@@ -132,83 +134,105 @@ click_units = units_of-ascii (codes "click") (IsAscii-cons 99 (codes "lick") (om
 pub many_files : (files : List SourceFile) → sources_of files ≡ map counter_of demo_names → length files ≡ 16
 many_files files are = sym (length-map files source_of) ∙ ap length are
 
-module _ (manifest : Manifest) (sources files libs : List SourceFile) (page : JudgedPage) (judged : IsJudgedPage manifest (sources_of files) (sources_of libs) page) (names : List (List ℕ)) (named : names ≡ slot_names manifest.entries.items) (parts_are : parts manifest ≡ demo_parts) (files_are : sources_of files ≡ map counter_of demo_names) (none : libs ≡ []) where
-  pub names_are : names ≡ demo_names
-  names_are = named ∙ names_by_parts manifest.entries.items ∙ ap (flat_map part_name) parts_are
+-- ## Own states
 
-  pub even : length names ≡ length files
-  even = ap length names_are ∙ sym (many_files files files_are)
+-- of more own states of which none is refused, none of the first is
+none_before : (xs ys : List (Option OwnState)) → some_refused (xs ++ ys) ≡ false → some_refused xs ≡ false
+none_before [] ys is = refl
+none_before (None ∷ xs) ys is = is
+none_before (Some o ∷ xs) ys is = none_before xs ys is
 
-  runs_are : runs_over (sources_of libs) (slots_named (parts manifest)) (sources_of files) ≡ demo_runs
-  runs_are =
-      ap (λ ls. runs_over (sources_of ls) (slots_named (parts manifest)) (sources_of files)) none
-      ∙ ap (λ ps. runs_over [] (slots_named ps) (sources_of files)) parts_are
-      ∙ ap (runs_over [] (slots_named demo_parts)) files_are
+shown_even : (h : Host) (cs : List (List ℕ)) (es : List (Option OwnState)) → AreShown h cs es → length cs ≡ length es
+shown_even h [] [] are = refl
+shown_even h [] (e ∷ es) are = absurd are
+shown_even h (c ∷ cs) [] are = absurd are
+shown_even h (c ∷ cs) (e ∷ es) are = ap suc (shown_even h cs es are.1)
 
-  pub slots_are : map name_of page.spec.slots.items ≡ demo_names
-  slots_are = spec_names manifest sources files libs page judged names named even ∙ names_are
+-- what is shown in a slot
+shown_at : (h : Host) (cs : List (List ℕ)) (es : List (Option OwnState)) (i : ℕ) (e : Option OwnState) → AreShown h cs es → slice_get es i ≡ Some e → IsShown h (present i cs) e
+shown_at h [] [] i e are there = absurd (let f : None ≡ Some e = there in cc)
+shown_at h [] (x ∷ es) i e are there = absurd are
+shown_at h (c ∷ cs) [] i e are there = absurd are
+shown_at h (c ∷ cs) (x ∷ es) zero e are there = subst (IsShown h (present 0 (c ∷ cs))) (let f : Some x ≡ Some e = there in cc) are.0
+shown_at h (c ∷ cs) (x ∷ es) (suc i) e are there = shown_at h cs es i e are.1 there
 
-  pub slots_good : are_slots (map name_of page.spec.slots.items) ≡ true
-  slots_good = ap are_slots slots_are
+-- ## The page
 
-  pub slots_many : length page.spec.slots.items ≡ 16
-  slots_many = sym (length-map page.spec.slots.items name_of) ∙ ap length slots_are
+each_named : (P : List ℕ × ℕ → Type 0) → ((n : List ℕ) → P (n, usual_fuel)) → (ns : List (List ℕ)) → All P (slots_named (map demo_part ns))
+each_named P is [] k d within = absurd (omega (arith, within))
+each_named P is (n ∷ ns) zero d within = is n
+each_named P is (n ∷ ns) (suc k) d within = each_named P is ns k d (omega (arith, within))
 
-  module _ (h : Host) (count : ℕ) (items : List TraceItem) (items_are : map said items ≡ demo_items count) (played : IsPlayed page.spec (map said items) h) (flag : list_any is_some page.refusals.items ≡ false) where
-    abbrev pub shown_owns : List (Option OwnState)
-    shown_owns = map (ended page.spec (given_all page.spec (map said items))) page.spec.slots.items
+each_low : (ns : List (List ℕ)) → All (λ part. height (markup_of part) ≤ most_high) (map demo_part ns)
+each_low [] k d within = absurd (omega (arith, within))
+each_low (n ∷ ns) zero d within = omega arith
+each_low (n ∷ ns) (suc k) d within = each_low ns k d (omega (arith, within))
 
-    given_is : given_all page.spec (map said items) ≡ demo_given count
-    given_is = ap (λ ns. map (given_by ns) (map said items)) slots_are ∙ ap (map (given_by demo_names)) items_are
+no_twice : IsDistinct same_channel []
+unfolding IsDistinct
+no_twice = tt
 
-    none_refused : some_refused shown_owns ≡ false
-    none_refused = sym (all_flags page.spec (given_all page.spec (map said items)) (runs_over (sources_of libs) (slots_named (parts manifest)) (sources_of files)) page.spec.slots.items page.refusals.items judged.slots) ∙ flag
+-- a host may load it
+demo_fits : AreFit demo_parts []
+demo_fits = record {
+  slots = refl;
+  fuel = each_named (λ n. (1 ≤ n.1) × (n.1 ≤ most_fuel)) (λ n. (omega arith, omega arith)) demo_names;
+  low = each_low demo_names;
+  few = let none : sum_by nodes_of demo_parts ≡ 0 = refl in omega (arith, none);
+  channels = record { few = omega arith; distinct = no_twice; each = λ k d within. absurd (omega (arith, within)) };
+}
 
-    pub accepted : AreAccepted names h shown_owns
-    accepted = record {
-      housed = played.housed;
-      chains = played.chains ∙ ap (singles 0) (slots_many ∙ sym (ap length names_are));
-      shown = played.ends;
-      even = ap length names_are ∙ sym (length-map page.spec.slots.items (ended page.spec (given_all page.spec (map said items))) ∙ slots_many);
-      accepted = none_refused;
-    }
+pub fits_of : (manifest : Manifest) → parts manifest ≡ demo_parts → manifest.channels.items ≡ [] → IsFit manifest
+fits_of manifest parts_are none = subst (AreFit (parts manifest)) (sym none) (subst (λ ps. AreFit ps []) (sym parts_are) demo_fits)
 
-    ends_are : AreEnds (demo_given count) demo_runs shown_owns (lines_of (map run_name (runs_over (sources_of libs) (slots_named (parts manifest)) (sources_of files))) page.refusals.items shown_owns)
-    ends_are =
-        let runs = runs_over (sources_of libs) (slots_named (parts manifest)) (sources_of files) in
-        let lines = lines_of (map run_name runs) page.refusals.items shown_owns in
-        subst (λ rs. AreEnds (demo_given count) rs shown_owns lines) runs_are
-        (subst (λ gs. AreEnds gs runs shown_owns lines) given_is (all_ends page.spec (given_all page.spec (map said items)) runs page.spec.slots.items page.refusals.items judged.slots))
+module _ (manifest : Manifest) (sources : List SourceFile) (parts_are : parts manifest ≡ demo_parts) (files_are : sources_of sources ≡ map counter_of demo_names) where
+  pub names_are : slot_names manifest.entries.items ≡ demo_names
+  names_are = names_by_parts manifest.entries.items ∙ ap (flat_map part_name) parts_are
 
-    pub demo_answered : (old bytes : List ℕ) → old ≡ [] → ((os : List (Option OwnState)) → AreAccepted names h os → bytes ≡ old ++ short_lines names os) → DemoAnswer count status.Ok bytes
-    demo_answered old bytes empty written =
-        let text : bytes ≡ short_lines demo_names shown_owns = written shown_owns accepted ∙ ap (λ o. o ++ short_lines names shown_owns) empty ∙ ap (λ ns. short_lines ns shown_owns) names_are in
-        subst (DemoAnswer count status.Ok) (sym text) (short_report ends_are none_refused)
+  -- it names as many files as there are
+  pub files_many : manifest.libs.items ≡ [] → length sources ≡ length (files_named manifest)
+  files_many none = omega (arith, many_files sources files_are, ap length names_are, slots_even manifest.entries.items, length-append (slot_files manifest.entries.items) (texts manifest.libs.items), ap (λ ls. length (texts ls)) none)
 
-    pub demo_staged : manifest.channels.items ≡ [] → IsSettled page.spec (map said items) demo_slice h → IsDemoStage count (Some h)
-    demo_staged alone settled =
-        record {
-          spec = page.spec;
-          page = record {
-            refusals = page.refusals.items;
-            slots = subst (λ rs. AreJudgedSlots page.spec.libs.items rs page.spec.slots.items page.refusals.items) runs_are judged.slots;
-            laid = judged.pieces ∙ ap pieces parts_are;
-            channels = judged.channels ∙ alone;
-          };
-          said = map said items;
-          gave = ap (map (given_by demo_names)) items_are;
-          settled = settled;
-          slots = played.chains ∙ ap (singles 0) slots_many;
-          laid = subst (λ ns. IsLaid h ns (pieces demo_parts)) slots_are (subst (IsLaid h (map name_of page.spec.slots.items)) (judged.pieces ∙ ap pieces parts_are) played.laid);
-          channels = played.channels ∙ judged.channels ∙ alone;
-          none_else = λ v past. let p : 16 ≤ v = past in played.none_else v (omega (arith, p, slots_many));
-          scripts = subst (λ rs. (w : ℕ) (r : SlotRun) → slice_get rs w ≡ Some r → accepts h w ≡ true → HasItsScripts r (scripts h w)) runs_are
-              (played_scripts page.spec (map said items) h (runs_over (sources_of libs) (slots_named (parts manifest)) (sources_of files)) page.refusals.items played judged.slots);
-          ends = shown_owns;
-          lines = lines_of (map run_name (runs_over (sources_of libs) (slots_named (parts manifest)) (sources_of files))) page.refusals.items shown_owns;
-          are = ends_are;
-          shown = shown_all h (length page.spec.slots.items) shown_owns played.chains (length-map page.spec.slots.items (ended page.spec (given_all page.spec (map said items)))) played.ends;
-        }
+  runs_are : runs_of manifest (sources_of sources) ≡ demo_runs
+  runs_are = ap (λ ps. runs_with (slots_named ps) (sources_of sources)) parts_are ∙ ap (runs_with (slots_named demo_parts)) files_are
+
+  module _ (none : manifest.channels.items ≡ []) (count : ℕ) (items : List TraceItem) (items_are : map said items ≡ demo_items count) (ran : Ran) (is : IsRan manifest (sources_of sources) items [] demo_slice ran) where
+    -- the names of its slots
+    pub found_named : ran.findings.names.items ≡ demo_names
+    found_named = is.found.names ∙ ap (map run_name) runs_are
+
+    -- the host that it leaves
+    pub demo_staged : IsDemoStage count (Some ran.host)
+    demo_staged =
+        let a = subst (λ ps. IsStage ps manifest.channels.items (runs_of manifest (sources_of sources)) [] (map said items) demo_slice ran.host) parts_are is.stage in
+        let b = subst (λ cs. IsStage demo_parts cs (runs_of manifest (sources_of sources)) [] (map said items) demo_slice ran.host) none a in
+        let c = subst (λ rs. IsStage demo_parts [] rs [] (map said items) demo_slice ran.host) runs_are b in
+        subst (λ xs. IsStage demo_parts [] demo_runs [] xs demo_slice ran.host) items_are c
+
+    module _ (refused : Bool) (lines : List ℕ) (outcome : Outcome is.spec.channels.items (runs_of manifest (sources_of sources)) [] (map said items) refused (map end_of is.played.fed) lines) (flag : refused ≡ false) where
+      abbrev pub owns : List (Option OwnState)
+      owns = map end_of is.played.fed
+
+      come : ComeTo [] (last_lives [] (demo_items count) 0 demo_runs) owns
+      come =
+          let a = subst (λ cs. ComeTo cs (last_lives [] (map said items) 0 (runs_of manifest (sources_of sources))) owns) (is.channels ∙ none) outcome.lasts in
+          let b = subst (λ rs. ComeTo [] (last_lives [] (map said items) 0 rs) owns) runs_are a in
+          subst (λ xs. ComeTo [] (last_lives [] xs 0 demo_runs) owns) items_are b
+
+      good : some_refused owns ≡ false
+      good = none_before owns outcome.before (sym outcome.flag ∙ flag)
+
+      -- what its host shows
+      pub accepted : (names : List (List ℕ)) → names ≡ demo_names → AreAccepted names ran.host owns
+      accepted names named =
+          let many : length (chains ran.host) ≡ length names = is.stage.slots ∙ ap length runs_are ∙ sym (ap length named) in
+          record { housed = is.played.housed; slots = many; shown = is.played.shown; even = sym many ∙ shown_even ran.host (chains ran.host) owns is.played.shown; accepted = good }
+
+      -- and its answer
+      pub demo_answered : (names : List (List ℕ)) → names ≡ demo_names → (old bytes : List ℕ) → old ≡ [] → ((os : List (Option OwnState)) → AreAccepted names ran.host os → bytes ≡ old ++ short_lines names os) → DemoAnswer count status.Ok bytes
+      demo_answered names named old bytes empty written =
+          let text : bytes ≡ short_lines demo_names owns = written owns (accepted names named) ∙ ap (λ o. o ++ short_lines names owns) empty ∙ ap (λ ns. short_lines ns owns) named in
+          subst (DemoAnswer count status.Ok) (sym text) (short_report come good)
 
 -- ## Short lines
 
@@ -219,20 +243,16 @@ own_there (None ∷ os) i good within = absurd (let e = good in cc)
 own_there (Some o ∷ os) zero good within = (o, refl)
 own_there (Some o ∷ os) (suc i) good within = own_there os i good (omega (arith, within))
 
-own_at : (h : Host) (names : List (List ℕ)) (owns : List (Option OwnState)) (i : ℕ) → AreAccepted names h owns → i < length names → (o : OwnState) × (slice_get owns i ≡ Some (Some o)) × IsShown h i (Some o)
+own_at : (h : Host) (names : List (List ℕ)) (owns : List (Option OwnState)) (i : ℕ) → AreAccepted names h owns → i < length names → (o : OwnState) × (slice_get owns i ≡ Some (Some o)) × IsShown h (present i (chains h)) (Some o)
 own_at h names owns i all within =
     let o = own_there owns i all.accepted (omega (arith, all.even, within)) in
-    let e : 0 + i ≡ i = omega arith in
-    (o.0, o.1, subst (λ n. IsShown h n (Some o.0)) e (shown_at h 0 owns i (Some o.0) all.shown o.1))
-
-present_at : (h : Host) (names : List (List ℕ)) (owns : List (Option OwnState)) (i : ℕ) → AreAccepted names h owns → i < length names → present i (chains h) ≡ i
-present_at h names owns i all within = let e : 0 + i ≡ i = omega arith in ap (present i) all.chains ∙ singles_present i 0 (length names) within ∙ e
+    (o.0, o.1, shown_at h (chains h) owns i (Some o.0) all.shown o.1)
 
 pub slot_there : (h : Host) (names : List (List ℕ)) (owns : List (Option OwnState)) (i : ℕ) → AreAccepted names h owns → i < length names → i < length (chains h)
-slot_there h names owns i all within = omega (arith, within, ap length all.chains, singles_length 0 (length names))
+slot_there h names owns i all within = omega (arith, within, all.slots)
 
 pub slot_accepted : (h : Host) (names : List (List ℕ)) (owns : List (Option OwnState)) (i : ℕ) → AreAccepted names h owns → i < length names → accepts h (present i (chains h)) ≡ true
-slot_accepted h names owns i all within = ap (accepts h) (present_at h names owns i all within) ∙ (own_at h names owns i all within).2.0
+slot_accepted h names owns i all within = (own_at h names owns i all within).2.0
 
 short_step : (names : List (List ℕ)) (owns : List (Option OwnState)) (i : ℕ) (name : List ℕ) (o : OwnState) → i < length names → name ≡ get_or names i name → slice_get owns i ≡ Some (Some o) → short_lines (take (i + 1) names) (take (i + 1) owns) ≡ short_lines (take i names) (take i owns) ++ short_line name o
 short_step [] owns i name o within is there = absurd (omega (arith, within))
@@ -254,8 +274,7 @@ short_step (n ∷ ns) (Some p ∷ ps) (suc i) name o within is there =
 pub short_more : (h : Host) (names : List (List ℕ)) (owns : List (Option OwnState)) (i : ℕ) (name key : List ℕ) (line : RunLine) (old mid new text : List ℕ) → AreAccepted names h owns → i < length names → name ≡ get_or names i name → key ≡ name → mid ≡ old ++ short_lines (take i names) (take i owns) → new ≡ mid ++ text → ((s : Seen) → slice_get (seens h) (present i (chains h)) ≡ Some s → IsLineOf line (image s)) → ((o : OwnState) → IsLineOf line o → text ≡ short_line key o) → new ≡ old ++ short_lines (take (i + 1) names) (take (i + 1) owns)
 short_more h names owns i name key line old mid new text all within is same before after told written =
     let o = own_at h names owns i all within in
-    let at = present_at h names owns i all within in
-    let line_is : IsLineOf line o.0 = subst (IsLineOf line) o.2.1.2 (told o.2.1.0 (ap (slice_get (seens h)) at ∙ o.2.1.1)) in
+    let line_is : IsLineOf line o.0 = subst (IsLineOf line) o.2.1.2 (told o.2.1.0 o.2.1.1) in
     let this : text ≡ short_line name o.0 = written o.0 line_is ∙ ap (λ n. short_line n o.0) same in
     after ∙ ap (λ m. m ++ text) before ∙ append_assoc old (short_lines (take i names) (take i owns)) text
     ∙ ap (λ l. old ++ (short_lines (take i names) (take i owns) ++ l)) this

@@ -1,49 +1,48 @@
 -- Words have one answer.
-use Rattle.std.proofs.Common.{◌≡◌, ℕ, List, [], ◌∷◌, ◌++◌, length, map, Option, Some, None, Bool, true, false, refl, sym, ap, subst, ◌∙◌}
-use Rattle.std.specs.Prelude.{nat_eq}
+use Rattle.std.proofs.Common.{◌≡◌, ℕ, List, [], length, map, Option, Some, None, Bool, refl, sym, ap, subst, ◌∙◌, arith}
+use Rattle.std.specs.List.{zip}
 use Rattle.host_io.specs.Files.{FileMap}
 use Rattle.serde_json.specs.Data.{Data}
 use Rattle.json_shapes.specs.Json.{IsJson}
 use Rattle.json_shapes.specs.declared.fault.ShapeFault.TheVariants as fault
-use Rattle.code_units.specs.Places.{place_at as place}
-use Rattle.plain_tree.specs.Trees.{PlainTrees}
-use Rattle.page_output.specs.Printing.{Prints}
-use Rattle.markup_laws.proofs.Forms.{has_form}
-use Rattle.trace_text.specs.Report.{refused_life, page_line}
 use Rattle.trace_reader.specs.declared.item.TraceItem.{TraceItem}
-use Rattle.trace_reader.specs.Said.{said}
+use Rattle.trace_reader.specs.Said.{Said, said}
 use Rattle.trace_reader.specs.Trace.{ReadsTrace, HasTooMany}
 use Rattle.trace_reader.proofs.OneTrace.{one_trace, refused as refused_trace}
 use Rattle.manifest_reader.specs.declared.entry.Manifest.{Manifest}
 use Rattle.manifest_reader.specs.Manifest.{ReadsManifest}
-use Rattle.manifest_reader.specs.Page.{Part}
-use Rattle.script_check.proofs.Verdicts.{one_line, one_text}
+use Rattle.script_check.proofs.Verdicts.{one_line as one_library_line, one_text}
 use Rattle.slot_check.specs.Sources.{Source}
 use Rattle.slot_check.specs.Line.{AreSlotLines}
 use Rattle.slot_check.proofs.Written.{lines_once}
-use Rattle.slot_check.proofs.Firsts.{first_once}
-use Rattle.widget_meaning.specs.OwnState.{OwnState}
-use Rattle.widget_meaning.specs.Alone.{Given, alone_on}
-use Rattle.page_spec.specs.Pages.{roots, page_of}
-use Rattle.page_judge.specs.Runs.{SlotRun, slots_named, pieces}
-use Rattle.page_judge.proofs.OneWidget.{widget_once, never_refused}
-use Rattle.adhost_run.specs.declared.ending.Status.{Status}
-use Rattle.adhost_run.specs.declared.ending.Status.TheVariants as status
+use Rattle.page_judge.specs.Runs.{SlotRun, slots_named}
+use Rattle.reach_cert.specs.Certs.{Slot, cert_text}
+use Rattle.reach_cert.specs.Shape.{IsCert}
+use Rattle.reach_cert.specs.Walks.{first_leak}
+use Rattle.state_reach.specs.States.{cert_of_states}
+use Rattle.slot_lives.specs.Ends.{run_name}
+use Rattle.slot_lives.specs.Outcome.{IsReport, last_lives}
+use Rattle.slot_lives.proofs.OneOutcome.{come_once, outcome_once, report_once}
+use Rattle.page_play.specs.Told.{IsAudit}
+use Rattle.run_steps.specs.declared.ending.Status.{Status}
+use Rattle.run_steps.specs.declared.ending.Status.TheVariants as status
+use Rattle.run_steps.specs.Page.{file_limit, manifest_limit, trace_limit, cert_limit, IsRead, AreRead, HasBytes, slot_names, files_named, files_swapped, swap_files, slots_with, slots_of, HasManifest, parts, HasTrace}
+use Rattle.run_steps.specs.Request.{Request, Check, CheckLib, Tidy, Render, Replay, Audit, CheckAudit, Demo}
+use Rattle.run_steps.specs.Steps.{Answers, Step, gives, stops, NoManifest, long_manifest, bad_manifest, NoFiles, long_file, NoBytes, long_bytes, NoTrace, long_trace, many_items, bad_trace, HasItems, NoItems}
+use Rattle.run_steps.proofs.Asking.{one_request}
+use Rattle.run_steps.proofs.Gathered.{one_read, read_once, not_long, none_long}
+use Rattle.run_steps.proofs.Manifests.{SameFiles, manifest_once}
 use Rattle.adhost_run.specs.declared.reports.Asked.{Asked}
 use Rattle.adhost_run.specs.declared.reports.Asked.TheVariants as asked
-use Rattle.adhost_run.specs.Page.{file_limit, manifest_limit, trace_limit, IsRead, AreRead, slot_names, files_named, slots_with, slots_of, HasManifest, parts, runs_with, runs_of, is_built_page, HasTrace, is_built_trace}
-use Rattle.adhost_run.specs.Request.{Request, Check, CheckLib, Tidy, Render, Replay, Audit, CheckAudit, Demo, is_built}
-use Rattle.adhost_run.specs.Steps.{Answers, Step, gives, stops, NoManifest, long_manifest, bad_manifest, NoFiles, long_file, NoTrace, long_trace, many_items, bad_trace, HasItems, NoItems, NotBuilt, not_built, if_built}
-use Rattle.adhost_run.specs.Run.{given_by, life_line, IsEnd, ran, refused, AreEnds, no_end, one_end, some_refused, run_name, IsReport}
-use Rattle.adhost_run.specs.Answer.{IsText, ending, LibraryAnswer, report, too_large, CheckAnswer, lines, given_to, RunAnswer, page_report, OfManifest, OfFiles, FromItems, FromFiles, FromManifest, PageAnswer, ReplayAnswer, RequestAnswer, check, check_lib, tidy, render, replay, demo, unbuilt, Answer, of_request, usage}
-use Rattle.adhost_run.specs.Demo.{demo_names, demo_runs, demo_given, short_lines, DemoAnswer, short_report}
-use Rattle.adhost_run.proofs.Asking.{one_request}
-use Rattle.adhost_run.proofs.Gathered.{one_read, read_once, not_long, none_long}
-use Rattle.adhost_run.proofs.Manifests.{SameFiles, manifest_once}
+use Rattle.adhost_run.specs.declared.playing.Writes.{Writes}
+use Rattle.adhost_run.specs.declared.playing.Writes.TheVariants as writes
+use Rattle.adhost_run.specs.Page.{runs_with, runs_of}
+use Rattle.adhost_run.specs.Answer.{IsText, ending, LibraryAnswer, report, too_large, CheckAnswer, lines, RunAnswer, page_report, AuditAnswer, certificate, long_certificate, PlayAnswer, CertAnswer, keeps, leaks, bad_certificate, leak_line, OfManifest, OfFiles, FromItems, FromFiles, FromManifest, PageAnswer, ReplayAnswer, CheckAuditAnswer, RequestAnswer, check, check_lib, tidy, render, replay, audit, check_audit, demo, Answer, of_request, usage}
+use Rattle.adhost_run.specs.Demo.{demo_names, demo_runs, demo_items, short_lines, DemoAnswer, short_report}
 
 -- a library has one text
 text_once : (what : Asked) (name file b c : List ℕ) (r s : Bool) → IsText what name file r b → IsText what name file s c → (r ≡ s) × (b ≡ c)
-text_once asked.Line = one_line
+text_once asked.Line = one_library_line
 text_once asked.Tidied = one_text
 
 -- and one answer
@@ -69,15 +68,6 @@ module _ {T : Type 0} (Gives : T → Type 0) (Stops : Status → Type 0) (next :
   step_once same one never s t b c (gives {given = x} given it) (stops {s = u} other) = absurd (never x u given other)
   step_once same one never s t b c (stops {s = u} it) (gives {given = y} given other) = absurd (never y u given it)
   step_once same one never s t b c (stops it) (stops other) = (one s t it other, refl)
-
-unbuilt_once : OneAnswer NotBuilt NotBuilt
-unbuilt_once s t b c not_built not_built = (refl, refl)
-
-built_once : (x y : Bool) (A B : Answers) → x ≡ y → OneAnswer A B → OneAnswer (if_built x A) (if_built y B)
-built_once true true A B is one = one
-built_once false false A B is one = unbuilt_once
-built_once true false A B is one = absurd (let e = is in cc)
-built_once false true A B is one = absurd (let e = is in cc)
 
 -- ## The manifest
 
@@ -176,81 +166,106 @@ module _ (m : FileMap) (names : List (List ℕ)) where
 
 -- ## A page that runs
 
-end_once : (gs : List Given) (run : SlotRun) (e f : Option OwnState) (l k : List ℕ) → IsEnd gs run e l → IsEnd gs run f k → (e ≡ f) × (l ≡ k)
-end_once gs run e f l k (ran {content = x} has) (ran {content = y} also) =
-    let same : x ≡ y = widget_once run.slot x y has also in
-    let own : alone_on run.slot.name x run.fuel gs ≡ alone_on run.slot.name y run.fuel gs = ap (λ w. alone_on run.slot.name w run.fuel gs) same in
-    (ap Some own, ap (life_line run.slot.name None) own)
-end_once gs run e f l k (ran {content = x} has) (refused {rule = r} {broken = a} {at = n} first) = absurd (never_refused run.slot x r a n has first)
-end_once gs run e f l k (refused {rule = r} {broken = a} {at = n} first) (ran {content = x} has) = absurd (never_refused run.slot x r a n has first)
-end_once gs run e f l k (refused {rule = r} {broken = a} {at = n} first) (refused {rule = q} {broken = d} {at = i} also) =
-    let same = first_once run.slot r q a d n i first also in (
-      refl,
-      ap (λ x. refused_life run.slot.name None a.name x (place a.bytes n)) same.rule
-          ∙ ap (λ x. refused_life run.slot.name None x.name q (place x.bytes n)) same.source
-          ∙ ap (λ x. refused_life run.slot.name None d.name q (place d.bytes x)) same.at,
-    )
+-- a page has one certificate
+audit_once : (channels : List (ℕ × ℕ)) (runs : List SlotRun) (files : List Source) (items : List Said) (r q : Bool) (b c : List ℕ) → IsAudit channels runs files items r b → IsAudit channels runs files items q c → (r ≡ q) × (b ≡ c)
+audit_once channels runs files items r q b c x y =
+    let all = outcome_once channels runs files items r q x.ends y.ends x.lines y.lines x.outcome y.outcome in
+    (all.0, x.whole ∙ ap (λ es. cert_text (cert_of_states (zip (map run_name runs) es))) all.1.0 ∙ sym y.whole)
 
-ends_once : (gs : List Given) (runs : List SlotRun) (es fs : List (Option OwnState)) (ls ks : List ℕ) → AreEnds gs runs es ls → AreEnds gs runs fs ks → (es ≡ fs) × (ls ≡ ks)
-ends_once gs runs es fs ls ks no_end no_end = (refl, refl)
-ends_once gs runs es fs ls ks (one_end {run = r} {end = e} {line = l} {runs = rs} {ends = es1} {lines = ls1} is rest) (one_end {end = f} {line = k} {ends = fs1} {lines = ks1} also others) =
-    let one = end_once gs r e f l k is also in
-    let all = ends_once gs rs es1 fs1 ls1 ks1 rest others in
-    (ap (λ x. x ∷ es1) one.0 ∙ ap (λ xs. f ∷ xs) all.0, ap (λ x. x ++ ls1) one.1 ∙ ap (λ x. k ++ x) all.1)
+-- two manifests that name the same files, and two traces that say the same, give one page
+module _ (x y : Manifest) (same : SameFiles x y) (sources : List Source) (xs ys : List TraceItem) (items : map said xs ≡ map said ys) (files : List Source) where
+  runs_same : runs_of x sources ≡ runs_of y sources
+  runs_same = ap (λ ps. runs_with (slots_named ps) sources) same.parts
 
--- trees have one printed text
-text_once_of : (trees : PlainTrees) (a b : List ℕ) → Prints trees [] a → Prints trees [] b → a ≡ b
-text_once_of trees a b x y = x has_form.0 has_form.1 ∙ sym (y has_form.0 has_form.1)
+  run_once : OneAnswer (RunAnswer x sources xs files) (RunAnswer y sources ys files)
+  run_once s t b c (page_report r it) (page_report q that) =
+      let a = subst (λ ps. IsReport ps x.channels.items (runs_of x sources) files (map said xs) r b) same.parts it in
+      let d = subst (λ cs. IsReport (parts y) cs (runs_of x sources) files (map said xs) r b) same.channels a in
+      let e = subst (λ rs. IsReport (parts y) y.channels.items rs files (map said xs) r b) runs_same d in
+      let f = subst (λ is. IsReport (parts y) y.channels.items (runs_of y sources) files is r b) items e in
+      let once = report_once y.channels.items (runs_of y sources) files (map said ys) (parts y) r q b c f that in
+      (ap ending once.0, once.1)
 
-report_once : (parts : List Part) (runs : List SlotRun) (gs : List Given) (r q : Bool) (b c : List ℕ) → IsReport parts runs gs r b → IsReport parts runs gs q c → (r ≡ q) × (b ≡ c)
-report_once parts runs gs r q b c x y =
-    let all = ends_once gs runs x.ends y.ends x.lines y.lines x.are y.are in
-    let text : x.text ≡ y.text = text_once_of (page_of (pieces parts) (roots (map run_name runs) y.ends)) x.text y.text (subst (λ es. Prints (page_of (pieces parts) (roots (map run_name runs) es)) [] x.text) all.0 x.printed) y.printed in (
-      x.flag ∙ ap some_refused all.0 ∙ sym y.flag,
-      x.whole ∙ ap (λ ls. ls ++ page_line x.text) all.1 ∙ ap (λ t. y.lines ++ page_line t) text ∙ sym y.whole,
-    )
+  moved : (r : Bool) (b : List ℕ) → IsAudit x.channels.items (runs_of x sources) files (map said xs) r b → IsAudit y.channels.items (runs_of y sources) files (map said ys) r b
+  moved r b it =
+      let d = subst (λ cs. IsAudit cs (runs_of x sources) files (map said xs) r b) same.channels it in
+      let e = subst (λ rs. IsAudit y.channels.items rs files (map said xs) r b) runs_same d in
+      subst (λ is. IsAudit y.channels.items (runs_of y sources) files is r b) items e
 
-run_once : (x y : Manifest) → SameFiles x y → (sources : List Source) (xs ys : List TraceItem) → map said xs ≡ map said ys → OneAnswer (RunAnswer x sources xs) (RunAnswer y sources ys)
-run_once x y same sources xs ys items s t b c (page_report r it) (page_report q that) =
-    let gs : given_to x xs ≡ given_to y ys = ap (λ ns. map (given_by ns) (map said xs)) same.names ∙ ap (map (given_by (slot_names y.entries.items))) items in
-    let runs : runs_of x sources ≡ runs_of y sources = ap (λ ps. runs_with (slots_named ps) sources) same.parts in
-    let it1 = subst (λ ps. IsReport ps (runs_of x sources) (given_to x xs) r b) same.parts it in
-    let it2 = subst (λ rs. IsReport (parts y) rs (given_to x xs) r b) runs it1 in
-    let one = report_once (parts y) (runs_of y sources) (given_to y ys) r q b c (subst (λ g. IsReport (parts y) (runs_of y sources) g r b) gs it2) that in
-    (ap ending one.0, one.1)
+  certificates : (r q : Bool) (b c : List ℕ) → IsAudit x.channels.items (runs_of x sources) files (map said xs) r b → IsAudit y.channels.items (runs_of y sources) files (map said ys) q c → (r ≡ q) × (b ≡ c)
+  certificates r q b c it that = audit_once y.channels.items (runs_of y sources) files (map said ys) r q b c (moved r b it) that
 
-replay_once : (m : FileMap) (name : List ℕ) (trace : Option (List ℕ)) → OneAnswer (ReplayAnswer m name trace) (ReplayAnswer m name trace)
-replay_once m name trace = of_manifest m name (FromManifest m trace) (λ x y same.
-    (let built : is_built_page x ≡ is_built_page y = ap (λ (cs : List (ℕ × ℕ)). nat_eq (length cs) 0) same.channels in
-    built_once (is_built_page x) (is_built_page y) (OfFiles m x (FromFiles m trace x)) (OfFiles m y (FromFiles m trace y)) built
-    (of_files m (files_named x) (files_named y) (FromFiles m trace x) (FromFiles m trace y) same.files (λ sources. from_files x y same sources))))
+  audited_once : OneAnswer (AuditAnswer x sources xs files) (AuditAnswer y sources ys files)
+  audited_once s t b c (certificate r it within) (certificate q that also) = let e = certificates r q b c it that in (ap ending e.0, e.1)
+  audited_once s t b c (certificate r it within) (long_certificate {bytes = d} q that above) = absurd (let e = certificates r q b d it that in omega (arith, ap length e.1, within, above))
+  audited_once s t b c (long_certificate {bytes = d} r it above) (certificate q that within) = absurd (let e = certificates r q d c it that in omega (arith, ap length e.1, within, above))
+  audited_once s t b c (long_certificate r it above) (long_certificate q that also) = (refl, refl)
+
+play_once : (what : Writes) (x y : Manifest) → SameFiles x y → (sources : List Source) (xs ys : List TraceItem) → map said xs ≡ map said ys → (files : List Source) → OneAnswer (PlayAnswer what x sources xs files) (PlayAnswer what y sources ys files)
+play_once writes.Report = run_once
+play_once writes.Certificate = audited_once
+
+replay_once : (m : FileMap) (name : List ℕ) (trace : Option (List ℕ)) (what : Writes) → OneAnswer (ReplayAnswer m name trace what) (ReplayAnswer m name trace what)
+replay_once m name trace what = of_manifest m name (FromManifest m trace what) (λ x y same.
+    of_files m (files_named x) (files_named y) (FromFiles m trace what x) (FromFiles m trace what y) same.files (λ sources. from_files x y same sources))
   where
-    from_items : (x y : Manifest) → SameFiles x y → (sources : List Source) (xs ys : List TraceItem) → map said xs ≡ map said ys → OneAnswer (FromItems x sources xs) (FromItems y sources ys)
-    from_items x y same sources xs ys items = built_once (is_built_trace (map said xs)) (is_built_trace (map said ys)) (RunAnswer x sources xs) (RunAnswer y sources ys) (ap is_built_trace items) (run_once x y same sources xs ys items)
+    from_items : (x y : Manifest) → SameFiles x y → (sources : List Source) (xs ys : List TraceItem) → map said xs ≡ map said ys → OneAnswer (FromItems m what x sources xs) (FromItems m what y sources ys)
+    from_items x y same sources xs ys items = of_files m (swap_files xs) (swap_files ys) (PlayAnswer what x sources xs) (PlayAnswer what y sources ys) (ap files_swapped items) (play_once what x y same sources xs ys items)
 
-    from_files : (x y : Manifest) → SameFiles x y → (sources : List Source) → OneAnswer (FromFiles m trace x sources) (FromFiles m trace y sources)
-    from_files x y same sources = subst (λ ns. OneAnswer (FromFiles m trace x sources) (Step (HasItems m ns trace) (NoItems m ns trace) (FromItems y sources))) same.names
-        (of_trace m (slot_names x.entries.items) trace (FromItems x sources) (FromItems y sources) (from_items x y same sources))
+    from_files : (x y : Manifest) → SameFiles x y → (sources : List Source) → OneAnswer (FromFiles m trace what x sources) (FromFiles m trace what y sources)
+    from_files x y same sources = subst (λ ns. OneAnswer (FromFiles m trace what x sources) (Step (HasItems m ns trace) (NoItems m ns trace) (FromItems m what y sources))) same.names
+        (of_trace m (slot_names x.entries.items) trace (FromItems m what x sources) (FromItems m what y sources) (from_items x y same sources))
+
+-- ## A certificate
+
+-- bytes are the text of one certificate
+abbrev pub OneCert : Type 0
+OneCert = (x y : List Slot) → IsCert x → IsCert y → cert_text x ≡ cert_text y → x ≡ y
+
+some_line : (a b : ℕ) → Some a ≡ Some b → a ≡ b
+some_line a b e = cc
+
+cert_once : OneCert → (bytes : List ℕ) → OneAnswer (CertAnswer bytes) (CertAnswer bytes)
+cert_once one_cert bytes s t b c (keeps {slots = x} is text confined) (keeps also other same) = (refl, refl)
+cert_once one_cert bytes s t b c (keeps {slots = x} is text confined) (leaks {slots = y} {line = n} also other first) =
+    absurd (let e : x ≡ y = one_cert x y is also (sym text ∙ other) in let f : None ≡ Some n = sym confined ∙ ap first_leak e ∙ first in cc)
+cert_once one_cert bytes s t b c (keeps {slots = x} is text confined) (bad_certificate none) = absurd (none x is text)
+cert_once one_cert bytes s t b c (leaks {slots = x} {line = n} is text first) (keeps {slots = y} also other confined) =
+    absurd (let e : x ≡ y = one_cert x y is also (sym text ∙ other) in let f : Some n ≡ None = sym first ∙ ap first_leak e ∙ confined in cc)
+cert_once one_cert bytes s t b c (leaks {slots = x} {line = n} is text first) (leaks {slots = y} {line = k} also other that) =
+    let e : x ≡ y = one_cert x y is also (sym text ∙ other) in
+    (refl, ap leak_line (some_line n k (sym first ∙ ap first_leak e ∙ that)))
+cert_once one_cert bytes s t b c (leaks {slots = x} is text first) (bad_certificate none) = absurd (none x is text)
+cert_once one_cert bytes s t b c (bad_certificate none) (keeps {slots = y} also other confined) = absurd (none y also other)
+cert_once one_cert bytes s t b c (bad_certificate none) (leaks {slots = y} also other first) = absurd (none y also other)
+cert_once one_cert bytes s t b c (bad_certificate none) (bad_certificate never) = (refl, refl)
+
+check_audit_once : OneCert → (m : FileMap) (name : List ℕ) → OneAnswer (CheckAuditAnswer m name) (CheckAuditAnswer m name)
+check_audit_once one_cert m name = step_once (HasBytes m cert_limit name) (NoBytes m cert_limit name) CertAnswer same stop_once never where
+  bytes_same : (x y : List ℕ) → HasBytes m cert_limit name x → HasBytes m cert_limit name y → x ≡ y
+  bytes_same x y a d = ap (λ (f : Source). f.bytes) (one_read m cert_limit name (record { name = name; bytes = x }) (record { name = name; bytes = y }) a d)
+
+  same : (x y : List ℕ) → HasBytes m cert_limit name x → HasBytes m cert_limit name y → OneAnswer (CertAnswer x) (CertAnswer y)
+  same x y a d = subst (λ z. OneAnswer (CertAnswer x) (CertAnswer z)) (bytes_same x y a d) (cert_once one_cert x)
+
+  stop_once : (s t : Status) → NoBytes m cert_limit name s → NoBytes m cert_limit name t → s ≡ t
+  stop_once s t (long_bytes there long) (long_bytes also more) = refl
+
+  never : (x : List ℕ) (s : Status) → HasBytes m cert_limit name x → NoBytes m cert_limit name s → ⊥
+  never x s has (long_bytes {file = f} there long) = not_long m cert_limit name f (record { name = name; bytes = x }) has there long
+
+-- ## Requests
 
 -- what answers a request, by the request
 abbrev Answering : FileMap → Request → Status → List ℕ → Type 0
 Answering m (Check manifest) s b = PageAnswer m manifest s b
 Answering m (CheckLib file) s b = LibraryAnswer m asked.Line file s b
 Answering m (Tidy file) s b = LibraryAnswer m asked.Tidied file s b
-Answering m (Render manifest) s b = ReplayAnswer m manifest None s b
-Answering m (Replay manifest trace slice) s b = ReplayAnswer m manifest (Some trace) s b
+Answering m (Render manifest) s b = ReplayAnswer m manifest None writes.Report s b
+Answering m (Replay manifest trace slice) s b = ReplayAnswer m manifest (Some trace) writes.Report s b
+Answering m (Audit manifest trace slice) s b = ReplayAnswer m manifest (Some trace) writes.Certificate s b
+Answering m (CheckAudit file) s b = CheckAuditAnswer m file s b
 Answering m (Demo count) s b = DemoAnswer count s b
-Answering m _ s b = (s ≡ status.Unbuilt) × (b ≡ [])
-
-none_built : (m : FileMap) (r : Request) → is_built r ≡ false → Answering m r status.Unbuilt []
-none_built m (Check manifest) is = cc
-none_built m (CheckLib file) is = cc
-none_built m (Tidy file) is = cc
-none_built m (Render manifest) is = cc
-none_built m (Replay manifest trace slice) is = cc
-none_built m (Audit manifest trace slice) is = (refl, refl)
-none_built m (CheckAudit file) is = (refl, refl)
-none_built m (Demo count) is = cc
 
 answering : (m : FileMap) (r : Request) (s : Status) (b : List ℕ) → RequestAnswer m r s b → Answering m r s b
 answering m r s b (check answer) = answer
@@ -258,30 +273,28 @@ answering m r s b (check_lib answer) = answer
 answering m r s b (tidy answer) = answer
 answering m r s b (render answer) = answer
 answering m r s b (replay answer) = answer
+answering m r s b (audit answer) = answer
+answering m r s b (check_audit answer) = answer
 answering m r s b (demo answer) = answer
-answering m r s b (unbuilt {request = q} is) = none_built m q is
 
 -- `demo` has one answer
 demo_once : (count : ℕ) → OneAnswer (DemoAnswer count) (DemoAnswer count)
-demo_once count s t b c (short_report {ends = x} {lines = l} are flag) (short_report {ends = y} {lines = k} also other) =
-    (refl, ap (short_lines demo_names) (ends_once (demo_given count) demo_runs x y l k are also).0)
+demo_once count s t b c (short_report {ends = x} come flag) (short_report {ends = y} also other) =
+    (refl, ap (short_lines demo_names) (come_once [] (last_lives [] (demo_items count) 0 demo_runs) x y come also))
 
-same_unbuilt : (s t : Status) (b c : List ℕ) → (s ≡ status.Unbuilt) × (b ≡ []) → (t ≡ status.Unbuilt) × (c ≡ []) → (s ≡ t) × (b ≡ c)
-same_unbuilt s t b c x y = (x.0 ∙ sym y.0, x.1 ∙ sym y.1)
+request_once : OneCert → (m : FileMap) (r : Request) (s t : Status) (b c : List ℕ) → Answering m r s b → Answering m r t c → (s ≡ t) × (b ≡ c)
+request_once one_cert m (Check manifest) s t b c x y = page_once m manifest s t b c x y
+request_once one_cert m (CheckLib file) s t b c x y = library_once m asked.Line file s t b c x y
+request_once one_cert m (Tidy file) s t b c x y = library_once m asked.Tidied file s t b c x y
+request_once one_cert m (Render manifest) s t b c x y = replay_once m manifest None writes.Report s t b c x y
+request_once one_cert m (Replay manifest trace slice) s t b c x y = replay_once m manifest (Some trace) writes.Report s t b c x y
+request_once one_cert m (Audit manifest trace slice) s t b c x y = replay_once m manifest (Some trace) writes.Certificate s t b c x y
+request_once one_cert m (CheckAudit file) s t b c x y = check_audit_once one_cert m file s t b c x y
+request_once one_cert m (Demo count) s t b c x y = demo_once count s t b c x y
 
-request_once : (m : FileMap) (r : Request) (s t : Status) (b c : List ℕ) → Answering m r s b → Answering m r t c → (s ≡ t) × (b ≡ c)
-request_once m (Check manifest) s t b c x y = page_once m manifest s t b c x y
-request_once m (CheckLib file) s t b c x y = library_once m asked.Line file s t b c x y
-request_once m (Tidy file) s t b c x y = library_once m asked.Tidied file s t b c x y
-request_once m (Render manifest) s t b c x y = replay_once m manifest None s t b c x y
-request_once m (Replay manifest trace slice) s t b c x y = replay_once m manifest (Some trace) s t b c x y
-request_once m (Audit manifest trace slice) s t b c x y = same_unbuilt s t b c x y
-request_once m (CheckAudit file) s t b c x y = same_unbuilt s t b c x y
-request_once m (Demo count) s t b c x y = demo_once count s t b c x y
-
-pub answer_once : (words : List (List ℕ)) (m : FileMap) (s t : Status) (b c : List ℕ) → Answer words m s b → Answer words m t c → (s ≡ t) × (b ≡ c)
-answer_once words m s t b c (of_request {request = r} asks x) (of_request {request = q} also y) =
-    request_once m q s t b c (subst (λ f. Answering m f s b) (one_request words r q asks also) (answering m r s b x)) (answering m q t c y)
-answer_once words m s t b c (of_request {request = r} asks x) (usage none) = absurd (none (record { request = r; asks = asks }))
-answer_once words m s t b c (usage none) (of_request {request = q} asks y) = absurd (none (record { request = q; asks = asks }))
-answer_once words m s t b c (usage none) (usage also) = (refl, refl)
+pub answer_once : OneCert → (words : List (List ℕ)) (m : FileMap) (s t : Status) (b c : List ℕ) → Answer words m s b → Answer words m t c → (s ≡ t) × (b ≡ c)
+answer_once one_cert words m s t b c (of_request {request = r} asks x) (of_request {request = q} also y) =
+    request_once one_cert m q s t b c (subst (λ f. Answering m f s b) (one_request words r q asks also) (answering m r s b x)) (answering m q t c y)
+answer_once one_cert words m s t b c (of_request {request = r} asks x) (usage none) = absurd (none (record { request = r; asks = asks }))
+answer_once one_cert words m s t b c (usage none) (of_request {request = q} asks y) = absurd (none (record { request = q; asks = asks }))
+answer_once one_cert words m s t b c (usage none) (usage also) = (refl, refl)

@@ -4,8 +4,8 @@ use Rattle.std.proofs.lemmas.List.{take_rest}
 use Rattle.std.proofs.lemmas.Grind.{common_steps}
 use Rattle.std.proofs.lemmas.Bool.{cases_lt}
 use Rattle.host_io.specs.Sink.{with_bytes}
-use Rattle.adhost_run.specs.declared.ending.Status.{Status}
-use Rattle.adhost_run.specs.declared.ending.Status.TheVariants as status
+use Rattle.run_steps.specs.declared.ending.Status.{Status}
+use Rattle.run_steps.specs.declared.ending.Status.TheVariants as status
 use Rattle.adhost_run.specs.Answer.{ending}
 use Rattle.adhost_run.specs.Ends.{Written, whole, part}
 

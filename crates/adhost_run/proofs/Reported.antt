@@ -1,21 +1,22 @@
 -- From what the files told to the answer to a request.
 use Rattle.std.proofs.Common.{◌≡◌, ℕ, ◌≤◌, List, [], length, Option, Some, None, IsSome, IfSome, Ok, Err, IsErrOf, refl, sym, ap, subst, ◌∙◌, Bool, true, false}
 use Rattle.host_io.specs.Files.{FileMap, IsThere}
-use Rattle.adhost_run.specs.declared.ending.Status.{Status}
-use Rattle.adhost_run.specs.declared.reading.Stop.{Stop}
-use Rattle.adhost_run.specs.declared.reading.Stop.TheVariants as stop
+use Rattle.run_steps.specs.declared.ending.Status.{Status}
+use Rattle.run_steps.specs.declared.reading.Stop.{Stop}
+use Rattle.run_steps.specs.declared.reading.Stop.TheVariants as stop
 use Rattle.adhost_run.specs.declared.reports.Asked.{Asked}
 use Rattle.adhost_run.specs.declared.reports.Asked.TheVariants as asked
 use Rattle.adhost_run.specs.declared.reports.Report.{Report}
-use Rattle.adhost_run.specs.Request.{Request, Check, CheckLib, Tidy, Render, Replay, Demo, is_built, is_whole}
-use Rattle.adhost_run.specs.Page.{file_limit}
-use Rattle.adhost_run.specs.Reading.{ReadsFiles, IsLong, HasFilesFor, IsReadStop}
-use Rattle.adhost_run.specs.Answer.{IsText, ending, LibraryAnswer, report, too_large, PageAnswer, ReplayAnswer, RequestAnswer, check, check_lib, tidy, render, replay, demo, unbuilt}
+use Rattle.adhost_run.specs.declared.playing.Writes.TheVariants as writes
+use Rattle.run_steps.specs.Request.{Request, Check, CheckLib, Tidy, Render, Replay, Audit, CheckAudit, Demo}
+use Rattle.run_steps.specs.Page.{file_limit}
+use Rattle.run_steps.specs.Reading.{ReadsFiles, IsLong, HasFilesFor, IsReadStop}
+use Rattle.adhost_run.specs.Answer.{IsText, ending, LibraryAnswer, report, too_large, PageAnswer, ReplayAnswer, CheckAuditAnswer, RequestAnswer, check, check_lib, tidy, render, replay, audit, check_audit, demo}
 use Rattle.adhost_run.specs.Demo.{DemoAnswer}
-use Rattle.adhost_run.specs.Ends.{IsAnswerStop, Answered}
-use Rattle.adhost_run.proofs.ReadsLemmas.{reads_nothing, reads_as}
-use Rattle.adhost_run.proofs.Stepping.{again, none_stops}
-use Rattle.adhost_run.proofs.Gotten.{unread, there_and}
+use Rattle.adhost_run.specs.Ends.{Answered, is_audit}
+use Rattle.run_steps.proofs.ReadsLemmas.{reads_as}
+use Rattle.run_steps.proofs.Stepping.{again, none_stops}
+use Rattle.run_steps.proofs.Gotten.{unread, there_and}
 
 -- ## A library
 
@@ -60,11 +61,17 @@ module _ (q : Request) where
   pub tidied_in : (name : List ℕ) → q ≡ Tidy name → (m : FileMap) (s : Status) (b : List ℕ) → LibraryAnswer m asked.Tidied name s b → RequestAnswer m q s b
   tidied_in name is m s b answer = subst (λ x. RequestAnswer m x s b) (sym is) (tidy answer)
 
-  pub render_in : (name : List ℕ) → q ≡ Render name → (m : FileMap) (s : Status) (b : List ℕ) → ReplayAnswer m name None s b → RequestAnswer m q s b
+  pub render_in : (name : List ℕ) → q ≡ Render name → (m : FileMap) (s : Status) (b : List ℕ) → ReplayAnswer m name None writes.Report s b → RequestAnswer m q s b
   render_in name is m s b answer = subst (λ x. RequestAnswer m x s b) (sym is) (render answer)
 
-  pub replay_in : (name trace : List ℕ) (slice : ℕ) → q ≡ Replay name trace slice → (m : FileMap) (s : Status) (b : List ℕ) → ReplayAnswer m name (Some trace) s b → RequestAnswer m q s b
+  pub replay_in : (name trace : List ℕ) (slice : ℕ) → q ≡ Replay name trace slice → (m : FileMap) (s : Status) (b : List ℕ) → ReplayAnswer m name (Some trace) writes.Report s b → RequestAnswer m q s b
   replay_in name trace slice is m s b answer = subst (λ x. RequestAnswer m x s b) (sym is) (replay answer)
+
+  pub audit_in : (name trace : List ℕ) (slice : ℕ) → q ≡ Audit name trace slice → (m : FileMap) (s : Status) (b : List ℕ) → ReplayAnswer m name (Some trace) writes.Certificate s b → RequestAnswer m q s b
+  audit_in name trace slice is m s b answer = subst (λ x. RequestAnswer m x s b) (sym is) (audit answer)
+
+  pub certified_in : (file : List ℕ) → q ≡ CheckAudit file → (m : FileMap) (s : Status) (b : List ℕ) → CheckAuditAnswer m file s b → RequestAnswer m q s b
+  certified_in file is m s b answer = subst (λ x. RequestAnswer m x s b) (sym is) (check_audit answer)
 
   pub demo_in : (count : ℕ) → q ≡ Demo count → (m : FileMap) (s : Status) (b : List ℕ) → DemoAnswer count s b → RequestAnswer m q s b
   demo_in count is m s b answer = subst (λ x. RequestAnswer m x s b) (sym is) (demo answer)
@@ -73,21 +80,6 @@ module _ (q : Request) where
   pub needs_of : (r : Request) → q ≡ r → (m : FileMap) → HasFilesFor m q → HasFilesFor m r
   needs_of r is m has = subst (HasFilesFor m) is has
 
-  pub built_of : {P : Type 0} (r : Request) → q ≡ r → is_built r ≡ true → is_built q ≡ false → P
-  built_of r is built none = absurd (let e : true ≡ false = sym built ∙ sym (ap is_built is) ∙ none in cc)
-
-  pub not_whole_of : {P : Type 0} (r : Request) → q ≡ r → is_whole r ≡ false → is_whole q ≡ true → P
-  not_whole_of r is other whole = absurd (let e : false ≡ true = sym other ∙ sym (ap is_whole is) ∙ whole in cc)
-
-  -- a form that is not built
-  unbuilt_told : (told : Option FileMap) → is_built q ≡ false → IfSome told (λ m. IsAnswerStop (RequestAnswer m q) stop.Unbuilt)
-  unbuilt_told None is = tt
-  unbuilt_told (Some m) is = unbuilt is
-
-  module _ {F : Type 0} (told : F → Option FileMap) (calm : F → Type 0) (faults : F → ℕ) where
-    pub not_answered : {a : F} → is_built q ≡ false → Answered told calm faults a a (Err stop.Unbuilt) (λ m. RequestAnswer m q) (λ m. HasFilesFor m q)
-    not_answered {a} is = record {
-      answer = tt;
-      stops = unbuilt_told (told a) is;
-      reads = reads_nothing told calm faults (λ failed. (let e = failed in cc));
-    }
+  -- it asks for no certificate
+  pub no_audit : {P : Type 0} (r : Request) → q ≡ r → is_audit r ≡ false → is_audit q ≡ true → P
+  no_audit r is none audits = absurd (let e : false ≡ true = sym none ∙ sym (ap is_audit is) ∙ audits in cc)

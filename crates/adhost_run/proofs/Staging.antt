@@ -1,17 +1,14 @@
 -- The host that is left, step by step.
-use Rattle.std.proofs.Common.{◌≡◌, ℕ, zero, suc, ◌-◌, List, [], ◌∷◌, ◌++◌, length, All, Bool, true, false, Option, Some, None, Result, Ok, Err, IfOk, IfSome, refl, sym, ap, subst, arith}
-use Rattle.std.proofs.lemmas.List.Elements.{All-append, All-drop}
+use Rattle.std.proofs.Common.{◌≡◌, ℕ, List, Bool, true, false, Option, Some, None, Result, Ok, Err, IfOk, IfSome, refl, sym, subst}
 use Rattle.host_io.specs.Files.{FileMap}
-use Rattle.pick_laws.specs.declared.entry.PickEntry.{PickEntry}
-use Rattle.pick_laws.specs.Journal.{Went, keeps, kept, journal_room}
-use Rattle.life_laws.specs.Life.{Seen}
-use Rattle.widget_host.specs.declared.host.Host.{Host}
-use Rattle.adhost_run.specs.declared.reading.Stop.{Stop}
+use Rattle.page_play.specs.widget_host.declared.host.Host.{Host}
+use Rattle.run_steps.specs.declared.reading.Stop.{Stop}
 use Rattle.adhost_run.specs.declared.reports.Report.{Report}
-use Rattle.adhost_run.specs.declared.reading.Stop.TheVariants as stop
-use Rattle.adhost_run.specs.declared.ending.Status.{Status}
-use Rattle.adhost_run.specs.Request.{Request, Asks}
-use Rattle.adhost_run.specs.Ends.{writes, status_of, Written, whole, part}
+use Rattle.run_steps.specs.declared.reading.Stop.TheVariants as stop
+use Rattle.run_steps.specs.declared.ending.Status.{Status}
+use Rattle.run_steps.specs.Request.{Request, Asks}
+use Rattle.adhost_run.specs.Ends.{writes, Written, whole, part}
+use Rattle.run_steps.specs.Ends.{status_of}
 use Rattle.adhost_run.specs.Stage.{Left, IsLeft, RequestLeaves, Leaves}
 
 -- what is left with what a step gave
@@ -60,29 +57,10 @@ pub stop_silent : (e : Stop) → writes (status_of e) ≡ true → ⊥
 stop_silent stop.BadManifest is = let f = is in cc
 stop_silent stop.BadTrace is = let f = is in cc
 stop_silent stop.TooLarge is = let f = is in cc
-stop_silent stop.Unbuilt is = let f = is in cc
+stop_silent stop.CertTooLarge is = let f = is in cc
+stop_silent stop.BadCert is = let f = is in cc
 stop_silent stop.ReadFault is = let f = is in cc
 stop_silent stop.Memory is = let f = is in cc
 
 pub not_both : (b : Bool) → b ≡ true → b ≡ false → ⊥
 not_both b on off = let y = on in (let n = off in cc)
-
--- ## The journal
-
-module _ (k : ℕ) where
-  one_slice : (e : PickEntry) → e.slice ≡ k → All (λ (x : PickEntry). x.slice ≡ k) (e ∷ [])
-  one_slice e is zero d within = is
-  one_slice e is (suc i) d within = absurd (omega (arith, within))
-
-  -- each kept pick is of the slice
-  kept_slices : (js added : List PickEntry) → All (λ (e : PickEntry). e.slice ≡ k) js → All (λ (e : PickEntry). e.slice ≡ k) added → All (λ (e : PickEntry). e.slice ≡ k) (keeps js added)
-  kept_slices js [] old new = old
-  kept_slices js (e ∷ es) old new =
-      let more = All-append (λ (x : PickEntry). x.slice ≡ k) js (e ∷ []) old (one_slice e (new 0 e (omega arith))) in
-      kept_slices (kept (js ++ e ∷ [])) es (All-drop (λ (x : PickEntry). x.slice ≡ k) (length (js ++ e ∷ []) - journal_room) (js ++ e ∷ []) more) (λ i d within. new (suc i) d (omega (arith, within)))
-
-  none_yet : (js : List PickEntry) → js ≡ [] → All (λ (e : PickEntry). e.slice ≡ k) js
-  none_yet js empty i d within = absurd (omega (arith, within, ap length empty))
-
-  pub all_slices : (js ks : List PickEntry) (old new : List Seen) → js ≡ [] → Went k old new js ks → All (λ (e : PickEntry). e.slice ≡ k) ks
-  all_slices js ks old new empty went = subst (All (λ (e : PickEntry). e.slice ≡ k)) (sym went.journal) (kept_slices js went.added (none_yet js empty) went.slices)

@@ -1,41 +1,17 @@
 -- From the steps to the answer.
-use Rattle.std.proofs.Common.{◌≡◌, ℕ, List, [], Option, Some, None, IfSome, IsSomeAnd, Result, Ok, Err, IfOk, IfErr, IsErrOf, Bool, true, false, ap, sym, subst}
+use Rattle.std.proofs.Common.{◌≡◌, ℕ, List, [], Option, Some, None, IfSome, IsSomeAnd, Result, Ok, Err, IfOk, IfErr, IsErrOf, sym, subst}
 use Rattle.host_io.specs.Files.{FileMap}
-use Rattle.adhost_run.specs.declared.ending.Status.{Status}
-use Rattle.adhost_run.specs.declared.ending.Status.TheVariants as status
-use Rattle.adhost_run.specs.declared.reading.Stop.{Stop}
-use Rattle.adhost_run.specs.declared.reading.Stop.TheVariants as stop
+use Rattle.run_steps.specs.declared.ending.Status.{Status}
+use Rattle.run_steps.specs.declared.ending.Status.TheVariants as status
+use Rattle.run_steps.specs.declared.reading.Stop.{Stop}
+use Rattle.run_steps.specs.declared.reading.Stop.TheVariants as stop
 use Rattle.adhost_run.specs.declared.reports.Report.{Report}
-use Rattle.adhost_run.specs.Steps.{Answers, Step, gives, stops, not_built, if_built}
+use Rattle.run_steps.specs.Steps.{Answers, Step, gives, stops}
 use Rattle.adhost_run.specs.Answer.{ending}
-use Rattle.adhost_run.specs.Ends.{IsStop, IsAnswerStop, Stepped, Answered}
-use Rattle.adhost_run.proofs.ReadsLemmas.{reads_nothing, reads_as, reads_then}
-
--- which errors there are
-err_is : {T : Type 0} (s t : Stop) → IsErrOf {T = T} (Err s) t → s ≡ t
-err_is s t e = cc
-
-pub again : {T U : Type 0} (s t : Stop) → IsErrOf {T = T} (Err s) t → IsErrOf {T = U} (Err s) t
-again s t e = ap Err (err_is s t e)
-
--- what stops one thing stops another
-pub as_stop : (P Q : Status → Type 0) → ((s : Status) → P s → Q s) → (e : Stop) → IsStop P e → IsStop Q e
-as_stop P Q more stop.BadManifest is = more status.BadManifest is
-as_stop P Q more stop.BadTrace is = more status.BadTrace is
-as_stop P Q more stop.TooLarge is = more status.TooLarge is
-as_stop P Q more stop.Unbuilt is = more status.Unbuilt is
-as_stop P Q more stop.ReadFault is = tt
-as_stop P Q more stop.Memory is = tt
-
-module _ (P Q : FileMap → Status → Type 0) (more : (m : FileMap) (s : Status) → P m s → Q m s) where
-  pub told_stop : (told : Option FileMap) (e : Stop) → IfSome told (λ m. IsStop (P m) e) → IfSome told (λ m. IsStop (Q m) e)
-  told_stop None e is = is
-  told_stop (Some m) e is = as_stop (P m) (Q m) (more m) e is
-
-module _ (All Enough : FileMap → Type 0) (enough : (m : FileMap) → All m → Enough m) where
-  pub told_enough : (told : Option FileMap) → IsSomeAnd told All → IsSomeAnd told Enough
-  told_enough None has = has
-  told_enough (Some m) has = enough m has
+use Rattle.run_steps.specs.Ends.{IsAnswerStop, Stepped}
+use Rattle.adhost_run.specs.Ends.{Answered}
+use Rattle.run_steps.proofs.ReadsLemmas.{reads_nothing, reads_as, reads_then}
+use Rattle.run_steps.proofs.Stepping.{again, as_stop, told_stop, told_enough, step_enough, none_stops}
 
 -- what is answered further on, at what a step gave
 module _ {T : Type 0} (Gives : FileMap → T → Type 0) (Stops : FileMap → Status → Type 0) (next : FileMap → T → Answers) (x : T) where
@@ -55,21 +31,13 @@ module _ {T : Type 0} (Gives : FileMap → T → Type 0) (Stops : FileMap → St
   step_err told (Ok t) given is = is
   step_err told (Err e) given is = step_stop told e given is
 
-  pub step_enough : (All Rest : FileMap → Type 0) → ((m : FileMap) → Gives m x → All m → Rest m) → (told : Option FileMap) → IfSome told (λ m. Gives m x) → IsSomeAnd told All → IsSomeAnd told Rest
-  step_enough All Rest rest None given has = has
-  step_enough All Rest rest (Some m) given has = rest m given has
-
-pub none_stops : (told : Option FileMap) → IfSome told (λ m. Unit {0})
-none_stops None = tt
-none_stops (Some m) = tt
-
-unbuilt_stops : (told : Option FileMap) (built : Bool) (answer : FileMap → Answers) → built ≡ false → IfSome told (λ m. IsAnswerStop (if_built built (answer m)) stop.Unbuilt)
-unbuilt_stops None built answer is = tt
-unbuilt_stops (Some m) built answer is = subst (λ b. if_built b (answer m) status.Unbuilt []) (sym is) not_built
-
 told_answer : (answer : FileMap → Answers) (s : Status) (b : List ℕ) → ((m : FileMap) → answer m s b) → (told : Option FileMap) → IfSome told (λ m. answer m s b)
 told_answer answer s b is None = tt
 told_answer answer s b is (Some m) = is m
+
+told_stop_here : (answer : FileMap → Answers) (e : Stop) → ((m : FileMap) → IsAnswerStop (answer m) e) → (told : Option FileMap) → IfSome told (λ m. IsAnswerStop (answer m) e)
+told_stop_here answer e is None = tt
+told_stop_here answer e is (Some m) = is m
 
 module _ {F : Type 0} (told : F → Option FileMap) (calm : F → Type 0) (faults : F → ℕ) where
   -- a step with which there is no report
@@ -86,20 +54,8 @@ module _ {F : Type 0} (told : F → Option FileMap) (calm : F → Type 0) (fault
     answer = step_ok Gives Stops next (view x) (told a) r step.gives (subst (λ t. IfOk r (λ v. IfSome t (λ m. next m (view x) (ending v.refused) v.bytes.items))) step.reads.same behind.answer);
     stops = step_err Gives Stops next (view x) (told a) r step.gives (subst (λ t. IfErr r (λ e. IfSome t (λ m. IsAnswerStop (next m (view x)) e))) step.reads.same behind.stops);
     reads = reads_then told calm faults step.reads behind.reads (λ failed. failed) (told_enough All Enough enough (told a))
-        (λ all. subst (λ t. IsSomeAnd t Rest) (sym step.reads.same) (step_enough Gives Stops next (view x) All Rest rest (told a) step.gives all));
+        (λ all. subst (λ t. IsSomeAnd t Rest) (sym step.reads.same) (step_enough Gives (view x) All Rest rest (told a) step.gives all));
   }
-
-  -- the work ends where it is not built
-  pub not_built_yet : {a : F} (built : Bool) (answer : FileMap → Answers) (All : FileMap → Type 0) → built ≡ false → Answered told calm faults a a (Err stop.Unbuilt) (λ m. if_built built (answer m)) All
-  not_built_yet {a} built answer All is = record {
-    answer = tt;
-    stops = unbuilt_stops (told a) built answer is;
-    reads = reads_nothing told calm faults (λ failed. (let e = failed in cc));
-  }
-
-  -- and goes on where it is
-  pub built_so : {a b : F} {r : Result Report Stop} (built : Bool) (answer : FileMap → Answers) (All : FileMap → Type 0) → built ≡ true → Answered told calm faults a b r answer All → Answered told calm faults a b r (λ m. if_built built (answer m)) All
-  built_so {a} {b} {r} built answer All is it = subst (λ x. Answered told calm faults a b r (λ m. if_built x (answer m)) All) (sym is) it
 
   -- there was no memory
   pub no_memory_left : {a : F} (answer : FileMap → Answers) (All : FileMap → Type 0) → Answered told calm faults a a (Err stop.Memory) answer All
@@ -115,6 +71,14 @@ module _ {F : Type 0} (told : F → Option FileMap) (calm : F → Type 0) (fault
     answer = told_answer answer (ending r.refused) r.bytes.items is (told a);
     stops = tt;
     reads = reads_nothing told calm faults (λ failed. (let e = failed in cc));
+  }
+
+  -- there is none, though all was read
+  pub stopped_here : {a : F} (e : Stop) (answer : FileMap → Answers) (All : FileMap → Type 0) → (IsErrOf {T = Report} (Err e) stop.ReadFault → ⊥) → ((m : FileMap) → IsAnswerStop (answer m) e) → Answered told calm faults a a (Err e) answer All
+  stopped_here {a} e answer All never is = record {
+    answer = tt;
+    stops = told_stop_here answer e is (told a);
+    reads = reads_nothing told calm faults never;
   }
 
   -- the same, said of what answers more, and needs more

@@ -1,15 +1,18 @@
 -- The page and the items of `demo`, and what comes of them.
-use Rattle.std.specs.Prelude.{◌≡◌, ℕ, zero, suc, ◌+◌, ◌*◌, ◌/◌, ◌%◌, ◌^◌, List, [], ◌∷◌, ◌++◌, map, codes, nat_eq, if◌then◌else◌, Option, Some, None, false}
+use Rattle.std.specs.Prelude.{◌≡◌, ℕ, zero, suc, ◌+◌, ◌*◌, ◌/◌, ◌%◌, ◌^◌, List, [], ◌∷◌, ◌++◌, map, length, codes, nat_eq, if◌then◌else◌, Option, Some, None, false}
 use Rattle.std.specs.List.{flat_map}
 use Rattle.trace_reader.specs.Said.{Said, an_event, an_advance}
 use Rattle.manifest_reader.specs.Page.{Part, Widget, usual_fuel}
 use Rattle.slot_check.specs.Sources.{Source}
 use Rattle.page_judge.specs.Runs.{SlotRun}
 use Rattle.widget_meaning.specs.OwnState.{OwnState}
-use Rattle.widget_meaning.specs.Alone.{Given}
-use Rattle.adhost_run.specs.declared.ending.Status.{Status}
-use Rattle.adhost_run.specs.declared.ending.Status.TheVariants as status
-use Rattle.adhost_run.specs.Run.{given_by, short_line, AreEnds, some_refused}
+use Rattle.run_steps.specs.declared.ending.Status.{Status}
+use Rattle.run_steps.specs.declared.ending.Status.TheVariants as status
+use Rattle.slot_lives.specs.Lines.{short_line}
+use Rattle.slot_lives.specs.Ends.{some_refused}
+use Rattle.slot_lives.specs.Outcome.{ComeTo, last_lives}
+use Rattle.page_play.specs.widget_host.declared.host.Host.{Host}
+use Rattle.page_play.specs.widget_host.Housed.{IsHoused, AreShown, chains}
 
 -- the names of its 16 slots
 abbrev pub demo_names : List (List ℕ)
@@ -69,10 +72,6 @@ demo_from x i (suc k) = demo_item (next_number x) i ∷ demo_from (next_number x
 abbrev pub demo_items : ℕ → List Said
 demo_items count = demo_from count 1 count
 
--- and what they give to the page
-abbrev pub demo_given : ℕ → List Given
-demo_given count = map (given_by demo_names) (demo_items count)
-
 -- of slots with these own states
 abbrev pub short_lines : List (List ℕ) → List (Option OwnState) → List ℕ
 short_lines (name ∷ names) (Some own ∷ owns) = short_line name own ++ short_lines names owns
@@ -81,4 +80,12 @@ short_lines _ _ = []
 
 -- what is answered to `demo`: the short lines of its slots, each by its widget by itself
 pub data DemoAnswer (count : ℕ) : Status → List ℕ → Type 0 where
-  short_report : {ends : List (Option OwnState)} {lines : List ℕ} → AreEnds (demo_given count) demo_runs ends lines → some_refused ends ≡ false → DemoAnswer count status.Ok (short_lines demo_names ends)
+  short_report : {ends : List (Option OwnState)} → ComeTo [] (last_lives [] (demo_items count) 0 demo_runs) ends → some_refused ends ≡ false → DemoAnswer count status.Ok (short_lines demo_names ends)
+
+-- the last lives of slots of these names show these own states, and none of them is refused
+pub record AreAccepted (names : List (List ℕ)) (h : Host) (owns : List (Option OwnState)) : Type 0 where
+  pub housed : IsHoused h
+  pub slots : length (chains h) ≡ length names
+  pub shown : AreShown h (chains h) owns
+  pub even : length names ≡ length owns
+  pub accepted : some_refused owns ≡ false

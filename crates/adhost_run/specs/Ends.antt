@@ -1,15 +1,20 @@
 -- Which statuses a run may end with, and when.
-use Rattle.std.specs.Prelude.{◌≡◌, ℕ, ◌<◌, ◌≤◌, List, [], length, take, Option, IfSome, IsSomeAnd, Result, IfOk, IfErr, IsErrOf, Bool, true, false}
+use Rattle.std.specs.Prelude.{◌≡◌, ◌↔◌, ℕ, ◌<◌, ◌≤◌, List, length, take, Option, IfSome, IsSomeAnd, Result, IfOk, IfErr, IsErrOf, Bool, true, false}
 use Rattle.host_io.specs.Files.{FileMap, Rose}
 use Rattle.host_io.specs.Sink.{with_bytes}
-use Rattle.adhost_run.specs.declared.reading.Stop.{Stop}
-use Rattle.adhost_run.specs.declared.reading.Stop.TheVariants as stop
-use Rattle.adhost_run.specs.declared.ending.Status.{Status}
-use Rattle.adhost_run.specs.declared.ending.Status.TheVariants as status
+use Rattle.run_steps.specs.declared.reading.Stop.{Stop}
+use Rattle.run_steps.specs.declared.reading.Stop.TheVariants as stop
+use Rattle.run_steps.specs.declared.ending.Status.{Status}
+use Rattle.run_steps.specs.declared.ending.Status.TheVariants as status
 use Rattle.adhost_run.specs.declared.reports.Report.{Report}
-use Rattle.adhost_run.specs.Reading.{ReadsFiles}
-use Rattle.adhost_run.specs.Steps.{Answers}
-use Rattle.adhost_run.specs.Answer.{ending, Answer}
+use Rattle.reach_cert.specs.Certs.{Slot, cert_text}
+use Rattle.reach_cert.specs.Walks.{IsConfined}
+use Rattle.run_steps.specs.Numbers.{number_of}
+use Rattle.run_steps.specs.Request.{Request, Audit, Asks, IsForm}
+use Rattle.run_steps.specs.Reading.{ReadsFiles, HasFiles}
+use Rattle.run_steps.specs.Steps.{Answers}
+use Rattle.run_steps.specs.Ends.{IsAnswerStop}
+use Rattle.adhost_run.specs.Answer.{ending, Answer, Wrote, WrotePart}
 
 -- the status is that of an answer: no fault, and no want of memory
 abbrev pub is_answer : Status → Bool
@@ -49,38 +54,52 @@ pub data Written (refused : Bool) (bytes : List ℕ) (room : ℕ) (old new : Opt
   whole : new ≡ with_bytes old bytes → Written refused bytes room old new (ending refused)
   part : (count : ℕ) → room < length bytes → count ≤ length bytes → new ≡ with_bytes old (take count bytes) → Written refused bytes room old new status.WriteFault
 
--- why there is no report: a status that comes so, a read that failed, or want of memory
-abbrev pub IsStop : (Status → Type 0) → Stop → Type 0
-IsStop Stops stop.BadManifest = Stops status.BadManifest
-IsStop Stops stop.BadTrace = Stops status.BadTrace
-IsStop Stops stop.TooLarge = Stops status.TooLarge
-IsStop Stops stop.Unbuilt = Stops status.Unbuilt
-IsStop Stops stop.ReadFault = Unit {0}
-IsStop Stops stop.Memory = Unit {0}
-
--- the same of an answer, which has no bytes then
-abbrev pub IsAnswerStop : Answers → Stop → Type 0
-IsAnswerStop answer e = IsStop (λ s. answer s []) e
-
--- the status that it ends with
-abbrev pub status_of : Stop → Status
-status_of stop.BadManifest = status.BadManifest
-status_of stop.BadTrace = status.BadTrace
-status_of stop.TooLarge = status.TooLarge
-status_of stop.ReadFault = status.ReadFault
-status_of stop.Memory = status.Memory
-status_of stop.Unbuilt = status.Unbuilt
-
--- ## The contract of a step, and of an answer
-
--- what a step does over files, by what it ended with. `Enough` says that each file is there to which it comes.
-pub record Stepped {F T : Type 0} (told : F → Option FileMap) (calm : F → Type 0) (faults : F → ℕ) (old new : F) (result : Result T Stop) (Gives : FileMap → T → Type 0) (Stops : FileMap → Status → Type 0) (Enough : FileMap → Type 0) : Type 0 where
-  pub gives : IfOk result (λ given. IfSome (told old) (λ m. Gives m given))
-  pub stops : IfErr result (λ e. IfSome (told old) (λ m. IsStop (Stops m) e))
-  pub reads : ReadsFiles told calm faults old new (IsErrOf result stop.ReadFault) (IsSomeAnd (told old) Enough)
-
--- the same of a report, which is that of the answer, or there is none
+-- what an answer does over files, by what it ended with: the report is that of the answer, or there is none. `Enough` says that each file is there to which it comes.
 pub record Answered {F : Type 0} (told : F → Option FileMap) (calm : F → Type 0) (faults : F → ℕ) (old new : F) (result : Result Report Stop) (all : FileMap → Answers) (Enough : FileMap → Type 0) : Type 0 where
   pub answer : IfOk result (λ r. IfSome (told old) (λ m. all m (ending r.refused) r.bytes.items))
   pub stops : IfErr result (λ e. IfSome (told old) (λ m. IsAnswerStop (all m) e))
   pub reads : ReadsFiles told calm faults old new (IsErrOf result stop.ReadFault) (IsSomeAnd (told old) Enough)
+
+-- ## The certificate of `audit`
+
+-- a request for the certificate of a page
+abbrev pub is_audit : Request → Bool
+is_audit (Audit manifest trace slice) = true
+is_audit _ = false
+
+-- the words ask for one
+pub record AsksAudit (words : List (List ℕ)) : Type 0 where
+  pub request : Request
+  pub asks : Asks words request
+  pub audit : is_audit request ≡ true
+
+-- the bytes are the text of a certificate that is confined
+pub record IsConfinedText (bytes : List ℕ) : Type 0 where
+  pub slots : List Slot
+  pub text : bytes ≡ cert_text slots
+  pub confined : IsConfined slots
+
+-- the status is that of a report that was written whole
+abbrev pub is_whole : Status → Bool
+is_whole status.Ok = true
+is_whole status.Refused = true
+is_whole _ = false
+
+-- ## A whole run
+
+-- what a run of these words does to files and to a sink, by the status with which it ends: the clauses of `run`, all but those on the stage
+pub record IsRun {F S : Type 0} (told : F → Option FileMap) (calm : F → Type 0) (read_faults : F → ℕ) (held : S → Option (List ℕ)) (takes : S → ℕ) (write_faults : S → ℕ) (words : List (List ℕ)) (old new : F) (from to : S) (s : Status) : Type 0 where
+  pub answer : is_answer s ≡ true → IfSome (told old) (λ m. Wrote (Answer words m s) (held from) (held to))
+  pub usage : (s ≡ status.Usage) ↔ (¬ IsForm words)
+  pub complete : IfSome (told old) (λ m. calm old → HasFiles words m → Completes (Answer words m) (takes from) s)
+  pub reads : ReadsFiles told calm read_faults old new (s ≡ status.ReadFault) (IsSomeAnd (told old) (HasFiles words))
+  pub sink : WritesSink write_faults from to (s ≡ status.WriteFault) (IsSomeAnd (told old) (λ m. Fits words m (takes from)))
+  pub first_part : s ≡ status.WriteFault → IfSome (told old) (λ m. WrotePart (Answer words m) (takes from) (held from) (held to))
+  pub still : writes s ≡ false → to ≡ from
+  pub confined : AsksAudit words → is_whole s ≡ true → Wrote IsConfinedText (held from) (held to)
+
+-- a number is that of a status with which such a run ends
+pub record IsRunNumber {F S : Type 0} (told : F → Option FileMap) (calm : F → Type 0) (read_faults : F → ℕ) (held : S → Option (List ℕ)) (takes : S → ℕ) (write_faults : S → ℕ) (words : List (List ℕ)) (old new : F) (from to : S) (number : ℕ) : Type 0 where
+  pub how : Status
+  pub is : number ≡ number_of how
+  pub run : IsRun told calm read_faults held takes write_faults words old new from to how

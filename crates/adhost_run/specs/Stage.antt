@@ -1,83 +1,68 @@
 -- The host that a run leaves.
-use Rattle.std.specs.Prelude.{◌≡◌, ℕ, ◌<◌, ◌≤◌, List, [], All, length, map, slice_get, true, false, Option, Some, None, Result, IfOk, IfSome}
-use Rattle.js_tree.specs.declared.tree.Tree.{Tree}
+use Rattle.std.specs.Prelude.{◌≡◌, ℕ, List, [], length, map, slice_get, false, Option, Some, None, Result, IfOk, IfSome}
+use Rattle.std.specs.List.{zip}
 use Rattle.host_io.specs.Files.{FileMap}
 use Rattle.manifest_reader.specs.declared.entry.Manifest.{Manifest}
 use Rattle.manifest_reader.specs.Page.{Part}
-use Rattle.trace_reader.specs.Said.{Said}
+use Rattle.trace_reader.specs.Said.{Said, said}
 use Rattle.trace_reader.specs.declared.item.TraceItem.{TraceItem}
 use Rattle.slot_check.specs.declared.fault.Refusal.{Refusal}
 use Rattle.slot_check.specs.Sources.{Source}
-use Rattle.pick_laws.specs.declared.entry.PickEntry.{PickEntry}
-use Rattle.pick_laws.specs.Journal.{ready_from, journal_room}
-use Rattle.pick_laws.specs.Order.{InOrder}
-use Rattle.slot_laws.specs.Chains.{Unspent}
-use Rattle.slot_laws.specs.Settled.{PickedOn, slot_flags}
+use Rattle.slot_laws.specs.Slots.{has}
+use Rattle.slot_laws.specs.Chains.{last_at, listed}
 use Rattle.widget_meaning.specs.OwnState.{OwnState}
-use Rattle.widget_meaning.specs.Alone.{Content, Given}
+use Rattle.widget_meaning.specs.Alone.{Content}
 use Rattle.page_spec.specs.declared.PageSpec.{PageSpec}
+use Rattle.page_spec.specs.declared.SlotContent.{SlotContent}
 use Rattle.page_spec.specs.Pages.{piece_of}
-use Rattle.page_judge.specs.Judged.{AreJudgedSlots}
-use Rattle.page_judge.specs.Runs.{SlotRun, pieces}
+use Rattle.page_judge.specs.Judged.{AreJudgedSlots, AreJudgedSwaps}
+use Rattle.page_judge.specs.Runs.{SlotRun, pieces, swap_runs}
 use Rattle.page_judge.specs.Widgets.{HasWidget}
-use Rattle.widget_host.specs.declared.host.Host.{Host}
-use Rattle.widget_host.specs.page_load.Loads.{singles}
-use Rattle.widget_host.specs.Housed.{IsHoused, IsLaid, AreShown, Loads, Passes, accepts, chains, channels, seens, scripts, journal, given, marked}
-use Rattle.adhost_run.specs.declared.reading.Stop.{Stop}
+use Rattle.slot_lives.specs.Lives.{Life, swaps_in}
+use Rattle.slot_lives.specs.Ends.{run_name}
+use Rattle.slot_lives.specs.Outcome.{ComeTo, last_lives}
+use Rattle.page_play.specs.widget_host.declared.host.Host.{Host}
+use Rattle.page_play.specs.widget_host.page_load.Loads.{singles}
+use Rattle.page_play.specs.widget_host.Housed.{IsLaid, AreShown, accepts, chains, channels, ends, scripts}
+use Rattle.page_play.specs.Swaps.{swap_slots}
+use Rattle.page_play.specs.Played.{AreScriptsOf}
+use Rattle.page_play.specs.Settled.{IsSettled}
+use Rattle.run_steps.specs.declared.reading.Stop.{Stop}
+use Rattle.run_steps.specs.Request.{Request, Render, Replay, Audit, Demo, Asks}
+use Rattle.run_steps.specs.Page.{file_limit, AreRead, HasManifest, slot_names, files_named, swap_files, parts}
+use Rattle.run_steps.specs.Steps.{HasItems}
 use Rattle.adhost_run.specs.declared.reports.Report.{Report}
-use Rattle.adhost_run.specs.Request.{Request, Render, Replay, Demo, Asks}
-use Rattle.adhost_run.specs.Page.{file_limit, AreRead, HasManifest, slot_names, files_named, parts, runs_of}
-use Rattle.adhost_run.specs.Steps.{HasItems}
-use Rattle.adhost_run.specs.Run.{AreEnds, given_by, run_name}
-use Rattle.adhost_run.specs.Played.{AreScriptsOf, GivesAll}
-use Rattle.adhost_run.specs.Demo.{demo_parts, demo_runs, demo_given}
-use Rattle.adhost_run.specs.Answer.{given_to}
+use Rattle.adhost_run.specs.Page.{runs_of}
+use Rattle.adhost_run.specs.Demo.{demo_parts, demo_runs, demo_items}
 
--- the page that was loaded: its slots are these, as they were judged, and it has these pieces and these channels
-pub record IsPage (parts : List Part) (pairs : List (ℕ × ℕ)) (runs : List SlotRun) (spec : PageSpec) : Type 0 where
+-- the runs of the swaps among items, in order: each is the slot that it names, with its file
+abbrev pub swapped : List SlotRun → List Source → List Said → List SlotRun
+swapped runs files items = swap_runs runs (zip (swap_slots items) files)
+
+-- the page that was loaded: its slots are these, and its swaps bring these, as they were judged; and it has these pieces and these channels
+pub record IsPage (parts : List Part) (pairs : List (ℕ × ℕ)) (runs : List SlotRun) (files : List Source) (items : List Said) (spec : PageSpec) (swaps : List SlotContent) : Type 0 where
   pub refusals : List (Option Refusal)
   pub slots : AreJudgedSlots spec.libs.items runs spec.slots.items refusals
+  pub brought : List (Option Refusal)
+  pub brings : AreJudgedSwaps spec.libs.items (swapped runs files items) swaps brought
   pub laid : map piece_of spec.pieces.items ≡ pieces parts
   pub channels : spec.channels.items ≡ pairs
 
--- a host that is whole and has done with these items: this page was loaded, each life as its widget begins and with its load turns to come (`Loads`); it was given the items, one after the other, and nothing was spent till then; from there picks of this slice, one after the other, led to it, and after each of them each life held its own (`Passes`); its journal has their entries, the last 65,536 of them, each with this slice; where the journal is not full, the picks are in the order of round robin; no turn is in progress, and every queue is empty
-pub record IsSettled (spec : PageSpec) (items : List Said) (slice : ℕ) (h : Host) : Type 0 where
-  pub housed : IsHoused h
-  pub unmarked : marked h ≡ false
-  pub count : given h ≡ length items
-  pub first : Host
-  pub loads : Loads spec first
-  pub before : Host
-  pub gives : GivesAll first items before
-  pub unspent : Unspent 0 (seens before)
-  pub passes : Passes slice before h
-  pub picks : PickedOn slice (chains h) (seens before) [] (chains h) (seens h) (journal h)
-  pub quiet : ready_from 0 (slot_flags (seens h) (chains h)) ≡ []
-  pub slices : All (λ (e : PickEntry). e.slice ≡ slice) (journal h)
-  pub order : length (journal h) < journal_room → InOrder None (journal h)
-
--- a slot has its widget, and these trees are its scripts
-pub record HasItsScripts (run : SlotRun) (ts : List Tree) : Type 0 where
-  pub content : Content
-  pub has : HasWidget run.slot content
-  pub are : AreScriptsOf content ts
-
--- the page that it loaded is that of these slots, and what it was given are these items; it has all slots of the page, each with one life, its pieces and its channels, and no other life is accepted; the scripts of an accepted life are those of its slot's files, and the own states are those of the answer
-pub record IsStage (parts : List Part) (pairs : List (ℕ × ℕ)) (runs : List SlotRun) (items : List Given) (slice : ℕ) (h : Host) : Type 0 where
+-- the page that it loaded is that of these slots and swaps, and it has done with these items (`IsSettled`); it has all slots of the page, its pieces and its channels; in each slot stands its last life, which shows the own state of the answer, and whose scripts are those of its file, if this breaks no rule; no life is accepted but these and those that swaps ended; and without a swap each slot has its first life
+pub record IsStage (parts : List Part) (pairs : List (ℕ × ℕ)) (runs : List SlotRun) (files : List Source) (items : List Said) (slice : ℕ) (h : Host) : Type 0 where
   pub spec : PageSpec
-  pub page : IsPage parts pairs runs spec
-  pub said : List Said
-  pub gave : map (given_by (map run_name runs)) said ≡ items
-  pub settled : IsSettled spec said slice h
-  pub slots : chains h ≡ singles 0 (length runs)
+  pub swaps : List SlotContent
+  pub page : IsPage parts pairs runs files items spec swaps
+  pub settled : IsSettled spec swaps items slice h
+  pub slots : length (chains h) ≡ length runs
   pub laid : IsLaid h (map run_name runs) (pieces parts)
   pub channels : channels h ≡ pairs
-  pub none_else : (v : ℕ) → length runs ≤ v → accepts h v ≡ false
-  pub scripts : (w : ℕ) (run : SlotRun) → slice_get runs w ≡ Some run → accepts h w ≡ true → HasItsScripts run (scripts h w)
-  pub ends : List (Option OwnState)
-  pub lines : List ℕ
-  pub are : AreEnds items runs ends lines
-  pub shown : AreShown h (chains h) ends
+  pub owns : List (Option OwnState)
+  pub come : ComeTo pairs (last_lives files items 0 runs) owns
+  pub shown : AreShown h (chains h) owns
+  pub scripts : (w : ℕ) (life : Life SlotRun) (content : Content) → slice_get (last_lives files items 0 runs) w ≡ Some life → HasWidget life.runs.slot content → AreScriptsOf content (scripts h (last_at w (chains h)))
+  pub none_else : (v : ℕ) → listed v (chains h) ≡ false → has v (ends h) ≡ false → accepts h v ≡ false
+  pub firsts : swaps_in items ≡ 0 → chains h ≡ singles 0 (length runs)
 
 -- what a step gave, and what was left with it
 pub record Left {T : Type 0} (Gives : T → Type 0) (next : T → Option Host → Type 0) (h : Option Host) : Type 0 where
@@ -85,13 +70,16 @@ pub record Left {T : Type 0} (Gives : T → Type 0) (next : T → Option Host �
   pub gave : Gives from
   pub left : next from h
 
--- the host of a page that ran on these items; and from its files on, from its manifest on, and from its name on
-abbrev pub IsStageOf : ℕ → Manifest → List Source → List TraceItem → Option Host → Type 0
-IsStageOf slice manifest sources items None = ⊥
-IsStageOf slice manifest sources items (Some h) = IsStage (parts manifest) manifest.channels.items (runs_of manifest sources) (given_to manifest items) slice h
+-- the host of a page that ran on these items, whose swaps have these files; and from its items on, from its files on, from its manifest on, and from its name on
+abbrev pub IsStageOf : ℕ → Manifest → List Source → List TraceItem → List Source → Option Host → Type 0
+IsStageOf slice manifest sources items files None = ⊥
+IsStageOf slice manifest sources items files (Some h) = IsStage (parts manifest) manifest.channels.items (runs_of manifest sources) files (map said items) slice h
+
+abbrev pub LeftByItems : FileMap → ℕ → Manifest → List Source → List TraceItem → Option Host → Type 0
+LeftByItems files slice manifest sources items = Left (AreRead files file_limit (swap_files items)) (IsStageOf slice manifest sources items)
 
 abbrev pub LeftByFiles : FileMap → Option (List ℕ) → ℕ → Manifest → List Source → Option Host → Type 0
-LeftByFiles files trace slice manifest sources = Left (HasItems files (slot_names manifest.entries.items) trace) (IsStageOf slice manifest sources)
+LeftByFiles files trace slice manifest sources = Left (HasItems files (slot_names manifest.entries.items) trace) (LeftByItems files slice manifest sources)
 
 abbrev pub LeftByManifest : FileMap → Option (List ℕ) → ℕ → Manifest → Option Host → Type 0
 LeftByManifest files trace slice manifest = Left (AreRead files file_limit (files_named manifest)) (LeftByFiles files trace slice manifest)
@@ -105,7 +93,7 @@ demo_slice = 50
 
 abbrev pub IsDemoStage : ℕ → Option Host → Type 0
 IsDemoStage count None = ⊥
-IsDemoStage count (Some h) = IsStage demo_parts [] demo_runs (demo_given count) demo_slice h
+IsDemoStage count (Some h) = IsStage demo_parts [] demo_runs [] (demo_items count) demo_slice h
 
 -- the slice of `render`
 abbrev pub render_slice : ℕ
@@ -115,6 +103,7 @@ render_slice = 1000000
 abbrev pub RequestLeaves : FileMap → Request → Option Host → Type 0
 RequestLeaves files (Render manifest) h = LeftByPage files manifest None render_slice h
 RequestLeaves files (Replay manifest trace slice) h = LeftByPage files manifest (Some trace) slice h
+RequestLeaves files (Audit manifest trace slice) h = LeftByPage files manifest (Some trace) slice h
 RequestLeaves files (Demo count) h = IsDemoStage count h
 RequestLeaves files _ h = h ≡ None
 

@@ -7,22 +7,21 @@ ghost use Rattle.slot_check.specs.Verdicts.{source_of, sources_of};
 ghost use Rattle.manifest_reader.specs.Page.{part_of, Widget, usual_fuel};
 ghost use Rattle.widget_meaning.specs.OwnState.{OwnState};
 ghost use Rattle.adhost_run.specs.Answer.{ending};
-ghost use Rattle.adhost_run.specs.Page.{parts};
-ghost use Rattle.adhost_run.specs.Demo.{demo_items, demo_item, counter_text, counter_of, next_number, short_lines, DemoAnswer};
+ghost use Rattle.run_steps.specs.Page.{parts};
+ghost use Rattle.adhost_run.specs.Demo.{demo_items, demo_item, counter_text, counter_of, next_number, short_lines, AreAccepted, DemoAnswer};
 ghost use Rattle.adhost_run.specs.Stage.{IsDemoStage};
-ghost use Rattle.adhost_run.specs.Played.{AreAccepted};
 
-use crate::playing::{keys_of, play, run_text, some_refused};
+use crate::playing::play_page;
 use crate::reports::Report;
-use crate::steps::slot_names;
 use code_units::{Memory, Text};
 use manifest_reader::{Entry, Manifest};
-use page_judge::judge_page;
+use page_play::widget_host::Host;
+use page_play::{plays_come_to, run_text, some_refused};
+use run_steps::slot_names;
 use slot_check::SourceFile;
 use std::alloc::Global;
 use trace_reader::{Happening, TraceItem};
 use trace_text::{Line, report_line};
-use widget_host::Host;
 
 /// The names of the slots.
 const NAMES: [&str; 16] = [
@@ -55,28 +54,29 @@ pub fn demo(alloc: Global, count: u32) -> Result<Report, Memory>
     ensures answer { IfOk result (λ r. DemoAnswer count (ending r.refused) r.bytes.items) }
     ensures stage { IfOk result (λ r. IsDemoStage count r.host) }
 {
+    plays_come_to();
     let manifest = demo_page(alloc, &NAMES)?;
     let sources = counters(alloc, &NAMES)?;
     let names = slot_names(alloc, &manifest.entries)?;
     let items = demo_items(alloc, count)?;
-    let page = judge_page(alloc, manifest, &sources, &[])?;
+    let ran = play_page(alloc, manifest, &sources, names, items, &[], SLICE)?;
     // A counter breaks no rule.
-    if some_refused(&page.refusals) {
+    if some_refused(&ran.findings) {
         return Err(Memory);
     }
-    let host = play(alloc, keys_of(alloc, &sources)?, page.spec, items, SLICE)?;
     let mut bytes = Vec::new(alloc);
-    push_short_lines(alloc, &names, &host, &mut bytes)?;
+    push_short_lines(alloc, &ran.findings.names, &ran.host, &mut bytes)?;
     Ok(Report {
         refused: false,
         bytes,
-        host: Some(host),
+        host: Some(ran.host),
     })
 }
 
 // A page of slots of these names.
 fn demo_page(alloc: Global, names: &[&str]) -> Result<Manifest, Memory>
     ensures parts { IfOk result (λ m. parts m ≡ map (λ n. Widget (units_of n.now) [] usual_fuel) names.now) }
+    ensures libs { IfOk result (λ m. m.libs.items ≡ []) }
     ensures channels { IfOk result (λ m. m.channels.items ≡ []) }
 {
     let mut entries = Vec::new(alloc);
@@ -213,7 +213,7 @@ fn push_short_lines(
 {
     'names: for (i, name) in names.iter().enumerate() {
         let line = host.line(alloc, i as u32)?;
-        report_line(&Line::Short(run_text(name.share()?, line)), out)?;
+        report_line(&Line::Short(run_text(name.share()?, None, line)), out)?;
     }
     Ok(())
 }

@@ -3,22 +3,19 @@
 //! its widgets, and writes what became of them.
 #![tactic(auto)]
 
+mod audits;
 mod demos;
-mod ending;
 mod laws;
 mod pages;
 mod playing;
-mod reading;
 mod reports;
-mod request;
 mod running;
 mod runs;
-mod steps;
 mod writing;
 
-pub use ending::Status;
-pub use laws::{one_answer, two_pages};
+pub use laws::one_answer;
+pub use run_steps::Status;
 pub use running::{exit_number, run};
 
 // Handed on to the crates above, which name it so.
-pub use widget_host;
+pub use page_play::widget_host;

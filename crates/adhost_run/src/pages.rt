@@ -2,17 +2,16 @@
 ghost use Rattle.std.specs.Prelude.{◌≡◌, length, All, IfOk, IfErr, None};
 ghost use Rattle.slot_check.specs.Verdicts.{sources_of, IsSmall};
 ghost use Rattle.slot_check.specs.Line.{AreSlotLines};
-ghost use Rattle.adhost_run.specs.Page.{file_limit, files_named, slots_of};
+ghost use Rattle.run_steps.specs.Page.{file_limit, files_named, slots_of};
 ghost use Rattle.adhost_run.specs.Answer.{CheckAnswer, OfFiles, PageAnswer};
 ghost use Rattle.adhost_run.specs.Ends.{Answered};
-ghost use Rattle.adhost_run.specs.Reading.{ComesThrough, HasPageFiles, IsBuiltStop};
+ghost use Rattle.run_steps.specs.Reading.{ComesThrough, HasPageFiles};
 
-use crate::reading::Stop;
 use crate::reports::Report;
-use crate::steps::{files_of, manifest_in, slot_names};
 use code_units::Memory;
 use host_io::Files;
 use manifest_reader::Manifest;
+use run_steps::{Stop, files_of, manifest_in, slot_names};
 use slot_check::{SlotText, SourceFile, slot_lines};
 use std::alloc::Global;
 
@@ -21,7 +20,6 @@ pub fn check_page<F: Files>(alloc: Global, name: &str, files: &mut F) -> Result<
     ensures answered { Answered F.told F.calm F.faults files.old files.new result
         (λ m. PageAnswer m name.now) (λ m. HasPageFiles m name.now) }
     ensures no_host { IfOk result (λ r. r.host ≡ None) }
-    ensures built { IfErr result IsBuiltStop }
 {
     let manifest = manifest_in(alloc, name, files)?;
     check_manifest(alloc, &manifest, files)
@@ -37,7 +35,6 @@ fn check_manifest<F: Files>(
         (λ m. OfFiles m manifest.now (CheckAnswer manifest.now))
         (λ m. ComesThrough m file_limit (files_named manifest.now)) }
     ensures no_host { IfOk result (λ r. r.host ≡ None) }
-    ensures built { IfErr result IsBuiltStop }
 {
     let sources = files_of(alloc, manifest, files)?;
     let text = page_lines(alloc, manifest, &sources)?;

@@ -1,242 +1,162 @@
-//! A page with its widgets: it is loaded, takes its items and settles; then its lines and the page
-//! are written.
-ghost use Rattle.std.specs.Prelude.{◌≡◌, ◌≤◌, ◌<◌, ◌^◌, ◌++◌, ℕ, List, length, map, option_map, All, IfOk, OnOk, Option, Some, None, IsTrue, true, false, is_some, string_bytes};
-ghost use Rattle.std.specs.List.{list_any};
+//! A page with its widgets: it is judged and played, and then what became of it is told.
+ghost use Rattle.std.specs.Prelude.{◌≡◌, ◌≤◌, ◌++◌, ℕ, List, Some, length, map, All, IfOk, IfErr, OnOk};
 ghost use Rattle.keyed_names.specs.Keying.{AreKeysOf};
-ghost use Rattle.trace_text.specs.Report.{state_name, line_text, refused_life};
+ghost use Rattle.manifest_reader.specs.declared.entry.Manifest.{Manifest as ManifestOf};
 ghost use Rattle.trace_reader.specs.Said.{said};
-ghost use Rattle.trace_reader.specs.Trace.{most_items};
-ghost use Rattle.manifest_shape.specs.Slots.{are_slots};
+ghost use Rattle.trace_reader.specs.declared.item.TraceItem.{TraceItem as TraceItemOf};
+ghost use Rattle.slot_check.specs.Sources.{Source};
 ghost use Rattle.slot_check.specs.Verdicts.{sources_of, IsSmall};
-ghost use Rattle.widget_meaning.specs.OwnState.{OwnState};
-ghost use Rattle.page_spec.specs.Pages.{PagePiece, roots, page_of};
-ghost use Rattle.widget_host.specs.Housed.{IsHoused, IsLineOf, IsShown, AreShown, chains, given, present, IsLaid, meant_stop};
-ghost use Rattle.adhost_run.specs.Page.{files_named, slot_names, HasSlots, is_swap, is_built_trace};
-ghost use Rattle.adhost_run.specs.Answer.{ending, RunAnswer};
-ghost use Rattle.adhost_run.specs.Run.{life_line, short_line, state_word};
-ghost use Rattle.adhost_run.specs.Items.{IsFor, AreItems};
-ghost use Rattle.adhost_run.specs.Played.{name_of, IsPlayed, Gives, IsEnded, line_for, lines_of, AreTold, IsTold, AppendsPage};
-ghost use Rattle.adhost_run.specs.Stage.{IsSettled, IsStageOf};
+ghost use Rattle.page_judge.specs.Fits.{IsFit};
+ghost use Rattle.run_steps.specs.Page.{files_named, slot_names, swap_files};
+ghost use Rattle.run_steps.specs.Items.{AreItems};
+ghost use Rattle.page_play.specs.Findings.{found_refused};
+ghost use Rattle.adhost_run.specs.Answer.{ending, PlayAnswer};
+ghost use Rattle.adhost_run.specs.Ends.{IsConfinedText};
+ghost use Rattle.adhost_run.specs.Ran.{IsRan, HasRun, IsLateStop};
 
 use crate::reports::Report;
 use code_units::{Memory, Text};
-use event_loop::Event;
-use js_image::StopCause;
 use keyed_names::Keys;
 use manifest_reader::Manifest;
-use page_judge::judge_page;
-use page_spec::PageSpec;
-use slot_check::{Refusal, SourceFile};
+use page_judge::{JudgedPage, JudgedSwaps, judge_page};
+use page_play::widget_host::Host;
+use page_play::{Findings, certificate, find_swaps, play, plays_come_to, report, some_refused};
+use run_steps::{CERT_LIMIT, Stop};
+use slot_check::SourceFile;
 use std::alloc::Global;
 use trace_reader::TraceItem;
-use trace_text::{Line, RunText, State, report_line};
-use turn_sched::RoundRobin;
-use widget_host::{Host, HostItem, RunLine, Stop};
 
-/// How many asks the chooser keeps: those of a full journal, and one for each slot.
-const ASKS: usize = 65_552;
+/// What is written of a page that ran.
+#[derive(Clone, Copy)]
+pub enum Writes {
+    /// The lines of its lives, and the page: `render` and `replay`.
+    Report,
+    /// The certificate of reach: `audit`.
+    Certificate,
+}
 
-/// The report on a page that runs: the lines of its slots, and the page.
+/// How a page runs: the slice of its picks, and what is written.
+#[derive(Clone, Copy)]
+pub struct Way {
+    pub slice: u32,
+    pub writes: Writes,
+}
+
+/// A page that ran, and what was found of its files.
+#[derive(Drop)]
+pub struct Ran {
+    pub host: Host,
+    pub findings: Findings,
+}
+
+/// The page of a manifest with its files, run on these items, whose swaps have these files.
 pub fn play_page(
     alloc: Global,
     manifest: Manifest,
     sources: &[SourceFile],
-    names: &[Text],
+    names: Vec<Text>,
     items: Vec<TraceItem>,
+    swaps: &[SourceFile],
     slice: u32,
-) -> Result<Report, Memory>
+) -> Result<Ran, Memory>
     requires some { 1 ≤ slice }
-    requires within { slice ≤ 1000000 }
-    requires slots { HasSlots manifest }
-    requires items { AreItems (length names.now) (map said items.items) }
-    requires no_swaps { is_built_trace (map said items.items) ≡ true }
+    requires fit { IsFit manifest }
+    requires items { AreItems (length names.items) (map said items.items) }
     requires many { length sources.now ≡ length (files_named manifest) }
     requires small { All IsSmall sources.now }
-    requires named { names.now ≡ slot_names manifest.entries.items }
-    ensures answer { IfOk result (λ r. RunAnswer manifest (sources_of sources.now) items.items (ending r.refused) r.bytes.items) }
-    ensures stage { IfOk result (λ r. IsStageOf slice manifest (sources_of sources.now) items.items r.host) }
+    requires swapped { length swaps.now ≡ length (swap_files items.items) }
+    requires small_swaps { All IsSmall swaps.now }
+    requires named { names.items ≡ slot_names manifest.entries.items }
+    ensures { IfOk result (IsRan manifest (sources_of sources.now) items.items (sources_of swaps.now) slice) }
 {
+    plays_come_to();
     let (files, libs) = sources.split_at(names.len());
-    let page = judge_page(alloc, manifest, files, libs)?;
-    let host = play(alloc, keys_of(alloc, sources)?, page.spec, items, slice)?;
-    let mut bytes = Vec::new(alloc);
-    push_lines(alloc, names, &page.refusals, &host, &mut bytes)?;
-    push_page(alloc, &host, &mut bytes)?;
-    Ok(Report {
-        refused: some_refused(&page.refusals),
-        bytes,
-        host: Some(host),
-    })
+    let at = find_swaps(alloc, &items)?;
+    let page = judge_page(alloc, manifest, files, libs, &at.slots, swaps)?;
+    let JudgedPage {
+        spec,
+        refusals,
+        swaps: brings,
+    } = page;
+    let JudgedSwaps {
+        contents,
+        refusals: brought,
+    } = brings;
+    let keys = keys_of(alloc, sources, swaps)?;
+    let host = play(alloc, keys, spec, items, contents, slice)?;
+    let findings = Findings {
+        names,
+        refusals,
+        swaps: at,
+        brought,
+    };
+    Ok(Ran { host, findings })
 }
 
-/// The keys of the host's tables, from the widget files and libraries that were read.
-pub fn keys_of(alloc: Global, sources: &[SourceFile]) -> Result<Keys, Memory>
-    ensures { IfOk result (AreKeysOf (map (λ s. s.bytes) (sources_of sources.now))) }
+// The keys of the host's tables, from the files that were read.
+fn keys_of(alloc: Global, sources: &[SourceFile], swaps: &[SourceFile]) -> Result<Keys, Memory>
+    ensures { IfOk result (AreKeysOf (map (λ s. s.bytes) (sources_of sources.now ++ sources_of swaps.now))) }
 {
     let mut files = Vec::new(alloc);
-    'sources: for source in sources {
-        files.push(source.bytes.as_slice())?;
-    }
+    push_bytes(sources, &mut files)?;
+    push_bytes(swaps, &mut files)?;
     Ok(Keys::of_files(&files))
 }
 
-/// A page that is loaded, has taken these items and has settled.
-pub fn play(
-    alloc: Global,
-    keys: Keys,
-    spec: PageSpec,
-    items: Vec<TraceItem>,
-    slice: u32,
-) -> Result<Host, Memory>
-    requires some { 1 ≤ slice }
-    requires items { AreItems (length spec.slots.items) (map said items.items) }
-    requires no_swaps { is_built_trace (map said items.items) ≡ true }
-    requires slots { IsTrue (are_slots (map name_of spec.slots.items)) }
-    ensures played { IfOk result (IsPlayed spec (map said items.items)) }
-    ensures settled { IfOk result (IsSettled spec (map said items.items) slice) }
+// Appends the bytes of files.
+fn push_bytes<'a>(sources: &'a [SourceFile], files: &mut Vec<&'a [u8]>) -> Result<(), Memory>
+    ensures { OnOk result (map (λ f. f.now) files.new.items ≡ map (λ f. f.now) files.old.items ++ map (λ s. s.bytes) (sources_of sources.now)) }
 {
-    let mut host = Host::load(alloc, keys, spec)?;
-    'items: for item in items {
-        give(&mut host, item)?;
-    }
-    let mut chooser = RoundRobin::new(alloc, ASKS)?;
-    host.settle(alloc, &mut chooser, slice)?;
-    let _ = chooser.asks();
-    Ok(host)
-}
-
-// Gives an item of a trace.
-fn give(host: &mut Host, item: TraceItem) -> Result<(), Memory>
-    requires housed { IsHoused host.old }
-    requires few { given host.old < most_items }
-    requires slot { IsFor (length (chains host.old)) (said item) }
-    requires no_swap { is_swap (said item) ≡ false }
-    ensures gives { OnOk result (Gives (said item) host.old host.new) }
-    ensures housed { IsHoused host.new }
-{
-    match item {
-        TraceItem::Event { to, event } => {
-            let event = Event {
-                kind: event.kind,
-                path: event.path,
-                value: event.value,
-            };
-            host.give(HostItem::Event { to, event })
-        }
-        TraceItem::Advance(ms) => host.give(HostItem::Advance(ms)),
-        TraceItem::Swap { .. } => unreachable!(),
-    }
-}
-
-// Appends the lines of the slots of these names.
-fn push_lines(
-    alloc: Global,
-    names: &[Text],
-    refusals: &[Option<Refusal>],
-    host: &Host,
-    out: &mut Vec<u8>,
-) -> Result<(), Memory>
-    requires few { length names.now < 2 ^ 32 }
-    requires even { length names.now ≡ length refusals.now }
-    requires told { (owns : List (Option OwnState)) × AreTold names.now refusals.now host.now owns }
-    ensures { OnOk result ((owns : List (Option OwnState)) → AreTold names.now refusals.now host.now owns →
-        out.new.items ≡ out.old.items ++ lines_of names.now refusals.now owns) }
-{
-    'names: for (i, name) in names.iter().enumerate() {
-        let line = slot_line(alloc, name, &refusals[i], host, i as u32)?;
-        report_line(&line, out)?;
+    'sources: for source in sources {
+        files.push(source.bytes.as_slice())?;
     }
     Ok(())
 }
 
-/// Whether a slot is refused.
-pub fn some_refused(refusals: &[Option<Refusal>]) -> bool
-    ensures { result ≡ list_any is_some refusals.now }
+/// The report on a page that ran: its lines and the page, or its certificate.
+pub fn report_ran(alloc: Global, ran: Ran, writes: Writes) -> Result<Report, Stop>
+    requires { HasRun ran }
+    ensures answer { IfOk result (λ r. (manifest : ManifestOf) (sources : List Source) (items : List TraceItemOf) (files : List Source) (slice : ℕ)
+        → IsRan manifest sources items files slice ran → PlayAnswer writes manifest sources items files (ending r.refused) r.bytes.items) }
+    ensures host { IfOk result (λ r. r.host ≡ Some ran.host) }
+    ensures confined { writes ≡ Writes.Certificate → IfOk result (λ r. IsConfinedText r.bytes.items) }
+    ensures stop { IfErr result (IsLateStop ran writes) }
 {
-    'refusals: for refusal in refusals {
-        if refusal.is_some() {
-            return true;
-        }
-    }
-    false
-}
-
-// The line of a slot that is refused, or else of its life in the host.
-fn slot_line(
-    alloc: Global,
-    name: &Text,
-    refusal: &Option<Refusal>,
-    host: &Host,
-    slot: u32,
-) -> Result<Line, Memory>
-    requires { IsTold refusal.now host.now slot }
-    ensures { IfOk result (λ line. (own : Option OwnState) → IsEnded refusal.now own →
-        IsShown host.now (present slot (chains host.now)) own → line_text line ≡ line_for name.now refusal.now own) }
-{
-    match refusal {
-        Some(refusal) => refused_line(alloc, name, refusal),
-        None => {
-            let line = host.line(alloc, slot)?;
-            Ok(Line::Ran(run_text(name.share()?, line)))
-        }
-    }
-}
-
-// The line of a slot of this name that breaks a rule.
-fn refused_line(alloc: Global, name: &Text, refusal: &Refusal) -> Result<Line, Memory>
-    ensures { IfOk result (λ line. line_text line ≡ refused_life name.now None (string_bytes refusal.now.file) refusal.now.rule refusal.now.at) }
-{
-    Ok(Line::Refused {
-        name: name.share()?,
-        until: None,
-        file: String::from_str(alloc, refusal.file.as_str())?,
-        rule: refusal.rule,
-        at: refusal.at,
+    plays_come_to();
+    let refused = some_refused(&ran.findings);
+    let bytes = text_of(alloc, &ran, writes)?;
+    Ok(Report {
+        refused,
+        bytes,
+        host: Some(ran.host),
     })
 }
 
-/// What a life did, under its name.
-pub fn run_text(name: Text, line: RunLine) -> RunText
-    ensures whole { (own : OwnState) → IsLineOf line own → line_text (Line.Ran result) ≡ life_line name None own }
-    ensures short { (own : OwnState) → IsLineOf line own → line_text (Line.Short result) ≡ short_line name own }
+// What is written of a page that ran.
+fn text_of(alloc: Global, ran: &Ran, writes: Writes) -> Result<Vec<u8>, Stop>
+    requires { HasRun ran.now }
+    ensures answer { IfOk result (λ bytes. (manifest : ManifestOf) (sources : List Source) (items : List TraceItemOf) (files : List Source) (slice : ℕ)
+        → IsRan manifest sources items files slice ran.now → PlayAnswer writes manifest sources items files (ending (found_refused ran.now.findings)) bytes.items) }
+    ensures confined { writes ≡ Writes.Certificate → IfOk result (λ bytes. IsConfinedText bytes.items) }
+    ensures stop { IfErr result (IsLateStop ran.now writes) }
 {
-    RunText {
-        name,
-        until: None,
-        state: state_of(line.stop),
-        turns: line.turns,
-        spent: line.spent,
-        missed: line.missed,
-        gone: line.gone,
-        log: line.log,
-        uncaught: line.uncaught,
+    match writes {
+        Writes::Report => Ok(report(alloc, &ran.findings, &ran.host)?),
+        Writes::Certificate => certificate_of(alloc, ran),
     }
 }
 
-// How a life stands.
-fn state_of(stop: Option<Stop>) -> State
-    ensures { state_name result ≡ state_word (option_map meant_stop stop) }
+// The certificate of a page that ran, if it is within the limit.
+fn certificate_of(alloc: Global, ran: &Ran) -> Result<Vec<u8>, Stop>
+    requires { HasRun ran.now }
+    ensures answer { IfOk result (λ bytes. (manifest : ManifestOf) (sources : List Source) (items : List TraceItemOf) (files : List Source) (slice : ℕ)
+        → IsRan manifest sources items files slice ran.now → PlayAnswer Writes.Certificate manifest sources items files (ending (found_refused ran.now.findings)) bytes.items) }
+    ensures confined { IfOk result (λ bytes. IsConfinedText bytes.items) }
+    ensures stop { IfErr result (IsLateStop ran.now Writes.Certificate) }
 {
-    match stop {
-        None => State::Live,
-        Some(Stop::Fuel) => State::Fuel,
-        Some(Stop::Limit(StopCause::Number)) => State::Number,
-        Some(Stop::Limit(StopCause::Depth)) => State::Depth,
-        Some(Stop::Limit(StopCause::Cells)) => State::Cells,
-        Some(Stop::Limit(StopCause::Slots)) => State::Slots,
-        Some(Stop::Limit(StopCause::Units)) => State::Units,
-        Some(Stop::Limit(StopCause::LongText)) => State::LongText,
-        Some(Stop::Limit(StopCause::Nodes)) => State::Nodes,
+    let bytes = certificate(alloc, &ran.host)?;
+    if bytes.len() > CERT_LIMIT {
+        return Err(Stop::CertTooLarge);
     }
-}
-
-// Appends the page line.
-fn push_page(alloc: Global, host: &Host, out: &mut Vec<u8>) -> Result<(), Memory>
-    requires { IsHoused host.now }
-    ensures { OnOk result ((names : List (List ℕ)) (pieces : List PagePiece) (owns : List (Option OwnState)) → IsLaid host.now names pieces →
-        AreShown host.now (chains host.now) owns → AppendsPage (page_of pieces (roots names owns)) out.old.items out.new.items) }
-{
-    let mut text = Vec::new(alloc);
-    host.print_page(alloc, &mut text)?;
-    report_line(&Line::Page { text }, out)
+    Ok(bytes)
 }

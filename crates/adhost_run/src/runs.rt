@@ -1,40 +1,44 @@
-//! The report of `render` and `replay`: a page runs.
-ghost use Rattle.std.specs.Prelude.{◌≡◌, ◌≤◌, length, map, option_copied, All};
+//! The report of `render`, `replay` and `audit`: a page runs.
+ghost use Rattle.std.specs.Prelude.{◌≡◌, ◌≤◌, length, map, option_copied, All, IfOk};
 ghost use Rattle.slot_check.specs.Verdicts.{sources_of, IsSmall};
 ghost use Rattle.trace_reader.specs.Said.{said};
-ghost use Rattle.adhost_run.specs.Page.{files_named, HasSlots, is_swap, is_built_page, is_built_trace};
-ghost use Rattle.adhost_run.specs.Answer.{FromFiles, FromManifest, ReplayAnswer};
-ghost use Rattle.adhost_run.specs.Ends.{Answered};
-ghost use Rattle.adhost_run.specs.Reading.{HasRunFiles, HasSources, IsTraceThere};
-ghost use Rattle.adhost_run.specs.Stage.{LeftByPage, LeftByManifest, LeftByFiles, IsLeft};
+ghost use Rattle.page_judge.specs.Fits.{IsFit};
+ghost use Rattle.run_steps.specs.Page.{file_limit, files_named, slot_names, swap_files};
+ghost use Rattle.run_steps.specs.Items.{AreItems};
+ghost use Rattle.run_steps.specs.Reading.{ComesThrough, HasRunFiles, HasSources, HasTraceFiles};
+ghost use Rattle.adhost_run.specs.Answer.{FromItems, FromFiles, FromManifest, ReplayAnswer};
+ghost use Rattle.adhost_run.specs.Ends.{Answered, IsConfinedText};
+ghost use Rattle.adhost_run.specs.Stage.{LeftByPage, LeftByManifest, LeftByFiles, LeftByItems, IsLeft};
 
-use crate::playing::play_page;
-use crate::reading::Stop;
+use crate::playing::{Way, Writes, play_page, report_ran};
 use crate::reports::Report;
-use crate::steps::{files_of, items_of, manifest_in, slot_names};
+use code_units::Text;
 use host_io::Files;
 use manifest_reader::Manifest;
+use page_judge::read_manifests_fit;
+use run_steps::{Stop, files_of, items_of, manifest_in, slot_names, swaps_of};
 use slot_check::SourceFile;
 use std::alloc::Global;
 use trace_reader::TraceItem;
 
 /// The report on a page that runs on the items of a trace, where one is asked for: the lines of its
-/// slots, and the page.
+/// lives and the page, or its certificate.
 pub fn run_page<F: Files>(
     alloc: Global,
     name: &str,
     trace: Option<&str>,
-    slice: u32,
+    way: Way,
     files: &mut F,
 ) -> Result<Report, Stop>
-    requires some { 1 ≤ slice }
-    requires within { slice ≤ 1000000 }
+    requires some { 1 ≤ way.slice }
     ensures answered { Answered F.told F.calm F.faults files.old files.new result
-        (λ m. ReplayAnswer m name.now (option_copied trace.entry)) (λ m. HasRunFiles m name.now (option_copied trace.entry)) }
-    ensures left { IsLeft (F.told files.old) result (λ m. LeftByPage m name.now (option_copied trace.entry) slice) }
+        (λ m. ReplayAnswer m name.now (option_copied trace.entry) way.writes) (λ m. HasRunFiles m name.now (option_copied trace.entry)) }
+    ensures left { IsLeft (F.told files.old) result (λ m. LeftByPage m name.now (option_copied trace.entry) way.slice) }
+    ensures confined { way.writes ≡ Writes.Certificate → IfOk result (λ r. IsConfinedText r.bytes.items) }
 {
+    read_manifests_fit();
     let manifest = manifest_in(alloc, name, files)?;
-    run_manifest(alloc, manifest, trace, slice, files)
+    run_manifest(alloc, manifest, trace, way, files)
 }
 
 // The report on the page of a manifest.
@@ -42,21 +46,18 @@ fn run_manifest<F: Files>(
     alloc: Global,
     manifest: Manifest,
     trace: Option<&str>,
-    slice: u32,
+    way: Way,
     files: &mut F,
 ) -> Result<Report, Stop>
-    requires some { 1 ≤ slice }
-    requires within { slice ≤ 1000000 }
-    requires slots { HasSlots manifest }
+    requires some { 1 ≤ way.slice }
+    requires fit { IsFit manifest }
     ensures answered { Answered F.told F.calm F.faults files.old files.new result
-        (λ m. FromManifest m (option_copied trace.entry) manifest) (λ m. HasSources m (option_copied trace.entry) manifest) }
-    ensures left { IsLeft (F.told files.old) result (λ m. LeftByManifest m (option_copied trace.entry) slice manifest) }
+        (λ m. FromManifest m (option_copied trace.entry) way.writes manifest) (λ m. HasSources m (option_copied trace.entry) manifest) }
+    ensures left { IsLeft (F.told files.old) result (λ m. LeftByManifest m (option_copied trace.entry) way.slice manifest) }
+    ensures confined { way.writes ≡ Writes.Certificate → IfOk result (λ r. IsConfinedText r.bytes.items) }
 {
-    if !is_built_page(&manifest) {
-        return Err(Stop::Unbuilt);
-    }
     let sources = files_of(alloc, &manifest, files)?;
-    run_sources(alloc, manifest, &sources, trace, slice, files)
+    run_sources(alloc, manifest, &sources, trace, way, files)
 }
 
 // The report on the page of a manifest with the files that it names.
@@ -65,51 +66,45 @@ fn run_sources<F: Files>(
     manifest: Manifest,
     sources: &[SourceFile],
     trace: Option<&str>,
-    slice: u32,
+    way: Way,
     files: &mut F,
 ) -> Result<Report, Stop>
-    requires some { 1 ≤ slice }
-    requires within { slice ≤ 1000000 }
-    requires slots { HasSlots manifest }
+    requires some { 1 ≤ way.slice }
+    requires fit { IsFit manifest }
     requires many { length sources.now ≡ length (files_named manifest) }
     requires small { All IsSmall sources.now }
     ensures answered { Answered F.told F.calm F.faults files.old files.new result
-        (λ m. FromFiles m (option_copied trace.entry) manifest (sources_of sources.now)) (λ m. IsTraceThere m (option_copied trace.entry)) }
-    ensures left { IsLeft (F.told files.old) result (λ m. LeftByFiles m (option_copied trace.entry) slice manifest (sources_of sources.now)) }
+        (λ m. FromFiles m (option_copied trace.entry) way.writes manifest (sources_of sources.now)) (λ m. HasTraceFiles m (slot_names manifest.entries.items) (option_copied trace.entry)) }
+    ensures left { IsLeft (F.told files.old) result (λ m. LeftByFiles m (option_copied trace.entry) way.slice manifest (sources_of sources.now)) }
+    ensures confined { way.writes ≡ Writes.Certificate → IfOk result (λ r. IsConfinedText r.bytes.items) }
 {
     let names = slot_names(alloc, &manifest.entries)?;
     let items = items_of(alloc, trace, &names, files)?;
-    if !is_built_trace(&items) {
-        return Err(Stop::Unbuilt);
-    }
-    Ok(play_page(alloc, manifest, sources, &names, items, slice)?)
+    run_items(alloc, manifest, sources, names, items, way, files)
 }
 
-// Whether a page has no channels.
-fn is_built_page(manifest: &Manifest) -> bool
-    ensures { result ≡ is_built_page manifest.now }
+// The report on the page of a manifest with its files, and the items of a trace.
+fn run_items<F: Files>(
+    alloc: Global,
+    manifest: Manifest,
+    sources: &[SourceFile],
+    names: Vec<Text>,
+    items: Vec<TraceItem>,
+    way: Way,
+    files: &mut F,
+) -> Result<Report, Stop>
+    requires some { 1 ≤ way.slice }
+    requires fit { IsFit manifest }
+    requires items { AreItems (length names.items) (map said items.items) }
+    requires many { length sources.now ≡ length (files_named manifest) }
+    requires small { All IsSmall sources.now }
+    requires named { names.items ≡ slot_names manifest.entries.items }
+    ensures answered { Answered F.told F.calm F.faults files.old files.new result
+        (λ m. FromItems m way.writes manifest (sources_of sources.now) items.items) (λ m. ComesThrough m file_limit (swap_files items.items)) }
+    ensures left { IsLeft (F.told files.old) result (λ m. LeftByItems m way.slice manifest (sources_of sources.now) items.items) }
+    ensures confined { way.writes ≡ Writes.Certificate → IfOk result (λ r. IsConfinedText r.bytes.items) }
 {
-    manifest.channels.is_empty()
-}
-
-// Whether a trace has no swaps.
-fn is_built_trace(items: &[TraceItem]) -> bool
-    ensures { result ≡ is_built_trace (map said items.now) }
-{
-    'items: for item in items {
-        if is_swap(item) {
-            return false;
-        }
-    }
-    true
-}
-
-// Whether an item is another file for a slot.
-fn is_swap(item: &TraceItem) -> bool
-    ensures { result ≡ is_swap (said item.now) }
-{
-    match item {
-        TraceItem::Swap { .. } => true,
-        TraceItem::Event { .. } | TraceItem::Advance(_) => false,
-    }
+    let swaps = swaps_of(alloc, &items, files)?;
+    let ran = play_page(alloc, manifest, sources, names, items, &swaps, way.slice)?;
+    report_ran(alloc, ran, way.writes)
 }

@@ -4,9 +4,9 @@ ghost use Rattle.host_io.specs.Files.{Rose};
 ghost use Rattle.host_io.specs.Sink.{with_bytes};
 ghost use Rattle.adhost_run.specs.Ends.{WritesSink, Written};
 
-use crate::ending::Status;
 use crate::reports::Report;
 use host_io::{Sink, WriteFail};
+use run_steps::Status;
 
 /// Appends a report, and says how the run ends.
 pub fn write_report<S: Sink>(sink: &mut S, report: &Report) -> Status

@@ -1,7 +1,6 @@
 use Rattle.std.proofs.Common.{◌≡◌, ◌++◌, List, Option, take}
 use Rattle.widget_meaning.specs.OwnState.{OwnState}
-use Rattle.adhost_run.specs.Demo.{short_lines}
-use Rattle.adhost_run.specs.Played.{AreAccepted}
+use Rattle.adhost_run.specs.Demo.{short_lines, AreAccepted}
 use Rattle.adhost_run.proofs.demos.push_short_lines.Given as goal
 
 abbrev pub invariant-names : goal.invariant-names

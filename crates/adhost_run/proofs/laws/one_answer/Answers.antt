@@ -2,4 +2,4 @@ use Rattle.adhost_run.proofs.OneAnswer.{answer_once}
 use Rattle.adhost_run.proofs.laws.one_answer.Goals as goal
 
 pub returns : goal.returns
-returns c = answer_once
+returns c = answer_once c.one_answer.ensures.one_cert

@@ -3,9 +3,9 @@ use Rattle.std.proofs.lemmas.Result.{err_from_is_err_and}
 use Rattle.slot_check.specs.declared.sources.SourceFile.{SourceFile}
 use Rattle.slot_check.specs.Verdicts.{sources_of}
 use Rattle.slot_check.specs.Line.{AreSlotLines}
-use Rattle.adhost_run.specs.Page.{file_limit, AreRead, files_named, slots_of}
-use Rattle.adhost_run.specs.Reading.{ComesThrough}
-use Rattle.adhost_run.specs.Steps.{NoFiles}
+use Rattle.run_steps.specs.Page.{file_limit, AreRead, files_named, slots_of}
+use Rattle.run_steps.specs.Reading.{ComesThrough}
+use Rattle.run_steps.specs.Steps.{NoFiles}
 use Rattle.adhost_run.specs.Answer.{CheckAnswer, lines}
 use Rattle.adhost_run.proofs.Stepping.{stopped, went_on, no_memory_left, reported}
 use Rattle.adhost_run.proofs.pages.check_manifest.Goals as goal
@@ -15,11 +15,6 @@ returns-in_err-sources-clause-answered g c =
     let p = err_from_is_err_and c.from_residual.result c.from_residual.ensures.1 in
     let x = c.args.manifest.now in
     rw (p.1, p.2) (stopped g.F.Files.told g.F.Files.calm g.F.Files.faults (λ v. sources_of v.items) (λ m v. AreRead m file_limit (files_named x) v) (λ m. NoFiles m (files_named x)) (λ m. CheckAnswer x) (λ m. ComesThrough m file_limit (files_named x)) (λ m. ComesThrough m file_limit (files_named x)) c.in_err-sources.ensures.step (λ m has. has))
-
-pub returns-in_err-sources-clause-built : goal.returns-in_err-sources-clause-built
-returns-in_err-sources-clause-built g c =
-    let p = err_from_is_err_and c.from_residual.result c.from_residual.ensures.1 in
-    rw (p.1, p.2) c.in_err-sources.ensures.built
 
 pub returns-in_err-text-clause-answered : goal.returns-in_err-text-clause-answered
 returns-in_err-text-clause-answered g c =

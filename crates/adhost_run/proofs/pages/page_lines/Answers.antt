@@ -1,5 +1,5 @@
 use Rattle.std.proofs.Common.{length, ap, ◌∙◌, arith}
-use Rattle.adhost_run.specs.Page.{slot_names}
+use Rattle.run_steps.specs.Page.{slot_names}
 use Rattle.adhost_run.proofs.Paged.{names_within}
 use Rattle.adhost_run.proofs.pages.page_lines.Goals as goal
 

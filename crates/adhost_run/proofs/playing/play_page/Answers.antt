@@ -1,62 +1,75 @@
-use Rattle.std.proofs.Common.{◌≡◌, ◌++◌, List, Option, length, take, drop, map, refl, sym, ap, subst, ◌∙◌, arith}
-use Rattle.std.specs.Prelude.{is_some}
-use Rattle.std.specs.List.{list_any}
+use Rattle.std.proofs.Common.{◌≡◌, ◌<◌, ◌∙◌, List, length, take, drop, map, All, refl, sym, ap, subst, arith}
+use Rattle.std.specs.List.{zip}
+use Rattle.std.proofs.lemmas.List.{length-map}
 use Rattle.trace_reader.specs.Said.{said}
-use Rattle.slot_check.specs.declared.fault.Refusal.{Refusal}
-use Rattle.widget_meaning.specs.OwnState.{OwnState}
-use Rattle.adhost_run.specs.Items.{AreItems}
-use Rattle.adhost_run.specs.Played.{AreTold, lines_of}
-use Rattle.adhost_run.specs.Page.{slot_names}
-use Rattle.adhost_run.proofs.Delivery.{few_slots}
-use Rattle.adhost_run.proofs.Paged.{names_within, as_many_named}
-use Rattle.adhost_run.proofs.PageReports.{spec_many, spec_slots, refusals_even, owns, told, report_of, answered, staged}
+use Rattle.trace_reader.specs.declared.item.TraceItem.{TraceItem}
+use Rattle.slot_check.specs.Verdicts.{sources_of}
+use Rattle.page_spec.specs.Loadable.{AreLoadableSwaps, names_of}
+use Rattle.page_play.specs.declared.findings.Findings.{Findings}
+use Rattle.page_play.specs.Swaps.{swap_slots, swap_positions}
+use Rattle.adhost_run.proofs.Paged.{names_within, as_many_named, few_fit}
+use Rattle.adhost_run.proofs.Plays.{spec_many, all_for_play, swaps_even, swaps_there, loadable_many, ran_of}
 use Rattle.adhost_run.proofs.playing.play_page.Goals as goal
 
 pub split_at-requires : goal.split_at-requires
-split_at-requires c = names_within c.args.manifest c.args.names.now (length c.args.sources.now) c.requires.named c.requires.many
+split_at-requires c =
+    let within = names_within c.args.manifest c.args.names.items (length c.args.sources.now) c.requires.named c.requires.many in
+    omega (arith, within, c.len.ensures, c.args.names.ok.0)
+
+pub find_swaps-requires : goal.find_swaps-requires
+find_swaps-requires c = omega (arith, c.requires.items.few, ap length c.deref.ensures.value, length-map c.args.items.items said)
 
 pub judge_page-requires-clause-paired : goal.judge_page-requires-clause-paired
-judge_page-requires-clause-paired c = omega (arith, as_many_named c.args.manifest.entries.items, ap length c.requires.named, c.split_at.ensures.front_len)
+judge_page-requires-clause-paired c =
+    let within = names_within c.args.manifest c.args.names.items (length c.args.sources.now) c.requires.named c.requires.many in
+    omega (arith, as_many_named c.args.manifest.entries.items, ap length c.requires.named, c.split_at.ensures.front_len, c.len.ensures, c.args.names.ok.0, within)
 
-pub play-requires-clause-items : goal.play-requires-clause-items
-play-requires-clause-items c =
-    let even : length c.args.names.now ≡ length c.split_at.result.0.now = omega (arith, c.split_at.ensures.front_len) in
-    subst (λ n. AreItems n (map said c.args.items.items)) (sym (spec_many c.args.manifest c.args.sources.now c.split_at.result.0.now c.split_at.result.1.now c.in_ok-page.page c.in_ok-page.ensures c.args.names.now c.requires.named even)) c.requires.items
+pub judge_page-requires-clause-swaps : goal.judge_page-requires-clause-swaps
+judge_page-requires-clause-swaps c =
+    omega (arith, ap length c.deref-2.ensures.value, ap length c.in_ok-at.ensures.slots, ap (λ (xs : List TraceItem). length (swap_slots (map said xs))) c.deref.ensures.value, swaps_even (map said c.args.items.items), c.requires.swapped)
 
-pub play-requires-clause-slots : goal.play-requires-clause-slots
-play-requires-clause-slots c =
-    let even : length c.args.names.now ≡ length c.split_at.result.0.now = omega (arith, c.split_at.ensures.front_len) in
-    spec_slots c.args.manifest c.args.sources.now c.split_at.result.0.now c.split_at.result.1.now c.in_ok-page.page c.in_ok-page.ensures c.args.names.now c.requires.named even c.requires.slots
+pub judge_page-requires-clause-there : goal.judge_page-requires-clause-there
+judge_page-requires-clause-there c =
+    let items = map said c.args.items.items in
+    let are : c.deref-2.result.now ≡ swap_slots items = c.deref-2.ensures.value ∙ c.in_ok-at.ensures.slots ∙ ap (λ (xs : List TraceItem). swap_slots (map said xs)) c.deref.ensures.value in
+    let even : length c.args.names.items ≡ length c.split_at.result.0.now = omega (arith, c.split_at.ensures.front_len, c.len.ensures, c.args.names.ok.0) in
+    subst (All (λ to. to < length c.split_at.result.0.now)) (sym are) (subst (λ n. All (λ to. to < n) (swap_slots items)) even (swaps_there (length c.args.names.items) items c.requires.items.each))
 
-pub push_lines-requires-clause-few : goal.push_lines-requires-clause-few
-push_lines-requires-clause-few c = omega (arith, ap length c.requires.named, few_slots (slot_names c.args.manifest.entries.items) c.requires.slots)
+pub play-requires-clause-few : goal.play-requires-clause-few
+play-requires-clause-few c = omega (arith, c.requires.items.few, length-map c.args.items.items said)
 
-pub push_lines-requires-clause-even : goal.push_lines-requires-clause-even
-push_lines-requires-clause-even c =
-    let even : length c.args.names.now ≡ length c.split_at.result.0.now = omega (arith, c.split_at.ensures.front_len) in
-    refusals_even c.args.manifest c.args.sources.now c.split_at.result.0.now c.split_at.result.1.now c.in_ok-page.page c.in_ok-page.ensures c.args.names.now c.requires.named even ∙ sym (ap length c.deref.ensures.value)
+pub play-requires-clause-each : goal.play-requires-clause-each
+play-requires-clause-each c =
+    let even : length c.args.names.items ≡ length c.split_at.result.0.now = omega (arith, c.split_at.ensures.front_len, c.len.ensures, c.args.names.ok.0) in
+    all_for_play (length c.args.names.items) (length c.in_ok-page.page.spec.slots.items) (map said c.args.items.items)
+    (sym (spec_many c.args.manifest c.args.sources.now c.split_at.result.0.now c.split_at.result.1.now c.args.names.items c.requires.named even (zip c.deref-2.result.now (sources_of c.args.swaps.now)) c.in_ok-page.page c.in_ok-page.ensures.page)) c.requires.items.each
 
-pub push_lines-requires-clause-told : goal.push_lines-requires-clause-told
-push_lines-requires-clause-told c =
-    let even : length c.args.names.now ≡ length c.split_at.result.0.now = omega (arith, c.split_at.ensures.front_len) in
-    let os = owns c.args.manifest c.args.sources.now c.split_at.result.0.now c.split_at.result.1.now c.in_ok-page.page c.in_ok-page.ensures c.args.names.now c.requires.named even c.in_ok-host.host (map said c.args.items.items) c.in_ok-host.ensures.played in
-    (os, subst (λ (rs : List (Option Refusal)). AreTold c.args.names.now rs c.in_ok-host.host os) (sym c.deref.ensures.value) (told c.args.manifest c.args.sources.now c.split_at.result.0.now c.split_at.result.1.now c.in_ok-page.page c.in_ok-page.ensures c.args.names.now c.requires.named even c.in_ok-host.host (map said c.args.items.items) c.in_ok-host.ensures.played))
+pub play-requires-clause-swaps : goal.play-requires-clause-swaps
+play-requires-clause-swaps c =
+    let items = map said c.args.items.items in
+    let spec = c.in_ok-page.page.spec in
+    let are : c.deref-2.result.now ≡ swap_slots items = c.deref-2.ensures.value ∙ c.in_ok-at.ensures.slots ∙ ap (λ (xs : List TraceItem). swap_slots (map said xs)) c.deref.ensures.value in
+    subst (λ ts. AreLoadableSwaps (length spec.libs.items) (names_of spec) ts c.in_ok-page.page.swaps.contents.items) are c.in_ok-page.ensures.swaps
 
-pub returns-clause-answer : goal.returns-clause-answer
-returns-clause-answer c =
-    let even : length c.args.names.now ≡ length c.split_at.result.0.now = omega (arith, c.split_at.ensures.front_len) in
-    let names = c.args.names.now in
-    let host = c.in_ok-host.host in
-    let old = c.new-bytes.result.items in
-    let mid = c.push_lines.new.out.items in
-    let new = c.push_page.new.out.items in
-    let front : c.split_at.result.0.now ≡ take (length names) c.args.sources.now = c.split_at.ensures.front in
-    let back : c.split_at.result.1.now ≡ drop (length names) c.args.sources.now = c.split_at.ensures.back in
-    let written = subst (λ (rs : List (Option Refusal)). (os : List (Option OwnState)) → AreTold names rs host os → mid ≡ old ++ lines_of names rs os) c.deref.ensures.value c.in_ok-push_lines.ensures in
-    answered c.args.manifest c.args.sources.now c.split_at.result.0.now c.split_at.result.1.now c.in_ok-page.page c.in_ok-page.ensures c.args.names.now c.requires.named even c.in_ok-host.host (map said c.args.items.items) c.in_ok-host.ensures.played c.some_refused.result new c.args.items.items refl front back
-    (report_of c.args.manifest c.args.sources.now c.split_at.result.0.now c.split_at.result.1.now c.in_ok-page.page c.in_ok-page.ensures c.args.names.now c.requires.named even c.in_ok-host.host (map said c.args.items.items) c.in_ok-host.ensures.played c.some_refused.result old mid new (c.some_refused.ensures ∙ ap (list_any is_some) c.deref-2.ensures.value) c.new-bytes.ensures.items written c.in_ok-push_page.ensures)
+pub play-requires-clause-few_swaps : goal.play-requires-clause-few_swaps
+play-requires-clause-few_swaps c =
+    let items = map said c.args.items.items in
+    let spec = c.in_ok-page.page.spec in
+    let are : c.deref-2.result.now ≡ swap_slots items = c.deref-2.ensures.value ∙ c.in_ok-at.ensures.slots ∙ ap (λ (xs : List TraceItem). swap_slots (map said xs)) c.deref.ensures.value in
+    let many = loadable_many (length spec.libs.items) (names_of spec) c.deref-2.result.now c.in_ok-page.page.swaps.contents.items c.in_ok-page.ensures.swaps in
+    omega (arith, many, ap length are, swaps_even items, c.requires.items.swaps)
 
-pub returns-clause-stage : goal.returns-clause-stage
-returns-clause-stage c =
-    let even : length c.args.names.now ≡ length c.split_at.result.0.now = omega (arith, c.split_at.ensures.front_len) in
-    staged c.args.manifest c.args.sources.now c.split_at.result.0.now c.split_at.result.1.now c.in_ok-page.page c.in_ok-page.ensures c.args.names.now c.requires.named even c.in_ok-host.host (map said c.args.items.items) c.in_ok-host.ensures.played c.args.slice c.args.items.items refl c.split_at.ensures.front c.split_at.ensures.back c.in_ok-host.ensures.settled
+pub returns : goal.returns
+returns c =
+    let items = map said c.args.items.items in
+    let page = c.in_ok-page.page in
+    let are : c.deref-2.result.now ≡ swap_slots items = c.deref-2.ensures.value ∙ c.in_ok-at.ensures.slots ∙ ap (λ (xs : List TraceItem). swap_slots (map said xs)) c.deref.ensures.value in
+    let even : length c.args.names.items ≡ length c.split_at.result.0.now = omega (arith, c.split_at.ensures.front_len, c.len.ensures, c.args.names.ok.0) in
+    let many : c.len.result ≡ length c.args.names.items = omega (arith, c.len.ensures, c.args.names.ok.0) in
+    let front : c.split_at.result.0.now ≡ take (length c.args.names.items) c.args.sources.now = subst (λ n. c.split_at.result.0.now ≡ take n c.args.sources.now) many c.split_at.ensures.front in
+    let back : c.split_at.result.1.now ≡ drop (length c.args.names.items) c.args.sources.now = subst (λ n. c.split_at.result.1.now ≡ drop n c.args.sources.now) many c.split_at.ensures.back in
+    let f : Findings = record { names = c.args.names; refusals = page.refusals; swaps = c.in_ok-at.at; brought = page.swaps.refusals } in
+    ran_of c.args.manifest c.args.sources.now c.split_at.result.0.now c.split_at.result.1.now c.args.names.items c.requires.named even front back c.args.items.items c.deref-2.result.now are c.args.swaps.now
+    (swaps_even items ∙ sym c.requires.swapped) (omega (arith, ap length c.requires.named, few_fit c.args.manifest c.requires.fit)) (omega (arith, swaps_even items, c.requires.items.swaps)) (swaps_there (length c.args.names.items) items c.requires.items.each) page c.in_ok-page.ensures.page f refl refl
+    (sym c.deref-2.ensures.value ∙ are) (c.in_ok-at.ensures.positions ∙ ap (λ (xs : List TraceItem). swap_positions 0 (map said xs)) c.deref.ensures.value) refl c.args.slice c.in_ok-host.host c.in_ok-host.ensures.played c.in_ok-host.ensures.settled
+    c.plays_come_to.ensures.outcome c.plays_come_to.ensures.begun

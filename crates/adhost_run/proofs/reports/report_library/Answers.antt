@@ -1,6 +1,5 @@
 use Rattle.std.proofs.Common.{None}
 use Rattle.std.proofs.lemmas.Result.{err_from_is_err_and}
-use Rattle.adhost_run.proofs.Gotten.{read_is_built}
 use Rattle.adhost_run.proofs.Reported.{no_library, library_unjudged, library_text}
 use Rattle.adhost_run.proofs.reports.report_library.Goals as goal
 
@@ -8,11 +7,6 @@ pub returns-in_err-bytes-clause-answered : goal.returns-in_err-bytes-clause-answ
 returns-in_err-bytes-clause-answered g c =
     let p = err_from_is_err_and c.from_residual.result c.from_residual.ensures.1 in
     rw (p.1, p.2) (no_library g.F.Files.told g.F.Files.calm g.F.Files.faults c.args.asked c.args.name.now c.in_err-bytes.ensures.stops c.in_err-bytes.ensures.large c.in_err-bytes.ensures.reads)
-
-pub returns-in_err-bytes-clause-built : goal.returns-in_err-bytes-clause-built
-returns-in_err-bytes-clause-built g c =
-    let p = err_from_is_err_and c.from_residual.result c.from_residual.ensures.1 in
-    rw (p.1, p.2) (read_is_built c.in_err-bytes.field-0.0 c.in_err-bytes.ensures.stops)
 
 pub returns-in_err-text-clause-answered : goal.returns-in_err-text-clause-answered
 returns-in_err-text-clause-answered g c =

@@ -1,6 +1,6 @@
 use Rattle.std.proofs.Common.{ap, subst, ◌≡◌, List, ℕ}
 use Rattle.host_io.specs.Sink.{with_bytes}
-use Rattle.adhost_run.specs.declared.ending.Status.TheVariants as status
+use Rattle.run_steps.specs.declared.ending.Status.TheVariants as status
 use Rattle.adhost_run.specs.Answer.{ending}
 use Rattle.adhost_run.proofs.Pieces.{whole_of, part_of}
 use Rattle.adhost_run.proofs.writing.write_report.Goals as goal

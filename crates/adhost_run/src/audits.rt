@@ -1,0 +1,80 @@
+//! The report of `check-audit`: whether a certificate is confined.
+ghost use Rattle.std.specs.Prelude.{◌≡◌, ◌≤◌, ◌<◌, length, IfOk, IfErr, IsSome, None, true, false};
+ghost use Rattle.reach_cert.specs.Certs.{plain, cert_lines, cert_text};
+ghost use Rattle.reach_cert.specs.Shape.{IsCert};
+ghost use Rattle.run_steps.specs.Page.{cert_limit};
+ghost use Rattle.adhost_run.specs.Answer.{ending, CertAnswer, CheckAuditAnswer, IsCertStop, confined_line, leak_line};
+ghost use Rattle.adhost_run.specs.Ends.{Answered};
+
+use crate::reports::Report;
+use code_units::Memory;
+use host_io::Files;
+use itoa::Buffer;
+use reach_cert::{Cert, CertFault, confined, one_answer, read_cert};
+use run_steps::{Stop, cert_in};
+use std::alloc::Global;
+
+/// The report on the certificate of a name: whether it is confined, or else its first line that is not.
+pub fn check_audit<F: Files>(alloc: Global, name: &str, files: &mut F) -> Result<Report, Stop>
+    ensures answered { Answered F.told F.calm F.faults files.old files.new result
+        (λ m. CheckAuditAnswer m name.now) (λ m. IsSome (m name.now)) }
+    ensures no_host { IfOk result (λ r. r.host ≡ None) }
+{
+    let bytes = cert_in(alloc, name, files)?;
+    judge_cert(alloc, &bytes)
+}
+
+// The report on the bytes of a certificate.
+fn judge_cert(alloc: Global, bytes: &[u8]) -> Result<Report, Stop>
+    requires { length bytes.now ≤ cert_limit }
+    ensures ok { IfOk result (λ r. CertAnswer bytes.now (ending r.refused) r.bytes.items) }
+    ensures no_host { IfOk result (λ r. r.host ≡ None) }
+    ensures stop { IfErr result (IsCertStop bytes.now) }
+{
+    one_answer();
+    match read_cert(alloc, bytes) {
+        Ok(cert) => Ok(found_report(alloc, &cert)?),
+        Err(CertFault::BadCert { .. }) => Err(Stop::BadCert),
+        Err(CertFault::Memory) => Err(Stop::Memory),
+    }
+}
+
+// The report on a certificate.
+fn found_report(alloc: Global, cert: &Cert) -> Result<Report, Memory>
+    requires { length (cert_lines (plain cert.now)) < 4294967295 }
+    ensures answer { IfOk result (λ r. IsCert (plain cert.now) → CertAnswer (cert_text (plain cert.now)) (ending r.refused) r.bytes.items) }
+    ensures no_host { IfOk result (λ r. r.host ≡ None) }
+{
+    match confined(cert) {
+        Ok(()) => kept_report(alloc),
+        Err(line) => leak_report(alloc, line),
+    }
+}
+
+// The report on a certificate that is confined.
+fn kept_report(alloc: Global) -> Result<Report, Memory>
+    ensures { IfOk result (λ r. (r.bytes.items ≡ confined_line) × (r.refused ≡ false) × (r.host ≡ None)) }
+{
+    let mut bytes = Vec::new(alloc);
+    bytes.extend_from_slice(b"{\"confined\":true}\n")?;
+    Ok(Report {
+        refused: false,
+        bytes,
+        host: None,
+    })
+}
+
+// The report on a certificate whose first line that is not confined has this number.
+fn leak_report(alloc: Global, line: u32) -> Result<Report, Memory>
+    ensures { IfOk result (λ r. (r.bytes.items ≡ leak_line line) × (r.refused ≡ true) × (r.host ≡ None)) }
+{
+    let mut bytes = Vec::new(alloc);
+    bytes.extend_from_slice(b"{\"confined\":false,\"line\":")?;
+    bytes.extend_from_slice(Buffer::new().format(line).as_bytes())?;
+    bytes.extend_from_slice(b"}\n")?;
+    Ok(Report {
+        refused: true,
+        bytes,
+        host: None,
+    })
+}
