@@ -4,10 +4,12 @@
 //! - `words` and `files`, the text of each by its name; a file that is not there is missing
 //! - `fail_reads` and `fail_writes`, where there are any: the numbers of the calls that fail, from 1
 //! - `room` and `per_call`, where there are limits: the bytes that the sink takes, and those of a call
-//! - `status` and `out`: what is wanted
+//! - `status` and `out`: what is wanted; or in place of `out`, `lines`, a list of objects: of each line
+//!   that is written some members alone are wanted (module `lines`)
 //! - `journal`, where the case says: the picks that the host is to have kept that is left (module
 //!   `journals`)
 use crate::journals::{journal_of, wanted_journal};
+use crate::lines::has_lines;
 use adhost_run::run;
 use adhost_run::widget_host::Host;
 use anyhow::{Result, bail};
@@ -31,18 +33,18 @@ struct Ending {
 /// Whether the command line of a case ends as is wanted.
 pub fn ends_as_wanted(alloc: Global, case: &Value) -> Result<bool> {
     let ends = ending_of(alloc, case)?;
-    Ok(ends == wanted(alloc, case)?)
+    if case.get("lines").is_none() {
+        return Ok(ends == wanted(alloc, case)?);
+    }
+    let is_status = case.get("status").and_then(Value::as_u64) == Some(ends.status);
+    let lines = str::from_utf8(&ends.out)?;
+    Ok(is_status && has_lines(alloc, lines, list_at(case, "lines")?)?)
 }
 
 // How the command line of a case ends.
 fn ending_of(alloc: Global, case: &Value) -> Result<Ending> {
     let words = words_of(alloc, case)?;
-    let mut files = MemFiles {
-        entries: files_of(alloc, case)?,
-        fail: calls_at(alloc, case, "fail_reads")?,
-        calls: 0,
-        faults: 0,
-    };
+    let mut files = mem_files(alloc, case)?;
     let mut sink = sink_of(alloc, case)?;
     let mut stage = None;
     let status = run(alloc, &words, &mut files, &mut sink, &mut stage);
@@ -85,6 +87,16 @@ fn words_of(alloc: Global, case: &Value) -> Result<Vec<String>> {
         words.push(String::from_str(alloc, word)?)?;
     }
     Ok(words)
+}
+
+/// The files of a case, some of whose reads fail.
+pub fn mem_files(alloc: Global, case: &Value) -> Result<MemFiles> {
+    Ok(MemFiles {
+        entries: files_of(alloc, case)?,
+        fail: calls_at(alloc, case, "fail_reads")?,
+        calls: 0,
+        faults: 0,
+    })
 }
 
 fn files_of(alloc: Global, case: &Value) -> Result<Vec<(String, Vec<u8>)>> {

@@ -3,6 +3,7 @@
 
 mod commands;
 mod journals;
+mod lines;
 mod picks;
 
 use anyhow::Result;
@@ -13,7 +14,7 @@ use std::alloc::Global;
 use test_cases::text_at;
 
 /// What is written of cases, each a line with a JSON object (crate `test_cases`): its name, and whether
-/// it ends as is wanted. A case has the words of a command line, or the slots of a page that is picked.
+/// it ends as is wanted. A case has the words of a command line, or files of a page that is picked.
 pub fn answers(alloc: Global, cases: &str) -> Result<String> {
     let mut answers = String::new(alloc);
     for line in cases.lines() {
@@ -34,7 +35,7 @@ fn named_answer(alloc: Global, line: &str) -> Result<String> {
 }
 
 fn is_as_wanted(alloc: Global, case: &Value) -> Result<bool> {
-    if case.get("slots").is_some() {
+    if case.get("words").is_none() {
         picks_as_wanted(alloc, case)
     } else {
         ends_as_wanted(alloc, case)

@@ -1,35 +1,37 @@
 //! Picks of a host. A case is a JSON object (crate `test_cases`):
 //!
-//! - `slots`: the slots of a page of widgets without libraries, each with its name under `widget`, and
-//!   the text of its file
+//! - `files`: the text of each file by its name, among them the manifest `m.json` of the page
 //! - `picks`: slices, and what a pick of the first slot with each is to answer; or `listed` and `slice`:
 //!   the list by which the host's chooser goes when it settles, and the slice
 //! - `journal`: the picks that the host is to have kept then (module `journals`)
-ghost use Rattle.std.specs.Prelude.{◌<◌, length, IfOk, OnOk};
+ghost use Rattle.std.specs.Prelude.{◌≡◌, ◌<◌, All, length, IfOk, OnOk};
+ghost use Rattle.slot_check.specs.Verdicts.{IsSmall};
+ghost use Rattle.page_spec.specs.Loadable.{IsLoadable};
+ghost use Rattle.page_judge.specs.Fits.{IsFit};
+ghost use Rattle.run_steps.specs.Page.{files_named, slot_names};
 ghost use Rattle.adhost_run.specs.widget_host.Housed.{IsHoused, chains};
 
+use crate::commands::mem_files;
 use crate::journals::{journal_of, wanted_journal};
 use adhost_run::widget_host::Host;
 use anyhow::{Result, bail};
-use code_units::Text;
+use code_units::{Memory, Text};
+use host_io::MemFiles;
 use keyed_names::Keys;
-use page_spec::{PageSpec, Piece, SlotContent, SlotSpec};
+use manifest_reader::Manifest;
+use page_judge::{judge_page, read_manifests_fit};
+use page_spec::PageSpec;
 use pick_laws::Picked;
+use run_steps::{files_of, manifest_in, slot_names};
 use serde_json::Value;
-use slot_check::{Libraries, SourceFile, Widget, judge_slot};
+use slot_check::SourceFile;
 use std::alloc::Global;
-use test_cases::{bytes_of, list_at, text_at};
+use test_cases::list_at;
 use turn_sched::Listed;
-
-// The fuel of a turn.
-const FUEL: u32 = 100_000;
-
-// The bytes that a file may have.
-const FILE_LIMIT: usize = 262_144;
 
 /// Whether the picks of a case are as is wanted.
 pub fn picks_as_wanted(alloc: Global, case: &Value) -> Result<bool> {
-    let mut host = loaded(alloc, list_at(case, "slots")?)?;
+    let mut host = loaded(alloc, &mut mem_files(alloc, case)?)?;
     let are_answered = if case.get("listed").is_some() {
         settle(alloc, &mut host, case)?
     } else {
@@ -38,12 +40,12 @@ pub fn picks_as_wanted(alloc: Global, case: &Value) -> Result<bool> {
     Ok(are_answered && journal_of(alloc, &host)? == wanted_journal(alloc, case)?)
 }
 
-// A host of a page with these slots.
-fn loaded(alloc: Global, slots: &[Value]) -> Result<Host>
+// A host of the page of these files.
+fn loaded(alloc: Global, files: &mut MemFiles) -> Result<Host>
     ensures housed { IfOk result IsHoused }
     ensures some { IfOk result (λ host. 0 < length (chains host)) }
 {
-    let spec = page_of(alloc, slots)?;
+    let spec = page_of(alloc, files)?;
     if spec.slots.is_empty() {
         bail!("a page has no slot");
     }
@@ -53,51 +55,42 @@ fn loaded(alloc: Global, slots: &[Value]) -> Result<Host>
     }
 }
 
-fn page_of(alloc: Global, slots: &[Value]) -> Result<PageSpec> {
-    let mut page = PageSpec {
-        pieces: Vec::new(alloc),
-        libs: Vec::new(alloc),
-        slots: Vec::new(alloc),
-        channels: Vec::new(alloc),
+// The page of the manifest among these files.
+fn page_of(alloc: Global, files: &mut MemFiles) -> Result<PageSpec>
+    ensures { IfOk result IsLoadable }
+{
+    read_manifests_fit();
+    let Ok(manifest) = manifest_in(alloc, "m.json", files) else {
+        bail!("a case has no manifest");
     };
-    for slot in slots {
-        page.pieces
-            .push(Piece::Slot(u32::try_from(page.slots.len())?))?;
-        page.slots.push(slot_of(alloc, slot)?)?;
-    }
-    Ok(page)
-}
-
-fn slot_of(alloc: Global, slot: &Value) -> Result<SlotSpec> {
-    let name = text_at(alloc, slot, "widget")?;
-    match widget_of(alloc, name.as_str(), bytes_of(alloc, slot)?) {
-        Some(slot) => Ok(slot),
-        None => bail!("a slot is refused"),
+    let Ok(sources) = files_of(alloc, &manifest, files) else {
+        bail!("a file of a page is missing");
+    };
+    let Ok(names) = slot_names(alloc, &manifest.entries) else {
+        bail!("out of memory");
+    };
+    match judged(alloc, manifest, &sources, &names) {
+        Ok(spec) => Ok(spec),
+        Err(_) => bail!("out of memory"),
     }
 }
 
-// A slot of this name with the widget of its file.
-fn widget_of(alloc: Global, name: &str, bytes: Vec<u8>) -> Option<SlotSpec> {
-    let name = Text::from_str(alloc, name).ok()?;
-    let file = SourceFile {
-        name: String::new(alloc),
-        bytes,
-    };
-    if file.bytes.len() > FILE_LIMIT {
-        return None;
-    }
-    let mut libs = Libraries::new(alloc, &[]).ok()?;
-    let Widget { form, script, .. } = judge_slot(alloc, &name, &file, &[], &mut libs).ok()?;
-    let content = SlotContent::Runs {
-        body: form.body,
-        libs: Vec::new(alloc),
-        script,
-    };
-    Some(SlotSpec {
-        name,
-        fuel: FUEL,
-        content,
-    })
+// The page of a manifest with its files.
+fn judged(
+    alloc: Global,
+    manifest: Manifest,
+    sources: &[SourceFile],
+    names: &[Text],
+) -> Result<PageSpec, Memory>
+    requires fit { IsFit manifest }
+    requires many { length sources.now ≡ length (files_named manifest) }
+    requires small { All IsSmall sources.now }
+    requires named { names.now ≡ slot_names manifest.entries.items }
+    ensures { IfOk result IsLoadable }
+{
+    let (files, libs) = sources.split_at(names.len());
+    let page = judge_page(alloc, manifest, files, libs, &[], &[])?;
+    Ok(page.spec)
 }
 
 // Whether picks of the first slot with these slices answer as is wanted.

@@ -11,7 +11,7 @@ use run_cases::answers;
 use std::fs;
 use step_cases::{Answer, ends_as_answered, gives_pushed_frame, unwinds_to_the_end};
 
-const FILES: [&str; 9] = [
+const FILES: [&str; 13] = [
     "words.jsonl",
     "libraries.jsonl",
     "tidied.jsonl",
@@ -20,6 +20,10 @@ const FILES: [&str; 9] = [
     "faults.jsonl",
     "page_runs.jsonl",
     "gadgets.jsonl",
+    "examples.jsonl",
+    "channels.jsonl",
+    "swaps.jsonl",
+    "certificates.jsonl",
     "picks.jsonl",
 ];
 
