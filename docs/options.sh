@@ -24,7 +24,7 @@ ends() {
 }
 
 holds "--help" ends 0 --help
-holds "--help tells each form" [ "$(grep -c '^  [a-z-]* [A-Z]' "$work/out")" -eq 6 ]
+holds "--help tells each form" [ "$(grep -c '^  [a-z-]* [A-Z]' "$work/out")" -eq 8 ]
 holds "--help tells each option" [ "$(grep -c '^  --' "$work/out")" -eq 4 ]
 holds "no words" ends 2
 holds "no words write nothing" [ ! -s "$work/out" ]

@@ -1,12 +1,15 @@
 #!/usr/bin/env python3
 """Runs the examples of API.md, PITFALLS.md, RULES.md and rules.tsv and compares what they do with what is said.
 
-    docs/run_examples.py [--try | PROGRAM] [PAGE ..]
+    docs/run_examples.py [--try | --rows | PROGRAM] [PAGE ..]
 
 Without a word the script `adhost` at the root of the repository is run; with `--try` the program that it
 builds without any proof; else PROGRAM, a built program. The pages are those beside this script, or those that
 are named. The last line counts the examples. The status is 0 where all do what their page says, and 1 where
 one does not; each such one is told, with the page and the line.
+
+With `--rows` nothing is run: the examples are written as the cases of crates/run_table/data/examples.jsonl, which
+the gate runs. The status is 0 where that file has just these rows, and 1 where a page was changed since.
 
 An example of a page is one of these.
 
@@ -71,6 +74,13 @@ class Example:
         """The words of the command line."""
         return ["replay", "m.json", "t.json", "1000"]
 
+    def wanted(self):
+        """The status and what of each line is wanted."""
+        line = {"state": self.state, "log": self.log, "uncaught": self.notes}
+        if self.spent is not None:
+            line["spent"] = self.spent
+        return 0, [line, {"page": self.page.strip() if self.page is not None else ""}]
+
     def faults(self, status, out):
         """What differs between the report and what is said of it."""
         lines = [json.loads(line) for line in out.splitlines()]
@@ -112,6 +122,15 @@ class Judged:
     def words(self):
         """The words of the command line."""
         return ["check-lib", "m.js"] if self.is_library else ["check", "m.json"]
+
+    def wanted(self):
+        """The status and what of the line is wanted; the place where what is told stands once."""
+        if self.told is None:
+            return 0, [{"accepted": True}]
+        line, before = {"refused": self.rule}, self.text.partition(self.told)[0]
+        if self.text.count(self.told) == 1:
+            line["at"] = [before.count("\n") + 1, len(before.rpartition("\n")[2].encode()) + 1]
+        return 1, [line]
 
     def faults(self, status, out):
         """What differs between the line and what is said of it."""
@@ -244,6 +263,28 @@ def program_of(word):
     return glob.glob(os.path.abspath(f"{HERE}/../crates/adhost/out/unproved-*"))[0]
 
 
+def rows_of(pages):
+    """The examples as cases for the gate."""
+    rows = []
+    for page in pages:
+        for number, example in enumerate(examples_of(page), 1):
+            status, lines = example.wanted()
+            name = f"{os.path.basename(page)} {number}"
+            case = {"name": name, "words": example.words(), "files": example.files(), "status": status, "lines": lines}
+            rows.append(json.dumps(case, separators=(",", ":")) + "\n")
+    return "".join(rows)
+
+
+def write_rows(pages):
+    """Writes the cases, and gives the status."""
+    file = os.path.abspath(f"{HERE}/../crates/run_table/data/examples.jsonl")
+    new, old = rows_of(pages), open(file, encoding="utf-8").read() if os.path.exists(file) else ""
+    with open(file, "w", encoding="utf-8") as out:
+        out.write(new)
+    print(f"{new.count(chr(10))} rows, {'as they stood' if new == old else 'not as they stood: the file is new'}")
+    return 0 if new == old else 1
+
+
 def main(program, pages):
     """Runs all examples, tells those that differ, and gives the status."""
     examples = [it for page in pages for it in examples_of(page)]
@@ -260,4 +301,4 @@ def main(program, pages):
 if __name__ == "__main__":
     WORDS = sys.argv[1:] or [""]
     PAGES = WORDS[1:] or [f"{HERE}/{name}" for name in ("API.md", "PITFALLS.md", "RULES.md", "rules.tsv")]
-    sys.exit(main(program_of(WORDS[0]), PAGES))
+    sys.exit(write_rows(PAGES) if WORDS[0] == "--rows" else main(program_of(WORDS[0]), PAGES))

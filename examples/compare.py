@@ -5,7 +5,7 @@
 
 Without a word the script `adhost` at the root of the repository is run; with `--try` the program that it
 builds without any proof; else PROGRAM, a built program. The status is 0 where all agree. Compared are the
-stored outputs (*.jsonl), the lines of README.md with the file or the page that stands in the same row, and the
+stored outputs (*.jsonl, *.txt), the lines of README.md with the file or the page that stands in the same row, and the
 logs of lib/ with those that lib/expected.py reckons.
 """
 
@@ -22,10 +22,10 @@ from run_examples import program_of  # noqa: E402
 GADGETS = ["banner", "calc", "clock", "form", "tip", "todo"]
 
 
-def stored(folder, words, name):
-    """A command line in a folder, with the output that the folder keeps under a name."""
+def stored(folder, words, name, status=0):
+    """A command line in a folder, with the output that the folder keeps under a name, and the status."""
     with open(f"{HERE}/{folder}/{name}", "rb") as file:
-        return folder, words, file.read(), 0
+        return folder, words, file.read(), status
 
 
 def rows():
@@ -56,6 +56,14 @@ def runs():
     yield stored("cookbook", ["render", "m.json"], "render.jsonl")
     yield stored("cookbook", ["replay", "m.json", "t.json", "50"], "replay.jsonl")
     yield stored("lib", ["replay", "m.json", "t.json", "50"], "replay.jsonl")
+    yield stored("market", ["check", "m.json"], "check.jsonl")
+    yield stored("market", ["render", "m.json"], "render.jsonl")
+    yield stored("market", ["replay", "m.json", "t.json", "7"], "replay.jsonl")
+    yield stored("market", ["replay", "m.json", "t-swap.json", "7"], "replay-swap.jsonl", 1)
+    yield stored("market", ["audit", "m.json", "t.json", "7"], "audit.txt")
+    yield stored("market", ["audit", "m.json", "t-swap.json", "7"], "audit-swap.txt", 1)
+    yield "market", ["check-audit", "audit.txt"], b'{"confined":true}\n', 0
+    yield "market", ["check-audit", "leaking.txt"], b'{"confined":false,"line":25}\n', 1
 
 
 def reckoned():

@@ -12,10 +12,11 @@ _adhost() {
     case $form:$((COMP_CWORD - at)) in
         explain:*) mapfile -t COMPREPLY < <(compgen -f -X '!*.js*' -- "$word") ;;
         :*)
-            COMPREPLY=($(compgen -W "check check-lib tidy render replay demo --explain --help --html --try --version" -- "$word"))
+            COMPREPLY=($(compgen -W "check check-lib tidy render replay audit check-audit demo --explain --help --html --try --version" -- "$word"))
             compopt +o plusdirs
             ;;
-        check:1 | render:1 | replay:[12]) mapfile -t COMPREPLY < <(compgen -f -X '!*.json' -- "$word") ;;
+        check:1 | render:1 | replay:[12] | audit:[12]) mapfile -t COMPREPLY < <(compgen -f -X '!*.json' -- "$word") ;;
+        check-audit:1) mapfile -t COMPREPLY < <(compgen -f -- "$word") ;;
         check-lib:1 | tidy:1) mapfile -t COMPREPLY < <(compgen -f -X '!*.js' -- "$word") ;;
         *) compopt +o plusdirs ;;
     esac
