@@ -5,7 +5,7 @@ mod item;
 mod laws;
 mod trace;
 
-pub use item::{Happening, TraceItem};
-pub use json_shapes::ShapeFault;
+pub use item::{Happening, TraceItem, read_item};
+pub use json_shapes::{Misfit, ShapeFault};
 pub use laws::one_trace;
 pub use trace::read_trace;
