@@ -76,7 +76,7 @@ one_swap names d to from file other left right =
     let files : file ≡ other = one_some _ file other left.text right.text in
     ap (λ n. a_swap n file) places ∙ ap (a_swap from) files
 
-one_item : (version : ℕ) (names : List (List ℕ)) (d : Data) (t u : TraceItem) → IsItem version names d t → IsItem version names d u → said t ≡ said u
+pub one_item : (version : ℕ) (names : List (List ℕ)) (d : Data) (t u : TraceItem) → IsItem version names d t → IsItem version names d u → said t ≡ said u
 one_item version names d (Event to event) (Event from other) left right = one_event names d to from event other left right
 one_item version names d (Event to event) (Advance ms) left right = absurd (no_event names d ms to event right left)
 one_item version names d (Event to event) (Swap from file) left right = absurd (swap_no_event names d from to _ event right.1 left)
