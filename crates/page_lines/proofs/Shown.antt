@@ -15,8 +15,8 @@ use Rattle.page_image.specs.Image.{forest, root_of}
 use Rattle.page_image.specs.Own.{own_forest, own_number}
 use Rattle.page_spec.specs.Pages as pages
 use Rattle.page_spec.specs.Pages.{PagePiece, page_of, roots, shown}
-use Rattle.page_build.specs.Layout.{AreLots, IsLaid, IsLot, Lot, Own, Root, Spot, each_tree, lots_of, piece_lots}
-use Rattle.page_lines.specs.Ends.{AreEnds}
+use Rattle.page_build.specs.Layout.{AreLots, IsLaid, IsLot, Lot, Own, Root, Spot, each_tree, lot_of, lots_of, piece_lots}
+use Rattle.page_lines.specs.Ends.{AreEnds, IsEnd}
 
 unmarked_marked : (f : ℕ → ℕ) (ts : Trees ℕ) → unmarked (marked f ts) ≡ unmarked ts
 unmarked_marked f End = refl
@@ -79,16 +79,18 @@ module _ (p : Page) where
   each_shows End = refl
   each_shows (Node m l ks ts) = ap (Node m l ks) (each_shows ts)
 
+  end_shows : (name : List ℕ) (home : Option ℕ) (end : Option OwnState) → IsEnd p home end → lot_shows (lot_of name home) ≡ pages.root_of name end
+  end_shows name None None h = refl
+  end_shows name None (Some own) h = absurd h
+  end_shows name (Some w) None h = absurd h
+  end_shows name (Some w) (Some own) h = ap (λ ts. unmarked (child_at 0 ts)) (sym h)
+
   slots_show : (names : List (List ℕ)) (homes : List (Option ℕ)) (ends : List (Option OwnState)) → AreEnds p homes ends → map lot_shows (lots_of names homes) ≡ roots names ends
   slots_show [] homes ends h = refl
   slots_show (name ∷ names) [] [] h = refl
   slots_show (name ∷ names) [] (end ∷ ends) h = absurd h
-  slots_show (name ∷ names) (None ∷ homes) [] h = absurd h
-  slots_show (name ∷ names) (Some w ∷ homes) [] h = absurd h
-  slots_show (name ∷ names) (None ∷ homes) (None ∷ ends) h = ap (λ ts. pages.root_of name None ∷ ts) (slots_show names homes ends h)
-  slots_show (name ∷ names) (None ∷ homes) (Some own ∷ ends) h = absurd h
-  slots_show (name ∷ names) (Some w ∷ homes) (None ∷ ends) h = absurd h
-  slots_show (name ∷ names) (Some w ∷ homes) (Some own ∷ ends) h = λ j. unmarked (child_at 0 (sym h.0 j)) ∷ slots_show names homes ends h.1 j
+  slots_show (name ∷ names) (home ∷ homes) [] h = absurd h
+  slots_show (name ∷ names) (home ∷ homes) (end ∷ ends) h = λ j. end_shows name home end h.0 j ∷ slots_show names homes ends h.1 j
 
   place_shows : (lots : List Lot) (n : ℕ) → all_show (option_to_list (slice_get lots n)) ≡ slice_index_or (map lot_shows lots) n End
   place_shows [] n = refl
@@ -108,3 +110,7 @@ module _ (p : Page) where
   laid_shows names homes pieces ends laid h =
       ap unmarked (tree_is (nodes p) p.arena.sound body)
       ∙ (λ j. Node tt (laid.top j) ((lots_shown (flat_map (piece_lots (lots_of names homes)) pieces) (at (nodes p) body).children laid.laid ∙ pieces_show (lots_of names homes) (roots names ends) (slots_show names homes ends h) pieces) j) End)
+
+  -- what stands in one slot
+  pub spot_shows : (n : ℕ) (name : List ℕ) (home : Option ℕ) (end : Option OwnState) → IsLot p (lot_of name home) n → IsEnd p home end → unmarked (tree (nodes p) n) ≡ pages.root_of name end
+  spot_shows n name home end lot h = one_shown (lot_of name home) n lot ∙ end_shows name home end h

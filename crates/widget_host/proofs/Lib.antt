@@ -2,6 +2,7 @@ mod Lasts
 mod Fed
 mod Shown
 mod Stands
+mod Placed
 mod Given
 mod Sets
 mod Born
@@ -9,7 +10,7 @@ mod Bearing
 mod Alike
 mod Same
 mod Rounding
-mod Lived
+pub mod Lived
 mod Ways
 mod Passed
 mod Whole

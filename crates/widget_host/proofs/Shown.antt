@@ -94,7 +94,7 @@ module _ (h : Host) where
   ends_shown (c ∷ cs) [] is = absurd is
   ends_shown (c ∷ cs) (None ∷ ends) is =
       subst (λ (b : Bool). AreEnds h.crowd.shared.page ((if b then Some (present_of c) else None) ∷ rooted (is_accepted h.crowd.places.items) cs) (None ∷ ends)) (sym is.0)
-      (ends_shown cs ends is.1)
+      (tt, ends_shown cs ends is.1)
   ends_shown (c ∷ cs) (Some own ∷ ends) is =
       subst (λ (b : Bool). AreEnds h.crowd.shared.page ((if b then Some (present_of c) else None) ∷ rooted (is_accepted h.crowd.places.items) cs) (Some own ∷ ends)) (sym is.0.0)
       (one_end (present_of c) own is.0, ends_shown cs ends is.1)

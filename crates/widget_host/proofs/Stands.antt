@@ -74,7 +74,7 @@ module _ (c : Crowd) (ss : List Slot) (st : AreStanding c ss) where
       by true is = subst (λ (f : Bool). IsLot page (lot_of s.name (if f then Some v else None)) a.root) (sym (flag true is)) (low, st.roots v a at is)
       by false is = subst (λ (f : Bool). IsLot page (lot_of s.name (if f then Some v else None)) a.root) (sym (flag false is)) (st.divs v a s at is (below is) here)
 
-  slot_lot : (w : ℕ) (s : Slot) → slice_get ss w ≡ Some s → IsChain (homes_of c.places.items) st.born w s.lives.items → st.born ≤ 32
+  pub slot_lot : (w : ℕ) (s : Slot) → slice_get ss w ≡ Some s → IsChain (homes_of c.places.items) st.born w s.lives.items → st.born ≤ 32
       → IsLot page (lot_of s.name (if is_accepted c.places.items (present_of s.lives.items) then Some (present_of s.lives.items) else None)) (slice_index_or (roots_of c.places.items) (present_of s.lives.items) body)
   slot_lot w s here chain most =
       let v = present_of s.lives.items in

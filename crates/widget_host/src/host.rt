@@ -1,5 +1,5 @@
 //! A host: it loads a page, and hands out what it has.
-ghost use Rattle.std.specs.Prelude.{◌≡◌, ℕ, List, None, Option, Some, ◌+◌, ◌<◌, ◌≤◌, IfOk, IfSome, OnErr, OnOk, false, if◌then◌else◌, length, slice_get, true};
+ghost use Rattle.std.specs.Prelude.{◌≡◌, ℕ, List, None, Option, Some, ◌+◌, ◌<◌, ◌≤◌, IfOk, IfSome, OnErr, OnOk, false, if◌then◌else◌, length, slice_get, slice_index_or, true};
 ghost use Rattle.js_image.specs.Held.{IsConfined};
 ghost use Rattle.life_laws.specs.Life.{Seen, image};
 ghost use Rattle.page_build.specs.Layout as layout;
@@ -11,6 +11,7 @@ ghost use Rattle.slot_reach.specs.slot_rounds.page_load.slot_picks.declared.crow
 ghost use Rattle.slot_reach.specs.slot_rounds.page_load.slot_picks.Places.{HoldsItsOwn};
 ghost use Rattle.widget_meaning.specs.OwnState.{OwnState};
 ghost use Rattle.page_output.specs.Printing.{Prints, PrintsPart};
+ghost use Rattle.plain_tree.specs.Trees.{End};
 ghost use Rattle.page_spec.specs.Loadable.{IsLoadable};
 ghost use Rattle.page_spec.specs.Pages.{PagePiece, page_of, roots};
 ghost use Rattle.widget_host.specs.Housed.{AreShown, IsHoused, IsLaid, Loads, accepts, chains, journal, marked, own_trees, places, rooted, seens, shared};
@@ -25,7 +26,7 @@ use object_store::Store;
 use page_spec::PageSpec;
 use page_tree::Page;
 use pick_laws::PickEntry;
-use slot_reach::slot_rounds::page_load::slot_picks::{Crowd, Slot};
+use slot_reach::slot_rounds::page_load::slot_picks::{Crowd, Slot, present};
 use std::alloc::Global;
 use std::collections::VecDeque;
 
@@ -127,5 +128,23 @@ impl Host {
             → PrintsPart (page_of pieces (roots names ends)) out.old.items out.new.items) }
     {
         page_lines::print_page(alloc, &self.crowd.shared.page, out)
+    }
+
+    /// The text of what stands in a slot is appended, in the time that this text takes: the root of its present life, or
+    /// an empty `div` where that was refused. It is what `print_page` appends in the place of this slot. `Memory` leaves
+    /// a prefix of that text appended.
+    pub fn print_slot(&self, alloc: Global, w: u32, out: &mut Vec<u8>) -> Result<(), Memory>
+        requires housed { IsHoused self.now }
+        requires there { w < length (chains self.now) }
+        ensures ok { OnOk result ((names : List (List ℕ)) (pieces : List PagePiece) (ends : List (Option OwnState))
+            → IsLaid self.now names pieces → AreShown self.now (chains self.now) ends
+            → Prints (slice_index_or (roots names ends) w End) out.old.items out.new.items) }
+        ensures part { OnErr result ((names : List (List ℕ)) (pieces : List PagePiece) (ends : List (Option OwnState))
+            → IsLaid self.now names pieces → AreShown self.now (chains self.now) ends
+            → PrintsPart (slice_index_or (roots names ends) w End) out.old.items out.new.items) }
+    {
+        let v = present(&self.slots[w as usize].lives);
+        let node = self.crowd.places[v as usize].root;
+        page_lines::print_slot(alloc, &self.crowd.shared.page, node, out)
     }
 }
