@@ -77,6 +77,7 @@ pub fn play_page(
         spec,
         refusals,
         swaps: brings,
+        ..
     } = page;
     let JudgedSwaps {
         contents,

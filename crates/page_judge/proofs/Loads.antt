@@ -19,12 +19,11 @@ use Rattle.page_spec.specs.declared.SlotSpec.{SlotSpec}
 use Rattle.page_spec.specs.declared.PageSpec.{PageSpec}
 use Rattle.page_spec.specs.Pages.{PagePiece, Trees, Place, piece_of}
 use Rattle.page_spec.specs.Loadable.{most_high, most_of_page, IsSwapLoadable, IsLoadableSlot, trees_in, numbers_in, AreLoadablePieces, AreLoadableChannels, AreLoadableSwaps, names_of, IsLoadable}
-use Rattle.page_judge.specs.declared.libraries.Kept.{Kept}
 use Rattle.page_judge.specs.declared.page.JudgedPage.{JudgedPage}
 use Rattle.page_judge.specs.declared.slots.NamedSlot.{NamedSlot}
 use Rattle.page_judge.specs.Runs.{SlotRun, slots_named, runs_over, swap_runs, pieces_from, pieces}
 use Rattle.page_judge.specs.Fits.{markup_of, AreFit, IsFit}
-use Rattle.page_judge.specs.Judged.{KeepsLibraries, key_of, name_of, AreJudgedSlots, none, more, AreJudgedSwaps, IsJudgedPage}
+use Rattle.page_judge.specs.Judged.{key_of, name_of, AreJudgedSlots, none, more, AreJudgedSwaps, IsJudgedPage}
 use Rattle.page_judge.proofs.Heights.{height_unmarked, size_unmarked}
 use Rattle.page_judge.proofs.Libs.{IsCleanLib}
 use Rattle.page_judge.proofs.Swapped.{SwapsSoFar}
@@ -131,34 +130,34 @@ pub keys_are : (names : List NamedSlot) → map key_of names ≡ map first_of (m
 keys_are [] = refl
 keys_are (n ∷ ns) = ap (λ ks. key_of n ∷ ks) (keys_are ns)
 
-module _ (parts : List Part) (libs files : List Source) (kept : Kept) (spec : PageSpec) (refusals : List (Option Refusal)) (fit : AreFit parts spec.channels.items) (paired : length (slots_named parts) ≡ length files) (keeps : KeepsLibraries libs kept) (same : spec.libs.items ≡ kept.accepted.items) (judged : AreJudgedSlots kept.accepted.items (runs_over libs (slots_named parts) files) spec.slots.items refusals) (fits : All (λ (s : SlotSpec). IsSwapLoadable (length kept.accepted.items) s.name s.content) spec.slots.items) (pieced : map piece_of spec.pieces.items ≡ pieces parts) where
+module _ (parts : List Part) (libs files : List Source) (scripts : List Accepted) (spec : PageSpec) (refusals : List (Option Refusal)) (fit : AreFit parts spec.channels.items) (paired : length (slots_named parts) ≡ length files) (clean : All IsCleanLib scripts) (same : spec.libs.items ≡ scripts) (judged : AreJudgedSlots scripts (runs_over libs (slots_named parts) files) spec.slots.items refusals) (fits : All (λ (s : SlotSpec). IsSwapLoadable (length scripts) s.name s.content) spec.slots.items) (pieced : map piece_of spec.pieces.items ≡ pieces parts) where
   pub page_loadable : IsLoadable spec
   page_loadable =
-      let names : names_of spec ≡ map first_of (slots_named parts) = names_are kept.accepted.items libs (slots_named parts) files spec refusals paired judged in
+      let names : names_of spec ≡ map first_of (slots_named parts) = names_are scripts libs (slots_named parts) files spec refusals paired judged in
       let many : length spec.slots.items ≡ length (slots_named parts) = sym (length-map spec.slots.items (λ (s : SlotSpec). s.name)) ∙ ap length names ∙ length-map (slots_named parts) first_of in
       let good = few_and_distinct (map first_of (slots_named parts)) fit.slots in
       record {
         few = omega (arith, many, good.0, length-map (slots_named parts) first_of);
         distinct = subst (IsDistinct bytes_eq) (sym names) good.1;
-        slots = subst (λ (xs : List Accepted). All (IsLoadableSlot (length xs)) spec.slots.items) (sym same) (slots_fit (length kept.accepted.items) kept.accepted.items (runs_over libs (slots_named parts) files) spec.slots.items refusals judged (runs_bounded libs (slots_named parts) files paired fit.fuel) fits);
-        libs = subst (All IsCleanLib) (sym same) keeps.clean;
+        slots = subst (λ (xs : List Accepted). All (IsLoadableSlot (length xs)) spec.slots.items) (sym same) (slots_fit (length scripts) scripts (runs_over libs (slots_named parts) files) spec.slots.items refusals judged (runs_bounded libs (slots_named parts) files paired fit.fuel) fits);
+        libs = subst (All IsCleanLib) (sym same) clean;
         pieces = pieces_fit parts (length spec.slots.items) spec.pieces.items pieced many fit.low fit.few;
         channels = subst (λ n. AreLoadableChannels n spec.channels.items) (sym many) fit.channels;
       }
 
 -- ## All that is judged
 
-module _ (manifest : Manifest) (libs files : List Source) (kept : Kept) (page : JudgedPage) (names : List NamedSlot) (named : map name_of names ≡ slots_named (map part_of manifest.entries.items)) (fit : IsFit manifest) (paired : length (slots_named (map part_of manifest.entries.items)) ≡ length files) (keeps : KeepsLibraries libs kept) (same : page.spec.libs.items ≡ kept.accepted.items) (channels : page.spec.channels.items ≡ manifest.channels.items) (judged : AreJudgedSlots kept.accepted.items (runs_over libs (map name_of names) files) page.spec.slots.items page.refusals.items) (fits : All (λ (s : SlotSpec). IsSwapLoadable (length kept.accepted.items) s.name s.content) page.spec.slots.items) (pieced : map piece_of page.spec.pieces.items ≡ pieces (map part_of manifest.entries.items)) where
-  slots_judged : AreJudgedSlots kept.accepted.items (runs_over libs (slots_named (map part_of manifest.entries.items)) files) page.spec.slots.items page.refusals.items
-  slots_judged = subst (λ ns. AreJudgedSlots kept.accepted.items (runs_over libs ns files) page.spec.slots.items page.refusals.items) named judged
+module _ (manifest : Manifest) (libs files : List Source) (scripts : List Accepted) (page : JudgedPage) (names : List NamedSlot) (named : map name_of names ≡ slots_named (map part_of manifest.entries.items)) (fit : IsFit manifest) (paired : length (slots_named (map part_of manifest.entries.items)) ≡ length files) (clean : All IsCleanLib scripts) (same : page.spec.libs.items ≡ scripts) (channels : page.spec.channels.items ≡ manifest.channels.items) (judged : AreJudgedSlots scripts (runs_over libs (map name_of names) files) page.spec.slots.items page.refusals.items) (fits : All (λ (s : SlotSpec). IsSwapLoadable (length scripts) s.name s.content) page.spec.slots.items) (pieced : map piece_of page.spec.pieces.items ≡ pieces (map part_of manifest.entries.items)) where
+  slots_judged : AreJudgedSlots scripts (runs_over libs (slots_named (map part_of manifest.entries.items)) files) page.spec.slots.items page.refusals.items
+  slots_judged = subst (λ ns. AreJudgedSlots scripts (runs_over libs ns files) page.spec.slots.items page.refusals.items) named judged
 
   pub whole_loadable : IsLoadable page.spec
-  whole_loadable = page_loadable (map part_of manifest.entries.items) libs files kept page.spec page.refusals.items (subst (AreFit (map part_of manifest.entries.items)) (sym channels) fit) paired keeps same slots_judged fits pieced
+  whole_loadable = page_loadable (map part_of manifest.entries.items) libs files scripts page.spec page.refusals.items (subst (AreFit (map part_of manifest.entries.items)) (sym channels) fit) paired clean same slots_judged fits pieced
 
-  pub whole_page : (tos : List ℕ) (swaps : List Source) → SwapsSoFar kept.accepted.items libs names tos swaps page.swaps.contents.items page.swaps.refusals.items → IsJudgedPage manifest files libs (zip tos swaps) page
+  pub whole_page : (tos : List ℕ) (swaps : List Source) → SwapsSoFar scripts libs names tos swaps page.swaps.contents.items page.swaps.refusals.items → IsJudgedPage manifest files libs (zip tos swaps) page
   whole_page tos swaps swapped =
       let many : length files ≡ length names = sym paired ∙ sym (ap length named) ∙ length-map names name_of in
-      let brought = subst (λ ns. AreJudgedSwaps kept.accepted.items (swap_runs (runs_over libs ns files) (zip tos swaps)) page.swaps.contents.items page.swaps.refusals.items) named (swapped files many) in
+      let brought = subst (λ ns. AreJudgedSwaps scripts (swap_runs (runs_over libs ns files) (zip tos swaps)) page.swaps.contents.items page.swaps.refusals.items) named (swapped files many) in
       record {
         pieces = pieced;
         slots = subst (λ (scripts : List Accepted). AreJudgedSlots scripts (runs_over libs (slots_named (map part_of manifest.entries.items)) files) page.spec.slots.items page.refusals.items) (sym same) slots_judged;
@@ -166,11 +165,11 @@ module _ (manifest : Manifest) (libs files : List Source) (kept : Kept) (page : 
         channels = channels;
       }
 
-  pub swaps_loadable : (tos : List ℕ) → AreLoadableSwaps (length kept.accepted.items) (map key_of names) tos page.swaps.contents.items → AreLoadableSwaps (length page.spec.libs.items) (names_of page.spec) tos page.swaps.contents.items
+  pub swaps_loadable : (tos : List ℕ) → AreLoadableSwaps (length scripts) (map key_of names) tos page.swaps.contents.items → AreLoadableSwaps (length page.spec.libs.items) (names_of page.spec) tos page.swaps.contents.items
   swaps_loadable tos fit_in =
-      let keys : map key_of names ≡ names_of page.spec = keys_are names ∙ ap (map first_of) named ∙ sym (names_are kept.accepted.items libs (slots_named (map part_of manifest.entries.items)) files page.spec page.refusals.items paired slots_judged) in
+      let keys : map key_of names ≡ names_of page.spec = keys_are names ∙ ap (map first_of) named ∙ sym (names_are scripts libs (slots_named (map part_of manifest.entries.items)) files page.spec page.refusals.items paired slots_judged) in
       subst (λ (xs : List Accepted). AreLoadableSwaps (length xs) (names_of page.spec) tos page.swaps.contents.items) (sym same)
-      (subst (λ ks. AreLoadableSwaps (length kept.accepted.items) ks tos page.swaps.contents.items) keys fit_in)
+      (subst (λ ks. AreLoadableSwaps (length scripts) ks tos page.swaps.contents.items) keys fit_in)
 
 -- numbers below one length are below another
 pub there_within : (tos : List ℕ) (a b : ℕ) → a ≡ b → All (λ to. to < a) tos → All (λ to. to < b) tos

@@ -24,7 +24,6 @@ use Rattle.page_spec.specs.declared.SlotSpec.{SlotSpec}
 use Rattle.page_spec.specs.Contents.{program_at, content_of}
 use Rattle.page_spec.specs.Loadable.{IsLoadableWidget, IsSwapLoadable}
 use Rattle.page_judge.specs.declared.contents.JudgedContent.{JudgedContent}
-use Rattle.page_judge.specs.declared.libraries.Kept.{Kept}
 use Rattle.page_judge.specs.declared.slots.NamedSlot.{NamedSlot}
 use Rattle.page_judge.specs.Runs.{SlotRun, named, slots_named, runs_over}
 use Rattle.page_judge.specs.Widgets.{widget, HasWidget}
@@ -46,19 +45,19 @@ named_all es i names past gathered = gathered ∙ ap (λ xs. slots_named (map pa
 -- ## One slot
 
 -- what a host runs of a widget
-pub runs_content : (kept : Kept) (w : Widget) (libs at places : List ℕ) → libs ≡ map (λ lib. get_or places lib 0) at → at ≡ w.libs.items → places ≡ kept.places.items → Some (record { root = numbered 0 (placed w.form.body); libraries = map (program_at kept.accepted.items) libs; script = program_of (tree_of w.script) }) ≡ Some (content_in kept w)
-runs_content kept w libs at places is same also =
-    let all : libs ≡ map (λ lib. get_or kept.places.items lib 0) w.libs.items = is ∙ ap (λ ps. map (λ lib. get_or ps lib 0) at) also ∙ ap (map (λ lib. get_or kept.places.items lib 0)) same in
-    ap (λ ls. Some (record { root = numbered 0 (placed w.form.body); libraries = map (program_at kept.accepted.items) ls; script = program_of (tree_of w.script) })) all
+pub runs_content : (scripts : List Accepted) (held : List ℕ) (w : Widget) (libs at places : List ℕ) → libs ≡ map (λ lib. get_or places lib 0) at → at ≡ w.libs.items → places ≡ held → Some (record { root = numbered 0 (placed w.form.body); libraries = map (program_at scripts) libs; script = program_of (tree_of w.script) }) ≡ Some (content_in scripts held w)
+runs_content scripts held w libs at places is same also =
+    let all : libs ≡ map (λ lib. get_or held lib 0) w.libs.items = is ∙ ap (λ ps. map (λ lib. get_or ps lib 0) at) also ∙ ap (map (λ lib. get_or held lib 0)) same in
+    ap (λ ls. Some (record { root = numbered 0 (placed w.form.body); libraries = map (program_at scripts) ls; script = program_of (tree_of w.script) })) all
 
-module _ (kept : Kept) (slot : Slot) (w : Widget) (keeps : KeepsLibraries slot.libs kept) (is : IsAcceptedWidget slot w) where
-  pub libs_within : All (λ lib. lib < length kept.places.items) w.libs.items
-  libs_within = clean_within slot.libs (named_libs is.file) w.libs.items is.programs (length kept.places.items) (as_many kept.accepted.items slot.libs kept.places.items keeps.each) is.is.libs
+module _ (scripts : List Accepted) (held : List ℕ) (slot : Slot) (w : Widget) (keeps : KeepsLibraries slot.libs scripts held) (is : IsAcceptedWidget slot w) where
+  pub libs_within : All (λ lib. lib < length held) w.libs.items
+  libs_within = clean_within slot.libs (named_libs is.file) w.libs.items is.programs (length held) (as_many scripts slot.libs held keeps.each) is.is.libs
 
-  widget_in : HasWidget slot (content_in kept w)
+  widget_in : HasWidget slot (content_in scripts held w)
   widget_in =
       let script = program_of (tree_of w.script) in
-      let programs = programs_kept kept.accepted.items slot.libs kept.places.items (named_libs is.file) w.libs.items is.programs keeps.each is.is.libs in
+      let programs = programs_kept scripts slot.libs held (named_libs is.file) w.libs.items is.programs keeps.each is.is.libs in
       record {
         file = is.file;
         places = w.libs.items;
@@ -66,23 +65,23 @@ module _ (kept : Kept) (slot : Slot) (w : Widget) (keeps : KeepsLibraries slot.l
         script = script;
         is = is.is;
         same =
-            ap (λ root. record { root = numbered 0 root; libraries = (content_in kept w).libraries; script = script }) is.form.body
+            ap (λ root. record { root = numbered 0 root; libraries = (content_in scripts held w).libraries; script = script }) is.form.body
             ∙ ap (λ libs. record { root = (widget is.file is.programs script).root; libraries = libs; script = script }) programs;
       }
 
   -- and a host may load it
-  pub widget_loadable : (libs at places : List ℕ) → libs ≡ map (λ lib. get_or places lib 0) at → at ≡ w.libs.items → places ≡ kept.places.items → length at < 2 ^ 31 → IsLoadableWidget (length kept.accepted.items) slot.name w.form.body libs w.script
+  pub widget_loadable : (libs at places : List ℕ) → libs ≡ map (λ lib. get_or places lib 0) at → at ≡ w.libs.items → places ≡ held → length at < 2 ^ 31 → IsLoadableWidget (length scripts) slot.name w.form.body libs w.script
   widget_loadable libs at places are same also small =
-      let all : libs ≡ map (λ lib. get_or kept.places.items lib 0) w.libs.items = are ∙ ap (λ ps. map (λ lib. get_or ps lib 0) at) also ∙ ap (map (λ lib. get_or kept.places.items lib 0)) same in
+      let all : libs ≡ map (λ lib. get_or held lib 0) w.libs.items = are ∙ ap (λ ps. map (λ lib. get_or ps lib 0) at) also ∙ ap (map (λ lib. get_or held lib 0)) same in
       record {
         low = widget_low slot.name (keys_of slot.libs) slot.file.bytes is.file w.form.body is.form.body is.is.has.spelled;
         few = widget_few slot.name (keys_of slot.libs) slot.file.bytes is.file w.form.body is.form.body is.is.has.good;
-        there = subst (All (λ p. p < length kept.accepted.items)) (sym all) (places_kept kept.accepted.items slot.libs kept.places.items (named_libs is.file) w.libs.items is.programs keeps.each is.is.libs);
+        there = subst (All (λ p. p < length scripts)) (sym all) (places_kept scripts slot.libs held (named_libs is.file) w.libs.items is.programs keeps.each is.is.libs);
         numbered = omega (arith, small, ap length are, length-map at (λ lib. get_or places lib 0));
         clean = is.is.last.clean;
       }
 
-  pub accepted_slot : (content : SlotContent) → content_of kept.accepted.items content ≡ Some (content_in kept w) → IsJudged slot (content_of kept.accepted.items content) None
+  pub accepted_slot : (content : SlotContent) → content_of scripts content ≡ Some (content_in scripts held w) → IsJudged slot (content_of scripts content) None
   accepted_slot content same = subst (λ c. IsJudged slot c None) (sym same) (accepted widget_in)
 
 pub refused_slot : (slot : Slot) (f : SlotFault) (refusal : Refusal) → Refuses (IsRefused slot) f → f ≡ fault.Broken refusal → IsJudged slot None (Some refusal)

@@ -15,13 +15,13 @@ use Rattle.slot_check.specs.declared.fault.Refusal.{Refusal}
 use Rattle.slot_check.specs.declared.sources.SourceFile.{SourceFile}
 use Rattle.slot_check.specs.declared.verdict.Widget.{Widget}
 use Rattle.slot_check.specs.Sources.{Source, Slot}
-use Rattle.slot_check.specs.Verdicts.{slot_of, IsRefused}
+use Rattle.slot_check.specs.Verdicts.{slot_of, IsRefused, AreJudged}
 use Rattle.widget_meaning.specs.Alone.{Content}
 use Rattle.page_spec.specs.declared.SlotContent.{SlotContent}
 use Rattle.page_spec.specs.declared.SlotSpec.{SlotSpec}
 use Rattle.page_spec.specs.Contents.{program_at, content_of}
 use Rattle.page_spec.specs.Pages.{piece_of}
-use Rattle.page_judge.specs.declared.libraries.Kept.{Kept}
+use Rattle.page_judge.specs.declared.libraries.Later.{Later}
 use Rattle.page_judge.specs.declared.slots.NamedSlot.{NamedSlot}
 use Rattle.page_judge.specs.declared.page.JudgedPage.{JudgedPage}
 use Rattle.page_judge.specs.Runs.{SlotRun, slots_named, runs_over, swap_runs, pieces}
@@ -40,9 +40,18 @@ pub data AreKept (accepted : List Accepted) : List Source → List ℕ → Type 
   more : {library : Source} {place : ℕ} {libs : List Source} {places : List ℕ} → IsKept accepted library.bytes place → AreKept accepted libs places → AreKept accepted (library ∷ libs) (place ∷ places)
 
 -- the accepted libraries of a manifest, and their places
-pub record KeepsLibraries (libs : List Source) (kept : Kept) : Type 0 where
-  pub each : AreKept kept.accepted.items libs kept.places.items
-  pub clean : All (λ a. IsClean (program_of (tree_of a)) scope.Lib) kept.accepted.items
+pub record KeepsLibraries (libs : List Source) (accepted : List Accepted) (places : List ℕ) : Type 0 where
+  pub each : AreKept accepted libs places
+  pub clean : All (λ a. IsClean (program_of (tree_of a)) scope.Lib) accepted
+
+-- files can be judged over these libraries, of which these were accepted: what is known of each library is true, and each that was accepted has its place
+pub record JudgesOver (libs : List Source) (accepted : List Accepted) (later : Later) : Type 0 where
+  pub judged : AreJudged libs later.judged
+  pub kept : KeepsLibraries libs accepted later.places.items
+
+-- over the libraries over which they could be judged they still can
+abbrev pub JudgesOn : List Source → Later → Later → Type 0
+JudgesOn libs old new = (accepted : List Accepted) → JudgesOver libs accepted old → JudgesOver libs accepted new
 
 -- one library more was judged: those that were accepted stay, and it is behind them if it breaks no rule
 pub record KeepsOne (library : List ℕ) (old new : List Accepted) : Type 0 where
@@ -65,11 +74,11 @@ name_of slot = (slot.name, slot.fuel)
 abbrev pub run_of : NamedSlot → SourceFile → List SourceFile → SlotRun
 run_of slot file libs = record { slot = slot_of slot.name file libs; fuel = slot.fuel }
 
--- a widget that was accepted, over the accepted libraries of its manifest
-abbrev pub content_in : Kept → Widget → Content
-content_in kept w = record {
+-- a widget that was accepted, over the accepted libraries of its manifest and their places
+abbrev pub content_in : List Accepted → List ℕ → Widget → Content
+content_in libs places w = record {
   root = numbered 0 (placed w.form.body);
-  libraries = map (program_at kept.accepted.items) (map (λ lib. get_or kept.places.items lib 0) w.libs.items);
+  libraries = map (program_at libs) (map (λ lib. get_or places lib 0) w.libs.items);
   script = program_of (tree_of w.script);
 }
 

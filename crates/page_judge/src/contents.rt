@@ -1,16 +1,17 @@
 //! What the file of a slot brings: its widget, or the first rule that it breaks.
-ghost use Rattle.std.specs.Prelude.{◌≡◌, ◌<◌, ◌^◌, All, Some, length, map, get_or, IfOk, OnOk};
-ghost use Rattle.slot_check.specs.Verdicts.{sources_of, slot_of, IsSmall, IsAcceptedWidget, AreJudged};
+ghost use Rattle.std.specs.Prelude.{◌≡◌, ◌<◌, ◌^◌, All, List, Some, length, map, get_or, IfOk, OnOk};
+ghost use Rattle.adsafe_rules.specs.declared.accepted.Accepted.{Accepted};
+ghost use Rattle.slot_check.specs.Verdicts.{sources_of, slot_of, IsSmall, IsAcceptedWidget};
 ghost use Rattle.slot_check.specs.Sources.{Slot};
 ghost use Rattle.page_spec.specs.declared.SlotContent.TheVariants as slot;
 ghost use Rattle.page_spec.specs.Contents.{content_of};
 ghost use Rattle.page_spec.specs.Loadable.{IsSwapLoadable};
-ghost use Rattle.page_judge.specs.Judged.{KeepsLibraries, content_in, IsJudged};
+ghost use Rattle.page_judge.specs.Judged.{JudgesOn, JudgesOver, KeepsLibraries, content_in, IsJudged};
 
-use crate::libraries::Kept;
+use crate::libraries::Later;
 use code_units::{Memory, Text};
 use page_spec::SlotContent;
-use slot_check::{Libraries, Refusal, SlotFault, SourceFile, Widget, judge_slot};
+use slot_check::{Refusal, SlotFault, SourceFile, Widget, judge_slot};
 use std::alloc::Global;
 
 /// A content for a host, and the first rule that its file breaks, where it breaks one.
@@ -23,34 +24,37 @@ pub struct JudgedContent {
 /// No memory holds as many scripts of one file.
 const MOST_SCRIPTS: usize = 0x8000_0000;
 
-/// Judges a file for the slot of this name, over the libraries of its manifest.
-pub fn judge_content(
-    alloc: Global,
-    name: &Text,
-    file: &SourceFile,
-    libs: &[SourceFile],
-    judged: &mut Libraries,
-    kept: &Kept,
-) -> Result<JudgedContent, Memory>
-    requires small { IsSmall file.now }
-    requires small_libs { All IsSmall libs.now }
-    requires judged { AreJudged (sources_of libs.now) judged.old }
-    requires kept { KeepsLibraries (sources_of libs.now) kept.now }
-    ensures is { IfOk result (λ one. IsJudged (slot_of name.now file.now libs.now)
-        (content_of kept.now.accepted.items one.content) one.refusal) }
-    ensures loadable { IfOk result (λ one. IsSwapLoadable (length kept.now.accepted.items) name.now one.content) }
-    ensures judged { AreJudged (sources_of libs.now) judged.new }
-{
-    match judge_slot(alloc, name, file, libs, judged) {
-        Ok(widget) => {
-            let content = runs(alloc, widget, kept)?;
-            Ok(JudgedContent {
-                content,
-                refusal: None,
-            })
+impl Later {
+    /// Judges a file for the slot of this name, over the libraries of its manifest: it brings its widget, or the first
+    /// rule that it breaks. A host that has loaded the page may be given what it brings. Other files can be judged
+    /// afterwards, also where memory was wanted.
+    pub fn judge(
+        &mut self,
+        alloc: Global,
+        name: &Text,
+        file: &SourceFile,
+        libs: &[SourceFile],
+    ) -> Result<JudgedContent, Memory>
+        requires small { IsSmall file.now }
+        requires small_libs { All IsSmall libs.now }
+        requires over { (accepted : List Accepted) × JudgesOver (sources_of libs.now) accepted self.old }
+        ensures is { IfOk result (λ one. (accepted : List Accepted) → JudgesOver (sources_of libs.now) accepted self.old
+            → IsJudged (slot_of name.now file.now libs.now) (content_of accepted one.content) one.refusal) }
+        ensures loadable { IfOk result (λ one. (accepted : List Accepted) → JudgesOver (sources_of libs.now) accepted self.old
+            → IsSwapLoadable (length accepted) name.now one.content) }
+        ensures stays { JudgesOn (sources_of libs.now) self.old self.new }
+    {
+        match judge_slot(alloc, name, file, libs, &mut self.judged) {
+            Ok(widget) => {
+                let content = runs(alloc, widget, self)?;
+                Ok(JudgedContent {
+                    content,
+                    refusal: None,
+                })
+            }
+            Err(SlotFault::Broken(refusal)) => Ok(refused(refusal)),
+            Err(SlotFault::Memory) => Err(Memory),
         }
-        Err(SlotFault::Broken(refusal)) => Ok(refused(refusal)),
-        Err(SlotFault::Memory) => Err(Memory),
     }
 }
 
@@ -65,14 +69,14 @@ fn refused(refusal: Refusal) -> JudgedContent
 }
 
 // What a host runs of a widget.
-fn runs(alloc: Global, widget: Widget, kept: &Kept) -> Result<SlotContent, Memory>
-    requires { All (λ place. place < length kept.now.places.items) widget.libs.items }
-    ensures content { IfOk result (λ content. content_of kept.now.accepted.items content ≡ Some (content_in kept.now widget)) }
-    ensures loadable { IfOk result (λ content. (s : Slot) → KeepsLibraries s.libs kept.now → IsAcceptedWidget s widget
-        → IsSwapLoadable (length kept.now.accepted.items) s.name content) }
+fn runs(alloc: Global, widget: Widget, later: &Later) -> Result<SlotContent, Memory>
+    requires { All (λ place. place < length later.now.places.items) widget.libs.items }
+    ensures content { IfOk result (λ content. (accepted : List Accepted) → content_of accepted content ≡ Some (content_in accepted later.now.places.items widget)) }
+    ensures loadable { IfOk result (λ content. (s : Slot) (accepted : List Accepted) → KeepsLibraries s.libs accepted later.now.places.items
+        → IsAcceptedWidget s widget → IsSwapLoadable (length accepted) s.name content) }
 {
     let Widget { form, libs, script } = widget;
-    let libs = places_of(alloc, &libs, &kept.places)?;
+    let libs = places_of(alloc, &libs, &later.places)?;
     Ok(SlotContent::Runs {
         body: form.body,
         libs,

@@ -9,26 +9,26 @@ use script_check::{ScriptFault, judge_script};
 use slot_check::{Known, Libraries, SourceFile};
 use std::alloc::Global;
 
-/// The libraries of a manifest that break no rule, and the place among them of each library of the
-/// manifest. The place of one that breaks a rule says nothing.
+/// What was found of the libraries of a manifest, so that files can be judged over them: what is known of each, and
+/// its place among those that were accepted. The place of one that breaks a rule says nothing.
 #[derive(Drop)]
-pub struct Kept {
-    pub accepted: Vec<Accepted>,
-    pub places: Vec<u32>,
+pub struct Later {
+    pub(crate) judged: Libraries,
+    pub(crate) places: Vec<u32>,
 }
 
-/// The libraries of a manifest, judged.
+/// The libraries of a manifest that break no rule, and what was found of all.
 #[derive(Drop)]
 pub struct Accepting {
-    pub judged: Libraries,
-    pub kept: Kept,
+    pub accepted: Vec<Accepted>,
+    pub later: Later,
 }
 
 /// Judges the libraries of a manifest.
 pub fn accept_libraries(alloc: Global, libs: &[SourceFile]) -> Result<Accepting, Memory>
     requires { All IsSmall libs.now }
-    ensures judged { IfOk result (λ all. AreJudged (sources_of libs.now) all.judged) }
-    ensures kept { IfOk result (λ all. KeepsLibraries (sources_of libs.now) all.kept) }
+    ensures judged { IfOk result (λ all. AreJudged (sources_of libs.now) all.later.judged) }
+    ensures kept { IfOk result (λ all. KeepsLibraries (sources_of libs.now) all.accepted.items all.later.places.items) }
 {
     let mut keys = Vec::new(alloc);
     let mut known = Vec::new(alloc);
@@ -43,9 +43,10 @@ pub fn accept_libraries(alloc: Global, libs: &[SourceFile]) -> Result<Accepting,
         known.push(judge_library(alloc, &lib.bytes, &mut accepted)?)?;
         keys.push(Text::from_str(alloc, lib.name.as_str())?)?;
     }
+    let judged = Libraries { keys, known };
     Ok(Accepting {
-        judged: Libraries { keys, known },
-        kept: Kept { accepted, places },
+        accepted,
+        later: Later { judged, places },
     })
 }
 

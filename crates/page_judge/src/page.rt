@@ -7,9 +7,9 @@ ghost use Rattle.page_spec.specs.Pages.{piece_of};
 ghost use Rattle.page_spec.specs.Loadable.{IsLoadable, AreLoadableSwaps, names_of};
 ghost use Rattle.page_judge.specs.Runs.{named, slots_named, pieces_from, pieces};
 ghost use Rattle.page_judge.specs.Fits.{IsFit};
-ghost use Rattle.page_judge.specs.Judged.{IsJudgedPage};
+ghost use Rattle.page_judge.specs.Judged.{IsJudgedPage, JudgesOver};
 
-use crate::libraries::accept_libraries;
+use crate::libraries::{Later, accept_libraries};
 use crate::slots::{judge_slots, named_slots};
 use crate::swaps::{JudgedSwaps, judge_swaps};
 use code_units::Memory;
@@ -18,18 +18,19 @@ use page_spec::{PageSpec, Piece};
 use slot_check::{Refusal, SourceFile};
 use std::alloc::Global;
 
-/// The page of a manifest for a host, and the first rule that each slot breaks, where it breaks one; and
-/// the same of the swaps of a trace.
+/// The page of a manifest for a host, and the first rule that each slot breaks, where it breaks one; the same of
+/// the swaps of a trace; and what was found of the libraries, for the files of later swaps.
 #[derive(Drop)]
 pub struct JudgedPage {
     pub spec: PageSpec,
     pub refusals: Vec<Option<Refusal>>,
     pub swaps: JudgedSwaps,
+    pub later: Later,
 }
 
 /// Judges the slots of a manifest with their files, over its libraries, and the files of swaps, each
 /// for the slot of its number and over the same libraries. A host may load the page and what the
-/// swaps bring.
+/// swaps bring. Files of later swaps can be judged over these libraries.
 pub fn judge_page(
     alloc: Global,
     manifest: Manifest,
@@ -48,24 +49,17 @@ pub fn judge_page(
     ensures page { IfOk result (IsJudgedPage manifest (sources_of files.now) (sources_of libs.now) (zip swap_slots.now (sources_of swap_files.now))) }
     ensures loadable { IfOk result (λ page. IsLoadable page.spec) }
     ensures swaps { IfOk result (λ page. AreLoadableSwaps (length page.spec.libs.items) (names_of page.spec) swap_slots.now page.swaps.contents.items) }
+    ensures later { IfOk result (λ page. JudgesOver (sources_of libs.now) page.spec.libs.items page.later) }
 {
     let all = accept_libraries(alloc, libs)?;
-    let mut judged = all.judged;
-    let kept = all.kept;
+    let accepted = all.accepted;
+    let mut later = all.later;
     let names = named_slots(alloc, &manifest.entries)?;
-    let slots = judge_slots(alloc, &names, files, libs, &mut judged, &kept)?;
-    let swaps = judge_swaps(
-        alloc,
-        &names,
-        swap_slots,
-        swap_files,
-        libs,
-        &mut judged,
-        &kept,
-    )?;
+    let slots = judge_slots(alloc, &names, files, libs, &mut later)?;
+    let swaps = judge_swaps(alloc, &names, swap_slots, swap_files, libs, &mut later)?;
     let spec = PageSpec {
         pieces: pieces_of(alloc, manifest.entries)?,
-        libs: kept.accepted,
+        libs: accepted,
         slots: slots.slots,
         channels: manifest.channels,
     };
@@ -73,6 +67,7 @@ pub fn judge_page(
         spec,
         refusals: slots.refusals,
         swaps,
+        later,
     })
 }
 

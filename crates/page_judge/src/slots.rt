@@ -1,18 +1,18 @@
 //! The slots of a page, each with its widget or the first rule that it breaks.
-ghost use Rattle.std.specs.Prelude.{◌≡◌, ◌++◌, All, length, map, IfOk, OnOk};
+ghost use Rattle.std.specs.Prelude.{◌≡◌, ◌++◌, All, List, length, map, IfOk, OnOk};
+ghost use Rattle.adsafe_rules.specs.declared.accepted.Accepted.{Accepted};
 ghost use Rattle.manifest_reader.specs.Page.{part_of};
-ghost use Rattle.slot_check.specs.Verdicts.{sources_of, IsSmall, AreJudged};
+ghost use Rattle.slot_check.specs.Verdicts.{sources_of, IsSmall};
 ghost use Rattle.page_spec.specs.declared.SlotSpec.{SlotSpec as SlotSpecOf};
 ghost use Rattle.page_spec.specs.Loadable.{IsSwapLoadable};
 ghost use Rattle.page_judge.specs.Runs.{named, slots_named, runs_over};
-ghost use Rattle.page_judge.specs.Judged.{KeepsLibraries, name_of, run_of, IsJudgedSlot, AreJudgedSlots};
+ghost use Rattle.page_judge.specs.Judged.{JudgesOn, JudgesOver, name_of, run_of, IsJudgedSlot, AreJudgedSlots};
 
-use crate::contents::judge_content;
-use crate::libraries::Kept;
+use crate::libraries::Later;
 use code_units::{Memory, Text};
 use manifest_reader::Entry;
 use page_spec::SlotSpec;
-use slot_check::{Libraries, Refusal, SourceFile};
+use slot_check::{Refusal, SourceFile};
 use std::alloc::Global;
 
 /// The name of a slot, and the fuel of each of its turns.
@@ -69,23 +69,22 @@ pub fn judge_slots(
     names: &[NamedSlot],
     files: &[SourceFile],
     libs: &[SourceFile],
-    judged: &mut Libraries,
-    kept: &Kept,
+    later: &mut Later,
 ) -> Result<JudgedSlots, Memory>
     requires paired { length names.now ≡ length files.now }
     requires small { All IsSmall files.now }
     requires small_libs { All IsSmall libs.now }
-    requires judged { AreJudged (sources_of libs.now) judged.old }
-    requires kept { KeepsLibraries (sources_of libs.now) kept.now }
-    ensures slots { IfOk result (λ all. AreJudgedSlots kept.now.accepted.items
+    requires over { (accepted : List Accepted) × JudgesOver (sources_of libs.now) accepted later.old }
+    ensures slots { IfOk result (λ all. (accepted : List Accepted) → JudgesOver (sources_of libs.now) accepted later.old → AreJudgedSlots accepted
         (runs_over (sources_of libs.now) (map name_of names.now) (sources_of files.now)) all.slots.items all.refusals.items) }
-    ensures loadable { IfOk result (λ all. All (λ (s : SlotSpecOf). IsSwapLoadable (length kept.now.accepted.items) s.name s.content) all.slots.items) }
-    ensures judged { OnOk result (AreJudged (sources_of libs.now) judged.new) }
+    ensures loadable { IfOk result (λ all. (accepted : List Accepted) → JudgesOver (sources_of libs.now) accepted later.old
+        → All (λ (s : SlotSpecOf). IsSwapLoadable (length accepted) s.name s.content) all.slots.items) }
+    ensures stays { OnOk result (JudgesOn (sources_of libs.now) later.old later.new) }
 {
     let mut slots = Vec::new(alloc);
     let mut refusals = Vec::new(alloc);
     'names: for (i, name) in names.iter().enumerate() {
-        let one = judge_one(alloc, name, &files[i], libs, judged, kept)?;
+        let one = judge_one(alloc, name, &files[i], libs, later)?;
         slots.push(one.slot)?;
         refusals.push(one.refusal)?;
     }
@@ -98,20 +97,19 @@ fn judge_one(
     name: &NamedSlot,
     file: &SourceFile,
     libs: &[SourceFile],
-    judged: &mut Libraries,
-    kept: &Kept,
+    later: &mut Later,
 ) -> Result<JudgedSlot, Memory>
     requires small { IsSmall file.now }
     requires small_libs { All IsSmall libs.now }
-    requires judged { AreJudged (sources_of libs.now) judged.old }
-    requires kept { KeepsLibraries (sources_of libs.now) kept.now }
-    ensures slot { IfOk result (λ one. IsJudgedSlot kept.now.accepted.items
-        (run_of name.now file.now libs.now) one.slot one.refusal) }
-    ensures loadable { IfOk result (λ one. IsSwapLoadable (length kept.now.accepted.items) name.now.name one.slot.content) }
-    ensures judged { AreJudged (sources_of libs.now) judged.new }
+    requires over { (accepted : List Accepted) × JudgesOver (sources_of libs.now) accepted later.old }
+    ensures slot { IfOk result (λ one. (accepted : List Accepted) → JudgesOver (sources_of libs.now) accepted later.old
+        → IsJudgedSlot accepted (run_of name.now file.now libs.now) one.slot one.refusal) }
+    ensures loadable { IfOk result (λ one. (accepted : List Accepted) → JudgesOver (sources_of libs.now) accepted later.old
+        → IsSwapLoadable (length accepted) name.now.name one.slot.content) }
+    ensures stays { JudgesOn (sources_of libs.now) later.old later.new }
 {
     let key = name.name.share()?;
-    let one = judge_content(alloc, &name.name, file, libs, judged, kept)?;
+    let one = later.judge(alloc, &name.name, file, libs)?;
     Ok(JudgedSlot {
         slot: SlotSpec {
             name: key,

@@ -1,18 +1,18 @@
 //! What the files of swaps bring.
-ghost use Rattle.std.specs.Prelude.{◌≡◌, ◌<◌, All, List, length, map, IfOk};
+ghost use Rattle.std.specs.Prelude.{◌≡◌, ◌<◌, All, List, length, map, IfOk, OnOk};
 ghost use Rattle.std.specs.List.{zip};
+ghost use Rattle.adsafe_rules.specs.declared.accepted.Accepted.{Accepted};
 ghost use Rattle.slot_check.specs.Sources.{Source};
-ghost use Rattle.slot_check.specs.Verdicts.{sources_of, IsSmall, AreJudged};
+ghost use Rattle.slot_check.specs.Verdicts.{sources_of, IsSmall};
 ghost use Rattle.page_spec.specs.Loadable.{AreLoadableSwaps};
 ghost use Rattle.page_judge.specs.Runs.{runs_over, swap_runs};
-ghost use Rattle.page_judge.specs.Judged.{KeepsLibraries, AreJudgedSwaps, name_of, key_of};
+ghost use Rattle.page_judge.specs.Judged.{JudgesOn, JudgesOver, AreJudgedSwaps, name_of, key_of};
 
-use crate::contents::judge_content;
-use crate::libraries::Kept;
+use crate::libraries::Later;
 use crate::slots::NamedSlot;
 use code_units::Memory;
 use page_spec::SlotContent;
-use slot_check::{Libraries, Refusal, SourceFile};
+use slot_check::{Refusal, SourceFile};
 use std::alloc::Global;
 
 /// What each swap brings into its slot, and the first rule that it breaks there, where it breaks one.
@@ -30,24 +30,25 @@ pub fn judge_swaps(
     slots: &[u32],
     files: &[SourceFile],
     libs: &[SourceFile],
-    judged: &mut Libraries,
-    kept: &Kept,
+    later: &mut Later,
 ) -> Result<JudgedSwaps, Memory>
     requires paired { length slots.now ≡ length files.now }
     requires there { All (λ to. to < length names.now) slots.now }
     requires small { All IsSmall files.now }
     requires small_libs { All IsSmall libs.now }
-    requires judged { AreJudged (sources_of libs.now) judged.old }
-    requires kept { KeepsLibraries (sources_of libs.now) kept.now }
-    ensures judged { IfOk result (λ all. (own : List Source) → length own ≡ length names.now → AreJudgedSwaps kept.now.accepted.items
+    requires over { (accepted : List Accepted) × JudgesOver (sources_of libs.now) accepted later.old }
+    ensures judged { IfOk result (λ all. (accepted : List Accepted) → JudgesOver (sources_of libs.now) accepted later.old
+        → (own : List Source) → length own ≡ length names.now → AreJudgedSwaps accepted
         (swap_runs (runs_over (sources_of libs.now) (map name_of names.now) own) (zip slots.now (sources_of files.now))) all.contents.items all.refusals.items) }
-    ensures loadable { IfOk result (λ all. AreLoadableSwaps (length kept.now.accepted.items) (map key_of names.now) slots.now all.contents.items) }
+    ensures loadable { IfOk result (λ all. (accepted : List Accepted) → JudgesOver (sources_of libs.now) accepted later.old
+        → AreLoadableSwaps (length accepted) (map key_of names.now) slots.now all.contents.items) }
+    ensures stays { OnOk result (JudgesOn (sources_of libs.now) later.old later.new) }
 {
     let mut contents = Vec::new(alloc);
     let mut refusals = Vec::new(alloc);
     'swaps: for (i, to) in slots.iter().enumerate() {
         let slot = &names[*to as usize];
-        let one = judge_content(alloc, &slot.name, &files[i], libs, judged, kept)?;
+        let one = later.judge(alloc, &slot.name, &files[i], libs)?;
         contents.push(one.content)?;
         refusals.push(one.refusal)?;
     }

@@ -4,9 +4,12 @@ use Rattle.manifest_reader.specs.Page.{part_of}
 use Rattle.slot_check.specs.Verdicts.{source_of, sources_of}
 use Rattle.page_judge.specs.declared.page.JudgedPage.{JudgedPage}
 use Rattle.page_judge.specs.Runs.{slots_named}
-use Rattle.page_judge.specs.Judged.{name_of}
+use Rattle.page_judge.specs.Judged.{JudgesOver, name_of}
 use Rattle.page_judge.proofs.Loads.{whole_page, whole_loadable, swaps_loadable, there_within}
 use Rattle.page_judge.proofs.page.judge_page.Goals as goal
+
+pub judge_slots-requires-clause-over : goal.judge_slots-requires-clause-over
+judge_slots-requires-clause-over c = (c.in_ok-all.all.accepted.items, record { judged = c.in_ok-all.ensures.judged; kept = c.in_ok-all.ensures.kept })
 
 pub judge_swaps-requires-clause-there : goal.judge_swaps-requires-clause-there
 judge_swaps-requires-clause-there c =
@@ -14,18 +17,35 @@ judge_swaps-requires-clause-there c =
     let many : length c.args.files.now ≡ length c.deref-3.result.now = sym c.requires.paired ∙ sym (ap length named) ∙ length-map c.in_ok-names.names.items name_of ∙ sym (ap length c.deref-3.ensures.value) in
     there_within c.args.swap_slots.now (length c.args.files.now) (length c.deref-3.result.now) many c.requires.there
 
+pub judge_swaps-requires-clause-over : goal.judge_swaps-requires-clause-over
+judge_swaps-requires-clause-over c =
+    let scripts = c.in_ok-all.all.accepted.items in
+    let over : JudgesOver (sources_of c.args.libs.now) scripts c.in_ok-all.all.later = record { judged = c.in_ok-all.ensures.judged; kept = c.in_ok-all.ensures.kept } in
+    (scripts, c.in_ok-slots.ensures.stays scripts over)
+
 pub returns-clause-page : goal.returns-clause-page
 returns-clause-page c =
-    whole_page c.args.manifest (sources_of c.args.libs.now) (sources_of c.args.files.now) c.in_ok-all.all.kept _ c.in_ok-names.names.items (c.in_ok-names.ensures ∙ ap (λ es. slots_named (map part_of es)) c.deref.ensures.value) c.requires.fit (c.requires.paired ∙ sym (length-map c.args.files.now source_of)) c.in_ok-all.ensures.kept refl refl (rw c.deref-2.ensures.value at c.in_ok-slots.ensures.slots) c.in_ok-slots.ensures.loadable c.in_ok-pieces_of.ensures
-    c.args.swap_slots.now (sources_of c.args.swap_files.now) (rw c.deref-3.ensures.value at c.in_ok-swaps.ensures.judged)
+    let scripts = c.in_ok-all.all.accepted.items in
+    let over : JudgesOver (sources_of c.args.libs.now) scripts c.in_ok-all.all.later = record { judged = c.in_ok-all.ensures.judged; kept = c.in_ok-all.ensures.kept } in
+    whole_page c.args.manifest (sources_of c.args.libs.now) (sources_of c.args.files.now) scripts _ c.in_ok-names.names.items (c.in_ok-names.ensures ∙ ap (λ es. slots_named (map part_of es)) c.deref.ensures.value) c.requires.fit (c.requires.paired ∙ sym (length-map c.args.files.now source_of)) over.kept.clean refl refl (rw c.deref-2.ensures.value at (c.in_ok-slots.ensures.slots scripts over)) (c.in_ok-slots.ensures.loadable scripts over) c.in_ok-pieces_of.ensures
+    c.args.swap_slots.now (sources_of c.args.swap_files.now) (rw c.deref-3.ensures.value at (c.in_ok-swaps.ensures.judged scripts (c.in_ok-slots.ensures.stays scripts over)))
 
 pub returns-clause-loadable : goal.returns-clause-loadable
 returns-clause-loadable c =
-    let page : JudgedPage = record { spec = record { pieces = c.in_ok-pieces_of.field-0; libs = c.in_ok-all.all.kept.accepted; slots = c.in_ok-slots.slots.slots; channels = c.args.manifest.channels }; refusals = c.in_ok-slots.slots.refusals; swaps = c.in_ok-swaps.swaps } in
-    whole_loadable c.args.manifest (sources_of c.args.libs.now) (sources_of c.args.files.now) c.in_ok-all.all.kept page c.in_ok-names.names.items (c.in_ok-names.ensures ∙ ap (λ es. slots_named (map part_of es)) c.deref.ensures.value) c.requires.fit (c.requires.paired ∙ sym (length-map c.args.files.now source_of)) c.in_ok-all.ensures.kept refl refl (rw c.deref-2.ensures.value at c.in_ok-slots.ensures.slots) c.in_ok-slots.ensures.loadable c.in_ok-pieces_of.ensures
+    let scripts = c.in_ok-all.all.accepted.items in
+    let over : JudgesOver (sources_of c.args.libs.now) scripts c.in_ok-all.all.later = record { judged = c.in_ok-all.ensures.judged; kept = c.in_ok-all.ensures.kept } in
+    let page : JudgedPage = record { spec = record { pieces = c.in_ok-pieces_of.field-0; libs = c.in_ok-all.all.accepted; slots = c.in_ok-slots.slots.slots; channels = c.args.manifest.channels }; refusals = c.in_ok-slots.slots.refusals; swaps = c.in_ok-swaps.swaps; later = c.judge_swaps.new.later } in
+    whole_loadable c.args.manifest (sources_of c.args.libs.now) (sources_of c.args.files.now) scripts page c.in_ok-names.names.items (c.in_ok-names.ensures ∙ ap (λ es. slots_named (map part_of es)) c.deref.ensures.value) c.requires.fit (c.requires.paired ∙ sym (length-map c.args.files.now source_of)) over.kept.clean refl refl (rw c.deref-2.ensures.value at (c.in_ok-slots.ensures.slots scripts over)) (c.in_ok-slots.ensures.loadable scripts over) c.in_ok-pieces_of.ensures
 
 pub returns-clause-swaps : goal.returns-clause-swaps
 returns-clause-swaps c =
-    let page : JudgedPage = record { spec = record { pieces = c.in_ok-pieces_of.field-0; libs = c.in_ok-all.all.kept.accepted; slots = c.in_ok-slots.slots.slots; channels = c.args.manifest.channels }; refusals = c.in_ok-slots.slots.refusals; swaps = c.in_ok-swaps.swaps } in
-    swaps_loadable c.args.manifest (sources_of c.args.libs.now) (sources_of c.args.files.now) c.in_ok-all.all.kept page c.in_ok-names.names.items (c.in_ok-names.ensures ∙ ap (λ es. slots_named (map part_of es)) c.deref.ensures.value) c.requires.fit (c.requires.paired ∙ sym (length-map c.args.files.now source_of)) c.in_ok-all.ensures.kept refl refl (rw c.deref-2.ensures.value at c.in_ok-slots.ensures.slots) c.in_ok-slots.ensures.loadable c.in_ok-pieces_of.ensures
-    c.args.swap_slots.now (rw c.deref-3.ensures.value at c.in_ok-swaps.ensures.loadable)
+    let scripts = c.in_ok-all.all.accepted.items in
+    let over : JudgesOver (sources_of c.args.libs.now) scripts c.in_ok-all.all.later = record { judged = c.in_ok-all.ensures.judged; kept = c.in_ok-all.ensures.kept } in
+    let page : JudgedPage = record { spec = record { pieces = c.in_ok-pieces_of.field-0; libs = c.in_ok-all.all.accepted; slots = c.in_ok-slots.slots.slots; channels = c.args.manifest.channels }; refusals = c.in_ok-slots.slots.refusals; swaps = c.in_ok-swaps.swaps; later = c.judge_swaps.new.later } in
+    swaps_loadable c.args.manifest (sources_of c.args.libs.now) (sources_of c.args.files.now) scripts page c.in_ok-names.names.items (c.in_ok-names.ensures ∙ ap (λ es. slots_named (map part_of es)) c.deref.ensures.value) c.requires.fit (c.requires.paired ∙ sym (length-map c.args.files.now source_of)) over.kept.clean refl refl (rw c.deref-2.ensures.value at (c.in_ok-slots.ensures.slots scripts over)) (c.in_ok-slots.ensures.loadable scripts over) c.in_ok-pieces_of.ensures
+    c.args.swap_slots.now (rw c.deref-3.ensures.value at (c.in_ok-swaps.ensures.loadable scripts (c.in_ok-slots.ensures.stays scripts over)))
+
+pub returns-clause-later : goal.returns-clause-later
+returns-clause-later c =
+    let scripts = c.in_ok-all.all.accepted.items in
+    c.in_ok-swaps.ensures.stays scripts (c.in_ok-slots.ensures.stays scripts (record { judged = c.in_ok-all.ensures.judged; kept = c.in_ok-all.ensures.kept }))

@@ -5,10 +5,13 @@ use Rattle.page_judge.proofs.swaps.judge_swaps.Goals as goal
 
 pub swaps-init : goal.swaps-init
 swaps-init c = record {
-  swaps = no_swaps c.args.kept.now.accepted.items (sources_of c.args.libs.now) c.args.names.now c.new-contents.result.items c.new-refusals.result.items c.new-contents.ensures.items c.new-refusals.ensures.items;
-  loadable = none_fit (length c.args.kept.now.accepted.items) c.args.names.now c.new-contents.result.items c.new-contents.ensures.items;
-  judged = c.requires.judged;
+  swaps = λ scripts over. no_swaps scripts (sources_of c.args.libs.now) c.args.names.now c.new-contents.result.items c.new-refusals.result.items c.new-contents.ensures.items c.new-refusals.ensures.items;
+  loadable = λ scripts over. none_fit (length scripts) c.args.names.now c.new-contents.result.items c.new-contents.ensures.items;
+  stays = λ scripts over. over;
 }
+
+pub judge-requires-clause-over : goal.judge-requires-clause-over
+judge-requires-clause-over c = (c.requires.over.0, c.swaps.invariant.stays c.requires.over.0 c.requires.over.1)
 
 pub swaps-preserved : goal.swaps-preserved
 swaps-preserved c =
@@ -16,13 +19,16 @@ swaps-preserved c =
     let to = get_or c.args.slots.now i 0 in
     let there : to < length c.args.names.now = c.requires.there i 0 c.swaps-test.true in
     record {
-      swaps = swaps_more c.args.libs.now c.args.names.now c.args.slots.now c.args.files.now i to c.index-names-to.result c.index-files-i.result c.requires.paired c.swaps-test.true there refl c.index-names-to.is c.index-files-i.is c.args.kept.now.accepted.items c.swaps.contents.items c.push.new.self.items c.swaps.refusals.items c.push-in-swaps.new.self.items c.in_ok-one.one.content c.in_ok-one.one.refusal c.swaps.invariant.swaps c.in_ok-one.ensures.is c.in_ok-push.ensures.items c.in_ok-push-2.ensures.items;
-      loadable = fit_more c.args.libs.now c.args.names.now c.args.slots.now c.args.files.now i to c.index-names-to.result c.index-files-i.result c.requires.paired c.swaps-test.true there refl c.index-names-to.is c.index-files-i.is (length c.args.kept.now.accepted.items) c.swaps.contents.items c.push.new.self.items c.in_ok-one.one.content c.swaps.invariant.loadable c.in_ok-one.ensures.loadable c.in_ok-push.ensures.items;
-      judged = c.in_ok-one.ensures.judged;
+      swaps = λ scripts over. swaps_more c.args.libs.now c.args.names.now c.args.slots.now c.args.files.now i to c.index-names-to.result c.index-files-i.result c.requires.paired c.swaps-test.true there refl c.index-names-to.is c.index-files-i.is scripts c.swaps.contents.items c.push.new.self.items c.swaps.refusals.items c.push-in-swaps.new.self.items c.in_ok-one.one.content c.in_ok-one.one.refusal (c.swaps.invariant.swaps scripts over) (c.in_ok-one.ensures.is scripts (c.swaps.invariant.stays scripts over)) c.in_ok-push.ensures.items c.in_ok-push-2.ensures.items;
+      loadable = λ scripts over. fit_more c.args.libs.now c.args.names.now c.args.slots.now c.args.files.now i to c.index-names-to.result c.index-files-i.result c.requires.paired c.swaps-test.true there refl c.index-names-to.is c.index-files-i.is (length scripts) c.swaps.contents.items c.push.new.self.items c.in_ok-one.one.content (c.swaps.invariant.loadable scripts over) (c.in_ok-one.ensures.loadable scripts (c.swaps.invariant.stays scripts over)) c.in_ok-push.ensures.items;
+      stays = λ scripts over. c.in_ok-one.ensures.stays scripts (c.swaps.invariant.stays scripts over);
     }
 
 pub returns-clause-judged : goal.returns-clause-judged
-returns-clause-judged c = swaps_all c.args.kept.now.accepted.items (sources_of c.args.libs.now) c.args.names.now c.args.slots.now c.args.files.now c.swaps.i c.swaps.contents.items c.swaps.refusals.items c.requires.paired c.swaps-test.false c.swaps.invariant.swaps
+returns-clause-judged c = λ scripts over. swaps_all scripts (sources_of c.args.libs.now) c.args.names.now c.args.slots.now c.args.files.now c.swaps.i c.swaps.contents.items c.swaps.refusals.items c.requires.paired c.swaps-test.false (c.swaps.invariant.swaps scripts over)
 
 pub returns-clause-loadable : goal.returns-clause-loadable
-returns-clause-loadable c = fit_all (length c.args.kept.now.accepted.items) c.args.names.now c.args.slots.now c.swaps.i c.swaps.contents.items c.swaps-test.false c.swaps.invariant.loadable
+returns-clause-loadable c = λ scripts over. fit_all (length scripts) c.args.names.now c.args.slots.now c.swaps.i c.swaps.contents.items c.swaps-test.false (c.swaps.invariant.loadable scripts over)
+
+pub returns-clause-stays : goal.returns-clause-stays
+returns-clause-stays c = c.swaps.invariant.stays
