@@ -1,16 +1,16 @@
-mod Begun
-mod Chained
-mod Scripted
-mod Born
-mod Given
-mod Ordered
-mod Ended
-mod Swapping
-mod Matching
-mod Living
-mod Outcomes
-mod LawsHold
-mod Telling
-mod Finding
-mod Reporting
-mod Giving
+pub mod Begun
+pub mod Chained
+pub mod Scripted
+pub mod Born
+pub mod Given
+pub mod Ordered
+pub mod Ended
+pub mod Swapping
+pub mod Matching
+pub mod Living
+pub mod Outcomes
+pub mod LawsHold
+pub mod Telling
+pub mod Finding
+pub mod Reporting
+pub mod Giving

@@ -47,8 +47,9 @@ fn state_of(stop: Option<Stop>) -> State
     }
 }
 
-/// The line of a life whose file breaks a rule.
-pub(crate) fn refused_line(
+/// The line of a life whose file breaks this rule first, under the name of its slot; `until` is the position of the swap
+/// that ended it, counted from 1. The only error is want of memory.
+pub fn refused_line(
     alloc: Global,
     name: &Text,
     until: Option<u32>,

@@ -38,7 +38,7 @@ pub fn report(alloc: Global, findings: &Findings, host: &Host) -> Result<Vec<u8>
         → IsReport parts spec.channels.items runs files items (found_refused findings.now) bytes.items) }
 {
     plays_come_to();
-    tell(alloc, findings, host)
+    report_of(alloc, findings, host)
 }
 
 /// The certificate of reach of a page: of each slot by its last life.
@@ -56,8 +56,9 @@ pub fn certificate(alloc: Global, host: &Host) -> Result<Vec<u8>, Memory>
     Ok(bytes)
 }
 
-// The report on a page, where its lives come to this.
-fn tell(alloc: Global, findings: &Findings, host: &Host) -> Result<Vec<u8>, Memory>
+/// The report on a page at any time, by what its lives show and what was found of their files: in the form of
+/// `report`. The only error is want of memory.
+pub fn report_of(alloc: Global, findings: &Findings, host: &Host) -> Result<Vec<u8>, Memory>
     requires told { (owns before : List (Option OwnState)) × AreTold findings.now host.now owns before }
     ensures { IfOk result (λ bytes. (owns before : List (Option OwnState)) (names : List (List ℕ)) (pieces : List PagePiece)
         → AreTold findings.now host.now owns before → IsLaid host.now names pieces → Reports findings.now names pieces owns before bytes.items) }
@@ -105,8 +106,9 @@ fn push_ended(
     Ok(())
 }
 
-// The line of the last life of a slot.
-fn last_line(alloc: Global, findings: &Findings, host: &Host, w: u32) -> Result<Line, Memory>
+/// The line of the last life of the slot with number w: what that life did, or the first rule that its file breaks. The
+/// only error is want of memory.
+pub fn last_line(alloc: Global, findings: &Findings, host: &Host, w: u32) -> Result<Line, Memory>
     requires told { (owns before : List (Option OwnState)) × AreTold findings.now host.now owns before }
     requires there { w < length findings.now.names.items }
     ensures { IfOk result (λ line. (owns before : List (Option OwnState)) (own : Option OwnState) → AreTold findings.now host.now owns before
