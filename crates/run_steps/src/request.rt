@@ -8,7 +8,7 @@ ghost use Rattle.run_steps.specs.Request.{IsCount, request_of, Asks, IsForm};
 use itoa::Buffer;
 
 /// The greatest slice of `replay` and `audit`.
-const SLICE_LIMIT: u32 = 1_000_000;
+pub const SLICE_LIMIT: u32 = 1_000_000;
 
 /// The greatest number of `demo`.
 const DEMO_LIMIT: u32 = 4_096;
@@ -128,9 +128,9 @@ fn parse_four<'a>(form: &str, manifest: &'a str, trace: &'a str, word: &str) -> 
     None
 }
 
-// The number from 1 to a limit that the word is, in decimal digits without a leading zero.
+/// The number from 1 to a limit that the word is, in decimal digits without a leading zero.
 #[tactic(auto, using(crate::proofs::Counting::count_of))]
-fn read_count(word: &str, limit: u32) -> Option<u32>
+pub fn read_count(word: &str, limit: u32) -> Option<u32>
     ensures some { IfSome result (IsCount limit word.now) }
     ensures none { IfNone result ((number : ℕ) → ¬ IsCount limit word.now number) }
 {
