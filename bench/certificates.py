@@ -1,4 +1,4 @@
-"""Time and memory of a certificate of the greatest length. README.md says how the program is built."""
+"""Time and memory of `check-audit` on certificates of the greatest length."""
 import itertools
 import sys
 
@@ -47,9 +47,9 @@ def main():
     ]
     met = True
     for name, text, goal in cases:
-        status, time, memory, answer = best({"c.txt": text}, ["c.txt"], 5)
+        status, time, memory, answer = best({"c.txt": text}, ["check-audit", "c.txt"], 5)
         times = memory * 1048576 / len(text)
-        met = met and status == 0 and time < 1000 and (goal is None or times <= goal)
+        met = met and status in (0, 1) and time < 1000 and (goal is None or times <= goal)
         print("%s: %.0f ms, %.0f MB, %.1f times the bytes; %s" % (name, time, memory, times, answer.strip()))
     sys.exit(not met)
 

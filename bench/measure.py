@@ -1,5 +1,6 @@
 """Runs the built program and says what it took."""
 import os
+import re
 import subprocess
 import sys
 import tempfile
@@ -33,10 +34,23 @@ def run(folder, words, program=PROGRAM):
     return int(status), float(time), float(memory), ran.stdout.decode()
 
 
+def put(files, folder):
+    for name, text in files.items():
+        with open(os.path.join(folder, name), "w") as file:
+            file.write(text)
+
+
 def best(files, words, times=7, program=PROGRAM):
     """The same over these files: the least time of some runs."""
     with tempfile.TemporaryDirectory() as folder:
-        for name, text in files.items():
-            with open(os.path.join(folder, name), "w") as file:
-                file.write(text)
+        put(files, folder)
         return min((run(folder, words, program) for _ in range(times)), key=lambda result: result[1])
+
+
+def instructions(files, words):
+    """How many instructions a run takes, counted by valgrind: the same at each run."""
+    counts = ["valgrind", "--tool=cachegrind", "--cache-sim=no", "--cachegrind-out-file=/dev/null", PROGRAM]
+    with tempfile.TemporaryDirectory() as folder:
+        put(files, folder)
+        ran = subprocess.run(counts + words, cwd=folder, stdout=subprocess.DEVNULL, stderr=subprocess.PIPE)
+    return int(re.search(rb"I\s+refs:\s+([\d,]+)", ran.stderr)[1].replace(b",", b""))

@@ -24,11 +24,13 @@ def library(name, body):
     return {name + ".js": 'ADSAFE.lib("%s", function (lib) {%s});\n' % (name, body)}
 
 
-def manifest(entries, fuel=FUEL, libs=()):
-    return json.dumps({"version": 1, "page": entries, "fuel": fuel, "libs": list(libs)})
+def manifest(entries, fuel=FUEL, libs=(), channels=()):
+    """The channels are pairs of the numbers of slots."""
+    pairs = [[name_of(sender), name_of(receiver)] for sender, receiver in channels]
+    return json.dumps({"version": 2, "page": entries, "fuel": fuel, "libs": list(libs), "channels": pairs})
 
 
-def page(bodies, markup="<p>hi</p>", fuel=FUEL, html="", libs=None):
+def page(bodies, markup="<p>hi</p>", fuel=FUEL, html="", libs=None, channels=()):
     """The files of a page of widgets with these bodies, behind the host's own markup."""
     libs = libs or {}
     entries = [{"html": html}] if html else []
@@ -37,7 +39,7 @@ def page(bodies, markup="<p>hi</p>", fuel=FUEL, html="", libs=None):
         name = name_of(slot)
         files["w%d.html" % slot] = widget(name, body, markup, list(libs))
         entries.append({"widget": name, "file": "w%d.html" % slot})
-    files["m.json"] = manifest(entries, fuel, libs)
+    files["m.json"] = manifest(entries, fuel, libs, channels)
     return files
 
 
@@ -49,12 +51,20 @@ def advance(milliseconds):
     return {"advance": milliseconds}
 
 
+def swap(slot, file):
+    return {"swap": name_of(slot), "file": file}
+
+
+def traced(files, items):
+    """The files, and the trace of these items."""
+    return dict(files, **{"t.json": json.dumps({"version": 2, "items": items}, separators=(",", ":"))})
+
+
 def ran(files, items=None, slice=1000000, times=1):
     """Milliseconds, megabytes and the lines of a run; without items it is `render`."""
     words = ["render", "m.json"]
     if items is not None:
-        files = dict(files, **{"t.json": json.dumps({"version": 1, "items": items}, separators=(",", ":"))})
-        words = ["replay", "m.json", "t.json", str(slice)]
+        files, words = traced(files, items), ["replay", "m.json", "t.json", str(slice)]
     status, time, memory, out = best(files, words, times)
     if status not in (0, 1):
         return time, memory, [{"state": "status %d" % status, "spent": 0, "turns": 0, "log": [], "uncaught": []}]

@@ -56,9 +56,9 @@ QUOTAS = [
     Quota("titles", "units", "b.title('abcd');", 0, "var b = dom.q('p');"),
     Quota("detached nodes", "nodes", "x = dom.tag('i');"),
     Quota("nodes in the page", "nodes", "dom.append(dom.tag('i'));"),
-    Quota("nearly all of nodes, cells and slots, then units", "units",
-          "if (n < 16000) { dom.append(dom.tag('i')); } else if (n < 500000) { x = {a: x}; }"
-          " else if (n < 980000) { f(); } else { ADSAFE.log('a'); }"),
+    Quota("nearly all of cells, nodes and slots, then units, each by what is largest", "units",
+          "if (n < 490000) { x = b.q('b'); } else if (n < 506000) { dom.append(dom.tag('i')); }"
+          " else if (n < 980000) { f(); } else { ADSAFE.log('ab'.charAt(1)); }", 0, "var b = dom.q('p');"),
 ]
 
 CASES = [
