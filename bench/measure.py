@@ -13,7 +13,7 @@ WAITS = """
 import os, resource, sys
 child = os.fork()
 if child == 0:
-    resource.setrlimit(resource.RLIMIT_CPU, (120, 120))
+    resource.setrlimit(resource.RLIMIT_CPU, (300, 300))
     resource.setrlimit(resource.RLIMIT_AS, (8 << 30, 8 << 30))
     os.execv(sys.argv[1], sys.argv[1:])
 _, status, used = os.wait4(child, 0)
@@ -25,7 +25,7 @@ print(os.waitstatus_to_exitcode(status), time, used.ru_maxrss / 1024, file=sys.s
 def run(folder, words, program=PROGRAM):
     """The status, milliseconds of processor time, megabytes at most, and output of one run.
 
-    A run that takes more than 120 seconds is ended (its status is -9); one that asks for more than 8 GB
+    A run that takes more than 300 seconds is ended (its status is -9); one that asks for more than 8 GB
     meets want of memory.
     """
     command = [sys.executable, "-S", "-E", "-c", WAITS, program] + words

@@ -119,7 +119,8 @@ def at_limit():
         files, items = makes(step, count)
         length = len(best(traced(files, items), AUDIT, 1)[3])
     print("| A certificate of 16,777,216 bytes | Status | ms | MB |\n|---|---|---|---|")
-    for more, wanted in (0, 0), (1, 10):
+    # The slots that make it so long were refused: status 1.
+    for more, wanted in (0, 1), (1, 10):
         entries = [{"widget": "A_", "file": "w0.html"}] + refused_slots(LIMIT + more - length)
         tuned = traced(dict(files, **{"m.json": manifest(entries), "none.html": ""}), items)
         plain = best(tuned, ["replay", "m.json", "t.json", "1000000"], 3)
@@ -138,7 +139,7 @@ def lives():
     """Lives at their quotas: of one slot, and sixteen slots of which four are swapped."""
     print("| Lives at their quotas | ms | MB | MB a life |\n|---|---|---|---|")
     turns = [advance(60000)] * 2
-    for slots, swaps in (1, 0), (1, 1), (1, 4), (16, 0), (16, 4):
+    for slots, swaps in (1, 0), (1, 1), (1, 4), (16, 4):
         items = turns + [swap(number % slots, "w%d.html" % (number % slots)) for number in range(swaps)] + turns
         if slots == 1:
             items = turns + [item for _ in range(swaps) for item in [swap(0, "w0.html")] + turns]
