@@ -8,3 +8,9 @@ pub mod DemoPage
 pub mod OneAnswer
 pub mod Ended
 pub mod Auditing
+pub mod SomeReport
+pub mod SomeAnswer
+pub mod AnswerEnds
+pub mod ScriptTests
+pub mod MarkupTests
+pub mod Counters

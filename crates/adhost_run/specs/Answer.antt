@@ -1,5 +1,5 @@
 -- What a run answers.
-use Rattle.std.specs.Prelude.{◌≡◌, ℕ, ◌<◌, ◌≤◌, List, [], ◌∷◌, ◌++◌, map, length, take, codes, decimal, Option, Some, None, Bool, true, false}
+use Rattle.std.specs.Prelude.{◌≡◌, ℕ, ◌<◌, ◌≤◌, List, [], ◌++◌, map, length, take, codes, decimal, Option, Some, None, Bool, true, false}
 use Rattle.host_io.specs.Files.{FileMap}
 use Rattle.host_io.specs.Sink.{with_bytes}
 use Rattle.manifest_reader.specs.declared.entry.Manifest.{Manifest}

@@ -13,7 +13,7 @@ mod running;
 mod runs;
 mod writing;
 
-pub use laws::one_answer;
+pub use laws::{one_answer, some_answer};
 pub use run_steps::Status;
 pub use running::{exit_number, run};
 

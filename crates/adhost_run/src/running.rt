@@ -16,7 +16,7 @@ use std::alloc::Global;
 use std::mem;
 
 /// Does what the words ask for, over the files, and writes the report to the sink. What a run
-/// answers is `Answer`, which is one (`one_answer`).
+/// answers is `Answer`, which is one (`one_answer`), and is there (`some_answer`).
 pub fn run<F: Files, S: Sink>(
     alloc: Global,
     words: &[String],
