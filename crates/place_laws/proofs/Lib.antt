@@ -1,0 +1,11 @@
+pub mod Near
+pub mod Bared
+pub mod Alike
+pub mod Found
+pub mod Forms
+pub mod Natives
+pub mod Lists
+pub mod Adsafe
+pub mod Page
+pub mod Runs
+pub mod Alone
