@@ -1,0 +1,4 @@
+mod Handed
+mod Unlinked
+mod Stirred
+mod Rested

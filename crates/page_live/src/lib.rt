@@ -1,0 +1,8 @@
+//! A page while it lives: its host takes its items one after the other, with rounds of posts between them.
+#![tactic(auto)]
+
+mod hosting;
+mod laws;
+
+pub use hosting::{give_item, give_swap, load_page};
+pub use laws::live_pages;
