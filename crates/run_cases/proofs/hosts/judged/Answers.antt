@@ -1,6 +1,6 @@
 use Rattle.std.proofs.Common.{length, ap, arith}
 use Rattle.adhost_run.proofs.Paged.{names_within, as_many_named}
-use Rattle.run_cases.proofs.picks.judged.Goals as goal
+use Rattle.run_cases.proofs.hosts.judged.Goals as goal
 
 pub split_at-requires : goal.split_at-requires
 split_at-requires c =

@@ -1,0 +1,232 @@
+//! Calls of a host. A case has besides what its host is made of (module `hosts`):
+//!
+//! - `calls`, each a list: `["pick", slot, slice, answer]`; `["swap"]`, which gives the swap of the case;
+//!   `["give", milliseconds]`, an advance; `["item", milliseconds, slice, list]`, `["settle", slice, list]` and
+//!   `["rounds", slice, list]`, where the chooser goes by the list
+//! - `journal`: the picks that the host is to have kept then (module `journals`); and `page`, where the case
+//!   says: the page that it is to show
+ghost use Rattle.std.specs.Prelude.{◌<◌, ◌≤◌, IfOk, OnOk};
+ghost use Rattle.run_cases.specs.Ready.{IsReady};
+
+use crate::hosts::{Hosted, host_of, number_at};
+use crate::journals::{journal_of, wanted_journal};
+use adhost_run::widget_host::{Host, HostItem};
+use anyhow::{Result, bail};
+use pick_laws::Picked;
+use serde_json::Value;
+use std::alloc::Global;
+use test_cases::list_at;
+use turn_sched::Listed;
+
+// The most items that a host may be given, and the longest advance.
+const MOST_ITEMS: u32 = 4096;
+
+const MOST_MS: u32 = 60_000;
+
+/// Whether the calls of a case are answered, and leave the host, as is wanted.
+pub fn calls_as_wanted(alloc: Global, case: &Value) -> Result<bool> {
+    let mut hosted = host_of(alloc, case)?;
+    let are_answered = are_answered(alloc, &mut hosted, list_at(case, "calls")?)?;
+    Ok(
+        are_answered
+            && journal_of(alloc, &hosted.host)? == wanted_journal(alloc, case)?
+            && shows_page(alloc, &hosted.host, case)?,
+    )
+}
+
+// Whether the page is as a case says, where it says.
+fn shows_page(alloc: Global, host: &Host, case: &Value) -> Result<bool> {
+    let Some(wanted) = case.get("page").and_then(Value::as_str) else {
+        return Ok(true);
+    };
+    let mut page = Vec::new(alloc);
+    if host.print_page(alloc, &mut page).is_err() {
+        bail!("out of memory");
+    }
+    Ok(page.as_slice() == wanted.as_bytes())
+}
+
+// Whether calls are answered as is wanted.
+fn are_answered(alloc: Global, hosted: &mut Hosted, calls: &[Value]) -> Result<bool>
+    requires { IsReady hosted.old }
+{
+    'calls: for call in calls {
+        let Some(call) = call.as_array() else {
+            bail!("a call is no list");
+        };
+        if !is_answered(alloc, hosted, call)? {
+            return Ok(false);
+        }
+    }
+    Ok(true)
+}
+
+// Whether a call is answered as is wanted.
+fn is_answered(alloc: Global, hosted: &mut Hosted, call: &[Value]) -> Result<bool>
+    requires { IsReady hosted.old }
+    ensures { OnOk result (IsReady hosted.new) }
+{
+    match call.first().and_then(Value::as_str) {
+        Some("pick") => is_picked(alloc, hosted, call),
+        Some("swap") => give_swap(alloc, hosted),
+        Some("give") => give(hosted, call),
+        Some("item") => item(alloc, hosted, call),
+        Some("settle") => settle(alloc, hosted, call),
+        Some("rounds") => rounds(alloc, hosted, call),
+        _ => bail!("a call has no word"),
+    }
+}
+
+// Whether a pick answers as is wanted.
+#[tactic(auto, using(crate::proofs::Staying::ready_kept))]
+fn is_picked(alloc: Global, hosted: &mut Hosted, call: &[Value]) -> Result<bool>
+    requires { IsReady hosted.old }
+    ensures { OnOk result (IsReady hosted.new) }
+{
+    let slot = number_at(call, 1)?;
+    let slice = slice_at(call, 2)?;
+    if slot >= hosted.slots {
+        bail!("a pick is of no slot");
+    }
+    match hosted.host.pick(alloc, slot, slice) {
+        Ok(picked) => is_answer(alloc, picked, call.get(3)),
+        Err(_) => bail!("out of memory"),
+    }
+}
+
+// Whether a pick is to answer so.
+fn is_answer(alloc: Global, picked: Picked, wanted: Option<&Value>) -> Result<bool> {
+    let answer = words_of(alloc, picked)?;
+    Ok(wanted.and_then(Value::as_str) == Some(answer.as_str()))
+}
+
+fn words_of(alloc: Global, picked: Picked) -> Result<String> {
+    match picked {
+        Picked::Idle => Ok(format!(in alloc; "Idle")?),
+        Picked::Unfinished { spent } => Ok(format!(in alloc; "Unfinished {spent}")?),
+        Picked::Ended => Ok(format!(in alloc; "Ended")?),
+    }
+}
+
+// The swap of the case is given.
+#[tactic(auto, using(crate::proofs::Staying::left_few, crate::proofs::Staying::left_fits))]
+fn give_swap(alloc: Global, hosted: &mut Hosted) -> Result<bool>
+    requires { IsReady hosted.old }
+    ensures { OnOk result (IsReady hosted.new) }
+{
+    if hosted.to >= hosted.slots || hosted.given >= MOST_ITEMS {
+        bail!("a swap is of no slot, or one item too many");
+    }
+    let Some(content) = hosted.left.take() else {
+        bail!("a swap is given twice");
+    };
+    match hosted.host.give_swap(alloc, hosted.to, content) {
+        Ok(()) => {
+            hosted.given += 1;
+            Ok(true)
+        }
+        Err(_) => bail!("out of memory"),
+    }
+}
+
+// An advance is given.
+#[tactic(auto, using(crate::proofs::Staying::ready_gave))]
+fn give(hosted: &mut Hosted, call: &[Value]) -> Result<bool>
+    requires { IsReady hosted.old }
+    ensures { OnOk result (IsReady hosted.new) }
+{
+    let ms = advance_at(call, 1)?;
+    if hosted.given >= MOST_ITEMS {
+        bail!("too many items are given");
+    }
+    match hosted.host.give(HostItem::Advance(ms)) {
+        Ok(()) => {
+            hosted.given += 1;
+            Ok(true)
+        }
+        Err(_) => bail!("out of memory"),
+    }
+}
+
+// An advance is given, and the host settles.
+fn item(alloc: Global, hosted: &mut Hosted, call: &[Value]) -> Result<bool>
+    requires { IsReady hosted.old }
+    ensures { OnOk result (IsReady hosted.new) }
+{
+    let ms = advance_at(call, 1)?;
+    let slice = slice_at(call, 2)?;
+    let mut chooser = listed_at(alloc, call, 3)?;
+    if hosted.given >= MOST_ITEMS {
+        bail!("too many items are given");
+    }
+    let item = HostItem::Advance(ms);
+    match hosted.host.item(alloc, item, &mut chooser, slice) {
+        Ok(()) => {
+            hosted.given += 1;
+            Ok(true)
+        }
+        Err(_) => bail!("out of memory"),
+    }
+}
+
+// The host settles.
+#[tactic(auto, using(crate::proofs::Staying::ready_kept))]
+fn settle(alloc: Global, hosted: &mut Hosted, call: &[Value]) -> Result<bool>
+    requires { IsReady hosted.old }
+    ensures { OnOk result (IsReady hosted.new) }
+{
+    let slice = slice_at(call, 1)?;
+    let mut chooser = listed_at(alloc, call, 2)?;
+    match hosted.host.settle(alloc, &mut chooser, slice) {
+        Ok(()) => Ok(true),
+        Err(_) => bail!("out of memory"),
+    }
+}
+
+// The host settles, with rounds of posts to their end.
+#[tactic(auto, using(crate::proofs::Staying::ready_kept))]
+fn rounds(alloc: Global, hosted: &mut Hosted, call: &[Value]) -> Result<bool>
+    requires { IsReady hosted.old }
+    ensures { OnOk result (IsReady hosted.new) }
+{
+    let slice = slice_at(call, 1)?;
+    let mut chooser = listed_at(alloc, call, 2)?;
+    match hosted.host.rounds(alloc, &mut chooser, slice) {
+        Ok(()) => Ok(true),
+        Err(_) => bail!("out of memory"),
+    }
+}
+
+// The slice at a place of a call.
+fn slice_at(call: &[Value], at: usize) -> Result<u32>
+    ensures { IfOk result (λ slice. 0 < slice) }
+{
+    let slice = number_at(call, at)?;
+    if slice == 0 {
+        bail!("a slice is 0");
+    }
+    Ok(slice)
+}
+
+// The milliseconds at a place of a call.
+fn advance_at(call: &[Value], at: usize) -> Result<u32>
+    ensures { IfOk result (λ ms. ms ≤ 60000) }
+{
+    let ms = number_at(call, at)?;
+    if ms > MOST_MS {
+        bail!("an advance is too long");
+    }
+    Ok(ms)
+}
+
+// A chooser that goes by the list at a place of a call.
+fn listed_at(alloc: Global, call: &[Value], at: usize) -> Result<Listed> {
+    let Some(numbers) = call.get(at).and_then(Value::as_array) else {
+        bail!("a call has no list");
+    };
+    let mut list = Vec::new(alloc);
+    for place in 0..numbers.len() {
+        list.push(number_at(numbers, place)?)?;
+    }
+    Ok(Listed { list, at: 0 })
+}
