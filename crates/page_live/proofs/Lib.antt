@@ -2,3 +2,6 @@ mod Handed
 mod Unlinked
 mod Stirred
 mod Rested
+mod Fresh
+mod Taken
+mod Showing
