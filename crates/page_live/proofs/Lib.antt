@@ -5,3 +5,4 @@ mod Rested
 mod Fresh
 mod Taken
 mod Showing
+mod Entering

@@ -1,5 +1,5 @@
 -- What a page that lives comes to.
-use Rattle.std.proofs.Common.{◌≡◌, ℕ, List, [], ◌∷◌, ◌++◌, map, length, Option, Some, None, refl, sym, ap, subst, ◌∙◌}
+use Rattle.std.proofs.Common.{◌≡◌, ◌≤◌, ℕ, List, [], ◌∷◌, ◌++◌, map, length, Option, Some, None, refl, sym, ap, subst, ◌∙◌}
 use Rattle.std.specs.Prelude.{is_some}
 use Rattle.std.proofs.lemmas.List.{length-map}
 use Rattle.trace_reader.specs.Said.{Said}
@@ -22,7 +22,7 @@ use Rattle.page_play.proofs.Matching.{SameKind, all_matched}
 use Rattle.page_play.proofs.Outcomes.{judged_even, judged_names, lasts_match, ended_match}
 use Rattle.page_play.proofs.Swapping.{slots_length}
 use Rattle.page_live.specs.declared.page.LivePage.{LivePage}
-use Rattle.page_live.specs.Page.{ComesTo, IsAlive, IsLiveReport, Lives}
+use Rattle.page_live.specs.Page.{ComesTo, IsAlive, IsLiveReport, IsShowing, Lives, Shows}
 use Rattle.page_live.proofs.Handed.{same_flags, same_lives}
 use Rattle.page_live.proofs.Unlinked.{unlinked}
 
@@ -65,6 +65,10 @@ module _ (parts : List Part) (pairs : List (ℕ × ℕ)) (runs : List SlotRun) (
       subst (λ ps. IsLaid p.host p.findings.names.items ps) l.laid
       (subst (λ ns. IsLaid p.host ns (map piece_of l.spec.pieces.items)) (judged_names l.spec.libs.items runs l.spec.slots.items p.findings.refusals.items l.found.slots ∙ sym l.found.names) l.live.laid)
 
+  -- it shows what it comes to
+  pub live_shows : Shows p (pieces parts) (map end_of l.live.fed)
+  live_shows = record { before = map end_of l.live.out; told = live_told; laid = live_laid }
+
   pub live_comes : ComesTo parts pairs runs files items p.findings (map end_of l.live.fed) (map end_of l.live.out)
   live_comes = record {
     spec = l.spec;
@@ -95,8 +99,20 @@ module _ (parts : List Part) (pairs : List (ℕ × ℕ)) (runs : List SlotRun) (
   abbrev pub live_played : pairs ≡ [] → IsPlayed l.spec l.swaps items p.host
   live_played none = unlinked l.spec l.swaps items p.host (l.channels ∙ none) l.live
 
+-- some page shows something
+pub alive_shows : (p : LivePage) → IsAlive p → IsShowing p
+alive_shows p a = record { pieces = pieces a.parts; owns = map end_of a.is.live.fed; shows = live_shows a.parts a.pairs a.runs a.files a.items p a.is }
+
 pub alive_told : (p : LivePage) → IsAlive p → (os : List (Option OwnState)) × (bs : List (Option OwnState)) × AreTold p.findings p.host os bs
 alive_told p a = (map end_of a.is.live.fed, map end_of a.is.live.out, live_told a.parts a.pairs a.runs a.files a.items p a.is)
+
+pub alive_few : (p : LivePage) → IsAlive p → length p.findings.names.items ≤ 16
+alive_few p a = (even_law a.is.spec a.is.swaps a.items a.runs a.files p.findings a.is.found).few
+
+-- a page keeps the names of its slots
+pub same_names : (parts : List Part) (pairs : List (ℕ × ℕ)) (runs : List SlotRun) (files more : List Source) (items others : List Said) (p q : LivePage) → Lives parts pairs runs files items p → Lives parts pairs runs more others q
+    → length p.findings.names.items ≡ length q.findings.names.items
+same_names parts pairs runs files more items others p q l k = ap length (l.found.names ∙ sym k.found.names)
 
 -- without channels the report is that of a replay
 pub reported_as : (parts : List Part) (runs : List SlotRun) (files : List Source) (items : List Said) (p : LivePage) (l : Lives parts [] runs files items p) (bytes : List ℕ)
