@@ -1,6 +1,6 @@
 -- The page of `demo`: it is what its definitions say, and its slots are accepted or there is no report.
 use Rattle.std.proofs.Common.{◌≡◌, ℕ, zero, suc, ◌+◌, ◌-◌, ◌<◌, ◌≤◌, List, [], ◌∷◌, ◌++◌, length, take, map, get_or, All, Bool, true, false, if◌then◌else◌, Option, Some, None, refl, sym, ap, subst, ◌∙◌, arith, append_assoc, append-nil, length-append}
-use Rattle.std.specs.Prelude.{slice_get, nat_lt, nat_eq, sum_by, ◌||◌, ◌&&◌, ◌%◌, ◌/◌, ◌^◌, codes}
+use Rattle.std.specs.Prelude.{slice_get, nat_lt, nat_eq, sum_by, ◌&&◌, ◌%◌, ◌/◌, ◌^◌, codes}
 use Rattle.std.specs.List.{AllByRecursion, IsDistinct, list_all, flat_map}
 use Rattle.std.proofs.lemmas.List.{length-map, take_all}
 use Rattle.std.proofs.lemmas.Str.Ascii.{IsAscii-nil, IsAscii-cons}
@@ -17,15 +17,15 @@ use Rattle.slot_check.specs.Sources.{Source}
 use Rattle.slot_check.specs.Verdicts.{source_of, sources_of, IsSmall}
 use Rattle.life_laws.specs.Life.{Seen, image}
 use Rattle.widget_meaning.specs.OwnState.{OwnState}
-use Rattle.page_spec.specs.Loadable.{most_high, most_fuel, same_channel}
-use Rattle.page_judge.specs.Fits.{AreFit, IsFit, markup_of}
-use Rattle.page_judge.specs.Runs.{slots_named}
+use Rattle.page_plan.specs.Loadable.{most_high, most_fuel, same_channel}
+use Rattle.page_check.specs.Fits.{AreFit, IsFit, markup_of}
+use Rattle.page_check.specs.Runs.{slots_named}
 use Rattle.slot_lives.specs.Lines.{short_line}
 use Rattle.slot_lives.specs.Ends.{end_of, run_name, some_refused}
 use Rattle.slot_lives.specs.Outcome.{ComeTo, Outcome, last_lives}
-use Rattle.page_play.specs.widget_host.declared.host.Host.{Host}
-use Rattle.page_play.specs.widget_host.declared.lines.RunLine.{RunLine}
-use Rattle.page_play.specs.widget_host.Housed.{IsLineOf, IsShown, AreShown, seens, chains, accepts, present}
+use Rattle.widget_host.specs.declared.host.Host.{Host}
+use Rattle.widget_host.specs.declared.lines.RunLine.{RunLine}
+use Rattle.widget_host.specs.Housed.{IsLineOf, IsShown, AreShown, seens, chains, accepts, present}
 use Rattle.run_steps.specs.declared.ending.Status.TheVariants as status
 use Rattle.run_steps.specs.Items.{IsFor, AreItems}
 use Rattle.run_steps.specs.Page.{parts, slot_names, slot_files, files_named, files_swapped, swap_file, texts}

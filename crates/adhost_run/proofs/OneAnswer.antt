@@ -15,7 +15,7 @@ use Rattle.script_check.proofs.Verdicts.{one_line as one_library_line, one_text}
 use Rattle.slot_check.specs.Sources.{Source}
 use Rattle.slot_check.specs.Line.{AreSlotLines}
 use Rattle.slot_check.proofs.Written.{lines_once}
-use Rattle.page_judge.specs.Runs.{SlotRun, slots_named}
+use Rattle.page_check.specs.Runs.{SlotRun, slots_named}
 use Rattle.reach_cert.specs.Certs.{Slot, cert_text}
 use Rattle.reach_cert.specs.Shape.{IsCert}
 use Rattle.reach_cert.specs.Walks.{first_leak}

@@ -9,8 +9,8 @@ use Rattle.manifest_reader.specs.declared.entry.Entry.{Entry}
 use Rattle.manifest_reader.specs.declared.entry.Entry.TheVariants as entry
 use Rattle.manifest_reader.specs.declared.entry.Manifest.{Manifest}
 use Rattle.manifest_reader.specs.Page.{part_of}
-use Rattle.page_judge.specs.Runs.{slots_named}
-use Rattle.page_judge.specs.Fits.{IsFit}
+use Rattle.page_check.specs.Runs.{slots_named}
+use Rattle.page_check.specs.Fits.{IsFit}
 use Rattle.run_steps.specs.Page.{texts, slot_names, slot_files, files_named}
 
 -- there is a name for each file of a slot

@@ -15,22 +15,22 @@ use Rattle.slot_check.specs.Verdicts.{source_of, sources_of}
 use Rattle.adsafe_rules.specs.declared.accepted.Accepted.{Accepted}
 use Rattle.round_laws.specs.Fed.{Fed}
 use Rattle.widget_meaning.specs.Alone.{Content}
-use Rattle.page_spec.specs.declared.PageSpec.{PageSpec}
-use Rattle.page_spec.specs.declared.SlotContent.{SlotContent}
-use Rattle.page_spec.specs.declared.SlotSpec.{SlotSpec}
-use Rattle.page_spec.specs.Loadable.{AreLoadableSwaps, none as none_load, more as more_load}
-use Rattle.page_spec.specs.Pages.{piece_of}
-use Rattle.page_judge.specs.declared.page.JudgedPage.{JudgedPage}
-use Rattle.page_judge.specs.Runs.{SlotRun, slots_named, runs_over, swap_runs, pieces}
-use Rattle.page_judge.specs.Judged.{IsJudgedPage, AreJudgedSlots, none, more, AreJudgedSwaps, runs_in}
-use Rattle.page_judge.specs.Widgets.{HasWidget}
-use Rattle.page_judge.proofs.OneWidget.{widget_once, never_refused}
+use Rattle.page_plan.specs.declared.PageSpec.{PageSpec}
+use Rattle.page_plan.specs.declared.SlotContent.{SlotContent}
+use Rattle.page_plan.specs.declared.SlotSpec.{SlotSpec}
+use Rattle.page_plan.specs.Loadable.{AreLoadableSwaps, none as none_load, more as more_load}
+use Rattle.page_plan.specs.Pages.{piece_of}
+use Rattle.page_check.specs.declared.page.JudgedPage.{JudgedPage}
+use Rattle.page_check.specs.Runs.{SlotRun, slots_named, runs_over, swap_runs, pieces}
+use Rattle.page_check.specs.Judged.{IsJudgedPage, AreJudgedSlots, none, more, AreJudgedSwaps, runs_in}
+use Rattle.page_check.specs.Widgets.{HasWidget}
+use Rattle.page_check.proofs.OneWidget.{widget_once, never_refused}
 use Rattle.slot_lives.specs.Lives.{Life}
 use Rattle.slot_lives.specs.Ends.{run_name, Begins, accepted, broken, AllBegin, no_life, one_life, end_of}
 use Rattle.slot_lives.specs.Outcome.{Outcome, ComeTo, IsReport, last_lives}
-use Rattle.page_play.specs.widget_host.declared.host.Host.{Host}
-use Rattle.page_play.specs.widget_host.page_load.Loads.{singles}
-use Rattle.page_play.specs.widget_host.Housed.{IsLaid, chains, scripts}
+use Rattle.widget_host.specs.declared.host.Host.{Host}
+use Rattle.page_load.specs.Loads.{singles}
+use Rattle.widget_host.specs.Housed.{IsLaid, chains, scripts}
 use Rattle.page_play.specs.declared.findings.Findings.{Findings}
 use Rattle.page_play.specs.Findings.{AreFindings, found_refused, lines_of, lasts_told, ended_told}
 use Rattle.page_play.specs.Swaps.{swap_slots, swap_positions}

@@ -24,9 +24,9 @@ use Rattle.widget_meaning.specs.OwnState.{OwnState}
 use Rattle.post_rounds.specs.declared.posts.Post.{Post}
 use Rattle.post_rounds.specs.News.{news}
 use Rattle.round_laws.specs.Fed.{Fed, RoundsTo, again, ended, fed_on, fresh, round, round_from, state}
-use Rattle.page_spec.specs.Pages.{page_of, roots}
-use Rattle.page_judge.specs.Runs.{SlotRun, pieces}
-use Rattle.page_judge.specs.Widgets.{HasWidget, widget}
+use Rattle.page_plan.specs.Pages.{page_of, roots}
+use Rattle.page_check.specs.Runs.{SlotRun, pieces}
+use Rattle.page_check.specs.Widgets.{HasWidget, widget}
 use Rattle.reach_cert.specs.Certs.{cert_text}
 use Rattle.state_reach.specs.States.{cert_of_states}
 use Rattle.life_split.specs.declared.items.Life.{Life as Stretch}

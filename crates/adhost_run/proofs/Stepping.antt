@@ -1,5 +1,5 @@
 -- From the steps to the answer.
-use Rattle.std.proofs.Common.{◌≡◌, ℕ, List, [], Option, Some, None, IfSome, IsSomeAnd, Result, Ok, Err, IfOk, IfErr, IsErrOf, sym, subst}
+use Rattle.std.proofs.Common.{ℕ, List, [], Option, Some, None, IfSome, IsSomeAnd, Result, Ok, Err, IfOk, IfErr, IsErrOf, sym, subst}
 use Rattle.host_io.specs.Files.{FileMap}
 use Rattle.run_steps.specs.declared.ending.Status.{Status}
 use Rattle.run_steps.specs.declared.ending.Status.TheVariants as status

@@ -2,7 +2,7 @@
 use Rattle.std.specs.Prelude.{ℕ, List, length, take, drop}
 use Rattle.manifest_reader.specs.declared.entry.Manifest.{Manifest}
 use Rattle.slot_check.specs.Sources.{Source}
-use Rattle.page_judge.specs.Runs.{SlotRun, slots_named, runs_over}
+use Rattle.page_check.specs.Runs.{SlotRun, slots_named, runs_over}
 use Rattle.run_steps.specs.Page.{parts}
 
 -- the slots of these names and this fuel with their files, which come first, and the libraries behind them

@@ -4,10 +4,10 @@ use Rattle.manifest_reader.specs.declared.entry.Manifest.{Manifest}
 use Rattle.trace_reader.specs.Said.{said}
 use Rattle.trace_reader.specs.declared.item.TraceItem.{TraceItem}
 use Rattle.slot_check.specs.Sources.{Source}
-use Rattle.page_spec.specs.declared.PageSpec.{PageSpec}
-use Rattle.page_spec.specs.declared.SlotContent.{SlotContent}
-use Rattle.page_spec.specs.Pages.{piece_of}
-use Rattle.page_judge.specs.Runs.{pieces}
+use Rattle.page_plan.specs.declared.PageSpec.{PageSpec}
+use Rattle.page_plan.specs.declared.SlotContent.{SlotContent}
+use Rattle.page_plan.specs.Pages.{piece_of}
+use Rattle.page_check.specs.Runs.{pieces}
 use Rattle.page_play.specs.Findings.{AreFindings}
 use Rattle.page_play.specs.Played.{IsPlayed}
 use Rattle.run_steps.specs.declared.ending.Status.TheVariants as status

@@ -12,18 +12,18 @@ use Rattle.slot_laws.specs.Slots.{has}
 use Rattle.slot_laws.specs.Chains.{last_at, listed}
 use Rattle.widget_meaning.specs.OwnState.{OwnState}
 use Rattle.widget_meaning.specs.Alone.{Content}
-use Rattle.page_spec.specs.declared.PageSpec.{PageSpec}
-use Rattle.page_spec.specs.declared.SlotContent.{SlotContent}
-use Rattle.page_spec.specs.Pages.{piece_of}
-use Rattle.page_judge.specs.Judged.{AreJudgedSlots, AreJudgedSwaps}
-use Rattle.page_judge.specs.Runs.{SlotRun, pieces, swap_runs}
-use Rattle.page_judge.specs.Widgets.{HasWidget}
+use Rattle.page_plan.specs.declared.PageSpec.{PageSpec}
+use Rattle.page_plan.specs.declared.SlotContent.{SlotContent}
+use Rattle.page_plan.specs.Pages.{piece_of}
+use Rattle.page_check.specs.Judged.{AreJudgedSlots, AreJudgedSwaps}
+use Rattle.page_check.specs.Runs.{SlotRun, pieces, swap_runs}
+use Rattle.page_check.specs.Widgets.{HasWidget}
 use Rattle.slot_lives.specs.Lives.{Life, swaps_in}
 use Rattle.slot_lives.specs.Ends.{run_name}
 use Rattle.slot_lives.specs.Outcome.{ComeTo, last_lives}
-use Rattle.page_play.specs.widget_host.declared.host.Host.{Host}
-use Rattle.page_play.specs.widget_host.page_load.Loads.{singles}
-use Rattle.page_play.specs.widget_host.Housed.{IsLaid, AreShown, accepts, chains, channels, ends, scripts}
+use Rattle.widget_host.specs.declared.host.Host.{Host}
+use Rattle.page_load.specs.Loads.{singles}
+use Rattle.widget_host.specs.Housed.{IsLaid, AreShown, accepts, chains, channels, ends, scripts}
 use Rattle.page_play.specs.Swaps.{swap_slots}
 use Rattle.page_play.specs.Played.{AreScriptsOf}
 use Rattle.page_play.specs.Settled.{IsSettled}

@@ -16,6 +16,3 @@ mod writing;
 pub use laws::{one_answer, some_answer};
 pub use run_steps::Status;
 pub use running::{exit_number, run};
-
-// Handed on to the crates above, which name it so.
-pub use page_play::widget_host;

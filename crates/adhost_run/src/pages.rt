@@ -1,5 +1,5 @@
 //! The report of `check` on a page.
-ghost use Rattle.std.specs.Prelude.{◌≡◌, length, All, IfOk, IfErr, None};
+ghost use Rattle.std.specs.Prelude.{◌≡◌, length, All, IfOk, None};
 ghost use Rattle.slot_check.specs.Verdicts.{sources_of, IsSmall};
 ghost use Rattle.slot_check.specs.Line.{AreSlotLines};
 ghost use Rattle.run_steps.specs.Page.{file_limit, files_named, slots_of};

@@ -6,7 +6,7 @@ ghost use Rattle.trace_reader.specs.Said.{said};
 ghost use Rattle.trace_reader.specs.declared.item.TraceItem.{TraceItem as TraceItemOf};
 ghost use Rattle.slot_check.specs.Sources.{Source};
 ghost use Rattle.slot_check.specs.Verdicts.{sources_of, IsSmall};
-ghost use Rattle.page_judge.specs.Fits.{IsFit};
+ghost use Rattle.page_check.specs.Fits.{IsFit};
 ghost use Rattle.run_steps.specs.Page.{files_named, slot_names, swap_files};
 ghost use Rattle.run_steps.specs.Items.{AreItems};
 ghost use Rattle.page_play.specs.Findings.{found_refused};
@@ -18,13 +18,13 @@ use crate::reports::Report;
 use code_units::{Memory, Text};
 use keyed_names::Keys;
 use manifest_reader::Manifest;
-use page_judge::{JudgedPage, JudgedSwaps, judge_page};
-use page_play::widget_host::Host;
+use page_check::{JudgedPage, JudgedSwaps, judge_page};
 use page_play::{Findings, certificate, find_swaps, play, plays_come_to, report, some_refused};
 use run_steps::{CERT_LIMIT, Stop};
 use slot_check::SourceFile;
 use std::alloc::Global;
 use trace_reader::TraceItem;
+use widget_host::Host;
 
 /// What is written of a page that ran.
 #[derive(Clone, Copy)]

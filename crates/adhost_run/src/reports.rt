@@ -1,5 +1,5 @@
 //! The report, built whole before anything is written.
-ghost use Rattle.std.specs.Prelude.{◌≡◌, ◌<◌, ◌^◌, length, true, false, IsSome, IfOk, IfErr, Err, None};
+ghost use Rattle.std.specs.Prelude.{◌≡◌, ◌<◌, ◌^◌, length, true, IsSome, IfOk, None};
 ghost use Rattle.run_steps.specs.Request.{request_of, IsSliced};
 ghost use Rattle.adhost_run.specs.Answer.{IsText, LibraryAnswer, RequestAnswer};
 ghost use Rattle.adhost_run.specs.Ends.{Answered, is_audit, IsConfinedText};
@@ -13,10 +13,10 @@ use crate::playing::{Way, Writes};
 use crate::runs::run_page;
 use code_units::Memory;
 use host_io::Files;
-use page_play::widget_host::Host;
 use run_steps::{FILE_LIMIT, Request, Stop, read_file};
 use script_check::{LibraryText, library_line, tidied_library};
 use std::alloc::Global;
+use widget_host::Host;
 
 /// How `render` runs a page.
 const RENDERING: Way = Way {

@@ -2,7 +2,7 @@
 ghost use Rattle.std.specs.Prelude.{◌≡◌, ◌≤◌, length, map, option_copied, All, IfOk};
 ghost use Rattle.slot_check.specs.Verdicts.{sources_of, IsSmall};
 ghost use Rattle.trace_reader.specs.Said.{said};
-ghost use Rattle.page_judge.specs.Fits.{IsFit};
+ghost use Rattle.page_check.specs.Fits.{IsFit};
 ghost use Rattle.run_steps.specs.Page.{file_limit, files_named, slot_names, swap_files};
 ghost use Rattle.run_steps.specs.Items.{AreItems};
 ghost use Rattle.run_steps.specs.Reading.{ComesThrough, HasRunFiles, HasSources, HasTraceFiles};
@@ -15,7 +15,7 @@ use crate::reports::Report;
 use code_units::Text;
 use host_io::Files;
 use manifest_reader::Manifest;
-use page_judge::read_manifests_fit;
+use page_check::read_manifests_fit;
 use run_steps::{Stop, files_of, items_of, manifest_in, slot_names, swaps_of};
 use slot_check::SourceFile;
 use std::alloc::Global;

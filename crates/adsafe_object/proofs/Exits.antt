@@ -11,7 +11,7 @@ use Rattle.js_values.specs.Fuel.{Fuel}
 use Rattle.js_values.specs.declared.outcome.NativeOut.{NativeOut}
 use Rattle.js_values.specs.declared.outcome.NativeOut.TheVariants as native
 use Rattle.js_values.proofs.Answered.{charged_answers, free_answers, lacking_answers}
-use Rattle.native_forms.specs.Meets.{Meets}
+use Rattle.native_common.specs.Meets.{Meets}
 use Rattle.json_text.specs.Confined.{MeetsConfined}
 use Rattle.adsafe_object.specs.Ends.{EndsConfined, EndsNoted, MeetsNoted}
 use Rattle.adsafe_object.specs.Notes.{Notes, noted}

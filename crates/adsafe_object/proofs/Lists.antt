@@ -24,7 +24,7 @@ use Rattle.js_image.specs.Image.{all_seen, seen}
 use Rattle.js_image.specs.Held.{AreFine, IsFine}
 use Rattle.js_image.specs.declared.outcome.StopCause.TheVariants as cause
 use Rattle.js_image.specs.Plans.{meant_cause}
-use Rattle.native_forms.proofs.Seen.{nth_seen}
+use Rattle.native_common.proofs.Seen.{nth_seen}
 use Rattle.adsafe_object.specs.Names.{too_many}
 
 -- more units than a widget may have

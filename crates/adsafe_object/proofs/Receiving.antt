@@ -20,8 +20,8 @@ use Rattle.js_image.specs.Held.{IsConfined, IsFine, is_held}
 use Rattle.js_image.proofs.Grown.{kept_same}
 use Rattle.js_values.specs.Answers.{IsFineOut, IsOutOfFuel, Leaves}
 use Rattle.js_values.specs.declared.outcome.NativeOut.{NativeOut}
-use Rattle.native_forms.specs.Receivers.{IsReceiver, is_plain_call, receiver}
-use Rattle.native_forms.proofs.Seen.{ref_is_object}
+use Rattle.native_common.specs.Receivers.{IsReceiver, is_plain_call, receiver}
+use Rattle.native_common.proofs.Seen.{ref_is_object}
 use Rattle.adsafe_object.specs.Ends.{EndsConfined}
 
 -- ## Both tests

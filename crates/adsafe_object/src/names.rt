@@ -12,7 +12,7 @@ ghost use Rattle.adsafe_object.specs.Names.{named_plan};
 
 use code_units::{Memory, Text, permitted, whole_text};
 use js_image::Fault;
-use native_forms::is_object;
+use native_common::is_object;
 use object_store::{Number, Value};
 use std::alloc::Global;
 

@@ -1,11 +1,11 @@
 //! The one call of a native.
-ghost use Rattle.std.specs.Prelude.{◌≡◌, ◌<◌, ℕ, List, None, true, IfOk, OnErr};
+ghost use Rattle.std.specs.Prelude.{◌≡◌, ◌<◌, List, None, true, IfOk, OnErr};
 ghost use Rattle.js_tree.specs.Forest.{Forest};
 ghost use Rattle.store_cells.specs.Cells.{IsWidget, number_in};
 ghost use Rattle.widget_meaning.specs.Natives.{run_native};
 ghost use Rattle.js_image.specs.Image.{all_seen};
 ghost use Rattle.js_image.specs.Held.{AreFine, Kept};
-ghost use Rattle.native_forms.specs.Receivers.{IsReceiver, receiver};
+ghost use Rattle.native_common.specs.Receivers.{IsReceiver, receiver};
 ghost use Rattle.adsafe_object.specs.Ends.{MeetsNoted};
 ghost use Rattle.adsafe_object.specs.Part.{is_part};
 ghost use Rattle.adsafe_object.specs.Timers.{AsksOwn};
@@ -17,7 +17,7 @@ use crate::properties::{get, remove, set};
 use code_units::{Memory, Owner, Text};
 use js_values::{Meter, NativeOut};
 use json_text::{from_json, to_json};
-use native_forms::nth;
+use native_common::nth;
 use object_store::{CellId, NativeId, Store, Value};
 use std::alloc::Global;
 

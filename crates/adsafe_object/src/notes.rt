@@ -22,7 +22,7 @@ ghost use Rattle.adsafe_object.specs.Timers.{AsksOwn, milliseconds};
 use code_units::{Memory, Text};
 use js_image::{Callee, Fault, Paid, StopCause, callee, pay_units};
 use js_values::{Meter, NativeOut, to_text};
-use native_forms::{take, text_len};
+use native_common::{take, text_len};
 use object_store::{CellId, Number, Store, UNIT_LIMIT, Value};
 use std::alloc::Global;
 

@@ -1,9 +1,8 @@
 //! Natives on objects: whether they are Arrays, their names, and new ones on a prototype.
-ghost use Rattle.std.specs.Prelude.{◌≡◌, ◌<◌, ℕ, List, IfOk, OnErr, IfSome, is_some, length, slice_get, option_copied};
+ghost use Rattle.std.specs.Prelude.{◌≡◌, ◌<◌, ℕ, List, IfOk, OnErr, is_some, length};
 ghost use Rattle.js_tree.specs.Forest.{Forest};
 ghost use Rattle.store_cells.specs.Cells.{PlainCell};
 ghost use Rattle.store_cells.specs.Shape.{IsRefWithin};
-ghost use Rattle.store_cells.specs.declared.value.Value.{Value as StoreValue};
 ghost use Rattle.widget_meaning.specs.OwnState.{State, array_length, kind_of};
 ghost use Rattle.widget_meaning.specs.Values.{Truth};
 ghost use Rattle.widget_meaning.specs.Values as meaning;
@@ -13,7 +12,7 @@ ghost use Rattle.js_image.specs.Image.{seen};
 ghost use Rattle.js_image.specs.Held.{IsFine, Kept};
 ghost use Rattle.js_image.specs.Plans.{IsFineMade, made_plan};
 ghost use Rattle.js_values.specs.Answers.{IsFineOut, IsOutOfFuel, Leaves};
-ghost use Rattle.native_forms.specs.Meets.{Ends, Meets};
+ghost use Rattle.native_common.specs.Meets.{Ends, Meets};
 ghost use Rattle.adsafe_object.specs.Ends.{EndsConfined};
 ghost use Rattle.adsafe_object.specs.Kinds as kinds;
 ghost use Rattle.object_store.specs.Owned.{is_of};
@@ -23,7 +22,7 @@ use crate::texts::give_texts;
 use code_units::{Memory, Owner};
 use js_image::{Fault, Made, keys_len, make};
 use js_values::{Meter, NativeOut};
-use native_forms::{is_object, take};
+use native_common::{is_object, take};
 use object_store::{CellId, CellKind, NewCell, Store, Value};
 use std::alloc::Global;
 

@@ -8,7 +8,7 @@ ghost use Rattle.widget_meaning.specs.PrototypeNatives as prototypes;
 ghost use Rattle.widget_meaning.specs.Properties.{own_property};
 ghost use Rattle.js_image.specs.Image.{Rest, image, seen};
 ghost use Rattle.js_image.specs.Held.{IsConfined, IsFine};
-ghost use Rattle.native_forms.specs.Receivers.{IsReceiver, receiver};
+ghost use Rattle.native_common.specs.Receivers.{IsReceiver, receiver};
 ghost use Rattle.adsafe_object.specs.Ends.{EndsConfined};
 
 use crate::names::{Named, name_of};
@@ -16,7 +16,7 @@ use crate::notes::primitive_text;
 use code_units::{Memory, Text, permitted};
 use js_image::{Fault, has_own};
 use js_values::NativeOut;
-use native_forms::{is_object, is_plain_call};
+use native_common::{is_object, is_plain_call};
 use object_store::{Store, Value};
 use std::alloc::Global;
 

@@ -4,7 +4,6 @@ ghost use Rattle.js_tree.specs.Forest.{Forest};
 ghost use Rattle.widget_meaning.specs.OwnState.{State};
 ghost use Rattle.widget_meaning.specs.Values as meaning;
 ghost use Rattle.widget_meaning.specs.Costs as costs;
-ghost use Rattle.widget_meaning.specs.Plan.{Plan};
 ghost use Rattle.widget_meaning.specs.AdsafeNatives as means;
 ghost use Rattle.js_image.specs.Image.{seen};
 ghost use Rattle.js_image.specs.Held.{IsFine, Kept};
@@ -12,7 +11,7 @@ ghost use Rattle.js_image.specs.Plans.{put_plan, removed_plan};
 ghost use Rattle.js_values.specs.Answers.{IsFineOut, Leaves};
 ghost use Rattle.store_cells.specs.Cells.{PlainCell};
 ghost use Rattle.store_cells.specs.declared.value.Value.{Value as StoreValue};
-ghost use Rattle.native_forms.specs.Meets.{Ends};
+ghost use Rattle.native_common.specs.Meets.{Ends};
 ghost use Rattle.adsafe_object.specs.Ends.{EndsConfined};
 
 use crate::names::{Named, name_of};

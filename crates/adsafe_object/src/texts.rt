@@ -5,13 +5,13 @@ ghost use Rattle.js_tree.specs.Forest.{Forest};
 ghost use Rattle.widget_meaning.specs.Limits.{max_units};
 ghost use Rattle.widget_meaning.specs.NativeForms as forms;
 ghost use Rattle.js_image.specs.Held.{Kept};
-ghost use Rattle.native_forms.specs.Meets.{Ends};
+ghost use Rattle.native_common.specs.Meets.{Ends};
 ghost use Rattle.adsafe_object.specs.Names.{too_many};
 
 use code_units::{Memory, Text};
 use js_image::StopCause;
 use js_values::NativeOut;
-use native_forms::{self, text_len};
+use native_common::{self, text_len};
 use object_store::{Store, UNIT_LIMIT};
 use std::alloc::Global;
 
@@ -30,7 +30,7 @@ pub(crate) fn give_texts(
     ensures memory { OnErr result ((fs : List Forest) → Kept fs w store.old store.new) }
 {
     match units_in(&texts) {
-        Some(units) => native_forms::give_texts(alloc, store, w, texts, units),
+        Some(units) => native_common::give_texts(alloc, store, w, texts, units),
         None => Ok(NativeOut::Stop(too_many(&texts))),
     }
 }

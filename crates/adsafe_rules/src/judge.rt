@@ -1,11 +1,10 @@
 //! The first broken rule of a text.
-ghost use Rattle.std.specs.Prelude.{◌≡◌, ℕ, [], ◌∷◌, ◌++◌, List, All, map, drop, option_to_list, IfSome, if◌then◌else◌, true, false, not, IfOk, IfErr, OnOk, None};
-ghost use Rattle.first_breach.specs.Breaches.{Nothing, Either, One, If, Each};
+ghost use Rattle.std.specs.Prelude.{◌≡◌, All, map, drop, option_to_list, IfSome, true, IfOk, IfErr, OnOk, None};
+ghost use Rattle.first_breach.specs.Breaches.{Nothing, Each};
 ghost use Rattle.first_breach.specs.Narrowing.{Narrows};
 ghost use Rattle.js_tree.specs.Trees.{trees, program_of};
-ghost use Rattle.js_tree.specs.Plain.{stmt_place};
 ghost use Rattle.js_tree.specs.Forest.{IsExpr, IsStmt, IsFun, expr_at, stmt_at, fun_at};
-ghost use Rattle.js_tree.specs.Parts.{AStmt, AFun, stmts_spots};
+ghost use Rattle.js_tree.specs.Parts.{AStmt, AFun};
 ghost use Rattle.node_rules.specs.Names.{literal};
 ghost use Rattle.node_rules.specs.Hoisting.{stmt_spot};
 ghost use Rattle.adsafe_rules.specs.Program.{is_opening, opening_names, opening_functions, opened_names, opened_functions, lib_names, tops, Breaks, IsClean};

@@ -1,16 +1,13 @@
 //! The call with which a text begins (A02).
 ghost use Rattle.std.specs.Str.{bytes_eq};
-ghost use Rattle.std.specs.Prelude.{◌≡◌, ℕ, [], ◌∷◌, ◌++◌, List, All, MatchOption, OnOk, IsTrue, true, false, not};
-ghost use Rattle.first_breach.specs.Breaches.{Nothing};
-ghost use Rattle.first_breach.specs.Narrowing.{Narrows};
-ghost use Rattle.js_tree.specs.Trees.{trees, program_of};
-ghost use Rattle.js_tree.specs.Plain.{expr_place};
+ghost use Rattle.std.specs.Prelude.{◌≡◌, [], ◌∷◌, All, MatchOption, false};
+ghost use Rattle.js_tree.specs.Trees.{trees};
 ghost use Rattle.js_tree.specs.Forest.{IsExpr, IsStmt, IsFun, expr_at, stmt_at, fun_at, exprs_at};
-ghost use Rattle.js_tree.specs.Parts.{AnExpr, AStmt, AFun, exprs_spots, stmts_spots};
-ghost use Rattle.node_rules.specs.Names.{named, literal};
+ghost use Rattle.js_tree.specs.Parts.{AStmt, AFun, exprs_spots};
+ghost use Rattle.node_rules.specs.Names.{literal};
 ghost use Rattle.node_rules.specs.Forms.{is_string};
 ghost use Rattle.adsafe_rules.specs.Openings.{AreListed};
-ghost use Rattle.adsafe_rules.specs.Program.{opening_word, is_opening_name, is_plain_fun, is_plain_function, are_arguments, is_adsafe_dot, is_opening_call, is_opening, call_arguments, arguments_of, first_string, function_of, second_function, opening_names, opening_functions};
+ghost use Rattle.adsafe_rules.specs.Program.{opening_word, is_opening_name, is_plain_fun, is_plain_function, are_arguments, is_adsafe_dot, is_opening_call, is_opening, call_arguments, first_string, function_of, second_function, opening_names, opening_functions};
 
 use crate::scope::Scope;
 use code_units::Text;

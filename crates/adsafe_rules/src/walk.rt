@@ -1,5 +1,5 @@
 //! The walk over a tree.
-ghost use Rattle.std.specs.Prelude.{◌≡◌, ℕ, ◌<◌, [], ◌∷◌, ◌++◌, List, false, length, IfOk, OnOk};
+ghost use Rattle.std.specs.Prelude.{◌≡◌, ◌<◌, [], ◌∷◌, ◌++◌, false, length, IfOk, OnOk};
 ghost use Rattle.first_breach.specs.Breaches.{Nothing};
 ghost use Rattle.first_breach.specs.Narrowing.{Narrows};
 ghost use Rattle.js_tree.specs.Trees.{trees};

@@ -11,7 +11,7 @@ use Rattle.permitted_table.specs.declared.native.NativeId.TheVariants as native
 use Rattle.store_cells.specs.declared.value.Value.{Value}
 use Rattle.store_cells.specs.declared.value.Value.TheVariants as value
 use Rattle.js_image.specs.Image.{all_seen, seen}
-use Rattle.native_forms.proofs.Seen.{nth_seen}
+use Rattle.native_common.proofs.Seen.{nth_seen}
 use Rattle.widget_meaning.specs.Values as meaning
 use Rattle.widget_meaning.specs.NativeNames as names
 use Rattle.widget_meaning.specs.NativeNames.{Family, OfDom, OfRead, OfEvent, family_of}

@@ -1,14 +1,10 @@
 -- Lists of nodes that a loop goes over.
-use Rattle.std.proofs.Common.{◌≡◌, ℕ, zero, suc, ◌+◌, ◌<◌, ◌≤◌, List, [], ◌∷◌, ◌++◌, Bool, true, false, refl, ap, ◌∙◌, map, length, take, get_or, eqb, arith, Option, None, Some, if◌then◌else◌, ◌||◌}
-use Rattle.std.specs.Prelude.{◌&&◌, option_to_list}
-use Rattle.std.specs.List.{cons_option, filter, filter_map, list_all}
+use Rattle.std.proofs.Common.{◌≡◌, ℕ, ◌+◌, List, [], ◌∷◌, ◌++◌, Bool, true, false, refl, ap, eqb, Option, None, Some, if◌then◌else◌, ◌||◌}
+use Rattle.std.specs.Prelude.{option_to_list}
+use Rattle.std.specs.List.{cons_option, filter, filter_map}
 use Rattle.query_grammar.specs.Finds.{has_number}
-use Rattle.query_grammar.proofs.Numbers.{has_first}
 use Rattle.widget_meaning.specs.PageForms.{once}
 pub use Rattle.native_image.proofs.Lists.{all_not, element_in, has_own, map_push, mapped_one, mapped_whole, open_more, take_one, take_whole}
-use Rattle.page_tree.specs.declared.page.Page.{Page}
-use Rattle.page_image.specs.Image.{number, owns}
-use Rattle.page_image.proofs.Looks.{told_apart}
 
 no_true : false ≡ true → ⊥
 no_true e = cc

@@ -1,7 +1,7 @@
 -- Nodes that are found.
 use Rattle.std.proofs.Common.{◌≡◌, ℕ, ◌+◌, ◌<◌, ◌≤◌, List, [], ◌∷◌, ◌++◌, Bool, true, false, refl, sym, ap, ◌∙◌, subst, map, length, take, get_or, eqb, eqb-true, arith, Option, None, Some, if◌then◌else◌, not, ⊎_elim}
 use Rattle.std.specs.Prelude.{Result, Ok, Err, IfOk, nat_eq, option_to_list, min, ◌-◌, ◌*◌, ◌^◌}
-use Rattle.native_forms.specs.Numbers.{counted}
+use Rattle.native_common.specs.Numbers.{counted}
 use Rattle.std.specs.declared.vec.Vec.{Vec}
 use Rattle.std.specs.declared.alloc.Global.{Global}
 use Rattle.std.specs.List.{IsDistinct, filter, filter_map}

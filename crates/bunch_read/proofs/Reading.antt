@@ -1,7 +1,7 @@
 -- What is read of the first node is what the meaning reads there.
 use Rattle.std.proofs.Common.{◌≡◌, ℕ, ◌+◌, ◌≤◌, ◌<◌, arith, List, [], ◌∷◌, Bool, true, false, refl, sym, ap, ◌∙◌, map, length, Option, None, Some, unwrap_or, slice_get, codes, if◌then◌else◌}
 use Rattle.std.specs.Prelude.{option_and_then, is_some, min, ◌-◌, ◌^◌}
-use Rattle.native_forms.specs.Numbers.{counted}
+use Rattle.native_common.specs.Numbers.{counted}
 use Rattle.std.specs.Option.{option_map, option_map_or}
 use Rattle.plain_tree.specs.Trees.{Label, ElementOf, TextOf}
 use Rattle.tree_ops.specs.Labels.{attribute_of, is_text, tag_of}

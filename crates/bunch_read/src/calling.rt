@@ -1,9 +1,9 @@
 //! The one call of this crate.
-ghost use Rattle.std.specs.Prelude.{◌≡◌, ◌<◌, ℕ, List, Bool, Option, true, IfOk, map};
+ghost use Rattle.std.specs.Prelude.{◌≡◌, ◌<◌, true, IfOk, map};
 ghost use Rattle.store_cells.specs.Cells.{IsWidget, number_in};
 ghost use Rattle.widget_meaning.specs.Natives.{run_native};
 ghost use Rattle.js_image.specs.Image.{all_seen, seen};
-ghost use Rattle.native_forms.specs.Receivers.{IsReceiver, receiver};
+ghost use Rattle.native_common.specs.Receivers.{IsReceiver, receiver};
 ghost use Rattle.page_image.specs.Image.{number};
 ghost use Rattle.native_image.specs.Meets.{Reads};
 ghost use Rattle.native_image.specs.Sound.{AreNodes, HoldsOwn, IsSound, KeepsStore};
@@ -19,7 +19,7 @@ use code_units::{Memory, Owner};
 use event_loop::Loop;
 use js_image::Fault;
 use js_values::{Meter, NativeOut};
-use native_forms::nth;
+use native_common::nth;
 use native_image::receiver_of;
 use object_store::{NativeId, Store, Value};
 use page_tree::{NodeId, Page};

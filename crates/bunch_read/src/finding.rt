@@ -22,7 +22,7 @@ use event_loop::Loop;
 use indexmap::IndexSet;
 use js_image::Fault;
 use js_values::{Meter, NativeOut};
-use native_forms::{is_object, read_text, take};
+use native_common::{is_object, read_text, take};
 use native_image::give_bunch;
 use object_store::{Store, Value};
 use page_image::{made, parent};

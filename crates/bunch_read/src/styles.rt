@@ -14,7 +14,7 @@ use crate::attributes::first_attribute;
 use code_units::{Memory, Text};
 use js_image::{Fault, word};
 use js_values::{Meter, NativeOut};
-use native_forms::{is_object, read_text};
+use native_common::{is_object, read_text};
 use native_image::give_page_text;
 use object_store::{Store, Value};
 use page_tree::{NodeId, Page};

@@ -9,10 +9,10 @@ use Rattle.page_tree.specs.declared.page.Page.{Page}
 use Rattle.page_image.specs.Image.{forest}
 use Rattle.page_image.specs.Stays.{KeepsNodes, OthersStay}
 use Rattle.event_loop.specs.declared.around.Loop.{Loop}
-use Rattle.bunch_marks.specs.native_image.Image.{Outside, beside, image}
-use Rattle.bunch_marks.specs.native_image.Sound.{HoldsOwn, KeepsAll}
-use Rattle.bunch_marks.proofs.NativeImage.Joint.{page_lift}
-use Rattle.bunch_marks.proofs.NativeImage.Keeping.{sound_page}
+use Rattle.native_image.specs.Image.{Outside, beside, image}
+use Rattle.native_image.specs.Sound.{HoldsOwn, KeepsAll}
+use Rattle.native_image.proofs.Joint.{page_lift}
+use Rattle.native_image.proofs.Keeping.{sound_page}
 use Rattle.bunch_trees.specs.Changes.{Changes}
 
 -- nothing changed

@@ -4,7 +4,7 @@ use Rattle.std.specs.Prelude.{min, ◌-◌, ◌^◌, nat_lt}
 use Rattle.std.specs.List.{count_by, fold}
 use Rattle.std.proofs.lemmas.Bool.Decides.{nat_tests}
 use Rattle.std.proofs.lemmas.List.Sums.{count_by-le-length}
-use Rattle.native_forms.specs.Numbers.{counted}
+use Rattle.native_common.specs.Numbers.{counted}
 
 -- over numbers as over nodes
 folded : (p : ℕ → Bool) (f : ℕ → ℕ) (xs : List ℕ) (a : ℕ) → fold (λ k x. k + cond (p (f x)) 1 0) a xs ≡ fold (λ k y. k + cond (p y) 1 0) a (map f xs)

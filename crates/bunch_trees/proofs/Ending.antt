@@ -12,9 +12,9 @@ use Rattle.js_image.specs.Held.{IsHeld}
 use Rattle.js_image.specs.Image.{seen}
 use Rattle.js_image.proofs.Grown.{held_stays, seen_stays}
 use Rattle.js_values.specs.declared.outcome.NativeOut.TheVariants as native
-use Rattle.bunch_marks.specs.native_image.Image.{Outside, beside, image}
-use Rattle.bunch_marks.specs.native_image.Meets.{EndsAt}
-use Rattle.bunch_marks.specs.native_image.Sound.{HoldsOwn, IsSound, KeepsStore}
+use Rattle.native_image.specs.Image.{Outside, beside, image}
+use Rattle.native_image.specs.Meets.{EndsAt}
+use Rattle.native_image.specs.Sound.{HoldsOwn, IsSound, KeepsStore}
 use Rattle.bunch_trees.specs.Changes.{Changes}
 
 module _ (w : ℕ) (s m t : Cells) (p q : Page) (l : Loop) (b : Option Bool) (due : Amounts)

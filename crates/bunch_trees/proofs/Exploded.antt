@@ -18,10 +18,10 @@ use Rattle.js_image.specs.Held.{IsHeld, Kept}
 use Rattle.js_image.specs.Image as joint
 use Rattle.js_image.specs.Image.{Rest, all_seen, seen}
 use Rattle.js_image.proofs.Grown.{held_stays, seen_stays}
-use Rattle.bunch_marks.specs.native_image.Image.{Outside, beside, image}
-use Rattle.bunch_marks.specs.native_image.Made.{AreBunches}
-use Rattle.bunch_marks.specs.native_image.Sound.{HoldsOwn, KeepsStore}
-use Rattle.bunch_marks.proofs.NativeImage.Joint.{holds_grows, rest, store_lift}
+use Rattle.native_image.specs.Image.{Outside, beside, image}
+use Rattle.native_image.specs.Made.{AreBunches}
+use Rattle.native_image.specs.Sound.{HoldsOwn, KeepsStore}
+use Rattle.native_image.proofs.Joint.{holds_grows, rest, store_lift}
 use Rattle.bunch_trees.specs.Explodes.{IsEmptyArray, IsExploded, filled}
 use Rattle.bunch_trees.proofs.Filled.{empty_there, exploded_is}
 

@@ -19,11 +19,11 @@ use Rattle.page_image.specs.Stays.{KeepsNodes}
 use Rattle.page_image.proofs.Copies.{copies_put}
 use Rattle.event_loop.specs.declared.around.Loop.{Loop}
 use Rattle.js_image.specs.Held.{Kept}
-use Rattle.bunch_marks.specs.native_image.Image.{Outside, beside, image}
-use Rattle.bunch_marks.specs.native_image.Sound.{HoldsOwn}
-use Rattle.bunch_marks.proofs.NativeImage.Joint.{page_lift}
-use Rattle.bunch_marks.proofs.NativeImage.Keeping.{holds_page, page_grows}
-use Rattle.bunch_marks.proofs.NativeImage.Lifted.{grow_lift, owned_lift}
+use Rattle.native_image.specs.Image.{Outside, beside, image}
+use Rattle.native_image.specs.Sound.{HoldsOwn}
+use Rattle.native_image.proofs.Joint.{page_lift}
+use Rattle.native_image.proofs.Keeping.{holds_page, page_grows}
+use Rattle.native_image.proofs.Lifted.{grow_lift, owned_lift}
 
 size_copies : (n : ℕ) (ts : Trees ℕ) → size ts ≡ size (numbered n (copied ts))
 size_copies n End = refl

@@ -9,5 +9,3 @@ mod Numbered
 mod Roots
 mod Tagged
 mod Texts
--- Handed on to the crates above, which name it so.
-pub use Rattle.bunch_marks.proofs.NativeImage

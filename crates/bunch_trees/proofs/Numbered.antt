@@ -6,8 +6,8 @@ use Rattle.query_grammar.specs.Finds.{has_number}
 use Rattle.query_grammar.proofs.Numbers.{has_first}
 use Rattle.page_tree.specs.declared.page.Page.{Page}
 use Rattle.page_image.specs.Image.{number, owns}
-use Rattle.bunch_marks.specs.native_image.Sound.{KeepsPage}
-use Rattle.bunch_marks.proofs.NativeImage.Lists.{element_in, mapped_one, mapped_whole}
+use Rattle.native_image.specs.Sound.{KeepsPage}
+use Rattle.native_image.proofs.Lists.{element_in, mapped_one, mapped_whole}
 
 later : (a b : Bool) → b ≡ true → (a || b) ≡ true
 later true b e = refl

@@ -20,10 +20,10 @@ use Rattle.page_image.specs.Image.{forest, number, owns}
 use Rattle.page_image.specs.Stays.{KeepsNodes}
 use Rattle.event_loop.specs.declared.around.Loop.{Loop}
 use Rattle.js_image.specs.Image.{seen}
-use Rattle.bunch_marks.specs.native_image.Image.{Outside, beside, image}
-use Rattle.bunch_marks.specs.native_image.Made.{AreBunches}
-use Rattle.bunch_marks.specs.native_image.Sound.{AreNodes}
-use Rattle.bunch_marks.proofs.NativeImage.Joint.{page_lift}
+use Rattle.native_image.specs.Image.{Outside, beside, image}
+use Rattle.native_image.specs.Made.{AreBunches}
+use Rattle.native_image.specs.Sound.{AreNodes}
+use Rattle.native_image.proofs.Joint.{page_lift}
 
 -- the nodes of a Bunch that was read are the widget's
 pub some_own : (p : Page) (w : ℕ) (o : Option (Vec ℕ Global)) (ns : Vec ℕ Global) (l : List ℕ) → o ≡ Some ns → l ≡ ns.items → IfSome o (λ v. AreNodes p w v.items) → (n : ℕ) → has_number l n ≡ true → owns p w n ≡ true

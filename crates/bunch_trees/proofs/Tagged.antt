@@ -11,7 +11,7 @@ use Rattle.widget_meaning.specs.PageForms.{is_input, is_tag, is_text_node}
 use Rattle.widget_meaning.specs.Trees.{depth_of, label_of}
 use Rattle.page_tree.specs.declared.page.Page.{Page}
 use Rattle.page_image.specs.Image.{forest, label_at, number}
-use Rattle.native_forms.proofs.Loops.{over_no, over_yes}
+use Rattle.native_common.proofs.Loops.{over_no, over_yes}
 use Rattle.bunch_trees.specs.Values.{is_closed_tag}
 
 -- the tags that take no value

@@ -22,12 +22,12 @@ use Rattle.page_image.proofs.Looks.{number_low}
 use Rattle.page_image.proofs.Pages.{owner_is}
 use Rattle.event_loop.specs.declared.around.Loop.{Loop}
 use Rattle.js_image.specs.Held.{Kept}
-use Rattle.bunch_marks.specs.native_image.Grown.{IsGrown}
-use Rattle.bunch_marks.specs.native_image.Image.{Outside, beside, image}
-use Rattle.bunch_marks.specs.native_image.Sound.{HoldsOwn}
-use Rattle.bunch_marks.proofs.NativeImage.Joint.{page_lift}
-use Rattle.bunch_marks.proofs.NativeImage.Lifted.{tree_lift}
-use Rattle.bunch_marks.proofs.Relabelled.{relabel_is}
+use Rattle.native_image.specs.Grown.{IsGrown}
+use Rattle.native_image.specs.Image.{Outside, beside, image}
+use Rattle.native_image.specs.Sound.{HoldsOwn}
+use Rattle.native_image.proofs.Joint.{page_lift}
+use Rattle.native_image.proofs.Lifted.{tree_lift}
+use Rattle.bunch_attributes.proofs.Relabelled.{relabel_is}
 
 -- a new text node comes under a node
 pub text_comes : (w : ℕ) (lt : w < 32) (s t : Cells) (p r q : Page) (n id : ℕ) (text : List ℕ) → 0 < length text → owns p w n ≡ true → IsGrown w p r id 1 (Node (length (own p w)) (TextOf text) End End) → Kept [] w s t → owned w t ≡ owned w s → KeepsNodes r q → forest q w ≡ fold (moved (number r w n) None) (forest r w) (map (number r w) (id ∷ []))

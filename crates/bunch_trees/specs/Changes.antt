@@ -6,8 +6,8 @@ use Rattle.widget_meaning.specs.OwnState.{Amounts, State}
 use Rattle.widget_meaning.specs.Costs.{with_counts}
 use Rattle.page_tree.specs.declared.page.Page.{Page}
 use Rattle.event_loop.specs.declared.around.Loop.{Loop}
-use Rattle.bunch_marks.specs.native_image.Image.{Outside, beside, image}
-use Rattle.bunch_marks.specs.native_image.Sound.{HoldsOwn, IsSound}
+use Rattle.native_image.specs.Image.{Outside, beside, image}
+use Rattle.native_image.specs.Sound.{HoldsOwn, IsSound}
 
 -- What a widget has was changed as f says; what that cost is counted and not said here. All stays sound.
 pub record Changes (w : ℕ) (s t : Cells) (p q : Page) (f : State → State) : Type 0 where

@@ -13,7 +13,7 @@ use Rattle.page_tree.specs.declared.page.Page.{Page}
 use Rattle.event_loop.specs.declared.around.Loop.{Loop}
 use Rattle.js_image.specs.Held.{IsHeld}
 use Rattle.js_image.specs.Image.{seen}
-use Rattle.bunch_marks.specs.native_image.Image.{Outside, beside, image}
+use Rattle.native_image.specs.Image.{Outside, beside, image}
 
 -- whether the object with a number is an Array of no elements
 abbrev pub IsEmptyArray : State → ℕ → Type 0

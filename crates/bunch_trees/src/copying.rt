@@ -11,11 +11,11 @@ ghost use Rattle.js_image.specs.Held.{Kept};
 ghost use Rattle.page_image.specs.Copies.{AreCopied};
 ghost use Rattle.page_image.specs.Image.{HasRoot, forest, number, owns};
 ghost use Rattle.page_image.specs.Stays.{HostStays, KeepsNodes, OthersStay};
-ghost use Rattle.bunch_marks.specs.native_image.Sound.{HoldsOwn, IsSound, KeepsAll};
+ghost use Rattle.native_image.specs.Sound.{HoldsOwn, IsSound, KeepsAll};
 ghost use Rattle.bunch_trees.specs.Changes.{Changes};
 
-use bunch_marks::native_image::copy_tree;
 use code_units::Memory;
+use native_image::copy_tree;
 use object_store::Store;
 use page_tree::{NodeId, Page};
 use std::alloc::Global;

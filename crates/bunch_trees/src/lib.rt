@@ -18,8 +18,3 @@ pub use receiver::Receiver;
 pub use rooted::{dom_append, none_root};
 pub use valuing::set_value;
 pub use writing::text_tree;
-
-// Handed on to the crates above, which name it so.
-pub use bunch_marks;
-pub use bunch_marks::native_image;
-pub use bunch_read;

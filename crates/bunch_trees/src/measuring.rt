@@ -5,13 +5,13 @@ ghost use Rattle.tree_ops.specs.Labels.{without_value};
 ghost use Rattle.tree_ops.specs.Trees.{subtree};
 ghost use Rattle.query_grammar.specs.Finds.{has_number};
 ghost use Rattle.widget_meaning.specs.PageForms.{tree_units};
-ghost use Rattle.native_forms.specs.Numbers.{counted};
+ghost use Rattle.native_common.specs.Numbers.{counted};
 ghost use Rattle.page_image.specs.Copies.{trees_at};
 ghost use Rattle.page_image.specs.Image.{forest, label_at, number, owns};
 ghost use Rattle.bunch_trees.specs.Appends.{label_units};
 
 use code_units::{Text, is_word};
-use native_forms::text_len;
+use native_common::text_len;
 use page_image::{children, content};
 use page_tree::{Content, NodeId, Page};
 

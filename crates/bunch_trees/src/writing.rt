@@ -8,13 +8,13 @@ ghost use Rattle.query_grammar.specs.Finds.{has_number};
 ghost use Rattle.widget_meaning.specs.BunchWrites.{emptied, valued, with_text_node};
 ghost use Rattle.event_loop.specs.declared.around.Loop.{Loop};
 ghost use Rattle.page_image.specs.Image.{number, owns};
-ghost use Rattle.bunch_marks.specs.native_image.Sound.{HoldsOwn, IsSound, KeepsAll};
+ghost use Rattle.native_image.specs.Sound.{HoldsOwn, IsSound, KeepsAll};
 ghost use Rattle.bunch_trees.specs.Changes.{Changes};
 
 use crate::copying::put_under;
-use bunch_marks::native_image::add_tree;
-use bunch_marks::{is_input, is_text_node};
+use bunch_attributes::{is_input, is_text_node};
 use code_units::{Memory, Text};
+use native_image::add_tree;
 use object_store::Store;
 use page_image::{empty, set_attr, set_text};
 use page_tree::{NodeId, Page};

@@ -10,11 +10,11 @@ use Rattle.event_loop.specs.declared.around.Loop.{Loop}
 use Rattle.js_image.specs.declared.outcome.Fault.TheVariants as fault
 use Rattle.js_values.specs.Fuel.{Fuel}
 use Rattle.js_values.specs.declared.outcome.NativeOut.TheVariants as native
-use Rattle.bunch_trees.specs.native_image.Image.{beside}
-use Rattle.bunch_trees.specs.native_image.Meets.{MeetsAt}
-use Rattle.bunch_trees.specs.native_image.Sound.{IsSound}
-use Rattle.bunch_trees.proofs.NativeImage.Meeting.{at_free}
-use Rattle.bunch_trees.proofs.NativeImage.Working.{at_thrown}
+use Rattle.native_image.specs.Image.{beside}
+use Rattle.native_image.specs.Meets.{MeetsAt}
+use Rattle.native_image.specs.Sound.{IsSound}
+use Rattle.native_image.proofs.Meeting.{at_free}
+use Rattle.native_image.proofs.Working.{at_thrown}
 
 abbrev pub marks : ℕ → State → Plan
 marks d t = bubble t.dispatches t

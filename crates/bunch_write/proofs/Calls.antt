@@ -14,8 +14,8 @@ use Rattle.js_image.specs.Image.{all_seen, seen}
 use Rattle.js_image.specs.Reads.{cell_in}
 use Rattle.js_values.specs.Fuel.{Fuel}
 use Rattle.js_values.specs.declared.outcome.NativeOut.{NativeOut}
-use Rattle.native_forms.specs.Receivers.{IsReceiver, receiver}
-use Rattle.native_forms.proofs.Seen.{nth_seen}
+use Rattle.native_common.specs.Receivers.{IsReceiver, receiver}
+use Rattle.native_common.proofs.Seen.{nth_seen}
 use Rattle.widget_meaning.specs.Values as meaning
 use Rattle.widget_meaning.specs.NativeNames as names
 use Rattle.widget_meaning.specs.NativeNames.{Family, OfDom, OfEvent, OfRead, OfWrite, family_of}
@@ -27,8 +27,8 @@ use Rattle.widget_meaning.specs.Dispatch.{bubble}
 use Rattle.widget_meaning.specs.OwnState as state
 use Rattle.widget_meaning.specs.OwnState.{State}
 use Rattle.widget_meaning.specs.Costs.{or_throw, throw}
-use Rattle.bunch_trees.specs.native_image.Image.{Parts}
-use Rattle.bunch_trees.specs.native_image.Meets.{MeetsAt}
+use Rattle.native_image.specs.Image.{Parts}
+use Rattle.native_image.specs.Meets.{MeetsAt}
 use Rattle.bunch_write.specs.declared.kinds.Method.{Method}
 use Rattle.bunch_write.specs.declared.kinds.Kind.{Kind}
 use Rattle.bunch_write.specs.declared.kinds.Kind.TheVariants as kind

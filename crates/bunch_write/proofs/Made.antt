@@ -9,7 +9,7 @@ use Rattle.widget_meaning.specs.Costs.{throw}
 use Rattle.widget_meaning.specs.DomNatives.{dom_tag, give_node, given_text}
 use Rattle.widget_meaning.specs.OwnState.{State}
 use Rattle.widget_meaning.specs.Values.{E4, to_text}
-use Rattle.bunch_trees.proofs.NativeImage.Wants.{unwanted, wanted}
+use Rattle.native_image.proofs.Wants.{unwanted, wanted}
 use Rattle.store_cells.specs.declared.value.Value.{Value as StoreValue}
 use Rattle.store_cells.specs.declared.value.Value.TheVariants as value
 use Rattle.store_cells.specs.declared.value.Number.TheVariants as number
@@ -17,7 +17,7 @@ use Rattle.store_cells.specs.Cells.{PlainCell, own_count}
 use Rattle.object_store.specs.Owned as store
 use Rattle.object_store.specs.Owned.{visible_at}
 use Rattle.js_image.specs.Image.{meant, seen}
-use Rattle.bunch_trees.specs.bunch_marks.Values.{is_undefined}
+use Rattle.bunch_attributes.specs.Values.{is_undefined}
 use Rattle.bunch_write.specs.Tags.{may_make}
 
 module _ (a : List ℕ) (ts : List (List ℕ)) (s : State) (tag : List ℕ) (o : Option (List ℕ)) (is : a ≡ tag) (given : ts ≡ option_to_list o) where

@@ -6,7 +6,7 @@ use Rattle.std.specs.declared.alloc.Global.{Global}
 use Rattle.query_grammar.specs.Finds.{has_number}
 use Rattle.page_tree.specs.declared.page.Page.{Page}
 use Rattle.page_image.specs.Image.{owns}
-use Rattle.bunch_trees.specs.native_image.Sound.{AreNodes}
+use Rattle.native_image.specs.Sound.{AreNodes}
 
 pub some_nodes : (p : Page) (w : ℕ) (o : Option (Vec ℕ Global)) (ns : Vec ℕ Global) (l : List ℕ) → o ≡ Some ns → l ≡ ns.items → IfSome o (λ v. AreNodes p w v.items) → AreNodes p w l
 some_nodes p w o ns l e f h = subst (AreNodes p w) (sym f) (subst (λ u. IfSome u (λ v. AreNodes p w v.items)) e h)

@@ -1,32 +1,32 @@
 //! The one call of this crate.
-ghost use Rattle.std.specs.Prelude.{◌≡◌, ◌<◌, ℕ, List, Bool, Option, true, IfOk, map};
+ghost use Rattle.std.specs.Prelude.{◌≡◌, ◌<◌, Bool, Option, true, IfOk, map};
 ghost use Rattle.store_cells.specs.Cells.{IsWidget, number_in};
 ghost use Rattle.widget_meaning.specs.Natives.{run_native};
 ghost use Rattle.js_image.specs.Held.{AreFine, IsFine, IsHeld};
 ghost use Rattle.js_image.specs.Image.{all_seen, seen};
 ghost use Rattle.js_image.specs.Reads.{cell_in};
-ghost use Rattle.native_forms.specs.Receivers.{IsReceiver, receiver};
+ghost use Rattle.native_common.specs.Receivers.{IsReceiver, receiver};
 ghost use Rattle.page_image.specs.Image.{number};
-ghost use Rattle.bunch_trees.specs.native_image.Image.{beside};
-ghost use Rattle.bunch_trees.specs.native_image.Meets.{MeetsAt};
-ghost use Rattle.bunch_trees.specs.native_image.Sound.{AreNodes, IsSound, KeepsAll};
+ghost use Rattle.native_image.specs.Image.{beside};
+ghost use Rattle.native_image.specs.Meets.{MeetsAt};
+ghost use Rattle.native_image.specs.Sound.{AreNodes, IsSound, KeepsAll};
 ghost use Rattle.bunch_write.specs.Kinds.{is_part, method_plan};
 
 use crate::each::{bubble, each};
 use crate::kinds::{Kind, Method, kind_of};
 use crate::making::{dom_tag, dom_text};
 use crate::moving::{empty, remove, replace};
-use bunch_trees::bunch_marks::{
+use bunch_attributes::{
     blur, fire, focus, hush, listen, protect, set_check, set_class, set_enabled, set_mark,
     set_style, set_title,
 };
-use bunch_trees::native_image::receiver_of;
 use bunch_trees::{Receiver, append, dom_append, explode, set_value};
 use code_units::{Memory, Owner};
 use event_loop::Loop;
 use js_image::Fault;
 use js_values::{Meter, NativeOut};
-use native_forms::nth;
+use native_common::nth;
+use native_image::receiver_of;
 use object_store::{CellId, NativeId, Store, Value};
 use page_tree::{NodeId, Page};
 use std::alloc::Global;

@@ -1,5 +1,5 @@
 //! `each`, and `bubble`.
-ghost use Rattle.std.specs.Prelude.{◌≡◌, ◌<◌, ℕ, List, [], ◌∷◌, Bool, Option, Some, IfOk, map};
+ghost use Rattle.std.specs.Prelude.{◌<◌, ℕ, [], ◌∷◌, Bool, Option, Some, IfOk, map};
 ghost use Rattle.widget_meaning.specs.BunchWrites as means;
 ghost use Rattle.widget_meaning.specs.Dispatch as dispatch;
 ghost use Rattle.widget_meaning.specs.NativeNames as names;
@@ -9,18 +9,18 @@ ghost use Rattle.js_image.specs.Image.{seen};
 ghost use Rattle.js_values.specs.Fuel.{Fuel};
 ghost use Rattle.page_image.specs.Image.{number};
 ghost use Rattle.store_cells.specs.Cells.{Cells};
-ghost use Rattle.bunch_trees.specs.native_image.Image.{beside};
-ghost use Rattle.bunch_trees.specs.native_image.Meets.{EndsAt, MeetsAt};
-ghost use Rattle.bunch_trees.specs.native_image.Sound.{AreNodes, IsSound, KeepsAll};
+ghost use Rattle.native_image.specs.Image.{beside};
+ghost use Rattle.native_image.specs.Meets.{EndsAt, MeetsAt};
+ghost use Rattle.native_image.specs.Sound.{AreNodes, IsSound, KeepsAll};
 ghost use Rattle.bunch_write.specs.Calls.{each_paid};
 
-use bunch_trees::bunch_marks::function_of;
-use bunch_trees::native_image::{Bill, make_bunches, settle, weigh};
+use bunch_attributes::function_of;
 use code_units::Memory;
 use event_loop::Loop;
 use js_image::Fault;
 use js_values::{Meter, NativeOut, Plan};
-use native_forms::take;
+use native_common::take;
+use native_image::{Bill, make_bunches, settle, weigh};
 use object_store::{CellId, Store, Value};
 use page_tree::{NodeId, Page};
 use std::alloc::Global;

@@ -1,5 +1,5 @@
 //! The methods of Bunches that take nodes out or put them into the places of others, those that ask for calls, and the
-//! natives of `dom` that make nodes. `call` hands each native that changes to its function, those of `bunch_marks` and
+//! natives of `dom` that make nodes. `call` hands each native that changes to its function, those of `bunch_attributes` and
 //! `bunch_trees` too.
 #![tactic(auto)]
 
@@ -10,6 +10,3 @@ mod making;
 mod moving;
 
 pub use calling::call;
-
-// Handed on to the crates above, which name it so.
-pub use bunch_trees::bunch_read;

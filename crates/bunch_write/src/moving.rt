@@ -1,5 +1,5 @@
 //! Nodes that are taken out of their places, or put into others.
-ghost use Rattle.std.specs.Prelude.{◌≡◌, ◌<◌, ℕ, List, [], ◌∷◌, Bool, Option, Some, true, IfOk, OnOk, map};
+ghost use Rattle.std.specs.Prelude.{◌≡◌, ◌<◌, ℕ, [], ◌∷◌, Bool, Option, Some, true, IfOk, OnOk, map};
 ghost use Rattle.std.specs.List.{fold};
 ghost use Rattle.query_grammar.specs.Finds.{has_number};
 ghost use Rattle.widget_meaning.specs.BunchWrites as means;
@@ -9,19 +9,19 @@ ghost use Rattle.js_image.specs.Held.{IsFine, IsHeld};
 ghost use Rattle.js_image.specs.Image.{seen};
 ghost use Rattle.page_image.specs.Image.{HasRoot, forest, number, owns};
 ghost use Rattle.page_image.specs.Stays.{HostStays, KeepsNodes, OthersStay};
-ghost use Rattle.bunch_trees.specs.native_image.Image.{beside};
-ghost use Rattle.bunch_trees.specs.native_image.Meets.{MeetsAt};
-ghost use Rattle.bunch_trees.specs.native_image.Sound.{AreNodes, IsSound, KeepsAll};
+ghost use Rattle.native_image.specs.Image.{beside};
+ghost use Rattle.native_image.specs.Meets.{MeetsAt};
+ghost use Rattle.native_image.specs.Sound.{AreNodes, IsSound, KeepsAll};
 ghost use Rattle.page_image.specs.Targets.{may_come};
 ghost use Rattle.widget_meaning.specs.Trees.{detached, moved, parent};
 ghost use Rattle.bunch_write.specs.Trees.{emptied_in, may_take, replace_plan};
 
-use bunch_trees::bunch_marks::has_node;
-use bunch_trees::native_image::{Cost, begin, bunch_of};
+use bunch_attributes::has_node;
 use bunch_trees::none_root;
 use code_units::Memory;
 use js_image::Fault;
 use js_values::{Meter, NativeOut};
+use native_image::{Cost, begin, bunch_of};
 use object_store::{CellId, Store, Value};
 use page_image::{detach_all, may_append, parent};
 use page_tree::{NodeId, Page};

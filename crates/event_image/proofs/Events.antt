@@ -16,7 +16,6 @@ use Rattle.query_grammar.specs.Renumbering.{renumbered}
 use Rattle.widget_meaning.specs.Values.{Own}
 use Rattle.widget_meaning.specs.OwnState.{State, Kept, Handler, nothing_kept, kept_at}
 use Rattle.widget_meaning.specs.BunchWrites as writes
-use Rattle.widget_meaning.specs.BunchWrites.{change_kept}
 use Rattle.widget_meaning.specs.Items as items
 use Rattle.widget_meaning.specs.Dispatch as dispatch
 use Rattle.widget_meaning.specs.Trees.{parent, child_at, first_children, node_at}

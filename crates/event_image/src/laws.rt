@@ -1,5 +1,5 @@
 //! Laws on what is kept for a widget, as its page changes. The functions do nothing.
-ghost use Rattle.std.specs.Prelude.{◌≡◌, ℕ, List, ◌++◌, length, replicate};
+ghost use Rattle.std.specs.Prelude.{ℕ, List, ◌++◌, length, replicate};
 ghost use Rattle.event_loop.specs.declared.around.Loop.{Loop};
 ghost use Rattle.page_image.specs.Image.{forest};
 ghost use Rattle.page_image.specs.Stays.{KeepsNodes, Grows};

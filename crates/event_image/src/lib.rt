@@ -12,6 +12,3 @@ pub use around::{
 };
 pub use laws::{shown_as_nodes_come, shown_as_nodes_stay};
 pub use ways::{deliver, nearest};
-
-// Handed on to the crates above, which name it so.
-pub use page_image;

@@ -2,7 +2,7 @@
 use Rattle.std.proofs.Common.{◌≡◌, ℕ, zero, suc, List, [], ◌∷◌, Bool, true, false, refl, sym, ap, ◌∙◌, length, eqb, eq-eqb, ◌||◌, arith, Option, Some, None, Result, Ok, Err, ⊎_elim, slice_get}
 use Rattle.std.proofs.lemmas.Bool.{cases_lt}
 use Rattle.std.proofs.lemmas.List.{get_or_past}
-use Rattle.page_tree.specs.page_nodes.Entries.{Entry, at, listed, no_entry}
+use Rattle.page_nodes.specs.Entries.{Entry, at, listed, no_entry}
 use Rattle.page_tree.specs.Documents.{parent_within}
 use Rattle.std.specs.Prelude.{IfOk}
 use Rattle.std.specs.declared.vec.Vec.{Vec}

@@ -1,6 +1,6 @@
 -- Where an event goes.
 use Rattle.std.specs.Prelude.{ℕ, zero, suc, ◌<◌, length, Bool, List, [], ◌∷◌, Option, Some, None, if◌then◌else◌, slice_get, option_and_then}
-use Rattle.page_tree.specs.page_nodes.Entries.{Entry, at}
+use Rattle.page_nodes.specs.Entries.{Entry, at}
 use Rattle.page_tree.specs.Documents.{parent_within}
 use Rattle.std.specs.declared.vec.Vec.{Vec}
 use Rattle.std.specs.declared.alloc.Global.{Global}

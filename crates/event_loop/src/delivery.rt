@@ -2,7 +2,7 @@
 ghost use Rattle.std.specs.Prelude.{◌≡◌, ◌<◌, [], ◌∷◌, ◌++◌, map, length, Some, None, OnOk, IfOk, option_and_then, slice_get};
 ghost use Rattle.std.specs.List.{filter};
 ghost use Rattle.std.specs.Str.{bytes_eq};
-ghost use Rattle.page_tree.specs.page_nodes.Entries.{at};
+ghost use Rattle.page_nodes.specs.Entries.{at};
 ghost use Rattle.page_tree.specs.Documents.{parent_within};
 ghost use Rattle.page_tree.specs.Pages.{nodes};
 ghost use Rattle.event_loop.specs.Around.{kept};

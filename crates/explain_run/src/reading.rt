@@ -1,5 +1,5 @@
 //! Reading files within their limits.
-ghost use Rattle.std.specs.Prelude.{◌≡◌, ◌≤◌, ◌<◌, ◌^◌, length, All, IfOk};
+ghost use Rattle.std.specs.Prelude.{◌≡◌, ◌≤◌, ◌<◌, length, All, IfOk};
 ghost use Rattle.slot_check.specs.Verdicts.{source_of, sources_of, IsSmall};
 ghost use Rattle.explain_run.specs.Page.{texts, file_limit, IsRead, AreRead, HasBytes};
 ghost use Rattle.explain_run.specs.Steps.{NoFile, NoFiles, Stepped, IsBecause};

@@ -1,5 +1,5 @@
 //! Calls by their numbers, and a count of faults.
-ghost use Rattle.std.specs.Prelude.{◌≡◌, ◌≤◌, ◌<◌, ◌+◌, ◌^◌, ◌-◌};
+ghost use Rattle.std.specs.Prelude.{◌≡◌, ◌≤◌, ◌+◌, ◌-◌};
 ghost use Rattle.host_io.specs.Files.{Rose};
 ghost use Rattle.host_io.specs.Memory.{count_after, fails_next};
 

@@ -1,5 +1,5 @@
 //! Files by name.
-ghost use Rattle.std.specs.Prelude.{◌≡◌, ℕ, ◌+◌, ◌≤◌, List, length, Option, IfSome, IsSome, IfOk, IsErrOf};
+ghost use Rattle.std.specs.Prelude.{◌≡◌, ℕ, ◌+◌, ◌≤◌, length, Option, IfSome, IsSome, IfOk, IsErrOf};
 ghost use Rattle.host_io.specs.Files.{FileMap, IsStart, Rose, IsThere};
 
 use std::alloc::Global;

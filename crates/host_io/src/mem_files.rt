@@ -1,7 +1,7 @@
 //! Files in memory.
-ghost use Rattle.std.specs.Prelude.{◌≡◌, ◌+◌, ◌≤◌, Some, None, Option, MatchOption, IfSome, IsSome, IfOk, IfErr, IsErrOf, IsTrue, ◌↔◌, ◌⊎◌, take, length, true, false};
+ghost use Rattle.std.specs.Prelude.{◌≡◌, ◌+◌, ◌≤◌, Some, None, Option, MatchOption, IsSome, IfOk, IfErr, IsErrOf, IsTrue, ◌↔◌, ◌⊎◌, take, length};
 ghost use Rattle.std.proofs.Common.{rules};
-ghost use Rattle.host_io.specs.Files.{FileMap, IsStart, IsThere, Rose};
+ghost use Rattle.host_io.specs.Files.{IsStart, Rose};
 ghost use Rattle.host_io.specs.Memory.{count_after, fails_next, file_of, is_past};
 
 use crate::calls::{count_call, one_more};

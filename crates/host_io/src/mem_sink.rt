@@ -1,8 +1,7 @@
 //! A sink in memory.
-ghost use Rattle.std.specs.Prelude.{◌≡◌, ◌≤◌, ◌-◌, ◌+◌, ◌<◌, ◌&&◌, ℕ, List, Some, Ok, Err, take, if◌then◌else◌, ◌++◌, Option, [], length, IfOk, IsOkAnd, OnErr};
+ghost use Rattle.std.specs.Prelude.{◌≡◌, ◌≤◌, ◌-◌, ◌+◌, ◌<◌, ◌&&◌, Some, Ok, Err, take, if◌then◌else◌, ◌++◌, [], length, IfOk, IsOkAnd, OnErr};
 ghost use Rattle.host_io.specs.Files.{Rose};
-ghost use Rattle.host_io.specs.Sink.{with_bytes};
-ghost use Rattle.host_io.specs.Memory.{SinkState, count_after, fails_next, is_past, taken_of, takes_of};
+ghost use Rattle.host_io.specs.Memory.{SinkState, count_after, fails_next, taken_of, takes_of};
 
 use crate::calls::{count_call, one_more};
 use crate::{Sink, WriteFail};

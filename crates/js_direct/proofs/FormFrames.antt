@@ -24,7 +24,7 @@ use Rattle.js_tree.specs.declared.nodes.ExprId.{ExprId}
 use Rattle.object_store.specs.Grows.{Grows}
 use Rattle.js_flow.specs.declared.job.Place.{Place}
 use Rattle.js_flow.proofs.Stays.{place_fine}
-use Rattle.js_forms.proofs.Passing.{IsAbrupt, passed}
+use Rattle.js_expressions.proofs.Passing.{IsAbrupt, passed}
 use Rattle.js_direct.specs.declared.run.Ended.{Ended}
 use Rattle.js_direct.specs.declared.run.Ended.TheVariants as ended
 use Rattle.js_direct.specs.declared.run.Run.{Run}

@@ -18,7 +18,7 @@ use Rattle.js_flow.specs.Frames.{taken}
 use Rattle.js_flow.specs.Fine.{FineForm, FineFrame}
 use Rattle.js_flow.specs.Free.{form_free, frame_free}
 use Rattle.js_flow.specs.Views.{completion_of}
-use Rattle.js_forms.proofs.Passing.{passed}
+use Rattle.js_expressions.proofs.Passing.{passed}
 use Rattle.js_direct.specs.declared.run.Ended.{Ended}
 use Rattle.js_direct.specs.declared.run.Ended.TheVariants as ended
 use Rattle.js_direct.specs.declared.run.Run.{Run}

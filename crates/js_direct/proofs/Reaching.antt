@@ -41,7 +41,7 @@ use Rattle.js_direct.specs.declared.run.Ended.{Ended}
 use Rattle.js_direct.specs.declared.run.Ended.TheVariants as ended
 use Rattle.js_direct.specs.declared.run.Run.{Run}
 use Rattle.js_direct.specs.Comes.{Comes, ComesTo, FineWith, came, ended_as, outward}
-use Rattle.js_forms.proofs.Passing.{IsAbrupt}
+use Rattle.js_expressions.proofs.Passing.{IsAbrupt}
 use Rattle.js_direct.proofs.Reducing.{after_each, counts, ends, starts, under}
 use Rattle.js_direct.proofs.Parts.{came_end}
 use Rattle.js_direct.proofs.FormFrames.{other_abrupt, other_end}

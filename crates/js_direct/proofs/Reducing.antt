@@ -5,9 +5,9 @@ use Rattle.widget_meaning.specs.OwnState.{State}
 use Rattle.widget_meaning.specs.Plan.{Plan, Job, Do, and_then}
 use Rattle.widget_meaning.specs.Meaning.{body, run_plan}
 use Rattle.widget_meaning.proofs.Runs.{and_then_assoc}
-use Rattle.end_laws.specs.Ends.{Ends, Way, Yields, way_of}
-use Rattle.end_laws.proofs.Jobs.{body_ends}
-use Rattle.end_laws.proofs.Steps.{joined}
+use Rattle.plan_ends.specs.Ends.{Ends, Way, Yields, way_of}
+use Rattle.plan_ends.proofs.Jobs.{body_ends}
+use Rattle.plan_ends.proofs.Steps.{joined}
 use Rattle.js_flow.specs.Todo.{Strides}
 use Rattle.js_direct.specs.Reduces.{Reduces}
 

@@ -17,7 +17,7 @@ use Rattle.widget_meaning.specs.Properties as properties
 use Rattle.widget_meaning.specs.Values as meaning
 use Rattle.js_image.specs.Image.{seen}
 use Rattle.js_values.specs.Operands.{IsOperand, IsPrefixed, IsPrimitive}
-use Rattle.js_forms.proofs.Values.{read_other, stays_primitive}
+use Rattle.js_expressions.proofs.Values.{read_other, stays_primitive}
 use Rattle.js_direct.specs.Prefixes.{is_plain_prefix}
 
 -- a primitive is no object

@@ -26,8 +26,8 @@ use crate::properties::{dot_on, sub_on};
 use crate::run::{Ended, Here, Run, handed, leave_job};
 use crate::stepping::step_on;
 use code_units::Memory;
+use js_expressions::eval;
 use js_flow::{Flow, Job, Place};
-use js_forms::eval;
 use js_tree::{Expr, ExprId, UnOp};
 use object_store::{Store, Value};
 

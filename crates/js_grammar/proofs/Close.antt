@@ -7,7 +7,7 @@ use Rattle.js_grammar.specs.Grammar.{Lexeme, Deep, fun_of}
 use Rattle.js_grammar.specs.Grammar.Spells.{no_statement}
 use Rattle.js_grammar.specs.Machine as machine
 use Rattle.js_grammar.specs.Machine.{Frame, State, Wants, Gives, Did, Done, Step, step, begin, finished}
-use Rattle.js_grammar.specs.Machine.{PrimaryAt, UnaryAt, DotName, ItemsAt, FirstKey, NextKey, KeyColon, FunName, FunOpen, FirstName, MoreNames, NextName, FunBody, DeclName, Statement, MaybeLabel, BlockAt, Test, Ended, VarName, VarTail, AfterIf, AfterElse, AfterDo, ForOpen, ForFirst, ForVar, ForVarName, ForName, ForTest, AfterContinue, AfterBreak, AfterReturn, SwitchOpen, FirstCase, DefaultColon, AfterTry, CatchOpen, CatchName, CatchClose, AfterCatch, Paren, Tail, NewTail, Index, Target, Prefixed, Rest, Right, Choice, Second, Third, Assigned, Commas, CommaRight, MoreItems, Value, Semi, ReturnSemi, ThrowSemi, VarInit, IfTest, WhileTest, DoTest, WithTest, SwitchTest, ForOver, ForTestEnd, CaseTest, ArrayEnd, CallEnd, NewEnd, ForItemsEnd, ForEnd, ObjectEnd, NamesEnd, VarEnd, ForVarEnd, SwitchEnd, InBlock, InBody, Labelled, ElseIf, IfBlock, ElseBlock, WhileBlock, DoBlock, WithBlock, ForBlock, ForInBlock, TryBlock, CatchBlock, FinallyBlock, InCase, FunEnd, FunExpr, Declare}
+use Rattle.js_grammar.specs.Machine.{PrimaryAt, UnaryAt, DotName, ItemsAt, FirstKey, NextKey, KeyColon, FunName, FunOpen, FirstName, MoreNames, NextName, FunBody, DeclName, Statement, MaybeLabel, BlockAt, Test, Ended, VarName, VarTail, AfterIf, AfterElse, AfterDo, ForOpen, ForFirst, ForVar, ForVarName, ForName, ForTest, AfterContinue, AfterBreak, AfterReturn, SwitchOpen, FirstCase, DefaultColon, AfterTry, CatchOpen, CatchName, CatchClose, AfterCatch, Tail, NewTail, Target, Prefixed, Rest, Right, Choice, Third, Assigned, Commas, CommaRight, Value, InBlock, InBody}
 use Rattle.js_tree.specs.Plain.{Expr, Exprs, ExprAt, Name, Array, Object, Function, Dot, Sub, Call, New, Cond, Assign, Comma, NoExprs, AndExpr, NoExpr, SomeExpr, Properties, NoProperties, AndProperty, Decls, NoDecls, AndDecl, ForInit, DeclsFirst, ExprsFirst, Stmt, StmtAt, Var, Only, If, While, DoWhile, For, ForIn, Continue, Break, Return, Throw, With, Switch, Try, Label, Stmts, NoStmts, AndStmt, NoBlock, SomeBlock, NoCatch, CatchAs, Clauses, NoClauses, AndClause, Fun, Funs, NoFuns, AndFun, expr_place}
 use Rattle.exact_refusals.specs.Judge as judge
 use Rattle.js_grammar.proofs.Waits.{Need, Of, OfItems, OfKeys, OfNames, OfVars, OfCode, OfBody, OfTest, OfBlock, OfStatement, OfStatements, OfCases, Waits, HoldsWants, Holds, as_operand, as_left_hand, in_tail, in_new, in_target, in_prefix, in_rest, in_right, in_choice, in_second, in_third, in_assigned, in_commas, in_comma, in_paren, in_index, in_items, in_value, in_init, in_only, in_return, in_throw, in_over, in_for_test, in_case_test, in_test, in_if, in_while, in_do, in_with, in_switch, in_array, in_call, in_new_list, in_for_items, in_for_steps, in_object, in_names, in_vars, in_for_vars, in_cases, in_block, in_body, in_label, in_else_if, in_if_block, in_do_block, in_try_block, in_catch_block, in_else_block, in_while_block, in_with_block, in_for_block, in_for_in_block, in_finally_block, in_braces, in_case, in_program, in_function, in_fun_expr, in_declared}

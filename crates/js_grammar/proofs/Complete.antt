@@ -9,8 +9,8 @@ use Rattle.js_grammar.specs.Tables.{infix_of, level_of, joined, prefix_of, prefi
 use Rattle.js_grammar.specs.Grammar.{Lexeme, Deep, Unary, Operators, Assignment, Thing, Items, Keys, Maybe, Names, Init, Vars, Cases, Spells, has_default, IsProgram}
 use Rattle.js_grammar.specs.Grammar.Spells.{name, number, string, this, null, true_word, false_word, paren, array, object, unnamed, named, operand, operand_dot, operand_sub, left_hand, dot, sub, call, new_with, new_alone, unary, post_step, before_operand, operators, looser, between, assignment, choice, assign, whole, comma, no_items, first_item, next_item, no_keys, first_key, next_key, nothing, something, no_names, first_name, next_name, code, empty_body, body_statement, body_function, no_statement, next_statement, block, no_init, init, first_var, next_var, variables, only, if_alone, if_else, else_if, while_loop, do_loop, for_vars, for_items, for_in, for_var_in, continue_loop, continue_label, break_loop, break_label, returns, throws, with_object, switch, no_case, next_case, default_case, label, try_catch, try_finally, try_both}
 use Rattle.js_grammar.specs.Machine as machine
-use Rattle.js_grammar.specs.Machine.{Frame, State, Wants, Gives, Did, Done, Step, step, begin, finished}
-use Rattle.js_grammar.specs.Machine.{PrimaryAt, UnaryAt, DotName, ItemsAt, FirstKey, NextKey, KeyColon, FunName, FunOpen, FirstName, MoreNames, NextName, FunBody, DeclName, Statement, MaybeLabel, BlockAt, Test, Ended, VarName, VarTail, AfterIf, AfterElse, AfterDo, ForOpen, ForFirst, ForVar, ForVarName, ForName, ForTest, AfterContinue, AfterBreak, AfterReturn, SwitchOpen, FirstCase, DefaultColon, AfterTry, CatchOpen, CatchName, CatchClose, AfterCatch, Paren, Tail, NewTail, Index, Target, Prefixed, Rest, Right, Choice, Second, Third, Assigned, Commas, CommaRight, MoreItems, Value, Semi, ReturnSemi, ThrowSemi, VarInit, IfTest, WhileTest, DoTest, WithTest, SwitchTest, ForOver, ForTestEnd, CaseTest, ArrayEnd, CallEnd, NewEnd, ForItemsEnd, ForEnd, ObjectEnd, NamesEnd, VarEnd, ForVarEnd, SwitchEnd, InBlock, InBody, Labelled, ElseIf, IfBlock, ElseBlock, WhileBlock, DoBlock, WithBlock, ForBlock, ForInBlock, TryBlock, CatchBlock, FinallyBlock, InCase, FunEnd, FunExpr, Declare}
+use Rattle.js_grammar.specs.Machine.{Frame, State, Wants, Gives, Did, step, begin}
+use Rattle.js_grammar.specs.Machine.{UnaryAt, ItemsAt, FirstKey, KeyColon, FirstName, BlockAt, VarName, AfterElse, ForTest, AfterReturn, FirstCase, DefaultColon, Paren, Tail, NewTail, Index, Target, Prefixed, Rest, Right, Choice, Second, Third, Assigned, Commas, CommaRight, MoreItems, Value, Semi, ReturnSemi, ThrowSemi, VarInit, IfTest, WhileTest, DoTest, WithTest, SwitchTest, ForOver, ForTestEnd, CaseTest, ArrayEnd, CallEnd, NewEnd, ForItemsEnd, ForEnd, ObjectEnd, NamesEnd, VarEnd, ForVarEnd, SwitchEnd, InBlock, InBody, Labelled, ElseIf, IfBlock, ElseBlock, WhileBlock, DoBlock, WithBlock, ForBlock, ForInBlock, TryBlock, CatchBlock, FinallyBlock, InCase, FunEnd, FunExpr, Declare}
 use Rattle.js_tree.specs.declared.nodes.StepOp.{StepOp}
 use Rattle.js_tree.specs.declared.nodes.AssignOp.{AssignOp}
 use Rattle.js_tree.specs.Plain.{Expr, Exprs, ExprAt, Step as StepOf, Cond, Assign, Comma, NoExprs, AndExpr, OptionalExpr, NoExpr, SomeExpr, Properties, NoProperties, AndProperty, Decls, NoDecls, AndDecl, ForInit, DeclsFirst, ExprsFirst, StmtAt, Return, Stmts, NoCatch, CatchAs, Clauses, NoClauses, AndClause, expr_place}

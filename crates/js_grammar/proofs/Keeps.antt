@@ -9,8 +9,8 @@ use Rattle.js_grammar.specs.Tables.{infix_of, level_of, joined, prefix_of, prefi
 use Rattle.js_grammar.specs.Grammar.{Lexeme, Token, Deep, Level, Primary, Operand, LeftHand, Unary, Operators, Assignment, Whole, An, Items, Keys, Names, Vars, Spells}
 use Rattle.js_grammar.specs.Grammar.Spells.{name, number, string, this, null, true_word, false_word, paren, array, object, operand, operand_dot, operand_sub, left_hand, dot, sub, call, new_with, new_alone, unary, post_step, before_operand, operators, looser, between, assignment, choice, assign, whole, comma, next_item, next_key, something, no_statement, next_var, variables, while_loop, do_loop, for_vars, for_items, returns, throws, with_object, next_case}
 use Rattle.js_grammar.specs.Machine as machine
-use Rattle.js_grammar.specs.Machine.{Frame, State, Wants, Gives, Did, Done, Step, step, begin, finished}
-use Rattle.js_grammar.specs.Machine.{PrimaryAt, UnaryAt, DotName, ItemsAt, FirstKey, NextKey, KeyColon, FunName, FunOpen, FirstName, MoreNames, NextName, FunBody, DeclName, Statement, MaybeLabel, BlockAt, Test, Ended, VarName, VarTail, AfterIf, AfterElse, AfterDo, ForOpen, ForFirst, ForVar, ForVarName, ForName, ForTest, AfterContinue, AfterBreak, AfterReturn, SwitchOpen, FirstCase, DefaultColon, AfterTry, CatchOpen, CatchName, CatchClose, AfterCatch, Paren, Tail, NewTail, Index, Target, Prefixed, Rest, Right, Choice, Second, Third, Assigned, Commas, CommaRight, MoreItems, Value, Semi, ReturnSemi, ThrowSemi, VarInit, IfTest, WhileTest, DoTest, WithTest, SwitchTest, ForOver, ForTestEnd, CaseTest, ArrayEnd, CallEnd, NewEnd, ForItemsEnd, ForEnd, ObjectEnd, NamesEnd, VarEnd, ForVarEnd, SwitchEnd, InBlock, InBody, Labelled, ElseIf, IfBlock, ElseBlock, WhileBlock, DoBlock, WithBlock, ForBlock, ForInBlock, TryBlock, CatchBlock, FinallyBlock, InCase, FunEnd, FunExpr, Declare}
+use Rattle.js_grammar.specs.Machine.{Frame, Wants, Step, step}
+use Rattle.js_grammar.specs.Machine.{UnaryAt, Tail, Target, Rest, Right, Choice, Commas}
 use Rattle.js_tree.specs.declared.nodes.StepOp.{StepOp}
 use Rattle.js_tree.specs.declared.nodes.AssignOp.{AssignOp}
 use Rattle.js_tree.specs.Plain.{Expr, Exprs, ExprAt, New, Cond, Assign, Comma, NoExprs, AndExpr, SomeExpr, Properties, AndProperty, Decls, AndDecl, expr_place}

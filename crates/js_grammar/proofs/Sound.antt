@@ -6,8 +6,8 @@ use Rattle.js_grammar.specs.Tables.{is_key}
 use Rattle.js_grammar.specs.Grammar.{Lexeme, Token, Deep, Primary, LeftHand, Unary, An, Items, Keys, Names, Vars, A, Statements, Cases, Body, Spells, has_default, IsProgram}
 use Rattle.js_grammar.specs.Grammar.Spells.{name, unnamed, named, left_hand, no_items, first_item, no_keys, first_key, nothing, no_names, first_name, next_name, code, empty_body, body_statement, body_function, no_statement, next_statement, block, no_init, init, first_var, next_var, only, if_alone, if_else, else_if, for_in, for_var_in, continue_loop, continue_label, break_loop, break_label, returns, switch, no_case, default_case, label, try_catch, try_finally, try_both}
 use Rattle.js_grammar.specs.Machine as machine
-use Rattle.js_grammar.specs.Machine.{Frame, State, Wants, Gives, Did, Done, Step, step, begin, finished}
-use Rattle.js_grammar.specs.Machine.{PrimaryAt, UnaryAt, DotName, ItemsAt, FirstKey, NextKey, KeyColon, FunName, FunOpen, FirstName, MoreNames, NextName, FunBody, DeclName, Statement, MaybeLabel, BlockAt, Test, Ended, VarName, VarTail, AfterIf, AfterElse, AfterDo, ForOpen, ForFirst, ForVar, ForVarName, ForName, ForTest, AfterContinue, AfterBreak, AfterReturn, SwitchOpen, FirstCase, DefaultColon, AfterTry, CatchOpen, CatchName, CatchClose, AfterCatch, Paren, Tail, NewTail, Index, Target, Prefixed, Rest, Right, Choice, Second, Third, Assigned, Commas, CommaRight, MoreItems, Value, Semi, ReturnSemi, ThrowSemi, VarInit, IfTest, WhileTest, DoTest, WithTest, SwitchTest, ForOver, ForTestEnd, CaseTest, ArrayEnd, CallEnd, NewEnd, ForItemsEnd, ForEnd, ObjectEnd, NamesEnd, VarEnd, ForVarEnd, SwitchEnd, InBlock, InBody, Labelled, ElseIf, IfBlock, ElseBlock, WhileBlock, DoBlock, WithBlock, ForBlock, ForInBlock, TryBlock, CatchBlock, FinallyBlock, InCase, FunEnd, FunExpr, Declare}
+use Rattle.js_grammar.specs.Machine.{Frame, State, Wants, Gives, Did, Done, Step, step, begin}
+use Rattle.js_grammar.specs.Machine.{PrimaryAt, UnaryAt, DotName, ItemsAt, FirstKey, NextKey, KeyColon, FunName, FunOpen, FirstName, MoreNames, NextName, FunBody, DeclName, Statement, MaybeLabel, BlockAt, Test, Ended, VarName, VarTail, AfterIf, AfterElse, AfterDo, ForOpen, ForFirst, ForVar, ForVarName, ForName, ForTest, AfterContinue, AfterBreak, AfterReturn, SwitchOpen, FirstCase, DefaultColon, AfterTry, CatchOpen, CatchName, CatchClose, AfterCatch, Rest, Choice, Commas, MoreItems, Semi, ReturnSemi, ForTestEnd, ForItemsEnd, ForVarEnd, InBlock, InBody}
 use Rattle.js_tree.specs.Plain.{Expr, ExprAt, Name, NoExprs, NoExpr, SomeExpr, Properties, NoProperties, AndProperty, Decls, NoDecls, AndDecl, ForInit, Stmt, StmtAt, If, Continue, Break, Try, Label, Stmts, NoStmts, AndStmt, NoBlock, CatchAs, Clauses, NoClauses, AndClause, Funs}
 use Rattle.js_grammar.proofs.Waits.{Of, OfItems, OfKeys, OfNames, OfBody, OfStatement, OfStatements, OfCases, Waits, HoldsWants, Holds, in_tail, in_target, in_items, in_value, in_init, in_only, in_return, in_throw, in_over, in_for_test, in_case_test, in_test, in_if, in_while, in_do, in_with, in_switch, in_for_items, in_for_steps, in_names, in_vars, in_for_vars, in_cases, in_block, in_body, in_label, in_else_if, in_if_block, in_do_block, in_try_block, in_catch_block, in_else_block, in_while_block, in_with_block, in_for_block, in_for_in_block, in_finally_block, in_braces, in_case, in_program, in_function, in_fun_expr, in_declared}
 use Rattle.js_grammar.proofs.Takes.{Takes}

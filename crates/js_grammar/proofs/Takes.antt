@@ -7,8 +7,8 @@ use Rattle.js_grammar.specs.declared.Infix.{Infix}
 use Rattle.js_grammar.specs.Tables.{infix_of, level_of, step_of, assign_of, is_tail, opens_other}
 use Rattle.js_grammar.specs.Grammar.{Lexeme, Token, Deep, Level, Primary, Operand, LeftHand, Unary, Operators, Assignment, Whole, Thing, An, Items, Keys, Maybe, Names, Code, Init, Vars, A, Statements, Block, Cases, Body, goes_on}
 use Rattle.js_grammar.specs.Machine as machine
-use Rattle.js_grammar.specs.Machine.{Frame, State, Wants, Gives, Did, Done, Step, step, begin, finished}
-use Rattle.js_grammar.specs.Machine.{PrimaryAt, UnaryAt, DotName, ItemsAt, FirstKey, NextKey, KeyColon, FunName, FunOpen, FirstName, MoreNames, NextName, FunBody, DeclName, Statement, MaybeLabel, BlockAt, Test, Ended, VarName, VarTail, AfterIf, AfterElse, AfterDo, ForOpen, ForFirst, ForVar, ForVarName, ForName, ForTest, AfterContinue, AfterBreak, AfterReturn, SwitchOpen, FirstCase, DefaultColon, AfterTry, CatchOpen, CatchName, CatchClose, AfterCatch, Paren, Tail, NewTail, Index, Target, Prefixed, Rest, Right, Choice, Second, Third, Assigned, Commas, CommaRight, MoreItems, Value, Semi, ReturnSemi, ThrowSemi, VarInit, IfTest, WhileTest, DoTest, WithTest, SwitchTest, ForOver, ForTestEnd, CaseTest, ArrayEnd, CallEnd, NewEnd, ForItemsEnd, ForEnd, ObjectEnd, NamesEnd, VarEnd, ForVarEnd, SwitchEnd, InBlock, InBody, Labelled, ElseIf, IfBlock, ElseBlock, WhileBlock, DoBlock, WithBlock, ForBlock, ForInBlock, TryBlock, CatchBlock, FinallyBlock, InCase, FunEnd, FunExpr, Declare}
+use Rattle.js_grammar.specs.Machine.{Frame, State, Wants, Gives, Did, Step, step, finished}
+use Rattle.js_grammar.specs.Machine.{PrimaryAt, UnaryAt, ItemsAt, FirstKey, FunName, FunOpen, FirstName, MoreNames, Statement, MaybeLabel, BlockAt, VarName, VarTail, AfterIf, ForFirst, ForVar, ForVarName, ForName, ForTest, AfterReturn, FirstCase, AfterCatch, Tail, NewTail, Target, Rest, Choice, Commas, MoreItems, Value, Semi, ReturnSemi, VarInit, ForTestEnd, ForItemsEnd, ForVarEnd, InBlock, InBody, Labelled, ElseIf, InCase, FunExpr}
 use Rattle.js_tree.specs.declared.nodes.StepOp.{StepOp}
 use Rattle.js_tree.specs.declared.nodes.AssignOp.{AssignOp}
 use Rattle.js_tree.specs.Plain.{Expr, ExprAt, Name, New, NoExprs, AndExpr, NoExpr, SomeExpr, NoProperties, AndProperty, Decls, NoDecls, AndDecl, ForInit, Stmt, StmtAt, If, Try, Label, Stmts, NoStmts, AndStmt, NoBlock, CatchAs, NoClauses, AndClause, Funs, NoFuns}

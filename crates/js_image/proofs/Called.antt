@@ -13,7 +13,7 @@ use Rattle.store_cells.specs.declared.kind.Form.{Form}
 use Rattle.store_cells.specs.declared.kind.Form.TheVariants as form
 use Rattle.store_cells.specs.declared.kind.FunParts.{FunParts}
 use Rattle.store_cells.specs.Cells as cells_of
-use Rattle.store_cells.specs.Cells.{Cells, PlainCell, is_visible, is_visible_form, native_in, own_count}
+use Rattle.store_cells.specs.Cells.{Cells, PlainCell, is_visible_form, native_in, own_count}
 use Rattle.store_cells.specs.Host.{entry_form}
 use Rattle.object_store.specs.Owned as store
 use Rattle.object_store.specs.Owned.{own_kind, visible_at}

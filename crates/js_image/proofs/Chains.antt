@@ -21,7 +21,7 @@ use Rattle.store_cells.specs.Host.{is_frozen_form, is_host_owner, is_permitted_c
 use Rattle.store_cells.proofs.Lists.{count_step}
 use Rattle.object_store.specs.Calls.{HasLength, readable}
 use Rattle.object_store.specs.Owned as store
-use Rattle.object_store.specs.Owned.{own_cell, own_cells, own_kind, own_link, own_pairs, own_value, owned, shown, visible_at}
+use Rattle.object_store.specs.Owned.{own_cell, own_cells, own_kind, own_link, own_pairs, own_value, owned, visible_at}
 use Rattle.widget_meaning.specs.Values as meaning
 use Rattle.widget_meaning.specs.OwnState as state
 use Rattle.widget_meaning.specs.OwnState.{Cell, State, cell_at}

@@ -19,6 +19,3 @@ pub mod Arrays
 pub mod ForIn
 pub mod Pushes
 pub mod Indexes
--- Handed on to the crates above, which name it so.
-pub use Rattle.store_cells.proofs as StoreCells
-pub use Rattle.widget_meaning.proofs as WidgetMeaning

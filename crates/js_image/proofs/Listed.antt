@@ -17,7 +17,7 @@ use Rattle.store_cells.specs.Cells.{Cells, PlainCell, is_array, is_bunch, is_vis
 use Rattle.store_cells.specs.Host.{is_frozen_form, place_of}
 use Rattle.object_store.specs.Calls.{keys_at}
 use Rattle.object_store.specs.Owned as store
-use Rattle.object_store.specs.Owned.{OwnValue, but_length, own_pairs, visible_at}
+use Rattle.object_store.specs.Owned.{but_length, own_pairs, visible_at}
 use Rattle.widget_meaning.specs.Values as meaning
 use Rattle.widget_meaning.specs.OwnState.{Cell}
 use Rattle.widget_meaning.specs.Properties.{keys, permitted_names}

@@ -12,7 +12,7 @@ use Rattle.store_cells.specs.Lists.{changed}
 use Rattle.object_store.specs.declared.store.NewCell.{NewCell}
 use Rattle.object_store.specs.declared.store.NewCell.TheVariants as fresh
 use Rattle.object_store.specs.Owned as store
-use Rattle.object_store.specs.Owned.{Assigned, Changed, OwnCell, OwnKind, OwnValue, Owned, made_cells, own_cells, own_length, own_paid, own_placed, own_put, own_removed, own_resized, own_stored, owned}
+use Rattle.object_store.specs.Owned.{Changed, OwnCell, OwnKind, OwnValue, made_cells, own_cells, own_length, own_placed, own_put, own_removed, own_resized, own_stored, owned}
 use Rattle.js_image.specs.Held.{CountsRise, HoldNodes, PassNodes}
 use Rattle.js_image.specs.Plans.{IsNewOf}
 

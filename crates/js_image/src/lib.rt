@@ -22,6 +22,3 @@ pub use receivers::{
     array_length, bunch_nodes, element, elements, has_objects, has_own, new_indexes,
 };
 pub use writing::{add_to, assign, push_paid, put, remove};
-
-// Handed on to the crates above, which name it so.
-pub use object_store;

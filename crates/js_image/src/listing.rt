@@ -1,7 +1,6 @@
 //! The names that `for-in` lists.
 ghost use Rattle.std.specs.Prelude.{◌≡◌, ℕ, ◌<◌, ◌++◌, List, [], ◌∷◌, Option, IfOk, IfSome, OnOk, if◌then◌else◌, is_some, length, not, slice_get};
 ghost use Rattle.std.specs.List.{AllByRecursion, list_any};
-ghost use Rattle.std.specs.Str.{bytes_eq};
 ghost use Rattle.js_tree.specs.Forest.{Forest};
 ghost use Rattle.store_cells.specs.Cells.{widget_of};
 ghost use Rattle.store_cells.specs.Shape.{IsRefWithin};

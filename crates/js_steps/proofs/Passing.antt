@@ -22,7 +22,7 @@ use Rattle.js_flow.specs.Views.{completion_of, place_of}
 use Rattle.js_flow.specs.Statements.{clause_tested, loop_again, loop_next, statement_taken}
 use Rattle.js_flow.specs.Calls.{call_taken}
 use Rattle.js_flow.specs.Frames.{taken}
-use Rattle.js_forms.proofs.Passing as forms
+use Rattle.js_expressions.proofs.Passing as forms
 use Rattle.js_steps.specs.Unwinding.{IsAbrupt, call_takes, ends_pass, is_break, is_throw, statement_takes, takes}
 
 -- ## Ends of the meaning

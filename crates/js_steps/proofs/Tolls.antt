@@ -7,9 +7,9 @@ use Rattle.widget_meaning.specs.OwnState.{State}
 use Rattle.widget_meaning.specs.Values.{Normal}
 use Rattle.widget_meaning.specs.Plan.{Plan, Ret, and_then}
 use Rattle.widget_meaning.proofs.PlansHold.{plan_laws}
-use Rattle.end_laws.specs.Ends.{ByValue, Yields, way_of}
-use Rattle.end_laws.proofs.Jobs.{body_ends}
-use Rattle.end_laws.proofs.Steps.{joined}
+use Rattle.plan_ends.specs.Ends.{ByValue, Yields, way_of}
+use Rattle.plan_ends.proofs.Jobs.{body_ends}
+use Rattle.plan_ends.proofs.Steps.{joined}
 use Rattle.js_image.specs.Image.{Rest, image, no_rest}
 use Rattle.js_values.specs.Fuel.{Fuel}
 use Rattle.js_flow.specs.declared.frame.Frame.{Frame}

@@ -4,7 +4,7 @@ use Rattle.js_tree.specs.Forest.{Forest}
 use Rattle.store_cells.specs.Cells.{Cells, PlainCell}
 use Rattle.widget_meaning.specs.Values as meaning
 use Rattle.widget_meaning.specs.OwnState.{State}
-use Rattle.end_laws.specs.Ends.{ByValue, Ends, Way, Yields}
+use Rattle.plan_ends.specs.Ends.{ByValue, Ends, Way, Yields}
 use Rattle.js_image.specs.Image.{Rest, image}
 use Rattle.js_image.specs.Held.{IsFine}
 use Rattle.js_flow.specs.declared.frame.Frame.{Frame}

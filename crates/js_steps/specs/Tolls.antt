@@ -2,7 +2,7 @@
 use Rattle.std.specs.Prelude.{◌≡◌, ℕ, ◌+◌, ◌-◌, ◌<◌, ◌≤◌, List}
 use Rattle.js_tree.specs.Forest.{Forest}
 use Rattle.store_cells.specs.Cells.{Cells}
-use Rattle.end_laws.specs.Ends.{ByValue, Yields}
+use Rattle.plan_ends.specs.Ends.{ByValue, Yields}
 use Rattle.js_image.specs.Image.{Rest, image}
 use Rattle.js_values.specs.Fuel.{Fuel}
 use Rattle.js_flow.specs.declared.job.Completion.TheVariants as completion

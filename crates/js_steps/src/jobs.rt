@@ -12,8 +12,8 @@ ghost use Rattle.js_steps.specs.Charges.{is_of_ids};
 
 use code_units::Memory;
 use js_calls::{call, take_call};
+use js_expressions::{eval, take_form, target};
 use js_flow::{Completion, Flow, Frame, Job};
-use js_forms::{eval, take_form, target};
 use js_names::Code;
 use js_statements::{exec, pass, pass_in, take_statement};
 use object_store::Store;

@@ -13,7 +13,7 @@ use Rattle.js_tokens.specs.Lexes.Reads.{blank, line_comment, comment}
 use Rattle.js_tokens.specs.Lexes.Bad.{glued, unclosed, bad_escape, open_comment, other}
 use Rattle.js_tokens.specs.Lexes.FirstBad.{past_blank, past_line_comment, past_comment}
 use Rattle.js_tokens.specs.Scan as scan
-use Rattle.js_tokens.specs.Scan.{tail, after_run, after_exponent, after_assign, after_string, first_bad, after_comment, word_kind, Found, found_number, found_string, found_comment, found_point, found_slash, found_at, found}
+use Rattle.js_tokens.specs.Scan.{after_run, after_exponent, after_assign, after_string, first_bad, after_comment, word_kind, Found, found_number, found_string, found_comment, found_slash, found_at, found}
 use Rattle.js_tokens.proofs.Runs.{run_sound, run_stops}
 use Rattle.js_tokens.proofs.Strings.{closed_sound, closed_none, bad_sound, comment_sound, comment_none}
 use Rattle.js_tokens.proofs.Longest.{ClassIs, class_means, scan_of, scan_at, scan_string, scan_point, scan_slash, scanned_spelled, scanned_longest}

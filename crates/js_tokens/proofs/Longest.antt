@@ -12,7 +12,7 @@ use Rattle.js_tokens.specs.Words.{is_reserved, is_mark}
 use Rattle.js_tokens.specs.Lexes.{front, Run, begins_comment, Spelled, IsLongest, IsApart}
 use Rattle.js_tokens.specs.Lexes.Spelled.{name, reserved, number, text, mark}
 use Rattle.js_tokens.specs.Scan as scan
-use Rattle.js_tokens.specs.Scan.{tail, after_run, after_number, after_exponent, after_assign, after_mark, after_string, first_bad, after_comment, Found, word_kind, found_number, found_string, found_slash, found_at, found}
+use Rattle.js_tokens.specs.Scan.{after_run, after_number, after_exponent, after_assign, after_mark, after_string, first_bad, Found, word_kind, found_number, found_string, found_slash, found_at, found}
 use Rattle.js_tokens.proofs.Runs.{Suffix, whole, next, suffix_length, suffix_once, suffix_more, run_suffix, run_sound, run_longest, after_run_suffix}
 use Rattle.js_tokens.proofs.Numbers.{number_sound, point_sound, number_suffix, after_exponent_suffix, number_longest, point_longest, point_digit, number_first}
 use Rattle.js_tokens.proofs.Marks.{mark_longest, mark_first, has_mark_class, mark_sound, point_mark, slash_mark}

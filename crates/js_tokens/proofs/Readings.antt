@@ -11,7 +11,7 @@ use Rattle.js_tokens.specs.Lexes.Reads.{done, blank, line_comment, comment, toke
 use Rattle.js_tokens.specs.Lexes.Bad.{glued, unclosed, bad_escape, open_comment, other}
 use Rattle.js_tokens.specs.Lexes.FirstBad.{bad, past_blank, past_line_comment, past_comment, past_token}
 use Rattle.js_tokens.specs.Scan as scan
-use Rattle.js_tokens.specs.Scan.{tail, after_run, after_number, after_exponent, after_assign, after_mark, after_string, first_bad, after_comment, Found, found_number, found_string, found_comment, found_point, found_slash, found_at, found}
+use Rattle.js_tokens.specs.Scan.{after_string, first_bad, after_comment, Found, found_string, found_comment, found_at, found}
 use Rattle.js_tokens.proofs.Runs.{run_once}
 use Rattle.js_tokens.proofs.Strings.{closed_sound, closed_found, bad_found, comment_sound, comment_found}
 use Rattle.js_tokens.proofs.Longest.{token_scanned, found_scanned, token_found}

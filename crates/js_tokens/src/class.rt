@@ -1,6 +1,6 @@
 //! Classes of characters.
 ghost use Rattle.std.specs.Prelude.{◌≡◌};
-ghost use Rattle.js_tokens.specs.Characters.{is_line_end, is_in_line, is_letter, is_digit, is_hex_digit, is_part, is_blank, begins_mark, class_of};
+ghost use Rattle.js_tokens.specs.Characters.{is_line_end, is_letter, is_digit, is_hex_digit, is_part, is_blank, begins_mark, class_of};
 ghost use Rattle.js_tokens.specs.Runs.{passes};
 
 /// What a character begins, outside of strings and comments.

@@ -1,5 +1,5 @@
 //! Reading the characters of a text at byte offsets.
-ghost use Rattle.std.specs.Prelude.{◌≡◌, ◌+◌, [], length, MatchOption};
+ghost use Rattle.std.specs.Prelude.{◌≡◌, ◌+◌, [], MatchOption};
 ghost use Rattle.js_tokens.specs.Characters.{Begins};
 ghost use Rattle.js_tokens.specs.Cursor.{from, IsPlace, IsNext, IsEnd};
 ghost use Rattle.js_tokens.specs.Runs.{passes};

@@ -1,8 +1,6 @@
 //! Where marks end.
-ghost use Rattle.std.specs.Prelude.{◌≡◌, if◌then◌else◌};
-ghost use Rattle.js_tokens.specs.Characters.{Starts};
 ghost use Rattle.js_tokens.specs.Cursor.{from, IsPlace, IsEnd};
-ghost use Rattle.js_tokens.specs.Scan.{tail, after_assign, after_equals, after_double, after_less, after_shift, after_greater, after_mark};
+ghost use Rattle.js_tokens.specs.Scan.{after_assign, after_equals, after_double, after_less, after_shift, after_greater, after_mark};
 
 use crate::cursor::char_at;
 

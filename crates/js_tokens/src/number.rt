@@ -1,5 +1,4 @@
 //! Where numbers end.
-ghost use Rattle.std.specs.Prelude.{◌≡◌};
 ghost use Rattle.js_tokens.specs.Cursor.{from, IsPlace, IsEnd};
 ghost use Rattle.js_tokens.specs.Scan.{after_sign, after_exponent, after_fraction, after_decimal, after_number};
 

@@ -2,7 +2,7 @@
 ghost use Rattle.std.specs.Prelude.{◌≡◌, ◌<◌, false};
 ghost use Rattle.js_tokens.specs.Characters.{class_of};
 ghost use Rattle.js_tokens.specs.Cursor.{from, IsPlace, IsNext};
-ghost use Rattle.js_tokens.specs.Scan.{found_number, found_string, found_point, found_slash, found_at, found, after_string, first_bad};
+ghost use Rattle.js_tokens.specs.Scan.{found_number, found_string, found_point, found_slash, found, after_string, first_bad};
 ghost use Rattle.js_tokens.specs.Pieces.{IsPiece};
 
 use crate::class::{Class, Run, class_of};

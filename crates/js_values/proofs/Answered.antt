@@ -2,14 +2,14 @@
 use Rattle.std.proofs.Common.{◌≡◌, ℕ, zero, suc, ◌+◌, ◌<◌, ◌≤◌, true, false, ap, sym, ◌∙◌, if◌then◌else◌, arith}
 use Rattle.std.specs.Prelude.{nat_lt}
 use Rattle.std.proofs.lemmas.Bool.Decides.{nat_tests}
-use Rattle.js_image.specs.store_cells.declared.value.Value.{Value as StoreValue}
-use Rattle.js_image.specs.widget_meaning.Values.{Value, Completion}
-use Rattle.js_image.specs.widget_meaning.OwnState.{State}
-use Rattle.js_image.specs.widget_meaning.Plan.{Plan, Job, Tick, and_then, charge, run, ticks}
-use Rattle.js_image.specs.widget_meaning.Meaning as meaning
-use Rattle.js_image.specs.widget_meaning.Meaning.{run_plan}
-use Rattle.js_image.specs.widget_meaning.Compositional.{then_do}
-use Rattle.js_image.proofs.WidgetMeaning.Runs.{run_and_then}
+use Rattle.store_cells.specs.declared.value.Value.{Value as StoreValue}
+use Rattle.widget_meaning.specs.Values.{Value, Completion}
+use Rattle.widget_meaning.specs.OwnState.{State}
+use Rattle.widget_meaning.specs.Plan.{Plan, Job, Tick, and_then, charge, run, ticks}
+use Rattle.widget_meaning.specs.Meaning as meaning
+use Rattle.widget_meaning.specs.Meaning.{run_plan}
+use Rattle.widget_meaning.specs.Compositional.{then_do}
+use Rattle.widget_meaning.proofs.Runs.{run_and_then}
 use Rattle.js_values.specs.declared.outcome.NativeOut.{NativeOut}
 use Rattle.js_values.specs.declared.outcome.NativeOut.TheVariants as native
 use Rattle.js_values.specs.Answers.{Answers, Goes, IsOutOfFuel, Leaves, out_of_fuel}

@@ -10,18 +10,18 @@ use Rattle.std.proofs.lemmas.Cmp.{ranked}
 use Rattle.permitted_table.specs.declared.native.HostEntry.{HostEntry}
 use Rattle.permitted_table.specs.declared.native.HostEntry.TheVariants as entry
 use Rattle.permitted_table.specs.Table.{entries, entry_number}
-use Rattle.js_image.specs.store_cells.declared.value.Value.{Value as StoreValue}
-use Rattle.js_image.specs.store_cells.declared.value.Value.TheVariants as value
-use Rattle.js_image.specs.store_cells.declared.value.Number.TheVariants as number
-use Rattle.js_image.specs.store_cells.Lists.{count_before}
-use Rattle.js_image.specs.store_cells.Cells.{PlainCell, is_visible, own_count}
-use Rattle.js_image.specs.store_cells.Host.{is_permitted_cell}
-use Rattle.js_image.proofs.StoreCells.Lists.{count_step}
-use Rattle.js_image.specs.object_store.Owned as store
-use Rattle.js_image.specs.object_store.Owned.{visible_at}
-use Rattle.js_image.specs.widget_meaning.Values as meaning
-use Rattle.js_image.specs.widget_meaning.Values.{Value}
-use Rattle.js_image.specs.widget_meaning.Operators.{is_same}
+use Rattle.store_cells.specs.declared.value.Value.{Value as StoreValue}
+use Rattle.store_cells.specs.declared.value.Value.TheVariants as value
+use Rattle.store_cells.specs.declared.value.Number.TheVariants as number
+use Rattle.store_cells.specs.Lists.{count_before}
+use Rattle.store_cells.specs.Cells.{PlainCell, is_visible, own_count}
+use Rattle.store_cells.specs.Host.{is_permitted_cell}
+use Rattle.store_cells.proofs.Lists.{count_step}
+use Rattle.object_store.specs.Owned as store
+use Rattle.object_store.specs.Owned.{visible_at}
+use Rattle.widget_meaning.specs.Values as meaning
+use Rattle.widget_meaning.specs.Values.{Value}
+use Rattle.widget_meaning.specs.Operators.{is_same}
 use Rattle.js_image.specs.Image.{entry_at, meant, seen}
 use Rattle.js_image.specs.Held.{IsFine, IsHeld}
 use Rattle.js_image.proofs.Hosts.{permitted_two}

@@ -10,8 +10,8 @@ use Rattle.code_units.specs.declared.whole.WholeRead.{WholeRead}
 use Rattle.code_units.specs.declared.whole.WholeRead.TheVariants as read
 use Rattle.js_tree.specs.declared.nodes.BinOp.{BinOp}
 use Rattle.js_tree.specs.declared.nodes.BinOp.TheVariants as bin
-use Rattle.js_image.specs.widget_meaning.Values.{Value, Text, to_number}
-use Rattle.js_image.specs.widget_meaning.Operators.{Leaves, binary, is_text_before, of_numbers, truth}
+use Rattle.widget_meaning.specs.Values.{Value, Text, to_number}
+use Rattle.widget_meaning.specs.Operators.{Leaves, binary, is_text_before, of_numbers, truth}
 use Rattle.js_values.specs.declared.outcome.Compared.{Compared}
 use Rattle.js_values.specs.declared.outcome.Compared.TheVariants as compared
 use Rattle.js_values.specs.Comparing.{holds, is_comparison, number_order, order, text_order}

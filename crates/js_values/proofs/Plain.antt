@@ -1,9 +1,9 @@
 -- Primitives as a widget has them.
 use Rattle.std.proofs.Common.{◌≡◌, ℕ, List, refl}
-use Rattle.js_image.specs.store_cells.declared.value.Value.{Value}
-use Rattle.js_image.specs.store_cells.declared.value.Value.TheVariants as value
-use Rattle.js_image.specs.store_cells.declared.value.Number.TheVariants as number
-use Rattle.js_image.specs.store_cells.Cells.{PlainCell}
+use Rattle.store_cells.specs.declared.value.Value.{Value}
+use Rattle.store_cells.specs.declared.value.Value.TheVariants as value
+use Rattle.store_cells.specs.declared.value.Number.TheVariants as number
+use Rattle.store_cells.specs.Cells.{PlainCell}
 use Rattle.js_image.specs.Image.{seen}
 use Rattle.js_image.specs.Held.{IsFine}
 use Rattle.js_values.specs.Operands.{IsPrimitive, plain}

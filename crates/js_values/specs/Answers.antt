@@ -1,18 +1,18 @@
 -- When what a native answers, and the calls that it asks for, are what the meaning gives.
 use Rattle.std.specs.Prelude.{◌≡◌, ℕ, ◌+◌, ◌<◌, List, [], map}
-use Rattle.js_image.specs.store_cells.declared.value.Value.{Value as StoreValue}
-use Rattle.js_image.specs.store_cells.declared.value.Value.TheVariants as value
-use Rattle.js_image.specs.store_cells.Cells.{PlainCell}
-use Rattle.js_image.specs.widget_meaning.Values.{Value, Undefined}
-use Rattle.js_image.specs.widget_meaning.OwnState.{State}
-use Rattle.js_image.specs.widget_meaning.Plan as meaning
-use Rattle.js_image.specs.widget_meaning.Plan.{Plan, Job, Halt, Out, and_then, after, run}
-use Rattle.js_image.specs.widget_meaning.Costs.{give, throw}
-use Rattle.js_image.specs.widget_meaning.Calls.{to_primitive}
-use Rattle.js_image.specs.widget_meaning.NativeForms.{make_array}
-use Rattle.js_image.specs.widget_meaning.GlobalNatives.{text_of_primitive}
-use Rattle.js_image.specs.widget_meaning.ListNatives.{call_each, kept}
-use Rattle.js_image.specs.widget_meaning.BunchWrites.{each_called, fired}
+use Rattle.store_cells.specs.declared.value.Value.{Value as StoreValue}
+use Rattle.store_cells.specs.declared.value.Value.TheVariants as value
+use Rattle.store_cells.specs.Cells.{PlainCell}
+use Rattle.widget_meaning.specs.Values.{Value, Undefined}
+use Rattle.widget_meaning.specs.OwnState.{State}
+use Rattle.widget_meaning.specs.Plan as meaning
+use Rattle.widget_meaning.specs.Plan.{Plan, Job, Halt, Out, and_then, after, run}
+use Rattle.widget_meaning.specs.Costs.{give, throw}
+use Rattle.widget_meaning.specs.Calls.{to_primitive}
+use Rattle.widget_meaning.specs.NativeForms.{make_array}
+use Rattle.widget_meaning.specs.GlobalNatives.{text_of_primitive}
+use Rattle.widget_meaning.specs.ListNatives.{call_each, kept}
+use Rattle.widget_meaning.specs.BunchWrites.{each_called, fired}
 use Rattle.js_image.specs.Held.{AreFine, IsFine, IsHeld}
 use Rattle.js_image.specs.Plans.{meant_cause, meant_fault}
 use Rattle.js_values.specs.declared.outcome.Keep.{Keep}

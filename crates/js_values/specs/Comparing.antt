@@ -2,8 +2,8 @@
 use Rattle.std.specs.Prelude.{ℕ, ℤ, int_lt, List, Bool, true, false, Option, None, Some, if◌then◌else◌}
 use Rattle.js_tree.specs.declared.nodes.BinOp.{BinOp}
 use Rattle.js_tree.specs.declared.nodes.BinOp.TheVariants as bin
-use Rattle.js_image.specs.widget_meaning.Values.{Value, Text, to_number}
-use Rattle.js_image.specs.widget_meaning.Operators.{is_text_before, of_numbers}
+use Rattle.widget_meaning.specs.Values.{Value, Text, to_number}
+use Rattle.widget_meaning.specs.Operators.{is_text_before, of_numbers}
 use Rattle.js_values.specs.declared.outcome.Compared.{Compared}
 use Rattle.js_values.specs.declared.outcome.Compared.TheVariants as compared
 

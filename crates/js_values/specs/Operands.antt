@@ -7,14 +7,14 @@ use Rattle.js_tree.specs.declared.nodes.BinOp.{BinOp}
 use Rattle.js_tree.specs.declared.nodes.BinOp.TheVariants as bin
 use Rattle.js_tree.specs.declared.nodes.UnOp.{UnOp}
 use Rattle.js_tree.specs.declared.nodes.UnOp.TheVariants as un
-use Rattle.js_image.specs.store_cells.declared.value.Value.{Value as StoreValue}
-use Rattle.js_image.specs.store_cells.declared.value.Value.TheVariants as value
-use Rattle.js_image.specs.store_cells.declared.value.Number.TheVariants as number
-use Rattle.js_image.specs.object_store.Owned as store
-use Rattle.js_image.specs.widget_meaning.Limits.{past_numbers}
-use Rattle.js_image.specs.widget_meaning.Values.{Value, to_number}
-use Rattle.js_image.specs.widget_meaning.Operators as operators
-use Rattle.js_image.specs.widget_meaning.Operators.{OpOut}
+use Rattle.store_cells.specs.declared.value.Value.{Value as StoreValue}
+use Rattle.store_cells.specs.declared.value.Value.TheVariants as value
+use Rattle.store_cells.specs.declared.value.Number.TheVariants as number
+use Rattle.object_store.specs.Owned as store
+use Rattle.widget_meaning.specs.Limits.{past_numbers}
+use Rattle.widget_meaning.specs.Values.{Value, to_number}
+use Rattle.widget_meaning.specs.Operators as operators
+use Rattle.widget_meaning.specs.Operators.{OpOut}
 use Rattle.js_image.specs.Image.{meant}
 use Rattle.js_values.specs.declared.outcome.OpOut.{OpOut as Out}
 use Rattle.js_values.specs.declared.outcome.OpOut.TheVariants as out

@@ -2,8 +2,8 @@
 ghost use Rattle.std.specs.Prelude.{◌≡◌, ℕ, List, Some, true};
 ghost use Rattle.std.specs.Option.{is_some};
 ghost use Rattle.js_tree.specs.declared.nodes.BinOp.{BinOp};
-ghost use Rattle.js_image.specs.store_cells.Cells.{PlainCell};
-ghost use Rattle.js_image.specs.widget_meaning.Operators as operators;
+ghost use Rattle.store_cells.specs.Cells.{PlainCell};
+ghost use Rattle.widget_meaning.specs.Operators as operators;
 ghost use Rattle.js_image.specs.Held.{IsFine};
 ghost use Rattle.js_image.specs.Image.{seen};
 ghost use Rattle.js_values.specs.Comparing.{holds, is_comparison, number_order, order, text_order};
@@ -12,8 +12,8 @@ ghost use Rattle.js_values.specs.Operands.{IsPlainOut, IsPrimitive, is_equal, me
 use crate::operands::number_of;
 use crate::outcome::{Compared, OpOut};
 use code_units::WholeRead;
-use js_image::object_store::{Number, Value};
 use js_tree::BinOp;
+use object_store::{Number, Value};
 use std::cmp::Ordering;
 
 /// How two primitives stand to each other: two texts by their units, else by their numbers, which

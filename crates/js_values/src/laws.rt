@@ -1,11 +1,11 @@
 //! Laws of primitives, and of what natives answer.
 ghost use Rattle.std.specs.Prelude.{◌≡◌, ◌+◌, ◌<◌, ℕ, List};
-ghost use Rattle.js_image.specs.store_cells.declared.value.Value.{Value as StoreValue};
-ghost use Rattle.js_image.specs.store_cells.Cells.{PlainCell};
-ghost use Rattle.js_image.specs.widget_meaning.Values.{Completion, Value};
-ghost use Rattle.js_image.specs.widget_meaning.OwnState.{State};
-ghost use Rattle.js_image.specs.widget_meaning.Plan.{Plan, and_then, charge};
-ghost use Rattle.js_image.specs.widget_meaning.Meaning.{run_plan};
+ghost use Rattle.store_cells.specs.declared.value.Value.{Value as StoreValue};
+ghost use Rattle.store_cells.specs.Cells.{PlainCell};
+ghost use Rattle.widget_meaning.specs.Values.{Completion, Value};
+ghost use Rattle.widget_meaning.specs.OwnState.{State};
+ghost use Rattle.widget_meaning.specs.Plan.{Plan, and_then, charge};
+ghost use Rattle.widget_meaning.specs.Meaning.{run_plan};
 ghost use Rattle.js_values.specs.declared.outcome.NativeOut.{NativeOut};
 ghost use Rattle.js_values.specs.declared.outcome.NativeOut.TheVariants as native;
 ghost use Rattle.js_image.specs.Held.{IsFine};

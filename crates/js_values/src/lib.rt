@@ -17,7 +17,3 @@ pub use meter::{Meter, OutOfFuel};
 pub use operands::{is_true, number_of, to_number, to_text, type_name};
 pub use operators::{binary, unary};
 pub use outcome::{Compared, Keep, NativeOut, OpOut, Plan};
-
-// Handed on to the crates above, which name it so.
-pub use js_image;
-pub use js_image::object_store;

@@ -1,17 +1,17 @@
 //! Primitives as truth values, numbers and texts (ECMA-262 3rd edition, 9), and the names of types (11.4.3).
 ghost use Rattle.std.specs.Prelude.{◌≡◌, ◌++◌, ℕ, List, IfOk, OnOk};
 ghost use Rattle.js_tree.specs.declared.nodes.UnOp.TheVariants as un;
-ghost use Rattle.js_image.specs.store_cells.Cells.{PlainCell};
-ghost use Rattle.js_image.specs.widget_meaning.Operators as operators;
-ghost use Rattle.js_image.specs.widget_meaning.Values as meaning;
+ghost use Rattle.store_cells.specs.Cells.{PlainCell};
+ghost use Rattle.widget_meaning.specs.Operators as operators;
+ghost use Rattle.widget_meaning.specs.Values as meaning;
 ghost use Rattle.js_image.specs.Image.{seen};
 ghost use Rattle.js_values.specs.Operands.{IsPlainOut, IsPrimitive, meant_out, plain};
 
 use crate::outcome::OpOut;
 use code_units::{Memory, Text, WholeRead, push_ascii, read_whole, whole_text};
 use itoa::Buffer;
-use js_image::object_store::{Number, Value};
 use js_image::word;
+use object_store::{Number, Value};
 use std::alloc::Global;
 
 /// Whether a value is true.

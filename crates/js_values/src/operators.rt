@@ -1,8 +1,8 @@
 //! The operators, each as the meaning has it (ECMA-262 3rd edition, 11.4 to 11.9).
 ghost use Rattle.std.specs.Prelude.{◌≡◌, ℕ, List, IfOk, OnErr, ◌||◌, true, false};
 ghost use Rattle.js_tree.specs.declared.nodes.UnOp.TheVariants as un;
-ghost use Rattle.js_image.specs.store_cells.Cells.{PlainCell};
-ghost use Rattle.js_image.specs.widget_meaning.Operators as operators;
+ghost use Rattle.store_cells.specs.Cells.{PlainCell};
+ghost use Rattle.widget_meaning.specs.Operators as operators;
 ghost use Rattle.js_image.specs.Held.{IsFine};
 ghost use Rattle.js_image.specs.Image.{seen};
 ghost use Rattle.js_values.specs.Operands.{IsOperand, IsPlainOut, IsPrefixed, IsPrimitive, is_adding, meant_out, plain, reads_outside};
@@ -13,8 +13,8 @@ use crate::outcome::OpOut;
 use crate::quotients::{divided, is_outside, modulo};
 use crate::sums::{minus, plus, times};
 use code_units::{Memory, WholeRead};
-use js_image::object_store::{Number, Value};
 use js_tree::{BinOp, UnOp};
+use object_store::{Number, Value};
 use std::alloc::Global;
 
 /// An operator on two primitives, `===` and `!==` on any two values of a widget: `Left` exactly

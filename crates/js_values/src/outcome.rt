@@ -1,8 +1,8 @@
 //! What operators and natives give.
 
 use code_units::Text;
-use js_image::object_store::{CellId, Value};
 use js_image::{Fault, StopCause};
+use object_store::{CellId, Value};
 
 /// What an operator gives.
 #[derive(Drop)]

@@ -1,14 +1,14 @@
 //! `/` and `%` on primitives (ECMA-262 3rd edition, 11.5.2 and 11.5.3).
 ghost use Rattle.std.specs.Prelude.{◌≡◌, ◌<◌, ◌||◌, IfOk, OnErr, nat_lt, not, true, unsigned_abs};
 ghost use Rattle.js_tree.specs.declared.nodes.BinOp.TheVariants as bin;
-ghost use Rattle.js_image.specs.widget_meaning.Limits.{past_numbers};
-ghost use Rattle.js_image.specs.widget_meaning.Operators as operators;
+ghost use Rattle.widget_meaning.specs.Limits.{past_numbers};
+ghost use Rattle.widget_meaning.specs.Operators as operators;
 ghost use Rattle.js_values.specs.Operands.{IsPlainOut, IsPrimitive, meant_out, plain, reads_outside};
 
 use crate::operands::number_of;
 use crate::outcome::OpOut;
 use code_units::{Memory, WholeRead};
-use js_image::object_store::{Number, Value};
+use object_store::{Number, Value};
 
 /// `/` on two primitives: exact, or it leaves the numbers.
 pub(crate) fn divided(a: &Value, b: &Value) -> Result<OpOut, Memory>

@@ -1,14 +1,14 @@
 //! `+`, `-` and `*` on primitives (ECMA-262 3rd edition, 11.5.1 and 11.6).
 ghost use Rattle.std.specs.Prelude.{◌≡◌, ◌+ℤ◌, ◌-ℤ◌, ◌*ℤ◌, ◌++◌, ◌≤◌, IfOk, length};
 ghost use Rattle.js_tree.specs.declared.nodes.BinOp.TheVariants as bin;
-ghost use Rattle.js_image.specs.widget_meaning.Operators as operators;
-ghost use Rattle.js_image.specs.widget_meaning.Values as meaning;
+ghost use Rattle.widget_meaning.specs.Operators as operators;
+ghost use Rattle.widget_meaning.specs.Values as meaning;
 ghost use Rattle.js_values.specs.Operands.{IsPlainOut, IsPrimitive, meant_out, plain};
 
 use crate::operands::{number_of, push_text};
 use crate::outcome::OpOut;
 use code_units::{Memory, Text, WholeRead};
-use js_image::object_store::{Number, Value};
+use object_store::{Number, Value};
 use std::alloc::Global;
 
 /// `+` on two primitives: the texts are joined where either is a text, else the numbers are added.

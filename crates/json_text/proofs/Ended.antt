@@ -9,7 +9,7 @@ use Rattle.js_image.specs.Image.{Rest, image, seen}
 use Rattle.js_values.specs.Answers.{Answers}
 use Rattle.js_values.specs.Fuel.{Fuel}
 use Rattle.js_values.specs.declared.outcome.NativeOut.{NativeOut}
-use Rattle.native_forms.specs.Meets.{Meets}
+use Rattle.native_common.specs.Meets.{Meets}
 use Rattle.json_text.specs.Confined.{MeetsConfined}
 
 -- a plan that is the same at the image of a confined widget

@@ -1,5 +1,5 @@
 //! Texts in quotes.
-ghost use Rattle.std.specs.Prelude.{◌≡◌, ◌++◌, IfOk, Bool, codes, if◌then◌else◌, [], IsUtf8};
+ghost use Rattle.std.specs.Prelude.{◌≡◌, IfOk};
 ghost use Rattle.json.specs.Print.{quoted};
 ghost use Rattle.code_units.specs.Utf8.{utf8_of};
 ghost use Rattle.widget_meaning.specs.JsonTexts.{quoted_text};

@@ -13,7 +13,7 @@ ghost use Rattle.js_image.specs.Elements.{own_place};
 ghost use Rattle.js_image.specs.Image.{Rest, image, seen, seen_pairs};
 ghost use Rattle.js_image.specs.Held.{ArePairs, IsConfined, IsFine, Kept};
 ghost use Rattle.js_values.specs.Operands.{IsPrimitive};
-ghost use Rattle.native_forms.specs.Meets.{Meets};
+ghost use Rattle.native_common.specs.Meets.{Meets};
 ghost use Rattle.json_text.specs.Confined.{MeetsConfined};
 ghost use Rattle.json_text.specs.Objects.{is_object_kind, object_in, pairs_at};
 ghost use Rattle.json_text.specs.Names.{comma};
@@ -25,7 +25,7 @@ use crate::steps::{Step, push, push_word};
 use code_units::{Memory, Owner, Text, permitted, whole_text};
 use js_image::{Fault, StopCause, array_length, element};
 use js_values::{Meter, NativeOut};
-use native_forms::{charged, make_text, take, text_len};
+use native_common::{charged, make_text, take, text_len};
 use object_store::{CellId, CellKind, Number, Store, Value};
 use std::alloc::Global;
 

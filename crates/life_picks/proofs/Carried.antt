@@ -21,12 +21,12 @@ use Rattle.life_laws.proofs.Ends.{cut, cut_from, idle, over, over_from}
 use Rattle.pick_laws.specs.declared.entry.Picked.{Picked}
 use Rattle.pick_laws.specs.declared.entry.Picked.TheVariants as picked
 use Rattle.pick_laws.specs.Picks.{Picks}
-use Rattle.life_queue.specs.turn_calls.declared.turn.Shared.{Shared}
-use Rattle.life_queue.specs.turn_calls.declared.turn.Turn.{Turn}
-use Rattle.life_queue.specs.turn_calls.declared.turn.Widget.{Widget}
+use Rattle.turn_returns.specs.declared.turn.Shared.{Shared}
+use Rattle.turn_returns.specs.declared.turn.Turn.{Turn}
+use Rattle.turn_returns.specs.declared.turn.Widget.{Widget}
 use Rattle.turn_steps.specs.declared.turn.TurnEnd.{TurnEnd}
 use Rattle.turn_steps.specs.declared.turn.TurnEnd.TheVariants as ended
-use Rattle.life_queue.specs.turn_calls.js_steps.declared.answer.Stop.TheVariants as stop
+use Rattle.js_steps.specs.declared.answer.Stop.TheVariants as stop
 use Rattle.store_cells.specs.Cells.{PlainCell}
 use Rattle.turn_steps.specs.Keeping.{KeepsTurn}
 use Rattle.turn_steps.specs.Moving.{IsCutAt, IsEndedAt}

@@ -5,7 +5,3 @@ mod notes;
 mod picking;
 
 pub use picking::pick_life;
-
-// Handed on to the crates above, which name it so.
-pub use life_queue;
-pub use life_queue::{js_steps, turn_calls};

@@ -14,12 +14,12 @@ ghost use Rattle.life_picks.specs.Picking.{both_texts, own_text_in, text_in};
 
 use code_units::{Memory, Owner, Text};
 use js_image::{Paid, StopCause, get, has_own, pay_units, word};
+use js_steps::Stop;
 use js_values::to_text;
 use life_queue::Life;
-use life_queue::js_steps::Stop;
-use life_queue::turn_calls::Shared;
 use object_store::{CellId, Store, UNIT_LIMIT, Value};
 use std::alloc::Global;
+use turn_returns::Shared;
 
 // The laws of the store, together.
 fn lawful(store: &Store)

@@ -10,10 +10,10 @@ ghost use Rattle.life_picks.specs.Picking.{PicksLife, spent_to};
 use crate::notes::note;
 use code_units::Memory;
 use js_flow::Completion;
-use life_queue::turn_calls::{Shared, Turn};
 use life_queue::{Life, begin_turn};
 use pick_laws::Picked;
 use std::alloc::Global;
+use turn_returns::{Shared, Turn};
 use turn_steps::{Ran, TurnEnd, run_turn};
 
 // The end of a turn: what it spent is counted, a throw that was not caught is noted, and a stop is kept.

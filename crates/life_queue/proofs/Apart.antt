@@ -28,12 +28,12 @@ use Rattle.native_image.specs.Image.{Outside, beside, dispatches_of, image}
 use Rattle.native_image.specs.Sound.{HasRaw, HoldsOwn, KeepsPage}
 use Rattle.native_image.proofs.Joint.{holds_grows, rest, store_lift}
 use Rattle.life_laws.specs.Life.{potentials}
-use Rattle.turn_calls.specs.turn_runs.Levels.{turn_plan}
-use Rattle.turn_calls.proofs.Stays.{levels_fine}
-use Rattle.turn_calls.specs.Turns.{bubbled_of, outside_of, turn_image}
+use Rattle.turn_dispatch.specs.Levels.{turn_plan}
+use Rattle.turn_returns.proofs.Stays.{levels_fine}
+use Rattle.turn_returns.specs.Turns.{bubbled_of, outside_of, turn_image}
 use Rattle.life_queue.specs.declared.life.Life.{Life}
-use Rattle.turn_calls.specs.declared.turn.Turn.{Turn}
-use Rattle.turn_calls.specs.declared.turn.Shared.{Shared}
+use Rattle.turn_returns.specs.declared.turn.Turn.{Turn}
+use Rattle.turn_returns.specs.declared.turn.Shared.{Shared}
 use Rattle.life_queue.specs.Lives.{going_of, life_seen, outside, own_of, trees_in, work_of, works_of}
 use Rattle.life_queue.specs.Fine.{FineLife, FineTurn, FineWork, KeepsCells}
 use Rattle.life_queue.proofs.Scripts.{lib_stays}

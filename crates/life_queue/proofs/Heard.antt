@@ -12,10 +12,10 @@ use Rattle.event_loop.specs.declared.around.Loop.{Loop}
 use Rattle.native_image.specs.Image.{Outside, beside, image}
 use Rattle.native_image.specs.Sound.{IsSound}
 use Rattle.native_image.proofs.Joint.{image_shows}
-use Rattle.turn_calls.specs.turn_runs.declared.level.Heard.{Heard}
-use Rattle.turn_calls.specs.turn_runs.Levels.{heard_plan}
+use Rattle.turn_dispatch.specs.declared.level.Heard.{Heard}
+use Rattle.turn_dispatch.specs.Levels.{heard_plan}
 use Rattle.life_queue.specs.declared.life.Life.{Life}
-use Rattle.turn_calls.specs.declared.turn.Shared.{Shared}
+use Rattle.turn_returns.specs.declared.turn.Shared.{Shared}
 use Rattle.life_queue.specs.Lives.{own_of, trees_in}
 use Rattle.life_queue.proofs.Passing.{counted}
 

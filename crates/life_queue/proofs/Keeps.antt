@@ -16,9 +16,9 @@ use Rattle.native_image.proofs.Joint.{holds_grows}
 use Rattle.native_image.proofs.Keeping.{grows_next, holds_page, host_here, page_keeps, page_same, page_then, sound_page}
 use Rattle.object_store.proofs.Growth.{grows_same}
 use Rattle.page_image.specs.Image.{owns}
-use Rattle.turn_calls.specs.declared.turn.Shared.{Shared}
-use Rattle.turn_calls.specs.declared.turn.Turn.{Turn}
-use Rattle.turn_calls.specs.declared.turn.Widget.{Widget}
+use Rattle.turn_returns.specs.declared.turn.Shared.{Shared}
+use Rattle.turn_returns.specs.declared.turn.Turn.{Turn}
+use Rattle.turn_returns.specs.declared.turn.Widget.{Widget}
 use Rattle.life_queue.specs.declared.life.Life.{Life}
 use Rattle.life_queue.specs.Lives.{trees_in}
 use Rattle.life_queue.specs.Fine.{FineLife, FineTurn, KeepsCells, KeepsLife}

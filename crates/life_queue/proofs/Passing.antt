@@ -12,16 +12,16 @@ use Rattle.native_image.specs.Image.{Outside}
 use Rattle.native_image.specs.Sound.{IsSound}
 use Rattle.life_laws.specs.Life.{Same, Seen, potential, potentials, started, waiting, weight}
 use Rattle.life_laws.proofs.Begins.{same_more}
-use Rattle.turn_calls.specs.turn_runs.declared.level.Doing.{Doing}
-use Rattle.turn_calls.specs.turn_runs.declared.level.Level.{Level}
-use Rattle.turn_calls.specs.turn_runs.Held.{FineDoing}
-use Rattle.turn_calls.specs.turn_runs.Levels.{turn_plan}
-use Rattle.turn_calls.specs.declared.calls.Calls.{Calls}
-use Rattle.turn_calls.specs.Turns.{turn_image}
-use Rattle.turn_calls.specs.Waiting.{FineLevels}
+use Rattle.turn_dispatch.specs.declared.level.Doing.{Doing}
+use Rattle.turn_dispatch.specs.declared.level.Level.{Level}
+use Rattle.turn_dispatch.specs.Held.{FineDoing}
+use Rattle.turn_dispatch.specs.Levels.{turn_plan}
+use Rattle.turn_returns.specs.declared.calls.Calls.{Calls}
+use Rattle.turn_returns.specs.Turns.{turn_image}
+use Rattle.turn_returns.specs.Waiting.{FineLevels}
 use Rattle.life_queue.specs.declared.life.Life.{Life}
 use Rattle.life_queue.specs.declared.life.Work.{Work}
-use Rattle.turn_calls.specs.declared.turn.Shared.{Shared}
+use Rattle.turn_returns.specs.declared.turn.Shared.{Shared}
 use Rattle.life_queue.specs.Lives.{begun_with, life_seen, life_with, outside, own_of, trees_in, work_of, works_of}
 use Rattle.life_queue.specs.Fine.{FineCounts, FineLife, FineWork, HasLib, held_back, tally}
 use Rattle.life_queue.specs.Taken.{Starts, Takes}

@@ -5,9 +5,9 @@ use Rattle.std.specs.Option.{option_map}
 use Rattle.widget_meaning.specs.Values as meaning
 use Rattle.life_laws.specs.Life.{Seen, waiting}
 use Rattle.life_queue.specs.declared.life.Life.{Life}
-use Rattle.turn_calls.specs.js_steps.declared.answer.Stop.{Stop}
-use Rattle.turn_calls.specs.declared.turn.Turn.{Turn}
-use Rattle.turn_calls.specs.declared.turn.Shared.{Shared}
+use Rattle.js_steps.specs.declared.answer.Stop.{Stop}
+use Rattle.turn_returns.specs.declared.turn.Turn.{Turn}
+use Rattle.turn_returns.specs.declared.turn.Shared.{Shared}
 use Rattle.life_queue.specs.Lives.{going_of, life_seen, meant_stop, own_of, works_of}
 
 no_true : false ≡ true → ⊥

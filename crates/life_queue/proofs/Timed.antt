@@ -23,8 +23,8 @@ use Rattle.event_loop.specs.Timers as timers
 use Rattle.event_image.specs.Image.{Shows, after_due, timer_of}
 use Rattle.event_image.proofs.States.{due_image, due_shows}
 use Rattle.js_image.specs.Image.{Rest, image as store_image, seen}
-use Rattle.turn_calls.specs.js_steps.Answered.{remaining}
-use Rattle.turn_calls.specs.js_steps.declared.task.Task.{Task}
+use Rattle.js_steps.specs.Answered.{remaining}
+use Rattle.js_steps.specs.declared.task.Task.{Task}
 use Rattle.native_image.specs.Image.{beside}
 use Rattle.native_image.specs.Sound.{HoldsOwn, IsOwnCell, IsSound}
 use Rattle.native_image.proofs.Joint.{image_shows, rest, shown_is}
@@ -32,11 +32,11 @@ use Rattle.native_image.proofs.Keeping.{host_here, page_same}
 use Rattle.life_laws.specs.Life as todo
 use Rattle.life_laws.specs.Life.{Same, potentials, started, waiting}
 use Rattle.life_laws.proofs.Begins.{until_begins, until_none, until_stopped}
-use Rattle.turn_calls.proofs.Stays.{own_seen}
+use Rattle.turn_returns.proofs.Stays.{own_seen}
 use Rattle.life_queue.specs.declared.life.Life.{Life}
 use Rattle.life_queue.specs.declared.life.Work.TheVariants as work
-use Rattle.turn_calls.specs.declared.turn.Widget.{Widget}
-use Rattle.turn_calls.specs.declared.turn.Shared.{Shared}
+use Rattle.turn_returns.specs.declared.turn.Widget.{Widget}
+use Rattle.turn_returns.specs.declared.turn.Shared.{Shared}
 use Rattle.life_queue.specs.Lives.{life_with, meant_stop, outside, own_of, trees_in, work_of, works_of}
 use Rattle.life_queue.specs.Fine.{FineLife, FineWork, KeepsLife, tally}
 use Rattle.life_queue.proofs.Keeps.{cells_same}

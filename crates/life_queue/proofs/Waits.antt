@@ -31,16 +31,16 @@ use Rattle.js_flow.specs.Parts.{forest_at, loop_body, loop_of, variable_of}
 use Rattle.js_flow.specs.Todo.{todo}
 use Rattle.js_flow.specs.Views.{job_of, name_at}
 use Rattle.js_flow.proofs.Stays.{all_fine, all_same, completion_fine, completion_same, frames_fine, place_fine, place_same, rest_same}
-use Rattle.end_laws.specs.Ends.{ByValue, Yields}
-use Rattle.turn_calls.specs.js_steps.Ending.{EndsCall}
-use Rattle.turn_calls.proofs.JsSteps.Ending.{awaits_later}
-use Rattle.turn_calls.specs.turn_runs.declared.level.Doing.{Doing}
-use Rattle.turn_calls.specs.turn_runs.declared.level.Doing.TheVariants as doing
-use Rattle.turn_calls.specs.turn_runs.declared.level.Level.{Level}
-use Rattle.turn_calls.specs.turn_runs.Held.{FineDoing}
-use Rattle.turn_calls.specs.turn_runs.Levels.{turn_plan}
-use Rattle.turn_calls.specs.Waiting.{FineLevels}
-use Rattle.turn_calls.proofs.Stays.{hearing_fine, hearing_same, levels_same}
+use Rattle.plan_ends.specs.Ends.{ByValue, Yields}
+use Rattle.js_steps.specs.Ending.{EndsCall}
+use Rattle.js_steps.proofs.Ending.{awaits_later}
+use Rattle.turn_dispatch.specs.declared.level.Doing.{Doing}
+use Rattle.turn_dispatch.specs.declared.level.Doing.TheVariants as doing
+use Rattle.turn_dispatch.specs.declared.level.Level.{Level}
+use Rattle.turn_dispatch.specs.Held.{FineDoing}
+use Rattle.turn_dispatch.specs.Levels.{turn_plan}
+use Rattle.turn_returns.specs.Waiting.{FineLevels}
+use Rattle.turn_returns.proofs.Stays.{hearing_fine, hearing_same, levels_same}
 
 module _ (w : ℕ) (old new : List PlainCell) (g : Grows w old new) where
   this_same : (o : Option Value) → IfSome o (IsFine w old) → option_map (seen w new) o ≡ option_map (seen w old) o

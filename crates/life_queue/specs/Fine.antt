@@ -13,13 +13,13 @@ use Rattle.js_image.specs.Held.{IsConfined, IsHeld}
 use Rattle.js_image.specs.Image.{seen}
 use Rattle.native_image.specs.Sound.{HoldsOwn, IsSound, KeepsPage}
 use Rattle.life_laws.specs.Life.{potentials}
-use Rattle.turn_calls.specs.turn_runs.Held.{FineDoing, IsScriptOf}
-use Rattle.turn_calls.specs.Waiting.{FineLevels}
+use Rattle.turn_dispatch.specs.Held.{FineDoing, IsScriptOf}
+use Rattle.turn_returns.specs.Waiting.{FineLevels}
 use Rattle.life_queue.specs.declared.life.Life.{Life}
-use Rattle.turn_calls.specs.declared.turn.Turn.{Turn}
+use Rattle.turn_returns.specs.declared.turn.Turn.{Turn}
 use Rattle.life_queue.specs.declared.life.Work.{Work}
 use Rattle.life_queue.specs.declared.life.Work.TheVariants as work
-use Rattle.turn_calls.specs.declared.turn.Shared.{Shared}
+use Rattle.turn_returns.specs.declared.turn.Shared.{Shared}
 use Rattle.life_queue.specs.Lives.{trees_in, works_of}
 
 -- the most fuel of a turn

@@ -13,21 +13,21 @@ use Rattle.event_loop.specs.declared.delivery.Event.{Event as Told}
 use Rattle.js_image.specs.Plans.{meant_cause}
 use Rattle.js_names.specs.Code.{trees_of}
 use Rattle.js_flow.specs.Parts.{forest_at}
-use Rattle.turn_calls.specs.js_steps.declared.answer.Stop.{Stop}
-use Rattle.turn_calls.specs.js_steps.declared.answer.Stop.TheVariants as stop
+use Rattle.js_steps.specs.declared.answer.Stop.{Stop}
+use Rattle.js_steps.specs.declared.answer.Stop.TheVariants as stop
 use Rattle.native_image.specs.Image.{Outside, beside, image}
 use Rattle.life_laws.specs.Life as todo
 use Rattle.life_laws.specs.Life.{Going, Seen}
-use Rattle.turn_calls.specs.turn_runs.declared.level.Doing.{Doing}
-use Rattle.turn_calls.specs.turn_runs.Levels.{turn_plan}
-use Rattle.turn_calls.specs.declared.calls.Calls.{Calls}
-use Rattle.turn_calls.specs.Turns.{turn_image}
+use Rattle.turn_dispatch.specs.declared.level.Doing.{Doing}
+use Rattle.turn_dispatch.specs.Levels.{turn_plan}
+use Rattle.turn_returns.specs.declared.calls.Calls.{Calls}
+use Rattle.turn_returns.specs.Turns.{turn_image}
 use Rattle.life_queue.specs.declared.life.Life.{Life}
 use Rattle.life_queue.specs.declared.life.Script.{Script}
-use Rattle.turn_calls.specs.declared.turn.Turn.{Turn}
+use Rattle.turn_returns.specs.declared.turn.Turn.{Turn}
 use Rattle.life_queue.specs.declared.life.Work.{Work}
 use Rattle.life_queue.specs.declared.life.Work.TheVariants as work
-use Rattle.turn_calls.specs.declared.turn.Shared.{Shared}
+use Rattle.turn_returns.specs.declared.turn.Shared.{Shared}
 
 -- why a life has stopped
 abbrev pub meant_stop : Stop → meaning.Stop

@@ -16,10 +16,10 @@ ghost use Rattle.native_image.specs.Image.{Outside};
 ghost use Rattle.native_image.specs.Sound.{IsOwnCell};
 ghost use Rattle.js_image.specs.Held.{IsFine};
 ghost use Rattle.js_image.specs.Image.{seen};
-ghost use Rattle.turn_calls.specs.turn_runs.Held.{FineDoing, FineHeard};
-ghost use Rattle.turn_calls.specs.turn_runs.Levels.{heard_plan, turn_plan};
-ghost use Rattle.turn_calls.specs.Turns.{turn_image};
-ghost use Rattle.turn_calls.specs.Waiting.{FineLevels};
+ghost use Rattle.turn_dispatch.specs.Held.{FineDoing, FineHeard};
+ghost use Rattle.turn_dispatch.specs.Levels.{heard_plan, turn_plan};
+ghost use Rattle.turn_returns.specs.Turns.{turn_image};
+ghost use Rattle.turn_returns.specs.Waiting.{FineLevels};
 ghost use Rattle.life_queue.specs.Lives.{is_input_label};
 ghost use Rattle.life_queue.specs.Fine.{FineLife, KeepsLife, tally};
 ghost use Rattle.life_queue.specs.Taken.{Starts, Takes};
@@ -35,8 +35,8 @@ use object_store::{CellId, Value};
 use page_image::{set_attr, tag};
 use page_tree::{NodeId, Page};
 use std::alloc::Global;
-use turn_calls::turn_runs::{Dispatch, Doing, Heard, hear, listeners};
-use turn_calls::{Calls, Shared};
+use turn_dispatch::{Dispatch, Doing, Heard, hear, listeners};
+use turn_returns::{Calls, Shared};
 
 // Whether a node is an `input`.
 fn is_input(page: &Page, w: u32, node: NodeId) -> bool

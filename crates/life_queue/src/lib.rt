@@ -11,7 +11,3 @@ mod works;
 
 pub use life::{Life, Records, Script, Work};
 pub use queue::begin_turn;
-
-// Handed on to the crates above, which name it so.
-pub use turn_calls;
-pub use turn_calls::js_steps;

@@ -2,11 +2,11 @@
 
 use code_units::Text;
 use event_loop::Event;
+use js_steps::Stop;
 use js_tree::FunId;
 use object_store::CellId;
 use std::collections::VecDeque;
-use turn_calls::js_steps::Stop;
-use turn_calls::{Turn, Widget};
+use turn_returns::{Turn, Widget};
 
 /// What is recorded of a life. In a turn `spent` is what was spent when it began.
 #[derive(Drop)]

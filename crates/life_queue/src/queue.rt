@@ -10,7 +10,7 @@ use crate::life::{Life, Work};
 use crate::works::{take_advance, take_go, take_library, take_until};
 use code_units::Memory;
 use std::alloc::Global;
-use turn_calls::Shared;
+use turn_returns::Shared;
 
 // One work.
 fn take_work(

@@ -1,5 +1,5 @@
 //! Each work as it leaves the queue: a load turn, an advance, what is left of one.
-ghost use Rattle.std.specs.Prelude.{◌≡◌, ◌+◌, ◌<◌, ◌^◌, [], ◌∷◌, List, None, OnErr, OnOk, Some, IfOk};
+ghost use Rattle.std.specs.Prelude.{◌≡◌, ◌+◌, ◌<◌, ◌^◌, [], List, None, OnErr, OnOk, Some, IfOk};
 ghost use Rattle.js_tree.specs.Forest.{Forest};
 ghost use Rattle.store_cells.specs.Cells.{Cells};
 ghost use Rattle.widget_meaning.specs.Plan as plan;
@@ -9,8 +9,8 @@ ghost use Rattle.page_tree.specs.declared.page.Page.{Page as PageOf};
 ghost use Rattle.js_image.specs.Held.{IsHeld};
 ghost use Rattle.js_image.specs.Image.{Rest, image, seen};
 ghost use Rattle.js_image.specs.Laws.{AreLawful};
-ghost use Rattle.turn_calls.specs.js_steps.Answered.{remaining};
-ghost use Rattle.turn_calls.specs.turn_runs.Held.{FineTask};
+ghost use Rattle.js_steps.specs.Answered.{remaining};
+ghost use Rattle.turn_dispatch.specs.Held.{FineTask};
 ghost use Rattle.life_queue.specs.Lives.{trees_in, work_of};
 ghost use Rattle.life_queue.specs.Fine.{FineLife, FineWork, KeepsLife, tally};
 ghost use Rattle.life_queue.specs.Taken.{Takes};
@@ -19,11 +19,11 @@ ghost use Rattle.life_queue.specs.declared.life.Work.TheVariants as work;
 use crate::begins::begin;
 use crate::life::{Life, Script, Work};
 use code_units::Memory;
+use js_steps::Task;
 use object_store::{CellId, HostEntry, Store, Value};
 use std::alloc::Global;
-use turn_calls::js_steps::Task;
-use turn_calls::turn_runs::{Doing, Level, open_script};
-use turn_calls::{Calls, Shared, js_steps};
+use turn_dispatch::{Doing, Level, open_script};
+use turn_returns::{Calls, Shared};
 
 // The laws of the store, together.
 fn lawful(store: &Store)

@@ -1,5 +1,5 @@
 //! The cut at the swaps.
-ghost use Rattle.std.specs.Prelude.{◌≡◌, ◌<◌, ◌+◌, ◌^◌, ◌++◌, ◌∷◌, ℕ, [], true, IfOk, OnOk, map, length, replicate, slice_index_or};
+ghost use Rattle.std.specs.Prelude.{◌≡◌, ◌<◌, ◌+◌, ◌^◌, ℕ, [], true, IfOk, OnOk, map, length, replicate, slice_index_or};
 ghost use Rattle.std.specs.List.{All, range_with_len};
 ghost use Rattle.life_split.specs.Cut.{is_below, lives_of};
 ghost use Rattle.life_split.specs.Steps.{cut_on, next_from, with_last, with_life};

@@ -20,7 +20,7 @@ use Rattle.js_image.specs.Held.{IsHeld, is_held}
 use Rattle.js_image.specs.Image.{Rest, image, meant, no_rest, seen}
 use Rattle.js_image.specs.Reads.{cell_in}
 use Rattle.js_image.proofs.Grown.{held_stays, seen_stays}
-use Rattle.native_forms.specs.Receivers.{IsReceiver, receiver}
+use Rattle.native_common.specs.Receivers.{IsReceiver, receiver}
 use Rattle.list_methods.specs.declared.array.OwnArray.{OwnArray}
 use Rattle.list_methods.specs.Arrays.{IsArray, number}
 

@@ -15,9 +15,9 @@ use Rattle.widget_meaning.specs.NativeForms.{on_array}
 use Rattle.js_image.specs.Image.{Rest, image}
 use Rattle.js_values.specs.Fuel.{Fuel}
 use Rattle.js_values.specs.declared.outcome.NativeOut.{NativeOut}
-use Rattle.native_forms.specs.Meets.{Meets}
-use Rattle.native_forms.specs.Receivers.{receiver}
-use Rattle.native_forms.proofs.Meeting.{ok_meets_same}
+use Rattle.native_common.specs.Meets.{Meets}
+use Rattle.native_common.specs.Receivers.{receiver}
+use Rattle.native_common.proofs.Meeting.{ok_meets_same}
 use Rattle.list_methods.specs.declared.array.OwnArray.{OwnArray}
 use Rattle.list_methods.specs.Arrays.{number, on_own}
 use Rattle.list_methods.specs.Parts.{is_part, method}

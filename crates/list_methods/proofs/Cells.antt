@@ -5,11 +5,11 @@ use Rattle.std.specs.Option.{option_map_or}
 use Rattle.code_units.specs.Indices.{index_of}
 use Rattle.widget_meaning.specs.Values.{Value, Own}
 use Rattle.widget_meaning.specs.OwnState as state
-use Rattle.widget_meaning.specs.OwnState.{Array, Cell, Kind, Pairs, State, array_length, cell_at, kind_of, plain_object, with_cell, with_own}
+use Rattle.widget_meaning.specs.OwnState.{Array, Cell, Kind, State, array_length, cell_at, kind_of, plain_object, with_cell, with_own}
 use Rattle.widget_meaning.specs.Properties.{cut_to, index_name, is_below}
 use Rattle.widget_meaning.specs.NativeForms.{numbered_pairs}
 use Rattle.widget_meaning.specs.ListChanges.{pushed, with_elements}
-use Rattle.native_forms.proofs.Loops.{over_no}
+use Rattle.native_common.proofs.Loops.{over_no}
 
 none_some : {A : Type 0} {a : A} → None ≡ Some a → ⊥
 none_some h = cc

@@ -9,7 +9,7 @@ use Rattle.store_cells.specs.declared.value.Value.TheVariants as value
 use Rattle.store_cells.specs.declared.value.Number.TheVariants as whole
 use Rattle.store_cells.specs.Cells.{Cells, own_count}
 use Rattle.widget_meaning.specs.Limits.{max_length}
-use Rattle.widget_meaning.specs.Values.{Value, Num, Own, Undefined, E7}
+use Rattle.widget_meaning.specs.Values.{Value, Num, Own, E7}
 use Rattle.widget_meaning.specs.OwnState as state
 use Rattle.widget_meaning.specs.OwnState.{Cell, Kind, State, array_length, cell_at, kind_of, new_array, plain_object, with_cell, with_new_cell}
 use Rattle.widget_meaning.specs.Plan.{Halt, Plan, Ret}
@@ -25,7 +25,7 @@ use Rattle.js_image.specs.Plans.{PushedAt, meant_cause}
 use Rattle.js_image.proofs.Grown.{fine_stays, seen_stays}
 use Rattle.js_image.proofs.Units.{kept_then}
 use Rattle.js_values.specs.declared.outcome.NativeOut.TheVariants as native
-use Rattle.native_forms.specs.Meets.{Ends}
+use Rattle.native_common.specs.Meets.{Ends}
 use Rattle.list_methods.specs.declared.array.OwnArray.{OwnArray}
 use Rattle.list_methods.specs.Arrays.{IsArray, number}
 use Rattle.list_methods.specs.Parts.{popped, put_last}

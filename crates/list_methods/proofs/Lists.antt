@@ -23,7 +23,7 @@ use Rattle.js_image.specs.Held.{AreFine, IsFine}
 use Rattle.js_image.specs.Elements.{own_place}
 use Rattle.js_image.specs.Image.{all_seen, meant, seen}
 use Rattle.js_image.proofs.Grown.{fine_stays, seen_stays}
-use Rattle.native_forms.specs.Numbers.{counted}
+use Rattle.native_common.specs.Numbers.{counted}
 
 module _ {X : Type 0} (P : X → Type 0) where
   pub all_more : (xs ys : List X) → AllByRecursion P xs → AllByRecursion P ys → AllByRecursion P (xs ++ ys)

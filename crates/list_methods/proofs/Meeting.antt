@@ -22,9 +22,9 @@ use Rattle.js_values.specs.Answers.{IsOutOfFuel, Leaves}
 use Rattle.js_values.specs.declared.outcome.NativeOut.{NativeOut}
 use Rattle.js_values.specs.declared.outcome.NativeOut.TheVariants as native
 use Rattle.js_values.proofs.Answered.{charged_answers, lacking_answers}
-use Rattle.native_forms.specs.Meets.{Ends, Meets}
-use Rattle.native_forms.specs.Numbers.{counted}
-use Rattle.native_forms.proofs.Meeting.{ends_here, meets_free}
+use Rattle.native_common.specs.Meets.{Ends, Meets}
+use Rattle.native_common.specs.Numbers.{counted}
+use Rattle.native_common.proofs.Meeting.{ends_here, meets_free}
 
 -- an answer that ends a plan is not want of fuel
 paid : (w : ℕ) (old new : Cells) (plan : ℕ → State → Plan) (o : NativeOut) → Ends w old new plan o → IsOutOfFuel o → ⊥

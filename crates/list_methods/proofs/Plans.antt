@@ -13,8 +13,8 @@ use Rattle.widget_meaning.specs.Properties.{is_own_function}
 use Rattle.widget_meaning.specs.NativeForms.{clamped, elements, from_end, give_text, make_array, with_number, with_number_or, with_optional}
 use Rattle.widget_meaning.specs.ListChanges.{change, list_extra, pop, sorted, splice_count, spliced, unshift, without_order}
 use Rattle.widget_meaning.specs.ListNatives.{call_each, join, joined_text, list_slice, over, separator}
-use Rattle.native_forms.specs.Numbers.{number_or, optional_number}
-use Rattle.native_forms.proofs.Loops.{over_no, over_yes}
+use Rattle.native_common.specs.Numbers.{number_or, optional_number}
+use Rattle.native_common.proofs.Loops.{over_no, over_yes}
 use Rattle.list_methods.specs.Parts.{many_taken, popped}
 use Rattle.list_methods.specs.Sorting.{has_order}
 

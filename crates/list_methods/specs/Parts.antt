@@ -14,7 +14,7 @@ use Rattle.widget_meaning.specs.PrototypeNatives.{array_to_string}
 use Rattle.widget_meaning.specs.NativeNames.{FilterNative, ForEach, Join, ListConcat, ListSlice, MapNative, Pop, Push, Reverse, Shift, Sort, Splice, Unshift}
 use Rattle.js_image.specs.declared.outcome.Callee.{Callee}
 use Rattle.js_image.specs.declared.outcome.Callee.TheVariants as callee
-use Rattle.native_forms.specs.Numbers.{number_or}
+use Rattle.native_common.specs.Numbers.{number_or}
 
 -- whether a native is one of them
 abbrev pub is_part : NativeId → Bool

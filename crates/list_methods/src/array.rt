@@ -2,7 +2,7 @@
 ghost use Rattle.std.specs.Prelude.{◌≡◌, ◌++◌, ◌<◌, ℕ, List, IfOk, IfSome, OnOk, length, nat_eq, pos, unwrap_or};
 ghost use Rattle.std.specs.List.{list_any};
 ghost use Rattle.js_tree.specs.Forest.{Forest};
-ghost use Rattle.store_cells.specs.Cells.{Cells, PlainCell};
+ghost use Rattle.store_cells.specs.Cells.{Cells};
 ghost use Rattle.store_cells.specs.Host.{global};
 ghost use Rattle.store_cells.specs.Shape.{IsRefWithin};
 ghost use Rattle.widget_meaning.specs.Values as meaning;
@@ -14,15 +14,15 @@ ghost use Rattle.widget_meaning.specs.ListChanges as changes;
 ghost use Rattle.js_image.specs.Image.{Rest, all_seen, image, seen};
 ghost use Rattle.js_image.specs.Held.{AreFine, IsConfined, IsFine};
 ghost use Rattle.js_image.specs.Reads.{cell_in};
-ghost use Rattle.native_forms.specs.Meets.{Ends, Meets};
-ghost use Rattle.native_forms.specs.Numbers.{counted};
-ghost use Rattle.native_forms.specs.Receivers.{IsReceiver, receiver};
+ghost use Rattle.native_common.specs.Meets.{Ends, Meets};
+ghost use Rattle.native_common.specs.Numbers.{counted};
+ghost use Rattle.native_common.specs.Receivers.{IsReceiver, receiver};
 ghost use Rattle.list_methods.specs.Arrays.{IsArray, number, on_own};
 
 use code_units::Memory;
 use js_image::{array_length, elements, has_objects};
 use js_values::{Meter, NativeOut};
-use native_forms::take;
+use native_common::take;
 use object_store::{CellId, Number, Store, Value};
 use std::alloc::Global;
 

@@ -1,12 +1,12 @@
 //! The call of a native.
-ghost use Rattle.std.specs.Prelude.{◌≡◌, ◌<◌, ℕ, List, true, IfOk, OnErr};
+ghost use Rattle.std.specs.Prelude.{◌≡◌, ◌<◌, List, true, IfOk, OnErr};
 ghost use Rattle.js_tree.specs.Forest.{Forest};
 ghost use Rattle.store_cells.specs.Cells.{IsWidget, number_in};
 ghost use Rattle.widget_meaning.specs.Natives.{run_native};
 ghost use Rattle.js_image.specs.Image.{all_seen};
 ghost use Rattle.js_image.specs.Held.{AreFine, IsConfined, Kept};
-ghost use Rattle.native_forms.specs.Meets.{Ends, Meets};
-ghost use Rattle.native_forms.specs.Receivers.{IsReceiver, receiver};
+ghost use Rattle.native_common.specs.Meets.{Meets};
+ghost use Rattle.native_common.specs.Receivers.{IsReceiver, receiver};
 ghost use Rattle.list_methods.specs.Parts.{is_part};
 
 use crate::array::array_of;

@@ -1,12 +1,11 @@
 //! An Array gets more elements, or loses some.
-ghost use Rattle.std.specs.Prelude.{◌≡◌, ◌+◌, ◌<◌, ◌≤◌, ℕ, List, IfOk, OnErr, OnOk, Some, length, slice_get};
+ghost use Rattle.std.specs.Prelude.{◌≡◌, ◌+◌, ◌<◌, ◌≤◌, List, IfOk, OnOk, Some, length, slice_get};
 ghost use Rattle.js_tree.specs.Forest.{Forest};
 ghost use Rattle.widget_meaning.specs.OwnState as state;
 ghost use Rattle.widget_meaning.specs.Properties as properties;
 ghost use Rattle.widget_meaning.specs.ListChanges as changes;
-ghost use Rattle.js_image.specs.Image.{Rest, all_seen, image, seen};
-ghost use Rattle.js_image.specs.Held.{AreFine, IsFine, Kept};
-ghost use Rattle.native_forms.specs.Meets.{Ends};
+ghost use Rattle.js_image.specs.Image.{Rest, all_seen, image};
+ghost use Rattle.js_image.specs.Held.{AreFine, Kept};
 ghost use Rattle.list_methods.specs.Arrays.{IsArray, number};
 
 use crate::array::{OwnArray, number_value};

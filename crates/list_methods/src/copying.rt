@@ -10,15 +10,15 @@ ghost use Rattle.widget_meaning.specs.ListChanges as changes;
 ghost use Rattle.widget_meaning.specs.ListNatives as means;
 ghost use Rattle.js_image.specs.Image.{Rest, all_seen, image, seen};
 ghost use Rattle.js_image.specs.Held.{AreFine, IsConfined, IsFine, Kept};
-ghost use Rattle.native_forms.specs.Meets.{Ends, Meets};
-ghost use Rattle.native_forms.specs.Numbers as numbers;
+ghost use Rattle.native_common.specs.Meets.{Ends, Meets};
+ghost use Rattle.native_common.specs.Numbers as numbers;
 ghost use Rattle.list_methods.specs.Arrays.{IsArray, number};
 
 use crate::array::{OwnArray, charged, extra, share_all, values_of, whole};
 use code_units::Memory;
 use js_image::{StopCause, array_length, elements};
 use js_values::{Fault, Meter, NativeOut};
-use native_forms::{either_object, from_end, give_array, nth, number_or, take};
+use native_common::{either_object, from_end, give_array, nth, number_or, take};
 use object_store::{Store, Value};
 use std::alloc::Global;
 

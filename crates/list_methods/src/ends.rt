@@ -1,13 +1,13 @@
 //! `pop` and `push`.
 ghost use Rattle.std.specs.Prelude as std;
-ghost use Rattle.std.specs.Prelude.{◌≡◌, ◌+◌, ◌++◌, ◌<◌, ◌≤◌, ℕ, List, IfOk, OnErr, drop, length, pos};
+ghost use Rattle.std.specs.Prelude.{◌≡◌, ◌+◌, ◌<◌, ◌≤◌, List, IfOk, OnErr, length};
 ghost use Rattle.js_tree.specs.Forest.{Forest};
 ghost use Rattle.widget_meaning.specs.Values as meaning;
 ghost use Rattle.widget_meaning.specs.NativeForms as forms;
 ghost use Rattle.widget_meaning.specs.ListChanges as changes;
 ghost use Rattle.js_image.specs.Image.{all_seen};
 ghost use Rattle.js_image.specs.Held.{AreFine, IsConfined, Kept};
-ghost use Rattle.native_forms.specs.Meets.{Ends, Meets};
+ghost use Rattle.native_common.specs.Meets.{Ends, Meets};
 ghost use Rattle.list_methods.specs.Arrays.{IsArray, number};
 ghost use Rattle.list_methods.specs.Parts.{popped, put_last};
 
@@ -16,7 +16,7 @@ use crate::changing::{push_all, shorten};
 use code_units::Memory;
 use js_image::{Paid, element, pay_slots};
 use js_values::{Fault, Meter, NativeOut};
-use native_forms::take;
+use native_common::take;
 use object_store::{Store, Value};
 use std::alloc::Global;
 

@@ -11,8 +11,8 @@ ghost use Rattle.widget_meaning.specs.ListNatives as means;
 ghost use Rattle.widget_meaning.specs.PrototypeNatives as prototypes;
 ghost use Rattle.js_image.specs.Image.{Rest, all_seen, image, seen};
 ghost use Rattle.js_image.specs.Held.{AreFine, IsConfined, Kept};
-ghost use Rattle.native_forms.specs.Meets.{Ends, Meets};
-ghost use Rattle.native_forms.specs.Numbers.{counted};
+ghost use Rattle.native_common.specs.Meets.{Meets};
+ghost use Rattle.native_common.specs.Numbers.{counted};
 ghost use Rattle.list_methods.specs.Arrays.{IsArray, number};
 ghost use Rattle.list_methods.specs.Parts.{joined_next};
 
@@ -20,7 +20,7 @@ use crate::array::{OwnArray, extra, holds_objects, values_of};
 use code_units::{Memory, Text};
 use js_image::word;
 use js_values::{Fault, Meter, NativeOut};
-use native_forms::{give_text, is_object, nth, read_text};
+use native_common::{give_text, is_object, nth, read_text};
 use object_store::{Store, Value};
 use std::alloc::Global;
 

@@ -9,7 +9,7 @@ ghost use Rattle.widget_meaning.specs.ListNatives as means;
 ghost use Rattle.js_image.specs.Image.{Rest, all_seen, image, seen};
 ghost use Rattle.js_image.specs.Held.{AreFine, IsConfined, IsFine, IsHeld};
 ghost use Rattle.js_values.specs.Answers.{gathered};
-ghost use Rattle.native_forms.specs.Meets.{Ends, Meets};
+ghost use Rattle.native_common.specs.Meets.{Ends, Meets};
 ghost use Rattle.list_methods.specs.Arrays.{IsArray, number};
 ghost use Rattle.list_methods.specs.Parts.{is_function_callee};
 
@@ -17,7 +17,7 @@ use crate::array::{OwnArray, cell_of, counted_len, values_of};
 use code_units::Memory;
 use js_image::{Callee, callee};
 use js_values::{Fault, Keep, Meter, NativeOut, Plan};
-use native_forms::{nth, take};
+use native_common::{nth, take};
 use object_store::{CellId, Store, Value};
 use std::alloc::Global;
 

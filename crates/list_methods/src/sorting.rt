@@ -10,7 +10,7 @@ ghost use Rattle.widget_meaning.specs.NativeForms as forms;
 ghost use Rattle.widget_meaning.specs.ListChanges as changes;
 ghost use Rattle.js_image.specs.Image.{all_seen, seen};
 ghost use Rattle.js_image.specs.Held.{AreFine, IsConfined, Kept};
-ghost use Rattle.native_forms.specs.Meets.{Ends, Meets};
+ghost use Rattle.native_common.specs.Meets.{Ends, Meets};
 ghost use Rattle.list_methods.specs.Arrays.{IsArray, number};
 ghost use Rattle.list_methods.specs.Sorting.{IsKeyed, comes_before, has_order};
 
@@ -18,7 +18,7 @@ use crate::array::{OwnArray, extra, holds_objects, values_of};
 use crate::filling::change;
 use code_units::{Memory, Text};
 use js_values::{Fault, Meter, NativeOut};
-use native_forms::{nth, read_text, take};
+use native_common::{nth, read_text, take};
 use object_store::{Store, Value};
 use std::alloc::Global;
 use std::cmp::Ordering;

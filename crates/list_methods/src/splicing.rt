@@ -4,9 +4,9 @@ ghost use Rattle.js_tree.specs.Forest.{Forest};
 ghost use Rattle.store_cells.specs.Cells.{PlainCell};
 ghost use Rattle.widget_meaning.specs.NativeForms as forms;
 ghost use Rattle.widget_meaning.specs.ListChanges as changes;
-ghost use Rattle.js_image.specs.Image.{all_seen, seen};
+ghost use Rattle.js_image.specs.Image.{all_seen};
 ghost use Rattle.js_image.specs.Held.{AreFine, IsConfined, Kept};
-ghost use Rattle.native_forms.specs.Meets.{Ends, Meets};
+ghost use Rattle.native_common.specs.Meets.{Ends, Meets};
 ghost use Rattle.list_methods.specs.Arrays.{IsArray, number};
 ghost use Rattle.list_methods.specs.Parts.{exchanged, filled_after, many_taken};
 
@@ -16,7 +16,7 @@ use crate::filling::fill;
 use code_units::{Memory, Owner};
 use js_image::{Made, Paid, StopCause, make_array, new_indexes, pay_slots};
 use js_values::{Fault, Meter, NativeOut};
-use native_forms::{any_object, clamped, from_end, nth, number_or, take};
+use native_common::{any_object, clamped, from_end, nth, number_or, take};
 use object_store::{CELL_LIMIT, SLOT_LIMIT, Store, Value};
 use std::alloc::Global;
 

@@ -1,13 +1,13 @@
 //! `shift`, `unshift` and `reverse`.
 ghost use Rattle.std.specs.Prelude as std;
-ghost use Rattle.std.specs.Prelude.{◌≡◌, ◌+◌, ◌++◌, ◌<◌, ◌≤◌, ℕ, List, IfOk, OnErr, drop, length, pos, slice_get, unwrap_or};
+ghost use Rattle.std.specs.Prelude.{◌≡◌, ◌+◌, ◌++◌, ◌<◌, ◌≤◌, List, IfOk, OnErr, drop, length, pos, slice_get, unwrap_or};
 ghost use Rattle.js_tree.specs.Forest.{Forest};
 ghost use Rattle.widget_meaning.specs.Values as meaning;
 ghost use Rattle.widget_meaning.specs.NativeForms as forms;
 ghost use Rattle.widget_meaning.specs.ListChanges as changes;
 ghost use Rattle.js_image.specs.Image.{all_seen};
 ghost use Rattle.js_image.specs.Held.{AreFine, IsConfined, Kept};
-ghost use Rattle.native_forms.specs.Meets.{Ends, Meets};
+ghost use Rattle.native_common.specs.Meets.{Ends, Meets};
 ghost use Rattle.list_methods.specs.Arrays.{IsArray, number};
 
 use crate::array::{OwnArray, arg_count, extra, number_value, share_all, values_of};
@@ -15,7 +15,7 @@ use crate::ends::{count_of, room_behind};
 use crate::filling::change;
 use code_units::Memory;
 use js_values::{Fault, Meter, NativeOut};
-use native_forms::{nth, take};
+use native_common::{nth, take};
 use object_store::{Store, Value};
 use std::alloc::Global;
 

@@ -9,7 +9,7 @@ use Rattle.markup_grammar.specs.declared.Sign.{Sign}
 use Rattle.markup_grammar.specs.Signs.{Spot, located, sign_of, in_tag}
 use Rattle.markup_grammar.specs.Grammar.{limit, is_referable}
 use Rattle.markup_grammar.specs.Machine as machine
-use Rattle.markup_grammar.specs.Machine.{Opening, Open, Run, InText, InValue, Referring, Ampersand, Named, Number, Mode, State, State_at, Between, In, Refers, Begun, TagName, Valued, Spaced, AttributeName, Assigned, Slashed, Ending, Ended, InRaw, RawBegun, RawEnding, grown, step, run, begin, finished}
+use Rattle.markup_grammar.specs.Machine.{Opening, Open, Run, InText, InValue, Referring, Ampersand, Named, Number, State, State_at, Between, In, Refers, Begun, TagName, Valued, Spaced, AttributeName, Assigned, Slashed, Ending, Ended, InRaw, RawBegun, RawEnding, grown, step, run, finished}
 use Rattle.markup_grammar.proofs.Runs.{if_true, both, going, seven}
 use Rattle.markup_grammar.proofs.Close.{is_tag, is_ascii, parts, bound, GoodOpen, GoodRun, GoodReferring, Good}
 use Rattle.plain_tree.specs.Names.{is_void, is_script}

@@ -10,7 +10,7 @@ use Rattle.markup_grammar.specs.Grammar.Attributes.{no_attribute, and_attribute}
 use Rattle.markup_grammar.specs.Grammar.Head.{head}
 use Rattle.markup_grammar.specs.Grammar.Spells.{no_text, and_text, nothing, and_element, void_element, void_slash, script, element}
 use Rattle.markup_grammar.specs.Machine as machine
-use Rattle.markup_grammar.specs.Machine.{Opening, Open, InText, InValue, State, State_at, In, Between, Begun, TagName, Valued, Spaced, AttributeName, Ending, Ended, RawEnding, step, run, begin, finished}
+use Rattle.markup_grammar.specs.Machine.{Opening, Open, InText, InValue, State, State_at, In, Between, Begun, TagName, Spaced, AttributeName, Ending, Ended, RawEnding, step, run, begin, finished}
 use Rattle.markup_grammar.proofs.Runs.{if_true, if_false, going, blanks_run, tag_run, attribute_name_run, word_run, text_run, value_run, raw_run}
 use Rattle.plain_tree.specs.declared.plain.Attr.{Attr}
 use Rattle.plain_tree.specs.Names.{is_bare}

@@ -21,7 +21,7 @@ use Rattle.markup_grammar.specs.Grammar.Head.{head}
 use Rattle.markup_grammar.specs.Grammar.Raw.{no_raw, raw_character, raw_less}
 use Rattle.markup_grammar.specs.Grammar.Spells.{no_text, and_text, nothing, and_element, void_element, void_slash, script, element}
 use Rattle.markup_grammar.specs.Machine as machine
-use Rattle.markup_grammar.specs.Machine.{Opening, Open, Run, InText, InValue, Referring, Ampersand, Named, Number, State, State_at, Between, In, Refers, Begun, TagName, Valued, Spaced, AttributeName, Assigned, Slashed, Ending, Ended, InRaw, RawBegun, RawEnding, grown, step, run, begin, finished}
+use Rattle.markup_grammar.specs.Machine.{Opening, Open, Run, InText, InValue, Referring, Ampersand, Named, Number, State, State_at, In, Refers, grown, step, run, begin, finished}
 use Rattle.markup_grammar.proofs.Holds.{Gap, one_blank, more_blanks, Opened, outermost, inner, Heads, heads, Refer, at_ampersand, in_name, in_number, Holds, between, in_text, text_refers, begun, tag_name, valued, spaced, attribute_name, assigned, in_value, value_refers, slashed, ending, ended, in_raw, raw_begun, raw_ending}
 use Rattle.plain_tree.specs.declared.plain.Attr.{Attr}
 use Rattle.plain_tree.specs.Names.{is_void, is_script, is_bare}

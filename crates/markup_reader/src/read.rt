@@ -4,7 +4,7 @@ ghost use Rattle.std.specs.Str.{IsValidUpTo, chars, valid_up_to, error_len};
 ghost use Rattle.std.specs.Str.Lossy.{utf8_valid_len, utf8_error_len};
 ghost use Rattle.markup_grammar.specs.Machine.{begin};
 ghost use Rattle.markup_grammar.specs.Judge.{reads, judged, begun_len};
-ghost use Rattle.markup_grammar.specs.Judge.Outcome.{Reached, Stuck};
+ghost use Rattle.markup_grammar.specs.Judge.Outcome.{Reached};
 ghost use Rattle.markup_grammar.specs.Judge.Judged.{Read, Bad};
 ghost use Rattle.markup_reader.specs.declared.fault.MarkupFault.TheVariants as fault;
 ghost use Rattle.markup_grammar.specs.Markup.{MarkupSpells};

@@ -1,7 +1,7 @@
 //! The elements of a file, one after another.
 ghost use Rattle.std.specs.Prelude.{◌≡◌, ◌++◌, [], ◌∷◌, map, filter, OnOk, IfOk, MatchOption};
 ghost use Rattle.plain_tree.specs.Plains.{placed, placed_all};
-ghost use Rattle.markup_rules.specs.Elements.{elements, others, roots, tops, is_div, is_script_element, scripts};
+ghost use Rattle.markup_rules.specs.Elements.{elements, others, roots, tops, is_script_element, scripts};
 ghost use Rattle.markup_rules.specs.Parts.{element_of, IsText, IsElement, IsRootPlace};
 
 use code_units::{Memory, Text, is_word};

@@ -1,7 +1,6 @@
 //! The words that the markup rules cite.
-ghost use Rattle.std.specs.Prelude.{◌≡◌, drop};
-ghost use Rattle.std.specs.List.{list_all, list_any};
-ghost use Rattle.std.specs.Str.{bytes_eq};
+ghost use Rattle.std.specs.Prelude.{◌≡◌};
+ghost use Rattle.std.specs.List.{list_all};
 ghost use Rattle.markup_rules.specs.Words.{is_common, is_of_form, is_listed_attribute, is_script_attribute, is_wordy, is_address, is_in_id, is_own_id, lowered, begins_with, has_word};
 
 use code_units::{Text, is_word};

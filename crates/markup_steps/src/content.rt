@@ -1,5 +1,5 @@
 //! Texts, values, and the ends of elements.
-ghost use Rattle.std.specs.Prelude.{◌≡◌, ◌<◌, ◌+◌, ◌^◌, OnOk, drop};
+ghost use Rattle.std.specs.Prelude.{◌≡◌, ◌<◌, ◌+◌, OnOk, drop};
 ghost use Rattle.markup_grammar.specs.Signs.{sign_of};
 ghost use Rattle.markup_grammar.specs.Machine as machine;
 ghost use Rattle.plain_tree.specs.Trees.{beside};

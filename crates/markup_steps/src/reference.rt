@@ -1,6 +1,5 @@
 //! References to characters.
-ghost use Rattle.std.specs.Prelude.{◌≡◌, ◌<◌, ◌+◌, ◌^◌, OnOk, MatchOption, None, Some};
-ghost use Rattle.std.specs.Char.Escape.{encode_utf16};
+ghost use Rattle.std.specs.Prelude.{◌≡◌, ◌<◌, ◌+◌, OnOk, MatchOption, None, Some};
 ghost use Rattle.markup_grammar.specs.Signs.{sign_of};
 ghost use Rattle.markup_grammar.specs.Grammar.{is_referable};
 ghost use Rattle.markup_grammar.specs.Machine as machine;

@@ -8,22 +8,22 @@ use Rattle.plain_tree.specs.Trees.{PlainTrees, Trees, size}
 use Rattle.tree_ops.specs.Trees.{copied, numbered, subtree}
 use Rattle.store_cells.specs.Born.{raw_place}
 use Rattle.store_cells.specs.Cells.{Cells, PlainCell, raw_cell}
-use Rattle.native_forms.specs.object_store.Calls.{HasNode}
-use Rattle.native_forms.specs.object_store.Grows as store
-use Rattle.native_forms.specs.object_store.Owned.{Owned, owned}
+use Rattle.object_store.specs.Calls.{HasNode}
+use Rattle.object_store.specs.Grows as store
+use Rattle.object_store.specs.Owned.{Owned, owned}
 use Rattle.page_nodes.specs.Adds.{IsAdded}
 use Rattle.page_nodes.specs.Entries.{Entry, at}
 use Rattle.page_nodes.specs.Owners.{same_owner}
 use Rattle.page_tree.specs.declared.page.Page.{Page}
 use Rattle.page_tree.specs.Pages.{SameRoots, copy_of, nodes}
-use Rattle.event_image.specs.page_image.Image.{forest, number, own, owns}
-use Rattle.event_image.proofs.PageImage.Hosting.{added_host}
-use Rattle.event_image.proofs.PageImage.Growing.{added_grows, added_image, added_number, added_others, added_owned, copied_image, copy_added, copy_size, range_long}
-use Rattle.event_image.proofs.PageImage.Pages.{below_32, is_node}
+use Rattle.page_image.specs.Image.{forest, number, own, owns}
+use Rattle.page_image.proofs.Hosting.{added_host}
+use Rattle.page_image.proofs.Growing.{added_grows, added_image, added_number, added_others, added_owned, copied_image, copy_added, copy_size, range_long}
+use Rattle.page_image.proofs.Pages.{below_32, is_node}
 use Rattle.event_loop.specs.declared.around.Loop.{Loop}
-use Rattle.native_forms.specs.js_image.Held.{CountsRise, IsConfined, IsFineFor, Kept}
-use Rattle.native_forms.proofs.JsImage.Grown.{confined_more}
-use Rattle.native_forms.proofs.JsImage.Nodes.{hold_same, rise_same}
+use Rattle.js_image.specs.Held.{CountsRise, IsConfined, IsFineFor, Kept}
+use Rattle.js_image.proofs.Grown.{confined_more}
+use Rattle.js_image.proofs.Nodes.{hold_same, rise_same}
 use Rattle.native_image.specs.Grown.{IsGrown}
 use Rattle.native_image.specs.Sound.{HasRaw, HoldsOwn, IsSound, KeepsAll}
 use Rattle.native_image.proofs.Keeping.{holds_page, keeps_store, page_grows}

@@ -6,18 +6,18 @@ use Rattle.std.proofs.lemmas.List.Sums.{fold-append}
 use Rattle.js_tree.specs.Forest.{Forest}
 use Rattle.store_cells.specs.declared.value.Value.{Value as StoreValue}
 use Rattle.store_cells.specs.Cells.{Cells, PlainCell}
-use Rattle.native_forms.specs.object_store.Grows.{Grows}
+use Rattle.object_store.specs.Grows.{Grows}
 use Rattle.widget_meaning.specs.Values.{Own, Value}
 use Rattle.widget_meaning.specs.OwnState.{State, new_bunch}
 use Rattle.widget_meaning.specs.Plan.{Plan}
 use Rattle.widget_meaning.specs.Costs.{make, with_counts}
 use Rattle.widget_meaning.specs.BunchReads.{bunches_from, with_bunch}
 use Rattle.page_tree.specs.declared.page.Page.{Page}
-use Rattle.event_image.specs.page_image.Image.{number}
+use Rattle.page_image.specs.Image.{number}
 use Rattle.event_loop.specs.declared.around.Loop.{Loop}
-use Rattle.native_forms.specs.js_image.Image.{all_seen, seen}
-use Rattle.native_forms.specs.js_image.Held.{AreFine, IsFine}
-use Rattle.native_forms.proofs.JsImage.Grown.{fine_stays, seen_stays}
+use Rattle.js_image.specs.Image.{all_seen, seen}
+use Rattle.js_image.specs.Held.{AreFine, IsFine}
+use Rattle.js_image.proofs.Grown.{fine_stays, seen_stays}
 use Rattle.native_image.specs.Image.{Outside, beside, image}
 use Rattle.native_image.specs.Made.{AreBunches}
 use Rattle.native_image.proofs.Told.{made_told}

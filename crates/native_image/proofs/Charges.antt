@@ -6,8 +6,8 @@ use Rattle.widget_meaning.specs.Values as meaning
 use Rattle.widget_meaning.specs.OwnState.{State}
 use Rattle.widget_meaning.specs.Plan.{Halt, Plan}
 use Rattle.widget_meaning.specs.Costs.{pay, sum, units_cost, with_counts}
-use Rattle.native_forms.specs.Numbers.{counted}
-use Rattle.native_forms.proofs.Loops.{over_yes}
+use Rattle.native_common.specs.Numbers.{counted}
+use Rattle.native_common.proofs.Loops.{over_yes}
 
 pub too_many : (n c : ℕ) → c ≡ counted n → 4294967295 < c → (s : State) (k : State → Plan) → pay (units_cost n) s k ≡ Halt meaning.Units s
 too_many n c e lt s k =

@@ -6,8 +6,8 @@ use Rattle.code_units.specs.declared.owner.Owner.TheVariants as owner
 use Rattle.js_tree.specs.Forest.{Forest}
 use Rattle.store_cells.specs.Born.{raw_place}
 use Rattle.store_cells.specs.Cells.{Cells, own_count}
-use Rattle.native_forms.specs.object_store.Grows.{Grows}
-use Rattle.native_forms.specs.object_store.Owned.{owned}
+use Rattle.object_store.specs.Grows.{Grows}
+use Rattle.object_store.specs.Owned.{owned}
 use Rattle.query_grammar.specs.Renumbering.{renumbered}
 use Rattle.widget_meaning.specs.Limits.{max_nodes}
 use Rattle.widget_meaning.specs.OwnState.{Handler, OwnState, with_forest}
@@ -15,15 +15,15 @@ use Rattle.page_tree.specs.declared.page.Page.{Page}
 use Rattle.event_loop.specs.declared.around.Loop.{Loop}
 use Rattle.event_loop.specs.declared.timers.Timer.{Timer}
 use Rattle.event_loop.specs.Around as around
-use Rattle.native_forms.specs.js_image.Held.{HoldNodes, Kept}
-use Rattle.native_forms.specs.js_image.Image as store
-use Rattle.native_forms.specs.js_image.Image.{Rest, meant_cell, meant_counts}
-use Rattle.native_forms.proofs.JsImage.Pays.{not_over}
-use Rattle.event_image.specs.page_image.Image.{forest, own, owns}
-use Rattle.event_image.specs.page_image.Stays.{KeepsNodes}
-use Rattle.event_image.proofs.PageImage.Kept.{all_same}
-use Rattle.event_image.proofs.PageImage.Looks.{made_is}
-use Rattle.event_image.proofs.PageImage.Pages.{is_widget}
+use Rattle.js_image.specs.Held.{HoldNodes, Kept}
+use Rattle.js_image.specs.Image as store
+use Rattle.js_image.specs.Image.{Rest, meant_cell, meant_counts}
+use Rattle.js_image.proofs.Pays.{not_over}
+use Rattle.page_image.specs.Image.{forest, own, owns}
+use Rattle.page_image.specs.Stays.{KeepsNodes}
+use Rattle.page_image.proofs.Kept.{all_same}
+use Rattle.page_image.proofs.Looks.{made_is}
+use Rattle.page_image.proofs.Pages.{is_widget}
 use Rattle.event_image.specs.Image.{Shows, handler_of, kept_of, own_focus, own_kept, own_timers, timer_of}
 use Rattle.native_image.specs.Image.{Outside, Parts, beside, dispatches_of, image}
 use Rattle.native_image.specs.Sound.{HasRaw, HoldsOwn, IsOwnCell, IsSound, KeepsStore}

@@ -3,21 +3,21 @@ use Rattle.std.proofs.Common.{◌≡◌, ℕ, ◌<◌, List, [], ◌∷◌, true
 use Rattle.std.specs.List.{AllByRecursion}
 use Rattle.js_tree.specs.Forest.{Forest}
 use Rattle.store_cells.specs.Cells.{Cells, PlainCell}
-use Rattle.native_forms.specs.object_store.Grows as store
-use Rattle.native_forms.specs.object_store.Owned as cells
-use Rattle.native_forms.specs.object_store.Owned.{OwnCell, OwnKind, owned}
+use Rattle.object_store.specs.Grows as store
+use Rattle.object_store.specs.Owned as cells
+use Rattle.object_store.specs.Owned.{OwnCell, OwnKind, owned}
 use Rattle.page_tree.specs.declared.page.Page.{Page}
-use Rattle.event_image.specs.page_image.Held.{OptionIn}
-use Rattle.event_image.specs.page_image.Image.{HasRoot, own, owns}
-use Rattle.event_image.specs.page_image.Stays.{Grows, HostStays, KeepsNodes, OthersStay}
-use Rattle.event_image.proofs.PageImage.Hosting.{host_same, host_then}
-use Rattle.event_image.proofs.PageImage.Looks.{root_owned}
-use Rattle.event_image.proofs.PageImage.Pages.{is_widget}
+use Rattle.page_image.specs.Held.{OptionIn}
+use Rattle.page_image.specs.Image.{HasRoot, own, owns}
+use Rattle.page_image.specs.Stays.{Grows, HostStays, KeepsNodes, OthersStay}
+use Rattle.page_image.proofs.Hosting.{host_same, host_then}
+use Rattle.page_image.proofs.Looks.{root_owned}
+use Rattle.page_image.proofs.Pages.{is_widget}
 use Rattle.event_loop.specs.declared.around.Loop.{Loop}
 use Rattle.event_loop.specs.Around as around
-use Rattle.native_forms.specs.js_image.Held.{Kept, PassNodes}
-use Rattle.native_forms.proofs.JsImage.Grown.{kept_same}
-use Rattle.native_forms.proofs.JsImage.Nodes.{rise_then}
+use Rattle.js_image.specs.Held.{Kept, PassNodes}
+use Rattle.js_image.proofs.Grown.{kept_same}
+use Rattle.js_image.proofs.Nodes.{rise_then}
 use Rattle.native_image.specs.Sound.{HoldsOwn, IsSound, KeepsAll, KeepsPage, KeepsStore}
 use Rattle.native_image.proofs.Joint.{holds_grows, keeps_of}
 

@@ -13,8 +13,8 @@ use Rattle.widget_meaning.specs.Values.{Own, Value as Meant}
 use Rattle.widget_meaning.specs.BunchReads.{with_bunch}
 use Rattle.store_cells.specs.Cells.{Cells, own_count}
 use Rattle.store_cells.specs.declared.counts.Counts.{Counts}
-use Rattle.native_forms.specs.object_store.Owned as cells
-use Rattle.native_forms.specs.object_store.Owned.{OwnCell, OwnKind, Owned, owned}
+use Rattle.object_store.specs.Owned as cells
+use Rattle.object_store.specs.Owned.{OwnCell, OwnKind, owned}
 use Rattle.widget_meaning.specs.OwnState as state
 use Rattle.widget_meaning.specs.OwnState.{Amounts, OwnState, State, nothing_kept, new_bunch, with_forest, with_new_cell}
 use Rattle.widget_meaning.specs.PageForms.{next_node, with_node, with_room}
@@ -25,19 +25,19 @@ use Rattle.page_nodes.specs.Owners.{is_owner}
 use Rattle.page_tree.specs.declared.page.Page.{Page}
 use Rattle.page_tree.specs.Pages.{nodes, root}
 use Rattle.code_units.specs.declared.owner.Owner.TheVariants as owner
-use Rattle.event_image.specs.page_image.Image.{forest, number, own, owns}
-use Rattle.event_image.specs.page_image.Stays.{Grows}
-use Rattle.event_image.specs.page_image.Own.{is_own, own_number, page_forest}
-use Rattle.event_image.proofs.PageImage.Looks.{number_low}
-use Rattle.event_image.proofs.PageImage.Shown.{forest_own}
-use Rattle.native_forms.proofs.Loops.{over_yes}
-use Rattle.event_image.proofs.PageImage.Marked.{AllIn}
-use Rattle.event_image.proofs.PageImage.Pages.{is_widget}
+use Rattle.page_image.specs.Image.{forest, number, own, owns}
+use Rattle.page_image.specs.Stays.{Grows}
+use Rattle.page_image.specs.Own.{is_own, own_number, page_forest}
+use Rattle.page_image.proofs.Looks.{number_low}
+use Rattle.page_image.proofs.Shown.{forest_own}
+use Rattle.native_common.proofs.Loops.{over_yes}
+use Rattle.page_image.proofs.Marked.{AllIn}
+use Rattle.page_image.proofs.Pages.{is_widget}
 use Rattle.event_loop.specs.declared.around.Loop.{Loop}
 use Rattle.event_image.proofs.Growth.{grows}
-use Rattle.native_forms.specs.js_image.Held.{Kept, PassNodes}
-use Rattle.native_forms.specs.js_image.Image as joint
-use Rattle.native_forms.specs.js_image.Image.{Rest, meant_cell, meant_counts, meant_kind, node_number, state_of}
+use Rattle.js_image.specs.Held.{Kept, PassNodes}
+use Rattle.js_image.specs.Image as joint
+use Rattle.js_image.specs.Image.{Rest, meant_cell, meant_counts, meant_kind, node_number, state_of}
 use Rattle.native_image.specs.Grown.{IsGrown}
 use Rattle.native_image.specs.Made.{AreBunches, IsNode}
 use Rattle.native_image.specs.Image.{Outside, beside, dispatches_of, image}

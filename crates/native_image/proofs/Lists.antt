@@ -6,8 +6,8 @@ use Rattle.std.proofs.lemmas.List.Sums.{fold-append}
 use Rattle.query_grammar.specs.Finds.{has_number}
 use Rattle.query_grammar.proofs.Numbers.{has_first}
 use Rattle.page_tree.specs.declared.page.Page.{Page}
-use Rattle.event_image.specs.page_image.Image.{number, owns}
-use Rattle.event_image.proofs.PageImage.Looks.{told_apart}
+use Rattle.page_image.specs.Image.{number, owns}
+use Rattle.page_image.proofs.Looks.{told_apart}
 
 second : (a b : Bool) → b ≡ true → (a || b) ≡ true
 second true b e = refl

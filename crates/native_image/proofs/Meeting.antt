@@ -4,15 +4,15 @@ use Rattle.js_tree.specs.Forest.{Forest}
 use Rattle.store_cells.specs.Cells.{Cells}
 use Rattle.widget_meaning.specs.OwnState.{State}
 use Rattle.widget_meaning.specs.Plan.{Plan, charge}
-use Rattle.native_forms.specs.js_image.Image.{seen}
-use Rattle.native_forms.specs.js_values.Answers.{Answers, IsFineOut, IsOutOfFuel, Leaves}
-use Rattle.native_forms.specs.js_values.Fuel.{Fuel}
-use Rattle.native_forms.specs.js_values.declared.outcome.NativeOut.{NativeOut}
-use Rattle.native_forms.specs.js_values.declared.outcome.NativeOut.TheVariants as native
-use Rattle.native_forms.proofs.JsValues.Answered.{charged_answers, free_answers, lacking_answers}
-use Rattle.native_forms.specs.Meets.{Ends, Meets}
+use Rattle.js_image.specs.Image.{seen}
+use Rattle.js_values.specs.Answers.{Answers, IsFineOut, IsOutOfFuel, Leaves}
+use Rattle.js_values.specs.Fuel.{Fuel}
+use Rattle.js_values.specs.declared.outcome.NativeOut.{NativeOut}
+use Rattle.js_values.specs.declared.outcome.NativeOut.TheVariants as native
+use Rattle.js_values.proofs.Answered.{charged_answers, free_answers, lacking_answers}
+use Rattle.native_common.specs.Meets.{Ends, Meets}
 use Rattle.page_tree.specs.declared.page.Page.{Page}
-use Rattle.event_image.specs.page_image.Image.{number}
+use Rattle.page_image.specs.Image.{number}
 use Rattle.event_loop.specs.declared.around.Loop.{Loop}
 use Rattle.native_image.specs.Image.{Outside, Parts, beside, image}
 use Rattle.native_image.specs.Meets.{EndsAt, FiresAtOwn, MeetsAt, Reads}

@@ -22,11 +22,11 @@ use Rattle.store_cells.specs.declared.counts.StoreFault.{StoreFault}
 use Rattle.store_cells.specs.declared.counts.TheConstants.{UNIT_LIMIT}
 use Rattle.store_cells.specs.Cells.{Cells, PlainCell, own_count}
 use Rattle.store_cells.proofs.Places.{position_step}
-use Rattle.native_forms.specs.object_store.declared.store.NewCell.TheVariants as fresh
-use Rattle.native_forms.specs.object_store.Calls.{IsMade, make_refusal}
-use Rattle.native_forms.specs.object_store.Grows.{Grows}
-use Rattle.native_forms.specs.object_store.Owned as store
-use Rattle.native_forms.specs.object_store.Owned.{Made, OwnCell, OwnKind, Owned, made_cells, owned, visible_at}
+use Rattle.object_store.specs.declared.store.NewCell.TheVariants as fresh
+use Rattle.object_store.specs.Calls.{IsMade, make_refusal}
+use Rattle.object_store.specs.Grows.{Grows}
+use Rattle.object_store.specs.Owned as store
+use Rattle.object_store.specs.Owned.{Made, OwnCell, OwnKind, Owned, made_cells, owned, visible_at}
 use Rattle.query_grammar.specs.Finds.{has_number}
 use Rattle.query_grammar.proofs.Numbers.{has_first}
 use Rattle.widget_meaning.specs.Values.{Value}
@@ -38,21 +38,21 @@ use Rattle.page_nodes.specs.Entries.{Entry}
 use Rattle.page_nodes.specs.Owners.{same_owner}
 use Rattle.page_tree.specs.declared.page.Page.{Page}
 use Rattle.page_tree.specs.Pages.{nodes}
-use Rattle.native_forms.specs.js_image.declared.outcome.StopCause.{StopCause}
-use Rattle.native_forms.specs.js_image.Held.{HoldNodes, IsFine, PassNodes, is_held}
-use Rattle.native_forms.specs.js_image.Plans.{IsNew, IsStopOf, meant_cause}
-use Rattle.native_forms.proofs.JsImage.Grown.{kept_same}
-use Rattle.native_forms.proofs.JsImage.Makes.{made_apart, new_confined, new_made, new_refused}
-use Rattle.native_forms.proofs.JsImage.Nodes.{hold_more, rise_to}
-use Rattle.native_forms.specs.js_image.Image as joint
-use Rattle.native_forms.specs.js_image.Image.{Rest, meant, meant_cell, no_rest, node_number, seen}
-use Rattle.event_image.specs.page_image.Image as page
-use Rattle.event_image.specs.page_image.Image.{number, own, owns}
-use Rattle.event_image.specs.page_image.Own.{is_own, own_nodes_from, own_number}
-use Rattle.event_image.proofs.PageImage.Looks.{made_is, number_low, told_apart}
-use Rattle.event_image.proofs.PageImage.Pages.{is_widget}
+use Rattle.js_image.specs.declared.outcome.StopCause.{StopCause}
+use Rattle.js_image.specs.Held.{HoldNodes, IsFine, PassNodes, is_held}
+use Rattle.js_image.specs.Plans.{IsNew, IsStopOf, meant_cause}
+use Rattle.js_image.proofs.Grown.{kept_same}
+use Rattle.js_image.proofs.Makes.{made_apart, new_confined, new_made, new_refused}
+use Rattle.js_image.proofs.Nodes.{hold_more, rise_to}
+use Rattle.js_image.specs.Image as joint
+use Rattle.js_image.specs.Image.{Rest, meant, meant_cell, no_rest, node_number, seen}
+use Rattle.page_image.specs.Image as page
+use Rattle.page_image.specs.Image.{number, own, owns}
+use Rattle.page_image.specs.Own.{is_own, own_nodes_from, own_number}
+use Rattle.page_image.proofs.Looks.{made_is, number_low, told_apart}
+use Rattle.page_image.proofs.Pages.{is_widget}
 use Rattle.event_loop.specs.declared.around.Loop.{Loop}
-use Rattle.native_forms.specs.Receivers.{IsReceiver, is_plain_call, receiver}
+use Rattle.native_common.specs.Receivers.{IsReceiver, is_plain_call, receiver}
 use Rattle.native_image.specs.Image.{Outside, beside, image}
 use Rattle.native_image.specs.Sound.{AreNodes, HasRaw, HoldsOwn, IsSound, KeepsStore}
 use Rattle.native_image.proofs.Joint.{keeps_of, rest, sound_grows, store_lift}

@@ -3,7 +3,7 @@ use Rattle.std.proofs.Common.{◌≡◌, ℕ, Bool, true, false, sym, length, if
 use Rattle.std.specs.Prelude.{nat_lt}
 use Rattle.widget_meaning.specs.Limits.{max_cells, max_nodes, max_slots, max_units}
 use Rattle.widget_meaning.specs.Values as meaning
-use Rattle.widget_meaning.specs.Values.{Is, Own, Undefined, Value}
+use Rattle.widget_meaning.specs.Values.{Own, Undefined, Value}
 use Rattle.widget_meaning.specs.OwnState.{Amounts, Cell, State, with_new_cell}
 use Rattle.widget_meaning.specs.Plan.{Halt, Plan}
 use Rattle.widget_meaning.specs.Costs.{give, make, object_cost, pay, sum, with_counts}

@@ -4,15 +4,15 @@ use Rattle.std.specs.Prelude.{nat_lt}
 use Rattle.js_tree.specs.Forest.{Forest}
 use Rattle.store_cells.specs.declared.counts.Counts.{Counts}
 use Rattle.store_cells.specs.Cells.{Cells}
-use Rattle.native_forms.specs.object_store.Owned.{owned}
+use Rattle.object_store.specs.Owned.{owned}
 use Rattle.widget_meaning.specs.Limits.{max_cells, max_nodes, max_slots, max_units}
 use Rattle.widget_meaning.specs.Values as meaning
 use Rattle.widget_meaning.specs.OwnState.{Amounts, State}
 use Rattle.widget_meaning.specs.Plan.{Halt, Plan}
 use Rattle.widget_meaning.specs.Costs.{cost, pay, sum, with_counts}
-use Rattle.native_forms.specs.js_image.Image.{meant_counts}
+use Rattle.js_image.specs.Image.{meant_counts}
 use Rattle.page_tree.specs.declared.page.Page.{Page}
-use Rattle.event_image.specs.page_image.Image.{own}
+use Rattle.page_image.specs.Image.{own}
 use Rattle.event_loop.specs.declared.around.Loop.{Loop}
 use Rattle.native_image.specs.Image.{Outside, beside, image}
 

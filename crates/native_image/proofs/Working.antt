@@ -13,20 +13,20 @@ use Rattle.widget_meaning.specs.OwnState.{Kept, State, with_forest, with_own}
 use Rattle.widget_meaning.specs.BunchWrites.{change_kept}
 use Rattle.widget_meaning.specs.Plan.{Plan, charge}
 use Rattle.widget_meaning.specs.Costs.{give, throw}
-use Rattle.native_forms.specs.js_image.Held.{IsHeld}
-use Rattle.native_forms.specs.js_image.Image.{seen}
-use Rattle.native_forms.specs.js_image.Plans.{meant_fault}
-use Rattle.native_forms.specs.js_image.declared.outcome.Fault.{Fault}
-use Rattle.native_forms.specs.js_values.Answers.{Leaves}
-use Rattle.native_forms.specs.js_values.Fuel.{Fuel}
-use Rattle.native_forms.specs.js_values.declared.outcome.NativeOut.{NativeOut}
-use Rattle.native_forms.specs.js_values.declared.outcome.NativeOut.TheVariants as native
+use Rattle.js_image.specs.Held.{IsHeld}
+use Rattle.js_image.specs.Image.{seen}
+use Rattle.js_image.specs.Plans.{meant_fault}
+use Rattle.js_image.specs.declared.outcome.Fault.{Fault}
+use Rattle.js_values.specs.Answers.{Leaves}
+use Rattle.js_values.specs.Fuel.{Fuel}
+use Rattle.js_values.specs.declared.outcome.NativeOut.{NativeOut}
+use Rattle.js_values.specs.declared.outcome.NativeOut.TheVariants as native
 use Rattle.page_tree.specs.declared.page.Page.{Page}
-use Rattle.event_image.specs.page_image.Image.{number}
+use Rattle.page_image.specs.Image.{number}
 use Rattle.event_loop.specs.declared.around.Loop.{Loop}
 use Rattle.event_image.specs.Image.{Shows}
-use Rattle.native_forms.specs.Meets.{Meets}
-use Rattle.native_forms.specs.Numbers.{counted}
+use Rattle.native_common.specs.Meets.{Meets}
+use Rattle.native_common.specs.Numbers.{counted}
 use Rattle.native_image.specs.Charges.{Begins, Price, pay_for}
 use Rattle.native_image.specs.Image.{Outside, Parts, beside, dispatches_of, image}
 use Rattle.native_image.specs.Meets.{EndsAt, FiresAtOwn, MeetsAt}

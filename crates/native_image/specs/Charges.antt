@@ -5,10 +5,10 @@ use Rattle.store_cells.specs.Cells.{Cells}
 use Rattle.widget_meaning.specs.OwnState.{State}
 use Rattle.widget_meaning.specs.Plan.{Plan}
 use Rattle.widget_meaning.specs.Costs.{pay, slots_cost, units_cost}
-use Rattle.native_forms.specs.js_image.Held.{Kept}
-use Rattle.native_forms.specs.js_image.Image.{Rest, image}
-use Rattle.native_forms.specs.js_values.Fuel.{Fuel}
-use Rattle.native_forms.specs.Numbers.{counted}
+use Rattle.js_image.specs.Held.{Kept}
+use Rattle.js_image.specs.Image.{Rest, image}
+use Rattle.js_values.specs.Fuel.{Fuel}
+use Rattle.native_common.specs.Numbers.{counted}
 use Rattle.native_image.specs.declared.charging.Cost.{Cost}
 use Rattle.native_image.specs.declared.charging.Cost.TheVariants as cost
 

@@ -2,8 +2,8 @@
 use Rattle.std.specs.Prelude.{◌≡◌, ℕ, ◌+◌, ◌<◌, ◌≤◌, ◌⊎◌, true, length}
 use Rattle.plain_tree.specs.Trees.{Trees, beside}
 use Rattle.page_tree.specs.declared.page.Page.{Page}
-use Rattle.event_image.specs.page_image.Image.{forest, number, own, owns}
-use Rattle.event_image.specs.page_image.Stays.{GrowsBy, OthersStay, HostStays}
+use Rattle.page_image.specs.Image.{forest, number, own, owns}
+use Rattle.page_image.specs.Stays.{GrowsBy, OthersStay, HostStays}
 
 -- A tree of so many nodes stands behind all others of a widget: its top is this node, and all new nodes of the page are its.
 pub record IsGrown (w : ℕ) (old new : Page) (id many : ℕ) (tree : Trees ℕ) : Type 0 where

@@ -2,14 +2,14 @@
 use Rattle.std.specs.Prelude.{ℕ, List, [], ◌∷◌, Bool, Option, None, Some, length, map}
 use Rattle.js_tree.specs.Forest.{Forest}
 use Rattle.store_cells.specs.Cells.{Cells, own_count}
-use Rattle.native_forms.specs.object_store.Owned.{owned}
+use Rattle.object_store.specs.Owned.{owned}
 use Rattle.widget_meaning.specs.Values.{Stop}
 use Rattle.widget_meaning.specs.OwnState.{Post, State}
 use Rattle.page_tree.specs.declared.page.Page.{Page}
 use Rattle.event_loop.specs.declared.around.Loop.{Loop}
 use Rattle.event_loop.specs.Around as around
-use Rattle.native_forms.specs.js_image.Image.{meant_cell, meant_counts, meant_scope}
-use Rattle.event_image.specs.page_image.Image as page
+use Rattle.js_image.specs.Image.{meant_cell, meant_counts, meant_scope}
+use Rattle.page_image.specs.Image as page
 use Rattle.event_image.specs.Image.{own_focus, own_kept, own_timers}
 
 -- What no native of the page sees: the host's records of the widget, and the open dispatches but the innermost.

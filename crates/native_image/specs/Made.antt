@@ -12,8 +12,8 @@ use Rattle.widget_meaning.specs.Costs.{with_counts}
 use Rattle.widget_meaning.specs.BunchReads.{bunches_from, with_bunch}
 use Rattle.page_tree.specs.declared.page.Page.{Page}
 use Rattle.event_loop.specs.declared.around.Loop.{Loop}
-use Rattle.native_forms.specs.js_image.Image.{all_seen, seen}
-use Rattle.native_forms.specs.js_image.Held.{AreFine, IsFine}
+use Rattle.js_image.specs.Image.{all_seen, seen}
+use Rattle.js_image.specs.Held.{AreFine, IsFine}
 use Rattle.native_image.specs.Image.{Outside, beside, image}
 
 -- A Bunch of each of these nodes was made, after all objects that there were; what that cost is counted and not said here.

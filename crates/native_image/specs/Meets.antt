@@ -5,15 +5,15 @@ use Rattle.store_cells.specs.Cells.{Cells}
 use Rattle.query_grammar.specs.Finds.{has_number}
 use Rattle.widget_meaning.specs.OwnState.{State}
 use Rattle.widget_meaning.specs.Plan.{Plan}
-use Rattle.native_forms.specs.js_image.Image.{seen}
-use Rattle.native_forms.specs.js_values.Answers.{Answers, IsFineOut, IsOutOfFuel, Leaves}
-use Rattle.native_forms.specs.js_values.Fuel.{Fuel}
-use Rattle.native_forms.specs.js_values.declared.outcome.NativeOut.{NativeOut}
-use Rattle.native_forms.specs.js_values.declared.outcome.NativeOut.TheVariants as native
-use Rattle.native_forms.specs.js_values.declared.outcome.Plan.TheVariants as calls
+use Rattle.js_image.specs.Image.{seen}
+use Rattle.js_values.specs.Answers.{Answers, IsFineOut, IsOutOfFuel, Leaves}
+use Rattle.js_values.specs.Fuel.{Fuel}
+use Rattle.js_values.specs.declared.outcome.NativeOut.{NativeOut}
+use Rattle.js_values.specs.declared.outcome.NativeOut.TheVariants as native
+use Rattle.js_values.specs.declared.outcome.Plan.TheVariants as calls
 use Rattle.page_tree.specs.declared.page.Page.{Page}
 use Rattle.event_loop.specs.declared.around.Loop.{Loop}
-use Rattle.event_image.specs.page_image.Image.{number, owns}
+use Rattle.page_image.specs.Image.{number, owns}
 use Rattle.native_image.specs.Image.{Outside, Parts, beside, image}
 use Rattle.native_image.specs.Sound.{IsSound}
 

@@ -4,17 +4,17 @@ use Rattle.std.specs.List.{AllByRecursion, IsDistinct}
 use Rattle.js_tree.specs.Forest.{Forest}
 use Rattle.store_cells.specs.Born.{raw_place}
 use Rattle.store_cells.specs.Cells.{Cells, PlainCell}
-use Rattle.native_forms.specs.object_store.Grows.{Grows}
-use Rattle.native_forms.specs.object_store.Owned.{owned, visible_at}
+use Rattle.object_store.specs.Grows.{Grows}
+use Rattle.object_store.specs.Owned.{owned, visible_at}
 use Rattle.query_grammar.specs.Finds.{has_number}
 use Rattle.page_tree.specs.declared.page.Page.{Page}
 use Rattle.event_loop.specs.Kept.{nothing}
 use Rattle.event_loop.specs.declared.around.Loop.{Loop}
 use Rattle.event_loop.specs.Around as around
-use Rattle.native_forms.specs.js_image.Held.{CountsRise, HoldNodes, IsConfined}
-use Rattle.event_image.specs.page_image.Held.{OptionIn}
-use Rattle.event_image.specs.page_image.Image.{HasRoot, number, own, owns, root_of}
-use Rattle.event_image.specs.page_image.Stays.{HostStays, OthersStay}
+use Rattle.js_image.specs.Held.{CountsRise, HoldNodes, IsConfined}
+use Rattle.page_image.specs.Held.{OptionIn}
+use Rattle.page_image.specs.Image.{HasRoot, number, own, owns, root_of}
+use Rattle.page_image.specs.Stays.{HostStays, OthersStay}
 
 -- a visible cell of the widget
 abbrev pub IsOwnCell : ℕ → List PlainCell → ℕ → Type 0

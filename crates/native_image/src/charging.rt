@@ -3,19 +3,19 @@ ghost use Rattle.std.specs.Prelude.{◌≡◌, ◌<◌, ℕ, List, IfErr, OnOk};
 ghost use Rattle.js_tree.specs.Forest.{Forest};
 ghost use Rattle.widget_meaning.specs.OwnState.{State};
 ghost use Rattle.widget_meaning.specs.Plan.{Plan, charge};
-ghost use Rattle.native_forms.specs.js_image.Held.{Kept};
-ghost use Rattle.native_forms.specs.js_image.Image.{Rest, image};
-ghost use Rattle.native_forms.specs.js_image.Plans.{paid_plan};
-ghost use Rattle.native_forms.specs.Meets.{Meets};
-ghost use Rattle.native_forms.specs.Numbers.{counted};
+ghost use Rattle.js_image.specs.Held.{Kept};
+ghost use Rattle.js_image.specs.Image.{Rest, image};
+ghost use Rattle.js_image.specs.Plans.{paid_plan};
+ghost use Rattle.native_common.specs.Meets.{Meets};
+ghost use Rattle.native_common.specs.Numbers.{counted};
 ghost use Rattle.native_image.specs.Charges.{Begins, IsPrice, OfUnits, Price, pay_for};
 ghost use Rattle.native_image.specs.Image.{Parts};
 ghost use Rattle.native_image.specs.Meets.{FiresAtOwn};
 
-use native_forms::js_image::{Paid, StopCause, pay_slots, pay_units};
-use native_forms::js_values::{Meter, NativeOut};
-use native_forms::object_store::Store;
-use native_forms::take;
+use js_image::{Paid, StopCause, pay_slots, pay_units};
+use js_values::{Meter, NativeOut};
+use native_common::take;
+use object_store::Store;
 
 /// What a native pays beside its charge.
 #[derive(Clone, Copy, Drop)]

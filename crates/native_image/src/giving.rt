@@ -6,17 +6,17 @@ ghost use Rattle.widget_meaning.specs.Costs as costs;
 ghost use Rattle.widget_meaning.specs.Costs.{give};
 ghost use Rattle.widget_meaning.specs.Plan.{charge};
 ghost use Rattle.widget_meaning.specs.Values.{Text as Meant};
-ghost use Rattle.native_forms.specs.js_values.Operands.{IsPrimitive, plain};
-ghost use Rattle.native_forms.specs.Meets.{Ends, Meets};
-ghost use Rattle.native_forms.specs.Numbers.{counted};
+ghost use Rattle.js_values.specs.Operands.{IsPrimitive, plain};
+ghost use Rattle.native_common.specs.Meets.{Ends, Meets};
+ghost use Rattle.native_common.specs.Numbers.{counted};
 ghost use Rattle.native_image.specs.Image.{Parts};
 ghost use Rattle.native_image.specs.Meets.{FiresAtOwn};
 
 use code_units::Text;
-use native_forms::js_image::{Paid, pay_text};
-use native_forms::js_values::{Meter, NativeOut};
-use native_forms::object_store::{Store, Value};
-use native_forms::take;
+use js_image::{Paid, pay_text};
+use js_values::{Meter, NativeOut};
+use native_common::take;
+use object_store::{Store, Value};
 
 /// A text that is made and given, with this extra.
 pub fn give_page_text(

@@ -3,19 +3,18 @@ ghost use Rattle.std.specs.Prelude.{◌≡◌, ◌<◌, ◌≤◌, ◌+◌, ℕ,
 ghost use Rattle.plain_tree.specs.Plains.{unplaced};
 ghost use Rattle.plain_tree.specs.Trees.{size};
 ghost use Rattle.js_tree.specs.Forest.{Forest};
-ghost use Rattle.store_cells.specs.Cells.{Cells};
-ghost use Rattle.native_forms.specs.object_store.Owned.{owned};
+ghost use Rattle.object_store.specs.Owned.{owned};
 ghost use Rattle.tree_ops.specs.Trees.{copied, numbered, subtree};
 ghost use Rattle.event_loop.specs.declared.around.Loop.{Loop};
-ghost use Rattle.native_forms.specs.js_image.Held.{Kept};
-ghost use Rattle.event_image.specs.page_image.Image.{forest, number, own, owns};
-ghost use Rattle.event_image.specs.page_image.Stays.{HostStays, KeepsNodes, OthersStay};
+ghost use Rattle.js_image.specs.Held.{Kept};
+ghost use Rattle.page_image.specs.Image.{forest, number, own, owns};
+ghost use Rattle.page_image.specs.Stays.{HostStays, KeepsNodes, OthersStay};
 ghost use Rattle.native_image.specs.Grown.{IsGrown};
 ghost use Rattle.native_image.specs.Sound.{HasRaw, HoldsOwn, IsSound, KeepsAll};
 
 use code_units::{Memory, Owner};
-use event_image::page_image::made;
-use native_forms::object_store::{NODE_LIMIT, Store};
+use object_store::{NODE_LIMIT, Store};
+use page_image::made;
 use page_tree::{NodeId, Page};
 use plain_tree::Plain;
 use std::alloc::Global;

@@ -5,15 +5,15 @@ ghost use Rattle.widget_meaning.specs.OwnState.{State};
 ghost use Rattle.widget_meaning.specs.Plan.{Halt, Plan};
 ghost use Rattle.widget_meaning.specs.Costs as costs;
 ghost use Rattle.event_loop.specs.declared.around.Loop.{Loop};
-ghost use Rattle.native_forms.specs.js_image.Plans.{meant_cause};
-ghost use Rattle.native_forms.specs.Numbers.{counted};
+ghost use Rattle.js_image.specs.Plans.{meant_cause};
+ghost use Rattle.native_common.specs.Numbers.{counted};
 ghost use Rattle.native_image.specs.Image.{Outside, beside, image};
 ghost use Rattle.native_image.specs.Weights.{amounts};
 
 use code_units::{Memory, Owner};
-use event_image::page_image::made;
-use native_forms::js_image::StopCause;
-use native_forms::object_store::{CELL_LIMIT, SLOT_LIMIT, Store, UNIT_LIMIT};
+use js_image::StopCause;
+use object_store::{CELL_LIMIT, SLOT_LIMIT, Store, UNIT_LIMIT};
+use page_image::made;
 use page_tree::Page;
 
 /// A cost of several kinds; units and nodes are counted.

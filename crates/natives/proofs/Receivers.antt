@@ -15,7 +15,7 @@ use Rattle.js_image.specs.Held.{IsFine, IsHeld, is_held}
 use Rattle.js_image.specs.Image.{seen}
 use Rattle.js_values.specs.Fuel.{Fuel}
 use Rattle.js_values.specs.declared.outcome.NativeOut.{NativeOut}
-use Rattle.native_forms.specs.Receivers.{IsReceiver, receiver}
+use Rattle.native_common.specs.Receivers.{IsReceiver, receiver}
 use Rattle.natives.specs.Meets.{MeetsWhole}
 use Rattle.natives.specs.Reach.{Reach}
 

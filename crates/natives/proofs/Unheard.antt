@@ -24,7 +24,7 @@ use Rattle.js_values.specs.Fuel.{Fuel}
 use Rattle.js_values.specs.declared.outcome.NativeOut.{NativeOut}
 use Rattle.js_values.specs.declared.outcome.NativeOut.TheVariants as native
 use Rattle.js_values.specs.declared.outcome.Plan.TheVariants as calls
-use Rattle.native_forms.specs.Meets.{Meets}
+use Rattle.native_common.specs.Meets.{Meets}
 use Rattle.adsafe_object.specs.Ends.{MeetsNoted}
 use Rattle.adsafe_object.specs.Notes.{Notes, noted}
 use Rattle.native_image.specs.Image.{Parts}

@@ -11,7 +11,7 @@ use Rattle.event_loop.specs.declared.around.Loop.{Loop}
 use Rattle.js_image.specs.Held.{Kept}
 use Rattle.js_values.specs.Fuel.{Fuel}
 use Rattle.js_values.specs.declared.outcome.NativeOut.{NativeOut}
-use Rattle.native_forms.specs.Meets.{Meets}
+use Rattle.native_common.specs.Meets.{Meets}
 use Rattle.native_image.specs.Image.{Parts, beside}
 use Rattle.native_image.specs.Meets.{MeetsAt}
 use Rattle.native_image.specs.Sound.{IsSound, KeepsAll}

@@ -5,7 +5,7 @@ use Rattle.permitted_table.specs.declared.native.NativeId.TheVariants as native
 use Rattle.text_methods.specs.Kinds as texts
 use Rattle.list_methods.specs.Parts as lists
 use Rattle.adsafe_object.specs.Part as adsafe
-use Rattle.bunch_write.specs.bunch_read.Kinds as reads
+use Rattle.bunch_read.specs.Kinds as reads
 use Rattle.bunch_write.specs.Kinds as writes
 use Rattle.natives.specs.declared.families.Family.{Family}
 use Rattle.natives.specs.declared.families.Family.TheVariants as family

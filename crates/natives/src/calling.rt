@@ -7,7 +7,7 @@ ghost use Rattle.widget_meaning.specs.Natives.{run_native};
 ghost use Rattle.js_flow.specs.Fine.{FineNative};
 ghost use Rattle.js_image.specs.Held.{AreFine, IsConfined};
 ghost use Rattle.js_image.specs.Image.{all_seen, seen};
-ghost use Rattle.native_forms.specs.Receivers.{IsReceiver, receiver};
+ghost use Rattle.native_common.specs.Receivers.{IsReceiver, receiver};
 ghost use Rattle.native_image.specs.Sound.{IsSound, KeepsAll};
 ghost use Rattle.page_tree.specs.declared.page.Page.{Page as PageTree};
 ghost use Rattle.adsafe_object.specs.Part as adsafe;
@@ -16,7 +16,6 @@ ghost use Rattle.natives.specs.Reach.{reach};
 
 use crate::families::{Family, room_of};
 use crate::timers::start;
-use bunch_write::bunch_read;
 use code_units::{Memory, Owner, Text};
 use event_loop::Loop;
 use js_flow::NativeCall;

@@ -4,7 +4,6 @@ use Rattle.std.specs.Str.{bytes_eq}
 use Rattle.std.specs.BTreeMap.{BTreeMap, get}
 use Rattle.std.specs.Ordering.{nat_cmp, is_eq}
 use Rattle.std.specs.Cmp.Lexicographic.{slice_cmp}
-use Rattle.std.specs.declared.alloc.Global.{Global}
 use Rattle.js_tree.specs.Forest.{Forest}
 use Rattle.js_tree.specs.Parts.{Spot, spot_at}
 use Rattle.first_breach.specs.Lists.{In}

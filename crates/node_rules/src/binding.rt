@@ -1,9 +1,8 @@
 //! The names that a node binds.
 ghost use Rattle.std.specs.Prelude.{◌≡◌, ℕ, ◌++◌, ◌↔◌, ◌⊎◌, List, option_to_list, All, IfOk, OnOk};
 ghost use Rattle.first_breach.specs.Lists.{In};
-ghost use Rattle.js_tree.specs.Plain.{StmtAt};
-ghost use Rattle.js_tree.specs.Forest.{Forest, IsStmt, IsFun, fun_at, plain_stmt_form};
-ghost use Rattle.js_tree.specs.Parts.{AStmt, AFun};
+ghost use Rattle.js_tree.specs.Forest.{IsStmt, IsFun, fun_at};
+ghost use Rattle.js_tree.specs.Parts.{AFun};
 ghost use Rattle.js_tree.specs.Trees.{trees};
 ghost use Rattle.node_rules.specs.Binding.{Binds, own_name};
 ghost use Rattle.node_rules.specs.Hoisting.{AnyDeclares, block_ids, catch_ids, last_ids, clause_bodies, decl_texts, init_texts, own_texts, fun_texts, caught_texts, bound_texts};

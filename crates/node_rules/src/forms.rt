@@ -1,7 +1,7 @@
 //! What the rules ask of the form of one node.
-ghost use Rattle.std.specs.Prelude.{◌≡◌, ◌&&◌, not};
+ghost use Rattle.std.specs.Prelude.{◌≡◌, not};
 ghost use Rattle.js_tree.specs.Forest.{Forest, plain_form, plain_stmt_form};
-ghost use Rattle.node_rules.specs.Forms.{is_this, is_adsafe, is_with, is_loose_equality, is_bitwise, is_typed, is_dropping, is_wrong_number, is_numeric, is_sign, is_delete};
+ghost use Rattle.node_rules.specs.Forms.{is_this, is_adsafe, is_with, is_loose_equality, is_bitwise, is_typed, is_dropping, is_wrong_number};
 ghost use Rattle.node_rules.specs.Binding.{stmt_jumps, is_stray};
 
 use crate::enclosing::Jumps;

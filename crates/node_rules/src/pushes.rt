@@ -1,5 +1,5 @@
 //! The parts of nodes, as they are put on the stack of the walk.
-ghost use Rattle.std.specs.Prelude.{◌≡◌, ◌++◌, List, [], ◌∷◌, map, All, OnOk};
+ghost use Rattle.std.specs.Prelude.{◌≡◌, ◌++◌, List, map, All, OnOk};
 ghost use Rattle.js_tree.specs.Forest.{IsExpr, IsStmt, expr_at, stmt_at, AreExprParts, AreFunParts};
 ghost use Rattle.js_tree.specs.Parts.{init_parts};
 ghost use Rattle.js_tree.specs.Trees.{trees};

@@ -1,7 +1,6 @@
 //! Texts that the rules name.
 ghost use Rattle.std.specs.Prelude.{◌≡◌, ◌||◌};
 ghost use Rattle.std.specs.List.{list_all};
-ghost use Rattle.std.specs.Str.{bytes_eq};
 ghost use Rattle.node_rules.specs.Words.{is_global, is_callable, is_reaching, is_letter, is_digit, is_library_name};
 
 pub use code_units::is_word;

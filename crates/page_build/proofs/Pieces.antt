@@ -9,7 +9,7 @@ use Rattle.plain_tree.specs.Trees.{End, Node, PlainTrees, unmarked}
 use Rattle.page_nodes.specs.Entries.{at, body}
 use Rattle.page_tree.specs.declared.page.Page.{Page}
 use Rattle.page_tree.specs.Pages.{nodes}
-use Rattle.page_spec.specs.Pages.{PagePiece, Place, Trees}
+use Rattle.page_plan.specs.Pages.{PagePiece, Place, Trees}
 use Rattle.page_build.specs.Layout.{AreLots, IsLaid, IsLot, IsMarkup, Lot, Spot, each_tree, lots_of, piece_lots}
 use Rattle.page_build.specs.Standing.{AreLotsOf, AreSpots, Child, Fixed, HasSlots, HavePlaces, HostPasses, InSlot, IsLaidBy, filled, has_place, has_slot, piece_spots}
 use Rattle.page_build.proofs.Lots.{lots_apart, lots_both}

@@ -8,8 +8,8 @@ use Rattle.page_tree.specs.declared.page.Page.{Page}
 use Rattle.page_tree.specs.Pages.{nodes}
 use Rattle.page_image.specs.Image.{HasRoot, forest, own, root_of}
 use Rattle.native_image.specs.Sound.{HasRaw}
-use Rattle.page_spec.specs.declared.SlotContent.{SlotContent}
-use Rattle.page_spec.specs.declared.SlotContent.TheVariants as slot
+use Rattle.page_plan.specs.declared.SlotContent.{SlotContent}
+use Rattle.page_plan.specs.declared.SlotContent.TheVariants as slot
 
 -- A widget has nothing of the page.
 pub record IsAway (p : Page) (w : ℕ) : Type 0 where

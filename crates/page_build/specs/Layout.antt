@@ -7,10 +7,10 @@ use Rattle.page_nodes.specs.Entries.{at, body, tree}
 use Rattle.page_tree.specs.declared.page.Page.{Page}
 use Rattle.page_tree.specs.Pages.{nodes}
 use Rattle.page_image.specs.Image.{root_of}
-use Rattle.page_spec.specs.Pages as pages
-use Rattle.page_spec.specs.Pages.{PagePiece, Place, Trees}
-use Rattle.page_spec.specs.declared.SlotContent.{SlotContent}
-use Rattle.page_spec.specs.declared.SlotContent.TheVariants as slot
+use Rattle.page_plan.specs.Pages as pages
+use Rattle.page_plan.specs.Pages.{PagePiece, Place, Trees}
+use Rattle.page_plan.specs.declared.SlotContent.{SlotContent}
+use Rattle.page_plan.specs.declared.SlotContent.TheVariants as slot
 
 -- what stands at a place under `body`: a tree of the host's own, the root of a widget, or just this node
 pub data Lot : Type 0 where

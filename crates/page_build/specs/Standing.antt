@@ -10,7 +10,7 @@ use Rattle.page_tree.specs.declared.page.Page.{Page}
 use Rattle.page_tree.specs.Pages.{nodes, root}
 use Rattle.page_image.specs.Image.{forest, number, own, owns, root_of}
 use Rattle.page_image.specs.Stays.{HostStays, KeepsNodes, OthersStay}
-use Rattle.page_spec.specs.Pages.{PagePiece, Place, Trees}
+use Rattle.page_plan.specs.Pages.{PagePiece, Place, Trees}
 use Rattle.page_build.specs.Layout.{IsLaidOut, IsLot, Lot, Spot, each_tree, lot_of}
 
 -- ## One node

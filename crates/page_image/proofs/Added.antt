@@ -8,14 +8,14 @@ use Rattle.plain_tree.specs.Trees.{Trees, PlainTrees, End, Node, beside, marked,
 use Rattle.tree_ops.specs.Trees.{has, is_number, numbered}
 use Rattle.tree_ops.proofs.Numbers.{numbered_order}
 use Rattle.tree_ops.proofs.Tests.{cases, or_left, or_right}
-use Rattle.page_tree.specs.page_nodes.Adds.{IsAdded}
+use Rattle.page_nodes.specs.Adds.{IsAdded}
 use Rattle.page_tree.specs.Counts.{count_of}
-use Rattle.page_tree.specs.page_nodes.Entries.{Entry, at, listed, tree, IsSound}
-use Rattle.page_tree.specs.page_nodes.Owners.{is_owner, same_owner, root_in}
+use Rattle.page_nodes.specs.Entries.{Entry, at, listed, tree, IsSound}
+use Rattle.page_nodes.specs.Owners.{is_owner, same_owner, root_in}
 use Rattle.page_tree.specs.Roots.{IsRooted}
-use Rattle.page_tree.proofs.PageNodes.Shows.{shows_tree}
-use Rattle.page_tree.proofs.PageNodes.Upward.{has_parent}
-use Rattle.page_tree.proofs.PageNodes.Owners.{is_same}
+use Rattle.page_nodes.proofs.Shows.{shows_tree}
+use Rattle.page_nodes.proofs.Upward.{has_parent}
+use Rattle.page_nodes.proofs.Owners.{is_same}
 use Rattle.query_grammar.specs.Finds.{has_number}
 use Rattle.page_tree.specs.Documents as page
 use Rattle.page_tree.specs.Documents.{is_loose}

@@ -8,11 +8,11 @@ use Rattle.plain_tree.specs.Trees.{beside}
 use Rattle.tree_ops.specs.Trees.{is_number, subtree, without, tops}
 use Rattle.tree_ops.proofs.Absent.{grafted_off}
 use Rattle.tree_ops.proofs.Tests.{or_left, or_right}
-use Rattle.page_tree.specs.page_nodes.Entries.{Entry, at, body, listed, tree}
-use Rattle.page_tree.specs.page_nodes.Moves.{IsLinked}
-use Rattle.page_tree.specs.page_nodes.Owners.{same_owner, root_in}
-use Rattle.page_tree.proofs.PageNodes.Owners.{same_is}
-use Rattle.page_tree.proofs.PageNodes.Walk.{without_body}
+use Rattle.page_nodes.specs.Entries.{Entry, at, body, listed, tree}
+use Rattle.page_nodes.specs.Moves.{IsLinked}
+use Rattle.page_nodes.specs.Owners.{same_owner, root_in}
+use Rattle.page_nodes.proofs.Owners.{same_is}
+use Rattle.page_nodes.proofs.Walk.{without_body}
 use Rattle.page_tree.specs.declared.page.Page.{Page}
 use Rattle.page_tree.specs.Documents as page
 use Rattle.page_tree.specs.Documents.{is_loose}

@@ -7,9 +7,9 @@ use Rattle.std.proofs.lemmas.Bool.{or_cases}
 use Rattle.plain_tree.specs.Trees.{Label}
 use Rattle.tree_ops.specs.Labels.{is_text}
 use Rattle.tree_ops.specs.Trees.{relabelled}
-use Rattle.page_tree.specs.page_nodes.Entries.{at}
-use Rattle.page_tree.specs.page_nodes.Moves as page
-use Rattle.page_tree.specs.page_nodes.Moves.{Detached, Puts, IsRelabelled, AreNodes}
+use Rattle.page_nodes.specs.Entries.{at}
+use Rattle.page_nodes.specs.Moves as page
+use Rattle.page_nodes.specs.Moves.{Detached, Puts, IsRelabelled, AreNodes}
 use Rattle.page_tree.specs.declared.fault.PageFault.{PageFault}
 use Rattle.page_tree.specs.declared.fault.PageFault.TheVariants as fault
 use Rattle.page_tree.specs.declared.page.Page.{Page}

@@ -10,7 +10,7 @@ use Rattle.plain_tree.proofs.Lists.{beside_assoc, beside_end}
 use Rattle.tree_ops.specs.Labels.{copied_label}
 use Rattle.tree_ops.specs.Trees.{has, tops, tree_of, subtree, grafted, numbered, copied}
 use Rattle.code_units.specs.declared.owner.Owner.TheVariants as owner
-use Rattle.page_tree.specs.page_nodes.Owners.{is_owner}
+use Rattle.page_nodes.specs.Owners.{is_owner}
 use Rattle.page_tree.specs.declared.page.Page.{Page}
 use Rattle.page_tree.specs.Pages.{nodes, root}
 use Rattle.page_image.specs.Own.{is_own, own_number, page_forest}

@@ -7,14 +7,14 @@ use Rattle.tree_ops.specs.Labels.{copied_label}
 use Rattle.tree_ops.specs.Trees.{has, tree_of, subtree, without, grafted, numbered, copied}
 use Rattle.tree_ops.proofs.Absent.{without_off}
 use Rattle.tree_ops.proofs.Tests.{or_none}
-use Rattle.page_tree.specs.page_nodes.Adds.{IsAdded}
+use Rattle.page_nodes.specs.Adds.{IsAdded}
 use Rattle.page_tree.specs.Counts.{count_of}
-use Rattle.page_tree.specs.page_nodes.Entries.{Entry, at, tree, IsSound}
-use Rattle.page_tree.specs.page_nodes.Moves.{IsPut}
-use Rattle.page_tree.specs.page_nodes.Owners.{is_owner, same_owner, root_in}
+use Rattle.page_nodes.specs.Entries.{Entry, at, tree, IsSound}
+use Rattle.page_nodes.specs.Moves.{IsPut}
+use Rattle.page_nodes.specs.Owners.{is_owner, same_owner, root_in}
 use Rattle.page_tree.specs.Roots.{IsRooted}
 use Rattle.page_tree.proofs.RootsKept.{rooted_added}
-use Rattle.page_tree.proofs.PageNodes.Owners.{is_same}
+use Rattle.page_nodes.proofs.Owners.{is_same}
 use Rattle.widget_meaning.specs.Trees.{moved}
 use Rattle.page_image.specs.Own.{is_own, own_number, page_forest, own_forest}
 use Rattle.page_image.proofs.Marked.{AllIn, subtree_marked}

@@ -3,10 +3,10 @@ use Rattle.std.proofs.Common.{◌≡◌, ◌≢◌, ℕ, List, [], ◌∷◌, Bo
 use Rattle.std.specs.Prelude.{is_some, slice_index}
 use Rattle.std.specs.List.{fold}
 use Rattle.code_units.specs.declared.owner.Owner.TheVariants as owner
-use Rattle.page_tree.specs.page_nodes.Entries.{Entry, at, body, tree}
-use Rattle.page_tree.specs.page_nodes.Moves.{KeepsNodes, Detaches, none_detached, detach_last, OthersOfAllStay}
-use Rattle.page_tree.specs.page_nodes.Owners.{is_owner, same_owner, root_in}
-use Rattle.page_tree.proofs.PageNodes.Put.{kept_then}
+use Rattle.page_nodes.specs.Entries.{Entry, at, body, tree}
+use Rattle.page_nodes.specs.Moves.{KeepsNodes, Detaches, none_detached, detach_last, OthersOfAllStay}
+use Rattle.page_nodes.specs.Owners.{is_owner, same_owner, root_in}
+use Rattle.page_nodes.proofs.Put.{kept_then}
 use Rattle.page_tree.specs.declared.page.Page.{Page}
 use Rattle.page_tree.specs.Pages.{nodes, SameRoots, AreNoRoots}
 use Rattle.page_tree.specs.Roots.{IsRooted}

@@ -8,12 +8,12 @@ use Rattle.code_units.specs.declared.owner.Owner.TheVariants as owner
 use Rattle.plain_tree.specs.Trees.{Trees, PlainTrees, End, Node, beside, marked, unmarked, size}
 use Rattle.tree_ops.specs.Trees.{has, is_number, subtree, numbered, copied}
 use Rattle.tree_ops.proofs.Tests.{or_left, or_right}
-use Rattle.page_tree.specs.page_nodes.Adds.{IsAdded}
-use Rattle.page_tree.specs.page_nodes.Entries.{Entry, at, listed, tree, IsSound}
-use Rattle.page_tree.specs.page_nodes.Owners.{is_owner, same_owner, root_in}
-use Rattle.page_tree.proofs.PageNodes.Owners.{same_is, is_same}
-use Rattle.page_tree.proofs.PageNodes.Upward.{has_itself}
-use Rattle.page_tree.proofs.PageNodes.Walk.{limit_is}
+use Rattle.page_nodes.specs.Adds.{IsAdded}
+use Rattle.page_nodes.specs.Entries.{Entry, at, listed, tree, IsSound}
+use Rattle.page_nodes.specs.Owners.{is_owner, same_owner, root_in}
+use Rattle.page_nodes.proofs.Owners.{same_is, is_same}
+use Rattle.page_nodes.proofs.Upward.{has_itself}
+use Rattle.page_nodes.proofs.Walk.{limit_is}
 use Rattle.page_tree.specs.declared.page.Page.{Page}
 use Rattle.page_tree.specs.declared.fault.PageFault.{PageFault}
 use Rattle.page_tree.specs.declared.fault.PageFault.TheVariants as fault

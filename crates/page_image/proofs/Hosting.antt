@@ -7,14 +7,14 @@ use Rattle.code_units.specs.declared.owner.Owner.{Owner}
 use Rattle.code_units.specs.declared.owner.Owner.TheVariants as owner
 use Rattle.plain_tree.specs.Trees.{Label, PlainTrees, Trees, End, Node}
 use Rattle.tree_ops.specs.Trees.{grafted, put_before, tops, without}
-use Rattle.page_tree.specs.page_nodes.Adds.{IsAdded}
-use Rattle.page_tree.specs.page_nodes.Entries.{Entry, at, body, limit, listed, read, tree, IsSound}
-use Rattle.page_tree.specs.page_nodes.Moves as page
-use Rattle.page_tree.specs.page_nodes.Moves.{Detached, Detaches, IsPut, IsRelabelled, KeepsNodes, Puts, detach_last, none_detached, none_put, put_last}
-use Rattle.page_tree.specs.page_nodes.Owners.{same_owner}
-use Rattle.page_tree.specs.page_nodes.Trees.{pruned}
-use Rattle.page_tree.proofs.PageNodes.AtOnce.{entry_same}
-use Rattle.page_tree.proofs.PageNodes.Shows.{Shows, none, one_more, shows_tree}
+use Rattle.page_nodes.specs.Adds.{IsAdded}
+use Rattle.page_nodes.specs.Entries.{Entry, at, body, limit, listed, read, tree, IsSound}
+use Rattle.page_nodes.specs.Moves as page
+use Rattle.page_nodes.specs.Moves.{Detached, Detaches, IsPut, IsRelabelled, KeepsNodes, Puts, detach_last, none_detached, none_put, put_last}
+use Rattle.page_nodes.specs.Owners.{same_owner}
+use Rattle.page_nodes.specs.Trees.{pruned}
+use Rattle.page_nodes.proofs.AtOnce.{entry_same}
+use Rattle.page_nodes.proofs.Shows.{Shows, none, one_more, shows_tree}
 use Rattle.page_tree.specs.declared.page.Page.{Page}
 use Rattle.page_tree.specs.Pages.{nodes, root, MayPutAll, ReplaceSteps, Replaces}
 use Rattle.query_grammar.specs.Finds.{has_number}

@@ -1,8 +1,8 @@
 -- What is kept by the numbers of a widget's nodes.
 use Rattle.std.proofs.Common.{◌≡◌, ◌≢◌, ℕ, zero, suc, ◌+◌, ◌≤◌, List, [], ◌∷◌, Bool, true, false, refl, sym, ap, ◌∙◌, map, length, cond, arith, set, get_or}
 use Rattle.code_units.specs.declared.owner.Owner.TheVariants as owner
-use Rattle.page_tree.specs.page_nodes.Entries.{Entry}
-use Rattle.page_tree.specs.page_nodes.Owners.{same_owner}
+use Rattle.page_nodes.specs.Entries.{Entry}
+use Rattle.page_nodes.specs.Owners.{same_owner}
 use Rattle.page_tree.specs.Counts.{count_of}
 use Rattle.page_image.specs.Own.{is_own, own_number, own_nodes_from}
 

@@ -5,14 +5,14 @@ use Rattle.code_units.specs.declared.owner.Owner.TheVariants as owner
 use Rattle.plain_tree.specs.Trees.{Trees, End, Node}
 use Rattle.tree_ops.specs.Trees.{has, numbers}
 use Rattle.tree_ops.proofs.Tests.{cases, or_none, or_left, or_right}
-use Rattle.page_tree.specs.page_nodes.Entries.{Entry, at, body, listed, distinct, tree, IsSound}
-use Rattle.page_tree.specs.page_nodes.Moves.{IsDepth}
-use Rattle.page_tree.specs.page_nodes.Owners.{is_owner, same_owner, root_in}
-use Rattle.page_tree.specs.page_nodes.Trees.{level, deeper}
-use Rattle.page_tree.proofs.PageNodes.Insert.{deeper_pos}
-use Rattle.page_tree.proofs.PageNodes.Put.{other_not_in}
-use Rattle.page_tree.proofs.PageNodes.Shows.{Shows, none, one_more, shows_one, shows_tree}
-use Rattle.page_tree.proofs.PageNodes.Upward.{level_has, level_none}
+use Rattle.page_nodes.specs.Entries.{Entry, at, body, listed, distinct, tree, IsSound}
+use Rattle.page_nodes.specs.Moves.{IsDepth}
+use Rattle.page_nodes.specs.Owners.{is_owner, same_owner, root_in}
+use Rattle.page_nodes.specs.Trees.{level, deeper}
+use Rattle.page_nodes.proofs.Insert.{deeper_pos}
+use Rattle.page_nodes.proofs.Put.{other_not_in}
+use Rattle.page_nodes.proofs.Shows.{Shows, none, one_more, shows_one, shows_tree}
+use Rattle.page_nodes.proofs.Upward.{level_has, level_none}
 use Rattle.page_tree.specs.Documents.{document}
 use Rattle.page_tree.specs.Roots.{IsRooted}
 use Rattle.page_tree.proofs.InDocument.{document_distinct}

@@ -3,7 +3,7 @@ use Rattle.std.proofs.Common.{◌≡◌, ℕ, List, [], ◌∷◌, ◌++◌, tru
 use Rattle.std.proofs.lemmas.Bool.{cases_Bool}
 use Rattle.plain_tree.specs.Trees.{Trees, End, Node}
 use Rattle.tree_ops.specs.Trees.{numbers, has}
-use Rattle.page_tree.specs.page_nodes.Entries.{listed}
+use Rattle.page_nodes.specs.Entries.{listed}
 use Rattle.query_grammar.specs.Finds.{has_number}
 use Rattle.query_grammar.proofs.Numbers.{has_both}
 

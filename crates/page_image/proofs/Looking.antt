@@ -8,12 +8,12 @@ use Rattle.code_units.specs.declared.owner.Owner.TheVariants as owner
 use Rattle.plain_tree.specs.Trees.{Trees, End, Node, beside, joined, marked, height}
 use Rattle.tree_ops.specs.Trees.{has, is_number, subtree, tops}
 use Rattle.tree_ops.proofs.Tests.{cases, or_left, or_right}
-use Rattle.page_tree.specs.page_nodes.Entries.{Entry, at, body, listed, tree, IsSound}
-use Rattle.page_tree.specs.page_nodes.Moves.{IsDepth}
-use Rattle.page_tree.specs.page_nodes.Owners.{is_owner, same_owner, root_in}
-use Rattle.page_tree.proofs.PageNodes.Owners.{same_is}
-use Rattle.page_tree.proofs.PageNodes.Put.{owner_below}
-use Rattle.page_tree.proofs.PageNodes.Shows.{Shows, none, one_more, shows_one, shows_tree}
+use Rattle.page_nodes.specs.Entries.{Entry, at, body, listed, tree, IsSound}
+use Rattle.page_nodes.specs.Moves.{IsDepth}
+use Rattle.page_nodes.specs.Owners.{is_owner, same_owner, root_in}
+use Rattle.page_nodes.proofs.Owners.{same_is}
+use Rattle.page_nodes.proofs.Put.{owner_below}
+use Rattle.page_nodes.proofs.Shows.{Shows, none, one_more, shows_one, shows_tree}
 use Rattle.page_tree.specs.Documents as page
 use Rattle.page_tree.specs.Documents.{is_loose, parent_within}
 use Rattle.page_tree.specs.Roots.{IsRooted}

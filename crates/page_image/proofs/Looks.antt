@@ -4,10 +4,10 @@ use Rattle.std.specs.Prelude.{nat_eq}
 use Rattle.code_units.specs.declared.owner.Owner.TheVariants as owner
 use Rattle.plain_tree.specs.Trees.{height}
 use Rattle.tree_ops.specs.Trees.{has, is_number, subtree, tops}
-use Rattle.page_tree.specs.page_nodes.Entries.{at, body, tree}
-use Rattle.page_tree.specs.page_nodes.Moves.{IsDepth}
-use Rattle.page_tree.specs.page_nodes.Owners.{is_owner}
-use Rattle.page_tree.proofs.PageNodes.Owners.{same_is}
+use Rattle.page_nodes.specs.Entries.{at, body, tree}
+use Rattle.page_nodes.specs.Moves.{IsDepth}
+use Rattle.page_nodes.specs.Owners.{is_owner}
+use Rattle.page_nodes.proofs.Owners.{same_is}
 use Rattle.page_tree.specs.declared.page.Page.{Page}
 use Rattle.page_tree.specs.Counts.{count_of}
 use Rattle.page_tree.specs.Pages.{nodes, root}

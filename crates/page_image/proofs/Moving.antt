@@ -4,14 +4,14 @@ use Rattle.std.specs.Prelude.{slice_index}
 use Rattle.std.specs.List.{fold}
 use Rattle.code_units.specs.declared.owner.Owner.TheVariants as owner
 use Rattle.tree_ops.specs.Labels.{is_leaf}
-use Rattle.page_tree.specs.page_nodes.Entries.{Entry, at, IsSound}
-use Rattle.page_tree.specs.page_nodes.Moves.{KeepsNodes, IsPut, MayMove, Detached, Puts, none_put, put_last}
-use Rattle.page_tree.specs.page_nodes.Owners.{is_owner, same_owner, root_in}
+use Rattle.page_nodes.specs.Entries.{Entry, at, IsSound}
+use Rattle.page_nodes.specs.Moves.{KeepsNodes, IsPut, MayMove, Detached, Puts, none_put, put_last}
+use Rattle.page_nodes.specs.Owners.{is_owner, same_owner, root_in}
 use Rattle.page_tree.specs.Pages.{IsInside, IsLow}
 use Rattle.page_tree.specs.Roots.{IsRooted}
 use Rattle.page_tree.proofs.RootsKept.{rooted_put}
-use Rattle.page_tree.proofs.PageNodes.Put.{kept_then}
-use Rattle.page_tree.proofs.PageNodes.Owners.{same_is}
+use Rattle.page_nodes.proofs.Put.{kept_then}
+use Rattle.page_nodes.proofs.Owners.{same_is}
 use Rattle.query_grammar.specs.Finds.{has_number}
 use Rattle.query_grammar.specs.Renumbering.{renumbered}
 use Rattle.query_grammar.proofs.Numbers.{has_both, has_first}

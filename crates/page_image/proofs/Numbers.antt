@@ -4,8 +4,8 @@ use Rattle.std.specs.Prelude.{nat_lt}
 use Rattle.std.proofs.lemmas.Bool.{cases_lt}
 use Rattle.std.proofs.lemmas.Bool.Decides.{nat_tests}
 use Rattle.code_units.specs.declared.owner.Owner.TheVariants as owner
-use Rattle.page_tree.specs.page_nodes.Entries.{Entry, at}
-use Rattle.page_tree.specs.page_nodes.Owners.{same_owner}
+use Rattle.page_nodes.specs.Entries.{Entry, at}
+use Rattle.page_nodes.specs.Owners.{same_owner}
 use Rattle.page_image.specs.Own.{is_own, own_number}
 
 one_if : (b : Bool) → b ≡ true → cond {A = ℕ} b 1 0 ≡ 1

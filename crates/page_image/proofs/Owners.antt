@@ -2,8 +2,8 @@
 use Rattle.std.proofs.Common.{◌≡◌, ℕ, suc, ◌+◌, List, [], ◌∷◌, ◌++◌, refl, ap, ◌∙◌, map, length, cond, arith}
 use Rattle.std.specs.List.{fold}
 use Rattle.code_units.specs.declared.owner.Owner.TheVariants as owner
-use Rattle.page_tree.specs.page_nodes.Entries.{Entry, at}
-use Rattle.page_tree.specs.page_nodes.Owners.{same_owner}
+use Rattle.page_nodes.specs.Entries.{Entry, at}
+use Rattle.page_nodes.specs.Owners.{same_owner}
 use Rattle.page_tree.specs.Counts.{count_of}
 use Rattle.page_image.specs.Own.{own_number, own_nodes_from}
 use Rattle.page_image.proofs.Numbers.{number_kept}

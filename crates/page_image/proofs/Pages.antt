@@ -9,11 +9,11 @@ use Rattle.code_units.specs.declared.owner.Owner.TheVariants as owner
 use Rattle.plain_tree.specs.Trees.{Label}
 use Rattle.tree_ops.specs.Labels.{is_leaf}
 use Rattle.tree_ops.specs.Trees.{relabelled}
-use Rattle.page_tree.specs.page_nodes.Entries.{Entry, at, body, tree, IsSound}
-use Rattle.page_tree.specs.page_nodes.Moves as page
-use Rattle.page_tree.specs.page_nodes.Moves.{Detached, Puts, none_put, put_last, IsRelabelled}
-use Rattle.page_tree.specs.page_nodes.Owners.{is_owner, same_owner}
-use Rattle.page_tree.proofs.PageNodes.Owners.{same_is, is_same}
+use Rattle.page_nodes.specs.Entries.{Entry, at, body, tree, IsSound}
+use Rattle.page_nodes.specs.Moves as page
+use Rattle.page_nodes.specs.Moves.{Detached, Puts, none_put, put_last, IsRelabelled}
+use Rattle.page_nodes.specs.Owners.{is_owner, same_owner}
+use Rattle.page_nodes.proofs.Owners.{same_is, is_same}
 use Rattle.page_tree.specs.declared.page.Page.{Page}
 use Rattle.page_tree.specs.Pages.{nodes, root, SameRoots}
 use Rattle.query_grammar.specs.Finds.{has_number}

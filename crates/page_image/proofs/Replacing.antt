@@ -8,8 +8,8 @@ use Rattle.code_units.specs.declared.owner.Owner.TheVariants as owner
 use Rattle.tree_ops.specs.Labels.{is_leaf}
 use Rattle.tree_ops.specs.Trees.{is_number}
 use Rattle.tree_ops.proofs.Tests.{or_left, or_right}
-use Rattle.page_tree.specs.page_nodes.Entries.{at, listed}
-use Rattle.page_tree.specs.page_nodes.Moves as page
+use Rattle.page_nodes.specs.Entries.{at, listed}
+use Rattle.page_nodes.specs.Moves as page
 use Rattle.page_tree.specs.declared.fault.PageFault.{PageFault}
 use Rattle.page_tree.specs.declared.fault.PageFault.TheVariants as fault
 use Rattle.page_tree.specs.declared.page.Page.{Page}

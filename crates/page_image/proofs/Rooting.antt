@@ -7,11 +7,11 @@ use Rattle.code_units.specs.declared.owner.Owner.TheVariants as owner
 use Rattle.plain_tree.specs.Trees.{beside, joined, marked}
 use Rattle.tree_ops.specs.Trees.{has, subtree, without}
 use Rattle.tree_ops.proofs.Tests.{cases, or_left, or_right}
-use Rattle.page_tree.specs.page_nodes.Entries.{Entry, at, listed, minus, tree, IsSound}
-use Rattle.page_tree.specs.page_nodes.Owners.{is_owner, same_owner, root_in}
-use Rattle.page_tree.specs.page_nodes.Trees.{pruned}
-use Rattle.page_tree.proofs.PageNodes.Put.{pruned_off}
-use Rattle.page_tree.proofs.PageNodes.Walk.{top_not_in}
+use Rattle.page_nodes.specs.Entries.{Entry, at, listed, minus, tree, IsSound}
+use Rattle.page_nodes.specs.Owners.{is_owner, same_owner, root_in}
+use Rattle.page_nodes.specs.Trees.{pruned}
+use Rattle.page_nodes.proofs.Put.{pruned_off}
+use Rattle.page_nodes.proofs.Walk.{top_not_in}
 use Rattle.page_tree.specs.Documents.{is_loose}
 use Rattle.page_tree.specs.Roots.{IsRooted}
 use Rattle.page_image.specs.Own.{is_own, own_number, trees_of, page_forest, own_forest}

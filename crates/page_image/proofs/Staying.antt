@@ -6,8 +6,8 @@ use Rattle.code_units.specs.declared.owner.Owner.TheVariants as owner
 use Rattle.plain_tree.specs.Trees.{beside, marked}
 use Rattle.tree_ops.specs.Trees.{is_number}
 use Rattle.tree_ops.proofs.Tests.{cases, or_left, or_right}
-use Rattle.page_tree.specs.page_nodes.Entries.{Entry, at, listed, tree, IsSound}
-use Rattle.page_tree.specs.page_nodes.Owners.{is_owner, same_owner, root_in}
+use Rattle.page_nodes.specs.Entries.{Entry, at, listed, tree, IsSound}
+use Rattle.page_nodes.specs.Owners.{is_owner, same_owner, root_in}
 use Rattle.page_tree.specs.Documents as page
 use Rattle.page_tree.specs.Documents.{is_loose}
 use Rattle.page_tree.specs.Roots.{IsRooted}

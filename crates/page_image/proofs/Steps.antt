@@ -9,13 +9,13 @@ use Rattle.plain_tree.specs.Trees.{Label, Trees, End, Node, beside, joined, mark
 use Rattle.tree_ops.specs.Trees.{has, without, relabelled, grafted, put_before}
 use Rattle.tree_ops.proofs.Tests.{cases, or_left, or_right}
 use Rattle.tree_ops.proofs.Absent.{without_off}
-use Rattle.page_tree.specs.page_nodes.Trees.{pruned}
-use Rattle.page_tree.specs.page_nodes.Entries.{Entry, at, minus, limit, read, tree, IsSound}
-use Rattle.page_tree.specs.page_nodes.Moves.{Detached, IsPut, IsRelabelled}
-use Rattle.page_tree.specs.page_nodes.Owners.{is_owner, same_owner, root_in}
+use Rattle.page_nodes.specs.Trees.{pruned}
+use Rattle.page_nodes.specs.Entries.{Entry, at, minus, limit, read, tree, IsSound}
+use Rattle.page_nodes.specs.Moves.{Detached, IsPut, IsRelabelled}
+use Rattle.page_nodes.specs.Owners.{is_owner, same_owner, root_in}
 use Rattle.page_tree.specs.Roots.{IsRooted}
-use Rattle.page_tree.proofs.PageNodes.Shows.{Shows, none, one_more, shows_one, shows_tree}
-use Rattle.page_tree.proofs.PageNodes.Upward.{has_parent, has_itself}
+use Rattle.page_nodes.proofs.Shows.{Shows, none, one_more, shows_one, shows_tree}
+use Rattle.page_nodes.proofs.Upward.{has_parent, has_itself}
 use Rattle.page_tree.proofs.Agree.{apart}
 use Rattle.query_grammar.specs.Renumbering.{renumbered}
 use Rattle.page_tree.specs.Documents as page

@@ -10,9 +10,9 @@ use Rattle.plain_tree.specs.Names as names
 use Rattle.plain_tree.specs.Trees.{Label, TextOf, ElementOf, height}
 use Rattle.tree_ops.specs.Labels.{is_leaf, is_text, tag_of}
 use Rattle.tree_ops.specs.Trees.{has, subtree}
-use Rattle.page_tree.specs.page_nodes.Entries.{at}
-use Rattle.page_tree.specs.page_nodes.Moves.{IsDepth}
-use Rattle.page_tree.proofs.PageNodes.Walk.{limit_is}
+use Rattle.page_nodes.specs.Entries.{at}
+use Rattle.page_nodes.specs.Moves.{IsDepth}
+use Rattle.page_nodes.proofs.Walk.{limit_is}
 use Rattle.page_tree.specs.declared.fault.PageFault.{PageFault}
 use Rattle.page_tree.specs.declared.fault.PageFault.TheVariants as fault
 use Rattle.page_tree.specs.declared.page.Page.{Page}

@@ -4,7 +4,7 @@ use Rattle.std.specs.Option.{option_map_or}
 use Rattle.code_units.specs.declared.owner.Owner.TheVariants as owner
 use Rattle.plain_tree.specs.Trees.{Label, Trees}
 use Rattle.tree_ops.specs.Trees.{is_number, relabelled}
-use Rattle.page_tree.specs.page_nodes.Entries.{at, body}
+use Rattle.page_nodes.specs.Entries.{at, body}
 use Rattle.page_tree.specs.declared.page.Page.{Page}
 use Rattle.page_tree.specs.Pages.{nodes, root}
 use Rattle.widget_meaning.specs.Trees.{label_of}

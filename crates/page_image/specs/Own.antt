@@ -2,8 +2,8 @@
 use Rattle.std.specs.Prelude.{ℕ, zero, suc, ◌+◌, List, [], ◌∷◌, map, Option, Bool, if◌then◌else◌}
 use Rattle.code_units.specs.declared.owner.Owner.TheVariants as owner
 use Rattle.plain_tree.specs.Trees.{Trees, joined, marked}
-use Rattle.page_tree.specs.page_nodes.Entries.{Entry, at, tree}
-use Rattle.page_tree.specs.page_nodes.Owners.{same_owner}
+use Rattle.page_nodes.specs.Entries.{Entry, at, tree}
+use Rattle.page_nodes.specs.Owners.{same_owner}
 use Rattle.page_tree.specs.Documents.{tops}
 
 -- whether a node is a widget's

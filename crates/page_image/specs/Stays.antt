@@ -1,7 +1,7 @@
 -- What stays where a page changes.
 use Rattle.std.specs.Prelude.{◌≡◌, ◌≢◌, ℕ, ◌<◌, ◌≤◌, List, ◌++◌, length, Some, true, false}
 use Rattle.code_units.specs.declared.owner.Owner.TheVariants as owner
-use Rattle.page_tree.specs.page_nodes.Entries.{at, body, tree}
+use Rattle.page_nodes.specs.Entries.{at, body, tree}
 use Rattle.page_tree.specs.declared.page.Page.{Page}
 use Rattle.page_tree.specs.Pages.{nodes}
 use Rattle.query_grammar.specs.Finds.{has_number}

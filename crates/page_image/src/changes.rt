@@ -1,5 +1,5 @@
 //! Changes of the page of one widget. They leave the trees of all others, and what the host has.
-ghost use Rattle.std.specs.Prelude.{◌≡◌, ◌≢◌, ℕ, ◌<◌, List, Some, None, true, false, map, length, OnOk, OnErr, IfOk, IfErr, ◌⊎◌};
+ghost use Rattle.std.specs.Prelude.{◌≡◌, ◌≢◌, ℕ, ◌<◌, Some, None, true, false, map, OnOk, OnErr, IfErr, ◌⊎◌};
 ghost use Rattle.std.specs.List.{fold};
 ghost use Rattle.page_tree.specs.declared.fault.PageFault.TheVariants as fault;
 ghost use Rattle.plain_tree.specs.Trees.{TextOf};

@@ -1,6 +1,6 @@
 //! New nodes of one widget. All older nodes keep their numbers, and the trees of all others and what
 //! the host has stay.
-ghost use Rattle.std.specs.Prelude.{◌≡◌, ℕ, ◌+◌, ◌<◌, ◌≤◌, List, [], ◌∷◌, ◌++◌, None, true, map, length, OnOk, OnErr, IfOk, IfErr};
+ghost use Rattle.std.specs.Prelude.{◌≡◌, ℕ, ◌+◌, ◌<◌, [], ◌∷◌, ◌++◌, None, true, map, length, OnOk, OnErr, IfOk, IfErr};
 ghost use Rattle.page_tree.specs.declared.fault.PageFault.{PageFault};
 ghost use Rattle.plain_tree.specs.Plains.{unplaced};
 ghost use Rattle.plain_tree.specs.Trees.{beside, size};

@@ -1,6 +1,6 @@
 //! What is read of the page of one widget.
-ghost use Rattle.std.specs.Prelude.{◌≡◌, ℕ, ◌<◌, ◌≤◌, List, Some, None, true, false, map, length, nat_eq, option_copied, option_and_then};
-ghost use Rattle.page_tree.specs.page_nodes.Entries.{label_of};
+ghost use Rattle.std.specs.Prelude.{◌≡◌, ℕ, ◌<◌, ◌≤◌, Some, None, true, map, length, nat_eq, option_copied, option_and_then};
+ghost use Rattle.page_nodes.specs.Entries.{label_of};
 ghost use Rattle.query_grammar.specs.Finds.{has_number};
 ghost use Rattle.query_grammar.specs.Renumbering.{renumbered};
 ghost use Rattle.tree_ops.specs.Labels.{tag_of, text_of, attribute_of};

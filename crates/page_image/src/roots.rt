@@ -1,5 +1,5 @@
 //! A tree of a widget becomes its root's. The trees of all others stay.
-ghost use Rattle.std.specs.Prelude.{◌≡◌, ◌≢◌, ℕ, ◌<◌, Some, None, true, OnOk, OnErr};
+ghost use Rattle.std.specs.Prelude.{◌≡◌, ◌<◌, None, true, OnOk, OnErr};
 ghost use Rattle.plain_tree.specs.Trees.{beside};
 ghost use Rattle.query_grammar.specs.Finds.{has_number};
 ghost use Rattle.tree_ops.specs.Trees.{subtree, without};
@@ -8,7 +8,7 @@ ghost use Rattle.page_image.specs.Image.{owns, number, forest, root_of, is_shown
 ghost use Rattle.page_image.specs.Stays.{KeepsNodes, GetsRoot, OthersStay};
 
 use code_units::Memory;
-use page_tree::page_nodes::BODY;
+use page_nodes::BODY;
 use page_tree::{NodeId, Page, is_number};
 
 /// Whether a widget's node stands under the host's `body`, as a root does that was not swapped out.

@@ -13,8 +13,8 @@ use Rattle.page_tree.specs.declared.page.Page.{Page}
 use Rattle.page_tree.specs.Pages.{nodes}
 use Rattle.page_image.specs.Image.{forest, root_of}
 use Rattle.page_image.specs.Own.{own_forest, own_number}
-use Rattle.page_spec.specs.Pages as pages
-use Rattle.page_spec.specs.Pages.{PagePiece, page_of, roots, shown}
+use Rattle.page_plan.specs.Pages as pages
+use Rattle.page_plan.specs.Pages.{PagePiece, page_of, roots, shown}
 use Rattle.page_build.specs.Layout.{AreLots, IsLaid, IsLot, Lot, Own, Root, Spot, each_tree, lot_of, lots_of, piece_lots}
 use Rattle.page_lines.specs.Ends.{AreEnds, IsEnd}
 

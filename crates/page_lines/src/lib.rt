@@ -3,7 +3,7 @@
 
 ghost use Rattle.std.specs.Prelude.{◌<◌, ℕ, List, Option, OnErr, OnOk, length};
 ghost use Rattle.widget_meaning.specs.OwnState.{OwnState};
-ghost use Rattle.page_spec.specs.Pages.{PagePiece, page_of, root_of, roots};
+ghost use Rattle.page_plan.specs.Pages.{PagePiece, page_of, root_of, roots};
 ghost use Rattle.page_output.specs.Printing.{Prints, PrintsPart};
 ghost use Rattle.page_tree.specs.Pages.{nodes};
 ghost use Rattle.page_build.specs.Layout.{IsLaid, IsLot, lot_of};

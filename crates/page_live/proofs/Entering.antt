@@ -9,7 +9,7 @@ use Rattle.trace_text.specs.Report.{line_text}
 use Rattle.plain_tree.specs.Trees.{PlainTrees, End}
 use Rattle.page_output.specs.Printing.{Prints}
 use Rattle.widget_meaning.specs.OwnState.{OwnState}
-use Rattle.page_spec.specs.Pages.{root_of, roots}
+use Rattle.page_plan.specs.Pages.{root_of, roots}
 use Rattle.page_play.specs.declared.findings.Findings.{Findings}
 use Rattle.page_play.specs.Findings.{Told, line_of}
 use Rattle.live_text.specs.declared.entry.Entry.{Entry}

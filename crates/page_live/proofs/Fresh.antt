@@ -12,11 +12,11 @@ use Rattle.slot_check.specs.declared.fault.Refusal.{Refusal}
 use Rattle.slot_check.specs.declared.sources.SourceFile.{SourceFile}
 use Rattle.slot_check.specs.Sources.{Source}
 use Rattle.slot_check.specs.Verdicts.{source_of, sources_of, IsSmall}
-use Rattle.page_judge.specs.declared.page.JudgedPage.{JudgedPage}
-use Rattle.page_judge.specs.Fits.{IsFit}
-use Rattle.page_judge.specs.Runs.{SlotRun, runs_over, slots_named}
-use Rattle.page_judge.specs.Judged.{AreJudgedSlots, AreJudgedSwaps, IsJudgedPage, JudgesOver, no_swap, runs_in}
-use Rattle.page_play.specs.slot_lives.Ends.{run_name}
+use Rattle.page_check.specs.declared.page.JudgedPage.{JudgedPage}
+use Rattle.page_check.specs.Fits.{IsFit}
+use Rattle.page_check.specs.Runs.{SlotRun, runs_over, slots_named}
+use Rattle.page_check.specs.Judged.{AreJudgedSlots, AreJudgedSwaps, IsJudgedPage, JudgesOver, no_swap, runs_in}
+use Rattle.slot_lives.specs.Ends.{run_name}
 use Rattle.page_live.specs.declared.page.LivePage.{LivePage}
 use Rattle.page_live.specs.Living.{IsLive}
 use Rattle.page_live.specs.Page.{Lives, names_in, parts_in, runs_of}

@@ -3,6 +3,6 @@ mod Unlinked
 mod Stirred
 mod Rested
 mod Fresh
-mod Taken
-mod Showing
+pub mod Taken
+pub mod Showing
 mod Entering

@@ -10,9 +10,9 @@ use Rattle.slot_laws.specs.Slots.{Each, has}
 use Rattle.slot_laws.specs.Chains.{last_life, listed}
 use Rattle.slot_laws.specs.Settled.{slot_flags}
 use Rattle.round_laws.specs.Fed.{Fed, RoundsTo, ended, again, fed_on, fresh, round_from, state}
-use Rattle.page_spec.specs.declared.PageSpec.{PageSpec}
-use Rattle.page_spec.specs.declared.SlotContent.{SlotContent}
-use Rattle.page_spec.specs.Pages.{piece_of}
+use Rattle.page_plan.specs.declared.PageSpec.{PageSpec}
+use Rattle.page_plan.specs.declared.SlotContent.{SlotContent}
+use Rattle.page_plan.specs.Pages.{piece_of}
 use Rattle.widget_host.specs.declared.host.Host.{Host}
 use Rattle.widget_host.specs.Given.{AreRetired}
 use Rattle.widget_host.specs.Housed.{AreShown, IsHoused, KeepsHost, accepts, chains, channels, ends, given, marked, names, seens}

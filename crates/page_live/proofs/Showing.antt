@@ -9,10 +9,10 @@ use Rattle.slot_check.specs.Sources.{Source}
 use Rattle.page_output.specs.Printing.{Prints}
 use Rattle.widget_meaning.specs.OwnState.{OwnState}
 use Rattle.round_laws.specs.Fed.{Fed}
-use Rattle.page_spec.specs.Pages.{page_of, piece_of, roots}
-use Rattle.page_judge.specs.Runs.{SlotRun, pieces}
-use Rattle.page_play.specs.slot_lives.Ends.{end_of, run_name}
-use Rattle.page_play.specs.slot_lives.Outcome.{IsReport, Outcome}
+use Rattle.page_plan.specs.Pages.{page_of, piece_of, roots}
+use Rattle.page_check.specs.Runs.{SlotRun, pieces}
+use Rattle.slot_lives.specs.Ends.{end_of, run_name}
+use Rattle.slot_lives.specs.Outcome.{IsReport, Outcome}
 use Rattle.widget_host.specs.Housed.{IsLaid}
 use Rattle.page_play.specs.Findings.{ended_told, found_refused, lasts_told, lines_of}
 use Rattle.page_play.specs.Played.{begun_in, ended_in, IsPlayed}

@@ -15,20 +15,20 @@ use Rattle.widget_meaning.specs.OwnState.{OwnState}
 use Rattle.widget_meaning.specs.Items.{Item}
 use Rattle.round_laws.specs.Fed.{Fed, state}
 use Rattle.round_laws.specs.RoundLaws.{fed_at}
-use Rattle.page_spec.specs.declared.PageSpec.{PageSpec}
-use Rattle.page_spec.specs.declared.SlotContent.{SlotContent}
-use Rattle.page_spec.specs.declared.SlotSpec.{SlotSpec}
-use Rattle.page_spec.specs.Contents.{content_of}
-use Rattle.page_spec.specs.Pages.{piece_of}
-use Rattle.page_play.specs.slot_lives.Lives.{swaps_in}
-use Rattle.page_play.specs.slot_lives.LifeLaws.{new_life}
-use Rattle.page_play.specs.slot_lives.Ends.{end_of}
+use Rattle.page_plan.specs.declared.PageSpec.{PageSpec}
+use Rattle.page_plan.specs.declared.SlotContent.{SlotContent}
+use Rattle.page_plan.specs.declared.SlotSpec.{SlotSpec}
+use Rattle.page_plan.specs.Contents.{content_of}
+use Rattle.page_plan.specs.Pages.{piece_of}
+use Rattle.slot_lives.specs.Lives.{swaps_in}
+use Rattle.slot_lives.specs.LifeLaws.{new_life}
+use Rattle.slot_lives.specs.Ends.{end_of}
 use Rattle.widget_host.specs.declared.host.Host.{Host}
 use Rattle.widget_host.specs.declared.items.HostItem.{HostItem}
-use Rattle.widget_host.specs.page_load.Contents.{HasScriptsIn}
-use Rattle.widget_host.specs.page_load.Loads.{singles}
-use Rattle.widget_host.specs.page_load.slot_picks.declared.crowd.Place.{Place}
-use Rattle.widget_host.specs.page_load.slot_picks.Places.{accepts_of}
+use Rattle.page_load.specs.Contents.{HasScriptsIn}
+use Rattle.page_load.specs.Loads.{singles}
+use Rattle.slot_picks.specs.declared.crowd.Place.{Place}
+use Rattle.slot_picks.specs.Places.{accepts_of}
 use Rattle.widget_host.specs.Given.{AreEnded, AreRetired, begins, begun, gives_to, with_item, with_items, with_swap}
 use Rattle.widget_host.specs.Housed.{GivesItem, GivesSwap, IsHoused, IsLaid, Loads, accepts, chains, channels, ends, fuels, given, homes, libraries, marked, names, newborn, scripts, seens, told}
 use Rattle.widget_host.specs.Rounds.{AreFed, is_last}

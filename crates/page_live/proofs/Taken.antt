@@ -13,14 +13,14 @@ use Rattle.slot_check.specs.declared.fault.Refusal.{Refusal}
 use Rattle.slot_check.specs.declared.sources.SourceFile.{SourceFile}
 use Rattle.slot_check.specs.Sources.{Source}
 use Rattle.slot_check.specs.Verdicts.{sources_of}
-use Rattle.page_spec.specs.declared.SlotContent.{SlotContent}
+use Rattle.page_plan.specs.declared.SlotContent.{SlotContent}
 use Rattle.adsafe_rules.specs.Accepts.{tree_of}
-use Rattle.page_spec.specs.Contents.{content_of}
-use Rattle.page_spec.specs.Loadable.{IsSwapLoadable}
-use Rattle.page_judge.specs.declared.libraries.Later.{Later}
-use Rattle.page_judge.specs.Runs.{SlotRun, swap_run, swap_runs, with_file}
-use Rattle.page_judge.specs.Judged.{AreJudgedSwaps, IsJudged, JudgesOn, no_swap, one_swap}
-use Rattle.page_play.specs.slot_lives.Ends.{run_name}
+use Rattle.page_plan.specs.Contents.{content_of}
+use Rattle.page_plan.specs.Loadable.{IsSwapLoadable}
+use Rattle.page_check.specs.declared.libraries.Later.{Later}
+use Rattle.page_check.specs.Runs.{SlotRun, swap_run, swap_runs, with_file}
+use Rattle.page_check.specs.Judged.{AreJudgedSwaps, IsJudged, JudgesOn, no_swap, one_swap}
+use Rattle.slot_lives.specs.Ends.{run_name}
 use Rattle.widget_host.specs.declared.host.Host.{Host}
 use Rattle.widget_host.specs.declared.items.HostItem.{HostItem}
 use Rattle.widget_host.specs.declared.items.HostItem.TheVariants as host

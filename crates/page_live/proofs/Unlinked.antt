@@ -4,12 +4,12 @@ use Rattle.std.specs.Prelude.{slice_get}
 use Rattle.trace_reader.specs.Said.{Said}
 use Rattle.round_laws.specs.Fed.{Fed}
 use Rattle.slot_laws.specs.Chains.{last_at, last_life}
-use Rattle.page_spec.specs.declared.PageSpec.{PageSpec}
-use Rattle.page_spec.specs.declared.SlotContent.{SlotContent}
-use Rattle.page_play.specs.slot_lives.Ends.{end_of}
-use Rattle.page_play.specs.widget_host.declared.host.Host.{Host}
-use Rattle.page_play.specs.widget_host.Given.{AreRetired}
-use Rattle.page_play.specs.widget_host.Housed.{chains, ends}
+use Rattle.page_plan.specs.declared.PageSpec.{PageSpec}
+use Rattle.page_plan.specs.declared.SlotContent.{SlotContent}
+use Rattle.slot_lives.specs.Ends.{end_of}
+use Rattle.widget_host.specs.declared.host.Host.{Host}
+use Rattle.widget_host.specs.Given.{AreRetired}
+use Rattle.widget_host.specs.Housed.{chains, ends}
 use Rattle.page_play.specs.Played.{HasScriptsOf, HaveScriptsOf, IsPlayed}
 use Rattle.page_live.specs.Living.{IsLive, Rounds}
 use Rattle.page_live.proofs.Handed.{same_lives, still_rounds}

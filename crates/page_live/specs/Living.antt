@@ -7,19 +7,19 @@ use Rattle.slot_laws.specs.Slots.{Each, has}
 use Rattle.slot_laws.specs.Chains.{last_life, listed}
 use Rattle.slot_laws.specs.Settled.{slot_flags}
 use Rattle.pick_laws.specs.Journal.{ready_from}
-use Rattle.page_spec.specs.declared.PageSpec.{PageSpec}
-use Rattle.page_spec.specs.declared.SlotContent.{SlotContent}
-use Rattle.page_spec.specs.Contents.{content_of}
-use Rattle.page_spec.specs.Pages.{piece_of}
+use Rattle.page_plan.specs.declared.PageSpec.{PageSpec}
+use Rattle.page_plan.specs.declared.SlotContent.{SlotContent}
+use Rattle.page_plan.specs.Contents.{content_of}
+use Rattle.page_plan.specs.Pages.{piece_of}
 use Rattle.adsafe_rules.specs.Accepts.{tree_of}
-use Rattle.page_play.specs.slot_lives.Lives.{swaps_in}
-use Rattle.page_play.specs.slot_lives.Ends.{end_of}
-use Rattle.page_play.specs.widget_host.declared.host.Host.{Host}
-use Rattle.page_play.specs.widget_host.declared.items.HostItem.{HostItem}
-use Rattle.page_play.specs.widget_host.page_load.Loads.{singles}
-use Rattle.page_play.specs.widget_host.Given.{AreRetired, begins, begun, with_item, with_swap}
-use Rattle.page_play.specs.widget_host.Housed.{IsHoused, IsLaid, AreShown, accepts, chains, channels, ends, fuels, given, libraries, marked, names, newborn, seens}
-use Rattle.page_play.specs.widget_host.Rounds.{AreFed}
+use Rattle.slot_lives.specs.Lives.{swaps_in}
+use Rattle.slot_lives.specs.Ends.{end_of}
+use Rattle.widget_host.specs.declared.host.Host.{Host}
+use Rattle.widget_host.specs.declared.items.HostItem.{HostItem}
+use Rattle.page_load.specs.Loads.{singles}
+use Rattle.widget_host.specs.Given.{AreRetired, begins, begun, with_item, with_swap}
+use Rattle.widget_host.specs.Housed.{IsHoused, IsLaid, AreShown, accepts, chains, channels, ends, fuels, given, libraries, marked, names, newborn, seens}
+use Rattle.widget_host.specs.Rounds.{AreFed}
 use Rattle.page_play.specs.Played.{name_of, HaveScriptsOf}
 use Rattle.page_play.specs.Playing.{fuel_of}
 use Rattle.page_play.specs.Settled.{said_of}

@@ -10,13 +10,13 @@ use Rattle.slot_check.specs.Verdicts.{sources_of, IsSmall}
 use Rattle.page_output.specs.Printing.{Prints}
 use Rattle.widget_meaning.specs.OwnState.{OwnState}
 use Rattle.round_laws.specs.Fed.{Fed}
-use Rattle.page_spec.specs.declared.PageSpec.{PageSpec}
-use Rattle.page_spec.specs.declared.SlotContent.{SlotContent}
-use Rattle.page_spec.specs.Pages.{PagePiece, page_of, piece_of, root_of, roots}
-use Rattle.page_judge.specs.Runs.{SlotRun, pieces, runs_over, slots_named}
-use Rattle.page_judge.specs.Judged.{JudgesOver}
-use Rattle.page_play.specs.slot_lives.Ends.{end_of}
-use Rattle.page_play.specs.widget_host.Housed.{IsLaid}
+use Rattle.page_plan.specs.declared.PageSpec.{PageSpec}
+use Rattle.page_plan.specs.declared.SlotContent.{SlotContent}
+use Rattle.page_plan.specs.Pages.{PagePiece, page_of, piece_of, root_of, roots}
+use Rattle.page_check.specs.Runs.{SlotRun, pieces, runs_over, slots_named}
+use Rattle.page_check.specs.Judged.{JudgesOver}
+use Rattle.slot_lives.specs.Ends.{end_of}
+use Rattle.widget_host.specs.Housed.{IsLaid}
 use Rattle.page_play.specs.declared.findings.Findings.{Findings}
 use Rattle.page_play.specs.Findings.{Told, AreFindings, ended_told, found_after, lasts_told, line_of, lines_of}
 use Rattle.page_play.specs.Told.{AreTold}

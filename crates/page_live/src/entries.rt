@@ -1,7 +1,7 @@
 //! What is written for the slots of a page that lives.
 ghost use Rattle.std.specs.Prelude.{◌≡◌, ◌≢◌, ◌<◌, ◌++◌, ◌∷◌, [], List, Option, Some, length, map, slice_get, IfOk, OnOk, true, false};
 ghost use Rattle.widget_meaning.specs.OwnState.{OwnState};
-ghost use Rattle.page_spec.specs.Pages.{PagePiece};
+ghost use Rattle.page_plan.specs.Pages.{PagePiece};
 ghost use Rattle.live_text.specs.Answer.{shown};
 ghost use Rattle.page_live.specs.Page.{AreEntries, AreRenewed, IsEntryLine, IsEntryRoot, IsRenewed, IsShowing, Shows, is_at, picked, told_at};
 

@@ -24,11 +24,11 @@ use Rattle.native_image.proofs.Added.{raw_stays}
 use Rattle.life_laws.specs.Life.{Seen, potentials}
 use Rattle.slot_laws.specs.Settled.{flag}
 use Rattle.slot_laws.proofs.Passing.{get_other}
-use Rattle.slot_picks.specs.turn_calls.declared.turn.Shared.{Shared}
-use Rattle.slot_picks.specs.turn_calls.declared.turn.Turn.{Turn}
-use Rattle.slot_picks.specs.life_queue.Fine.{FineLife, FineTurn, KeepsCells, most_fuel, tally}
-use Rattle.slot_picks.specs.life_queue.Lives.{life_seen}
-use Rattle.slot_picks.proofs.LifeQueue.Apart.{LeavesPage, fine_left, holds_left, seen_left, turn_left}
+use Rattle.turn_returns.specs.declared.turn.Shared.{Shared}
+use Rattle.turn_returns.specs.declared.turn.Turn.{Turn}
+use Rattle.life_queue.specs.Fine.{FineLife, FineTurn, KeepsCells, most_fuel, tally}
+use Rattle.life_queue.specs.Lives.{life_seen}
+use Rattle.life_queue.proofs.Apart.{LeavesPage, fine_left, holds_left, seen_left, turn_left}
 use Rattle.slot_picks.specs.declared.crowd.Crowd.{Crowd}
 use Rattle.slot_picks.specs.declared.crowd.Place.{Place}
 use Rattle.slot_picks.specs.declared.slots.Slot.{Slot}
@@ -39,7 +39,7 @@ use Rattle.page_build.specs.Layout.{IsLot, lot_of}
 use Rattle.page_build.specs.Standing.{HostJoins, IsSamePage, IsSpare, Joins}
 use Rattle.page_build.proofs.Coming.{same_keeps, same_trees}
 use Rattle.page_build.proofs.Stands.{host_joins_roots, joins_roots, lot_older, spare_older, spots_older, standing_older}
-use Rattle.page_spec.specs.declared.SlotContent.TheVariants as slot
+use Rattle.page_plan.specs.declared.SlotContent.TheVariants as slot
 use Rattle.page_load.specs.declared.codes.Scripts.{Scripts}
 use Rattle.page_load.specs.declared.joining.Coming.{Coming}
 use Rattle.page_load.specs.Contents.{HasScriptsIn, content_in}

@@ -31,13 +31,13 @@ use Rattle.native_image.specs.Sound.{HoldsOwn, IsOwnCell, KeepsPage}
 use Rattle.native_image.proofs.Added.{raw_stays}
 use Rattle.native_image.proofs.Keeping.{page_same}
 use Rattle.life_laws.specs.Life.{potentials, waiting}
-use Rattle.slot_picks.specs.turn_calls.declared.turn.Shared.{Shared}
-use Rattle.slot_picks.specs.turn_calls.declared.turn.Turn.{Turn}
-use Rattle.slot_picks.specs.turn_calls.declared.turn.Widget.{Widget}
-use Rattle.slot_picks.specs.life_queue.declared.life.Life.{Life}
-use Rattle.slot_picks.specs.life_queue.Lives.{going_of, life_seen, meant_stop, own_of, post_of, trees_in, work_of, works_of}
-use Rattle.slot_picks.specs.life_queue.Fine.{FineLife, FineTurn, FineWork, KeepsCells, held_back, most_fuel, tally}
-use Rattle.slot_picks.proofs.LifeQueue.Apart.{fine_apart, seen_apart}
+use Rattle.turn_returns.specs.declared.turn.Shared.{Shared}
+use Rattle.turn_returns.specs.declared.turn.Turn.{Turn}
+use Rattle.turn_returns.specs.declared.turn.Widget.{Widget}
+use Rattle.life_queue.specs.declared.life.Life.{Life}
+use Rattle.life_queue.specs.Lives.{going_of, life_seen, meant_stop, own_of, post_of, trees_in, work_of, works_of}
+use Rattle.life_queue.specs.Fine.{FineLife, FineTurn, FineWork, KeepsCells, held_back, most_fuel, tally}
+use Rattle.life_queue.proofs.Apart.{fine_apart, seen_apart}
 use Rattle.slot_picks.specs.declared.crowd.Place.{Place}
 use Rattle.slot_picks.specs.Places.{lent}
 use Rattle.page_build.specs.Homes.{HaveRaws}

@@ -21,18 +21,18 @@ use Rattle.life_laws.specs.Life as todo
 use Rattle.life_laws.specs.Life.{waiting}
 use Rattle.page_nodes.specs.Entries.{body}
 use Rattle.page_tree.specs.declared.page.Page.{Page}
-use Rattle.slot_picks.specs.turn_calls.declared.turn.Shared.{Shared}
-use Rattle.slot_picks.specs.turn_runs.Held.{IsScriptOf}
-use Rattle.slot_picks.specs.life_queue.declared.life.Life.{Life}
-use Rattle.slot_picks.specs.life_queue.declared.life.Script.{Script}
-use Rattle.slot_picks.specs.life_queue.declared.life.Work.{Work}
-use Rattle.slot_picks.specs.life_queue.declared.life.Work.TheVariants as work
-use Rattle.slot_picks.specs.life_queue.Lives.{function_of, work_of}
+use Rattle.turn_returns.specs.declared.turn.Shared.{Shared}
+use Rattle.turn_dispatch.specs.Held.{IsScriptOf}
+use Rattle.life_queue.specs.declared.life.Life.{Life}
+use Rattle.life_queue.specs.declared.life.Script.{Script}
+use Rattle.life_queue.specs.declared.life.Work.{Work}
+use Rattle.life_queue.specs.declared.life.Work.TheVariants as work
+use Rattle.life_queue.specs.Lives.{function_of, work_of}
 use Rattle.slot_picks.specs.declared.crowd.Place.{Place}
 use Rattle.slot_picks.specs.declared.slots.Slot.{Slot}
 use Rattle.slot_picks.specs.Crowds.{chains_of}
-use Rattle.slot_picks.specs.life_queue.Fine.{FineWork, most_fuel}
-use Rattle.page_spec.specs.declared.SlotSpec.{SlotSpec}
+use Rattle.life_queue.specs.Fine.{FineWork, most_fuel}
+use Rattle.page_plan.specs.declared.SlotSpec.{SlotSpec}
 use Rattle.adsafe_rules.specs.declared.accepted.Accepted.{Accepted}
 use Rattle.adsafe_rules.specs.Accepts.{tree_of}
 use Rattle.page_load.specs.Homes.{fuels_of, names_of}
@@ -43,8 +43,8 @@ use Rattle.page_load.specs.Laying.{IsBare}
 use Rattle.page_load.specs.Lives.{ArePlaces, HasTree, HaveRoots, HaveTrees, IsBegun, IsIn, IsNewLife, IsNobodys, IsPlaceOf, IsPlaceWith, IsReady, IsUnborn, KeepsOthers, content_at}
 use Rattle.page_load.specs.Queues.{IsQueued, go_works, libraries_works, library_works, loads, program_with, programs_of}
 use Rattle.page_load.specs.Starts.{AreScripts, AreScriptsAt, AreStarts, IsStart}
-use Rattle.page_spec.specs.declared.SlotContent.{SlotContent}
-use Rattle.page_spec.specs.declared.SlotContent.TheVariants as slot
+use Rattle.page_plan.specs.declared.SlotContent.{SlotContent}
+use Rattle.page_plan.specs.declared.SlotContent.TheVariants as slot
 use Rattle.page_load.proofs.Lots.{bare_stays}
 
 none_some : {A : Type 0} {a : A} → None ≡ Some a → ⊥

@@ -9,5 +9,3 @@ mod Whole
 mod Arriving
 mod Lots
 mod Growing
--- Handed on to the crates above, which name it so.
-pub use Rattle.slot_picks.proofs as SlotPicks

@@ -19,12 +19,12 @@ use Rattle.page_build.specs.Homes.{HaveRaws, IsAway, IsHome, IsPlaced}
 use Rattle.page_build.specs.Layout.{IsLaidOut, IsLot, Lot, Spot, each_tree, home_of, lot_of}
 use Rattle.page_build.specs.Standing.{IsStanding, has_place, piece_spots}
 use Rattle.page_build.proofs.Laid.{each_beside}
-use Rattle.page_spec.specs.declared.Piece.{Piece}
-use Rattle.page_spec.specs.declared.Piece.TheVariants as spec
-use Rattle.page_spec.specs.declared.SlotContent.{SlotContent}
-use Rattle.page_spec.specs.declared.SlotContent.TheVariants as slot
-use Rattle.page_spec.specs.declared.SlotSpec.{SlotSpec}
-use Rattle.page_spec.specs.Pages.{PagePiece, Place, Trees, piece_of}
+use Rattle.page_plan.specs.declared.Piece.{Piece}
+use Rattle.page_plan.specs.declared.Piece.TheVariants as spec
+use Rattle.page_plan.specs.declared.SlotContent.{SlotContent}
+use Rattle.page_plan.specs.declared.SlotContent.TheVariants as slot
+use Rattle.page_plan.specs.declared.SlotSpec.{SlotSpec}
+use Rattle.page_plan.specs.Pages.{PagePiece, Place, Trees, piece_of}
 use Rattle.page_load.specs.Laying.{AreLaid, HasNoCells, IsBare, IsUnused, LaysOut}
 
 no_true : false ≡ true → ⊥

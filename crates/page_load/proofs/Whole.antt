@@ -24,7 +24,7 @@ use Rattle.page_image.proofs.Pages.{below_32}
 use Rattle.widget_meaning.specs.Alone.{Content, beginning}
 use Rattle.life_laws.specs.Life.{due, image, waiting}
 use Rattle.slot_laws.specs.Chains.{Chains, listed as has_one}
-use Rattle.slot_picks.specs.turn_calls.declared.turn.Shared.{Shared}
+use Rattle.turn_returns.specs.declared.turn.Shared.{Shared}
 use Rattle.slot_picks.specs.declared.crowd.Place.{Place}
 use Rattle.slot_picks.specs.declared.slots.Slot.{Slot}
 use Rattle.slot_picks.specs.Places.{homes_of as homes_list, roots_of}
@@ -32,12 +32,12 @@ use Rattle.slot_picks.specs.Crowds.{AreStanding, chains_of, is_present, present_
 use Rattle.page_build.specs.Homes.{HaveRaws, IsAway, IsHome, IsPlaced}
 use Rattle.page_build.specs.Layout.{IsLot, home_of, lot_of}
 use Rattle.page_build.specs.Standing.{AreSpots, HavePlaces, IsLaidBy, IsStanding}
-use Rattle.page_spec.specs.declared.SlotContent.{SlotContent}
-use Rattle.page_spec.specs.declared.SlotContent.TheVariants as slot
-use Rattle.page_spec.specs.declared.SlotSpec.{SlotSpec}
-use Rattle.page_spec.specs.Contents.{content_of, program_at, program_in}
-use Rattle.page_spec.specs.declared.PageSpec.{PageSpec}
-use Rattle.page_spec.specs.Pages.{PagePiece, piece_of}
+use Rattle.page_plan.specs.declared.SlotContent.{SlotContent}
+use Rattle.page_plan.specs.declared.SlotContent.TheVariants as slot
+use Rattle.page_plan.specs.declared.SlotSpec.{SlotSpec}
+use Rattle.page_plan.specs.Contents.{content_of, program_at, program_in}
+use Rattle.page_plan.specs.declared.PageSpec.{PageSpec}
+use Rattle.page_plan.specs.Pages.{PagePiece, piece_of}
 use Rattle.store_cells.specs.Cells.{Cells}
 use Rattle.page_load.specs.declared.codes.Start.{Start}
 use Rattle.page_load.specs.declared.loading.Loaded.{Loaded}

@@ -8,8 +8,8 @@ use Rattle.js_tree.specs.declared.tree.Tree.{Tree}
 use Rattle.js_tree.specs.Trees.{program_of}
 use Rattle.adsafe_rules.specs.Accepts.{tree_of}
 use Rattle.widget_meaning.specs.Alone.{Content}
-use Rattle.page_spec.specs.declared.SlotContent.{SlotContent}
-use Rattle.page_spec.specs.declared.SlotContent.TheVariants as slot
+use Rattle.page_plan.specs.declared.SlotContent.{SlotContent}
+use Rattle.page_plan.specs.declared.SlotContent.TheVariants as slot
 
 -- the program of the library at a place
 abbrev pub program_there : List Tree → ℕ → Stmts

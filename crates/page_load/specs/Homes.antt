@@ -1,6 +1,6 @@
 -- The slots of a page.
 use Rattle.std.specs.Prelude.{ℕ, List, map}
-use Rattle.page_spec.specs.declared.SlotSpec.{SlotSpec}
+use Rattle.page_plan.specs.declared.SlotSpec.{SlotSpec}
 
 -- the names of slots
 abbrev pub names_of : List SlotSpec → List (List ℕ)

@@ -9,8 +9,8 @@ use Rattle.page_tree.specs.declared.page.Page.{Page}
 use Rattle.page_build.specs.Homes.{HaveRaws, IsAway, IsPlaced}
 use Rattle.page_build.specs.Layout.{IsLot, home_of, lot_of}
 use Rattle.page_build.specs.Standing.{HavePlaces, IsLaidBy, IsStanding}
-use Rattle.page_spec.specs.declared.SlotSpec.{SlotSpec}
-use Rattle.page_spec.specs.Pages.{PagePiece}
+use Rattle.page_plan.specs.declared.SlotSpec.{SlotSpec}
+use Rattle.page_plan.specs.Pages.{PagePiece}
 
 -- a widget that has nothing in the store, and has paid nothing
 abbrev pub nothing_owned : Owned

@@ -16,11 +16,11 @@ use Rattle.event_loop.specs.Around.{clock, focus, kept, timers}
 use Rattle.event_loop.specs.Kept.{nothing}
 use Rattle.widget_meaning.specs.Alone.{Content, beginning, call_parts, lib}
 use Rattle.life_laws.specs.Life.{waiting}
-use Rattle.slot_picks.specs.turn_calls.declared.turn.Shared.{Shared}
-use Rattle.slot_picks.specs.turn_calls.declared.turn.Widget.{Widget}
-use Rattle.slot_picks.specs.life_queue.declared.life.Life.{Life}
-use Rattle.slot_picks.specs.life_queue.Lives.{life_seen}
-use Rattle.slot_picks.specs.life_queue.Fine.{FineLife, tally}
+use Rattle.turn_returns.specs.declared.turn.Shared.{Shared}
+use Rattle.turn_returns.specs.declared.turn.Widget.{Widget}
+use Rattle.life_queue.specs.declared.life.Life.{Life}
+use Rattle.life_queue.specs.Lives.{life_seen}
+use Rattle.life_queue.specs.Fine.{FineLife, tally}
 use Rattle.slot_picks.specs.declared.crowd.Place.{Place}
 use Rattle.slot_picks.specs.Places.{lent}
 use Rattle.page_build.specs.Homes.{HaveRaws}

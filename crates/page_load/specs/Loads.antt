@@ -11,18 +11,18 @@ use Rattle.page_tree.specs.declared.page.Page.{Page}
 use Rattle.page_image.specs.Image.{own}
 use Rattle.widget_meaning.specs.Alone.{Content, beginning, loaded}
 use Rattle.life_laws.specs.Life.{due, image}
-use Rattle.slot_picks.specs.turn_calls.declared.turn.Shared.{Shared}
-use Rattle.slot_picks.specs.life_queue.Lives.{life_seen}
-use Rattle.slot_picks.specs.life_queue.Fine.{FineLife, most_fuel, tally}
+use Rattle.turn_returns.specs.declared.turn.Shared.{Shared}
+use Rattle.life_queue.specs.Lives.{life_seen}
+use Rattle.life_queue.specs.Fine.{FineLife, most_fuel, tally}
 use Rattle.slot_picks.specs.declared.crowd.Place.{Place}
 use Rattle.slot_picks.specs.declared.slots.Slot.{Slot}
 use Rattle.slot_picks.specs.Places.{lent}
 use Rattle.slot_picks.specs.Crowds.{AreStanding, chains_of, spots_of}
-use Rattle.page_spec.specs.declared.PageSpec.{PageSpec}
-use Rattle.page_spec.specs.declared.SlotContent.{SlotContent}
-use Rattle.page_spec.specs.declared.SlotSpec.{SlotSpec}
-use Rattle.page_spec.specs.Contents.{content_of}
-use Rattle.page_spec.specs.Pages.{piece_of}
+use Rattle.page_plan.specs.declared.PageSpec.{PageSpec}
+use Rattle.page_plan.specs.declared.SlotContent.{SlotContent}
+use Rattle.page_plan.specs.declared.SlotSpec.{SlotSpec}
+use Rattle.page_plan.specs.Contents.{content_of}
+use Rattle.page_plan.specs.Pages.{piece_of}
 use Rattle.page_build.specs.Homes.{HaveRaws, IsAway}
 use Rattle.page_build.specs.Standing.{HavePlaces, IsLaidBy}
 use Rattle.page_load.specs.Contents.{HasScriptsIn}

@@ -5,9 +5,9 @@ use Rattle.adsafe_rules.specs.declared.accepted.Accepted.{Accepted}
 use Rattle.adsafe_rules.specs.Accepts.{tree_of}
 use Rattle.js_names.specs.declared.code.Code.{Code}
 use Rattle.js_names.specs.Code.{tree_in}
-use Rattle.page_spec.specs.declared.SlotContent.{SlotContent}
-use Rattle.page_spec.specs.declared.SlotContent.TheVariants as slot
-use Rattle.page_spec.specs.declared.SlotSpec.{SlotSpec}
+use Rattle.page_plan.specs.declared.SlotContent.{SlotContent}
+use Rattle.page_plan.specs.declared.SlotContent.TheVariants as slot
+use Rattle.page_plan.specs.declared.SlotSpec.{SlotSpec}
 use Rattle.page_load.specs.declared.codes.Scripts.{Scripts}
 use Rattle.page_load.specs.declared.codes.Start.{Start}
 

@@ -8,7 +8,7 @@ ghost use Rattle.page_load.specs.Starts.{AreScripts, AreScriptsAt, AreStarts, Is
 use adsafe_rules::Accepted;
 use code_units::Memory;
 use js_names::Code;
-use page_spec::{SlotContent, SlotSpec};
+use page_plan::{SlotContent, SlotSpec};
 use std::alloc::Global;
 use std::collections::VecDeque;
 

@@ -1,9 +1,9 @@
 //! A life comes to a host that was loaded, and waits for its swap.
-ghost use Rattle.std.specs.Prelude.{◌≡◌, ℕ, ◌<◌, ◌≤◌, OnErr, OnOk, map};
+ghost use Rattle.std.specs.Prelude.{ℕ, ◌<◌, ◌≤◌, OnErr, OnOk, map};
 ghost use Rattle.js_names.specs.Code.{tree_in};
 ghost use Rattle.plain_tree.specs.Plains.{unplaced};
 ghost use Rattle.page_build.specs.Homes.{HaveRaws};
-ghost use Rattle.slot_picks.specs.life_queue.Fine.{most_fuel};
+ghost use Rattle.life_queue.specs.Fine.{most_fuel};
 ghost use Rattle.slot_picks.specs.Crowds.{FineCrowd};
 ghost use Rattle.page_load.specs.declared.codes.Scripts.{Scripts as ScriptsOf};
 ghost use Rattle.page_load.specs.Joining.{Comes, HasSeat, IsFree, KeepsRest};
@@ -16,7 +16,7 @@ use code_units::Memory;
 use js_names::Code;
 use keyed_names::Keys;
 use page_build::{add_spare_div, add_spare_root};
-use page_spec::SlotContent;
+use page_plan::SlotContent;
 use plain_tree::Plain;
 use slot_picks::{Crowd, Place, Slot};
 use std::alloc::Global;

@@ -8,14 +8,14 @@ ghost use Rattle.object_store.specs.Owned.{owned};
 ghost use Rattle.page_build.specs.Homes.{HaveRaws, IsAway, IsHome};
 ghost use Rattle.page_build.specs.Layout.{IsLaidOut, IsLot, Lot, each_tree};
 ghost use Rattle.page_build.specs.Standing.{IsStanding};
-ghost use Rattle.page_spec.specs.Pages.{PagePiece, Place, piece_of};
+ghost use Rattle.page_plan.specs.Pages.{PagePiece, Place, piece_of};
 ghost use Rattle.page_load.specs.Laying.{AreLaid, LaysOut};
 
 use code_units::Memory;
 use keyed_names::Keys;
 use object_store::Store;
 use page_build::{add_markup, add_slot, new_page};
-use page_spec::{Piece, SlotSpec};
+use page_plan::{Piece, SlotSpec};
 use page_tree::{NodeId, Page};
 use plain_tree::Plain;
 use std::alloc::Global;

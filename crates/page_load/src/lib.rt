@@ -12,7 +12,3 @@ mod queues;
 
 pub use joining::{Coming, add_life};
 pub use loading::{Loaded, load_page};
-
-// Handed on to the crates above, which name it so.
-pub use slot_picks;
-pub use slot_picks::{js_steps, life_queue};

@@ -15,14 +15,14 @@ use crate::queues::load_turns;
 use code_units::{Memory, Owner};
 use event_loop::Loop;
 use keyed_names::Keys;
+use life_queue::{Life, Records, Work};
 use object_store::{CellId, HostEntry, NewCell, Store};
 use page_nodes::BODY;
 use page_tree::NodeId;
 use slot_picks::Place;
-use slot_picks::life_queue::{Life, Records, Work};
-use slot_picks::turn_calls::{Shared, Widget};
 use std::alloc::Global;
 use std::collections::VecDeque;
+use turn_returns::{Shared, Widget};
 
 /// The most fuel of a turn.
 pub(crate) const MOST_FUEL: u32 = 1_000_000;

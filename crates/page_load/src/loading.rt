@@ -1,7 +1,7 @@
 //! A page becomes what its host begins with.
 ghost use Rattle.std.specs.Prelude.{◌≡◌, ◌≤◌, ◌∷◌, [], IfOk, length, map};
 ghost use Rattle.slot_picks.specs.declared.slots.Slot.{Slot as SlotOf};
-ghost use Rattle.slot_picks.specs.life_queue.Fine.{most_fuel};
+ghost use Rattle.life_queue.specs.Fine.{most_fuel};
 ghost use Rattle.slot_picks.specs.Crowds.{chains_of};
 ghost use Rattle.page_load.specs.Homes.{fuels_of, names_of};
 ghost use Rattle.page_load.specs.Loads.{HaveFewFuel, LoadsPage, singles};
@@ -12,11 +12,11 @@ use crate::lives::{MOST_FUEL, places_of};
 use code_units::Memory;
 use js_names::Code;
 use keyed_names::Keys;
-use page_spec::{PageSpec, SlotSpec};
-use slot_picks::turn_calls::Shared;
+use page_plan::{PageSpec, SlotSpec};
 use slot_picks::{Crowd, Slot};
 use std::alloc::Global;
 use std::collections::VecDeque;
+use turn_returns::Shared;
 
 /// What a host begins with.
 #[derive(Drop)]

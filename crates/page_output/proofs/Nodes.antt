@@ -4,9 +4,9 @@ use Rattle.std.proofs.lemmas.List.{append-nil, get_or_default}
 use Rattle.std.specs.Prelude.{OnErr, OnOk}
 use Rattle.code_units.specs.declared.memory.Memory.{Memory}
 use Rattle.plain_tree.specs.Names.{is_void}
-use Rattle.plain_tree.specs.Trees.{Label, ElementOf, TextOf, Trees, End, Node, PlainTrees, beside, unmarked}
+use Rattle.plain_tree.specs.Trees.{ElementOf, TextOf, Trees, End, Node, PlainTrees, beside, unmarked}
 use Rattle.plain_tree.specs.Print.{printed, printed_text, opening, closing}
-use Rattle.page_nodes.specs.Entries.{Entry, at, listed, tree, IsSound}
+use Rattle.page_nodes.specs.Entries.{Entry, at, tree, IsSound}
 use Rattle.page_nodes.proofs.Shows.{Shows, none, one_more, shows_beside, shows_one, shows_tree}
 use Rattle.page_output.specs.Printing.{IsStyleForm, Prints, PrintsPart}
 use Rattle.page_output.proofs.Texts.{PrintsItems, printed_beside, items_start, items_step, items_cut, items_done, items_unclosed, on_err, on_trees, on_part}

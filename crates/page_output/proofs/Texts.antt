@@ -1,18 +1,16 @@
 -- Texts, piece by piece.
-use Rattle.std.proofs.Common.{◌≡◌, ℕ, ◌+◌, ◌<◌, ◌≤◌, List, [], ◌∷◌, ◌++◌, map, refl, sym, ap, subst, ◌∙◌, length, get_or, drop, append_assoc, false, cond, Result, Ok, Err}
+use Rattle.std.proofs.Common.{◌≡◌, ℕ, ◌+◌, ◌<◌, ◌≤◌, List, [], ◌∷◌, ◌++◌, refl, sym, ap, subst, ◌∙◌, length, get_or, drop, append_assoc, false, cond, Result, Ok, Err}
 use Rattle.std.proofs.lemmas.List.{at_drop_more, at_drop_all, append-nil}
 use Rattle.std.specs.Prelude.{OnErr, OnOk}
-use Rattle.std.specs.Global.{Vec}
 use Rattle.code_units.specs.declared.memory.Memory.{Memory}
-use Rattle.plain_tree.specs.declared.plain.Attr.{Attr}
 use Rattle.plain_tree.specs.declared.plain.Plain.TheVariants as plain
 use Rattle.page_output.specs.Printing.{IsStyleForm, Prints, AppendsBut, AppendsPart, PrintsPart}
 use Rattle.plain_tree.specs.Names.{is_void}
 use Rattle.plain_tree.specs.declared.plain.Plain.{Plain}
 use Rattle.plain_tree.specs.Trees.{TextOf, ElementOf, End, Node, PlainTrees, beside}
-use Rattle.plain_tree.specs.Plains.{unplaced, unplaced_all, attribute_of}
+use Rattle.plain_tree.specs.Plains.{unplaced, unplaced_all}
 use Rattle.plain_tree.specs.Print.{printed, printed_text, opening, closing}
-use Rattle.page_nodes.proofs.Plains.{unplaced_first, unplaced_element}
+use Rattle.page_nodes.proofs.Plains.{unplaced_first}
 
 pub printed_beside : (style : List ℕ → List ℕ) (a b : PlainTrees) → printed style (beside a b) ≡ printed style a ++ printed style b
 printed_beside style End b = refl

@@ -1,6 +1,5 @@
 //! Texts with references.
 ghost use Rattle.std.specs.Prelude.{◌≡◌, ◌++◌, OnErr, OnOk};
-ghost use Rattle.std.specs.List.{flat_map};
 ghost use Rattle.plain_tree.specs.Print.{escape, escape_in_value, printed_text, printed_value};
 
 use code_units::{Memory, Text, push_ascii, push_utf8};

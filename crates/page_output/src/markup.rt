@@ -1,7 +1,5 @@
 //! Markup as it is printed.
 ghost use Rattle.std.specs.Prelude.{◌≡◌, ◌<◌, ◌++◌, map, length, OnErr, OnOk};
-ghost use Rattle.std.specs.List.{flat_map};
-ghost use Rattle.code_units.specs.Utf8.{utf8_of};
 ghost use Rattle.plain_tree.specs.Trees.{unmarked};
 ghost use Rattle.plain_tree.specs.Plains.{attribute_of, unplaced};
 ghost use Rattle.plain_tree.specs.Print.{written, closing};

@@ -7,10 +7,10 @@ use Rattle.trace_reader.specs.Said.{Said, an_event, an_advance, a_swap}
 use Rattle.widget_meaning.specs.Alone.{Content}
 use Rattle.widget_meaning.specs.Items.{Item}
 use Rattle.round_laws.specs.Fed.{Fed}
-use Rattle.page_spec.specs.declared.PageSpec.{PageSpec}
-use Rattle.page_spec.specs.declared.SlotContent.{SlotContent}
-use Rattle.page_spec.specs.declared.SlotSpec.{SlotSpec}
-use Rattle.page_spec.specs.Contents.{content_of}
+use Rattle.page_plan.specs.declared.PageSpec.{PageSpec}
+use Rattle.page_plan.specs.declared.SlotContent.{SlotContent}
+use Rattle.page_plan.specs.declared.SlotSpec.{SlotSpec}
+use Rattle.page_plan.specs.Contents.{content_of}
 use Rattle.slot_lives.specs.Lives as lives
 use Rattle.slot_lives.specs.Lives.{Life, last_life, swaps_in}
 use Rattle.slot_lives.specs.LifeLaws as laws

@@ -15,9 +15,9 @@ use Rattle.slot_laws.specs.Slots.{has}
 use Rattle.slot_laws.specs.Chains.{last_at, last_life, listed}
 use Rattle.slot_laws.specs.Settled.{PickedOn, SettledSlots, slot_flags}
 use Rattle.round_laws.specs.Fed.{Fed, RoundsTo, state}
-use Rattle.page_spec.specs.declared.PageSpec.{PageSpec}
-use Rattle.page_spec.specs.declared.SlotContent.{SlotContent}
-use Rattle.page_spec.specs.Pages.{piece_of}
+use Rattle.page_plan.specs.declared.PageSpec.{PageSpec}
+use Rattle.page_plan.specs.declared.SlotContent.{SlotContent}
+use Rattle.page_plan.specs.Pages.{piece_of}
 use Rattle.slot_lives.specs.Lives as lives
 use Rattle.slot_lives.specs.Lives.{swaps_in}
 use Rattle.widget_host.specs.declared.host.Host.{Host}

@@ -8,9 +8,9 @@ use Rattle.trace_reader.specs.Items.{longest_advance}
 use Rattle.trace_reader.specs.declared.item.TraceItem.{TraceItem}
 use Rattle.trace_reader.specs.declared.item.TraceItem.TheVariants as item
 use Rattle.trace_reader.specs.Said.{Said, said, an_event, an_advance, a_swap}
-use Rattle.page_spec.specs.declared.PageSpec.{PageSpec}
-use Rattle.page_spec.specs.declared.SlotContent.{SlotContent}
-use Rattle.page_spec.specs.Loadable.{AreLoadableSwaps, none, more, IsSwapLoadable, names_of}
+use Rattle.page_plan.specs.declared.PageSpec.{PageSpec}
+use Rattle.page_plan.specs.declared.SlotContent.{SlotContent}
+use Rattle.page_plan.specs.Loadable.{AreLoadableSwaps, none, more, IsSwapLoadable, names_of}
 use Rattle.slot_lives.specs.Lives.{swaps_in}
 use Rattle.widget_host.specs.declared.host.Host.{Host}
 use Rattle.widget_host.specs.declared.items.HostItem.{HostItem}

@@ -4,9 +4,9 @@ use Rattle.std.proofs.lemmas.List.{length-map}
 use Rattle.trace_reader.specs.Said.{Said}
 use Rattle.slot_check.specs.Sources.{Source}
 use Rattle.round_laws.specs.Fed.{RoundsTo}
-use Rattle.page_spec.specs.declared.PageSpec.{PageSpec}
-use Rattle.page_spec.specs.declared.SlotContent.{SlotContent}
-use Rattle.page_judge.specs.Runs.{SlotRun}
+use Rattle.page_plan.specs.declared.PageSpec.{PageSpec}
+use Rattle.page_plan.specs.declared.SlotContent.{SlotContent}
+use Rattle.page_check.specs.Runs.{SlotRun}
 use Rattle.slot_lives.specs.Ends.{run_name, life_name, end_of}
 use Rattle.slot_lives.specs.Outcome.{last_lives, Outcome}
 use Rattle.widget_host.specs.declared.host.Host.{Host}

@@ -9,11 +9,11 @@ use Rattle.slot_check.specs.declared.fault.Refusal.{Refusal}
 use Rattle.slot_check.specs.Sources.{Source}
 use Rattle.adsafe_rules.specs.declared.accepted.Accepted.{Accepted}
 use Rattle.widget_meaning.specs.Items.{Item}
-use Rattle.page_spec.specs.declared.SlotContent.{SlotContent}
-use Rattle.page_spec.specs.declared.SlotSpec.{SlotSpec}
-use Rattle.page_spec.specs.Contents.{content_of}
-use Rattle.page_judge.specs.Runs.{SlotRun, swap_run, swap_runs}
-use Rattle.page_judge.specs.Judged.{IsJudged, IsJudgedSlot, AreJudgedSwaps, no_swap, one_swap}
+use Rattle.page_plan.specs.declared.SlotContent.{SlotContent}
+use Rattle.page_plan.specs.declared.SlotSpec.{SlotSpec}
+use Rattle.page_plan.specs.Contents.{content_of}
+use Rattle.page_check.specs.Runs.{SlotRun, swap_run, swap_runs}
+use Rattle.page_check.specs.Judged.{IsJudged, IsJudgedSlot, AreJudgedSwaps, no_swap, one_swap}
 use Rattle.slot_lives.specs.Lives as lives
 use Rattle.slot_lives.specs.Lives.{Life, last_life, swaps_in}
 use Rattle.slot_lives.specs.LifeLaws as laws

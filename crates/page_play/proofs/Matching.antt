@@ -11,10 +11,10 @@ use Rattle.post_rounds.specs.declared.posts.Post.{Post}
 use Rattle.post_rounds.specs.News.{news}
 use Rattle.round_laws.specs.Fed.{Fed, RoundsTo, ended, again, fed_on, fresh, round_from}
 use Rattle.adsafe_rules.specs.declared.accepted.Accepted.{Accepted}
-use Rattle.page_spec.specs.declared.SlotContent.{SlotContent}
-use Rattle.page_spec.specs.Contents.{content_of}
-use Rattle.page_judge.specs.Runs.{SlotRun}
-use Rattle.page_judge.specs.Judged.{IsJudged, accepted, refused}
+use Rattle.page_plan.specs.declared.SlotContent.{SlotContent}
+use Rattle.page_plan.specs.Contents.{content_of}
+use Rattle.page_check.specs.Runs.{SlotRun}
+use Rattle.page_check.specs.Judged.{IsJudged, accepted, refused}
 use Rattle.slot_lives.specs.Lives.{Life}
 use Rattle.slot_lives.specs.Ends.{Begins, IsLine, life_name, end_of, some_refused, AllBegin, no_life, one_life, AreLines, no_line, one_line, AreEnded, no_end, one_end}
 use Rattle.slot_lives.specs.Ends as ends

@@ -9,11 +9,11 @@ use Rattle.slot_check.specs.declared.fault.Refusal.{Refusal}
 use Rattle.slot_check.specs.Sources.{Source}
 use Rattle.adsafe_rules.specs.declared.accepted.Accepted.{Accepted}
 use Rattle.round_laws.specs.Fed.{Fed}
-use Rattle.page_spec.specs.declared.PageSpec.{PageSpec}
-use Rattle.page_spec.specs.declared.SlotContent.{SlotContent}
-use Rattle.page_spec.specs.declared.SlotSpec.{SlotSpec}
-use Rattle.page_judge.specs.Runs.{SlotRun}
-use Rattle.page_judge.specs.Judged.{IsJudgedSlot, AreJudgedSlots, none, more}
+use Rattle.page_plan.specs.declared.PageSpec.{PageSpec}
+use Rattle.page_plan.specs.declared.SlotContent.{SlotContent}
+use Rattle.page_plan.specs.declared.SlotSpec.{SlotSpec}
+use Rattle.page_check.specs.Runs.{SlotRun}
+use Rattle.page_check.specs.Judged.{IsJudgedSlot, AreJudgedSlots, none, more}
 use Rattle.slot_lives.specs.Lives as lives
 use Rattle.slot_lives.specs.Lives.{Life, last_life, ended_at, ended_lives, ends_at}
 use Rattle.slot_lives.specs.LifeLaws as laws

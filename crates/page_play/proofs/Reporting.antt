@@ -10,10 +10,10 @@ use Rattle.slot_laws.specs.Chains.{last_life}
 use Rattle.widget_meaning.specs.OwnState.{OwnState}
 use Rattle.reach_cert.specs.Certs.{Slot, cert_text}
 use Rattle.manifest_reader.specs.Page.{Part}
-use Rattle.page_spec.specs.declared.PageSpec.{PageSpec}
-use Rattle.page_spec.specs.declared.SlotContent.{SlotContent}
-use Rattle.page_spec.specs.Pages.{PagePiece, page_of, piece_of, roots}
-use Rattle.page_judge.specs.Runs.{SlotRun, pieces}
+use Rattle.page_plan.specs.declared.PageSpec.{PageSpec}
+use Rattle.page_plan.specs.declared.SlotContent.{SlotContent}
+use Rattle.page_plan.specs.Pages.{PagePiece, page_of, piece_of, roots}
+use Rattle.page_check.specs.Runs.{SlotRun, pieces}
 use Rattle.state_reach.specs.States.{cert_of_states}
 use Rattle.slot_lives.specs.Ends.{run_name, end_of}
 use Rattle.slot_lives.specs.Outcome.{IsReport}

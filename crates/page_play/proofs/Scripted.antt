@@ -8,11 +8,11 @@ use Rattle.adsafe_rules.specs.declared.accepted.Accepted.{Accepted}
 use Rattle.adsafe_rules.specs.Accepts.{tree_of}
 use Rattle.widget_meaning.specs.Alone.{Content}
 use Rattle.round_laws.specs.Fed.{Fed}
-use Rattle.page_spec.specs.declared.SlotContent.{SlotContent}
-use Rattle.page_spec.specs.declared.SlotContent.TheVariants as slot
-use Rattle.page_spec.specs.Contents.{content_of, program_at}
+use Rattle.page_plan.specs.declared.SlotContent.{SlotContent}
+use Rattle.page_plan.specs.declared.SlotContent.TheVariants as slot
+use Rattle.page_plan.specs.Contents.{content_of, program_at}
 use Rattle.slot_lives.specs.Lives.{Life}
-use Rattle.widget_host.specs.page_load.Loads.{HasScripts}
+use Rattle.page_load.specs.Loads.{HasScripts}
 use Rattle.widget_host.specs.declared.host.Host.{Host}
 use Rattle.widget_host.specs.Housed.{scripts}
 use Rattle.page_play.specs.Played.{fed_of, AreScriptsOf, HasScriptsOf, HaveScriptsOf}

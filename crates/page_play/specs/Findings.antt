@@ -6,10 +6,10 @@ use Rattle.trace_reader.specs.Said.{Said}
 use Rattle.slot_check.specs.declared.fault.Refusal.{Refusal}
 use Rattle.slot_check.specs.Sources.{Source}
 use Rattle.widget_meaning.specs.OwnState.{OwnState}
-use Rattle.page_spec.specs.declared.PageSpec.{PageSpec}
-use Rattle.page_spec.specs.declared.SlotContent.{SlotContent}
-use Rattle.page_judge.specs.Runs.{SlotRun, swap_runs}
-use Rattle.page_judge.specs.Judged.{AreJudgedSlots, AreJudgedSwaps}
+use Rattle.page_plan.specs.declared.PageSpec.{PageSpec}
+use Rattle.page_plan.specs.declared.SlotContent.{SlotContent}
+use Rattle.page_check.specs.Runs.{SlotRun, swap_runs}
+use Rattle.page_check.specs.Judged.{AreJudgedSlots, AreJudgedSwaps}
 use Rattle.slot_lives.specs.Lines.{life_line}
 use Rattle.slot_lives.specs.Ends.{run_name}
 use Rattle.page_play.specs.declared.findings.Findings.{Findings}

@@ -11,16 +11,16 @@ use Rattle.slot_laws.specs.Slots.{has}
 use Rattle.pick_laws.specs.Journal.{ready_from}
 use Rattle.slot_laws.specs.Chains.{last_at, last_life, listed}
 use Rattle.slot_laws.specs.Settled.{slot_flags}
-use Rattle.page_spec.specs.declared.PageSpec.{PageSpec}
-use Rattle.page_spec.specs.declared.SlotContent.{SlotContent}
-use Rattle.page_spec.specs.declared.SlotSpec.{SlotSpec}
-use Rattle.page_spec.specs.Contents.{content_of}
-use Rattle.page_spec.specs.Pages.{piece_of}
+use Rattle.page_plan.specs.declared.PageSpec.{PageSpec}
+use Rattle.page_plan.specs.declared.SlotContent.{SlotContent}
+use Rattle.page_plan.specs.declared.SlotSpec.{SlotSpec}
+use Rattle.page_plan.specs.Contents.{content_of}
+use Rattle.page_plan.specs.Pages.{piece_of}
 use Rattle.slot_lives.specs.Lives as lives
 use Rattle.slot_lives.specs.Lives.{Life, swaps_in}
 use Rattle.slot_lives.specs.Ends.{end_of}
 use Rattle.widget_host.specs.declared.host.Host.{Host}
-use Rattle.widget_host.specs.page_load.Loads.{singles}
+use Rattle.page_load.specs.Loads.{singles}
 use Rattle.widget_host.specs.Given.{AreRetired}
 use Rattle.widget_host.specs.Housed.{IsHoused, IsLaid, AreShown, accepts, chains, channels, ends, given, marked, names, scripts, seens}
 

@@ -7,14 +7,14 @@ use Rattle.trace_reader.specs.Said.{Said}
 use Rattle.life_laws.specs.Life.{Seen, image}
 use Rattle.slot_laws.specs.Slots.{has}
 use Rattle.slot_laws.specs.Chains.{last_at, listed}
-use Rattle.page_spec.specs.declared.PageSpec.{PageSpec}
-use Rattle.page_spec.specs.declared.SlotContent.{SlotContent}
-use Rattle.page_spec.specs.declared.SlotSpec.{SlotSpec}
-use Rattle.page_spec.specs.Loadable.{IsSwapLoadable}
-use Rattle.page_spec.specs.Pages.{piece_of}
+use Rattle.page_plan.specs.declared.PageSpec.{PageSpec}
+use Rattle.page_plan.specs.declared.SlotContent.{SlotContent}
+use Rattle.page_plan.specs.declared.SlotSpec.{SlotSpec}
+use Rattle.page_plan.specs.Loadable.{IsSwapLoadable}
+use Rattle.page_plan.specs.Pages.{piece_of}
 use Rattle.slot_lives.specs.Lives.{last_life, swaps_in}
 use Rattle.widget_host.specs.declared.host.Host.{Host}
-use Rattle.widget_host.specs.page_load.Loads.{singles}
+use Rattle.page_load.specs.Loads.{singles}
 use Rattle.widget_host.specs.Given.{AreEnded}
 use Rattle.widget_host.specs.Housed.{IsHoused, IsLaid, Loads, accepts, chains, channels, ends, fuels, given, homes, journal, libraries, marked, names, seens}
 use Rattle.widget_host.specs.Rounds.{AreFed, is_last}

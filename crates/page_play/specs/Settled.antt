@@ -7,8 +7,8 @@ use Rattle.pick_laws.specs.Journal.{ready_from, journal_room}
 use Rattle.pick_laws.specs.Order.{InOrder}
 use Rattle.slot_laws.specs.Chains.{last_life}
 use Rattle.slot_laws.specs.Settled.{PickedOn, slot_flags}
-use Rattle.page_spec.specs.declared.PageSpec.{PageSpec}
-use Rattle.page_spec.specs.declared.SlotContent.{SlotContent}
+use Rattle.page_plan.specs.declared.PageSpec.{PageSpec}
+use Rattle.page_plan.specs.declared.SlotContent.{SlotContent}
 use Rattle.slot_lives.specs.Lives.{swaps_in}
 use Rattle.widget_host.specs.declared.host.Host.{Host}
 use Rattle.widget_host.specs.declared.items.HostItem.{HostItem}

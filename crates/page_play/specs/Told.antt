@@ -7,10 +7,10 @@ use Rattle.trace_text.specs.Report.{page_line}
 use Rattle.trace_reader.specs.Said.{Said}
 use Rattle.slot_check.specs.Sources.{Source}
 use Rattle.widget_meaning.specs.OwnState.{OwnState}
-use Rattle.page_spec.specs.declared.PageSpec.{PageSpec}
-use Rattle.page_spec.specs.declared.SlotContent.{SlotContent}
-use Rattle.page_spec.specs.Pages.{PagePiece, page_of, roots}
-use Rattle.page_judge.specs.Runs.{SlotRun}
+use Rattle.page_plan.specs.declared.PageSpec.{PageSpec}
+use Rattle.page_plan.specs.declared.SlotContent.{SlotContent}
+use Rattle.page_plan.specs.Pages.{PagePiece, page_of, roots}
+use Rattle.page_check.specs.Runs.{SlotRun}
 use Rattle.reach_cert.specs.Certs.{cert_text}
 use Rattle.state_reach.specs.States.{cert_of_states}
 use Rattle.slot_lives.specs.Ends.{AllBegin, run_name}

@@ -2,9 +2,9 @@
 ghost use Rattle.std.specs.Prelude.{List, ◌++◌, map};
 ghost use Rattle.trace_reader.specs.Said.{Said};
 ghost use Rattle.slot_check.specs.Sources.{Source};
-ghost use Rattle.page_spec.specs.declared.PageSpec.{PageSpec};
-ghost use Rattle.page_spec.specs.declared.SlotContent.{SlotContent};
-ghost use Rattle.page_judge.specs.Runs.{SlotRun};
+ghost use Rattle.page_plan.specs.declared.PageSpec.{PageSpec};
+ghost use Rattle.page_plan.specs.declared.SlotContent.{SlotContent};
+ghost use Rattle.page_check.specs.Runs.{SlotRun};
 ghost use Rattle.slot_lives.specs.Ends.{end_of};
 ghost use Rattle.slot_lives.specs.Outcome.{Outcome};
 ghost use Rattle.widget_host.specs.declared.host.Host.{Host};

@@ -13,6 +13,3 @@ pub use laws::plays_come_to;
 pub use lines::{refused_line, run_text};
 pub use playing::play;
 pub use reports::{certificate, last_line, report, report_of};
-// Handed on to the crates above.
-pub use slot_lives;
-pub use widget_host;

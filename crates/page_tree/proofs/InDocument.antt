@@ -1,6 +1,6 @@
 -- Each node of an owner stands once in its document.
-use Rattle.std.proofs.Common.{◌≡◌, ◌≢◌, ℕ, zero, suc, ◌+◌, ◌-◌, ◌<◌, ◌≤◌, List, [], ◌∷◌, ◌++◌, Bool, true, false, refl, sym, ap, ◌∙◌, subst, eqb, eqb-true, eq-eqb, leb, ◌||◌, ◌&&◌, not, cond, arith, length, Some, None, Option, ◌⊎◌, inl, inr, ⊎_elim}
-use Rattle.std.specs.Prelude.{is_some, option_to_list}
+use Rattle.std.proofs.Common.{◌≡◌, ℕ, zero, suc, ◌+◌, ◌-◌, ◌<◌, List, [], ◌∷◌, ◌++◌, Bool, true, false, refl, sym, ap, ◌∙◌, subst, eqb, eqb-true, eq-eqb, leb, ◌||◌, ◌&&◌, not, cond, arith, length, Some, None, Option, ◌⊎◌, inl, inr, ⊎_elim}
+use Rattle.std.specs.Prelude.{is_some}
 use Rattle.std.specs.List.{filter, flat_map, range_with_len}
 use Rattle.std.proofs.lemmas.Bool.{or_cases, and_parts, and_from, eqb-false, le-leb}
 use Rattle.code_units.specs.declared.owner.Owner.{Owner}
@@ -10,11 +10,11 @@ use Rattle.tree_ops.specs.Trees.{has, is_number, numbers}
 use Rattle.page_nodes.specs.Entries.{Entry, at, body, listed, distinct, tree, limit, IsSound}
 use Rattle.page_nodes.specs.Ids.{rises}
 use Rattle.page_nodes.specs.Owners.{is_owner, same_owner, root_in}
-use Rattle.page_nodes.proofs.Lists.{cases, or_none, or_right}
+use Rattle.page_nodes.proofs.Lists.{cases, or_right}
 use Rattle.page_nodes.proofs.Owners.{same_is}
 use Rattle.page_nodes.proofs.Rising.{not_below}
 use Rattle.page_nodes.proofs.Shows.{Shows, none, one_more, shows_one, shows_tree}
-use Rattle.page_nodes.proofs.Upward.{has_parent, has_itself, none_some, or_left}
+use Rattle.page_nodes.proofs.Upward.{has_parent, has_itself, or_left}
 use Rattle.page_nodes.proofs.Walk.{nearer, parent_too, some_is_same, top_not_in, without_body}
 use Rattle.page_tree.specs.Documents.{within, is_loose, tops, document}
 use Rattle.page_tree.specs.Roots.{IsRooted}

@@ -6,5 +6,3 @@ pub mod Counts
 pub mod Takes
 pub mod Agree
 pub mod InDocument
--- Handed on to the crates above, which name it so.
-pub use Rattle.page_nodes.proofs as PageNodes

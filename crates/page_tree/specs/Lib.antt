@@ -10,5 +10,3 @@ pub mod Documents
 pub mod Roots
 pub mod Counts
 pub mod Pages
--- Handed on to the crates above, which name it so.
-pub use Rattle.page_nodes.specs as page_nodes

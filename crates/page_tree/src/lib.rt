@@ -7,6 +7,3 @@ mod page;
 pub use fault::PageFault;
 pub use page::{NodeId, Page};
 pub use page_nodes::{Content, is_number, same_owner};
-
-// Handed on to the crates above, which name it so.
-pub use page_nodes;

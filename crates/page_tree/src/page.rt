@@ -7,7 +7,7 @@ ghost use Rattle.tree_ops.specs.Labels.{is_leaf, is_text, tag_of, text_of, attri
 ghost use Rattle.code_units.specs.declared.owner.Owner.{Owner};
 ghost use Rattle.tree_ops.specs.Trees.{has, is_number};
 ghost use Rattle.page_nodes.specs.Moves.{Detached, AreDetached, Detaches, IsDepth, ArePut, Puts, IsLinked, IsSwapped, IsRelabelled, AreNodes, OthersStay, OthersOfAllStay};
-ghost use Rattle.plain_tree.specs.Trees.{TextOf, unmarked, size, height};
+ghost use Rattle.plain_tree.specs.Trees.{TextOf, unmarked, height};
 ghost use Rattle.plain_tree.specs.Plains.{unplaced};
 ghost use Rattle.page_tree.specs.Counts.{IsCounted, count_of, most_of};
 ghost use Rattle.page_nodes.specs.Adds.{IsAdded, OlderStay};

@@ -14,7 +14,7 @@ use Rattle.pick_laws.specs.declared.entry.PickEntry.{PickEntry}
 use Rattle.pick_laws.specs.Journal.{ready_from}
 use Rattle.pick_laws.specs.declared.entry.Picked.{Picked}
 use Rattle.pick_laws.specs.declared.entry.Picked.TheVariants as picked
-use Rattle.pick_laws.specs.Journal.{Went, PickedAt, entry_of}
+use Rattle.pick_laws.specs.Journal.{PickedAt, entry_of}
 use Rattle.pick_laws.specs.Journal as host
 use Rattle.pick_laws.proofs.Settling.{went_idle, went_entry, went_none, ready_was}
 use Rattle.pick_laws.specs.Asked.{Settled, takes, ready_at, Asks, First, Entries, no_ask, with_entry, was_idle, KeptAsks, Chosen}

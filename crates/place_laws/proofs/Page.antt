@@ -10,7 +10,7 @@ use Rattle.plain_tree.specs.Words.{is_event_type, is_plain_words}
 use Rattle.query_grammar.specs.Finds.{has_number}
 use Rattle.query_grammar.specs.Steps.{Step}
 use Rattle.tree_ops.specs.Labels.{with_attribute}
-use Rattle.query_grammar.specs.style_text.Styles.{is_listed}
+use Rattle.style_text.specs.Styles.{is_listed}
 use Rattle.widget_meaning.specs.Styles.{style_pairs, style_value}
 use Rattle.plain_tree.specs.Tags.{is_listed_tag}
 use Rattle.widget_meaning.specs.Values.{Value, Undefined, Truth, Text, Own, Is, E4, E9, E10, is_true, to_text, nth}

@@ -6,7 +6,7 @@ use Rattle.widget_meaning.specs.Values.{Value, is_object, to_number}
 use Rattle.widget_meaning.specs.OwnState.{State}
 use Rattle.widget_meaning.specs.Plan.{Halt, Plan, charge}
 use Rattle.widget_meaning.specs.NativeForms.{give_text, want_primitives, with_number, with_optional}
-use Rattle.native_forms.specs.Numbers.{number_or, optional_number}
+use Rattle.native_common.specs.Numbers.{number_or, optional_number}
 use Rattle.plain_natives.specs.Choices as choices
 use Rattle.plain_natives.specs.Choices.{part}
 use Rattle.plain_natives.proofs.Exits.{numbered, numbered_not, optional, optional_not, wants}

@@ -25,11 +25,11 @@ use Rattle.js_image.specs.declared.outcome.StopCause.{StopCause}
 use Rattle.js_values.specs.Fuel.{Fuel}
 use Rattle.js_values.specs.declared.outcome.NativeOut.{NativeOut}
 use Rattle.js_values.specs.declared.outcome.NativeOut.TheVariants as native
-use Rattle.native_forms.specs.Meets.{Ends, Meets}
-use Rattle.native_forms.specs.Numbers as numbers
-use Rattle.native_forms.specs.Numbers.{counted}
-use Rattle.native_forms.proofs.Meeting.{ends_here, ends_same, meets_free, meets_same}
-use Rattle.native_forms.proofs.Seen.{nth_seen}
+use Rattle.native_common.specs.Meets.{Ends, Meets}
+use Rattle.native_common.specs.Numbers as numbers
+use Rattle.native_common.specs.Numbers.{counted}
+use Rattle.native_common.proofs.Meeting.{ends_here, ends_same, meets_free, meets_same}
+use Rattle.native_common.proofs.Seen.{nth_seen}
 
 -- ## Arguments
 

@@ -7,7 +7,7 @@ use Rattle.std.proofs.Math.Nat.{pow-suc, pow-le-pow_left, pow-le-pow_right}
 use Rattle.widget_meaning.specs.Values.{Num}
 use Rattle.widget_meaning.specs.Limits.{past_numbers}
 use Rattle.widget_meaning.specs.Operators.{Gives, Leaves, number}
-use Rattle.native_forms.proofs.Loops.{over_no}
+use Rattle.native_common.proofs.Loops.{over_no}
 
 one_pow : (n : ℕ) → 1 ^ n ≡ 1
 one_pow zero = refl

@@ -12,7 +12,7 @@ use Rattle.store_cells.specs.Cells.{PlainCell}
 use Rattle.js_image.specs.Image.{seen}
 use Rattle.js_image.specs.Held.{IsFine}
 use Rattle.js_values.specs.Operands.{plain}
-use Rattle.native_forms.specs.Numbers.{IsSmall}
+use Rattle.native_common.specs.Numbers.{IsSmall}
 
 -- each widget sees them alike
 pub small_seen : (w : ℕ) (cells : List PlainCell) (v : Value) → IsSmall v → seen w cells v ≡ plain v

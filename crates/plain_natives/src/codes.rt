@@ -7,11 +7,11 @@ ghost use Rattle.widget_meaning.specs.Values.{to_number};
 ghost use Rattle.widget_meaning.specs.GlobalNatives as means;
 ghost use Rattle.js_image.specs.Image.{all_seen};
 ghost use Rattle.js_image.specs.Held.{Kept};
-ghost use Rattle.native_forms.specs.Meets.{Meets};
+ghost use Rattle.native_common.specs.Meets.{Meets};
 
 use code_units::{Memory, Text, WholeRead};
 use js_values::{Fault, Meter, NativeOut, StopCause};
-use native_forms::{all_units_read, any_object, charged, give_text, read_number};
+use native_common::{all_units_read, any_object, charged, give_text, read_number};
 use object_store::{Store, Value};
 use std::alloc::Global;
 

@@ -8,8 +8,8 @@ ghost use Rattle.widget_meaning.specs.Operators as operators;
 ghost use Rattle.js_image.specs.Image.{all_seen, seen};
 ghost use Rattle.js_image.specs.Held.{AreFine, IsFine, Kept};
 ghost use Rattle.js_values.specs.Operands.{meant_out};
-ghost use Rattle.native_forms.specs.Meets.{Meets};
-ghost use Rattle.native_forms.specs.Numbers.{IsSmallOut};
+ghost use Rattle.native_common.specs.Meets.{Meets};
+ghost use Rattle.native_common.specs.Numbers.{IsSmallOut};
 ghost use Rattle.plain_natives.specs.Families.{meant_global};
 
 use crate::codes::from_char_code;
@@ -17,7 +17,7 @@ use crate::families::GlobalNative;
 use crate::numerals::parsed;
 use code_units::{Memory, Text, WholeRead};
 use js_values::{Fault, Meter, NativeOut, OpOut, Plan, StopCause, is_true};
-use native_forms::{
+use native_common::{
     charged, either_object, give_text, given, is_object, nth, number_or, read_number, read_text,
     text_len, units_read,
 };

@@ -9,13 +9,13 @@ ghost use Rattle.widget_meaning.specs.NativeForms as forms;
 ghost use Rattle.js_image.specs.Image.{seen};
 ghost use Rattle.js_image.specs.Held.{Kept};
 ghost use Rattle.js_values.specs.Operands.{plain};
-ghost use Rattle.native_forms.specs.Meets.{Meets};
-ghost use Rattle.native_forms.specs.Numbers.{IsSmall};
+ghost use Rattle.native_common.specs.Meets.{Meets};
+ghost use Rattle.native_common.specs.Numbers.{IsSmall};
 ghost use Rattle.plain_natives.specs.Choices.{cut, in_case, part};
 
 use code_units::{Memory, Text};
 use js_values::{Fault, Meter, NativeOut, StopCause};
-use native_forms::{
+use native_common::{
     charged, clamped, either_object, from_end, give_text, give_units, is_object, number_or,
     optional_number, text_len,
 };

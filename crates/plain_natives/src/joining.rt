@@ -7,12 +7,12 @@ ghost use Rattle.widget_meaning.specs.Values.{to_text};
 ghost use Rattle.widget_meaning.specs.TextNatives as means;
 ghost use Rattle.js_image.specs.Image.{all_seen, seen};
 ghost use Rattle.js_image.specs.Held.{Kept};
-ghost use Rattle.native_forms.specs.Meets.{Meets};
-ghost use Rattle.native_forms.specs.Numbers.{counted};
+ghost use Rattle.native_common.specs.Meets.{Meets};
+ghost use Rattle.native_common.specs.Numbers.{counted};
 
 use code_units::{Memory, Text};
 use js_values::{Fault, Meter, NativeOut};
-use native_forms::{any_object, make_text, read_text, take, text_len};
+use native_common::{any_object, make_text, read_text, take, text_len};
 use object_store::{Store, Value};
 use std::alloc::Global;
 

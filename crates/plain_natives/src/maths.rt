@@ -8,8 +8,8 @@ ghost use Rattle.widget_meaning.specs.Operators as operators;
 ghost use Rattle.widget_meaning.specs.Operators.{of_numbers};
 ghost use Rattle.js_image.specs.Image.{all_seen, seen};
 ghost use Rattle.js_values.specs.Operands.{meant_out};
-ghost use Rattle.native_forms.specs.Meets.{Meets};
-ghost use Rattle.native_forms.specs.Numbers.{IsSmallOut};
+ghost use Rattle.native_common.specs.Meets.{Meets};
+ghost use Rattle.native_common.specs.Numbers.{IsSmallOut};
 ghost use Rattle.plain_natives.specs.Families.{meant_math};
 ghost use Rattle.plain_natives.specs.Choices.{better, changed};
 
@@ -18,7 +18,7 @@ use crate::families::MathNative;
 use crate::powers::power;
 use code_units::{Memory, WholeRead};
 use js_values::{Fault, Meter, NativeOut, OpOut};
-use native_forms::{any_object, charged, either_object, given, is_object, nth, read_number};
+use native_common::{any_object, charged, either_object, given, is_object, nth, read_number};
 use object_store::{Number, Value};
 
 /// A native of `Math`; it ignores its receiver. `Memory` comes alone for the magnitude of a number

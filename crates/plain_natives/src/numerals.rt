@@ -6,7 +6,7 @@ ghost use Rattle.code_units.specs.Whole.{is_blank, trimmed_start};
 ghost use Rattle.widget_meaning.specs.GlobalNatives as means;
 ghost use Rattle.widget_meaning.specs.Operators.{number};
 ghost use Rattle.js_values.specs.Operands.{meant_out};
-ghost use Rattle.native_forms.specs.Numbers.{IsSmallOut};
+ghost use Rattle.native_common.specs.Numbers.{IsSmallOut};
 
 use js_values::OpOut;
 use object_store::{Number, Value};

@@ -1,10 +1,10 @@
 //! Powers of whole numbers (ECMA-262 3rd edition, 15.8.2.13).
-ghost use Rattle.std.specs.Prelude.{◌≡◌, ◌<◌, ◌≤◌, pos, suc, unsigned_abs};
+ghost use Rattle.std.specs.Prelude.{◌≡◌, ◌<◌, ◌≤◌, unsigned_abs};
 ghost use Rattle.std.specs.Int.{int_pow};
 ghost use Rattle.widget_meaning.specs.MathNatives as means;
 ghost use Rattle.widget_meaning.specs.Operators.{number};
 ghost use Rattle.js_values.specs.Operands.{meant_out};
-ghost use Rattle.native_forms.specs.Numbers.{IsSmallOut};
+ghost use Rattle.native_common.specs.Numbers.{IsSmallOut};
 
 use code_units::WholeRead;
 use js_values::OpOut;

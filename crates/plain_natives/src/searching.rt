@@ -4,13 +4,13 @@ ghost use Rattle.store_cells.specs.Cells.{Cells};
 ghost use Rattle.widget_meaning.specs.TextNatives as means;
 ghost use Rattle.js_image.specs.Image.{seen};
 ghost use Rattle.js_values.specs.Operands.{plain};
-ghost use Rattle.native_forms.specs.Meets.{Meets};
-ghost use Rattle.native_forms.specs.Numbers.{IsSmall};
+ghost use Rattle.native_common.specs.Meets.{Meets};
+ghost use Rattle.native_common.specs.Numbers.{IsSmall};
 
 use crate::cutting::end_of;
 use code_units::{Memory, Text};
 use js_values::{Fault, Meter, NativeOut, StopCause};
-use native_forms::{charged, clamped, either_object, number_or, read_text, text_len};
+use native_common::{charged, clamped, either_object, number_or, read_text, text_len};
 use object_store::{Number, Value};
 use std::alloc::Global;
 use text_search::Needle;

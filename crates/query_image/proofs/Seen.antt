@@ -13,7 +13,7 @@ use Rattle.page_nodes.proofs.Owners.{same_is}
 use Rattle.page_nodes.proofs.Shows.{Shows, none, one_more, shows_tree}
 use Rattle.page_tree.specs.declared.page.Page.{Page}
 use Rattle.page_tree.specs.Documents as page
-use Rattle.page_tree.specs.Documents.{below, parent_within}
+use Rattle.page_tree.specs.Documents.{below}
 use Rattle.page_tree.specs.Pages.{nodes, root}
 use Rattle.page_tree.specs.Roots.{IsRooted}
 use Rattle.query_grammar.specs.declared.query.Filter.{Filter}

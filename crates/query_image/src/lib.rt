@@ -1,7 +1,7 @@
 //! Queries on the page as one of its widgets has it: what they find, in its own numbers, is what the meaning finds.
 #![tactic(auto)]
 
-ghost use Rattle.std.specs.Prelude.{◌≡◌, ℕ, ◌<◌, List, map, true, IfOk};
+ghost use Rattle.std.specs.Prelude.{◌≡◌, ℕ, ◌<◌, map, true, IfOk};
 ghost use Rattle.query_grammar.specs.Finds.{has_number, passes};
 ghost use Rattle.query_grammar.specs.Renumbering.{renumbered};
 ghost use Rattle.widget_meaning.specs.OwnState.{State};

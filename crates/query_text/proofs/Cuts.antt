@@ -1,8 +1,7 @@
 -- Ranges of units, and words among them.
-use Rattle.std.proofs.Common.{◌≡◌, ℕ, zero, suc, ◌+◌, ◌-◌, ◌<◌, ◌≤◌, List, [], ◌∷◌, ◌++◌, Bool, true, false, ◌&&◌, refl, ap, sym, ◌∙◌, subst, length, take, drop, get_or, arith, length-drop, add-one, append-nil, append_assoc}
-use Rattle.std.specs.Prelude.{slice_range, nat_eq}
-use Rattle.std.specs.Str.{bytes_eq}
-use Rattle.std.proofs.Math.Seq.{drop-cons, drop-nil}
+use Rattle.std.proofs.Common.{◌≡◌, ℕ, zero, suc, ◌+◌, ◌-◌, ◌<◌, ◌≤◌, List, [], ◌∷◌, ◌++◌, Bool, true, false, refl, ap, sym, ◌∙◌, subst, length, take, drop, get_or, arith, length-drop, add-one, append-nil, append_assoc}
+use Rattle.std.specs.Prelude.{slice_range}
+use Rattle.std.proofs.Math.Seq.{drop-cons}
 use Rattle.std.proofs.lemmas.List.{drop_all, length-take-le}
 use Rattle.std.proofs.lemmas.List.Folds.{drop_split}
 use Rattle.query_grammar.specs.Queries.{goes_on, Run, run_ends, run_more, Word, a_word, Name, a_name, in_word, in_name, is_lower}

@@ -1,5 +1,5 @@
 //! Reading a query.
-ghost use Rattle.std.specs.Prelude.{◌≡◌, ℕ, ◌+◌, ◌<◌, ◌≤◌, true, false, List, [], length, drop, ◌==◌, MatchResult, IfOk, IfErr};
+ghost use Rattle.std.specs.Prelude.{◌≡◌, ◌+◌, ◌<◌, ◌≤◌, true, false, List, [], length, drop, ◌==◌, MatchResult, IfOk, IfErr};
 ghost use Rattle.std.specs.Str.{byte};
 ghost use Rattle.query_text.specs.declared.QueryFault.TheVariants as fault;
 ghost use Rattle.query_grammar.specs.declared.query.Hunter.{Hunter as Found};

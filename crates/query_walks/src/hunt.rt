@@ -9,7 +9,7 @@ ghost use Rattle.tree_ops.specs.Trees.{is_number};
 ghost use Rattle.query_grammar.specs.declared.query.Hunter.TheVariants as hunter;
 ghost use Rattle.query_walks.specs.Nodes.{is_element};
 ghost use Rattle.page_tree.specs.Documents.{below, parent_within};
-ghost use Rattle.query_walks.specs.Finds.{hunted, is_tagged};
+ghost use Rattle.query_walks.specs.Finds.{is_tagged};
 ghost use Rattle.query_grammar.specs.Finds.{has_number};
 ghost use Rattle.query_walks.specs.Walks.{AreNodes, AreHunted, AreHuntedOf, MissesNone, takes, is_start, next_ones};
 

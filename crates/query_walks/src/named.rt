@@ -1,10 +1,10 @@
 //! The nodes of a widget with an `id` that stand below nodes.
 ghost use Rattle.std.specs.Prelude.{◌≡◌, ◌<◌, ◌++◌, [], ◌∷◌, true, false, length, OnOk, IfOk};
-ghost use Rattle.std.specs.List.{filter, flat_map};
+ghost use Rattle.std.specs.List.{filter};
 ghost use Rattle.code_units.specs.declared.owner.Owner.TheVariants as owners;
 ghost use Rattle.page_tree.specs.Ids.{with_id};
 ghost use Rattle.page_tree.specs.Owners.{is_owner, same_owner};
-ghost use Rattle.page_tree.specs.Pages.{nodes, root};
+ghost use Rattle.page_tree.specs.Pages.{nodes};
 ghost use Rattle.query_grammar.specs.declared.query.Hunter.TheVariants as hunter;
 ghost use Rattle.query_walks.specs.Walks.{AreNodes, AreHuntedOf, below_any};
 

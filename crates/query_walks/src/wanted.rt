@@ -1,6 +1,5 @@
 //! Walks down the trees of a page.
-ghost use Rattle.std.specs.Prelude.{◌≡◌, ℕ, ◌<◌, ◌++◌, [], ◌∷◌, length, slice_index_or, OnOk};
-ghost use Rattle.std.specs.List.{filter};
+ghost use Rattle.std.specs.Prelude.{◌≡◌, ◌<◌, [], ◌∷◌, length, slice_index_or, OnOk};
 ghost use Rattle.page_tree.specs.Entries.{at};
 ghost use Rattle.page_tree.specs.Pages.{nodes};
 ghost use Rattle.page_tree.specs.Documents.{within, below};

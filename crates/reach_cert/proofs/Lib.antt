@@ -1,8 +1,10 @@
 mod CellLines
 mod Complete
 mod Ends
+mod Enough
 mod Exact
 mod Leaks
+mod Judged
 mod Letters
 mod Numbers
 mod Parts

@@ -1,5 +1,5 @@
 -- What the reader does with one line, seen from the machine.
-use Rattle.std.proofs.Common.{◌≡◌, ℕ, suc, ◌<◌, ◌≤◌, Bool, true, false, List, [], ◌∷◌, ◌++◌, map, length, refl, sym, ap, ◌∙◌, subst, arith, Option, Some, None, if◌then◌else◌, nat_lt, lt-ltb, le-ltb}
+use Rattle.std.proofs.Common.{◌≡◌, ℕ, suc, ◌+◌, ◌<◌, ◌≤◌, Bool, true, false, List, [], ◌∷◌, ◌++◌, map, length, refl, sym, ap, ◌∙◌, subst, arith, Option, Some, None, if◌then◌else◌, nat_lt, lt-ltb, le-ltb}
 use Rattle.std.specs.Prelude.{codes, not, option_and_then, ◌==◌, Result, Ok, Err, IfOk, IfErr, OnOk}
 use Rattle.std.specs.Result.{IsErrAnd}
 use Rattle.std.proofs.lemmas.List.{length-map, map-append}
@@ -179,6 +179,21 @@ word_read word old new e is = subst (Fewer old) (sym is) (by old.number old.line
     by n [] h = cc
     by n (line ∷ lines) h = record { fewer = omega arith; same = omega arith }
 
+-- the number of the line behind one that was read
+pub one_on : (f : List ℕ → Option (List ℕ)) (old new : Ahead) (text : List ℕ) → option_and_then f (first_text old.lines) ≡ Some text → new ≡ behind_first old → new.number ≡ old.number + 1
+one_on f old new text e is = ap (λ a. a.number) is ∙ by old.number old.lines e
+  where
+    by : (n : ℕ) (lines : List (List ℕ)) → option_and_then f (first_text lines) ≡ Some text → (behind_first (ahead n lines)).number ≡ n + 1
+    by n [] h = cc
+    by n (line ∷ lines) h = refl
+
+pub word_on : (word : List ℕ) (old new : Ahead) → text_is word old.lines ≡ true → new ≡ behind_first old → new.number ≡ old.number + 1
+word_on word old new e is = ap (λ a. a.number) is ∙ by old.number old.lines e
+  where
+    by : (n : ℕ) (lines : List (List ℕ)) → text_is word lines ≡ true → (behind_first (ahead n lines)).number ≡ n + 1
+    by n [] h = cc
+    by n (line ∷ lines) h = refl
+
 -- the machine takes the first line
 module _ (st next : State) (old new : Ahead) (is : new ≡ behind_first old) where
   pub moved : step_first st old.lines ≡ Some next → goes st old.lines ≡ goes next new.lines
@@ -223,12 +238,13 @@ head_refused a b e same is text =
 
 pub record Begun (a b : Ahead) : Type 0 where
   pub read : goes Start a.lines ≡ goes (Between []) b.lines
+  pub place : b.number ≡ a.number + 1
   pub later : Later a b
 
 pub head_read : (a b c : Ahead) → a ≡ b → text_is (codes "reach 1") a.lines ≡ true → c ≡ behind_first a → Begun b c
 head_read a b c same text gone =
     subst (λ x. Begun x c) same
-    (record { read = moved Start (Between []) a c gone (start_taken (first_text a.lines) text); later = fewer_later a c (word_read (codes "reach 1") a c text gone) })
+    (record { read = moved Start (Between []) a c gone (start_taken (first_text a.lines) text); place = word_on (codes "reach 1") a c text gone; later = fewer_later a c (word_read (codes "reach 1") a c text gone) })
 
 -- ## A further slot
 

@@ -1,7 +1,9 @@
 pub mod Appended
 pub mod Certs
+pub mod Judged
 pub mod Lines
 pub mod Machine
+pub mod Needs
 pub mod Shape
 pub mod Walks
 pub mod Words

@@ -7,8 +7,10 @@
 mod cert;
 mod confining;
 mod fault;
+mod judging;
 mod laws;
 mod lines;
+mod needs;
 mod printing;
 mod reading;
 mod words;
@@ -16,6 +18,7 @@ mod words;
 pub use cert::{Block, CellRow, Cert, Ref, RowKind};
 pub use confining::confined;
 pub use fault::CertFault;
+pub use judging::judge;
 pub use laws::{
     confined_has_shape, each_line_is_judged, each_slot_keeps_in, one_answer, raw_is_not_confined,
     walks_stay,

@@ -88,6 +88,13 @@ impl<'a> Lines<'a> {
         self.number += 1;
     }
 
+    /// The number of the first line, or the number that it would have.
+    pub fn number(&self) -> u32
+        ensures { result ≡ self.now.number }
+    {
+        self.number
+    }
+
     /// The refusal of the first line.
     pub fn fault(&self) -> CertFault
         ensures { result ≡ fault.BadCert self.now.number }

@@ -15,11 +15,11 @@ use crate::words::{behind, cell_behind, is_name, read_refs, read_row, text_of};
 use code_units::{Memory, Text, spells};
 use std::alloc::Global;
 
-// The most slots that a certificate has.
-const MOST_SLOTS: usize = 16;
+/// The most slots that a certificate has.
+pub const MOST_SLOTS: usize = 16;
 
-// Whether the first line is this one.
-fn text_is(word: &[u8], lines: &Lines) -> bool
+/// Whether the first line is this one.
+pub fn text_is(word: &[u8], lines: &Lines) -> bool
     ensures { result ≡ text_is word.now lines.now.lines }
 {
     match lines.text() {
@@ -28,15 +28,15 @@ fn text_is(word: &[u8], lines: &Lines) -> bool
     }
 }
 
-// What stands in the first line behind a front, where it begins with it.
-fn text_behind<'a>(front: &[u8], lines: &Lines<'a>) -> Option<&'a [u8]>
+/// What stands in the first line behind a front, where it begins with it.
+pub fn text_behind<'a>(front: &[u8], lines: &Lines<'a>) -> Option<&'a [u8]>
     ensures { IsSlice (text_behind front.now lines.now.lines) result }
 {
     behind(front, lines.text()?)
 }
 
-// What stands in the first line behind the number of a cell, where it is the line of this cell.
-fn cell_text<'a>(number: usize, lines: &Lines<'a>) -> Option<&'a [u8]>
+/// What stands in the first line behind the number of a cell, where it is the line of this cell.
+pub fn cell_text<'a>(number: usize, lines: &Lines<'a>) -> Option<&'a [u8]>
     ensures { IsSlice (cell_text number lines.now.lines) result }
 {
     cell_behind(number, lines.text()?)

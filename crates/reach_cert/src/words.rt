@@ -50,8 +50,8 @@ fn space_in(text: &[u8]) -> Option<usize>
     text.iter().position(is_space)
 }
 
-// Where the first word ends.
-fn word_end(text: &[u8]) -> usize
+/// Where the first word ends.
+pub fn word_end(text: &[u8]) -> usize
     ensures end { result ≡ word_end text.now }
     ensures within { result ≤ length text.now }
 {
@@ -61,7 +61,8 @@ fn word_end(text: &[u8]) -> usize
     }
 }
 
-fn colon_in(word: &[u8]) -> Option<usize>
+/// Where the first colon stands.
+pub fn colon_in(word: &[u8]) -> Option<usize>
     ensures { result ≡ position is_colon word.now }
 {
     word.iter().position(is_colon)
@@ -224,7 +225,8 @@ pub fn read_refs(
     Ok(Some(refs))
 }
 
-fn kind_in(word: &[u8]) -> Option<RowKind>
+/// The kind that the word is.
+pub fn kind_in(word: &[u8]) -> Option<RowKind>
     ensures { result ≡ kind_in word.now }
 {
     if word == b"object".as_slice() {

@@ -2,13 +2,13 @@
 use Rattle.std.proofs.Common.{◌≡◌, ◌∙◌, ◌<◌, ◌+◌, ◌++◌, ℕ, zero, suc, List, [], ◌∷◌, Option, Some, None, length, refl, sym, ap, subst, arith, length-append}
 use Rattle.std.specs.Prelude.{IfSome, option_to_list, slice_get}
 use Rattle.std.proofs.lemmas.List.{length-map}
-use Rattle.page_spec.specs.declared.SlotContent.{SlotContent}
-use Rattle.page_spec.specs.declared.PageSpec.{PageSpec}
-use Rattle.page_spec.specs.Loadable.{AreLoadableSwaps, IsLoadable, IsSwapLoadable, more, none, names_of}
-use Rattle.adhost_run.specs.widget_host.declared.host.Host.{Host}
-use Rattle.adhost_run.specs.widget_host.declared.items.HostItem.{HostItem}
-use Rattle.adhost_run.specs.widget_host.page_load.Loads.{singles}
-use Rattle.adhost_run.specs.widget_host.Housed.{GivesItem, GivesSwap, IsHoused, KeepsHost, Loads, chains, ends, given, libraries, names}
+use Rattle.page_plan.specs.declared.SlotContent.{SlotContent}
+use Rattle.page_plan.specs.declared.PageSpec.{PageSpec}
+use Rattle.page_plan.specs.Loadable.{AreLoadableSwaps, IsLoadable, IsSwapLoadable, more, none, names_of}
+use Rattle.widget_host.specs.declared.host.Host.{Host}
+use Rattle.widget_host.specs.declared.items.HostItem.{HostItem}
+use Rattle.page_load.specs.Loads.{singles}
+use Rattle.widget_host.specs.Housed.{GivesItem, GivesSwap, IsHoused, KeepsHost, Loads, chains, ends, given, libraries, names}
 use Rattle.run_cases.specs.declared.hosts.Hosted.{Hosted}
 use Rattle.run_cases.specs.declared.hosts.Loading.{Loading}
 use Rattle.run_cases.specs.Ready.{Fits, IsLeft, IsLoading, IsReady}

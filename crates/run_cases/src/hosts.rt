@@ -4,24 +4,24 @@
 //! - `swap`: a slot, and the file that a swap brings into it
 ghost use Rattle.std.specs.Prelude.{◌≡◌, ◌<◌, All, length, IfOk};
 ghost use Rattle.slot_check.specs.Verdicts.{IsSmall};
-ghost use Rattle.page_judge.specs.Fits.{IsFit};
+ghost use Rattle.page_check.specs.Fits.{IsFit};
 ghost use Rattle.run_steps.specs.Page.{files_named, slot_names};
 ghost use Rattle.run_cases.specs.Ready.{IsLoading, IsReady};
 
 use crate::commands::mem_files;
-use adhost_run::widget_host::Host;
 use anyhow::{Result, bail};
 use code_units::{Memory, Text};
 use host_io::MemFiles;
 use keyed_names::Keys;
 use manifest_reader::Manifest;
-use page_judge::{judge_page, read_manifests_fit};
-use page_spec::{PageSpec, SlotContent};
+use page_check::{judge_page, read_manifests_fit};
+use page_plan::{PageSpec, SlotContent};
 use run_steps::{FILE_LIMIT, files_of, manifest_in, read_file, slot_names};
 use serde_json::Value;
 use slot_check::SourceFile;
 use std::alloc::Global;
 use test_cases::list_at;
+use widget_host::Host;
 
 /// A host on which calls are made: how many slots it has and how many items it was given; and a swap that it
 /// was not given yet, the slot and what comes into it.

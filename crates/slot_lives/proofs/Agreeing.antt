@@ -12,9 +12,9 @@ use Rattle.slot_check.specs.Slot.{AreClean, none, more, named_libs, last_span}
 use Rattle.widget_meaning.specs.OwnState.{OwnState}
 use Rattle.widget_meaning.specs.Items.{Item}
 use Rattle.widget_meaning.specs.Alone.{Content, alone}
-use Rattle.page_judge.specs.Runs.{SlotRun}
-use Rattle.page_judge.specs.Widgets.{widget, HasWidget}
-use Rattle.page_judge.proofs.OneWidget.{one_script}
+use Rattle.page_check.specs.Runs.{SlotRun}
+use Rattle.page_check.specs.Widgets.{widget, HasWidget}
+use Rattle.page_check.proofs.OneWidget.{one_script}
 use Rattle.slot_lives.specs.Lives.{Life}
 use Rattle.slot_lives.specs.Lines.{life_line}
 use Rattle.slot_lives.specs.Ends.{IsLine, ran, refused}

@@ -12,9 +12,9 @@ use Rattle.slot_check.proofs.Firsts.{first_once}
 use Rattle.widget_meaning.specs.OwnState.{OwnState}
 use Rattle.round_laws.specs.Fed.{Fed, RoundsTo}
 use Rattle.round_laws.proofs.Ending.{one}
-use Rattle.page_spec.specs.Pages.{roots, page_of}
-use Rattle.page_judge.specs.Runs.{SlotRun, pieces}
-use Rattle.page_judge.proofs.OneWidget.{widget_once, never_refused}
+use Rattle.page_plan.specs.Pages.{roots, page_of}
+use Rattle.page_check.specs.Runs.{SlotRun, pieces}
+use Rattle.page_check.proofs.OneWidget.{widget_once, never_refused}
 use Rattle.slot_lives.specs.Lives.{Life, ended_lives}
 use Rattle.slot_lives.specs.Lines.{life_line}
 use Rattle.slot_lives.specs.Ends.{run_name, life_name, Begins, accepted, broken, IsLine, ran, refused, end_of, AllBegin, no_life, one_life, AreLines, no_line, one_line, AreEnded, no_end, one_end, some_refused}

@@ -10,8 +10,8 @@ use Rattle.slot_check.specs.Slot.{SlotFirst}
 use Rattle.widget_meaning.specs.OwnState.{OwnState}
 use Rattle.widget_meaning.specs.Alone.{Content}
 use Rattle.round_laws.specs.Fed.{Fed, state}
-use Rattle.page_judge.specs.Runs.{SlotRun}
-use Rattle.page_judge.specs.Widgets.{HasWidget}
+use Rattle.page_check.specs.Runs.{SlotRun}
+use Rattle.page_check.specs.Widgets.{HasWidget}
 use Rattle.slot_lives.specs.Lives.{Life}
 use Rattle.slot_lives.specs.Lines.{life_line}
 

@@ -7,7 +7,7 @@ use Rattle.slot_check.specs.Sources.{Source, IsLibrary}
 use Rattle.slot_check.specs.Slot.{named_libs}
 use Rattle.widget_meaning.specs.OwnState.{OwnState}
 use Rattle.widget_meaning.specs.Items.{Item}
-use Rattle.page_judge.specs.Runs.{SlotRun}
+use Rattle.page_check.specs.Runs.{SlotRun}
 use Rattle.slot_lives.specs.Lives.{Life}
 use Rattle.slot_lives.specs.OtherSlots.{unended}
 use Rattle.slot_lives.specs.Ends.{IsLine}

@@ -1,10 +1,10 @@
 //! Laws of the definitions.
-ghost use Rattle.std.specs.Prelude.{◌≡◌, ℕ, false, true, List, ◌∷◌, length, Bool, Option};
+ghost use Rattle.std.specs.Prelude.{◌≡◌, ℕ, false, true, List, length, Bool, Option};
 ghost use Rattle.trace_reader.specs.Said.{Said};
 ghost use Rattle.manifest_reader.specs.Page.{Part};
 ghost use Rattle.slot_check.specs.Sources.{Source};
 ghost use Rattle.widget_meaning.specs.OwnState.{OwnState};
-ghost use Rattle.page_judge.specs.Runs.{SlotRun};
+ghost use Rattle.page_check.specs.Runs.{SlotRun};
 ghost use Rattle.slot_lives.specs.Lives.{Life, is_swap, swaps_in};
 ghost use Rattle.slot_lives.specs.LifeLaws.{LifeLaws, swaps};
 ghost use Rattle.slot_lives.specs.OtherSlots.{OtherSlotLaws};

@@ -5,11 +5,11 @@ use Rattle.std.proofs.lemmas.Bool.{ne_eqb}
 use Rattle.std.specs.Option.{option_map}
 use Rattle.life_laws.specs.Life as todo
 use Rattle.life_laws.specs.Life.{Going, is_empty, ready}
-use Rattle.life_picks.specs.turn_calls.declared.turn.Shared.{Shared}
-use Rattle.life_picks.specs.turn_calls.declared.turn.Turn.{Turn}
-use Rattle.life_picks.specs.life_queue.declared.life.Life.{Life}
-use Rattle.life_picks.specs.life_queue.declared.life.Work.{Work}
-use Rattle.life_picks.specs.life_queue.Lives.{going_of, life_seen, trees_in, work_of}
+use Rattle.turn_returns.specs.declared.turn.Shared.{Shared}
+use Rattle.turn_returns.specs.declared.turn.Turn.{Turn}
+use Rattle.life_queue.specs.declared.life.Life.{Life}
+use Rattle.life_queue.specs.declared.life.Work.{Work}
+use Rattle.life_queue.specs.Lives.{going_of, life_seen, trees_in, work_of}
 use Rattle.slot_picks.specs.declared.crowd.Place.{Place}
 use Rattle.slot_picks.specs.Places.{lent, seen_at}
 use Rattle.slot_picks.proofs.Others.{seen_life, seen_none}

@@ -8,9 +8,9 @@ use Rattle.page_image.proofs.Hosting.{host_same}
 use Rattle.native_image.specs.Sound.{HasRaw}
 use Rattle.native_image.proofs.Added.{raw_stays}
 use Rattle.js_names.specs.Code.{trees_of}
-use Rattle.life_picks.specs.turn_calls.declared.turn.Shared.{Shared}
-use Rattle.life_picks.specs.life_queue.declared.life.Life.{Life}
-use Rattle.life_picks.specs.life_queue.Fine.{FineTurn, KeepsLife}
+use Rattle.turn_returns.specs.declared.turn.Shared.{Shared}
+use Rattle.life_queue.specs.declared.life.Life.{Life}
+use Rattle.life_queue.specs.Fine.{FineTurn, KeepsLife}
 use Rattle.slot_picks.specs.declared.crowd.Crowd.{Crowd}
 use Rattle.slot_picks.specs.declared.crowd.Place.{Place}
 use Rattle.slot_picks.specs.Crowds.{KeepsCrowd, KeepsLives, PageStays}

@@ -14,5 +14,3 @@ mod Housing
 mod Settles
 mod Quiet
 mod Busy
--- Handed on to the crates above, which name it so.
-pub use Rattle.life_picks.proofs.LifeQueue

@@ -7,10 +7,10 @@ use Rattle.life_laws.specs.Life.{Seen, potentials}
 use Rattle.native_image.specs.Sound.{HasRaw, KeepsPage}
 use Rattle.page_image.specs.Image.{owns}
 use Rattle.slot_laws.specs.Settled.{flag}
-use Rattle.life_picks.specs.turn_calls.declared.turn.Shared.{Shared}
-use Rattle.life_picks.specs.life_queue.Lives.{life_seen}
-use Rattle.life_picks.specs.life_queue.Fine.{FineLife, KeepsCells, tally}
-use Rattle.life_picks.proofs.LifeQueue.Apart.{fine_apart, seen_apart}
+use Rattle.turn_returns.specs.declared.turn.Shared.{Shared}
+use Rattle.life_queue.specs.Lives.{life_seen}
+use Rattle.life_queue.specs.Fine.{FineLife, KeepsCells, tally}
+use Rattle.life_queue.proofs.Apart.{fine_apart, seen_apart}
 use Rattle.slot_picks.specs.declared.crowd.Place.{Place}
 use Rattle.slot_picks.specs.Places.{FewPlace, FewPlaces, FinePlace, FinePlaces, lent, seen_at, seens_from}
 

@@ -8,11 +8,11 @@ use Rattle.life_laws.specs.Life.{Seen, ready, weight}
 use Rattle.pick_laws.specs.declared.entry.Picked.{Picked}
 use Rattle.pick_laws.specs.Picks.{Picks}
 use Rattle.pick_laws.specs.Journal.{PickedAt}
-use Rattle.life_picks.specs.turn_calls.declared.turn.Shared.{Shared}
-use Rattle.life_picks.specs.life_queue.declared.life.Life.{Life}
-use Rattle.life_picks.specs.turn_calls.declared.turn.Turn.{Turn}
-use Rattle.life_picks.specs.life_queue.Lives.{life_seen, trees_in}
-use Rattle.life_picks.specs.life_queue.Fine.{FineLife, FineTurn, KeepsLife, tally}
+use Rattle.turn_returns.specs.declared.turn.Shared.{Shared}
+use Rattle.life_queue.specs.declared.life.Life.{Life}
+use Rattle.turn_returns.specs.declared.turn.Turn.{Turn}
+use Rattle.life_queue.specs.Lives.{life_seen, trees_in}
+use Rattle.life_queue.specs.Fine.{FineLife, FineTurn, KeepsLife, tally}
 use Rattle.life_picks.specs.Picking.{PicksLife}
 use Rattle.slot_laws.proofs.Passing.{get_other}
 use Rattle.slot_picks.specs.declared.crowd.Place.{Place}

@@ -7,11 +7,11 @@ use Rattle.pick_laws.specs.declared.entry.Picked.{Picked}
 use Rattle.pick_laws.specs.declared.entry.Picked.TheVariants as picked
 use Rattle.pick_laws.specs.Journal.{Kept, PickedAt, entry_of, journal_after}
 use Rattle.slot_laws.specs.Settled.{flag}
-use Rattle.life_picks.specs.turn_calls.declared.turn.Shared.{Shared}
-use Rattle.life_picks.specs.turn_calls.declared.turn.Turn.{Turn}
-use Rattle.life_picks.specs.life_queue.declared.life.Life.{Life}
-use Rattle.life_picks.specs.life_queue.Lives.{going_of, life_seen, own_of, trees_in}
-use Rattle.life_picks.specs.life_queue.Fine.{FineLife, FineTurn, held_back}
+use Rattle.turn_returns.specs.declared.turn.Shared.{Shared}
+use Rattle.turn_returns.specs.declared.turn.Turn.{Turn}
+use Rattle.life_queue.specs.declared.life.Life.{Life}
+use Rattle.life_queue.specs.Lives.{going_of, life_seen, own_of, trees_in}
+use Rattle.life_queue.specs.Fine.{FineLife, FineTurn, held_back}
 use Rattle.slot_picks.specs.declared.crowd.Place.{Place}
 use Rattle.slot_picks.specs.Places.{seens_from}
 use Rattle.slot_picks.proofs.Others.{seen_none, seens_at}

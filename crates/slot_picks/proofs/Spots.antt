@@ -3,7 +3,7 @@ use Rattle.std.proofs.Common.{◌≡◌, ℕ, List, [], ◌∷◌, Bool, true, f
 use Rattle.std.specs.Prelude.{slice_get}
 use Rattle.std.proofs.lemmas.Bool.{and_parts, or_left, or_right}
 use Rattle.std.proofs.lemmas.Option.{get_or_from_slice_get, slice_get_within}
-use Rattle.page_tree.specs.page_nodes.Entries.{body, distinct, listed}
+use Rattle.page_nodes.specs.Entries.{body, distinct, listed}
 use Rattle.page_tree.specs.declared.page.Page.{Page}
 use Rattle.page_build.specs.Standing.{AreSpots, Child, Fixed, InSlot, filled, has_slot}
 

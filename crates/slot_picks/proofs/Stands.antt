@@ -3,7 +3,7 @@ use Rattle.std.proofs.Common.{◌≡◌, ◌≢◌, ℕ, zero, suc, ◌<◌, ◌
 use Rattle.std.specs.Prelude.{nat_eq, slice_get, slice_index_or, slice_set}
 use Rattle.std.proofs.lemmas.Bool.Decides.{eqb_tells}
 use Rattle.plain_tree.specs.Trees.{unmarked}
-use Rattle.page_tree.specs.page_nodes.Entries.{body}
+use Rattle.page_nodes.specs.Entries.{body}
 use Rattle.page_tree.specs.declared.page.Page.{Page}
 use Rattle.page_image.specs.Image.{root_of}
 use Rattle.page_image.specs.Stays.{KeepsNodes}

@@ -10,8 +10,8 @@ use Rattle.native_image.proofs.Keeping.{page_keeps}
 use Rattle.page_build.specs.Standing.{Exchanges, IsSpare, IsStanding}
 use Rattle.pick_laws.specs.Journal.{on_at}
 use Rattle.slot_laws.proofs.Housing.{chain_in}
-use Rattle.life_picks.specs.life_queue.Fine.{KeepsCells}
-use Rattle.life_picks.proofs.LifeQueue.Keeps.{cells_same}
+use Rattle.life_queue.specs.Fine.{KeepsCells}
+use Rattle.life_queue.proofs.Keeps.{cells_same}
 use Rattle.slot_picks.specs.declared.crowd.Crowd.{Crowd}
 use Rattle.slot_picks.specs.declared.crowd.Place.{Place}
 use Rattle.slot_picks.specs.declared.slots.Slot.{Slot}

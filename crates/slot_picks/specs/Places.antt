@@ -8,9 +8,9 @@ use Rattle.js_names.specs.Code.{trees_of}
 use Rattle.native_image.specs.Sound.{HoldsOwn}
 use Rattle.life_laws.specs.Life.{Seen}
 use Rattle.slot_laws.specs.Settled.{flag}
-use Rattle.life_picks.specs.turn_calls.declared.turn.Shared.{Shared}
-use Rattle.life_picks.specs.life_queue.Lives.{life_seen}
-use Rattle.life_picks.specs.life_queue.Fine.{FineLife, FineTurn, tally}
+use Rattle.turn_returns.specs.declared.turn.Shared.{Shared}
+use Rattle.life_queue.specs.Lives.{life_seen}
+use Rattle.life_queue.specs.Fine.{FineLife, FineTurn, tally}
 use Rattle.slot_picks.specs.declared.crowd.Place.{Place}
 
 -- what all lives share, with the trees of the scripts of one of them

@@ -2,9 +2,9 @@
 ghost use Rattle.std.specs.Prelude.{◌≡◌, ◌≢◌, ℕ, ◌<◌, ◌≤◌, ◌++◌, [], ◌∷◌, IfOk, None, OnErr, OnOk, Some, true, length, slice_get};
 ghost use Rattle.life_laws.specs.Life.{Seen, image};
 ghost use Rattle.pick_laws.specs.Journal.{Kept, PickedAt, journal_room, kept};
-ghost use Rattle.life_picks.specs.turn_calls.declared.turn.Shared.{Shared as SharedOf};
-ghost use Rattle.life_picks.specs.life_queue.Fine.{FineLife, KeepsLife};
-ghost use Rattle.life_picks.specs.life_queue.Lives.{life_seen};
+ghost use Rattle.turn_returns.specs.declared.turn.Shared.{Shared as SharedOf};
+ghost use Rattle.life_queue.specs.Fine.{FineLife, KeepsLife};
+ghost use Rattle.life_queue.specs.Lives.{life_seen};
 ghost use Rattle.life_picks.specs.Picking.{PicksLife};
 ghost use Rattle.slot_picks.specs.declared.crowd.Place.{Place as PlaceOf};
 ghost use Rattle.slot_picks.specs.Crowds.{FewCrowd, FineCrowd, KeepsCrowd, seens_of};
@@ -12,14 +12,14 @@ ghost use Rattle.slot_picks.specs.Places.{lent};
 
 use code_units::Memory;
 use js_names::Code;
-use life_picks::life_queue::Life;
 use life_picks::pick_life;
-use life_picks::turn_calls::Shared;
+use life_queue::Life;
 use page_tree::NodeId;
 use pick_laws::{PickEntry, Picked};
 use std::alloc::Global;
 use std::collections::VecDeque;
 use std::mem::swap;
+use turn_returns::Shared;
 
 /// A life in its place, with the trees of its own scripts: those of the libraries that its file names, in
 /// their order, and then that of its last script.

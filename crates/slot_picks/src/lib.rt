@@ -11,6 +11,3 @@ pub use crowd::{Crowd, Place, spent_at};
 pub use ready::ready_slots;
 pub use settling::settle_slots;
 pub use slots::{Slot, pick_slot, present};
-
-// Handed on to the crates above, which name it so.
-pub use life_picks::{js_steps, life_queue, turn_calls};

@@ -4,8 +4,8 @@ ghost use Rattle.life_laws.specs.Life.{ready};
 ghost use Rattle.pick_laws.specs.Journal.{ready_from};
 ghost use Rattle.slot_laws.specs.Settled.{slot_flags};
 ghost use Rattle.slot_laws.specs.Slots.{Each, slot_ready};
-ghost use Rattle.life_picks.specs.life_queue.Lives.{life_seen};
-ghost use Rattle.life_picks.specs.turn_calls.declared.turn.Shared.{Shared as SharedOf};
+ghost use Rattle.life_queue.specs.Lives.{life_seen};
+ghost use Rattle.turn_returns.specs.declared.turn.Shared.{Shared as SharedOf};
 ghost use Rattle.slot_picks.specs.declared.slots.Slot.{Slot as SlotOf};
 ghost use Rattle.slot_picks.specs.Crowds.{AreHoused, chains_of, seens_of};
 ghost use Rattle.slot_picks.specs.Places.{seen_at, seens_from};
@@ -13,7 +13,7 @@ ghost use Rattle.slot_picks.specs.Places.{seen_at, seens_from};
 use crate::crowd::{Crowd, Place};
 use crate::slots::{Slot, present};
 use code_units::Memory;
-use life_picks::life_queue::Life;
+use life_queue::Life;
 use std::alloc::Global;
 
 // Whether a turn of a life is in progress, or something is queued.

@@ -11,21 +11,21 @@ use Rattle.native_image.specs.Sound.{HoldsOwn}
 use Rattle.page_tree.specs.declared.page.Page.{Page}
 use Rattle.reach_cert.specs.Certs as cert
 use Rattle.slot_laws.specs.Chains.{last_life}
-use Rattle.slot_rounds.specs.page_load.slot_picks.declared.crowd.Crowd.{Crowd}
-use Rattle.slot_rounds.specs.page_load.slot_picks.declared.crowd.Place.{Place}
-use Rattle.slot_rounds.specs.page_load.slot_picks.declared.slots.Slot.{Slot}
-use Rattle.slot_rounds.specs.page_load.slot_picks.turn_calls.declared.turn.Shared.{Shared}
-use Rattle.slot_rounds.specs.page_load.slot_picks.Crowds.{AreStanding, OwnCrowd}
-use Rattle.slot_rounds.specs.page_load.slot_picks.Places.{HoldsItsOwn, OwnPlaces, homes_of}
+use Rattle.slot_picks.specs.declared.crowd.Crowd.{Crowd}
+use Rattle.slot_picks.specs.declared.crowd.Place.{Place}
+use Rattle.slot_picks.specs.declared.slots.Slot.{Slot}
+use Rattle.turn_returns.specs.declared.turn.Shared.{Shared}
+use Rattle.slot_picks.specs.Crowds.{AreStanding, OwnCrowd}
+use Rattle.slot_picks.specs.Places.{HoldsItsOwn, OwnPlaces, homes_of}
 use Rattle.reach_cert.specs.Walks.{KeepsIn}
 use Rattle.store_reach.specs.Reads.{read_slot}
 use Rattle.native_image.specs.Image.{Outside, beside, image}
 use Rattle.js_names.specs.Code.{trees_of}
 use Rattle.life_laws.specs.Life as todo
 use Rattle.life_laws.specs.Life.{Going}
-use Rattle.slot_rounds.specs.page_load.slot_picks.life_queue.Lives.{life_seen, outside}
+use Rattle.life_queue.specs.Lives.{life_seen, outside}
 use Rattle.widget_meaning.specs.OwnState.{OwnState}
-use Rattle.slot_rounds.specs.page_load.slot_picks.Places.{lent}
+use Rattle.slot_picks.specs.Places.{lent}
 use Rattle.state_reach.specs.Differ.{AllDiffer}
 use Rattle.state_reach.specs.States.{cert_of_states, slot_of_state, state_slot}
 use Rattle.slot_reach.specs.Lasts.{life_read, names_before, reached, slot_read, state_at, state_in, states}

@@ -1,5 +1,5 @@
 -- How many lines a certificate has, and the names in it.
-use Rattle.std.proofs.Common.{◌≡◌, ℕ, zero, suc, ◌+◌, ◌*◌, ◌<◌, ◌≤◌, List, [], ◌∷◌, filter, map, length, refl, sym, ap, subst, ◌∙◌, arith, Bool, true, false, Option, Some, None, if◌then◌else◌, slice_get, length-append}
+use Rattle.std.proofs.Common.{◌≡◌, ℕ, suc, ◌+◌, ◌*◌, ◌<◌, ◌≤◌, List, [], ◌∷◌, filter, map, length, refl, sym, ap, subst, ◌∙◌, arith, Bool, true, false, Option, Some, None, if◌then◌else◌, slice_get, length-append}
 use Rattle.std.proofs.lemmas.List.{length-map}
 use Rattle.std.specs.List.{IsDistinct, flat_map, list_all}
 use Rattle.std.specs.Option.{option_map_or}
@@ -11,12 +11,12 @@ use Rattle.reach_cert.specs.Certs.{EndLine, HeldLine, Row, cell_lines, cert_line
 use Rattle.reach_cert.specs.Shape.{IsCert, is_name, slot_name}
 use Rattle.reach_cert.specs.Walks.{IsConfined}
 use Rattle.slot_laws.specs.Chains.{last_life}
-use Rattle.slot_rounds.specs.page_load.slot_picks.declared.crowd.Crowd.{Crowd}
-use Rattle.slot_rounds.specs.page_load.slot_picks.declared.crowd.Place.{Place}
-use Rattle.slot_rounds.specs.page_load.slot_picks.declared.slots.Slot.{Slot}
-use Rattle.slot_rounds.specs.page_load.slot_picks.turn_calls.declared.turn.Shared.{Shared}
-use Rattle.slot_rounds.specs.page_load.slot_picks.Crowds.{AreStanding}
-use Rattle.slot_rounds.specs.page_load.slot_picks.Places.{homes_of}
+use Rattle.slot_picks.specs.declared.crowd.Crowd.{Crowd}
+use Rattle.slot_picks.specs.declared.crowd.Place.{Place}
+use Rattle.slot_picks.specs.declared.slots.Slot.{Slot}
+use Rattle.turn_returns.specs.declared.turn.Shared.{Shared}
+use Rattle.slot_picks.specs.Crowds.{AreStanding}
+use Rattle.slot_picks.specs.Places.{homes_of}
 use Rattle.store_reach.specs.Reads.{cell_row, cell_rows, held_refs, read_slot}
 use Rattle.slot_reach.specs.Lasts.{AreFew, AreNames, life_read, names_before, names_of, reached, slot_read}
 use Rattle.slot_reach.proofs.Naming.{chain_at, low_last}

@@ -6,12 +6,12 @@ use Rattle.store_cells.proofs.Lists.{none_some, some_same}
 use Rattle.life_laws.specs.Life.{Seen, image}
 use Rattle.slot_laws.specs.Chains.{last_life}
 use Rattle.slot_laws.specs.Settled.{flag}
-use Rattle.slot_rounds.specs.page_load.slot_picks.declared.crowd.Crowd.{Crowd}
-use Rattle.slot_rounds.specs.page_load.slot_picks.declared.crowd.Place.{Place}
-use Rattle.slot_rounds.specs.page_load.slot_picks.declared.slots.Slot.{Slot}
-use Rattle.slot_rounds.specs.page_load.slot_picks.life_queue.Lives.{life_seen}
-use Rattle.slot_rounds.specs.page_load.slot_picks.turn_calls.declared.turn.Shared.{Shared}
-use Rattle.slot_rounds.specs.page_load.slot_picks.Places.{is_accepted, lent, seen_at, seens_from}
+use Rattle.slot_picks.specs.declared.crowd.Crowd.{Crowd}
+use Rattle.slot_picks.specs.declared.crowd.Place.{Place}
+use Rattle.slot_picks.specs.declared.slots.Slot.{Slot}
+use Rattle.life_queue.specs.Lives.{life_seen}
+use Rattle.turn_returns.specs.declared.turn.Shared.{Shared}
+use Rattle.slot_picks.specs.Places.{is_accepted, lent, seen_at, seens_from}
 use Rattle.widget_meaning.specs.OwnState.{OwnState}
 use Rattle.slot_reach.specs.Lasts.{AreLast, IsLast, names_of, state_at, states}
 

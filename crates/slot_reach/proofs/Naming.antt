@@ -5,7 +5,7 @@ use Rattle.std.proofs.lemmas.Bool.Decides.{nat_tests}
 use Rattle.store_cells.proofs.Lists.{none_some, some_same}
 use Rattle.slot_laws.specs.Chains.{Chains, IsChain, last_from, last_life}
 use Rattle.slot_laws.specs.Slots.{Each}
-use Rattle.slot_rounds.specs.page_load.slot_picks.declared.slots.Slot.{Slot}
+use Rattle.slot_picks.specs.declared.slots.Slot.{Slot}
 use Rattle.slot_reach.specs.Lasts.{name_in, names_before}
 
 -- the last of some numbers

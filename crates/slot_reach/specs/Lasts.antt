@@ -4,14 +4,14 @@ use Rattle.std.specs.List.{IsDistinct, list_all}
 use Rattle.std.specs.Option.{option_and_then, option_map_or}
 use Rattle.std.specs.Str.{bytes_eq}
 use Rattle.slot_laws.specs.Chains.{last_life}
-use Rattle.slot_rounds.specs.page_load.slot_picks.declared.crowd.Crowd.{Crowd}
-use Rattle.slot_rounds.specs.page_load.slot_picks.declared.crowd.Place.{Place}
-use Rattle.slot_rounds.specs.page_load.slot_picks.declared.slots.Slot.{Slot}
+use Rattle.slot_picks.specs.declared.crowd.Crowd.{Crowd}
+use Rattle.slot_picks.specs.declared.crowd.Place.{Place}
+use Rattle.slot_picks.specs.declared.slots.Slot.{Slot}
 use Rattle.life_laws.specs.Life.{Seen, image}
-use Rattle.slot_rounds.specs.page_load.slot_picks.life_queue.Lives.{life_seen}
-use Rattle.slot_rounds.specs.page_load.slot_picks.Places.{is_accepted, lent}
-use Rattle.slot_rounds.specs.page_load.slot_picks.Crowds.{seens_of}
-use Rattle.slot_rounds.specs.page_load.slot_picks.turn_calls.declared.turn.Shared.{Shared}
+use Rattle.life_queue.specs.Lives.{life_seen}
+use Rattle.slot_picks.specs.Places.{is_accepted, lent}
+use Rattle.slot_picks.specs.Crowds.{seens_of}
+use Rattle.turn_returns.specs.declared.turn.Shared.{Shared}
 use Rattle.reach_cert.specs.Certs as cert
 use Rattle.reach_cert.specs.Shape.{is_name}
 use Rattle.widget_meaning.specs.OwnState.{OwnState}

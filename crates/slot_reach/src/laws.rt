@@ -1,8 +1,8 @@
 //! Own states of last lives.
 ghost use Rattle.std.specs.Prelude.{◌≡◌, List, Option};
 ghost use Rattle.std.specs.List.{zip};
-ghost use Rattle.slot_rounds.specs.page_load.slot_picks.declared.crowd.Crowd.{Crowd};
-ghost use Rattle.slot_rounds.specs.page_load.slot_picks.declared.slots.Slot.{Slot};
+ghost use Rattle.slot_picks.specs.declared.crowd.Crowd.{Crowd};
+ghost use Rattle.slot_picks.specs.declared.slots.Slot.{Slot};
 ghost use Rattle.slot_reach.specs.Lasts.{AreLast, names_of, states};
 ghost use Rattle.widget_meaning.specs.OwnState.{OwnState};
 

@@ -8,6 +8,3 @@ mod slots;
 
 pub use laws::lasts_are_told;
 pub use slots::reach;
-
-// Handed on to the crates above, which name it so.
-pub use slot_rounds;

@@ -4,7 +4,7 @@ ghost use Rattle.slot_laws.specs.Chains.{last_life};
 ghost use Rattle.slot_reach.specs.Lasts.{name_in, names_before};
 
 use code_units::{Memory, Text};
-use slot_rounds::page_load::slot_picks::Slot;
+use slot_picks::Slot;
 use std::alloc::Global;
 
 /// The last life of a slot.

@@ -3,7 +3,7 @@ ghost use Rattle.std.specs.Prelude.{◌≡◌, ◌<◌, IfOk, length, map};
 ghost use Rattle.reach_cert.specs.Certs.{cert_lines, plain, slot_of};
 ghost use Rattle.reach_cert.specs.Shape.{IsCert, slot_name};
 ghost use Rattle.reach_cert.specs.Walks.{IsConfined};
-ghost use Rattle.slot_rounds.specs.page_load.slot_picks.Crowds.{AreStanding, OwnCrowd};
+ghost use Rattle.slot_picks.specs.Crowds.{AreStanding, OwnCrowd};
 ghost use Rattle.slot_reach.specs.Lasts.{AreFew, AreNames, life_read, names_of, reached, slot_read, states};
 ghost use Rattle.state_reach.specs.States.{cert_of_states};
 
@@ -11,11 +11,11 @@ use crate::few::cells_are_few;
 use crate::names::{last_of, name_all};
 use code_units::{Memory, Text};
 use reach_cert::{Block, Cert, confined_has_shape, each_slot_keeps_in};
-use slot_rounds::page_load::slot_picks::turn_calls::Shared;
-use slot_rounds::page_load::slot_picks::{Crowd, Place, Slot};
+use slot_picks::{Crowd, Place, Slot};
 use state_reach::{names_all_differ, states_are_read};
 use std::alloc::Global;
 use store_reach::{own_stays, read_block};
+use turn_returns::Shared;
 
 // The block of a life, of a slot with this name.
 fn read_life(

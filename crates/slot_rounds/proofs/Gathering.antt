@@ -12,10 +12,10 @@ use Rattle.post_rounds.specs.declared.posts.PostEvent.{PostEvent}
 use Rattle.post_rounds.specs.Events.{values}
 use Rattle.post_rounds.specs.News.{all_news, news}
 use Rattle.slot_laws.specs.Chains.{last_life}
-use Rattle.page_load.specs.slot_picks.declared.crowd.Place.{Place}
-use Rattle.page_load.specs.slot_picks.declared.slots.Slot.{Slot}
-use Rattle.page_load.specs.slot_picks.Crowds.{chains_of}
-use Rattle.page_load.specs.slot_picks.Places.{is_accepted}
+use Rattle.slot_picks.specs.declared.crowd.Place.{Place}
+use Rattle.slot_picks.specs.declared.slots.Slot.{Slot}
+use Rattle.slot_picks.specs.Crowds.{chains_of}
+use Rattle.slot_picks.specs.Places.{is_accepted}
 use Rattle.widget_meaning.specs.Limits.{max_posts}
 use Rattle.slot_rounds.specs.Feeding.{AreStill, counts_for, events_for, sum_of}
 use Rattle.slot_rounds.specs.Posting.{HaveRound, IsRound, fresh_in, fresh_of_life, fresh_of_lasts, post_in}

@@ -6,7 +6,7 @@ use Rattle.std.specs.Option.{option_map}
 use Rattle.std.proofs.lemmas.List.Sums.{fold-append}
 use Rattle.std.proofs.lemmas.List.{append-nil}
 use Rattle.life_laws.specs.Life as todo
-use Rattle.life_laws.specs.Life.{Seen, due, held, image, potentials}
+use Rattle.life_laws.specs.Life.{Seen, due, held}
 use Rattle.slot_laws.specs.Slots.{Each}
 use Rattle.slot_laws.specs.Chains.{Chains, IsChain, last_from, last_life}
 use Rattle.widget_meaning.specs.OwnState.{OwnState}

@@ -4,11 +4,11 @@ use Rattle.std.specs.Prelude.{codes}
 use Rattle.event_loop.specs.declared.delivery.Event.{Event as Told}
 use Rattle.widget_meaning.specs.Items.{Occurs}
 use Rattle.round_laws.specs.Fed.{event_of}
-use Rattle.page_load.specs.life_queue.Lives as lives
+use Rattle.life_queue.specs.Lives as lives
 use Rattle.std.proofs.lemmas.List.{append-nil, map-append, take_more}
 use Rattle.post_rounds.specs.declared.posts.PostEvent.{PostEvent}
 use Rattle.post_rounds.specs.Events.{values}
-use Rattle.page_load.specs.life_queue.declared.life.Work.{Work}
+use Rattle.life_queue.specs.declared.life.Work.{Work}
 use Rattle.slot_rounds.specs.Posting.{AreEvents, HasEvents, IsEvent}
 
 pub no_events : (q : List Work) → HasEvents [] q q

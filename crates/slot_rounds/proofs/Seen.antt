@@ -15,13 +15,13 @@ use Rattle.post_rounds.specs.declared.posts.Post.{Post}
 use Rattle.post_rounds.specs.News.{all_news, news}
 use Rattle.round_laws.specs.Fed.{AreQuiet, Fed, event_of, fresh, posts_of, round}
 use Rattle.round_laws.specs.Fed as fed
-use Rattle.page_load.specs.turn_calls.declared.turn.Shared.{Shared}
-use Rattle.page_load.specs.life_queue.declared.life.Work.{Work}
-use Rattle.page_load.specs.life_queue.declared.life.Work.TheVariants as work
-use Rattle.page_load.specs.life_queue.Lives as lives
-use Rattle.page_load.specs.life_queue.Lives.{life_seen, outside, trees_in, work_of}
-use Rattle.page_load.specs.slot_picks.declared.crowd.Place.{Place}
-use Rattle.page_load.specs.slot_picks.Places.{is_accepted, lent, seen_at, seens_from, told_of}
+use Rattle.turn_returns.specs.declared.turn.Shared.{Shared}
+use Rattle.life_queue.specs.declared.life.Work.{Work}
+use Rattle.life_queue.specs.declared.life.Work.TheVariants as work
+use Rattle.life_queue.specs.Lives as lives
+use Rattle.life_queue.specs.Lives.{life_seen, trees_in, work_of}
+use Rattle.slot_picks.specs.declared.crowd.Place.{Place}
+use Rattle.slot_picks.specs.Places.{is_accepted, lent, seen_at, seens_from, told_of}
 use Rattle.slot_rounds.specs.Feeding.{AreFed, AreStill, Delivers, HaveDone, IsLastFed, counts_for, events_for, fresh_lasts, gets, given_events, posts_seen, told_more, with_more}
 use Rattle.slot_rounds.specs.Posting.{AreAlike, AreEvents, GivesRound, HasRound, HaveRound, IsAlike, IsEvent, IsRound, WereGiven, fresh_of_life, fresh_of_lasts, post_in}
 use Rattle.slot_rounds.proofs.More.{given_none}

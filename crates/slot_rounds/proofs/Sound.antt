@@ -9,13 +9,13 @@ use Rattle.life_laws.specs.Life as todo
 use Rattle.life_laws.specs.Life.{Seen, image, potentials}
 use Rattle.round_laws.specs.Fed.{event_of}
 use Rattle.slot_laws.specs.Chains.{Chains, last_life}
-use Rattle.page_load.specs.turn_calls.declared.turn.Shared.{Shared}
-use Rattle.page_load.specs.life_queue.declared.life.Work.{Work}
-use Rattle.page_load.specs.life_queue.declared.life.Work.TheVariants as work
-use Rattle.page_load.specs.life_queue.Lives.{life_seen, trees_in, work_of, works_of}
-use Rattle.page_load.specs.life_queue.Fine.{FineLife, FineWork, tally}
-use Rattle.page_load.specs.slot_picks.declared.crowd.Place.{Place}
-use Rattle.page_load.specs.slot_picks.Places.{FewPlace, FewPlaces, FinePlace, FinePlaces, lent}
+use Rattle.turn_returns.specs.declared.turn.Shared.{Shared}
+use Rattle.life_queue.specs.declared.life.Work.{Work}
+use Rattle.life_queue.specs.declared.life.Work.TheVariants as work
+use Rattle.life_queue.specs.Lives.{life_seen, trees_in, work_of, works_of}
+use Rattle.life_queue.specs.Fine.{FineLife, FineWork, tally}
+use Rattle.slot_picks.specs.declared.crowd.Place.{Place}
+use Rattle.slot_picks.specs.Places.{FewPlace, FewPlaces, FinePlace, FinePlaces, lent}
 use Rattle.slot_rounds.specs.Feeding.{events_for, given_events, with_more}
 use Rattle.slot_rounds.specs.Posting.{AreEvents, HasRound, HaveRound, IsEvent}
 use Rattle.slot_rounds.proofs.More.{events_none, last_home}

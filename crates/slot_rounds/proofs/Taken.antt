@@ -9,8 +9,8 @@ use Rattle.slot_laws.specs.Chains.{Chains, last_life}
 use Rattle.post_rounds.specs.declared.posts.Post.{Post}
 use Rattle.post_rounds.specs.News.{all_news, heard, is_declared, is_to, name, news, news_from, value_of}
 use Rattle.widget_meaning.specs.Limits.{max_posts}
-use Rattle.page_load.specs.slot_picks.declared.crowd.Place.{Place}
-use Rattle.page_load.specs.slot_picks.Places.{homes_of, is_accepted, told_of}
+use Rattle.slot_picks.specs.declared.crowd.Place.{Place}
+use Rattle.slot_picks.specs.Places.{homes_of, is_accepted, told_of}
 use Rattle.slot_rounds.specs.Feeding.{AreStill, counts_for, events_for, sum_of, told_more}
 use Rattle.slot_rounds.specs.Posting.{HaveRound, IsRound, fresh_of_life, fresh_of_lasts, post_in}
 use Rattle.slot_rounds.proofs.More.{chain_at, counts_none, last_each, last_home, some_is, told_at}

@@ -1,7 +1,7 @@
 -- Rounds of posts over what is seen of all lives: what the last lives of slots were given, and what a round gives them.
 use Rattle.std.specs.Prelude.{◌≡◌, ℕ, ◌+◌, ◌++◌, Bool, true, false, if◌then◌else◌, List, [], ◌∷◌, drop, map, nat_eq, Option, None, Some, slice_get, slice_index_or}
 use Rattle.std.specs.List.{list_any}
-use Rattle.life_laws.specs.Life.{Seen, Work, due, image}
+use Rattle.life_laws.specs.Life.{Seen, due, image}
 use Rattle.life_laws.specs.Life as todo
 use Rattle.slot_laws.specs.Chains.{last_life}
 use Rattle.post_rounds.specs.declared.posts.Post.{Post}

@@ -6,12 +6,12 @@ use Rattle.widget_meaning.specs.Items.{Occurs}
 use Rattle.widget_meaning.specs.Limits.{max_posts}
 use Rattle.round_laws.specs.Fed.{Fed, event_of}
 use Rattle.slot_laws.specs.Chains.{last_life}
-use Rattle.page_load.specs.life_queue.declared.life.Work.{Work}
-use Rattle.page_load.specs.life_queue.declared.life.Work.TheVariants as work
-use Rattle.page_load.specs.life_queue.Lives as lives
-use Rattle.page_load.specs.slot_picks.declared.crowd.Place.{Place}
-use Rattle.page_load.specs.turn_calls.declared.turn.Shared.{Shared}
-use Rattle.page_load.specs.slot_picks.Places.{is_accepted, seens_from, told_of}
+use Rattle.life_queue.specs.declared.life.Work.{Work}
+use Rattle.life_queue.specs.declared.life.Work.TheVariants as work
+use Rattle.life_queue.specs.Lives as lives
+use Rattle.slot_picks.specs.declared.crowd.Place.{Place}
+use Rattle.turn_returns.specs.declared.turn.Shared.{Shared}
+use Rattle.slot_picks.specs.Places.{is_accepted, seens_from, told_of}
 use Rattle.slot_rounds.specs.Feeding.{AreFed, AreStill, Delivers, HaveDone, counts_for, events_for}
 
 -- a kept post, by receiver and text

@@ -4,10 +4,10 @@ ghost use Rattle.std.specs.List.{IsDistinct};
 ghost use Rattle.std.specs.Str.{bytes_eq};
 ghost use Rattle.life_laws.specs.Life.{image};
 ghost use Rattle.slot_laws.specs.Chains.{Chains};
-ghost use Rattle.page_load.specs.slot_picks.Crowds.{chains_of};
-ghost use Rattle.page_load.specs.slot_picks.Places.{homes_of, seens_from, told_of};
-ghost use Rattle.page_load.specs.slot_picks.declared.slots.Slot.{Slot as SlotOf};
-ghost use Rattle.page_load.specs.turn_calls.declared.turn.Shared.{Shared};
+ghost use Rattle.slot_picks.specs.Crowds.{chains_of};
+ghost use Rattle.slot_picks.specs.Places.{homes_of, seens_from, told_of};
+ghost use Rattle.slot_picks.specs.declared.slots.Slot.{Slot as SlotOf};
+ghost use Rattle.turn_returns.specs.declared.turn.Shared.{Shared};
 ghost use Rattle.widget_meaning.specs.Limits.{max_posts};
 ghost use Rattle.slot_rounds.specs.Feeding.{is_last, sum_of};
 ghost use Rattle.slot_rounds.specs.Posting.{AreAlike, GivesRound, IsRound};
@@ -15,8 +15,8 @@ ghost use Rattle.slot_rounds.specs.Posting.{AreAlike, GivesRound, IsRound};
 use crate::giving::give_slots;
 use crate::posting::{all_fresh, all_names, is_quiet, post_kind};
 use code_units::Memory;
-use page_load::slot_picks::{Place, Slot};
 use post_rounds::round;
+use slot_picks::{Place, Slot};
 use std::alloc::Global;
 
 /// One round: each post of the last life of a slot that no round has taken, to a slot to which a channel leads from

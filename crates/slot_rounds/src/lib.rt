@@ -6,6 +6,3 @@ mod giving;
 mod posting;
 
 pub use delivering::deliver_posts;
-
-// Handed on to the crates above, which name it so.
-pub use page_load;

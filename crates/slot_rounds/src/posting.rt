@@ -3,17 +3,17 @@ ghost use Rattle.std.specs.Prelude.{◌≡◌, ◌≢◌, ◌<◌, ◌≤◌, �
 ghost use Rattle.widget_meaning.specs.Limits.{max_posts};
 ghost use Rattle.post_rounds.specs.Events.{values};
 ghost use Rattle.slot_laws.specs.Chains.{Chains, last_life};
-ghost use Rattle.page_load.specs.slot_picks.Crowds.{chains_of};
-ghost use Rattle.page_load.specs.slot_picks.Places.{homes_of, is_accepted};
-ghost use Rattle.page_load.specs.slot_picks.declared.slots.Slot.{Slot as SlotOf};
+ghost use Rattle.slot_picks.specs.Crowds.{chains_of};
+ghost use Rattle.slot_picks.specs.Places.{homes_of, is_accepted};
+ghost use Rattle.slot_picks.specs.declared.slots.Slot.{Slot as SlotOf};
 ghost use Rattle.slot_rounds.specs.Feeding.{AreStill};
 ghost use Rattle.slot_rounds.specs.Posting.{fresh_in, fresh_of_lasts, post_in};
 
 use crate::giving::last_of;
 use code_units::{Memory, Text, push_ascii};
 use event_loop::Event;
-use page_load::slot_picks::{Place, Slot};
 use post_rounds::{Post, PostEvent};
+use slot_picks::{Place, Slot};
 use std::alloc::Global;
 
 // The most posts that a life keeps.

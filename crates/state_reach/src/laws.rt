@@ -1,5 +1,5 @@
 //! What is read of a widget that keeps to its own is the certificate of its own state.
-ghost use Rattle.std.specs.Prelude.{◌≡◌, ◌<◌, ℕ, Bool, List, None, OnOk, Option, Some, length, slice_index_or};
+ghost use Rattle.std.specs.Prelude.{◌≡◌, ◌<◌, ℕ, Bool, List, None, OnOk, Option, Some, slice_index_or};
 ghost use Rattle.event_loop.specs.declared.around.Loop.{Loop as LoopOf};
 ghost use Rattle.js_image.specs.Held.{IsConfined};
 ghost use Rattle.js_tree.specs.Forest.{Forest};

@@ -1,4 +1,5 @@
 mod Counted
 mod Steps
+mod Named
 mod Nodes
 pub mod Owning

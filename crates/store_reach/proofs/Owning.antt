@@ -3,10 +3,8 @@ use Rattle.std.proofs.Common.{◌≡◌, ℕ, zero, suc, ◌<◌, List, [], ◌�
 use Rattle.std.specs.Prelude.{IfSome, option_to_list, slice_index_or}
 use Rattle.std.specs.List.{AllByRecursion, flat_map, list_any}
 use Rattle.std.specs.Option.{option_and_then, option_map_or}
-use Rattle.std.specs.Str.{bytes_eq}
+use Rattle.code_units.specs.Permitted.{is_permitted}
 use Rattle.std.proofs.lemmas.Bool.Decides.{nat_tests}
-use Rattle.std.proofs.lemmas.Slice.Eq.{bytes_eq-Decides}
-use Rattle.code_units.specs.Permitted.{is_banned, has_edge_underscore, is_permitted}
 use Rattle.code_units.specs.declared.owner.Owner.{Owner}
 use Rattle.code_units.specs.declared.owner.Owner.TheVariants as whose
 use Rattle.js_tree.specs.Forest.{Forest}
@@ -35,6 +33,7 @@ use Rattle.reach_cert.specs.Certs.{Row}
 use Rattle.reach_cert.specs.Walks.{KeepsIn, leaves, some_leaves}
 use Rattle.store_reach.specs.Reads.{cell_row, cell_rows, handler_refs, held_refs, is_global, lined, name_of, open_refs, other_ref, pair_refs, read_slot, ref_at, scope_refs, timer_refs, value_refs}
 use Rattle.store_reach.specs.Telling.{TellsCell}
+use Rattle.store_reach.proofs.Named.{bytes_same, hidden_name}
 use Rattle.store_reach.proofs.Steps.{Pair}
 
 -- ## Lists
@@ -92,14 +91,6 @@ number_by cells i o f = option_and_then (λ w. if is_visible_form f then Some (o
 
 abbrev pub told_by : List (Option (List ℕ)) → List PlainCell → ℕ → Owner → Form → Ref
 told_by names cells i o f = if is_global f then ref.Global else lined (name_of names o) (number_by cells i o f)
-
-bytes_same : (a : List ℕ) → bytes_eq a a ≡ true
-bytes_same a = (bytes_eq-Decides a a).1 refl
-
--- the hidden name of a Bunch
-hidden_name : is_permitted nodes_name ≡ false
-unfolding has_edge_underscore is_banned
-hidden_name = refl
 
 below : {X : Type 0} (xs : List X) (k : ℕ) (x : X) → slice_get xs k ≡ Some x → k < length xs
 below [] k x e = absurd (none_some e)

@@ -122,3 +122,12 @@ next_items f xs k x old mid new y lt e = more_items f xs k x old mid new y (get_
 
 pub past_items : {X R : Type 0} (f : X → R) (xs : List X) (k : ℕ) (old new : List R) → length xs ≤ k → new ≡ old ++ map f (take k xs) → new ≡ old ++ map f xs
 past_items f xs k old new past front = front ∙ ap (λ l. old ++ map f l) (take_all k xs past)
+
+-- ## Items of which each gives several
+
+pub next_flat : {X R : Type 0} (f : X → List R) (xs : List X) (k : ℕ) (x : X) (old mid new : List R) → k < length xs → x ≡ get_or xs k x → mid ≡ old ++ flat_map f (take k xs) → new ≡ mid ++ f x → new ≡ old ++ flat_map f (take (k + 1) xs)
+next_flat f xs k x old mid new lt e front more =
+    rw add-one (more ∙ ap (λ l. l ++ f x) front ∙ append_assoc old (flat_map f (take k xs)) (f x) ∙ ap (λ l. old ++ l) (sym (flat_more f xs k x (get_or_at xs k x lt e))))
+
+pub past_flat : {X R : Type 0} (f : X → List R) (xs : List X) (k : ℕ) (old new : List R) → length xs ≤ k → new ≡ old ++ flat_map f (take k xs) → new ≡ old ++ flat_map f xs
+past_flat f xs k old new past front = front ∙ ap (λ l. old ++ flat_map f l) (take_all k xs past)

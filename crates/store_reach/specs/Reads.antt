@@ -8,8 +8,9 @@ use Rattle.store_cells.specs.declared.kind.Form.{Form}
 use Rattle.store_cells.specs.declared.kind.Form.TheVariants as form
 use Rattle.store_cells.specs.declared.value.Value.{Value}
 use Rattle.store_cells.specs.declared.value.Value.TheVariants as value
-use Rattle.store_cells.specs.Cells.{PlainCell, is_visible, own_number_of, proto_in, widget_of}
+use Rattle.store_cells.specs.Cells.{PlainCell, first_own, is_visible, own_number_of, proto_in, widget_of}
 use Rattle.store_cells.specs.Host.{is_permitted_cell}
+use Rattle.object_store.specs.Calls.{readable}
 use Rattle.object_store.specs.Owned.{is_own_scope}
 use Rattle.event_loop.specs.declared.around.Loop.{Loop}
 use Rattle.event_loop.specs.Around.{kept, timers}
@@ -61,6 +62,10 @@ module _ (names : List (Option (List ℕ))) (cells : List PlainCell) where
   -- those of pairs, in their order
   abbrev pub pair_refs : List (List ℕ × Value) → List Ref
   pair_refs ps = flat_map (λ p. value_refs p.1) ps
+
+  -- those of the first own value under a name, from the cell at a place on
+  abbrev pub named_refs : ℕ → List ℕ → List Ref
+  named_refs i name = flat_map value_refs (option_to_list (first_own name (readable cells i)))
 
   -- those of a pair under a permitted name
   abbrev pub open_refs : List ℕ × Value → List Ref

@@ -1,18 +1,15 @@
 //! The lines of a widget's cells.
-ghost use Rattle.std.specs.Prelude.{◌≡◌, ◌<◌, ◌++◌, ◌∷◌, [], IfOk, IfSome, OnOk, Some, if◌then◌else◌, length, map, option_to_list, slice_get};
+ghost use Rattle.std.specs.Prelude.{◌≡◌, ◌<◌, ◌++◌, ◌∷◌, [], IfOk, IfSome, OnOk, if◌then◌else◌, length, map, option_to_list, slice_get};
 ghost use Rattle.std.specs.List.{flat_map};
-ghost use Rattle.std.specs.Option.{option_map};
-ghost use Rattle.code_units.specs.Permitted.{is_permitted};
-ghost use Rattle.store_cells.specs.Arrays.{is_reference};
 ghost use Rattle.store_cells.specs.Cells.{is_visible, is_visible_form, kind_of, proto_in};
 ghost use Rattle.store_cells.specs.declared.kind.Form.{Form as FormOf};
 ghost use Rattle.reach_cert.specs.Certs.{row_of};
-ghost use Rattle.store_reach.specs.Reads.{cell_row, cell_rows, open_refs, ref_at, row_kind};
+ghost use Rattle.store_reach.specs.Reads.{cell_row, cell_rows, named_refs, open_refs, ref_at, row_kind};
 
 use crate::counts::count_cells;
 use crate::references::{push_value, reference};
-use code_units::{Memory, Owner, Text, permitted};
-use object_store::{CellId, CellKind, Store, Value};
+use code_units::{Memory, Owner, Text};
+use object_store::{CellId, CellKind, Store};
 use reach_cert::{CellRow, Ref, RowKind};
 use std::alloc::Global;
 
@@ -29,46 +26,42 @@ fn row_kind(store: &Store, cell: CellId) -> RowKind
     }
 }
 
-// Whether the pair of a cell at a place has a permitted name.
-fn is_open(alloc: Global, store: &Store, cell: CellId, at: u32) -> Result<bool, Memory>
-    requires { cell < length store.now.cells }
-    ensures { IfOk result (λ is. IfSome (slice_get store.now.cells cell) (λ c. IfSome (slice_get c.pairs at) (λ p. is ≡ is_permitted p.0))) }
-{
-    match store.name_at(alloc, cell, at)? {
-        Some(name) => Ok(permitted(&name)),
-        None => Ok(false),
-    }
-}
-
-// Whether a value is a reference.
-fn is_reference(value: &Value) -> bool
-    ensures { result ≡ is_reference value.now }
-{
-    matches!(value, Value::Ref(_))
-}
-
-// What the pair of a cell at a place, which has this value, refers to under a permitted name.
-fn push_open(
-    alloc: Global,
+// What a name leads to from a cell on, where that is a reference.
+fn push_named(
     store: &Store,
     names: &[Option<Text>],
     cell: CellId,
-    at: u32,
-    value: &Value,
+    name: &Text,
     out: &mut Vec<Ref>,
 ) -> Result<(), Memory>
-    requires cell { cell < length store.now.cells }
-    requires value { IfSome (slice_get store.now.cells cell) (λ c. Some value.now ≡ option_map (λ p. p.1) (slice_get c.pairs at)) }
-    ensures { OnOk result (IfSome (slice_get store.now.cells cell) (λ c. IfSome (slice_get c.pairs at) (λ p.
-        out.new.items ≡ out.old.items ++ open_refs names.now store.now.cells p))) }
+    requires { cell < length store.now.cells }
+    ensures { OnOk result (out.new.items ≡ out.old.items ++ named_refs names.now store.now.cells cell name.now) }
 {
-    if is_reference(value) && is_open(alloc, store, cell, at)? {
+    if let Some(value) = store.get(cell, name) {
         push_value(store, names, value, out)?;
     }
     Ok(())
 }
 
-// What a cell refers to under permitted names, in order of insertion.
+// The same of several names.
+fn push_all_named(
+    store: &Store,
+    names: &[Option<Text>],
+    cell: CellId,
+    keys: &[Text],
+    out: &mut Vec<Ref>,
+) -> Result<(), Memory>
+    requires { cell < length store.now.cells }
+    ensures { OnOk result (out.new.items ≡ out.old.items ++ flat_map (named_refs names.now store.now.cells cell) keys.now) }
+{
+    'keys: for name in keys {
+        push_named(store, names, cell, name, out)?;
+    }
+    Ok(())
+}
+
+// What a cell refers to under permitted names, in order of insertion. Each pair is found by its name:
+// to find one by its place takes a walk where names were deleted.
 fn push_pairs(
     alloc: Global,
     store: &Store,
@@ -80,13 +73,12 @@ fn push_pairs(
     ensures { OnOk result (IfSome (slice_get store.now.cells cell) (λ c.
         out.new.items ≡ out.old.items ++ flat_map (open_refs names.now store.now.cells) c.pairs)) }
 {
-    'pairs: for at in 0..u32::MAX {
-        let Some(value) = store.var_at(cell, at) else {
-            return Ok(());
-        };
-        push_open(alloc, store, names, cell, at, value, out)?;
-    }
-    Err(Memory)
+    // These laws say that a name finds its own pair, and that what `keys` leaves out is no reference.
+    store.names_differ(cell);
+    store.arrays_have_length();
+    store.bunches_have_nodes();
+    let keys = store.keys(alloc, cell)?;
+    push_all_named(store, names, cell, &keys, out)
 }
 
 // The prototype of a cell.

@@ -35,7 +35,7 @@ use Rattle.js_image.specs.Held.{IsFine, is_held}
 use Rattle.js_image.specs.Callees.{IsCallee}
 use Rattle.js_image.specs.declared.outcome.Callee.{Callee}
 use Rattle.js_image.specs.declared.outcome.Callee.TheVariants as callee
-use Rattle.native_forms.specs.Receivers.{IsReceiver, is_plain_call, receiver}
+use Rattle.native_common.specs.Receivers.{IsReceiver, is_plain_call, receiver}
 use Rattle.text_methods.specs.declared.kinds.Kind.{Kind}
 use Rattle.text_methods.specs.declared.kinds.Kind.TheVariants as kind
 use Rattle.text_methods.specs.Kinds.{is_part, kind_of, meant_prototype, text_plan}

@@ -15,8 +15,8 @@ use Rattle.widget_meaning.specs.Costs.{give, make_text, throw, want}
 use Rattle.widget_meaning.specs.PrototypeNatives.{boolean_to_string, give_made, in_radix, is_radix, number_text, number_to_string}
 use Rattle.js_image.specs.Image.{meant}
 use Rattle.js_values.specs.Operands.{plain}
-use Rattle.native_forms.specs.Numbers.{optional_number}
-use Rattle.native_forms.specs.Receivers.{receiver}
+use Rattle.native_common.specs.Numbers.{optional_number}
+use Rattle.native_common.specs.Receivers.{receiver}
 use Rattle.plain_natives.proofs.Exits.{optional, wants_one}
 
 -- a radix that is within its bounds

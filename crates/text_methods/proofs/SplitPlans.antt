@@ -12,7 +12,7 @@ use Rattle.widget_meaning.specs.Plan.{Plan, charge}
 use Rattle.widget_meaning.specs.NativeForms.{give_texts, want_primitives}
 use Rattle.widget_meaning.specs.TextNatives.{pieces, split}
 use Rattle.js_image.specs.Image.{meant, seen}
-use Rattle.native_forms.specs.Numbers.{counted}
+use Rattle.native_common.specs.Numbers.{counted}
 
 -- the plan for what is not absent
 abbrev pub by_text : List ℕ → Value → State → Plan

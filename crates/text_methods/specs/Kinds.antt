@@ -1,9 +1,8 @@
 -- The natives of this crate, and what each is in the meaning.
-use Rattle.std.specs.Prelude.{ℕ, List, Bool, true, false, Option, Some}
+use Rattle.std.specs.Prelude.{ℕ, List, Bool, true, false, Some}
 use Rattle.permitted_table.specs.declared.native.NativeId.{NativeId}
 use Rattle.permitted_table.specs.declared.native.NativeId.TheVariants as native
 use Rattle.widget_meaning.specs.NativeNames as names
-use Rattle.widget_meaning.specs.NativeNames.{Family, OfGlobal, OfMath, OfPrototype, OfText, OfEvent}
 use Rattle.widget_meaning.specs.Values.{Value, Text}
 use Rattle.widget_meaning.specs.OwnState.{State}
 use Rattle.widget_meaning.specs.Plan.{Plan}

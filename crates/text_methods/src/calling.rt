@@ -6,8 +6,8 @@ ghost use Rattle.widget_meaning.specs.NativeForms.{on_text};
 ghost use Rattle.widget_meaning.specs.Natives.{run_native};
 ghost use Rattle.js_image.specs.Image.{all_seen};
 ghost use Rattle.js_image.specs.Held.{AreFine, Kept};
-ghost use Rattle.native_forms.specs.Meets.{Meets};
-ghost use Rattle.native_forms.specs.Receivers.{IsReceiver, receiver};
+ghost use Rattle.native_common.specs.Meets.{Meets};
+ghost use Rattle.native_common.specs.Receivers.{IsReceiver, receiver};
 ghost use Rattle.text_methods.specs.Kinds.{is_part, text_plan};
 
 use crate::kinds::{Kind, TextNative, kind_of};
@@ -15,7 +15,7 @@ use crate::prototypes::prototype_native;
 use crate::splitting::split;
 use code_units::{Memory, Owner, Text};
 use js_values::{Fault, Meter, NativeOut};
-use native_forms::nth;
+use native_common::nth;
 use object_store::{NativeId, Store, Value};
 use plain_natives::{
     char_at, char_code_at, concat, cut, global_native, in_case, index_of, last_index_of,

@@ -7,8 +7,8 @@ ghost use Rattle.widget_meaning.specs.PrototypeNatives as means;
 ghost use Rattle.js_image.specs.Image.{all_seen, seen};
 ghost use Rattle.js_image.specs.Held.{Kept};
 ghost use Rattle.js_values.specs.Operands.{plain};
-ghost use Rattle.native_forms.specs.Meets.{Ends, Meets};
-ghost use Rattle.native_forms.specs.Receivers.{IsReceiver, receiver};
+ghost use Rattle.native_common.specs.Meets.{Ends, Meets};
+ghost use Rattle.native_common.specs.Receivers.{IsReceiver, receiver};
 ghost use Rattle.text_methods.specs.Kinds.{meant_prototype};
 
 use crate::kinds::PrototypeNative;
@@ -16,7 +16,9 @@ use crate::radix::radix_text;
 use code_units::{Memory, Text};
 use js_image::{Callee, callee, word};
 use js_values::{Fault, Meter, NativeOut, StopCause};
-use native_forms::{charged, is_object, is_plain_call, make_text, nth, optional_number, read_text};
+use native_common::{
+    charged, is_object, is_plain_call, make_text, nth, optional_number, read_text,
+};
 use object_store::{Number, Store, Value};
 use std::alloc::Global;
 

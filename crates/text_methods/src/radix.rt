@@ -1,5 +1,5 @@
 //! Numbers in a radix (ECMA-262 3rd edition, 15.7.4.2).
-ghost use Rattle.std.specs.Prelude.{◌≡◌, ◌<◌, ◌≤◌, ◌++◌, List, [], false, IfOk, codes, unsigned_abs, if◌then◌else◌, reverse};
+ghost use Rattle.std.specs.Prelude.{◌≡◌, ◌<◌, ◌≤◌, ◌++◌, [], false, IfOk, codes, unsigned_abs, if◌then◌else◌, reverse};
 ghost use Rattle.std.specs.Fmt.{digit_glyph, digits};
 ghost use Rattle.std.specs.Int.{is_negative};
 

@@ -1,16 +1,16 @@
 //! `split` (ECMA-262 3rd edition, 15.5.4.14, without expressions and limit).
-ghost use Rattle.std.specs.Prelude.{◌≡◌, ◌<◌, ◌++◌, ◌∷◌, [], ℕ, List, IfOk, OnErr, OnOk, length, map, sum_by};
+ghost use Rattle.std.specs.Prelude.{◌≡◌, ◌<◌, ◌++◌, ◌∷◌, [], List, IfOk, OnErr, OnOk, length, map, sum_by};
 ghost use Rattle.js_tree.specs.Forest.{Forest};
 ghost use Rattle.widget_meaning.specs.TextNatives as means;
 ghost use Rattle.widget_meaning.specs.Values.{Undefined};
 ghost use Rattle.js_image.specs.Image.{seen};
 ghost use Rattle.js_image.specs.Held.{Kept};
-ghost use Rattle.native_forms.specs.Meets.{Meets};
-ghost use Rattle.native_forms.specs.Numbers.{counted};
+ghost use Rattle.native_common.specs.Meets.{Meets};
+ghost use Rattle.native_common.specs.Numbers.{counted};
 
 use code_units::{Memory, Text};
 use js_values::{Fault, Meter, NativeOut};
-use native_forms::{give_array, give_texts, is_object, read_text, take, text_len};
+use native_common::{give_array, give_texts, is_object, read_text, take, text_len};
 use object_store::{Store, Value};
 use std::alloc::Global;
 use text_search::Needle;

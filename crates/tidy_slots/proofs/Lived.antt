@@ -11,8 +11,8 @@ use Rattle.post_rounds.specs.News.{news}
 use Rattle.round_laws.specs.Fed.{Fed, state, posts_of, fresh_of, fresh, event_of, fed_on, round_from, round, AreQuiet, IsQuiet, RoundsTo, ended, again}
 use Rattle.place_laws.specs.Bare.{bare_content, bare_own}
 use Rattle.place_laws.proofs.Alone.{alone_bare}
-use Rattle.page_spec.specs.Pages.{root_of, roots}
-use Rattle.page_judge.specs.Runs.{SlotRun}
+use Rattle.page_plan.specs.Pages.{root_of, roots}
+use Rattle.page_check.specs.Runs.{SlotRun}
 use Rattle.slot_lives.specs.Lives.{Life}
 use Rattle.slot_lives.specs.Lines.{life_line}
 use Rattle.slot_lives.specs.Ends.{life_name, Begins, accepted, broken, IsLine, ran, refused, end_of, AllBegin, no_life, one_life, AreLines, no_line, one_line, AreEnded, no_end, one_end, some_refused}
@@ -20,7 +20,7 @@ use Rattle.slot_lives.specs.EndLaws.{IsEnd, by_itself, not_accepted}
 use Rattle.slot_lives.proofs.Alike.{AreAlike}
 use Rattle.slot_lives.proofs.Alike as lives
 use Rattle.slot_lives.proofs.OneOutcome.{line_once}
-use Rattle.page_judge.proofs.OneWidget.{never_refused}
+use Rattle.page_check.proofs.OneWidget.{never_refused}
 use Rattle.tidy_slots.specs.Tidied.{AreTidied, run_over, life_over}
 use Rattle.tidy_slots.proofs.Twins.{AllTwins, all_back, twins, refused_twin, widget_twin, one_widget}
 

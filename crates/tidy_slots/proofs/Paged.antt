@@ -9,8 +9,8 @@ use Rattle.manifest_reader.specs.Page.{Part}
 use Rattle.slot_check.specs.Sources.{Source}
 use Rattle.widget_meaning.specs.OwnState.{OwnState}
 use Rattle.round_laws.specs.Fed.{Fed, RoundsTo}
-use Rattle.page_spec.specs.Pages.{roots, page_of}
-use Rattle.page_judge.specs.Runs.{SlotRun, pieces, runs_over}
+use Rattle.page_plan.specs.Pages.{roots, page_of}
+use Rattle.page_check.specs.Runs.{SlotRun, pieces, runs_over}
 use Rattle.slot_lives.specs.Lives.{Life, lives, ended_at, ended_lives}
 use Rattle.slot_lives.specs.Ends.{run_name, with_file, life_name, end_of}
 use Rattle.slot_lives.specs.Outcome.{all_lives, last_lives, ComeTo, IsReport}

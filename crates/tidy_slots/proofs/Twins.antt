@@ -20,8 +20,8 @@ use Rattle.slot_check.specs.Slot.{IsFile, named_libs, AreClean, none, more, Libr
 use Rattle.tidy_rules.proofs.Staying.{stays_clean}
 use Rattle.widget_meaning.specs.Alone.{Content}
 use Rattle.place_laws.specs.Bare.{bare_content}
-use Rattle.page_judge.specs.Widgets.{widget, HasWidget}
-use Rattle.page_judge.proofs.OneWidget.{one_script, widget_once}
+use Rattle.page_check.specs.Widgets.{widget, HasWidget}
+use Rattle.page_check.proofs.OneWidget.{one_script, widget_once}
 use Rattle.tidy_slots.specs.Tidied.{as_it_was, tidied, AreTidied, slot_over}
 use Rattle.tidy_slots.specs.Tidied as of
 

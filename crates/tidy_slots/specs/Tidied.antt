@@ -2,7 +2,7 @@
 use Rattle.std.specs.Prelude.{ℕ, List, [], ◌∷◌, false}
 use Rattle.script_check.specs.Line.{IsTidied}
 use Rattle.slot_check.specs.Sources.{Source, Slot}
-use Rattle.page_judge.specs.Runs.{SlotRun}
+use Rattle.page_check.specs.Runs.{SlotRun}
 use Rattle.slot_lives.specs.Lives.{Life}
 
 -- in the place of a library stands the library itself, or where it breaks no rule its tidied text, under the same name

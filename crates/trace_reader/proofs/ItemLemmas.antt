@@ -6,7 +6,6 @@ use Rattle.serde_json.specs.Find.{get, as_number, as_u64}
 use Rattle.serde_json.specs.View.{view}
 use Rattle.serde_json.specs.declared.value.Value.{Value}
 use Rattle.json_shapes.specs.Each.{Each}
-use Rattle.json_shapes.specs.Keys.{has_only, is_key}
 use Rattle.json_shapes.specs.Look.{number_at}
 use Rattle.trace_reader.specs.Items.{event_keys, swap_keys, IsStep, IsPath, IsAdvance, IsSwap, IsItem}
 use Rattle.trace_reader.specs.declared.item.TraceItem.{TraceItem}

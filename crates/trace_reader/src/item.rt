@@ -1,5 +1,5 @@
 //! The items of a trace.
-ghost use Rattle.std.specs.Prelude.{◌≡◌, ◌<◌, ◌^◌, ℕ, List, IfOk, IsErrOf, length, map, codes, string_bytes, Option};
+ghost use Rattle.std.specs.Prelude.{◌<◌, ◌^◌, ℕ, List, IfOk, IsErrOf, length, map, codes, string_bytes, Option};
 ghost use Rattle.serde_json.specs.View.{view};
 ghost use Rattle.serde_json.specs.Find.{get};
 ghost use Rattle.trace_reader.specs.Items.{IsPath, IsValue, IsAdvance, IsEvent, IsSwap, IsItem};

@@ -3,7 +3,7 @@ ghost use Rattle.std.specs.Prelude.{◌≡◌, ◌≤◌, ◌<◌, ◌+◌, ◌^
 ghost use Rattle.serde_json.specs.View.{view};
 ghost use Rattle.json_shapes.specs.Each.{Each};
 ghost use Rattle.trace_reader.specs.Items.{IsItem, is_swap, most_swaps};
-ghost use Rattle.json_shapes.specs.Json.{version_of, has_version, judged_version, IsJson, IsJsonFault};
+ghost use Rattle.json_shapes.specs.Json.{has_version, judged_version};
 ghost use Rattle.trace_reader.specs.Trace.{most_items, IsTrace, IsItemsFault, IsValueFault, IsTraceFault, ReadsTrace};
 
 use crate::item::{TraceItem, read_item};

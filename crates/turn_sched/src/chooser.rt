@@ -1,5 +1,5 @@
 //! Choosers, and the asks that they keep.
-ghost use Rattle.std.specs.Prelude.{◌≡◌, ◌<◌, ◌+◌, ◌++◌, ℕ, List, All, length};
+ghost use Rattle.std.specs.Prelude.{◌≡◌, ◌<◌, ◌+◌, ℕ, List, All, length};
 ghost use Rattle.std.specs.List.Sorted.{IsStrictlyIncreasing};
 ghost use Rattle.turn_sched.specs.declared.chooser.Ask.{Ask};
 ghost use Rattle.turn_sched.specs.Asks.{KeepsAsk};

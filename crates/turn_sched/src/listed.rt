@@ -1,6 +1,6 @@
 //! A chooser that follows a list.
 ghost use Rattle.std.specs.List.Sorted.{IsStrictlyIncreasing};
-ghost use Rattle.std.specs.Prelude.{All, ◌≡◌, ◌<◌, ◌+◌, ◌%◌, [], length, slice_get, IfSome, MatchOption, Some, slice_index};
+ghost use Rattle.std.specs.Prelude.{All, ◌≡◌, ◌<◌, ◌+◌, ◌%◌, [], length, Some, slice_index};
 ghost use Rattle.turn_sched.specs.Turns.{round_place};
 
 use crate::chooser::Chooser;

@@ -1,5 +1,5 @@
 //! A chooser that goes round.
-ghost use Rattle.std.specs.Prelude.{◌≡◌, ◌<◌, ◌+◌, ◌++◌, ◌↔◌, ◌∷◌, ℕ, List, Option, Some, None, [], All, IfOk, IsTrue, false, length, position, slice_get, unwrap_or, vec_capacity, ◌≤◌, nat_eq};
+ghost use Rattle.std.specs.Prelude.{◌≡◌, ◌<◌, ◌+◌, ℕ, Option, Some, None, [], All, IfOk, false, length, position, slice_get, unwrap_or, vec_capacity, ◌≤◌, nat_eq};
 ghost use Rattle.std.specs.List.{list_any};
 ghost use Rattle.std.specs.List.Sorted.{IsStrictlyIncreasing};
 ghost use Rattle.turn_sched.specs.Asks.{KeepsAsk};

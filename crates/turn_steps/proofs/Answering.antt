@@ -23,17 +23,17 @@ use Rattle.js_flow.specs.Frames.{rest}
 use Rattle.js_flow.specs.Todo.{Moves}
 use Rattle.js_flow.specs.Views.{completion_of}
 use Rattle.js_image.specs.Image.{seen}
-use Rattle.turn_calls.specs.js_steps.declared.task.Task.{Task}
+use Rattle.js_steps.specs.declared.task.Task.{Task}
 use Rattle.js_values.specs.Answers.{Goes, Leaves}
 use Rattle.js_values.proofs.Answered.{goes_then}
 use Rattle.js_values.specs.declared.outcome.NativeOut.{NativeOut}
 use Rattle.js_values.specs.declared.outcome.NativeOut.TheVariants as native
 use Rattle.js_values.specs.declared.outcome.Plan.TheVariants as calls
-use Rattle.turn_calls.specs.turn_runs.declared.level.Firing.{Firing}
-use Rattle.turn_calls.specs.turn_runs.declared.level.Level.{Level}
-use Rattle.turn_calls.specs.turn_runs.declared.level.Level.TheVariants as level
-use Rattle.turn_calls.specs.turn_runs.Levels.{levels_rest}
-use Rattle.turn_calls.specs.Weights.{level_free, levels_free}
+use Rattle.turn_dispatch.specs.declared.level.Firing.{Firing}
+use Rattle.turn_dispatch.specs.declared.level.Level.{Level}
+use Rattle.turn_dispatch.specs.declared.level.Level.TheVariants as level
+use Rattle.turn_dispatch.specs.Levels.{levels_rest}
+use Rattle.turn_returns.specs.Weights.{level_free, levels_free}
 use Rattle.std.specs.Global.{Box}
 use Rattle.store_cells.specs.Cells.{Cells}
 use Rattle.object_store.specs.Grows.{Grows}
@@ -41,23 +41,23 @@ use Rattle.js_image.specs.Image.{Rest, image as store_image}
 use Rattle.js_flow.specs.Fine.{FineFrames}
 use Rattle.js_flow.specs.Free.{frames_free, free, native_free}
 use Rattle.js_flow.specs.Todo.{after_step}
-use Rattle.end_laws.specs.Ends.{ByValue}
-use Rattle.turn_calls.specs.js_steps.Answered.{IsFineAfter, machine, remaining_after}
-use Rattle.turn_calls.specs.js_steps.Ending.{Awaits}
-use Rattle.turn_calls.specs.js_steps.declared.answer.Stepped.{Stepped}
+use Rattle.plan_ends.specs.Ends.{ByValue}
+use Rattle.js_steps.specs.Answered.{IsFineAfter, machine, remaining_after}
+use Rattle.js_steps.specs.Ending.{Awaits}
+use Rattle.js_steps.specs.declared.answer.Stepped.{Stepped}
 use Rattle.native_image.specs.Image.{Outside, beside}
 use Rattle.native_image.proofs.Joint.{rest as outside_rest, store_lift}
 use Rattle.natives.specs.Reach.{with_notes}
-use Rattle.turn_calls.specs.turn_runs.declared.level.Doing.{Doing}
-use Rattle.turn_calls.specs.turn_runs.Held.{FineDoing}
-use Rattle.turn_calls.specs.turn_runs.Levels.{turn_plan}
-use Rattle.turn_calls.specs.declared.calls.Calls.{Calls}
-use Rattle.turn_calls.specs.Turns.{bubbled_of, outside_of, turn_image}
-use Rattle.turn_calls.specs.Waiting.{FineFiring, FineLevels}
-use Rattle.turn_calls.specs.Weights.{doing_free}
-use Rattle.turn_calls.proofs.Stays.{fine_push, levels_fine, levels_last, levels_same}
-use Rattle.turn_calls.specs.declared.turn.Shared.{Shared}
-use Rattle.turn_calls.specs.declared.turn.Widget.{Widget}
+use Rattle.turn_dispatch.specs.declared.level.Doing.{Doing}
+use Rattle.turn_dispatch.specs.Held.{FineDoing}
+use Rattle.turn_dispatch.specs.Levels.{turn_plan}
+use Rattle.turn_returns.specs.declared.calls.Calls.{Calls}
+use Rattle.turn_returns.specs.Turns.{bubbled_of, outside_of, turn_image}
+use Rattle.turn_returns.specs.Waiting.{FineFiring, FineLevels}
+use Rattle.turn_returns.specs.Weights.{doing_free}
+use Rattle.turn_returns.proofs.Stays.{fine_push, levels_fine, levels_last, levels_same}
+use Rattle.turn_returns.specs.declared.turn.Shared.{Shared}
+use Rattle.turn_returns.specs.declared.turn.Widget.{Widget}
 use Rattle.turn_steps.specs.Carrying.{IsAnswered, is_fire, is_wanting}
 use Rattle.turn_steps.specs.Steps.{IsFollowed}
 use Rattle.turn_steps.specs.Turning.{FineWidget, forests}

@@ -2,13 +2,13 @@
 use Rattle.std.proofs.Common.{◌≡◌, ℕ, ◌-◌, ◌<◌, ◌≤◌, subst, sym, ◌⊎◌, inl, inr}
 use Rattle.std.proofs.lemmas.Bool.{cases_lt}
 use Rattle.widget_meaning.specs.Meaning.{run_plan}
-use Rattle.turn_calls.specs.js_steps.declared.answer.Stop.TheVariants as stop
+use Rattle.js_steps.specs.declared.answer.Stop.TheVariants as stop
 use Rattle.js_values.specs.Answers.{out_of_fuel}
 use Rattle.native_image.specs.Image.{Outside}
 use Rattle.life_laws.specs.Life.{Fixed, Runs}
-use Rattle.turn_calls.specs.declared.turn.Shared.{Shared}
-use Rattle.turn_calls.specs.declared.turn.Turn.{Turn}
-use Rattle.turn_calls.specs.declared.turn.Widget.{Widget}
+use Rattle.turn_returns.specs.declared.turn.Shared.{Shared}
+use Rattle.turn_returns.specs.declared.turn.Turn.{Turn}
+use Rattle.turn_returns.specs.declared.turn.Widget.{Widget}
 use Rattle.turn_steps.specs.declared.turn.Ran.{Ran}
 use Rattle.turn_steps.specs.declared.turn.Ran.TheVariants as ran
 use Rattle.turn_steps.specs.declared.turn.TurnEnd.{TurnEnd}

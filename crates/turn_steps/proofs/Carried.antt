@@ -19,9 +19,9 @@ use Rattle.native_image.specs.Meets.{FiresAtOwn}
 use Rattle.native_image.proofs.Meeting.{no_outside}
 use Rattle.natives.specs.Meets.{MeetsWhole, plan_of}
 use Rattle.natives.specs.Reach.{Reach, reach, state}
-use Rattle.turn_calls.specs.Turns.{bubbled_of, outside_of}
-use Rattle.turn_calls.specs.declared.turn.Shared.{Shared}
-use Rattle.turn_calls.specs.declared.turn.Widget.{Widget}
+use Rattle.turn_returns.specs.Turns.{bubbled_of, outside_of}
+use Rattle.turn_returns.specs.declared.turn.Shared.{Shared}
+use Rattle.turn_returns.specs.declared.turn.Widget.{Widget}
 use Rattle.turn_steps.specs.Carrying.{IsPerformed}
 use Rattle.turn_steps.specs.Turning.{FineWidget, forests, state_in}
 

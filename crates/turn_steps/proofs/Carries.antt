@@ -18,10 +18,10 @@ use Rattle.js_flow.specs.Frames.{native_plan, rest}
 use Rattle.js_flow.specs.Todo.{Moves}
 use Rattle.js_flow.proofs.Stays.{frames_fine, rest_same}
 use Rattle.js_names.specs.Code.{trees_of}
-use Rattle.end_laws.specs.Ends.{ByValue}
-use Rattle.turn_calls.specs.js_steps.declared.task.Task.{Task}
-use Rattle.turn_calls.specs.js_steps.Ending.{Awaits}
-use Rattle.turn_calls.proofs.JsSteps.Ending.{awaits_later}
+use Rattle.plan_ends.specs.Ends.{ByValue}
+use Rattle.js_steps.specs.declared.task.Task.{Task}
+use Rattle.js_steps.specs.Ending.{Awaits}
+use Rattle.js_steps.proofs.Ending.{awaits_later}
 use Rattle.js_values.specs.Answers.{Goes, IsOutOfFuel, Lacks, out_of_fuel}
 use Rattle.js_values.specs.Fuel.{Fuel}
 use Rattle.js_values.specs.declared.outcome.NativeOut.{NativeOut}
@@ -29,17 +29,17 @@ use Rattle.js_values.specs.declared.outcome.NativeOut.TheVariants as native
 use Rattle.native_image.specs.Image.{Outside}
 use Rattle.native_image.specs.Sound.{KeepsAll}
 use Rattle.std.specs.Global.{Box}
-use Rattle.turn_calls.specs.turn_runs.declared.level.Doing.{Doing}
-use Rattle.turn_calls.specs.turn_runs.declared.level.Doing.TheVariants as doing
-use Rattle.turn_calls.specs.turn_runs.declared.level.Level.{Level}
-use Rattle.turn_calls.specs.turn_runs.Held.{FineDoing}
-use Rattle.turn_calls.specs.turn_runs.Levels.{levels_rest, turn_plan}
-use Rattle.turn_calls.specs.declared.calls.Calls.{Calls}
-use Rattle.turn_calls.specs.declared.turn.Shared.{Shared}
-use Rattle.turn_calls.specs.declared.turn.Widget.{Widget}
-use Rattle.turn_calls.specs.Waiting.{FineLevels}
-use Rattle.turn_calls.specs.Weights.{levels_free}
-use Rattle.turn_calls.proofs.Stays.{levels_fine, levels_same}
+use Rattle.turn_dispatch.specs.declared.level.Doing.{Doing}
+use Rattle.turn_dispatch.specs.declared.level.Doing.TheVariants as doing
+use Rattle.turn_dispatch.specs.declared.level.Level.{Level}
+use Rattle.turn_dispatch.specs.Held.{FineDoing}
+use Rattle.turn_dispatch.specs.Levels.{levels_rest, turn_plan}
+use Rattle.turn_returns.specs.declared.calls.Calls.{Calls}
+use Rattle.turn_returns.specs.declared.turn.Shared.{Shared}
+use Rattle.turn_returns.specs.declared.turn.Widget.{Widget}
+use Rattle.turn_returns.specs.Waiting.{FineLevels}
+use Rattle.turn_returns.specs.Weights.{levels_free}
+use Rattle.turn_returns.proofs.Stays.{levels_fine, levels_same}
 use Rattle.turn_steps.specs.Carrying.{IsAnswered, IsPerformed, is_wanting}
 use Rattle.turn_steps.specs.Keeping.{KeepsTurn}
 use Rattle.turn_steps.specs.Steps.{IsMoved, doing_in}

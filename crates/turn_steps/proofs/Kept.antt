@@ -11,7 +11,7 @@ use Rattle.js_image.proofs.Grown.{kept_same}
 use Rattle.native_image.specs.Sound.{HoldsOwn, IsSound, KeepsAll}
 use Rattle.native_image.proofs.Joint.{holds_grows}
 use Rattle.native_image.proofs.Keeping.{grows_next, host_here, page_same, page_then}
-use Rattle.turn_calls.specs.Took.{StaysSound}
+use Rattle.turn_returns.specs.Took.{StaysSound}
 use Rattle.turn_steps.specs.Keeping.{KeepsTurn}
 
 module _ (fs : List Forest) (w : ℕ) where

@@ -7,26 +7,26 @@ use Rattle.js_image.specs.Held.{Kept}
 use Rattle.js_image.specs.Image.{Rest, image}
 use Rattle.js_flow.specs.Todo.{IsOver, Strides, after_step}
 use Rattle.js_values.specs.Answers.{out_of_fuel}
-use Rattle.turn_calls.specs.js_steps.declared.answer.Stepped.{Stepped}
-use Rattle.turn_calls.specs.js_steps.declared.answer.Stepped.TheVariants as stepped
-use Rattle.turn_calls.specs.js_steps.declared.answer.Stop.TheVariants as stop
-use Rattle.turn_calls.specs.js_steps.declared.task.Task.{Task}
-use Rattle.turn_calls.specs.js_steps.Answered.{IsFuelStop, IsWent, machine, remaining, remaining_after}
+use Rattle.js_steps.specs.declared.answer.Stepped.{Stepped}
+use Rattle.js_steps.specs.declared.answer.Stepped.TheVariants as stepped
+use Rattle.js_steps.specs.declared.answer.Stop.TheVariants as stop
+use Rattle.js_steps.specs.declared.task.Task.{Task}
+use Rattle.js_steps.specs.Answered.{IsFuelStop, IsWent, machine, remaining, remaining_after}
 use Rattle.page_image.specs.Image.{owns}
 use Rattle.native_image.specs.Sound.{IsSound}
 use Rattle.native_image.specs.Image.{Outside, beside}
 use Rattle.native_image.proofs.Joint.{rest, sound_grows, store_lift}
 use Rattle.natives.specs.Reach.{with_notes}
-use Rattle.turn_calls.specs.turn_runs.declared.level.Doing.{Doing}
-use Rattle.turn_calls.specs.turn_runs.declared.level.Doing.TheVariants as doing
-use Rattle.turn_calls.specs.turn_runs.Held.{FineDoing, FineTask}
-use Rattle.turn_calls.specs.turn_runs.Levels.{levels_rest, turn_plan}
-use Rattle.turn_calls.specs.declared.calls.Calls.{Calls}
-use Rattle.turn_calls.specs.declared.turn.Shared.{Shared}
-use Rattle.turn_calls.specs.declared.turn.Widget.{Widget}
-use Rattle.turn_calls.specs.Turns.{bubbled_of, outside_of, turn_image}
-use Rattle.turn_calls.specs.Waiting.{FineLevels}
-use Rattle.turn_calls.proofs.Stays.{levels_fine, levels_same}
+use Rattle.turn_dispatch.specs.declared.level.Doing.{Doing}
+use Rattle.turn_dispatch.specs.declared.level.Doing.TheVariants as doing
+use Rattle.turn_dispatch.specs.Held.{FineDoing, FineTask}
+use Rattle.turn_dispatch.specs.Levels.{levels_rest, turn_plan}
+use Rattle.turn_returns.specs.declared.calls.Calls.{Calls}
+use Rattle.turn_returns.specs.declared.turn.Shared.{Shared}
+use Rattle.turn_returns.specs.declared.turn.Widget.{Widget}
+use Rattle.turn_returns.specs.Turns.{bubbled_of, outside_of, turn_image}
+use Rattle.turn_returns.specs.Waiting.{FineLevels}
+use Rattle.turn_returns.proofs.Stays.{levels_fine, levels_same}
 use Rattle.turn_steps.specs.Steps.{IsFollowed, doing_in, is_short}
 use Rattle.turn_steps.specs.Turning.{FineWidget, forests, state_in}
 use Rattle.turn_steps.proofs.Moved.{short_over}

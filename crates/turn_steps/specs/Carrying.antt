@@ -6,7 +6,7 @@ use Rattle.js_calls.specs.Called.{given}
 use Rattle.js_flow.specs.Free.{frames_free, native_free}
 use Rattle.js_flow.specs.Frames.{rest}
 use Rattle.js_image.specs.Image.{seen}
-use Rattle.turn_calls.specs.js_steps.declared.task.Task.{Task}
+use Rattle.js_steps.specs.declared.task.Task.{Task}
 use Rattle.js_values.specs.Answers.{Answers, IsFineOut, IsOutOfFuel}
 use Rattle.js_values.specs.Fuel.{Fuel}
 use Rattle.js_values.specs.declared.outcome.NativeOut.{NativeOut}
@@ -16,14 +16,14 @@ use Rattle.js_flow.specs.declared.job.NativeCall.{NativeCall}
 use Rattle.native_image.specs.Image.{Outside, beside}
 use Rattle.native_image.specs.Meets.{FiresAtOwn}
 use Rattle.natives.specs.Meets.{plan_of}
-use Rattle.turn_calls.specs.turn_runs.declared.level.Doing.{Doing}
-use Rattle.turn_calls.specs.turn_runs.Held.{FineDoing}
-use Rattle.turn_calls.specs.turn_runs.Levels.{levels_rest}
-use Rattle.turn_calls.specs.declared.calls.Calls.{Calls}
-use Rattle.turn_calls.specs.Waiting.{FineLevels}
-use Rattle.turn_calls.specs.Weights.{doing_free, levels_free}
-use Rattle.turn_calls.specs.declared.turn.Shared.{Shared}
-use Rattle.turn_calls.specs.declared.turn.Widget.{Widget}
+use Rattle.turn_dispatch.specs.declared.level.Doing.{Doing}
+use Rattle.turn_dispatch.specs.Held.{FineDoing}
+use Rattle.turn_dispatch.specs.Levels.{levels_rest}
+use Rattle.turn_returns.specs.declared.calls.Calls.{Calls}
+use Rattle.turn_returns.specs.Waiting.{FineLevels}
+use Rattle.turn_returns.specs.Weights.{doing_free, levels_free}
+use Rattle.turn_returns.specs.declared.turn.Shared.{Shared}
+use Rattle.turn_returns.specs.declared.turn.Widget.{Widget}
 use Rattle.turn_steps.specs.Steps.{doing_in}
 use Rattle.turn_steps.specs.Turning.{forests, state_in}
 

@@ -5,14 +5,14 @@ use Rattle.widget_meaning.specs.Plan.{Plan}
 use Rattle.widget_meaning.specs.Meaning.{run_plan}
 use Rattle.native_image.specs.Image.{Outside}
 use Rattle.life_laws.specs.Life.{Fixed, Runs}
-use Rattle.turn_calls.specs.declared.turn.Shared.{Shared}
-use Rattle.turn_calls.specs.declared.turn.Turn.{Turn}
-use Rattle.turn_calls.specs.js_steps.declared.answer.Stop.TheVariants as stop
+use Rattle.turn_returns.specs.declared.turn.Shared.{Shared}
+use Rattle.turn_returns.specs.declared.turn.Turn.{Turn}
+use Rattle.js_steps.specs.declared.answer.Stop.TheVariants as stop
 use Rattle.turn_steps.specs.declared.turn.TurnEnd.{TurnEnd}
 use Rattle.turn_steps.specs.declared.turn.TurnEnd.TheVariants as ended
 use Rattle.turn_steps.specs.declared.turn.Ran.{Ran}
 use Rattle.turn_steps.specs.declared.turn.Ran.TheVariants as ran
-use Rattle.turn_calls.specs.declared.turn.Widget.{Widget}
+use Rattle.turn_returns.specs.declared.turn.Widget.{Widget}
 use Rattle.turn_steps.specs.Turning.{FineEnd, FineTurn, end_of, plan_in, state_in, turn_in}
 
 -- the last plan of a turn that is over ends at once, as the turn ended

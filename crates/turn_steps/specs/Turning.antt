@@ -10,21 +10,21 @@ use Rattle.js_image.specs.Plans.{meant_cause}
 use Rattle.js_names.specs.Code.{trees_of}
 use Rattle.js_flow.specs.Views.{completion_of}
 use Rattle.js_flow.specs.Fine.{FineCompletion}
-use Rattle.turn_calls.specs.js_steps.declared.answer.Stop.TheVariants as stop
+use Rattle.js_steps.specs.declared.answer.Stop.TheVariants as stop
 use Rattle.native_image.specs.Image.{Outside}
 use Rattle.native_image.specs.Sound.{IsSound}
 use Rattle.natives.specs.Reach.{with_notes}
 use Rattle.life_laws.specs.Life as life
 use Rattle.life_laws.specs.Life.{Fixed}
-use Rattle.turn_calls.specs.turn_runs.Held.{FineDoing}
-use Rattle.turn_calls.specs.turn_runs.Levels.{turn_plan}
-use Rattle.turn_calls.specs.Turns.{turn_image}
-use Rattle.turn_calls.specs.Waiting.{FineLevels}
-use Rattle.turn_calls.specs.declared.turn.Shared.{Shared}
-use Rattle.turn_calls.specs.declared.turn.Turn.{Turn}
+use Rattle.turn_dispatch.specs.Held.{FineDoing}
+use Rattle.turn_dispatch.specs.Levels.{turn_plan}
+use Rattle.turn_returns.specs.Turns.{turn_image}
+use Rattle.turn_returns.specs.Waiting.{FineLevels}
+use Rattle.turn_returns.specs.declared.turn.Shared.{Shared}
+use Rattle.turn_returns.specs.declared.turn.Turn.{Turn}
 use Rattle.turn_steps.specs.declared.turn.TurnEnd.{TurnEnd}
 use Rattle.turn_steps.specs.declared.turn.TurnEnd.TheVariants as ended
-use Rattle.turn_calls.specs.declared.turn.Widget.{Widget}
+use Rattle.turn_returns.specs.declared.turn.Widget.{Widget}
 
 -- the trees of the scripts of the widget whose turn it is
 abbrev pub forests : Shared → List Forest

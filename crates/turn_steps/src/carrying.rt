@@ -1,8 +1,8 @@
 //! A native that a turn carries out, and what its answer comes to.
 ghost use Rattle.std.specs.Prelude.{◌≡◌, ◌<◌, false, IfOk, None, OnOk, reverse, drop};
 ghost use Rattle.js_calls.specs.Called.{IsCarried};
-ghost use Rattle.end_laws.specs.Ends.{ByValue};
-ghost use Rattle.turn_calls.specs.js_steps.Ending.{Awaits};
+ghost use Rattle.plan_ends.specs.Ends.{ByValue};
+ghost use Rattle.js_steps.specs.Ending.{Awaits};
 ghost use Rattle.js_flow.specs.Fine.{FineFrames, FineNative};
 ghost use Rattle.js_values.specs.Answers.{IsFineOut};
 ghost use Rattle.native_image.specs.Image.{beside, dispatches_of};
@@ -10,10 +10,10 @@ ghost use Rattle.native_image.specs.Meets.{FiresAtOwn};
 ghost use Rattle.native_image.specs.Sound.{KeepsAll};
 ghost use Rattle.js_values.specs.declared.outcome.NativeOut.TheVariants as native_out;
 ghost use Rattle.js_values.specs.declared.outcome.Plan.TheVariants as native_calls;
-ghost use Rattle.turn_calls.specs.turn_runs.Held.{FineDoing};
-ghost use Rattle.turn_calls.specs.turn_runs.declared.level.Doing.TheVariants as doing;
-ghost use Rattle.turn_calls.specs.Turns.{bubbled_of};
-ghost use Rattle.turn_calls.specs.Waiting.{FineFiring, FineLevels};
+ghost use Rattle.turn_dispatch.specs.Held.{FineDoing};
+ghost use Rattle.turn_dispatch.specs.declared.level.Doing.TheVariants as doing;
+ghost use Rattle.turn_returns.specs.Turns.{bubbled_of};
+ghost use Rattle.turn_returns.specs.Waiting.{FineFiring, FineLevels};
 ghost use Rattle.turn_steps.specs.Keeping.{KeepsTurn};
 ghost use Rattle.turn_steps.specs.Carrying.{IsAnswered, IsPerformed, is_fire, is_wanting};
 ghost use Rattle.turn_steps.specs.Steps.{IsMoved};
@@ -22,13 +22,13 @@ ghost use Rattle.turn_steps.specs.Turning.{FineWidget, forests};
 use crate::moving::{Moved, follow};
 use code_units::Memory;
 use js_flow::{Completion, Control, NativeCall};
+use js_steps::{Task, resume};
 use js_values::{Meter, NativeOut, Plan};
 use natives::call;
 use object_store::Value;
 use std::alloc::Global;
-use turn_calls::js_steps::{Task, resume};
-use turn_calls::turn_runs::{Doing, Firing, Level};
-use turn_calls::{Calls, Shared, Site, Widget, give};
+use turn_dispatch::{Doing, Firing, Level};
+use turn_returns::{Calls, Shared, Site, Widget, give};
 
 // Whether `bubble` was called in the innermost open dispatch, if one is open.
 fn innermost(dispatches: &Vec<bool>) -> Option<bool>

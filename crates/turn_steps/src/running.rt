@@ -2,8 +2,8 @@
 ghost use Rattle.std.specs.Prelude.{◌≡◌, ◌-◌, ◌<◌, ◌≤◌, IfOk, OnOk, false};
 ghost use Rattle.native_image.specs.Image.{Outside};
 ghost use Rattle.life_laws.specs.Life.{Fixed};
-ghost use Rattle.turn_calls.specs.declared.turn.Shared.{Shared as SharedBy};
-ghost use Rattle.turn_calls.specs.declared.turn.Widget.{Widget as WidgetOf};
+ghost use Rattle.turn_returns.specs.declared.turn.Shared.{Shared as SharedBy};
+ghost use Rattle.turn_returns.specs.declared.turn.Widget.{Widget as WidgetOf};
 ghost use Rattle.turn_steps.specs.Moving.{FineRan, IsOut, RanTo};
 ghost use Rattle.turn_steps.specs.Keeping.{KeepsTurn};
 ghost use Rattle.turn_steps.specs.Steps.{is_open};
@@ -12,10 +12,10 @@ ghost use Rattle.turn_steps.specs.Turning.{FineEnd, FineTurn, FineWidget, forest
 use crate::moving::{move_on, take};
 use crate::turn::{Ran, TurnEnd};
 use code_units::Memory;
+use js_steps::Stop;
 use std::alloc::Global;
-use turn_calls::js_steps::Stop;
-use turn_calls::turn_runs::Doing;
-use turn_calls::{Shared, Turn, Widget};
+use turn_dispatch::Doing;
+use turn_returns::{Shared, Turn, Widget};
 
 // Whether a turn is not over.
 fn is_open(doing: &Doing) -> bool

@@ -1,5 +1,5 @@
 //! The first broken rule of a file.
-ghost use Rattle.std.specs.Prelude.{◌≡◌, ◌++◌, [], None, map, filter, codes, IfOk, OnOk, MatchOption};
+ghost use Rattle.std.specs.Prelude.{◌≡◌, ◌++◌, None, map, filter, codes, IfOk, OnOk};
 ghost use Rattle.first_breach.specs.Breaches.{Nothing, Each};
 ghost use Rattle.first_breach.specs.Narrowing.{Narrows};
 ghost use Rattle.plain_tree.specs.Plains.{placed_all};

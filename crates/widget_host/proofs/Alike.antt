@@ -1,10 +1,10 @@
 -- Lives that are as they were but for their queues and for how many of their posts were taken.
-use Rattle.std.proofs.Common.{◌≡◌, ℕ, zero, suc, ◌+◌, Bool, true, false, List, [], ◌∷◌, map, refl, sym, ap, ◌∙◌, subst, Some}
+use Rattle.std.proofs.Common.{◌≡◌, ℕ, zero, suc, ◌+◌, List, [], ◌∷◌, map, refl, sym, ap, ◌∙◌, subst, Some}
 use Rattle.std.specs.Prelude.{slice_get}
-use Rattle.slot_reach.specs.slot_rounds.page_load.turn_calls.declared.turn.Shared.{Shared}
-use Rattle.slot_reach.specs.slot_rounds.page_load.slot_picks.declared.crowd.Place.{Place}
-use Rattle.slot_reach.specs.slot_rounds.page_load.slot_picks.Places.{OwnPlace, OwnPlaces, accepts_of, codes_of, homes_of, roots_of}
-use Rattle.slot_reach.specs.slot_rounds.Posting.{AreAlike, IsAlike}
+use Rattle.turn_returns.specs.declared.turn.Shared.{Shared}
+use Rattle.slot_picks.specs.declared.crowd.Place.{Place}
+use Rattle.slot_picks.specs.Places.{OwnPlace, OwnPlaces, accepts_of, codes_of, homes_of, roots_of}
+use Rattle.slot_rounds.specs.Posting.{AreAlike, IsAlike}
 use Rattle.widget_host.specs.Feeding.{AreSame, IsSame}
 
 is_alike : (l m : Place) → IsSame l m → IsAlike l m

@@ -18,26 +18,26 @@ use Rattle.slot_laws.proofs.Housing.{joined_swap, rest_swap, unspent_swap}
 use Rattle.slot_laws.specs.Settled.{flag}
 use Rattle.widget_meaning.specs.OwnState.{OwnState}
 use Rattle.widget_meaning.specs.Alone.{Content}
-use Rattle.page_tree.specs.page_nodes.Entries.{body}
+use Rattle.page_nodes.specs.Entries.{body}
 use Rattle.page_image.specs.Image.{root_of}
 use Rattle.page_build.specs.Layout.{IsLot, lot_of}
 use Rattle.page_build.specs.Standing.{IsLaidBy}
 use Rattle.page_build.proofs.Stands.{laid_older}
-use Rattle.slot_reach.specs.slot_rounds.Feeding.{sum_of}
-use Rattle.slot_reach.specs.slot_rounds.page_load.slot_picks.declared.crowd.Crowd.{Crowd}
-use Rattle.slot_reach.specs.slot_rounds.page_load.slot_picks.declared.crowd.Place.{Place}
-use Rattle.slot_reach.specs.slot_rounds.page_load.slot_picks.declared.slots.Slot.{Slot}
-use Rattle.slot_reach.specs.slot_rounds.page_load.slot_picks.Crowds.{AreHoused, AreStanding, FewCrowd, chains_of, present_of, seens_of, spots_of}
-use Rattle.slot_reach.specs.slot_rounds.page_load.slot_picks.Places.{FewPlaces, accepts_of, codes_of, homes_of, is_accepted, lent, roots_of, seen_at, told_of}
-use Rattle.slot_reach.specs.slot_rounds.page_load.turn_calls.declared.turn.Shared.{Shared}
-use Rattle.slot_reach.specs.slot_rounds.page_load.life_queue.Lives.{life_seen}
-use Rattle.slot_reach.specs.slot_rounds.page_load.Contents.{HasScriptsIn, content_in}
-use Rattle.slot_reach.specs.slot_rounds.page_load.Joining.{Comes, HasSeat, IsFree, KeepsRest, PageJoins, came, none_came}
-use Rattle.slot_reach.specs.slot_rounds.page_load.Loads.{HasNothing, IsFirstLife}
+use Rattle.slot_rounds.specs.Feeding.{sum_of}
+use Rattle.slot_picks.specs.declared.crowd.Crowd.{Crowd}
+use Rattle.slot_picks.specs.declared.crowd.Place.{Place}
+use Rattle.slot_picks.specs.declared.slots.Slot.{Slot}
+use Rattle.slot_picks.specs.Crowds.{AreHoused, AreStanding, FewCrowd, chains_of, present_of, seens_of, spots_of}
+use Rattle.slot_picks.specs.Places.{FewPlaces, accepts_of, codes_of, homes_of, is_accepted, lent, roots_of, seen_at, told_of}
+use Rattle.turn_returns.specs.declared.turn.Shared.{Shared}
+use Rattle.life_queue.specs.Lives.{life_seen}
+use Rattle.page_load.specs.Contents.{HasScriptsIn, content_in}
+use Rattle.page_load.specs.Joining.{Comes, HasSeat, IsFree, KeepsRest, PageJoins, came, none_came}
+use Rattle.page_load.specs.Loads.{HasNothing, IsFirstLife}
 use Rattle.page_build.proofs.Coming.{same_joins}
 use Rattle.page_tree.specs.declared.page.Page.{Page}
-use Rattle.page_spec.specs.declared.SlotContent.{SlotContent}
-use Rattle.page_spec.specs.Pages.{PagePiece}
+use Rattle.page_plan.specs.declared.SlotContent.{SlotContent}
+use Rattle.page_plan.specs.Pages.{PagePiece}
 use Rattle.widget_host.specs.declared.host.Host.{Host}
 use Rattle.widget_host.specs.Housed.{BearsLife, IsApart, IsLaid, IsWhole, KeepsOthers, LoadsLife, accepts, chains, channels, ends, fuels, homes, journal, libraries, most_after, names, newborn, scripts, seens, shared, spots, swaps, told}
 use Rattle.widget_host.proofs.Born.{IsSeated, chains_else, joined_listed, joined_present, same_or, spots_now, standing_born, standing_still}

@@ -6,17 +6,17 @@ use Rattle.slot_laws.specs.Slots.{Each, has}
 use Rattle.slot_laws.specs.Chains.{Chains, joins, listed}
 use Rattle.pick_laws.specs.Journal.{on_at}
 use Rattle.page_tree.specs.declared.page.Page.{Page}
-use Rattle.page_tree.specs.page_nodes.Entries.{body}
+use Rattle.page_nodes.specs.Entries.{body}
 use Rattle.page_tree.specs.Pages.{nodes}
 use Rattle.page_image.specs.Image.{root_of}
 use Rattle.page_build.specs.Layout.{IsLot, lot_of}
 use Rattle.page_build.specs.Standing.{AreSpots, IsSpare}
-use Rattle.slot_reach.specs.slot_rounds.page_load.Joining.{PageJoins}
-use Rattle.slot_reach.specs.slot_rounds.page_load.slot_picks.declared.crowd.Crowd.{Crowd}
-use Rattle.slot_reach.specs.slot_rounds.page_load.slot_picks.declared.crowd.Place.{Place}
-use Rattle.slot_reach.specs.slot_rounds.page_load.slot_picks.declared.slots.Slot.{Slot}
-use Rattle.slot_reach.specs.slot_rounds.page_load.slot_picks.Crowds.{AreStanding, chains_of, is_present, present_of, spots_of}
-use Rattle.slot_reach.specs.slot_rounds.page_load.slot_picks.Places.{homes_of, roots_of}
+use Rattle.page_load.specs.Joining.{PageJoins}
+use Rattle.slot_picks.specs.declared.crowd.Crowd.{Crowd}
+use Rattle.slot_picks.specs.declared.crowd.Place.{Place}
+use Rattle.slot_picks.specs.declared.slots.Slot.{Slot}
+use Rattle.slot_picks.specs.Crowds.{AreStanding, chains_of, is_present, present_of, spots_of}
+use Rattle.slot_picks.specs.Places.{homes_of, roots_of}
 use Rattle.widget_host.proofs.Sets.{get_else, get_here, index_else, map_set, none_some, same_map, some_is, within}
 
 no_true : false ≡ true → ⊥

@@ -8,7 +8,7 @@ use Rattle.store_cells.specs.declared.kind.Form.{Form}
 use Rattle.store_cells.specs.declared.kind.Form.TheVariants as form
 use Rattle.store_cells.specs.Cells.{Cells, PlainCell, is_own, is_scope, is_visible, is_visible_form, widget_of}
 use Rattle.object_store.specs.Owned.{is_of, is_own_scope, own_cell, own_scope, owned}
-use Rattle.slot_reach.specs.slot_rounds.page_load.Laying.{HasNoCells}
+use Rattle.page_load.specs.Laying.{HasNoCells}
 use Rattle.widget_host.specs.Shapes.{cells_of_widget, cells_of_host, is_widgets, cells_of_widgets}
 
 -- 1 where it is so

@@ -10,15 +10,15 @@ use Rattle.life_laws.specs.Life as todo
 use Rattle.life_laws.specs.Life.{Seen, due, image, potential, potentials}
 use Rattle.pick_laws.specs.Journal.{queued}
 use Rattle.pick_laws.proofs.Given.{due_queued}
-use Rattle.slot_reach.specs.slot_rounds.page_load.turn_calls.declared.turn.Shared.{Shared}
-use Rattle.slot_reach.specs.slot_rounds.page_load.slot_picks.declared.crowd.Place.{Place}
-use Rattle.slot_reach.specs.slot_rounds.page_load.life_queue.declared.life.Work.{Work}
-use Rattle.slot_reach.specs.slot_rounds.page_load.life_queue.Lives.{life_seen, trees_in, work_of, works_of}
-use Rattle.slot_reach.specs.slot_rounds.page_load.life_queue.Fine.{FineLife, FineWork, tally}
+use Rattle.turn_returns.specs.declared.turn.Shared.{Shared}
+use Rattle.slot_picks.specs.declared.crowd.Place.{Place}
+use Rattle.life_queue.specs.declared.life.Work.{Work}
+use Rattle.life_queue.specs.Lives.{life_seen, trees_in, work_of, works_of}
+use Rattle.life_queue.specs.Fine.{FineLife, FineWork, tally}
 use Rattle.slot_laws.specs.Chains.{Chains, last_life}
-use Rattle.slot_reach.specs.slot_rounds.page_load.slot_picks.declared.slots.Slot.{Slot}
-use Rattle.slot_reach.specs.slot_rounds.page_load.slot_picks.Crowds.{chains_of}
-use Rattle.slot_reach.specs.slot_rounds.page_load.slot_picks.Places.{FewPlace, FewPlaces, FinePlace, FinePlaces, lent, seen_at, seens_from, told_of}
+use Rattle.slot_picks.specs.declared.slots.Slot.{Slot}
+use Rattle.slot_picks.specs.Crowds.{chains_of}
+use Rattle.slot_picks.specs.Places.{FewPlace, FewPlaces, FinePlace, FinePlaces, lent, seen_at, seens_from, told_of}
 use Rattle.widget_host.specs.declared.host.Host.{Host}
 use Rattle.widget_host.specs.declared.items.HostItem.{HostItem}
 use Rattle.widget_host.specs.Housed.{dues_after, item_of, reaches}

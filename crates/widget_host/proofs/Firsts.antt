@@ -12,25 +12,25 @@ use Rattle.life_laws.specs.Life.{Seen, due, image, ready}
 use Rattle.pick_laws.specs.Journal.{AllJoined}
 use Rattle.slot_laws.specs.Chains.{Chains, Rest, Unspent, listed}
 use Rattle.slot_laws.specs.Settled.{flag}
-use Rattle.slot_reach.specs.slot_rounds.page_load.turn_calls.declared.turn.Shared.{Shared}
-use Rattle.slot_reach.specs.slot_rounds.page_load.slot_picks.declared.crowd.Place.{Place}
-use Rattle.slot_reach.specs.slot_rounds.page_load.life_queue.Lives.{life_seen}
-use Rattle.slot_reach.specs.slot_rounds.page_load.slot_picks.Places.{FewPlace, FewPlaces, FinePlace, FinePlaces, OwnPlaces, accepts_of, codes_of, homes_of, lent, roots_of, seen_at, seens_from, told_of}
-use Rattle.slot_reach.specs.slot_rounds.page_load.slot_picks.declared.slots.Slot.{Slot}
-use Rattle.slot_reach.specs.slot_rounds.page_load.slot_picks.declared.crowd.Crowd.{Crowd}
-use Rattle.slot_reach.specs.slot_rounds.page_load.slot_picks.Crowds.{AreHoused, AreStanding, FewCrowd, OwnCrowd, chains_of, seens_of, spots_of}
+use Rattle.turn_returns.specs.declared.turn.Shared.{Shared}
+use Rattle.slot_picks.specs.declared.crowd.Place.{Place}
+use Rattle.life_queue.specs.Lives.{life_seen}
+use Rattle.slot_picks.specs.Places.{FewPlace, FewPlaces, FinePlace, FinePlaces, OwnPlaces, accepts_of, codes_of, homes_of, lent, roots_of, seen_at, seens_from, told_of}
+use Rattle.slot_picks.specs.declared.slots.Slot.{Slot}
+use Rattle.slot_picks.specs.declared.crowd.Crowd.{Crowd}
+use Rattle.slot_picks.specs.Crowds.{AreHoused, AreStanding, FewCrowd, OwnCrowd, chains_of, seens_of, spots_of}
 use Rattle.page_build.specs.Homes.{HaveRaws}
 use Rattle.page_build.specs.Standing.{HavePlaces, IsLaidBy}
-use Rattle.page_tree.specs.page_nodes.Entries.{body}
+use Rattle.page_nodes.specs.Entries.{body}
 use Rattle.js_names.specs.Code.{tree_in}
-use Rattle.page_spec.specs.declared.PageSpec.{PageSpec}
-use Rattle.page_spec.specs.declared.SlotSpec.{SlotSpec}
-use Rattle.page_spec.specs.Contents.{content_of}
-use Rattle.page_spec.specs.Loadable.{names_of}
-use Rattle.page_spec.specs.Pages.{piece_of}
-use Rattle.slot_reach.specs.slot_rounds.Feeding.{sum_of}
-use Rattle.slot_reach.specs.slot_rounds.page_load.declared.loading.Loaded.{Loaded}
-use Rattle.slot_reach.specs.slot_rounds.page_load.Loads.{Begins, HasNothing, HasScripts, IsFirstLife, LoadsPage, singles}
+use Rattle.page_plan.specs.declared.PageSpec.{PageSpec}
+use Rattle.page_plan.specs.declared.SlotSpec.{SlotSpec}
+use Rattle.page_plan.specs.Contents.{content_of}
+use Rattle.page_plan.specs.Loadable.{names_of}
+use Rattle.page_plan.specs.Pages.{piece_of}
+use Rattle.slot_rounds.specs.Feeding.{sum_of}
+use Rattle.page_load.specs.declared.loading.Loaded.{Loaded}
+use Rattle.page_load.specs.Loads.{Begins, HasNothing, HasScripts, IsFirstLife, LoadsPage, singles}
 use Rattle.widget_host.specs.declared.host.Host.{Host}
 use Rattle.widget_host.specs.Housed.{IsApart, IsHoused, IsLaid, Loads, LoadsLife, accepts, chains, channels, ends, fuels, given, homes, journal, libraries, marked, most_after, names, scripts, seens, spots, swaps, told}
 use Rattle.widget_host.proofs.Reading.{scripts_at}

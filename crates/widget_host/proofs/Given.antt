@@ -9,16 +9,16 @@ use Rattle.pick_laws.specs.Journal.{AllJoined}
 use Rattle.pick_laws.proofs.Given.{joined_given}
 use Rattle.slot_laws.specs.Chains.{Chains, Rest, Unspent}
 use Rattle.slot_laws.proofs.Housing.{unspent_given}
-use Rattle.slot_reach.specs.slot_rounds.page_load.turn_calls.declared.turn.Shared.{Shared}
-use Rattle.slot_reach.specs.slot_rounds.page_load.slot_picks.declared.crowd.Place.{Place}
-use Rattle.slot_reach.specs.slot_rounds.page_load.life_queue.Lives as lives
-use Rattle.slot_reach.specs.slot_rounds.page_load.life_queue.Fine.{FineWork}
+use Rattle.turn_returns.specs.declared.turn.Shared.{Shared}
+use Rattle.slot_picks.specs.declared.crowd.Place.{Place}
+use Rattle.life_queue.specs.Lives as lives
+use Rattle.life_queue.specs.Fine.{FineWork}
 use Rattle.page_build.specs.Homes.{HaveRaws}
-use Rattle.page_tree.specs.page_nodes.Entries.{body}
-use Rattle.slot_reach.specs.slot_rounds.page_load.slot_picks.Places.{FewPlaces, FinePlaces, homes_of, seens_from, told_of}
-use Rattle.slot_reach.specs.slot_rounds.page_load.slot_picks.declared.slots.Slot.{Slot}
-use Rattle.slot_reach.specs.slot_rounds.page_load.slot_picks.Crowds.{FewCrowd, FineCrowd, KeepsSlots, chains_of, seens_of}
-use Rattle.slot_reach.specs.slot_rounds.Feeding.{sum_of}
+use Rattle.page_nodes.specs.Entries.{body}
+use Rattle.slot_picks.specs.Places.{FewPlaces, FinePlaces, homes_of, seens_from, told_of}
+use Rattle.slot_picks.specs.declared.slots.Slot.{Slot}
+use Rattle.slot_picks.specs.Crowds.{FewCrowd, FineCrowd, KeepsSlots, chains_of, seens_of}
+use Rattle.slot_rounds.specs.Feeding.{sum_of}
 use Rattle.widget_host.specs.declared.host.Host.{Host}
 use Rattle.widget_host.specs.declared.items.HostItem.{HostItem}
 use Rattle.widget_host.specs.declared.items.HostItem.TheVariants as host

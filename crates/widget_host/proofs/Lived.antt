@@ -1,7 +1,7 @@
 -- What the lives of slots were given.
 use Rattle.std.proofs.Common.{◌≡◌, ◌≢◌, ℕ, zero, suc, ◌+◌, ◌<◌, ◌++◌, Bool, true, false, List, [], ◌∷◌, map, length, refl, sym, ap, ◌∙◌, subst, arith, Option, Some, None, ne_eqb, eq-eqb, eqb-true}
 use Rattle.std.specs.Prelude.{slice_get, slice_index_or, nat_eq, if◌then◌else◌, ◌&&◌, ◌||◌}
-use Rattle.std.specs.List.{fold, list_any}
+use Rattle.std.specs.List.{fold}
 use Rattle.std.specs.Option.{option_map, option_map_or}
 use Rattle.std.proofs.lemmas.List.{length-append, length-map}
 use Rattle.std.proofs.lemmas.List.Sums.{fold-append}
@@ -12,29 +12,29 @@ use Rattle.js_tree.specs.declared.tree.Tree.{Tree}
 use Rattle.js_tree.specs.Plain.{NoStmts}
 use Rattle.js_tree.specs.Trees.{program_of}
 use Rattle.life_laws.specs.Life.{Seen, due, image}
-use Rattle.page_spec.specs.declared.PageSpec.{PageSpec}
-use Rattle.page_spec.specs.declared.SlotContent.{SlotContent}
-use Rattle.page_spec.specs.declared.SlotContent.TheVariants as slot
-use Rattle.page_spec.specs.declared.SlotSpec.{SlotSpec}
-use Rattle.page_spec.specs.Contents.{content_of, program_at, program_in}
+use Rattle.page_plan.specs.declared.PageSpec.{PageSpec}
+use Rattle.page_plan.specs.declared.SlotContent.{SlotContent}
+use Rattle.page_plan.specs.declared.SlotContent.TheVariants as slot
+use Rattle.page_plan.specs.declared.SlotSpec.{SlotSpec}
+use Rattle.page_plan.specs.Contents.{content_of, program_at, program_in}
 use Rattle.pick_laws.specs.Journal.{on_at}
 use Rattle.round_laws.specs.Fed.{Fed, state}
 use Rattle.round_laws.specs.RoundLaws.{fed_at}
 use Rattle.slot_laws.specs.Slots.{has}
 use Rattle.slot_laws.specs.Chains.{Chains, IsChain, joins, last_at, last_from, last_life, listed}
-use Rattle.slot_reach.specs.slot_rounds.Feeding as feeding
-use Rattle.slot_reach.specs.slot_rounds.Feeding.{IsLastFed, IsLastShown, is_last}
-use Rattle.slot_reach.specs.slot_rounds.page_load.Contents.{content_in, program_there}
-use Rattle.slot_reach.specs.slot_rounds.page_load.Loads.{singles}
-use Rattle.slot_reach.specs.slot_rounds.page_load.slot_picks.declared.crowd.Place.{Place}
-use Rattle.slot_reach.specs.slot_rounds.page_load.slot_picks.Places.{homes_of, seen_at, seens_from}
-use Rattle.slot_reach.specs.slot_rounds.page_load.turn_calls.declared.turn.Shared.{Shared}
+use Rattle.slot_rounds.specs.Feeding as feeding
+use Rattle.slot_rounds.specs.Feeding.{IsLastFed, IsLastShown, is_last}
+use Rattle.page_load.specs.Contents.{content_in, program_there}
+use Rattle.page_load.specs.Loads.{singles}
+use Rattle.slot_picks.specs.declared.crowd.Place.{Place}
+use Rattle.slot_picks.specs.Places.{homes_of, seen_at, seens_from}
+use Rattle.turn_returns.specs.declared.turn.Shared.{Shared}
 use Rattle.widget_meaning.specs.Alone.{Content, loaded}
 use Rattle.widget_meaning.specs.Items.{Item, item}
 use Rattle.widget_host.specs.declared.host.Host.{Host}
 use Rattle.widget_host.specs.declared.items.HostItem.{HostItem}
 use Rattle.widget_host.specs.declared.items.HostItem.TheVariants as host
-use Rattle.widget_host.specs.Given.{AreEnded, AreRetired, IsEnded, IsRetired, begins, begun, gives_to, with_item, with_items, with_swap}
+use Rattle.widget_host.specs.Given.{AreEnded, AreRetired, IsEnded, begins, begun, gives_to, with_item, with_items, with_swap}
 use Rattle.widget_host.specs.Housed.{AreShown, GivesItem, GivesSwap, IsApart, IsHoused, IsItem, IsShown, IsWhole, KeepsHost, Loads, LoadsLife, accepts, chains, dues_after, ends, fuels, is_for, item_of, libraries, marked, newborn, reaches, seens, swaps, told}
 use Rattle.widget_host.specs.Rounds.{AreFed}
 use Rattle.widget_host.proofs.Lasts.{last_each, some_is}

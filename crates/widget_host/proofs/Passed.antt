@@ -1,12 +1,12 @@
 -- The picks of a settle, as a host has them.
-use Rattle.std.proofs.Common.{◌≡◌, ℕ, Bool, false, true, [], refl, sym, ap, ◌∙◌, subst, arith}
+use Rattle.std.proofs.Common.{◌≡◌, ℕ, Bool, false, true, [], refl, ap, ◌∙◌, arith}
 use Rattle.std.specs.Prelude.{Err, IsErr, Ok, Result, is_ok}
 use Rattle.std.specs.declared.alloc.Global.{Global}
 use Rattle.std.specs.declared.vec.Vec.{Vec}
-use Rattle.slot_reach.specs.slot_rounds.page_load.slot_picks.declared.crowd.Crowd.{Crowd}
-use Rattle.slot_reach.specs.slot_rounds.page_load.slot_picks.declared.slots.Slot.{Slot}
-use Rattle.slot_reach.specs.slot_rounds.page_load.slot_picks.Crowds as crowds
-use Rattle.slot_reach.specs.slot_rounds.page_load.slot_picks.Crowds.{OwnCrowd, PicksOn, PicksUntil}
+use Rattle.slot_picks.specs.declared.crowd.Crowd.{Crowd}
+use Rattle.slot_picks.specs.declared.slots.Slot.{Slot}
+use Rattle.slot_picks.specs.Crowds as crowds
+use Rattle.slot_picks.specs.Crowds.{OwnCrowd, PicksOn, PicksUntil}
 use Rattle.widget_host.specs.declared.host.Host.{Host}
 use Rattle.widget_host.specs.Housed.{HoldAll, KeepsBeside, Passes, PassesUntil, WantsMemory, chains, journal, no_pick, one_pick, places, seens, shared}
 use Rattle.widget_host.proofs.Shown.{own_at}

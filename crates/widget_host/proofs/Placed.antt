@@ -7,17 +7,17 @@ use Rattle.std.proofs.lemmas.Option.{get_or_from_slice_get, slice_get-map, slice
 use Rattle.plain_tree.specs.Trees.{End, PlainTrees}
 use Rattle.page_build.specs.Layout.{IsLot, lot_of}
 use Rattle.page_lines.specs.Ends.{AreEnds, IsEnd}
-use Rattle.page_spec.specs.Pages.{PagePiece, root_of, roots}
+use Rattle.page_plan.specs.Pages.{PagePiece, root_of, roots}
 use Rattle.page_tree.specs.declared.page.Page.{Page}
-use Rattle.page_tree.specs.page_nodes.Entries.{body}
+use Rattle.page_nodes.specs.Entries.{body}
 use Rattle.page_tree.specs.Pages.{nodes}
 use Rattle.slot_laws.specs.Chains.{IsChain}
 use Rattle.slot_laws.specs.Slots.{Each}
 use Rattle.widget_meaning.specs.OwnState.{OwnState}
-use Rattle.slot_reach.specs.slot_rounds.page_load.slot_picks.declared.crowd.Place.{Place}
-use Rattle.slot_reach.specs.slot_rounds.page_load.slot_picks.declared.slots.Slot.{Slot}
-use Rattle.slot_reach.specs.slot_rounds.page_load.slot_picks.Crowds.{chains_of, present_of}
-use Rattle.slot_reach.specs.slot_rounds.page_load.slot_picks.Places.{homes_of, is_accepted, roots_of}
+use Rattle.slot_picks.specs.declared.crowd.Place.{Place}
+use Rattle.slot_picks.specs.declared.slots.Slot.{Slot}
+use Rattle.slot_picks.specs.Crowds.{chains_of, present_of}
+use Rattle.slot_picks.specs.Places.{homes_of, is_accepted, roots_of}
 use Rattle.widget_host.specs.declared.host.Host.{Host}
 use Rattle.widget_host.specs.Housed.{AreShown, IsApart, IsLaid, chains, names, rooted}
 use Rattle.widget_host.proofs.Lasts.{slot_chain, some_is}

@@ -9,9 +9,9 @@ use Rattle.page_image.specs.Image.{own, owns}
 use Rattle.page_image.proofs.Looks.{number_low}
 use Rattle.native_image.specs.Sound.{HasRaw}
 use Rattle.page_build.specs.Homes.{HaveRaws}
-use Rattle.slot_reach.specs.slot_rounds.page_load.slot_picks.declared.crowd.Crowd.{Crowd}
-use Rattle.slot_reach.specs.slot_rounds.page_load.slot_picks.declared.slots.Slot.{Slot}
-use Rattle.slot_reach.specs.slot_rounds.page_load.slot_picks.Crowds.{FineCrowd, KeepsSlots}
+use Rattle.slot_picks.specs.declared.crowd.Crowd.{Crowd}
+use Rattle.slot_picks.specs.declared.slots.Slot.{Slot}
+use Rattle.slot_picks.specs.Crowds.{FineCrowd, KeepsSlots}
 use Rattle.widget_host.specs.declared.host.Host.{Host}
 use Rattle.widget_host.specs.Housed.{IsApart, accepts}
 use Rattle.widget_host.proofs.Shown.{fine_at, life_accepted}

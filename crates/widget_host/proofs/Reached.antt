@@ -1,8 +1,8 @@
 -- The certificate of reach of a host.
-use Rattle.std.proofs.Common.{◌≡◌, ℕ, List, [], ◌∷◌, map, refl, ap, ◌∙◌, sym, arith, Option, Some, None}
+use Rattle.std.proofs.Common.{◌≡◌, ℕ, List, [], ◌∷◌, refl, ap, ◌∙◌, sym, arith, Option, Some, None}
 use Rattle.slot_laws.specs.Chains.{last_life}
-use Rattle.slot_reach.specs.slot_rounds.page_load.slot_picks.Crowds.{chains_of}
-use Rattle.slot_reach.specs.slot_rounds.page_load.slot_picks.declared.slots.Slot.{Slot}
+use Rattle.slot_picks.specs.Crowds.{chains_of}
+use Rattle.slot_picks.specs.declared.slots.Slot.{Slot}
 use Rattle.slot_reach.specs.Lasts.{AreFew, AreLast, IsLast}
 use Rattle.widget_meaning.specs.OwnState.{OwnState}
 use Rattle.widget_host.specs.declared.host.Host.{Host}

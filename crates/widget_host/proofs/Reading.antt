@@ -15,12 +15,12 @@ use Rattle.page_image.specs.Image.{HasRoot}
 use Rattle.native_image.specs.Sound.{HasRaw}
 use Rattle.js_image.specs.Held.{IsConfined}
 use Rattle.life_laws.specs.Life.{Going, Seen, image, shown}
-use Rattle.slot_reach.specs.slot_rounds.page_load.turn_calls.declared.turn.Shared.{Shared}
-use Rattle.slot_reach.specs.slot_rounds.page_load.slot_picks.declared.crowd.Place.{Place}
-use Rattle.slot_reach.specs.slot_rounds.page_load.turn_calls.declared.turn.Turn.{Turn}
-use Rattle.slot_reach.specs.slot_rounds.page_load.life_queue.Fine.{FineTurn}
-use Rattle.slot_reach.specs.slot_rounds.page_load.life_queue.Lives.{going_of, life_seen, own_of, trees_in}
-use Rattle.slot_reach.specs.slot_rounds.page_load.slot_picks.Places.{HoldsItsOwn, accepts_of, codes_of, lent}
+use Rattle.turn_returns.specs.declared.turn.Shared.{Shared}
+use Rattle.slot_picks.specs.declared.crowd.Place.{Place}
+use Rattle.turn_returns.specs.declared.turn.Turn.{Turn}
+use Rattle.life_queue.specs.Fine.{FineTurn}
+use Rattle.life_queue.specs.Lives.{going_of, life_seen, own_of, trees_in}
+use Rattle.slot_picks.specs.Places.{HoldsItsOwn, accepts_of, codes_of, lent}
 use Rattle.widget_host.specs.declared.host.Host.{Host}
 use Rattle.widget_host.specs.Housed.{IsHoused, IsWhole, accepts, own_trees, scripts, seens}
 use Rattle.widget_host.specs.Shapes.{HasOneRaw, IsReadOff, cells_of_host, cells_of_widgets}

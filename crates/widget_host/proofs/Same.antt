@@ -3,20 +3,20 @@ use Rattle.std.proofs.Common.{◌≡◌, ◌≤◌, List, map, length, refl, sym
 use Rattle.std.proofs.lemmas.List.{length-map}
 use Rattle.slot_laws.specs.Chains.{Chains}
 use Rattle.std.specs.Prelude.{slice_get, slice_index_or}
-use Rattle.page_tree.specs.page_nodes.Entries.{body}
+use Rattle.page_nodes.specs.Entries.{body}
 use Rattle.page_image.specs.Image.{own, root_of}
 use Rattle.native_image.specs.Sound.{HasRaw}
 use Rattle.object_store.specs.Owned.{owned}
 use Rattle.page_build.specs.Layout.{IsLot, lot_of}
 use Rattle.page_build.specs.Standing.{AreSpots, IsSpare, IsStanding, PagePasses}
 use Rattle.page_build.proofs.Passing.{pages_here}
-use Rattle.slot_reach.specs.slot_rounds.page_load.turn_calls.declared.turn.Shared.{Shared}
-use Rattle.slot_reach.specs.slot_rounds.page_load.slot_picks.declared.crowd.Crowd.{Crowd}
-use Rattle.slot_reach.specs.slot_rounds.page_load.slot_picks.declared.crowd.Place.{Place}
-use Rattle.slot_reach.specs.slot_rounds.page_load.slot_picks.declared.slots.Slot.{Slot}
-use Rattle.slot_reach.specs.slot_rounds.page_load.slot_picks.Crowds.{AreStanding, KeepsLives, KeepsSlots, chains_of, present_of, spots_of}
-use Rattle.slot_reach.specs.slot_rounds.page_load.slot_picks.Places.{OwnPlaces, told_of}
-use Rattle.slot_reach.specs.slot_rounds.Posting.{AreAlike}
+use Rattle.turn_returns.specs.declared.turn.Shared.{Shared}
+use Rattle.slot_picks.specs.declared.crowd.Crowd.{Crowd}
+use Rattle.slot_picks.specs.declared.crowd.Place.{Place}
+use Rattle.slot_picks.specs.declared.slots.Slot.{Slot}
+use Rattle.slot_picks.specs.Crowds.{AreStanding, KeepsLives, KeepsSlots, chains_of, present_of, spots_of}
+use Rattle.slot_picks.specs.Places.{OwnPlaces, told_of}
+use Rattle.slot_rounds.specs.Posting.{AreAlike}
 use Rattle.widget_host.proofs.Alike.{accepts_alike, codes_alike, homes_alike, own_alike, roots_alike, was_at}
 
 module _ (c d : Crowd) (all : d.shared ≡ c.shared) (same : AreAlike c.places.items d.places.items) where

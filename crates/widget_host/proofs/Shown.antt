@@ -7,14 +7,14 @@ use Rattle.std.proofs.lemmas.Option.{slice_get_read}
 use Rattle.page_image.specs.Image.{forest}
 use Rattle.life_laws.specs.Life.{Going, Seen, image, shown}
 use Rattle.widget_meaning.specs.OwnState.{OwnState}
-use Rattle.slot_reach.specs.slot_rounds.page_load.turn_calls.declared.turn.Shared.{Shared}
-use Rattle.slot_reach.specs.slot_rounds.page_load.slot_picks.declared.crowd.Crowd.{Crowd}
-use Rattle.slot_reach.specs.slot_rounds.page_load.slot_picks.declared.crowd.Place.{Place}
-use Rattle.slot_reach.specs.slot_rounds.page_load.life_queue.Lives.{going_of, life_seen, own_of}
-use Rattle.slot_reach.specs.slot_rounds.page_load.slot_picks.declared.slots.Slot.{Slot}
-use Rattle.slot_reach.specs.slot_rounds.page_load.slot_picks.Crowds.{chains_of, present_of, seens_of}
+use Rattle.turn_returns.specs.declared.turn.Shared.{Shared}
+use Rattle.slot_picks.specs.declared.crowd.Crowd.{Crowd}
+use Rattle.slot_picks.specs.declared.crowd.Place.{Place}
+use Rattle.life_queue.specs.Lives.{going_of, life_seen, own_of}
+use Rattle.slot_picks.specs.declared.slots.Slot.{Slot}
+use Rattle.slot_picks.specs.Crowds.{chains_of, present_of, seens_of}
 use Rattle.slot_laws.specs.Chains.{IsChain}
-use Rattle.slot_reach.specs.slot_rounds.page_load.slot_picks.Places.{FinePlace, FinePlaces, OwnPlace, OwnPlaces, accepts_of, homes_of, is_accepted, lent, seen_at, seens_from}
+use Rattle.slot_picks.specs.Places.{FinePlace, FinePlaces, OwnPlace, OwnPlaces, accepts_of, homes_of, is_accepted, lent, seen_at, seens_from}
 use Rattle.page_lines.specs.Ends.{AreEnds}
 use Rattle.widget_host.specs.declared.host.Host.{Host}
 use Rattle.widget_host.specs.declared.lines.RunLine.{RunLine}

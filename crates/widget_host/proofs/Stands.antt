@@ -7,22 +7,22 @@ use Rattle.slot_laws.specs.Chains.{Chains, IsChain}
 use Rattle.slot_laws.specs.Slots.{Each}
 use Rattle.code_units.specs.declared.owner.Owner.TheVariants as owner
 use Rattle.page_tree.specs.declared.page.Page.{Page}
-use Rattle.page_tree.specs.page_nodes.Owners.{same_owner}
-use Rattle.page_tree.proofs.PageNodes.Owners.{same_is}
+use Rattle.page_nodes.specs.Owners.{same_owner}
+use Rattle.page_nodes.proofs.Owners.{same_is}
 use Rattle.page_image.proofs.Pages.{is_widget}
-use Rattle.page_tree.specs.page_nodes.Entries.{at, body}
+use Rattle.page_nodes.specs.Entries.{at, body}
 use Rattle.page_tree.specs.Pages.{nodes}
 use Rattle.page_image.specs.Image.{root_of}
 use Rattle.page_build.specs.Layout.{IsLot, lot_of}
 use Rattle.page_build.specs.Layout as layout
 use Rattle.page_build.specs.Standing.{AreLotsOf}
 use Rattle.page_build.proofs.Pieces.{laid_by}
-use Rattle.page_spec.specs.Pages.{PagePiece}
-use Rattle.slot_reach.specs.slot_rounds.page_load.slot_picks.declared.crowd.Crowd.{Crowd}
-use Rattle.slot_reach.specs.slot_rounds.page_load.slot_picks.declared.crowd.Place.{Place}
-use Rattle.slot_reach.specs.slot_rounds.page_load.slot_picks.declared.slots.Slot.{Slot}
-use Rattle.slot_reach.specs.slot_rounds.page_load.slot_picks.Crowds.{AreStanding, chains_of, is_present, present_of, spots_of}
-use Rattle.slot_reach.specs.slot_rounds.page_load.slot_picks.Places.{homes_of, is_accepted, roots_of}
+use Rattle.page_plan.specs.Pages.{PagePiece}
+use Rattle.slot_picks.specs.declared.crowd.Crowd.{Crowd}
+use Rattle.slot_picks.specs.declared.crowd.Place.{Place}
+use Rattle.slot_picks.specs.declared.slots.Slot.{Slot}
+use Rattle.slot_picks.specs.Crowds.{AreStanding, chains_of, is_present, present_of, spots_of}
+use Rattle.slot_picks.specs.Places.{homes_of, is_accepted, roots_of}
 use Rattle.widget_host.specs.declared.host.Host.{Host}
 use Rattle.widget_host.specs.Housed.{IsApart, IsLaid, accepts, chains, names, rooted, spots}
 use Rattle.widget_host.proofs.Shown.{accepts_at}

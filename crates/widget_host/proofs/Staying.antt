@@ -15,12 +15,12 @@ use Rattle.page_build.proofs.Homes.{away_by}
 use Rattle.page_build.proofs.Pieces.{laid_passes}
 use Rattle.page_build.proofs.Passing.{pages_here, pages_then}
 use Rattle.page_build.specs.Standing.{HavePlaces}
-use Rattle.page_spec.specs.Pages.{PagePiece}
-use Rattle.slot_reach.specs.slot_rounds.page_load.slot_picks.declared.crowd.Crowd.{Crowd}
-use Rattle.slot_reach.specs.slot_rounds.page_load.slot_picks.declared.crowd.Place.{Place}
-use Rattle.slot_reach.specs.slot_rounds.page_load.slot_picks.declared.slots.Slot.{Slot}
-use Rattle.slot_reach.specs.slot_rounds.page_load.slot_picks.Crowds.{KeepsSlots, chains_of, spots_of}
-use Rattle.slot_reach.specs.slot_rounds.page_load.slot_picks.Places.{is_accepted}
+use Rattle.page_plan.specs.Pages.{PagePiece}
+use Rattle.slot_picks.specs.declared.crowd.Crowd.{Crowd}
+use Rattle.slot_picks.specs.declared.crowd.Place.{Place}
+use Rattle.slot_picks.specs.declared.slots.Slot.{Slot}
+use Rattle.slot_picks.specs.Crowds.{KeepsSlots, chains_of, spots_of}
+use Rattle.slot_picks.specs.Places.{is_accepted}
 use Rattle.widget_host.specs.declared.host.Host.{Host}
 use Rattle.widget_host.specs.Housed.{IsApart, IsLaid, KeepsHost, KeepsPlan, accepts, channels, ends, fuels, homes, libraries, names, scripts, shared, spots}
 

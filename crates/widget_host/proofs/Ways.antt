@@ -7,9 +7,9 @@ use Rattle.round_laws.specs.Fed.{Fed, IsQuiet, RoundsTo, again, ended, round, st
 use Rattle.slot_laws.specs.Chains.{last_life}
 use Rattle.slot_laws.specs.Settled.{SettledSlots}
 use Rattle.turn_sched.specs.declared.chooser.Ask.{Ask}
-use Rattle.slot_reach.specs.slot_rounds.Feeding as feeding
-use Rattle.slot_reach.specs.slot_rounds.Feeding.{HaveDone, IsLastShown, is_last}
-use Rattle.slot_reach.proofs.SlotRounds.Looping.{fed_lasts, fed_stays, last_of_lasts, shown_all}
+use Rattle.slot_rounds.specs.Feeding as feeding
+use Rattle.slot_rounds.specs.Feeding.{HaveDone, IsLastShown, is_last}
+use Rattle.slot_rounds.proofs.Looping.{fed_lasts, fed_stays, last_of_lasts, shown_all}
 use Rattle.widget_host.specs.declared.host.Host.{Host}
 use Rattle.widget_host.specs.Housed as housed
 use Rattle.widget_host.specs.Housed.{AreShown, HoldAll, KeepsHost, Passes, PassesUntil, WantsMemory, accepts, chains, channels, given, homes, journal, names, seens, told}

@@ -1,10 +1,10 @@
 -- A host is whole after picks.
 use Rattle.std.proofs.Common.{◌≡◌, ◌≤◌, ℕ, ◌+◌, ◌*◌, List, [], ◌∷◌, false, length, suc, refl, sym, ap, ◌∙◌, subst, arith, Some}
 use Rattle.std.specs.Prelude.{slice_get, slice_index_or}
-use Rattle.page_tree.specs.page_nodes.Entries.{body}
-use Rattle.slot_reach.specs.slot_rounds.page_load.slot_picks.Crowds.{AreHoused, FewCrowd, KeepsSlots}
-use Rattle.slot_reach.specs.slot_rounds.page_load.slot_picks.Places.{told_of}
-use Rattle.slot_reach.specs.slot_rounds.Feeding.{sum_of}
+use Rattle.page_nodes.specs.Entries.{body}
+use Rattle.slot_picks.specs.Crowds.{AreHoused, FewCrowd, KeepsSlots}
+use Rattle.slot_picks.specs.Places.{told_of}
+use Rattle.slot_rounds.specs.Feeding.{sum_of}
 use Rattle.widget_host.specs.declared.host.Host.{Host}
 use Rattle.widget_host.specs.Housed.{IsApart, IsWhole, accepts, ends, fuels, most_after, swaps, told}
 use Rattle.widget_host.proofs.Raws.{own_raws, raws_stay}

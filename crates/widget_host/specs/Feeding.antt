@@ -1,8 +1,8 @@
 -- Works that are put into the queues of lives.
 use Rattle.std.specs.Prelude.{◌≡◌, ℕ, ◌+◌, ◌++◌, ◌&&◌, Bool, true, false, List, [], ◌∷◌}
-use Rattle.slot_reach.specs.slot_rounds.page_load.life_queue.declared.life.Work.{Work}
-use Rattle.slot_reach.specs.slot_rounds.page_load.life_queue.declared.life.Work.TheVariants as work
-use Rattle.slot_reach.specs.slot_rounds.page_load.slot_picks.declared.crowd.Place.{Place}
+use Rattle.life_queue.specs.declared.life.Work.{Work}
+use Rattle.life_queue.specs.declared.life.Work.TheVariants as work
+use Rattle.slot_picks.specs.declared.crowd.Place.{Place}
 use Rattle.widget_host.specs.declared.items.HostItem.{HostItem}
 use Rattle.widget_host.specs.declared.items.HostItem.TheVariants as host
 

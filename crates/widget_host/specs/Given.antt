@@ -1,13 +1,13 @@
 -- What the lives of slots were given: the first ones of a page, with an item more, with a swap more, and in the end.
-use Rattle.std.specs.Prelude.{◌≡◌, ◌<◌, ◌+◌, ◌++◌, ℕ, Bool, false, if◌then◌else◌, List, [], ◌∷◌, map, nat_eq, Option, None, Some}
+use Rattle.std.specs.Prelude.{◌≡◌, ◌<◌, ◌+◌, ◌++◌, ℕ, false, if◌then◌else◌, List, [], ◌∷◌, map, nat_eq, Option}
 use Rattle.std.specs.Option.{option_map}
 use Rattle.adsafe_rules.specs.declared.accepted.Accepted.{Accepted}
-use Rattle.page_spec.specs.declared.SlotSpec.{SlotSpec}
-use Rattle.page_spec.specs.Contents.{content_of}
+use Rattle.page_plan.specs.declared.SlotSpec.{SlotSpec}
+use Rattle.page_plan.specs.Contents.{content_of}
 use Rattle.round_laws.specs.Fed.{Fed}
 use Rattle.slot_laws.specs.Chains.{listed}
-use Rattle.slot_reach.specs.slot_rounds.Feeding.{IsLastFed, is_last}
-use Rattle.slot_reach.specs.slot_rounds.page_load.life_queue.Lives.{event_of}
+use Rattle.slot_rounds.specs.Feeding.{IsLastFed, is_last}
+use Rattle.life_queue.specs.Lives.{event_of}
 use Rattle.widget_meaning.specs.Alone.{Content}
 use Rattle.widget_meaning.specs.Items.{Item, Occurs, Advance}
 use Rattle.widget_meaning.specs.OwnState.{OwnState}

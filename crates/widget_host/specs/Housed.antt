@@ -12,34 +12,34 @@ use Rattle.js_names.specs.Code.{tree_in}
 use Rattle.js_image.specs.Plans.{meant_cause}
 use Rattle.adsafe_rules.specs.Accepts.{tree_of}
 use Rattle.life_laws.specs.Life.{Seen, due, image}
-use Rattle.page_tree.specs.page_nodes.Entries.{body}
+use Rattle.page_nodes.specs.Entries.{body}
 use Rattle.pick_laws.specs.declared.entry.PickEntry.{PickEntry}
 use Rattle.pick_laws.specs.declared.entry.Picked.{Picked}
 use Rattle.pick_laws.specs.Journal.{on_at}
 use Rattle.slot_laws.specs.Slots.{IsTail, has}
 use Rattle.slot_laws.specs.Chains.{PickedIn, Unspent, joins, last_life, last_at}
-use Rattle.slot_reach.specs.slot_rounds.Feeding.{sum_of}
-use Rattle.slot_reach.specs.slot_rounds.page_load.slot_picks.Places.{HoldsItsOwn, codes_of, homes_of, is_accepted, roots_of, told_of}
-use Rattle.slot_reach.specs.slot_rounds.page_load.slot_picks.declared.crowd.Place.{Place}
-use Rattle.slot_reach.specs.slot_rounds.page_load.slot_picks.declared.slots.Slot.{Slot}
-use Rattle.slot_reach.specs.slot_rounds.page_load.slot_picks.Crowds.{AreHoused, AreStanding, FewCrowd, OwnCrowd, chains_of, present_of, seens_of, spots_of}
+use Rattle.slot_rounds.specs.Feeding.{sum_of}
+use Rattle.slot_picks.specs.Places.{HoldsItsOwn, codes_of, homes_of, is_accepted, roots_of, told_of}
+use Rattle.slot_picks.specs.declared.crowd.Place.{Place}
+use Rattle.slot_picks.specs.declared.slots.Slot.{Slot}
+use Rattle.slot_picks.specs.Crowds.{AreHoused, AreStanding, FewCrowd, OwnCrowd, chains_of, present_of, seens_of, spots_of}
 use Rattle.widget_meaning.specs.Limits.{max_posts}
 use Rattle.widget_meaning.specs.Values as meaning
 use Rattle.widget_meaning.specs.OwnState.{OwnState}
 use Rattle.widget_meaning.specs.Items.{Item, Occurs, Advance, item}
 use Rattle.widget_meaning.specs.Alone.{Content, beginning, loaded}
-use Rattle.slot_reach.specs.slot_rounds.page_load.turn_calls.declared.turn.Shared.{Shared}
-use Rattle.slot_reach.specs.slot_rounds.page_load.life_queue.Lives.{event_of}
-use Rattle.page_spec.specs.declared.PageSpec.{PageSpec}
-use Rattle.page_spec.specs.declared.SlotContent.{SlotContent}
-use Rattle.page_spec.specs.declared.SlotSpec.{SlotSpec}
-use Rattle.page_spec.specs.Contents.{content_of}
-use Rattle.page_spec.specs.Pages.{PagePiece, piece_of}
+use Rattle.turn_returns.specs.declared.turn.Shared.{Shared}
+use Rattle.life_queue.specs.Lives.{event_of}
+use Rattle.page_plan.specs.declared.PageSpec.{PageSpec}
+use Rattle.page_plan.specs.declared.SlotContent.{SlotContent}
+use Rattle.page_plan.specs.declared.SlotSpec.{SlotSpec}
+use Rattle.page_plan.specs.Contents.{content_of}
+use Rattle.page_plan.specs.Pages.{PagePiece, piece_of}
 use Rattle.page_build.specs.Homes.{HaveRaws}
 use Rattle.page_build.specs.Standing.{HavePlaces, IsLaidBy, PagePasses}
-use Rattle.slot_reach.specs.slot_rounds.page_load.Contents.{HasScriptsIn, content_in}
-use Rattle.slot_reach.specs.slot_rounds.page_load.Joining.{PageJoins}
-use Rattle.slot_reach.specs.slot_rounds.page_load.Loads.{HasNothing, HasScripts, singles}
+use Rattle.page_load.specs.Contents.{HasScriptsIn, content_in}
+use Rattle.page_load.specs.Joining.{PageJoins}
+use Rattle.page_load.specs.Loads.{HasNothing, HasScripts, singles}
 use Rattle.widget_host.specs.declared.host.Host.{Host}
 use Rattle.widget_host.specs.declared.items.HostItem.{HostItem}
 use Rattle.widget_host.specs.declared.items.HostItem.TheVariants as host

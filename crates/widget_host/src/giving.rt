@@ -2,18 +2,18 @@
 ghost use Rattle.std.specs.Prelude.{◌≡◌, ℕ, ◌<◌, ◌≤◌, IsErr, OnErr, OnOk, false, length, map, nat_eq, true};
 ghost use Rattle.std.specs.List.{list_any};
 ghost use Rattle.life_laws.specs.Life.{image};
-ghost use Rattle.slot_reach.specs.slot_rounds.page_load.life_queue.declared.life.Work.TheVariants as work;
+ghost use Rattle.life_queue.specs.declared.life.Work.TheVariants as work;
 ghost use Rattle.slot_laws.specs.Chains.{Chains, last_life};
-ghost use Rattle.slot_reach.specs.slot_rounds.page_load.slot_picks.Crowds.{chains_of};
-ghost use Rattle.slot_reach.specs.slot_rounds.page_load.slot_picks.Places.{homes_of};
+ghost use Rattle.slot_picks.specs.Crowds.{chains_of};
+ghost use Rattle.slot_picks.specs.Places.{homes_of};
 ghost use Rattle.widget_host.specs.Feeding.{AreFed, AreSame, IsFed, IsSame, work_of};
 ghost use Rattle.widget_host.specs.Housed.{GivesItem, IsHoused, IsItem, KeepsHost, chains, given, is_for, journal, marked, seens, shared, told};
 
 use crate::host::Host;
 use crate::items::HostItem;
 use code_units::Memory;
-use slot_reach::slot_rounds::page_load::life_queue::Work;
-use slot_reach::slot_rounds::page_load::slot_picks::{Place, Slot};
+use life_queue::Work;
+use slot_picks::{Place, Slot};
 
 /// The life that is last in a slot.
 pub(crate) fn last_of(slot: &[u32]) -> u32

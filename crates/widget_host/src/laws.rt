@@ -2,9 +2,9 @@
 ghost use Rattle.std.specs.Prelude.{◌≡◌, ◌<◌, ◌++◌, ◌∷◌, [], List, Option, false, length, map, slice_index_or, ℕ};
 ghost use Rattle.adsafe_rules.specs.declared.accepted.Accepted.{Accepted};
 ghost use Rattle.adsafe_rules.specs.Accepts.{tree_of};
-ghost use Rattle.page_spec.specs.declared.PageSpec.{PageSpec};
-ghost use Rattle.page_spec.specs.declared.SlotContent.{SlotContent};
-ghost use Rattle.page_spec.specs.Contents.{content_of};
+ghost use Rattle.page_plan.specs.declared.PageSpec.{PageSpec};
+ghost use Rattle.page_plan.specs.declared.SlotContent.{SlotContent};
+ghost use Rattle.page_plan.specs.Contents.{content_of};
 ghost use Rattle.round_laws.specs.Fed.{Fed};
 ghost use Rattle.round_laws.specs.RoundLaws.{fed_at};
 ghost use Rattle.widget_host.specs.declared.host.Host.{Host};

@@ -2,19 +2,18 @@
 ghost use Rattle.std.specs.Prelude.{◌≡◌, ◌<◌, ℕ, IfOk, IsErr, Some, true, option_map, slice_get, slice_index_or, length, false};
 ghost use Rattle.life_laws.specs.Life.{Seen, image};
 ghost use Rattle.slot_laws.specs.Chains.{listed};
-ghost use Rattle.slot_reach.specs.slot_rounds.page_load.slot_picks.Crowds.{FineCrowd, seens_of};
-ghost use Rattle.slot_reach.specs.slot_rounds.page_load.slot_picks.Places.{is_accepted};
-ghost use Rattle.slot_reach.specs.slot_rounds.page_load.life_queue.Lives as life;
-ghost use Rattle.slot_reach.specs.slot_rounds.page_load.life_queue.Lives.{life_seen};
-ghost use Rattle.slot_reach.specs.slot_rounds.page_load.turn_calls.declared.turn.Shared.{Shared as SharedOf};
+ghost use Rattle.slot_picks.specs.Crowds.{FineCrowd, seens_of};
+ghost use Rattle.slot_picks.specs.Places.{is_accepted};
+ghost use Rattle.life_queue.specs.Lives as life;
+ghost use Rattle.life_queue.specs.Lives.{life_seen};
+ghost use Rattle.turn_returns.specs.declared.turn.Shared.{Shared as SharedOf};
 ghost use Rattle.widget_host.specs.Housed.{IsHoused, IsLineOf, accepts, chains, ends, marked, meant_stop, present, seens, swaps};
 
 use crate::host::Host;
 use code_units::{Memory, Text};
 use js_image::StopCause;
-use slot_reach::slot_rounds::page_load::js_steps;
-use slot_reach::slot_rounds::page_load::life_queue::Life;
-use slot_reach::slot_rounds::page_load::slot_picks::{Crowd, present, spent_at};
+use life_queue::Life;
+use slot_picks::{Crowd, present, spent_at};
 use std::alloc::Global;
 
 /// Why a life has stopped: a turn had no fuel left, or a limit would have been passed.

@@ -1,15 +1,15 @@
 //! A page becomes a host.
-ghost use Rattle.std.specs.Prelude.{◌≡◌, IfOk};
+ghost use Rattle.std.specs.Prelude.{IfOk};
 ghost use Rattle.std.specs.List.{IsDistinct};
 ghost use Rattle.std.specs.Str.{bytes_eq};
-ghost use Rattle.page_spec.specs.Loadable.{names_of};
+ghost use Rattle.page_plan.specs.Loadable.{names_of};
 ghost use Rattle.widget_host.specs.Housed.{Loads};
 
 use crate::host::Host;
 use code_units::Memory;
 use keyed_names::Keys;
-use page_spec::PageSpec;
-use slot_reach::slot_rounds::page_load::{Loaded, load_page};
+use page_load::{Loaded, load_page};
+use page_plan::PageSpec;
 use std::alloc::Global;
 
 /// The host of a page: each slot with its first life, and nothing given.

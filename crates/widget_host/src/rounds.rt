@@ -7,14 +7,14 @@ ghost use Rattle.pick_laws.specs.Journal.{ready_from};
 ghost use Rattle.round_laws.specs.Fed.{Fed, RoundsTo, state};
 ghost use Rattle.slot_laws.specs.Chains.{last_life};
 ghost use Rattle.slot_laws.specs.Settled.{SettledSlots, slot_flags};
-ghost use Rattle.slot_reach.specs.slot_rounds.Feeding.{Delivers, HaveDone, is_last, sum_of};
+ghost use Rattle.slot_rounds.specs.Feeding.{Delivers, HaveDone, is_last, sum_of};
 ghost use Rattle.widget_host.specs.Given.{AreEnded, AreRetired};
 ghost use Rattle.widget_host.specs.Housed.{AreShown, HoldAll, IsApart, IsHoused, IsWhole, KeepsHost, chains, channels, ends, given, homes, journal, marked, names, seens, told};
 ghost use Rattle.widget_host.specs.Rounds.{AreFed, PassesRoundsUntil};
 
 use crate::host::Host;
 use code_units::Memory;
-use slot_reach::slot_rounds::deliver_posts;
+use slot_rounds::deliver_posts;
 use std::alloc::Global;
 use turn_sched::Chooser;
 

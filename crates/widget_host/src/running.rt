@@ -13,7 +13,7 @@ use crate::host::Host;
 use crate::items::HostItem;
 use code_units::Memory;
 use pick_laws::Picked;
-use slot_reach::slot_rounds::page_load::slot_picks::{pick_slot, settle_slots};
+use slot_picks::{pick_slot, settle_slots};
 use std::alloc::Global;
 use turn_sched::Chooser;
 

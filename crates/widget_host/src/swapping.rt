@@ -1,18 +1,18 @@
 //! A slot gets another file: its next life is born, and waits for its turn in the slot.
 ghost use Rattle.std.specs.Prelude.{◌≡◌, ◌<◌, ℕ, IsErr, List, OnErr, OnOk, Some, false, length, map, slice_get, true};
-ghost use Rattle.page_spec.specs.Loadable.{IsSwapLoadable};
+ghost use Rattle.page_plan.specs.Loadable.{IsSwapLoadable};
 ghost use Rattle.pick_laws.specs.Journal.{on_at};
 ghost use Rattle.slot_laws.specs.Chains.{joins};
-ghost use Rattle.slot_reach.specs.slot_rounds.page_load.slot_picks.declared.slots.Slot.{Slot as SlotOf};
-ghost use Rattle.slot_reach.specs.slot_rounds.page_load.slot_picks.Crowds.{chains_of};
+ghost use Rattle.slot_picks.specs.declared.slots.Slot.{Slot as SlotOf};
+ghost use Rattle.slot_picks.specs.Crowds.{chains_of};
 ghost use Rattle.widget_host.specs.Housed.{BearsLife, GivesSwap, IsApart, IsHoused, IsWhole, KeepsOthers, chains, given, libraries, marked, names, swaps};
 
 use crate::giving::last_of;
 use crate::host::Host;
 use code_units::Memory;
-use page_spec::SlotContent;
-use slot_reach::slot_rounds::page_load::slot_picks::Slot;
-use slot_reach::slot_rounds::page_load::{Coming, add_life};
+use page_load::{Coming, add_life};
+use page_plan::SlotContent;
+use slot_picks::Slot;
 use std::alloc::Global;
 
 // A life waits behind those of a slot.

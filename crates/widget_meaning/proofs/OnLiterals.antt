@@ -10,9 +10,9 @@ use Rattle.serde_json.proofs.OnLiterals.{serde_json_on_literals}
 use Rattle.plain_tree.specs.Names as names
 use Rattle.plain_tree.specs.Tags as tags
 use Rattle.query_grammar.specs.Machine as query
-use Rattle.query_grammar.specs.style_text.Form as form
-use Rattle.query_grammar.specs.style_text.Machine as machine
-use Rattle.query_grammar.specs.style_text.Styles as styles
+use Rattle.style_text.specs.Form as form
+use Rattle.style_text.specs.Machine as machine
+use Rattle.style_text.specs.Styles as styles
 use Rattle.widget_meaning.specs.Scopes as scopes
 
 -- what an answer unfolds to compute a widget on a literal

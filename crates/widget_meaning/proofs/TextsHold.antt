@@ -6,10 +6,10 @@ use Rattle.query_grammar.specs.Machine.{judged}
 use Rattle.query_grammar.specs.Steps.{Step}
 use Rattle.query_grammar.proofs.Complete as query_complete
 use Rattle.query_grammar.proofs.Sound as query_sound
-use Rattle.query_grammar.specs.style_text.Styles.{Pair}
-use Rattle.query_grammar.specs.style_text.Machine.{begin, goes}
-use Rattle.query_grammar.proofs.StyleText.Complete as style_complete
-use Rattle.query_grammar.proofs.StyleText.Sound as style_sound
+use Rattle.style_text.specs.Styles.{Pair}
+use Rattle.style_text.specs.Machine.{begin, goes}
+use Rattle.style_text.proofs.Complete as style_complete
+use Rattle.style_text.proofs.Sound as style_sound
 use Rattle.widget_meaning.specs.Outcomes.{what_is_read}
 use Rattle.widget_meaning.specs.Queries.{QueryLaws}
 use Rattle.widget_meaning.specs.Styles.{StyleLaws}

@@ -8,7 +8,7 @@ use Rattle.widget_meaning.specs.OwnState.{State, kept_at, new_array, new_bunch, 
 use Rattle.widget_meaning.specs.Plan.{Plan, charge}
 use Rattle.widget_meaning.specs.Costs.{pay, cost, make_text, throw, give, want}
 use Rattle.widget_meaning.specs.NativeForms.{want_primitives, on_bunch, make_bunch, give_texts, numbered_pairs}
-use Rattle.query_grammar.specs.style_text.Styles.{is_listed}
+use Rattle.style_text.specs.Styles.{is_listed}
 use Rattle.widget_meaning.specs.Styles.{style_pairs, style_value}
 use Rattle.widget_meaning.specs.PageForms.{want_all, attribute, texts_of, tag_of, is_input, is_text_node, once, next_node}
 use Rattle.query_grammar.specs.declared.query.Hunter.{Hunter}

@@ -15,7 +15,7 @@ use Rattle.widget_meaning.specs.Plan.{Plan, Do, Call, charge, and_then, after}
 use Rattle.widget_meaning.specs.Costs.{pay, cost, slots_cost, give, or_throw, want}
 use Rattle.widget_meaning.specs.NativeForms.{want_primitives, want_function, on_bunch}
 use Rattle.widget_meaning.specs.Dispatch.{dispatch}
-use Rattle.query_grammar.specs.style_text.Styles.{is_listed, is_value, print_style}
+use Rattle.style_text.specs.Styles.{is_listed, is_value, print_style}
 use Rattle.query_grammar.specs.Finds.{has_number}
 use Rattle.widget_meaning.specs.PageForms.{root, want_all, want_one, want_bunch, is_void, is_input, is_field, is_text_node, is_element, is_tag, tree_units, next_node, with_room, with_label}
 use Rattle.widget_meaning.specs.BunchReads.{bunches_from, with_bunch}

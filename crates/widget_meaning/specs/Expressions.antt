@@ -12,7 +12,7 @@ use Rattle.js_tree.specs.declared.nodes.AssignOp.{AssignOp}
 use Rattle.js_tree.specs.declared.nodes.AssignOp.TheVariants as assignment
 pub use Rattle.js_tree.specs.Lists.{expr_list, property_list}
 use Rattle.js_tree.specs.Plain as tree
-use Rattle.js_tree.specs.Plain.{Expr, ExprForm, Exprs, Properties}
+use Rattle.js_tree.specs.Plain.{Expr, ExprForm, Properties}
 use Rattle.code_units.specs.declared.whole.WholeRead.{WholeRead}
 use Rattle.code_units.specs.declared.whole.WholeRead.TheVariants as read_as
 use Rattle.code_units.specs.Whole.{number_in}

@@ -5,7 +5,7 @@ use Rattle.std.specs.Str.{bytes_eq}
 use Rattle.std.specs.Option.{option_or}
 pub use Rattle.js_tree.specs.Lists.{fun_list}
 use Rattle.js_tree.specs.Plain as tree
-use Rattle.js_tree.specs.Plain.{Stmt, StmtForm, Stmts, Decls, ForInit, OptionalBlock, Catch, Clauses, Fun, Funs}
+use Rattle.js_tree.specs.Plain.{Stmt, StmtForm, Stmts, Decls, ForInit, OptionalBlock, Catch, Clauses, Fun}
 use Rattle.widget_meaning.specs.Values.{Value, Undefined, nth}
 use Rattle.widget_meaning.specs.OwnState.{State, Scope, lookup, replaced, scope_at, with_scope}
 use Rattle.widget_meaning.specs.Plan.{Place}

@@ -2,7 +2,7 @@
 use Rattle.std.specs.Prelude.{ℕ, List, [], ◌∷◌, ◌++◌, length, if◌then◌else◌, Some, is_some}
 pub use Rattle.js_tree.specs.Lists.{decl_list, clause_list}
 use Rattle.js_tree.specs.Plain as tree
-use Rattle.js_tree.specs.Plain.{Expr, OptionalExpr, Stmt, StmtForm, Stmts, Decls, ForInit, OptionalBlock, Catch, Clauses}
+use Rattle.js_tree.specs.Plain.{Expr, OptionalExpr, Stmt, StmtForm, Stmts, ForInit, OptionalBlock, Catch}
 use Rattle.widget_meaning.specs.Values.{Value, Undefined, Text, Completion, Normal, Return, Break, Continue, Throw, E1, is_true, is_nothing}
 use Rattle.widget_meaning.specs.Operators.{is_same}
 use Rattle.widget_meaning.specs.OwnState.{State, with_new_scope, Scope}

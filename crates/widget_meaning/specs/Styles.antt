@@ -2,8 +2,8 @@
 use Rattle.std.specs.Prelude.{◌≡◌, ℕ, not, List, [], ◌∷◌, ◌++◌, length, map, nat_eq, if◌then◌else◌, Option, Some, None}
 use Rattle.std.specs.List.{filter}
 use Rattle.std.specs.Str.{bytes_eq}
-use Rattle.query_grammar.specs.style_text.Styles.{Pair, is_used, StyleSpells}
-use Rattle.query_grammar.specs.style_text.Machine.{begin, goes}
+use Rattle.style_text.specs.Styles.{Pair, is_used, StyleSpells}
+use Rattle.style_text.specs.Machine.{begin, goes}
 use Rattle.widget_meaning.specs.Outcomes.{what_is_read}
 
 -- the pairs of a style; a text that is none has none

@@ -7,7 +7,7 @@ ghost use Rattle.widget_meaning.specs.NativeLaws.{SplitLaws, SortLaws};
 ghost use Rattle.widget_meaning.specs.NativeRows.{NativeRows};
 ghost use Rattle.query_grammar.specs.Renumbering.{IsWhole};
 ghost use Rattle.query_grammar.specs.Steps.{Step};
-ghost use Rattle.query_grammar.specs.style_text.Styles.{Pair};
+ghost use Rattle.style_text.specs.Styles.{Pair};
 ghost use Rattle.widget_meaning.specs.Queries.{QueryLaws, sight};
 ghost use Rattle.widget_meaning.specs.Styles.{StyleLaws};
 ghost use Rattle.widget_meaning.specs.Values.{Value};

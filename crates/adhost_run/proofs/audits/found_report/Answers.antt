@@ -1,4 +1,3 @@
-use Rattle.std.proofs.Common.{refl}
 use Rattle.reach_cert.specs.Certs.{plain}
 use Rattle.adhost_run.proofs.Auditing.{kept_report_of, leak_report_of}
 use Rattle.adhost_run.proofs.audits.found_report.Goals as goal

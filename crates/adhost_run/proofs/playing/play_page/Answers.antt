@@ -4,7 +4,7 @@ use Rattle.std.proofs.lemmas.List.{length-map}
 use Rattle.trace_reader.specs.Said.{said}
 use Rattle.trace_reader.specs.declared.item.TraceItem.{TraceItem}
 use Rattle.slot_check.specs.Verdicts.{sources_of}
-use Rattle.page_spec.specs.Loadable.{AreLoadableSwaps, names_of}
+use Rattle.page_plan.specs.Loadable.{AreLoadableSwaps, names_of}
 use Rattle.page_play.specs.declared.findings.Findings.{Findings}
 use Rattle.page_play.specs.Swaps.{swap_slots, swap_positions}
 use Rattle.adhost_run.proofs.Paged.{names_within, as_many_named, few_fit}

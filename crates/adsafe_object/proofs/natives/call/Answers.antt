@@ -2,7 +2,7 @@ use Rattle.std.proofs.Common.{ℕ, List, OnErr, sym, ap, subst}
 use Rattle.js_tree.specs.Forest.{Forest}
 use Rattle.store_cells.specs.Cells.{number_in}
 use Rattle.js_image.specs.Held.{Kept}
-use Rattle.native_forms.specs.Receivers.{IsReceiver}
+use Rattle.native_common.specs.Receivers.{IsReceiver}
 use Rattle.adsafe_object.specs.Timers.{AsksOwn}
 use Rattle.adsafe_object.proofs.natives.call.Goals as goal
 

@@ -2,8 +2,8 @@ use Rattle.std.proofs.Common.{refl, sym, subst}
 use Rattle.std.proofs.lemmas.Result.{IfOk-weaker}
 use Rattle.js_image.specs.Image.{image}
 use Rattle.js_image.specs.Held.{IsFine}
-use Rattle.native_forms.proofs.Meeting.{meets_free}
-use Rattle.native_forms.specs.Receivers.{receiver}
+use Rattle.native_common.proofs.Meeting.{meets_free}
+use Rattle.native_common.specs.Receivers.{receiver}
 use Rattle.adsafe_object.proofs.Exits.{confined_run, meets_run, noted_free, noted_run, noted_same, text_run}
 use Rattle.adsafe_object.proofs.Lists.{create_is, from_json_is, get_is, has_is, has_own_is, is_array_is, keys_is, later_is, log_is, nth_fine, post_is, remove_is, set_is, to_json_is}
 use Rattle.adsafe_object.proofs.Timing.{unasked}

@@ -8,9 +8,9 @@ use Rattle.widget_meaning.specs.AdsafeNatives.{keys_native}
 use Rattle.js_image.specs.Image.{image, seen}
 use Rattle.js_values.specs.Fuel.{Fuel}
 use Rattle.js_values.specs.declared.outcome.NativeOut.TheVariants as native
-use Rattle.native_forms.specs.Meets.{Meets}
-use Rattle.native_forms.specs.Numbers.{counted}
-use Rattle.native_forms.proofs.Meeting.{meets_lacking, meets_same, ok_charged, ok_meets_same}
+use Rattle.native_common.specs.Meets.{Meets}
+use Rattle.native_common.specs.Numbers.{counted}
+use Rattle.native_common.proofs.Meeting.{meets_lacking, meets_same, ok_charged, ok_meets_same}
 use Rattle.adsafe_object.proofs.objects.keys.Goals as goal
 
 pub returns-in-Err-clause-native : goal.returns-in-Err-clause-native

@@ -4,7 +4,7 @@ use Rattle.std.specs.List.{list_any}
 use Rattle.std.proofs.lemmas.List.{at_drop_all}
 use Rattle.widget_meaning.specs.Limits.{max_text}
 use Rattle.widget_meaning.specs.NativeForms.{is_too_long}
-use Rattle.native_forms.proofs.Loops.{over_no, over_yes, stepped}
+use Rattle.native_common.proofs.Loops.{over_no, over_yes, stepped}
 use Rattle.adsafe_object.proofs.texts.any_long.Goals as goal
 
 pub returns-then-text_len-gt-LONGEST : goal.returns-then-text_len-gt-LONGEST

@@ -3,7 +3,7 @@ use Rattle.widget_meaning.specs.Limits.{max_units}
 use Rattle.widget_meaning.specs.Plan.{Halt}
 use Rattle.js_image.specs.Image.{image}
 use Rattle.js_image.specs.Plans.{meant_cause}
-use Rattle.native_forms.proofs.Meeting.{ends_here}
+use Rattle.native_common.proofs.Meeting.{ends_here}
 use Rattle.adsafe_object.specs.Names.{too_many}
 use Rattle.adsafe_object.proofs.Lists.{texts_stop}
 use Rattle.adsafe_object.proofs.texts.give_texts.Goals as goal

@@ -4,7 +4,7 @@ use Rattle.std.specs.declared.alloc.Global.{Global}
 use Rattle.std.proofs.lemmas.Result.{IfOk-weaker}
 use Rattle.std.specs.Option.{option_map}
 use Rattle.js_image.specs.Image.{all_seen, seen}
-use Rattle.native_forms.specs.Receivers.{receiver}
+use Rattle.native_common.specs.Receivers.{receiver}
 use Rattle.page_image.specs.Image.{number}
 use Rattle.page_image.proofs.Pages.{is_widget}
 use Rattle.widget_meaning.specs.BunchReads.{query}

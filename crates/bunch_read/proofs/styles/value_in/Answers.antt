@@ -1,7 +1,7 @@
 use Rattle.std.proofs.Common.{◌+◌, drop, sym, ap, ◌∙◌, if◌then◌else◌}
 use Rattle.std.proofs.lemmas.Result.{IfOk-weaker}
 use Rattle.widget_meaning.specs.Styles.{style_value}
-use Rattle.native_forms.proofs.Loops.{stepped}
+use Rattle.native_common.proofs.Loops.{stepped}
 use Rattle.bunch_read.proofs.styles.value_in.Goals as goal
 
 pub each-preserved : goal.each-preserved

@@ -1,6 +1,6 @@
 use Rattle.std.proofs.Common.{◌≡◌, ◌+◌, length, take}
 use Rattle.plain_tree.specs.Trees.{height}
-use Rattle.native_forms.specs.Numbers.{counted}
+use Rattle.native_common.specs.Numbers.{counted}
 use Rattle.bunch_read.proofs.Content.{own_tree, texts}
 use Rattle.bunch_read.proofs.texts.+content_len.Given as goal
 

@@ -2,7 +2,7 @@ use Rattle.std.proofs.Common.{◌+◌, drop, sym, ap, ◌∙◌}
 use Rattle.std.specs.Prelude.{◌||◌}
 use Rattle.std.specs.List.{list_any}
 use Rattle.std.proofs.lemmas.List.{at_drop_all}
-use Rattle.native_forms.proofs.Loops.{stepped}
+use Rattle.native_common.proofs.Loops.{stepped}
 use Rattle.bunch_read.specs.Values.{is_long}
 use Rattle.bunch_read.proofs.texts.any_long.Goals as goal
 

@@ -1,6 +1,6 @@
 use Rattle.std.proofs.Common.{ap, length, ◌∙◌, Some}
 use Rattle.page_nodes.specs.Entries.{label_of}
-use Rattle.native_forms.specs.Numbers.{counted}
+use Rattle.native_common.specs.Numbers.{counted}
 use Rattle.bunch_read.proofs.Content.{none_own, own_is}
 use Rattle.bunch_read.proofs.texts.own_len.Goals as goal
 

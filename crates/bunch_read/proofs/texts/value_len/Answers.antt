@@ -1,6 +1,6 @@
 use Rattle.std.proofs.Common.{ap, length, sym, ◌∙◌}
 use Rattle.std.specs.Prelude.{option_copied, unwrap_or, []}
-use Rattle.native_forms.specs.Numbers.{counted}
+use Rattle.native_common.specs.Numbers.{counted}
 use Rattle.bunch_read.proofs.Valued.{content_value, input_value}
 use Rattle.bunch_read.proofs.texts.value_len.Goals as goal
 

@@ -1,5 +1,5 @@
 use Rattle.std.proofs.Common.{◌+◌, length, map, take, get_or, ap, ◌∙◌}
-use Rattle.native_forms.specs.Numbers.{counted}
+use Rattle.native_common.specs.Numbers.{counted}
 use Rattle.widget_meaning.specs.BunchReads as means
 use Rattle.page_image.specs.Image.{number}
 use Rattle.bunch_read.specs.Values.{all_units}

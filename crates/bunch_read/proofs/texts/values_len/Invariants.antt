@@ -1,6 +1,6 @@
 use Rattle.std.proofs.Common.{◌≡◌, map, take}
 use Rattle.widget_meaning.specs.OwnState.{State}
-use Rattle.native_forms.specs.Numbers.{counted}
+use Rattle.native_common.specs.Numbers.{counted}
 use Rattle.page_image.specs.Image.{forest, number}
 use Rattle.bunch_read.specs.Values.{all_units}
 use Rattle.bunch_read.proofs.texts.values_len.Given as goal

@@ -2,7 +2,7 @@ use Rattle.std.proofs.Common.{map, refl, sym, ap, ◌∙◌}
 use Rattle.std.specs.List.{list_all}
 use Rattle.page_image.specs.Image.{forest, number}
 use Rattle.page_image.specs.Targets.{takes}
-use Rattle.bunch_marks.proofs.NativeImage.Lists.{all_not, element_in, mapped_whole, open_more}
+use Rattle.native_image.proofs.Lists.{all_not, element_in, mapped_whole, open_more}
 use Rattle.bunch_trees.proofs.appending.all_take.Goals as goal
 
 pub may_append-requires-clause-target : goal.may_append-requires-clause-target

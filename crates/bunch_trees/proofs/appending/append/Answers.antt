@@ -10,9 +10,9 @@ use Rattle.widget_meaning.specs.Values.{E4}
 use Rattle.js_image.specs.declared.outcome.Fault.TheVariants as fault
 use Rattle.js_image.specs.Image.{seen}
 use Rattle.page_image.specs.Image.{number}
-use Rattle.bunch_marks.specs.native_image.Image.{beside, image}
-use Rattle.bunch_marks.proofs.NativeImage.Keeping.{keeps_here}
-use Rattle.bunch_marks.proofs.NativeImage.Working.{at_thrown, ok_at_same}
+use Rattle.native_image.specs.Image.{beside, image}
+use Rattle.native_image.proofs.Keeping.{keeps_here}
+use Rattle.native_image.proofs.Working.{at_thrown, ok_at_same}
 use Rattle.bunch_trees.specs.Appends.{append_nodes}
 use Rattle.bunch_trees.proofs.Roots.{some_own}
 use Rattle.bunch_trees.proofs.appending.append.Goals as goal

@@ -10,9 +10,9 @@ use Rattle.widget_meaning.specs.PageForms.{tree_units}
 use Rattle.js_image.specs.Image.{seen}
 use Rattle.page_image.specs.Copies.{trees_at}
 use Rattle.page_image.specs.Image.{number}
-use Rattle.bunch_marks.specs.native_image.Weights.{amounts}
-use Rattle.bunch_marks.proofs.NativeImage.Joint.{sound_stays}
-use Rattle.bunch_marks.proofs.NativeImage.Keeping.{keeps_here, keeps_store, keeps_then, store_then}
+use Rattle.native_image.specs.Weights.{amounts}
+use Rattle.native_image.proofs.Joint.{sound_stays}
+use Rattle.native_image.proofs.Keeping.{keeps_here, keeps_store, keeps_then, store_then}
 use Rattle.bunch_trees.specs.Appends.{append_paid}
 use Rattle.bunch_trees.proofs.Counting.{times}
 use Rattle.bunch_trees.proofs.Ending.{given_back}

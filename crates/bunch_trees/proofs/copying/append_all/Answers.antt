@@ -9,8 +9,8 @@ use Rattle.widget_meaning.specs.Trees.{moved}
 use Rattle.js_image.proofs.Grown.{kept_same}
 use Rattle.page_image.specs.Image.{number}
 use Rattle.page_image.proofs.Results.{ok_then}
-use Rattle.bunch_marks.specs.native_image.Image.{beside, image}
-use Rattle.bunch_marks.proofs.NativeImage.Keeping.{keeps_here, keeps_paged, keeps_then}
+use Rattle.native_image.specs.Image.{beside, image}
+use Rattle.native_image.proofs.Keeping.{keeps_here, keeps_paged, keeps_then}
 use Rattle.bunch_trees.proofs.Changed.{changes_none, changes_page, changes_same, changes_then}
 use Rattle.bunch_trees.proofs.Grafted.{appended_last}
 use Rattle.bunch_trees.proofs.Numbered.{front_own, last_in, last_split, no_nodes, same_numbers, still_own}

@@ -5,7 +5,7 @@ use Rattle.widget_meaning.specs.Trees.{moved}
 use Rattle.js_image.proofs.Grown.{kept_same}
 use Rattle.page_image.specs.Image.{forest, number, owns}
 use Rattle.page_image.proofs.Results.{ok_then}
-use Rattle.bunch_marks.proofs.NativeImage.Keeping.{keeps_paged, keeps_then, sound_page}
+use Rattle.native_image.proofs.Keeping.{keeps_paged, keeps_then, sound_page}
 use Rattle.bunch_trees.proofs.Grafted.{copies_come}
 use Rattle.bunch_trees.proofs.copying.append_copies.Goals as goal
 

@@ -3,7 +3,7 @@ use Rattle.js_image.proofs.Grown.{kept_same}
 use Rattle.js_image.proofs.Units.{kept_then}
 use Rattle.page_image.specs.Copies.{AreCopied}
 use Rattle.page_image.proofs.Copies.{copied_all, copied_at, copied_none, still_owned}
-use Rattle.bunch_marks.proofs.NativeImage.Keeping.{keeps_here, keeps_then}
+use Rattle.native_image.proofs.Keeping.{keeps_here, keeps_then}
 use Rattle.bunch_trees.proofs.copying.copy_all.Goals as goal
 
 pub each-init : goal.each-init

@@ -4,7 +4,7 @@ use Rattle.object_store.specs.Owned.{owned}
 use Rattle.event_loop.specs.declared.around.Loop.{Loop}
 use Rattle.js_image.specs.Held.{Kept}
 use Rattle.page_image.specs.Copies.{AreCopied}
-use Rattle.bunch_marks.specs.native_image.Sound.{HoldsOwn, IsSound, KeepsAll}
+use Rattle.native_image.specs.Sound.{HoldsOwn, IsSound, KeepsAll}
 use Rattle.bunch_trees.proofs.copying.copy_all.Given as goal
 
 -- those before are copied

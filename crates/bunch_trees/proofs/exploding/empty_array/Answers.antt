@@ -6,7 +6,7 @@ use Rattle.widget_meaning.specs.OwnState.{new_array}
 use Rattle.js_image.specs.Held.{AreFine}
 use Rattle.js_image.specs.Image.{all_seen, image, seen}
 use Rattle.js_image.specs.Plans.{IsFineMade, made_plan}
-use Rattle.bunch_marks.proofs.NativeImage.Told.{made_told}
+use Rattle.native_image.proofs.Told.{made_told}
 use Rattle.bunch_trees.proofs.exploding.empty_array.Goals as goal
 
 pub make_array-requires-clause-held : goal.make_array-requires-clause-held

@@ -7,11 +7,11 @@ use Rattle.widget_meaning.specs.Costs.{or_throw}
 use Rattle.widget_meaning.specs.NativeNames.{Explode}
 use Rattle.widget_meaning.specs.Values.{E3}
 use Rattle.js_image.specs.declared.outcome.Fault.TheVariants as fault
-use Rattle.native_forms.specs.Receivers.{receiver}
+use Rattle.native_common.specs.Receivers.{receiver}
 use Rattle.page_image.specs.Image.{number}
-use Rattle.bunch_marks.specs.native_image.Image.{beside, image}
-use Rattle.bunch_marks.proofs.NativeImage.Keeping.{keeps_here}
-use Rattle.bunch_marks.proofs.NativeImage.Working.{at_thrown, ok_at_same}
+use Rattle.native_image.specs.Image.{beside, image}
+use Rattle.native_image.proofs.Keeping.{keeps_here}
+use Rattle.native_image.proofs.Working.{at_thrown, ok_at_same}
 use Rattle.bunch_trees.proofs.Roots.{some_nodes}
 use Rattle.bunch_trees.proofs.exploding.explode.Goals as goal
 

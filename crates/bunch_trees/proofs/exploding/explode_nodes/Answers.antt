@@ -4,11 +4,11 @@ use Rattle.js_values.specs.Fuel.{Fuel}
 use Rattle.js_values.specs.declared.outcome.NativeOut.TheVariants as native
 use Rattle.widget_meaning.specs.Plan.{charge}
 use Rattle.page_image.specs.Image.{number}
-use Rattle.bunch_marks.specs.native_image.Image.{beside}
-use Rattle.bunch_marks.specs.native_image.Meets.{MeetsAt}
-use Rattle.bunch_marks.proofs.NativeImage.Keeping.{keeps_here}
-use Rattle.bunch_marks.proofs.NativeImage.Meeting.{at_charged, at_lacking}
-use Rattle.bunch_marks.proofs.NativeImage.Working.{few_counted}
+use Rattle.native_image.specs.Image.{beside}
+use Rattle.native_image.specs.Meets.{MeetsAt}
+use Rattle.native_image.proofs.Keeping.{keeps_here}
+use Rattle.native_image.proofs.Meeting.{at_charged, at_lacking}
+use Rattle.native_image.proofs.Working.{few_counted}
 use Rattle.bunch_trees.specs.Explodes.{explode_paid}
 use Rattle.bunch_trees.proofs.exploding.explode_nodes.Goals as goal
 

@@ -5,9 +5,9 @@ use Rattle.widget_meaning.specs.Costs.{cost, give, pay, with_counts}
 use Rattle.widget_meaning.specs.OwnState.{State}
 use Rattle.widget_meaning.specs.Values.{Own}
 use Rattle.page_image.specs.Image.{number}
-use Rattle.bunch_marks.specs.native_image.Image.{beside, image}
-use Rattle.bunch_marks.specs.native_image.Weights.{amounts}
-use Rattle.bunch_marks.proofs.NativeImage.Keeping.{host_here, keeps_here, page_same}
+use Rattle.native_image.specs.Image.{beside, image}
+use Rattle.native_image.specs.Weights.{amounts}
+use Rattle.native_image.proofs.Keeping.{host_here, keeps_here, page_same}
 use Rattle.bunch_trees.proofs.exploding.explode_weighed.Goals as goal
 
 pub make_exploded-requires-clause-sound : goal.make_exploded-requires-clause-sound

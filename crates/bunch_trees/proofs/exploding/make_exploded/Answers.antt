@@ -3,10 +3,10 @@ use Rattle.std.proofs.lemmas.List.{length-map}
 use Rattle.js_image.specs.Held.{AreFine}
 use Rattle.js_image.proofs.Grown.{held_stays}
 use Rattle.page_image.specs.Image.{number}
-use Rattle.bunch_marks.proofs.NativeImage.Joint.{keeps_of, sound_stays}
-use Rattle.bunch_marks.proofs.NativeImage.Keeping.{store_then}
-use Rattle.bunch_marks.proofs.NativeImage.Meeting.{no_outside}
-use Rattle.bunch_marks.specs.native_image.Made.{AreBunches}
+use Rattle.native_image.proofs.Joint.{keeps_of, sound_stays}
+use Rattle.native_image.proofs.Keeping.{store_then}
+use Rattle.native_image.proofs.Meeting.{no_outside}
+use Rattle.native_image.specs.Made.{AreBunches}
 use Rattle.std.specs.Prelude.{None}
 use Rattle.bunch_trees.proofs.Exploded.{as_many, exploded_by, held_by}
 use Rattle.bunch_trees.proofs.exploding.make_exploded.Goals as goal

@@ -1,7 +1,7 @@
 use Rattle.std.proofs.Common.{ap}
 use Rattle.widget_meaning.specs.Costs.{slots_cost, with_counts}
 use Rattle.js_image.specs.Image.{image}
-use Rattle.bunch_marks.proofs.NativeImage.Told.{paid_told}
+use Rattle.native_image.proofs.Told.{paid_told}
 use Rattle.bunch_trees.proofs.exploding.pay_judged_slots.Goals as goal
 
 pub returns-in-Done-clause-paid : goal.returns-in-Done-clause-paid

@@ -5,8 +5,8 @@ use Rattle.widget_meaning.specs.PageForms.{tree_units}
 use Rattle.page_nodes.specs.Entries.{at}
 use Rattle.page_tree.specs.Pages.{nodes}
 use Rattle.page_image.proofs.Looks.{label_at}
-use Rattle.native_forms.specs.Numbers.{counted}
-use Rattle.bunch_marks.proofs.NativeImage.Lists.{element_in, take_whole}
+use Rattle.native_common.specs.Numbers.{counted}
+use Rattle.native_image.proofs.Lists.{element_in, take_whole}
 use Rattle.bunch_read.proofs.Content.{lower, own_tree}
 use Rattle.bunch_read.proofs.Reading.{add_counted, first_counted, more_counted}
 use Rattle.bunch_trees.specs.Appends.{label_units}

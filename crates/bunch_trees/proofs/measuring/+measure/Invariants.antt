@@ -1,7 +1,7 @@
 use Rattle.std.proofs.Common.{◌≡◌, ◌+◌, take}
 use Rattle.plain_tree.specs.Trees.{height, size}
 use Rattle.widget_meaning.specs.PageForms.{tree_units}
-use Rattle.native_forms.specs.Numbers.{counted}
+use Rattle.native_common.specs.Numbers.{counted}
 use Rattle.bunch_read.proofs.Content.{own_tree}
 use Rattle.bunch_trees.proofs.Measured.{over}
 use Rattle.bunch_trees.proofs.measuring.+measure.Given as goal

@@ -2,8 +2,8 @@ use Rattle.std.proofs.Common.{◌+◌, take, get_or, refl, ap, sym, ◌∙◌}
 use Rattle.std.proofs.lemmas.List.Sums.{sum_by_more}
 use Rattle.plain_tree.specs.Trees.{size}
 use Rattle.widget_meaning.specs.PageForms.{tree_units}
-use Rattle.native_forms.specs.Numbers.{counted}
-use Rattle.bunch_marks.proofs.NativeImage.Lists.{element_in, take_whole}
+use Rattle.native_common.specs.Numbers.{counted}
+use Rattle.native_image.proofs.Lists.{element_in, take_whole}
 use Rattle.bunch_read.proofs.Content.{own_tree}
 use Rattle.bunch_read.proofs.Reading.{more_counted}
 use Rattle.bunch_trees.proofs.Measured.{over, sizes_are, units_are}

@@ -1,6 +1,6 @@
 use Rattle.std.proofs.Common.{◌≡◌, length, take, codes}
 use Rattle.std.specs.Prelude.{sum_by}
-use Rattle.native_forms.specs.Numbers.{counted}
+use Rattle.native_common.specs.Numbers.{counted}
 use Rattle.tree_ops.specs.Labels.{without_value}
 use Rattle.bunch_trees.proofs.measuring.values_len.Given as goal
 

@@ -12,12 +12,12 @@ use Rattle.js_values.specs.declared.outcome.NativeOut.TheVariants as native
 use Rattle.page_image.specs.Copies.{trees_at}
 use Rattle.page_image.specs.Image.{forest, number}
 use Rattle.page_image.specs.Targets.{takes}
-use Rattle.bunch_marks.specs.native_image.Image.{beside, image}
-use Rattle.bunch_marks.specs.native_image.Meets.{MeetsAt}
-use Rattle.bunch_marks.proofs.NativeImage.Keeping.{keeps_here}
-use Rattle.bunch_marks.proofs.NativeImage.Meeting.{at_charged, at_lacking, at_same}
-use Rattle.bunch_marks.proofs.NativeImage.Wants.{unwanted, wanted}
-use Rattle.bunch_marks.proofs.NativeImage.Working.{at_thrown}
+use Rattle.native_image.specs.Image.{beside, image}
+use Rattle.native_image.specs.Meets.{MeetsAt}
+use Rattle.native_image.proofs.Keeping.{keeps_here}
+use Rattle.native_image.proofs.Meeting.{at_charged, at_lacking, at_same}
+use Rattle.native_image.proofs.Wants.{unwanted, wanted}
+use Rattle.native_image.proofs.Working.{at_thrown}
 use Rattle.bunch_trees.specs.Appends.{root_paid, root_plan}
 use Rattle.bunch_trees.proofs.Roots.{alone_all}
 use Rattle.bunch_trees.proofs.rooted.append_to_root.Goals as goal

@@ -3,7 +3,7 @@ use Rattle.std.specs.Prelude.{not}
 use Rattle.std.specs.List.{list_all}
 use Rattle.widget_meaning.specs.BunchWrites.{is_no_root}
 use Rattle.page_image.specs.Image.{number}
-use Rattle.bunch_marks.proofs.NativeImage.Lists.{all_not, element_in, mapped_whole, open_more}
+use Rattle.native_image.proofs.Lists.{all_not, element_in, mapped_whole, open_more}
 use Rattle.bunch_trees.proofs.rooted.none_root.Goals as goal
 
 pub is_root-requires-clause-own : goal.is_root-requires-clause-own

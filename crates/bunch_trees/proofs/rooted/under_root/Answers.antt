@@ -4,9 +4,9 @@ use Rattle.widget_meaning.specs.OwnState.{State}
 use Rattle.widget_meaning.specs.Values.{Own}
 use Rattle.js_image.proofs.Grown.{kept_same}
 use Rattle.page_image.specs.Image.{number}
-use Rattle.bunch_marks.specs.native_image.Image.{beside, image}
-use Rattle.bunch_marks.specs.native_image.Weights.{amounts}
-use Rattle.bunch_marks.proofs.NativeImage.Keeping.{keeps_here, keeps_next, keeps_paged, sound_page}
+use Rattle.native_image.specs.Image.{beside, image}
+use Rattle.native_image.specs.Weights.{amounts}
+use Rattle.native_image.proofs.Keeping.{keeps_here, keeps_next, keeps_paged, sound_page}
 use Rattle.bunch_trees.proofs.Roots.{root_comes, root_seen, with_root_bunch}
 use Rattle.bunch_trees.proofs.rooted.under_root.Goals as goal
 

@@ -2,7 +2,7 @@ use Rattle.std.proofs.Common.{sym, ap, ◌∙◌, refl}
 use Rattle.std.specs.List.{list_all}
 use Rattle.widget_meaning.specs.BunchWrites.{is_value_target}
 use Rattle.page_image.specs.Image.{number}
-use Rattle.bunch_marks.proofs.NativeImage.Lists.{all_not, element_in, mapped_whole, open_more}
+use Rattle.native_image.proofs.Lists.{all_not, element_in, mapped_whole, open_more}
 use Rattle.bunch_trees.proofs.valuing.all_take.Goals as goal
 
 pub takes_value-requires : goal.takes_value-requires

@@ -3,7 +3,7 @@ use Rattle.std.specs.List.{count_by}
 use Rattle.std.proofs.lemmas.List.Sums.{sum_by_more}
 use Rattle.widget_meaning.specs.BunchWrites.{has_new_text}
 use Rattle.page_image.specs.Image.{number}
-use Rattle.bunch_marks.proofs.NativeImage.Lists.{element_in, take_whole}
+use Rattle.native_image.proofs.Lists.{element_in, take_whole}
 use Rattle.bunch_trees.proofs.Counting.{counted_over}
 use Rattle.bunch_trees.proofs.valuing.new_texts.Goals as goal
 

@@ -7,10 +7,10 @@ use Rattle.widget_meaning.specs.Values.{to_text}
 use Rattle.js_image.specs.declared.outcome.Fault.TheVariants as fault
 use Rattle.js_image.specs.Image.{seen}
 use Rattle.page_image.specs.Image.{number}
-use Rattle.bunch_marks.specs.native_image.Image.{beside, image}
-use Rattle.bunch_marks.proofs.NativeImage.Keeping.{keeps_here}
-use Rattle.bunch_marks.proofs.NativeImage.Wants.{object_of, primitive_of}
-use Rattle.bunch_marks.proofs.NativeImage.Working.{at_thrown, ok_at_same}
+use Rattle.native_image.specs.Image.{beside, image}
+use Rattle.native_image.proofs.Keeping.{keeps_here}
+use Rattle.native_image.proofs.Wants.{object_of, primitive_of}
+use Rattle.native_image.proofs.Working.{at_thrown, ok_at_same}
 use Rattle.bunch_trees.proofs.valuing.set_value.Goals as goal
 
 pub give_value-requires-clause-sound : goal.give_value-requires-clause-sound

@@ -8,9 +8,9 @@ use Rattle.js_image.proofs.Grown.{kept_same}
 use Rattle.page_image.specs.Image.{number}
 use Rattle.page_image.proofs.Results.{ok_then}
 use Rattle.event_loop.specs.declared.around.Loop.{Loop}
-use Rattle.bunch_marks.specs.native_image.Image.{beside, image}
-use Rattle.bunch_marks.specs.native_image.Sound.{HoldsOwn, KeepsAll}
-use Rattle.bunch_marks.proofs.NativeImage.Keeping.{keeps_paged, keeps_then, sound_page}
+use Rattle.native_image.specs.Image.{beside, image}
+use Rattle.native_image.specs.Sound.{HoldsOwn, KeepsAll}
+use Rattle.native_image.proofs.Keeping.{keeps_paged, keeps_then, sound_page}
 use Rattle.bunch_trees.specs.Changes.{Changes}
 use Rattle.bunch_trees.proofs.Changed.{changes_page, changes_same, changes_then}
 use Rattle.bunch_trees.proofs.Tagged.{is_no_text, is_some_text}

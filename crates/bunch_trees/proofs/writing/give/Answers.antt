@@ -9,10 +9,10 @@ use Rattle.js_image.specs.Image.{no_rest}
 use Rattle.js_image.proofs.Grown.{kept_same}
 use Rattle.page_image.specs.Image.{forest, number, relabel_in}
 use Rattle.page_image.proofs.Results.{ok_then}
-use Rattle.bunch_marks.specs.native_image.Image.{beside, image}
-use Rattle.bunch_marks.proofs.NativeImage.Keeping.{keeps_here, keeps_paged}
-use Rattle.bunch_marks.specs.declared.judging.Test.TheVariants as test
-use Rattle.bunch_marks.proofs.Tags.{passes_element}
+use Rattle.native_image.specs.Image.{beside, image}
+use Rattle.native_image.proofs.Keeping.{keeps_here, keeps_paged}
+use Rattle.bunch_attributes.specs.declared.judging.Test.TheVariants as test
+use Rattle.bunch_attributes.proofs.Tags.{passes_element}
 use Rattle.bunch_trees.proofs.Changed.{changes_page, changes_same}
 use Rattle.bunch_trees.proofs.Texts.{value_of_element, value_of_input, value_of_text}
 use Rattle.bunch_trees.proofs.writing.give.Goals as goal

@@ -5,9 +5,9 @@ use Rattle.widget_meaning.specs.BunchWrites.{valued}
 use Rattle.widget_meaning.specs.Costs.{with_counts}
 use Rattle.widget_meaning.specs.OwnState.{State}
 use Rattle.page_image.specs.Image.{number}
-use Rattle.bunch_marks.specs.native_image.Image.{beside, image}
-use Rattle.bunch_marks.proofs.NativeImage.Keeping.{keeps_here, keeps_then}
-use Rattle.bunch_marks.proofs.NativeImage.Lists.{element_in, mapped_one, mapped_whole}
+use Rattle.native_image.specs.Image.{beside, image}
+use Rattle.native_image.proofs.Keeping.{keeps_here, keeps_then}
+use Rattle.native_image.proofs.Lists.{element_in, mapped_one, mapped_whole}
 use Rattle.bunch_trees.proofs.Changed.{changes_none, changes_same, changes_then}
 use Rattle.bunch_trees.proofs.writing.give_all.Goals as goal
 

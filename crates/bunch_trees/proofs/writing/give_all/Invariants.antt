@@ -3,7 +3,7 @@ use Rattle.std.specs.List.{fold}
 use Rattle.widget_meaning.specs.BunchWrites.{valued}
 use Rattle.event_loop.specs.declared.around.Loop.{Loop}
 use Rattle.page_image.specs.Image.{number}
-use Rattle.bunch_marks.specs.native_image.Sound.{HoldsOwn, KeepsAll}
+use Rattle.native_image.specs.Sound.{HoldsOwn, KeepsAll}
 use Rattle.bunch_trees.specs.Changes.{Changes}
 use Rattle.bunch_trees.proofs.writing.give_all.Given as goal
 

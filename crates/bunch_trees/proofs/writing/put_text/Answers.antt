@@ -4,8 +4,8 @@ use Rattle.tree_ops.specs.Trees.{numbered}
 use Rattle.js_image.proofs.Grown.{kept_same}
 use Rattle.page_image.specs.Image.{own}
 use Rattle.page_image.proofs.Results.{ok_then}
-use Rattle.bunch_marks.specs.native_image.Grown.{IsGrown}
-use Rattle.bunch_marks.proofs.NativeImage.Keeping.{keeps_paged, keeps_then, sound_page}
+use Rattle.native_image.specs.Grown.{IsGrown}
+use Rattle.native_image.proofs.Keeping.{keeps_paged, keeps_then, sound_page}
 use Rattle.bunch_trees.proofs.Numbered.{one_own}
 use Rattle.bunch_trees.proofs.Texts.{text_comes}
 use Rattle.bunch_trees.proofs.writing.put_text.Goals as goal

@@ -4,10 +4,10 @@ use Rattle.store_cells.specs.Cells.{IsWidget, number_in}
 use Rattle.widget_meaning.specs.Natives.{run_native}
 use Rattle.js_image.specs.Held.{AreFine}
 use Rattle.js_image.specs.Image.{all_seen}
-use Rattle.native_forms.specs.Receivers.{IsReceiver, receiver}
-use Rattle.bunch_trees.specs.native_image.Image.{beside}
-use Rattle.bunch_trees.specs.native_image.Meets.{MeetsAt}
-use Rattle.bunch_trees.specs.native_image.Sound.{IsSound, KeepsAll}
+use Rattle.native_common.specs.Receivers.{IsReceiver, receiver}
+use Rattle.native_image.specs.Image.{beside}
+use Rattle.native_image.specs.Meets.{MeetsAt}
+use Rattle.native_image.specs.Sound.{IsSound, KeepsAll}
 use Rattle.bunch_write.proofs.calling.call.Goals as goal
 
 pub unreachable-requires : goal.unreachable-requires

@@ -10,12 +10,12 @@ use Rattle.widget_meaning.specs.Natives.{run_native}
 use Rattle.js_image.specs.declared.outcome.Fault.TheVariants as fault
 use Rattle.js_image.specs.Image.{all_seen, seen}
 use Rattle.store_cells.specs.declared.value.Value.TheVariants as value
-use Rattle.native_forms.specs.Receivers.{receiver}
+use Rattle.native_common.specs.Receivers.{receiver}
 use Rattle.page_image.specs.Image.{number}
-use Rattle.bunch_trees.specs.native_image.Image.{beside, image}
-use Rattle.bunch_trees.proofs.NativeImage.Keeping.{keeps_here}
-use Rattle.bunch_trees.proofs.NativeImage.Meeting.{at_same, no_outside}
-use Rattle.bunch_trees.proofs.NativeImage.Working.{at_thrown, ok_at_same}
+use Rattle.native_image.specs.Image.{beside, image}
+use Rattle.native_image.proofs.Keeping.{keeps_here}
+use Rattle.native_image.proofs.Meeting.{at_same, no_outside}
+use Rattle.native_image.proofs.Working.{at_thrown, ok_at_same}
 use Rattle.bunch_write.specs.Kinds.{method_plan}
 use Rattle.bunch_write.proofs.Calls.{append_same, arg_fine, arg_seen, bubble_same, explode_same, method_none, method_same, no_bunch, receiver_held, receiver_is, tag_same, text_same}
 use Rattle.bunch_write.proofs.Receivers.{some_nodes}

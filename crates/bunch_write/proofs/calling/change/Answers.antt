@@ -2,8 +2,8 @@ use Rattle.std.proofs.Common.{map}
 use Rattle.store_cells.specs.declared.value.Value.TheVariants as value
 use Rattle.js_image.specs.Image.{seen}
 use Rattle.page_image.specs.Image.{number}
-use Rattle.bunch_trees.specs.native_image.Image.{beside}
-use Rattle.bunch_trees.proofs.NativeImage.Keeping.{keeps_here}
+use Rattle.native_image.specs.Image.{beside}
+use Rattle.native_image.proofs.Keeping.{keeps_here}
 use Rattle.bunch_write.specs.declared.kinds.Method.TheVariants as method
 use Rattle.bunch_write.proofs.Calls.{at_method, of_method}
 use Rattle.bunch_write.proofs.calling.change.Goals as goal

@@ -9,9 +9,9 @@ use Rattle.widget_meaning.specs.OwnState.{State}
 use Rattle.js_image.specs.Image.{seen}
 use Rattle.js_image.proofs.Grown.{held_stays, seen_stays}
 use Rattle.page_image.specs.Image.{number}
-use Rattle.bunch_trees.specs.native_image.Image.{beside, image}
-use Rattle.bunch_trees.specs.native_image.Weights.{amounts}
-use Rattle.bunch_trees.proofs.NativeImage.Keeping.{keeps_here, page_same, host_here}
+use Rattle.native_image.specs.Image.{beside, image}
+use Rattle.native_image.specs.Weights.{amounts}
+use Rattle.native_image.proofs.Keeping.{keeps_here, page_same, host_here}
 use Rattle.bunch_write.proofs.each.calls.Goals as goal
 
 pub make_bunches-requires-clause-sound : goal.make_bunches-requires-clause-sound

@@ -14,13 +14,13 @@ use Rattle.js_image.proofs.Makes.{within_of}
 use Rattle.js_values.specs.Fuel.{Fuel}
 use Rattle.js_values.specs.declared.outcome.NativeOut.TheVariants as native
 use Rattle.page_image.specs.Image.{number}
-use Rattle.bunch_trees.specs.native_image.Image.{beside, image}
-use Rattle.bunch_trees.specs.native_image.Meets.{MeetsAt}
-use Rattle.bunch_trees.proofs.NativeImage.Joint.{rest}
-use Rattle.bunch_trees.proofs.NativeImage.Keeping.{keeps_here}
-use Rattle.bunch_trees.proofs.NativeImage.Meeting.{at_charged, at_lacking, at_same}
-use Rattle.bunch_trees.proofs.NativeImage.Wants.{unwanted, wanted}
-use Rattle.bunch_trees.proofs.NativeImage.Working.{at_thrown, few_counted}
+use Rattle.native_image.specs.Image.{beside, image}
+use Rattle.native_image.specs.Meets.{MeetsAt}
+use Rattle.native_image.proofs.Joint.{rest}
+use Rattle.native_image.proofs.Keeping.{keeps_here}
+use Rattle.native_image.proofs.Meeting.{at_charged, at_lacking, at_same}
+use Rattle.native_image.proofs.Wants.{unwanted, wanted}
+use Rattle.native_image.proofs.Working.{at_thrown, few_counted}
 use Rattle.bunch_write.specs.Calls.{each_paid}
 use Rattle.bunch_write.proofs.each.each.Goals as goal
 

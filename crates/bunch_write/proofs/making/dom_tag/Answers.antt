@@ -7,14 +7,14 @@ use Rattle.widget_meaning.specs.NativeNames.{DomTag}
 use Rattle.widget_meaning.specs.Values.{to_text}
 use Rattle.js_image.specs.declared.outcome.Fault.TheVariants as fault
 use Rattle.js_image.specs.Image.{seen}
-use Rattle.bunch_trees.specs.native_image.Image.{beside, image}
-use Rattle.bunch_trees.proofs.NativeImage.Keeping.{keeps_here}
-use Rattle.bunch_trees.proofs.NativeImage.Meeting.{at_free, at_same}
-use Rattle.bunch_trees.proofs.NativeImage.Wants.{objects_of, primitives_of}
-use Rattle.bunch_trees.proofs.NativeImage.Working.{at_thrown}
+use Rattle.native_image.specs.Image.{beside, image}
+use Rattle.native_image.proofs.Keeping.{keeps_here}
+use Rattle.native_image.proofs.Meeting.{at_free, at_same}
+use Rattle.native_image.proofs.Wants.{objects_of, primitives_of}
+use Rattle.native_image.proofs.Working.{at_thrown}
 use Rattle.bunch_write.specs.Tags.{may_make}
 use Rattle.bunch_write.proofs.Made.{bad_tag, good_tag}
-use Rattle.native_forms.specs.Numbers.{counted}
+use Rattle.native_common.specs.Numbers.{counted}
 use Rattle.bunch_write.proofs.making.dom_tag.Goals as goal
 
 pub returns-then-either_object-clause-native : goal.returns-then-either_object-clause-native

@@ -6,11 +6,11 @@ use Rattle.widget_meaning.specs.NativeNames.{DomText}
 use Rattle.widget_meaning.specs.Values.{to_text}
 use Rattle.js_image.specs.declared.outcome.Fault.TheVariants as fault
 use Rattle.js_image.specs.Image.{seen}
-use Rattle.bunch_trees.specs.native_image.Image.{beside, image}
-use Rattle.bunch_trees.proofs.NativeImage.Keeping.{keeps_here}
-use Rattle.bunch_trees.proofs.NativeImage.Meeting.{at_free, at_same}
-use Rattle.bunch_trees.proofs.NativeImage.Wants.{object_of, primitive_of}
-use Rattle.bunch_trees.proofs.NativeImage.Working.{at_thrown}
+use Rattle.native_image.specs.Image.{beside, image}
+use Rattle.native_image.proofs.Keeping.{keeps_here}
+use Rattle.native_image.proofs.Meeting.{at_free, at_same}
+use Rattle.native_image.proofs.Wants.{object_of, primitive_of}
+use Rattle.native_image.proofs.Working.{at_thrown}
 use Rattle.bunch_write.proofs.making.dom_text.Goals as goal
 
 pub returns-then-is_object-clause-native : goal.returns-then-is_object-clause-native

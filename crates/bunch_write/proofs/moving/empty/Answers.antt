@@ -8,11 +8,11 @@ use Rattle.widget_meaning.specs.OwnState.{with_forest}
 use Rattle.js_image.specs.Image.{seen}
 use Rattle.js_image.proofs.Grown.{held_stays, seen_stays}
 use Rattle.page_image.specs.Image.{number}
-use Rattle.bunch_trees.specs.native_image.Charges.{Free}
-use Rattle.bunch_trees.specs.native_image.Image.{beside, image}
-use Rattle.bunch_trees.proofs.NativeImage.Joint.{page_lift, sound_stays}
-use Rattle.bunch_trees.proofs.NativeImage.Keeping.{keeps_paged, keeps_store, sound_page}
-use Rattle.bunch_trees.proofs.NativeImage.Working.{at_ended, at_refused, few_counted, forest_folded, gives_back}
+use Rattle.native_image.specs.Charges.{Free}
+use Rattle.native_image.specs.Image.{beside, image}
+use Rattle.native_image.proofs.Joint.{page_lift, sound_stays}
+use Rattle.native_image.proofs.Keeping.{keeps_paged, keeps_store, sound_page}
+use Rattle.native_image.proofs.Working.{at_ended, at_refused, few_counted, forest_folded, gives_back}
 use Rattle.bunch_write.specs.Trees.{emptied_in}
 use Rattle.bunch_write.proofs.moving.empty.Goals as goal
 

@@ -1,8 +1,8 @@
 use Rattle.std.proofs.Common.{ap, refl, ◌∙◌, get_or}
 use Rattle.std.specs.List.{fold}
 use Rattle.page_image.specs.Image.{forest, number}
-use Rattle.bunch_trees.proofs.NativeImage.Keeping.{home_stays, nodes_same, nodes_then, page_keeps, host_here}
-use Rattle.bunch_trees.proofs.NativeImage.Lists.{element_in, folded_more, mapped_whole}
+use Rattle.native_image.proofs.Keeping.{home_stays, nodes_same, nodes_then, page_keeps, host_here}
+use Rattle.native_image.proofs.Lists.{element_in, folded_more, mapped_whole}
 use Rattle.bunch_write.specs.Trees.{emptied_in}
 use Rattle.page_image.proofs.Hosting.{host_then}
 use Rattle.bunch_write.proofs.moving.empty_all.Goals as goal

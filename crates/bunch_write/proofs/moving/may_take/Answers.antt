@@ -2,7 +2,7 @@ use Rattle.std.proofs.Common.{map, ap, sym, ◌∙◌}
 use Rattle.std.specs.Prelude.{◌&&◌, not}
 use Rattle.page_image.specs.Image.{forest, number}
 use Rattle.page_image.specs.Targets.{takes}
-use Rattle.bunch_trees.proofs.NativeImage.Lists.{has_own}
+use Rattle.native_image.proofs.Lists.{has_own}
 use Rattle.bunch_write.proofs.moving.may_take.Goals as goal
 
 pub returns-then-has_node : goal.returns-then-has_node

@@ -13,12 +13,12 @@ use Rattle.js_image.specs.declared.outcome.Fault.TheVariants as fault
 use Rattle.js_image.specs.Image.{seen}
 use Rattle.js_image.proofs.Grown.{held_stays, seen_stays}
 use Rattle.page_image.specs.Image.{forest, number, owns}
-use Rattle.bunch_trees.specs.native_image.Charges.{Free}
-use Rattle.bunch_trees.specs.native_image.Image.{beside, image}
-use Rattle.bunch_trees.proofs.NativeImage.Joint.{page_lift, sound_stays}
-use Rattle.bunch_trees.proofs.NativeImage.Keeping.{keeps_here, keeps_paged, keeps_store, sound_page}
-use Rattle.bunch_trees.proofs.NativeImage.Wants.{unwanted, wanted}
-use Rattle.bunch_trees.proofs.NativeImage.Working.{at_ended, at_refused, at_thrown, few_counted, forest_folded, gives_back}
+use Rattle.native_image.specs.Charges.{Free}
+use Rattle.native_image.specs.Image.{beside, image}
+use Rattle.native_image.proofs.Joint.{page_lift, sound_stays}
+use Rattle.native_image.proofs.Keeping.{keeps_here, keeps_paged, keeps_store, sound_page}
+use Rattle.native_image.proofs.Wants.{unwanted, wanted}
+use Rattle.native_image.proofs.Working.{at_ended, at_refused, at_thrown, few_counted, forest_folded, gives_back}
 use Rattle.bunch_write.proofs.Roots.{none_zero}
 use Rattle.bunch_write.proofs.moving.remove.Goals as goal
 

@@ -6,10 +6,10 @@ use Rattle.widget_meaning.specs.NativeNames.{Replace}
 use Rattle.js_image.specs.declared.outcome.Fault.TheVariants as fault
 use Rattle.js_image.specs.Image.{seen}
 use Rattle.page_image.specs.Image.{number}
-use Rattle.bunch_trees.specs.native_image.Image.{beside, image}
-use Rattle.bunch_trees.proofs.NativeImage.Keeping.{keeps_here}
-use Rattle.bunch_trees.proofs.NativeImage.Lists.{element_in}
-use Rattle.bunch_trees.proofs.NativeImage.Working.{at_thrown, ok_at_same}
+use Rattle.native_image.specs.Image.{beside, image}
+use Rattle.native_image.proofs.Keeping.{keeps_here}
+use Rattle.native_image.proofs.Lists.{element_in}
+use Rattle.native_image.proofs.Working.{at_thrown, ok_at_same}
 use Rattle.bunch_write.specs.Trees.{replace_plan}
 use Rattle.bunch_write.proofs.Replaced.{replace_none, replace_other, replace_some}
 use Rattle.bunch_write.proofs.Receivers.{some_own}

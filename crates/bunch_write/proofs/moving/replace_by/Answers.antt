@@ -6,11 +6,11 @@ use Rattle.js_image.specs.declared.outcome.Fault.TheVariants as fault
 use Rattle.js_image.specs.Image.{seen}
 use Rattle.js_image.proofs.Grown.{held_stays, seen_stays}
 use Rattle.page_image.specs.Image.{forest, number}
-use Rattle.bunch_trees.specs.native_image.Charges.{Free}
-use Rattle.bunch_trees.specs.native_image.Image.{beside, image}
-use Rattle.bunch_trees.proofs.NativeImage.Joint.{page_lift, sound_stays}
-use Rattle.bunch_trees.proofs.NativeImage.Keeping.{keeps_here, keeps_paged, keeps_store, sound_page}
-use Rattle.bunch_trees.proofs.NativeImage.Working.{at_ended, at_refused, at_thrown, gives_back}
+use Rattle.native_image.specs.Charges.{Free}
+use Rattle.native_image.specs.Image.{beside, image}
+use Rattle.native_image.proofs.Joint.{page_lift, sound_stays}
+use Rattle.native_image.proofs.Keeping.{keeps_here, keeps_paged, keeps_store, sound_page}
+use Rattle.native_image.proofs.Working.{at_ended, at_refused, at_thrown, gives_back}
 use Rattle.bunch_write.specs.Trees.{replace_plan}
 use Rattle.bunch_write.proofs.Replaced.{has_parent, is_replaced, not_replaced, replaced}
 use Rattle.bunch_write.proofs.moving.replace_by.Goals as goal

@@ -10,7 +10,7 @@ use Rattle.js_image.specs.Image.{image, seen}
 use Rattle.js_image.proofs.Grown.{kept_same}
 use Rattle.js_names.specs.Code.{trees_of}
 use Rattle.js_direct.proofs.Handing.{is_shared}
-use Rattle.js_forms.proofs.Values.{read_other}
+use Rattle.js_expressions.proofs.Values.{read_other}
 use Rattle.js_direct.proofs.FormFrames.{gives_value}
 use Rattle.js_direct.proofs.Values.{read_cell}
 use Rattle.js_direct.proofs.properties.property_on.Goals as goal

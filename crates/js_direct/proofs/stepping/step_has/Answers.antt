@@ -8,7 +8,7 @@ use Rattle.widget_meaning.specs.Calls.{to_primitive}
 use Rattle.widget_meaning.specs.Expressions.{step_converted, step_number}
 use Rattle.js_image.specs.Image.{image, seen}
 use Rattle.js_flow.specs.Views.{place_of, reference_of}
-use Rattle.js_forms.proofs.Values.{stays_primitive}
+use Rattle.js_expressions.proofs.Values.{stays_primitive}
 use Rattle.js_direct.specs.Comes.{ended_as}
 use Rattle.js_direct.proofs.FormFrames.{instead}
 use Rattle.js_direct.proofs.stepping.step_has.Goals as goal

@@ -1,6 +1,6 @@
 use Rattle.std.proofs.Common.{List, sym, subst}
 use Rattle.widget_meaning.specs.Plan.{Plan}
-use Rattle.end_laws.specs.Ends.{ByValue, Yields}
+use Rattle.plan_ends.specs.Ends.{ByValue, Yields}
 use Rattle.js_image.specs.Image.{image}
 use Rattle.js_flow.specs.declared.frame.Frame.{Frame}
 use Rattle.js_steps.specs.Ending.{Awaits}

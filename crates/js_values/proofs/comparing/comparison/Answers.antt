@@ -1,5 +1,5 @@
 use Rattle.std.proofs.Common.{ap, sym, ◌∙◌}
-use Rattle.js_image.specs.widget_meaning.Operators.{truth}
+use Rattle.widget_meaning.specs.Operators.{truth}
 use Rattle.js_values.specs.Operands.{plain}
 use Rattle.js_values.proofs.Orders.{means}
 use Rattle.js_values.proofs.comparing.comparison.Goals as goal

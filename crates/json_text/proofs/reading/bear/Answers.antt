@@ -4,7 +4,7 @@ use Rattle.widget_meaning.specs.Values.{Undefined}
 use Rattle.widget_meaning.specs.Costs.{give, pay, sum, units_cost, with_counts}
 use Rattle.js_image.specs.Image.{image}
 use Rattle.js_image.proofs.Units.{kept_then}
-use Rattle.native_forms.proofs.Meeting.{ends_here}
+use Rattle.native_common.proofs.Meeting.{ends_here}
 use Rattle.json_text.specs.declared.weighing.Weight.{Weight}
 use Rattle.json_text.proofs.Born.{paid_state}
 use Rattle.json_text.specs.Reading.{weight_cost}

@@ -6,7 +6,7 @@ use Rattle.widget_meaning.specs.Values as meaning
 use Rattle.widget_meaning.specs.Costs.{or_throw}
 use Rattle.widget_meaning.specs.JsonValues.{from_json}
 use Rattle.js_image.specs.Image.{image, seen}
-use Rattle.native_forms.proofs.Meeting.{ok_meets_same}
+use Rattle.native_common.proofs.Meeting.{ok_meets_same}
 use Rattle.json_text.specs.Reading.{read_plan}
 use Rattle.json_text.proofs.reading.from_json.Goals as goal
 

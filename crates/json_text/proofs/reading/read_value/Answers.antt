@@ -5,8 +5,8 @@ use Rattle.widget_meaning.specs.Plan.{charge}
 use Rattle.js_image.specs.Image.{image}
 use Rattle.js_values.specs.Fuel.{Fuel}
 use Rattle.js_values.specs.declared.outcome.NativeOut.TheVariants as native
-use Rattle.native_forms.specs.Meets.{Meets}
-use Rattle.native_forms.proofs.Meeting.{ends_here, meets_charged, meets_free, meets_lacking, meets_same}
+use Rattle.native_common.specs.Meets.{Meets}
+use Rattle.native_common.proofs.Meeting.{ends_here, meets_charged, meets_free, meets_lacking, meets_same}
 use Rattle.json_text.specs.declared.weighing.Weight.{Weight}
 use Rattle.json_text.specs.Reading.{born_plan, read_plan}
 use Rattle.json_text.specs.Weights.{weight}

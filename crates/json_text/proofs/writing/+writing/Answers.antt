@@ -7,7 +7,7 @@ use Rattle.widget_meaning.specs.OwnState.{cell_at}
 use Rattle.widget_meaning.specs.JsonTexts.{Wrote, NoJson, TooLong, and_write, members_text, value_text, write}
 use Rattle.js_image.specs.Image.{image, seen, seen_pairs}
 use Rattle.js_image.specs.Held.{IsFine}
-use Rattle.native_forms.proofs.Seen.{ref_is_object}
+use Rattle.native_common.proofs.Seen.{ref_is_object}
 use Rattle.js_image.specs.Elements.{own_place}
 use Rattle.json_text.specs.Objects.{pairs_at}
 use Rattle.json_text.specs.declared.steps.Step.TheVariants as step

@@ -1,7 +1,7 @@
 use Rattle.std.proofs.Common.{length}
 use Rattle.widget_meaning.specs.Values.{Text}
 use Rattle.widget_meaning.specs.Costs.{give, make_text}
-use Rattle.native_forms.proofs.Meeting.{meets_charged}
+use Rattle.native_common.proofs.Meeting.{meets_charged}
 use Rattle.json_text.proofs.writing.give_json.Goals as goal
 
 pub returns-in-Ok : goal.returns-in-Ok

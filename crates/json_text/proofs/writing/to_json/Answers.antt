@@ -7,7 +7,7 @@ use Rattle.js_image.specs.Image.{image, seen}
 use Rattle.js_image.specs.declared.outcome.Fault.TheVariants as fault
 use Rattle.js_image.specs.declared.outcome.StopCause.TheVariants as cause
 use Rattle.js_values.specs.declared.outcome.NativeOut.TheVariants as native
-use Rattle.native_forms.proofs.Meeting.{ends_here, meets_free}
+use Rattle.native_common.proofs.Meeting.{ends_here, meets_free}
 use Rattle.json_text.specs.declared.steps.Step.TheVariants as step
 use Rattle.json_text.proofs.Ended.{confined_as}
 use Rattle.json_text.proofs.Texts.{step_is}

@@ -1,7 +1,7 @@
 use Rattle.std.proofs.Common.{sym, ap, ◌∙◌, subst}
-use Rattle.turn_calls.specs.js_steps.declared.task.Task.{Task}
-use Rattle.turn_calls.specs.js_steps.Answered.{remaining}
-use Rattle.turn_calls.specs.turn_runs.Held.{FineTask}
+use Rattle.js_steps.specs.declared.task.Task.{Task}
+use Rattle.js_steps.specs.Answered.{remaining}
+use Rattle.turn_dispatch.specs.Held.{FineTask}
 use Rattle.life_queue.proofs.works.call.Goals as goal
 
 pub returns-clause-plan : goal.returns-clause-plan

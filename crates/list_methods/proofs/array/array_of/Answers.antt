@@ -2,7 +2,7 @@ use Rattle.std.proofs.Common.{ap, sym, ◌∙◌}
 use Rattle.widget_meaning.specs.NativeForms.{on_array}
 use Rattle.js_image.specs.Image.{image}
 use Rattle.js_image.proofs.Puts.{refers}
-use Rattle.native_forms.specs.Receivers.{receiver}
+use Rattle.native_common.specs.Receivers.{receiver}
 use Rattle.list_methods.proofs.Arrays.{primitive_received, referred}
 use Rattle.list_methods.proofs.array.array_of.Goals as goal
 

@@ -3,7 +3,7 @@ use Rattle.std.specs.Prelude.{sum_by}
 use Rattle.std.proofs.lemmas.List.{length-map, take_all}
 use Rattle.js_image.specs.Image.{all_seen, image, seen}
 use Rattle.js_image.proofs.Makes.{within_of}
-use Rattle.native_forms.specs.Numbers.{counted}
+use Rattle.native_common.specs.Numbers.{counted}
 use Rattle.list_methods.proofs.Lists.{extra_all, extra_more, extra_none, length_in, one_fine, seen_more}
 use Rattle.list_methods.proofs.array.extra.Goals as goal
 

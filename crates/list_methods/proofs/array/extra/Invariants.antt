@@ -2,7 +2,7 @@ use Rattle.std.proofs.Common.{◌≡◌, ◌+◌, List, take}
 use Rattle.std.specs.Prelude.{sum_by}
 use Rattle.js_tree.specs.Forest.{Forest}
 use Rattle.js_image.specs.Image.{Rest, all_seen, image}
-use Rattle.native_forms.specs.Numbers.{counted}
+use Rattle.native_common.specs.Numbers.{counted}
 use Rattle.list_methods.proofs.Lists.{length_in}
 use Rattle.list_methods.proofs.array.extra.Given as goal
 

@@ -5,8 +5,8 @@ use Rattle.widget_meaning.specs.Natives.{run_native}
 use Rattle.js_tree.specs.Forest.{Forest}
 use Rattle.js_image.specs.Held.{AreFine, Kept}
 use Rattle.js_image.specs.Image.{all_seen}
-use Rattle.native_forms.specs.Meets.{Meets}
-use Rattle.native_forms.specs.Receivers.{receiver}
+use Rattle.native_common.specs.Meets.{Meets}
+use Rattle.native_common.specs.Receivers.{receiver}
 use Rattle.list_methods.proofs.calling.call.Goals as goal
 
 pub of_widget-requires-clause-args : goal.of_widget-requires-clause-args

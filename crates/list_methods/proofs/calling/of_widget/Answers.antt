@@ -2,7 +2,7 @@ use Rattle.permitted_table.specs.declared.native.NativeId.TheVariants as native
 use Rattle.widget_meaning.specs.Natives.{run_native}
 use Rattle.js_image.specs.declared.outcome.Fault.TheVariants as fault
 use Rattle.js_image.specs.Image.{all_seen}
-use Rattle.native_forms.specs.Receivers.{receiver}
+use Rattle.native_common.specs.Receivers.{receiver}
 use Rattle.list_methods.proofs.Calls.{answered, no_receiver}
 use Rattle.list_methods.proofs.Meeting.{thrown}
 use Rattle.list_methods.proofs.calling.of_widget.Goals as goal

@@ -4,7 +4,7 @@ use Rattle.widget_meaning.specs.Costs.{give}
 use Rattle.widget_meaning.specs.NativeForms.{elements, make_array}
 use Rattle.widget_meaning.specs.ListChanges.{array_elements}
 use Rattle.js_image.specs.Image.{all_seen, image}
-use Rattle.native_forms.proofs.Meeting.{ok_ends_same}
+use Rattle.native_common.proofs.Meeting.{ok_ends_same}
 use Rattle.list_methods.specs.Arrays.{number}
 use Rattle.list_methods.proofs.copying.all_elements.Goals as goal
 

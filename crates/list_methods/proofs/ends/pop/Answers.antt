@@ -3,7 +3,7 @@ use Rattle.std.proofs.lemmas.Result.{IfOk-weaker}
 use Rattle.widget_meaning.specs.ListChanges.{pop}
 use Rattle.widget_meaning.specs.Plan.{charge}
 use Rattle.js_image.specs.Image.{all_seen, image}
-use Rattle.native_forms.proofs.Meeting.{meets_same}
+use Rattle.native_common.proofs.Meeting.{meets_same}
 use Rattle.list_methods.specs.Arrays.{number}
 use Rattle.list_methods.specs.Parts.{popped}
 use Rattle.list_methods.proofs.Meeting.{meets_taken, meets_wanting}

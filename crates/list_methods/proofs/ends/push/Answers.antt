@@ -9,8 +9,8 @@ use Rattle.widget_meaning.specs.ListChanges.{push}
 use Rattle.js_image.specs.declared.outcome.Fault.TheVariants as fault
 use Rattle.js_image.specs.Image.{all_seen, image, seen}
 use Rattle.js_values.specs.declared.outcome.NativeOut.TheVariants as native
-use Rattle.native_forms.proofs.Loops.{over_no, over_yes}
-use Rattle.native_forms.proofs.Meeting.{meets_same}
+use Rattle.native_common.proofs.Loops.{over_no, over_yes}
+use Rattle.native_common.proofs.Meeting.{meets_same}
 use Rattle.list_methods.specs.Arrays.{number}
 use Rattle.list_methods.specs.Parts.{put_last}
 use Rattle.list_methods.proofs.Lists.{counted_args}

@@ -6,7 +6,7 @@ use Rattle.widget_meaning.specs.NativeForms.{elements, give_text}
 use Rattle.widget_meaning.specs.ListNatives.{joined_text}
 use Rattle.widget_meaning.specs.OwnState.{State}
 use Rattle.js_image.specs.Image.{all_seen, image}
-use Rattle.native_forms.proofs.Meeting.{meets_same}
+use Rattle.native_common.proofs.Meeting.{meets_same}
 use Rattle.list_methods.specs.Arrays.{number}
 use Rattle.list_methods.proofs.Meeting.{meets_each, meets_short}
 use Rattle.list_methods.proofs.joining.give_joined.Goals as goal

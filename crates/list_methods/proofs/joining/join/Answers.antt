@@ -7,8 +7,8 @@ use Rattle.widget_meaning.specs.ListChanges.{list_extra}
 use Rattle.widget_meaning.specs.ListNatives.{join, joined_text}
 use Rattle.js_image.specs.declared.outcome.Fault.TheVariants as fault
 use Rattle.js_image.specs.Image.{all_seen, image, seen}
-use Rattle.native_forms.proofs.Meeting.{meets_same}
-use Rattle.native_forms.proofs.Seen.{nth_seen}
+use Rattle.native_common.proofs.Meeting.{meets_same}
+use Rattle.native_common.proofs.Seen.{nth_seen}
 use Rattle.list_methods.specs.Arrays.{number}
 use Rattle.list_methods.proofs.Meeting.{thrown}
 use Rattle.list_methods.proofs.Plans.{join_between, join_is, join_object}

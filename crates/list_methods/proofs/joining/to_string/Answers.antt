@@ -9,7 +9,7 @@ use Rattle.std.specs.Prelude.{codes}
 use Rattle.std.proofs.Common.{refl}
 use Rattle.js_image.specs.declared.outcome.Fault.TheVariants as fault
 use Rattle.js_image.specs.Image.{image}
-use Rattle.native_forms.proofs.Meeting.{meets_same}
+use Rattle.native_common.proofs.Meeting.{meets_same}
 use Rattle.list_methods.specs.Arrays.{number}
 use Rattle.list_methods.proofs.Meeting.{thrown}
 use Rattle.list_methods.proofs.Plans.{join_is, join_object}

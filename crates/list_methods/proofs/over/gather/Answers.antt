@@ -6,7 +6,7 @@ use Rattle.js_image.specs.Image.{image, seen}
 use Rattle.js_values.specs.Answers.{gathered}
 use Rattle.js_values.specs.declared.outcome.NativeOut.TheVariants as native
 use Rattle.js_values.specs.declared.outcome.Plan.TheVariants as calls
-use Rattle.native_forms.proofs.Meeting.{ends_here}
+use Rattle.native_common.proofs.Meeting.{ends_here}
 use Rattle.list_methods.specs.Arrays.{number}
 use Rattle.list_methods.proofs.over.gather.Goals as goal
 

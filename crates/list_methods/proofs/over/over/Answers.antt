@@ -11,8 +11,8 @@ use Rattle.js_image.specs.Held.{IsFine}
 use Rattle.js_image.specs.Image.{all_seen, image, seen}
 use Rattle.js_values.specs.Answers.{gathered}
 use Rattle.js_values.specs.declared.outcome.NativeOut.TheVariants as native
-use Rattle.native_forms.proofs.Meeting.{meets_same}
-use Rattle.native_forms.proofs.Seen.{nth_seen}
+use Rattle.native_common.proofs.Meeting.{meets_same}
+use Rattle.native_common.proofs.Seen.{nth_seen}
 use Rattle.list_methods.specs.Arrays.{number}
 use Rattle.list_methods.proofs.Lists.{all_at}
 use Rattle.list_methods.proofs.Meeting.{meets_taken, meets_wanting, thrown}

@@ -5,7 +5,7 @@ use Rattle.widget_meaning.specs.NativeForms.{elements}
 use Rattle.widget_meaning.specs.ListChanges.{change, sorted}
 use Rattle.js_image.specs.Held.{AreFine}
 use Rattle.js_image.specs.Image.{all_seen, image, seen}
-use Rattle.native_forms.proofs.Meeting.{ok_ends_same}
+use Rattle.native_common.proofs.Meeting.{ok_ends_same}
 use Rattle.list_methods.specs.Arrays.{number}
 use Rattle.list_methods.proofs.sorting.put_in_order.Goals as goal
 

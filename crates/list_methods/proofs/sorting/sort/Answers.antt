@@ -7,8 +7,8 @@ use Rattle.widget_meaning.specs.ListChanges.{change, list_extra, sort, sorted}
 use Rattle.js_image.specs.declared.outcome.Fault.TheVariants as fault
 use Rattle.js_image.specs.Image.{all_seen, image, seen}
 use Rattle.js_values.specs.declared.outcome.NativeOut.TheVariants as native
-use Rattle.native_forms.proofs.Meeting.{meets_same}
-use Rattle.native_forms.proofs.Seen.{nth_seen}
+use Rattle.native_common.proofs.Meeting.{meets_same}
+use Rattle.native_common.proofs.Seen.{nth_seen}
 use Rattle.list_methods.specs.Arrays.{number}
 use Rattle.list_methods.specs.Sorting.{has_order}
 use Rattle.list_methods.proofs.Meeting.{meets_taken, meets_wanting, thrown}

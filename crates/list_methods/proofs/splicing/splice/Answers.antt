@@ -15,9 +15,9 @@ use Rattle.js_image.specs.declared.outcome.StopCause.TheVariants as cause
 use Rattle.js_image.specs.Held.{AreFine, IsFine}
 use Rattle.js_image.specs.Image.{all_seen, image, seen}
 use Rattle.js_values.specs.declared.outcome.NativeOut.TheVariants as native
-use Rattle.native_forms.specs.Numbers.{number_or}
-use Rattle.native_forms.proofs.Meeting.{ends_here, ends_same, meets_same}
-use Rattle.native_forms.proofs.Seen.{nth_seen}
+use Rattle.native_common.specs.Numbers.{number_or}
+use Rattle.native_common.proofs.Meeting.{ends_here, ends_same, meets_same}
+use Rattle.native_common.proofs.Seen.{nth_seen}
 use Rattle.list_methods.specs.Arrays.{number}
 use Rattle.list_methods.proofs.Lists.{all_left}
 use Rattle.list_methods.proofs.Meeting.{meets_taken, meets_wanting, thrown}

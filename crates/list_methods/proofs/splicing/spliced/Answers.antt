@@ -3,7 +3,7 @@ use Rattle.std.specs.Prelude.{slice_range}
 use Rattle.widget_meaning.specs.NativeForms.{elements}
 use Rattle.widget_meaning.specs.ListChanges.{spliced}
 use Rattle.js_image.specs.Image.{all_seen, image}
-use Rattle.native_forms.proofs.Meeting.{ok_ends_same}
+use Rattle.native_common.proofs.Meeting.{ok_ends_same}
 use Rattle.list_methods.specs.Arrays.{number}
 use Rattle.list_methods.specs.Parts.{exchanged}
 use Rattle.list_methods.proofs.Splices.{left_fine, left_seen, taken_fine, taken_seen}

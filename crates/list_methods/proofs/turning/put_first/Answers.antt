@@ -5,7 +5,7 @@ use Rattle.widget_meaning.specs.ListChanges.{change}
 use Rattle.widget_meaning.specs.NativeForms.{elements}
 use Rattle.js_image.specs.Held.{AreFine, IsFine}
 use Rattle.js_image.specs.Image.{all_seen, image, seen}
-use Rattle.native_forms.proofs.Meeting.{ok_ends_same}
+use Rattle.native_common.proofs.Meeting.{ok_ends_same}
 use Rattle.list_methods.specs.Arrays.{number}
 use Rattle.list_methods.proofs.Lists.{all_more}
 use Rattle.list_methods.proofs.turning.put_first.Goals as goal

@@ -7,8 +7,8 @@ use Rattle.widget_meaning.specs.NativeForms.{elements}
 use Rattle.store_cells.specs.declared.value.Value.TheVariants as value
 use Rattle.js_image.specs.Held.{AreFine, IsFine}
 use Rattle.js_image.specs.Image.{all_seen, image, seen}
-use Rattle.native_forms.proofs.Meeting.{ok_ends_same}
-use Rattle.native_forms.proofs.Seen.{nth_seen}
+use Rattle.native_common.proofs.Meeting.{ok_ends_same}
+use Rattle.native_common.proofs.Seen.{nth_seen}
 use Rattle.list_methods.specs.Arrays.{number}
 use Rattle.list_methods.proofs.Lists.{all_at, all_left}
 use Rattle.list_methods.proofs.turning.take_first.Goals as goal

@@ -8,7 +8,7 @@ use Rattle.widget_meaning.specs.NativeForms.{elements}
 use Rattle.js_image.specs.declared.outcome.Fault.TheVariants as fault
 use Rattle.js_image.specs.Image.{all_seen, image, seen}
 use Rattle.js_values.specs.declared.outcome.NativeOut.TheVariants as native
-use Rattle.native_forms.proofs.Meeting.{meets_same}
+use Rattle.native_common.proofs.Meeting.{meets_same}
 use Rattle.list_methods.specs.Arrays.{number}
 use Rattle.list_methods.proofs.Meeting.{meets_taken, meets_wanting, thrown}
 use Rattle.list_methods.proofs.Plans.{unshift_is, unshift_throws}

@@ -1,5 +1,5 @@
-use Rattle.std.proofs.Common.{List, map, sym, subst, arith}
-use Rattle.std.proofs.lemmas.List.{take-map, length-map}
+use Rattle.std.proofs.Common.{List, map, sym, subst}
+use Rattle.std.proofs.lemmas.List.{take-map}
 use Rattle.serde_json.specs.Data.{Data}
 use Rattle.serde_json.specs.View.{view}
 use Rattle.manifest_reader.specs.Html.{html_text, IsLongestHtml}

@@ -1,4 +1,4 @@
-use Rattle.native_forms.proofs.JsImage.Makes.{within_of}
+use Rattle.js_image.proofs.Makes.{within_of}
 use Rattle.native_image.proofs.Nodes.{all_nodes, all_read}
 use Rattle.native_image.proofs.bunches.bunch_of.Goals as goal
 

@@ -1,7 +1,7 @@
 use Rattle.std.proofs.Common.{map, sym, subst, ap, ◌∙◌}
 use Rattle.widget_meaning.specs.NativeForms.{make_bunch}
-use Rattle.native_forms.specs.js_image.Plans.{IsFineMade, made_plan}
-use Rattle.event_image.specs.page_image.Image.{number}
+use Rattle.js_image.specs.Plans.{IsFineMade, made_plan}
+use Rattle.page_image.specs.Image.{number}
 use Rattle.native_image.specs.Image.{beside, image}
 use Rattle.native_image.proofs.Bundles.{single}
 use Rattle.native_image.proofs.Nodes.{one_apart, one_owned}

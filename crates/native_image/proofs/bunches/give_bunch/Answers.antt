@@ -1,6 +1,6 @@
 use Rattle.std.proofs.Common.{ap, ◌∙◌, subst}
 use Rattle.widget_meaning.specs.Costs.{give}
-use Rattle.native_forms.specs.js_image.Plans.{IsFineMade, made_plan}
+use Rattle.js_image.specs.Plans.{IsFineMade, made_plan}
 use Rattle.native_image.specs.Image.{beside, image}
 use Rattle.native_image.proofs.bunches.give_bunch.Goals as goal
 

@@ -1,6 +1,6 @@
 use Rattle.native_image.proofs.Nodes.{bunch_kept, bunch_made, bunch_refused, bunch_sound, is_new, same_kept, same_sound}
-use Rattle.native_forms.proofs.JsImage.Makes.{makeable, new_held}
-use Rattle.native_forms.specs.object_store.declared.store.NewCell.TheVariants as fresh
+use Rattle.js_image.proofs.Makes.{makeable, new_held}
+use Rattle.object_store.specs.declared.store.NewCell.TheVariants as fresh
 use Rattle.native_image.proofs.bunches.make_bunch.Goals as goal
 
 pub make-requires-clause-fit : goal.make-requires-clause-fit

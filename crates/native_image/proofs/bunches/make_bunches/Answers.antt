@@ -1,5 +1,5 @@
 use Rattle.std.proofs.Common.{[], ◌+◌, sym, subst, take, map, take_all}
-use Rattle.event_image.specs.page_image.Image.{number}
+use Rattle.page_image.specs.Image.{number}
 use Rattle.native_image.specs.Made.{AreBunches}
 use Rattle.native_image.proofs.Bundles.{made_at, none_made}
 use Rattle.native_image.proofs.Joint.{holds_grows}

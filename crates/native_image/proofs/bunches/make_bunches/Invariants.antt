@@ -1,6 +1,6 @@
 use Rattle.std.proofs.Common.{map, take}
 use Rattle.event_loop.specs.declared.around.Loop.{Loop}
-use Rattle.event_image.specs.page_image.Image.{number}
+use Rattle.page_image.specs.Image.{number}
 use Rattle.native_image.specs.Made.{AreBunches}
 use Rattle.native_image.specs.Sound.{HoldsOwn, IsSound, KeepsStore}
 use Rattle.native_image.proofs.bunches.make_bunches.Given as goal

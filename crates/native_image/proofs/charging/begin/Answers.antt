@@ -1,9 +1,9 @@
 use Rattle.std.proofs.Common.{subst, sym}
 use Rattle.widget_meaning.specs.Plan.{charge}
-use Rattle.native_forms.specs.js_values.Fuel.{Fuel}
-use Rattle.native_forms.specs.js_values.declared.outcome.NativeOut.TheVariants as native
-use Rattle.native_forms.specs.Meets.{Meets}
-use Rattle.native_forms.proofs.Meeting.{meets_charged, meets_lacking}
+use Rattle.js_values.specs.Fuel.{Fuel}
+use Rattle.js_values.specs.declared.outcome.NativeOut.TheVariants as native
+use Rattle.native_common.specs.Meets.{Meets}
+use Rattle.native_common.proofs.Meeting.{meets_charged, meets_lacking}
 use Rattle.native_image.specs.Charges.{pay_for}
 use Rattle.native_image.proofs.charging.begin.Goals as goal
 

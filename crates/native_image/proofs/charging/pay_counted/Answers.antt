@@ -1,6 +1,6 @@
 use Rattle.std.proofs.Common.{arith}
 use Rattle.native_image.proofs.Charges.{too_many}
-use Rattle.native_forms.specs.js_image.Image.{image}
+use Rattle.js_image.specs.Image.{image}
 use Rattle.native_image.proofs.charging.pay_counted.Goals as goal
 
 pub returns-in-Err-clause-plan : goal.returns-in-Err-clause-plan

@@ -2,13 +2,13 @@ use Rattle.std.proofs.Common.{ap, subst, sym}
 use Rattle.widget_meaning.specs.Costs.{give}
 use Rattle.widget_meaning.specs.Values.{Value}
 use Rattle.widget_meaning.specs.Plan.{charge}
-use Rattle.native_forms.specs.js_image.Image.{image}
-use Rattle.native_forms.specs.js_values.Fuel.{Fuel}
-use Rattle.native_forms.specs.js_values.Operands.{plain}
-use Rattle.native_forms.specs.js_values.declared.outcome.NativeOut.TheVariants as native
-use Rattle.native_forms.proofs.JsValues.Plain.{plain_fine, seen_plain}
-use Rattle.native_forms.specs.Meets.{Meets}
-use Rattle.native_forms.proofs.Meeting.{ends_here, meets_charged, meets_lacking}
+use Rattle.js_image.specs.Image.{image}
+use Rattle.js_values.specs.Fuel.{Fuel}
+use Rattle.js_values.specs.Operands.{plain}
+use Rattle.js_values.specs.declared.outcome.NativeOut.TheVariants as native
+use Rattle.js_values.proofs.Plain.{plain_fine, seen_plain}
+use Rattle.native_common.specs.Meets.{Meets}
+use Rattle.native_common.proofs.Meeting.{ends_here, meets_charged, meets_lacking}
 use Rattle.native_image.proofs.giving.give_plain.Goals as goal
 
 pub returns-in-Ok-clause-native : goal.returns-in-Ok-clause-native

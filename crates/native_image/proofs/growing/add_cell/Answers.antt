@@ -1,6 +1,6 @@
 use Rattle.std.proofs.Common.{ap, refl}
 use Rattle.std.specs.Prelude.{is_some}
-use Rattle.native_forms.proofs.JsImage.Grown.{kept_same}
+use Rattle.js_image.proofs.Grown.{kept_same}
 use Rattle.native_image.proofs.Added.{raw_kept}
 use Rattle.native_image.proofs.growing.add_cell.Goals as goal
 

@@ -1,6 +1,6 @@
 use Rattle.std.proofs.Common.{[], refl, ◌∙◌, arith}
-use Rattle.native_forms.proofs.JsImage.Grown.{kept_same}
-use Rattle.native_forms.proofs.JsImage.Units.{kept_then}
+use Rattle.js_image.proofs.Grown.{kept_same}
+use Rattle.js_image.proofs.Units.{kept_then}
 use Rattle.native_image.proofs.Added.{more_cells}
 use Rattle.native_image.proofs.growing.add_cells.Goals as goal
 

@@ -1,7 +1,7 @@
 use Rattle.std.proofs.Common.{◌≡◌, ℕ, ◌<◌, ◌≤◌, List}
 use Rattle.js_tree.specs.Forest.{Forest}
-use Rattle.native_forms.specs.object_store.Owned.{owned}
-use Rattle.native_forms.specs.js_image.Held.{Kept}
+use Rattle.object_store.specs.Owned.{owned}
+use Rattle.js_image.specs.Held.{Kept}
 use Rattle.native_image.specs.Sound.{HasRaw}
 use Rattle.native_image.proofs.growing.add_cells.Given as goal
 

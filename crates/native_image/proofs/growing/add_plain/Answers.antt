@@ -1,5 +1,5 @@
-use Rattle.event_image.proofs.PageImage.Hosting.{host_same}
-use Rattle.event_image.proofs.PageImage.Pages.{all_keep, all_stay, is_widget}
+use Rattle.page_image.proofs.Hosting.{host_same}
+use Rattle.page_image.proofs.Pages.{all_keep, all_stay, is_widget}
 use Rattle.plain_tree.specs.Plains.{unplaced}
 use Rattle.native_image.proofs.Added.{grown_of}
 use Rattle.native_image.proofs.growing.add_plain.Goals as goal

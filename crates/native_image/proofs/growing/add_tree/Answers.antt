@@ -1,5 +1,5 @@
 use Rattle.std.proofs.Common.{arith, refl}
-use Rattle.native_forms.proofs.JsImage.Grown.{kept_same}
+use Rattle.js_image.proofs.Grown.{kept_same}
 use Rattle.native_image.proofs.Added.{keeps_grown, so_many, sound_grown}
 use Rattle.native_image.proofs.Keeping.{keeps_paged}
 use Rattle.native_image.proofs.growing.add_tree.Goals as goal

@@ -1,6 +1,6 @@
-use Rattle.event_image.proofs.PageImage.Growing.{no_host}
-use Rattle.event_image.proofs.PageImage.Hosting.{host_same}
-use Rattle.event_image.proofs.PageImage.Pages.{all_keep, all_stay, is_node}
+use Rattle.page_image.proofs.Growing.{no_host}
+use Rattle.page_image.proofs.Hosting.{host_same}
+use Rattle.page_image.proofs.Pages.{all_keep, all_stay, is_node}
 use Rattle.native_image.proofs.Added.{copied_of}
 use Rattle.native_image.proofs.growing.copy_plain.Goals as goal
 

@@ -1,8 +1,8 @@
 use Rattle.std.proofs.Common.{arith}
 use Rattle.std.specs.Prelude.{◌+◌, length}
 use Rattle.widget_meaning.specs.Limits.{max_cells, max_nodes, max_slots, max_units}
-use Rattle.event_image.specs.page_image.Image.{own}
-use Rattle.native_forms.proofs.Loops.{over_no, over_yes}
+use Rattle.page_image.specs.Image.{own}
+use Rattle.native_common.proofs.Loops.{over_no, over_yes}
 use Rattle.native_image.specs.Weights.{amounts}
 use Rattle.native_image.proofs.Weighed.{all_within, cells_over, nodes_over, slots_over, units_over}
 use Rattle.native_image.proofs.weighing.weigh.Goals as goal

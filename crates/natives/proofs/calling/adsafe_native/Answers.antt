@@ -1,6 +1,6 @@
 use Rattle.widget_meaning.specs.Natives.{run_native}
 use Rattle.js_image.specs.Image.{all_seen}
-use Rattle.native_forms.specs.Receivers.{receiver}
+use Rattle.native_common.specs.Receivers.{receiver}
 use Rattle.natives.proofs.Started.{noted_kept, noted_whole, tried_keeps}
 use Rattle.natives.proofs.Whole.{store_keeps}
 use Rattle.natives.proofs.calling.adsafe_native.Goals as goal

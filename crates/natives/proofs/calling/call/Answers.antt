@@ -1,7 +1,7 @@
 use Rattle.std.specs.Option.{option_map}
 use Rattle.std.proofs.Common.{refl}
 use Rattle.js_image.specs.Image.{all_seen, seen}
-use Rattle.native_forms.specs.Receivers.{receiver}
+use Rattle.native_common.specs.Receivers.{receiver}
 use Rattle.natives.specs.Reach.{reach}
 use Rattle.natives.proofs.Receivers.{as_called}
 use Rattle.natives.proofs.calling.call.Goals as goal

@@ -3,7 +3,7 @@ use Rattle.std.proofs.lemmas.Result.{IfOk-weaker}
 use Rattle.widget_meaning.specs.Natives.{run_native}
 use Rattle.js_image.specs.Held.{AreFine}
 use Rattle.js_image.specs.Image.{all_seen}
-use Rattle.native_forms.specs.Receivers.{receiver}
+use Rattle.native_common.specs.Receivers.{receiver}
 use Rattle.native_image.specs.Image.{beside}
 use Rattle.native_image.specs.Meets.{MeetsAt, Reads}
 use Rattle.native_image.proofs.Keeping.{page_same, host_here}

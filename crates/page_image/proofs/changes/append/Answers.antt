@@ -1,6 +1,6 @@
 use Rattle.std.proofs.Common.{◌≡◌, None, map, true, false, ◌⊎◌}
 use Rattle.std.specs.List.{fold}
-use Rattle.page_tree.specs.page_nodes.Moves.{Puts}
+use Rattle.page_nodes.specs.Moves.{Puts}
 use Rattle.page_tree.specs.declared.fault.PageFault.TheVariants as fault
 use Rattle.page_tree.specs.Pages.{nodes, root, MayPutAll, RefusesPut}
 use Rattle.widget_meaning.specs.Trees.{moved}

@@ -1,6 +1,6 @@
 use Rattle.std.proofs.Common.{refl, sym, ap, ◌∙◌}
 use Rattle.std.specs.List.{fold}
-use Rattle.page_tree.specs.page_nodes.Entries.{at}
+use Rattle.page_nodes.specs.Entries.{at}
 use Rattle.page_tree.specs.Pages.{nodes}
 use Rattle.widget_meaning.specs.Trees.{detached}
 use Rattle.page_image.specs.Image.{forest}

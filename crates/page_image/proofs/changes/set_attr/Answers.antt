@@ -1,7 +1,7 @@
 use Rattle.std.proofs.Common.{◌≡◌, false}
 use Rattle.tree_ops.specs.Labels.{with_attribute}
-use Rattle.page_tree.specs.page_nodes.Entries.{at}
-use Rattle.page_tree.specs.page_nodes.Moves.{IsRelabelled}
+use Rattle.page_nodes.specs.Entries.{at}
+use Rattle.page_nodes.specs.Moves.{IsRelabelled}
 use Rattle.page_tree.specs.Pages.{nodes}
 use Rattle.page_image.specs.Image.{number, forest, relabel_in}
 use Rattle.page_image.proofs.Calls.{is_text_there, label_either, label_others_either}

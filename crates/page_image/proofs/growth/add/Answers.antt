@@ -1,6 +1,6 @@
 use Rattle.std.proofs.Common.{◌≡◌, refl, true, length}
 use Rattle.code_units.specs.declared.owner.Owner.TheVariants as owner
-use Rattle.page_tree.specs.page_nodes.Adds.{IsAdded}
+use Rattle.page_nodes.specs.Adds.{IsAdded}
 use Rattle.page_tree.specs.Pages.{nodes, RefusesAdd}
 use Rattle.plain_tree.specs.Plains.{unplaced}
 use Rattle.plain_tree.specs.Trees.{beside, size}

@@ -1,6 +1,6 @@
 use Rattle.std.proofs.Common.{◌≡◌, true, length, ap, ◌∙◌}
-use Rattle.page_tree.specs.page_nodes.Adds.{IsAdded}
-use Rattle.page_tree.specs.page_nodes.Entries.{at}
+use Rattle.page_nodes.specs.Adds.{IsAdded}
+use Rattle.page_nodes.specs.Entries.{at}
 use Rattle.page_tree.specs.Pages as page
 use Rattle.page_tree.specs.Pages.{nodes, copy_of}
 use Rattle.plain_tree.specs.Trees.{beside, size}

@@ -1,8 +1,8 @@
 use Rattle.std.proofs.Common.{◌≡◌, None, true}
 use Rattle.plain_tree.specs.Trees.{beside}
 use Rattle.tree_ops.specs.Trees.{subtree, without}
-use Rattle.page_tree.specs.page_nodes.Entries.{body}
-use Rattle.page_tree.specs.page_nodes.Moves.{IsLinked}
+use Rattle.page_nodes.specs.Entries.{body}
+use Rattle.page_nodes.specs.Moves.{IsLinked}
 use Rattle.page_tree.specs.Pages.{nodes, BecomesRoot, SameRoots}
 use Rattle.page_image.specs.Image.{number, forest, is_shown}
 use Rattle.page_image.specs.Stays.{KeepsNodes, GetsRoot, OthersStay}

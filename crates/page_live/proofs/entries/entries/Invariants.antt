@@ -1,6 +1,6 @@
 use Rattle.std.proofs.Common.{◌≡◌, ◌≤◌, List, Option, map, length}
 use Rattle.widget_meaning.specs.OwnState.{OwnState}
-use Rattle.page_spec.specs.Pages.{PagePiece}
+use Rattle.page_plan.specs.Pages.{PagePiece}
 use Rattle.live_text.specs.Answer.{shown}
 use Rattle.page_live.specs.Page.{IsEntry, Shows, told_at}
 use Rattle.page_live.proofs.Entering.{AreSaid}

@@ -3,7 +3,7 @@ use Rattle.std.specs.Prelude.{slice_index_or}
 use Rattle.std.proofs.lemmas.Result.{IfOk-weaker}
 use Rattle.plain_tree.specs.Trees.{End}
 use Rattle.page_output.specs.Printing.{Prints}
-use Rattle.page_spec.specs.Pages.{roots}
+use Rattle.page_plan.specs.Pages.{roots}
 use Rattle.page_live.proofs.Entering.{root_entry}
 use Rattle.page_live.proofs.entries.entry_root.Goals as goal
 

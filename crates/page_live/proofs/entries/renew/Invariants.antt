@@ -1,7 +1,7 @@
 use Rattle.std.proofs.Common.{◌≡◌, ◌≤◌, ℕ, List, Option, length}
 use Rattle.std.specs.Prelude.{slice_get}
 use Rattle.widget_meaning.specs.OwnState.{OwnState}
-use Rattle.page_spec.specs.Pages.{PagePiece}
+use Rattle.page_plan.specs.Pages.{PagePiece}
 use Rattle.page_live.specs.Page.{Shows}
 use Rattle.page_live.proofs.Entering.{AreDone}
 use Rattle.page_live.proofs.entries.renew.Given as goal

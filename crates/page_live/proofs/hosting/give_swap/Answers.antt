@@ -3,7 +3,7 @@ use Rattle.std.specs.Prelude.{slice_index_or}
 use Rattle.trace_reader.specs.Said.{a_swap}
 use Rattle.round_laws.specs.Fed.{Fed}
 use Rattle.round_laws.specs.RoundLaws.{fed_at}
-use Rattle.page_spec.specs.Contents.{content_of}
+use Rattle.page_plan.specs.Contents.{content_of}
 use Rattle.widget_host.specs.Given.{begins, with_swap}
 use Rattle.widget_host.specs.Housed.{fuels}
 use Rattle.page_live.specs.Living.{Rounds, brought_to, takes_swap}

@@ -1,6 +1,6 @@
 use Rattle.std.proofs.Common.{List, ℕ, subst}
 use Rattle.page_output.specs.Printing.{Prints}
-use Rattle.page_spec.specs.Pages.{page_of, roots}
+use Rattle.page_plan.specs.Pages.{page_of, roots}
 use Rattle.page_live.proofs.session.push_page.Goals as goal
 
 pub returns : goal.returns

@@ -2,7 +2,7 @@ use Rattle.std.proofs.Common.{◌≡◌, ◌++◌, ◌∷◌, [], List, ap, arit
 use Rattle.std.specs.Prelude.{OnOk}
 use Rattle.plain_tree.specs.Plains.{unplaced_all}
 use Rattle.page_build.specs.Layout.{IsLaidOut, Lot, each_tree}
-use Rattle.page_spec.specs.Pages.{PagePiece, Place, piece_of}
+use Rattle.page_plan.specs.Pages.{PagePiece, Place, piece_of}
 use Rattle.page_load.specs.Laying.{LaysOut}
 use Rattle.page_load.proofs.Lots.{markup_ok, markup_lays_ok}
 use Rattle.page_load.proofs.laying.lay_piece.Goals as goal

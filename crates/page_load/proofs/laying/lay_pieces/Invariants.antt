@@ -1,5 +1,5 @@
 use Rattle.std.proofs.Common.{map, take}
-use Rattle.page_spec.specs.Pages.{piece_of}
+use Rattle.page_plan.specs.Pages.{piece_of}
 use Rattle.page_load.specs.Laying.{AreLaid, LaysOut}
 use Rattle.page_load.proofs.laying.lay_pieces.Given as goal
 

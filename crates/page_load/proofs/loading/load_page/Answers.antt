@@ -3,7 +3,7 @@ use Rattle.std.specs.declared.alloc.Global.{Global}
 use Rattle.std.specs.declared.vec.Vec.{Vec}
 use Rattle.js_names.specs.declared.code.Code.{Code}
 use Rattle.js_names.specs.Code.{tree_in}
-use Rattle.page_spec.specs.Pages.{piece_of}
+use Rattle.page_plan.specs.Pages.{piece_of}
 use Rattle.page_load.specs.Homes.{fuels_of, names_of}
 use Rattle.page_load.specs.Laying.{AreLaid, LaysOut}
 use Rattle.page_load.specs.Lives.{HaveRoots}

@@ -6,7 +6,7 @@ use Rattle.widget_meaning.specs.NativeForms as forms
 use Rattle.widget_meaning.specs.GlobalNatives as globals
 use Rattle.js_image.specs.Image.{all_seen, image}
 use Rattle.js_image.specs.declared.outcome.StopCause.TheVariants as cause
-use Rattle.native_forms.proofs.Meeting.{meets_same}
+use Rattle.native_common.proofs.Meeting.{meets_same}
 use Rattle.plain_natives.proofs.Exits.{stops, wants}
 use Rattle.std.proofs.Common.{if◌then◌else◌}
 use Rattle.plain_natives.proofs.codes.from_char_code.Goals as goal

@@ -5,7 +5,7 @@ use Rattle.widget_meaning.specs.Costs.{give}
 use Rattle.widget_meaning.specs.GlobalNatives as globals
 use Rattle.js_image.specs.Image.{image, seen}
 use Rattle.js_values.specs.declared.outcome.NativeOut.TheVariants as native
-use Rattle.native_forms.proofs.Meeting.{ends_here}
+use Rattle.native_common.proofs.Meeting.{ends_here}
 use Rattle.plain_natives.proofs.Exits.{charged_as}
 use Rattle.plain_natives.proofs.conversions.boolean.Goals as goal
 

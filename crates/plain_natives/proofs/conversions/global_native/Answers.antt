@@ -2,7 +2,7 @@ use Rattle.std.proofs.Common.{ap, ◌∙◌, true, false, None}
 use Rattle.widget_meaning.specs.Values.{nth}
 use Rattle.widget_meaning.specs.GlobalNatives as globals
 use Rattle.js_image.specs.Image.{all_seen, image, seen}
-use Rattle.native_forms.proofs.Meeting.{meets_same, ok_meets_same}
+use Rattle.native_common.proofs.Meeting.{meets_same, ok_meets_same}
 use Rattle.plain_natives.proofs.Exits.{nth_is, ok_at}
 use Rattle.plain_natives.specs.Families.{meant_global}
 use Rattle.plain_natives.proofs.conversions.global_native.Goals as goal

@@ -3,7 +3,7 @@ use Rattle.store_cells.specs.declared.value.Value.{Value as StoreValue}
 use Rattle.widget_meaning.specs.GlobalNatives as globals
 use Rattle.widget_meaning.specs.Operators as operators
 use Rattle.js_image.specs.Image.{all_seen, image, seen}
-use Rattle.native_forms.proofs.Meeting.{meets_same}
+use Rattle.native_common.proofs.Meeting.{meets_same}
 use Rattle.plain_natives.proofs.Exits.{first_some}
 use Rattle.plain_natives.proofs.conversions.number_native.Goals as goal
 

@@ -6,7 +6,7 @@ use Rattle.widget_meaning.specs.GlobalNatives as globals
 use Rattle.js_image.specs.Image.{image, seen}
 use Rattle.js_values.specs.Operands.{meant_out}
 use Rattle.js_image.specs.declared.outcome.StopCause.TheVariants as cause
-use Rattle.native_forms.specs.Numbers.{counted}
+use Rattle.native_common.specs.Numbers.{counted}
 use Rattle.plain_natives.proofs.Exits.{numbered, numbered_not, operates, stops, wants}
 use mir.Val.{of_z, to_z}
 use mir.Syntax.{w64}

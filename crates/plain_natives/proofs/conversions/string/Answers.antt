@@ -8,8 +8,8 @@ use Rattle.widget_meaning.specs.NativeForms as forms
 use Rattle.widget_meaning.specs.GlobalNatives as globals
 use Rattle.js_image.specs.Image.{image, seen}
 use Rattle.js_values.specs.declared.outcome.NativeOut.TheVariants as native
-use Rattle.native_forms.proofs.Meeting.{ends_here, meets_free, meets_same, meets_zero}
-use Rattle.native_forms.proofs.Seen.{ref_is_object}
+use Rattle.native_common.proofs.Meeting.{ends_here, meets_free, meets_same, meets_zero}
+use Rattle.native_common.proofs.Seen.{ref_is_object}
 use Rattle.plain_natives.proofs.Exits.{charged_as}
 use Rattle.std.proofs.Common.{if◌then◌else◌}
 use Rattle.js_values.specs.declared.outcome.Plan.TheVariants as calls

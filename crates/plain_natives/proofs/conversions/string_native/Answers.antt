@@ -3,7 +3,7 @@ use Rattle.store_cells.specs.declared.value.Value.{Value as StoreValue}
 use Rattle.widget_meaning.specs.NativeForms as forms
 use Rattle.widget_meaning.specs.GlobalNatives as globals
 use Rattle.js_image.specs.Image.{all_seen, image, seen}
-use Rattle.native_forms.proofs.Meeting.{meets_same, ok_meets_same}
+use Rattle.native_common.proofs.Meeting.{meets_same, ok_meets_same}
 use Rattle.plain_natives.proofs.Exits.{first_none, first_some}
 use Rattle.plain_natives.proofs.conversions.string_native.Goals as goal
 

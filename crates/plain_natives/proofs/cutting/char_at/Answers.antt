@@ -4,9 +4,9 @@ use Rattle.widget_meaning.specs.NativeForms as forms
 use Rattle.widget_meaning.specs.TextNatives as texts
 use Rattle.js_image.specs.Image.{image, seen}
 use Rattle.js_image.specs.declared.outcome.StopCause.TheVariants as cause
-use Rattle.native_forms.specs.Meets.{Meets}
-use Rattle.native_forms.specs.Numbers.{counted}
-use Rattle.native_forms.proofs.Meeting.{meets_same}
+use Rattle.native_common.specs.Meets.{Meets}
+use Rattle.native_common.specs.Numbers.{counted}
+use Rattle.native_common.proofs.Meeting.{meets_same}
 use Rattle.plain_natives.proofs.Exits.{numbered, numbered_not, stops, wants_one}
 use Rattle.std.proofs.lemmas.Result.{IfOk-weaker}
 use mir.Val.{of_z, to_z}

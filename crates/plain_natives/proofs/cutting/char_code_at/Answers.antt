@@ -6,7 +6,7 @@ use Rattle.widget_meaning.specs.TextNatives as texts
 use Rattle.js_image.specs.Image.{image, seen}
 use Rattle.js_values.specs.declared.outcome.NativeOut.TheVariants as native
 use Rattle.js_image.specs.declared.outcome.StopCause.TheVariants as cause
-use Rattle.native_forms.proofs.Meeting.{ends_here}
+use Rattle.native_common.proofs.Meeting.{ends_here}
 use Rattle.plain_natives.proofs.Exits.{charged_as, numbered, numbered_not, stops, wants_one}
 use Rattle.plain_natives.proofs.Small.{small_fine, small_seen}
 use mir.Val.{of_z, to_z}

@@ -2,10 +2,10 @@ use Rattle.std.proofs.Common.{◌≡◌, ℕ, sym, ap, ◌∙◌, length, pos}
 use Rattle.widget_meaning.specs.NativeForms as forms
 use Rattle.js_image.specs.Image.{image, seen}
 use Rattle.js_image.specs.declared.outcome.StopCause.TheVariants as cause
-use Rattle.native_forms.specs.Meets.{Meets}
-use Rattle.native_forms.specs.Numbers as numbers
-use Rattle.native_forms.specs.Numbers.{counted}
-use Rattle.native_forms.proofs.Meeting.{meets_same}
+use Rattle.native_common.specs.Meets.{Meets}
+use Rattle.native_common.specs.Numbers as numbers
+use Rattle.native_common.specs.Numbers.{counted}
+use Rattle.native_common.proofs.Meeting.{meets_same}
 use Rattle.plain_natives.proofs.Exits.{stops}
 use Rattle.plain_natives.specs.Choices as choices
 use Rattle.std.proofs.lemmas.Result.{IfOk-weaker}

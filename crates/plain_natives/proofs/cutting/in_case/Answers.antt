@@ -1,7 +1,7 @@
 use Rattle.std.proofs.Common.{ℕ, List, sym, ap, ◌∙◌, length}
 use Rattle.widget_meaning.specs.NativeForms as forms
 use Rattle.js_image.specs.Image.{image}
-use Rattle.native_forms.proofs.Meeting.{meets_same}
+use Rattle.native_common.proofs.Meeting.{meets_same}
 use Rattle.plain_natives.specs.Choices as choices
 use Rattle.plain_natives.proofs.cutting.in_case.Goals as goal
 

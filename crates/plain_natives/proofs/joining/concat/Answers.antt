@@ -6,8 +6,8 @@ use Rattle.widget_meaning.specs.Costs as costs
 use Rattle.widget_meaning.specs.NativeForms as forms
 use Rattle.widget_meaning.specs.TextNatives as texts
 use Rattle.js_image.specs.Image.{all_seen, image}
-use Rattle.native_forms.specs.Numbers.{counted}
-use Rattle.native_forms.proofs.Meeting.{ends_same, meets_charged, meets_same}
+use Rattle.native_common.specs.Numbers.{counted}
+use Rattle.native_common.proofs.Meeting.{ends_same, meets_charged, meets_same}
 use Rattle.plain_natives.proofs.Exits.{wants}
 use Rattle.std.proofs.Common.{◌++◌, length-append}
 use Rattle.std.specs.List.{flat_map}

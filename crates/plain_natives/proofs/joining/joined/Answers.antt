@@ -2,7 +2,7 @@ use Rattle.std.proofs.Common.{◌≡◌, ℕ, ◌+◌, List, sym, ap, ◌∙◌,
 use Rattle.store_cells.specs.declared.value.Value.{Value as StoreValue}
 use Rattle.widget_meaning.specs.Values.{to_text}
 use Rattle.js_image.specs.Image.{all_seen, seen}
-use Rattle.native_forms.proofs.Loops.{stepped}
+use Rattle.native_common.proofs.Loops.{stepped}
 use Rattle.std.proofs.lemmas.Result.{IfOk-weaker}
 use Rattle.std.specs.List.{flat_map}
 use Rattle.std.proofs.Common.{◌++◌, append_assoc}

@@ -2,8 +2,8 @@ use Rattle.std.proofs.Common.{◌≡◌, ℕ, ◌+◌, List, ap, ◌∙◌, arit
 use Rattle.store_cells.specs.declared.value.Value.{Value as StoreValue}
 use Rattle.widget_meaning.specs.Values.{to_text}
 use Rattle.js_image.specs.Image.{all_seen, seen}
-use Rattle.native_forms.specs.Numbers.{counted}
-use Rattle.native_forms.proofs.Loops.{counted_all, counted_more, stepped}
+use Rattle.native_common.specs.Numbers.{counted}
+use Rattle.native_common.proofs.Loops.{counted_all, counted_more, stepped}
 use Rattle.std.proofs.Common.{length-append}
 use Rattle.std.specs.List.{flat_map}
 use Rattle.std.proofs.lemmas.List.{at_drop_all}

@@ -3,7 +3,7 @@ use Rattle.store_cells.specs.declared.value.Value.{Value as StoreValue}
 use Rattle.widget_meaning.specs.Values.{to_number}
 use Rattle.widget_meaning.specs.Operators as operators
 use Rattle.js_image.specs.Image.{all_seen}
-use Rattle.native_forms.proofs.Loops.{stepped}
+use Rattle.native_common.proofs.Loops.{stepped}
 use Rattle.plain_natives.specs.Choices as choices
 use Rattle.std.specs.List.{fold}
 use Rattle.code_units.specs.declared.whole.WholeRead.TheVariants as read

@@ -3,8 +3,8 @@ use Rattle.store_cells.specs.Cells.{Cells}
 use Rattle.widget_meaning.specs.Values.{nth}
 use Rattle.widget_meaning.specs.MathNatives as maths
 use Rattle.js_image.specs.Image.{all_seen, image, seen}
-use Rattle.native_forms.specs.Meets.{Meets}
-use Rattle.native_forms.proofs.Meeting.{meets_same}
+use Rattle.native_common.specs.Meets.{Meets}
+use Rattle.native_common.proofs.Meeting.{meets_same}
 use Rattle.plain_natives.proofs.Exits.{nth_is}
 use Rattle.plain_natives.specs.Families.{meant_math}
 use Rattle.plain_natives.specs.Choices as choices

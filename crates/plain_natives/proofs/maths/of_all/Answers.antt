@@ -3,7 +3,7 @@ use Rattle.widget_meaning.specs.MathNatives as maths
 use Rattle.widget_meaning.specs.Operators as operators
 use Rattle.js_image.specs.Image.{all_seen, image, seen}
 use Rattle.js_values.specs.Operands.{meant_out}
-use Rattle.native_forms.specs.Numbers.{counted}
+use Rattle.native_common.specs.Numbers.{counted}
 use Rattle.plain_natives.proofs.Exits.{operates, wants}
 use Rattle.plain_natives.specs.Choices as choices
 use Rattle.std.proofs.Common.{rules}

@@ -8,7 +8,7 @@ use Rattle.widget_meaning.specs.Operators as operators
 use Rattle.js_image.specs.Image.{all_seen, image, seen}
 use Rattle.js_values.specs.Operands.{meant_out}
 use Rattle.js_image.specs.declared.outcome.Fault.TheVariants as fault
-use Rattle.native_forms.specs.Numbers.{counted}
+use Rattle.native_common.specs.Numbers.{counted}
 use Rattle.plain_natives.proofs.Exits.{nth_is, operates, throws, wants_one, wants_one_not}
 use Rattle.plain_natives.specs.Choices as choices
 use Rattle.std.proofs.lemmas.List.{length-map}

@@ -5,7 +5,7 @@ use Rattle.widget_meaning.specs.Expressions.{result}
 use Rattle.widget_meaning.specs.MathNatives as maths
 use Rattle.js_image.specs.Image.{image, seen}
 use Rattle.js_values.specs.Operands.{meant_out}
-use Rattle.native_forms.specs.Numbers.{counted}
+use Rattle.native_common.specs.Numbers.{counted}
 use Rattle.plain_natives.proofs.Exits.{operates, wants}
 use Rattle.plain_natives.proofs.maths.pow.Goals as goal
 

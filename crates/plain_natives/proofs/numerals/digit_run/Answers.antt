@@ -2,7 +2,7 @@ use Rattle.std.proofs.Common.{◌≡◌, arith, drop, take, get_or, ap}
 use Rattle.std.proofs.lemmas.List.Sums.{prefix_len-drop_no, prefix_len-drop_all}
 use Rattle.std.specs.List.{prefix_len}
 use Rattle.std.specs.Char.{digit_value, is_digit}
-use Rattle.native_forms.proofs.Loops.{over_no}
+use Rattle.native_common.proofs.Loops.{over_no}
 use Rattle.plain_natives.proofs.numerals.digit_run.Goals as goal
 use Rattle.plain_natives.proofs.numerals.digit_run.Goals.{then-loop-end-test+else-from-radix, else-loop-end-test}
 

@@ -7,9 +7,9 @@ use Rattle.widget_meaning.specs.TextNatives as texts
 use Rattle.js_image.specs.Image.{image, seen}
 use Rattle.js_values.specs.declared.outcome.NativeOut.TheVariants as native
 use Rattle.js_image.specs.declared.outcome.StopCause.TheVariants as cause
-use Rattle.native_forms.specs.Numbers as numbers
-use Rattle.native_forms.specs.Numbers.{counted}
-use Rattle.native_forms.proofs.Meeting.{ends_here}
+use Rattle.native_common.specs.Numbers as numbers
+use Rattle.native_common.specs.Numbers.{counted}
+use Rattle.native_common.proofs.Meeting.{ends_here}
 use Rattle.plain_natives.proofs.Exits.{charged_as, numbered, numbered_not, stops, wants}
 use mir.Val.{of_z, to_z}
 use mir.Syntax.{w64}

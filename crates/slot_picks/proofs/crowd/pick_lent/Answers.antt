@@ -1,6 +1,6 @@
 use Rattle.std.proofs.Common.{◌∙◌, subst, sym}
 use Rattle.std.proofs.lemmas.Result.{IfOk-weaker}
-use Rattle.life_picks.specs.life_queue.Fine.{FineLife}
+use Rattle.life_queue.specs.Fine.{FineLife}
 use Rattle.slot_picks.proofs.Picking.{kept_lent, picks_lent}
 use Rattle.slot_picks.proofs.crowd.pick_lent.Goals as goal
 

@@ -3,7 +3,7 @@ use Rattle.std.specs.Prelude.{IfSome, slice_get}
 use Rattle.std.proofs.lemmas.Option.{slice_get_read}
 use Rattle.std.proofs.lemmas.Result.{IfOk-weaker}
 use Rattle.js_names.specs.Code.{trees_of}
-use Rattle.life_picks.specs.life_queue.Fine.{FineTurn, KeepsLife}
+use Rattle.life_queue.specs.Fine.{FineTurn, KeepsLife}
 use Rattle.slot_picks.specs.declared.crowd.Place.{Place}
 use Rattle.slot_picks.specs.Places.{lent}
 use Rattle.slot_picks.proofs.Keeping.{keeps_set}

@@ -9,10 +9,10 @@ use Rattle.post_rounds.specs.declared.posts.PostEvent.{PostEvent}
 use Rattle.post_rounds.specs.Events.{values}
 use Rattle.post_rounds.specs.News.{all_news}
 use Rattle.slot_laws.specs.Chains.{Chains}
-use Rattle.page_load.specs.slot_picks.declared.crowd.Place.{Place}
-use Rattle.page_load.specs.slot_picks.declared.slots.Slot.{Slot}
-use Rattle.page_load.specs.slot_picks.Crowds.{chains_of}
-use Rattle.page_load.specs.slot_picks.Places.{homes_of, is_accepted}
+use Rattle.slot_picks.specs.declared.crowd.Place.{Place}
+use Rattle.slot_picks.specs.declared.slots.Slot.{Slot}
+use Rattle.slot_picks.specs.Crowds.{chains_of}
+use Rattle.slot_picks.specs.Places.{homes_of, is_accepted}
 use Rattle.slot_rounds.specs.Feeding.{AreStill, sum_of}
 use Rattle.slot_rounds.specs.Posting.{fresh_of_lasts}
 use Rattle.slot_rounds.proofs.Gathering.{events_length, false_true, few_taken, fresh_length, loud_round, map_twice, quiet_round}

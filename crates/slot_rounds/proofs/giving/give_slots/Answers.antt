@@ -8,9 +8,9 @@ use Rattle.post_rounds.specs.declared.posts.Post.{Post}
 use Rattle.post_rounds.specs.declared.posts.PostEvent.{PostEvent}
 use Rattle.post_rounds.specs.Events.{values}
 use Rattle.slot_laws.specs.Chains.{last_life}
-use Rattle.page_load.specs.slot_picks.declared.slots.Slot.{Slot}
-use Rattle.page_load.specs.slot_picks.Crowds.{chains_of}
-use Rattle.page_load.specs.slot_picks.Places.{homes_of}
+use Rattle.slot_picks.specs.declared.slots.Slot.{Slot}
+use Rattle.slot_picks.specs.Crowds.{chains_of}
+use Rattle.slot_picks.specs.Places.{homes_of}
 use Rattle.slot_rounds.specs.Feeding.{events_for}
 use Rattle.slot_rounds.proofs.Gathering.{map_get, some_get}
 use Rattle.slot_rounds.proofs.Looping.{not_last}

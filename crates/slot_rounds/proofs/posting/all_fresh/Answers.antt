@@ -6,9 +6,9 @@ use Rattle.std.proofs.lemmas.List.{take_all}
 use Rattle.std.proofs.lemmas.Option.{slice_get_read}
 use Rattle.post_rounds.specs.declared.posts.Post.{Post}
 use Rattle.slot_laws.specs.Chains.{last_life}
-use Rattle.page_load.specs.slot_picks.declared.slots.Slot.{Slot}
-use Rattle.page_load.specs.slot_picks.Crowds.{chains_of}
-use Rattle.page_load.specs.slot_picks.Places.{homes_of}
+use Rattle.slot_picks.specs.declared.slots.Slot.{Slot}
+use Rattle.slot_picks.specs.Crowds.{chains_of}
+use Rattle.slot_picks.specs.Places.{homes_of}
 use Rattle.slot_rounds.specs.Posting.{fresh_of_lasts}
 use Rattle.slot_rounds.proofs.Gathering.{fresh_step}
 use Rattle.slot_rounds.proofs.Lasts.{slot_some, slot_there}

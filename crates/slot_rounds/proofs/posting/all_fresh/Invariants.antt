@@ -1,5 +1,5 @@
 use Rattle.std.proofs.Common.{◌≡◌, map, take}
-use Rattle.page_load.specs.slot_picks.Crowds.{chains_of}
+use Rattle.slot_picks.specs.Crowds.{chains_of}
 use Rattle.slot_rounds.specs.Posting.{fresh_of_lasts}
 use Rattle.slot_rounds.proofs.posting.all_fresh.Given as goal
 

@@ -1,6 +1,6 @@
 use Rattle.std.proofs.Common.{◌∙◌, ap, arith, map}
 use Rattle.std.proofs.lemmas.List.{take_all}
-use Rattle.page_load.specs.slot_picks.declared.slots.Slot.{Slot}
+use Rattle.slot_picks.specs.declared.slots.Slot.{Slot}
 use Rattle.slot_rounds.proofs.posting.all_names.Goals as goal
 
 pub slots-init : goal.slots-init

@@ -1,5 +1,5 @@
 use Rattle.std.proofs.Common.{◌≡◌, map, take}
-use Rattle.page_load.specs.slot_picks.declared.slots.Slot.{Slot}
+use Rattle.slot_picks.specs.declared.slots.Slot.{Slot}
 use Rattle.slot_rounds.proofs.posting.all_names.Given as goal
 
 abbrev pub invariant-slots : goal.invariant-slots

@@ -1,5 +1,5 @@
 use Rattle.std.proofs.Common.{◌<◌, ◌∙◌, ℕ, ap, length, subst, sym}
-use Rattle.page_load.specs.slot_picks.Places.{is_accepted}
+use Rattle.slot_picks.specs.Places.{is_accepted}
 use Rattle.slot_rounds.proofs.Gathering.{accepted_read, false_true, told_now, untold_now}
 use Rattle.slot_rounds.proofs.posting.is_told.Goals as goal
 

@@ -1,14 +1,10 @@
-use Rattle.std.proofs.Common.{slice_get}
-use Rattle.store_reach.specs.Reads.{open_refs}
-use Rattle.store_reach.proofs.Steps.{all_pairs, more_pairs}
+use Rattle.std.proofs.Common.{◌∙◌}
+use Rattle.std.proofs.lemmas.Result.{on_ok_weaker}
+use Rattle.store_reach.proofs.Named.{keys_tell}
 use Rattle.store_reach.proofs.rows.push_pairs.Goals as goal
 
-pub returns-in_default : goal.returns-in_default
-returns-in_default c =
-    let refs = open_refs c.args.names.now c.args.store.now.cells in
-    all_pairs refs (slice_get c.args.store.now.cells c.args.cell) c.pairs.at c.args.out.now.items c.pairs.out.items c.in_default.ensures c.pairs.invariant
-
-pub pairs-preserved : goal.pairs-preserved
-pairs-preserved c =
-    let refs = open_refs c.args.names.now c.args.store.now.cells in
-    more_pairs refs (slice_get c.args.store.now.cells c.args.cell) c.pairs.at c.in-Some.value.now c.args.out.now.items c.pairs.out.items c.push_open.new.out.items c.in-Some.ensures c.pairs.invariant c.in_ok-push_open.ensures
+pub returns : goal.returns
+returns c =
+    on_ok_weaker c.push_all_named.result
+    (keys_tell c.args.names.now c.args.store.now.cells c.args.cell c.deref.result.now c.args.out.now.items c.push_all_named.new.out.items c.names_differ.ensures c.arrays_have_length.ensures c.bunches_have_nodes.ensures (c.deref.ensures.value ∙ c.in_ok-keys.ensures))
+    c.push_all_named.ensures

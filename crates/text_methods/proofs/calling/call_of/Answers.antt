@@ -4,11 +4,11 @@ use Rattle.widget_meaning.specs.GlobalNatives as globals
 use Rattle.widget_meaning.specs.MathNatives as maths
 use Rattle.widget_meaning.specs.PrototypeNatives as prototypes
 use Rattle.js_image.specs.Image.{all_seen, image}
-use Rattle.native_forms.proofs.Meeting.{ok_meets_same}
+use Rattle.native_common.proofs.Meeting.{ok_meets_same}
 use Rattle.plain_natives.proofs.Exits.{ok_at}
 use Rattle.plain_natives.specs.Families.{meant_global, meant_math}
 use Rattle.text_methods.specs.Kinds.{meant_prototype, text_plan}
-use Rattle.native_forms.specs.Receivers.{receiver}
+use Rattle.native_common.specs.Receivers.{receiver}
 use Rattle.widget_meaning.specs.Natives.{run_native}
 use Rattle.text_methods.proofs.KindRuns.{run_kind, same_run}
 use Rattle.text_methods.proofs.calling.call_of.Goals as goal

@@ -3,7 +3,7 @@ use Rattle.widget_meaning.specs.Values.{nth}
 use Rattle.widget_meaning.specs.NativeForms as forms
 use Rattle.widget_meaning.specs.TextNatives as texts
 use Rattle.js_image.specs.Image.{all_seen, image, seen}
-use Rattle.native_forms.proofs.Meeting.{meets_same, ok_meets_same}
+use Rattle.native_common.proofs.Meeting.{meets_same, ok_meets_same}
 use Rattle.plain_natives.proofs.Exits.{nth_is, ok_at}
 use Rattle.text_methods.specs.Kinds.{text_plan}
 use Rattle.plain_natives.specs.Choices as choices

@@ -3,10 +3,10 @@ use Rattle.store_cells.specs.declared.value.Value.{Value as StoreValue}
 use Rattle.widget_meaning.specs.NativeForms as forms
 use Rattle.js_image.specs.Image.{all_seen, image}
 use Rattle.js_image.specs.declared.outcome.Fault.TheVariants as fault
-use Rattle.native_forms.proofs.Meeting.{ok_meets_same}
+use Rattle.native_common.proofs.Meeting.{ok_meets_same}
 use Rattle.plain_natives.proofs.Exits.{throws}
 use Rattle.text_methods.specs.Kinds.{text_plan}
-use Rattle.native_forms.specs.Receivers.{receiver}
+use Rattle.native_common.specs.Receivers.{receiver}
 use Rattle.text_methods.proofs.KindRuns.{no_text}
 use Rattle.text_methods.proofs.calling.text_native.Goals as goal
 

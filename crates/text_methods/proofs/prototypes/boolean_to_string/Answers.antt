@@ -8,9 +8,9 @@ use Rattle.widget_meaning.specs.PrototypeNatives as prototypes
 use Rattle.js_image.specs.Image.{image, seen}
 use Rattle.js_image.specs.declared.outcome.Fault.TheVariants as fault
 use Rattle.js_values.specs.declared.outcome.NativeOut.TheVariants as native
-use Rattle.native_forms.proofs.Meeting.{ends_here, ends_same}
+use Rattle.native_common.proofs.Meeting.{ends_here, ends_same}
 use Rattle.text_methods.proofs.RadixPlans.{no_truth}
-use Rattle.native_forms.specs.Receivers.{receiver}
+use Rattle.native_common.specs.Receivers.{receiver}
 use Rattle.text_methods.proofs.prototypes.boolean_to_string.Goals as goal
 
 pub returns-in_ok-text-in-Bool-clause-native : goal.returns-in_ok-text-in-Bool-clause-native

@@ -4,8 +4,8 @@ use Rattle.widget_meaning.specs.Costs.{give}
 use Rattle.widget_meaning.specs.Costs as costs
 use Rattle.widget_meaning.specs.PrototypeNatives as prototypes
 use Rattle.js_image.specs.Image.{image}
-use Rattle.native_forms.proofs.Meeting.{ends_same}
-use Rattle.native_forms.specs.Receivers.{receiver}
+use Rattle.native_common.proofs.Meeting.{ends_same}
+use Rattle.native_common.specs.Receivers.{receiver}
 use Rattle.text_methods.proofs.KindRuns.{called, fine_receiver}
 use Rattle.text_methods.proofs.prototypes.function_to_string.Goals as goal
 

@@ -2,7 +2,7 @@ use Rattle.std.proofs.Common.{◌≡◌, refl, sym, ap, ◌∙◌, pos, rules}
 use mir.Val.{of_z, to_z}
 use mir.Syntax.{w64}
 use Rattle.js_image.specs.declared.outcome.Fault.TheVariants as fault
-use Rattle.native_forms.proofs.Meeting.{ends_same, meets_free}
+use Rattle.native_common.proofs.Meeting.{ends_same, meets_free}
 use Rattle.store_cells.specs.declared.value.Value.TheVariants as value
 use Rattle.widget_meaning.specs.Values as meaning
 use Rattle.widget_meaning.specs.Costs as costs

@@ -4,9 +4,9 @@ use Rattle.store_cells.specs.declared.value.Value.TheVariants as value
 use Rattle.widget_meaning.specs.PrototypeNatives as prototypes
 use Rattle.js_image.specs.Image.{image, seen}
 use Rattle.js_values.specs.Operands.{plain}
-use Rattle.native_forms.specs.Receivers.{receiver}
+use Rattle.native_common.specs.Receivers.{receiver}
 use Rattle.js_image.specs.declared.outcome.Fault.TheVariants as fault
-use Rattle.native_forms.proofs.Meeting.{ok_meets_same}
+use Rattle.native_common.proofs.Meeting.{ok_meets_same}
 use Rattle.plain_natives.proofs.Exits.{throws}
 use Rattle.text_methods.proofs.RadixPlans.{no_number, of_number}
 use Rattle.text_methods.proofs.prototypes.number_to_string.Goals as goal

@@ -5,9 +5,9 @@ use Rattle.widget_meaning.specs.Costs as costs
 use Rattle.widget_meaning.specs.NativeForms as forms
 use Rattle.widget_meaning.specs.PrototypeNatives as prototypes
 use Rattle.js_image.specs.Image.{image}
-use Rattle.native_forms.proofs.Meeting.{ends_same}
+use Rattle.native_common.proofs.Meeting.{ends_same}
 use Rattle.std.specs.Prelude.{codes}
-use Rattle.native_forms.specs.Receivers.{receiver}
+use Rattle.native_common.specs.Receivers.{receiver}
 use Rattle.text_methods.proofs.KindRuns.{on_object_is}
 use Rattle.text_methods.proofs.prototypes.object_to_string.Goals as goal
 

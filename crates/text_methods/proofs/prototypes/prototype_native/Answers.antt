@@ -2,11 +2,11 @@ use Rattle.std.proofs.Common.{ap, ◌∙◌}
 use Rattle.widget_meaning.specs.NativeForms as forms
 use Rattle.widget_meaning.specs.PrototypeNatives as prototypes
 use Rattle.js_image.specs.Image.{all_seen, image, seen}
-use Rattle.native_forms.proofs.Meeting.{ok_free, ok_meets_same}
+use Rattle.native_common.proofs.Meeting.{ok_free, ok_meets_same}
 use Rattle.plain_natives.proofs.Exits.{nth_is}
 use Rattle.text_methods.specs.Kinds.{meant_prototype}
 use Rattle.std.specs.Prelude.{codes}
-use Rattle.native_forms.specs.Receivers.{receiver}
+use Rattle.native_common.specs.Receivers.{receiver}
 use Rattle.text_methods.proofs.prototypes.prototype_native.Goals as goal
 
 pub returns-in-Object-clause-native : goal.returns-in-Object-clause-native

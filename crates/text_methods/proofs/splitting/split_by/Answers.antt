@@ -4,8 +4,8 @@ use Rattle.widget_meaning.specs.Plan.{charge}
 use Rattle.widget_meaning.specs.NativeForms as forms
 use Rattle.widget_meaning.specs.TextNatives as texts
 use Rattle.js_image.specs.Image.{image, seen}
-use Rattle.native_forms.specs.Numbers.{counted}
-use Rattle.native_forms.proofs.Meeting.{ok_charged, ok_ends_same, ok_meets_same}
+use Rattle.native_common.specs.Numbers.{counted}
+use Rattle.native_common.proofs.Meeting.{ok_charged, ok_ends_same, ok_meets_same}
 use Rattle.plain_natives.proofs.Exits.{wants_one}
 use Rattle.text_methods.proofs.SplitPlans.{asked_is, few_units, split_is}
 use Rattle.text_methods.proofs.splitting.split_by.Goals as goal

@@ -1,5 +1,5 @@
 use Rattle.std.proofs.Common.{◌+◌, ◌∙◌, arith, length, sum_by, drop}
-use Rattle.native_forms.proofs.Loops.{counted_all, counted_more, stepped}
+use Rattle.native_common.proofs.Loops.{counted_all, counted_more, stepped}
 use Rattle.std.proofs.lemmas.List.{at_drop_all}
 use Rattle.std.proofs.lemmas.List.Sums.{sum_by-cons}
 use Rattle.text_methods.proofs.splitting.units_in.Goals as goal

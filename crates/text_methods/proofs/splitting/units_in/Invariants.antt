@@ -1,5 +1,5 @@
 use Rattle.std.proofs.Common.{◌≡◌, ◌+◌, drop, length, sum_by}
-use Rattle.native_forms.specs.Numbers.{counted}
+use Rattle.native_common.specs.Numbers.{counted}
 use Rattle.text_methods.proofs.splitting.units_in.Given as goal
 
 abbrev pub invariant-loop-part : goal.invariant-loop-part

@@ -5,7 +5,7 @@ use Rattle.widget_meaning.specs.Values as meaning
 use Rattle.widget_meaning.specs.Costs.{give}
 use Rattle.widget_meaning.specs.NativeForms as forms
 use Rattle.js_image.specs.Image.{all_seen, image}
-use Rattle.native_forms.proofs.Meeting.{ok_charged, ok_ends_same}
+use Rattle.native_common.proofs.Meeting.{ok_charged, ok_ends_same}
 use Rattle.std.proofs.Common.{◌++◌}
 use Rattle.text_methods.proofs.splitting.whole.Goals as goal
 

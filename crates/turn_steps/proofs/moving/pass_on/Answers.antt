@@ -4,8 +4,8 @@ use Rattle.js_values.specs.Answers.{out_of_fuel}
 use Rattle.js_values.specs.Fuel.{Fuel}
 use Rattle.js_flow.specs.Todo.{Moves}
 use Rattle.js_flow.proofs.Moves.{strides_one}
-use Rattle.turn_calls.specs.turn_runs.declared.level.Doing.{Doing}
-use Rattle.turn_calls.specs.turn_runs.Held.{FineDoing}
+use Rattle.turn_dispatch.specs.declared.level.Doing.{Doing}
+use Rattle.turn_dispatch.specs.Held.{FineDoing}
 use Rattle.turn_steps.specs.Steps.{IsMoved, IsStepped, doing_in, is_open, runs}
 use Rattle.turn_steps.specs.Turning.{forests, state_in}
 use Rattle.turn_steps.proofs.Strided.{begins_within}

@@ -2,10 +2,10 @@ use Rattle.std.proofs.Common.{◌≡◌, ◌+◌, ◌<◌, ℕ, List, Some, arit
 use Rattle.std.specs.Prelude.{slice_get}
 use Rattle.std.specs.List.{list_any}
 use Rattle.std.proofs.lemmas.Option.{slice_get_read}
-use Rattle.slot_reach.specs.slot_rounds.page_load.life_queue.declared.life.Work.TheVariants as work
+use Rattle.life_queue.specs.declared.life.Work.TheVariants as work
 use Rattle.slot_laws.specs.Chains.{last_life}
-use Rattle.slot_reach.specs.slot_rounds.page_load.slot_picks.Crowds.{chains_of}
-use Rattle.slot_reach.specs.slot_rounds.page_load.slot_picks.Places.{homes_of}
+use Rattle.slot_picks.specs.Crowds.{chains_of}
+use Rattle.slot_picks.specs.Places.{homes_of}
 use Rattle.widget_host.specs.Feeding.{AreFed}
 use Rattle.widget_host.proofs.Fed.{all_fed, length_fed, no_slot_fed, same_here, same_then, slot_fed}
 use Rattle.widget_host.proofs.Lasts.{last_there, slot_chain}

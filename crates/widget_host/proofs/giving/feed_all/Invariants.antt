@@ -1,9 +1,9 @@
 use Rattle.std.proofs.Common.{take}
 use Rattle.std.specs.Prelude.{nat_eq}
 use Rattle.std.specs.List.{list_any}
-use Rattle.slot_reach.specs.slot_rounds.page_load.life_queue.declared.life.Work.TheVariants as work
+use Rattle.life_queue.specs.declared.life.Work.TheVariants as work
 use Rattle.slot_laws.specs.Chains.{last_life}
-use Rattle.slot_reach.specs.slot_rounds.page_load.slot_picks.Crowds.{chains_of}
+use Rattle.slot_picks.specs.Crowds.{chains_of}
 use Rattle.widget_host.specs.Feeding.{AreFed, AreSame}
 use Rattle.widget_host.proofs.giving.feed_all.Given as goal
 

@@ -2,11 +2,11 @@ use Rattle.std.proofs.Common.{◌≡◌, ◌+◌, ◌<◌, ◌∙◌, ℕ, List,
 use Rattle.std.specs.Prelude.{slice_get}
 use Rattle.std.proofs.lemmas.Option.{slice_get_read}
 use Rattle.std.proofs.lemmas.Result.{on_ok_weaker}
-use Rattle.slot_reach.specs.slot_rounds.page_load.life_queue.declared.life.Work.TheVariants as work
+use Rattle.life_queue.specs.declared.life.Work.TheVariants as work
 use Rattle.slot_laws.specs.Chains.{last_life}
-use Rattle.slot_reach.specs.slot_rounds.page_load.slot_picks.declared.slots.Slot.{Slot}
-use Rattle.slot_reach.specs.slot_rounds.page_load.slot_picks.Crowds.{chains_of}
-use Rattle.slot_reach.specs.slot_rounds.page_load.slot_picks.Places.{homes_of}
+use Rattle.slot_picks.specs.declared.slots.Slot.{Slot}
+use Rattle.slot_picks.specs.Crowds.{chains_of}
+use Rattle.slot_picks.specs.Places.{homes_of}
 use Rattle.widget_host.specs.declared.items.HostItem.{HostItem}
 use Rattle.widget_host.specs.Feeding.{AreFed, work_of}
 use Rattle.widget_host.specs.Housed.{IsItem, is_for}

@@ -1,6 +1,6 @@
 use Rattle.std.proofs.Common.{[], map}
 use Rattle.page_live.proofs.Showing.{alive_told, live_laid, live_report, live_told, reported_as}
-use Rattle.page_play.specs.slot_lives.Ends.{end_of}
+use Rattle.slot_lives.specs.Ends.{end_of}
 use Rattle.page_live.proofs.page.LivePage.report.Goals as goal
 
 pub report_of-requires : goal.report_of-requires

@@ -1,7 +1,7 @@
 use Rattle.std.proofs.Common.{[], length, All, refl, sym, ap, subst, arith, ◌∙◌}
 use Rattle.std.proofs.lemmas.List.Elements.{All-drop}
 use Rattle.slot_check.specs.Verdicts.{source_of, IsSmall}
-use Rattle.page_judge.specs.Judged.{JudgesOn, JudgesOver}
+use Rattle.page_check.specs.Judged.{JudgesOn, JudgesOver}
 use Rattle.page_play.proofs.Telling.{read_at}
 use Rattle.page_live.proofs.Taken.{took_swap, run_there, run_named, swap_fits, swap_judged, few_ends, chains_many, libs_are, some_text}
 use Rattle.page_live.proofs.page.LivePage.swap.Goals as goal

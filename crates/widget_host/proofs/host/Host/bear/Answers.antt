@@ -5,10 +5,10 @@ use Rattle.std.proofs.lemmas.Option.{slice_get_read}
 use Rattle.std.proofs.lemmas.Result.{on_ok_weaker}
 use Rattle.pick_laws.specs.Journal.{on_at}
 use Rattle.slot_laws.specs.Chains.{joins, last_at}
-use Rattle.slot_reach.specs.slot_rounds.page_load.Joining.{HasSeat, IsFree, KeepsRest}
-use Rattle.slot_reach.specs.slot_rounds.page_load.slot_picks.declared.slots.Slot.{Slot}
-use Rattle.slot_reach.specs.slot_rounds.page_load.slot_picks.Crowds.{chains_of}
-use Rattle.slot_reach.specs.slot_rounds.page_load.slot_picks.Places.{homes_of}
+use Rattle.page_load.specs.Joining.{HasSeat, IsFree, KeepsRest}
+use Rattle.slot_picks.specs.declared.slots.Slot.{Slot}
+use Rattle.slot_picks.specs.Crowds.{chains_of}
+use Rattle.slot_picks.specs.Places.{homes_of}
 use Rattle.widget_host.specs.declared.host.Host.{Host}
 use Rattle.widget_host.specs.Housed.{chains, ends, given, marked, newborn, swaps}
 use Rattle.widget_host.proofs.Bearing.{apart_born, coming_is, free_place, join_apart, join_stays, last_here, life_born, others_kept, slot_fuel, standing_alone, standing_failed, whole_born}

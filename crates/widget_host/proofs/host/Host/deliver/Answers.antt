@@ -1,10 +1,10 @@
 use Rattle.std.proofs.Common.{◌∙◌, List, ap, map, refl, subst, sym, true}
 use Rattle.std.specs.List.{IsDistinct}
 use Rattle.std.specs.Str.{bytes_eq}
-use Rattle.slot_reach.specs.slot_rounds.page_load.slot_picks.declared.slots.Slot.{Slot}
-use Rattle.slot_reach.specs.slot_rounds.page_load.slot_picks.Crowds.{chains_of}
-use Rattle.slot_reach.specs.slot_rounds.Feeding.{is_last}
-use Rattle.slot_reach.proofs.SlotRounds.Seen.{seen_same}
+use Rattle.slot_picks.specs.declared.slots.Slot.{Slot}
+use Rattle.slot_picks.specs.Crowds.{chains_of}
+use Rattle.slot_rounds.specs.Feeding.{is_last}
+use Rattle.slot_rounds.proofs.Seen.{seen_same}
 use Rattle.widget_host.specs.declared.host.Host.{Host}
 use Rattle.widget_host.specs.Housed.{chains, channels, names, seens, told}
 use Rattle.widget_host.proofs.Passed.{holds_all}

@@ -2,9 +2,9 @@ use Rattle.std.proofs.Common.{◌≡◌, ◌<◌, ◌∙◌, ℕ, List, Some, ar
 use Rattle.std.specs.Prelude.{slice_get}
 use Rattle.std.proofs.lemmas.List.{length-map}
 use Rattle.std.proofs.lemmas.Result.{IfOk-weaker}
-use Rattle.slot_reach.specs.slot_rounds.page_load.slot_picks.Places.{is_accepted}
-use Rattle.slot_reach.specs.slot_rounds.page_load.slot_picks.declared.slots.Slot.{Slot}
-use Rattle.slot_reach.specs.slot_rounds.page_load.slot_picks.Crowds.{seens_of}
+use Rattle.slot_picks.specs.Places.{is_accepted}
+use Rattle.slot_picks.specs.declared.slots.Slot.{Slot}
+use Rattle.slot_picks.specs.Crowds.{seens_of}
 use Rattle.widget_host.specs.Housed.{IsHoused, accepts, chains, marked, present, seens}
 use Rattle.widget_host.proofs.Shown.{life_there, present_at, some_lives}
 use Rattle.widget_host.proofs.host.Host.line.Goals as goal

@@ -3,7 +3,7 @@ use Rattle.std.specs.Prelude.{slice_get}
 use Rattle.std.proofs.lemmas.List.{length-map}
 use Rattle.std.proofs.lemmas.Result.{on_err_weaker, on_ok_weaker}
 use Rattle.page_output.specs.Printing.{Prints, PrintsPart}
-use Rattle.slot_reach.specs.slot_rounds.page_load.slot_picks.declared.slots.Slot.{Slot}
+use Rattle.slot_picks.specs.declared.slots.Slot.{Slot}
 use Rattle.widget_host.specs.Housed.{IsHoused, chains}
 use Rattle.widget_host.proofs.Placed.{life_here, node_here, shown_here, some_here}
 use Rattle.widget_host.proofs.host.Host.print_slot.Goals as goal

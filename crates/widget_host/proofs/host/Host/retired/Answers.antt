@@ -2,8 +2,8 @@ use Rattle.std.proofs.Common.{◌≡◌, ◌∙◌, Some, arith, false, length, 
 use Rattle.std.specs.Prelude.{slice_get, slice_index_or}
 use Rattle.std.proofs.lemmas.Option.{get_or_from_slice_get, slice_get_read}
 use Rattle.std.proofs.lemmas.Result.{IfOk-weaker}
-use Rattle.slot_reach.specs.slot_rounds.page_load.slot_picks.Places.{is_accepted}
-use Rattle.slot_reach.specs.slot_rounds.page_load.slot_picks.Crowds.{seens_of}
+use Rattle.slot_picks.specs.Places.{is_accepted}
+use Rattle.slot_picks.specs.Crowds.{seens_of}
 use Rattle.widget_host.specs.Housed.{IsHoused, accepts, ends, marked, seens}
 use Rattle.widget_host.proofs.Shown.{life_there}
 use Rattle.widget_host.proofs.host.Host.retired.Goals as goal

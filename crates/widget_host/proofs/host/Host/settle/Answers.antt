@@ -1,6 +1,6 @@
 use Rattle.std.proofs.Common.{◌≡◌, ◌+◌, ap, false, refl, subst, true}
 use Rattle.std.specs.Prelude.{is_ok}
-use Rattle.slot_reach.specs.slot_rounds.page_load.slot_picks.Crowds.{PicksUntil}
+use Rattle.slot_picks.specs.Crowds.{PicksUntil}
 use Rattle.widget_host.specs.declared.host.Host.{Host}
 use Rattle.widget_host.specs.Housed.{IsHoused, marked, no_pick, swaps}
 use Rattle.widget_host.proofs.Passed.{passes_until, wants_here}

@@ -1,0 +1,79 @@
+use Rattle.std.proofs.Common.{◌*◌, ◌∷◌, [], length, map, ap, sym, ◌∙◌}
+use Rattle.std.specs.Prelude.{◌&&◌, ◌||◌, nat_eq}
+use Rattle.std.specs.List.{fold}
+use Rattle.std.proofs.lemmas.List.{length-map}
+use Rattle.store_cells.specs.declared.value.Value.TheVariants as value
+use Rattle.style_text.specs.Styles.{is_listed, is_value}
+use Rattle.widget_meaning.specs.BunchWrites as means
+use Rattle.widget_meaning.specs.BunchWrites.{relabel, write_method}
+use Rattle.widget_meaning.specs.Costs.{give}
+use Rattle.widget_meaning.specs.NativeNames.{SetStyle}
+use Rattle.widget_meaning.specs.PageForms.{want_all}
+use Rattle.widget_meaning.specs.Plan.{charge}
+use Rattle.widget_meaning.specs.Values.{E4, to_text}
+use Rattle.js_image.specs.declared.outcome.Fault.TheVariants as fault
+use Rattle.js_image.specs.Image.{seen}
+use Rattle.native_common.specs.Numbers.{counted}
+use Rattle.page_image.specs.Image.{number}
+use Rattle.native_image.specs.Charges.{OfUnits, pay_for}
+use Rattle.native_image.specs.Image.{beside, image}
+use Rattle.native_image.proofs.Keeping.{keeps_here}
+use Rattle.native_image.proofs.Wants.{objects_of, primitives_of, unwanted, wanted}
+use Rattle.native_image.proofs.Working.{at_thrown, ok_at_same}
+use Rattle.bunch_attributes.specs.Labels.{relabel_plan}
+use Rattle.bunch_attributes.specs.Tests.{passes}
+use Rattle.bunch_attributes.specs.declared.judging.Test.TheVariants as test
+use Rattle.bunch_attributes.specs.declared.relabelling.Label.TheVariants as label
+use Rattle.bunch_attributes.proofs.labels.set_style.Goals as goal
+
+pub returns-then-either_object-clause-native : goal.returns-then-either_object-clause-native
+returns-then-either_object-clause-native c = λ l b sound.
+    let w = c.args.w in
+    let p = c.args.page.now in
+    let s = c.args.store.now in
+    let h = beside s p l b in
+    let ns = map (number p w) c.args.list.now in
+    let v = seen w s.cells (value.Ref c.args.this) in
+    let a = seen w s.cells c.args.property.now in
+    let t = seen w s.cells c.args.value.now in
+    at_thrown w h (λ d u. write_method SetStyle ns v (a ∷ t ∷ []) d u) fault.E4 c.args.meter.now sound
+    (λ fs x d. let u = image fs x w h in objects_of a t u (means.set_style ns (to_text a) (to_text t) v u) (sym (c.either_object.ensures w s.cells) ∙ c.if-either_object.true))
+
+pub returns-then-either_object-clause-kept : goal.returns-then-either_object-clause-kept
+returns-then-either_object-clause-kept c = λ l sound. keeps_here c.args.w c.args.store.now c.args.page.now l sound.holds
+
+pub returns-in_err-property-clause-kept : goal.returns-in_err-property-clause-kept
+returns-in_err-property-clause-kept c = λ l sound. keeps_here c.args.w c.args.store.now c.args.page.now l sound.holds
+
+pub returns-in_err-value-clause-kept : goal.returns-in_err-value-clause-kept
+returns-in_err-value-clause-kept c = λ l sound. keeps_here c.args.w c.args.store.now c.args.page.now l sound.holds
+
+pub returns-then-not-may_style-clause-native : goal.returns-then-not-may_style-clause-native
+returns-then-not-may_style-clause-native c = λ l b sound.
+    let w = c.args.w in
+    let p = c.args.page.now in
+    let s = c.args.store.now in
+    let h = beside s p l b in
+    let ns = map (number p w) c.args.list.now in
+    let v = seen w s.cells (value.Ref c.args.this) in
+    let a = seen w s.cells c.args.property.now in
+    let t = seen w s.cells c.args.value.now in
+    at_thrown w h (λ d u. write_method SetStyle ns v (a ∷ t ∷ []) d u) fault.E4 c.args.meter.now sound
+    (λ fs x d. let u = image fs x w h in primitives_of a t u (means.set_style ns (to_text a) (to_text t) v u) (sym (c.either_object.ensures w s.cells) ∙ c.if-either_object.false) ∙ unwanted E4 (is_listed (to_text a) && (nat_eq (length (to_text t)) 0 || is_value (to_text t))) u (want_all (passes test.Element u) ns u (charge (length ns) u (pay_for (OfUnits (length ns * length (to_text t))) u (λ y. give v (fold (relabel (means.styled (to_text a) (to_text t))) y ns))))) ((λ j. is_listed (sym (c.in_ok-property.ensures w s.cells) j) && (nat_eq (length (sym (c.in_ok-value.ensures w s.cells) j)) 0 || is_value (sym (c.in_ok-value.ensures w s.cells) j))) ∙ sym c.may_style.ensures ∙ c.if-not-may_style.true))
+
+pub returns-then-not-may_style-clause-kept : goal.returns-then-not-may_style-clause-kept
+returns-then-not-may_style-clause-kept c = λ l sound. keeps_here c.args.w c.args.store.now c.args.page.now l sound.holds
+
+pub returns-clause-native : goal.returns-clause-native
+returns-clause-native c = λ l b sound.
+    let w = c.args.w in
+    let p = c.args.page.now in
+    let s = c.args.store.now in
+    let h = beside s p l b in
+    let ns = map (number p w) c.args.list.now in
+    let v = seen w s.cells (value.Ref c.args.this) in
+    let a = seen w s.cells c.args.property.now in
+    let t = seen w s.cells c.args.value.now in
+    ok_at_same w h (beside c.relabel.new.store c.relabel.new.page l b) (λ d u. write_method SetStyle ns v (a ∷ t ∷ []) d u) (λ d u. relabel_plan test.Element (label.Style c.in_ok-property.property c.in_ok-value.value) (OfUnits (length ns * length c.in_ok-value.value)) ns v u) c.relabel.result c.args.meter.now c.relabel.new.meter
+    (λ fs x d. let u = image fs x w h in primitives_of a t u (means.set_style ns (to_text a) (to_text t) v u) (sym (c.either_object.ensures w s.cells) ∙ c.if-either_object.false) ∙ wanted E4 (is_listed (to_text a) && (nat_eq (length (to_text t)) 0 || is_value (to_text t))) u (want_all (passes test.Element u) ns u (charge (length ns) u (pay_for (OfUnits (length ns * length (to_text t))) u (λ y. give v (fold (relabel (means.styled (to_text a) (to_text t))) y ns))))) ((λ j. is_listed (sym (c.in_ok-property.ensures w s.cells) j) && (nat_eq (length (sym (c.in_ok-value.ensures w s.cells) j)) 0 || is_value (sym (c.in_ok-value.ensures w s.cells) j))) ∙ sym c.may_style.ensures ∙ c.if-not-may_style.false) ∙ (λ j. relabel_plan test.Element (label.Style (sym (c.in_ok-property.ensures w s.cells) j) (sym (c.in_ok-value.ensures w s.cells) j)) (OfUnits (length ns * length (sym (c.in_ok-value.ensures w s.cells) j))) ns v u))
+    (c.relabel.ensures.native l b (OfUnits (length ns * length c.in_ok-value.value)) sound (c.units_for.ensures ∙ ap (λ k. counted (k * length c.in_ok-value.value)) (sym (length-map c.args.list.now (number p w)))))

@@ -1,0 +1,5 @@
+pub mod Tests
+pub mod Labels
+pub mod Kept
+pub mod Callees
+pub mod Values

@@ -1,0 +1,30 @@
+use Rattle.std.proofs.Common.{sym, ap, ◌∙◌}
+use Rattle.std.proofs.lemmas.Result.{IfOk-weaker}
+use Rattle.widget_meaning.specs.Plan.{after, and_then}
+use Rattle.widget_meaning.specs.Calls.{to_primitive}
+use Rattle.widget_meaning.specs.Operators.{binary}
+use Rattle.widget_meaning.specs.Expressions.{result}
+use Rattle.js_image.specs.Image.{image, seen}
+use Rattle.js_names.specs.Code.{trees_of}
+use Rattle.js_expressions.proofs.Values.{stays_primitive}
+use Rattle.js_expressions.proofs.operating.convert_right.Goals as goal
+
+pub returns-then-is_object-clause-plan : goal.returns-then-is_object-clause-plan
+returns-then-is_object-clause-plan c =
+    let fs = trees_of c.args.codes.now.items in
+    let w = c.args.w in
+    let s = c.args.store.now in
+    IfOk-weaker c.convert.result _ _
+    (λ k e. rw e (λ r i. and_then (to_primitive (seen w s.cells (c.in_ok-share-2.ensures i)) c.args.op.1 (image fs r w s))
+    (after (λ u t. result (binary c.args.op.0 (seen w s.cells (c.in_ok-share.ensures i)) u) t))))
+    c.convert.ensures
+
+pub returns-clause-plan : goal.returns-clause-plan
+returns-clause-plan c =
+    let fs = trees_of c.args.codes.now.items in
+    let w = c.args.w in
+    let s = c.args.store.now in
+    let no = sym (c.is_object.ensures.object w s.cells) ∙ c.if-is_object.false in
+    IfOk-weaker c.computed.result _ _
+    (λ n h r. h r ∙ sym (ap (λ p. and_then p (after (λ u t. result (binary c.args.op.0 (seen w s.cells c.args.left.now) u) t))) (stays_primitive (seen w s.cells c.args.right.now) c.args.op.1 (image fs r w s) no)))
+    c.computed.ensures.plan

@@ -1,0 +1,17 @@
+use Rattle.std.proofs.Common.{sym, ap, ◌∙◌}
+use Rattle.std.proofs.lemmas.Result.{IfOk-weaker}
+use Rattle.widget_meaning.specs.Expressions as expressions
+use Rattle.js_image.specs.Image.{image}
+use Rattle.js_names.specs.Code.{trees_of}
+use Rattle.js_flow.specs.Views.{place_of, reference_of}
+use Rattle.js_expressions.proofs.reading.referred.Goals as goal
+
+pub returns-in-Variable-clause-found : goal.returns-in-Variable-clause-found
+returns-in-Variable-clause-found c =
+    let fs = trees_of c.args.codes.now.items in
+    let w = c.args.w in
+    let s = c.args.store.now in
+    IfOk-weaker c.variable.result _ _
+    (λ v h r. h fs r w c.args.place.depth c.requires.confined c.requires.held.1.1
+    ∙ sym (ap (λ q. expressions.referred (reference_of w s.cells q) (place_of w s.cells c.args.place) (image fs r w s)) c.in-Variable.is))
+    c.variable.ensures.found

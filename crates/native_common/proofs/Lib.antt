@@ -1,0 +1,3 @@
+pub mod Loops
+pub mod Meeting
+pub mod Seen

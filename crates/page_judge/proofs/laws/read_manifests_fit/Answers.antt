@@ -1,5 +1,0 @@
-use Rattle.page_judge.proofs.Fitting.{read_is_fit}
-use Rattle.page_judge.proofs.laws.read_manifests_fit.Goals as goal
-
-pub returns : goal.returns
-returns c = read_is_fit

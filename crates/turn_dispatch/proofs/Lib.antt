@@ -1,0 +1,7 @@
+mod Paying
+mod Born
+mod Filled
+mod Evented
+mod Announced
+mod Listening
+mod Searched

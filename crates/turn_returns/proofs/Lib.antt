@@ -1,0 +1,5 @@
+pub mod Stays
+pub mod Taken
+mod Arms
+pub mod Kept
+mod Given

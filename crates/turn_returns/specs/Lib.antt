@@ -1,0 +1,4 @@
+pub mod Took
+pub mod Turns
+pub mod Weights
+pub mod Waiting
