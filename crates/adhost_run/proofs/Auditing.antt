@@ -1,5 +1,5 @@
 -- The line on a certificate.
-use Rattle.std.proofs.Common.{◌≡◌, ℕ, List, [], Some, None, Result, Ok, Err, IfOk, IfErr, IsErrOf, Option, Bool, true, false, refl, sym, subst}
+use Rattle.std.proofs.Common.{◌≡◌, ℕ, List, [], Some, None, Result, Ok, Err, IfOk, IfErr, IsErrOf, Option, Bool, true, false, refl, sym, subst, ◌∙◌}
 use Rattle.code_units.specs.declared.memory.Memory.{Memory}
 use Rattle.host_io.specs.Files.{FileMap}
 use Rattle.reach_cert.specs.Certs.{Slot, cert_text}
@@ -33,13 +33,14 @@ leak_answer bytes slots line is text first refused written how =
     subst (λ r. CertAnswer bytes (ending r) written) (sym how.1) (subst (CertAnswer bytes status.Refused) (sym how.0) (leaks is (sym text) first))
 
 -- the reports on them
-pub kept_report_of : (slots : List Slot) → IsConfined slots → (r : Result Report Memory) → IfOk r (λ t. (t.bytes.items ≡ confined_line) × (t.refused ≡ false) × (t.host ≡ None)) → IfOk r (λ t. IsCert slots → CertAnswer (cert_text slots) (ending t.refused) t.bytes.items)
-kept_report_of slots confined (Ok t) how = λ is. kept_answer (cert_text slots) slots is refl confined t.refused t.bytes.items (how.0, how.1)
-kept_report_of slots confined (Err e) how = tt
+module _ (leak : Option ℕ) where
+  pub kept_report_of : leak ≡ None → (r : Result Report Memory) → IfOk r (λ t. (t.bytes.items ≡ confined_line) × (t.refused ≡ false) × (t.host ≡ None)) → IfOk r (λ t. (slots : List Slot) → IsCert slots → leak ≡ first_leak slots → CertAnswer (cert_text slots) (ending t.refused) t.bytes.items)
+  kept_report_of none (Ok t) how = λ slots is first. kept_answer (cert_text slots) slots is refl (sym first ∙ none) t.refused t.bytes.items (how.0, how.1)
+  kept_report_of none (Err e) how = tt
 
-pub leak_report_of : (slots : List Slot) (line : ℕ) → first_leak slots ≡ Some line → (r : Result Report Memory) → IfOk r (λ t. (t.bytes.items ≡ leak_line line) × (t.refused ≡ true) × (t.host ≡ None)) → IfOk r (λ t. IsCert slots → CertAnswer (cert_text slots) (ending t.refused) t.bytes.items)
-leak_report_of slots line first (Ok t) how = λ is. leak_answer (cert_text slots) slots line is refl first t.refused t.bytes.items (how.0, how.1)
-leak_report_of slots line first (Err e) how = tt
+  pub leak_report_of : (line : ℕ) → leak ≡ Some line → (r : Result Report Memory) → IfOk r (λ t. (t.bytes.items ≡ leak_line line) × (t.refused ≡ true) × (t.host ≡ None)) → IfOk r (λ t. (slots : List Slot) → IsCert slots → leak ≡ first_leak slots → CertAnswer (cert_text slots) (ending t.refused) t.bytes.items)
+  leak_report_of line some (Ok t) how = λ slots is first. leak_answer (cert_text slots) slots line is refl (sym first ∙ some) t.refused t.bytes.items (how.0, how.1)
+  leak_report_of line some (Err e) how = tt
 
 cert_stop : (bytes : List ℕ) (e : Stop) → IsCertStop bytes e → IsAnswerStop (CertAnswer bytes) e
 cert_stop bytes stop.BadManifest is = absurd is

@@ -1,7 +1,8 @@
 //! The report of `check-audit`: whether a certificate is confined.
-ghost use Rattle.std.specs.Prelude.{◌≡◌, ◌≤◌, ◌<◌, length, IfOk, IfErr, IsSome, None, true, false};
-ghost use Rattle.reach_cert.specs.Certs.{plain, cert_lines, cert_text};
+ghost use Rattle.std.specs.Prelude.{◌≡◌, ◌≤◌, List, length, IfOk, IfErr, IsSome, None, true, false};
+ghost use Rattle.reach_cert.specs.Certs.{Slot, cert_text};
 ghost use Rattle.reach_cert.specs.Shape.{IsCert};
+ghost use Rattle.reach_cert.specs.Walks.{first_leak};
 ghost use Rattle.run_steps.specs.Page.{cert_limit};
 ghost use Rattle.adhost_run.specs.Answer.{ending, CertAnswer, CheckAuditAnswer, IsCertStop, confined_line, leak_line};
 ghost use Rattle.adhost_run.specs.Ends.{Answered};
@@ -10,7 +11,7 @@ use crate::reports::Report;
 use code_units::Memory;
 use host_io::Files;
 use itoa::Buffer;
-use reach_cert::{Cert, CertFault, confined, one_answer, read_cert};
+use reach_cert::{CertFault, judge, one_answer};
 use run_steps::{Stop, cert_in};
 use std::alloc::Global;
 
@@ -32,22 +33,22 @@ fn judge_cert(alloc: Global, bytes: &[u8]) -> Result<Report, Stop>
     ensures stop { IfErr result (IsCertStop bytes.now) }
 {
     one_answer();
-    match read_cert(alloc, bytes) {
-        Ok(cert) => Ok(found_report(alloc, &cert)?),
+    match judge(alloc, bytes) {
+        Ok(leak) => Ok(found_report(alloc, leak)?),
         Err(CertFault::BadCert { .. }) => Err(Stop::BadCert),
         Err(CertFault::Memory) => Err(Stop::Memory),
     }
 }
 
-// The report on a certificate.
-fn found_report(alloc: Global, cert: &Cert) -> Result<Report, Memory>
-    requires { length (cert_lines (plain cert.now)) < 4294967295 }
-    ensures answer { IfOk result (λ r. IsCert (plain cert.now) → CertAnswer (cert_text (plain cert.now)) (ending r.refused) r.bytes.items) }
+// The report on a certificate, by its first line that is not confined.
+fn found_report(alloc: Global, leak: Option<u32>) -> Result<Report, Memory>
+    ensures answer { IfOk result (λ r. (slots : List Slot) → IsCert slots → leak ≡ first_leak slots →
+        CertAnswer (cert_text slots) (ending r.refused) r.bytes.items) }
     ensures no_host { IfOk result (λ r. r.host ≡ None) }
 {
-    match confined(cert) {
-        Ok(()) => kept_report(alloc),
-        Err(line) => leak_report(alloc, line),
+    match leak {
+        None => kept_report(alloc),
+        Some(line) => leak_report(alloc, line),
     }
 }
 

@@ -1,28 +1,23 @@
 -- What a judge knows as it goes on, line by line.
-use Rattle.std.proofs.Common.{◌≡◌, ℕ, suc, ◌+◌, ◌-◌, ◌^◌, ◌≤◌, Bool, true, false, ◌||◌, List, [], ◌∷◌, ◌++◌, map, length, refl, sym, ap, ◌∙◌, subst, arith, Option, Some, None, nat_lt, if◌then◌else◌, append-nil, length-append}
+use Rattle.std.proofs.Common.{◌≡◌, ℕ, suc, ◌+◌, ◌-◌, ◌^◌, ◌≤◌, Bool, true, false, List, [], ◌∷◌, ◌++◌, map, length, refl, sym, ap, ◌∙◌, subst, arith, Option, Some, None, nat_lt, append-nil, length-append}
 use Rattle.std.specs.Prelude.{codes, option_map}
-use Rattle.std.specs.Borrow.{Bor}
-use Rattle.std.specs.List.{flat_map, list_any}
+use Rattle.std.specs.List.{flat_map}
 use Rattle.std.specs.Option.{option_or}
-use Rattle.std.specs.Str.{bytes_eq}
 use Rattle.std.proofs.lemmas.List.{length-map, map-append}
 use Rattle.std.proofs.lemmas.List.Concat.{flat_map-append}
 use Rattle.reach_cert.specs.declared.fault.CertFault.{CertFault}
 use Rattle.reach_cert.specs.declared.fault.CertFault.TheVariants as fault
-use Rattle.reach_cert.specs.Certs.{Row, Slot, Refused, Shown}
-use Rattle.reach_cert.specs.Judged.{words_of, AreCells, IsHeld, IsShown, IsBlock, AreBlocks}
-use Rattle.reach_cert.specs.Machine.{State, Between, Inside, Ahead, Refuses, goes, is_free, named, behind_first, first_text, step_first, text_is, text_behind, cell_text}
+use Rattle.reach_cert.specs.Blocks.{IsWidget}
+use Rattle.reach_cert.specs.Certs.{Row, Slot, Shown}
+use Rattle.reach_cert.specs.Judged.{IsLeak, AreCells, IsHeld}
+use Rattle.reach_cert.specs.Machine.{Between, Inside, Ahead, Refuses, behind_first, first_text, text_behind, cell_text}
 use Rattle.reach_cert.specs.Needs.{all_needed, row_needed}
-use Rattle.reach_cert.specs.Shape.{is_used, slot_name}
 use Rattle.reach_cert.specs.Walks.{some_leaves, slot_leaks, first_from, first_leak}
 use Rattle.reach_cert.specs.Words.{behind, refs_in, row_in, cell_behind}
 use Rattle.reach_cert.proofs.Enough.{mapped_some, mapped_none, refs_leave, rows_leave}
-use Rattle.reach_cert.proofs.Steps.{carried, stopped, moved, later_none, later_both, fewer_later, fewer_then, one_on, one_read, cell_taken, cell_not, held_taken, held_not, inside_none, refused_named, widget_named, slot_none}
+use Rattle.reach_cert.proofs.Steps.{carried, stopped, moved, later_both, fewer_later, one_on, one_read, cell_taken, cell_not, held_taken, held_not, inside_none}
 
 -- ## Cells
-
-pub cells_begin : (name : List ℕ) (a : Ahead) (needs : List ℕ) → needs ≡ [] → AreCells name a a needs
-cells_begin name a needs e = record { rows = []; needs_are = e; read = λ slots. refl; place = omega (arith, ap length e); later = later_none a }
 
 cells_count : (name : List ℕ) (old new : Ahead) (needs : List ℕ) → (c : AreCells name old new needs) → length needs ≡ length c.rows
 cells_count name old new needs c = ap length c.needs_are ∙ length-map c.rows (row_needed name)
@@ -82,7 +77,7 @@ module _ (name : List ℕ) (old mid : Ahead) (needs : List ℕ) (cells : AreCell
     pub lines_before : length all ≤ new.number
     lines_before = omega (arith, ap length pushed, length-append needs (need ∷ []), cells.place, holds.place)
 
-    pub shown_is : (first count : ℕ) (leak : Option ℕ) → old.number ≡ first + 1 → count ≡ length needs → new.number ≤ 2 ^ 32 → leak ≡ first_from (new.number - length all) (map (nat_lt count) all) → IsShown name first old new leak
+    pub shown_is : (first count : ℕ) (leak : Option ℕ) → old.number ≡ first + 1 → count ≡ length needs → new.number ≤ 2 ^ 32 → leak ≡ first_from (new.number - length all) (map (nat_lt count) all) → (slot : Slot) × IsWidget name old new slot × IsLeak first new.number (slot_leaks slot) leak
     shown_is first count leak at is small found =
         let few : count ≤ 2 ^ 32 = omega (arith, is, small, cells.place, holds.place) in
         let rows = cells.rows in
@@ -93,113 +88,48 @@ module _ (name : List ℕ) (old mid : Ahead) (needs : List ℕ) (cells : AreCell
         ap (map (nat_lt count)) (pushed ∙ (λ i. cells.needs_are i ++ holds.need_is i ∷ []))
         ∙ map-append (nat_lt count) (map (row_needed name) rows) (all_needed name held ∷ [])
         ∙ (λ i. sym (rows_leave name count few rows) i ++ sym (refs_leave name count few held) i ∷ []) in
-        let same : count ≡ length rows = is ∙ cells_count name old mid needs cells in
-        record {
-          rows = rows;
-          held = held;
-          leak_is = found ∙ (λ i. first_from (place i) (tells i)) ∙ ap (λ n. first_from (suc first) (map (λ row. some_leaves name n row.refs) rows ++ some_leaves name n held ∷ [])) same;
-          read = λ slots. cells.read slots ∙ holds.read slots rows no_cell;
-          place =
-              omega (
-                arith,
-                cells.place,
-                holds.place,
-                at,
-                cells_count name old mid needs cells,
-                length-map rows (λ row. some_leaves name (length rows) row.refs),
-                length-append (map (λ row. some_leaves name (length rows) row.refs) rows) (some_leaves name (length rows) held ∷ []),
-              );
-          later = later_both old mid new cells.later (fewer_later mid new holds.fewer);
-        }
-
--- ## A block
-
--- the names of slots
-pub names_count : (names : List (Bor (List ℕ))) (slots : List Slot) → words_of names ≡ map slot_name slots → length names ≡ length slots
-names_count names slots same = sym (length-map names (λ s. s.now)) ∙ ap length same ∙ length-map slots slot_name
-
-pub names_used : (names : List (Bor (List ℕ))) (word : List ℕ) (slots : List Slot) → words_of names ≡ map slot_name slots → list_any (λ name. bytes_eq name word) (words_of names) ≡ is_used slots word
-names_used names word slots same = ap (list_any (λ name. bytes_eq name word)) same ∙ each slots
-  where
-    each : (slots : List Slot) → list_any (λ name. bytes_eq name word) (map slot_name slots) ≡ is_used slots word
-    each [] = refl
-    each (slot ∷ slots) = ap (λ b. bytes_eq (slot_name slot) word || b) (each slots)
-
--- a further slot may have the name
-abbrev pub Allows : List (List ℕ) → List ℕ → Type 0
-Allows names word = (slots : List Slot) → names ≡ map slot_name slots → is_free slots word ≡ true
-
-pub not_allowed : (slots : List Slot) (word : List ℕ) (next : State) (a : Ahead) → is_free slots word ≡ false → step_first (Between slots) a.lines ≡ named slots word next → Refuses (Between slots) a (fault.BadCert a.number)
-not_allowed slots word next a not is = stopped (Between slots) a.number a.lines refl (is ∙ ap (λ b. if b then Some next else None) not)
-
-module _ (names : List (List ℕ)) (old : Ahead) (goes_on : text_is (codes "end") old.lines ≡ false) where
-  pub no_block : text_behind (codes "refused ") old.lines ≡ None → text_behind (codes "widget ") old.lines ≡ None → (slots : List Slot) → Refuses (Between slots) old (fault.BadCert old.number)
-  no_block e f slots = stopped (Between slots) old.number old.lines refl (slot_none slots (first_text old.lines) goes_on e f)
-
-  module _ (word : List ℕ) (refused : text_behind (codes "refused ") old.lines ≡ Some word) where
-    pub refused_step : (slots : List Slot) → step_first (Between slots) old.lines ≡ named slots word (Between (slots ++ Refused word ∷ []))
-    refused_step slots = refused_named slots (first_text old.lines) word goes_on refused
-
-    pub refused_block : (after : List (List ℕ)) (new : Ahead) → new ≡ behind_first old → after ≡ names ++ word ∷ [] → Allows names word → IsBlock names after old new None
-    refused_block after new gone kept free =
-        record {
-          slot = Refused word;
-          after_is = kept;
-          leak_is = refl;
-          read = λ slots same. moved (Between slots) (Between (slots ++ Refused word ∷ [])) old new gone (refused_step slots ∙ ap (λ b. if b then Some (Between (slots ++ Refused word ∷ [])) else None) (free slots same));
-          place = one_on (behind (codes "refused ")) old new word refused gone;
-          fewer = one_read (behind (codes "refused ")) old new word refused gone;
-        }
-
-  module _ (word : List ℕ) (unrefused : text_behind (codes "refused ") old.lines ≡ None) (widget : text_behind (codes "widget ") old.lines ≡ Some word) where
-    pub widget_step : (slots : List Slot) → step_first (Between slots) old.lines ≡ named slots word (Inside slots word [])
-    widget_step slots = widget_named slots (first_text old.lines) word goes_on unrefused widget
-
-    module _ (mid : Ahead) (gone : mid ≡ behind_first old) (free : Allows names word) where
-      widget_moved : (slots : List Slot) → names ≡ map slot_name slots → goes (Between slots) old.lines ≡ goes (Inside slots word []) mid.lines
-      widget_moved slots same = moved (Between slots) (Inside slots word []) old mid gone (widget_step slots ∙ ap (λ b. if b then Some (Inside slots word []) else None) (free slots same))
-
-      pub widget_refused : (e : CertFault) → ((slots : List Slot) → Refuses (Inside slots word []) mid e) → (slots : List Slot) → names ≡ map slot_name slots → Refuses (Between slots) old e
-      widget_refused e refuses slots same = carried (Between slots) (Inside slots word []) old mid (widget_moved slots same) e (fewer_later old mid (one_read (behind (codes "widget ")) old mid word widget gone)) (refuses slots)
-
-      pub widget_block : (after : List (List ℕ)) (new : Ahead) (leak : Option ℕ) → after ≡ names ++ word ∷ [] → ((first : ℕ) → mid.number ≡ first + 1 → IsShown word first mid new leak) → IsBlock names after old new leak
-      widget_block after new leak kept shown =
-          let s = shown old.number (one_on (behind (codes "widget ")) old mid word widget gone) in
+        let same : count ≡ length rows = is ∙ cells_count name old mid needs cells in (
+          Shown name rows held,
           record {
-            slot = Shown word s.rows s.held;
-            after_is = kept;
-            leak_is = s.leak_is;
-            read = λ slots same. widget_moved slots same ∙ s.read slots;
-            place = s.place;
-            fewer = fewer_then old mid new (one_read (behind (codes "widget ")) old mid word widget gone) s.later;
-          }
+            named = refl;
+            read = λ slots. cells.read slots ∙ holds.read slots rows no_cell;
+            later = later_both old mid new cells.later (fewer_later mid new holds.fewer);
+          },
+          record {
+            leak_is = found ∙ (λ i. first_from (place i) (tells i)) ∙ ap (λ n. first_from (suc first) (map (λ row. some_leaves name n row.refs) rows ++ some_leaves name n held ∷ [])) same;
+            after_is =
+                omega (
+                  arith,
+                  cells.place,
+                  holds.place,
+                  at,
+                  cells_count name old mid needs cells,
+                  length-map rows (λ row. some_leaves name (length rows) row.refs),
+                  length-append (map (λ row. some_leaves name (length rows) row.refs) rows) (some_leaves name (length rows) held ∷ []),
+                );
+          },
+        )
 
--- ## Blocks
+-- ## Lines and more lines
 
 first_both : (xs ys : List Bool) (n : ℕ) → first_from n (xs ++ ys) ≡ option_or (first_from n xs) (first_from (n + length xs) ys)
 first_both [] ys n = let none : n + 0 ≡ n = omega arith in ap (λ k. first_from k ys) (sym none)
 first_both (true ∷ xs) ys n = refl
 first_both (false ∷ xs) ys n = let place : suc n + length xs ≡ n + suc (length xs) = omega arith in first_both xs ys (suc n) ∙ ap (λ k. option_or (first_from (suc n) xs) (first_from k ys)) place
 
-pub blocks_begin : (names : List (List ℕ)) (a : Ahead) → names ≡ [] → AreBlocks names a a None
-blocks_begin names a e = record { slots = []; names_are = e; leak_is = refl; read = refl; place = omega arith; later = later_none a }
-
-pub blocks_more : (names after : List (List ℕ)) (old mid new : Ahead) (leak found either : Option ℕ) → AreBlocks names old mid leak → IsBlock names after mid new found → either ≡ option_or leak found → AreBlocks after old new either
-blocks_more names after old mid new leak found either so_far block is =
-    let slots = so_far.slots in
-    let slot = block.slot in
-    let one : flat_map slot_leaks (slots ++ slot ∷ []) ≡ flat_map slot_leaks slots ++ slot_leaks slot =
-    flat_map-append slot_leaks slots (slot ∷ []) ∙ ap (λ l. flat_map slot_leaks slots ++ l) (append-nil (slot_leaks slot)) in
+leak_more : (first mid after : ℕ) (xs ys : List Bool) (leak found : Option ℕ) → IsLeak first mid xs leak → IsLeak mid after ys found → IsLeak first after (xs ++ ys) (option_or leak found)
+leak_more first mid after xs ys leak found a b =
     record {
-      slots = slots ++ slot ∷ [];
-      names_are = block.after_is ∙ ap (λ l. l ++ slot_name slot ∷ []) so_far.names_are ∙ sym (map-append slot_name slots (slot ∷ []));
-      leak_is =
-          is ∙ (λ i. option_or (so_far.leak_is i) ((block.leak_is ∙ ap (λ n. first_from n (slot_leaks slot)) so_far.place) i))
-          ∙ sym (ap (first_from old.number) one ∙ first_both (flat_map slot_leaks slots) (slot_leaks slot) old.number);
-      read = so_far.read ∙ block.read slots so_far.names_are;
-      place = omega (arith, block.place, so_far.place, ap length one, length-append (flat_map slot_leaks slots) (slot_leaks slot));
-      later = later_both old mid new so_far.later (fewer_later mid new block.fewer);
+      leak_is = (λ i. option_or (a.leak_is i) ((b.leak_is ∙ ap (λ n. first_from n ys) a.after_is) i)) ∙ sym (first_both xs ys first);
+      after_is = omega (arith, a.after_is, b.after_is, length-append xs ys);
     }
+
+-- of one slot more
+pub slot_more : (first mid after : ℕ) (slots : List Slot) (slot : Slot) (leak found : Option ℕ) → IsLeak first mid (flat_map slot_leaks slots) leak → IsLeak mid after (slot_leaks slot) found → IsLeak first after (flat_map slot_leaks (slots ++ slot ∷ [])) (option_or leak found)
+slot_more first mid after slots slot leak found a b =
+    subst (λ l. IsLeak first after l (option_or leak found))
+    (sym (flat_map-append slot_leaks slots (slot ∷ []) ∙ ap (λ l. flat_map slot_leaks slots ++ l) (append-nil (slot_leaks slot))))
+    (leak_more first mid after (flat_map slot_leaks slots) (slot_leaks slot) leak found a b)
 
 -- of all lines of a certificate
 pub whole_leak : (slots : List Slot) (n : ℕ) (leak : Option ℕ) → n ≡ 2 → leak ≡ first_from n (flat_map slot_leaks slots) → leak ≡ first_leak slots

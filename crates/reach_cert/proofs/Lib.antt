@@ -1,3 +1,4 @@
+mod Blocks
 mod CellLines
 mod Complete
 mod Ends

@@ -1,4 +1,5 @@
 pub mod Appended
+pub mod Blocks
 pub mod Certs
 pub mod Judged
 pub mod Lines

@@ -1,65 +1,20 @@
 //! Judging the bytes of a certificate, of which no data are kept.
-ghost use Rattle.std.specs.Prelude.{◌≡◌, ◌<◌, ◌≤◌, ◌+◌, ◌-◌, ◌++◌, ◌∷◌, [], ℕ, List, None, true, false, map, length, nat_lt, codes, IfOk, IfErr, OnOk, MatchResult};
-ghost use Rattle.std.specs.List.{list_any, flat_map};
-ghost use Rattle.std.specs.Str.{bytes_eq};
+ghost use Rattle.std.specs.Prelude.{◌≡◌, ◌<◌, ◌≤◌, ◌+◌, ◌-◌, [], ℕ, List, None, false, map, length, nat_lt, codes, IfOk, IfErr, OnOk, MatchResult};
+ghost use Rattle.std.specs.List.{flat_map};
 ghost use Rattle.exact_refusals.specs.Judge.Outcome.{Read};
 ghost use Rattle.reach_cert.specs.declared.fault.CertFault.TheVariants as fault;
+ghost use Rattle.reach_cert.specs.Blocks.{words_of, IsBlock, IsWidget};
 ghost use Rattle.reach_cert.specs.Certs.{Slot, Row, cert_text};
-ghost use Rattle.reach_cert.specs.Judged.{words_of, AreCells, IsHeld, IsShown, IsBlock, AreBlocks};
-ghost use Rattle.reach_cert.specs.Machine.{State, Start, Between, Inside, Over, Later, Refuses, behind_first, goes, is_free, named, cell_text, step_first, text_is};
+ghost use Rattle.reach_cert.specs.Judged.{IsLeak, AreCells, IsHeld};
+ghost use Rattle.reach_cert.specs.Machine.{Start, Between, Inside, Over, Later, Refuses, goes, cell_text, text_is};
 ghost use Rattle.reach_cert.specs.Shape.{lines_of, slot_name, IsCert, IsCertFault};
 ghost use Rattle.reach_cert.specs.Walks.{slot_leaks, first_from, first_leak};
 
 use crate::fault::CertFault;
+use crate::first_line::{cell_text, take_name, text_behind, text_is};
 use crate::lines::Lines;
 use crate::needs::{refs_need, row_need};
-use crate::reading::{MOST_SLOTS, cell_text, text_behind, text_is};
-use crate::words::is_name;
 use std::alloc::Global;
-
-fn is_used(names: &[&[u8]], word: &[u8]) -> bool
-    ensures { result ≡ list_any (λ name. bytes_eq name word.now) (words_of names.now) }
-{
-    'each: for name in names {
-        if *name == word {
-            return true;
-        }
-    }
-    false
-}
-
-// Whether a block behind those of these names may have the name.
-fn is_free(names: &[&[u8]], word: &[u8]) -> bool
-    ensures { (slots : List Slot) → words_of names.now ≡ map slot_name slots → result ≡ is_free slots word.now }
-{
-    if !is_name(word) {
-        return false;
-    }
-    if names.len() >= MOST_SLOTS {
-        return false;
-    }
-    !is_used(names, word)
-}
-
-// Takes the first line, where this is the name in it, and a block may have it.
-fn take_name<'a>(
-    names: &mut Vec<&'a [u8]>,
-    word: &'a [u8],
-    lines: &mut Lines<'a>,
-) -> Result<(), CertFault>
-    ensures kept { OnOk result (words_of names.new.items ≡ words_of names.old.items ++ word.now ∷ []) }
-    ensures free { OnOk result ((slots : List Slot) → words_of names.old.items ≡ map slot_name slots → is_free slots word.now ≡ true) }
-    ensures taken { OnOk result (lines.new ≡ behind_first lines.old) }
-    ensures fault { IfErr result (λ e. (slots : List Slot) (next : State) → words_of names.old.items ≡ map slot_name slots →
-        step_first (Between slots) lines.old.lines ≡ named slots word.now next → Refuses (Between slots) lines.old e) }
-{
-    if !is_free(names, word) {
-        return Err(lines.fault());
-    }
-    names.push(word)?;
-    lines.advance();
-    Ok(())
-}
 
 // What each line of a cell needs, up to the first line that is of none.
 fn judge_cells(alloc: Global, own: &[u8], lines: &mut Lines) -> Result<Vec<u64>, CertFault>
@@ -111,7 +66,8 @@ fn first_over(count: u64, needs: &[u64], after: u32) -> Option<u32>
 
 // The first line that leaks of those of a widget behind the one with its name.
 fn judge_shown(alloc: Global, own: &[u8], lines: &mut Lines) -> Result<Option<u32>, CertFault>
-    ensures shown { IfOk result (λ leak. (first : ℕ) → lines.old.number ≡ first + 1 → IsShown own.now first lines.old lines.new leak) }
+    ensures shown { IfOk result (λ leak. (first : ℕ) → lines.old.number ≡ first + 1 →
+        (slot : Slot) × IsWidget own.now lines.old lines.new slot × IsLeak first lines.new.number (slot_leaks slot) leak) }
     ensures fault { IfErr result (λ e. (slots : List Slot) → Refuses (Inside slots own.now []) lines.old e) }
 {
     let mut needs = judge_cells(alloc, own, lines)?;
@@ -127,7 +83,7 @@ fn judge_block<'a>(
     lines: &mut Lines<'a>,
 ) -> Result<Option<u32>, CertFault>
     requires { text_is (codes "end") lines.old.lines ≡ false }
-    ensures block { IfOk result (IsBlock (words_of names.old.items) (words_of names.new.items) lines.old lines.new) }
+    ensures block { IfOk result (λ leak. (slot : Slot) × IsBlock (words_of names.old.items) (words_of names.new.items) lines.old lines.new slot × IsLeak lines.old.number lines.new.number (slot_leaks slot) leak) }
     ensures fault { IfErr result (λ e. (slots : List Slot) → words_of names.old.items ≡ map slot_name slots → Refuses (Between slots) lines.old e) }
 {
     if let Some(word) = text_behind(b"refused ", lines) {

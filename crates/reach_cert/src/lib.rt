@@ -7,6 +7,7 @@
 mod cert;
 mod confining;
 mod fault;
+mod first_line;
 mod judging;
 mod laws;
 mod lines;

@@ -1,88 +1,20 @@
 //! Reading a certificate, line by line.
 
-ghost use Rattle.std.specs.Prelude.{◌≡◌, ◌<◌, ◌≤◌, ◌++◌, ◌∷◌, [], ℕ, List, Some, None, false, map, length, codes, if◌then◌else◌, IfOk, IfErr, OnOk, MatchResult};
+ghost use Rattle.std.specs.Prelude.{◌≡◌, ◌<◌, ◌≤◌, ◌++◌, ◌∷◌, [], ℕ, List, None, false, map, length, codes, IfOk, IfErr, OnOk, MatchResult};
 ghost use Rattle.exact_refusals.specs.Judge.Outcome.{Read};
 ghost use Rattle.reach_cert.specs.declared.fault.CertFault.TheVariants as fault;
+ghost use Rattle.reach_cert.specs.Blocks.{words_of, IsBlock, IsWidget};
 ghost use Rattle.reach_cert.specs.Certs.{Row, Slot, Shown, row_of, slot_of, plain, cert_lines, cert_text};
-ghost use Rattle.reach_cert.specs.Machine.{Start, Between, Inside, Over, Later, Fewer, Refuses, goes, is_free, cell_text, text_behind, text_is};
-ghost use Rattle.reach_cert.specs.Shape.{lines_of, is_used, slot_name, IsCert, IsCertFault};
-ghost use Rattle.reach_cert.specs.Words.{IsSlice};
+ghost use Rattle.reach_cert.specs.Machine.{Start, Between, Inside, Over, Later, Fewer, Refuses, goes, cell_text, text_is};
+ghost use Rattle.reach_cert.specs.Shape.{lines_of, slot_name, IsCert, IsCertFault};
 
 use crate::cert::{Block, CellRow, Cert, Ref};
 use crate::fault::CertFault;
+use crate::first_line::{cell_text, take_name, text_behind, text_is};
 use crate::lines::Lines;
-use crate::words::{behind, cell_behind, is_name, read_refs, read_row, text_of};
-use code_units::{Memory, Text, spells};
+use crate::words::{read_refs, read_row, text_of};
+use code_units::Text;
 use std::alloc::Global;
-
-/// The most slots that a certificate has.
-pub const MOST_SLOTS: usize = 16;
-
-/// Whether the first line is this one.
-pub fn text_is(word: &[u8], lines: &Lines) -> bool
-    ensures { result ≡ text_is word.now lines.now.lines }
-{
-    match lines.text() {
-        Some(text) => text == word,
-        None => false,
-    }
-}
-
-/// What stands in the first line behind a front, where it begins with it.
-pub fn text_behind<'a>(front: &[u8], lines: &Lines<'a>) -> Option<&'a [u8]>
-    ensures { IsSlice (text_behind front.now lines.now.lines) result }
-{
-    behind(front, lines.text()?)
-}
-
-/// What stands in the first line behind the number of a cell, where it is the line of this cell.
-pub fn cell_text<'a>(number: usize, lines: &Lines<'a>) -> Option<&'a [u8]>
-    ensures { IsSlice (cell_text number lines.now.lines) result }
-{
-    cell_behind(number, lines.text()?)
-}
-
-fn name_of(block: &Block) -> &Text
-    ensures { result.now ≡ slot_name (slot_of block.now) }
-{
-    match block {
-        Block::Refused(name) => name,
-        Block::Rows { name, .. } => name,
-    }
-}
-
-fn is_used(blocks: &[Block], word: &[u8]) -> bool
-    ensures { result ≡ is_used (map slot_of blocks.now) word.now }
-{
-    'each: for block in blocks {
-        if spells(name_of(block).units(), word) {
-            return true;
-        }
-    }
-    false
-}
-
-// Whether a further block may have the name.
-fn is_free(blocks: &[Block], word: &[u8]) -> bool
-    ensures { result ≡ is_free (map slot_of blocks.now) word.now }
-{
-    if !is_name(word) {
-        return false;
-    }
-    if blocks.len() >= MOST_SLOTS {
-        return false;
-    }
-    !is_used(blocks, word)
-}
-
-fn fresh_name(alloc: Global, blocks: &[Block], word: &[u8]) -> Result<Option<Text>, Memory>
-    ensures { IfOk result (λ name. name ≡ (if is_free (map slot_of blocks.now) word.now then Some word.now else None)) }
-{
-    if !is_free(blocks, word) {
-        return Ok(None);
-    }
-    Ok(Some(text_of(alloc, word)?))
-}
 
 // The lines of cells, up to the first that is none. `others` are names that are shared.
 fn read_cells(
@@ -132,9 +64,7 @@ fn read_held(
 }
 
 fn read_shown(alloc: Global, name: Text, lines: &mut Lines) -> Result<Block, CertFault>
-    ensures read { IfOk result (λ block. (slots : List Slot) →
-        goes (Inside slots name []) lines.old.lines ≡ goes (Between (slots ++ slot_of block ∷ [])) lines.new.lines) }
-    ensures later { OnOk result (Later lines.old lines.new) }
+    ensures widget { IfOk result (λ block. IsWidget name lines.old lines.new (slot_of block)) }
     ensures fault { IfErr result (λ e. (slots : List Slot) → Refuses (Inside slots name []) lines.old e) }
 {
     let mut others = Vec::new(alloc);
@@ -143,64 +73,25 @@ fn read_shown(alloc: Global, name: Text, lines: &mut Lines) -> Result<Block, Cer
     Ok(Block::Rows { name, cells, held })
 }
 
-// A refused slot, of which the name is this word.
-fn read_refused(
-    alloc: Global,
-    blocks: &[Block],
-    word: &[u8],
-    lines: &mut Lines,
-) -> Result<Block, CertFault>
-    requires end { text_is (codes "end") lines.old.lines ≡ false }
-    requires refused { text_behind (codes "refused ") lines.old.lines ≡ Some word.now }
-    ensures read { IfOk result (λ block.
-        goes (Between (map slot_of blocks.now)) lines.old.lines ≡ goes (Between (map slot_of blocks.now ++ slot_of block ∷ [])) lines.new.lines) }
-    ensures later { OnOk result (Fewer lines.old lines.new) }
-    ensures fault { IfErr result (Refuses (Between (map slot_of blocks.now)) lines.old) }
-{
-    let Some(name) = fresh_name(alloc, blocks, word)? else {
-        return Err(lines.fault());
-    };
-    lines.advance();
-    Ok(Block::Refused(name))
-}
-
-// A widget, of which the name is this word.
-fn read_widget(
-    alloc: Global,
-    blocks: &[Block],
-    word: &[u8],
-    lines: &mut Lines,
-) -> Result<Block, CertFault>
-    requires end { text_is (codes "end") lines.old.lines ≡ false }
-    requires refused { text_behind (codes "refused ") lines.old.lines ≡ None }
-    requires widget { text_behind (codes "widget ") lines.old.lines ≡ Some word.now }
-    ensures read { IfOk result (λ block.
-        goes (Between (map slot_of blocks.now)) lines.old.lines ≡ goes (Between (map slot_of blocks.now ++ slot_of block ∷ [])) lines.new.lines) }
-    ensures later { OnOk result (Fewer lines.old lines.new) }
-    ensures fault { IfErr result (Refuses (Between (map slot_of blocks.now)) lines.old) }
-{
-    let Some(name) = fresh_name(alloc, blocks, word)? else {
-        return Err(lines.fault());
-    };
-    lines.advance();
-    read_shown(alloc, name, lines)
-}
-
 // The block that begins with the first line, where that is not `end`.
-fn read_block(alloc: Global, blocks: &[Block], lines: &mut Lines) -> Result<Block, CertFault>
+fn read_block<'a>(
+    alloc: Global,
+    names: &mut Vec<&'a [u8]>,
+    lines: &mut Lines<'a>,
+) -> Result<Block, CertFault>
     requires { text_is (codes "end") lines.old.lines ≡ false }
-    ensures read { IfOk result (λ block.
-        goes (Between (map slot_of blocks.now)) lines.old.lines ≡ goes (Between (map slot_of blocks.now ++ slot_of block ∷ [])) lines.new.lines) }
-    ensures later { OnOk result (Fewer lines.old lines.new) }
-    ensures fault { IfErr result (Refuses (Between (map slot_of blocks.now)) lines.old) }
+    ensures block { IfOk result (λ block. IsBlock (words_of names.old.items) (words_of names.new.items) lines.old lines.new (slot_of block)) }
+    ensures fault { IfErr result (λ e. (slots : List Slot) → words_of names.old.items ≡ map slot_name slots → Refuses (Between slots) lines.old e) }
 {
     if let Some(word) = text_behind(b"refused ", lines) {
-        return read_refused(alloc, blocks, word, lines);
+        take_name(names, word, lines)?;
+        return Ok(Block::Refused(text_of(alloc, word)?));
     }
-    if let Some(word) = text_behind(b"widget ", lines) {
-        return read_widget(alloc, blocks, word, lines);
-    }
-    Err(lines.fault())
+    let Some(word) = text_behind(b"widget ", lines) else {
+        return Err(lines.fault());
+    };
+    take_name(names, word, lines)?;
+    read_shown(alloc, text_of(alloc, word)?, lines)
 }
 
 // The blocks, and the line `end` behind them.
@@ -209,9 +100,10 @@ fn read_blocks(alloc: Global, lines: &mut Lines) -> Result<Vec<Block>, CertFault
     ensures later { OnOk result (Later lines.old lines.new) }
     ensures fault { IfErr result (Refuses (Between []) lines.old) }
 {
+    let mut names = Vec::new(alloc);
     let mut blocks = Vec::new(alloc);
     'each: while !text_is(b"end", lines) {
-        let block = read_block(alloc, &blocks, lines)?;
+        let block = read_block(alloc, &mut names, lines)?;
         blocks.push(block)?;
     }
     lines.advance();

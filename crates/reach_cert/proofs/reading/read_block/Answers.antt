@@ -1,11 +1,46 @@
-use Rattle.std.proofs.Common.{refl, map}
-use Rattle.reach_cert.specs.Certs.{slot_of}
-use Rattle.reach_cert.specs.Machine.{Between, first_text}
-use Rattle.reach_cert.proofs.Steps.{stopped, slot_none}
+use Rattle.std.proofs.Common.{[], ◌∷◌, ◌++◌, sym, subst}
+use Rattle.reach_cert.specs.Blocks.{words_of, IsBlock}
+use Rattle.reach_cert.specs.Certs.{Refused, slot_of}
+use Rattle.reach_cert.specs.Machine.{Between, Inside}
+use Rattle.reach_cert.proofs.Blocks.{no_block, refused_step, refused_block, widget_step, widget_refused, widget_block}
+use Rattle.reach_cert.proofs.Steps.{if_err, ok_more, err_then}
 use Rattle.reach_cert.proofs.reading.read_block.Goals as goal
+
+pub returns-in_err-take_name-clause-fault : goal.returns-in_err-take_name-clause-fault
+returns-in_err-take_name-clause-fault c =
+    let word = c.in-Some.word.now in
+    if_err _ _ _ c.from_residual.ensures.1
+    (λ slots same. c.in_err-take_name.ensures.fault slots (Between (slots ++ Refused word ∷ [])) same (refused_step (words_of c.args.names.now.items) c.args.lines.now c.requires word c.in-Some.ensures slots))
+
+pub returns-in_default-text_behind-clause-fault : goal.returns-in_default-text_behind-clause-fault
+returns-in_default-text_behind-clause-fault c = λ slots same. rw c.fault.ensures (no_block (words_of c.args.names.now.items) c.args.lines.now c.requires c.in_default.ensures c.in_default-text_behind.ensures slots)
+
+pub returns-in_err-take_name-2-clause-fault : goal.returns-in_err-take_name-2-clause-fault
+returns-in_err-take_name-2-clause-fault c =
+    let word = c.in-Some-text_behind.word.now in
+    if_err _ _ _ c.from_residual-in_err-take_name-2.ensures.1
+    (λ slots same. c.in_err-take_name-2.ensures.fault slots (Inside slots word []) same (widget_step (words_of c.args.names.now.items) c.args.lines.now c.requires word c.in_default.ensures c.in-Some-text_behind.ensures slots))
+
+pub returns-in-Some-clause-block : goal.returns-in-Some-clause-block
+returns-in-Some-clause-block c =
+    let took = c.in_ok-take_name.ensures in
+    subst (λ w. IsBlock (words_of c.args.names.now.items) (words_of c.take_name.new.names.items) c.args.lines.now c.take_name.new.lines (Refused w)) (sym c.in_ok-text_of.ensures)
+    (refused_block (words_of c.args.names.now.items) c.args.lines.now c.requires c.in-Some.word.now c.in-Some.ensures _ c.take_name.new.lines took.taken took.kept took.free)
+
+pub returns-clause-block : goal.returns-clause-block
+returns-clause-block c =
+    let took = c.in_ok-take_name-2.ensures in
+    let word = c.in-Some-text_behind.word.now in
+    let name = c.in_ok-text_of-2.field-0 in
+    ok_more c.read_shown.result _ _
+    (λ block is. widget_block (words_of c.args.names.now.items) c.args.lines.now c.requires word c.in_default.ensures c.in-Some-text_behind.ensures name c.in_ok-text_of-2.ensures c.take_name-2.new.lines took.taken took.free _ c.read_shown.new.lines (slot_of block) took.kept is)
+    c.read_shown.ensures.widget
 
 pub returns-clause-fault : goal.returns-clause-fault
 returns-clause-fault c =
-    let slots = map slot_of c.args.blocks.now in
-    rw c.fault.ensures (stopped (Between slots) c.args.lines.now.number c.args.lines.now.lines refl
-    (slot_none slots (first_text c.args.lines.now.lines) c.requires c.in_default.ensures c.in_default-text_behind.ensures))
+    let took = c.in_ok-take_name-2.ensures in
+    let word = c.in-Some-text_behind.word.now in
+    let name = c.in_ok-text_of-2.field-0 in
+    err_then c.read_shown.result _ _
+    (λ e refuses. widget_refused (words_of c.args.names.now.items) c.args.lines.now c.requires word c.in_default.ensures c.in-Some-text_behind.ensures name c.in_ok-text_of-2.ensures c.take_name-2.new.lines took.taken took.free e refuses)
+    c.read_shown.ensures.fault

@@ -1,7 +1,7 @@
 use Rattle.std.proofs.Common.{sym, ap, ◌∙◌}
-use Rattle.reach_cert.specs.Judged.{words_of}
-use Rattle.reach_cert.proofs.Judged.{not_allowed}
-use Rattle.reach_cert.proofs.judging.take_name.Goals as goal
+use Rattle.reach_cert.specs.Blocks.{words_of}
+use Rattle.reach_cert.proofs.Blocks.{not_allowed}
+use Rattle.reach_cert.proofs.first_line.take_name.Goals as goal
 
 pub returns-then-not-is_free-clause-fault : goal.returns-then-not-is_free-clause-fault
 returns-then-not-is_free-clause-fault c =

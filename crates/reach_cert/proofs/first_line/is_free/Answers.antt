@@ -1,8 +1,8 @@
 use Rattle.std.proofs.Common.{sym, ap, ◌∙◌, arith}
 use Rattle.std.specs.Prelude.{not}
-use Rattle.reach_cert.proofs.Judged.{names_count, names_used}
+use Rattle.reach_cert.proofs.Blocks.{names_count, names_used}
 use Rattle.reach_cert.proofs.Steps.{not_named, no_room, room_for}
-use Rattle.reach_cert.proofs.judging.is_free.Goals as goal
+use Rattle.reach_cert.proofs.first_line.is_free.Goals as goal
 
 pub returns-then-not-is_name : goal.returns-then-not-is_name
 returns-then-not-is_name c = λ slots same. not_named slots c.args.word.now (sym c.is_name.ensures ∙ c.if-not-is_name.true)
