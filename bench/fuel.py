@@ -7,6 +7,7 @@ import sys
 
 from pages import FUEL, page, ran
 
+LETTERS = "abcdefghijklmnopqrstuvwxyz0123456789"
 MANY = "<i></i>" * 16000
 NEST = "<div>" * 198 + "</div>" * 198
 STYLE = ";".join(
@@ -20,7 +21,12 @@ CHAIN = "var o = {}; for (i = 0; i < 99; i += 1) { o = ADSAFE.create(o); }"
 ARRAY = "var a = []; for (i = 0; i < 20000; i += 1) { a[+i] = i; }"
 TEXTS = TEXT + " var a = []; for (i = 0; i < 10000; i += 1) { a[+i] = s; } for (i = 0; i < 20; i += 1) { a[+i] = s + i; }"
 LISTEN = "var b = dom.q('p'); for (i = 0; i < 60000; i += 1) { b.on('y', f); }"
+WORDS = [a + b + c for a in LETTERS for b in LETTERS for c in LETTERS][:25000]
 DOUBLED = "while (q.length < 32768) { q = q + q; } q = '*' + q;"
+PAIR = 'var s = "%sa", t = "%sb";' % ("x" * 125000, "x" * 125000)
+WORD = 'var s = "%s";' % ("x" * 250000)
+FROM = "try { ADSAFE.fromJson(s); } catch (e) { x = 1; }"
+TO = "try { ADSAFE.toJson(a); } catch (e) { x = 1; }"
 
 
 def names(count):
@@ -70,10 +76,31 @@ ROWS = [
      "try { ADSAFE.fromJson(s); } catch (e) { x = 1; }"),
     ("`fromJson` of 200,000 units with a bad name", "var s = '[%s{\"eval\":1}]';" % ("1," * 100000),
      "try { ADSAFE.fromJson(s); } catch (e) { x = 1; }"),
+    ("`fromJson` of 250,000 units, one name again and again, that end badly", "var s = '{%s';" % ('"a":1,' * 41000), FROM),
+    ("`fromJson` of 250,000 units, objects, that end badly", "var s = '[%s';" % ('{"a":1},' * 31000), FROM),
+    ("`fromJson` of 250,000 units, floats, that end badly", "var s = '[%s';" % ("1e9," * 62000), FROM),
+    ("`fromJson` of 250,000 units, one text, that end badly", "var s = '\"%s';" % ("x" * 250000), FROM),
+    ("`fromJson` of 166,000 units, escapes, that end badly", "var s = '\"%s';" % ("\\\\n" * 83000), FROM),
+    ("`fromJson` of 250,000 units behind a bad name", "var s = '[{\"eval\":1}%s]';" % (",1" * 120000), FROM),
+    ("`fromJson` of 250,000 units, a bad name in each member",
+     "var s = '{%s\"b\":1}';" % "".join('"a%d":{"eval":1},' % place for place in range(12500)), FROM),
+    ("`fromJson` of 250,000 units, two bad names of which the second is written over",
+     "var s = '{\"a\":{\"eval\":1},\"b\":{\"eval\":1},%s\"c\":1}';" % ('"b":1,' * 41000), FROM),
     ("`fromJson` of 20,000 units", 'var s = "[%s1]";' % ("1," * 10000), "x = ADSAFE.fromJson(s);"),
     ("`toJson` of 32,768 units", TEXT, "x = ADSAFE.toJson(s);"),
     ("`toJson` of 32,768 units and undefined", TEXT + "var a = [s, undefined];",
      "try { ADSAFE.toJson(a); } catch (e) { x = 1; }"),
+    ("`toJson` of seven texts of 9,000 units and undefined",
+     'var s = "%s", a = [s, s, s, s, s, s, s, undefined];' % ("x" * 9000), TO),
+    ("`toJson` of a text of 32,000 quotes and undefined", "var s = '%s', a = [s, undefined];" % ('"' * 32000), TO),
+    ("`Math.max` of a text of 250,000 units that is no number", WORD, "x = Math.max(s, s);"),
+    ("`-` of a text of 250,000 units that is no number", WORD, "x = s - s;"),
+    ("`slice`, the same in place of a number", WORD, 'x = "a".slice(s, s);'),
+    ("`charAt`, the same", WORD, 'x = "a".charAt(s);'),
+    ("`===` of texts of 125,000 units that differ at the end", PAIR, "x = s === t;"),
+    ("`<` of the same", PAIR, "x = s < t;"),
+    ("`case` of the same", PAIR, "switch (s) { case t: x = 1; }"),
+    ("`===` of a text of 250,000 units and itself", WORD + " var t = s;", "x = s === t;"),
     ("`Math.max` of a text of 200,000 digits", 'var s = "%s1";' % ("0" * 200000), "x = Math.max(s, s);"),
     ("`Math.pow`", "", "x = Math.pow(3, 33);"),
     ("`Math.pow` of 1 and 9007199254740991", "", "x = Math.pow(1, 9007199254740991);"),
@@ -101,6 +128,15 @@ ROWS = [
     ("`dom.q` with 8,192 filters, on 100 nodes", 'var q = ":even"; ' + DOUBLED.replace("*", "b"), "x = dom.q(q);",
      "<i></i>" * 100),
     ("`dom.q` with 16,384 filters, on 100 nodes", 'var q = ".a"; ' + DOUBLED, "x = dom.q(q);", '<i class="a"></i>' * 100),
+    ("`dom.q` of 60,000 filters `.b`, on one node with 60,000 words", "var q = '*%s';" % (".b" * 60000), "x = dom.q(q);",
+     '<p class="%s">hi</p>' % ("a " * 59999 + "b")),
+    ("`dom.q` of 20,000 filters, on one node with 25,000 words", "var q = '*%s';" % "".join("." + w for w in WORDS[:20000]),
+     "x = dom.q(q);", '<p class="%s">hi</p>' % " ".join(WORDS)),
+    ("`dom.q` of 129,000 filters `.a` and `!`", "var q = '*%s!';" % (".a" * 129000),
+     "try { dom.q(q); } catch (e) { x = 1; }"),
+    ("`dom.q` of 28,000 filters `[title=a]`", "var q = '*%s';" % ("[title=a]" * 28000), "x = dom.q(q);",
+     '<p title="a">hi</p>'),
+    ("`dom.q` of 43,000 filters `:first`", "var q = '*%s';" % (":first" * 43000), "x = dom.q(q);"),
     ("`dom.q` of `[style=a]`, 18 styles of 256 units", "", 'x = dom.q("*[style=a]");', '<p style="%s">hi</p>' % STYLE),
     ("`dom.q` of all 16,000 nodes", "", 'x = dom.q("b");', MANY),
     ("`dom.q` of one by its id, of 16,000 nodes", "", 'x = dom.q("#A_x");', '<p id="A_x"></p>' + MANY),
@@ -180,11 +216,11 @@ def main():
         found.append((each / max(units, 1), name, state, units, each * 1000))
         print(name, state, file=sys.stderr)
     cheapest = min(cost for cost, *_ in found if cost > 0)
-    print("| Step | Units | us | ns a unit | times the loop |")
-    print("|---|---|---|---|---|")
+    print("| Step | Units | us | ns a unit | times the loop | s a turn of 100,000 units |")
+    print("|---|---|---|---|---|---|")
     for cost, name, state, units, micro in sorted(found, reverse=True):
-        print("| %s%s | %.0f | %.1f | %.1f | %.2f |"
-              % (name, "" if state == "live" else ", " + state, units, micro, cost * 1e6, cost / unit))
+        print("| %s%s | %.0f | %.1f | %.1f | %.2f | %.1f |"
+              % (name, "" if state == "live" else ", " + state, units, micro, cost * 1e6, cost / unit, cost * 100))
     dear = [name for cost, name, *_ in found if cost > 100 * unit]
     print("The dearest is %.0f times a unit of the loop, the cheapest %.4f times." % (max(found)[0] / unit, cheapest / unit))
     print("Over 100 times a unit of the loop: " + ("; ".join(dear) or "none"))

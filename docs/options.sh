@@ -25,7 +25,7 @@ ends() {
 
 holds "--help" ends 0 --help
 holds "--help tells each form" [ "$(grep -c '^  [a-z-]* [A-Z]' "$work/out")" -eq 8 ]
-holds "--help tells each option" [ "$(grep -c '^  --' "$work/out")" -eq 4 ]
+holds "--help tells each option" [ "$(grep -c '^  --' "$work/out")" -eq 5 ]
 holds "no words" ends 2
 holds "no words write nothing" [ ! -s "$work/out" ]
 holds "an option that is none" ends 2 --no
@@ -81,6 +81,10 @@ holds "--html of another form" ends 2 --html --try check m.json
 holds "--html of a manifest that is missing" ends 6 --try --html render none.json
 holds "it writes nothing" [ ! -s "$work/out" ]
 
+holds "--live" [ "$(echo '{"report":true}' | "$top/adhost" --try --live m.json 50 2>"$work/err" | tail -n 7)" = \
+    "$("$top/adhost" --try render m.json 2>"$work/err")" ]
+holds "--live of a manifest that is missing" ends 6 --try --live none.json 50
+holds "--live of no form" ends 2 --try --live m.json
 
 # A page with each of the characters that stand behind a backslash in a report.
 cat >"$work/m.json" <<'END'

@@ -1,4 +1,5 @@
-// A headless Chromium, driven by the DevTools protocol over two pipes. `CHROMIUM` names the program.
+// A headless Chromium, driven by the DevTools protocol over two pipes. `CHROMIUM` names the program. A `listener` gets
+// each event of the protocol, its method and its parameters.
 "use strict";
 const { spawn } = require("node:child_process");
 const fs = require("node:fs");
@@ -70,7 +71,7 @@ function launch() {
         fs.rmSync(folder, { recursive: true, force: true, maxRetries: 5 });
     }
 
-    return { tab, close };
+    return { tab, close, listen: listener => listeners.push(listener) };
 }
 
 module.exports = { launch };

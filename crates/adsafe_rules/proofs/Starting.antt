@@ -84,9 +84,6 @@ from_misopened {scope} (first {s = s} h) = inl (inl (record { passed = not_false
 from_misopened second = inr (record { same_rule = refl; same_place = refl })
 from_misopened {scope} (name {x = x} h i w) = inl (inr (record { passed = h; broken = record { item = x; is_in = i; broken = record { passed = not_false (is_opening_name scope x.text) w; broken = record { same_rule = refl; same_place = refl } } } }))
 
-program_from : (scope : Scope) (spots : List Spot) (r p : ℕ) → Opened scope spots r p → ProgramRows scope spots r p
-program_from scope spots r p h = subst (λ x. ProgramRows scope spots x p) (sym h.0) (from_misopened h.1)
-
 -- the whole text
 breaks_split : {program : Stmts} {scope : Scope} {r p : ℕ} → Breaks program scope r p → ProgramRows scope (stmts_spots program) r p ⊎ AnyFound [] (tops scope (stmts_spots program)) r p
 breaks_split (A02 m) = inl (from_misopened m)

@@ -2,7 +2,6 @@
 use Rattle.std.proofs.Common.{◌≡◌, ℕ, List, Bool, ap, refl, true, false, if◌then◌else◌}
 use Rattle.js_tree.specs.Forest.{Forest}
 use Rattle.permitted_table.specs.declared.native.HostEntry.TheVariants as entry
-use Rattle.store_cells.specs.declared.value.Value.{Value as StoreValue}
 use Rattle.store_cells.specs.declared.value.Value.TheVariants as value
 use Rattle.store_cells.specs.declared.value.Number.TheVariants as number
 use Rattle.store_cells.specs.Cells.{PlainCell, own_count}
@@ -37,16 +36,6 @@ pub callee_seen : (fs : List Forest) (w : ℕ) (cells : List PlainCell) (c : Cal
 callee_seen fs w cells (callee.Function p) s v h = ap is_function_kind h
 callee_seen fs w cells (callee.Native n) s v h = ap (is_own_function s) h
 callee_seen fs w cells callee.Nothing s v h = no_function s v h
-
--- what refers to no cell is no function
-pub primitive_function : (w : ℕ) (cells : List PlainCell) (s : State) (v : StoreValue) → ((i : ℕ) → v ≡ value.Ref i → ⊥) → is_own_function s (seen w cells v) ≡ false
-primitive_function w cells s (value.Ref i) h = absurd (h i refl)
-primitive_function w cells s value.Undefined h = refl
-primitive_function w cells s value.Null h = refl
-primitive_function w cells s (value.Bool b) h = refl
-primitive_function w cells s (value.Num number.NaN) h = refl
-primitive_function w cells s (value.Num (number.Whole z)) h = refl
-primitive_function w cells s (value.Text t) h = refl
 
 module _ (w : ℕ) (cells : List PlainCell) (s : State) (i : ℕ) where
   -- a function of the widget is a visible cell of it

@@ -39,10 +39,6 @@ meant_is g (change.Hush kind) k = hushed_of g kind k
 meant_is g (change.Mark text) k = refl
 meant_is g change.Protect k = refl
 
--- nothing changed
-pub times_same : (l : Loop) → SameTimes l l
-times_same l = record { same_timers = refl; same_clock = refl; same_focus = refl }
-
 -- ## The handlers stay the widget's
 
 module _ (w : ℕ) (cells : List PlainCell) where

@@ -4,7 +4,6 @@ use Rattle.std.specs.Prelude.{filter, nat_eq, not, ◌||◌}
 use Rattle.std.specs.List.{list_any}
 use Rattle.std.specs.Option.{option_map_or}
 use Rattle.std.specs.Str.{bytes_eq}
-use Rattle.std.proofs.lemmas.List.{map-append}
 use Rattle.plain_tree.specs.Trees as plain
 use Rattle.plain_tree.specs.Trees.{Attribute, ElementOf, TextOf}
 use Rattle.tree_ops.specs.Labels.{attribute_of, with_attribute, without_value}
@@ -48,14 +47,6 @@ pub set_empty : (p v : List ℕ) (qs : List Pair) → nat_eq (length v) 0 ≡ tr
 set_empty p v qs e = sym (λ j. if e j then without_property qs p else if is_used qs p then map (swapped p v) qs else qs ++ (p, v) ∷ [])
 
 -- ## Loops
-
-pub swapped_more : (p v : List ℕ) (qs : List Pair) (i : ℕ) (d q : Pair) → i < length qs → get_or qs i d ≡ q → map (swapped p v) (take (i + 1) qs) ≡ map (swapped p v) (take i qs) ++ swapped p v q ∷ []
-swapped_more p v qs i d q lt e =
-    let n : i + 1 ≡ suc i = omega arith in
-    ap (λ k. map (swapped p v) (take k qs)) n
-    ∙ ap (map (swapped p v)) (take_next qs d i lt)
-    ∙ map-append (swapped p v) (take i qs) (get_or qs i d ∷ [])
-    ∙ ap (λ r. map (swapped p v) (take i qs) ++ swapped p v r ∷ []) e
 
 filter_push : (f : Pair → Bool) (qs : List Pair) (q : Pair) → filter f (qs ++ q ∷ []) ≡ filter f qs ++ (if f q then q ∷ [] else [])
 filter_push f [] q = refl

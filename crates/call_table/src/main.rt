@@ -1,17 +1,19 @@
 //! Writes what calls of the small crates give, which the gate compares with the file `stdout`: what each
-//! slot gets of a round of posts, as the units of its events; the lives of each slot; and which of the outside
-//! cases in data/ are certificates of reach, and confined.
+//! slot gets of a round of posts, as the units of its events; the lives of each slot; what the lines of a session
+//! ask for; and which of the outside cases in data/ are certificates of reach, and confined.
 #![tactic(auto)]
 
 ghost use Rattle.std.specs.Prelude.{◌≡◌, IfOk};
 
 mod certificates;
+mod requests;
 
 use anyhow::{Result, bail};
 use certificates::verdicts;
 use code_units::{Memory, Text, push_ascii};
 use life_split::{LifeItem, lives};
 use post_rounds::{Post, PostEvent, round};
+use requests::session;
 use std::alloc::Global;
 use std::fs;
 
@@ -29,6 +31,11 @@ fn main(rt: HostRuntime) -> Result<()> {
         bail!("out of memory");
     };
     println!(rt; "# three lives\n{lives:?}")?;
+    let Ok(name) = text_of(alloc, b"S_") else {
+        bail!("out of memory");
+    };
+    let asked = session(alloc, fs::read(&rt, "session.txt")?, name)?;
+    print!(rt; "# a session\n{asked}")?;
     let cases = fs::read_to_string(&rt, "certificates.jsonl")?;
     let verdicts = verdicts(alloc, &cases)?;
     print!(rt; "# certificates\n{verdicts}")?;

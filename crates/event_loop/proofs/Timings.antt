@@ -1,27 +1,16 @@
 -- Timers, handlers and walks, one by one.
-use Rattle.std.proofs.Common.{◌≡◌, ℕ, zero, suc, ◌+◌, ◌<◌, ◌≤◌, List, [], ◌∷◌, Bool, true, false, refl, sym, ap, ◌∙◌, length, get_or, drop, cond, eqb, not, arith, Option, Some, None}
-use Rattle.std.specs.Prelude.{remove, insert, nat_le}
+use Rattle.std.proofs.Common.{◌≡◌, ℕ, zero, suc, ◌<◌, ◌≤◌, List, [], ◌∷◌, Bool, true, false, refl, sym, ap, ◌∙◌, length, get_or, cond, eqb, not, arith}
+use Rattle.std.specs.Prelude.{remove, insert}
 use Rattle.std.specs.List.{filter}
 use Rattle.std.specs.List.Retain.{IsFiltered}
 use Rattle.std.specs.Str.{bytes_eq}
 use Rattle.std.proofs.lemmas.Bool.{le-leb, lt-leb}
 use Rattle.std.proofs.lemmas.Fn.{filter_same}
-use Rattle.std.proofs.lemmas.List.{at_drop_more, at_drop_all}
 use Rattle.event_loop.specs.declared.timers.Timer.{Timer}
-use Rattle.event_loop.specs.Timers.{sooner, next_due, without_due, put_by_due, by_due}
+use Rattle.event_loop.specs.Timers.{without_due, put_by_due}
 
 pub left_retained : {F : Type 0} (R : F → List ℕ × ℕ → Bool → F → Type 0) (kind : List ℕ) (f : F) → ((x : List ℕ × ℕ) (b : Bool) (g : F) → R f x b g → (b ≡ not (bytes_eq (x.0) kind)) × (g ≡ f)) → (xs ys : List (List ℕ × ℕ)) → IsFiltered R f xs ys → ys ≡ filter (λ h. not (bytes_eq (h.0) kind)) xs
 left_retained R kind f says xs ys h = filter_same R (λ h. not (bytes_eq (h.0) kind)) f says xs ys h
-
--- one timer more from behind
-pub soonest_step : (until : ℕ) (xs : List Timer) (i : ℕ) (x : Timer) (found new one : Option Timer) → i < length xs → x ≡ get_or xs i x → one ≡ cond (nat_le x.at until) (Some x) None → new ≡ sooner one found → found ≡ next_due until (drop (i + 1) xs) → new ≡ next_due until (drop i xs)
-soonest_step until xs i x found new one lt ex eo en inv =
-    en ∙ ap (λ o. sooner o found) eo ∙ ap (λ (y : Timer). sooner (cond (nat_le y.at until) (Some y) None) found) ex
-    ∙ ap (sooner (cond (nat_le (get_or xs i x).at until) (Some (get_or xs i x)) None)) inv
-    ∙ sym (at_drop_more (next_due until) xs i x lt)
-
-pub soonest_start : (until : ℕ) (xs : List Timer) → None ≡ next_due until (drop (length xs) xs)
-soonest_start until xs = sym (at_drop_all (next_due until) xs (length xs) (omega arith))
 
 -- the first that is due then
 pub first_due : (d : ℕ) (xs : List Timer) (i : ℕ) (x : Timer) → i < length xs → x ≡ get_or xs i x → ((j : ℕ) → j < i → (y : Timer) → eqb (get_or xs j y).at d ≡ false) → eqb x.at d ≡ true → remove xs i ≡ without_due d xs
@@ -55,15 +44,6 @@ put_at t (x ∷ xs) zero le before here = ap (λ b. cond b (t ∷ x ∷ xs) (x �
 put_at t (x ∷ xs) (suc i) le before here =
     ap (λ b. cond b (t ∷ x ∷ xs) (x ∷ put_by_due t xs)) (lt-leb t.at x.at (before 0 (omega arith) t))
     ∙ ap (λ l. x ∷ l) (put_at t xs i (omega (arith, le)) (λ j lt. before (suc j) (omega (arith, lt))) (λ lt. here (omega (arith, lt))))
-
--- one timer more from behind
-pub sorted_more : (xs : List Timer) (i : ℕ) (x : Timer) (old new : List Timer) → i < length xs → x ≡ get_or xs i x → old ≡ by_due (drop (i + 1) xs) → new ≡ put_by_due x old → new ≡ by_due (drop i xs)
-sorted_more xs i x old new lt ex eo en =
-    en ∙ ap (put_by_due x) eo ∙ ap (λ y. put_by_due y (by_due (drop (i + 1) xs))) ex
-    ∙ sym (at_drop_more by_due xs i x lt)
-
-pub sorted_start : (xs : List Timer) → [] ≡ by_due (drop (length xs) xs)
-sorted_start xs = sym (at_drop_all by_due xs (length xs) (omega arith))
 
 -- an element is the same by any default
 pub any_default : (xs : List Timer) (i : ℕ) (x y : Timer) → i < length xs → get_or xs i x ≡ get_or xs i y

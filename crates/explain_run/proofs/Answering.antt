@@ -112,6 +112,3 @@ stopped (why.Trace (fault.TooMany items)) = tt
 stopped (why.Trace fault.Memory) = tt
 stopped (why.TooLong limit) = tt
 stopped why.Unread = tt
-
-pub stop_no_usage : (w : Why) (s : Status) → s ≡ status_of w → s ≡ status.Usage → ⊥
-stop_no_usage w s is called = subst IsStopped (sym is ∙ called) (stopped w)

@@ -47,29 +47,6 @@ adds_spelled bytes t kept texts place is h has = record {
   told = subst (λ l. HasText l place (text_of bytes t)) is (subst (HasText kept place) (spelled bytes t h) has);
 }
 
-pub adds_unplaced : (texts new : List (List ℕ)) (text units : List ℕ) → new ≡ texts ++ text ∷ [] → AddsText texts new None units
-adds_unplaced texts new text units is = record { more = text ∷ []; grown = is; told = tt }
-
-pub adds_one : (texts new : List (List ℕ)) (place : ℕ) (text units : List ℕ) → new ≡ texts ++ text ∷ [] → text ≡ units → place ≡ length texts → AddsText texts new (Some place) units
-adds_one texts new place text units is same to =
-    let longer = length-append texts (text ∷ []) in
-    let long : length new ≡ length (texts ++ text ∷ []) = λ i. length (is i) in
-    record {
-      more = text ∷ [];
-      grown = is;
-      told = record {
-        inside = omega (arith, to, long, longer);
-        same = (λ i. get_or (is i) (to i) []) ∙ get_or-append_seam texts text [] [] ∙ same;
-      };
-    }
-
-pub texts_begin : (bytes : List ℕ) (ts : List Lexed) → AreTexts bytes (take 0 ts) [] []
-texts_begin bytes ts = record { long = none ts; told = λ i t lt. absurd (omega (arith, lt, none ts)) }
-  where
-    none : (l : List Lexed) → 0 ≡ length (take 0 l)
-    none [] = refl
-    none (x ∷ l) = refl
-
 module _ (bytes : List ℕ) (ts : List Lexed) (i : ℕ) (t : Lexed) (lt : i < length ts) (is : t ≡ get_or ts i t) (places : List (Option ℕ)) (texts : List (List ℕ)) (h : AreTexts bytes (take i ts) places texts) where
   pub texts_more : (place : Option ℕ) (new : List (List ℕ)) → AddsText texts new place (text_of bytes t) → AreTexts bytes (take (i + 1) ts) (places ++ place ∷ []) new
   texts_more place new adds =

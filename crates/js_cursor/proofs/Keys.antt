@@ -3,7 +3,7 @@ use Rattle.std.proofs.Common.{◌≡◌, ℕ, ◌+◌, ◌*◌, ◌-◌, ◌<◌
 use Rattle.std.specs.Prelude.{nat_le, nat_eq, ◌⊎◌}
 use Rattle.std.proofs.Common.{inl, inr}
 use Rattle.std.proofs.lemmas.Bool.Decides.{nat_tests}
-use Rattle.js_grammar.specs.Tables.{is_whole, is_digit, are_digits, leads_zero, decimal}
+use Rattle.js_grammar.specs.Tables.{is_whole, is_digit, are_digits, decimal}
 
 -- what is left of the test behind a number of digits
 abbrev pub rest_whole : ℕ → List ℕ → Bool
@@ -12,15 +12,6 @@ rest_whole n us = are_digits us && nat_le (decimal n us) 9007199254740991
 pub record WholeSoFar (units : List ℕ) (i n : ℕ) : Type 0 where
   pub small : n ≤ 9007199254740991
   pub rest : is_whole units ≡ rest_whole n (drop i units)
-
-no_zero : (us : List ℕ) → length us ≤ 1 ⊎ (get_or us 0 0 ≡ 48 → ⊥) → leads_zero us ≡ false
-no_zero [] h = refl
-no_zero (u ∷ []) h = refl
-no_zero (u ∷ v ∷ us) (inl h) = absurd (omega (arith, h))
-no_zero (u ∷ v ∷ us) (inr h) = grind (arith, nat_tests)
-
-pub whole_begin : (us : List ℕ) → length us ≤ 1 ⊎ (get_or us 0 0 ≡ 48 → ⊥) → WholeSoFar us 0 0
-whole_begin us h = record { small = omega arith; rest = rw (no_zero us h) refl }
 
 pub zero_first : (us : List ℕ) → 1 < length us → get_or us 0 0 ≡ 48 → false ≡ is_whole us
 zero_first [] lt e = absurd (omega (arith, lt))

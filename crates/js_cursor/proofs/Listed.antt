@@ -8,7 +8,7 @@ use Rattle.js_grammar.specs.Grammar.{Token, Lexeme, texts, places}
 use Rattle.js_grammar.specs.Machine.{Frame, Step, step, Wants, FirstName, MoreNames, NextName, NamesEnd, FunBody, Statement, MaybeLabel, Labelled}
 use Rattle.js_cursor.specs.declared.refusal.Refusal.TheVariants as refusal
 use Rattle.js_cursor.specs.Reads.{goes, lexeme_at, Next, IsOther, Refuses}
-use Rattle.js_cursor.specs.Named.{ReadsParams, ReadsLabels, IsUnlabelled, labelled}
+use Rattle.js_cursor.specs.Named.{ReadsParams, labelled}
 use Rattle.js_cursor.proofs.Reading.{other_refused, take_one, take_to, refuse_one}
 
 pub record ParamsSoFar (ts : List Token) (at place d : ℕ) (names : List (List ℕ)) (before after : List ℕ) : Type 0 where
@@ -26,20 +26,6 @@ texts_push (y ∷ xs) x = ap (λ l. y.text ∷ l) (texts_push xs x)
 places_push : (xs : List Lexeme) (x : Lexeme) → places (xs ++ x ∷ []) ≡ places xs ++ x.at ∷ []
 places_push [] x = refl
 places_push (y ∷ xs) x = ap (λ l. y.at ∷ l) (places_push xs x)
-
-nil_after : (l : List ℕ) → l ≡ l ++ []
-nil_after [] = refl
-nil_after (x ∷ l) = ap (λ r. x ∷ r) (nil_after l)
-
-pub params_none : (ts : List Token) (at d : ℕ) (before : List ℕ) → suc d ≤ 200 → Next ts at sign.Close → at + 1 < length ts → ReadsParams d ts at [] before before (at + 1)
-params_none ts at d before le here inside = record {
-  in_text = inside;
-  later = omega arith;
-  params = [];
-  named = refl;
-  placed = nil_after before;
-  leads = λ w own k. take_one ts (Wants (FirstName (suc d) ∷ NamesEnd d w own ∷ k)) (Wants (FunBody d w own [] ∷ k)) at (suc d) sign.Close here refl le;
-}
 
 pub params_begin : (ts : List Token) (at d : ℕ) (start names : List (List ℕ)) (before after : List ℕ) → suc d ≤ 200 → Next ts at sign.Name → at + 1 < length ts → start ≡ [] → names ≡ start ++ (lexeme_at ts at).text ∷ [] → after ≡ before ++ (lexeme_at ts at).at ∷ [] → ParamsSoFar ts at (at + 1) d names before after
 params_begin ts at d start names before after le here inside none named placed = record {
@@ -90,14 +76,6 @@ module _ (ts : List Token) (at place d : ℕ) (names : List (List ℕ)) (before 
   pub params_stuck : (s : Sign) → Next ts place s → s ≢ sign.Close → s ≢ sign.Comma → (w : Lexeme) (own : Option Lexeme) → Refuses (λ k. Wants (FirstName (suc d) ∷ NamesEnd d w own ∷ k)) ts at (refusal.Syntax place)
   params_stuck s here p q w own = (so_far.in_text, λ k. so_far.leads w own k ∙ refuse_one ts (Wants (MoreNames (suc d) so_far.params ∷ NamesEnd d w own ∷ k)) place s here (no_param w own so_far.params k s (lexeme_at ts place) p q))
 
-pub params_refused : (ts : List Token) (at d : ℕ) (s : Sign) → at < length ts → Next ts at s → s ≢ sign.Close → s ≢ sign.Name → (w : Lexeme) (own : Option Lexeme) → Refuses (λ k. Wants (FirstName (suc d) ∷ NamesEnd d w own ∷ k)) ts at (refusal.Syntax at)
-params_refused ts at d s lt here p q w own = (lt, λ k. refuse_one ts (Wants (FirstName (suc d) ∷ NamesEnd d w own ∷ k)) at s here (none k s (lexeme_at ts at) p q))
-  where
-    none : (k : List Frame) (s : Sign) (x : Lexeme) → s ≢ sign.Close → s ≢ sign.Name → ◌≡◌ {A = Step} (step (Wants (FirstName (suc d) ∷ NamesEnd d w own ∷ k)) (s, x)) None
-    none k sign.Close x m n = absurd (m refl)
-    none k sign.Name x m n = absurd (n refl)
-    none k _ x m n = refl
-
 -- ## Labels
 
 labelled_push : (ts : List Token) (xs : List ℕ) (x : ℕ) (k : List Frame) → labelled ts (xs ++ x ∷ []) k ≡ Labelled (lexeme_at ts x) ∷ labelled ts xs k
@@ -109,12 +87,6 @@ pub record LabelsSoFar (ts : List Token) (at : ℕ) (labels : List ℕ) (place :
   pub long : at + length labels + length labels ≡ place
   pub tokens : All (λ x. x + 1 < length ts) labels
   pub leads : (d : ℕ) (k : List Frame) → d ≤ 200 → goes ts (Wants (Statement d ∷ k)) at ≡ goes ts (Wants (Statement d ∷ labelled ts labels k)) place
-
-pub labels_begin : (ts : List Token) (at : ℕ) → at < length ts → LabelsSoFar ts at [] at
-labels_begin ts at lt = record { in_text = lt; long = omega arith; tokens = λ i x lt. absurd (omega arith); leads = λ d k le. refl }
-
-pub labels_end : (ts : List Token) (at place : ℕ) (labels : List ℕ) → LabelsSoFar ts at labels place → IsUnlabelled ts place → ReadsLabels ts at labels place
-labels_end ts at place labels h ends = record { in_text = h.in_text; long = h.long; tokens = h.tokens; ends = ends; leads = h.leads }
 
 pub labels_more : (ts : List Token) (at place : ℕ) (labels : List ℕ) → LabelsSoFar ts at labels place → Next ts place sign.Name → Next ts (place + 1) sign.Colon → place + 2 < length ts → LabelsSoFar ts at (labels ++ place ∷ []) (place + 2)
 labels_more ts at place labels h name colon inside =

@@ -1,7 +1,6 @@
 -- Chains: what the machine has come over, whatever is to come after it.
 use Rattle.std.proofs.Common.{◌≡◌, ℕ, suc, ◌+◌, ◌<◌, ◌≤◌, List, Some, None, refl, ap, ◌∙◌, length, arith}
 use Rattle.std.specs.Prelude.{Result, ◌≢◌}
-use Rattle.js_tree.specs.declared.nodes.ExprId.{ExprId}
 use Rattle.js_tree.specs.declared.nodes.StmtId.{StmtId}
 use Rattle.js_tree.specs.Plain.{Stmt}
 use Rattle.js_tree.specs.Forest.{Forest}
@@ -12,7 +11,7 @@ use Rattle.js_cursor.specs.declared.refusal.Refusal.{Refusal}
 use Rattle.js_cursor.specs.declared.refusal.Refusal.TheVariants as refusal
 use Rattle.js_cursor.specs.Reads.{goes, lexeme_at, Next, IsOther, Refuses, MadeStmt}
 use Rattle.js_descent.specs.Rows.{IsReady, ReadsOne}
-use Rattle.js_descent.specs.Walks.{Walks, ReadsMarked}
+use Rattle.js_descent.specs.Walks.{Walks}
 use Rattle.js_cursor.proofs.Reading.{take_to, refuse_one, deep_one, same_one}
 use Rattle.js_descent.proofs.Joins.{keeps_same, keeps_then, refuses_before, stmt_made}
 
@@ -29,9 +28,6 @@ walks_then m n ts at mid next a b c h g = record { in_text = g.in_text; later = 
 
 pub walks_token : (n : ℕ) (ts : List Token) (at place next : ℕ) (a b : Forest) → Walks n ts at place a b → next ≡ place + 1 → next < length ts → Walks (suc n) ts at next a b
 walks_token n ts at place next a b h to inside = record { in_text = inside; later = omega (arith, h.later, to); few = omega (arith, h.few, to); kept = h.kept }
-
-pub walks_less : (m n : ℕ) (ts : List Token) (at next : ℕ) (a b : Forest) → n ≤ m → Walks m ts at next a b → Walks n ts at next a b
-walks_less m n ts at next a b le h = record { in_text = h.in_text; later = h.later; few = omega (arith, h.few, le); kept = h.kept }
 
 pub chain_start : (ts : List Token) (start : List Frame → State) (at : ℕ) (a : Forest) → at < length ts → Chain 0 ts start start at at a a
 chain_start ts start at a lt = record { walks = walks_same ts at a lt; leads = λ k. refl }
@@ -77,7 +73,3 @@ module _ {n : ℕ} {ts : List Token} {start now : List Frame → State} {at plac
 -- a statement is made at the end of a chain
 pub chain_made : {n : ℕ} {ts : List Token} {start : List Frame → State} {at next : ℕ} {a b : Forest} (s : Stmt) (h : Chain (suc n) ts start (λ k. Did s k) at next a b) (c : Forest) (result : Result (StmtId × ℕ) Refusal) → at < next → MadeStmt b c s next result → ReadsOne start ts at a c result
 chain_made {n} {ts} {start} {at} {next} {a} {b} s h c result later made = stmt_made start ts at next a b c s result h.walks.in_text later (omega (arith, h.walks.few)) h.walks.kept h.leads made
-
--- an expression and its mark, a block and its brace
-pub marked_walks : {want : Sign} {start : List Frame → State} {ts : List Token} {at next : ℕ} {a b : Forest} {id : ExprId} → ReadsMarked want start ts at a b id next → Walks 1 ts at next a b
-marked_walks h = h.walks

@@ -8,7 +8,7 @@ use Rattle.js_tree.specs.declared.nodes.ExprId.{ExprId}
 use Rattle.js_tree.specs.declared.nodes.FunId.{FunId}
 use Rattle.js_tree.specs.declared.nodes.StepOp.{StepOp}
 use Rattle.js_tree.specs.declared.nodes.AssignOp.{AssignOp}
-use Rattle.js_tree.specs.Plain.{Expr, ExprForm, ExprAt, Exprs, Array, Function, Dot, Sub, Call, New, Step as StepOf, Cond, Assign, Comma, NoExprs, expr_place}
+use Rattle.js_tree.specs.Plain.{Expr, ExprForm, ExprAt, Exprs, Array, Function, Sub, Call, New, Step as StepOf, Cond, Assign, Comma, NoExprs, expr_place}
 use Rattle.js_tree.specs.Forest.{Forest, IsExpr, expr_at, fun_at, exprs_at}
 use Rattle.js_grammar.specs.declared.Sign.{Sign}
 use Rattle.js_grammar.specs.declared.Sign.TheVariants as sign
@@ -106,15 +106,7 @@ on_with left' c (Err e) h g = refuses_on e h g
 pub ready_next : {start : List Frame → State} {left : List Frame → List Frame} {ts : List Token} {at next : ℕ} {a b : Forest} {x : ExprId} (d : ℕ) → IsReady ts at d a → Reads start left ts at a b x next → IsReady ts next d b
 ready_next d h g = record { in_text = g.in_text; shallow = h.shallow; short = h.short; few = omega (arith, h.few, g.few) }
 
-pub ready_on : {start : List Frame → State} {left : List Frame → List Frame} {ts : List Token} {at next : ℕ} {a b : Forest} {x : ExprId} (d : ℕ) → IsReady ts at d a → ReadsOn start left ts at a b x next → IsReady ts next d b
-ready_on d h g = record { in_text = g.in_text; shallow = h.shallow; short = h.short; few = omega (arith, h.few, g.few) }
-
 -- ## Primaries
-
-pub leaf_reads : (ts : List Token) (at d : ℕ) (a c : Forest) (e : Expr) (s : Sign) (result : Result (ExprId × ℕ) Refusal) → IsReady ts at d a → Next ts at s → at + 1 < length ts → ((k : List Frame) → ◌≡◌ {A = Step} (primary d k (s, lexeme_at ts at)) (Some (d, Gives e k))) → MadeExpr a c e (at + 1) result → ReadsExpr (λ k. Wants (PrimaryAt d ∷ k)) (λ k. k) ts at a c result
-leaf_reads ts at d a c e s result ready here inside is made =
-    ends_made _ _ ts at (at + 1) a a c e result inside (omega arith) (omega arith) (keeps_same a)
-    (λ k. take_one ts (Wants (PrimaryAt d ∷ k)) (Gives e k) at d s here (is k) ready.shallow) made
 
 -- parentheses
 no_close : (e : Expr) (d : ℕ) (k : List Frame) (s : Sign) (x : Lexeme) → s ≢ sign.Close → ◌≡◌ {A = Step} (step (Gives e (Paren d ∷ k)) (s, x)) None
@@ -201,16 +193,6 @@ module _ (ts : List Token) (at bracket d : ℕ) (own : Option ℕ) (a : Forest) 
 no_name : (e : Expr) (d : ℕ) (k : List Frame) (s : Sign) (x : Lexeme) → s ≢ sign.Name → ◌≡◌ {A = Step} (step (Wants (DotName d e ∷ k)) (s, x)) None
 no_name e d k sign.Name x h = absurd (h refl)
 no_name e d k _ x h = refl
-
-pub dot_refused : (ts : List Token) (at d : ℕ) (e : Expr) → at < length ts → IsOther ts at sign.Name → Refuses (λ k. Wants (DotName d e ∷ k)) ts at (refusal.Syntax at)
-dot_refused ts at d e lt other = other_refused _ ts at at sign.Name (λ k. Wants (DotName d e ∷ k)) lt other (λ k. refl) (no_name e d)
-
-pub dot_ends : (ts : List Token) (at next d : ℕ) (a c : Forest) (l : ExprId) (text : List ℕ) (place : ℕ) (names : List ℕ) (result : Result (ExprId × ℕ) Refusal) → d ≤ 200 → Next ts at sign.Name → next ≡ at + 1 → next < length ts → text ≡ (lexeme_at ts at).text → place ≡ expr_place (expr_at a l) → names ≡ (lexeme_at ts at).at ∷ [] → MadeExpr a c (ExprAt place names (Dot (expr_at a l) text)) next result → ReadsExpr (λ k. Wants (DotName d (expr_at a l) ∷ k)) (λ k. k) ts at a c result
-dot_ends ts at next d a c l text place names result le mark to inside text_is place_is names_is made =
-    let e = expr_at a l in
-    let x = lexeme_at ts at in
-    ends_made _ _ ts at next a a c _ result inside (omega (arith, to)) (omega (arith, to)) (keeps_same a)
-    (λ k. rw (text_is, place_is, names_is) (take_to ts (Wants (DotName d e ∷ k)) (Gives (ExprAt (expr_place e) (x.at ∷ []) (Dot e x.text)) k) at next d sign.Name mark refl le to)) made
 
 -- a tail begins at its mark
 point_step : (d : ℕ) (f : Frame) (e : Expr) (k : List Frame) (x : Lexeme) → IsTail d f → ◌≡◌ {A = Step} (step (Gives e (f ∷ k)) (sign.Point, x)) (Some (d, Wants (DotName d e ∷ f ∷ k)))
@@ -691,12 +673,3 @@ commas_end ts at place d a b id s h here other = record {
 
 pub step_inside : (s : Sign) (o : StepOp) → Some o ≡ step_of s → s ≢ sign.End
 step_inside s o is e = let none = ap step_of e in cc
-
-pub prefix_inside : (s : Sign) (o : Prefix) → Some o ≡ prefix_of s → s ≢ sign.End
-prefix_inside s o is e = let none = ap prefix_of e in cc
-
-pub assign_inside : (s : Sign) (o : AssignOp) → Some o ≡ assign_of s → s ≢ sign.End
-assign_inside s o is e = let none = ap assign_of e in cc
-
-pub infix_inside : (s : Sign) (b : Bool) (o : Infix) → infix_of s b ≡ Some o → s ≢ sign.End
-infix_inside s b o is e = let none = ap (λ t. infix_of t b) e in cc

@@ -1,7 +1,6 @@
 -- How readings are put together.
 use Rattle.std.proofs.Common.{◌≡◌, ℕ, ◌+◌, ◌<◌, ◌≤◌, List, refl, ap, sym, subst, ◌∙◌, length, arith}
 use Rattle.std.specs.Prelude.{Result, Ok, Err}
-use Rattle.exact_refusals.specs.Judge.Outcome.{Refused}
 use Rattle.js_tree.specs.declared.nodes.ExprId.{ExprId}
 use Rattle.js_tree.specs.declared.nodes.StmtId.{StmtId}
 use Rattle.js_tree.specs.Plain.{Expr, Stmt}
@@ -10,7 +9,7 @@ use Rattle.js_grammar.specs.Grammar.{Token}
 use Rattle.js_grammar.specs.Machine.{Frame, State, Gives, Did}
 use Rattle.js_cursor.specs.declared.refusal.Refusal.{Refusal}
 use Rattle.js_cursor.specs.declared.refusal.Refusal.TheVariants as refusal
-use Rattle.js_cursor.specs.Reads.{from, goes, Refuses, MadeExpr, MadeStmt}
+use Rattle.js_cursor.specs.Reads.{goes, Refuses, MadeExpr, MadeStmt}
 use Rattle.js_descent.specs.Rows.{IsReady, Reads, ReadsExpr, ReadsStmt, ReadsOne}
 
 pub keeps_same : (f : Forest) → Keeps f f
@@ -28,10 +27,6 @@ pub refuses_before : (start start' : List Frame → State) (g : List Frame → L
 refuses_before start start' g ts at at' (refusal.Syntax place) go h = (h.0, λ k. go k ∙ h.1 (g k))
 refuses_before start start' g ts at at' (refusal.TooDeep place) go h = (h.0, λ k. go k ∙ h.1 (g k))
 refuses_before start start' g ts at at' refusal.Memory go h = tt
-
--- the next token is refused
-pub syntax_at : (start : List Frame → State) (ts : List Token) (at place : ℕ) → place < length ts → ((k : List Frame) → goes ts (start k) at ≡ Refused (length (from ts place))) → Refuses start ts at (refusal.Syntax place)
-syntax_at start ts at place lt go = (lt, go)
 
 -- one reading after another
 pub reads_then : {start : List Frame → State} {left left' : List Frame → List Frame} {ts : List Token} {at mid next : ℕ} {a b c : Forest} {x y : ExprId} → Reads start left ts at a b x mid → Reads (λ k. Gives (expr_at b x) (left k)) left' ts mid b c y next → Reads start left' ts at a c y next

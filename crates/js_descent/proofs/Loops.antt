@@ -19,11 +19,11 @@ use Rattle.js_grammar.specs.Machine.{Frame, State, Step, step, finished, Wants, 
 use Rattle.js_cursor.specs.declared.refusal.Refusal.{Refusal}
 use Rattle.js_cursor.specs.declared.refusal.Refusal.TheVariants as refusal
 use Rattle.js_cursor.specs.Reads.{goes, from, lexeme_at, Next, IsOther, Refuses}
-use Rattle.js_descent.specs.Rows.{IsReady, ReadsStmt, ReadsBody, ReadsDecl}
+use Rattle.js_descent.specs.Rows.{IsReady, ReadsStmt, ReadsDecl}
 use Rattle.js_descent.specs.Walks.{Walks, ends_list, ReadsStatements, ReadsDecls, ReadsInit, goes_by, var_ends}
 use Rattle.js_cursor.specs.Named.{ReadsLabels, labelled}
 use Rattle.js_cursor.proofs.Reading.{take_to, refuse_one, same_one}
-use Rattle.js_descent.proofs.Joins.{keeps_same, keeps_then, refuses_before}
+use Rattle.js_descent.proofs.Joins.{keeps_then, refuses_before}
 use Rattle.js_descent.proofs.Chain.{walks_same}
 use Rattle.js_descent.proofs.Lists.{stmts_more_kept, stmts_more_push, funs_more_kept, funs_more_push, stmts_in, funs_in, decls_more_kept, decls_more_push, decls_in}
 
@@ -251,12 +251,6 @@ pub record BodySoFar (ts : List Token) (at place d : ℕ) (a b : Forest) (list :
   pub are_stmts : All (IsStmt b) list
   pub are_funs : All (IsFun b) funs
   pub leads : (k : List Frame) → goes ts (Wants (InBody d NoStmts NoFuns ∷ k)) at ≡ goes ts (Wants (InBody d (stmts_at b list) (funs_at b funs) ∷ k)) place
-
-pub body_begin : (ts : List Token) (at d : ℕ) (a : Forest) → IsReady ts at d a → BodySoFar ts at at d a a [] []
-body_begin ts at d a ready = record { ready = ready; later = omega arith; few = omega arith; kept = keeps_same a; are_stmts = λ i x lt. absurd (omega arith); are_funs = λ i x lt. absurd (omega arith); leads = λ k. refl }
-
-pub body_end : (ts : List Token) (at place d : ℕ) (a b : Forest) (list : List StmtId) (funs : List FunId) → BodySoFar ts at place d a b list funs → Next ts place sign.CloseBrace → place + 1 < length ts → ReadsBody d ts at a b list funs place
-body_end ts at place d a b list funs h here inside = record { in_text = inside; closed = here; later = h.later; few = h.few; kept = h.kept; are_stmts = h.are_stmts; are_funs = h.are_funs; leads = h.leads }
 
 module _ (ts : List Token) (at place d : ℕ) (a b : Forest) (list : List StmtId) (funs : List FunId) (so_far : BodySoFar ts at place d a b list funs) where
   module _ (s : Sign) (here : Next ts place s) (p : s ≢ sign.CloseBrace) (q : s ≢ sign.Function) where

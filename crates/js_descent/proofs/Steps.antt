@@ -514,23 +514,6 @@ module _ (ts : List Token) (at d : ℕ) (a : Forest) (ready : IsReady ts at d a)
             (omega (arith, body.walks.later, h.walks.later, to, to_next))
             (λ k. do_tested k ∙ take_to ts (Wants (Ended d s ∷ k)) (Did s k) end next d sign.Semicolon semi refl ready.shallow to_next) m
 
-pub begins_fit : (s : Sign) → s ≢ sign.Var → s ≢ sign.If → s ≢ sign.While → s ≢ sign.Do → s ≢ sign.For → s ≢ sign.Continue → s ≢ sign.Break → s ≢ sign.Return → s ≢ sign.Throw → s ≢ sign.With → s ≢ sign.Switch → s ≢ sign.Try → s ≢ sign.OpenBrace → s ≢ sign.Function → begins_only s ≡ true
-begins_fit sign.Var p1 p2 p3 p4 p5 p6 p7 p8 p9 p10 p11 p12 p13 p14 = absurd (p1 refl)
-begins_fit sign.If p1 p2 p3 p4 p5 p6 p7 p8 p9 p10 p11 p12 p13 p14 = absurd (p2 refl)
-begins_fit sign.While p1 p2 p3 p4 p5 p6 p7 p8 p9 p10 p11 p12 p13 p14 = absurd (p3 refl)
-begins_fit sign.Do p1 p2 p3 p4 p5 p6 p7 p8 p9 p10 p11 p12 p13 p14 = absurd (p4 refl)
-begins_fit sign.For p1 p2 p3 p4 p5 p6 p7 p8 p9 p10 p11 p12 p13 p14 = absurd (p5 refl)
-begins_fit sign.Continue p1 p2 p3 p4 p5 p6 p7 p8 p9 p10 p11 p12 p13 p14 = absurd (p6 refl)
-begins_fit sign.Break p1 p2 p3 p4 p5 p6 p7 p8 p9 p10 p11 p12 p13 p14 = absurd (p7 refl)
-begins_fit sign.Return p1 p2 p3 p4 p5 p6 p7 p8 p9 p10 p11 p12 p13 p14 = absurd (p8 refl)
-begins_fit sign.Throw p1 p2 p3 p4 p5 p6 p7 p8 p9 p10 p11 p12 p13 p14 = absurd (p9 refl)
-begins_fit sign.With p1 p2 p3 p4 p5 p6 p7 p8 p9 p10 p11 p12 p13 p14 = absurd (p10 refl)
-begins_fit sign.Switch p1 p2 p3 p4 p5 p6 p7 p8 p9 p10 p11 p12 p13 p14 = absurd (p11 refl)
-begins_fit sign.Try p1 p2 p3 p4 p5 p6 p7 p8 p9 p10 p11 p12 p13 p14 = absurd (p12 refl)
-begins_fit sign.OpenBrace p1 p2 p3 p4 p5 p6 p7 p8 p9 p10 p11 p12 p13 p14 = absurd (p13 refl)
-begins_fit sign.Function p1 p2 p3 p4 p5 p6 p7 p8 p9 p10 p11 p12 p13 p14 = absurd (p14 refl)
-begins_fit _ p1 p2 p3 p4 p5 p6 p7 p8 p9 p10 p11 p12 p13 p14 = refl
-
 module _ (ts : List Token) (at d : ℕ) (a : Forest) (ready : IsReady ts at d a) where
   module _ (here : Next ts at sign.Throw) where
     pub throw_refused : (e : Refusal) → ((f : Frame) → OnlyAt sign.Semicolon f → Refuses (λ k. Wants (machine.whole d (f ∷ k))) ts (at + 1) e) → Refuses (λ k. Wants (Statement d ∷ k)) ts at e

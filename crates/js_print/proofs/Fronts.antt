@@ -19,9 +19,6 @@ goes_on start now later whole a b h e = record {
   whole_is = h.whole_is ∙ sym (append_assoc h.taken a b);
 }
 
-pub goes_end : (start now whole : List ℕ) → Goes start now whole [] → now ≡ start ++ whole
-goes_end start now whole h = h.now_is ∙ ap (λ l. start ++ l) (sym (h.whole_is ∙ append-nil h.taken))
-
 -- a refusal that appended nothing
 pub goes_no : (start now whole next : List ℕ) → Goes start now whole next → AppendsFront start now whole
 goes_no start now whole next h = record { taken = h.taken; rest = next; new_is = h.now_is; whole_is = h.whole_is }
@@ -49,12 +46,3 @@ front_more old new a b h = record { taken = h.taken; rest = h.rest ++ b; new_is 
 
 pub front_none : (old whole : List ℕ) → AppendsFront old old whole
 front_none old whole = record { taken = []; rest = whole; new_is = sym (append-nil old); whole_is = refl }
-
--- a front after something whole
-pub front_after : (old mid new a b : List ℕ) → mid ≡ old ++ a → AppendsFront mid new b → AppendsFront old new (a ++ b)
-front_after old mid new a b e h = record {
-  taken = a ++ h.taken;
-  rest = h.rest;
-  new_is = h.new_is ∙ ap (λ l. l ++ h.taken) e ∙ append_assoc old a h.taken;
-  whole_is = ap (λ l. a ++ l) h.whole_is ∙ sym (append_assoc a h.taken h.rest);
-}

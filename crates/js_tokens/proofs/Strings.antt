@@ -18,11 +18,6 @@ inside_suffix (close e) = next whole
 inside_suffix (plain e i) = next (inside_suffix i)
 inside_suffix (escape e f i) = next (next (inside_suffix i))
 
-pub closed_suffix : {q : ℕ} {cs rest : List ℕ} → Closed q cs rest → Suffix cs rest
-closed_suffix (last e) = next whole
-closed_suffix (single e i) = next (closed_suffix i)
-closed_suffix (pair e f i) = next (next (closed_suffix i))
-
 -- an escape does not stand before a line end
 line_or : (P : ℕ → Type 0) → P 10 → P 13 → P 0x2028 → P 0x2029 → (c : ℕ) → is_line_end c ≡ true → P c
 line_or P a b d e c h =
@@ -162,9 +157,6 @@ comment_found (ends {a} {b} {rest} e f) =
     let slash : nat_eq b 47 ≡ true = ap (λ x. nat_eq x 47) f in
     rw (star, slash) refl
 comment_found (skip e c) = rw e (comment_found c)
-
-pub comment_once : {cs rest other : List ℕ} → Comment cs rest → Comment cs other → rest ≡ other
-comment_once c d = let a = comment_found c in let b = comment_found d in cc
 
 comment_end : (c : ℕ) (cs : List ℕ) → (nat_eq c 42 && Starts 47 cs) ≡ true → Comment (c ∷ cs) (tail cs)
 comment_end c [] e = absurd (false≢true (and_parts (nat_eq c 42) false e).1)

@@ -9,3 +9,4 @@ pub mod Parts
 pub mod Texts
 pub mod Quoted
 pub mod Ended
+pub mod Named

@@ -1,5 +1,5 @@
 //! The value that is read in a text.
-ghost use Rattle.std.specs.Prelude.{◌≡◌, ◌<◌, ℕ, List, IfErr, IfOk, OnErr, OnOk, option_map};
+ghost use Rattle.std.specs.Prelude.{◌≡◌, ◌<◌, ℕ, List, IfErr, IfOk, IsUtf8, OnErr, OnOk};
 ghost use Rattle.js_tree.specs.Forest.{Forest};
 ghost use Rattle.serde_json.specs.View.{view};
 ghost use Rattle.widget_meaning.specs.Costs as costs;
@@ -12,7 +12,8 @@ ghost use Rattle.js_image.specs.Image.{Rest, image, seen};
 ghost use Rattle.js_image.specs.Plans.{meant_cause};
 ghost use Rattle.native_common.specs.Meets.{Ends, Meets};
 ghost use Rattle.native_common.specs.Numbers.{counted};
-ghost use Rattle.json_text.specs.Reading.{born_plan, read_plan, weight_cost};
+ghost use Rattle.json_judge.specs.Verdicts.{Tells};
+ghost use Rattle.json_text.specs.Reading.{IsMade, Parses, born_plan, read_plan, weight_cost};
 ghost use Rattle.json_text.specs.Weights.{weight};
 
 use crate::building::build;
@@ -20,6 +21,7 @@ use crate::weighing::{NO_WEIGHT, Weight, weigh};
 use code_units::{Memory, Owner, Text, push_utf8};
 use js_image::{Fault, Paid, StopCause, pay_units};
 use js_values::{Meter, NativeOut};
+use json_judge::{Verdict, judge};
 use json_shapes::{ShapeFault, read_json};
 use native_common::{take, text_len};
 use object_store::{CELL_LIMIT, SLOT_LIMIT, Store, UNIT_LIMIT, Value};
@@ -43,20 +45,51 @@ pub fn from_json(
         return Ok(NativeOut::Throw(Fault::E4));
     };
     match parsed(alloc, text)? {
-        None => Ok(NativeOut::Throw(Fault::E4)),
-        Some(json) => read_value(alloc, store, meter, w, text_len(text), &json),
+        Found::NotJson => Ok(NativeOut::Throw(Fault::E4)),
+        Found::Refused => Ok(NativeOut::Throw(Fault::E8)),
+        Found::Value(json) => read_value(alloc, store, meter, w, text_len(text), &json),
     }
 }
 
-// The JSON that a text is, none where it is none.
-fn parsed(alloc: Global, text: &Text) -> Result<Option<Json>, Memory>
-    ensures { IfOk result (λ o. option_map view o ≡ means.read_json text.now) }
+/// What a text is found to be: no JSON, a value with a name that is not permitted, or a value.
+#[derive(Drop)]
+pub enum Found {
+    NotJson,
+    Refused,
+    Value(Json),
+}
+
+// A text is judged first, so that what throws is not made.
+fn parsed(alloc: Global, text: &Text) -> Result<Found, Memory>
+    ensures { IfOk result (Parses text.now) }
 {
     let mut bytes = Vec::new(alloc);
     push_utf8(text, &mut bytes)?;
-    match read_json(alloc, &bytes) {
-        Ok(json) => Ok(Some(json)),
-        Err(ShapeFault::NotJson) => Ok(None),
+    match judged(alloc, &bytes)? {
+        Verdict::NotJson => Ok(Found::NotJson),
+        Verdict::Refused => Ok(Found::Refused),
+        Verdict::Passed => made(alloc, &bytes),
+    }
+}
+
+// The verdict on UTF-8.
+fn judged(alloc: Global, bytes: &[u8]) -> Result<Verdict, Memory>
+    ensures { IfOk result (Tells bytes.now) }
+{
+    match str::from_utf8(bytes) {
+        Ok(text) => judge(alloc, text),
+        Err(_) => Err(Memory),
+    }
+}
+
+// The value of UTF-8.
+fn made(alloc: Global, bytes: &[u8]) -> Result<Found, Memory>
+    requires { IsUtf8 bytes.now }
+    ensures { IfOk result (IsMade bytes.now) }
+{
+    match read_json(alloc, bytes) {
+        Ok(json) => Ok(Found::Value(json)),
+        Err(ShapeFault::NotJson) => Ok(Found::NotJson),
         Err(_) => Err(Memory),
     }
 }

@@ -30,10 +30,6 @@ ref_no_text w cells i = by (visible_at w cells i)
     by true = refl
     by false = refl
 
-pub no_own_text : (o : Option Value) → is_some o ≡ false → own_text_in o ≡ None
-no_own_text None h = refl
-no_own_text (Some v) h = absurd (no_true (sym h))
-
 -- what is found of an own property is the property
 found_first : (s : State) (v : Value) (x : List ℕ) (k : Bool → Option Value) (o : Option Value) → is_some o ≡ true → text_in (unwrap_or (or_else o k) Undefined) ≡ own_text_in o
 found_first s v x k None h = absurd (no_true h)

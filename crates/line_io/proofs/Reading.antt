@@ -1,8 +1,8 @@
 -- A line that is read in parts.
 use Rattle.std.proofs.Common.{◌≡◌, ◌≢◌, ℕ, zero, suc, ◌+◌, ◌-◌, ◌<◌, ◌≤◌, min, Vec, Global, MatchOption, List, [], ◌∷◌, ◌++◌, Option, Some, None, IfSome, OnSome, option_map, length, take, drop, get_or, refl, sym, ap, subst, ◌∙◌, arith, append_assoc, append-nil, take_all, zero-le}
 use Rattle.std.proofs.lemmas.List.{length-take, take_more}
-use Rattle.std.proofs.lemmas.List.Elements.{All-append, All-nil}
-use Rattle.std.proofs.KnownBytes.{Consumes-nil, Consumes-trans}
+use Rattle.std.proofs.lemmas.List.Elements.{All-append}
+use Rattle.std.proofs.KnownBytes.{Consumes-trans}
 use Rattle.std.specs.Io.KnownBytes.{Consumes, IsAtEnd}
 use Rattle.std.specs.List.{slice_get}
 use Rattle.line_io.specs.Lines.{lines_of, IsLine, Took, Gives}
@@ -56,9 +56,6 @@ take_nothing n = take_all n [] zero-le
 
 pub none_more : (line : List ℕ) (n : ℕ) → line ≡ line ++ take n []
 none_more line n = sym (ap (λ l. line ++ l) (take_nothing n) ∙ append-nil line)
-
-pub no_front : (max : ℕ) (start : Option (List ℕ)) (line : List ℕ) → line ≡ [] → Front max start start line
-no_front max start line none = record { part = []; plain = All-nil (λ b. b ≢ 10); taken = Consumes-nil start; held = none ∙ sym (take_nothing (max + 1)) }
 
 -- a front of a list and of what follows it
 take_both : (n : ℕ) (xs ys : List ℕ) → take n (xs ++ ys) ≡ take n xs ++ take (n - length (take n xs)) ys
@@ -170,7 +167,3 @@ end_gives max a b c line new part (Some v) front plain more took is =
 pub line_told : (old : Option (List ℕ)) (next : Option (List ℕ)) (max : ℕ) (new : Option (List ℕ)) → Gives max old new next → IfSome (option_map lines_of old) (λ lines. next ≡ option_map (take (max + 1)) (slice_get lines 0))
 line_told None next max new gives = tt
 line_told (Some x) next max new gives = gives.line
-
-pub rest_told : (old : Option (List ℕ)) (next : Option (List ℕ)) (max : ℕ) (new : Option (List ℕ)) → Gives max old new next → IfSome (option_map lines_of old) (λ lines. option_map lines_of new ≡ Some (drop 1 lines))
-rest_told None next max new gives = tt
-rest_told (Some x) next max new gives = gives.rest

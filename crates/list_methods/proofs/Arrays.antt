@@ -11,10 +11,10 @@ use Rattle.store_cells.specs.Host.{global}
 use Rattle.object_store.specs.Grows.{Grows}
 use Rattle.object_store.specs.Owned as store
 use Rattle.object_store.specs.Owned.{visible_at}
-use Rattle.widget_meaning.specs.Values.{Value, Undefined, Null, Truth, NaN, Num, Text, Own, Host, E3}
+use Rattle.widget_meaning.specs.Values.{Value, Undefined, Null, NaN, Num, Text, Own, E3}
 use Rattle.widget_meaning.specs.OwnState.{State, array_length, kind_of}
 use Rattle.widget_meaning.specs.Plan.{Plan}
-use Rattle.widget_meaning.specs.Costs.{or_throw, throw}
+use Rattle.widget_meaning.specs.Costs.{throw}
 use Rattle.widget_meaning.specs.NativeForms.{on_array}
 use Rattle.js_image.specs.Held.{IsHeld, is_held}
 use Rattle.js_image.specs.Image.{Rest, image, meant, no_rest, seen}
@@ -49,20 +49,6 @@ module _ (w : ℕ) (s : Cells) (i len : ℕ) where
     len = λ fs r. ap (λ v. array_length (kind_of (image fs r w s) v)) (sym (own_of (h [] no_rest))) ∙ sym (h fs r);
   }
 
--- the receiver of a native of arrays
-pub array_received : (s : State) (n len : ℕ) (v : Value) (k : ℕ → ℕ → Plan) → v ≡ Own n → array_length (kind_of s (Own n)) ≡ Some len → on_array (Some v) s k ≡ k n len
-array_received s n len v k own h = ap (λ x. on_array (Some x) s k) own ∙ ap (λ o. or_throw E3 o s (k n)) h
-
-pub no_array_received : (s : State) (v : Value) (k : ℕ → ℕ → Plan) → array_length (kind_of s v) ≡ None → on_array (Some v) s k ≡ throw E3 s
-no_array_received s (Own n) k h = ap (λ o. or_throw E3 o s (k n)) h
-no_array_received s Undefined k h = refl
-no_array_received s Null k h = refl
-no_array_received s (Truth b) k h = refl
-no_array_received s NaN k h = refl
-no_array_received s (Num z) k h = refl
-no_array_received s (Text t) k h = refl
-no_array_received s (Host e) k h = refl
-
 pub primitive_received : (w : ℕ) (s : Cells) (st : State) (v : StoreValue) (k : ℕ → ℕ → Plan) → cell_in v ≡ None → on_array (receiver w s.cells v) st k ≡ throw E3 st
 primitive_received w s st value.Undefined k h = refl
 primitive_received w s st value.Null k h = refl
@@ -74,13 +60,6 @@ primitive_received w s st (value.Num n) k h = by n
     by (number.Whole z) = refl
 primitive_received w s st (value.Text t) k h = refl
 primitive_received w s st (value.Ref i) k h = absurd (none_some (sym h))
-
--- a cell that is no Global cell is received as it is seen
-pub cell_received : (w : ℕ) (s : Cells) (i : ℕ) → nat_eq i global ≡ false → receiver w s.cells (value.Ref i) ≡ Some (seen w s.cells (value.Ref i))
-cell_received w s i e = ap (λ b. if b then None else Some (seen w s.cells (value.Ref i))) e
-
-pub global_received : (w : ℕ) (s : Cells) (i : ℕ) → nat_eq i global ≡ true → receiver w s.cells (value.Ref i) ≡ None
-global_received w s i e = ap (λ b. if b then None else Some (seen w s.cells (value.Ref i))) e
 
 pub cell_held : (w : ℕ) (s : Cells) (i : ℕ) → nat_eq i global ≡ false → IsReceiver w s.cells (value.Ref i) → IsHeld w s.cells i
 cell_held w s i e h = (h.0, ap (λ b. b || is_held w s.cells i) (sym e) ∙ h.1)

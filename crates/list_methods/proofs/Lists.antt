@@ -150,10 +150,6 @@ pub from_end_within : (len : ℕ) (z : ℤ) → from_end len z ≤ len
 from_end_within len (pos n) = omega arith
 from_end_within len (negsuc n) = omega arith
 
--- nothing stands between places in the wrong order
-pub nothing_between : {X : Type 0} (xs : List X) (a b : ℕ) → b ≤ a → [] ≡ slice_range xs a b
-nothing_between xs a b h = let e : 0 ≡ b - a = omega (arith, h) in ap (λ n. take n (drop a xs)) e
-
 -- the number of arguments as it is counted
 pub counted_args : (w : ℕ) (cells : List PlainCell) (vs : List Value) (n : ℕ) → n ≡ length vs → n < 2 ^ 64 → n ≡ counted (length (all_seen w cells vs))
 counted_args w cells vs n is small = sym (counted_small n small) ∙ ap counted (is ∙ sym (length-map vs (seen w cells)))

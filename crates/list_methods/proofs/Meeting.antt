@@ -14,7 +14,7 @@ use Rattle.js_image.specs.declared.outcome.Made.{Made}
 use Rattle.js_image.specs.declared.outcome.Made.TheVariants as made
 use Rattle.js_image.specs.declared.outcome.StopCause.{StopCause}
 use Rattle.js_image.specs.Held.{IsFine, Kept}
-use Rattle.js_image.specs.Plans.{IsFineMade, made_plan, meant_cause, meant_fault}
+use Rattle.js_image.specs.Plans.{meant_cause, meant_fault}
 use Rattle.js_image.proofs.Grown.{kept_same}
 use Rattle.js_image.proofs.Units.{kept_then}
 use Rattle.js_values.specs.Fuel.{Fuel}
@@ -100,10 +100,6 @@ value_ends w old new plan v h fine kept = record { leaves = λ fs r node d. h fs
 abbrev pub out_of : Made → NativeOut
 out_of (made.Cell i) = native.Value (value.Ref i)
 out_of (made.Stop c) = native.Stop c
-
-pub made_ends : (w : ℕ) (old new : Cells) (plan : ℕ → State → Plan) (m : Made) → ((fs : List Forest) (r : Rest) (d : ℕ) → plan d (image fs r w old) ≡ made_plan w new.cells m give (image fs r w new)) → IsFineMade w new.cells m → ((fs : List Forest) → Kept fs w old new) → Ends w old new plan (out_of m)
-made_ends w old new plan (made.Cell i) h fine kept = value_ends w old new plan (value.Ref i) h fine kept
-made_ends w old new plan (made.Stop c) h fine kept = stop_ends w old new plan c h kept
 
 -- nothing changed
 pub kept_here : (fs : List Forest) (w : ℕ) (s : Cells) → Kept fs w s s

@@ -14,7 +14,7 @@ use Rattle.json_shapes.proofs.EachLemmas.{each_more, each_length}
 use Rattle.manifest_reader.specs.Page.{part_of, nodes_of, node_limit, IsFilled, AreFilled}
 use Rattle.manifest_reader.specs.Html.{entry_text, html_text, IsHtmlOf, IsLongestHtml}
 use Rattle.manifest_reader.specs.declared.entry.Entry.{Entry}
-use Rattle.manifest_reader.proofs.HtmlLemmas.{HtmlSoFar, no_html_yet, html_more, html_stops, html_whole}
+use Rattle.manifest_reader.proofs.HtmlLemmas.{HtmlSoFar, no_html_yet, html_more, html_stops}
 use Rattle.manifest_reader.proofs.PageLemmas.{tree_of}
 
 -- the texts of values
@@ -36,12 +36,6 @@ pub value_stops : (vs : List Value) (i : ℕ) (v : Value) (room : ℕ) → i < l
 value_stops vs i v room within is so_far bad =
     let seen = texts_length vs in
     html_stops (texts vs) i (html_text (view v)) room (omega arith) (text_at_place vs i v is) so_far bad
-
-pub values_whole : (vs : List Value) (i n room : ℕ) → n ≡ length vs → length vs ≤ i → i ≤ length vs → HtmlSoFar (texts vs) i room → IsLongestHtml (texts vs) n
-values_whole vs i n room all whole within so_far =
-    let seen = texts_length vs in
-    let same : i ≡ n = omega arith in
-    subst (IsLongestHtml (texts vs)) same (html_whole (texts vs) i room (omega arith) (omega arith) so_far)
 
 -- the first i entries are these, and so many nodes may follow
 pub record EntriesSoFar (given : Option ℕ) (es : List PageEntry) (i : ℕ) (read : List Entry) (room : ℕ) : Type 0 where

@@ -1,6 +1,6 @@
 -- Channels so far, and where they stop.
-use Rattle.std.proofs.Common.{◌≡◌, ℕ, zero, suc, ◌+◌, ◌<◌, ◌≤◌, true, false, not, List, [], ◌∷◌, ◌++◌, length, map, take, drop, get_or, slice_get, option_map, refl, sym, ap, subst, ◌∙◌, arith}
-use Rattle.std.proofs.lemmas.List.{length-map, take_all, take-append-drop}
+use Rattle.std.proofs.Common.{◌≡◌, ℕ, ◌+◌, ◌<◌, true, false, not, List, [], ◌∷◌, ◌++◌, length, map, take, drop, get_or, sym, ap, subst, ◌∙◌}
+use Rattle.std.proofs.lemmas.List.{take-append-drop}
 use Rattle.std.specs.List.{list_any}
 use Rattle.serde_json.specs.Data.{Data}
 use Rattle.serde_json.specs.View.{view}
@@ -11,12 +11,6 @@ use Rattle.manifest_shape.specs.Manifest.{IsChannel, AreChannels, same_channel, 
 use Rattle.json_shapes.proofs.EachLemmas.{each_take, each_same, no_each_value, taken_more}
 use Rattle.json_shapes.proofs.EachLemmas.{taken_map}
 use Rattle.manifest_shape.proofs.DistinctLemmas.{distinct_front, distinct_snoc, and_true, and_false}
-
--- a value at a place, seen
-pub slice_get_view : (vs : List Value) (i : ℕ) → slice_get (map view vs) i ≡ option_map view (slice_get vs i)
-slice_get_view [] i = refl
-slice_get_view (v ∷ vs) zero = refl
-slice_get_view (v ∷ vs) (suc i) = slice_get_view vs i
 
 -- the first i values are these channels
 pub record ChannelsSoFar (names : List (List ℕ)) (vs : List Value) (i : ℕ) (channels : List (ℕ × ℕ)) : Type 0 where
@@ -39,9 +33,6 @@ one_channel names d a b left right =
     let step : (a.0, a.1) ≡ (b.0, a.1) = ap (λ (x : ℕ). let p : ℕ × ℕ = (x, a.1) in p) from in
     let last : (b.0, a.1) ≡ (b.0, b.1) = ap (λ (y : ℕ). let p : ℕ × ℕ = (b.0, y) in p) to in
     step ∙ last
-
-pub too_many_channels : (names : List (List ℕ)) (vs : List Value) (all : List (ℕ × ℕ)) → 64 < length vs → AreChannels names (map view vs) all → ⊥
-too_many_channels names vs all many are = let seen = length-map vs view in let few = are.few in omega arith
 
 -- a value that is no channel
 pub no_channel : (names : List (List ℕ)) (vs : List Value) (i : ℕ) (v : Value) (all : List (ℕ × ℕ)) → i < length vs → v ≡ get_or vs i v → ((c : ℕ × ℕ) → IsChannel names (view v) c → ⊥) → AreChannels names (map view vs) all → ⊥
@@ -67,14 +58,4 @@ channels_more names vs i v channels new c within is so_far here fresh pushed =
     record {
       each = subst (λ cs. Each (IsChannel names) (map view (take (i + 1) vs)) cs) (sym pushed) (taken_more (IsChannel names) vs i v channels c within is so_far.each here);
       apart = ap (distinct same_channel) pushed ∙ distinct_snoc same_channel channels c ∙ and_true (distinct same_channel channels) (not (list_any (λ b. same_channel b c) channels)) so_far.apart (ap not (sym fresh));
-    }
-
--- all channels
-pub all_channels : (names : List (List ℕ)) (vs : List Value) (i : ℕ) (channels : List (ℕ × ℕ)) → length vs ≤ i → length vs ≤ 64 → ChannelsSoFar names vs i channels → AreChannels names (map view vs) channels
-all_channels names vs i channels whole few so_far =
-    let seen = length-map vs view in
-    record {
-      each = subst (λ ws. Each (IsChannel names) (map view ws) channels) (take_all i vs whole) so_far.each;
-      few = omega arith;
-      distinct = so_far.apart;
     }

@@ -1,15 +1,14 @@
 -- A manifest from its parts, and its faults.
-use Rattle.std.proofs.Common.{◌≡◌, ℕ, true, List, length, take, codes, String, Global, Option, Some, MatchOption, sym, ap, subst, ◌∙◌, arith}
+use Rattle.std.proofs.Common.{◌≡◌, ℕ, true, List, length, take, codes, Some, MatchOption, sym, subst, arith}
 use Rattle.std.proofs.lemmas.List.{take_all}
 use Rattle.serde_json.specs.Data.{Data}
 use Rattle.json_shapes.specs.Each.{Each}
 use Rattle.json_shapes.specs.Look.{list_at}
 use Rattle.manifest_shape.specs.Slots.{IsEntry, names_in, are_slots}
 use Rattle.json_shapes.specs.Json.{judged_version}
-use Rattle.manifest_shape.specs.Manifest.{IsRest, IsManifest, AreGoodEntries, IsLongestGoodPage, IsBadManifest, IsPageFault, IsManifestFault}
+use Rattle.manifest_shape.specs.Manifest.{AreGoodEntries, IsLongestGoodPage, IsPageFault, IsManifestFault}
 use Rattle.json_shapes.specs.declared.fault.ShapeFault.{ShapeFault}
 use Rattle.json_shapes.specs.declared.fault.ShapeFault.TheVariants.{NotJson, BadShape, TooMany, Memory}
-use Rattle.manifest_shape.specs.declared.manifest.ManifestShape.{ManifestShape}
 use Rattle.manifest_shape.specs.declared.slot.PageEntry.{PageEntry}
 
 same_page : (key : List ℕ) (d : Data) (ds es : List Data) → Some ds ≡ list_at key d → list_at key d ≡ Some es → ds ≡ es
@@ -34,31 +33,4 @@ pass_page_fault d ds (BadShape item) list is =
           let some = is.0 in
           omega arith);
       place = subst (λ o. MatchOption o (item ≡ 0) (λ page. IsLongestGoodPage (judged_version d) page item)) list is.1;
-    }
-
--- a good page in a manifest that is none
-pub rest_fault : (d : Data) (ds : List Data) (names : List (List ℕ)) (entries : List PageEntry) (item : ℕ) → Some ds ≡ list_at (codes "page") d → item ≡ length ds → Each (IsEntry (judged_version d)) ds entries → names ≡ names_in ds → are_slots names ≡ true → ((fuel : Option ℕ) (libs : List (String Global)) (channels : List (ℕ × ℕ)) → IsRest names d fuel libs channels → ⊥) → IsBadManifest d item
-rest_fault d ds names entries item list place each named slots none =
-    record {
-      no_manifest = λ manifest whole.
-          (let same = same_page (codes "page") d ds whole.page list whole.list in
-          let given : names_in whole.page ≡ names = ap names_in (sym same) ∙ sym named in
-          none manifest.fuel manifest.libs.items manifest.channels.items (subst (λ ns. IsRest ns d manifest.fuel manifest.libs.items manifest.channels.items) given whole.rest));
-      place = subst (λ o. MatchOption o (item ≡ 0) (λ page. IsLongestGoodPage (judged_version d) page item)) list
-          (subst (λ n. IsLongestGoodPage (judged_version d) ds n) (sym place)
-          record {
-            good = all_good (judged_version d) ds entries each (sym (ap are_slots named) ∙ slots);
-            longest = λ m good. good.within;
-          });
-    }
-
--- a good page and the rest
-pub whole_manifest : (d : Data) (ds : List Data) (names : List (List ℕ)) (manifest : ManifestShape) → Some ds ≡ list_at (codes "page") d → Each (IsEntry (judged_version d)) ds manifest.entries.items → names ≡ names_in ds → are_slots names ≡ true → IsRest names d manifest.fuel manifest.libs.items manifest.channels.items → IsManifest d manifest
-whole_manifest d ds names manifest list each named slots rest =
-    record {
-      page = ds;
-      list = sym list;
-      each = each;
-      slots = sym (ap are_slots named) ∙ slots;
-      rest = subst (λ ns. IsRest ns d manifest.fuel manifest.libs.items manifest.channels.items) named rest;
     }

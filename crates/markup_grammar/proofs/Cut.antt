@@ -23,10 +23,6 @@ Partial xs = (c : ℕ) × (suffix : List ℕ) × (xs ++ suffix ≡ encode_utf8 c
 clash : (b : Bool) → b ≡ true → b ≡ false → ⊥
 clash b e f = cc
 
--- the ranges of the second byte
-InSecond : ℕ → ℕ → Type 0
-InSecond x y = (second_byte_min x ≤ y) × (y ≤ second_byte_max x)
-
 second_facts : (x y : ℕ) → second_byte_min x ≤ y → y ≤ second_byte_max x → (128 ≤ y) × (y < 192) × (x ≡ 224 → 160 ≤ y) × (x ≡ 237 → y < 160) × (x ≡ 240 → 144 ≤ y) × (x ≡ 244 → y < 144)
 second_facts x y lo hi = pick (x == 224) (x == 240) (x == 237) (x == 244) refl refl refl refl lo hi
   where

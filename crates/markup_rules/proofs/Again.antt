@@ -1,5 +1,5 @@
 -- What is said again, saying by saying.
-use Rattle.std.proofs.Common.{◌≡◌, ℕ, Bool, true, false, ◌||◌, not, List, [], ◌∷◌, refl, sym, ap, ◌∙◌, subst, inl, inr, ◌⊎◌, Option, true≢false, length, ◌<◌, ◌+◌, ◌≤◌, get_or, drop}
+use Rattle.std.proofs.Common.{◌≡◌, ℕ, Bool, true, false, ◌||◌, not, List, [], ◌∷◌, refl, sym, ap, ◌∙◌, subst, inl, inr, ◌⊎◌, Option, length, ◌<◌, ◌+◌, ◌≤◌, get_or, drop}
 use Rattle.std.specs.Str.{bytes_eq}
 use Rattle.std.proofs.lemmas.List.{at_drop_more, at_drop_all}
 use Rattle.std.proofs.Common.{cond}
@@ -72,15 +72,6 @@ again_step {C} {a} {b} {c} rule old new xs i x copy is_new lt is same fresh keys
     let k : new ≡ with_text old x.text = (λ i t. (keys t ∙ ap (λ y. with_text old y t) same) i) in
     subst (λ l. Narrows C a (StillTwice rule l rest) c) (sym k)
     (again_more rule old x rest (subst (λ l. Narrows C a (StillTwice rule old l) b) e s) (subst (λ h. Narrows (If h (One rule x.at)) b Nothing c) hit t))
-
--- at the start nothing is seen
-pub again_start : (rule : ℕ) (xs : List Saying) (b : Option Breach) → Narrows (Twice rule xs) b (StillTwice rule (λ t. false) xs) b
-again_start rule xs b = record {
-  found = λ x e. inl e;
-  keeps = λ r p h. h;
-  covers = λ r p h. inr (inr h);
-  within = λ r p h. elim h [ inl i ↦ let no : false ≡ true = i.broken.passed in absurd (true≢false (sym no)) | inr i ↦ i ];
-}
 
 -- at the end nothing is left
 pub again_end : {C : ℕ → ℕ → Type 0} {a b : Option Breach} (rule : ℕ) (seen : List ℕ → Bool) (xs : List Saying) (i : ℕ) → length xs ≤ i → Narrows C a (StillTwice rule seen (drop i xs)) b → Narrows C a Nothing b

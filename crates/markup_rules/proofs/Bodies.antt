@@ -17,17 +17,9 @@ use Rattle.std.proofs.Common.{◌-◌, suc}
 
 -- ## Bodies
 
-body_text : (t ts : Trees Places) → IsText t → body_of (beside t ts) ≡ body_of ts
-body_text t ts h = subst (λ x. body_of (beside x ts) ≡ body_of ts) (sym h.same) refl
-
 body_here : (p : Part) (t ts : Trees Places) (b : Bool) → IsElement p t → is_div p.tag.now ≡ b → body_of (beside t ts) ≡ cond b (element_node p.tag.now p.attrs.now (before_scripts (placed_all p.children.now)) p.at) (body_of ts)
 body_here p t ts b e is = subst (λ x. body_of (beside x ts) ≡ cond b (element_node p.tag.now p.attrs.now (before_scripts (placed_all p.children.now)) p.at) (body_of ts)) (sym e)
     (ap (λ c. cond c (element_node p.tag.now p.attrs.now (before_scripts (placed_all p.children.now)) p.at) (body_of ts)) is)
-
-pub body_pass_text : (xs : List Plain) (i : ℕ) (x : Plain) → i < length xs → x ≡ get_or xs i x → IsText (placed x) → body_of (placed_all (drop i xs)) ≡ body_of (placed_all (drop (i + 1) xs))
-body_pass_text xs i x lt ex h =
-    let rest = placed_all (drop (i + 1) xs) in
-    ap body_of (at_drop_more placed_all xs i x lt ∙ ap (λ y. beside (placed y) rest) (sym ex)) ∙ body_text (placed x) rest h
 
 pub body_pass : (p : Part) (b : Bool) (xs : List Plain) (i : ℕ) (x : Plain) → i < length xs → x ≡ get_or xs i x → IsElement p (placed x) → is_div p.tag.now ≡ b → body_of (placed_all (drop i xs)) ≡ cond b (element_node p.tag.now p.attrs.now (before_scripts (placed_all p.children.now)) p.at) (body_of (placed_all (drop (i + 1) xs)))
 body_pass p b xs i x lt ex e is =

@@ -55,16 +55,6 @@ elements_here p t e = ap elements e ∙ ap (λ x. x ∷ (elements (placed_all p.
 pub tops_here : (p : Part) (t : Trees Places) → IsElement p t → tops t ≡ element_of p ∷ []
 tops_here p t e = ap tops e ∙ ap (λ x. x ∷ []) (element_here p)
 
-pub items_here : (p : Part) (t : Trees Places) → IsElement p t → items t ≡ AnElement (element_of p) ∷ []
-items_here p t e = ap items e ∙ ap (λ x. AnElement x ∷ []) (element_here p)
-
--- one tree of several
-pub elements_first : (p : Plain) (ps : List Plain) → elements (placed_all (p ∷ ps)) ≡ elements (placed p) ++ elements (placed_all ps)
-elements_first p ps = elements_beside (placed p) (placed_all ps)
-
-pub tops_first : (p : Plain) (ps : List Plain) → tops (placed_all (p ∷ ps)) ≡ tops (placed p) ++ tops (placed_all ps)
-tops_first p ps = tops_beside (placed p) (placed_all ps)
-
 pub items_first : (p : Plain) (ps : List Plain) → items (placed_all (p ∷ ps)) ≡ items (placed p) ++ items (placed_all ps)
 items_first p ps = items_beside (placed p) (placed_all ps)
 

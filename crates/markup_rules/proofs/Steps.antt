@@ -1,18 +1,12 @@
 -- Loops, step by step.
-use Rattle.std.proofs.Common.{◌≡◌, ℕ, ◌+◌, ◌<◌, ◌≤◌, List, [], ◌∷◌, ◌++◌, refl, sym, ap, ◌∙◌, subst, length, get_or, take, drop, Option, map, append_assoc, inl, inr}
-use Rattle.std.proofs.lemmas.List.{take_more, take_all, at_drop_more, at_drop_all, append-nil}
+use Rattle.std.proofs.Common.{◌≡◌, ℕ, ◌+◌, ◌<◌, ◌≤◌, List, [], ◌∷◌, ◌++◌, refl, sym, ap, ◌∙◌, subst, length, get_or, take, drop, Option, map, inl, inr}
+use Rattle.std.proofs.lemmas.List.{take_more, take_all, at_drop_all, append-nil}
 use Rattle.first_breach.specs.declared.Breach.{Breach}
 use Rattle.std.specs.Prelude.{true, Result, Ok, Err, IfOk}
 use Rattle.first_breach.specs.Breaches.{Nothing, Either, Each, If}
 use Rattle.first_breach.specs.Narrowing.{Narrows}
 use Rattle.first_breach.proofs.Narrowing.{each_more, narrows_as, narrows_both, narrows_then, narrows_beside}
 use Rattle.first_breach.proofs.Members.{map_append}
-
--- one more piece
-pub piece_step : {A B : Type 0} (f : List A → List B) (g : A → List B) (xs : List A) (i : ℕ) (x : A) (old new all : List B) → ((y : A) (ys : List A) → f (y ∷ ys) ≡ g y ++ f ys) → i < length xs → x ≡ get_or xs i x → new ≡ old ++ g x → old ++ f (drop i xs) ≡ all → new ++ f (drop (i + 1) xs) ≡ all
-piece_step f g xs i x old new all cons lt ex en inv =
-    ap (λ l. l ++ f (drop (i + 1) xs)) (en ∙ ap (λ y. old ++ g y) ex) ∙ append_assoc old (g (get_or xs i x)) (f (drop (i + 1) xs))
-    ∙ ap (λ l. old ++ l) (sym (cons (get_or xs i x) (drop (i + 1) xs)) ∙ sym (at_drop_more f xs i x lt)) ∙ inv
 
 pub piece_done : {A B : Type 0} (f : List A → List B) (xs : List A) (i : ℕ) (old all : List B) → f [] ≡ [] → length xs ≤ i → old ++ f (drop i xs) ≡ all → old ≡ all
 piece_done f xs i old all e le inv = sym (append-nil old) ∙ ap (λ l. old ++ l) (sym e) ∙ ap (λ l. old ++ l) (sym (at_drop_all f xs i le)) ∙ inv

@@ -2,8 +2,7 @@
 use Rattle.std.proofs.Common.{◌≡◌, ℕ, zero, suc, ◌<◌, ◌≤◌, ◌-◌, List, [], ◌∷◌, length, drop, false, refl, subst, arith, length-drop}
 use Rattle.std.specs.Prelude.{slice_range}
 use Rattle.std.proofs.lemmas.List.{take_all}
-use Rattle.markup_rules.specs.Words.{begins_with, has_word, is_own_id, is_in_id}
-use Rattle.std.specs.List.{list_all}
+use Rattle.markup_rules.specs.Words.{begins_with, has_word, is_own_id}
 use Rattle.std.proofs.Math.Seq.{drop-nil}
 
 pub range_rest : (us : List ℕ) (i : ℕ) → slice_range us i (length us) ≡ drop i us
@@ -30,21 +29,3 @@ own_far (n ∷ name) [] zero lt le = refl
 own_far (n ∷ name) [] (suc at) lt le = subst (λ w. is_own_id (drop at name) w ≡ false) (drop-nil at) (own_far name [] at (omega (arith, lt)) (omega arith))
 own_far (n ∷ name) (u ∷ us) zero lt le = absurd (omega (arith, le))
 own_far (n ∷ name) (u ∷ us) (suc at) lt le = own_far name us at (omega (arith, lt)) (omega (arith, le))
-
--- behind the slot's name
-pub own_short : (name us : List ℕ) (at : ℕ) → length name ≤ at → length us ≤ at → is_own_id (drop at name) (drop at us) ≡ false
-own_short [] [] zero le lu = refl
-own_short [] [] (suc at) le lu = refl
-own_short [] (u ∷ us) zero le lu = absurd (omega (arith, lu))
-own_short [] (u ∷ us) (suc at) le lu = subst (λ w. is_own_id w (drop at us) ≡ false) (drop-nil at) (own_short [] us at (omega arith) (omega (arith, lu)))
-own_short (n ∷ name) us zero le lu = absurd (omega (arith, le))
-own_short (n ∷ name) [] (suc at) le lu = subst (λ w. is_own_id (drop at name) w ≡ false) (drop-nil at) (own_short name [] at (omega (arith, le)) (omega arith))
-own_short (n ∷ name) (u ∷ us) (suc at) le lu = own_short name us at (omega (arith, le)) (omega (arith, lu))
-
-pub own_rest : (name us : List ℕ) (at : ℕ) → length name ≤ at → at < length us → is_own_id (drop at name) (drop at us) ≡ list_all is_in_id (drop at us)
-own_rest [] [] at le lt = absurd (omega (arith, lt))
-own_rest [] (u ∷ us) zero le lt = refl
-own_rest [] (u ∷ us) (suc at) le lt = subst (λ w. is_own_id w (drop at us) ≡ list_all is_in_id (drop at us)) (drop-nil at) (own_rest [] us at (omega arith) (omega (arith, lt)))
-own_rest (n ∷ name) us zero le lt = absurd (omega (arith, le))
-own_rest (n ∷ name) [] (suc at) le lt = absurd (omega (arith, lt))
-own_rest (n ∷ name) (u ∷ us) (suc at) le lt = own_rest name us at (omega (arith, le)) (omega (arith, lt))

@@ -37,11 +37,6 @@ firsts_at [] i x is lt = absurd (omega arith)
 firsts_at (y ∷ ys) zero x is lt = ap (λ p. p.0) is
 firsts_at (y ∷ ys) (suc i) x is lt = firsts_at ys i x is (omega arith)
 
-pub firsts_take : {A B : Type 0} (xs : List (A × B)) (i : ℕ) → map (λ p. p.0) (take i xs) ≡ take i (map (λ p. p.0) xs)
-firsts_take xs zero = refl
-firsts_take [] (suc i) = refl
-firsts_take (x ∷ xs) (suc i) = ap (λ l. x.0 ∷ l) (firsts_take xs i)
-
 pub firsts_length : {A B : Type 0} (xs : List (A × B)) → length (map (λ p. p.0) xs) ≡ length xs
 firsts_length [] = refl
 firsts_length (x ∷ xs) = ap suc (firsts_length xs)

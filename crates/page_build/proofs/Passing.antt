@@ -10,7 +10,6 @@ use Rattle.page_tree.specs.declared.page.Page.{Page}
 use Rattle.page_tree.specs.Pages.{nodes}
 use Rattle.page_image.specs.Stays.{HostStays, KeepsNodes}
 use Rattle.page_image.proofs.Hosting.{host_same}
-use Rattle.native_image.specs.Sound.{KeepsPage}
 use Rattle.page_build.specs.Standing.{AreSpots, Child, Exchanges, Fixed, HasSlots, HostPasses, InSlot, PagePasses, exchanged, filled, has_slot}
 use Rattle.page_build.proofs.Swapped.{exchanged_off, not_true}
 
@@ -32,10 +31,6 @@ passes_here p q h ns = record {
 
 pub pages_here : (p : Page) (ns : List ℕ) → PagePasses p p ns ns
 pages_here p ns = record { host = passes_here p p (host_same p p refl) ns; owners = λ v n h. h; numbers = λ v n h. refl; roots = λ v lt. refl }
-
--- a call of a widget
-pub pages_kept : (w : ℕ) (p q : Page) → KeepsPage w p q → HostStays p q → (ns : List ℕ) → PagePasses p q ns ns
-pages_kept w p q k h ns = record { host = passes_here p q h ns; owners = k.owners; numbers = k.numbers; roots = k.roots }
 
 -- ## One after the other
 

@@ -22,11 +22,6 @@ pub if_err_then : {T E : Type 0} (r : Result T E) (P Q : E → Type 0) → ((x :
 if_err_then (Ok x) P Q f h = h
 if_err_then (Err x) P Q f h = f x h
 
--- two facts of what is given
-pub if_ok_both : {T E : Type 0} (r : Result T E) (P : T → Type 0) (A : Type 0) (Q : T → Type 0) → ((x : T) → P x → A → Q x) → IfOk r P → OnOk r A → IfOk r Q
-if_ok_both (Ok x) P A Q f h a = f x h a
-if_ok_both (Err x) P A Q f h a = h
-
 pub ok_both : {T E : Type 0} (r : Result T E) (A B Q : Type 0) → (A → B → Q) → OnOk r A → OnOk r B → OnOk r Q
 ok_both (Ok x) A B Q f a b = f a b
 ok_both (Err x) A B Q f a b = a

@@ -25,11 +25,6 @@ some_is x y e = cc
 no_some : {A : Type 0} (x : A) → None ≡ Some x → ⊥
 no_some x e = cc
 
-pub there_by : {A : Type 0} (xs : List A) (n : ℕ) (d : A) → n < length xs → slice_get xs n ≡ Some (slice_index_or xs n d)
-there_by [] n d less = absurd (omega (arith, less))
-there_by (y ∷ xs) zero d less = refl
-there_by (y ∷ xs) (suc n) d less = there_by xs n d (omega (arith, less))
-
 -- an element of a list with one more
 pub get_push : {A : Type 0} (xs : List A) (x : A) (n : ℕ) (y : A) → slice_get (xs ++ x ∷ []) n ≡ Some y → (slice_get xs n ≡ Some y) ⊎ ((n ≡ length xs) × (x ≡ y))
 get_push [] x zero y at = inr (refl, some_is x y at)

@@ -1,5 +1,5 @@
 -- What a page that lives comes to.
-use Rattle.std.proofs.Common.{◌≡◌, ◌≤◌, ℕ, List, [], ◌∷◌, ◌++◌, map, length, Option, Some, None, refl, sym, ap, subst, ◌∙◌}
+use Rattle.std.proofs.Common.{◌≡◌, ℕ, List, [], ◌∷◌, ◌++◌, map, length, Option, Some, None, refl, sym, ap, subst, ◌∙◌}
 use Rattle.std.specs.Prelude.{is_some}
 use Rattle.std.proofs.lemmas.List.{length-map}
 use Rattle.trace_reader.specs.Said.{Said}
@@ -105,9 +105,6 @@ alive_shows p a = record { pieces = pieces a.parts; owns = map end_of a.is.live.
 
 pub alive_told : (p : LivePage) → IsAlive p → (os : List (Option OwnState)) × (bs : List (Option OwnState)) × AreTold p.findings p.host os bs
 alive_told p a = (map end_of a.is.live.fed, map end_of a.is.live.out, live_told a.parts a.pairs a.runs a.files a.items p a.is)
-
-pub alive_few : (p : LivePage) → IsAlive p → length p.findings.names.items ≤ 16
-alive_few p a = (even_law a.is.spec a.is.swaps a.items a.runs a.files p.findings a.is.found).few
 
 -- a page keeps the names of its slots
 pub same_names : (parts : List Part) (pairs : List (ℕ × ℕ)) (runs : List SlotRun) (files more : List Source) (items others : List Said) (p q : LivePage) → Lives parts pairs runs files items p → Lives parts pairs runs more others q

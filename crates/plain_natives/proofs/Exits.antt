@@ -37,9 +37,6 @@ use Rattle.native_common.proofs.Seen.{nth_seen}
 pub wants : (vs : List Value) (s : State) (p : Plan) → false ≡ list_any is_object vs → want_primitives vs s p ≡ p
 wants vs s p h = ap (λ b. if not b then p else throw meaning.E4 s) (sym h)
 
-pub wants_not : (vs : List Value) (s : State) (p : Plan) → true ≡ list_any is_object vs → want_primitives vs s p ≡ throw meaning.E4 s
-wants_not vs s p h = ap (λ b. if not b then p else throw meaning.E4 s) (sym h)
-
 -- the same of one
 pub wants_one : (v : Value) (s : State) (p : Plan) → false ≡ is_object v → want_primitives (v ∷ []) s p ≡ p
 wants_one v s p h = ap (λ b. if not (b || false) then p else throw meaning.E4 s) (sym h)

@@ -2,10 +2,9 @@
 use Rattle.std.proofs.Common.{◌≡◌, ℕ, ◌+◌, ◌<◌, ◌≤◌, Bool, true, false, ◌&&◌, if◌then◌else◌, cond, nat_eq, List, [], ◌∷◌, ◌++◌, map, length, get_or, set, drop, refl, sym, ◌∙◌, ap, subst, arith}
 use Rattle.std.proofs.lemmas.Bool.Decides.{nat_tests}
 use Rattle.std.proofs.lemmas.List.{append-nil, append_assoc, drop_all, drop_more, get_or-map, get_or-set_same, get_or-set_other, length-map, map-set}
-use Rattle.std.specs.List.{filter}
 use Rattle.post_rounds.specs.declared.posts.Post.{Post}
-use Rattle.post_rounds.specs.News.{is_declared, is_to, name, news_from, value_of}
-use Rattle.post_rounds.specs.Events.{is_received, sent}
+use Rattle.post_rounds.specs.News.{is_declared, name, news_from, value_of}
+use Rattle.post_rounds.specs.Events.{sent}
 
 -- an event, or none
 abbrev pub maybe : Bool → List ℕ → List (List ℕ)
@@ -17,30 +16,12 @@ split true true f p rest = refl
 split true false f p rest = refl
 split false t f p rest = refl
 
--- the first post, and the others
-sent-cons : (channels : List (ℕ × ℕ)) (names : List (List ℕ)) (s w : ℕ) (post : Post) (posts : List Post)
-    → sent channels names s w (post ∷ posts) ≡ maybe (is_received channels names s w post.to) (value_of (name names s) post) ++ sent channels names s w posts
-sent-cons channels names s w post posts = split (is_declared channels s w) (is_to (name names w) post) (value_of (name names s)) post (filter (is_to (name names w)) posts)
-
--- one post more is delivered
-pub post_more : (channels : List (ℕ × ℕ)) (names : List (List ℕ)) (s w : ℕ) (post : Post) (posts rest : List Post) (b : Bool) (old new total : List (List ℕ))
-    → posts ≡ post ∷ rest → is_received channels names s w post.to ≡ b → new ≡ old ++ maybe b (value_of (name names s) post)
-    → old ++ sent channels names s w posts ≡ total → new ++ sent channels names s w rest ≡ total
-post_more channels names s w post posts rest b old new total are gets is so_far =
-    ap (λ (es : List (List ℕ)). es ++ sent channels names s w rest) (is ∙ ap (λ c. old ++ maybe c (value_of (name names s) post)) (sym gets))
-    ∙ (append_assoc old (maybe (is_received channels names s w post.to) (value_of (name names s) post)) (sent channels names s w rest)
-    ∙ (ap (λ (es : List (List ℕ)). old ++ es) (sym (sent-cons channels names s w post rest)) ∙ (ap (λ (ps : List Post). old ++ sent channels names s w ps) (sym are) ∙ so_far)))
-
 by_number : (events : List (List (List ℕ))) (r w : ℕ) (v : List ℕ) (b : Bool) → nat_eq r w ≡ b → r < length events → get_or (set events r (get_or events r [] ++ v ∷ [])) w [] ≡ get_or events w [] ++ maybe b v
 by_number events r w v true met in_r =
     let same : r ≡ w = grind (arith, nat_tests) in
     subst (λ n. get_or (set events r (get_or events r [] ++ v ∷ [])) n [] ≡ get_or events n [] ++ v ∷ []) same (get_or-set_same events r (get_or events r [] ++ v ∷ []) [] in_r)
 by_number events r w v false differ in_r =
     get_or-set_other events r w (get_or events r [] ++ v ∷ []) [] (λ same. let met : nat_eq r w ≡ true = grind (arith, nat_tests) in cc) ∙ sym (append-nil (get_or events w []))
-
--- one event more for a slot
-pub event_more : (events : List (List (List ℕ))) (r w : ℕ) (v : List ℕ) → r < length events → get_or (set events r (get_or events r [] ++ v ∷ [])) w [] ≡ get_or events w [] ++ maybe (nat_eq r w) v
-event_more events r w v in_r = by_number events r w v (nat_eq r w) refl in_r
 
 -- the posts of one sender more are delivered
 pub sender_more : (channels : List (ℕ × ℕ)) (names : List (List ℕ)) (s w : ℕ) (posts : List Post) (fresh rest : List (List Post)) (old new total : List (List ℕ))

@@ -1,5 +1,5 @@
 //! Finding the nodes of a query.
-ghost use Rattle.std.specs.Prelude.{◌≡◌, ◌==◌, ◌%◌, if◌then◌else◌, ◌<◌, ◌++◌, [], ◌∷◌, true, length, OnOk, IfOk};
+ghost use Rattle.std.specs.Prelude.{◌≡◌, ◌==◌, ◌%◌, if◌then◌else◌, ◌<◌, ◌++◌, [], ◌∷◌, true, false, length, OnOk, IfOk};
 ghost use Rattle.std.specs.List.{filter, flat_map};
 ghost use Rattle.code_units.specs.declared.owner.Owner.{Owner};
 ghost use Rattle.page_tree.specs.Owners.{is_owner};
@@ -12,10 +12,14 @@ ghost use Rattle.query_walks.specs.Walks.{AreNodes};
 use code_units::{Memory, Owner};
 use page_tree::{NodeId, Page};
 use query_grammar::{Filter, ListFilter, Query, QueryStep, StepFilter};
+use query_walks::failed::{is_needed, mark_all_failed};
 use query_walks::hunt::hunt_all;
 use query_walks::nodes::test;
 use query_walks::order::in_order;
 use std::alloc::Global;
+
+// The most filters of a step that are tried one by one.
+const FEW: usize = 8;
 
 // Keeps a node if it passes.
 fn keep_one(
@@ -105,8 +109,47 @@ fn filter_one(
     }
 }
 
-// The nodes that filters keep, one after the other.
-fn filter_all(
+// The nodes that a filter keeps, which are all where it is not needed.
+fn filter_needed(
+    alloc: Global,
+    page: &Page,
+    focus: Option<NodeId>,
+    filter: &StepFilter,
+    needed: bool,
+    list: Vec<NodeId>,
+) -> Result<Vec<NodeId>, Memory>
+    requires nodes { AreNodes page.now list.items }
+    requires all { needed ≡ false → filtered (nodes page.now) focus filter.now list.items ≡ list.items }
+    ensures { IfOk result (λ kept. kept.items ≡ filtered (nodes page.now) focus filter.now list.items) }
+{
+    if needed {
+        return filter_one(alloc, page, focus, filter, list);
+    }
+    Ok(list)
+}
+
+// The nodes that many filters keep: of those on nodes only the first ones that nodes fail are tried.
+fn filter_many(
+    alloc: Global,
+    page: &Page,
+    focus: Option<NodeId>,
+    filters: &[StepFilter],
+    list: Vec<NodeId>,
+) -> Result<Vec<NodeId>, Memory>
+    requires { AreNodes page.now list.items }
+    ensures { IfOk result (λ kept. kept.items ≡ all_filtered (nodes page.now) focus filters.now list.items) }
+{
+    let failed = mark_all_failed(alloc, page, focus, filters, &list)?;
+    let mut kept = list;
+    'each: for (i, filter) in filters.iter().enumerate() {
+        let needed = is_needed(&failed, i, filter);
+        kept = filter_needed(alloc, page, focus, filter, needed, kept)?;
+    }
+    Ok(kept)
+}
+
+// The nodes that a few filters keep, one after the other.
+fn filter_few(
     alloc: Global,
     page: &Page,
     focus: Option<NodeId>,
@@ -121,6 +164,23 @@ fn filter_all(
         kept = filter_one(alloc, page, focus, filter, kept)?;
     }
     Ok(kept)
+}
+
+// The nodes that filters keep.
+fn filter_all(
+    alloc: Global,
+    page: &Page,
+    focus: Option<NodeId>,
+    filters: &[StepFilter],
+    list: Vec<NodeId>,
+) -> Result<Vec<NodeId>, Memory>
+    requires { AreNodes page.now list.items }
+    ensures { IfOk result (λ kept. kept.items ≡ all_filtered (nodes page.now) focus filters.now list.items) }
+{
+    if filters.len() > FEW {
+        return filter_many(alloc, page, focus, filters, list);
+    }
+    filter_few(alloc, page, focus, filters, list)
 }
 
 // What a step finds from nodes of an owner.

@@ -278,6 +278,12 @@ module _ (us : List ℕ) where
   pub keyword_begins : (at : ℕ) → at ≤ length us → KeywordSoFar at at
   keyword_begins at le = record { order = omega arith; inside = le; goes_so = λ qs h fs. ap (λ l. goes us (Keyword qs h fs l) at) (sym (range_none us at)) }
 
+  pub keyword_whole : (at end : ℕ) → at < end → end ≤ length us → (f : StepFilter) → keyword_of (slice_range us at end) ≡ Some f → IsFilterBehind us (byte ":") at f end
+  keyword_whole at end lt le f e =
+      let front = slice_range us at end in
+      let whole = range_behind us at end (omega (arith, lt)) le in
+      record { later = lt; inside = le; spelled = subst (λ l. SpellsFilter f (byte ":" ∷ l) (drop end us)) (sym whole) (by_keyword (keyword_is front f e)) }
+
   module _ (at end : ℕ) (so_far : KeywordSoFar at end) where
     module _ (lt : end < length us) where
       keyword_on : (qs : List Step) (h : Hunter) (fs : List StepFilter) → step (Keyword qs h fs (slice_range us at end)) (get_or us end 0) ≡ keyword_or qs h fs (slice_range us at (end + 1)) (keyword_of (slice_range us at (end + 1)))
@@ -295,10 +301,7 @@ module _ (us : List ℕ) where
           }
 
       pub keyword_found : (f : StepFilter) → keyword_of (slice_range us at (end + 1)) ≡ Some f → IsFilterBehind us (byte ":") at f (end + 1)
-      keyword_found f e =
-          let front = slice_range us at (end + 1) in
-          let whole = range_behind us at (end + 1) (omega (arith, so_far.order)) (omega (arith, lt)) in
-          record { later = omega (arith, so_far.order); inside = omega (arith, lt); spelled = subst (λ l. SpellsFilter f (byte ":" ∷ l) (drop (end + 1) us)) (sym whole) (by_keyword (keyword_is front f e)) }
+      keyword_found f e = keyword_whole at (end + 1) (omega (arith, so_far.order)) (omega (arith, lt)) f e
 
       pub keyword_stuck : keyword_of (slice_range us at (end + 1)) ≡ None → fits (slice_range us at (end + 1)) ≡ false → (qs : List Step) (h : Hunter) (fs : List StepFilter) → Refuses us (Keyword qs h fs []) at (fault.BadQuery end)
       keyword_stuck none fit qs h fs =

@@ -1,5 +1,5 @@
 //! Reading a query.
-ghost use Rattle.std.specs.Prelude.{◌≡◌, ◌+◌, ◌<◌, ◌≤◌, true, false, List, [], length, drop, ◌==◌, MatchResult, IfOk, IfErr};
+ghost use Rattle.std.specs.Prelude.{◌≡◌, ◌+◌, ◌<◌, ◌≤◌, true, false, List, [], length, drop, ◌==◌, MatchResult, IfOk, IfErr, IfSome};
 ghost use Rattle.std.specs.Str.{byte};
 ghost use Rattle.query_text.specs.declared.QueryFault.TheVariants as fault;
 ghost use Rattle.query_grammar.specs.declared.query.Hunter.{Hunter as Found};
@@ -105,8 +105,22 @@ fn attribute_at(alloc: Global, units: &[u16], at: usize) -> Result<(StepFilter, 
     Ok((StepFilter::Node(Filter::Equals(word, value)), close + 1))
 }
 
-// The filter of a keyword, from behind its colon, and the place behind it.
-fn keyword_at(units: &[u16], at: usize) -> Result<(StepFilter, usize), QueryFault>
+// The filter of the letters and digits at a place, from behind their colon, and the place behind
+// them, if they are a keyword.
+fn whole_keyword_at(units: &[u16], at: usize) -> Option<(StepFilter, usize)>
+    requires { at ≤ length units.now }
+    ensures { IfSome result (λ r. IsFilterBehind units.now (byte ":") at r.0 r.1) }
+{
+    let end = run_end(units, at, Run::Name);
+    if end == at {
+        return None;
+    }
+    let filter = keyword_of(&units[at..end])?;
+    Some((filter, end))
+}
+
+// The filter of a keyword, from behind its colon, and the place behind it, unit by unit.
+fn keyword_by_units(units: &[u16], at: usize) -> Result<(StepFilter, usize), QueryFault>
     requires { at ≤ length units.now }
     ensures { MatchResult result
         (λ r. IsFilterBehind units.now (byte ":") at r.0 r.1)
@@ -124,6 +138,20 @@ fn keyword_at(units: &[u16], at: usize) -> Result<(StepFilter, usize), QueryFaul
         end += 1;
     }
     Err(QueryFault::BadQuery { at: end })
+}
+
+// The filter of a keyword, from behind its colon, and the place behind it. Letters may stand behind
+// a keyword, which then begin the next step.
+fn keyword_at(units: &[u16], at: usize) -> Result<(StepFilter, usize), QueryFault>
+    requires { at ≤ length units.now }
+    ensures { MatchResult result
+        (λ r. IsFilterBehind units.now (byte ":") at r.0 r.1)
+        (λ e. (steps : List Step) (hunter : Found) (filters : List Sifter) → Refuses units.now (Keyword steps hunter filters []) at e) }
+{
+    match whole_keyword_at(units, at) {
+        Some(found) => Ok(found),
+        None => keyword_by_units(units, at),
+    }
 }
 
 // The filter at a place, and the place behind it.

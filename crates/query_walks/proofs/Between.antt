@@ -31,7 +31,8 @@ nowhere us i ge le h =
     let none = at_drop_all (position_or_len is_space) us i ge in
     omega (arith, h, none)
 
-whole : (us : List ℕ) → length us ≡ position_or_len is_space us → words us ≡ us ∷ []
+-- without a space it is one word
+pub whole : (us : List ℕ) → length us ≡ position_or_len is_space us → words us ≡ us ∷ []
 whole [] h = refl
 whole (u ∷ us) h = by_test (is_space u) (λ e. whole us e) h
   where
@@ -39,7 +40,8 @@ whole (u ∷ us) h = by_test (is_space u) (λ e. whole us e) h
     by_test true more h = absurd (omega (arith, h))
     by_test false more h = ap (onto_first u) (more (omega (arith, h)))
 
-parts : (us : List ℕ) (end : ℕ) → end ≡ position_or_len is_space us → end < length us → words us ≡ take end us ∷ words (drop (end + 1) us)
+-- the first word, and the others
+pub parts : (us : List ℕ) (end : ℕ) → end ≡ position_or_len is_space us → end < length us → words us ≡ take end us ∷ words (drop (end + 1) us)
 parts us end e lt = subst (λ n. words us ≡ take n us ∷ words (drop (n + 1) us)) (sym e) (slice_split_first is_space us 0 (omega (arith, lt, e)))
 
 -- the first word is met

@@ -1,3 +1,4 @@
+pub mod FirstFailed
 pub mod Finds
 pub mod Nodes
 pub mod Walks

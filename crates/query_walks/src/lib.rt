@@ -3,6 +3,7 @@
 //! `specs/Finds.antt` says what a query sees of a page.
 #![tactic(auto)]
 
+pub mod failed;
 pub mod hunt;
 pub mod marks;
 pub mod named;

@@ -82,8 +82,8 @@ fn has_word_attr(page: &Page, node: NodeId, name: &[u8]) -> bool
     page.attr_of_word(node, name).is_some()
 }
 
-// The place of the first space, or the length.
-fn word_end(units: &[u16]) -> usize
+/// The place of the first space, or the length.
+pub fn word_end(units: &[u16]) -> usize
     ensures end { result ≡ position_or_len (λ unit. unit == 32) units.now }
     ensures inside { result ≤ length units.now }
 {
@@ -95,8 +95,8 @@ fn word_end(units: &[u16]) -> usize
     units.len()
 }
 
-// The units behind a place.
-fn units_behind(units: &[u16], at: usize) -> &[u16]
+/// The units behind a place.
+pub fn units_behind(units: &[u16], at: usize) -> &[u16]
     requires { at < length units.now }
     ensures { result.now ≡ drop (at + 1) units.now }
 {

@@ -24,9 +24,6 @@ use Rattle.slot_check.specs.Verdicts.{AreNamedClean, IsAcceptedWidget}
 pub clean_script : (bytes : List ℕ) (position : Scope) (a : Accepted) → IsAccepted bytes position a → IsCleanScript bytes position
 clean_script bytes position a is = record { program = program_of (tree_of a); script = script_of bytes position a is }
 
-pub clean_shown : (bytes shown : List ℕ) (position : Scope) (a : Accepted) → shown ≡ bytes → IsAccepted shown position a → IsCleanScript bytes position
-clean_shown bytes shown position a same is = clean_script bytes position a (subst (λ b. IsAccepted b position a) same is)
-
 -- the `ADSAFE.id` script that is there
 pub clean_id : (name key bytes : List ℕ) (script : Option Span) (span : Span) (a : Accepted) → script ≡ Some span → key ≡ name → IsAccepted (script_text bytes span) (scope.Id key) a → IsIdClean name bytes script
 clean_id name key bytes script span a there same is =

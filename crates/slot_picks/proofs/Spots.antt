@@ -1,11 +1,8 @@
 -- No two slots of a page have one node.
-use Rattle.std.proofs.Common.{◌≡◌, ℕ, List, [], ◌∷◌, Bool, true, false, cond, refl, sym, ap, ◌∙◌, eqb, eqb-true, eq-eqb, get_or, not, Some}
-use Rattle.std.specs.Prelude.{slice_get}
+use Rattle.std.proofs.Common.{◌≡◌, ℕ, List, [], ◌∷◌, Bool, true, false, cond, refl, sym, ap, ◌∙◌, eqb, eqb-true, eq-eqb, get_or, not}
 use Rattle.std.proofs.lemmas.Bool.{and_parts, or_left, or_right}
-use Rattle.std.proofs.lemmas.Option.{get_or_from_slice_get, slice_get_within}
 use Rattle.page_nodes.specs.Entries.{body, distinct, listed}
-use Rattle.page_tree.specs.declared.page.Page.{Page}
-use Rattle.page_build.specs.Standing.{AreSpots, Child, Fixed, InSlot, filled, has_slot}
+use Rattle.page_build.specs.Standing.{Child, Fixed, InSlot, filled, has_slot}
 
 no_true : false ≡ true → ⊥
 no_true e = cc
@@ -40,9 +37,3 @@ module _ (spots : List ℕ) (n : ℕ) where
       by true false e f h k rest = absurd (twice w (eqb-true s w e) is (in_slot u too cs k))
       by false true e f h k rest = absurd (twice u (eqb-true s u f) too (in_slot w is cs h))
       by false false e f h k rest = rest h k parts.1
-
-pub spots_apart : (p : Page) (spots : List ℕ) → AreSpots p spots → (w u n : ℕ) → slice_get spots w ≡ Some n → slice_get spots u ≡ Some n → w ≡ u
-spots_apart p spots h w u n here there =
-    one_slot spots n w u (get_or_from_slice_get spots w n body here) (get_or_from_slice_get spots u n body there) h.children
-    (h.slots w (slice_get_within spots w n here)) (h.slots u (slice_get_within spots u n there))
-    (sym (ap distinct h.are) ∙ p.arena.sound.once body)

@@ -52,12 +52,6 @@ fed_lasts accepts ss told [] (f ∷ fs) h = absurd h
 fed_lasts accepts ss told (c ∷ cs) [] h = absurd h
 fed_lasts accepts ss told (c ∷ cs) (f ∷ fs) h = (h.0, fed_lasts accepts ss told cs fs h.1)
 
-pub shown_lasts : (accepts : ℕ → Bool) (ss : List Seen) (cs : List (List ℕ)) (fs : List (Option Fed)) → AreShown accepts ss (map (λ c. last_life c ∷ []) cs) fs → AreShown accepts ss cs fs
-shown_lasts accepts ss [] [] h = tt
-shown_lasts accepts ss [] (f ∷ fs) h = absurd h
-shown_lasts accepts ss (c ∷ cs) [] h = absurd h
-shown_lasts accepts ss (c ∷ cs) (f ∷ fs) h = (h.0, shown_lasts accepts ss cs fs h.1)
-
 -- ## What lives show
 
 module _ (accepts : ℕ → Bool) (ss : List Seen) (told : List ℕ) (shown : (v : ℕ) (s : Seen) → slice_get ss v ≡ Some s → image s ≡ due s) where

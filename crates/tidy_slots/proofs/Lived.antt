@@ -130,9 +130,6 @@ pub record AreTwins (r q : SlotRun) : Type 0 where
   pub libs : AllTwins r.slot.libs q.slot.libs
   pub is : q ≡ run_over q.slot.libs r
 
-pub over_twins : (libs : List Source) (r : SlotRun) → AllTwins r.slot.libs libs → AreTwins r (run_over libs r)
-over_twins libs r ts = record { libs = ts; is = refl }
-
 -- a life over twins of the libraries of another
 pub record AreTwinLives (l m : Life SlotRun) : Type 0 where
   pub runs : AreTwins l.runs m.runs

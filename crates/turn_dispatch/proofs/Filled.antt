@@ -39,18 +39,6 @@ one_more (x ∷ h) a = omega (arith, one_more h a)
 two_more : (h : List Cell) (a b : Cell) → length ((h ++ a ∷ []) ++ b ∷ []) ≡ length h + 2
 two_more h a b = omega (arith, one_more (h ++ a ∷ []) b, one_more h a)
 
-target_there : (kind : List ℕ) (t u v : Value) → is_some (lookup (pairs_with kind t u v) (codes "target")) ≡ true
-target_there kind t u v = refl
-
-that_there : (kind : List ℕ) (t u v : Value) → is_some (lookup (pairs_with kind t u v) (codes "that")) ≡ true
-that_there kind t u v = refl
-
-target_put : (kind : List ℕ) (t u v z : Value) → replaced (pairs_with kind t u v) (codes "target") z ≡ pairs_with kind z u v
-target_put kind t u v z = refl
-
-that_put : (kind : List ℕ) (t u v z : Value) → replaced (pairs_with kind t u v) (codes "that") z ≡ pairs_with kind t z v
-that_put kind t u v z = refl
-
 module _ (kind : List ℕ) (target node : ℕ) (v : Value) (s : State) where
   abbrev n : ℕ
   n = length s.own.heap

@@ -16,7 +16,7 @@ use Rattle.widget_meaning.specs.Compositional.{then_do}
 use Rattle.widget_meaning.proofs.Runs.{and_then_assoc, run_and_then}
 use Rattle.page_tree.specs.declared.page.Page.{Page}
 use Rattle.page_image.specs.Image.{number, owns}
-use Rattle.js_calls.specs.Called.{IsCarried, given}
+use Rattle.js_calls.specs.Called.{given}
 use Rattle.js_flow.specs.declared.job.Completion.TheVariants as completion
 use Rattle.js_flow.specs.declared.task.Control.TheVariants as control
 use Rattle.js_flow.specs.Frames.{rest}
@@ -58,23 +58,12 @@ use Rattle.turn_returns.specs.Weights.{doing_free}
 use Rattle.turn_returns.proofs.Stays.{fine_push, levels_fine, levels_last, levels_same}
 use Rattle.turn_returns.specs.declared.turn.Shared.{Shared}
 use Rattle.turn_returns.specs.declared.turn.Widget.{Widget}
-use Rattle.turn_steps.specs.Carrying.{IsAnswered, is_fire, is_wanting}
+use Rattle.turn_steps.specs.Carrying.{IsAnswered}
 use Rattle.turn_steps.specs.Steps.{IsFollowed}
 use Rattle.turn_steps.specs.Turning.{FineWidget, forests}
 
 false_true : false ≡ true → ⊥
 false_true e = cc
-
--- an answer that js_steps carries on
-pub carries_on : (o : NativeOut) → is_wanting o ≡ false → is_fire o ≡ false → IsCarried o
-carries_on (native.Call (calls.Fire kind nodes last)) w f = absurd (false_true (sym f))
-carries_on (native.Call (calls.ToText i)) w f = tt
-carries_on (native.Call (calls.Each func items last)) w f = tt
-carries_on (native.Call (calls.Gather func items keep)) w f = tt
-carries_on (native.Value v) w f = tt
-carries_on (native.Throw t) w f = tt
-carries_on (native.Stop c) w f = tt
-carries_on native.OutOfFuel w f = absurd (false_true (sym w))
 
 -- what is left of a native's plan is what it gave
 pub leaves_given : (w : ℕ) (cells : List PlainCell) (node : ℕ → ℕ) (d : ℕ) (o : NativeOut) (t : State) (q : Plan) → Leaves (seen w cells) node d o t q → q ≡ given w cells node d o t

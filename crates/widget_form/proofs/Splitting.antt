@@ -40,9 +40,6 @@ host_clean file list e free n =
     let m : Narrows (Each MarkupRows (elements file)) None Nothing None = subst (λ l. Narrows (Each MarkupRows l) None Nothing None) e n in
     ((λ _. record { clean = clean_of (Each MarkupRows (elements file)) m; free = ap (list_all is_free) (sym e) ∙ sym free }), (λ _. refl))
 
-pub host_taken : (file : Trees Places) (list : List Element) → list ≡ elements file → false ≡ list_all is_free list → IsTrue false ↔ IsHostMarkup file
-host_taken file list e taken = ((λ h. absurd (true≢false (sym h))), (λ h. taken ∙ ap (list_all is_free) e ∙ h.free))
-
 pub host_broken : (file : Trees Places) (list : List Element) (b : Breach) → list ≡ elements file → Narrows (Each MarkupRows list) None Nothing (Some b) → IsTrue false ↔ IsHostMarkup file
 host_broken file list b e n =
     let m : Narrows (Each MarkupRows (elements file)) None Nothing (Some b) = subst (λ l. Narrows (Each MarkupRows l) None Nothing (Some b)) e n in

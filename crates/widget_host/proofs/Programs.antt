@@ -7,14 +7,11 @@ use Rattle.js_tree.specs.Trees.{program_of}
 use Rattle.adsafe_rules.specs.declared.accepted.Accepted.{Accepted}
 use Rattle.adsafe_rules.specs.Accepts.{tree_of}
 use Rattle.widget_meaning.specs.Alone.{Content}
-use Rattle.page_plan.specs.declared.PageSpec.{PageSpec}
 use Rattle.page_plan.specs.declared.SlotContent.{SlotContent}
 use Rattle.page_plan.specs.declared.SlotContent.TheVariants as slot
-use Rattle.page_plan.specs.declared.SlotSpec.{SlotSpec}
 use Rattle.page_plan.specs.Contents.{content_of, program_at}
 use Rattle.page_load.specs.Loads.{HasScripts}
-use Rattle.widget_host.specs.declared.host.Host.{Host}
-use Rattle.widget_host.specs.Housed.{Loads, scripts}
+use Rattle.widget_host.specs.Housed.{scripts}
 
 none_some : {A : Type 0} {a : A} → None ≡ Some a → ⊥
 none_some e = cc
@@ -44,7 +41,3 @@ programs_of : (libs : List Accepted) (content : SlotContent) (ts : List Tree) (c
 programs_of libs (slot.Runs body places script) ts c has is =
     sym (programs_if ts) ∙ ap (map program_if) has ∙ all_programs libs places.items script ∙ ap (λ (d : Content). d.libraries ++ d.script ∷ []) (same_content _ c is)
 programs_of libs slot.Refused ts c has is = absurd (none_some is)
-
--- the scripts of a life that is loaded are those of its widget
-pub programs_are : (spec : PageSpec) (h : Host) → Loads spec h → (w : ℕ) (s : SlotSpec) (c : Content) → slice_get spec.slots.items w ≡ Some s → content_of spec.libs.items s.content ≡ Some c → map program_of (scripts h w) ≡ c.libraries ++ c.script ∷ []
-programs_are spec h loads w s c at is = programs_of spec.libs.items s.content (scripts h w) c (loads.scripts w s at) is

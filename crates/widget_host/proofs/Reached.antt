@@ -1,5 +1,5 @@
 -- The certificate of reach of a host.
-use Rattle.std.proofs.Common.{◌≡◌, ℕ, List, [], ◌∷◌, refl, ap, ◌∙◌, sym, arith, Option, Some, None}
+use Rattle.std.proofs.Common.{List, [], ◌∷◌, arith, Option, Some, None}
 use Rattle.slot_laws.specs.Chains.{last_life}
 use Rattle.slot_picks.specs.Crowds.{chains_of}
 use Rattle.slot_picks.specs.declared.slots.Slot.{Slot}
@@ -24,11 +24,3 @@ shown_are h (s ∷ ss) (end ∷ ends) are = (shown_is h s end are.0, shown_are h
 -- it has few slots, and places for few lives
 pub few_slots : (h : Host) → IsWhole h → AreFew h.crowd h.slots.items
 few_slots h whole = (omega (arith, whole.slots.crowd.places), omega (arith, whole.slots.slots))
-
--- where each slot has one life, that is its last one
-pub lasts_stay : (cs ds : List (List ℕ)) → cs ≡ lasts ds → lasts cs ≡ cs
-lasts_stay cs ds e = ap lasts e ∙ twice ds ∙ sym e
-  where
-    twice : (ds : List (List ℕ)) → lasts (lasts ds) ≡ lasts ds
-    twice [] = refl
-    twice (d ∷ ds) = ap (λ l. (last_life d ∷ []) ∷ l) (twice ds)

@@ -1,0 +1,39 @@
+use Rattle.std.proofs.Common.{◌≡◌, ℕ, ◌+◌, ◌*◌, ◌≤◌, List, length, true, false}
+use Rattle.std.specs.Prelude.{IfSome}
+use Rattle.json.specs.Json.{items, members, value, parse_map}
+use Rattle.serde_json.specs.Data.{Data, Members, no_members}
+use Rattle.serde_json.specs.Read.{of_items, of_members, converted}
+use Rattle.json_judge.specs.Names.{HasRefused}
+use Rattle.json_judge.proofs.Kept.{all_names, keys_permitted}
+use Rattle.json_judge.proofs.Turns.{items_before}
+use Rattle.json_judge.proofs.judging.+pass.Given as goal
+
+abbrev pub decreases-pass_value : goal.decreases-pass_value
+decreases-pass_value l = 2 * l.depth
+
+abbrev pub decreases-pass_items : goal.decreases-pass_items
+decreases-pass_items l = 2 * l.depth + 1
+
+abbrev pub decreases-pass_members : goal.decreases-pass_members
+decreases-pass_members l = 2 * l.depth + 1
+
+abbrev pub invariant-pass_items-items : goal.invariant-pass_items-items
+invariant-pass_items-items l =
+    (n : ℕ) × (ds : List Data) × (length l.reader ≤ n)
+    × (converted of_items (items (value l.depth) (length l.initial.reader) l.initial.reader) ≡ parse_map (items_before ds) (converted of_items (items (value l.depth) n l.reader)))
+    × (length l.reader ≤ length l.initial.reader)
+    × (l.refused ≡ true → all_names ds ≡ false)
+
+abbrev pub decreases-pass_items-items : goal.decreases-pass_items-items
+decreases-pass_items-items l = length l.reader
+
+abbrev pub invariant-pass_members-members : goal.invariant-pass_members-members
+invariant-pass_members-members l =
+    (n : ℕ) × (found : Members) × (length l.reader ≤ n)
+    × (converted (λ ms. of_members ms no_members) (members (value l.depth) (length l.initial.reader) l.initial.reader) ≡ converted (λ ms. of_members ms found) (members (value l.depth) n l.reader))
+    × (length l.reader ≤ length l.initial.reader)
+    × (l.refused ≡ true → keys_permitted found ≡ false)
+    × IfSome l.kept (λ k. HasRefused k.now found)
+
+abbrev pub decreases-pass_members-members : goal.decreases-pass_members-members
+decreases-pass_members-members l = length l.reader

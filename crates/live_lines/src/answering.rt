@@ -1,0 +1,112 @@
+//! A line is answered.
+ghost use Rattle.std.specs.Prelude.{◌≡◌, ◌≤◌, ◌<◌, ◌++◌, ℕ, List, OnOk, length, string_bytes};
+ghost use Rattle.trace_reader.specs.Said.{a_swap, said};
+ghost use Rattle.run_steps.specs.Items.{IsFor};
+ghost use Rattle.page_live.specs.Page.{IsAlive};
+ghost use Rattle.live_lines.specs.Transcript.{Answered, Answers, Replies, ReportsOn, Stands};
+
+use code_units::Memory;
+use event_loop::Event;
+use host_io::Files;
+use live_text::{Cause, Request, RequestFault, push_refused, read_request};
+use page_live::Session;
+use run_steps::{FILE_LIMIT, Stop, read_file};
+use slot_check::SourceFile;
+use std::alloc::Global;
+use trace_reader::TraceItem;
+use widget_host::HostItem;
+
+/// The bytes that a line may have.
+pub const LINE_LIMIT: usize = 1_048_576;
+
+/// The swaps that a page may take.
+const MOST_SWAPS: usize = 4;
+
+/// Appends the answer to a line. The only error is want of memory; then the session is of no use any more.
+pub fn answer_line<F: Files>(
+    alloc: Global,
+    session: &mut Session,
+    line: &[u8],
+    files: &mut F,
+    out: &mut Vec<u8>,
+) -> Result<(), Memory>
+    requires stands { Stands session.old }
+    requires room { session.old.page.taken < 4096 }
+    ensures answered { OnOk result (Answered (F.told files.old) (λ parts pairs runs m s bytes t. Answers parts pairs runs m line.now s bytes t) session.old session.new out.old.items out.new.items) }
+    ensures told { F.told files.new ≡ F.told files.old }
+{
+    if line.len() > LINE_LIMIT {
+        return push_refused(Cause::TooLong, out);
+    }
+    match read_request(alloc, line, &session.page.findings.names) {
+        Ok(Request::Item(item)) => answer_item(alloc, session, item, files, out),
+        Ok(Request::Report) => answer_report(alloc, session, out),
+        Err(RequestFault::NotJson) => push_refused(Cause::NotJson, out),
+        Err(RequestFault::BadShape) => push_refused(Cause::BadShape, out),
+        Err(RequestFault::Memory) => Err(Memory),
+    }
+}
+
+// Appends the report.
+fn answer_report(alloc: Global, session: &Session, out: &mut Vec<u8>) -> Result<(), Memory>
+    requires alive { IsAlive session.now.page }
+    ensures { OnOk result ((bytes : List ℕ) × (out.new.items ≡ out.old.items ++ bytes) × ReportsOn session.now.page bytes) }
+{
+    let bytes = session.page.report(alloc)?;
+    out.extend_from_slice(&bytes)?;
+    Ok(())
+}
+
+// Appends the answer to an item.
+fn answer_item<F: Files>(
+    alloc: Global,
+    session: &mut Session,
+    item: TraceItem,
+    files: &mut F,
+    out: &mut Vec<u8>,
+) -> Result<(), Memory>
+    requires stands { Stands session.old }
+    requires room { session.old.page.taken < 4096 }
+    requires shape { IsFor (length session.old.page.findings.names.items) (said item) }
+    ensures answered { OnOk result (Answered (F.told files.old) (λ parts pairs runs m s bytes t. Replies parts pairs runs m (said item) s bytes t) session.old session.new out.old.items out.new.items) }
+    ensures told { F.told files.new ≡ F.told files.old }
+{
+    match item {
+        TraceItem::Event { to, event } => {
+            let event = Event {
+                kind: event.kind,
+                path: event.path,
+                value: event.value,
+            };
+            session.take(alloc, HostItem::Event { to, event }, out)
+        }
+        TraceItem::Advance(ms) => session.take(alloc, HostItem::Advance(ms), out),
+        TraceItem::Swap { to, file } => answer_swap(alloc, session, to, file, files, out),
+    }
+}
+
+// Appends the answer to a swap.
+fn answer_swap<F: Files>(
+    alloc: Global,
+    session: &mut Session,
+    to: u32,
+    name: String,
+    files: &mut F,
+    out: &mut Vec<u8>,
+) -> Result<(), Memory>
+    requires stands { Stands session.old }
+    requires room { session.old.page.taken < 4096 }
+    requires there { to < length session.old.page.findings.names.items }
+    ensures answered { OnOk result (Answered (F.told files.old) (λ parts pairs runs m s bytes t. Replies parts pairs runs m (a_swap to (string_bytes name)) s bytes t) session.old session.new out.old.items out.new.items) }
+    ensures told { F.told files.new ≡ F.told files.old }
+{
+    if session.page.findings.swaps.slots.len() >= MOST_SWAPS {
+        return push_refused(Cause::BadShape, out);
+    }
+    match read_file(alloc, name.as_str(), FILE_LIMIT, files) {
+        Ok(bytes) => session.swap(alloc, to, &SourceFile { name, bytes }, out),
+        Err(Stop::TooLarge) => push_refused(Cause::TooLarge, out),
+        Err(Stop::ReadFault) => push_refused(Cause::NoFile, out),
+        Err(_) => Err(Memory),
+    }
+}
