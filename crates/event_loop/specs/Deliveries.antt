@@ -29,7 +29,8 @@ abbrev pub here_or : ℕ → List ℕ → Option (ℕ × List ℕ) → Option (�
 here_or n [] above = above
 here_or n (f ∷ fs) above = Some (n, f ∷ fs)
 
--- the nearest node at or above one that listens to a type, with its functions, within so many steps
+-- the nearest node at or above one that listens to a type, with its functions, within so many steps; trees of widgets are at
+-- most 201 high, so `most` steps find it
 abbrev pub nearest : ℕ → List Entry → ℕ → Loop → Option ℕ → List ℕ → Option (ℕ × List ℕ)
 nearest f k r l None kind = None
 nearest zero k r l (Some n) kind = None

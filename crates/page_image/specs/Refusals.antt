@@ -1,4 +1,5 @@
--- When a widget gets no new nodes. Memory may be wanted at any time.
+-- When a widget gets no new nodes: it would have more than 16384 (`max_nodes` of the meaning), or a tree would be higher than
+-- 201, a node with 200 above it (`max_node_depth`). Memory may be wanted at any time.
 use Rattle.std.specs.Prelude.{◌≡◌, ℕ, ◌+◌, ◌<◌, ◌≤◌}
 use Rattle.plain_tree.specs.Trees.{PlainTrees, height, size}
 use Rattle.page_tree.specs.declared.fault.PageFault.{PageFault}

@@ -17,7 +17,7 @@ is_text_at ts n = option_map_or is_text (label_of n ts) false
 abbrev pub is_void_at : Trees ℕ → ℕ → Bool
 is_void_at ts n = names.is_void (unwrap_or (option_and_then tag_of (label_of n ts)) [])
 
--- whether a node may go under a target: it is no root, stands not at or above it, and nothing gets over 200 nodes above it
+-- whether a node may go under a target: it is no root, stands not at or above it, and nothing gets over 200 nodes above it (`max_node_depth` of the meaning)
 abbrev pub may_go : Trees ℕ → ℕ → ℕ → Bool
 may_go ts t n = not (nat_eq n 0) && not (has t (subtree n ts)) && nat_le (depth_of t ts + height (subtree n ts)) 200
 

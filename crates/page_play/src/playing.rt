@@ -52,6 +52,7 @@ pub fn play(
     }
     let mut chooser = RoundRobin::new(alloc, ASKS)?;
     host.rounds(alloc, &mut chooser, slice)?;
+    // Its clause says that what the chooser was asked took turns, as `settled` does.
     let _ = chooser.asks();
     Ok(host)
 }

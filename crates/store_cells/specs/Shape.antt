@@ -161,7 +161,7 @@ pub record IsVariable (cs : List NumberedCell) (n i : ℕ) : Type 0 where
   pub scope : scope_at (heads cs) from ≡ true
   pub found : numbered_holder cs from n ≡ Some i
 
--- No cell was written.
+-- No cell was written, though names may have come. (`Kept` of `js_image` is what a call keeps for its widget.)
 pub record Kept (old : List (List ℕ)) (cs : List NumberedCell) (new : List (List ℕ)) (after : List NumberedCell)
     : Type 0 where
   pub done : cells_of new after ≡ cells_of old cs

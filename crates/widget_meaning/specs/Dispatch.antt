@@ -28,7 +28,7 @@ nearest_from zero s (Some n) kind = None
 nearest_from (suc m) s (Some n) kind =
     here_or_above n (listening s n kind) (λ _. nearest_from m s (parent n s.own.forest) kind)
 
--- the nearest of all: no node has more above it than the limit
+-- the nearest of all: no tree of a widget is higher than the limit and one, so a way up never meets this bound
 abbrev pub nearest : State → Option ℕ → List ℕ → Option (ℕ × List ℕ)
 nearest s o kind = nearest_from (max_node_depth + 1) s o kind
 

@@ -10,7 +10,7 @@ max_cells = 524288
 abbrev pub max_slots : ℕ
 max_slots = 1048576
 
--- text units over its life
+-- units over its life: what the texts that it made cost, one each
 abbrev pub max_units : ℕ
 max_units = 2097152
 
@@ -50,7 +50,7 @@ min_radix = 2
 abbrev pub max_radix : ℕ
 max_radix = 36
 
--- the first number past the 16-bit units
+-- the first number past the code units of texts, which have 16 bits (no limit of a widget)
 abbrev pub past_units : ℕ
 past_units = 2 ^ 16
 

@@ -35,6 +35,7 @@ pub record Handler : Type 0 where
   pub func : ℕ
 
 -- what is kept with a node: its handlers in order of listening, its mark, and whether it is protected
+-- (`Kept` of `js_image` is another record: what a call keeps)
 pub record Kept : Type 0 where
   pub handlers : List Handler
   pub mark : List ℕ
@@ -173,7 +174,7 @@ with_scope s n c = with_own s (record s.own { scopes = slice_set s.own.scopes n 
 abbrev pub with_forest : State → Trees → State
 with_forest s t = with_own s (record s.own { forest = t })
 
--- with other notes of one node
+-- with something else kept with one node
 abbrev pub with_kept : State → ℕ → Kept → State
 with_kept s n k = with_own s (record s.own { kept = slice_set s.own.kept n k })
 

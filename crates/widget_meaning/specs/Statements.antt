@@ -124,7 +124,7 @@ choose_case v all (c ∷ cs) p s =
     case_test c.0 p s (λ w t. if is_same v w then statements (c.1 ++ bodies cs) p t else choose_case v all cs p t)
     (choose_case v all cs p s)
 
--- after the test of a clause
+-- what `choose_case` does after the test of a clause, by how the test ended: for the laws, which name what comes after each part
 abbrev pub case_tested : Value → List Case → List Stmt → List Case → Place → Completion → State → Plan
 case_tested v all b cs p o s =
     on_value o s (λ w. if is_same v w then statements (b ++ bodies cs) p s else choose_case v all cs p s)
