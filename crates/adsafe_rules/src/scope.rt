@@ -28,7 +28,7 @@ impl Scope {
 }
 
 /// Why a tree is not accepted.
-#[derive(Clone, Copy, PartialEq, Eq, Debug, Drop)]
+#[derive(Clone, Copy, PartialEq, Eq, Drop)]
 pub enum CheckFault {
     /// The first broken rule, from 2 to 19, and its place.
     Broken { rule: u8, at: usize },

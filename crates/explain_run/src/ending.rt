@@ -3,7 +3,7 @@ ghost use Rattle.std.specs.Prelude.{◌≡◌};
 ghost use Rattle.explain_run.specs.Numbers.{number_of};
 
 /// The status of a run: that of `check`, or of `check-lib`, on the same files.
-#[derive(Clone, Copy, Debug, PartialEq, Eq)]
+#[derive(Clone, Copy, PartialEq, Eq)]
 pub enum Status {
     /// No slot, or not the library, breaks a rule.
     Ok,

@@ -3,7 +3,7 @@ use code_units::Memory;
 use std::alloc::{AllocError, AllocFailed};
 
 /// Which token is refused, by its index, or want of memory.
-#[derive(Debug, Drop)]
+#[derive(Drop)]
 pub enum Refusal {
     Syntax(usize),
     TooDeep(usize),

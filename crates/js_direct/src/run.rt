@@ -56,7 +56,7 @@ pub(crate) struct Run {
 }
 
 /// How a form ended; its value is at the place that its caller gave.
-#[derive(Clone, Copy, PartialEq, Eq, Debug, Drop)]
+#[derive(Clone, Copy, PartialEq, Eq, Drop)]
 pub(crate) enum Ended {
     Normal,
     Is,

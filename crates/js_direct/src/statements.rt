@@ -35,7 +35,7 @@ use js_values::is_true;
 use object_store::{Store, Value};
 
 /// What a statement does with the value of its expression.
-#[derive(Clone, Copy, PartialEq, Eq, Debug, Drop)]
+#[derive(Clone, Copy, PartialEq, Eq, Drop)]
 pub(crate) enum After {
     Nothing,
     Return,
@@ -43,7 +43,7 @@ pub(crate) enum After {
 }
 
 /// The first part of a `for`, or its last.
-#[derive(Clone, Copy, PartialEq, Eq, Debug, Drop)]
+#[derive(Clone, Copy, PartialEq, Eq, Drop)]
 pub(crate) enum Part {
     First,
     Last,

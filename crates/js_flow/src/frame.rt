@@ -157,7 +157,7 @@ pub struct Gathering {
 }
 
 /// What is kept of calls: of `forEach` nothing, of `map` the results, of `filter` the items with a true result.
-#[derive(Clone, Copy, PartialEq, Eq, Debug, Drop)]
+#[derive(Clone, Copy, PartialEq, Eq, Drop)]
 pub enum Keep {
     Nothing,
     Results,

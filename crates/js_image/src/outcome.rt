@@ -3,7 +3,7 @@
 use object_store::{CellId, FunParts, NativeId};
 
 /// Why a widget stops for good, beside want of fuel.
-#[derive(Clone, Copy, PartialEq, Eq, Debug, Drop)]
+#[derive(Clone, Copy, PartialEq, Eq, Drop)]
 pub enum StopCause {
     /// A result is outside the numbers.
     Number,
@@ -22,7 +22,7 @@ pub enum StopCause {
 }
 
 /// A fault that the language throws.
-#[derive(Clone, Copy, PartialEq, Eq, Debug, Drop)]
+#[derive(Clone, Copy, PartialEq, Eq, Drop)]
 pub enum Fault {
     /// No property of undefined or null.
     E1,

@@ -24,7 +24,7 @@ pub enum Stepped {
 }
 
 /// Why a call stops.
-#[derive(Clone, Copy, PartialEq, Eq, Debug, Drop)]
+#[derive(Clone, Copy, PartialEq, Eq, Drop)]
 pub enum Stop {
     Fuel,
     Due(StopCause),

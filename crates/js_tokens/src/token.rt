@@ -3,7 +3,7 @@ use std::alloc::{AllocError, AllocFailed};
 use thiserror::Error;
 
 /// What a token is.
-#[derive(Clone, Copy, PartialEq, Eq, Debug, Drop)]
+#[derive(Clone, Copy, PartialEq, Eq, Drop)]
 pub enum TokenKind {
     /// A name that is not reserved.
     Name,
@@ -18,7 +18,7 @@ pub enum TokenKind {
 }
 
 /// A token of a text: the bytes from `from` up to and without `to`.
-#[derive(Clone, Copy, PartialEq, Eq, Debug, Drop)]
+#[derive(Clone, Copy, PartialEq, Eq, Drop)]
 pub struct Token {
     pub kind: TokenKind,
     pub from: usize,

@@ -2,15 +2,15 @@
 use code_units::Text;
 
 /// The number of an expression.
-#[derive(Clone, Copy, PartialEq, Eq, Debug, Drop)]
+#[derive(Clone, Copy, PartialEq, Eq, Drop)]
 pub struct ExprId(pub u32);
 
 /// The number of a statement.
-#[derive(Clone, Copy, PartialEq, Eq, Debug, Drop)]
+#[derive(Clone, Copy, PartialEq, Eq, Drop)]
 pub struct StmtId(pub u32);
 
 /// The number of a function.
-#[derive(Clone, Copy, PartialEq, Eq, Debug, Drop)]
+#[derive(Clone, Copy, PartialEq, Eq, Drop)]
 pub struct FunId(pub u32);
 
 /// A reserved word that is an expression.

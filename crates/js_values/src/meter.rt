@@ -5,7 +5,7 @@ use std::marker::Model;
 
 /// The fuel that is left of a grant, and all that was spent. What a meter hands out it counts, so
 /// the sum of the two stays; it is at most 2^64-1.
-#[derive(Clone, Copy, PartialEq, Eq, Debug, Drop)]
+#[derive(Clone, Copy, PartialEq, Eq, Drop)]
 pub struct Meter {
     left: u32,
     spent: u64,
@@ -25,7 +25,7 @@ impl Model for Meter {
 }
 
 /// Fuel was asked for that is not there.
-#[derive(Clone, Copy, PartialEq, Eq, Debug, Drop)]
+#[derive(Clone, Copy, PartialEq, Eq, Drop)]
 pub struct OutOfFuel {
     pub left: u32,
     pub asked: u32,

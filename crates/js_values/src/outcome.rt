@@ -16,7 +16,7 @@ pub enum OpOut {
 }
 
 /// How two primitives stand to each other.
-#[derive(Clone, Copy, PartialEq, Eq, Debug, Drop)]
+#[derive(Clone, Copy, PartialEq, Eq, Drop)]
 pub enum Compared {
     /// The left is before the right.
     Less,
@@ -69,7 +69,7 @@ pub enum Plan {
 }
 
 /// What is kept of calls: of `forEach` nothing, of `map` the results, of `filter` the items with a true result.
-#[derive(Clone, Copy, PartialEq, Eq, Debug, Drop)]
+#[derive(Clone, Copy, PartialEq, Eq, Drop)]
 pub enum Keep {
     Nothing,
     Results,

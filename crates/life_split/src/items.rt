@@ -1,7 +1,7 @@
 //! Items of a trace as a cut sees them, and lives.
 
 /// An item: an event to a slot, an advance to all, or a swap of a slot's file.
-#[derive(Clone, Copy, PartialEq, Eq, Debug)]
+#[derive(Clone, Copy, PartialEq, Eq)]
 pub enum LifeItem {
     To(u32),
     All,

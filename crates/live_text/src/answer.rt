@@ -8,7 +8,7 @@ use code_units::Memory;
 use itoa::Buffer;
 
 /// Why a line is refused.
-#[derive(Clone, Copy, PartialEq, Eq, Debug)]
+#[derive(Clone, Copy, PartialEq, Eq)]
 pub enum Cause {
     /// Its bytes are no JSON.
     NotJson,

@@ -14,7 +14,7 @@ ghost use Rattle.plain_tree.specs.Plains.{Places};
 ghost use Rattle.plain_tree.specs.Trees.{Trees};
 
 /// What the grammar sees of a character.
-#[derive(Clone, Copy, PartialEq, Eq, Debug, Drop)]
+#[derive(Clone, Copy, PartialEq, Eq, Drop)]
 pub enum Sign {
     Less,
     Greater,

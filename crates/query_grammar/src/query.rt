@@ -45,7 +45,7 @@ pub enum Filter {
 }
 
 /// A filter on the list of nodes that were found.
-#[derive(Clone, Copy, PartialEq, Eq, Debug, Drop)]
+#[derive(Clone, Copy, PartialEq, Eq, Drop)]
 pub enum ListFilter {
     /// The first.
     First,

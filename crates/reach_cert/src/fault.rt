@@ -3,7 +3,7 @@ use code_units::Memory;
 use std::alloc::AllocFailed;
 
 /// Why bytes gave no certificate.
-#[derive(Clone, Copy, PartialEq, Eq, Debug, Drop)]
+#[derive(Clone, Copy, PartialEq, Eq, Drop)]
 pub enum CertFault {
     /// No certificate begins with the lines up to and with this one, counted from 1; or it is the
     /// line after the last, where the lines begin a certificate and are none.

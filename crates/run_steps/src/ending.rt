@@ -6,7 +6,7 @@ ghost use Rattle.run_steps.specs.Ends.{status_of};
 use crate::reading::Stop;
 
 /// The status of a run.
-#[derive(Clone, Copy, Debug, PartialEq, Eq)]
+#[derive(Clone, Copy, PartialEq, Eq)]
 pub enum Status {
     /// The report is written, no life or library of it breaks a rule, and the certificate is confined.
     Ok,

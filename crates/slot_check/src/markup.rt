@@ -8,7 +8,7 @@ use std::alloc::Global;
 use widget_form::{Form, FormFault, split};
 
 /// Why a widget file is not accepted.
-#[derive(Clone, Copy, PartialEq, Eq, Debug, Drop)]
+#[derive(Clone, Copy, PartialEq, Eq, Drop)]
 pub enum CheckMarkupFault {
     /// The first broken rule, from 1 to 12, and its place: a byte offset.
     Broken { rule: u8, at: usize },

@@ -3,7 +3,7 @@ use code_units::{Memory, Text};
 use plain_tree::Plain;
 
 /// Where the text of a script stands in its file, as byte offsets.
-#[derive(Clone, Copy, PartialEq, Eq, Debug, Drop)]
+#[derive(Clone, Copy, PartialEq, Eq, Drop)]
 pub struct Span {
     pub from: usize,
     pub to: usize,
@@ -25,7 +25,7 @@ pub struct Form {
 }
 
 /// Why a file has no form.
-#[derive(Clone, Copy, PartialEq, Eq, Debug, Drop)]
+#[derive(Clone, Copy, PartialEq, Eq, Drop)]
 pub enum FormFault {
     /// The first broken rule, from 2 to 12, and the byte offset at which it is.
     BadForm { rule: u8, at: usize },
