@@ -2,7 +2,6 @@
 ghost use Rattle.std.specs.Prelude.{◌≡◌, false, ◌+◌, MatchOption, IfSome, unwrap_or, slice_index, IfOk, IfErr, OnOk, OnErr, ◌∷◌, ◌++◌, ◌<◌, ◌≤◌, length, take, drop, IsUtf8, encode_utf8};
 ghost use Rattle.std.specs.Vec.{vec_len};
 ghost use Rattle.std.specs.Char.Utf16.{has_unpaired_surrogate, utf16_lossy_chars, lone_unit_char, surrogate_pair_char};
-ghost use Rattle.std.specs.Str.{IsValidUpTo};
 ghost use Rattle.code_units.specs.declared.utf8.TextFault.TheVariants.{Memory as out_of_memory};
 ghost use Rattle.code_units.specs.Utf8.{units_of, utf8_of, IsSurrogatePair, IsTextFault};
 
@@ -28,16 +27,6 @@ impl From<Memory> for TextFault {
 
     fn from(_: Memory) -> TextFault {
         TextFault::Memory
-    }
-}
-
-/// The first byte of the first ill-formed sequence of UTF-8; none exactly where the bytes are UTF-8.
-pub fn utf8_fault(bytes: &[u8]) -> Option<usize>
-    ensures { MatchOption result (IsUtf8 bytes.now) (IsValidUpTo bytes.now) }
-{
-    match str::from_utf8(bytes) {
-        Ok(_) => None,
-        Err(fault) => Some(fault.valid_up_to()),
     }
 }
 

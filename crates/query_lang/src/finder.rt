@@ -19,7 +19,7 @@ use query_walks::order::in_order;
 use std::alloc::Global;
 
 // The most filters of a step that are tried one by one.
-const FEW: usize = 8;
+const FEW: usize = 32;
 
 // Keeps a node if it passes.
 fn keep_one(

@@ -17,5 +17,6 @@ abbrev pub all_needed : List ℕ → List Ref → ℕ
 all_needed name [] = 0
 all_needed name (ref ∷ refs) = max (needed name ref) (all_needed name refs)
 
+-- so many that none of a line's references does
 abbrev pub row_needed : List ℕ → Row → ℕ
 row_needed name row = all_needed name row.refs

@@ -83,7 +83,9 @@ fn judge_block<'a>(
     lines: &mut Lines<'a>,
 ) -> Result<Option<u32>, CertFault>
     requires { text_is (codes "end") lines.old.lines ≡ false }
-    ensures block { IfOk result (λ leak. (slot : Slot) × IsBlock (words_of names.old.items) (words_of names.new.items) lines.old lines.new slot × IsLeak lines.old.number lines.new.number (slot_leaks slot) leak) }
+    ensures block { IfOk result (λ leak. (slot : Slot)
+        × IsBlock (words_of names.old.items) (words_of names.new.items) lines.old lines.new slot
+        × IsLeak lines.old.number lines.new.number (slot_leaks slot) leak) }
     ensures fault { IfErr result (λ e. (slots : List Slot) → words_of names.old.items ≡ map slot_name slots → Refuses (Between slots) lines.old e) }
 {
     if let Some(word) = text_behind(b"refused ", lines) {

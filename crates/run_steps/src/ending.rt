@@ -24,7 +24,7 @@ pub enum Status {
     ReadFault,
     /// The report could not be written whole.
     WriteFault,
-    /// There was no memory, before anything was written.
+    /// There was no memory; a run has then written nothing, a live page what it answered before.
     Memory,
     /// The certificate that would be written has more bytes than its limit.
     CertTooLarge,
