@@ -27,8 +27,10 @@ pub fn one_answer()
 /// counters of its slots break no rule. The status of an answer is none of a fault, and not that of want of memory.
 pub fn some_answer()
     ensures words { (words : List (List ℕ)) (files : FileMap) → HasFiles words files → IsAnswered (Answer words files) }
-    ensures request { (files : FileMap) (request : Request) → HasFilesFor files request → IsAnswered (RequestAnswer files request) }
-    ensures status { (words : List (List ℕ)) (files : FileMap) (s : Status) (bytes : List ℕ) → Answer words files s bytes → is_answer s ≡ true }
+    ensures request { (files : FileMap) (request : Request) → HasFilesFor files request
+        → IsAnswered (RequestAnswer files request) }
+    ensures status { (words : List (List ℕ)) (files : FileMap) (s : Status) (bytes : List ℕ)
+        → Answer words files s bytes → is_answer s ≡ true }
     ensures demo { (count : ℕ) → (s : Status) × (bytes : List ℕ) × DemoAnswer count s bytes }
 {
     one_slot();

@@ -106,7 +106,8 @@ fn keys_of(alloc: Global, sources: &[SourceFile], swaps: &[SourceFile]) -> Resul
 
 // Appends the bytes of files.
 fn push_bytes<'a>(sources: &'a [SourceFile], files: &mut Vec<&'a [u8]>) -> Result<(), Memory>
-    ensures { OnOk result (map (λ f. f.now) files.new.items ≡ map (λ f. f.now) files.old.items ++ map (λ s. s.bytes) (sources_of sources.now)) }
+    ensures { OnOk result (map (λ f. f.now) files.new.items
+        ≡ map (λ f. f.now) files.old.items ++ map (λ s. s.bytes) (sources_of sources.now)) }
 {
     'sources: for source in sources {
         files.push(source.bytes.as_slice())?;
@@ -117,8 +118,11 @@ fn push_bytes<'a>(sources: &'a [SourceFile], files: &mut Vec<&'a [u8]>) -> Resul
 /// The report on a page that ran: its lines and the page, or its certificate.
 pub fn report_ran(alloc: Global, ran: Ran, writes: Writes) -> Result<Report, Stop>
     requires { HasRun ran }
-    ensures answer { IfOk result (λ r. (manifest : ManifestOf) (sources : List Source) (items : List TraceItemOf) (files : List Source) (slice : ℕ)
-        → IsRan manifest sources items files slice ran → PlayAnswer writes manifest sources items files (ending r.refused) r.bytes.items) }
+    ensures answer { IfOk result
+        (λ r. (manifest : ManifestOf) (sources : List Source) (items : List TraceItemOf) (files : List Source)
+        (slice : ℕ)
+        → IsRan manifest sources items files slice ran
+        → PlayAnswer writes manifest sources items files (ending r.refused) r.bytes.items) }
     ensures host { IfOk result (λ r. r.host ≡ Some ran.host) }
     ensures confined { writes ≡ Writes.Certificate → IfOk result (λ r. IsConfinedText r.bytes.items) }
     ensures stop { IfErr result (IsLateStop ran writes) }
@@ -136,8 +140,11 @@ pub fn report_ran(alloc: Global, ran: Ran, writes: Writes) -> Result<Report, Sto
 // What is written of a page that ran.
 fn text_of(alloc: Global, ran: &Ran, writes: Writes) -> Result<Vec<u8>, Stop>
     requires { HasRun ran.now }
-    ensures answer { IfOk result (λ bytes. (manifest : ManifestOf) (sources : List Source) (items : List TraceItemOf) (files : List Source) (slice : ℕ)
-        → IsRan manifest sources items files slice ran.now → PlayAnswer writes manifest sources items files (ending (found_refused ran.now.findings)) bytes.items) }
+    ensures answer { IfOk result
+        (λ bytes. (manifest : ManifestOf) (sources : List Source) (items : List TraceItemOf) (files : List Source)
+        (slice : ℕ)
+        → IsRan manifest sources items files slice ran.now
+        → PlayAnswer writes manifest sources items files (ending (found_refused ran.now.findings)) bytes.items) }
     ensures confined { writes ≡ Writes.Certificate → IfOk result (λ bytes. IsConfinedText bytes.items) }
     ensures stop { IfErr result (IsLateStop ran.now writes) }
 {
@@ -150,8 +157,12 @@ fn text_of(alloc: Global, ran: &Ran, writes: Writes) -> Result<Vec<u8>, Stop>
 // The certificate of a page that ran, if it is within the limit.
 fn certificate_of(alloc: Global, ran: &Ran) -> Result<Vec<u8>, Stop>
     requires { HasRun ran.now }
-    ensures answer { IfOk result (λ bytes. (manifest : ManifestOf) (sources : List Source) (items : List TraceItemOf) (files : List Source) (slice : ℕ)
-        → IsRan manifest sources items files slice ran.now → PlayAnswer Writes.Certificate manifest sources items files (ending (found_refused ran.now.findings)) bytes.items) }
+    ensures answer { IfOk result
+        (λ bytes. (manifest : ManifestOf) (sources : List Source) (items : List TraceItemOf) (files : List Source)
+        (slice : ℕ)
+        → IsRan manifest sources items files slice ran.now
+        → PlayAnswer Writes.Certificate manifest sources items files
+        (ending (found_refused ran.now.findings)) bytes.items) }
     ensures confined { IfOk result (λ bytes. IsConfinedText bytes.items) }
     ensures stop { IfErr result (IsLateStop ran.now Writes.Certificate) }
 {

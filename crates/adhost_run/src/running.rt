@@ -47,7 +47,8 @@ pub fn run<F: Files, S: Sink>(
     ensures still { writes result ≡ false → sink.new ≡ sink.old }
 
     // The certificate that `audit` writes is confined.
-    ensures confined { AsksAudit (texts words.now) → is_whole result ≡ true → Wrote IsConfinedText (S.held sink.old) (S.held sink.new) }
+    ensures confined { AsksAudit (texts words.now) → is_whole result ≡ true
+        → Wrote IsConfinedText (S.held sink.old) (S.held sink.new) }
 
     // The host of a page that ran is left in the stage, with all that was done; otherwise none is.
     ensures left { writes result ≡ true → IfSome (F.told files.old) (λ m. Leaves (texts words.now) m stage.new) }
@@ -75,7 +76,8 @@ pub fn exit_number<F: Files, S: Sink>(
     files: &mut F,
     sink: &mut S,
 ) -> u8
-    ensures { IsRunNumber F.told F.calm F.faults S.held S.takes S.faults (texts words.now) files.old files.new sink.old sink.new result }
+    ensures { IsRunNumber F.told F.calm F.faults S.held S.takes S.faults
+        (texts words.now) files.old files.new sink.old sink.new result }
 {
     let mut stage = None;
     let status = run(alloc, words, files, sink, &mut stage);

@@ -32,7 +32,8 @@ pub fn run_page<F: Files>(
 ) -> Result<Report, Stop>
     requires some { 1 ≤ way.slice }
     ensures answered { Answered F.told F.calm F.faults files.old files.new result
-        (λ m. ReplayAnswer m name.now (option_copied trace.entry) way.writes) (λ m. HasRunFiles m name.now (option_copied trace.entry)) }
+        (λ m. ReplayAnswer m name.now (option_copied trace.entry) way.writes)
+        (λ m. HasRunFiles m name.now (option_copied trace.entry)) }
     ensures left { IsLeft (F.told files.old) result (λ m. LeftByPage m name.now (option_copied trace.entry) way.slice) }
     ensures confined { way.writes ≡ Writes.Certificate → IfOk result (λ r. IsConfinedText r.bytes.items) }
 {
@@ -52,8 +53,10 @@ fn run_manifest<F: Files>(
     requires some { 1 ≤ way.slice }
     requires fit { IsFit manifest }
     ensures answered { Answered F.told F.calm F.faults files.old files.new result
-        (λ m. FromManifest m (option_copied trace.entry) way.writes manifest) (λ m. HasSources m (option_copied trace.entry) manifest) }
-    ensures left { IsLeft (F.told files.old) result (λ m. LeftByManifest m (option_copied trace.entry) way.slice manifest) }
+        (λ m. FromManifest m (option_copied trace.entry) way.writes manifest)
+        (λ m. HasSources m (option_copied trace.entry) manifest) }
+    ensures left { IsLeft (F.told files.old) result
+        (λ m. LeftByManifest m (option_copied trace.entry) way.slice manifest) }
     ensures confined { way.writes ≡ Writes.Certificate → IfOk result (λ r. IsConfinedText r.bytes.items) }
 {
     let sources = files_of(alloc, &manifest, files)?;
@@ -74,8 +77,10 @@ fn run_sources<F: Files>(
     requires many { length sources.now ≡ length (files_named manifest) }
     requires small { All IsSmall sources.now }
     ensures answered { Answered F.told F.calm F.faults files.old files.new result
-        (λ m. FromFiles m (option_copied trace.entry) way.writes manifest (sources_of sources.now)) (λ m. HasTraceFiles m (slot_names manifest.entries.items) (option_copied trace.entry)) }
-    ensures left { IsLeft (F.told files.old) result (λ m. LeftByFiles m (option_copied trace.entry) way.slice manifest (sources_of sources.now)) }
+        (λ m. FromFiles m (option_copied trace.entry) way.writes manifest (sources_of sources.now))
+        (λ m. HasTraceFiles m (slot_names manifest.entries.items) (option_copied trace.entry)) }
+    ensures left { IsLeft (F.told files.old) result
+        (λ m. LeftByFiles m (option_copied trace.entry) way.slice manifest (sources_of sources.now)) }
     ensures confined { way.writes ≡ Writes.Certificate → IfOk result (λ r. IsConfinedText r.bytes.items) }
 {
     let names = slot_names(alloc, &manifest.entries)?;
@@ -100,8 +105,10 @@ fn run_items<F: Files>(
     requires small { All IsSmall sources.now }
     requires named { names.items ≡ slot_names manifest.entries.items }
     ensures answered { Answered F.told F.calm F.faults files.old files.new result
-        (λ m. FromItems m way.writes manifest (sources_of sources.now) items.items) (λ m. ComesThrough m file_limit (swap_files items.items)) }
-    ensures left { IsLeft (F.told files.old) result (λ m. LeftByItems m way.slice manifest (sources_of sources.now) items.items) }
+        (λ m. FromItems m way.writes manifest (sources_of sources.now) items.items)
+        (λ m. ComesThrough m file_limit (swap_files items.items)) }
+    ensures left { IsLeft (F.told files.old) result
+        (λ m. LeftByItems m way.slice manifest (sources_of sources.now) items.items) }
     ensures confined { way.writes ≡ Writes.Certificate → IfOk result (λ r. IsConfinedText r.bytes.items) }
 {
     let swaps = swaps_of(alloc, &items, files)?;

@@ -26,7 +26,8 @@ pub enum Named {
 /// The name of a property of an object: a permitted text or a whole number.
 pub(crate) fn name_of(alloc: Global, object: &Value, name: &Value) -> Result<Named, Memory>
     ensures { IfOk result (λ n. (w : ℕ) (cells : List PlainCell) (s : State) (k : List ℕ → Plan)
-        → costs.want meaning.E4 (meaning.is_object (seen w cells object.now)) s (means.want_name (seen w cells name.now) s k) ≡ named_plan n s k) }
+        → costs.want meaning.E4 (meaning.is_object (seen w cells object.now)) s
+        (means.want_name (seen w cells name.now) s k) ≡ named_plan n s k) }
 {
     if !is_object(object) {
         return Ok(Named::Refused(Fault::E4));
@@ -40,7 +41,8 @@ pub(crate) fn name_of(alloc: Global, object: &Value, name: &Value) -> Result<Nam
 
 // A name that is permitted.
 fn allowed(name: Text) -> Named
-    ensures { (s : State) (k : List ℕ → Plan) → costs.want meaning.E8 (is_permitted name) s (k name) ≡ named_plan result s k }
+    ensures { (s : State) (k : List ℕ → Plan)
+        → costs.want meaning.E8 (is_permitted name) s (k name) ≡ named_plan result s k }
 {
     if permitted(&name) {
         Named::Name(name)

@@ -22,7 +22,8 @@ use object_store::{CellId, NativeId, Store, Value};
 use std::alloc::Global;
 
 /// Calls a native of `ADSAFE`, or `hasOwnProperty`, whose unit was taken: the answer is the row of the
-/// language. `waiting` timers wait; what `later` asks for is left in `asked`, with a function of the widget; `log` is the widget's log,
+/// language. `waiting` timers wait; what `later` asks for is left in `asked`, with a function of the widget;
+/// `log` is the widget's log,
 /// and `posts` are the posts that it has kept, each with receiver and text.
 pub fn call(
     alloc: Global,
@@ -47,7 +48,8 @@ pub fn call(
         MeetsNoted (number_in owner) waiting store.old store.new meter.old meter.new
         (record { log = log.old.items; posts = posts.old.items; asked = None })
         (record { log = log.new.items; posts = posts.new.items; asked = asked.new })
-        (run_native which (receiver (number_in owner) store.old.cells this.now) (all_seen (number_in owner) store.old.cells args.now)) o) }
+        (run_native which (receiver (number_in owner) store.old.cells this.now)
+        (all_seen (number_in owner) store.old.cells args.now)) o) }
     ensures memory { OnErr result ((fs : List Forest) → Kept fs (number_in owner) store.old store.new) }
 {
     let Owner::Widget(w) = owner else {

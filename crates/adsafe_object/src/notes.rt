@@ -47,7 +47,8 @@ pub(crate) fn log(
     requires { w < 32 }
     ensures native { IfOk result (λ o. (waiting : ℕ) (posts : List (List ℕ × List ℕ)) →
         MeetsNoted w waiting store.old store.new meter.old meter.new
-        (record { log = log.old.items; posts = posts; asked = None }) (record { log = log.new.items; posts = posts; asked = None })
+        (record { log = log.old.items; posts = posts; asked = None })
+        (record { log = log.new.items; posts = posts; asked = None })
         (λ d s. means.log_native (seen w store.old.cells v.now) s) o) }
     ensures memory { OnErr result ((fs : List Forest) → Kept fs w store.old store.new) }
 {
@@ -76,8 +77,10 @@ fn append(store: &mut Store, w: u32, text: Text, log: &mut Vec<Text>) -> Result<
     requires { w < 32 }
     ensures ends { IfOk result (λ o. (waiting : ℕ) (posts : List (List ℕ × List ℕ)) →
         EndsNoted w waiting store.old store.new
-        (record { log = log.old.items; posts = posts; asked = None }) (record { log = log.new.items; posts = posts; asked = None })
-        (λ d s. costs.pay (costs.units_cost (length text + 1)) s (λ u. costs.give meaning.Undefined (means.with_entry u text))) o) }
+        (record { log = log.old.items; posts = posts; asked = None })
+        (record { log = log.new.items; posts = posts; asked = None })
+        (λ d s. costs.pay (costs.units_cost (length text + 1)) s
+        (λ u. costs.give meaning.Undefined (means.with_entry u text))) o) }
     ensures memory { OnErr result ((fs : List Forest) → Kept fs w store.old store.new) }
 {
     match pay_entry(store, w, text.units().len()) {
@@ -93,7 +96,8 @@ fn append(store: &mut Store, w: u32, text: Text, log: &mut Vec<Text>) -> Result<
 fn pay_entry(store: &mut Store, w: u32, units: usize) -> Paid
     requires { w < 32 }
     ensures plan { (fs : List Forest) (r : Rest) (k : State → Plan)
-        → costs.pay (costs.units_cost (units + 1)) (image fs r w store.old) k ≡ paid_plan result k (image fs r w store.new) }
+        → costs.pay (costs.units_cost (units + 1)) (image fs r w store.old) k
+        ≡ paid_plan result k (image fs r w store.new) }
     ensures kept { (fs : List Forest) → Kept fs w store.old store.new }
 {
     if units >= UNIT_LIMIT as usize {
@@ -114,7 +118,8 @@ pub(crate) fn post(
     requires { w < 32 }
     ensures native { IfOk result (λ o. (waiting : ℕ) (log : List (List ℕ)) →
         MeetsNoted w waiting store.old store.new meter.old meter.new
-        (record { log = log; posts = posts.old.items; asked = None }) (record { log = log; posts = posts.new.items; asked = None })
+        (record { log = log; posts = posts.old.items; asked = None })
+        (record { log = log; posts = posts.new.items; asked = None })
         (λ d s. means.post (seen w store.old.cells to.now) (seen w store.old.cells text.now) s) o) }
     ensures memory { OnErr result ((fs : List Forest) → Kept fs w store.old store.new) }
 {
@@ -145,7 +150,8 @@ fn keep_post(
     requires { w < 32 }
     ensures ends { IfOk result (λ o. (waiting : ℕ) (log : List (List ℕ)) →
         EndsNoted w waiting store.old store.new
-        (record { log = log; posts = posts.old.items; asked = None }) (record { log = log; posts = posts.new.items; asked = None })
+        (record { log = log; posts = posts.old.items; asked = None })
+        (record { log = log; posts = posts.new.items; asked = None })
         (λ d s. means.keep_post to.now text.now s) o) }
     ensures memory { OnErr result ((fs : List Forest) → Kept fs w store.old store.new) }
 {

@@ -66,7 +66,8 @@ pub(crate) fn has_own_property(
 fn shows(store: &Store, v: &Value, name: &Text) -> bool
     requires { IsRefWithin (length store.now.cells) v.now }
     ensures { (fs : List Forest) (r : Rest) (w : ℕ) → IsConfined fs w store.now → IsFine w store.now.cells v.now
-        → result ≡ (is_some (own_property (image fs r w store.now) (seen w store.now.cells v.now) name.now) && is_permitted name.now) }
+        → result ≡ (is_some (own_property (image fs r w store.now)
+        (seen w store.now.cells v.now) name.now) && is_permitted name.now) }
 {
     if !permitted(name) {
         return false;

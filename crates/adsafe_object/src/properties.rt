@@ -52,7 +52,8 @@ pub(crate) fn set(
     requires object { IsFine w store.old.cells object.now }
     requires value { IsFine w store.old.cells value.now }
     ensures ends { IfOk result (λ o. Ends w store.old store.new
-        (λ d s. means.set_native (seen w store.old.cells object.now) (seen w store.old.cells name.now) (seen w store.old.cells value.now) s) o) }
+        (λ d s. means.set_native (seen w store.old.cells object.now) (seen w store.old.cells name.now)
+        (seen w store.old.cells value.now) s) o) }
     ensures memory { OnErr result ((fs : List Forest) → Kept fs w store.old store.new) }
 {
     match name_of(alloc, object, name)? {
@@ -67,7 +68,8 @@ pub(crate) fn set(
 // What a write gives.
 fn written(done: Written) -> NativeOut
     ensures leaves { (see : StoreValue → meaning.Value) (node : ℕ → ℕ) (d : ℕ) (s : State)
-        → see Value.Undefined ≡ meaning.Undefined → Leaves see node d result s (put_plan done (costs.give meaning.Undefined) s) }
+        → see Value.Undefined ≡ meaning.Undefined
+        → Leaves see node d result s (put_plan done (costs.give meaning.Undefined) s) }
     ensures fine { (w : ℕ) (cells : List PlainCell) → IsFineOut w cells result }
 {
     match done {
@@ -100,7 +102,8 @@ pub(crate) fn remove(
 // What is given for a name that was taken out.
 fn removed(done: Removed) -> NativeOut
     ensures leaves { (see : StoreValue → meaning.Value) (node : ℕ → ℕ) (d : ℕ) (s : State)
-        → see Value.Undefined ≡ meaning.Undefined → Leaves see node d result s (removed_plan done (λ b. costs.give meaning.Undefined) s) }
+        → see Value.Undefined ≡ meaning.Undefined
+        → Leaves see node d result s (removed_plan done (λ b. costs.give meaning.Undefined) s) }
     ensures fine { (w : ℕ) (cells : List PlainCell) → IsFineOut w cells result }
 {
     match done {

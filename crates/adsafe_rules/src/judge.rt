@@ -44,7 +44,8 @@ fn name_rule(tree: &Tree, scope: &Scope, id: ExprId, best: Option<Breach>) -> Op
 #[tactic(auto, using(first_breach::proofs::Narrowing::each_none))]
 fn names_rule(tree: &Tree, scope: &Scope, id: StmtId, best: Option<Breach>) -> Option<Breach>
     requires { IsStmt (trees tree.now) id }
-    ensures { Narrows (Each (NameRow scope.now) (opening_names (AStmt (stmt_at (trees tree.now) id)))) best Nothing result }
+    ensures { Narrows (Each (NameRow scope.now)
+        (opening_names (AStmt (stmt_at (trees tree.now) id)))) best Nothing result }
 {
     match opening_string(tree, id) {
         Some(a) => name_rule(tree, scope, a, best),
@@ -95,7 +96,8 @@ fn push_tops(
     list: &[StmtId],
 ) -> Result<(), Memory>
     requires { All (IsStmt (trees tree.now)) list.now }
-    ensures { OnOk result (Pushes (trees tree.now) 0 (tops scope.now (map (stmt_spot (trees tree.now)) list.now)) work.old.items work.new.items) }
+    ensures { OnOk result (Pushes (trees tree.now) 0
+        (tops scope.now (map (stmt_spot (trees tree.now)) list.now)) work.old.items work.new.items) }
 {
     if list.len() == 0 {
         return Ok(());
@@ -113,7 +115,8 @@ fn push_tops(
 /// Puts the function of the call on the stack.
 fn push_opening(work: &mut Vec<Work>, tree: &Tree, id: StmtId) -> Result<(), Memory>
     requires { IsStmt (trees tree.now) id }
-    ensures { OnOk result (Pushes (trees tree.now) 0 (opening_functions (AStmt (stmt_at (trees tree.now) id))) work.old.items work.new.items) }
+    ensures { OnOk result (Pushes (trees tree.now) 0
+        (opening_functions (AStmt (stmt_at (trees tree.now) id))) work.old.items work.new.items) }
 {
     match opening_function(tree, id) {
         Some(fun) => {
@@ -145,7 +148,8 @@ fn search(alloc: Global, tree: &Tree, scope: &Scope) -> Result<Option<Breach>, M
 /// The name of a library that a text declares.
 fn lib_name_in(tree: &Tree, scope: &Scope, list: &[StmtId]) -> Result<Option<Text>, Memory>
     requires { All (IsStmt (trees tree.now)) list.now }
-    ensures { IfOk result (λ x. map (λ n. n.text) (lib_names scope.now (map (stmt_spot (trees tree.now)) list.now)) ≡ option_to_list x) }
+    ensures { IfOk result (λ x. map (λ n. n.text) (lib_names scope.now (map (stmt_spot (trees tree.now)) list.now))
+        ≡ option_to_list x) }
 {
     match scope {
         Scope::Lib => first_name(tree, list),
@@ -156,7 +160,8 @@ fn lib_name_in(tree: &Tree, scope: &Scope, list: &[StmtId]) -> Result<Option<Tex
 /// The string that the first statement hands over.
 fn first_name(tree: &Tree, list: &[StmtId]) -> Result<Option<Text>, Memory>
     requires { All (IsStmt (trees tree.now)) list.now }
-    ensures { IfOk result (λ x. map (λ n. n.text) (opened_names (map (stmt_spot (trees tree.now)) list.now)) ≡ option_to_list x) }
+    ensures { IfOk result (λ x. map (λ n. n.text) (opened_names (map (stmt_spot (trees tree.now)) list.now))
+        ≡ option_to_list x) }
 {
     if list.len() == 0 {
         return Ok(None);
@@ -181,7 +186,8 @@ fn shared_literal(tree: &Tree, id: ExprId) -> Result<Option<Text>, Memory>
 /// The function that the first statement hands over.
 fn first_function(tree: &Tree, list: &[StmtId]) -> Option<FunId>
     requires { All (IsStmt (trees tree.now)) list.now }
-    ensures same { opened_functions (map (stmt_spot (trees tree.now)) list.now) ≡ map (λ g. AFun (fun_at (trees tree.now) g)) (option_to_list result) }
+    ensures same { opened_functions (map (stmt_spot (trees tree.now)) list.now)
+        ≡ map (λ g. AFun (fun_at (trees tree.now) g)) (option_to_list result) }
     ensures inside { IfSome result (IsFun (trees tree.now)) }
 {
     if list.len() == 0 {

@@ -143,7 +143,9 @@ pub fn is_opening(tree: &Tree, scope: &Scope, id: StmtId) -> bool
 /// The first argument of a call.
 fn first_argument(tree: &Tree, id: ExprId) -> Option<ExprId>
     requires { IsExpr (trees tree.now) id }
-    ensures { MatchOption result (first_string (call_arguments (expr_at (trees tree.now) id)) ≡ []) (λ a. IsExpr (trees tree.now) a × (first_string (call_arguments (expr_at (trees tree.now) id)) ≡ literal (expr_at (trees tree.now) a))) }
+    ensures { MatchOption result (first_string (call_arguments (expr_at (trees tree.now) id)) ≡ [])
+        (λ a. IsExpr (trees tree.now) a
+        × (first_string (call_arguments (expr_at (trees tree.now) id)) ≡ literal (expr_at (trees tree.now) a))) }
 {
     match tree.expr(id) {
         Expr::Call(_, args) => match list_arguments(args) {
@@ -159,7 +161,10 @@ fn first_argument(tree: &Tree, id: ExprId) -> Option<ExprId>
 /// The second argument of a call.
 fn second_argument(tree: &Tree, id: ExprId) -> Option<ExprId>
     requires { IsExpr (trees tree.now) id }
-    ensures { MatchOption result (second_function (call_arguments (expr_at (trees tree.now) id)) ≡ []) (λ a. IsExpr (trees tree.now) a × (second_function (call_arguments (expr_at (trees tree.now) id)) ≡ function_of (expr_at (trees tree.now) a))) }
+    ensures { MatchOption result (second_function (call_arguments (expr_at (trees tree.now) id)) ≡ [])
+        (λ a. IsExpr (trees tree.now) a
+        × (second_function (call_arguments (expr_at (trees tree.now) id))
+        ≡ function_of (expr_at (trees tree.now) a))) }
 {
     match tree.expr(id) {
         Expr::Call(_, args) => match list_arguments(args) {
@@ -175,7 +180,9 @@ fn second_argument(tree: &Tree, id: ExprId) -> Option<ExprId>
 /// A function expression's function.
 fn function_of(tree: &Tree, id: ExprId) -> Option<FunId>
     requires { IsExpr (trees tree.now) id }
-    ensures { MatchOption result (function_of (expr_at (trees tree.now) id) ≡ []) (λ g. IsFun (trees tree.now) g × (function_of (expr_at (trees tree.now) id) ≡ AFun (fun_at (trees tree.now) g) ∷ [])) }
+    ensures { MatchOption result (function_of (expr_at (trees tree.now) id) ≡ [])
+        (λ g. IsFun (trees tree.now) g
+        × (function_of (expr_at (trees tree.now) id) ≡ AFun (fun_at (trees tree.now) g) ∷ [])) }
 {
     match tree.expr(id) {
         Expr::Function(fun) => Some(*fun),
@@ -186,7 +193,9 @@ fn function_of(tree: &Tree, id: ExprId) -> Option<FunId>
 /// The function that a statement hands over as the second argument of a call.
 pub fn opening_function(tree: &Tree, id: StmtId) -> Option<FunId>
     requires { IsStmt (trees tree.now) id }
-    ensures { MatchOption result (opening_functions (AStmt (stmt_at (trees tree.now) id)) ≡ []) (λ g. IsFun (trees tree.now) g × (opening_functions (AStmt (stmt_at (trees tree.now) id)) ≡ AFun (fun_at (trees tree.now) g) ∷ [])) }
+    ensures { MatchOption result (opening_functions (AStmt (stmt_at (trees tree.now) id)) ≡ [])
+        (λ g. IsFun (trees tree.now) g
+        × (opening_functions (AStmt (stmt_at (trees tree.now) id)) ≡ AFun (fun_at (trees tree.now) g) ∷ [])) }
 {
     match tree.stmt(id) {
         Stmt::Expr(e) => match second_argument(tree, *e) {
@@ -200,7 +209,9 @@ pub fn opening_function(tree: &Tree, id: StmtId) -> Option<FunId>
 /// The string that a statement hands over as the first argument of a call.
 pub fn opening_string(tree: &Tree, id: StmtId) -> Option<ExprId>
     requires { IsStmt (trees tree.now) id }
-    ensures { MatchOption result (opening_names (AStmt (stmt_at (trees tree.now) id)) ≡ []) (λ a. IsExpr (trees tree.now) a × (opening_names (AStmt (stmt_at (trees tree.now) id)) ≡ literal (expr_at (trees tree.now) a))) }
+    ensures { MatchOption result (opening_names (AStmt (stmt_at (trees tree.now) id)) ≡ [])
+        (λ a. IsExpr (trees tree.now) a
+        × (opening_names (AStmt (stmt_at (trees tree.now) id)) ≡ literal (expr_at (trees tree.now) a))) }
 {
     match tree.stmt(id) {
         Stmt::Expr(e) => first_argument(tree, *e),

@@ -32,7 +32,8 @@ fn property_rules(
     best: Option<Breach>,
 ) -> Option<Breach>
     requires { AreExprParts (trees tree.now) node.now }
-    ensures { Narrows (Each PropertyRow (properties (AnExpr (ExprAt at places.now (plain_form (trees tree.now) node.now))))) best Nothing result }
+    ensures { Narrows (Each PropertyRow
+        (properties (AnExpr (ExprAt at places.now (plain_form (trees tree.now) node.now))))) best Nothing result }
 {
     match node {
         Expr::Dot(_, name) => property(name, place_at(places, 0, at), best),
@@ -54,7 +55,8 @@ pub fn expr_rules(
 ) -> Option<Breach>
     requires inside { IsExpr (trees tree.now) id }
     requires enclosing { IsEnclosing (trees tree.now) enclosing.now }
-    ensures { Narrows (Broken (env_of (trees tree.now) enclosing.now.stack.items) (AnExpr (expr_at (trees tree.now) id))) best Nothing result }
+    ensures { Narrows (Broken (env_of (trees tree.now) enclosing.now.stack.items)
+        (AnExpr (expr_at (trees tree.now) id))) best Nothing result }
 {
     let node = tree.expr(id);
     let at = tree.expr_at(id);
@@ -77,7 +79,8 @@ pub fn stmt_rules(
 ) -> Option<Breach>
     requires inside { IsStmt (trees tree.now) id }
     requires enclosing { IsEnclosing (trees tree.now) enclosing.now }
-    ensures { Narrows (Broken (env_of (trees tree.now) enclosing.now.stack.items) (AStmt (stmt_at (trees tree.now) id))) best Nothing result }
+    ensures { Narrows (Broken (env_of (trees tree.now) enclosing.now.stack.items)
+        (AStmt (stmt_at (trees tree.now) id))) best Nothing result }
 {
     let node = tree.stmt(id);
     let at = tree.stmt_at(id);

@@ -25,7 +25,8 @@ use std::alloc::Global;
 fn own_rules(tree: &Tree, part: Part, enclosing: &Enclosing, best: Option<Breach>) -> Option<Breach>
     requires inside { IsIn (trees tree.now) part }
     requires enclosing { IsEnclosing (trees tree.now) enclosing.now }
-    ensures { Narrows (Broken (env_of (trees tree.now) enclosing.now.stack.items) (spot_at (trees tree.now) part)) best Nothing result }
+    ensures { Narrows (Broken (env_of (trees tree.now) enclosing.now.stack.items)
+        (spot_at (trees tree.now) part)) best Nothing result }
 {
     match part {
         Part::Expr(id) => expr_rules(tree, id, enclosing, best),
@@ -37,7 +38,8 @@ fn own_rules(tree: &Tree, part: Part, enclosing: &Enclosing, best: Option<Breach
 /// Puts the parts that stand outside what a node opens on the stack.
 fn push_outside(work: &mut Vec<Work>, tree: &Tree, next: Work) -> Result<(), Memory>
     requires { IsIn (trees tree.now) next.part }
-    ensures { OnOk result (Pushes (trees tree.now) next.depth (outer (spot_at (trees tree.now) next.part)) work.old.items work.new.items) }
+    ensures { OnOk result (Pushes (trees tree.now) next.depth
+        (outer (spot_at (trees tree.now) next.part)) work.old.items work.new.items) }
 {
     match next.part {
         Part::Expr(id) => {
@@ -78,7 +80,8 @@ fn open_stmt(
     requires inside { IsStmt (trees tree.now) id }
     requires depth { length enclosing.old.stack.items ≡ depth }
     requires enclosing { IsEnclosing (trees tree.now) enclosing.old }
-    ensures { OnOk result (Opens (trees tree.now) depth (AStmt (stmt_at (trees tree.now) id)) enclosing.old enclosing.new work.old.items work.new.items) }
+    ensures { OnOk result (Opens (trees tree.now) depth
+        (AStmt (stmt_at (trees tree.now) id)) enclosing.old enclosing.new work.old.items work.new.items) }
 {
     let node = tree.stmt(id);
     if !opens(node) {
@@ -102,7 +105,8 @@ fn open_fun(
     requires inside { IsFun (trees tree.now) id }
     requires depth { length enclosing.old.stack.items ≡ depth }
     requires enclosing { IsEnclosing (trees tree.now) enclosing.old }
-    ensures { OnOk result (Opens (trees tree.now) depth (AFun (fun_at (trees tree.now) id)) enclosing.old enclosing.new work.old.items work.new.items) }
+    ensures { OnOk result (Opens (trees tree.now) depth
+        (AFun (fun_at (trees tree.now) id)) enclosing.old enclosing.new work.old.items work.new.items) }
 {
     let names = names_of_fun(alloc, tree, id)?;
     let jumps = Jumps {
@@ -125,7 +129,8 @@ fn push_inside(
     requires inside { IsIn (trees tree.now) next.part }
     requires depth { length enclosing.old.stack.items ≡ next.depth }
     requires enclosing { IsEnclosing (trees tree.now) enclosing.old }
-    ensures { OnOk result (Opens (trees tree.now) next.depth (spot_at (trees tree.now) next.part) enclosing.old enclosing.new work.old.items work.new.items) }
+    ensures { OnOk result (Opens (trees tree.now) next.depth
+        (spot_at (trees tree.now) next.part) enclosing.old enclosing.new work.old.items work.new.items) }
 {
     match next.part {
         Part::Expr(_) => Ok(()),
@@ -151,8 +156,12 @@ pub fn visit(
 ) -> Result<Option<Breach>, Memory>
     requires { IsGoing (trees tree.now) enclosing.old (work.old.items ++ next ∷ []) }
     ensures going { OnOk result (IsGoing (trees tree.now) enclosing.new work.new.items) }
-    ensures narrows { IfOk result (λ new. Narrows (Left (trees tree.now) (env_of (trees tree.now) enclosing.old.stack.items) (work.old.items ++ next ∷ [])) best (Left (trees tree.now) (env_of (trees tree.now) enclosing.new.stack.items) work.new.items) new) }
-    ensures lighter { OnOk result (load (trees tree.now) work.new.items < load (trees tree.now) (work.old.items ++ next ∷ [])) }
+    ensures narrows { IfOk result
+        (λ new. Narrows (Left (trees tree.now) (env_of (trees tree.now) enclosing.old.stack.items)
+        (work.old.items ++ next ∷ [])) best
+        (Left (trees tree.now) (env_of (trees tree.now) enclosing.new.stack.items) work.new.items) new) }
+    ensures lighter { OnOk result
+        (load (trees tree.now) work.new.items < load (trees tree.now) (work.old.items ++ next ∷ [])) }
 {
     enclosing.leave_to(next.depth);
     let least = own_rules(tree, next.part, enclosing, best);

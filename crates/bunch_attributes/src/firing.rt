@@ -36,7 +36,8 @@ pub fn fire(
     requires sound { IsSound w store.now page.now around.now }
     ensures { (b : Option Bool) → IfOk result (λ o.
         MeetsAt w (beside store.now page.now around.now b) (beside store.now page.now around.now b) meter.old meter.new
-        (λ d s. means.write_method names.Fire (map (number page.now w) list.now) (seen w store.now.cells (Value.Ref this))
+        (λ d s. means.write_method names.Fire (map (number page.now w) list.now)
+        (seen w store.now.cells (Value.Ref this))
         (seen w store.now.cells kind.now ∷ []) d s) o) }
 {
     if is_object(kind) {

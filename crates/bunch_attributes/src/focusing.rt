@@ -35,8 +35,10 @@ pub fn focus(
     requires held { IsHeld w store.old.cells this }
     requires sound { IsSound w store.old page.now around.old }
     ensures native { (b : Option Bool)
-        → MeetsAt w (beside store.old page.now around.old b) (beside store.new page.now around.new b) meter.old meter.new
-        (λ d s. means.write_method names.Focus (map (number page.now w) list.now) (seen w store.old.cells (Value.Ref this)) [] d s) result }
+        → MeetsAt w (beside store.old page.now around.old b)
+        (beside store.new page.now around.new b) meter.old meter.new
+        (λ d s. means.write_method names.Focus (map (number page.now w) list.now)
+        (seen w store.old.cells (Value.Ref this)) [] d s) result }
     ensures kept { KeepsAll w store.old store.new page.now page.now around.new }
 {
     if list.len() != 1 {
@@ -92,8 +94,10 @@ pub fn blur(
     requires held { IsHeld w store.old.cells this }
     requires sound { IsSound w store.old page.now around.old }
     ensures native { (b : Option Bool)
-        → MeetsAt w (beside store.old page.now around.old b) (beside store.new page.now around.new b) meter.old meter.new
-        (λ d s. means.write_method names.Blur (map (number page.now w) list.now) (seen w store.old.cells (Value.Ref this)) [] d s) result }
+        → MeetsAt w (beside store.old page.now around.old b)
+        (beside store.new page.now around.new b) meter.old meter.new
+        (λ d s. means.write_method names.Blur (map (number page.now w) list.now)
+        (seen w store.old.cells (Value.Ref this)) [] d s) result }
     ensures kept { KeepsAll w store.old store.new page.now page.now around.new }
 {
     match begin(store, meter, w, list.len(), Cost::Nothing) {

@@ -73,7 +73,8 @@ fn change_all(
 ) -> Result<(), Memory>
     requires { (n : ℕ) → has_number list.now n ≡ true → owns page.now w n ≡ true }
     ensures shown { (g : ℕ → ℕ) (s : State) → Shows page.now w g around.old s.own → OnOk result
-        (Shows page.now w g around.new (fold (change_kept (meant g change.now)) s (map (number page.now w) list.now)).own) }
+        (Shows page.now w g around.new
+        (fold (change_kept (meant g change.now)) s (map (number page.now w) list.now)).own) }
     ensures holds { (s : Cells) → IsFineChange w s.cells change.now → HoldsOwn w s page.now around.old
         → HoldsOwn w s page.now around.new }
 {
@@ -102,7 +103,8 @@ pub(crate) fn keep(
     requires change { IsFineChange w store.old.cells change.now }
     requires sound { IsSound w store.old page.now around.old }
     ensures native { (b : Option Bool) (c : Price) → IsPrice cost c
-        → IfOk result (λ o. MeetsAt w (beside store.old page.now around.old b) (beside store.new page.now around.new b) meter.old meter.new
+        → IfOk result (λ o. MeetsAt w (beside store.old page.now around.old b)
+        (beside store.new page.now around.new b) meter.old meter.new
         (λ d s. keep_plan (meant (own_count w store.old.cells) change.now) c (map (number page.now w) list.now)
         (seen w store.old.cells (Value.Ref this)) s) o) }
     ensures kept { KeepsAll w store.old store.new page.now page.now around.new }

@@ -53,8 +53,10 @@ fn set_attribute(
     requires home { HasRoot page.old w }
     requires held { IsHeld w store.old.cells this }
     ensures native { (l : Loop) (b : Option Bool) → IsSound w store.old page.old l
-        → IfOk result (λ o. MeetsAt w (beside store.old page.old l b) (beside store.new page.new l b) meter.old meter.new
-        (λ d s. means.set_attribute (map (number page.old w) list.now) name.now text (seen w store.old.cells (Value.Ref this)) s) o) }
+        → IfOk result (λ o. MeetsAt w (beside store.old page.old l b)
+        (beside store.new page.new l b) meter.old meter.new
+        (λ d s. means.set_attribute (map (number page.old w) list.now) name.now text
+        (seen w store.old.cells (Value.Ref this)) s) o) }
     ensures kept { (l : Loop) → IsSound w store.old page.old l → KeepsAll w store.old store.new page.old page.new l }
 {
     let cost = Cost::Units(units_for(list, &text));
@@ -83,8 +85,10 @@ pub fn set_class(
     requires home { HasRoot page.old w }
     requires held { IsHeld w store.old.cells this }
     ensures native { (l : Loop) (b : Option Bool) → IsSound w store.old page.old l
-        → IfOk result (λ o. MeetsAt w (beside store.old page.old l b) (beside store.new page.new l b) meter.old meter.new
-        (λ d s. means.write_method names.SetClass (map (number page.old w) list.now) (seen w store.old.cells (Value.Ref this)) (seen w store.old.cells value.now ∷ []) d s) o) }
+        → IfOk result (λ o. MeetsAt w (beside store.old page.old l b)
+        (beside store.new page.new l b) meter.old meter.new
+        (λ d s. means.write_method names.SetClass (map (number page.old w) list.now)
+        (seen w store.old.cells (Value.Ref this)) (seen w store.old.cells value.now ∷ []) d s) o) }
     ensures kept { (l : Loop) → IsSound w store.old page.old l → KeepsAll w store.old store.new page.old page.new l }
 {
     if is_object(value) {
@@ -113,8 +117,10 @@ pub fn set_title(
     requires home { HasRoot page.old w }
     requires held { IsHeld w store.old.cells this }
     ensures native { (l : Loop) (b : Option Bool) → IsSound w store.old page.old l
-        → IfOk result (λ o. MeetsAt w (beside store.old page.old l b) (beside store.new page.new l b) meter.old meter.new
-        (λ d s. means.write_method names.SetTitle (map (number page.old w) list.now) (seen w store.old.cells (Value.Ref this)) (seen w store.old.cells value.now ∷ []) d s) o) }
+        → IfOk result (λ o. MeetsAt w (beside store.old page.old l b)
+        (beside store.new page.new l b) meter.old meter.new
+        (λ d s. means.write_method names.SetTitle (map (number page.old w) list.now)
+        (seen w store.old.cells (Value.Ref this)) (seen w store.old.cells value.now ∷ []) d s) o) }
     ensures kept { (l : Loop) → IsSound w store.old page.old l → KeepsAll w store.old store.new page.old page.new l }
 {
     if is_object(value) {
@@ -158,8 +164,10 @@ fn set_flag(
     requires home { HasRoot page.old w }
     requires held { IsHeld w store.old.cells this }
     ensures native { (l : Loop) (b : Option Bool) → IsSound w store.old page.old l
-        → IfOk result (λ o. MeetsAt w (beside store.old page.old l b) (beside store.new page.new l b) meter.old meter.new
-        (λ d s. means.set_flag (tests.passes test s) (map (number page.old w) list.now) name.now is_set (seen w store.old.cells (Value.Ref this)) s) o) }
+        → IfOk result (λ o. MeetsAt w (beside store.old page.old l b)
+        (beside store.new page.new l b) meter.old meter.new
+        (λ d s. means.set_flag (tests.passes test s) (map (number page.old w) list.now) name.now is_set
+        (seen w store.old.cells (Value.Ref this)) s) o) }
     ensures kept { (l : Loop) → IsSound w store.old page.old l → KeepsAll w store.old store.new page.old page.new l }
 {
     let how = Relabelling {
@@ -186,8 +194,10 @@ pub fn set_check(
     requires home { HasRoot page.old w }
     requires held { IsHeld w store.old.cells this }
     ensures native { (l : Loop) (b : Option Bool) → IsSound w store.old page.old l
-        → IfOk result (λ o. MeetsAt w (beside store.old page.old l b) (beside store.new page.new l b) meter.old meter.new
-        (λ d s. means.write_method names.SetCheck (map (number page.old w) list.now) (seen w store.old.cells (Value.Ref this)) (seen w store.old.cells value.now ∷ []) d s) o) }
+        → IfOk result (λ o. MeetsAt w (beside store.old page.old l b)
+        (beside store.new page.new l b) meter.old meter.new
+        (λ d s. means.write_method names.SetCheck (map (number page.old w) list.now)
+        (seen w store.old.cells (Value.Ref this)) (seen w store.old.cells value.now ∷ []) d s) o) }
     ensures kept { (l : Loop) → IsSound w store.old page.old l → KeepsAll w store.old store.new page.old page.new l }
 {
     set_flag(
@@ -220,8 +230,10 @@ pub fn set_enabled(
     requires home { HasRoot page.old w }
     requires held { IsHeld w store.old.cells this }
     ensures native { (l : Loop) (b : Option Bool) → IsSound w store.old page.old l
-        → IfOk result (λ o. MeetsAt w (beside store.old page.old l b) (beside store.new page.new l b) meter.old meter.new
-        (λ d s. means.write_method names.SetEnabled (map (number page.old w) list.now) (seen w store.old.cells (Value.Ref this)) (seen w store.old.cells value.now ∷ []) d s) o) }
+        → IfOk result (λ o. MeetsAt w (beside store.old page.old l b)
+        (beside store.new page.new l b) meter.old meter.new
+        (λ d s. means.write_method names.SetEnabled (map (number page.old w) list.now)
+        (seen w store.old.cells (Value.Ref this)) (seen w store.old.cells value.now ∷ []) d s) o) }
     ensures kept { (l : Loop) → IsSound w store.old page.old l → KeepsAll w store.old store.new page.old page.new l }
 {
     set_flag(
@@ -263,8 +275,11 @@ pub fn set_style(
     requires home { HasRoot page.old w }
     requires held { IsHeld w store.old.cells this }
     ensures native { (l : Loop) (b : Option Bool) → IsSound w store.old page.old l
-        → IfOk result (λ o. MeetsAt w (beside store.old page.old l b) (beside store.new page.new l b) meter.old meter.new
-        (λ d s. means.write_method names.SetStyle (map (number page.old w) list.now) (seen w store.old.cells (Value.Ref this)) (seen w store.old.cells property.now ∷ seen w store.old.cells value.now ∷ []) d s) o) }
+        → IfOk result (λ o. MeetsAt w (beside store.old page.old l b)
+        (beside store.new page.new l b) meter.old meter.new
+        (λ d s. means.write_method names.SetStyle (map (number page.old w) list.now)
+        (seen w store.old.cells (Value.Ref this))
+        (seen w store.old.cells property.now ∷ seen w store.old.cells value.now ∷ []) d s) o) }
     ensures kept { (l : Loop) → IsSound w store.old page.old l → KeepsAll w store.old store.new page.old page.new l }
 {
     if either_object(property, value) {

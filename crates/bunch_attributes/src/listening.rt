@@ -43,7 +43,9 @@ pub fn listen(
     requires sound { IsSound w store.old page.now around.old }
     ensures native { (b : Option Bool) → IfOk result (λ o.
         MeetsAt w (beside store.old page.now around.old b) (beside store.new page.now around.new b) meter.old meter.new
-        (λ d s. means.write_method names.On (map (number page.now w) list.now) (seen w store.old.cells (Value.Ref this)) (seen w store.old.cells kind.now ∷ seen w store.old.cells func.now ∷ []) d s) o) }
+        (λ d s. means.write_method names.On (map (number page.now w) list.now)
+        (seen w store.old.cells (Value.Ref this))
+        (seen w store.old.cells kind.now ∷ seen w store.old.cells func.now ∷ []) d s) o) }
     ensures kept { KeepsAll w store.old store.new page.now page.now around.new }
 {
     if is_object(kind) {
@@ -90,7 +92,8 @@ pub fn hush(
     requires sound { IsSound w store.old page.now around.old }
     ensures native { (b : Option Bool) → IfOk result (λ o.
         MeetsAt w (beside store.old page.now around.old b) (beside store.new page.now around.new b) meter.old meter.new
-        (λ d s. means.write_method names.Off (map (number page.now w) list.now) (seen w store.old.cells (Value.Ref this)) (seen w store.old.cells kind.now ∷ []) d s) o) }
+        (λ d s. means.write_method names.Off (map (number page.now w) list.now)
+        (seen w store.old.cells (Value.Ref this)) (seen w store.old.cells kind.now ∷ []) d s) o) }
     ensures kept { KeepsAll w store.old store.new page.now page.now around.new }
 {
     if is_undefined(kind) {
@@ -148,7 +151,8 @@ pub fn set_mark(
     requires sound { IsSound w store.old page.now around.old }
     ensures native { (b : Option Bool) → IfOk result (λ o.
         MeetsAt w (beside store.old page.now around.old b) (beside store.new page.now around.new b) meter.old meter.new
-        (λ d s. means.write_method names.SetMark (map (number page.now w) list.now) (seen w store.old.cells (Value.Ref this)) (seen w store.old.cells value.now ∷ []) d s) o) }
+        (λ d s. means.write_method names.SetMark (map (number page.now w) list.now)
+        (seen w store.old.cells (Value.Ref this)) (seen w store.old.cells value.now ∷ []) d s) o) }
     ensures kept { KeepsAll w store.old store.new page.now page.now around.new }
 {
     if is_object(value) {
@@ -187,7 +191,8 @@ pub fn protect(
     requires sound { IsSound w store.old page.now around.old }
     ensures native { (b : Option Bool) → IfOk result (λ o.
         MeetsAt w (beside store.old page.now around.old b) (beside store.new page.now around.new b) meter.old meter.new
-        (λ d s. means.write_method names.Protect (map (number page.now w) list.now) (seen w store.old.cells (Value.Ref this)) ([]) d s) o) }
+        (λ d s. means.write_method names.Protect (map (number page.now w) list.now)
+        (seen w store.old.cells (Value.Ref this)) ([]) d s) o) }
     ensures kept { KeepsAll w store.old store.new page.now page.now around.new }
 {
     keep(

@@ -53,7 +53,8 @@ fn change_node(
     requires home { HasRoot page.old w }
     requires own { owns page.old w node ≡ true }
     requires element { is_text_at (forest page.old w) (number page.old w node) ≡ false }
-    ensures image { OnOk result (forest page.new w ≡ relabel_in (meant change.now) (forest page.old w) (number page.old w node)) }
+    ensures image { OnOk result (forest page.new w
+        ≡ relabel_in (meant change.now) (forest page.old w) (number page.old w node)) }
     ensures kept { KeepsNodes page.old page.new }
     ensures others { OthersStay page.old page.new w }
     ensures host { HostStays page.old page.new }
@@ -121,8 +122,10 @@ pub(crate) fn relabel(
     requires home { HasRoot page.old w }
     requires held { IsHeld w store.old.cells this }
     ensures native { (l : Loop) (b : Option Bool) (c : Price) → IsSound w store.old page.old l → IsPrice how.now.cost c
-        → IfOk result (λ o. MeetsAt w (beside store.old page.old l b) (beside store.new page.new l b) meter.old meter.new
-        (λ d s. relabel_plan how.now.test how.now.change c (map (number page.old w) list.now) (seen w store.old.cells (Value.Ref this)) s) o) }
+        → IfOk result (λ o. MeetsAt w (beside store.old page.old l b)
+        (beside store.new page.new l b) meter.old meter.new
+        (λ d s. relabel_plan how.now.test how.now.change c (map (number page.old w) list.now)
+        (seen w store.old.cells (Value.Ref this)) s) o) }
     ensures kept { (l : Loop) → IsSound w store.old page.old l → KeepsAll w store.old store.new page.old page.new l }
 {
     if !all_pass(list, how.test, w, page) {

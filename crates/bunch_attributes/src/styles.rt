@@ -89,7 +89,8 @@ fn replaced(
     name: &Text,
     value: &Text,
 ) -> Result<Vec<(Text, Text)>, Memory>
-    ensures { IfOk result (λ ps. ps.items ≡ map (λ q. if bytes_eq q.0 name.now then (name.now, value.now) else q) pairs.now) }
+    ensures { IfOk result (λ ps. ps.items
+        ≡ map (λ q. if bytes_eq q.0 name.now then (name.now, value.now) else q) pairs.now) }
 {
     let mut changed = Vec::new(alloc);
     'each: for pair in pairs {

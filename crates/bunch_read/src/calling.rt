@@ -44,8 +44,10 @@ pub fn call(
     requires widget { IsWidget owner }
     requires sound { IsSound (number_in owner) store.old page.now around.now }
     requires receiver { IsReceiver (number_in owner) store.old.cells this.now }
-    ensures native { IfOk result (λ o. Reads (number_in owner) store.old store.new page.now around.now meter.old meter.new
-        (run_native which (receiver (number_in owner) store.old.cells this.now) (all_seen (number_in owner) store.old.cells args.now)) o) }
+    ensures native { IfOk result
+        (λ o. Reads (number_in owner) store.old store.new page.now around.now meter.old meter.new
+        (run_native which (receiver (number_in owner) store.old.cells this.now)
+        (all_seen (number_in owner) store.old.cells args.now)) o) }
     ensures holds { HoldsOwn (number_in owner) store.new page.now around.now }
     ensures kept { KeepsStore (number_in owner) store.old store.new }
 {

@@ -76,7 +76,8 @@ fn open_nodes(
     around: &Loop,
 ) -> Result<Vec<NodeId>, Memory>
     requires { (n : ℕ) → has_number list.now n ≡ true → owns page.now w n ≡ true }
-    ensures { (g : ℕ → ℕ) (s : State) → Shows page.now w g around.now s.own → IfOk result (λ ns. Opens page.now w s list.now ns.items) }
+    ensures { (g : ℕ → ℕ) (s : State) → Shows page.now w g around.now s.own
+        → IfOk result (λ ns. Opens page.now w s list.now ns.items) }
 {
     let mut found = Vec::new(alloc);
     'each: for node in list {
@@ -120,7 +121,8 @@ fn found(
     requires nodes { AreNodes page.now w list.now }
     requires shown { (g : ℕ → ℕ) × (s : State) × Shows page.now w g around.now s.own }
     ensures image { (g : ℕ → ℕ) (s : State) → Shows page.now w g around.now s.own → IfOk result (λ ns.
-        map (number page.now w) ns.items ≡ finds s (means.starts s query.now (map (number page.now w) list.now)) query.now) }
+        map (number page.now w) ns.items
+        ≡ finds s (means.starts s query.now (map (number page.now w) list.now)) query.now) }
     ensures apart { IfOk result (λ ns. AreApart page.now w ns.items) }
 {
     if begins_next(query) {
@@ -201,7 +203,8 @@ pub(crate) fn query(
 // Whether a node has a parent and is not protected.
 fn is_open(node: NodeId, w: u32, page: &Page, around: &Loop) -> bool
     requires { owns page.now w node ≡ true }
-    ensures { (g : ℕ → ℕ) (s : State) → Shows page.now w g around.now s.own → result ≡ means.has_open_parent s (number page.now w node) }
+    ensures { (g : ℕ → ℕ) (s : State) → Shows page.now w g around.now s.own
+        → result ≡ means.has_open_parent s (number page.now w node) }
 {
     parent(page, w, node).is_some() && !is_protected(around, page, w, node)
 }
@@ -235,7 +238,8 @@ fn keep_once(
     node: NodeId,
 ) -> Result<(), Memory>
     requires { seen.old.keys ≡ found.old.items }
-    ensures found { OnOk result (found.new.items ≡ (if has_number found.old.items node then found.old.items else found.old.items ++ node ∷ [])) }
+    ensures found { OnOk result (found.new.items
+        ≡ (if has_number found.old.items node then found.old.items else found.old.items ++ node ∷ [])) }
     ensures same { OnOk result (seen.new.keys ≡ found.new.items) }
 {
     if mark_node(seen, node)? {
@@ -256,7 +260,8 @@ fn keep_parent(
     requires own { owns page.now w node ≡ true }
     requires same { seen.old.keys ≡ found.old.items }
     requires found { AreApart page.now w found.old.items }
-    ensures image { (s : State) → s.own.forest ≡ forest page.now w → OnOk result (map (number page.now w) found.new.items
+    ensures image { (s : State) → s.own.forest ≡ forest page.now w
+        → OnOk result (map (number page.now w) found.new.items
         ≡ added (map (number page.now w) found.old.items) (meaning_parent (number page.now w node) s.own.forest)) }
     ensures same { OnOk result (seen.new.keys ≡ found.new.items) }
     ensures found { OnOk result (AreApart page.now w found.new.items) }

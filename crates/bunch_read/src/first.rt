@@ -40,7 +40,8 @@ pub(crate) fn count(list: &[NodeId], meter: &mut Meter, w: u32, page: &Page) -> 
     requires widget { w < 32 }
     requires nodes { AreNodes page.now w list.now }
     ensures { (s : Cells) (l : Loop) → IsSound w s page.now l → Reads w s s page.now l meter.old meter.new
-        (λ d t. charge (length (map (number page.now w) list.now)) t (give (Num (pos (length (map (number page.now w) list.now)))) t)) result }
+        (λ d t. charge (length (map (number page.now w) list.now)) t
+        (give (Num (pos (length (map (number page.now w) list.now)))) t)) result }
 {
     let value = count_value(list);
     give_plain(meter, list.len(), value)
@@ -63,7 +64,8 @@ pub(crate) fn get_check(list: &[NodeId], meter: &mut Meter, w: u32, page: &Page)
     requires widget { w < 32 }
     requires nodes { AreNodes page.now w list.now }
     ensures { (s : Cells) (l : Loop) → IsSound w s page.now l → Reads w s s page.now l meter.old meter.new
-        (λ d t. charge (length (map (number page.now w) list.now)) t (give (Truth (means.is_checked t (map (number page.now w) list.now))) t)) result }
+        (λ d t. charge (length (map (number page.now w) list.now)) t
+        (give (Truth (means.is_checked t (map (number page.now w) list.now))) t)) result }
 {
     give_plain(meter, list.len(), Value::Bool(is_checked(list, w, page)))
 }
@@ -72,7 +74,8 @@ pub(crate) fn get_check(list: &[NodeId], meter: &mut Meter, w: u32, page: &Page)
 fn tag_name(alloc: Global, node: NodeId, w: u32, page: &Page) -> Result<Text, Memory>
     requires { owns page.now w node ≡ true }
     ensures { (s : State) → s.own.forest ≡ forest page.now w → IfOk result (λ t. t ≡
-        (if forms.is_text_node s (number page.now w node) then codes "#text" else forms.tag_of s (number page.now w node))) }
+        (if forms.is_text_node s (number page.now w node) then codes "#text" else forms.tag_of s
+        (number page.now w node))) }
 {
     match tag(page, w, node) {
         Some(t) => t.share(),
@@ -137,7 +140,8 @@ pub(crate) fn get_mark(
     requires nodes { AreNodes page.now w list.now }
     ensures native { IsSound w store.old page.now around.now
         → IfOk result (λ o. Reads w store.old store.new page.now around.now meter.old meter.new
-        (λ d s. means.give_page_text (length (map (number page.now w) list.now)) (means.first_mark s (map (number page.now w) list.now)) s) o) }
+        (λ d s. means.give_page_text (length (map (number page.now w) list.now))
+        (means.first_mark s (map (number page.now w) list.now)) s) o) }
     ensures kept { (fs : List Forest) → Kept fs w store.old store.new }
 {
     let text = first_mark(alloc, list, w, page, around)?;

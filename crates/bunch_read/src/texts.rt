@@ -1,4 +1,5 @@
-//! The values of nodes: an `input` has its attribute `value` or the empty text, a text node its text, another element its
+//! The values of nodes: an `input` has its attribute `value` or the empty text, a text node its text, another
+//! element its
 //! text content, which is its text nodes in document order.
 ghost use Rattle.std.specs.Prelude.{◌≡◌, ◌<◌, ◌≤◌, ◌++◌, ℕ, List, Some, true, IfOk, OnOk, length, map, sum_by};
 ghost use Rattle.std.specs.List.{list_any};
@@ -80,7 +81,8 @@ fn content_len(node: NodeId, w: u32, page: &Page) -> usize
 // Appends the text content of a node.
 fn push_content(units: &mut Vec<u16>, node: NodeId, w: u32, page: &Page) -> Result<(), Memory>
     requires { owns page.now w node ≡ true }
-    ensures { OnOk result (units.new.items ≡ units.old.items ++ texts_of (subtree (number page.now w node) (forest page.now w))) }
+    ensures { OnOk result (units.new.items
+        ≡ units.old.items ++ texts_of (subtree (number page.now w node) (forest page.now w))) }
 {
     units.extend_from_slice(own_units(node, w, page))?;
     'each: for child in children(page, w, node) {
@@ -92,7 +94,8 @@ fn push_content(units: &mut Vec<u16>, node: NodeId, w: u32, page: &Page) -> Resu
 // How many units the value of a node has.
 fn value_len(node: NodeId, w: u32, page: &Page) -> usize
     requires { owns page.now w node ≡ true }
-    ensures { (s : State) → s.own.forest ≡ forest page.now w → result ≡ counted (length (means.value_of s (number page.now w node))) }
+    ensures { (s : State) → s.own.forest ≡ forest page.now w
+        → result ≡ counted (length (means.value_of s (number page.now w node))) }
 {
     if !is_input(node, w, page) {
         return content_len(node, w, page);
@@ -106,7 +109,8 @@ fn value_len(node: NodeId, w: u32, page: &Page) -> usize
 // The value of a node.
 fn value_of(alloc: Global, node: NodeId, w: u32, page: &Page) -> Result<Text, Memory>
     requires { owns page.now w node ≡ true }
-    ensures { (s : State) → s.own.forest ≡ forest page.now w → IfOk result (λ t. t ≡ means.value_of s (number page.now w node)) }
+    ensures { (s : State) → s.own.forest ≡ forest page.now w
+        → IfOk result (λ t. t ≡ means.value_of s (number page.now w node)) }
 {
     if is_input(node, w, page) {
         return shared(alloc, attr_of_word(page, w, node, b"value"));
@@ -172,7 +176,8 @@ pub(crate) fn get_value(
 // How many units the values of nodes have together.
 fn values_len(list: &[NodeId], w: u32, page: &Page) -> usize
     requires { (n : ℕ) → has_number list.now n ≡ true → owns page.now w n ≡ true }
-    ensures { (s : State) → s.own.forest ≡ forest page.now w → result ≡ counted (all_units s (map (number page.now w) list.now)) }
+    ensures { (s : State) → s.own.forest ≡ forest page.now w
+        → result ≡ counted (all_units s (map (number page.now w) list.now)) }
 {
     let mut len = 0usize;
     'each: for node in list {

@@ -66,9 +66,11 @@ fn append_weighed(
     requires sound { (l : Loop) × IsSound bunch.now.w store.old page.old l }
     ensures ends { (l : Loop) (b : Option Bool) → IsSound bunch.now.w store.old page.old l → IfOk result (λ o.
         EndsAt bunch.now.w (beside store.old page.old l b) (beside store.new page.new l b)
-        (λ d s. append_paid (map (number page.old bunch.now.w) bunch.now.nodes.now) (map (number page.old bunch.now.w) news.now)
+        (λ d s. append_paid (map (number page.old bunch.now.w) bunch.now.nodes.now)
+        (map (number page.old bunch.now.w) news.now)
         (seen bunch.now.w store.old.cells (Value.Ref bunch.now.cell)) s) o) }
-    ensures kept { (l : Loop) → IsSound bunch.now.w store.old page.old l → KeepsAll bunch.now.w store.old store.new page.old page.new l }
+    ensures kept { (l : Loop) → IsSound bunch.now.w store.old page.old l
+        → KeepsAll bunch.now.w store.old store.new page.old page.new l }
 {
     let copies = bunch.nodes.len().saturating_sub(1);
     let units = copies.saturating_mul(extent.units);
@@ -105,9 +107,11 @@ fn append_nodes(
     requires sound { (l : Loop) × IsSound bunch.now.w store.old page.old l }
     ensures native { (l : Loop) (b : Option Bool) → IsSound bunch.now.w store.old page.old l → IfOk result (λ o.
         MeetsAt bunch.now.w (beside store.old page.old l b) (beside store.new page.new l b) meter.old meter.new
-        (λ d s. append_nodes (map (number page.old bunch.now.w) bunch.now.nodes.now) (map (number page.old bunch.now.w) news.now)
+        (λ d s. append_nodes (map (number page.old bunch.now.w) bunch.now.nodes.now)
+        (map (number page.old bunch.now.w) news.now)
         (seen bunch.now.w store.old.cells (Value.Ref bunch.now.cell)) s) o) }
-    ensures kept { (l : Loop) → IsSound bunch.now.w store.old page.old l → KeepsAll bunch.now.w store.old store.new page.old page.new l }
+    ensures kept { (l : Loop) → IsSound bunch.now.w store.old page.old l
+        → KeepsAll bunch.now.w store.old store.new page.old page.new l }
 {
     if !all_take(bunch.nodes, news, bunch.w, page) {
         return Ok(NativeOut::Throw(Fault::E10));
@@ -140,8 +144,10 @@ pub fn append(
     ensures native { (l : Loop) (b : Option Bool) → IsSound bunch.now.w store.old page.old l → IfOk result (λ o.
         MeetsAt bunch.now.w (beside store.old page.old l b) (beside store.new page.new l b) meter.old meter.new
         (λ d s. means.write_method names.Append (map (number page.old bunch.now.w) bunch.now.nodes.now)
-        (seen bunch.now.w store.old.cells (Value.Ref bunch.now.cell)) (seen bunch.now.w store.old.cells other.now ∷ []) d s) o) }
-    ensures kept { (l : Loop) → IsSound bunch.now.w store.old page.old l → KeepsAll bunch.now.w store.old store.new page.old page.new l }
+        (seen bunch.now.w store.old.cells (Value.Ref bunch.now.cell))
+        (seen bunch.now.w store.old.cells other.now ∷ []) d s) o) }
+    ensures kept { (l : Loop) → IsSound bunch.now.w store.old page.old l
+        → KeepsAll bunch.now.w store.old store.new page.old page.new l }
 {
     match bunch_of(alloc, store, bunch.w, page, other)? {
         Some(news) => append_nodes(alloc, bunch, &news, store, meter, page),

@@ -110,7 +110,8 @@ fn copies_to(
     requires targets { (n : ℕ) → has_number targets.now n ≡ true → owns page.old w n ≡ true }
     requires news { (n : ℕ) → has_number news.now n ≡ true → owns page.old w n ≡ true }
     ensures done { OnOk result (Changes w store.old store.new page.old page.new
-        (λ s. fold (λ u t. with_copies t (map (number page.old w) news.now) u) s (map (number page.old w) targets.now))) }
+        (λ s. fold (λ u t. with_copies t (map (number page.old w) news.now) u) s
+        (map (number page.old w) targets.now))) }
     ensures kept { (l : Loop) → HoldsOwn w store.old page.old l → KeepsAll w store.old store.new page.old page.new l }
 {
     'each: for target in targets {

@@ -29,7 +29,8 @@ use std::alloc::Global;
 // An Array of no elements. Where it cannot be paid, it is answered like want of memory.
 fn empty_array(alloc: Global, store: &mut Store, w: u32) -> Result<CellId, Memory>
     requires { w < 32 }
-    ensures made { OnOk result ((fs : List Forest) (r : Rest) (c : Amounts) → with_counts (joint.image fs r w store.new) c
+    ensures made { OnOk result ((fs : List Forest) (r : Rest) (c : Amounts)
+        → with_counts (joint.image fs r w store.new) c
         ≡ with_new_cell (with_counts (joint.image fs r w store.old) c) (new_array 0 [])) }
     ensures number { IfOk result (λ id. (fs : List Forest) (r : Rest)
         → seen w store.new.cells (Value.Ref id) ≡ Own (length (joint.image fs r w store.old).own.heap)) }
@@ -65,7 +66,8 @@ fn put_all(
     requires few { length values.now ≤ 16384 }
     ensures done { OnOk result ((fs : List Forest) (r : Rest) (n : ℕ) → seen w store.old.cells (Value.Ref array) ≡ Own n
         → IsEmptyArray (joint.image fs r w store.old) n
-        → joint.image fs r w store.new ≡ filled n (all_seen w store.old.cells values.now) (joint.image fs r w store.old)) }
+        → joint.image fs r w store.new
+        ≡ filled n (all_seen w store.old.cells values.now) (joint.image fs r w store.old)) }
     ensures kept { (fs : List Forest) → Kept fs w store.old store.new }
 {
     for at in 0..values.len() {

@@ -1,4 +1,5 @@
-//! The methods of Bunches that make nodes or many Bunches: `value`, `append`, `explode`, and `dom.append`. Each judges all
+//! The methods of Bunches that make nodes or many Bunches: `value`, `append`, `explode`, and `dom.append`.
+//! Each judges all
 //! nodes before any change, then takes its charge, then weighs its whole cost; what is done after that is settled with
 //! what was weighed. Its clause says that it carries out the meaning's plan at the image of store, page and loop.
 #![tactic(auto)]

@@ -131,7 +131,8 @@ pub fn dom_append(
     requires widget { w < 32 }
     requires other { IsFine w store.old.cells other.now }
     requires sound { (l : Loop) × IsSound w store.old page.old l }
-    ensures native { (l : Loop) (b : Option Bool) (this : Option Meant) → IsSound w store.old page.old l → IfOk result (λ o.
+    ensures native { (l : Loop) (b : Option Bool) (this : Option Meant) → IsSound w store.old page.old l
+        → IfOk result (λ o.
         MeetsAt w (beside store.old page.old l b) (beside store.new page.new l b) meter.old meter.new
         (λ d s. means.dom_native names.DomAppend this (seen w store.old.cells other.now ∷ []) d s) o) }
     ensures kept { (l : Loop) → IsSound w store.old page.old l → KeepsAll w store.old store.new page.old page.new l }

@@ -127,7 +127,8 @@ fn value_weighed(
         EndsAt bunch.now.w (beside store.old page.old l b) (beside store.new page.new l b)
         (λ d s. value_paid (map (number page.old bunch.now.w) bunch.now.nodes.now) text
         (seen bunch.now.w store.old.cells (Value.Ref bunch.now.cell)) s) o) }
-    ensures kept { (l : Loop) → IsSound bunch.now.w store.old page.old l → KeepsAll bunch.now.w store.old store.new page.old page.new l }
+    ensures kept { (l : Loop) → IsSound bunch.now.w store.old page.old l
+        → KeepsAll bunch.now.w store.old store.new page.old page.new l }
 {
     let units = bunch.nodes.len().saturating_mul(text_len(&text));
     let bill = Bill {
@@ -166,7 +167,8 @@ fn give_value(
         MeetsAt bunch.now.w (beside store.old page.old l b) (beside store.new page.new l b) meter.old meter.new
         (λ d s. means.set_value (map (number page.old bunch.now.w) bunch.now.nodes.now) text
         (seen bunch.now.w store.old.cells (Value.Ref bunch.now.cell)) s) o) }
-    ensures kept { (l : Loop) → IsSound bunch.now.w store.old page.old l → KeepsAll bunch.now.w store.old store.new page.old page.new l }
+    ensures kept { (l : Loop) → IsSound bunch.now.w store.old page.old l
+        → KeepsAll bunch.now.w store.old store.new page.old page.new l }
 {
     if !all_take(bunch.nodes, &text, bunch.w, page) {
         return Ok(NativeOut::Throw(Fault::E10));
@@ -193,8 +195,10 @@ pub fn set_value(
     ensures native { (l : Loop) (b : Option Bool) → IsSound bunch.now.w store.old page.old l → IfOk result (λ o.
         MeetsAt bunch.now.w (beside store.old page.old l b) (beside store.new page.new l b) meter.old meter.new
         (λ d s. means.write_method names.SetValue (map (number page.old bunch.now.w) bunch.now.nodes.now)
-        (seen bunch.now.w store.old.cells (Value.Ref bunch.now.cell)) (seen bunch.now.w store.old.cells value.now ∷ []) d s) o) }
-    ensures kept { (l : Loop) → IsSound bunch.now.w store.old page.old l → KeepsAll bunch.now.w store.old store.new page.old page.new l }
+        (seen bunch.now.w store.old.cells (Value.Ref bunch.now.cell))
+        (seen bunch.now.w store.old.cells value.now ∷ []) d s) o) }
+    ensures kept { (l : Loop) → IsSound bunch.now.w store.old page.old l
+        → KeepsAll bunch.now.w store.old store.new page.old page.new l }
 {
     if is_object(value) {
         return Ok(NativeOut::Throw(Fault::E4));

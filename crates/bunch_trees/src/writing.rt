@@ -1,4 +1,5 @@
-//! A node gets a value: an `input` its attribute `value`, a text node its text, another element a text node in place of its
+//! A node gets a value: an `input` its attribute `value`, a text node its text, another element a text node
+//! in place of its
 //! children.
 ghost use Rattle.std.specs.Prelude.{◌≡◌, ◌<◌, ℕ, codes, true, OnOk, length, map};
 ghost use Rattle.std.specs.List.{fold};
@@ -48,7 +49,8 @@ fn put_text(
     requires sound { (l : Loop) × IsSound w store.old page.old l }
     requires own { owns page.old w node ≡ true }
     requires some { 0 < length text }
-    ensures done { OnOk result (Changes w store.old store.new page.old page.new (with_text_node (number page.old w node) text)) }
+    ensures done { OnOk result
+        (Changes w store.old store.new page.old page.new (with_text_node (number page.old w node) text)) }
     ensures kept { (l : Loop) → HoldsOwn w store.old page.old l → KeepsAll w store.old store.new page.old page.new l }
 {
     let plain = text_tree(text);

@@ -54,8 +54,10 @@ pub fn call(
     requires receiver { IsReceiver (number_in owner) store.old.cells this.now }
     requires args { AreFine (number_in owner) store.old.cells args.now }
     ensures native { IfOk result (λ o. MeetsAt (number_in owner)
-        (beside store.old page.old around.old bubbled.old) (beside store.new page.new around.new bubbled.new) meter.old meter.new
-        (run_native which (receiver (number_in owner) store.old.cells this.now) (all_seen (number_in owner) store.old.cells args.now)) o) }
+        (beside store.old page.old around.old bubbled.old)
+        (beside store.new page.new around.new bubbled.new) meter.old meter.new
+        (run_native which (receiver (number_in owner) store.old.cells this.now)
+        (all_seen (number_in owner) store.old.cells args.now)) o) }
     ensures kept { KeepsAll (number_in owner) store.old store.new page.old page.new around.new }
 {
     match owner {
@@ -87,7 +89,8 @@ fn call_of(
     requires receiver { IsReceiver w store.old.cells this.now }
     requires args { AreFine w store.old.cells args.now }
     ensures native { IfOk result (λ o. MeetsAt w
-        (beside store.old page.old around.old bubbled.old) (beside store.new page.new around.new bubbled.new) meter.old meter.new
+        (beside store.old page.old around.old bubbled.old)
+        (beside store.new page.new around.new bubbled.new) meter.old meter.new
         (run_native which (receiver w store.old.cells this.now) (all_seen w store.old.cells args.now)) o) }
     ensures kept { KeepsAll w store.old store.new page.old page.new around.new }
 {

@@ -43,7 +43,8 @@ fn calls(
     requires sound { IsSound w store.old page.now around.now }
     ensures ends { (b : Option Bool) → IfOk result (λ o.
         EndsAt w (beside store.old page.now around.now b) (beside store.new page.now around.now b)
-        (each_paid (map (number page.now w) list.now) (seen w store.old.cells (Value.Ref func)) (seen w store.old.cells (Value.Ref this))) o) }
+        (each_paid (map (number page.now w) list.now) (seen w store.old.cells (Value.Ref func))
+        (seen w store.old.cells (Value.Ref this))) o) }
     ensures kept { KeepsAll w store.old store.new page.now page.now around.now }
 {
     let many = list.len() as u32;
@@ -87,7 +88,8 @@ pub(crate) fn each(
     requires sound { IsSound w store.old page.now around.now }
     ensures native { (b : Option Bool) → IfOk result (λ o.
         MeetsAt w (beside store.old page.now around.now b) (beside store.new page.now around.now b) meter.old meter.new
-        (λ d s. means.write_method names.Each (map (number page.now w) list.now) (seen w store.old.cells (Value.Ref this))
+        (λ d s. means.write_method names.Each (map (number page.now w) list.now)
+        (seen w store.old.cells (Value.Ref this))
         (seen w store.old.cells func.now ∷ []) d s) o) }
     ensures kept { KeepsAll w store.old store.new page.now page.now around.now }
 {
@@ -103,7 +105,8 @@ pub(crate) fn each(
 /// `bubble()` marks the innermost dispatch; without one it is a fault.
 pub(crate) fn bubble(bubbled: &mut Option<bool>) -> NativeOut
     ensures { (w : ℕ) (s : Cells) (p : Page) (l : Loop) (f : Fuel) → IsSound w s p l
-        → MeetsAt w (beside s p l bubbled.old) (beside s p l bubbled.new) f f (λ d t. dispatch.bubble t.dispatches t) result }
+        → MeetsAt w (beside s p l bubbled.old) (beside s p l bubbled.new) f f
+        (λ d t. dispatch.bubble t.dispatches t) result }
 {
     match bubbled {
         None => NativeOut::Throw(Fault::E3),

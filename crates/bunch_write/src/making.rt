@@ -53,7 +53,8 @@ pub(crate) fn dom_text(
 
 // The text of an argument that may be absent.
 fn given_text(alloc: Global, value: &Value) -> Result<Option<Text>, Memory>
-    ensures { IfOk result (λ o. (w : ℕ) (cells : List PlainCell) → option_to_list o ≡ means.given_text (seen w cells value.now)) }
+    ensures { IfOk result (λ o. (w : ℕ) (cells : List PlainCell)
+        → option_to_list o ≡ means.given_text (seen w cells value.now)) }
 {
     if is_undefined(value) {
         return Ok(None);
@@ -80,7 +81,8 @@ fn text_units(text: &Text) -> usize
 
 // An element with the `type` that is given.
 fn tag_tree(alloc: Global, tag: Text, given: Option<Text>) -> Result<Plain, Memory>
-    ensures { IfOk result (λ p. unplaced p ≡ Node tt (ElementOf tag (map (λ t. (codes "type", t)) (option_to_list given))) End End) }
+    ensures { IfOk result (λ p. unplaced p
+        ≡ Node tt (ElementOf tag (map (λ t. (codes "type", t)) (option_to_list given))) End End) }
 {
     let mut attrs = Vec::new(alloc);
     if let Some(value) = given {
@@ -123,7 +125,8 @@ pub(crate) fn dom_tag(
     requires sound { (l : Loop) × IsSound w store.old page.old l }
     ensures native { (l : Loop) (b : Option Bool) (f : Fuel) (this : Option Meant) → IsSound w store.old page.old l
         → IfOk result (λ o. MeetsAt w (beside store.old page.old l b) (beside store.new page.new l b) f f
-        (λ d s. means.dom_native names.DomTag this (seen w store.old.cells name.now ∷ seen w store.old.cells kind.now ∷ []) d s) o) }
+        (λ d s. means.dom_native names.DomTag this
+        (seen w store.old.cells name.now ∷ seen w store.old.cells kind.now ∷ []) d s) o) }
     ensures kept { (l : Loop) → IsSound w store.old page.old l → KeepsAll w store.old store.new page.old page.new l }
 {
     if either_object(name, kind) {

@@ -43,7 +43,8 @@ pub(crate) fn remove(
     requires held { IsHeld w store.old.cells this }
     ensures native { (l : Loop) (b : Option Bool) → IsSound w store.old page.old l → IfOk result (λ o.
         MeetsAt w (beside store.old page.old l b) (beside store.new page.new l b) meter.old meter.new
-        (λ d s. means.write_method names.Remove (map (number page.old w) list.now) (seen w store.old.cells (Value.Ref this)) [] d s) o) }
+        (λ d s. means.write_method names.Remove (map (number page.old w) list.now)
+        (seen w store.old.cells (Value.Ref this)) [] d s) o) }
     ensures kept { (l : Loop) → IsSound w store.old page.old l → KeepsAll w store.old store.new page.old page.new l }
 {
     if !none_root(list, w, page) {
@@ -89,7 +90,8 @@ pub(crate) fn empty(
     requires held { IsHeld w store.old.cells this }
     ensures native { (l : Loop) (b : Option Bool) → IsSound w store.old page.old l
         → MeetsAt w (beside store.old page.old l b) (beside store.new page.new l b) meter.old meter.new
-        (λ d s. means.write_method names.Empty (map (number page.old w) list.now) (seen w store.old.cells (Value.Ref this)) [] d s) result }
+        (λ d s. means.write_method names.Empty (map (number page.old w) list.now)
+        (seen w store.old.cells (Value.Ref this)) [] d s) result }
     ensures kept { (l : Loop) → IsSound w store.old page.old l → KeepsAll w store.old store.new page.old page.new l }
 {
     match begin(store, meter, w, list.len(), Cost::Nothing) {
@@ -107,7 +109,8 @@ fn may_take(above: NodeId, node: NodeId, news: &[NodeId], w: u32, page: &Page) -
     requires above { owns page.now w above ≡ true }
     requires own { owns page.now w node ≡ true }
     requires news { (n : ℕ) → has_number news.now n ≡ true → owns page.now w n ≡ true }
-    ensures { result ≡ may_take (forest page.now w) (map (number page.now w) news.now) (number page.now w node) (number page.now w above) }
+    ensures { result ≡ may_take (forest page.now w) (map (number page.now w) news.now) (number page.now w node)
+        (number page.now w above) }
 {
     if has_node(news, node) {
         return false;
@@ -166,7 +169,8 @@ fn replace_by(
     requires held { IsHeld w store.old.cells this }
     ensures native { (l : Loop) (b : Option Bool) → IsSound w store.old page.old l → IfOk result (λ o.
         MeetsAt w (beside store.old page.old l b) (beside store.new page.new l b) meter.old meter.new
-        (λ d s. replace_plan (number page.old w node) (map (number page.old w) news.now) (seen w store.old.cells (Value.Ref this)) s) o) }
+        (λ d s. replace_plan (number page.old w node) (map (number page.old w) news.now)
+        (seen w store.old.cells (Value.Ref this)) s) o) }
     ensures kept { (l : Loop) → IsSound w store.old page.old l → KeepsAll w store.old store.new page.old page.new l }
 {
     if !may_replace(node, news, w, page) {
@@ -199,7 +203,8 @@ pub(crate) fn replace(
     requires sound { (l : Loop) × IsSound w store.old page.old l }
     ensures native { (l : Loop) (b : Option Bool) → IsSound w store.old page.old l → IfOk result (λ o.
         MeetsAt w (beside store.old page.old l b) (beside store.new page.new l b) meter.old meter.new
-        (λ d s. means.write_method names.Replace (map (number page.old w) list.now) (seen w store.old.cells (Value.Ref this))
+        (λ d s. means.write_method names.Replace (map (number page.old w) list.now)
+        (seen w store.old.cells (Value.Ref this))
         (seen w store.old.cells bunch.now ∷ []) d s) o) }
     ensures kept { (l : Loop) → IsSound w store.old page.old l → KeepsAll w store.old store.new page.old page.new l }
 {

@@ -131,7 +131,8 @@ pub fn protect(
 pub fn focus(around: &Loop, page: &Page, widget: u32) -> Option<NodeId>
     ensures image { (g : ℕ → ℕ) (o : OwnState) → Shows page.now widget g around.now o →
         renumbered (number page.now widget) result ≡ o.focus }
-    ensures own { (g : ℕ → ℕ) (o : OwnState) → Shows page.now widget g around.now o → OptionIn (owns page.now widget) result }
+    ensures own { (g : ℕ → ℕ) (o : OwnState) → Shows page.now widget g around.now o
+        → OptionIn (owns page.now widget) result }
 {
     around.focus()
 }

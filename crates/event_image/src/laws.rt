@@ -15,6 +15,7 @@ pub fn shown_as_nodes_stay()
 
 /// A law: where a widget gets nodes, nothing is kept with them.
 pub fn shown_as_nodes_come()
-    ensures { (old new : Page) (w : ℕ) (news : List ℕ) (g : ℕ → ℕ) (l : Loop) (o : OwnState) → Grows old new w news → Shows old w g l o →
+    ensures { (old new : Page) (w : ℕ) (news : List ℕ) (g : ℕ → ℕ) (l : Loop) (o : OwnState) → Grows old new w news
+        → Shows old w g l o →
         Shows new w g l (record o { forest = forest new w; kept = o.kept ++ replicate (length news) nothing_kept }) }
 {}

@@ -1,4 +1,5 @@
-//! What is kept for one widget beside its cells and nodes, at its own state: each call is one of the loop's, said by what
+//! What is kept for one widget beside its cells and nodes, at its own state: each call is one of the loop's,
+//! said by what
 //! the meaning of widgets does with its own numbers of nodes and cells. `specs/Image.antt` has the word: `Shows`.
 #![tactic(auto)]
 

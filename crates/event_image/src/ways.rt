@@ -39,7 +39,8 @@ pub fn nearest(
     requires home { HasRoot page.now widget }
     requires own { OptionIn (owns page.now widget) node }
     ensures { (g : ℕ → ℕ) (s : State) → Shows page.now widget g around.now s.own → IfOk result (λ found.
-        own_found (number page.now widget) g (found_of found) ≡ nearest s (renumbered (number page.now widget) node) kind.now) }
+        own_found (number page.now widget) g (found_of found)
+        ≡ nearest s (renumbered (number page.now widget) node) kind.now) }
 {
     around.nearest(alloc, page, root_of(page, widget), node, kind)
 }

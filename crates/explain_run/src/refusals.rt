@@ -32,7 +32,8 @@ pub fn tell_slots(
     requires paired { length names.now ≡ length files.now }
     requires small { All IsSmall files.now }
     requires small_libs { All IsSmall libs.now }
-    ensures { IfOk result (λ told. IsToldOfSlots (slots_over (sources_of libs.now) names.now (sources_of files.now)) told.refused told.bytes.items) }
+    ensures { IfOk result (λ told. IsToldOfSlots
+        (slots_over (sources_of libs.now) names.now (sources_of files.now)) told.refused told.bytes.items) }
 {
     let mut judged = Libraries::new(alloc, libs)?;
     let mut bytes = Vec::new(alloc);
@@ -64,7 +65,8 @@ fn tell_slot(
     requires small { IsSmall file.now }
     requires small_libs { All IsSmall libs.now }
     requires judged { AreJudged (sources_of libs.now) judged.old }
-    ensures text { IfOk result (λ refused. AppendsSlot (slot_of name.now file.now libs.now) refused out.old.items out.new.items) }
+    ensures text { IfOk result
+        (λ refused. AppendsSlot (slot_of name.now file.now libs.now) refused out.old.items out.new.items) }
     ensures judged { AreJudged (sources_of libs.now) judged.new }
 {
     match judge_slot(alloc, name, file, libs, judged) {

@@ -67,7 +67,8 @@ struct Outcome {
 
 // What is explained.
 fn explained<F: Files>(alloc: Global, words: &[String], files: &mut F) -> Result<Outcome, Memory>
-    ensures answer { IfOk result (λ x. IfSome (F.told files.old) (λ m. AnswerOrFault (texts words.now) m x.status x.bytes.items)) }
+    ensures answer { IfOk result
+        (λ x. IfSome (F.told files.old) (λ m. AnswerOrFault (texts words.now) m x.status x.bytes.items)) }
     ensures usage { IfOk result (λ x. x.status ≡ Status.Usage → ¬ IsForm (texts words.now)) }
     ensures told { F.told files.new ≡ F.told files.old }
     ensures read { IfOk result (λ x. x.status ≡ Status.ReadFault → Rose (F.faults files.old) (F.faults files.new)) }

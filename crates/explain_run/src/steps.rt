@@ -67,7 +67,8 @@ pub fn try_trace<F: Files>(
 ) -> Result<(), Stop>
     requires { length names.now < 2 ^ 32 }
     ensures { Stepped F.told F.faults files.old files.new result
-        (λ m _. IsTraced m names.now (option_copied trace.entry)) (λ m. NoTraced m names.now (option_copied trace.entry)) }
+        (λ m _. IsTraced m names.now (option_copied trace.entry))
+        (λ m. NoTraced m names.now (option_copied trace.entry)) }
 {
     match trace {
         Some(name) => try_named(alloc, name, names, files),

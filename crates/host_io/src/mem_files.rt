@@ -20,7 +20,8 @@ pub struct MemFiles {
 
 // The first entry of this name.
 fn find<'a>(entries: &'a [(String, Vec<u8>)], name: &str) -> Option<&'a [u8]>
-    ensures { MatchOption result (file_of entries.now name.now ≡ None) (λ bytes. file_of entries.now name.now ≡ Some bytes.now) }
+    ensures { MatchOption result (file_of entries.now name.now ≡ None)
+        (λ bytes. file_of entries.now name.now ≡ Some bytes.now) }
 {
     'entries: for entry in entries {
         if entry.0.as_str() == name {
@@ -56,13 +57,17 @@ impl Files for MemFiles {
     fn read(&mut self, alloc: Global, name: &str, max: usize) -> Result<Vec<u8>, ReadFail>
         ensures bytes { IfOk result (λ v. IsStart (file_of self.old.entries.items name.now) (max + 1) v.items) }
         ensures bound { IfOk result (λ v. length v.items ≤ max + 1) }
-        ensures failed { IsErrOf result ReadFail.Failed ↔ (IsTrue (fails_next self.old.fail.items self.old.calls) ⊎ (file_of self.old.entries.items name.now ≡ None)) }
+        ensures failed { IsErrOf result ReadFail.Failed ↔
+            (IsTrue (fails_next self.old.fail.items self.old.calls) ⊎ (file_of self.old.entries.items name.now
+            ≡ None)) }
         ensures after { self.new ≡ record self.old { calls = count_after self.old.calls; faults = self.new.faults } }
         ensures count { self.old.faults ≤ self.new.faults }
         ensures cause { IsErrOf result ReadFail.Failed → Rose self.old.faults self.new.faults }
         ensures blameless { ¬ IsErrOf result ReadFail.Failed → self.new.faults ≡ self.old.faults }
-        ensures calm { IsTrue (is_past self.old.fail.items self.old.calls) → IsTrue (is_past self.new.fail.items self.new.calls) }
-        ensures calm_reads { IsTrue (is_past self.old.fail.items self.old.calls) → IsSome (file_of self.old.entries.items name.now) → ¬ IsErrOf result ReadFail.Failed }
+        ensures calm { IsTrue (is_past self.old.fail.items self.old.calls)
+            → IsTrue (is_past self.new.fail.items self.new.calls) }
+        ensures calm_reads { IsTrue (is_past self.old.fail.items self.old.calls)
+            → IsSome (file_of self.old.entries.items name.now) → ¬ IsErrOf result ReadFail.Failed }
     {
         if count_call(&mut self.calls, &self.fail) {
             self.faults = one_more(self.faults);

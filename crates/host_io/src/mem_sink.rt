@@ -42,7 +42,8 @@ impl MemSink {
         per_call: usize,
         fail: Vec<u32>,
     ) -> Result<MemSink, Memory>
-        ensures { IfOk result (λ s. s ≡ record { held = []; room = room; per_call = per_call; fail = fail.items; calls = 0; faults = 0 }) }
+        ensures { IfOk result (λ s. s
+            ≡ record { held = []; room = room; per_call = per_call; fail = fail.items; calls = 0; faults = 0 }) }
     {
         Ok(MemSink {
             held: Vec::with_capacity(alloc, room)?,
@@ -71,15 +72,19 @@ impl Sink for MemSink {
 
     #[tactic(auto, using(crate::proofs::Listed::fails_past, crate::proofs::Listed::past_from, crate::proofs::Listed::takes_past, crate::proofs::Listed::takes_less))]
     fn write(&mut self, bytes: &[u8]) -> Result<usize, WriteFail>
-        ensures answer { result ≡ (if fails_next self.old.fail self.old.calls then Err WriteFail.Failed else Ok (taken_of self.old (length bytes.now))) }
-        ensures after { self.new ≡ record self.old { held = self.new.held; calls = count_after self.old.calls; faults = self.new.faults } }
+        ensures answer { result ≡
+            (if fails_next self.old.fail self.old.calls then Err WriteFail.Failed else Ok
+            (taken_of self.old (length bytes.now))) }
+        ensures after { self.new ≡ record
+            self.old { held = self.new.held; calls = count_after self.old.calls; faults = self.new.faults } }
         ensures appended { IfOk result (λ n. self.new.held ≡ self.old.held ++ take n bytes.now) }
         ensures kept { OnErr result (self.new.held ≡ self.old.held) }
         ensures count { self.old.faults ≤ self.new.faults }
         ensures nothing { IfOk result (λ n. n ≡ 0 → 0 < length bytes.now → Rose self.old.faults self.new.faults) }
         ensures cause { OnErr result (Rose self.old.faults self.new.faults) }
         ensures blameless { IfOk result (λ n. 0 < n → self.new.faults ≡ self.old.faults) }
-        ensures room { 0 < length bytes.now → length bytes.now ≤ takes_of self.old → IsOkAnd result (λ n. (0 < n) × (takes_of self.new + n ≡ takes_of self.old)) }
+        ensures room { 0 < length bytes.now → length bytes.now ≤ takes_of self.old
+            → IsOkAnd result (λ n. (0 < n) × (takes_of self.new + n ≡ takes_of self.old)) }
     {
         if count_call(&mut self.calls, &self.fail) {
             self.faults = one_more(self.faults);

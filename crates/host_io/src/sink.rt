@@ -31,6 +31,8 @@ pub trait Sink {
         ensures nothing { IfOk result (λ n. n ≡ 0 → 0 < length bytes.now → Rose (faults self.old) (faults self.new)) }
         ensures cause { OnErr result (Rose (faults self.old) (faults self.new)) }
         // A piece that fits is taken, in part or whole.
-        ensures room { 0 < length bytes.now → length bytes.now ≤ takes self.old → IsOkAnd result (λ n. (0 < n) × (takes self.new + n ≡ takes self.old)) }
-        ensures room_count { 0 < length bytes.now → length bytes.now ≤ takes self.old → faults self.new ≡ faults self.old };
+        ensures room { 0 < length bytes.now → length bytes.now ≤ takes self.old
+            → IsOkAnd result (λ n. (0 < n) × (takes self.new + n ≡ takes self.old)) }
+        ensures room_count { 0 < length bytes.now → length bytes.now ≤ takes self.old
+            → faults self.new ≡ faults self.old };
 }

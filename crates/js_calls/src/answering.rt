@@ -35,7 +35,8 @@ pub fn answer(
     requires confined { IsConfined (trees_of codes.now.items) w store.old }
     requires held { IsFineOut w store.old.cells out }
     requires carried { IsCarried out }
-    ensures plan { OnOk result ((node : ℕ → ℕ) → Plans (trees_of codes.now.items) w store.old store.new (given w store.old.cells node depth out) flow.new) }
+    ensures plan { OnOk result ((node : ℕ → ℕ)
+        → Plans (trees_of codes.now.items) w store.old store.new (given w store.old.cells node depth out) flow.new) }
     ensures fine { OnOk result (FineLeft (trees_of codes.now.items) w store.new.cells flow.new) }
     ensures near { OnOk result (left_free flow.new ≤ 15) }
     ensures kept { Kept (trees_of codes.now.items) w store.old store.new }
@@ -63,7 +64,9 @@ fn calls(
     requires widget { w < 32 }
     requires held { AreFineCalls w store.old.cells plan }
     requires carried { IsNoFire plan }
-    ensures plan { OnOk result ((node : ℕ → ℕ) → Plans (trees_of codes.now.items) w store.old store.new (called (seen w store.old.cells) node depth plan) flow.new) }
+    ensures plan { OnOk result ((node : ℕ → ℕ)
+        → Plans (trees_of codes.now.items) w store.old store.new
+        (called (seen w store.old.cells) node depth plan) flow.new) }
     ensures fine { OnOk result (FineLeft (trees_of codes.now.items) w store.new.cells flow.new) }
     ensures near { OnOk result (left_free flow.new ≤ 15) }
     ensures kept { Kept (trees_of codes.now.items) w store.old store.new }
@@ -98,7 +101,9 @@ fn calls(
 
 // The text of an object, by its `toString`.
 fn text_of(flow: &mut Flow, cell: CellId, depth: u32) -> Result<(), Memory>
-    ensures { OnOk result (Leaves flow.old flow.new (Frame.Call CallFrame.TextOf ∷ Frame.Call (CallFrame.ToPrimitive depth) ∷ []) (Next.Give (Completion.Is (Value.Ref cell)))) }
+    ensures { OnOk result (Leaves flow.old flow.new
+        (Frame.Call CallFrame.TextOf ∷ Frame.Call (CallFrame.ToPrimitive depth) ∷ [])
+        (Next.Give (Completion.Is (Value.Ref cell)))) }
 {
     flow.push_given(
         Frame::Call(CallFrame::TextOf),

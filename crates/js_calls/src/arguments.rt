@@ -40,9 +40,12 @@ pub fn arguments_of(
 ) -> Result<(), Memory>
     requires widget { w < 32 }
     requires confined { IsConfined (trees_of codes.now.items) w store.old }
-    requires held { FineReference w store.old.cells of × IsExprAt (trees_of codes.now.items) w store.old.cells call.0 call.1 }
+    requires held { FineReference w store.old.cells of
+        × IsExprAt (trees_of codes.now.items) w store.old.cells call.0 call.1 }
     ensures plan { OnOk result (Plans (trees_of codes.now.items) w store.old store.new
-        (expressions.arguments_then (reference_of w store.old.cells of) [] (arguments_of (expr_at (forest_at (trees_of codes.now.items) call.1.code) call.0)) (place_of w store.old.cells call.1)) flow.new) }
+        (expressions.arguments_then (reference_of w store.old.cells of) []
+        (arguments_of (expr_at (forest_at (trees_of codes.now.items) call.1.code) call.0))
+        (place_of w store.old.cells call.1)) flow.new) }
     ensures fine { OnOk result (FineLeft (trees_of codes.now.items) w store.new.cells flow.new) }
     ensures near { OnOk result (left_free flow.new ≤ 4) }
     ensures kept { Kept (trees_of codes.now.items) w store.old store.new }
@@ -72,7 +75,8 @@ pub fn argument(
     requires confined { IsConfined (trees_of codes.now.items) w store.old }
     requires held { FineArgument (trees_of codes.now.items) w store.old.cells a.value × IsFine w store.old.cells value }
     ensures plan { OnOk result (Plans (trees_of codes.now.items) w store.old store.new
-        (argument_taken (trees_of codes.now.items) w store.old.cells a.value (meaning.Is (seen w store.old.cells value))) flow.new) }
+        (argument_taken (trees_of codes.now.items) w store.old.cells a.value
+        (meaning.Is (seen w store.old.cells value))) flow.new) }
     ensures fine { OnOk result (FineLeft (trees_of codes.now.items) w store.new.cells flow.new) }
     ensures near { OnOk result (left_free flow.new ≤ 4) }
     ensures kept { Kept (trees_of codes.now.items) w store.old store.new }
@@ -95,7 +99,9 @@ fn arguments(
     requires widget { w < 32 }
     requires confined { IsConfined (trees_of codes.now.items) w store.old }
     requires held { FineArgument (trees_of codes.now.items) w store.old.cells a.value }
-    ensures plan { OnOk result (Plans (trees_of codes.now.items) w store.old store.new (arguments_left (trees_of codes.now.items) w store.old.cells a.value) flow.new) }
+    ensures plan { OnOk result
+        (Plans (trees_of codes.now.items) w store.old store.new
+        (arguments_left (trees_of codes.now.items) w store.old.cells a.value) flow.new) }
     ensures fine { OnOk result (FineLeft (trees_of codes.now.items) w store.new.cells flow.new) }
     ensures near { OnOk result (left_free flow.new ≤ 4) }
     ensures kept { Kept (trees_of codes.now.items) w store.old store.new }
@@ -111,16 +117,20 @@ fn arguments(
 fn argument_left(codes: &Vec<Code>, a: &Argument) -> Option<ExprId>
     requires code { a.now.place.code < length (trees_of codes.now.items) }
     requires call { IsExpr (forest_at (trees_of codes.now.items) a.now.place.code) a.now.call }
-    ensures { let f = forest_at (trees_of codes.now.items) a.now.place.code in HasExpr f (arguments_of (expr_at f a.now.call)) a.now.next result }
+    ensures { let f = forest_at (trees_of codes.now.items) a.now.place.code in HasExpr f
+        (arguments_of (expr_at f a.now.call)) a.now.next result }
 {
     argument_at(tree_at(codes, a.place.code), a.call, a.next)
 }
 
 // An argument, and what waits for it.
 fn pushed(flow: &mut Flow, a: Box<Argument>, e: ExprId) -> Result<(), Memory>
-    ensures plan { OnOk result ((fs : List Forest) (w : ℕ) (cells : List PlainCell) (s : State) → planned fs w cells flow.new s
-        ≡ Do (Eval (expr_at (forest_at fs a.value.place.code) e) (place_of w cells a.value.place)) s (argument_taken fs w cells a.value)) }
-    ensures fine { OnOk result ((fs : List Forest) (w : ℕ) (cells : List PlainCell) → FineArgument fs w cells a.value → IsExprAt fs w cells e a.value.place → FineLeft fs w cells flow.new) }
+    ensures plan { OnOk result ((fs : List Forest) (w : ℕ) (cells : List PlainCell) (s : State)
+        → planned fs w cells flow.new s
+        ≡ Do (Eval (expr_at (forest_at fs a.value.place.code) e) (place_of w cells a.value.place)) s
+        (argument_taken fs w cells a.value)) }
+    ensures fine { OnOk result ((fs : List Forest) (w : ℕ) (cells : List PlainCell) → FineArgument fs w cells a.value
+        → IsExprAt fs w cells e a.value.place → FineLeft fs w cells flow.new) }
     ensures near { OnOk result (left_free flow.new ≤ 4) }
     ensures below { OnOk result (flow.new.below ≡ all_frames flow.old) }
 {
@@ -151,7 +161,8 @@ fn called(
     requires confined { IsConfined (trees_of codes.now.items) w store.old }
     requires held { FineArgument (trees_of codes.now.items) w store.old.cells a }
     ensures plan { OnOk result (Plans (trees_of codes.now.items) w store.old store.new
-        (expressions.arguments_then (reference_of w store.old.cells a.of) (all_seen w store.old.cells a.args.items) [] (place_of w store.old.cells a.place)) flow.new) }
+        (expressions.arguments_then (reference_of w store.old.cells a.of)
+        (all_seen w store.old.cells a.args.items) [] (place_of w store.old.cells a.place)) flow.new) }
     ensures fine { OnOk result (FineLeft (trees_of codes.now.items) w store.new.cells flow.new) }
     ensures near { OnOk result (left_free flow.new ≤ 4) }
     ensures kept { Kept (trees_of codes.now.items) w store.old store.new }
@@ -182,9 +193,11 @@ fn referred(
     place: Place,
 ) -> Result<Value, Memory>
     requires confined { IsConfined (trees_of codes.now.items) w store.now }
-    requires held { FineReference w store.now.cells of.now × IsPlace (trees_of codes.now.items) w store.now.cells place }
+    requires held { FineReference w store.now.cells of.now
+        × IsPlace (trees_of codes.now.items) w store.now.cells place }
     ensures found { IfOk result (λ v. (r : Rest) → seen w store.now.cells v
-        ≡ expressions.referred (reference_of w store.now.cells of.now) (place_of w store.now.cells place) (image (trees_of codes.now.items) r w store.now)) }
+        ≡ expressions.referred (reference_of w store.now.cells of.now) (place_of w store.now.cells place)
+        (image (trees_of codes.now.items) r w store.now)) }
     ensures fine { IfOk result (IsFine w store.now.cells) }
 {
     match of {
@@ -196,7 +209,8 @@ fn referred(
 
 // What a call of a reference is a method of.
 fn base_of(of: Reference) -> Option<Value>
-    ensures base { (w : ℕ) (cells : List PlainCell) → option_map (seen w cells) result ≡ expressions.base_of (reference_of w cells of) }
+    ensures base { (w : ℕ) (cells : List PlainCell)
+        → option_map (seen w cells) result ≡ expressions.base_of (reference_of w cells of) }
     ensures fine { (w : ℕ) (cells : List PlainCell) → FineReference w cells of → IfSome result (IsFine w cells) }
 {
     match of {

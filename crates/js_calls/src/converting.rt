@@ -40,7 +40,9 @@ pub fn to_primitive(
     requires widget { w < 32 }
     requires confined { IsConfined (trees_of codes.now.items) w store.old }
     requires held { IsFine w store.old.cells value }
-    ensures plan { OnOk result (Plans (trees_of codes.now.items) w store.old store.new (calls.to_primitive (seen w store.old.cells value) depth) flow.new) }
+    ensures plan { OnOk result
+        (Plans (trees_of codes.now.items) w store.old store.new
+        (calls.to_primitive (seen w store.old.cells value) depth) flow.new) }
     ensures fine { OnOk result (FineLeft (trees_of codes.now.items) w store.new.cells flow.new) }
     ensures near { OnOk result (left_free flow.new ≤ 1) }
     ensures kept { Kept (trees_of codes.now.items) w store.old store.new }
@@ -77,7 +79,9 @@ pub fn primitive(
 ) -> Result<(), Memory>
     requires widget { w < 32 }
     requires held { IsFine w store.old.cells value }
-    ensures plan { OnOk result (Plans (trees_of codes.now.items) w store.old store.new (calls.primitive_result (meaning.Is (seen w store.old.cells value))) flow.new) }
+    ensures plan { OnOk result
+        (Plans (trees_of codes.now.items) w store.old store.new
+        (calls.primitive_result (meaning.Is (seen w store.old.cells value))) flow.new) }
     ensures fine { OnOk result (FineLeft (trees_of codes.now.items) w store.new.cells flow.new) }
     ensures near { OnOk result (left_free flow.new ≤ 1) }
     ensures kept { Kept (trees_of codes.now.items) w store.old store.new }
@@ -99,7 +103,9 @@ pub fn text_of(
     value: Value,
 ) -> Result<(), Memory>
     requires held { IsFine w store.now.cells value }
-    ensures plan { OnOk result (Plans (trees_of codes.now.items) w store.now store.now (natives.text_of_primitive (seen w store.now.cells value)) flow.new) }
+    ensures plan { OnOk result
+        (Plans (trees_of codes.now.items) w store.now store.now
+        (natives.text_of_primitive (seen w store.now.cells value)) flow.new) }
     ensures fine { OnOk result (FineLeft (trees_of codes.now.items) w store.now.cells flow.new) }
     ensures near { OnOk result (left_free flow.new ≤ 4) }
     ensures below { OnOk result (flow.new.below ≡ all_frames flow.old) }
@@ -132,7 +138,8 @@ pub fn make_text(
     text: Text,
 ) -> Result<(), Memory>
     requires widget { w < 32 }
-    ensures plan { OnOk result (Plans (trees_of codes.now.items) w store.old store.new (λ s. costs.make_text text s (costs.give (meaning.Text text))) flow.new) }
+    ensures plan { OnOk result (Plans (trees_of codes.now.items) w store.old store.new
+        (λ s. costs.make_text text s (costs.give (meaning.Text text))) flow.new) }
     ensures fine { OnOk result (FineLeft (trees_of codes.now.items) w store.new.cells flow.new) }
     ensures near { OnOk result (left_free flow.new ≤ 1) }
     ensures kept { Kept (trees_of codes.now.items) w store.old store.new }

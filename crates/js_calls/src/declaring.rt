@@ -68,10 +68,15 @@ pub fn declare(
     requires code { e.code < length (trees_of codes.now.items) }
     requires fun { IsFun (forest_at (trees_of codes.now.items) e.code) e.fun }
     requires scope { IsOwnScope w store.old.cells e.scope }
-    requires named { AreNamed w store.old e.scope (flat_map fun_name (fun_list (funs_of (fun_at (forest_at (trees_of codes.now.items) e.code) e.fun)))) }
-    ensures plan { IfOk result (λ p. (r : Rest) → entry_plan (trees_of codes.now.items) w store.new.cells e.fun p (image (trees_of codes.now.items) r w store.new)
-        ≡ calls.declare (fun_list (funs_of (fun_at (forest_at (trees_of codes.now.items) e.code) e.fun))) (scope_number w store.old.cells e.scope) (image (trees_of codes.now.items) r w store.old)
-        (calls.call_body (body_of (fun_at (forest_at (trees_of codes.now.items) e.code) e.fun)) (record { scope = Some (scope_number w store.old.cells e.scope); depth = e.depth }))) }
+    requires named { AreNamed w store.old e.scope
+        (flat_map fun_name (fun_list (funs_of (fun_at (forest_at (trees_of codes.now.items) e.code) e.fun)))) }
+    ensures plan { IfOk result (λ p. (r : Rest)
+        → entry_plan (trees_of codes.now.items) w store.new.cells e.fun p
+        (image (trees_of codes.now.items) r w store.new)
+        ≡ calls.declare (fun_list (funs_of (fun_at (forest_at (trees_of codes.now.items) e.code) e.fun)))
+        (scope_number w store.old.cells e.scope) (image (trees_of codes.now.items) r w store.old)
+        (calls.call_body (body_of (fun_at (forest_at (trees_of codes.now.items) e.code) e.fun))
+        (record { scope = Some (scope_number w store.old.cells e.scope); depth = e.depth }))) }
     ensures fine { IfOk result (FineEntry (trees_of codes.now.items) w store.new.cells e.fun) }
     ensures kept { Kept (trees_of codes.now.items) w store.old store.new }
 {
@@ -102,9 +107,11 @@ fn declare_all(
     requires code { e.code < length (trees_of codes.now.items) }
     requires funs { All (IsFun (forest_at (trees_of codes.now.items) e.code)) list.now.items }
     requires scope { IsOwnScope w store.old.cells e.scope }
-    requires named { AreNamed w store.old e.scope (fun_texts (forest_at (trees_of codes.now.items) e.code) list.now.items) }
+    requires named { AreNamed w store.old e.scope
+        (fun_texts (forest_at (trees_of codes.now.items) e.code) list.now.items) }
     ensures plan { IfOk result (λ p. (r : Rest) (k : State → Plan)
-        → calls.declare (map (fun_at (forest_at (trees_of codes.now.items) e.code)) list.now.items) (scope_number w store.old.cells e.scope) (image (trees_of codes.now.items) r w store.old) k
+        → calls.declare (map (fun_at (forest_at (trees_of codes.now.items) e.code)) list.now.items)
+        (scope_number w store.old.cells e.scope) (image (trees_of codes.now.items) r w store.old) k
         ≡ paid_plan p k (image (trees_of codes.now.items) r w store.new)) }
     ensures kept { Kept (trees_of codes.now.items) w store.old store.new }
 {
@@ -141,12 +148,16 @@ fn declare_one(
     requires code { e.code < length (trees_of codes.now.items) }
     requires fun { IsFun (forest_at (trees_of codes.now.items) e.code) inner }
     requires scope { IsOwnScope w store.old.cells e.scope }
-    requires named { AreNamed w store.old e.scope (fun_name (fun_at (forest_at (trees_of codes.now.items) e.code) inner)) }
+    requires named { AreNamed w store.old e.scope
+        (fun_name (fun_at (forest_at (trees_of codes.now.items) e.code) inner)) }
     ensures plan { IfOk result (λ p. (r : Rest) (k : State → Plan)
-        → costs.make (new_function (without_name (fun_at (forest_at (trees_of codes.now.items) e.code) inner)) (Some (scope_number w store.old.cells e.scope))) 0 (image (trees_of codes.now.items) r w store.old)
-        (λ v t. k (calls.with_variable t (scope_number w store.old.cells e.scope) (fun_name (fun_at (forest_at (trees_of codes.now.items) e.code) inner)) v))
+        → costs.make (new_function (without_name (fun_at (forest_at (trees_of codes.now.items) e.code) inner))
+        (Some (scope_number w store.old.cells e.scope))) 0 (image (trees_of codes.now.items) r w store.old)
+        (λ v t. k (calls.with_variable t (scope_number w store.old.cells e.scope)
+        (fun_name (fun_at (forest_at (trees_of codes.now.items) e.code) inner)) v))
         ≡ paid_plan p k (image (trees_of codes.now.items) r w store.new)) }
-    ensures names { IfOk result (λ p. IfDone p ((x : List ℕ) → IsNamed w store.old e.scope x → IsNamed w store.new e.scope x)) }
+    ensures names { IfOk result
+        (λ p. IfDone p ((x : List ℕ) → IsNamed w store.old e.scope x → IsNamed w store.new e.scope x)) }
     ensures kept { Kept (trees_of codes.now.items) w store.old store.new }
 {
     let tree = tree_at(codes, e.code);
@@ -172,7 +183,8 @@ fn set_name(w: u32, store: &mut Store, scope: CellId, name: &Option<Text>, value
     requires named { AreNamed w store.old scope (option_to_list name.now) }
     requires value { IsFine w store.old.cells value }
     ensures plan { (fs : List Forest) (r : Rest) → IsConfined fs w store.old
-        → image fs r w store.new ≡ calls.with_variable (image fs r w store.old) (scope_number w store.old.cells scope) (option_to_list name.now) (seen w store.old.cells value) }
+        → image fs r w store.new ≡ calls.with_variable (image fs r w store.old)
+        (scope_number w store.old.cells scope) (option_to_list name.now) (seen w store.old.cells value) }
     ensures kept { (fs : List Forest) → IsConfined fs w store.old → Kept fs w store.old store.new }
 {
     match name {

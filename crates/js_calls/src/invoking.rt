@@ -41,7 +41,8 @@ pub fn call(
     requires widget { w < 32 }
     requires confined { IsConfined (trees_of codes.now.items) w store.old }
     requires held { FineCall w store.old.cells call.value }
-    ensures plan { OnOk result (Plans (trees_of codes.now.items) w store.old store.new (invoked w store.old.cells call.value) flow.new) }
+    ensures plan { OnOk result
+        (Plans (trees_of codes.now.items) w store.old store.new (invoked w store.old.cells call.value) flow.new) }
     ensures fine { OnOk result (FineLeft (trees_of codes.now.items) w store.new.cells flow.new) }
     ensures near { OnOk result (left_free flow.new ≤ 4) }
     ensures kept { Kept (trees_of codes.now.items) w store.old store.new }
@@ -62,7 +63,8 @@ pub fn invoke(
     requires widget { w < 32 }
     requires confined { IsConfined (trees_of codes.now.items) w store.old }
     requires held { FineCall w store.old.cells call }
-    ensures plan { OnOk result (Plans (trees_of codes.now.items) w store.old store.new (invoked w store.old.cells call) flow.new) }
+    ensures plan { OnOk result
+        (Plans (trees_of codes.now.items) w store.old store.new (invoked w store.old.cells call) flow.new) }
     ensures fine { OnOk result (FineLeft (trees_of codes.now.items) w store.new.cells flow.new) }
     ensures near { OnOk result (left_free flow.new ≤ 4) }
     ensures kept { Kept (trees_of codes.now.items) w store.old store.new }
@@ -77,9 +79,12 @@ pub fn invoke(
 
 // A native takes a unit of its own.
 fn native(flow: &mut Flow, alloc: Global, call: Call, which: NativeId) -> Result<(), Memory>
-    ensures plan { OnOk result ((fs : List Forest) (w : ℕ) (cells : List PlainCell) (s : State) → planned fs w cells flow.new s
-        ≡ Do (meaning.RunNative which (option_map (seen w cells) call.this) (all_seen w cells call.args.items) call.depth) s Ret) }
-    ensures fine { OnOk result ((fs : List Forest) (w : ℕ) (cells : List PlainCell) → FineCall w cells call → FineLeft fs w cells flow.new) }
+    ensures plan { OnOk result ((fs : List Forest) (w : ℕ) (cells : List PlainCell) (s : State)
+        → planned fs w cells flow.new s
+        ≡ Do (meaning.RunNative which (option_map (seen w cells) call.this)
+        (all_seen w cells call.args.items) call.depth) s Ret) }
+    ensures fine { OnOk result ((fs : List Forest) (w : ℕ) (cells : List PlainCell) → FineCall w cells call
+        → FineLeft fs w cells flow.new) }
     ensures near { OnOk result (left_free flow.new ≤ 4) }
     ensures below { OnOk result (flow.new.below ≡ all_frames flow.old) }
 {
@@ -113,7 +118,8 @@ fn enter(
     requires fun { IsFunOf (trees_of codes.now.items) parts × IsPlaceScope w store.old.cells parts.scope }
     requires held { FineCall w store.old.cells call }
     ensures plan { OnOk result (Plans (trees_of codes.now.items) w store.old store.new
-        (calls.enter (state.Function (function_in (trees_of codes.now.items) parts.code parts.fun parts.declared) (option_map (scope_number w store.old.cells) parts.scope))
+        (calls.enter (state.Function (function_in (trees_of codes.now.items) parts.code parts.fun parts.declared)
+        (option_map (scope_number w store.old.cells) parts.scope))
         (seen w store.old.cells call.func) (all_seen w store.old.cells call.args.items) (suc call.depth)) flow.new) }
     ensures fine { OnOk result (FineLeft (trees_of codes.now.items) w store.new.cells flow.new) }
     ensures near { OnOk result (left_free flow.new ≤ 4) }
@@ -158,9 +164,13 @@ pub fn entered(
     requires confined { IsConfined (trees_of codes.now.items) w store.old }
     requires fun { IsFunOf (trees_of codes.now.items) parts × IsPlaceScope w store.old.cells parts.scope }
     requires held { IsFine w store.old.cells call.now.func.now × AreFine w store.old.cells call.now.args.now }
-    ensures plan { IfOk result (λ e. (r : Rest) → entry_plan (trees_of codes.now.items) w store.new.cells parts.fun e (image (trees_of codes.now.items) r w store.new)
-        ≡ calls.enter (state.Function (function_in (trees_of codes.now.items) parts.code parts.fun parts.declared) (option_map (scope_number w store.old.cells) parts.scope))
-        (seen w store.old.cells call.now.func.now) (all_seen w store.old.cells call.now.args.now) (suc call.now.depth) (image (trees_of codes.now.items) r w store.old)) }
+    ensures plan { IfOk result (λ e. (r : Rest)
+        → entry_plan (trees_of codes.now.items) w store.new.cells parts.fun e
+        (image (trees_of codes.now.items) r w store.new)
+        ≡ calls.enter (state.Function (function_in (trees_of codes.now.items) parts.code parts.fun parts.declared)
+        (option_map (scope_number w store.old.cells) parts.scope))
+        (seen w store.old.cells call.now.func.now) (all_seen w store.old.cells call.now.args.now)
+        (suc call.now.depth) (image (trees_of codes.now.items) r w store.old)) }
     ensures fine { IfOk result (FineEntry (trees_of codes.now.items) w store.new.cells parts.fun) }
     ensures kept { Kept (trees_of codes.now.items) w store.old store.new }
 {
@@ -192,7 +202,8 @@ pub fn throw(
     fault: Fault,
 ) -> Result<(), Memory>
     requires widget { w < 32 }
-    ensures plan { OnOk result (Plans (trees_of codes.now.items) w store.old store.new (costs.throw (meant_fault fault)) flow.new) }
+    ensures plan { OnOk result
+        (Plans (trees_of codes.now.items) w store.old store.new (costs.throw (meant_fault fault)) flow.new) }
     ensures fine { OnOk result (FineLeft (trees_of codes.now.items) w store.new.cells flow.new) }
     ensures near { OnOk result (left_free flow.new ≤ 1) }
     ensures kept { Kept (trees_of codes.now.items) w store.old store.new }

@@ -1,4 +1,5 @@
-//! Calls: functions and natives, their arguments and scopes, conversions by `toString`, and the calls that natives ask for.
+//! Calls: functions and natives, their arguments and scopes, conversions by `toString`, and the calls that
+//! natives ask for.
 #![tactic(auto)]
 
 mod answering;

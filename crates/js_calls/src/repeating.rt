@@ -34,7 +34,8 @@ pub fn each(
     c: Box<Calling>,
 ) -> Result<(), Memory>
     requires held { FineCalling w store.now.cells c.value }
-    ensures plan { OnOk result (Plans (trees_of codes.now.items) w store.now store.now (each_left w store.now.cells c.value) flow.new) }
+    ensures plan { OnOk result
+        (Plans (trees_of codes.now.items) w store.now store.now (each_left w store.now.cells c.value) flow.new) }
     ensures fine { OnOk result (FineLeft (trees_of codes.now.items) w store.now.cells flow.new) }
     ensures near { OnOk result (left_free flow.new ≤ 1) }
     ensures below { OnOk result (flow.new.below ≡ all_frames flow.old) }
@@ -94,7 +95,8 @@ pub fn gather(
 ) -> Result<(), Memory>
     requires widget { w < 32 }
     requires held { FineGathering w store.old.cells g.value }
-    ensures plan { OnOk result (Plans (trees_of codes.now.items) w store.old store.new (gather_left w store.old.cells g.value) flow.new) }
+    ensures plan { OnOk result
+        (Plans (trees_of codes.now.items) w store.old store.new (gather_left w store.old.cells g.value) flow.new) }
     ensures fine { OnOk result (FineLeft (trees_of codes.now.items) w store.new.cells flow.new) }
     ensures near { OnOk result (left_free flow.new ≤ 1) }
     ensures kept { Kept (trees_of codes.now.items) w store.old store.new }
@@ -120,7 +122,8 @@ fn next_item(g: &Gathering) -> Result<Option<Value>, Memory>
 fn gather_call(alloc: Global, g: &Gathering, item: Value) -> Result<Box<Call>, Memory>
     ensures func { IfOk result (λ k. k.value.func ≡ Value.Ref g.now.func) }
     ensures this { IfOk result (λ k. k.value.this ≡ None) }
-    ensures args { IfOk result (λ k. k.value.args.items ≡ item ∷ (Value.Num (Number.Whole (pos (length g.now.results.items))) ∷ [])) }
+    ensures args { IfOk result
+        (λ k. k.value.args.items ≡ item ∷ (Value.Num (Number.Whole (pos (length g.now.results.items))) ∷ [])) }
     ensures depth { IfOk result (λ k. k.value.depth ≡ g.now.depth) }
 {
     call_with(alloc, g.func, item, Some(count_of(&g.results)), g.depth)
@@ -146,7 +149,8 @@ pub fn gathered(
     requires widget { w < 32 }
     requires held { FineGathering w store.old.cells g.value × IsFine w store.old.cells value }
     ensures plan { OnOk result (Plans (trees_of codes.now.items) w store.old store.new
-        (gathering_taken (trees_of codes.now.items) w store.old.cells g.value (meaning.Is (seen w store.old.cells value))) flow.new) }
+        (gathering_taken (trees_of codes.now.items) w store.old.cells g.value
+        (meaning.Is (seen w store.old.cells value))) flow.new) }
     ensures fine { OnOk result (FineLeft (trees_of codes.now.items) w store.new.cells flow.new) }
     ensures near { OnOk result (left_free flow.new ≤ 1) }
     ensures kept { Kept (trees_of codes.now.items) w store.old store.new }
@@ -169,7 +173,8 @@ fn keep(
     requires widget { w < 32 }
     requires held { FineGathering w store.old.cells g }
     ensures plan { OnOk result (Plans (trees_of codes.now.items) w store.old store.new
-        (gathered g.keep (all_seen w store.old.cells g.items.items) (all_seen w store.old.cells g.results.items)) flow.new) }
+        (gathered g.keep (all_seen w store.old.cells g.items.items)
+        (all_seen w store.old.cells g.results.items)) flow.new) }
     ensures fine { OnOk result (FineLeft (trees_of codes.now.items) w store.new.cells flow.new) }
     ensures near { OnOk result (left_free flow.new ≤ 1) }
     ensures kept { Kept (trees_of codes.now.items) w store.old store.new }
@@ -202,7 +207,8 @@ fn new_array(
 ) -> Result<(), Memory>
     requires widget { w < 32 }
     requires held { AreFine w store.old.cells values.items }
-    ensures plan { OnOk result (Plans (trees_of codes.now.items) w store.old store.new (λ s. natives.make_array (all_seen w store.old.cells values.items) 0 s costs.give) flow.new) }
+    ensures plan { OnOk result (Plans (trees_of codes.now.items) w store.old store.new
+        (λ s. natives.make_array (all_seen w store.old.cells values.items) 0 s costs.give) flow.new) }
     ensures fine { OnOk result (FineLeft (trees_of codes.now.items) w store.new.cells flow.new) }
     ensures near { OnOk result (left_free flow.new ≤ 1) }
     ensures kept { Kept (trees_of codes.now.items) w store.old store.new }
@@ -217,8 +223,10 @@ fn new_array(
 // The items whose result is true.
 fn passing(alloc: Global, items: &Vec<Value>, results: &Vec<Value>) -> Result<Vec<Value>, Memory>
     ensures seen { IfOk result (λ vs. (w : ℕ) (cells : List PlainCell)
-        → all_seen w cells vs.items ≡ lists.kept (all_seen w cells items.now.items) (all_seen w cells results.now.items)) }
-    ensures fine { IfOk result (λ vs. (w : ℕ) (cells : List PlainCell) → AreFine w cells items.now.items → AreFine w cells vs.items) }
+        → all_seen w cells vs.items
+        ≡ lists.kept (all_seen w cells items.now.items) (all_seen w cells results.now.items)) }
+    ensures fine { IfOk result (λ vs. (w : ℕ) (cells : List PlainCell) → AreFine w cells items.now.items
+        → AreFine w cells vs.items) }
 {
     let mut kept = Vec::new(alloc);
     'items: for (i, item) in items.iter().enumerate() {

@@ -41,9 +41,11 @@ pub fn take_call(
 ) -> Result<(), Memory>
     requires widget { w < 32 }
     requires confined { IsConfined (trees_of codes.now.items) w store.old }
-    requires held { FineCallFrame (trees_of codes.now.items) w store.old.cells frame × FineCompletion w store.old.cells how }
+    requires held { FineCallFrame (trees_of codes.now.items) w store.old.cells frame
+        × FineCompletion w store.old.cells how }
     ensures plan { OnOk result (Plans (trees_of codes.now.items) w store.old store.new
-        (call_taken (trees_of codes.now.items) w store.old.cells frame (completion_of w store.old.cells how)) flow.new) }
+        (call_taken (trees_of codes.now.items) w store.old.cells frame
+        (completion_of w store.old.cells how)) flow.new) }
     ensures fine { OnOk result (FineLeft (trees_of codes.now.items) w store.new.cells flow.new) }
     ensures near { OnOk result (left_free flow.new ≤ call_free frame) }
     ensures kept { Kept (trees_of codes.now.items) w store.old store.new }
@@ -69,7 +71,8 @@ fn take_value(
     requires confined { IsConfined (trees_of codes.now.items) w store.old }
     requires held { FineCallFrame (trees_of codes.now.items) w store.old.cells frame × IsFine w store.old.cells value }
     ensures plan { OnOk result (Plans (trees_of codes.now.items) w store.old store.new
-        (call_taken (trees_of codes.now.items) w store.old.cells frame (meaning.Is (seen w store.old.cells value))) flow.new) }
+        (call_taken (trees_of codes.now.items) w store.old.cells frame
+        (meaning.Is (seen w store.old.cells value))) flow.new) }
     ensures fine { OnOk result (FineLeft (trees_of codes.now.items) w store.new.cells flow.new) }
     ensures near { OnOk result (left_free flow.new ≤ call_free frame) }
     ensures kept { Kept (trees_of codes.now.items) w store.old store.new }
@@ -100,10 +103,12 @@ fn take_other(
 ) -> Result<(), Memory>
     requires widget { w < 32 }
     requires confined { IsConfined (trees_of codes.now.items) w store.old }
-    requires held { FineCallFrame (trees_of codes.now.items) w store.old.cells frame × FineCompletion w store.old.cells how }
+    requires held { FineCallFrame (trees_of codes.now.items) w store.old.cells frame
+        × FineCompletion w store.old.cells how }
     requires other { IsOther how }
     ensures plan { OnOk result (Plans (trees_of codes.now.items) w store.old store.new
-        (call_taken (trees_of codes.now.items) w store.old.cells frame (completion_of w store.old.cells how)) flow.new) }
+        (call_taken (trees_of codes.now.items) w store.old.cells frame
+        (completion_of w store.old.cells how)) flow.new) }
     ensures fine { OnOk result (FineLeft (trees_of codes.now.items) w store.new.cells flow.new) }
     ensures near { OnOk result (left_free flow.new ≤ call_free frame) }
     ensures kept { Kept (trees_of codes.now.items) w store.old store.new }
@@ -129,9 +134,11 @@ fn take_callee(
 ) -> Result<(), Memory>
     requires widget { w < 32 }
     requires confined { IsConfined (trees_of codes.now.items) w store.old }
-    requires held { IsExprAt (trees_of codes.now.items) w store.old.cells call.0 call.1 × FineCompletion w store.old.cells how }
+    requires held { IsExprAt (trees_of codes.now.items) w store.old.cells call.0 call.1
+        × FineCompletion w store.old.cells how }
     ensures plan { OnOk result (Plans (trees_of codes.now.items) w store.old store.new
-        (expressions.callee (arguments_of (expr_at (forest_at (trees_of codes.now.items) call.1.code) call.0)) (place_of w store.old.cells call.1) (completion_of w store.old.cells how)) flow.new) }
+        (expressions.callee (arguments_of (expr_at (forest_at (trees_of codes.now.items) call.1.code) call.0))
+        (place_of w store.old.cells call.1) (completion_of w store.old.cells how)) flow.new) }
     ensures fine { OnOk result (FineLeft (trees_of codes.now.items) w store.new.cells flow.new) }
     ensures near { OnOk result (left_free flow.new ≤ 4) }
     ensures kept { Kept (trees_of codes.now.items) w store.old store.new }
@@ -155,7 +162,8 @@ fn take_text(
     requires widget { w < 32 }
     requires held { FineCompletion w store.old.cells how }
     ensures plan { OnOk result (Plans (trees_of codes.now.items) w store.old store.new
-        (λ s. on_normal (completion_of w store.old.cells how) s (costs.make_text text s (costs.give (meaning.Text text)))) flow.new) }
+        (λ s. on_normal (completion_of w store.old.cells how) s
+        (costs.make_text text s (costs.give (meaning.Text text)))) flow.new) }
     ensures fine { OnOk result (FineLeft (trees_of codes.now.items) w store.new.cells flow.new) }
     ensures near { OnOk result (left_free flow.new ≤ 1) }
     ensures kept { Kept (trees_of codes.now.items) w store.old store.new }
@@ -169,7 +177,8 @@ fn take_text(
 
 // How a call ends, by how its body ended.
 fn call_end(how: Completion) -> Completion
-    ensures end { (w : ℕ) (cells : List PlainCell) (s : State) → Ret (completion_of w cells result) s ≡ calls.call_end (completion_of w cells how) s }
+    ensures end { (w : ℕ) (cells : List PlainCell) (s : State)
+        → Ret (completion_of w cells result) s ≡ calls.call_end (completion_of w cells how) s }
     ensures fine { (w : ℕ) (cells : List PlainCell) → FineCompletion w cells how → FineCompletion w cells result }
 {
     match how {

@@ -199,7 +199,8 @@ fn converted(
     requires widget { w < 32 }
     requires confined { IsConfined (trees_of codes.now.items) w store.old }
     requires waits { IsConversion frame.now }
-    requires held { FineForm (trees_of codes.now.items) w store.old.cells frame.now × IsFine w store.old.cells value.now }
+    requires held { FineForm (trees_of codes.now.items) w store.old.cells frame.now
+        × IsFine w store.old.cells value.now }
     ensures plan { OnOk result (Plans (trees_of codes.now.items) w store.old store.new
         (form_taken (trees_of codes.now.items) w store.old.cells frame.now
         (meaning.Is (seen w store.old.cells value.now))) flow.new) }

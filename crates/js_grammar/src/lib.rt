@@ -1,7 +1,9 @@
 //! The grammar of scripts (ECMA-262 3rd edition, sections 11 to 14): which tokens spell which tree.
 //!
-//! `specs/Grammar.antt` says which tokens spell which tree, row by row, as a relation between tokens with their depths and plain trees.
-//! `specs/Machine.antt` is its machine, which takes one token at a time: what a parser has read so far leads the machine from one state to the next.
+//! `specs/Grammar.antt` says which tokens spell which tree, row by row, as a relation between tokens with
+//! their depths and plain trees.
+//! `specs/Machine.antt` is its machine, which takes one token at a time: what a parser has read so far leads
+//! the machine from one state to the next.
 //! The functions that do nothing carry the laws of the two.
 #![tactic(auto)]
 

@@ -38,7 +38,8 @@ pub(crate) fn after_try(
     requires place { IsStmtAt (trees_of codes.now.items) w store.old.cells at.0 at.1 }
     requires how { FineCompletion w store.old.cells how }
     ensures plan { OnOk result (Plans (trees_of codes.now.items) w store.old store.new
-        (taken (trees_of codes.now.items) w store.old.cells (Frame.Statement (StatementFrame.Caught at.0 at.1)) (completion_of w store.old.cells how)) flow.new) }
+        (taken (trees_of codes.now.items) w store.old.cells (Frame.Statement (StatementFrame.Caught at.0 at.1))
+        (completion_of w store.old.cells how)) flow.new) }
     ensures fine { OnOk result (FineLeft (trees_of codes.now.items) w store.new.cells flow.new) }
     ensures near { OnOk result (left_free flow.new ≤ 2) }
     ensures kept { Kept (trees_of codes.now.items) w store.old store.new }
@@ -78,7 +79,9 @@ fn in_catch(
     requires place { IsStmtAt (trees_of codes.now.items) w store.old.cells at.0 at.1 }
     requires value { IsFine w store.old.cells caught.1 }
     ensures plan { OnOk result (Plans (trees_of codes.now.items) w store.old store.new
-        (statements.in_catch caught.0 (block_list (forest_at (trees_of codes.now.items) at.1.code) (Block.Catch at.0)) (seen w store.old.cells caught.1) (place_of w store.old.cells at.1)) flow.new) }
+        (statements.in_catch caught.0
+        (block_list (forest_at (trees_of codes.now.items) at.1.code) (Block.Catch at.0))
+        (seen w store.old.cells caught.1) (place_of w store.old.cells at.1)) flow.new) }
     ensures fine { OnOk result (FineLeft (trees_of codes.now.items) w store.new.cells flow.new) }
     ensures near { OnOk result (left_free flow.new ≤ 2) }
     ensures kept { Kept (trees_of codes.now.items) w store.old store.new }
@@ -112,8 +115,10 @@ pub(crate) fn after_catch(
     requires stmt { IsStmt (forest_at (trees_of codes.now.items) place.code) id }
     ensures plan { OnOk result ((w : ℕ) (cells : List PlainCell) (s : State)
         → planned (trees_of codes.now.items) w cells flow.new s
-        ≡ taken (trees_of codes.now.items) w cells (Frame.Statement (StatementFrame.Finally id place)) (completion_of w cells how) s) }
-    ensures fine { OnOk result ((w : ℕ) (cells : List PlainCell) → IsPlaceScope w cells place.scope → FineCompletion w cells how
+        ≡ taken (trees_of codes.now.items) w cells (Frame.Statement (StatementFrame.Finally id place))
+        (completion_of w cells how) s) }
+    ensures fine { OnOk result ((w : ℕ) (cells : List PlainCell) → IsPlaceScope w cells place.scope
+        → FineCompletion w cells how
         → FineLeft (trees_of codes.now.items) w cells flow.new) }
     ensures near { OnOk result (left_free flow.new ≤ 3) }
     ensures below { OnOk result (flow.new.below ≡ all_frames flow.old) }
@@ -132,7 +137,8 @@ pub(crate) fn after_catch(
 /// After a `finally`: its own end replaces the earlier one where it is abrupt.
 pub(crate) fn after_finally(before: Completion, how: Completion) -> Completion
     ensures plan { (w : ℕ) (cells : List PlainCell) (s : State)
-        → Ret (completion_of w cells result) s ≡ statements.last_end (completion_of w cells before) (completion_of w cells how) s }
+        → Ret (completion_of w cells result) s
+        ≡ statements.last_end (completion_of w cells before) (completion_of w cells how) s }
     ensures fine { (w : ℕ) (cells : List PlainCell) → FineCompletion w cells before → FineCompletion w cells how
         → FineCompletion w cells result }
 {

@@ -38,7 +38,8 @@ struct Tested {
 fn next_test(tree: &Tree, id: StmtId, from: usize) -> Option<Tested>
     requires { IsStmt (trees tree.now) id }
     ensures { let all = clauses_of (stmt_at (trees tree.now) id) in MatchOption result
-        ((v : meaning.Value) (p : plan.Place) (s : State) → statements.choose_case v all (drop from all) p s ≡ calls.statements (statements.from_default all all) p s)
+        ((v : meaning.Value) (p : plan.Place) (s : State)
+        → statements.choose_case v all (drop from all) p s ≡ calls.statements (statements.from_default all all) p s)
         (λ c. IsExpr (trees tree.now) c.test
         × ((v : meaning.Value) (p : plan.Place) (s : State) → statements.choose_case v all (drop from all) p s
         ≡ Do (Eval (expr_at (trees tree.now) c.test) p) s (clause_tested v all (drop c.at all) p))) }
@@ -65,8 +66,10 @@ pub(crate) fn begin_choice(
     requires stmt { IsStmt (forest_at (trees_of codes.now.items) place.code) id }
     ensures plan { OnOk result ((w : ℕ) (cells : List PlainCell) (s : State)
         → planned (trees_of codes.now.items) w cells flow.new s
-        ≡ taken (trees_of codes.now.items) w cells (Frame.Statement (StatementFrame.Switch id place)) (meaning.Is (seen w cells value)) s) }
-    ensures fine { OnOk result ((w : ℕ) (cells : List PlainCell) → IsPlaceScope w cells place.scope → IsFine w cells value
+        ≡ taken (trees_of codes.now.items) w cells (Frame.Statement (StatementFrame.Switch id place))
+        (meaning.Is (seen w cells value)) s) }
+    ensures fine { OnOk result ((w : ℕ) (cells : List PlainCell) → IsPlaceScope w cells place.scope
+        → IsFine w cells value
         → FineLeft (trees_of codes.now.items) w cells flow.new) }
     ensures near { OnOk result (left_free flow.new ≤ 3) }
     ensures below { OnOk result (flow.new.below ≡ all_frames flow.old) }
@@ -99,10 +102,13 @@ pub(crate) fn after_case(
 ) -> Result<(), Memory>
     requires code { place.code < length (trees_of codes.now.items) }
     requires stmt { IsStmt (forest_at (trees_of codes.now.items) place.code) id }
-    ensures plan { OnOk result ((w : ℕ) (cells : List PlainCell) (s : State) → IsFine w cells value → IsFine w cells test
+    ensures plan { OnOk result ((w : ℕ) (cells : List PlainCell) (s : State) → IsFine w cells value
+        → IsFine w cells test
         → planned (trees_of codes.now.items) w cells flow.new s
-        ≡ taken (trees_of codes.now.items) w cells (Frame.Statement (StatementFrame.Case value id n place)) (meaning.Is (seen w cells test)) s) }
-    ensures fine { OnOk result ((w : ℕ) (cells : List PlainCell) → IsPlaceScope w cells place.scope → IsFine w cells value → IsFine w cells test
+        ≡ taken (trees_of codes.now.items) w cells (Frame.Statement (StatementFrame.Case value id n place))
+        (meaning.Is (seen w cells test)) s) }
+    ensures fine { OnOk result ((w : ℕ) (cells : List PlainCell) → IsPlaceScope w cells place.scope
+        → IsFine w cells value → IsFine w cells test
         → FineLeft (trees_of codes.now.items) w cells flow.new) }
     ensures near { OnOk result (left_free flow.new ≤ 2) }
     ensures below { OnOk result (flow.new.below ≡ all_frames flow.old) }
@@ -125,10 +131,12 @@ fn other_case(
 ) -> Result<(), Memory>
     requires code { place.code < length (trees_of codes.now.items) }
     requires stmt { IsStmt (forest_at (trees_of codes.now.items) place.code) id }
-    ensures plan { OnOk result ((w : ℕ) (cells : List PlainCell) (s : State) → let all = clauses_of (stmt_at (forest_at (trees_of codes.now.items) place.code) id) in
+    ensures plan { OnOk result ((w : ℕ) (cells : List PlainCell) (s : State)
+        → let all = clauses_of (stmt_at (forest_at (trees_of codes.now.items) place.code) id) in
         planned (trees_of codes.now.items) w cells flow.new s
         ≡ statements.choose_case (seen w cells value) all (drop n all) (place_of w cells place) s) }
-    ensures fine { OnOk result ((w : ℕ) (cells : List PlainCell) → IsPlaceScope w cells place.scope → IsFine w cells value
+    ensures fine { OnOk result ((w : ℕ) (cells : List PlainCell) → IsPlaceScope w cells place.scope
+        → IsFine w cells value
         → FineLeft (trees_of codes.now.items) w cells flow.new) }
     ensures near { OnOk result (left_free flow.new ≤ 2) }
     ensures below { OnOk result (flow.new.below ≡ all_frames flow.old) }

@@ -56,7 +56,8 @@ fn statement(
     requires parts { AreStmtParts (forest_at (trees_of codes.now.items) place.code) node.now }
     ensures plan { OnOk result ((w : ℕ) (cells : List PlainCell) (s : State)
         → planned (trees_of codes.now.items) w cells flow.new s
-        ≡ statements.statement (plain_stmt_form (forest_at (trees_of codes.now.items) place.code) node.now) (place_of w cells place) s) }
+        ≡ statements.statement (plain_stmt_form (forest_at (trees_of codes.now.items) place.code) node.now)
+        (place_of w cells place) s) }
     ensures fine { OnOk result ((w : ℕ) (cells : List PlainCell) → IsPlaceScope w cells place.scope
         → FineLeft (trees_of codes.now.items) w cells flow.new) }
     ensures near { OnOk result (left_free flow.new ≤ job_free) }
@@ -115,7 +116,9 @@ pub(crate) fn declarations(
     requires stmt { IsStmt (forest_at (trees_of codes.now.items) place.code) id }
     ensures plan { OnOk result ((w : ℕ) (cells : List PlainCell) (s : State)
         → planned (trees_of codes.now.items) w cells flow.new s
-        ≡ statements.declarations (drop from (decls_of (stmt_at (forest_at (trees_of codes.now.items) place.code) id))) (place_of w cells place) s) }
+        ≡ statements.declarations
+        (drop from (decls_of (stmt_at (forest_at (trees_of codes.now.items) place.code) id)))
+        (place_of w cells place) s) }
     ensures fine { OnOk result ((w : ℕ) (cells : List PlainCell) → IsPlaceScope w cells place.scope
         → FineLeft (trees_of codes.now.items) w cells flow.new) }
     ensures near { OnOk result (left_free flow.new ≤ 1) }
@@ -141,7 +144,8 @@ fn declared_first(
     requires stmt { IsStmt (forest_at (trees_of codes.now.items) place.code) id }
     ensures plan { OnOk result ((w : ℕ) (cells : List PlainCell) (s : State)
         → planned (trees_of codes.now.items) w cells flow.new s
-        ≡ and_then (statements.declarations (decls_of (stmt_at (forest_at (trees_of codes.now.items) place.code) id)) (place_of w cells place) s)
+        ≡ and_then (statements.declarations (decls_of (stmt_at (forest_at (trees_of codes.now.items) place.code) id))
+        (place_of w cells place) s)
         (taken (trees_of codes.now.items) w cells (Frame.Statement (StatementFrame.ForAgain id place)))) }
     ensures fine { OnOk result ((w : ℕ) (cells : List PlainCell) → IsPlaceScope w cells place.scope
         → FineLeft (trees_of codes.now.items) w cells flow.new) }
@@ -164,7 +168,8 @@ fn listed_first(flow: &mut Flow, codes: &Vec<Code>, id: StmtId, place: Place) ->
     requires stmt { IsStmt (forest_at (trees_of codes.now.items) place.code) id }
     ensures plan { OnOk result ((w : ℕ) (cells : List PlainCell) (s : State)
         → planned (trees_of codes.now.items) w cells flow.new s
-        ≡ and_then (statements.expressions (first_of (stmt_at (forest_at (trees_of codes.now.items) place.code) id)) (place_of w cells place) s)
+        ≡ and_then (statements.expressions (first_of (stmt_at (forest_at (trees_of codes.now.items) place.code) id))
+        (place_of w cells place) s)
         (taken (trees_of codes.now.items) w cells (Frame.Statement (StatementFrame.ForAgain id place)))) }
     ensures fine { OnOk result ((w : ℕ) (cells : List PlainCell) → IsPlaceScope w cells place.scope
         → FineLeft (trees_of codes.now.items) w cells flow.new) }

@@ -52,7 +52,8 @@ pub fn take_statement(
     requires frame { FineStatement (trees_of codes.now.items) w store.old.cells frame }
     requires how { FineCompletion w store.old.cells how }
     ensures plan { OnOk result (Plans (trees_of codes.now.items) w store.old store.new
-        (taken (trees_of codes.now.items) w store.old.cells (Frame.Statement frame) (completion_of w store.old.cells how)) flow.new) }
+        (taken (trees_of codes.now.items) w store.old.cells (Frame.Statement frame)
+        (completion_of w store.old.cells how)) flow.new) }
     ensures fine { OnOk result (FineLeft (trees_of codes.now.items) w store.new.cells flow.new) }
     ensures near { OnOk result (left_free flow.new ≤ statement_free frame) }
     ensures kept { Kept (trees_of codes.now.items) w store.old store.new }
@@ -79,7 +80,8 @@ fn take_value(
     requires frame { FineStatement (trees_of codes.now.items) w store.old.cells frame }
     requires value { IsFine w store.old.cells value }
     ensures plan { OnOk result (Plans (trees_of codes.now.items) w store.old store.new
-        (taken (trees_of codes.now.items) w store.old.cells (Frame.Statement frame) (meaning.Is (seen w store.old.cells value))) flow.new) }
+        (taken (trees_of codes.now.items) w store.old.cells (Frame.Statement frame)
+        (meaning.Is (seen w store.old.cells value))) flow.new) }
     ensures fine { OnOk result (FineLeft (trees_of codes.now.items) w store.new.cells flow.new) }
     ensures near { OnOk result (left_free flow.new ≤ statement_free frame) }
     ensures kept { Kept (trees_of codes.now.items) w store.old store.new }
@@ -112,7 +114,8 @@ fn go_on(
     requires value { IsFine w store.now.cells value }
     requires goes { GoesOn frame }
     ensures plan { OnOk result (Plans (trees_of codes.now.items) w store.now store.now
-        (taken (trees_of codes.now.items) w store.now.cells (Frame.Statement frame) (meaning.Is (seen w store.now.cells value))) flow.new) }
+        (taken (trees_of codes.now.items) w store.now.cells (Frame.Statement frame)
+        (meaning.Is (seen w store.now.cells value))) flow.new) }
     ensures fine { OnOk result (FineLeft (trees_of codes.now.items) w store.now.cells flow.new) }
     ensures near { OnOk result (left_free flow.new ≤ statement_free frame) }
     ensures below { OnOk result (flow.new.below ≡ all_frames flow.old) }
@@ -148,7 +151,8 @@ fn take_other(
     requires how { FineCompletion w store.old.cells how }
     requires other { IsOther how }
     ensures plan { OnOk result (Plans (trees_of codes.now.items) w store.old store.new
-        (taken (trees_of codes.now.items) w store.old.cells (Frame.Statement frame) (completion_of w store.old.cells how)) flow.new) }
+        (taken (trees_of codes.now.items) w store.old.cells (Frame.Statement frame)
+        (completion_of w store.old.cells how)) flow.new) }
     ensures fine { OnOk result (FineLeft (trees_of codes.now.items) w store.new.cells flow.new) }
     ensures near { OnOk result (left_free flow.new ≤ statement_free frame) }
     ensures kept { Kept (trees_of codes.now.items) w store.old store.new }
@@ -208,8 +212,10 @@ fn after_statement(
     requires block { IsBlock (forest_at (trees_of codes.now.items) place.code) block }
     ensures plan { OnOk result ((w : ℕ) (cells : List PlainCell) (s : State)
         → planned (trees_of codes.now.items) w cells flow.new s
-        ≡ taken (trees_of codes.now.items) w cells (Frame.Statement (StatementFrame.Seq block n place)) (completion_of w cells how) s) }
-    ensures fine { OnOk result ((w : ℕ) (cells : List PlainCell) → IsPlaceScope w cells place.scope → FineCompletion w cells how
+        ≡ taken (trees_of codes.now.items) w cells (Frame.Statement (StatementFrame.Seq block n place))
+        (completion_of w cells how) s) }
+    ensures fine { OnOk result ((w : ℕ) (cells : List PlainCell) → IsPlaceScope w cells place.scope
+        → FineCompletion w cells how
         → FineLeft (trees_of codes.now.items) w cells flow.new) }
     ensures near { OnOk result (left_free flow.new ≤ 1) }
     ensures below { OnOk result (flow.new.below ≡ all_frames flow.old) }
@@ -230,7 +236,8 @@ pub fn begin_block(
     requires code { place.code < length (trees_of codes.now.items) }
     requires block { IsBlock (forest_at (trees_of codes.now.items) place.code) block }
     ensures plan { OnOk result ((w : ℕ) (cells : List PlainCell) (s : State)
-        → planned (trees_of codes.now.items) w cells flow.new s ≡ block_at (trees_of codes.now.items) w cells block 0 place s) }
+        → planned (trees_of codes.now.items) w cells flow.new s
+        ≡ block_at (trees_of codes.now.items) w cells block 0 place s) }
     ensures fine { OnOk result ((w : ℕ) (cells : List PlainCell) → IsPlaceScope w cells place.scope
         → FineLeft (trees_of codes.now.items) w cells flow.new) }
     ensures near { OnOk result (left_free flow.new ≤ 1) }
@@ -249,7 +256,8 @@ fn statements_from(
     requires code { place.code < length (trees_of codes.now.items) }
     requires block { IsBlock (forest_at (trees_of codes.now.items) place.code) block }
     ensures plan { OnOk result ((w : ℕ) (cells : List PlainCell) (s : State)
-        → planned (trees_of codes.now.items) w cells flow.new s ≡ block_at (trees_of codes.now.items) w cells block n place s) }
+        → planned (trees_of codes.now.items) w cells flow.new s
+        ≡ block_at (trees_of codes.now.items) w cells block n place s) }
     ensures fine { OnOk result ((w : ℕ) (cells : List PlainCell) → IsPlaceScope w cells place.scope
         → FineLeft (trees_of codes.now.items) w cells flow.new) }
     ensures near { OnOk result (left_free flow.new ≤ 1) }
@@ -277,7 +285,9 @@ fn after_declaration(
     requires place { IsStmtAt (trees_of codes.now.items) w store.old.cells at.0 at.2 }
     requires value { IsFine w store.old.cells value }
     ensures plan { OnOk result (Plans (trees_of codes.now.items) w store.old store.new
-        (taken (trees_of codes.now.items) w store.old.cells (Frame.Statement (StatementFrame.Declared at.0 at.1 at.2)) (meaning.Is (seen w store.old.cells value))) flow.new) }
+        (taken (trees_of codes.now.items) w store.old.cells
+        (Frame.Statement (StatementFrame.Declared at.0 at.1 at.2))
+        (meaning.Is (seen w store.old.cells value))) flow.new) }
     ensures fine { OnOk result (FineLeft (trees_of codes.now.items) w store.new.cells flow.new) }
     ensures near { OnOk result (left_free flow.new ≤ 1) }
     ensures kept { Kept (trees_of codes.now.items) w store.old store.new }
@@ -298,7 +308,8 @@ fn branch(flow: &mut Flow, id: StmtId, value: &Value, place: Place) -> Result<()
     ensures plan { OnOk result ((fs : List Forest) (w : ℕ) (cells : List PlainCell) (s : State)
         → planned fs w cells flow.new s
         ≡ taken fs w cells (Frame.Statement (StatementFrame.Branch id place)) (meaning.Is (seen w cells value.now)) s) }
-    ensures fine { OnOk result ((fs : List Forest) (w : ℕ) (cells : List PlainCell) → IsStmtAt fs w cells id place → FineLeft fs w cells flow.new) }
+    ensures fine { OnOk result ((fs : List Forest) (w : ℕ) (cells : List PlainCell) → IsStmtAt fs w cells id place
+        → FineLeft fs w cells flow.new) }
     ensures near { OnOk result (left_free flow.new ≤ 2) }
     ensures below { OnOk result (flow.new.below ≡ all_frames flow.old) }
 {
@@ -322,8 +333,10 @@ fn after_part(
     requires stmt { IsStmt (forest_at (trees_of codes.now.items) place.code) id }
     ensures plan { OnOk result ((w : ℕ) (cells : List PlainCell) (s : State)
         → planned (trees_of codes.now.items) w cells flow.new s
-        ≡ taken (trees_of codes.now.items) w cells (Frame.Statement (StatementFrame.ForAgain id place)) (completion_of w cells how) s) }
-    ensures fine { OnOk result ((w : ℕ) (cells : List PlainCell) → IsPlaceScope w cells place.scope → FineCompletion w cells how
+        ≡ taken (trees_of codes.now.items) w cells (Frame.Statement (StatementFrame.ForAgain id place))
+        (completion_of w cells how) s) }
+    ensures fine { OnOk result ((w : ℕ) (cells : List PlainCell) → IsPlaceScope w cells place.scope
+        → FineCompletion w cells how
         → FineLeft (trees_of codes.now.items) w cells flow.new) }
     ensures near { OnOk result (left_free flow.new ≤ 1) }
     ensures below { OnOk result (flow.new.below ≡ all_frames flow.old) }
@@ -356,7 +369,8 @@ pub(crate) fn throw(
     fault: Fault,
 ) -> Result<(), Memory>
     requires widget { w < 32 }
-    ensures plan { OnOk result (Plans (trees_of codes.now.items) w store.old store.new (costs.throw (meant_fault fault)) flow.new) }
+    ensures plan { OnOk result
+        (Plans (trees_of codes.now.items) w store.old store.new (costs.throw (meant_fault fault)) flow.new) }
     ensures fine { OnOk result (FineLeft (trees_of codes.now.items) w store.new.cells flow.new) }
     ensures near { OnOk result (left_free flow.new ≤ 1) }
     ensures kept { Kept (trees_of codes.now.items) w store.old store.new }

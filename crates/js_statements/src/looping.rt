@@ -35,7 +35,8 @@ pub(crate) fn again(
     requires stmt { IsStmt (forest_at (trees_of codes.now.items) place.code) id }
     ensures plan { OnOk result ((w : ℕ) (cells : List PlainCell) (s : State)
         → planned (trees_of codes.now.items) w cells flow.new s
-        ≡ taken (trees_of codes.now.items) w cells (Frame.Statement (StatementFrame.ForAgain id place)) meaning.Normal s) }
+        ≡ taken (trees_of codes.now.items) w cells
+        (Frame.Statement (StatementFrame.ForAgain id place)) meaning.Normal s) }
     ensures fine { OnOk result ((w : ℕ) (cells : List PlainCell) → IsPlaceScope w cells place.scope
         → FineLeft (trees_of codes.now.items) w cells flow.new) }
     ensures near { OnOk result (left_free flow.new ≤ 1) }
@@ -60,7 +61,8 @@ pub(crate) fn after_test(
     ensures plan { OnOk result ((fs : List Forest) (w : ℕ) (cells : List PlainCell) (s : State)
         → planned fs w cells flow.new s
         ≡ taken fs w cells (Frame.Statement (StatementFrame.Test id place)) (meaning.Is (seen w cells value.now)) s) }
-    ensures fine { OnOk result ((fs : List Forest) (w : ℕ) (cells : List PlainCell) → IsStmtAt fs w cells id place → FineLeft fs w cells flow.new) }
+    ensures fine { OnOk result ((fs : List Forest) (w : ℕ) (cells : List PlainCell) → IsStmtAt fs w cells id place
+        → FineLeft fs w cells flow.new) }
     ensures near { OnOk result (left_free flow.new ≤ 1) }
     ensures below { OnOk result (flow.new.below ≡ all_frames flow.old) }
 {
@@ -83,8 +85,10 @@ pub(crate) fn after_body(
     requires stmt { IsStmt (forest_at (trees_of codes.now.items) place.code) id }
     ensures plan { OnOk result ((w : ℕ) (cells : List PlainCell) (s : State)
         → planned (trees_of codes.now.items) w cells flow.new s
-        ≡ taken (trees_of codes.now.items) w cells (Frame.Statement (StatementFrame.LoopNext id place)) (completion_of w cells how) s) }
-    ensures fine { OnOk result ((w : ℕ) (cells : List PlainCell) → IsPlaceScope w cells place.scope → FineCompletion w cells how
+        ≡ taken (trees_of codes.now.items) w cells (Frame.Statement (StatementFrame.LoopNext id place))
+        (completion_of w cells how) s) }
+    ensures fine { OnOk result ((w : ℕ) (cells : List PlainCell) → IsPlaceScope w cells place.scope
+        → FineCompletion w cells how
         → FineLeft (trees_of codes.now.items) w cells flow.new) }
     ensures near { OnOk result (left_free flow.new ≤ 2) }
     ensures below { OnOk result (flow.new.below ≡ all_frames flow.old) }
@@ -103,7 +107,8 @@ fn next_pass(flow: &mut Flow, codes: &Vec<Code>, id: StmtId, place: Place) -> Re
     requires stmt { IsStmt (forest_at (trees_of codes.now.items) place.code) id }
     ensures plan { OnOk result ((w : ℕ) (cells : List PlainCell) (s : State)
         → planned (trees_of codes.now.items) w cells flow.new s
-        ≡ and_then (statements.expressions (last_of (stmt_at (forest_at (trees_of codes.now.items) place.code) id)) (place_of w cells place) s)
+        ≡ and_then (statements.expressions (last_of (stmt_at (forest_at (trees_of codes.now.items) place.code) id))
+        (place_of w cells place) s)
         (taken (trees_of codes.now.items) w cells (Frame.Statement (StatementFrame.ForAgain id place)))) }
     ensures fine { OnOk result ((w : ℕ) (cells : List PlainCell) → IsPlaceScope w cells place.scope
         → FineLeft (trees_of codes.now.items) w cells flow.new) }
@@ -132,7 +137,8 @@ pub(crate) fn first_from(
     requires stmt { IsStmt (forest_at (trees_of codes.now.items) place.code) id }
     ensures plan { OnOk result ((w : ℕ) (cells : List PlainCell) (s : State)
         → planned (trees_of codes.now.items) w cells flow.new s
-        ≡ statements.expressions (drop n (first_of (stmt_at (forest_at (trees_of codes.now.items) place.code) id))) (place_of w cells place) s) }
+        ≡ statements.expressions (drop n (first_of (stmt_at (forest_at (trees_of codes.now.items) place.code) id)))
+        (place_of w cells place) s) }
     ensures fine { OnOk result ((w : ℕ) (cells : List PlainCell) → IsPlaceScope w cells place.scope
         → FineLeft (trees_of codes.now.items) w cells flow.new) }
     ensures near { OnOk result (left_free flow.new ≤ 1) }
@@ -159,7 +165,8 @@ pub(crate) fn last_from(
     requires stmt { IsStmt (forest_at (trees_of codes.now.items) place.code) id }
     ensures plan { OnOk result ((w : ℕ) (cells : List PlainCell) (s : State)
         → planned (trees_of codes.now.items) w cells flow.new s
-        ≡ statements.expressions (drop n (last_of (stmt_at (forest_at (trees_of codes.now.items) place.code) id))) (place_of w cells place) s) }
+        ≡ statements.expressions (drop n (last_of (stmt_at (forest_at (trees_of codes.now.items) place.code) id)))
+        (place_of w cells place) s) }
     ensures fine { OnOk result ((w : ℕ) (cells : List PlainCell) → IsPlaceScope w cells place.scope
         → FineLeft (trees_of codes.now.items) w cells flow.new) }
     ensures near { OnOk result (left_free flow.new ≤ 1) }

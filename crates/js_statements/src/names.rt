@@ -42,7 +42,8 @@ pub(crate) fn after_object(
     requires place { IsStmtAt (trees_of codes.now.items) w store.old.cells at.0 at.1 }
     requires object { IsFine w store.old.cells object }
     ensures plan { OnOk result (Plans (trees_of codes.now.items) w store.old store.new
-        (taken (trees_of codes.now.items) w store.old.cells (Frame.Statement (StatementFrame.ForInOver at.0 at.1)) (meaning.Is (seen w store.old.cells object))) flow.new) }
+        (taken (trees_of codes.now.items) w store.old.cells (Frame.Statement (StatementFrame.ForInOver at.0 at.1))
+        (meaning.Is (seen w store.old.cells object))) flow.new) }
     ensures fine { OnOk result (FineLeft (trees_of codes.now.items) w store.new.cells flow.new) }
     ensures near { OnOk result (left_free flow.new ≤ 3) }
     ensures kept { Kept (trees_of codes.now.items) w store.old store.new }
@@ -70,7 +71,8 @@ fn over_names(
     requires object { IsFine w store.now.cells object }
     requires some { meaning.is_nothing (seen w store.now.cells object) ≡ false }
     ensures plan { OnOk result (Plans (trees_of codes.now.items) w store.now store.now
-        (taken (trees_of codes.now.items) w store.now.cells (Frame.Statement (StatementFrame.ForInOver at.0 at.1)) (meaning.Is (seen w store.now.cells object))) flow.new) }
+        (taken (trees_of codes.now.items) w store.now.cells (Frame.Statement (StatementFrame.ForInOver at.0 at.1))
+        (meaning.Is (seen w store.now.cells object))) flow.new) }
     ensures fine { OnOk result (FineLeft (trees_of codes.now.items) w store.now.cells flow.new) }
     ensures near { OnOk result (left_free flow.new ≤ 3) }
     ensures below { OnOk result (flow.new.below ≡ all_frames flow.old) }
@@ -98,7 +100,8 @@ fn next_name(store: &Store, names: &ForInNames) -> Option<usize>
     requires { IsRefWithin (length store.now.cells) names.now.object }
     ensures { (fs : List Forest) (r : Rest) (w : ℕ) (x : List ℕ) (b : List Stmt) (p : plan.Place)
         → IsConfined fs w store.now → IsFine w store.now.cells names.now.object
-        → let v = seen w store.now.cells names.now.object in let ys = names.now.names.items in let s = image fs r w store.now in
+        → let v = seen w store.now.cells names.now.object in let ys = names.now.names.items in let s = image fs r w
+        store.now in
         MatchOption result
         (statements.for_in v x (drop names.now.at ys) b p s ≡ Ret meaning.Normal s)
         (λ n. (n < length ys) × (statements.for_in v x (drop names.now.at ys) b p s
@@ -128,7 +131,8 @@ pub(crate) fn after_pass(
     requires names { FineNames (trees_of codes.now.items) w store.now.cells names.value place }
     requires how { FineCompletion w store.now.cells how }
     ensures plan { OnOk result (Plans (trees_of codes.now.items) w store.now store.now
-        (taken (trees_of codes.now.items) w store.now.cells (Frame.Statement (StatementFrame.ForInNext names place)) (completion_of w store.now.cells how)) flow.new) }
+        (taken (trees_of codes.now.items) w store.now.cells (Frame.Statement (StatementFrame.ForInNext names place))
+        (completion_of w store.now.cells how)) flow.new) }
     ensures fine { OnOk result (FineLeft (trees_of codes.now.items) w store.now.cells flow.new) }
     ensures near { OnOk result (left_free flow.new ≤ 1) }
     ensures below { OnOk result (flow.new.below ≡ all_frames flow.old) }
@@ -152,7 +156,8 @@ fn next_pass(
     requires confined { IsConfined (trees_of codes.now.items) w store.now }
     requires names { FineNames (trees_of codes.now.items) w store.now.cells names.value place }
     ensures plan { OnOk result (Plans (trees_of codes.now.items) w store.now store.now
-        (taken (trees_of codes.now.items) w store.now.cells (Frame.Statement (StatementFrame.ForInNext names place)) meaning.Normal) flow.new) }
+        (taken (trees_of codes.now.items) w store.now.cells
+        (Frame.Statement (StatementFrame.ForInNext names place)) meaning.Normal) flow.new) }
     ensures fine { OnOk result (FineLeft (trees_of codes.now.items) w store.now.cells flow.new) }
     ensures near { OnOk result (left_free flow.new ≤ 1) }
     ensures below { OnOk result (flow.new.below ≡ all_frames flow.old) }

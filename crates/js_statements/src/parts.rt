@@ -27,10 +27,13 @@ pub(crate) struct Valued {
 pub(crate) fn first_value(tree: &Tree, id: StmtId, from: usize) -> Option<Valued>
     requires { IsStmt (trees tree.now) id }
     ensures { MatchOption result
-        ((p : plan.Place) (s : State) → statements.declarations (drop from (decls_of (stmt_at (trees tree.now) id))) p s ≡ Ret Normal s)
+        ((p : plan.Place) (s : State)
+        → statements.declarations (drop from (decls_of (stmt_at (trees tree.now) id))) p s ≡ Ret Normal s)
         (λ v. IsExpr (trees tree.now) v.init × (v.at + 1 < 2 ^ 64)
-        × ((p : plan.Place) (s : State) → statements.declarations (drop from (decls_of (stmt_at (trees tree.now) id))) p s
-        ≡ Do (Eval (expr_at (trees tree.now) v.init) p) s (after (λ u t. declared (drop v.at (decls_of (stmt_at (trees tree.now) id))) p u t)))) }
+        × ((p : plan.Place) (s : State)
+        → statements.declarations (drop from (decls_of (stmt_at (trees tree.now) id))) p s
+        ≡ Do (Eval (expr_at (trees tree.now) v.init) p) s (after
+        (λ u t. declared (drop v.at (decls_of (stmt_at (trees tree.now) id))) p u t)))) }
 {
     let mut at = from;
     'each: while let Some(decl) = declaration_at(tree, id, at) {
@@ -48,7 +51,8 @@ pub(crate) fn test_at(tree: &Tree, id: StmtId) -> Option<ExprId>
     ensures { let l = loop_of (stmt_at (trees tree.now) id) in MatchOption result
         ((p : plan.Place) (s : State) → loop_again l p Normal s ≡ Do (Pass l p) s Ret)
         (λ e. IsExpr (trees tree.now) e
-        × ((p : plan.Place) (s : State) → loop_again l p Normal s ≡ Do (Eval (expr_at (trees tree.now) e) p) s (statements.loop_test l p))) }
+        × ((p : plan.Place) (s : State)
+        → loop_again l p Normal s ≡ Do (Eval (expr_at (trees tree.now) e) p) s (statements.loop_test l p))) }
 {
     match tree.stmt(id) {
         Stmt::While(test, _) | Stmt::DoWhile(test, _) => Some(*test),
@@ -62,7 +66,8 @@ pub(crate) fn catch_name(tree: &Tree, id: StmtId) -> Option<&Text>
     requires { IsStmt (trees tree.now) id }
     ensures { MatchOption result
         (catch_of (stmt_at (trees tree.now) id) ≡ plain.NoCatch)
-        (λ x. catch_of (stmt_at (trees tree.now) id) ≡ plain.CatchAs x.now (catch_body (catch_of (stmt_at (trees tree.now) id)))) }
+        (λ x. catch_of (stmt_at (trees tree.now) id)
+        ≡ plain.CatchAs x.now (catch_body (catch_of (stmt_at (trees tree.now) id)))) }
 {
     match tree.stmt(id) {
         Stmt::Try(_, Some(caught), _) => Some(&caught.0),
@@ -73,7 +78,9 @@ pub(crate) fn catch_name(tree: &Tree, id: StmtId) -> Option<&Text>
 /// Whether a `try` has a `finally`.
 pub(crate) fn has_finally(tree: &Tree, id: StmtId) -> bool
     requires { IsStmt (trees tree.now) id }
-    ensures yes { IsTrue result → finally_of (stmt_at (trees tree.now) id) ≡ plain.SomeBlock (finally_body (finally_of (stmt_at (trees tree.now) id))) }
+    ensures yes { IsTrue result
+        → finally_of (stmt_at (trees tree.now) id)
+        ≡ plain.SomeBlock (finally_body (finally_of (stmt_at (trees tree.now) id))) }
     ensures no { IsFalse result → finally_of (stmt_at (trees tree.now) id) ≡ plain.NoBlock }
 {
     matches!(tree.stmt(id), Stmt::Try(_, _, Some(_)))

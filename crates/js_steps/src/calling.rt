@@ -40,7 +40,8 @@ pub fn begin(
     depth: u32,
 ) -> Result<Task, Memory>
     ensures plan { IfOk result (λ t. (fs : List Forest) (w : ℕ) (s : Cells) (r : Rest)
-        → remaining fs w s t r ≡ plan.Do (plan.Call (seen w s.cells (Value.Ref func)) None (all_seen w s.cells args.now) depth) (image fs r w s) Ret) }
+        → remaining fs w s t r ≡ plan.Do
+        (plan.Call (seen w s.cells (Value.Ref func)) None (all_seen w s.cells args.now) depth) (image fs r w s) Ret) }
     ensures held { IfOk result (λ t. (fs : List Forest) (w : ℕ) (s : Cells) → IsHeld w s.cells func
         → AreFine w s.cells args.now → IsFineTask fs w s t) }
     ensures going { IfOk result (λ t. IsGoing t.control) }
@@ -356,9 +357,12 @@ fn run_for(
     ensures spends { (meter.new.left ≤ meter.old.left)
         × (meter.new.left + meter.new.spent ≡ meter.old.left + meter.old.spent) }
     ensures follows { IfOk result (λ k. Follows k task.new.control) }
-    ensures held { let F = trees_of codes.now.items in IfOk result (λ k. FineControl F w store.new.cells task.new.control
+    ensures held { let F = trees_of codes.now.items in IfOk result
+        (λ k. FineControl F w store.new.cells task.new.control
         × FineFrames F w store.new.cells task.new.frames.list.items × FineStepped F w store.new.cells k) }
-    ensures call { IfOk result (λ k. EndsCall (trees_of codes.now.items) w store.new task.new.control task.new.frames.list.items × EndsSo k) }
+    ensures call { IfOk result
+        (λ k. EndsCall (trees_of codes.now.items) w store.new task.new.control task.new.frames.list.items
+        × EndsSo k) }
     ensures kept { Kept (trees_of codes.now.items) w store.old store.new }
     ensures widget { task.new.widget ≡ task.old.widget }
 {

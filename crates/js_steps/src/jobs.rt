@@ -31,7 +31,9 @@ pub(crate) fn begin_job(
     requires widget { w < 32 }
     requires confined { IsConfined (trees_of codes.now.items) w store.old }
     requires held { FineJob (trees_of codes.now.items) w store.old.cells job }
-    ensures plan { OnOk result (Plans (trees_of codes.now.items) w store.old store.new (body (job_of (trees_of codes.now.items) w store.old.cells job)) flow.new) }
+    ensures plan { OnOk result
+        (Plans (trees_of codes.now.items) w store.old store.new
+        (body (job_of (trees_of codes.now.items) w store.old.cells job)) flow.new) }
     ensures fine { OnOk result (FineLeft (trees_of codes.now.items) w store.new.cells flow.new) }
     ensures near { OnOk result (left_free flow.new ≤ job_weight job) }
     ensures kept { Kept (trees_of codes.now.items) w store.old store.new }
@@ -61,7 +63,9 @@ pub(crate) fn begin_ids(
     requires widget { w < 32 }
     requires confined { IsConfined (trees_of codes.now.items) w store.old }
     requires held { FineJob (trees_of codes.now.items) w store.old.cells job.now }
-    ensures plan { OnOk result (Plans (trees_of codes.now.items) w store.old store.new (body (job_of (trees_of codes.now.items) w store.old.cells job.now)) flow.new) }
+    ensures plan { OnOk result
+        (Plans (trees_of codes.now.items) w store.old store.new
+        (body (job_of (trees_of codes.now.items) w store.old.cells job.now)) flow.new) }
     ensures fine { OnOk result (FineLeft (trees_of codes.now.items) w store.new.cells flow.new) }
     ensures near { OnOk result (left_free flow.new ≤ job_weight job.now) }
     ensures kept { Kept (trees_of codes.now.items) w store.old store.new }
@@ -99,8 +103,11 @@ pub(crate) fn take(
 ) -> Result<(), Memory>
     requires widget { w < 32 }
     requires confined { IsConfined (trees_of codes.now.items) w store.old }
-    requires held { FineFrame (trees_of codes.now.items) w store.old.cells frame × FineCompletion w store.old.cells how }
-    ensures plan { OnOk result (Plans (trees_of codes.now.items) w store.old store.new (taken (trees_of codes.now.items) w store.old.cells frame (completion_of w store.old.cells how)) flow.new) }
+    requires held { FineFrame (trees_of codes.now.items) w store.old.cells frame
+        × FineCompletion w store.old.cells how }
+    ensures plan { OnOk result
+        (Plans (trees_of codes.now.items) w store.old store.new
+        (taken (trees_of codes.now.items) w store.old.cells frame (completion_of w store.old.cells how)) flow.new) }
     ensures fine { OnOk result (FineLeft (trees_of codes.now.items) w store.new.cells flow.new) }
     ensures near { OnOk result (left_free flow.new ≤ frame_free frame) }
     ensures kept { Kept (trees_of codes.now.items) w store.old store.new }

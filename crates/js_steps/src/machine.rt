@@ -424,7 +424,8 @@ fn paid_step(
         → after_step F w store.new.cells k task.new.control task.new.frames.list.items (image F r w store.new)
         ≡ todo F w store.old.cells (after_charge task.old.control) task.old.frames.list.items (image F r w store.old)) }
     ensures follows { IfOk result (λ k. Follows k task.new.control × IsNotFuel k) }
-    ensures held { let F = trees_of codes.now.items in IfOk result (λ k. FineControl F w store.new.cells task.new.control
+    ensures held { let F = trees_of codes.now.items in IfOk result
+        (λ k. FineControl F w store.new.cells task.new.control
         × FineFrames F w store.new.cells task.new.frames.list.items × FineStepped F w store.new.cells k) }
     ensures kept { Kept (trees_of codes.now.items) w store.old store.new }
     ensures near { IfOk result (λ k. free task.new.control task.new.frames.list.items
@@ -460,7 +461,8 @@ pub(crate) fn step_for(
         (todo F w store.old.cells task.old.control task.old.frames.list.items (image F r w store.old))
         (after_step F w store.new.cells k task.new.control task.new.frames.list.items (image F r w store.new))) }
     ensures follows { IfOk result (λ k. Follows k task.new.control) }
-    ensures held { let F = trees_of codes.now.items in IfOk result (λ k. FineControl F w store.new.cells task.new.control
+    ensures held { let F = trees_of codes.now.items in IfOk result
+        (λ k. FineControl F w store.new.cells task.new.control
         × FineFrames F w store.new.cells task.new.frames.list.items × FineStepped F w store.new.cells k) }
     ensures kept { Kept (trees_of codes.now.items) w store.old store.new }
     ensures fuel { let F = trees_of codes.now.items in IfOk result (λ k. IfOutOfFuel k ((task.new ≡ task.old)
@@ -475,7 +477,9 @@ pub(crate) fn step_for(
         → 32 * meter.new.left + free task.new.control task.new.frames.list.items
         < 32 * meter.old.left + free task.old.control task.old.frames.list.items) }
     ensures widget { task.new.widget ≡ task.old.widget }
-    ensures call { IfOk result (λ k. EndsCall (trees_of codes.now.items) w store.new task.new.control task.new.frames.list.items × EndsSo k) }
+    ensures call { IfOk result
+        (λ k. EndsCall (trees_of codes.now.items) w store.new task.new.control task.new.frames.list.items
+        × EndsSo k) }
 {
     let units = cost(&task.control);
     if !pay(meter, units) {

@@ -57,7 +57,8 @@ impl Frames {
 
     /// The last frame is taken out; none where there is none.
     pub fn pop(&mut self) -> Option<Frame>
-        ensures { MatchOption result ((self.old.list.items ≡ []) × (self.new.list.items ≡ [])) (λ f. self.old.list.items ≡ self.new.list.items ++ f ∷ []) }
+        ensures { MatchOption result ((self.old.list.items ≡ []) × (self.new.list.items ≡ []))
+            (λ f. self.old.list.items ≡ self.new.list.items ++ f ∷ []) }
     {
         self.list.pop()
     }
@@ -67,9 +68,11 @@ impl Frames {
     pub fn unwind(&mut self, how: Completion) -> Unwound
         requires abrupt { IsAbrupt how }
         ensures rest { (fs : List Forest) (w : ℕ) (cells : List PlainCell) (s : State)
-            → rest fs w cells self.new.list.items (completion_of w cells how) s ≡ rest fs w cells self.old.list.items (completion_of w cells how) s }
+            → rest fs w cells self.new.list.items (completion_of w cells how) s
+            ≡ rest fs w cells self.old.list.items (completion_of w cells how) s }
         ensures unwound { IsUnwound self.new.list.items how result }
-        ensures fine { (fs : List Forest) (w : ℕ) (cells : List PlainCell) → FineFrames fs w cells self.old.list.items → FineFrames fs w cells self.new.list.items }
+        ensures fine { (fs : List Forest) (w : ℕ) (cells : List PlainCell)
+            → FineFrames fs w cells self.old.list.items → FineFrames fs w cells self.new.list.items }
         ensures free { frames_free self.new.list.items ≤ frames_free self.old.list.items }
     {
         let left = taking(&self.list, &how);
@@ -87,8 +90,10 @@ impl Frames {
 pub(crate) fn leave(flow: &mut Flow, how: &Completion)
     ensures next { flow.new.next ≡ flow.old.next }
     ensures rest { (fs : List Forest) (w : ℕ) (cells : List PlainCell) (s : State)
-        → rest fs w cells (all_frames flow.new) (completion_of w cells how.now) s ≡ rest fs w cells (all_frames flow.old) (completion_of w cells how.now) s }
-    ensures fine { (fs : List Forest) (w : ℕ) (cells : List PlainCell) → FineFrames fs w cells (all_frames flow.old) → FineFrames fs w cells (all_frames flow.new) }
+        → rest fs w cells (all_frames flow.new) (completion_of w cells how.now) s
+        ≡ rest fs w cells (all_frames flow.old) (completion_of w cells how.now) s }
+    ensures fine { (fs : List Forest) (w : ℕ) (cells : List PlainCell) → FineFrames fs w cells (all_frames flow.old)
+        → FineFrames fs w cells (all_frames flow.new) }
     ensures free { frames_free (all_frames flow.new) ≤ frames_free (all_frames flow.old) }
 {
     if is_abrupt(how) {
@@ -115,7 +120,8 @@ fn taking(frames: &Vec<Frame>, how: &Completion) -> usize
     requires abrupt { IsAbrupt how.now }
     ensures within { result ≤ length frames.now.items }
     ensures rest { (fs : List Forest) (w : ℕ) (cells : List PlainCell) (s : State)
-        → rest fs w cells (take result frames.now.items) (completion_of w cells how.now) s ≡ rest fs w cells frames.now.items (completion_of w cells how.now) s }
+        → rest fs w cells (take result frames.now.items) (completion_of w cells how.now) s
+        ≡ rest fs w cells frames.now.items (completion_of w cells how.now) s }
     ensures last { 0 < result → IsSomeAnd (slice_get frames.now.items (result - 1)) (λ f. takes f how.now ≡ true) }
 {
     let mut left = frames.len();
@@ -134,7 +140,8 @@ fn takes_at(frames: &Vec<Frame>, at: usize, how: &Completion) -> bool
     requires abrupt { IsAbrupt how.now }
     ensures taken { result ≡ true → IsSomeAnd (slice_get frames.now.items at) (λ f. takes f how.now ≡ true) }
     ensures passed { result ≡ false → (fs : List Forest) (w : ℕ) (cells : List PlainCell) (s : State)
-        → rest fs w cells (take at frames.now.items) (completion_of w cells how.now) s ≡ rest fs w cells (take (suc at) frames.now.items) (completion_of w cells how.now) s }
+        → rest fs w cells (take at frames.now.items) (completion_of w cells how.now) s
+        ≡ rest fs w cells (take (suc at) frames.now.items) (completion_of w cells how.now) s }
 {
     is_taken(&frames[at], how)
 }

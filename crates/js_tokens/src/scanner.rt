@@ -31,9 +31,11 @@ fn text_tokens(alloc: Global, text: &str) -> Result<Vec<Token>, TokenFault>
     }
 }
 
-/// The tokens of a script (ECMA-262 3rd edition, section 7), with the departures that docs/ states: the one reading of the bytes.
+/// The tokens of a script (ECMA-262 3rd edition, section 7), with the departures that docs/ states: the one
+/// reading of the bytes.
 ///
-/// `BadToken` comes exactly where the bytes have no reading, with the first byte of the first ill-formed sequence of UTF-8 or else the least bad place; `Memory` where there was none for the list.
+/// `BadToken` comes exactly where the bytes have no reading, with the first byte of the first ill-formed
+/// sequence of UTF-8 or else the least bad place; `Memory` where there was none for the list.
 pub fn tokens(alloc: Global, bytes: &[u8]) -> Result<Vec<Token>, TokenFault>
     ensures found { IfOk result (λ v. Lexes bytes.now v.items) }
     ensures only { (ts : List Token) → Lexes bytes.now ts →

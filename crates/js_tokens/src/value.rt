@@ -127,7 +127,8 @@ fn string_text(alloc: Global, bytes: &[u8]) -> Result<Vec<u16>, AllocError>
     }
 }
 
-/// What a token of these bytes says, as units: the name, the reserved word, the number or the mark, and the value of a string (ECMA-262 3rd edition, 7.8.4).
+/// What a token of these bytes says, as units: the name, the reserved word, the number or the mark, and the
+/// value of a string (ECMA-262 3rd edition, 7.8.4).
 pub fn token_text(alloc: Global, bytes: &[u8], token: &Token) -> Result<Text, Memory>
     requires { IsTokenOf bytes.now token.now }
     ensures units { IfOk result (λ t. t ≡ text_of bytes.now token.now) }

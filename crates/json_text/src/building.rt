@@ -26,7 +26,8 @@ use std::alloc::Global;
 #[cycle(building)]
 pub(crate) fn build(alloc: Global, store: &mut Store, w: u32, json: &Json) -> Result<Value, Memory>
     requires { w < 32 }
-    ensures built { IfOk result (λ v. (fs : List Forest) (r : Rest) → Builds fs r w store.old store.new v (view json.now)) }
+    ensures built { IfOk result (λ v. (fs : List Forest) (r : Rest)
+        → Builds fs r w store.old store.new v (view json.now)) }
     ensures fine { IfOk result (λ v. IsFine w store.new.cells v) }
     ensures kept { (fs : List Forest) → Kept fs w store.old store.new }
 {
@@ -64,7 +65,8 @@ fn whole(x: &JsonNumber) -> Result<i64, Memory>
 #[cycle(building)]
 fn build_array(alloc: Global, store: &mut Store, w: u32, items: &Vec<Json>) -> Result<Value, Memory>
     requires { w < 32 }
-    ensures built { IfOk result (λ v. (fs : List Forest) (r : Rest) → Builds fs r w store.old store.new v (array (items_view items.now.items))) }
+    ensures built { IfOk result (λ v. (fs : List Forest) (r : Rest)
+        → Builds fs r w store.old store.new v (array (items_view items.now.items))) }
     ensures fine { IfOk result (λ v. IsFine w store.new.cells v) }
     ensures kept { (fs : List Forest) → Kept fs w store.old store.new }
 {
@@ -91,7 +93,8 @@ fn build_object(
     members: &Map<String, Json>,
 ) -> Result<Value, Memory>
     requires { w < 32 }
-    ensures built { IfOk result (λ v. (fs : List Forest) (r : Rest) → Builds fs r w store.old store.new v (object (members_view members.now.entries))) }
+    ensures built { IfOk result (λ v. (fs : List Forest) (r : Rest)
+        → Builds fs r w store.old store.new v (object (members_view members.now.entries))) }
     ensures fine { IfOk result (λ v. IsFine w store.new.cells v) }
     ensures kept { (fs : List Forest) → Kept fs w store.old store.new }
 {
@@ -107,7 +110,8 @@ fn build_object(
 // An array without elements.
 fn begin_array(alloc: Global, store: &mut Store, w: u32) -> Result<Value, Memory>
     requires { w < 32 }
-    ensures begun { IfOk result (λ v. (fs : List Forest) (r : Rest) → Begins fs r w store.old store.new v (new_array 0 [])) }
+    ensures begun { IfOk result (λ v. (fs : List Forest) (r : Rest)
+        → Begins fs r w store.old store.new v (new_array 0 [])) }
     ensures fine { IfOk result (λ v. IsFine w store.new.cells v) }
     ensures kept { (fs : List Forest) → Kept fs w store.old store.new }
 {
@@ -117,7 +121,8 @@ fn begin_array(alloc: Global, store: &mut Store, w: u32) -> Result<Value, Memory
 // An object without members.
 fn begin_object(alloc: Global, store: &mut Store, w: u32) -> Result<Value, Memory>
     requires { w < 32 }
-    ensures begun { IfOk result (λ v. (fs : List Forest) (r : Rest) → Begins fs r w store.old store.new v (plain_object [])) }
+    ensures begun { IfOk result (λ v. (fs : List Forest) (r : Rest)
+        → Begins fs r w store.old store.new v (plain_object [])) }
     ensures fine { IfOk result (λ v. IsFine w store.new.cells v) }
     ensures kept { (fs : List Forest) → Kept fs w store.old store.new }
 {
@@ -150,7 +155,8 @@ fn put_next(
     requires parent { IsFine w store.old.cells parent.now }
     requires value { IsFine w store.old.cells value }
     ensures put { OnOk result ((fs : List Forest) (r : Rest)
-        → properties.put (seen w store.old.cells parent.now) name.now (seen w store.old.cells value) (image fs r w store.old) (give meaning.Undefined)
+        → properties.put (seen w store.old.cells parent.now) name.now (seen w store.old.cells value)
+        (image fs r w store.old) (give meaning.Undefined)
         ≡ give meaning.Undefined (image fs r w store.new)) }
     ensures kept { (fs : List Forest) → Kept fs w store.old store.new }
 {

@@ -155,7 +155,8 @@ fn afford(store: &Store, w: u32, sum: &Weight) -> Result<u32, StopCause>
         → costs.pay (weight_cost sum.now) (image fs r w store.now) k ≡ Halt (meant_cause c) (image fs r w store.now)) }
     ensures units { IfOk result (λ n. (n ≡ sum.now.units) × ((fs : List Forest) (r : Rest) (k : State → Plan)
         → costs.pay (weight_cost sum.now) (image fs r w store.now) k
-        ≡ k (with_counts (image fs r w store.now) (costs.sum (image fs r w store.now).own.counts (weight_cost sum.now))))) }
+        ≡ k (with_counts (image fs r w store.now)
+        (costs.sum (image fs r w store.now).own.counts (weight_cost sum.now))))) }
 {
     let paid = store.counts(Owner::Widget(w));
     if sum.units > (UNIT_LIMIT - paid.units) as usize {

@@ -80,8 +80,10 @@ fn write_value(
     m: u32,
     out: &mut Vec<u16>,
 ) -> Result<Step, Memory>
-    ensures { IfOk result (λ p. (fs : List Forest) (r : Rest) (w : ℕ) → IsConfined fs w store.now → IsFine w store.now.cells v.now
-        → meant_step p out.new.items ≡ value_text m (image fs r w store.now) (seen w store.now.cells v.now) out.old.items) }
+    ensures { IfOk result (λ p. (fs : List Forest) (r : Rest) (w : ℕ) → IsConfined fs w store.now
+        → IsFine w store.now.cells v.now
+        → meant_step p out.new.items
+        ≡ value_text m (image fs r w store.now) (seen w store.now.cells v.now) out.old.items) }
 {
     match v {
         Value::Ref(_) => {
@@ -133,9 +135,11 @@ fn write_object(
     out: &mut Vec<u16>,
 ) -> Result<Step, Memory>
     requires { IsRefWithin (length store.now.cells) v.now }
-    ensures { IfOk result (λ p. (fs : List Forest) (r : Rest) (w : ℕ) → IsConfined fs w store.now → IsFine w store.now.cells v.now
+    ensures { IfOk result (λ p. (fs : List Forest) (r : Rest) (w : ℕ) → IsConfined fs w store.now
+        → IsFine w store.now.cells v.now
         → is_object (seen w store.now.cells v.now) ≡ true
-        → meant_step p out.new.items ≡ value_text (suc m) (image fs r w store.now) (seen w store.now.cells v.now) out.old.items) }
+        → meant_step p out.new.items
+        ≡ value_text (suc m) (image fs r w store.now) (seen w store.now.cells v.now) out.old.items) }
 {
     lawful(store);
     if let Some(len) = array_length(store, v) {
@@ -196,9 +200,11 @@ fn write_part(
     m: u32,
     out: &mut Vec<u16>,
 ) -> Result<Step, Memory>
-    ensures { IfOk result (λ p. (fs : List Forest) (r : Rest) (w : ℕ) → IsConfined fs w store.now → IsFine w store.now.cells v.now
+    ensures { IfOk result (λ p. (fs : List Forest) (r : Rest) (w : ℕ) → IsConfined fs w store.now
+        → IsFine w store.now.cells v.now
         → meant_step p out.new.items
-        ≡ and_write (write out.old.items before.now) (value_text m (image fs r w store.now) (seen w store.now.cells v.now))) }
+        ≡ and_write (write out.old.items before.now)
+        (value_text m (image fs r w store.now) (seen w store.now.cells v.now))) }
 {
     match push(out, before)? {
         Step::Wrote => write_value(alloc, store, v, m, out),
@@ -217,7 +223,8 @@ fn write_members(
     out: &mut Vec<u16>,
 ) -> Result<Step, Memory>
     requires { cell < length store.now.cells }
-    ensures { IfOk result (λ p. (fs : List Forest) (r : Rest) (w : ℕ) → IsConfined fs w store.now → ArePairs w store.now.cells (pairs_at store.now.cells cell)
+    ensures { IfOk result (λ p. (fs : List Forest) (r : Rest) (w : ℕ) → IsConfined fs w store.now
+        → ArePairs w store.now.cells (pairs_at store.now.cells cell)
         → meant_step p out.new.items ≡ members_text (value_text m (image fs r w store.now)) []
         (filter (λ q. is_permitted q.0) (seen_pairs w store.now.cells (pairs_at store.now.cells cell))) out.old.items) }
 {
@@ -252,9 +259,11 @@ fn write_array(
     out: &mut Vec<u16>,
 ) -> Result<Step, Memory>
     requires { IsRefWithin (length store.now.cells) array.now }
-    ensures { IfOk result (λ p. (fs : List Forest) (r : Rest) (w : ℕ) → IsConfined fs w store.now → IsFine w store.now.cells array.now
+    ensures { IfOk result (λ p. (fs : List Forest) (r : Rest) (w : ℕ) → IsConfined fs w store.now
+        → IsFine w store.now.cells array.now
         → array_length (kind_of (image fs r w store.now) (seen w store.now.cells array.now)) ≡ Some len
-        → meant_step p out.new.items ≡ and_write (write out.old.items (codes "[")) (elements_text (value_text m (image fs r w store.now))
+        → meant_step p out.new.items
+        ≡ and_write (write out.old.items (codes "[")) (elements_text (value_text m (image fs r w store.now))
         (cell_at (image fs r w store.now) (own_place w store.now.cells array.now)).pairs [] 0 len)) }
 {
     match push_word(out, b"[")? {

@@ -47,7 +47,8 @@ fn own_text(store: &Store, w: u32, object: CellId, name: &Text) -> Result<Option
     requires confined { (fs : List Forest) × IsConfined fs w store.now }
     requires held { IsHeld w store.now.cells object }
     ensures { IfOk result (λ t. (fs : List Forest) (r : Rest) → IsConfined fs w store.now
-        → t ≡ own_text_in (own_property (image fs r w store.now) (seen w store.now.cells (Value.Ref object)) name.now)) }
+        → t ≡ own_text_in (own_property (image fs r w store.now)
+        (seen w store.now.cells (Value.Ref object)) name.now)) }
 {
     let object = Value::Ref(object);
     if !has_own(store, &object, name) {
@@ -72,7 +73,8 @@ fn name_of(alloc: Global, store: &Store, w: u32, object: CellId) -> Result<Optio
     requires confined { (fs : List Forest) × IsConfined fs w store.now }
     requires held { IsHeld w store.now.cells object }
     ensures { IfOk result (λ t. (fs : List Forest) (r : Rest) → IsConfined fs w store.now
-        → t ≡ own_text_in (own_property (image fs r w store.now) (seen w store.now.cells (Value.Ref object)) (codes "name"))) }
+        → t ≡ own_text_in (own_property (image fs r w store.now) (seen w store.now.cells (Value.Ref object))
+        (codes "name"))) }
 {
     let key = word(alloc, b"name")?;
     own_text(store, w, object, &key)
@@ -83,7 +85,8 @@ fn message_of(alloc: Global, store: &Store, w: u32, object: CellId) -> Result<Op
     requires confined { (fs : List Forest) × IsConfined fs w store.now }
     requires held { IsHeld w store.now.cells object }
     ensures { IfOk result (λ t. (fs : List Forest) (r : Rest) → IsConfined fs w store.now
-        → t ≡ own_text_in (own_property (image fs r w store.now) (seen w store.now.cells (Value.Ref object)) (codes "message"))) }
+        → t ≡ own_text_in (own_property (image fs r w store.now) (seen w store.now.cells (Value.Ref object))
+        (codes "message"))) }
 {
     let key = word(alloc, b"message")?;
     own_text(store, w, object, &key)
@@ -184,7 +187,8 @@ pub(crate) fn note(
     requires fine { FineLife shared.old w life.old }
     requires held { IsFine w shared.old.store.cells value.now }
     ensures noted { OnOk result ((s : State) → s.own.heap ≡ (own_of shared.old w life.old).heap
-        → own_of shared.new w life.new ≡ noted (note_text s (seen w shared.old.store.cells value.now)) (own_of shared.old w life.old)) }
+        → own_of shared.new w life.new
+        ≡ noted (note_text s (seen w shared.old.store.cells value.now)) (own_of shared.old w life.old)) }
     ensures fine { OnOk result (FineLife shared.new w life.new) }
     ensures kept { KeepsLife w shared.old shared.new life.old life.new }
     ensures rest { life.new.turn ≡ life.old.turn }

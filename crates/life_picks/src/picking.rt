@@ -31,7 +31,8 @@ fn close(
     requires held { FineEnd life.old.widget.number shared.old.store.cells how }
     ensures own { OnOk result ((s : State) → s.own ≡ own_of shared.old life.old.widget.number life.old
         → own_of shared.new life.old.widget.number life.new
-        ≡ end_turn (end_of life.old.widget.number shared.old.store.cells how) s (own_of shared.old life.old.widget.number (spent_to left life.old))) }
+        ≡ end_turn (end_of life.old.widget.number shared.old.store.cells how) s
+        (own_of shared.old life.old.widget.number (spent_to left life.old))) }
     ensures fine { OnOk result (FineLife shared.new life.old.widget.number life.new) }
     ensures kept { KeepsLife life.old.widget.number shared.old shared.new life.old life.new }
     ensures rest { life.new.turn ≡ None }
@@ -62,7 +63,8 @@ fn go_on(alloc: Global, shared: &mut Shared, life: &mut Life, units: u32) -> Res
     requires units { 0 < units }
     requires running { is_some life.old.turn ≡ true }
     requires fine { FineLife shared.old life.old.widget.number life.old }
-    ensures picked { IfOk result (λ r. PicksLife shared.old shared.new life.old.widget.number units r life.old life.new) }
+    ensures picked { IfOk result
+        (λ r. PicksLife shared.old shared.new life.old.widget.number units r life.old life.new) }
     ensures kept { KeepsLife life.old.widget.number shared.old shared.new life.old life.new }
     ensures none { OnErr result (life.new.turn ≡ None) }
 {
@@ -101,7 +103,8 @@ pub fn pick_life(
     requires widget { life.old.widget.number < 32 }
     requires units { 0 < units }
     requires fine { FineLife shared.old life.old.widget.number life.old }
-    ensures picked { IfOk result (λ r. PicksLife shared.old shared.new life.old.widget.number units r life.old life.new) }
+    ensures picked { IfOk result
+        (λ r. PicksLife shared.old shared.new life.old.widget.number units r life.old life.new) }
     ensures kept { KeepsLife life.old.widget.number shared.old shared.new life.old life.new }
     ensures none { OnErr result (life.new.turn ≡ None) }
 {

@@ -60,7 +60,8 @@ fn set_text_value(
     requires home { HasRoot page.old w }
     requires own { owns page.old w node ≡ true }
     ensures image { OnOk result ((o : OwnState) → o.forest ≡ forest page.old w
-        → with_value (label_at page.old w node) (number page.old w node) (Some text.now) o ≡ record o { forest = forest page.new w }) }
+        → with_value (label_at page.old w node) (number page.old w node) (Some text.now) o
+        ≡ record o { forest = forest page.new w }) }
     ensures kept { KeepsNodes page.old page.new }
     ensures others { OthersStay page.old page.new w }
     ensures host { HostStays page.old page.new }
@@ -83,7 +84,8 @@ fn set_value(
     requires home { HasRoot page.old w }
     requires own { owns page.old w node ≡ true }
     ensures image { OnOk result ((o : OwnState) → o.forest ≡ forest page.old w
-        → with_value (label_at page.old w node) (number page.old w node) value.now o ≡ record o { forest = forest page.new w }) }
+        → with_value (label_at page.old w node) (number page.old w node) value.now o
+        ≡ record o { forest = forest page.new w }) }
     ensures kept { KeepsNodes page.old page.new }
     ensures others { OthersStay page.old page.new w }
     ensures host { HostStays page.old page.new }
@@ -96,7 +98,8 @@ fn set_value(
 
 // The value that handlers see.
 fn seen_value(value: &Option<Text>) -> Result<Value, Memory>
-    ensures { IfOk result (λ v. (w : ℕ) (cells : List PlainCell) → (seen w cells v ≡ event_value value.now) × IsFine w cells v) }
+    ensures { IfOk result (λ v. (w : ℕ) (cells : List PlainCell)
+        → (seen w cells v ≡ event_value value.now) × IsFine w cells v) }
 {
     match value {
         Some(text) => Ok(Value::Text(text.share()?)),
@@ -147,14 +150,17 @@ fn hear_event(
     requires rests { life.old.turn ≡ None }
     requires fine { FineLife shared.old w life.old }
     requires own { owns shared.old.page w event.1 ≡ true }
-    requires near { (s : State) → Shows shared.old.page w (own_count w shared.old.store.cells) life.old.widget.around s.own
-        → meaning.nearest s (Some (number shared.old.page w event.1)) event.0.kind ≡ Some (number shared.old.page w at.0, map (own_count w shared.old.store.cells) at.1.items) }
+    requires near { (s : State)
+        → Shows shared.old.page w (own_count w shared.old.store.cells) life.old.widget.around s.own
+        → meaning.nearest s (Some (number shared.old.page w event.1)) event.0.kind
+        ≡ Some (number shared.old.page w at.0, map (own_count w shared.old.store.cells) at.1.items) }
     requires node { owns shared.old.page w at.0 ≡ true }
     requires functions { AllByRecursion (IsOwnCell w shared.old.store.cells) at.1.items }
     requires some { 0 < length at.1.items }
     requires room { tally shared.old w life.old + 1 < 2 ^ 32 }
     ensures starts { OnOk result (Starts shared.old shared.new w
-        (meaning.dispatch event.0.kind (number shared.old.page w event.1) (event_value event.0.value) 0) life.old life.new) }
+        (meaning.dispatch event.0.kind (number shared.old.page w event.1)
+        (event_value event.0.value) 0) life.old life.new) }
     ensures kept { KeepsLife w shared.old shared.new life.old life.new }
     ensures none { OnErr result (life.new.turn ≡ None) }
 {

@@ -111,8 +111,10 @@ pub(crate) fn take_go(
 // The call of the function of a timer.
 fn call(alloc: Global, w: u32, func: CellId) -> Result<Box<Task>, Memory>
     ensures plan { IfOk result (λ t. (fs : List Forest) (s : Cells) (r : Rest)
-        → remaining fs w s t.value r ≡ Do (plan.Call (seen w s.cells (Value.Ref func)) None [] 0) (image fs r w s) Ret) }
-    ensures fine { IfOk result (λ t. (fs : List Forest) (s : Cells) (p : PageOf) → IsHeld w s.cells func → FineTask fs w s p t.value) }
+        → remaining fs w s t.value r
+        ≡ Do (plan.Call (seen w s.cells (Value.Ref func)) None [] 0) (image fs r w s) Ret) }
+    ensures fine { IfOk result (λ t. (fs : List Forest) (s : Cells) (p : PageOf) → IsHeld w s.cells func
+        → FineTask fs w s p t.value) }
 {
     let task = js_steps::begin(alloc, w, func, &[], 0)?;
     Ok(Box::new(alloc, task)?)

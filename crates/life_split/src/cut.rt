@@ -13,7 +13,8 @@ use std::alloc::Global;
 pub fn lives(alloc: Global, slots: u32, items: &[LifeItem]) -> Result<Vec<Vec<Life>>, Memory>
     requires few { length items.now < 2 ^ 32 }
     requires below { All (λ i. is_below slots i ≡ true) items.now }
-    ensures { IfOk result (λ lives. map (λ v. v.items) lives.items ≡ map (lives_of items.now) (range_with_len 0 slots)) }
+    ensures { IfOk result (λ lives. map (λ v. v.items) lives.items
+        ≡ map (lives_of items.now) (range_with_len 0 slots)) }
 {
     let mut lives = no_lives(alloc, slots)?;
     'items: for (at, item) in items.iter().enumerate() {

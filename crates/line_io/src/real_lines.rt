@@ -78,7 +78,8 @@ fn read_line<B: BufRead>(
     alloc: Global,
     max: usize,
 ) -> Result<Option<Vec<u8>>, ReadFail>
-    ensures { IfOk result (λ next. Gives max (B.remaining reader.old) (B.remaining reader.new) (option_map (λ line. line.items) next)) }
+    ensures { IfOk result (λ next. Gives max (B.remaining reader.old) (B.remaining reader.new) (option_map
+        (λ line. line.items) next)) }
 {
     let mut line = Vec::new(alloc);
     'parts: for _ in 0..u64::MAX {

@@ -38,7 +38,8 @@ pub(crate) fn array_of(store: &Store, w: u32, this: &Value) -> Option<OwnArray>
     requires { IsReceiver w store.now.cells this.now }
     ensures array { IfSome result (λ a. IsArray w store.now a) }
     ensures plan { (fs : List Forest) (r : Rest) (k : ℕ → ℕ → Plan)
-        → forms.on_array (receiver w store.now.cells this.now) (image fs r w store.now) k ≡ on_own w store.now result (image fs r w store.now) k }
+        → forms.on_array (receiver w store.now.cells this.now) (image fs r w store.now) k
+        ≡ on_own w store.now result (image fs r w store.now) k }
 {
     match cell_of(this) {
         Some(cell) => array_at(store, w, cell),
@@ -61,7 +62,8 @@ fn array_at(store: &Store, w: u32, cell: CellId) -> Option<OwnArray>
     requires { IsReceiver w store.now.cells (Value.Ref cell) }
     ensures array { IfSome result (λ a. IsArray w store.now a) }
     ensures plan { (fs : List Forest) (r : Rest) (k : ℕ → ℕ → Plan)
-        → forms.on_array (receiver w store.now.cells (Value.Ref cell)) (image fs r w store.now) k ≡ on_own w store.now result (image fs r w store.now) k }
+        → forms.on_array (receiver w store.now.cells (Value.Ref cell)) (image fs r w store.now) k
+        ≡ on_own w store.now result (image fs r w store.now) k }
 {
     if is_global(store, cell) {
         return None;
@@ -100,7 +102,8 @@ pub(crate) fn values_of(
 fn len_of(store: &Store, v: &Value) -> usize
     requires { IsRefWithin (length store.now.cells) v.now }
     ensures { (fs : List Forest) (r : Rest) (w : ℕ) → IsFine w store.now.cells v.now
-        → result ≡ unwrap_or (state.array_length (state.kind_of (image fs r w store.now) (seen w store.now.cells v.now))) 0 }
+        → result ≡ unwrap_or (state.array_length
+        (state.kind_of (image fs r w store.now) (seen w store.now.cells v.now))) 0 }
 {
     match array_length(store, v) {
         None => 0,
@@ -175,7 +178,9 @@ pub(crate) fn number_value(n: u32) -> Value
 /// Whether an element is an object.
 pub(crate) fn holds_objects(store: &Store, w: u32, array: OwnArray) -> bool
     requires { IsArray w store.now array }
-    ensures { (fs : List Forest) (r : Rest) → result ≡ list_any meaning.is_object (forms.elements (image fs r w store.now) (number w store.now array) array.len) }
+    ensures { (fs : List Forest) (r : Rest)
+        → result ≡ list_any meaning.is_object
+        (forms.elements (image fs r w store.now) (number w store.now array) array.len) }
 {
     let base = Value::Ref(array.cell);
     has_objects(store, &base, array.len)

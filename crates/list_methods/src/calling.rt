@@ -41,7 +41,8 @@ pub fn call(
     requires receiver { IsReceiver (number_in owner) store.old.cells this.now }
     requires args { AreFine (number_in owner) store.old.cells args.now }
     ensures native { IfOk result (λ o. Meets (number_in owner) store.old store.new meter.old meter.new
-        (run_native which (receiver (number_in owner) store.old.cells this.now) (all_seen (number_in owner) store.old.cells args.now)) o) }
+        (run_native which (receiver (number_in owner) store.old.cells this.now)
+        (all_seen (number_in owner) store.old.cells args.now)) o) }
     ensures memory { OnErr result ((fs : List Forest) → Kept fs (number_in owner) store.old store.new) }
 {
     let Owner::Widget(w) = owner else {

@@ -27,7 +27,8 @@ pub(crate) fn push_all(
     requires few { array.len + length values.now ≤ 4294967295 }
     ensures done { OnOk result ((fs : List Forest) (r : Rest) → image fs r w store.new
         ≡ state.with_cell (image fs r w store.old) (number w store.old array)
-        (changes.pushed (state.cell_at (image fs r w store.old) (number w store.old array)) array.len (all_seen w store.old.cells values.now))) }
+        (changes.pushed (state.cell_at (image fs r w store.old) (number w store.old array)) array.len
+        (all_seen w store.old.cells values.now))) }
     ensures kept { (fs : List Forest) → Kept fs w store.old store.new }
 {
     for at in 0..values.len() {

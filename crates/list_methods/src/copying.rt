@@ -59,7 +59,8 @@ fn all_elements(
     requires confined { (fs : List Forest) × IsConfined fs w store.old }
     requires args { AreFine w store.old.cells args.now }
     ensures native { IfOk result (λ o. Ends w store.old store.new
-        (λ d s. forms.make_array (forms.elements s (number w store.old array) array.len ++ flat_map (changes.array_elements s) (all_seen w store.old.cells args.now)) 0 s costs.give) o) }
+        (λ d s. forms.make_array (forms.elements s (number w store.old array) array.len ++ flat_map
+        (changes.array_elements s) (all_seen w store.old.cells args.now)) 0 s costs.give) o) }
     ensures memory { OnErr result ((fs : List Forest) → Kept fs w store.old store.new) }
 {
     let mut values = values_of(alloc, store, w, array)?;
@@ -78,7 +79,8 @@ fn push_arguments(
     requires args { AreFine w store.now.cells args.now }
     requires values { AreFine w store.now.cells values.old.items }
     ensures more { OnOk result ((fs : List Forest) (r : Rest) → all_seen w store.now.cells values.new.items
-        ≡ all_seen w store.now.cells values.old.items ++ flat_map (changes.array_elements (image fs r w store.now)) (all_seen w store.now.cells args.now)) }
+        ≡ all_seen w store.now.cells values.old.items ++ flat_map (changes.array_elements (image fs r w store.now))
+        (all_seen w store.now.cells args.now)) }
     ensures fine { OnOk result (AreFine w store.now.cells values.new.items) }
 {
     for v in args {
@@ -99,7 +101,8 @@ fn push_argument(
     requires arg { IsFine w store.now.cells v.now }
     requires values { AreFine w store.now.cells values.old.items }
     ensures more { OnOk result ((fs : List Forest) (r : Rest) → all_seen w store.now.cells values.new.items
-        ≡ all_seen w store.now.cells values.old.items ++ changes.array_elements (image fs r w store.now) (seen w store.now.cells v.now)) }
+        ≡ all_seen w store.now.cells values.old.items ++ changes.array_elements (image fs r w store.now)
+        (seen w store.now.cells v.now)) }
     ensures fine { OnOk result (AreFine w store.now.cells values.new.items) }
 {
     let Some(len) = array_length(store, v) else {
@@ -123,7 +126,9 @@ pub(crate) fn slice(
     requires confined { (fs : List Forest) × IsConfined fs w store.old }
     requires args { AreFine w store.old.cells args.now }
     ensures native { IfOk result (λ o. Meets w store.old store.new meter.old meter.new
-        (λ d s. means.list_slice (number w store.old array) array.len (meaning.nth 0 (all_seen w store.old.cells args.now)) (meaning.nth 1 (all_seen w store.old.cells args.now)) (changes.list_extra array.len (all_seen w store.old.cells args.now) s) s) o) }
+        (λ d s. means.list_slice (number w store.old array) array.len
+        (meaning.nth 0 (all_seen w store.old.cells args.now)) (meaning.nth 1 (all_seen w store.old.cells args.now))
+        (changes.list_extra array.len (all_seen w store.old.cells args.now) s) s) o) }
     ensures memory { OnErr result ((fs : List Forest) → Kept fs w store.old store.new) }
 {
     let absent = Value::Undefined;
@@ -170,7 +175,8 @@ fn between(
     requires confined { (fs : List Forest) × IsConfined fs w store.old }
     requires end { to ≤ array.len }
     ensures native { IfOk result (λ o. Ends w store.old store.new
-        (λ d s. forms.make_array (slice_range (forms.elements s (number w store.old array) array.len) from to) 0 s costs.give) o) }
+        (λ d s. forms.make_array (slice_range
+        (forms.elements s (number w store.old array) array.len) from to) 0 s costs.give) o) }
     ensures memory { OnErr result ((fs : List Forest) → Kept fs w store.old store.new) }
 {
     let all = values_of(alloc, store, w, array)?;

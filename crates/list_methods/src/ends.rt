@@ -47,7 +47,8 @@ fn pop_last(alloc: Global, array: OwnArray, store: &mut Store, w: u32) -> Result
     requires widget { w < 32 }
     requires array { IsArray w store.old array }
     requires confined { (fs : List Forest) × IsConfined fs w store.old }
-    ensures native { IfOk result (λ o. Ends w store.old store.new (λ d s. popped (number w store.old array) array.len s) o) }
+    ensures native { IfOk result
+        (λ o. Ends w store.old store.new (λ d s. popped (number w store.old array) array.len s) o) }
     ensures memory { OnErr result ((fs : List Forest) → Kept fs w store.old store.new) }
 {
     if array.len == 0 {

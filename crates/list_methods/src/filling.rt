@@ -30,7 +30,8 @@ pub(crate) fn change(
     requires values { AreFine w store.old.cells values.now }
     requires given { IsFine w store.old.cells given }
     ensures native { IfOk result (λ o. Ends w store.old store.new
-        (λ d s. changes.change (number w store.old array) (all_seen w store.old.cells values.now) (seen w store.old.cells given) s) o) }
+        (λ d s. changes.change (number w store.old array) (all_seen w store.old.cells values.now)
+        (seen w store.old.cells given) s) o) }
     ensures memory { OnErr result ((fs : List Forest) → Kept fs w store.old store.new) }
 {
     let Ok(len) = u32::try_from(values.len()) else {
@@ -61,7 +62,8 @@ pub(crate) fn fill(
     requires few { length values.now ≤ 4294967295 }
     ensures done { OnOk result ((fs : List Forest) (r : Rest) → image fs r w store.new
         ≡ state.with_cell (image fs r w store.old) (number w store.old array)
-        (changes.with_elements (state.cell_at (image fs r w store.old) (number w store.old array)) (all_seen w store.old.cells values.now))) }
+        (changes.with_elements (state.cell_at (image fs r w store.old) (number w store.old array))
+        (all_seen w store.old.cells values.now))) }
     ensures kept { (fs : List Forest) → Kept fs w store.old store.new }
 {
     shorten(alloc, array, 0, store, w)?;

@@ -116,9 +116,11 @@ fn give_joined(
     requires widget { w < 32 }
     requires array { IsArray w store.old array }
     requires confined { (fs : List Forest) × IsConfined fs w store.old }
-    ensures native { IfOk result (λ o. (n : State → ℕ) → ((fs : List Forest) (r : Rest) → joining.asked ≡ counted (n (image fs r w store.old)))
+    ensures native { IfOk result (λ o. (n : State → ℕ)
+        → ((fs : List Forest) (r : Rest) → joining.asked ≡ counted (n (image fs r w store.old)))
         → Meets w store.old store.new meter.old meter.new
-        (λ d s. forms.give_text (n s) (join_by means.joined_text joining.separator (forms.elements s (number w store.old array) array.len)) s) o) }
+        (λ d s. forms.give_text (n s)
+        (join_by means.joined_text joining.separator (forms.elements s (number w store.old array) array.len)) s) o) }
     ensures memory { OnErr result ((fs : List Forest) → Kept fs w store.old store.new) }
 {
     let most = meter.left() as usize;

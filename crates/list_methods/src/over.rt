@@ -41,7 +41,8 @@ pub(crate) fn over(
     requires confined { (fs : List Forest) × IsConfined fs w store.now }
     requires args { AreFine w store.now.cells args.now }
     ensures native { IfOk result (λ o. Meets w store.now store.now meter.old meter.new
-        (λ d s. means.over (number w store.now calls.array) calls.array.len (meaning.nth 0 (all_seen w store.now.cells args.now)) d s
+        (λ d s. means.over (number w store.now calls.array) calls.array.len
+        (meaning.nth 0 (all_seen w store.now.cells args.now)) d s
         (gathered calls.keep (forms.elements s (number w store.now calls.array) calls.array.len))) o) }
 {
     let absent = Value::Undefined;
@@ -67,7 +68,8 @@ fn gather(
     requires confined { (fs : List Forest) × IsConfined fs w store.now }
     requires func { IsHeld w store.now.cells func }
     ensures native { IfOk result (λ o. Ends w store.now store.now
-        (λ d s. means.call_each (seen w store.now.cells (Value.Ref func)) (forms.elements s (number w store.now calls.array) calls.array.len) 0 [] d s
+        (λ d s. means.call_each (seen w store.now.cells (Value.Ref func))
+        (forms.elements s (number w store.now calls.array) calls.array.len) 0 [] d s
         (gathered calls.keep (forms.elements s (number w store.now calls.array) calls.array.len))) o) }
 {
     let items = values_of(alloc, store, w, calls.array)?;

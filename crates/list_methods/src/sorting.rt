@@ -74,7 +74,9 @@ fn put_in_order(
     requires array { IsArray w store.old array }
     requires confined { (fs : List Forest) × IsConfined fs w store.old }
     ensures native { IfOk result (λ o. Ends w store.old store.new
-        (λ d s. changes.change (number w store.old array) (changes.sorted (forms.elements s (number w store.old array) array.len)) (meaning.Own (number w store.old array)) s) o) }
+        (λ d s. changes.change (number w store.old array)
+        (changes.sorted (forms.elements s (number w store.old array) array.len))
+        (meaning.Own (number w store.old array)) s) o) }
     ensures memory { OnErr result ((fs : List Forest) → Kept fs w store.old store.new) }
 {
     let all = values_of(alloc, store, w, array)?;
@@ -91,8 +93,10 @@ pub(crate) struct Keyed {
 
 // Values in the order of their texts; undefined comes last, and those that tie keep their order.
 fn sorted(alloc: Global, values: &[Value]) -> Result<Vec<Value>, Memory>
-    ensures sorted { IfOk result (λ vs. (w : ℕ) (cells : List PlainCell) → all_seen w cells vs.items ≡ changes.sorted (all_seen w cells values.now)) }
-    ensures fine { IfOk result (λ vs. (w : ℕ) (cells : List PlainCell) → AreFine w cells values.now → AreFine w cells vs.items) }
+    ensures sorted { IfOk result (λ vs. (w : ℕ) (cells : List PlainCell)
+        → all_seen w cells vs.items ≡ changes.sorted (all_seen w cells values.now)) }
+    ensures fine { IfOk result (λ vs. (w : ℕ) (cells : List PlainCell) → AreFine w cells values.now
+        → AreFine w cells vs.items) }
 {
     let mut all = with_keys(alloc, values)?;
     put_in_place(&mut all)?;

@@ -118,7 +118,9 @@ fn spliced(
     requires new { AreFine w store.old.cells new.now }
     requires within { cut.at + cut.count ≤ array.len }
     ensures native { IfOk result (λ o. Ends w store.old store.new
-        (λ d s. changes.spliced (number w store.old array) (forms.elements s (number w store.old array) array.len) cut.at cut.count (all_seen w store.old.cells new.now) s) o) }
+        (λ d s. changes.spliced (number w store.old array)
+        (forms.elements s (number w store.old array) array.len) cut.at cut.count
+        (all_seen w store.old.cells new.now) s) o) }
     ensures memory { OnErr result ((fs : List Forest) → Kept fs w store.old store.new) }
 {
     let all = values_of(alloc, store, w, array)?;
@@ -153,7 +155,8 @@ fn exchange(
     requires taken { AreFine w store.old.cells taken.items }
     requires left { AreFine w store.old.cells left.now }
     ensures native { IfOk result (λ o. Ends w store.old store.new
-        (λ d s. exchanged (number w store.old array) (all_seen w store.old.cells taken.items) (all_seen w store.old.cells left.now) s) o) }
+        (λ d s. exchanged (number w store.old array) (all_seen w store.old.cells taken.items)
+        (all_seen w store.old.cells left.now) s) o) }
     ensures memory { OnErr result ((fs : List Forest) → Kept fs w store.old store.new) }
 {
     let Ok(len) = u32::try_from(left.len()) else {
@@ -189,7 +192,8 @@ fn give_taken(
     requires left { AreFine w store.old.cells left.now }
     requires few { length left.now ≤ 4294967295 }
     ensures native { IfOk result (λ o. Ends w store.old store.new
-        (λ d s. filled_after (number w store.old array) (all_seen w store.old.cells taken.items) (all_seen w store.old.cells left.now) s) o) }
+        (λ d s. filled_after (number w store.old array) (all_seen w store.old.cells taken.items)
+        (all_seen w store.old.cells left.now) s) o) }
     ensures memory { OnErr result ((fs : List Forest) → Kept fs w store.old store.new) }
 {
     let made = make_array(alloc, store, w, taken, 0)?;

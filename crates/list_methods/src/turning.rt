@@ -53,7 +53,9 @@ fn take_first(
     requires array { IsArray w store.old array }
     requires confined { (fs : List Forest) × IsConfined fs w store.old }
     ensures native { IfOk result (λ o. Ends w store.old store.new
-        (λ d s. changes.change (number w store.old array) (drop 1 (forms.elements s (number w store.old array) array.len)) (meaning.nth 0 (forms.elements s (number w store.old array) array.len)) s) o) }
+        (λ d s. changes.change (number w store.old array)
+        (drop 1 (forms.elements s (number w store.old array) array.len))
+        (meaning.nth 0 (forms.elements s (number w store.old array) array.len)) s) o) }
     ensures memory { OnErr result ((fs : List Forest) → Kept fs w store.old store.new) }
 {
     let all = values_of(alloc, store, w, array)?;
@@ -119,7 +121,9 @@ fn put_first(
     requires args { AreFine w store.old.cells args.now }
     requires few { array.len + length args.now ≤ 4294967295 }
     ensures native { IfOk result (λ o. Ends w store.old store.new
-        (λ d s. changes.change (number w store.old array) (all_seen w store.old.cells args.now ++ forms.elements s (number w store.old array) array.len) (meaning.Num (pos (array.len + length (all_seen w store.old.cells args.now)))) s) o) }
+        (λ d s. changes.change (number w store.old array)
+        (all_seen w store.old.cells args.now ++ forms.elements s (number w store.old array) array.len)
+        (meaning.Num (pos (array.len + length (all_seen w store.old.cells args.now)))) s) o) }
     ensures memory { OnErr result ((fs : List Forest) → Kept fs w store.old store.new) }
 {
     let all = values_of(alloc, store, w, array)?;
@@ -167,7 +171,9 @@ fn turn(alloc: Global, array: OwnArray, store: &mut Store, w: u32) -> Result<Nat
     requires array { IsArray w store.old array }
     requires confined { (fs : List Forest) × IsConfined fs w store.old }
     ensures native { IfOk result (λ o. Ends w store.old store.new
-        (λ d s. changes.change (number w store.old array) (std.reverse (forms.elements s (number w store.old array) array.len)) (meaning.Own (number w store.old array)) s) o) }
+        (λ d s. changes.change (number w store.old array)
+        (std.reverse (forms.elements s (number w store.old array) array.len))
+        (meaning.Own (number w store.old array)) s) o) }
     ensures memory { OnErr result ((fs : List Forest) → Kept fs w store.old store.new) }
 {
     let all = values_of(alloc, store, w, array)?;

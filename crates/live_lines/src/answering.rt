@@ -32,7 +32,9 @@ pub fn answer_line<F: Files>(
 ) -> Result<(), Memory>
     requires stands { Stands session.old }
     requires room { session.old.page.taken < 4096 }
-    ensures answered { OnOk result (Answered (F.told files.old) (λ parts pairs runs m s bytes t. Answers parts pairs runs m line.now s bytes t) session.old session.new out.old.items out.new.items) }
+    ensures answered { OnOk result (Answered (F.told files.old)
+        (λ parts pairs runs m s bytes t. Answers parts pairs runs m line.now s bytes t) session.old session.new
+        out.old.items out.new.items) }
     ensures told { F.told files.new ≡ F.told files.old }
 {
     if line.len() > LINE_LIMIT {
@@ -50,7 +52,8 @@ pub fn answer_line<F: Files>(
 // Appends the report.
 fn answer_report(alloc: Global, session: &Session, out: &mut Vec<u8>) -> Result<(), Memory>
     requires alive { IsAlive session.now.page }
-    ensures { OnOk result ((bytes : List ℕ) × (out.new.items ≡ out.old.items ++ bytes) × ReportsOn session.now.page bytes) }
+    ensures { OnOk result ((bytes : List ℕ) × (out.new.items ≡ out.old.items ++ bytes)
+        × ReportsOn session.now.page bytes) }
 {
     let bytes = session.page.report(alloc)?;
     out.extend_from_slice(&bytes)?;
@@ -68,7 +71,9 @@ fn answer_item<F: Files>(
     requires stands { Stands session.old }
     requires room { session.old.page.taken < 4096 }
     requires shape { IsFor (length session.old.page.findings.names.items) (said item) }
-    ensures answered { OnOk result (Answered (F.told files.old) (λ parts pairs runs m s bytes t. Replies parts pairs runs m (said item) s bytes t) session.old session.new out.old.items out.new.items) }
+    ensures answered { OnOk result (Answered (F.told files.old)
+        (λ parts pairs runs m s bytes t. Replies parts pairs runs m
+        (said item) s bytes t) session.old session.new out.old.items out.new.items) }
     ensures told { F.told files.new ≡ F.told files.old }
 {
     match item {
@@ -97,7 +102,9 @@ fn answer_swap<F: Files>(
     requires stands { Stands session.old }
     requires room { session.old.page.taken < 4096 }
     requires there { to < length session.old.page.findings.names.items }
-    ensures answered { OnOk result (Answered (F.told files.old) (λ parts pairs runs m s bytes t. Replies parts pairs runs m (a_swap to (string_bytes name)) s bytes t) session.old session.new out.old.items out.new.items) }
+    ensures answered { OnOk result (Answered (F.told files.old)
+        (λ parts pairs runs m s bytes t. Replies parts pairs runs m
+        (a_swap to (string_bytes name)) s bytes t) session.old session.new out.old.items out.new.items) }
     ensures told { F.told files.new ≡ F.told files.old }
 {
     if session.page.findings.swaps.slots.len() >= MOST_SWAPS {

@@ -88,7 +88,8 @@ fn run<F: Files, L: Lines, S: Sink>(
     requires alive { IsAlive page }
     requires first { page.taken ≡ 0 }
     ensures ran { RanOn (F.told files.old) (L.left lines.old) page (S.held sink.old) (S.held sink.new) result }
-    ensures ends { Ends (L.calm lines.old) (L.faults lines.old) (L.faults lines.new) (S.faults sink.old) (S.faults sink.new) result }
+    ensures ends { Ends (L.calm lines.old) (L.faults lines.old) (L.faults lines.new) (S.faults sink.old)
+        (S.faults sink.new) result }
     ensures told { F.told files.new ≡ F.told files.old }
 {
     let mut out = Vec::new(alloc);
@@ -111,8 +112,10 @@ fn serve<F: Files, L: Lines, S: Sink>(
 ) -> Status
     requires stands { Stands session.old }
     requires room { session.old.page.taken < 4096 }
-    ensures served { ServedOn (F.told files.old) (L.left lines.old) session.old (S.held sink.old) (S.held sink.new) result }
-    ensures ends { Ends (L.calm lines.old) (L.faults lines.old) (L.faults lines.new) (S.faults sink.old) (S.faults sink.new) result }
+    ensures served { ServedOn (F.told files.old) (L.left lines.old) session.old (S.held sink.old)
+        (S.held sink.new) result }
+    ensures ends { Ends (L.calm lines.old) (L.faults lines.old) (L.faults lines.new) (S.faults sink.old)
+        (S.faults sink.new) result }
     ensures told { F.told files.new ≡ F.told files.old }
 {
     'lines: for _ in 0..u64::MAX {

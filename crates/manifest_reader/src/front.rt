@@ -13,7 +13,8 @@ use std::alloc::Global;
 
 // How many nodes may follow an entry.
 fn room_behind(alloc: Global, value: &Value, room: u32) -> Result<u32, HtmlFault>
-    ensures room { IfOk result (λ left. (trees : Trees Places) × IsHtmlOf (html_text (view value.now)) trees × (left + size trees ≡ room)) }
+    ensures room { IfOk result
+        (λ left. (trees : Trees Places) × IsHtmlOf (html_text (view value.now)) trees × (left + size trees ≡ room)) }
     ensures bad { IsErrOf result HtmlFault.Bad → (trees : Trees Places) →
         IsHtmlOf (html_text (view value.now)) trees → room < size trees }
 {

@@ -84,7 +84,8 @@ pub fn read_channels(
     names: &[Text],
 ) -> Result<Vec<(u32, u32)>, Misfit>
     requires { length names.now < 2 ^ 32 }
-    ensures ok { IfOk result (λ channels. IsChannels names.now (get (codes "channels") (view value.now)) channels.items) }
+    ensures ok { IfOk result
+        (λ channels. IsChannels names.now (get (codes "channels") (view value.now)) channels.items) }
     ensures misfit { IsErrOf result Misfit.Shape → (channels : List (ℕ × ℕ)) →
         ¬ IsChannels names.now (get (codes "channels") (view value.now)) channels }
 {

@@ -1,7 +1,8 @@
 //! The grammar of markup: which bytes spell which trees.
 //!
 //! `specs/Grammar.antt` says it row by row, as a relation between characters with their places and trees with theirs.
-//! `specs/Machine.antt` is its machine, which takes one character at a time: what a reader has read so far leads the machine from one state to the next.
+//! `specs/Machine.antt` is its machine, which takes one character at a time: what a reader has read so far
+//! leads the machine from one state to the next.
 //! The functions that do nothing carry the laws of the two.
 #![tactic(auto)]
 
@@ -37,7 +38,8 @@ pub enum Sign {
 /// UTF-8 bytes are read as the trees that they spell, or refused at the exact place.
 pub fn texts_are_exact()
     ensures spelled { (bytes : List ℕ) (ts : Trees Places) → MarkupSpells bytes ts → judged bytes ≡ Read ts }
-    ensures read { (bytes : List ℕ) (ts : Trees Places) → IsUtf8 bytes → judged bytes ≡ Read ts → MarkupSpells bytes ts }
+    ensures read { (bytes : List ℕ) (ts : Trees Places) → IsUtf8 bytes → judged bytes ≡ Read ts
+        → MarkupSpells bytes ts }
     ensures bad { (bytes : List ℕ) (at : ℕ) → IsUtf8 bytes → judged bytes ≡ Bad at → BadMarkupPlace bytes at }
 {}
 
@@ -48,12 +50,16 @@ pub fn broken_bytes_are_exact()
 
 /// Bytes have one answer at most: the trees that they spell, or the place at which they are refused.
 pub fn one_answer()
-    ensures one_reading { (bytes : List ℕ) (ts us : Trees Places) → MarkupSpells bytes ts → MarkupSpells bytes us → ts ≡ us }
-    ensures one_place { (bytes : List ℕ) (at other : ℕ) → BadMarkupPlace bytes at → BadMarkupPlace bytes other → at ≡ other }
-    ensures one_kind { (bytes : List ℕ) (ts : Trees Places) (at : ℕ) → MarkupSpells bytes ts → BadMarkupPlace bytes at → ⊥ }
+    ensures one_reading { (bytes : List ℕ) (ts us : Trees Places) → MarkupSpells bytes ts → MarkupSpells bytes us
+        → ts ≡ us }
+    ensures one_place { (bytes : List ℕ) (at other : ℕ) → BadMarkupPlace bytes at → BadMarkupPlace bytes other
+        → at ≡ other }
+    ensures one_kind { (bytes : List ℕ) (ts : Trees Places) (at : ℕ) → MarkupSpells bytes ts
+        → BadMarkupPlace bytes at → ⊥ }
 {}
 
 /// Bytes that begin some content and are none are refused at their end.
 pub fn cut_short()
-    ensures { (front more : List ℕ) (ts : Trees Places) → MarkupSpells (front ++ more) ts → ((us : Trees Places) → MarkupSpells front us → ⊥) → BadMarkupPlace front (length front) }
+    ensures { (front more : List ℕ) (ts : Trees Places) → MarkupSpells (front ++ more) ts
+        → ((us : Trees Places) → MarkupSpells front us → ⊥) → BadMarkupPlace front (length front) }
 {}

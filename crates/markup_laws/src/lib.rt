@@ -15,12 +15,16 @@ ghost use Rattle.markup_laws.specs.Reading.{IsReadable, ReadsAs};
 /// surrogate, at most 200 nested elements, and each `style` is not empty and is in its printed
 /// form: `text` for any printed form of styles, `output` for what a page prints.
 pub fn printed_is_read()
-    ensures text { (style : List ℕ → List ℕ) (trees : PlainTrees) → IsReadable style trees → ReadsAs (printed style trees) trees }
-    ensures output { (trees : PlainTrees) (bytes : List ℕ) → ((style : List ℕ → List ℕ) → IsStyleForm style → IsReadable style trees) → Prints trees [] bytes → ReadsAs bytes trees }
+    ensures text { (style : List ℕ → List ℕ) (trees : PlainTrees) → IsReadable style trees
+        → ReadsAs (printed style trees) trees }
+    ensures output { (trees : PlainTrees) (bytes : List ℕ)
+        → ((style : List ℕ → List ℕ) → IsStyleForm style → IsReadable style trees) → Prints trees [] bytes
+        → ReadsAs bytes trees }
 {}
 
 /// Styles have a printed form, and the printed text of pairs is in it.
 pub fn styles_have_a_form()
     ensures form { (style : List ℕ → List ℕ) × IsStyleForm style }
-    ensures stays { (style : List ℕ → List ℕ) → IsStyleForm style → (pairs : List Pair) → list_all is_pair pairs ≡ true → is_once pairs ≡ true → style (print_style pairs) ≡ print_style pairs }
+    ensures stays { (style : List ℕ → List ℕ) → IsStyleForm style → (pairs : List Pair)
+        → list_all is_pair pairs ≡ true → is_once pairs ≡ true → style (print_style pairs) ≡ print_style pairs }
 {}

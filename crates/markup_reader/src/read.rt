@@ -24,7 +24,8 @@ use std::str::Utf8Error;
 /// none, and gives the first byte with which no content begins, or the length.
 pub fn read_markup(alloc: Global, bytes: &[u8]) -> Result<Vec<Plain>, MarkupFault>
     ensures read { IfOk result (λ v. MarkupSpells bytes.now (placed_all v.items)) }
-    ensures only { (ts : Trees Places) → MarkupSpells bytes.now ts → MatchResult result (λ v. placed_all v.items ≡ ts) (λ e. e ≡ fault.Memory) }
+    ensures only { (ts : Trees Places) → MarkupSpells bytes.now ts
+        → MatchResult result (λ v. placed_all v.items ≡ ts) (λ e. e ≡ fault.Memory) }
     ensures place { IfErr result (IsMarkupFault bytes.now) }
 {
     match str::from_utf8(bytes) {
@@ -46,7 +47,8 @@ fn read_whole(alloc: Global, text: &str) -> Result<Vec<Plain>, MarkupFault>
     }
 }
 
-// Why bytes are refused that are no UTF-8: for the text before the fault, or at the byte with which no character goes on.
+// Why bytes are refused that are no UTF-8: for the text before the fault, or at the byte with which no
+// character goes on.
 fn ill_formed(alloc: Global, bytes: &[u8], fault: Utf8Error) -> MarkupFault
     requires place { IsValidUpTo bytes.now (valid_up_to fault) }
     requires valid { valid_up_to fault ≡ utf8_valid_len bytes.now }
@@ -84,7 +86,8 @@ fn begun_len(tail: &[u8], error_len: Option<usize>) -> usize
 
 // Reads all characters of a text.
 fn read_text(alloc: Global, text: &str) -> Result<Reader, MarkupFault>
-    ensures { MatchResult result (λ r. reads begin 0 (chars text.now) ≡ Reached (state_of r)) (IsStuck (reads begin 0 (chars text.now))) }
+    ensures { MatchResult result
+        (λ r. reads begin 0 (chars text.now) ≡ Reached (state_of r)) (IsStuck (reads begin 0 (chars text.now))) }
 {
     let mut reader = Reader::new(alloc)?;
     let mut at = 0;

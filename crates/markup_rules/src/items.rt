@@ -35,7 +35,8 @@ fn is_blank(text: &Text) -> bool
 
 /// The first attribute with a name.
 pub fn first_named<'a>(attrs: &'a [Attr], word: &[u8]) -> Option<&'a Attr>
-    ensures { MatchOption result (first_named word.now attrs.now ≡ None) (λ a. first_named word.now attrs.now ≡ Some a.now) }
+    ensures { MatchOption result (first_named word.now attrs.now ≡ None)
+        (λ a. first_named word.now attrs.now ≡ Some a.now) }
 {
     'attrs: for attr in attrs {
         if is_word(&attr.name, word) {

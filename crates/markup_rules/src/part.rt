@@ -39,7 +39,8 @@ pub fn part_of(plain: &Plain) -> Option<Part>
 
 /// Appends the elements of a tree, each before those below it.
 fn list_elements<'a>(plain: &'a Plain, found: &mut Vec<Part<'a>>) -> Result<(), Memory>
-    ensures { OnOk result (map element_of found.new.items ≡ map element_of found.old.items ++ elements (placed plain.now)) }
+    ensures { OnOk result (map element_of found.new.items
+        ≡ map element_of found.old.items ++ elements (placed plain.now)) }
 {
     if let Plain::Element {
         tag,
@@ -74,7 +75,8 @@ pub fn all_elements(alloc: Global, content: &[Plain]) -> Result<Vec<Part>, Memor
 
 // Appends the elements below one.
 fn list_below<'a>(part: &Part<'a>, found: &mut Vec<Part<'a>>) -> Result<(), Memory>
-    ensures { OnOk result (map element_of found.new.items ≡ map element_of found.old.items ++ elements (placed_all part.now.children.now)) }
+    ensures { OnOk result (map element_of found.new.items
+        ≡ map element_of found.old.items ++ elements (placed_all part.now.children.now)) }
 {
     'each: for child in part.children {
         list_elements(child, found)?;
@@ -98,7 +100,8 @@ pub fn root_place(content: &[Plain]) -> Option<usize>
 
 /// The root, if there is one.
 pub fn root_of(content: &[Plain]) -> Option<Part>
-    ensures { MatchOption result (roots (placed_all content.now) ≡ []) (λ p. roots (placed_all content.now) ≡ element_of p ∷ []) }
+    ensures { MatchOption result (roots (placed_all content.now) ≡ [])
+        (λ p. roots (placed_all content.now) ≡ element_of p ∷ []) }
 {
     'nodes: for plain in content {
         if let Some(part) = part_of(plain) {
@@ -130,7 +133,8 @@ pub fn other_elements(alloc: Global, content: &[Plain]) -> Result<Vec<Part>, Mem
 
 // Appends the tree where it is a script.
 fn list_script<'a>(plain: &'a Plain, found: &mut Vec<Part<'a>>) -> Result<(), Memory>
-    ensures { OnOk result (map element_of found.new.items ≡ map element_of found.old.items ++ filter is_script_element (tops (placed plain.now))) }
+    ensures { OnOk result (map element_of found.new.items
+        ≡ map element_of found.old.items ++ filter is_script_element (tops (placed plain.now))) }
 {
     match part_of(plain) {
         Some(part) if is_word(part.tag, b"script") => {

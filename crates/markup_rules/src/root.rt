@@ -46,7 +46,8 @@ fn misnamed(name: &Text, root: &Part) -> Option<usize>
 
 // Whether a script before the last is out of order.
 fn is_misplaced(script: &Part, is_first: bool) -> bool
-    ensures { result ≡ (if is_first then is_sourced (element_of script.now) else not (is_sourced (element_of script.now))) }
+    ensures { result ≡ (if is_first then is_sourced (element_of script.now) else not
+        (is_sourced (element_of script.now))) }
 {
     let is_sourced = has_named(script.attrs, b"src");
     if is_first { is_sourced } else { !is_sourced }

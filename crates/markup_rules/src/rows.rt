@@ -156,7 +156,8 @@ fn is_stray(name: &Text, attr: &Attr, word: &[u8]) -> bool
 
 // Whether the attribute is the `src` of a script, and no library.
 fn is_missing(libs: &[Text], of_script: bool, attr: &Attr) -> bool
-    ensures { result ≡ (of_script && is_named (codes "src") attr.now && not (list_any (bytes_eq attr.now.value) libs.now)) }
+    ensures { result ≡ (of_script && is_named (codes "src") attr.now && not
+        (list_any (bytes_eq attr.now.value) libs.now)) }
 {
     of_script && is_word(&attr.name, b"src") && !is_among(libs, &attr.value)
 }
@@ -186,7 +187,8 @@ fn all_slot_attribute_rows(
     attrs: &[Attr],
     best: Option<Breach>,
 ) -> Option<Breach>
-    ensures { Narrows (Each (SlotAttributeRows slot.now.name.now slot.now.libs.now of_script) attrs.now) best Nothing result }
+    ensures { Narrows (Each (SlotAttributeRows slot.now.name.now slot.now.libs.now of_script) attrs.now) best Nothing
+        result }
 {
     let mut least = best;
     'attrs: for attr in attrs {
@@ -197,7 +199,8 @@ fn all_slot_attribute_rows(
 
 /// M05 among the children of elements, M08 of a `for` and M11.
 pub fn all_slot_rows(slot: &Slot, parts: &[Part], best: Option<Breach>) -> Option<Breach>
-    ensures { Narrows (Each (SlotRows slot.now.name.now slot.now.libs.now) (map element_of parts.now)) best Nothing result }
+    ensures { Narrows (Each (SlotRows slot.now.name.now slot.now.libs.now)
+        (map element_of parts.now)) best Nothing result }
 {
     let mut least = best;
     'parts: for part in parts {

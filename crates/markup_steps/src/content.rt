@@ -19,7 +19,8 @@ use std::mem;
 impl Reader {
     /// Behind an element, or where content begins.
     pub fn between(&mut self, c: char, at: usize) -> Result<(), Stop>
-        ensures { Took (machine.between (trees_of self.old) (opens_of self.old) (sign_of c) (spot c at)) result (state_of self.new) }
+        ensures { Took (machine.between (trees_of self.old) (opens_of self.old) (sign_of c) (spot c at)) result
+            (state_of self.new) }
     {
         match sign_of(c) {
             Sign::Less => {
@@ -43,7 +44,8 @@ impl Reader {
 
     /// In a text.
     pub fn in_text(&mut self, c: char, at: usize) -> Result<(), Stop>
-        ensures { Took (machine.in_run (text_run self.old) (trees_of self.old) (opens_of self.old) (sign_of c) (spot c at)) result (state_of self.new) }
+        ensures { Took (machine.in_run (text_run self.old) (trees_of self.old) (opens_of self.old) (sign_of c)
+            (spot c at)) result (state_of self.new) }
     {
         match sign_of(c) {
             Sign::Less => {
@@ -62,7 +64,8 @@ impl Reader {
 
     /// In the value of an attribute.
     pub fn in_value(&mut self, c: char, at: usize) -> Result<(), Stop>
-        ensures { Took (machine.in_run (value_run self.old) (trees_of self.old) (opens_of self.old) (sign_of c) (spot c at)) result (state_of self.new) }
+        ensures { Took (machine.in_run (value_run self.old) (trees_of self.old) (opens_of self.old) (sign_of c)
+            (spot c at)) result (state_of self.new) }
     {
         match (sign_of(c), self.attribute.double) {
             (Sign::Less, _) => return Err(Stop::Bad),
@@ -79,7 +82,8 @@ impl Reader {
     /// The text ends.
     #[tactic(auto, using(crate::proofs::Grows::one_text))]
     pub fn end_text(&mut self) -> Result<(), Memory>
-        ensures nodes { OnOk result (trees_of self.new ≡ beside (trees_of self.old) (text_node self.old.piece.units.items self.old.piece.at)) }
+        ensures nodes { OnOk result (trees_of self.new
+            ≡ beside (trees_of self.old) (text_node self.old.piece.units.items self.old.piece.at)) }
         ensures kept { OnOk result (opens_of self.new ≡ opens_of self.old) }
     {
         let text = take_text(self.alloc, &mut self.piece.units)?;
@@ -92,7 +96,9 @@ impl Reader {
 
     // The value ends, and with it the attribute.
     fn end_value(&mut self) -> Result<(), Memory>
-        ensures { OnOk result (state_of self.new ≡ machine.valued (opening_of self.old.head) self.old.attribute.name self.old.attribute.at self.old.attribute.value_at self.old.piece.units.items (trees_of self.old) (opens_of self.old)) }
+        ensures { OnOk result (state_of self.new
+            ≡ machine.valued (opening_of self.old.head) self.old.attribute.name self.old.attribute.at
+            self.old.attribute.value_at self.old.piece.units.items (trees_of self.old) (opens_of self.old)) }
     {
         let value = take_text(self.alloc, &mut self.piece.units)?;
         self.head.attrs.push(Attr {
@@ -107,7 +113,8 @@ impl Reader {
 
     /// In an end tag, of whose name so many units are read.
     pub fn ending(&mut self, read: usize, c: char, at: usize) -> Result<(), Stop>
-        ensures { Took (machine.ending (drop read (top_tag (opens_of self.old))) (trees_of self.old) (opens_of self.old) (sign_of c) (spot c at)) result (state_of self.new) }
+        ensures { Took (machine.ending (drop read (top_tag (opens_of self.old))) (trees_of self.old)
+            (opens_of self.old) (sign_of c) (spot c at)) result (state_of self.new) }
     {
         match unit_at(self.end_word(), read) {
             None => self.ended(c, at),
@@ -131,7 +138,8 @@ impl Reader {
 
     /// Behind the name of an end tag.
     pub fn ended(&mut self, c: char, at: usize) -> Result<(), Stop>
-        ensures { Took (machine.ended (trees_of self.old) (opens_of self.old) (sign_of c) (spot c at)) result (state_of self.new) }
+        ensures { Took (machine.ended (trees_of self.old) (opens_of self.old) (sign_of c) (spot c at)) result
+            (state_of self.new) }
     {
         match sign_of(c) {
             Sign::Blank => {

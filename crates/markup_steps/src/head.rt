@@ -30,7 +30,8 @@ fn is_bare(name: &Text) -> bool
 impl Reader {
     /// Behind `<`.
     pub fn begun(&mut self, c: char, at: usize) -> Result<(), Stop>
-        ensures { Took (machine.begun self.old.head.at (trees_of self.old) (opens_of self.old) (sign_of c) (spot c at)) result (state_of self.new) }
+        ensures { Took (machine.begun self.old.head.at (trees_of self.old) (opens_of self.old) (sign_of c)
+            (spot c at)) result (state_of self.new) }
     {
         match sign_of(c) {
             Sign::Letter => self.begin_tag(c, at),
@@ -43,7 +44,8 @@ impl Reader {
     #[tactic(auto, using(crate::proofs::Grows::length_stack), unfolding(markup_grammar::specs::Grammar::limit))]
     fn begin_tag(&mut self, c: char, at: usize) -> Result<(), Stop>
         requires { IsInName (sign_of c) }
-        ensures { Took (machine.tag_begun self.old.head.at (trees_of self.old) (opens_of self.old) (spot c at)) result (state_of self.new) }
+        ensures { Took (machine.tag_begun self.old.head.at (trees_of self.old) (opens_of self.old)
+            (spot c at)) result (state_of self.new) }
     {
         if self.grown.open.len() >= LIMIT {
             return Err(Stop::Bad);
@@ -69,7 +71,8 @@ impl Reader {
     /// In the name of a tag.
     pub fn tag_name(&mut self, c: char, at: usize) -> Result<(), Stop>
         requires { at + 1 < 2 ^ 64 }
-        ensures { Took (machine.tag_name self.old.head.at self.old.piece.units.items (trees_of self.old) (opens_of self.old) (sign_of c) (spot c at)) result (state_of self.new) }
+        ensures { Took (machine.tag_name self.old.head.at self.old.piece.units.items (trees_of self.old)
+            (opens_of self.old) (sign_of c) (spot c at)) result (state_of self.new) }
     {
         if is_in_tag(sign_of(c)) {
             self.piece.units.push(name_unit(c))?;
@@ -84,7 +87,8 @@ impl Reader {
     /// Behind the name of a tag, a value or an attribute that stands bare.
     pub fn in_head(&mut self, c: char, at: usize) -> Result<(), Stop>
         requires { at + 1 < 2 ^ 64 }
-        ensures { Took (machine.in_head (opening_of self.old.head) (trees_of self.old) (opens_of self.old) (sign_of c) (spot c at)) result (state_of self.new) }
+        ensures { Took (machine.in_head (opening_of self.old.head) (trees_of self.old) (opens_of self.old)
+            (sign_of c) (spot c at)) result (state_of self.new) }
     {
         match sign_of(c) {
             Sign::Blank => self.mode = Mode::Spaced,
@@ -99,7 +103,8 @@ impl Reader {
     #[tactic(auto, using(crate::proofs::Grows::one_open), unfolding(plain_tree::specs::Names::is_script))]
     fn open_element(&mut self, at: usize) -> Result<(), Memory>
         requires { at + 1 < 2 ^ 64 }
-        ensures { OnOk result (state_of self.new ≡ machine.opened (opening_of self.old.head) (trees_of self.old) (opens_of self.old) at) }
+        ensures { OnOk result (state_of self.new
+            ≡ machine.opened (opening_of self.old.head) (trees_of self.old) (opens_of self.old) at) }
     {
         if is_void(&self.head.tag) {
             let children = Vec::new(self.alloc);
@@ -133,7 +138,9 @@ impl Reader {
     /// Adds the element of the head, whole.
     #[tactic(auto, using(crate::proofs::Grows::one_element))]
     pub fn add_element(&mut self, children: Vec<Plain>) -> Result<(), Memory>
-        ensures { OnOk result (state_of self.new ≡ machine.added (opening_of self.old.head) (placed_all children.items) (trees_of self.old) (opens_of self.old)) }
+        ensures { OnOk result (state_of self.new
+            ≡ machine.added (opening_of self.old.head) (placed_all children.items) (trees_of self.old)
+            (opens_of self.old)) }
     {
         let head = self.take_head()?;
         self.grown.nodes.push(Plain::Element {
@@ -149,7 +156,8 @@ impl Reader {
     /// Behind blanks.
     pub fn spaced(&mut self, c: char, at: usize) -> Result<(), Stop>
         requires { at + 1 < 2 ^ 64 }
-        ensures { Took (machine.spaced (opening_of self.old.head) (trees_of self.old) (opens_of self.old) (sign_of c) (spot c at)) result (state_of self.new) }
+        ensures { Took (machine.spaced (opening_of self.old.head) (trees_of self.old) (opens_of self.old) (sign_of c)
+            (spot c at)) result (state_of self.new) }
     {
         match sign_of(c) {
             Sign::Letter => {
@@ -166,7 +174,9 @@ impl Reader {
     /// In the name of an attribute.
     pub fn attribute_name(&mut self, c: char, at: usize) -> Result<(), Stop>
         requires { at + 1 < 2 ^ 64 }
-        ensures { Took (machine.attribute_name (opening_of self.old.head) self.old.attribute.at self.old.piece.units.items (trees_of self.old) (opens_of self.old) (sign_of c) (spot c at)) result (state_of self.new) }
+        ensures { Took (machine.attribute_name
+            (opening_of self.old.head) self.old.attribute.at self.old.piece.units.items (trees_of self.old)
+            (opens_of self.old) (sign_of c) (spot c at)) result (state_of self.new) }
     {
         match sign_of(c) {
             Sign::Letter | Sign::Hyphen => {
@@ -186,7 +196,8 @@ impl Reader {
     // Behind an attribute that stands bare.
     fn bared(&mut self, c: char, at: usize) -> Result<(), Stop>
         requires { at + 1 < 2 ^ 64 }
-        ensures { Took (machine.bared (opening_of self.old.head) self.old.attribute.at self.old.piece.units.items (trees_of self.old) (opens_of self.old) (sign_of c) (spot c at)) result (state_of self.new) }
+        ensures { Took (machine.bared (opening_of self.old.head) self.old.attribute.at self.old.piece.units.items
+            (trees_of self.old) (opens_of self.old) (sign_of c) (spot c at)) result (state_of self.new) }
     {
         let name = take_text(self.alloc, &mut self.piece.units)?;
         if !is_bare(&name) {
@@ -204,7 +215,8 @@ impl Reader {
     /// Behind `=`.
     pub fn assigned(&mut self, c: char, at: usize) -> Result<(), Stop>
         requires { at + 1 < 2 ^ 64 }
-        ensures { Took (machine.assigned (opening_of self.old.head) self.old.attribute.at self.old.attribute.name (trees_of self.old) (opens_of self.old) (sign_of c) (spot c at)) result (state_of self.new) }
+        ensures { Took (machine.assigned (opening_of self.old.head) self.old.attribute.at self.old.attribute.name
+            (trees_of self.old) (opens_of self.old) (sign_of c) (spot c at)) result (state_of self.new) }
     {
         self.attribute.double = match sign_of(c) {
             Sign::DoubleQuote => true,
@@ -219,7 +231,8 @@ impl Reader {
 
     /// Behind the `/` of a void element.
     pub fn slashed(&mut self, c: char, at: usize) -> Result<(), Stop>
-        ensures { Took (machine.slashed (opening_of self.old.head) (trees_of self.old) (opens_of self.old) (sign_of c) (spot c at)) result (state_of self.new) }
+        ensures { Took (machine.slashed (opening_of self.old.head) (trees_of self.old) (opens_of self.old)
+            (sign_of c) (spot c at)) result (state_of self.new) }
     {
         match sign_of(c) {
             Sign::Greater => {

@@ -1,4 +1,5 @@
-//! A reader of markup that takes one character at a time, as the machine of `markup_grammar` does: each of its functions has one step of that machine as its contract.
+//! A reader of markup that takes one character at a time, as the machine of `markup_grammar` does: each of
+//! its functions has one step of that machine as its contract.
 #![tactic(auto)]
 
 pub mod content;

@@ -120,7 +120,8 @@ impl Reader {
 
     /// The trees, where the text may end.
     pub fn finish(&mut self) -> Result<Vec<Plain>, Stop>
-        ensures { MatchResult result (λ v. finished (Some (state_of self.old)) ≡ Some (placed_all v.items)) (λ e. e ≡ stop.Bad → finished (Some (state_of self.old)) ≡ None) }
+        ensures { MatchResult result (λ v. finished (Some (state_of self.old)) ≡ Some (placed_all v.items))
+            (λ e. e ≡ stop.Bad → finished (Some (state_of self.old)) ≡ None) }
     {
         if !self.grown.open.is_empty() {
             return Err(Stop::Bad);

@@ -16,7 +16,8 @@ use markup_grammar::Sign;
 
 // The reference whose name begins with a letter.
 fn named(c: char) -> Option<Named>
-    ensures { MatchOption result (machine.name_of c ≡ None) (λ n. machine.name_of c ≡ Some (referring_of (referring.Named n 1))) }
+    ensures { MatchOption result (machine.name_of c ≡ None)
+        (λ n. machine.name_of c ≡ Some (referring_of (referring.Named n 1))) }
 {
     match c {
         'a' => Some(Named::Amp),
@@ -70,7 +71,8 @@ impl Reader {
         c: char,
         at: usize,
     ) -> Result<(), Stop>
-        ensures { Took (machine.in_reference (run_of self.old run) (referring_of referring) (trees_of self.old) (opens_of self.old) (sign_of c) (spot c at)) result (state_of self.new) }
+        ensures { Took (machine.in_reference (run_of self.old run) (referring_of referring) (trees_of self.old)
+            (opens_of self.old) (sign_of c) (spot c at)) result (state_of self.new) }
     {
         match referring {
             Referring::Ampersand => self.ampersand(run, c, at),
@@ -81,7 +83,8 @@ impl Reader {
 
     // Behind `&`.
     fn ampersand(&mut self, run: Run, c: char, at: usize) -> Result<(), Stop>
-        ensures { Took (machine.in_reference (run_of self.old run) machine.Ampersand (trees_of self.old) (opens_of self.old) (sign_of c) (spot c at)) result (state_of self.new) }
+        ensures { Took (machine.in_reference (run_of self.old run) machine.Ampersand (trees_of self.old)
+            (opens_of self.old) (sign_of c) (spot c at)) result (state_of self.new) }
     {
         let sign = sign_of(c);
         let referring = if sign == Sign::Hash {
@@ -106,7 +109,8 @@ impl Reader {
         c: char,
         at: usize,
     ) -> Result<(), Stop>
-        ensures { Took (machine.in_reference (run_of self.old run) (referring_of (referring.Named name read)) (trees_of self.old) (opens_of self.old) (sign_of c) (spot c at)) result (state_of self.new) }
+        ensures { Took (machine.in_reference (run_of self.old run) (referring_of (referring.Named name read))
+            (trees_of self.old) (opens_of self.old) (sign_of c) (spot c at)) result (state_of self.new) }
     {
         match byte_at(name.name(), read) {
             None if sign_of(c) == Sign::Semicolon => Ok(self.refer(run, name.character())?),
@@ -127,7 +131,8 @@ impl Reader {
         c: char,
         at: usize,
     ) -> Result<(), Stop>
-        ensures { Took (machine.in_reference (run_of self.old run) (machine.Number count value) (trees_of self.old) (opens_of self.old) (sign_of c) (spot c at)) result (state_of self.new) }
+        ensures { Took (machine.in_reference (run_of self.old run) (machine.Number count value) (trees_of self.old)
+            (opens_of self.old) (sign_of c) (spot c at)) result (state_of self.new) }
     {
         match sign_of(c) {
             Sign::Digit => self.digit(run, count, value, c),
@@ -138,7 +143,8 @@ impl Reader {
 
     // One digit more, of seven at most.
     fn digit(&mut self, run: Run, count: u32, value: u32, c: char) -> Result<(), Stop>
-        ensures { Took (machine.digit (run_of self.old run) count value c (trees_of self.old) (opens_of self.old)) result (state_of self.new) }
+        ensures { Took (machine.digit (run_of self.old run) count value c (trees_of self.old)
+            (opens_of self.old)) result (state_of self.new) }
     {
         if count >= 7 || value >= 1_000_000 {
             return Err(Stop::Bad);
@@ -154,7 +160,8 @@ impl Reader {
 
     // The number ends.
     fn end_number(&mut self, run: Run, count: u32, value: u32) -> Result<(), Stop>
-        ensures { Took (machine.numbered (run_of self.old run) count value (trees_of self.old) (opens_of self.old)) result (state_of self.new) }
+        ensures { Took (machine.numbered (run_of self.old run) count value (trees_of self.old)
+            (opens_of self.old)) result (state_of self.new) }
     {
         match char::from_u32(value) {
             Some(c) if count > 0 && is_referable(value) => Ok(self.refer(run, c)?),
@@ -164,7 +171,8 @@ impl Reader {
 
     // The reference stands for a character.
     fn refer(&mut self, run: Run, c: char) -> Result<(), Memory>
-        ensures { OnOk result (state_of self.new ≡ machine.referred (run_of self.old run) c (trees_of self.old) (opens_of self.old)) }
+        ensures { OnOk result (state_of self.new
+            ≡ machine.referred (run_of self.old run) c (trees_of self.old) (opens_of self.old)) }
     {
         push_char(&mut self.piece.units, c)?;
         self.mode = Mode::In(run);

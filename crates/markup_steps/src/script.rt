@@ -16,7 +16,8 @@ use plain_tree::Plain;
 impl Reader {
     /// In a script.
     pub fn in_raw(&mut self, c: char, at: usize) -> Result<(), Stop>
-        ensures { Took (machine.in_raw (opening_of self.old.head) self.old.piece.at self.old.piece.units.items (trees_of self.old) (opens_of self.old) (sign_of c) (spot c at)) result (state_of self.new) }
+        ensures { Took (machine.in_raw (opening_of self.old.head) self.old.piece.at self.old.piece.units.items
+            (trees_of self.old) (opens_of self.old) (sign_of c) (spot c at)) result (state_of self.new) }
     {
         match sign_of(c) {
             Sign::Less => self.mode = Mode::RawBegun,
@@ -30,7 +31,8 @@ impl Reader {
 
     /// Behind `<`.
     pub fn raw_begun(&mut self, c: char, at: usize) -> Result<(), Stop>
-        ensures { Took (machine.raw_begun (opening_of self.old.head) self.old.piece.at self.old.piece.units.items (trees_of self.old) (opens_of self.old) (sign_of c) (spot c at)) result (state_of self.new) }
+        ensures { Took (machine.raw_begun (opening_of self.old.head) self.old.piece.at self.old.piece.units.items
+            (trees_of self.old) (opens_of self.old) (sign_of c) (spot c at)) result (state_of self.new) }
     {
         match sign_of(c) {
             Sign::Slash => {
@@ -46,7 +48,9 @@ impl Reader {
 
     /// Behind `</` and so many bytes of the name.
     pub fn raw_ending(&mut self, read: usize, c: char, at: usize) -> Result<(), Stop>
-        ensures { Took (machine.raw_ending (opening_of self.old.head) self.old.piece.at self.old.piece.units.items (drop read (codes "script")) (trees_of self.old) (opens_of self.old) (sign_of c) (spot c at)) result (state_of self.new) }
+        ensures { Took (machine.raw_ending (opening_of self.old.head) self.old.piece.at self.old.piece.units.items
+            (drop read (codes "script")) (trees_of self.old) (opens_of self.old) (sign_of c) (spot c at)) result
+            (state_of self.new) }
     {
         match byte_at(b"script", read) {
             None => self.raw_ended(c, at),
@@ -61,7 +65,8 @@ impl Reader {
     // Behind `</script`.
     #[tactic(auto, using(crate::proofs::Grows::one_text))]
     fn raw_ended(&mut self, c: char, at: usize) -> Result<(), Stop>
-        ensures { Took (machine.raw_ending (opening_of self.old.head) self.old.piece.at self.old.piece.units.items [] (trees_of self.old) (opens_of self.old) (sign_of c) (spot c at)) result (state_of self.new) }
+        ensures { Took (machine.raw_ending (opening_of self.old.head) self.old.piece.at self.old.piece.units.items []
+            (trees_of self.old) (opens_of self.old) (sign_of c) (spot c at)) result (state_of self.new) }
     {
         match sign_of(c) {
             Sign::Greater => {

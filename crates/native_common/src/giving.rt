@@ -38,7 +38,8 @@ pub fn give_text(
     text: Text,
 ) -> NativeOut
     requires { w < 32 }
-    ensures { (n : ℕ) → extra ≡ counted n → Meets w store.old store.new meter.old meter.new (λ d s. forms.give_text n text s) result }
+    ensures { (n : ℕ) → extra ≡ counted n
+        → Meets w store.old store.new meter.old meter.new (λ d s. forms.give_text n text s) result }
 {
     match take(meter, extra.saturating_add(text.units().len())) {
         Ok(()) => make_text(store, w, text),
@@ -56,7 +57,8 @@ pub fn give_units(
     units: &[u16],
 ) -> Result<NativeOut, Memory>
     requires { w < 32 }
-    ensures native { IfOk result (λ o. (n : ℕ) → extra ≡ counted n → Meets w store.old store.new meter.old meter.new (λ d s. forms.give_text n units.now s) o) }
+    ensures native { IfOk result (λ o. (n : ℕ) → extra ≡ counted n
+        → Meets w store.old store.new meter.old meter.new (λ d s. forms.give_text n units.now s) o) }
     ensures memory { OnErr result ((fs : List Forest) → Kept fs w store.old store.new) }
 {
     let text = Text::from_units(alloc, Vec::from_slice(alloc, units)?)?;
@@ -73,7 +75,9 @@ pub fn give_array(
 ) -> Result<NativeOut, Memory>
     requires widget { w < 32 }
     requires held { AreFine w store.old.cells values.items }
-    ensures native { IfOk result (λ o. Ends w store.old store.new (λ d s. forms.make_array (all_seen w store.old.cells values.items) units s costs.give) o) }
+    ensures native { IfOk result
+        (λ o. Ends w store.old store.new
+        (λ d s. forms.make_array (all_seen w store.old.cells values.items) units s costs.give) o) }
     ensures memory { OnErr result ((fs : List Forest) → Kept fs w store.old store.new) }
 {
     match make_array(alloc, store, w, values, units)? {

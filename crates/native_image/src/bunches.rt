@@ -60,7 +60,8 @@ pub fn receiver_of(
     requires held { HoldNodes (owns page.now w) w store.now }
     requires receiver { IsReceiver w store.now.cells this.now }
     ensures read { IfOk result (λ o. (fs : List Forest) (x : Outside) (l : Loop) (b : Option Bool)
-        → option_and_then (λ v. bunch_nodes (kind_of (image fs x w (beside store.now page.now l b)) v)) (receiver w store.now.cells this.now)
+        → option_and_then (λ v. bunch_nodes (kind_of (image fs x w (beside store.now page.now l b)) v))
+        (receiver w store.now.cells this.now)
         ≡ option_map (λ ns. map (number page.now w) ns.items) o) }
     ensures nodes { IfOk result (λ o. IfSome o (λ ns. AreNodes page.now w ns.items)) }
 {
@@ -83,7 +84,8 @@ pub fn make_bunch(
     requires sound { (l : Loop) × IsSound w store.old page.now l }
     requires own { (n : ℕ) → has_number nodes.items n ≡ true → owns page.now w n ≡ true }
     requires apart { IsDistinct nat_eq nodes.items }
-    ensures plan { IfOk result (λ m. (fs : List Forest) (x : Outside) (l : Loop) (b : Option Bool) (k : Meant → State → Plan)
+    ensures plan { IfOk result
+        (λ m. (fs : List Forest) (x : Outside) (l : Loop) (b : Option Bool) (k : Meant → State → Plan)
         → HoldsOwn w store.old page.now l
         → forms.make_bunch (map (number page.now w) nodes.items) (image fs x w (beside store.old page.now l b)) k
         ≡ made_plan w store.new.cells m k (image fs x w (beside store.new page.now l b))) }

@@ -67,7 +67,8 @@ fn add_plain(alloc: Global, page: &mut Page, w: u32, plain: &Plain) -> Result<No
 // Adds a copy of a widget's node, with all below it, behind all its other trees.
 fn copy_plain(alloc: Global, page: &mut Page, w: u32, node: NodeId) -> Result<NodeId, Memory>
     requires { owns page.old w node ≡ true }
-    ensures grown { IfOk result (λ id. IsGrown w page.old page.new id (size (subtree (number page.old w node) (forest page.old w)))
+    ensures grown { IfOk result
+        (λ id. IsGrown w page.old page.new id (size (subtree (number page.old w node) (forest page.old w)))
         (numbered (length (own page.old w)) (copied (subtree (number page.old w node) (forest page.old w))))) }
     ensures kept { OnErr result (KeepsNodes page.old page.new) }
     ensures others { OnErr result (OthersStay page.old page.new w) }
@@ -113,7 +114,8 @@ pub fn copy_tree(
 ) -> Result<NodeId, Memory>
     requires widget { w < 32 }
     requires own { owns page.old w node ≡ true }
-    ensures grown { IfOk result (λ id. IsGrown w page.old page.new id (size (subtree (number page.old w node) (forest page.old w)))
+    ensures grown { IfOk result
+        (λ id. IsGrown w page.old page.new id (size (subtree (number page.old w node) (forest page.old w)))
         (numbered (length (own page.old w)) (copied (subtree (number page.old w node) (forest page.old w))))) }
     ensures sound { OnOk result ((l : Loop) → IsSound w store.old page.old l → IsSound w store.new page.new l) }
     ensures same { (v : ℕ) → owned v store.new ≡ owned v store.old }

@@ -31,7 +31,8 @@ pub fn pay_judged(store: &mut Store, w: u32, units: u32) -> Result<(), Memory>
     requires { w < 32 }
     ensures paid { OnOk result ((p : Page) (l : Loop) → HoldsOwn w store.old p l
         → (fs : List Forest) (x : Outside) (b : Option Bool) (c : Amounts)
-        → with_counts (image fs x w (beside store.new p l b)) c ≡ with_counts (image fs x w (beside store.old p l b)) c) }
+        → with_counts (image fs x w (beside store.new p l b)) c
+        ≡ with_counts (image fs x w (beside store.old p l b)) c) }
     ensures kept { (fs : List Forest) → Kept fs w store.old store.new }
 {
     match pay_units(store, w, units) {
@@ -54,7 +55,8 @@ pub fn give_node(
     requires sound { (l : Loop) × IsSound w store.old page.old l }
     ensures ends { IfOk result (λ o. (l : Loop) (b : Option Bool) (label : Label) (u : ℕ)
         → unplaced plain.now ≡ Node tt label End End → units ≡ counted u → IsSound w store.old page.old l
-        → EndsAt w (beside store.old page.old l b) (beside store.new page.new l b) (λ d s. means.give_node label u s) o) }
+        → EndsAt w (beside store.old page.old l b) (beside store.new page.new l b)
+        (λ d s. means.give_node label u s) o) }
     ensures kept { (l : Loop) → IsSound w store.old page.old l → KeepsAll w store.old store.new page.old page.new l }
 {
     let bill = Bill {

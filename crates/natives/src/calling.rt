@@ -84,7 +84,8 @@ fn call_on(
     ensures native { IfOk result (λ o. MeetsWhole w
         (reach store.old page.old around.old bubbled.old log.old.items posts.old.items)
         (reach store.new page.new around.new bubbled.new log.new.items posts.new.items)
-        meter.old meter.new (run_native native.now.which (receiver w store.old.cells this.now) (all_seen w store.old.cells native.now.args.items)) o) }
+        meter.old meter.new (run_native native.now.which (receiver w store.old.cells this.now)
+        (all_seen w store.old.cells native.now.args.items)) o) }
     ensures kept { KeepsAll w store.old store.new page.old page.new around.new }
 {
     let which = native.which;
@@ -137,10 +138,12 @@ fn adsafe_native(
     requires confined { (fs : List Forest) × IsConfined fs w store.old }
     requires receiver { IsReceiver w store.old.cells this.now }
     requires args { AreFine w store.old.cells args.now }
-    ensures native { IfOk result (λ o. (p : PageTree) (b : Option Bool) → IsSound w store.old p around.old → MeetsWhole w
+    ensures native { IfOk result (λ o. (p : PageTree) (b : Option Bool) → IsSound w store.old p around.old
+        → MeetsWhole w
         (reach store.old p around.old b log.old.items posts.old.items)
         (reach store.new p around.new b log.new.items posts.new.items)
-        meter.old meter.new (run_native which (receiver w store.old.cells this.now) (all_seen w store.old.cells args.now)) o) }
+        meter.old meter.new (run_native which (receiver w store.old.cells this.now)
+        (all_seen w store.old.cells args.now)) o) }
     ensures kept { (p : PageTree) → IsSound w store.old p around.old → KeepsAll w store.old store.new p p around.new }
 {
     let waiting = around.waiting();

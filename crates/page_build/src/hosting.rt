@@ -30,10 +30,13 @@ pub fn add_markup(
     plain: &Plain,
 ) -> Result<NodeId, Memory>
     ensures away { OnOk result ((v : ℕ) → v < 32 → IsAway page.old v → IsAway page.new v) }
-    ensures home { OnOk result ((v : ℕ) (tree : PlainTrees) → v < 32 → IsHome page.old v tree → IsHome page.new v tree) }
+    ensures home { OnOk result ((v : ℕ) (tree : PlainTrees) → v < 32 → IsHome page.old v tree
+        → IsHome page.new v tree) }
     ensures raws { OnOk result (HaveRaws store.old page.old → HaveRaws store.new page.new) }
-    ensures laid { OnOk result ((lots : List Lot) → IsLaidOut page.old lots → IsLaidOut page.new (lots ++ each_tree (unplaced plain.now))) }
-    ensures spot { IfOk result (λ n. (lots : List Lot) → IsLaidOut page.old lots → IsLaidOut page.new (lots ++ Spot n ∷ [])) }
+    ensures laid { OnOk result ((lots : List Lot) → IsLaidOut page.old lots
+        → IsLaidOut page.new (lots ++ each_tree (unplaced plain.now))) }
+    ensures spot { IfOk result (λ n. (lots : List Lot) → IsLaidOut page.old lots
+        → IsLaidOut page.new (lots ++ Spot n ∷ [])) }
     ensures lot { IfOk result (IsLot page.new (Own (unplaced plain.now))) }
     ensures stands { IfOk result (IsStanding page.new) }
     ensures lots { OnOk result ((lot : Lot) (n : ℕ) → IsLot page.old lot n → IsLot page.new lot n) }

@@ -26,7 +26,8 @@ use page_tree::{NodeId, Page};
 use plain_tree::Plain;
 use std::alloc::Global;
 
-/// A page without nodes of widgets, where `body` has no children. Its only node is `body`, of which every store has the cell.
+/// A page without nodes of widgets, where `body` has no children. Its only node is `body`, of which every
+/// store has the cell.
 pub fn new_page(alloc: Global, keys: Keys) -> Result<Page, Memory>
     ensures away { IfOk result (λ page. (w : ℕ) → w < 32 → IsAway page w) }
     ensures raws { IfOk result (λ page. (store : Cells) → HasRaw store.cells body → HaveRaws store page) }
@@ -74,12 +75,14 @@ pub fn add_root(
     requires away { IsAway page.old w }
     ensures home { OnOk result (IsHome page.new w (unplaced body.now)) }
     ensures raws { OnOk result (HaveRaws store.old page.old → HaveRaws store.new page.new) }
-    ensures laid { IfOk result (λ n. (lots : List Lot) → IsLaidOut page.old lots → IsLaidOut page.new (lots ++ Spot n ∷ [])) }
+    ensures laid { IfOk result (λ n. (lots : List Lot) → IsLaidOut page.old lots
+        → IsLaidOut page.new (lots ++ Spot n ∷ [])) }
     ensures root { IfOk result (λ n. root_of page.new w ≡ Some n) }
     ensures stands { IfOk result (IsStanding page.new) }
     ensures lots { OnOk result ((lot : Lot) (n : ℕ) → IsLot page.old lot n → IsLot page.new lot n) }
     ensures standing { OnOk result ((n : ℕ) → IsStanding page.old n → IsStanding page.new n) }
-    ensures others { OnOk result ((v : ℕ) (tree : PlainTrees) → v < 32 → v ≢ w → IsHome page.old v tree → IsHome page.new v tree) }
+    ensures others { OnOk result ((v : ℕ) (tree : PlainTrees) → v < 32 → v ≢ w → IsHome page.old v tree
+        → IsHome page.new v tree) }
     ensures away { OnOk result ((v : ℕ) → v < 32 → v ≢ w → IsAway page.old v → IsAway page.new v) }
     ensures same { (v : ℕ) → owned v store.new ≡ owned v store.old }
     ensures confined { (fs : List Forest) (v : ℕ) → IsConfined fs v store.old → IsConfined fs v store.new }

@@ -55,12 +55,14 @@ pub fn add_slot(
     requires away { IsAway page.old w }
     ensures placed { OnOk result (IsPlaced page.new w slot.now.content) }
     ensures raws { OnOk result (HaveRaws store.old page.old → HaveRaws store.new page.new) }
-    ensures laid { IfOk result (λ n. (lots : List Lot) → IsLaidOut page.old lots → IsLaidOut page.new (lots ++ Spot n ∷ [])) }
+    ensures laid { IfOk result (λ n. (lots : List Lot) → IsLaidOut page.old lots
+        → IsLaidOut page.new (lots ++ Spot n ∷ [])) }
     ensures lot { IfOk result (IsLot page.new (lot_of slot.now.name (home_of w slot.now.content))) }
     ensures stands { IfOk result (IsStanding page.new) }
     ensures lots { OnOk result ((lot : Lot) (n : ℕ) → IsLot page.old lot n → IsLot page.new lot n) }
     ensures standing { OnOk result ((n : ℕ) → IsStanding page.old n → IsStanding page.new n) }
-    ensures others { OnOk result ((v : ℕ) (tree : PlainTrees) → v < 32 → v ≢ w → IsHome page.old v tree → IsHome page.new v tree) }
+    ensures others { OnOk result ((v : ℕ) (tree : PlainTrees) → v < 32 → v ≢ w → IsHome page.old v tree
+        → IsHome page.new v tree) }
     ensures away { OnOk result ((v : ℕ) → v < 32 → v ≢ w → IsAway page.old v → IsAway page.new v) }
     ensures same { (v : ℕ) → owned v store.new ≡ owned v store.old }
     ensures confined { (fs : List Forest) (v : ℕ) → IsConfined fs v store.old → IsConfined fs v store.new }

@@ -40,7 +40,8 @@ impl Later {
         requires over { (accepted : List Accepted) × JudgesOver (sources_of libs.now) accepted self.old }
         ensures is { IfOk result (λ one. (accepted : List Accepted) → JudgesOver (sources_of libs.now) accepted self.old
             → IsJudged (slot_of name.now file.now libs.now) (content_of accepted one.content) one.refusal) }
-        ensures loadable { IfOk result (λ one. (accepted : List Accepted) → JudgesOver (sources_of libs.now) accepted self.old
+        ensures loadable { IfOk result (λ one. (accepted : List Accepted)
+            → JudgesOver (sources_of libs.now) accepted self.old
             → IsSwapLoadable (length accepted) name.now one.content) }
         ensures stays { JudgesOn (sources_of libs.now) self.old self.new }
     {
@@ -71,8 +72,10 @@ fn refused(refusal: Refusal) -> JudgedContent
 // What a host runs of a widget.
 fn runs(alloc: Global, widget: Widget, later: &Later) -> Result<SlotContent, Memory>
     requires { All (λ place. place < length later.now.places.items) widget.libs.items }
-    ensures content { IfOk result (λ content. (accepted : List Accepted) → content_of accepted content ≡ Some (content_in accepted later.now.places.items widget)) }
-    ensures loadable { IfOk result (λ content. (s : Slot) (accepted : List Accepted) → KeepsLibraries s.libs accepted later.now.places.items
+    ensures content { IfOk result (λ content. (accepted : List Accepted)
+        → content_of accepted content ≡ Some (content_in accepted later.now.places.items widget)) }
+    ensures loadable { IfOk result (λ content. (s : Slot) (accepted : List Accepted)
+        → KeepsLibraries s.libs accepted later.now.places.items
         → IsAcceptedWidget s widget → IsSwapLoadable (length accepted) s.name content) }
 {
     let Widget { form, libs, script } = widget;

@@ -46,9 +46,13 @@ pub fn judge_page(
     requires swaps { length swap_slots.now ≡ length swap_files.now }
     requires there { All (λ to. to < length files.now) swap_slots.now }
     requires small_swaps { All IsSmall swap_files.now }
-    ensures page { IfOk result (IsJudgedPage manifest (sources_of files.now) (sources_of libs.now) (zip swap_slots.now (sources_of swap_files.now))) }
+    ensures page { IfOk result
+        (IsJudgedPage manifest (sources_of files.now) (sources_of libs.now)
+        (zip swap_slots.now (sources_of swap_files.now))) }
     ensures loadable { IfOk result (λ page. IsLoadable page.spec) }
-    ensures swaps { IfOk result (λ page. AreLoadableSwaps (length page.spec.libs.items) (names_of page.spec) swap_slots.now page.swaps.contents.items) }
+    ensures swaps { IfOk result
+        (λ page. AreLoadableSwaps (length page.spec.libs.items)
+        (names_of page.spec) swap_slots.now page.swaps.contents.items) }
     ensures later { IfOk result (λ page. JudgesOver (sources_of libs.now) page.spec.libs.items page.later) }
 {
     let all = accept_libraries(alloc, libs)?;

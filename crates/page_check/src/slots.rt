@@ -75,9 +75,12 @@ pub fn judge_slots(
     requires small { All IsSmall files.now }
     requires small_libs { All IsSmall libs.now }
     requires over { (accepted : List Accepted) × JudgesOver (sources_of libs.now) accepted later.old }
-    ensures slots { IfOk result (λ all. (accepted : List Accepted) → JudgesOver (sources_of libs.now) accepted later.old → AreJudgedSlots accepted
-        (runs_over (sources_of libs.now) (map name_of names.now) (sources_of files.now)) all.slots.items all.refusals.items) }
-    ensures loadable { IfOk result (λ all. (accepted : List Accepted) → JudgesOver (sources_of libs.now) accepted later.old
+    ensures slots { IfOk result (λ all. (accepted : List Accepted)
+        → JudgesOver (sources_of libs.now) accepted later.old → AreJudgedSlots accepted
+        (runs_over (sources_of libs.now) (map name_of names.now)
+        (sources_of files.now)) all.slots.items all.refusals.items) }
+    ensures loadable { IfOk result (λ all. (accepted : List Accepted)
+        → JudgesOver (sources_of libs.now) accepted later.old
         → All (λ (s : SlotSpecOf). IsSwapLoadable (length accepted) s.name s.content) all.slots.items) }
     ensures stays { OnOk result (JudgesOn (sources_of libs.now) later.old later.new) }
 {
@@ -104,7 +107,8 @@ fn judge_one(
     requires over { (accepted : List Accepted) × JudgesOver (sources_of libs.now) accepted later.old }
     ensures slot { IfOk result (λ one. (accepted : List Accepted) → JudgesOver (sources_of libs.now) accepted later.old
         → IsJudgedSlot accepted (run_of name.now file.now libs.now) one.slot one.refusal) }
-    ensures loadable { IfOk result (λ one. (accepted : List Accepted) → JudgesOver (sources_of libs.now) accepted later.old
+    ensures loadable { IfOk result (λ one. (accepted : List Accepted)
+        → JudgesOver (sources_of libs.now) accepted later.old
         → IsSwapLoadable (length accepted) name.now.name one.slot.content) }
     ensures stays { JudgesOn (sources_of libs.now) later.old later.new }
 {

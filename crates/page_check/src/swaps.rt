@@ -37,10 +37,13 @@ pub fn judge_swaps(
     requires small { All IsSmall files.now }
     requires small_libs { All IsSmall libs.now }
     requires over { (accepted : List Accepted) × JudgesOver (sources_of libs.now) accepted later.old }
-    ensures judged { IfOk result (λ all. (accepted : List Accepted) → JudgesOver (sources_of libs.now) accepted later.old
+    ensures judged { IfOk result (λ all. (accepted : List Accepted)
+        → JudgesOver (sources_of libs.now) accepted later.old
         → (own : List Source) → length own ≡ length names.now → AreJudgedSwaps accepted
-        (swap_runs (runs_over (sources_of libs.now) (map name_of names.now) own) (zip slots.now (sources_of files.now))) all.contents.items all.refusals.items) }
-    ensures loadable { IfOk result (λ all. (accepted : List Accepted) → JudgesOver (sources_of libs.now) accepted later.old
+        (swap_runs (runs_over (sources_of libs.now) (map name_of names.now) own)
+        (zip slots.now (sources_of files.now))) all.contents.items all.refusals.items) }
+    ensures loadable { IfOk result (λ all. (accepted : List Accepted)
+        → JudgesOver (sources_of libs.now) accepted later.old
         → AreLoadableSwaps (length accepted) (map key_of names.now) slots.now all.contents.items) }
     ensures stays { OnOk result (JudgesOn (sources_of libs.now) later.old later.new) }
 {

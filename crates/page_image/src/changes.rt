@@ -106,9 +106,11 @@ pub fn append(
         fold (moved (number page.old widget target) None) (forest page.old widget)
         (map (number page.old widget) news.now)) }
     ensures allowed { OnOk result
-        (takes (forest page.old widget) (map (number page.old widget) news.now) (number page.old widget target) ≡ true) }
+        (takes (forest page.old widget) (map (number page.old widget) news.now) (number page.old widget target)
+        ≡ true) }
     ensures refused { IfErr result (λ f. (f ≡ fault.Memory) ⊎
-        (takes (forest page.old widget) (map (number page.old widget) news.now) (number page.old widget target) ≡ false)) }
+        (takes (forest page.old widget) (map (number page.old widget) news.now) (number page.old widget target)
+        ≡ false)) }
     ensures unchanged { OnErr result (forest page.new widget ≡ forest page.old widget) }
     ensures kept { KeepsNodes page.old page.new }
     ensures others { OthersStay page.old page.new widget }
@@ -125,12 +127,15 @@ pub fn replace(page: &mut Page, widget: u32, node: NodeId, news: &[NodeId]) -> R
     requires news { (n : ℕ) → has_number news.now n ≡ true → owns page.old widget n ≡ true }
     ensures image { OnOk result ((p : ℕ) → parent (number page.old widget node) (forest page.old widget) ≡ Some p →
         forest page.new widget ≡ detached
-        (fold (moved p (Some (number page.old widget node))) (forest page.old widget) (map (number page.old widget) news.now))
+        (fold (moved p (Some (number page.old widget node))) (forest page.old widget)
+        (map (number page.old widget) news.now))
         (number page.old widget node)) }
     ensures allowed { OnOk result
-        (may_come (forest page.old widget) (map (number page.old widget) news.now) (number page.old widget node) ≡ true) }
+        (may_come (forest page.old widget) (map (number page.old widget) news.now) (number page.old widget node)
+        ≡ true) }
     ensures refused { IfErr result (λ f. (f ≡ fault.Memory) ⊎
-        (may_come (forest page.old widget) (map (number page.old widget) news.now) (number page.old widget node) ≡ false)) }
+        (may_come (forest page.old widget) (map (number page.old widget) news.now) (number page.old widget node)
+        ≡ false)) }
     ensures unchanged { OnErr result (forest page.new widget ≡ forest page.old widget) }
     ensures kept { KeepsNodes page.old page.new }
     ensures others { OthersStay page.old page.new widget }

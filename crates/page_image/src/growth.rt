@@ -39,7 +39,8 @@ pub fn add(alloc: Global, page: &mut Page, widget: u32, plain: &Plain) -> Result
 pub fn copy(alloc: Global, page: &mut Page, widget: u32, node: NodeId) -> Result<NodeId, PageFault>
     requires { owns page.old widget node ≡ true }
     ensures image { OnOk result (forest page.new widget ≡ beside (forest page.old widget)
-        (numbered (length (own page.old widget)) (copied (subtree (number page.old widget node) (forest page.old widget))))) }
+        (numbered (length (own page.old widget))
+        (copied (subtree (number page.old widget node) (forest page.old widget))))) }
     ensures number { IfOk result (λ id. number page.new widget id ≡ length (own page.old widget)) }
     ensures own { IfOk result (λ id. owns page.new widget id ≡ true) }
     ensures grows { OnOk result (GrowsBy page.old page.new widget

@@ -1,7 +1,9 @@
 //! The page as one of its widgets has it: its own trees, whose nodes have its own numbers.
 //!
-//! `specs/Image.antt` has the words: a node is a widget's (`owns`), has a number among its nodes (`number`), and stands in
-//! its trees (`forest`). They are opaque to the crates above, which so see no list of nodes. Each call here is one of the
+//! `specs/Image.antt` has the words: a node is a widget's (`owns`), has a number among its nodes (`number`),
+//! and stands in
+//! its trees (`forest`). They are opaque to the crates above, which so see no list of nodes. Each call here
+//! is one of the
 //! page's, said by the operations of `tree_ops` at these trees: what the meaning of widgets does to its page.
 #![tactic(auto)]
 

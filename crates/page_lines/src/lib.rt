@@ -1,4 +1,5 @@
-//! The page as it is printed at any time: the host's own markup, and the root of each slot; and what stands in one slot.
+//! The page as it is printed at any time: the host's own markup, and the root of each slot; and what stands
+//! in one slot.
 #![tactic(auto)]
 
 ghost use Rattle.std.specs.Prelude.{◌<◌, ℕ, List, Option, OnErr, OnOk, length};
@@ -18,10 +19,12 @@ use std::alloc::Global;
 /// Appends the text of the page: `body` with its pieces in order, each slot with the root of its widget
 /// as it is now, or with an empty `div` where it was refused. `Memory` leaves a prefix of that text appended.
 pub fn print_page(alloc: Global, page: &Page, out: &mut Vec<u8>) -> Result<(), Memory>
-    ensures ok { OnOk result ((names : List (List ℕ)) (homes : List (Option ℕ)) (pieces : List PagePiece) (ends : List (Option OwnState))
+    ensures ok { OnOk result ((names : List (List ℕ)) (homes : List (Option ℕ)) (pieces : List PagePiece)
+        (ends : List (Option OwnState))
         → IsLaid page.now names homes pieces → AreEnds page.now homes ends
         → Prints (page_of pieces (roots names ends)) out.old.items out.new.items) }
-    ensures part { OnErr result ((names : List (List ℕ)) (homes : List (Option ℕ)) (pieces : List PagePiece) (ends : List (Option OwnState))
+    ensures part { OnErr result
+        ((names : List (List ℕ)) (homes : List (Option ℕ)) (pieces : List PagePiece) (ends : List (Option OwnState))
         → IsLaid page.now names homes pieces → AreEnds page.now homes ends
         → PrintsPart (page_of pieces (roots names ends)) out.old.items out.new.items) }
 {

@@ -30,7 +30,8 @@ pub fn entries(alloc: Global, page: &LivePage) -> Result<Vec<Entry>, Memory>
 fn entry_line(alloc: Global, page: &LivePage, w: u32) -> Result<Vec<u8>, Memory>
     requires showing { IsShowing page.now }
     requires there { w < length page.now.findings.names.items }
-    ensures { IfOk result (λ line. (pieces : List PagePiece) (owns : List (Option OwnState)) (own : Option OwnState) → Shows page.now pieces owns
+    ensures { IfOk result (λ line. (pieces : List PagePiece) (owns : List (Option OwnState)) (own : Option OwnState)
+        → Shows page.now pieces owns
         → slice_get owns w ≡ Some own → IsEntryLine (told_at page.now.findings w) own line.items) }
 {
     let line = last_line(alloc, &page.findings, &page.host, w)?;
@@ -42,7 +43,8 @@ fn entry_line(alloc: Global, page: &LivePage, w: u32) -> Result<Vec<u8>, Memory>
 fn entry_root(alloc: Global, page: &LivePage, w: u32) -> Result<Vec<u8>, Memory>
     requires showing { IsShowing page.now }
     requires there { w < length page.now.findings.names.items }
-    ensures { IfOk result (λ root. (pieces : List PagePiece) (owns : List (Option OwnState)) (own : Option OwnState) → Shows page.now pieces owns
+    ensures { IfOk result (λ root. (pieces : List PagePiece) (owns : List (Option OwnState)) (own : Option OwnState)
+        → Shows page.now pieces owns
         → slice_get owns w ≡ Some own → IsEntryRoot (told_at page.now.findings w) own root.items) }
 {
     let mut text = Vec::new(alloc);
@@ -60,8 +62,10 @@ pub fn renew(
 ) -> Result<Vec<bool>, Memory>
     requires showing { IsShowing page.now }
     requires many { length written.old.items ≡ length page.now.findings.names.items }
-    ensures renewed { IfOk result (λ flags. (pieces : List PagePiece) (owns : List (Option OwnState)) → Shows page.now pieces owns
-        → AreRenewed page.now.findings owns touched (map shown written.old.items) (map shown written.new.items) flags.items) }
+    ensures renewed { IfOk result (λ flags. (pieces : List PagePiece) (owns : List (Option OwnState))
+        → Shows page.now pieces owns
+        → AreRenewed page.now.findings owns touched (map shown written.old.items)
+        (map shown written.new.items) flags.items) }
     ensures many { length written.new.items ≡ length written.old.items }
     ensures flags { IfOk result (λ flags. length flags.items ≡ length written.old.items) }
 {
@@ -94,8 +98,10 @@ fn renew_one(
 ) -> Result<bool, Memory>
     requires showing { IsShowing page.now }
     requires there { w < length page.now.findings.names.items }
-    ensures { IfOk result (λ flag. (pieces : List PagePiece) (owns : List (Option OwnState)) (own : Option OwnState) → Shows page.now pieces owns
-        → slice_get owns w ≡ Some own → IsRenewed (told_at page.now.findings w) own looks (shown entry.old) (shown entry.new) flag) }
+    ensures { IfOk result (λ flag. (pieces : List PagePiece) (owns : List (Option OwnState)) (own : Option OwnState)
+        → Shows page.now pieces owns
+        → slice_get owns w ≡ Some own
+        → IsRenewed (told_at page.now.findings w) own looks (shown entry.old) (shown entry.new) flag) }
 {
     let line = entry_line(alloc, page, w)?;
     if !looks && same(&line, &entry.line) {
@@ -145,7 +151,8 @@ pub fn flagged<'a>(
 
 // Appends an entry that is flagged.
 fn push_flagged<'a>(flag: bool, entry: &'a Entry, some: &mut Vec<&'a Entry>) -> Result<(), Memory>
-    ensures { OnOk result (map (λ e. shown e.now) some.new.items ≡ map (λ e. shown e.now) some.old.items ++ picked (flag ∷ []) (shown entry.now ∷ [])) }
+    ensures { OnOk result (map (λ e. shown e.now) some.new.items
+        ≡ map (λ e. shown e.now) some.old.items ++ picked (flag ∷ []) (shown entry.now ∷ [])) }
 {
     if flag {
         some.push(entry)?;

@@ -15,7 +15,8 @@ use std::alloc::Global;
 use turn_sched::RoundRobin;
 use widget_host::{Host, HostItem, given_lives, loaded_lives, swapped_lives};
 
-/// A host of this page: it is loaded, and rounds of posts follow to their end. The keys are those of `Host::load`, and a
+/// A host of this page: it is loaded, and rounds of posts follow to their end. The keys are those of
+/// `Host::load`, and a
 /// pick runs `slice` units. The only error is want of memory.
 pub fn load_page(alloc: Global, keys: Keys, spec: PageSpec, slice: u32) -> Result<Host, Memory>
     requires some { 1 ≤ slice }
@@ -62,9 +63,11 @@ pub fn give_swap(
     requires room { given host.old < 4096 }
     requires there { to < length (chains host.old) }
     requires few { length (ends host.old) < 4 }
-    requires loadable { (name : List ℕ) → slice_get (names host.old) to ≡ Some name → IsSwapLoadable (length (libraries host.old)) name content }
+    requires loadable { (name : List ℕ) → slice_get (names host.old) to ≡ Some name
+        → IsSwapLoadable (length (libraries host.old)) name content }
     ensures { OnOk result ((spec : PageSpecOf) (swaps : List SlotContentOf) (items : List Said) (file : List ℕ)
-        → IsLive spec swaps items host.old → IsLive spec (swaps ++ content ∷ []) (items ++ a_swap to file ∷ []) host.new) }
+        → IsLive spec swaps items host.old
+        → IsLive spec (swaps ++ content ∷ []) (items ++ a_swap to file ∷ []) host.new) }
 {
     swapped_lives();
     host.give_swap(alloc, to, content)?;

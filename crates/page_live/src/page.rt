@@ -52,7 +52,8 @@ impl LivePage {
         requires named { names.items ≡ names_in manifest }
         requires many { length names.items ≤ length sources.items }
         requires small { All IsSmall sources.items }
-        ensures { IfOk result (Lives (parts_in manifest) manifest.channels.items (runs_of manifest (sources_of sources.items)) [] []) }
+        ensures { IfOk result (Lives (parts_in manifest) manifest.channels.items
+            (runs_of manifest (sources_of sources.items)) [] []) }
     {
         let (files, libs) = sources.split_at(names.len());
         let page = judge_page(alloc, manifest, files, libs, &[], &[])?;
@@ -81,15 +82,18 @@ impl LivePage {
         requires alive { IsAlive self.old }
         requires room { self.old.taken < 4096 }
         requires shape { IsItem item (length self.old.findings.names.items) }
-        ensures { OnOk result ((parts : List Part) (pairs : List (ℕ × ℕ)) (runs : List SlotRun) (files : List Source) (items : List Said)
-            → Lives parts pairs runs files items self.old → Lives parts pairs runs files (items ++ said_of item ∷ []) self.new) }
+        ensures { OnOk result ((parts : List Part) (pairs : List (ℕ
+            × ℕ)) (runs : List SlotRun) (files : List Source) (items : List Said)
+            → Lives parts pairs runs files items self.old
+            → Lives parts pairs runs files (items ++ said_of item ∷ []) self.new) }
     {
         give_item(alloc, &mut self.host, item, self.slice)?;
         self.taken += 1;
         Ok(())
     }
 
-    /// The page takes a swap of a slot that brings this file: it is judged, given as the next life of the slot, and rounds
+    /// The page takes a swap of a slot that brings this file: it is judged, given as the next life of the
+    /// slot, and rounds
     /// of posts follow to their end. The error is as that of `take`.
     pub fn swap(&mut self, alloc: Global, to: u32, file: &SourceFile) -> Result<(), Memory>
         requires alive { IsAlive self.old }
@@ -97,8 +101,10 @@ impl LivePage {
         requires there { to < length self.old.findings.names.items }
         requires few { length self.old.findings.swaps.slots.items < 4 }
         requires small { IsSmall file.now }
-        ensures { OnOk result ((parts : List Part) (pairs : List (ℕ × ℕ)) (runs : List SlotRun) (files : List Source) (items : List Said) (name : List ℕ)
-            → Lives parts pairs runs files items self.old → Lives parts pairs runs (files ++ source_of file.now ∷ []) (items ++ a_swap to name ∷ []) self.new) }
+        ensures { OnOk result ((parts : List Part) (pairs : List (ℕ
+            × ℕ)) (runs : List SlotRun) (files : List Source) (items : List Said) (name : List ℕ)
+            → Lives parts pairs runs files items self.old
+            → Lives parts pairs runs (files ++ source_of file.now ∷ []) (items ++ a_swap to name ∷ []) self.new) }
     {
         let (_, libs) = self.sources.split_at(self.findings.names.len());
         let name = &self.findings.names[to as usize];
@@ -115,10 +121,14 @@ impl LivePage {
     /// channels posts were delivered between items (`LivesOn`). The only error is want of memory.
     pub fn report(&self, alloc: Global) -> Result<Vec<u8>, Memory>
         requires alive { IsAlive self.now }
-        ensures live { IfOk result (λ bytes. (parts : List Part) (pairs : List (ℕ × ℕ)) (runs : List SlotRun) (files : List Source) (items : List Said)
+        ensures live { IfOk result
+            (λ bytes. (parts : List Part) (pairs : List (ℕ
+            × ℕ)) (runs : List SlotRun) (files : List Source) (items : List Said)
             → Lives parts pairs runs files items self.now → IsLiveReport parts pairs runs files items bytes.items) }
-        ensures replayed { IfOk result (λ bytes. (parts : List Part) (runs : List SlotRun) (files : List Source) (items : List Said)
-            → Lives parts [] runs files items self.now → IsReport parts [] runs files items (found_refused self.now.findings) bytes.items) }
+        ensures replayed { IfOk result
+            (λ bytes. (parts : List Part) (runs : List SlotRun) (files : List Source) (items : List Said)
+            → Lives parts [] runs files items self.now
+            → IsReport parts [] runs files items (found_refused self.now.findings) bytes.items) }
     {
         let bytes = report_of(alloc, &self.findings, &self.host)?;
         Ok(bytes)

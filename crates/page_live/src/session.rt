@@ -36,7 +36,8 @@ impl Session {
         requires alive { IsAlive page }
         ensures page { IfOk result (λ s. s.page ≡ page) }
         ensures many { IfOk result (λ s. length s.written.items ≡ length page.findings.names.items) }
-        ensures first { IfOk result (λ s. (pieces : List PagePiece) (owns : List (Option OwnState)) → Shows page pieces owns
+        ensures first { IfOk result (λ s. (pieces : List PagePiece) (owns : List (Option OwnState))
+            → Shows page pieces owns
             → AppendsFirst page.findings owns pieces (map shown s.written.items) out.old.items out.new.items) }
     {
         let written = entries(alloc, &page)?;
@@ -51,10 +52,15 @@ impl Session {
         requires many { length self.old.written.items ≡ length self.old.page.findings.names.items }
         requires room { self.old.page.taken < 4096 }
         requires shape { IsItem item (length self.old.page.findings.names.items) }
-        ensures lives { OnOk result ((parts : List Part) (pairs : List (ℕ × ℕ)) (runs : List SlotRun) (files : List Source) (items : List Said)
-            → Lives parts pairs runs files items self.old.page → Lives parts pairs runs files (items ++ said_of item ∷ []) self.new.page) }
-        ensures answer { OnOk result ((pieces : List PagePiece) (owns : List (Option OwnState)) → Shows self.new.page pieces owns
-            → AppendsAnswer self.new.page.findings owns (touched_by (said_of item)) self.new.page.taken (map shown self.old.written.items) (map shown self.new.written.items) out.old.items out.new.items) }
+        ensures lives { OnOk result
+            ((parts : List Part) (pairs : List (ℕ
+            × ℕ)) (runs : List SlotRun) (files : List Source) (items : List Said)
+            → Lives parts pairs runs files items self.old.page
+            → Lives parts pairs runs files (items ++ said_of item ∷ []) self.new.page) }
+        ensures answer { OnOk result ((pieces : List PagePiece) (owns : List (Option OwnState))
+            → Shows self.new.page pieces owns
+            → AppendsAnswer self.new.page.findings owns (touched_by (said_of item)) self.new.page.taken
+            (map shown self.old.written.items) (map shown self.new.written.items) out.old.items out.new.items) }
         ensures many { OnOk result (length self.new.written.items ≡ length self.new.page.findings.names.items) }
     {
         let touched = touched_by(&item);
@@ -77,10 +83,16 @@ impl Session {
         requires there { to < length self.old.page.findings.names.items }
         requires few { length self.old.page.findings.swaps.slots.items < 4 }
         requires small { IsSmall file.now }
-        ensures lives { OnOk result ((parts : List Part) (pairs : List (ℕ × ℕ)) (runs : List SlotRun) (files : List Source) (items : List Said) (name : List ℕ)
-            → Lives parts pairs runs files items self.old.page → Lives parts pairs runs (files ++ source_of file.now ∷ []) (items ++ a_swap to name ∷ []) self.new.page) }
-        ensures answer { OnOk result ((pieces : List PagePiece) (owns : List (Option OwnState)) (name : List ℕ) → Shows self.new.page pieces owns
-            → AppendsAnswer self.new.page.findings owns (touched_by (a_swap to name)) self.new.page.taken (map shown self.old.written.items) (map shown self.new.written.items) out.old.items out.new.items) }
+        ensures lives { OnOk result
+            ((parts : List Part) (pairs : List (ℕ
+            × ℕ)) (runs : List SlotRun) (files : List Source) (items : List Said) (name : List ℕ)
+            → Lives parts pairs runs files items self.old.page
+            → Lives parts pairs runs (files ++ source_of file.now ∷ [])
+            (items ++ a_swap to name ∷ []) self.new.page) }
+        ensures answer { OnOk result ((pieces : List PagePiece) (owns : List (Option OwnState)) (name : List ℕ)
+            → Shows self.new.page pieces owns
+            → AppendsAnswer self.new.page.findings owns (touched_by (a_swap to name)) self.new.page.taken
+            (map shown self.old.written.items) (map shown self.new.written.items) out.old.items out.new.items) }
         ensures many { OnOk result (length self.new.written.items ≡ length self.new.page.findings.names.items) }
     {
         self.page.swap(alloc, to, file)?;
@@ -110,7 +122,8 @@ fn tell(
     requires showing { IsShowing page.now }
     requires many { length written.old.items ≡ length page.now.findings.names.items }
     ensures answer { OnOk result ((pieces : List PagePiece) (owns : List (Option OwnState)) → Shows page.now pieces owns
-        → AppendsAnswer page.now.findings owns touched page.now.taken (map shown written.old.items) (map shown written.new.items) out.old.items out.new.items) }
+        → AppendsAnswer page.now.findings owns touched page.now.taken (map shown written.old.items)
+        (map shown written.new.items) out.old.items out.new.items) }
     ensures many { length written.new.items ≡ length written.old.items }
 {
     let flags = renew(alloc, page, touched, written)?;

@@ -57,7 +57,8 @@ fn library_at(libs: &[Code], place: u32) -> Result<Code, Memory>
 
 // The libraries at these places.
 fn libraries_at(alloc: Global, libs: &[Code], places: &[u32]) -> Result<Vec<Code>, Memory>
-    ensures { IfOk result (λ codes. map (λ c. Some (tree_in c)) codes.items ≡ map (slice_get (map tree_in libs.now)) places.now) }
+    ensures { IfOk result (λ codes. map (λ c. Some (tree_in c)) codes.items
+        ≡ map (slice_get (map tree_in libs.now)) places.now) }
 {
     let mut codes = Vec::with_capacity(alloc, places.len())?;
     'places: for place in places {

@@ -48,13 +48,16 @@ fn lay_markup(
     content: &[Plain],
 ) -> Result<(), Memory>
     ensures away { OnOk result ((v : ℕ) → v < 32 → IsAway page.old v → IsAway page.new v) }
-    ensures home { OnOk result ((v : ℕ) (tree : PlainTrees) → v < 32 → IsHome page.old v tree → IsHome page.new v tree) }
+    ensures home { OnOk result ((v : ℕ) (tree : PlainTrees) → v < 32 → IsHome page.old v tree
+        → IsHome page.new v tree) }
     ensures raws { OnOk result (HaveRaws store.old page.old → HaveRaws store.new page.new) }
-    ensures lots { OnOk result ((lots : List Lot) → IsLaidOut page.old lots → IsLaidOut page.new (lots ++ each_tree (unplaced_all content.now))) }
+    ensures lots { OnOk result ((lots : List Lot) → IsLaidOut page.old lots
+        → IsLaidOut page.new (lots ++ each_tree (unplaced_all content.now))) }
     ensures kept { OnOk result ((lot : Lot) (n : ℕ) → IsLot page.old lot n → IsLot page.new lot n) }
     ensures standing { OnOk result ((n : ℕ) → IsStanding page.old n → IsStanding page.new n) }
     ensures same { OnOk result ((v : ℕ) → owned v store.new ≡ owned v store.old) }
-    ensures confined { OnOk result ((fs : List Forest) (v : ℕ) → IsConfined fs v store.old → IsConfined fs v store.new) }
+    ensures confined { OnOk result ((fs : List Forest) (v : ℕ) → IsConfined fs v store.old
+        → IsConfined fs v store.new) }
 {
     'trees: for tree in content {
         add_markup(alloc, store, page, tree)?;

@@ -30,7 +30,8 @@ fn text_of(tree: &Tree, id: ExprId) -> Option<&Text>
 fn function_of(tree: &Tree, id: ExprId) -> Option<FunId>
     requires { IsExpr (trees tree.now) id }
     ensures { MatchOption result (function_of (expr_at (trees tree.now) id) ≡ None)
-        (λ g. IsFun (trees tree.now) g × (function_of (expr_at (trees tree.now) id) ≡ Some (fun_at (trees tree.now) g))) }
+        (λ g. IsFun (trees tree.now) g
+        × (function_of (expr_at (trees tree.now) id) ≡ Some (fun_at (trees tree.now) g))) }
 {
     match tree.expr(id) {
         Expr::Function(fun) => Some(*fun),

@@ -72,7 +72,8 @@ fn push_libraries(codes: &[Code], many: u32, queue: &mut VecDeque<Work>) -> Resu
 pub(crate) fn load_turns(alloc: Global, codes: &[Code]) -> Result<VecDeque<Work>, Memory>
     requires { 0 < length codes.now }
     ensures queued { IfOk result (λ queue. (libs : List CodeOf) (script : CodeOf) → codes.now ≡ libs ++ script ∷ []
-        → IsQueued (trees_of codes.now) [] queue.items (libraries_works (programs_of libs) ++ go_works (call_parts (program_of (tree_in script))))) }
+        → IsQueued (trees_of codes.now) [] queue.items
+        (libraries_works (programs_of libs) ++ go_works (call_parts (program_of (tree_in script))))) }
     ensures few { OnOk result (length codes.now ≤ 2 ^ 31) }
 {
     if codes.len() > MOST_SCRIPTS {

@@ -51,7 +51,8 @@ fn push_swap(
 ) -> Result<(), Memory>
     requires { before + 1 < 2 ^ 32 }
     ensures slots { OnOk result (slots.new.items ≡ slots.old.items ++ swap_slots (said item.now ∷ [])) }
-    ensures positions { OnOk result (positions.new.items ≡ positions.old.items ++ swap_positions before (said item.now ∷ [])) }
+    ensures positions { OnOk result (positions.new.items
+        ≡ positions.old.items ++ swap_positions before (said item.now ∷ [])) }
 {
     if let TraceItem::Swap { to, .. } = item {
         slots.push(*to)?;

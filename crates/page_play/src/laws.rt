@@ -17,14 +17,20 @@ ghost use Rattle.page_play.specs.Told.{AreTold, AreBegun};
 /// each life begins with the widget of its file, or none where that breaks a rule; and what the host shows, and what is
 /// written of it, is the outcome of the page.
 pub fn plays_come_to()
-    ensures begun { (spec : PageSpec) (swaps : List SlotContent) (items : List Said) (runs : List SlotRun) (files : List Source) (f : Findings)
+    ensures begun { (spec : PageSpec) (swaps : List SlotContent) (items : List Said) (runs : List SlotRun)
+        (files : List Source) (f : Findings)
         → AreFindings spec swaps items runs files f → AreBegun spec swaps items runs files }
-    ensures even { (spec : PageSpec) (swaps : List SlotContent) (items : List Said) (runs : List SlotRun) (files : List Source) (f : Findings) (h : Host)
+    ensures even { (spec : PageSpec) (swaps : List SlotContent) (items : List Said) (runs : List SlotRun)
+        (files : List Source) (f : Findings) (h : Host)
         → IsPlayed spec swaps items h → AreFindings spec swaps items runs files f → AreEven f }
-    ensures told { (spec : PageSpec) (swaps : List SlotContent) (items : List Said) (runs : List SlotRun) (files : List Source) (f : Findings) (h : Host)
-        → (p : IsPlayed spec swaps items h) → AreFindings spec swaps items runs files f → AreTold f h (map end_of p.fed) (map end_of (ended_in spec swaps items)) }
-    ensures outcome { (spec : PageSpec) (swaps : List SlotContent) (items : List Said) (runs : List SlotRun) (files : List Source) (f : Findings) (h : Host)
+    ensures told { (spec : PageSpec) (swaps : List SlotContent) (items : List Said) (runs : List SlotRun)
+        (files : List Source) (f : Findings) (h : Host)
+        → (p : IsPlayed spec swaps items h) → AreFindings spec swaps items runs files f
+        → AreTold f h (map end_of p.fed) (map end_of (ended_in spec swaps items)) }
+    ensures outcome { (spec : PageSpec) (swaps : List SlotContent) (items : List Said) (runs : List SlotRun)
+        (files : List Source) (f : Findings) (h : Host)
         → (p : IsPlayed spec swaps items h) → AreFindings spec swaps items runs files f
         → Outcome spec.channels.items runs files items (found_refused f) (map end_of p.fed)
-        (lines_of (lasts_told f) (map end_of p.fed) ++ lines_of (ended_told f) (map end_of (ended_in spec swaps items))) }
+        (lines_of (lasts_told f) (map end_of p.fed) ++ lines_of (ended_told f)
+        (map end_of (ended_in spec swaps items))) }
 {}

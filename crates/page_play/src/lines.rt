@@ -15,7 +15,8 @@ use widget_host::{RunLine, Stop};
 /// What a life did, under its name; `until` is the position of the swap that ended it, counted from 1.
 pub fn run_text(name: Text, until: Option<u32>, line: RunLine) -> RunText
     ensures whole { (own : OwnState) → IsLineOf line own → line_text (Line.Ran result) ≡ life_line name until own }
-    ensures short { (own : OwnState) → IsLineOf line own → until ≡ None → line_text (Line.Short result) ≡ short_line name own }
+    ensures short { (own : OwnState) → IsLineOf line own → until ≡ None
+        → line_text (Line.Short result) ≡ short_line name own }
 {
     RunText {
         name,
@@ -47,7 +48,8 @@ fn state_of(stop: Option<Stop>) -> State
     }
 }
 
-/// The line of a life whose file breaks this rule first, under the name of its slot; `until` is the position of the swap
+/// The line of a life whose file breaks this rule first, under the name of its slot; `until` is the position
+/// of the swap
 /// that ended it, counted from 1. The only error is want of memory.
 pub fn refused_line(
     alloc: Global,
@@ -55,7 +57,8 @@ pub fn refused_line(
     until: Option<u32>,
     refusal: &Refusal,
 ) -> Result<Line, Memory>
-    ensures { IfOk result (λ line. line_text line ≡ refused_life name.now until (string_bytes refusal.now.file) refusal.now.rule refusal.now.at) }
+    ensures { IfOk result (λ line. line_text line
+        ≡ refused_life name.now until (string_bytes refusal.now.file) refusal.now.rule refusal.now.at) }
 {
     Ok(Line::Refused {
         name: name.share()?,

@@ -39,7 +39,8 @@ pub fn play(
     requires loadable { IsLoadable spec }
     requires few { length items.items ≤ most_items }
     requires each { All (IsFor (length spec.slots.items)) (map said items.items) }
-    requires swaps { AreLoadableSwaps (length spec.libs.items) (names_of spec) (swap_slots (map said items.items)) swaps.items }
+    requires swaps { AreLoadableSwaps (length spec.libs.items) (names_of spec)
+        (swap_slots (map said items.items)) swaps.items }
     requires few_swaps { length swaps.items ≤ 4 }
     ensures played { IfOk result (IsPlayed spec swaps.items (map said items.items)) }
     ensures settled { IfOk result (IsSettled spec swaps.items (map said items.items) slice) }
@@ -69,9 +70,11 @@ fn give(
     requires room { given host.old < 4096 }
     requires may { MayGive left.old.items host.old (said item) }
     ensures gives { OnOk result ((spec : PageSpecOf) (swaps : List SlotContentOf) (items : List Said)
-        → left.old.items ≡ drop (swaps_in items) swaps → Plays spec swaps items host.old → Plays spec swaps (items ++ said item ∷ []) host.new) }
+        → left.old.items ≡ drop (swaps_in items) swaps → Plays spec swaps items host.old
+        → Plays spec swaps (items ++ said item ∷ []) host.new) }
     ensures left { OnOk result ((swaps : List SlotContentOf) (items : List Said)
-        → left.old.items ≡ drop (swaps_in items) swaps → left.new.items ≡ drop (swaps_in (items ++ said item ∷ [])) swaps) }
+        → left.old.items ≡ drop (swaps_in items) swaps
+        → left.new.items ≡ drop (swaps_in (items ++ said item ∷ [])) swaps) }
 {
     match item {
         TraceItem::Event { to, event } => {
@@ -111,9 +114,11 @@ fn give_swap(alloc: Global, host: &mut Host, to: u32, content: SlotContent) -> R
     requires room { given host.old < 4096 }
     requires there { to < length (chains host.old) }
     requires few { length (ends host.old) < 4 }
-    requires loadable { (name : List ℕ) → slice_get (names host.old) to ≡ Some name → IsSwapLoadable (length (libraries host.old)) name content }
+    requires loadable { (name : List ℕ) → slice_get (names host.old) to ≡ Some name
+        → IsSwapLoadable (length (libraries host.old)) name content }
     ensures { OnOk result ((spec : PageSpecOf) (swaps : List SlotContentOf) (items : List Said) (file : List ℕ)
-        → slice_get swaps (swaps_in items) ≡ Some content → Plays spec swaps items host.old → Plays spec swaps (items ++ a_swap to file ∷ []) host.new) }
+        → slice_get swaps (swaps_in items) ≡ Some content → Plays spec swaps items host.old
+        → Plays spec swaps (items ++ a_swap to file ∷ []) host.new) }
 {
     swapped_lives();
     host.give_swap(alloc, to, content)?;

@@ -33,8 +33,10 @@ use widget_host::Host;
 /// the order of these swaps, and the page line.
 pub fn report(alloc: Global, findings: &Findings, host: &Host) -> Result<Vec<u8>, Memory>
     requires { IsFound findings.now host.now }
-    ensures { IfOk result (λ bytes. (spec : PageSpec) (swaps : List SlotContent) (items : List Said) (runs : List SlotRun) (files : List Source) (parts : List Part)
-        → IsPlayed spec swaps items host.now → AreFindings spec swaps items runs files findings.now → map piece_of spec.pieces.items ≡ pieces parts
+    ensures { IfOk result (λ bytes. (spec : PageSpec) (swaps : List SlotContent) (items : List Said)
+        (runs : List SlotRun) (files : List Source) (parts : List Part)
+        → IsPlayed spec swaps items host.now → AreFindings spec swaps items runs files findings.now
+        → map piece_of spec.pieces.items ≡ pieces parts
         → IsReport parts spec.channels.items runs files items (found_refused findings.now) bytes.items) }
 {
     plays_come_to();
@@ -45,7 +47,9 @@ pub fn report(alloc: Global, findings: &Findings, host: &Host) -> Result<Vec<u8>
 pub fn certificate(alloc: Global, host: &Host) -> Result<Vec<u8>, Memory>
     requires housed { IsHoused host.now }
     requires quiet { ready_from 0 (slot_flags (seens host.now) (chains host.now)) ≡ [] }
-    ensures audit { IfOk result (λ bytes. (spec : PageSpec) (swaps : List SlotContent) (items : List Said) (runs : List SlotRun) (files : List Source) (f : FindingsOf)
+    ensures audit { IfOk result
+        (λ bytes. (spec : PageSpec) (swaps : List SlotContent) (items : List Said) (runs : List SlotRun)
+        (files : List Source) (f : FindingsOf)
         → IsPlayed spec swaps items host.now → AreFindings spec swaps items runs files f
         → IsAudit spec.channels.items runs files items (found_refused f) bytes.items) }
     ensures confined { IfOk result (λ bytes. (slots : List Slot) × (bytes.items ≡ cert_text slots) × IsConfined slots) }
@@ -60,8 +64,10 @@ pub fn certificate(alloc: Global, host: &Host) -> Result<Vec<u8>, Memory>
 /// `report`. The only error is want of memory.
 pub fn report_of(alloc: Global, findings: &Findings, host: &Host) -> Result<Vec<u8>, Memory>
     requires told { (owns before : List (Option OwnState)) × AreTold findings.now host.now owns before }
-    ensures { IfOk result (λ bytes. (owns before : List (Option OwnState)) (names : List (List ℕ)) (pieces : List PagePiece)
-        → AreTold findings.now host.now owns before → IsLaid host.now names pieces → Reports findings.now names pieces owns before bytes.items) }
+    ensures { IfOk result (λ bytes. (owns before : List (Option OwnState)) (names : List (List ℕ))
+        (pieces : List PagePiece)
+        → AreTold findings.now host.now owns before → IsLaid host.now names pieces
+        → Reports findings.now names pieces owns before bytes.items) }
 {
     let mut bytes = Vec::new(alloc);
     push_lasts(alloc, findings, host, &mut bytes)?;
@@ -111,8 +117,11 @@ fn push_ended(
 pub fn last_line(alloc: Global, findings: &Findings, host: &Host, w: u32) -> Result<Line, Memory>
     requires told { (owns before : List (Option OwnState)) × AreTold findings.now host.now owns before }
     requires there { w < length findings.now.names.items }
-    ensures { IfOk result (λ line. (owns before : List (Option OwnState)) (own : Option OwnState) → AreTold findings.now host.now owns before
-        → slice_get owns w ≡ Some own → line_text line ≡ line_of (slice_index_or findings.now.names.items w []) None (found_after findings.now w (length findings.now.swaps.slots.items)) own) }
+    ensures { IfOk result (λ line. (owns before : List (Option OwnState)) (own : Option OwnState)
+        → AreTold findings.now host.now owns before
+        → slice_get owns w ≡ Some own
+        → line_text line ≡ line_of (slice_index_or findings.now.names.items w []) None
+        (found_after findings.now w (length findings.now.swaps.slots.items)) own) }
 {
     let name = &findings.names[w as usize];
     match findings.last(w) {
@@ -128,9 +137,11 @@ pub fn last_line(alloc: Global, findings: &Findings, host: &Host, w: u32) -> Res
 fn ended_line(alloc: Global, findings: &Findings, host: &Host, i: u32) -> Result<Line, Memory>
     requires told { (owns before : List (Option OwnState)) × AreTold findings.now host.now owns before }
     requires there { i < length findings.now.swaps.slots.items }
-    ensures { IfOk result (λ line. (owns before : List (Option OwnState)) (to : ℕ) (own : Option OwnState) → AreTold findings.now host.now owns before
+    ensures { IfOk result (λ line. (owns before : List (Option OwnState)) (to : ℕ) (own : Option OwnState)
+        → AreTold findings.now host.now owns before
         → slice_get findings.now.swaps.slots.items i ≡ Some to → slice_get before i ≡ Some own
-        → line_text line ≡ line_of (slice_index_or findings.now.names.items to []) (Some (slice_index_or findings.now.swaps.positions.items i 0)) (found_after findings.now to i) own) }
+        → line_text line ≡ line_of (slice_index_or findings.now.names.items to [])
+        (Some (slice_index_or findings.now.swaps.positions.items i 0)) (found_after findings.now to i) own) }
 {
     let to = findings.swaps.slots[i as usize];
     let until = Some(findings.swaps.positions[i as usize]);
@@ -147,8 +158,10 @@ fn ended_line(alloc: Global, findings: &Findings, host: &Host, i: u32) -> Result
 // Appends the page line.
 fn push_page(alloc: Global, host: &Host, out: &mut Vec<u8>) -> Result<(), Memory>
     requires { IsHoused host.now }
-    ensures { OnOk result ((names : List (List ℕ)) (pieces : List PagePiece) (owns : List (Option OwnState)) → IsLaid host.now names pieces →
-        AreShown host.now (chains host.now) owns → AppendsPage (page_of pieces (roots names owns)) out.old.items out.new.items) }
+    ensures { OnOk result ((names : List (List ℕ)) (pieces : List PagePiece) (owns : List (Option OwnState))
+        → IsLaid host.now names pieces →
+        AreShown host.now (chains host.now) owns
+        → AppendsPage (page_of pieces (roots names owns)) out.old.items out.new.items) }
 {
     let mut text = Vec::new(alloc);
     host.print_page(alloc, &mut text)?;

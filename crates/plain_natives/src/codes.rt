@@ -41,7 +41,8 @@ pub fn from_char_code(
 
 // Whether one of these leaves the numbers.
 fn any_left(args: &[Value]) -> bool
-    ensures { (w : ℕ) (cells : List PlainCell) → result ≡ list_any means.has_left (map to_number (all_seen w cells args.now)) }
+    ensures { (w : ℕ) (cells : List PlainCell)
+        → result ≡ list_any means.has_left (map to_number (all_seen w cells args.now)) }
 {
     for v in args {
         if has_left(read_number(v)) {
@@ -62,7 +63,8 @@ fn has_left(r: WholeRead) -> bool
 
 // The text of these units.
 fn text_of_codes(alloc: Global, args: &[Value]) -> Result<Text, Memory>
-    ensures { IfOk result (λ t. (w : ℕ) (cells : List PlainCell) → t ≡ map means.code_of (map to_number (all_seen w cells args.now))) }
+    ensures { IfOk result (λ t. (w : ℕ) (cells : List PlainCell)
+        → t ≡ map means.code_of (map to_number (all_seen w cells args.now))) }
 {
     let mut units = Vec::with_capacity(alloc, args.len())?;
     for v in args {

@@ -55,7 +55,8 @@ pub fn global_native(
 
 // `Boolean(v)`
 fn boolean(v: &Value, meter: &mut Meter) -> NativeOut
-    ensures { (w : ℕ) (s : Cells) → Meets w s s meter.old meter.new (λ d t. means.boolean_of (seen w s.cells v.now) t) result }
+    ensures { (w : ℕ) (s : Cells)
+        → Meets w s s meter.old meter.new (λ d t. means.boolean_of (seen w s.cells v.now) t) result }
 {
     charged(
         meter,
@@ -66,7 +67,8 @@ fn boolean(v: &Value, meter: &mut Meter) -> NativeOut
 
 // `Number(v)`; absent gives 0.
 fn number_native(args: &[Value], meter: &mut Meter) -> NativeOut
-    ensures { (w : ℕ) (s : Cells) → Meets w s s meter.old meter.new (λ d t. means.number_of (all_seen w s.cells args.now) t) result }
+    ensures { (w : ℕ) (s : Cells)
+        → Meets w s s meter.old meter.new (λ d t. means.number_of (all_seen w s.cells args.now) t) result }
 {
     match args.first() {
         Some(v) => number(v, meter),

@@ -118,7 +118,8 @@ fn rest_of(args: &[Value]) -> &[Value]
 // The best of one and all of these.
 fn best_of(first: WholeRead, rest: &[Value], max: bool) -> WholeRead
     ensures { (w : ℕ) (cells : List PlainCell)
-        → result ≡ fold (of_numbers WholeRead.Left WholeRead.NotNumber (λ x y. WholeRead.Whole (better max x y))) first (map to_number (all_seen w cells rest.now)) }
+        → result ≡ fold (of_numbers WholeRead.Left WholeRead.NotNumber
+        (λ x y. WholeRead.Whole (better max x y))) first (map to_number (all_seen w cells rest.now)) }
 {
     let mut found = first;
     for v in rest {

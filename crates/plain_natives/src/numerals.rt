@@ -26,7 +26,9 @@ const LIMIT: u64 = 1 << 53;
 
 /// The number that the units begin with, in the radix that is asked for.
 pub fn parsed(units: &[u16], radix: i64) -> OpOut
-    ensures value { meant_out result ≡ means.parsed (starts_with_minus (trimmed_start units.now)) (without_leading_sign (trimmed_start units.now)) radix }
+    ensures value { meant_out result
+        ≡ means.parsed (starts_with_minus (trimmed_start units.now))
+        (without_leading_sign (trimmed_start units.now)) radix }
     ensures small { IsSmallOut result }
 {
     let spelled = trimmed_start(units);

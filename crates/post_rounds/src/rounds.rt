@@ -21,7 +21,8 @@ pub fn round(
 ) -> Result<Vec<Vec<PostEvent>>, Memory>
     requires apart { IsDistinct bytes_eq names.now }
     requires slots { length fresh.now ≡ length names.now }
-    ensures { IfOk result (λ events. map (λ v. values v.items) events.items ≡ all_news channels.now names.now (map (λ v. v.items) fresh.now)) }
+    ensures { IfOk result (λ events. map (λ v. values v.items) events.items
+        ≡ all_news channels.now names.now (map (λ v. v.items) fresh.now)) }
 {
     let mut events = no_events(alloc, names.len())?;
     'senders: for (sender, posts) in fresh.iter().enumerate() {
@@ -56,7 +57,8 @@ fn deliver(
     ensures slots { length events.new.items ≡ length events.old.items }
     ensures news { OnOk result ((w : ℕ) → w < length names.now →
         slice_index_or (map (λ v. values v.items) events.new.items) w []
-        ≡ slice_index_or (map (λ v. values v.items) events.old.items) w [] ++ sent channels.now names.now sender w posts.now) }
+        ≡ slice_index_or (map (λ v. values v.items) events.old.items) w [] ++ sent channels.now names.now sender w
+        posts.now) }
 {
     'posts: for post in posts {
         if let Some(receiver) = receiver_of(channels, names, sender, &post.to) {
@@ -87,7 +89,8 @@ fn push_event(
 fn receiver_of(channels: &[(u32, u32)], names: &[Text], sender: usize, to: &Text) -> Option<usize>
     requires { IsDistinct bytes_eq names.now }
     ensures within { IfSome result (λ w. w < length names.now) }
-    ensures receiver { (w : ℕ) → w < length names.now → is_received channels.now names.now sender w to.now ≡ is_at result w }
+    ensures receiver { (w : ℕ) → w < length names.now
+        → is_received channels.now names.now sender w to.now ≡ is_at result w }
 {
     let receiver = place_of(names, to)?;
     if is_channel(channels, sender, receiver) {

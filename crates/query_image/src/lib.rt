@@ -28,8 +28,10 @@ pub fn find(
     requires widget { widget < 32 }
     requires starts { (n : ℕ) → has_number starts.now n ≡ true → owns page.now widget n ≡ true }
     requires focus { OptionIn (owns page.now widget) focus }
-    ensures image { (s : State) → s.own.forest ≡ forest page.now widget → s.own.focus ≡ renumbered (number page.now widget) focus →
-        IfOk result (λ found. map (number page.now widget) found.items ≡ finds s (map (number page.now widget) starts.now) query.now) }
+    ensures image { (s : State) → s.own.forest ≡ forest page.now widget
+        → s.own.focus ≡ renumbered (number page.now widget) focus →
+        IfOk result (λ found. map (number page.now widget) found.items
+        ≡ finds s (map (number page.now widget) starts.now) query.now) }
     ensures own { IfOk result (λ found. (n : ℕ) → has_number found.items n ≡ true → owns page.now widget n ≡ true) }
 {
     query_lang::find(alloc, page, focus, starts, query)
@@ -40,7 +42,8 @@ pub fn find(
 pub fn test(page: &Page, widget: u32, focus: Option<NodeId>, node: NodeId, by: &Filter) -> bool
     requires own { owns page.now widget node ≡ true }
     requires focus { OptionIn (owns page.now widget) focus }
-    ensures { (s : State) → s.own.forest ≡ forest page.now widget → s.own.focus ≡ renumbered (number page.now widget) focus →
+    ensures { (s : State) → s.own.forest ≡ forest page.now widget
+        → s.own.focus ≡ renumbered (number page.now widget) focus →
         result ≡ passes (look s) s.own.focus by.now (number page.now widget node) }
 {
     query_lang::test(page, focus, node, by)

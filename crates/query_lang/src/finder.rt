@@ -30,7 +30,8 @@ fn keep_one(
     kept: &mut Vec<NodeId>,
 ) -> Result<(), Memory>
     requires { node < length (nodes page.now) }
-    ensures { OnOk result (kept.new.items ≡ kept.old.items ++ filter (passes (nodes page.now) focus by.now) (node ∷ [])) }
+    ensures { OnOk result (kept.new.items
+        ≡ kept.old.items ++ filter (passes (nodes page.now) focus by.now) (node ∷ [])) }
 {
     if test(page, focus, node, by) {
         kept.push(node)?;
@@ -195,7 +196,8 @@ fn take_step(
     requires owner { is_owner owner ≡ true }
     requires nodes { AreNodes page.now starts.now }
     ensures { IfOk result (λ found. found.items ≡ all_filtered (nodes page.now) focus step.now.filters
-        (in_order (nodes page.now) (root page.now owner) owner (flat_map (hunted (nodes page.now) (root page.now owner) step.now.hunter) starts.now))) }
+        (in_order (nodes page.now) (root page.now owner) owner
+        (flat_map (hunted (nodes page.now) (root page.now owner) step.now.hunter) starts.now))) }
 {
     let found = hunt_all(alloc, page, owner, &step.hunter, starts)?;
     let list = in_order(alloc, page, owner, &found)?;
@@ -233,7 +235,8 @@ pub fn find(
     query: &Query,
 ) -> Result<Vec<NodeId>, Memory>
     requires { AreNodes page.now starts.now }
-    ensures { (o : Owner) → AreOwned page.now o starts.now → IfOk result (λ found. found.items ≡ finds page.now o focus starts.now query.now) }
+    ensures { (o : Owner) → AreOwned page.now o starts.now
+        → IfOk result (λ found. found.items ≡ finds page.now o focus starts.now query.now) }
 {
     match starts.first() {
         Some(first) => { take_steps(alloc, page, page.owner(*first), focus, &query.steps, starts) }

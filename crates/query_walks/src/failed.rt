@@ -18,7 +18,8 @@ use std::collections::BTreeSet;
 
 // The words between spaces, to be looked up.
 fn word_set(alloc: Global, units: &[u16]) -> Result<BTreeSet<&[u16]>, Memory>
-    ensures { IfOk result (λ set. (w : List ℕ) → list_any (λ k. bytes_eq w k.now) set.keys ≡ list_any (bytes_eq w) (words units.now)) }
+    ensures { IfOk result (λ set. (w : List ℕ)
+        → list_any (λ k. bytes_eq w k.now) set.keys ≡ list_any (bytes_eq w) (words units.now)) }
 {
     let mut set = BTreeSet::new(alloc);
     let mut rest = units;
@@ -35,7 +36,8 @@ fn word_set(alloc: Global, units: &[u16]) -> Result<BTreeSet<&[u16]>, Memory>
 // The words of a node's class.
 fn class_words(alloc: Global, page: &Page, node: NodeId) -> Result<BTreeSet<&[u16]>, Memory>
     requires { node < length (nodes page.now) }
-    ensures { IfOk result (λ set. (w : List ℕ) → list_any (λ k. bytes_eq w k.now) set.keys ≡ has_class (look (nodes page.now) node) w) }
+    ensures { IfOk result (λ set. (w : List ℕ)
+        → list_any (λ k. bytes_eq w k.now) set.keys ≡ has_class (look (nodes page.now) node) w) }
 {
     match page.attr_of_word(node, b"class") {
         Some(classes) => word_set(alloc, classes.units()),
@@ -59,7 +61,8 @@ fn passes<'a>(
     by: &'a Filter,
 ) -> bool
     requires node { node < length (nodes page.now) }
-    requires classes { (w : List ℕ) → list_any (λ k. bytes_eq w k.now) classes.now.keys ≡ has_class (look (nodes page.now) node) w }
+    requires classes { (w : List ℕ)
+        → list_any (λ k. bytes_eq w k.now) classes.now.keys ≡ has_class (look (nodes page.now) node) w }
     ensures { result ≡ passes (nodes page.now) focus by.now node }
 {
     match by {
@@ -77,7 +80,8 @@ fn fails<'a>(
     filter: &'a StepFilter,
 ) -> bool
     requires node { node < length (nodes page.now) }
-    requires classes { (w : List ℕ) → list_any (λ k. bytes_eq w k.now) classes.now.keys ≡ has_class (look (nodes page.now) node) w }
+    requires classes { (w : List ℕ)
+        → list_any (λ k. bytes_eq w k.now) classes.now.keys ≡ has_class (look (nodes page.now) node) w }
     ensures { result ≡ fails (nodes page.now) focus node filter.now }
 {
     match filter {
@@ -95,7 +99,8 @@ fn failed_at<'a>(
     filters: &'a [StepFilter],
 ) -> usize
     requires node { node < length (nodes page.now) }
-    requires classes { (w : List ℕ) → list_any (λ k. bytes_eq w k.now) classes.now.keys ≡ has_class (look (nodes page.now) node) w }
+    requires classes { (w : List ℕ)
+        → list_any (λ k. bytes_eq w k.now) classes.now.keys ≡ has_class (look (nodes page.now) node) w }
     ensures place { result ≡ failed_at (nodes page.now) focus filters.now node }
     ensures inside { result ≤ length filters.now }
 {
@@ -118,7 +123,8 @@ fn mark_failed<'a>(
 ) -> Result<(), Memory>
     requires node { node < length (nodes page.now) }
     requires long { length failed.old.items ≡ length filters.now + 1 }
-    ensures { OnOk result (failed.new.items ≡ set failed.old.items (failed_at (nodes page.now) focus filters.now node) true) }
+    ensures { OnOk result (failed.new.items
+        ≡ set failed.old.items (failed_at (nodes page.now) focus filters.now node) true) }
 {
     let classes = class_words(alloc, page, node)?;
     failed[failed_at(page, focus, node, &classes, filters)] = true;
@@ -136,7 +142,8 @@ pub fn mark_all_failed(
 ) -> Result<Vec<bool>, Memory>
     requires { AreNodes page.now list.now }
     ensures long { IfOk result (λ failed. length failed.items ≡ length filters.now + 1) }
-    ensures marked { IfOk result (λ failed. (n : ℕ) → has_number list.now n ≡ true → get_or failed.items (failed_at (nodes page.now) focus filters.now n) false ≡ true) }
+    ensures marked { IfOk result (λ failed. (n : ℕ) → has_number list.now n ≡ true
+        → get_or failed.items (failed_at (nodes page.now) focus filters.now n) false ≡ true) }
 {
     let mut failed = vec![in alloc; false; filters.len() + 1]?;
     'each: for node in list {

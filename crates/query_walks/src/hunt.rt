@@ -41,7 +41,9 @@ fn add_parent(
     parents: &mut Risen,
 ) -> Result<(), Memory>
     requires { node < length (nodes page.now) }
-    ensures { OnOk result ((n : ℕ) → has_number parents.new n ≡ (is_number n (parent_within (nodes page.now) root node) || has_number parents.old n)) }
+    ensures { OnOk result ((n : ℕ)
+        → has_number parents.new n
+        ≡ (is_number n (parent_within (nodes page.now) root node) || has_number parents.old n)) }
 {
     match parent_within(page, root, node) {
         Some(parent) => parents.add(parent),
@@ -57,7 +59,8 @@ fn parents_of(
     starts: &[NodeId],
 ) -> Result<Vec<NodeId>, Memory>
     requires { AreNodes page.now starts.now }
-    ensures { IfOk result (λ list. (n : ℕ) → has_number list.items n ≡ list_any (λ s. is_number n (parent_within (nodes page.now) root s)) starts.now) }
+    ensures { IfOk result (λ list. (n : ℕ)
+        → has_number list.items n ≡ list_any (λ s. is_number n (parent_within (nodes page.now) root s)) starts.now) }
 {
     let mut parents = Risen::new(alloc);
     'each: for start in starts {
@@ -90,7 +93,9 @@ fn take_next(
     found: &mut Vec<NodeId>,
 ) -> Result<(), Memory>
     requires { child < length (nodes page.now) }
-    ensures { OnOk result (found.new.items ≡ found.old.items ++ filter (is_tagged (nodes page.now) tag.now) (if met && is_element (nodes page.now) child then child ∷ [] else [])) }
+    ensures { OnOk result (found.new.items
+        ≡ found.old.items ++ filter (is_tagged (nodes page.now) tag.now)
+        (if met && is_element (nodes page.now) child then child ∷ [] else [])) }
 {
     if met && is_element(page, child) {
         return Wanted::Tagged(tag).take(page, child, found);
@@ -108,7 +113,9 @@ fn collect_next(
     found: &mut Vec<NodeId>,
 ) -> Result<(), Memory>
     requires { parent < length (nodes page.now) }
-    ensures { OnOk result (found.new.items ≡ found.old.items ++ filter (is_tagged (nodes page.now) tag.now) (next_ones (nodes page.now) (is_start root starts.now) false (at (nodes page.now) parent).children)) }
+    ensures { OnOk result (found.new.items
+        ≡ found.old.items ++ filter (is_tagged (nodes page.now) tag.now)
+        (next_ones (nodes page.now) (is_start root starts.now) false (at (nodes page.now) parent).children)) }
 {
     let mut met = false;
     'each: for place in 0..page.width(parent) {
@@ -129,7 +136,9 @@ fn collect_all_next(
     parents: &[NodeId],
 ) -> Result<Vec<NodeId>, Memory>
     requires { AreNodes page.now parents.now }
-    ensures { IfOk result (λ found. found.items ≡ flat_map (λ p. filter (is_tagged (nodes page.now) tag.now) (next_ones (nodes page.now) (is_start root starts.now) false (at (nodes page.now) p).children)) parents.now) }
+    ensures { IfOk result (λ found. found.items
+        ≡ flat_map (λ p. filter (is_tagged (nodes page.now) tag.now)
+        (next_ones (nodes page.now) (is_start root starts.now) false (at (nodes page.now) p).children)) parents.now) }
 {
     let mut found = Vec::new(alloc);
     'each: for parent in parents {
@@ -162,7 +171,8 @@ fn all_children(
     starts: &[NodeId],
 ) -> Result<Vec<NodeId>, Memory>
     requires { AreNodes page.now starts.now }
-    ensures { IfOk result (λ found. found.items ≡ flat_map (λ n. filter (takes (nodes page.now) wanted.now) (at (nodes page.now) n).children) starts.now) }
+    ensures { IfOk result (λ found. found.items
+        ≡ flat_map (λ n. filter (takes (nodes page.now) wanted.now) (at (nodes page.now) n).children) starts.now) }
 {
     let mut found = Vec::new(alloc);
     'each: for start in starts {
@@ -180,7 +190,8 @@ fn all_below(
 ) -> Result<Vec<NodeId>, Memory>
     requires nodes { AreNodes page.now starts.now }
     requires all { MissesNone page.now wanted.now }
-    ensures { IfOk result (λ found. found.items ≡ flat_map (λ n. filter (takes (nodes page.now) wanted.now) (below (nodes page.now) n)) starts.now) }
+    ensures { IfOk result (λ found. found.items
+        ≡ flat_map (λ n. filter (takes (nodes page.now) wanted.now) (below (nodes page.now) n)) starts.now) }
 {
     let mut found = Vec::new(alloc);
     'each: for start in starts {

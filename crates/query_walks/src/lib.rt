@@ -1,4 +1,5 @@
-//! Walks over the nodes of a widget: whether a node passes a filter, what stands where a step leads, and document order.
+//! Walks over the nodes of a widget: whether a node passes a filter, what stands where a step leads, and
+//! document order.
 //!
 //! `specs/Finds.antt` says what a query sees of a page.
 #![tactic(auto)]

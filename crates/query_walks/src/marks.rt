@@ -54,7 +54,8 @@ impl Marks {
 
     /// Puts a node into the set, and tells whether it is new.
     pub fn add(&mut self, node: NodeId) -> Result<bool, Memory>
-        ensures { IfOk result (λ new. (new ≡ not (has_number self.old node)) × (self.new ≡ (if has_number self.old node then self.old else self.old ++ node ∷ []))) }
+        ensures { IfOk result (λ new. (new ≡ not (has_number self.old node))
+            × (self.new ≡ (if has_number self.old node then self.old else self.old ++ node ∷ []))) }
     {
         Ok(self.set.insert(node)?)
     }

@@ -36,7 +36,8 @@ fn take_below(
     found: &mut Vec<NodeId>,
 ) -> Result<(), Memory>
     requires { node < length (nodes page.now) }
-    ensures { OnOk result (found.new.items ≡ found.old.items ++ filter (below_any (nodes page.now) starts.now) (node ∷ [])) }
+    ensures { OnOk result (found.new.items
+        ≡ found.old.items ++ filter (below_any (nodes page.now) starts.now) (node ∷ [])) }
 {
     if is_below(page, starts, node) {
         found.push(node)?;

@@ -57,7 +57,8 @@ fn walk_root(
 ) -> Result<(), Memory>
     requires root { IfSome root (λ r. r < length (nodes page.now)) }
     requires all { MissesNone page.now wanted.now }
-    ensures { OnOk result (TakesOf (nodes page.now) wanted.now (flat_map (within (nodes page.now)) (option_to_list root))
+    ensures { OnOk result (TakesOf (nodes page.now) wanted.now
+        (flat_map (within (nodes page.now)) (option_to_list root))
         list.old.items list.new.items) }
 {
     match root {
@@ -77,7 +78,8 @@ fn walk_loose(
 ) -> Result<(), Memory>
     requires top { top < length (nodes page.now) }
     requires all { MissesNone page.now wanted.now }
-    ensures { OnOk result (TakesOf (nodes page.now) wanted.now (flat_map (within (nodes page.now)) (filter (is_loose (nodes page.now) root owner) (top ∷ [])))
+    ensures { OnOk result (TakesOf (nodes page.now) wanted.now
+        (flat_map (within (nodes page.now)) (filter (is_loose (nodes page.now) root owner) (top ∷ [])))
         list.old.items list.new.items) }
 {
     if is_loose(page, root, owner, top) {
@@ -98,7 +100,9 @@ fn walk_trees(
     requires tops { AreNodes page.now tops.now }
     requires all { MissesNone page.now wanted.now }
     ensures { IfOk result (λ list. list.items ≡ filter (takes (nodes page.now) wanted.now)
-        (flat_map (within (nodes page.now)) (option_to_list (root page.now owner) ++ filter (is_loose (nodes page.now) (root page.now owner) owner) tops.now))) }
+        (flat_map (within (nodes page.now))
+        (option_to_list (root page.now owner) ++ filter
+        (is_loose (nodes page.now) (root page.now owner) owner) tops.now))) }
 {
     let mut list = Vec::new(alloc);
     let root = page.root_of(owner);

@@ -86,7 +86,8 @@ fn line_count(block: &Block) -> usize
 /// widget's own cell lines.
 pub fn confined(cert: &Cert) -> Result<(), u32>
     requires { length (cert_lines (plain cert.now)) < 4294967295 }
-    ensures line { MatchResult result (λ _. IsConfined (plain cert.now)) (λ line. first_leak (plain cert.now) ≡ Some line) }
+    ensures line { MatchResult result (λ _. IsConfined (plain cert.now))
+        (λ line. first_leak (plain cert.now) ≡ Some line) }
     ensures walks { OnOk result ((name : List ℕ) (target : Ref) →
         Leads (plain cert.now) name target → IsOwn (plain cert.now) name target) }
 {

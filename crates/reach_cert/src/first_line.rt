@@ -70,9 +70,11 @@ pub fn take_name<'a>(
     lines: &mut Lines<'a>,
 ) -> Result<(), CertFault>
     ensures kept { OnOk result (words_of names.new.items ≡ words_of names.old.items ++ word.now ∷ []) }
-    ensures free { OnOk result ((slots : List Slot) → words_of names.old.items ≡ map slot_name slots → is_free slots word.now ≡ true) }
+    ensures free { OnOk result ((slots : List Slot) → words_of names.old.items ≡ map slot_name slots
+        → is_free slots word.now ≡ true) }
     ensures taken { OnOk result (lines.new ≡ behind_first lines.old) }
-    ensures fault { IfErr result (λ e. (slots : List Slot) (next : State) → words_of names.old.items ≡ map slot_name slots →
+    ensures fault { IfErr result (λ e. (slots : List Slot) (next : State)
+        → words_of names.old.items ≡ map slot_name slots →
         step_first (Between slots) lines.old.lines ≡ named slots word.now next → Refuses (Between slots) lines.old e) }
 {
     if !is_free(names, word) {

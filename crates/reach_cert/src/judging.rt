@@ -36,7 +36,8 @@ fn judge_cells(alloc: Global, own: &[u8], lines: &mut Lines) -> Result<Vec<u64>,
 // What the line needs of what a widget holds, where it is no line of its next cell.
 fn judge_held(own: &[u8], lines: &mut Lines) -> Result<u64, CertFault>
     ensures held { IfOk result (IsHeld own.now lines.old lines.new) }
-    ensures fault { IfErr result (λ e. (slots : List Slot) (rows : List Row) → cell_text (length rows) lines.old.lines ≡ None →
+    ensures fault { IfErr result (λ e. (slots : List Slot) (rows : List Row)
+        → cell_text (length rows) lines.old.lines ≡ None →
         Refuses (Inside slots own.now rows) lines.old e) }
 {
     let Some(text) = text_behind(b"held", lines) else {
@@ -67,7 +68,8 @@ fn first_over(count: u64, needs: &[u64], after: u32) -> Option<u32>
 // The first line that leaks of those of a widget behind the one with its name.
 fn judge_shown(alloc: Global, own: &[u8], lines: &mut Lines) -> Result<Option<u32>, CertFault>
     ensures shown { IfOk result (λ leak. (first : ℕ) → lines.old.number ≡ first + 1 →
-        (slot : Slot) × IsWidget own.now lines.old lines.new slot × IsLeak first lines.new.number (slot_leaks slot) leak) }
+        (slot : Slot) × IsWidget own.now lines.old lines.new slot
+        × IsLeak first lines.new.number (slot_leaks slot) leak) }
     ensures fault { IfErr result (λ e. (slots : List Slot) → Refuses (Inside slots own.now []) lines.old e) }
 {
     let mut needs = judge_cells(alloc, own, lines)?;
@@ -86,7 +88,8 @@ fn judge_block<'a>(
     ensures block { IfOk result (λ leak. (slot : Slot)
         × IsBlock (words_of names.old.items) (words_of names.new.items) lines.old lines.new slot
         × IsLeak lines.old.number lines.new.number (slot_leaks slot) leak) }
-    ensures fault { IfErr result (λ e. (slots : List Slot) → words_of names.old.items ≡ map slot_name slots → Refuses (Between slots) lines.old e) }
+    ensures fault { IfErr result (λ e. (slots : List Slot) → words_of names.old.items ≡ map slot_name slots
+        → Refuses (Between slots) lines.old e) }
 {
     if let Some(word) = text_behind(b"refused ", lines) {
         take_name(names, word, lines)?;
@@ -101,7 +104,8 @@ fn judge_block<'a>(
 
 // The first line that leaks of the blocks, where the line `end` stands behind them.
 fn judge_blocks(alloc: Global, lines: &mut Lines) -> Result<Option<u32>, CertFault>
-    ensures read { IfOk result (λ leak. (slots : List Slot) × (leak ≡ first_from lines.old.number (flat_map slot_leaks slots)) ×
+    ensures read { IfOk result
+        (λ leak. (slots : List Slot) × (leak ≡ first_from lines.old.number (flat_map slot_leaks slots)) ×
         (goes (Between []) lines.old.lines ≡ goes (Over slots) lines.new.lines)) }
     ensures later { OnOk result (Later lines.old lines.new) }
     ensures fault { IfErr result (Refuses (Between []) lines.old) }
@@ -118,7 +122,8 @@ fn judge_blocks(alloc: Global, lines: &mut Lines) -> Result<Option<u32>, CertFau
 
 fn judge_all(alloc: Global, bytes: &[u8]) -> Result<Option<u32>, CertFault>
     requires { length bytes.now < 4294967295 }
-    ensures read { IfOk result (λ leak. (slots : List Slot) × (leak ≡ first_leak slots) × (goes Start (lines_of bytes.now) ≡ Read slots)) }
+    ensures read { IfOk result
+        (λ leak. (slots : List Slot) × (leak ≡ first_leak slots) × (goes Start (lines_of bytes.now) ≡ Read slots)) }
     ensures fault { IfErr result (Refuses Start (record { number = 1; lines = lines_of bytes.now })) }
 {
     let mut lines = Lines::new(bytes);
@@ -143,7 +148,8 @@ fn judge_all(alloc: Global, bytes: &[u8]) -> Result<Option<u32>, CertFault>
 pub fn judge(alloc: Global, bytes: &[u8]) -> Result<Option<u32>, CertFault>
     requires { length bytes.now < 4294967295 }
     // The bytes are the text of a certificate, and it is judged.
-    ensures judged { IfOk result (λ leak. (slots : List Slot) × IsCert slots × (cert_text slots ≡ bytes.now) × (leak ≡ first_leak slots)) }
+    ensures judged { IfOk result
+        (λ leak. (slots : List Slot) × IsCert slots × (cert_text slots ≡ bytes.now) × (leak ≡ first_leak slots)) }
     // The text of any certificate is judged, unless memory runs out.
     ensures back { (slots : List Slot) → IsCert slots → cert_text slots ≡ bytes.now →
         MatchResult result (λ leak. leak ≡ first_leak slots) (λ e. e ≡ fault.Memory) }

@@ -42,7 +42,9 @@ pub fn each_line_is_judged()
 
 /// Bytes are the text of one certificate of the stated shape at most, or are refused at one line.
 pub fn one_answer()
-    ensures one_cert { (slots others : List Slot) → IsCert slots → IsCert others → cert_text slots ≡ cert_text others → slots ≡ others }
+    ensures one_cert { (slots others : List Slot) → IsCert slots → IsCert others → cert_text slots ≡ cert_text others
+        → slots ≡ others }
     ensures one_line { (bytes : List ℕ) (line other : ℕ) → IsBadLine bytes line → IsBadLine bytes other → line ≡ other }
-    ensures no_cert { (bytes : List ℕ) (line : ℕ) (slots : List Slot) → IsBadLine bytes line → IsCert slots → ¬ (cert_text slots ≡ bytes) }
+    ensures no_cert { (bytes : List ℕ) (line : ℕ) (slots : List Slot) → IsBadLine bytes line → IsCert slots
+        → ¬ (cert_text slots ≡ bytes) }
 {}

@@ -86,7 +86,8 @@ fn push_row(number: usize, row: &CellRow, out: &mut Vec<u8>) -> Result<(), Memor
 }
 
 fn push_rows(rows: &[CellRow], out: &mut Vec<u8>) -> Result<(), Memory>
-    ensures ok { OnOk result (out.new.items ≡ out.old.items ++ flat_map line_text (cell_lines 0 (map row_of rows.now))) }
+    ensures ok { OnOk result (out.new.items
+        ≡ out.old.items ++ flat_map line_text (cell_lines 0 (map row_of rows.now))) }
     ensures err { OnErr result (Grows out.old.items out.new.items) }
 {
     'each: for (i, row) in rows.iter().enumerate() {

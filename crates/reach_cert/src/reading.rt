@@ -24,7 +24,8 @@ fn read_cells(
     lines: &mut Lines,
 ) -> Result<Vec<CellRow>, CertFault>
     ensures read { IfOk result (λ cells. (slots : List Slot) →
-        goes (Inside slots own.now []) lines.old.lines ≡ goes (Inside slots own.now (map row_of cells.items)) lines.new.lines) }
+        goes (Inside slots own.now []) lines.old.lines
+        ≡ goes (Inside slots own.now (map row_of cells.items)) lines.new.lines) }
     ensures none { IfOk result (λ cells. cell_text (length (map row_of cells.items)) lines.new.lines ≡ None) }
     ensures later { OnOk result (Later lines.old lines.new) }
     ensures fault { IfErr result (λ e. (slots : List Slot) → Refuses (Inside slots own.now []) lines.old e) }
@@ -47,10 +48,13 @@ fn read_held(
     others: &mut Vec<Text>,
     lines: &mut Lines,
 ) -> Result<Vec<Ref>, CertFault>
-    ensures read { IfOk result (λ held. (slots : List Slot) (name : List ℕ) (rows : List Row) → cell_text (length rows) lines.old.lines ≡ None →
-        goes (Inside slots name rows) lines.old.lines ≡ goes (Between (slots ++ Shown name rows held.items ∷ [])) lines.new.lines) }
+    ensures read { IfOk result (λ held. (slots : List Slot) (name : List ℕ) (rows : List Row)
+        → cell_text (length rows) lines.old.lines ≡ None →
+        goes (Inside slots name rows) lines.old.lines
+        ≡ goes (Between (slots ++ Shown name rows held.items ∷ [])) lines.new.lines) }
     ensures later { OnOk result (Fewer lines.old lines.new) }
-    ensures fault { IfErr result (λ e. (slots : List Slot) (name : List ℕ) (rows : List Row) → cell_text (length rows) lines.old.lines ≡ None →
+    ensures fault { IfErr result (λ e. (slots : List Slot) (name : List ℕ) (rows : List Row)
+        → cell_text (length rows) lines.old.lines ≡ None →
         Refuses (Inside slots name rows) lines.old e) }
 {
     let Some(text) = text_behind(b"held", lines) else {
@@ -80,8 +84,10 @@ fn read_block<'a>(
     lines: &mut Lines<'a>,
 ) -> Result<Block, CertFault>
     requires { text_is (codes "end") lines.old.lines ≡ false }
-    ensures block { IfOk result (λ block. IsBlock (words_of names.old.items) (words_of names.new.items) lines.old lines.new (slot_of block)) }
-    ensures fault { IfErr result (λ e. (slots : List Slot) → words_of names.old.items ≡ map slot_name slots → Refuses (Between slots) lines.old e) }
+    ensures block { IfOk result
+        (λ block. IsBlock (words_of names.old.items) (words_of names.new.items) lines.old lines.new (slot_of block)) }
+    ensures fault { IfErr result (λ e. (slots : List Slot) → words_of names.old.items ≡ map slot_name slots
+        → Refuses (Between slots) lines.old e) }
 {
     if let Some(word) = text_behind(b"refused ", lines) {
         take_name(names, word, lines)?;
@@ -96,7 +102,8 @@ fn read_block<'a>(
 
 // The blocks, and the line `end` behind them.
 fn read_blocks(alloc: Global, lines: &mut Lines) -> Result<Vec<Block>, CertFault>
-    ensures read { IfOk result (λ blocks. goes (Between []) lines.old.lines ≡ goes (Over (map slot_of blocks.items)) lines.new.lines) }
+    ensures read { IfOk result
+        (λ blocks. goes (Between []) lines.old.lines ≡ goes (Over (map slot_of blocks.items)) lines.new.lines) }
     ensures later { OnOk result (Later lines.old lines.new) }
     ensures fault { IfErr result (Refuses (Between []) lines.old) }
 {

@@ -3,7 +3,8 @@ ghost use Rattle.std.specs.Prelude.{ℕ, List, Option};
 ghost use Rattle.round_laws.specs.Fed.{Fed};
 ghost use Rattle.round_laws.specs.RoundLaws.{ChannelLaws, LifeLaws, RoundLaws};
 
-/// A round gives each last life the events of the posts to it, and takes each post once; so its own state is that of its
+/// A round gives each last life the events of the posts to it, and takes each post once; so its own state is
+/// that of its
 /// widget by itself on what it was given and these events.
 pub fn lives()
     ensures { (channels : List (ℕ × ℕ)) (names : List (List ℕ)) (fs : List (Option Fed)) → LifeLaws channels names fs }
@@ -18,5 +19,6 @@ pub fn rounds()
 /// which no path of channels leads to it.
 #[tactic(auto, using(crate::proofs::LawsHold::channel_laws))]
 pub fn channels()
-    ensures { (channels : List (ℕ × ℕ)) (names : List (List ℕ)) (fs : List (Option Fed)) → ChannelLaws channels names fs }
+    ensures { (channels : List (ℕ × ℕ)) (names : List (List ℕ)) (fs : List (Option Fed))
+        → ChannelLaws channels names fs }
 {}

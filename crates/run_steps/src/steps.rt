@@ -84,7 +84,8 @@ pub fn items_of<F: Files>(
 ) -> Result<Vec<TraceItem>, Stop>
     requires { length names.now < 2 ^ 32 }
     ensures step { Stepped F.told F.calm F.faults files.old files.new result
-        (λ m v. HasItems m names.now (option_copied trace.entry) v.items) (λ m. NoItems m names.now (option_copied trace.entry))
+        (λ m v. HasItems m names.now (option_copied trace.entry) v.items)
+        (λ m. NoItems m names.now (option_copied trace.entry))
         (λ m. IsTraceThere m (option_copied trace.entry)) }
     ensures items { IfOk result (λ v. AreItems (length names.now) (map said v.items)) }
 {
@@ -152,7 +153,8 @@ pub fn swaps_of<F: Files>(
 /// The bytes of a certificate.
 pub fn cert_in<F: Files>(alloc: Global, name: &str, files: &mut F) -> Result<Vec<u8>, Stop>
     ensures step { Stepped F.told F.calm F.faults files.old files.new result
-        (λ m v. HasBytes m cert_limit name.now v.items) (λ m. NoBytes m cert_limit name.now) (λ m. IsSome (m name.now)) }
+        (λ m v. HasBytes m cert_limit name.now v.items) (λ m. NoBytes m cert_limit name.now)
+        (λ m. IsSome (m name.now)) }
     ensures within { IfOk result (λ v. length v.items ≤ cert_limit) }
 {
     read_file(alloc, name, CERT_LIMIT, files)

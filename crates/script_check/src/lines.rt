@@ -87,7 +87,8 @@ fn accepted_line(alloc: Global, name: &str) -> Result<Report, Memory>
 // The line of a library that breaks a rule.
 fn refused_line(alloc: Global, name: &str, library: &[u8], breach: Breach) -> Result<Report, Memory>
     requires { length library.now < 2 ^ 31 }
-    ensures line { IfOk result (λ text. text.bytes.items ≡ lib_refused name.now (rules.A breach.rule) (place_at library.now breach.at)) }
+    ensures line { IfOk result
+        (λ text. text.bytes.items ≡ lib_refused name.now (rules.A breach.rule) (place_at library.now breach.at)) }
     ensures refused { IfOk result (λ text. text.refused ≡ true) }
 {
     let line = Line::LibRefused {

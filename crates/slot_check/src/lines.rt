@@ -27,7 +27,8 @@ pub fn slot_lines(
     requires paired { length names.now ≡ length files.now }
     requires small { All IsSmall files.now }
     requires small_libs { All IsSmall libs.now }
-    ensures { IfOk result (λ lines. AreSlotLines (slots_over (sources_of libs.now) names.now (sources_of files.now)) lines.refused lines.bytes.items) }
+    ensures { IfOk result (λ lines. AreSlotLines
+        (slots_over (sources_of libs.now) names.now (sources_of files.now)) lines.refused lines.bytes.items) }
 {
     let mut judged = Libraries::new(alloc, libs)?;
     let mut text = Report {
@@ -94,7 +95,8 @@ fn accepted_line(alloc: Global, name: &Text, file: &str) -> Result<Report, Memor
 
 // The line of a slot that breaks a rule.
 fn refused_line(alloc: Global, name: &Text, refusal: Refusal) -> Result<Report, Memory>
-    ensures line { IfOk result (λ text. text.bytes.items ≡ refused_life name.now None (string_bytes refusal.file) refusal.rule refusal.at) }
+    ensures line { IfOk result
+        (λ text. text.bytes.items ≡ refused_life name.now None (string_bytes refusal.file) refusal.rule refusal.at) }
     ensures refused { IfOk result (λ text. text.refused ≡ true) }
 {
     let line = Line::Refused {

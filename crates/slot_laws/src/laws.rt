@@ -14,7 +14,8 @@ pub fn picks()
 /// What a pick of a slot keeps of the others.
 #[tactic(auto, using(crate::proofs::LawsHold::slot_laws))]
 pub fn slots()
-    ensures { (homes : List ℕ) (born w k : ℕ) (r : Picked) (cs ds : List (List ℕ)) (old new : List Seen) (js ks : List PickEntry)
+    ensures { (homes : List ℕ) (born w k : ℕ) (r : Picked) (cs ds : List (List ℕ)) (old new : List Seen)
+        (js ks : List PickEntry)
         → SlotLaws homes born w k r cs ds old new js ks }
 {}
 
@@ -27,7 +28,8 @@ pub fn items()
 /// A life that is born waits behind those of its slot, and no other life changes.
 #[tactic(auto, using(crate::proofs::LawsHold::swap_laws))]
 pub fn swaps()
-    ensures { (homes : List ℕ) (born to : ℕ) (cs : List (List ℕ)) (ss : List Seen) (x : Seen) → SwapLaws homes born to cs ss x }
+    ensures { (homes : List ℕ) (born to : ℕ) (cs : List (List ℕ)) (ss : List Seen) (x : Seen)
+        → SwapLaws homes born to cs ss x }
 {}
 
 /// Picks of slots one after the other, with their asks, until no slot is ready.

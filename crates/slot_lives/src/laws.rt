@@ -20,7 +20,8 @@ pub fn lives<Runs>()
     ensures { (first : Runs) (others : List Runs) (w : ℕ) → LifeLaws first others w }
 {}
 
-/// Where a swap is left out of a trace, and what it brings out of what swaps bring, every other slot has the same lives.
+/// Where a swap is left out of a trace, and what it brings out of what swaps bring, every other slot has the
+/// same lives.
 pub fn other_slots<Runs>()
     ensures { (first x : Runs) (before after : List Runs) (front back : List Said) (i : Said) (w : ℕ) →
         is_swap i ≡ true → swaps w i ≡ false → length before ≡ swaps_in front →
@@ -34,7 +35,8 @@ pub fn delivered()
 
 /// A page comes to one outcome, and has one report.
 pub fn one_outcome()
-    ensures line { (life : Life SlotRun) (end : Option OwnState) (a b : List ℕ) → IsLine life end a → IsLine life end b →
+    ensures line { (life : Life SlotRun) (end : Option OwnState) (a b : List ℕ) → IsLine life end a
+        → IsLine life end b →
         a ≡ b }
     ensures last { (channels : List (ℕ × ℕ)) (lasts : List (Life SlotRun)) (e f : List (Option OwnState)) →
         ComeTo channels lasts e → ComeTo channels lasts f → e ≡ f }

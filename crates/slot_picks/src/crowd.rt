@@ -94,8 +94,11 @@ fn pick_lent(
     requires widget { place.old.life.widget.number < 32 }
     requires slice { 0 < k }
     requires fine { FineLife (lent shared.old place.old) place.old.life.widget.number place.old.life }
-    ensures picked { IfOk result (λ r. PicksLife (lent shared.old place.old) (lent shared.new place.new) place.old.life.widget.number k r place.old.life place.new.life) }
-    ensures kept { KeepsLife place.old.life.widget.number (lent shared.old place.old) (lent shared.new place.new) place.old.life place.new.life }
+    ensures picked { IfOk result
+        (λ r. PicksLife (lent shared.old place.old)
+        (lent shared.new place.new) place.old.life.widget.number k r place.old.life place.new.life) }
+    ensures kept { KeepsLife place.old.life.widget.number (lent shared.old place.old)
+        (lent shared.new place.new) place.old.life place.new.life }
     ensures none { OnErr result (place.new.life.turn ≡ None) }
     ensures rest { shared.new.codes ≡ shared.old.codes }
     ensures root { place.new.root ≡ place.old.root }
@@ -131,7 +134,8 @@ pub(crate) fn pick_kept(alloc: Global, crowd: &mut Crowd, v: u32, k: u32) -> Res
     requires there { v < length crowd.old.places.items }
     requires slice { 0 < k }
     requires fine { FineCrowd crowd.old }
-    ensures kept { IfOk result (λ r. Kept v k r (seens_of crowd.old) (seens_of crowd.new) crowd.old.journal.items crowd.new.journal.items) }
+    ensures kept { IfOk result
+        (λ r. Kept v k r (seens_of crowd.old) (seens_of crowd.new) crowd.old.journal.items crowd.new.journal.items) }
     ensures fine { OnOk result (FineCrowd crowd.new) }
     ensures few { OnOk result ((n : ℕ) → FewCrowd n crowd.old → FewCrowd n crowd.new) }
     ensures others { (u : ℕ) → u ≢ v → slice_get (seens_of crowd.new) u ≡ slice_get (seens_of crowd.old) u }

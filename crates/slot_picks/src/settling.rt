@@ -30,9 +30,13 @@ fn pick_ready(
     requires standing { AreStanding crowd.old slots.old.items }
     requires list { ready.old.items ≡ ready_from 0 (slot_flags (seens_of crowd.old) (chains_of slots.old.items)) }
     requires ready { (at : ℕ) × (slice_get ready.old.items at ≡ Some w) }
-    ensures picked { IfOk result (λ r. PickedIn w k r (chains_of slots.old.items) (chains_of slots.new.items) (seens_of crowd.old) (seens_of crowd.new) crowd.old.journal.items crowd.new.journal.items) }
-    ensures list { OnOk result (ready.new.items ≡ ready_from 0 (slot_flags (seens_of crowd.new) (chains_of slots.new.items))) }
-    ensures housed { OnOk result ((born : ℕ) → AreHoused born crowd.old slots.old.items → AreHoused born crowd.new slots.new.items) }
+    ensures picked { IfOk result
+        (λ r. PickedIn w k r (chains_of slots.old.items) (chains_of slots.new.items) (seens_of crowd.old)
+        (seens_of crowd.new) crowd.old.journal.items crowd.new.journal.items) }
+    ensures list { OnOk result (ready.new.items
+        ≡ ready_from 0 (slot_flags (seens_of crowd.new) (chains_of slots.new.items))) }
+    ensures housed { OnOk result ((born : ℕ) → AreHoused born crowd.old slots.old.items
+        → AreHoused born crowd.new slots.new.items) }
     ensures few { OnOk result ((n : ℕ) → FewCrowd n crowd.old → FewCrowd n crowd.new) }
     ensures stops { OnErr result (PicksUntil k crowd.old slots.old false crowd.new slots.new) }
     ensures stays { KeepsSlots crowd.old crowd.new slots.old.items slots.new.items }
@@ -58,12 +62,16 @@ pub fn settle_slots<C: Chooser>(
     requires slice { 0 < slice }
     requires housed { (born : ℕ) × AreHoused born crowd.old slots.old.items }
     requires standing { AreStanding crowd.old slots.old.items }
-    ensures settled { OnOk result (SettledSlots slice (homes_of crowd.old.places.items) (chains_of slots.old.items) (chains_of slots.new.items) (seens_of crowd.old) (seens_of crowd.new) crowd.old.journal.items crowd.new.journal.items (C.asks chooser.old) (C.room chooser.old) (C.asks chooser.new) (C.room chooser.new)) }
+    ensures settled { OnOk result
+        (SettledSlots slice (homes_of crowd.old.places.items) (chains_of slots.old.items) (chains_of slots.new.items)
+        (seens_of crowd.old) (seens_of crowd.new) crowd.old.journal.items crowd.new.journal.items
+        (C.asks chooser.old) (C.room chooser.old) (C.asks chooser.new) (C.room chooser.new)) }
     ensures passes { PicksUntil slice crowd.old slots.old (is_ok result) crowd.new slots.new }
     ensures done { OnOk result (map image (seens_of crowd.new) ≡ map due (seens_of crowd.old)) }
     ensures quiet { OnOk result (ready_from 0 (slot_flags (seens_of crowd.new) (chains_of slots.new.items)) ≡ []) }
     ensures lasts { OnOk result (chains_of slots.new.items ≡ map (λ c. last_life c ∷ []) (chains_of slots.old.items)) }
-    ensures housed { OnOk result ((born : ℕ) → AreHoused born crowd.old slots.old.items → AreHoused born crowd.new slots.new.items) }
+    ensures housed { OnOk result ((born : ℕ) → AreHoused born crowd.old slots.old.items
+        → AreHoused born crowd.new slots.new.items) }
     ensures few { OnOk result ((n : ℕ) → FewCrowd n crowd.old → FewCrowd n crowd.new) }
     ensures stays { KeepsSlots crowd.old crowd.new slots.old.items slots.new.items }
 {

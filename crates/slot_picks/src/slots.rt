@@ -81,8 +81,11 @@ pub fn pick_slot(
     requires slice { 0 < k }
     requires housed { (born : ℕ) × AreHoused born crowd.old slots.old.items }
     requires standing { AreStanding crowd.old slots.old.items }
-    ensures picked { IfOk result (λ r. PickedIn w k r (chains_of slots.old.items) (chains_of slots.new.items) (seens_of crowd.old) (seens_of crowd.new) crowd.old.journal.items crowd.new.journal.items) }
-    ensures housed { OnOk result ((born : ℕ) → AreHoused born crowd.old slots.old.items → AreHoused born crowd.new slots.new.items) }
+    ensures picked { IfOk result
+        (λ r. PickedIn w k r (chains_of slots.old.items) (chains_of slots.new.items) (seens_of crowd.old)
+        (seens_of crowd.new) crowd.old.journal.items crowd.new.journal.items) }
+    ensures housed { OnOk result ((born : ℕ) → AreHoused born crowd.old slots.old.items
+        → AreHoused born crowd.new slots.new.items) }
     ensures few { OnOk result ((n : ℕ) → FewCrowd n crowd.old → FewCrowd n crowd.new) }
     ensures beside { KeepsBeside w crowd.old crowd.new slots.old.items slots.new.items }
     ensures still { OnErr result (crowd.new.journal.items ≡ crowd.old.journal.items) }

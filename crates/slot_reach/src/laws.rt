@@ -9,5 +9,6 @@ ghost use Rattle.widget_meaning.specs.OwnState.{OwnState};
 /// A law: where the last lives of slots show these own states, they are what a certificate is told by, each under its
 /// slot's name.
 pub fn lasts_are_told()
-    ensures { (c : Crowd) (ss : List Slot) (ends : List (Option OwnState)) → AreLast c ss ends → states c ss ≡ zip (names_of ss) ends }
+    ensures { (c : Crowd) (ss : List Slot) (ends : List (Option OwnState)) → AreLast c ss ends
+        → states c ss ≡ zip (names_of ss) ends }
 {}

@@ -86,15 +86,20 @@ fn count(crowd: &Crowd) -> Result<u32, Memory>
 
 /// The certificate of reach of all slots, read off the store, the page and what lives hold beside them: each slot
 /// with its last life. Each reference is told by the cell to which it leads, whoever that belongs to. Where each life
-/// holds its own, this is the certificate of the own states of these lives, and it is confined. Of at most 16 slots it has
+/// holds its own, this is the certificate of the own states of these lives, and it is confined. Of at most 16
+/// slots it has
 /// few lines; and it is of the stated shape where the slots have names of slots, so that its text is read as it.
 pub fn reach(alloc: Global, crowd: &Crowd, slots: &[Slot]) -> Result<Cert, Memory>
     ensures read { IfOk result (λ cert. plain cert ≡ reached crowd.now slots.now) }
-    ensures states { IfOk result (λ cert. OwnCrowd crowd.now → AreStanding crowd.now slots.now → plain cert ≡ cert_of_states (states crowd.now slots.now)) }
-    ensures confined { IfOk result (λ cert. OwnCrowd crowd.now → AreStanding crowd.now slots.now → IsConfined (plain cert)) }
+    ensures states { IfOk result (λ cert. OwnCrowd crowd.now → AreStanding crowd.now slots.now
+        → plain cert ≡ cert_of_states (states crowd.now slots.now)) }
+    ensures confined { IfOk result (λ cert. OwnCrowd crowd.now → AreStanding crowd.now slots.now
+        → IsConfined (plain cert)) }
     ensures names { IfOk result (λ cert. map slot_name (plain cert) ≡ names_of slots.now) }
-    ensures few { IfOk result (λ cert. AreStanding crowd.now slots.now → AreFew crowd.now slots.now → length (cert_lines (plain cert)) < 4294967295) }
-    ensures shape { IfOk result (λ cert. OwnCrowd crowd.now → AreStanding crowd.now slots.now → AreFew crowd.now slots.now → AreNames (names_of slots.now) → IsCert (plain cert)) }
+    ensures few { IfOk result (λ cert. AreStanding crowd.now slots.now → AreFew crowd.now slots.now
+        → length (cert_lines (plain cert)) < 4294967295) }
+    ensures shape { IfOk result (λ cert. OwnCrowd crowd.now → AreStanding crowd.now slots.now
+        → AreFew crowd.now slots.now → AreNames (names_of slots.now) → IsCert (plain cert)) }
 {
     names_all_differ(&crowd.shared.store)?;
     states_are_read(&crowd.shared.store);

@@ -30,17 +30,25 @@ pub fn deliver_posts(
     slots: &[Slot],
     channels: &[(u32, u32)],
 ) -> Result<bool, Memory>
-    requires born { (born : ℕ) × (born ≤ length places.old.items) × Chains (homes_of places.old.items) born 0 (chains_of slots.now) }
+    requires born { (born : ℕ) × (born ≤ length places.old.items)
+        × Chains (homes_of places.old.items) born 0 (chains_of slots.now) }
     requires few { length slots.now ≤ 16 }
     requires apart { IsDistinct bytes_eq (map (λ (s : SlotOf). s.name) slots.now) }
     requires told { (v n : ℕ) → slice_get (told_of places.old.items) v ≡ Some n → n ≤ max_posts }
-    ensures round { IfOk result (λ delivered. IsRound delivered channels.now (map (λ (s : SlotOf). s.name) slots.now) (chains_of slots.now) places.old.items places.new.items) }
-    ensures given { IfOk result (λ delivered. GivesRound delivered channels.now (map (λ (s : SlotOf). s.name) slots.now) (chains_of slots.now) places.old.items places.new.items) }
+    ensures round { IfOk result
+        (λ delivered. IsRound delivered channels.now (map
+        (λ (s : SlotOf). s.name) slots.now) (chains_of slots.now) places.old.items places.new.items) }
+    ensures given { IfOk result
+        (λ delivered. GivesRound delivered channels.now (map
+        (λ (s : SlotOf). s.name) slots.now) (chains_of slots.now) places.old.items places.new.items) }
     ensures kept { OnOk result ((v n : ℕ) → slice_get (told_of places.new.items) v ≡ Some n → n ≤ max_posts) }
-    ensures more { IfOk result (λ delivered. delivered ≡ true → sum_of (told_of places.old.items) < sum_of (told_of places.new.items)) }
+    ensures more { IfOk result (λ delivered. delivered ≡ true
+        → sum_of (told_of places.old.items) < sum_of (told_of places.new.items)) }
     ensures alike { AreAlike places.old.items places.new.items }
-    ensures images { (h : Shared) → map image (seens_from h 0 places.new.items) ≡ map image (seens_from h 0 places.old.items) }
-    ensures others { (v : ℕ) → is_last v (chains_of slots.now) ≡ false → slice_get places.new.items v ≡ slice_get places.old.items v }
+    ensures images { (h : Shared)
+        → map image (seens_from h 0 places.new.items) ≡ map image (seens_from h 0 places.old.items) }
+    ensures others { (v : ℕ) → is_last v (chains_of slots.now) ≡ false
+        → slice_get places.new.items v ≡ slice_get places.old.items v }
 {
     let fresh = all_fresh(alloc, places, slots)?;
     let names = all_names(alloc, slots)?;

@@ -42,7 +42,8 @@ fn give_place(
 ) -> Result<(), Memory>
     requires kind { kind.now ≡ codes "post" }
     requires room { place.old.told + taken < 2 ^ 32 }
-    ensures given { OnOk result (HasRound (if place.old.life.accepted then values events.now else []) taken place.old place.new) }
+    ensures given { OnOk result
+        (HasRound (if place.old.life.accepted then values events.now else []) taken place.old place.new) }
     ensures alike { IsAlike place.old place.new }
 {
     place.told += taken;
@@ -73,9 +74,11 @@ fn give_slot(
     requires some { 0 < length slot.now }
     requires there { last_life slot.now < length places.old.items }
     requires room { (p : PlaceOf) → slice_get places.old.items (last_life slot.now) ≡ Some p → p.told + taken < 2 ^ 32 }
-    ensures given { OnOk result (HaveRound (λ u. if nat_eq (last_life slot.now) u then values events.now else []) (λ u. if nat_eq (last_life slot.now) u then taken else 0) 0 places.old.items places.new.items) }
+    ensures given { OnOk result (HaveRound (λ u. if nat_eq (last_life slot.now) u then values events.now else [])
+        (λ u. if nat_eq (last_life slot.now) u then taken else 0) 0 places.old.items places.new.items) }
     ensures alike { AreAlike places.old.items places.new.items }
-    ensures others { (v : ℕ) → nat_eq (last_life slot.now) v ≡ false → slice_get places.new.items v ≡ slice_get places.old.items v }
+    ensures others { (v : ℕ) → nat_eq (last_life slot.now) v ≡ false
+        → slice_get places.new.items v ≡ slice_get places.old.items v }
 {
     let v = last_of(slot);
     give_place(alloc, &mut places[v as usize], kind, events, taken)
@@ -91,13 +94,19 @@ pub(crate) fn give_slots(
     fresh: &[Vec<Post>],
 ) -> Result<(), Memory>
     requires kind { kind.now ≡ codes "post" }
-    requires born { (born : ℕ) × (born ≤ length places.old.items) × Chains (homes_of places.old.items) born 0 (chains_of slots.now) }
+    requires born { (born : ℕ) × (born ≤ length places.old.items)
+        × Chains (homes_of places.old.items) born 0 (chains_of slots.now) }
     requires events { length events.now ≡ length slots.now }
     requires fresh { length fresh.now ≡ length slots.now }
-    requires room { (v n : ℕ) → slice_get (told_of places.old.items) v ≡ Some n → n + sum_of (map (λ x. length x.items) fresh.now) < 2 ^ 32 }
-    ensures given { OnOk result (HaveRound (events_for (chains_of slots.now) (map (λ x. values x.items) events.now)) (counts_for (chains_of slots.now) (map (λ x. length x.items) fresh.now)) 0 places.old.items places.new.items) }
+    requires room { (v n : ℕ) → slice_get (told_of places.old.items) v ≡ Some n
+        → n + sum_of (map (λ x. length x.items) fresh.now) < 2 ^ 32 }
+    ensures given { OnOk result
+        (HaveRound (events_for (chains_of slots.now) (map (λ x. values x.items) events.now))
+        (counts_for (chains_of slots.now) (map
+        (λ x. length x.items) fresh.now)) 0 places.old.items places.new.items) }
     ensures alike { AreAlike places.old.items places.new.items }
-    ensures others { (v : ℕ) → is_last v (chains_of slots.now) ≡ false → slice_get places.new.items v ≡ slice_get places.old.items v }
+    ensures others { (v : ℕ) → is_last v (chains_of slots.now) ≡ false
+        → slice_get places.new.items v ≡ slice_get places.old.items v }
 {
     'slots: for w in 0..slots.len() {
         let taken = fresh[w].len() as u32;

@@ -90,7 +90,8 @@ pub(crate) fn all_fresh(
     places: &[Place],
     slots: &[Slot],
 ) -> Result<Vec<Vec<Post>>, Memory>
-    requires born { (born : ℕ) × (born ≤ length places.now) × Chains (homes_of places.now) born 0 (chains_of slots.now) }
+    requires born { (born : ℕ) × (born ≤ length places.now)
+        × Chains (homes_of places.now) born 0 (chains_of slots.now) }
     ensures { IfOk result (λ v. map (λ x. x.items) v.items ≡ fresh_of_lasts places.now (chains_of slots.now)) }
 {
     let mut all = Vec::new(alloc);
@@ -125,10 +126,13 @@ fn is_told(places: &[Place], slot: &[u32], events: &[PostEvent]) -> bool
 
 // No last life that was accepted has an event.
 pub(crate) fn is_quiet(places: &[Place], slots: &[Slot], events: &[Vec<PostEvent>]) -> bool
-    requires born { (born : ℕ) × (born ≤ length places.now) × Chains (homes_of places.now) born 0 (chains_of slots.now) }
+    requires born { (born : ℕ) × (born ≤ length places.now)
+        × Chains (homes_of places.now) born 0 (chains_of slots.now) }
     requires events { length events.now ≡ length slots.now }
-    ensures quiet { result ≡ true → AreStill (is_accepted places.now) (chains_of slots.now) (map (λ x. values x.items) events.now) }
-    ensures loud { result ≡ false → AreStill (is_accepted places.now) (chains_of slots.now) (map (λ x. values x.items) events.now) → ⊥ }
+    ensures quiet { result ≡ true
+        → AreStill (is_accepted places.now) (chains_of slots.now) (map (λ x. values x.items) events.now) }
+    ensures loud { result ≡ false
+        → AreStill (is_accepted places.now) (chains_of slots.now) (map (λ x. values x.items) events.now) → ⊥ }
 {
     'slots: for w in 0..slots.len() {
         if is_told(places, &slots[w].lives, &events[w]) {

@@ -28,8 +28,10 @@ pub fn names_all_differ(store: &Store) -> Result<(), Memory>
 
 /// A law: what is read of a widget that is confined to its own, and holds its own, is the block of its own state.
 pub fn states_are_read(store: &Store)
-    ensures { (names : List (Option (List ℕ))) (name : List ℕ) (fs : List Forest) (x : Outside) (w : ℕ) (p : PageOf) (l : LoopOf) (b : Option Bool)
-        → AllDiffer store.now.cells → slice_index_or names w None ≡ Some name → IsConfined fs w store.now → HoldsOwn w store.now p l
+    ensures { (names : List (Option (List ℕ))) (name : List ℕ) (fs : List Forest) (x : Outside) (w : ℕ) (p : PageOf)
+        (l : LoopOf) (b : Option Bool)
+        → AllDiffer store.now.cells → slice_index_or names w None ≡ Some name → IsConfined fs w store.now
+        → HoldsOwn w store.now p l
         → read_slot names store.now.cells name w p l ≡ state_slot name (image fs x w (beside store.now p l b)).own }
 {
     store.permitted_leads_on();

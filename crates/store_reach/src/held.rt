@@ -55,7 +55,8 @@ fn push_if_scope(
 ) -> Result<(), Memory>
     requires { cell < length store.now.cells }
     ensures { OnOk result (IfSome (slice_get store.now.cells cell) (λ c.
-        out.new.items ≡ out.old.items ++ (if is_own_scope w c then pair_refs names.now store.now.cells c.pairs else []))) }
+        out.new.items ≡ out.old.items ++
+        (if is_own_scope w c then pair_refs names.now store.now.cells c.pairs else []))) }
 {
     if is_scope(store, w, cell) {
         push_scope(store, names, cell, out)?;
@@ -85,7 +86,8 @@ fn push_listeners(
     handlers: &[(Text, u32)],
     out: &mut Vec<Ref>,
 ) -> Result<(), Memory>
-    ensures { OnOk result (out.new.items ≡ out.old.items ++ map (λ h. ref_at names.now store.now.cells h.1) handlers.now) }
+    ensures { OnOk result (out.new.items
+        ≡ out.old.items ++ map (λ h. ref_at names.now store.now.cells h.1) handlers.now) }
 {
     'each: for handler in handlers {
         out.push(reference(store, names, handler.1)?)?;
@@ -104,7 +106,9 @@ fn push_at_node(
     out: &mut Vec<Ref>,
 ) -> Result<(), Memory>
     requires { node < length (nodes page.now) }
-    ensures { OnOk result (out.new.items ≡ out.old.items ++ (if is_own (nodes page.now) w node then handler_refs names.now store.now.cells around.now (node ∷ []) else [])) }
+    ensures { OnOk result (out.new.items
+        ≡ out.old.items ++ (if is_own (nodes page.now) w node then handler_refs names.now store.now.cells around.now
+        (node ∷ []) else [])) }
 {
     if same_owner(page.owner(node), Owner::Widget(w)) {
         push_listeners(store, names, around.handlers(node), out)?;
@@ -121,7 +125,8 @@ fn push_handlers(
     around: &Loop,
     out: &mut Vec<Ref>,
 ) -> Result<(), Memory>
-    ensures { OnOk result (out.new.items ≡ out.old.items ++ handler_refs names.now store.now.cells around.now (own page.now w)) }
+    ensures { OnOk result (out.new.items
+        ≡ out.old.items ++ handler_refs names.now store.now.cells around.now (own page.now w)) }
 {
     'nodes: for node in 0..count_nodes(page) {
         push_at_node(store, names, w, page, around, node, out)?;

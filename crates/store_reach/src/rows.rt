@@ -52,7 +52,8 @@ fn push_all_named(
     out: &mut Vec<Ref>,
 ) -> Result<(), Memory>
     requires { cell < length store.now.cells }
-    ensures { OnOk result (out.new.items ≡ out.old.items ++ flat_map (named_refs names.now store.now.cells cell) keys.now) }
+    ensures { OnOk result (out.new.items
+        ≡ out.old.items ++ flat_map (named_refs names.now store.now.cells cell) keys.now) }
 {
     'keys: for name in keys {
         push_named(store, names, cell, name, out)?;
@@ -156,7 +157,8 @@ fn push_row(
 ) -> Result<(), Memory>
     requires { cell < length store.now.cells }
     ensures { OnOk result (IfSome (slice_get store.now.cells cell) (λ c.
-        map row_of rows.new.items ≡ map row_of rows.old.items ++ (if is_visible w c then cell_row names.now store.now.cells c ∷ [] else []))) }
+        map row_of rows.new.items
+        ≡ map row_of rows.old.items ++ (if is_visible w c then cell_row names.now store.now.cells c ∷ [] else []))) }
 {
     if is_visible(store, w, cell) {
         rows.push(read_row(alloc, store, names, cell)?)?;

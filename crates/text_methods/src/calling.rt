@@ -41,7 +41,8 @@ pub fn call(
     requires receiver { IsReceiver (number_in owner) store.old.cells this.now }
     requires args { AreFine (number_in owner) store.old.cells args.now }
     ensures native { IfOk result (λ o. Meets (number_in owner) store.old store.new meter.old meter.new
-        (run_native which (receiver (number_in owner) store.old.cells this.now) (all_seen (number_in owner) store.old.cells args.now)) o) }
+        (run_native which (receiver (number_in owner) store.old.cells this.now)
+        (all_seen (number_in owner) store.old.cells args.now)) o) }
     ensures memory { OnErr result ((fs : List Forest) → Kept fs (number_in owner) store.old store.new) }
 {
     match owner {
@@ -89,7 +90,8 @@ fn text_native(
 ) -> Result<NativeOut, Memory>
     requires widget { w < 32 }
     ensures native { IfOk result (λ o. Meets w store.old store.new meter.old meter.new
-        (λ d s. on_text (receiver w store.old.cells this.now) s (λ t. text_plan which t (all_seen w store.old.cells args.now) d s)) o) }
+        (λ d s. on_text (receiver w store.old.cells this.now) s
+        (λ t. text_plan which t (all_seen w store.old.cells args.now) d s)) o) }
     ensures memory { OnErr result ((fs : List Forest) → Kept fs w store.old store.new) }
 {
     match this {

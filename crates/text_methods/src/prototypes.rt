@@ -35,7 +35,8 @@ pub(crate) fn prototype_native(
     requires widget { w < 32 }
     requires receiver { IsReceiver w store.old.cells this.now }
     ensures native { IfOk result (λ o. Meets w store.old store.new meter.old meter.new
-        (means.prototype_native (meant_prototype which) (receiver w store.old.cells this.now) (all_seen w store.old.cells args.now)) o) }
+        (means.prototype_native (meant_prototype which) (receiver w store.old.cells this.now)
+        (all_seen w store.old.cells args.now)) o) }
     ensures memory { OnErr result ((fs : List Forest) → Kept fs w store.old store.new) }
 {
     let absent = Value::Undefined;
@@ -58,7 +59,8 @@ fn object_to_string(
 ) -> Result<NativeOut, Memory>
     requires widget { w < 32 }
     ensures native { IfOk result (λ o. Ends w store.old store.new
-        (λ d s. on_object (receiver w store.old.cells this.now) s (λ v. means.give_made (codes "[object Object]") s)) o) }
+        (λ d s. on_object (receiver w store.old.cells this.now) s
+        (λ v. means.give_made (codes "[object Object]") s)) o) }
     ensures memory { OnErr result ((fs : List Forest) → Kept fs w store.old store.new) }
 {
     if is_plain_call(this) || !is_object(this) {

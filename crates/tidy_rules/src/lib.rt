@@ -32,5 +32,6 @@ pub fn rules_ignore_places()
 /// does: its program is the same, apart from places, and tidied once more it stays as it is.
 pub fn tidied_breaks_no_rule()
     ensures clean { (bytes : List ℕ) (scope : Scope) (p : Stmts) → IsScript bytes scope p → StaysClean scope p }
-    ensures no_rule { (bytes : List ℕ) (scope : Scope) (p : Stmts) (rule at : ℕ) → IsScript bytes scope p → ScriptFirst (tidy p) scope rule at → ⊥ }
+    ensures no_rule { (bytes : List ℕ) (scope : Scope) (p : Stmts) (rule at : ℕ) → IsScript bytes scope p
+        → ScriptFirst (tidy p) scope rule at → ⊥ }
 {}

@@ -23,7 +23,8 @@ ghost use Rattle.tidy_slots.specs.Tidied.{AreTidied, slot_over, run_over, life_o
 pub fn tidied_slots()
     ensures accepted { (slot : Slot) (libs : List Source) → AreTidied slot.libs libs →
         IsCleanSlot slot ↔ IsCleanSlot (slot_over libs slot) }
-    ensures refused { (slot : Slot) (libs : List Source) (rule : Rule) (file : Source) (at : ℕ) → AreTidied slot.libs libs →
+    ensures refused { (slot : Slot) (libs : List Source) (rule : Rule) (file : Source) (at : ℕ)
+        → AreTidied slot.libs libs →
         SlotFirst slot rule file at ↔ SlotFirst (slot_over libs slot) rule file at }
     ensures widget { (slot : Slot) (libs : List Source) (x y : Content) → AreTidied slot.libs libs → HasWidget slot x →
         HasWidget (slot_over libs slot) y → bare_content x ≡ bare_content y }
@@ -31,7 +32,8 @@ pub fn tidied_slots()
 
 /// A slot's line and its subtree are then the same, whatever it is given.
 pub fn tidied_lives()
-    ensures line { (life : Life SlotRun) (libs : List Source) (items : List Item) (e f : Option OwnState) (a b : List ℕ) →
+    ensures line { (life : Life SlotRun) (libs : List Source) (items : List Item) (e f : Option OwnState)
+        (a b : List ℕ) →
         AreTidied life.runs.slot.libs libs → IsEnd life.runs items e → IsEnd (run_over libs life.runs) items f →
         IsLine life e a → IsLine (life_over libs life) f b → a ≡ b }
     ensures subtree { (run : SlotRun) (libs : List Source) (items : List Item) (e f : Option OwnState) →

@@ -138,7 +138,8 @@ fn read_event(alloc: Global, item: &Value, names: &[Text]) -> Result<(u32, Happe
     Ok((to as u32, Happening { kind, path, value }))
 }
 
-/// Reads one item of a trace of a version, 1 or 2, for slots of these names (docs/TRACES.md, "The trace"). `Shape` comes
+/// Reads one item of a trace of a version, 1 or 2, for slots of these names (docs/TRACES.md, "The trace").
+/// `Shape` comes
 /// exactly where the value is no item of this version.
 pub fn read_item(
     alloc: Global,

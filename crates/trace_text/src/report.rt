@@ -160,8 +160,10 @@ fn push_notes<'a>(log: &'a [Text], uncaught: &'a [Text], out: &mut Vec<u8>) -> R
 }
 
 fn push_ran_end(run: &RunText, out: &mut Vec<u8>) -> Result<(), Memory>
-    ensures ok { OnOk result (out.new.items ≡ out.old.items ++ (run_notes run.now.log.items run.now.uncaught.items ++ line_end)) }
-    ensures part { AppendsPart out.old.items out.new.items (run_notes run.now.log.items run.now.uncaught.items ++ line_end) }
+    ensures ok { OnOk result (out.new.items
+        ≡ out.old.items ++ (run_notes run.now.log.items run.now.uncaught.items ++ line_end)) }
+    ensures part { AppendsPart out.old.items out.new.items
+        (run_notes run.now.log.items run.now.uncaught.items ++ line_end) }
 {
     push_notes(&run.log, &run.uncaught, out)?;
     push_end(out)

@@ -40,7 +40,8 @@ pub(crate) fn refusal(store: &Store, w: u32) -> Option<StopCause>
         → costs.pay event_cost (store_image fs r w store.now) k ≡ Halt (meant_cause c) (store_image fs r w store.now)) }
     ensures fits { result ≡ None → (fs : List Forest) (r : Rest) (k : State → Plan)
         → costs.pay event_cost (store_image fs r w store.now) k
-        ≡ k (with_counts (store_image fs r w store.now) (costs.sum (store_image fs r w store.now).own.counts event_cost)) }
+        ≡ k (with_counts (store_image fs r w store.now)
+        (costs.sum (store_image fs r w store.now).own.counts event_cost)) }
 {
     let paid = store.counts(Owner::Widget(w));
     if EVENT_CELLS > CELL_LIMIT - paid.cells {
@@ -110,7 +111,8 @@ fn make_object(
     requires widget { w < 32 }
     requires value { IsFine w store.old.cells dispatch.now.value }
     ensures born { IfOk result (λ e. (p : PageTree) → Changes w store.old store.new p
-        (born (plain_object (pairs_with dispatch.now.kind Nothing Nothing (seen w store.old.cells dispatch.now.value))) (object_cost 5))) }
+        (born (plain_object (pairs_with dispatch.now.kind Nothing Nothing
+        (seen w store.old.cells dispatch.now.value))) (object_cost 5))) }
     ensures next { IfOk result (λ e. (p : PageTree) → IsNext w store.old store.new p e) }
     ensures held { IfOk result (λ e. IsHeld w store.new.cells e) }
     ensures kept { (fs : List Forest) → Kept fs w store.old store.new }
@@ -133,7 +135,9 @@ fn make_bunch_of(
     requires widget { w < 32 }
     requires sound { (l : Loop) × IsSound w store.old page.now l }
     requires own { owns page.now w node ≡ true }
-    ensures born { IfOk result (λ e. Changes w store.old store.new page.now (born (new_bunch (number page.now w node ∷ [])) (object_cost 2))) }
+    ensures born { IfOk result
+        (λ e. Changes w store.old store.new page.now
+        (born (new_bunch (number page.now w node ∷ [])) (object_cost 2))) }
     ensures next { IfOk result (λ e. IsNext w store.old store.new page.now e) }
     ensures held { IfOk result (λ e. IsHeld w store.new.cells e) }
     ensures sound { (l : Loop) → IsSound w store.old page.now l → IsSound w store.new page.now l }
@@ -149,10 +153,12 @@ fn fill(store: &mut Store, w: u32, event: CellId, name: &Text, bunch: CellId) ->
     requires widget { w < 32 }
     requires event { IsHeld w store.old.cells event }
     requires bunch { IsHeld w store.old.cells bunch }
-    ensures filled { OnOk result ((p : PageTree) (fs : List Forest) (x : Outside) (l : Loop) (b : Option Bool) (n : ℕ) (ps : Pairs)
+    ensures filled { OnOk result
+        ((p : PageTree) (fs : List Forest) (x : Outside) (l : Loop) (b : Option Bool) (n : ℕ) (ps : Pairs)
         → IsSound w store.old p l → seen w store.old.cells (value.Ref event) ≡ Own n
         → cell_at (image fs x w (beside store.old p l b)) n ≡ plain_object ps → is_some (lookup ps name.now) ≡ true
-        → with_cell (image fs x w (beside store.old p l b)) n (plain_object (replaced ps name.now (seen w store.old.cells (value.Ref bunch))))
+        → with_cell (image fs x w (beside store.old p l b)) n
+        (plain_object (replaced ps name.now (seen w store.old.cells (value.Ref bunch))))
         ≡ image fs x w (beside store.new p l b)) }
     ensures kept { (fs : List Forest) → Kept fs w store.old store.new }
 {
@@ -173,7 +179,8 @@ pub(crate) fn make_event(
     requires dispatch { FineDispatch w store.old.cells page.now dispatch.now }
     requires own { owns page.now w node ≡ true }
     ensures born { IfOk result (λ e. Changes w store.old store.new page.now
-        (λ s. with_event (with_counts s (costs.sum s.own.counts event_cost)) dispatch.now.kind (number page.now w dispatch.now.target) (number page.now w node)
+        (λ s. with_event (with_counts s (costs.sum s.own.counts event_cost)) dispatch.now.kind
+        (number page.now w dispatch.now.target) (number page.now w node)
         (seen w store.old.cells dispatch.now.value))) }
     ensures next { IfOk result (λ e. IsNext w store.old store.new page.now e) }
     ensures held { IfOk result (λ e. IsHeld w store.new.cells e) }

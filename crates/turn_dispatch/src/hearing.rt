@@ -41,9 +41,12 @@ fn announce(
     requires some { 0 < length at.1.items }
     requires paid { (fs : List Forest) (r : Rest) (k : State → Plan)
         → costs.pay event_cost (store_image fs r w store.old) k
-        ≡ k (with_counts (store_image fs r w store.old) (costs.sum (store_image fs r w store.old).own.counts event_cost)) }
-    ensures plan { IfOk result (λ h. (fs : List Forest) (x : Outside) (l : Loop) (b : Option Bool) → IsSound w store.old page.now l
-        → meaning.hear dispatch.kind (number page.now w dispatch.target) (seen w store.old.cells dispatch.value) dispatch.depth (number page.now w at.0)
+        ≡ k (with_counts (store_image fs r w store.old)
+        (costs.sum (store_image fs r w store.old).own.counts event_cost)) }
+    ensures plan { IfOk result (λ h. (fs : List Forest) (x : Outside) (l : Loop) (b : Option Bool)
+        → IsSound w store.old page.now l
+        → meaning.hear dispatch.kind (number page.now w dispatch.target)
+        (seen w store.old.cells dispatch.value) dispatch.depth (number page.now w at.0)
         (map (own_count w store.old.cells) at.1.items) (image fs x w (beside store.old page.now l b))
         ≡ heard_plan w store.new.cells page.now (Heard.Calls h) (image fs x w (beside store.new page.now l b))) }
     ensures fine { IfOk result (λ h. FineHearing w store.new.cells page.now h.value) }
@@ -77,8 +80,10 @@ pub fn hear(
     requires own { owns page.now w at.0 ≡ true }
     requires functions { AllByRecursion (IsOwnCell w store.old.cells) at.1.items }
     requires some { 0 < length at.1.items }
-    ensures plan { IfOk result (λ h. (fs : List Forest) (x : Outside) (l : Loop) (b : Option Bool) → IsSound w store.old page.now l
-        → meaning.hear dispatch.kind (number page.now w dispatch.target) (seen w store.old.cells dispatch.value) dispatch.depth (number page.now w at.0)
+    ensures plan { IfOk result (λ h. (fs : List Forest) (x : Outside) (l : Loop) (b : Option Bool)
+        → IsSound w store.old page.now l
+        → meaning.hear dispatch.kind (number page.now w dispatch.target)
+        (seen w store.old.cells dispatch.value) dispatch.depth (number page.now w at.0)
         (map (own_count w store.old.cells) at.1.items) (image fs x w (beside store.old page.now l b))
         ≡ heard_plan w store.new.cells page.now h (image fs x w (beside store.new page.now l b))) }
     ensures fine { IfOk result (λ h. FineHeard w store.new.cells page.now h) }

@@ -36,7 +36,8 @@ pub fn open_script(
     requires args { AreFine w store.old.cells args.now }
     requires script { (fs : List Forest) × IsScriptOf fs code fun }
     ensures plan { IfOk result (λ d. (fs : List Forest) (p : Page) (r : Rest) (levels : List Level)
-        → call_script (fun_at (forest_at fs code) fun) (all_seen w store.old.cells args.now) (image fs r w store.old) (levels_rest fs w store.new.cells p levels)
+        → call_script (fun_at (forest_at fs code) fun) (all_seen w store.old.cells args.now) (image fs r w store.old)
+        (levels_rest fs w store.new.cells p levels)
         ≡ turn_plan fs w store.new.cells p d levels (image fs r w store.new)) }
     ensures fine { IfOk result (λ d. (fs : List Forest) (p : Page) → FineDoing fs w store.new p d) }
     ensures kept { (fs : List Forest) → IsScriptOf fs code fun → Kept fs w store.old store.new }
@@ -56,7 +57,9 @@ pub fn open_script(
 // The call of a function by the host.
 fn call_function(alloc: Global, w: u32, func: CellId, args: &[Value]) -> Result<Box<Task>, Memory>
     ensures plan { IfOk result (λ t. (fs : List Forest) (s : Cells) (r : Rest)
-        → remaining fs w s t.value r ≡ Do (plan.Call (seen w s.cells (Value.Ref func)) None (all_seen w s.cells args.now) 0) (image fs r w s) Ret) }
+        → remaining fs w s t.value r
+        ≡ Do (plan.Call (seen w s.cells (Value.Ref func)) None (all_seen w s.cells args.now) 0)
+        (image fs r w s) Ret) }
     ensures fine { IfOk result (λ t. (fs : List Forest) (s : Cells) (p : Page)
         → IsHeld w s.cells func → AreFine w s.cells args.now → FineTask fs w s p t.value) }
 {

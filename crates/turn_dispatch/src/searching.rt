@@ -51,9 +51,11 @@ pub fn listeners(
     requires home { HasRoot page.now w }
     requires own { OptionIn (owns page.now w) node }
     ensures image { IfOk result (λ found. (g : ℕ → ℕ) (s : State) → Shows page.now w g around.now s.own
-        → own_found (number page.now w) g (found_of found) ≡ meaning.nearest s (renumbered (number page.now w) node) kind.now) }
+        → own_found (number page.now w) g (found_of found)
+        ≡ meaning.nearest s (renumbered (number page.now w) node) kind.now) }
     ensures own { IfOk result (λ found. (s : Cells) → HoldsOwn w s page.now around.now
-        → IfSome found (λ at. (owns page.now w at.0 ≡ true) × AllByRecursion (IsOwnCell w s.cells) at.1.items × (0 < length at.1.items))) }
+        → IfSome found (λ at. (owns page.now w at.0 ≡ true) × AllByRecursion (IsOwnCell w s.cells) at.1.items
+        × (0 < length at.1.items))) }
 {
     around.nearest(alloc, page, root_of(page, w), node, kind)
 }
@@ -73,7 +75,8 @@ pub fn search(
     requires dispatch { FineDispatch w store.old.cells page.now dispatch }
     requires own { OptionIn (owns page.now w) from }
     ensures plan { IfOk result (λ o. (fs : List Forest) (x : Outside) (b : Option Bool)
-        → meaning.search_from (renumbered (number page.now w) from) dispatch.kind (number page.now w dispatch.target) (seen w store.old.cells dispatch.value) dispatch.depth
+        → meaning.search_from (renumbered (number page.now w) from) dispatch.kind (number page.now w dispatch.target)
+        (seen w store.old.cells dispatch.value) dispatch.depth
         (image fs x w (beside store.old page.now around.now b))
         ≡ searched_plan w store.new.cells page.now o (image fs x w (beside store.new page.now around.now b))) }
     ensures fine { IfOk result (λ o. IfSome o (FineHeard w store.new.cells page.now)) }

@@ -46,7 +46,9 @@ fn take_fires(
     requires sound { IsSound site.now.widget store.old site.now.page.now site.now.around.now }
     requires firing { FineFiring site.now.widget store.old.cells site.now.page.now at.0.value }
     requires how { FineEnd site.now.widget store.old.cells how }
-    ensures taken { IfOk result (IsTaken site.now.widget site.now.page.now site.now.around.now store.old store.new calls.old calls.new (level.Fires at.0 at.1) how) }
+    ensures taken { IfOk result
+        (IsTaken site.now.widget site.now.page.now site.now.around.now store.old store.new calls.old calls.new
+        (level.Fires at.0 at.1) how) }
     ensures kept { StaysSound site.now.widget site.now.page.now store.old store.new }
 {
     let (firing, next) = at;
@@ -64,7 +66,8 @@ fn take_fires(
 // The innermost dispatch is over: whether `bubble` was called in it.
 fn close(dispatches: &mut Vec<bool>) -> bool
     ensures { (fs : List Forest) (x : Outside) (w : ℕ) (s : Cells) (p : PageOf) (l : LoopOf)
-        → (without_dispatch (turn_image fs x w s p l dispatches.old.items) ≡ turn_image fs x w s p l dispatches.new.items)
+        → (without_dispatch (turn_image fs x w s p l dispatches.old.items)
+        ≡ turn_image fs x w s p l dispatches.new.items)
         × (is_bubbled (turn_image fs x w s p l dispatches.old.items) ≡ result) }
 {
     match dispatches.pop() {
@@ -87,7 +90,9 @@ fn take_hears(
     requires sound { IsSound site.now.widget store.old site.now.page.now site.now.around.now }
     requires hearing { FineHearing site.now.widget store.old.cells site.now.page.now at.0.value }
     requires how { FineEnd site.now.widget store.old.cells how }
-    ensures taken { IfOk result (IsTaken site.now.widget site.now.page.now site.now.around.now store.old store.new calls.old calls.new (level.Hears at.0 at.1) how) }
+    ensures taken { IfOk result
+        (IsTaken site.now.widget site.now.page.now site.now.around.now store.old store.new calls.old calls.new
+        (level.Hears at.0 at.1) how) }
     ensures kept { StaysSound site.now.widget site.now.page.now store.old store.new }
 {
     let (hearing, next) = at;
@@ -118,7 +123,9 @@ fn take(
     requires sound { IsSound site.now.widget store.old site.now.page.now site.now.around.now }
     requires level { (fs : List Forest) × FineLevel fs site.now.widget store.old.cells site.now.page.now level }
     requires how { FineEnd site.now.widget store.old.cells how }
-    ensures taken { IfOk result (IsTaken site.now.widget site.now.page.now site.now.around.now store.old store.new calls.old calls.new level how) }
+    ensures taken { IfOk result
+        (IsTaken site.now.widget site.now.page.now site.now.around.now store.old store.new calls.old calls.new level
+        how) }
     ensures kept { StaysSound site.now.widget site.now.page.now store.old store.new }
 {
     match level {
@@ -140,17 +147,22 @@ pub fn give(
 ) -> Result<Doing, Memory>
     requires widget { site.now.widget < 32 }
     requires sound { IsSound site.now.widget store.old site.now.page.now site.now.around.now }
-    requires levels { (fs : List Forest) × FineLevels fs site.now.widget store.old.cells site.now.page.now calls.old.levels.items }
+    requires levels { (fs : List Forest)
+        × FineLevels fs site.now.widget store.old.cells site.now.page.now calls.old.levels.items }
     requires how { FineEnd site.now.widget store.old.cells how }
     ensures plan { let w = site.now.widget in let p = site.now.page.now in let l = site.now.around.now in
         IfOk result (λ d. (fs : List Forest) (x : Outside) → FineLevels fs w store.old.cells p calls.old.levels.items
-        → levels_rest fs w store.old.cells p calls.old.levels.items (completion_of w store.old.cells how) (turn_image fs x w store.old p l calls.old.dispatches.items)
-        ≡ turn_plan fs w store.new.cells p d calls.new.levels.items (turn_image fs x w store.new p l calls.new.dispatches.items)) }
+        → levels_rest fs w store.old.cells p calls.old.levels.items (completion_of w store.old.cells how)
+        (turn_image fs x w store.old p l calls.old.dispatches.items)
+        ≡ turn_plan fs w store.new.cells p d calls.new.levels.items
+        (turn_image fs x w store.new p l calls.new.dispatches.items)) }
     ensures fine { let w = site.now.widget in let p = site.now.page.now in
         IfOk result (λ d. (fs : List Forest) → FineLevels fs w store.old.cells p calls.old.levels.items
         → FineDoing fs w store.new p d × FineLevels fs w store.new.cells p calls.new.levels.items) }
-    ensures near { IfOk result (λ d. doing_free d + levels_free calls.new.levels.items ≤ levels_free calls.old.levels.items + 1) }
-    ensures sound { (l : LoopOf) → IsSound site.now.widget store.old site.now.page.now l → IsSound site.now.widget store.new site.now.page.now l }
+    ensures near { IfOk result
+        (λ d. doing_free d + levels_free calls.new.levels.items ≤ levels_free calls.old.levels.items + 1) }
+    ensures sound { (l : LoopOf) → IsSound site.now.widget store.old site.now.page.now l
+        → IsSound site.now.widget store.new site.now.page.now l }
     ensures kept { KeepsStore site.now.widget store.old store.new }
 {
     let mut how = how;

@@ -50,7 +50,8 @@ pub(crate) fn keeps(
     requires lib { IsHeld w store.old.cells lib }
     requires how { FineEnd w store.old.cells how }
     ensures next { IfOk result (IsStored w store.old store.new
-        (after (λ v s. properties.put (seen w store.old.cells (Value.Ref lib)) name.now v s (costs.give Undefined)) (completion_of w store.old.cells how))) }
+        (after (λ v s. properties.put (seen w store.old.cells (Value.Ref lib)) name.now v s (costs.give Undefined))
+        (completion_of w store.old.cells how))) }
     ensures kept { (fs : List Forest) → Kept fs w store.old store.new }
 {
     match how {
@@ -72,7 +73,8 @@ fn keep(
     requires lib { IsHeld w store.old.cells lib }
     requires value { IsFine w store.old.cells value }
     ensures next { IfOk result (IsStored w store.old store.new
-        (λ s. properties.put (seen w store.old.cells (Value.Ref lib)) name.now (seen w store.old.cells value) s (costs.give Undefined))) }
+        (λ s. properties.put (seen w store.old.cells (Value.Ref lib)) name.now (seen w store.old.cells value) s
+        (costs.give Undefined))) }
     ensures kept { (fs : List Forest) → Kept fs w store.old store.new }
 {
     match put(store, w, &Value::Ref(lib), name, value)? {
@@ -132,10 +134,13 @@ pub fn call_handler(
     next: usize,
 ) -> Result<Box<Task>, Memory>
     requires { next < length hearing.now.handlers.items }
-    ensures plan { IfOk result (λ t. (fs : List Forest) (s : Cells) (p : PageTree) (r : Rest) → FineHearing w s.cells p hearing.now
+    ensures plan { IfOk result (λ t. (fs : List Forest) (s : Cells) (p : PageTree) (r : Rest)
+        → FineHearing w s.cells p hearing.now
         → remaining fs w s t.value r
-        ≡ Do (plan.Call (Own (get_or (functions_of w s.cells p hearing.now) next 0)) None ((hearing_of w s.cells p hearing.now).event ∷ []) hearing.now.dispatch.depth) (store_image fs r w s) Ret) }
-    ensures fine { IfOk result (λ t. (fs : List Forest) (s : Cells) (p : PageTree) → FineHearing w s.cells p hearing.now → FineTask fs w s p t.value) }
+        ≡ Do (plan.Call (Own (get_or (functions_of w s.cells p hearing.now) next 0)) None
+        ((hearing_of w s.cells p hearing.now).event ∷ []) hearing.now.dispatch.depth) (store_image fs r w s) Ret) }
+    ensures fine { IfOk result (λ t. (fs : List Forest) (s : Cells) (p : PageTree)
+        → FineHearing w s.cells p hearing.now → FineTask fs w s p t.value) }
     ensures free { IfOk result (λ t. free t.value.control t.value.frames.list.items ≡ 0) }
 {
     let call = Call {
@@ -165,7 +170,8 @@ pub(crate) fn end_dispatch(
     requires sound { IsSound site.now.widget store.old site.now.page.now site.now.around.now }
     requires hearing { FineHearing site.now.widget store.old.cells site.now.page.now hearing.value }
     ensures next { let w = site.now.widget in let p = site.now.page.now in
-        IfOk result (IsNext w p site.now.around.now store.old store.new (bubble_on bubbled (hearing_of w store.old.cells p hearing.value))) }
+        IfOk result (IsNext w p site.now.around.now store.old store.new
+        (bubble_on bubbled (hearing_of w store.old.cells p hearing.value))) }
     ensures kept { StaysSound site.now.widget site.now.page.now store.old store.new }
 {
     if !bubbled {
@@ -226,7 +232,8 @@ pub(crate) fn fire(
     requires firing { FineFiring site.now.widget store.old.cells site.now.page.now firing.now }
     requires there { next < length firing.now.nodes.items }
     ensures next { let w = site.now.widget in let p = site.now.page.now in let f = firing.now in
-        IfOk result (IsNext w p site.now.around.now store.old store.new (meaning.dispatch f.kind (number p w (get_or f.nodes.items next 0)) Undefined f.depth)) }
+        IfOk result (IsNext w p site.now.around.now store.old store.new
+        (meaning.dispatch f.kind (number p w (get_or f.nodes.items next 0)) Undefined f.depth)) }
     ensures kept { StaysSound site.now.widget site.now.page.now store.old store.new }
 {
     let node = firing.nodes[next];

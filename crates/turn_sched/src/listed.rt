@@ -25,9 +25,12 @@ impl Chooser for Listed {
         requires some { 0 < length ready.now }
         ensures within { result < length ready.now }
         ensures empty { length self.old.list.items ≡ 0 → result ≡ 0 }
-        ensures number { 0 < length self.old.list.items → result ≡ slice_index self.old.list.items (round_place self.old.list.items self.old.at) % length ready.now }
+        ensures number { 0 < length self.old.list.items
+            → result ≡ slice_index self.old.list.items
+            (round_place self.old.list.items self.old.at) % length ready.now }
         ensures after_empty { length self.old.list.items ≡ 0 → self.new ≡ record self.old { at = 0 } }
-        ensures after { 0 < length self.old.list.items → self.new ≡ record self.old { at = round_place self.old.list.items self.old.at + 1 } }
+        ensures after { 0 < length self.old.list.items
+            → self.new ≡ record self.old { at = round_place self.old.list.items self.old.at + 1 } }
     {
         if self.at >= self.list.len() {
             self.at = 0;

@@ -42,7 +42,8 @@ fn innermost(dispatches: &Vec<bool>) -> Option<bool>
 
 // Puts the innermost open dispatch back, with whether `bubble` was called in it.
 fn put_innermost(dispatches: &mut Vec<bool>, bubbled: Option<bool>) -> Result<(), Memory>
-    ensures { OnOk result (reverse dispatches.new.items ≡ dispatches_of bubbled (drop 1 (reverse dispatches.old.items))) }
+    ensures { OnOk result (reverse dispatches.new.items
+        ≡ dispatches_of bubbled (drop 1 (reverse dispatches.old.items))) }
 {
     dispatches.pop();
     match bubbled {
@@ -71,9 +72,12 @@ fn perform(
     requires number { widget.old.number < 32 }
     requires widget { FineWidget shared.old widget.old }
     requires native { FineNative widget.old.number shared.old.store.cells native.now }
-    ensures carried { IfOk result (IsPerformed shared.old shared.new widget.old widget.new dispatches.old.items dispatches.new.items meter.old meter.new native.now) }
+    ensures carried { IfOk result
+        (IsPerformed shared.old shared.new widget.old widget.new dispatches.old.items dispatches.new.items meter.old
+        meter.new native.now) }
     ensures fine { OnOk result (FineWidget shared.new widget.new) }
-    ensures kept { KeepsAll widget.old.number shared.old.store shared.new.store shared.old.page shared.new.page widget.new.around }
+    ensures kept { KeepsAll widget.old.number shared.old.store shared.new.store shared.old.page shared.new.page
+        widget.new.around }
     ensures number { widget.new.number ≡ widget.old.number }
     ensures codes { shared.new.codes ≡ shared.old.codes }
 {
@@ -114,13 +118,18 @@ fn fire(
     requires widget { FineWidget shared.old widget.now }
     requires firing { FineFiring widget.now.number shared.old.store.cells shared.old.page firing }
     requires task { task.value.widget ≡ widget.now.number }
-    requires frames { FineFrames (forests shared.old) widget.now.number shared.old.store.cells task.value.frames.list.items }
-    requires awaits { Awaits (forests shared.old) widget.now.number shared.old.store.cells ByValue task.value.frames.list.items }
-    requires levels { FineLevels (forests shared.old) widget.now.number shared.old.store.cells shared.old.page calls.old.levels.items }
-    ensures answered { IfOk result (IsAnswered shared.old shared.new widget.now calls.old calls.new task.value firing.depth
+    requires frames { FineFrames
+        (forests shared.old) widget.now.number shared.old.store.cells task.value.frames.list.items }
+    requires awaits { Awaits (forests shared.old) widget.now.number shared.old.store.cells ByValue
+        task.value.frames.list.items }
+    requires levels { FineLevels
+        (forests shared.old) widget.now.number shared.old.store.cells shared.old.page calls.old.levels.items }
+    ensures answered { IfOk result
+        (IsAnswered shared.old shared.new widget.now calls.old calls.new task.value firing.depth
         (native_out.Call (native_calls.Fire firing.kind firing.nodes firing.last))) }
     ensures fine { OnOk result (FineWidget shared.new widget.now) }
-    ensures kept { KeepsTurn (forests shared.old) widget.now.number shared.old.store shared.new.store shared.old.page shared.old.page widget.now.around }
+    ensures kept { KeepsTurn (forests shared.old) widget.now.number shared.old.store shared.new.store shared.old.page
+        shared.old.page widget.now.around }
     ensures page { shared.new.page ≡ shared.old.page }
     ensures codes { shared.new.codes ≡ shared.old.codes }
 {
@@ -157,12 +166,17 @@ fn resume_task(
     requires widget { FineWidget shared.old widget.now }
     requires out { IsFineOut widget.now.number shared.old.store.cells answer.1 × IsCarried answer.1 }
     requires task { task.value.widget ≡ widget.now.number }
-    requires frames { FineFrames (forests shared.old) widget.now.number shared.old.store.cells task.value.frames.list.items }
-    requires awaits { Awaits (forests shared.old) widget.now.number shared.old.store.cells ByValue task.value.frames.list.items }
-    requires levels { FineLevels (forests shared.old) widget.now.number shared.old.store.cells shared.old.page calls.old.levels.items }
-    ensures answered { IfOk result (IsAnswered shared.old shared.new widget.now calls.old calls.new task.value answer.0 answer.1) }
+    requires frames { FineFrames
+        (forests shared.old) widget.now.number shared.old.store.cells task.value.frames.list.items }
+    requires awaits { Awaits (forests shared.old) widget.now.number shared.old.store.cells ByValue
+        task.value.frames.list.items }
+    requires levels { FineLevels
+        (forests shared.old) widget.now.number shared.old.store.cells shared.old.page calls.old.levels.items }
+    ensures answered { IfOk result
+        (IsAnswered shared.old shared.new widget.now calls.old calls.new task.value answer.0 answer.1) }
     ensures fine { OnOk result (FineWidget shared.new widget.now) }
-    ensures kept { KeepsTurn (forests shared.old) widget.now.number shared.old.store shared.new.store shared.old.page shared.old.page widget.now.around }
+    ensures kept { KeepsTurn (forests shared.old) widget.now.number shared.old.store shared.new.store shared.old.page
+        shared.old.page widget.now.around }
     ensures page { shared.new.page ≡ shared.old.page }
     ensures codes { shared.new.codes ≡ shared.old.codes }
 {
@@ -192,14 +206,20 @@ fn answer(
     requires widget { FineWidget shared.old widget.now }
     requires out { IsFineOut widget.now.number shared.old.store.cells answer.1 }
     requires paid { is_wanting answer.1 ≡ false }
-    requires fires { FiresAtOwn widget.now.number (beside shared.old.store shared.old.page widget.now.around None) answer.1 }
+    requires fires { FiresAtOwn widget.now.number
+        (beside shared.old.store shared.old.page widget.now.around None) answer.1 }
     requires task { task.value.widget ≡ widget.now.number }
-    requires frames { FineFrames (forests shared.old) widget.now.number shared.old.store.cells task.value.frames.list.items }
-    requires awaits { Awaits (forests shared.old) widget.now.number shared.old.store.cells ByValue task.value.frames.list.items }
-    requires levels { FineLevels (forests shared.old) widget.now.number shared.old.store.cells shared.old.page calls.old.levels.items }
-    ensures answered { IfOk result (IsAnswered shared.old shared.new widget.now calls.old calls.new task.value answer.0 answer.1) }
+    requires frames { FineFrames
+        (forests shared.old) widget.now.number shared.old.store.cells task.value.frames.list.items }
+    requires awaits { Awaits (forests shared.old) widget.now.number shared.old.store.cells ByValue
+        task.value.frames.list.items }
+    requires levels { FineLevels
+        (forests shared.old) widget.now.number shared.old.store.cells shared.old.page calls.old.levels.items }
+    ensures answered { IfOk result
+        (IsAnswered shared.old shared.new widget.now calls.old calls.new task.value answer.0 answer.1) }
     ensures fine { OnOk result (FineWidget shared.new widget.now) }
-    ensures kept { KeepsTurn (forests shared.old) widget.now.number shared.old.store shared.new.store shared.old.page shared.old.page widget.now.around }
+    ensures kept { KeepsTurn (forests shared.old) widget.now.number shared.old.store shared.new.store shared.old.page
+        shared.old.page widget.now.around }
     ensures page { shared.new.page ≡ shared.old.page }
     ensures codes { shared.new.codes ≡ shared.old.codes }
 {
@@ -233,11 +253,16 @@ pub(crate) fn carry(
 ) -> Result<Moved, Memory>
     requires number { widget.old.number < 32 }
     requires widget { FineWidget shared.old widget.old }
-    requires native { FineDoing (forests shared.old) widget.old.number shared.old.store shared.old.page (doing.Native at.0 at.1) }
-    requires levels { FineLevels (forests shared.old) widget.old.number shared.old.store.cells shared.old.page calls.old.levels.items }
-    ensures moved { IfOk result (IsMoved shared.old shared.new widget.old widget.new calls.old calls.new meter.old meter.new (doing.Native at.0 at.1)) }
+    requires native { FineDoing (forests shared.old) widget.old.number shared.old.store shared.old.page
+        (doing.Native at.0 at.1) }
+    requires levels { FineLevels
+        (forests shared.old) widget.old.number shared.old.store.cells shared.old.page calls.old.levels.items }
+    ensures moved { IfOk result
+        (IsMoved shared.old shared.new widget.old widget.new calls.old calls.new meter.old meter.new
+        (doing.Native at.0 at.1)) }
     ensures fine { OnOk result (FineWidget shared.new widget.new) }
-    ensures kept { KeepsTurn (forests shared.old) widget.old.number shared.old.store shared.new.store shared.old.page shared.new.page widget.new.around }
+    ensures kept { KeepsTurn (forests shared.old) widget.old.number shared.old.store shared.new.store shared.old.page
+        shared.new.page widget.new.around }
     ensures number { widget.new.number ≡ widget.old.number }
     ensures codes { shared.new.codes ≡ shared.old.codes }
 {

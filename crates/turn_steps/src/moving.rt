@@ -76,9 +76,11 @@ fn give_on(
 ) -> Result<Doing, Memory>
     requires widget { site.now.widget < 32 }
     requires sound { IsSound site.now.widget store.old site.now.page.now site.now.around.now }
-    requires levels { (fs : List Forest) × FineLevels fs site.now.widget store.old.cells site.now.page.now calls.old.levels.items }
+    requires levels { (fs : List Forest)
+        × FineLevels fs site.now.widget store.old.cells site.now.page.now calls.old.levels.items }
     requires how { FineEnd site.now.widget store.old.cells how }
-    ensures given { IfOk result (IsGiven site.now.widget site.now.page.now site.now.around.now store.old store.new calls.old calls.new how) }
+    ensures given { IfOk result
+        (IsGiven site.now.widget site.now.page.now site.now.around.now store.old store.new calls.old calls.new how) }
     ensures kept { StaysSound site.now.widget site.now.page.now store.old store.new }
 {
     let doing = give(alloc, store, site, calls, how)?;
@@ -107,9 +109,13 @@ pub(crate) fn follow(
 ) -> Result<Doing, Memory>
     requires widget { site.now.widget < 32 }
     requires sound { IsSound site.now.widget store.old site.now.page.now site.now.around.now }
-    requires levels { (fs : List Forest) × FineLevels fs site.now.widget store.old.cells site.now.page.now calls.old.levels.items × IsFineAfter fs site.now.widget store.old task.value stepped }
+    requires levels { (fs : List Forest)
+        × FineLevels fs site.now.widget store.old.cells site.now.page.now calls.old.levels.items
+        × IsFineAfter fs site.now.widget store.old task.value stepped }
     requires follows { Follows (machine stepped) task.value.control }
-    ensures followed { IfOk result (IsFollowed site.now.widget site.now.page.now site.now.around.now store.old store.new calls.old calls.new task.value stepped) }
+    ensures followed { IfOk result
+        (IsFollowed site.now.widget site.now.page.now site.now.around.now store.old store.new calls.old calls.new
+        task.value stepped) }
     ensures kept { StaysSound site.now.widget site.now.page.now store.old store.new }
 {
     match stepped {
@@ -142,7 +148,8 @@ fn run_task(
     requires turn { FineTurn shared.old widget.now.number turn.old }
     ensures stepped { IfOk result (IsStepped units shared.old shared.new widget.now widget.now turn.old turn.new) }
     ensures fine { OnOk result (FineWidget shared.new widget.now) }
-    ensures kept { KeepsTurn (forests shared.old) widget.now.number shared.old.store shared.new.store shared.old.page shared.new.page widget.now.around }
+    ensures kept { KeepsTurn (forests shared.old) widget.now.number shared.old.store shared.new.store shared.old.page
+        shared.new.page widget.now.around }
     ensures codes { shared.new.codes ≡ shared.old.codes }
 {
     let Doing::Runs(task) = &mut turn.doing else {
@@ -203,10 +210,13 @@ fn advance(
     requires open { is_open doing ≡ true }
     requires other { runs doing ≡ false }
     requires doing { FineDoing (forests shared.old) widget.old.number shared.old.store shared.old.page doing }
-    requires levels { FineLevels (forests shared.old) widget.old.number shared.old.store.cells shared.old.page calls.old.levels.items }
-    ensures moved { IfOk result (IsMoved shared.old shared.new widget.old widget.new calls.old calls.new meter.old meter.new doing) }
+    requires levels { FineLevels
+        (forests shared.old) widget.old.number shared.old.store.cells shared.old.page calls.old.levels.items }
+    ensures moved { IfOk result
+        (IsMoved shared.old shared.new widget.old widget.new calls.old calls.new meter.old meter.new doing) }
     ensures fine { OnOk result (FineWidget shared.new widget.new) }
-    ensures kept { KeepsTurn (forests shared.old) widget.old.number shared.old.store shared.new.store shared.old.page shared.new.page widget.new.around }
+    ensures kept { KeepsTurn (forests shared.old) widget.old.number shared.old.store shared.new.store shared.old.page
+        shared.new.page widget.new.around }
     ensures number { widget.new.number ≡ widget.old.number }
     ensures codes { shared.new.codes ≡ shared.old.codes }
 {
@@ -252,7 +262,8 @@ fn pass_on(
     requires turn { FineTurn shared.old widget.old.number turn.old }
     ensures stepped { IfOk result (IsStepped units shared.old shared.new widget.old widget.new turn.old turn.new) }
     ensures fine { OnOk result (FineWidget shared.new widget.new) }
-    ensures kept { KeepsTurn (forests shared.old) widget.old.number shared.old.store shared.new.store shared.old.page shared.new.page widget.new.around }
+    ensures kept { KeepsTurn (forests shared.old) widget.old.number shared.old.store shared.new.store shared.old.page
+        shared.new.page widget.new.around }
     ensures number { widget.new.number ≡ widget.old.number }
     ensures codes { shared.new.codes ≡ shared.old.codes }
 {
@@ -281,7 +292,8 @@ pub(crate) fn move_on(
     requires turn { FineTurn shared.old widget.old.number turn.old }
     ensures stepped { IfOk result (IsStepped units shared.old shared.new widget.old widget.new turn.old turn.new) }
     ensures fine { OnOk result (FineWidget shared.new widget.new) }
-    ensures kept { KeepsTurn (forests shared.old) widget.old.number shared.old.store shared.new.store shared.old.page shared.new.page widget.new.around }
+    ensures kept { KeepsTurn (forests shared.old) widget.old.number shared.old.store shared.new.store shared.old.page
+        shared.new.page widget.new.around }
     ensures number { widget.new.number ≡ widget.old.number }
     ensures codes { shared.new.codes ≡ shared.old.codes }
 {

@@ -48,7 +48,8 @@ fn short(start: u32, left: u32, units: u32) -> Ran
 fn ended(turn: &mut Turn) -> TurnEnd
     requires over { is_open turn.old.doing ≡ false }
     ensures out { (x : Outside) (h : SharedBy) (v : WidgetOf) → IsOut x h v turn.old result }
-    ensures fine { (h : SharedBy) (v : WidgetOf) → FineTurn h v.number turn.old → FineEnd v.number h.store.cells result }
+    ensures fine { (h : SharedBy) (v : WidgetOf) → FineTurn h v.number turn.old
+        → FineEnd v.number h.store.cells result }
     ensures left { turn.new.left ≡ turn.old.left }
     ensures due { result ≡ TurnEnd.Stop Stop.Fuel → ⊥ }
 {
@@ -72,10 +73,12 @@ pub fn run_turn(
     requires number { widget.old.number < 32 }
     requires widget { FineWidget shared.old widget.old }
     requires turn { FineTurn shared.old widget.old.number turn.old }
-    ensures ran { IfOk result (λ r. (f : Fixed) (x : Outside) → RanTo units shared.old shared.new widget.old widget.new turn.old turn.new f x r) }
+    ensures ran { IfOk result (λ r. (f : Fixed) (x : Outside)
+        → RanTo units shared.old shared.new widget.old widget.new turn.old turn.new f x r) }
     ensures fine { IfOk result (FineRan shared.new widget.new.number turn.new) }
     ensures sound { OnOk result (FineWidget shared.new widget.new) }
-    ensures kept { KeepsTurn (forests shared.old) widget.old.number shared.old.store shared.new.store shared.old.page shared.new.page widget.new.around }
+    ensures kept { KeepsTurn (forests shared.old) widget.old.number shared.old.store shared.new.store shared.old.page
+        shared.new.page widget.new.around }
     ensures number { widget.new.number ≡ widget.old.number }
     ensures codes { shared.new.codes ≡ shared.old.codes }
 {

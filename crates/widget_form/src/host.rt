@@ -15,7 +15,8 @@ use std::alloc::Global;
 
 // Whether there is neither an `id` nor a `for`.
 fn is_nameless(attrs: &[Attr]) -> bool
-    ensures { result ≡ (not (is_some (first_named (codes "id") attrs.now)) && not (is_some (first_named (codes "for") attrs.now))) }
+    ensures { result ≡ (not (is_some (first_named (codes "id") attrs.now)) && not
+        (is_some (first_named (codes "for") attrs.now))) }
 {
     !has_named(attrs, b"id") && !has_named(attrs, b"for")
 }

@@ -19,7 +19,8 @@ use std::alloc::Global;
 
 // Appends what the `id`s among attributes say.
 fn list_ids(attrs: &[Attr], found: &mut Vec<Saying>) -> Result<(), Memory>
-    ensures { OnOk result (found.new.items ≡ found.old.items ++ map value_of (filter (is_named (codes "id")) attrs.now)) }
+    ensures { OnOk result (found.new.items
+        ≡ found.old.items ++ map value_of (filter (is_named (codes "id")) attrs.now)) }
 {
     'attrs: for attr in attrs {
         if is_word(&attr.name, b"id") {

@@ -48,8 +48,11 @@ fn feed_last(places: &mut Vec<Place>, slot: &[u32], work: Work) -> Result<(), Me
 
 // The last life of each slot has this advance more in its queue.
 fn feed_all(places: &mut Vec<Place>, slots: &[Slot], ms: u32) -> Result<(), Memory>
-    requires born { (born : ℕ) × (born ≤ length places.old.items) × Chains (homes_of places.old.items) born 0 (chains_of slots.now) }
-    ensures fed { OnOk result (AreFed (λ v. list_any (λ c. nat_eq (last_life c) v) (chains_of slots.now)) (work.Advance ms) 0 places.old.items places.new.items) }
+    requires born { (born : ℕ) × (born ≤ length places.old.items)
+        × Chains (homes_of places.old.items) born 0 (chains_of slots.now) }
+    ensures fed { OnOk result (AreFed
+        (λ v. list_any (λ c. nat_eq (last_life c) v) (chains_of slots.now))
+        (work.Advance ms) 0 places.old.items places.new.items) }
     ensures same { AreSame places.old.items places.new.items }
 {
     'slots: for slot in slots {
@@ -61,8 +64,10 @@ fn feed_all(places: &mut Vec<Place>, slots: &[Slot], ms: u32) -> Result<(), Memo
 // The lives that an item is for have it in their queues.
 fn feed_item(places: &mut Vec<Place>, slots: &[Slot], item: HostItem) -> Result<(), Memory>
     requires shape { IsItem item (length slots.now) }
-    requires born { (born : ℕ) × (born ≤ length places.old.items) × Chains (homes_of places.old.items) born 0 (chains_of slots.now) }
-    ensures fed { OnOk result (AreFed (is_for (chains_of slots.now) item) (work_of item) 0 places.old.items places.new.items) }
+    requires born { (born : ℕ) × (born ≤ length places.old.items)
+        × Chains (homes_of places.old.items) born 0 (chains_of slots.now) }
+    ensures fed { OnOk result
+        (AreFed (is_for (chains_of slots.now) item) (work_of item) 0 places.old.items places.new.items) }
     ensures same { AreSame places.old.items places.new.items }
 {
     match item {

@@ -32,7 +32,8 @@ use std::collections::VecDeque;
 
 /// One store and one page, the lives of all places, and the slots in which they follow on each other. A
 /// host whose call wanted memory is marked: nothing of it changes any more, and each later `give`, `give_swap`,
-/// `pick`, `settle`, `item`, `rounds`, `line`, `retired` and `reach` is answered with `Memory`. What it holds can still be
+/// `pick`, `settle`, `item`, `rounds`, `line`, `retired` and `reach` is answered with `Memory`. What it holds
+/// can still be
 /// read, and its page printed.
 #[derive(Drop)]
 pub struct Host {
@@ -51,7 +52,8 @@ pub struct Host {
 }
 
 impl Host {
-    /// A page is loaded: each piece in its place, and for each widget its scripts and its load turns. The keys are those of
+    /// A page is loaded: each piece in its place, and for each widget its scripts and its load turns. The
+    /// keys are those of
     /// the tables that hash what a stranger chose.
     pub fn load(alloc: Global, keys: Keys, spec: PageSpec) -> Result<Host, Memory>
         requires loadable { IsLoadable spec }
@@ -66,9 +68,13 @@ impl Host {
     /// node of the page, those of its own markup too, has one RawNode.
     pub fn store(&self) -> &Store
         ensures are { result.now ≡ (shared self.now).store }
-        ensures confined { IsHoused self.now → (v : ℕ) → accepts self.now v ≡ true → IsConfined (own_trees self.now v) v result.now }
-        ensures counted { IsHoused self.now → length result.now.cells ≡ cells_of_host result.now + cells_of_widgets result.now (length (places self.now)) }
-        ensures raws { IsHoused self.now → marked self.now ≡ false → (n : ℕ) → n < length (nodes (shared self.now).page) → HasOneRaw result.now.cells n }
+        ensures confined { IsHoused self.now → (v : ℕ) → accepts self.now v ≡ true
+            → IsConfined (own_trees self.now v) v result.now }
+        ensures counted { IsHoused self.now
+            → length result.now.cells
+            ≡ cells_of_host result.now + cells_of_widgets result.now (length (places self.now)) }
+        ensures raws { IsHoused self.now → marked self.now ≡ false → (n : ℕ)
+            → n < length (nodes (shared self.now).page) → HasOneRaw result.now.cells n }
     {
         let store = &self.crowd.shared.store;
         store.nodes_have_one_cell();
@@ -76,29 +82,37 @@ impl Host {
     }
 
     /// The page. Under `body` stand its own markup and what stands in each slot: the root of its present life, or an
-    /// empty `div` where that was refused. The root of a life that has ended, or whose swap waits, has no parent. A node
+    /// empty `div` where that was refused. The root of a life that has ended, or whose swap waits, has no
+    /// parent. A node
     /// that is a widget's is that of an accepted one.
     pub fn page(&self) -> &Page
         ensures are { result.now ≡ (shared self.now).page }
-        ensures laid { IsHoused self.now → (names : List (List ℕ)) (pieces : List PagePiece) → IsLaid self.now names pieces → layout.IsLaid result.now names (rooted (accepts self.now) (chains self.now)) pieces }
+        ensures laid { IsHoused self.now → (names : List (List ℕ)) (pieces : List PagePiece)
+            → IsLaid self.now names pieces
+            → layout.IsLaid result.now names (rooted (accepts self.now) (chains self.now)) pieces }
         ensures roots { IsHoused self.now → (v : ℕ) → accepts self.now v ≡ true → HasRoot result.now v }
-        ensures stand { IsHoused self.now → (v : ℕ) (p : Place) → slice_get (places self.now) v ≡ Some p → p.life.accepted ≡ true
-            → (root_of result.now v ≡ Some p.root) × ((at (nodes result.now) p.root).parent ≡ (if is_present v (chains self.now) then Some body else None)) }
+        ensures stand { IsHoused self.now → (v : ℕ) (p : Place) → slice_get (places self.now) v ≡ Some p
+            → p.life.accepted ≡ true
+            → (root_of result.now v ≡ Some p.root)
+            × ((at (nodes result.now) p.root).parent ≡ (if is_present v (chains self.now) then Some body else None)) }
         ensures owners { IsHoused self.now → (v n : ℕ) → owns result.now v n ≡ true → accepts self.now v ≡ true }
     {
         &self.crowd.shared.page
     }
 
     /// A law: all that an accepted life holds is its own, also where the host is marked: what its cells lead to, the
-    /// codes of its functions, the nodes of its Bunches, what its handlers, its timers and its focus hold, and what waits in its turn.
+    /// codes of its functions, the nodes of its Bunches, what its handlers, its timers and its focus hold,
+    /// and what waits in its turn.
     pub fn widgets_hold_their_own(&self)
-        ensures { IsHoused self.now → (v : ℕ) (p : Place) → slice_get (places self.now) v ≡ Some p → p.life.accepted ≡ true → HoldsItsOwn (shared self.now) v p }
+        ensures { IsHoused self.now → (v : ℕ) (p : Place) → slice_get (places self.now) v ≡ Some p
+            → p.life.accepted ≡ true → HoldsItsOwn (shared self.now) v p }
     {}
 
     /// A law: what is seen of the objects, the scopes and the trees of an accepted life is read off the one store and
     /// the one page.
     pub fn images_are_read_off(&self)
-        ensures { (v : ℕ) (s : Seen) → accepts self.now v ≡ true → slice_get (seens self.now) v ≡ Some s → IsReadOff (own_trees self.now v) (shared self.now) v (image s) }
+        ensures { (v : ℕ) (s : Seen) → accepts self.now v ≡ true → slice_get (seens self.now) v ≡ Some s
+            → IsReadOff (own_trees self.now v) (shared self.now) v (image s) }
     {}
 
     /// The last picks that were not idle, at most 65,536. Those of a life follow on each other, and the last
@@ -113,25 +127,30 @@ impl Host {
 
     /// A law: a turn in progress has no more fuel left than a turn of its life is granted, so that no turn spends more.
     pub fn turns_keep_to_their_grant(&self)
-        ensures { IsHoused self.now → marked self.now ≡ false → (v : ℕ) (p : Place) → slice_get (places self.now) v ≡ Some p → p.life.accepted ≡ true
+        ensures { IsHoused self.now → marked self.now ≡ false → (v : ℕ) (p : Place)
+            → slice_get (places self.now) v ≡ Some p → p.life.accepted ≡ true
             → IfSome p.life.turn (λ t. t.left ≤ p.life.grant) }
     {}
 
     /// The text of the page is appended: its own markup, and in each slot the root of its present life. `Memory` leaves
     /// a prefix of that text appended.
     pub fn print_page(&self, alloc: Global, out: &mut Vec<u8>) -> Result<(), Memory>
-        ensures ok { OnOk result (IsHoused self.now → (names : List (List ℕ)) (pieces : List PagePiece) (ends : List (Option OwnState))
+        ensures ok { OnOk result (IsHoused self.now
+            → (names : List (List ℕ)) (pieces : List PagePiece) (ends : List (Option OwnState))
             → IsLaid self.now names pieces → AreShown self.now (chains self.now) ends
             → Prints (page_of pieces (roots names ends)) out.old.items out.new.items) }
-        ensures part { OnErr result (IsHoused self.now → (names : List (List ℕ)) (pieces : List PagePiece) (ends : List (Option OwnState))
+        ensures part { OnErr result (IsHoused self.now
+            → (names : List (List ℕ)) (pieces : List PagePiece) (ends : List (Option OwnState))
             → IsLaid self.now names pieces → AreShown self.now (chains self.now) ends
             → PrintsPart (page_of pieces (roots names ends)) out.old.items out.new.items) }
     {
         page_lines::print_page(alloc, &self.crowd.shared.page, out)
     }
 
-    /// The text of what stands in a slot is appended, in the time that this text takes: the root of its present life, or
-    /// an empty `div` where that was refused. It is what `print_page` appends in the place of this slot. `Memory` leaves
+    /// The text of what stands in a slot is appended, in the time that this text takes: the root of its
+    /// present life, or
+    /// an empty `div` where that was refused. It is what `print_page` appends in the place of this slot.
+    /// `Memory` leaves
     /// a prefix of that text appended.
     pub fn print_slot(&self, alloc: Global, w: u32, out: &mut Vec<u8>) -> Result<(), Memory>
         requires housed { IsHoused self.now }

@@ -22,18 +22,23 @@ pub fn loaded_lives()
 /// An item is given to the last life of the slot that it is for, an advance to that of each slot, and to no life that
 /// a swap ends.
 pub fn given_lives()
-    ensures last { (i : HostItem) (old new : Host) (fs : List (Option Fed)) → IsHoused old → marked old ≡ false → IsItem i (length (chains old))
+    ensures last { (i : HostItem) (old new : Host) (fs : List (Option Fed)) → IsHoused old → marked old ≡ false
+        → IsItem i (length (chains old))
         → GivesItem i old new → AreFed old fs → AreFed new (with_item i 0 fs) }
-    ensures ended { (i : HostItem) (old new : Host) (es : List (Option Fed)) → IsHoused old → marked old ≡ false → IsItem i (length (chains old))
+    ensures ended { (i : HostItem) (old new : Host) (es : List (Option Fed)) → IsHoused old → marked old ≡ false
+        → IsItem i (length (chains old))
         → GivesItem i old new → AreEnded old (ends old) es → AreEnded new (ends new) es }
 {}
 
 /// A swap begins the last life of its slot anew; the life that it ends has what it was given until then.
 pub fn swapped_lives()
-    ensures last { (libs : List Accepted) (to : ℕ) (content : SlotContent) (old new : Host) (fs : List (Option Fed)) → IsHoused old → marked old ≡ false
+    ensures last { (libs : List Accepted) (to : ℕ) (content : SlotContent) (old new : Host) (fs : List (Option Fed))
+        → IsHoused old → marked old ≡ false
         → to < length (chains old) → swaps old < 4 → libraries old ≡ map tree_of libs → GivesSwap to content old new
-        → AreFed old fs → AreFed new (with_swap to (begins (slice_index_or (fuels old) to 0) (content_of libs content)) 0 fs) }
-    ensures ended { (to : ℕ) (content : SlotContent) (old new : Host) (fs es : List (Option Fed)) → IsHoused old → marked old ≡ false
+        → AreFed old fs → AreFed new
+        (with_swap to (begins (slice_index_or (fuels old) to 0) (content_of libs content)) 0 fs) }
+    ensures ended { (to : ℕ) (content : SlotContent) (old new : Host) (fs es : List (Option Fed)) → IsHoused old
+        → marked old ≡ false
         → to < length (chains old) → swaps old < 4 → GivesSwap to content old new
         → AreFed old fs → AreEnded old (ends old) es → AreEnded new (ends new) (es ++ fed_at fs to ∷ []) }
 {}

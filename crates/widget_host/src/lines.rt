@@ -60,7 +60,8 @@ fn share_all(alloc: Global, texts: &[Text]) -> Result<Vec<Text>, Memory>
 
 // What a life did that has spent so much.
 fn line_of(alloc: Global, life: &Life, spent: u64) -> Result<RunLine, Memory>
-    ensures { IfOk result (λ l. (h : SharedOf) (w : ℕ) → spent ≡ (image (life_seen h w life.now)).spent → IsLineOf l (image (life_seen h w life.now))) }
+    ensures { IfOk result (λ l. (h : SharedOf) (w : ℕ) → spent ≡ (image (life_seen h w life.now)).spent
+        → IsLineOf l (image (life_seen h w life.now))) }
 {
     let records = &life.records;
     Ok(RunLine {
@@ -91,7 +92,8 @@ impl Host {
         requires housed { IsHoused self.now }
         requires there { w < length (chains self.now) }
         requires accepted { accepts self.now (present w (chains self.now)) ≡ true }
-        ensures line { IfOk result (λ l. (s : Seen) → slice_get (seens self.now) (present w (chains self.now)) ≡ Some s → IsLineOf l (image s)) }
+        ensures line { IfOk result (λ l. (s : Seen)
+            → slice_get (seens self.now) (present w (chains self.now)) ≡ Some s → IsLineOf l (image s)) }
         ensures marked { marked self.now ≡ true → IsErr result }
     {
         if self.marked {
@@ -108,7 +110,8 @@ impl Host {
         requires given { i < swaps self.now }
         requires taken { listed (slice_index_or (ends self.now) i 0) (chains self.now) ≡ false }
         requires accepted { accepts self.now (slice_index_or (ends self.now) i 0) ≡ true }
-        ensures line { IfOk result (λ l. (s : Seen) → slice_get (seens self.now) (slice_index_or (ends self.now) i 0) ≡ Some s → IsLineOf l (image s)) }
+        ensures line { IfOk result (λ l. (s : Seen)
+            → slice_get (seens self.now) (slice_index_or (ends self.now) i 0) ≡ Some s → IsLineOf l (image s)) }
         ensures marked { marked self.now ≡ true → IsErr result }
     {
         if self.marked {

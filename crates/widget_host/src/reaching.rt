@@ -27,7 +27,8 @@ impl Host {
         requires housed { IsHoused self.now }
         requires quiet { ready_from 0 (slot_flags (seens self.now) (chains self.now)) ≡ [] }
         ensures read { IfOk result (λ cert. plain cert ≡ reached self.now) }
-        ensures states { IfOk result (λ cert. (ends : List (Option OwnState)) → AreShown self.now (lasts (chains self.now)) ends
+        ensures states { IfOk result (λ cert. (ends : List (Option OwnState))
+            → AreShown self.now (lasts (chains self.now)) ends
             → plain cert ≡ cert_of_states (zip (names self.now) ends)) }
         ensures confined { IfOk result (λ cert. IsConfined (plain cert)) }
         ensures names { IfOk result (λ cert. map slot_name (plain cert) ≡ names self.now) }

@@ -25,12 +25,16 @@ impl Host {
         requires apart { IsApart self.old }
         requires whole { IsWhole self.old }
         requires unmarked { marked self.old ≡ false }
-        ensures delivers { IfOk result (λ delivered. (fs : List (Option Fed)) → AreFed self.old fs → HaveDone (seens self.old) → Delivers delivered (channels self.old) (names self.old) fs (AreFed self.new)) }
-        ensures still { IfOk result (λ delivered. delivered ≡ false → (seens self.new ≡ seens self.old) × (told self.new ≡ told self.old)) }
+        ensures delivers { IfOk result (λ delivered. (fs : List (Option Fed)) → AreFed self.old fs
+            → HaveDone (seens self.old)
+            → Delivers delivered (channels self.old) (names self.old) fs (AreFed self.new)) }
+        ensures still { IfOk result (λ delivered. delivered ≡ false
+            → (seens self.new ≡ seens self.old) × (told self.new ≡ told self.old)) }
         ensures more { IfOk result (λ delivered. delivered ≡ true → sum_of (told self.old) < sum_of (told self.new)) }
         ensures listed { IfOk result (λ delivered. delivered ≡ true → channels self.old ≢ []) }
         ensures images { map image (seens self.new) ≡ map image (seens self.old) }
-        ensures others { (v : ℕ) → is_last v (chains self.old) ≡ false → slice_get (seens self.new) v ≡ slice_get (seens self.old) v }
+        ensures others { (v : ℕ) → is_last v (chains self.old) ≡ false
+            → slice_get (seens self.new) v ≡ slice_get (seens self.old) v }
         ensures chains { chains self.new ≡ chains self.old }
         ensures journal { journal self.new ≡ journal self.old }
         ensures given { given self.new ≡ given self.old }
@@ -64,11 +68,16 @@ impl Host {
         requires housed { IsHoused self.old }
         requires slice { 0 < slice }
         ensures rounds { OnOk result ((fs : List (Option Fed)) → AreFed self.old fs
-            → (gs : List (Option Fed)) × RoundsTo (channels self.old) (names self.old) fs gs × AreFed self.new gs × AreShown self.new (chains self.new) (map (option_map state) gs)) }
-        ensures retired { OnOk result ((es : List (Option Fed)) → AreEnded self.old (ends self.old) es → AreRetired self.new (ends self.new) (map (option_map state) es)) }
+            → (gs : List (Option Fed)) × RoundsTo (channels self.old) (names self.old) fs gs × AreFed self.new gs
+            × AreShown self.new (chains self.new) (map (option_map state) gs)) }
+        ensures retired { OnOk result ((es : List (Option Fed)) → AreEnded self.old (ends self.old) es
+            → AreRetired self.new (ends self.new) (map (option_map state) es)) }
         ensures ended { OnOk result ((v : ℕ) (s t : Seen) → is_last v (chains self.old) ≡ false
             → slice_get (seens self.old) v ≡ Some s → slice_get (seens self.new) v ≡ Some t → image t ≡ due s) }
-        ensures settled { OnOk result (channels self.old ≡ [] → SettledSlots slice (homes self.old) (chains self.old) (chains self.new) (seens self.old) (seens self.new) (journal self.old) (journal self.new) (C.asks chooser.old) (C.room chooser.old) (C.asks chooser.new) (C.room chooser.new)) }
+        ensures settled { OnOk result (channels self.old ≡ []
+            → SettledSlots slice (homes self.old) (chains self.old) (chains self.new) (seens self.old)
+            (seens self.new) (journal self.old) (journal self.new) (C.asks chooser.old) (C.room chooser.old)
+            (C.asks chooser.new) (C.room chooser.new)) }
         ensures passes { PassesRoundsUntil slice self.old (is_ok result) self.new }
         ensures quiet { OnOk result (ready_from 0 (slot_flags (seens self.new) (chains self.new)) ≡ []) }
         ensures chains { OnOk result (chains self.new ≡ map (λ c. last_life c ∷ []) (chains self.old)) }

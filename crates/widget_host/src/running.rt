@@ -25,7 +25,9 @@ impl Host {
         requires housed { IsHoused self.old }
         requires there { w < length (chains self.old) }
         requires slice { 0 < k }
-        ensures picked { IfOk result (λ r. PickedIn w k r (chains self.old) (chains self.new) (seens self.old) (seens self.new) (journal self.old) (journal self.new)) }
+        ensures picked { IfOk result
+            (λ r. PickedIn w k r (chains self.old) (chains self.new) (seens self.old) (seens self.new)
+            (journal self.old) (journal self.new)) }
         ensures beside { KeepsBeside w self.old self.new }
         ensures journal { OnErr result (journal self.new ≡ journal self.old) }
         ensures given { OnOk result (given self.new ≡ given self.old) }
@@ -48,7 +50,8 @@ impl Host {
         }
     }
 
-    /// Picks are made until no slot is ready: of the slots that are, the one that the chooser takes. `Memory` leaves the
+    /// Picks are made until no slot is ready: of the slots that are, the one that the chooser takes. `Memory`
+    /// leaves the
     /// journal, and beside one slot all, as the picks before left it.
     pub fn settle<C: Chooser>(
         &mut self,
@@ -58,7 +61,10 @@ impl Host {
     ) -> Result<(), Memory>
         requires housed { IsHoused self.old }
         requires slice { 0 < slice }
-        ensures settled { OnOk result (SettledSlots slice (homes self.old) (chains self.old) (chains self.new) (seens self.old) (seens self.new) (journal self.old) (journal self.new) (C.asks chooser.old) (C.room chooser.old) (C.asks chooser.new) (C.room chooser.new)) }
+        ensures settled { OnOk result
+            (SettledSlots slice (homes self.old) (chains self.old) (chains self.new) (seens self.old)
+            (seens self.new) (journal self.old) (journal self.new) (C.asks chooser.old) (C.room chooser.old)
+            (C.asks chooser.new) (C.room chooser.new)) }
         ensures passes { PassesUntil slice self.old (is_ok result) self.new }
         ensures done { OnOk result (map image (seens self.new) ≡ map due (seens self.old)) }
         ensures quiet { OnOk result (ready_from 0 (slot_flags (seens self.new) (chains self.new)) ≡ []) }
@@ -96,8 +102,12 @@ impl Host {
         requires room { given self.old < 4096 }
         requires shape { IsItem item (length (chains self.old)) }
         requires slice { 0 < slice }
-        ensures done { OnOk result (map image (seens self.new) ≡ dues_after self.old item 0 (map due (seens self.old))) }
-        ensures settled { OnOk result ((mid : HostOf) × GivesItem item self.old mid × SettledSlots slice (homes mid) (chains mid) (chains self.new) (seens mid) (seens self.new) (journal mid) (journal self.new) (C.asks chooser.old) (C.room chooser.old) (C.asks chooser.new) (C.room chooser.new)) }
+        ensures done { OnOk result (map image (seens self.new)
+            ≡ dues_after self.old item 0 (map due (seens self.old))) }
+        ensures settled { OnOk result ((mid : HostOf) × GivesItem item self.old mid
+            × SettledSlots slice (homes mid) (chains mid) (chains self.new) (seens mid) (seens self.new)
+            (journal mid) (journal self.new) (C.asks chooser.old) (C.room chooser.old) (C.asks chooser.new)
+            (C.room chooser.new)) }
         ensures passes { ItemPasses slice item self.old (is_ok result) self.new }
         ensures quiet { OnOk result (ready_from 0 (slot_flags (seens self.new) (chains self.new)) ≡ []) }
         ensures chains { OnOk result (chains self.new ≡ map (λ c. last_life c ∷ []) (chains self.old)) }

@@ -60,7 +60,8 @@ impl Host {
         requires there { to < length (chains self.old) }
         requires room { given self.old < 4096 }
         requires few { swaps self.old < 4 }
-        requires loadable { (name : List ℕ) → slice_get (names self.old) to ≡ Some name → IsSwapLoadable (length (libraries self.old)) name content }
+        requires loadable { (name : List ℕ) → slice_get (names self.old) to ≡ Some name
+            → IsSwapLoadable (length (libraries self.old)) name content }
         ensures gives { OnOk result (GivesSwap to content self.old self.new) }
         ensures stays { KeepsOthers self.old self.new }
         ensures housed { IsHoused self.new }
