@@ -1,16 +1,18 @@
 -- What a member that is put among others leaves of them.
-use Rattle.std.proofs.Common.{◌≡◌, ℕ, List, [], ◌∷◌, ◌++◌, Bool, true, false, ◌&&◌, Option, Some, None, Bor, Ordering, Less, Equal, Greater, nat_cmp, is_eq, is_some, bytes_eq, true≢false, refl, sym, ap, ◌∙◌}
+use Rattle.std.proofs.Common.{◌≡◌, ℕ, List, [], ◌∷◌, ◌++◌, Bool, true, false, ◌&&◌, Option, Some, None, Bor, Ordering, Less, Equal, Greater, nat_cmp, is_eq, bytes_eq, true≢false, cond, refl, subst, sym, ap, ◌∙◌}
 use Rattle.std.proofs.lemmas.Map.Text.{is_eq-slice_cmp}
 use Rattle.std.proofs.lemmas.Slice.Eq.{bytes_eq-Decides}
+use Rattle.std.specs.BTreeMap.{is_at}
+use Rattle.std.specs.BTreeSet.{BTreeSet, IsUnchanged, Updates, UpdatesBy, contains}
 use Rattle.std.specs.Cmp.Lexicographic.{slice_cmp}
-use Rattle.std.specs.Option.{IfSome}
+use Rattle.std.specs.List.{list_any}
 use Rattle.std.specs.Ordering.{match_ordering}
 use Rattle.code_units.specs.Permitted.{is_permitted}
 use Rattle.code_units.specs.Utf8.{units_of}
 use Rattle.serde_json.specs.Data.{Data, Items, Members, no_members, member, put}
 use Rattle.serde_json.specs.Find.{get_member}
 use Rattle.serde_json.proofs.Views.{get_member-put, get_member-put_other}
-use Rattle.json_judge.specs.Names.{HasRefused, has_names, items_have_names, members_have_names}
+use Rattle.json_judge.specs.Names.{AreRefused, HasRefused, by_text, has_names, items_have_names, members_have_names}
 use Rattle.json_judge.proofs.Turns.{items_before}
 
 -- whether all names of an object are permitted, whatever stands in its values
@@ -86,14 +88,41 @@ key_put k d (member l e ms) bad = key_put_at (slice_cmp nat_cmp k l) k l d e ms 
 pub kept_put : (k : List ℕ) (d : Data) (ms : Members) → has_names d ≡ false → HasRefused k (put k d ms)
 kept_put k d ms bad = record { value = d; found = get_member-put k d ms; names = bad }
 
-pub kept_other : (q k : List ℕ) (d : Data) (ms : Members) → bytes_eq q k ≡ false → HasRefused q ms → HasRefused q (put k d ms)
-kept_other q k d ms other h =
-    let apart = λ (e : q ≡ k). true≢false (sym ((bytes_eq-Decides q k).1 e) ∙ other) in
-    record { value = h.value; found = get_member-put_other q k d ms apart ∙ h.found; names = h.names }
+pub kept_other : (q k : List ℕ) (d : Data) (ms : Members) → (q ≡ k → ⊥) → HasRefused q ms → HasRefused q (put k d ms)
+kept_other q k d ms apart h = record { value = h.value; found = get_member-put_other q k d ms apart ∙ h.found; names = h.names }
 
-pub kept_some : (o : Option (Bor (List ℕ))) (ms : Members) → is_some o ≡ true → IfSome o (λ k. HasRefused k.now ms) → members_have_names ms ≡ false
-kept_some None ms e h = absurd (cc)
-kept_some (Some k) ms e h = has_refused k.now ms h
+-- ## The names that are held
+
+same_name : (k q : List ℕ) → is_eq (slice_cmp nat_cmp k q) ≡ true → k ≡ q
+same_name k q e = (bytes_eq-Decides k q).0 (sym (is_eq-slice_cmp k q) ∙ e)
+
+other_name : (k q : List ℕ) → is_eq (slice_cmp nat_cmp k q) ≡ false → q ≡ k → ⊥
+other_name k q e same = true≢false (sym ((bytes_eq-Decides k q).1 (sym same)) ∙ sym (is_eq-slice_cmp k q) ∙ e)
+
+pub held_none : (held : BTreeSet (Bor (List ℕ))) (ms : Members) → held.keys ≡ [] → AreRefused held ms
+held_none held ms none = λ k h. absurd (true≢false (sym h ∙ ap (λ ks. list_any (is_at (by_text k)) ks) none))
+
+module _ (old new : BTreeSet (Bor (List ℕ))) (name : Bor (List ℕ)) (d : Data) (ms : Members) (was : AreRefused old ms) where
+  pub held_more : has_names d ≡ false → Updates by_text old new name true → AreRefused new (put name.now d ms)
+  held_more bad updates = λ k h. at k (is_eq (by_text name k)) refl (sym (updates.0 k) ∙ h)
+    where
+      at : (k : Bor (List ℕ)) (b : Bool) → is_eq (by_text name k) ≡ b → cond b true (contains by_text old k) ≡ true → HasRefused k.now (put name.now d ms)
+      at k true e h = subst (λ q. HasRefused q (put name.now d ms)) (same_name name.now k.now e) (kept_put name.now d ms bad)
+      at k false e h = kept_other k.now name.now d ms (other_name name.now k.now e) (was k h)
+
+  pub held_less : UpdatesBy by_text (by_text name) old new false → AreRefused new (put name.now d ms)
+  held_less updates = λ k h. at k (is_eq (by_text name k)) refl (sym (updates.0 k) ∙ h)
+    where
+      at : (k : Bor (List ℕ)) (b : Bool) → is_eq (by_text name k) ≡ b → cond b false (contains by_text old k) ≡ true → HasRefused k.now (put name.now d ms)
+      at k true e h = absurd (cc)
+      at k false e h = kept_other k.now name.now d ms (other_name name.now k.now e) (was k h)
+
+  -- one for which there is no memory is not held
+  pub held_same : IsUnchanged old new → contains by_text old name ≡ false → AreRefused new (put name.now d ms)
+  held_same same absent = λ k h. at k (ap (λ ks. list_any (is_at (by_text k)) ks) (sym same) ∙ h)
+    where
+      at : (k : Bor (List ℕ)) → contains by_text old k ≡ true → HasRefused k.now (put name.now d ms)
+      at k h = kept_other k.now name.now d ms (λ e. true≢false (sym h ∙ ap (λ q. list_any (is_at (λ y. slice_cmp nat_cmp q y.now)) old.keys) e ∙ absent)) (was k h)
 
 -- ## Items
 

@@ -1,3 +1,4 @@
 pub mod Turns
 pub mod Kept
 pub mod Passed
+pub mod Digits

@@ -1,5 +1,10 @@
 -- The names in a JSON value.
 use Rattle.std.specs.Prelude.{◌≡◌, Bool, true, false, ◌&&◌, ℕ, List, Some}
+use denote.Ref.{Bor}
+use Rattle.std.specs.BTreeSet.{BTreeSet, contains}
+use Rattle.std.specs.Cmp.Lexicographic.{slice_cmp}
+use Rattle.std.specs.declared.cmp.Ordering.{Ordering}
+use Rattle.std.specs.Ordering.{nat_cmp}
 use Rattle.code_units.specs.Permitted.{is_permitted}
 use Rattle.code_units.specs.Utf8.{units_of}
 use Rattle.serde_json.specs.Data as json
@@ -30,3 +35,11 @@ pub record HasRefused (k : List ℕ) (ms : json.Members) : Type 0 where
   pub value : json.Data
   pub found : get_member k ms ≡ Some value
   pub names : has_names value ≡ false
+
+-- the order of texts
+abbrev pub by_text : Bor (List ℕ) → Bor (List ℕ) → Ordering
+by_text x y = slice_cmp nat_cmp x.now y.now
+
+-- the values at these names have names that are not permitted
+abbrev pub AreRefused : BTreeSet (Bor (List ℕ)) → json.Members → Type 0
+AreRefused held ms = (k : Bor (List ℕ)) → contains by_text held k ≡ true → HasRefused k.now ms

@@ -1,5 +1,5 @@
 -- What is known of a JSON text before its value is made.
-use Rattle.std.specs.Prelude.{◌≡◌, ⊤, ℕ, Bool, true, false, List, length, Some, None}
+use Rattle.std.specs.Prelude.{◌≡◌, ℕ, Bool, true, false, List, length, Some, None}
 use Rattle.json.specs.Token.{Token}
 use Rattle.json.specs.Json.{items, members, value}
 use Rattle.serde_json.specs.Data.{Data, Items, Members, no_members}
@@ -14,11 +14,16 @@ pub record IsRefused (text : List ℕ) : Type 0 where
   pub read : read text ≡ Some value
   pub names : has_names value ≡ false
 
+-- A text is JSON.
+pub record IsJson (text : List ℕ) : Type 0 where
+  pub value : Data
+  pub read : read text ≡ Some value
+
 -- what a verdict tells of a text
 abbrev pub Tells : List ℕ → Verdict → Type 0
 Tells text verdict.NotJson = read text ≡ None
 Tells text verdict.Refused = IsRefused text
-Tells text verdict.Passed = ⊤
+Tells text verdict.Passed = IsJson text
 
 -- A value was passed, and if a refused name was found, it has one.
 pub record PassesValue (depth : ℕ) (old new : List Token) (refused : Bool) : Type 0 where

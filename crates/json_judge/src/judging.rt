@@ -5,7 +5,7 @@ ghost use Rattle.serde_json.specs.Data.{no_members};
 ghost use Rattle.serde_json.specs.Read.{converted, of_items, of_json, of_members};
 ghost use Rattle.json_judge.specs.Verdicts.{Tells, PassesItems, PassesMembers, PassesValue};
 
-use crate::members::{is_refused, kept_after};
+use crate::members::{Held, hold, is_held, is_refused};
 use crate::numbers::is_in_range;
 use code_units::Memory;
 use json::{Invalid, Reader, Scratch, Token};
@@ -110,16 +110,17 @@ fn pass_items(alloc: Global, reader: &mut Reader<'_>, depth: usize) -> Result<bo
 fn pass_members(alloc: Global, reader: &mut Reader<'_>, depth: usize) -> Result<bool, Invalid>
     ensures ok { IfOk result (PassesMembers depth reader.old reader.new) }
     ensures shorter { OnOk result (length reader.new < length reader.old) }
-    ensures err { OnErr result (converted (λ ms. of_members ms no_members) (members (value depth) (length reader.old) reader.old) ≡ None) }
+    ensures err { OnErr result (converted (λ ms. of_members ms no_members)
+        (members (value depth) (length reader.old) reader.old) ≡ None) }
 {
     let mut refused = false;
-    let mut kept = None;
+    let mut held = Held::new(alloc);
     'members: while let Some(name) = reader.next_key()? {
         let inner = pass_value(alloc, reader, depth)?;
         refused = either(refused, is_refused(alloc, name));
-        kept = kept_after(kept, name, inner);
+        hold(&mut held, name, inner);
     }
-    Ok(either(refused, kept.is_some()))
+    Ok(either(refused, is_held(&held)))
 }
 
 fn either(a: bool, b: bool) -> bool

@@ -6,7 +6,7 @@ use Rattle.json.specs.Reads.{token_of}
 use Rattle.json.proofs.Grammar.{value_is, read_key-shorter}
 use Rattle.serde_json.specs.Data.{no_items, no_members, put}
 use Rattle.serde_json.specs.Read.{of_json, of_items, converted}
-use Rattle.json_judge.proofs.Kept.{all_before, all_last, items_refused, key_put, keys_put, keys_refused, kept_some}
+use Rattle.json_judge.proofs.Kept.{all_before, all_last, held_none, items_refused, key_put, keys_put, keys_refused}
 use Rattle.json_judge.proofs.Passed.{array_refused, deep_array, deep_object, either_true, number_refused, object_refused, on_err, on_err_weaker, passed, passes_array, passes_number, passes_object}
 use Rattle.json_judge.proofs.Turns.{item_read, item_refused, items_over, member_read, member_refused, key_refused, members_over, items_before, one_more_item, none_before}
 use Rattle.json_judge.proofs.judging.+pass.Goals as goal
@@ -139,7 +139,7 @@ pass_items-returns-clause-ok t c =
 -- ## Members
 
 pub pass_members-members-init : goal.pass_members-members-init
-pass_members-members-init t c = (length c.args.reader.now, no_members, omega arith, refl, omega arith, (λ e. absurd (cc)), tt)
+pass_members-members-init t c = (length c.args.reader.now, no_members, omega arith, refl, omega arith, (λ e. absurd (cc)), held_none c.new-held.result no_members c.new-held.ensures.empty)
 
 pub pass_members-returns-in_err-name-clause-err : goal.pass_members-returns-in_err-name-clause-err
 pass_members-returns-in_err-name-clause-err t c =
@@ -174,7 +174,7 @@ pass_members-members-preserved t c =
       l.invariant.3 ∙ member_read p old n k l.reader s r d (omega (arith, l.invariant.2)) named done.ok.read,
       omega (arith, l.invariant.4),
       (λ e. either_true l.refused c.is_refused.result c.either-refused.result c.either-refused.ensures e (λ h. keys_put k d old (l.invariant.5 h)) (λ h. key_put k d old (c.is_refused.ensures h))),
-      c.kept_after-kept.ensures old d done.ok.names l.invariant.6,
+      c.hold.ensures old d done.ok.names l.invariant.6,
     )
 
 pub pass_members-returns-clause-ok : goal.pass_members-returns-clause-ok
@@ -186,5 +186,5 @@ pass_members-returns-clause-ok t c =
     record {
       given = old;
       read = l.invariant.3 ∙ members_over p old n l.reader c.next_key.new.self l.invariant.2 (grind arith);
-      names = λ e. either_true l.refused c.is_some.result c.either.result c.either.ensures e (λ h. keys_refused old (l.invariant.5 h)) (λ h. kept_some l.kept old (sym c.is_some.ensures ∙ h) l.invariant.6);
+      names = λ e. either_true l.refused c.is_held.result c.either.result c.either.ensures e (λ h. keys_refused old (l.invariant.5 h)) (c.is_held.ensures old l.invariant.6);
     }

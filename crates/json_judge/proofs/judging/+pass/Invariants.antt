@@ -1,9 +1,8 @@
 use Rattle.std.proofs.Common.{◌≡◌, ℕ, ◌+◌, ◌*◌, ◌≤◌, List, length, true, false}
-use Rattle.std.specs.Prelude.{IfSome}
 use Rattle.json.specs.Json.{items, members, value, parse_map}
 use Rattle.serde_json.specs.Data.{Data, Members, no_members}
 use Rattle.serde_json.specs.Read.{of_items, of_members, converted}
-use Rattle.json_judge.specs.Names.{HasRefused}
+use Rattle.json_judge.specs.Names.{AreRefused}
 use Rattle.json_judge.proofs.Kept.{all_names, keys_permitted}
 use Rattle.json_judge.proofs.Turns.{items_before}
 use Rattle.json_judge.proofs.judging.+pass.Given as goal
@@ -33,7 +32,7 @@ invariant-pass_members-members l =
     × (converted (λ ms. of_members ms no_members) (members (value l.depth) (length l.initial.reader) l.initial.reader) ≡ converted (λ ms. of_members ms found) (members (value l.depth) n l.reader))
     × (length l.reader ≤ length l.initial.reader)
     × (l.refused ≡ true → keys_permitted found ≡ false)
-    × IfSome l.kept (λ k. HasRefused k.now found)
+    × AreRefused l.held found
 
 abbrev pub decreases-pass_members-members : goal.decreases-pass_members-members
 decreases-pass_members-members l = length l.reader
