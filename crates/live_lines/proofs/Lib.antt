@@ -1,4 +1,6 @@
+mod ReadOne
 mod Replying
+mod Causes
 mod Pieces
 mod Words
 mod Opening
@@ -6,3 +8,4 @@ mod Beginning
 mod Serving
 mod Endings
 mod Deciding
+mod Calm

@@ -2,13 +2,14 @@
 ghost use Rattle.std.specs.Prelude.{◌≡◌, ◌≤◌, ◌<◌, ◌++◌, ℕ, List, OnOk, length, string_bytes};
 ghost use Rattle.trace_reader.specs.Said.{a_swap, said};
 ghost use Rattle.run_steps.specs.Items.{IsFor};
+ghost use Rattle.live_text.specs.Answer.{refused_text};
 ghost use Rattle.page_live.specs.Page.{IsAlive};
-ghost use Rattle.live_lines.specs.Transcript.{Answered, Answers, Replies, ReportsOn, Stands};
+ghost use Rattle.live_lines.specs.Transcript.{Answered, Answers, AsksSwap, ReadFailed, Replies, ReportsOn, Stands};
 
 use code_units::Memory;
 use event_loop::Event;
 use host_io::Files;
-use live_text::{Cause, Request, RequestFault, push_refused, read_request};
+use live_text::{Cause, Request, RequestFault, one_request, push_refused, read_request};
 use page_live::Session;
 use run_steps::{FILE_LIMIT, Stop, read_file};
 use slot_check::SourceFile;
@@ -22,7 +23,8 @@ pub const LINE_LIMIT: usize = 1_048_576;
 /// The swaps that a page may take.
 const MOST_SWAPS: usize = 4;
 
-/// Appends the answer to a line. The only error is want of memory; then the session is of no use any more.
+/// Appends the answer to a line. A swap is answered with `NoFile` only where reading its file failed. The only error
+/// is want of memory; then the session is of no use any more.
 pub fn answer_line<F: Files>(
     alloc: Global,
     session: &mut Session,
@@ -32,11 +34,15 @@ pub fn answer_line<F: Files>(
 ) -> Result<(), Memory>
     requires stands { Stands session.old }
     requires room { session.old.page.taken < 4096 }
-    ensures answered { OnOk result (Answered (F.told files.old)
-        (λ parts pairs runs m s bytes t. Answers parts pairs runs m line.now s bytes t) session.old session.new
-        out.old.items out.new.items) }
+    ensures answered { OnOk result (Answered (F.told files.old) (λ parts pairs runs m s bytes t.
+        Answers F.told F.calm F.faults parts pairs runs m line.now s files.old bytes t files.new)
+        session.old session.new out.old.items out.new.items) }
+    ensures no_file { (file : List ℕ) → AsksSwap session.old.page.findings.names.items line.now file →
+        OnOk result (out.new.items ≡ out.old.items ++ refused_text Cause.NoFile →
+        ReadFailed F.told F.calm F.faults files.old files.new file) }
     ensures told { F.told files.new ≡ F.told files.old }
 {
+    one_request();
     if line.len() > LINE_LIMIT {
         return push_refused(Cause::TooLong, out);
     }
@@ -71,9 +77,12 @@ fn answer_item<F: Files>(
     requires stands { Stands session.old }
     requires room { session.old.page.taken < 4096 }
     requires shape { IsFor (length session.old.page.findings.names.items) (said item) }
-    ensures answered { OnOk result (Answered (F.told files.old)
-        (λ parts pairs runs m s bytes t. Replies parts pairs runs m
-        (said item) s bytes t) session.old session.new out.old.items out.new.items) }
+    ensures answered { OnOk result (Answered (F.told files.old) (λ parts pairs runs m s bytes t.
+        Replies F.told F.calm F.faults parts pairs runs m (said item) s files.old bytes t files.new)
+        session.old session.new out.old.items out.new.items) }
+    ensures no_file { (to : ℕ) (file : List ℕ) → said item ≡ a_swap to file →
+        OnOk result (out.new.items ≡ out.old.items ++ refused_text Cause.NoFile →
+        ReadFailed F.told F.calm F.faults files.old files.new file) }
     ensures told { F.told files.new ≡ F.told files.old }
 {
     match item {
@@ -102,9 +111,11 @@ fn answer_swap<F: Files>(
     requires stands { Stands session.old }
     requires room { session.old.page.taken < 4096 }
     requires there { to < length session.old.page.findings.names.items }
-    ensures answered { OnOk result (Answered (F.told files.old)
-        (λ parts pairs runs m s bytes t. Replies parts pairs runs m
-        (a_swap to (string_bytes name)) s bytes t) session.old session.new out.old.items out.new.items) }
+    ensures answered { OnOk result (Answered (F.told files.old) (λ parts pairs runs m s bytes t.
+        Replies F.told F.calm F.faults parts pairs runs m (a_swap to (string_bytes name)) s files.old bytes t files.new)
+        session.old session.new out.old.items out.new.items) }
+    ensures no_file { OnOk result (out.new.items ≡ out.old.items ++ refused_text Cause.NoFile →
+        ReadFailed F.told F.calm F.faults files.old files.new (string_bytes name)) }
     ensures told { F.told files.new ≡ F.told files.old }
 {
     if session.page.findings.swaps.slots.len() >= MOST_SWAPS {

@@ -1,5 +1,5 @@
 //! The call that the program makes: words, files and lines to answers and a status.
-ghost use Rattle.std.specs.Prelude.{◌≡◌, ◌≤◌, ◌<◌, ◌↔◌, ◌⊎◌, true, IfOk, IfSome, IsSomeAnd};
+ghost use Rattle.std.specs.Prelude.{◌≡◌, ◌≤◌, ◌<◌, ◌↔◌, ◌⊎◌, true, All, IfOk, IfSome, IsSomeAnd};
 ghost use Rattle.host_io.specs.Files.{Rose};
 ghost use Rattle.run_steps.specs.Page.{texts};
 ghost use Rattle.run_steps.specs.Reading.{HasPageFiles};
@@ -7,7 +7,7 @@ ghost use Rattle.run_steps.specs.Ends.{Stepped};
 ghost use Rattle.page_play.specs.Findings.{found_refused};
 ghost use Rattle.page_live.specs.Page.{IsAlive};
 ghost use Rattle.live_lines.specs.Transcript.{Closed, ServedOn, Stands, ending};
-ghost use Rattle.live_lines.specs.Outcome.{Ends, HasLiveFiles, IsLiveForm, IsOpened, LiveOutcome, NoPage, RanOn, is_early};
+ghost use Rattle.live_lines.specs.Outcome.{Ends, HasLiveFiles, IsLiveForm, IsOpened, IsSwapThere, LiveOutcome, NoPage, RanOn, is_early, none_failed};
 
 use crate::answering::{LINE_LIMIT, answer_line};
 use crate::asking::parse;
@@ -37,7 +37,8 @@ pub fn live<F: Files, L: Lines, S: Sink>(
     // Over files and lines that are told, what the sink holds behind what it held is what the words ask for.
     // The slice has no part in it.
     ensures outcome { IfSome (F.told files.old) (λ m. IfSome (L.left lines.old) (λ all.
-        LiveOutcome (texts words.now) m all (S.held sink.old) (S.held sink.new) result)) }
+        LiveOutcome F.told F.calm F.faults (texts words.now) m all files.old files.new
+        (S.held sink.old) (S.held sink.new) result)) }
     ensures usage { (result ≡ Status.Usage) ↔ (¬ IsLiveForm (texts words.now)) }
 
     // Where the words are of no form, or there is no page, nothing is written.
@@ -50,6 +51,13 @@ pub fn live<F: Files, L: Lines, S: Sink>(
     ensures unwritten { result ≡ Status.WriteFault → Rose (S.faults sink.old) (S.faults sink.new) }
     ensures calm { F.calm files.old → L.calm lines.old → IsSomeAnd (F.told files.old) (HasLiveFiles (texts words.now)) →
         ¬ (result ≡ Status.ReadFault) }
+
+    // Over calm files that have those of the page and of each swap it is as where no read fails: no line is answered
+    // with `NoFile`.
+    ensures calm_swaps { F.calm files.old → IfSome (F.told files.old) (λ m. IfSome (L.left lines.old) (λ all.
+        HasLiveFiles (texts words.now) m → All (IsSwapThere m) all →
+        LiveOutcome F.told F.calm none_failed (texts words.now) m all files.old files.new
+        (S.held sink.old) (S.held sink.new) result)) }
     ensures told { F.told files.new ≡ F.told files.old }
 {
     let Some(asked) = parse(words) else {
@@ -87,7 +95,8 @@ fn run<F: Files, L: Lines, S: Sink>(
 ) -> Status
     requires alive { IsAlive page }
     requires first { page.taken ≡ 0 }
-    ensures ran { RanOn (F.told files.old) (L.left lines.old) page (S.held sink.old) (S.held sink.new) result }
+    ensures ran { RanOn F.told F.calm F.faults (L.left lines.old) page files.old files.new (S.held sink.old)
+        (S.held sink.new) result }
     ensures ends { Ends (L.calm lines.old) (L.faults lines.old) (L.faults lines.new) (S.faults sink.old)
         (S.faults sink.new) result }
     ensures told { F.told files.new ≡ F.told files.old }
@@ -112,8 +121,8 @@ fn serve<F: Files, L: Lines, S: Sink>(
 ) -> Status
     requires stands { Stands session.old }
     requires room { session.old.page.taken < 4096 }
-    ensures served { ServedOn (F.told files.old) (L.left lines.old) session.old (S.held sink.old)
-        (S.held sink.new) result }
+    ensures served { ServedOn F.told F.calm F.faults (L.left lines.old) session.old files.old files.new
+        (S.held sink.old) (S.held sink.new) result }
     ensures ends { Ends (L.calm lines.old) (L.faults lines.old) (L.faults lines.new) (S.faults sink.old)
         (S.faults sink.new) result }
     ensures told { F.told files.new ≡ F.told files.old }
