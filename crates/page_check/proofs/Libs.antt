@@ -1,9 +1,10 @@
 -- The accepted libraries of a manifest, one by one.
-use Rattle.std.proofs.Common.{◌≡◌, ℕ, zero, suc, ◌<◌, ◌≤◌, ◌+◌, List, [], ◌∷◌, ◌++◌, length, take, map, get_or, All, Some, None, refl, sym, ap, subst, ◌∙◌, arith}
+use Rattle.std.proofs.Common.{◌≡◌, ℕ, zero, suc, ◌<◌, ◌≤◌, ◌+◌, List, [], ◌∷◌, ◌++◌, length, take, map, get_or, All, Some, None, Result, refl, sym, ap, subst, ◌∙◌, arith}
 use Rattle.std.specs.Prelude.{slice_get}
-use Rattle.std.proofs.lemmas.List.{length_push}
+use Rattle.std.proofs.lemmas.List.{length-map, length_push, take_all}
 use Rattle.std.proofs.lemmas.List.Elements.{All-push}
 use Rattle.std.proofs.lemmas.Option.{slice_get_within}
+use Rattle.first_breach.specs.declared.Breach.{Breach}
 use Rattle.js_tree.specs.Plain.{Stmts}
 use Rattle.js_tree.specs.Trees.{program_of}
 use Rattle.adsafe_rules.specs.declared.accepted.Accepted.{Accepted}
@@ -15,12 +16,10 @@ use Rattle.script_check.specs.Verdict.{IsAccepted}
 use Rattle.script_check.proofs.Written.{script_of}
 use Rattle.script_check.proofs.Verdicts.{not_clean}
 use Rattle.slot_check.specs.declared.sources.SourceFile.{SourceFile}
-use Rattle.slot_check.specs.declared.libraries.Known.{Known}
 use Rattle.slot_check.specs.Sources.{Source}
 use Rattle.slot_check.specs.Slot.{AreClean}
 use Rattle.slot_check.specs.Slot as slots
-use Rattle.slot_check.specs.Verdicts.{source_of, sources_of, IsKnown, AreKnown, no_library, one_library}
-use Rattle.slot_check.proofs.Judging.{sources_more}
+use Rattle.slot_check.specs.Verdicts.{source_of, sources_of, IsLibraryJudged, IsJudgedAt}
 use Rattle.page_plan.specs.Contents.{program_at}
 use Rattle.page_check.specs.Judged.{IsKept, AreKept, none, more, KeepsOne}
 use Rattle.page_check.proofs.Lists.{all_more}
@@ -79,11 +78,21 @@ push_kept : (accepted : List Accepted) (libs : List Source) (places : List ℕ) 
 push_kept accepted libs places lib place none is = more is none
 push_kept accepted libs places lib place (more {libs = ls} {places = ps} has rest) is = more has (push_kept accepted ls ps lib place rest is)
 
-pub kept_more : (libs : List SourceFile) (i : ℕ) (lib : SourceFile) (shown : List ℕ) (old new : List Accepted) (places grown : List ℕ) (place : ℕ) → i < length libs → lib ≡ get_or libs i lib → shown ≡ lib.bytes.items → AreKept old (sources_of (take i libs)) places → KeepsOne shown old new → place ≡ length old → grown ≡ places ++ place ∷ [] → AreKept new (sources_of (take (i + 1) libs)) grown
-kept_more libs i lib shown old new places grown place within is same before one at after =
-    let here : IsKept new lib.bytes.items place = subst (IsKept new lib.bytes.items) (sym at) (subst (λ b. IsKept new b (length old)) same one.one) in
-    let all = push_kept new (sources_of (take i libs)) places (source_of lib) place (all_kept_on old new (sources_of (take i libs)) places one.longer one.stay before) here in
-    subst (AreKept new (sources_of (take (i + 1) libs))) (sym after) (subst (λ ls. AreKept new ls (places ++ place ∷ [])) (sym (sources_more libs i lib within is)) all)
+-- the libraries before a place, and the one there
+there_more : (libs : List Source) (i : ℕ) (lib : Source) → slice_get libs i ≡ Some lib → take (i + 1) libs ≡ take i libs ++ lib ∷ []
+there_more [] i lib there = absurd (none_some lib there)
+there_more (l ∷ ls) zero lib there = ap (λ x. x ∷ []) (some_is l lib there)
+there_more (l ∷ ls) (suc i) lib there = let on : suc i + 1 ≡ suc (i + 1) = omega arith in ap (λ n. take n (l ∷ ls)) on ∙ ap (λ xs. l ∷ xs) (there_more ls i lib there)
+
+pub kept_more : (libs : List Source) (i : ℕ) (r : Result Accepted Breach) (old new : List Accepted) (places grown : List ℕ) (place : ℕ) → IsJudgedAt libs i r → AreKept old (take i libs) places → ((library : List ℕ) → IsLibraryJudged library r → KeepsOne library old new) → place ≡ length old → grown ≡ places ++ place ∷ [] → AreKept new (take (i + 1) libs) grown
+kept_more libs i r old new places grown place at before keeps same after =
+    let one = keeps at.lib.bytes at.is in
+    let here : IsKept new at.lib.bytes place = subst (IsKept new at.lib.bytes) (sym same) one.one in
+    let all = push_kept new (take i libs) places at.lib place (all_kept_on old new (take i libs) places one.longer one.stay before) here in
+    subst (AreKept new (take (i + 1) libs)) (sym after) (subst (λ ls. AreKept new ls (places ++ place ∷ [])) (sym (there_more libs i at.lib at.there)) all)
+
+pub kept_all : (accepted : List Accepted) (libs : List SourceFile) (i : ℕ) (places : List ℕ) → length libs ≤ i → AreKept accepted (take i (sources_of libs)) places → AreKept accepted (sources_of libs) places
+kept_all accepted libs i places end kept = subst (λ ls. AreKept accepted ls places) (take_all i (sources_of libs) (omega (arith, end, length-map libs source_of))) kept
 
 pub none_kept : (accepted : List Accepted) (places : List ℕ) → places ≡ [] → AreKept accepted [] places
 none_kept accepted places is = subst (AreKept accepted []) (sym is) none
@@ -94,16 +103,6 @@ IsCleanLib a = IsClean (program_of (tree_of a)) scope.Lib
 
 pub none_clean : (accepted : List Accepted) → accepted ≡ [] → All IsCleanLib accepted
 none_clean accepted is = subst (All IsCleanLib) (sym is) (λ k d within. absurd (omega arith))
-
-push_known : (libs : List Source) (lib : Source) (ks : List Known) (k : Known) → AreKnown libs ks → IsKnown lib.bytes k → AreKnown (libs ++ lib ∷ []) (ks ++ k ∷ [])
-push_known libs lib ks k no_library is = one_library is no_library
-push_known libs lib ks k (one_library {libs = ls} {ks = js} has rest) is = one_library has (push_known ls lib js k rest is)
-
-pub known_more : (libs : List SourceFile) (i : ℕ) (lib : SourceFile) (shown : List ℕ) (ks grown : List Known) (k : Known) → i < length libs → lib ≡ get_or libs i lib → shown ≡ lib.bytes.items → AreKnown (sources_of (take i libs)) ks → IsKnown shown k → grown ≡ ks ++ k ∷ [] → AreKnown (sources_of (take (i + 1) libs)) grown
-known_more libs i lib shown ks grown k within is same before this after =
-    subst (AreKnown (sources_of (take (i + 1) libs))) (sym after)
-    (subst (λ ls. AreKnown ls (ks ++ k ∷ [])) (sym (sources_more libs i lib within is))
-    (push_known (sources_of (take i libs)) (source_of lib) ks k before (subst (λ b. IsKnown b k) same this)))
 
 -- ## One library
 

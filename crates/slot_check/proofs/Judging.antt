@@ -1,16 +1,17 @@
 -- The libraries of a manifest, one by one.
-use Rattle.std.proofs.Common.{◌≡◌, ℕ, zero, suc, ◌<◌, ◌+◌, List, [], ◌∷◌, ◌++◌, length, take, get_or, Option, Some, None, refl, sym, ap, subst, ◌∙◌, arith, string_bytes}
+use Rattle.std.proofs.Common.{◌≡◌, ℕ, zero, suc, ◌<◌, ◌+◌, List, [], ◌∷◌, ◌++◌, length, take, get_or, Option, Some, None, Result, refl, sym, ap, subst, ◌∙◌, arith, string_bytes}
 use Rattle.std.specs.Prelude.{slice_get}
 use Rattle.std.proofs.Math.ListN.{set}
 use Rattle.std.proofs.lemmas.List.{map-append, take_more, length-map}
 use Rattle.code_units.specs.Utf8.{units_of}
 use Rattle.first_breach.specs.declared.Breach.{Breach}
+use Rattle.adsafe_rules.specs.declared.accepted.Accepted.{Accepted}
 use Rattle.slot_check.specs.declared.sources.SourceFile.{SourceFile}
 use Rattle.slot_check.specs.declared.libraries.Known.{Known}
 use Rattle.slot_check.specs.declared.libraries.Known.TheVariants as known
 use Rattle.slot_check.specs.declared.libraries.Libraries.{Libraries}
 use Rattle.slot_check.specs.Sources.{Source, key_of, keys_of}
-use Rattle.slot_check.specs.Verdicts.{source_of, sources_of, IsKnown, AreKnown, no_library, one_library, IsLibraryVerdict, IsCleanAt, IsVerdictAt, AreJudged}
+use Rattle.slot_check.specs.Verdicts.{source_of, sources_of, IsKnown, AreKnown, no_library, one_library, IsCleanAt, IsVerdictAt, IsLibraryJudged, IsJudgedAt, AreJudged}
 
 -- the libraries before a place, and one more
 pub sources_more : (libs : List SourceFile) (i : ℕ) (lib : SourceFile) → i < length libs → lib ≡ get_or libs i lib → sources_of (take (i + 1) libs) ≡ sources_of (take i libs) ++ source_of lib ∷ []
@@ -74,8 +75,8 @@ there_at [] i file within is = absurd (omega arith)
 there_at (x ∷ xs) zero file within is = ap (λ f. Some (source_of f)) (sym is)
 there_at (x ∷ xs) (suc i) file within is = there_at xs i file (omega arith) is
 
-pub judged_at : (libs : List SourceFile) (i : ℕ) (file : SourceFile) (shown : List ℕ) (v : Option Breach) → i < length libs → file ≡ get_or libs i file → shown ≡ file.bytes.items → IsLibraryVerdict shown v → IsVerdictAt (sources_of libs) i v
-judged_at libs i file shown v within is same verdict = record { lib = source_of file; there = there_at libs i file within is; is = subst (λ b. IsLibraryVerdict b v) same verdict }
+pub judged_at : (libs : List SourceFile) (i : ℕ) (file : SourceFile) (shown : List ℕ) (r : Result Accepted Breach) → i < length libs → file ≡ get_or libs i file → shown ≡ file.bytes.items → IsLibraryJudged shown r → IsJudgedAt (sources_of libs) i r
+judged_at libs i file shown r within is same judged = record { lib = source_of file; there = there_at libs i file within is; is = subst (λ b. IsLibraryJudged b r) same judged }
 
 set_known : (libs : List SourceFile) (ks : List Known) (i : ℕ) (file : SourceFile) (k : Known) → AreKnown (sources_of libs) ks → i < length libs → file ≡ get_or libs i file → IsKnown file.bytes.items k → AreKnown (sources_of libs) (set ks i k)
 set_known [] ks i file k are within is new = absurd (omega arith)
@@ -83,10 +84,10 @@ set_known (x ∷ xs) ks zero file k (one_library old rest) within is new = one_l
 set_known (x ∷ xs) ks (suc i) file k (one_library {ks = js} old rest) within is new = one_library old (set_known xs js i file k rest (omega arith) is new)
 
 -- one library more is judged
-pub known_now : (libs : List SourceFile) (old new : Libraries) (i : ℕ) (file : SourceFile) (shown : List ℕ) (v : Option Breach) (k : Known) → AreJudged (sources_of libs) old → i < length libs → file ≡ get_or libs i file → shown ≡ file.bytes.items → IsLibraryVerdict shown v → ((library : List ℕ) → IsLibraryVerdict library v → IsKnown library k) → new.keys.items ≡ old.keys.items → new.known.items ≡ set old.known.items i k → AreJudged (sources_of libs) new
-known_now libs old new i file shown v k are within is same verdict by keys after = record {
+pub known_now : (libs : List SourceFile) (old new : Libraries) (i : ℕ) (file : SourceFile) (shown : List ℕ) (k : Known) → AreJudged (sources_of libs) old → i < length libs → file ≡ get_or libs i file → shown ≡ file.bytes.items → IsKnown shown k → new.keys.items ≡ old.keys.items → new.known.items ≡ set old.known.items i k → AreJudged (sources_of libs) new
+known_now libs old new i file shown k are within is same this keys after = record {
   keyed = keys ∙ are.keyed;
-  known = subst (AreKnown (sources_of libs)) (sym after) (set_known libs old.known.items i file k are.known within is (subst (λ b. IsKnown b k) same (by shown verdict)));
+  known = subst (AreKnown (sources_of libs)) (sym after) (set_known libs old.known.items i file k are.known within is (subst (λ b. IsKnown b k) same this));
 }
 
 pub clean_at : (libs : List Source) (at : ℕ) → IsVerdictAt libs at None → IsCleanAt libs at

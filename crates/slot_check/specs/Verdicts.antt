@@ -1,15 +1,17 @@
 -- What the verdicts on a slot and on its parts say.
-use Rattle.std.specs.Prelude.{◌≡◌, ℕ, ◌+◌, ◌<◌, ◌^◌, List, [], ◌∷◌, map, length, Some, None, Option, string_bytes, slice_get}
+use Rattle.std.specs.Prelude.{◌≡◌, ℕ, ◌+◌, ◌<◌, ◌^◌, List, [], ◌∷◌, map, length, Some, None, Option, Result, MatchResult, string_bytes, slice_get}
 use Rattle.first_breach.specs.declared.Breach.{Breach}
 use Rattle.code_units.specs.Places.{place_at as place}
 use Rattle.js_tree.specs.Plain.{Stmts}
 use Rattle.js_tree.specs.Trees.{program_of}
 use Rattle.plain_tree.specs.Trees.{Trees}
 use Rattle.plain_tree.specs.Plains.{Places}
+use Rattle.adsafe_rules.specs.declared.accepted.Accepted.{Accepted}
 use Rattle.adsafe_rules.specs.declared.scope.Scope.{Scope}
 use Rattle.adsafe_rules.specs.declared.scope.Scope.TheVariants as scope
 use Rattle.adsafe_rules.specs.Accepts.{tree_of}
 use Rattle.script_check.specs.Script.{ScriptFirst, LibFirst, IsCleanScript}
+use Rattle.script_check.specs.Verdict.{IsAccepted}
 use Rattle.trace_text.specs.declared.line.Rule.{Rule}
 use Rattle.trace_text.specs.declared.line.Rule.TheVariants as rule
 use Rattle.widget_form.specs.declared.form.Span.{Span}
@@ -117,6 +119,16 @@ pub record IsVerdictAt (libs : List Source) (at : ℕ) (verdict : Option Breach)
   pub lib : Source
   pub there : slice_get libs at ≡ Some lib
   pub is : IsLibraryVerdict lib.bytes verdict
+
+-- what was accepted of the bytes of a library, or their first broken rule
+abbrev pub IsLibraryJudged : List ℕ → Result Accepted Breach → Type 0
+IsLibraryJudged bytes judged = MatchResult judged (IsAccepted bytes scope.Lib) (λ b. LibFirst bytes b.rule b.at)
+
+-- the same of the library at a place
+pub record IsJudgedAt (libs : List Source) (at : ℕ) (judged : Result Accepted Breach) : Type 0 where
+  pub lib : Source
+  pub there : slice_get libs at ≡ Some lib
+  pub is : IsLibraryJudged lib.bytes judged
 
 -- what is known of the bytes of a library
 abbrev pub IsKnown : List ℕ → Known → Type 0

@@ -1,11 +1,11 @@
 //! The libraries of a manifest.
-ghost use Rattle.std.specs.Prelude.{◌≡◌, ◌<◌, ◌^◌, ℕ, List, All, Option, IfOk, IfErr, OnOk, length, position};
+ghost use Rattle.std.specs.Prelude.{◌≡◌, ◌<◌, ℕ, List, All, IfOk, IfErr, OnOk, length, position};
 ghost use Rattle.std.specs.Str.{bytes_eq};
-ghost use Rattle.slot_check.specs.Verdicts.{sources_of, IsSmall, IsKnown, IsLibraryVerdict, IsVerdictAt, AreJudged, IsCleanAt, IsLibraryRefusal, Refuses};
+ghost use Rattle.slot_check.specs.Verdicts.{sources_of, IsSmall, IsLibraryVerdict, IsVerdictAt, IsLibraryJudged, IsJudgedAt, AreJudged, IsCleanAt, IsLibraryRefusal, Refuses};
 
 use crate::fault::{SlotFault, broken_in};
 use crate::sources::SourceFile;
-use adsafe_rules::Scope;
+use adsafe_rules::{Accepted, Scope};
 use code_units::{Memory, Text};
 use first_breach::Breach;
 use script_check::{ScriptFault, judge_script};
@@ -23,8 +23,8 @@ pub enum Known {
     Broken(Breach),
 }
 
-/// The libraries of a manifest: the name of each as units, and what is known of it. A library is
-/// judged when a slot first names it, and its tree is not kept.
+/// The libraries of a manifest: the name of each as units, and what is known of it. One that was not
+/// judged before is judged when a slot names it, and its tree is not kept; who wants the tree accepts it.
 #[derive(Drop)]
 pub struct Libraries {
     pub keys: Vec<Text>,
@@ -75,6 +75,32 @@ impl Libraries {
         }
     }
 
+    /// Judges the library at a place, whatever was known of it: its tree, or its first broken rule.
+    pub fn accept(
+        &mut self,
+        alloc: Global,
+        libs: &[SourceFile],
+        place: usize,
+    ) -> Result<Result<Accepted, Breach>, Memory>
+        requires small { All IsSmall libs.now }
+        requires judged { AreJudged (sources_of libs.now) self.old }
+        requires inside { place < length libs.now }
+        ensures accepted { IfOk result (IsJudgedAt (sources_of libs.now) place) }
+        ensures judged { AreJudged (sources_of libs.now) self.new }
+    {
+        match judge_script(alloc, &Scope::Lib, &libs[place].bytes) {
+            Ok(accepted) => {
+                self.known[place] = Known::Clean;
+                Ok(Ok(accepted))
+            }
+            Err(ScriptFault::Broken(breach)) => {
+                self.known[place] = Known::Broken(breach);
+                Ok(Err(breach))
+            }
+            Err(ScriptFault::Memory) => Err(Memory),
+        }
+    }
+
     // The first broken rule of the library at a place, if it breaks one.
     fn verdict(
         &mut self,
@@ -93,35 +119,22 @@ impl Libraries {
             Known::Clean => Ok(None),
             Known::Broken(breach) => Ok(Some(breach)),
             Known::Unjudged => {
-                let first = library_verdict(alloc, &libs[place].bytes)?;
-                self.known[place] = as_known(first);
-                Ok(first)
+                let judged = self.accept(alloc, libs, place)?;
+                Ok(breach_of(judged))
             }
         }
     }
 }
 
-// The first broken rule of a library, if it breaks one.
-fn library_verdict(alloc: Global, library: &[u8]) -> Result<Option<Breach>, Memory>
-    requires { length library.now < 2 ^ 31 }
-    ensures { IfOk result (IsLibraryVerdict library.now) }
+// The first broken rule of a library that was judged, if it breaks one.
+fn breach_of(judged: Result<Accepted, Breach>) -> Option<Breach>
+    ensures { (library : List ℕ) → IsLibraryJudged library judged → IsLibraryVerdict library result }
 {
-    match judge_script(alloc, &Scope::Lib, library) {
+    match judged {
         Ok(accepted) => {
             drop(accepted);
-            Ok(None)
+            None
         }
-        Err(ScriptFault::Broken(breach)) => Ok(Some(breach)),
-        Err(ScriptFault::Memory) => Err(Memory),
-    }
-}
-
-// What is known by a verdict.
-fn as_known(verdict: Option<Breach>) -> Known
-    ensures { (library : List ℕ) → IsLibraryVerdict library verdict → IsKnown library result }
-{
-    match verdict {
-        Some(breach) => Known::Broken(breach),
-        None => Known::Clean,
+        Err(breach) => Some(breach),
     }
 }
