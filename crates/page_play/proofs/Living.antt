@@ -12,13 +12,12 @@ use Rattle.widget_meaning.specs.Items.{Item}
 use Rattle.page_plan.specs.declared.SlotContent.{SlotContent}
 use Rattle.page_plan.specs.declared.SlotSpec.{SlotSpec}
 use Rattle.page_plan.specs.Contents.{content_of}
-use Rattle.page_check.specs.Runs.{SlotRun, swap_run, swap_runs}
+use Rattle.page_check.specs.Runs.{SlotRun, swap_run, swap_runs, with_file}
 use Rattle.page_check.specs.Judged.{IsJudged, IsJudgedSlot, AreJudgedSwaps, no_swap, one_swap}
 use Rattle.slot_lives.specs.Lives as lives
 use Rattle.slot_lives.specs.Lives.{Life, last_life, swaps_in}
 use Rattle.slot_lives.specs.LifeLaws as laws
 use Rattle.slot_lives.specs.LifeLaws.{new_life}
-use Rattle.slot_lives.specs.Ends.{with_file}
 use Rattle.slot_lives.proofs.LawsHold.{life_laws}
 use Rattle.page_play.specs.Swaps.{swap_slots, last_swap, brought_by}
 use Rattle.page_play.proofs.Matching.{Alike}

@@ -12,13 +12,13 @@ use Rattle.round_laws.specs.Fed.{Fed}
 use Rattle.page_plan.specs.declared.PageSpec.{PageSpec}
 use Rattle.page_plan.specs.declared.SlotContent.{SlotContent}
 use Rattle.page_plan.specs.declared.SlotSpec.{SlotSpec}
-use Rattle.page_check.specs.Runs.{SlotRun}
+use Rattle.page_check.specs.Runs.{SlotRun, with_file}
 use Rattle.page_check.specs.Judged.{IsJudgedSlot, AreJudgedSlots, none, more}
 use Rattle.slot_lives.specs.Lives as lives
 use Rattle.slot_lives.specs.Lives.{Life, last_life, ended_at, ended_lives, ends_at}
 use Rattle.slot_lives.specs.LifeLaws as laws
 use Rattle.slot_lives.specs.LifeLaws.{ended_by}
-use Rattle.slot_lives.specs.Ends.{run_name, with_file}
+use Rattle.slot_lives.specs.Ends.{run_name}
 use Rattle.slot_lives.specs.Outcome.{all_lives, last_lives}
 use Rattle.slot_lives.proofs.LawsHold.{life_laws}
 use Rattle.page_play.specs.declared.findings.Findings.{Findings}

@@ -11,11 +11,11 @@ use Rattle.post_rounds.specs.News.{news}
 use Rattle.round_laws.specs.Fed.{Fed, RoundsTo, again, ended, event_of, fed_on, fresh, round}
 use Rattle.round_laws.proofs.Rounding.{after_round}
 use Rattle.round_laws.proofs.Ending.{no_channels}
-use Rattle.page_check.specs.Runs.{SlotRun}
+use Rattle.page_check.specs.Runs.{SlotRun, with_file}
 use Rattle.page_check.proofs.OneWidget.{widget_once, never_refused}
 use Rattle.slot_lives.specs.Lives.{Life, last_life}
 use Rattle.slot_lives.specs.OtherSlots.{OtherSlotLaws}
-use Rattle.slot_lives.specs.Ends.{with_file, life_name, Begins, accepted, broken, end_of, AllBegin, no_life, one_life, AreEnded, no_end, one_end}
+use Rattle.slot_lives.specs.Ends.{life_name, Begins, accepted, broken, end_of, AllBegin, no_life, one_life, AreEnded, no_end, one_end}
 use Rattle.slot_lives.specs.Outcome.{last_lives, ComeTo}
 use Rattle.slot_lives.specs.EndLaws.{IsEnd, by_itself, not_accepted, end_at, items_of, EndsOn, EndLaws, OtherEnds}
 use Rattle.slot_lives.proofs.Others.{other_slots}

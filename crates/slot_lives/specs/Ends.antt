@@ -19,10 +19,6 @@ use Rattle.slot_lives.specs.Lines.{life_line}
 abbrev pub run_name : SlotRun → List ℕ
 run_name run = run.slot.name
 
--- a slot with another file
-abbrev pub with_file : SlotRun → Source → SlotRun
-with_file run file = record { slot = record { name = run.slot.name; file = file; libs = run.slot.libs }; fuel = run.fuel }
-
 -- the name of the slot of a life
 abbrev pub life_name : Life SlotRun → List ℕ
 life_name life = run_name life.runs

@@ -8,9 +8,9 @@ use Rattle.slot_check.specs.Sources.{Source}
 use Rattle.widget_meaning.specs.OwnState.{OwnState}
 use Rattle.round_laws.specs.Fed.{Fed, RoundsTo}
 use Rattle.page_plan.specs.Pages.{roots, page_of}
-use Rattle.page_check.specs.Runs.{SlotRun, pieces}
+use Rattle.page_check.specs.Runs.{SlotRun, pieces, with_file}
 use Rattle.slot_lives.specs.Lives.{Life, lives, last_life, ended_lives}
-use Rattle.slot_lives.specs.Ends.{run_name, with_file, life_name, end_of, AllBegin, AreLines, AreEnded, some_refused}
+use Rattle.slot_lives.specs.Ends.{run_name, life_name, end_of, AllBegin, AreLines, AreEnded, some_refused}
 
 -- over the files of the swaps of a trace, in their order
 module _ (files : List Source) (items : List Said) where

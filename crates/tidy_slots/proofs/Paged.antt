@@ -10,9 +10,9 @@ use Rattle.slot_check.specs.Sources.{Source}
 use Rattle.widget_meaning.specs.OwnState.{OwnState}
 use Rattle.round_laws.specs.Fed.{Fed, RoundsTo}
 use Rattle.page_plan.specs.Pages.{roots, page_of}
-use Rattle.page_check.specs.Runs.{SlotRun, pieces, runs_over}
+use Rattle.page_check.specs.Runs.{SlotRun, pieces, runs_over, with_file}
 use Rattle.slot_lives.specs.Lives.{Life, lives, ended_at, ended_lives}
-use Rattle.slot_lives.specs.Ends.{run_name, with_file, life_name, end_of}
+use Rattle.slot_lives.specs.Ends.{run_name, life_name, end_of}
 use Rattle.slot_lives.specs.Outcome.{all_lives, last_lives, ComeTo, IsReport}
 use Rattle.slot_lives.proofs.Alike.{no_life, one_life, lives_alike, last_alike, ended_alike}
 use Rattle.tidy_slots.specs.Tidied.{AreTidied}
