@@ -11,7 +11,8 @@ use Rattle.slot_check.specs.Verdicts.{source_of, sources_of, IsSmall}
 use Rattle.explain_run.specs.declared.reading.Stop.{Stop}
 use Rattle.explain_run.specs.declared.ending.Status.{Status}
 use Rattle.explain_run.specs.declared.ending.Status.TheVariants as status
-use Rattle.explain_run.specs.Page.{texts, file_limit, HasBytes, IsRead, AreRead, none, more, IsFirstLong, here, later}
+use Rattle.run_steps.specs.Page.{texts, file_limit}
+use Rattle.explain_run.specs.Page.{HasBytes, IsRead, AreRead, none, more, IsFirstLong, here, later}
 use Rattle.explain_run.specs.Steps.{NoFile, too_long, NoFiles, first_long}
 
 -- ## One file

@@ -1,6 +1,5 @@
 pub mod Stepping
 pub mod Gathered
-pub mod Names
 pub mod Manifests
 pub mod Shapes
 pub mod Pieces

@@ -13,7 +13,8 @@ use Rattle.explain_run.specs.declared.reading.Stop.{Stop}
 use Rattle.explain_run.specs.declared.reading.Stop.TheVariants as stop
 use Rattle.explain_run.specs.declared.reading.Why.{Why}
 use Rattle.explain_run.specs.declared.reading.Why.TheVariants as why
-use Rattle.explain_run.specs.Page.{manifest_limit, trace_limit, HasBytes}
+use Rattle.run_steps.specs.Page.{manifest_limit, trace_limit}
+use Rattle.explain_run.specs.Page.{HasBytes}
 use Rattle.explain_run.specs.Steps.{status_of, IsBecause, IsMisshapen, IsStopBy, IsNoManifest, IsNoTrace, NoManifest, bad_manifest, NoTrace, many_items, bad_trace}
 
 because : (P : Status → Type 0) (w : Why) (e : Stop) → P (status_of w) → IsBecause w e → IsStopBy P e

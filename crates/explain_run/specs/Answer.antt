@@ -7,7 +7,8 @@ use Rattle.slot_check.specs.Sources.{Source}
 use Rattle.explain_run.specs.declared.ending.Status.{Status}
 use Rattle.explain_run.specs.declared.ending.Status.TheVariants as status
 use Rattle.explain_run.specs.Request.{Request, Library, Page, Asks, IsForm}
-use Rattle.explain_run.specs.Page.{file_limit, HasBytes, AreRead, slot_names, files_named, HasManifest, slots_of}
+use Rattle.run_steps.specs.Page.{file_limit, slot_names, files_named, slots_of}
+use Rattle.explain_run.specs.Page.{HasBytes, AreRead, HasManifest}
 use Rattle.explain_run.specs.Steps.{NoFile, NoFiles, NoManifest, IsTraced, NoTraced}
 use Rattle.explain_run.specs.Text.{IsToldOfSlots, IsToldOfLibrary}
 

@@ -1,58 +1,12 @@
 -- A manifest and the files that it names, and a trace.
-use Rattle.std.specs.Prelude.{◌≡◌, ℕ, ◌<◌, ◌≤◌, List, [], ◌∷◌, ◌++◌, map, length, take, drop, Some, string_bytes, String, IsTrue}
-use Rattle.std.specs.List.{flat_map}
-use Rattle.std.specs.declared.alloc.Global.{Global}
+use Rattle.std.specs.Prelude.{◌≡◌, ℕ, ◌<◌, ◌≤◌, List, [], ◌∷◌, length, Some}
 use Rattle.host_io.specs.Files.{FileMap}
-use Rattle.manifest_reader.specs.declared.entry.Entry.{Entry}
-use Rattle.manifest_reader.specs.declared.entry.Entry.TheVariants as entry
 use Rattle.manifest_reader.specs.declared.entry.Manifest.{Manifest}
 use Rattle.manifest_reader.specs.Manifest.{ReadsManifest}
-use Rattle.manifest_shape.specs.Slots.{are_slots}
 use Rattle.trace_reader.specs.declared.item.TraceItem.{TraceItem}
 use Rattle.trace_reader.specs.Trace.{ReadsTrace}
-use Rattle.slot_check.specs.Sources.{Source, Slot}
-use Rattle.slot_check.specs.Line.{slots_over}
-
--- the bytes of each word
-abbrev pub texts : List (String Global) → List (List ℕ)
-texts words = map string_bytes words
-
--- the name of an entry that is a slot
-abbrev pub entry_name : Entry → List (List ℕ)
-entry_name (entry.Html content) = []
-entry_name (entry.Slot name file fuel) = name ∷ []
-
--- the file of an entry that is a slot
-abbrev pub entry_file : Entry → List (List ℕ)
-entry_file (entry.Html content) = []
-entry_file (entry.Slot name file fuel) = string_bytes file ∷ []
-
--- the names of the slots of a manifest, in order
-abbrev pub slot_names : List Entry → List (List ℕ)
-slot_names entries = flat_map entry_name entries
-
--- and their files
-abbrev pub slot_files : List Entry → List (List ℕ)
-slot_files entries = flat_map entry_file entries
-
--- the files that a manifest names, in the order in which they are read: those of the slots, and the libraries
-abbrev pub files_named : Manifest → List (List ℕ)
-files_named manifest = slot_files manifest.entries.items ++ texts manifest.libs.items
-
--- the slots of a manifest are at most 16, and no two of them have one name
-abbrev pub HasSlots : Manifest → Type 0
-HasSlots manifest = IsTrue (are_slots (slot_names manifest.entries.items))
-
--- the bytes that a widget file or a library may have
-abbrev pub file_limit : ℕ
-file_limit = 262144
-
--- the bytes that a manifest may have, or a trace
-abbrev pub manifest_limit : ℕ
-manifest_limit = 1048576
-
-abbrev pub trace_limit : ℕ
-trace_limit = 1048576
+use Rattle.slot_check.specs.Sources.{Source}
+use Rattle.run_steps.specs.Page.{manifest_limit, trace_limit}
 
 -- the file of a name has these bytes, and is within the limit
 pub record HasBytes (files : FileMap) (limit : ℕ) (name bytes : List ℕ) : Type 0 where
@@ -86,11 +40,3 @@ pub record HasTrace (files : FileMap) (names : List (List ℕ)) (name : List ℕ
   pub has : HasBytes files trace_limit name bytes
   pub items : List TraceItem
   pub reads : ReadsTrace bytes names items
-
--- the slots of these names with their files, which come first, and the libraries behind them
-abbrev pub slots_with : List (List ℕ) → List Source → List Slot
-slots_with names sources = slots_over (drop (length names) sources) names (take (length names) sources)
-
--- the slots of a manifest, with the files that it names
-abbrev pub slots_of : Manifest → List Source → List Slot
-slots_of manifest sources = slots_with (slot_names manifest.entries.items) sources

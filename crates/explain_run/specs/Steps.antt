@@ -15,7 +15,8 @@ use Rattle.explain_run.specs.declared.reading.Stop.{Stop}
 use Rattle.explain_run.specs.declared.reading.Stop.TheVariants as stop
 use Rattle.explain_run.specs.declared.ending.Status.{Status}
 use Rattle.explain_run.specs.declared.ending.Status.TheVariants as status
-use Rattle.explain_run.specs.Page.{file_limit, manifest_limit, trace_limit, HasBytes, IsFirstLong, HasTrace}
+use Rattle.run_steps.specs.Page.{file_limit, manifest_limit, trace_limit}
+use Rattle.explain_run.specs.Page.{HasBytes, IsFirstLong, HasTrace}
 
 -- ## What is wrong with a file
 

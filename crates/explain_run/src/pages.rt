@@ -1,7 +1,7 @@
 //! What is told of a page and of a library.
 ghost use Rattle.std.specs.Prelude.{◌≡◌, ◌≤◌, length, option_copied, All, IfOk};
 ghost use Rattle.slot_check.specs.Verdicts.{sources_of, IsSmall};
-ghost use Rattle.explain_run.specs.Page.{file_limit, slot_names, files_named, slots_with, HasSlots};
+ghost use Rattle.run_steps.specs.Page.{file_limit, slot_names, files_named, slots_with, HasSlots};
 ghost use Rattle.explain_run.specs.Request.{request_of};
 ghost use Rattle.explain_run.specs.Steps.{NoFile, NoTraced, Stepped};
 ghost use Rattle.explain_run.specs.Text.{IsToldOfSlots};
@@ -10,10 +10,11 @@ ghost use Rattle.explain_run.specs.Answer.{OfLibrary, OfSources, OfManifest, OfP
 use crate::reading::{FILE_LIMIT, Stop, read_file};
 use crate::refusals::{Told, tell_library, tell_slots};
 use crate::request::Request;
-use crate::steps::{files_of, manifest_in, slot_names, try_trace};
+use crate::steps::{files_of, manifest_in, try_trace};
 use code_units::{Memory, Text};
 use host_io::Files;
 use manifest_reader::Manifest;
+use run_steps::slot_names;
 use slot_check::SourceFile;
 use std::alloc::Global;
 

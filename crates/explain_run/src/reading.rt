@@ -1,7 +1,8 @@
 //! Reading files within their limits.
 ghost use Rattle.std.specs.Prelude.{◌≡◌, ◌≤◌, ◌<◌, length, All, IfOk};
 ghost use Rattle.slot_check.specs.Verdicts.{source_of, sources_of, IsSmall};
-ghost use Rattle.explain_run.specs.Page.{texts, file_limit, IsRead, AreRead, HasBytes};
+ghost use Rattle.run_steps.specs.Page.{texts, file_limit};
+ghost use Rattle.explain_run.specs.Page.{IsRead, AreRead, HasBytes};
 ghost use Rattle.explain_run.specs.Steps.{NoFile, NoFiles, Stepped, IsBecause};
 
 use code_units::Memory;

@@ -1,6 +1,6 @@
 //! What the words of the command line ask for.
 ghost use Rattle.std.specs.Prelude.{◌≡◌, ◌∷◌, [], IfSome, IfNone};
-ghost use Rattle.explain_run.specs.Page.{texts};
+ghost use Rattle.run_steps.specs.Page.{texts};
 ghost use Rattle.explain_run.specs.Request.{request_of, Asks, IsForm, is_script_name};
 
 /// What is to be explained.

@@ -1,7 +1,7 @@
 //! The top call.
 ghost use Rattle.std.specs.Prelude.{◌≡◌, IsTrue, IfSome, IfOk};
 ghost use Rattle.host_io.specs.Files.{Rose};
-ghost use Rattle.explain_run.specs.Page.{texts};
+ghost use Rattle.run_steps.specs.Page.{texts};
 ghost use Rattle.explain_run.specs.Request.{IsForm};
 ghost use Rattle.explain_run.specs.Steps.{status_of, trace_status};
 ghost use Rattle.explain_run.specs.Answer.{ending, is_answer, Answer, AnswerOrFault, IsTold, Wrote};

@@ -1,16 +1,18 @@
 //! The steps of the work that read: a manifest, the files that it names, a trace.
-ghost use Rattle.std.specs.Prelude.{◌≡◌, ◌++◌, ◌∷◌, [], ◌<◌, ◌^◌, length, option_copied, All, IfOk, IfErr, OnOk};
+ghost use Rattle.std.specs.Prelude.{◌≡◌, ◌<◌, ◌^◌, length, option_copied, All, IfOk, IfErr};
 ghost use Rattle.manifest_reader.specs.Manifest.{ReadsManifest};
 ghost use Rattle.trace_reader.specs.Trace.{ReadsTrace};
 ghost use Rattle.slot_check.specs.Verdicts.{sources_of, IsSmall};
-ghost use Rattle.explain_run.specs.Page.{texts, file_limit, AreRead, entry_name, entry_file, slot_names, slot_files, files_named, HasSlots, HasManifest, HasTrace};
+ghost use Rattle.run_steps.specs.Page.{file_limit, files_named, HasSlots};
+ghost use Rattle.explain_run.specs.Page.{AreRead, HasManifest, HasTrace};
 ghost use Rattle.explain_run.specs.Steps.{NoManifest, NoFiles, NoTrace, IsTraced, NoTraced, Stepped, IsStopBy, IsNoManifest, IsNoTrace, IsMisshapen};
 
 use crate::reading::{Stop, Why, bad_file, read_file, read_files};
-use code_units::{Memory, Text};
+use code_units::Text;
 use host_io::Files;
 use json_shapes::ShapeFault;
-use manifest_reader::{Entry, Manifest, read_manifest};
+use manifest_reader::{Manifest, read_manifest};
+use run_steps::files_named;
 use slot_check::SourceFile;
 use std::alloc::Global;
 use trace_reader::{TraceItem, read_trace};
@@ -109,74 +111,5 @@ fn misshapen(alloc: Global, name: &str, fault: ShapeFault, why: Why) -> Stop
         ShapeFault::NotJson | ShapeFault::BadShape { .. } | ShapeFault::TooMany { .. } => {
             bad_file(alloc, name, why)
         }
-    }
-}
-
-// The names of the files of a manifest, in the order in which they are read.
-fn files_named(alloc: Global, manifest: &Manifest) -> Result<Vec<String>, Memory>
-    ensures { IfOk result (λ names. texts names.items ≡ files_named manifest.now) }
-{
-    let mut names = slot_files(alloc, &manifest.entries)?;
-    push_names(alloc, &manifest.libs, &mut names)?;
-    Ok(names)
-}
-
-// The names of the files of the slots.
-fn slot_files(alloc: Global, entries: &[Entry]) -> Result<Vec<String>, Memory>
-    ensures { IfOk result (λ names. texts names.items ≡ slot_files entries.now) }
-{
-    let mut names = Vec::new(alloc);
-    'entries: for entry in entries {
-        push_file(alloc, entry, &mut names)?;
-    }
-    Ok(names)
-}
-
-// Appends the name of the file of an entry that is a slot.
-fn push_file(alloc: Global, entry: &Entry, names: &mut Vec<String>) -> Result<(), Memory>
-    ensures { OnOk result (texts names.new.items ≡ texts names.old.items ++ entry_file entry.now) }
-{
-    match entry {
-        Entry::Html(_) => Ok(()),
-        Entry::Slot { file, .. } => push_copy(alloc, file.as_str(), names),
-    }
-}
-
-// Appends a copy of a name.
-fn push_copy(alloc: Global, name: &str, names: &mut Vec<String>) -> Result<(), Memory>
-    ensures { OnOk result (texts names.new.items ≡ texts names.old.items ++ name.now ∷ []) }
-{
-    names.push(String::from_str(alloc, name)?)?;
-    Ok(())
-}
-
-// Appends copies of names.
-fn push_names(alloc: Global, more: &[String], names: &mut Vec<String>) -> Result<(), Memory>
-    ensures { OnOk result (texts names.new.items ≡ texts names.old.items ++ texts more.now) }
-{
-    'more: for name in more {
-        push_copy(alloc, name.as_str(), names)?;
-    }
-    Ok(())
-}
-
-/// The names of the slots.
-pub fn slot_names(alloc: Global, entries: &[Entry]) -> Result<Vec<Text>, Memory>
-    ensures { IfOk result (λ names. names.items ≡ slot_names entries.now) }
-{
-    let mut names = Vec::new(alloc);
-    'entries: for entry in entries {
-        push_name(entry, &mut names)?;
-    }
-    Ok(names)
-}
-
-// Appends the name of an entry that is a slot.
-fn push_name(entry: &Entry, names: &mut Vec<Text>) -> Result<(), Memory>
-    ensures { OnOk result (names.new.items ≡ names.old.items ++ entry_name entry.now) }
-{
-    match entry {
-        Entry::Html(_) => Ok(()),
-        Entry::Slot { name, .. } => Ok(names.push(name.share()?)?),
     }
 }

@@ -160,8 +160,8 @@ pub fn cert_in<F: Files>(alloc: Global, name: &str, files: &mut F) -> Result<Vec
     read_file(alloc, name, CERT_LIMIT, files)
 }
 
-// The names of the files of a manifest, in the order in which they are read.
-fn files_named(alloc: Global, manifest: &Manifest) -> Result<Vec<String>, Memory>
+/// The names of the files of a manifest, in the order in which they are read: those of its slots, and its libraries.
+pub fn files_named(alloc: Global, manifest: &Manifest) -> Result<Vec<String>, Memory>
     ensures { IfOk result (λ names. texts names.items ≡ files_named manifest.now) }
 {
     let mut names = slot_files(alloc, &manifest.entries)?;

@@ -1,6 +1,7 @@
 use Rattle.std.proofs.lemmas.Result.{err_from_is_err_and}
 use Rattle.std.proofs.Common.{subst, ap, arith, length}
-use Rattle.explain_run.specs.Page.{file_limit, HasBytes}
+use Rattle.run_steps.specs.Page.{file_limit}
+use Rattle.explain_run.specs.Page.{HasBytes}
 use Rattle.explain_run.specs.Steps.{NoFile}
 use Rattle.explain_run.specs.Text.{IsToldOfLibrary}
 use Rattle.explain_run.specs.Answer.{OfLibrary}

@@ -1,7 +1,8 @@
 use Rattle.std.proofs.lemmas.Result.{err_from_is_err_and}
 use Rattle.std.proofs.Common.{option_copied, length, All, ap, sym, subst, ◌∙◌}
 use Rattle.slot_check.specs.Verdicts.{sources_of, IsSmall}
-use Rattle.explain_run.specs.Page.{file_limit, AreRead, slot_names, files_named}
+use Rattle.run_steps.specs.Page.{file_limit, slot_names, files_named}
+use Rattle.explain_run.specs.Page.{AreRead}
 use Rattle.explain_run.specs.Steps.{NoFiles, NoTraced}
 use Rattle.explain_run.specs.Answer.{OfSources, OfManifest, NoSources, no_files, no_trace}
 use Rattle.explain_run.proofs.Stepping.{ended, went_on}

@@ -1,7 +1,7 @@
 use Rattle.std.proofs.lemmas.Result.{err_from_is_err_and}
 use Rattle.std.proofs.Common.{◌≡◌, Ok, Err, option_copied, length, ap, subst, ◌∙◌, arith}
 use Rattle.slot_check.specs.Verdicts.{sources_of}
-use Rattle.explain_run.specs.Page.{slot_names, slots_with}
+use Rattle.run_steps.specs.Page.{slot_names, slots_with}
 use Rattle.explain_run.specs.Steps.{IsTraced, NoTraced, Stepped}
 use Rattle.explain_run.specs.Text.{IsToldOfSlots}
 use Rattle.explain_run.specs.Answer.{OfSources}

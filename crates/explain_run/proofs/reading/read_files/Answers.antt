@@ -1,7 +1,8 @@
 use Rattle.std.proofs.lemmas.Result.{err_from_is_err_and}
 use Rattle.std.proofs.Common.{length, take, IfSome, ap, subst, ◌∙◌, refl, arith}
 use Rattle.slot_check.specs.Verdicts.{source_of, sources_of}
-use Rattle.explain_run.specs.Page.{texts, file_limit, IsRead, AreRead}
+use Rattle.run_steps.specs.Page.{texts, file_limit}
+use Rattle.explain_run.specs.Page.{IsRead, AreRead}
 use Rattle.explain_run.specs.Steps.{NoFile, NoFiles}
 use Rattle.explain_run.proofs.Gathered.{read_more, long_here, read_all, all_small, many_more, no_read, none_small}
 use Rattle.explain_run.proofs.Stepping.{read_well as all_read, ended_after, no_memory_after}

@@ -1,6 +1,7 @@
 use Rattle.std.proofs.Common.{◌≡◌, ◌≤◌, length, take, All, IfSome}
 use Rattle.slot_check.specs.Verdicts.{sources_of, IsSmall}
-use Rattle.explain_run.specs.Page.{texts, file_limit, AreRead}
+use Rattle.run_steps.specs.Page.{texts, file_limit}
+use Rattle.explain_run.specs.Page.{AreRead}
 use Rattle.explain_run.proofs.reading.read_files.Given as goal
 
 abbrev pub invariant-names : goal.invariant-names

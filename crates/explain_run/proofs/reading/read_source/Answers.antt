@@ -1,7 +1,8 @@
 use Rattle.std.proofs.lemmas.Result.{err_from_is_err_and}
 use Rattle.std.proofs.Common.{arith}
 use Rattle.slot_check.specs.Verdicts.{source_of}
-use Rattle.explain_run.specs.Page.{file_limit, HasBytes, IsRead}
+use Rattle.run_steps.specs.Page.{file_limit}
+use Rattle.explain_run.specs.Page.{HasBytes, IsRead}
 use Rattle.explain_run.specs.Steps.{NoFile}
 use Rattle.explain_run.proofs.Stepping.{ended, given, no_memory_left}
 use Rattle.explain_run.proofs.reading.read_source.Goals as goal

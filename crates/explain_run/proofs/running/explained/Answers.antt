@@ -1,5 +1,5 @@
 use Rattle.std.proofs.Common.{sym, subst, IfSome}
-use Rattle.explain_run.specs.Page.{texts}
+use Rattle.run_steps.specs.Page.{texts}
 use Rattle.explain_run.specs.Request.{request_of}
 use Rattle.explain_run.specs.Answer.{AnswerOrFault}
 use Rattle.explain_run.proofs.Answering.{usage_answer, told_answer, stop_answer, told_ending, not_usage, not_unread}

@@ -1,4 +1,4 @@
-use Rattle.explain_run.specs.Page.{texts}
+use Rattle.run_steps.specs.Page.{texts}
 use Rattle.explain_run.proofs.Answering.{wrote, not_written, not_memory}
 use Rattle.explain_run.proofs.running.run.Goals as goal
 

@@ -1,7 +1,8 @@
 use Rattle.std.proofs.lemmas.Result.{err_from_is_err_and}
 use Rattle.std.proofs.Common.{ap, subst, ◌∙◌}
 use Rattle.slot_check.specs.Verdicts.{sources_of}
-use Rattle.explain_run.specs.Page.{texts, file_limit, AreRead, files_named}
+use Rattle.run_steps.specs.Page.{texts, file_limit, files_named}
+use Rattle.explain_run.specs.Page.{AreRead}
 use Rattle.explain_run.specs.Steps.{NoFiles, Stepped}
 use Rattle.explain_run.proofs.Stepping.{no_memory}
 use Rattle.explain_run.proofs.Gathered.{many_files}

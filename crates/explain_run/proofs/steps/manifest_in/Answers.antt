@@ -1,6 +1,7 @@
 use Rattle.std.proofs.lemmas.Result.{err_from_is_err_and}
 use Rattle.manifest_reader.specs.Manifest.{ReadsManifest}
-use Rattle.explain_run.specs.Page.{manifest_limit, HasBytes, HasManifest}
+use Rattle.run_steps.specs.Page.{manifest_limit}
+use Rattle.explain_run.specs.Page.{HasBytes, HasManifest}
 use Rattle.explain_run.specs.Steps.{NoFile, NoManifest, long_manifest, IsNoManifest}
 use Rattle.explain_run.proofs.Stepping.{ended, judged}
 use Rattle.explain_run.proofs.Shapes.{manifest_status, shown_manifest, shown_no_manifest}

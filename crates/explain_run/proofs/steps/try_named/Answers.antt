@@ -1,7 +1,8 @@
 use Rattle.std.proofs.lemmas.Result.{err_from_is_err_and}
 use Rattle.std.proofs.Common.{subst}
 use Rattle.trace_reader.specs.Trace.{ReadsTrace}
-use Rattle.explain_run.specs.Page.{trace_limit, HasBytes, HasTrace}
+use Rattle.run_steps.specs.Page.{trace_limit}
+use Rattle.explain_run.specs.Page.{HasBytes, HasTrace}
 use Rattle.explain_run.specs.Steps.{NoFile, NoTrace, long_trace, IsNoTrace, IsStopBy}
 use Rattle.explain_run.proofs.Stepping.{ended, given, stopped}
 use Rattle.explain_run.proofs.Shapes.{trace_status}

@@ -1,6 +1,0 @@
-use Rattle.std.proofs.Common.{◌≡◌, take}
-use Rattle.explain_run.specs.Page.{slot_names}
-use Rattle.explain_run.proofs.steps.slot_names.Given as goal
-
-abbrev pub invariant-entries : goal.invariant-entries
-invariant-entries l = l.names.items ≡ slot_names (take l.entry-index l.entries)
