@@ -1,5 +1,6 @@
 mod Lasts
 mod Fed
+mod Printed
 mod Shown
 mod Stands
 mod Placed

@@ -6,7 +6,6 @@ use Rattle.std.proofs.lemmas.List.{length-map}
 use Rattle.std.proofs.lemmas.Option.{get_or_from_slice_get, slice_get-map, slice_get_read}
 use Rattle.plain_tree.specs.Trees.{End, PlainTrees}
 use Rattle.page_build.specs.Layout.{IsLot, lot_of}
-use Rattle.page_lines.specs.Ends.{AreEnds, IsEnd}
 use Rattle.page_plan.specs.Pages.{PagePiece, root_of, roots}
 use Rattle.page_tree.specs.declared.page.Page.{Page}
 use Rattle.page_nodes.specs.Entries.{body}
@@ -21,6 +20,7 @@ use Rattle.slot_picks.specs.Places.{homes_of, is_accepted, roots_of}
 use Rattle.widget_host.specs.declared.host.Host.{Host}
 use Rattle.widget_host.specs.Housed.{AreShown, IsApart, IsLaid, chains, names, rooted}
 use Rattle.widget_host.proofs.Lasts.{slot_chain, some_is}
+use Rattle.widget_host.proofs.Printed.{AreEnds, IsEnd}
 use Rattle.widget_host.proofs.Shown.{ends_shown}
 use Rattle.widget_host.proofs.Stands.{slot_lot}
 

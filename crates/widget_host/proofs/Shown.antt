@@ -15,12 +15,12 @@ use Rattle.slot_picks.specs.declared.slots.Slot.{Slot}
 use Rattle.slot_picks.specs.Crowds.{chains_of, present_of, seens_of}
 use Rattle.slot_laws.specs.Chains.{IsChain}
 use Rattle.slot_picks.specs.Places.{FinePlace, FinePlaces, OwnPlace, OwnPlaces, accepts_of, homes_of, is_accepted, lent, seen_at, seens_from}
-use Rattle.page_lines.specs.Ends.{AreEnds}
 use Rattle.widget_host.specs.declared.host.Host.{Host}
 use Rattle.widget_host.specs.declared.lines.RunLine.{RunLine}
 use Rattle.widget_host.specs.Housed.{AreShown, IsLineOf, IsShown, IsWhole, accepts, chains, present, rooted, seens, swaps}
 use Rattle.widget_host.proofs.Lasts.{slot_chain, some_is}
 use Rattle.widget_host.proofs.Fed.{seen_accepted}
+use Rattle.widget_host.proofs.Printed.{AreEnds}
 
 -- ## A life by its number
 

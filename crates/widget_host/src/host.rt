@@ -23,6 +23,8 @@ use code_units::Memory;
 use js_names::Code;
 use keyed_names::Keys;
 use object_store::Store;
+use page_nodes::BODY;
+use page_output::print;
 use page_plan::PageSpec;
 use page_tree::Page;
 use pick_laws::PickEntry;
@@ -32,9 +34,8 @@ use std::collections::VecDeque;
 
 /// One store and one page, the lives of all places, and the slots in which they follow on each other. A
 /// host whose call wanted memory is marked: nothing of it changes any more, and each later `give`, `give_swap`,
-/// `pick`, `settle`, `item`, `rounds`, `line`, `retired` and `reach` is answered with `Memory`. What it holds
-/// can still be
-/// read, and its page printed.
+/// `pick`, `settle`, `item`, `rounds`, `line`, `retired` and `reach` is answered with `Memory`. What it holds can
+/// still be read, and its page printed.
 #[derive(Drop)]
 pub struct Host {
     pub(crate) crowd: Crowd,
@@ -144,14 +145,12 @@ impl Host {
             → IsLaid self.now names pieces → AreShown self.now (chains self.now) ends
             → PrintsPart (page_of pieces (roots names ends)) out.old.items out.new.items) }
     {
-        page_lines::print_page(alloc, &self.crowd.shared.page, out)
+        print(alloc, &self.crowd.shared.page, BODY, out)
     }
 
-    /// The text of what stands in a slot is appended, in the time that this text takes: the root of its
-    /// present life, or
-    /// an empty `div` where that was refused. It is what `print_page` appends in the place of this slot.
-    /// `Memory` leaves
-    /// a prefix of that text appended.
+    /// The text of what stands in a slot is appended, in the time that this text takes: the root of its present life,
+    /// or an empty `div` where that was refused. It is what `print_page` appends in the place of this slot. `Memory`
+    /// leaves a prefix of that text appended.
     pub fn print_slot(&self, alloc: Global, w: u32, out: &mut Vec<u8>) -> Result<(), Memory>
         requires housed { IsHoused self.now }
         requires there { w < length (chains self.now) }
@@ -164,6 +163,6 @@ impl Host {
     {
         let v = present(&self.slots[w as usize].lives);
         let node = self.crowd.places[v as usize].root;
-        page_lines::print_slot(alloc, &self.crowd.shared.page, node, out)
+        print(alloc, &self.crowd.shared.page, node, out)
     }
 }

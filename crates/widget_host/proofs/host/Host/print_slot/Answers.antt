@@ -6,6 +6,7 @@ use Rattle.page_output.specs.Printing.{Prints, PrintsPart}
 use Rattle.slot_picks.specs.declared.slots.Slot.{Slot}
 use Rattle.widget_host.specs.Housed.{IsHoused, chains}
 use Rattle.widget_host.proofs.Placed.{life_here, node_here, shown_here, some_here}
+use Rattle.widget_host.proofs.Printed.{spot_shows}
 use Rattle.widget_host.proofs.host.Host.print_slot.Goals as goal
 
 pub index-requires : goal.index-requires
@@ -24,9 +25,9 @@ index-requires-2 c =
     let there = life_here c.args.self.now c.requires.housed.0 c.args.w c.index.result.now c.requires.there c.index.ensures c.present-v.result first in
     omega (arith, there, c.args.self.now.crowd.places.ok.0)
 
-pub print_slot-requires : goal.print_slot-requires
+pub print-requires : goal.print-requires
 unfolding IsHoused
-print_slot-requires c =
+print-requires c =
     let first : slice_get c.index.result.now.lives.items 0 ≡ Some c.present-v.result = subst (λ (vs : List ℕ). slice_get vs 0 ≡ Some c.present-v.result) c.deref.ensures.value c.present-v.ensures in
     node_here c.args.self.now c.requires.housed.0 c.args.w c.index.result.now c.requires.there c.index.ensures c.present-v.result first c.index-2.result.now c.index-2.ensures
 
@@ -34,14 +35,16 @@ pub returns-clause-ok : goal.returns-clause-ok
 unfolding IsHoused
 returns-clause-ok c =
     let first : slice_get c.index.result.now.lives.items 0 ≡ Some c.present-v.result = subst (λ (vs : List ℕ). slice_get vs 0 ≡ Some c.present-v.result) c.deref.ensures.value c.present-v.ensures in
-    on_ok_weaker c.print_slot.result (λ printed.
+    on_ok_weaker c.print.result (λ printed.
     shown_here c.args.self.now c.requires.housed.0 c.args.w c.index.result.now c.requires.there c.index.ensures c.present-v.result first c.index-2.result.now c.index-2.ensures
-    (λ t. Prints t c.args.out.now.items c.print_slot.new.out.items) printed) c.print_slot.ensures.ok
+    (λ t. Prints t c.args.out.now.items c.print.new.out.items)
+    (λ name home end lot is. subst (λ t. Prints t c.args.out.now.items c.print.new.out.items) (spot_shows c.args.self.now.crowd.shared.page c.index-2.result.now.root name home end lot is) printed)) c.print.ensures.ok
 
 pub returns-clause-part : goal.returns-clause-part
 unfolding IsHoused
 returns-clause-part c =
     let first : slice_get c.index.result.now.lives.items 0 ≡ Some c.present-v.result = subst (λ (vs : List ℕ). slice_get vs 0 ≡ Some c.present-v.result) c.deref.ensures.value c.present-v.ensures in
-    on_err_weaker c.print_slot.result (λ printed.
+    on_err_weaker c.print.result (λ printed.
     shown_here c.args.self.now c.requires.housed.0 c.args.w c.index.result.now c.requires.there c.index.ensures c.present-v.result first c.index-2.result.now c.index-2.ensures
-    (λ t. PrintsPart t c.args.out.now.items c.print_slot.new.out.items) printed) c.print_slot.ensures.part
+    (λ t. PrintsPart t c.args.out.now.items c.print.new.out.items)
+    (λ name home end lot is. subst (λ t. PrintsPart t c.args.out.now.items c.print.new.out.items) (spot_shows c.args.self.now.crowd.shared.page c.index-2.result.now.root name home end lot is) printed)) c.print.ensures.part

@@ -1,4 +1,4 @@
--- What `body` shows, by what stands under it.
+-- What `body` shows, by what stands under it, and what a slot shows.
 use Rattle.std.proofs.Common.{◌≡◌, ℕ, zero, suc, List, [], ◌∷◌, ◌++◌, map, Option, Some, None, refl, sym, ap, ◌∙◌}
 use Rattle.std.specs.Prelude.{option_to_list, slice_get, slice_index_or}
 use Rattle.std.specs.List.{flat_map}
@@ -16,7 +16,22 @@ use Rattle.page_image.specs.Own.{own_forest, own_number}
 use Rattle.page_plan.specs.Pages as pages
 use Rattle.page_plan.specs.Pages.{PagePiece, page_of, roots, shown}
 use Rattle.page_build.specs.Layout.{AreLots, IsLaid, IsLot, Lot, Own, Root, Spot, each_tree, lot_of, lots_of, piece_lots}
-use Rattle.page_lines.specs.Ends.{AreEnds, IsEnd}
+
+-- ## The widgets whose roots slots show
+
+-- the own state of a widget, none where a slot was refused, has the trees that the page has of it
+abbrev pub IsEnd : Page → Option ℕ → Option OwnState → Type 0
+IsEnd p None None = Unit {0}
+IsEnd p (Some w) (Some own) = own.forest ≡ forest p w
+IsEnd p _ _ = ⊥
+
+-- so it is with the own states of these widgets, in order
+abbrev pub AreEnds : Page → List (Option ℕ) → List (Option OwnState) → Type 0
+AreEnds p [] [] = Unit {0}
+AreEnds p (home ∷ homes) (end ∷ ends) = IsEnd p home end × AreEnds p homes ends
+AreEnds p _ _ = ⊥
+
+-- ## Trees without marks
 
 unmarked_marked : (f : ℕ → ℕ) (ts : Trees ℕ) → unmarked (marked f ts) ≡ unmarked ts
 unmarked_marked f End = refl
