@@ -18,14 +18,13 @@ use Rattle.round_laws.specs.RoundLaws.{fed_at}
 use Rattle.page_plan.specs.declared.PageSpec.{PageSpec}
 use Rattle.page_plan.specs.declared.SlotContent.{SlotContent}
 use Rattle.page_plan.specs.declared.SlotSpec.{SlotSpec}
-use Rattle.page_plan.specs.Contents.{content_of}
+use Rattle.page_plan.specs.Contents.{content_of, HasScriptsIn}
 use Rattle.page_plan.specs.Pages.{piece_of}
 use Rattle.slot_lives.specs.Lives.{swaps_in}
 use Rattle.slot_lives.specs.LifeLaws.{new_life}
 use Rattle.slot_lives.specs.Ends.{end_of}
 use Rattle.widget_host.specs.declared.host.Host.{Host}
 use Rattle.widget_host.specs.declared.items.HostItem.{HostItem}
-use Rattle.page_load.specs.Contents.{HasScriptsIn}
 use Rattle.page_load.specs.Loads.{singles}
 use Rattle.slot_picks.specs.declared.crowd.Place.{Place}
 use Rattle.slot_picks.specs.Places.{accepts_of}

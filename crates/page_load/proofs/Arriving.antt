@@ -39,10 +39,10 @@ use Rattle.page_build.specs.Layout.{IsLot, lot_of}
 use Rattle.page_build.specs.Standing.{HostJoins, IsSamePage, IsSpare, Joins}
 use Rattle.page_build.proofs.Coming.{same_keeps, same_trees}
 use Rattle.page_build.proofs.Stands.{host_joins_roots, joins_roots, lot_older, spare_older, spots_older, standing_older}
+use Rattle.page_plan.specs.Contents.{HasScriptsIn, content_in}
 use Rattle.page_plan.specs.declared.SlotContent.TheVariants as slot
 use Rattle.page_load.specs.declared.codes.Scripts.{Scripts}
 use Rattle.page_load.specs.declared.joining.Coming.{Coming}
-use Rattle.page_load.specs.Contents.{HasScriptsIn, content_in}
 use Rattle.page_load.specs.Joining.{Comes, HasSeat, IsFree, KeepsRest, PageJoins, came, none_came}
 use Rattle.page_load.specs.Laying.{HasNoCells, nothing_owned}
 use Rattle.page_load.specs.Lives.{IsBegun, IsIn, IsLib, IsReady, IsUnborn}

@@ -35,14 +35,13 @@ use Rattle.page_build.specs.Standing.{AreSpots, HavePlaces, IsLaidBy, IsStanding
 use Rattle.page_plan.specs.declared.SlotContent.{SlotContent}
 use Rattle.page_plan.specs.declared.SlotContent.TheVariants as slot
 use Rattle.page_plan.specs.declared.SlotSpec.{SlotSpec}
-use Rattle.page_plan.specs.Contents.{content_of, program_at, program_in}
+use Rattle.page_plan.specs.Contents.{HasScriptsIn, content_in, program_there}
 use Rattle.page_plan.specs.declared.PageSpec.{PageSpec}
 use Rattle.page_plan.specs.Pages.{PagePiece, piece_of}
 use Rattle.store_cells.specs.Cells.{Cells}
 use Rattle.page_load.specs.declared.codes.Start.{Start}
 use Rattle.page_load.specs.declared.loading.Loaded.{Loaded}
 use Rattle.page_load.specs.declared.codes.Scripts.{Scripts}
-use Rattle.page_load.specs.Contents.{HasScriptsIn, content_in, program_there}
 use Rattle.page_load.specs.Homes.{fuels_of, names_of}
 use Rattle.page_load.specs.Laying.{AreLaid, IsBare, LaysOut}
 use Rattle.page_load.specs.Lives.{ArePlaces, HasTree, HaveRoots, HaveTrees, IsBegun, IsNobodys, IsPlaceOf, IsPlaceWith, content_at}
@@ -128,21 +127,6 @@ own_beyond p w le = no_node (nodes p) w 0 (λ n. by n (owns p w n) refl)
     by n false e = e
 
 -- ## Contents
-
--- over the trees of accepted libraries the content of a slot is the same
-pub content_same : (libs : List Accepted) (content : SlotContent) → content_in (map tree_of libs) content ≡ content_of libs content
-content_same libs (slot.Runs tree places script) = λ j. Some (record { root = numbered 0 (placed tree); libraries = all places.items j; script = program_of (tree_of script) })
-  where
-    one : (o : Option Accepted) → option_map_or program_of (option_map tree_of o) NoStmts ≡ program_in o
-    one None = refl
-    one (Some a) = refl
-
-    all : (ns : List ℕ) → map (program_there (map tree_of libs)) ns ≡ map (program_at libs) ns
-    all [] = refl
-    all (n ∷ ns) =
-        let here : program_there (map tree_of libs) n ≡ program_at libs n = ap (λ (o : Option Tree). option_map_or program_of o NoStmts) (slice_get-map tree_of libs n) ∙ one (slice_get libs n) in
-        λ j. here j ∷ all ns j
-content_same libs slot.Refused = refl
 
 -- the programs of libraries, at their places
 read_all : (ts : List Tree) (cs : List Code) (ns : List ℕ) → map (λ (c : Code). Some (tree_in c)) cs ≡ map (slice_get ts) ns → programs_of cs ≡ map (program_there ts) ns
@@ -334,7 +318,7 @@ module _ (spec : PageSpec) (l : Loaded) (s : Cells) (p : Page) (roots : List ℕ
     twenty = twenty;
     homes = λ v a at. (places v a at).0.slot;
     told = λ v a at. (places v a at).0.told;
-    slots = λ w t a at here. subst (λ c. IsFirstLife l.crowd.shared w t.fuel c a) (ap (λ ts. content_in ts t.content) libs ∙ content_same spec.libs.items t.content) (first_in w t a at here);
+    slots = λ w t a at here. subst (λ c. IsFirstLife l.crowd.shared w t.fuel c a) (ap (λ ts. content_in ts t.content) libs) (first_in w t a at here);
     scripts = λ w t a at here. subst (λ ts. HasScriptsIn ts t.content (map tree_in a.codes.items)) libs (scripts_in w t a at here);
     unshared = unshared;
     journal = journal;

@@ -18,7 +18,7 @@ use Rattle.slot_picks.specs.declared.slots.Slot.{Slot}
 use Rattle.slot_picks.specs.Places.{is_accepted, seen_at}
 use Rattle.slot_picks.specs.Crowds.{FewCrowd, FineCrowd, OwnCrowd, seens_of}
 use Rattle.page_load.specs.declared.joining.Coming.{Coming}
-use Rattle.page_load.specs.Contents.{HasScriptsIn, content_in}
+use Rattle.page_plan.specs.Contents.{HasScriptsIn, content_in}
 use Rattle.page_load.specs.Loads.{HasNothing, IsFirstLife}
 
 -- ## Before

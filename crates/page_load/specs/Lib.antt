@@ -1,5 +1,4 @@
 pub mod Homes
-pub mod Contents
 pub mod Opening
 pub mod Starts
 pub mod Queues

@@ -21,11 +21,10 @@ use Rattle.slot_picks.specs.Crowds.{AreStanding, chains_of, spots_of}
 use Rattle.page_plan.specs.declared.PageSpec.{PageSpec}
 use Rattle.page_plan.specs.declared.SlotContent.{SlotContent}
 use Rattle.page_plan.specs.declared.SlotSpec.{SlotSpec}
-use Rattle.page_plan.specs.Contents.{content_of}
+use Rattle.page_plan.specs.Contents.{content_of, HasScriptsIn}
 use Rattle.page_plan.specs.Pages.{piece_of}
 use Rattle.page_build.specs.Homes.{HaveRaws, IsAway}
 use Rattle.page_build.specs.Standing.{HavePlaces, IsLaidBy}
-use Rattle.page_load.specs.Contents.{HasScriptsIn}
 use Rattle.page_load.specs.Homes.{fuels_of, names_of}
 use Rattle.page_load.specs.Laying.{HasNoCells, nothing_owned}
 use Rattle.page_load.specs.Lives.{IsNobodys}

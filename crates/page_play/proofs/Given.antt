@@ -16,7 +16,7 @@ use Rattle.round_laws.specs.Fed.{Fed}
 use Rattle.page_plan.specs.declared.PageSpec.{PageSpec}
 use Rattle.page_plan.specs.declared.SlotContent.{SlotContent}
 use Rattle.page_plan.specs.declared.SlotSpec.{SlotSpec}
-use Rattle.page_plan.specs.Contents.{content_of}
+use Rattle.page_plan.specs.Contents.{content_of, HasScriptsIn, content_in}
 use Rattle.page_plan.specs.Pages.{piece_of}
 use Rattle.slot_lives.specs.Lives as lives
 use Rattle.slot_lives.specs.Lives.{Life, is_swap, swaps_in}
@@ -26,7 +26,6 @@ use Rattle.slot_lives.proofs.LawsHold.{life_laws}
 use Rattle.widget_host.specs.declared.host.Host.{Host}
 use Rattle.widget_host.specs.declared.items.HostItem.{HostItem}
 use Rattle.widget_host.specs.declared.items.HostItem.TheVariants as host
-use Rattle.page_load.specs.Contents.{HasScriptsIn, content_in}
 use Rattle.page_load.specs.Loads.{singles}
 use Rattle.widget_host.specs.Given.{AreEnded, begins, begun, with_item, with_swap}
 use Rattle.widget_host.specs.Housed.{GivesItem, GivesSwap, IsHoused, Loads, LoadsLife, accepts, chains, channels, ends, fuels, given, homes, journal, libraries, marked, names, newborn, scripts, seens}

@@ -1,6 +1,7 @@
 -- The scripts of lives.
-use Rattle.std.proofs.Common.{◌≡◌, ℕ, zero, suc, List, [], ◌∷◌, ◌++◌, map, Option, None, Some, refl, sym, ap, subst, ◌∙◌}
+use Rattle.std.proofs.Common.{◌≡◌, ℕ, List, [], ◌∷◌, ◌++◌, map, Option, None, Some, refl, sym, ap, subst, ◌∙◌}
 use Rattle.std.specs.Prelude.{slice_get, option_map}
+use Rattle.std.specs.Option.{option_map_or}
 use Rattle.js_tree.specs.declared.tree.Tree.{Tree}
 use Rattle.js_tree.specs.Plain.{Stmts, NoStmts}
 use Rattle.js_tree.specs.Trees.{program_of}
@@ -25,21 +26,15 @@ same_content c d e = cc
 
 -- the program of a tree, if it is there
 abbrev program_if : Option Tree → Stmts
-program_if None = NoStmts
-program_if (Some t) = program_of t
+program_if o = option_map_or program_of o NoStmts
 
 programs_if : (ts : List Tree) → map program_if (map Some ts) ≡ map program_of ts
 programs_if [] = refl
 programs_if (t ∷ ts) = ap (λ ps. program_of t ∷ ps) (programs_if ts)
 
-one_program : (libs : List Accepted) (place : ℕ) → program_if (slice_get (map tree_of libs) place) ≡ program_at libs place
-one_program [] place = refl
-one_program (a ∷ libs) zero = refl
-one_program (a ∷ libs) (suc place) = one_program libs place
-
 all_programs : (libs : List Accepted) (places : List ℕ) (script : Accepted) → map program_if (map (slice_get (map tree_of libs)) places ++ Some (tree_of script) ∷ []) ≡ map (program_at libs) places ++ program_of (tree_of script) ∷ []
 all_programs libs [] script = refl
-all_programs libs (place ∷ places) script = λ j. one_program libs place j ∷ all_programs libs places script j
+all_programs libs (place ∷ places) script = ap (λ ps. program_at libs place ∷ ps) (all_programs libs places script)
 
 programs_of : (libs : List Accepted) (content : SlotContent) (ts : List Tree) (c : Content) → HasScripts libs content ts → content_of libs content ≡ Some c → AreScriptsOf c ts
 programs_of libs (slot.Runs body places script) ts c has is =

@@ -31,11 +31,11 @@ use Rattle.slot_picks.specs.Crowds.{AreHoused, AreStanding, FewCrowd, chains_of,
 use Rattle.slot_picks.specs.Places.{FewPlaces, accepts_of, codes_of, homes_of, is_accepted, lent, roots_of, seen_at, told_of}
 use Rattle.turn_returns.specs.declared.turn.Shared.{Shared}
 use Rattle.life_queue.specs.Lives.{life_seen}
-use Rattle.page_load.specs.Contents.{HasScriptsIn, content_in}
 use Rattle.page_load.specs.Joining.{Comes, HasSeat, IsFree, KeepsRest, PageJoins, came, none_came}
 use Rattle.page_load.specs.Loads.{HasNothing, IsFirstLife}
 use Rattle.page_build.proofs.Coming.{same_joins}
 use Rattle.page_tree.specs.declared.page.Page.{Page}
+use Rattle.page_plan.specs.Contents.{HasScriptsIn, content_in}
 use Rattle.page_plan.specs.declared.SlotContent.{SlotContent}
 use Rattle.page_plan.specs.Pages.{PagePiece}
 use Rattle.widget_host.specs.declared.host.Host.{Host}

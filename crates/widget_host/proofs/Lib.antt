@@ -20,5 +20,4 @@ mod Firsts
 mod Counting
 mod Raws
 mod Reading
-pub mod Programs
 pub mod Reached

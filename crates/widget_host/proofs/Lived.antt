@@ -2,21 +2,18 @@
 use Rattle.std.proofs.Common.{◌≡◌, ◌≢◌, ℕ, zero, suc, ◌+◌, ◌<◌, ◌++◌, Bool, true, false, List, [], ◌∷◌, map, length, refl, sym, ap, ◌∙◌, subst, arith, Option, Some, None, ne_eqb, eq-eqb, eqb-true}
 use Rattle.std.specs.Prelude.{slice_get, slice_index_or, nat_eq, if◌then◌else◌, ◌&&◌, ◌||◌}
 use Rattle.std.specs.List.{fold}
-use Rattle.std.specs.Option.{option_map, option_map_or}
+use Rattle.std.specs.Option.{option_map}
 use Rattle.std.proofs.lemmas.List.{length-append, length-map}
 use Rattle.std.proofs.lemmas.List.Sums.{fold-append}
 use Rattle.std.proofs.lemmas.Option.{slice_get-map}
 use Rattle.adsafe_rules.specs.declared.accepted.Accepted.{Accepted}
 use Rattle.adsafe_rules.specs.Accepts.{tree_of}
-use Rattle.js_tree.specs.declared.tree.Tree.{Tree}
-use Rattle.js_tree.specs.Plain.{NoStmts}
-use Rattle.js_tree.specs.Trees.{program_of}
 use Rattle.life_laws.specs.Life.{Seen, due, image}
 use Rattle.page_plan.specs.declared.PageSpec.{PageSpec}
 use Rattle.page_plan.specs.declared.SlotContent.{SlotContent}
 use Rattle.page_plan.specs.declared.SlotContent.TheVariants as slot
 use Rattle.page_plan.specs.declared.SlotSpec.{SlotSpec}
-use Rattle.page_plan.specs.Contents.{content_of, program_at, program_in}
+use Rattle.page_plan.specs.Contents.{content_of, content_in}
 use Rattle.pick_laws.specs.Journal.{on_at}
 use Rattle.round_laws.specs.Fed.{Fed, state}
 use Rattle.round_laws.specs.RoundLaws.{fed_at}
@@ -24,7 +21,6 @@ use Rattle.slot_laws.specs.Slots.{has}
 use Rattle.slot_laws.specs.Chains.{Chains, IsChain, joins, last_at, last_from, last_life, listed}
 use Rattle.slot_rounds.specs.Feeding as feeding
 use Rattle.slot_rounds.specs.Feeding.{IsLastFed, IsLastShown, is_last}
-use Rattle.page_load.specs.Contents.{content_in, program_there}
 use Rattle.page_load.specs.Loads.{singles}
 use Rattle.slot_picks.specs.declared.crowd.Place.{Place}
 use Rattle.slot_picks.specs.Places.{homes_of, seen_at, seens_from}
@@ -290,21 +286,6 @@ module _ (i : HostItem) (old new : Host) (whole : IsWhole old) (shape : IsItem i
 
 -- ## A swap
 
--- the widget of a content, over the trees of accepted libraries
-content_same : (libs : List Accepted) (content : SlotContent) → content_in (map tree_of libs) content ≡ content_of libs content
-content_same libs (slot.Runs tree places script) = ap (λ ls. option_map (λ (c : Content). record c { libraries = ls }) (content_of libs (slot.Runs tree places script))) (all places.items)
-  where
-    one : (o : Option Accepted) → option_map_or program_of (option_map tree_of o) NoStmts ≡ program_in o
-    one None = refl
-    one (Some a) = refl
-
-    all : (ns : List ℕ) → map (program_there (map tree_of libs)) ns ≡ map (program_at libs) ns
-    all [] = refl
-    all (n ∷ ns) =
-        let here : program_there (map tree_of libs) n ≡ program_at libs n = ap (λ (o : Option Tree). option_map_or program_of o NoStmts) (slice_get-map tree_of libs n) ∙ one (slice_get libs n) in
-        λ j. here j ∷ all ns j
-content_same libs slot.Refused = refl
-
 -- the last life of a slot that one joins
 last_joins : (v : ℕ) (c : List ℕ) → last_life (joins v c) ≡ v
 last_joins v [] = refl
@@ -412,7 +393,7 @@ module _ (to : ℕ) (content : SlotContent) (old new : Host) (apart : IsApart ol
 
   swap_fed : (libs : List Accepted) (fs : List (Option Fed)) → libraries old ≡ map tree_of libs → AreFed old fs → AreFed new (with_swap to (begins (slice_index_or (fuels old) to 0) (content_of libs content)) 0 fs)
   swap_fed libs fs are fed =
-      subst (λ o. AreFed new (with_swap to (begins (slice_index_or (fuels old) to 0) o) 0 fs)) (ap (λ ts. content_in ts content) are ∙ content_same libs content)
+      subst (λ o. AreFed new (with_swap to (begins (slice_index_or (fuels old) to 0) o) 0 fs)) (ap (λ ts. content_in ts content) are)
       (subst (λ cs. feeding.AreFed (accepts new) (seens new) (told new) cs (with_swap to life 0 fs)) (sym gives.life.chains)
       (swap_each 0 to (chains old) fs (omega arith) chains_here fed))
 

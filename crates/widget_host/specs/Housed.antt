@@ -33,11 +33,10 @@ use Rattle.life_queue.specs.Lives.{event_of}
 use Rattle.page_plan.specs.declared.PageSpec.{PageSpec}
 use Rattle.page_plan.specs.declared.SlotContent.{SlotContent}
 use Rattle.page_plan.specs.declared.SlotSpec.{SlotSpec}
-use Rattle.page_plan.specs.Contents.{content_of}
+use Rattle.page_plan.specs.Contents.{content_of, HasScriptsIn, content_in}
 use Rattle.page_plan.specs.Pages.{PagePiece, piece_of}
 use Rattle.page_build.specs.Homes.{HaveRaws}
 use Rattle.page_build.specs.Standing.{HavePlaces, IsLaidBy, PagePasses}
-use Rattle.page_load.specs.Contents.{HasScriptsIn, content_in}
 use Rattle.page_load.specs.Joining.{PageJoins}
 use Rattle.page_load.specs.Loads.{HasNothing, HasScripts, singles}
 use Rattle.widget_host.specs.declared.host.Host.{Host}
