@@ -14,10 +14,10 @@ pub libs-preserved : goal.libs-preserved
 libs-preserved c =
     let inv = c.libs.invariant in
     let is = c.in_ok-one.ensures.accepted in
-    let place : c.len-in-libs-2.result ≡ length c.libs.accepted.items = omega (arith, c.len-in-libs-2.ensures, c.libs.accepted.ok.0) in
+    let place : c.len-in-libs.result ≡ length c.libs.accepted.items = omega (arith, c.len-in-libs.ensures, c.libs.accepted.ok.0) in
     record {
       judged = c.in_ok-one.ensures.judged;
-      kept = kept_more (sources_of c.args.libs.now) c.libs.at c.in_ok-one.one c.libs.accepted.items c.keep.new.accepted.items c.libs.places.items c.push.new.self.items c.len-in-libs-2.result is inv.kept c.in_ok-keep.ensures place c.in_ok-push.ensures.items;
+      kept = kept_more (sources_of c.args.libs.now) c.libs.at c.in_ok-one.one c.libs.accepted.items c.keep.new.accepted.items c.libs.places.items c.push.new.self.items c.len-in-libs.result is inv.kept c.in_ok-keep.ensures place c.in_ok-push.ensures.items;
       clean = (c.in_ok-keep.ensures is.lib.bytes is.is).clean inv.clean;
     }
 
