@@ -1,9 +1,9 @@
 -- What stands before and after the first element that passes.
-use Rattle.std.proofs.Common.{◌≡◌, ℕ, suc, ◌+◌, ◌-◌, ◌<◌, ◌≤◌, Bool, true, false, cond, nat_lt, List, [], ◌∷◌, ◌++◌, length, length-append, get_or, ltb-true, ltb-false, take, drop, Some, None, is_some, refl, sym, ap, ◌∙◌, arith, lt-ltb, le-ltb}
+use Rattle.std.proofs.Common.{◌≡◌, ℕ, suc, ◌+◌, ◌<◌, ◌≤◌, Bool, true, false, cond, nat_lt, List, [], ◌∷◌, ◌++◌, length, length-append, get_or, ltb-true, ltb-false, take, drop, refl, sym, ap, ◌∙◌, arith, lt-ltb}
 use Rattle.std.specs.Prelude.{◌||◌, not}
-use Rattle.std.specs.List.{position, position_or_len, before_first, after_first, list_any}
+use Rattle.std.specs.List.{position_or_len, before_first, after_first, list_any}
 use Rattle.std.proofs.lemmas.Bool.Decides.{nat_tests}
-use Rattle.std.proofs.lemmas.List.{take_all, drop_all, length-drop}
+use Rattle.std.proofs.lemmas.List.{take_all, drop_all}
 use Rattle.std.proofs.lemmas.List.Sums.{split_at_first, passes_at_first}
 use Rattle.std.proofs.Math.Seq.{take-append_seam, drop-append-add}
 
@@ -13,7 +13,7 @@ pub record IsCut (p : ℕ → Bool) (xs front back : List ℕ) : Type 0 where
   pub after : after_first p xs ≡ back
   pub some : list_any p xs ≡ true
 
-or_neither : (a b : Bool) → (a || b) ≡ false → (a ≡ false) × (b ≡ false)
+pub or_neither : (a b : Bool) → (a || b) ≡ false → (a ≡ false) × (b ≡ false)
 or_neither true b e = cc
 or_neither false b e = (refl, e)
 
@@ -33,40 +33,6 @@ any_step false c i n e = e ∙ shift i n
 any_is : (p : ℕ → Bool) (xs : List ℕ) → list_any p xs ≡ nat_lt (position_or_len p xs) (length xs)
 any_is p [] = refl
 any_is p (x ∷ xs) = any_step (p x) (list_any p xs) (position_or_len p xs) (length xs) (any_is p xs)
-
-some_at : (i n at : ℕ) → cond (nat_lt i n) (Some i) None ≡ Some at → (i ≡ at) × (i < n)
-some_at i n at e = grind (arith, nat_tests)
-
-none_at : (i n : ℕ) → cond (nat_lt i n) (Some i) None ≡ None → n ≤ i
-none_at i n e = grind (arith, nat_tests)
-
-pub cut_at : (p : ℕ → Bool) (xs : List ℕ) (at : ℕ) → position p xs ≡ Some at → IsCut p xs (take at xs) (drop (at + 1) xs)
-cut_at p xs at e =
-    let is = some_at (position_or_len p xs) (length xs) at e in
-    record {
-      before = ap (λ n. take n xs) is.0;
-      after = ap (λ n. drop (n + 1) xs) is.0;
-      some = any_is p xs ∙ lt-ltb (position_or_len p xs) (length xs) is.1;
-    }
-
-pub no_cut : (p : ℕ → Bool) (xs : List ℕ) → position p xs ≡ None → IsUncut p xs
-no_cut p xs e =
-    let past = none_at (position_or_len p xs) (length xs) e in
-    record {
-      before = take_all (position_or_len p xs) xs past;
-      after = drop_all (position_or_len p xs + 1) xs (omega arith);
-      none = any_is p xs ∙ le-ltb (position_or_len p xs) (length xs) past;
-    }
-
-pub is_some_any : (p : ℕ → Bool) (xs : List ℕ) → is_some (position p xs) ≡ list_any p xs
-is_some_any p xs = found (nat_lt (position_or_len p xs) (length xs)) ∙ sym (any_is p xs)
-  where
-    found : (b : Bool) → is_some (cond b (Some (position_or_len p xs)) None) ≡ b
-    found true = refl
-    found false = refl
-
-pub rest_is : (xs : List ℕ) (n : ℕ) → take (length xs - n) (drop n xs) ≡ drop n xs
-rest_is xs n = take_all (length xs - n) (drop n xs) (omega (arith, length-drop n xs))
 
 -- the list up to a first element that passes, and from there on
 at_first : (p : ℕ → Bool) (xs : List ℕ) (y : ℕ) (ys : List ℕ) → list_any p xs ≡ false → p y ≡ true → position_or_len p (xs ++ y ∷ ys) ≡ length xs

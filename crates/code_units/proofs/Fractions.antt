@@ -1,39 +1,28 @@
 -- A decimal literal that has a point or an exponent.
-use Rattle.std.proofs.Common.{◌≡◌, ℕ, ◌+◌, ◌<◌, ◌≤◌, Bool, true, false, ◌&&◌, List, [], ◌∷◌, ◌++◌, take, drop, length, Some, None, if◌then◌else◌, refl, sym, ap, ◌∙◌, subst, arith, append-nil, append_assoc, ne_eqb, eqb-true, lit≤}
+use Rattle.std.proofs.Common.{◌≡◌, ℕ, ◌<◌, ◌≤◌, Bool, true, false, ◌&&◌, List, [], ◌∷◌, ◌++◌, length, if◌then◌else◌, refl, sym, ap, ◌∙◌, subst, arith, append-nil, append_assoc, ne_eqb, eqb-true, lit≤}
 use Rattle.std.specs.Prelude.{◌||◌, ◌==◌, not, nat_lt, cond}
-use Rattle.std.specs.List.{position, list_any, list_all, before_first, after_first}
+use Rattle.std.specs.List.{list_any, list_all, before_first, after_first}
 use Rattle.std.specs.Char.{digit_value, is_digit}
 use Rattle.std.specs.Str.Parse.{without_leading_sign, starts_with_minus, IsNumeral, AllDigits}
 use Rattle.std.proofs.lemmas.List.Folds.{list_any-append, list_all-append}
 use Rattle.std.proofs.lemmas.List.Sums.{take_while-cons}
 use Rattle.code_units.specs.Whole.{is_e, is_point, is_numeral, is_mantissa, is_fraction}
 use Rattle.code_units.specs.Readings.{IsExponent, exponent, IsDecimalFraction, point, point_power, power}
-use Rattle.code_units.proofs.Cuts.{cut_at, no_cut, first_cut, uncut, around_first}
+use Rattle.code_units.proofs.Cuts.{first_cut, uncut, around_first}
 use Rattle.code_units.proofs.Signs.{and_both, test-from_IsNumeral, IsNumeral-from_test, sign_of, sign_is, is_unsigned}
 
--- by the first `e` or `E`
-pub fraction_cut : (us : List ℕ) (at : ℕ) → position is_e us ≡ Some at → is_fraction us ≡ (is_mantissa (take at us) && is_numeral 10 (without_leading_sign (drop (at + 1) us)))
-fraction_cut us at e =
-    let cut = cut_at is_e us at e in
-    λ j. is_mantissa (cut.before j) && (if cut.some j then is_numeral 10 (without_leading_sign (cut.after j)) else list_any is_point us)
-
-pub fraction_whole : (us : List ℕ) → position is_e us ≡ None → is_fraction us ≡ (is_mantissa us && list_any is_point us)
-fraction_whole us e =
-    let cut = no_cut is_e us e in
-    λ j. is_mantissa (cut.before j) && (if cut.none j then is_numeral 10 (without_leading_sign (cut.after j)) else list_any is_point us)
-
 -- no digit is `.`, `e` or `E`
-no_digit : (p : ℕ → Bool) → ((c : ℕ) → digit_value c < 10 → p c ≡ false) → (ds : List ℕ) → AllDigits 10 ds → list_any p ds ≡ false
+pub no_digit : (p : ℕ → Bool) → ((c : ℕ) → digit_value c < 10 → p c ≡ false) → (ds : List ℕ) → AllDigits 10 ds → list_any p ds ≡ false
 no_digit p apart [] d = refl
 no_digit p apart (c ∷ ds) d = ap (λ b. b || list_any p ds) (apart c d.0) ∙ no_digit p apart ds d.1
 
 differs : (c n : ℕ) → digit_value c < 10 → 10 ≤ digit_value n → c == n ≡ false
 differs c n d far = ne_eqb c n (λ e. omega (arith, d, far, ap digit_value e))
 
-point_apart : (c : ℕ) → digit_value c < 10 → is_point c ≡ false
+pub point_apart : (c : ℕ) → digit_value c < 10 → is_point c ≡ false
 point_apart c d = differs c 46 d (lit≤ tt)
 
-e_apart : (c : ℕ) → digit_value c < 10 → is_e c ≡ false
+pub e_apart : (c : ℕ) → digit_value c < 10 → is_e c ≡ false
 e_apart c d = λ j. differs c 101 d (lit≤ tt) j || differs c 69 d (lit≤ tt) j
 
 -- digits, part by part
@@ -45,7 +34,7 @@ digits_right : (xs ys : List ℕ) → AllDigits 10 (xs ++ ys) → AllDigits 10 y
 digits_right [] ys d = d
 digits_right (x ∷ xs) ys d = digits_right xs ys d.1
 
-no_e_around : (whole part : List ℕ) → AllDigits 10 (whole ++ part) → list_any is_e (whole ++ (46 ∷ part)) ≡ false
+pub no_e_around : (whole part : List ℕ) → AllDigits 10 (whole ++ part) → list_any is_e (whole ++ (46 ∷ part)) ≡ false
 no_e_around whole part d =
     list_any-append is_e whole (46 ∷ part)
     ∙ (λ j. no_digit is_e e_apart whole (digits_left whole part d) j || no_digit is_e e_apart part (digits_right whole part d) j)
@@ -77,7 +66,7 @@ powered front rest none mantissa (exponent negative e after ds is_letter spelled
         (λ j. is_mantissa (cut.before j) && (if cut.some j then is_numeral 10 (without_leading_sign (cut.after j)) else list_any is_point (front ++ e ∷ after)))
         ∙ (λ j. mantissa j && digits j)
 
-fraction_none : (us : List ℕ) → list_any is_e us ≡ false → is_fraction us ≡ (is_mantissa us && list_any is_point us)
+pub fraction_none : (us : List ℕ) → list_any is_e us ≡ false → is_fraction us ≡ (is_mantissa us && list_any is_point us)
 fraction_none us none =
     let cut = uncut is_e us none in
     λ j. is_mantissa (cut.before j) && (if cut.none j then is_numeral 10 (without_leading_sign (cut.after j)) else list_any is_point us)

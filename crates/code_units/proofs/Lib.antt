@@ -1,12 +1,15 @@
 pub mod Cuts
 pub mod Fed
 pub mod Forms
+pub mod FractionEnds
 pub mod Fractions
 pub mod Indexed
+pub mod Lanes
 pub mod LossyChars
 pub mod Numerals
 pub mod PlacesMore
 pub mod RoundTrip
+pub mod RunLemmas
 pub mod Signs
 pub mod UnitsBack
 pub mod Utf8Laws

@@ -17,7 +17,7 @@ digits_are radix (u ∷ us) e =
     let each = and_both (is_digit u radix) (list_all (λ v. is_digit v radix) us) e in
     (ltb-true (digit_value u) radix each.0, digits_are radix us each.1)
 
-are_digits : (radix : ℕ) (us : List ℕ) → AllDigits radix us → list_all (λ u. is_digit u radix) us ≡ true
+pub are_digits : (radix : ℕ) (us : List ℕ) → AllDigits radix us → list_all (λ u. is_digit u radix) us ≡ true
 are_digits radix [] d = refl
 are_digits radix (u ∷ us) d = ap (λ b. b && list_all (λ v. is_digit v radix) us) (lt-ltb (digit_value u) radix d.0) ∙ are_digits radix us d.1
 

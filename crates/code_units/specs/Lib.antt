@@ -4,6 +4,7 @@ pub mod Pairs
 pub mod Permitted
 pub mod Places
 pub mod Readings
+pub mod Runs
 pub mod Utf8
 pub mod Whole
 pub mod Words

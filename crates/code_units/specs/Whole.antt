@@ -44,6 +44,10 @@ is_x u = u == byte "x" || u == byte "X"
 abbrev pub is_mantissa : List ℕ → Bool
 is_mantissa us = is_numeral 10 (before_first is_point us ++ after_first is_point us)
 
+-- `e` or `E`, an optional sign and digits
+abbrev pub is_exponent : List ℕ → Bool
+is_exponent us = is_e (slice_index us 0) && is_numeral 10 (without_leading_sign (drop 1 us))
+
 -- a decimal literal that has a point or an exponent
 abbrev pub is_fraction : List ℕ → Bool
 is_fraction us = is_mantissa (before_first is_e us)

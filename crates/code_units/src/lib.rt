@@ -9,6 +9,7 @@ mod memory;
 mod owner;
 mod permission;
 mod place;
+mod runs;
 mod text;
 mod utf8;
 mod whole;

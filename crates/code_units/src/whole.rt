@@ -1,13 +1,18 @@
 //! Whole numbers as texts, and texts as whole numbers.
-ghost use Rattle.std.specs.Prelude.{◌≡◌, ◌^◌, ◌<◌, ◌≤◌, unsigned_abs, pos, neg_ℤ, true, false, if◌then◌else◌, min, drop, IfOk, MatchOption};
-ghost use Rattle.std.specs.List.{list_all, position};
-ghost use Rattle.std.specs.Char.{digit_value, is_digit};
+
+ghost use Rattle.std.specs.Prelude.{◌≡◌, ◌^◌, ◌<◌, ◌≤◌, ◌⊎◌, ℕ, List, ◌∷◌, ◌++◌, length, slice_index, nat_lt, ◌||◌, unsigned_abs, pos, neg_ℤ, true, false, if◌then◌else◌, min, drop, IfOk, MatchOption};
+ghost use Rattle.std.specs.Char.{is_digit};
+ghost use Rattle.std.specs.List.{list_all};
 ghost use Rattle.std.specs.Fmt.{signed_decimal};
-ghost use Rattle.std.specs.Str.Parse.{digits_value, without_leading_sign};
-ghost use Rattle.code_units.specs.Whole.{is_blank, trimmed, trimmed_start, trimmed_end, bounded, is_numeral, is_hexadecimal, is_point, is_e, is_mantissa, is_fraction, number_of, number_in};
+ghost use Rattle.std.specs.Str.{byte};
+ghost use Rattle.std.specs.Str.Parse.{AllDigits, digits_value, without_leading_sign};
+ghost use Rattle.code_units.specs.Whole.{trimmed, trimmed_start, trimmed_end, bounded, is_numeral, is_point, is_exponent, is_fraction, is_hexadecimal, number_of, number_in};
+ghost use Rattle.code_units.specs.Runs.{is_of};
 ghost use Rattle.code_units.specs.Readings.{Gives};
 
+use crate::digit::digit_value;
 use crate::memory::Memory;
+use crate::runs::{Kind, run, without_run};
 use crate::text::Text;
 use crate::word::spells;
 use itoa::Buffer;
@@ -100,27 +105,13 @@ fn trimmed(units: &[u16]) -> &[u16]
 fn trimmed_end(units: &[u16]) -> &[u16]
     ensures { result.now ≡ trimmed_end units.now }
 {
-    let mut end = units.len();
-    while end > 0 && is_blank(units[end - 1]) {
-        end -= 1;
-    }
-    &units[..end]
+    &units[..without_run(units, Kind::Blank)]
 }
 
 fn trimmed_start(units: &[u16]) -> &[u16]
     ensures { result.now ≡ trimmed_start units.now }
 {
-    let mut start = 0;
-    while start < units.len() && is_blank(units[start]) {
-        start += 1;
-    }
-    &units[start..]
-}
-
-fn is_blank(unit: u16) -> bool
-    ensures { result ≡ is_blank unit }
-{
-    matches!(unit, 9..=13 | 32)
+    &units[run(units, Kind::Blank)..]
 }
 
 // The units without a leading sign.
@@ -145,21 +136,10 @@ fn bounded(negative: bool, n: u64) -> WholeRead
     WholeRead::Whole(if negative { -n } else { n })
 }
 
-// The value of a unit as a digit or a letter, and 36 for any other.
-fn digit_value(unit: u16) -> u16
-    ensures { result ≡ digit_value unit }
-{
-    match unit {
-        48..=57 => unit - 48,
-        65..=90 => unit - 55,
-        97..=122 => unit - 87,
-        _ => 36,
-    }
-}
-
 // The number of a numeral, or the limit where it is larger. None where the units are no numeral.
+#[inline]
 pub(crate) fn numeral(units: &[u16], radix: u16) -> Option<u64>
-    requires { (1 ≤ radix) × (radix ≤ 36) }
+    requires { (radix ≡ 10) ⊎ (radix ≡ 16) }
     ensures { MatchOption result (is_numeral radix units.now ≡ false)
         (λ n. (is_numeral radix units.now ≡ true) × (n ≡ min (digits_value radix units.now) (2 ^ 53))) }
 {
@@ -167,14 +147,39 @@ pub(crate) fn numeral(units: &[u16], radix: u16) -> Option<u64>
         return None;
     }
     let mut n = 0;
-    for unit in units {
-        let digit = digit_value(*unit);
+    for at in run(units, Kind::Zero)..units.len() {
+        if n == LIMIT {
+            if are_digits(&units[at..], radix) {
+                return Some(LIMIT);
+            }
+            return None;
+        }
+        let digit = digit_value(units[at]);
         if digit >= radix {
             return None;
         }
         n = LIMIT.min(n * u64::from(radix) + u64::from(digit));
     }
     Some(n)
+}
+
+fn are_digits(units: &[u16], radix: u16) -> bool
+    requires { (radix ≡ 10) ⊎ (radix ≡ 16) }
+    ensures { result ≡ list_all (λ u. is_digit u radix) units.now }
+{
+    run(units, digits_of(radix)) == units.len()
+}
+
+// The digits of a radix.
+fn digits_of(radix: u16) -> Kind
+    requires { (radix ≡ 10) ⊎ (radix ≡ 16) }
+    ensures { (u : ℕ) → is_of result u ≡ is_digit u radix }
+{
+    if radix == 10 {
+        Kind::Digit
+    } else {
+        Kind::Hexadecimal
+    }
 }
 
 // The number after `0x` or `0X`, or the limit where it is larger.
@@ -188,58 +193,62 @@ fn hexadecimal(units: &[u16]) -> Option<u64>
     }
 }
 
-fn is_point(unit: &u16) -> bool
-    ensures { result ≡ is_point unit.now }
-{
-    *unit == POINT
-}
-
-fn is_e(unit: &u16) -> bool
-    ensures { result ≡ is_e unit.now }
-{
-    *unit == SMALL_E || *unit == CAPITAL_E
-}
-
-fn first_point(units: &[u16]) -> Option<usize>
-    ensures { result ≡ position is_point units.now }
-{
-    units.iter().position(is_point)
-}
-
-fn first_e(units: &[u16]) -> Option<usize>
-    ensures { result ≡ position is_e units.now }
-{
-    units.iter().position(is_e)
-}
-
 // A decimal literal that has a point or an exponent.
 fn is_fraction(units: &[u16]) -> bool
     ensures { result ≡ is_fraction units.now }
 {
-    match first_e(units) {
-        Some(at) => is_mantissa(&units[..at]) && is_numeral(without_sign(&units[at + 1..])),
-        None => first_point(units).is_some() && is_mantissa(units),
-    }
+    let whole = run(units, Kind::Digit);
+    ends_fraction(&units[whole..], whole > 0)
 }
 
-// Digits, among which one point may stand.
-fn is_mantissa(units: &[u16]) -> bool
-    ensures { result ≡ is_mantissa units.now }
+// Whether units that begin with no digit, behind digits or behind none, make them a fraction.
+fn ends_fraction(units: &[u16], behind_digits: bool) -> bool
+    requires { is_digit (slice_index units.now 0) 10 ≡ false }
+    ensures { (ds : List ℕ) → AllDigits 10 ds → behind_digits ≡ nat_lt 0 (length ds)
+        → result ≡ is_fraction (ds ++ units.now) }
 {
-    match first_point(units) {
-        Some(at) => units.len() > 1 && are_digits(&units[..at]) && are_digits(&units[at + 1..]),
-        None => is_numeral(units),
+    if has_point(units) {
+        return ends_behind_point(&units[1..], behind_digits);
+    }
+    behind_digits && is_exponent(units)
+}
+
+// Whether the first unit is a point.
+fn has_point(units: &[u16]) -> bool
+    ensures point { result ≡ is_point (slice_index units.now 0) }
+    ensures some { result ≡ true → 0 < length units.now }
+{
+    !units.is_empty() && units[0] == POINT
+}
+
+// Whether units behind a point, behind digits or behind none, make them a fraction.
+fn ends_behind_point(units: &[u16], behind_digits: bool) -> bool
+    ensures { (ds : List ℕ) → AllDigits 10 ds → behind_digits ≡ nat_lt 0 (length ds)
+        → result ≡ is_fraction (ds ++ byte "." ∷ units.now) }
+{
+    let part = run(units, Kind::Digit);
+    let rest = &units[part..];
+    some_digits(behind_digits, part) && (rest.is_empty() || is_exponent(rest))
+}
+
+fn some_digits(behind_digits: bool, part: usize) -> bool
+    ensures { result ≡ (behind_digits || nat_lt 0 part) }
+{
+    behind_digits || part > 0
+}
+
+// `e` or `E`, an optional sign and digits.
+fn is_exponent(units: &[u16]) -> bool
+    ensures { result ≡ is_exponent units.now }
+{
+    match units {
+        [SMALL_E | CAPITAL_E, power @ ..] => is_numeral(without_sign(power)),
+        _ => false,
     }
 }
 
 fn is_numeral(units: &[u16]) -> bool
     ensures { result ≡ is_numeral 10 units.now }
 {
-    !units.is_empty() && are_digits(units)
-}
-
-fn are_digits(units: &[u16]) -> bool
-    ensures { result ≡ list_all (λ u. is_digit u 10) units.now }
-{
-    units.iter().all(|unit| digit_value(*unit) < 10)
+    !units.is_empty() && are_digits(units, 10)
 }

@@ -4,8 +4,8 @@ use Rattle.std.specs.Char.{is_digit}
 use Rattle.std.specs.Str.Parse.{digits_value}
 use Rattle.code_units.proofs.whole.numeral.Given as goal
 
-abbrev pub invariant-loop-unit : goal.invariant-loop-unit
-invariant-loop-unit l = record {
-  digits : list_all (λ u. is_digit u l.radix) (take l.unit-index l.units) ≡ true;
-  value : l.n ≡ min (digits_value l.radix (take l.unit-index l.units)) (2 ^ 53);
+abbrev pub invariant-loop-at : goal.invariant-loop-at
+invariant-loop-at l = record {
+  digits : list_all (λ u. is_digit u l.radix) (take l.at l.units) ≡ true;
+  value : l.n ≡ min (digits_value l.radix (take l.at l.units)) (2 ^ 53);
 }
