@@ -1,13 +1,13 @@
 -- Many nodes are moved at once.
-use Rattle.std.proofs.Common.{◌≡◌, ℕ, zero, suc, ◌+◌, ◌<◌, ◌≤◌, ◌-◌, List, [], ◌∷◌, ◌++◌, Bool, true, false, refl, sym, ap, ◌∙◌, subst, eqb, not, cond, length, arith, eqb-true, eq-eqb, ne_eqb, ◌||◌, ◌&&◌, get_or, take, drop, append_assoc, Some, None, Option, Result, Ok, Err, ⊎_elim, inl, inr, ◌⊎◌, set}
+use Rattle.std.proofs.Common.{◌≡◌, ℕ, zero, suc, ◌+◌, ◌<◌, ◌≤◌, ◌-◌, List, [], ◌∷◌, ◌++◌, Bool, true, false, refl, sym, ap, ◌∙◌, subst, eqb, not, cond, length, arith, eqb-true, eq-eqb, ne_eqb, ◌||◌, ◌&&◌, get_or, take, drop, append_assoc, Some, None, Option, Result, Ok, Err, ⊎_elim, set}
 use Rattle.std.specs.Prelude.{is_ok, is_some, reverse, MatchResult}
-use Rattle.std.specs.List.{filter, list_any}
+use Rattle.std.specs.List.{list_any}
 use Rattle.std.specs.List.Sorted.{IsSorted, IsPermutation, IsBinarySearchResult}
 use Rattle.std.specs.Ordering.{nat_cmp}
 use Rattle.std.proofs.Math.Seq.{drop-append_seam, take-append_seam, take-suc}
 use Rattle.std.proofs.lemmas.List.{append-nil, length-set, length-drop, drop-append-le, take-append-le, reverse-append, reverse-reverse}
 use Rattle.std.proofs.lemmas.List.Sorted.{searched, IsNonDecreasingBy-from_sort, list_any-IsPermutation}
-use Rattle.std.proofs.lemmas.Bool.{eqb-false, or_cases, cases_lt}
+use Rattle.std.proofs.lemmas.Bool.{eqb-false, cases_lt}
 use Rattle.tree_ops.specs.Trees.{is_number}
 use Rattle.plain_tree.specs.Trees.{Trees}
 use Rattle.page_nodes.specs.Entries.{Entry, at, before, listed, minus, tree, IsSound}
@@ -15,12 +15,11 @@ use Rattle.page_nodes.specs.Many.{outside, last_ones, spliced, if_top, backward,
 use Rattle.page_nodes.specs.Moves.{KeepsNodes, AreNodes, MayMove, MayMoveAll, IsPut, Puts, put_last, none_put, ArePut, OthersStay, put_all, put_under, parents_after}
 use Rattle.page_nodes.proofs.Cut.{IsCut, cut_sound}
 use Rattle.page_nodes.proofs.Detach.{taken, raised, cut_written, cut_none, detached, keeps_field, sets_field}
-use Rattle.page_nodes.proofs.Lists.{cases, or_right, listed_place, one_more_below}
+use Rattle.page_nodes.proofs.Lists.{cases, or_right, listed_place}
 use Rattle.page_nodes.proofs.Put.{given, hung, insert_written, link_written, may_link, put_after, may_still, kept_then, others_step}
-use Rattle.page_nodes.proofs.Upward.{parent_in, none_some}
-use Rattle.page_nodes.proofs.Walk.{child_in}
+use Rattle.page_nodes.proofs.Upward.{parent_in}
 
--- ## Numbers in order
+-- ## Numbers in lists
 
 listed_any : (x : ℕ) (xs : List ℕ) → listed x xs ≡ list_any (λ m. eqb m x) xs
 listed_any x [] = refl
@@ -36,7 +35,7 @@ listed_at_place (x ∷ xs) zero lt = ap (λ b. b || listed x xs) (eq-eqb x x ref
 listed_at_place (x ∷ xs) (suc i) lt = or_right (eqb x (get_or xs i 0)) (listed (get_or xs i 0) xs) (listed_at_place xs i (omega (arith, lt)))
 
 -- what a search in a list in order finds
-pub searched_listed : (xs : List ℕ) (x : ℕ) (r : Result ℕ ℕ) → IsSorted nat_cmp xs → IsBinarySearchResult (λ y. nat_cmp y x) xs r → is_ok r ≡ listed x xs
+searched_listed : (xs : List ℕ) (x : ℕ) (r : Result ℕ ℕ) → IsSorted nat_cmp xs → IsBinarySearchResult (λ y. nat_cmp y x) xs r → is_ok r ≡ listed x xs
 searched_listed xs x r sorted h = of r (searched xs x r h (λ i j le lt. (IsNonDecreasingBy-from_sort (λ y. y) xs sorted) i j 0 le lt))
   where
     missed : (i : ℕ) → ((k : ℕ) → k < i → get_or xs k 0 < x) → ((k : ℕ) → i ≤ k → k < length xs → x < get_or xs k 0) → listed x xs ≡ true → ⊥
@@ -45,6 +44,9 @@ searched_listed xs x r sorted h = of r (searched xs x r h (λ i j le lt. (IsNonD
     of : (q : Result ℕ ℕ) → MatchResult q (λ i. (i < length xs) × (get_or xs i 0 ≡ x)) (λ i. (i ≤ length xs) × ((k : ℕ) → k < i → get_or xs k 0 < x) × ((k : ℕ) → i ≤ k → k < length xs → x < get_or xs k 0)) → is_ok q ≡ listed x xs
     of (Ok i) f = sym (ap (λ y. listed y xs) (sym (f.1)) ∙ listed_at_place xs i (f.0))
     of (Err i) f = cases (λ b. listed x xs ≡ b → false ≡ listed x xs) (listed x xs) (λ e _. absurd (missed i (f.1) (f.2) e)) (λ e _. sym e) refl
+
+pub searched_any : (xs : List ℕ) (x : ℕ) (r : Result ℕ ℕ) → IsSorted nat_cmp xs → IsBinarySearchResult (λ y. nat_cmp y x) xs r → is_ok r ≡ list_any (λ m. eqb m x) xs
+searched_any xs x r sorted h = searched_listed xs x r sorted h ∙ listed_any x xs
 
 -- ## Lists without others
 
@@ -301,151 +303,10 @@ moved_at_once k d m t s ns sound tin may none cut hung =
 
 -- ## Sweeps
 
--- the children of these parents were swept
-pub record AreSwept (k m : List Entry) (ns ps : List ℕ) : Type 0 where
-  pub kept : KeepsNodes k m
-  pub children : (x : ℕ) → (at m x).children ≡ cond (listed x ps) (outside ns (at k x).children) (at k x).children
-  pub cleared : (x p : ℕ) → (at k x).parent ≡ Some p → (at m x).parent ≡ cond (listed x ns && listed p ps) None (Some p)
-  pub tops : (x : ℕ) → (at k x).parent ≡ None → (at m x).parent ≡ None
-
--- the nodes so far have no parent
-pub record AreFree (k m : List Entry) (ns : List ℕ) (i : ℕ) : Type 0 where
-  pub parents : List ℕ
-  pub swept : AreSwept k m ns parents
-  pub free : (j : ℕ) → j < i → (at m (get_or ns j 0)).parent ≡ None
-
-pub free_start : (k : List Entry) (ns : List ℕ) → AreFree k k ns 0
-free_start k ns = record {
-  parents = [];
-  swept = record {
-    kept = record { made = refl; labels = λ x. refl; owners = λ x. refl };
-    children = λ x. refl;
-    cleared = λ x p u. u ∙ cases (λ b. Some p ≡ cond (b && false) None (Some p)) (listed x ns) (λ _. refl) (λ _. refl);
-    tops = λ x u. u;
-  };
-  free = λ j lt. absurd (omega (arith, lt));
-}
-
--- a node without a parent
-pub free_passed : (k m : List Entry) (ns : List ℕ) (i : ℕ) → AreFree k m ns i → (at m (get_or ns i 0)).parent ≡ None → AreFree k m ns (i + 1)
-free_passed k m ns i f u = record { parents = f.parents; swept = f.swept; free = one_more_below (λ j. (at m (get_or ns j 0)).parent ≡ None) i f.free u }
-
-true_is : (b : Bool) → b ≡ false → b ≡ true → ⊥
-true_is b h g = true_no (sym g ∙ h)
-
-cleared_now : (b : Bool) (p q : ℕ) → cond b None (Some q) ≡ Some p → (b ≡ false) × (q ≡ p)
-cleared_now true p q h = cc
-cleared_now false p q h = (refl, some_same q p h)
-  where
-    some_same : (a b : ℕ) → Some a ≡ Some b → a ≡ b
-    some_same a b h = cc
-
--- a node with a parent stands under it as it did at first, and no child of the parent was taken yet
-first_met : (k m : List Entry) (ns ps : List ℕ) (n p : ℕ) → AreSwept k m ns ps → listed n ns ≡ true → (at m n).parent ≡ Some p → ((at k n).parent ≡ Some p) × (listed p ps ≡ false)
-first_met k m ns ps n p swept here u = of (at k n).parent refl
-  where
-    of : (v : Option ℕ) → (at k n).parent ≡ v → ((at k n).parent ≡ Some p) × (listed p ps ≡ false)
-    of None e = absurd (none_some p (sym (swept.tops n e) ∙ u))
-    of (Some q) e =
-        let c = cleared_now (listed n ns && listed q ps) p q (sym (swept.cleared n q e) ∙ u) in
-        (e ∙ ap (λ y. Some y) (c.1), ap (λ y. listed y ps) (sym (c.1)) ∙ ap (λ b. b && listed q ps) (sym here) ∙ c.0)
-
-none_kept : (b : Bool) (u : Option ℕ) → u ≡ None → cond b None u ≡ None
-none_kept true u h = refl
-none_kept false u h = h
-
--- a child is listed exactly under its parent
-listed_is : (k : List Entry) → IsSound k → (x p q : ℕ) → (at k x).parent ≡ Some q → listed x (at k p).children ≡ eqb p q
-listed_is k s x p q u = cases (λ b. eqb p q ≡ b → listed x (at k p).children ≡ b) (eqb p q)
-    (λ e _. subst (λ y. listed x (at k y).children ≡ true) (sym (eqb-true p q e)) (s.upward x q u))
-    (λ e _. cases (λ b. listed x (at k p).children ≡ b → b ≡ false) (listed x (at k p).children) (λ l _. absurd (eqb-false p q e (some_same p q (sym (s.down p x l) ∙ u)))) (λ _ _. refl) refl)
-    refl
-  where
-    some_same : (a b : ℕ) → Some a ≡ Some b → a ≡ b
-    some_same a b h = cc
-
--- one list more was swept
-swept_more : (k m m2 : List Entry) (ns ps : List ℕ) (p : ℕ) → IsSound k → AreSwept k m ns ps → listed p ps ≡ false → IsSwept m m2 ns p → AreSwept k m2 ns (p ∷ ps)
-swept_more k m m2 ns ps p s swept new w =
-    let same : (at m p).children ≡ (at k p).children = swept.children p ∙ ap (λ b. cond b (outside ns (at k p).children) (at k p).children) new in
-    record {
-      kept = kept_then k m m2 swept.kept w.kept;
-      children = λ x. w.children x ∙ ap (λ b. cond b (outside ns (at m x).children) (at m x).children) (turned x p)
-          ∙ cases (λ b. eqb p x ≡ b → cond b (outside ns (at m x).children) (at m x).children ≡ cond (b || listed x ps) (outside ns (at k x).children) (at k x).children) (eqb p x)
-          (λ e _. ap (outside ns) (subst (λ y. (at m y).children ≡ (at k y).children) (eqb-true p x e) same))
-          (λ e _. swept.children x)
-          refl;
-      cleared = λ x q u. w.parents x ∙ ap (λ c. cond (listed x ns && c) None (at m x).parent) (ap (listed x) same ∙ listed_is k s x p q u) ∙ ap (λ o. cond (listed x ns && eqb p q) None o) (swept.cleared x q u)
-          ∙ cases (λ a. cond (a && eqb p q) None (cond (a && listed q ps) None (Some q)) ≡ cond (a && (eqb p q || listed q ps)) None (Some q)) (listed x ns)
-          (λ _. cases (λ b. cond b None (cond (listed q ps) None (Some q)) ≡ cond (b || listed q ps) None (Some q)) (eqb p q) (λ _. refl) (λ _. refl))
-          (λ _. refl);
-      tops = λ x u. w.parents x ∙ none_kept (listed x ns && listed x (at m p).children) (at m x).parent (swept.tops x u);
-    }
-
--- a node with a parent, whose children are swept
-pub free_swept : (k m m2 : List Entry) (ns : List ℕ) (i n p : ℕ) → IsSound k → i < length ns → n ≡ get_or ns i 0 → AreFree k m ns i → (at m n).parent ≡ Some p → IsSwept m m2 ns p → AreFree k m2 ns (i + 1)
-free_swept k m m2 ns i n p s lt en f u w =
-    let here : listed n ns ≡ true = ap (λ y. listed y ns) en ∙ listed_at_place ns i lt in
-    let met = first_met k m ns f.parents n p f.swept here u in
-    let swept = swept_more k m m2 ns f.parents p s f.swept (met.1) w in
-    record {
-      parents = p ∷ f.parents;
-      swept = swept;
-      free = one_more_below (λ j. (at m2 (get_or ns j 0)).parent ≡ None) i
-          (λ j l. w.parents (get_or ns j 0) ∙ none_kept (listed (get_or ns j 0) ns && listed (get_or ns j 0) (at m p).children) _ (f.free j l))
-          (ap (λ y. (at m2 y).parent) (sym en) ∙ swept.cleared n p (met.0) ∙ ap (λ b. cond (b && (eqb p p || listed p f.parents)) None (Some p)) here ∙ ap (λ b. cond (b || listed p f.parents) None (Some p)) (eq-eqb p p refl));
-    }
-
-pub outside_same : (ns ms xs : List ℕ) → ((x : ℕ) → listed x ns ≡ listed x ms) → outside ns xs ≡ outside ms xs
-outside_same ns ms [] h = refl
-outside_same ns ms (x ∷ xs) h = ap (λ b. cond (not b) (x ∷ outside ns xs) (outside ns xs)) (h x) ∙ ap (λ l. cond (not (listed x ms)) (x ∷ l) l) (outside_same ns ms xs h)
-
--- the same numbers in another order
-pub swept_same : (k m : List Entry) (ns ms : List ℕ) (p : ℕ) → ((x : ℕ) → listed x ns ≡ listed x ms) → IsSwept k m ns p → IsSwept k m ms p
-swept_same k m ns ms p h w = record {
-  kept = w.kept;
-  children = λ x. w.children x ∙ ap (λ l. cond (eqb x p) l (at k x).children) (outside_same ns ms (at k x).children h);
-  parents = λ x. w.parents x ∙ ap (λ b. cond (b && listed x (at k p).children) None (at k x).parent) (h x);
-}
-
--- where a node still has a parent
-pub record IsMet (k m : List Entry) (p : ℕ) : Type 0 where
-  pub is_in : p < length m
-  pub inside : (i : ℕ) → i < length (at m p).children → get_or (at m p).children i 0 < length m
-
-pub node_met : (k m : List Entry) (ns : List ℕ) (i n p : ℕ) → IsSound k → i < length ns → n ≡ get_or ns i 0 → AreFree k m ns i → (at m n).parent ≡ Some p → IsMet k m p
-node_met k m ns i n p s lt en f u =
-    let here : listed n ns ≡ true = ap (λ y. listed y ns) en ∙ listed_at_place ns i lt in
-    let met = first_met k m ns f.parents n p f.swept here u in
-    let same : (at m p).children ≡ (at k p).children = f.swept.children p ∙ ap (λ b. cond b (outside ns (at k p).children) (at k p).children) (met.1) in
-    record {
-      is_in = omega (arith, f.swept.kept.made, parent_in k s n p (met.0));
-      inside = λ j l. omega (arith, f.swept.kept.made, child_in k s p (get_or (at m p).children j 0) (ap (listed (get_or (at m p).children j 0)) (sym same) ∙ listed_at_place (at m p).children j l));
-    }
-
--- every node was met
-pub cut_at_once : (k m : List Entry) (ns : List ℕ) (i : ℕ) → IsSound k → length ns ≤ i → AreFree k m ns i → AreCut k m ns
-cut_at_once k m ns i s le f = record {
-  kept = f.swept.kept;
-  children = λ x. f.swept.children x ∙ cases (λ b. listed x f.parents ≡ b → cond b (outside ns (at k x).children) (at k x).children ≡ outside ns (at k x).children) (listed x f.parents)
-      (λ _ _. refl)
-      (λ off _. sym (outside_off ns (at k x).children (λ c l. cases (λ b. listed c ns ≡ b → b ≡ false) (listed c ns) (λ h _. absurd (some_left x c off (s.down x c l) (free_now c h))) (λ _ _. refl) refl)))
-      refl;
-  parents = λ x. by_parent x (at k x).parent refl;
-}
-  where
-    free_now : (c : ℕ) → listed c ns ≡ true → (at m c).parent ≡ None
-    free_now c h = let p = listed_place c ns h in ap (λ y. (at m y).parent) (sym (p.2)) ∙ f.free (p.0) (omega (arith, le, p.1))
-
-    some_left : (x c : ℕ) → listed x f.parents ≡ false → (at k c).parent ≡ Some x → (at m c).parent ≡ None → ⊥
-    some_left x c off u none = none_some x (sym none ∙ f.swept.cleared c x u ∙ ap (λ b. cond (listed c ns && b) None (Some x)) off ∙ cases (λ b. cond (b && false) None (Some x) ≡ Some x) (listed c ns) (λ _. refl) (λ _. refl))
-
-    by_parent : (x : ℕ) (u : Option ℕ) → (at k x).parent ≡ u → (at m x).parent ≡ cond (listed x ns) None (at k x).parent
-    by_parent x None e = f.swept.tops x e ∙ sym (none_kept (listed x ns) (at k x).parent e)
-    by_parent x (Some q) e = cases (λ b. listed x ns ≡ b → (at m x).parent ≡ cond b None (at k x).parent) (listed x ns)
-        (λ h _. free_now x h)
-        (λ h _. f.swept.cleared x q e ∙ ap (λ b. cond (b && listed q f.parents) None (Some q)) h ∙ sym e)
-        refl
+pub none_either : (b c : Bool) (u : Option ℕ) → cond c None (cond b None u) ≡ cond (b || c) None u
+none_either true true u = refl
+none_either true false u = refl
+none_either false c u = refl
 
 pub listed-last : (x n : ℕ) (xs : List ℕ) → listed x (xs ++ n ∷ []) ≡ (listed x xs || eqb n x)
 listed-last x n [] = cases (λ b. (b || false) ≡ b) (eqb n x) (λ _. refl) (λ _. refl)
@@ -489,16 +350,6 @@ cleared_one k m ns n lt here e = subst (λ y. AreCleared k y ns (n ∷ [])) (sym
       (λ q _. cases (λ b. (at k x).parent ≡ cond (b && false) None (at k x).parent) (listed x ns) (λ _. refl) (λ _. refl))
       refl;
 })
-
-pub cleared_none : (k : List Entry) (ns : List ℕ) (n : ℕ) → listed n ns ≡ false → AreCleared k k ns (n ∷ [])
-cleared_none k ns n off = record {
-  kept = record { made = refl; labels = λ x. refl; owners = λ x. refl };
-  children = λ x. refl;
-  parents = λ x. cases (λ b. eqb n x ≡ b → (at k x).parent ≡ cond (listed x ns && (b || false)) None (at k x).parent) (eqb n x)
-      (λ q _. ap (λ b. cond (b && true) None (at k x).parent) (sym off ∙ ap (λ y. listed y ns) (eqb-true n x q)))
-      (λ q _. cases (λ b. (at k x).parent ≡ cond (b && false) None (at k x).parent) (listed x ns) (λ _. refl) (λ _. refl))
-      refl;
-}
 
 -- and then the list
 pub swept_both : (k d m : List Entry) (ns : List ℕ) (p : ℕ) → p < length k → AreCleared k d ns (at k p).children → m ≡ set d p (record (at d p) { children = outside ns (at d p).children }) → IsSwept k m ns p
@@ -617,6 +468,10 @@ list_moved k b d m t s ns e sound tin nodes may away cut hung =
     moved_at_once k d m t s ns sound tin
     (λ n l. let p = listed_place n ns l in subst (MayGo k t) (p.2) (record { is_in = nodes (p.0) (p.1); may = may (p.0) (p.1) }))
     (none_is s ns away) (subst (λ y. AreCut y d ns) e cut) hung
+
+-- the same list
+pub cut_of : (k d : List Entry) (ns ms : List ℕ) → ms ≡ ns → AreCut k d ms → AreCut k d ns
+cut_of k d ns ms e = subst (AreCut k d) e
 
 -- none of them has a parent any more
 pub cut_tops : (k d : List Entry) (ns : List ℕ) → AreCut k d ns → (i : ℕ) → i < length ns → (at d (get_or ns i 0)).parent ≡ None

@@ -7,7 +7,7 @@ use Rattle.page_nodes.specs.Trees.{pruned, all_pruned}
 use Rattle.page_nodes.specs.Entries.{Entry, at, body, listed, tree, IsSound}
 use Rattle.page_nodes.specs.Many.{outside, AreCleared, IsSwept, AreCut}
 use Rattle.page_nodes.specs.Moves.{KeepsNodes, AreNodes, Detached, AreDetached, Detaches, none_detached, detach_last, OthersStay, OthersOfAllStay}
-use Rattle.page_nodes.proofs.AtOnce.{freed_is, entry_same, all_same, outside_none, outside_more, outside_same, outside_off, listed-last, listed_at_place, cleared_more, cleared_one, swept_both, turned}
+use Rattle.page_nodes.proofs.AtOnce.{cut_of, freed_is, entry_same, all_same, outside_none, outside_more, outside_off, listed-last, listed_at_place, cleared_more, cleared_one, swept_both, turned, none_either}
 use Rattle.page_nodes.proofs.Cut.{IsCut, cut_sound}
 use Rattle.page_nodes.proofs.Detach.{detached, raised}
 use Rattle.page_nodes.proofs.Lists.{cases, or_right, listed_place}
@@ -70,11 +70,6 @@ all_pruned_last : (ns : List ℕ) (n : ℕ) (ts : Trees ℕ) → all_pruned (ns 
 all_pruned_last [] n ts = refl
 all_pruned_last (m ∷ ns) n ts = all_pruned_last ns n (pruned m ts)
 
-none_either : (b c : Bool) (u : Option ℕ) → cond c None (cond b None u) ≡ cond (b || c) None u
-none_either true true u = refl
-none_either true false u = refl
-none_either false c u = refl
-
 pub detaches_are : (k : List Entry) (ns : List ℕ) (m : List Entry) → Detaches k ns m → AreDetached k m ns
 detaches_are k _ _ none_detached = record { trees = λ x. refl; parents = λ x. refl; kept = same_nodes k }
 detaches_are k _ new (detach_last {ns = ns} {m = m} {n = n} steps sound gone) =
@@ -113,14 +108,6 @@ gone_at_once k m ns sound inside cut =
     (cut.kept.labels x ∙ sym (all.cut.kept.labels x))) in
     subst (λ y. WereDetached k y ns) (sym same) (record { sound = all.sound; steps = all.steps })
 
--- the same nodes in another order
-cut_same : (k m : List Entry) (ns ms : List ℕ) → ((x : ℕ) → listed x ns ≡ listed x ms) → AreCut k m ns → AreCut k m ms
-cut_same k m ns ms h cut = record {
-  kept = cut.kept;
-  children = λ x. cut.children x ∙ outside_same ns ms (at k x).children h;
-  parents = λ x. cut.parents x ∙ ap (λ b. cond b None (at k x).parent) (h x);
-}
-
 listed_in : (k : List Entry) (ns : List ℕ) → AreNodes k ns → (n : ℕ) → listed n ns ≡ true → n < length k
 listed_in k ns inside n l = let p = listed_place n ns l in subst (λ y. y < length k) (p.2) (inside (p.0) (p.1))
 
@@ -128,8 +115,12 @@ listed_in k ns inside n l = let p = listed_place n ns l in subst (λ y. y < leng
 pub nodes_same : (k : List Entry) (ns ms : List ℕ) → ((x : ℕ) → listed x ms ≡ listed x ns) → AreNodes k ns → AreNodes k ms
 nodes_same k ns ms h inside i lt = listed_in k ns inside (get_or ms i 0) (sym (h (get_or ms i 0)) ∙ listed_at_place ms i lt)
 
-pub list_detached : (k m : List Entry) (ns ms : List ℕ) → IsSound k → AreNodes k ns → ((x : ℕ) → listed x ms ≡ listed x ns) → AreCut k m ms → WereDetached k m ns
-list_detached k m ns ms sound inside h cut = gone_at_once k m ns sound (listed_in k ns inside) (cut_same k m ms ns h cut)
+-- the same list
+pub nodes_are : (k : List Entry) (ns ms : List ℕ) → ms ≡ ns → AreNodes k ns → AreNodes k ms
+nodes_are k ns ms e inside = subst (AreNodes k) (sym e) inside
+
+pub list_detached : (k m : List Entry) (ns ms : List ℕ) → ms ≡ ns → IsSound k → AreNodes k ns → AreCut k m ms → WereDetached k m ns
+list_detached k m ns ms e sound inside cut = gone_at_once k m ns sound (listed_in k ns inside) (cut_of k m ns ms e cut)
 
 -- ## All children of a node
 

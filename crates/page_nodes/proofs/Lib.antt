@@ -17,5 +17,6 @@ pub mod Plains
 pub mod Adds
 pub mod Width
 pub mod AtOnce
+pub mod Raised
 pub mod Detaching
 pub mod Indexing

@@ -1,18 +1,13 @@
 -- Lists of numbers and of nodes.
 use Rattle.std.proofs.Common.{◌≡◌, ℕ, zero, suc, ◌<◌, ◌≤◌, ◌+◌, List, [], ◌∷◌, ◌++◌, Bool, true, false, refl, ap, sym, ◌∙◌, eqb, not, cond, length, arith, eqb-true, ◌||◌, set, get_or, take, eq-eqb, ne_eqb, subst, Result, Ok, Err, Option, Some, None, inl, inr, ◌⊎◌, ⊎_elim}
-use Rattle.std.specs.List.Retain.{IsFiltered}
 use Rattle.std.proofs.lemmas.List.{map-set, get_or-set_same, get_or-set_other, set-get_or, map-append}
 use Rattle.std.specs.Prelude.{OnOk, IfOk, MatchResult, insert, is_some}
 use Rattle.tree_ops.specs.Trees.{is_number}
 pub use Rattle.tree_ops.proofs.Tests.{cases, or_none, or_right}
-use Rattle.std.proofs.lemmas.Fn.{filter_same}
 use Rattle.std.proofs.lemmas.Bool.{eqb-false, and_parts, and_from, cases_lt, or_cases}
 use Rattle.page_nodes.specs.declared.rows.Row.{Row}
 use Rattle.page_nodes.specs.Room.{room_in, room_at}
 use Rattle.page_nodes.specs.Entries.{minus, before, listed, distinct, Entry, entry_of, entries, at, no_entry}
-
-pub minus_retained : {F : Type 0} (R : F → ℕ → Bool → F → Type 0) (n : ℕ) (f : F) → ((x : ℕ) (b : Bool) (g : F) → R f x b g → (b ≡ not (eqb x n)) × (g ≡ f)) → (xs ys : List ℕ) → IsFiltered R f xs ys → ys ≡ minus n xs
-minus_retained R n f says xs ys h = filter_same R (λ c. not (eqb c n)) f says xs ys h
 
 -- what is left
 pub listed_minus : (n c : ℕ) (xs : List ℕ) → listed c (minus n xs) ≡ true → (listed c xs ≡ true) × (c ≡ n → ⊥)
@@ -131,6 +126,14 @@ pub room_read : (rows : List Row) (i : ℕ) (r : Row) → i < length rows → r 
 room_read [] i r lt e = absurd (omega arith)
 room_read (x ∷ rows) zero r lt e = ap (λ (y : Row). room_in y.children) e
 room_read (x ∷ rows) (suc i) r lt e = room_read rows i r (omega arith) e
+
+-- the room of a node whose children are lifted out
+pub room_lifted : (rows : List Row) (i t : ℕ) (r old : Row) → i < length rows → old ≡ get_or rows i old → cond (eqb t i) (room_in old.children) (room_at (set rows i r) t) ≡ room_at rows t
+room_lifted rows i t r old lt e =
+    ap (λ y. cond (eqb t i) (room_in old.children) y) (room_set rows i t r lt)
+    ∙ cases (λ b. cond b (room_in old.children) (cond b (room_in r.children) (room_at rows t)) ≡ room_at rows t) (eqb t i)
+    (λ h. room_read rows i old lt e ∙ ap (room_at rows) (sym (eqb-true t i h)))
+    (λ _. refl)
 
 -- one node written, by how much its room falls at most
 pub room_written : (rows : List Row) (i less : ℕ) (r old : Row) → i < length rows → old ≡ get_or rows i old → room_in old.children ≤ room_in r.children + less → (t : ℕ) → room_at rows t ≤ room_at (set rows i r) t + less

@@ -1,5 +1,5 @@
 -- A node is put under another.
-use Rattle.std.proofs.Common.{◌≡◌, ℕ, ◌+◌, ◌<◌, ◌≤◌, max, List, [], ◌∷◌, Bool, true, false, refl, sym, ap, ◌∙◌, subst, eqb, arith, cond, eqb-true, eq-eqb, Some, None, Option, length, set, ◌||◌, ⊎_elim}
+use Rattle.std.proofs.Common.{◌≡◌, ℕ, ◌<◌, max, List, [], ◌∷◌, Bool, true, false, refl, sym, ap, ◌∙◌, subst, eqb, arith, cond, eqb-true, eq-eqb, Some, None, Option, length, set, ◌||◌, ⊎_elim}
 use Rattle.std.proofs.lemmas.Bool.{or_cases, eqb-false}
 use Rattle.std.proofs.lemmas.List.{length-set, get_or-set_other}
 use Rattle.plain_tree.specs.Trees.{Trees, End, Node, beside, height}

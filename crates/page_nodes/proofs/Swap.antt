@@ -1,6 +1,7 @@
 -- A tree is put in the place of another under `body`.
 use Rattle.std.proofs.Common.{◌≡◌, ℕ, zero, suc, ◌<◌, ◌≤◌, List, [], ◌∷◌, Bool, true, false, refl, sym, ap, ◌∙◌, subst, eqb, arith, cond, eqb-true, ne_eqb, Some, None, Option, length, set, not, ◌||◌, get_or, ⊎_elim}
 use Rattle.std.proofs.lemmas.Bool.{eqb-false, and_parts, or_cases}
+use Rattle.std.specs.List.{remove}
 use Rattle.std.proofs.lemmas.List.{length-set}
 use Rattle.tree_ops.specs.Trees.{is_number}
 use Rattle.page_nodes.specs.Trees.{pruned}
@@ -34,6 +35,33 @@ listed_here n (x ∷ xs) (suc i) lt e = or_right (eqb x n) (listed n xs) (listed
 not_true : (b : Bool) → not b ≡ true → b ≡ false
 not_true true h = cc
 not_true false h = refl
+
+-- in a list without repeats, a number is taken out at its place
+pub taken_out : (n : ℕ) (xs : List ℕ) (i : ℕ) → distinct xs ≡ true → i < length xs → is_number (get_or xs i 0) (Some n) ≡ true → remove xs i ≡ minus n xs
+taken_out n [] i d lt e = absurd (omega (arith, lt))
+taken_out n (x ∷ xs) zero d lt e =
+    let p = and_parts (not (listed x xs)) (distinct xs) d in
+    sym (ap (λ b. cond (not b) (x ∷ minus n xs) (minus n xs)) e
+    ∙ minus_none n xs (ap (λ y. listed y xs) (sym (eqb-true x n e)) ∙ not_true (listed x xs) (p.0)))
+taken_out n (x ∷ xs) (suc i) d lt e =
+    let p = and_parts (not (listed x xs)) (distinct xs) d in
+    let here = listed_here n xs i (omega (arith, lt)) e in
+    let other : eqb x n ≡ false = ne_eqb x n (λ h. true_false (sym (subst (λ y. listed y xs ≡ true) (sym h) here) ∙ not_true (listed x xs) (p.0))) in
+    sym (ap (λ b. cond (not b) (x ∷ minus n xs) (minus n xs)) other ∙ ap (λ l. x ∷ l) (sym (taken_out n xs i (p.1) (omega (arith, lt)) e)))
+  where
+    true_false : true ≡ false → ⊥
+    true_false h = cc
+
+-- what a search of it finds
+pub taken_found : (n : ℕ) (xs ys : List ℕ) (i : ℕ) → ys ≡ xs → distinct xs ≡ true → i < length ys → (i < length ys → is_number (get_or ys i 0) (Some n) ≡ true) → remove xs i ≡ minus n xs
+taken_found n xs ys i e d lt found = taken_out n xs i d (subst (λ l. i < length l) e lt) (ap (λ l. is_number (get_or l i 0) (Some n)) (sym e) ∙ found lt)
+
+none_here : (n : ℕ) (xs : List ℕ) → ((j : ℕ) → j < length xs → is_number (get_or xs j 0) (Some n) ≡ false) → listed n xs ≡ false
+none_here n [] h = refl
+none_here n (x ∷ xs) h = ap (λ b. b || listed n xs) (h 0 (omega arith)) ∙ none_here n xs (λ j lt. h (suc j) (omega (arith, lt)))
+
+pub taken_missed : (n : ℕ) (xs ys : List ℕ) (i : ℕ) → ys ≡ xs → length ys ≤ i → ((j : ℕ) → j < i → is_number (get_or ys j 0) (Some n) ≡ false) → xs ≡ minus n xs
+taken_missed n xs ys i e le none = sym (minus_none n xs (ap (listed n) (sym e) ∙ none_here n ys (λ j lt. none j (omega (arith, lt, le)))))
 
 -- in a list without repeats, a number is written over another
 pub written_over : (n m : ℕ) (xs : List ℕ) (i : ℕ) → distinct xs ≡ true → (m ≡ n → ⊥) → i < length xs → is_number (get_or xs i 0) (Some n) ≡ true → set xs i m ≡ minus n (before (Some n) m xs)

@@ -122,6 +122,21 @@ level_parent k s x p u (n ∷ ns) _ (one_more {ks = ks} {ts = ts} hk hs) =
     (cases_Bool (has x ks)) in
     omega (arith, low, a, b, if_most (eqb n x))
 
+-- what has a node has its children
+pub child_has : (k : List Entry) → IsSound k → (x p : ℕ) → (at k x).parent ≡ Some p → (ns : List ℕ) (ts : Trees ℕ) → Shows k ns ts → has p ts ≡ true → has x ts ≡ true
+child_has k s x p u [] _ none h = cc
+child_has k s x p u (n ∷ ns) _ (one_more {ks = ks} {ts = ts} hk hs) h =
+    ⊎_elim
+    (λ e. or_right (eqb n x) (has x ks || has x ts) (or_left (has x ks) (has x ts) ((among k x (tree k x) (shows_tree k s x) (at k n).children ks hk (subst (λ y. listed x (at k y).children ≡ true) (sym (eqb-true n p e)) (s.upward x p u))).has_too x (itself (tree k x) (shows_tree k s x)))))
+    (λ h2. or_right (eqb n x) (has x ks || has x ts) (⊎_elim
+    (λ a. or_left (has x ks) (has x ts) (child_has k s x p u (at k n).children ks hk a))
+    (λ a. or_right (has x ks) (has x ts) (child_has k s x p u ns ts hs a))
+    (or_cases (has p ks) (has p ts) h2)))
+    (or_cases (eqb n p) (has p ks || has p ts) h)
+  where
+    itself : (us : Trees ℕ) → Shows k (x ∷ []) us → has x us ≡ true
+    itself _ (one_more {ks = ls} {ts = us} hl hu) = or_left (eqb x x) (has x ls || has x us) (eq-eqb x x refl)
+
 -- where nothing but `body` is above, the node is a top in each tree without `body`
 pub level_top : (k : List Entry) → IsSound k → (x : ℕ) → ((p : ℕ) → (at k x).parent ≡ Some p → p ≡ body) → (ns : List ℕ) (ts : Trees ℕ) → Shows k ns ts → has body ts ≡ false → level x ts ≤ 1
 level_top k s x above [] _ none h = omega arith

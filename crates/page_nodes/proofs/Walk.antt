@@ -1,17 +1,18 @@
 -- The walk up from a node.
-use Rattle.std.proofs.Common.{◌≡◌, ℕ, zero, suc, ◌+◌, ◌-◌, ◌<◌, ◌≤◌, max, List, [], ◌∷◌, Bool, true, false, refl, sym, ap, ◌∙◌, subst, eqb, ltb, cond, Less, Equal, Greater, arith, eqb-true, eq-eqb, Some, None, length, get_or, drop, ⊎_elim, inl, inr}
+use Rattle.std.proofs.Common.{◌≡◌, ℕ, zero, suc, ◌+◌, ◌-◌, ◌<◌, ◌≤◌, max, List, [], ◌∷◌, Bool, true, false, refl, sym, ap, ◌∙◌, subst, eqb, ltb, cond, ◌||◌, Less, Equal, Greater, arith, eqb-true, eq-eqb, Some, None, Option, length, get_or, drop, take, ⊎_elim, inl, inr}
 use Rattle.std.specs.Ordering.{is_lt, nat_cmp, ord_max}
-use Rattle.std.proofs.lemmas.Bool.{or_cases, cases_lt, ltb-true, ltb-false}
-use Rattle.std.proofs.lemmas.List.{get_or_past, get_or_default, at_drop_more, at_drop_all}
+use Rattle.std.specs.List.{list_any}
+use Rattle.std.proofs.lemmas.Bool.{eqb-false, or_cases, cases_lt, ltb-true, ltb-false}
+use Rattle.std.proofs.lemmas.List.{get_or_past, get_or_default, at_drop_more, at_drop_all, take_all}
 use Rattle.plain_tree.specs.Trees.{Trees, End, Node, height}
-use Rattle.tree_ops.specs.Trees.{has}
+use Rattle.tree_ops.specs.Trees.{has, is_number}
 use Rattle.page_nodes.specs.Trees.{level}
-use Rattle.page_nodes.specs.Moves.{IsDepth}
-use Rattle.page_nodes.proofs.Lists.{cases, or_right}
+use Rattle.page_nodes.specs.Moves.{IsDepth, highest}
+use Rattle.page_nodes.proofs.Lists.{cases, or_none, or_right}
 use Rattle.page_nodes.proofs.Insert.{deeper_pos}
 use Rattle.page_nodes.specs.Entries.{Entry, at, body, listed, limit, tree, IsSound, no_entry}
 use Rattle.page_nodes.proofs.Shows.{Shows, none, one_more, shows_one, shows_tree, tree_low}
-use Rattle.page_nodes.proofs.Upward.{below_parent, has_parent, none_some, level_parent, level_top, level_none, level_height, or_left}
+use Rattle.page_nodes.proofs.Upward.{below_parent, has_parent, none_some, level_parent, level_top, level_none, level_height, or_left, child_has}
 
 -- the parent stands above, so the walk ends
 pub nearer : (k : List Entry) → IsSound k → (x p : ℕ) → (at k x).parent ≡ Some p → suc limit - height (tree k p) < suc limit - height (tree k x)
@@ -42,6 +43,69 @@ top_not_in k s x t u ne h = ⊎_elim
 pub not_has : (b : Bool) → (b ≡ true → ⊥) → false ≡ b
 not_has true never = absurd (never refl)
 not_has false never = refl
+
+pub number_is : (x : ℕ) (s : Option ℕ) → is_number x s ≡ true → s ≡ Some x
+number_is x None h = cc
+number_is x (Some y) h = ap (λ z. Some z) (sym (eqb-true x y h))
+
+-- one of several trees has a node
+pub within_one : (k : List Entry) (n x : ℕ) (ts : List ℕ) → has n (tree k x) ≡ true → list_any (λ y. eqb y x) ts ≡ true → true ≡ list_any (λ t. has n (tree k t)) ts
+within_one k n x [] h e = cc
+within_one k n x (t ∷ ts) h e = sym (⊎_elim
+    (λ q. or_left (has n (tree k t)) (list_any (λ y. has n (tree k y)) ts) (ap (λ y. has n (tree k y)) (eqb-true t x q) ∙ h))
+    (λ q. or_right (has n (tree k t)) (list_any (λ y. has n (tree k y)) ts) (sym (within_one k n x ts h q)))
+    (or_cases (eqb t x) (list_any (λ y. eqb y x) ts) e))
+
+-- a number that is not among others is none of them
+pub other_number : (x t : ℕ) (ts : List ℕ) → list_any (λ y. eqb y x) ts ≡ false → listed t ts ≡ true → x ≡ t → ⊥
+other_number x t [] e l same = cc
+other_number x t (y ∷ ts) e l same =
+    let q = or_none (eqb y x) (list_any (λ z. eqb z x) ts) e in
+    ⊎_elim (λ h. eqb-false y x (q.0) (eqb-true y t h ∙ sym same)) (λ h. other_number x t ts (q.1) h same) (or_cases (eqb y t) (listed t ts) l)
+
+-- none has it
+none_any : (f : ℕ → Bool) (ts : List ℕ) → ((t : ℕ) → listed t ts ≡ true → f t ≡ true → ⊥) → false ≡ list_any f ts
+none_any f [] h = refl
+none_any f (t ∷ ts) h =
+    sym (ap (λ b. b || list_any f ts) (sym (not_has (f t) (h t (or_left (eqb t t) (listed t ts) (eq-eqb t t refl)))))
+    ∙ sym (none_any f ts (λ y l. h y (or_right (eqb t y) (listed y ts) l))))
+
+-- what stands in none of several trees, with what is known of one above it
+pub apart_from : (k : List Entry) (n x : ℕ) (ts : List ℕ) → ((t : ℕ) → listed t ts ≡ true → has n (tree k t) ≡ true → has x (tree k t) ≡ true) → list_any (λ t. has x (tree k t)) ts ≡ false → false ≡ list_any (λ t. has n (tree k t)) ts
+apart_from k n x ts still apart = none_any (λ t. has n (tree k t)) ts (λ t l h. no t ts l apart (still t l h))
+  where
+    true_no : true ≡ false → ⊥
+    true_no e = cc
+
+    no : (t : ℕ) (us : List ℕ) → listed t us ≡ true → list_any (λ y. has x (tree k y)) us ≡ false → has x (tree k t) ≡ true → ⊥
+    no t [] l e h = cc
+    no t (u ∷ us) l e h =
+        let q = or_none (has x (tree k u)) (list_any (λ y. has x (tree k y)) us) e in
+        ⊎_elim (λ same. true_no (sym h ∙ ap (λ y. has x (tree k y)) (sym (eqb-true u t same)) ∙ q.0)) (λ l2. no t us l2 (q.1) h) (or_cases (eqb u t) (listed t us) l)
+
+-- a test over a list, element by element
+pub any_more : (f : ℕ → Bool) (xs : List ℕ) (i : ℕ) → i < length xs → list_any f (take i xs) ≡ false → f (get_or xs i 0) ≡ false → list_any f (take (i + 1) xs) ≡ false
+any_more f [] i lt h e = absurd (omega (arith, lt))
+any_more f (x ∷ xs) zero lt h e = ap (λ b. b || false) e
+any_more f (x ∷ xs) (suc i) lt h e =
+    let next : suc i + 1 ≡ suc (i + 1) = omega arith in
+    let q = or_none (f x) (list_any f (take i xs)) h in
+    ap (λ j. list_any f (take j (x ∷ xs))) next ∙ ap (λ b. b || list_any f (take (i + 1) xs)) (q.0) ∙ any_more f xs i (omega (arith, lt)) (q.1) e
+
+pub any_found : (f : ℕ → Bool) (xs : List ℕ) (i : ℕ) → i < length xs → f (get_or xs i 0) ≡ true → true ≡ list_any f xs
+any_found f [] i lt e = absurd (omega (arith, lt))
+any_found f (x ∷ xs) zero lt e = sym (or_left (f x) (list_any f xs) e)
+any_found f (x ∷ xs) (suc i) lt e = sym (or_right (f x) (list_any f xs) (sym (any_found f xs i (omega (arith, lt)) e)))
+
+pub any_none : (f : ℕ → Bool) (xs : List ℕ) (i : ℕ) → length xs ≤ i → list_any f (take i xs) ≡ false → false ≡ list_any f xs
+any_none f xs i le h = sym (ap (list_any f) (sym (take_all i xs le)) ∙ h)
+
+-- a parent of what stands in none of them
+pub parent_apart : (k : List Entry) → IsSound k → (x p : ℕ) (ts : List ℕ) → (at k x).parent ≡ Some p → list_any (λ t. has x (tree k t)) ts ≡ false → list_any (λ t. has p (tree k t)) ts ≡ false
+parent_apart k s x p ts u apart = sym (apart_from k p x ts (λ t l h. child_has k s x p u (t ∷ []) (tree k t) (shows_tree k s t) h) apart)
+
+pub within_none : (k : List Entry) → IsSound k → (n x : ℕ) (ts : List ℕ) → (at k x).parent ≡ None → ((t : ℕ) → listed t ts ≡ true → has n (tree k t) ≡ true → has x (tree k t) ≡ true) → list_any (λ y. eqb y x) ts ≡ false → false ≡ list_any (λ t. has n (tree k t)) ts
+within_none k s n x ts u still e = none_any (λ t. has n (tree k t)) ts (λ t l h. top_not_in k s x t u (other_number x t ts e l) (still t l h))
 
 pub limit_is : limit ≡ 201
 unfolding limit
@@ -74,11 +138,6 @@ larger a b = cases (λ c. cond (is_lt (cond c Less (cond (eqb b a) Equal Greater
     (λ e. omega (arith, ltb-true b a e))
     (λ e. cases (λ c. cond (is_lt (cond c Equal Greater)) a b ≡ max a b) (eqb b a) (λ _. omega (arith, ltb-false b a e)) (λ _. omega (arith, ltb-false b a e)))
 
--- the greatest height of several nodes' trees
-abbrev pub highest : List Entry → List ℕ → ℕ
-highest k [] = 0
-highest k (n ∷ ns) = max (height (tree k n)) (highest k ns)
-
 height_shown : (k : List Entry) → IsSound k → (ns : List ℕ) (ts : Trees ℕ) → Shows k ns ts → height ts ≡ highest k ns
 height_shown k s [] _ none = refl
 height_shown k s (n ∷ ns) _ (one_more {ks = ks} {ts = ts} hk hs) =
@@ -90,6 +149,12 @@ height_tree k s n = of (tree k n) (shows_tree k s n)
   where
     of : (ts : Trees ℕ) → Shows k (n ∷ []) ts → height ts ≡ highest k (at k n).children + 1
     of _ (one_more {ks = ks} {ts = ts} hk none) = omega (arith, height_shown k s (at k n).children ks hk)
+
+pub last_low : (k : List Entry) (n p most : ℕ) → Some n ≡ Some p → height (tree k n) ≤ most → height (tree k p) ≤ most
+last_low k n p most e le = subst (λ y. height (tree k y) ≤ most) (some_is_same n p e) le
+
+pub highest_all : (k : List Entry) (xs : List ℕ) (i most : ℕ) → length xs ≤ i → max most (highest k (drop i xs)) ≡ highest k xs → most ≡ highest k xs
+highest_all k xs i most le inv = let d = at_drop_all (highest k) xs i le in omega (arith, d, inv)
 
 -- a child
 pub listed_at : (xs : List ℕ) (i x : ℕ) → i < length xs → x ≡ get_or xs i x → listed x xs ≡ true

@@ -1,5 +1,5 @@
 -- Many nodes are moved at once.
-use Rattle.std.specs.Prelude.{◌≡◌, ℕ, ◌-◌, ◌<◌, List, length, slice_index, [], ◌∷◌, ◌++◌, Option, Some, None, is_some, not, ◌&&◌, ◌==◌, if◌then◌else◌, take, drop, reverse}
+use Rattle.std.specs.Prelude.{◌≡◌, ℕ, ◌-◌, ◌<◌, List, length, slice_index, [], ◌∷◌, ◌++◌, Option, Some, None, is_some, not, ◌&&◌, ◌==◌, if◌then◌else◌, take, drop, reverse, true}
 use Rattle.std.specs.List.{filter}
 use Rattle.tree_ops.specs.Trees.{is_number}
 use Rattle.page_nodes.specs.Entries.{Entry, at, listed}
@@ -30,6 +30,23 @@ backward from xs = take from xs ++ reverse (drop from xs)
 -- a list whose part from one place up to another stands behind all else
 abbrev pub put_off : ℕ → ℕ → List ℕ → List ℕ
 put_off from to xs = take from xs ++ (drop (to - from) (drop from xs) ++ take (to - from) (drop from xs))
+
+-- those of a list that have a parent
+abbrev pub below : List Entry → List ℕ → List ℕ
+below k xs = filter (λ c. is_some (at k c).parent) xs
+
+-- the links up are cleared of nodes, and the parents that they had are in a list
+pub record AreRaised (old new : List Entry) (ns ps : List ℕ) : Type 0 where
+  pub kept : KeepsNodes old new
+  pub children : (x : ℕ) → (at new x).children ≡ (at old x).children
+  pub parents : (x : ℕ) → (at new x).parent ≡ (if listed x ns then None else (at old x).parent)
+  pub told : (n p : ℕ) → listed n ns ≡ true → (at old n).parent ≡ Some p → listed p ps ≡ true
+
+-- those children are taken from nodes that have no parent
+pub record AreTidied (old new : List Entry) (ps : List ℕ) : Type 0 where
+  pub kept : KeepsNodes old new
+  pub children : (x : ℕ) → (at new x).children ≡ (if listed x ps then below old (at old x).children else (at old x).children)
+  pub parents : (x : ℕ) → (at new x).parent ≡ (at old x).parent
 
 -- the links up are cleared of those nodes that are in both lists
 pub record AreCleared (old new : List Entry) (ns xs : List ℕ) : Type 0 where

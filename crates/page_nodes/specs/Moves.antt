@@ -1,5 +1,5 @@
 -- What it is that nodes are moved.
-use Rattle.std.specs.Prelude.{◌≡◌, ℕ, ◌+◌, ◌<◌, ◌≤◌, List, [], ◌∷◌, ◌++◌, length, Option, Some, None, true, false, ◌==◌, ◌||◌, if◌then◌else◌, ◌⊎◌, ◌≢◌, slice_index}
+use Rattle.std.specs.Prelude.{◌≡◌, ℕ, ◌+◌, ◌<◌, ◌≤◌, max, List, [], ◌∷◌, ◌++◌, length, Option, Some, None, true, false, ◌==◌, ◌||◌, if◌then◌else◌, ◌⊎◌, ◌≢◌, slice_index}
 use Rattle.plain_tree.specs.Trees.{Label, Trees, height}
 use Rattle.tree_ops.specs.Labels.{is_text}
 use Rattle.tree_ops.specs.Trees.{has, grafted, relabelled}
@@ -24,6 +24,11 @@ pub record AreDetached (old new : List Entry) (ns : List ℕ) : Type 0 where
   pub trees : (x : ℕ) → tree new x ≡ all_pruned ns (tree old x)
   pub parents : (x : ℕ) → (at new x).parent ≡ (if listed x ns then None else (at old x).parent)
   pub kept : KeepsNodes old new
+
+-- the greatest height of several nodes' trees
+abbrev pub highest : List Entry → List ℕ → ℕ
+highest k [] = 0
+highest k (n ∷ ns) = max (height (tree k n)) (highest k ns)
 
 -- the tree of each node, after one is put among the children of another
 abbrev pub put_under : ℕ → Option ℕ → ℕ → (ℕ → Trees ℕ) → ℕ → Trees ℕ

@@ -1,5 +1,8 @@
 //! The arena: the rows with what holds of their links, and what moves nodes.
 ghost use Rattle.std.specs.Prelude.{◌≡◌, ℕ, ◌+◌, ◌<◌, ◌≤◌, ◌≢◌, ◌==◌, List, [], ◌∷◌, length, if◌then◌else◌, Some, None, max, MatchOption, MatchResult, true, false, take, OnOk, OnErr, IfOk, slice_index, false};
+ghost use Rattle.std.specs.List.{list_any};
+ghost use Rattle.std.specs.List.Sorted.{IsSorted};
+ghost use Rattle.std.specs.Ordering.{nat_cmp};
 ghost use Rattle.page_nodes.specs.Entries.{entries, at, body, body_entry, IsSound, tree, limit, label_of};
 ghost use Rattle.page_nodes.specs.Room.{room_at};
 ghost use Rattle.tree_ops.specs.Labels.{is_text, with_attribute};
@@ -12,10 +15,10 @@ ghost use Rattle.std.proofs.Props.{props};
 
 use crate::copies::{element_of, plain_with};
 use crate::links::{
-    add_child, children_of, content_of, drop_child, owner_of, parent_of, push_node,
+    add_child, children_of, content_of, drop_child, is_number, owner_of, parent_of, push_node,
     reserve_children, set_attribute, set_parent, set_text, swap_child,
 };
-use crate::many::{hang_all, sorted, take_all, take_children};
+use crate::many::{hang_all, is_listed, take_all, take_children};
 use crate::rows::{Content, Row};
 use code_units::{Memory, Owner, Text, from_utf8_bytes};
 use plain_tree::Plain;
@@ -37,7 +40,7 @@ pub struct Arena {
 
 impl Arena {
     ghost use Rattle.page_nodes.specs.Arenas.{nodes_in, room_of};
-    ghost use Rattle.page_nodes.specs.Moves.{Detached, AreDetached, Detaches, IsDepth, MayLink, IsLinked, MayMoveAll, IsSwapped, IsRelabelled, ArePut, Puts, AreNodes, OthersStay};
+    ghost use Rattle.page_nodes.specs.Moves.{Detached, AreDetached, Detaches, IsDepth, MayLink, IsLinked, MayMoveAll, IsSwapped, IsRelabelled, ArePut, Puts, AreNodes, OthersStay, highest};
 
     /// The arena of `body` alone.
     pub fn new(alloc: Global) -> Result<Arena, Memory>
@@ -105,14 +108,14 @@ impl Arena {
         }
     }
 
-    /// Whether a node stands in the tree of another, or is it.
-    pub fn is_within(&self, node: u32, top: u32) -> bool
+    /// Whether a node stands in the tree of one of these, or is one of them.
+    pub fn is_in_any(&self, node: u32, tops: &[u32]) -> bool
         requires { node < length (nodes_in self.now) }
-        ensures { result ≡ has node (tree (nodes_in self.now) top) }
+        ensures { result ≡ list_any (λ t. has node (tree (nodes_in self.now) t)) tops.now }
     {
         let mut place = node;
         'up: loop {
-            if place == top {
+            if tops.contains(&place) {
                 return true;
             }
             match parent_of(&self.rows, place) {
@@ -152,6 +155,84 @@ impl Arena {
         most + 1
     }
 
+    // Whether a node is the child of another.
+    fn is_child(&self, node: u32, above: Option<u32>) -> bool
+        requires { node < length (nodes_in self.now) }
+        ensures { result ≡ true → (p : ℕ) × (above ≡ Some p) × ((at (nodes_in self.now) node).parent ≡ Some p) }
+    {
+        match above {
+            Some(above) => is_number(above, parent_of(&self.rows, node)),
+            None => false,
+        }
+    }
+
+    // The greater of a height and that of a node's tree. Where the node's parent is another, whose tree is
+    // no higher, it is not measured.
+    fn height_with(&self, most: u32, node: u32, last: Option<u32>) -> u32
+        requires node { node < length (nodes_in self.now) }
+        requires last { (p : ℕ) → last ≡ Some p → height (tree (nodes_in self.now) p) ≤ most }
+        ensures { result ≡ max most (height (tree (nodes_in self.now) node)) }
+    {
+        if self.is_child(node, last) {
+            return most;
+        }
+        most.max(self.height(node))
+    }
+
+    /// How many nodes stand one above the other in the highest of the trees of nodes. A node whose parent
+    /// comes right before it is not measured.
+    pub fn highest(&self, nodes: &[u32]) -> u32
+        requires { AreNodes (nodes_in self.now) nodes.now }
+        ensures { result ≡ highest (nodes_in self.now) nodes.now }
+    {
+        let mut most = 0;
+        let mut last = None;
+        'each: for node in nodes {
+            most = self.height_with(most, *node, last);
+            last = Some(*node);
+        }
+        most
+    }
+
+    // Whether a node stands in the tree of one of these, which are in order, or is one of them. Another
+    // is known that does not.
+    fn is_in_ordered(&self, node: u32, apart: Option<u32>, tops: &[u32]) -> bool
+        requires node { node < length (nodes_in self.now) }
+        requires apart { (a : ℕ) → apart ≡ Some a → list_any (λ t. has a (tree (nodes_in self.now) t)) tops.now ≡ false }
+        requires in_order { IsSorted nat_cmp tops.now }
+        ensures { result ≡ list_any (λ t. has node (tree (nodes_in self.now) t)) tops.now }
+    {
+        let mut place = node;
+        'up: loop {
+            if is_number(place, apart) {
+                return false;
+            }
+            if is_listed(tops, place) {
+                return true;
+            }
+            match parent_of(&self.rows, place) {
+                Some(parent) => place = parent,
+                None => return false,
+            }
+        }
+    }
+
+    /// Whether one of some nodes stands in the tree of one of these, which are in order, or is one of them.
+    pub fn some_in_any(&self, nodes: &[u32], tops: &[u32]) -> bool
+        requires nodes { AreNodes (nodes_in self.now) nodes.now }
+        requires in_order { IsSorted nat_cmp tops.now }
+        ensures { result ≡ list_any (λ n. list_any (λ t. has n (tree (nodes_in self.now) t)) tops.now) nodes.now }
+    {
+        let mut apart = None;
+        'each: for node in nodes {
+            if self.is_in_ordered(*node, apart, tops) {
+                return true;
+            }
+            apart = parent_of(&self.rows, *node);
+        }
+        false
+    }
+
     /// Takes a node from its parent. It takes no memory, and does nothing where there is none.
     pub fn detach(&mut self, node: u32)
         requires { node < length (nodes_in self.old) }
@@ -171,9 +252,8 @@ impl Arena {
         ensures links { AreDetached (nodes_in self.old) (nodes_in self.new) nodes.items }
         ensures steps { Detaches (nodes_in self.old) nodes.items (nodes_in self.new) }
     {
-        let mut sorted = nodes;
-        sorted.sort_unstable();
-        take_all(&mut self.rows, &sorted, &sorted);
+        let mut list = nodes;
+        take_all(&mut self.rows, self.alloc, &mut list);
     }
 
     /// Takes all children from a node. It takes no memory.
@@ -220,9 +300,9 @@ impl Arena {
         ensures unchanged { OnErr result (nodes_in self.new ≡ nodes_in self.old) }
         ensures others { OthersStay (nodes_in self.old) (nodes_in self.new) target }
     {
-        let sorted = sorted(self.alloc, news)?;
+        let mut list = news.to_vec(self.alloc)?;
         reserve_children(&mut self.rows, target, news.len())?;
-        take_all(&mut self.rows, news, &sorted);
+        take_all(&mut self.rows, self.alloc, &mut list);
         hang_all(&mut self.rows, target, next, news);
         Ok(())
     }

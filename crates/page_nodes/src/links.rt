@@ -48,18 +48,23 @@ pub fn children_of(rows: &Vec<Row>, node: u32) -> &Vec<u32>
     &rows[node as usize].children
 }
 
-/// Takes a number out of a list.
+/// Takes a number out of a list that has it at most once.
 fn take_out(list: &mut Vec<u32>, number: u32)
+    requires once { distinct list.old.items ≡ true }
     ensures items { list.new.items ≡ minus number list.old.items }
     ensures room { room_in list.old ≤ room_in list.new }
 {
-    list.retain(|c| *c != number);
+    let place = place_of(list, Some(number));
+    if place < list.len() {
+        list.remove(place);
+    }
 }
 
 /// Takes a node out of the children of another.
 #[tactic(auto, using(crate::proofs::Lists::entries_long))]
 pub fn drop_child(rows: &mut Vec<Row>, parent: u32, node: u32)
-    requires { parent < length (entries rows.old.items) }
+    requires parent { parent < length (entries rows.old.items) }
+    requires once { distinct (at (entries rows.old.items) parent).children ≡ true }
     ensures links { entries rows.new.items ≡
         with_children (entries rows.old.items) parent (minus node (children_in rows.old.items parent)) }
     ensures room { (t : ℕ) → room_at rows.old.items t ≤ room_at rows.new.items t }

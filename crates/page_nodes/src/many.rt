@@ -1,96 +1,135 @@
 //! Many nodes moved at once: each list of children that changes is gone over once.
-ghost use Rattle.std.specs.Prelude.{◌≡◌, ℕ, ◌<◌, ◌≤◌, ◌+◌, ◌-◌, [], ◌∷◌, ◌++◌, length, true, false, None, Some, IfOk, is_some, if◌then◌else◌, take, drop, reverse};
+ghost use Rattle.std.specs.Prelude.{◌≡◌, ℕ, ◌<◌, ◌≤◌, ◌+◌, [], ◌∷◌, ◌==◌, length, true, false, None, is_some, if◌then◌else◌, reverse, unwrap_or};
+ghost use Rattle.std.specs.List.{list_any};
 ghost use Rattle.std.specs.List.Sorted.{IsSorted};
 ghost use Rattle.std.specs.Ordering.{nat_cmp};
-ghost use Rattle.tree_ops.specs.Trees.{is_number};
-ghost use Rattle.page_nodes.specs.Entries.{at, entries, listed, IsSound};
-ghost use Rattle.page_nodes.specs.Many.{outside, if_top, backward, put_off, AreCleared, IsSwept, AreCut, AreAdded, AreHung, AreTops, last_ones};
+ghost use Rattle.page_nodes.specs.Entries.{at, entries, IsSound};
+ghost use Rattle.page_nodes.specs.Many.{below, if_top, backward, put_off, AreCleared, IsSwept, AreRaised, AreTidied, AreCut, AreAdded, AreHung, AreTops, last_ones};
 ghost use Rattle.page_nodes.specs.Moves.{AreNodes};
 ghost use Rattle.page_nodes.specs.Room.{room_at, room_in};
-ghost use Rattle.page_nodes.specs.Writes.{with_children, children_in};
+ghost use Rattle.page_nodes.specs.Writes.{with_children, with_parent, children_in};
 
-use crate::links::{add_child, children_of, parent_of, place_of, set_parent};
+use crate::links::{
+    add_child, children_of, drop_child, is_number, parent_of, place_of, set_parent,
+};
 use crate::rows::Row;
-use code_units::Memory;
 use std::alloc::Global;
+use std::mem;
 
-/// Numbers in order, to be looked up.
-pub fn sorted(alloc: Global, numbers: &[u32]) -> Result<Vec<u32>, Memory>
-    ensures in_order { IfOk result (λ list. IsSorted nat_cmp list.items) }
-    ensures same { IfOk result (λ list. (x : ℕ) → listed x list.items ≡ listed x numbers.now) }
-{
-    let mut list = numbers.to_vec(alloc)?;
-    list.sort_unstable();
-    Ok(list)
-}
-
-// Whether a number is in a list in order.
-fn has(sorted: &[u32], number: u32) -> bool
+/// Whether a number is in a list in order.
+pub fn is_listed(sorted: &[u32], number: u32) -> bool
     requires { IsSorted nat_cmp sorted.now }
-    ensures { result ≡ listed number sorted.now }
+    ensures { result ≡ list_any (λ y. y == number) sorted.now }
 {
     sorted.binary_search(&number).is_ok()
 }
 
-// Takes the numbers of a list in order out of another list.
-fn take_out_all(list: &mut Vec<u32>, sorted: &[u32])
-    requires { IsSorted nat_cmp sorted.now }
-    ensures items { list.new.items ≡ outside sorted.now list.old.items }
-    ensures room { room_in list.old ≤ room_in list.new }
-{
-    list.retain(|c| !has(sorted, *c));
-}
-
-// Clears the link up from a node, if it is in a list in order.
-fn clear_link(rows: &mut Vec<Row>, node: u32, sorted: &[u32])
+// Takes a node from its parent, if it has one.
+fn take_one(rows: &mut Vec<Row>, node: u32)
+    requires sound { IsSound (entries rows.old.items) }
     requires node { node < length (entries rows.old.items) }
-    requires in_order { IsSorted nat_cmp sorted.now }
-    ensures links { AreCleared (entries rows.old.items) (entries rows.new.items) sorted.now (node ∷ []) }
+    ensures links { AreCut (entries rows.old.items) (entries rows.new.items) (node ∷ []) }
     ensures room { (t : ℕ) → room_at rows.old.items t ≤ room_at rows.new.items t }
 {
-    if has(sorted, node) {
+    if let Some(parent) = parent_of(rows, node) {
+        drop_child(rows, parent, node);
         set_parent(rows, node, None);
     }
 }
 
-// Clears the links up from those children of a node that are in a list in order.
-fn clear_links(rows: &mut Vec<Row>, parent: u32, sorted: &[u32])
-    requires parent { parent < length (entries rows.old.items) }
-    requires inside { AreNodes (entries rows.old.items) (at (entries rows.old.items) parent).children }
-    requires in_order { IsSorted nat_cmp sorted.now }
-    ensures links { AreCleared (entries rows.old.items) (entries rows.new.items) sorted.now
-        (at (entries rows.old.items) parent).children }
+// Clears the link up from a node, and gives its parent, or the node where it had none.
+fn clear_link(rows: &mut Vec<Row>, node: u32) -> u32
+    requires { node < length (entries rows.old.items) }
+    ensures links { entries rows.new.items ≡ with_parent (entries rows.old.items) node None }
+    ensures parent { result ≡ unwrap_or (at (entries rows.old.items) node).parent node }
     ensures room { (t : ℕ) → room_at rows.old.items t ≤ room_at rows.new.items t }
 {
-    let width = children_of(rows, parent).len();
-    'each: for place in 0..width {
-        let child = children_of(rows, parent)[place];
-        clear_link(rows, child, sorted);
+    let parent = parent_of(rows, node);
+    set_parent(rows, node, None);
+    parent.unwrap_or(node)
+}
+
+// Clears the links up from nodes, and puts the parents that they had into their places.
+fn clear_links(rows: &mut Vec<Row>, nodes: &mut [u32])
+    requires sound { IsSound (entries rows.old.items) }
+    requires nodes { AreNodes (entries rows.old.items) nodes.old }
+    ensures links { AreRaised (entries rows.old.items) (entries rows.new.items) nodes.old nodes.new }
+    ensures nodes { AreNodes (entries rows.new.items) nodes.new }
+    ensures room { (t : ℕ) → room_at rows.old.items t ≤ room_at rows.new.items t }
+{
+    let mut place = 0;
+    'each: while place < nodes.len() {
+        let node = nodes[place];
+        nodes[place] = clear_link(rows, node);
+        place += 1;
     }
 }
 
-// Takes the numbers of a list in order out of the children of a node.
+// Whether a node has a parent.
 #[tactic(auto, using(crate::proofs::Lists::entries_long))]
-fn drop_children(rows: &mut Vec<Row>, parent: u32, sorted: &[u32])
-    requires parent { parent < length (entries rows.old.items) }
-    requires in_order { IsSorted nat_cmp sorted.now }
-    ensures links { entries rows.new.items ≡
-        with_children (entries rows.old.items) parent (outside sorted.now (children_in rows.old.items parent)) }
-    ensures room { (t : ℕ) → room_at rows.old.items t ≤ room_at rows.new.items t }
+fn is_below(rows: &Vec<Row>, node: u32) -> bool
+    ensures { result ≡ is_some (at (entries rows.now.items) node).parent }
 {
-    take_out_all(&mut rows[parent as usize].children, sorted);
+    if node as usize >= rows.len() {
+        return false;
+    }
+    parent_of(rows, node).is_some()
 }
 
-// Takes those children from a node that are in a list in order.
-fn sweep(rows: &mut Vec<Row>, parent: u32, sorted: &[u32])
-    requires parent { parent < length (entries rows.old.items) }
-    requires inside { AreNodes (entries rows.old.items) (at (entries rows.old.items) parent).children }
-    requires in_order { IsSorted nat_cmp sorted.now }
-    ensures links { IsSwept (entries rows.old.items) (entries rows.new.items) sorted.now parent }
+// Takes those numbers out of a list that are nodes without a parent.
+fn take_out_tops(list: &mut Vec<u32>, rows: &Vec<Row>)
+    ensures items { list.new.items ≡ below (entries rows.now.items) list.old.items }
+    ensures room { room_in list.old ≤ room_in list.new }
+{
+    list.retain(|c| is_below(rows, *c));
+}
+
+// Leaves a node without children, and gives them.
+#[tactic(auto, using(crate::proofs::Lists::entries_long))]
+fn lift_children(rows: &mut Vec<Row>, alloc: Global, parent: u32) -> Vec<u32>
+    requires { parent < length (entries rows.old.items) }
+    ensures links { entries rows.new.items ≡ with_children (entries rows.old.items) parent [] }
+    ensures items { result.items ≡ children_in rows.old.items parent }
+    ensures room { (t : ℕ) → (if t == parent then room_in result else room_at rows.new.items t) ≡ room_at rows.old.items t }
+{
+    let none = Vec::new(alloc);
+    mem::replace(&mut rows[parent as usize].children, none)
+}
+
+// Gives a node other children.
+#[tactic(auto, using(crate::proofs::Lists::entries_long))]
+fn set_children(rows: &mut Vec<Row>, parent: u32, children: Vec<u32>)
+    requires { parent < length (entries rows.old.items) }
+    ensures links { entries rows.new.items ≡ with_children (entries rows.old.items) parent children.items }
+    ensures room { (t : ℕ) → room_at rows.new.items t ≡ (if t == parent then room_in children else room_at rows.old.items t) }
+{
+    rows[parent as usize].children = children;
+}
+
+// Takes those children from a node that have no link up.
+fn tidy(rows: &mut Vec<Row>, alloc: Global, parent: u32)
+    requires { parent < length (entries rows.old.items) }
+    ensures links { AreTidied (entries rows.old.items) (entries rows.new.items) (parent ∷ []) }
     ensures room { (t : ℕ) → room_at rows.old.items t ≤ room_at rows.new.items t }
 {
-    clear_links(rows, parent, sorted);
-    drop_children(rows, parent, sorted);
+    let mut children = lift_children(rows, alloc, parent);
+    take_out_tops(&mut children, rows);
+    set_children(rows, parent, children);
+}
+
+// The same for several nodes. One that comes again right away is not gone over again.
+fn tidy_all(rows: &mut Vec<Row>, alloc: Global, parents: &[u32])
+    requires { AreNodes (entries rows.old.items) parents.now }
+    ensures links { AreTidied (entries rows.old.items) (entries rows.new.items) parents.now }
+    ensures room { (t : ℕ) → room_at rows.old.items t ≤ room_at rows.new.items t }
+{
+    let mut last = None;
+    'each: for parent in parents {
+        if !is_number(*parent, last) {
+            tidy(rows, alloc, *parent);
+            last = Some(*parent);
+        }
+    }
 }
 
 // Clears the link up from each child of a node.
@@ -126,19 +165,30 @@ pub fn take_children(rows: &mut Vec<Row>, parent: u32)
     drop_all(rows, parent);
 }
 
-/// Takes nodes from their parents. They are given a second time in order.
-pub fn take_all(rows: &mut Vec<Row>, nodes: &[u32], sorted: &[u32])
+// Takes several nodes from their parents.
+fn take_many(rows: &mut Vec<Row>, alloc: Global, nodes: &mut [u32])
     requires sound { IsSound (entries rows.old.items) }
-    requires nodes { AreNodes (entries rows.old.items) nodes.now }
-    requires in_order { IsSorted nat_cmp sorted.now }
-    requires same { (x : ℕ) → listed x sorted.now ≡ listed x nodes.now }
-    ensures links { AreCut (entries rows.old.items) (entries rows.new.items) nodes.now }
+    requires nodes { AreNodes (entries rows.old.items) nodes.old }
+    ensures links { AreCut (entries rows.old.items) (entries rows.new.items) nodes.old }
     ensures room { (t : ℕ) → room_at rows.old.items t ≤ room_at rows.new.items t }
 {
-    'each: for node in nodes {
-        if let Some(parent) = parent_of(rows, *node) {
-            sweep(rows, parent, sorted);
-        }
+    clear_links(rows, nodes);
+    nodes.sort_unstable();
+    tidy_all(rows, alloc, nodes);
+}
+
+/// Takes nodes from their parents, and overwrites the list. Of one node only its place is looked for;
+/// of several each list of children that changes is gone over once.
+pub fn take_all(rows: &mut Vec<Row>, alloc: Global, nodes: &mut [u32])
+    requires sound { IsSound (entries rows.old.items) }
+    requires nodes { AreNodes (entries rows.old.items) nodes.old }
+    ensures links { AreCut (entries rows.old.items) (entries rows.new.items) nodes.old }
+    ensures room { (t : ℕ) → room_at rows.old.items t ≤ room_at rows.new.items t }
+{
+    if nodes.len() == 1 {
+        take_one(rows, nodes[0]);
+    } else {
+        take_many(rows, alloc, nodes);
     }
 }
 

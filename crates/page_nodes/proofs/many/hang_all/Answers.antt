@@ -1,5 +1,5 @@
-use Rattle.std.proofs.Common.{◌≡◌, sym, ap, ◌∙◌, arith, length, ◌++◌, cond, eq-eqb, refl, set, reverse, ◌<◌}
-use Rattle.page_nodes.specs.Entries.{Entry, at, entries}
+use Rattle.std.proofs.Common.{◌≡◌, ap, ◌∙◌, arith, length, ◌++◌, cond, eq-eqb, refl, set, reverse}
+use Rattle.page_nodes.specs.Entries.{at, entries}
 use Rattle.page_nodes.specs.Many.{last_ones}
 use Rattle.page_nodes.proofs.AtOnce.{turned_children, hung_at_once}
 use Rattle.page_nodes.proofs.many.hang_all.Goals as goal

@@ -1,8 +1,9 @@
 use Rattle.std.proofs.Common.{◌∙◌, arith, ap}
 use Rattle.page_nodes.specs.Entries.{at}
 use Rattle.page_nodes.specs.Arenas.{nodes_in}
+use Rattle.page_nodes.specs.Moves.{highest}
 use Rattle.page_nodes.proofs.Shows.{tree_low}
-use Rattle.page_nodes.proofs.Walk.{child_listed, child_in, child_lower, highest, highest_step, highest_done, larger, limit_is}
+use Rattle.page_nodes.proofs.Walk.{child_listed, child_in, child_lower, highest_step, highest_done, larger, limit_is}
 use Rattle.page_nodes.proofs.arena.Arena.+height.Goals as goal
 
 pub height-requires : goal.height-requires

@@ -2,7 +2,7 @@ use Rattle.std.proofs.Common.{◌≡◌, max, drop}
 use Rattle.page_nodes.specs.Entries.{tree, at}
 use Rattle.page_nodes.specs.Arenas.{nodes_in}
 use Rattle.plain_tree.specs.Trees.{height}
-use Rattle.page_nodes.proofs.Walk.{highest}
+use Rattle.page_nodes.specs.Moves.{highest}
 use Rattle.page_nodes.proofs.arena.Arena.+height.Given as goal
 
 abbrev pub decreases-height : goal.decreases-height

@@ -1,6 +1,0 @@
-use Rattle.std.proofs.Common.{◌∙◌}
-use Rattle.page_nodes.proofs.AtOnce.{searched_listed}
-use Rattle.page_nodes.proofs.many.has.Goals as goal
-
-pub returns : goal.returns
-returns c = c.is_ok.ensures.value ∙ searched_listed c.args.sorted.now c.args.number c.binary_search.result c.requires c.binary_search.ensures.position
