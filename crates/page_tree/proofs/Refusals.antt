@@ -1,25 +1,28 @@
 -- When nodes may be put under a target.
-use Rattle.std.proofs.Common.{◌≡◌, ℕ, suc, ◌+◌, ◌<◌, ◌≤◌, List, Bool, true, false, refl, sym, ap, ◌∙◌, subst, arith, Some, None, Option, Result, Ok, Err, inr, ⊎_elim, length, [], ◌∷◌, eqb, ◌||◌, zero, get_or}
-use Rattle.std.specs.Prelude.{slice_index, MatchResult, OnErr, OnOk}
+use Rattle.std.proofs.Common.{◌≡◌, ℕ, suc, ◌+◌, ◌<◌, ◌≤◌, List, Bool, true, false, refl, sym, ap, ◌∙◌, subst, arith, Some, None, Option, Result, Ok, Err, inl, inr, ⊎_elim, length, [], ◌∷◌, eqb, ◌||◌, zero, get_or}
+use Rattle.std.specs.Prelude.{slice_index, MatchBool, MatchResult, OnErr, OnOk}
 use Rattle.std.specs.Result.{IsErrAnd}
+use Rattle.std.proofs.lemmas.Bool.{or_cases, cases_lt}
 use Rattle.code_units.specs.declared.owner.Owner.{Owner}
 use Rattle.code_units.specs.declared.owner.Owner.TheVariants as owner
 use Rattle.std.specs.List.{list_any}
+use Rattle.std.specs.List.Sorted.{IsPermutation}
+use Rattle.std.proofs.lemmas.List.Sorted.{list_any-IsPermutation}
 use Rattle.page_tree.specs.declared.fault.PageFault.{PageFault}
 use Rattle.page_tree.specs.declared.fault.PageFault.TheVariants as fault
 use Rattle.plain_tree.specs.Trees.{height}
 use Rattle.tree_ops.specs.Labels.{is_leaf, is_text}
-use Rattle.tree_ops.specs.Trees.{is_number}
+use Rattle.tree_ops.specs.Trees.{has, is_number}
 use Rattle.page_nodes.specs.Owners.{root_in}
 use Rattle.page_tree.specs.Roots.{IsRooted}
 use Rattle.page_nodes.specs.Entries.{Entry, at, body, listed, tree, limit, IsSound}
-use Rattle.page_nodes.specs.Moves.{IsDepth, MayMoveAll}
-use Rattle.page_tree.specs.Pages.{MayPutAll, IsInside, IsNotInside, AreNotInside, IsLow, IsTooDeep, RefusesAll, RefusesReplaceFirst}
+use Rattle.page_nodes.specs.Moves.{IsDepth, MayMoveAll, highest}
+use Rattle.page_tree.specs.Pages.{MayPutAll, IsInside, IsNotInside, AreNotInside, IsLow, IsTooDeep, SomeNode, IsOwn, IsNotOwn, IsOpen, IsNotOpen, MayNotPutAll, RefusesAll, RefusesReplaceFirst}
 use Rattle.page_nodes.proofs.Lists.{or_none}
 use Rattle.page_nodes.proofs.Owners.{same_is}
 use Rattle.page_tree.proofs.Numbers.{number_not}
 use Rattle.page_nodes.proofs.Shows.{tree_low, tree_lower}
-use Rattle.page_nodes.proofs.Upward.{level_height}
+use Rattle.page_nodes.proofs.Upward.{below_parent, level_height}
 
 -- `body` is a root
 pub not_body : (k : List Entry) (roots : List (Option ℕ)) → IsSound k → IsRooted k roots → (n : ℕ) → (root_in roots (at k n).owner ≡ Some n → ⊥) → n ≡ body → ⊥
@@ -34,6 +37,97 @@ put_low k t n d h le x ne = omega (arith, h.most x ne, le)
 
 pub put_deep : (k : List Entry) (t n d : ℕ) → IsSound k → (n ≡ body → ⊥) → IsDepth k t d → limit < d + height (tree k n) → IsTooDeep k t n
 put_deep k t n d s ne h lt = ⊎_elim (λ b. absurd (omega (arith, b.1, lt, tree_lower k s n ne))) (λ x. (x.0, x.1, omega (arith, x.2, lt))) h.reached
+
+pub depth_lower : (k : List Entry) (t d : ℕ) → IsSound k → IsDepth k t d → d ≤ limit
+depth_lower k t d s h = ⊎_elim (λ b. omega (arith, b.1)) (λ x. omega (arith, x.2, level_height t (tree k (x.0)), tree_lower k s (x.0) (x.1))) h.reached
+
+-- no tree is higher than the highest, and one is as high
+pub highest_low : (k : List Entry) (ns : List ℕ) → highest k ns ≤ suc limit
+highest_low k [] = omega arith
+highest_low k (n ∷ ns) = omega (arith, tree_low k n, highest_low k ns)
+
+height_most : (k : List Entry) (ns : List ℕ) (i : ℕ) → i < length ns → height (tree k (slice_index ns i)) ≤ highest k ns
+height_most k [] i lt = absurd (omega (arith, lt))
+height_most k (n ∷ ns) zero lt = omega arith
+height_most k (n ∷ ns) (suc i) lt = omega (arith, height_most k ns i (omega (arith, lt)))
+
+height_reached : (k : List Entry) (ns : List ℕ) (d : ℕ) → d ≤ limit → limit < d + highest k ns → (i : ℕ) × (i < length ns) × (limit < d + height (tree k (slice_index ns i)))
+height_reached k [] d le lt = absurd (omega (arith, le, lt))
+height_reached k (n ∷ ns) d le lt = ⊎_elim
+    (λ here. (0, omega arith, here))
+    (λ low. let r = height_reached k ns d le (omega (arith, low, lt)) in (suc (r.0), omega (arith, r.1), r.2))
+    (cases_lt limit (d + height (tree k n)))
+
+-- all nodes by the highest
+pub all_low : (k : List Entry) (t d : ℕ) (ns : List ℕ) → IsDepth k t d → d + highest k ns ≤ limit → (i : ℕ) → i < length ns → IsLow k t (slice_index ns i)
+all_low k t d ns h le i lt = put_low k t (slice_index ns i) d h (omega (arith, le, height_most k ns i lt))
+
+pub some_deep : (k : List Entry) (t d : ℕ) (ns : List ℕ) → IsSound k → ((i : ℕ) → i < length ns → slice_index ns i ≡ body → ⊥) → IsDepth k t d → limit < d + highest k ns → SomeNode ns (IsTooDeep k t)
+some_deep k t d ns s other h lt =
+    let r = height_reached k ns d (depth_lower k t d s h) lt in
+    (r.0, r.1, put_deep k t (slice_index ns (r.0)) d s (other (r.0) (r.1)) h (r.2))
+
+-- a target by its depth
+pub opened : (k : List Entry) (t d h : ℕ) → is_leaf (at k t).label ≡ false → IsDepth k t d → d + h ≤ limit → IsOpen k t h
+opened k t d h leaf depth le = (leaf, (d, depth, le))
+
+-- nodes that have the targets' owner and no target in their trees, and open targets
+pub all_taken : (k : List Entry) (root : Owner → Option ℕ) (o : Owner) (ts ns os : List ℕ) (b : Bool)
+    → ((j : ℕ) → j < length ts → (at k (slice_index ts j)).owner ≡ o)
+    → ((i : ℕ) → i < length ns → IsOwn k root o (slice_index ns i))
+    → IsPermutation ns os → list_any (λ t. list_any (λ n. has t (tree k n)) os) ts ≡ false
+    → IsSound k → ((i : ℕ) → i < length ns → slice_index ns i ≡ body → ⊥)
+    → MatchBool b ((j : ℕ) → j < length ts → IsOpen k (slice_index ts j) (highest k ns)) (SomeNode ts (λ t. IsNotOpen k t (highest k ns)))
+    → MatchBool b ((j : ℕ) → j < length ts → MayPutAll k root (slice_index ts j) ns) (SomeNode ts (MayNotPutAll k root ns))
+all_taken k root o ts ns os true owned own perm none s other free = λ j lt.
+    let t = slice_index ts j in
+    let here = free j lt in
+    record {
+      open_target = here.0;
+      inside = λ i l. record {
+        apart = none_within (λ n. has t (tree k n)) ns (list_any-IsPermutation (λ n. has t (tree k n)) ns os perm ∙ none_within (λ u. list_any (λ n. has u (tree k n)) os) ts none j lt) i l;
+        owner = (own i l).0 ∙ sym (owned j lt);
+        no_root = (own i l).1;
+      };
+      low = all_low k t (here.1) ns (here.2) (here.3);
+    }
+all_taken k root o ts ns os false owned own perm none s other shut =
+    (shut.0, shut.1, ⊎_elim (λ leaf. inl (inl leaf)) (λ deep. inr (some_deep k (slice_index ts (shut.0)) (deep.0) ns s other (deep.1) (deep.2))) (shut.2))
+
+-- one of several nodes has another owner, or is a root: no target takes it
+pub some_other : (k : List Entry) (root : Owner → Option ℕ) (o : Owner) (ts ns : List ℕ) → ((j : ℕ) → j < length ts → (at k (slice_index ts j)).owner ≡ o) → 0 < length ts → SomeNode ns (IsNotOwn k root o) → SomeNode ts (MayNotPutAll k root ns)
+some_other k root o ts ns owned some h = (0, some, inl (inr (h.0, h.1, inr (⊎_elim (λ ne. inl (λ e. ne (e ∙ owned 0 some))) (λ r. inr r) (h.2)))))
+
+-- a target stands in the tree of one of them
+pub some_above : (k : List Entry) (root : Owner → Option ℕ) (ts ns os : List ℕ) → IsPermutation ns os → list_any (λ t. list_any (λ n. has t (tree k n)) os) ts ≡ true → SomeNode ts (MayNotPutAll k root ns)
+some_above k root ts ns os perm e =
+    let j = found (λ t. list_any (λ n. has t (tree k n)) os) ts e in
+    let t = slice_index ts (j.0) in
+    let i = found (λ n. has t (tree k n)) ns (list_any-IsPermutation (λ n. has t (tree k n)) ns os perm ∙ j.2) in
+    (j.0, j.1, inl (inr (i.0, i.1, inl (i.2))))
+  where
+    found : (f : ℕ → Bool) (xs : List ℕ) → list_any f xs ≡ true → (i : ℕ) × (i < length xs) × (f (slice_index xs i) ≡ true)
+    found f [] h = cc
+    found f (x ∷ xs) h = ⊎_elim (λ q. (0, omega arith, q)) (λ q. let r = found f xs q in (suc (r.0), omega (arith, r.1), r.2)) (or_cases (f x) (list_any f xs) h)
+
+-- one of the nodes is the target or above it
+pub some_within : (k : List Entry) (root : Owner → Option ℕ) (t : ℕ) (ns : List ℕ) → list_any (λ n. has t (tree k n)) ns ≡ true → MatchBool false ((i : ℕ) → i < length ns → IsInside k root t (slice_index ns i)) (SomeNode ns (IsNotInside k root t))
+some_within k root t ns e = of ns e
+  where
+    of : (ms : List ℕ) → list_any (λ n. has t (tree k n)) ms ≡ true → SomeNode ms (IsNotInside k root t)
+    of [] h = cc
+    of (m ∷ ms) h = ⊎_elim (λ q. (0, omega arith, inl q)) (λ q. let r = of ms q in (suc (r.0), omega (arith, r.1), r.2)) (or_cases (has t (tree k m)) (list_any (λ n. has t (tree k n)) ms) h)
+
+none_within : (f : ℕ → Bool) (ns : List ℕ) → list_any f ns ≡ false → (i : ℕ) → i < length ns → f (slice_index ns i) ≡ false
+none_within f [] e i lt = absurd (omega (arith, lt))
+none_within f (n ∷ ns) e zero lt = (or_none (f n) (list_any f ns) e).0
+none_within f (n ∷ ns) e (suc i) lt = none_within f ns ((or_none (f n) (list_any f ns) e).1) i (omega (arith, lt))
+
+-- none of them is, and the others are judged by their owner
+pub all_inside : (k : List Entry) (root : Owner → Option ℕ) (t : ℕ) (ns : List ℕ) (o : Owner) (b : Bool) → o ≡ (at k t).owner → list_any (λ n. has t (tree k n)) ns ≡ false
+    → MatchBool b ((i : ℕ) → i < length ns → IsOwn k root o (slice_index ns i)) (SomeNode ns (IsNotOwn k root o)) → MatchBool b ((i : ℕ) → i < length ns → IsInside k root t (slice_index ns i)) (SomeNode ns (IsNotInside k root t))
+all_inside k root t ns o true e none own = λ i lt. record { apart = none_within (λ n. has t (tree k n)) ns none i lt; owner = (own i lt).0 ∙ e; no_root = (own i lt).1 }
+all_inside k root t ns o false e none some = (some.0, some.1, inr (⊎_elim (λ ne. inl (λ h. ne (h ∙ sym e))) (λ r. inr r) (some.2)))
 
 pub inside : (k : List Entry) (root : Owner → Option ℕ) (t n : ℕ) → IsInside k root t n → IsNotInside k root t n → ⊥
 inside k root t n h d = ⊎_elim (λ e. true_false (sym e ∙ h.apart)) (λ f. ⊎_elim (λ ne. ne h.owner) (λ e. h.no_root e) f) d

@@ -11,7 +11,7 @@ use Rattle.tree_ops.specs.Trees.{has, copied}
 use Rattle.page_nodes.specs.Trees.{level, pruned}
 use Rattle.page_nodes.specs.Owners.{is_owner, root_in, same_owner}
 use Rattle.page_nodes.specs.Entries.{Entry, at, body, listed, tree, limit, IsSound}
-use Rattle.page_nodes.specs.Moves.{KeepsNodes, put_all, parents_after, Puts, Detached}
+use Rattle.page_nodes.specs.Moves.{KeepsNodes, IsDepth, put_all, parents_after, Puts, Detached}
 use Rattle.page_tree.specs.Counts.{count_of, most_of}
 use Rattle.page_nodes.specs.Arenas.{nodes_in}
 
@@ -43,6 +43,14 @@ pub record IsInside (k : List Entry) (root : Owner → Option ℕ) (t n : ℕ) :
   pub owner : (at k n).owner ≡ (at k t).owner
   pub no_root : root (at k n).owner ≢ Some n
 
+-- a node has an owner and is not its root
+abbrev pub IsOwn : List Entry → (Owner → Option ℕ) → Owner → ℕ → Type 0
+IsOwn k root o n = ((at k n).owner ≡ o) × (root (at k n).owner ≢ Some n)
+
+-- a node has another owner, or is its owner's root
+abbrev pub IsNotOwn : List Entry → (Owner → Option ℕ) → Owner → ℕ → Type 0
+IsNotOwn k root o n = ((at k n).owner ≢ o) ⊎ (root (at k n).owner ≡ Some n)
+
 -- no node would have over 200 nodes above it
 abbrev pub IsLow : List Entry → ℕ → ℕ → Type 0
 IsLow k t n = (x : ℕ) → x ≢ body → level t (tree k x) + height (tree k n) ≤ limit
@@ -60,6 +68,18 @@ SomeNode ns P = (i : ℕ) × (i < length ns) × P (slice_index ns i)
 -- the target takes no children, or one of the nodes may not be put under it
 abbrev pub AreNotInside : List Entry → (Owner → Option ℕ) → ℕ → List ℕ → Type 0
 AreNotInside k root t ns = (is_leaf (at k t).label ≡ true) ⊎ SomeNode ns (IsNotInside k root t)
+
+-- not all of these nodes may be put under a target
+abbrev pub MayNotPutAll : List Entry → (Owner → Option ℕ) → List ℕ → ℕ → Type 0
+MayNotPutAll k root ns t = AreNotInside k root t ns ⊎ SomeNode ns (IsTooDeep k t)
+
+-- a target takes children, and a tree so high becomes not too deep under it
+abbrev pub IsOpen : List Entry → ℕ → ℕ → Type 0
+IsOpen k t h = (is_leaf (at k t).label ≡ false) × ((d : ℕ) × IsDepth k t d × (d + h ≤ limit))
+
+-- a target takes no children, or a tree so high becomes too deep under it
+abbrev pub IsNotOpen : List Entry → ℕ → ℕ → Type 0
+IsNotOpen k t h = (is_leaf (at k t).label ≡ true) ⊎ ((d : ℕ) × IsDepth k t d × (limit < d + h))
 
 -- when nodes may not be put under a target
 abbrev pub RefusesAll : List Entry → (Owner → Option ℕ) → ℕ → List ℕ → PageFault → Type 0

@@ -16,6 +16,8 @@ ghost use Rattle.page_nodes.specs.Ids.{with_id};
 ghost use Rattle.page_nodes.specs.Index.{IsIndex};
 ghost use Rattle.page_tree.specs.Documents.{document};
 ghost use Rattle.page_tree.specs.Roots.{IsRooted};
+ghost use Rattle.std.specs.List.Sorted.{IsPermutation, IsSorted};
+ghost use Rattle.std.specs.Ordering.{nat_cmp};
 ghost use Rattle.std.proofs.Props.{props};
 
 use crate::fault::PageFault;
@@ -85,7 +87,7 @@ fn is_leaf(content: &Content) -> bool
 }
 
 impl Page {
-    ghost use Rattle.page_tree.specs.Pages.{nodes, root, AreNoRoots, IsInside, IsNotInside, IsLow, IsTooDeep, SomeNode, MayPutAll, RefusesAll, RefusesPut, MayReplace, RefusesReplaceFirst, RefusesReplace, Replaces, ReplaceSteps, HasNoRoot, MayBeRoot, root_after, IsReplaced, MayAdd, RefusesAdd, RefusesCopy, copy_of, HasHostRoom, SameRoots, BecomesRoot, IsRoot};
+    ghost use Rattle.page_tree.specs.Pages.{nodes, root, AreNoRoots, IsInside, IsNotInside, IsLow, IsTooDeep, SomeNode, IsOwn, IsNotOwn, IsOpen, IsNotOpen, MayNotPutAll, MayPutAll, RefusesAll, RefusesPut, MayReplace, RefusesReplaceFirst, RefusesReplace, Replaces, ReplaceSteps, HasNoRoot, MayBeRoot, root_after, IsReplaced, MayAdd, RefusesAdd, RefusesCopy, copy_of, HasHostRoom, SameRoots, BecomesRoot, IsRoot};
 
     /// The page of the host's `body` alone. Its table of ids hashes by these keys.
     pub fn new(alloc: Global, keys: Keys) -> Result<Page, Memory>
@@ -229,20 +231,33 @@ impl Page {
         self.arena.empty(node);
     }
 
-    // Whether a node is not the target or above it, has its owner and is no root.
-    fn is_inside(&self, target: NodeId, node: NodeId) -> bool
-        requires target { target < length (nodes self.now) }
-        requires node { node < length (nodes self.now) }
+    // Whether a node has an owner, and is not its root.
+    fn is_own(&self, owner: Owner, node: NodeId) -> bool
+        requires { node < length (nodes self.now) }
         ensures { MatchBool result
-            (IsInside (nodes self.now) (root self.now) target node)
-            (IsNotInside (nodes self.now) (root self.now) target node) }
+            (IsOwn (nodes self.now) (root self.now) owner node)
+            (IsNotOwn (nodes self.now) (root self.now) owner node) }
     {
-        same_owner(self.arena.owner(node), self.arena.owner(target))
-            && !self.is_root(node)
-            && !self.arena.is_within(target, node)
+        same_owner(self.arena.owner(node), owner) && !self.is_root(node)
     }
 
-    // Whether all nodes are inside.
+    // Whether all nodes have an owner, and none is its root.
+    fn are_own(&self, owner: Owner, news: &[NodeId]) -> bool
+        requires { AreNodes (nodes self.now) news.now }
+        ensures { MatchBool result
+            ((i : ℕ) → i < length news.now → IsOwn (nodes self.now) (root self.now) owner (slice_index news.now i))
+            (SomeNode news.now (IsNotOwn (nodes self.now) (root self.now) owner)) }
+    {
+        'each: for node in news {
+            if !self.is_own(owner, *node) {
+                return false;
+            }
+        }
+        true
+    }
+
+    // Whether none of the nodes is the target or above it, and each has its owner and is no root. The
+    // way up from the target is gone once.
     fn are_inside(&self, target: NodeId, news: &[NodeId]) -> bool
         requires target { target < length (nodes self.now) }
         requires news { AreNodes (nodes self.now) news.now }
@@ -251,10 +266,25 @@ impl Page {
             IsInside (nodes self.now) (root self.now) target (slice_index news.now i))
             (SomeNode news.now (IsNotInside (nodes self.now) (root self.now) target)) }
     {
-        'each: for node in news {
-            if !self.is_inside(target, *node) {
-                return false;
-            }
+        if self.arena.is_in_any(target, news) {
+            return false;
+        }
+        self.are_own(self.arena.owner(target), news)
+    }
+
+    // Whether a target takes children, and trees so high become not too deep under it.
+    fn opens(&self, target: NodeId, height: u32) -> bool
+        requires target { target < length (nodes self.now) }
+        requires height { height ≤ 202 }
+        ensures { MatchBool result
+            (IsOpen (nodes self.now) target height)
+            (IsNotOpen (nodes self.now) target height) }
+    {
+        if is_leaf(self.arena.content(target)) {
+            return false;
+        }
+        if self.arena.depth(target) + height > LIMIT {
+            return false;
         }
         true
     }
@@ -268,11 +298,8 @@ impl Page {
             ((i : ℕ) → i < length news.now → IsLow (nodes self.now) target (slice_index news.now i))
             (SomeNode news.now (IsTooDeep (nodes self.now) target)) }
     {
-        let depth = self.arena.depth(target);
-        'each: for node in news {
-            if depth + self.arena.height(*node) > LIMIT {
-                return false;
-            }
+        if self.arena.depth(target) + self.arena.highest(news) > LIMIT {
+            return false;
         }
         true
     }
@@ -293,6 +320,52 @@ impl Page {
             return Err(PageFault::TooDeep);
         }
         Ok(())
+    }
+
+    // Whether all targets take children, and trees so high become not too deep under them.
+    fn all_open(&self, targets: &[NodeId], height: u32) -> bool
+        requires targets { AreNodes (nodes self.now) targets.now }
+        requires height { height ≤ 202 }
+        ensures { MatchBool result
+            ((j : ℕ) → j < length targets.now → IsOpen (nodes self.now) (slice_index targets.now j) height)
+            (SomeNode targets.now (λ t. IsNotOpen (nodes self.now) t height)) }
+    {
+        'each: for target in targets {
+            if !self.opens(*target, height) {
+                return false;
+            }
+        }
+        true
+    }
+
+    /// Whether `append` may put nodes under each of several targets of their owner, as `may_append` says it of
+    /// one. The nodes are handed over a second time in order. No node is measured for each target anew.
+    pub fn may_append_to(
+        &self,
+        owner: Owner,
+        targets: &[NodeId],
+        news: &[NodeId],
+        in_order: &[NodeId],
+    ) -> bool
+        requires targets { AreNodes (nodes self.now) targets.now }
+        requires owned { (j : ℕ) → j < length targets.now → (at (nodes self.now) (slice_index targets.now j)).owner ≡ owner }
+        requires news { AreNodes (nodes self.now) news.now }
+        requires in_order { IsSorted nat_cmp in_order.now }
+        requires same { IsPermutation news.now in_order.now }
+        ensures { MatchBool result
+            ((j : ℕ) → j < length targets.now → MayPutAll (nodes self.now) (root self.now) (slice_index targets.now j) news.now)
+            (SomeNode targets.now (MayNotPutAll (nodes self.now) (root self.now) news.now)) }
+    {
+        if targets.is_empty() {
+            return true;
+        }
+        if !self.are_own(owner, news) {
+            return false;
+        }
+        if self.arena.some_in_any(targets, in_order) {
+            return false;
+        }
+        self.all_open(targets, self.arena.highest(news))
     }
 
     /// Puts nodes behind the last child of a target, in order, each taken from where it was.

@@ -1,6 +1,0 @@
-use Rattle.std.proofs.Common.{◌<◌, ℕ, get_or}
-use Rattle.page_tree.specs.Pages.{nodes, IsLow}
-use Rattle.page_tree.proofs.page.Page.are_low.Given as goal
-
-abbrev pub invariant-each : goal.invariant-each
-invariant-each l = (i : ℕ) → i < l.node-index → IsLow (nodes l.self) l.target (get_or l.news i 0)
