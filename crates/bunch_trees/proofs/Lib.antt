@@ -8,4 +8,5 @@ mod Measured
 mod Numbered
 mod Roots
 mod Tagged
+mod Taken
 mod Texts

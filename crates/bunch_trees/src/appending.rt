@@ -22,30 +22,32 @@ use crate::copying::append_all;
 use crate::measuring::{Extent, measure_all};
 use crate::receiver::Receiver;
 use crate::rooted::none_root;
-use code_units::Memory;
+use code_units::{Memory, Owner};
 use js_image::Fault;
 use js_values::{Meter, NativeOut};
 use native_common::take;
 use native_image::{Bill, bunch_of, pay_judged, settle, weigh};
 use object_store::{Store, Value};
-use page_image::may_append;
 use page_tree::{NodeId, Page};
 use std::alloc::Global;
 
 // Whether each target takes all of these nodes.
-fn all_take(targets: &[NodeId], news: &[NodeId], w: u32, page: &Page) -> bool
+fn all_take(
+    alloc: Global,
+    targets: &[NodeId],
+    news: &[NodeId],
+    w: u32,
+    page: &Page,
+) -> Result<bool, Memory>
     requires home { HasRoot page.now w }
     requires targets { (n : ℕ) → has_number targets.now n ≡ true → owns page.now w n ≡ true }
     requires news { (n : ℕ) → has_number news.now n ≡ true → owns page.now w n ≡ true }
-    ensures { result ≡
-        list_all (takes (forest page.now w) (map (number page.now w) news.now)) (map (number page.now w) targets.now) }
+    ensures { IfOk result (λ b. b ≡
+        list_all (takes (forest page.now w) (map (number page.now w) news.now)) (map (number page.now w) targets.now)) }
 {
-    'each: for target in targets {
-        if !may_append(page, w, *target, news) {
-            return false;
-        }
-    }
-    true
+    let mut in_order = news.to_vec(alloc)?;
+    in_order.sort_unstable();
+    Ok(page.may_append_to(Owner::Widget(w), targets, news, &in_order))
 }
 
 // The cost is weighed, the nodes are appended, and the Bunch is given back.
@@ -113,7 +115,8 @@ fn append_nodes(
     ensures kept { (l : Loop) → IsSound bunch.now.w store.old page.old l
         → KeepsAll bunch.now.w store.old store.new page.old page.new l }
 {
-    if !all_take(bunch.nodes, news, bunch.w, page) {
+    let takes = all_take(alloc, bunch.nodes, news, bunch.w, page)?;
+    if !takes {
         return Ok(NativeOut::Throw(Fault::E10));
     }
     if !none_root(news, bunch.w, page) {

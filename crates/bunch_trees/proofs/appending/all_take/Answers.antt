@@ -1,30 +1,15 @@
-use Rattle.std.proofs.Common.{map, refl, sym, ap, ◌∙◌}
-use Rattle.std.specs.List.{list_all}
-use Rattle.page_image.specs.Image.{forest, number}
-use Rattle.page_image.specs.Targets.{takes}
-use Rattle.native_image.proofs.Lists.{all_not, element_in, mapped_whole, open_more}
+use Rattle.page_image.proofs.Calls.{are_nodes}
+use Rattle.bunch_trees.proofs.Taken.{all_judged, widgets_own}
 use Rattle.bunch_trees.proofs.appending.all_take.Goals as goal
 
-pub may_append-requires-clause-target : goal.may_append-requires-clause-target
-may_append-requires-clause-target c = c.requires.targets _ (element_in c.args.targets.now c.each.target-index c.each-test.true)
+pub may_append_to-requires-clause-targets : goal.may_append_to-requires-clause-targets
+may_append_to-requires-clause-targets c = are_nodes c.args.page.now c.args.w c.args.targets.now c.requires.targets
 
-pub each-init : goal.each-init
-each-init c = refl
+pub may_append_to-requires-clause-owned : goal.may_append_to-requires-clause-owned
+may_append_to-requires-clause-owned c = widgets_own c.args.page.now c.args.w c.args.targets.now c.requires.targets
 
-pub each-preserved : goal.each-preserved
-each-preserved c =
-    let p = c.args.page.now in
-    let w = c.args.w in
-    open_more (takes (forest p w) (map (number p w) c.args.news.now)) (number p w) c.args.targets.now c.each.target-index c.each-test.true c.each.invariant (sym c.may_append.ensures ∙ c.if-not-may_append.false)
+pub may_append_to-requires-clause-news : goal.may_append_to-requires-clause-news
+may_append_to-requires-clause-news c = are_nodes c.args.page.now c.args.w c.args.news.now c.requires.news
 
-pub returns-then-not-may_append : goal.returns-then-not-may_append
-returns-then-not-may_append c =
-    let p = c.args.page.now in
-    let w = c.args.w in
-    sym (all_not (takes (forest p w) (map (number p w) c.args.news.now)) (number p w) c.args.targets.now c.each.target-index c.each-test.true (sym c.may_append.ensures ∙ c.if-not-may_append.true))
-
-pub returns : goal.returns
-returns c =
-    let p = c.args.page.now in
-    let w = c.args.w in
-    sym (sym (ap (list_all (takes (forest p w) (map (number p w) c.args.news.now))) (mapped_whole (number p w) c.args.targets.now c.each.target-index c.each-test.false)) ∙ c.each.invariant)
+pub returns-in_ok-in_order : goal.returns-in_ok-in_order
+returns-in_ok-in_order c = all_judged c.args.page.now c.args.w c.requires.home c.args.targets.now c.args.news.now c.requires.targets c.requires.news c.may_append_to.result c.may_append_to.ensures

@@ -36,8 +36,8 @@ none_root-requires-clause-home c = c.requires.sound.1.holds.home
 pub append_weighed-requires-clause-sound : goal.append_weighed-requires-clause-sound
 append_weighed-requires-clause-sound c = c.requires.sound
 
-pub returns-then-not-all_take-clause-native : goal.returns-then-not-all_take-clause-native
-returns-then-not-all_take-clause-native c = λ l b sound.
+pub returns-then-not-takes-clause-native : goal.returns-then-not-takes-clause-native
+returns-then-not-takes-clause-native c = λ l b sound.
     let w = c.args.bunch.now.w in
     let p = c.args.page.now in
     let s = c.args.store.now in
@@ -46,10 +46,10 @@ returns-then-not-all_take-clause-native c = λ l b sound.
     let ms = map (number p w) c.args.news.now in
     let v = seen w s.cells (value.Ref c.args.bunch.now.cell) in
     at_thrown w h (λ d u. append_nodes ns ms v u) fault.E10 c.args.meter.now sound
-    (λ fs x d. let u = image fs x w h in unwanted E10 (list_all (is_target u ms) ns) u (want_all is_no_root ms u (charge (length ns * size (trees_at p w c.args.news.now)) u (append_paid ns ms v u))) (sym c.all_take.ensures ∙ c.if-not-all_take.true))
+    (λ fs x d. let u = image fs x w h in unwanted E10 (list_all (is_target u ms) ns) u (want_all is_no_root ms u (charge (length ns * size (trees_at p w c.args.news.now)) u (append_paid ns ms v u))) (sym c.in_ok-takes.ensures ∙ c.if-not-takes.true))
 
-pub returns-then-not-all_take-clause-kept : goal.returns-then-not-all_take-clause-kept
-returns-then-not-all_take-clause-kept c = λ l sound. keeps_here c.args.bunch.now.w c.args.store.now c.args.page.now l sound.holds
+pub returns-then-not-takes-clause-kept : goal.returns-then-not-takes-clause-kept
+returns-then-not-takes-clause-kept c = λ l sound. keeps_here c.args.bunch.now.w c.args.store.now c.args.page.now l sound.holds
 
 pub returns-then-not-none_root-clause-native : goal.returns-then-not-none_root-clause-native
 returns-then-not-none_root-clause-native c = λ l b sound.
@@ -64,7 +64,7 @@ returns-then-not-none_root-clause-native c = λ l b sound.
     (λ fs x d.
     let u = image fs x w h in
     let paid = charge (length ns * size (trees_at p w c.args.news.now)) u (append_paid ns ms v u) in
-    wanted E10 (list_all (is_target u ms) ns) u (want_all is_no_root ms u paid) (sym c.all_take.ensures ∙ c.if-not-all_take.false)
+    wanted E10 (list_all (is_target u ms) ns) u (want_all is_no_root ms u paid) (sym c.in_ok-takes.ensures ∙ c.if-not-takes.false)
     ∙ unwanted E10 (list_all is_no_root ms) u paid (sym c.none_root.ensures ∙ c.if-not-none_root.true))
 
 pub returns-then-not-none_root-clause-kept : goal.returns-then-not-none_root-clause-kept
@@ -88,7 +88,7 @@ returns-in-Ok-clause-native c = λ l b sound.
     (λ fs x d.
     let u = image fs x w h in
     let paid = charge n u (append_paid ns ms v u) in
-    wanted E10 (list_all (is_target u ms) ns) u (want_all is_no_root ms u paid) (sym c.all_take.ensures ∙ c.if-not-all_take.false)
+    wanted E10 (list_all (is_target u ms) ns) u (want_all is_no_root ms u paid) (sym c.in_ok-takes.ensures ∙ c.if-not-takes.false)
     ∙ wanted E10 (list_all is_no_root ms) u paid (sym c.none_root.ensures ∙ c.if-not-none_root.false))
     (at_charged w h new n (λ d u. append_paid ns ms v u) o c.args.meter.now c.take.new.meter taken.0 taken.1 ends))
     (c.append_weighed.ensures.ends l b sound)
@@ -110,7 +110,7 @@ returns-in-Err-clause-native c = λ l b sound.
     (λ fs x d.
     let u = image fs x w h in
     let paid = charge n u (append_paid ns ms v u) in
-    wanted E10 (list_all (is_target u ms) ns) u (want_all is_no_root ms u paid) (sym c.all_take.ensures ∙ c.if-not-all_take.false)
+    wanted E10 (list_all (is_target u ms) ns) u (want_all is_no_root ms u paid) (sym c.in_ok-takes.ensures ∙ c.if-not-takes.false)
     ∙ wanted E10 (list_all is_no_root ms) u paid (sym c.none_root.ensures ∙ c.if-not-none_root.false))
     (subst (λ (k : Fuel). MeetsAt w h h c.args.meter.now k (λ d u. charge n u (append_paid ns ms v u)) native.OutOfFuel) (sym c.in-Err.ensures.same)
     (at_lacking w h n (λ d u. append_paid ns ms v u) c.args.meter.now sound
@@ -118,3 +118,6 @@ returns-in-Err-clause-native c = λ l b sound.
 
 pub returns-in-Err-clause-kept : goal.returns-in-Err-clause-kept
 returns-in-Err-clause-kept c = λ l sound. keeps_here c.args.bunch.now.w c.args.store.now c.args.page.now l sound.holds
+
+pub returns-in_err-takes-clause-kept : goal.returns-in_err-takes-clause-kept
+returns-in_err-takes-clause-kept c = λ l sound. keeps_here c.args.bunch.now.w c.args.store.now c.args.page.now l sound.holds
