@@ -26,6 +26,7 @@ DOUBLED = "while (q.length < 32768) { q = q + q; } q = '*' + q;"
 PAIR = 'var s = "%sa", t = "%sb";' % ("x" * 125000, "x" * 125000)
 WORD = 'var s = "%s";' % ("x" * 250000)
 FROM = "try { ADSAFE.fromJson(s); } catch (e) { x = 1; }"
+E10 = "try { p.append(b); } catch (e) { x = 1; }"
 TO = "try { ADSAFE.toJson(a); } catch (e) { x = 1; }"
 
 
@@ -167,6 +168,17 @@ ROWS = [
     ("`dom.tag` of a name of 100,000 units", "var s = %s\";" % LONG, "try { dom.tag(s); } catch (e) { x = 1; }"),
     ("`dom.text`", "", "x = dom.text('i');"),
     ("`remove` and `append` of 16,000 nodes", "var b = dom.q('i');", "b.remove(); dom.append(b);", MANY),
+    ("`append` of 16,000 nodes that ends in E10", "var b = dom.q('i'), p = dom.q('p');", E10, MANY + "<i><p></p></i>"),
+    ("`append` of 15,800 nodes to one 198 deep that ends in E10", "var b = dom.q('i'), p = dom.q('p');", E10,
+     "<i></i>" * 15800 + "<i>" + "<div>" * 196 + "<p></p>" + "</div>" * 196 + "</i>"),
+    ("`append` of 15,800 nodes, 196 in one another, that ends in E10", "var b = dom.q('i'), p = dom.q('p');", E10,
+     ("<i>" * 196 + "</i>" * 196) * 80 + "<i>" * 198 + "</i>" * 198 + "<div><div><p></p></div></div>"),
+    ("`append` of 8,000 nodes to 8,000 that ends in E10", "var b = dom.q('i'), p = dom.q('b');", E10,
+     "<i></i><b></b>" * 8000 + "<i><b></b></i>"),
+    ("`append` of the first of 16,000 behind the last, one by one", "var b = dom.q('i'), a = b.explode(), n = 0, p = b.getParent();",
+     "p.append(a[+n]); n = n === 15999 ? 0 : n + 1;", MANY),
+    ("`remove` of the first of 16,000, and `append`", "var b = dom.q('i'), a = b.explode(), n = 0, p = b.getParent();",
+     "a[+n].remove(); p.append(a[+n]); n = n === 15999 ? 0 : n + 1;", MANY),
     ("`append` of one node at a depth of 199", "var b = dom.q('i'), c = dom.tag('b');", "b.append(c); c.remove();",
      "<div>" * 197 + "<i></i>" + "</div>" * 197),
     ("`replace` of one node by 16,000", "var b = dom.q('i'), c = b.q('i'), p = dom.q('p'), d = dom.q('i:first');",
