@@ -94,6 +94,8 @@ ROWS = [
     ("`toJson` of seven texts of 9,000 units and undefined",
      'var s = "%s", a = [s, s, s, s, s, s, s, undefined];' % ("x" * 9000), TO),
     ("`toJson` of a text of 32,000 quotes and undefined", "var s = '%s', a = [s, undefined];" % ('"' * 32000), TO),
+    ("`toJson` of an Object of 5,000 names, of which the first was removed, that ends in undefined",
+     "var a = {%s, z: undefined}; ADSAFE.remove(a, 'n0');" % ", ".join("n%d: 1" % place for place in range(5000)), TO),
     ("`Math.max` of a text of 250,000 units that is no number", WORD, "x = Math.max(s, s);"),
     ("`-` of a text of 250,000 units that is no number", WORD, "x = s - s;"),
     ("`slice`, the same in place of a number", WORD, 'x = "a".slice(s, s);'),

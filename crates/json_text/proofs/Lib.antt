@@ -10,3 +10,5 @@ pub mod Texts
 pub mod Quoted
 pub mod Ended
 pub mod Named
+pub mod Written
+pub mod Owned

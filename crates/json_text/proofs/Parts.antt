@@ -1,9 +1,7 @@
 -- How the parts of an object or an array are written one after the other.
-use Rattle.std.proofs.Common.{◌≡◌, ℕ, zero, suc, ◌+◌, List, [], ◌∷◌, ◌++◌, refl, sym, ap, ◌∙◌, Option, Some, None, Bool, true, false, arith, cond, slice_get, drop, map, unwrap_or}
+use Rattle.std.proofs.Common.{◌≡◌, ℕ, zero, suc, ◌+◌, List, [], ◌∷◌, ◌++◌, refl, sym, ap, ◌∙◌, Option, Some, None, Bool, false, arith, slice_get, drop, map, unwrap_or}
 use Rattle.std.specs.Prelude.{codes}
-use Rattle.std.specs.List.{filter}
 use Rattle.std.specs.Option.{option_map}
-use Rattle.code_units.specs.Permitted.{is_permitted}
 use Rattle.store_cells.specs.declared.value.Value.{Value as StoreValue}
 use Rattle.store_cells.specs.Cells.{PlainCell}
 use Rattle.widget_meaning.specs.Values.{Value, Undefined}
@@ -57,12 +55,10 @@ got_mapped f [] i = refl
 got_mapped f (x ∷ xs) zero = refl
 got_mapped f (x ∷ xs) (suc i) = got_mapped f xs i
 
+-- the pairs that are written, one at a time
 module _ (w : ℕ) (cells : List PlainCell) (one : Writer) (ps : List (List ℕ × StoreValue)) where
-  abbrev pub listed : ℕ → Pairs
-  listed i = filter (λ q. is_permitted q.0) (drop i (seen_pairs w cells ps))
-
   abbrev pub rest : Bool → ℕ → List ℕ → Written
-  rest first i t = members_text one (comma first) (listed i) t
+  rest first i t = members_text one (comma first) (drop i (seen_pairs w cells ps)) t
 
   abbrev pair : List ℕ × StoreValue → List ℕ × Value
   pair p = (p.0, seen w cells p.1)
@@ -75,21 +71,14 @@ module _ (w : ℕ) (cells : List PlainCell) (one : Writer) (ps : List (List ℕ 
       by None = refl
       by (Some p) = refl
 
-  there : (i : ℕ) (p : List ℕ × StoreValue) → slice_get ps i ≡ Some p → listed i ≡ cond (is_permitted p.0) ((p.0, seen w cells p.1) ∷ listed (i + 1)) (listed (i + 1))
-  there i p e = ap (filter (λ q. is_permitted q.0)) (drop_there (seen_pairs w cells ps) i (p.0, seen w cells p.1) (shown i ∙ ap (option_map pair) e))
-
-  -- a name that is not permitted is passed over
-  pub passed : (first : Bool) (i : ℕ) (p : List ℕ × StoreValue) (t : List ℕ) → slice_get ps i ≡ Some p → is_permitted p.0 ≡ false → rest first i t ≡ rest first (i + 1) t
-  passed first i p t e banned = ap (λ l. members_text one (comma first) l t) (there i p e ∙ ap (λ b. cond b ((p.0, seen w cells p.1) ∷ listed (i + 1)) (listed (i + 1))) banned)
-
   -- a member is written
-  pub written : (first : Bool) (i : ℕ) (p : List ℕ × StoreValue) (t : List ℕ) (x : Written) → slice_get ps i ≡ Some p → is_permitted p.0 ≡ true → x ≡ and_write (write t (name_text first p.0)) (one (seen w cells p.1))
+  pub written : (first : Bool) (i : ℕ) (p : List ℕ × StoreValue) (t : List ℕ) (x : Written) → slice_get ps i ≡ Some p → x ≡ and_write (write t (name_text first p.0)) (one (seen w cells p.1))
       → rest first i t ≡ and_write x (rest false (i + 1))
-  written first i p t x e permitted h =
-      ap (λ l. members_text one (comma first) l t) (there i p e ∙ ap (λ b. cond b ((p.0, seen w cells p.1) ∷ listed (i + 1)) (listed (i + 1))) permitted)
-      ∙ member_then one (comma first) p.0 (seen w cells p.1) (listed (i + 1)) t
+  written first i p t x e h =
+      ap (λ l. members_text one (comma first) l t) (drop_there (seen_pairs w cells ps) i (p.0, seen w cells p.1) (shown i ∙ ap (option_map pair) e))
+      ∙ member_then one (comma first) p.0 (seen w cells p.1) (drop (i + 1) (seen_pairs w cells ps)) t
       ∙ ap (λ y. and_write y (rest false (i + 1))) (sym h)
 
   -- no pair is left
   pub ended : (first : Bool) (i : ℕ) (t : List ℕ) → slice_get ps i ≡ None → rest first i t ≡ write t (codes "}")
-  ended first i t e = ap (λ l. members_text one (comma first) (filter (λ q. is_permitted q.0) l) t) (drop_past (seen_pairs w cells ps) i (shown i ∙ ap (option_map pair) e))
+  ended first i t e = ap (λ l. members_text one (comma first) l t) (drop_past (seen_pairs w cells ps) i (shown i ∙ ap (option_map pair) e))

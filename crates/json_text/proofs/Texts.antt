@@ -1,5 +1,5 @@
 -- How the loops write elements and members.
-use Rattle.std.proofs.Common.{◌≡◌, ℕ, zero, suc, ◌+◌, ◌-◌, ◌<◌, ◌≤◌, List, [], ◌∷◌, length, refl, sym, ap, ◌∙◌, subst, Option, Some, None, false, arith, slice_get}
+use Rattle.std.proofs.Common.{◌≡◌, ℕ, zero, suc, ◌+◌, ◌-◌, ◌<◌, ◌≤◌, List, [], ◌∷◌, length, refl, sym, ap, ◌∙◌, subst, None, false, arith}
 use Rattle.std.proofs.lemmas.Bool.Decides.{nat_tests}
 use Rattle.std.specs.Prelude.{codes, nat_eq, IfSome}
 use Rattle.std.specs.Option.{option_map, option_map_or}
@@ -59,48 +59,3 @@ module _ (m : ℕ) (s : State) (ps : Pairs) (len : ℕ) where
   closed i t le =
       let none : len - i ≡ 0 = omega (arith, le) in
       ap (λ n. texts (comma (nat_eq i 0)) i n t) none
-
--- ## Members
-
--- the pair at a place, by its name and its value
-pub pair_there : (cells : List PlainCell) (i at : ℕ) (o : Option (List ℕ)) (u : Option StoreValue) (n : List ℕ) (v : StoreValue) → i < length cells → o ≡ Some n → u ≡ Some v
-    → IfSome (slice_get cells i) (λ c. o ≡ option_map (λ p. p.0) (slice_get c.pairs at)) → IfSome (slice_get cells i) (λ c. u ≡ option_map (λ p. p.1) (slice_get c.pairs at))
-    → slice_get (pairs_at cells i) at ≡ Some (n, v)
-pair_there cells i at o u n v lt named valued names values = by (slice_get cells i) (there cells i lt) names values
-  where
-    there : (cs : List PlainCell) (i : ℕ) → i < length cs → slice_get cs i ≡ None → ⊥
-    there [] i lt e = omega (arith, lt)
-    there (c ∷ cs) zero lt e = cc
-    there (c ∷ cs) (suc i) lt e = there cs i (omega (arith, lt)) e
-
-    pair : (q : Option (List ℕ × StoreValue)) → Some n ≡ option_map (λ p. p.0) q → Some v ≡ option_map (λ p. p.1) q → q ≡ Some (n, v)
-    pair None a b = cc
-    pair (Some p) a b =
-        let x : p.0 ≡ n = cc in
-        let y : p.1 ≡ v = cc in
-        λ j. Some (x j, y j)
-
-    by : (x : Option PlainCell) → (x ≡ None → ⊥) → IfSome x (λ c. o ≡ option_map (λ p. p.0) (slice_get c.pairs at)) → IfSome x (λ c. u ≡ option_map (λ p. p.1) (slice_get c.pairs at))
-        → slice_get (option_map_or (λ (c : PlainCell). c.pairs) x []) at ≡ Some (n, v)
-    by None some a b = absurd (some refl)
-    by (Some c) some a b = pair (slice_get c.pairs at) (sym named ∙ a) (sym valued ∙ b)
-
--- no pair
-pub pair_none : (cells : List PlainCell) (i at : ℕ) (o : Option (List ℕ)) → o ≡ None → IfSome (slice_get cells i) (λ c. o ≡ option_map (λ p. p.0) (slice_get c.pairs at)) → slice_get (pairs_at cells i) at ≡ None
-pair_none cells i at o gone names = by (slice_get cells i) names
-  where
-    none : (q : Option (List ℕ × StoreValue)) → None ≡ option_map {T = List ℕ × StoreValue} {U = List ℕ} (λ p. p.0) q → q ≡ None
-    none None a = refl
-    none (Some p) a = cc
-
-    by : (x : Option PlainCell) → IfSome x (λ c. o ≡ option_map (λ p. p.0) (slice_get c.pairs at)) → slice_get (option_map_or (λ (c : PlainCell). c.pairs) x []) at ≡ None
-    by None a = refl
-    by (Some c) a = none (slice_get c.pairs at) (sym gone ∙ a)
-
--- a value of pairs that a widget may hold
-pub pair_fine : (w : ℕ) (cells : List PlainCell) (ps : List (List ℕ × StoreValue)) (at : ℕ) (p : List ℕ × StoreValue) → ArePairs w cells ps → slice_get ps at ≡ Some p → IsFine w cells p.1
-pair_fine w cells [] at p h e = cc
-pair_fine w cells (q ∷ ps) zero p h e =
-    let same : q ≡ p = cc in
-    subst (λ (x : List ℕ × StoreValue). IsFine w cells x.1) same h.0
-pair_fine w cells (q ∷ ps) (suc at) p h e = pair_fine w cells ps at p h.1 e

@@ -1,5 +1,5 @@
 -- What a value of the store is, as JSON has it.
-use Rattle.std.specs.Prelude.{ℕ, Bool, true, false, List, [], Option, None, Some, ◌&&◌, is_some, if◌then◌else◌, slice_get}
+use Rattle.std.specs.Prelude.{◌≡◌, ℕ, Bool, true, false, List, [], Option, None, Some, ◌&&◌, is_some, if◌then◌else◌, slice_get}
 use Rattle.std.specs.Option.{option_map_or}
 use Rattle.store_cells.specs.declared.kind.CellKind.{CellKind}
 use Rattle.store_cells.specs.declared.kind.CellKind.TheVariants as kind
@@ -19,6 +19,10 @@ is_object_kind _ = false
 -- whether a cell is an Object of a widget
 abbrev pub is_object : PlainCell → Bool
 is_object c = is_some (widget_of c.owner) && is_object_kind (kind_of c.form)
+
+-- at this place stands an Object of a widget
+abbrev pub IsObjectAt : List PlainCell → ℕ → Type 0
+IsObjectAt cells i = option_map_or is_object (slice_get cells i) false ≡ true
 
 -- the cell to which a value refers, where that is an Object of a widget
 abbrev pub object_in : List PlainCell → Value → Option ℕ

@@ -6,7 +6,7 @@ ghost use Rattle.json_text.specs.Steps.{meant_step};
 use code_units::{Memory, push_ascii};
 
 /// The units that a text may have.
-const LONGEST: usize = 65_536;
+pub(crate) const LONGEST: usize = 65_536;
 
 /// How a part of a text was written.
 #[derive(Clone, Copy, PartialEq, Eq, Drop)]

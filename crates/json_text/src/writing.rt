@@ -14,15 +14,16 @@ ghost use Rattle.js_image.specs.Image.{Rest, image, seen, seen_pairs};
 ghost use Rattle.js_image.specs.Held.{ArePairs, IsConfined, IsFine, Kept};
 ghost use Rattle.js_values.specs.Operands.{IsPrimitive};
 ghost use Rattle.native_common.specs.Meets.{Meets};
+ghost use Rattle.object_store.specs.Calls.{keys_at};
 ghost use Rattle.json_text.specs.Confined.{MeetsConfined};
-ghost use Rattle.json_text.specs.Objects.{is_object_kind, object_in, pairs_at};
+ghost use Rattle.json_text.specs.Objects.{IsObjectAt, is_object_kind, object_in, pairs_at};
 ghost use Rattle.json_text.specs.Names.{comma};
 ghost use Rattle.json_text.specs.Steps.{meant_step};
 
 use crate::laws::lawful;
-use crate::quoting::{before_member, quote};
+use crate::quoting::{push_name, push_quoted};
 use crate::steps::{Step, push, push_word};
-use code_units::{Memory, Owner, Text, permitted, whole_text};
+use code_units::{Memory, Owner, Text, whole_text};
 use js_image::{Fault, StopCause, array_length, element};
 use js_values::{Meter, NativeOut};
 use native_common::{charged, make_text, take, text_len};
@@ -120,7 +121,7 @@ fn write_plain(alloc: Global, v: &Value, out: &mut Vec<u16>) -> Result<Step, Mem
         Value::Bool(true) => push_word(out, b"true"),
         Value::Bool(false) => push_word(out, b"false"),
         Value::Num(Number::Whole(n)) => push(out, whole_text(alloc, *n)?.units()),
-        Value::Text(t) => push(out, quote(alloc, t)?.units()),
+        Value::Text(t) => push_quoted(out, t),
         _ => Ok(Step::NoJson),
     }
 }
@@ -224,28 +225,52 @@ fn write_members(
 ) -> Result<Step, Memory>
     requires { cell < length store.now.cells }
     ensures { IfOk result (λ p. (fs : List Forest) (r : Rest) (w : ℕ) → IsConfined fs w store.now
-        → ArePairs w store.now.cells (pairs_at store.now.cells cell)
+        → ArePairs w store.now.cells (pairs_at store.now.cells cell) → IsObjectAt store.now.cells cell
         → meant_step p out.new.items ≡ members_text (value_text m (image fs r w store.now)) []
         (filter (λ q. is_permitted q.0) (seen_pairs w store.now.cells (pairs_at store.now.cells cell))) out.old.items) }
 {
+    let keys = store.keys(alloc, cell)?;
+    write_named(alloc, store, cell, &keys, m, out)
+}
+
+// The same of the names that it lists. Each value is found by its name: to find one by its place takes a
+// walk where names were deleted.
+#[cycle(writing)]
+fn write_named(
+    alloc: Global,
+    store: &Store,
+    cell: CellId,
+    keys: &[Text],
+    m: u32,
+    out: &mut Vec<u16>,
+) -> Result<Step, Memory>
+    requires { cell < length store.now.cells }
+    ensures { IfOk result (λ p. (fs : List Forest) (r : Rest) (w : ℕ) → IsConfined fs w store.now
+        → ArePairs w store.now.cells (pairs_at store.now.cells cell) → IsObjectAt store.now.cells cell
+        → keys.now ≡ keys_at store.now.cells cell
+        → meant_step p out.new.items ≡ members_text (value_text m (image fs r w store.now)) []
+        (filter (λ q. is_permitted q.0) (seen_pairs w store.now.cells (pairs_at store.now.cells cell)))
+        out.old.items) }
+{
+    // This law says that a name finds its own pair.
+    store.names_differ(cell);
     let mut first = true;
-    for at in 0..u32::MAX {
-        let Some(name) = store.name_at(alloc, cell, at)? else {
-            return push_word(out, b"}");
-        };
-        let Some(value) = store.var_at(cell, at) else {
+    'names: for name in keys {
+        let Some(value) = store.get(cell, name) else {
             return Err(Memory);
         };
-        if permitted(&name) {
-            let before = before_member(alloc, first, &name)?;
-            match write_part(alloc, store, &before, value, m, out)? {
-                Step::Wrote => first = false,
-                Step::NoJson => return Ok(Step::NoJson),
-                Step::TooLong => return Ok(Step::TooLong),
-            }
+        match push_name(out, first, name)? {
+            Step::NoJson => return Ok(Step::NoJson),
+            Step::TooLong => return Ok(Step::TooLong),
+            Step::Wrote => {}
+        }
+        match write_value(alloc, store, value, m, out)? {
+            Step::Wrote => first = false,
+            Step::NoJson => return Ok(Step::NoJson),
+            Step::TooLong => return Ok(Step::TooLong),
         }
     }
-    Err(Memory)
+    push_word(out, b"}")
 }
 
 // The elements of an Array below its length, in brackets.
