@@ -1,5 +1,5 @@
 -- What was judged weighs the same.
-use Rattle.std.proofs.Common.{◌≡◌, ◌&&◌, refl, sym, ap, ◌∙◌, false, length, List, ℕ}
+use Rattle.std.proofs.Common.{◌≡◌, ◌&&◌, refl, ap, ◌∙◌, length, List, ℕ}
 use Rattle.code_units.specs.Permitted.{is_permitted}
 use Rattle.code_units.specs.Utf8.{units_of, utf8_of}
 use Rattle.serde_json.specs.Data as json
@@ -7,9 +7,6 @@ use Rattle.widget_meaning.specs.Values as meaning
 use Rattle.widget_meaning.specs.OwnState.{State}
 use Rattle.widget_meaning.specs.Costs.{or_throw, throw}
 use Rattle.widget_meaning.specs.JsonValues.{from_json}
-use Rattle.js_tree.specs.Forest.{Forest}
-use Rattle.store_cells.specs.Cells.{Cells}
-use Rattle.js_image.specs.Image.{Rest, image}
 use Rattle.json_judge.specs.Names.{has_names, items_have_names, members_have_names}
 use Rattle.json_judge.specs.Verdicts.{IsRefused}
 use Rattle.json_text.specs.Reading.{read_plan}

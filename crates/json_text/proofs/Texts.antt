@@ -1,17 +1,12 @@
 -- How the loops write elements and members.
-use Rattle.std.proofs.Common.{◌≡◌, ℕ, zero, suc, ◌+◌, ◌-◌, ◌<◌, ◌≤◌, List, [], ◌∷◌, length, refl, sym, ap, ◌∙◌, subst, None, false, arith}
+use Rattle.std.proofs.Common.{◌≡◌, ℕ, zero, suc, ◌+◌, ◌-◌, ◌<◌, ◌≤◌, List, [], refl, sym, ap, ◌∙◌, false, arith}
 use Rattle.std.proofs.lemmas.Bool.Decides.{nat_tests}
-use Rattle.std.specs.Prelude.{codes, nat_eq, IfSome}
-use Rattle.std.specs.Option.{option_map, option_map_or}
-use Rattle.store_cells.specs.declared.value.Value.{Value as StoreValue}
-use Rattle.store_cells.specs.Cells.{PlainCell}
+use Rattle.std.specs.Prelude.{codes, nat_eq}
 use Rattle.widget_meaning.specs.Values.{Value, Undefined}
 use Rattle.widget_meaning.specs.OwnState.{Pairs, State}
 use Rattle.widget_meaning.specs.NativeForms.{element}
 use Rattle.widget_meaning.specs.JsonTexts.{Written, Wrote, NoJson, and_write, elements_text, value_text, write}
-use Rattle.js_image.specs.Held.{ArePairs, IsFine}
 use Rattle.json_text.specs.Names.{comma}
-use Rattle.json_text.specs.Objects.{pairs_at}
 use Rattle.json_text.specs.Steps.{meant_step}
 use Rattle.json_text.specs.declared.steps.Step.{Step}
 use Rattle.json_text.proofs.Parts.{element_then}

@@ -3,7 +3,7 @@ use Rattle.std.proofs.Common.{◌≡◌, ℕ, ◌+◌, ◌<◌, List, [], ◌∷
 use Rattle.std.specs.Prelude.{nat_lt}
 use Rattle.widget_meaning.specs.Limits.{max_text}
 use Rattle.widget_meaning.specs.JsonTexts.{TooLong, Written, Wrote, quoted_text, write}
-use Rattle.json_text.specs.Names.{comma, inside, name_text}
+use Rattle.json_text.specs.Names.{inside}
 
 -- a text, unless it is too long
 abbrev whole : List ℕ → Written
