@@ -2,6 +2,5 @@ pub mod Stepping
 pub mod Gathered
 pub mod Manifests
 pub mod Shapes
-pub mod Pieces
 pub mod Telling
 pub mod Answering

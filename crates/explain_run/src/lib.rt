@@ -12,7 +12,6 @@ mod running;
 mod shown;
 mod steps;
 mod words;
-mod writing;
 
 pub use ending::Status;
 pub use running::{exit_number, run};

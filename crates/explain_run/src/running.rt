@@ -12,9 +12,8 @@ use crate::pages::tell;
 use crate::reading::{Stop, Why};
 use crate::refusals::Told;
 use crate::request::parse;
-use crate::writing::write_whole;
 use code_units::Memory;
-use host_io::{Files, Sink};
+use host_io::{Files, Sink, write_whole};
 use json_shapes::ShapeFault;
 use std::alloc::Global;
 

@@ -1,7 +1,6 @@
 mod ReadOne
 mod Replying
 mod Causes
-mod Pieces
 mod Words
 mod Opening
 mod Beginning

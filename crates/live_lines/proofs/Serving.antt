@@ -5,6 +5,7 @@ use Rattle.std.specs.List.{slice_get}
 use Rattle.std.specs.declared.alloc.Global.{Global}
 use Rattle.host_io.specs.Files.{FileMap}
 use Rattle.host_io.specs.Sink.{with_bytes}
+use Rattle.host_io.proofs.Pieces.{with_bytes-with_bytes}
 use Rattle.manifest_reader.specs.Page.{Part}
 use Rattle.run_steps.specs.declared.ending.Status.{Status}
 use Rattle.run_steps.specs.declared.ending.Status.TheVariants as status
@@ -15,7 +16,6 @@ use Rattle.live_text.specs.Answer.{full_text}
 use Rattle.page_live.specs.declared.session.Session.{Session}
 use Rattle.live_lines.specs.Transcript.{State, StandsAt, Answered, Answers, a_refusal, a_report, a_reply, too_long, no_json, no_request, Serves, no_line, a_line, Served, at_end, full, no_memory, not_read, not_written, not_shut, IsEnding, Closed, shut, no_room, cut, ending}
 use Rattle.page_live.proofs.Showing.{live_comes}
-use Rattle.live_lines.proofs.Pieces.{with_bytes-with_bytes}
 
 -- ## Lines that are cut
 

@@ -4,7 +4,6 @@
 mod answering;
 mod asking;
 mod living;
-mod writing;
 
 pub use answering::answer_line;
 pub use living::live;

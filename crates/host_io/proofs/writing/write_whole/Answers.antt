@@ -1,6 +1,6 @@
 use Rattle.std.proofs.Common.{◌-◌, ◌<◌, ◌∙◌, length, arith}
-use Rattle.adhost_run.proofs.Pieces.{piece_more, piece_len}
-use Rattle.adhost_run.proofs.writing.write_whole.Goals as goal
+use Rattle.host_io.proofs.Pieces.{piece_more, piece_len}
+use Rattle.host_io.proofs.writing.write_whole.Goals as goal
 
 pub pieces-preserved : goal.pieces-preserved
 pieces-preserved g c =
