@@ -6,7 +6,7 @@ use Rattle.widget_meaning.specs.Plan.{Plan, Job, Do, and_then}
 use Rattle.widget_meaning.specs.Meaning.{body, run_plan}
 use Rattle.widget_meaning.proofs.Runs.{and_then_assoc}
 use Rattle.plan_ends.specs.Ends.{Ends, Way, Yields, way_of}
-use Rattle.plan_ends.proofs.Jobs.{body_ends}
+use Rattle.plan_ends.proofs.KeptRows.{body_ends}
 use Rattle.plan_ends.proofs.Steps.{joined}
 use Rattle.js_flow.specs.Todo.{Strides}
 use Rattle.js_direct.specs.Reduces.{Reduces}

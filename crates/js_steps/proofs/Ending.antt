@@ -10,11 +10,7 @@ use Rattle.widget_meaning.specs.Plan as plan
 use Rattle.widget_meaning.specs.Plan.{Plan, Ret, Do, and_then, ticks, charge}
 use Rattle.plan_ends.specs.Ends.{ByValue, ByReference, Ends, Way, Yields, way_of}
 use Rattle.plan_ends.proofs.Steps.{chain, faulted, gave, halted, job as with_job, joined, passed, value as with_value}
-use Rattle.plan_ends.proofs.Forms.{to_primitive_ends}
-use Rattle.plan_ends.proofs.Natives.{make_array_ends, text_of_primitive_ends}
-use Rattle.plan_ends.proofs.Lists.{call_each_ends}
-use Rattle.plan_ends.proofs.Page.{each_called_ends, fired_ends}
-use Rattle.plan_ends.proofs.Jobs.{body_ends}
+use Rattle.plan_ends.proofs.KeptRows.{body_ends, to_primitive_ends, make_array_ends, text_of_primitive_ends, call_each_ends, each_called_ends, fired_ends}
 use Rattle.js_image.specs.Image.{Rest, image, no_rest, seen}
 use Rattle.js_image.specs.Plans.{meant_cause, meant_fault}
 use Rattle.js_values.specs.Answers.{gathered}

@@ -8,7 +8,7 @@ use Rattle.widget_meaning.specs.Values.{Normal}
 use Rattle.widget_meaning.specs.Plan.{Plan, Ret, and_then}
 use Rattle.widget_meaning.proofs.PlansHold.{plan_laws}
 use Rattle.plan_ends.specs.Ends.{ByValue, Yields, way_of}
-use Rattle.plan_ends.proofs.Jobs.{body_ends}
+use Rattle.plan_ends.proofs.KeptRows.{body_ends}
 use Rattle.plan_ends.proofs.Steps.{joined}
 use Rattle.js_image.specs.Image.{Rest, image, no_rest}
 use Rattle.js_values.specs.Fuel.{Fuel}

@@ -1,23 +1,12 @@
 -- How jobs end, and plans that are carried out.
-use Rattle.js_tree.specs.Plain as tree
 use Rattle.std.proofs.Common.{ℕ, zero, suc, Bool, true, false}
 use Rattle.std.specs.Prelude.{nat_lt, if◌then◌else◌}
 use Rattle.widget_meaning.specs.OwnState.{State}
-use Rattle.widget_meaning.specs.Plan.{Plan, Ret, Halt, Need, Tick, Do, Job, Eval, Target, Exec, Pass, Call, RunNative, Hear, and_then, Out, OutOfFuel}
+use Rattle.widget_meaning.specs.Plan.{Plan, Ret, Halt, Need, Tick, Do, Job, and_then, Out, OutOfFuel}
 use Rattle.widget_meaning.specs.Meaning.{body, run_plan, meaning}
 use Rattle.plan_ends.specs.Ends.{Way, EndsAs, Yields, way_of}
-use Rattle.plan_ends.proofs.Steps.{passed, job, anyhow, joined}
-use Rattle.plan_ends.proofs.Forms.{expression_ends, target_ends, invoke_ends, heard_ends}
-use Rattle.plan_ends.proofs.Page.{run_native_ends}
-
-pub body_ends : (j : Job) (s : State) → Yields (way_of j) (body j s)
-body_ends (Eval (tree.ExprAt at names form) p) s = expression_ends form p s
-body_ends (Target (tree.ExprAt at names form) p) s = target_ends form p s
-body_ends (Exec i p) s = anyhow (body (Exec i p) s)
-body_ends (Pass l p) s = anyhow (body (Pass l p) s)
-body_ends (Call f this vs d) s = invoke_ends f this vs d s
-body_ends (RunNative w this vs d) s = run_native_ends w this vs d s
-body_ends (Hear h) s = heard_ends h s
+use Rattle.plan_ends.proofs.Steps.{passed, job, joined}
+use Rattle.plan_ends.proofs.KeptRows.{body_ends}
 
 either_end : (way : Way) (b : Bool) (r q : Out) → EndsAs way r.how → EndsAs way q.how → EndsAs way (if b then r else q).how
 either_end way true r q h k = h

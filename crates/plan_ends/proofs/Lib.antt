@@ -1,9 +1,3 @@
 pub mod Steps
-pub mod Forms
-pub mod Natives
-pub mod Texts
-pub mod Lists
-pub mod Json
-pub mod Adsafe
-pub mod Page
+pub mod KeptRows
 pub mod Jobs

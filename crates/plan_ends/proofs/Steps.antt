@@ -1,11 +1,11 @@
--- How plans end: the steps of which plans are made.
-use Rattle.std.proofs.Common.{ℕ, zero, suc, List, Bool, true, false, length, Option, Some, None}
-use Rattle.std.specs.Prelude.{nat_lt, if◌then◌else◌}
-use Rattle.widget_meaning.specs.Limits.{max_cells, max_slots, max_units, max_nodes, max_text}
-use Rattle.widget_meaning.specs.Values.{StopCause, Units, Cells, Slots, Nodes, LongText, Value, Own, Completion, Normal, Is, Refers, Return, Break, Continue, Throw, Reference, Fault}
-use Rattle.widget_meaning.specs.OwnState.{Amounts, State, Cell, plain_object, with_new_cell}
-use Rattle.widget_meaning.specs.Plan.{Job, Plan, Ret, Halt, Need, Tick, Do, and_then, ticks, charge, on_value, on_reference}
-use Rattle.widget_meaning.specs.Costs.{sum, pay, make, make_text, throw, fault_pairs, object_cost, units_cost, or_throw, want, with_counts}
+-- How plans end: what plans keep where nothing is asked of states, and some steps of which plans are made.
+use Rattle.std.proofs.Common.{ℕ, length}
+use Rattle.widget_meaning.specs.Values.{StopCause, Value, Completion, Normal, Is, Refers, Return, Break, Continue, Throw, Fault}
+use Rattle.widget_meaning.specs.OwnState.{State}
+use Rattle.widget_meaning.specs.Plan.{Job, Plan, Ret, Halt, Need, Tick, Do, and_then, on_value, Eval, Target, Exec, Pass, Call, RunNative, Hear}
+use Rattle.widget_meaning.specs.Costs.{throw}
+use Rattle.widget_meaning.specs.Keeps.{Invariant, HoldsOf, JobOf, Keeps}
+use Rattle.widget_meaning.proofs.Keeping.{none, no_links, no_pages, faulted as fault_kept}
 use Rattle.plan_ends.specs.Ends.{Way, ByValue, ByReference, Anyhow, Ends, way_of, Yields}
 
 pub passed : (way : Way) (o : Completion) (s : State) → Ends way o → Yields way (Ret o s)
@@ -24,10 +24,6 @@ threw ByValue v s = tt
 threw ByReference v s = tt
 threw Anyhow v s = tt
 
-pub refers : (r : Reference) (s : State) → Yields ByReference (Ret (Refers r) s)
-unfolding Yields
-refers r s = tt
-
 pub halted : (way : Way) (c : StopCause) (s : State) → Yields way (Halt c s)
 unfolding Yields
 halted way c s = tt
@@ -36,18 +32,47 @@ pub job : (way : Way) (j : Job) (s : State) (k : Completion → State → Plan) 
 unfolding Yields
 job way j s k f = f
 
--- each plan ends anyhow
-pub anyhow : (p : Plan) → Yields Anyhow p
-unfolding Yields
-anyhow (Ret o s) = tt
-anyhow (Halt c s) = tt
-anyhow (Need c s p) = anyhow p
-anyhow (Tick s p) = anyhow p
-anyhow (Do j s k) = λ o t h. anyhow (k o t)
+-- nothing is asked of a state
+abbrev pub nothing : Invariant
+nothing = record {
+  Holds = λ c ts clock. Unit {0};
+  paid = λ c cost ts clock h f. tt;
+  started = λ c ts clock t h l d. tt;
+  links = no_links;
+  pages = no_pages;
+}
 
-pub either : (way : Way) (b : Bool) (p q : Plan) → Yields way p → Yields way q → Yields way (if b then p else q)
-either way true p q h k = h
-either way false p q h k = k
+pub any_state : (n : ℕ) (s : State) → HoldsOf nothing n s
+any_state n s = record { holds = tt; linked = tt; page = tt; wide = none (length s.own.scopes) }
+
+pub any_job : (n : ℕ) (j : Job) → JobOf nothing n j
+any_job n (Eval e p) = tt
+any_job n (Target e p) = tt
+any_job n (Exec i p) = tt
+any_job n (Pass l p) = tt
+any_job n (Call f this vs d) = tt
+any_job n (RunNative f this vs d) = tt
+any_job n (Hear h) = tt
+
+-- both are the same
+pub yields : (way : Way) (p : Plan) → Keeps nothing 0 way p → Yields way p
+unfolding Keeps Yields
+yields way (Ret o s) h = h.1
+yields way (Halt c s) h = tt
+yields way (Need c s p) h = yields way p h.1
+yields way (Tick s p) h = yields way p h.1
+yields way (Do j s k) h = λ o t e. yields way (k o t) (h.1.1 o t (any_state (length s.own.scopes) t) e)
+
+pub keeps : (way : Way) (p : Plan) → Yields way p → Keeps nothing 0 way p
+unfolding Keeps Yields
+keeps way (Ret o s) h = (any_state 0 s, h)
+keeps way (Halt c s) h = any_state 0 s
+keeps way (Need c s p) h = (any_state 0 s, keeps way p h)
+keeps way (Tick s p) h = (any_state 0 s, keeps way p h)
+keeps way (Do j s k) h = (any_state 0 s, (any_job (length s.own.scopes) j, λ o t u e. keeps way (k o t) (h o t e)))
+
+pub faulted : (way : Way) (e : Fault) (s : State) → Yields way (throw e s)
+faulted way e s = yields way (throw e s) (fault_kept nothing 0 way e s (any_state 0 s))
 
 pub value : (way : Way) (o : Completion) (s : State) (k : Value → Plan) → Ends ByValue o → ((v : Value) → Yields way (k v)) → Yields way (on_value o s k)
 value way (Is v) s k h f = f v
@@ -57,15 +82,6 @@ value way (Refers r) s k h f = absurd h
 value way (Return v) s k h f = absurd h
 value way Break s k h f = absurd h
 value way Continue s k h f = absurd h
-
-pub reference : (o : Completion) (s : State) (k : Reference → Plan) → Ends ByReference o → ((r : Reference) → Yields ByValue (k r)) → Yields ByValue (on_reference o s k)
-reference (Refers r) s k h f = f r
-reference (Is v) s k h f = gave ByValue v s
-reference (Throw v) s k h f = threw ByValue v s
-reference Normal s k h f = absurd h
-reference (Return v) s k h f = absurd h
-reference Break s k h f = absurd h
-reference Continue s k h f = absurd h
 
 -- one plan, and then another
 pub joined : (first way : Way) (p : Plan) (k : Completion → State → Plan) → Yields first p → ((o : Completion) (t : State) → Ends first o → Yields way (k o t)) → Yields way (and_then p k)
@@ -78,34 +94,3 @@ joined first way (Do j s m) k h f = λ o t e. joined first way (m o t) k (h o t 
 
 pub chain : (way : Way) (p : Plan) (k : Completion → State → Plan) → Yields ByValue p → ((o : Completion) (t : State) → Ends ByValue o → Yields way (k o t)) → Yields way (and_then p k)
 chain way p k h f = joined ByValue way p k h f
-
-ticked : (way : Way) (n : ℕ) (s : State) (p : Plan) → Yields way p → Yields way (ticks n s p)
-unfolding Yields
-ticked way zero s p h = h
-ticked way (suc n) s p h = ticked way n s p h
-
-pub charged : (way : Way) (n : ℕ) (s : State) (p : Plan) → Yields way p → Yields way (charge n s p)
-unfolding Yields
-charged way n s p h = ticked way n s p h
-
-pub paid : (way : Way) (c : Amounts) (s : State) (k : State → Plan) → ((t : State) → Yields way (k t)) → Yields way (pay c s k)
-paid way c s k f =
-    let b : Amounts = sum s.own.counts c in
-    either way (nat_lt max_units b.units) _ _ (halted way Units s) (either way (nat_lt max_cells b.cells) _ _ (halted way Cells s)
-    (either way (nat_lt max_slots b.slots) _ _ (halted way Slots s) (either way (nat_lt max_nodes b.nodes) _ _ (halted way Nodes s) (f (with_counts s b)))))
-
-pub made : (way : Way) (c : Cell) (n : ℕ) (s : State) (k : Value → State → Plan) → ((v : Value) (t : State) → Yields way (k v t)) → Yields way (make c n s k)
-made way c n s k f = paid way (object_cost n) s (λ t. k (Own (length t.own.heap)) (with_new_cell t c)) (λ t. f (Own (length t.own.heap)) (with_new_cell t c))
-
-pub made_text : (way : Way) (x : List ℕ) (s : State) (k : State → Plan) → ((t : State) → Yields way (k t)) → Yields way (make_text x s k)
-made_text way x s k f = either way (nat_lt max_text (length x)) _ _ (halted way LongText s) (paid way (units_cost (length x)) s k f)
-
-pub faulted : (way : Way) (e : Fault) (s : State) → Yields way (throw e s)
-faulted way e s = made way (plain_object (fault_pairs e)) 2 s (λ v t. Ret (Throw v) t) (λ v t. threw way v t)
-
-pub wanted : (way : Way) (e : Fault) (b : Bool) (s : State) (p : Plan) → Yields way p → Yields way (want e b s p)
-wanted way e b s p f = either way b p (throw e s) f (faulted way e s)
-
-pub found : {A : Type 0} (way : Way) (e : Fault) (o : Option A) (s : State) (k : A → Plan) → ((a : A) → Yields way (k a)) → Yields way (or_throw e o s k)
-found way e None s k f = faulted way e s
-found way e (Some a) s k f = f a

@@ -8,7 +8,7 @@ ghost use Rattle.plan_ends.specs.Ends.{ByValue, EndsAs, Way, Yields, way_of};
 
 /// What each job is after its unit ends in the way of the job: an expression, a call and a native by a
 /// value or a throw, a target by a reference too.
-#[tactic(auto, using(crate::proofs::Jobs::body_ends))]
+#[tactic(auto, using(crate::proofs::KeptRows::body_ends))]
 pub fn yields()
     ensures { (j : Job) (s : State) → Yields (way_of j) (body j s) }
 {}

@@ -15,9 +15,10 @@ use Rattle.widget_meaning.specs.Turns.{begun, turn, end_turn, noted, note_text}
 use Rattle.widget_meaning.specs.Dispatch.{nearest, dispatch}
 use Rattle.widget_meaning.specs.Items.{Event, Item, Occurs, Advance, item, item_at, live_item, stopped_item, occurs, if_heard, with_value, event_value, due_turns, unless_stopped, on_due, next_due, timer_turn, timer_plan, without_timer, resting}
 use Rattle.widget_meaning.specs.Alone.{Content, alone_from, beginning, loaded, load_library, library_turn, library_plan, go_turn, go_plan, call_parts}
+use Rattle.widget_meaning.specs.Ways.{ByValue}
 use Rattle.widget_meaning.specs.Keeps.{Invariant, HoldsOf, JobOf, Keeps, FitsLimits}
 use Rattle.widget_meaning.specs.Counts.{Risen, CountLaws}
-use Rattle.widget_meaning.proofs.Keeping.{no_links, no_pages}
+use Rattle.widget_meaning.proofs.Keeping.{none, no_links, no_pages}
 use Rattle.widget_meaning.proofs.KeepingRuns.{run_keeps, job_keeps}
 use Rattle.widget_meaning.proofs.KeepingForms.{dispatch_r}
 use Rattle.widget_meaning.proofs.KeepingJobs.{timer_plan_r, library_plan_r, go_plan_r}
@@ -42,7 +43,7 @@ counting start = record {
 }
 
 fine_counts : (start : Amounts) (s : State) → Risen start s.own.counts → HoldsOf (counting start) 0 s
-fine_counts start s h = record { holds = h; linked = tt; page = tt; wide = omega arith }
+fine_counts start s h = record { holds = h; linked = tt; page = tt; wide = none (length s.own.scopes) }
 
 module _ (start : Amounts) where
   -- a turn
@@ -81,8 +82,8 @@ module _ (start : Amounts) where
   end_r (Stopped c) s o h = h
   end_r OutOfFuel s o h = h
 
-  turn_r : (k : State → Plan) (o : OwnState) → Keeps (counting start) 0 (k (begun o)) → Risen start (turn k o).counts
-  turn_r k o f = end_r (run_plan o.grant (k (begun o))).how (run_plan o.grant (k (begun o))).state _ (run_keeps (counting start) 0 o.grant (k (begun o)) f).holds
+  turn_r : (k : State → Plan) (o : OwnState) → Keeps (counting start) 0 ByValue (k (begun o)) → Risen start (turn k o).counts
+  turn_r k o f = end_r (run_plan o.grant (k (begun o))).how (run_plan o.grant (k (begun o))).state _ (run_keeps (counting start) 0 ByValue o.grant (k (begun o)) f).holds
 
   -- items
   unless_r : (c : Option Stop) (o : OwnState) (f : OwnState → OwnState) → Risen start o.counts → ((p : OwnState) → Risen start p.counts → Risen start (f p).counts) → Risen start (unless_stopped c o f).counts
@@ -107,7 +108,7 @@ module _ (start : Amounts) where
   value_r (Some (ElementOf tag attrs)) n None o h = h
   value_r (Some (ElementOf tag attrs)) n (Some v) o h = choose _ _ o h h
 
-  heard_r : (x : Option (ℕ × List ℕ)) (k : State → Plan) (o : OwnState) → Risen start o.counts → Keeps (counting start) 0 (k (begun o)) → Risen start (if_heard x k o).counts
+  heard_r : (x : Option (ℕ × List ℕ)) (k : State → Plan) (o : OwnState) → Risen start o.counts → Keeps (counting start) 0 ByValue (k (begun o)) → Risen start (if_heard x k o).counts
   heard_r None k o h f = h
   heard_r (Some x) k o h f = turn_r k o f
 

@@ -5,8 +5,9 @@ use Rattle.std.specs.List.{fold}
 use Rattle.widget_meaning.specs.Values.{Value, Text}
 use Rattle.widget_meaning.specs.OwnState.{State, Cell, Kind, Object, Array, Function, Bunch, with_new_cell}
 use Rattle.widget_meaning.specs.JsonValues.{give_read, read_value, from_json, cells_at, items_at, members_at}
+use Rattle.widget_meaning.specs.Ways.{ByValue}
 use Rattle.widget_meaning.specs.Keeps.{Invariant, Keeps, OfFunction}
-use Rattle.widget_meaning.proofs.Keeping.{ended, halted, either, charged, paid, faulted, R, found, wanted, born}
+use Rattle.widget_meaning.proofs.Keeping.{halted, either, charged, paid, faulted, R, found, wanted, born, gave}
 
 -- none of these objects is a function
 abbrev pub NoFunctions : List Cell → Type 0
@@ -45,13 +46,13 @@ module _ (inv : Invariant) (many : ℕ) where
   cells_kept s [] hr h = hr
   cells_kept s (c ∷ cs) hr h = cells_kept (with_new_cell s c) cs (born inv many s.own.counts s.own.timers s.own.clock s.own.heap s.own.scopes s.own.forest (length s.own.kept) c hr (any_kind c.kind h.0)) h.1
 
-  pub give_read_r : (x0 : Bool) (x1 : Value) (x2 : List Cell) (x3 : List (List ℕ)) (x4 : State) → R inv many x4 → NoFunctions x2 → Keeps inv many (give_read x0 x1 x2 x3 x4)
+  pub give_read_r : (x0 : Bool) (x1 : Value) (x2 : List Cell) (x3 : List (List ℕ)) (x4 : State) → R inv many x4 → NoFunctions x2 → Keeps inv many ByValue (give_read x0 x1 x2 x3 x4)
   give_read_r false v cs ts s hr h = search (halted) depth 8 fits 4000
-  give_read_r true v cs ts s hr h = search (either, halted, paid, ended, cells_kept) depth 8 fits 4000
+  give_read_r true v cs ts s hr h = search (either, halted, paid, gave, cells_kept) depth 8 fits 4000
 
-  pub read_value_r : (x0 : ℕ) (x1 : json.Data) (x2 : List Cell) (x3 : Value) (x4 : State) → R inv many x4 → NoFunctions x2 → Keeps inv many (read_value x0 x1 x2 x3 x4)
+  pub read_value_r : (x0 : ℕ) (x1 : json.Data) (x2 : List Cell) (x3 : Value) (x4 : State) → R inv many x4 → NoFunctions x2 → Keeps inv many ByValue (read_value x0 x1 x2 x3 x4)
   read_value_r extra d cs v s hr h = search (wanted, charged, give_read_r)
 
-  pub from_json_r : (x0 : Value) (x1 : State) → R inv many x1 → Keeps inv many (from_json x0 x1)
+  pub from_json_r : (x0 : Value) (x1 : State) → R inv many x1 → Keeps inv many ByValue (from_json x0 x1)
   from_json_r (Text t) s hr = search (found, read_value_r, no_functions)
   from_json_r v s hr = search (faulted)

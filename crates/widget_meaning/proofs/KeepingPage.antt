@@ -8,7 +8,7 @@ use Rattle.std.specs.Prelude.{not, replicate, ℕ, ◌+◌, List, [], ◌∷◌,
 use Rattle.std.specs.List.{fold, filter}
 use Rattle.std.specs.Option.{option_map_or}
 use Rattle.permitted_table.specs.declared.native.NativeId.{NativeId}
-use Rattle.widget_meaning.specs.Values.{Value, Undefined, Own, Is, E4, E10, to_text, nth}
+use Rattle.widget_meaning.specs.Values.{Value, Undefined, Own, E4, E10, to_text, nth}
 use Rattle.plain_tree.specs.Trees.{Label, TextOf, End, Node, size}
 use Rattle.plain_tree.specs.Words.{is_event_type}
 use Rattle.tree_ops.specs.Trees.{relabelled}
@@ -23,8 +23,9 @@ use Rattle.widget_meaning.specs.BunchReads.{bunches_from, query, read_native, gi
 use Rattle.widget_meaning.specs.BunchWrites.{appended, write_native, alter, alter_for, append_trees, append, remove, replace, set_value, set_style, set_attribute, set_flag, focus, blur, listen, hush, fired, fire, each_called, each, write_method, with_copies, emptied, relabel, with_text_node, valued, alter_each, change_kept}
 use Rattle.widget_meaning.specs.DomNatives.{dom_native, give_node, dom_tag, append_to_root, dom_append}
 use Rattle.widget_meaning.specs.Natives.{run_family, run_native}
+use Rattle.widget_meaning.specs.Ways.{Way, ByValue}
 use Rattle.widget_meaning.specs.Keeps.{Invariant, Keeps}
-use Rattle.widget_meaning.proofs.Keeping.{ended, job, value, chain, charged, paid, made_text, faulted, R, found, wanted, born, paged}
+use Rattle.widget_meaning.proofs.Keeping.{job, value, chain, charged, paid, made_text, faulted, R, found, wanted, born, paged, gave}
 use Rattle.widget_meaning.proofs.KeepingAdsafe.{adsafe_native_r}
 use Rattle.widget_meaning.proofs.KeepingForms.{dispatch_r, bubble_r}
 use Rattle.widget_meaning.proofs.KeepingNatives.{give_texts_r, global_native_r, make_bunch_r, math_native_r, on_bunch_r, want_function_r, want_primitives_r}
@@ -125,134 +126,134 @@ module _ (inv : Invariant) (many : ℕ) where
   each_changed_kept : (f : Kept → Kept) (ns : List ℕ) (s : State) → R inv many s → R inv many (fold (change_kept f) s ns)
   each_changed_kept f ns s hr = fold_kept (change_kept f) (changed_kept f) ns s hr
 
-  pub want_bunch_r : (x0 : Value) (x1 : State) (x2 : (List ℕ → Plan)) → R inv many x1 → ((y0 : List ℕ) → Keeps inv many (x2 y0)) → Keeps inv many (want_bunch x0 x1 x2)
-  want_bunch_r v s k hr f0 = search (found)
+  pub want_bunch_r : (way : Way) (x0 : Value) (x1 : State) (x2 : (List ℕ → Plan)) → R inv many x1 → ((y0 : List ℕ) → Keeps inv many way (x2 y0)) → Keeps inv many way (want_bunch x0 x1 x2)
+  want_bunch_r way v s k hr f0 = search (found)
 
-  pub want_all_r : (x0 : (ℕ → Bool)) (x1 : List ℕ) (x2 : State) (x3 : Plan) → R inv many x2 → Keeps inv many x3 → Keeps inv many (want_all x0 x1 x2 x3)
-  want_all_r test ns s p hr f0 = search (wanted)
+  pub want_all_r : (way : Way) (x0 : (ℕ → Bool)) (x1 : List ℕ) (x2 : State) (x3 : Plan) → R inv many x2 → Keeps inv many way x3 → Keeps inv many way (want_all x0 x1 x2 x3)
+  want_all_r way test ns s p hr f0 = search (wanted)
 
-  pub want_one_r : (x0 : List ℕ) (x1 : State) (x2 : (ℕ → Plan)) → R inv many x1 → ((y0 : ℕ) → Keeps inv many (x2 y0)) → Keeps inv many (want_one x0 x1 x2)
-  want_one_r (n ∷ []) s k hr f0 = search
-  want_one_r ns s k hr f0 = search (faulted)
+  pub want_one_r : (way : Way) (x0 : List ℕ) (x1 : State) (x2 : (ℕ → Plan)) → R inv many x1 → ((y0 : ℕ) → Keeps inv many way (x2 y0)) → Keeps inv many way (want_one x0 x1 x2)
+  want_one_r way (n ∷ []) s k hr f0 = search
+  want_one_r way ns s k hr f0 = search (faulted)
 
-  pub give_page_text_r : (x0 : ℕ) (x1 : List ℕ) (x2 : State) → R inv many x2 → Keeps inv many (give_page_text x0 x1 x2)
-  give_page_text_r extra t s hr = search (charged, made_text, ended)
+  pub give_page_text_r : (x0 : ℕ) (x1 : List ℕ) (x2 : State) → R inv many x2 → Keeps inv many ByValue (give_page_text x0 x1 x2)
+  give_page_text_r extra t s hr = search (charged, made_text, gave)
 
-  pub query_steps_r : (x0 : Option (List Step)) (x1 : List ℕ) (x2 : State) → R inv many x2 → Keeps inv many (query_steps x0 x1 x2)
+  pub query_steps_r : (x0 : Option (List Step)) (x1 : List ℕ) (x2 : State) → R inv many x2 → Keeps inv many ByValue (query_steps x0 x1 x2)
   query_steps_r None ns s hr = search (faulted)
-  query_steps_r (Some qs) ns s hr = search (charged, make_bunch_r, ended)
+  query_steps_r (Some qs) ns s hr = search (charged, make_bunch_r, gave)
 
-  pub query_r : (x0 : List ℕ) (x1 : Value) (x2 : State) → R inv many x2 → Keeps inv many (query x0 x1 x2)
+  pub query_r : (x0 : List ℕ) (x1 : Value) (x2 : State) → R inv many x2 → Keeps inv many ByValue (query x0 x1 x2)
   query_r ns v s hr = search (want_primitives_r, query_steps_r)
 
-  pub get_value_r : (x0 : List ℕ) (x1 : State) → R inv many x1 → Keeps inv many (get_value x0 x1)
-  get_value_r [] s hr = search (ended)
+  pub get_value_r : (x0 : List ℕ) (x1 : State) → R inv many x1 → Keeps inv many ByValue (get_value x0 x1)
+  get_value_r [] s hr = search (gave)
   get_value_r (n ∷ ns) s hr = search (give_page_text_r)
 
-  pub get_values_r : (x0 : List ℕ) (x1 : State) → R inv many x1 → Keeps inv many (get_values x0 x1)
+  pub get_values_r : (x0 : List ℕ) (x1 : State) → R inv many x1 → Keeps inv many ByValue (get_values x0 x1)
   get_values_r ns s hr = search (charged, give_texts_r)
 
-  pub get_attribute_r : (x0 : List ℕ) (x1 : List ℕ) (x2 : State) → R inv many x2 → Keeps inv many (get_attribute x0 x1 x2)
+  pub get_attribute_r : (x0 : List ℕ) (x1 : List ℕ) (x2 : State) → R inv many x2 → Keeps inv many ByValue (get_attribute x0 x1 x2)
   get_attribute_r ns x s hr = search (give_page_text_r)
 
-  pub get_style_r : (x0 : List ℕ) (x1 : Value) (x2 : State) → R inv many x2 → Keeps inv many (get_style x0 x1 x2)
+  pub get_style_r : (x0 : List ℕ) (x1 : Value) (x2 : State) → R inv many x2 → Keeps inv many ByValue (get_style x0 x1 x2)
   get_style_r ns p s hr = search (want_primitives_r, wanted, give_page_text_r)
 
-  pub explode_r : (x0 : List ℕ) (x1 : State) → R inv many x1 → Keeps inv many (explode x0 x1)
-  explode_r ns s hr = search (charged, paid, ended, exploded_kept)
+  pub explode_r : (x0 : List ℕ) (x1 : State) → R inv many x1 → Keeps inv many ByValue (explode x0 x1)
+  explode_r ns s hr = search (charged, paid, gave, exploded_kept)
 
-  pub get_parent_r : (x0 : List ℕ) (x1 : State) → R inv many x1 → Keeps inv many (get_parent x0 x1)
-  get_parent_r ns s hr = search (want_all_r, charged, make_bunch_r, ended)
+  pub get_parent_r : (x0 : List ℕ) (x1 : State) → R inv many x1 → Keeps inv many ByValue (get_parent x0 x1)
+  get_parent_r ns s hr = search (want_all_r, charged, make_bunch_r, gave)
 
-  pub get_tag_name_r : (x0 : List ℕ) (x1 : State) → R inv many x1 → Keeps inv many (get_tag_name x0 x1)
-  get_tag_name_r [] s hr = search (ended)
+  pub get_tag_name_r : (x0 : List ℕ) (x1 : State) → R inv many x1 → Keeps inv many ByValue (get_tag_name x0 x1)
+  get_tag_name_r [] s hr = search (gave)
   get_tag_name_r (n ∷ ns) s hr = search (give_page_text_r)
 
-  pub read_method_r : (x0 : ReadNative) (x1 : List ℕ) (x2 : List Value) (x3 : State) → R inv many x3 → Keeps inv many (read_method x0 x1 x2 x3)
+  pub read_method_r : (x0 : ReadNative) (x1 : List ℕ) (x2 : List Value) (x3 : State) → R inv many x3 → Keeps inv many ByValue (read_method x0 x1 x2 x3)
   read_method_r Query ns vs s hr = search (query_r)
   read_method_r GetValue ns vs s hr = search (get_value_r)
   read_method_r GetValues ns vs s hr = search (get_values_r)
   read_method_r GetStyle ns vs s hr = search (get_style_r)
   read_method_r GetClass ns vs s hr = search (get_attribute_r)
   read_method_r GetTitle ns vs s hr = search (get_attribute_r)
-  read_method_r GetCheck ns vs s hr = search (charged, ended)
+  read_method_r GetCheck ns vs s hr = search (charged, gave)
   read_method_r Explode ns vs s hr = search (explode_r)
-  read_method_r Count ns vs s hr = search (charged, ended)
+  read_method_r Count ns vs s hr = search (charged, gave)
   read_method_r GetParent ns vs s hr = search (get_parent_r)
   read_method_r GetTagName ns vs s hr = search (get_tag_name_r)
   read_method_r GetMark ns vs s hr = search (give_page_text_r)
 
-  pub read_native_r : (x0 : ReadNative) (x1 : Option Value) (x2 : List Value) (x3 : ℕ) (x4 : State) → R inv many x4 → Keeps inv many (read_native x0 x1 x2 x3 x4)
+  pub read_native_r : (x0 : ReadNative) (x1 : Option Value) (x2 : List Value) (x3 : ℕ) (x4 : State) → R inv many x4 → Keeps inv many ByValue (read_native x0 x1 x2 x3 x4)
   read_native_r w this vs d s hr = search (on_bunch_r, read_method_r)
 
-  pub alter_r : (x0 : ℕ) (x1 : Value) (x2 : State) (x3 : (State → State)) → R inv many x2 → ((y0 : State) → R inv many y0 → R inv many (x3 y0)) → Keeps inv many (alter x0 x1 x2 x3)
-  alter_r extra b s f hr f0 = search (charged, ended)
+  pub alter_r : (x0 : ℕ) (x1 : Value) (x2 : State) (x3 : (State → State)) → R inv many x2 → ((y0 : State) → R inv many y0 → R inv many (x3 y0)) → Keeps inv many ByValue (alter x0 x1 x2 x3)
+  alter_r extra b s f hr f0 = search (charged, gave)
 
-  pub alter_for_r : (x0 : ℕ) (x1 : ℕ) (x2 : ℕ) (x3 : Value) (x4 : State) (x5 : (State → State)) → R inv many x4 → ((y0 : State) → R inv many y0 → R inv many (x5 y0)) → Keeps inv many (alter_for x0 x1 x2 x3 x4 x5)
-  alter_for_r extra units nodes b s f hr f0 = search (charged, paid, ended)
+  pub alter_for_r : (x0 : ℕ) (x1 : ℕ) (x2 : ℕ) (x3 : Value) (x4 : State) (x5 : (State → State)) → R inv many x4 → ((y0 : State) → R inv many y0 → R inv many (x5 y0)) → Keeps inv many ByValue (alter_for x0 x1 x2 x3 x4 x5)
+  alter_for_r extra units nodes b s f hr f0 = search (charged, paid, gave)
 
-  pub alter_each_r : (x0 : (State → ℕ → State)) (x1 : List ℕ) (x2 : Value) (x3 : State) → R inv many x3 → ((y0 : State) (y1 : ℕ) → R inv many y0 → R inv many (x0 y0 y1)) → Keeps inv many (alter_each x0 x1 x2 x3)
+  pub alter_each_r : (x0 : (State → ℕ → State)) (x1 : List ℕ) (x2 : Value) (x3 : State) → R inv many x3 → ((y0 : State) (y1 : ℕ) → R inv many y0 → R inv many (x0 y0 y1)) → Keeps inv many ByValue (alter_each x0 x1 x2 x3)
   alter_each_r f ns b s hr f0 = alter_r (length ns) b s (λ t. fold f t ns) hr (λ t k. fold_kept f f0 ns t k)
 
-  each_change_r : (f : Kept → Kept) (ns : List ℕ) (b : Value) (s : State) → R inv many s → Keeps inv many (alter_each (change_kept f) ns b s)
+  each_change_r : (f : Kept → Kept) (ns : List ℕ) (b : Value) (s : State) → R inv many s → Keeps inv many ByValue (alter_each (change_kept f) ns b s)
   each_change_r f ns b s hr = alter_each_r (change_kept f) ns b s hr (changed_kept f)
 
-  pub append_trees_r : (x0 : List ℕ) (x1 : List ℕ) (x2 : Trees) (x3 : Value) (x4 : State) → R inv many x4 → Keeps inv many (append_trees x0 x1 x2 x3 x4)
+  pub append_trees_r : (x0 : List ℕ) (x1 : List ℕ) (x2 : Trees) (x3 : Value) (x4 : State) → R inv many x4 → Keeps inv many ByValue (append_trees x0 x1 x2 x3 x4)
   append_trees_r ns ms us b s hr = search (alter_for_r, appended_kept)
 
-  pub append_r : (x0 : List ℕ) (x1 : Value) (x2 : Value) (x3 : State) → R inv many x3 → Keeps inv many (append x0 x1 x2 x3)
+  pub append_r : (x0 : List ℕ) (x1 : Value) (x2 : Value) (x3 : State) → R inv many x3 → Keeps inv many ByValue (append x0 x1 x2 x3)
   append_r ns v b s hr = search (want_bunch_r, want_all_r, append_trees_r)
 
-  pub remove_r : (x0 : List ℕ) (x1 : Value) (x2 : State) → R inv many x2 → Keeps inv many (remove x0 x1 x2)
-  remove_r ns b s hr = want_all_r _ ns s _ hr (alter_each_r (λ t n. with_forest t (detached t.own.forest n)) ns b s hr removed_kept)
+  pub remove_r : (x0 : List ℕ) (x1 : Value) (x2 : State) → R inv many x2 → Keeps inv many ByValue (remove x0 x1 x2)
+  remove_r ns b s hr = want_all_r ByValue _ ns s _ hr (alter_each_r (λ t n. with_forest t (detached t.own.forest n)) ns b s hr removed_kept)
 
-  pub replace_r : (x0 : List ℕ) (x1 : Value) (x2 : Value) (x3 : State) → R inv many x3 → Keeps inv many (replace x0 x1 x2 x3)
+  pub replace_r : (x0 : List ℕ) (x1 : Value) (x2 : Value) (x3 : State) → R inv many x3 → Keeps inv many ByValue (replace x0 x1 x2 x3)
   replace_r ns v b s hr =
-      want_one_r ns s _ hr (λ n. want_bunch_r v s _ hr (λ ms. found inv many E10 (parent n s.own.forest) s _ hr (λ p. wanted inv many E10 _ s _ hr
+      want_one_r ByValue ns s _ hr (λ n. want_bunch_r ByValue v s _ hr (λ ms. found inv many ByValue E10 (parent n s.own.forest) s _ hr (λ p. wanted inv many ByValue E10 _ s _ hr
       (alter_r 1 b s (λ t. with_forest t (detached (fold (moved p (Some n)) t.own.forest ms) n)) hr (replaced_kept p n ms)))))
 
-  pub set_value_r : (x0 : List ℕ) (x1 : List ℕ) (x2 : Value) (x3 : State) → R inv many x3 → Keeps inv many (set_value x0 x1 x2 x3)
+  pub set_value_r : (x0 : List ℕ) (x1 : List ℕ) (x2 : Value) (x3 : State) → R inv many x3 → Keeps inv many ByValue (set_value x0 x1 x2 x3)
   set_value_r ns t b s hr = search (want_all_r, alter_for_r, each_valued_kept)
 
-  pub set_style_r : (x0 : List ℕ) (x1 : List ℕ) (x2 : List ℕ) (x3 : Value) (x4 : State) → R inv many x4 → Keeps inv many (set_style x0 x1 x2 x3 x4)
+  pub set_style_r : (x0 : List ℕ) (x1 : List ℕ) (x2 : List ℕ) (x3 : Value) (x4 : State) → R inv many x4 → Keeps inv many ByValue (set_style x0 x1 x2 x3 x4)
   set_style_r ns p v b s hr = search (wanted, want_all_r, alter_for_r, each_relabelled_kept)
 
-  pub set_attribute_r : (x0 : List ℕ) (x1 : List ℕ) (x2 : List ℕ) (x3 : Value) (x4 : State) → R inv many x4 → Keeps inv many (set_attribute x0 x1 x2 x3 x4)
+  pub set_attribute_r : (x0 : List ℕ) (x1 : List ℕ) (x2 : List ℕ) (x3 : Value) (x4 : State) → R inv many x4 → Keeps inv many ByValue (set_attribute x0 x1 x2 x3 x4)
   set_attribute_r ns x v b s hr = search (want_all_r, alter_for_r, each_relabelled_kept)
 
-  pub set_flag_r : (x0 : (ℕ → Bool)) (x1 : List ℕ) (x2 : List ℕ) (x3 : Bool) (x4 : Value) (x5 : State) → R inv many x5 → Keeps inv many (set_flag x0 x1 x2 x3 x4 x5)
+  pub set_flag_r : (x0 : (ℕ → Bool)) (x1 : List ℕ) (x2 : List ℕ) (x3 : Bool) (x4 : Value) (x5 : State) → R inv many x5 → Keeps inv many ByValue (set_flag x0 x1 x2 x3 x4 x5)
   set_flag_r test ns x is_set b s hr = search (want_all_r, alter_each_r, relabel_kept)
 
-  pub focus_r : (x0 : List ℕ) (x1 : Value) (x2 : State) → R inv many x2 → Keeps inv many (focus x0 x1 x2)
+  pub focus_r : (x0 : List ℕ) (x1 : Value) (x2 : State) → R inv many x2 → Keeps inv many ByValue (focus x0 x1 x2)
   focus_r ns b s hr = search (want_one_r, alter_r)
 
-  pub blur_r : (x0 : List ℕ) (x1 : Value) (x2 : State) → R inv many x2 → Keeps inv many (blur x0 x1 x2)
+  pub blur_r : (x0 : List ℕ) (x1 : Value) (x2 : State) → R inv many x2 → Keeps inv many ByValue (blur x0 x1 x2)
   blur_r ns b s hr = search (alter_r)
 
-  pub listen_r : (x0 : List ℕ) (x1 : List ℕ) (x2 : Value) (x3 : Value) (x4 : State) → R inv many x4 → Keeps inv many (listen x0 x1 x2 x3 x4)
-  listen_r ns t f b s hr = search (wanted, want_function_r, charged, paid, ended, each_changed_kept) depth 8 fits 4000
+  pub listen_r : (x0 : List ℕ) (x1 : List ℕ) (x2 : Value) (x3 : Value) (x4 : State) → R inv many x4 → Keeps inv many ByValue (listen x0 x1 x2 x3 x4)
+  listen_r ns t f b s hr = search (wanted, want_function_r, charged, paid, gave, each_changed_kept) depth 8 fits 4000
 
-  pub hush_r : (x0 : List ℕ) (x1 : Value) (x2 : Value) (x3 : State) → R inv many x3 → Keeps inv many (hush x0 x1 x2 x3)
+  pub hush_r : (x0 : List ℕ) (x1 : Value) (x2 : Value) (x3 : State) → R inv many x3 → Keeps inv many ByValue (hush x0 x1 x2 x3)
   hush_r ns Undefined b s hr = each_change_r (λ k. record k { handlers = [] }) ns b s hr
   hush_r ns v b s hr =
-      want_primitives_r inv many (v ∷ []) s _ hr (wanted inv many E4 (is_event_type (to_text v)) s _ hr
+      want_primitives_r inv many ByValue (v ∷ []) s _ hr (wanted inv many ByValue E4 (is_event_type (to_text v)) s _ hr
       (each_change_r (λ k. record k { handlers = filter (λ h. not (bytes_eq h.kind (to_text v))) k.handlers }) ns b s hr))
 
-  pub fired_r : (x0 : List ℕ) (x1 : List ℕ) (x2 : Value) (x3 : ℕ) (x4 : State) → R inv many x4 → Keeps inv many (fired x0 x1 x2 x3 x4)
-  fired_r t [] b d s hr = ended inv many _ s hr
-  fired_r t (n ∷ ns) b d s hr = chain inv many _ _ (dispatch_r inv many t n Undefined d s hr) (λ o u v. value inv many o u _ v (λ w. fired_r t ns b d u v))
+  pub fired_r : (x0 : List ℕ) (x1 : List ℕ) (x2 : Value) (x3 : ℕ) (x4 : State) → R inv many x4 → Keeps inv many ByValue (fired x0 x1 x2 x3 x4)
+  fired_r t [] b d s hr = gave inv many ByValue _ s hr
+  fired_r t (n ∷ ns) b d s hr = chain inv many ByValue _ _ (dispatch_r inv many t n Undefined d s hr) (λ o u v e. value inv many ByValue o u _ v e (λ w. fired_r t ns b d u v))
 
-  pub fire_r : (x0 : List ℕ) (x1 : List ℕ) (x2 : Value) (x3 : ℕ) (x4 : State) → R inv many x4 → Keeps inv many (fire x0 x1 x2 x3 x4)
+  pub fire_r : (x0 : List ℕ) (x1 : List ℕ) (x2 : Value) (x3 : ℕ) (x4 : State) → R inv many x4 → Keeps inv many ByValue (fire x0 x1 x2 x3 x4)
   fire_r ns t b d s hr = search (wanted, charged, fired_r)
 
-  pub each_called_r : (x0 : Value) (x1 : List Value) (x2 : Value) (x3 : ℕ) (x4 : State) → R inv many x4 → Keeps inv many (each_called x0 x1 x2 x3 x4)
-  each_called_r f [] b d s hr = ended inv many _ s hr
-  each_called_r f (v ∷ vs) b d s hr = job inv many _ s _ hr tt (λ o t u. value inv many o t _ u (λ w. each_called_r f vs b d t u))
+  pub each_called_r : (x0 : Value) (x1 : List Value) (x2 : Value) (x3 : ℕ) (x4 : State) → R inv many x4 → Keeps inv many ByValue (each_called x0 x1 x2 x3 x4)
+  each_called_r f [] b d s hr = gave inv many ByValue _ s hr
+  each_called_r f (v ∷ vs) b d s hr = job inv many ByValue _ s _ hr tt (λ o t u e. value inv many ByValue o t _ u e (λ w. each_called_r f vs b d t u))
 
-  pub each_r : (x0 : List ℕ) (x1 : Value) (x2 : Value) (x3 : ℕ) (x4 : State) → R inv many x4 → Keeps inv many (each x0 x1 x2 x3 x4)
+  pub each_r : (x0 : List ℕ) (x1 : Value) (x2 : Value) (x3 : ℕ) (x4 : State) → R inv many x4 → Keeps inv many ByValue (each x0 x1 x2 x3 x4)
   each_r ns f b d s hr = search (want_function_r, charged, paid, each_called_r, bunches_kept) depth 8 fits 4000
 
-  pub write_method_r : (x0 : WriteNative) (x1 : List ℕ) (x2 : Value) (x3 : List Value) (x4 : ℕ) (x5 : State) → R inv many x5 → Keeps inv many (write_method x0 x1 x2 x3 x4 x5)
+  pub write_method_r : (x0 : WriteNative) (x1 : List ℕ) (x2 : Value) (x3 : List Value) (x4 : ℕ) (x5 : State) → R inv many x5 → Keeps inv many ByValue (write_method x0 x1 x2 x3 x4 x5)
   write_method_r Append ns b vs d s hr = search (append_r)
   write_method_r Remove ns b vs d s hr = search (remove_r)
   write_method_r Empty ns b vs d s hr = alter_each_r emptied ns b s hr emptied_kept
@@ -270,40 +271,40 @@ module _ (inv : Invariant) (many : ℕ) where
   write_method_r Fire ns b vs d s hr = search (want_primitives_r, fire_r)
   write_method_r Each ns b vs d s hr = search (each_r)
   write_method_r SetMark ns b vs d s hr =
-      want_primitives_r inv many (nth 0 vs ∷ []) s _ hr (each_change_r (λ k. record k { mark = to_text (nth 0 vs) }) ns b s hr)
+      want_primitives_r inv many ByValue (nth 0 vs ∷ []) s _ hr (each_change_r (λ k. record k { mark = to_text (nth 0 vs) }) ns b s hr)
   write_method_r Protect ns b vs d s hr = each_change_r (λ k. record k { is_protected = true }) ns b s hr
 
-  pub write_native_r : (x0 : WriteNative) (x1 : Option Value) (x2 : List Value) (x3 : ℕ) (x4 : State) → R inv many x4 → Keeps inv many (write_native x0 x1 x2 x3 x4)
+  pub write_native_r : (x0 : WriteNative) (x1 : Option Value) (x2 : List Value) (x3 : ℕ) (x4 : State) → R inv many x4 → Keeps inv many ByValue (write_native x0 x1 x2 x3 x4)
   write_native_r w this vs d s hr = search (on_bunch_r, write_method_r)
 
-  pub give_node_r : (x0 : Label) (x1 : ℕ) (x2 : State) → R inv many x2 → Keeps inv many (give_node x0 x1 x2)
+  pub give_node_r : (x0 : Label) (x1 : ℕ) (x2 : State) → R inv many x2 → Keeps inv many ByValue (give_node x0 x1 x2)
   give_node_r l units s hr =
-      paid inv many (cost units 1 2 1) s (λ t. give (Own (length t.own.heap)) (with_new_cell (with_node l t) (new_bunch (next_node t ∷ [])))) hr
+      paid inv many ByValue (cost units 1 2 1) s (λ t. give (Own (length t.own.heap)) (with_new_cell (with_node l t) (new_bunch (next_node t ∷ [])))) hr
       (λ a u. let t : State = with_node l (with_counts s a) in
-      ended inv many (Is (Own (length s.own.heap))) (with_new_cell t (new_bunch (length s.own.kept ∷ [])))
+      gave inv many ByValue (Own (length s.own.heap)) (with_new_cell t (new_bunch (length s.own.kept ∷ [])))
       (born inv many a s.own.timers s.own.clock s.own.heap s.own.scopes t.own.forest (length t.own.kept) (new_bunch (length s.own.kept ∷ [])) (node_kept l (with_counts s a) u) tt))
 
-  pub dom_tag_r : (x0 : List ℕ) (x1 : List (List ℕ)) (x2 : State) → R inv many x2 → Keeps inv many (dom_tag x0 x1 x2)
+  pub dom_tag_r : (x0 : List ℕ) (x1 : List (List ℕ)) (x2 : State) → R inv many x2 → Keeps inv many ByValue (dom_tag x0 x1 x2)
   dom_tag_r tag v s hr = search (wanted, give_node_r)
 
-  pub append_to_root_r : (x0 : List ℕ) (x1 : State) → R inv many x1 → Keeps inv many (append_to_root x0 x1)
+  pub append_to_root_r : (x0 : List ℕ) (x1 : State) → R inv many x1 → Keeps inv many ByValue (append_to_root x0 x1)
   append_to_root_r ms s hr =
-      charged inv many (size (subtrees ms s.own.forest)) s _ hr
-      (paid inv many (cost 0 1 2 0) s (λ t. give (Own (length t.own.heap)) (with_new_cell (appended (root ∷ []) ms t) (new_bunch (root ∷ [])))) hr
+      charged inv many ByValue (size (subtrees ms s.own.forest)) s _ hr
+      (paid inv many ByValue (cost 0 1 2 0) s (λ t. give (Own (length t.own.heap)) (with_new_cell (appended (root ∷ []) ms t) (new_bunch (root ∷ [])))) hr
       (λ a u. let t : State = appended (root ∷ []) ms (with_counts s a) in
-      ended inv many (Is (Own (length s.own.heap))) (with_new_cell t (new_bunch (root ∷ [])))
+      gave inv many ByValue (Own (length s.own.heap)) (with_new_cell t (new_bunch (root ∷ [])))
       (born inv many a s.own.timers s.own.clock s.own.heap s.own.scopes t.own.forest (length s.own.kept) (new_bunch (root ∷ [])) (appended_kept (root ∷ []) ms (with_counts s a) u) tt)))
 
-  pub dom_append_r : (x0 : Value) (x1 : State) → R inv many x1 → Keeps inv many (dom_append x0 x1)
+  pub dom_append_r : (x0 : Value) (x1 : State) → R inv many x1 → Keeps inv many ByValue (dom_append x0 x1)
   dom_append_r v s hr = search (want_bunch_r, want_all_r, append_to_root_r)
 
-  pub dom_native_r : (x0 : DomNative) (x1 : Option Value) (x2 : List Value) (x3 : ℕ) (x4 : State) → R inv many x4 → Keeps inv many (dom_native x0 x1 x2 x3 x4)
+  pub dom_native_r : (x0 : DomNative) (x1 : Option Value) (x2 : List Value) (x3 : ℕ) (x4 : State) → R inv many x4 → Keeps inv many ByValue (dom_native x0 x1 x2 x3 x4)
   dom_native_r DomQuery this vs d s hr = search (query_r)
   dom_native_r DomAppend this vs d s hr = search (dom_append_r)
   dom_native_r DomTag this vs d s hr = search (want_primitives_r, dom_tag_r)
   dom_native_r DomText this vs d s hr = search (want_primitives_r, give_node_r)
 
-  pub run_family_r : (x0 : Family) (x1 : Option Value) (x2 : List Value) (x3 : ℕ) (x4 : State) → R inv many x4 → Keeps inv many (run_family x0 x1 x2 x3 x4)
+  pub run_family_r : (x0 : Family) (x1 : Option Value) (x2 : List Value) (x3 : ℕ) (x4 : State) → R inv many x4 → Keeps inv many ByValue (run_family x0 x1 x2 x3 x4)
   run_family_r (OfGlobal w) this vs d s hr = search (global_native_r)
   run_family_r (OfMath w) this vs d s hr = search (math_native_r)
   run_family_r (OfPrototype w) this vs d s hr = search (prototype_native_r)
@@ -315,5 +316,5 @@ module _ (inv : Invariant) (many : ℕ) where
   run_family_r (OfWrite w) this vs d s hr = search (write_native_r)
   run_family_r OfEvent this vs d s hr = search (bubble_r)
 
-  pub run_native_r : (x0 : NativeId) (x1 : Option Value) (x2 : List Value) (x3 : ℕ) (x4 : State) → R inv many x4 → Keeps inv many (run_native x0 x1 x2 x3 x4)
+  pub run_native_r : (x0 : NativeId) (x1 : Option Value) (x2 : List Value) (x3 : ℕ) (x4 : State) → R inv many x4 → Keeps inv many ByValue (run_native x0 x1 x2 x3 x4)
   run_native_r w this vs d s hr = run_family_r (family_of w) this vs d s hr

@@ -5,37 +5,38 @@ use Rattle.widget_meaning.specs.NativeNames.{TextNative, CharAt, CharCodeAt, Tex
 use Rattle.widget_meaning.specs.Values.{Value, Undefined}
 use Rattle.widget_meaning.specs.OwnState.{State}
 use Rattle.widget_meaning.specs.TextNatives.{char_at, char_code_at, text_concat, index_of, last_index_of, text_slice, substring, split, text_method, text_native}
+use Rattle.widget_meaning.specs.Ways.{ByValue}
 use Rattle.widget_meaning.specs.Keeps.{Invariant, Keeps}
-use Rattle.widget_meaning.proofs.Keeping.{ended, charged, R}
+use Rattle.widget_meaning.proofs.Keeping.{charged, R, gave}
 use Rattle.widget_meaning.proofs.KeepingNatives.{give_text_r, give_texts_r, make_array_r, on_text_r, want_primitives_r, with_number_or_r, with_number_r, with_optional_r}
 
 module _ (inv : Invariant) (many : ℕ) where
-  pub char_at_r : (x0 : List ℕ) (x1 : Value) (x2 : State) → R inv many x2 → Keeps inv many (char_at x0 x1 x2)
+  pub char_at_r : (x0 : List ℕ) (x1 : Value) (x2 : State) → R inv many x2 → Keeps inv many ByValue (char_at x0 x1 x2)
   char_at_r t i s hr = search (want_primitives_r, with_number_r, give_text_r)
 
-  pub char_code_at_r : (x0 : List ℕ) (x1 : Value) (x2 : State) → R inv many x2 → Keeps inv many (char_code_at x0 x1 x2)
-  char_code_at_r t i s hr = search (want_primitives_r, with_number_r, charged, ended)
+  pub char_code_at_r : (x0 : List ℕ) (x1 : Value) (x2 : State) → R inv many x2 → Keeps inv many ByValue (char_code_at x0 x1 x2)
+  char_code_at_r t i s hr = search (want_primitives_r, with_number_r, charged, gave)
 
-  pub text_concat_r : (x0 : List ℕ) (x1 : List Value) (x2 : State) → R inv many x2 → Keeps inv many (text_concat x0 x1 x2)
+  pub text_concat_r : (x0 : List ℕ) (x1 : List Value) (x2 : State) → R inv many x2 → Keeps inv many ByValue (text_concat x0 x1 x2)
   text_concat_r t vs s hr = search (want_primitives_r, give_text_r)
 
-  pub index_of_r : (x0 : List ℕ) (x1 : Value) (x2 : Value) (x3 : State) → R inv many x3 → Keeps inv many (index_of x0 x1 x2 x3)
-  index_of_r t x from s hr = search (want_primitives_r, with_number_r, charged, ended)
+  pub index_of_r : (x0 : List ℕ) (x1 : Value) (x2 : Value) (x3 : State) → R inv many x3 → Keeps inv many ByValue (index_of x0 x1 x2 x3)
+  index_of_r t x from s hr = search (want_primitives_r, with_number_r, charged, gave)
 
-  pub last_index_of_r : (x0 : List ℕ) (x1 : Value) (x2 : Value) (x3 : State) → R inv many x3 → Keeps inv many (last_index_of x0 x1 x2 x3)
-  last_index_of_r t x from s hr = search (want_primitives_r, with_number_or_r, charged, ended)
+  pub last_index_of_r : (x0 : List ℕ) (x1 : Value) (x2 : Value) (x3 : State) → R inv many x3 → Keeps inv many ByValue (last_index_of x0 x1 x2 x3)
+  last_index_of_r t x from s hr = search (want_primitives_r, with_number_or_r, charged, gave)
 
-  pub text_slice_r : (x0 : List ℕ) (x1 : Value) (x2 : Value) (x3 : State) → R inv many x3 → Keeps inv many (text_slice x0 x1 x2 x3)
+  pub text_slice_r : (x0 : List ℕ) (x1 : Value) (x2 : Value) (x3 : State) → R inv many x3 → Keeps inv many ByValue (text_slice x0 x1 x2 x3)
   text_slice_r t a b s hr = search (want_primitives_r, with_number_r, with_optional_r, give_text_r)
 
-  pub substring_r : (x0 : List ℕ) (x1 : Value) (x2 : Value) (x3 : State) → R inv many x3 → Keeps inv many (substring x0 x1 x2 x3)
+  pub substring_r : (x0 : List ℕ) (x1 : Value) (x2 : Value) (x3 : State) → R inv many x3 → Keeps inv many ByValue (substring x0 x1 x2 x3)
   substring_r t a b s hr = search (want_primitives_r, with_number_r, with_optional_r, give_text_r)
 
-  pub split_r : (x0 : List ℕ) (x1 : Value) (x2 : State) → R inv many x2 → Keeps inv many (split x0 x1 x2)
-  split_r t Undefined s hr = search (charged, make_array_r, ended)
+  pub split_r : (x0 : List ℕ) (x1 : Value) (x2 : State) → R inv many x2 → Keeps inv many ByValue (split x0 x1 x2)
+  split_r t Undefined s hr = search (charged, make_array_r, gave)
   split_r t x s hr = search (want_primitives_r, charged, give_texts_r)
 
-  pub text_method_r : (x0 : TextNative) (x1 : List ℕ) (x2 : List Value) (x3 : State) → R inv many x3 → Keeps inv many (text_method x0 x1 x2 x3)
+  pub text_method_r : (x0 : TextNative) (x1 : List ℕ) (x2 : List Value) (x3 : State) → R inv many x3 → Keeps inv many ByValue (text_method x0 x1 x2 x3)
   text_method_r CharAt t vs s hr = search (char_at_r)
   text_method_r CharCodeAt t vs s hr = search (char_code_at_r)
   text_method_r TextConcat t vs s hr = search (text_concat_r)
@@ -47,5 +48,5 @@ module _ (inv : Invariant) (many : ℕ) where
   text_method_r ToLowerCase t vs s hr = search (give_text_r)
   text_method_r ToUpperCase t vs s hr = search (give_text_r)
 
-  pub text_native_r : (x0 : TextNative) (x1 : Option Value) (x2 : List Value) (x3 : State) → R inv many x3 → Keeps inv many (text_native x0 x1 x2 x3)
+  pub text_native_r : (x0 : TextNative) (x1 : Option Value) (x2 : List Value) (x3 : State) → R inv many x3 → Keeps inv many ByValue (text_native x0 x1 x2 x3)
   text_native_r w this vs s hr = search (on_text_r, text_method_r)

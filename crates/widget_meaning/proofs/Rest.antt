@@ -1,5 +1,5 @@
 -- What objects and scopes, and what the page is, stays so over turns, items and the load.
-use Rattle.std.proofs.Common.{ℕ, zero, suc, ◌+◌, List, [], ◌∷◌, length, Bool, true, false, arith}
+use Rattle.std.proofs.Common.{ℕ, zero, suc, ◌+◌, ◌≤◌, List, [], ◌∷◌, length, Bool, true, false, arith}
 use Rattle.std.specs.Prelude.{codes, nat_lt, if◌then◌else◌, Option, Some, None}
 use Rattle.std.specs.List.{fold}
 use Rattle.js_tree.specs.Plain.{Stmts, Fun}
@@ -15,6 +15,7 @@ use Rattle.widget_meaning.specs.Turns.{begun, turn, end_turn, noted, note_text}
 use Rattle.widget_meaning.specs.Dispatch.{nearest, dispatch}
 use Rattle.widget_meaning.specs.Items.{Event, Item, Occurs, Advance, item, item_at, live_item, occurs, if_heard, with_value, event_value, due_turns, unless_stopped, on_due, next_due, timer_turn, timer_plan, without_timer, resting}
 use Rattle.widget_meaning.specs.Alone.{Content, alone_from, beginning, loaded, load_library, library_turn, library_plan, go_turn, go_plan, call_parts}
+use Rattle.widget_meaning.specs.Ways.{ByValue}
 use Rattle.widget_meaning.specs.Keeps.{Links, Pages, Invariant, HoldsOf, Keeps}
 use Rattle.widget_meaning.proofs.KeepingRuns.{run_keeps}
 use Rattle.widget_meaning.proofs.KeepingForms.{dispatch_r}
@@ -30,6 +31,9 @@ standing lk pg = record {
   pages = pg;
 }
 
+from_none : (m n : ℕ) → m ≤ 0 → m ≤ n
+from_none m n h = omega arith
+
 -- of an own state
 pub record Stands (lk : Links) (pg : Pages) (hs : List Cell) (cs : List Scope) (ts : Trees) (k : ℕ) : Type 0 where
   pub linked : lk.Linked hs cs
@@ -43,7 +47,7 @@ module _ (lk : Links) (pg : Pages) where
   Of o = Stands lk pg o.heap o.scopes o.forest (length o.kept)
 
   pub fine : (s : State) → Of s.own → HoldsOf inv 0 s
-  fine s h = record { holds = tt; linked = h.linked; page = h.page; wide = omega arith }
+  fine s h = record { holds = tt; linked = h.linked; page = h.page; wide = from_none (lk.asked 0) (length s.own.scopes) (lk.enough 0) }
 
   -- turns
   choose : (b : Bool) (o p : OwnState) → Of o → Of p → Of (if b then o else p)
@@ -64,9 +68,9 @@ module _ (lk : Links) (pg : Pages) where
   end_r (Stopped c) s o h = h
   end_r OutOfFuel s o h = h
 
-  turn_r : (k : State → Plan) (o : OwnState) → Keeps inv 0 (k (begun o)) → Of (turn k o)
+  turn_r : (k : State → Plan) (o : OwnState) → Keeps inv 0 ByValue (k (begun o)) → Of (turn k o)
   turn_r k o f =
-      let h : HoldsOf inv 0 (run_plan o.grant (k (begun o))).state = run_keeps inv 0 o.grant (k (begun o)) f in
+      let h : HoldsOf inv 0 (run_plan o.grant (k (begun o))).state = run_keeps inv 0 ByValue o.grant (k (begun o)) f in
       end_r (run_plan o.grant (k (begun o))).how (run_plan o.grant (k (begun o))).state _ (record { linked = h.linked; page = h.page })
 
   -- items
@@ -89,7 +93,7 @@ module _ (lk : Links) (pg : Pages) where
   value_r (Some (ElementOf tag attrs)) n (Some v) o h =
       choose _ _ o (record { linked = h.linked; page = pg.labelled o.forest (length o.kept) n (with_attribute (codes "value") (Some v) (ElementOf tag attrs)) h.page }) h
 
-  heard_r : (x : Option (ℕ × List ℕ)) (k : State → Plan) (o : OwnState) → Of o → Keeps inv 0 (k (begun o)) → Of (if_heard x k o)
+  heard_r : (x : Option (ℕ × List ℕ)) (k : State → Plan) (o : OwnState) → Of o → Keeps inv 0 ByValue (k (begun o)) → Of (if_heard x k o)
   heard_r None k o h f = h
   heard_r (Some x) k o h f = turn_r k o f
 

@@ -53,9 +53,18 @@ newest (d ∷ ds) c = one_more (length ds) _ (newest ds c)
 less_le : (m n : ℕ) → m < n → m ≤ n
 less_le m n h = omega arith
 
+self : (n : ℕ) → n ≤ n
+self n = omega arith
+
+reaches : (m n k : ℕ) → m ≤ n → n ≤ k → m ≤ k
+reaches m n k h i = omega arith
+
 -- objects and scopes that are linked
 abbrev linking : Links
 linking = record {
+  asked = λ n. n;
+  enough = self;
+  through = reaches;
   Linked = AreLinked;
   Older = IsScope;
   later = later;
@@ -131,9 +140,6 @@ job_of (Pass l p) s h = h
 job_of (Call f this vs d) s h = tt
 job_of (RunNative f this vs d) s h = tt
 job_of (Hear x) s h = tt
-
-self : (n : ℕ) → n ≤ n
-self n = omega arith
 
 pub scope_laws : ScopeLaws
 scope_laws = record {

@@ -17,6 +17,7 @@ use Rattle.widget_meaning.specs.Dispatch.{nearest, dispatch}
 use Rattle.widget_meaning.specs.Turns.{begun, turn, end_turn}
 use Rattle.widget_meaning.specs.Items.{Event, Item, Occurs, Advance, item, item_at, occurs, if_heard, with_value, event_value, due_turns, unless_stopped, on_due, next_due, timer_turn, timer_plan, without_timer, resting}
 use Rattle.widget_meaning.specs.Alone.{Content, alone, alone_from, beginning, loaded, load_library, library_turn, library_plan, go_turn, go_plan, call_parts}
+use Rattle.widget_meaning.specs.Ways.{ByValue}
 use Rattle.widget_meaning.specs.Keeps.{Invariant, HoldsOf, Keeps}
 use Rattle.widget_meaning.specs.Laws.{AreTimers}
 use Rattle.widget_meaning.specs.Sums.{turns_of, events_of, time_of, SumLaws}
@@ -107,7 +108,7 @@ kept_clock : (a b c : ℕ) → a ≡ b → b ≤ c → a ≤ c
 kept_clock a b c e h = omega arith
 
 -- a turn at rest, of a plan that keeps every invariant
-rest_sums : (n k x : ℕ) (p : State → Plan) (o : OwnState) → AreTimers o → ((i : Invariant) → HoldsOf i 0 (begun o) → Keeps i 0 (p (begun o))) → Sums n k x o → Sums (suc n) k x (turn p o)
+rest_sums : (n k x : ℕ) (p : State → Plan) (o : OwnState) → AreTimers o → ((i : Invariant) → HoldsOf i 0 (begun o) → Keeps i 0 ByValue (p (begun o))) → Sums n k x o → Sums (suc n) k x (turn p o)
 rest_sums n k x p o a f h = turn_sums n k x x p o (kept_clock (turn p o).clock o.clock x (turn_clock p o a f) h.at) h
 
 -- an advance
@@ -163,7 +164,7 @@ value_sums n k x (Some (ElementOf tag attrs)) m (Some v) o h =
     let p : OwnState = record o { forest = relabelled m (with_attribute (codes "value") (Some v) (ElementOf tag attrs)) o.forest } in
     choose_sums n k x (bytes_eq tag (codes "input")) p o (record { few = h.few; within = h.within; told = h.told; at = h.at }) h
 
-heard_sums : (n k x : ℕ) (f : Option (ℕ × List ℕ)) (p : State → Plan) (o : OwnState) → AreTimers o → ((i : Invariant) → HoldsOf i 0 (begun o) → Keeps i 0 (p (begun o))) → Sums n k x o → Sums (suc n) k x (if_heard f p o)
+heard_sums : (n k x : ℕ) (f : Option (ℕ × List ℕ)) (p : State → Plan) (o : OwnState) → AreTimers o → ((i : Invariant) → HoldsOf i 0 (begun o) → Keeps i 0 ByValue (p (begun o))) → Sums n k x o → Sums (suc n) k x (if_heard f p o)
 heard_sums n k x None p o a f h = more n (suc n) k k x x o (one_more n) (self k) (self x) h
   where
     one_more : (n : ℕ) → n ≤ suc n

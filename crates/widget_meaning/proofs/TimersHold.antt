@@ -16,9 +16,10 @@ use Rattle.widget_meaning.specs.Turns.{begun, turn, end_turn, noted, note_text}
 use Rattle.widget_meaning.specs.Dispatch.{nearest, dispatch}
 use Rattle.widget_meaning.specs.Items.{Event, Item, Occurs, Advance, item, item_at, live_item, occurs, if_heard, with_value, event_value, due_turns, unless_stopped, on_due, next_due, sooner, timer_turn, timer_plan, without_timer, without_due, resting}
 use Rattle.widget_meaning.specs.Alone.{Content, alone_from, beginning, loaded, load_library, library_turn, library_plan, go_turn, go_plan, call_parts}
+use Rattle.widget_meaning.specs.Ways.{ByValue}
 use Rattle.widget_meaning.specs.Keeps.{Invariant, HoldsOf, Keeps}
 use Rattle.widget_meaning.specs.Laws.{NoneBefore, AreTimers, TimerLaws}
-use Rattle.widget_meaning.proofs.Keeping.{no_links, no_pages}
+use Rattle.widget_meaning.proofs.Keeping.{none, no_links, no_pages}
 use Rattle.widget_meaning.proofs.KeepingRuns.{run_keeps}
 use Rattle.widget_meaning.proofs.KeepingForms.{dispatch_r}
 use Rattle.widget_meaning.proofs.KeepingJobs.{timer_plan_r, library_plan_r, go_plan_r}
@@ -192,7 +193,7 @@ waiting now e count i = record {
 }
 
 fine_waits : (now e count : ℕ) (i : e ≤ now + min_delay) (s : State) → Waits now e count s.own.timers s.own.clock → HoldsOf (waiting now e count i) 0 s
-fine_waits now e count i s h = record { holds = h; linked = tt; page = tt; wide = omega arith }
+fine_waits now e count i s h = record { holds = h; linked = tt; page = tt; wide = none (length s.own.scopes) }
 
 abbrev pub WaitsOf : ℕ → ℕ → ℕ → OwnState → Type 0
 WaitsOf now e count o = Waits now e count o.timers o.clock
@@ -216,8 +217,8 @@ module _ (now e count : ℕ) (i : e ≤ now + min_delay) where
   end_r (Stopped c) s o h = h
   end_r OutOfFuel s o h = h
 
-  turn_r : (k : State → Plan) (o : OwnState) → Keeps (waiting now e count i) 0 (k (begun o)) → WaitsOf now e count (turn k o)
-  turn_r k o f = end_r (run_plan o.grant (k (begun o))).how (run_plan o.grant (k (begun o))).state _ (run_keeps (waiting now e count i) 0 o.grant (k (begun o)) f).holds
+  turn_r : (k : State → Plan) (o : OwnState) → Keeps (waiting now e count i) 0 ByValue (k (begun o)) → WaitsOf now e count (turn k o)
+  turn_r k o f = end_r (run_plan o.grant (k (begun o))).how (run_plan o.grant (k (begun o))).state _ (run_keeps (waiting now e count i) 0 ByValue o.grant (k (begun o)) f).holds
 
 -- after a turn the timers are few and ahead
 pub are_timers : (now e count : ℕ) (o : OwnState) → WaitsOf now e count o → AreTimers o
@@ -354,14 +355,14 @@ advanced o d more h =
 pub none_left : (n : ℕ) → 0 ≤ n
 none_left n = omega arith
 
-turn_timers : (k : State → Plan) (o : OwnState) → AreTimers o → ((i : Invariant) → HoldsOf i 0 (begun o) → Keeps i 0 (k (begun o))) → AreTimers (turn k o)
+turn_timers : (k : State → Plan) (o : OwnState) → AreTimers o → ((i : Invariant) → HoldsOf i 0 (begun o) → Keeps i 0 ByValue (k (begun o))) → AreTimers (turn k o)
 turn_timers k o h f =
     let n : ℕ = due_before 0 o.timers in
     let i : 0 ≤ o.clock + min_delay = none_left (o.clock + min_delay) in
     are_timers o.clock 0 n (turn k o) (turn_r o.clock 0 n i k o (f (waiting o.clock 0 n i) (fine_waits o.clock 0 n i (begun o) (waits o h))))
 
 -- and its clock stays
-pub turn_clock : (k : State → Plan) (o : OwnState) → AreTimers o → ((i : Invariant) → HoldsOf i 0 (begun o) → Keeps i 0 (k (begun o))) → (turn k o).clock ≡ o.clock
+pub turn_clock : (k : State → Plan) (o : OwnState) → AreTimers o → ((i : Invariant) → HoldsOf i 0 (begun o) → Keeps i 0 ByValue (k (begun o))) → (turn k o).clock ≡ o.clock
 turn_clock k o h f =
     let n : ℕ = due_before 0 o.timers in
     let i : 0 ≤ o.clock + min_delay = none_left (o.clock + min_delay) in
@@ -379,7 +380,7 @@ value_timers (Some (ElementOf tag attrs)) n (Some v) o h =
     let p : OwnState = record o { forest = relabelled n (with_attribute (codes "value") (Some v) (ElementOf tag attrs)) o.forest } in
     either (bytes_eq tag (codes "input")) p o (record { few = h.few; ahead = h.ahead }) h
 
-heard_timers : (x : Option (ℕ × List ℕ)) (k : State → Plan) (o : OwnState) → AreTimers o → ((i : Invariant) → HoldsOf i 0 (begun o) → Keeps i 0 (k (begun o))) → AreTimers (if_heard x k o)
+heard_timers : (x : Option (ℕ × List ℕ)) (k : State → Plan) (o : OwnState) → AreTimers o → ((i : Invariant) → HoldsOf i 0 (begun o) → Keeps i 0 ByValue (k (begun o))) → AreTimers (if_heard x k o)
 heard_timers None k o h f = h
 heard_timers (Some x) k o h f = turn_timers k o h f
 

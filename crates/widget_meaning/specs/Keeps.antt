@@ -1,5 +1,5 @@
--- What each state of a plan keeps: a predicate on the counts, the waiting timers and the clock, and one on objects and
--- scopes.
+-- What each state of a plan keeps, a predicate on the counts, the waiting timers and the clock, and one on objects and
+-- scopes; and how a plan ends.
 use Rattle.std.specs.Prelude.{ℕ, ◌+◌, ◌<◌, ◌≤◌, List, [], ◌∷◌, ◌++◌, length, Option, Some, None, slice_index_or, slice_set}
 use Rattle.plain_tree.specs.Trees.{Label, End, Node, size}
 use Rattle.tree_ops.specs.Trees.{relabelled}
@@ -9,6 +9,7 @@ use Rattle.widget_meaning.specs.Values.{Completion}
 use Rattle.widget_meaning.specs.OwnState.{Amounts, State, Timer, Cell, Kind, Function, Scope, Pairs, plain_object}
 use Rattle.widget_meaning.specs.Plan.{Plan, Ret, Halt, Need, Tick, Do, Job, Eval, Target, Exec, Pass}
 use Rattle.widget_meaning.specs.Costs.{sum}
+use Rattle.widget_meaning.specs.Ways.{Way, Ends, way_of}
 
 -- the counts pass no limit
 pub record FitsLimits (c : Amounts) : Type 0 where
@@ -26,11 +27,15 @@ OfFunction P kind = Unit {0}
 abbrev pub no_scope : Scope
 no_scope = record { outer = None; pairs = [] }
 
--- a predicate on objects and scopes, and one on a scope where there are so many, that what is born and written keeps
+-- a predicate on objects and scopes, and one on a scope where there are so many, that what is born and written keeps;
+-- and of how many scopes it is asked that they are there
 pub record Links : Type 1 where
+  pub asked : ℕ → ℕ
+  pub enough : (n : ℕ) → asked n ≤ n
+  pub through : (m n k : ℕ) → asked m ≤ n → asked n ≤ k → asked m ≤ k
   pub Linked : List Cell → List Scope → Type 0
   pub Older : ℕ → Option ℕ → Type 0
-  pub later : (m n : ℕ) (o : Option ℕ) → m ≤ n → Older m o → Older n o
+  pub later : (m n : ℕ) (o : Option ℕ) → asked m ≤ n → Older m o → Older n o
   pub outermost : (n : ℕ) → Older n None
   pub newest : (cs : List Scope) (c : Scope) → Older (length (cs ++ c ∷ [])) (Some (length cs))
   pub function : (hs : List Cell) (cs : List Scope) (n : ℕ) → Linked hs cs
@@ -64,13 +69,13 @@ pub record Invariant : Type 1 where
   pub links : Links
   pub pages : Pages
 
--- of a state, in which there are at least so many scopes
+-- of a state, in which there are at least as many scopes as are asked
 pub record Fine (i : Invariant) (n : ℕ) (c : Amounts) (ts : List Timer) (clock : ℕ) (hs : List Cell) (cs : List Scope)
     (f : Trees) (k : ℕ) : Type 0 where
   pub holds : i.Holds c ts clock
   pub linked : i.links.Linked hs cs
   pub page : i.pages.Page f k
-  pub wide : n ≤ length cs
+  pub wide : i.links.asked n ≤ length cs
 
 -- the same by the state
 abbrev pub HoldsOf : Invariant → ℕ → State → Type 0
@@ -85,11 +90,11 @@ JobOf i n (Exec e p) = i.links.Older n p.scope
 JobOf i n (Pass l p) = i.links.Older n p.scope
 JobOf i n j = Unit {0}
 
--- each state of a plan has it, where those that its jobs hand on have it
-unfoldable pub Keeps : Invariant → ℕ → Plan → Type 0
-Keeps i n (Ret o s) = HoldsOf i n s
-Keeps i n (Halt c s) = HoldsOf i n s
-Keeps i n (Need c s p) = HoldsOf i n s × Keeps i n p
-Keeps i n (Tick s p) = HoldsOf i n s × Keeps i n p
-Keeps i n (Do j s k) = HoldsOf i n s × (JobOf i (length s.own.scopes) j
-    × ((o : Completion) (t : State) → HoldsOf i (length s.own.scopes) t → Keeps i n (k o t)))
+-- each state of a plan has it and the plan ends in a way, where those that its jobs hand on have it and end in theirs
+unfoldable pub Keeps : Invariant → ℕ → Way → Plan → Type 0
+Keeps i n way (Ret o s) = HoldsOf i n s × Ends way o
+Keeps i n way (Halt c s) = HoldsOf i n s
+Keeps i n way (Need c s p) = HoldsOf i n s × Keeps i n way p
+Keeps i n way (Tick s p) = HoldsOf i n s × Keeps i n way p
+Keeps i n way (Do j s k) = HoldsOf i n s × (JobOf i (length s.own.scopes) j
+    × ((o : Completion) (t : State) → HoldsOf i (length s.own.scopes) t → Ends (way_of j) o → Keeps i n way (k o t)))

@@ -40,6 +40,7 @@ pub mod Turns
 pub mod Items
 pub mod Alone
 pub mod Laws
+pub mod Ways
 pub mod Keeps
 pub mod PlanLaws
 pub mod Counts
