@@ -1,27 +1,18 @@
 -- The natives of ADSAFE keep what is there.
 use Rattle.meaning_laws.proofs.Each.{every}
-use Rattle.std.specs.Prelude.{ℕ, List, length, Option, ℤ, pos, nat_le}
-use Rattle.widget_meaning.specs.Limits.{max_timers}
-use Rattle.widget_meaning.specs.Values.{Value, Undefined, Num, Text, Own, E11}
-use Rattle.widget_meaning.specs.OwnState.{State}
+use Rattle.std.specs.Prelude.{ℕ, List, length, Option, ℤ, pos, nat_le, suc, [], ◌∷◌, Some, true, not, nat_lt, ◌≡◌}
+use Rattle.widget_meaning.specs.Limits.{max_timers, max_chain, max_nesting, max_post}
+use Rattle.widget_meaning.specs.Values.{Value, Undefined, Num, Text, Own, E11, Null, Truth, NaN, Host, Is, E4, E8, to_text, nth, is_object}
+use Rattle.widget_meaning.specs.OwnState.{State, kind_of, new_object, Pairs, cell_at}
 use Rattle.widget_meaning.specs.Plan.{Plan}
 use Rattle.widget_meaning.specs.NativeNames.{AdsafeNative, Create, FromJson, GetProperty, HasProperty, IsArray, KeysOf, Later, LogValue, Post, RemoveProperty, SetProperty, ToJson}
-use Rattle.widget_meaning.specs.JsonTexts.{to_json, give_json, Written, Wrote, NoJson, TooLong}
-use Rattle.widget_meaning.specs.AdsafeNatives.{want_name, get_native, has_native, set_native, remove_native, create_from, create, keys_native, start_timer, later_in, later, log_text, log_native, keep_post, post, adsafe_native, with_timer}
-use Rattle.std.specs.Prelude.{suc, [], ◌∷◌, Some, true, not}
-use Rattle.std.specs.List.{list_any}
+use Rattle.widget_meaning.specs.JsonTexts.{to_json, give_json, Written, Wrote, NoJson, TooLong, value_text}
+use Rattle.widget_meaning.specs.AdsafeNatives.{want_name, get_native, has_native, set_native, remove_native, create_from, create, keys_native, start_timer, later_in, later, log_text, log_native, keep_post, post, adsafe_native, with_timer, chain_from, is_prototype_kind, with_entry, with_post}
+use Rattle.std.specs.List.{list_any, AllByRecursion, list_all}
 use Rattle.code_units.specs.Permitted.{is_permitted}
-use Rattle.widget_meaning.specs.OwnState.{kind_of}
-use Rattle.std.proofs.lemmas.Bool.{ltb-false}
-use Rattle.widget_meaning.specs.Limits.{max_chain}
-use Rattle.widget_meaning.specs.Values.{Null, Truth, NaN, Host, Is, E4, E8, to_text, nth, is_object, E11}
-use Rattle.widget_meaning.specs.Limits.{max_nesting, max_post, max_timers}
-use Rattle.std.specs.Prelude.{nat_le, nat_lt}
-use Rattle.widget_meaning.specs.JsonTexts.{value_text}
+use Rattle.std.proofs.lemmas.Bool.{ltb-false, and_parts}
 use Rattle.widget_meaning.specs.Properties.{keys}
-use Rattle.widget_meaning.specs.OwnState.{new_object}
 use Rattle.widget_meaning.specs.Costs.{with_counts, give}
-use Rattle.widget_meaning.specs.AdsafeNatives.{chain_from, is_prototype_kind, with_entry, with_post}
 use Rattle.meaning_laws.proofs.Chains.{counted_short}
 use Rattle.meaning_laws.proofs.Forms.{permitted_are, get_is, put_r, delete_r}
 use Rattle.meaning_laws.proofs.Natives.{give_texts_r, want_function_r}
@@ -33,12 +24,8 @@ use Rattle.permitted_table.specs.declared.native.HostEntry.TheVariants as host
 use Rattle.permitted_table.specs.declared.native.NativeId.TheVariants as natives
 use Rattle.widget_meaning.specs.HostTable.{host_pairs}
 use Rattle.std.proofs.Common.{refl, arith}
-use Rattle.std.proofs.lemmas.Bool.{and_parts}
 use Rattle.meaning_laws.proofs.Units.{is_text, tested, made_is}
 use Rattle.meaning_laws.proofs.WrittenJson.{OfWritten, PairHasTexts, value_text_is}
-use Rattle.std.specs.Prelude.{◌≡◌}
-use Rattle.std.specs.List.{AllByRecursion, list_all}
-use Rattle.widget_meaning.specs.OwnState.{Pairs, cell_at}
 use Rattle.meaning_laws.proofs.Values.{told, also, text_told, undefined_is, truth_is, text_is, nth_is, no_pairs, value_end}
 use Rattle.meaning_laws.proofs.Steps.{R, Keeps, ended, halted, either, by_test, charged, paid, made, made_text, faulted, wanted, waits}
 

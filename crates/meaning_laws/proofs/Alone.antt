@@ -4,8 +4,7 @@ use Rattle.std.specs.Prelude.{codes, nat_lt, nat_le, nat_eq, if◌then◌else◌
 use Rattle.std.specs.List.{AllByRecursion, fold}
 use Rattle.std.proofs.lemmas.List.{length-replicate}
 use Rattle.js_tree.specs.Plain.{Stmts, Fun}
-use Rattle.plain_tree.specs.Trees.{Label, TextOf, ElementOf, Node, size, height}
-use Rattle.plain_tree.specs.Trees.{End as NoTrees}
+use Rattle.plain_tree.specs.Trees.{Label, TextOf, ElementOf, Node, size, height, End as NoTrees}
 use Rattle.tree_ops.specs.Labels.{with_attribute}
 use Rattle.widget_meaning.specs.Limits.{max_units, max_node_depth}
 use Rattle.widget_meaning.specs.Values.{Normal, Is, Refers, Return, Break, Continue, Throw, Stop}

@@ -1,68 +1,50 @@
 -- Each form of the language keeps what is there: one lemma for what comes after each part.
 use Rattle.meaning_laws.proofs.Numbers.{OfRead, number_in_is}
-use Rattle.meaning_laws.proofs.Values.{read_told}
-use Rattle.widget_meaning.specs.Values.{to_number}
+use Rattle.meaning_laws.proofs.Values.{read_told, told, also, first, second, own_value, text_told, both_names, filtered_names, replaced_names, taken_names, undefined_is, null_is, truth_is, nan_is, num_is, text_is, host_is, literal_is, word_is, no_values, more_values, both_values, nth_is, no_value, some_value, no_pairs, more_pairs, both_pairs, filtered_pairs, replaced_are, taken_are, got_is, named_is, referred_of, elements_of, bunch_of, base_is, variable_is, property_reference, found_reference, normal_end, break_end, continue_end, value_end, reference_end, return_end, throw_end, eval_job, target_job, exec_job, pass_job, call_job, while_loop, do_loop, for_loop, for_in_loop, scope_of_call}
+use Rattle.widget_meaning.specs.Values.{to_number, Value, Undefined, Null, Num, Text, Own, Host, Completion, Normal, Is, Refers, Return, Break, Continue, Throw, Reference, Variable, Property, Found, NaN, Truth, E1, E7, to_text, is_nothing}
 use Rattle.js_tree.specs.Plain as tree
 use Rattle.js_tree.specs.declared.nodes.UnOp.TheVariants as un
 use Rattle.js_tree.specs.declared.nodes.AssignOp.TheVariants as assignment
 use Rattle.code_units.specs.declared.whole.WholeRead.TheVariants as read_as
-use Rattle.std.specs.Prelude.{ℕ, suc, pos, ◌+◌, length, List, [], ◌∷◌, ◌++◌, Bool, true, false, Option, Some, None}
+use Rattle.std.specs.Prelude.{ℕ, suc, pos, ◌+◌, length, List, [], ◌∷◌, ◌++◌, Bool, true, false, Option, Some, None, codes, if◌then◌else◌, filter, max, nat_lt, ◌&&◌}
 use Rattle.permitted_table.specs.declared.native.HostEntry.TheVariants as host
-use Rattle.widget_meaning.specs.Values.{Value, Undefined, Null, Num, Text, Own, Host, Completion, Normal, Is, Refers, Return, Break, Continue, Throw, Reference, Variable, Property, Found}
-use Rattle.widget_meaning.specs.OwnState.{State, Cell, Kind, Object, Array, Function, Bunch, Scope, cell_at, scope_at, replaced, with_new_scope}
-use Rattle.widget_meaning.specs.Plan.{Plan, Place, Ret, Loop, WhileLoop, DoLoop, ForLoop, ForInLoop, Hearing}
+use Rattle.widget_meaning.specs.OwnState.{State, Cell, Kind, Object, Array, Function, Bunch, Scope, cell_at, scope_at, replaced, with_new_scope, Pairs, plain_object, new_function, new_array, new_bunch, with_cell, with_new_cell, taken_out, kind_of, bunch_nodes}
+use Rattle.widget_meaning.specs.Plan.{Plan, Place, Ret, Loop, WhileLoop, DoLoop, ForLoop, ForInLoop, Hearing, RunNative, Do, Hear}
 use Rattle.js_tree.specs.Plain.{Expr, Stmt, Stmts, Fun, ExprForm, OptionalExpr, StmtForm, ForInit, OptionalBlock, Catch}
-use Rattle.widget_meaning.specs.Properties.{read, put, delete, index_name, put_pair, put_index, put_length, put_own, delete_pair, delete_own}
-use Rattle.widget_meaning.specs.Scopes.{fun_name, fun_list, call_scope, assign, set_in, scope_of}
+use Rattle.widget_meaning.specs.Properties.{read, put, delete, index_name, put_pair, put_index, put_length, put_own, delete_pair, delete_own, is_below, get, cut_to, names_of, names_on_chain, listed, permitted_names}
+use Rattle.widget_meaning.specs.Scopes.{fun_name, fun_list, call_scope, assign, set_in, scope_of, variable, set_pair, without_name}
 use Rattle.js_tree.specs.declared.nodes.StepOp.{StepOp}
 use Rattle.js_tree.specs.declared.nodes.UnOp.{UnOp}
 use Rattle.js_tree.specs.declared.nodes.BinOp.{BinOp}
 use Rattle.js_tree.specs.declared.nodes.AssignOp.{AssignOp}
 use Rattle.code_units.specs.declared.whole.WholeRead.{WholeRead}
 use Rattle.widget_meaning.specs.Operators.{OpOut, Gives, Leaves, TooLong}
-use Rattle.widget_meaning.specs.Calls.{invoke, to_primitive, statements, declare, call_end, call_body, enter_scope, enter, primitive_result, call_to_string, with_variable}
-use Rattle.widget_meaning.specs.Expressions.{array_parts, object_parts, subscript_read, refer, subscript_target, write, arguments_then, callee, result, converted_left, operate, binary_right, unary_on, delete_at, delete_target, step_write, step_number, step_converted, step_target, compound, assign_with, assign_target, and_right, or_right, choose, prefix_form, expression, target, referred, base_of}
-use Rattle.widget_meaning.specs.Calls.{without_directive}
+use Rattle.widget_meaning.specs.Calls.{invoke, to_primitive, statements, declare, call_end, call_body, enter_scope, enter, primitive_result, call_to_string, with_variable, without_directive, stmt_list}
+use Rattle.widget_meaning.specs.Expressions.{array_parts, object_parts, subscript_read, refer, subscript_target, write, arguments_then, callee, result, converted_left, operate, binary_right, unary_on, delete_at, delete_target, step_write, step_number, step_converted, step_target, compound, assign_with, assign_target, and_right, or_right, choose, prefix_form, expression, target, referred, base_of, stepped, is_post, expr_list, property_list}
 use Rattle.widget_meaning.specs.Statements.{bodies, decl_list, clause_list, declaration, declarations, expressions, branch, loop_test, loop_end, while_next, do_next, for_test, for_again, for_next, for_init, for_in, for_in_next, for_in_over, pass, return_form, case_test, choose_case, switch_end, switch_on, in_catch, caught, last_end, finally, statement, Case, from_default}
-use Rattle.widget_meaning.specs.Dispatch.{hear, hear_found, search_from, dispatch, handlers, bubble_on, dispatch_end, heard, bubble}
-use Rattle.widget_meaning.specs.Costs.{scope_cost, with_counts, give}
-use Rattle.std.proofs.Common.{map, zero, ◌≡◌, ◌<◌, ◌≤◌, refl, sym, subst, arith}
-use Rattle.std.specs.Prelude.{codes, if◌then◌else◌}
+use Rattle.widget_meaning.specs.Dispatch.{hear, hear_found, search_from, dispatch, handlers, bubble_on, dispatch_end, heard, bubble, nearest, event_pairs, event_cost, with_event, with_dispatch, without_dispatch, is_bubbled}
+use Rattle.widget_meaning.specs.Costs.{scope_cost, with_counts, give, slots_cost}
+use Rattle.std.proofs.Common.{map, zero, ◌≡◌, ◌<◌, ◌≤◌, refl, sym, subst, arith, ap, ltb-true}
 use Rattle.std.specs.List.{AllByRecursion, fold}
 use Rattle.code_units.specs.Permitted.{is_permitted}
 use Rattle.meaning_laws.proofs.Each.{each_both, each_filtered}
-use Rattle.std.proofs.Common.{ap, ltb-true}
-use Rattle.std.specs.Prelude.{filter, max, nat_lt, ◌&&◌}
 use Rattle.std.specs.Fmt.{decimal}
 use Rattle.std.specs.Str.{bytes_eq}
 use Rattle.std.specs.Str.Parse.{digits_value}
 use Rattle.std.proofs.lemmas.Bool.{leb-true}
-use Rattle.code_units.specs.Whole.{is_numeral}
+use Rattle.code_units.specs.Whole.{is_numeral, number_in}
 use Rattle.code_units.specs.Indices.{index_value, index_of}
-use Rattle.widget_meaning.specs.Limits.{max_length}
+use Rattle.widget_meaning.specs.Limits.{max_length, max_chain, max_node_depth}
 use Rattle.widget_meaning.specs.JsonBack.{HasLength}
-use Rattle.widget_meaning.specs.Properties.{is_below}
 use Rattle.std.proofs.lemmas.List.{length-append}
-use Rattle.code_units.specs.Whole.{number_in}
 use Rattle.permitted_table.specs.declared.native.NativeId.{NativeId}
-use Rattle.widget_meaning.specs.Limits.{max_chain, max_node_depth}
-use Rattle.widget_meaning.specs.Values.{NaN, Truth, E1, E7, to_text, is_nothing}
-use Rattle.widget_meaning.specs.Calls.{stmt_list}
-use Rattle.widget_meaning.specs.OwnState.{Pairs, plain_object, new_function, new_array, new_bunch, with_cell, with_new_cell, taken_out, kind_of, bunch_nodes}
-use Rattle.widget_meaning.specs.Plan.{RunNative, Do, Hear}
-use Rattle.widget_meaning.specs.Costs.{slots_cost}
 use Rattle.widget_meaning.specs.Trees.{parent}
-use Rattle.widget_meaning.specs.Properties.{get, cut_to, names_of, names_on_chain, listed, permitted_names}
-use Rattle.widget_meaning.specs.Scopes.{variable, set_pair, without_name}
-use Rattle.widget_meaning.specs.Expressions.{stepped, is_post, expr_list, property_list}
 use Rattle.widget_meaning.specs.NativeForms.{elements}
-use Rattle.widget_meaning.specs.Dispatch.{nearest, event_pairs, event_cost, with_event, with_dispatch, without_dispatch, is_bubbled}
 use Rattle.meaning_laws.specs.There.{Sizes, Grows, Told, CellFits, IsBelow, ValueIs, ValuesAre, MaybeIs, PairsAre, NodeIs, NodesAre, OfNode, FunctionsAre, OfKind, CellIs, ReferenceIs, CompletionIs, LoopIs, HearingIs, JobIs, IsShort, cell_in}
 use Rattle.meaning_laws.specs.Texts.{IsText, AreTexts, AreNames, ExprHasTexts, FormHasTexts, OptionHasTexts, InitHasTexts, StmtHasTexts, StmtFormHasTexts, StmtsHaveTexts, BlockHasTexts, CatchHasTexts, FunHasTexts}
 use Rattle.meaning_laws.proofs.Units.{tested, decimal_is, type_is}
 use Rattle.meaning_laws.proofs.Scripts.{PropertyHasTexts, DeclHasTexts, CaseHasTexts, exprs_are, stmts_are, funs_are, properties_are, decls_are, clauses_are, unnamed, body_are, bodies_are, default_are}
 use Rattle.meaning_laws.proofs.Later.{told_later, same_size, through, value_later, values_later, maybe_later, node_later, nodes_later, functions_later, reference_later, completion_later, loop_later, hearing_later}
-use Rattle.meaning_laws.proofs.Values.{told, also, first, second, own_value, text_told, both_names, filtered_names, replaced_names, taken_names, undefined_is, null_is, truth_is, nan_is, num_is, text_is, host_is, literal_is, word_is, no_values, more_values, both_values, nth_is, no_value, some_value, no_pairs, more_pairs, both_pairs, filtered_pairs, replaced_are, taken_are, got_is, named_is, referred_of, elements_of, bunch_of, base_is, variable_is, property_reference, found_reference, normal_end, break_end, continue_end, value_end, reference_end, return_end, throw_end, eval_job, target_job, exec_job, pass_job, call_job, while_loop, do_loop, for_loop, for_in_loop, scope_of_call}
 use Rattle.meaning_laws.proofs.Results.{GivenIs, given, binary_given, unary_given, stepped_given}
 use Rattle.meaning_laws.proofs.Nodes.{OfHeard, nearest_is, parent_is}
 use Rattle.meaning_laws.proofs.Steps.{R, Holds, second_part, Keeps, ended, halted, job, either, value, reference, normal, thrown, chain, charged, paid, made, made_text, faulted, wanted, lowered, written, assigned, entered, there_later, there_born, plain_is}

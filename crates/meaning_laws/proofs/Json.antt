@@ -1,41 +1,31 @@
 -- Reading JSON keeps what is there.
 use Rattle.serde_json.specs.Data as json
-use Rattle.std.proofs.Common.{ℕ, ◌+◌, ◌≤◌, Bool, true, false, List, length, arith}
+use Rattle.std.proofs.Common.{ℕ, ◌+◌, ◌≤◌, Bool, true, false, List, length, arith, ◌<◌, refl, ltb-true, subst}
 use Rattle.std.specs.List.{AllByRecursion, fold, list_all}
 use Rattle.std.proofs.lemmas.List.{length-append}
 use Rattle.widget_meaning.specs.Values.{Value, Text, Is, E4, E8}
-use Rattle.widget_meaning.specs.OwnState.{State, Cell, with_new_cell}
+use Rattle.widget_meaning.specs.OwnState.{State, Cell, with_new_cell, Kind, Object, Array, Function, Bunch}
 use Rattle.widget_meaning.specs.Costs.{with_counts, give}
-use Rattle.widget_meaning.specs.JsonValues.{has_permitted_names, has_numbers, texts_in, give_read, read_value, from_json, cells_at, items_at, members_at, value_at, read_json}
-use Rattle.meaning_laws.specs.There.{Sizes, Told, CellFits, ValueIs, PairsAre, CellIs}
+use Rattle.widget_meaning.specs.JsonValues.{has_permitted_names, has_numbers, texts_in, give_read, read_value, from_json, cells_at, items_at, members_at, value_at, read_json, is_number, whole, items_have_numbers, members_have_numbers}
+use Rattle.meaning_laws.specs.There.{Sizes, Told, CellFits, ValueIs, PairsAre, CellIs, OfCount}
 use Rattle.meaning_laws.specs.Texts.{IsText, AreNames}
 use Rattle.meaning_laws.proofs.Units.{decimal_is}
 use Rattle.meaning_laws.proofs.Spelled.{utf8_units, unit_at}
 use Rattle.meaning_laws.proofs.Keys.{OfContent, Aligned, whole_aligned, aligned_rest, string_whole, text_whole, spelled_units}
 use Rattle.meaning_laws.proofs.Numbers.{Within}
-use Rattle.code_units.specs.Utf8.{units_of}
+use Rattle.code_units.specs.Utf8.{units_of, utf8_of}
 use Rattle.code_units.proofs.UnitsBack.{scalars-lossy}
-use Rattle.widget_meaning.specs.Limits.{past_numbers}
-use Rattle.widget_meaning.specs.JsonValues.{is_number, whole, items_have_numbers, members_have_numbers}
+use Rattle.widget_meaning.specs.Limits.{past_numbers, max_slots}
 use Rattle.std.proofs.lemmas.Bool.{and_parts}
-use Rattle.std.proofs.Common.{◌<◌, refl, ltb-true}
-use Rattle.std.specs.Prelude.{unsigned_abs}
-use Rattle.meaning_laws.specs.There.{OfCount}
+use Rattle.std.specs.Prelude.{unsigned_abs, ◌≡◌, Option, Some, None, sum_by, [], ◌∷◌}
 use Rattle.meaning_laws.proofs.ReadJson.{HasStrings, ItemsHaveStrings, MembersHaveStrings, OfSome, read_is}
 use Rattle.json.specs.Text.{content, plain}
-use Rattle.code_units.specs.Utf8.{utf8_of}
-use Rattle.std.specs.Prelude.{◌≡◌, Option, Some, None}
-use Rattle.std.proofs.Common.{subst}
 use Rattle.meaning_laws.proofs.Each.{each_both}
 use Rattle.meaning_laws.proofs.Later.{told_later}
-use Rattle.std.specs.Prelude.{sum_by, [], ◌∷◌}
 use Rattle.std.proofs.lemmas.List.Sums.{sum_by-cons}
-use Rattle.widget_meaning.specs.Limits.{max_slots}
-use Rattle.widget_meaning.specs.OwnState.{Kind, Object, Array, Function, Bunch}
 use Rattle.widget_meaning.specs.JsonBack.{HasLength}
-use Rattle.meaning_laws.proofs.Steps.{second_part}
+use Rattle.meaning_laws.proofs.Steps.{second_part, R, Keeps, ended, halted, either, charged, paid, faulted, wanted, found, lowered, plain_is}
 use Rattle.meaning_laws.proofs.Values.{told, also, first, second, together, own_value, null_is, truth_is, num_is, text_is, no_pairs, more_pairs, value_end}
-use Rattle.meaning_laws.proofs.Steps.{R, Keeps, ended, halted, either, charged, paid, faulted, wanted, found, lowered, plain_is}
 use Rattle.meaning_laws.proofs.Forms.{array_is, with_more, more_grows, all_born, Hosted, array_hosted, plain_hosted}
 
 -- a string spells a text

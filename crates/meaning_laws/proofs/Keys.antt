@@ -1,5 +1,5 @@
 -- A string that is read of JSON is UTF-8, and has no more 16-bit units than the text.
-use Rattle.std.proofs.Common.{◌≡◌, ℕ, zero, suc, ◌+◌, ◌-◌, ◌*◌, ◌/◌, ◌%◌, ◌<◌, ◌≤◌, ◌⊎◌, inl, inr, Bool, true, false, cond, List, [], ◌∷◌, ◌++◌, length, refl, sym, ap, ◌∙◌, subst, arith, nat_lt, ltb-true, map, encode_utf8_all}
+use Rattle.std.proofs.Common.{◌≡◌, ℕ, zero, suc, ◌+◌, ◌*◌, ◌/◌, ◌%◌, ◌<◌, ◌≤◌, ◌⊎◌, inl, inr, Bool, true, false, cond, List, [], ◌∷◌, ◌++◌, length, refl, sym, ap, ◌∙◌, subst, arith, nat_lt, ltb-true, map, encode_utf8_all}
 use Rattle.std.specs.Prelude.{Option, Some, None, option_and_then, nat_le, ◌==◌, ◌&&◌, ◌||◌, ⊤, unwrap_or, if◌then◌else◌}
 use Rattle.std.specs.List.{AllByRecursion}
 use Rattle.std.specs.Str.{all_scalars, chars}
@@ -14,7 +14,6 @@ use Rattle.std.proofs.lemmas.List.{length-append, append_assoc}
 use Rattle.std.proofs.lemmas.Str.{encode_ascii, chars-encodes}
 use Rattle.code_units.specs.Utf8.{units_of, units_of_chars, utf8_of}
 use Rattle.json.specs.Ascii as ascii
-use Rattle.json.specs.Lex.{quote, backslash}
 use Rattle.json.specs.Text.{code_unit, short_escape, is_high_surrogate, is_low_surrogate, surrogate_pair, Within, plain, after_backslash, after_u, after_high, prepend, content}
 use Rattle.widget_meaning.specs.Limits.{past_units}
 

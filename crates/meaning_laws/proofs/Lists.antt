@@ -1,53 +1,34 @@
 -- The methods of arrays and the prototypes keep what is there.
-use Rattle.meaning_laws.proofs.Values.{also, nan_is}
+use Rattle.meaning_laws.proofs.Values.{also, nan_is, told, both_names, filtered_names, numbered_names, undefined_is, truth_is, num_is, text_is, no_values, more_values, both_values, taken_values, left_values, nth_is, no_value, both_pairs, filtered_pairs, numbered_are, element_is, value_end, call_job}
 use Rattle.std.proofs.lemmas.List.FromFn.{length-map-range_with_len}
-use Rattle.widget_meaning.specs.NativeForms.{element}
-use Rattle.std.specs.Prelude.{ℕ, zero, suc, ℤ, ◌+◌, List, [], ◌∷◌, ◌++◌, Option, Some}
-use Rattle.widget_meaning.specs.Values.{Value, Undefined, Num, Truth, NaN}
-use Rattle.widget_meaning.specs.OwnState.{State}
+use Rattle.widget_meaning.specs.NativeForms.{element, elements, numbered_pairs, make_array, from_end, clamped}
+use Rattle.std.specs.Prelude.{ℕ, zero, suc, ℤ, ◌+◌, List, [], ◌∷◌, ◌++◌, Option, Some, int_le, unsigned_abs, negsuc, ◌%◌, ◌≡◌, None, if◌then◌else◌, zip, codes, pos, not, nat_lt, ◌-◌, slice_range, is_none}
+use Rattle.widget_meaning.specs.Values.{Value, Undefined, Num, Truth, NaN, Null, Text, Own, Host, Is, nth, to_number, to_text, is_object, E3, E4, E7}
+use Rattle.widget_meaning.specs.OwnState.{State, Pairs, Cell, cell_at, plain_object, new_array, with_cell, with_new_cell, array_length, kind_of}
 use Rattle.widget_meaning.specs.Plan.{Plan}
 use Rattle.widget_meaning.specs.NativeNames.{ListNative, ListConcat, Join, Pop, Push, Shift, Unshift, Reverse, Sort, ListSlice, Splice, ForEach, MapNative, FilterNative, PrototypeNative, HasOwnProperty, ObjectToString, ArrayToString, FunctionToString, TextToString, NumberToString, BooleanToString}
-use Rattle.widget_meaning.specs.ListChanges.{pop, push, shift, unshift, reverse, sort, splice, change, without_order, spliced, splice_count}
-use Rattle.widget_meaning.specs.ListNatives.{join, list_concat, list_slice, call_each, over, list_method, list_native}
-use Rattle.widget_meaning.specs.PrototypeNatives.{has_own_property, give_made, function_to_string, array_to_string, in_radix, number_to_string, boolean_to_string, prototype_native}
+use Rattle.widget_meaning.specs.ListChanges.{pop, push, shift, unshift, reverse, sort, splice, change, without_order, spliced, splice_count, new_indexes, list_extra, with_elements, pushed, put_in, sorted, is_before, array_elements}
+use Rattle.widget_meaning.specs.ListNatives.{join, list_concat, list_slice, call_each, over, list_method, list_native, kept, joined_text, separator}
+use Rattle.widget_meaning.specs.PrototypeNatives.{has_own_property, give_made, function_to_string, array_to_string, in_radix, number_to_string, boolean_to_string, prototype_native, is_radix, number_text}
 use Rattle.std.proofs.Common.{◌<◌, ◌≤◌, length, Bool, true, false, refl, sym, ap, subst, arith, take, drop}
 use Rattle.std.specs.Prelude as std
-use Rattle.std.specs.Prelude.{int_le, unsigned_abs, negsuc, ◌%◌, ◌≡◌, None, if◌then◌else◌, zip, codes, pos, not, nat_lt, ◌-◌, slice_range}
-use Rattle.std.specs.List.{list_any, join_by}
+use Rattle.std.specs.List.{list_any, join_by, filter, AllByRecursion}
 use Rattle.widget_meaning.specs.Limits.{max_length, past_numbers, max_slots, min_radix, max_radix}
-use Rattle.std.specs.List.{filter}
-use Rattle.std.specs.Prelude.{is_none}
-use Rattle.std.proofs.lemmas.Bool.{ltb-false}
-use Rattle.std.proofs.lemmas.List.{length-append}
-use Rattle.widget_meaning.specs.OwnState.{Pairs}
-use Rattle.widget_meaning.specs.Properties.{index_of, is_below}
-use Rattle.widget_meaning.specs.ListChanges.{new_indexes}
-use Rattle.meaning_laws.proofs.Forms.{less_room}
-use Rattle.meaning_laws.proofs.Natives.{numbered_length, numbered_fit}
-use Rattle.meaning_laws.proofs.Steps.{by_test}
+use Rattle.std.proofs.lemmas.Bool.{ltb-false, and_parts, leb-true}
+use Rattle.std.proofs.lemmas.List.{length-append, reverse-append}
+use Rattle.widget_meaning.specs.Properties.{index_of, is_below, cut_to, is_function}
+use Rattle.meaning_laws.proofs.Forms.{less_room, elements_are, write_cell, array_put, array_is}
+use Rattle.meaning_laws.proofs.Natives.{numbered_length, numbered_fit, give_text_r, make_array_r, on_array_r, on_object_r, on_text_r, want_function_r, with_number_r, with_optional_r}
+use Rattle.meaning_laws.proofs.Steps.{by_test, R, Keeps, ended, job, value, charged, paid, made_text, faulted, wanted, lowered, born, born_grows, is_born, with_one, written}
 use Rattle.std.specs.Int.{is_negative}
 use Rattle.std.proofs.Math.Nat.{mod-lt}
-use Rattle.std.proofs.lemmas.Bool.{and_parts, leb-true}
-use Rattle.std.specs.List.{AllByRecursion}
 use Rattle.std.specs.Option.{option_map_or}
-use Rattle.std.proofs.lemmas.List.{reverse-append}
-use Rattle.widget_meaning.specs.Values.{Null, Text, Own, Host, Is, nth, to_number, to_text, is_object, E3, E4, E7}
-use Rattle.widget_meaning.specs.OwnState.{Cell, cell_at, plain_object, new_array, with_cell, with_new_cell, array_length, kind_of}
 use Rattle.widget_meaning.specs.Costs.{with_counts, give}
-use Rattle.widget_meaning.specs.Properties.{cut_to, is_function}
-use Rattle.widget_meaning.specs.PrototypeNatives.{is_radix, number_text}
-use Rattle.widget_meaning.specs.NativeForms.{elements, numbered_pairs, make_array, from_end, clamped}
-use Rattle.widget_meaning.specs.ListChanges.{list_extra, with_elements, pushed, put_in, sorted, is_before, array_elements}
-use Rattle.widget_meaning.specs.ListNatives.{kept, joined_text, separator}
 use Rattle.meaning_laws.proofs.Each.{each_both, each_filtered, each_mapped, each_piece, each_first, at_old}
-use Rattle.meaning_laws.proofs.Forms.{elements_are, write_cell, array_put, array_is}
 use Rattle.meaning_laws.specs.Texts.{AreUnits, IsOrdinaryValue}
 use Rattle.meaning_laws.proofs.Units.{tested, units_tested, made_is, both_units, digits_are, joined_is, to_text_is}
-use Rattle.meaning_laws.proofs.Natives.{give_text_r, make_array_r, on_array_r, on_object_r, on_text_r, want_function_r, with_number_r, with_optional_r}
 use Rattle.meaning_laws.specs.There.{Sizes, Grows, Told, CellFits, ValueIs, ValuesAre, MaybeIs, CellIs}
 use Rattle.meaning_laws.proofs.Later.{same_size, through, value_later, values_later, cell_later}
-use Rattle.meaning_laws.proofs.Values.{told, both_names, filtered_names, numbered_names, undefined_is, truth_is, num_is, text_is, no_values, more_values, both_values, taken_values, left_values, nth_is, no_value, both_pairs, filtered_pairs, numbered_are, element_is, value_end, call_job}
-use Rattle.meaning_laws.proofs.Steps.{R, Keeps, ended, job, either, value, charged, paid, made_text, faulted, wanted, lowered, born, born_grows, is_born, with_one, written}
 
 less : (i m n : ℕ) → i < m → m ≤ n → i < n
 less i m n l h = omega arith

@@ -1,51 +1,32 @@
 -- What natives have in common, and those of the globals and of Math, keep what is there.
 use Rattle.meaning_laws.proofs.Numbers.{Within, OfRead, best_is, max_within, min_within, unit_power}
-use Rattle.meaning_laws.proofs.Values.{nth_is, units_told, read_told}
-use Rattle.meaning_laws.proofs.Steps.{by_test}
-use Rattle.widget_meaning.specs.Operators.{Gives, Leaves}
-use Rattle.widget_meaning.specs.NativeForms.{is_too_long}
-use Rattle.widget_meaning.specs.MathNatives.{best}
-use Rattle.widget_meaning.specs.Costs.{object_cost}
-use Rattle.std.specs.Prelude.{◌||◌}
+use Rattle.meaning_laws.proofs.Values.{nth_is, units_told, read_told, told, also, truth_is, nan_is, num_is, text_is, numbered_are, numbered_names, value_end}
+use Rattle.meaning_laws.proofs.Steps.{by_test, R, Keeps, ended, halted, either, value, chain, charged, paid, made_text, faulted, wanted, found, born_then}
+use Rattle.widget_meaning.specs.Operators.{Gives, Leaves, OpOut, as_number}
+use Rattle.widget_meaning.specs.NativeForms.{is_too_long, want_primitives, with_number, give_text, want_function, on_text, on_array, on_bunch, make_array, make_bunch, with_number_or, with_optional, give_texts, on_object, numbered_pairs}
+use Rattle.widget_meaning.specs.MathNatives.{best, of_one, of_all, pow, math_native, power}
+use Rattle.widget_meaning.specs.Costs.{object_cost, with_counts, give, cost}
+use Rattle.std.specs.Prelude.{◌||◌, ℕ, ℤ, List, [], ◌∷◌, Option, Some, pos, zero, suc, negsuc, Bool, true, false, None, length, map, unsigned_abs, not, ◌==◌, ◌+◌, sum_by, ◌&&◌, nat_le, nat_lt, neg_ℤ, if◌then◌else◌}
 use Rattle.std.proofs.Common.{◌≡◌, ◌≤◌, refl, ap, subst, arith}
-use Rattle.widget_meaning.specs.Limits.{max_length, max_slots}
-use Rattle.widget_meaning.specs.OwnState.{Kind, Object, Array, Function, Bunch, cell_at}
+use Rattle.widget_meaning.specs.Limits.{max_length, max_slots, min_radix, max_radix}
+use Rattle.widget_meaning.specs.OwnState.{Kind, Object, Array, Function, Bunch, cell_at, State, new_array, new_bunch, with_new_cell, array_length, bunch_nodes, kind_of}
 use Rattle.widget_meaning.specs.JsonBack.{HasLength}
 use Rattle.code_units.specs.declared.whole.WholeRead.TheVariants as read
-use Rattle.std.specs.Prelude.{ℕ, ℤ, List, [], ◌∷◌, Option, Some, pos}
 use Rattle.code_units.specs.declared.whole.WholeRead.{WholeRead}
-use Rattle.widget_meaning.specs.Values.{Value, Undefined, Text, Own, Host}
-use Rattle.widget_meaning.specs.OwnState.{State}
+use Rattle.widget_meaning.specs.Values.{Value, Undefined, Text, Own, Host, NaN, Num, Is, to_number, to_text, nth, is_object, E3, E4}
 use Rattle.widget_meaning.specs.Plan.{Plan}
 use Rattle.widget_meaning.specs.NativeNames.{GlobalNative, BooleanOf, NumberOf, StringOf, IsNaN, IsFinite, ParseInt, FromCharCode, MathNative, Abs, Ceil, Floor, Round, Max, Min, Pow}
-use Rattle.widget_meaning.specs.Operators.{OpOut}
-use Rattle.widget_meaning.specs.NativeForms.{want_primitives, with_number, give_text, want_function, on_text, on_array, on_bunch, make_array, make_bunch, with_number_or, with_optional, give_texts, on_object}
-use Rattle.widget_meaning.specs.GlobalNatives.{boolean_of, of_number, number_of, text_of_primitive, string_of, string_native, parse_int, from_char_code, global_native}
-use Rattle.widget_meaning.specs.MathNatives.{of_one, of_all, pow, math_native}
-use Rattle.std.specs.Prelude.{zero, suc, negsuc, Bool, true, false, None, length, map, unsigned_abs, not, ◌==◌, ◌+◌, sum_by}
+use Rattle.widget_meaning.specs.GlobalNatives.{boolean_of, of_number, number_of, text_of_primitive, string_of, string_native, parse_int, from_char_code, global_native, nan_or_not, has_left, code_of, units_read, parsed, run_value, radix_of, digit_run, without_0x}
 use Rattle.std.specs.Int.{int_max, int_min, int_pow}
-use Rattle.std.specs.List.{list_any}
-use Rattle.widget_meaning.specs.Values.{NaN, Num, Is, to_number, to_text, nth, is_object, E3, E4}
-use Rattle.widget_meaning.specs.OwnState.{new_array, new_bunch, with_new_cell, array_length, bunch_nodes, kind_of}
-use Rattle.widget_meaning.specs.Operators.{as_number}
-use Rattle.widget_meaning.specs.Costs.{with_counts, give, cost}
-use Rattle.widget_meaning.specs.NativeForms.{numbered_pairs}
+use Rattle.std.specs.List.{list_any, AllByRecursion}
 use Rattle.widget_meaning.specs.Properties.{is_own_function}
-use Rattle.widget_meaning.specs.GlobalNatives.{nan_or_not, has_left, code_of, units_read, parsed, run_value, radix_of, digit_run, without_0x}
-use Rattle.widget_meaning.specs.Limits.{min_radix, max_radix}
-use Rattle.std.specs.Prelude.{◌&&◌, nat_le, nat_lt, neg_ℤ}
-use Rattle.std.specs.Prelude.{if◌then◌else◌}
 use Rattle.code_units.specs.Whole.{trimmed_start}
 use Rattle.std.specs.Str.Parse.{digits_value, starts_with_minus, without_leading_sign}
-use Rattle.widget_meaning.specs.MathNatives.{power}
-use Rattle.std.specs.List.{AllByRecursion}
 use Rattle.meaning_laws.proofs.Forms.{result_r, to_primitive_r, bunch_is, bunch_cell, array_is}
 use Rattle.meaning_laws.specs.There.{Sizes, Grows, Told, CellFits, ValueIs, ValuesAre, MaybeIs, NodesAre}
 use Rattle.meaning_laws.specs.Texts.{AreUnits, AreAllUnits, IsText, IsOrdinaryValue}
 use Rattle.meaning_laws.proofs.Units.{codes_are, made_is}
-use Rattle.meaning_laws.proofs.Values.{told, also, truth_is, nan_is, num_is, text_is, numbered_are, numbered_names, value_end}
 use Rattle.meaning_laws.proofs.Results.{GivenIs, given, leaves, number_given, truth_given, either_given, as_number_given}
-use Rattle.meaning_laws.proofs.Steps.{R, Keeps, ended, halted, either, value, chain, charged, paid, made_text, faulted, wanted, found, born_then}
 
 module _ (m : Sizes) where
   run_given : (negative : Bool) (radix : ℕ) (ds : List ℕ) → GivenIs m (run_value negative radix ds)

@@ -1,6 +1,6 @@
 -- Numbers that are read and computed are within the numbers.
 use Rattle.std.proofs.Common.{◌≡◌, ℕ, zero, suc, ◌+◌, ◌/◌, ◌%◌, ◌^◌, ◌<◌, ◌≤◌, ℤ, pos, negsuc, Bool, true, false, cond, List, [], ◌∷◌, length, refl, sym, subst, arith, map, nat_lt, ltb-true}
-use Rattle.std.specs.Prelude.{Option, Some, None, if◌then◌else◌, ◌==◌, ◌||◌, ⊤, codes, unsigned_abs, neg_ℤ, int_rem, int_div, int_lt, slice_get}
+use Rattle.std.specs.Prelude.{Option, Some, None, if◌then◌else◌, ◌==◌, ◌||◌, ⊤, codes, unsigned_abs, neg_ℤ, int_rem, int_div, int_lt, slice_get, drop}
 use Rattle.std.specs.List.{AllByRecursion, fold, last_or, range_with_len}
 use Rattle.std.specs.Int.{int_min, int_max, int_pow}
 use Rattle.std.specs.Str.{bytes_eq}
@@ -10,7 +10,6 @@ use Rattle.std.proofs.lemmas.Bool.{eqb-true}
 use Rattle.code_units.specs.declared.whole.WholeRead.{WholeRead}
 use Rattle.code_units.specs.declared.whole.WholeRead.TheVariants as read
 use Rattle.code_units.specs.Whole.{bounded, is_numeral, is_fraction, is_hexadecimal, number_of, number_in, trimmed}
-use Rattle.std.specs.Prelude.{drop}
 use Rattle.widget_meaning.specs.Limits.{past_numbers}
 use Rattle.widget_meaning.specs.Values.{Value, Undefined, Null, Truth, NaN, Num, Text, Own, Host, to_number}
 use Rattle.widget_meaning.specs.Operators.{of_numbers}

@@ -1,77 +1,53 @@
 -- The natives of the page keep what is there, and so does each native.
-use Rattle.meaning_laws.proofs.Values.{text_told}
-use Rattle.meaning_laws.proofs.Units.{made_is}
-use Rattle.meaning_laws.specs.There.{OfCount}
-use Rattle.widget_meaning.specs.Limits.{past_numbers}
-use Rattle.widget_meaning.specs.Values.{E3}
-use Rattle.widget_meaning.specs.OwnState.{Kind, Object, Array, Function, Bunch, cell_at}
-use Rattle.widget_meaning.specs.NativeForms.{on_bunch}
-use Rattle.std.specs.Prelude.{pos}
-use Rattle.widget_meaning.specs.NativeForms.{numbered_pairs}
+use Rattle.meaning_laws.proofs.Values.{text_told, told, also, own_value, units_told, numbered_names, undefined_is, truth_is, num_is, text_is, no_values, more_values, nth_is, no_value, or_undefined, numbered_are, value_end, call_job}
+use Rattle.meaning_laws.proofs.Units.{made_is, units_tested}
+use Rattle.meaning_laws.specs.There.{OfCount, Sizes, Grows, Told, CellFits, ValueIs, ValuesAre, MaybeIs, NodeIs, NodesAre, OfNode, CellIs, KeptIs}
+use Rattle.widget_meaning.specs.Limits.{past_numbers, max_node_depth, max_slots}
+use Rattle.widget_meaning.specs.Values.{E3, Value, Undefined, Own, Is, E4, E10, to_text, nth, Null, Truth, NaN, Num, Text, Host, is_true, is_object}
+use Rattle.widget_meaning.specs.OwnState.{Kind, Object, Array, Function, Bunch, cell_at, State, with_new_cell, new_array, new_bunch, Kept, nothing_kept, kept_at, with_forest, Cell, Handler, bunch_nodes, kind_of}
+use Rattle.widget_meaning.specs.NativeForms.{on_bunch, numbered_pairs}
+use Rattle.std.specs.Prelude.{pos, not, replicate, ℕ, ◌+◌, List, [], ◌∷◌, Bool, true, false, if◌then◌else◌, codes, Option, Some, None, length, map, unwrap_or, ◌-◌, ◌*◌, ◌&&◌, ◌||◌, nat_eq, sum_by}
 use Rattle.std.specs.Str.{bytes_eq}
-use Rattle.std.specs.Prelude.{not, replicate, ℕ, ◌+◌, List, [], ◌∷◌, Bool, true, false, if◌then◌else◌, codes, Option, Some, None, length}
-use Rattle.std.specs.List.{fold, filter}
+use Rattle.std.specs.List.{fold, filter, AllByRecursion, range_with_len, count_by, list_all, list_any}
 use Rattle.std.specs.Option.{option_map_or}
 use Rattle.permitted_table.specs.declared.native.NativeId.{NativeId}
-use Rattle.widget_meaning.specs.Values.{Value, Undefined, Own, Is, E4, E10, to_text, nth}
-use Rattle.plain_tree.specs.Trees.{Label, TextOf, End, Node, size}
-use Rattle.plain_tree.specs.Words.{is_event_type}
-use Rattle.widget_meaning.specs.Trees.{Trees, label_of, tops, children, parent, subtrees, grafted, numbered, copied, with_detached, detached, moved}
-use Rattle.widget_meaning.specs.OwnState.{State, with_new_cell, new_array, new_bunch, Kept, nothing_kept, kept_at, with_forest}
-use Rattle.widget_meaning.specs.Costs.{cost, give, with_counts}
+use Rattle.plain_tree.specs.Trees.{Label, TextOf, End, Node, size, Attribute}
+use Rattle.plain_tree.specs.Words.{is_event_type, is_plain_words}
+use Rattle.widget_meaning.specs.Trees.{Trees, label_of, tops, children, parent, subtrees, grafted, numbered, copied, with_detached, detached, moved, subtree}
+use Rattle.widget_meaning.specs.Costs.{cost, give, with_counts, want}
 use Rattle.widget_meaning.specs.Plan.{Plan}
 use Rattle.widget_meaning.specs.NativeNames.{ReadNative, Query, GetValue, GetValues, GetStyle, GetClass, GetTitle, GetCheck, Explode, Count, GetParent, GetTagName, GetMark, WriteNative, Append, Remove, Empty, Replace, SetValue, SetStyle, SetClass, SetTitle, SetCheck, SetEnabled, Focus, Blur, On, Off, Fire, Each, SetMark, Protect, OfEvent, family_of, DomNative, DomQuery, DomAppend, DomTag, DomText, Family, OfGlobal, OfMath, OfPrototype, OfText, OfList, OfAdsafe, OfDom, OfRead, OfWrite}
-use Rattle.widget_meaning.specs.PageForms.{root, next_node, with_room, with_node, is_input, is_text_node, want_one, want_bunch, with_label}
+use Rattle.widget_meaning.specs.PageForms.{root, next_node, with_room, with_node, is_input, is_text_node, want_one, want_bunch, with_label, is_field, tree_units, is_element, attribute, tag_of, texts_of}
 use Rattle.query_grammar.specs.Steps.{Step}
-use Rattle.widget_meaning.specs.BunchReads.{bunches_from, query, read_native, give_page_text, query_steps, get_value, get_values, get_attribute, get_style, explode, get_parent, get_tag_name, read_method, exploded, with_bunch}
-use Rattle.widget_meaning.specs.BunchWrites.{appended, write_native, alter, alter_for, append_trees, append, remove, replace, set_value, set_style, set_attribute, set_flag, focus, blur, listen, hush, fired, fire, each_called, each, write_method, with_copies, emptied, relabel, with_text_node, valued, alter_each, change_kept}
-use Rattle.widget_meaning.specs.DomNatives.{dom_native, give_node, dom_tag, append_to_root, dom_append}
+use Rattle.widget_meaning.specs.BunchReads.{bunches_from, query, read_native, give_page_text, query_steps, get_value, get_values, get_attribute, get_style, explode, get_parent, get_tag_name, read_method, exploded, with_bunch, value_of, has_open_parent, first_attribute, first_mark}
+use Rattle.widget_meaning.specs.BunchWrites.{appended, write_native, alter, alter_for, append_trees, append, remove, replace, set_value, set_style, set_attribute, set_flag, focus, blur, listen, hush, fired, fire, each_called, each, write_method, with_copies, emptied, relabel, with_text_node, valued, alter_each, change_kept, styled, with_handler, with_focus, left_focus, is_target, has_new_text, is_no_root, is_value_target}
+use Rattle.widget_meaning.specs.DomNatives.{dom_native, give_node, dom_tag, append_to_root, dom_append, given_text}
 use Rattle.widget_meaning.specs.Natives.{run_family, run_native}
 use Rattle.tree_ops.specs.Labels.{with_attribute}
-use Rattle.std.proofs.Common.{◌≡◌, ◌<◌, ◌≤◌, ◌++◌, ◌∙◌, suc, refl, sym, ap, subst, arith}
+use Rattle.std.proofs.Common.{◌≡◌, ◌<◌, ◌≤◌, ◌++◌, ◌∙◌, suc, refl, sym, ap, subst, arith, zero}
 use Rattle.std.proofs.lemmas.List.{length-map, length-append, length-replicate}
-use Rattle.std.specs.Prelude.{map, unwrap_or, ◌-◌, ◌*◌, ◌&&◌, ◌||◌, nat_eq, sum_by}
-use Rattle.std.specs.List.{AllByRecursion, range_with_len, count_by, list_all, list_any}
 use Rattle.query_grammar.specs.Finds.{has_number}
-use Rattle.widget_meaning.specs.Values.{Null, Truth, NaN, Num, Text, Host, is_true, is_object}
 use Rattle.style_text.specs.Styles.{is_listed, is_value}
-use Rattle.plain_tree.specs.Words.{is_plain_words}
 use Rattle.plain_tree.specs.Tags.{is_listed_tag}
-use Rattle.widget_meaning.specs.OwnState.{Cell, Handler, bunch_nodes, kind_of}
-use Rattle.widget_meaning.specs.Costs.{want}
 use Rattle.widget_meaning.specs.Queries.{read_query}
-use Rattle.widget_meaning.specs.PageForms.{is_field, tree_units, is_element}
-use Rattle.widget_meaning.specs.DomNatives.{given_text}
-use Rattle.widget_meaning.specs.BunchReads.{value_of, has_open_parent, first_attribute, first_mark}
-use Rattle.widget_meaning.specs.PageForms.{attribute, tag_of, texts_of}
-use Rattle.widget_meaning.specs.Trees.{subtree}
-use Rattle.plain_tree.specs.Trees.{Attribute}
 use Rattle.widget_meaning.specs.NodeLaws.{IsPage}
-use Rattle.widget_meaning.specs.BunchWrites.{styled, with_handler, with_focus, left_focus, is_target, has_new_text, is_no_root, is_value_target}
 use Rattle.widget_meaning.proofs.Times.{relabelled_once, moved_once, detached_once, grown_once, born_once}
 use Rattle.meaning_laws.proofs.Each.{each_both, each_filtered, each_mapped, each_made, each_in_range}
-use Rattle.widget_meaning.specs.Limits.{max_node_depth, max_slots}
-use Rattle.std.proofs.Common.{zero}
-use Rattle.meaning_laws.proofs.Natives.{numbered_length}
+use Rattle.meaning_laws.proofs.Natives.{numbered_length, give_texts_r, global_native_r, make_bunch_r, math_native_r, on_bunch_r, want_function_r, want_primitives_r}
 use Rattle.meaning_laws.proofs.Levels.{low_detached, height_relabelled}
 use Rattle.meaning_laws.proofs.Low.{IsLow, MayTake, low_put, low_copies, takes_still, target_takes, targets_take, both_true}
 use Rattle.meaning_laws.proofs.Written.{IsReady, IsOpen, low_text, low_new, open_freed, open_other, ready_valued, all_ready}
 use Rattle.meaning_laws.specs.Texts.{AreUnits, AreAllUnits, MaybeUnits, IsText, LabelHasTexts, PageHasTexts}
-use Rattle.meaning_laws.proofs.Units.{units_tested}
 use Rattle.widget_meaning.specs.Styles.{style_pairs}
 use Rattle.meaning_laws.proofs.Styles.{style_pairs_are, style_value_is}
 use Rattle.meaning_laws.proofs.Labels.{MaybeLabel, attribute_set, attribute_found, tag_found, or_empty, styled_is, page_grafted, page_subtree, page_behind, page_freed, page_all_freed, page_all_moved, page_relabelled, page_numbered, page_copied, page_subtrees, label_is, texts_are}
 use Rattle.meaning_laws.proofs.Nodes.{query_finds, parents_are, nodes_below}
-use Rattle.meaning_laws.proofs.Steps.{stands, wants, higher, ended_at, paged, page_later, roomy, room_grows, rekept, focused}
+use Rattle.meaning_laws.proofs.Steps.{stands, wants, higher, ended_at, paged, page_later, roomy, room_grows, rekept, focused, R, Stands, Keeps, ended, job, value, chain, charged, paid, made_text, faulted, wanted, found, lowered, born_then}
 use Rattle.meaning_laws.proofs.Forms.{Hosted, bunch_hosted, array_hosted, all_born, with_more, more_grows, array_is, bunch_cell, bunch_is, dispatch_r, bubble_r}
-use Rattle.meaning_laws.proofs.Natives.{give_texts_r, global_native_r, make_bunch_r, math_native_r, on_bunch_r, want_function_r, want_primitives_r}
 use Rattle.meaning_laws.proofs.Lists.{list_native_r, prototype_native_r}
 use Rattle.meaning_laws.proofs.Texts.{text_native_r}
 use Rattle.meaning_laws.proofs.Adsafe.{adsafe_native_r}
-use Rattle.meaning_laws.specs.There.{Sizes, Grows, Told, CellFits, ValueIs, ValuesAre, MaybeIs, NodeIs, NodesAre, OfNode, CellIs, KeptIs}
 use Rattle.meaning_laws.proofs.Later.{told_later, value_later, values_later, nodes_later}
-use Rattle.meaning_laws.proofs.Values.{told, also, own_value, units_told, numbered_names, undefined_is, truth_is, num_is, text_is, no_values, more_values, nth_is, no_value, or_undefined, numbered_are, value_end, call_job}
-use Rattle.meaning_laws.proofs.Steps.{R, Stands, Keeps, ended, job, value, chain, charged, paid, made_text, faulted, wanted, found, lowered, born_then}
 
 module _ (m : Sizes) where
   pub fold_kept : (f : State → ℕ → State) → ((t : State) (n : ℕ) → R m t → R m (f t n)) → (ns : List ℕ) (s : State) → R m s → R m (fold f s ns)

@@ -1,19 +1,15 @@
 -- What is read of JSON: the strings and the keys are contents of strings.
-use Rattle.std.proofs.Common.{◌≡◌, ◌<◌, refl, arith}
+use Rattle.std.proofs.Common.{◌≡◌, ◌<◌, refl, arith, ℕ, zero, suc, Bool, true, false, cond, List, [], ◌∷◌, length}
 use Rattle.std.proofs.lemmas.Bool.{eqb-true}
-use Rattle.json.specs.Word.{is_operator, is_space}
-use Rattle.std.proofs.Common.{ℕ, zero, suc, Bool, true, false, cond, List, [], ◌∷◌, length}
-use Rattle.std.specs.Prelude.{Option, Some, None, option_map, option_and_then, ⊤, ◌==◌}
-use Rattle.std.specs.List.{AllByRecursion}
+use Rattle.json.specs.Word.{is_operator, is_space, head, word, literal, number_before, after_number, ends_word}
+use Rattle.std.specs.Prelude.{Option, Some, None, option_map, option_and_then, ⊤, ◌==◌, nat_eq, drop, ◌&&◌}
+use Rattle.std.specs.List.{AllByRecursion, starts_with}
 use Rattle.std.specs.Ordering.{match_ordering, nat_cmp}
 use Rattle.std.specs.declared.cmp.Ordering.{Ordering}
 use Rattle.std.specs.declared.cmp.Ordering.TheVariants.{Less, Equal, Greater}
 use Rattle.std.specs.Cmp.Lexicographic.{slice_cmp}
 use Rattle.json.specs.Token.{Token, begin_object, end_object, begin_array, end_array, key, string, number, boolean, null, bad}
 use Rattle.json.specs.Text.{content, plain}
-use Rattle.std.specs.Prelude.{nat_eq, drop, ◌&&◌}
-use Rattle.std.specs.List.{starts_with}
-use Rattle.json.specs.Word.{head, word, literal, number_before, after_number, ends_word}
 use Rattle.json.specs.Lex.{Lexeme, token, comma, colon, Class, quote, backslash, operator, space, other, class, operator_lexeme, string_token, Mode, between, in_word, in_string, in_escape, lex_byte, lex, Place, fresh, after_value, after_comma, after_key, begins_colon, may_begin, may_close, if_allowed, place_token, punctuate, tokens}
 use Rattle.json.specs.Json as grammar
 use Rattle.json.specs.Json.{after_end_array, read_key, items_step, members_step, items, members, value_with, value, if_last, Parse, parse_map}

@@ -1,15 +1,12 @@
 -- The methods of texts keep what is there.
-use Rattle.std.specs.Prelude.{ℕ, List, Option}
+use Rattle.std.specs.Prelude.{ℕ, List, Option, sum_by, ◌≡◌, ◌<◌, true, [], ◌∷◌, ◌++◌, ◌+◌, Some, None, pos, length, not, slice_get, nat_le, slice_range}
 use Rattle.widget_meaning.specs.NativeNames.{TextNative, CharAt, CharCodeAt, TextConcat, IndexOf, LastIndexOf, TextSlice, Substring, Split, ToLowerCase, ToUpperCase}
-use Rattle.widget_meaning.specs.Values.{Value, Undefined}
+use Rattle.widget_meaning.specs.Values.{Value, Undefined, Text, Is, nth, to_text, to_number, is_object, E4}
 use Rattle.widget_meaning.specs.OwnState.{State}
-use Rattle.widget_meaning.specs.TextNatives.{char_at, char_code_at, text_concat, index_of, last_index_of, text_slice, substring, split, pieces, text_method, text_native}
-use Rattle.std.specs.Prelude.{sum_by, ◌≡◌, ◌<◌, true, [], ◌∷◌, ◌++◌, ◌+◌, Some, None, pos, length, not, slice_get, nat_le, slice_range}
+use Rattle.widget_meaning.specs.TextNatives.{char_at, char_code_at, text_concat, index_of, last_index_of, text_slice, substring, split, pieces, text_method, text_native, first_code, unit_at, found, positions, between}
 use Rattle.std.specs.List.{list_any, filter, flat_map, last_or}
 use Rattle.widget_meaning.specs.NativeForms.{from_end, clamped}
-use Rattle.widget_meaning.specs.Values.{Text, Is, nth, to_text, to_number, is_object, E4}
 use Rattle.widget_meaning.specs.Costs.{give}
-use Rattle.widget_meaning.specs.TextNatives.{first_code, unit_at, found, positions, between}
 use Rattle.meaning_laws.proofs.Natives.{give_text_r, give_texts_r, make_array_r, on_text_r, want_primitives_r, with_number_or_r, with_number_r, with_optional_r}
 use Rattle.meaning_laws.specs.There.{Sizes, Told, ValueIs, ValuesAre, MaybeIs}
 use Rattle.meaning_laws.specs.Texts.{AreUnits, IsText}

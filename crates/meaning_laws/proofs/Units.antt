@@ -1,14 +1,12 @@
 -- What is made of texts of 16-bit units is such a text.
-use Rattle.std.proofs.lemmas.Bool.{ltb-false}
-use Rattle.std.specs.Prelude.{◌&&◌}
+use Rattle.std.proofs.lemmas.Bool.{ltb-false, and_parts}
+use Rattle.std.specs.Prelude.{◌&&◌, if◌then◌else◌, ◌==◌, codes, slice_range, unsigned_abs, nat_eq}
 use Rattle.std.proofs.Common.{◌≤◌, ◌≡◌, ℕ, zero, suc, ◌+◌, ◌-◌, ◌/◌, ◌%◌, ◌<◌, ℤ, pos, negsuc, Bool, true, false, cond, List, [], ◌∷◌, ◌++◌, length, refl, arith, map, drop, nat_lt, ltb-true}
-use Rattle.std.specs.Prelude.{if◌then◌else◌, ◌==◌, codes, slice_range, unsigned_abs, nat_eq}
 use Rattle.std.specs.List.{AllByRecursion, list_all, flat_map, join_by, starts_with, onto_first}
 use Rattle.std.specs.Fmt.{digits, digits_onto, digit_glyph, decimal, signed_decimal}
 use Rattle.std.specs.Int.{int_rem_euclid}
 use Rattle.std.specs.Str.{str_to_ascii_lowercase, str_to_ascii_uppercase}
 use Rattle.std.specs.Char.{to_ascii_lowercase, to_ascii_uppercase}
-use Rattle.std.proofs.lemmas.Bool.{and_parts}
 use Rattle.code_units.specs.declared.whole.WholeRead.{WholeRead}
 use Rattle.code_units.specs.declared.whole.WholeRead.TheVariants as read
 use Rattle.widget_meaning.specs.Limits.{past_units, past_numbers, max_text}

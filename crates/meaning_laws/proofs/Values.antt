@@ -1,5 +1,5 @@
 -- Values that a widget comes to are there.
-use Rattle.std.proofs.Common.{◌≡◌, ◌<◌, ℕ, zero, suc, pos, ℤ, ◌+◌, List, [], ◌∷◌, ◌++◌, length, Bool, true, false, subst, take, drop}
+use Rattle.std.proofs.Common.{◌≡◌, ◌<◌, ℕ, zero, suc, pos, ℤ, ◌+◌, List, [], ◌∷◌, ◌++◌, length, Bool, true, false, subst, take, drop, arith}
 use Rattle.std.specs.Prelude.{Option, Some, None, if◌then◌else◌, unwrap_or}
 use Rattle.std.specs.List.{AllByRecursion, filter}
 use Rattle.std.specs.Str.{bytes_eq}
@@ -28,7 +28,6 @@ use Rattle.meaning_laws.specs.Texts.{AreUnits, IsText, AreTexts, AreNames, ExprH
 use Rattle.meaning_laws.proofs.Units.{decimal_is, to_text_is}
 use Rattle.meaning_laws.proofs.Numbers.{Within, OfRead, to_number_is}
 use Rattle.widget_meaning.specs.JsonBack.{HasLength}
-use Rattle.std.proofs.Common.{arith}
 use Rattle.meaning_laws.proofs.Each.{each_both, each_taken, each_dropped, each_filtered, each_made}
 
 module _ (m : Sizes) where

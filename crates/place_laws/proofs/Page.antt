@@ -14,8 +14,7 @@ use Rattle.style_text.specs.Styles.{is_listed}
 use Rattle.widget_meaning.specs.Styles.{style_pairs, style_value}
 use Rattle.plain_tree.specs.Tags.{is_listed_tag}
 use Rattle.widget_meaning.specs.Values.{Value, Undefined, Truth, Text, Own, Is, E4, E9, E10, is_true, to_text, nth}
-use Rattle.widget_meaning.specs.Trees.{Trees, label_of, parent, subtrees, detached}
-use Rattle.widget_meaning.specs.Trees.{moved as moved_to}
+use Rattle.widget_meaning.specs.Trees.{Trees, label_of, parent, subtrees, detached, moved as moved_to}
 use Rattle.widget_meaning.specs.OwnState.{State, Kept, bunch_nodes, kind_of, with_new_cell, new_array, new_bunch, with_forest}
 use Rattle.widget_meaning.specs.Costs.{cost, slots_cost, give, want, or_throw}
 use Rattle.widget_meaning.specs.Plan.{Plan, Call}
