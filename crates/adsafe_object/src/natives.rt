@@ -1,8 +1,10 @@
 //! The one call of a native.
-ghost use Rattle.std.specs.Prelude.{◌≡◌, ◌<◌, List, None, true, IfOk, OnErr};
+ghost use Rattle.std.specs.Prelude.{◌≡◌, ◌<◌, List, Option, None, true, IfOk, OnErr};
 ghost use Rattle.js_tree.specs.Forest.{Forest};
 ghost use Rattle.store_cells.specs.Cells.{IsWidget, number_in};
+ghost use Rattle.widget_meaning.specs.AdsafeNatives.{adsafe_native};
 ghost use Rattle.widget_meaning.specs.Natives.{run_native};
+ghost use Rattle.widget_meaning.specs.Values.{Value as Plain};
 ghost use Rattle.js_image.specs.Image.{all_seen};
 ghost use Rattle.js_image.specs.Held.{AreFine, Kept};
 ghost use Rattle.native_common.specs.Receivers.{IsReceiver, receiver};
@@ -18,7 +20,7 @@ use code_units::{Memory, Owner, Text};
 use js_values::{Meter, NativeOut};
 use json_text::{from_json, to_json};
 use native_common::nth;
-use object_store::{CellId, NativeId, Store, Value};
+use object_store::{AdsafeNative, CellId, NativeId, Store, Value};
 use std::alloc::Global;
 
 /// Calls a native of `ADSAFE`, or `hasOwnProperty`, whose unit was taken: the answer is the row of the
@@ -89,21 +91,54 @@ fn run(
 {
     let absent = Value::Undefined;
     let first = nth(args, 0, &absent);
+    match which {
+        NativeId::Adsafe(native) => of_adsafe(
+            alloc, native, args, store, meter, w, log, waiting, asked, posts,
+        ),
+        NativeId::Prototype(_) => has_own_property(alloc, store, w, this, first),
+        _ => unreachable!(),
+    }
+}
+
+// A native of `ADSAFE`, for every receiver.
+fn of_adsafe(
+    alloc: Global,
+    which: AdsafeNative,
+    args: &[Value],
+    store: &mut Store,
+    meter: &mut Meter,
+    w: u32,
+    log: &mut Vec<Text>,
+    waiting: u32,
+    asked: &mut Option<(CellId, i64)>,
+    posts: &mut Vec<(Text, Text)>,
+) -> Result<NativeOut, Memory>
+    requires widget { w < 32 }
+    requires args { AreFine w store.old.cells args.now }
+    requires unasked { asked.old ≡ None }
+    ensures own { AsksOwn w store.new.cells asked.new }
+    ensures native { (this : Option Plain) → IfOk result (λ o.
+        MeetsNoted w waiting store.old store.new meter.old meter.new
+        (record { log = log.old.items; posts = posts.old.items; asked = None })
+        (record { log = log.new.items; posts = posts.new.items; asked = asked.new })
+        (adsafe_native which this (all_seen w store.old.cells args.now)) o) }
+    ensures memory { OnErr result ((fs : List Forest) → Kept fs w store.old store.new) }
+{
+    let absent = Value::Undefined;
+    let first = nth(args, 0, &absent);
     let second = nth(args, 1, &absent);
     match which {
-        NativeId::Get => get(alloc, store, w, first, second),
-        NativeId::Set => set(alloc, store, w, first, second, nth(args, 2, &absent)),
-        NativeId::Remove => remove(alloc, store, w, first, second),
-        NativeId::HasOwnProperty => has_own_property(alloc, store, w, this, first),
-        NativeId::Has => has(alloc, store, w, first, second),
-        NativeId::Create => create(alloc, store, w, first),
-        NativeId::IsArray => Ok(is_array(store, w, first)),
-        NativeId::Keys => keys(alloc, store, meter, w, first),
-        NativeId::Later => Ok(later(store, w, first, second, waiting, asked)),
-        NativeId::Log => log_value(alloc, store, meter, w, first, log),
-        NativeId::Post => post(store, meter, w, first, second, posts),
-        NativeId::FromJson => from_json(alloc, store, meter, w, first),
-        NativeId::ToJson => to_json(alloc, store, meter, w, first),
-        _ => unreachable!(),
+        AdsafeNative::GetProperty => get(alloc, store, w, first, second),
+        AdsafeNative::SetProperty => set(alloc, store, w, first, second, nth(args, 2, &absent)),
+        AdsafeNative::RemoveProperty => remove(alloc, store, w, first, second),
+        AdsafeNative::HasProperty => has(alloc, store, w, first, second),
+        AdsafeNative::Create => create(alloc, store, w, first),
+        AdsafeNative::IsArray => Ok(is_array(store, w, first)),
+        AdsafeNative::KeysOf => keys(alloc, store, meter, w, first),
+        AdsafeNative::Later => Ok(later(store, w, first, second, waiting, asked)),
+        AdsafeNative::LogValue => log_value(alloc, store, meter, w, first, log),
+        AdsafeNative::Post => post(store, meter, w, first, second, posts),
+        AdsafeNative::FromJson => from_json(alloc, store, meter, w, first),
+        AdsafeNative::ToJson => to_json(alloc, store, meter, w, first),
     }
 }

@@ -12,7 +12,7 @@ use Rattle.object_store.specs.Owned.{visible_at}
 use Rattle.widget_meaning.specs.BunchWrites.{alter_each, change_kept, hush, listen, with_handler, write_method}
 use Rattle.widget_meaning.specs.Costs.{give, pay, slots_cost, throw, want}
 use Rattle.widget_meaning.specs.NativeForms.{want_function, want_primitives}
-use Rattle.widget_meaning.specs.NativeNames.{Off, On, SetMark}
+use Rattle.permitted_table.specs.declared.native.WriteNative.TheVariants.{Off, On, SetMark}
 use Rattle.widget_meaning.specs.OwnState.{State}
 use Rattle.widget_meaning.specs.Plan.{Plan, charge}
 use Rattle.widget_meaning.specs.Properties.{is_own_function}

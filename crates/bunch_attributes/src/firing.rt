@@ -1,7 +1,7 @@
 //! Dispatches to the nodes of a Bunch.
 ghost use Rattle.std.specs.Prelude.{◌<◌, [], ◌∷◌, Bool, Option, IfOk, map};
 ghost use Rattle.widget_meaning.specs.BunchWrites as means;
-ghost use Rattle.widget_meaning.specs.NativeNames as names;
+ghost use Rattle.permitted_table.specs.declared.native.WriteNative.TheVariants as names;
 ghost use Rattle.js_image.specs.Held.{IsHeld};
 ghost use Rattle.js_image.specs.Image.{seen};
 ghost use Rattle.page_image.specs.Image.{number};

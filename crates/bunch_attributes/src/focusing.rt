@@ -3,7 +3,7 @@ ghost use Rattle.std.specs.Prelude.{◌≡◌, ◌<◌, ℕ, [], Bool, Option, t
 ghost use Rattle.query_grammar.specs.Finds.{has_number};
 ghost use Rattle.store_cells.specs.Cells.{Cells};
 ghost use Rattle.widget_meaning.specs.BunchWrites as means;
-ghost use Rattle.widget_meaning.specs.NativeNames as names;
+ghost use Rattle.permitted_table.specs.declared.native.WriteNative.TheVariants as names;
 ghost use Rattle.widget_meaning.specs.OwnState.{State};
 ghost use Rattle.event_image.specs.Image.{Shows};
 ghost use Rattle.js_image.specs.Held.{IsHeld};

@@ -4,7 +4,7 @@ ghost use Rattle.plain_tree.specs.Trees as plain;
 ghost use Rattle.style_text.specs.Styles.{is_listed, is_value};
 ghost use Rattle.tree_ops.specs.Labels.{with_attribute};
 ghost use Rattle.widget_meaning.specs.BunchWrites as means;
-ghost use Rattle.widget_meaning.specs.NativeNames as names;
+ghost use Rattle.permitted_table.specs.declared.native.WriteNative.TheVariants as names;
 ghost use Rattle.event_loop.specs.declared.around.Loop.{Loop};
 ghost use Rattle.js_image.specs.Held.{IsHeld};
 ghost use Rattle.js_image.specs.Image.{seen};

@@ -1,3 +1,3 @@
 pub mod Values
 pub mod Finding
-pub mod Kinds
+pub mod Part

@@ -1,18 +1,18 @@
 //! The one call of this crate.
-ghost use Rattle.std.specs.Prelude.{◌≡◌, ◌<◌, true, IfOk, map};
+ghost use Rattle.std.specs.Prelude.{◌≡◌, ◌<◌, [], ◌∷◌, true, IfOk, map};
 ghost use Rattle.store_cells.specs.Cells.{IsWidget, number_in};
+ghost use Rattle.widget_meaning.specs.BunchReads.{read_method};
 ghost use Rattle.widget_meaning.specs.Natives.{run_native};
 ghost use Rattle.js_image.specs.Image.{all_seen, seen};
 ghost use Rattle.native_common.specs.Receivers.{IsReceiver, receiver};
 ghost use Rattle.page_image.specs.Image.{number};
 ghost use Rattle.native_image.specs.Meets.{Reads};
 ghost use Rattle.native_image.specs.Sound.{AreNodes, HoldsOwn, IsSound, KeepsStore};
-ghost use Rattle.bunch_read.specs.Kinds.{is_part, method_plan};
+ghost use Rattle.bunch_read.specs.Part.{is_part, is_read};
 
 use crate::attributes::get_attribute;
 use crate::finding::{get_parent, query};
 use crate::first::{count, get_check, get_mark, get_tag_name};
-use crate::kinds::{Kind, Method, kind_of};
 use crate::styles::get_style;
 use crate::texts::{get_value, get_values};
 use code_units::{Memory, Owner};
@@ -21,7 +21,7 @@ use js_image::Fault;
 use js_values::{Meter, NativeOut};
 use native_common::nth;
 use native_image::receiver_of;
-use object_store::{NativeId, Store, Value};
+use object_store::{NativeId, ReadNative, Store, Value};
 use page_tree::{NodeId, Page};
 use std::alloc::Global;
 
@@ -80,23 +80,23 @@ fn call_of(
 {
     let absent = Value::Undefined;
     let first = nth(args, 0, &absent);
-    match kind_of(which) {
-        Kind::DomQuery => match page.root_of(Owner::Widget(w)) {
+    match which {
+        NativeId::Dom(_) => match page.root_of(Owner::Widget(w)) {
             Some(root) => query(alloc, &[root], first, store, meter, w, page, around),
             None => unreachable!(),
         },
-        Kind::Method(method) => match receiver_of(alloc, store, w, page, this)? {
+        NativeId::Read(method) => match receiver_of(alloc, store, w, page, this)? {
             Some(list) => read(alloc, method, &list, first, store, meter, w, page, around),
             None => Ok(NativeOut::Throw(Fault::E3)),
         },
-        Kind::Other => unreachable!(),
+        _ => unreachable!(),
     }
 }
 
 // A method on the nodes of its receiver, with its first argument.
 fn read(
     alloc: Global,
-    method: Method,
+    method: ReadNative,
     list: &[NodeId],
     first: &Value,
     store: &mut Store,
@@ -106,24 +106,26 @@ fn read(
     around: &Loop,
 ) -> Result<NativeOut, Memory>
     requires widget { w < 32 }
+    requires method { is_read method ≡ true }
     requires nodes { AreNodes page.now w list.now }
     requires sound { IsSound w store.old page.now around.now }
     ensures native { IfOk result (λ o. Reads w store.old store.new page.now around.now meter.old meter.new
-        (λ d s. method_plan method (map (number page.now w) list.now) (seen w store.old.cells first.now) s) o) }
+        (λ d s. read_method method (map (number page.now w) list.now) (seen w store.old.cells first.now ∷ []) s) o) }
     ensures holds { HoldsOwn w store.new page.now around.now }
     ensures kept { KeepsStore w store.old store.new }
 {
     match method {
-        Method::Query => query(alloc, list, first, store, meter, w, page, around),
-        Method::GetValue => get_value(alloc, list, store, meter, w, page),
-        Method::GetValues => get_values(alloc, list, store, meter, w, page),
-        Method::GetStyle => get_style(alloc, list, first, store, meter, w, page),
-        Method::GetClass => get_attribute(alloc, list, b"class", store, meter, w, page),
-        Method::GetTitle => get_attribute(alloc, list, b"title", store, meter, w, page),
-        Method::GetCheck => Ok(get_check(list, meter, w, page)),
-        Method::Count => Ok(count(list, meter, w, page)),
-        Method::GetParent => get_parent(alloc, list, store, meter, w, page, around),
-        Method::GetTagName => get_tag_name(alloc, list, store, meter, w, page),
-        Method::GetMark => get_mark(alloc, list, store, meter, w, page, around),
+        ReadNative::Explode => unreachable!(),
+        ReadNative::Query => query(alloc, list, first, store, meter, w, page, around),
+        ReadNative::GetValue => get_value(alloc, list, store, meter, w, page),
+        ReadNative::GetValues => get_values(alloc, list, store, meter, w, page),
+        ReadNative::GetStyle => get_style(alloc, list, first, store, meter, w, page),
+        ReadNative::GetClass => get_attribute(alloc, list, b"class", store, meter, w, page),
+        ReadNative::GetTitle => get_attribute(alloc, list, b"title", store, meter, w, page),
+        ReadNative::GetCheck => Ok(get_check(list, meter, w, page)),
+        ReadNative::Count => Ok(count(list, meter, w, page)),
+        ReadNative::GetParent => get_parent(alloc, list, store, meter, w, page, around),
+        ReadNative::GetTagName => get_tag_name(alloc, list, store, meter, w, page),
+        ReadNative::GetMark => get_mark(alloc, list, store, meter, w, page, around),
     }
 }

@@ -8,7 +8,6 @@ mod attributes;
 mod calling;
 mod finding;
 mod first;
-mod kinds;
 mod styles;
 mod texts;
 

@@ -2,7 +2,7 @@
 ghost use Rattle.std.specs.Prelude.{◌≡◌, ◌<◌, ◌≤◌, ℕ, List, [], Bool, Option, Some, IfOk, OnOk, length, map, slice_get};
 ghost use Rattle.js_tree.specs.Forest.{Forest};
 ghost use Rattle.widget_meaning.specs.BunchReads as means;
-ghost use Rattle.widget_meaning.specs.NativeNames as names;
+ghost use Rattle.permitted_table.specs.declared.native.ReadNative.TheVariants as names;
 ghost use Rattle.widget_meaning.specs.Costs.{with_counts};
 ghost use Rattle.widget_meaning.specs.OwnState.{Amounts, new_array, with_new_cell};
 ghost use Rattle.widget_meaning.specs.Values.{Own, Value as Meant};

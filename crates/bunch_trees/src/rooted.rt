@@ -4,7 +4,7 @@ ghost use Rattle.std.specs.List.{list_all};
 ghost use Rattle.query_grammar.specs.Finds.{has_number};
 ghost use Rattle.widget_meaning.specs.BunchWrites as writes;
 ghost use Rattle.widget_meaning.specs.DomNatives as means;
-ghost use Rattle.widget_meaning.specs.NativeNames as names;
+ghost use Rattle.permitted_table.specs.declared.native.DomNative.TheVariants as names;
 ghost use Rattle.widget_meaning.specs.Values.{Value as Meant};
 ghost use Rattle.event_loop.specs.declared.around.Loop.{Loop};
 ghost use Rattle.js_image.specs.Held.{IsFine};

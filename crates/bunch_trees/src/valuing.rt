@@ -3,7 +3,7 @@ ghost use Rattle.std.specs.Prelude.{◌≡◌, ◌<◌, ◌≤◌, ◌*◌, ℕ,
 ghost use Rattle.std.specs.List.{count_by, list_all};
 ghost use Rattle.query_grammar.specs.Finds.{has_number};
 ghost use Rattle.widget_meaning.specs.BunchWrites as means;
-ghost use Rattle.widget_meaning.specs.NativeNames as names;
+ghost use Rattle.permitted_table.specs.declared.native.WriteNative.TheVariants as names;
 ghost use Rattle.widget_meaning.specs.OwnState.{State};
 ghost use Rattle.widget_meaning.specs.PageForms.{is_tag};
 ghost use Rattle.event_loop.specs.declared.around.Loop.{Loop};

@@ -1,4 +1,4 @@
 pub mod Trees
 pub mod Tags
 pub mod Calls
-pub mod Kinds
+pub mod Part

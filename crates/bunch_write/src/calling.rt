@@ -1,6 +1,7 @@
 //! The one call of this crate.
-ghost use Rattle.std.specs.Prelude.{◌≡◌, ◌<◌, Bool, Option, true, IfOk, map};
+ghost use Rattle.std.specs.Prelude.{◌≡◌, ◌<◌, [], ◌∷◌, Bool, Option, true, IfOk, map};
 ghost use Rattle.store_cells.specs.Cells.{IsWidget, number_in};
+ghost use Rattle.widget_meaning.specs.BunchWrites.{write_method};
 ghost use Rattle.widget_meaning.specs.Natives.{run_native};
 ghost use Rattle.js_image.specs.Held.{AreFine, IsFine, IsHeld};
 ghost use Rattle.js_image.specs.Image.{all_seen, seen};
@@ -10,10 +11,9 @@ ghost use Rattle.page_image.specs.Image.{number};
 ghost use Rattle.native_image.specs.Image.{beside};
 ghost use Rattle.native_image.specs.Meets.{MeetsAt};
 ghost use Rattle.native_image.specs.Sound.{AreNodes, IsSound, KeepsAll};
-ghost use Rattle.bunch_write.specs.Kinds.{is_part, method_plan};
+ghost use Rattle.bunch_write.specs.Part.{is_part};
 
 use crate::each::{bubble, each};
-use crate::kinds::{Kind, Method, kind_of};
 use crate::making::{dom_tag, dom_text};
 use crate::moving::{empty, remove, replace};
 use bunch_attributes::{
@@ -27,7 +27,7 @@ use js_image::Fault;
 use js_values::{Meter, NativeOut};
 use native_common::nth;
 use native_image::receiver_of;
-use object_store::{CellId, NativeId, Store, Value};
+use object_store::{CellId, DomNative, NativeId, Store, Value, WriteNative};
 use page_tree::{NodeId, Page};
 use std::alloc::Global;
 
@@ -97,13 +97,16 @@ fn call_of(
     let absent = Value::Undefined;
     let first = nth(args, 0, &absent);
     let second = nth(args, 1, &absent);
-    match kind_of(which) {
-        Kind::Bubble => Ok(bubble(bubbled)),
-        Kind::DomTag => dom_tag(alloc, first, second, store, w, page),
-        Kind::DomText => dom_text(alloc, first, store, w, page),
-        Kind::DomAppend => dom_append(alloc, first, store, meter, w, page),
-        Kind::Explode => explode(alloc, this, store, meter, w, page),
-        Kind::Method(method) => match receiver_of(alloc, store, w, page, this)? {
+    match which {
+        NativeId::Bubble => Ok(bubble(bubbled)),
+        NativeId::Dom(native) => match native {
+            DomNative::DomTag => dom_tag(alloc, first, second, store, w, page),
+            DomNative::DomText => dom_text(alloc, first, store, w, page),
+            DomNative::DomAppend => dom_append(alloc, first, store, meter, w, page),
+            DomNative::DomQuery => unreachable!(),
+        },
+        NativeId::Read(_) => explode(alloc, this, store, meter, w, page),
+        NativeId::Write(method) => match receiver_of(alloc, store, w, page, this)? {
             Some(list) => match cell_of(this) {
                 Some(cell) => change(
                     alloc, method, &list, cell, first, second, store, meter, w, page, around,
@@ -112,7 +115,7 @@ fn call_of(
             },
             None => Ok(NativeOut::Throw(Fault::E3)),
         },
-        Kind::Other => unreachable!(),
+        _ => unreachable!(),
     }
 }
 
@@ -129,7 +132,7 @@ fn cell_of(v: &Value) -> Option<CellId>
 // A method on the nodes of its receiver, with its first two arguments.
 fn change(
     alloc: Global,
-    method: Method,
+    method: WriteNative,
     list: &[NodeId],
     this: CellId,
     first: &Value,
@@ -148,8 +151,8 @@ fn change(
     requires sound { IsSound w store.old page.old around.old }
     ensures native { (b : Option Bool) → IfOk result (λ o. MeetsAt w
         (beside store.old page.old around.old b) (beside store.new page.new around.new b) meter.old meter.new
-        (λ d s. method_plan method (map (number page.old w) list.now) (seen w store.old.cells (Value.Ref this))
-        (seen w store.old.cells first.now) (seen w store.old.cells second.now) d s) o) }
+        (λ d s. write_method method (map (number page.old w) list.now) (seen w store.old.cells (Value.Ref this))
+        (seen w store.old.cells first.now ∷ seen w store.old.cells second.now ∷ []) d s) o) }
     ensures kept { KeepsAll w store.old store.new page.old page.new around.new }
 {
     let bunch = Receiver {
@@ -158,25 +161,25 @@ fn change(
         nodes: list,
     };
     match method {
-        Method::Append => append(alloc, &bunch, first, store, meter, page),
-        Method::Remove => remove(alloc, list, this, store, meter, w, page),
-        Method::Empty => Ok(empty(list, this, store, meter, w, page)),
-        Method::Replace => replace(alloc, list, first, this, store, meter, w, page),
-        Method::SetValue => set_value(alloc, &bunch, first, store, meter, page),
-        Method::SetStyle => set_style(alloc, list, first, second, this, store, meter, w, page),
-        Method::SetClass => set_class(alloc, list, first, this, store, meter, w, page),
-        Method::SetTitle => set_title(alloc, list, first, this, store, meter, w, page),
-        Method::SetCheck => set_check(alloc, list, first, this, store, meter, w, page),
-        Method::SetEnabled => set_enabled(alloc, list, first, this, store, meter, w, page),
-        Method::Focus => Ok(focus(list, this, store, meter, w, page, around)),
-        Method::Blur => Ok(blur(list, this, store, meter, w, page, around)),
-        Method::Listen => listen(
+        WriteNative::Append => append(alloc, &bunch, first, store, meter, page),
+        WriteNative::Remove => remove(alloc, list, this, store, meter, w, page),
+        WriteNative::Empty => Ok(empty(list, this, store, meter, w, page)),
+        WriteNative::Replace => replace(alloc, list, first, this, store, meter, w, page),
+        WriteNative::SetValue => set_value(alloc, &bunch, first, store, meter, page),
+        WriteNative::SetStyle => set_style(alloc, list, first, second, this, store, meter, w, page),
+        WriteNative::SetClass => set_class(alloc, list, first, this, store, meter, w, page),
+        WriteNative::SetTitle => set_title(alloc, list, first, this, store, meter, w, page),
+        WriteNative::SetCheck => set_check(alloc, list, first, this, store, meter, w, page),
+        WriteNative::SetEnabled => set_enabled(alloc, list, first, this, store, meter, w, page),
+        WriteNative::Focus => Ok(focus(list, this, store, meter, w, page, around)),
+        WriteNative::Blur => Ok(blur(list, this, store, meter, w, page, around)),
+        WriteNative::On => listen(
             alloc, list, first, second, this, store, meter, w, page, around,
         ),
-        Method::Hush => hush(alloc, list, first, this, store, meter, w, page, around),
-        Method::Fire => fire(alloc, list, first, this, store, meter, w, page, around),
-        Method::Each => each(alloc, list, first, this, store, meter, w, page, around),
-        Method::SetMark => set_mark(alloc, list, first, this, store, meter, w, page, around),
-        Method::Protect => protect(alloc, list, this, store, meter, w, page, around),
+        WriteNative::Off => hush(alloc, list, first, this, store, meter, w, page, around),
+        WriteNative::Fire => fire(alloc, list, first, this, store, meter, w, page, around),
+        WriteNative::Each => each(alloc, list, first, this, store, meter, w, page, around),
+        WriteNative::SetMark => set_mark(alloc, list, first, this, store, meter, w, page, around),
+        WriteNative::Protect => protect(alloc, list, this, store, meter, w, page, around),
     }
 }

@@ -2,7 +2,7 @@
 ghost use Rattle.std.specs.Prelude.{◌<◌, ℕ, [], ◌∷◌, Bool, Option, Some, IfOk, map};
 ghost use Rattle.widget_meaning.specs.BunchWrites as means;
 ghost use Rattle.widget_meaning.specs.Dispatch as dispatch;
-ghost use Rattle.widget_meaning.specs.NativeNames as names;
+ghost use Rattle.permitted_table.specs.declared.native.WriteNative.TheVariants as names;
 ghost use Rattle.event_loop.specs.declared.around.Loop.{Loop};
 ghost use Rattle.js_image.specs.Held.{IsFine, IsHeld};
 ghost use Rattle.js_image.specs.Image.{seen};

@@ -6,7 +6,6 @@
 
 mod calling;
 mod each;
-mod kinds;
 mod making;
 mod moving;
 

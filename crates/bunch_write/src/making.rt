@@ -4,7 +4,7 @@ ghost use Rattle.plain_tree.specs.Plains.{unplaced};
 ghost use Rattle.plain_tree.specs.Trees.{ElementOf, End, Node};
 ghost use Rattle.bunch_write.specs.Tags.{may_make};
 ghost use Rattle.widget_meaning.specs.DomNatives as means;
-ghost use Rattle.widget_meaning.specs.NativeNames as names;
+ghost use Rattle.permitted_table.specs.declared.native.DomNative.TheVariants as names;
 ghost use Rattle.widget_meaning.specs.Values.{Value as Meant};
 ghost use Rattle.event_loop.specs.declared.around.Loop.{Loop};
 ghost use Rattle.js_image.specs.Image.{seen};

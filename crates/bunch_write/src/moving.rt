@@ -3,7 +3,7 @@ ghost use Rattle.std.specs.Prelude.{◌≡◌, ◌<◌, ℕ, [], ◌∷◌, Bool
 ghost use Rattle.std.specs.List.{fold};
 ghost use Rattle.query_grammar.specs.Finds.{has_number};
 ghost use Rattle.widget_meaning.specs.BunchWrites as means;
-ghost use Rattle.widget_meaning.specs.NativeNames as names;
+ghost use Rattle.permitted_table.specs.declared.native.WriteNative.TheVariants as names;
 ghost use Rattle.event_loop.specs.declared.around.Loop.{Loop};
 ghost use Rattle.js_image.specs.Held.{IsFine, IsHeld};
 ghost use Rattle.js_image.specs.Image.{seen};

@@ -1,15 +1,18 @@
 -- A native of arrays is what it does with the Array that is its receiver.
-use Rattle.std.proofs.Common.{◌≡◌, ℕ, List, refl, ap, ◌∙◌, Option, None, Some, true, false, Result, IfOk}
+use Rattle.std.proofs.Common.{◌≡◌, ℕ, List, refl, sym, subst, ap, ◌∙◌, Option, None, Some, true, false, Result, IfOk}
 use Rattle.code_units.specs.declared.memory.Memory.{Memory}
 use Rattle.js_tree.specs.Forest.{Forest}
 use Rattle.permitted_table.specs.declared.native.NativeId.{NativeId}
 use Rattle.permitted_table.specs.declared.native.NativeId.TheVariants as native
+use Rattle.permitted_table.specs.declared.native.PrototypeNative.TheVariants as prototype
+use Rattle.permitted_table.specs.declared.native.ListNative.{ListNative}
 use Rattle.store_cells.specs.declared.value.Value.{Value as StoreValue}
 use Rattle.store_cells.specs.Cells.{Cells}
 use Rattle.widget_meaning.specs.Values.{Value, E3}
 use Rattle.widget_meaning.specs.OwnState.{State}
 use Rattle.widget_meaning.specs.Plan.{Plan}
 use Rattle.widget_meaning.specs.Costs.{throw}
+use Rattle.widget_meaning.specs.ListNatives.{list_method}
 use Rattle.widget_meaning.specs.Natives.{run_native}
 use Rattle.widget_meaning.specs.NativeForms.{on_array}
 use Rattle.js_image.specs.Image.{Rest, image}
@@ -26,20 +29,8 @@ false_true : false ≡ true → ⊥
 false_true h = cc
 
 natives_are : (which : NativeId) → is_part which ≡ true → (this : Option Value) (vs : List Value) (d : ℕ) (s : State) → run_native which this vs d s ≡ on_array this s (λ n len. method which n len vs d s)
-natives_are native.ArrayToString h this vs d s = refl
-natives_are native.ArrayConcat h this vs d s = refl
-natives_are native.Join h this vs d s = refl
-natives_are native.Pop h this vs d s = refl
-natives_are native.Shift h this vs d s = refl
-natives_are native.Push h this vs d s = refl
-natives_are native.Unshift h this vs d s = refl
-natives_are native.Reverse h this vs d s = refl
-natives_are native.Sort h this vs d s = refl
-natives_are native.ArraySlice h this vs d s = refl
-natives_are native.Splice h this vs d s = refl
-natives_are native.ForEach h this vs d s = refl
-natives_are native.Map h this vs d s = refl
-natives_are native.Filter h this vs d s = refl
+natives_are (native.List m) h this vs d s = refl
+natives_are (native.Prototype prototype.ArrayToString) h this vs d s = refl
 natives_are _ h this vs d s = absurd (false_true h)
 
 module _ (w : ℕ) (s : Cells) (this : StoreValue) (o : Option OwnArray) (plan : (fs : List Forest) (r : Rest) (k : ℕ → ℕ → Plan) → on_array (receiver w s.cells this) (image fs r w s) k ≡ on_own w s o (image fs r w s) k) (which : NativeId) (part : is_part which ≡ true) (vs : List Value) (fs : List Forest) (r : Rest) (d : ℕ) where
@@ -58,3 +49,7 @@ pub answered : (w : ℕ) (old new : Cells) (this : StoreValue) (o : Option OwnAr
 answered w old new this o plan which part vs a here is same had has result h =
     ok_meets_same w old new (run_native which (receiver w old.cells this) vs) (λ d s. method is (number w old a) a.len vs d s) result had has
     (λ fs r d. called w old this o plan which part vs fs r d a here is same) h
+
+-- an answer that meets what a method does
+pub of_method : (w : ℕ) (old new : Cells) (n len : ℕ) (vs : List Value) (had has : Fuel) (result : Result NativeOut Memory) (m k : ListNative) → m ≡ k → IfOk result (Meets w old new had has (λ d s. list_method k n len vs d s)) → IfOk result (Meets w old new had has (λ d s. list_method m n len vs d s))
+of_method w old new n len vs had has result m k e h = subst (λ x. IfOk result (Meets w old new had has (λ d s. list_method x n len vs d s))) (sym e) h

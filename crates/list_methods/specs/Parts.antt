@@ -11,27 +11,15 @@ use Rattle.widget_meaning.specs.NativeForms.{element, make_array, numbered_pairs
 use Rattle.widget_meaning.specs.ListChanges.{new_indexes, pushed, with_elements}
 use Rattle.widget_meaning.specs.ListNatives.{joined_text, list_method}
 use Rattle.widget_meaning.specs.PrototypeNatives.{array_to_string}
-use Rattle.widget_meaning.specs.NativeNames.{FilterNative, ForEach, Join, ListConcat, ListSlice, MapNative, Pop, Push, Reverse, Shift, Sort, Splice, Unshift}
+use Rattle.permitted_table.specs.declared.native.PrototypeNative.TheVariants as prototype
 use Rattle.js_image.specs.declared.outcome.Callee.{Callee}
 use Rattle.js_image.specs.declared.outcome.Callee.TheVariants as callee
 use Rattle.native_common.specs.Numbers.{number_or}
 
 -- whether a native is one of them
 abbrev pub is_part : NativeId → Bool
-is_part native.ArrayToString = true
-is_part native.ArrayConcat = true
-is_part native.Join = true
-is_part native.Pop = true
-is_part native.Shift = true
-is_part native.Push = true
-is_part native.Unshift = true
-is_part native.Reverse = true
-is_part native.Sort = true
-is_part native.ArraySlice = true
-is_part native.Splice = true
-is_part native.ForEach = true
-is_part native.Map = true
-is_part native.Filter = true
+is_part (native.List n) = true
+is_part (native.Prototype prototype.ArrayToString) = true
 is_part _ = false
 
 -- what `pop` does once it is charged
@@ -67,22 +55,10 @@ abbrev pub joined_next : List ℕ → ℕ → Value → List ℕ
 joined_next between zero v = joined_text v
 joined_next between (suc at) v = between ++ joined_text v
 
--- each of them on an Array, by its number and its length
+-- each of them on an Array, by its number and its length; of prototypes there is one
 abbrev pub method : NativeId → ℕ → ℕ → List Value → ℕ → State → Plan
-method native.ArrayToString n len vs d s = array_to_string n len s
-method native.ArrayConcat n len vs d s = list_method ListConcat n len vs d s
-method native.Join n len vs d s = list_method Join n len vs d s
-method native.Pop n len vs d s = list_method Pop n len vs d s
-method native.Shift n len vs d s = list_method Shift n len vs d s
-method native.Push n len vs d s = list_method Push n len vs d s
-method native.Unshift n len vs d s = list_method Unshift n len vs d s
-method native.Reverse n len vs d s = list_method Reverse n len vs d s
-method native.Sort n len vs d s = list_method Sort n len vs d s
-method native.ArraySlice n len vs d s = list_method ListSlice n len vs d s
-method native.Splice n len vs d s = list_method Splice n len vs d s
-method native.ForEach n len vs d s = list_method ForEach n len vs d s
-method native.Map n len vs d s = list_method MapNative n len vs d s
-method native.Filter n len vs d s = list_method FilterNative n len vs d s
+method (native.List m) n len vs d s = list_method m n len vs d s
+method (native.Prototype p) n len vs d s = array_to_string n len s
 method _ n len vs d s = give Undefined s
 
 -- whether what is called is a function of a widget

@@ -2,14 +2,16 @@
 ghost use Rattle.std.specs.Prelude.{◌≡◌, ◌<◌, List, true, IfOk, OnErr};
 ghost use Rattle.js_tree.specs.Forest.{Forest};
 ghost use Rattle.store_cells.specs.Cells.{IsWidget, number_in};
+ghost use Rattle.widget_meaning.specs.ListNatives.{list_method};
 ghost use Rattle.widget_meaning.specs.Natives.{run_native};
 ghost use Rattle.js_image.specs.Image.{all_seen};
 ghost use Rattle.js_image.specs.Held.{AreFine, IsConfined, Kept};
 ghost use Rattle.native_common.specs.Meets.{Meets};
 ghost use Rattle.native_common.specs.Receivers.{IsReceiver, receiver};
+ghost use Rattle.list_methods.specs.Arrays.{IsArray, number};
 ghost use Rattle.list_methods.specs.Parts.{is_part};
 
-use crate::array::array_of;
+use crate::array::{OwnArray, array_of};
 use crate::copying::{concat, slice};
 use crate::ends::{pop, push};
 use crate::joining::{join, to_string};
@@ -19,7 +21,7 @@ use crate::splicing::splice;
 use crate::turning::{reverse, shift, unshift};
 use code_units::{Memory, Owner};
 use js_values::{Fault, Keep, Meter, NativeOut};
-use object_store::{NativeId, Store, Value};
+use object_store::{ListNative, NativeId, Store, Value};
 use std::alloc::Global;
 
 /// Calls a native of arrays, or the `toString` of arrays, for a widget as owner: `this` is the Global
@@ -74,50 +76,52 @@ fn of_widget(
         return Ok(NativeOut::Throw(Fault::E3));
     };
     match which {
-        NativeId::ArrayToString => to_string(alloc, array, store, meter, w),
-        NativeId::Join => join(alloc, array, args, store, meter, w),
-        NativeId::Shift => shift(alloc, array, args, store, meter, w),
-        NativeId::Unshift => unshift(alloc, array, args, store, meter, w),
-        NativeId::Reverse => reverse(alloc, array, args, store, meter, w),
-        NativeId::Sort => sort(alloc, array, args, store, meter, w),
-        NativeId::Splice => splice(alloc, array, args, store, meter, w),
-        NativeId::ArrayConcat => concat(alloc, array, args, store, meter, w),
-        NativeId::ArraySlice => slice(alloc, array, args, store, meter, w),
-        NativeId::Pop => pop(alloc, array, args, store, meter, w),
-        NativeId::Push => push(alloc, array, args, store, meter, w),
-        NativeId::ForEach => over(
-            alloc,
-            Calls {
-                array,
-                keep: Keep::Nothing,
-            },
-            args,
-            store,
-            meter,
-            w,
-        ),
-        NativeId::Map => over(
-            alloc,
-            Calls {
-                array,
-                keep: Keep::Results,
-            },
-            args,
-            store,
-            meter,
-            w,
-        ),
-        NativeId::Filter => over(
-            alloc,
-            Calls {
-                array,
-                keep: Keep::Passing,
-            },
-            args,
-            store,
-            meter,
-            w,
-        ),
+        NativeId::List(method) => of_array(alloc, method, array, args, store, meter, w),
+        NativeId::Prototype(_) => to_string(alloc, array, store, meter, w),
         _ => unreachable!(),
+    }
+}
+
+// A method of an Array.
+fn of_array(
+    alloc: Global,
+    method: ListNative,
+    array: OwnArray,
+    args: &[Value],
+    store: &mut Store,
+    meter: &mut Meter,
+    w: u32,
+) -> Result<NativeOut, Memory>
+    requires widget { w < 32 }
+    requires array { IsArray w store.old array }
+    requires confined { (fs : List Forest) × IsConfined fs w store.old }
+    requires args { AreFine w store.old.cells args.now }
+    ensures native { IfOk result (λ o. Meets w store.old store.new meter.old meter.new
+        (λ d s. list_method method (number w store.old array) array.len (all_seen w store.old.cells args.now) d s) o) }
+    ensures memory { OnErr result ((fs : List Forest) → Kept fs w store.old store.new) }
+{
+    match method {
+        ListNative::Join => join(alloc, array, args, store, meter, w),
+        ListNative::Shift => shift(alloc, array, args, store, meter, w),
+        ListNative::Unshift => unshift(alloc, array, args, store, meter, w),
+        ListNative::Reverse => reverse(alloc, array, args, store, meter, w),
+        ListNative::Sort => sort(alloc, array, args, store, meter, w),
+        ListNative::Splice => splice(alloc, array, args, store, meter, w),
+        ListNative::ListConcat => concat(alloc, array, args, store, meter, w),
+        ListNative::ListSlice => slice(alloc, array, args, store, meter, w),
+        ListNative::Pop => pop(alloc, array, args, store, meter, w),
+        ListNative::Push => push(alloc, array, args, store, meter, w),
+        ListNative::ForEach => {
+            let keep = Keep::Nothing;
+            over(alloc, Calls { array, keep }, args, store, meter, w)
+        }
+        ListNative::MapNative => {
+            let keep = Keep::Results;
+            over(alloc, Calls { array, keep }, args, store, meter, w)
+        }
+        ListNative::FilterNative => {
+            let keep = Keep::Passing;
+            over(alloc, Calls { array, keep }, args, store, meter, w)
+        }
     }
 }

@@ -5,7 +5,8 @@ use Rattle.widget_meaning.specs.Limits.{max_timers, max_chain, max_nesting, max_
 use Rattle.widget_meaning.specs.Values.{Value, Undefined, Num, Text, Own, E11, Null, Truth, NaN, Host, Is, E4, E8, to_text, nth, is_object}
 use Rattle.widget_meaning.specs.OwnState.{State, kind_of, new_object, Pairs, cell_at}
 use Rattle.widget_meaning.specs.Plan.{Plan}
-use Rattle.widget_meaning.specs.NativeNames.{AdsafeNative, Create, FromJson, GetProperty, HasProperty, IsArray, KeysOf, Later, LogValue, Post, RemoveProperty, SetProperty, ToJson}
+use Rattle.permitted_table.specs.declared.native.AdsafeNative.{AdsafeNative}
+use Rattle.permitted_table.specs.declared.native.AdsafeNative.TheVariants.{Create, FromJson, GetProperty, HasProperty, IsArray, KeysOf, Later, LogValue, Post, RemoveProperty, SetProperty, ToJson}
 use Rattle.widget_meaning.specs.JsonTexts.{to_json, give_json, Written, Wrote, NoJson, TooLong, value_text}
 use Rattle.widget_meaning.specs.AdsafeNatives.{want_name, get_native, has_native, set_native, remove_native, create_from, create, keys_native, start_timer, later_in, later, log_text, log_native, keep_post, post, adsafe_native, with_timer, chain_from, is_prototype_kind, with_entry, with_post}
 use Rattle.std.specs.List.{list_any, AllByRecursion, list_all}
@@ -22,6 +23,7 @@ use Rattle.meaning_laws.specs.Texts.{AreUnits, AreAllUnits, IsText, AreTexts, Ar
 use Rattle.permitted_table.specs.declared.native.HostEntry.{HostEntry}
 use Rattle.permitted_table.specs.declared.native.HostEntry.TheVariants as host
 use Rattle.permitted_table.specs.declared.native.NativeId.TheVariants as natives
+use Rattle.permitted_table.specs.declared.native.GlobalNative.TheVariants as globals
 use Rattle.widget_meaning.specs.HostTable.{host_pairs}
 use Rattle.std.proofs.Common.{refl, arith}
 use Rattle.meaning_laws.proofs.Units.{is_text, tested, made_is}
@@ -83,7 +85,7 @@ tested_names [] e = tt
 tested_names (p ∷ ps) e = let q = and_parts (is_text p.0) (list_all (λ r. is_text r.0) ps) e in (tested p.0 q.0, tested_names ps q.1)
 
 host_names : (h : HostEntry) → AreNames (host_pairs h)
-host_names (host.Native natives.String) = tested_names (host_pairs (host.Native natives.String)) refl
+host_names (host.Native (natives.Global globals.StringOf)) = tested_names (host_pairs (host.Native (natives.Global globals.StringOf))) refl
 host_names (host.Native w) = tt
 host_names host.ObjectPrototype = tested_names (host_pairs host.ObjectPrototype) refl
 host_names host.ArrayPrototype = tested_names (host_pairs host.ArrayPrototype) refl

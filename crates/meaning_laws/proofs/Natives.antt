@@ -15,7 +15,10 @@ use Rattle.code_units.specs.declared.whole.WholeRead.TheVariants as read
 use Rattle.code_units.specs.declared.whole.WholeRead.{WholeRead}
 use Rattle.widget_meaning.specs.Values.{Value, Undefined, Text, Own, Host, NaN, Num, Is, to_number, to_text, nth, is_object, E3, E4}
 use Rattle.widget_meaning.specs.Plan.{Plan}
-use Rattle.widget_meaning.specs.NativeNames.{GlobalNative, BooleanOf, NumberOf, StringOf, IsNaN, IsFinite, ParseInt, FromCharCode, MathNative, Abs, Ceil, Floor, Round, Max, Min, Pow}
+use Rattle.permitted_table.specs.declared.native.GlobalNative.{GlobalNative}
+use Rattle.permitted_table.specs.declared.native.GlobalNative.TheVariants.{BooleanOf, NumberOf, StringOf, IsNaN, IsFinite, ParseInt, FromCharCode}
+use Rattle.permitted_table.specs.declared.native.MathNative.{MathNative}
+use Rattle.permitted_table.specs.declared.native.MathNative.TheVariants.{Abs, Ceil, Floor, Round, Max, Min, Pow}
 use Rattle.widget_meaning.specs.GlobalNatives.{boolean_of, of_number, number_of, text_of_primitive, string_of, string_native, parse_int, from_char_code, global_native, nan_or_not, has_left, code_of, units_read, parsed, run_value, radix_of, digit_run, without_0x}
 use Rattle.std.specs.Int.{int_max, int_min, int_pow}
 use Rattle.std.specs.List.{list_any, AllByRecursion}

@@ -11,18 +11,24 @@ use Rattle.std.specs.Str.{bytes_eq}
 use Rattle.std.specs.List.{fold, filter, AllByRecursion, range_with_len, count_by, list_all, list_any}
 use Rattle.std.specs.Option.{option_map_or}
 use Rattle.permitted_table.specs.declared.native.NativeId.{NativeId}
+use Rattle.permitted_table.specs.declared.native.NativeId.TheVariants as native
 use Rattle.plain_tree.specs.Trees.{Label, TextOf, End, Node, size, Attribute}
 use Rattle.plain_tree.specs.Words.{is_event_type, is_plain_words}
 use Rattle.widget_meaning.specs.Trees.{Trees, label_of, tops, children, parent, subtrees, grafted, numbered, copied, with_detached, detached, moved, subtree}
 use Rattle.widget_meaning.specs.Costs.{cost, give, with_counts, want}
 use Rattle.widget_meaning.specs.Plan.{Plan}
-use Rattle.widget_meaning.specs.NativeNames.{ReadNative, Query, GetValue, GetValues, GetStyle, GetClass, GetTitle, GetCheck, Explode, Count, GetParent, GetTagName, GetMark, WriteNative, Append, Remove, Empty, Replace, SetValue, SetStyle, SetClass, SetTitle, SetCheck, SetEnabled, Focus, Blur, On, Off, Fire, Each, SetMark, Protect, OfEvent, family_of, DomNative, DomQuery, DomAppend, DomTag, DomText, Family, OfGlobal, OfMath, OfPrototype, OfText, OfList, OfAdsafe, OfDom, OfRead, OfWrite}
+use Rattle.permitted_table.specs.declared.native.ReadNative.{ReadNative}
+use Rattle.permitted_table.specs.declared.native.ReadNative.TheVariants.{Query, GetValue, GetValues, GetStyle, GetClass, GetTitle, GetCheck, Explode, Count, GetParent, GetTagName, GetMark}
+use Rattle.permitted_table.specs.declared.native.WriteNative.{WriteNative}
+use Rattle.permitted_table.specs.declared.native.WriteNative.TheVariants.{Append, Remove, Empty, Replace, SetValue, SetStyle, SetClass, SetTitle, SetCheck, SetEnabled, Focus, Blur, On, Off, Fire, Each, SetMark, Protect}
+use Rattle.permitted_table.specs.declared.native.DomNative.{DomNative}
+use Rattle.permitted_table.specs.declared.native.DomNative.TheVariants.{DomQuery, DomAppend, DomTag, DomText}
 use Rattle.widget_meaning.specs.PageForms.{root, next_node, with_room, with_node, is_input, is_text_node, want_one, want_bunch, with_label, is_field, tree_units, is_element, attribute, tag_of, texts_of}
 use Rattle.query_grammar.specs.Steps.{Step}
 use Rattle.widget_meaning.specs.BunchReads.{bunches_from, query, read_native, give_page_text, query_steps, get_value, get_values, get_attribute, get_style, explode, get_parent, get_tag_name, read_method, exploded, with_bunch, value_of, has_open_parent, first_attribute, first_mark}
 use Rattle.widget_meaning.specs.BunchWrites.{appended, write_native, alter, alter_for, append_trees, append, remove, replace, set_value, set_style, set_attribute, set_flag, focus, blur, listen, hush, fired, fire, each_called, each, write_method, with_copies, emptied, relabel, with_text_node, valued, alter_each, change_kept, styled, with_handler, with_focus, left_focus, is_target, has_new_text, is_no_root, is_value_target}
 use Rattle.widget_meaning.specs.DomNatives.{dom_native, give_node, dom_tag, append_to_root, dom_append, given_text}
-use Rattle.widget_meaning.specs.Natives.{run_family, run_native}
+use Rattle.widget_meaning.specs.Natives.{run_native}
 use Rattle.tree_ops.specs.Labels.{with_attribute}
 use Rattle.std.proofs.Common.{◌≡◌, ◌<◌, ◌≤◌, ◌++◌, ◌∙◌, suc, refl, sym, ap, subst, arith, zero}
 use Rattle.std.proofs.lemmas.List.{length-map, length-append, length-replicate}
@@ -482,17 +488,14 @@ dom_native_r m DomAppend this vs d s hr h3 = dom_append_r m (nth 0 vs) s hr
 dom_native_r m DomTag this vs d s hr h3 = wanted m E4 (not (list_any is_object (nth 0 vs ∷ nth 1 vs ∷ []))) s _ hr (λ _. dom_tag_r m (to_text (nth 0 vs)) (given_text (nth 1 vs)) s hr (units_told m (nth 0 vs) (nth_is m 0 vs h3)) (given_told m (nth 1 vs) (nth_is m 1 vs h3)))
 dom_native_r m DomText this vs d s hr h3 = wanted m E4 (not (list_any is_object (nth 0 vs ∷ []))) s _ hr (λ _. give_node_r m (TextOf (to_text (nth 0 vs))) (length (to_text (nth 0 vs))) s hr (units_told m (nth 0 vs) (nth_is m 0 vs h3)))
 
-pub run_family_r : (m : Sizes) (x0 : Family) (x1 : Option Value) (x2 : List Value) (x3 : ℕ) (x4 : State) → R m x4 → MaybeIs m x1 → ValuesAre m x2 → Keeps m (run_family x0 x1 x2 x3 x4)
-run_family_r m (OfGlobal w) this vs d s hr h1 h2 = global_native_r m w this vs d s hr h2
-run_family_r m (OfMath w) this vs d s hr h1 h2 = math_native_r m w this vs d s hr h2
-run_family_r m (OfPrototype w) this vs d s hr h1 h2 = prototype_native_r m w this vs d s hr h1
-run_family_r m (OfText w) this vs d s hr h1 h2 = text_native_r m w this vs s hr h1 h2
-run_family_r m (OfList w) this vs d s hr h1 h2 = list_native_r m w this vs d s hr h1 h2
-run_family_r m (OfAdsafe w) this vs d s hr h1 h2 = adsafe_native_r m w this vs d s hr h2
-run_family_r m (OfDom w) this vs d s hr h1 h2 = dom_native_r m w this vs d s hr h2
-run_family_r m (OfRead w) this vs d s hr h1 h2 = read_native_r m w this vs d s hr
-run_family_r m (OfWrite w) this vs d s hr h1 h2 = write_native_r m w this vs d s hr h1 h2
-run_family_r m OfEvent this vs d s hr h1 h2 = bubble_r m s.dispatches s hr
-
 pub run_native_r : (m : Sizes) (x0 : NativeId) (x1 : Option Value) (x2 : List Value) (x3 : ℕ) (x4 : State) → R m x4 → MaybeIs m x1 → ValuesAre m x2 → Keeps m (run_native x0 x1 x2 x3 x4)
-run_native_r m w this vs d s hr h1 h2 = run_family_r m (family_of w) this vs d s hr h1 h2
+run_native_r m (native.Global w) this vs d s hr h1 h2 = global_native_r m w this vs d s hr h2
+run_native_r m (native.Math w) this vs d s hr h1 h2 = math_native_r m w this vs d s hr h2
+run_native_r m (native.Prototype w) this vs d s hr h1 h2 = prototype_native_r m w this vs d s hr h1
+run_native_r m (native.Text w) this vs d s hr h1 h2 = text_native_r m w this vs s hr h1 h2
+run_native_r m (native.List w) this vs d s hr h1 h2 = list_native_r m w this vs d s hr h1 h2
+run_native_r m (native.Adsafe w) this vs d s hr h1 h2 = adsafe_native_r m w this vs d s hr h2
+run_native_r m (native.Dom w) this vs d s hr h1 h2 = dom_native_r m w this vs d s hr h2
+run_native_r m (native.Read w) this vs d s hr h1 h2 = read_native_r m w this vs d s hr
+run_native_r m (native.Write w) this vs d s hr h1 h2 = write_native_r m w this vs d s hr h1 h2
+run_native_r m native.Bubble this vs d s hr h1 h2 = bubble_r m s.dispatches s hr

@@ -1,6 +1,7 @@
 -- The methods of texts keep what is there.
 use Rattle.std.specs.Prelude.{ℕ, List, Option, sum_by, ◌≡◌, ◌<◌, true, [], ◌∷◌, ◌++◌, ◌+◌, Some, None, pos, length, not, slice_get, nat_le, slice_range}
-use Rattle.widget_meaning.specs.NativeNames.{TextNative, CharAt, CharCodeAt, TextConcat, IndexOf, LastIndexOf, TextSlice, Substring, Split, ToLowerCase, ToUpperCase}
+use Rattle.permitted_table.specs.declared.native.TextNative.{TextNative}
+use Rattle.permitted_table.specs.declared.native.TextNative.TheVariants.{CharAt, CharCodeAt, TextConcat, IndexOf, LastIndexOf, TextSlice, Substring, Split, ToLowerCase, ToUpperCase}
 use Rattle.widget_meaning.specs.Values.{Value, Undefined, Text, Is, nth, to_text, to_number, is_object, E4}
 use Rattle.widget_meaning.specs.OwnState.{State}
 use Rattle.widget_meaning.specs.TextNatives.{char_at, char_code_at, text_concat, index_of, last_index_of, text_slice, substring, split, pieces, text_method, text_native, first_code, unit_at, found, positions, between}

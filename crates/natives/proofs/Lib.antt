@@ -1,4 +1,4 @@
-pub mod Parts
+pub mod InRooms
 pub mod Receivers
 mod Unheard
 pub mod Whole

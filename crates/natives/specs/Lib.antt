@@ -1,4 +1,4 @@
-pub mod Parts
+pub mod Rooms
 pub mod Reach
 pub mod Meets
 pub mod Asked

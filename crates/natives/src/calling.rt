@@ -14,7 +14,7 @@ ghost use Rattle.adsafe_object.specs.Part as adsafe;
 ghost use Rattle.natives.specs.Meets.{MeetsWhole, plan_of};
 ghost use Rattle.natives.specs.Reach.{reach};
 
-use crate::families::{Family, room_of};
+use crate::rooms::{Room, room_of};
 use crate::timers::start;
 use code_units::{Memory, Owner, Text};
 use event_loop::Loop;
@@ -92,15 +92,15 @@ fn call_on(
     let args = native.args.as_slice();
     let owner = Owner::Widget(w);
     match room_of(which) {
-        Family::Texts => text_methods::call(alloc, which, this, args, store, meter, owner),
-        Family::Lists => list_methods::call(alloc, which, this, args, store, meter, owner),
-        Family::Adsafe => adsafe_native(
+        Room::Texts => text_methods::call(alloc, which, this, args, store, meter, owner),
+        Room::Lists => list_methods::call(alloc, which, this, args, store, meter, owner),
+        Room::Adsafe => adsafe_native(
             alloc, which, this, args, store, meter, w, around, log, posts,
         ),
-        Family::Reads => bunch_read::call(
+        Room::Reads => bunch_read::call(
             alloc, which, this, args, store, meter, owner, page, around,
         ),
-        Family::Writes => bunch_write::call(
+        Room::Writes => bunch_write::call(
             alloc, which, this, args, store, meter, owner, page, around, bubbled,
         ),
     }

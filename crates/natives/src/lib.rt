@@ -3,7 +3,7 @@
 #![tactic(auto)]
 
 mod calling;
-mod families;
+mod rooms;
 mod timers;
 
 pub use calling::call;

@@ -2,102 +2,40 @@
 use Rattle.std.proofs.Common.{◌≡◌, refl, Some, slice_get}
 use Rattle.permitted_table.specs.declared.native.NativeId.{NativeId}
 use Rattle.permitted_table.specs.declared.native.NativeId.TheVariants as native
+use Rattle.permitted_table.specs.declared.native.GlobalNative.TheVariants.{BooleanOf}
+use Rattle.permitted_table.specs.declared.native.MathNative.TheVariants.{Abs}
+use Rattle.permitted_table.specs.declared.native.PrototypeNative.TheVariants.{HasOwnProperty}
+use Rattle.permitted_table.specs.declared.native.TextNative.TheVariants.{CharAt}
+use Rattle.permitted_table.specs.declared.native.ListNative.TheVariants.{Join}
+use Rattle.permitted_table.specs.declared.native.AdsafeNative.TheVariants.{Create}
+use Rattle.permitted_table.specs.declared.native.DomNative.TheVariants.{DomQuery}
+use Rattle.permitted_table.specs.declared.native.ReadNative.TheVariants.{Query}
+use Rattle.permitted_table.specs.declared.native.WriteNative.TheVariants.{Append}
 use Rattle.permitted_table.specs.declared.native.HostEntry.{HostEntry}
 use Rattle.permitted_table.specs.declared.native.HostEntry.TheVariants as entry
 use Rattle.permitted_table.specs.Table.{entries, entry_number}
 
+-- one of each family is named, and `_` are all others
 native_stands : (n : NativeId) → slice_get entries (entry_number (entry.Native n)) ≡ Some (entry.Native n)
 native_stands native.Bubble = refl
-native_stands native.Boolean = refl
-native_stands native.Number = refl
-native_stands native.String = refl
-native_stands native.IsNaN = refl
-native_stands native.IsFinite = refl
-native_stands native.ParseInt = refl
-native_stands native.FromCharCode = refl
-native_stands native.Abs = refl
-native_stands native.Ceil = refl
-native_stands native.Floor = refl
-native_stands native.Round = refl
-native_stands native.Max = refl
-native_stands native.Min = refl
-native_stands native.Pow = refl
-native_stands native.HasOwnProperty = refl
-native_stands native.ObjectToString = refl
-native_stands native.FunctionToString = refl
-native_stands native.NumberToString = refl
-native_stands native.BooleanToString = refl
-native_stands native.TextToString = refl
-native_stands native.CharAt = refl
-native_stands native.CharCodeAt = refl
-native_stands native.TextConcat = refl
-native_stands native.IndexOf = refl
-native_stands native.LastIndexOf = refl
-native_stands native.TextSlice = refl
-native_stands native.Substring = refl
-native_stands native.Split = refl
-native_stands native.ToLowerCase = refl
-native_stands native.ToUpperCase = refl
-native_stands native.ArrayToString = refl
-native_stands native.ArrayConcat = refl
-native_stands native.Join = refl
-native_stands native.Pop = refl
-native_stands native.Shift = refl
-native_stands native.Push = refl
-native_stands native.Unshift = refl
-native_stands native.Reverse = refl
-native_stands native.Sort = refl
-native_stands native.ArraySlice = refl
-native_stands native.Splice = refl
-native_stands native.ForEach = refl
-native_stands native.Map = refl
-native_stands native.Filter = refl
-native_stands native.Get = refl
-native_stands native.Set = refl
-native_stands native.Remove = refl
-native_stands native.Has = refl
-native_stands native.Create = refl
-native_stands native.IsArray = refl
-native_stands native.Keys = refl
-native_stands native.Later = refl
-native_stands native.Log = refl
-native_stands native.Post = refl
-native_stands native.FromJson = refl
-native_stands native.ToJson = refl
-native_stands native.DomQ = refl
-native_stands native.DomAppend = refl
-native_stands native.DomTag = refl
-native_stands native.DomText = refl
-native_stands native.BunchQ = refl
-native_stands native.BunchAppend = refl
-native_stands native.BunchRemove = refl
-native_stands native.Empty = refl
-native_stands native.Replace = refl
-native_stands native.Value = refl
-native_stands native.GetValue = refl
-native_stands native.GetValues = refl
-native_stands native.Style = refl
-native_stands native.GetStyle = refl
-native_stands native.Klass = refl
-native_stands native.Title = refl
-native_stands native.GetClass = refl
-native_stands native.GetTitle = refl
-native_stands native.Check = refl
-native_stands native.Enable = refl
-native_stands native.GetCheck = refl
-native_stands native.Focus = refl
-native_stands native.Blur = refl
-native_stands native.On = refl
-native_stands native.Off = refl
-native_stands native.Fire = refl
-native_stands native.Each = refl
-native_stands native.Explode = refl
-native_stands native.Count = refl
-native_stands native.GetParent = refl
-native_stands native.GetTagName = refl
-native_stands native.Mark = refl
-native_stands native.GetMark = refl
-native_stands native.Protect = refl
+native_stands (native.Global BooleanOf) = refl
+native_stands (native.Global _) = refl
+native_stands (native.Math Abs) = refl
+native_stands (native.Math _) = refl
+native_stands (native.Prototype HasOwnProperty) = refl
+native_stands (native.Prototype _) = refl
+native_stands (native.Text CharAt) = refl
+native_stands (native.Text _) = refl
+native_stands (native.List Join) = refl
+native_stands (native.List _) = refl
+native_stands (native.Adsafe Create) = refl
+native_stands (native.Adsafe _) = refl
+native_stands (native.Dom DomQuery) = refl
+native_stands (native.Dom _) = refl
+native_stands (native.Read Query) = refl
+native_stands (native.Read _) = refl
+native_stands (native.Write Append) = refl
+native_stands (native.Write _) = refl
 
 pub stands : (e : HostEntry) → slice_get entries (entry_number e) ≡ Some e
 stands entry.ObjectPrototype = refl

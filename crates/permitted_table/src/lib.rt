@@ -4,6 +4,11 @@
 
 mod laws;
 mod native;
+mod table;
 
 pub use laws::entries_are_numbered;
-pub use native::{HostEntry, NativeId};
+pub use native::{
+    AdsafeNative, DomNative, GlobalNative, HostEntry, ListNative, MathNative, NativeId,
+    PrototypeNative, ReadNative, TextNative, WriteNative,
+};
+pub use table::{COUNT, Home, PROTOTYPES, ROWS};

@@ -1,25 +1,24 @@
-//! The natives of the language, and the entries of the permitted table.
+//! The natives of the language by their families, and the entries of the permitted table.
 ghost use Rattle.std.specs.Prelude.{◌≡◌};
 ghost use Rattle.permitted_table.specs.Natives.{number_of};
 
-/// A native of the language. The order is that of the table.
-#[derive(Clone, Copy, PartialEq, Eq, Drop)]
-pub enum NativeId {
-    // Of the event object.
-    Bubble,
+use crate::table::{ADSAFES, DOMS, GLOBALS, LISTS, MATHS, PROTOTYPES, READS, TEXTS, WRITES};
 
-    // The global natives.
-    Boolean,
-    Number,
-    String,
+/// A native among the listed globals, or `String.fromCharCode`.
+#[derive(Clone, Copy, PartialEq, Eq, Drop)]
+pub enum GlobalNative {
+    BooleanOf,
+    NumberOf,
+    StringOf,
     IsNaN,
     IsFinite,
     ParseInt,
-
-    // Of `String`.
     FromCharCode,
+}
 
-    // Of `Math`.
+/// A native of `Math`.
+#[derive(Clone, Copy, PartialEq, Eq, Drop)]
+pub enum MathNative {
     Abs,
     Ceil,
     Floor,
@@ -27,18 +26,23 @@ pub enum NativeId {
     Max,
     Min,
     Pow,
+}
 
-    // Of the prototype of Object.
+/// `hasOwnProperty`, and the `toString` of each prototype.
+#[derive(Clone, Copy, PartialEq, Eq, Drop)]
+pub enum PrototypeNative {
     HasOwnProperty,
     ObjectToString,
-
-    // Of the prototypes of Function, number and boolean.
     FunctionToString,
     NumberToString,
     BooleanToString,
-
-    // Of texts.
     TextToString,
+    ArrayToString,
+}
+
+/// A method of texts.
+#[derive(Clone, Copy, PartialEq, Eq, Drop)]
+pub enum TextNative {
     CharAt,
     CharCodeAt,
     TextConcat,
@@ -49,10 +53,12 @@ pub enum NativeId {
     Split,
     ToLowerCase,
     ToUpperCase,
+}
 
-    // Of arrays.
-    ArrayToString,
-    ArrayConcat,
+/// A method of arrays.
+#[derive(Clone, Copy, PartialEq, Eq, Drop)]
+pub enum ListNative {
+    ListConcat,
     Join,
     Pop,
     Shift,
@@ -60,63 +66,93 @@ pub enum NativeId {
     Unshift,
     Reverse,
     Sort,
-    ArraySlice,
+    ListSlice,
     Splice,
     ForEach,
-    Map,
-    Filter,
+    MapNative,
+    FilterNative,
+}
 
-    // Of `ADSAFE`.
-    Get,
-    Set,
-    Remove,
-    Has,
+/// A native of `ADSAFE`.
+#[derive(Clone, Copy, PartialEq, Eq, Drop)]
+pub enum AdsafeNative {
+    GetProperty,
+    SetProperty,
+    RemoveProperty,
+    HasProperty,
     Create,
     IsArray,
-    Keys,
+    KeysOf,
     Later,
-    Log,
+    LogValue,
     Post,
     FromJson,
     ToJson,
+}
 
-    // Of `dom`.
-    DomQ,
+/// A native of `dom`.
+#[derive(Clone, Copy, PartialEq, Eq, Drop)]
+pub enum DomNative {
+    DomQuery,
     DomAppend,
     DomTag,
     DomText,
+}
 
-    // Of Bunches.
-    BunchQ,
-    BunchAppend,
-    BunchRemove,
-    Empty,
-    Replace,
-    Value,
+/// A method of Bunches that reads.
+#[derive(Clone, Copy, PartialEq, Eq, Drop)]
+pub enum ReadNative {
+    Query,
     GetValue,
     GetValues,
-    Style,
     GetStyle,
-    Klass,
-    Title,
     GetClass,
     GetTitle,
-    Check,
-    Enable,
     GetCheck,
+    Explode,
+    Count,
+    GetParent,
+    GetTagName,
+    GetMark,
+}
+
+/// A method of Bunches that changes something, or asks for calls.
+#[derive(Clone, Copy, PartialEq, Eq, Drop)]
+pub enum WriteNative {
+    Append,
+    Remove,
+    Empty,
+    Replace,
+    SetValue,
+    SetStyle,
+    SetClass,
+    SetTitle,
+    SetCheck,
+    SetEnabled,
     Focus,
     Blur,
     On,
     Off,
     Fire,
     Each,
-    Explode,
-    Count,
-    GetParent,
-    GetTagName,
-    Mark,
-    GetMark,
+    SetMark,
     Protect,
+}
+
+/// A native of the language, by its family. The order is that of the table.
+#[derive(Clone, Copy, PartialEq, Eq, Drop)]
+pub enum NativeId {
+    /// Of event objects.
+    Bubble,
+    Global(GlobalNative),
+    Math(MathNative),
+    Prototype(PrototypeNative),
+    Text(TextNative),
+    List(ListNative),
+    Adsafe(AdsafeNative),
+    Dom(DomNative),
+    Read(ReadNative),
+    Write(WriteNative),
 }
 
 impl NativeId {
@@ -124,7 +160,18 @@ impl NativeId {
     pub fn number(self) -> u32
         ensures { result ≡ number_of self }
     {
-        self as u32
+        match self {
+            NativeId::Bubble => 0,
+            NativeId::Global(native) => GLOBALS + native as u32,
+            NativeId::Math(native) => MATHS + native as u32,
+            NativeId::Prototype(native) => PROTOTYPES + native as u32,
+            NativeId::Text(native) => TEXTS + native as u32,
+            NativeId::List(native) => LISTS + native as u32,
+            NativeId::Adsafe(native) => ADSAFES + native as u32,
+            NativeId::Dom(native) => DOMS + native as u32,
+            NativeId::Read(native) => READS + native as u32,
+            NativeId::Write(native) => WRITES + native as u32,
+        }
     }
 }
 

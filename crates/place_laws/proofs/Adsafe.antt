@@ -11,7 +11,8 @@ use Rattle.widget_meaning.specs.OwnState.{State, Cell, Kind, Object, Array, Func
 use Rattle.widget_meaning.specs.Plan.{Plan, charge}
 use Rattle.widget_meaning.specs.Costs.{units_cost, make, throw, give, want, or_throw}
 use Rattle.widget_meaning.specs.Properties.{own_property, prototype, get, keys}
-use Rattle.widget_meaning.specs.NativeNames.{AdsafeNative, Create, FromJson, GetProperty, HasProperty, IsArray, KeysOf, Later, LogValue, Post, RemoveProperty, SetProperty, ToJson}
+use Rattle.permitted_table.specs.declared.native.AdsafeNative.{AdsafeNative}
+use Rattle.permitted_table.specs.declared.native.AdsafeNative.TheVariants.{Create, FromJson, GetProperty, HasProperty, IsArray, KeysOf, Later, LogValue, Post, RemoveProperty, SetProperty, ToJson}
 use Rattle.widget_meaning.specs.NativeForms.{give_texts, is_too_long}
 use Rattle.widget_meaning.specs.JsonTexts.{Writer, cell_text, value_text, to_json, give_json, Written, Wrote, NoJson, TooLong}
 use Rattle.widget_meaning.specs.JsonValues.{read_json, has_numbers, value_at, cells_at, items_at, members_at, json_cost, give_read, read_value, from_json}

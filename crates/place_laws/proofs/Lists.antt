@@ -11,7 +11,10 @@ use Rattle.widget_meaning.specs.OwnState.{State, Cell, array_length, kind_of, ce
 use Rattle.widget_meaning.specs.Plan.{Plan, Call, charge}
 use Rattle.widget_meaning.specs.Costs.{cost, slots_cost, pay, give, want}
 use Rattle.widget_meaning.specs.Properties.{own_property, is_function, cut_to}
-use Rattle.widget_meaning.specs.NativeNames.{ListNative, ListConcat, Join, Pop, Push, Shift, Unshift, Reverse, Sort, ListSlice, Splice, ForEach, MapNative, FilterNative, PrototypeNative, HasOwnProperty, ObjectToString, ArrayToString, FunctionToString, TextToString, NumberToString, BooleanToString}
+use Rattle.permitted_table.specs.declared.native.ListNative.{ListNative}
+use Rattle.permitted_table.specs.declared.native.ListNative.TheVariants.{ListConcat, Join, Pop, Push, Shift, Unshift, Reverse, Sort, ListSlice, Splice, ForEach, MapNative, FilterNative}
+use Rattle.permitted_table.specs.declared.native.PrototypeNative.{PrototypeNative}
+use Rattle.permitted_table.specs.declared.native.PrototypeNative.TheVariants.{HasOwnProperty, ObjectToString, ArrayToString, FunctionToString, TextToString, NumberToString, BooleanToString}
 use Rattle.widget_meaning.specs.NativeForms.{want_primitives, with_number, with_optional, give_text, make_array, element, elements, numbered_pairs, from_end, clamped}
 use Rattle.widget_meaning.specs.ListChanges.{array_elements, list_extra, with_elements, new_indexes, pop, pushed, push, shift, unshift, reverse, sorted, sort, splice, change, without_order, spliced, splice_count}
 use Rattle.widget_meaning.specs.ListNatives.{joined_text, separator, join, list_concat, list_slice, call_each, kept, over, list_method, list_native}

@@ -12,7 +12,12 @@ use Rattle.widget_meaning.specs.OwnState.{State, new_array, new_bunch, with_new_
 use Rattle.widget_meaning.specs.Plan.{Plan}
 use Rattle.widget_meaning.specs.Costs.{cost, give, want, or_throw}
 use Rattle.widget_meaning.specs.Properties.{is_own_function}
-use Rattle.widget_meaning.specs.NativeNames.{GlobalNative, BooleanOf, NumberOf, StringOf, IsNaN, IsFinite, ParseInt, FromCharCode, MathNative, Abs, Ceil, Floor, Round, Max, Min, Pow, TextNative, CharAt, CharCodeAt, TextConcat, IndexOf, LastIndexOf, TextSlice, Substring, Split, ToLowerCase, ToUpperCase}
+use Rattle.permitted_table.specs.declared.native.GlobalNative.{GlobalNative}
+use Rattle.permitted_table.specs.declared.native.GlobalNative.TheVariants.{BooleanOf, NumberOf, StringOf, IsNaN, IsFinite, ParseInt, FromCharCode}
+use Rattle.permitted_table.specs.declared.native.MathNative.{MathNative}
+use Rattle.permitted_table.specs.declared.native.MathNative.TheVariants.{Abs, Ceil, Floor, Round, Max, Min, Pow}
+use Rattle.permitted_table.specs.declared.native.TextNative.{TextNative}
+use Rattle.permitted_table.specs.declared.native.TextNative.TheVariants.{CharAt, CharCodeAt, TextConcat, IndexOf, LastIndexOf, TextSlice, Substring, Split, ToLowerCase, ToUpperCase}
 use Rattle.widget_meaning.specs.Operators.{OpOut, as_number}
 use Rattle.widget_meaning.specs.NativeForms.{want_primitives, with_number, give_text, want_function, on_text, on_array, on_bunch, make_array, make_bunch, with_number_or, with_optional, give_texts, on_object, numbered_pairs, is_too_long}
 use Rattle.widget_meaning.specs.GlobalNatives.{units_read, boolean_of, of_number, number_of, nan_or_not, text_of_primitive, string_of, string_native, parsed, parse_int, has_left, from_char_code, global_native}

@@ -20,12 +20,18 @@ use Rattle.widget_meaning.specs.Costs.{cost, slots_cost, give, want, or_throw}
 use Rattle.widget_meaning.specs.Plan.{Plan, Call}
 use Rattle.widget_meaning.specs.Queries.{read_query, finds}
 use Rattle.widget_meaning.specs.NativeForms.{numbered_pairs, make_bunch}
-use Rattle.widget_meaning.specs.NativeNames.{ReadNative, Query, GetValue, GetValues, GetStyle, GetClass, GetTitle, GetCheck, Explode, Count, GetParent, GetTagName, GetMark, WriteNative, Append, Remove, Empty, Replace, SetValue, SetStyle, SetClass, SetTitle, SetCheck, SetEnabled, Focus, Blur, On, Off, Fire, Each, SetMark, Protect, OfEvent, family_of, DomNative, DomQuery, DomAppend, DomTag, DomText, Family, OfGlobal, OfMath, OfPrototype, OfText, OfList, OfAdsafe, OfDom, OfRead, OfWrite}
+use Rattle.permitted_table.specs.declared.native.ReadNative.{ReadNative}
+use Rattle.permitted_table.specs.declared.native.ReadNative.TheVariants.{Query, GetValue, GetValues, GetStyle, GetClass, GetTitle, GetCheck, Explode, Count, GetParent, GetTagName, GetMark}
+use Rattle.permitted_table.specs.declared.native.WriteNative.{WriteNative}
+use Rattle.permitted_table.specs.declared.native.WriteNative.TheVariants.{Append, Remove, Empty, Replace, SetValue, SetStyle, SetClass, SetTitle, SetCheck, SetEnabled, Focus, Blur, On, Off, Fire, Each, SetMark, Protect}
+use Rattle.permitted_table.specs.declared.native.DomNative.{DomNative}
+use Rattle.permitted_table.specs.declared.native.DomNative.TheVariants.{DomQuery, DomAppend, DomTag, DomText}
+use Rattle.permitted_table.specs.declared.native.NativeId.TheVariants as native
 use Rattle.widget_meaning.specs.PageForms.{root, next_node, with_node, want_all, is_input, is_field, is_element, is_text_node, want_one, want_bunch, with_label}
 use Rattle.widget_meaning.specs.BunchReads.{starts, bunches_from, query, read_native, give_page_text, query_steps, value_of, get_value, get_values, first_attribute, get_attribute, get_style, is_checked, explode, has_open_parent, get_parent, get_tag_name, first_mark, read_method, exploded, with_bunch}
 use Rattle.widget_meaning.specs.BunchWrites.{is_no_root, is_target, appended, write_native, alter, alter_for, append_trees, append, remove, replace, is_value_target, set_value, styled, set_style, set_attribute, set_flag, with_focus, focus, left_focus, blur, with_handler, listen, hush, fired, fire, each_called, each, write_method, with_copies, emptied, relabel, with_text_node, valued, alter_each, change_kept}
 use Rattle.widget_meaning.specs.DomNatives.{dom_native, give_node, given_text, dom_tag, append_to_root, dom_append}
-use Rattle.widget_meaning.specs.Natives.{run_family, run_native}
+use Rattle.widget_meaning.specs.Natives.{run_native}
 use Rattle.widget_meaning.specs.Dispatch.{bubble}
 use Rattle.place_laws.proofs.Near.{N, bare, itself, moved, born, births, bunch_bare}
 use Rattle.place_laws.proofs.Alike.{Alike, ended, gave, got, job, value, chain, charged, paid, made_text, faulted, found, wanted}
@@ -306,17 +312,14 @@ dom_native_a DomAppend this vs d s s' near = dom_append_a (nth 0 vs) s s' near
 dom_native_a DomTag this vs d s s' near = want_primitives_a (nth 0 vs ∷ nth 1 vs ∷ []) s s' _ _ near (dom_tag_a (to_text (nth 0 vs)) (given_text (nth 1 vs)) s s' near)
 dom_native_a DomText this vs d s s' near = want_primitives_a (nth 0 vs ∷ []) s s' _ _ near (give_node_a (TextOf (to_text (nth 0 vs))) (length (to_text (nth 0 vs))) s s' near)
 
-pub run_family_a : (x0 : Family) (x1 : Option Value) (x2 : List Value) (x3 : ℕ) (x4 z4 : State) → N x4 z4 → Alike (run_family x0 x1 x2 x3 x4) (run_family x0 x1 x2 x3 z4)
-run_family_a (OfGlobal w) this vs d s s' near = global_native_a w this vs d s s' near
-run_family_a (OfMath w) this vs d s s' near = math_native_a w this vs d s s' near
-run_family_a (OfPrototype w) this vs d s s' near = prototype_native_a w this vs d s s' near
-run_family_a (OfText w) this vs d s s' near = text_native_a w this vs s s' near
-run_family_a (OfList w) this vs d s s' near = list_native_a w this vs d s s' near
-run_family_a (OfAdsafe w) this vs d s s' near = adsafe_native_a w this vs d s s' near
-run_family_a (OfDom w) this vs d s s' near = dom_native_a w this vs d s s' near
-run_family_a (OfRead w) this vs d s s' near = read_native_a w this vs d s s' near
-run_family_a (OfWrite w) this vs d s s' near = write_native_a w this vs d s s' near
-run_family_a OfEvent this vs d s s' near = moved (λ y. Alike (bubble s.dispatches s) (bubble y.dispatches y)) s s' near (bubble_a s.dispatches s (bare s) (itself s))
-
 pub run_native_a : (x0 : NativeId) (x1 : Option Value) (x2 : List Value) (x3 : ℕ) (x4 z4 : State) → N x4 z4 → Alike (run_native x0 x1 x2 x3 x4) (run_native x0 x1 x2 x3 z4)
-run_native_a w this vs d s s' near = run_family_a (family_of w) this vs d s s' near
+run_native_a (native.Global w) this vs d s s' near = global_native_a w this vs d s s' near
+run_native_a (native.Math w) this vs d s s' near = math_native_a w this vs d s s' near
+run_native_a (native.Prototype w) this vs d s s' near = prototype_native_a w this vs d s s' near
+run_native_a (native.Text w) this vs d s s' near = text_native_a w this vs s s' near
+run_native_a (native.List w) this vs d s s' near = list_native_a w this vs d s s' near
+run_native_a (native.Adsafe w) this vs d s s' near = adsafe_native_a w this vs d s s' near
+run_native_a (native.Dom w) this vs d s s' near = dom_native_a w this vs d s s' near
+run_native_a (native.Read w) this vs d s s' near = read_native_a w this vs d s s' near
+run_native_a (native.Write w) this vs d s s' near = write_native_a w this vs d s s' near
+run_native_a native.Bubble this vs d s s' near = moved (λ y. Alike (bubble s.dispatches s) (bubble y.dispatches y)) s s' near (bubble_a s.dispatches s (bare s) (itself s))

@@ -10,10 +10,8 @@ ghost use Rattle.js_image.specs.Held.{AreFine, IsFine, Kept};
 ghost use Rattle.js_values.specs.Operands.{meant_out};
 ghost use Rattle.native_common.specs.Meets.{Meets};
 ghost use Rattle.native_common.specs.Numbers.{IsSmallOut};
-ghost use Rattle.plain_natives.specs.Families.{meant_global};
 
 use crate::codes::from_char_code;
-use crate::families::GlobalNative;
 use crate::numerals::parsed;
 use code_units::{Memory, Text, WholeRead};
 use js_values::{Fault, Meter, NativeOut, OpOut, Plan, StopCause, is_true};
@@ -21,7 +19,7 @@ use native_common::{
     charged, either_object, give_text, given, is_object, nth, number_or, read_number, read_text,
     text_len, units_read,
 };
-use object_store::{Number, Store, Value};
+use object_store::{GlobalNative, Number, Store, Value};
 use std::alloc::Global;
 
 /// A native among the globals; it ignores its receiver.
@@ -36,16 +34,16 @@ pub fn global_native(
     requires widget { w < 32 }
     requires args { AreFine w store.old.cells args.now }
     ensures native { IfOk result (λ o. Meets w store.old store.new meter.old meter.new
-        (means.global_native (meant_global which) None (all_seen w store.old.cells args.now)) o) }
+        (means.global_native which None (all_seen w store.old.cells args.now)) o) }
     ensures memory { OnErr result ((fs : List Forest) → Kept fs w store.old store.new) }
 {
     let absent = Value::Undefined;
     let first = nth(args, 0, &absent);
     let second = nth(args, 1, &absent);
     match which {
-        GlobalNative::Boolean => Ok(boolean(first, meter)),
-        GlobalNative::Number => Ok(number_native(args, meter)),
-        GlobalNative::String => string_native(alloc, args, store, meter, w),
+        GlobalNative::BooleanOf => Ok(boolean(first, meter)),
+        GlobalNative::NumberOf => Ok(number_native(args, meter)),
+        GlobalNative::StringOf => string_native(alloc, args, store, meter, w),
         GlobalNative::IsNaN => Ok(nan_or_not(first, true, meter)),
         GlobalNative::IsFinite => Ok(nan_or_not(first, false, meter)),
         GlobalNative::ParseInt => parse_int(alloc, first, second, meter),

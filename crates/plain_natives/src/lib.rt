@@ -6,7 +6,6 @@
 mod codes;
 mod conversions;
 mod cutting;
-mod families;
 mod joining;
 mod maths;
 mod numerals;
@@ -15,7 +14,6 @@ mod searching;
 
 pub use conversions::global_native;
 pub use cutting::{char_at, char_code_at, cut, in_case};
-pub use families::{GlobalNative, MathNative};
 pub use joining::concat;
 pub use maths::math_native;
 pub use searching::{index_of, last_index_of};

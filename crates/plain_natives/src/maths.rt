@@ -10,16 +10,14 @@ ghost use Rattle.js_image.specs.Image.{all_seen, seen};
 ghost use Rattle.js_values.specs.Operands.{meant_out};
 ghost use Rattle.native_common.specs.Meets.{Meets};
 ghost use Rattle.native_common.specs.Numbers.{IsSmallOut};
-ghost use Rattle.plain_natives.specs.Families.{meant_math};
 ghost use Rattle.plain_natives.specs.Choices.{better, changed};
 
 use crate::conversions::as_number;
-use crate::families::MathNative;
 use crate::powers::power;
 use code_units::{Memory, WholeRead};
 use js_values::{Fault, Meter, NativeOut, OpOut};
 use native_common::{any_object, charged, either_object, given, is_object, nth, read_number};
-use object_store::{Number, Value};
+use object_store::{MathNative, Number, Value};
 
 /// A native of `Math`; it ignores its receiver. `Memory` comes alone for the magnitude of a number
 /// that no widget has.
@@ -29,14 +27,16 @@ pub fn math_native(
     meter: &mut Meter,
 ) -> Result<NativeOut, Memory>
     ensures { IfOk result (λ o. (w : ℕ) (s : Cells) → Meets w s s meter.old meter.new
-        (means.math_native (meant_math which) None (all_seen w s.cells args.now)) o) }
+        (means.math_native which None (all_seen w s.cells args.now)) o) }
 {
     let absent = Value::Undefined;
     let first = nth(args, 0, &absent);
     let second = nth(args, 1, &absent);
     match which {
         MathNative::Abs => of_one(args, first, true, meter),
-        MathNative::Whole => of_one(args, first, false, meter),
+        MathNative::Ceil => of_one(args, first, false, meter),
+        MathNative::Floor => of_one(args, first, false, meter),
+        MathNative::Round => of_one(args, first, false, meter),
         MathNative::Max => Ok(of_all(args, true, meter)),
         MathNative::Min => Ok(of_all(args, false, meter)),
         MathNative::Pow => Ok(pow(first, second, args.len(), meter)),

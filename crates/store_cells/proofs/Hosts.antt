@@ -8,9 +8,19 @@ use Rattle.code_units.specs.declared.owner.Owner.TheVariants as whose
 use Rattle.store_cells.specs.Lists.{changed}
 use Rattle.store_cells.specs.Cells.{PlainCell, kind_of, widget_of, writer_in, is_bunch}
 use Rattle.store_cells.specs.Host.{AreHost, host_cells, host_count, place_of, is_permitted_cell}
+use Rattle.permitted_table.specs.declared.table.TheConstants.{COUNT}
 use Rattle.permitted_table.specs.Natives.{number_of}
 use Rattle.permitted_table.specs.declared.native.NativeId.{NativeId}
 use Rattle.permitted_table.specs.declared.native.NativeId.TheVariants as native
+use Rattle.permitted_table.specs.declared.native.GlobalNative.TheVariants.{BooleanOf}
+use Rattle.permitted_table.specs.declared.native.MathNative.TheVariants.{Abs}
+use Rattle.permitted_table.specs.declared.native.PrototypeNative.TheVariants.{HasOwnProperty}
+use Rattle.permitted_table.specs.declared.native.TextNative.TheVariants.{CharAt}
+use Rattle.permitted_table.specs.declared.native.ListNative.TheVariants.{Join}
+use Rattle.permitted_table.specs.declared.native.AdsafeNative.TheVariants.{Create}
+use Rattle.permitted_table.specs.declared.native.DomNative.TheVariants.{DomQuery}
+use Rattle.permitted_table.specs.declared.native.ReadNative.TheVariants.{Query}
+use Rattle.permitted_table.specs.declared.native.WriteNative.TheVariants.{Append}
 use Rattle.permitted_table.specs.declared.native.HostEntry.{HostEntry}
 use Rattle.permitted_table.specs.declared.native.HostEntry.TheVariants as entry
 use Rattle.store_cells.specs.declared.kind.CellKind.TheVariants as kind
@@ -96,98 +106,27 @@ pub global_form : IfSome (slice_get host_cells 0) (λ c. kind_of c.form ≡ kind
 unfolding host_cells
 global_form = refl
 
-number_within : (n : NativeId) → number_of n < 91
+-- one of each family is named, and `_` are all others
+pub number_within : (n : NativeId) → number_of n < COUNT
 number_within native.Bubble = omega arith
-number_within native.Boolean = omega arith
-number_within native.Number = omega arith
-number_within native.String = omega arith
-number_within native.IsNaN = omega arith
-number_within native.IsFinite = omega arith
-number_within native.ParseInt = omega arith
-number_within native.FromCharCode = omega arith
-number_within native.Abs = omega arith
-number_within native.Ceil = omega arith
-number_within native.Floor = omega arith
-number_within native.Round = omega arith
-number_within native.Max = omega arith
-number_within native.Min = omega arith
-number_within native.Pow = omega arith
-number_within native.HasOwnProperty = omega arith
-number_within native.ObjectToString = omega arith
-number_within native.FunctionToString = omega arith
-number_within native.NumberToString = omega arith
-number_within native.BooleanToString = omega arith
-number_within native.TextToString = omega arith
-number_within native.CharAt = omega arith
-number_within native.CharCodeAt = omega arith
-number_within native.TextConcat = omega arith
-number_within native.IndexOf = omega arith
-number_within native.LastIndexOf = omega arith
-number_within native.TextSlice = omega arith
-number_within native.Substring = omega arith
-number_within native.Split = omega arith
-number_within native.ToLowerCase = omega arith
-number_within native.ToUpperCase = omega arith
-number_within native.ArrayToString = omega arith
-number_within native.ArrayConcat = omega arith
-number_within native.Join = omega arith
-number_within native.Pop = omega arith
-number_within native.Shift = omega arith
-number_within native.Push = omega arith
-number_within native.Unshift = omega arith
-number_within native.Reverse = omega arith
-number_within native.Sort = omega arith
-number_within native.ArraySlice = omega arith
-number_within native.Splice = omega arith
-number_within native.ForEach = omega arith
-number_within native.Map = omega arith
-number_within native.Filter = omega arith
-number_within native.Get = omega arith
-number_within native.Set = omega arith
-number_within native.Remove = omega arith
-number_within native.Has = omega arith
-number_within native.Create = omega arith
-number_within native.IsArray = omega arith
-number_within native.Keys = omega arith
-number_within native.Later = omega arith
-number_within native.Log = omega arith
-number_within native.Post = omega arith
-number_within native.FromJson = omega arith
-number_within native.ToJson = omega arith
-number_within native.DomQ = omega arith
-number_within native.DomAppend = omega arith
-number_within native.DomTag = omega arith
-number_within native.DomText = omega arith
-number_within native.BunchQ = omega arith
-number_within native.BunchAppend = omega arith
-number_within native.BunchRemove = omega arith
-number_within native.Empty = omega arith
-number_within native.Replace = omega arith
-number_within native.Value = omega arith
-number_within native.GetValue = omega arith
-number_within native.GetValues = omega arith
-number_within native.Style = omega arith
-number_within native.GetStyle = omega arith
-number_within native.Klass = omega arith
-number_within native.Title = omega arith
-number_within native.GetClass = omega arith
-number_within native.GetTitle = omega arith
-number_within native.Check = omega arith
-number_within native.Enable = omega arith
-number_within native.GetCheck = omega arith
-number_within native.Focus = omega arith
-number_within native.Blur = omega arith
-number_within native.On = omega arith
-number_within native.Off = omega arith
-number_within native.Fire = omega arith
-number_within native.Each = omega arith
-number_within native.Explode = omega arith
-number_within native.Count = omega arith
-number_within native.GetParent = omega arith
-number_within native.GetTagName = omega arith
-number_within native.Mark = omega arith
-number_within native.GetMark = omega arith
-number_within native.Protect = omega arith
+number_within (native.Global BooleanOf) = omega arith
+number_within (native.Global _) = omega arith
+number_within (native.Math Abs) = omega arith
+number_within (native.Math _) = omega arith
+number_within (native.Prototype HasOwnProperty) = omega arith
+number_within (native.Prototype _) = omega arith
+number_within (native.Text CharAt) = omega arith
+number_within (native.Text _) = omega arith
+number_within (native.List Join) = omega arith
+number_within (native.List _) = omega arith
+number_within (native.Adsafe Create) = omega arith
+number_within (native.Adsafe _) = omega arith
+number_within (native.Dom DomQuery) = omega arith
+number_within (native.Dom _) = omega arith
+number_within (native.Read Query) = omega arith
+number_within (native.Read _) = omega arith
+number_within (native.Write Append) = omega arith
+number_within (native.Write _) = omega arith
 
 pub place_within : (e : HostEntry) → place_of e < host_count
 place_within entry.ObjectPrototype = omega arith

@@ -5,9 +5,9 @@ use Rattle.std.specs.List.{list_all}
 use Rattle.std.specs.Option.{option_map, option_map_or}
 use Rattle.code_units.specs.declared.owner.Owner.{Owner}
 use Rattle.code_units.specs.declared.owner.Owner.TheVariants as whose
-use Rattle.permitted_table.specs.declared.native.NativeId.TheVariants as native
 use Rattle.permitted_table.specs.declared.native.HostEntry.{HostEntry}
 use Rattle.permitted_table.specs.declared.native.HostEntry.TheVariants as entry
+use Rattle.permitted_table.specs.declared.table.TheConstants.{COUNT}
 use Rattle.permitted_table.specs.Natives.{number_of}
 use Rattle.permitted_table.specs.Table.{Global, Leads, NaN, Undefined, entries, globals, names_of, prototype_of}
 use Rattle.store_cells.specs.declared.value.Value.{Value}
@@ -70,10 +70,6 @@ dom = 11
 abbrev pub first_native : ℕ
 first_native = 12
 
--- the place of `String`
-abbrev pub string : ℕ
-string = first_native + number_of native.String
-
 -- the place of an entry of the permitted table
 abbrev pub place_of : HostEntry → ℕ
 place_of entry.ObjectPrototype = object_prototype
@@ -123,7 +119,7 @@ host_cells = global_cell ∷ raw_cell 0 ∷ map entry_cell entries
 
 -- how many cells the host has in each store
 abbrev pub host_count : ℕ
-host_count = 103
+host_count = first_native + COUNT
 
 -- the counts of a widget that has paid nothing
 abbrev pub nothing_paid : Counts

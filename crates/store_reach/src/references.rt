@@ -4,18 +4,16 @@ ghost use Rattle.store_cells.specs.Host.{is_permitted_cell};
 ghost use Rattle.store_reach.specs.Reads.{is_global, lined, name_of, ref_at, value_refs};
 
 use code_units::{Memory, Owner, Text};
-use object_store::{CellId, CellKind, Store, Value};
+use object_store::{CellId, CellKind, HOST_CELLS, Store, Value};
 use reach_cert::Ref;
 
-// The cells of the permitted table stand between these places.
+// The cells of the permitted table stand from here up to the last of the host's first cells.
 const FIRST_PERMITTED: CellId = 2;
-
-const PAST_PERMITTED: CellId = 103;
 
 fn is_permitted_cell(cell: CellId) -> bool
     ensures { result ≡ is_permitted_cell cell }
 {
-    FIRST_PERMITTED <= cell && cell < PAST_PERMITTED
+    FIRST_PERMITTED <= cell && cell < HOST_CELLS
 }
 
 // The name with which the certificate has the cells of an owner.

@@ -7,10 +7,11 @@ use Rattle.store_cells.specs.declared.cell.Head.{Head}
 use Rattle.store_cells.specs.declared.kind.Form.{Form}
 use Rattle.store_cells.specs.declared.kind.Form.TheVariants as form
 use Rattle.permitted_table.specs.declared.native.NativeId.TheVariants as native
+use Rattle.permitted_table.specs.Natives.{rows}
 use Rattle.store_cells.specs.declared.counts.Counts.{Counts}
 use Rattle.store_cells.specs.Numbered.{NumberedCell, cells_of, heads, own_head, node_head}
 use Rattle.store_cells.specs.Host.{AreHost, host_cells, host_count, nothing_paid}
-use Rattle.store_table.specs.Bare.{homed, native_gift}
+use Rattle.store_table.specs.Bare.{native_gift}
 use Rattle.store_table.specs.Bare.{host_head, bare_numbered, no_arrays, with_gifts, reference_gifts, AreFirst}
 use Rattle.store_cells.specs.Shape.{AreClosed, AreWords, AreOrdered, AreRaws, AreWithin, IsBase, IsShape}
 use Rattle.store_cells.specs.Cells.{PlainCell, is_bunch, kept_cells}
@@ -22,7 +23,7 @@ use Rattle.store_table.proofs.Bares.{ordered_group, raws_group, is_empty_cell, a
 
 -- the forms of the natives
 abbrev native_forms : List Form
-native_forms = form.Native native.Bubble ∷ map (λ r. form.Native r.2) homed
+native_forms = form.Native native.Bubble ∷ map (λ r. form.Native r.2) rows
 
 abbrev globals : List Head
 globals = host_head None 0 form.Global ∷ []
@@ -129,6 +130,6 @@ first_shape names cs raws kept first e g = record {
 }
 
 -- the gifts give the host's cells
-pub first_gifts : (names : List (List ℕ)) → with_gifts (map native_gift homed) reference_gifts (cells_of names bare_numbered) ≡ host_cells
+pub first_gifts : (names : List (List ℕ)) → with_gifts (map native_gift rows) reference_gifts (cells_of names bare_numbered) ≡ host_cells
 unfolding with_gifts host_cells bare_numbered
 first_gifts names = refl

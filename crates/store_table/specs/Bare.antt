@@ -1,7 +1,7 @@
 -- The host's cells by number, before they have properties.
 use Rattle.std.specs.Prelude.{◌≡◌, ℕ, ◌+◌, Bool, true, false, List, [], ◌∷◌, ◌++◌, Option, None, Some, nat_lt, not, ◌&&◌, map, fold, codes, take, drop}
 use denote.Ref.{Bor}
-use Rattle.std.specs.List.{flat_map, list_all}
+use Rattle.std.specs.List.{list_all}
 use Rattle.code_units.specs.declared.owner.Owner.TheVariants as whose
 use Rattle.store_cells.specs.declared.kind.Form.{Form}
 use Rattle.store_cells.specs.declared.kind.Form.TheVariants as form
@@ -9,12 +9,12 @@ use Rattle.permitted_table.specs.declared.native.NativeId.TheVariants as native
 use Rattle.store_cells.specs.declared.cell.Head.{Head}
 use Rattle.store_cells.specs.Numbered.{NumberedCell, node_head, cells_of, heads}
 use Rattle.permitted_table.specs.declared.native.NativeId.{NativeId}
-use Rattle.permitted_table.specs.declared.native.HostEntry.{HostEntry}
-use Rattle.permitted_table.specs.declared.native.HostEntry.TheVariants as entry
-use Rattle.permitted_table.specs.Natives.{number_of}
-use Rattle.permitted_table.specs.Table.{Global, Leads, globals, names_of}
+use Rattle.permitted_table.specs.declared.table.Home.{Home}
+use Rattle.permitted_table.specs.declared.table.Home.TheVariants as homes
+use Rattle.permitted_table.specs.Natives.{Row, number_of, rows as table_rows}
+use Rattle.permitted_table.specs.Table.{has_own_property}
 use Rattle.store_cells.specs.Lists.{changed}
-use Rattle.store_cells.specs.Host.{global, body, math, adsafe, dom, string, number_prototype, boolean_prototype, text_prototype, array_prototype, bunch_prototype, first_native, object_prototype, function_prototype, host_cells, place_of}
+use Rattle.store_cells.specs.Host.{global, body, math, adsafe, number_prototype, boolean_prototype, first_native, object_prototype, function_prototype, host_cells, place_of}
 use Rattle.store_cells.specs.Shape.{IsBase, Wrote}
 use Rattle.store_cells.specs.declared.value.Value.{Value}
 use Rattle.store_cells.specs.declared.value.Value.TheVariants as value
@@ -22,43 +22,14 @@ use Rattle.store_cells.specs.declared.value.Number.TheVariants as number
 use Rattle.store_cells.specs.Cells.{PlainCell, is_array}
 use Rattle.store_cells.specs.Arrays.{written}
 
--- A native: the cell that has it, its name there, and the native.
-abbrev pub Row : Type 0
-Row = ℕ × List ℕ × NativeId
+-- A row as the code has it.
+abbrev pub CodeRow : Type 0
+CodeRow = Home × Bor (List ℕ) × NativeId
 
--- the row of a name that leads to a native
-abbrev pub row_of : ℕ → List ℕ → HostEntry → List Row
-row_of home name (entry.Native n) = (home, name, n) ∷ []
-row_of home name _ = []
-
--- the names that lead to natives, of the cell at a place
-abbrev pub rows_at : ℕ → List (List ℕ × HostEntry) → List Row
-rows_at home ps = flat_map (λ p. row_of home p.0 p.1) ps
-
--- the entry to which a listed global leads
-abbrev pub led : List ℕ → Global → List (List ℕ × HostEntry)
-led name (Leads e) = (name, e) ∷ []
-led name _ = []
-
--- the listed globals that lead to entries
-abbrev pub leading : List (List ℕ × Global) → List (List ℕ × HostEntry)
-leading gs = flat_map (λ g. led g.0 g.1) gs
-
--- the natives that have a home, each where it has its first; `bubble` is a property of event objects
-abbrev pub homed : List Row
-homed =
-    rows_at global (leading globals)
-    ++ rows_at string (names_of (entry.Native native.String))
-    ++ rows_at math (names_of entry.Math)
-    ++ rows_at object_prototype (names_of entry.ObjectPrototype)
-    ++ rows_at function_prototype (names_of entry.FunctionPrototype)
-    ++ rows_at number_prototype (take 1 (names_of entry.NumberPrototype))
-    ++ rows_at boolean_prototype (take 1 (names_of entry.BooleanPrototype))
-    ++ rows_at text_prototype (names_of entry.TextPrototype)
-    ++ rows_at array_prototype (names_of entry.ArrayPrototype)
-    ++ rows_at adsafe (names_of entry.Adsafe)
-    ++ rows_at dom (names_of entry.Dom)
-    ++ rows_at bunch_prototype (names_of entry.BunchPrototype)
+-- the cell of a home
+abbrev pub home_place : Home → ℕ
+home_place homes.Globals = global
+home_place (homes.Of e) = place_of e
 
 -- A property of a host cell: the cell, the name, the value.
 abbrev pub Gift : Type 0
@@ -66,7 +37,7 @@ Gift = ℕ × List ℕ × Value
 
 -- the property that is a native of its home
 abbrev pub native_gift : Row → Gift
-native_gift r = (r.0, r.1, value.Ref (first_native + number_of r.2))
+native_gift r = (home_place r.0, r.1, value.Ref (first_native + number_of r.2))
 
 -- the cells after a property was given
 abbrev pub given : List PlainCell → Gift → List PlainCell
@@ -92,20 +63,20 @@ abbrev pub node_numbered : ℕ → NumberedCell
 node_numbered n = record { head = node_head n; elements = []; references = 0; entries = [] }
 
 -- the cells of natives, each in a row with its home and its name there
-abbrev pub native_cells : {N : Type 0} → List (ℕ × N × NativeId) → List NumberedCell
+abbrev pub native_cells : {N : Type 0} → List (Home × N × NativeId) → List NumberedCell
 native_cells rows = map (λ r. host_numbered (Some function_prototype) 2 (form.Native r.2)) rows
 
 -- the properties that the rows of a table of natives are
-abbrev pub native_gifts : List (ℕ × Bor (List ℕ) × NativeId) → List Gift
-native_gifts rows = map (λ r. (r.0, r.1.now, value.Ref (first_native + number_of r.2))) rows
+abbrev pub native_gifts : List CodeRow → List Gift
+native_gifts rows = map (λ r. (home_place r.0, r.1.now, value.Ref (first_native + number_of r.2))) rows
 
 -- the properties that the rows of a table of references are
 abbrev pub references_as_gifts : List (ℕ × Bor (List ℕ) × ℕ) → List Gift
 references_as_gifts rows = map (λ r. (r.0, r.1.now, value.Ref r.2)) rows
 
 -- whether each row has its home and its native among so many cells
-abbrev pub are_natives_within : {N : Type 0} → ℕ → List (ℕ × N × NativeId) → Bool
-are_natives_within size rows = list_all (λ r. nat_lt r.0 size && nat_lt (first_native + number_of r.2) size) rows
+abbrev pub are_natives_within : {N : Type 0} → ℕ → List (Home × N × NativeId) → Bool
+are_natives_within size rows = list_all (λ r. nat_lt (home_place r.0) size && nat_lt (first_native + number_of r.2) size) rows
 
 -- whether each row has its home and its reference among so many cells
 abbrev pub are_references_within : {N : Type 0} → ℕ → List (ℕ × N × ℕ) → Bool
@@ -124,7 +95,7 @@ bare_of natives =
 
 -- the host's cells without properties
 unfoldable pub bare_numbered : List NumberedCell
-bare_numbered = bare_of (native_cells homed)
+bare_numbered = bare_of (native_cells table_rows)
 
 -- cells of which the Global cell was given two primitives
 abbrev pub with_primitives : List PlainCell → List PlainCell
@@ -135,16 +106,12 @@ with_primitives cells =
 unfoldable pub with_gifts : List Gift → List Gift → List PlainCell → List PlainCell
 with_gifts natives references cells = fold given (with_primitives (fold given cells natives)) references
 
--- properties that lead to entries, of the cell at a place
-abbrev pub entry_gifts : ℕ → List (List ℕ × HostEntry) → List Gift
-entry_gifts home ps = map (λ p. (home, p.0, value.Ref (place_of p.1))) ps
-
 -- the properties that refer to cells other than natives of their own
 abbrev pub reference_gifts : List Gift
 reference_gifts =
-    entry_gifts global (drop 6 (leading globals)) ++ ((global, codes "document", value.Ref body)
-    ∷ (entry_gifts number_prototype (drop 1 (names_of entry.NumberPrototype))
-    ++ entry_gifts boolean_prototype (drop 1 (names_of entry.BooleanPrototype))))
+    (global, codes "Math", value.Ref math) ∷ (global, codes "ADSAFE", value.Ref adsafe) ∷ (global, codes "document", value.Ref body)
+    ∷ (number_prototype, has_own_property.0, value.Ref (place_of has_own_property.1))
+    ∷ (boolean_prototype, has_own_property.0, value.Ref (place_of has_own_property.1)) ∷ []
 
 -- whether none of the cells is an Array
 abbrev pub no_arrays : List Head → Bool

@@ -1,16 +1,16 @@
 //! The host's cells of a new store.
 ghost use Rattle.std.specs.Prelude.{◌≡◌, ◌+◌, ◌<◌, [], ◌∷◌, ◌++◌, Some, true, map, fold, length, vec_len, IfOk, OnOk};
-ghost use Rattle.permitted_table.specs.Natives.{number_of};
-ghost use Rattle.store_cells.specs.Host.{first_native, place_of};
+ghost use Rattle.permitted_table.specs.Natives.{number_of, rows as table_rows};
+ghost use Rattle.store_cells.specs.Host.{first_native, host_count, place_of};
 ghost use Rattle.store_cells.specs.Numbered.{cells_of, heads};
 ghost use Rattle.store_cells.specs.Shape.{IsBase, IsRefWithin};
-ghost use Rattle.store_table.specs.Bare.{AreFirst, IsGiven, are_natives_within, are_references_within, bare_of, given, homed, host_numbered, native_cells, native_gift, native_gifts, no_arrays, reference_gifts, references_as_gifts, with_gifts};
+ghost use Rattle.store_table.specs.Bare.{AreFirst, IsGiven, are_natives_within, are_references_within, bare_of, given, home_place, host_numbered, native_cells, native_gift, native_gifts, no_arrays, reference_gifts, references_as_gifts, with_gifts};
 
 use crate::table::{self, Target};
 use code_units::{Memory, Owner, Text};
 use indexmap::IndexMap;
 use keyed_names::{Keys, NumberKeys};
-use permitted_table::{HostEntry, NativeId};
+use permitted_table::{COUNT, Home, HostEntry, NativeId, PROTOTYPES, PrototypeNative, ROWS};
 use property_names::PropertyNames;
 use std::alloc::{AllocError, Global};
 use store_cells::cell::{Cell, Head, Maker};
@@ -48,109 +48,19 @@ const DOM: CellId = 11;
 // The natives come next, in order.
 const FIRST_NATIVE: CellId = 12;
 
-const STRING: CellId = 15;
+// The place of `hasOwnProperty`.
+const HAS_OWN_PROPERTY: CellId = FIRST_NATIVE + PROTOTYPES + PrototypeNative::HasOwnProperty as u32;
 
-// The natives with a home, in order: the cell that has it, its name there.
-const NATIVES: [(u32, &str, NativeId); 90] = [
-    (GLOBAL, "Boolean", NativeId::Boolean),
-    (GLOBAL, "Number", NativeId::Number),
-    (GLOBAL, "String", NativeId::String),
-    (GLOBAL, "isNaN", NativeId::IsNaN),
-    (GLOBAL, "isFinite", NativeId::IsFinite),
-    (GLOBAL, "parseInt", NativeId::ParseInt),
-    (STRING, "fromCharCode", NativeId::FromCharCode),
-    (MATH, "abs", NativeId::Abs),
-    (MATH, "ceil", NativeId::Ceil),
-    (MATH, "floor", NativeId::Floor),
-    (MATH, "round", NativeId::Round),
-    (MATH, "max", NativeId::Max),
-    (MATH, "min", NativeId::Min),
-    (MATH, "pow", NativeId::Pow),
-    (OBJECT_PROTOTYPE, "hasOwnProperty", NativeId::HasOwnProperty),
-    (OBJECT_PROTOTYPE, "toString", NativeId::ObjectToString),
-    (FUNCTION_PROTOTYPE, "toString", NativeId::FunctionToString),
-    (NUMBER_PROTOTYPE, "toString", NativeId::NumberToString),
-    (BOOLEAN_PROTOTYPE, "toString", NativeId::BooleanToString),
-    (TEXT_PROTOTYPE, "toString", NativeId::TextToString),
-    (TEXT_PROTOTYPE, "charAt", NativeId::CharAt),
-    (TEXT_PROTOTYPE, "charCodeAt", NativeId::CharCodeAt),
-    (TEXT_PROTOTYPE, "concat", NativeId::TextConcat),
-    (TEXT_PROTOTYPE, "indexOf", NativeId::IndexOf),
-    (TEXT_PROTOTYPE, "lastIndexOf", NativeId::LastIndexOf),
-    (TEXT_PROTOTYPE, "slice", NativeId::TextSlice),
-    (TEXT_PROTOTYPE, "substring", NativeId::Substring),
-    (TEXT_PROTOTYPE, "split", NativeId::Split),
-    (TEXT_PROTOTYPE, "toLowerCase", NativeId::ToLowerCase),
-    (TEXT_PROTOTYPE, "toUpperCase", NativeId::ToUpperCase),
-    (ARRAY_PROTOTYPE, "toString", NativeId::ArrayToString),
-    (ARRAY_PROTOTYPE, "concat", NativeId::ArrayConcat),
-    (ARRAY_PROTOTYPE, "join", NativeId::Join),
-    (ARRAY_PROTOTYPE, "pop", NativeId::Pop),
-    (ARRAY_PROTOTYPE, "shift", NativeId::Shift),
-    (ARRAY_PROTOTYPE, "push", NativeId::Push),
-    (ARRAY_PROTOTYPE, "unshift", NativeId::Unshift),
-    (ARRAY_PROTOTYPE, "reverse", NativeId::Reverse),
-    (ARRAY_PROTOTYPE, "sort", NativeId::Sort),
-    (ARRAY_PROTOTYPE, "slice", NativeId::ArraySlice),
-    (ARRAY_PROTOTYPE, "splice", NativeId::Splice),
-    (ARRAY_PROTOTYPE, "forEach", NativeId::ForEach),
-    (ARRAY_PROTOTYPE, "map", NativeId::Map),
-    (ARRAY_PROTOTYPE, "filter", NativeId::Filter),
-    (ADSAFE, "get", NativeId::Get),
-    (ADSAFE, "set", NativeId::Set),
-    (ADSAFE, "remove", NativeId::Remove),
-    (ADSAFE, "has", NativeId::Has),
-    (ADSAFE, "create", NativeId::Create),
-    (ADSAFE, "isArray", NativeId::IsArray),
-    (ADSAFE, "keys", NativeId::Keys),
-    (ADSAFE, "later", NativeId::Later),
-    (ADSAFE, "log", NativeId::Log),
-    (ADSAFE, "post", NativeId::Post),
-    (ADSAFE, "fromJson", NativeId::FromJson),
-    (ADSAFE, "toJson", NativeId::ToJson),
-    (DOM, "q", NativeId::DomQ),
-    (DOM, "append", NativeId::DomAppend),
-    (DOM, "tag", NativeId::DomTag),
-    (DOM, "text", NativeId::DomText),
-    (BUNCH_PROTOTYPE, "q", NativeId::BunchQ),
-    (BUNCH_PROTOTYPE, "append", NativeId::BunchAppend),
-    (BUNCH_PROTOTYPE, "remove", NativeId::BunchRemove),
-    (BUNCH_PROTOTYPE, "empty", NativeId::Empty),
-    (BUNCH_PROTOTYPE, "replace", NativeId::Replace),
-    (BUNCH_PROTOTYPE, "value", NativeId::Value),
-    (BUNCH_PROTOTYPE, "getValue", NativeId::GetValue),
-    (BUNCH_PROTOTYPE, "getValues", NativeId::GetValues),
-    (BUNCH_PROTOTYPE, "style", NativeId::Style),
-    (BUNCH_PROTOTYPE, "getStyle", NativeId::GetStyle),
-    (BUNCH_PROTOTYPE, "klass", NativeId::Klass),
-    (BUNCH_PROTOTYPE, "title", NativeId::Title),
-    (BUNCH_PROTOTYPE, "getClass", NativeId::GetClass),
-    (BUNCH_PROTOTYPE, "getTitle", NativeId::GetTitle),
-    (BUNCH_PROTOTYPE, "check", NativeId::Check),
-    (BUNCH_PROTOTYPE, "enable", NativeId::Enable),
-    (BUNCH_PROTOTYPE, "getCheck", NativeId::GetCheck),
-    (BUNCH_PROTOTYPE, "focus", NativeId::Focus),
-    (BUNCH_PROTOTYPE, "blur", NativeId::Blur),
-    (BUNCH_PROTOTYPE, "on", NativeId::On),
-    (BUNCH_PROTOTYPE, "off", NativeId::Off),
-    (BUNCH_PROTOTYPE, "fire", NativeId::Fire),
-    (BUNCH_PROTOTYPE, "each", NativeId::Each),
-    (BUNCH_PROTOTYPE, "explode", NativeId::Explode),
-    (BUNCH_PROTOTYPE, "count", NativeId::Count),
-    (BUNCH_PROTOTYPE, "getParent", NativeId::GetParent),
-    (BUNCH_PROTOTYPE, "getTagName", NativeId::GetTagName),
-    (BUNCH_PROTOTYPE, "mark", NativeId::Mark),
-    (BUNCH_PROTOTYPE, "getMark", NativeId::GetMark),
-    (BUNCH_PROTOTYPE, "protect", NativeId::Protect),
-];
+/// How many cells the host has in each store, the natives last.
+pub const HOST_CELLS: CellId = FIRST_NATIVE + COUNT;
 
 // References that are no natives of their own home.
 const REFERENCES: [(u32, &str, CellId); 5] = [
     (GLOBAL, "Math", MATH),
     (GLOBAL, "ADSAFE", ADSAFE),
     (GLOBAL, "document", BODY),
-    (NUMBER_PROTOTYPE, "hasOwnProperty", 27),
-    (BOOLEAN_PROTOTYPE, "hasOwnProperty", 27),
+    (NUMBER_PROTOTYPE, "hasOwnProperty", HAS_OWN_PROPERTY),
+    (BOOLEAN_PROTOTYPE, "hasOwnProperty", HAS_OWN_PROPERTY),
 ];
 
 /// The cell of an entry of the permitted table.
@@ -172,10 +82,21 @@ pub fn place_of(entry: HostEntry) -> CellId
     }
 }
 
+#[tactic(auto, using(store_cells::proofs::Hosts::number_within))]
 fn native_place(native: NativeId) -> CellId
     ensures { result ≡ first_native + number_of native }
 {
-    FIRST_NATIVE + native as u32
+    FIRST_NATIVE + native.number()
+}
+
+// The cell of a home.
+fn home_of(home: Home) -> CellId
+    ensures { result ≡ home_place home }
+{
+    match home {
+        Home::Globals => GLOBAL,
+        Home::Of(entry) => place_of(entry),
+    }
 }
 
 // A text of ASCII letters.
@@ -226,7 +147,7 @@ fn push_all(
 fn push_natives(
     maker: Maker,
     cells: &mut Vec<Cell>,
-    rows: &[(u32, &str, NativeId)],
+    rows: &[(Home, &str, NativeId)],
 ) -> Result<(), Memory>
     ensures { OnOk result (cells.new.items ≡ cells.old.items ++ native_cells rows.now) }
 {
@@ -237,7 +158,7 @@ fn push_natives(
 }
 
 // The host's cells before they have properties.
-fn bare_cells(maker: Maker, rows: &[(u32, &str, NativeId)]) -> Result<Vec<Cell>, Memory>
+fn bare_cells(maker: Maker, rows: &[(Home, &str, NativeId)]) -> Result<Vec<Cell>, Memory>
     ensures { IfOk result (λ cells. cells.items ≡ bare_of (native_cells rows.now)) }
 {
     let mut cells = Vec::new(maker.alloc);
@@ -290,7 +211,7 @@ fn give_natives(
     alloc: Global,
     names: &mut PropertyNames,
     cells: &mut Vec<Cell>,
-    rows: &[(u32, &str, NativeId)],
+    rows: &[(Home, &str, NativeId)],
 ) -> Result<(), Memory>
     requires rows { are_natives_within (length cells.old.items) rows.now ≡ true }
     requires base { IsBase names.old cells.old.items }
@@ -302,7 +223,7 @@ fn give_natives(
 {
     for (home, name, native) in rows {
         let value = Value::Ref(native_place(*native));
-        give(alloc, names, cells, *home, name, value)?;
+        give(alloc, names, cells, home_of(*home), name, value)?;
     }
     Ok(())
 }
@@ -332,7 +253,7 @@ fn give_all(
     alloc: Global,
     names: &mut PropertyNames,
     cells: &mut Vec<Cell>,
-    rows: &[(u32, &str, NativeId)],
+    rows: &[(Home, &str, NativeId)],
     references: &[(u32, &str, CellId)],
 ) -> Result<(), Memory>
     requires size { 0 < length cells.old.items }
@@ -357,14 +278,14 @@ fn give_all(
 fn table_of(
     alloc: Global,
     keys: Keys,
-    rows: &[(u32, &str, NativeId)],
+    rows: &[(Home, &str, NativeId)],
     references: &[(u32, &str, CellId)],
 ) -> Result<(PropertyNames, Vec<Cell>), Memory>
-    requires forms { native_cells rows.now ≡ native_cells homed }
-    requires natives { native_gifts rows.now ≡ map native_gift homed }
+    requires forms { native_cells rows.now ≡ native_cells table_rows }
+    requires natives { native_gifts rows.now ≡ map native_gift table_rows }
     requires references { references_as_gifts references.now ≡ reference_gifts }
-    requires fit_rows { are_natives_within 103 rows.now ≡ true }
-    requires fit_references { are_references_within 103 references.now ≡ true }
+    requires fit_rows { are_natives_within host_count rows.now ≡ true }
+    requires fit_references { are_references_within host_count references.now ≡ true }
     ensures { IfOk result (λ r. AreFirst r.0 r.1.items) }
 {
     let mut names = PropertyNames::new(alloc, keys)?;
@@ -378,7 +299,7 @@ fn table_of(
 pub fn host_table(alloc: Global, keys: Keys) -> Result<(PropertyNames, Vec<Cell>), Memory>
     ensures { IfOk result (λ r. AreFirst r.0 r.1.items) }
 {
-    table_of(alloc, keys, &NATIVES, &REFERENCES)
+    table_of(alloc, keys, &ROWS, &REFERENCES)
 }
 
 /// The cell of `body` by its node.

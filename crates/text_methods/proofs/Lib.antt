@@ -1,4 +1,4 @@
-pub mod KindRuns
+pub mod Receivers
 pub mod PieceLists
 pub mod RadixLaws
 pub mod RadixPlans

@@ -2,21 +2,20 @@
 ghost use Rattle.std.specs.Prelude.{◌≡◌, ◌<◌, true, List, IfOk, OnErr};
 ghost use Rattle.js_tree.specs.Forest.{Forest};
 ghost use Rattle.store_cells.specs.Cells.{IsWidget, number_in};
-ghost use Rattle.widget_meaning.specs.NativeForms.{on_text};
 ghost use Rattle.widget_meaning.specs.Natives.{run_native};
+ghost use Rattle.widget_meaning.specs.TextNatives as means;
 ghost use Rattle.js_image.specs.Image.{all_seen};
 ghost use Rattle.js_image.specs.Held.{AreFine, Kept};
 ghost use Rattle.native_common.specs.Meets.{Meets};
 ghost use Rattle.native_common.specs.Receivers.{IsReceiver, receiver};
-ghost use Rattle.text_methods.specs.Kinds.{is_part, text_plan};
+ghost use Rattle.text_methods.specs.Part.{is_part};
 
-use crate::kinds::{Kind, TextNative, kind_of};
 use crate::prototypes::prototype_native;
 use crate::splitting::split;
 use code_units::{Memory, Owner, Text};
 use js_values::{Fault, Meter, NativeOut};
 use native_common::nth;
-use object_store::{NativeId, Store, Value};
+use object_store::{NativeId, Store, TextNative, Value};
 use plain_natives::{
     char_at, char_code_at, concat, cut, global_native, in_case, index_of, last_index_of,
     math_native,
@@ -69,12 +68,12 @@ fn call_of(
         (run_native which (receiver w store.old.cells this.now) (all_seen w store.old.cells args.now)) o) }
     ensures memory { OnErr result ((fs : List Forest) → Kept fs w store.old store.new) }
 {
-    match kind_of(which) {
-        Kind::Global(native) => global_native(alloc, native, args, store, meter, w),
-        Kind::Math(native) => math_native(native, args, meter),
-        Kind::Prototype(native) => prototype_native(alloc, native, this, args, store, meter, w),
-        Kind::Text(native) => text_native(alloc, native, this, args, store, meter, w),
-        Kind::Other => unreachable!(),
+    match which {
+        NativeId::Global(native) => global_native(alloc, native, args, store, meter, w),
+        NativeId::Math(native) => math_native(native, args, meter),
+        NativeId::Prototype(native) => prototype_native(alloc, native, this, args, store, meter, w),
+        NativeId::Text(native) => text_native(alloc, native, this, args, store, meter, w),
+        _ => unreachable!(),
     }
 }
 
@@ -90,8 +89,7 @@ fn text_native(
 ) -> Result<NativeOut, Memory>
     requires widget { w < 32 }
     ensures native { IfOk result (λ o. Meets w store.old store.new meter.old meter.new
-        (λ d s. on_text (receiver w store.old.cells this.now) s
-        (λ t. text_plan which t (all_seen w store.old.cells args.now) d s)) o) }
+        (λ d s. means.text_native which (receiver w store.old.cells this.now) (all_seen w store.old.cells args.now) s) o) }
     ensures memory { OnErr result ((fs : List Forest) → Kept fs w store.old store.new) }
 {
     match this {
@@ -112,20 +110,19 @@ fn text_method(
 ) -> Result<NativeOut, Memory>
     requires widget { w < 32 }
     ensures native { IfOk result (λ o. Meets w store.old store.new meter.old meter.new
-        (text_plan which t.now (all_seen w store.old.cells args.now)) o) }
+        (λ d s. means.text_method which t.now (all_seen w store.old.cells args.now) s) o) }
     ensures memory { OnErr result ((fs : List Forest) → Kept fs w store.old store.new) }
 {
     let absent = Value::Undefined;
     let first = nth(args, 0, &absent);
     let second = nth(args, 1, &absent);
     match which {
-        TextNative::ToText => Ok(NativeOut::Value(Value::Text(t.share()?))),
         TextNative::CharAt => char_at(alloc, t, first, store, meter, w),
         TextNative::CharCodeAt => Ok(char_code_at(t, first, meter)),
-        TextNative::Concat => concat(alloc, t, args, store, meter, w),
+        TextNative::TextConcat => concat(alloc, t, args, store, meter, w),
         TextNative::IndexOf => index_of(alloc, t, first, second, meter),
         TextNative::LastIndexOf => last_index_of(alloc, t, first, second, meter),
-        TextNative::Slice => cut(alloc, t, true, first, second, store, meter, w),
+        TextNative::TextSlice => cut(alloc, t, true, first, second, store, meter, w),
         TextNative::Substring => cut(alloc, t, false, first, second, store, meter, w),
         TextNative::Split => split(alloc, t, first, store, meter, w),
         TextNative::ToLowerCase => in_case(alloc, t, false, store, meter, w),

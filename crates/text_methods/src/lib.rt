@@ -4,10 +4,8 @@
 #![tactic(auto)]
 
 mod calling;
-mod kinds;
 mod prototypes;
 mod radix;
 mod splitting;
 
 pub use calling::call;
-pub use kinds::{Kind, PrototypeNative, TextNative, kind_of};

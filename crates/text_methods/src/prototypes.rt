@@ -1,17 +1,19 @@
-//! The `toString` of objects, functions, numbers and truth values (ECMA-262 3rd edition, 15.2.4.2,
-//! 15.3.4.2, 15.6.4.2 and 15.7.4.2).
-ghost use Rattle.std.specs.Prelude.{◌≡◌, ◌<◌, ◌≤◌, List, IfOk, OnErr, MatchOption, codes, false, pos, true};
+//! The `toString` of objects, functions, texts, numbers and truth values (ECMA-262 3rd edition, 15.2.4.2,
+//! 15.3.4.2, 15.5.4.2, 15.6.4.2 and 15.7.4.2).
+ghost use Rattle.std.specs.Prelude.{◌≡◌, ◌<◌, ◌≤◌, ℕ, List, IfOk, OnErr, MatchOption, codes, false, pos, true};
 ghost use Rattle.js_tree.specs.Forest.{Forest};
-ghost use Rattle.widget_meaning.specs.NativeForms.{on_object};
+ghost use Rattle.widget_meaning.specs.Costs.{give};
+ghost use Rattle.widget_meaning.specs.NativeForms.{on_object, on_text};
 ghost use Rattle.widget_meaning.specs.PrototypeNatives as means;
+ghost use Rattle.widget_meaning.specs.Values.{Text as Words};
+ghost use Rattle.store_cells.specs.Cells.{Cells};
 ghost use Rattle.js_image.specs.Image.{all_seen, seen};
 ghost use Rattle.js_image.specs.Held.{Kept};
 ghost use Rattle.js_values.specs.Operands.{plain};
 ghost use Rattle.native_common.specs.Meets.{Ends, Meets};
 ghost use Rattle.native_common.specs.Receivers.{IsReceiver, receiver};
-ghost use Rattle.text_methods.specs.Kinds.{meant_prototype};
+ghost use Rattle.text_methods.specs.Part.{is_here};
 
-use crate::kinds::PrototypeNative;
 use crate::radix::radix_text;
 use code_units::{Memory, Text};
 use js_image::{Callee, callee, word};
@@ -19,7 +21,7 @@ use js_values::{Fault, Meter, NativeOut, StopCause};
 use native_common::{
     charged, is_object, is_plain_call, make_text, nth, optional_number, read_text,
 };
-use object_store::{Number, Store, Value};
+use object_store::{Number, PrototypeNative, Store, Value};
 use std::alloc::Global;
 
 /// A `toString`, for any receiver.
@@ -34,19 +36,36 @@ pub(crate) fn prototype_native(
 ) -> Result<NativeOut, Memory>
     requires widget { w < 32 }
     requires receiver { IsReceiver w store.old.cells this.now }
+    requires here { is_here which ≡ true }
     ensures native { IfOk result (λ o. Meets w store.old store.new meter.old meter.new
-        (means.prototype_native (meant_prototype which) (receiver w store.old.cells this.now)
+        (means.prototype_native which (receiver w store.old.cells this.now)
         (all_seen w store.old.cells args.now)) o) }
     ensures memory { OnErr result ((fs : List Forest) → Kept fs w store.old store.new) }
 {
     let absent = Value::Undefined;
     match which {
-        PrototypeNative::Object => object_to_string(alloc, this, store, w),
-        PrototypeNative::Function => function_to_string(alloc, this, store, w),
-        PrototypeNative::Number => {
+        PrototypeNative::ObjectToString => object_to_string(alloc, this, store, w),
+        PrototypeNative::FunctionToString => function_to_string(alloc, this, store, w),
+        PrototypeNative::NumberToString => {
             number_to_string(alloc, this, nth(args, 0, &absent), store, meter, w)
         }
-        PrototypeNative::Boolean => boolean_to_string(alloc, this, store, w),
+        PrototypeNative::BooleanToString => boolean_to_string(alloc, this, store, w),
+        PrototypeNative::TextToString => text_to_string(this),
+        _ => unreachable!(),
+    }
+}
+
+// A text as receiver is given.
+fn text_to_string(this: &Value) -> Result<NativeOut, Memory>
+    ensures { IfOk result (λ o. (w : ℕ) (s : Cells) → Ends w s s
+        (λ d u. on_text (receiver w s.cells this.now) u (λ t. give (Words t) u)) o) }
+{
+    match this {
+        Value::Text(t) => {
+            let same = t.share()?;
+            Ok(NativeOut::Value(Value::Text(same)))
+        }
+        _ => Ok(NativeOut::Throw(Fault::E3)),
     }
 }
 

@@ -16,13 +16,19 @@ use Rattle.widget_meaning.specs.Trees.{Trees, label_of, tops, children, parent, 
 use Rattle.widget_meaning.specs.OwnState.{State, with_new_cell, new_array, new_bunch, Kept, nothing_kept, kept_at, with_forest}
 use Rattle.widget_meaning.specs.Costs.{cost, give, with_counts}
 use Rattle.widget_meaning.specs.Plan.{Plan}
-use Rattle.widget_meaning.specs.NativeNames.{ReadNative, Query, GetValue, GetValues, GetStyle, GetClass, GetTitle, GetCheck, Explode, Count, GetParent, GetTagName, GetMark, WriteNative, Append, Remove, Empty, Replace, SetValue, SetStyle, SetClass, SetTitle, SetCheck, SetEnabled, Focus, Blur, On, Off, Fire, Each, SetMark, Protect, OfEvent, family_of, DomNative, DomQuery, DomAppend, DomTag, DomText, Family, OfGlobal, OfMath, OfPrototype, OfText, OfList, OfAdsafe, OfDom, OfRead, OfWrite}
+use Rattle.permitted_table.specs.declared.native.ReadNative.{ReadNative}
+use Rattle.permitted_table.specs.declared.native.ReadNative.TheVariants.{Query, GetValue, GetValues, GetStyle, GetClass, GetTitle, GetCheck, Explode, Count, GetParent, GetTagName, GetMark}
+use Rattle.permitted_table.specs.declared.native.WriteNative.{WriteNative}
+use Rattle.permitted_table.specs.declared.native.WriteNative.TheVariants.{Append, Remove, Empty, Replace, SetValue, SetStyle, SetClass, SetTitle, SetCheck, SetEnabled, Focus, Blur, On, Off, Fire, Each, SetMark, Protect}
+use Rattle.permitted_table.specs.declared.native.DomNative.{DomNative}
+use Rattle.permitted_table.specs.declared.native.DomNative.TheVariants.{DomQuery, DomAppend, DomTag, DomText}
+use Rattle.permitted_table.specs.declared.native.NativeId.TheVariants as native
 use Rattle.widget_meaning.specs.PageForms.{root, next_node, with_room, with_node, want_all, is_input, is_text_node, want_one, want_bunch, with_label}
 use Rattle.query_grammar.specs.Steps.{Step}
 use Rattle.widget_meaning.specs.BunchReads.{bunches_from, query, read_native, give_page_text, query_steps, get_value, get_values, get_attribute, get_style, explode, get_parent, get_tag_name, read_method, exploded, with_bunch}
 use Rattle.widget_meaning.specs.BunchWrites.{appended, write_native, alter, alter_for, append_trees, append, remove, replace, set_value, set_style, set_attribute, set_flag, focus, blur, listen, hush, fired, fire, each_called, each, write_method, with_copies, emptied, relabel, with_text_node, valued, alter_each, change_kept}
 use Rattle.widget_meaning.specs.DomNatives.{dom_native, give_node, dom_tag, append_to_root, dom_append}
-use Rattle.widget_meaning.specs.Natives.{run_family, run_native}
+use Rattle.widget_meaning.specs.Natives.{run_native}
 use Rattle.widget_meaning.specs.Ways.{Way, ByValue}
 use Rattle.widget_meaning.specs.Keeps.{Invariant, Keeps}
 use Rattle.widget_meaning.proofs.Keeping.{job, value, chain, charged, paid, made_text, faulted, R, found, wanted, born, paged, gave}
@@ -304,17 +310,14 @@ module _ (inv : Invariant) (many : ℕ) where
   dom_native_r DomTag this vs d s hr = search (want_primitives_r, dom_tag_r)
   dom_native_r DomText this vs d s hr = search (want_primitives_r, give_node_r)
 
-  pub run_family_r : (x0 : Family) (x1 : Option Value) (x2 : List Value) (x3 : ℕ) (x4 : State) → R inv many x4 → Keeps inv many ByValue (run_family x0 x1 x2 x3 x4)
-  run_family_r (OfGlobal w) this vs d s hr = search (global_native_r)
-  run_family_r (OfMath w) this vs d s hr = search (math_native_r)
-  run_family_r (OfPrototype w) this vs d s hr = search (prototype_native_r)
-  run_family_r (OfText w) this vs d s hr = search (text_native_r)
-  run_family_r (OfList w) this vs d s hr = search (list_native_r)
-  run_family_r (OfAdsafe w) this vs d s hr = search (adsafe_native_r)
-  run_family_r (OfDom w) this vs d s hr = search (dom_native_r)
-  run_family_r (OfRead w) this vs d s hr = search (read_native_r)
-  run_family_r (OfWrite w) this vs d s hr = search (write_native_r)
-  run_family_r OfEvent this vs d s hr = search (bubble_r)
-
   pub run_native_r : (x0 : NativeId) (x1 : Option Value) (x2 : List Value) (x3 : ℕ) (x4 : State) → R inv many x4 → Keeps inv many ByValue (run_native x0 x1 x2 x3 x4)
-  run_native_r w this vs d s hr = run_family_r (family_of w) this vs d s hr
+  run_native_r (native.Global w) this vs d s hr = search (global_native_r)
+  run_native_r (native.Math w) this vs d s hr = search (math_native_r)
+  run_native_r (native.Prototype w) this vs d s hr = search (prototype_native_r)
+  run_native_r (native.Text w) this vs d s hr = search (text_native_r)
+  run_native_r (native.List w) this vs d s hr = search (list_native_r)
+  run_native_r (native.Adsafe w) this vs d s hr = search (adsafe_native_r)
+  run_native_r (native.Dom w) this vs d s hr = search (dom_native_r)
+  run_native_r (native.Read w) this vs d s hr = search (read_native_r)
+  run_native_r (native.Write w) this vs d s hr = search (write_native_r)
+  run_native_r native.Bubble this vs d s hr = search (bubble_r)

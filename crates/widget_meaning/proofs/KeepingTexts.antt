@@ -1,7 +1,8 @@
 -- The methods of texts keep an invariant.
 
 use Rattle.std.specs.Prelude.{ℕ, List, Option}
-use Rattle.widget_meaning.specs.NativeNames.{TextNative, CharAt, CharCodeAt, TextConcat, IndexOf, LastIndexOf, TextSlice, Substring, Split, ToLowerCase, ToUpperCase}
+use Rattle.permitted_table.specs.declared.native.TextNative.{TextNative}
+use Rattle.permitted_table.specs.declared.native.TextNative.TheVariants.{CharAt, CharCodeAt, TextConcat, IndexOf, LastIndexOf, TextSlice, Substring, Split, ToLowerCase, ToUpperCase}
 use Rattle.widget_meaning.specs.Values.{Value, Undefined}
 use Rattle.widget_meaning.specs.OwnState.{State}
 use Rattle.widget_meaning.specs.TextNatives.{char_at, char_code_at, text_concat, index_of, last_index_of, text_slice, substring, split, text_method, text_native}

@@ -2,7 +2,8 @@
 use Rattle.std.specs.Prelude.{ℕ, zero, suc, ℤ, pos, negsuc, ◌+◌, max, Bool, true, false, List, [], ◌∷◌, ◌++◌, length, nat_lt, nat_le, is_some, if◌then◌else◌, Option, Some, None}
 use Rattle.code_units.specs.Permitted.{is_permitted}
 use Rattle.widget_meaning.specs.Limits.{max_chain, max_timers, min_delay, max_post, max_posts}
-use Rattle.widget_meaning.specs.NativeNames.{AdsafeNative, Create, FromJson, GetProperty, HasProperty, IsArray, KeysOf, Later, LogValue, Post, RemoveProperty, SetProperty, ToJson}
+use Rattle.permitted_table.specs.declared.native.AdsafeNative.{AdsafeNative}
+use Rattle.permitted_table.specs.declared.native.AdsafeNative.TheVariants.{Create, FromJson, GetProperty, HasProperty, IsArray, KeysOf, Later, LogValue, Post, RemoveProperty, SetProperty, ToJson}
 use Rattle.widget_meaning.specs.Values.{Value, Undefined, Truth, Num, Text, Own, E4, E8, E11, E12, is_object, to_text, nth}
 use Rattle.widget_meaning.specs.OwnState.{State, Kind, Object, Array, new_object, with_own, kind_of, array_length}
 use Rattle.widget_meaning.specs.Plan.{Plan, charge}

@@ -1,7 +1,8 @@
 -- The Bunch methods that read. The extra is the number of nodes, unless said.
 use Rattle.std.specs.Prelude.{ℕ, pos, ◌+◌, ◌*◌, List, [], ◌∷◌, length, map, Bool, true, false, not, ◌&&◌, if◌then◌else◌, codes, Option, Some, None, is_some, unwrap_or}
 use Rattle.std.specs.List.{filter, sum_by, range_with_len, fold, filter_map}
-use Rattle.widget_meaning.specs.NativeNames.{ReadNative, Query, GetValue, GetValues, GetStyle, GetClass, GetTitle, GetCheck, Explode, Count, GetParent, GetTagName, GetMark}
+use Rattle.permitted_table.specs.declared.native.ReadNative.{ReadNative}
+use Rattle.permitted_table.specs.declared.native.ReadNative.TheVariants.{Query, GetValue, GetValues, GetStyle, GetClass, GetTitle, GetCheck, Explode, Count, GetParent, GetTagName, GetMark}
 use Rattle.widget_meaning.specs.Values.{Value, Undefined, Truth, Num, Text, Own, E9, to_text, nth, E4}
 use Rattle.widget_meaning.specs.Trees.{parent, subtree}
 use Rattle.widget_meaning.specs.OwnState.{State, kept_at, new_array, new_bunch, with_new_cell}

@@ -4,7 +4,8 @@ use Rattle.std.specs.List.{filter, list_all, count_by, fold}
 use Rattle.std.specs.Str.{bytes_eq}
 use Rattle.std.specs.Option.{option_map_or}
 use Rattle.widget_meaning.specs.Limits.{max_node_depth}
-use Rattle.widget_meaning.specs.NativeNames.{WriteNative, Append, Remove, Empty, Replace, SetValue, SetStyle, SetClass, SetTitle, SetCheck, SetEnabled, Focus, Blur, On, Off, Fire, Each, SetMark, Protect}
+use Rattle.permitted_table.specs.declared.native.WriteNative.{WriteNative}
+use Rattle.permitted_table.specs.declared.native.WriteNative.TheVariants.{Append, Remove, Empty, Replace, SetValue, SetStyle, SetClass, SetTitle, SetCheck, SetEnabled, Focus, Blur, On, Off, Fire, Each, SetMark, Protect}
 use Rattle.widget_meaning.specs.Values.{Value, Undefined, Own, E10, is_true, to_text, nth, E4}
 use Rattle.plain_tree.specs.Words.{is_plain_words, is_event_type}
 use Rattle.plain_tree.specs.Trees.{End, Node, Label, TextOf, height, size}

@@ -1,7 +1,8 @@
 -- The natives of `dom`: they work on the root of the running widget and ignore the receiver.
 use Rattle.std.specs.Prelude.{ℕ, List, [], ◌∷◌, length, ◌&&◌, codes, Option, map, sum_by}
 use Rattle.std.specs.List.{list_all}
-use Rattle.widget_meaning.specs.NativeNames.{DomNative, DomQuery, DomAppend, DomTag, DomText}
+use Rattle.permitted_table.specs.declared.native.DomNative.{DomNative}
+use Rattle.permitted_table.specs.declared.native.DomNative.TheVariants.{DomQuery, DomAppend, DomTag, DomText}
 use Rattle.widget_meaning.specs.Values.{Value, Undefined, Own, to_text, nth, E4}
 use Rattle.plain_tree.specs.Tags.{is_listed_tag}
 use Rattle.plain_tree.specs.Words.{is_plain_words}

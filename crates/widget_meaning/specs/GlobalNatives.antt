@@ -9,7 +9,8 @@ use Rattle.code_units.specs.declared.whole.WholeRead.{WholeRead}
 use Rattle.code_units.specs.declared.whole.WholeRead.TheVariants as read
 use Rattle.code_units.specs.Whole.{is_x, trimmed_start}
 use Rattle.widget_meaning.specs.Limits.{min_radix, max_radix, past_units}
-use Rattle.widget_meaning.specs.NativeNames.{GlobalNative, BooleanOf, NumberOf, StringOf, IsNaN, IsFinite, ParseInt, FromCharCode}
+use Rattle.permitted_table.specs.declared.native.GlobalNative.{GlobalNative}
+use Rattle.permitted_table.specs.declared.native.GlobalNative.TheVariants.{BooleanOf, NumberOf, StringOf, IsNaN, IsFinite, ParseInt, FromCharCode}
 use Rattle.widget_meaning.specs.Values.{Value, Truth, NaN, Num, Text, Number, is_object, is_true, to_text, to_number, nth}
 use Rattle.widget_meaning.specs.Operators.{OpOut, Gives, Leaves, number, truth, as_number}
 use Rattle.widget_meaning.specs.OwnState.{State}

@@ -1,5 +1,4 @@
 pub mod Limits
-pub mod NativeNames
 pub mod Values
 pub mod Operators
 pub mod Trees

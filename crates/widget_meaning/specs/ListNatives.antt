@@ -1,7 +1,8 @@
 -- The methods of arrays that leave the array as it is. A missing element is read as undefined.
 use Rattle.std.specs.Prelude.{ℕ, pos, ◌+◌, List, [], ◌∷◌, ◌++◌, map, zip, slice_range, codes, Option, None}
 use Rattle.std.specs.List.{filter, flat_map, join_by}
-use Rattle.widget_meaning.specs.NativeNames.{ListNative, ListConcat, Join, Pop, Push, Shift, Unshift, Reverse, Sort, ListSlice, Splice, ForEach, MapNative, FilterNative}
+use Rattle.permitted_table.specs.declared.native.ListNative.{ListNative}
+use Rattle.permitted_table.specs.declared.native.ListNative.TheVariants.{ListConcat, Join, Pop, Push, Shift, Unshift, Reverse, Sort, ListSlice, Splice, ForEach, MapNative, FilterNative}
 use Rattle.widget_meaning.specs.Values.{Value, Undefined, Null, Num, is_true, to_text, to_number, nth}
 use Rattle.widget_meaning.specs.OwnState.{State}
 use Rattle.widget_meaning.specs.Plan.{Plan, Do, Call, charge, after}

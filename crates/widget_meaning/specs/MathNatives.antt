@@ -4,7 +4,8 @@ use Rattle.std.specs.List.{fold}
 use Rattle.std.specs.Int.{int_min, int_max, int_pow}
 use Rattle.code_units.specs.declared.whole.WholeRead.{WholeRead}
 use Rattle.code_units.specs.declared.whole.WholeRead.TheVariants as read
-use Rattle.widget_meaning.specs.NativeNames.{MathNative, Abs, Ceil, Floor, Round, Max, Min, Pow}
+use Rattle.permitted_table.specs.declared.native.MathNative.{MathNative}
+use Rattle.permitted_table.specs.declared.native.MathNative.TheVariants.{Abs, Ceil, Floor, Round, Max, Min, Pow}
 use Rattle.widget_meaning.specs.Values.{Value, NaN, Num, to_number, nth}
 use Rattle.widget_meaning.specs.Operators.{OpOut, Gives, Leaves, number, as_number, of_numbers}
 use Rattle.widget_meaning.specs.OwnState.{State}

@@ -9,7 +9,7 @@
 -- A recursion goes over a list that the native has listed, never over what a call may change.
 use Rattle.std.specs.Prelude.{ℕ, List, Option}
 use Rattle.permitted_table.specs.declared.native.NativeId.{NativeId}
-use Rattle.widget_meaning.specs.NativeNames.{Family, OfGlobal, OfMath, OfPrototype, OfText, OfList, OfAdsafe, OfDom, OfRead, OfWrite, OfEvent, family_of}
+use Rattle.permitted_table.specs.declared.native.NativeId.TheVariants as native
 use Rattle.widget_meaning.specs.Values.{Value}
 use Rattle.widget_meaning.specs.OwnState.{State}
 use Rattle.widget_meaning.specs.Plan.{Plan}
@@ -24,19 +24,15 @@ use Rattle.widget_meaning.specs.BunchReads.{read_native}
 use Rattle.widget_meaning.specs.BunchWrites.{write_native}
 use Rattle.widget_meaning.specs.Dispatch.{bubble}
 
--- a native of a family with its receiver, its arguments and the call depth, after its unit
-abbrev pub run_family : Family → Option Value → List Value → ℕ → State → Plan
-run_family (OfGlobal w) this vs d s = global_native w this vs d s
-run_family (OfMath w) this vs d s = math_native w this vs d s
-run_family (OfPrototype w) this vs d s = prototype_native w this vs d s
-run_family (OfText w) this vs d s = text_native w this vs s
-run_family (OfList w) this vs d s = list_native w this vs d s
-run_family (OfAdsafe w) this vs d s = adsafe_native w this vs d s
-run_family (OfDom w) this vs d s = dom_native w this vs d s
-run_family (OfRead w) this vs d s = read_native w this vs d s
-run_family (OfWrite w) this vs d s = write_native w this vs d s
-run_family OfEvent this vs d s = bubble s.dispatches s
-
--- a native
+-- a native with its receiver, its arguments and the call depth, after its unit, by its family
 abbrev pub run_native : NativeId → Option Value → List Value → ℕ → State → Plan
-run_native w this vs d s = run_family (family_of w) this vs d s
+run_native native.Bubble this vs d s = bubble s.dispatches s
+run_native (native.Global w) this vs d s = global_native w this vs d s
+run_native (native.Math w) this vs d s = math_native w this vs d s
+run_native (native.Prototype w) this vs d s = prototype_native w this vs d s
+run_native (native.Text w) this vs d s = text_native w this vs s
+run_native (native.List w) this vs d s = list_native w this vs d s
+run_native (native.Adsafe w) this vs d s = adsafe_native w this vs d s
+run_native (native.Dom w) this vs d s = dom_native w this vs d s
+run_native (native.Read w) this vs d s = read_native w this vs d s
+run_native (native.Write w) this vs d s = write_native w this vs d s

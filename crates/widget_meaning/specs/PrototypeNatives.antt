@@ -4,7 +4,8 @@ use Rattle.std.specs.Fmt.{digits}
 use Rattle.std.specs.Int.{is_negative}
 use Rattle.code_units.specs.Permitted.{is_permitted}
 use Rattle.widget_meaning.specs.Limits.{min_radix, max_radix}
-use Rattle.widget_meaning.specs.NativeNames.{PrototypeNative, HasOwnProperty, ObjectToString, ArrayToString, FunctionToString, TextToString, NumberToString, BooleanToString}
+use Rattle.permitted_table.specs.declared.native.PrototypeNative.{PrototypeNative}
+use Rattle.permitted_table.specs.declared.native.PrototypeNative.TheVariants.{HasOwnProperty, ObjectToString, ArrayToString, FunctionToString, TextToString, NumberToString, BooleanToString}
 use Rattle.widget_meaning.specs.Values.{Value, Truth, NaN, Num, Text, E3, E7, to_text, nth}
 use Rattle.widget_meaning.specs.OwnState.{State}
 use Rattle.widget_meaning.specs.Plan.{Plan}

@@ -1,139 +1,29 @@
-use Rattle.std.proofs.Common.{refl, sym, subst}
+use Rattle.std.proofs.Common.{None, refl, sym, subst}
+use Rattle.std.specs.Prelude.{IfOk}
 use Rattle.std.proofs.lemmas.Result.{IfOk-weaker}
-use Rattle.js_image.specs.Image.{image}
-use Rattle.js_image.specs.Held.{IsFine}
-use Rattle.native_common.proofs.Meeting.{meets_free}
+use Rattle.permitted_table.specs.declared.native.NativeId.{NativeId}
+use Rattle.widget_meaning.specs.Natives.{run_native}
+use Rattle.js_image.specs.Image.{all_seen}
 use Rattle.native_common.specs.Receivers.{receiver}
-use Rattle.adsafe_object.proofs.Exits.{confined_run, meets_run, noted_free, noted_run, noted_same, text_run}
-use Rattle.adsafe_object.proofs.Lists.{create_is, from_json_is, get_is, has_is, has_own_is, is_array_is, keys_is, later_is, log_is, nth_fine, post_is, remove_is, set_is, to_json_is}
+use Rattle.adsafe_object.specs.Ends.{MeetsNoted}
+use Rattle.adsafe_object.proofs.Exits.{confined_run}
+use Rattle.adsafe_object.proofs.Lists.{has_own_is}
 use Rattle.adsafe_object.proofs.Timing.{unasked}
 use Rattle.adsafe_object.proofs.natives.run.Goals as goal
 
-pub returns-in-Get-clause-native : goal.returns-in-Get-clause-native
-returns-in-Get-clause-native c = IfOk-weaker c.get.result _ _ (λ o h.
+pub returns-in-Adsafe-clause-native : goal.returns-in-Adsafe-clause-native
+returns-in-Adsafe-clause-native c =
+    let w = c.args.w in
+    let s = c.args.store.now in
+    let n = c.of_adsafe.new in
+    let this = receiver w s.cells c.args.this.now in
+    subst (λ (k : NativeId). IfOk c.of_adsafe.result (λ o. MeetsNoted w c.args.waiting s n.store c.args.meter.now n.meter (record { log = c.args.log.now.items; posts = c.args.posts.now.items; asked = None }) (record { log = n.log.items; posts = n.posts.items; asked = n.asked }) (run_native k this (all_seen w s.cells c.args.args.now)) o))
+    (sym c.in-Adsafe.is) (c.of_adsafe.ensures.native this)
+
+pub returns-in-Prototype-clause-native : goal.returns-in-Prototype-clause-native
+returns-in-Prototype-clause-native c = IfOk-weaker c.has_own_property.result _ _ (λ o h.
     confined_run c.args.w c.args.waiting c.args.store.now c.args.store.now c.args.meter.now c.args.meter.now c.args.log.now.items c.args.posts.now.items _ o c.args.asked.now c.requires.unasked _
-    (get_is c.args.w c.args.store.now.cells c.args.args.now (receiver c.args.w c.args.store.now.cells c.args.this.now) c.args.which c.nth-first.result.now c.nth-first.ensures c.nth-second.result.now c.nth-second.ensures c.in-Get.is) refl h) c.get.ensures
+    (has_own_is c.args.w c.args.store.now.cells c.args.args.now (receiver c.args.w c.args.store.now.cells c.args.this.now) c.args.which c.nth-first.result.now c.nth-first.ensures c.in-Prototype.field-0 c.requires.part c.in-Prototype.is) refl h) c.has_own_property.ensures
 
-pub set-requires-clause-object : goal.set-requires-clause-object
-set-requires-clause-object c = subst (IsFine c.args.w c.args.store.now.cells) (sym c.nth-first.ensures) (nth_fine c.args.w c.args.store.now.cells c.args.args.now 0 c.requires.args)
-
-pub set-requires-clause-value : goal.set-requires-clause-value
-set-requires-clause-value c = subst (IsFine c.args.w c.args.store.now.cells) (sym c.nth.ensures) (nth_fine c.args.w c.args.store.now.cells c.args.args.now 2 c.requires.args)
-
-pub returns-in-Set-clause-native : goal.returns-in-Set-clause-native
-returns-in-Set-clause-native c = IfOk-weaker c.set.result _ _ (λ o h.
-    meets_run c.args.w c.args.waiting c.args.store.now c.set.new.store c.args.meter.now c.args.meter.now c.args.log.now.items c.args.posts.now.items _ o c.args.asked.now c.requires.unasked _
-    (set_is c.args.w c.args.store.now.cells c.args.args.now (receiver c.args.w c.args.store.now.cells c.args.this.now) c.args.which c.nth-first.result.now c.nth-first.ensures c.nth-second.result.now c.nth-second.ensures c.nth.result.now c.nth.ensures c.in-Set.is) (meets_free _ _ _ _ _ _ h)) c.set.ensures.ends
-
-pub remove-requires : goal.remove-requires
-remove-requires c = subst (IsFine c.args.w c.args.store.now.cells) (sym c.nth-first.ensures) (nth_fine c.args.w c.args.store.now.cells c.args.args.now 0 c.requires.args)
-
-pub returns-in-Remove-clause-native : goal.returns-in-Remove-clause-native
-returns-in-Remove-clause-native c = IfOk-weaker c.remove.result _ _ (λ o h.
-    meets_run c.args.w c.args.waiting c.args.store.now c.remove.new.store c.args.meter.now c.args.meter.now c.args.log.now.items c.args.posts.now.items _ o c.args.asked.now c.requires.unasked _
-    (remove_is c.args.w c.args.store.now.cells c.args.args.now (receiver c.args.w c.args.store.now.cells c.args.this.now) c.args.which c.nth-first.result.now c.nth-first.ensures c.nth-second.result.now c.nth-second.ensures c.in-Remove.is) (meets_free _ _ _ _ _ _ h)) c.remove.ensures.ends
-
-pub create-requires-clause-object : goal.create-requires-clause-object
-create-requires-clause-object c = subst (IsFine c.args.w c.args.store.now.cells) (sym c.nth-first.ensures) (nth_fine c.args.w c.args.store.now.cells c.args.args.now 0 c.requires.args)
-
-pub returns-in-Create-clause-native : goal.returns-in-Create-clause-native
-returns-in-Create-clause-native c = IfOk-weaker c.create.result _ _ (λ o h.
-    confined_run c.args.w c.args.waiting c.args.store.now c.create.new.store c.args.meter.now c.args.meter.now c.args.log.now.items c.args.posts.now.items _ o c.args.asked.now c.requires.unasked _
-    (create_is c.args.w c.args.store.now.cells c.args.args.now (receiver c.args.w c.args.store.now.cells c.args.this.now) c.args.which c.nth-first.result.now c.nth-first.ensures c.in-Create.is) refl h) c.create.ensures.ends
-
-pub is_array-requires : goal.is_array-requires
-is_array-requires c = subst (IsFine c.args.w c.args.store.now.cells) (sym c.nth-first.ensures) (nth_fine c.args.w c.args.store.now.cells c.args.args.now 0 c.requires.args)
-
-pub returns-in-IsArray-clause-native : goal.returns-in-IsArray-clause-native
-returns-in-IsArray-clause-native c =
-    meets_run c.args.w c.args.waiting c.args.store.now c.args.store.now c.args.meter.now c.args.meter.now c.args.log.now.items c.args.posts.now.items _ _ c.args.asked.now c.requires.unasked _
-    (is_array_is c.args.w c.args.store.now.cells c.args.args.now (receiver c.args.w c.args.store.now.cells c.args.this.now) c.args.which c.nth-first.result.now c.nth-first.ensures c.in-IsArray.is) (meets_free _ _ _ _ _ _ c.is_array.ensures)
-
-pub keys-requires-clause-object : goal.keys-requires-clause-object
-keys-requires-clause-object c = subst (IsFine c.args.w c.args.store.now.cells) (sym c.nth-first.ensures) (nth_fine c.args.w c.args.store.now.cells c.args.args.now 0 c.requires.args)
-
-pub returns-in-Keys-clause-native : goal.returns-in-Keys-clause-native
-returns-in-Keys-clause-native c = IfOk-weaker c.keys.result _ _ (λ o h.
-    meets_run c.args.w c.args.waiting c.args.store.now c.keys.new.store c.args.meter.now c.keys.new.meter c.args.log.now.items c.args.posts.now.items _ o c.args.asked.now c.requires.unasked _
-    (keys_is c.args.w c.args.store.now.cells c.args.args.now (receiver c.args.w c.args.store.now.cells c.args.this.now) c.args.which c.nth-first.result.now c.nth-first.ensures c.in-Keys.is) h) c.keys.ensures.native
-
-pub later-requires-clause-func : goal.later-requires-clause-func
-later-requires-clause-func c = subst (IsFine c.args.w c.args.store.now.cells) (sym c.nth-first.ensures) (nth_fine c.args.w c.args.store.now.cells c.args.args.now 0 c.requires.args)
-
-pub returns-in-Later-clause-native : goal.returns-in-Later-clause-native
-returns-in-Later-clause-native c =
-    noted_same c.args.w c.args.waiting c.args.store.now c.args.store.now _ _ _ _ _ c.args.meter.now c.args.meter.now
-    (λ fs r d. later_is c.args.w c.args.store.now.cells c.args.args.now (receiver c.args.w c.args.store.now.cells c.args.this.now) c.args.which c.nth-first.result.now c.nth-first.ensures c.nth-second.result.now c.nth-second.ensures c.in-Later.is d (image fs r c.args.w c.args.store.now))
-    (noted_free c.args.w c.args.waiting c.args.store.now c.args.store.now _ _ _ _ c.args.meter.now (c.later.ensures.native c.args.log.now.items c.args.posts.now.items))
-
-pub returns-in-Log-clause-native : goal.returns-in-Log-clause-native
-returns-in-Log-clause-native c = IfOk-weaker c.log.result _ _ (λ o h.
-    noted_run c.args.w c.args.waiting c.args.store.now c.log.new.store c.args.meter.now c.log.new.meter c.args.log.now.items c.log.new.log.items c.args.posts.now.items c.args.posts.now.items _ o c.args.asked.now c.requires.unasked _
-    (log_is c.args.w c.args.store.now.cells c.args.args.now (receiver c.args.w c.args.store.now.cells c.args.this.now) c.args.which c.nth-first.result.now c.nth-first.ensures c.in-Log.is) (h c.args.waiting c.args.posts.now.items)) c.log.ensures.native
-
-pub returns-in-Post-clause-native : goal.returns-in-Post-clause-native
-returns-in-Post-clause-native c = IfOk-weaker c.post.result _ _ (λ o h.
-    noted_run c.args.w c.args.waiting c.args.store.now c.post.new.store c.args.meter.now c.post.new.meter c.args.log.now.items c.args.log.now.items c.args.posts.now.items c.post.new.posts.items _ o c.args.asked.now c.requires.unasked _
-    (post_is c.args.w c.args.store.now.cells c.args.args.now (receiver c.args.w c.args.store.now.cells c.args.this.now) c.args.which c.nth-first.result.now c.nth-first.ensures c.nth-second.result.now c.nth-second.ensures c.in-Post.is) (h c.args.waiting c.args.log.now.items)) c.post.ensures.native
-
-pub returns-in-FromJson-clause-native : goal.returns-in-FromJson-clause-native
-returns-in-FromJson-clause-native c = IfOk-weaker c.from_json.result _ _ (λ o h.
-    meets_run c.args.w c.args.waiting c.args.store.now c.from_json.new.store c.args.meter.now c.from_json.new.meter c.args.log.now.items c.args.posts.now.items _ o c.args.asked.now c.requires.unasked _
-    (from_json_is c.args.w c.args.store.now.cells c.args.args.now (receiver c.args.w c.args.store.now.cells c.args.this.now) c.args.which c.nth-first.result.now c.nth-first.ensures c.in-FromJson.is) h) c.from_json.ensures.native
-
-pub has-requires : goal.has-requires
-has-requires c = subst (IsFine c.args.w c.args.store.now.cells) (sym c.nth-first.ensures) (nth_fine c.args.w c.args.store.now.cells c.args.args.now 0 c.requires.args)
-
-pub returns-in-Has-clause-native : goal.returns-in-Has-clause-native
-returns-in-Has-clause-native c = IfOk-weaker c.has.result _ _ (λ o h.
-    confined_run c.args.w c.args.waiting c.args.store.now c.args.store.now c.args.meter.now c.args.meter.now c.args.log.now.items c.args.posts.now.items _ o c.args.asked.now c.requires.unasked _
-    (has_is c.args.w c.args.store.now.cells c.args.args.now (receiver c.args.w c.args.store.now.cells c.args.this.now) c.args.which c.nth-first.result.now c.nth-first.ensures c.nth-second.result.now c.nth-second.ensures c.in-Has.is) refl h) c.has.ensures
-
-pub returns-in-HasOwnProperty-clause-native : goal.returns-in-HasOwnProperty-clause-native
-returns-in-HasOwnProperty-clause-native c = IfOk-weaker c.has_own_property.result _ _ (λ o h.
-    confined_run c.args.w c.args.waiting c.args.store.now c.args.store.now c.args.meter.now c.args.meter.now c.args.log.now.items c.args.posts.now.items _ o c.args.asked.now c.requires.unasked _
-    (has_own_is c.args.w c.args.store.now.cells c.args.args.now (receiver c.args.w c.args.store.now.cells c.args.this.now) c.args.which c.nth-first.result.now c.nth-first.ensures c.in-HasOwnProperty.is) refl h) c.has_own_property.ensures
-
-pub to_json-requires-clause-value : goal.to_json-requires-clause-value
-to_json-requires-clause-value c = subst (IsFine c.args.w c.args.store.now.cells) (sym c.nth-first.ensures) (nth_fine c.args.w c.args.store.now.cells c.args.args.now 0 c.requires.args)
-
-pub returns-in-ToJson-clause-native : goal.returns-in-ToJson-clause-native
-returns-in-ToJson-clause-native c = IfOk-weaker c.to_json.result _ _ (λ o h.
-    text_run c.args.w c.args.waiting c.args.store.now c.to_json.new.store c.args.meter.now c.to_json.new.meter c.args.log.now.items c.args.posts.now.items _ o c.args.asked.now c.requires.unasked _
-    (to_json_is c.args.w c.args.store.now.cells c.args.args.now (receiver c.args.w c.args.store.now.cells c.args.this.now) c.args.which c.nth-first.result.now c.nth-first.ensures c.in-ToJson.is) h) c.to_json.ensures.native
-
-pub returns-in-Get-clause-own : goal.returns-in-Get-clause-own
-returns-in-Get-clause-own c = unasked c.args.w c.args.store.now.cells c.args.asked.now c.requires.unasked
-
-pub returns-in-Set-clause-own : goal.returns-in-Set-clause-own
-returns-in-Set-clause-own c = unasked c.args.w c.set.new.store.cells c.args.asked.now c.requires.unasked
-
-pub returns-in-Remove-clause-own : goal.returns-in-Remove-clause-own
-returns-in-Remove-clause-own c = unasked c.args.w c.remove.new.store.cells c.args.asked.now c.requires.unasked
-
-pub returns-in-HasOwnProperty-clause-own : goal.returns-in-HasOwnProperty-clause-own
-returns-in-HasOwnProperty-clause-own c = unasked c.args.w c.args.store.now.cells c.args.asked.now c.requires.unasked
-
-pub returns-in-Has-clause-own : goal.returns-in-Has-clause-own
-returns-in-Has-clause-own c = unasked c.args.w c.args.store.now.cells c.args.asked.now c.requires.unasked
-
-pub returns-in-Create-clause-own : goal.returns-in-Create-clause-own
-returns-in-Create-clause-own c = unasked c.args.w c.create.new.store.cells c.args.asked.now c.requires.unasked
-
-pub returns-in-IsArray-clause-own : goal.returns-in-IsArray-clause-own
-returns-in-IsArray-clause-own c = unasked c.args.w c.args.store.now.cells c.args.asked.now c.requires.unasked
-
-pub returns-in-Keys-clause-own : goal.returns-in-Keys-clause-own
-returns-in-Keys-clause-own c = unasked c.args.w c.keys.new.store.cells c.args.asked.now c.requires.unasked
-
-pub returns-in-Log-clause-own : goal.returns-in-Log-clause-own
-returns-in-Log-clause-own c = unasked c.args.w c.log.new.store.cells c.args.asked.now c.requires.unasked
-
-pub returns-in-Post-clause-own : goal.returns-in-Post-clause-own
-returns-in-Post-clause-own c = unasked c.args.w c.post.new.store.cells c.args.asked.now c.requires.unasked
-
-pub returns-in-FromJson-clause-own : goal.returns-in-FromJson-clause-own
-returns-in-FromJson-clause-own c = unasked c.args.w c.from_json.new.store.cells c.args.asked.now c.requires.unasked
-
-pub returns-in-ToJson-clause-own : goal.returns-in-ToJson-clause-own
-returns-in-ToJson-clause-own c = unasked c.args.w c.to_json.new.store.cells c.args.asked.now c.requires.unasked
+pub returns-in-Prototype-clause-own : goal.returns-in-Prototype-clause-own
+returns-in-Prototype-clause-own c = unasked c.args.w c.args.store.now.cells c.args.asked.now c.requires.unasked

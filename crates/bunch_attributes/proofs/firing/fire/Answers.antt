@@ -3,7 +3,7 @@ use Rattle.plain_tree.specs.Words.{is_event_type}
 use Rattle.query_grammar.specs.Finds.{has_number}
 use Rattle.store_cells.specs.declared.value.Value.TheVariants as value
 use Rattle.widget_meaning.specs.BunchWrites.{fire, fired, write_method}
-use Rattle.widget_meaning.specs.NativeNames.{Fire}
+use Rattle.permitted_table.specs.declared.native.WriteNative.TheVariants.{Fire}
 use Rattle.widget_meaning.specs.Plan.{charge}
 use Rattle.widget_meaning.specs.Values.{E4, to_text}
 use Rattle.js_image.specs.declared.outcome.Fault.TheVariants as fault

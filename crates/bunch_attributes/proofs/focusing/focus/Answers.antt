@@ -3,7 +3,7 @@ use Rattle.store_cells.specs.Cells.{own_count}
 use Rattle.store_cells.specs.declared.value.Value.TheVariants as value
 use Rattle.widget_meaning.specs.BunchWrites.{with_focus, write_method}
 use Rattle.widget_meaning.specs.Costs.{give}
-use Rattle.widget_meaning.specs.NativeNames.{Focus}
+use Rattle.permitted_table.specs.declared.native.WriteNative.TheVariants.{Focus}
 use Rattle.js_image.specs.declared.outcome.Fault.TheVariants as fault
 use Rattle.js_image.specs.Image.{seen}
 use Rattle.js_image.proofs.Grown.{held_stays, seen_stays}

@@ -2,7 +2,7 @@ use Rattle.std.proofs.Common.{◌∷◌, [], map, ap, sym, codes}
 use Rattle.store_cells.specs.declared.value.Value.TheVariants as value
 use Rattle.widget_meaning.specs.BunchWrites as means
 use Rattle.widget_meaning.specs.BunchWrites.{write_method}
-use Rattle.widget_meaning.specs.NativeNames.{SetCheck}
+use Rattle.permitted_table.specs.declared.native.WriteNative.TheVariants.{SetCheck}
 use Rattle.widget_meaning.specs.PageForms.{is_input}
 use Rattle.js_image.specs.Image.{seen}
 use Rattle.page_image.specs.Image.{number}

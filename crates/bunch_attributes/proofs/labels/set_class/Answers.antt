@@ -4,7 +4,7 @@ use Rattle.store_cells.specs.declared.value.Value.TheVariants as value
 use Rattle.widget_meaning.specs.BunchWrites as means
 use Rattle.widget_meaning.specs.BunchWrites.{write_method}
 use Rattle.widget_meaning.specs.Costs.{want}
-use Rattle.widget_meaning.specs.NativeNames.{SetClass}
+use Rattle.permitted_table.specs.declared.native.WriteNative.TheVariants.{SetClass}
 use Rattle.widget_meaning.specs.Values.{E4, to_text}
 use Rattle.js_image.specs.declared.outcome.Fault.TheVariants as fault
 use Rattle.js_image.specs.Image.{seen}

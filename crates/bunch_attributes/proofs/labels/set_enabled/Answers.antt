@@ -3,7 +3,7 @@ use Rattle.std.specs.Prelude.{not}
 use Rattle.store_cells.specs.declared.value.Value.TheVariants as value
 use Rattle.widget_meaning.specs.BunchWrites as means
 use Rattle.widget_meaning.specs.BunchWrites.{write_method}
-use Rattle.widget_meaning.specs.NativeNames.{SetEnabled}
+use Rattle.permitted_table.specs.declared.native.WriteNative.TheVariants.{SetEnabled}
 use Rattle.widget_meaning.specs.PageForms.{is_field}
 use Rattle.js_image.specs.Image.{seen}
 use Rattle.page_image.specs.Image.{number}

@@ -7,7 +7,7 @@ use Rattle.style_text.specs.Styles.{is_listed, is_value}
 use Rattle.widget_meaning.specs.BunchWrites as means
 use Rattle.widget_meaning.specs.BunchWrites.{relabel, write_method}
 use Rattle.widget_meaning.specs.Costs.{give}
-use Rattle.widget_meaning.specs.NativeNames.{SetStyle}
+use Rattle.permitted_table.specs.declared.native.WriteNative.TheVariants.{SetStyle}
 use Rattle.widget_meaning.specs.PageForms.{want_all}
 use Rattle.widget_meaning.specs.Plan.{charge}
 use Rattle.widget_meaning.specs.Values.{E4, to_text}

@@ -2,7 +2,7 @@ use Rattle.std.proofs.Common.{[], map, refl}
 use Rattle.store_cells.specs.Cells.{own_count}
 use Rattle.store_cells.specs.declared.value.Value.TheVariants as value
 use Rattle.widget_meaning.specs.BunchWrites.{write_method}
-use Rattle.widget_meaning.specs.NativeNames.{Protect}
+use Rattle.permitted_table.specs.declared.native.WriteNative.TheVariants.{Protect}
 use Rattle.js_image.specs.Image.{seen}
 use Rattle.page_image.specs.Image.{number}
 use Rattle.native_image.specs.Charges.{Free}

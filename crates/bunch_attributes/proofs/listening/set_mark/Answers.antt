@@ -2,7 +2,7 @@ use Rattle.std.proofs.Common.{◌∷◌, [], map, sym, ◌∙◌}
 use Rattle.store_cells.specs.Cells.{own_count}
 use Rattle.store_cells.specs.declared.value.Value.TheVariants as value
 use Rattle.widget_meaning.specs.BunchWrites.{alter_each, change_kept, write_method}
-use Rattle.widget_meaning.specs.NativeNames.{SetMark}
+use Rattle.permitted_table.specs.declared.native.WriteNative.TheVariants.{SetMark}
 use Rattle.event_image.specs.Image.{marked}
 use Rattle.js_image.specs.declared.outcome.Fault.TheVariants as fault
 use Rattle.js_image.specs.Image.{seen}

@@ -1,5 +1,5 @@
 use Rattle.std.proofs.Common.{[], map, refl}
-use Rattle.bunch_read.specs.declared.kinds.Method.TheVariants as method
+use Rattle.permitted_table.specs.declared.native.ReadNative.TheVariants as method
 use Rattle.js_image.specs.Image.{seen}
 use Rattle.page_image.specs.Image.{number}
 use Rattle.native_image.proofs.Joint.{keeps_of, sound_stays}

@@ -5,7 +5,7 @@ use Rattle.std.specs.Option.{option_map}
 use Rattle.store_cells.specs.declared.value.Value.TheVariants as value
 use Rattle.widget_meaning.specs.BunchWrites.{write_method}
 use Rattle.widget_meaning.specs.Costs.{or_throw}
-use Rattle.widget_meaning.specs.NativeNames.{Append}
+use Rattle.permitted_table.specs.declared.native.WriteNative.TheVariants.{Append}
 use Rattle.widget_meaning.specs.Values.{E4}
 use Rattle.js_image.specs.declared.outcome.Fault.TheVariants as fault
 use Rattle.js_image.specs.Image.{seen}

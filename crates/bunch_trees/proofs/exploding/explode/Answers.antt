@@ -4,7 +4,7 @@ use Rattle.std.specs.declared.alloc.Global.{Global}
 use Rattle.std.specs.Option.{option_map}
 use Rattle.widget_meaning.specs.BunchReads.{explode, read_native}
 use Rattle.widget_meaning.specs.Costs.{or_throw}
-use Rattle.widget_meaning.specs.NativeNames.{Explode}
+use Rattle.permitted_table.specs.declared.native.ReadNative.TheVariants.{Explode}
 use Rattle.widget_meaning.specs.Values.{E3}
 use Rattle.js_image.specs.declared.outcome.Fault.TheVariants as fault
 use Rattle.native_common.specs.Receivers.{receiver}

@@ -4,7 +4,7 @@ use Rattle.std.specs.declared.alloc.Global.{Global}
 use Rattle.std.specs.Option.{option_map}
 use Rattle.widget_meaning.specs.Costs.{or_throw}
 use Rattle.widget_meaning.specs.DomNatives.{dom_native}
-use Rattle.widget_meaning.specs.NativeNames.{DomAppend}
+use Rattle.permitted_table.specs.declared.native.DomNative.TheVariants.{DomAppend}
 use Rattle.widget_meaning.specs.Values.{E4}
 use Rattle.js_image.specs.declared.outcome.Fault.TheVariants as fault
 use Rattle.js_image.specs.Image.{seen}

@@ -2,7 +2,7 @@ use Rattle.std.proofs.Common.{◌∷◌, [], map, ap, sym, ◌∙◌}
 use Rattle.store_cells.specs.declared.value.Value.TheVariants as value
 use Rattle.widget_meaning.specs.BunchWrites as means
 use Rattle.widget_meaning.specs.BunchWrites.{write_method}
-use Rattle.widget_meaning.specs.NativeNames.{SetValue}
+use Rattle.permitted_table.specs.declared.native.WriteNative.TheVariants.{SetValue}
 use Rattle.widget_meaning.specs.Values.{to_text}
 use Rattle.js_image.specs.declared.outcome.Fault.TheVariants as fault
 use Rattle.js_image.specs.Image.{seen}

@@ -4,7 +4,7 @@ use Rattle.js_image.specs.Image.{seen}
 use Rattle.page_image.specs.Image.{number}
 use Rattle.native_image.specs.Image.{beside}
 use Rattle.native_image.proofs.Keeping.{keeps_here}
-use Rattle.bunch_write.specs.declared.kinds.Method.TheVariants as method
+use Rattle.permitted_table.specs.declared.native.WriteNative.TheVariants as method
 use Rattle.bunch_write.proofs.Calls.{at_method, of_method}
 use Rattle.bunch_write.proofs.calling.change.Goals as goal
 
@@ -168,8 +168,8 @@ returns-in-Blur-clause-native c = λ b.
 pub returns-in-Blur-clause-kept : goal.returns-in-Blur-clause-kept
 returns-in-Blur-clause-kept c = c.blur.ensures.kept
 
-pub returns-in-Listen-clause-native : goal.returns-in-Listen-clause-native
-returns-in-Listen-clause-native c = λ b.
+pub returns-in-On-clause-native : goal.returns-in-On-clause-native
+returns-in-On-clause-native c = λ b.
     let w = c.args.w in
     let p = c.args.page.now in
     let l = c.args.around.now in
@@ -179,13 +179,13 @@ returns-in-Listen-clause-native c = λ b.
     let b1 = seen w s.cells (value.Ref c.args.this) in
     let u = seen w s.cells c.args.first.now in
     let v = seen w s.cells c.args.second.now in
-    of_method w h (beside c.listen.new.store p c.listen.new.around b) c.args.meter.now c.listen.new.meter ns b1 u v c.listen.result c.args.method method.Listen c.in-Listen.is (c.listen.ensures.native b)
+    of_method w h (beside c.listen.new.store p c.listen.new.around b) c.args.meter.now c.listen.new.meter ns b1 u v c.listen.result c.args.method method.On c.in-On.is (c.listen.ensures.native b)
 
-pub returns-in-Listen-clause-kept : goal.returns-in-Listen-clause-kept
-returns-in-Listen-clause-kept c = c.listen.ensures.kept
+pub returns-in-On-clause-kept : goal.returns-in-On-clause-kept
+returns-in-On-clause-kept c = c.listen.ensures.kept
 
-pub returns-in-Hush-clause-native : goal.returns-in-Hush-clause-native
-returns-in-Hush-clause-native c = λ b.
+pub returns-in-Off-clause-native : goal.returns-in-Off-clause-native
+returns-in-Off-clause-native c = λ b.
     let w = c.args.w in
     let p = c.args.page.now in
     let l = c.args.around.now in
@@ -195,10 +195,10 @@ returns-in-Hush-clause-native c = λ b.
     let b1 = seen w s.cells (value.Ref c.args.this) in
     let u = seen w s.cells c.args.first.now in
     let v = seen w s.cells c.args.second.now in
-    of_method w h (beside c.hush.new.store p c.hush.new.around b) c.args.meter.now c.hush.new.meter ns b1 u v c.hush.result c.args.method method.Hush c.in-Hush.is (c.hush.ensures.native b)
+    of_method w h (beside c.hush.new.store p c.hush.new.around b) c.args.meter.now c.hush.new.meter ns b1 u v c.hush.result c.args.method method.Off c.in-Off.is (c.hush.ensures.native b)
 
-pub returns-in-Hush-clause-kept : goal.returns-in-Hush-clause-kept
-returns-in-Hush-clause-kept c = c.hush.ensures.kept
+pub returns-in-Off-clause-kept : goal.returns-in-Off-clause-kept
+returns-in-Off-clause-kept c = c.hush.ensures.kept
 
 pub returns-in-Fire-clause-native : goal.returns-in-Fire-clause-native
 returns-in-Fire-clause-native c = λ b.

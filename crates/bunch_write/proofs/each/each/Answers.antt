@@ -3,7 +3,7 @@ use Rattle.std.specs.Prelude.{is_some}
 use Rattle.std.proofs.lemmas.Result.{IfOk-weaker}
 use Rattle.store_cells.specs.declared.value.Value.TheVariants as value
 use Rattle.widget_meaning.specs.BunchWrites.{write_method}
-use Rattle.widget_meaning.specs.NativeNames.{Each}
+use Rattle.permitted_table.specs.declared.native.WriteNative.TheVariants.{Each}
 use Rattle.widget_meaning.specs.Plan.{charge}
 use Rattle.widget_meaning.specs.Properties.{is_own_function}
 use Rattle.widget_meaning.specs.Values.{E4}

@@ -3,7 +3,7 @@ use Rattle.std.specs.Prelude.{option_to_list, sum_by}
 use Rattle.std.proofs.lemmas.Result.{IfOk-weaker}
 use Rattle.plain_tree.specs.Trees.{ElementOf}
 use Rattle.widget_meaning.specs.DomNatives.{dom_native, dom_tag, give_node, given_text}
-use Rattle.widget_meaning.specs.NativeNames.{DomTag}
+use Rattle.permitted_table.specs.declared.native.DomNative.TheVariants.{DomTag}
 use Rattle.widget_meaning.specs.Values.{to_text}
 use Rattle.js_image.specs.declared.outcome.Fault.TheVariants as fault
 use Rattle.js_image.specs.Image.{seen}

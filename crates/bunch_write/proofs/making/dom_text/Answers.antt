@@ -2,7 +2,7 @@ use Rattle.std.proofs.Common.{◌∷◌, [], ◌∙◌, length, ap, sym}
 use Rattle.std.proofs.lemmas.Result.{IfOk-weaker}
 use Rattle.plain_tree.specs.Trees.{TextOf}
 use Rattle.widget_meaning.specs.DomNatives.{dom_native, give_node}
-use Rattle.widget_meaning.specs.NativeNames.{DomText}
+use Rattle.permitted_table.specs.declared.native.DomNative.TheVariants.{DomText}
 use Rattle.widget_meaning.specs.Values.{to_text}
 use Rattle.js_image.specs.declared.outcome.Fault.TheVariants as fault
 use Rattle.js_image.specs.Image.{seen}

@@ -3,7 +3,7 @@ use Rattle.std.specs.List.{fold}
 use Rattle.store_cells.specs.declared.value.Value.TheVariants as value
 use Rattle.widget_meaning.specs.BunchWrites.{emptied, write_method}
 use Rattle.widget_meaning.specs.Costs.{give}
-use Rattle.widget_meaning.specs.NativeNames.{Empty}
+use Rattle.permitted_table.specs.declared.native.WriteNative.TheVariants.{Empty}
 use Rattle.widget_meaning.specs.OwnState.{with_forest}
 use Rattle.js_image.specs.Image.{seen}
 use Rattle.js_image.proofs.Grown.{held_stays, seen_stays}

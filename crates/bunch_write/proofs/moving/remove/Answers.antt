@@ -4,7 +4,7 @@ use Rattle.query_grammar.specs.Finds.{has_number}
 use Rattle.store_cells.specs.declared.value.Value.TheVariants as value
 use Rattle.widget_meaning.specs.BunchWrites.{is_no_root, write_method}
 use Rattle.widget_meaning.specs.Costs.{give}
-use Rattle.widget_meaning.specs.NativeNames.{Remove}
+use Rattle.permitted_table.specs.declared.native.WriteNative.TheVariants.{Remove}
 use Rattle.widget_meaning.specs.OwnState.{State, with_forest}
 use Rattle.widget_meaning.specs.Plan.{charge}
 use Rattle.widget_meaning.specs.Trees.{detached}

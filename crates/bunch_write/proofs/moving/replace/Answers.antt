@@ -2,7 +2,7 @@ use Rattle.std.proofs.Common.{◌∷◌, [], map, ap, sym, ◌∙◌, arith, get
 use Rattle.std.specs.Option.{option_map}
 use Rattle.store_cells.specs.declared.value.Value.TheVariants as value
 use Rattle.widget_meaning.specs.BunchWrites.{write_method}
-use Rattle.widget_meaning.specs.NativeNames.{Replace}
+use Rattle.permitted_table.specs.declared.native.WriteNative.TheVariants.{Replace}
 use Rattle.js_image.specs.declared.outcome.Fault.TheVariants as fault
 use Rattle.js_image.specs.Image.{seen}
 use Rattle.page_image.specs.Image.{number}

@@ -8,9 +8,9 @@ use Rattle.native_image.specs.Image.{beside}
 use Rattle.native_image.specs.Meets.{MeetsAt, Reads}
 use Rattle.native_image.proofs.Keeping.{page_same, host_here}
 use Rattle.natives.specs.Meets.{MeetsWhole}
-use Rattle.natives.specs.Parts.{is_of}
+use Rattle.natives.specs.Rooms.{is_of}
 use Rattle.natives.specs.Reach.{reach}
-use Rattle.natives.proofs.Parts.{in_room}
+use Rattle.natives.proofs.InRooms.{in_room}
 use Rattle.natives.proofs.Receivers.{as_called}
 use Rattle.natives.proofs.Whole.{meets_kept, store_keeps, store_whole, whole_at}
 use Rattle.natives.proofs.calling.call_on.Goals as goal

@@ -1,10 +1,9 @@
 use Rattle.std.proofs.Common.{◌≡◌, ◌+◌, ◌<◌, ℕ, List, ap, sym, ◌∙◌, arith, length, subst, Bor}
-use Rattle.permitted_table.specs.declared.native.NativeId.{NativeId}
 use Rattle.store_cells.specs.Numbered.{NumberedCell, heads, cells_of}
 use Rattle.store_cells.specs.Shape.{IsBase}
-use Rattle.store_cells.specs.Host.{first_native}
+use Rattle.store_cells.specs.Host.{first_native, host_count}
 use Rattle.permitted_table.specs.Natives.{number_of}
-use Rattle.store_table.specs.Bare.{bare_numbered, bare_of, no_arrays, with_gifts}
+use Rattle.store_table.specs.Bare.{CodeRow, bare_numbered, bare_of, home_place, no_arrays, with_gifts}
 use Rattle.store_table.proofs.Gifts.{are_words, rows_fit}
 use Rattle.store_table.proofs.Firsts.{bare_base, bare_plain, first_gifts}
 use Rattle.store_table.proofs.host.table_of.Goals as goal
@@ -23,13 +22,13 @@ give_all-requires-clause-plain c = ap (λ (l : List NumberedCell). no_arrays (he
 
 pub give_all-requires-clause-rows : goal.give_all-requires-clause-rows
 give_all-requires-clause-rows c =
-    let e : length c.in_ok-cells.cells.items ≡ 103 = ap (λ (l : List NumberedCell). length l) (c.in_ok-cells.ensures ∙ ap bare_of c.requires.forms) in
-    rows_fit (λ (r : ℕ × Bor (List ℕ) × NativeId). r.0) (λ (r : ℕ × Bor (List ℕ) × NativeId). first_native + number_of r.2) c.args.rows.now (length c.in_ok-cells.cells.items) 103 e c.requires.fit_rows
+    let e : length c.in_ok-cells.cells.items ≡ host_count = ap (λ (l : List NumberedCell). length l) (c.in_ok-cells.ensures ∙ ap bare_of c.requires.forms) in
+    rows_fit (λ (r : CodeRow). home_place r.0) (λ (r : CodeRow). first_native + number_of r.2) c.args.rows.now (length c.in_ok-cells.cells.items) host_count e c.requires.fit_rows
 
 pub give_all-requires-clause-references : goal.give_all-requires-clause-references
 give_all-requires-clause-references c =
-    let e : length c.in_ok-cells.cells.items ≡ 103 = ap (λ (l : List NumberedCell). length l) (c.in_ok-cells.ensures ∙ ap bare_of c.requires.forms) in
-    rows_fit (λ (r : ℕ × Bor (List ℕ) × ℕ). r.0) (λ (r : ℕ × Bor (List ℕ) × ℕ). r.2) c.args.references.now (length c.in_ok-cells.cells.items) 103 e c.requires.fit_references
+    let e : length c.in_ok-cells.cells.items ≡ host_count = ap (λ (l : List NumberedCell). length l) (c.in_ok-cells.ensures ∙ ap bare_of c.requires.forms) in
+    rows_fit (λ (r : ℕ × Bor (List ℕ) × ℕ). r.0) (λ (r : ℕ × Bor (List ℕ) × ℕ). r.2) c.args.references.now (length c.in_ok-cells.cells.items) host_count e c.requires.fit_references
 
 pub returns : goal.returns
 unfolding bare_numbered

@@ -6,7 +6,7 @@ use Rattle.widget_meaning.specs.PrototypeNatives as prototypes
 use Rattle.js_image.specs.Image.{image}
 use Rattle.native_common.proofs.Meeting.{ends_same}
 use Rattle.native_common.specs.Receivers.{receiver}
-use Rattle.text_methods.proofs.KindRuns.{called, fine_receiver}
+use Rattle.text_methods.proofs.Receivers.{called, fine_receiver}
 use Rattle.text_methods.proofs.prototypes.function_to_string.Goals as goal
 
 pub returns-in_ok-text-in_default : goal.returns-in_ok-text-in_default

@@ -8,7 +8,7 @@ use Rattle.js_image.specs.Image.{image}
 use Rattle.native_common.proofs.Meeting.{ends_same}
 use Rattle.std.specs.Prelude.{codes}
 use Rattle.native_common.specs.Receivers.{receiver}
-use Rattle.text_methods.proofs.KindRuns.{on_object_is}
+use Rattle.text_methods.proofs.Receivers.{on_object_is}
 use Rattle.text_methods.proofs.prototypes.object_to_string.Goals as goal
 
 pub returns-clause-native : goal.returns-clause-native

@@ -1,12 +1,10 @@
--- What each native of this crate is in the meaning, by its kind.
+-- What a receiver is to the natives of this crate.
 use Rattle.std.proofs.Common.{◌≡◌, ℕ, List, Bool, true, false, Option, Some, None, refl, ap, ◌∙◌, nat_eq, if◌then◌else◌}
-use Rattle.permitted_table.specs.declared.native.NativeId.{NativeId}
-use Rattle.permitted_table.specs.declared.native.NativeId.TheVariants as native
 use Rattle.store_cells.specs.declared.value.Value.{Value as StoreValue}
 use Rattle.store_cells.specs.declared.value.Value.TheVariants as value
 use Rattle.store_cells.specs.declared.value.Number.{Number}
 use Rattle.store_cells.specs.declared.value.Number.TheVariants as numbers
-use Rattle.store_cells.specs.Cells.{PlainCell, own_count}
+use Rattle.store_cells.specs.Cells.{Cells, PlainCell, own_count}
 use Rattle.store_cells.specs.Host.{global}
 use Rattle.object_store.specs.Owned as store
 use Rattle.object_store.specs.Owned.{visible_at}
@@ -18,9 +16,14 @@ use Rattle.widget_meaning.specs.Costs.{give, throw}
 use Rattle.widget_meaning.specs.NativeForms.{on_object, on_text}
 use Rattle.widget_meaning.specs.GlobalNatives.{global_native}
 use Rattle.widget_meaning.specs.MathNatives.{math_native}
-use Rattle.widget_meaning.specs.PrototypeNatives.{prototype_native}
-use Rattle.widget_meaning.specs.Natives.{run_native}
-use Rattle.js_image.specs.Image.{meant, seen}
+use Rattle.permitted_table.specs.declared.native.GlobalNative.{GlobalNative}
+use Rattle.permitted_table.specs.declared.native.GlobalNative.TheVariants.{BooleanOf}
+use Rattle.permitted_table.specs.declared.native.MathNative.{MathNative}
+use Rattle.permitted_table.specs.declared.native.MathNative.TheVariants.{Abs}
+use Rattle.js_image.specs.Image.{image, meant, seen}
+use Rattle.js_values.specs.declared.outcome.NativeOut.TheVariants as native
+use Rattle.native_common.specs.Meets.{Ends}
+use Rattle.native_common.proofs.Meeting.{ends_here}
 use Rattle.std.proofs.Common.{sym}
 use Rattle.std.specs.Prelude.{codes, ◌||◌}
 use Rattle.std.specs.Option.{option_map}
@@ -36,53 +39,18 @@ use Rattle.js_image.specs.Callees.{IsCallee}
 use Rattle.js_image.specs.declared.outcome.Callee.{Callee}
 use Rattle.js_image.specs.declared.outcome.Callee.TheVariants as callee
 use Rattle.native_common.specs.Receivers.{IsReceiver, is_plain_call, receiver}
-use Rattle.text_methods.specs.declared.kinds.Kind.{Kind}
-use Rattle.text_methods.specs.declared.kinds.Kind.TheVariants as kind
-use Rattle.text_methods.specs.Kinds.{is_part, kind_of, meant_prototype, text_plan}
-use Rattle.plain_natives.specs.Families.{meant_global, meant_math}
-
--- the plan of a kind
-abbrev pub run_kind : Kind → Option Value → List Value → ℕ → State → Plan
-run_kind (kind.Global g) this vs d s = global_native (meant_global g) None vs d s
-run_kind (kind.Math m) this vs d s = math_native (meant_math m) None vs d s
-run_kind (kind.Prototype p) this vs d s = prototype_native (meant_prototype p) this vs d s
-run_kind (kind.Text n) this vs d s = on_text this s (λ t. text_plan n t vs d s)
-run_kind kind.Other this vs d s = give Undefined s
 
 false_true : false ≡ true → ⊥
 false_true e = cc
 
-pub same_run : (n : NativeId) → is_part n ≡ true → (this : Option Value) (vs : List Value) (d : ℕ) (s : State) → run_native n this vs d s ≡ run_kind (kind_of n) this vs d s
-same_run native.Boolean h this vs d s = refl
-same_run native.Number h this vs d s = refl
-same_run native.String h this vs d s = refl
-same_run native.IsNaN h this vs d s = refl
-same_run native.IsFinite h this vs d s = refl
-same_run native.ParseInt h this vs d s = refl
-same_run native.FromCharCode h this vs d s = refl
-same_run native.Abs h this vs d s = refl
-same_run native.Ceil h this vs d s = refl
-same_run native.Floor h this vs d s = refl
-same_run native.Round h this vs d s = refl
-same_run native.Max h this vs d s = refl
-same_run native.Min h this vs d s = refl
-same_run native.Pow h this vs d s = refl
-same_run native.ObjectToString h this vs d s = refl
-same_run native.FunctionToString h this vs d s = refl
-same_run native.NumberToString h this vs d s = refl
-same_run native.BooleanToString h this vs d s = refl
-same_run native.TextToString h this vs d s = refl
-same_run native.CharAt h this vs d s = refl
-same_run native.CharCodeAt h this vs d s = refl
-same_run native.TextConcat h this vs d s = refl
-same_run native.IndexOf h this vs d s = refl
-same_run native.LastIndexOf h this vs d s = refl
-same_run native.TextSlice h this vs d s = refl
-same_run native.Substring h this vs d s = refl
-same_run native.Split h this vs d s = refl
-same_run native.ToLowerCase h this vs d s = refl
-same_run native.ToUpperCase h this vs d s = refl
-same_run n h this vs d s = absurd (false_true h)
+-- natives among the globals, and those of `Math`, ignore their receiver; one of each is named, and `_` are all others
+pub global_alone : (n : GlobalNative) (this : Option Value) (vs : List Value) (d : ℕ) (s : State) → global_native n this vs d s ≡ global_native n None vs d s
+global_alone BooleanOf this vs d s = refl
+global_alone _ this vs d s = refl
+
+pub math_alone : (n : MathNative) (this : Option Value) (vs : List Value) (d : ℕ) (s : State) → math_native n this vs d s ≡ math_native n None vs d s
+math_alone Abs this vs d s = refl
+math_alone _ this vs d s = refl
 
 module _ (w : ℕ) (cells : List PlainCell) where
   -- a reference as receiver is no text
@@ -158,3 +126,9 @@ module _ (w : ℕ) (cells : List PlainCell) where
   called v fs c s e not h =
       ap (λ o. function_to_string o s) (there v e)
       ∙ ap (λ b. if b then give_made (codes "[function]") s else throw meaning.E3 s) (callable fs c s (seen w cells v) not h)
+
+-- a text as receiver is given
+pub text_given : (w : ℕ) (s : Cells) (v : StoreValue) (t u : List ℕ) → v ≡ value.Text t → u ≡ t → Ends w s s (λ d r. on_text (receiver w s.cells v) r (λ x. give (meaning.Text x) r)) (native.Value (value.Text u))
+text_given w s v t u is same =
+    ends_here w s (λ d r. on_text (receiver w s.cells v) r (λ x. give (meaning.Text x) r)) (native.Value (value.Text u))
+    (λ fs r node d. ap (λ (x : StoreValue). on_text (receiver w s.cells x) (image fs r w s) (λ x. give (meaning.Text x) (image fs r w s))) is ∙ ap (λ (x : List ℕ). give (meaning.Text x) (image fs r w s)) (sym same)) tt
