@@ -25,7 +25,8 @@ pub enum Verdict {
     Passed,
 }
 
-/// Judges a text as `serde_json` reads it. There is no more memory taken than for the longest of its texts.
+/// Judges a text as `serde_json` reads it. Memory is taken for the longest of its
+/// texts, and for the names of the objects in it as long as they are read.
 pub fn judge(alloc: Global, text: &str) -> Result<Verdict, Memory>
     ensures { IfOk result (Tells text.now) }
 {
