@@ -3,6 +3,7 @@
 //! A grammar is a relation between tokens with their depths and trees. Its machine takes one token at a time and sees nothing of what follows.
 //! Where the machine takes what the grammar spells and no more (complete and sound), and each state that it reaches can be led to an end (closable), the token at which it stops is the exact place of the refusal.
 //! A reader proves these three facts of its machine, and a fourth where it has a limit of depth: a token opens at most one link. `proofs/Exact.antt` then has what its contract says of refusals.
+//! A reader of texts that have no depth proves the three facts alone: for it `specs/Plain.antt` and `proofs/Plain.antt` say the same without a limit.
 //!
 //! The functions do nothing: their contracts are the laws, of the texts that a machine itself takes.
 #![tactic(auto)]
@@ -10,6 +11,7 @@
 ghost use Rattle.std.specs.Prelude.{◌≡◌, ℕ, ◌+◌, ◌↔◌, List, Option, length};
 ghost use Rattle.exact_refusals.specs.Places.{signs, HasTree, IsSyntaxAt, IsTooDeepAt};
 ghost use Rattle.exact_refusals.specs.Judge.{Takes, IsClosable, OpensOne, judge};
+ghost use Rattle.exact_refusals.specs.Plain.{outcome, Reads, EachCloses, IsRefusedAt};
 ghost use Rattle.exact_refusals.specs.Judge.Outcome.{Read, Refused, Deeper};
 
 /// The same tokens are taken in one way: at the same depths, and as the same tree.
@@ -61,4 +63,22 @@ pub fn one_answer<Token, State, Tree>()
     ensures no_flat_tree { (step : State → Token → Option (ℕ × State)) (done : State → Option Tree)
         (begin : State) (limit : ℕ) (input : List Token) (at : ℕ) (p : Tree) →
         IsTooDeepAt (Takes step done begin) limit input at → ¬ HasTree (Takes step done begin) limit input p }
+{}
+
+/// Without depth: a text is refused at one place, and has then no tree.
+pub fn one_refusal<Token, State, Tree>()
+    ensures place { (step : State → Token → Option State) (done : State → Option Tree) (begin : State)
+        (ts : List Token) (at other : ℕ) → IsRefusedAt (Reads step done begin) ts at →
+        IsRefusedAt (Reads step done begin) ts other → at ≡ other }
+    ensures no_tree { (step : State → Token → Option State) (done : State → Option Tree) (begin : State)
+        (ts : List Token) (at : ℕ) (tree : Tree) → IsRefusedAt (Reads step done begin) ts at →
+        ¬ Reads step done begin ts tree }
+{}
+
+/// Without depth: the token at which the machine is stuck is the place of the refusal.
+pub fn stuck_is_refused<Token, State, Tree>()
+    ensures { (step : State → Token → Option State) (done : State → Option Tree) (begin : State) →
+        EachCloses step done begin → (input : List Token) (left at : ℕ) →
+        outcome step done begin input ≡ Refused left → at + left ≡ length input →
+        IsRefusedAt (Reads step done begin) input at }
 {}

@@ -2,7 +2,7 @@
 use Rattle.std.proofs.Common.{◌≡◌, ℕ, suc, ◌+◌, ◌-◌, ◌≤◌, ◌⊎◌, inl, inr, List, [], ◌∷◌, Option, Some, None, refl, ap, ◌∙◌, length, arith}
 use Rattle.exact_refusals.specs.Judge as judge
 use Rattle.exact_refusals.specs.Judge.{Outcome, Read, Refused, Deeper}
-use Rattle.plain_refusals.specs.Machine.{at_no_depth, outcome}
+use Rattle.exact_refusals.specs.Plain.{at_no_depth, outcome}
 use Rattle.query_grammar.specs.Steps.{Step}
 use Rattle.query_grammar.specs.Queries.{QuerySpells, BadQueryPlace}
 use Rattle.query_grammar.specs.Machine.{State, step, done, judged}

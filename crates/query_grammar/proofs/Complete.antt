@@ -4,8 +4,8 @@ use Rattle.std.specs.Prelude.{◌==◌, nat_lt}
 use Rattle.std.specs.Str.{byte}
 use Rattle.std.proofs.lemmas.Bool.Decides.{nat_tests}
 use Rattle.exact_refusals.specs.Judge.{Outcome, Read, ended}
-use Rattle.plain_refusals.specs.Machine.{outcome}
-use Rattle.plain_refusals.proofs.Plain as plain
+use Rattle.exact_refusals.specs.Plain.{outcome}
+use Rattle.exact_refusals.proofs.Plain as plain
 use Rattle.query_grammar.specs.declared.query.Hunter.{Hunter}
 use Rattle.query_grammar.specs.declared.query.Hunter.TheVariants as hunter
 use Rattle.query_grammar.specs.declared.query.Filter.TheVariants as filter

@@ -1,7 +1,7 @@
 -- The laws of exact refusals, of queries.
 use Rattle.std.proofs.Common.{◌≡◌, ℕ, ◌+◌, List, length}
 use Rattle.exact_refusals.specs.Judge.{Refused}
-use Rattle.plain_refusals.proofs.Plain as plain
+use Rattle.exact_refusals.proofs.Plain as plain
 use Rattle.query_grammar.specs.Steps.{Step}
 use Rattle.query_grammar.specs.Queries.{QuerySpells, BadQueryPlace}
 use Rattle.query_grammar.specs.Machine.{step, done, begin}

@@ -3,7 +3,7 @@ use Rattle.std.specs.Prelude.{ℕ, Bool, true, false, ◌&&◌, List, [], ◌∷
 use Rattle.std.specs.List.{list_any}
 use Rattle.std.specs.Str.{byte, bytes_eq}
 use Rattle.exact_refusals.specs.Judge.{Outcome}
-use Rattle.plain_refusals.specs.Machine.{outcome}
+use Rattle.exact_refusals.specs.Plain.{outcome}
 use Rattle.code_units.specs.Words.{begins_with}
 use Rattle.query_grammar.specs.declared.query.Hunter.{Hunter}
 use Rattle.query_grammar.specs.declared.query.Hunter.TheVariants as hunter

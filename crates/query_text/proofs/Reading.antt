@@ -5,7 +5,7 @@ use Rattle.std.specs.Str.{byte}
 use Rattle.std.proofs.lemmas.Bool.{cases_lt}
 use Rattle.std.proofs.lemmas.Bool.Decides.{nat_tests}
 use Rattle.exact_refusals.specs.Judge.{Read, Refused, ended}
-use Rattle.plain_refusals.proofs.Plain as plain
+use Rattle.exact_refusals.proofs.Plain as plain
 use Rattle.query_text.specs.declared.QueryFault.{QueryFault}
 use Rattle.query_text.specs.declared.QueryFault.TheVariants as fault
 use Rattle.query_grammar.specs.declared.query.Hunter.{Hunter}

@@ -8,8 +8,8 @@ use Rattle.std.proofs.lemmas.Bool.Decides.{nat_tests}
 use Rattle.std.proofs.lemmas.List.Folds.{list_all-append}
 use Rattle.code_units.proofs.Signs.{and_both}
 use Rattle.exact_refusals.specs.Judge.{Outcome, Read}
-use Rattle.plain_refusals.specs.Machine.{outcome}
-use Rattle.plain_refusals.proofs.Plain as plain
+use Rattle.exact_refusals.specs.Plain.{outcome}
+use Rattle.exact_refusals.proofs.Plain as plain
 use Rattle.reach_cert.specs.declared.cert.Ref.{Ref}
 use Rattle.reach_cert.specs.Certs.{Row, Slot, Refused, Shown, Line, Head, RefusedLine, WidgetLine, CellLine, HeldLine, EndLine, cell_lines, slot_lines, kind_word, refs_text, line_words, line_text}
 use Rattle.reach_cert.specs.Machine.{State, Start, Between, Inside, is_free, named, at_widget, at_slot, at_cell, at_held, step_on, step, done}

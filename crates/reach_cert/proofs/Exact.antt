@@ -6,7 +6,7 @@ use Rattle.std.proofs.lemmas.Bool.Decides.{nat_tests}
 use Rattle.std.proofs.lemmas.List.{length-map}
 use Rattle.code_units.proofs.Signs.{and_both}
 use Rattle.exact_refusals.specs.Judge as machine
-use Rattle.plain_refusals.proofs.Plain as plain
+use Rattle.exact_refusals.proofs.Plain as plain
 use Rattle.reach_cert.specs.declared.fault.CertFault.{CertFault}
 use Rattle.reach_cert.specs.declared.fault.CertFault.TheVariants as fault
 use Rattle.reach_cert.specs.Certs.{Row, Slot, Refused, Shown, Line, HeldLine, EndLine, cell_lines, slot_lines, cert_lines, line_words, line_text, cert_text}

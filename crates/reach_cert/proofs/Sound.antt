@@ -10,8 +10,8 @@ use Rattle.std.proofs.lemmas.List.Folds.{list_all-append}
 use Rattle.std.proofs.lemmas.Slice.Eq.{bytes_eq-Decides}
 use Rattle.code_units.proofs.Signs.{and_both}
 use Rattle.exact_refusals.specs.Judge.{Read}
-use Rattle.plain_refusals.specs.Machine.{outcome, Closes, EachCloses}
-use Rattle.plain_refusals.proofs.Plain as plain
+use Rattle.exact_refusals.specs.Plain.{outcome, Closes, EachCloses}
+use Rattle.exact_refusals.proofs.Plain as plain
 use Rattle.reach_cert.specs.declared.cert.Ref.{Ref}
 use Rattle.reach_cert.specs.Certs.{Row, Slot, Refused, Shown, Line, Head, RefusedLine, WidgetLine, CellLine, HeldLine, EndLine, cell_lines, slot_lines, cert_lines, line_words, line_text}
 use Rattle.reach_cert.specs.Machine.{State, Start, Between, Inside, Over, is_free, named, at_slot, at_cell, step_on, step, done}

@@ -5,7 +5,7 @@ use Rattle.std.specs.Result.{IsErrAnd}
 use Rattle.std.proofs.lemmas.List.{length-map, map-append}
 use Rattle.std.specs.Str.{bytes_eq}
 use Rattle.exact_refusals.specs.Judge as machine
-use Rattle.plain_refusals.proofs.Plain as plain
+use Rattle.exact_refusals.proofs.Plain as plain
 use Rattle.reach_cert.specs.declared.cert.CellRow.{CellRow}
 use Rattle.reach_cert.specs.declared.cert.Ref.{Ref}
 use Rattle.reach_cert.specs.declared.fault.CertFault.{CertFault}

@@ -3,7 +3,7 @@ use Rattle.std.specs.Prelude.{◌≡◌, ◌<◌, ◌≤◌, ℕ, ◌+◌, Bool,
 use Rattle.std.specs.Str.{bytes_eq}
 use Rattle.exact_refusals.specs.Judge.{Outcome}
 use Rattle.exact_refusals.specs.Judge as machine
-use Rattle.plain_refusals.specs.Machine.{outcome}
+use Rattle.exact_refusals.specs.Plain.{outcome}
 use Rattle.reach_cert.specs.declared.fault.CertFault.{CertFault}
 use Rattle.reach_cert.specs.declared.fault.CertFault.TheVariants as fault
 use Rattle.reach_cert.specs.Certs.{Row, Slot, Refused, Shown}

@@ -2,7 +2,7 @@
 use Rattle.std.specs.Prelude.{◌≡◌, ◌≤◌, ℕ, suc, ◌^◌, ◌-◌, Bool, true, ◌&&◌, not, List, [], ◌∷◌, map, take, length, slice_index, nat_eq, nat_le, nat_lt, ◌==◌, if◌then◌else◌}
 use Rattle.std.specs.List.{list_all, list_any, onto_first}
 use Rattle.std.specs.Str.{bytes_eq}
-use Rattle.plain_refusals.specs.Places.{IsRefusedAt}
+use Rattle.exact_refusals.specs.Plain.{IsRefusedAt}
 use Rattle.reach_cert.specs.declared.cert.Ref.{Ref}
 use Rattle.reach_cert.specs.declared.cert.Ref.TheVariants.{Cell}
 use Rattle.reach_cert.specs.declared.fault.CertFault.{CertFault}

@@ -3,8 +3,8 @@ use Rattle.std.proofs.Common.{◌≡◌, ℕ, ◌⊎◌, inl, inr, List, [], ◌
 use Rattle.std.specs.Prelude.{◌==◌}
 use Rattle.std.specs.Str.{byte}
 use Rattle.exact_refusals.specs.Judge.{Outcome, Read}
-use Rattle.plain_refusals.specs.Machine.{outcome}
-use Rattle.plain_refusals.proofs.Plain as plain
+use Rattle.exact_refusals.specs.Plain.{outcome}
+use Rattle.exact_refusals.proofs.Plain as plain
 use Rattle.style_text.specs.Styles.{Pair, is_blank, is_used, is_once, is_value, Blanks, here, behind, SpellsPair, parts, SpellsPairs, empty, single, several, StyleSpells}
 use Rattle.style_text.specs.Machine.{State, Next, Name, Colon, Start, Value, After, is_free, fits, step, done, begin}
 use Rattle.style_text.proofs.Names.{no_listed, free_parts, free_made, free_fits, blank_ends, colon_ends, fits_no_blank, once_apart}

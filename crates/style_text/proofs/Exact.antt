@@ -3,7 +3,7 @@ use Rattle.std.proofs.Common.{◌≡◌, ℕ, ◌+◌, List, [], ◌∷◌, ◌+
 use Rattle.std.specs.Prelude.{codes}
 use Rattle.std.specs.List.{list_all}
 use Rattle.exact_refusals.specs.Judge.{Refused}
-use Rattle.plain_refusals.proofs.Plain as plain
+use Rattle.exact_refusals.proofs.Plain as plain
 use Rattle.style_text.specs.Styles.{Pair, is_pair, is_once, is_listed, is_value, print_style, here, behind, SpellsPair, parts, SpellsPairs, empty, single, several, StyleSpells, BadStylePlace}
 use Rattle.style_text.specs.Machine.{step, done, begin}
 use Rattle.style_text.proofs.Words.{and_parts, and_made}

@@ -4,7 +4,7 @@ use Rattle.std.specs.Prelude.{◌==◌, slice_range}
 use Rattle.std.specs.Str.{byte}
 use Rattle.std.proofs.lemmas.Bool.{cases_lt}
 use Rattle.exact_refusals.specs.Judge.{Read, Refused}
-use Rattle.plain_refusals.proofs.Plain as plain
+use Rattle.exact_refusals.proofs.Plain as plain
 use Rattle.style_text.specs.declared.StyleFault.{StyleFault}
 use Rattle.style_text.specs.declared.StyleFault.TheVariants as fault
 use Rattle.style_text.specs.Styles.{Pair, is_blank, is_value, Blanks, here, behind, StyleSpells, IsStyleFault}

@@ -3,8 +3,8 @@ use Rattle.std.proofs.Common.{◌≡◌, ℕ, ◌⊎◌, inl, inr, List, [], ◌
 use Rattle.std.specs.Prelude.{◌==◌}
 use Rattle.std.specs.Str.{byte}
 use Rattle.exact_refusals.specs.Judge.{Read}
-use Rattle.plain_refusals.specs.Machine.{Closes, EachCloses}
-use Rattle.plain_refusals.proofs.Plain as plain
+use Rattle.exact_refusals.specs.Plain.{Closes, EachCloses}
+use Rattle.exact_refusals.proofs.Plain as plain
 use Rattle.style_text.specs.Styles.{Pair, is_blank, is_listed, is_used, is_once, is_value, Blanks, here, behind, SpellsPair, parts, SpellsPairs, empty, single, several, StyleSpells}
 use Rattle.style_text.specs.Machine.{State, Next, Name, Colon, Start, Value, After, is_free, fits, after_name, after_pair, step, done, begin}
 use Rattle.style_text.proofs.Names.{free_parts, fits_free, once_more}

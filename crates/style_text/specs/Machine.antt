@@ -4,7 +4,7 @@ use Rattle.std.specs.List.{list_any}
 use Rattle.std.specs.Str.{byte}
 use Rattle.code_units.specs.Words.{begins_with}
 use Rattle.exact_refusals.specs.Judge.{Outcome}
-use Rattle.plain_refusals.specs.Machine.{outcome}
+use Rattle.exact_refusals.specs.Plain.{outcome}
 use Rattle.style_text.specs.Styles.{Pair, is_blank, properties, is_listed, is_used, is_value}
 
 -- Where the next unit stands. Each state has the pairs before it.

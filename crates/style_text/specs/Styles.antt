@@ -3,7 +3,7 @@ use Rattle.std.specs.Prelude.{◌≡◌, ℕ, ◌+◌, ◌-◌, Bool, true, fals
 use Rattle.std.specs.List.{list_any, list_all}
 use Rattle.std.specs.Int.{is_in_range}
 use Rattle.std.specs.Str.{bytes_eq, byte}
-use Rattle.plain_refusals.specs.Places.{IsRefusedAt}
+use Rattle.exact_refusals.specs.Plain.{IsRefusedAt}
 use Rattle.style_text.specs.declared.value.TheConstants.{LONGEST_VALUE}
 use Rattle.style_text.specs.declared.StyleFault.{StyleFault}
 use Rattle.style_text.specs.declared.StyleFault.TheVariants as fault

@@ -1,6 +1,6 @@
-use Rattle.plain_refusals.specs.Machine.{Reads}
-use Rattle.plain_refusals.proofs.Plain.{one_place, no_tree}
-use Rattle.plain_refusals.proofs.one_answer.Goals as goal
+use Rattle.exact_refusals.specs.Plain.{Reads}
+use Rattle.exact_refusals.proofs.Plain.{one_place, no_tree}
+use Rattle.exact_refusals.proofs.one_refusal.Goals as goal
 
 pub returns : goal.returns
 returns g c = record {

@@ -1,5 +1,6 @@
--- A machine that takes one token at a time and knows no depth.
-use Rattle.std.specs.Prelude.{◌≡◌, ℕ, List, [], ◌∷◌, Option, Some, None}
+-- Machines and grammars without depth: what comes of a text, and where it is refused.
+-- A text is a list of tokens, such as units or bytes. `Spells ts tree` says that these tokens are a whole text, and that they spell the tree.
+use Rattle.std.specs.Prelude.{◌≡◌, ℕ, suc, ◌≤◌, List, [], ◌∷◌, ◌++◌, Option, Some, None, length, take}
 use Rattle.exact_refusals.specs.Judge.{Outcome, judge, Read}
 
 -- the next state, and no depth for the token
@@ -27,3 +28,12 @@ Moves {State = State} step st (t ∷ ts) last = (next : State) × (step st t ≡
 -- each state that arises closes
 abbrev pub EachCloses : {Token State Tree : Type 0} → (State → Token → Option State) → (State → Option Tree) → State → Type 0
 EachCloses {Token = Token} {State = State} step done begin = (front : List Token) (last : State) → Moves step begin front last → Closes step done last
+
+-- The tokens before `at` begin a text, and no text begins with these and the token `at`.
+-- Where `at` is the length, the input begins a text and is none.
+pub record IsRefusedAt {Token Tree : Type 0} (Spells : List Token → Tree → Type 0) (input : List Token) (at : ℕ) : Type 0 where
+  pub more : List Token
+  pub tree : Tree
+  pub begins : Spells (take at input ++ more) tree
+  pub inside : at ≤ length input
+  pub refused : (ts : List Token) (other : Tree) → Spells ts other → take (suc at) ts ≡ take (suc at) input → ⊥

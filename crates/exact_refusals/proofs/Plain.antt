@@ -5,8 +5,7 @@ use Rattle.exact_refusals.specs.Places.{signs, Within}
 use Rattle.exact_refusals.specs.Judge as machine
 use Rattle.exact_refusals.specs.Judge.{Outcome, Read, Refused, Deeper}
 use Rattle.exact_refusals.proofs.Exact as exact
-use Rattle.plain_refusals.specs.Machine.{at_no_depth, outcome, Moves, Closes, EachCloses}
-use Rattle.plain_refusals.specs.Places.{IsRefusedAt}
+use Rattle.exact_refusals.specs.Plain.{at_no_depth, outcome, Moves, Closes, EachCloses, IsRefusedAt}
 
 -- tokens without depth
 abbrev flat : {Token : Type 0} → List Token → List (Token × ℕ)
