@@ -302,7 +302,8 @@ impl Flow {
     #[inline(always)]
     pub fn pop(&mut self) -> Option<Frame>
         ensures next { self.new.next ≡ self.old.next }
-        ensures popped { MatchOption result ((all_frames self.old ≡ []) × (all_frames self.new ≡ [])) (λ f. all_frames self.old ≡ all_frames self.new ++ f ∷ []) }
+        ensures popped { MatchOption result ((all_frames self.old ≡ []) × (all_frames self.new ≡ []))
+            (λ f. all_frames self.old ≡ all_frames self.new ++ f ∷ []) }
     {
         self.below = 0;
         self.frames.pop()

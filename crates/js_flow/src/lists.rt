@@ -213,7 +213,8 @@ fn finally_at(tree: &Tree, id: StmtId, n: usize) -> Option<StmtId>
 }
 
 fn caught_id(caught: &Option<(Text, Vec<StmtId>)>, n: usize) -> Option<StmtId>
-    ensures { (f : Forest) → AreCatch f caught.now → HasStmt f (stmt_list (catch_body (catch_at f caught.now))) n result }
+    ensures { (f : Forest) → AreCatch f caught.now
+        → HasStmt f (stmt_list (catch_body (catch_at f caught.now))) n result }
 {
     lists_agree();
     match caught {
@@ -245,7 +246,8 @@ fn body_at(tree: &Tree, id: FunId, n: usize) -> Option<StmtId>
 #[inline(always)]
 pub fn has_directive(tree: &Tree, id: FunId) -> bool
     requires { IsFun (trees tree.now) id }
-    ensures yes { IsTrue result → let l = stmt_list (body_of (fun_at (trees tree.now) id)) in without_directive l ≡ drop 1 l }
+    ensures yes { IsTrue result
+        → let l = stmt_list (body_of (fun_at (trees tree.now) id)) in without_directive l ≡ drop 1 l }
     ensures no { IsFalse result → let l = stmt_list (body_of (fun_at (trees tree.now) id)) in without_directive l ≡ l }
 {
     match body_at(tree, id, 0) {
@@ -258,7 +260,8 @@ pub fn has_directive(tree: &Tree, id: FunId) -> bool
 fn is_directive(tree: &Tree, id: StmtId) -> bool
     requires { IsStmt (trees tree.now) id }
     ensures yes { IsTrue result → (l : List plain.Stmt) → without_directive (stmt_at (trees tree.now) id ∷ l) ≡ l }
-    ensures no { IsFalse result → (l : List plain.Stmt) → without_directive (stmt_at (trees tree.now) id ∷ l) ≡ stmt_at (trees tree.now) id ∷ l }
+    ensures no { IsFalse result → (l : List plain.Stmt)
+        → without_directive (stmt_at (trees tree.now) id ∷ l) ≡ stmt_at (trees tree.now) id ∷ l }
 {
     match tree.stmt(id) {
         Stmt::Expr(e) => is_strict(tree, *e),
@@ -272,7 +275,8 @@ fn is_strict(tree: &Tree, e: ExprId) -> bool
     ensures yes { IsTrue result → (at : ℕ) (names : List ℕ) (l : List plain.Stmt)
         → without_directive (plain.StmtAt at names (plain.Only (expr_at (trees tree.now) e)) ∷ l) ≡ l }
     ensures no { IsFalse result → (at : ℕ) (names : List ℕ) (l : List plain.Stmt)
-        → without_directive (plain.StmtAt at names (plain.Only (expr_at (trees tree.now) e)) ∷ l) ≡ plain.StmtAt at names (plain.Only (expr_at (trees tree.now) e)) ∷ l }
+        → without_directive (plain.StmtAt at names (plain.Only (expr_at (trees tree.now) e)) ∷ l)
+        ≡ plain.StmtAt at names (plain.Only (expr_at (trees tree.now) e)) ∷ l }
 {
     match tree.expr(e) {
         Expr::Str(t) => is_word(t, b"use strict"),

@@ -23,7 +23,8 @@ pub fn compare(a: &Value, b: &Value) -> Compared
     requires right { IsPrimitive b.now }
     requires within { is_some (order (plain a.now) (plain b.now)) ≡ true }
     ensures order { order (plain a.now) (plain b.now) ≡ Some result }
-    ensures means { (op : BinOp) → is_comparison op ≡ true → operators.binary op (plain a.now) (plain b.now) ≡ operators.truth (holds op result) }
+    ensures means { (op : BinOp) → is_comparison op ≡ true
+        → operators.binary op (plain a.now) (plain b.now) ≡ operators.truth (holds op result) }
 {
     match order(a, b) {
         Some(compared) => compared,

@@ -58,7 +58,8 @@ impl Meter {
 
     /// Takes fuel. `OutOfFuel` comes exactly where more is asked than is left; then nothing is taken.
     pub fn take(&mut self, n: u32) -> Result<(), OutOfFuel>
-        ensures ok { OnOk result ((n ≤ self.old.left) × (self.new.left + n ≡ self.old.left) × (self.new.spent ≡ self.old.spent + n)) }
+        ensures ok { OnOk result ((n ≤ self.old.left) × (self.new.left + n ≡ self.old.left)
+            × (self.new.spent ≡ self.old.spent + n)) }
         ensures err { IfErr result (λ e. (e.left ≡ self.old.left) × (e.asked ≡ n) × (self.old.left < n)) }
         ensures same { OnErr result (self.new ≡ self.old) }
     {

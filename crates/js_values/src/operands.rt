@@ -98,7 +98,8 @@ pub fn to_number(v: &Value) -> OpOut
 /// The name of a value's type, as `typeof` gives it. Whether an object is a function the caller
 /// knows by its cell.
 pub fn type_name(alloc: Global, v: &Value, function: bool) -> Result<Text, Memory>
-    ensures { IfOk result (λ t. (w : ℕ) (cells : List PlainCell) → t ≡ operators.type_name function (seen w cells v.now)) }
+    ensures { IfOk result (λ t. (w : ℕ) (cells : List PlainCell)
+        → t ≡ operators.type_name function (seen w cells v.now)) }
 {
     word(alloc, type_word(v, function))
 }

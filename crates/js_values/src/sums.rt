@@ -129,7 +129,8 @@ const LONGEST: usize = 65536;
 fn join(alloc: Global, a: &Value, b: &Value) -> Result<OpOut, Memory>
     requires left { IsPrimitive a.now }
     requires right { IsPrimitive b.now }
-    ensures value { IfOk result (λ o. meant_out o ≡ operators.text (meaning.to_text (plain a.now) ++ meaning.to_text (plain b.now))) }
+    ensures value { IfOk result
+        (λ o. meant_out o ≡ operators.text (meaning.to_text (plain a.now) ++ meaning.to_text (plain b.now))) }
     ensures plain { IfOk result (λ o. IsPlainOut o) }
 {
     let left = least_len(a);

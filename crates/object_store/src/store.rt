@@ -780,7 +780,8 @@ impl Store {
         requires pairs { AreFirstPairs self.old.cells (first_values first.now) }
         ensures ok { IfOk result (λ id. Adds self.old self.new w id
             (scope_cell w outer (first_values first.now) ∷ []) 0 (length (first_values first.now) + 1)) }
-        ensures err { IfErr result (λ e. Refuses e (cost_refusal self.old.kept w 0 (length (first_values first.now) + 1))) }
+        ensures err { IfErr result
+            (λ e. Refuses e (cost_refusal self.old.kept w 0 (length (first_values first.now) + 1))) }
         ensures same { OnErr result (self.new ≡ self.old) }
 
         // The widget sees the scope, and another has what it had.
@@ -808,7 +809,8 @@ impl Store {
         requires pairs { AreFirstPairs self.old.cells (first_values first.now) }
         ensures ok { IfOk result (λ id. Adds self.old self.new w id
             (scope_cell w outer (first_values first.now) ∷ []) 0 (length (first_values first.now) + 1)) }
-        ensures err { IfErr result (λ e. Refuses e (cost_refusal self.old.kept w 0 (length (first_values first.now) + 1))) }
+        ensures err { IfErr result
+            (λ e. Refuses e (cost_refusal self.old.kept w 0 (length (first_values first.now) + 1))) }
         ensures same { OnErr result (self.new ≡ self.old) }
     {
         let slots = counts::afford(&self.kept, w, 0, call_slots(first))?;

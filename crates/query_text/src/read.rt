@@ -88,7 +88,8 @@ fn attribute_at(alloc: Global, units: &[u16], at: usize) -> Result<(StepFilter, 
     requires { at ≤ length units.now }
     ensures { MatchResult result
         (λ r. IsFilterBehind units.now (byte "[") at r.0 r.1)
-        (λ e. (steps : List Step) (hunter : Found) (filters : List Sifter) → Refuses units.now (Attribute steps hunter filters) at e) }
+        (λ e. (steps : List Step) (hunter : Found) (filters : List Sifter)
+        → Refuses units.now (Attribute steps hunter filters) at e) }
 {
     let (word, end) = word_at(alloc, units, at)?;
     if stands(units, end, CLOSE) {
@@ -124,7 +125,8 @@ fn keyword_by_units(units: &[u16], at: usize) -> Result<(StepFilter, usize), Que
     requires { at ≤ length units.now }
     ensures { MatchResult result
         (λ r. IsFilterBehind units.now (byte ":") at r.0 r.1)
-        (λ e. (steps : List Step) (hunter : Found) (filters : List Sifter) → Refuses units.now (Keyword steps hunter filters []) at e) }
+        (λ e. (steps : List Step) (hunter : Found) (filters : List Sifter)
+        → Refuses units.now (Keyword steps hunter filters []) at e) }
 {
     let mut end = at;
     'keyword: while end < units.len() {
@@ -146,7 +148,8 @@ fn keyword_at(units: &[u16], at: usize) -> Result<(StepFilter, usize), QueryFaul
     requires { at ≤ length units.now }
     ensures { MatchResult result
         (λ r. IsFilterBehind units.now (byte ":") at r.0 r.1)
-        (λ e. (steps : List Step) (hunter : Found) (filters : List Sifter) → Refuses units.now (Keyword steps hunter filters []) at e) }
+        (λ e. (steps : List Step) (hunter : Found) (filters : List Sifter)
+        → Refuses units.now (Keyword steps hunter filters []) at e) }
 {
     match whole_keyword_at(units, at) {
         Some(found) => Ok(found),
@@ -160,7 +163,8 @@ fn filter_at(alloc: Global, units: &[u16], at: usize) -> Result<(StepFilter, usi
     requires mark { goes_on is_mark (drop at units.now) ≡ true }
     ensures { MatchResult result
         (λ r. IsFilterAt units.now at r.0 r.1)
-        (λ e. (steps : List Step) (hunter : Found) (filters : List Sifter) → Refuses units.now (Inside steps hunter filters) at e) }
+        (λ e. (steps : List Step) (hunter : Found) (filters : List Sifter)
+        → Refuses units.now (Inside steps hunter filters) at e) }
 {
     let unit = units[at];
     if unit == OPEN {
@@ -219,7 +223,8 @@ fn has_none(steps: &[QueryStep]) -> bool
 // The query that the units spell.
 fn read_units(alloc: Global, units: &[u16]) -> Result<Query, QueryFault>
     ensures query { IfOk result (λ query. QuerySpells units.now query) }
-    ensures only { (steps : List Step) → QuerySpells units.now steps → MatchResult result (λ query. query ≡ steps) (λ e. e ≡ fault.Memory) }
+    ensures only { (steps : List Step) → QuerySpells units.now steps
+        → MatchResult result (λ query. query ≡ steps) (λ e. e ≡ fault.Memory) }
     ensures place { IfErr result (λ e. IsQueryFault units.now e) }
 {
     let mut steps = Vec::new(alloc);
@@ -247,7 +252,8 @@ pub fn read_query(alloc: Global, text: &Text) -> Result<Query, QueryFault>
     // The query is the one that the text spells.
     ensures query { IfOk result (λ query. QuerySpells text.now query) }
     // Where it spells one, it is read, unless memory runs out.
-    ensures only { (steps : List Step) → QuerySpells text.now steps → MatchResult result (λ query. query ≡ steps) (λ e. e ≡ fault.Memory) }
+    ensures only { (steps : List Step) → QuerySpells text.now steps
+        → MatchResult result (λ query. query ≡ steps) (λ e. e ≡ fault.Memory) }
     // The place of a refusal is exact.
     ensures place { IfErr result (λ e. IsQueryFault text.now e) }
 {
