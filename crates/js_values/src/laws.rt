@@ -24,14 +24,14 @@ pub fn primitives()
 /// answered with want of fuel, and nothing is taken. What comes after the native goes on from what
 /// is left.
 pub fn answers()
-    ensures free { (see : StoreValue → Value) (node : ℕ
-        → ℕ) (d : ℕ) (s t : State) (o : NativeOut) (q : Plan) (before left : ℕ)
+    ensures free { (see : StoreValue → Value) (node : ℕ → ℕ)
+        (d : ℕ) (s t : State) (o : NativeOut) (q : Plan) (before left : ℕ)
         → before ≡ left → Leaves see node d o t q → Answers see node d q s o t before left }
-    ensures charged { (see : StoreValue → Value) (node : ℕ
-        → ℕ) (d : ℕ) (s t : State) (o : NativeOut) (n : ℕ) (q : Plan) (before left : ℕ)
+    ensures charged { (see : StoreValue → Value) (node : ℕ → ℕ)
+        (d : ℕ) (s t : State) (o : NativeOut) (n : ℕ) (q : Plan) (before left : ℕ)
         → before ≡ n + left → Leaves see node d o t q → Answers see node d (charge n s q) s o t before left }
-    ensures lacking { (see : StoreValue → Value) (node : ℕ
-        → ℕ) (d : ℕ) (s t : State) (n : ℕ) (q : Plan) (before left : ℕ)
+    ensures lacking { (see : StoreValue → Value) (node : ℕ → ℕ)
+        (d : ℕ) (s t : State) (n : ℕ) (q : Plan) (before left : ℕ)
         → before < n → left ≡ before → Answers see node d (charge n s q) s native.OutOfFuel t before left }
     ensures after { (p q : Plan) (s : State) (c : ℕ) (k : Completion → State → Plan) → Goes p s c q
         → (g : ℕ) → run_plan (c + g) (and_then p k) ≡ run_plan g (and_then q k) }

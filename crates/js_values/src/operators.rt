@@ -55,9 +55,8 @@ pub fn binary(alloc: Global, op: BinOp, a: &Value, b: &Value) -> Result<OpOut, M
 }
 
 /// A prefix operator: `+` and `-` on a primitive, `!` on any value; `Left` exactly where the number
-/// is outside the numbers. It takes no memory; `-` answers a number outside the
-/// language's, which no widget has, with `Memory`. `typeof` is `type_name`, `delete` a call of the store, and
-/// no accepted tree has the
+/// is outside the numbers. It takes no memory; `-` answers a number outside the language's, which no widget
+/// has, with `Memory`. `typeof` is `type_name`, `delete` a call of the store, and no accepted tree has the
 /// others.
 pub fn unary(op: UnOp, v: &Value) -> Result<OpOut, Memory>
     requires operand { IsPrefixed op v.now }
