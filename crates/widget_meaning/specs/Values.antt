@@ -35,17 +35,29 @@ pub data Completion : Type 0 where
 
 -- the faults that the language throws
 pub data Fault : Type 0 where
+  -- no property of undefined or null
   E1 : Fault
+  -- not a function
   E2 : Fault
+  -- bad receiver
   E3 : Fault
+  -- bad argument
   E4 : Fault
+  -- closed object
   E5 : Fault
+  -- no primitive value
   E6 : Fault
+  -- bad length
   E7 : Fault
+  -- bad name
   E8 : Fault
+  -- bad query
   E9 : Fault
+  -- bad place in the page
   E10 : Fault
+  -- too many timers
   E11 : Fault
+  -- chain too long
   E12 : Fault
 
 -- what ends a widget for good, beside want of fuel
