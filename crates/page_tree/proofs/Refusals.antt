@@ -22,7 +22,7 @@ use Rattle.page_nodes.proofs.Lists.{or_none}
 use Rattle.page_nodes.proofs.Owners.{same_is}
 use Rattle.page_tree.proofs.Numbers.{number_not}
 use Rattle.page_nodes.proofs.Shows.{tree_low, tree_lower}
-use Rattle.page_nodes.proofs.Upward.{below_parent, level_height}
+use Rattle.page_nodes.proofs.Upward.{level_height}
 
 -- `body` is a root
 pub not_body : (k : List Entry) (roots : List (Option ℕ)) → IsSound k → IsRooted k roots → (n : ℕ) → (root_in roots (at k n).owner ≡ Some n → ⊥) → n ≡ body → ⊥
@@ -71,15 +71,20 @@ some_deep k t d ns s other h lt =
 pub opened : (k : List Entry) (t d h : ℕ) → is_leaf (at k t).label ≡ false → IsDepth k t d → d + h ≤ limit → IsOpen k t h
 opened k t d h leaf depth le = (leaf, (d, depth, le))
 
+none_within : (f : ℕ → Bool) (ns : List ℕ) → list_any f ns ≡ false → (i : ℕ) → i < length ns → f (slice_index ns i) ≡ false
+none_within f [] e i lt = absurd (omega (arith, lt))
+none_within f (n ∷ ns) e zero lt = (or_none (f n) (list_any f ns) e).0
+none_within f (n ∷ ns) e (suc i) lt = none_within f ns ((or_none (f n) (list_any f ns) e).1) i (omega (arith, lt))
+
 -- nodes that have the targets' owner and no target in their trees, and open targets
-pub all_taken : (k : List Entry) (root : Owner → Option ℕ) (o : Owner) (ts ns os : List ℕ) (b : Bool)
+pub all_taken : (k : List Entry) (root : Owner → Option ℕ) (o : Owner) (ts ns os : List ℕ) (h : ℕ) (b : Bool)
     → ((j : ℕ) → j < length ts → (at k (slice_index ts j)).owner ≡ o)
     → ((i : ℕ) → i < length ns → IsOwn k root o (slice_index ns i))
     → IsPermutation ns os → list_any (λ t. list_any (λ n. has t (tree k n)) os) ts ≡ false
-    → IsSound k → ((i : ℕ) → i < length ns → slice_index ns i ≡ body → ⊥)
-    → MatchBool b ((j : ℕ) → j < length ts → IsOpen k (slice_index ts j) (highest k ns)) (SomeNode ts (λ t. IsNotOpen k t (highest k ns)))
+    → IsSound k → ((i : ℕ) → i < length ns → slice_index ns i ≡ body → ⊥) → h ≡ highest k ns
+    → MatchBool b ((j : ℕ) → j < length ts → IsOpen k (slice_index ts j) h) (SomeNode ts (λ t. IsNotOpen k t h))
     → MatchBool b ((j : ℕ) → j < length ts → MayPutAll k root (slice_index ts j) ns) (SomeNode ts (MayNotPutAll k root ns))
-all_taken k root o ts ns os true owned own perm none s other free = λ j lt.
+all_taken k root o ts ns os h true owned own perm none s other e free = λ j lt.
     let t = slice_index ts j in
     let here = free j lt in
     record {
@@ -89,14 +94,16 @@ all_taken k root o ts ns os true owned own perm none s other free = λ j lt.
         owner = (own i l).0 ∙ sym (owned j lt);
         no_root = (own i l).1;
       };
-      low = all_low k t (here.1) ns (here.2) (here.3);
+      low = all_low k t (here.1.0) ns (here.1.1) (omega (arith, here.1.2, e));
     }
-all_taken k root o ts ns os false owned own perm none s other shut =
-    (shut.0, shut.1, ⊎_elim (λ leaf. inl (inl leaf)) (λ deep. inr (some_deep k (slice_index ts (shut.0)) (deep.0) ns s other (deep.1) (deep.2))) (shut.2))
-
--- one of several nodes has another owner, or is a root: no target takes it
-pub some_other : (k : List Entry) (root : Owner → Option ℕ) (o : Owner) (ts ns : List ℕ) → ((j : ℕ) → j < length ts → (at k (slice_index ts j)).owner ≡ o) → 0 < length ts → SomeNode ns (IsNotOwn k root o) → SomeNode ts (MayNotPutAll k root ns)
-some_other k root o ts ns owned some h = (0, some, inl (inr (h.0, h.1, inr (⊎_elim (λ ne. inl (λ e. ne (e ∙ owned 0 some))) (λ r. inr r) (h.2)))))
+all_taken k root o ts ns os h false owned own perm none s other e shut = (
+  shut.0,
+  shut.1,
+  ⊎_elim
+      (λ leaf. inl (inl leaf))
+      (λ deep. inr (some_deep k (slice_index ts (shut.0)) (deep.0) ns s other (deep.1) (omega (arith, deep.2, e))))
+      (shut.2),
+)
 
 -- a target stands in the tree of one of them
 pub some_above : (k : List Entry) (root : Owner → Option ℕ) (ts ns os : List ℕ) → IsPermutation ns os → list_any (λ t. list_any (λ n. has t (tree k n)) os) ts ≡ true → SomeNode ts (MayNotPutAll k root ns)
@@ -117,11 +124,6 @@ some_within k root t ns e = of ns e
     of : (ms : List ℕ) → list_any (λ n. has t (tree k n)) ms ≡ true → SomeNode ms (IsNotInside k root t)
     of [] h = cc
     of (m ∷ ms) h = ⊎_elim (λ q. (0, omega arith, inl q)) (λ q. let r = of ms q in (suc (r.0), omega (arith, r.1), r.2)) (or_cases (has t (tree k m)) (list_any (λ n. has t (tree k n)) ms) h)
-
-none_within : (f : ℕ → Bool) (ns : List ℕ) → list_any f ns ≡ false → (i : ℕ) → i < length ns → f (slice_index ns i) ≡ false
-none_within f [] e i lt = absurd (omega (arith, lt))
-none_within f (n ∷ ns) e zero lt = (or_none (f n) (list_any f ns) e).0
-none_within f (n ∷ ns) e (suc i) lt = none_within f ns ((or_none (f n) (list_any f ns) e).1) i (omega (arith, lt))
 
 -- none of them is, and the others are judged by their owner
 pub all_inside : (k : List Entry) (root : Owner → Option ℕ) (t : ℕ) (ns : List ℕ) (o : Owner) (b : Bool) → o ≡ (at k t).owner → list_any (λ n. has t (tree k n)) ns ≡ false
