@@ -1,5 +1,5 @@
 -- Which targets take nodes, as the page judges it for several at once.
-use Rattle.std.proofs.Common.{◌≡◌, ℕ, zero, suc, ◌<◌, List, [], ◌∷◌, Bool, true, false, ◌&&◌, sym, ap, ◌∙◌, arith, length, map, ⊎_elim}
+use Rattle.std.proofs.Common.{◌≡◌, ℕ, zero, suc, ◌<◌, List, [], ◌∷◌, Bool, true, false, ◌&&◌, sym, ap, ◌∙◌, refl, arith, length, map, ⊎_elim}
 use Rattle.std.specs.Prelude.{MatchBool, slice_index}
 use Rattle.std.specs.List.{list_all}
 use Rattle.code_units.specs.declared.owner.Owner.TheVariants as owner

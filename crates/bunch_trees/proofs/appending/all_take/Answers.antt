@@ -11,5 +11,5 @@ may_append_to-requires-clause-owned c = widgets_own c.args.page.now c.args.w c.a
 pub may_append_to-requires-clause-news : goal.may_append_to-requires-clause-news
 may_append_to-requires-clause-news c = are_nodes c.args.page.now c.args.w c.args.news.now c.requires.news
 
-pub returns-in_ok-in_order : goal.returns-in_ok-in_order
-returns-in_ok-in_order c = all_judged c.args.page.now c.args.w c.requires.home c.args.targets.now c.args.news.now c.requires.targets c.requires.news c.may_append_to.result c.may_append_to.ensures
+pub returns : goal.returns
+returns c = all_judged c.args.page.now c.args.w c.requires.home c.args.targets.now c.args.news.now c.requires.targets c.requires.news c.may_append_to.result c.may_append_to.ensures
