@@ -8,8 +8,8 @@ use Rattle.reach_cert.specs.declared.fault.CertFault.{CertFault}
 use Rattle.reach_cert.specs.declared.fault.CertFault.TheVariants as fault
 use Rattle.reach_cert.specs.Walks.{IsConfined, first_leak}
 use Rattle.run_steps.specs.declared.ending.Status.TheVariants as status
-use Rattle.run_steps.specs.declared.reading.Stop.{Stop}
-use Rattle.run_steps.specs.declared.reading.Stop.TheVariants as stop
+use Rattle.run_steps.specs.declared.reading.NoReport.{NoReport}
+use Rattle.run_steps.specs.declared.reading.NoReport.TheVariants as stop
 use Rattle.run_steps.specs.Ends.{IsAnswerStop}
 use Rattle.adhost_run.specs.declared.reports.Report.{Report}
 use Rattle.adhost_run.specs.Answer.{ending, CertAnswer, keeps, leaks, bad_certificate, IsCertStop, confined_line, leak_line}
@@ -42,7 +42,7 @@ module _ (leak : Option ℕ) where
   leak_report_of line some (Ok t) how = λ slots is first. leak_answer (cert_text slots) slots line is refl (sym first ∙ some) t.refused t.bytes.items (how.0, how.1)
   leak_report_of line some (Err e) how = tt
 
-cert_stop : (bytes : List ℕ) (e : Stop) → IsCertStop bytes e → IsAnswerStop (CertAnswer bytes) e
+cert_stop : (bytes : List ℕ) (e : NoReport) → IsCertStop bytes e → IsAnswerStop (CertAnswer bytes) e
 cert_stop bytes stop.BadManifest is = absurd is
 cert_stop bytes stop.BadTrace is = absurd is
 cert_stop bytes stop.TooLarge is = absurd is
@@ -51,7 +51,7 @@ cert_stop bytes stop.Memory is = tt
 cert_stop bytes stop.CertTooLarge is = absurd is
 cert_stop bytes stop.BadCert is = is
 
-cert_read : (bytes : List ℕ) (e : Stop) → IsCertStop bytes e → IsErrOf {T = Report} (Err e) stop.ReadFault → ⊥
+cert_read : (bytes : List ℕ) (e : NoReport) → IsCertStop bytes e → IsErrOf {T = Report} (Err e) stop.ReadFault → ⊥
 cert_read bytes stop.BadManifest is failed = absurd is
 cert_read bytes stop.BadTrace is failed = absurd is
 cert_read bytes stop.TooLarge is failed = absurd is
@@ -62,6 +62,6 @@ cert_read bytes stop.BadCert is failed = let e = failed in cc
 
 module _ {F : Type 0} (told : F → Option FileMap) (calm : F → Type 0) (faults : F → ℕ) where
   -- what is answered on the bytes of a file
-  pub cert_answered : {a : F} (shown bytes : List ℕ) → shown ≡ bytes → (r : Result Report Stop) → IfOk r (λ t. CertAnswer shown (ending t.refused) t.bytes.items) → IfErr r (IsCertStop shown) → Answered told calm faults a a r (λ m. CertAnswer bytes) (λ m. Unit {0})
+  pub cert_answered : {a : F} (shown bytes : List ℕ) → shown ≡ bytes → (r : Result Report NoReport) → IfOk r (λ t. CertAnswer shown (ending t.refused) t.bytes.items) → IfErr r (IsCertStop shown) → Answered told calm faults a a r (λ m. CertAnswer bytes) (λ m. Unit {0})
   cert_answered {a} shown bytes same (Ok t) ok stops = reported told calm faults t (λ m. CertAnswer bytes) (λ m. Unit {0}) (λ m. subst (λ b. CertAnswer b (ending t.refused) t.bytes.items) same ok)
   cert_answered {a} shown bytes same (Err e) ok stops = stopped_here told calm faults e (λ m. CertAnswer bytes) (λ m. Unit {0}) (cert_read shown e stops) (λ m. subst (λ b. IsAnswerStop (CertAnswer b) e) same (cert_stop shown e stops))

@@ -4,8 +4,8 @@ use Rattle.host_io.specs.Files.{FileMap}
 use Rattle.host_io.specs.Sink.{with_bytes}
 use Rattle.run_steps.specs.declared.ending.Status.{Status}
 use Rattle.run_steps.specs.declared.ending.Status.TheVariants as status
-use Rattle.run_steps.specs.declared.reading.Stop.{Stop}
-use Rattle.run_steps.specs.declared.reading.Stop.TheVariants as stop
+use Rattle.run_steps.specs.declared.reading.NoReport.{NoReport}
+use Rattle.run_steps.specs.declared.reading.NoReport.TheVariants as stop
 use Rattle.run_steps.specs.Request.{Request, Asks, IsForm}
 use Rattle.run_steps.specs.Reading.{HasFilesFor, HasFiles}
 use Rattle.adhost_run.specs.Answer.{ending, RequestAnswer, Answer, of_request, usage, Wrote, WrotePart}
@@ -30,7 +30,7 @@ module _ (A B : FileMap → Answers) (more : (m : FileMap) (s : Status) (b : Lis
   pass_report None s b is = is
   pass_report (Some m) s b is = more m s b is
 
-  pub pass_stop : (told : Option FileMap) (e : Stop) → IfSome told (λ m. IsAnswerStop (A m) e) → IfSome told (λ m. IsAnswerStop (B m) e)
+  pub pass_stop : (told : Option FileMap) (e : NoReport) → IfSome told (λ m. IsAnswerStop (A m) e) → IfSome told (λ m. IsAnswerStop (B m) e)
   pass_stop told e is = told_stop (λ m s. A m s []) (λ m s. B m s []) (λ m s it. more m s [] it) told e is
 
 -- no bytes more
@@ -51,7 +51,7 @@ pub sink_stays : {S : Type 0} (faults : S → ℕ) {sink : S} {Failed Enough : T
 sink_stays faults never = record { count = omega arith; cause = λ failed. absurd (never failed); no_rise = λ is. refl; no_fault = λ is. never }
 
 -- there is no report
-pub stop_answer : (told : Option FileMap) (words : List (List ℕ)) (e : Stop) (held : Option (List ℕ)) → IfSome told (λ m. IsAnswerStop (Answer words m) e) → is_answer (status_of e) ≡ true → IfSome told (λ m. Wrote (Answer words m (status_of e)) held held)
+pub stop_answer : (told : Option FileMap) (words : List (List ℕ)) (e : NoReport) (held : Option (List ℕ)) → IfSome told (λ m. IsAnswerStop (Answer words m) e) → is_answer (status_of e) ≡ true → IfSome told (λ m. Wrote (Answer words m (status_of e)) held held)
 stop_answer None words e held given is = tt
 stop_answer (Some m) words stop.BadManifest held given is = record { bytes = []; answer = given; appended = nothing_more held }
 stop_answer (Some m) words stop.BadTrace held given is = record { bytes = []; answer = given; appended = nothing_more held }
@@ -61,10 +61,10 @@ stop_answer (Some m) words stop.BadCert held given is = record { bytes = []; ans
 stop_answer (Some m) words stop.ReadFault held given is = cc
 stop_answer (Some m) words stop.Memory held given is = cc
 
-pub stop_is_usage : (words : List (List ℕ)) (q : Request) (e : Stop) → Asks words q → (status_of e ≡ status.Usage) ↔ (IsForm words → ⊥)
+pub stop_is_usage : (words : List (List ℕ)) (q : Request) (e : NoReport) → Asks words q → (status_of e ≡ status.Usage) ↔ (IsForm words → ⊥)
 stop_is_usage words q e asks = (λ is. absurd (stop_usage e is), λ none. absurd (none (record { request = q; asks = asks })))
 
-pub stop_complete : (told : Option FileMap) (words : List (List ℕ)) (e : Stop) (calm : Type 0) (room : ℕ) → IfSome told (λ m. IsAnswerStop (Answer words m) e) → (calm → IsSomeAnd told (HasFiles words) → status_of e ≡ status.ReadFault → ⊥) → IfSome told (λ m. calm → HasFiles words m → Completes (Answer words m) room (status_of e))
+pub stop_complete : (told : Option FileMap) (words : List (List ℕ)) (e : NoReport) (calm : Type 0) (room : ℕ) → IfSome told (λ m. IsAnswerStop (Answer words m) e) → (calm → IsSomeAnd told (HasFiles words) → status_of e ≡ status.ReadFault → ⊥) → IfSome told (λ m. calm → HasFiles words m → Completes (Answer words m) room (status_of e))
 stop_complete None words e calm room given never = tt
 stop_complete (Some m) words stop.BadManifest calm room given never = λ is has. answered given
 stop_complete (Some m) words stop.BadTrace calm room given never = λ is has. answered given
@@ -74,7 +74,7 @@ stop_complete (Some m) words stop.BadCert calm room given never = λ is has. ans
 stop_complete (Some m) words stop.ReadFault calm room given never = λ is has. absurd (never is has refl)
 stop_complete (Some m) words stop.Memory calm room given never = λ is has. no_memory
 
-pub stop_not_whole : {P : Type 0} (e : Stop) → is_whole (status_of e) ≡ true → P
+pub stop_not_whole : {P : Type 0} (e : NoReport) → is_whole (status_of e) ≡ true → P
 stop_not_whole stop.BadManifest is = cc
 stop_not_whole stop.BadTrace is = cc
 stop_not_whole stop.TooLarge is = cc

@@ -40,8 +40,8 @@ use Rattle.page_play.specs.Settled.{IsSettled}
 use Rattle.page_play.specs.Told.{AreBegun, IsAudit, IsFound}
 use Rattle.slot_laws.specs.Chains.{last_at}
 use Rattle.run_steps.specs.declared.ending.Status.TheVariants as status
-use Rattle.run_steps.specs.declared.reading.Stop.{Stop}
-use Rattle.run_steps.specs.declared.reading.Stop.TheVariants as stop
+use Rattle.run_steps.specs.declared.reading.NoReport.{NoReport}
+use Rattle.run_steps.specs.declared.reading.NoReport.TheVariants as stop
 use Rattle.run_steps.specs.Ends.{IsAnswerStop}
 use Rattle.run_steps.specs.Items as steps
 use Rattle.run_steps.specs.Page.{cert_limit, files_swapped, slot_names, parts}
@@ -270,7 +270,7 @@ module _ (manifest : Manifest) (sources : List Source) (items : List TraceItem) 
   found_ran = record { spec = is.spec; swaps = is.swaps; items = map said items; runs = runs_of manifest sources; files = files; played = is.played; findings = is.found }
 
   -- where nothing is written of it
-  pub late_answer : (what : Writes) (e : Stop) → IsLateStop ran what e → IsAnswerStop (PlayAnswer what manifest sources items files) e
+  pub late_answer : (what : Writes) (e : NoReport) → IsLateStop ran what e → IsAnswerStop (PlayAnswer what manifest sources items files) e
   late_answer what stop.BadManifest late = absurd late
   late_answer what stop.BadTrace late = absurd late
   late_answer what stop.TooLarge late = absurd late
@@ -279,7 +279,7 @@ module _ (manifest : Manifest) (sources : List Source) (items : List TraceItem) 
   late_answer what stop.CertTooLarge late = late manifest sources items files slice is
   late_answer what stop.BadCert late = absurd late
 
-pub late_read : {T : Type 0} (ran : Ran) (what : Writes) (e : Stop) → IsLateStop ran what e → IsErrOf {T = T} (Err e) stop.ReadFault → ⊥
+pub late_read : {T : Type 0} (ran : Ran) (what : Writes) (e : NoReport) → IsLateStop ran what e → IsErrOf {T = T} (Err e) stop.ReadFault → ⊥
 late_read ran what stop.BadManifest late failed = absurd late
 late_read ran what stop.BadTrace late failed = absurd late
 late_read ran what stop.TooLarge late failed = absurd late
@@ -290,13 +290,13 @@ late_read ran what stop.BadCert late failed = absurd late
 
 -- what is said of a report on it
 module _ {F : Type 0} (told : F → Option FileMap) (calm : F → Type 0) (faults : F → ℕ) (manifest : Manifest) (sources : List Source) (items : List TraceItem) (files : List Source) (slice : ℕ) (ran : Ran) (is : IsRan manifest sources items files slice ran) (what : Writes) where
-  pub ran_answered : {a : F} (r : Result Report Stop)
+  pub ran_answered : {a : F} (r : Result Report NoReport)
       → IfOk r (λ t. (m : Manifest) (ss : List Source) (xs : List TraceItem) (fs : List Source) (k : ℕ) → IsRan m ss xs fs k ran → PlayAnswer what m ss xs fs (ending t.refused) t.bytes.items)
       → IfErr r (IsLateStop ran what) → Answered told calm faults a a r (λ m. PlayAnswer what manifest sources items files) (λ m. Unit {0})
   ran_answered {a} (Ok t) answer late = reported told calm faults t (λ m. PlayAnswer what manifest sources items files) (λ m. Unit {0}) (λ m. answer manifest sources items files slice is)
   ran_answered {a} (Err e) answer late = stopped_here told calm faults e (λ m. PlayAnswer what manifest sources items files) (λ m. Unit {0}) (late_read ran what e late) (λ m. late_answer manifest sources items files slice ran is what e late)
 
 -- and the host that is left with it
-pub ran_left : (told : Option FileMap) (manifest : Manifest) (sources : List Source) (items : List TraceItem) (files : List Source) (slice : ℕ) (ran : Ran) → IsRan manifest sources items files slice ran → (r : Result Report Stop) → IfOk r (λ t. t.host ≡ Some ran.host) → IsLeft told r (λ m. IsStageOf slice manifest sources items files)
+pub ran_left : (told : Option FileMap) (manifest : Manifest) (sources : List Source) (items : List TraceItem) (files : List Source) (slice : ℕ) (ran : Ran) → IsRan manifest sources items files slice ran → (r : Result Report NoReport) → IfOk r (λ t. t.host ≡ Some ran.host) → IsLeft told r (λ m. IsStageOf slice manifest sources items files)
 ran_left told manifest sources items files slice ran is (Ok t) host = left_here told (λ m h. IsStageOf slice manifest sources items files h) t.host (λ m. subst (IsStageOf slice manifest sources items files) (sym host) is.stage)
 ran_left told manifest sources items files slice ran is (Err e) host = tt

@@ -2,8 +2,8 @@
 use Rattle.std.proofs.Common.{◌≡◌, ℕ, ◌≤◌, List, [], length, Option, Some, None, IsSome, IfSome, Ok, Err, IsErrOf, refl, sym, ap, subst, ◌∙◌, Bool, true, false}
 use Rattle.host_io.specs.Files.{FileMap, IsThere}
 use Rattle.run_steps.specs.declared.ending.Status.{Status}
-use Rattle.run_steps.specs.declared.reading.Stop.{Stop}
-use Rattle.run_steps.specs.declared.reading.Stop.TheVariants as stop
+use Rattle.run_steps.specs.declared.reading.NoReport.{NoReport}
+use Rattle.run_steps.specs.declared.reading.NoReport.TheVariants as stop
 use Rattle.adhost_run.specs.declared.reports.Asked.{Asked}
 use Rattle.adhost_run.specs.declared.reports.Asked.TheVariants as asked
 use Rattle.adhost_run.specs.declared.reports.Report.{Report}
@@ -26,7 +26,7 @@ report_of (Some m) what name file bytes refused there within written = report re
 
 module _ {F : Type 0} (told : F → Option FileMap) (calm : F → Type 0) (faults : F → ℕ) (what : Asked) (name : List ℕ) where
   -- it was not read
-  pub no_library : {T : Type 0} {a b : F} {e : Stop} → IsReadStop e → (IsErrOf {T = T} (Err e) stop.TooLarge → IfSome (told a) (λ m. IsLong (m name) file_limit)) → ReadsFiles told calm faults a b (IsErrOf {T = T} (Err e) stop.ReadFault) (IsThere (told a) name) → Answered told calm faults a b (Err e) (λ m. LibraryAnswer m what name) (λ m. IsSome (m name))
+  pub no_library : {T : Type 0} {a b : F} {e : NoReport} → IsReadStop e → (IsErrOf {T = T} (Err e) stop.TooLarge → IfSome (told a) (λ m. IsLong (m name) file_limit)) → ReadsFiles told calm faults a b (IsErrOf {T = T} (Err e) stop.ReadFault) (IsThere (told a) name) → Answered told calm faults a b (Err e) (λ m. LibraryAnswer m what name) (λ m. IsSome (m name))
   no_library {T} {a} {b} {e} is large reads = record {
     answer = tt;
     stops = unread (λ m s. LibraryAnswer m what name s []) name file_limit (λ m file there long. too_large there long) (told a) e is (λ same. large (ap Err same));

@@ -2,9 +2,9 @@
 use Rattle.std.proofs.Common.{◌≡◌, ℕ, List, Bool, true, false, Option, Some, None, Result, Ok, Err, IfOk, IfSome, refl, sym, subst}
 use Rattle.host_io.specs.Files.{FileMap}
 use Rattle.widget_host.specs.declared.host.Host.{Host}
-use Rattle.run_steps.specs.declared.reading.Stop.{Stop}
+use Rattle.run_steps.specs.declared.reading.NoReport.{NoReport}
 use Rattle.adhost_run.specs.declared.reports.Report.{Report}
-use Rattle.run_steps.specs.declared.reading.Stop.TheVariants as stop
+use Rattle.run_steps.specs.declared.reading.NoReport.TheVariants as stop
 use Rattle.run_steps.specs.declared.ending.Status.{Status}
 use Rattle.run_steps.specs.Request.{Request, Asks}
 use Rattle.adhost_run.specs.Ends.{writes, Written, whole, part}
@@ -17,12 +17,12 @@ module _ {T : Type 0} (Gives : FileMap → T → Type 0) (next : FileMap → T �
   by_told None h given is = is
   by_told (Some m) h given is = record { from = x; gave = given; left = is }
 
-  by_result : (told : Option FileMap) (r : Result Report Stop) → IfSome told (λ m. Gives m x) → IsLeft told r (λ m. next m x) → IsLeft told r (λ m. Left (Gives m) (next m))
+  by_result : (told : Option FileMap) (r : Result Report NoReport) → IfSome told (λ m. Gives m x) → IsLeft told r (λ m. next m x) → IsLeft told r (λ m. Left (Gives m) (next m))
   by_result told (Ok t) given is = by_told told t.host given is
   by_result told (Err e) given is = is
 
   -- over the files that the step left
-  pub left_on : (told now : Option FileMap) (r : Result Report Stop) → now ≡ told → IfSome told (λ m. Gives m x) → IsLeft now r (λ m. next m x) → IsLeft told r (λ m. Left (Gives m) (next m))
+  pub left_on : (told now : Option FileMap) (r : Result Report NoReport) → now ≡ told → IfSome told (λ m. Gives m x) → IsLeft now r (λ m. next m x) → IsLeft told r (λ m. Left (Gives m) (next m))
   left_on told now r same given is = by_result told r given (subst (λ t. IsLeft t r (λ m. next m x)) same is)
 
 -- what holds of any files
@@ -32,13 +32,13 @@ left_here (Some m) leaves h is = is m
 
 -- ## Requests
 
-pub as_asked : (q r : Request) (told : Option FileMap) (res : Result Report Stop) → q ≡ r → IsLeft told res (λ m. RequestLeaves m r) → IsLeft told res (λ m. RequestLeaves m q)
+pub as_asked : (q r : Request) (told : Option FileMap) (res : Result Report NoReport) → q ≡ r → IsLeft told res (λ m. RequestLeaves m r) → IsLeft told res (λ m. RequestLeaves m q)
 as_asked q r told res same left = subst (λ x. IsLeft told res (λ m. RequestLeaves m x)) (sym same) left
 
 -- no page ran
-pub none_left : (q r : Request) (told : Option FileMap) (res : Result Report Stop) → q ≡ r → ((m : FileMap) (h : Option Host) → h ≡ None → RequestLeaves m r h) → IfOk res (λ t. t.host ≡ None) → IsLeft told res (λ m. RequestLeaves m q)
+pub none_left : (q r : Request) (told : Option FileMap) (res : Result Report NoReport) → q ≡ r → ((m : FileMap) (h : Option Host) → h ≡ None → RequestLeaves m r h) → IfOk res (λ t. t.host ≡ None) → IsLeft told res (λ m. RequestLeaves m q)
 none_left q r told res same is none = as_asked q r told res same (by res none) where
-  by : (x : Result Report Stop) → IfOk x (λ t. t.host ≡ None) → IsLeft told x (λ m. RequestLeaves m r)
+  by : (x : Result Report NoReport) → IfOk x (λ t. t.host ≡ None) → IsLeft told x (λ m. RequestLeaves m r)
   by (Ok t) n = left_here told (λ m h. RequestLeaves m r h) t.host (λ m. is m t.host n)
   by (Err e) n = tt
 
@@ -53,7 +53,7 @@ written_writes true bytes room old new s (whole is) = refl
 written_writes false bytes room old new s (whole is) = refl
 written_writes refused bytes room old new s (part count less within is) = refl
 
-pub stop_silent : (e : Stop) → writes (status_of e) ≡ true → ⊥
+pub stop_silent : (e : NoReport) → writes (status_of e) ≡ true → ⊥
 stop_silent stop.BadManifest is = let f = is in cc
 stop_silent stop.BadTrace is = let f = is in cc
 stop_silent stop.TooLarge is = let f = is in cc

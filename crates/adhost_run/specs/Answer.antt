@@ -13,8 +13,8 @@ use Rattle.run_steps.specs.declared.ending.Status.TheVariants as status
 use Rattle.reach_cert.specs.Certs.{Slot, cert_text}
 use Rattle.reach_cert.specs.Shape.{IsCert}
 use Rattle.reach_cert.specs.Walks.{IsConfined, first_leak}
-use Rattle.run_steps.specs.declared.reading.Stop.{Stop}
-use Rattle.run_steps.specs.declared.reading.Stop.TheVariants as stop
+use Rattle.run_steps.specs.declared.reading.NoReport.{NoReport}
+use Rattle.run_steps.specs.declared.reading.NoReport.TheVariants as stop
 use Rattle.run_steps.specs.Request.{Request, Check, CheckLib, Tidy, Render, Replay, Audit, CheckAudit, Demo, Asks, IsForm}
 use Rattle.run_steps.specs.Page.{file_limit, cert_limit, IsRead, AreRead, HasBytes, slot_names, files_named, swap_files, HasManifest, slots_of, parts}
 use Rattle.run_steps.specs.Steps.{Answers, Step, NoManifest, NoFiles, NoBytes, HasItems, NoItems}
@@ -74,7 +74,7 @@ pub data CertAnswer (bytes : List ℕ) : Status → List ℕ → Type 0 where
   bad_certificate : ((slots : List Slot) → IsCert slots → ¬ (bytes ≡ cert_text slots)) → CertAnswer bytes status.BadCert []
 
 -- why there is no line on the bytes of a certificate
-abbrev pub IsCertStop : List ℕ → Stop → Type 0
+abbrev pub IsCertStop : List ℕ → NoReport → Type 0
 IsCertStop bytes stop.BadCert = CertAnswer bytes status.BadCert []
 IsCertStop bytes stop.Memory = Unit {0}
 IsCertStop bytes _ = ⊥

@@ -2,8 +2,8 @@
 use Rattle.std.specs.Prelude.{◌≡◌, ◌↔◌, ℕ, ◌<◌, ◌≤◌, List, length, take, Option, IfSome, IsSomeAnd, Result, IfOk, IfErr, IsErrOf, Bool, true, false}
 use Rattle.host_io.specs.Files.{FileMap, Rose}
 use Rattle.host_io.specs.Sink.{with_bytes}
-use Rattle.run_steps.specs.declared.reading.Stop.{Stop}
-use Rattle.run_steps.specs.declared.reading.Stop.TheVariants as stop
+use Rattle.run_steps.specs.declared.reading.NoReport.{NoReport}
+use Rattle.run_steps.specs.declared.reading.NoReport.TheVariants as stop
 use Rattle.run_steps.specs.declared.ending.Status.{Status}
 use Rattle.run_steps.specs.declared.ending.Status.TheVariants as status
 use Rattle.adhost_run.specs.declared.reports.Report.{Report}
@@ -55,7 +55,7 @@ pub data Written (refused : Bool) (bytes : List ℕ) (room : ℕ) (old new : Opt
   part : (count : ℕ) → room < length bytes → count ≤ length bytes → new ≡ with_bytes old (take count bytes) → Written refused bytes room old new status.WriteFault
 
 -- what an answer does over files, by what it ended with: the report is that of the answer, or there is none. `Enough` says that each file is there to which it comes.
-pub record Answered {F : Type 0} (told : F → Option FileMap) (calm : F → Type 0) (faults : F → ℕ) (old new : F) (result : Result Report Stop) (all : FileMap → Answers) (Enough : FileMap → Type 0) : Type 0 where
+pub record Answered {F : Type 0} (told : F → Option FileMap) (calm : F → Type 0) (faults : F → ℕ) (old new : F) (result : Result Report NoReport) (all : FileMap → Answers) (Enough : FileMap → Type 0) : Type 0 where
   pub answer : IfOk result (λ r. IfSome (told old) (λ m. all m (ending r.refused) r.bytes.items))
   pub stops : IfErr result (λ e. IfSome (told old) (λ m. IsAnswerStop (all m) e))
   pub reads : ReadsFiles told calm faults old new (IsErrOf result stop.ReadFault) (IsSomeAnd (told old) Enough)

@@ -11,8 +11,8 @@ use Rattle.page_check.specs.Runs.{pieces}
 use Rattle.page_play.specs.Findings.{AreFindings}
 use Rattle.page_play.specs.Played.{IsPlayed}
 use Rattle.run_steps.specs.declared.ending.Status.TheVariants as status
-use Rattle.run_steps.specs.declared.reading.Stop.{Stop}
-use Rattle.run_steps.specs.declared.reading.Stop.TheVariants as stop
+use Rattle.run_steps.specs.declared.reading.NoReport.{NoReport}
+use Rattle.run_steps.specs.declared.reading.NoReport.TheVariants as stop
 use Rattle.run_steps.specs.Page.{parts}
 use Rattle.adhost_run.specs.declared.playing.Ran.{Ran}
 use Rattle.adhost_run.specs.declared.playing.Writes.{Writes}
@@ -40,7 +40,7 @@ pub record HasRun (ran : Ran) : Type 0 where
   pub is : IsRan manifest sources items files slice ran
 
 -- what is written of a page that ran stops for want of memory, or with the answer that the certificate is too long
-abbrev pub IsLateStop : Ran → Writes → Stop → Type 0
+abbrev pub IsLateStop : Ran → Writes → NoReport → Type 0
 IsLateStop ran what stop.Memory = Unit {0}
 IsLateStop ran what stop.CertTooLarge = (manifest : Manifest) (sources : List Source) (items : List TraceItem) (files : List Source) (slice : ℕ) → IsRan manifest sources items files slice ran → PlayAnswer what manifest sources items files status.CertTooLarge []
 IsLateStop ran what _ = ⊥

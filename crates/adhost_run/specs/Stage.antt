@@ -27,7 +27,7 @@ use Rattle.widget_host.specs.Housed.{IsLaid, AreShown, accepts, chains, channels
 use Rattle.page_play.specs.Swaps.{swap_slots}
 use Rattle.page_play.specs.Played.{AreScriptsOf}
 use Rattle.page_play.specs.Settled.{IsSettled}
-use Rattle.run_steps.specs.declared.reading.Stop.{Stop}
+use Rattle.run_steps.specs.declared.reading.NoReport.{NoReport}
 use Rattle.run_steps.specs.Request.{Request, Render, Replay, Audit, Demo, Asks}
 use Rattle.run_steps.specs.Page.{file_limit, AreRead, HasManifest, slot_names, files_named, swap_files, parts}
 use Rattle.run_steps.specs.Steps.{HasItems}
@@ -114,5 +114,5 @@ pub record Leaves (words : List (List ℕ)) (files : FileMap) (h : Option Host) 
   pub leaves : RequestLeaves files request h
 
 -- a report has the host that is left with it
-abbrev pub IsLeft : Option FileMap → Result Report Stop → (FileMap → Option Host → Type 0) → Type 0
+abbrev pub IsLeft : Option FileMap → Result Report NoReport → (FileMap → Option Host → Type 0) → Type 0
 IsLeft told result leaves = IfOk result (λ r. IfSome told (λ m. leaves m r.host))

@@ -12,11 +12,11 @@ use code_units::Memory;
 use host_io::Files;
 use itoa::Buffer;
 use reach_cert::{CertFault, judge, one_answer};
-use run_steps::{Stop, cert_in};
+use run_steps::{NoReport, cert_in};
 use std::alloc::Global;
 
 /// The report on the certificate of a name: whether it is confined, or else its first line that is not.
-pub fn check_audit<F: Files>(alloc: Global, name: &str, files: &mut F) -> Result<Report, Stop>
+pub fn check_audit<F: Files>(alloc: Global, name: &str, files: &mut F) -> Result<Report, NoReport>
     ensures answered { Answered F.told F.calm F.faults files.old files.new result
         (λ m. CheckAuditAnswer m name.now) (λ m. IsSome (m name.now)) }
     ensures no_host { IfOk result (λ r. r.host ≡ None) }
@@ -26,7 +26,7 @@ pub fn check_audit<F: Files>(alloc: Global, name: &str, files: &mut F) -> Result
 }
 
 // The report on the bytes of a certificate.
-fn judge_cert(alloc: Global, bytes: &[u8]) -> Result<Report, Stop>
+fn judge_cert(alloc: Global, bytes: &[u8]) -> Result<Report, NoReport>
     requires { length bytes.now ≤ cert_limit }
     ensures ok { IfOk result (λ r. CertAnswer bytes.now (ending r.refused) r.bytes.items) }
     ensures no_host { IfOk result (λ r. r.host ≡ None) }
@@ -35,8 +35,8 @@ fn judge_cert(alloc: Global, bytes: &[u8]) -> Result<Report, Stop>
     one_answer();
     match judge(alloc, bytes) {
         Ok(leak) => Ok(found_report(alloc, leak)?),
-        Err(CertFault::BadCert { .. }) => Err(Stop::BadCert),
-        Err(CertFault::Memory) => Err(Stop::Memory),
+        Err(CertFault::BadCert { .. }) => Err(NoReport::BadCert),
+        Err(CertFault::Memory) => Err(NoReport::Memory),
     }
 }
 

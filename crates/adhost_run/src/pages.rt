@@ -11,12 +11,12 @@ use crate::reports::Report;
 use code_units::Memory;
 use host_io::Files;
 use manifest_reader::Manifest;
-use run_steps::{Stop, files_of, manifest_in, slot_names};
+use run_steps::{NoReport, files_of, manifest_in, slot_names};
 use slot_check::{SlotText, SourceFile, slot_lines};
 use std::alloc::Global;
 
 /// The report on a manifest: the lines of its slots.
-pub fn check_page<F: Files>(alloc: Global, name: &str, files: &mut F) -> Result<Report, Stop>
+pub fn check_page<F: Files>(alloc: Global, name: &str, files: &mut F) -> Result<Report, NoReport>
     ensures answered { Answered F.told F.calm F.faults files.old files.new result
         (λ m. PageAnswer m name.now) (λ m. HasPageFiles m name.now) }
     ensures no_host { IfOk result (λ r. r.host ≡ None) }
@@ -30,7 +30,7 @@ fn check_manifest<F: Files>(
     alloc: Global,
     manifest: &Manifest,
     files: &mut F,
-) -> Result<Report, Stop>
+) -> Result<Report, NoReport>
     ensures answered { Answered F.told F.calm F.faults files.old files.new result
         (λ m. OfFiles m manifest.now (CheckAnswer manifest.now))
         (λ m. ComesThrough m file_limit (files_named manifest.now)) }

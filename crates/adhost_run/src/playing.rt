@@ -20,7 +20,7 @@ use keyed_names::Keys;
 use manifest_reader::Manifest;
 use page_check::{JudgedPage, JudgedSwaps, judge_page};
 use page_play::{Findings, certificate, find_swaps, play, plays_come_to, report, some_refused};
-use run_steps::{CERT_LIMIT, Stop};
+use run_steps::{CERT_LIMIT, NoReport};
 use slot_check::SourceFile;
 use std::alloc::Global;
 use trace_reader::TraceItem;
@@ -116,7 +116,7 @@ fn push_bytes<'a>(sources: &'a [SourceFile], files: &mut Vec<&'a [u8]>) -> Resul
 }
 
 /// The report on a page that ran: its lines and the page, or its certificate.
-pub fn report_ran(alloc: Global, ran: Ran, writes: Writes) -> Result<Report, Stop>
+pub fn report_ran(alloc: Global, ran: Ran, writes: Writes) -> Result<Report, NoReport>
     requires { HasRun ran }
     ensures answer { IfOk result
         (λ r. (manifest : ManifestOf) (sources : List Source) (items : List TraceItemOf) (files : List Source)
@@ -138,7 +138,7 @@ pub fn report_ran(alloc: Global, ran: Ran, writes: Writes) -> Result<Report, Sto
 }
 
 // What is written of a page that ran.
-fn text_of(alloc: Global, ran: &Ran, writes: Writes) -> Result<Vec<u8>, Stop>
+fn text_of(alloc: Global, ran: &Ran, writes: Writes) -> Result<Vec<u8>, NoReport>
     requires { HasRun ran.now }
     ensures answer { IfOk result
         (λ bytes. (manifest : ManifestOf) (sources : List Source) (items : List TraceItemOf) (files : List Source)
@@ -155,7 +155,7 @@ fn text_of(alloc: Global, ran: &Ran, writes: Writes) -> Result<Vec<u8>, Stop>
 }
 
 // The certificate of a page that ran, if it is within the limit.
-fn certificate_of(alloc: Global, ran: &Ran) -> Result<Vec<u8>, Stop>
+fn certificate_of(alloc: Global, ran: &Ran) -> Result<Vec<u8>, NoReport>
     requires { HasRun ran.now }
     ensures answer { IfOk result
         (λ bytes. (manifest : ManifestOf) (sources : List Source) (items : List TraceItemOf) (files : List Source)
@@ -168,7 +168,7 @@ fn certificate_of(alloc: Global, ran: &Ran) -> Result<Vec<u8>, Stop>
 {
     let bytes = certificate(alloc, &ran.host)?;
     if bytes.len() > CERT_LIMIT {
-        return Err(Stop::CertTooLarge);
+        return Err(NoReport::CertTooLarge);
     }
     Ok(bytes)
 }

@@ -13,7 +13,7 @@ use crate::playing::{Way, Writes};
 use crate::runs::run_page;
 use code_units::Memory;
 use host_io::Files;
-use run_steps::{FILE_LIMIT, Request, Stop, read_file};
+use run_steps::{FILE_LIMIT, NoReport, Request, read_file};
 use script_check::{LibraryText, library_line, tidied_library};
 use std::alloc::Global;
 use widget_host::Host;
@@ -45,7 +45,11 @@ pub enum Asked {
 }
 
 /// The report that is asked for.
-pub fn report_on<F: Files>(alloc: Global, request: &Request, files: &mut F) -> Result<Report, Stop>
+pub fn report_on<F: Files>(
+    alloc: Global,
+    request: &Request,
+    files: &mut F,
+) -> Result<Report, NoReport>
     requires { IsSliced (request_of request.now) }
     ensures answered { Answered F.told F.calm F.faults files.old files.new result
         (λ m. RequestAnswer m (request_of request.now)) (λ m. HasFilesFor m (request_of request.now)) }
@@ -98,7 +102,7 @@ fn report_library<F: Files>(
     asked: Asked,
     name: &str,
     files: &mut F,
-) -> Result<Report, Stop>
+) -> Result<Report, NoReport>
     ensures answered { Answered F.told F.calm F.faults files.old files.new result
         (λ m. LibraryAnswer m asked name.now) (λ m. IsSome (m name.now)) }
     ensures no_host { IfOk result (λ r. r.host ≡ None) }

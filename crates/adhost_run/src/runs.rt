@@ -16,7 +16,7 @@ use code_units::Text;
 use host_io::Files;
 use manifest_reader::Manifest;
 use page_check::read_manifests_fit;
-use run_steps::{Stop, files_of, items_of, manifest_in, slot_names, swaps_of};
+use run_steps::{NoReport, files_of, items_of, manifest_in, slot_names, swaps_of};
 use slot_check::SourceFile;
 use std::alloc::Global;
 use trace_reader::TraceItem;
@@ -29,7 +29,7 @@ pub fn run_page<F: Files>(
     trace: Option<&str>,
     way: Way,
     files: &mut F,
-) -> Result<Report, Stop>
+) -> Result<Report, NoReport>
     requires some { 1 ≤ way.slice }
     ensures answered { Answered F.told F.calm F.faults files.old files.new result
         (λ m. ReplayAnswer m name.now (option_copied trace.entry) way.writes)
@@ -49,7 +49,7 @@ fn run_manifest<F: Files>(
     trace: Option<&str>,
     way: Way,
     files: &mut F,
-) -> Result<Report, Stop>
+) -> Result<Report, NoReport>
     requires some { 1 ≤ way.slice }
     requires fit { IsFit manifest }
     ensures answered { Answered F.told F.calm F.faults files.old files.new result
@@ -71,7 +71,7 @@ fn run_sources<F: Files>(
     trace: Option<&str>,
     way: Way,
     files: &mut F,
-) -> Result<Report, Stop>
+) -> Result<Report, NoReport>
     requires some { 1 ≤ way.slice }
     requires fit { IsFit manifest }
     requires many { length sources.now ≡ length (files_named manifest) }
@@ -97,7 +97,7 @@ fn run_items<F: Files>(
     items: Vec<TraceItem>,
     way: Way,
     files: &mut F,
-) -> Result<Report, Stop>
+) -> Result<Report, NoReport>
     requires some { 1 ≤ way.slice }
     requires fit { IsFit manifest }
     requires items { AreItems (length names.items) (map said items.items) }

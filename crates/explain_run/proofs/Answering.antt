@@ -7,8 +7,8 @@ use Rattle.host_io.specs.Sink.{with_bytes}
 use Rattle.json_shapes.specs.declared.fault.ShapeFault.TheVariants as fault
 use Rattle.explain_run.specs.declared.ending.Status.{Status}
 use Rattle.explain_run.specs.declared.ending.Status.TheVariants as status
-use Rattle.explain_run.specs.declared.reading.Stop.{Stop}
-use Rattle.explain_run.specs.declared.reading.Stop.TheVariants as stop
+use Rattle.explain_run.specs.declared.reading.NotTold.{NotTold}
+use Rattle.explain_run.specs.declared.reading.NotTold.TheVariants as stop
 use Rattle.explain_run.specs.declared.reading.Why.{Why}
 use Rattle.explain_run.specs.declared.reading.Why.TheVariants as why
 use Rattle.explain_run.specs.Request.{Request, Asks, IsForm}
@@ -41,7 +41,7 @@ module _ (words : List (List ℕ)) where
   stops_as m q status.WriteFault note asks is = stops asks is note
   stops_as m q status.Memory note asks is = stops asks is note
 
-  pub stop_answer : (told : Option FileMap) (q : Request) (e : Stop) (file : String Global) (w : Why) (note : List ℕ) (s : Status) → e ≡ stop.Bad file w → s ≡ status_of w → Asks words q → IfSome told (λ m. IsStop (Stops m q) e) → IfSome told (λ m. AnswerOrFault words m s note)
+  pub stop_answer : (told : Option FileMap) (q : Request) (e : NotTold) (file : String Global) (w : Why) (note : List ℕ) (s : Status) → e ≡ stop.Bad file w → s ≡ status_of w → Asks words q → IfSome told (λ m. IsStop (Stops m q) e) → IfSome told (λ m. AnswerOrFault words m s note)
   stop_answer None q e file w note s by same asks is = is
   stop_answer (Some m) q e file w note s by same asks is = subst (λ x. AnswerOrFault words m x note) (sym same) (stops_as m q (status_of w) note asks (subst (IsStop (Stops m q)) by is))
 

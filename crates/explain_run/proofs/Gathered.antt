@@ -8,7 +8,7 @@ use Rattle.host_io.specs.Files.{FileMap, IsStart}
 use Rattle.slot_check.specs.declared.sources.SourceFile.{SourceFile}
 use Rattle.slot_check.specs.Sources.{Source}
 use Rattle.slot_check.specs.Verdicts.{source_of, sources_of, IsSmall}
-use Rattle.explain_run.specs.declared.reading.Stop.{Stop}
+use Rattle.explain_run.specs.declared.reading.NotTold.{NotTold}
 use Rattle.explain_run.specs.declared.ending.Status.{Status}
 use Rattle.explain_run.specs.declared.ending.Status.TheVariants as status
 use Rattle.run_steps.specs.Page.{texts, file_limit}
@@ -90,6 +90,6 @@ no_read (Some m) all is = subst (λ a. AreRead m file_limit [] (sources_of a)) (
 pub none_small : (all : List SourceFile) → all ≡ [] → All IsSmall all
 none_small all is = subst (All IsSmall) (sym is) (λ k d within. absurd (omega arith))
 
-pub many_files : (r : Result (Vec SourceFile Global) Stop) (shown : List (String Global)) (names : List (List ℕ)) → texts shown ≡ names → IfOk r (λ v. length v.items ≡ length shown) → IfOk r (λ v. length v.items ≡ length names)
+pub many_files : (r : Result (Vec SourceFile Global) NotTold) (shown : List (String Global)) (names : List (List ℕ)) → texts shown ≡ names → IfOk r (λ v. length v.items ≡ length shown) → IfOk r (λ v. length v.items ≡ length names)
 many_files (Ok v) shown names same many = many ∙ sym (length-map shown string_bytes) ∙ ap length same
 many_files (Err e) shown names same many = many

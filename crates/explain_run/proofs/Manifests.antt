@@ -11,9 +11,9 @@ use Rattle.manifest_reader.specs.declared.entry.Manifest.{Manifest}
 use Rattle.manifest_reader.specs.Manifest.{ReadsManifest}
 use Rattle.run_steps.specs.Page.{texts, slot_names, slot_files, files_named, HasSlots}
 use Rattle.run_steps.proofs.Manifests.{has_slots}
-use Rattle.explain_run.specs.declared.reading.Stop.{Stop}
+use Rattle.explain_run.specs.declared.reading.NotTold.{NotTold}
 
-pub ok_slots : (bytes : List ℕ) (r : Result Manifest Stop) → IfOk r (ReadsManifest bytes) → IfOk r HasSlots
+pub ok_slots : (bytes : List ℕ) (r : Result Manifest NotTold) → IfOk r (ReadsManifest bytes) → IfOk r HasSlots
 ok_slots bytes (Ok m) is = has_slots bytes m is
 ok_slots bytes (Err e) is = is
 

@@ -5,8 +5,8 @@ use Rattle.host_io.specs.Files.{FileMap, Rose}
 use Rattle.explain_run.specs.declared.ending.Status.{Status}
 use Rattle.explain_run.specs.declared.ending.Status.TheVariants as status
 use Rattle.explain_run.specs.declared.reading.Why.{Why}
-use Rattle.explain_run.specs.declared.reading.Stop.{Stop}
-use Rattle.explain_run.specs.declared.reading.Stop.TheVariants as stop
+use Rattle.explain_run.specs.declared.reading.NotTold.{NotTold}
+use Rattle.explain_run.specs.declared.reading.NotTold.TheVariants as stop
 use Rattle.explain_run.specs.Steps.{status_of, IsCause, IsStop, IsStopBy, IsUnread, IsBecause, Stepped}
 
 pub rose_later : (a b c : ℕ) → a ≤ b → b ≤ c → Rose b c → Rose a c
@@ -27,11 +27,11 @@ as_cause P Q more status.ReadFault is = tt
 as_cause P Q more status.WriteFault is = more status.WriteFault is
 as_cause P Q more status.Memory is = more status.Memory is
 
-as_stop : (P Q : Status → Type 0) → ((s : Status) → P s → Q s) → (e : Stop) → IsStop P e → IsStop Q e
+as_stop : (P Q : Status → Type 0) → ((s : Status) → P s → Q s) → (e : NotTold) → IsStop P e → IsStop Q e
 as_stop P Q more (stop.Bad file w) is = as_cause P Q more (status_of w) is
 as_stop P Q more stop.Memory is = tt
 
-pub told_stop : (P Q : FileMap → Status → Type 0) → ((m : FileMap) (s : Status) → P m s → Q m s) → (told : Option FileMap) (e : Stop) → IfSome told (λ m. IsStop (P m) e) → IfSome told (λ m. IsStop (Q m) e)
+pub told_stop : (P Q : FileMap → Status → Type 0) → ((m : FileMap) (s : Status) → P m s → Q m s) → (told : Option FileMap) (e : NotTold) → IfSome told (λ m. IsStop (P m) e) → IfSome told (λ m. IsStop (Q m) e)
 told_stop P Q more None e is = is
 told_stop P Q more (Some m) e is = as_stop (P m) (Q m) (more m) e is
 
@@ -46,7 +46,7 @@ cause_of P Q more status.ReadFault is = tt
 cause_of P Q more status.WriteFault is = more status.WriteFault is
 cause_of P Q more status.Memory is = more status.Memory is
 
-stop_of : (P Q : Status → Type 0) → ((s : Status) → P s → Q s) → (e : Stop) → IsStopBy P e → IsStop Q e
+stop_of : (P Q : Status → Type 0) → ((s : Status) → P s → Q s) → (e : NotTold) → IsStopBy P e → IsStop Q e
 stop_of P Q more (stop.Bad file w) is = cause_of P Q more (status_of w) is
 stop_of P Q more stop.Memory is = tt
 
@@ -63,7 +63,7 @@ both_told P Q more None is = tt
 both_told P Q more (Some m) is = more m is
 
 -- no stop of bytes is one of a read
-never_unread : (P : Status → Type 0) → (P status.ReadFault → ⊥) → (e : Stop) → IsStopBy P e → IsUnread e → ⊥
+never_unread : (P : Status → Type 0) → (P status.ReadFault → ⊥) → (e : NotTold) → IsStopBy P e → IsUnread e → ⊥
 never_unread P never (stop.Bad file w) is failed = never (subst P failed is)
 never_unread P never stop.Memory is failed = failed
 
@@ -108,7 +108,7 @@ module _ {F : Type 0} (told : F → Option FileMap) (faults : F → ℕ) where
   }
 
   -- something is wrong with it
-  pub for_reason : {T : Type 0} {a b : F} {e : Stop} (H : FileMap → T → Type 0) (R : FileMap → Status → Type 0) (w : Why) → told b ≡ told a → faults a ≤ faults b → IsBecause w e → IfSome (told a) (λ m. IsCause (R m) (status_of w)) → (status_of w ≡ status.ReadFault → Rose (faults a) (faults b)) → Stepped {T = T} told faults a b (Err e) H R
+  pub for_reason : {T : Type 0} {a b : F} {e : NotTold} (H : FileMap → T → Type 0) (R : FileMap → Status → Type 0) (w : Why) → told b ≡ told a → faults a ≤ faults b → IsBecause w e → IfSome (told a) (λ m. IsCause (R m) (status_of w)) → (status_of w ≡ status.ReadFault → Rose (faults a) (faults b)) → Stepped {T = T} told faults a b (Err e) H R
   for_reason {T} {a} {b} {e} H R w same count because is rose = record {
     same = same;
     count = count;
@@ -116,16 +116,16 @@ module _ {F : Type 0} (told : F → Option FileMap) (faults : F → ℕ) where
     gives = tt;
     stops = both_told (λ m. IsCause (R m) (status_of w)) (λ m. IsStop (R m) e) (λ m it. stop_is (R m) e because it) (told a) is;
   } where
-    cause_is : (x : Stop) → IsBecause w x → IsUnread x → Rose (faults a) (faults b)
+    cause_is : (x : NotTold) → IsBecause w x → IsUnread x → Rose (faults a) (faults b)
     cause_is (stop.Bad file v) by failed = rose (ap status_of (sym by) ∙ failed)
     cause_is stop.Memory by failed = absurd failed
 
-    stop_is : (P : Status → Type 0) (x : Stop) → IsBecause w x → IsCause P (status_of w) → IsStop P x
+    stop_is : (P : Status → Type 0) (x : NotTold) → IsBecause w x → IsCause P (status_of w) → IsStop P x
     stop_is P (stop.Bad file v) by it = subst (λ u. IsCause P (status_of u)) (sym by) it
     stop_is P stop.Memory by it = tt
 
   -- a step that stops the work
-  pub ended : {T U : Type 0} {a b : F} {e : Stop} (G : FileMap → T → Type 0) (H : FileMap → U → Type 0) (S R : FileMap → Status → Type 0) → Stepped {T = T} told faults a b (Err e) G S → ((m : FileMap) (s : Status) → S m s → R m s) → Stepped {T = U} told faults a b (Err e) H R
+  pub ended : {T U : Type 0} {a b : F} {e : NotTold} (G : FileMap → T → Type 0) (H : FileMap → U → Type 0) (S R : FileMap → Status → Type 0) → Stepped {T = T} told faults a b (Err e) G S → ((m : FileMap) (s : Status) → S m s → R m s) → Stepped {T = U} told faults a b (Err e) H R
   ended {T} {U} {a} {b} {e} G H S R step more = record {
     same = step.same;
     count = step.count;
@@ -135,7 +135,7 @@ module _ {F : Type 0} (told : F → Option FileMap) (faults : F → ℕ) where
   }
 
   -- one after others that gave something
-  pub ended_after : {T U : Type 0} {a b c : F} {e : Stop} (G : FileMap → T → Type 0) (H : FileMap → U → Type 0) (S R : FileMap → Status → Type 0) (Had : FileMap → Type 0) → told b ≡ told a → faults a ≤ faults b → IfSome (told a) Had → Stepped {T = T} told faults b c (Err e) G S → ((m : FileMap) → Had m → (s : Status) → S m s → R m s) → Stepped {T = U} told faults a c (Err e) H R
+  pub ended_after : {T U : Type 0} {a b c : F} {e : NotTold} (G : FileMap → T → Type 0) (H : FileMap → U → Type 0) (S R : FileMap → Status → Type 0) (Had : FileMap → Type 0) → told b ≡ told a → faults a ≤ faults b → IfSome (told a) Had → Stepped {T = T} told faults b c (Err e) G S → ((m : FileMap) → Had m → (s : Status) → S m s → R m s) → Stepped {T = U} told faults a c (Err e) H R
   ended_after {T} {U} {a} {b} {c} {e} G H S R Had same count had step more = record {
     same = step.same ∙ same;
     count = omega (arith, count, step.count);
@@ -169,7 +169,7 @@ module _ {F : Type 0} (told : F → Option FileMap) (faults : F → ℕ) where
     }
 
     -- what it gave is none
-    pub stopped : (e : Stop) (Bad : Status → Type 0) → IsStopBy Bad e → ((m : FileMap) → G m x → (s : Status) → Bad s → R m s) → (Bad status.ReadFault → ⊥) → Stepped told faults a b (Err e) H R
+    pub stopped : (e : NotTold) (Bad : Status → Type 0) → IsStopBy Bad e → ((m : FileMap) → G m x → (s : Status) → Bad s → R m s) → (Bad status.ReadFault → ⊥) → Stepped told faults a b (Err e) H R
     stopped e Bad bad wrong never = record {
       same = step.same;
       count = step.count;
@@ -179,12 +179,12 @@ module _ {F : Type 0} (told : F → Option FileMap) (faults : F → ℕ) where
     }
 
     -- what it gave is judged
-    pub judged : (r : Result U Stop) (P : U → Type 0) (Bad : Status → Type 0) → IfOk r P → IfErr r (IsStopBy Bad) → ((m : FileMap) → G m x → (y : U) → P y → H m y) → ((m : FileMap) → G m x → (s : Status) → Bad s → R m s) → (Bad status.ReadFault → ⊥) → Stepped told faults a b r H R
+    pub judged : (r : Result U NotTold) (P : U → Type 0) (Bad : Status → Type 0) → IfOk r P → IfErr r (IsStopBy Bad) → ((m : FileMap) → G m x → (y : U) → P y → H m y) → ((m : FileMap) → G m x → (s : Status) → Bad s → R m s) → (Bad status.ReadFault → ⊥) → Stepped told faults a b r H R
     judged (Ok y) P Bad is bad good wrong never = given y (λ m has. good m has y is)
     judged (Err e) P Bad is bad good wrong never = stopped e Bad bad wrong never
 
     -- and the work goes on
-    pub went_on : {c : F} (r : Result U Stop) (I : FileMap → U → Type 0) (Q : FileMap → Status → Type 0) → Stepped told faults b c r I Q → ((m : FileMap) → G m x → (y : U) → I m y → H m y) → ((m : FileMap) → G m x → (s : Status) → Q m s → R m s) → Stepped told faults a c r H R
+    pub went_on : {c : F} (r : Result U NotTold) (I : FileMap → U → Type 0) (Q : FileMap → Status → Type 0) → Stepped told faults b c r I Q → ((m : FileMap) → G m x → (y : U) → I m y → H m y) → ((m : FileMap) → G m x → (s : Status) → Q m s → R m s) → Stepped told faults a c r H R
     went_on {c} r I Q behind good wrong = record {
       same = behind.same ∙ step.same;
       count = omega (arith, step.count, behind.count);
@@ -196,14 +196,14 @@ module _ {F : Type 0} (told : F → Option FileMap) (faults : F → ℕ) where
       two None y has is = tt
       two (Some m) y has is = good m has y is
 
-      ok_on : (z : Result U Stop) → IfOk z (λ y. IfSome (told a) (λ m. I m y)) → IfOk z (λ y. IfSome (told a) (λ m. H m y))
+      ok_on : (z : Result U NotTold) → IfOk z (λ y. IfSome (told a) (λ m. I m y)) → IfOk z (λ y. IfSome (told a) (λ m. H m y))
       ok_on (Ok y) is = two (told a) y step.gives is
       ok_on (Err e) is = tt
 
-      stops_on : (t : Option FileMap) (e : Stop) → IfSome t (λ m. G m x) → IfSome t (λ m. IsStop (Q m) e) → IfSome t (λ m. IsStop (R m) e)
+      stops_on : (t : Option FileMap) (e : NotTold) → IfSome t (λ m. G m x) → IfSome t (λ m. IsStop (Q m) e) → IfSome t (λ m. IsStop (R m) e)
       stops_on None e has is = tt
       stops_on (Some m) e has is = as_stop (Q m) (R m) (wrong m has) e is
 
-      err_on : (z : Result U Stop) → IfErr z (λ e. IfSome (told a) (λ m. IsStop (Q m) e)) → IfErr z (λ e. IfSome (told a) (λ m. IsStop (R m) e))
+      err_on : (z : Result U NotTold) → IfErr z (λ e. IfSome (told a) (λ m. IsStop (Q m) e)) → IfErr z (λ e. IfSome (told a) (λ m. IsStop (R m) e))
       err_on (Ok y) is = tt
       err_on (Err e) is = stops_on (told a) e step.gives is

@@ -11,8 +11,8 @@ use Rattle.trace_reader.specs.declared.item.TraceItem.{TraceItem}
 use Rattle.trace_reader.specs.Trace.{HasTooMany, ReadsTrace}
 use Rattle.explain_run.specs.declared.reading.Why.{Why}
 use Rattle.explain_run.specs.declared.reading.Why.TheVariants as why
-use Rattle.explain_run.specs.declared.reading.Stop.{Stop}
-use Rattle.explain_run.specs.declared.reading.Stop.TheVariants as stop
+use Rattle.explain_run.specs.declared.reading.NotTold.{NotTold}
+use Rattle.explain_run.specs.declared.reading.NotTold.TheVariants as stop
 use Rattle.explain_run.specs.declared.ending.Status.{Status}
 use Rattle.explain_run.specs.declared.ending.Status.TheVariants as status
 use Rattle.run_steps.specs.Page.{file_limit, manifest_limit, trace_limit}
@@ -32,12 +32,12 @@ status_of (why.TooLong limit) = status.TooLarge
 status_of why.Unread = status.ReadFault
 
 -- the work stops for this reason, or for want of memory
-abbrev pub IsBecause : Why → Stop → Type 0
+abbrev pub IsBecause : Why → NotTold → Type 0
 IsBecause w (stop.Bad file v) = v ≡ w
 IsBecause w stop.Memory = Unit {0}
 
 -- the same where bytes are out of shape
-abbrev pub IsMisshapen : ShapeFault → Why → Stop → Type 0
+abbrev pub IsMisshapen : ShapeFault → Why → NotTold → Type 0
 IsMisshapen fault.Memory w e = e ≡ stop.Memory
 IsMisshapen f w e = IsBecause w e
 
@@ -78,17 +78,17 @@ abbrev pub IsCause : (Status → Type 0) → Status → Type 0
 IsCause Stops status.ReadFault = Unit {0}
 IsCause Stops s = Stops s
 
-abbrev pub IsStop : (Status → Type 0) → Stop → Type 0
+abbrev pub IsStop : (Status → Type 0) → NotTold → Type 0
 IsStop Stops (stop.Bad file w) = IsCause Stops (status_of w)
 IsStop Stops stop.Memory = Unit {0}
 
 -- a read failed
-abbrev pub IsUnread : Stop → Type 0
+abbrev pub IsUnread : NotTold → Type 0
 IsUnread (stop.Bad file w) = status_of w ≡ status.ReadFault
 IsUnread stop.Memory = ⊥
 
 -- what a step does to files, by what they tell and how many reads have failed, and what it ended with
-pub record Stepped {F T : Type 0} (told : F → Option FileMap) (faults : F → ℕ) (old new : F) (result : Result T Stop) (Gives : FileMap → T → Type 0) (Stops : FileMap → Status → Type 0) : Type 0 where
+pub record Stepped {F T : Type 0} (told : F → Option FileMap) (faults : F → ℕ) (old new : F) (result : Result T NotTold) (Gives : FileMap → T → Type 0) (Stops : FileMap → Status → Type 0) : Type 0 where
   -- they tell what they told, and their count does not fall; a fault comes only where it rose
   pub same : told new ≡ told old
   pub count : faults old ≤ faults new
@@ -98,7 +98,7 @@ pub record Stepped {F T : Type 0} (told : F → Option FileMap) (faults : F → 
   pub stops : IfErr result (λ e. IfSome (told old) (λ m. IsStop (Stops m) e))
 
 -- a stop with such a status, or for want of memory
-abbrev pub IsStopBy : (Status → Type 0) → Stop → Type 0
+abbrev pub IsStopBy : (Status → Type 0) → NotTold → Type 0
 IsStopBy Stops (stop.Bad file w) = Stops (status_of w)
 IsStopBy Stops stop.Memory = Unit {0}
 

@@ -7,7 +7,7 @@ ghost use Rattle.explain_run.specs.Steps.{NoFile, NoTraced, Stepped};
 ghost use Rattle.explain_run.specs.Text.{IsToldOfSlots};
 ghost use Rattle.explain_run.specs.Answer.{OfLibrary, OfSources, OfManifest, OfPage, NoSources, NoPage, Tells, Stops};
 
-use crate::reading::{FILE_LIMIT, Stop, read_file};
+use crate::reading::{FILE_LIMIT, NotTold, read_file};
 use crate::refusals::{Told, tell_library, tell_slots};
 use crate::request::Request;
 use crate::steps::{files_of, manifest_in, try_trace};
@@ -19,7 +19,7 @@ use slot_check::SourceFile;
 use std::alloc::Global;
 
 /// What is told where no file stops the work.
-pub fn tell<F: Files>(alloc: Global, request: &Request, files: &mut F) -> Result<Told, Stop>
+pub fn tell<F: Files>(alloc: Global, request: &Request, files: &mut F) -> Result<Told, NotTold>
     ensures { Stepped F.told F.faults files.old files.new result
         (λ m t. Tells m (request_of request.now) t.refused t.bytes.items) (λ m. Stops m (request_of request.now)) }
 {
@@ -30,7 +30,7 @@ pub fn tell<F: Files>(alloc: Global, request: &Request, files: &mut F) -> Result
 }
 
 // What is told of the library of a name.
-fn tell_of_library<F: Files>(alloc: Global, name: &str, files: &mut F) -> Result<Told, Stop>
+fn tell_of_library<F: Files>(alloc: Global, name: &str, files: &mut F) -> Result<Told, NotTold>
     ensures { Stepped F.told F.faults files.old files.new result
         (λ m t. OfLibrary m name.now t.refused t.bytes.items) (λ m. NoFile m file_limit name.now) }
 {
@@ -44,7 +44,7 @@ fn tell_of_page<F: Files>(
     name: &str,
     trace: Option<&str>,
     files: &mut F,
-) -> Result<Told, Stop>
+) -> Result<Told, NotTold>
     ensures { Stepped F.told F.faults files.old files.new result
         (λ m t. OfPage m name.now (option_copied trace.entry) t.refused t.bytes.items)
         (λ m. NoPage m name.now (option_copied trace.entry)) }
@@ -59,7 +59,7 @@ fn tell_of_manifest<F: Files>(
     manifest: &Manifest,
     trace: Option<&str>,
     files: &mut F,
-) -> Result<Told, Stop>
+) -> Result<Told, NotTold>
     requires { HasSlots manifest.now }
     ensures { Stepped F.told F.faults files.old files.new result
         (λ m t. OfManifest m (option_copied trace.entry) manifest.now t.refused t.bytes.items)
@@ -76,7 +76,7 @@ fn tell_of_sources<F: Files>(
     sources: &[SourceFile],
     trace: Option<&str>,
     files: &mut F,
-) -> Result<Told, Stop>
+) -> Result<Told, NotTold>
     requires slots { HasSlots manifest.now }
     requires many { length sources.now ≡ length (files_named manifest.now) }
     requires small { All IsSmall sources.now }

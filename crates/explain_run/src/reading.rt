@@ -29,53 +29,53 @@ pub enum Why {
 
 /// Why no rule is judged.
 #[derive(Drop)]
-pub enum Stop {
+pub enum NotTold {
     /// Something is wrong with a file.
     Bad { file: String, why: Why },
     /// There was no memory.
     Memory,
 }
 
-impl From<Memory> for Stop {
+impl From<Memory> for NotTold {
     ghost use Rattle.std.specs.Prelude.{◌≡◌};
-    ghost use Rattle.explain_run.specs.declared.reading.Stop.TheVariants as stops;
+    ghost use Rattle.explain_run.specs.declared.reading.NotTold.TheVariants as stops;
 
     ghost from_gives = { λ _ stop. stop ≡ stops.Memory };
 
-    fn from(_: Memory) -> Stop {
-        Stop::Memory
+    fn from(_: Memory) -> NotTold {
+        NotTold::Memory
     }
 }
 
-impl From<AllocError> for Stop {
+impl From<AllocError> for NotTold {
     ghost use Rattle.std.specs.Prelude.{◌≡◌};
-    ghost use Rattle.explain_run.specs.declared.reading.Stop.TheVariants as stops;
+    ghost use Rattle.explain_run.specs.declared.reading.NotTold.TheVariants as stops;
 
     ghost from_gives = { λ _ stop. stop ≡ stops.Memory };
 
-    fn from(_: AllocError) -> Stop {
-        Stop::Memory
+    fn from(_: AllocError) -> NotTold {
+        NotTold::Memory
     }
 }
 
-impl<T: Drop> From<AllocFailed<T>> for Stop {
+impl<T: Drop> From<AllocFailed<T>> for NotTold {
     ghost use Rattle.std.specs.Prelude.{◌≡◌};
-    ghost use Rattle.explain_run.specs.declared.reading.Stop.TheVariants as stops;
+    ghost use Rattle.explain_run.specs.declared.reading.NotTold.TheVariants as stops;
 
     ghost from_gives = { λ _ stop. stop ≡ stops.Memory };
 
-    fn from(_: AllocFailed<T>) -> Stop {
-        Stop::Memory
+    fn from(_: AllocFailed<T>) -> NotTold {
+        NotTold::Memory
     }
 }
 
 /// Tells that something is wrong with the file of a name.
-pub fn bad_file(alloc: Global, file: &str, why: Why) -> Stop
+pub fn bad_file(alloc: Global, file: &str, why: Why) -> NotTold
     ensures { IsBecause why result }
 {
     match String::from_str(alloc, file) {
-        Ok(file) => Stop::Bad { file, why },
-        Err(_) => Stop::Memory,
+        Ok(file) => NotTold::Bad { file, why },
+        Err(_) => NotTold::Memory,
     }
 }
 
@@ -85,7 +85,7 @@ pub fn read_file<F: Files>(
     name: &str,
     limit: u32,
     files: &mut F,
-) -> Result<Vec<u8>, Stop>
+) -> Result<Vec<u8>, NotTold>
     ensures step { Stepped F.told F.faults files.old files.new result
         (λ m v. HasBytes m limit name.now v.items) (λ m. NoFile m limit name.now) }
     ensures within { IfOk result (λ v. length v.items ≤ limit) }
@@ -99,7 +99,7 @@ pub fn read_file<F: Files>(
             }
         }
         Err(ReadFail::Failed) => Err(bad_file(alloc, name, Why::Unread)),
-        Err(ReadFail::Memory) => Err(Stop::Memory),
+        Err(ReadFail::Memory) => Err(NotTold::Memory),
     }
 }
 
@@ -108,7 +108,7 @@ pub fn read_files<F: Files>(
     alloc: Global,
     names: &[String],
     files: &mut F,
-) -> Result<Vec<SourceFile>, Stop>
+) -> Result<Vec<SourceFile>, NotTold>
     ensures step { Stepped F.told F.faults files.old files.new result
         (λ m v. AreRead m file_limit (texts names.now) (sources_of v.items)) (λ m. NoFiles m (texts names.now)) }
     ensures many { IfOk result (λ v. length v.items ≡ length names.now) }
@@ -123,7 +123,7 @@ pub fn read_files<F: Files>(
 }
 
 // The file of a name, under that name.
-fn read_source<F: Files>(alloc: Global, name: &str, files: &mut F) -> Result<SourceFile, Stop>
+fn read_source<F: Files>(alloc: Global, name: &str, files: &mut F) -> Result<SourceFile, NotTold>
     ensures step { Stepped F.told F.faults files.old files.new result
         (λ m s. IsRead m file_limit name.now (source_of s)) (λ m. NoFile m file_limit name.now) }
     ensures small { IfOk result IsSmall }

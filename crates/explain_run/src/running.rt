@@ -9,7 +9,7 @@ ghost use Rattle.explain_run.specs.Answer.{ending, is_answer, Answer, AnswerOrFa
 use crate::ending::Status;
 use crate::notes::{note_on, usage_note};
 use crate::pages::tell;
-use crate::reading::{Stop, Why};
+use crate::reading::{NotTold, Why};
 use crate::refusals::Told;
 use crate::request::parse;
 use code_units::Memory;
@@ -80,12 +80,12 @@ fn explained<F: Files>(alloc: Global, words: &[String], files: &mut F) -> Result
     };
     match tell(alloc, &request, files) {
         Ok(told) => Ok(told_outcome(told)),
-        Err(Stop::Bad { file, why }) => {
+        Err(NotTold::Bad { file, why }) => {
             let bytes = note_on(alloc, file.as_str(), why)?;
             let status = status_of(why);
             Ok(Outcome { status, bytes })
         }
-        Err(Stop::Memory) => Err(Memory),
+        Err(NotTold::Memory) => Err(Memory),
     }
 }
 

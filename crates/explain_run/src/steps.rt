@@ -7,7 +7,7 @@ ghost use Rattle.run_steps.specs.Page.{file_limit, files_named, HasSlots};
 ghost use Rattle.explain_run.specs.Page.{AreRead, HasManifest, HasTrace};
 ghost use Rattle.explain_run.specs.Steps.{NoManifest, NoFiles, NoTrace, IsTraced, NoTraced, Stepped, IsStopBy, IsNoManifest, IsNoTrace, IsMisshapen};
 
-use crate::reading::{Stop, Why, bad_file, read_file, read_files};
+use crate::reading::{NotTold, Why, bad_file, read_file, read_files};
 use code_units::Text;
 use host_io::Files;
 use json_shapes::ShapeFault;
@@ -24,7 +24,7 @@ const MANIFEST_LIMIT: u32 = 1_048_576;
 const TRACE_LIMIT: u32 = 1_048_576;
 
 /// The manifest of a name.
-pub fn manifest_in<F: Files>(alloc: Global, name: &str, files: &mut F) -> Result<Manifest, Stop>
+pub fn manifest_in<F: Files>(alloc: Global, name: &str, files: &mut F) -> Result<Manifest, NotTold>
     ensures step { Stepped F.told F.faults files.old files.new result
         (λ m manifest. HasManifest m name.now manifest) (λ m. NoManifest m name.now) }
     ensures slots { IfOk result HasSlots }
@@ -34,7 +34,7 @@ pub fn manifest_in<F: Files>(alloc: Global, name: &str, files: &mut F) -> Result
 }
 
 // The manifest that the bytes of a file are.
-fn manifest_of(alloc: Global, name: &str, bytes: &[u8]) -> Result<Manifest, Stop>
+fn manifest_of(alloc: Global, name: &str, bytes: &[u8]) -> Result<Manifest, NotTold>
     ensures ok { IfOk result (ReadsManifest bytes.now) }
     ensures stop { IfErr result (IsStopBy (IsNoManifest bytes.now)) }
 {
@@ -49,7 +49,7 @@ pub fn files_of<F: Files>(
     alloc: Global,
     manifest: &Manifest,
     files: &mut F,
-) -> Result<Vec<SourceFile>, Stop>
+) -> Result<Vec<SourceFile>, NotTold>
     ensures step { Stepped F.told F.faults files.old files.new result
         (λ m v. AreRead m file_limit (files_named manifest.now) (sources_of v.items))
         (λ m. NoFiles m (files_named manifest.now)) }
@@ -66,7 +66,7 @@ pub fn try_trace<F: Files>(
     trace: Option<&str>,
     names: &[Text],
     files: &mut F,
-) -> Result<(), Stop>
+) -> Result<(), NotTold>
     requires { length names.now < 2 ^ 32 }
     ensures { Stepped F.told F.faults files.old files.new result
         (λ m _. IsTraced m names.now (option_copied trace.entry))
@@ -79,7 +79,12 @@ pub fn try_trace<F: Files>(
 }
 
 // Reads the trace of a name.
-fn try_named<F: Files>(alloc: Global, name: &str, names: &[Text], files: &mut F) -> Result<(), Stop>
+fn try_named<F: Files>(
+    alloc: Global,
+    name: &str,
+    names: &[Text],
+    files: &mut F,
+) -> Result<(), NotTold>
     requires { length names.now < 2 ^ 32 }
     ensures { Stepped F.told F.faults files.old files.new result
         (λ m _. HasTrace m names.now name.now) (λ m. NoTrace m names.now name.now) }
@@ -91,7 +96,12 @@ fn try_named<F: Files>(alloc: Global, name: &str, names: &[Text], files: &mut F)
 }
 
 // The items that the bytes of a file are.
-fn trace_of(alloc: Global, name: &str, bytes: &[u8], names: &[Text]) -> Result<Vec<TraceItem>, Stop>
+fn trace_of(
+    alloc: Global,
+    name: &str,
+    bytes: &[u8],
+    names: &[Text],
+) -> Result<Vec<TraceItem>, NotTold>
     requires { length names.now < 2 ^ 32 }
     ensures ok { IfOk result (λ v. ReadsTrace bytes.now names.now v.items) }
     ensures stop { IfErr result (IsStopBy (IsNoTrace bytes.now names.now)) }
@@ -103,11 +113,11 @@ fn trace_of(alloc: Global, name: &str, bytes: &[u8], names: &[Text]) -> Result<V
 }
 
 // What stops the work where the bytes of a file are out of shape.
-fn misshapen(alloc: Global, name: &str, fault: ShapeFault, why: Why) -> Stop
+fn misshapen(alloc: Global, name: &str, fault: ShapeFault, why: Why) -> NotTold
     ensures { IsMisshapen fault why result }
 {
     match fault {
-        ShapeFault::Memory => Stop::Memory,
+        ShapeFault::Memory => NotTold::Memory,
         ShapeFault::NotJson | ShapeFault::BadShape { .. } | ShapeFault::TooMany { .. } => {
             bad_file(alloc, name, why)
         }

@@ -4,8 +4,8 @@ use Rattle.std.specs.Prelude.{◌↔◌}
 use Rattle.host_io.specs.Files.{FileMap}
 use Rattle.run_steps.specs.declared.ending.Status.{Status}
 use Rattle.run_steps.specs.declared.ending.Status.TheVariants as status
-use Rattle.run_steps.specs.declared.reading.Stop.{Stop}
-use Rattle.run_steps.specs.declared.reading.Stop.TheVariants as stop
+use Rattle.run_steps.specs.declared.reading.NoReport.{NoReport}
+use Rattle.run_steps.specs.declared.reading.NoReport.TheVariants as stop
 use Rattle.run_steps.specs.Reading.{HasPageFiles, ReadsFiles}
 use Rattle.run_steps.specs.Ends.{IsStop, status_of}
 use Rattle.run_steps.proofs.Stepping.{stop_usage}
@@ -30,7 +30,7 @@ module _ (words : List (List ℕ)) (name : List ℕ) (asks : AsksPage words name
   pub late_usage : (how : Status) → is_early how ≡ false → (how ≡ status.Usage) ↔ (IsLiveForm words → ⊥)
   late_usage how late = usage_never how (λ is. not_both (is_early how) late (ap is_early is))
 
-  pub stop_never : (stopped : Stop) → (status_of stopped ≡ status.Usage) ↔ (IsLiveForm words → ⊥)
+  pub stop_never : (stopped : NoReport) → (status_of stopped ≡ status.Usage) ↔ (IsLiveForm words → ⊥)
   stop_never stopped = usage_never (status_of stopped) (stop_usage stopped)
 
   -- each file is there to which the work comes
@@ -68,7 +68,7 @@ module _ {D : Type 0} (tells : D → Option FileMap) (calm : D → Type 0) (faul
     ran_outcome opened left page to how same is reads rans = ran_told (tells d) left opened page to how is reads (subst (λ t. RunsOn t left opened page to how) same rans)
 
     -- there is no page, a file was not read, or there was no memory
-    stop_outcome : (m : FileMap) (lines : List (List ℕ)) (stopped : Stop) → IsStop (NoPage m name) stopped → LiveOutcome tells calm faults words m lines d e from from (status_of stopped)
+    stop_outcome : (m : FileMap) (lines : List (List ℕ)) (stopped : NoReport) → IsStop (NoPage m name) stopped → LiveOutcome tells calm faults words m lines d e from from (status_of stopped)
     stop_outcome m lines stop.BadManifest is = no_page asks is refl
     stop_outcome m lines stop.BadTrace is = no_page asks is refl
     stop_outcome m lines stop.TooLarge is = no_page asks is refl
@@ -77,7 +77,7 @@ module _ {D : Type 0} (tells : D → Option FileMap) (calm : D → Type 0) (faul
     stop_outcome m lines stop.ReadFault is = file_unread asks refl
     stop_outcome m lines stop.Memory is = unloaded asks refl
 
-    pub stopped_outcome : (told : Option FileMap) (left : Option (List (List ℕ))) (stopped : Stop) → IfSome told (λ m. IsStop (NoPage m name) stopped) → OutcomeOn tells calm faults told left words d e from from (status_of stopped)
+    pub stopped_outcome : (told : Option FileMap) (left : Option (List (List ℕ))) (stopped : NoReport) → IfSome told (λ m. IsStop (NoPage m name) stopped) → OutcomeOn tells calm faults told left words d e from from (status_of stopped)
     stopped_outcome None left stopped is = tt
     stopped_outcome (Some m) None stopped is = tt
     stopped_outcome (Some m) (Some lines) stopped is = stop_outcome m lines stopped is

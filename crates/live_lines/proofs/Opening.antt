@@ -10,8 +10,8 @@ use Rattle.slot_check.specs.declared.sources.SourceFile.{SourceFile}
 use Rattle.slot_check.specs.Sources.{Source}
 use Rattle.slot_check.specs.Verdicts.{sources_of}
 use Rattle.page_check.specs.Runs.{SlotRun, slots_named}
-use Rattle.run_steps.specs.declared.reading.Stop.{Stop}
-use Rattle.run_steps.specs.declared.reading.Stop.TheVariants as stop
+use Rattle.run_steps.specs.declared.reading.NoReport.{NoReport}
+use Rattle.run_steps.specs.declared.reading.NoReport.TheVariants as stop
 use Rattle.run_steps.specs.Page.{AreRead, HasManifest, file_limit, texts, slot_names, slot_files, files_named}
 use Rattle.run_steps.specs.Reading.{ComesThrough, HasPageFiles, ReadsFiles}
 use Rattle.run_steps.specs.Steps.{NoFiles, NoManifest}
@@ -49,11 +49,11 @@ alive_first parts pairs runs p l = record { parts = parts; pairs = pairs; runs =
 -- ## Step by step
 
 module _ {F : Type 0} (told : F → Option FileMap) (calm : F → Type 0) (faults : F → ℕ) (name : List ℕ) where
-  abbrev Opens : F → F → Result LivePage Stop → Type 0
+  abbrev Opens : F → F → Result LivePage NoReport → Type 0
   Opens a b r = Stepped told calm faults a b r (λ m page. IsOpened m name page) (λ m. NoPage m name) (λ m. HasPageFiles m name)
 
   -- there is no manifest
-  pub no_manifest_opens : {a b : F} {e : Stop} → Stepped {T = Manifest} told calm faults a b (Err e) (λ m x. HasManifest m name x) (λ m. NoManifest m name) (λ m. IsSome (m name)) → Opens a b (Err e)
+  pub no_manifest_opens : {a b : F} {e : NoReport} → Stepped {T = Manifest} told calm faults a b (Err e) (λ m x. HasManifest m name x) (λ m. NoManifest m name) (λ m. IsSome (m name)) → Opens a b (Err e)
   no_manifest_opens {a} {b} {e} one = record {
     gives = tt;
     stops = told_stop (λ m. NoManifest m name) (λ m. NoPage m name) (λ m s is. no_manifest is) (told a) e one.stops;
@@ -64,16 +64,16 @@ module _ {F : Type 0} (told : F → Option FileMap) (calm : F → Type 0) (fault
     abbrev HasRead : F → F → Type 0
     HasRead a b = Stepped told calm faults a b (Ok manifest) (λ m x. HasManifest m name x) (λ m. NoManifest m name) (λ m. IsSome (m name))
 
-    abbrev ReadsNamed : F → F → Result (Vec SourceFile Global) Stop → Type 0
+    abbrev ReadsNamed : F → F → Result (Vec SourceFile Global) NoReport → Type 0
     ReadsNamed b c r = Stepped told calm faults b c r (λ m v. AreRead m file_limit (files_named manifest) (sources_of v.items)) (λ m. NoFiles m (files_named manifest)) (λ m. ComesThrough m file_limit (files_named manifest))
 
-    both_read : {a b c : F} {r : Result (Vec SourceFile Global) Stop} {Fault : Type 0} → HasRead a b → ReadsNamed b c r → (Fault → IsErrOf r stop.ReadFault) → ReadsFiles told calm faults a c Fault (IsSomeAnd (told a) (λ m. HasPageFiles m name))
+    both_read : {a b c : F} {r : Result (Vec SourceFile Global) NoReport} {Fault : Type 0} → HasRead a b → ReadsNamed b c r → (Fault → IsErrOf r stop.ReadFault) → ReadsFiles told calm faults a c Fault (IsSomeAnd (told a) (λ m. HasPageFiles m name))
     both_read {a} {b} {c} one two fails =
         reads_then told calm faults one.reads two.reads fails (told_enough (λ m. HasPageFiles m name) (λ m. IsSome (m name)) (λ m has. has.manifest) (told a))
         (λ all. subst (λ t. IsSomeAnd t (λ m. ComesThrough m file_limit (files_named manifest))) (sym one.reads.same)
         (step_enough (λ m x. HasManifest m name x) manifest (λ m. HasPageFiles m name) (λ m. ComesThrough m file_limit (files_named manifest)) (λ m given has. has.named manifest given) (told a) one.gives all))
 
-    no_files_told : (o : Option FileMap) (e : Stop) → IfSome o (λ m. HasManifest m name manifest) → IfSome o (λ m. IsStop (NoFiles m (files_named manifest)) e) → IfSome o (λ m. IsStop (NoPage m name) e)
+    no_files_told : (o : Option FileMap) (e : NoReport) → IfSome o (λ m. HasManifest m name manifest) → IfSome o (λ m. IsStop (NoFiles m (files_named manifest)) e) → IfSome o (λ m. IsStop (NoPage m name) e)
     no_files_told None e given is = tt
     no_files_told (Some m) e given is = as_stop (NoFiles m (files_named manifest)) (NoPage m name) (λ s no. no_files given no) e is
 
@@ -83,7 +83,7 @@ module _ {F : Type 0} (told : F → Option FileMap) (calm : F → Type 0) (fault
     opened_told (Some m) sources page lives given read = record { manifest = manifest; sources = sources; there = given; read = read; lives = lives }
 
     -- one of its files is not there, or too large
-    pub no_files_opens : {a b c : F} {e : Stop} → HasRead a b → ReadsNamed b c (Err e) → Opens a c (Err e)
+    pub no_files_opens : {a b c : F} {e : NoReport} → HasRead a b → ReadsNamed b c (Err e) → Opens a c (Err e)
     no_files_opens {a} {b} {c} {e} one two = record {
       gives = tt;
       stops = no_files_told (told a) e one.gives (subst (λ t. IfSome t (λ m. IsStop (NoFiles m (files_named manifest)) e)) one.reads.same two.stops);

@@ -11,7 +11,7 @@ use event_loop::Event;
 use host_io::Files;
 use live_text::{Cause, Request, RequestFault, one_request, push_refused, read_request};
 use page_live::Session;
-use run_steps::{FILE_LIMIT, Stop, read_file};
+use run_steps::{FILE_LIMIT, NoReport, read_file};
 use slot_check::SourceFile;
 use std::alloc::Global;
 use trace_reader::TraceItem;
@@ -123,8 +123,8 @@ fn answer_swap<F: Files>(
     }
     match read_file(alloc, name.as_str(), FILE_LIMIT, files) {
         Ok(bytes) => session.swap(alloc, to, &SourceFile { name, bytes }, out),
-        Err(Stop::TooLarge) => push_refused(Cause::TooLarge, out),
-        Err(Stop::ReadFault) => push_refused(Cause::NoFile, out),
+        Err(NoReport::TooLarge) => push_refused(Cause::TooLarge, out),
+        Err(NoReport::ReadFault) => push_refused(Cause::NoFile, out),
         Err(_) => Err(Memory),
     }
 }

@@ -17,7 +17,7 @@ use live_text::push_full;
 use page_check::read_manifests_fit;
 use page_live::{LivePage, Session};
 use page_play::some_refused;
-use run_steps::{Status, Stop, files_of, manifest_in, slot_names, status_of};
+use run_steps::{NoReport, Status, files_of, manifest_in, slot_names, status_of};
 use std::alloc::Global;
 
 /// The items that a page may take.
@@ -69,7 +69,12 @@ pub fn live<F: Files, L: Lines, S: Sink>(
 }
 
 // The page of the manifest of a name, loaded.
-fn open<F: Files>(alloc: Global, name: &str, slice: u32, files: &mut F) -> Result<LivePage, Stop>
+fn open<F: Files>(
+    alloc: Global,
+    name: &str,
+    slice: u32,
+    files: &mut F,
+) -> Result<LivePage, NoReport>
     requires some { 1 ≤ slice }
     ensures alive { IfOk result IsAlive }
     ensures first { IfOk result (λ page. page.taken ≡ 0) }

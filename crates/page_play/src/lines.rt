@@ -10,7 +10,7 @@ use js_image::StopCause;
 use slot_check::Refusal;
 use std::alloc::Global;
 use trace_text::{Line, RunText, State};
-use widget_host::{RunLine, Stop};
+use widget_host::{LifeStop, RunLine};
 
 /// What a life did, under its name; `until` is the position of the swap that ended it, counted from 1.
 pub fn run_text(name: Text, until: Option<u32>, line: RunLine) -> RunText
@@ -32,19 +32,19 @@ pub fn run_text(name: Text, until: Option<u32>, line: RunLine) -> RunText
 }
 
 // How a life stands.
-fn state_of(stop: Option<Stop>) -> State
+fn state_of(stop: Option<LifeStop>) -> State
     ensures { state_name result ≡ state_word (option_map meant_stop stop) }
 {
     match stop {
         None => State::Live,
-        Some(Stop::Fuel) => State::Fuel,
-        Some(Stop::Limit(StopCause::Number)) => State::Number,
-        Some(Stop::Limit(StopCause::Depth)) => State::Depth,
-        Some(Stop::Limit(StopCause::Cells)) => State::Cells,
-        Some(Stop::Limit(StopCause::Slots)) => State::Slots,
-        Some(Stop::Limit(StopCause::Units)) => State::Units,
-        Some(Stop::Limit(StopCause::LongText)) => State::LongText,
-        Some(Stop::Limit(StopCause::Nodes)) => State::Nodes,
+        Some(LifeStop::Fuel) => State::Fuel,
+        Some(LifeStop::Limit(StopCause::Number)) => State::Number,
+        Some(LifeStop::Limit(StopCause::Depth)) => State::Depth,
+        Some(LifeStop::Limit(StopCause::Cells)) => State::Cells,
+        Some(LifeStop::Limit(StopCause::Slots)) => State::Slots,
+        Some(LifeStop::Limit(StopCause::Units)) => State::Units,
+        Some(LifeStop::Limit(StopCause::LongText)) => State::LongText,
+        Some(LifeStop::Limit(StopCause::Nodes)) => State::Nodes,
     }
 }
 

@@ -28,8 +28,8 @@ use Rattle.slot_check.specs.declared.sources.SourceFile.{SourceFile}
 use Rattle.slot_check.specs.Verdicts.{sources_of}
 use Rattle.run_steps.specs.declared.ending.Status.{Status}
 use Rattle.run_steps.specs.declared.ending.Status.TheVariants as status
-use Rattle.run_steps.specs.declared.reading.Stop.{Stop}
-use Rattle.run_steps.specs.declared.reading.Stop.TheVariants as stop
+use Rattle.run_steps.specs.declared.reading.NoReport.{NoReport}
+use Rattle.run_steps.specs.declared.reading.NoReport.TheVariants as stop
 use Rattle.run_steps.specs.Page.{texts, file_limit, manifest_limit, trace_limit, AreRead, IsFirstLong, files_swapped, HasManifest, HasTrace, HasBytes}
 use Rattle.run_steps.specs.Reading.{ReadsFiles, IsLong, ComesThrough, IsTraceThere, IsReadStop}
 use Rattle.run_steps.specs.Items.{IsFor, AreItems}
@@ -49,7 +49,7 @@ module _ (Stops : FileMap → Status → Type 0) (name : List ℕ) (limit : ℕ)
   long_stop m None there is = absurd is
   long_stop m (Some file) there is = long m file there is
 
-  pub unread : (told : Option FileMap) (e : Stop) → IsReadStop e → (e ≡ stop.TooLarge → IfSome told (λ m. IsLong (m name) limit)) → IfSome told (λ m. IsStop (Stops m) e)
+  pub unread : (told : Option FileMap) (e : NoReport) → IsReadStop e → (e ≡ stop.TooLarge → IfSome told (λ m. IsLong (m name) limit)) → IfSome told (λ m. IsStop (Stops m) e)
   unread None e is large = tt
   unread (Some m) stop.BadManifest is large = absurd is
   unread (Some m) stop.BadTrace is large = absurd is
@@ -65,7 +65,7 @@ there_and (Some m) name has = has
 
 module _ {F : Type 0} (told : F → Option FileMap) (calm : F → Type 0) (faults : F → ℕ) where
   -- the file was not read
-  pub none_read : {T U : Type 0} {a b : F} {e : Stop} (Gives : FileMap → U → Type 0) (Stops : FileMap → Status → Type 0) (name : List ℕ) (limit : ℕ) → ((m : FileMap) (file : List ℕ) → m name ≡ Some file → limit < length file → Stops m status.TooLarge) → IsReadStop e → (IsErrOf {T = T} (Err e) stop.TooLarge → IfSome (told a) (λ m. IsLong (m name) limit)) → ReadsFiles told calm faults a b (IsErrOf {T = T} (Err e) stop.ReadFault) (IsThere (told a) name) → Stepped told calm faults a b (Err e) Gives Stops (λ m. IsSome (m name))
+  pub none_read : {T U : Type 0} {a b : F} {e : NoReport} (Gives : FileMap → U → Type 0) (Stops : FileMap → Status → Type 0) (name : List ℕ) (limit : ℕ) → ((m : FileMap) (file : List ℕ) → m name ≡ Some file → limit < length file → Stops m status.TooLarge) → IsReadStop e → (IsErrOf {T = T} (Err e) stop.TooLarge → IfSome (told a) (λ m. IsLong (m name) limit)) → ReadsFiles told calm faults a b (IsErrOf {T = T} (Err e) stop.ReadFault) (IsThere (told a) name) → Stepped told calm faults a b (Err e) Gives Stops (λ m. IsSome (m name))
   none_read {T} {U} {a} {b} {e} Gives Stops name limit long is large reads = record {
     gives = tt;
     stops = unread Stops name limit long (told a) e is (λ same. large (ap Err same));
@@ -79,17 +79,17 @@ module _ {F : Type 0} (told : F → Option FileMap) (calm : F → Type 0) (fault
   bytes_told None bytes there within = tt
   bytes_told (Some m) bytes there within = record { named = refl; there = there; within = within }
 
-  pub bytes_step : {a b : F} (r : Result (Vec ℕ Global) Stop) → IfOk r (λ v. IfSome (told a) (λ m. m name ≡ Some v.items)) → IfOk r (λ v. length v.items ≤ limit) → (IsErrOf r stop.TooLarge → IfSome (told a) (λ m. IsLong (m name) limit)) → IfErr r IsReadStop → ReadsFiles told calm faults a b (IsErrOf r stop.ReadFault) (IsThere (told a) name) → Stepped told calm faults a b r (λ m v. HasBytes m limit name v.items) (λ m. NoBytes m limit name) (λ m. IsSome (m name))
+  pub bytes_step : {a b : F} (r : Result (Vec ℕ Global) NoReport) → IfOk r (λ v. IfSome (told a) (λ m. m name ≡ Some v.items)) → IfOk r (λ v. length v.items ≤ limit) → (IsErrOf r stop.TooLarge → IfSome (told a) (λ m. IsLong (m name) limit)) → IfErr r IsReadStop → ReadsFiles told calm faults a b (IsErrOf r stop.ReadFault) (IsThere (told a) name) → Stepped told calm faults a b r (λ m v. HasBytes m limit name v.items) (λ m. NoBytes m limit name) (λ m. IsSome (m name))
   bytes_step {a} {b} r there within large is reads = record {
     gives = gives_of r there within;
     stops = stops_of r large is;
     reads = reads_as told calm faults reads (λ failed. failed) (there_and (told a) name);
   } where
-    gives_of : (x : Result (Vec ℕ Global) Stop) → IfOk x (λ v. IfSome (told a) (λ m. m name ≡ Some v.items)) → IfOk x (λ v. length v.items ≤ limit) → IfOk x (λ v. IfSome (told a) (λ m. HasBytes m limit name v.items))
+    gives_of : (x : Result (Vec ℕ Global) NoReport) → IfOk x (λ v. IfSome (told a) (λ m. m name ≡ Some v.items)) → IfOk x (λ v. length v.items ≤ limit) → IfOk x (λ v. IfSome (told a) (λ m. HasBytes m limit name v.items))
     gives_of (Ok v) has few = bytes_told (told a) v.items has few
     gives_of (Err e) has few = tt
 
-    stops_of : (x : Result (Vec ℕ Global) Stop) → (IsErrOf x stop.TooLarge → IfSome (told a) (λ m. IsLong (m name) limit)) → IfErr x IsReadStop → IfErr x (λ e. IfSome (told a) (λ m. IsStop (NoBytes m limit name) e))
+    stops_of : (x : Result (Vec ℕ Global) NoReport) → (IsErrOf x stop.TooLarge → IfSome (told a) (λ m. IsLong (m name) limit)) → IfErr x IsReadStop → IfErr x (λ e. IfSome (told a) (λ m. IsStop (NoBytes m limit name) e))
     stops_of (Ok v) long stopped = tt
     stops_of (Err e) long stopped = unread (λ m. NoBytes m limit name) name limit (λ m file at above. long_bytes at above) (told a) e stopped (λ same. long (ap Err same))
 
@@ -102,7 +102,7 @@ manifest_told : (told : Option FileMap) (name file : List ℕ) (manifest : Manif
 manifest_told None name file manifest there within reads = tt
 manifest_told (Some m) name file manifest there within reads = manifest_of m name file manifest there within reads
 
-manifest_stop : (told : Option FileMap) (name file : List ℕ) (e : Stop) → IfSome told (λ m. m name ≡ Some file) → length file ≤ manifest_limit → IsManifestStop file e → IfSome told (λ m. IsStop (NoManifest m name) e)
+manifest_stop : (told : Option FileMap) (name file : List ℕ) (e : NoReport) → IfSome told (λ m. m name ≡ Some file) → length file ≤ manifest_limit → IsManifestStop file e → IfSome told (λ m. IsStop (NoManifest m name) e)
 manifest_stop None name file e there within is = tt
 manifest_stop (Some m) name file stop.BadManifest there within is = bad_manifest {source = record { name = name; bytes = file }} (record { named = refl; there = there; within = within }) is
 manifest_stop (Some m) name file stop.BadTrace there within is = absurd is
@@ -112,7 +112,7 @@ manifest_stop (Some m) name file stop.TooLarge there within is = absurd is
 manifest_stop (Some m) name file stop.ReadFault there within is = tt
 manifest_stop (Some m) name file stop.Memory there within is = tt
 
-never_unread : {T : Type 0} (bytes : List ℕ) (r : Result T Stop) → IfErr r (IsManifestStop bytes) → IsErrOf r stop.ReadFault → ⊥
+never_unread : {T : Type 0} (bytes : List ℕ) (r : Result T NoReport) → IfErr r (IsManifestStop bytes) → IsErrOf r stop.ReadFault → ⊥
 never_unread bytes (Ok x) is failed = (let e = failed in cc)
 never_unread bytes (Err e) is failed = let same : e ≡ stop.ReadFault = (let f = failed in cc) in subst (IsManifestStop bytes) same is
 
@@ -120,17 +120,17 @@ pub long_manifest_of : (name : List ℕ) (m : FileMap) (file : List ℕ) → m n
 long_manifest_of name m file there long = long_manifest there long
 
 module _ {F : Type 0} (told : F → Option FileMap) (calm : F → Type 0) (faults : F → ℕ) where
-  pub manifest_step : {a b : F} {Failed : Type 0} (name file shown : List ℕ) (r : Result Manifest Stop) → ReadsFiles told calm faults a b Failed (IsThere (told a) name) → IfSome (told a) (λ m. m name ≡ Some file) → length file ≤ manifest_limit → shown ≡ file → IfOk r (ReadsManifest shown) → IfErr r (IsManifestStop shown) → Stepped told calm faults a b r (λ m x. HasManifest m name x) (λ m. NoManifest m name) (λ m. IsSome (m name))
+  pub manifest_step : {a b : F} {Failed : Type 0} (name file shown : List ℕ) (r : Result Manifest NoReport) → ReadsFiles told calm faults a b Failed (IsThere (told a) name) → IfSome (told a) (λ m. m name ≡ Some file) → length file ≤ manifest_limit → shown ≡ file → IfOk r (ReadsManifest shown) → IfErr r (IsManifestStop shown) → Stepped told calm faults a b r (λ m x. HasManifest m name x) (λ m. NoManifest m name) (λ m. IsSome (m name))
   manifest_step {a} {b} name file shown r reads there within same ok bad = record {
     gives = gives_of r (subst (λ x. IfOk r (ReadsManifest x)) same ok);
     stops = stops_of r (subst (λ x. IfErr r (IsManifestStop x)) same bad);
     reads = reads_as told calm faults reads (λ failed. absurd (never_unread shown r bad failed)) (there_and (told a) name);
   } where
-    gives_of : (x : Result Manifest Stop) → IfOk x (ReadsManifest file) → IfOk x (λ v. IfSome (told a) (λ m. HasManifest m name v))
+    gives_of : (x : Result Manifest NoReport) → IfOk x (ReadsManifest file) → IfOk x (λ v. IfSome (told a) (λ m. HasManifest m name v))
     gives_of (Ok v) is = manifest_told (told a) name file v there within is
     gives_of (Err e) is = is
 
-    stops_of : (x : Result Manifest Stop) → IfErr x (IsManifestStop file) → IfErr x (λ e. IfSome (told a) (λ m. IsStop (NoManifest m name) e))
+    stops_of : (x : Result Manifest NoReport) → IfErr x (IsManifestStop file) → IfErr x (λ e. IfSome (told a) (λ m. IsStop (NoManifest m name) e))
     stops_of (Ok v) is = is
     stops_of (Err e) is = manifest_stop (told a) name file e there within is
 
@@ -145,7 +145,7 @@ no_manifest bytes fault.Memory refused kept m reads = kept refl
 
 -- ## Its files
 
-files_stop : (told : Option FileMap) (names : List (List ℕ)) (e : Stop) → IsReadStop e → (e ≡ stop.TooLarge → IfSome told (λ m. IsFirstLong m file_limit names)) → IfSome told (λ m. IsStop (NoFiles m names) e)
+files_stop : (told : Option FileMap) (names : List (List ℕ)) (e : NoReport) → IsReadStop e → (e ≡ stop.TooLarge → IfSome told (λ m. IsFirstLong m file_limit names)) → IfSome told (λ m. IsStop (NoFiles m names) e)
 files_stop None names e is long = tt
 files_stop (Some m) names stop.BadManifest is long = absurd is
 files_stop (Some m) names stop.BadTrace is long = absurd is
@@ -156,13 +156,13 @@ files_stop (Some m) names stop.ReadFault is long = tt
 files_stop (Some m) names stop.Memory is long = tt
 
 module _ {F : Type 0} (told : F → Option FileMap) (calm : F → Type 0) (faults : F → ℕ) (names : List (List ℕ)) where
-  pub files_step : {a b : F} (shown : List (List ℕ)) (r : Result (Vec SourceFile Global) Stop) → shown ≡ names → IfOk r (λ v. IfSome (told a) (λ m. AreRead m file_limit shown (sources_of v.items))) → (IsErrOf r stop.TooLarge → IfSome (told a) (λ m. IsFirstLong m file_limit shown)) → IfErr r IsReadStop → ReadsFiles told calm faults a b (IsErrOf r stop.ReadFault) (IsSomeAnd (told a) (λ m. ComesThrough m file_limit shown)) → Stepped told calm faults a b r (λ m v. AreRead m file_limit names (sources_of v.items)) (λ m. NoFiles m names) (λ m. ComesThrough m file_limit names)
+  pub files_step : {a b : F} (shown : List (List ℕ)) (r : Result (Vec SourceFile Global) NoReport) → shown ≡ names → IfOk r (λ v. IfSome (told a) (λ m. AreRead m file_limit shown (sources_of v.items))) → (IsErrOf r stop.TooLarge → IfSome (told a) (λ m. IsFirstLong m file_limit shown)) → IfErr r IsReadStop → ReadsFiles told calm faults a b (IsErrOf r stop.ReadFault) (IsSomeAnd (told a) (λ m. ComesThrough m file_limit shown)) → Stepped told calm faults a b r (λ m v. AreRead m file_limit names (sources_of v.items)) (λ m. NoFiles m names) (λ m. ComesThrough m file_limit names)
   files_step {a} {b} shown r same ok large is reads = subst (λ ns. Stepped told calm faults a b r (λ m v. AreRead m file_limit ns (sources_of v.items)) (λ m. NoFiles m ns) (λ m. ComesThrough m file_limit ns)) same (record {
     gives = ok;
     stops = stops_of r large is;
     reads = reads;
   }) where
-    stops_of : (x : Result (Vec SourceFile Global) Stop) → (IsErrOf x stop.TooLarge → IfSome (told a) (λ m. IsFirstLong m file_limit shown)) → IfErr x IsReadStop → IfErr x (λ e. IfSome (told a) (λ m. IsStop (NoFiles m shown) e))
+    stops_of : (x : Result (Vec SourceFile Global) NoReport) → (IsErrOf x stop.TooLarge → IfSome (told a) (λ m. IsFirstLong m file_limit shown)) → IfErr x IsReadStop → IfErr x (λ e. IfSome (told a) (λ m. IsStop (NoFiles m shown) e))
     stops_of (Ok v) large is = tt
     stops_of (Err e) large is = files_stop (told a) shown e is (λ same. large (ap Err same))
 
@@ -172,7 +172,7 @@ trace_told : (told : Option FileMap) (names : List (List ℕ)) (name file : List
 trace_told None names name file items there within reads = tt
 trace_told (Some m) names name file items there within reads = record { source = record { name = name; bytes = file }; read = record { named = refl; there = there; within = within }; reads = reads }
 
-trace_stop : (told : Option FileMap) (names : List (List ℕ)) (name file : List ℕ) (e : Stop) → IfSome told (λ m. m name ≡ Some file) → length file ≤ trace_limit → IsTraceStop file names e → IfSome told (λ m. IsStop (NoTrace m names name) e)
+trace_stop : (told : Option FileMap) (names : List (List ℕ)) (name file : List ℕ) (e : NoReport) → IfSome told (λ m. m name ≡ Some file) → length file ≤ trace_limit → IsTraceStop file names e → IfSome told (λ m. IsStop (NoTrace m names name) e)
 trace_stop None names name file e there within is = tt
 trace_stop (Some m) names name file stop.BadManifest there within is = absurd is
 trace_stop (Some m) names name file stop.BadTrace there within is = bad_trace {source = record { name = name; bytes = file }} (record { named = refl; there = there; within = within }) is.0 is.1
@@ -182,7 +182,7 @@ trace_stop (Some m) names name file stop.TooLarge there within is = many_items {
 trace_stop (Some m) names name file stop.ReadFault there within is = tt
 trace_stop (Some m) names name file stop.Memory there within is = tt
 
-never_lost : {T : Type 0} (bytes : List ℕ) (names : List (List ℕ)) (r : Result T Stop) → IfErr r (IsTraceStop bytes names) → IsErrOf r stop.ReadFault → ⊥
+never_lost : {T : Type 0} (bytes : List ℕ) (names : List (List ℕ)) (r : Result T NoReport) → IfErr r (IsTraceStop bytes names) → IsErrOf r stop.ReadFault → ⊥
 never_lost bytes names (Ok x) is failed = (let e = failed in cc)
 never_lost bytes names (Err e) is failed = let same : e ≡ stop.ReadFault = (let f = failed in cc) in subst (IsTraceStop bytes names) same is
 
@@ -190,17 +190,17 @@ pub long_trace_of : (names : List (List ℕ)) (name : List ℕ) (m : FileMap) (f
 long_trace_of names name m file there long = long_trace there long
 
 module _ {F : Type 0} (told : F → Option FileMap) (calm : F → Type 0) (faults : F → ℕ) (names : List (List ℕ)) where
-  pub trace_step : {a b : F} {Failed : Type 0} (name file shown : List ℕ) (r : Result (Vec TraceItem Global) Stop) → ReadsFiles told calm faults a b Failed (IsThere (told a) name) → IfSome (told a) (λ m. m name ≡ Some file) → length file ≤ trace_limit → shown ≡ file → IfOk r (λ v. ReadsTrace shown names v.items) → IfErr r (IsTraceStop shown names) → Stepped told calm faults a b r (λ m v. HasTrace m names name v.items) (λ m. NoTrace m names name) (λ m. IsSome (m name))
+  pub trace_step : {a b : F} {Failed : Type 0} (name file shown : List ℕ) (r : Result (Vec TraceItem Global) NoReport) → ReadsFiles told calm faults a b Failed (IsThere (told a) name) → IfSome (told a) (λ m. m name ≡ Some file) → length file ≤ trace_limit → shown ≡ file → IfOk r (λ v. ReadsTrace shown names v.items) → IfErr r (IsTraceStop shown names) → Stepped told calm faults a b r (λ m v. HasTrace m names name v.items) (λ m. NoTrace m names name) (λ m. IsSome (m name))
   trace_step {a} {b} name file shown r reads there within same ok bad = record {
     gives = gives_of r (subst (λ x. IfOk r (λ v. ReadsTrace x names v.items)) same ok);
     stops = stops_of r (subst (λ x. IfErr r (IsTraceStop x names)) same bad);
     reads = reads_as told calm faults reads (λ failed. absurd (never_lost shown names r bad failed)) (there_and (told a) name);
   } where
-    gives_of : (x : Result (Vec TraceItem Global) Stop) → IfOk x (λ v. ReadsTrace file names v.items) → IfOk x (λ v. IfSome (told a) (λ m. HasTrace m names name v.items))
+    gives_of : (x : Result (Vec TraceItem Global) NoReport) → IfOk x (λ v. ReadsTrace file names v.items) → IfOk x (λ v. IfSome (told a) (λ m. HasTrace m names name v.items))
     gives_of (Ok v) is = trace_told (told a) names name file v.items there within is
     gives_of (Err e) is = is
 
-    stops_of : (x : Result (Vec TraceItem Global) Stop) → IfErr x (IsTraceStop file names) → IfErr x (λ e. IfSome (told a) (λ m. IsStop (NoTrace m names name) e))
+    stops_of : (x : Result (Vec TraceItem Global) NoReport) → IfErr x (IsTraceStop file names) → IfErr x (λ e. IfSome (told a) (λ m. IsStop (NoTrace m names name) e))
     stops_of (Ok v) is = is
     stops_of (Err e) is = trace_stop (told a) names name file e there within is
 
@@ -271,7 +271,7 @@ items_for bytes names items reads = record {
   swaps = omega (arith, few_swaps (judged_version reads.value) names reads.trace.entries items reads.trace.each, reads.trace.swaps);
 }
 
-pub ok_for : (bytes : List ℕ) (names : List (List ℕ)) (r : Result (Vec TraceItem Global) Stop) → IfOk r (λ v. ReadsTrace bytes names v.items) → IfOk r (λ v. AreItems (length names) (map said v.items))
+pub ok_for : (bytes : List ℕ) (names : List (List ℕ)) (r : Result (Vec TraceItem Global) NoReport) → IfOk r (λ v. ReadsTrace bytes names v.items) → IfOk r (λ v. AreItems (length names) (map said v.items))
 ok_for bytes names (Ok v) is = items_for bytes names v.items is
 ok_for bytes names (Err e) is = is
 
@@ -290,6 +290,6 @@ module _ {F : Type 0} (told : F → Option FileMap) (calm : F → Type 0) (fault
     none_told None = tt
     none_told (Some m) = is
 
-pub many_files : (r : Result (Vec SourceFile Global) Stop) (shown : List (String Global)) (names : List (List ℕ)) → texts shown ≡ names → IfOk r (λ v. length v.items ≡ length shown) → IfOk r (λ v. length v.items ≡ length names)
+pub many_files : (r : Result (Vec SourceFile Global) NoReport) (shown : List (String Global)) (names : List (List ℕ)) → texts shown ≡ names → IfOk r (λ v. length v.items ≡ length shown) → IfOk r (λ v. length v.items ≡ length names)
 many_files (Ok v) shown names same many = many ∙ sym (length-map shown string_bytes) ∙ ap length same
 many_files (Err e) shown names same many = many

@@ -15,7 +15,7 @@ use Rattle.manifest_reader.specs.declared.entry.Manifest.{Manifest}
 use Rattle.manifest_reader.specs.Page.{Part, Markup, Widget, part_of, IsFilled}
 use Rattle.manifest_reader.specs.Manifest.{ReadsManifest}
 use Rattle.manifest_reader.proofs.SameLemmas.{one_manifest}
-use Rattle.run_steps.specs.declared.reading.Stop.{Stop}
+use Rattle.run_steps.specs.declared.reading.NoReport.{NoReport}
 use Rattle.run_steps.specs.Page.{IsManifest, texts, slot_names, slot_files, files_named, parts, HasSlots}
 
 -- the name and the file of a slot, of its plain data
@@ -75,11 +75,11 @@ has_slots bytes m reads =
     names_by_parts m.entries.items ∙ sym (names_filled (judged_version reads.value) shape.fuel whole.page shape.entries.items (parts m) whole.each reads.is.filled.entries.each) in
     ap are_slots same ∙ whole.slots
 
-pub ok_slots : (bytes : List ℕ) (r : Result Manifest Stop) → IfOk r (ReadsManifest bytes) → IfOk r HasSlots
+pub ok_slots : (bytes : List ℕ) (r : Result Manifest NoReport) → IfOk r (ReadsManifest bytes) → IfOk r HasSlots
 ok_slots bytes (Ok m) is = has_slots bytes m is
 ok_slots bytes (Err e) is = is
 
 -- a manifest that was read is one
-pub ok_reads : (bytes : List ℕ) (r : Result Manifest Stop) → IfOk r (ReadsManifest bytes) → IfOk r IsManifest
+pub ok_reads : (bytes : List ℕ) (r : Result Manifest NoReport) → IfOk r (ReadsManifest bytes) → IfOk r IsManifest
 ok_reads bytes (Ok m) is = record { bytes = bytes; reads = is }
 ok_reads bytes (Err e) is = is

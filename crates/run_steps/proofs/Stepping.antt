@@ -3,19 +3,19 @@ use Rattle.std.proofs.Common.{◌≡◌, Option, Some, None, IfSome, IsSomeAnd, 
 use Rattle.host_io.specs.Files.{FileMap}
 use Rattle.run_steps.specs.declared.ending.Status.{Status}
 use Rattle.run_steps.specs.declared.ending.Status.TheVariants as status
-use Rattle.run_steps.specs.declared.reading.Stop.{Stop}
-use Rattle.run_steps.specs.declared.reading.Stop.TheVariants as stop
+use Rattle.run_steps.specs.declared.reading.NoReport.{NoReport}
+use Rattle.run_steps.specs.declared.reading.NoReport.TheVariants as stop
 use Rattle.run_steps.specs.Ends.{IsStop, status_of}
 
 -- which errors there are
-err_is : {T : Type 0} (s t : Stop) → IsErrOf {T = T} (Err s) t → s ≡ t
+err_is : {T : Type 0} (s t : NoReport) → IsErrOf {T = T} (Err s) t → s ≡ t
 err_is s t e = cc
 
-pub again : {T U : Type 0} (s t : Stop) → IsErrOf {T = T} (Err s) t → IsErrOf {T = U} (Err s) t
+pub again : {T U : Type 0} (s t : NoReport) → IsErrOf {T = T} (Err s) t → IsErrOf {T = U} (Err s) t
 again s t e = ap Err (err_is s t e)
 
 -- what stops one thing stops another
-pub as_stop : (P Q : Status → Type 0) → ((s : Status) → P s → Q s) → (e : Stop) → IsStop P e → IsStop Q e
+pub as_stop : (P Q : Status → Type 0) → ((s : Status) → P s → Q s) → (e : NoReport) → IsStop P e → IsStop Q e
 as_stop P Q more stop.BadManifest is = more status.BadManifest is
 as_stop P Q more stop.BadTrace is = more status.BadTrace is
 as_stop P Q more stop.TooLarge is = more status.TooLarge is
@@ -25,7 +25,7 @@ as_stop P Q more stop.ReadFault is = tt
 as_stop P Q more stop.Memory is = tt
 
 module _ (P Q : FileMap → Status → Type 0) (more : (m : FileMap) (s : Status) → P m s → Q m s) where
-  pub told_stop : (told : Option FileMap) (e : Stop) → IfSome told (λ m. IsStop (P m) e) → IfSome told (λ m. IsStop (Q m) e)
+  pub told_stop : (told : Option FileMap) (e : NoReport) → IfSome told (λ m. IsStop (P m) e) → IfSome told (λ m. IsStop (Q m) e)
   told_stop None e is = is
   told_stop (Some m) e is = as_stop (P m) (Q m) (more m) e is
 
@@ -45,7 +45,7 @@ none_stops (Some m) = tt
 
 -- ## No stop ends with these
 
-pub stop_usage : (e : Stop) → status_of e ≡ status.Usage → ⊥
+pub stop_usage : (e : NoReport) → status_of e ≡ status.Usage → ⊥
 stop_usage stop.BadManifest is = cc
 stop_usage stop.BadTrace is = cc
 stop_usage stop.TooLarge is = cc
@@ -54,7 +54,7 @@ stop_usage stop.BadCert is = cc
 stop_usage stop.ReadFault is = cc
 stop_usage stop.Memory is = cc
 
-pub stop_write : (e : Stop) → status_of e ≡ status.WriteFault → ⊥
+pub stop_write : (e : NoReport) → status_of e ≡ status.WriteFault → ⊥
 stop_write stop.BadManifest is = cc
 stop_write stop.BadTrace is = cc
 stop_write stop.TooLarge is = cc
@@ -63,7 +63,7 @@ stop_write stop.BadCert is = cc
 stop_write stop.ReadFault is = cc
 stop_write stop.Memory is = cc
 
-pub stop_read : {T : Type 0} (e : Stop) → status_of e ≡ status.ReadFault → IsErrOf {T = T} (Err e) stop.ReadFault
+pub stop_read : {T : Type 0} (e : NoReport) → status_of e ≡ status.ReadFault → IsErrOf {T = T} (Err e) stop.ReadFault
 stop_read stop.BadManifest is = cc
 stop_read stop.BadTrace is = cc
 stop_read stop.TooLarge is = cc

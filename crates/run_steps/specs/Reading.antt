@@ -4,8 +4,8 @@ use Rattle.host_io.specs.Files.{FileMap, Rose}
 use Rattle.manifest_reader.specs.declared.entry.Manifest.{Manifest}
 use Rattle.trace_reader.specs.declared.item.TraceItem.{TraceItem}
 use Rattle.slot_check.specs.Sources.{Source}
-use Rattle.run_steps.specs.declared.reading.Stop.{Stop}
-use Rattle.run_steps.specs.declared.reading.Stop.TheVariants as stop
+use Rattle.run_steps.specs.declared.reading.NoReport.{NoReport}
+use Rattle.run_steps.specs.declared.reading.NoReport.TheVariants as stop
 use Rattle.run_steps.specs.Request.{Request, Check, CheckLib, Tidy, Render, Replay, Audit, CheckAudit, Demo, Asks}
 use Rattle.run_steps.specs.Page.{file_limit, AreRead, IsFirstLong, slot_names, files_named, swap_files, HasManifest}
 use Rattle.run_steps.specs.Steps.{HasItems}
@@ -73,7 +73,7 @@ abbrev pub HasFiles : List (List ℕ) → FileMap → Type 0
 HasFiles words files = (request : Request) → Asks words request → HasFilesFor files request
 
 -- a stop of a read: the file is too large, it could not be read, or there was no memory
-abbrev pub IsReadStop : Stop → Type 0
+abbrev pub IsReadStop : NoReport → Type 0
 IsReadStop stop.BadManifest = ⊥
 IsReadStop stop.BadTrace = ⊥
 IsReadStop stop.CertTooLarge = ⊥

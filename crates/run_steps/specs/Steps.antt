@@ -10,8 +10,8 @@ use Rattle.manifest_reader.specs.Manifest.{ReadsManifest}
 use Rattle.trace_reader.specs.declared.item.TraceItem.{TraceItem}
 use Rattle.trace_reader.specs.Trace.{HasTooMany, ReadsTrace}
 use Rattle.slot_check.specs.Sources.{Source}
-use Rattle.run_steps.specs.declared.reading.Stop.{Stop}
-use Rattle.run_steps.specs.declared.reading.Stop.TheVariants as stop
+use Rattle.run_steps.specs.declared.reading.NoReport.{NoReport}
+use Rattle.run_steps.specs.declared.reading.NoReport.TheVariants as stop
 use Rattle.run_steps.specs.declared.ending.Status.{Status}
 use Rattle.run_steps.specs.declared.ending.Status.TheVariants as status
 use Rattle.run_steps.specs.Page.{file_limit, manifest_limit, trace_limit, IsRead, IsFirstLong, HasTrace}
@@ -53,24 +53,24 @@ pub data NoTrace (files : FileMap) (names : List (List ℕ)) (trace : List ℕ) 
   bad_trace : {source : Source} → IsRead files trace_limit trace source → ((items : List TraceItem) → ¬ ReadsTrace source.bytes names items) → ((value : Data) (items : ℕ) → IsJson source.bytes value → ¬ HasTooMany value items) → NoTrace files names trace status.BadTrace
 
 -- why bytes give no manifest
-abbrev pub IsManifestStop : List ℕ → Stop → Type 0
+abbrev pub IsManifestStop : List ℕ → NoReport → Type 0
 IsManifestStop bytes stop.BadManifest = (manifest : Manifest) → ¬ ReadsManifest bytes manifest
 IsManifestStop bytes stop.Memory = Unit {0}
 IsManifestStop bytes _ = ⊥
 
 -- why bytes give no trace for slots of these names
-abbrev pub IsTraceStop : List ℕ → List (List ℕ) → Stop → Type 0
+abbrev pub IsTraceStop : List ℕ → List (List ℕ) → NoReport → Type 0
 IsTraceStop bytes names stop.TooLarge = (value : Data) × (items : ℕ) × IsJson bytes value × HasTooMany value items
 IsTraceStop bytes names stop.BadTrace = ((items : List TraceItem) → ¬ ReadsTrace bytes names items) × ((value : Data) (items : ℕ) → IsJson bytes value → ¬ HasTooMany value items)
 IsTraceStop bytes names stop.Memory = Unit {0}
 IsTraceStop bytes names _ = ⊥
 
 -- what the work stops at where bytes are refused
-abbrev pub manifest_stop_of : ShapeFault → Stop
+abbrev pub manifest_stop_of : ShapeFault → NoReport
 manifest_stop_of fault.Memory = stop.Memory
 manifest_stop_of _ = stop.BadManifest
 
-abbrev pub trace_stop_of : ShapeFault → Stop
+abbrev pub trace_stop_of : ShapeFault → NoReport
 trace_stop_of fault.Memory = stop.Memory
 trace_stop_of (fault.TooMany items) = stop.TooLarge
 trace_stop_of _ = stop.BadTrace

@@ -3,7 +3,7 @@ ghost use Rattle.std.specs.Prelude.{◌≡◌};
 ghost use Rattle.run_steps.specs.Numbers.{number_of};
 ghost use Rattle.run_steps.specs.Ends.{status_of};
 
-use crate::reading::Stop;
+use crate::reading::NoReport;
 
 /// The status of a run.
 #[derive(Clone, Copy, PartialEq, Eq)]
@@ -54,16 +54,16 @@ impl Status {
 }
 
 /// The status that a stop ends with.
-pub fn status_of(stop: Stop) -> Status
+pub fn status_of(stop: NoReport) -> Status
     ensures { result ≡ status_of stop }
 {
     match stop {
-        Stop::BadManifest => Status::BadManifest,
-        Stop::BadTrace => Status::BadTrace,
-        Stop::TooLarge => Status::TooLarge,
-        Stop::ReadFault => Status::ReadFault,
-        Stop::Memory => Status::Memory,
-        Stop::CertTooLarge => Status::CertTooLarge,
-        Stop::BadCert => Status::BadCert,
+        NoReport::BadManifest => Status::BadManifest,
+        NoReport::BadTrace => Status::BadTrace,
+        NoReport::TooLarge => Status::TooLarge,
+        NoReport::ReadFault => Status::ReadFault,
+        NoReport::Memory => Status::Memory,
+        NoReport::CertTooLarge => Status::CertTooLarge,
+        NoReport::BadCert => Status::BadCert,
     }
 }

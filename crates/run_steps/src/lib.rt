@@ -11,6 +11,6 @@ mod steps;
 
 pub use ending::{Status, status_of};
 pub use laws::some_step;
-pub use reading::{CERT_LIMIT, FILE_LIMIT, Stop, read_file};
+pub use reading::{CERT_LIMIT, FILE_LIMIT, NoReport, read_file};
 pub use request::{Request, SLICE_LIMIT, parse, read_count};
 pub use steps::{cert_in, files_named, files_of, items_of, manifest_in, slot_names, swaps_of};

@@ -18,7 +18,7 @@ pub const CERT_LIMIT: usize = 16_777_216;
 
 /// Why there is no report.
 #[derive(Clone, Copy)]
-pub enum Stop {
+pub enum NoReport {
     /// The bytes of the manifest are none.
     BadManifest,
     /// The bytes of the trace are none.
@@ -35,36 +35,36 @@ pub enum Stop {
     BadCert,
 }
 
-impl From<Memory> for Stop {
+impl From<Memory> for NoReport {
     ghost use Rattle.std.specs.Prelude.{◌≡◌};
-    ghost use Rattle.run_steps.specs.declared.reading.Stop.TheVariants as stops;
+    ghost use Rattle.run_steps.specs.declared.reading.NoReport.TheVariants as stops;
 
     ghost from_gives = { λ _ stop. stop ≡ stops.Memory };
 
-    fn from(_: Memory) -> Stop {
-        Stop::Memory
+    fn from(_: Memory) -> NoReport {
+        NoReport::Memory
     }
 }
 
-impl From<AllocError> for Stop {
+impl From<AllocError> for NoReport {
     ghost use Rattle.std.specs.Prelude.{◌≡◌};
-    ghost use Rattle.run_steps.specs.declared.reading.Stop.TheVariants as stops;
+    ghost use Rattle.run_steps.specs.declared.reading.NoReport.TheVariants as stops;
 
     ghost from_gives = { λ _ stop. stop ≡ stops.Memory };
 
-    fn from(_: AllocError) -> Stop {
-        Stop::Memory
+    fn from(_: AllocError) -> NoReport {
+        NoReport::Memory
     }
 }
 
-impl<T: Drop> From<AllocFailed<T>> for Stop {
+impl<T: Drop> From<AllocFailed<T>> for NoReport {
     ghost use Rattle.std.specs.Prelude.{◌≡◌};
-    ghost use Rattle.run_steps.specs.declared.reading.Stop.TheVariants as stops;
+    ghost use Rattle.run_steps.specs.declared.reading.NoReport.TheVariants as stops;
 
     ghost from_gives = { λ _ stop. stop ≡ stops.Memory };
 
-    fn from(_: AllocFailed<T>) -> Stop {
-        Stop::Memory
+    fn from(_: AllocFailed<T>) -> NoReport {
+        NoReport::Memory
     }
 }
 
@@ -74,25 +74,25 @@ pub fn read_file<F: Files>(
     name: &str,
     limit: usize,
     files: &mut F,
-) -> Result<Vec<u8>, Stop>
+) -> Result<Vec<u8>, NoReport>
     requires { limit < 2 ^ 32 }
     ensures ok { IfOk result (λ v. IfSome (F.told files.old) (λ m. m name.now ≡ Some v.items)) }
     ensures within { IfOk result (λ v. length v.items ≤ limit) }
-    ensures large { IsErrOf result Stop.TooLarge → IfSome (F.told files.old) (λ m. IsLong (m name.now) limit) }
+    ensures large { IsErrOf result NoReport.TooLarge → IfSome (F.told files.old) (λ m. IsLong (m name.now) limit) }
     ensures stops { IfErr result IsReadStop }
-    ensures reads { ReadsFiles F.told F.calm F.faults files.old files.new (IsErrOf result Stop.ReadFault)
+    ensures reads { ReadsFiles F.told F.calm F.faults files.old files.new (IsErrOf result NoReport.ReadFault)
         (IsThere (F.told files.old) name.now) }
 {
     match files.read(alloc, name, limit) {
         Ok(bytes) => {
             if bytes.len() > limit {
-                Err(Stop::TooLarge)
+                Err(NoReport::TooLarge)
             } else {
                 Ok(bytes)
             }
         }
-        Err(ReadFail::Failed) => Err(Stop::ReadFault),
-        Err(ReadFail::Memory) => Err(Stop::Memory),
+        Err(ReadFail::Failed) => Err(NoReport::ReadFault),
+        Err(ReadFail::Memory) => Err(NoReport::Memory),
     }
 }
 
@@ -101,15 +101,15 @@ pub fn read_files<F: Files>(
     alloc: Global,
     names: &[String],
     files: &mut F,
-) -> Result<Vec<SourceFile>, Stop>
+) -> Result<Vec<SourceFile>, NoReport>
     ensures ok { IfOk result (λ v. IfSome (F.told files.old) (λ m.
         AreRead m file_limit (texts names.now) (sources_of v.items))) }
     ensures many { IfOk result (λ v. length v.items ≡ length names.now) }
     ensures small { IfOk result (λ v. All IsSmall v.items) }
-    ensures large { IsErrOf result Stop.TooLarge →
+    ensures large { IsErrOf result NoReport.TooLarge →
         IfSome (F.told files.old) (λ m. IsFirstLong m file_limit (texts names.now)) }
     ensures stops { IfErr result IsReadStop }
-    ensures reads { ReadsFiles F.told F.calm F.faults files.old files.new (IsErrOf result Stop.ReadFault)
+    ensures reads { ReadsFiles F.told F.calm F.faults files.old files.new (IsErrOf result NoReport.ReadFault)
         (IsSomeAnd (F.told files.old) (λ m. ComesThrough m file_limit (texts names.now))) }
 {
     let mut sources = Vec::new(alloc);
@@ -122,12 +122,12 @@ pub fn read_files<F: Files>(
 
 // The file of a name, under that name.
 #[tactic(auto, using(crate::proofs::Gathered::read_one))]
-fn read_source<F: Files>(alloc: Global, name: &str, files: &mut F) -> Result<SourceFile, Stop>
+fn read_source<F: Files>(alloc: Global, name: &str, files: &mut F) -> Result<SourceFile, NoReport>
     ensures ok { IfOk result (λ s. IfSome (F.told files.old) (λ m. IsRead m file_limit name.now (source_of s))) }
     ensures small { IfOk result IsSmall }
-    ensures large { IsErrOf result Stop.TooLarge → IfSome (F.told files.old) (λ m. IsLong (m name.now) file_limit) }
+    ensures large { IsErrOf result NoReport.TooLarge → IfSome (F.told files.old) (λ m. IsLong (m name.now) file_limit) }
     ensures stops { IfErr result IsReadStop }
-    ensures reads { ReadsFiles F.told F.calm F.faults files.old files.new (IsErrOf result Stop.ReadFault)
+    ensures reads { ReadsFiles F.told F.calm F.faults files.old files.new (IsErrOf result NoReport.ReadFault)
         (IsThere (F.told files.old) name.now) }
 {
     let bytes = read_file(alloc, name, FILE_LIMIT, files)?;

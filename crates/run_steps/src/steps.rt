@@ -11,7 +11,7 @@ ghost use Rattle.run_steps.specs.Steps.{NoManifest, NoFiles, NoTrace, NoBytes, H
 ghost use Rattle.run_steps.specs.Reading.{ComesThrough, IsTraceThere};
 ghost use Rattle.run_steps.specs.Ends.{Stepped};
 
-use crate::reading::{CERT_LIMIT, Stop, read_file, read_files};
+use crate::reading::{CERT_LIMIT, NoReport, read_file, read_files};
 use code_units::{Memory, Text};
 use host_io::Files;
 use manifest_reader::{Entry, Manifest, read_manifest};
@@ -26,7 +26,7 @@ const MANIFEST_LIMIT: usize = 1_048_576;
 const TRACE_LIMIT: usize = 1_048_576;
 
 /// The manifest of a name.
-pub fn manifest_in<F: Files>(alloc: Global, name: &str, files: &mut F) -> Result<Manifest, Stop>
+pub fn manifest_in<F: Files>(alloc: Global, name: &str, files: &mut F) -> Result<Manifest, NoReport>
     ensures step { Stepped F.told F.calm F.faults files.old files.new result
         (λ m manifest. HasManifest m name.now manifest) (λ m. NoManifest m name.now) (λ m. IsSome (m name.now)) }
     ensures slots { IfOk result HasSlots }
@@ -37,7 +37,7 @@ pub fn manifest_in<F: Files>(alloc: Global, name: &str, files: &mut F) -> Result
 }
 
 // The manifest that the bytes are.
-fn manifest_of(alloc: Global, bytes: &[u8]) -> Result<Manifest, Stop>
+fn manifest_of(alloc: Global, bytes: &[u8]) -> Result<Manifest, NoReport>
     ensures ok { IfOk result (ReadsManifest bytes.now) }
     ensures stop { IfErr result (IsManifestStop bytes.now) }
 {
@@ -48,13 +48,13 @@ fn manifest_of(alloc: Global, bytes: &[u8]) -> Result<Manifest, Stop>
 }
 
 // What the work stops at where bytes are no manifest.
-fn manifest_stop_of(fault: ShapeFault) -> Stop
+fn manifest_stop_of(fault: ShapeFault) -> NoReport
     ensures { result ≡ manifest_stop_of fault }
 {
     match fault {
-        ShapeFault::Memory => Stop::Memory,
+        ShapeFault::Memory => NoReport::Memory,
         ShapeFault::NotJson | ShapeFault::BadShape { .. } | ShapeFault::TooMany { .. } => {
-            Stop::BadManifest
+            NoReport::BadManifest
         }
     }
 }
@@ -64,7 +64,7 @@ pub fn files_of<F: Files>(
     alloc: Global,
     manifest: &Manifest,
     files: &mut F,
-) -> Result<Vec<SourceFile>, Stop>
+) -> Result<Vec<SourceFile>, NoReport>
     ensures step { Stepped F.told F.calm F.faults files.old files.new result
         (λ m v. AreRead m file_limit (files_named manifest.now) (sources_of v.items))
         (λ m. NoFiles m (files_named manifest.now)) (λ m. ComesThrough m file_limit (files_named manifest.now)) }
@@ -81,7 +81,7 @@ pub fn items_of<F: Files>(
     trace: Option<&str>,
     names: &[Text],
     files: &mut F,
-) -> Result<Vec<TraceItem>, Stop>
+) -> Result<Vec<TraceItem>, NoReport>
     requires { length names.now < 2 ^ 32 }
     ensures step { Stepped F.told F.calm F.faults files.old files.new result
         (λ m v. HasItems m names.now (option_copied trace.entry) v.items)
@@ -101,7 +101,7 @@ fn trace_in<F: Files>(
     name: &str,
     names: &[Text],
     files: &mut F,
-) -> Result<Vec<TraceItem>, Stop>
+) -> Result<Vec<TraceItem>, NoReport>
     requires { length names.now < 2 ^ 32 }
     ensures step { Stepped F.told F.calm F.faults files.old files.new result
         (λ m v. HasTrace m names.now name.now v.items) (λ m. NoTrace m names.now name.now) (λ m. IsSome (m name.now)) }
@@ -112,7 +112,7 @@ fn trace_in<F: Files>(
 }
 
 // The items that the bytes are.
-fn trace_of(alloc: Global, bytes: &[u8], names: &[Text]) -> Result<Vec<TraceItem>, Stop>
+fn trace_of(alloc: Global, bytes: &[u8], names: &[Text]) -> Result<Vec<TraceItem>, NoReport>
     requires { length names.now < 2 ^ 32 }
     ensures ok { IfOk result (λ v. ReadsTrace bytes.now names.now v.items) }
     ensures stop { IfErr result (IsTraceStop bytes.now names.now) }
@@ -124,13 +124,13 @@ fn trace_of(alloc: Global, bytes: &[u8], names: &[Text]) -> Result<Vec<TraceItem
 }
 
 // What the work stops at where bytes are no trace.
-fn trace_stop_of(fault: ShapeFault) -> Stop
+fn trace_stop_of(fault: ShapeFault) -> NoReport
     ensures { result ≡ trace_stop_of fault }
 {
     match fault {
-        ShapeFault::Memory => Stop::Memory,
-        ShapeFault::TooMany { .. } => Stop::TooLarge,
-        ShapeFault::NotJson | ShapeFault::BadShape { .. } => Stop::BadTrace,
+        ShapeFault::Memory => NoReport::Memory,
+        ShapeFault::TooMany { .. } => NoReport::TooLarge,
+        ShapeFault::NotJson | ShapeFault::BadShape { .. } => NoReport::BadTrace,
     }
 }
 
@@ -139,7 +139,7 @@ pub fn swaps_of<F: Files>(
     alloc: Global,
     items: &[TraceItem],
     files: &mut F,
-) -> Result<Vec<SourceFile>, Stop>
+) -> Result<Vec<SourceFile>, NoReport>
     ensures step { Stepped F.told F.calm F.faults files.old files.new result
         (λ m v. AreRead m file_limit (swap_files items.now) (sources_of v.items))
         (λ m. NoFiles m (swap_files items.now)) (λ m. ComesThrough m file_limit (swap_files items.now)) }
@@ -151,7 +151,7 @@ pub fn swaps_of<F: Files>(
 }
 
 /// The bytes of a certificate.
-pub fn cert_in<F: Files>(alloc: Global, name: &str, files: &mut F) -> Result<Vec<u8>, Stop>
+pub fn cert_in<F: Files>(alloc: Global, name: &str, files: &mut F) -> Result<Vec<u8>, NoReport>
     ensures step { Stepped F.told F.calm F.faults files.old files.new result
         (λ m v. HasBytes m cert_limit name.now v.items) (λ m. NoBytes m cert_limit name.now)
         (λ m. IsSome (m name.now)) }

@@ -12,7 +12,7 @@ use Rattle.script_check.specs.Script.{Reads, IsScript, LibFirst}
 use Rattle.code_units.specs.Places.{place_at}
 use Rattle.code_units.specs.declared.memory.Memory.{Memory}
 use Rattle.first_breach.specs.declared.Breach.{Breach}
-use Rattle.script_check.specs.declared.lines.Report.{Report}
+use Rattle.script_check.specs.declared.lines.JudgedText.{JudgedText}
 use Rattle.script_check.specs.declared.fault.ScriptFault.{ScriptFault}
 use Rattle.script_check.specs.declared.fault.ScriptFault.TheVariants as fault
 use Rattle.script_check.specs.Verdict.{IsAccepted, IsScriptFault}
@@ -34,11 +34,11 @@ clean_text name file bytes clean a is text same = subst (λ b. IsTidied name fil
 pub broken_text : (name file bytes : List ℕ) (clean : Bool) (number at : ℕ) → LibFirst file number at → bytes ≡ lib_refused name (rule.A number) (place_at file at) → clean ≡ true → IsTidied name file clean bytes
 broken_text name file bytes clean number at first line same = subst (λ b. IsTidied name file b bytes) (sym same) (subst (IsTidied name file true) (sym line) (not_tidied first))
 
-pub clean_lines : (name file : List ℕ) (a : Accepted) (r : Result Report Memory) → IsAccepted file scope.Lib a → IfOk r (λ t. t.bytes.items ≡ lib_accepted name) → IfOk r (λ t. t.refused ≡ false) → IfOk r (λ t. IsLine name file t.refused t.bytes.items)
+pub clean_lines : (name file : List ℕ) (a : Accepted) (r : Result JudgedText Memory) → IsAccepted file scope.Lib a → IfOk r (λ t. t.bytes.items ≡ lib_accepted name) → IfOk r (λ t. t.refused ≡ false) → IfOk r (λ t. IsLine name file t.refused t.bytes.items)
 clean_lines name file a (Ok t) is line named = clean_line name file t.bytes.items t.refused a is line named
 clean_lines name file a (Err x) is line named = tt
 
-pub clean_texts : (name file : List ℕ) (a : Accepted) (r : Result Report Memory) → IsAccepted file scope.Lib a → IfOk r (λ t. t.bytes.items ≡ tidy (program_of (tree_of a))) → IfOk r (λ t. t.refused ≡ false) → IfOk r (λ t. IsTidied name file t.refused t.bytes.items)
+pub clean_texts : (name file : List ℕ) (a : Accepted) (r : Result JudgedText Memory) → IsAccepted file scope.Lib a → IfOk r (λ t. t.bytes.items ≡ tidy (program_of (tree_of a))) → IfOk r (λ t. t.refused ≡ false) → IfOk r (λ t. IsTidied name file t.refused t.bytes.items)
 clean_texts name file a (Ok t) is text named = clean_text name file t.bytes.items t.refused a is text named
 clean_texts name file a (Err x) is text named = tt
 
@@ -46,10 +46,10 @@ module _ (name file : List ℕ) (e : ScriptFault) (b : Breach) (is : IsScriptFau
   first : LibFirst file b.rule b.at
   first = subst (IsScriptFault file scope.Lib) same is
 
-  pub broken_lines : (r : Result Report Memory) → IfOk r (λ t. t.bytes.items ≡ lib_refused name (rule.A b.rule) (place_at file b.at)) → IfOk r (λ t. t.refused ≡ true) → IfOk r (λ t. IsLine name file t.refused t.bytes.items)
+  pub broken_lines : (r : Result JudgedText Memory) → IfOk r (λ t. t.bytes.items ≡ lib_refused name (rule.A b.rule) (place_at file b.at)) → IfOk r (λ t. t.refused ≡ true) → IfOk r (λ t. IsLine name file t.refused t.bytes.items)
   broken_lines (Ok t) line named = broken_line name file t.bytes.items t.refused b.rule b.at first line named
   broken_lines (Err x) line named = tt
 
-  pub broken_texts : (r : Result Report Memory) → IfOk r (λ t. t.bytes.items ≡ lib_refused name (rule.A b.rule) (place_at file b.at)) → IfOk r (λ t. t.refused ≡ true) → IfOk r (λ t. IsTidied name file t.refused t.bytes.items)
+  pub broken_texts : (r : Result JudgedText Memory) → IfOk r (λ t. t.bytes.items ≡ lib_refused name (rule.A b.rule) (place_at file b.at)) → IfOk r (λ t. t.refused ≡ true) → IfOk r (λ t. IsTidied name file t.refused t.bytes.items)
   broken_texts (Ok t) line named = broken_text name file t.bytes.items t.refused b.rule b.at first line named
   broken_texts (Err x) line named = tt

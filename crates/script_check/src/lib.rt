@@ -9,4 +9,4 @@ mod lines;
 pub use fault::ScriptFault;
 pub use judging::judge_script;
 pub use laws::one_verdict;
-pub use lines::{LibraryText, Report, library_line, tidied_library};
+pub use lines::{JudgedText, LibraryText, library_line, tidied_library};

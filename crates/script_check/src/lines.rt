@@ -19,16 +19,16 @@ use trace_text::{Line, Rule, report_line};
 
 /// What is written of a library or of slots, and whether it names a broken rule.
 #[derive(Drop)]
-pub struct Report {
+pub struct JudgedText {
     pub refused: bool,
     pub bytes: Vec<u8>,
 }
 
 /// What is written of a library.
-pub type LibraryText = Report;
+pub type LibraryText = JudgedText;
 
 /// The line of `check-lib` on a library under its name (docs/PROGRAM.md, "The line").
-pub fn library_line(alloc: Global, name: &str, library: &[u8]) -> Result<Report, Memory>
+pub fn library_line(alloc: Global, name: &str, library: &[u8]) -> Result<JudgedText, Memory>
     requires { length library.now < 2 ^ 31 }
     ensures { IfOk result (λ text. IsLine name.now library.now text.refused text.bytes.items) }
 {
@@ -44,7 +44,7 @@ pub fn library_line(alloc: Global, name: &str, library: &[u8]) -> Result<Report,
 
 /// The text of `tidy` on a library (docs/PROGRAM.md, "The tidied text"): the one spelling of its
 /// tree, or else the line of `check-lib`.
-pub fn tidied_library(alloc: Global, name: &str, library: &[u8]) -> Result<Report, Memory>
+pub fn tidied_library(alloc: Global, name: &str, library: &[u8]) -> Result<JudgedText, Memory>
     requires { length library.now < 2 ^ 31 }
     ensures { IfOk result (λ text. IsTidied name.now library.now text.refused text.bytes.items) }
 {
@@ -56,20 +56,20 @@ pub fn tidied_library(alloc: Global, name: &str, library: &[u8]) -> Result<Repor
 }
 
 // The one spelling of an accepted tree.
-fn tidied_text(alloc: Global, accepted: &Accepted) -> Result<Report, Memory>
+fn tidied_text(alloc: Global, accepted: &Accepted) -> Result<JudgedText, Memory>
     ensures spelled { IfOk result (λ text. text.bytes.items ≡ tidy (program_of (tree_of accepted.now))) }
     ensures clean { IfOk result (λ text. text.refused ≡ false) }
 {
     let mut bytes = Vec::new(alloc);
     print_tree(alloc, accepted.tree(), &mut bytes)?;
-    Ok(Report {
+    Ok(JudgedText {
         refused: false,
         bytes,
     })
 }
 
 // The line of a library that breaks no rule.
-fn accepted_line(alloc: Global, name: &str) -> Result<Report, Memory>
+fn accepted_line(alloc: Global, name: &str) -> Result<JudgedText, Memory>
     ensures line { IfOk result (λ text. text.bytes.items ≡ lib_accepted name.now) }
     ensures clean { IfOk result (λ text. text.refused ≡ false) }
 {
@@ -78,14 +78,14 @@ fn accepted_line(alloc: Global, name: &str) -> Result<Report, Memory>
     };
     let mut bytes = Vec::new(alloc);
     report_line(&line, &mut bytes)?;
-    Ok(Report {
+    Ok(JudgedText {
         refused: false,
         bytes,
     })
 }
 
 // The line of a library that breaks a rule.
-fn refused_line(alloc: Global, name: &str, library: &[u8], breach: Breach) -> Result<Report, Memory>
+fn refused_line(alloc: Global, name: &str, library: &[u8], breach: Breach) -> Result<JudgedText, Memory>
     requires { length library.now < 2 ^ 31 }
     ensures line { IfOk result
         (λ text. text.bytes.items ≡ lib_refused name.now (rules.A breach.rule) (place_at library.now breach.at)) }
@@ -98,7 +98,7 @@ fn refused_line(alloc: Global, name: &str, library: &[u8], breach: Breach) -> Re
     };
     let mut bytes = Vec::new(alloc);
     report_line(&line, &mut bytes)?;
-    Ok(Report {
+    Ok(JudgedText {
         refused: true,
         bytes,
     })

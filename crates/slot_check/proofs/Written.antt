@@ -6,7 +6,7 @@ use Rattle.js_tree.specs.Trees.{program_of}
 use Rattle.code_units.specs.declared.memory.Memory.{Memory}
 use Rattle.adsafe_rules.specs.Accepts.{tree_of}
 use Rattle.code_units.specs.Places.{place_at as place}
-use Rattle.script_check.specs.declared.lines.Report.{Report}
+use Rattle.script_check.specs.declared.lines.JudgedText.{JudgedText}
 use Rattle.trace_text.specs.Report.{accepted_slot, refused_life}
 use Rattle.slot_check.specs.declared.sources.SourceFile.{SourceFile}
 use Rattle.slot_check.specs.declared.fault.Refusal.{Refusal}
@@ -24,7 +24,7 @@ clean_of : (slot : Slot) (widget : Widget) → IsAcceptedWidget slot widget → 
 clean_of slot widget is = record { file = is.file; places = widget.libs.items; programs = is.programs; script = program_of (tree_of widget.script); widget = is.is }
 
 -- the line of a slot that breaks no rule
-pub accepted_text : (slot : Slot) (shown : List ℕ) (widget : Widget) (r : Result Report Memory) → shown ≡ slot.file.name → IsAcceptedWidget slot widget → IfOk r (λ t. t.bytes.items ≡ accepted_slot slot.name shown) → IfOk r (λ t. t.refused ≡ false) → IfOk r (λ t. IsSlotLine slot t.refused t.bytes.items)
+pub accepted_text : (slot : Slot) (shown : List ℕ) (widget : Widget) (r : Result JudgedText Memory) → shown ≡ slot.file.name → IsAcceptedWidget slot widget → IfOk r (λ t. t.bytes.items ≡ accepted_slot slot.name shown) → IfOk r (λ t. t.refused ≡ false) → IfOk r (λ t. IsSlotLine slot t.refused t.bytes.items)
 accepted_text slot shown widget (Ok t) filed is line clean =
     let there : IsSlotLine slot false (accepted_slot slot.name slot.file.name) = accepted (clean_of slot widget is) in
     let same : accepted_slot slot.name slot.file.name ≡ t.bytes.items = ap (accepted_slot slot.name) (sym filed) ∙ sym line in
@@ -32,7 +32,7 @@ accepted_text slot shown widget (Ok t) filed is line clean =
 accepted_text slot shown widget (Err e) filed is line clean = tt
 
 -- the line of one that breaks a rule
-pub refused_text : (slot : Slot) (f : SlotFault) (refusal : Refusal) (r : Result Report Memory) → Refuses (IsRefused slot) f → f ≡ fault.Broken refusal → IfOk r (λ t. t.bytes.items ≡ refused_life slot.name None (string_bytes refusal.file) refusal.rule refusal.at) → IfOk r (λ t. t.refused ≡ true) → IfOk r (λ t. IsSlotLine slot t.refused t.bytes.items)
+pub refused_text : (slot : Slot) (f : SlotFault) (refusal : Refusal) (r : Result JudgedText Memory) → Refuses (IsRefused slot) f → f ≡ fault.Broken refusal → IfOk r (λ t. t.bytes.items ≡ refused_life slot.name None (string_bytes refusal.file) refusal.rule refusal.at) → IfOk r (λ t. t.refused ≡ true) → IfOk r (λ t. IsSlotLine slot t.refused t.bytes.items)
 refused_text slot f refusal (Ok t) refuses same line clean =
     let is : IsRefused slot refusal = subst (Refuses (IsRefused slot)) same refuses in
     let there : IsSlotLine slot true (refused_life slot.name None is.source.name is.rule (place is.source.bytes is.byte)) = refused is.first in

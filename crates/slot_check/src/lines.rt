@@ -9,12 +9,12 @@ use crate::libraries::Libraries;
 use crate::sources::SourceFile;
 use crate::verdict::judge_slot;
 use code_units::{Memory, Text};
-use script_check::Report;
+use script_check::JudgedText;
 use std::alloc::Global;
 use trace_text::{Line, report_line};
 
 /// What is written of slots.
-pub type SlotText = Report;
+pub type SlotText = JudgedText;
 
 /// The lines of slots in order, by their names and files, over the libraries of their manifest
 /// (docs/PROGRAM.md, "The line").
@@ -23,7 +23,7 @@ pub fn slot_lines(
     names: &[Text],
     files: &[SourceFile],
     libs: &[SourceFile],
-) -> Result<Report, Memory>
+) -> Result<JudgedText, Memory>
     requires paired { length names.now ≡ length files.now }
     requires small { All IsSmall files.now }
     requires small_libs { All IsSmall libs.now }
@@ -31,7 +31,7 @@ pub fn slot_lines(
         (slots_over (sources_of libs.now) names.now (sources_of files.now)) lines.refused lines.bytes.items) }
 {
     let mut judged = Libraries::new(alloc, libs)?;
-    let mut text = Report {
+    let mut text = JudgedText {
         refused: false,
         bytes: Vec::new(alloc),
     };
@@ -49,7 +49,7 @@ pub fn slot_line(
     file: &SourceFile,
     libs: &[SourceFile],
     judged: &mut Libraries,
-) -> Result<Report, Memory>
+) -> Result<JudgedText, Memory>
     requires small { IsSmall file.now }
     requires small_libs { All IsSmall libs.now }
     requires judged { AreJudged (sources_of libs.now) judged.old }
@@ -67,7 +67,7 @@ pub fn slot_line(
 }
 
 // Appends a line.
-fn append(text: &mut Report, line: &Report) -> Result<(), Memory>
+fn append(text: &mut JudgedText, line: &JudgedText) -> Result<(), Memory>
     ensures bytes { OnOk result (text.new.bytes.items ≡ text.old.bytes.items ++ line.now.bytes.items) }
     ensures refused { OnOk result (text.new.refused ≡ (text.old.refused || line.now.refused)) }
 {
@@ -77,7 +77,7 @@ fn append(text: &mut Report, line: &Report) -> Result<(), Memory>
 }
 
 // The line of a slot that breaks no rule.
-fn accepted_line(alloc: Global, name: &Text, file: &str) -> Result<Report, Memory>
+fn accepted_line(alloc: Global, name: &Text, file: &str) -> Result<JudgedText, Memory>
     ensures line { IfOk result (λ text. text.bytes.items ≡ accepted_slot name.now file.now) }
     ensures clean { IfOk result (λ text. text.refused ≡ false) }
 {
@@ -87,14 +87,14 @@ fn accepted_line(alloc: Global, name: &Text, file: &str) -> Result<Report, Memor
     };
     let mut bytes = Vec::new(alloc);
     report_line(&line, &mut bytes)?;
-    Ok(Report {
+    Ok(JudgedText {
         refused: false,
         bytes,
     })
 }
 
 // The line of a slot that breaks a rule.
-fn refused_line(alloc: Global, name: &Text, refusal: Refusal) -> Result<Report, Memory>
+fn refused_line(alloc: Global, name: &Text, refusal: Refusal) -> Result<JudgedText, Memory>
     ensures line { IfOk result
         (λ text. text.bytes.items ≡ refused_life name.now None (string_bytes refusal.file) refusal.rule refusal.at) }
     ensures refused { IfOk result (λ text. text.refused ≡ true) }
@@ -108,7 +108,7 @@ fn refused_line(alloc: Global, name: &Text, refusal: Refusal) -> Result<Report, 
     };
     let mut bytes = Vec::new(alloc);
     report_line(&line, &mut bytes)?;
-    Ok(Report {
+    Ok(JudgedText {
         refused: true,
         bytes,
     })

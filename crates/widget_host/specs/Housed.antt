@@ -43,8 +43,8 @@ use Rattle.widget_host.specs.declared.host.Host.{Host}
 use Rattle.widget_host.specs.declared.items.HostItem.{HostItem}
 use Rattle.widget_host.specs.declared.items.HostItem.TheVariants as host
 use Rattle.widget_host.specs.declared.lines.RunLine.{RunLine}
-use Rattle.widget_host.specs.declared.lines.Stop.{Stop}
-use Rattle.widget_host.specs.declared.lines.Stop.TheVariants as stop
+use Rattle.widget_host.specs.declared.lines.LifeStop.{LifeStop}
+use Rattle.widget_host.specs.declared.lines.LifeStop.TheVariants as stop
 
 -- ## A host
 
@@ -322,7 +322,7 @@ present zero (c ∷ cs) = present_of c
 present (suc w) (c ∷ cs) = present w cs
 
 -- why a life has stopped
-abbrev pub meant_stop : Stop → meaning.Stop
+abbrev pub meant_stop : LifeStop → meaning.Stop
 meant_stop stop.Fuel = meaning.Fuel
 meant_stop (stop.Limit c) = meaning.PastLimit (meant_cause c)
 

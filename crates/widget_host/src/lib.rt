@@ -16,4 +16,4 @@ mod swapping;
 pub use host::Host;
 pub use items::HostItem;
 pub use laws::{given_lives, loaded_lives, swapped_lives};
-pub use lines::{RunLine, Stop};
+pub use lines::{LifeStop, RunLine};

@@ -18,7 +18,7 @@ use std::alloc::Global;
 
 /// Why a life has stopped: a turn had no fuel left, or a limit would have been passed.
 #[derive(Clone, Copy, Drop)]
-pub enum Stop {
+pub enum LifeStop {
     Fuel,
     Limit(StopCause),
 }
@@ -27,7 +27,7 @@ pub enum Stop {
 /// came after its stop, what it logged, and the throws that nothing caught.
 #[derive(Drop)]
 pub struct RunLine {
-    pub stop: Option<Stop>,
+    pub stop: Option<LifeStop>,
     pub turns: u32,
     pub spent: u64,
     pub missed: u32,
@@ -37,13 +37,13 @@ pub struct RunLine {
 }
 
 // Why a life has stopped, if it has.
-fn stop_of(stop: Option<js_steps::Stop>) -> Option<Stop>
+fn stop_of(stop: Option<js_steps::Stop>) -> Option<LifeStop>
     ensures { option_map life.meant_stop stop ≡ option_map meant_stop result }
 {
     match stop {
         None => None,
-        Some(js_steps::Stop::Fuel) => Some(Stop::Fuel),
-        Some(js_steps::Stop::Due(cause)) => Some(Stop::Limit(cause)),
+        Some(js_steps::Stop::Fuel) => Some(LifeStop::Fuel),
+        Some(js_steps::Stop::Due(cause)) => Some(LifeStop::Limit(cause)),
     }
 }
 

@@ -4,7 +4,7 @@ use Rattle.host_io.specs.Files.{IsThere}
 use Rattle.slot_check.specs.Verdicts.{source_of, sources_of}
 use Rattle.run_steps.specs.Page.{texts, file_limit, IsRead}
 use Rattle.run_steps.specs.Reading.{IsLong, ComesThrough}
-use Rattle.run_steps.specs.declared.reading.Stop.TheVariants as stop
+use Rattle.run_steps.specs.declared.reading.NoReport.TheVariants as stop
 use Rattle.run_steps.proofs.Gathered.{all_small, many_more, read_more, readable_here, read_all, no_read, none_small, long_here}
 use Rattle.run_steps.proofs.ReadsLemmas.{reads_nothing, reads_as, reads_then}
 use Rattle.run_steps.proofs.Stepping.{again}
