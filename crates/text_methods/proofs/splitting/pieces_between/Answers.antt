@@ -1,6 +1,6 @@
-use Rattle.std.proofs.Common.{◌≡◌, ◌+◌, ◌∷◌, ◌++◌, [], ℕ, List, Some, None, length, sym, ap, subst, ◌∙◌, arith}
+use Rattle.std.proofs.Common.{◌≡◌, ◌+◌, ◌-◌, ◌∷◌, ◌++◌, [], ℕ, List, Some, None, length, length-drop, drop, sym, ap, subst, ◌∙◌, arith}
+use Rattle.std.proofs.lemmas.List.{take_all}
 use Rattle.widget_meaning.specs.TextNatives as texts
-use Rattle.code_units.proofs.Cuts.{rest_is}
 use Rattle.text_search.specs.Places.{IsFirst}
 use Rattle.text_methods.proofs.PieceLists.{cut_first, cut_last, piece, pushed, rest}
 use Rattle.text_methods.proofs.splitting.pieces_between.Goals as goal
@@ -22,6 +22,6 @@ returns c =
     let t = c.args.t.now in let x = c.args.x in let start = c.loop-at.start in
     let none : IsFirst t x start None = subst (λ (us : List ℕ). IsFirst t us start None) c.in_ok-needle.ensures c.in_default.ensures.first in
     c.in_ok-push_piece-2.ensures
-    ∙ ap (λ (us : List ℕ). c.loop-at.parts.items ++ us ∷ []) (rest_is t start)
+    ∙ ap (λ (us : List ℕ). c.loop-at.parts.items ++ us ∷ []) (take_all (length t - start) (drop start t) (omega (arith, length-drop start t)))
     ∙ sym (ap (λ (ps : List (List ℕ)). c.loop-at.parts.items ++ ps) (cut_last t x start c.loop-at.invariant.within none))
     ∙ c.loop-at.invariant.made
