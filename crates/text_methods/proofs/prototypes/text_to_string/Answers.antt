@@ -1,6 +1,3 @@
-use Rattle.std.proofs.Common.{ap}
-use Rattle.store_cells.specs.declared.value.Value.{Value as StoreValue}
-use Rattle.store_cells.specs.declared.value.Value.TheVariants as value
 use Rattle.widget_meaning.specs.Costs.{give}
 use Rattle.widget_meaning.specs.NativeForms.{on_text}
 use Rattle.widget_meaning.specs.Values.{Text}
