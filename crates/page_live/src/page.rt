@@ -92,9 +92,8 @@ impl LivePage {
         Ok(())
     }
 
-    /// The page takes a swap of a slot that brings this file: it is judged, given as the next life of the
-    /// slot, and rounds
-    /// of posts follow to their end. The error is as that of `take`.
+    /// The page takes a swap of a slot that brings this file: it is judged, given as the next life of the slot,
+    /// and rounds of posts follow to their end. The error is as that of `take`.
     pub fn swap(&mut self, alloc: Global, to: u32, file: &SourceFile) -> Result<(), Memory>
         requires alive { IsAlive self.old }
         requires room { self.old.taken < 4096 }

@@ -97,10 +97,10 @@ fn add_refused(
 }
 
 /// A life of a slot comes and waits: its root stands under nothing, it has the trees of its own scripts, over
-/// the libraries of
-/// the page, the object `lib`, and the queue of its load turns. Where its file was refused it is not accepted, and an
-/// empty `div` with the slot's name as `id` stands under nothing. Want of memory leaves the place free, or the life
-/// without the object `lib`; so it is also answered where a library is not there, which no judged content has.
+/// the libraries of the page, the object `lib`, and the queue of its load turns. Where its file was refused it
+/// is not accepted, and an empty `div` with the slot's name as `id` stands under nothing. Want of memory leaves
+/// the place free, or the life without the object `lib`; so it is also answered where a library is not there,
+/// which no judged content has.
 pub fn add_life(
     alloc: Global,
     keys: Keys,

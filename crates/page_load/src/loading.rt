@@ -67,10 +67,10 @@ fn slots_of(alloc: Global, specs: &[SlotSpec]) -> Result<Vec<Slot>, Memory>
     Ok(slots)
 }
 
-/// Builds the page, piece by piece, and gives each accepted widget the object `lib`, the trees of its own scripts, of
-/// which those of libraries stand once for all widgets, and the queue of its load turns: one for each of its libraries
-/// in the order of its scripts, and that of the `go` function. All tables hash by
-/// these keys. What no judged page has is answered like want of memory: more than 16 slots, a slot that does not
+/// Builds the page, piece by piece, and gives each accepted widget the object `lib`, the trees of its own
+/// scripts, of which those of libraries stand once for all widgets, and the queue of its load turns: one for
+/// each of its libraries in the order of its scripts, and that of the `go` function. All tables hash by these
+/// keys. What no judged page has is answered like want of memory: more than 16 slots, a slot that does not
 /// stand once among the pieces, in order, a library that is not there, more fuel than a turn may have.
 pub fn load_page(alloc: Global, keys: Keys, spec: PageSpec) -> Result<Loaded, Memory>
     ensures { IfOk result (LoadsPage spec) }

@@ -48,9 +48,8 @@ fn state_of(stop: Option<LifeStop>) -> State
     }
 }
 
-/// The line of a life whose file breaks this rule first, under the name of its slot; `until` is the position
-/// of the swap
-/// that ended it, counted from 1. The only error is want of memory.
+/// The line of a life whose file breaks this rule first, under the name of its slot; `until` is the position of
+/// the swap that ended it, counted from 1. The only error is want of memory.
 pub fn refused_line(
     alloc: Global,
     name: &Text,

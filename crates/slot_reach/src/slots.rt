@@ -84,11 +84,11 @@ fn count(crowd: &Crowd) -> Result<u32, Memory>
     }
 }
 
-/// The certificate of reach of all slots, read off the store, the page and what lives hold beside them: each slot
-/// with its last life. Each reference is told by the cell to which it leads, whoever that belongs to. Where each life
-/// holds its own, this is the certificate of the own states of these lives, and it is confined. Of at most 16
-/// slots it has
-/// few lines; and it is of the stated shape where the slots have names of slots, so that its text is read as it.
+/// The certificate of reach of all slots, read off the store, the page and what lives hold beside them: each
+/// slot with its last life. Each reference is told by the cell to which it leads, whoever that belongs to.
+/// Where each life holds its own, this is the certificate of the own states of these lives, and it is confined.
+/// Of at most 16 slots it has few lines; and it is of the stated shape where the slots have names of slots, so
+/// that its text is read as it.
 pub fn reach(alloc: Global, crowd: &Crowd, slots: &[Slot]) -> Result<Cert, Memory>
     ensures read { IfOk result (λ cert. plain cert ≡ reached crowd.now slots.now) }
     ensures states { IfOk result (λ cert. OwnCrowd crowd.now → AreStanding crowd.now slots.now

@@ -49,13 +49,13 @@ pub struct Host {
     pub(crate) given: u32,
     /// The life that each swap that was given ends, in order.
     pub(crate) ends: Vec<u32>,
+    /// A call ended out of memory: nothing changes any more.
     pub(crate) marked: bool,
 }
 
 impl Host {
     /// A page is loaded: each piece in its place, and for each widget its scripts and its load turns. The
-    /// keys are those of
-    /// the tables that hash what a stranger chose.
+    /// keys are those of the tables that hash what a stranger chose.
     pub fn load(alloc: Global, keys: Keys, spec: PageSpec) -> Result<Host, Memory>
         requires loadable { IsLoadable spec }
         ensures { IfOk result (Loads spec) }
@@ -82,10 +82,9 @@ impl Host {
         store
     }
 
-    /// The page. Under `body` stand its own markup and what stands in each slot: the root of its present life, or an
-    /// empty `div` where that was refused. The root of a life that has ended, or whose swap waits, has no
-    /// parent. A node
-    /// that is a widget's is that of an accepted one.
+    /// The page. Under `body` stand its own markup and what stands in each slot: the root of its present life,
+    /// or an empty `div` where that was refused. The root of a life that has ended, or whose swap waits, has no
+    /// parent. A node that is a widget's is that of an accepted one.
     pub fn page(&self) -> &Page
         ensures are { result.now ≡ (shared self.now).page }
         ensures laid { IsHoused self.now → (names : List (List ℕ)) (pieces : List PagePiece)

@@ -51,8 +51,7 @@ impl Host {
     }
 
     /// Picks are made until no slot is ready: of the slots that are, the one that the chooser takes. `Memory`
-    /// leaves the
-    /// journal, and beside one slot all, as the picks before left it.
+    /// leaves the journal, and beside one slot all, as the picks before left it.
     pub fn settle<C: Chooser>(
         &mut self,
         alloc: Global,
