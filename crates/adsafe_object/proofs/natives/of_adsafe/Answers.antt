@@ -91,8 +91,8 @@ returns-in-HasProperty-clause-native c = λ this. IfOk-weaker c.has.result _ _ (
 pub to_json-requires-clause-value : goal.to_json-requires-clause-value
 to_json-requires-clause-value c = subst (IsFine c.args.w c.args.store.now.cells) (sym c.nth-first.ensures) (nth_fine c.args.w c.args.store.now.cells c.args.args.now 0 c.requires.args)
 
-pub returns-in-ToJson-clause-native : goal.returns-in-ToJson-clause-native
-returns-in-ToJson-clause-native c = λ this. IfOk-weaker c.to_json.result _ _ (λ o h.
+pub returns-clause-native : goal.returns-clause-native
+returns-clause-native c = λ this. IfOk-weaker c.to_json.result _ _ (λ o h.
     text_run c.args.w c.args.waiting c.args.store.now c.to_json.new.store c.args.meter.now c.to_json.new.meter c.args.log.now.items c.args.posts.now.items _ o c.args.asked.now c.requires.unasked _
     (to_json_is c.args.w c.args.store.now.cells c.args.args.now this c.args.which c.nth-first.result.now c.nth-first.ensures c.in-ToJson.is) h) c.to_json.ensures.native
 
@@ -126,5 +126,5 @@ returns-in-Post-clause-own c = unasked c.args.w c.post.new.store.cells c.args.as
 pub returns-in-FromJson-clause-own : goal.returns-in-FromJson-clause-own
 returns-in-FromJson-clause-own c = unasked c.args.w c.from_json.new.store.cells c.args.asked.now c.requires.unasked
 
-pub returns-in-ToJson-clause-own : goal.returns-in-ToJson-clause-own
-returns-in-ToJson-clause-own c = unasked c.args.w c.to_json.new.store.cells c.args.asked.now c.requires.unasked
+pub returns-clause-own : goal.returns-clause-own
+returns-clause-own c = unasked c.args.w c.to_json.new.store.cells c.args.asked.now c.requires.unasked
