@@ -85,7 +85,12 @@ fn accepted_line(alloc: Global, name: &str) -> Result<JudgedText, Memory>
 }
 
 // The line of a library that breaks a rule.
-fn refused_line(alloc: Global, name: &str, library: &[u8], breach: Breach) -> Result<JudgedText, Memory>
+fn refused_line(
+    alloc: Global,
+    name: &str,
+    library: &[u8],
+    breach: Breach,
+) -> Result<JudgedText, Memory>
     requires { length library.now < 2 ^ 31 }
     ensures line { IfOk result
         (λ text. text.bytes.items ≡ lib_refused name.now (rules.A breach.rule) (place_at library.now breach.at)) }
