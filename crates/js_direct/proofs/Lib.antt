@@ -5,6 +5,7 @@ pub mod Handing
 pub mod Lists
 pub mod Loops
 pub mod Parts
+pub mod Rarer
 pub mod Reaching
 pub mod Reducing
 pub mod Sequels

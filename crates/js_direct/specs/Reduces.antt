@@ -1,8 +1,8 @@
--- How a plan goes on by paying for its jobs.
-use Rattle.std.specs.Prelude.{◌≡◌, ℕ, zero, suc}
+-- How a plan goes on by paying for its jobs and its charges.
+use Rattle.std.specs.Prelude.{◌≡◌, ◌⊎◌, ℕ, zero, suc}
 use Rattle.widget_meaning.specs.Values.{Completion}
 use Rattle.widget_meaning.specs.OwnState.{State}
-use Rattle.widget_meaning.specs.Plan.{Plan, Job, Do, and_then}
+use Rattle.widget_meaning.specs.Plan.{Plan, Job, Do, and_then, charge}
 use Rattle.widget_meaning.specs.Meaning.{body}
 
 -- a plan asks for a job, and this holds of what is to be done once that has begun
@@ -13,7 +13,21 @@ pub record Begins (p : Plan) (P : Plan → Type 0) : Type 0 where
   pub is : p ≡ Do job state after
   pub goes : P (and_then (body job state) after)
 
--- so many units are paid for jobs that begin, one after the other, and this is then to be done
+-- a plan asks for a charge, and this holds of the units that are owed once one is paid, and of what is to be done then
+pub record Charges (p : Plan) (P : ℕ → Plan → Type 0) : Type 0 where
+  pub owed : ℕ
+  pub state : State
+  pub rest : Plan
+  pub is : p ≡ charge (suc owed) state rest
+  pub goes : P owed rest
+
+-- while some units of a charge are owed, so many units are paid, and this is then to be done
+abbrev pub Pays : ℕ → ℕ → Plan → Plan → Type 0
+Pays zero zero p q = p ≡ q
+Pays zero (suc c) p q = Begins p (λ t. Pays zero c t q) ⊎ Charges p (λ n t. Pays n c t q)
+Pays (suc n) zero p q = ⊥
+Pays (suc n) (suc c) p q = Pays n c p q
+
+-- so many units are paid, one for each job that begins and those of each charge, and this is then to be done
 abbrev pub Reduces : ℕ → Plan → Plan → Type 0
-Reduces zero p q = p ≡ q
-Reduces (suc c) p q = Begins p (λ t. Reduces c t q)
+Reduces c p q = Pays zero c p q

@@ -25,6 +25,7 @@ use js_tree::ExprId;
 use object_store::{CellId, NewCell, Store, Value};
 
 /// An array literal.
+#[inline(never)]
 #[cycle(direct)]
 pub(crate) fn array_on(
     here: &Here,

@@ -43,7 +43,7 @@ pub(crate) fn block_on(
 {
     match list_of(here.tree, block) {
         Some(list) => list_on(here, run, store, list, block, deep, out),
-        None => any_on(here, run, store, block, deep, out),
+        None => any_on(here, run, store, (block, 0), deep, out),
     }
 }
 
@@ -194,29 +194,28 @@ fn wait_rest(run: &mut Run, block: Block, n: usize, place: &Place) -> Result<End
     wait(run, Frame::Statement(StatementFrame::Seq(block, n, *place)))
 }
 
-// The statements of any block.
+/// The statements of any block from a number on.
 #[inline(never)]
 #[cycle(direct)]
-fn any_on(
+pub(crate) fn any_on(
     here: &Here,
     run: &mut Run,
     store: &mut Store,
-    block: Block,
+    from: (Block, usize),
     deep: u32,
     out: &mut Value,
 ) -> Result<Ended, Memory>
     requires ready { IsReady (trees_of here.now.site.now.codes.now.items) here.now.site.now.widget store.old run.old }
     requires held { IsBlockAt (trees_of here.now.site.now.codes.now.items) here.now.site.now.widget store.old.cells
-        block here.now.at }
+        from.0 here.now.at }
     requires tree { trees here.now.tree.now ≡ forest_at (trees_of here.now.site.now.codes.now.items) here.now.at.code }
     ensures comes { let F = trees_of here.now.site.now.codes.now.items in let w = here.now.site.now.widget in
         IfOk result (λ how. Comes F w store.old store.new 1
-        (block_at F w store.old.cells block 0 here.now.at)
+        (block_at F w store.old.cells from.0 from.1 here.now.at)
         run.old run.new how out.new) }
     ensures kept { Kept (trees_of here.now.site.now.codes.now.items) here.now.site.now.widget store.old store.new }
 {
-    let mut at = block;
-    let mut n = 0;
+    let (mut at, mut n) = from;
     'list: while let Some(listed) = statement_at(here.tree, at, n) {
         at = listed.block;
         n = listed.next;

@@ -1,5 +1,5 @@
 //! Expressions, carried out in place.
-ghost use Rattle.std.specs.Prelude.{◌≡◌, ◌<◌, IfOk, false};
+ghost use Rattle.std.specs.Prelude.{◌≡◌, ◌<◌, IfOk, false, true};
 ghost use Rattle.js_tree.specs.Trees.{trees};
 ghost use Rattle.js_tree.specs.Forest.{expr_at};
 ghost use Rattle.js_tree.specs.Plain.{Expr as Tree};
@@ -23,11 +23,11 @@ use crate::literals::function_on;
 use crate::objects::object_on;
 use crate::operators::{and_on, binary_on, choose_on, or_on, unary_on};
 use crate::properties::{dot_on, sub_on};
-use crate::run::{Ended, Here, Run, handed, leave_job};
+use crate::run::{Ended, Here, Run, clear, leave_job};
 use crate::stepping::step_on;
+use crate::targets::delete_on;
 use code_units::Memory;
-use js_expressions::eval;
-use js_flow::{Flow, Job, Place};
+use js_flow::{Job, Place};
 use js_tree::{Expr, ExprId, UnOp};
 use object_store::{Store, Value};
 
@@ -123,32 +123,6 @@ pub(crate) fn form_on(
         Expr::Call(callee, _) => call_on(here, run, store, id, *callee, deep, out),
         Expr::Assign(op, to, e) => assign_on(here, run, store, *op, (*to, *e), deep, out),
         Expr::Step(op, to) => step_on(here, run, store, *op, *to, deep, out),
-        _ => form_more(here, run, store, id, deep, out),
-    }
-}
-
-// The rarer forms.
-#[inline(never)]
-#[cycle(direct)]
-fn form_more(
-    here: &Here,
-    run: &mut Run,
-    store: &mut Store,
-    id: ExprId,
-    deep: u32,
-    out: &mut Value,
-) -> Result<Ended, Memory>
-    requires ready { IsReady (trees_of here.now.site.now.codes.now.items) here.now.site.now.widget store.old run.old }
-    requires held { IsExprAt (trees_of here.now.site.now.codes.now.items) here.now.site.now.widget store.old.cells id
-        here.now.at }
-    requires tree { trees here.now.tree.now ≡ forest_at (trees_of here.now.site.now.codes.now.items) here.now.at.code }
-    ensures comes { let F = trees_of here.now.site.now.codes.now.items in let w = here.now.site.now.widget in
-        IfOk result (λ how. Comes F w store.old store.new 30
-        (body (job_of F w store.old.cells (Job.Eval id here.now.at)))
-        run.old run.new how out.new) }
-    ensures kept { Kept (trees_of here.now.site.now.codes.now.items) here.now.site.now.widget store.old store.new }
-{
-    match here.tree.expr(id) {
         Expr::Sub(e, index) => sub_on(here, run, store, (*e, *index), deep, out),
         Expr::And(a, b) => and_on(here, run, store, (*a, *b), deep, out),
         Expr::Or(a, b) => or_on(here, run, store, (*a, *b), deep, out),
@@ -157,11 +131,14 @@ fn form_more(
         Expr::Function(fun) => function_on(here, run, store, *fun, out),
         Expr::Array(_) => array_on(here, run, store, id, deep, out),
         Expr::Object(_) => object_on(here, run, store, id, deep, out),
-        _ => by_frames(here, run, store, id, out),
+        // No accepted tree has the others.
+        Expr::New(_, _) => Ok(no_form(out)),
+        Expr::Comma(_, _) => Ok(no_form(out)),
     }
 }
 
-// A prefix operator: `delete` takes a target, and is left to frames.
+// A prefix operator: `delete` takes a target.
+#[inline(never)]
 #[cycle(direct)]
 fn unary_form(
     here: &Here,
@@ -190,14 +167,16 @@ fn unary_form(
 {
     let (op, e) = parts;
     if takes_target(op) {
-        return by_frames(here, run, store, id, out);
+        return delete_on(here, run, store, e, deep, out);
     }
     unary_on(here, run, store, op, e, deep, out)
 }
 
 // Whether a prefix operator takes a target.
 fn takes_target(op: UnOp) -> bool
-    ensures { result ≡ false → (e : Tree) (p : plan.Place) (s : State) → expressions.prefix_form op e p s
+    ensures yes { result ≡ true → (e : Tree) (p : plan.Place) (s : State) → expressions.prefix_form op e p s
+        ≡ Do (plan.Target e p) s expressions.delete_target }
+    ensures no { result ≡ false → (e : Tree) (p : plan.Place) (s : State) → expressions.prefix_form op e p s
         ≡ Do (plan.Eval e p) s (plan.after (λ v t. expressions.unary_on op v p t)) }
 {
     match op {
@@ -211,34 +190,11 @@ fn takes_target(op: UnOp) -> bool
     }
 }
 
-// By frames.
-#[cold]
-#[inline(never)]
-fn by_frames(
-    here: &Here,
-    run: &mut Run,
-    store: &mut Store,
-    id: ExprId,
-    out: &mut Value,
-) -> Result<Ended, Memory>
-    requires ready { IsReady (trees_of here.now.site.now.codes.now.items) here.now.site.now.widget store.old run.old }
-    requires held { IsExprAt (trees_of here.now.site.now.codes.now.items) here.now.site.now.widget store.old.cells id
-        here.now.at }
-    ensures comes { let F = trees_of here.now.site.now.codes.now.items in let w = here.now.site.now.widget in
-        IfOk result (λ how. Comes F w store.old store.new 30
-        (body (job_of F w store.old.cells (Job.Eval id here.now.at)))
-        run.old run.new how out.new) }
-    ensures kept { Kept (trees_of here.now.site.now.codes.now.items) here.now.site.now.widget store.old store.new }
+// What a form gives that no accepted tree has.
+fn no_form(out: &mut Value) -> Ended
+    ensures how { result ≡ Ended.Is }
+    ensures value { out.new ≡ Value.Undefined }
 {
-    let mut flow = Flow::new(Vec::new(here.site.alloc));
-    eval(
-        &mut flow,
-        here.site.alloc,
-        here.site.widget,
-        here.site.codes,
-        store,
-        id,
-        here.at,
-    )?;
-    handed(run, flow, out)
+    clear(out);
+    Ended::Is
 }

@@ -17,6 +17,7 @@ use js_tree::FunId;
 use object_store::{NewCell, Store, Value};
 
 /// A function expression.
+#[inline(never)]
 pub(crate) fn function_on(
     here: &Here,
     run: &mut Run,

@@ -26,6 +26,7 @@ use js_tree::ExprId;
 use object_store::{CellId, HostEntry, NewCell, Store, Value};
 
 /// An object literal.
+#[inline(never)]
 #[cycle(direct)]
 pub(crate) fn object_on(
     here: &Here,

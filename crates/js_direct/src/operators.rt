@@ -354,6 +354,7 @@ fn made_on(
 }
 
 /// `&&`.
+#[inline(never)]
 #[cycle(direct)]
 pub(crate) fn and_on(
     here: &Here,
@@ -424,6 +425,7 @@ fn and_right(
 }
 
 /// `||`.
+#[inline(never)]
 #[cycle(direct)]
 pub(crate) fn or_on(
     here: &Here,
@@ -494,6 +496,7 @@ fn or_right(
 }
 
 /// `? :`.
+#[inline(never)]
 #[cycle(direct)]
 pub(crate) fn choose_on(
     here: &Here,

@@ -156,6 +156,7 @@ fn property_on(
 }
 
 /// A property by a subscript.
+#[inline(never)]
 #[cycle(direct)]
 pub(crate) fn sub_on(
     here: &Here,

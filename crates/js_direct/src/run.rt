@@ -1,5 +1,5 @@
 //! What forms share while they are carried out, and how they end.
-ghost use Rattle.std.specs.Prelude.{OnOk, ◌≡◌, ℕ, ◌+◌, ◌<◌, ◌++◌, ◌∷◌, [], IfOk, IsTrue, List, MatchOption, option_copied, unwrap_or};
+ghost use Rattle.std.specs.Prelude.{OnOk, ◌≡◌, ℕ, ◌+◌, ◌<◌, ◌++◌, ◌∷◌, [], IfOk, IsFalse, IsTrue, List, MatchOption, option_copied, unwrap_or};
 ghost use Rattle.js_tree.specs.Forest.{Forest};
 ghost use Rattle.store_cells.specs.Cells.{Cells};
 ghost use Rattle.widget_meaning.specs.OwnState.{State};
@@ -312,4 +312,19 @@ pub(crate) fn completion(how: Ended, out: Value) -> Completion
         Ended::Threw => Completion::Throw(out),
         Ended::Left => unreachable!(),
     }
+}
+
+/// Whether a charge is there, which is then taken; else it is next. A charge of no units is left to frames.
+pub(crate) fn is_paid(run: &mut Run, units: usize) -> bool
+    ensures yes { IsTrue result → (0 < units) × (run.new.units + units ≡ run.old.units)
+        × (run.new.waits ≡ run.old.waits) }
+    ensures no { IsFalse result → (run.new.next ≡ Next.Pay units) × (run.new.waits ≡ run.old.waits)
+        × (run.new.units ≡ run.old.units) }
+{
+    if 0 < units && units <= run.units as usize {
+        run.units -= units as u32;
+        return true;
+    }
+    set_next(run, Next::Pay(units));
+    false
 }

@@ -23,13 +23,15 @@ ghost use Rattle.js_direct.specs.Comes.{Comes, IsEnd, IsReady, ended_as};
 ghost use Rattle.js_direct.specs.Towards.{frame_after, part_of};
 
 use crate::blocks::block_on;
+use crate::catching::try_on;
+use crate::choosing::switch_on;
 use crate::forms::{eval_on, operand_on};
 use crate::looping::{again_on, expressions_on, passes_on, wait_again};
-use crate::run::{Ended, Here, Run, clear, handed, leave_job, take_value, wait};
+use crate::names::for_in_on;
+use crate::run::{Ended, Here, Run, clear, leave_job, take_value, wait};
 use code_units::Memory;
-use js_flow::{Block, Flow, Frame, Job, Place, StatementFrame, declaration_at};
+use js_flow::{Block, Frame, Job, Place, StatementFrame, declaration_at};
 use js_image::assign;
-use js_statements::exec;
 use js_tree::{ExprId, ForInit, Stmt, StmtId, Tree};
 use js_values::is_true;
 use object_store::{Store, Value};
@@ -141,7 +143,12 @@ fn statement_on(
         Stmt::Continue(_) => Ok(Ended::Continue),
         Stmt::Break(_) => Ok(Ended::Break),
         Stmt::Return(None) => Ok(returned(out)),
-        _ => by_frames(here, run, store, id, deep, out),
+        Stmt::ForIn(_, _, e, _) => for_in_on(here, run, store, id, *e, deep, out),
+        Stmt::Switch(e, _) => switch_on(here, run, store, id, *e, deep, out),
+        Stmt::Try(_, _, _) => try_on(here, run, store, id, deep, out),
+        // No accepted tree has the others.
+        Stmt::With(_, _) => Ok(Ended::Normal),
+        Stmt::Label(_, _) => Ok(Ended::Normal),
     }
 }
 
@@ -152,29 +159,6 @@ fn returned(out: &mut Value) -> Ended
 {
     clear(out);
     Ended::Return
-}
-
-// The other statements, by frames.
-fn by_frames(
-    here: &Here,
-    run: &mut Run,
-    store: &mut Store,
-    id: StmtId,
-    deep: u32,
-    out: &mut Value,
-) -> Result<Ended, Memory>
-    requires ready { IsReady (trees_of here.now.site.now.codes.now.items) here.now.site.now.widget store.old run.old }
-    requires held { IsStmtAt (trees_of here.now.site.now.codes.now.items) here.now.site.now.widget store.old.cells id
-        here.now.at }
-    ensures comes { let F = trees_of here.now.site.now.codes.now.items in let w = here.now.site.now.widget in
-        IfOk result (λ how. Comes F w store.old store.new 30
-        (body (job_of F w store.old.cells (Job.Exec id here.now.at)))
-        run.old run.new how out.new) }
-    ensures kept { Kept (trees_of here.now.site.now.codes.now.items) here.now.site.now.widget store.old store.new }
-{
-    let mut flow = Flow::new(Vec::new(here.site.alloc));
-    exec(&mut flow, here.site.codes, id, here.at)?;
-    handed(run, flow, out)
 }
 
 // An expression, with whose value a statement ends.

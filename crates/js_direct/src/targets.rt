@@ -13,14 +13,14 @@ ghost use Rattle.js_flow.specs.Fine.{FineReference, IsExprAt, IsPlace};
 ghost use Rattle.js_flow.specs.Forms.{form_taken};
 ghost use Rattle.js_flow.specs.Views.{job_of, place_of, reference_of};
 ghost use Rattle.js_direct.specs.Hands.{HandsOn};
-ghost use Rattle.js_direct.specs.Comes.{IsReady, Reaches};
+ghost use Rattle.js_direct.specs.Comes.{Comes, IsReady, Reaches};
 
 use crate::forms::{eval_on, form_on};
 use crate::properties::{is_nothing, name_of};
 use crate::run::{Ended, Here, Run, Site, leave_job, take_value, throw, wait};
 use code_units::{Memory, Text};
 use js_flow::{FormFrame, Frame, Job, Place, Reference};
-use js_image::{Fault, get, variable};
+use js_image::{Fault, Removed, get, remove, variable};
 use js_tree::{Expr, ExprId};
 use object_store::{Store, Value};
 use std::mem;
@@ -345,5 +345,106 @@ pub(crate) fn referred(here: &Here, store: &Store, of: &Reference) -> Result<Val
         Reference::Variable(x) => variable(store, here.at.scope, x),
         Reference::Property(base, x) => get(store, base, x),
         Reference::Found(v) => v.share(),
+    }
+}
+
+/// `delete`, after its unit: its target, and then the property is taken out.
+#[inline(never)]
+#[cycle(direct)]
+pub(crate) fn delete_on(
+    here: &Here,
+    run: &mut Run,
+    store: &mut Store,
+    e: ExprId,
+    deep: u32,
+    out: &mut Value,
+) -> Result<Ended, Memory>
+    requires ready { IsReady (trees_of here.now.site.now.codes.now.items) here.now.site.now.widget store.old run.old }
+    requires held { IsExprAt (trees_of here.now.site.now.codes.now.items) here.now.site.now.widget store.old.cells e
+        here.now.at }
+    requires tree { trees here.now.tree.now ≡ forest_at (trees_of here.now.site.now.codes.now.items) here.now.at.code }
+    ensures comes { let F = trees_of here.now.site.now.codes.now.items in let w = here.now.site.now.widget in
+        IfOk result (λ how. Comes F w store.old store.new 30
+        (λ s. Do (job_of F w store.old.cells (Job.Target e here.now.at)) s
+        (form_taken F w store.old.cells FormFrame.Delete))
+        run.old run.new how out.new) }
+    ensures kept { Kept (trees_of here.now.site.now.codes.now.items) here.now.site.now.widget store.old store.new }
+{
+    let mut of = Reference::Found(Value::Undefined);
+    deleted_on(here, run, store, e, deep, &mut of, out)
+}
+
+// The same with a place for the reference of its target.
+#[cycle(direct)]
+fn deleted_on(
+    here: &Here,
+    run: &mut Run,
+    store: &mut Store,
+    e: ExprId,
+    deep: u32,
+    of: &mut Reference,
+    out: &mut Value,
+) -> Result<Ended, Memory>
+    requires ready { IsReady (trees_of here.now.site.now.codes.now.items) here.now.site.now.widget store.old run.old }
+    requires held { IsExprAt (trees_of here.now.site.now.codes.now.items) here.now.site.now.widget store.old.cells e
+        here.now.at }
+    requires tree { trees here.now.tree.now ≡ forest_at (trees_of here.now.site.now.codes.now.items) here.now.at.code }
+    ensures comes { let F = trees_of here.now.site.now.codes.now.items in let w = here.now.site.now.widget in
+        IfOk result (λ how. Comes F w store.old store.new 30
+        (λ s. Do (job_of F w store.old.cells (Job.Target e here.now.at)) s
+        (form_taken F w store.old.cells FormFrame.Delete))
+        run.old run.new how out.new) }
+    ensures kept { Kept (trees_of here.now.site.now.codes.now.items) here.now.site.now.widget store.old store.new }
+{
+    match target_on(here, run, store, e, deep, of, out)? {
+        Ended::Is => remove_on(here.site, run, store, of, out),
+        other => hand_delete(run, other),
+    }
+}
+
+// The end of its target that is no reference.
+#[cold]
+#[inline(never)]
+fn hand_delete(run: &mut Run, how: Ended) -> Result<Ended, Memory>
+    ensures { IfOk result (λ h. HandsOn run.old run.new how h (Frame.Form FormFrame.Delete)) }
+{
+    match how {
+        Ended::Left => wait(run, Frame::Form(FormFrame::Delete)),
+        how => Ok(how),
+    }
+}
+
+/// A property is taken out; what else is referred to stays.
+pub(crate) fn remove_on(
+    site: &Site,
+    run: &mut Run,
+    store: &mut Store,
+    of: &Reference,
+    out: &mut Value,
+) -> Result<Ended, Memory>
+    requires ready { IsReady (trees_of site.now.codes.now.items) site.now.widget store.old run.old }
+    requires held { FineReference site.now.widget store.old.cells of.now }
+    ensures comes { let F = trees_of site.now.codes.now.items in let w = site.now.widget in
+        IfOk result (λ how. Comes F w store.old store.new 1
+        (expressions.delete_at (reference_of w store.old.cells of.now))
+        run.old run.new how out.new) }
+    ensures kept { Kept (trees_of site.now.codes.now.items) site.now.widget store.old store.new }
+{
+    match of {
+        Reference::Property(base, x) => match remove(store, site.widget, base, x) {
+            Removed::Done(answer) => {
+                *out = Value::Bool(answer);
+                Ok(Ended::Is)
+            }
+            Removed::Throw(fault) => throw(site, run, store, fault, out),
+        },
+        Reference::Variable(_) => {
+            *out = Value::Bool(true);
+            Ok(Ended::Is)
+        }
+        Reference::Found(_) => {
+            *out = Value::Bool(true);
+            Ok(Ended::Is)
+        }
     }
 }

@@ -1,26 +1,26 @@
-use Rattle.std.proofs.Common.{rules, List, None, [], ap, arith, drop, length, refl, subst, suc, sym, ℕ, ◌++◌, ◌+◌, ◌-◌, ◌∙◌, ◌∷◌, ◌≡◌}
+use Rattle.std.proofs.Common.{rules, List, None, [], ap, arith, drop, length, refl, subst, suc, sym, ℕ, ◌++◌, ◌+◌, ◌-◌, ◌∙◌, ◌∷◌, ◌≡◌, Bool, if◌then◌else◌, true, ◌<◌}
 use Rattle.std.proofs.lemmas.Result.{IfOk-weaker}
 use Rattle.js_tree.specs.Forest.{Forest, IsStmt, expr_at, plain_form, stmt_at}
-use Rattle.widget_meaning.specs.Costs.{make}
+use Rattle.widget_meaning.specs.Costs.{make, pay, scope_cost, throw}
 use Rattle.widget_meaning.specs.Expressions.{arguments_then, array_parts, assign_with, base_of, callee, expression, object_parts, refer, target}
-use Rattle.widget_meaning.specs.OwnState.{Function, State, new_array, new_object, plain_object}
-use Rattle.widget_meaning.specs.Plan.{Do, Eval, Halt, Plan, Ret, after, and_then}
-use Rattle.widget_meaning.specs.Values.{Value}
-use Rattle.js_image.specs.Image.{all_seen, function_in, image, seen}
-use Rattle.js_image.specs.Plans.{made_plan, meant_cause}
+use Rattle.widget_meaning.specs.OwnState.{Function, State, new_array, new_object, plain_object, Scope, with_new_scope}
+use Rattle.widget_meaning.specs.Plan.{Do, Eval, Halt, Plan, Ret, after, and_then, charge, ForInLoop, Pass}
+use Rattle.widget_meaning.specs.Values.{Value, E1}
+use Rattle.js_image.specs.Image.{all_seen, function_in, image, seen, Rest, no_rest}
+use Rattle.js_image.specs.Plans.{made_plan, meant_cause, IsScopeMade, scope_of, scope_plan}
 use Rattle.js_image.proofs.Units.{kept_then}
 use Rattle.js_names.specs.Code.{trees_of}
-use Rattle.js_flow.specs.Parts.{HasStmt, IsBlock, arguments_of, block_list, decls_of, elements_of, else_of, forest_at, loop_of, properties_of, then_of}
-use Rattle.js_flow.specs.Views.{completion_of, job_of, place_of, reference_of}
-use Rattle.js_flow.proofs.Stays.{place_fine, place_same, reference_fine, reference_same}
+use Rattle.js_flow.specs.Parts.{HasStmt, IsBlock, arguments_of, block_list, decls_of, elements_of, else_of, forest_at, loop_of, properties_of, then_of, catch_of, catch_body, finally_body, finally_of, clauses_of, loop_body, variable_of}
+use Rattle.js_flow.specs.Views.{completion_of, job_of, place_of, reference_of, for_in_loop, name_at}
+use Rattle.js_flow.proofs.Stays.{place_fine, place_same, reference_fine, reference_same, completion_fine, completion_same}
 use Rattle.js_direct.proofs.Lists.{before_then, goes_both, goes_then, left_no_value, part_goes}
 use Rattle.js_direct.proofs.Parts.{before_it, gives, more, part_passes, part_then, part_waits, unit_first}
 use Rattle.js_image.proofs.Grown.{fine_stays, held_stays, kept_same, seen_stays}
-use Rattle.js_image.specs.Held.{AreFine, IsFine, IsHeld}
-use Rattle.js_flow.specs.Fine.{FineAssigning, FineFrame, IsExprAt}
+use Rattle.js_image.specs.Held.{AreFine, IsFine, IsHeld, ArePairs}
+use Rattle.js_flow.specs.Fine.{FineAssigning, FineFrame, IsExprAt, FineCompletion, FineNames}
 use Rattle.js_flow.specs.Frames.{taken}
 use Rattle.js_direct.specs.declared.run.Ended.{Ended}
-use Rattle.js_direct.specs.Comes.{Comes, ended_as, target_as}
+use Rattle.js_direct.specs.Comes.{Comes, ended_as, target_as, ComesTo}
 use Rattle.js_direct.proofs.FormFrames.{after_store, both_ok, ends_target, expr_stays, frame_waits, gives_at, instead, not_value, other_end, reaches_at, target_ends, target_fine, target_then, value_fine, value_passes, value_ready, value_then}
 use Rattle.js_tree.specs.declared.nodes.AssignOp.{AssignOp}
 use Rattle.js_flow.specs.Forms.{form_taken, property_done}
@@ -30,11 +30,11 @@ use Rattle.js_direct.proofs.Reaching.{at_eval, at_target, found_form, goes_on, g
 use Rattle.js_direct.proofs.Handing.{hand_form, hand_ok, hand_target, hands, passes_normal, passes_value, placed_ok}
 use Rattle.store_cells.specs.Cells.{PlainCell}
 use Rattle.js_flow.specs.declared.frame.Assigning.{Assigning}
-use Rattle.js_flow.specs.Statements.{block_at, declared, loop_again, loop_next}
+use Rattle.js_flow.specs.Statements.{block_at, declared, loop_again, loop_next, clause_tested}
 use Rattle.widget_meaning.specs.Calls.{call_end, enter, invoke, statements}
-use Rattle.js_direct.proofs.Sequels.{as_is, end_fine, end_ready, is_end, loop_passes, other_normal, other_value, part_done, part_gives, part_next, passes_paid, passes_then, planned, round, stays, tested, towards_each, towards_paid, towards_then, unit_paid, waits_ok, waits_then}
+use Rattle.js_direct.proofs.Sequels.{as_is, end_fine, end_ready, is_end, loop_passes, other_normal, other_value, part_done, part_gives, part_next, passes_paid, passes_then, planned, round, stays, tested, towards_each, towards_paid, towards_then, unit_paid, waits_ok, waits_then, weigh, normal_passes}
 use Rattle.js_flow.proofs.Listing.{listed}
-use Rattle.std.specs.Prelude.{IfOk, Option}
+use Rattle.std.specs.Prelude.{IfOk, Option, Some, map}
 use Rattle.js_tree.specs.declared.nodes.StmtId.{StmtId}
 use Rattle.js_direct.proofs.Arguing.{all_there, argued_hands, argued_then, argued_waits_none, callee_hands, callee_there, counted, fewer, more_at, none_there, one_there, other_there, part_ends, refused}
 use Rattle.std.specs.Option.{option_map}
@@ -48,7 +48,17 @@ use Rattle.js_direct.specs.Towards.{Passes, Towards, frame_after, frame_in, part
 use Rattle.js_direct.specs.declared.run.Run.{Run}
 use Rattle.js_direct.proofs.Loops.{after_fine, after_free, after_taken, again_normal, loop_broken, loop_other, part_fine, part_free, part_taken, pass_is}
 use Rattle.js_image.proofs.Hosts.{entry_link}
-use Rattle.widget_meaning.specs.Statements.{branch}
+use Rattle.widget_meaning.specs.Statements.{branch, caught, in_catch, finally, last_end, choose_case, switch_end, bodies, from_default, for_in, for_in_over, for_in_next}
+use Rattle.js_direct.proofs.Rarer.{caught_passes, one_name, end_waits, then_gives, clause_passes, charge_paid, charge_waits, names_next}
+use Rattle.js_tree.specs.Plain.{CatchAs, NoCatch, NoBlock, SomeBlock}
+use Rattle.js_image.specs.declared.outcome.Made.{Made}
+use Rattle.std.specs.List.{IsDistinct}
+use Rattle.std.specs.Str.{bytes_eq}
+use Rattle.js_direct.specs.Hands.{WaitsToEnd}
+use Rattle.js_flow.specs.declared.job.Completion.{Completion}
+use Rattle.js_tree.specs.Lists.{stmt_list}
+use Rattle.widget_meaning.specs.Properties.{names_of}
+use Rattle.js_flow.specs.declared.frame.ForInNames.{ForInNames}
 use Rattle.store_cells.specs.declared.value.Value.TheVariants as value
 use Rattle.js_flow.specs.declared.job.Job.TheVariants as job
 use Rattle.js_flow.specs.declared.frame.Frame.TheVariants as frame
@@ -66,6 +76,8 @@ use Rattle.js_direct.specs.declared.statements.Part.TheVariants as part
 use Rattle.permitted_table.specs.declared.native.HostEntry.TheVariants as entry
 use Rattle.widget_meaning.specs.Plan as plan
 use Rattle.js_tree.specs.declared.nodes.Expr.TheVariants as expr
+use Rattle.widget_meaning.specs.Operators as operators
+use Rattle.widget_meaning.specs.Scopes as scopes
 use Rattle.js_direct.proofs.+direct.Goals as goal
 
 pub arrays::array_on-returns-in-Cell-clause-comes : goal.arrays::array_on-returns-in-Cell-clause-comes
@@ -728,7 +740,7 @@ blocks::any_on-list-preserved t c =
     let s2 = c.exec_on.new.store in
     let p : State → Plan = λ s. Do (job_of fs w s1.cells (job.Exec c.in-Some.listed.id c.args.here.now.at)) s Ret in
     let q : State → Plan = block_at fs w s1.cells c.list.at c.list.n c.args.here.now.at in
-    let start : State → Plan = block_at fs w s0.cells c.args.block 0 c.args.here.now.at in
+    let start : State → Plan = block_at fs w s0.cells c.args.from.0 c.args.from.1 c.args.here.now.at in
     let f = (frame.Statement (statement.Seq c.in-Some.listed.block c.in-Some.listed.next c.args.here.now.at)) in
     let inv = c.list.invariant in
     let kept = c.in_ok-how.ensures.kept in
@@ -753,7 +765,7 @@ blocks::any_on-returns-in-Left-clause-comes t c =
     let s2 = c.exec_on.new.store in
     let p : State → Plan = λ s. Do (job_of fs w s1.cells (job.Exec c.in-Some.listed.id c.args.here.now.at)) s Ret in
     let q : State → Plan = block_at fs w s1.cells c.list.at c.list.n c.args.here.now.at in
-    let start : State → Plan = block_at fs w s0.cells c.args.block 0 c.args.here.now.at in
+    let start : State → Plan = block_at fs w s0.cells c.args.from.0 c.args.from.1 c.args.here.now.at in
     let f = (frame.Statement (statement.Seq c.in-Some.listed.block c.in-Some.listed.next c.args.here.now.at)) in
     let inv = c.list.invariant in
     let kept = c.in_ok-how.ensures.kept in
@@ -775,7 +787,7 @@ blocks::any_on-returns-in-Left-clause-kept t c =
     let s2 = c.exec_on.new.store in
     let p : State → Plan = λ s. Do (job_of fs w s1.cells (job.Exec c.in-Some.listed.id c.args.here.now.at)) s Ret in
     let q : State → Plan = block_at fs w s1.cells c.list.at c.list.n c.args.here.now.at in
-    let start : State → Plan = block_at fs w s0.cells c.args.block 0 c.args.here.now.at in
+    let start : State → Plan = block_at fs w s0.cells c.args.from.0 c.args.from.1 c.args.here.now.at in
     let f = (frame.Statement (statement.Seq c.in-Some.listed.block c.in-Some.listed.next c.args.here.now.at)) in
     let inv = c.list.invariant in
     let kept = c.in_ok-how.ensures.kept in
@@ -795,7 +807,7 @@ blocks::any_on-returns-in_default-2 t c =
     let s2 = c.exec_on.new.store in
     let p : State → Plan = λ s. Do (job_of fs w s1.cells (job.Exec c.in-Some.listed.id c.args.here.now.at)) s Ret in
     let q : State → Plan = block_at fs w s1.cells c.list.at c.list.n c.args.here.now.at in
-    let start : State → Plan = block_at fs w s0.cells c.args.block 0 c.args.here.now.at in
+    let start : State → Plan = block_at fs w s0.cells c.args.from.0 c.args.from.1 c.args.here.now.at in
     let f = (frame.Statement (statement.Seq c.in-Some.listed.block c.in-Some.listed.next c.args.here.now.at)) in
     let inv = c.list.invariant in
     let kept = c.in_ok-how.ensures.kept in
@@ -1235,6 +1247,1013 @@ calls::referred_on-returns-clause-comes t c =
     (λ r. ap (λ u. invoke u (base_of of) vs d (image fs r w s)) (sym (c.in_ok-func.ensures.found r)) ∙ ap (λ b. invoke (seen w s.cells func) b vs d (image fs r w s)) (sym (c.take_base-this.ensures.base w s))))
     c.value_far.ensures.comes
 
+pub catching::try_on-returns-in-Left-clause-comes : goal.catching::try_on-returns-in-Left-clause-comes
+catching::try_on-returns-in-Left-clause-comes t c =
+    let fs = trees_of c.args.here.now.site.now.codes.now.items in
+    let w = c.args.here.now.site.now.widget in
+    let at = c.args.here.now.at in
+    let old = c.args.store.now in
+    let mid = c.tried_on.new.store in
+    let p : State → Plan = λ s. and_then (block_at fs w old.cells (block.Try c.args.id) 0 at s) (taken fs w old.cells (frame.Statement (statement.Caught c.args.id at))) in
+    let f = frame.Statement (statement.Finally c.args.id at) in
+    let had = c.args.run.now in
+    let has = c.tried_on.new.run in
+    let how = c.in_ok-how.how in
+    let out = c.tried_on.new.out in
+    let part = c.in_ok-how.ensures.comes in
+    let kept = c.in_ok-how.ensures.kept in
+    waits_ok fs w c.wait.result old mid 3 30 p f had has c.wait.new.run how (ended_as how out) out part c.in-Left.is kept.grows c.requires.held
+    c.wait.ensures.left c.wait.ensures.waits c.wait.ensures.next c.wait.ensures.units (omega arith)
+
+pub catching::try_on-finally_on-requires : goal.catching::try_on-finally_on-requires
+catching::try_on-finally_on-requires t c = (
+  search rules,
+  (
+    (
+        let fs = trees_of c.args.here.now.site.now.codes.now.items in
+        let w = c.args.here.now.site.now.widget in
+        let at = c.args.here.now.at in
+        let old = c.args.store.now in
+        let mid = c.tried_on.new.store in
+        let p : State → Plan = λ s. and_then (block_at fs w old.cells (block.Try c.args.id) 0 at s) (taken fs w old.cells (frame.Statement (statement.Caught c.args.id at))) in
+        let f = frame.Statement (statement.Finally c.args.id at) in
+        let had = c.args.run.now in
+        let has = c.tried_on.new.run in
+        let how = c.in_ok-how.how in
+        let out = c.tried_on.new.out in
+        let part = c.in_ok-how.ensures.comes in
+        let kept = c.in_ok-how.ensures.kept in
+        let end = is_end how c.in_default.not-Left in
+        end_ready fs w old mid 3 p had has how (ended_as how out) part end c.requires.ready kept
+        ),
+    (
+      (
+          let fs = trees_of c.args.here.now.site.now.codes.now.items in
+          let w = c.args.here.now.site.now.widget in
+          let at = c.args.here.now.at in
+          let old = c.args.store.now in
+          let mid = c.tried_on.new.store in
+          let p : State → Plan = λ s. and_then (block_at fs w old.cells (block.Try c.args.id) 0 at s) (taken fs w old.cells (frame.Statement (statement.Caught c.args.id at))) in
+          let f = frame.Statement (statement.Finally c.args.id at) in
+          let had = c.args.run.now in
+          let has = c.tried_on.new.run in
+          let how = c.in_ok-how.how in
+          let out = c.tried_on.new.out in
+          let part = c.in_ok-how.ensures.comes in
+          let kept = c.in_ok-how.ensures.kept in
+          let end = is_end how c.in_default.not-Left in
+          (place_fine fs w old.cells mid.cells kept.grows at c.requires.held.0, c.requires.held.1)
+          ),
+      (
+        c.requires.tree,
+        (
+            let fs = trees_of c.args.here.now.site.now.codes.now.items in
+            let w = c.args.here.now.site.now.widget in
+            let at = c.args.here.now.at in
+            let old = c.args.store.now in
+            let mid = c.tried_on.new.store in
+            let p : State → Plan = λ s. and_then (block_at fs w old.cells (block.Try c.args.id) 0 at s) (taken fs w old.cells (frame.Statement (statement.Caught c.args.id at))) in
+            let f = frame.Statement (statement.Finally c.args.id at) in
+            let had = c.args.run.now in
+            let has = c.tried_on.new.run in
+            let how = c.in_ok-how.how in
+            let out = c.tried_on.new.out in
+            let part = c.in_ok-how.ensures.comes in
+            let kept = c.in_ok-how.ensures.kept in
+            let end = is_end how c.in_default.not-Left in
+            (end, end_fine fs w old mid 3 p had has how (ended_as how out) part end)
+            ),
+      ),
+    ),
+  ),
+)
+
+pub catching::try_on-returns-in_default-clause-comes : goal.catching::try_on-returns-in_default-clause-comes
+catching::try_on-returns-in_default-clause-comes t c =
+    let fs = trees_of c.args.here.now.site.now.codes.now.items in
+    let w = c.args.here.now.site.now.widget in
+    let at = c.args.here.now.at in
+    let old = c.args.store.now in
+    let mid = c.tried_on.new.store in
+    let p : State → Plan = λ s. and_then (block_at fs w old.cells (block.Try c.args.id) 0 at s) (taken fs w old.cells (frame.Statement (statement.Caught c.args.id at))) in
+    let f = frame.Statement (statement.Finally c.args.id at) in
+    let had = c.args.run.now in
+    let has = c.tried_on.new.run in
+    let how = c.in_ok-how.how in
+    let out = c.tried_on.new.out in
+    let part = c.in_ok-how.ensures.comes in
+    let kept = c.in_ok-how.ensures.kept in
+    let end = is_end how c.in_default.not-Left in
+    IfOk-weaker c.finally_on.result _ _
+    (λ h x. part_then fs w old mid c.finally_on.new.store 3 4 30 p f had has c.finally_on.new.run how h (ended_as how out) (ended_as h c.finally_on.new.out) part end kept.grows c.requires.held x (omega arith))
+    c.finally_on.ensures.comes
+
+pub catching::try_on-returns-in_default-clause-kept : goal.catching::try_on-returns-in_default-clause-kept
+catching::try_on-returns-in_default-clause-kept t c =
+    let fs = trees_of c.args.here.now.site.now.codes.now.items in
+    let w = c.args.here.now.site.now.widget in
+    let at = c.args.here.now.at in
+    let old = c.args.store.now in
+    let mid = c.tried_on.new.store in
+    let p : State → Plan = λ s. and_then (block_at fs w old.cells (block.Try c.args.id) 0 at s) (taken fs w old.cells (frame.Statement (statement.Caught c.args.id at))) in
+    let f = frame.Statement (statement.Finally c.args.id at) in
+    let had = c.args.run.now in
+    let has = c.tried_on.new.run in
+    let how = c.in_ok-how.how in
+    let out = c.tried_on.new.out in
+    let part = c.in_ok-how.ensures.comes in
+    let kept = c.in_ok-how.ensures.kept in
+    kept_then fs w old mid c.finally_on.new.store kept c.finally_on.ensures.kept
+
+pub catching::tried_on-returns-in-Left-clause-comes : goal.catching::tried_on-returns-in-Left-clause-comes
+catching::tried_on-returns-in-Left-clause-comes t c =
+    let fs = trees_of c.args.here.now.site.now.codes.now.items in
+    let w = c.args.here.now.site.now.widget in
+    let at = c.args.here.now.at in
+    let old = c.args.store.now in
+    let mid = c.block_on.new.store in
+    let p : State → Plan = block_at fs w old.cells (block.Try c.args.id) 0 at in
+    let f = frame.Statement (statement.Caught c.args.id at) in
+    let had = c.args.run.now in
+    let has = c.block_on.new.run in
+    let how = c.in_ok-how.how in
+    let out = c.block_on.new.out in
+    let part = c.in_ok-how.ensures.comes in
+    let kept = c.in_ok-how.ensures.kept in
+    waits_ok fs w c.wait.result old mid 1 3 p f had has c.wait.new.run how (ended_as how out) out part c.in-Left.is kept.grows c.requires.held
+    c.wait.ensures.left c.wait.ensures.waits c.wait.ensures.next c.wait.ensures.units (omega arith)
+
+pub catching::tried_on-caught_on-requires : goal.catching::tried_on-caught_on-requires
+catching::tried_on-caught_on-requires t c = (
+  search rules,
+  (
+    (
+        let fs = trees_of c.args.here.now.site.now.codes.now.items in
+        let w = c.args.here.now.site.now.widget in
+        let at = c.args.here.now.at in
+        let old = c.args.store.now in
+        let mid = c.block_on.new.store in
+        let p : State → Plan = block_at fs w old.cells (block.Try c.args.id) 0 at in
+        let f = frame.Statement (statement.Caught c.args.id at) in
+        let had = c.args.run.now in
+        let has = c.block_on.new.run in
+        let how = c.in_ok-how.how in
+        let out = c.block_on.new.out in
+        let part = c.in_ok-how.ensures.comes in
+        let kept = c.in_ok-how.ensures.kept in
+        let end = is_end how c.in_default.not-Left in
+        end_ready fs w old mid 1 p had has how (ended_as how out) part end c.requires.ready kept
+        ),
+    (
+      (
+          let fs = trees_of c.args.here.now.site.now.codes.now.items in
+          let w = c.args.here.now.site.now.widget in
+          let at = c.args.here.now.at in
+          let old = c.args.store.now in
+          let mid = c.block_on.new.store in
+          let p : State → Plan = block_at fs w old.cells (block.Try c.args.id) 0 at in
+          let f = frame.Statement (statement.Caught c.args.id at) in
+          let had = c.args.run.now in
+          let has = c.block_on.new.run in
+          let how = c.in_ok-how.how in
+          let out = c.block_on.new.out in
+          let part = c.in_ok-how.ensures.comes in
+          let kept = c.in_ok-how.ensures.kept in
+          let end = is_end how c.in_default.not-Left in
+          (place_fine fs w old.cells mid.cells kept.grows at c.requires.held.0, c.requires.held.1)
+          ),
+      (
+        c.requires.tree,
+        (
+            let fs = trees_of c.args.here.now.site.now.codes.now.items in
+            let w = c.args.here.now.site.now.widget in
+            let at = c.args.here.now.at in
+            let old = c.args.store.now in
+            let mid = c.block_on.new.store in
+            let p : State → Plan = block_at fs w old.cells (block.Try c.args.id) 0 at in
+            let f = frame.Statement (statement.Caught c.args.id at) in
+            let had = c.args.run.now in
+            let has = c.block_on.new.run in
+            let how = c.in_ok-how.how in
+            let out = c.block_on.new.out in
+            let part = c.in_ok-how.ensures.comes in
+            let kept = c.in_ok-how.ensures.kept in
+            let end = is_end how c.in_default.not-Left in
+            (end, end_fine fs w old mid 1 p had has how (ended_as how out) part end)
+            ),
+      ),
+    ),
+  ),
+)
+
+pub catching::tried_on-returns-in_default-clause-comes : goal.catching::tried_on-returns-in_default-clause-comes
+catching::tried_on-returns-in_default-clause-comes t c =
+    let fs = trees_of c.args.here.now.site.now.codes.now.items in
+    let w = c.args.here.now.site.now.widget in
+    let at = c.args.here.now.at in
+    let old = c.args.store.now in
+    let mid = c.block_on.new.store in
+    let p : State → Plan = block_at fs w old.cells (block.Try c.args.id) 0 at in
+    let f = frame.Statement (statement.Caught c.args.id at) in
+    let had = c.args.run.now in
+    let has = c.block_on.new.run in
+    let how = c.in_ok-how.how in
+    let out = c.block_on.new.out in
+    let part = c.in_ok-how.ensures.comes in
+    let kept = c.in_ok-how.ensures.kept in
+    let end = is_end how c.in_default.not-Left in
+    IfOk-weaker c.caught_on.result _ _
+    (λ h x. part_then fs w old mid c.caught_on.new.store 1 2 3 p f had has c.caught_on.new.run how h (ended_as how out) (ended_as h c.caught_on.new.out) part end kept.grows c.requires.held x (omega arith))
+    c.caught_on.ensures.comes
+
+pub catching::tried_on-returns-in_default-clause-kept : goal.catching::tried_on-returns-in_default-clause-kept
+catching::tried_on-returns-in_default-clause-kept t c =
+    let fs = trees_of c.args.here.now.site.now.codes.now.items in
+    let w = c.args.here.now.site.now.widget in
+    let at = c.args.here.now.at in
+    let old = c.args.store.now in
+    let mid = c.block_on.new.store in
+    let p : State → Plan = block_at fs w old.cells (block.Try c.args.id) 0 at in
+    let f = frame.Statement (statement.Caught c.args.id at) in
+    let had = c.args.run.now in
+    let has = c.block_on.new.run in
+    let how = c.in_ok-how.how in
+    let out = c.block_on.new.out in
+    let part = c.in_ok-how.ensures.comes in
+    let kept = c.in_ok-how.ensures.kept in
+    kept_then fs w old mid c.caught_on.new.store kept c.caught_on.ensures.kept
+
+pub catching::caught_on-thrown_on-requires : goal.catching::caught_on-thrown_on-requires
+catching::caught_on-thrown_on-requires t c = (
+  search rules,
+  (
+    c.requires.ready,
+    (
+      (
+          let fs = trees_of c.args.here.now.site.now.codes.now.items in
+          let w = c.args.here.now.site.now.widget in
+          let at = c.args.here.now.at in
+          let old = c.args.store.now in
+          let i = stmt_at (forest_at fs at.code) c.args.id in
+          let place = place_of w old.cells at in
+          (c.requires.held, subst (λ (e : Ended). FineCompletion w old.cells (ended_as e c.args.out.now)) c.in-Threw.is c.requires.end.1)
+          ),
+      c.requires.tree,
+    ),
+  ),
+)
+
+pub catching::caught_on-returns-in-Threw-clause-comes : goal.catching::caught_on-returns-in-Threw-clause-comes
+catching::caught_on-returns-in-Threw-clause-comes t c =
+    let fs = trees_of c.args.here.now.site.now.codes.now.items in
+    let w = c.args.here.now.site.now.widget in
+    let at = c.args.here.now.at in
+    let old = c.args.store.now in
+    let i = stmt_at (forest_at fs at.code) c.args.id in
+    let place = place_of w old.cells at in
+    IfOk-weaker c.thrown_on.result _ _
+    (λ h x. planned fs w old c.thrown_on.new.store 2 _ _ c.args.run.now c.thrown_on.new.run h (ended_as h c.thrown_on.new.out)
+    (λ s. ap (λ (e : Ended). caught (catch_of i) place (completion_of w old.cells (ended_as e c.args.out.now)) s) c.in-Threw.is) x)
+    c.thrown_on.ensures.comes
+
+pub catching::caught_on-returns-in_default-clause-comes : goal.catching::caught_on-returns-in_default-clause-comes
+catching::caught_on-returns-in_default-clause-comes t c =
+    let fs = trees_of c.args.here.now.site.now.codes.now.items in
+    let w = c.args.here.now.site.now.widget in
+    let at = c.args.here.now.at in
+    let old = c.args.store.now in
+    let i = stmt_at (forest_at fs at.code) c.args.id in
+    let place = place_of w old.cells at in
+    let out = c.args.out.now in
+    gives fs w old old 2 (λ s. caught (catch_of i) place (completion_of w old.cells (ended_as c.args.how out)) s) c.args.run.now c.args.run.now c.args.how (ended_as c.args.how out) c.requires.end.0 refl c.requires.ready.2
+    (λ r. caught_passes (catch_of i) place w old.cells out (image fs r w old) c.args.how c.in_default.not-Threw) c.requires.end.1 (omega arith)
+
+pub catching::thrown_on-returns-in-None-clause-comes : goal.catching::thrown_on-returns-in-None-clause-comes
+catching::thrown_on-returns-in-None-clause-comes t c =
+    let fs = trees_of c.args.here.now.site.now.codes.now.items in
+    let w = c.args.here.now.site.now.widget in
+    let at = c.args.here.now.at in
+    let old = c.args.store.now in
+    let i = stmt_at (forest_at fs at.code) c.args.id in
+    let place = place_of w old.cells at in
+    let out = c.args.out.now in
+    let no : catch_of i ≡ NoCatch = subst (λ (g : Forest). catch_of (stmt_at g c.args.id) ≡ NoCatch) c.requires.tree c.in-None.ensures in
+    gives fs w old old 2 (λ s. caught (catch_of i) place (meaning.Throw (seen w old.cells out)) s) c.args.run.now c.args.run.now ended.Threw (ended_as ended.Threw out) tt refl c.requires.ready.2
+    (λ r. ap (λ q. caught q place (meaning.Throw (seen w old.cells out)) (image fs r w old)) no) c.requires.held.1 (omega arith)
+
+pub catching::thrown_on-returns-in-Some-clause-comes : goal.catching::thrown_on-returns-in-Some-clause-comes
+catching::thrown_on-returns-in-Some-clause-comes t c =
+    let fs = trees_of c.args.here.now.site.now.codes.now.items in
+    let w = c.args.here.now.site.now.widget in
+    let at = c.args.here.now.at in
+    let old = c.args.store.now in
+    let i = stmt_at (forest_at fs at.code) c.args.id in
+    let place = place_of w old.cells at in
+    let out = c.args.out.now in
+    let name = c.in-Some.name.now in
+    let is : catch_of i ≡ CatchAs name (catch_body (catch_of i)) = subst (λ (g : Forest). catch_of (stmt_at g c.args.id) ≡ CatchAs name (catch_body (catch_of (stmt_at g c.args.id)))) c.requires.tree c.in-Some.ensures in
+    IfOk-weaker c.catch_on.result _ _
+    (λ h x. weigh fs w old c.catch_on.new.store 1 2 _ c.args.run.now c.catch_on.new.run h (ended_as h c.catch_on.new.out)
+    (planned fs w old c.catch_on.new.store 1 (λ s. caught (catch_of i) place (meaning.Throw (seen w old.cells out)) s) _ c.args.run.now c.catch_on.new.run h (ended_as h c.catch_on.new.out)
+    (λ s. ap (λ q. caught q place (meaning.Throw (seen w old.cells out)) s) is) x) (omega arith))
+    c.catch_on.ensures.comes
+
+pub catching::catch_on-make_scope-requires-clause-names : goal.catching::catch_on-make_scope-requires-clause-names
+catching::catch_on-make_scope-requires-clause-names t c =
+    subst (λ (l : List (List ℕ × Value2)). IsDistinct bytes_eq (map (λ p. p.0) l)) (sym c.in_ok-pairs.ensures.items) (one_name c.in_ok-shared.shared)
+
+pub catching::catch_on-make_scope-requires-clause-values : goal.catching::catch_on-make_scope-requires-clause-values
+catching::catch_on-make_scope-requires-clause-values t c =
+    let fs = trees_of c.args.here.now.site.now.codes.now.items in
+    let w = c.args.here.now.site.now.widget in
+    let at = c.args.here.now.at in
+    let old = c.args.store.now in
+    subst (λ (l : List (List ℕ × Value2)). ArePairs w old.cells l) (sym c.in_ok-pairs.ensures.items) (subst (λ (v : Value2). IsFine w old.cells v) (sym c.take_value-value.ensures.taken) c.requires.held.1, tt)
+
+pub catching::catch_on-returns-in_err-cause-clause-kept : goal.catching::catch_on-returns-in_err-cause-clause-kept
+catching::catch_on-returns-in_err-cause-clause-kept t c = c.make_scope.ensures.kept (trees_of c.args.here.now.site.now.codes.now.items)
+
+pub catching::catch_on-returns-in-Stop-clause-kept : goal.catching::catch_on-returns-in-Stop-clause-kept
+catching::catch_on-returns-in-Stop-clause-kept t c = c.make_scope.ensures.kept (trees_of c.args.here.now.site.now.codes.now.items)
+
+pub catching::catch_on-catch_in-requires : goal.catching::catch_on-catch_in-requires
+catching::catch_on-catch_in-requires t c = (
+  search rules,
+  (
+    (
+        let fs = trees_of c.args.here.now.site.now.codes.now.items in
+        let w = c.args.here.now.site.now.widget in
+        let at = c.args.here.now.at in
+        let old = c.args.store.now in
+        let new = c.make_scope.new.store in
+        let kept = c.make_scope.ensures.kept fs in
+        (c.requires.ready.0, kept.confined c.requires.ready.1, c.requires.ready.2)
+        ),
+    (
+      (
+          let fs = trees_of c.args.here.now.site.now.codes.now.items in
+          let w = c.args.here.now.site.now.widget in
+          let at = c.args.here.now.at in
+          let old = c.args.store.now in
+          let new = c.make_scope.new.store in
+          let kept = c.make_scope.ensures.kept fs in
+          ((place_fine fs w old.cells new.cells kept.grows at c.requires.held.0.0, c.requires.held.0.1), subst (λ (m : Made). IsScopeMade w new.cells m) c.in-Cell.is c.in_ok-cause.ensures.fine)
+          ),
+      c.requires.tree,
+    ),
+  ),
+)
+
+pub catching::catch_on-returns-in-Stop-clause-comes : goal.catching::catch_on-returns-in-Stop-clause-comes
+catching::catch_on-returns-in-Stop-clause-comes t c =
+    let fs = trees_of c.args.here.now.site.now.codes.now.items in
+    let w = c.args.here.now.site.now.widget in
+    let at = c.args.here.now.at in
+    let old = c.args.store.now in
+    let new = c.make_scope.new.store in
+    let kept = c.make_scope.ensures.kept fs in
+    let list = block_list (forest_at fs at.code) (block.Catch c.args.id) in
+    let k : ℕ → State → Plan = λ i t. statements list (record { scope = Some i; depth = at.depth }) t in
+    let items : c.in_ok-pairs.pairs.items ≡ (c.args.name.now, c.args.out.now) ∷ [] = c.in_ok-pairs.ensures.items ∙ (λ j. (c.in_ok-shared.ensures j, c.take_value-value.ensures.taken j) ∷ []) in
+    let as_made : (r : Rest) → in_catch c.args.name.now list (seen w old.cells c.args.out.now) (place_of w old.cells at) (image fs r w old)
+    ≡ pay (scope_cost (scope_of w old.cells at.scope c.in_ok-pairs.pairs.items)) (image fs r w old) (λ t. k (length t.own.scopes) (with_new_scope t (scope_of w old.cells at.scope c.in_ok-pairs.pairs.items))) =
+    λ r. ap (λ (d : Scope). pay (scope_cost d) (image fs r w old) (λ t. k (length t.own.scopes) (with_new_scope t d))) (ap (scope_of w old.cells at.scope) (sym items)) in
+    IfOk-weaker c.stop.result _ _
+    (λ h x. before_it fs w old new 0 1 _ _ c.args.run.now c.stop.new.run h _ (λ r. as_made r ∙ (c.in_ok-cause.ensures.plan fs r k ∙ ap (λ m. scope_plan w new.cells m k (image fs r w new)) c.in-Stop.is)) (x fs w new c.take_value-value.new.out) (omega arith))
+    c.stop.ensures.comes
+
+pub catching::catch_on-returns-in-Cell-clause-comes : goal.catching::catch_on-returns-in-Cell-clause-comes
+catching::catch_on-returns-in-Cell-clause-comes t c =
+    let fs = trees_of c.args.here.now.site.now.codes.now.items in
+    let w = c.args.here.now.site.now.widget in
+    let at = c.args.here.now.at in
+    let old = c.args.store.now in
+    let new = c.make_scope.new.store in
+    let kept = c.make_scope.ensures.kept fs in
+    let list = block_list (forest_at fs at.code) (block.Catch c.args.id) in
+    let k : ℕ → State → Plan = λ i t. statements list (record { scope = Some i; depth = at.depth }) t in
+    let items : c.in_ok-pairs.pairs.items ≡ (c.args.name.now, c.args.out.now) ∷ [] = c.in_ok-pairs.ensures.items ∙ (λ j. (c.in_ok-shared.ensures j, c.take_value-value.ensures.taken j) ∷ []) in
+    let as_made : (r : Rest) → in_catch c.args.name.now list (seen w old.cells c.args.out.now) (place_of w old.cells at) (image fs r w old)
+    ≡ pay (scope_cost (scope_of w old.cells at.scope c.in_ok-pairs.pairs.items)) (image fs r w old) (λ t. k (length t.own.scopes) (with_new_scope t (scope_of w old.cells at.scope c.in_ok-pairs.pairs.items))) =
+    λ r. ap (λ (d : Scope). pay (scope_cost d) (image fs r w old) (λ t. k (length t.own.scopes) (with_new_scope t d))) (ap (scope_of w old.cells at.scope) (sym items)) in
+    IfOk-weaker c.catch_in.result _ _
+    (λ h x. after_store fs w old new c.catch_in.new.store 1 (block_at fs w new.cells (block.Catch c.args.id) 0 (record at { scope = Some c.in-Cell.scope })) (in_catch c.args.name.now list (seen w old.cells c.args.out.now) (place_of w old.cells at)) c.args.run.now c.catch_in.new.run h (ended_as h c.catch_in.new.out) x (λ r. as_made r ∙ (c.in_ok-cause.ensures.plan fs r k ∙ ap (λ m. scope_plan w new.cells m k (image fs r w new)) c.in-Cell.is)))
+    c.catch_in.ensures.comes
+
+pub catching::catch_on-returns-in-Cell-clause-kept : goal.catching::catch_on-returns-in-Cell-clause-kept
+catching::catch_on-returns-in-Cell-clause-kept t c =
+    let fs = trees_of c.args.here.now.site.now.codes.now.items in
+    let w = c.args.here.now.site.now.widget in
+    let at = c.args.here.now.at in
+    let old = c.args.store.now in
+    let new = c.make_scope.new.store in
+    let kept = c.make_scope.ensures.kept fs in
+    kept_then fs w old new c.catch_in.new.store kept c.catch_in.ensures.kept
+
+pub catching::finally_on-returns-then-not-has_finally-clause-comes : goal.catching::finally_on-returns-then-not-has_finally-clause-comes
+catching::finally_on-returns-then-not-has_finally-clause-comes t c =
+    let fs = trees_of c.args.here.now.site.now.codes.now.items in
+    let w = c.args.here.now.site.now.widget in
+    let at = c.args.here.now.at in
+    let old = c.args.store.now in
+    let i = stmt_at (forest_at fs at.code) c.args.id in
+    let place = place_of w old.cells at in
+    let out = c.args.out.now in
+    let e = ended_as c.args.how out in
+    let t : State → Plan = finally (finally_of i) place (completion_of w old.cells e) in
+    let no : finally_of i ≡ NoBlock = subst (λ (g : Forest). finally_of (stmt_at g c.args.id) ≡ NoBlock) c.requires.tree (c.has_finally.ensures.no c.if-not-has_finally.true) in
+    gives fs w old old 4 t c.args.run.now c.args.run.now c.args.how e c.requires.end.0 refl c.requires.ready.2
+    (λ r. ap (λ b. finally b place (completion_of w old.cells e) (image fs r w old)) no) c.requires.end.1 (omega arith)
+
+pub catching::finally_on-returns-in-Normal-clause-comes : goal.catching::finally_on-returns-in-Normal-clause-comes
+catching::finally_on-returns-in-Normal-clause-comes t c =
+    let fs = trees_of c.args.here.now.site.now.codes.now.items in
+    let w = c.args.here.now.site.now.widget in
+    let at = c.args.here.now.at in
+    let old = c.args.store.now in
+    let i = stmt_at (forest_at fs at.code) c.args.id in
+    let place = place_of w old.cells at in
+    let out = c.args.out.now in
+    let e = ended_as c.args.how out in
+    let t : State → Plan = finally (finally_of i) place (completion_of w old.cells e) in
+    let mid = c.block_on.new.store in
+    let had = c.args.run.now in
+    let has = c.block_on.new.run in
+    let how = c.in_ok-last.last in
+    let after = c.block_on.new.out in
+    let part = c.in_ok-last.ensures.comes in
+    let kept = c.in_ok-last.ensures.kept in
+    let p : State → Plan = block_at fs w old.cells (block.Finally c.args.id) 0 at in
+    let is : finally_of i ≡ SomeBlock (finally_body (finally_of i)) = subst (λ (g : Forest). finally_of (stmt_at g c.args.id) ≡ SomeBlock (finally_body (finally_of (stmt_at g c.args.id)))) c.requires.tree (c.has_finally.ensures.yes c.if-not-has_finally.false) in
+    let plan : (s : State) → t s ≡ and_then (p s) (last_end (completion_of w old.cells e)) = λ s. ap (λ b. finally b place (completion_of w old.cells e) s) is in
+    let same : ended_as c.args.how c.take_value-before.result ≡ e = ap (λ v. ended_as c.args.how v) c.take_value-before.ensures.taken in
+    let one = as_is fs w old mid 1 p had has how ended.Normal after c.in-Normal.is part in
+    let ready = end_ready fs w old mid 1 p had has ended.Normal (ended_as ended.Normal after) one tt c.requires.ready kept in
+    let given : ended_as c.args.how c.set_value.new.out ≡ e = ap (λ v. ended_as c.args.how v) (c.set_value.ensures ∙ c.take_value-before.ensures.taken) in
+    subst (λ (a : Completion). ComesTo fs w old mid 4 t had has c.args.how a) (sym given)
+    (then_gives fs w old mid 1 4 t p (last_end (completion_of w old.cells e)) had has ended.Normal c.args.how (ended_as ended.Normal after) e plan one tt ready c.requires.end.0
+    (λ r. ap (λ o. Ret o (image fs r w mid)) (sym (completion_same w old.cells mid.cells kept.grows e c.requires.end.1))) (completion_fine w old.cells mid.cells kept.grows e c.requires.end.1) (omega arith))
+
+pub catching::finally_on-completion-requires : goal.catching::finally_on-completion-requires
+catching::finally_on-completion-requires t c = c.requires.end.0
+
+pub catching::finally_on-returns-in-Left-clause-comes : goal.catching::finally_on-returns-in-Left-clause-comes
+catching::finally_on-returns-in-Left-clause-comes t c =
+    let fs = trees_of c.args.here.now.site.now.codes.now.items in
+    let w = c.args.here.now.site.now.widget in
+    let at = c.args.here.now.at in
+    let old = c.args.store.now in
+    let i = stmt_at (forest_at fs at.code) c.args.id in
+    let place = place_of w old.cells at in
+    let out = c.args.out.now in
+    let e = ended_as c.args.how out in
+    let t : State → Plan = finally (finally_of i) place (completion_of w old.cells e) in
+    let mid = c.block_on.new.store in
+    let had = c.args.run.now in
+    let has = c.block_on.new.run in
+    let how = c.in_ok-last.last in
+    let after = c.block_on.new.out in
+    let part = c.in_ok-last.ensures.comes in
+    let kept = c.in_ok-last.ensures.kept in
+    let p : State → Plan = block_at fs w old.cells (block.Finally c.args.id) 0 at in
+    let is : finally_of i ≡ SomeBlock (finally_body (finally_of i)) = subst (λ (g : Forest). finally_of (stmt_at g c.args.id) ≡ SomeBlock (finally_body (finally_of (stmt_at g c.args.id)))) c.requires.tree (c.has_finally.ensures.yes c.if-not-has_finally.false) in
+    let plan : (s : State) → t s ≡ and_then (p s) (last_end (completion_of w old.cells e)) = λ s. ap (λ b. finally b place (completion_of w old.cells e) s) is in
+    let same : ended_as c.args.how c.take_value-before.result ≡ e = ap (λ v. ended_as c.args.how v) c.take_value-before.ensures.taken in
+    end_waits fs w c.wait_last.result old mid 1 4 t p e had has c.wait_last.new.run how (ended_as how after) after plan part c.in-Left.is kept.grows c.requires.end.1
+    (subst (λ (x : Completion). IfOk c.wait_last.result (λ h. WaitsToEnd has c.wait_last.new.run h x)) (c.completion.ensures ∙ same) c.wait_last.ensures) (omega arith)
+
+pub catching::finally_on-returns-in_default-clause-comes : goal.catching::finally_on-returns-in_default-clause-comes
+catching::finally_on-returns-in_default-clause-comes t c =
+    let fs = trees_of c.args.here.now.site.now.codes.now.items in
+    let w = c.args.here.now.site.now.widget in
+    let at = c.args.here.now.at in
+    let old = c.args.store.now in
+    let i = stmt_at (forest_at fs at.code) c.args.id in
+    let place = place_of w old.cells at in
+    let out = c.args.out.now in
+    let e = ended_as c.args.how out in
+    let t : State → Plan = finally (finally_of i) place (completion_of w old.cells e) in
+    let mid = c.block_on.new.store in
+    let had = c.args.run.now in
+    let has = c.block_on.new.run in
+    let how = c.in_ok-last.last in
+    let after = c.block_on.new.out in
+    let part = c.in_ok-last.ensures.comes in
+    let kept = c.in_ok-last.ensures.kept in
+    let p : State → Plan = block_at fs w old.cells (block.Finally c.args.id) 0 at in
+    let is : finally_of i ≡ SomeBlock (finally_body (finally_of i)) = subst (λ (g : Forest). finally_of (stmt_at g c.args.id) ≡ SomeBlock (finally_body (finally_of (stmt_at g c.args.id)))) c.requires.tree (c.has_finally.ensures.yes c.if-not-has_finally.false) in
+    let plan : (s : State) → t s ≡ and_then (p s) (last_end (completion_of w old.cells e)) = λ s. ap (λ b. finally b place (completion_of w old.cells e) s) is in
+    let same : ended_as c.args.how c.take_value-before.result ≡ e = ap (λ v. ended_as c.args.how v) c.take_value-before.ensures.taken in
+    let end = is_end how c.in_default.not-Left in
+    then_gives fs w old mid 1 4 t p (last_end (completion_of w old.cells e)) had has how how (ended_as how after) (ended_as how after) plan part end (end_ready fs w old mid 1 p had has how (ended_as how after) part end c.requires.ready kept) end
+    (λ r. normal_passes w mid.cells after (image fs r w mid) how (Ret (completion_of w old.cells e) (image fs r w mid)) c.in_default.not-Normal c.in_default.not-Left) (end_fine fs w old mid 1 p had has how (ended_as how after) part end) (omega arith)
+
+pub choosing::switch_on-valued_on-requires : goal.choosing::switch_on-valued_on-requires
+choosing::switch_on-valued_on-requires t c = (
+  search rules,
+  (
+    (
+        let fs = trees_of c.args.here.now.site.now.codes.now.items in
+        let w = c.args.here.now.site.now.widget in
+        let at = c.args.here.now.at in
+        let old = c.args.store.now in
+        let mid = c.operand_on.new.store in
+        let p : State → Plan = λ s. Do (job_of fs w old.cells (job.Eval c.args.e at)) s Ret in
+        let had = c.args.run.now in
+        let has = c.operand_on.new.run in
+        let how = c.in_ok-how.how in
+        let out = c.operand_on.new.out in
+        let part = c.in_ok-how.ensures.comes in
+        let kept = c.in_ok-how.ensures.kept in
+        value_ready fs w old mid 0 p had has how (ended_as how out) part c.in-Is.is kept c.requires.ready
+        ),
+    (
+      (
+          let fs = trees_of c.args.here.now.site.now.codes.now.items in
+          let w = c.args.here.now.site.now.widget in
+          let at = c.args.here.now.at in
+          let old = c.args.store.now in
+          let mid = c.operand_on.new.store in
+          let p : State → Plan = λ s. Do (job_of fs w old.cells (job.Eval c.args.e at)) s Ret in
+          let had = c.args.run.now in
+          let has = c.operand_on.new.run in
+          let how = c.in_ok-how.how in
+          let out = c.operand_on.new.out in
+          let part = c.in_ok-how.ensures.comes in
+          let kept = c.in_ok-how.ensures.kept in
+          ((place_fine fs w old.cells mid.cells kept.grows at c.requires.held.0.0, c.requires.held.0.1), value_fine fs w old mid 0 p had has how out part c.in-Is.is)
+          ),
+      c.requires.tree,
+    ),
+  ),
+)
+
+pub choosing::switch_on-returns-in-Is-clause-comes : goal.choosing::switch_on-returns-in-Is-clause-comes
+choosing::switch_on-returns-in-Is-clause-comes t c =
+    let fs = trees_of c.args.here.now.site.now.codes.now.items in
+    let w = c.args.here.now.site.now.widget in
+    let at = c.args.here.now.at in
+    let old = c.args.store.now in
+    let mid = c.operand_on.new.store in
+    let p : State → Plan = λ s. Do (job_of fs w old.cells (job.Eval c.args.e at)) s Ret in
+    let had = c.args.run.now in
+    let has = c.operand_on.new.run in
+    let how = c.in_ok-how.how in
+    let out = c.operand_on.new.out in
+    let part = c.in_ok-how.ensures.comes in
+    let kept = c.in_ok-how.ensures.kept in
+    let one = as_is fs w old mid 0 p had has how ended.Is out c.in-Is.is part in
+    IfOk-weaker c.valued_on.result _ _
+    (λ h x. part_then fs w old mid c.valued_on.new.store 0 4 30 p (frame.Statement (statement.Switch c.args.id at)) had has c.valued_on.new.run ended.Is h (ended_as ended.Is out) (ended_as h c.valued_on.new.out) one tt kept.grows c.requires.held.0 x (omega arith))
+    c.valued_on.ensures.comes
+
+pub choosing::switch_on-returns-in-Is-clause-kept : goal.choosing::switch_on-returns-in-Is-clause-kept
+choosing::switch_on-returns-in-Is-clause-kept t c =
+    let fs = trees_of c.args.here.now.site.now.codes.now.items in
+    let w = c.args.here.now.site.now.widget in
+    let at = c.args.here.now.at in
+    let old = c.args.store.now in
+    let mid = c.operand_on.new.store in
+    let p : State → Plan = λ s. Do (job_of fs w old.cells (job.Eval c.args.e at)) s Ret in
+    let had = c.args.run.now in
+    let has = c.operand_on.new.run in
+    let how = c.in_ok-how.how in
+    let out = c.operand_on.new.out in
+    let part = c.in_ok-how.ensures.comes in
+    let kept = c.in_ok-how.ensures.kept in
+    kept_then fs w old mid c.valued_on.new.store kept c.valued_on.ensures.kept
+
+pub choosing::switch_on-returns-in_default-clause-comes : goal.choosing::switch_on-returns-in_default-clause-comes
+choosing::switch_on-returns-in_default-clause-comes t c =
+    let fs = trees_of c.args.here.now.site.now.codes.now.items in
+    let w = c.args.here.now.site.now.widget in
+    let at = c.args.here.now.at in
+    let old = c.args.store.now in
+    let mid = c.operand_on.new.store in
+    let p : State → Plan = λ s. Do (job_of fs w old.cells (job.Eval c.args.e at)) s Ret in
+    let had = c.args.run.now in
+    let has = c.operand_on.new.run in
+    let how = c.in_ok-how.how in
+    let out = c.operand_on.new.out in
+    let part = c.in_ok-how.ensures.comes in
+    let kept = c.in_ok-how.ensures.kept in
+    hand_ok fs w c.hand_switch.result old mid 0 30 p (frame.Statement (statement.Switch c.args.id at)) had has c.hand_switch.new.run how out part
+    (passes_value fs w mid.cells (frame.Statement (statement.Switch c.args.id at)) how out (λ v t. taken fs w mid.cells (frame.Statement (statement.Switch c.args.id at)) (meaning.Is v) t) c.in_default.not-Is (λ o t. refl)) kept c.requires.held.0 (omega arith) c.hand_switch.ensures
+
+pub choosing::valued_on-clauses_on-requires : goal.choosing::valued_on-clauses_on-requires
+choosing::valued_on-clauses_on-requires t c = (
+  search rules,
+  (
+    c.requires.ready,
+    (
+      (
+          let fs = trees_of c.args.here.now.site.now.codes.now.items in
+          let w = c.args.here.now.site.now.widget in
+          let at = c.args.here.now.at in
+          let old = c.args.store.now in
+          (c.requires.held.0, subst (λ v. IsFine w old.cells v) (sym c.take_value-value.ensures.taken) c.requires.held.1)
+          ),
+      c.requires.tree,
+    ),
+  ),
+)
+
+pub choosing::valued_on-returns-in-Left-clause-comes : goal.choosing::valued_on-returns-in-Left-clause-comes
+choosing::valued_on-returns-in-Left-clause-comes t c =
+    let fs = trees_of c.args.here.now.site.now.codes.now.items in
+    let w = c.args.here.now.site.now.widget in
+    let at = c.args.here.now.at in
+    let old = c.args.store.now in
+    let all = clauses_of (stmt_at (forest_at fs at.code) c.args.id) in
+    let f = frame.Statement statement.SwitchEnd in
+    let mid = c.clauses_on.new.store in
+    let value = c.take_value-value.result in
+    let p : State → Plan = λ s. choose_case (seen w old.cells value) all all (place_of w old.cells at) s in
+    let t : State → Plan = taken fs w old.cells (frame.Statement (statement.Switch c.args.id at)) (meaning.Is (seen w old.cells c.args.out.now)) in
+    let had = c.args.run.now in
+    let has = c.clauses_on.new.run in
+    let how = c.in_ok-how.how in
+    let out = c.clauses_on.new.out in
+    let part = c.in_ok-how.ensures.comes in
+    let kept = c.in_ok-how.ensures.kept in
+    let plan : (s : State) → t s ≡ and_then (p s) (taken fs w old.cells f) = λ s. ap (λ v. and_then (choose_case (seen w old.cells v) all all (place_of w old.cells at) s) switch_end) (sym c.take_value-value.ensures.taken) in
+    let one = as_is fs w old mid 2 p had has how ended.Left out c.in-Left.is part in
+    IfOk-weaker c.wait.result _ _ (λ h x. planned fs w old mid 4 t _ had c.wait.new.run h (ended_as h out) plan x)
+    (waits_ok fs w c.wait.result old mid 2 4 p f had has c.wait.new.run ended.Left (ended_as ended.Left out) out one refl kept.grows tt
+    c.wait.ensures.left c.wait.ensures.waits c.wait.ensures.next c.wait.ensures.units (omega arith))
+
+pub choosing::valued_on-switch_end-requires : goal.choosing::valued_on-switch_end-requires
+choosing::valued_on-switch_end-requires t c = is_end c.in_ok-how.how c.in_default.not-Left
+
+pub choosing::valued_on-returns-in_default-clause-comes : goal.choosing::valued_on-returns-in_default-clause-comes
+choosing::valued_on-returns-in_default-clause-comes t c =
+    let fs = trees_of c.args.here.now.site.now.codes.now.items in
+    let w = c.args.here.now.site.now.widget in
+    let at = c.args.here.now.at in
+    let old = c.args.store.now in
+    let all = clauses_of (stmt_at (forest_at fs at.code) c.args.id) in
+    let f = frame.Statement statement.SwitchEnd in
+    let mid = c.clauses_on.new.store in
+    let value = c.take_value-value.result in
+    let p : State → Plan = λ s. choose_case (seen w old.cells value) all all (place_of w old.cells at) s in
+    let t : State → Plan = taken fs w old.cells (frame.Statement (statement.Switch c.args.id at)) (meaning.Is (seen w old.cells c.args.out.now)) in
+    let had = c.args.run.now in
+    let has = c.clauses_on.new.run in
+    let how = c.in_ok-how.how in
+    let out = c.clauses_on.new.out in
+    let part = c.in_ok-how.ensures.comes in
+    let kept = c.in_ok-how.ensures.kept in
+    let plan : (s : State) → t s ≡ and_then (p s) (taken fs w old.cells f) = λ s. ap (λ v. and_then (choose_case (seen w old.cells v) all all (place_of w old.cells at) s) switch_end) (sym c.take_value-value.ensures.taken) in
+    let end = is_end how c.in_default.not-Left in
+    part_gives fs w old mid 2 4 t p f had has has how c.switch_end.result (ended_as how out) (ended_as c.switch_end.result out) plan part end kept.grows tt c.switch_end.ensures.end refl
+    (λ r. sym (c.switch_end.ensures.plan w mid.cells out (image fs r w mid))) (c.switch_end.ensures.fine w mid.cells out (end_fine fs w old mid 2 p had has how (ended_as how out) part end)) (omega arith)
+
+pub choosing::clauses_on-returns-in_err-how-clause-kept : goal.choosing::clauses_on-returns-in_err-how-clause-kept
+choosing::clauses_on-returns-in_err-how-clause-kept t c =
+    let fs = trees_of c.args.here.now.site.now.codes.now.items in
+    let w = c.args.here.now.site.now.widget in
+    let at = c.args.here.now.at in
+    let s0 = c.args.store.now in
+    let id = c.args.from.0 in
+    let all = clauses_of (stmt_at (forest_at fs at.code) id) in
+    let s1 = c.tests.store in
+    let v = c.tests.value in
+    let start : State → Plan = choose_case (seen w s0.cells c.args.value.now) all (drop c.args.from.1 all) (place_of w s0.cells at) in
+    let q : State → Plan = choose_case (seen w s1.cells v) all (drop c.tests.n all) (place_of w s1.cells at) in
+    let inv = c.tests.invariant in
+    kept_then fs w s0 s1 c.eval_on.new.store inv.1 c.in_err-how.ensures.kept
+
+pub choosing::clauses_on-returns-in_default-2 : goal.choosing::clauses_on-returns-in_default-2
+choosing::clauses_on-returns-in_default-2 t c =
+    let fs = trees_of c.args.here.now.site.now.codes.now.items in
+    let w = c.args.here.now.site.now.widget in
+    let at = c.args.here.now.at in
+    let s0 = c.args.store.now in
+    let id = c.args.from.0 in
+    let all = clauses_of (stmt_at (forest_at fs at.code) id) in
+    let s1 = c.tests.store in
+    let v = c.tests.value in
+    let start : State → Plan = choose_case (seen w s0.cells c.args.value.now) all (drop c.args.from.1 all) (place_of w s0.cells at) in
+    let q : State → Plan = choose_case (seen w s1.cells v) all (drop c.tests.n all) (place_of w s1.cells at) in
+    let inv = c.tests.invariant in
+    let s2 = c.eval_on.new.store in
+    let next = c.in-Some.next in
+    let p : State → Plan = λ s. Do (job_of fs w s1.cells (job.Eval next.test at)) s Ret in
+    let f = frame.Statement (statement.Case v id next.at at) in
+    let how = c.in_ok-how.how in
+    let out = c.eval_on.new.out in
+    let part = c.in_ok-how.ensures.comes in
+    let kept = c.in_ok-how.ensures.kept in
+    let held : FineFrame fs w s1.cells f = (inv.3, inv.2) in
+    let goes_as : (s : State) → q s ≡ and_then (p s) (taken fs w s1.cells f) =
+    subst (λ (g : Forest). (u : meaning.Value) (x : plan.Place) (s : State) → choose_case u (clauses_of (stmt_at g id)) (drop c.tests.n (clauses_of (stmt_at g id))) x s
+    ≡ Do (Eval (expr_at g next.test) x) s (clause_tested u (clauses_of (stmt_at g id)) (drop next.at (clauses_of (stmt_at g id))) x)) c.requires.tree c.in-Some.ensures.2 (seen w s1.cells v) (place_of w s1.cells at) in
+    record {
+      comes = IfOk-weaker c.hand_case.result _ _
+          (λ h x. towards_then fs w s0 s1 s2 2 2 start q c.args.run.now c.tests.run c.hand_case.new.run h (ended_as h out) inv.0 (planned fs w s1 s2 2 q _ c.tests.run c.hand_case.new.run h (ended_as h out) goes_as x) (omega arith))
+          (hand_ok fs w c.hand_case.result s1 s2 0 2 p f c.tests.run c.eval_on.new.run c.hand_case.new.run how out part
+          (passes_value fs w s2.cells f how out (λ u t. taken fs w s2.cells f (meaning.Is u) t) c.in_default-2.not-Is (λ o t. clause_passes (seen w s2.cells v) all (drop next.at all) (place_of w s2.cells at) o t)) kept held (omega arith) c.hand_case.ensures);
+      kept = kept_then fs w s0 s1 s2 inv.1 kept;
+    }
+
+pub choosing::clauses_on-any_on-requires : goal.choosing::clauses_on-any_on-requires
+choosing::clauses_on-any_on-requires t c = (
+  search rules,
+  (
+    (
+        let fs = trees_of c.args.here.now.site.now.codes.now.items in
+        let w = c.args.here.now.site.now.widget in
+        let at = c.args.here.now.at in
+        let s0 = c.args.store.now in
+        let id = c.args.from.0 in
+        let all = clauses_of (stmt_at (forest_at fs at.code) id) in
+        let s1 = c.tests.store in
+        let v = c.tests.value in
+        let start : State → Plan = choose_case (seen w s0.cells c.args.value.now) all (drop c.args.from.1 all) (place_of w s0.cells at) in
+        let q : State → Plan = choose_case (seen w s1.cells v) all (drop c.tests.n all) (place_of w s1.cells at) in
+        let inv = c.tests.invariant in
+        let s2 = c.eval_on.new.store in
+        let next = c.in-Some.next in
+        let p : State → Plan = λ s. Do (job_of fs w s1.cells (job.Eval next.test at)) s Ret in
+        let f = frame.Statement (statement.Case v id next.at at) in
+        let how = c.in_ok-how.how in
+        let out = c.eval_on.new.out in
+        let part = c.in_ok-how.ensures.comes in
+        let kept = c.in_ok-how.ensures.kept in
+        let held : FineFrame fs w s1.cells f = (inv.3, inv.2) in
+        let goes_as : (s : State) → q s ≡ and_then (p s) (taken fs w s1.cells f) =
+        subst (λ (g : Forest). (u : meaning.Value) (x : plan.Place) (s : State) → choose_case u (clauses_of (stmt_at g id)) (drop c.tests.n (clauses_of (stmt_at g id))) x s
+        ≡ Do (Eval (expr_at g next.test) x) s (clause_tested u (clauses_of (stmt_at g id)) (drop next.at (clauses_of (stmt_at g id))) x)) c.requires.tree c.in-Some.ensures.2 (seen w s1.cells v) (place_of w s1.cells at) in
+        let one = as_is fs w s1 s2 0 p c.tests.run c.eval_on.new.run how ended.Is out c.in-Is.is part in
+        let fine_out = end_fine fs w s1 s2 0 p c.tests.run c.eval_on.new.run ended.Is (ended_as ended.Is out) one tt in
+        let ready = end_ready fs w s1 s2 0 p c.tests.run c.eval_on.new.run ended.Is (ended_as ended.Is out) one tt inv.0.ready kept in
+        let fine_v = fine_stays w s1.cells s2.cells kept.grows v inv.3 in
+        let placed = (place_fine fs w s1.cells s2.cells kept.grows at inv.2.0, inv.2.1) in
+        let same : c.is_chosen.result ≡ operators.is_same (seen w s2.cells v) (seen w s2.cells out) = c.is_chosen.ensures.same w s2.cells fine_v fine_out in
+        let after_test : (s : State) → clause_tested (seen w s2.cells v) all (drop next.at all) (place_of w s2.cells at) (meaning.Is (seen w s2.cells out)) s
+        ≡ (if c.is_chosen.result then statements (bodies (drop next.at all)) (place_of w s2.cells at) s else choose_case (seen w s2.cells v) all (drop (next.at + 1) all) (place_of w s2.cells at) s) =
+        λ s. subst (λ (g : Forest). (u x : meaning.Value) (y : plan.Place) (s : State) → clause_tested u (clauses_of (stmt_at g id)) (drop next.at (clauses_of (stmt_at g id))) y (meaning.Is x) s
+        ≡ (if operators.is_same u x then statements (bodies (drop next.at (clauses_of (stmt_at g id)))) y s else choose_case u (clauses_of (stmt_at g id)) (drop (next.at + 1) (clauses_of (stmt_at g id))) y s))
+        c.requires.tree c.in-Some.ensures.3 (seen w s2.cells v) (seen w s2.cells out) (place_of w s2.cells at) s
+        ∙ ap (λ (b : Bool). if b then statements (bodies (drop next.at all)) (place_of w s2.cells at) s else choose_case (seen w s2.cells v) all (drop (next.at + 1) all) (place_of w s2.cells at) s) (sym same) in
+        ready
+        ),
+    (
+      (
+          let fs = trees_of c.args.here.now.site.now.codes.now.items in
+          let w = c.args.here.now.site.now.widget in
+          let at = c.args.here.now.at in
+          let s0 = c.args.store.now in
+          let id = c.args.from.0 in
+          let all = clauses_of (stmt_at (forest_at fs at.code) id) in
+          let s1 = c.tests.store in
+          let v = c.tests.value in
+          let start : State → Plan = choose_case (seen w s0.cells c.args.value.now) all (drop c.args.from.1 all) (place_of w s0.cells at) in
+          let q : State → Plan = choose_case (seen w s1.cells v) all (drop c.tests.n all) (place_of w s1.cells at) in
+          let inv = c.tests.invariant in
+          let s2 = c.eval_on.new.store in
+          let next = c.in-Some.next in
+          let p : State → Plan = λ s. Do (job_of fs w s1.cells (job.Eval next.test at)) s Ret in
+          let f = frame.Statement (statement.Case v id next.at at) in
+          let how = c.in_ok-how.how in
+          let out = c.eval_on.new.out in
+          let part = c.in_ok-how.ensures.comes in
+          let kept = c.in_ok-how.ensures.kept in
+          let held : FineFrame fs w s1.cells f = (inv.3, inv.2) in
+          let goes_as : (s : State) → q s ≡ and_then (p s) (taken fs w s1.cells f) =
+          subst (λ (g : Forest). (u : meaning.Value) (x : plan.Place) (s : State) → choose_case u (clauses_of (stmt_at g id)) (drop c.tests.n (clauses_of (stmt_at g id))) x s
+          ≡ Do (Eval (expr_at g next.test) x) s (clause_tested u (clauses_of (stmt_at g id)) (drop next.at (clauses_of (stmt_at g id))) x)) c.requires.tree c.in-Some.ensures.2 (seen w s1.cells v) (place_of w s1.cells at) in
+          let one = as_is fs w s1 s2 0 p c.tests.run c.eval_on.new.run how ended.Is out c.in-Is.is part in
+          let fine_out = end_fine fs w s1 s2 0 p c.tests.run c.eval_on.new.run ended.Is (ended_as ended.Is out) one tt in
+          let ready = end_ready fs w s1 s2 0 p c.tests.run c.eval_on.new.run ended.Is (ended_as ended.Is out) one tt inv.0.ready kept in
+          let fine_v = fine_stays w s1.cells s2.cells kept.grows v inv.3 in
+          let placed = (place_fine fs w s1.cells s2.cells kept.grows at inv.2.0, inv.2.1) in
+          let same : c.is_chosen.result ≡ operators.is_same (seen w s2.cells v) (seen w s2.cells out) = c.is_chosen.ensures.same w s2.cells fine_v fine_out in
+          let after_test : (s : State) → clause_tested (seen w s2.cells v) all (drop next.at all) (place_of w s2.cells at) (meaning.Is (seen w s2.cells out)) s
+          ≡ (if c.is_chosen.result then statements (bodies (drop next.at all)) (place_of w s2.cells at) s else choose_case (seen w s2.cells v) all (drop (next.at + 1) all) (place_of w s2.cells at) s) =
+          λ s. subst (λ (g : Forest). (u x : meaning.Value) (y : plan.Place) (s : State) → clause_tested u (clauses_of (stmt_at g id)) (drop next.at (clauses_of (stmt_at g id))) y (meaning.Is x) s
+          ≡ (if operators.is_same u x then statements (bodies (drop next.at (clauses_of (stmt_at g id)))) y s else choose_case u (clauses_of (stmt_at g id)) (drop (next.at + 1) (clauses_of (stmt_at g id))) y s))
+          c.requires.tree c.in-Some.ensures.3 (seen w s2.cells v) (seen w s2.cells out) (place_of w s2.cells at) s
+          ∙ ap (λ (b : Bool). if b then statements (bodies (drop next.at all)) (place_of w s2.cells at) s else choose_case (seen w s2.cells v) all (drop (next.at + 1) all) (place_of w s2.cells at) s) (sym same) in
+          placed
+          ),
+      c.requires.tree,
+    ),
+  ),
+)
+
+pub choosing::clauses_on-returns-then-is_chosen : goal.choosing::clauses_on-returns-then-is_chosen
+choosing::clauses_on-returns-then-is_chosen t c =
+    let fs = trees_of c.args.here.now.site.now.codes.now.items in
+    let w = c.args.here.now.site.now.widget in
+    let at = c.args.here.now.at in
+    let s0 = c.args.store.now in
+    let id = c.args.from.0 in
+    let all = clauses_of (stmt_at (forest_at fs at.code) id) in
+    let s1 = c.tests.store in
+    let v = c.tests.value in
+    let start : State → Plan = choose_case (seen w s0.cells c.args.value.now) all (drop c.args.from.1 all) (place_of w s0.cells at) in
+    let q : State → Plan = choose_case (seen w s1.cells v) all (drop c.tests.n all) (place_of w s1.cells at) in
+    let inv = c.tests.invariant in
+    let s2 = c.eval_on.new.store in
+    let next = c.in-Some.next in
+    let p : State → Plan = λ s. Do (job_of fs w s1.cells (job.Eval next.test at)) s Ret in
+    let f = frame.Statement (statement.Case v id next.at at) in
+    let how = c.in_ok-how.how in
+    let out = c.eval_on.new.out in
+    let part = c.in_ok-how.ensures.comes in
+    let kept = c.in_ok-how.ensures.kept in
+    let held : FineFrame fs w s1.cells f = (inv.3, inv.2) in
+    let goes_as : (s : State) → q s ≡ and_then (p s) (taken fs w s1.cells f) =
+    subst (λ (g : Forest). (u : meaning.Value) (x : plan.Place) (s : State) → choose_case u (clauses_of (stmt_at g id)) (drop c.tests.n (clauses_of (stmt_at g id))) x s
+    ≡ Do (Eval (expr_at g next.test) x) s (clause_tested u (clauses_of (stmt_at g id)) (drop next.at (clauses_of (stmt_at g id))) x)) c.requires.tree c.in-Some.ensures.2 (seen w s1.cells v) (place_of w s1.cells at) in
+    let one = as_is fs w s1 s2 0 p c.tests.run c.eval_on.new.run how ended.Is out c.in-Is.is part in
+    let fine_out = end_fine fs w s1 s2 0 p c.tests.run c.eval_on.new.run ended.Is (ended_as ended.Is out) one tt in
+    let ready = end_ready fs w s1 s2 0 p c.tests.run c.eval_on.new.run ended.Is (ended_as ended.Is out) one tt inv.0.ready kept in
+    let fine_v = fine_stays w s1.cells s2.cells kept.grows v inv.3 in
+    let placed = (place_fine fs w s1.cells s2.cells kept.grows at inv.2.0, inv.2.1) in
+    let same : c.is_chosen.result ≡ operators.is_same (seen w s2.cells v) (seen w s2.cells out) = c.is_chosen.ensures.same w s2.cells fine_v fine_out in
+    let after_test : (s : State) → clause_tested (seen w s2.cells v) all (drop next.at all) (place_of w s2.cells at) (meaning.Is (seen w s2.cells out)) s
+    ≡ (if c.is_chosen.result then statements (bodies (drop next.at all)) (place_of w s2.cells at) s else choose_case (seen w s2.cells v) all (drop (next.at + 1) all) (place_of w s2.cells at) s) =
+    λ s. subst (λ (g : Forest). (u x : meaning.Value) (y : plan.Place) (s : State) → clause_tested u (clauses_of (stmt_at g id)) (drop next.at (clauses_of (stmt_at g id))) y (meaning.Is x) s
+    ≡ (if operators.is_same u x then statements (bodies (drop next.at (clauses_of (stmt_at g id)))) y s else choose_case u (clauses_of (stmt_at g id)) (drop (next.at + 1) (clauses_of (stmt_at g id))) y s))
+    c.requires.tree c.in-Some.ensures.3 (seen w s2.cells v) (seen w s2.cells out) (place_of w s2.cells at) s
+    ∙ ap (λ (b : Bool). if b then statements (bodies (drop next.at all)) (place_of w s2.cells at) s else choose_case (seen w s2.cells v) all (drop (next.at + 1) all) (place_of w s2.cells at) s) (sym same) in
+    let s3 = c.any_on.new.store in
+    let goes : State → Plan = block_at fs w s2.cells (block.Clauses id next.at) 0 at in
+    record {
+      comes = IfOk-weaker c.any_on.result _ _
+          (λ h x. towards_then fs w s0 s2 s3 1 2 start goes c.args.run.now c.eval_on.new.run c.any_on.new.run h (ended_as h c.any_on.new.out)
+          (towards_each fs w s0 s1 s2 start q goes c.args.run.now c.tests.run c.eval_on.new.run inv.0
+          (part_next fs w s1 s2 0 q p goes f c.tests.run c.eval_on.new.run ended.Is (ended_as ended.Is out) goes_as one tt kept.grows held ready
+          (λ r. after_test (image fs r w s2) ∙ ap (λ (b : Bool). if b then statements (bodies (drop next.at all)) (place_of w s2.cells at) (image fs r w s2) else choose_case (seen w s2.cells v) all (drop (next.at + 1) all) (place_of w s2.cells at) (image fs r w s2)) c.if-is_chosen.true)))
+          x (omega arith))
+          c.any_on.ensures.comes;
+      kept = kept_then fs w s0 s2 s3 (kept_then fs w s0 s1 s2 inv.1 kept) c.any_on.ensures.kept;
+    }
+
+pub choosing::clauses_on-tests-preserved : goal.choosing::clauses_on-tests-preserved
+choosing::clauses_on-tests-preserved t c =
+    let fs = trees_of c.args.here.now.site.now.codes.now.items in
+    let w = c.args.here.now.site.now.widget in
+    let at = c.args.here.now.at in
+    let s0 = c.args.store.now in
+    let id = c.args.from.0 in
+    let all = clauses_of (stmt_at (forest_at fs at.code) id) in
+    let s1 = c.tests.store in
+    let v = c.tests.value in
+    let start : State → Plan = choose_case (seen w s0.cells c.args.value.now) all (drop c.args.from.1 all) (place_of w s0.cells at) in
+    let q : State → Plan = choose_case (seen w s1.cells v) all (drop c.tests.n all) (place_of w s1.cells at) in
+    let inv = c.tests.invariant in
+    let s2 = c.eval_on.new.store in
+    let next = c.in-Some.next in
+    let p : State → Plan = λ s. Do (job_of fs w s1.cells (job.Eval next.test at)) s Ret in
+    let f = frame.Statement (statement.Case v id next.at at) in
+    let how = c.in_ok-how.how in
+    let out = c.eval_on.new.out in
+    let part = c.in_ok-how.ensures.comes in
+    let kept = c.in_ok-how.ensures.kept in
+    let held : FineFrame fs w s1.cells f = (inv.3, inv.2) in
+    let goes_as : (s : State) → q s ≡ and_then (p s) (taken fs w s1.cells f) =
+    subst (λ (g : Forest). (u : meaning.Value) (x : plan.Place) (s : State) → choose_case u (clauses_of (stmt_at g id)) (drop c.tests.n (clauses_of (stmt_at g id))) x s
+    ≡ Do (Eval (expr_at g next.test) x) s (clause_tested u (clauses_of (stmt_at g id)) (drop next.at (clauses_of (stmt_at g id))) x)) c.requires.tree c.in-Some.ensures.2 (seen w s1.cells v) (place_of w s1.cells at) in
+    let one = as_is fs w s1 s2 0 p c.tests.run c.eval_on.new.run how ended.Is out c.in-Is.is part in
+    let fine_out = end_fine fs w s1 s2 0 p c.tests.run c.eval_on.new.run ended.Is (ended_as ended.Is out) one tt in
+    let ready = end_ready fs w s1 s2 0 p c.tests.run c.eval_on.new.run ended.Is (ended_as ended.Is out) one tt inv.0.ready kept in
+    let fine_v = fine_stays w s1.cells s2.cells kept.grows v inv.3 in
+    let placed = (place_fine fs w s1.cells s2.cells kept.grows at inv.2.0, inv.2.1) in
+    let same : c.is_chosen.result ≡ operators.is_same (seen w s2.cells v) (seen w s2.cells out) = c.is_chosen.ensures.same w s2.cells fine_v fine_out in
+    let after_test : (s : State) → clause_tested (seen w s2.cells v) all (drop next.at all) (place_of w s2.cells at) (meaning.Is (seen w s2.cells out)) s
+    ≡ (if c.is_chosen.result then statements (bodies (drop next.at all)) (place_of w s2.cells at) s else choose_case (seen w s2.cells v) all (drop (next.at + 1) all) (place_of w s2.cells at) s) =
+    λ s. subst (λ (g : Forest). (u x : meaning.Value) (y : plan.Place) (s : State) → clause_tested u (clauses_of (stmt_at g id)) (drop next.at (clauses_of (stmt_at g id))) y (meaning.Is x) s
+    ≡ (if operators.is_same u x then statements (bodies (drop next.at (clauses_of (stmt_at g id)))) y s else choose_case u (clauses_of (stmt_at g id)) (drop (next.at + 1) (clauses_of (stmt_at g id))) y s))
+    c.requires.tree c.in-Some.ensures.3 (seen w s2.cells v) (seen w s2.cells out) (place_of w s2.cells at) s
+    ∙ ap (λ (b : Bool). if b then statements (bodies (drop next.at all)) (place_of w s2.cells at) s else choose_case (seen w s2.cells v) all (drop (next.at + 1) all) (place_of w s2.cells at) s) (sym same) in
+    let goes : State → Plan = choose_case (seen w s2.cells v) all (drop (next.at + 1) all) (place_of w s2.cells at) in (
+      towards_each fs w s0 s1 s2 start q goes c.args.run.now c.tests.run c.eval_on.new.run inv.0
+          (part_next fs w s1 s2 0 q p goes f c.tests.run c.eval_on.new.run ended.Is (ended_as ended.Is out) goes_as one tt kept.grows held ready
+          (λ r. after_test (image fs r w s2) ∙ ap (λ (b : Bool). if b then statements (bodies (drop next.at all)) (place_of w s2.cells at) (image fs r w s2) else choose_case (seen w s2.cells v) all (drop (next.at + 1) all) (place_of w s2.cells at) (image fs r w s2)) c.if-is_chosen.false)),
+      kept_then fs w s0 s1 s2 inv.1 kept,
+      placed,
+      fine_v,
+    )
+
+pub choosing::clauses_on-tests-smaller : goal.choosing::clauses_on-tests-smaller
+choosing::clauses_on-tests-smaller t c =
+    let fs = trees_of c.args.here.now.site.now.codes.now.items in
+    let w = c.args.here.now.site.now.widget in
+    let at = c.args.here.now.at in
+    let s0 = c.args.store.now in
+    let id = c.args.from.0 in
+    let all = clauses_of (stmt_at (forest_at fs at.code) id) in
+    let s1 = c.tests.store in
+    let v = c.tests.value in
+    let start : State → Plan = choose_case (seen w s0.cells c.args.value.now) all (drop c.args.from.1 all) (place_of w s0.cells at) in
+    let q : State → Plan = choose_case (seen w s1.cells v) all (drop c.tests.n all) (place_of w s1.cells at) in
+    let inv = c.tests.invariant in
+    let s2 = c.eval_on.new.store in
+    let next = c.in-Some.next in
+    let p : State → Plan = λ s. Do (job_of fs w s1.cells (job.Eval next.test at)) s Ret in
+    let f = frame.Statement (statement.Case v id next.at at) in
+    let how = c.in_ok-how.how in
+    let out = c.eval_on.new.out in
+    let part = c.in_ok-how.ensures.comes in
+    let kept = c.in_ok-how.ensures.kept in
+    let held : FineFrame fs w s1.cells f = (inv.3, inv.2) in
+    let goes_as : (s : State) → q s ≡ and_then (p s) (taken fs w s1.cells f) =
+    subst (λ (g : Forest). (u : meaning.Value) (x : plan.Place) (s : State) → choose_case u (clauses_of (stmt_at g id)) (drop c.tests.n (clauses_of (stmt_at g id))) x s
+    ≡ Do (Eval (expr_at g next.test) x) s (clause_tested u (clauses_of (stmt_at g id)) (drop next.at (clauses_of (stmt_at g id))) x)) c.requires.tree c.in-Some.ensures.2 (seen w s1.cells v) (place_of w s1.cells at) in
+    let one = as_is fs w s1 s2 0 p c.tests.run c.eval_on.new.run how ended.Is out c.in-Is.is part in
+    let fine_out = end_fine fs w s1 s2 0 p c.tests.run c.eval_on.new.run ended.Is (ended_as ended.Is out) one tt in
+    let ready = end_ready fs w s1 s2 0 p c.tests.run c.eval_on.new.run ended.Is (ended_as ended.Is out) one tt inv.0.ready kept in
+    let fine_v = fine_stays w s1.cells s2.cells kept.grows v inv.3 in
+    let placed = (place_fine fs w s1.cells s2.cells kept.grows at inv.2.0, inv.2.1) in
+    let same : c.is_chosen.result ≡ operators.is_same (seen w s2.cells v) (seen w s2.cells out) = c.is_chosen.ensures.same w s2.cells fine_v fine_out in
+    let after_test : (s : State) → clause_tested (seen w s2.cells v) all (drop next.at all) (place_of w s2.cells at) (meaning.Is (seen w s2.cells out)) s
+    ≡ (if c.is_chosen.result then statements (bodies (drop next.at all)) (place_of w s2.cells at) s else choose_case (seen w s2.cells v) all (drop (next.at + 1) all) (place_of w s2.cells at) s) =
+    λ s. subst (λ (g : Forest). (u x : meaning.Value) (y : plan.Place) (s : State) → clause_tested u (clauses_of (stmt_at g id)) (drop next.at (clauses_of (stmt_at g id))) y (meaning.Is x) s
+    ≡ (if operators.is_same u x then statements (bodies (drop next.at (clauses_of (stmt_at g id)))) y s else choose_case u (clauses_of (stmt_at g id)) (drop (next.at + 1) (clauses_of (stmt_at g id))) y s))
+    c.requires.tree c.in-Some.ensures.3 (seen w s2.cells v) (seen w s2.cells out) (place_of w s2.cells at) s
+    ∙ ap (λ (b : Bool). if b then statements (bodies (drop next.at all)) (place_of w s2.cells at) s else choose_case (seen w s2.cells v) all (drop (next.at + 1) all) (place_of w s2.cells at) s) (sym same) in
+    omega (arith, one.near)
+
+pub choosing::clauses_on-any_on-requires-2 : goal.choosing::clauses_on-any_on-requires-2
+choosing::clauses_on-any_on-requires-2 t c = (
+  search rules,
+  (
+    (
+        let fs = trees_of c.args.here.now.site.now.codes.now.items in
+        let w = c.args.here.now.site.now.widget in
+        let at = c.args.here.now.at in
+        let s0 = c.args.store.now in
+        let id = c.args.from.0 in
+        let all = clauses_of (stmt_at (forest_at fs at.code) id) in
+        let s1 = c.tests.store in
+        let v = c.tests.value in
+        let start : State → Plan = choose_case (seen w s0.cells c.args.value.now) all (drop c.args.from.1 all) (place_of w s0.cells at) in
+        let q : State → Plan = choose_case (seen w s1.cells v) all (drop c.tests.n all) (place_of w s1.cells at) in
+        let inv = c.tests.invariant in
+        inv.0.ready
+        ),
+    (
+      (
+          let fs = trees_of c.args.here.now.site.now.codes.now.items in
+          let w = c.args.here.now.site.now.widget in
+          let at = c.args.here.now.at in
+          let s0 = c.args.store.now in
+          let id = c.args.from.0 in
+          let all = clauses_of (stmt_at (forest_at fs at.code) id) in
+          let s1 = c.tests.store in
+          let v = c.tests.value in
+          let start : State → Plan = choose_case (seen w s0.cells c.args.value.now) all (drop c.args.from.1 all) (place_of w s0.cells at) in
+          let q : State → Plan = choose_case (seen w s1.cells v) all (drop c.tests.n all) (place_of w s1.cells at) in
+          let inv = c.tests.invariant in
+          inv.2
+          ),
+      c.requires.tree,
+    ),
+  ),
+)
+
+pub choosing::clauses_on-returns-clause-comes : goal.choosing::clauses_on-returns-clause-comes
+choosing::clauses_on-returns-clause-comes t c =
+    let fs = trees_of c.args.here.now.site.now.codes.now.items in
+    let w = c.args.here.now.site.now.widget in
+    let at = c.args.here.now.at in
+    let s0 = c.args.store.now in
+    let id = c.args.from.0 in
+    let all = clauses_of (stmt_at (forest_at fs at.code) id) in
+    let s1 = c.tests.store in
+    let v = c.tests.value in
+    let start : State → Plan = choose_case (seen w s0.cells c.args.value.now) all (drop c.args.from.1 all) (place_of w s0.cells at) in
+    let q : State → Plan = choose_case (seen w s1.cells v) all (drop c.tests.n all) (place_of w s1.cells at) in
+    let inv = c.tests.invariant in
+    let goes : State → Plan = block_at fs w s1.cells (block.Clauses id c.default_at-last.result) 0 at in
+    let last = subst (λ (g : Forest). from_default (clauses_of (stmt_at g id)) (clauses_of (stmt_at g id)) ≡ bodies (drop c.default_at-last.result (clauses_of (stmt_at g id)))) c.requires.tree c.default_at-last.ensures in
+    let goes_as : (s : State) → q s ≡ goes s = λ s.
+    subst (λ (g : Forest). (u : meaning.Value) (x : plan.Place) (s : State) → choose_case u (clauses_of (stmt_at g id)) (drop c.tests.n (clauses_of (stmt_at g id))) x s ≡ statements (from_default (clauses_of (stmt_at g id)) (clauses_of (stmt_at g id))) x s)
+    c.requires.tree (rw c.in_default.is at c.next_test.ensures) (seen w s1.cells v) (place_of w s1.cells at) s
+    ∙ ap (λ l. statements l (place_of w s1.cells at) s) last in
+    IfOk-weaker c.any_on-2.result _ _
+    (λ h x. towards_then fs w s0 s1 c.any_on-2.new.store 1 2 start q c.args.run.now c.tests.run c.any_on-2.new.run h (ended_as h c.any_on-2.new.out) inv.0
+    (planned fs w s1 c.any_on-2.new.store 1 q goes c.tests.run c.any_on-2.new.run h (ended_as h c.any_on-2.new.out) goes_as x) (omega arith))
+    c.any_on-2.ensures.comes
+
+pub choosing::clauses_on-returns-clause-kept : goal.choosing::clauses_on-returns-clause-kept
+choosing::clauses_on-returns-clause-kept t c =
+    let fs = trees_of c.args.here.now.site.now.codes.now.items in
+    let w = c.args.here.now.site.now.widget in
+    let at = c.args.here.now.at in
+    let s0 = c.args.store.now in
+    let id = c.args.from.0 in
+    let all = clauses_of (stmt_at (forest_at fs at.code) id) in
+    let s1 = c.tests.store in
+    let v = c.tests.value in
+    let start : State → Plan = choose_case (seen w s0.cells c.args.value.now) all (drop c.args.from.1 all) (place_of w s0.cells at) in
+    let q : State → Plan = choose_case (seen w s1.cells v) all (drop c.tests.n all) (place_of w s1.cells at) in
+    let inv = c.tests.invariant in
+    kept_then fs w s0 s1 c.any_on-2.new.store inv.1 c.any_on-2.ensures.kept
+
 pub entering::value_on-callee-requires : goal.entering::value_on-callee-requires
 entering::value_on-callee-requires t c = fine_within c.args.site.now.widget c.args.store.now.cells c.args.func.now c.requires.held.0
 
@@ -1452,6 +2471,19 @@ forms::operand_on-returns-in-Name-clause-comes t c =
     (λ x. and_then_ret (body j x) ∙ at_eval fs code f c.args.id c.expr.result.now c.requires.tree c.expr.ensures.same pl x ∙ ap (λ (e : Expr). expression (plain_form (forest_at fs code) e) pl x) c.in-Name.is) (h has c.requires.ready.2) (omega arith))
     c.name_on.ensures.comes
 
+pub forms::unary_form-returns-then-takes_target-clause-comes : goal.forms::unary_form-returns-then-takes_target-clause-comes
+forms::unary_form-returns-then-takes_target-clause-comes t c =
+    let fs = trees_of c.args.here.now.site.now.codes.now.items in
+    let w = c.args.here.now.site.now.widget in
+    let old = c.args.store.now in
+    let place = c.args.here.now.at in
+    let todo : State → Plan = λ s. Do (job_of fs w old.cells (job.Target c.args.parts.1 place)) s (form_taken fs w old.cells form.Delete) in
+    IfOk-weaker c.delete_on.result _ _
+    (λ h x. instead fs w old c.delete_on.new.store 30 30 todo (body (job_of fs w old.cells (job.Eval c.args.id place))) c.args.run.now c.delete_on.new.run h _ x
+    (λ r. (λ i. c.requires.same i (image fs r w old))
+    ∙ c.takes_target.ensures.yes c.if-takes_target.true (expr_at (forest_at fs place.code) c.args.parts.1) (place_of w old.cells place) (image fs r w old)) (omega arith))
+    c.delete_on.ensures.comes
+
 pub forms::unary_form-returns-clause-comes : goal.forms::unary_form-returns-clause-comes
 forms::unary_form-returns-clause-comes t c =
     let fs = trees_of c.args.here.now.site.now.codes.now.items in
@@ -1462,7 +2494,7 @@ forms::unary_form-returns-clause-comes t c =
     IfOk-weaker c.unary_on.result _ _
     (λ h x. instead fs w old c.unary_on.new.store 30 30 todo (body (job_of fs w old.cells (job.Eval c.args.id place))) c.args.run.now c.unary_on.new.run h _ x
     (λ r. (λ i. c.requires.same i (image fs r w old))
-    ∙ c.takes_target.ensures c.if-takes_target.false (expr_at (forest_at fs place.code) c.args.parts.1) (place_of w old.cells place) (image fs r w old)) (omega arith))
+    ∙ c.takes_target.ensures.no c.if-takes_target.false (expr_at (forest_at fs place.code) c.args.parts.1) (place_of w old.cells place) (image fs r w old)) (omega arith))
     c.unary_on.ensures.comes
 
 pub looping::again_on-returns-in-None-clause-comes : goal.looping::again_on-returns-in-None-clause-comes
@@ -1893,6 +2925,806 @@ looping::expressions_on-returns-in_default-2 t c =
           (planned fs w s1 s2 1 q _ c.list.run c.eval_on.new.run how (ended_as how out) plan (other_value fs w s1 s2 0 1 p f (λ v t. goes t) c.list.run c.eval_on.new.run how out c.in_ok-how.ensures.comes c.in_default-2.not-Is c.in_default-2.not-Left kept.grows held (part_taken fs w s2.cells c.args.part c.args.id (c.list.n + 1) c.args.here.now.at) (omega arith))) (omega arith);
       kept = kept_then fs w s0 s1 s2 inv.1 kept;
     }
+
+pub names::for_in_on-over_on-requires : goal.names::for_in_on-over_on-requires
+names::for_in_on-over_on-requires t c = (
+  search rules,
+  (
+    (
+        let fs = trees_of c.args.here.now.site.now.codes.now.items in
+        let w = c.args.here.now.site.now.widget in
+        let at = c.args.here.now.at in
+        let old = c.args.store.now in
+        let mid = c.operand_on.new.store in
+        let p : State → Plan = λ s. Do (job_of fs w old.cells (job.Eval c.args.e at)) s Ret in
+        let had = c.args.run.now in
+        let has = c.operand_on.new.run in
+        let how = c.in_ok-how.how in
+        let out = c.operand_on.new.out in
+        let part = c.in_ok-how.ensures.comes in
+        let kept = c.in_ok-how.ensures.kept in
+        value_ready fs w old mid 0 p had has how (ended_as how out) part c.in-Is.is kept c.requires.ready
+        ),
+    (
+      (
+          let fs = trees_of c.args.here.now.site.now.codes.now.items in
+          let w = c.args.here.now.site.now.widget in
+          let at = c.args.here.now.at in
+          let old = c.args.store.now in
+          let mid = c.operand_on.new.store in
+          let p : State → Plan = λ s. Do (job_of fs w old.cells (job.Eval c.args.e at)) s Ret in
+          let had = c.args.run.now in
+          let has = c.operand_on.new.run in
+          let how = c.in_ok-how.how in
+          let out = c.operand_on.new.out in
+          let part = c.in_ok-how.ensures.comes in
+          let kept = c.in_ok-how.ensures.kept in
+          ((place_fine fs w old.cells mid.cells kept.grows at c.requires.held.0.0, c.requires.held.0.1), value_fine fs w old mid 0 p had has how out part c.in-Is.is)
+          ),
+      c.requires.tree,
+    ),
+  ),
+)
+
+pub names::for_in_on-returns-in-Is-clause-comes : goal.names::for_in_on-returns-in-Is-clause-comes
+names::for_in_on-returns-in-Is-clause-comes t c =
+    let fs = trees_of c.args.here.now.site.now.codes.now.items in
+    let w = c.args.here.now.site.now.widget in
+    let at = c.args.here.now.at in
+    let old = c.args.store.now in
+    let mid = c.operand_on.new.store in
+    let p : State → Plan = λ s. Do (job_of fs w old.cells (job.Eval c.args.e at)) s Ret in
+    let had = c.args.run.now in
+    let has = c.operand_on.new.run in
+    let how = c.in_ok-how.how in
+    let out = c.operand_on.new.out in
+    let part = c.in_ok-how.ensures.comes in
+    let kept = c.in_ok-how.ensures.kept in
+    let one = as_is fs w old mid 0 p had has how ended.Is out c.in-Is.is part in
+    IfOk-weaker c.over_on.result _ _
+    (λ h x. part_then fs w old mid c.over_on.new.store 0 4 30 p (frame.Statement (statement.ForInOver c.args.id at)) had has c.over_on.new.run ended.Is h (ended_as ended.Is out) (ended_as h c.over_on.new.out) one tt kept.grows c.requires.held.0 x (omega arith))
+    c.over_on.ensures.comes
+
+pub names::for_in_on-returns-in-Is-clause-kept : goal.names::for_in_on-returns-in-Is-clause-kept
+names::for_in_on-returns-in-Is-clause-kept t c =
+    let fs = trees_of c.args.here.now.site.now.codes.now.items in
+    let w = c.args.here.now.site.now.widget in
+    let at = c.args.here.now.at in
+    let old = c.args.store.now in
+    let mid = c.operand_on.new.store in
+    let p : State → Plan = λ s. Do (job_of fs w old.cells (job.Eval c.args.e at)) s Ret in
+    let had = c.args.run.now in
+    let has = c.operand_on.new.run in
+    let how = c.in_ok-how.how in
+    let out = c.operand_on.new.out in
+    let part = c.in_ok-how.ensures.comes in
+    let kept = c.in_ok-how.ensures.kept in
+    kept_then fs w old mid c.over_on.new.store kept c.over_on.ensures.kept
+
+pub names::for_in_on-returns-in_default-clause-comes : goal.names::for_in_on-returns-in_default-clause-comes
+names::for_in_on-returns-in_default-clause-comes t c =
+    let fs = trees_of c.args.here.now.site.now.codes.now.items in
+    let w = c.args.here.now.site.now.widget in
+    let at = c.args.here.now.at in
+    let old = c.args.store.now in
+    let mid = c.operand_on.new.store in
+    let p : State → Plan = λ s. Do (job_of fs w old.cells (job.Eval c.args.e at)) s Ret in
+    let had = c.args.run.now in
+    let has = c.operand_on.new.run in
+    let how = c.in_ok-how.how in
+    let out = c.operand_on.new.out in
+    let part = c.in_ok-how.ensures.comes in
+    let kept = c.in_ok-how.ensures.kept in
+    hand_ok fs w c.hand_object.result old mid 0 30 p (frame.Statement (statement.ForInOver c.args.id at)) had has c.hand_object.new.run how out part
+    (passes_value fs w mid.cells (frame.Statement (statement.ForInOver c.args.id at)) how out (λ v t. taken fs w mid.cells (frame.Statement (statement.ForInOver c.args.id at)) (meaning.Is v) t) c.in_default.not-Is (λ o t. refl)) kept c.requires.held.0 (omega arith) c.hand_object.ensures
+
+pub names::over_on-returns-then-is_nothing-clause-comes : goal.names::over_on-returns-then-is_nothing-clause-comes
+names::over_on-returns-then-is_nothing-clause-comes t c =
+    let fs = trees_of c.args.here.now.site.now.codes.now.items in
+    let w = c.args.here.now.site.now.widget in
+    let at = c.args.here.now.at in
+    let old = c.args.store.now in
+    let i = stmt_at (forest_at fs at.code) c.args.id in
+    let place = place_of w old.cells at in
+    let x = variable_of i in
+    let b = stmt_list (loop_body i) in
+    let v = c.args.out.now in
+    let yes : meaning.is_nothing (seen w old.cells v) ≡ true = sym (c.is_nothing.ensures w old.cells) ∙ c.if-is_nothing.true in
+    IfOk-weaker c.throw.result _ _
+    (λ h k. weigh fs w old c.throw.new.store 1 4 _ c.args.run.now c.throw.new.run h (ended_as h c.throw.new.out)
+    (planned fs w old c.throw.new.store 1 (for_in_over x b place (meaning.Is (seen w old.cells v))) (throw E1) c.args.run.now c.throw.new.run h (ended_as h c.throw.new.out)
+    (λ s. ap (λ (t : Bool). if t then throw E1 s else charge (length (names_of s (seen w old.cells v))) s (for_in (seen w old.cells v) x (names_of s (seen w old.cells v)) b place s)) yes) k) (omega arith))
+    c.throw.ensures.comes
+
+pub names::over_on-listed_on-requires : goal.names::over_on-listed_on-requires
+names::over_on-listed_on-requires t c = (
+  search rules,
+  (
+    c.requires.ready,
+    (
+      (
+          let fs = trees_of c.args.here.now.site.now.codes.now.items in
+          let w = c.args.here.now.site.now.widget in
+          let at = c.args.here.now.at in
+          let old = c.args.store.now in
+          let i = stmt_at (forest_at fs at.code) c.args.id in
+          let place = place_of w old.cells at in
+          let x = variable_of i in
+          let b = stmt_list (loop_body i) in
+          (c.requires.held.0, subst (λ (u : Value2). IsFine w old.cells u) (sym c.take_value-object.ensures.taken) c.requires.held.1)
+          ),
+      (
+        (
+            let fs = trees_of c.args.here.now.site.now.codes.now.items in
+            let w = c.args.here.now.site.now.widget in
+            let at = c.args.here.now.at in
+            let old = c.args.store.now in
+            let i = stmt_at (forest_at fs at.code) c.args.id in
+            let place = place_of w old.cells at in
+            let x = variable_of i in
+            let b = stmt_list (loop_body i) in
+            ap (λ (u : Value2). meaning.is_nothing (seen w old.cells u)) c.take_value-object.ensures.taken ∙ (sym (c.is_nothing.ensures w old.cells) ∙ c.if-is_nothing.false)
+            ),
+        c.requires.tree,
+      ),
+    ),
+  ),
+)
+
+pub names::over_on-returns-clause-comes : goal.names::over_on-returns-clause-comes
+names::over_on-returns-clause-comes t c =
+    let fs = trees_of c.args.here.now.site.now.codes.now.items in
+    let w = c.args.here.now.site.now.widget in
+    let at = c.args.here.now.at in
+    let old = c.args.store.now in
+    let i = stmt_at (forest_at fs at.code) c.args.id in
+    let place = place_of w old.cells at in
+    let x = variable_of i in
+    let b = stmt_list (loop_body i) in
+    IfOk-weaker c.listed_on.result _ _
+    (λ h k. planned fs w old c.listed_on.new.store 4 (for_in_over x b place (meaning.Is (seen w old.cells c.args.out.now))) _ c.args.run.now c.listed_on.new.run h (ended_as h c.listed_on.new.out)
+    (λ s. ap (λ (u : Value2). for_in_over x b place (meaning.Is (seen w old.cells u)) s) (sym c.take_value-object.ensures.taken)) k)
+    c.listed_on.ensures.comes
+
+pub names::listed_on-names_on-requires : goal.names::listed_on-names_on-requires
+names::listed_on-names_on-requires t c = (
+  search rules,
+  (
+    (
+        let fs = trees_of c.args.here.now.site.now.codes.now.items in
+        let w = c.args.here.now.site.now.widget in
+        let at = c.args.here.now.at in
+        let old = c.args.store.now in
+        let i = stmt_at (forest_at fs at.code) c.args.id in
+        let place = place_of w old.cells at in
+        let x = variable_of i in
+        let b = stmt_list (loop_body i) in
+        let v = seen w old.cells c.args.object in
+        let box = c.in_ok-listed.listed in
+        let is = c.in_ok-listed.ensures.ok in
+        let count = c.len-count.result in
+        let f = frame.Statement (statement.ForInNext box at) in
+        let t : State → Plan = for_in_over x b place (meaning.Is v) in
+        let q : State → Plan = taken fs w old.cells f meaning.Normal in
+        let held : FineNames fs w old.cells box.value at = subst (λ (u : ForInNames). FineNames fs w old.cells u at) (sym is) (c.requires.held.1, c.requires.held.0) in
+        let first : (r : Rest) → t (image fs r w old) ≡ charge count (image fs r w old) (q (image fs r w old)) = λ r.
+        let s = image fs r w old in
+        let n = c.in_ok-names.ensures fs r w c.requires.ready.1 c.requires.held.1 in
+        let k : count ≡ length (names_of s v) = omega (arith, c.len-count.ensures, ap length n) in
+        sym (ap (λ (u : ForInNames). charge count s (for_in (seen w old.cells u.object) (variable_of (stmt_at (forest_at fs at.code) u.id)) (drop u.at u.names.items) (stmt_list (loop_body (stmt_at (forest_at fs at.code) u.id))) place s)) is
+        ∙ ((λ j. charge (k j) s (for_in v x (n j) b place s))
+        ∙ sym (ap (λ (y : Bool). if y then throw E1 s else charge (length (names_of s v)) s (for_in v x (names_of s v) b place s)) c.requires.some))) in
+        let mid = c.is_paid.new.run in
+        let yes = c.is_paid.ensures.yes c.if-is_paid.true in
+        let ready = (c.requires.ready.0, c.requires.ready.1, ap (λ l. l.items) yes.2 ∙ c.requires.ready.2) in
+        ready
+        ),
+    (
+      (
+          let fs = trees_of c.args.here.now.site.now.codes.now.items in
+          let w = c.args.here.now.site.now.widget in
+          let at = c.args.here.now.at in
+          let old = c.args.store.now in
+          let i = stmt_at (forest_at fs at.code) c.args.id in
+          let place = place_of w old.cells at in
+          let x = variable_of i in
+          let b = stmt_list (loop_body i) in
+          let v = seen w old.cells c.args.object in
+          let box = c.in_ok-listed.listed in
+          let is = c.in_ok-listed.ensures.ok in
+          let count = c.len-count.result in
+          let f = frame.Statement (statement.ForInNext box at) in
+          let t : State → Plan = for_in_over x b place (meaning.Is v) in
+          let q : State → Plan = taken fs w old.cells f meaning.Normal in
+          let held : FineNames fs w old.cells box.value at = subst (λ (u : ForInNames). FineNames fs w old.cells u at) (sym is) (c.requires.held.1, c.requires.held.0) in
+          let first : (r : Rest) → t (image fs r w old) ≡ charge count (image fs r w old) (q (image fs r w old)) = λ r.
+          let s = image fs r w old in
+          let n = c.in_ok-names.ensures fs r w c.requires.ready.1 c.requires.held.1 in
+          let k : count ≡ length (names_of s v) = omega (arith, c.len-count.ensures, ap length n) in
+          sym (ap (λ (u : ForInNames). charge count s (for_in (seen w old.cells u.object) (variable_of (stmt_at (forest_at fs at.code) u.id)) (drop u.at u.names.items) (stmt_list (loop_body (stmt_at (forest_at fs at.code) u.id))) place s)) is
+          ∙ ((λ j. charge (k j) s (for_in v x (n j) b place s))
+          ∙ sym (ap (λ (y : Bool). if y then throw E1 s else charge (length (names_of s v)) s (for_in v x (names_of s v) b place s)) c.requires.some))) in
+          held
+          ),
+      c.requires.tree,
+    ),
+  ),
+)
+
+pub names::listed_on-returns-then-is_paid-clause-comes : goal.names::listed_on-returns-then-is_paid-clause-comes
+names::listed_on-returns-then-is_paid-clause-comes t c =
+    let fs = trees_of c.args.here.now.site.now.codes.now.items in
+    let w = c.args.here.now.site.now.widget in
+    let at = c.args.here.now.at in
+    let old = c.args.store.now in
+    let i = stmt_at (forest_at fs at.code) c.args.id in
+    let place = place_of w old.cells at in
+    let x = variable_of i in
+    let b = stmt_list (loop_body i) in
+    let v = seen w old.cells c.args.object in
+    let box = c.in_ok-listed.listed in
+    let is = c.in_ok-listed.ensures.ok in
+    let count = c.len-count.result in
+    let f = frame.Statement (statement.ForInNext box at) in
+    let t : State → Plan = for_in_over x b place (meaning.Is v) in
+    let q : State → Plan = taken fs w old.cells f meaning.Normal in
+    let held : FineNames fs w old.cells box.value at = subst (λ (u : ForInNames). FineNames fs w old.cells u at) (sym is) (c.requires.held.1, c.requires.held.0) in
+    let first : (r : Rest) → t (image fs r w old) ≡ charge count (image fs r w old) (q (image fs r w old)) = λ r.
+    let s = image fs r w old in
+    let n = c.in_ok-names.ensures fs r w c.requires.ready.1 c.requires.held.1 in
+    let k : count ≡ length (names_of s v) = omega (arith, c.len-count.ensures, ap length n) in
+    sym (ap (λ (u : ForInNames). charge count s (for_in (seen w old.cells u.object) (variable_of (stmt_at (forest_at fs at.code) u.id)) (drop u.at u.names.items) (stmt_list (loop_body (stmt_at (forest_at fs at.code) u.id))) place s)) is
+    ∙ ((λ j. charge (k j) s (for_in v x (n j) b place s))
+    ∙ sym (ap (λ (y : Bool). if y then throw E1 s else charge (length (names_of s v)) s (for_in v x (names_of s v) b place s)) c.requires.some))) in
+    let mid = c.is_paid.new.run in
+    let yes = c.is_paid.ensures.yes c.if-is_paid.true in
+    let ready = (c.requires.ready.0, c.requires.ready.1, ap (λ l. l.items) yes.2 ∙ c.requires.ready.2) in
+    IfOk-weaker c.names_on.result _ _
+    (λ h k. towards_then fs w old old c.names_on.new.store 1 4 t q c.args.run.now mid c.names_on.new.run h (ended_as h c.names_on.new.out) (charge_paid fs w old t q c.args.run.now mid count first yes.0 yes.1 ready) k (omega arith))
+    c.names_on.ensures.comes
+
+pub names::listed_on-returns-clause-comes : goal.names::listed_on-returns-clause-comes
+names::listed_on-returns-clause-comes t c =
+    let fs = trees_of c.args.here.now.site.now.codes.now.items in
+    let w = c.args.here.now.site.now.widget in
+    let at = c.args.here.now.at in
+    let old = c.args.store.now in
+    let i = stmt_at (forest_at fs at.code) c.args.id in
+    let place = place_of w old.cells at in
+    let x = variable_of i in
+    let b = stmt_list (loop_body i) in
+    let v = seen w old.cells c.args.object in
+    let box = c.in_ok-listed.listed in
+    let is = c.in_ok-listed.ensures.ok in
+    let count = c.len-count.result in
+    let f = frame.Statement (statement.ForInNext box at) in
+    let t : State → Plan = for_in_over x b place (meaning.Is v) in
+    let q : State → Plan = taken fs w old.cells f meaning.Normal in
+    let held : FineNames fs w old.cells box.value at = subst (λ (u : ForInNames). FineNames fs w old.cells u at) (sym is) (c.requires.held.1, c.requires.held.0) in
+    let first : (r : Rest) → t (image fs r w old) ≡ charge count (image fs r w old) (q (image fs r w old)) = λ r.
+    let s = image fs r w old in
+    let n = c.in_ok-names.ensures fs r w c.requires.ready.1 c.requires.held.1 in
+    let k : count ≡ length (names_of s v) = omega (arith, c.len-count.ensures, ap length n) in
+    sym (ap (λ (u : ForInNames). charge count s (for_in (seen w old.cells u.object) (variable_of (stmt_at (forest_at fs at.code) u.id)) (drop u.at u.names.items) (stmt_list (loop_body (stmt_at (forest_at fs at.code) u.id))) place s)) is
+    ∙ ((λ j. charge (k j) s (for_in v x (n j) b place s))
+    ∙ sym (ap (λ (y : Bool). if y then throw E1 s else charge (length (names_of s v)) s (for_in v x (names_of s v) b place s)) c.requires.some))) in
+    let mid = c.is_paid.new.run in
+    let no = c.is_paid.ensures.no c.if-is_paid.false in
+    charge_waits fs w c.wait.result old 4 count t f c.args.run.now mid c.wait.new.run c.args.out.now first (ap (λ l. l.items) no.1 ∙ c.requires.ready.2) no.0 no.2 held (omega arith)
+    c.wait.ensures.left c.wait.ensures.waits c.wait.ensures.next c.wait.ensures.units
+
+pub names::names_on-leave_job-requires-clause-waits : goal.names::names_on-leave_job-requires-clause-waits
+names::names_on-leave_job-requires-clause-waits t c =
+    let fs = trees_of c.args.here.now.site.now.codes.now.items in
+    let w = c.args.here.now.site.now.widget in
+    let at = c.args.here.now.at in
+    let s0 = c.args.store.now in
+    let s1 = c.passes.store in
+    let l = c.passes.names in
+    let place = place_of w s1.cells at in
+    let i = stmt_at (forest_at fs at.code) l.value.id in
+    let x = variable_of i in
+    let b = stmt_list (loop_body i) in
+    let had = c.args.run.now in
+    let run = c.passes.run in
+    let start : State → Plan = taken fs w s0.cells (frame.Statement (statement.ForInNext c.args.names at)) meaning.Normal in
+    let q : State → Plan = taken fs w s1.cells (frame.Statement (statement.ForInNext l at)) meaning.Normal in
+    let inv = c.passes.invariant in
+    let fine = subst (λ (u : ForInNames). IsFine w s1.cells u.object) (sym c.deref.ensures) inv.2.0 in
+    inv.0.ready.2
+
+pub names::names_on-returns-then-run-eq0-clause-comes : goal.names::names_on-returns-then-run-eq0-clause-comes
+names::names_on-returns-then-run-eq0-clause-comes t c =
+    let fs = trees_of c.args.here.now.site.now.codes.now.items in
+    let w = c.args.here.now.site.now.widget in
+    let at = c.args.here.now.at in
+    let s0 = c.args.store.now in
+    let s1 = c.passes.store in
+    let l = c.passes.names in
+    let place = place_of w s1.cells at in
+    let i = stmt_at (forest_at fs at.code) l.value.id in
+    let x = variable_of i in
+    let b = stmt_list (loop_body i) in
+    let had = c.args.run.now in
+    let run = c.passes.run in
+    let start : State → Plan = taken fs w s0.cells (frame.Statement (statement.ForInNext c.args.names at)) meaning.Normal in
+    let q : State → Plan = taken fs w s1.cells (frame.Statement (statement.ForInNext l at)) meaning.Normal in
+    let inv = c.passes.invariant in
+    let fine = subst (λ (u : ForInNames). IsFine w s1.cells u.object) (sym c.deref.ensures) inv.2.0 in
+    let n = c.in-Some.at in
+    let box = c.at_name.result in
+    let less : n < length l.value.names.items = subst (λ (u : ForInNames). n < length u.names.items) c.deref.ensures (c.in-Some.ensures fs no_rest w [] [] place inv.0.ready.1 fine).0 in
+    let j = job_of fs w s1.cells (job.PassIn box at) in
+    let goes : (r : Rest) → q (image fs r w s1) ≡ Do j (image fs r w s1) Ret = λ r.
+    subst (λ (u : ForInNames). for_in (seen w s1.cells u.object) x (drop u.at u.names.items) b place (image fs r w s1) ≡ Do (Pass (ForInLoop (seen w s1.cells u.object) x (name_at u.names.items n) (drop (suc n) u.names.items) b) place) (image fs r w s1) Ret)
+    c.deref.ensures (c.in-Some.ensures fs r w x b place inv.0.ready.1 fine).1
+    ∙ ap (λ (u : ForInNames). Do (Pass (for_in_loop fs w s1.cells u at.code) place) (image fs r w s1) Ret) (sym c.at_name.ensures) in
+    let held : FineNames fs w s1.cells box.value at × (box.value.at < length box.value.names.items) =
+    subst (λ (u : ForInNames). FineNames fs w s1.cells u at × (u.at < length u.names.items)) (sym c.at_name.ensures) (inv.2, less) in
+    let asked : State → Plan = λ s. Do j s Ret in
+    let to_job : Towards fs w s0 s1 start asked had run = towards_each fs w s0 s1 s1 start q asked had run run inv.0 (stays fs w s1 s1 q asked run run inv.0.ready refl goes) in
+    IfOk-weaker c.leave_job.result _ _
+    (λ h k. towards_then fs w s0 s1 s1 0 1 start asked had run c.leave_job.new.run h (ended_as h c.passes.out) to_job (k fs w s1 c.passes.out held) (omega arith))
+    c.leave_job.ensures.comes
+
+pub names::names_on-returns-then-run-eq0-clause-kept : goal.names::names_on-returns-then-run-eq0-clause-kept
+names::names_on-returns-then-run-eq0-clause-kept t c =
+    let fs = trees_of c.args.here.now.site.now.codes.now.items in
+    let w = c.args.here.now.site.now.widget in
+    let at = c.args.here.now.at in
+    let s0 = c.args.store.now in
+    let s1 = c.passes.store in
+    let l = c.passes.names in
+    let place = place_of w s1.cells at in
+    let i = stmt_at (forest_at fs at.code) l.value.id in
+    let x = variable_of i in
+    let b = stmt_list (loop_body i) in
+    let had = c.args.run.now in
+    let run = c.passes.run in
+    let start : State → Plan = taken fs w s0.cells (frame.Statement (statement.ForInNext c.args.names at)) meaning.Normal in
+    let q : State → Plan = taken fs w s1.cells (frame.Statement (statement.ForInNext l at)) meaning.Normal in
+    let inv = c.passes.invariant in
+    let fine = subst (λ (u : ForInNames). IsFine w s1.cells u.object) (sym c.deref.ensures) inv.2.0 in
+    inv.1
+
+pub names::names_on-pass_in_on-requires : goal.names::names_on-pass_in_on-requires
+names::names_on-pass_in_on-requires t c = (
+  search rules,
+  (
+    (
+        let fs = trees_of c.args.here.now.site.now.codes.now.items in
+        let w = c.args.here.now.site.now.widget in
+        let at = c.args.here.now.at in
+        let s0 = c.args.store.now in
+        let s1 = c.passes.store in
+        let l = c.passes.names in
+        let place = place_of w s1.cells at in
+        let i = stmt_at (forest_at fs at.code) l.value.id in
+        let x = variable_of i in
+        let b = stmt_list (loop_body i) in
+        let had = c.args.run.now in
+        let run = c.passes.run in
+        let start : State → Plan = taken fs w s0.cells (frame.Statement (statement.ForInNext c.args.names at)) meaning.Normal in
+        let q : State → Plan = taken fs w s1.cells (frame.Statement (statement.ForInNext l at)) meaning.Normal in
+        let inv = c.passes.invariant in
+        let fine = subst (λ (u : ForInNames). IsFine w s1.cells u.object) (sym c.deref.ensures) inv.2.0 in
+        inv.0.ready
+        ),
+    (
+      (
+          let fs = trees_of c.args.here.now.site.now.codes.now.items in
+          let w = c.args.here.now.site.now.widget in
+          let at = c.args.here.now.at in
+          let s0 = c.args.store.now in
+          let s1 = c.passes.store in
+          let l = c.passes.names in
+          let place = place_of w s1.cells at in
+          let i = stmt_at (forest_at fs at.code) l.value.id in
+          let x = variable_of i in
+          let b = stmt_list (loop_body i) in
+          let had = c.args.run.now in
+          let run = c.passes.run in
+          let start : State → Plan = taken fs w s0.cells (frame.Statement (statement.ForInNext c.args.names at)) meaning.Normal in
+          let q : State → Plan = taken fs w s1.cells (frame.Statement (statement.ForInNext l at)) meaning.Normal in
+          let inv = c.passes.invariant in
+          let fine = subst (λ (u : ForInNames). IsFine w s1.cells u.object) (sym c.deref.ensures) inv.2.0 in
+          let n = c.in-Some.at in
+          let box = c.at_name.result in
+          let less : n < length l.value.names.items = subst (λ (u : ForInNames). n < length u.names.items) c.deref.ensures (c.in-Some.ensures fs no_rest w [] [] place inv.0.ready.1 fine).0 in
+          let j = job_of fs w s1.cells (job.PassIn box at) in
+          let goes : (r : Rest) → q (image fs r w s1) ≡ Do j (image fs r w s1) Ret = λ r.
+          subst (λ (u : ForInNames). for_in (seen w s1.cells u.object) x (drop u.at u.names.items) b place (image fs r w s1) ≡ Do (Pass (ForInLoop (seen w s1.cells u.object) x (name_at u.names.items n) (drop (suc n) u.names.items) b) place) (image fs r w s1) Ret)
+          c.deref.ensures (c.in-Some.ensures fs r w x b place inv.0.ready.1 fine).1
+          ∙ ap (λ (u : ForInNames). Do (Pass (for_in_loop fs w s1.cells u at.code) place) (image fs r w s1) Ret) (sym c.at_name.ensures) in
+          let held : FineNames fs w s1.cells box.value at × (box.value.at < length box.value.names.items) =
+          subst (λ (u : ForInNames). FineNames fs w s1.cells u at × (u.at < length u.names.items)) (sym c.at_name.ensures) (inv.2, less) in
+          let asked : State → Plan = λ s. Do j s Ret in
+          let to_job : Towards fs w s0 s1 start asked had run = towards_each fs w s0 s1 s1 start q asked had run run inv.0 (stays fs w s1 s1 q asked run run inv.0.ready refl goes) in
+          subst (λ (u : ForInNames). FineNames fs w s1.cells u at × (u.at < length u.names.items)) (sym c.deref-2.ensures) held
+          ),
+      c.requires.tree,
+    ),
+  ),
+)
+
+pub names::names_on-returns-in_err-how-clause-kept : goal.names::names_on-returns-in_err-how-clause-kept
+names::names_on-returns-in_err-how-clause-kept t c =
+    let fs = trees_of c.args.here.now.site.now.codes.now.items in
+    let w = c.args.here.now.site.now.widget in
+    let at = c.args.here.now.at in
+    let s0 = c.args.store.now in
+    let s1 = c.passes.store in
+    let l = c.passes.names in
+    let place = place_of w s1.cells at in
+    let i = stmt_at (forest_at fs at.code) l.value.id in
+    let x = variable_of i in
+    let b = stmt_list (loop_body i) in
+    let had = c.args.run.now in
+    let run = c.passes.run in
+    let start : State → Plan = taken fs w s0.cells (frame.Statement (statement.ForInNext c.args.names at)) meaning.Normal in
+    let q : State → Plan = taken fs w s1.cells (frame.Statement (statement.ForInNext l at)) meaning.Normal in
+    let inv = c.passes.invariant in
+    let fine = subst (λ (u : ForInNames). IsFine w s1.cells u.object) (sym c.deref.ensures) inv.2.0 in
+    kept_then fs w s0 s1 c.pass_in_on.new.store inv.1 c.in_err-how.ensures.kept
+
+pub names::names_on-behind-requires : goal.names::names_on-behind-requires
+names::names_on-behind-requires t c =
+    let fs = trees_of c.args.here.now.site.now.codes.now.items in
+    let w = c.args.here.now.site.now.widget in
+    let at = c.args.here.now.at in
+    let s0 = c.args.store.now in
+    let s1 = c.passes.store in
+    let l = c.passes.names in
+    let place = place_of w s1.cells at in
+    let i = stmt_at (forest_at fs at.code) l.value.id in
+    let x = variable_of i in
+    let b = stmt_list (loop_body i) in
+    let had = c.args.run.now in
+    let run = c.passes.run in
+    let start : State → Plan = taken fs w s0.cells (frame.Statement (statement.ForInNext c.args.names at)) meaning.Normal in
+    let q : State → Plan = taken fs w s1.cells (frame.Statement (statement.ForInNext l at)) meaning.Normal in
+    let inv = c.passes.invariant in
+    let fine = subst (λ (u : ForInNames). IsFine w s1.cells u.object) (sym c.deref.ensures) inv.2.0 in
+    let n = c.in-Some.at in
+    let box = c.at_name.result in
+    let less : n < length l.value.names.items = subst (λ (u : ForInNames). n < length u.names.items) c.deref.ensures (c.in-Some.ensures fs no_rest w [] [] place inv.0.ready.1 fine).0 in
+    let j = job_of fs w s1.cells (job.PassIn box at) in
+    let goes : (r : Rest) → q (image fs r w s1) ≡ Do j (image fs r w s1) Ret = λ r.
+    subst (λ (u : ForInNames). for_in (seen w s1.cells u.object) x (drop u.at u.names.items) b place (image fs r w s1) ≡ Do (Pass (ForInLoop (seen w s1.cells u.object) x (name_at u.names.items n) (drop (suc n) u.names.items) b) place) (image fs r w s1) Ret)
+    c.deref.ensures (c.in-Some.ensures fs r w x b place inv.0.ready.1 fine).1
+    ∙ ap (λ (u : ForInNames). Do (Pass (for_in_loop fs w s1.cells u at.code) place) (image fs r w s1) Ret) (sym c.at_name.ensures) in
+    let held : FineNames fs w s1.cells box.value at × (box.value.at < length box.value.names.items) =
+    subst (λ (u : ForInNames). FineNames fs w s1.cells u at × (u.at < length u.names.items)) (sym c.at_name.ensures) (inv.2, less) in
+    let asked : State → Plan = λ s. Do j s Ret in
+    let to_job : Towards fs w s0 s1 start asked had run = towards_each fs w s0 s1 s1 start q asked had run run inv.0 (stays fs w s1 s1 q asked run run inv.0.ready refl goes) in
+    held.1
+
+pub names::names_on-passes-preserved : goal.names::names_on-passes-preserved
+names::names_on-passes-preserved t c =
+    let fs = trees_of c.args.here.now.site.now.codes.now.items in
+    let w = c.args.here.now.site.now.widget in
+    let at = c.args.here.now.at in
+    let s0 = c.args.store.now in
+    let s1 = c.passes.store in
+    let l = c.passes.names in
+    let place = place_of w s1.cells at in
+    let i = stmt_at (forest_at fs at.code) l.value.id in
+    let x = variable_of i in
+    let b = stmt_list (loop_body i) in
+    let had = c.args.run.now in
+    let run = c.passes.run in
+    let start : State → Plan = taken fs w s0.cells (frame.Statement (statement.ForInNext c.args.names at)) meaning.Normal in
+    let q : State → Plan = taken fs w s1.cells (frame.Statement (statement.ForInNext l at)) meaning.Normal in
+    let inv = c.passes.invariant in
+    let fine = subst (λ (u : ForInNames). IsFine w s1.cells u.object) (sym c.deref.ensures) inv.2.0 in
+    let n = c.in-Some.at in
+    let box = c.at_name.result in
+    let less : n < length l.value.names.items = subst (λ (u : ForInNames). n < length u.names.items) c.deref.ensures (c.in-Some.ensures fs no_rest w [] [] place inv.0.ready.1 fine).0 in
+    let j = job_of fs w s1.cells (job.PassIn box at) in
+    let goes : (r : Rest) → q (image fs r w s1) ≡ Do j (image fs r w s1) Ret = λ r.
+    subst (λ (u : ForInNames). for_in (seen w s1.cells u.object) x (drop u.at u.names.items) b place (image fs r w s1) ≡ Do (Pass (ForInLoop (seen w s1.cells u.object) x (name_at u.names.items n) (drop (suc n) u.names.items) b) place) (image fs r w s1) Ret)
+    c.deref.ensures (c.in-Some.ensures fs r w x b place inv.0.ready.1 fine).1
+    ∙ ap (λ (u : ForInNames). Do (Pass (for_in_loop fs w s1.cells u at.code) place) (image fs r w s1) Ret) (sym c.at_name.ensures) in
+    let held : FineNames fs w s1.cells box.value at × (box.value.at < length box.value.names.items) =
+    subst (λ (u : ForInNames). FineNames fs w s1.cells u at × (u.at < length u.names.items)) (sym c.at_name.ensures) (inv.2, less) in
+    let asked : State → Plan = λ s. Do j s Ret in
+    let to_job : Towards fs w s0 s1 start asked had run = towards_each fs w s0 s1 s1 start q asked had run run inv.0 (stays fs w s1 s1 q asked run run inv.0.ready refl goes) in
+    let mid : Run = record run { units = run.units - 1 } in
+    let s2 = c.pass_in_on.new.store in
+    let last = c.pass_in_on.new.run in
+    let how = c.in_ok-how.how in
+    let out = c.pass_in_on.new.out in
+    let part = c.in_ok-how.ensures.comes in
+    let kept = c.in_ok-how.ensures.kept in
+    let v = c.deref-2.result.now in
+    let is = sym c.deref-2.ensures in
+    let g = stmt_at (forest_at fs at.code) in
+    let p : State → Plan = λ s. statements (stmt_list (loop_body (g v.id))) place (scopes.assign s place (variable_of (g v.id)) (meaning.Text (name_at v.names.items v.at))) in
+    let rest = c.behind.result in
+    let same = sym c.behind.ensures in
+    let f = frame.Statement (statement.ForInNext rest at) in
+    let body_is : (s : State) → body j s ≡ and_then (p s) (taken fs w s1.cells f) = λ s k.
+    and_then (statements (stmt_list (loop_body (g (is k).id))) place (scopes.assign s place (variable_of (g (is k).id)) (meaning.Text (name_at (is k).names.items (is k).at))))
+    (for_in_next (seen w s1.cells (same k).object) (variable_of (g (same k).id)) (drop (same k).at (same k).names.items) (stmt_list (loop_body (g (same k).id))) place) in
+    let left : FineNames fs w s1.cells rest.value at = subst (λ (u : ForInNames). FineNames fs w s1.cells u at) same held.0 in
+    let to_body : Towards fs w s0 s1 start (body j) had mid = towards_each fs w s0 s1 s1 start asked (body j) had run mid to_job
+    (unit_paid fs w s1 j (body j) run mid inv.0.ready (omega (arith, c.if-run-eq0.false)) (λ s. and_then_ret (body j s))) in (
+      towards_each fs w s0 s1 s2 start (body j) (taken fs w s2.cells f meaning.Normal) had mid last to_body (names_next fs w s1 s2 (body j) p rest at mid last how out body_is part c.in-Normal.is inv.0.ready kept left),
+      kept_then fs w s0 s1 s2 inv.1 kept,
+      (fine_stays w s1.cells s2.cells kept.grows rest.value.object left.0, (place_fine fs w s1.cells s2.cells kept.grows at left.1.0, left.1.1)),
+    )
+
+pub names::names_on-passes-smaller : goal.names::names_on-passes-smaller
+names::names_on-passes-smaller t c =
+    let fs = trees_of c.args.here.now.site.now.codes.now.items in
+    let w = c.args.here.now.site.now.widget in
+    let at = c.args.here.now.at in
+    let s0 = c.args.store.now in
+    let s1 = c.passes.store in
+    let l = c.passes.names in
+    let place = place_of w s1.cells at in
+    let i = stmt_at (forest_at fs at.code) l.value.id in
+    let x = variable_of i in
+    let b = stmt_list (loop_body i) in
+    let had = c.args.run.now in
+    let run = c.passes.run in
+    let start : State → Plan = taken fs w s0.cells (frame.Statement (statement.ForInNext c.args.names at)) meaning.Normal in
+    let q : State → Plan = taken fs w s1.cells (frame.Statement (statement.ForInNext l at)) meaning.Normal in
+    let inv = c.passes.invariant in
+    let fine = subst (λ (u : ForInNames). IsFine w s1.cells u.object) (sym c.deref.ensures) inv.2.0 in
+    omega (arith, c.in_ok-how.ensures.comes.units, c.if-run-eq0.false)
+
+pub names::names_on-returns-in-Break-clause-comes : goal.names::names_on-returns-in-Break-clause-comes
+names::names_on-returns-in-Break-clause-comes t c =
+    let fs = trees_of c.args.here.now.site.now.codes.now.items in
+    let w = c.args.here.now.site.now.widget in
+    let at = c.args.here.now.at in
+    let s0 = c.args.store.now in
+    let s1 = c.passes.store in
+    let l = c.passes.names in
+    let place = place_of w s1.cells at in
+    let i = stmt_at (forest_at fs at.code) l.value.id in
+    let x = variable_of i in
+    let b = stmt_list (loop_body i) in
+    let had = c.args.run.now in
+    let run = c.passes.run in
+    let start : State → Plan = taken fs w s0.cells (frame.Statement (statement.ForInNext c.args.names at)) meaning.Normal in
+    let q : State → Plan = taken fs w s1.cells (frame.Statement (statement.ForInNext l at)) meaning.Normal in
+    let inv = c.passes.invariant in
+    let fine = subst (λ (u : ForInNames). IsFine w s1.cells u.object) (sym c.deref.ensures) inv.2.0 in
+    let n = c.in-Some.at in
+    let box = c.at_name.result in
+    let less : n < length l.value.names.items = subst (λ (u : ForInNames). n < length u.names.items) c.deref.ensures (c.in-Some.ensures fs no_rest w [] [] place inv.0.ready.1 fine).0 in
+    let j = job_of fs w s1.cells (job.PassIn box at) in
+    let goes : (r : Rest) → q (image fs r w s1) ≡ Do j (image fs r w s1) Ret = λ r.
+    subst (λ (u : ForInNames). for_in (seen w s1.cells u.object) x (drop u.at u.names.items) b place (image fs r w s1) ≡ Do (Pass (ForInLoop (seen w s1.cells u.object) x (name_at u.names.items n) (drop (suc n) u.names.items) b) place) (image fs r w s1) Ret)
+    c.deref.ensures (c.in-Some.ensures fs r w x b place inv.0.ready.1 fine).1
+    ∙ ap (λ (u : ForInNames). Do (Pass (for_in_loop fs w s1.cells u at.code) place) (image fs r w s1) Ret) (sym c.at_name.ensures) in
+    let held : FineNames fs w s1.cells box.value at × (box.value.at < length box.value.names.items) =
+    subst (λ (u : ForInNames). FineNames fs w s1.cells u at × (u.at < length u.names.items)) (sym c.at_name.ensures) (inv.2, less) in
+    let asked : State → Plan = λ s. Do j s Ret in
+    let to_job : Towards fs w s0 s1 start asked had run = towards_each fs w s0 s1 s1 start q asked had run run inv.0 (stays fs w s1 s1 q asked run run inv.0.ready refl goes) in
+    let mid : Run = record run { units = run.units - 1 } in
+    let s2 = c.pass_in_on.new.store in
+    let last = c.pass_in_on.new.run in
+    let how = c.in_ok-how.how in
+    let out = c.pass_in_on.new.out in
+    let part = c.in_ok-how.ensures.comes in
+    let kept = c.in_ok-how.ensures.kept in
+    let v = c.deref-2.result.now in
+    let is = sym c.deref-2.ensures in
+    let g = stmt_at (forest_at fs at.code) in
+    let p : State → Plan = λ s. statements (stmt_list (loop_body (g v.id))) place (scopes.assign s place (variable_of (g v.id)) (meaning.Text (name_at v.names.items v.at))) in
+    let rest = c.behind.result in
+    let same = sym c.behind.ensures in
+    let f = frame.Statement (statement.ForInNext rest at) in
+    let body_is : (s : State) → body j s ≡ and_then (p s) (taken fs w s1.cells f) = λ s k.
+    and_then (statements (stmt_list (loop_body (g (is k).id))) place (scopes.assign s place (variable_of (g (is k).id)) (meaning.Text (name_at (is k).names.items (is k).at))))
+    (for_in_next (seen w s1.cells (same k).object) (variable_of (g (same k).id)) (drop (same k).at (same k).names.items) (stmt_list (loop_body (g (same k).id))) place) in
+    let left : FineNames fs w s1.cells rest.value at = subst (λ (u : ForInNames). FineNames fs w s1.cells u at) same held.0 in
+    let to_body : Towards fs w s0 s1 start (body j) had mid = towards_each fs w s0 s1 s1 start asked (body j) had run mid to_job
+    (unit_paid fs w s1 j (body j) run mid inv.0.ready (omega (arith, c.if-run-eq0.false)) (λ s. and_then_ret (body j s))) in
+    let one = as_is fs w s1 s2 1 p mid last how ended.Break out c.in-Break.is part in
+    towards_then fs w s0 s1 s2 1 1 start (body j) had mid last ended.Normal (ended_as ended.Normal out) to_body
+    (part_gives fs w s1 s2 1 1 (body j) p f mid last last ended.Break ended.Normal (ended_as ended.Break out) (ended_as ended.Normal out) body_is one tt kept.grows left tt refl (λ r. refl) tt (omega arith)) (omega arith)
+
+pub names::names_on-returns-in-Break-clause-kept : goal.names::names_on-returns-in-Break-clause-kept
+names::names_on-returns-in-Break-clause-kept t c =
+    let fs = trees_of c.args.here.now.site.now.codes.now.items in
+    let w = c.args.here.now.site.now.widget in
+    let at = c.args.here.now.at in
+    let s0 = c.args.store.now in
+    let s1 = c.passes.store in
+    let l = c.passes.names in
+    let place = place_of w s1.cells at in
+    let i = stmt_at (forest_at fs at.code) l.value.id in
+    let x = variable_of i in
+    let b = stmt_list (loop_body i) in
+    let had = c.args.run.now in
+    let run = c.passes.run in
+    let start : State → Plan = taken fs w s0.cells (frame.Statement (statement.ForInNext c.args.names at)) meaning.Normal in
+    let q : State → Plan = taken fs w s1.cells (frame.Statement (statement.ForInNext l at)) meaning.Normal in
+    let inv = c.passes.invariant in
+    let fine = subst (λ (u : ForInNames). IsFine w s1.cells u.object) (sym c.deref.ensures) inv.2.0 in
+    kept_then fs w s0 s1 c.pass_in_on.new.store inv.1 c.in_ok-how.ensures.kept
+
+pub names::names_on-returns-in_default-2 : goal.names::names_on-returns-in_default-2
+names::names_on-returns-in_default-2 t c =
+    let fs = trees_of c.args.here.now.site.now.codes.now.items in
+    let w = c.args.here.now.site.now.widget in
+    let at = c.args.here.now.at in
+    let s0 = c.args.store.now in
+    let s1 = c.passes.store in
+    let l = c.passes.names in
+    let place = place_of w s1.cells at in
+    let i = stmt_at (forest_at fs at.code) l.value.id in
+    let x = variable_of i in
+    let b = stmt_list (loop_body i) in
+    let had = c.args.run.now in
+    let run = c.passes.run in
+    let start : State → Plan = taken fs w s0.cells (frame.Statement (statement.ForInNext c.args.names at)) meaning.Normal in
+    let q : State → Plan = taken fs w s1.cells (frame.Statement (statement.ForInNext l at)) meaning.Normal in
+    let inv = c.passes.invariant in
+    let fine = subst (λ (u : ForInNames). IsFine w s1.cells u.object) (sym c.deref.ensures) inv.2.0 in
+    let n = c.in-Some.at in
+    let box = c.at_name.result in
+    let less : n < length l.value.names.items = subst (λ (u : ForInNames). n < length u.names.items) c.deref.ensures (c.in-Some.ensures fs no_rest w [] [] place inv.0.ready.1 fine).0 in
+    let j = job_of fs w s1.cells (job.PassIn box at) in
+    let goes : (r : Rest) → q (image fs r w s1) ≡ Do j (image fs r w s1) Ret = λ r.
+    subst (λ (u : ForInNames). for_in (seen w s1.cells u.object) x (drop u.at u.names.items) b place (image fs r w s1) ≡ Do (Pass (ForInLoop (seen w s1.cells u.object) x (name_at u.names.items n) (drop (suc n) u.names.items) b) place) (image fs r w s1) Ret)
+    c.deref.ensures (c.in-Some.ensures fs r w x b place inv.0.ready.1 fine).1
+    ∙ ap (λ (u : ForInNames). Do (Pass (for_in_loop fs w s1.cells u at.code) place) (image fs r w s1) Ret) (sym c.at_name.ensures) in
+    let held : FineNames fs w s1.cells box.value at × (box.value.at < length box.value.names.items) =
+    subst (λ (u : ForInNames). FineNames fs w s1.cells u at × (u.at < length u.names.items)) (sym c.at_name.ensures) (inv.2, less) in
+    let asked : State → Plan = λ s. Do j s Ret in
+    let to_job : Towards fs w s0 s1 start asked had run = towards_each fs w s0 s1 s1 start q asked had run run inv.0 (stays fs w s1 s1 q asked run run inv.0.ready refl goes) in
+    let mid : Run = record run { units = run.units - 1 } in
+    let s2 = c.pass_in_on.new.store in
+    let last = c.pass_in_on.new.run in
+    let how = c.in_ok-how.how in
+    let out = c.pass_in_on.new.out in
+    let part = c.in_ok-how.ensures.comes in
+    let kept = c.in_ok-how.ensures.kept in
+    let v = c.deref-2.result.now in
+    let is = sym c.deref-2.ensures in
+    let g = stmt_at (forest_at fs at.code) in
+    let p : State → Plan = λ s. statements (stmt_list (loop_body (g v.id))) place (scopes.assign s place (variable_of (g v.id)) (meaning.Text (name_at v.names.items v.at))) in
+    let rest = c.behind.result in
+    let same = sym c.behind.ensures in
+    let f = frame.Statement (statement.ForInNext rest at) in
+    let body_is : (s : State) → body j s ≡ and_then (p s) (taken fs w s1.cells f) = λ s k.
+    and_then (statements (stmt_list (loop_body (g (is k).id))) place (scopes.assign s place (variable_of (g (is k).id)) (meaning.Text (name_at (is k).names.items (is k).at))))
+    (for_in_next (seen w s1.cells (same k).object) (variable_of (g (same k).id)) (drop (same k).at (same k).names.items) (stmt_list (loop_body (g (same k).id))) place) in
+    let left : FineNames fs w s1.cells rest.value at = subst (λ (u : ForInNames). FineNames fs w s1.cells u at) same held.0 in
+    let to_body : Towards fs w s0 s1 start (body j) had mid = towards_each fs w s0 s1 s1 start asked (body j) had run mid to_job
+    (unit_paid fs w s1 j (body j) run mid inv.0.ready (omega (arith, c.if-run-eq0.false)) (λ s. and_then_ret (body j s))) in
+    record {
+      comes = IfOk-weaker c.hand_names.result _ _
+          (λ h k. towards_paid fs w s0 s1 s2 2 1 start (body j) had mid c.hand_names.new.run h (ended_as h out) to_body (planned fs w s1 s2 2 (body j) _ mid c.hand_names.new.run h (ended_as h out) body_is k) (omega (arith, inv.0.units, c.if-run-eq0.false)) (omega arith))
+          (hand_ok fs w c.hand_names.result s1 s2 1 2 p f mid last c.hand_names.new.run how out part (λ t no_left. loop_passes w s2.cells out t how _ c.in_default-2.not-Normal c.in_default-2.not-Continue c.in_default-2.not-Break no_left) kept left (omega arith) c.hand_names.ensures);
+      kept = kept_then fs w s0 s1 s2 inv.1 kept;
+    }
+
+pub names::names_on-returns-clause-comes : goal.names::names_on-returns-clause-comes
+names::names_on-returns-clause-comes t c =
+    let fs = trees_of c.args.here.now.site.now.codes.now.items in
+    let w = c.args.here.now.site.now.widget in
+    let at = c.args.here.now.at in
+    let s0 = c.args.store.now in
+    let s1 = c.passes.store in
+    let l = c.passes.names in
+    let place = place_of w s1.cells at in
+    let i = stmt_at (forest_at fs at.code) l.value.id in
+    let x = variable_of i in
+    let b = stmt_list (loop_body i) in
+    let had = c.args.run.now in
+    let run = c.passes.run in
+    let start : State → Plan = taken fs w s0.cells (frame.Statement (statement.ForInNext c.args.names at)) meaning.Normal in
+    let q : State → Plan = taken fs w s1.cells (frame.Statement (statement.ForInNext l at)) meaning.Normal in
+    let inv = c.passes.invariant in
+    let fine = subst (λ (u : ForInNames). IsFine w s1.cells u.object) (sym c.deref.ensures) inv.2.0 in
+    let none : (r : Rest) → q (image fs r w s1) ≡ Ret meaning.Normal (image fs r w s1) = λ r.
+    subst (λ (u : ForInNames). for_in (seen w s1.cells u.object) x (drop u.at u.names.items) b place (image fs r w s1) ≡ Ret meaning.Normal (image fs r w s1)) c.deref.ensures
+    (rw c.in_default.is at (c.next_name.ensures fs r w x b place inv.0.ready.1 fine)) in
+    towards_then fs w s0 s1 s1 1 1 start q had run run ended.Normal (ended_as ended.Normal c.passes.out) inv.0
+    (gives fs w s1 s1 1 q run run ended.Normal (ended_as ended.Normal c.passes.out) tt refl inv.0.ready.2 none tt (omega arith)) (omega arith)
+
+pub names::names_on-returns-clause-kept : goal.names::names_on-returns-clause-kept
+names::names_on-returns-clause-kept t c =
+    let fs = trees_of c.args.here.now.site.now.codes.now.items in
+    let w = c.args.here.now.site.now.widget in
+    let at = c.args.here.now.at in
+    let s0 = c.args.store.now in
+    let s1 = c.passes.store in
+    let l = c.passes.names in
+    let place = place_of w s1.cells at in
+    let i = stmt_at (forest_at fs at.code) l.value.id in
+    let x = variable_of i in
+    let b = stmt_list (loop_body i) in
+    let had = c.args.run.now in
+    let run = c.passes.run in
+    let start : State → Plan = taken fs w s0.cells (frame.Statement (statement.ForInNext c.args.names at)) meaning.Normal in
+    let q : State → Plan = taken fs w s1.cells (frame.Statement (statement.ForInNext l at)) meaning.Normal in
+    let inv = c.passes.invariant in
+    let fine = subst (λ (u : ForInNames). IsFine w s1.cells u.object) (sym c.deref.ensures) inv.2.0 in
+    inv.1
+
+pub names::pass_in_on-block_on-requires : goal.names::pass_in_on-block_on-requires
+names::pass_in_on-block_on-requires t c = (
+  search rules,
+  (
+    (
+        let fs = trees_of c.args.here.now.site.now.codes.now.items in
+        let w = c.args.here.now.site.now.widget in
+        let at = c.args.here.now.at in
+        let old = c.args.store.now in
+        let f = forest_at fs at.code in
+        let new = c.assign.new.store in
+        let v = c.args.names.now in
+        let grows = (c.assign.ensures.kept fs c.requires.ready.1).grows in
+        let place : place_of w new.cells at ≡ place_of w old.cells at = place_same fs w old.cells new.cells grows at c.requires.held.0.1.0 in
+        let x : c.in_ok-variable.variable ≡ variable_of (stmt_at f v.id) = c.in_ok-variable.ensures ∙ ap (λ (g : Forest). variable_of (stmt_at g v.id)) c.requires.tree in
+        let n : c.in_ok-name.name ≡ name_at v.names.items v.at = c.in_ok-name.ensures in
+        let todo : State → Plan = λ s. statements (stmt_list (loop_body (stmt_at f v.id))) (place_of w old.cells at) (scopes.assign s (place_of w old.cells at) (variable_of (stmt_at f v.id)) (meaning.Text (name_at v.names.items v.at))) in
+        (c.requires.ready.0, (c.assign.ensures.kept fs c.requires.ready.1).confined c.requires.ready.1, c.requires.ready.2)
+        ),
+    (
+      (
+          let fs = trees_of c.args.here.now.site.now.codes.now.items in
+          let w = c.args.here.now.site.now.widget in
+          let at = c.args.here.now.at in
+          let old = c.args.store.now in
+          let f = forest_at fs at.code in
+          let new = c.assign.new.store in
+          let v = c.args.names.now in
+          let grows = (c.assign.ensures.kept fs c.requires.ready.1).grows in
+          let place : place_of w new.cells at ≡ place_of w old.cells at = place_same fs w old.cells new.cells grows at c.requires.held.0.1.0 in
+          let x : c.in_ok-variable.variable ≡ variable_of (stmt_at f v.id) = c.in_ok-variable.ensures ∙ ap (λ (g : Forest). variable_of (stmt_at g v.id)) c.requires.tree in
+          let n : c.in_ok-name.name ≡ name_at v.names.items v.at = c.in_ok-name.ensures in
+          let todo : State → Plan = λ s. statements (stmt_list (loop_body (stmt_at f v.id))) (place_of w old.cells at) (scopes.assign s (place_of w old.cells at) (variable_of (stmt_at f v.id)) (meaning.Text (name_at v.names.items v.at))) in
+          (place_fine fs w old.cells new.cells grows at c.requires.held.0.1.0, c.requires.held.0.1.1)
+          ),
+      c.requires.tree,
+    ),
+  ),
+)
+
+pub names::pass_in_on-returns-clause-comes : goal.names::pass_in_on-returns-clause-comes
+names::pass_in_on-returns-clause-comes t c =
+    let fs = trees_of c.args.here.now.site.now.codes.now.items in
+    let w = c.args.here.now.site.now.widget in
+    let at = c.args.here.now.at in
+    let old = c.args.store.now in
+    let f = forest_at fs at.code in
+    let new = c.assign.new.store in
+    let v = c.args.names.now in
+    let grows = (c.assign.ensures.kept fs c.requires.ready.1).grows in
+    let place : place_of w new.cells at ≡ place_of w old.cells at = place_same fs w old.cells new.cells grows at c.requires.held.0.1.0 in
+    let x : c.in_ok-variable.variable ≡ variable_of (stmt_at f v.id) = c.in_ok-variable.ensures ∙ ap (λ (g : Forest). variable_of (stmt_at g v.id)) c.requires.tree in
+    let n : c.in_ok-name.name ≡ name_at v.names.items v.at = c.in_ok-name.ensures in
+    let todo : State → Plan = λ s. statements (stmt_list (loop_body (stmt_at f v.id))) (place_of w old.cells at) (scopes.assign s (place_of w old.cells at) (variable_of (stmt_at f v.id)) (meaning.Text (name_at v.names.items v.at))) in
+    IfOk-weaker c.block_on.result _ _
+    (λ h k. after_store fs w old new c.block_on.new.store 1 (block_at fs w new.cells (block.Loop v.id) 0 at) todo c.args.run.now c.block_on.new.run h (ended_as h c.block_on.new.out) k
+    (λ r. let s : image fs r w new ≡ scopes.assign (image fs r w old) (place_of w old.cells at) (variable_of (stmt_at f v.id)) (meaning.Text (name_at v.names.items v.at)) =
+    c.assign.ensures.plan fs r at.depth c.requires.ready.1 ∙ (λ j. scopes.assign (image fs r w old) (place_of w old.cells at) (x j) (meaning.Text (n j))) in
+    sym (λ j. statements (stmt_list (loop_body (stmt_at f v.id))) (place j) (s j))))
+    c.block_on.ensures.comes
+
+pub names::pass_in_on-returns-clause-kept : goal.names::pass_in_on-returns-clause-kept
+names::pass_in_on-returns-clause-kept t c =
+    let fs = trees_of c.args.here.now.site.now.codes.now.items in
+    let w = c.args.here.now.site.now.widget in
+    let at = c.args.here.now.at in
+    let old = c.args.store.now in
+    let f = forest_at fs at.code in
+    let new = c.assign.new.store in
+    let v = c.args.names.now in
+    let grows = (c.assign.ensures.kept fs c.requires.ready.1).grows in
+    let place : place_of w new.cells at ≡ place_of w old.cells at = place_same fs w old.cells new.cells grows at c.requires.held.0.1.0 in
+    let x : c.in_ok-variable.variable ≡ variable_of (stmt_at f v.id) = c.in_ok-variable.ensures ∙ ap (λ (g : Forest). variable_of (stmt_at g v.id)) c.requires.tree in
+    let n : c.in_ok-name.name ≡ name_at v.names.items v.at = c.in_ok-name.ensures in
+    let todo : State → Plan = λ s. statements (stmt_list (loop_body (stmt_at f v.id))) (place_of w old.cells at) (scopes.assign s (place_of w old.cells at) (variable_of (stmt_at f v.id)) (meaning.Text (name_at v.names.items v.at))) in
+    kept_then fs w old new c.block_on.new.store (c.assign.ensures.kept fs c.requires.ready.1) c.block_on.ensures.kept
 
 pub objects::object_on-returns-in-Cell-clause-comes : goal.objects::object_on-returns-in-Cell-clause-comes
 objects::object_on-returns-in-Cell-clause-comes t c =
@@ -3633,3 +5465,90 @@ targets::found_target-returns-in_default t c =
           (value_passes fs w s c.form_on.new.store 30 31 (body (job_of fs w s.cells (job.Eval c.args.id c.args.here.now.at))) (form.Found) c.args.run.now c.form_on.new.run c.in_ok-other.other c.form_on.new.out c.in_ok-other.ensures.comes c.in_default.not-Is c.in_default.not-Left c.form_on.ensures.kept tt (omega arith)) c.in_default.not-Is;
       kept = c.form_on.ensures.kept;
     }
+
+pub targets::deleted_on-remove_on-requires-clause-ready : goal.targets::deleted_on-remove_on-requires-clause-ready
+targets::deleted_on-remove_on-requires-clause-ready t c =
+    let fs = trees_of c.args.here.now.site.now.codes.now.items in
+    let w = c.args.here.now.site.now.widget in
+    let at = c.args.here.now.at in
+    let old = c.args.store.now in
+    let mid = c.target_on.new.store in
+    let p : State → Plan = λ s. Do (job_of fs w old.cells (job.Target c.args.e at)) s Ret in
+    let had = c.args.run.now in
+    let has = c.target_on.new.run in
+    let how = c.in_ok-other.other in
+    let of = c.target_on.new.of in
+    let out = c.target_on.new.out in
+    let part = c.in_ok-other.ensures.comes in
+    let kept = c.in_ok-other.ensures.kept in
+    value_ready fs w old mid 0 p had has how (target_as how of out) part c.in-Is.is kept c.requires.ready
+
+pub targets::deleted_on-remove_on-requires-clause-held : goal.targets::deleted_on-remove_on-requires-clause-held
+targets::deleted_on-remove_on-requires-clause-held t c =
+    let fs = trees_of c.args.here.now.site.now.codes.now.items in
+    let w = c.args.here.now.site.now.widget in
+    let at = c.args.here.now.at in
+    let old = c.args.store.now in
+    let mid = c.target_on.new.store in
+    let p : State → Plan = λ s. Do (job_of fs w old.cells (job.Target c.args.e at)) s Ret in
+    let had = c.args.run.now in
+    let has = c.target_on.new.run in
+    let how = c.in_ok-other.other in
+    let of = c.target_on.new.of in
+    let out = c.target_on.new.out in
+    let part = c.in_ok-other.ensures.comes in
+    let kept = c.in_ok-other.ensures.kept in
+    target_fine fs w old mid 0 p had has how of out part c.in-Is.is
+
+pub targets::deleted_on-returns-in-Is-clause-comes : goal.targets::deleted_on-returns-in-Is-clause-comes
+targets::deleted_on-returns-in-Is-clause-comes t c =
+    let fs = trees_of c.args.here.now.site.now.codes.now.items in
+    let w = c.args.here.now.site.now.widget in
+    let at = c.args.here.now.at in
+    let old = c.args.store.now in
+    let mid = c.target_on.new.store in
+    let p : State → Plan = λ s. Do (job_of fs w old.cells (job.Target c.args.e at)) s Ret in
+    let had = c.args.run.now in
+    let has = c.target_on.new.run in
+    let how = c.in_ok-other.other in
+    let of = c.target_on.new.of in
+    let out = c.target_on.new.out in
+    let part = c.in_ok-other.ensures.comes in
+    let kept = c.in_ok-other.ensures.kept in
+    IfOk-weaker c.remove_on.result _ _
+    (λ h x. target_then fs w old mid c.remove_on.new.store 0 1 30 p form.Delete had has c.remove_on.new.run how h of out (ended_as h c.remove_on.new.out) part c.in-Is.is kept tt x (omega arith))
+    c.remove_on.ensures.comes
+
+pub targets::deleted_on-returns-in-Is-clause-kept : goal.targets::deleted_on-returns-in-Is-clause-kept
+targets::deleted_on-returns-in-Is-clause-kept t c =
+    let fs = trees_of c.args.here.now.site.now.codes.now.items in
+    let w = c.args.here.now.site.now.widget in
+    let at = c.args.here.now.at in
+    let old = c.args.store.now in
+    let mid = c.target_on.new.store in
+    let p : State → Plan = λ s. Do (job_of fs w old.cells (job.Target c.args.e at)) s Ret in
+    let had = c.args.run.now in
+    let has = c.target_on.new.run in
+    let how = c.in_ok-other.other in
+    let of = c.target_on.new.of in
+    let out = c.target_on.new.out in
+    let part = c.in_ok-other.ensures.comes in
+    let kept = c.in_ok-other.ensures.kept in
+    kept_then fs w old mid c.remove_on.new.store kept c.remove_on.ensures.kept
+
+pub targets::deleted_on-returns-in_default-clause-comes : goal.targets::deleted_on-returns-in_default-clause-comes
+targets::deleted_on-returns-in_default-clause-comes t c =
+    let fs = trees_of c.args.here.now.site.now.codes.now.items in
+    let w = c.args.here.now.site.now.widget in
+    let at = c.args.here.now.at in
+    let old = c.args.store.now in
+    let mid = c.target_on.new.store in
+    let p : State → Plan = λ s. Do (job_of fs w old.cells (job.Target c.args.e at)) s Ret in
+    let had = c.args.run.now in
+    let has = c.target_on.new.run in
+    let how = c.in_ok-other.other in
+    let of = c.target_on.new.of in
+    let out = c.target_on.new.out in
+    let part = c.in_ok-other.ensures.comes in
+    let kept = c.in_ok-other.ensures.kept in
+    hand_form fs w c.hand_delete.result old mid 0 30 p form.Delete had has c.hand_delete.new.run how out (target_ends fs w old mid 0 p had has how of out part c.in_default.not-Is) c.in_default.not-Is kept tt (omega arith) c.hand_delete.ensures

@@ -1,11 +1,12 @@
+use Rattle.js_flow.specs.Frames.{taken}
 use Rattle.std.proofs.Common.{drop, length, ◌*◌, ◌+◌, ◌-◌, ◌≡◌}
 use Rattle.js_tree.specs.Forest.{expr_at, stmt_at}
 use Rattle.widget_meaning.specs.Expressions.{array_parts, object_parts}
 use Rattle.js_image.specs.Image.{seen}
-use Rattle.js_image.specs.Held.{IsHeld, Kept}
+use Rattle.js_image.specs.Held.{IsHeld, Kept, IsFine}
 use Rattle.js_names.specs.Code.{trees_of}
-use Rattle.js_flow.specs.Fine.{IsBlockAt, IsExprAt, IsStmtAt}
-use Rattle.js_flow.specs.Parts.{arguments_of, block_list, decls_of, elements_of, forest_at, properties_of}
+use Rattle.js_flow.specs.Fine.{IsBlockAt, IsExprAt, IsStmtAt, FineNames}
+use Rattle.js_flow.specs.Parts.{arguments_of, block_list, decls_of, elements_of, forest_at, properties_of, clauses_of}
 use Rattle.js_flow.specs.Views.{job_of, place_of}
 use Rattle.js_direct.specs.Comes.{IsReady}
 use Rattle.js_direct.specs.Goes.{GoesOn}
@@ -13,9 +14,12 @@ use Rattle.js_flow.specs.Statements.{block_at}
 use Rattle.js_direct.specs.Towards.{Towards, part_of}
 use Rattle.js_direct.specs.Argues.{Argued}
 use Rattle.widget_meaning.specs.Plan.{Do, Ret}
-use Rattle.widget_meaning.specs.Statements.{declarations, expressions}
+use Rattle.widget_meaning.specs.Statements.{declarations, expressions, choose_case}
 use Rattle.js_flow.specs.declared.job.Job.TheVariants as job
 use Rattle.store_cells.specs.declared.value.Value.TheVariants as value
+use Rattle.js_flow.specs.declared.frame.Frame.TheVariants as frame
+use Rattle.widget_meaning.specs.Values as meaning
+use Rattle.js_flow.specs.declared.frame.StatementFrame.TheVariants as statement
 use Rattle.js_direct.proofs.+direct.Given as goal
 
 -- by depth, and at one depth along the calls
@@ -96,7 +100,7 @@ abbrev pub invariant-blocks::any_on-list : goal.invariant-blocks::any_on-list
 invariant-blocks::any_on-list l =
     let fs = trees_of l.here.site.now.codes.now.items in
     let w = l.here.site.now.widget in
-    Towards fs w l.fn.store l.store (block_at fs w l.fn.store.cells l.fn.block 0 l.here.at) (block_at fs w l.store.cells l.at l.n l.here.at) l.fn.run l.run
+    Towards fs w l.fn.store l.store (block_at fs w l.fn.store.cells l.fn.from.0 l.fn.from.1 l.here.at) (block_at fs w l.store.cells l.at l.n l.here.at) l.fn.run l.run
     × Kept fs w l.fn.store l.store × IsBlockAt fs w l.store.cells l.at l.here.at
 
 abbrev pub decreases-blocks::any_on-list : goal.decreases-blocks::any_on-list
@@ -143,6 +147,49 @@ decreases-calls::variable_on l = 16 * l.deep + 6
 abbrev pub decreases-calls::referred_on : goal.decreases-calls::referred_on
 decreases-calls::referred_on l = 16 * l.deep + 7
 
+abbrev pub decreases-catching::try_on : goal.decreases-catching::try_on
+decreases-catching::try_on l = 16 * l.deep + 8
+
+abbrev pub decreases-catching::tried_on : goal.decreases-catching::tried_on
+decreases-catching::tried_on l = 16 * l.deep + 7
+
+abbrev pub decreases-catching::caught_on : goal.decreases-catching::caught_on
+decreases-catching::caught_on l = 16 * l.deep + 6
+
+abbrev pub decreases-catching::thrown_on : goal.decreases-catching::thrown_on
+decreases-catching::thrown_on l = 16 * l.deep + 5
+
+abbrev pub decreases-catching::catch_on : goal.decreases-catching::catch_on
+decreases-catching::catch_on l = 16 * l.deep + 4
+
+abbrev pub decreases-catching::catch_in : goal.decreases-catching::catch_in
+decreases-catching::catch_in l = 16 * l.deep + 3
+
+abbrev pub decreases-catching::finally_on : goal.decreases-catching::finally_on
+decreases-catching::finally_on l = 16 * l.deep + 3
+
+abbrev pub decreases-choosing::switch_on : goal.decreases-choosing::switch_on
+decreases-choosing::switch_on l = 16 * l.deep + 4
+
+abbrev pub decreases-choosing::valued_on : goal.decreases-choosing::valued_on
+decreases-choosing::valued_on l = 16 * l.deep + 3
+
+abbrev pub decreases-choosing::clauses_on : goal.decreases-choosing::clauses_on
+decreases-choosing::clauses_on l = 16 * l.deep + 2
+
+-- the tests from one on are still to be done
+abbrev pub invariant-choosing::clauses_on-tests : goal.invariant-choosing::clauses_on-tests
+invariant-choosing::clauses_on-tests l =
+    let fs = trees_of l.here.site.now.codes.now.items in
+    let w = l.here.site.now.widget in
+    let all = clauses_of (stmt_at (forest_at fs l.here.at.code) l.fn.from.0) in
+    Towards fs w l.fn.store l.store (choose_case (seen w l.fn.store.cells l.fn.value) all (drop l.fn.from.1 all) (place_of w l.fn.store.cells l.here.at))
+    (choose_case (seen w l.store.cells l.value) all (drop l.n all) (place_of w l.store.cells l.here.at)) l.fn.run l.run
+    × Kept fs w l.fn.store l.store × IsStmtAt fs w l.store.cells l.fn.from.0 l.here.at × IsFine w l.store.cells l.value
+
+abbrev pub decreases-choosing::clauses_on-tests : goal.decreases-choosing::clauses_on-tests
+decreases-choosing::clauses_on-tests l = l.run.units
+
 abbrev pub decreases-entering::value_far : goal.decreases-entering::value_far
 decreases-entering::value_far l = 16 * l.deep + 6
 
@@ -164,11 +211,8 @@ decreases-forms::operand_on l = 16 * l.deep + 1
 abbrev pub decreases-forms::form_on : goal.decreases-forms::form_on
 decreases-forms::form_on l = 16 * l.deep + 13
 
-abbrev pub decreases-forms::form_more : goal.decreases-forms::form_more
-decreases-forms::form_more l = 16 * l.deep + 4
-
 abbrev pub decreases-forms::unary_form : goal.decreases-forms::unary_form
-decreases-forms::unary_form l = 16 * l.deep + 2
+decreases-forms::unary_form l = 16 * l.deep + 3
 
 abbrev pub decreases-looping::again_on : goal.decreases-looping::again_on
 decreases-looping::again_on l = 16 * l.deep + 7
@@ -219,6 +263,33 @@ invariant-looping::expressions_on-list l =
 
 abbrev pub decreases-looping::expressions_on-list : goal.decreases-looping::expressions_on-list
 decreases-looping::expressions_on-list l = length (drop l.n (part_of l.part (stmt_at (forest_at (trees_of l.here.site.now.codes.now.items) l.here.at.code) l.id)))
+
+abbrev pub decreases-names::for_in_on : goal.decreases-names::for_in_on
+decreases-names::for_in_on l = 16 * l.deep + 7
+
+abbrev pub decreases-names::over_on : goal.decreases-names::over_on
+decreases-names::over_on l = 16 * l.deep + 6
+
+abbrev pub decreases-names::listed_on : goal.decreases-names::listed_on
+decreases-names::listed_on l = 16 * l.deep + 5
+
+abbrev pub decreases-names::names_on : goal.decreases-names::names_on
+decreases-names::names_on l = 16 * l.deep + 4
+
+abbrev pub decreases-names::pass_in_on : goal.decreases-names::pass_in_on
+decreases-names::pass_in_on l = 16 * l.deep + 3
+
+-- the passes from a place on are still to be done
+abbrev pub invariant-names::names_on-passes : goal.invariant-names::names_on-passes
+invariant-names::names_on-passes l =
+    let fs = trees_of l.here.site.now.codes.now.items in
+    let w = l.here.site.now.widget in
+    Towards fs w l.fn.store l.store (taken fs w l.fn.store.cells (frame.Statement (statement.ForInNext l.fn.names l.here.at)) meaning.Normal)
+    (taken fs w l.store.cells (frame.Statement (statement.ForInNext l.names l.here.at)) meaning.Normal) l.fn.run l.run
+    × Kept fs w l.fn.store l.store × FineNames fs w l.store.cells l.names.value l.here.at
+
+abbrev pub decreases-names::names_on-passes : goal.decreases-names::names_on-passes
+decreases-names::names_on-passes l = l.run.units
 
 abbrev pub decreases-objects::object_on : goal.decreases-objects::object_on
 decreases-objects::object_on l = 16 * l.deep + 3
@@ -331,6 +402,12 @@ decreases-stepping::step_any l = 16 * l.deep + 2
 
 abbrev pub decreases-stepping::step_reached : goal.decreases-stepping::step_reached
 decreases-stepping::step_reached l = 16 * l.deep + 1
+
+abbrev pub decreases-targets::delete_on : goal.decreases-targets::delete_on
+decreases-targets::delete_on l = 16 * l.deep + 2
+
+abbrev pub decreases-targets::deleted_on : goal.decreases-targets::deleted_on
+decreases-targets::deleted_on l = 16 * l.deep + 1
 
 abbrev pub decreases-targets::target_on : goal.decreases-targets::target_on
 decreases-targets::target_on l = 16 * l.deep + 0
