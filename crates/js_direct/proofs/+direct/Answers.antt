@@ -20,7 +20,7 @@ use Rattle.js_image.specs.Held.{AreFine, IsFine, IsHeld, ArePairs}
 use Rattle.js_flow.specs.Fine.{FineAssigning, FineFrame, IsExprAt, FineCompletion, FineNames}
 use Rattle.js_flow.specs.Frames.{taken}
 use Rattle.js_direct.specs.declared.run.Ended.{Ended}
-use Rattle.js_direct.specs.Comes.{Comes, ended_as, target_as, ComesTo}
+use Rattle.js_direct.specs.Comes.{Comes, ended_as, target_as, ComesTo, IsReady}
 use Rattle.js_direct.proofs.FormFrames.{after_store, both_ok, ends_target, expr_stays, frame_waits, gives_at, instead, not_value, other_end, reaches_at, target_ends, target_fine, target_then, value_fine, value_passes, value_ready, value_then}
 use Rattle.js_tree.specs.declared.nodes.AssignOp.{AssignOp}
 use Rattle.js_flow.specs.Forms.{form_taken, property_done}
@@ -3116,7 +3116,7 @@ names::listed_on-names_on-requires t c = (
         ∙ sym (ap (λ (y : Bool). if y then throw E1 s else charge (length (names_of s v)) s (for_in v x (names_of s v) b place s)) c.requires.some))) in
         let mid = c.is_paid.new.run in
         let yes = c.is_paid.ensures.yes c.if-is_paid.true in
-        let ready = (c.requires.ready.0, c.requires.ready.1, ap (λ l. l.items) yes.2 ∙ c.requires.ready.2) in
+        let ready : IsReady fs w old mid = (c.requires.ready.0, c.requires.ready.1, ap (λ l. l.items) yes.2 ∙ c.requires.ready.2) in
         ready
         ),
     (
@@ -3178,7 +3178,7 @@ names::listed_on-returns-then-is_paid-clause-comes t c =
     ∙ sym (ap (λ (y : Bool). if y then throw E1 s else charge (length (names_of s v)) s (for_in v x (names_of s v) b place s)) c.requires.some))) in
     let mid = c.is_paid.new.run in
     let yes = c.is_paid.ensures.yes c.if-is_paid.true in
-    let ready = (c.requires.ready.0, c.requires.ready.1, ap (λ l. l.items) yes.2 ∙ c.requires.ready.2) in
+    let ready : IsReady fs w old mid = (c.requires.ready.0, c.requires.ready.1, ap (λ l. l.items) yes.2 ∙ c.requires.ready.2) in
     IfOk-weaker c.names_on.result _ _
     (λ h k. towards_then fs w old old c.names_on.new.store 1 4 t q c.args.run.now mid c.names_on.new.run h (ended_as h c.names_on.new.out) (charge_paid fs w old t q c.args.run.now mid count first yes.0 yes.1 ready) k (omega arith))
     c.names_on.ensures.comes
@@ -3213,8 +3213,8 @@ names::listed_on-returns-clause-comes t c =
     charge_waits fs w c.wait.result old 4 count t f c.args.run.now mid c.wait.new.run c.args.out.now first (ap (λ l. l.items) no.1 ∙ c.requires.ready.2) no.0 no.2 held (omega arith)
     c.wait.ensures.left c.wait.ensures.waits c.wait.ensures.next c.wait.ensures.units
 
-pub names::names_on-leave_job-requires-clause-waits : goal.names::names_on-leave_job-requires-clause-waits
-names::names_on-leave_job-requires-clause-waits t c =
+pub names::names_on-leave_job-requires : goal.names::names_on-leave_job-requires
+names::names_on-leave_job-requires t c =
     let fs = trees_of c.args.here.now.site.now.codes.now.items in
     let w = c.args.here.now.site.now.widget in
     let at = c.args.here.now.at in
@@ -3252,15 +3252,15 @@ names::names_on-returns-then-run-eq0-clause-comes t c =
     let inv = c.passes.invariant in
     let fine = subst (λ (u : ForInNames). IsFine w s1.cells u.object) (sym c.deref.ensures) inv.2.0 in
     let n = c.in-Some.at in
-    let box = c.at_name.result in
+    let box = c.at_name-names.result in
     let less : n < length l.value.names.items = subst (λ (u : ForInNames). n < length u.names.items) c.deref.ensures (c.in-Some.ensures fs no_rest w [] [] place inv.0.ready.1 fine).0 in
     let j = job_of fs w s1.cells (job.PassIn box at) in
     let goes : (r : Rest) → q (image fs r w s1) ≡ Do j (image fs r w s1) Ret = λ r.
     subst (λ (u : ForInNames). for_in (seen w s1.cells u.object) x (drop u.at u.names.items) b place (image fs r w s1) ≡ Do (Pass (ForInLoop (seen w s1.cells u.object) x (name_at u.names.items n) (drop (suc n) u.names.items) b) place) (image fs r w s1) Ret)
     c.deref.ensures (c.in-Some.ensures fs r w x b place inv.0.ready.1 fine).1
-    ∙ ap (λ (u : ForInNames). Do (Pass (for_in_loop fs w s1.cells u at.code) place) (image fs r w s1) Ret) (sym c.at_name.ensures) in
+    ∙ ap (λ (u : ForInNames). Do (Pass (for_in_loop fs w s1.cells u at.code) place) (image fs r w s1) Ret) (sym c.at_name-names.ensures) in
     let held : FineNames fs w s1.cells box.value at × (box.value.at < length box.value.names.items) =
-    subst (λ (u : ForInNames). FineNames fs w s1.cells u at × (u.at < length u.names.items)) (sym c.at_name.ensures) (inv.2, less) in
+    subst (λ (u : ForInNames). FineNames fs w s1.cells u at × (u.at < length u.names.items)) (sym c.at_name-names.ensures) (inv.2, less) in
     let asked : State → Plan = λ s. Do j s Ret in
     let to_job : Towards fs w s0 s1 start asked had run = towards_each fs w s0 s1 s1 start q asked had run run inv.0 (stays fs w s1 s1 q asked run run inv.0.ready refl goes) in
     IfOk-weaker c.leave_job.result _ _
@@ -3329,18 +3329,18 @@ names::names_on-pass_in_on-requires t c = (
           let inv = c.passes.invariant in
           let fine = subst (λ (u : ForInNames). IsFine w s1.cells u.object) (sym c.deref.ensures) inv.2.0 in
           let n = c.in-Some.at in
-          let box = c.at_name.result in
+          let box = c.at_name-names.result in
           let less : n < length l.value.names.items = subst (λ (u : ForInNames). n < length u.names.items) c.deref.ensures (c.in-Some.ensures fs no_rest w [] [] place inv.0.ready.1 fine).0 in
           let j = job_of fs w s1.cells (job.PassIn box at) in
           let goes : (r : Rest) → q (image fs r w s1) ≡ Do j (image fs r w s1) Ret = λ r.
           subst (λ (u : ForInNames). for_in (seen w s1.cells u.object) x (drop u.at u.names.items) b place (image fs r w s1) ≡ Do (Pass (ForInLoop (seen w s1.cells u.object) x (name_at u.names.items n) (drop (suc n) u.names.items) b) place) (image fs r w s1) Ret)
           c.deref.ensures (c.in-Some.ensures fs r w x b place inv.0.ready.1 fine).1
-          ∙ ap (λ (u : ForInNames). Do (Pass (for_in_loop fs w s1.cells u at.code) place) (image fs r w s1) Ret) (sym c.at_name.ensures) in
+          ∙ ap (λ (u : ForInNames). Do (Pass (for_in_loop fs w s1.cells u at.code) place) (image fs r w s1) Ret) (sym c.at_name-names.ensures) in
           let held : FineNames fs w s1.cells box.value at × (box.value.at < length box.value.names.items) =
-          subst (λ (u : ForInNames). FineNames fs w s1.cells u at × (u.at < length u.names.items)) (sym c.at_name.ensures) (inv.2, less) in
+          subst (λ (u : ForInNames). FineNames fs w s1.cells u at × (u.at < length u.names.items)) (sym c.at_name-names.ensures) (inv.2, less) in
           let asked : State → Plan = λ s. Do j s Ret in
           let to_job : Towards fs w s0 s1 start asked had run = towards_each fs w s0 s1 s1 start q asked had run run inv.0 (stays fs w s1 s1 q asked run run inv.0.ready refl goes) in
-          subst (λ (u : ForInNames). FineNames fs w s1.cells u at × (u.at < length u.names.items)) (sym c.deref-2.ensures) held
+          subst (λ (u : ForInNames). FineNames fs w s1.cells u at × (u.at < length u.names.items)) (sym c.deref-in-Some.ensures) held
           ),
       c.requires.tree,
     ),
@@ -3367,8 +3367,8 @@ names::names_on-returns-in_err-how-clause-kept t c =
     let fine = subst (λ (u : ForInNames). IsFine w s1.cells u.object) (sym c.deref.ensures) inv.2.0 in
     kept_then fs w s0 s1 c.pass_in_on.new.store inv.1 c.in_err-how.ensures.kept
 
-pub names::names_on-behind-requires : goal.names::names_on-behind-requires
-names::names_on-behind-requires t c =
+pub names::names_on-behind-names-requires : goal.names::names_on-behind-names-requires
+names::names_on-behind-names-requires t c =
     let fs = trees_of c.args.here.now.site.now.codes.now.items in
     let w = c.args.here.now.site.now.widget in
     let at = c.args.here.now.at in
@@ -3386,15 +3386,15 @@ names::names_on-behind-requires t c =
     let inv = c.passes.invariant in
     let fine = subst (λ (u : ForInNames). IsFine w s1.cells u.object) (sym c.deref.ensures) inv.2.0 in
     let n = c.in-Some.at in
-    let box = c.at_name.result in
+    let box = c.at_name-names.result in
     let less : n < length l.value.names.items = subst (λ (u : ForInNames). n < length u.names.items) c.deref.ensures (c.in-Some.ensures fs no_rest w [] [] place inv.0.ready.1 fine).0 in
     let j = job_of fs w s1.cells (job.PassIn box at) in
     let goes : (r : Rest) → q (image fs r w s1) ≡ Do j (image fs r w s1) Ret = λ r.
     subst (λ (u : ForInNames). for_in (seen w s1.cells u.object) x (drop u.at u.names.items) b place (image fs r w s1) ≡ Do (Pass (ForInLoop (seen w s1.cells u.object) x (name_at u.names.items n) (drop (suc n) u.names.items) b) place) (image fs r w s1) Ret)
     c.deref.ensures (c.in-Some.ensures fs r w x b place inv.0.ready.1 fine).1
-    ∙ ap (λ (u : ForInNames). Do (Pass (for_in_loop fs w s1.cells u at.code) place) (image fs r w s1) Ret) (sym c.at_name.ensures) in
+    ∙ ap (λ (u : ForInNames). Do (Pass (for_in_loop fs w s1.cells u at.code) place) (image fs r w s1) Ret) (sym c.at_name-names.ensures) in
     let held : FineNames fs w s1.cells box.value at × (box.value.at < length box.value.names.items) =
-    subst (λ (u : ForInNames). FineNames fs w s1.cells u at × (u.at < length u.names.items)) (sym c.at_name.ensures) (inv.2, less) in
+    subst (λ (u : ForInNames). FineNames fs w s1.cells u at × (u.at < length u.names.items)) (sym c.at_name-names.ensures) (inv.2, less) in
     let asked : State → Plan = λ s. Do j s Ret in
     let to_job : Towards fs w s0 s1 start asked had run = towards_each fs w s0 s1 s1 start q asked had run run inv.0 (stays fs w s1 s1 q asked run run inv.0.ready refl goes) in
     held.1
@@ -3418,15 +3418,15 @@ names::names_on-passes-preserved t c =
     let inv = c.passes.invariant in
     let fine = subst (λ (u : ForInNames). IsFine w s1.cells u.object) (sym c.deref.ensures) inv.2.0 in
     let n = c.in-Some.at in
-    let box = c.at_name.result in
+    let box = c.at_name-names.result in
     let less : n < length l.value.names.items = subst (λ (u : ForInNames). n < length u.names.items) c.deref.ensures (c.in-Some.ensures fs no_rest w [] [] place inv.0.ready.1 fine).0 in
     let j = job_of fs w s1.cells (job.PassIn box at) in
     let goes : (r : Rest) → q (image fs r w s1) ≡ Do j (image fs r w s1) Ret = λ r.
     subst (λ (u : ForInNames). for_in (seen w s1.cells u.object) x (drop u.at u.names.items) b place (image fs r w s1) ≡ Do (Pass (ForInLoop (seen w s1.cells u.object) x (name_at u.names.items n) (drop (suc n) u.names.items) b) place) (image fs r w s1) Ret)
     c.deref.ensures (c.in-Some.ensures fs r w x b place inv.0.ready.1 fine).1
-    ∙ ap (λ (u : ForInNames). Do (Pass (for_in_loop fs w s1.cells u at.code) place) (image fs r w s1) Ret) (sym c.at_name.ensures) in
+    ∙ ap (λ (u : ForInNames). Do (Pass (for_in_loop fs w s1.cells u at.code) place) (image fs r w s1) Ret) (sym c.at_name-names.ensures) in
     let held : FineNames fs w s1.cells box.value at × (box.value.at < length box.value.names.items) =
-    subst (λ (u : ForInNames). FineNames fs w s1.cells u at × (u.at < length u.names.items)) (sym c.at_name.ensures) (inv.2, less) in
+    subst (λ (u : ForInNames). FineNames fs w s1.cells u at × (u.at < length u.names.items)) (sym c.at_name-names.ensures) (inv.2, less) in
     let asked : State → Plan = λ s. Do j s Ret in
     let to_job : Towards fs w s0 s1 start asked had run = towards_each fs w s0 s1 s1 start q asked had run run inv.0 (stays fs w s1 s1 q asked run run inv.0.ready refl goes) in
     let mid : Run = record run { units = run.units - 1 } in
@@ -3436,12 +3436,12 @@ names::names_on-passes-preserved t c =
     let out = c.pass_in_on.new.out in
     let part = c.in_ok-how.ensures.comes in
     let kept = c.in_ok-how.ensures.kept in
-    let v = c.deref-2.result.now in
-    let is = sym c.deref-2.ensures in
+    let v = c.deref-in-Some.result.now in
+    let is = sym c.deref-in-Some.ensures in
     let g = stmt_at (forest_at fs at.code) in
     let p : State → Plan = λ s. statements (stmt_list (loop_body (g v.id))) place (scopes.assign s place (variable_of (g v.id)) (meaning.Text (name_at v.names.items v.at))) in
-    let rest = c.behind.result in
-    let same = sym c.behind.ensures in
+    let rest = c.behind-names.result in
+    let same = sym c.behind-names.ensures in
     let f = frame.Statement (statement.ForInNext rest at) in
     let body_is : (s : State) → body j s ≡ and_then (p s) (taken fs w s1.cells f) = λ s k.
     and_then (statements (stmt_list (loop_body (g (is k).id))) place (scopes.assign s place (variable_of (g (is k).id)) (meaning.Text (name_at (is k).names.items (is k).at))))
@@ -3493,15 +3493,15 @@ names::names_on-returns-in-Break-clause-comes t c =
     let inv = c.passes.invariant in
     let fine = subst (λ (u : ForInNames). IsFine w s1.cells u.object) (sym c.deref.ensures) inv.2.0 in
     let n = c.in-Some.at in
-    let box = c.at_name.result in
+    let box = c.at_name-names.result in
     let less : n < length l.value.names.items = subst (λ (u : ForInNames). n < length u.names.items) c.deref.ensures (c.in-Some.ensures fs no_rest w [] [] place inv.0.ready.1 fine).0 in
     let j = job_of fs w s1.cells (job.PassIn box at) in
     let goes : (r : Rest) → q (image fs r w s1) ≡ Do j (image fs r w s1) Ret = λ r.
     subst (λ (u : ForInNames). for_in (seen w s1.cells u.object) x (drop u.at u.names.items) b place (image fs r w s1) ≡ Do (Pass (ForInLoop (seen w s1.cells u.object) x (name_at u.names.items n) (drop (suc n) u.names.items) b) place) (image fs r w s1) Ret)
     c.deref.ensures (c.in-Some.ensures fs r w x b place inv.0.ready.1 fine).1
-    ∙ ap (λ (u : ForInNames). Do (Pass (for_in_loop fs w s1.cells u at.code) place) (image fs r w s1) Ret) (sym c.at_name.ensures) in
+    ∙ ap (λ (u : ForInNames). Do (Pass (for_in_loop fs w s1.cells u at.code) place) (image fs r w s1) Ret) (sym c.at_name-names.ensures) in
     let held : FineNames fs w s1.cells box.value at × (box.value.at < length box.value.names.items) =
-    subst (λ (u : ForInNames). FineNames fs w s1.cells u at × (u.at < length u.names.items)) (sym c.at_name.ensures) (inv.2, less) in
+    subst (λ (u : ForInNames). FineNames fs w s1.cells u at × (u.at < length u.names.items)) (sym c.at_name-names.ensures) (inv.2, less) in
     let asked : State → Plan = λ s. Do j s Ret in
     let to_job : Towards fs w s0 s1 start asked had run = towards_each fs w s0 s1 s1 start q asked had run run inv.0 (stays fs w s1 s1 q asked run run inv.0.ready refl goes) in
     let mid : Run = record run { units = run.units - 1 } in
@@ -3511,12 +3511,12 @@ names::names_on-returns-in-Break-clause-comes t c =
     let out = c.pass_in_on.new.out in
     let part = c.in_ok-how.ensures.comes in
     let kept = c.in_ok-how.ensures.kept in
-    let v = c.deref-2.result.now in
-    let is = sym c.deref-2.ensures in
+    let v = c.deref-in-Some.result.now in
+    let is = sym c.deref-in-Some.ensures in
     let g = stmt_at (forest_at fs at.code) in
     let p : State → Plan = λ s. statements (stmt_list (loop_body (g v.id))) place (scopes.assign s place (variable_of (g v.id)) (meaning.Text (name_at v.names.items v.at))) in
-    let rest = c.behind.result in
-    let same = sym c.behind.ensures in
+    let rest = c.behind-names.result in
+    let same = sym c.behind-names.ensures in
     let f = frame.Statement (statement.ForInNext rest at) in
     let body_is : (s : State) → body j s ≡ and_then (p s) (taken fs w s1.cells f) = λ s k.
     and_then (statements (stmt_list (loop_body (g (is k).id))) place (scopes.assign s place (variable_of (g (is k).id)) (meaning.Text (name_at (is k).names.items (is k).at))))
@@ -3548,8 +3548,8 @@ names::names_on-returns-in-Break-clause-kept t c =
     let fine = subst (λ (u : ForInNames). IsFine w s1.cells u.object) (sym c.deref.ensures) inv.2.0 in
     kept_then fs w s0 s1 c.pass_in_on.new.store inv.1 c.in_ok-how.ensures.kept
 
-pub names::names_on-returns-in_default-2 : goal.names::names_on-returns-in_default-2
-names::names_on-returns-in_default-2 t c =
+pub names::names_on-returns-in_default-how : goal.names::names_on-returns-in_default-how
+names::names_on-returns-in_default-how t c =
     let fs = trees_of c.args.here.now.site.now.codes.now.items in
     let w = c.args.here.now.site.now.widget in
     let at = c.args.here.now.at in
@@ -3567,15 +3567,15 @@ names::names_on-returns-in_default-2 t c =
     let inv = c.passes.invariant in
     let fine = subst (λ (u : ForInNames). IsFine w s1.cells u.object) (sym c.deref.ensures) inv.2.0 in
     let n = c.in-Some.at in
-    let box = c.at_name.result in
+    let box = c.at_name-names.result in
     let less : n < length l.value.names.items = subst (λ (u : ForInNames). n < length u.names.items) c.deref.ensures (c.in-Some.ensures fs no_rest w [] [] place inv.0.ready.1 fine).0 in
     let j = job_of fs w s1.cells (job.PassIn box at) in
     let goes : (r : Rest) → q (image fs r w s1) ≡ Do j (image fs r w s1) Ret = λ r.
     subst (λ (u : ForInNames). for_in (seen w s1.cells u.object) x (drop u.at u.names.items) b place (image fs r w s1) ≡ Do (Pass (ForInLoop (seen w s1.cells u.object) x (name_at u.names.items n) (drop (suc n) u.names.items) b) place) (image fs r w s1) Ret)
     c.deref.ensures (c.in-Some.ensures fs r w x b place inv.0.ready.1 fine).1
-    ∙ ap (λ (u : ForInNames). Do (Pass (for_in_loop fs w s1.cells u at.code) place) (image fs r w s1) Ret) (sym c.at_name.ensures) in
+    ∙ ap (λ (u : ForInNames). Do (Pass (for_in_loop fs w s1.cells u at.code) place) (image fs r w s1) Ret) (sym c.at_name-names.ensures) in
     let held : FineNames fs w s1.cells box.value at × (box.value.at < length box.value.names.items) =
-    subst (λ (u : ForInNames). FineNames fs w s1.cells u at × (u.at < length u.names.items)) (sym c.at_name.ensures) (inv.2, less) in
+    subst (λ (u : ForInNames). FineNames fs w s1.cells u at × (u.at < length u.names.items)) (sym c.at_name-names.ensures) (inv.2, less) in
     let asked : State → Plan = λ s. Do j s Ret in
     let to_job : Towards fs w s0 s1 start asked had run = towards_each fs w s0 s1 s1 start q asked had run run inv.0 (stays fs w s1 s1 q asked run run inv.0.ready refl goes) in
     let mid : Run = record run { units = run.units - 1 } in
@@ -3585,12 +3585,12 @@ names::names_on-returns-in_default-2 t c =
     let out = c.pass_in_on.new.out in
     let part = c.in_ok-how.ensures.comes in
     let kept = c.in_ok-how.ensures.kept in
-    let v = c.deref-2.result.now in
-    let is = sym c.deref-2.ensures in
+    let v = c.deref-in-Some.result.now in
+    let is = sym c.deref-in-Some.ensures in
     let g = stmt_at (forest_at fs at.code) in
     let p : State → Plan = λ s. statements (stmt_list (loop_body (g v.id))) place (scopes.assign s place (variable_of (g v.id)) (meaning.Text (name_at v.names.items v.at))) in
-    let rest = c.behind.result in
-    let same = sym c.behind.ensures in
+    let rest = c.behind-names.result in
+    let same = sym c.behind-names.ensures in
     let f = frame.Statement (statement.ForInNext rest at) in
     let body_is : (s : State) → body j s ≡ and_then (p s) (taken fs w s1.cells f) = λ s k.
     and_then (statements (stmt_list (loop_body (g (is k).id))) place (scopes.assign s place (variable_of (g (is k).id)) (meaning.Text (name_at (is k).names.items (is k).at))))
@@ -3601,7 +3601,7 @@ names::names_on-returns-in_default-2 t c =
     record {
       comes = IfOk-weaker c.hand_names.result _ _
           (λ h k. towards_paid fs w s0 s1 s2 2 1 start (body j) had mid c.hand_names.new.run h (ended_as h out) to_body (planned fs w s1 s2 2 (body j) _ mid c.hand_names.new.run h (ended_as h out) body_is k) (omega (arith, inv.0.units, c.if-run-eq0.false)) (omega arith))
-          (hand_ok fs w c.hand_names.result s1 s2 1 2 p f mid last c.hand_names.new.run how out part (λ t no_left. loop_passes w s2.cells out t how _ c.in_default-2.not-Normal c.in_default-2.not-Continue c.in_default-2.not-Break no_left) kept left (omega arith) c.hand_names.ensures);
+          (hand_ok fs w c.hand_names.result s1 s2 1 2 p f mid last c.hand_names.new.run how out part (λ t no_left. loop_passes w s2.cells out t how _ c.in_default-how.not-Normal c.in_default-how.not-Continue c.in_default-how.not-Break no_left) kept left (omega arith) c.hand_names.ensures);
       kept = kept_then fs w s0 s1 s2 inv.1 kept;
     }
 

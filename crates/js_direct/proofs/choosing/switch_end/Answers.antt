@@ -11,3 +11,9 @@ returns-in-Break-clause-plan c = λ w cells v s. ap (λ (e : Ended). switch_end 
 
 pub returns-in_default-clause-plan : goal.returns-in_default-clause-plan
 returns-in_default-clause-plan c = λ w cells v s. switch_passes w cells v s c.args.how c.in_default.not-Break
+
+pub returns-in_default-clause-end : goal.returns-in_default-clause-end
+returns-in_default-clause-end c = c.requires
+
+pub returns-in_default-clause-fine : goal.returns-in_default-clause-fine
+returns-in_default-clause-fine c = λ w cells v h. h

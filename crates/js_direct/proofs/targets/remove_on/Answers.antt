@@ -50,15 +50,15 @@ returns-in-Found-clause-comes c =
 pub returns-in-Done-clause-kept : goal.returns-in-Done-clause-kept
 returns-in-Done-clause-kept c = c.remove.ensures.kept (trees_of c.args.site.now.codes.now.items)
 
-pub throw-requires-clause-ready : goal.throw-requires-clause-ready
-throw-requires-clause-ready c =
+pub throw-requires : goal.throw-requires
+throw-requires c =
     let fs = trees_of c.args.site.now.codes.now.items in
     let w = c.args.site.now.widget in
     let old = c.args.store.now in
     (c.requires.ready.0, (c.remove.ensures.kept fs).confined c.requires.ready.1, c.requires.ready.2)
 
-pub returns-in-Property-clause-comes : goal.returns-in-Property-clause-comes
-returns-in-Property-clause-comes c =
+pub returns-in-Throw-clause-comes : goal.returns-in-Throw-clause-comes
+returns-in-Throw-clause-comes c =
     let fs = trees_of c.args.site.now.codes.now.items in
     let w = c.args.site.now.widget in
     let old = c.args.store.now in
@@ -71,8 +71,8 @@ returns-in-Property-clause-comes c =
     (λ r. first r ∙ ap (λ q. removed_plan q k (image fs r w mid)) c.in-Throw.is))
     c.throw.ensures.comes
 
-pub returns-in-Property-clause-kept : goal.returns-in-Property-clause-kept
-returns-in-Property-clause-kept c =
+pub returns-in-Throw-clause-kept : goal.returns-in-Throw-clause-kept
+returns-in-Throw-clause-kept c =
     let fs = trees_of c.args.site.now.codes.now.items in
     let w = c.args.site.now.widget in
     let old = c.args.store.now in
